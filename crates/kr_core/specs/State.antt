@@ -1,0 +1,82 @@
+-- The state of the machine, and what a call does to it.
+use Rattle.std.specs.Prelude.{ℕ, ℤ, List, [], ◌∷◌, replicate, Option, Some, None, Result, Ok, Err}
+use Rattle.pr_base.specs.declared.errno.Errno.{Errno}
+use Rattle.kr_core.specs.Words.{word_of}
+use Rattle.kr_core.specs.Image.{image_of}
+use Rattle.kr_core.specs.Actions.{carried_out}
+use Rattle.kr_core.specs.Instructions.{moved_on, with_register}
+use Rattle.kr_core.specs.Decoding.{request_of}
+use Rattle.kr_core.specs.Operations.{Reply, empty_console, grown, refuses, operation}
+use Rattle.kr_core.specs.declared.console.Console.{Console}
+use Rattle.kr_core.specs.declared.operations.Outcome.{Outcome}
+use Rattle.kr_core.specs.declared.operations.Outcome.TheVariants.{Answered, Exited}
+use Rattle.kr_core.specs.declared.process.Process.{Process}
+use Rattle.kr_core.specs.declared.process.Process.TheVariants.{Living, Ended}
+use Rattle.kr_core.specs.declared.process.Running.{Running}
+use Rattle.kr_core.specs.declared.processor.Regs.{Regs}
+use Rattle.kr_core.specs.declared.request.Request.{Request}
+
+-- the one process, what was written to the console since it was last cleared, and the number of turns made
+pub record State : Type 0 where
+  pub process : Process
+  pub console : Console
+  pub turns : ℕ
+
+-- the registers of a new process: the pc at the first instruction, all others zero
+abbrev pub first_regs : Regs
+first_regs = record { x = replicate 32 0; pc = 0x10078 }
+
+-- the state in which a file starts
+abbrev pub started : List ℕ → State
+started file = record { process = Living (record { regs = first_regs; image = image_of file }); console = empty_console; turns = 0 }
+
+-- a process that lives, or that ended with a status
+abbrev pub process_of : Running → Option ℕ → Process
+process_of p None = Living p
+process_of p (Some status) = Ended status
+
+abbrev pub stands : Running → Option ℕ → Console → ℕ → State
+stands p ended console turns = record { process = process_of p ended; console = console; turns = turns }
+
+abbrev pub cleared : State → State
+cleared s = record s { console = empty_console }
+
+-- the processes that live, in order of their numbers
+abbrev pub living_in : Process → List Running
+living_in (Living p) = p ∷ []
+living_in (Ended status) = []
+
+abbrev pub living : State → List Running
+living s = living_in s.process
+
+-- those that can go on. No call waits so far, so these are all that live
+abbrev pub ready : State → List Running
+ready s = living s
+
+-- the status of the process that ended last, and 0 before one ended
+abbrev pub status_in : Process → ℕ
+status_in (Living p) = 0
+status_in (Ended status) = status
+
+abbrev pub status_of : State → ℕ
+status_of s = status_in s.process
+
+-- the registers behind a call, with its answer in a0
+abbrev pub answered : Regs → ℤ → Regs
+answered regs value = moved_on (with_register regs 10 (word_of value))
+
+-- the caller after its call: it goes on with the answer, or it ended
+abbrev pub after_outcome : Running → Outcome → Process
+after_outcome p (Answered value) = Living (record p { regs = answered p.regs value })
+after_outcome p (Exited status) = Ended status
+
+abbrev pub after_reply : State → Running → Reply → State
+after_reply s p reply = record s { process = after_outcome p reply.outcome; console = grown s.console reply.written }
+
+abbrev pub reply_to : Running → Result Request Errno → Reply
+reply_to p (Ok request) = carried_out (operation request) p.image
+reply_to p (Err e) = refuses e
+
+-- what a call does without a watcher: the request in the registers is decoded and carried out
+abbrev pub plain_call : State → Running → State
+plain_call s p = after_reply s p (reply_to p (request_of p.regs))

@@ -1,0 +1,125 @@
+//! The kernel.
+
+use crate::console::Console;
+use crate::image::Image;
+use crate::process::{Process, Running};
+use crate::processor::Regs;
+use pr_base::{Bytes, NoMemory};
+use std::alloc::Global;
+use std::marker::Model;
+
+/// Where the first instruction lies: behind the headers.
+const START: u64 = 0x10078;
+
+/// What a call for a turn did.
+#[derive(Clone, Copy, Debug, PartialEq, Eq)]
+pub enum Turned {
+    /// A process ran.
+    Ran,
+    /// A process lives and none is ready: nothing changed.
+    Deadlock,
+    /// No process lives: nothing changed.
+    Over,
+}
+
+/// A machine with one process, whose turns are made one after the other.
+#[derive(Drop)]
+pub struct Kernel {
+    process: Process,
+    console: Console,
+    turns: u32,
+}
+
+impl Model for Kernel {
+    ghost use Rattle.kr_core.specs.State.{State};
+
+    ghost Value = { State };
+
+    ghost view = { λ k. record { process = k.process; console = k.console; turns = k.turns } };
+}
+
+impl Kernel {
+    ghost use Rattle.std.specs.Prelude.{◌≡◌, ◌≢◌, ◌↔◌, ◌<◌, ◌≤◌, ◌^◌, [], length, IfOk};
+    ghost use Rattle.kr_core.specs.Form.{HasForm};
+    ghost use Rattle.kr_core.specs.State.{started, living, ready, cleared, status_of};
+    ghost use Rattle.kr_core.specs.Turn.{MakesTurn};
+
+    /// The machine in which a file starts: its image, the pc at 0x10078, all other registers zero.
+    pub fn start(alloc: Global, file: Bytes) -> Result<Kernel, NoMemory>
+        requires { HasForm file }
+        ensures { IfOk result (λ kernel. kernel ≡ started file) }
+    {
+        let regs = Regs {
+            x: [0; 32],
+            pc: START,
+        };
+        let image = Image::of(file)?;
+        Ok(Kernel {
+            process: Process::Living(Running { regs, image }),
+            console: Console::new(alloc),
+            turns: 0,
+        })
+    }
+
+    /// How many processes live.
+    pub fn living(&self) -> usize
+        ensures { result ≡ length (living self.now) }
+    {
+        match &self.process {
+            Process::Living(_) => 1,
+            Process::Ended(_) => 0,
+        }
+    }
+
+    /// Makes a turn: of the ready processes in order, the one at place `pick` modulo their number
+    /// runs until `fuel` instructions are done, a call is done, or it dies. So far there is one
+    /// process, which every pick picks. After want of memory the kernel may only be dropped.
+    pub fn turn(&mut self, _pick: u32, fuel: u32) -> Result<Turned, NoMemory>
+        requires fuel { 1 ≤ fuel }
+        requires turns { self.old.turns < 2 ^ 31 }
+
+        ensures made { IfOk result (λ turned. MakesTurn _pick fuel self.old turned self.new) }
+        ensures over { (result ≡ Ok Turned.Over) ↔ (living self.old ≡ []) }
+        ensures deadlock { (result ≡ Ok Turned.Deadlock) ↔ ((living self.old ≢ []) × (ready self.old ≡ [])) }
+    {
+        let Process::Living(running) = &mut self.process else {
+            return Ok(Turned::Over);
+        };
+        self.turns += 1;
+        if let Some(status) = running.turn(&mut self.console, fuel)? {
+            self.process = Process::Ended(status);
+        }
+        Ok(Turned::Ran)
+    }
+
+    /// The bytes that were written to the output since they were last cleared.
+    pub fn out(&self) -> &[u8]
+        ensures { result.now ≡ self.now.console.out }
+    {
+        self.console.out.as_slice()
+    }
+
+    /// The bytes that were written to the error since they were last cleared.
+    pub fn err(&self) -> &[u8]
+        ensures { result.now ≡ self.now.console.err }
+    {
+        self.console.err.as_slice()
+    }
+
+    pub fn clear_bytes(&mut self)
+        ensures { self.new ≡ cleared self.old }
+    {
+        self.console.clear();
+    }
+
+    /// The status of the process that ended last: its exit code, or 128 and the signal that killed
+    /// it; 0 before one ended.
+    pub fn status(&self) -> u8
+        ensures { result ≡ status_of self.now }
+    {
+        match &self.process {
+            Process::Living(_) => 0,
+            Process::Ended(status) => *status,
+        }
+    }
+}

@@ -1,0 +1,13 @@
+//! The kernel of the mounted machine: its one process, its calls and its turns.
+#![tactic(auto)]
+
+mod console;
+mod image;
+mod instruction;
+pub mod kernel;
+mod operations;
+mod process;
+mod processor;
+mod request;
+
+pub use kernel::{Kernel, Turned};
