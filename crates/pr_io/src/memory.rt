@@ -1,0 +1,139 @@
+//! Sources and sinks in memory that fail at listed calls.
+ghost use Rattle.std.specs.Prelude.{◌≡◌, ℕ, ◌≤◌, ◌+◌, ◌++◌, ◌↔◌, Some, [], length, min, take, drop, Contains, IsErr, IsErrOf, OnErr, IfOk, OnOk};
+ghost use Rattle.std.specs.Io.{ReadsAtMost};
+ghost use Rattle.std.specs.Io.KnownBytes.{ReadConsumes};
+ghost use Rattle.pr_io.specs.Faults.{Rose};
+ghost use Rattle.pr_io.specs.Memory.{after_take, failed_take, after_put, failed_put};
+ghost use Rattle.pr_io.specs.Moves.{ZeroExactlyAtEnd, Puts};
+
+use crate::calls::Calls;
+use crate::fault::{Failed, PutFault};
+use crate::sink::Sink;
+use crate::source::Source;
+use crate::unread::Unread;
+use pr_base::Bytes;
+use std::alloc::Global;
+use std::marker::Model;
+
+/// A source of the bytes that it was made of. It fails at the calls whose numbers, from 0, are
+/// listed, and gives as many bytes as fit at the others.
+#[derive(Debug, Drop)]
+pub struct MemSource {
+    unread: Unread,
+    calls: Calls,
+}
+
+impl Model for MemSource {
+    ghost use Rattle.pr_io.specs.Memory.{SourceState};
+
+    ghost Value = { SourceState };
+
+    ghost view = { λ s. record { left = s.unread; failing = s.calls.failing.items; calls = s.calls.made; faults = s.calls.failed } };
+}
+
+impl MemSource {
+    /// The bytes, and the numbers of the calls that fail.
+    pub fn new(bytes: Bytes, fail: Vec<u32>) -> MemSource
+        ensures { result ≡ record { left = bytes; failing = fail.items; calls = 0; faults = 0 } }
+    {
+        MemSource {
+            unread: Unread::new(bytes),
+            calls: Calls::new(fail),
+        }
+    }
+}
+
+impl Source for MemSource {
+    ghost left = { λ s. Some s.left };
+
+    ghost faults = { λ s. s.faults };
+
+    fn take(&mut self, buf: &mut [u8]) -> Result<usize, Failed>
+        ensures bound { ReadsAtMost result buf.new }
+        ensures bytes { ReadConsumes (Some self.old.left) (Some self.new.left) result buf.new }
+        ensures end { ZeroExactlyAtEnd (Some self.old.left) result buf.new }
+        ensures cause { OnErr result (Rose self.old.faults self.new.faults) }
+        ensures count { self.old.faults ≤ self.new.faults }
+
+        // It fails exactly at the listed calls.
+        ensures fails { IsErr result ↔ Contains self.old.failing self.old.calls }
+        ensures failed { OnErr result (self.new ≡ failed_take self.old) }
+        ensures failed_buffer { OnErr result (buf.new ≡ buf.old) }
+
+        // It gives as many bytes as fit, and the rest of the buffer stays.
+        ensures most { IfOk result (λ n. n ≡ min (length buf.old) (length self.old.left)) }
+        ensures taken { IfOk result (λ n. self.new ≡ after_take self.old n) }
+        ensures buffer { IfOk result (λ n. buf.new ≡ take n self.old.left ++ drop n buf.old) }
+    {
+        if self.calls.next_fails() {
+            self.calls.fail();
+            return Err(Failed);
+        }
+        self.calls.pass();
+        Ok(self.unread.read(buf))
+    }
+}
+
+/// A sink that keeps the bytes that it got. It fails at the calls whose numbers, from 0, are
+/// listed, and appends nothing there. A call that finds no memory is not counted.
+#[derive(Debug, Drop)]
+pub struct MemSink {
+    bytes: Bytes,
+    calls: Calls,
+}
+
+impl Model for MemSink {
+    ghost use Rattle.pr_io.specs.Memory.{SinkState};
+
+    ghost Value = { SinkState };
+
+    ghost view = { λ s. record { got = s.bytes; failing = s.calls.failing.items; calls = s.calls.made; faults = s.calls.failed } };
+}
+
+impl MemSink {
+    /// No bytes yet, and the numbers of the calls that fail.
+    pub fn new(alloc: Global, fail: Vec<u32>) -> MemSink
+        ensures { result ≡ record { got = []; failing = fail.items; calls = 0; faults = 0 } }
+    {
+        MemSink {
+            bytes: Bytes::new(alloc),
+            calls: Calls::new(fail),
+        }
+    }
+
+    /// All bytes that were put.
+    pub fn got(&self) -> &[u8]
+        ensures { result.now ≡ self.now.got }
+    {
+        self.bytes.as_slice()
+    }
+}
+
+impl Sink for MemSink {
+    ghost got = { λ s. Some s.got };
+
+    ghost faults = { λ s. s.faults };
+
+    fn put(&mut self, b: &[u8]) -> Result<(), PutFault>
+        ensures bytes { Puts (Some self.old.got) (Some self.new.got) result b.now }
+        ensures cause { IsErrOf result PutFault.Failed → Rose self.old.faults self.new.faults }
+        ensures count { self.old.faults ≤ self.new.faults }
+
+        // It fails exactly at the listed calls, and appends nothing there.
+        ensures fails { IsErrOf result PutFault.Failed ↔ Contains self.old.failing self.old.calls }
+        ensures failed { IsErrOf result PutFault.Failed → self.new ≡ failed_put self.old }
+
+        ensures no_memory { IsErrOf result PutFault.NoMemory → self.new ≡ self.old }
+        ensures taken { OnOk result (self.new ≡ after_put self.old b.now) }
+    {
+        if self.calls.next_fails() {
+            self.calls.fail();
+            return Err(PutFault::Failed);
+        }
+        if self.bytes.append(b).is_err() {
+            return Err(PutFault::NoMemory);
+        }
+        self.calls.pass();
+        Ok(())
+    }
+}

@@ -1,0 +1,21 @@
+//! Sinks.
+ghost use Rattle.std.specs.Prelude.{ℕ, List, Option, ◌≤◌, IsErrOf};
+ghost use Rattle.pr_io.specs.Faults.{Rose};
+ghost use Rattle.pr_io.specs.Moves.{Puts};
+
+use crate::fault::PutFault;
+
+/// Where bytes are put, in order.
+pub trait Sink {
+    // The bytes that the sink got, where it tells them.
+    ghost got: { Self → Option (List ℕ) };
+
+    // How often a call failed. A count that would pass 2^64 - 1 stands still there.
+    ghost faults: { Self → ℕ };
+
+    /// Appends the bytes: all of them at `Ok`, a prefix at `Failed`, none at `NoMemory`.
+    fn put(&mut self, b: &[u8]) -> Result<(), PutFault>
+        ensures bytes { Puts (got self.old) (got self.new) result b.now }
+        ensures cause { IsErrOf result PutFault.Failed → Rose (faults self.old) (faults self.new) }
+        ensures count { faults self.old ≤ faults self.new };
+}
