@@ -1,20 +1,17 @@
 -- The one form of an ELF file that runs so far: the two headers of a static program with one segment, and its code.
-use Rattle.std.specs.Prelude.{ℕ, ◌/◌, ◌%◌, ◌≤◌, ◌≡◌, zero, suc, List, [], ◌∷◌, ◌++◌, length, take}
+use Rattle.std.specs.Prelude.{ℕ, nat_le, nat_eq, Bool, ◌&&◌, List, ◌∷◌, ◌++◌, length}
+use Rattle.std.specs.List.{starts_with}
+use Rattle.std.specs.Int.{to_le_bytes, w16, w32, w64}
 
--- a number as so many bytes, the lowest first
-abbrev pub little_endian : ℕ → ℕ → List ℕ
-little_endian zero n = []
-little_endian (suc bytes) n = n % 256 ∷ little_endian bytes (n / 256)
-
--- the integer types of ELF-64
+-- the integer types of ELF-64, the lowest byte first
 abbrev pub half : ℕ → List ℕ
-half n = little_endian 2 n
+half n = to_le_bytes w16 n
 
 abbrev pub word : ℕ → List ℕ
-word n = little_endian 4 n
+word n = to_le_bytes w32 n
 
 abbrev pub xword : ℕ → List ℕ
-xword n = little_endian 8 n
+xword n = to_le_bytes w64 n
 
 -- e_ident: the magic number, 64 bits, lowest byte first, the current version, and padding
 abbrev pub ident : List ℕ
@@ -33,8 +30,6 @@ program_header size =
 abbrev pub headers : ℕ → List ℕ
 headers size = file_header ++ program_header size
 
--- the headers of its own size, and at least one byte behind them
-pub record HasForm (file : List ℕ) : Type 0 where
-  pub headed : take 120 file ≡ headers (length file)
-  pub long_enough : 121 ≤ length file
-  pub short_enough : length file ≤ 65536
+-- the file begins with the headers of its own size, and has at least one byte behind them
+abbrev pub has_form : List ℕ → Bool
+has_form file = nat_le 121 (length file) && (nat_le (length file) 65536 && starts_with nat_eq file (headers (length file)))

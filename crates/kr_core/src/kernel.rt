@@ -39,14 +39,14 @@ impl Model for Kernel {
 }
 
 impl Kernel {
-    ghost use Rattle.std.specs.Prelude.{◌≡◌, ◌≢◌, ◌↔◌, ◌<◌, ◌≤◌, ◌^◌, [], length, IfOk};
-    ghost use Rattle.kr_core.specs.Form.{HasForm};
+    ghost use Rattle.std.specs.Prelude.{◌≡◌, ◌≢◌, ◌↔◌, ◌<◌, ◌≤◌, ◌^◌, [], length, IsTrue, IfOk};
+    ghost use Rattle.kr_core.specs.Form.{has_form};
     ghost use Rattle.kr_core.specs.State.{started, living, ready, cleared, status_of};
     ghost use Rattle.kr_core.specs.Turn.{MakesTurn};
 
     /// The machine in which a file starts: its image, the pc at 0x10078, all other registers zero.
     pub fn start(alloc: Global, file: Bytes) -> Result<Kernel, NoMemory>
-        requires { HasForm file }
+        requires { IsTrue (has_form file) }
         ensures { IfOk result (λ kernel. kernel ≡ started file) }
     {
         let regs = Regs {

@@ -1,0 +1,6 @@
+pub mod Answers
+pub mod Listing
+pub mod Opening
+pub mod Report
+pub mod Reading
+pub mod Promise

@@ -1,0 +1,84 @@
+-- The words in which the top call says what it answers and what the sinks got.
+use Rattle.std.specs.Prelude.{◌≡◌, ◌⊎◌, ℕ, ◌-◌, List, take, Option, Some, None, Result, Ok, Err, ⊤}
+use Rattle.std.specs.Io.KnownBytes.{Appends, Keeps, Consumes, IsAtEnd}
+use Rattle.pr_io.specs.Faults.{Rose}
+use Rattle.pr_io.specs.Moves.{AppendsPrefix}
+use Rattle.kr_core.specs.Run.{Outcome}
+use Rattle.kr_core.specs.declared.console.Console.{Console}
+use Rattle.pr_top.specs.Opening.{Start, Opening}
+use Rattle.pr_top.specs.Report.{run_of, outs, errs, answer_of, part_of}
+use Rattle.pr_top.specs.declared.answer.Which.{Which}
+use Rattle.pr_top.specs.declared.answer.Which.TheVariants.{Tree, Elf, Input, Out, Err as ErrSink, Left}
+use Rattle.pr_top.specs.declared.answer.Answer.{Answer}
+use Rattle.pr_top.specs.declared.answer.Answer.TheVariants.{Ended, Spent, NoStart, ReadFault, WriteFault, NoMemory, Unbuilt}
+
+-- a source is named as read from, and a sink as written to
+abbrev pub IsSource : Which → Type 0
+IsSource Tree = ⊤
+IsSource Elf = ⊤
+IsSource Input = ⊤
+IsSource Out = ⊥
+IsSource ErrSink = ⊥
+IsSource Left = ⊥
+
+abbrev pub IsSink : Which → Type 0
+IsSink Tree = ⊥
+IsSink Elf = ⊥
+IsSink Input = ⊥
+IsSink Out = ⊤
+IsSink ErrSink = ⊤
+IsSink Left = ⊤
+
+abbrev pub NamesItsObject : Answer → Type 0
+NamesItsObject (ReadFault which) = IsSource which
+NamesItsObject (WriteFault which) = IsSink which
+NamesItsObject (Ended status) = ⊤
+NamesItsObject Spent = ⊤
+NamesItsObject (NoStart errno) = ⊤
+NamesItsObject NoMemory = ⊤
+NamesItsObject (Unbuilt part) = ⊤
+
+abbrev pub IsReadFault : Answer → Type 0
+IsReadFault (ReadFault which) = ⊤
+IsReadFault (WriteFault which) = ⊥
+IsReadFault (Ended status) = ⊥
+IsReadFault Spent = ⊥
+IsReadFault (NoStart errno) = ⊥
+IsReadFault NoMemory = ⊥
+IsReadFault (Unbuilt part) = ⊥
+
+abbrev pub IsWriteFault : Answer → Type 0
+IsWriteFault (ReadFault which) = ⊥
+IsWriteFault (WriteFault which) = ⊤
+IsWriteFault (Ended status) = ⊥
+IsWriteFault Spent = ⊥
+IsWriteFault (NoStart errno) = ⊥
+IsWriteFault NoMemory = ⊥
+IsWriteFault (Unbuilt part) = ⊥
+
+-- the answers that tell a whole run
+abbrev pub TellsRun : Answer → Type 0
+TellsRun (Ended status) = ⊤
+TellsRun Spent = ⊤
+TellsRun (ReadFault which) = ⊥
+TellsRun (WriteFault which) = ⊥
+TellsRun (NoStart errno) = ⊥
+TellsRun NoMemory = ⊥
+TellsRun (Unbuilt part) = ⊥
+
+-- what is answered on an opening: its refusal, or the end of its run. Want of memory or a fault may come instead
+abbrev pub AnswersOpening : Opening → Answer → Type 0
+AnswersOpening (Ok start) answer = (answer ≡ answer_of start) ⊎ ((answer ≡ NoMemory) ⊎ (IsReadFault answer ⊎ IsWriteFault answer))
+AnswersOpening (Err refusal) answer = (answer ≡ refusal) ⊎ ((answer ≡ NoMemory) ⊎ IsReadFault answer)
+
+-- a sink got a prefix of its part of the report of an opening, which for a refusal is nothing
+abbrev pub GotPrefix : (Start → List ℕ) → Opening → Option (List ℕ) → Option (List ℕ) → Type 0
+GotPrefix part opening old new = AppendsPrefix old new (part_of part opening)
+
+-- after want of memory `out` has the bytes of the first k turns, `err` those of the first k, or of one less where it
+-- found no memory itself, and `left` has nothing
+pub record StopsBetween (turns : List Console) (out out' err err' left left' : Option (List ℕ)) : Type 0 where
+  pub made : ℕ
+  pub out_got : Appends out out' (outs (take made turns))
+  pub err_got : Appends err err' (errs (take made turns)) ⊎ Appends err err' (errs (take (made - 1) turns))
+  pub left_got : Keeps left left'
