@@ -6,11 +6,12 @@ ghost use Rattle.std.specs.Io.{ReadsAtMost};
 ghost use Rattle.std.specs.Io.KnownBytes.{Appends, ReadConsumes};
 ghost use Rattle.pr_io.specs.Faults.{Rose, raised};
 ghost use Rattle.pr_io.specs.File.{told};
+ghost use Rattle.pr_io.specs.Moves.{AppendsPrefix, Puts};
 
 use crate::fault::{Failed, PutFault};
 use crate::sink::Sink;
 use crate::source::Source;
-use std::io::{self, ErrorKind, Read, Write};
+use std::io::{ErrorKind, Read, Write};
 use std::marker::Model;
 
 /// A source over a reader, or over none: then each call fails.
@@ -47,11 +48,8 @@ fn read_once<R: Read>(reader: &mut R, buf: &mut [u8]) -> Result<usize, Failed>
     for _ in 0..u64::MAX {
         match reader.read(buf) {
             Ok(n) => return Ok(n),
-            Err(e) => {
-                if e.kind() != ErrorKind::Interrupted {
-                    return Err(Failed);
-                }
-            }
+            Err(e) if e.kind() == ErrorKind::Interrupted => {}
+            Err(_) => return Err(Failed),
         }
     }
     Err(Failed)
@@ -109,12 +107,25 @@ impl<W> FileSink<W> {
     }
 }
 
-// Writes all bytes, and hands on what the writer holds back.
-fn write_whole<W: Write>(writer: &mut W, b: &[u8]) -> io::Result<()>
-    ensures { OnOk result (Appends (W.contents writer.old) (W.contents writer.new) b.now) }
+// Writes all bytes, again and again where the system was interrupted, and hands on what the writer
+// holds back. A write that takes nothing is a fault.
+fn write_whole<W: Write>(writer: &mut W, b: &[u8]) -> Result<(), Failed>
+    ensures ok { OnOk result (Appends (W.contents writer.old) (W.contents writer.new) b.now) }
+    ensures err { OnErr result (AppendsPrefix (W.contents writer.old) (W.contents writer.new) b.now) }
 {
-    writer.write_all(b)?;
-    writer.flush()
+    let mut at = 0;
+    for _ in 0..u64::MAX {
+        if at == b.len() {
+            return writer.flush().map_err(|_| Failed);
+        }
+        match writer.write(&b[at..]) {
+            Ok(0) => return Err(Failed),
+            Ok(n) => at += n,
+            Err(e) if e.kind() == ErrorKind::Interrupted => {}
+            Err(_) => return Err(Failed),
+        }
+    }
+    Err(Failed)
 }
 
 impl<W: Write> Sink for FileSink<W> {
@@ -130,7 +141,7 @@ impl<W: Write> Sink for FileSink<W> {
         ensures no_memory { ¬ IsErrOf result PutFault.NoMemory }
         ensures failed { OnErr result (self.new.faults ≡ raised self.old.faults) }
         ensures ok { OnOk result (self.new.faults ≡ self.old.faults) }
-        ensures told { OnOk result (Appends (told W.contents self.old.file) (told W.contents self.new.file) b.now) }
+        ensures told { Puts (told W.contents self.old.file) (told W.contents self.new.file) result b.now }
     {
         let whole = match &mut self.writer {
             Some(writer) => write_whole(writer, b).is_ok(),
