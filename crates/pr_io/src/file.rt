@@ -14,7 +14,8 @@ use crate::source::Source;
 use std::io::{ErrorKind, Read, Write};
 use std::marker::Model;
 
-/// A source over a reader, or over none: then each call fails.
+/// A source over a reader, or over none: then each call fails. A call gives what one read gives, as
+/// read(2) has it for a file, and is made again where a signal interrupted it.
 #[derive(Drop)]
 pub struct FileSource<R> {
     reader: Option<R>,
@@ -30,6 +31,7 @@ impl<R> Model for FileSource<R> {
 }
 
 impl<R> FileSource<R> {
+    /// Over what was opened, or over none where that failed.
     pub fn over(r: Option<R>) -> FileSource<R>
         ensures { result ≡ record { file = r; faults = 0 } }
     {
@@ -40,7 +42,7 @@ impl<R> FileSource<R> {
     }
 }
 
-// Reads once, and again where the system was interrupted.
+// Reads once, and again where the read was interrupted.
 fn read_once<R: Read>(reader: &mut R, buf: &mut [u8]) -> Result<usize, Failed>
     ensures bound { ReadsAtMost result buf.new }
     ensures bytes { ReadConsumes (R.remaining reader.old) (R.remaining reader.new) result buf.new }
@@ -81,7 +83,8 @@ impl<R: Read> Source for FileSource<R> {
     }
 }
 
-/// A sink over a writer, or over none: then each call fails.
+/// A sink over a writer, or over none: then each call fails. A call is `Ok` only where the writer
+/// took every byte, in as many writes as write(2) needs, and holds none back.
 #[derive(Drop)]
 pub struct FileSink<W> {
     writer: Option<W>,
@@ -97,6 +100,7 @@ impl<W> Model for FileSink<W> {
 }
 
 impl<W> FileSink<W> {
+    /// Over what was opened, or over none where that failed.
     pub fn over(w: Option<W>) -> FileSink<W>
         ensures { result ≡ record { file = w; faults = 0 } }
     {
@@ -107,8 +111,8 @@ impl<W> FileSink<W> {
     }
 }
 
-// Writes all bytes, again and again where the system was interrupted, and hands on what the writer
-// holds back. A write that takes nothing is a fault.
+// Writes all bytes, and hands on what the writer holds back. A write that was interrupted is made
+// again; one that takes nothing is a fault, since more of them would never end.
 fn write_whole<W: Write>(writer: &mut W, b: &[u8]) -> Result<(), Failed>
     ensures ok { OnOk result (Appends (W.contents writer.old) (W.contents writer.new) b.now) }
     ensures err { OnErr result (AppendsPrefix (W.contents writer.old) (W.contents writer.new) b.now) }
