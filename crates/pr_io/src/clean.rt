@@ -26,6 +26,7 @@ impl Model for CleanSource {
 }
 
 impl CleanSource {
+    /// The bytes that it gives.
     pub fn new(bytes: Bytes) -> CleanSource
         ensures { result ≡ bytes }
     {
@@ -68,6 +69,7 @@ impl Model for CleanSink {
 }
 
 impl CleanSink {
+    /// No bytes yet.
     pub fn new(alloc: Global) -> CleanSink
         ensures { result ≡ [] }
     {

@@ -6,14 +6,16 @@ ghost use Rattle.std.specs.Io.{ReadsAtMost};
 ghost use Rattle.std.specs.Io.KnownBytes.{Appends, ReadConsumes};
 ghost use Rattle.pr_io.specs.Faults.{Rose, raised};
 ghost use Rattle.pr_io.specs.File.{told};
+ghost use Rattle.pr_io.specs.Moves.{AppendsPrefix, Puts};
 
 use crate::fault::{Failed, PutFault};
 use crate::sink::Sink;
 use crate::source::Source;
-use std::io::{self, ErrorKind, Read, Write};
+use std::io::{ErrorKind, Read, Write};
 use std::marker::Model;
 
-/// A source over a reader, or over none: then each call fails.
+/// A source over a reader, or over none: then each call fails. A call gives what one read gives, as
+/// read(2) has it for a file, and is made again where a signal interrupted it.
 #[derive(Drop)]
 pub struct FileSource<R> {
     reader: Option<R>,
@@ -29,6 +31,7 @@ impl<R> Model for FileSource<R> {
 }
 
 impl<R> FileSource<R> {
+    /// Over what was opened, or over none where that failed.
     pub fn over(r: Option<R>) -> FileSource<R>
         ensures { result ≡ record { file = r; faults = 0 } }
     {
@@ -39,7 +42,7 @@ impl<R> FileSource<R> {
     }
 }
 
-// Reads once, and again where the system was interrupted.
+// Reads once, and again where the read was interrupted.
 fn read_once<R: Read>(reader: &mut R, buf: &mut [u8]) -> Result<usize, Failed>
     ensures bound { ReadsAtMost result buf.new }
     ensures bytes { ReadConsumes (R.remaining reader.old) (R.remaining reader.new) result buf.new }
@@ -47,11 +50,8 @@ fn read_once<R: Read>(reader: &mut R, buf: &mut [u8]) -> Result<usize, Failed>
     for _ in 0..u64::MAX {
         match reader.read(buf) {
             Ok(n) => return Ok(n),
-            Err(e) => {
-                if e.kind() != ErrorKind::Interrupted {
-                    return Err(Failed);
-                }
-            }
+            Err(e) if e.kind() == ErrorKind::Interrupted => {}
+            Err(_) => return Err(Failed),
         }
     }
     Err(Failed)
@@ -83,7 +83,8 @@ impl<R: Read> Source for FileSource<R> {
     }
 }
 
-/// A sink over a writer, or over none: then each call fails.
+/// A sink over a writer, or over none: then each call fails. A call is `Ok` only where the writer
+/// took every byte, in as many writes as write(2) needs, and holds none back.
 #[derive(Drop)]
 pub struct FileSink<W> {
     writer: Option<W>,
@@ -99,6 +100,7 @@ impl<W> Model for FileSink<W> {
 }
 
 impl<W> FileSink<W> {
+    /// Over what was opened, or over none where that failed.
     pub fn over(w: Option<W>) -> FileSink<W>
         ensures { result ≡ record { file = w; faults = 0 } }
     {
@@ -109,12 +111,25 @@ impl<W> FileSink<W> {
     }
 }
 
-// Writes all bytes, and hands on what the writer holds back.
-fn write_whole<W: Write>(writer: &mut W, b: &[u8]) -> io::Result<()>
-    ensures { OnOk result (Appends (W.contents writer.old) (W.contents writer.new) b.now) }
+// Writes all bytes, and hands on what the writer holds back. A write that was interrupted is made
+// again; one that takes nothing is a fault, since more of them would never end.
+fn write_whole<W: Write>(writer: &mut W, b: &[u8]) -> Result<(), Failed>
+    ensures ok { OnOk result (Appends (W.contents writer.old) (W.contents writer.new) b.now) }
+    ensures err { OnErr result (AppendsPrefix (W.contents writer.old) (W.contents writer.new) b.now) }
 {
-    writer.write_all(b)?;
-    writer.flush()
+    let mut at = 0;
+    for _ in 0..u64::MAX {
+        if at == b.len() {
+            return writer.flush().map_err(|_| Failed);
+        }
+        match writer.write(&b[at..]) {
+            Ok(0) => return Err(Failed),
+            Ok(n) => at += n,
+            Err(e) if e.kind() == ErrorKind::Interrupted => {}
+            Err(_) => return Err(Failed),
+        }
+    }
+    Err(Failed)
 }
 
 impl<W: Write> Sink for FileSink<W> {
@@ -130,7 +145,7 @@ impl<W: Write> Sink for FileSink<W> {
         ensures no_memory { ¬ IsErrOf result PutFault.NoMemory }
         ensures failed { OnErr result (self.new.faults ≡ raised self.old.faults) }
         ensures ok { OnOk result (self.new.faults ≡ self.old.faults) }
-        ensures told { OnOk result (Appends (told W.contents self.old.file) (told W.contents self.new.file) b.now) }
+        ensures told { Puts (told W.contents self.old.file) (told W.contents self.new.file) result b.now }
     {
         let whole = match &mut self.writer {
             Some(writer) => write_whole(writer, b).is_ok(),

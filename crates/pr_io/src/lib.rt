@@ -17,3 +17,6 @@ pub use file::{FileSink, FileSource};
 pub use memory::{MemSink, MemSource};
 pub use sink::Sink;
 pub use source::Source;
+
+#[cfg(test)]
+mod tests;

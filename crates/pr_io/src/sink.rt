@@ -10,10 +10,11 @@ pub trait Sink {
     // The bytes that the sink got, where it tells them.
     ghost got: { Self → Option (List ℕ) };
 
-    // How often a call failed. A count that would pass 2^64 - 1 stands still there.
+    // How often a call failed. The count never falls, and stands still at 2^64 - 1.
     ghost faults: { Self → ℕ };
 
-    /// Appends the bytes: all of them at `Ok`, a prefix at `Failed`, none at `NoMemory`.
+    /// Appends the bytes: all of them at `Ok`; a prefix, none or all at `Failed`, where the count of
+    /// faults rose; none at `NoMemory`.
     fn put(&mut self, b: &[u8]) -> Result<(), PutFault>
         ensures bytes { Puts (got self.old) (got self.new) result b.now }
         ensures cause { IsErrOf result PutFault.Failed → Rose (faults self.old) (faults self.new) }

@@ -12,11 +12,12 @@ pub trait Source {
     // The bytes that are left, where the source tells them.
     ghost left: { Self → Option (List ℕ) };
 
-    // How often a call failed. A count that would pass 2^64 - 1 stands still there.
+    // How often a call failed. The count never falls, and stands still at 2^64 - 1.
     ghost faults: { Self → ℕ };
 
-    /// Moves the first bytes of what is left to the front of `buf`, and answers their number, in
-    /// bytes. It may be less than there is room for; 0 into a buffer that is not empty is the end.
+    /// Moves the first bytes of what is left to the front of `buf`, and answers how many: at most
+    /// its length, and maybe fewer. 0 into a buffer that is not empty is the end. At `Failed`
+    /// nothing was moved, the count of faults rose, and the buffer may hold any bytes.
     fn take(&mut self, buf: &mut [u8]) -> Result<usize, Failed>
         ensures bound { ReadsAtMost result buf.new }
         ensures bytes { ReadConsumes (left self.old) (left self.new) result buf.new }
