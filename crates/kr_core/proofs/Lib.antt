@@ -1,2 +1,3 @@
 pub mod StepsLemmas
 pub mod HelloRow
+pub mod RunLemmas

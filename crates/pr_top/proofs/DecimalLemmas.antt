@@ -1,13 +1,13 @@
 -- Numbers and their decimal texts.
-use Rattle.std.proofs.Common.{◌≡◌, ◌≢◌, ℕ, ◌+◌, ◌*◌, ◌-◌, ◌^◌, ◌<◌, ◌≤◌, ◌⊎◌, inl, inr, List, [], ◌∷◌, length, get_or, Bool, true, false, None, Some, Result, Ok, Err, refl, sym, ap, ◌∙◌, subst, arith, rules, IsTrue, zero, suc}
-use Rattle.std.specs.Prelude.{Option, nat_le, bytes_eq, ◌&&◌, ◌||◌, not, ◌==◌, IsUtf8, if◌then◌else◌, IsAscii}
+use Rattle.std.proofs.Common.{◌≡◌, ℕ, ◌+◌, ◌*◌, ◌-◌, ◌^◌, ◌<◌, ◌≤◌, ◌⊎◌, inl, inr, List, [], ◌∷◌, length, get_or, Bool, true, false, None, Some, Result, Ok, Err, refl, sym, ap, ◌∙◌, subst, arith, rules, zero, suc}
+use Rattle.std.specs.Prelude.{nat_le, bytes_eq, ◌&&◌, ◌||◌, not, ◌==◌, IsUtf8, if◌then◌else◌}
 use Rattle.std.specs.List.{list_all}
 use Rattle.std.specs.Fmt.{decimal}
 use Rattle.std.specs.Cmp.Derive.{both_true}
-use Rattle.std.specs.Str.Parse.{digits_value, ParsesUnsigned, AllDigits}
+use Rattle.std.specs.Str.Parse.{digits_value, ParsesUnsigned}
 use Rattle.std.specs.Result.{OkIff}
 use Rattle.std.proofs.Math.Bool.{or-true}
-use Rattle.std.proofs.lemmas.Bool.{cases_Bool, and_parts, or_cases, not-true, not_from_false, eqb-true, eq-eqb, leb-true, le-leb, cases_order}
+use Rattle.std.proofs.lemmas.Bool.{and_parts, or_cases, not-true, not_from_false, eqb-true, eq-eqb, leb-true, le-leb}
 use Rattle.std.proofs.lemmas.Bool.Decides.{nat_tests}
 use Rattle.std.proofs.lemmas.Str.{IsUtf8-from_ascii}
 use Rattle.std.proofs.lemmas.Str.Parse.{IsNumeralModel, IsDigitsTest, numerals_by_fold, parse_digits}
@@ -94,18 +94,18 @@ pub id_of-other : (t : List ℕ) → is_decimal t ≡ false → id_of t ≡ None
 id_of-other t h =
     let n = digits_value 10 t in
     none_if (nat_le n largest_id) (bytes_eq (decimal n) t) n (λ low same.
-      let bound = leb-true _ _ low in
-      let text : decimal n ≡ t = (bytes_decides (decimal n) t).0 same in
-      let P : List ℕ → Type 0 = λ u. is_decimal u ≡ true in
-      clash (is_decimal t) (subst P text (is_decimal-decimal n (omega (arith, bound)))) h)
+    let bound = leb-true _ _ low in
+    let text : decimal n ≡ t = (bytes_decides (decimal n) t).0 same in
+    let P : List ℕ → Type 0 = λ u. is_decimal u ≡ true in
+    clash (is_decimal t) (subst P text (is_decimal-decimal n (omega (arith, bound)))) h)
 
 -- a decimal text is its value, up to the largest number
 pub id_of-decimal : (t : List ℕ) → is_decimal t ≡ true → id_of t ≡ (if nat_le (digits_value 10 t) largest_id then Some (digits_value 10 t) else None)
 id_of-decimal t h =
     let n = digits_value 10 t in
     same_if (nat_le n largest_id) (bytes_eq (decimal n) t) n (λ low.
-      let bound = leb-true _ _ low in
-      (bytes_decides (decimal n) t).1 (decimal-value t h (omega (arith, bound))))
+    let bound = leb-true _ _ low in
+    (bytes_decides (decimal n) t).1 (decimal-value t h (omega (arith, bound))))
 
 pub id_of-text : (n : ℕ) → n ≤ largest_id → id_of (decimal n) ≡ Some n
 id_of-text n low =

@@ -1,3 +1,7 @@
 pub mod DecimalLemmas
 pub mod ListingLemmas
 pub mod HeadersLemmas
+pub mod OpeningLemmas
+pub mod RunLemmas
+pub mod ReportLemmas
+pub mod TopLemmas

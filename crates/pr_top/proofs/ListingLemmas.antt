@@ -1,5 +1,5 @@
 -- Listings and their texts.
-use Rattle.std.proofs.Common.{◌≡◌, ◌⊎◌, inl, inr, ℕ, suc, ◌+◌, ◌<◌, ◌≤◌, ◌^◌, List, [], ◌∷◌, ◌++◌, length, take, drop, get_or, Bool, true, false, Some, None, refl, sym, ap, subst, ◌∙◌, arith, rules, append_assoc, length-append, take-append-drop}
+use Rattle.std.proofs.Common.{◌≡◌, inl, inr, ℕ, suc, ◌+◌, ◌<◌, ◌≤◌, ◌^◌, List, [], ◌∷◌, ◌++◌, length, take, drop, get_or, Bool, true, false, Some, None, refl, sym, ap, subst, ◌∙◌, arith, append_assoc, length-append, take-append-drop}
 use Rattle.std.specs.Prelude.{Option, nat_eq, nat_lt, nat_le, codes, IsTrue, ◌==◌, ◌&&◌, if◌then◌else◌}
 use Rattle.std.specs.List.{list_all, starts_with, position, position_or_len}
 use Rattle.std.proofs.lemmas.List.{take_at, drop_at}
@@ -233,10 +233,10 @@ listing_of-text l lawful =
     let root = behind-append (root_line ++ codes "x 755 0 0 /") (behind_root l) in
     let P : List ℕ → Type 0 = λ t. (behind (codes "user ") t >>= with_uid) ≡ Some l in
     subst P (text-whole l) (bind_to (behind (codes "user ") (codes "user " ++ behind_user l)) (behind_user l) with_uid user
-      ∙ bind_to (cut_at 32 (behind_user l)) (decimal l.uid, behind_uid l) (λ p. with_gid p.0 p.1) uid
-      ∙ bind_to (cut_at 10 (behind_uid l)) (decimal l.gid, behind_gid l) (λ p. with_root (decimal l.uid) p.0 p.1) gid
-      ∙ bind_to (behind (root_line ++ codes "x 755 0 0 /") (behind_gid l)) (behind_root l) (with_name (decimal l.uid) (decimal l.gid)) root
-      ∙ to_root l lawful)
+    ∙ bind_to (cut_at 32 (behind_user l)) (decimal l.uid, behind_uid l) (λ p. with_gid p.0 p.1) uid
+    ∙ bind_to (cut_at 10 (behind_uid l)) (decimal l.gid, behind_gid l) (λ p. with_root (decimal l.uid) p.0 p.1) gid
+    ∙ bind_to (behind (root_line ++ codes "x 755 0 0 /") (behind_gid l)) (behind_root l) (with_name (decimal l.uid) (decimal l.gid)) root
+    ∙ to_root l lawful)
 
 -- bytes are read as a listing exactly where they are its text and it is lawful
 pub read_exactly : IsReadExactly

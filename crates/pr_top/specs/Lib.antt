@@ -4,3 +4,4 @@ pub mod Opening
 pub mod Report
 pub mod Reading
 pub mod Promise
+pub mod Puts

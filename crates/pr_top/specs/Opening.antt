@@ -1,5 +1,5 @@
 -- The opening: what the words and the bytes of the three sources come to, a start or the first refusal.
-use Rattle.std.specs.Prelude.{ℕ, ◌==◌, nat_le, bytes_eq, Bool, true, false, ◌&&◌, List, [], ◌∷◌, length, codes, Option, Some, None, Result, Ok, Err, if◌then◌else◌}
+use Rattle.std.specs.Prelude.{ℕ, ◌==◌, bytes_eq, List, [], ◌∷◌, length, codes, Option, Some, None, Result, Ok, Err, if◌then◌else◌}
 use Rattle.pr_base.specs.declared.errno.Errno.TheVariants.{ENOENT}
 use Rattle.kr_core.specs.Form.{has_form}
 use Rattle.pr_top.specs.Listing.{Listing, is_name, behind, listing_of}

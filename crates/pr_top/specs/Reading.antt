@@ -12,6 +12,16 @@ pub record ReadsWithin (limit : ℕ) (old new : Option (List ℕ)) (bytes : List
   pub short : length bytes ≤ limit
   pub whole : length bytes < limit → IsAtEnd new
 
+-- of the listing 1,025 bytes are read at most, of the file 65,537, of the input one: as many as show that it is too long
+abbrev pub tree_limit : ℕ
+tree_limit = 1025
+
+abbrev pub elf_limit : ℕ
+elf_limit = 65537
+
+abbrev pub input_limit : ℕ
+input_limit = 1
+
 -- reading this source is refused by want of memory, or by a fault that it counted
 abbrev pub IsReadRefusal : Which → ℕ → ℕ → Answer → Type 0
 IsReadRefusal which before now NoMemory = ⊤

@@ -1,7 +1,8 @@
 -- The report of a start: what its run puts to the sinks, and what is answered.
-use Rattle.std.specs.Prelude.{ℕ, List, [], ◌∷◌, ◌++◌, take, Result, Ok, Err}
-use Rattle.kr_core.specs.State.{started, plain_call}
+use Rattle.std.specs.Prelude.{ℕ, List, [], ◌∷◌, ◌++◌, Ok, Err}
+use Rattle.kr_core.specs.State.{State, started, living, status_of, plain_call}
 use Rattle.kr_core.specs.Run.{Slot, End, AllEnded, TurnsSpent, Outcome, run}
+use Rattle.kr_core.specs.declared.process.Running.{Running}
 use Rattle.kr_core.specs.declared.console.Console.{Console}
 use Rattle.pr_top.specs.Listing.{text_left}
 use Rattle.pr_top.specs.Opening.{Start, Opening}
@@ -20,14 +21,23 @@ turn_limit = 1000000
 unfoldable pub run_of : Start → Outcome
 run_of start = run plain_call slot_of turn_limit (started start.file)
 
--- the out bytes and the err bytes of turns, in order
+-- a part of the console of each turn, in order
+abbrev pub gathered : (Console → List ℕ) → List Console → List ℕ
+gathered part [] = []
+gathered part (turn ∷ turns) = part turn ++ gathered part turns
+
+-- the out bytes and the err bytes of turns
+abbrev pub out_part : Console → List ℕ
+out_part turn = turn.out
+
+abbrev pub err_part : Console → List ℕ
+err_part turn = turn.err
+
 abbrev pub outs : List Console → List ℕ
-outs [] = []
-outs (turn ∷ turns) = turn.out ++ outs turns
+outs turns = gathered out_part turns
 
 abbrev pub errs : List Console → List ℕ
-errs [] = []
-errs (turn ∷ turns) = turn.err ++ errs turns
+errs turns = gathered err_part turns
 
 abbrev pub end_answer : End → ℕ → Answer
 end_answer AllEnded status = Ended status
@@ -35,6 +45,14 @@ end_answer TurnsSpent status = Spent
 
 abbrev pub answer_of : Start → Answer
 answer_of start = end_answer (run_of start).end (run_of start).status
+
+-- the answer on a state from which no more turns are made
+abbrev pub by_living : List Running → ℕ → Answer
+by_living [] status = Ended status
+by_living (p ∷ ps) status = Spent
+
+abbrev pub state_answer : State → Answer
+state_answer s = by_living (living s) (status_of s)
 
 -- the parts of the three sinks
 abbrev pub out_of : Start → List ℕ

@@ -6,5 +6,8 @@ pub mod answer;
 pub mod laws;
 mod listing;
 mod opening;
+mod report;
+pub mod top;
 
 pub use answer::{Answer, Part, Which};
+pub use top::proot;

@@ -105,7 +105,7 @@ fn id_of(text: &[u8]) -> Option<u32>
 }
 
 impl<'a> Listing<'a> {
-    ghost use Rattle.std.specs.Prelude.{◌≡◌, IfOk};
+    ghost use Rattle.std.specs.Prelude.{◌≡◌, IfOk, bytes_eq, if◌then◌else◌};
     ghost use Rattle.pr_top.specs.Listing.{listing_of, user_line, text_left};
 
     /// The listing of some bytes, where they are one.
@@ -127,10 +127,19 @@ impl<'a> Listing<'a> {
         }
     }
 
-    pub(crate) fn name(&self) -> &'a [u8]
-        ensures { result.now ≡ self.now.name }
+    /// The same listing with its name from elsewhere, where its program has that name.
+    pub(crate) fn found<'b>(&self, name: &'b [u8]) -> Option<Listing<'b>>
+        ensures { result ≡ (if bytes_eq name.now self.now.name then Some self.now else None) }
     {
-        self.name
+        if name == self.name {
+            Some(Listing {
+                uid: self.uid,
+                gid: self.gid,
+                name,
+            })
+        } else {
+            None
+        }
     }
 
     fn user_line(&self, alloc: Global) -> Result<Bytes, NoMemory>

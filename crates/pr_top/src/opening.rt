@@ -1,18 +1,43 @@
 //! The opening: the words and the three sources are read and looked at, one after the other.
-ghost use Rattle.std.specs.Prelude.{◌≡◌, ◌≤◌, length, nat_eq, map, IfOk, IfErr};
+ghost use Rattle.std.specs.Prelude.{◌≡◌, ◌≤◌, length, nat_eq, map, ◌↔◌, IsTrue, None, IfOk, OnOk, IfErr};
 ghost use Rattle.std.specs.List.{starts_with};
 ghost use Rattle.std.specs.String.{string_bytes};
 ghost use Rattle.std.specs.Option.{option_copied};
 ghost use Rattle.kr_core.specs.Form.{has_form, headers};
+ghost use Rattle.std.specs.Io.KnownBytes.{IsAtEnd};
+ghost use Rattle.pr_io.specs.Faults.{Rose};
 ghost use Rattle.pr_top.specs.Opening.{command_name};
 ghost use Rattle.pr_top.specs.Reading.{ReadsWithin, IsReadRefusal};
-ghost use Rattle.pr_io.specs.Faults.{Rose};
+ghost use Rattle.pr_top.specs.Promise.{IfTold, ComesTo, OpeningFault};
 
 use crate::answer::{Answer, Part, Which};
 use crate::listing::{Listing, behind, is_name};
 use pr_base::{Bytes, Errno};
 use pr_io::Source;
 use std::alloc::Global;
+use std::marker::Model;
+
+/// As many bytes of the listing, the file and the input are read as show that one is too long.
+const TREE_LIMIT: usize = 1025;
+
+const ELF_LIMIT: usize = 65537;
+
+const INPUT_LIMIT: usize = 1;
+
+/// What runs: the listing that was read, and the bytes of its program.
+#[derive(Drop)]
+pub(crate) struct Start<'a> {
+    pub(crate) listing: Listing<'a>,
+    pub(crate) file: Bytes,
+}
+
+impl<'a> Model for Start<'a> {
+    ghost use Rattle.pr_top.specs.Opening.{Start as Parts};
+
+    ghost Value = { Parts };
+
+    ghost view = { λ s. record { listing = s.listing; file = s.file } };
+}
 
 /// The bytes of the headers in front of the two sizes of the file.
 const HEADERS: [u8; 96] = [
@@ -93,4 +118,43 @@ fn read_within<S: Source>(
         }
     }
     Ok(bytes)
+}
+
+/// Reads and looks at the words, the listing, the file, the input and the name in this order.
+pub(crate) fn open<'a, T: Source, E: Source, I: Source>(
+    alloc: Global,
+    words: &'a [String],
+    tree: &mut T,
+    elf: &mut E,
+    input: &mut I,
+) -> Result<Start<'a>, Answer>
+    ensures words { command_name (map string_bytes words.now) ≡ None ↔ (result ≡ Err (Answer.Unbuilt Part.Words)) }
+    ensures opened { IfTold (map string_bytes words.now) (T.left tree.old) (E.left elf.old) (I.left input.old) (λ o. ComesTo o result) }
+    ensures formed { IfOk result (λ start. IsTrue (has_form start.file)) }
+    ensures tree_read { OnOk result (IsAtEnd (T.left tree.new)) }
+    ensures elf_read { OnOk result (IsAtEnd (E.left elf.new)) }
+    ensures input_read { OnOk result (IsAtEnd (I.left input.new)) }
+    ensures fault { IfErr result (OpeningFault (Rose (T.faults tree.old) (T.faults tree.new)) (Rose (E.faults elf.old) (E.faults elf.new)) (Rose (I.faults input.old) (I.faults input.new))) }
+{
+    let Some(name) = command_name(words) else {
+        return Err(Answer::Unbuilt { part: Part::Words });
+    };
+    let text = read_within(alloc, tree, TREE_LIMIT, Which::Tree)?;
+    let Some(listing) = Listing::read(text.as_slice()) else {
+        return Err(Answer::Unbuilt { part: Part::Tree });
+    };
+    let file = read_within(alloc, elf, ELF_LIMIT, Which::Elf)?;
+    if !has_form(file.as_slice()) {
+        return Err(Answer::Unbuilt { part: Part::Elf });
+    }
+    let rest = read_within(alloc, input, INPUT_LIMIT, Which::Input)?;
+    if !rest.is_empty() {
+        return Err(Answer::Unbuilt { part: Part::Input });
+    }
+    match listing.found(name) {
+        Some(listing) => Ok(Start { listing, file }),
+        None => Err(Answer::NoStart {
+            errno: Errno::ENOENT,
+        }),
+    }
 }

@@ -1,5 +1,5 @@
-use Rattle.std.proofs.Common.{◌≡◌, ℕ, List, length, sym, ◌∙◌, ap}
-use Rattle.std.specs.Prelude.{Some, None, nat_eq, is_some}
+use Rattle.std.proofs.Common.{length, sym, ◌∙◌, ap}
+use Rattle.std.specs.Prelude.{nat_eq, is_some}
 use Rattle.std.specs.List.{starts_with}
 use Rattle.std.specs.Int.{to_le_bytes, w64}
 use Rattle.pr_top.specs.Listing.{behind}
@@ -19,8 +19,8 @@ returns-in_default-behind c =
     let sizes = c.in-Some.sizes.now in
     let size_is = c.to_le_bytes-size.ensures in
     sym (ap (starts_with nat_eq file) (headers_parts n)
-      ∙ goes_on-some file HEADERS (from_sizes n) sizes c.in-Some.ensures
-      ∙ goes_on-none sizes (to_le_bytes w64 n) (from_second_size n) (c.in_default-behind.ensures ∙ ap (λ s. behind s sizes) size_is))
+    ∙ goes_on-some file HEADERS (from_sizes n) sizes c.in-Some.ensures
+    ∙ goes_on-none sizes (to_le_bytes w64 n) (from_second_size n) (c.in_default-behind.ensures ∙ ap (λ s. behind s sizes) size_is))
 
 pub returns-in_default-behind-2 : goal.returns-in_default-behind-2
 returns-in_default-behind-2 c =
@@ -30,9 +30,9 @@ returns-in_default-behind-2 c =
     let second = c.in-Some-behind.second_size.now in
     let size_is = c.to_le_bytes-size.ensures in
     sym (ap (starts_with nat_eq file) (headers_parts n)
-      ∙ goes_on-some file HEADERS (from_sizes n) sizes c.in-Some.ensures
-      ∙ goes_on-some sizes (to_le_bytes w64 n) (from_second_size n) second (c.in-Some-behind.ensures ∙ ap (λ s. behind s sizes) size_is)
-      ∙ goes_on-none second (to_le_bytes w64 n) ALIGNMENT (c.in_default-behind-2.ensures ∙ ap (λ s. behind s second) size_is))
+    ∙ goes_on-some file HEADERS (from_sizes n) sizes c.in-Some.ensures
+    ∙ goes_on-some sizes (to_le_bytes w64 n) (from_second_size n) second (c.in-Some-behind.ensures ∙ ap (λ s. behind s sizes) size_is)
+    ∙ goes_on-none second (to_le_bytes w64 n) ALIGNMENT (c.in_default-behind-2.ensures ∙ ap (λ s. behind s second) size_is))
 
 pub returns : goal.returns
 returns c =
@@ -43,10 +43,10 @@ returns c =
     let alignment = c.in-Some-behind-2.alignment.now in
     let size_is = c.to_le_bytes-size.ensures in
     sym (ap (starts_with nat_eq file) (headers_parts n)
-      ∙ goes_on-some file HEADERS (from_sizes n) sizes c.in-Some.ensures
-      ∙ goes_on-some sizes (to_le_bytes w64 n) (from_second_size n) second (c.in-Some-behind.ensures ∙ ap (λ s. behind s sizes) size_is)
-      ∙ goes_on-some second (to_le_bytes w64 n) ALIGNMENT alignment (c.in-Some-behind-2.ensures ∙ ap (λ s. behind s second) size_is)
-      ∙ sym (is_some_behind alignment ALIGNMENT)
-      ∙ ap is_some (sym c.behind-4.ensures)
-      ∙ is_some-map _ c.behind-4.result
-      ∙ sym c.is_some.ensures)
+    ∙ goes_on-some file HEADERS (from_sizes n) sizes c.in-Some.ensures
+    ∙ goes_on-some sizes (to_le_bytes w64 n) (from_second_size n) second (c.in-Some-behind.ensures ∙ ap (λ s. behind s sizes) size_is)
+    ∙ goes_on-some second (to_le_bytes w64 n) ALIGNMENT alignment (c.in-Some-behind-2.ensures ∙ ap (λ s. behind s second) size_is)
+    ∙ sym (is_some_behind alignment ALIGNMENT)
+    ∙ ap is_some (sym c.behind-4.ensures)
+    ∙ is_some-map _ c.behind-4.result
+    ∙ sym c.is_some.ensures)

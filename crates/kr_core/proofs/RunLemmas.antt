@@ -1,0 +1,43 @@
+-- A run, one turn at a time.
+use Rattle.std.proofs.Common.{◌≡◌, ◌≢◌, ℕ, zero, suc, List, [], ◌∷◌, refl}
+use Rattle.kr_core.specs.State.{State, living, cleared}
+use Rattle.kr_core.specs.Turn.{turned}
+use Rattle.kr_core.specs.Run.{Slot, Outcome, AllEnded, TurnsSpent, ends, followed_by, run}
+use Rattle.kr_core.specs.declared.process.Running.{Running}
+
+
+module _ (call : State → Running → State) (schedule : ℕ → Slot) where
+  -- a run in which no process lives is over, however many turns are left
+  pub run-ended : (left : ℕ) (s : State) → living s ≡ [] → run call schedule left s ≡ ends AllEnded s
+  unfolding run
+  run-ended zero s none = by_living (living s) none
+    where
+      by_living : (ps : List Running) → ps ≡ [] → elim ps as (λ _. Outcome) [ [] ↦ ends AllEnded s | p ∷ ps ↦ ends TurnsSpent s ] ≡ ends AllEnded s
+      by_living [] e = refl
+      by_living (p ∷ ps) e = cc
+  run-ended (suc left) s none = by_living (living s) none
+    where
+      rest : Outcome
+      rest = let after = turned call (schedule s.turns).pick (schedule s.turns).fuel s in followed_by after.console (run call schedule left (cleared after))
+      by_living : (ps : List Running) → ps ≡ [] → elim ps as (λ _. Outcome) [ [] ↦ ends AllEnded s | p ∷ ps ↦ rest ] ≡ ends AllEnded s
+      by_living [] e = refl
+      by_living (p ∷ ps) e = cc
+
+  pub run-spent : (s : State) → living s ≢ [] → run call schedule zero s ≡ ends TurnsSpent s
+  unfolding run
+  run-spent s some = by_living (living s) some
+    where
+      by_living : (ps : List Running) → ps ≢ [] → elim ps as (λ _. Outcome) [ [] ↦ ends AllEnded s | p ∷ ps ↦ ends TurnsSpent s ] ≡ ends TurnsSpent s
+      by_living [] some = absurd (some refl)
+      by_living (p ∷ ps) some = refl
+
+  -- a run with a turn left makes it, and goes on with what it leaves
+  pub run-turn : (left : ℕ) (s : State) → living s ≢ [] → run call schedule (suc left) s ≡ followed_by (turned call (schedule s.turns).pick (schedule s.turns).fuel s).console (run call schedule left (cleared (turned call (schedule s.turns).pick (schedule s.turns).fuel s)))
+  unfolding run
+  run-turn left s some = by_living (living s) some
+    where
+      rest : Outcome
+      rest = let after = turned call (schedule s.turns).pick (schedule s.turns).fuel s in followed_by after.console (run call schedule left (cleared after))
+      by_living : (ps : List Running) → ps ≢ [] → elim ps as (λ _. Outcome) [ [] ↦ ends AllEnded s | p ∷ ps ↦ rest ] ≡ rest
+      by_living [] some = absurd (some refl)
+      by_living (p ∷ ps) some = refl
