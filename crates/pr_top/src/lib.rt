@@ -11,3 +11,6 @@ pub mod top;
 
 pub use answer::{Answer, Part, Which};
 pub use top::proot;
+
+#[cfg(test)]
+mod tests;
