@@ -22,10 +22,11 @@ const HELLO: [u8; 162] = [
 
 const TREE: &[u8] = b"user 1000 1000\nd 755 0 0 /\nx 755 0 0 /hello\n";
 
-const HELLO_LEFT: &[u8] = b"user 1000 1000\nd 755 0 0 /\nf 755 0 0 /hello 7f454c460201010000000000000000000200f30001000000780001000000000040000000000000000000000000000000000000004000380001000000000000000100000005000000000000000000000000000100000000000000010000000000a200000000000000a20000000000000000100000000000009308000413051000970500009385c50113066000730000009308d005130500007300000068656c6c6f0a\n";
+const HELLO_LEFT: &[u8] =
+    b"user 1000 1000\nd 755 0 0 /\nf 755 0 0 /hello 7f454c460201010000000000000000000200f30001000000780001000000000040000000000000000000000000000000000000004000380001000000000000000100000005000000000000000000000000000100000000000000010000000000a200000000000000a20000000000000000100000000000009308000413051000970500009385c50113066000730000009308d005130500007300000068656c6c6f0a\n";
 
 /// The file of a row.
-#[derive(Clone, Copy, Debug, PartialEq, Eq)]
+#[derive(Clone, Copy, Debug)]
 enum Program {
     Hello,
     /// The hello file with some of its bytes changed.
@@ -105,7 +106,9 @@ const ROWS: [Row; 16] = [
     Row {
         name: "another name",
         word: "/nope",
-        answer: Answer::NoStart { errno: Errno::ENOENT },
+        answer: Answer::NoStart {
+            errno: Errno::ENOENT,
+        },
         ..REFUSED
     },
     Row {
@@ -152,21 +155,30 @@ const ROWS: [Row; 16] = [
     },
     Row {
         name: "the first code word is zero",
-        program: Program::Changed { at: 120, to: &[0, 0, 0, 0] },
+        program: Program::Changed {
+            at: 120,
+            to: &[0, 0, 0, 0],
+        },
         answer: Answer::Ended { status: 132 },
         out: b"",
         ..HELLO_ROW
     },
     Row {
         name: "the bytes go to the error",
-        program: Program::Changed { at: 126, to: &[0x20] },
+        program: Program::Changed {
+            at: 126,
+            to: &[0x20],
+        },
         out: b"",
         err: b"hello\n",
         ..HELLO_ROW
     },
     Row {
         name: "the first write to the error fails",
-        program: Program::Changed { at: 126, to: &[0x20] },
+        program: Program::Changed {
+            at: 126,
+            to: &[0x20],
+        },
         err_fails: &[0],
         answer: Answer::WriteFault { which: Which::Err },
         ..REFUSED
@@ -210,31 +222,56 @@ fn sink(alloc: Global, fails: &[u32]) -> Result<MemSink, Fail> {
     Ok(MemSink::new(alloc, fails.to_vec(alloc)?))
 }
 
-fn check<R: Abort + AllocGlobal>(rt: &R, row: &Row) -> Result<(), Fail> {
-    let alloc = rt.alloc();
-    let name = row.name;
+/// The sinks of a row, before or after its call.
+#[derive(Drop)]
+struct Sinks {
+    out: MemSink,
+    err: MemSink,
+    left: MemSink,
+}
+
+fn sinks_of(alloc: Global, row: &Row) -> Result<Sinks, Fail> {
+    let out = sink(alloc, row.out_fails)?;
+    let err = sink(alloc, row.err_fails)?;
+    let left = sink(alloc, row.left_fails)?;
+    Ok(Sinks { out, err, left })
+}
+
+/// Makes the call of a row.
+fn call(alloc: Global, row: &Row, sinks: &mut Sinks) -> Result<Answer, Fail> {
     let words = vec![in alloc; String::from_str(alloc, row.word)?]?;
     let program = row.program.file(alloc)?;
-    let mut out = sink(alloc, row.out_fails)?;
-    let mut err = sink(alloc, row.err_fails)?;
-    let mut left = sink(alloc, row.left_fails)?;
-    let answer = proot(
+    let mut tree = source(alloc, row.tree, row.tree_fails)?;
+    let mut elf = source(alloc, program.as_slice(), &[])?;
+    let mut input = source(alloc, row.input, &[])?;
+    Ok(proot(
         alloc,
         words.as_slice(),
-        &mut source(alloc, row.tree, row.tree_fails)?,
-        &mut source(alloc, program.as_slice(), &[])?,
-        &mut source(alloc, row.input, &[])?,
-        &mut out,
-        &mut err,
-        &mut left,
-    );
+        &mut tree,
+        &mut elf,
+        &mut input,
+        &mut sinks.out,
+        &mut sinks.err,
+        &mut sinks.left,
+    ))
+}
+
+fn check<R: Abort + AllocGlobal>(rt: &R, row: &Row) -> Result<(), Fail> {
+    let mut sinks = sinks_of(rt.alloc(), row)?;
+    let answer = call(rt.alloc(), row, &mut sinks)?;
+    let name = row.name;
     assert_eq!(rt; answer, row.answer, "{name}");
-    assert_eq!(rt; out.got(), row.out, "{name}");
-    assert_eq!(rt; err.got(), row.err, "{name}");
-    assert_eq!(rt; left.got().len(), row.left, "{name}");
-    if row.program == Program::Hello && row.left != 0 {
-        assert_eq!(rt; left.got(), HELLO_LEFT, "{name}");
-    }
+    assert_eq!(rt; sinks.out.got(), row.out, "{name}");
+    assert_eq!(rt; sinks.err.got(), row.err, "{name}");
+    assert_eq!(rt; sinks.left.got().len(), row.left, "{name}");
+    Ok(())
+}
+
+#[test]
+fn the_listing_that_is_left_has_the_file(rt: HostRuntime) -> Result<(), Fail> {
+    let mut sinks = sinks_of(rt.alloc(), &HELLO_ROW)?;
+    let _ended = call(rt.alloc(), &HELLO_ROW, &mut sinks)?;
+    assert_eq!(rt; sinks.left.got(), HELLO_LEFT);
     Ok(())
 }
 
@@ -249,17 +286,21 @@ fn rows_do_what_they_have_to(rt: HostRuntime) -> Result<(), Fail> {
 #[test]
 fn no_word_and_two_words_are_unbuilt(rt: HostRuntime) -> Result<(), Fail> {
     let alloc = rt.alloc();
-    let two = vec![in alloc; String::from_str(alloc, "/hello")?, String::from_str(alloc, "/hello")?]?;
+    let two = vec![in alloc;
+        String::from_str(alloc, "/hello")?,
+        String::from_str(alloc, "/hello")?,
+    ]?;
     for words in [&two[..0], &two[..2]] {
+        let mut tree = source(alloc, TREE, &[])?;
+        let mut elf = source(alloc, &HELLO, &[])?;
+        let mut input = source(alloc, b"", &[])?;
+        let Sinks {
+            mut out,
+            mut err,
+            mut left,
+        } = sinks_of(alloc, &HELLO_ROW)?;
         let answer = proot(
-            alloc,
-            words,
-            &mut source(alloc, TREE, &[])?,
-            &mut source(alloc, &HELLO, &[])?,
-            &mut source(alloc, b"", &[])?,
-            &mut sink(alloc, &[])?,
-            &mut sink(alloc, &[])?,
-            &mut sink(alloc, &[])?,
+            alloc, words, &mut tree, &mut elf, &mut input, &mut out, &mut err, &mut left,
         );
         assert_eq!(rt; answer, Answer::Unbuilt { part: Part::Words });
     }
