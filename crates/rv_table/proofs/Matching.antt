@@ -1,5 +1,5 @@
 -- No word matches two rows, so the first row that a word matches is the only one.
-use Rattle.std.proofs.Common.{◌≡◌, ℕ, zero, suc, ◌<◌, ◌≤◌, Bool, true, false, List, [], ◌∷◌, length, bit_and, Option, Some, None, refl, sym, ap, ◌∙◌, arith, eqb, eq-eqb, ne_eqb, eqb-true}
+use Rattle.std.proofs.Common.{subst, ◌≡◌, ℕ, zero, suc, ◌<◌, ◌≤◌, Bool, true, false, List, [], ◌∷◌, length, bit_and, Option, Some, None, refl, sym, ap, ◌∙◌, arith, eqb, eq-eqb, ne_eqb, eqb-true}
 use Rattle.std.specs.Prelude.{◌==◌, if◌then◌else◌, slice_index_or, All, filter, ◌%◌}
 use Rattle.std.proofs.Common.{inl, inr, ◌↔◌, IsNone}
 use Rattle.std.proofs.lemmas.Bool.{cases_eq}
@@ -170,3 +170,25 @@ opcodes =
 pub decoded-excluded : (w : ℕ) → Excludes opcodes (w % 128) → decoded w ≡ None
 unfolding decoded
 decoded-excluded w h = first_match-excluded opcodes rows refl refl w h
+
+-- ---- what each row says of its words, a decoded word's instruction has
+
+carried : (Q : Instr → Type 0) (w : ℕ) (rs : List Row) → ((k : ℕ) (d : Row) → k < length rs → Matches (slice_index_or rs k d) w → Q (instruction (slice_index_or rs k d).format w))
+    → (i : Instr) → first_match rs w ≡ Some i → Q i
+carried Q w [] each i e = absurd cc
+carried Q w (r ∷ rs) each i e =
+    elim (cases_eq (bit_and w r.mask) r.value) [
+      | inl m ↦
+          let first = rw (eq-eqb _ _ m) at e in
+          let same : instruction r.format w ≡ i = cc in
+          subst Q same (each 0 r (omega arith) m)
+      | inr n ↦
+          let rest = rw (ne_eqb _ _ n) at e in
+          carried Q w rs (λ k d h m. each (suc k) d (omega arith) m) i rest
+    ]
+
+pub decoded-carries : (Q : Instr → Type 0) (w : ℕ)
+    → ((k : ℕ) (d : Row) → k < length rows → Matches (slice_index_or rows k d) w → Q (instruction (slice_index_or rows k d).format w))
+    → (i : Instr) → decoded w ≡ Some i → Q i
+unfolding decoded
+decoded-carries Q w each i e = carried Q w rows each i e

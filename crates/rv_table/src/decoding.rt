@@ -1,5 +1,6 @@
 //! From words to instructions.
-ghost use Rattle.std.specs.Prelude.{◌≡◌, ◌≤◌, ◌↔◌, All, IsNone, filter, length};
+ghost use Rattle.std.specs.Prelude.{◌≢◌, IfSome, ◌≡◌, ◌≤◌, ◌↔◌, All, IsNone, filter, length};
+ghost use Rattle.rv_table.specs.Encoding.{IsValid, encoded};
 ghost use Rattle.rv_table.specs.Rows.{Matches, is_match, instruction, rows, first_match, decoded, load_rows, fence_rows, immediate_rows, auipc_rows, word_immediate_rows, store_rows, register_rows, lui_rows, word_register_rows, branch_rows, jalr_rows, jal_rows, system_rows};
 
 use crate::fields::{
@@ -30,6 +31,10 @@ pub fn decode(w: u32) -> Option<Instr>
     ensures matched { All (λ r. Matches r w → result ≡ Some (instruction r.format w)) rows }
     ensures unmatched { IsNone result ↔ All (λ r. ¬ Matches r w) rows }
     ensures single { length (filter (is_match w) rows) ≤ 1 }
+
+    // An instruction that was decoded is encoded to the word that it came from.
+    ensures valid { IfSome result IsValid }
+    ensures back { IfSome result (λ i. i ≢ Instr.Fence → encoded i ≡ w) }
 {
     by_opcode(w)
 }

@@ -4,9 +4,14 @@
 #![tactic(auto)]
 
 mod decoding;
+mod encoding;
 mod fields;
 mod instr;
 mod layout;
 
 pub use decoding::decode;
+pub use encoding::{encode, valid};
 pub use instr::Instr;
+
+#[cfg(test)]
+mod tests;
