@@ -1,5 +1,5 @@
 //! From words to instructions.
-ghost use Rattle.std.specs.Prelude.{◌≢◌, IfSome, ◌≡◌, ◌≤◌, ◌↔◌, All, IsNone, filter, length};
+ghost use Rattle.std.specs.Prelude.{◌≡◌, ◌≢◌, ◌≤◌, ◌↔◌, IfSome, IsNone, All, filter, length};
 ghost use Rattle.rv_table.specs.Encoding.{IsValid, encoded};
 ghost use Rattle.rv_table.specs.Rows.{Matches, is_match, instruction, rows, first_match, decoded, load_rows, fence_rows, immediate_rows, auipc_rows, word_immediate_rows, store_rows, register_rows, lui_rows, word_register_rows, branch_rows, jalr_rows, jal_rows, system_rows};
 
@@ -10,13 +10,44 @@ use crate::fields::{
 use crate::instr::Instr;
 use pr_base::bits;
 
-// The instruction of the first row that the word matches. A row has the bits that are fixed and their
-// values, then the operands, each with the function that reads it.
+// The instruction of a word, in a format.
+macro_rules! instruction {
+    (R $name:ident $word:ident) => {
+        Instr::$name { rd: rd($word), rs1: rs1($word), rs2: rs2($word) }
+    };
+    (I $name:ident $word:ident) => {
+        Instr::$name { rd: rd($word), rs1: rs1($word), imm: i_immediate($word) }
+    };
+    (S $name:ident $word:ident) => {
+        Instr::$name { rs1: rs1($word), rs2: rs2($word), imm: s_immediate($word) }
+    };
+    (B $name:ident $word:ident) => {
+        Instr::$name { rs1: rs1($word), rs2: rs2($word), imm: b_immediate($word) }
+    };
+    (U $name:ident $word:ident) => {
+        Instr::$name { rd: rd($word), imm: u_immediate($word) }
+    };
+    (J $name:ident $word:ident) => {
+        Instr::$name { rd: rd($word), imm: j_immediate($word) }
+    };
+    (Shift6 $name:ident $word:ident) => {
+        Instr::$name { rd: rd($word), rs1: rs1($word), imm: shift_amount($word) }
+    };
+    (Shift5 $name:ident $word:ident) => {
+        Instr::$name { rd: rd($word), rs1: rs1($word), imm: word_shift_amount($word) }
+    };
+    (Plain $name:ident $word:ident) => {
+        Instr::$name
+    };
+}
+
+// The instruction of the first row that the word matches. A row has its mnemonic, the bits that are
+// fixed, their values and its format.
 macro_rules! first_match {
-    ($word:ident; $($name:ident $mask:literal $value:literal { $($field:ident: $read:ident),* })*) => {{
+    ($word:ident; $($name:ident $mask:literal $value:literal $format:ident)*) => {{
         $(
             if $word & $mask == $value {
-                return Some(Instr::$name { $($field: $read($word)),* });
+                return Some(instruction!($format $name $word));
             }
         )*
         None
@@ -65,13 +96,13 @@ fn load(word: u32) -> Option<Instr>
 {
     first_match! {
         word;
-        Lb 0x0000707f 0x00000003 { rd: rd, rs1: rs1, imm: i_immediate }
-        Lh 0x0000707f 0x00001003 { rd: rd, rs1: rs1, imm: i_immediate }
-        Lw 0x0000707f 0x00002003 { rd: rd, rs1: rs1, imm: i_immediate }
-        Ld 0x0000707f 0x00003003 { rd: rd, rs1: rs1, imm: i_immediate }
-        Lbu 0x0000707f 0x00004003 { rd: rd, rs1: rs1, imm: i_immediate }
-        Lhu 0x0000707f 0x00005003 { rd: rd, rs1: rs1, imm: i_immediate }
-        Lwu 0x0000707f 0x00006003 { rd: rd, rs1: rs1, imm: i_immediate }
+        Lb 0x0000707f 0x00000003 I
+        Lh 0x0000707f 0x00001003 I
+        Lw 0x0000707f 0x00002003 I
+        Ld 0x0000707f 0x00003003 I
+        Lbu 0x0000707f 0x00004003 I
+        Lhu 0x0000707f 0x00005003 I
+        Lwu 0x0000707f 0x00006003 I
     }
 }
 
@@ -80,7 +111,7 @@ fn fence(word: u32) -> Option<Instr>
 {
     first_match! {
         word;
-        Fence 0x0000707f 0x0000000f {}
+        Fence 0x0000707f 0x0000000f Plain
     }
 }
 
@@ -89,15 +120,15 @@ fn immediate(word: u32) -> Option<Instr>
 {
     first_match! {
         word;
-        Addi 0x0000707f 0x00000013 { rd: rd, rs1: rs1, imm: i_immediate }
-        Slti 0x0000707f 0x00002013 { rd: rd, rs1: rs1, imm: i_immediate }
-        Sltiu 0x0000707f 0x00003013 { rd: rd, rs1: rs1, imm: i_immediate }
-        Xori 0x0000707f 0x00004013 { rd: rd, rs1: rs1, imm: i_immediate }
-        Ori 0x0000707f 0x00006013 { rd: rd, rs1: rs1, imm: i_immediate }
-        Andi 0x0000707f 0x00007013 { rd: rd, rs1: rs1, imm: i_immediate }
-        Slli 0xfc00707f 0x00001013 { rd: rd, rs1: rs1, imm: shift_amount }
-        Srli 0xfc00707f 0x00005013 { rd: rd, rs1: rs1, imm: shift_amount }
-        Srai 0xfc00707f 0x40005013 { rd: rd, rs1: rs1, imm: shift_amount }
+        Addi 0x0000707f 0x00000013 I
+        Slti 0x0000707f 0x00002013 I
+        Sltiu 0x0000707f 0x00003013 I
+        Xori 0x0000707f 0x00004013 I
+        Ori 0x0000707f 0x00006013 I
+        Andi 0x0000707f 0x00007013 I
+        Slli 0xfc00707f 0x00001013 Shift6
+        Srli 0xfc00707f 0x00005013 Shift6
+        Srai 0xfc00707f 0x40005013 Shift6
     }
 }
 
@@ -106,7 +137,7 @@ fn auipc(word: u32) -> Option<Instr>
 {
     first_match! {
         word;
-        Auipc 0x0000007f 0x00000017 { rd: rd, imm: u_immediate }
+        Auipc 0x0000007f 0x00000017 U
     }
 }
 
@@ -115,10 +146,10 @@ fn word_immediate(word: u32) -> Option<Instr>
 {
     first_match! {
         word;
-        Addiw 0x0000707f 0x0000001b { rd: rd, rs1: rs1, imm: i_immediate }
-        Slliw 0xfe00707f 0x0000101b { rd: rd, rs1: rs1, imm: word_shift_amount }
-        Srliw 0xfe00707f 0x0000501b { rd: rd, rs1: rs1, imm: word_shift_amount }
-        Sraiw 0xfe00707f 0x4000501b { rd: rd, rs1: rs1, imm: word_shift_amount }
+        Addiw 0x0000707f 0x0000001b I
+        Slliw 0xfe00707f 0x0000101b Shift5
+        Srliw 0xfe00707f 0x0000501b Shift5
+        Sraiw 0xfe00707f 0x4000501b Shift5
     }
 }
 
@@ -127,10 +158,10 @@ fn store(word: u32) -> Option<Instr>
 {
     first_match! {
         word;
-        Sb 0x0000707f 0x00000023 { rs1: rs1, rs2: rs2, imm: s_immediate }
-        Sh 0x0000707f 0x00001023 { rs1: rs1, rs2: rs2, imm: s_immediate }
-        Sw 0x0000707f 0x00002023 { rs1: rs1, rs2: rs2, imm: s_immediate }
-        Sd 0x0000707f 0x00003023 { rs1: rs1, rs2: rs2, imm: s_immediate }
+        Sb 0x0000707f 0x00000023 S
+        Sh 0x0000707f 0x00001023 S
+        Sw 0x0000707f 0x00002023 S
+        Sd 0x0000707f 0x00003023 S
     }
 }
 
@@ -139,24 +170,24 @@ fn register(word: u32) -> Option<Instr>
 {
     first_match! {
         word;
-        Add 0xfe00707f 0x00000033 { rd: rd, rs1: rs1, rs2: rs2 }
-        Sub 0xfe00707f 0x40000033 { rd: rd, rs1: rs1, rs2: rs2 }
-        Sll 0xfe00707f 0x00001033 { rd: rd, rs1: rs1, rs2: rs2 }
-        Slt 0xfe00707f 0x00002033 { rd: rd, rs1: rs1, rs2: rs2 }
-        Sltu 0xfe00707f 0x00003033 { rd: rd, rs1: rs1, rs2: rs2 }
-        Xor 0xfe00707f 0x00004033 { rd: rd, rs1: rs1, rs2: rs2 }
-        Srl 0xfe00707f 0x00005033 { rd: rd, rs1: rs1, rs2: rs2 }
-        Sra 0xfe00707f 0x40005033 { rd: rd, rs1: rs1, rs2: rs2 }
-        Or 0xfe00707f 0x00006033 { rd: rd, rs1: rs1, rs2: rs2 }
-        And 0xfe00707f 0x00007033 { rd: rd, rs1: rs1, rs2: rs2 }
-        Mul 0xfe00707f 0x02000033 { rd: rd, rs1: rs1, rs2: rs2 }
-        Mulh 0xfe00707f 0x02001033 { rd: rd, rs1: rs1, rs2: rs2 }
-        Mulhsu 0xfe00707f 0x02002033 { rd: rd, rs1: rs1, rs2: rs2 }
-        Mulhu 0xfe00707f 0x02003033 { rd: rd, rs1: rs1, rs2: rs2 }
-        Div 0xfe00707f 0x02004033 { rd: rd, rs1: rs1, rs2: rs2 }
-        Divu 0xfe00707f 0x02005033 { rd: rd, rs1: rs1, rs2: rs2 }
-        Rem 0xfe00707f 0x02006033 { rd: rd, rs1: rs1, rs2: rs2 }
-        Remu 0xfe00707f 0x02007033 { rd: rd, rs1: rs1, rs2: rs2 }
+        Add 0xfe00707f 0x00000033 R
+        Sub 0xfe00707f 0x40000033 R
+        Sll 0xfe00707f 0x00001033 R
+        Slt 0xfe00707f 0x00002033 R
+        Sltu 0xfe00707f 0x00003033 R
+        Xor 0xfe00707f 0x00004033 R
+        Srl 0xfe00707f 0x00005033 R
+        Sra 0xfe00707f 0x40005033 R
+        Or 0xfe00707f 0x00006033 R
+        And 0xfe00707f 0x00007033 R
+        Mul 0xfe00707f 0x02000033 R
+        Mulh 0xfe00707f 0x02001033 R
+        Mulhsu 0xfe00707f 0x02002033 R
+        Mulhu 0xfe00707f 0x02003033 R
+        Div 0xfe00707f 0x02004033 R
+        Divu 0xfe00707f 0x02005033 R
+        Rem 0xfe00707f 0x02006033 R
+        Remu 0xfe00707f 0x02007033 R
     }
 }
 
@@ -165,7 +196,7 @@ fn lui(word: u32) -> Option<Instr>
 {
     first_match! {
         word;
-        Lui 0x0000007f 0x00000037 { rd: rd, imm: u_immediate }
+        Lui 0x0000007f 0x00000037 U
     }
 }
 
@@ -174,16 +205,16 @@ fn word_register(word: u32) -> Option<Instr>
 {
     first_match! {
         word;
-        Addw 0xfe00707f 0x0000003b { rd: rd, rs1: rs1, rs2: rs2 }
-        Subw 0xfe00707f 0x4000003b { rd: rd, rs1: rs1, rs2: rs2 }
-        Sllw 0xfe00707f 0x0000103b { rd: rd, rs1: rs1, rs2: rs2 }
-        Srlw 0xfe00707f 0x0000503b { rd: rd, rs1: rs1, rs2: rs2 }
-        Sraw 0xfe00707f 0x4000503b { rd: rd, rs1: rs1, rs2: rs2 }
-        Mulw 0xfe00707f 0x0200003b { rd: rd, rs1: rs1, rs2: rs2 }
-        Divw 0xfe00707f 0x0200403b { rd: rd, rs1: rs1, rs2: rs2 }
-        Divuw 0xfe00707f 0x0200503b { rd: rd, rs1: rs1, rs2: rs2 }
-        Remw 0xfe00707f 0x0200603b { rd: rd, rs1: rs1, rs2: rs2 }
-        Remuw 0xfe00707f 0x0200703b { rd: rd, rs1: rs1, rs2: rs2 }
+        Addw 0xfe00707f 0x0000003b R
+        Subw 0xfe00707f 0x4000003b R
+        Sllw 0xfe00707f 0x0000103b R
+        Srlw 0xfe00707f 0x0000503b R
+        Sraw 0xfe00707f 0x4000503b R
+        Mulw 0xfe00707f 0x0200003b R
+        Divw 0xfe00707f 0x0200403b R
+        Divuw 0xfe00707f 0x0200503b R
+        Remw 0xfe00707f 0x0200603b R
+        Remuw 0xfe00707f 0x0200703b R
     }
 }
 
@@ -192,12 +223,12 @@ fn branch(word: u32) -> Option<Instr>
 {
     first_match! {
         word;
-        Beq 0x0000707f 0x00000063 { rs1: rs1, rs2: rs2, imm: b_immediate }
-        Bne 0x0000707f 0x00001063 { rs1: rs1, rs2: rs2, imm: b_immediate }
-        Blt 0x0000707f 0x00004063 { rs1: rs1, rs2: rs2, imm: b_immediate }
-        Bge 0x0000707f 0x00005063 { rs1: rs1, rs2: rs2, imm: b_immediate }
-        Bltu 0x0000707f 0x00006063 { rs1: rs1, rs2: rs2, imm: b_immediate }
-        Bgeu 0x0000707f 0x00007063 { rs1: rs1, rs2: rs2, imm: b_immediate }
+        Beq 0x0000707f 0x00000063 B
+        Bne 0x0000707f 0x00001063 B
+        Blt 0x0000707f 0x00004063 B
+        Bge 0x0000707f 0x00005063 B
+        Bltu 0x0000707f 0x00006063 B
+        Bgeu 0x0000707f 0x00007063 B
     }
 }
 
@@ -206,7 +237,7 @@ fn jalr(word: u32) -> Option<Instr>
 {
     first_match! {
         word;
-        Jalr 0x0000707f 0x00000067 { rd: rd, rs1: rs1, imm: i_immediate }
+        Jalr 0x0000707f 0x00000067 I
     }
 }
 
@@ -215,7 +246,7 @@ fn jal(word: u32) -> Option<Instr>
 {
     first_match! {
         word;
-        Jal 0x0000007f 0x0000006f { rd: rd, imm: j_immediate }
+        Jal 0x0000007f 0x0000006f J
     }
 }
 
@@ -224,7 +255,7 @@ fn system(word: u32) -> Option<Instr>
 {
     first_match! {
         word;
-        Ecall 0xffffffff 0x00000073 {}
-        Ebreak 0xffffffff 0x00100073 {}
+        Ecall 0xffffffff 0x00000073 Plain
+        Ebreak 0xffffffff 0x00100073 Plain
     }
 }
