@@ -7,7 +7,7 @@ use Rattle.rv_table.specs.declared.layout.Operands.TheVariants.{Register, Immedi
 use Rattle.rv_table.specs.Rows.{bits, rd_of, rs1_of, rs2_of, i_immediate, s_immediate, b_immediate, u_immediate, j_immediate, shift_amount, word_shift_amount}
 use Rattle.rv_table.specs.Encoding.{placed, registers, unsigned, IsInRange}
 use Rattle.rv_table.proofs.Masks.{and-opcode, and-funct3, and-funct6, and-funct7}
-use Rattle.rv_table.proofs.TwosComplement.{unsigned-lt, signed-unsigned, FitsSigned-signed, unsigned-signed, unsigned-multiple, IsMultiple-signed}
+use Rattle.rv_table.proofs.TwosComplement.{unsigned-lt, signed-unsigned, FitsWidth-signed, unsigned-signed, unsigned-multiple, IsMultiple-signed}
 
 -- ---- the fixed bits that each mask leaves
 
@@ -71,7 +71,7 @@ pub Immediate-back : (v w : ℕ) → w < 2 ^ 32 → bit_and w 0x0000707f ≡ v
 Immediate-back v w fits m =
     let fixed : v ≡ w / 2 ^ 12 % 8 * 2 ^ 12 + w % 128 = sym m ∙ and-funct3 w in
     let bound : bits 31 20 w < 2 ^ 12 = omega arith in (
-      (omega arith, omega arith, FitsSigned-signed 12 (lit≤ tt) (bits 31 20 w) bound),
+      (omega arith, omega arith, FitsWidth-signed 12 (lit≤ tt) (bits 31 20 w) bound),
       rw (unsigned-signed 12 (lit≤ tt) (bits 31 20 w) bound) (omega arith),
     )
 
@@ -97,7 +97,7 @@ Store-back v w fits m =
     let fixed : v ≡ w / 2 ^ 12 % 8 * 2 ^ 12 + w % 128 = sym m ∙ and-funct3 w in
     let n : ℕ = bits 31 25 w * 2 ^ 5 + bits 11 7 w in
     let bound : n < 2 ^ 12 = omega arith in (
-      (omega arith, omega arith, FitsSigned-signed 12 (lit≤ tt) n bound),
+      (omega arith, omega arith, FitsWidth-signed 12 (lit≤ tt) n bound),
       rw (unsigned-signed 12 (lit≤ tt) n bound) (omega arith),
     )
 
@@ -129,7 +129,7 @@ Branch-back v w fits m =
       (
         omega arith,
         omega arith,
-        FitsSigned-signed 13 (lit≤ tt) n bound,
+        FitsWidth-signed 13 (lit≤ tt) n bound,
         IsMultiple-signed 2 13 (lit≤ tt) refl n bound (omega arith),
       ),
       rw (unsigned-signed 13 (lit≤ tt) n bound) (omega arith),
@@ -157,7 +157,7 @@ Upper-back v w fits m =
     let fixed : v ≡ w % 128 = sym m ∙ and-opcode w in
     let n : ℕ = bits 31 12 w * 2 ^ 12 in
     let bound : n < 2 ^ 32 = omega arith in (
-      (omega arith, FitsSigned-signed 32 (lit≤ tt) n bound, IsMultiple-signed (2 ^ 12) 32 (lit≤ tt) refl n bound (omega arith)),
+      (omega arith, FitsWidth-signed 32 (lit≤ tt) n bound, IsMultiple-signed (2 ^ 12) 32 (lit≤ tt) refl n bound (omega arith)),
       rw (unsigned-signed 32 (lit≤ tt) n bound) (omega arith),
     )
 
@@ -184,7 +184,7 @@ Jump-back v w fits m =
     let fixed : v ≡ w % 128 = sym m ∙ and-opcode w in
     let n : ℕ = bits 31 31 w * 2 ^ 20 + bits 19 12 w * 2 ^ 12 + bits 20 20 w * 2 ^ 11 + bits 30 21 w * 2 ^ 1 in
     let bound : n < 2 ^ 21 = omega arith in (
-      (omega arith, FitsSigned-signed 21 (lit≤ tt) n bound, IsMultiple-signed 2 21 (lit≤ tt) refl n bound (omega arith)),
+      (omega arith, FitsWidth-signed 21 (lit≤ tt) n bound, IsMultiple-signed 2 21 (lit≤ tt) refl n bound (omega arith)),
       rw (unsigned-signed 21 (lit≤ tt) n bound) (omega arith),
     )
 

@@ -43,203 +43,91 @@ Each-at P [] each k d h = absurd (omega arith)
 Each-at P (r ∷ rs) each zero d h = each.0
 Each-at P (r ∷ rs) each (suc k) d h = Each-at P rs each.1 k d (omega arith)
 
+infixr 5 ◌and◌
+◌and◌ : {A B : Type 0} → A → B → A × B
+a and b = (a, b)
+
 rows_are_laid_out : Each (λ r. IsLaidOut r.mask r.value r.format) rows
-rows_are_laid_out = (
-  (refl, refl, λ rd rs1 imm. refl),
-  (
-    (refl, refl, λ rd rs1 imm. refl),
-    (
-      (refl, refl, λ rd rs1 imm. refl),
-      (
-        (refl, refl, λ rd rs1 imm. refl),
-        (
-          (refl, refl, λ rd rs1 imm. refl),
-          (
-            (refl, refl, λ rd rs1 imm. refl),
-            (
-              (refl, refl, λ rd rs1 imm. refl),
-              (
-                (refl, refl, refl, inr refl),
-                (
-                  (refl, refl, λ rd rs1 imm. refl),
-                  (
-                    (refl, refl, λ rd rs1 imm. refl),
-                    (
-                      (refl, refl, λ rd rs1 imm. refl),
-                      (
-                        (refl, refl, λ rd rs1 imm. refl),
-                        (
-                          (refl, refl, λ rd rs1 imm. refl),
-                          (
-                            (refl, refl, λ rd rs1 imm. refl),
-                            (
-                              (refl, refl, λ rd rs1 imm. refl),
-                              (
-                                (refl, refl, λ rd rs1 imm. refl),
-                                (
-                                  (refl, refl, λ rd rs1 imm. refl),
-                                  (
-                                    (refl, refl, λ rd imm. refl),
-                                    (
-                                      (refl, refl, λ rd rs1 imm. refl),
-                                      (
-                                        (refl, refl, λ rd rs1 imm. refl),
-                                        (
-                                          (refl, refl, λ rd rs1 imm. refl),
-                                          (
-                                            (refl, refl, λ rd rs1 imm. refl),
-                                            (
-                                              (refl, refl, λ rs1 rs2 imm. refl),
-                                              (
-                                                (refl, refl, λ rs1 rs2 imm. refl),
-                                                (
-                                                  (refl, refl, λ rs1 rs2 imm. refl),
-                                                  (
-                                                    (refl, refl, λ rs1 rs2 imm. refl),
-                                                    (
-                                                      (refl, refl, λ rd rs1 rs2. refl),
-                                                      (
-                                                        (refl, refl, λ rd rs1 rs2. refl),
-                                                        (
-                                                          (refl, refl, λ rd rs1 rs2. refl),
-                                                          (
-                                                            (refl, refl, λ rd rs1 rs2. refl),
-                                                            (
-                                                              (refl, refl, λ rd rs1 rs2. refl),
-                                                              (
-                                                                (refl, refl, λ rd rs1 rs2. refl),
-                                                                (
-                                                                  (refl, refl, λ rd rs1 rs2. refl),
-                                                                  (
-                                                                    (refl, refl, λ rd rs1 rs2. refl),
-                                                                    (
-                                                                      (refl, refl, λ rd rs1 rs2. refl),
-                                                                      (
-                                                                        (refl, refl, λ rd rs1 rs2. refl),
-                                                                        (
-                                                                          (refl, refl, λ rd rs1 rs2. refl),
-                                                                          (
-                                                                            (refl, refl, λ rd rs1 rs2. refl),
-                                                                            (
-                                                                              (refl, refl, λ rd rs1 rs2. refl),
-                                                                              (
-                                                                                (refl, refl, λ rd rs1 rs2. refl),
-                                                                                (
-                                                                                  (refl, refl, λ rd rs1 rs2. refl),
-                                                                                  (
-                                                                                    (refl, refl, λ rd rs1 rs2. refl),
-                                                                                    (
-                                                                                      (refl, refl, λ rd rs1 rs2. refl),
-                                                                                      (
-                                                                                        (refl, refl, λ rd rs1 rs2. refl),
-                                                                                        (
-                                                                                          (refl, refl, λ rd imm. refl),
-                                                                                          (
-                                                                                            (refl, refl, λ rd rs1 rs2. refl),
-                                                                                            (
-                                                                                              (refl, refl, λ rd rs1 rs2. refl),
-                                                                                              (
-                                                                                                (refl, refl, λ rd rs1 rs2. refl),
-                                                                                                (
-                                                                                                  (refl, refl, λ rd rs1 rs2. refl),
-                                                                                                  (
-                                                                                                    (refl, refl, λ rd rs1 rs2. refl),
-                                                                                                    (
-                                                                                                      (refl, refl, λ rd rs1 rs2. refl),
-                                                                                                      (
-                                                                                                        (refl, refl, λ rd rs1 rs2. refl),
-                                                                                                        (
-                                                                                                          (refl, refl, λ rd rs1 rs2. refl),
-                                                                                                          (
-                                                                                                            (refl, refl, λ rd rs1 rs2. refl),
-                                                                                                            (
-                                                                                                              (refl, refl, λ rd rs1 rs2. refl),
-                                                                                                              (
-                                                                                                                (refl, refl, λ rs1 rs2 imm. refl),
-                                                                                                                (
-                                                                                                                  (refl, refl, λ rs1 rs2 imm. refl),
-                                                                                                                  (
-                                                                                                                    (refl, refl, λ rs1 rs2 imm. refl),
-                                                                                                                    (
-                                                                                                                      (refl, refl, λ rs1 rs2 imm. refl),
-                                                                                                                      (
-                                                                                                                        (refl, refl, λ rs1 rs2 imm. refl),
-                                                                                                                        (
-                                                                                                                          (refl, refl, λ rs1 rs2 imm. refl),
-                                                                                                                          (
-                                                                                                                            (refl, refl, λ rd rs1 imm. refl),
-                                                                                                                            (
-                                                                                                                              (refl, refl, λ rd imm. refl),
-                                                                                                                              (
-                                                                                                                                (refl, refl, refl, inl refl),
-                                                                                                                                (
-                                                                                                                                  (refl, refl, refl, inl refl),
-                                                                                                                                  tt,
-                                                                                                                                ),
-                                                                                                                              ),
-                                                                                                                            ),
-                                                                                                                          ),
-                                                                                                                        ),
-                                                                                                                      ),
-                                                                                                                    ),
-                                                                                                                  ),
-                                                                                                                ),
-                                                                                                              ),
-                                                                                                            ),
-                                                                                                          ),
-                                                                                                        ),
-                                                                                                      ),
-                                                                                                    ),
-                                                                                                  ),
-                                                                                                ),
-                                                                                              ),
-                                                                                            ),
-                                                                                          ),
-                                                                                        ),
-                                                                                      ),
-                                                                                    ),
-                                                                                  ),
-                                                                                ),
-                                                                              ),
-                                                                            ),
-                                                                          ),
-                                                                        ),
-                                                                      ),
-                                                                    ),
-                                                                  ),
-                                                                ),
-                                                              ),
-                                                            ),
-                                                          ),
-                                                        ),
-                                                      ),
-                                                    ),
-                                                  ),
-                                                ),
-                                              ),
-                                            ),
-                                          ),
-                                        ),
-                                      ),
-                                    ),
-                                  ),
-                                ),
-                              ),
-                            ),
-                          ),
-                        ),
-                      ),
-                    ),
-                  ),
-                ),
-              ),
-            ),
-          ),
-        ),
-      ),
-    ),
-  ),
-)
+rows_are_laid_out =
+    -- opcode 03
+    (refl, refl, λ rd rs1 imm. refl) and
+    (refl, refl, λ rd rs1 imm. refl) and
+    (refl, refl, λ rd rs1 imm. refl) and
+    (refl, refl, λ rd rs1 imm. refl) and
+    (refl, refl, λ rd rs1 imm. refl) and
+    (refl, refl, λ rd rs1 imm. refl) and
+    (refl, refl, λ rd rs1 imm. refl) and
+    -- opcode 0f
+    (refl, refl, refl, inr refl) and
+    -- opcode 13
+    (refl, refl, λ rd rs1 imm. refl) and
+    (refl, refl, λ rd rs1 imm. refl) and
+    (refl, refl, λ rd rs1 imm. refl) and
+    (refl, refl, λ rd rs1 imm. refl) and
+    (refl, refl, λ rd rs1 imm. refl) and
+    (refl, refl, λ rd rs1 imm. refl) and
+    (refl, refl, λ rd rs1 imm. refl) and
+    (refl, refl, λ rd rs1 imm. refl) and
+    (refl, refl, λ rd rs1 imm. refl) and
+    -- opcode 17
+    (refl, refl, λ rd imm. refl) and
+    -- opcode 1b
+    (refl, refl, λ rd rs1 imm. refl) and
+    (refl, refl, λ rd rs1 imm. refl) and
+    (refl, refl, λ rd rs1 imm. refl) and
+    (refl, refl, λ rd rs1 imm. refl) and
+    -- opcode 23
+    (refl, refl, λ rs1 rs2 imm. refl) and
+    (refl, refl, λ rs1 rs2 imm. refl) and
+    (refl, refl, λ rs1 rs2 imm. refl) and
+    (refl, refl, λ rs1 rs2 imm. refl) and
+    -- opcode 33
+    (refl, refl, λ rd rs1 rs2. refl) and
+    (refl, refl, λ rd rs1 rs2. refl) and
+    (refl, refl, λ rd rs1 rs2. refl) and
+    (refl, refl, λ rd rs1 rs2. refl) and
+    (refl, refl, λ rd rs1 rs2. refl) and
+    (refl, refl, λ rd rs1 rs2. refl) and
+    (refl, refl, λ rd rs1 rs2. refl) and
+    (refl, refl, λ rd rs1 rs2. refl) and
+    (refl, refl, λ rd rs1 rs2. refl) and
+    (refl, refl, λ rd rs1 rs2. refl) and
+    (refl, refl, λ rd rs1 rs2. refl) and
+    (refl, refl, λ rd rs1 rs2. refl) and
+    (refl, refl, λ rd rs1 rs2. refl) and
+    (refl, refl, λ rd rs1 rs2. refl) and
+    (refl, refl, λ rd rs1 rs2. refl) and
+    (refl, refl, λ rd rs1 rs2. refl) and
+    (refl, refl, λ rd rs1 rs2. refl) and
+    (refl, refl, λ rd rs1 rs2. refl) and
+    -- opcode 37
+    (refl, refl, λ rd imm. refl) and
+    -- opcode 3b
+    (refl, refl, λ rd rs1 rs2. refl) and
+    (refl, refl, λ rd rs1 rs2. refl) and
+    (refl, refl, λ rd rs1 rs2. refl) and
+    (refl, refl, λ rd rs1 rs2. refl) and
+    (refl, refl, λ rd rs1 rs2. refl) and
+    (refl, refl, λ rd rs1 rs2. refl) and
+    (refl, refl, λ rd rs1 rs2. refl) and
+    (refl, refl, λ rd rs1 rs2. refl) and
+    (refl, refl, λ rd rs1 rs2. refl) and
+    (refl, refl, λ rd rs1 rs2. refl) and
+    -- opcode 63
+    (refl, refl, λ rs1 rs2 imm. refl) and
+    (refl, refl, λ rs1 rs2 imm. refl) and
+    (refl, refl, λ rs1 rs2 imm. refl) and
+    (refl, refl, λ rs1 rs2 imm. refl) and
+    (refl, refl, λ rs1 rs2 imm. refl) and
+    (refl, refl, λ rs1 rs2 imm. refl) and
+    -- opcode 67
+    (refl, refl, λ rd rs1 imm. refl) and
+    -- opcode 6f
+    (refl, refl, λ rd imm. refl) and
+    -- opcode 73
+    (refl, refl, refl, inl refl) and
+    (refl, refl, refl, inl refl) and
+    tt
 
 -- ---- a word that matches a row has a valid instruction, and is its word
 

@@ -4,7 +4,7 @@ use Rattle.std.specs.Prelude.{ℤ, pos, negsuc, ◌-ℤ◌}
 use Rattle.std.proofs.Math.Nat.{pow-suc, add-mod, mod-mod}
 use Rattle.std.proofs.lemmas.Bool.{cases_lt}
 use Rattle.rv_table.specs.Rows.{signed}
-use Rattle.rv_table.specs.Encoding.{FitsSigned, unsigned, IsMultiple}
+use Rattle.rv_table.specs.Encoding.{FitsWidth, unsigned, IsMultiple}
 
 halves : (width : ℕ) → 1 ≤ width → 2 ^ width ≡ 2 * 2 ^ (width - 1)
 halves zero some = absurd (omega arith)
@@ -19,11 +19,11 @@ below-minus n (suc m) h =
     let rest : suc m - suc n ≡ suc m - 1 - n = omega arith in
     rw (lt-ltb n (suc m) h) (ap negsuc rest)
 
-pub unsigned-lt : (width : ℕ) → 1 ≤ width → (z : ℤ) → FitsSigned width z → unsigned width z < 2 ^ width
+pub unsigned-lt : (width : ℕ) → 1 ≤ width → (z : ℤ) → FitsWidth width z → unsigned width z < 2 ^ width
 unsigned-lt width some (pos n) h = omega (arith, halves width some)
 unsigned-lt width some (negsuc n) h = omega (arith, halves width some)
 
-pub signed-unsigned : (width : ℕ) → 1 ≤ width → (z : ℤ) → FitsSigned width z → signed width (unsigned width z) ≡ z
+pub signed-unsigned : (width : ℕ) → 1 ≤ width → (z : ℤ) → FitsWidth width z → signed width (unsigned width z) ≡ z
 signed-unsigned width some (pos n) h = rw (lt-ltb n (2 ^ (width - 1)) h) refl
 signed-unsigned width some (negsuc n) h =
     let whole = halves width some in
@@ -31,8 +31,8 @@ signed-unsigned width some (negsuc n) h =
     let back : 2 ^ width - 1 - (2 ^ width - 1 - n) ≡ n = omega arith in
     rw (upper, below-minus (2 ^ width - 1 - n) (2 ^ width) (omega arith), back) refl
 
-pub FitsSigned-signed : (width : ℕ) → 1 ≤ width → (n : ℕ) → n < 2 ^ width → FitsSigned width (signed width n)
-FitsSigned-signed width some n h =
+pub FitsWidth-signed : (width : ℕ) → 1 ≤ width → (n : ℕ) → n < 2 ^ width → FitsWidth width (signed width n)
+FitsWidth-signed width some n h =
     let whole = halves width some in
     elim (cases_lt n (2 ^ (width - 1))) [
       | inl lower ↦ rw (lt-ltb n (2 ^ (width - 1)) lower) lower
@@ -58,7 +58,7 @@ multiple_rest unit a b whole first =
     let rest : (0 + b % unit) % unit ≡ 0 = rw first at parts in
     sym (mod-mod b unit) ∙ rw zero-add at rest
 
-pub unsigned-multiple : (unit width : ℕ) → 1 ≤ width → 2 ^ width % unit ≡ 0 → (z : ℤ) → FitsSigned width z → IsMultiple unit z
+pub unsigned-multiple : (unit width : ℕ) → 1 ≤ width → 2 ^ width % unit ≡ 0 → (z : ℤ) → FitsWidth width z → IsMultiple unit z
     → unsigned width z % unit ≡ 0
 unsigned-multiple unit width some whole (pos n) h multiple = multiple
 unsigned-multiple unit width some whole (negsuc n) h multiple =

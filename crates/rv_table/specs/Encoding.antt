@@ -10,7 +10,8 @@ use Rattle.rv_table.specs.declared.instr.Instr.TheVariants.{Lb, Lh, Lw, Ld, Lbu,
 abbrev pub layout : ℕ → Operands → Layout
 layout v o = record { fixed = v; operands = o }
 
--- the fixed bits of an instruction's word, and the operands that stand beside them
+-- the fixed bits of an instruction's word, and the operands that stand beside them; of the words of
+-- FENCE the one that orders all accesses before it and all after it
 abbrev pub layout_of : Instr → Layout
 layout_of (Lb rd rs1 imm) = layout 0x00000003 (Immediate rd rs1 imm)
 layout_of (Lh rd rs1 imm) = layout 0x00001003 (Immediate rd rs1 imm)
@@ -82,9 +83,9 @@ layout_of Ebreak = layout 0x00100073 Fixed
 
 -- a whole number that `width` bits hold in two's complement: from - 2 ^ (width - 1) on, and below
 -- 2 ^ (width - 1), where `negsuc n` is - n - 1
-abbrev pub FitsSigned : ℕ → ℤ → Type 0
-FitsSigned width (pos n) = n < 2 ^ (width - 1)
-FitsSigned width (negsuc n) = n < 2 ^ (width - 1)
+abbrev pub FitsWidth : ℕ → ℤ → Type 0
+FitsWidth width (pos n) = n < 2 ^ (width - 1)
+FitsWidth width (negsuc n) = n < 2 ^ (width - 1)
 
 abbrev pub IsBelow : ℕ → ℤ → Type 0
 IsBelow limit (pos n) = n < limit
@@ -96,11 +97,11 @@ IsMultiple unit z = unsigned_abs z % unit ≡ 0
 -- each operand is in the range that its format has room for
 abbrev pub IsInRange : Operands → Type 0
 IsInRange (Register rd rs1 rs2) = (rd < 32) × (rs1 < 32) × (rs2 < 32)
-IsInRange (Immediate rd rs1 imm) = (rd < 32) × (rs1 < 32) × FitsSigned 12 imm
-IsInRange (Store rs1 rs2 imm) = (rs1 < 32) × (rs2 < 32) × FitsSigned 12 imm
-IsInRange (Branch rs1 rs2 imm) = (rs1 < 32) × (rs2 < 32) × FitsSigned 13 imm × IsMultiple 2 imm
-IsInRange (Upper rd imm) = (rd < 32) × FitsSigned 32 imm × IsMultiple (2 ^ 12) imm
-IsInRange (Jump rd imm) = (rd < 32) × FitsSigned 21 imm × IsMultiple 2 imm
+IsInRange (Immediate rd rs1 imm) = (rd < 32) × (rs1 < 32) × FitsWidth 12 imm
+IsInRange (Store rs1 rs2 imm) = (rs1 < 32) × (rs2 < 32) × FitsWidth 12 imm
+IsInRange (Branch rs1 rs2 imm) = (rs1 < 32) × (rs2 < 32) × FitsWidth 13 imm × IsMultiple 2 imm
+IsInRange (Upper rd imm) = (rd < 32) × FitsWidth 32 imm × IsMultiple (2 ^ 12) imm
+IsInRange (Jump rd imm) = (rd < 32) × FitsWidth 21 imm × IsMultiple 2 imm
 IsInRange (Shift rd rs1 imm) = (rd < 32) × (rs1 < 32) × IsBelow 64 imm
 IsInRange (WordShift rd rs1 imm) = (rd < 32) × (rs1 < 32) × IsBelow 32 imm
 IsInRange Fixed = Unit {0}

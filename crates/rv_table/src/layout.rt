@@ -40,7 +40,7 @@ pub enum Operands {
 fn fits<const WIDTH: u32>(imm: i64) -> bool
     requires some { 1 ≤ WIDTH }
     requires within { WIDTH ≤ 32 }
-    ensures { IsTrue result ↔ spec.FitsSigned WIDTH imm }
+    ensures { IsTrue result ↔ spec.FitsWidth WIDTH imm }
 {
     let sign_bit = 1i64 << (WIDTH - 1);
     -sign_bit <= imm && imm < sign_bit
@@ -50,7 +50,7 @@ fn fits<const WIDTH: u32>(imm: i64) -> bool
 fn unsigned<const WIDTH: u32>(imm: i64) -> u32
     requires some { 1 ≤ WIDTH }
     requires within { WIDTH ≤ 32 }
-    requires fits { spec.FitsSigned WIDTH imm }
+    requires fits { spec.FitsWidth WIDTH imm }
     ensures value { result ≡ spec.unsigned WIDTH imm }
     ensures fits { result < 2 ^ WIDTH }
 {
