@@ -47,34 +47,34 @@ pub fn i_immediate(word: u32) -> i64
 pub fn s_immediate(word: u32) -> i64
     ensures { result ≡ manual.s_immediate word }
 {
-    signed::<12>(bits::<31, 25>(word) * (1 << 5) + bits::<11, 7>(word))
+    signed::<12>((bits::<31, 25>(word) << 5) + bits::<11, 7>(word))
 }
 
 pub fn b_immediate(word: u32) -> i64
     ensures { result ≡ manual.b_immediate word }
 {
     signed::<13>(
-        bits::<31, 31>(word) * (1 << 12)
-            + bits::<7, 7>(word) * (1 << 11)
-            + bits::<30, 25>(word) * (1 << 5)
-            + bits::<11, 8>(word) * (1 << 1),
+        (bits::<31, 31>(word) << 12)
+            + (bits::<7, 7>(word) << 11)
+            + (bits::<30, 25>(word) << 5)
+            + (bits::<11, 8>(word) << 1),
     )
 }
 
 pub fn u_immediate(word: u32) -> i64
     ensures { result ≡ manual.u_immediate word }
 {
-    signed::<32>(bits::<31, 12>(word) * (1 << 12))
+    signed::<32>(bits::<31, 12>(word) << 12)
 }
 
 pub fn j_immediate(word: u32) -> i64
     ensures { result ≡ manual.j_immediate word }
 {
     signed::<21>(
-        bits::<31, 31>(word) * (1 << 20)
-            + bits::<19, 12>(word) * (1 << 12)
-            + bits::<20, 20>(word) * (1 << 11)
-            + bits::<30, 21>(word) * (1 << 1),
+        (bits::<31, 31>(word) << 20)
+            + (bits::<19, 12>(word) << 12)
+            + (bits::<20, 20>(word) << 11)
+            + (bits::<30, 21>(word) << 1),
     )
 }
 

@@ -43,7 +43,7 @@ fn fits<const WIDTH: u32>(imm: i64) -> bool
     ensures { IsTrue result ↔ spec.FitsWidth WIDTH imm }
 {
     let sign_bit = 1i64 << (WIDTH - 1);
-    -sign_bit <= imm && imm < sign_bit
+    (-sign_bit..sign_bit).contains(&imm)
 }
 
 /// The `WIDTH` bits that hold the number in two's complement.
@@ -90,31 +90,31 @@ impl Operands {
         match self {
             Operands::Register { rd, rs1, rs2 } => registers(rd, rs1, rs2),
             Operands::Immediate { rd, rs1, imm } => registers(rd, rs1, 0)
-                + unsigned::<12>(imm) * (1 << 20),
+                + (unsigned::<12>(imm) << 20),
             Operands::Store { rs1, rs2, imm } => {
                 let n = unsigned::<12>(imm);
-                registers(0, rs1, rs2) + bits::<4, 0>(n) * (1 << 7) + bits::<11, 5>(n) * (1 << 25)
+                registers(0, rs1, rs2) + (bits::<4, 0>(n) << 7) + (bits::<11, 5>(n) << 25)
             }
             Operands::Branch { rs1, rs2, imm } => {
                 let n = unsigned::<13>(imm);
                 registers(0, rs1, rs2)
-                    + bits::<11, 11>(n) * (1 << 7)
-                    + bits::<4, 1>(n) * (1 << 8)
-                    + bits::<10, 5>(n) * (1 << 25)
-                    + bits::<12, 12>(n) * (1 << 31)
+                    + (bits::<11, 11>(n) << 7)
+                    + (bits::<4, 1>(n) << 8)
+                    + (bits::<10, 5>(n) << 25)
+                    + (bits::<12, 12>(n) << 31)
             }
             Operands::Upper { rd, imm } => registers(rd, 0, 0)
-                + bits::<31, 12>(unsigned::<32>(imm)) * (1 << 12),
+                + (bits::<31, 12>(unsigned::<32>(imm)) << 12),
             Operands::Jump { rd, imm } => {
                 let n = unsigned::<21>(imm);
                 registers(rd, 0, 0)
-                    + bits::<19, 12>(n) * (1 << 12)
-                    + bits::<11, 11>(n) * (1 << 20)
-                    + bits::<10, 1>(n) * (1 << 21)
-                    + bits::<20, 20>(n) * (1 << 31)
+                    + (bits::<19, 12>(n) << 12)
+                    + (bits::<11, 11>(n) << 20)
+                    + (bits::<10, 1>(n) << 21)
+                    + (bits::<20, 20>(n) << 31)
             }
-            Operands::Shift { rd, rs1, imm } => registers(rd, rs1, 0) + imm as u32 * (1 << 20),
-            Operands::WordShift { rd, rs1, imm } => registers(rd, rs1, 0) + imm as u32 * (1 << 20),
+            Operands::Shift { rd, rs1, imm } => registers(rd, rs1, 0) + ((imm as u32) << 20),
+            Operands::WordShift { rd, rs1, imm } => registers(rd, rs1, 0) + ((imm as u32) << 20),
             Operands::Fixed => 0,
         }
     }
@@ -127,7 +127,7 @@ fn registers(rd: u8, rs1: u8, rs2: u8) -> u32
     requires rs2 { rs2 < 32 }
     ensures { result ≡ spec.registers rd rs1 rs2 }
 {
-    u32::from(rd) * (1 << 7) + u32::from(rs1) * (1 << 15) + u32::from(rs2) * (1 << 20)
+    (u32::from(rd) << 7) + (u32::from(rs1) << 15) + (u32::from(rs2) << 20)
 }
 
 // One row for each mnemonic: the fixed bits of its word, and its operands.
