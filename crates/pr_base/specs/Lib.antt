@@ -1,1 +1,2 @@
 pub mod Errno
+pub mod Fields

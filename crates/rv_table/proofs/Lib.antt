@@ -1,0 +1,5 @@
+pub mod Formats
+pub mod Masks
+pub mod Matching
+pub mod RoundTrip
+pub mod TwosComplement

@@ -1,0 +1,17 @@
+//! The instructions of RV64I and of the extension M: what a word means, and the word of an instruction.
+//! Sources: the RISC-V unprivileged specification, its chapters on RV32I, RV64I and M and its listings
+//! of instructions.
+#![tactic(auto)]
+
+mod decoding;
+mod encoding;
+mod fields;
+mod instr;
+mod layout;
+
+pub use decoding::decode;
+pub use encoding::{encode, valid};
+pub use instr::Instr;
+
+#[cfg(test)]
+mod tests;
