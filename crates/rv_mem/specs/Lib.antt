@@ -1,2 +1,4 @@
 pub mod Marks
+pub mod Memory
 pub mod Page
+pub mod Pages

@@ -9,6 +9,9 @@ use std::marker::Model;
 /// How many bytes a page has.
 pub const PAGE_SIZE: usize = 4096;
 
+/// The same number, for addresses.
+pub const PAGE_BYTES: u64 = 4096;
+
 /// The bytes of a page.
 #[derive(Drop)]
 pub struct Frame {

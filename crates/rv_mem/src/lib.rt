@@ -2,9 +2,12 @@
 //! texts read out of it.
 #![tactic(auto)]
 
+mod fault;
 mod frame;
 mod marks;
 mod page;
 mod rights;
+mod table;
 
+pub use fault::{BadAddress, MapFault, StoreFault, TextFault};
 pub use rights::{Rights, Use};

@@ -1,5 +1,5 @@
 //! The marks of a page's bytes.
-ghost use Rattle.std.specs.Prelude.{◌≡◌, ◌+◌, ◌-◌, ◌≤◌, take, drop, replicate, length, IfOk, nat_eq, false, true, if◌then◌else◌};
+ghost use Rattle.std.specs.Prelude.{◌≡◌, ◌≢◌, ◌+◌, ◌-◌, ◌≤◌, take, drop, replicate, length, IfOk, false, true};
 ghost use Rattle.std.specs.List.{list_any};
 ghost use Rattle.std.proofs.Math.Seq.{sets};
 ghost use Rattle.rv_mem.specs.Marks.{no_marks};
@@ -65,15 +65,14 @@ impl<const MARKED: u8> Marks<MARKED> {
         }
     }
 
-    /// Marks the bytes from an index up to, but without, another, if marks are kept.
+    /// Marks the bytes from an index up to, but without, another.
     pub fn set(&mut self, from: usize, to: usize)
+        requires kept { MARKED ≢ 0 }
         requires ordered { from ≤ to }
         requires within { to ≤ 4096 }
-        ensures { self.new ≡ (if nat_eq MARKED 0 then self.old else sets self.old from (replicate (to - from) true)) }
+        ensures { self.new ≡ sets self.old from (replicate (to - from) true) }
     {
-        if MARKED != 0 {
-            set_all(&mut self.stored, from, to, true);
-        }
+        set_all(&mut self.stored, from, to, true);
     }
 
     /// Whether one of the `count` bytes from an index on is marked.

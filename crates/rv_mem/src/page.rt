@@ -1,5 +1,5 @@
 //! A page of a process's memory.
-ghost use Rattle.std.specs.Prelude.{◌≡◌, ◌+◌, ◌-◌, ◌≤◌, length, take, drop, IfOk, nat_eq, position, if◌then◌else◌};
+ghost use Rattle.std.specs.Prelude.{◌≡◌, ◌≢◌, ◌+◌, ◌-◌, ◌≤◌, length, take, drop, IfOk, nat_eq, position};
 ghost use Rattle.std.specs.List.{list_any};
 
 use crate::frame::Frame;
@@ -74,11 +74,12 @@ impl<const MARKED: u8> Page<MARKED> {
         self.marks.clear(offset, offset + bytes.len());
     }
 
-    /// Marks the bytes from an offset up to, but without, another, if marks are kept.
+    /// Marks the bytes from an offset up to, but without, another.
     pub fn mark(&mut self, from: usize, to: usize)
+        requires kept { MARKED ≢ 0 }
         requires ordered { from ≤ to }
         requires within { to ≤ 4096 }
-        ensures { self.new ≡ (if nat_eq MARKED 0 then self.old else page_marked from (to - from) self.old) }
+        ensures { self.new ≡ page_marked from (to - from) self.old }
     {
         self.marks.set(from, to);
     }
