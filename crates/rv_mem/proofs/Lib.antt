@@ -1,3 +1,5 @@
+pub mod ChangeLemmas
 pub mod MapLemmas
 pub mod PageLemmas
 pub mod PagesLemmas
+pub mod TableLemmas

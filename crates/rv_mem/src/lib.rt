@@ -6,6 +6,7 @@ mod fault;
 mod frame;
 mod marks;
 mod page;
+mod ranges;
 mod rights;
 mod table;
 

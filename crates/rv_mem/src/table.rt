@@ -42,6 +42,11 @@ impl<const MARKED: u8> Table<MARKED> {
         }
     }
 
+    /// The allocator.
+    pub fn allocator(&self) -> Global {
+        self.alloc
+    }
+
     /// How many pages there are.
     pub fn len(&self) -> usize
         ensures { result ≡ map.len self.now }
