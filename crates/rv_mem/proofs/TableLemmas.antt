@@ -189,7 +189,7 @@ fresh_more m first k p there so_far j l =
           get-with_page_other m (first + k) (λ _. p) (first + j) other ∙ so_far j (omega arith)
     ]
 
-by_range : (P : ℕ → Type 0) (first count : ℕ) → ((k : ℕ) → k < count → P (first + k)) → ((q : ℕ) → ((k : ℕ) → k < count → q ≢ first + k) → P q) → (q : ℕ) → P q
+pub by_range : (P : ℕ → Type 0) (first count : ℕ) → ((k : ℕ) → k < count → P (first + k)) → ((q : ℕ) → ((k : ℕ) → k < count → q ≢ first + k) → P q) → (q : ℕ) → P q
 by_range P first count inside outside q = go (nat_le first q && nat_lt q (first + count)) refl
   where
     go : (b : Bool) → (nat_le first q && nat_lt q (first + count)) ≡ b → P q

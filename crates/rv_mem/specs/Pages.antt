@@ -59,6 +59,14 @@ has_pages m first (suc n) = has_pages m first n && map.contains_key m (first + n
 abbrev pub HasNoPages : Pages → ℕ → ℕ → Type 0
 HasNoPages m from to = (k : ℕ) → from ≤ k → k < to → map.get m k ≡ None
 
+-- each of n bytes from an address on is there
+abbrev pub HasPagesAt : Pages → ℕ → ℕ → Type 0
+HasPagesAt m at n = (k : ℕ) → k < n → map.contains_key m ((at + k) / 4096) ≡ true
+
+-- every page lies below the address 0x3F_FFFF_F000
+abbrev pub IsPlaced : Pages → Type 0
+IsPlaced m = (k : ℕ) → map.contains_key m k ≡ true → k < 67108863
+
 -- ---- changes
 
 -- the pages with f done to the one at a number, if one is there

@@ -2,13 +2,18 @@
 //! texts read out of it.
 #![tactic(auto)]
 
+mod access;
 mod fault;
 mod frame;
 mod marks;
 mod page;
 mod ranges;
 mod rights;
+mod room;
+mod space;
 mod table;
 
 pub use fault::{BadAddress, MapFault, StoreFault, TextFault};
 pub use rights::{Rights, Use};
+pub use room::Room;
+pub use space::{PAGES_END, Space};
