@@ -42,9 +42,12 @@ HasPagesAt-allowed m at (suc n) what h (suc k) l =
     subst (λ a. map.contains_key m (a / 4096) ≡ true) there (HasPagesAt-allowed m (at + 1) n what (and_second (allows m at what) (allows_all m (at + 1) n what) h) k (omega arith))
 
 -- what is there doesn't pass the last address
-pub fits_placed : (m : Pages) (at n : ℕ) → IsPlaced m → HasPagesAt m at n → at < 2 ^ 64 → at + n ≤ 2 ^ 64
+pub fits_placed : (m : Pages) (at n : ℕ) → IsPlaced m → HasPagesAt m at n → at < 2 ^ 64 → at + n < 2 ^ 64
 fits_placed m at zero placed there h = omega arith
 fits_placed m at (suc n) placed there h = let last : (at + n) / 4096 < 67108863 = placed ((at + n) / 4096) (there n (omega arith)) in omega arith
+
+pub fits_allowed : (m : Pages) (at n : ℕ) → IsPlaced m → HasPagesAt m at n → at < 2 ^ 64 → at + n ≤ 2 ^ 64
+fits_allowed m at n placed there h = let below = fits_placed m at n placed there h in omega arith
 
 -- the rest of a range decides once its beginning is allowed
 pub allows_all_rest : (m : Pages) (at n here : ℕ) (what : Use) → page_allows m (at / 4096) what ≡ true → at % 4096 + here ≤ 4096 → here ≤ n

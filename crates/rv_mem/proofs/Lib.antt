@@ -5,3 +5,4 @@ pub mod PageLemmas
 pub mod PagesLemmas
 pub mod SpaceLemmas
 pub mod TableLemmas
+pub mod TextLemmas

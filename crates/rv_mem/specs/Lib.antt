@@ -2,3 +2,4 @@ pub mod Marks
 pub mod Memory
 pub mod Page
 pub mod Pages
+pub mod Scan

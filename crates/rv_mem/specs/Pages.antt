@@ -1,7 +1,7 @@
 -- The pages of a memory, by their numbers: the byte at an address is the one at its remainder by
 -- 4,096 in the page of its quotient.
 use Rattle.std.specs.FinMap as map
-use Rattle.std.specs.Prelude.{◌≡◌, ◌≤◌, ◌<◌, None, ℕ, zero, suc, ◌+◌, ◌/◌, ◌%◌, Bool, false, true, ◌&&◌, ◌||◌, List, [], ◌∷◌, Option, slice_index, slice_index_or}
+use Rattle.std.specs.Prelude.{◌≡◌, ◌≤◌, ◌<◌, None, ℕ, zero, suc, ◌+◌, ◌/◌, ◌%◌, Bool, false, true, ◌&&◌, ◌||◌, List, [], ◌∷◌, Option, slice_index, slice_index_or, nat_eq}
 use Rattle.std.specs.Option.{option_map_or}
 use Rattle.std.specs.Ordering.{nat_cmp}
 use Rattle.std.specs.Coded.{Coded, coded_ℕ}
@@ -62,6 +62,10 @@ HasNoPages m from to = (k : ℕ) → from ≤ k → k < to → map.get m k ≡ N
 -- each of n bytes from an address on is there
 abbrev pub HasPagesAt : Pages → ℕ → ℕ → Type 0
 HasPagesAt m at n = (k : ℕ) → k < n → map.contains_key m ((at + k) / 4096) ≡ true
+
+-- none of n bytes from an address on is zero
+abbrev pub HasNoZero : Pages → ℕ → ℕ → Type 0
+HasNoZero m at n = (k : ℕ) → k < n → nat_eq (byte_at m (at + k)) 0 ≡ false
 
 -- every page lies below the address 0x3F_FFFF_F000
 abbrev pub IsPlaced : Pages → Type 0

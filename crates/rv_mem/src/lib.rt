@@ -12,6 +12,7 @@ mod rights;
 mod room;
 mod space;
 mod table;
+mod text;
 
 pub use fault::{BadAddress, MapFault, StoreFault, TextFault};
 pub use rights::{Rights, Use};

@@ -1,12 +1,14 @@
 //! The memory of one process.
-ghost use Rattle.std.specs.Prelude.{◌≡◌, ◌↔◌, ◌+◌, ◌-◌, ◌*◌, ◌/◌, ◌%◌, ◌<◌, ◌≤◌, true, false, length, nat_eq, if◌then◌else◌, IsOk, IsTrue, IfOk, OnOk, OnErr, IsErrOf};
+ghost use Rattle.std.specs.Prelude.{◌≡◌, ◌↔◌, ◌⊎◌, ◌+◌, ◌-◌, ◌*◌, ◌/◌, ◌%◌, ◌<◌, ◌≤◌, true, false, length, nat_eq, if◌then◌else◌, IsOk, IsTrue, IfOk, OnOk, OnErr, IsErrOf};
 ghost use Rattle.std.specs.FinMap as map;
 
-use crate::fault::{BadAddress, MapFault, StoreFault};
+use crate::fault::{BadAddress, MapFault, StoreFault, TextFault};
 use crate::frame::PAGE_BYTES;
 use crate::rights::{Rights, Use};
 use crate::room::Room;
 use crate::table::Table;
+use crate::text::TextEnd;
+use pr_base::Bytes;
 use std::alloc::Global;
 use std::marker::Model;
 
@@ -42,7 +44,7 @@ impl<const MARKED: u8> Model for Space<MARKED> {
 
 impl<const MARKED: u8> Space<MARKED> {
     ghost use Rattle.rv_mem.specs.Pages.{allows_all, bytes_from, written, mapped, unmapped, protected, has_pages, marked};
-    ghost use Rattle.rv_mem.specs.Memory.{empty_memory, with_pages, after_read, passes_limit, room_after, page_count};
+    ghost use Rattle.rv_mem.specs.Memory.{empty_memory, with_pages, after_read, passes_limit, room_after, page_count, text_of, text_reach};
 
     /// A memory without pages. Its pages come from `alloc`.
     pub fn new(alloc: Global) -> Space<MARKED>
@@ -103,6 +105,25 @@ impl<const MARKED: u8> Space<MARKED> {
         }
         self.pages.write_all(at, bytes);
         Ok(())
+    }
+
+    /// The text at an address: the bytes before the first zero, which is among at most `max` bytes
+    /// that are all readable. Whatever this answers, it has read the bytes up to and with the first
+    /// zero, at most `max`, and none from the first unreadable one on.
+    pub fn text_at(&mut self, at: u64, max: u32) -> Result<Bytes, TextFault>
+        ensures text { (result ≡ text_of self.old.pages at max) ⊎ (result ≡ Err TextFault.NoMemory) }
+        ensures after { self.new ≡ after_read self.old at (text_reach self.old.pages at max) }
+    {
+        let scan = self.pages.scan(at, u64::from(max));
+        self.read_marked |= scan.marked;
+        match scan.end {
+            TextEnd::Zero => {
+                let text = self.pages.bytes_at(at, (scan.reach - 1) as usize)?;
+                Ok(Bytes::from(text))
+            }
+            TextEnd::Unreadable => Err(TextFault::BadAddress),
+            TextEnd::Limit => Err(TextFault::TooLong),
+        }
     }
 
     /// Maps fresh zero pages from an address on, in place of those that are there.

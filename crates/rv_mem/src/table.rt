@@ -1,5 +1,5 @@
 //! The pages of a memory by their numbers.
-ghost use Rattle.std.specs.Prelude.{◌≡◌, ℕ, ◌+◌, ◌-◌, ◌*◌, ◌/◌, ◌%◌, ◌<◌, ◌≤◌, length, IfOk, OnOk, OnErr, IsTrue, IfNone, IfSome, ◌≢◌, nat_eq, position};
+ghost use Rattle.std.specs.Prelude.{◌≡◌, ℕ, ◌+◌, ◌-◌, ◌*◌, ◌/◌, ◌%◌, ◌<◌, ◌≤◌, length, IfOk, OnOk, OnErr, IsTrue, IfNone, IfSome, ◌≢◌, nat_eq, true};
 ghost use Rattle.std.specs.FinMap as map;
 
 use crate::frame::PAGE_BYTES;
@@ -30,7 +30,7 @@ impl<const MARKED: u8> Model for Table<MARKED> {
 
 impl<const MARKED: u8> Table<MARKED> {
     ghost use Rattle.rv_mem.specs.Page.{fresh_page, page_with_rights};
-    ghost use Rattle.rv_mem.specs.Pages.{with_page, page_allows, written, marked, bytes_from, any_marked, HasNoPages};
+    ghost use Rattle.rv_mem.specs.Pages.{with_page, page_allows, written, marked, bytes_from, any_marked, byte_at, HasNoPages, HasNoZero};
 
     /// No pages.
     pub fn new(alloc: Global) -> Table<MARKED>
@@ -157,7 +157,8 @@ impl<const MARKED: u8> Table<MARKED> {
     pub fn zero_in(&self, at: u64, count: usize) -> Option<usize>
         requires within { at % 4096 + count ≤ 4096 }
         requires there { IsTrue (map.contains_key self.now (at / 4096)) }
-        ensures { result ≡ position (λ b. nat_eq b 0) (bytes_from self.now at count) }
+        ensures none { IfNone result (HasNoZero self.now at count) }
+        ensures some { IfSome result (λ z. (z < count) × (nat_eq (byte_at self.now (at + z)) 0 ≡ true) × HasNoZero self.now at z) }
     {
         let page = self.pages.get(&(at / PAGE_BYTES)).unwrap();
         page.zero_in((at % PAGE_BYTES) as usize, count)

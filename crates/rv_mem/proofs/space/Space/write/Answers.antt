@@ -2,7 +2,7 @@ use Rattle.std.proofs.Common.{◌≡◌, ◌∙◌, true, sym, ap, length, lit<,
 use Rattle.rv_mem.specs.Pages.{allows_all}
 use Rattle.rv_mem.specs.declared.rights.Use.TheVariants.{Write}
 use Rattle.rv_mem.proofs.ChangeLemmas.{len-written}
-use Rattle.rv_mem.proofs.AccessLemmas.{HasPagesAt-allowed, fits_placed}
+use Rattle.rv_mem.proofs.AccessLemmas.{HasPagesAt-allowed, fits_allowed}
 use Rattle.rv_mem.proofs.SpaceLemmas.{IsPlaced-written}
 use Rattle.rv_mem.proofs.space.Space.write.Goals as goal
 
@@ -11,7 +11,7 @@ write_all-requires g c =
     let allowed : allows_all c.self.inside.pages c.args.at (length c.args.bytes.now) Write ≡ true
     = ap (λ s. allows_all s.pages c.args.at (length c.args.bytes.now) Write) c.self.view_is ∙ sym c.can.ensures ∙ c.if-not-can.false in (
       lit< tt,
-      fits_placed c.self.inside.pages c.args.at (length c.args.bytes.now) c.self.invariant.0
+      fits_allowed c.self.inside.pages c.args.at (length c.args.bytes.now) c.self.invariant.0
           (HasPagesAt-allowed c.self.inside.pages c.args.at (length c.args.bytes.now) Write allowed) c.ranges.at.fits,
     )
 
