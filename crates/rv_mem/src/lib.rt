@@ -8,6 +8,7 @@ mod frame;
 mod marks;
 mod page;
 mod ranges;
+mod regs;
 mod rights;
 mod room;
 mod space;
@@ -15,6 +16,10 @@ mod table;
 mod text;
 
 pub use fault::{BadAddress, MapFault, StoreFault, TextFault};
+pub use regs::Regs;
 pub use rights::{Rights, Use};
 pub use room::Room;
 pub use space::{PAGES_END, Space};
+
+#[cfg(test)]
+mod tests;

@@ -48,7 +48,8 @@ impl<const MARKED: u8> Space<MARKED> {
 
     /// A memory without pages. Its pages come from `alloc`.
     pub fn new(alloc: Global) -> Space<MARKED>
-        ensures { result ≡ empty_memory }
+        ensures empty { result ≡ empty_memory }
+        ensures count { page_count result.pages ≡ 0 }
     {
         Space {
             pages: Table::new(alloc),
@@ -99,6 +100,7 @@ impl<const MARKED: u8> Space<MARKED> {
         ensures bad { IsErrOf result StoreFault.BadAddress ↔ (allows_all self.old.pages at (length bytes.now) Use.Write ≡ false) }
         ensures ok { OnOk result (self.new ≡ with_pages self.old (written self.old.pages at bytes.now)) }
         ensures err { OnErr result (self.new ≡ self.old) }
+        ensures count { page_count self.new.pages ≡ page_count self.old.pages }
     {
         if !self.can(at, bytes.len() as u64, Use::Write) {
             return Err(StoreFault::BadAddress);
@@ -176,6 +178,7 @@ impl<const MARKED: u8> Space<MARKED> {
         ensures when { IsOk result ↔ IsTrue (has_pages self.old.pages (at / 4096) pages) }
         ensures ok { OnOk result (self.new ≡ with_pages self.old (protected self.old.pages (at / 4096) pages rights)) }
         ensures err { OnErr result (self.new ≡ self.old) }
+        ensures count { page_count self.new.pages ≡ page_count self.old.pages }
     {
         let first = at / PAGE_BYTES;
         let count = u64::from(pages);
@@ -189,7 +192,8 @@ impl<const MARKED: u8> Space<MARKED> {
     /// Marks the mapped bytes from an address up to, but without, another, if marks are kept.
     pub fn mark(&mut self, from: u64, to: u64)
         requires { from ≤ to }
-        ensures { self.new ≡ (if nat_eq MARKED 0 then self.old else with_pages self.old (marked self.old.pages from (to - from))) }
+        ensures marks { self.new ≡ (if nat_eq MARKED 0 then self.old else with_pages self.old (marked self.old.pages from (to - from))) }
+        ensures count { page_count self.new.pages ≡ page_count self.old.pages }
     {
         if MARKED != 0 {
             self.pages.mark_all(from, to);

@@ -1,4 +1,5 @@
-use Rattle.std.proofs.Common.{◌-◌, arith}
+use Rattle.std.specs.FinMap as map
+use Rattle.std.proofs.Common.{◌-◌, arith, ◌∙◌, ap}
 use Rattle.rv_mem.proofs.ChangeLemmas.{len-marked}
 use Rattle.rv_mem.proofs.SpaceLemmas.{IsPlaced-marked}
 use Rattle.rv_mem.proofs.space.Space.mark.Goals as goal
@@ -9,3 +10,6 @@ invariant_of-self g c =
       IsPlaced-marked c.self.inside.pages c.args.from (c.args.to - c.args.from) c.self.invariant.0,
       omega (arith, c.self.invariant.1, len-marked c.self.inside.pages c.args.from (c.args.to - c.args.from)),
     )
+
+pub returns-then-this-ne0-clause-count : goal.returns-then-this-ne0-clause-count
+returns-then-this-ne0-clause-count g c = ap map.len c.mark_all.ensures ∙ len-marked c.self.inside.pages c.args.from (c.args.to - c.args.from) ∙ ap (λ s. map.len s.pages) c.self.view_is

@@ -7,3 +7,6 @@ use Rattle.rv_mem.proofs.space.Space.new.Goals as goal
 
 pub invariant_of-result : goal.invariant_of-result
 invariant_of-result g c = rw c.new.ensures (IsPlaced-empty, omega (arith, map.len-empty nat_cmp PageState))
+
+pub returns-clause-count : goal.returns-clause-count
+returns-clause-count g c = ap map.len c.new.ensures ∙ map.len-empty nat_cmp PageState

@@ -1,3 +1,4 @@
+use Rattle.std.specs.FinMap as map
 use Rattle.std.proofs.Common.{◌≡◌, ◌∙◌, true, sym, ap, length, lit<, arith}
 use Rattle.rv_mem.specs.Pages.{allows_all}
 use Rattle.rv_mem.specs.declared.rights.Use.TheVariants.{Write}
@@ -21,3 +22,6 @@ invariant_of-self g c =
       IsPlaced-written c.self.inside.pages c.args.at c.args.bytes.now c.self.invariant.0,
       omega (arith, c.self.invariant.1, len-written c.self.inside.pages c.args.at c.args.bytes.now),
     )
+
+pub returns-clause-count : goal.returns-clause-count
+returns-clause-count g c = ap map.len c.write_all.ensures ∙ len-written c.self.inside.pages c.args.at c.args.bytes.now ∙ ap (λ s. map.len s.pages) c.self.view_is
