@@ -1,7 +1,7 @@
 -- The pages of a memory, by their numbers: the byte at an address is the one at its remainder by
 -- 4,096 in the page of its quotient.
 use Rattle.std.specs.FinMap as map
-use Rattle.std.specs.Prelude.{◌≡◌, ◌≤◌, ◌<◌, None, ℕ, zero, suc, ◌+◌, ◌/◌, ◌%◌, Bool, false, true, ◌&&◌, ◌||◌, List, [], ◌∷◌, Option, slice_index, slice_index_or, nat_eq}
+use Rattle.std.specs.Prelude.{◌≡◌, ◌≤◌, ◌<◌, Some, None, length, ℕ, zero, suc, ◌+◌, ◌/◌, ◌%◌, Bool, false, true, ◌&&◌, ◌||◌, List, [], ◌∷◌, Option, slice_index, slice_index_or, nat_eq}
 use Rattle.std.specs.Option.{option_map_or}
 use Rattle.std.specs.Ordering.{nat_cmp}
 use Rattle.std.specs.Coded.{Coded, coded_ℕ}
@@ -70,6 +70,10 @@ HasNoZero m at n = (k : ℕ) → k < n → nat_eq (byte_at m (at + k)) 0 ≡ fal
 -- every page lies below the address 0x3F_FFFF_F000
 abbrev pub IsPlaced : Pages → Type 0
 IsPlaced m = (k : ℕ) → map.contains_key m k ≡ true → k < 67108863
+
+-- every page has 4,096 bytes and as many marks
+abbrev pub IsWhole : Pages → Type 0
+IsWhole m = (k : ℕ) (p : PageState) → map.get m k ≡ Some p → (length p.bytes ≡ 4096) × (length p.marks ≡ 4096)
 
 -- ---- changes
 

@@ -2,7 +2,7 @@ use Rattle.std.specs.FinMap as map
 use Rattle.std.proofs.Common.{◌≡◌, ◌≤◌, ◌/◌, ◌∙◌, sym, ap, arith}
 use Rattle.rv_mem.specs.Pages.{unmapped}
 use Rattle.rv_mem.proofs.ChangeLemmas.{len-unmapped-le}
-use Rattle.rv_mem.proofs.SpaceLemmas.{IsPlaced-unmapped}
+use Rattle.rv_mem.proofs.SpaceLemmas.{IsPlaced-unmapped, IsWhole-unmapped}
 use Rattle.rv_mem.proofs.space.Space.unmap.Goals as goal
 
 pub invariant_of-self : goal.invariant_of-self
@@ -10,6 +10,7 @@ invariant_of-self g c =
     rw c.unmap.ensures (
       IsPlaced-unmapped c.self.inside.pages (c.args.at / 4096) _ c.self.invariant.0,
       omega (arith, c.self.invariant.1, len-unmapped-le c.self.inside.pages (c.args.at / 4096) c.from.result),
+      IsWhole-unmapped c.self.inside.pages (c.args.at / 4096) c.from.result c.self.invariant.2,
     )
 
 pub overflow_sub-before : goal.overflow_sub-before
