@@ -1,15 +1,13 @@
 -- What each change of pages leaves at a page, and how many pages there are then.
 use Rattle.std.specs.FinMap as map
-use Rattle.std.proofs.Common.{◌≡◌, ◌≢◌, ◌⊎◌, inl, inr, subst, ℕ, ◌+◌, ◌-◌, ◌*◌, ◌/◌, ◌%◌, ◌≤◌, ◌<◌, zero, suc, Bool, true, false, ◌&&◌, List, [], ◌∷◌, refl, sym, ap, ◌∙◌, arith, cond, Option, Some, None, is_some, IsTrue}
+use Rattle.std.proofs.Common.{◌≡◌, ◌≢◌, inl, inr, ℕ, ◌+◌, ◌-◌, ◌/◌, ◌%◌, ◌≤◌, ◌<◌, zero, suc, Bool, true, false, List, [], ◌∷◌, refl, ap, ◌∙◌, arith, cond, Option, Some, None, is_some}
 use Rattle.std.specs.Option.{option_map}
-use Rattle.std.specs.Ordering.{nat_cmp}
 use Rattle.std.specs.Cmp.{nat_cmp_total}
 use Rattle.std.proofs.lemmas.Bool.{cases_eq}
 use Rattle.rv_mem.specs.declared.rights.Rights.{Rights}
-use Rattle.rv_mem.specs.declared.rights.Use.{Use}
-use Rattle.rv_mem.specs.Page.{PageState, fresh_page, page_with_rights, page_written, page_marked}
-use Rattle.rv_mem.specs.Pages.{Pages, with_page, written, marked, mapped, unmapped, protected, has_pages, HasNoPages, page_allows, allows, allows_all}
-use Rattle.rv_mem.proofs.PagesLemmas.{same_pages, by_page, get-insert_same, get-insert_other, get-remove_same, get-remove_other, get-with_page_same, get-with_page_other, with_page_some, with_page_none}
+use Rattle.rv_mem.specs.Page.{PageState, fresh_page, page_written, page_marked}
+use Rattle.rv_mem.specs.Pages.{Pages, with_page, written, marked, mapped, unmapped, protected}
+use Rattle.rv_mem.proofs.PagesLemmas.{by_page, get-insert_same, get-insert_other, get-remove_same, get-remove_other, get-with_page_same, get-with_page_other, with_page_some, with_page_none}
 
 -- ---- which pages are there
 

@@ -1,13 +1,13 @@
 -- Pages stay below the last address, and whole, after each change.
 use Rattle.std.specs.FinMap as map
-use Rattle.std.proofs.Common.{◌≡◌, ◌≢◌, ℕ, zero, suc, ◌+◌, ◌/◌, ◌%◌, ◌≤◌, ◌<◌, Bool, true, false, List, [], ◌∷◌, length, replicate, refl, sym, ap, subst, ◌∙◌, arith, Option, Some, None, is_some}
+use Rattle.std.proofs.Common.{◌≡◌, ℕ, zero, suc, ◌+◌, ◌/◌, ◌%◌, ◌≤◌, ◌<◌, true, false, List, [], ◌∷◌, length, replicate, refl, sym, ap, subst, ◌∙◌, arith, Option, Some, None, is_some}
 use Rattle.std.specs.Option.{option_map}
 use Rattle.std.proofs.Math.Seq.{length-sets}
 use Rattle.std.specs.Ordering.{nat_cmp}
 use Rattle.rv_mem.specs.declared.rights.Rights.{Rights}
 use Rattle.rv_mem.specs.Page.{PageState, fresh_page, page_written, page_marked, page_with_rights}
 use Rattle.rv_mem.specs.Pages.{Pages, with_page, written, marked, mapped, unmapped, protected, IsPlaced, IsWhole}
-use Rattle.rv_mem.proofs.ChangeLemmas.{contains-written, contains-marked, contains-protected, get-mapped_in, get-mapped_out, get-unmapped_in, get-unmapped_out}
+use Rattle.rv_mem.proofs.ChangeLemmas.{contains-written, contains-marked, contains-protected, get-mapped_out, get-unmapped_in, get-unmapped_out}
 use Rattle.rv_mem.proofs.PageLemmas.{length-zero_bytes, length-no_marks}
 use Rattle.rv_mem.proofs.PagesLemmas.{by_page, get-insert_same, get-insert_other, get-remove_same, get-remove_other, get-with_page_same, get-with_page_other}
 use Rattle.rv_mem.proofs.TableLemmas.{by_range}

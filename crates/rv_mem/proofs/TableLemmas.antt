@@ -1,6 +1,6 @@
 -- Steps of the loops over several pages.
 use Rattle.std.specs.FinMap as map
-use Rattle.std.proofs.Common.{◌≡◌, ◌≢◌, ◌⊎◌, inl, inr, subst, ℕ, ◌+◌, ◌-◌, ◌*◌, ◌/◌, ◌%◌, ◌≤◌, ◌<◌, zero, suc, Bool, true, false, ◌&&◌, ◌||◌, List, [], ◌∷◌, ◌++◌, length, take, get_or, refl, sym, ap, ◌∙◌, arith, cond, Option, Some, None, is_some, nat_eq, nat_le, nat_lt, add-one, eq-eqb, max}
+use Rattle.std.proofs.Common.{◌≡◌, ◌≢◌, ◌⊎◌, inl, inr, subst, ℕ, ◌+◌, ◌-◌, ◌*◌, ◌/◌, ◌≤◌, ◌<◌, zero, suc, Bool, true, false, ◌&&◌, ◌||◌, List, [], ◌∷◌, length, take, get_or, refl, sym, ap, ◌∙◌, arith, cond, Option, Some, None, is_some, nat_eq, nat_le, nat_lt, add-one, eq-eqb, max}
 use Rattle.std.specs.Option.{option_map}
 use Rattle.std.specs.List.{list_any}
 use Rattle.std.proofs.lemmas.Bool.{cases_eq, ne_eqb}
@@ -10,8 +10,8 @@ use Rattle.std.proofs.lemmas.List.Folds.{list_any-append}
 use Rattle.rv_mem.specs.declared.rights.Rights.{Rights}
 use Rattle.rv_mem.specs.Page.{PageState, fresh_page, page_with_rights}
 use Rattle.rv_mem.specs.Pages.{Pages, with_page, mapped, unmapped, protected, marked, has_pages, HasNoPages}
-use Rattle.rv_mem.proofs.PagesLemmas.{same_pages, by_page, get-insert_same, get-insert_other, get-remove_same, get-remove_other, get-with_page_same, get-with_page_other, marked-add, marked_nowhere}
-use Rattle.rv_mem.proofs.ChangeLemmas.{contains-with_page, len-mapped_more, len-mapped-le, get-mapped_in, get-mapped_out, get-unmapped_in, get-unmapped_out}
+use Rattle.rv_mem.proofs.PagesLemmas.{same_pages, get-insert_same, get-insert_other, get-remove_same, get-remove_other, get-with_page_same, get-with_page_other, marked-add, marked_nowhere}
+use Rattle.rv_mem.proofs.ChangeLemmas.{len-mapped_more, len-mapped-le, get-mapped_in, get-mapped_out, get-unmapped_in, get-unmapped_out}
 
 -- ---- counting
 

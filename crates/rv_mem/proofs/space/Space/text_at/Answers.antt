@@ -1,4 +1,4 @@
-use Rattle.std.proofs.Common.{◌≡◌, ◌-◌, arith, lit<}
+use Rattle.std.proofs.Common.{◌-◌, arith, lit<}
 use Rattle.rv_mem.specs.declared.rights.Use.TheVariants.{Read}
 use Rattle.rv_mem.specs.Pages.{HasPagesAt}
 use Rattle.rv_mem.proofs.AccessLemmas.{HasPagesAt-allowed, fits_allowed}

@@ -1,5 +1,5 @@
 use Rattle.std.specs.FinMap as map
-use Rattle.std.proofs.Common.{◌≡◌, ◌≤◌, ◌/◌, ◌∙◌, sym, ap, arith}
+use Rattle.std.proofs.Common.{◌≡◌, ◌/◌, ap, arith}
 use Rattle.rv_mem.specs.Pages.{unmapped}
 use Rattle.rv_mem.proofs.ChangeLemmas.{len-unmapped-le}
 use Rattle.rv_mem.proofs.SpaceLemmas.{IsPlaced-unmapped, IsWhole-unmapped}

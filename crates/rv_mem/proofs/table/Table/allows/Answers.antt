@@ -1,4 +1,4 @@
-use Rattle.std.proofs.Common.{◌∙◌, ap, sym, false}
+use Rattle.std.proofs.Common.{◌∙◌, ap, false}
 use Rattle.std.specs.Option.{option_map_or}
 use Rattle.rv_mem.specs.Page.{grants}
 use Rattle.rv_mem.proofs.MapLemmas.{get-view}

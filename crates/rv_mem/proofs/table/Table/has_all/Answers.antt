@@ -1,4 +1,4 @@
-use Rattle.std.proofs.Common.{◌∙◌, ◌+◌, ◌&&◌, true, sym, ap}
+use Rattle.std.proofs.Common.{◌∙◌, ◌+◌, ◌&&◌, sym, ap}
 use Rattle.std.specs.FinMap as map
 use Rattle.rv_mem.proofs.TableLemmas.{has_pages-zero, has_pages-more, has_pages_refused}
 use Rattle.rv_mem.proofs.table.Table.has_all.Goals as goal

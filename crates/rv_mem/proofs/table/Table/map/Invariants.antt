@@ -1,4 +1,4 @@
-use Rattle.std.proofs.Common.{◌≡◌, ◌≢◌, ℕ, ◌+◌, ◌≤◌, ◌<◌, true, Some}
+use Rattle.std.proofs.Common.{◌≡◌, ◌≢◌, ℕ, ◌+◌, ◌<◌, true, Some}
 use Rattle.std.specs.FinMap as map
 use Rattle.rv_mem.specs.Page.{fresh_page}
 use Rattle.rv_mem.proofs.table.Table.map.Given as goal

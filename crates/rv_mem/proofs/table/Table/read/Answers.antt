@@ -1,4 +1,4 @@
-use Rattle.std.proofs.Common.{◌≡◌, ◌+◌, ◌*◌, ◌/◌, ◌%◌, ◌∙◌, ap, take, drop, length, arith}
+use Rattle.std.proofs.Common.{◌≡◌, ◌+◌, ◌*◌, ◌/◌, ◌%◌, ◌∙◌, ap, take, drop, arith}
 use Rattle.std.specs.List.{list_any}
 use Rattle.rv_mem.proofs.PagesLemmas.{bytes_from_in_page, any_marked_in_page}
 use Rattle.rv_mem.proofs.MapLemmas.{is_found, get-found}

@@ -1,4 +1,4 @@
-use Rattle.std.proofs.Common.{◌≡◌, ◌≤◌, ◌+◌, ◌-◌, ◌∙◌, sym, length, arith}
+use Rattle.std.proofs.Common.{◌≡◌, ◌≤◌, ◌+◌, ◌-◌, sym, length, arith}
 use Rattle.rv_mem.proofs.AccessLemmas.{bytes_from-zero, any_marked-zero, put_within, read_more, marked_more}
 use Rattle.rv_mem.proofs.table.Table.read_all.Goals as goal
 

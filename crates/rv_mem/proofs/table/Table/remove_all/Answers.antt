@@ -1,5 +1,4 @@
-use Rattle.std.proofs.Common.{◌∙◌, sym, ap, subst, take, nat_eq, get_or}
-use Rattle.std.specs.FinMap as map
+use Rattle.std.proofs.Common.{◌∙◌, sym, take, nat_eq}
 use Rattle.std.specs.List.{list_any}
 use Rattle.rv_mem.proofs.TableLemmas.{any-take_more, gone_more, kept_more}
 use Rattle.rv_mem.proofs.table.Table.remove_all.Goals as goal

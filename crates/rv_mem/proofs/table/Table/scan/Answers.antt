@@ -1,6 +1,6 @@
-use Rattle.std.proofs.Common.{◌≡◌, ◌≤◌, ◌<◌, ◌+◌, ◌-◌, ◌*◌, ◌/◌, ◌%◌, ◌∙◌, true, false, sym, ap, arith}
+use Rattle.std.proofs.Common.{◌≡◌, ◌≤◌, ◌<◌, ◌+◌, ◌-◌, ◌/◌, ◌%◌, ◌∙◌, true, sym, ap, arith}
 use Rattle.rv_mem.specs.declared.rights.Use.TheVariants.{Read}
-use Rattle.rv_mem.specs.Pages.{allows_all, allows, page_allows, bytes_from, any_marked}
+use Rattle.rv_mem.specs.Pages.{page_allows, bytes_from}
 use Rattle.rv_mem.specs.Memory.{text_of, text_reach}
 use Rattle.rv_mem.proofs.AccessLemmas.{allows_all-zero, any_marked-zero, HasPagesAt-allowed, fits_placed}
 use Rattle.rv_mem.proofs.TextLemmas.{text_past, reach_start, text_start, reach_refused, text_of_refused, reach_limit, text_of_limit, reach_found, text_found, reach_more, text_more, allowed_more, seen_more, page_readable, byte_readable, zero_moved}

@@ -1,4 +1,4 @@
-use Rattle.std.proofs.Common.{◌≡◌, ℕ, ◌-◌, ◌≤◌, ◌<◌, ◌⊎◌, None}
+use Rattle.std.proofs.Common.{◌≡◌, ℕ, ◌-◌, ◌≤◌, ◌<◌, ◌⊎◌}
 use Rattle.std.specs.FinMap as map
 use Rattle.rv_mem.specs.Pages.{HasNoPages}
 use Rattle.rv_mem.proofs.table.Table.unmap.Given as goal
