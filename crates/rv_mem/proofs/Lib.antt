@@ -1,0 +1,9 @@
+pub mod AccessLemmas
+pub mod AddressLemmas
+pub mod ChangeLemmas
+pub mod MapLemmas
+pub mod PageLemmas
+pub mod PagesLemmas
+pub mod SpaceLemmas
+pub mod TableLemmas
+pub mod TextLemmas

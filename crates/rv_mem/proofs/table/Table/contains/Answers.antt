@@ -1,0 +1,6 @@
+use Rattle.std.proofs.Common.{◌∙◌, ap, is_some}
+use Rattle.rv_mem.proofs.MapLemmas.{get-view}
+use Rattle.rv_mem.proofs.table.Table.contains.Goals as goal
+
+pub returns : goal.returns
+returns g c = c.contains_key.ensures ∙ ap is_some (get-view _ _ c.args.number c.self.view_is)

@@ -1,0 +1,5 @@
+pub mod Marks
+pub mod Memory
+pub mod Page
+pub mod Pages
+pub mod Scan

@@ -1,0 +1,107 @@
+-- The pages of a memory, by their numbers: the byte at an address is the one at its remainder by
+-- 4,096 in the page of its quotient.
+use Rattle.std.specs.FinMap as map
+use Rattle.std.specs.Prelude.{◌≡◌, ◌≤◌, ◌<◌, Some, None, length, ℕ, zero, suc, ◌+◌, ◌/◌, ◌%◌, Bool, false, true, ◌&&◌, ◌||◌, List, [], ◌∷◌, slice_index, slice_index_or, nat_eq}
+use Rattle.std.specs.Option.{option_map_or}
+use Rattle.std.specs.Ordering.{nat_cmp}
+use Rattle.std.specs.Coded.{Coded, coded_ℕ}
+use Rattle.rv_mem.specs.declared.rights.Rights.{Rights}
+use Rattle.rv_mem.specs.declared.rights.Use.{Use}
+use Rattle.rv_mem.specs.Page.{PageState, page_code, fresh_page, grants, page_with_rights, page_written, page_marked}
+
+abbrev pub Pages : Type 0
+Pages = map.FinMap nat_cmp PageState
+
+abbrev pub pages_code : Coded Pages
+pages_code = map.code coded_ℕ page_code
+
+-- ---- what stands at an address
+
+-- the byte at an address, and 0 where there is no page
+abbrev pub byte_at : Pages → ℕ → ℕ
+byte_at m a = option_map_or (λ p. slice_index p.bytes (a % 4096)) (map.get m (a / 4096)) 0
+
+-- whether the byte at an address is marked
+abbrev pub is_marked : Pages → ℕ → Bool
+is_marked m a = option_map_or (λ p. slice_index_or p.marks (a % 4096) false) (map.get m (a / 4096)) false
+
+-- whether the page at a number is there and allows a use
+abbrev pub page_allows : Pages → ℕ → Use → Bool
+page_allows m number what = option_map_or (λ p. grants p.rights what) (map.get m number) false
+
+-- whether the byte at an address is there and allows a use
+abbrev pub allows : Pages → ℕ → Use → Bool
+allows m a what = page_allows m (a / 4096) what
+
+-- ---- ranges of addresses
+
+-- whether each of n bytes allows a use
+unfoldable pub allows_all : Pages → ℕ → ℕ → Use → Bool
+allows_all m at zero what = true
+allows_all m at (suc n) what = allows m at what && allows_all m (at + 1) n what
+
+-- whether one of n bytes is marked
+unfoldable pub any_marked : Pages → ℕ → ℕ → Bool
+any_marked m at zero = false
+any_marked m at (suc n) = is_marked m at || any_marked m (at + 1) n
+
+-- the n bytes from an address on
+unfoldable pub bytes_from : Pages → ℕ → ℕ → List ℕ
+bytes_from m at zero = []
+bytes_from m at (suc n) = byte_at m at ∷ bytes_from m (at + 1) n
+
+-- whether each of n pages is there
+unfoldable pub has_pages : Pages → ℕ → ℕ → Bool
+has_pages m first zero = true
+has_pages m first (suc n) = has_pages m first n && map.contains_key m (first + n)
+
+-- no page at a number from `from` up to, but without, `to`
+abbrev pub HasNoPages : Pages → ℕ → ℕ → Type 0
+HasNoPages m from to = (k : ℕ) → from ≤ k → k < to → map.get m k ≡ None
+
+-- each of n bytes from an address on is there
+abbrev pub HasPagesAt : Pages → ℕ → ℕ → Type 0
+HasPagesAt m at n = (k : ℕ) → k < n → map.contains_key m ((at + k) / 4096) ≡ true
+
+-- none of n bytes from an address on is zero
+abbrev pub HasNoZero : Pages → ℕ → ℕ → Type 0
+HasNoZero m at n = (k : ℕ) → k < n → nat_eq (byte_at m (at + k)) 0 ≡ false
+
+-- every page lies below the address 0x3F_FFFF_F000
+abbrev pub IsPlaced : Pages → Type 0
+IsPlaced m = (k : ℕ) → map.contains_key m k ≡ true → k < 67108863
+
+-- every page has 4,096 bytes and as many marks
+abbrev pub IsWhole : Pages → Type 0
+IsWhole m = (k : ℕ) (p : PageState) → map.get m k ≡ Some p → (length p.bytes ≡ 4096) × (length p.marks ≡ 4096)
+
+-- ---- changes
+
+-- the pages with f done to the one at a number, if one is there
+unfoldable pub with_page : Pages → ℕ → (PageState → PageState) → Pages
+with_page m number f = option_map_or (λ p. map.insert m number (f p)) (map.get m number) m
+
+-- the bytes written from an address on
+unfoldable pub written : Pages → ℕ → List ℕ → Pages
+written m at [] = m
+written m at (b ∷ bs) = written (with_page m (at / 4096) (page_written (at % 4096) (b ∷ []))) (at + 1) bs
+
+-- the n bytes from an address on marked, those apart that aren't there
+unfoldable pub marked : Pages → ℕ → ℕ → Pages
+marked m at zero = m
+marked m at (suc n) = marked (with_page m (at / 4096) (page_marked (at % 4096) 1)) (at + 1) n
+
+-- n fresh pages from a number on, in place of those that are there
+unfoldable pub mapped : Pages → ℕ → ℕ → Rights → Pages
+mapped m first zero rights = m
+mapped m first (suc n) rights = map.insert (mapped m first n rights) (first + n) (fresh_page rights)
+
+-- n pages from a number on taken away
+unfoldable pub unmapped : Pages → ℕ → ℕ → Pages
+unmapped m first zero = m
+unmapped m first (suc n) = map.remove (unmapped m first n) (first + n)
+
+-- n pages from a number on given other rights
+unfoldable pub protected : Pages → ℕ → ℕ → Rights → Pages
+protected m first zero rights = m
+protected m first (suc n) rights = with_page (protected m first n rights) (first + n) (page_with_rights rights)

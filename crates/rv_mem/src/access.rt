@@ -1,0 +1,65 @@
+//! Bytes read and written over several pages.
+ghost use Rattle.std.specs.Prelude.{◌≡◌, ◌≢◌, ℕ, ◌+◌, ◌-◌, ◌/◌, ◌^◌, ◌<◌, ◌≤◌, length, true};
+ghost use Rattle.std.specs.FinMap as map;
+
+use crate::frame::PAGE_BYTES;
+use crate::rights::Use;
+use crate::table::Table;
+
+impl<const MARKED: u8> Table<MARKED> {
+    ghost use Rattle.rv_mem.specs.Pages.{allows_all, any_marked, bytes_from, written, HasPagesAt, IsPlaced};
+
+    /// Whether each of `count` bytes from an address on is there and allows a use. A range that
+    /// passes the last address has a byte that isn't there.
+    pub fn allows_all(&self, at: u64, count: u64, what: Use) -> bool
+        requires placed { IsPlaced self.now }
+        ensures { result ≡ allows_all self.now at count what }
+    {
+        let mut next = at;
+        let mut left = count;
+        while left > 0 {
+            if !self.allows(next / PAGE_BYTES, what) {
+                return false;
+            }
+            let here = (PAGE_BYTES - next % PAGE_BYTES).min(left);
+            next += here;
+            left -= here;
+        }
+        true
+    }
+
+    /// Copies bytes that are all there, and tells whether one of them is marked.
+    pub fn read_all(&self, at: u64, into: &mut [u8]) -> bool
+        requires fits { at + length into.old ≤ 2 ^ 64 }
+        requires there { HasPagesAt self.now at (length into.old) }
+        ensures bytes { into.new ≡ bytes_from self.now at (length into.old) }
+        ensures marked { result ≡ any_marked self.now at (length into.old) }
+    {
+        let mut done = 0;
+        let mut marked = false;
+        while done < into.len() {
+            let next = at + done as u64;
+            let room = (PAGE_BYTES - next % PAGE_BYTES) as usize;
+            let count = room.min(into.len() - done);
+            let seen = self.read(next, &mut into[done..done + count]);
+            marked |= seen;
+            done += count;
+        }
+        marked
+    }
+
+    /// Writes bytes over those that are there, which clears their marks.
+    pub fn write_all(&mut self, at: u64, bytes: &[u8])
+        requires fits { at + length bytes.now ≤ 2 ^ 64 }
+        ensures { self.new ≡ written self.old at bytes.now }
+    {
+        let mut done = 0;
+        while done < bytes.len() {
+            let next = at + done as u64;
+            let room = (PAGE_BYTES - next % PAGE_BYTES) as usize;
+            let count = room.min(bytes.len() - done);
+            self.write(next, &bytes[done..done + count]);
+            done += count;
+        }
+    }
+}

@@ -1,0 +1,82 @@
+//! The bytes of a page.
+ghost use Rattle.std.specs.Prelude.{◌≡◌, ◌+◌, ◌-◌, ◌≤◌, length, take, drop, IfOk, nat_eq, position};
+ghost use Rattle.std.proofs.Math.Seq.{sets};
+ghost use Rattle.rv_mem.specs.Page.{zero_bytes};
+
+use std::alloc::{AllocError, Global};
+use std::marker::Model;
+
+/// How many bytes a page has.
+pub const PAGE_SIZE: usize = 4096;
+
+/// The same number, for addresses.
+pub const PAGE_BYTES: u64 = 4096;
+
+/// The bytes of a page.
+#[derive(Drop)]
+pub struct Frame {
+    bytes: Vec<u8>,
+}
+
+impl Model for Frame {
+    ghost use Rattle.std.specs.Prelude.{◌≡◌, List, ℕ, length};
+
+    ghost Value = { List ℕ };
+
+    ghost view = { λ f. f.bytes.items };
+
+    ghost invariant = { λ f. length f.bytes.items ≡ 4096 };
+}
+
+impl Frame {
+    /// Zeros.
+    pub fn zeros(alloc: Global) -> Result<Frame, AllocError>
+        ensures { IfOk result (λ frame. frame ≡ zero_bytes) }
+    {
+        let bytes = vec![in alloc; 0; PAGE_SIZE]?;
+        Ok(Frame { bytes })
+    }
+
+    /// A copy.
+    pub fn copy(&self) -> Result<Frame, AllocError>
+        ensures { IfOk result (λ frame. frame ≡ self.now) }
+    {
+        let bytes = self.bytes.clone()?;
+        Ok(Frame { bytes })
+    }
+
+    /// Makes all bytes zero.
+    pub fn clear(&mut self)
+        ensures { self.new ≡ zero_bytes }
+    {
+        self.bytes.fill(0);
+    }
+
+    /// Writes bytes from an offset on.
+    pub fn write(&mut self, offset: usize, bytes: &[u8])
+        requires { offset + length bytes.now ≤ 4096 }
+        ensures { self.new ≡ sets self.old offset bytes.now }
+    {
+        self.bytes[offset..offset + bytes.len()].copy_from_slice(bytes);
+    }
+
+    /// Copies the bytes from an offset on.
+    pub fn copy_to(&self, offset: usize, into: &mut [u8])
+        requires { offset + length into.old ≤ 4096 }
+        ensures bytes { into.new ≡ take (length into.old) (drop offset self.now) }
+        ensures full { length self.now ≡ 4096 }
+    {
+        into.copy_from_slice(&self.bytes[offset..offset + into.len()]);
+    }
+
+    /// How many of the `count` bytes from an offset on stand before the first zero, if there is one.
+    pub fn zero_in(&self, offset: usize, count: usize) -> Option<usize>
+        requires { offset + count ≤ 4096 }
+        ensures found { result ≡ position (λ b. nat_eq b 0) (take count (drop offset self.now)) }
+        ensures full { length self.now ≡ 4096 }
+    {
+        self.bytes[offset..offset + count]
+            .iter()
+            .position(|byte| *byte == 0)
+    }
+}

@@ -1,0 +1,25 @@
+//! The memory of a simulated RISC-V process: pages with rights and marks, a copy for a fork, and
+//! texts read out of it.
+#![tactic(auto)]
+
+mod access;
+mod fault;
+mod frame;
+mod marks;
+mod page;
+mod ranges;
+mod regs;
+mod rights;
+mod room;
+mod space;
+mod table;
+mod text;
+
+pub use fault::{BadAddress, MapFault, StoreFault, TextFault};
+pub use regs::Regs;
+pub use rights::{Rights, Use};
+pub use room::Room;
+pub use space::{PAGES_END, Space};
+
+#[cfg(test)]
+mod tests;

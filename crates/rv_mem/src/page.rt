@@ -1,0 +1,126 @@
+//! A page of a process's memory.
+ghost use Rattle.std.specs.Prelude.{◌≡◌, ◌≢◌, ◌+◌, ◌-◌, ◌≤◌, length, take, drop, IfOk, nat_eq, position};
+ghost use Rattle.std.specs.List.{list_any};
+
+use crate::frame::Frame;
+use crate::marks::Marks;
+use crate::rights::{Rights, Use};
+use std::alloc::{AllocError, Global};
+use std::marker::Model;
+
+/// A page. Its rights and marks stand apart from its bytes.
+#[derive(Drop)]
+pub struct Page<const MARKED: u8> {
+    frame: Frame,
+    rights: Rights,
+    marks: Marks<MARKED>,
+}
+
+impl<const MARKED: u8> Model for Page<MARKED> {
+    ghost use Rattle.rv_mem.specs.Page.{PageState, page_code};
+
+    ghost Value = { PageState };
+
+    ghost coded = { page_code };
+
+    ghost view = { λ p. record { bytes = p.frame; rights = p.rights; marks = p.marks } };
+}
+
+impl<const MARKED: u8> Page<MARKED> {
+    ghost use Rattle.rv_mem.specs.Page.{fresh_page, grants, page_with_rights, page_written, page_marked};
+
+    /// A page of zeros without a mark.
+    pub fn fresh(alloc: Global, rights: Rights) -> Result<Page<MARKED>, AllocError>
+        ensures { IfOk result (λ p. p ≡ fresh_page rights) }
+    {
+        let frame = Frame::zeros(alloc)?;
+        let marks = Marks::none(alloc)?;
+        Ok(Page {
+            frame,
+            rights,
+            marks,
+        })
+    }
+
+    /// Makes the page as it is when it is mapped, with these rights.
+    pub fn reset(&mut self, rights: Rights)
+        ensures { self.new ≡ fresh_page rights }
+    {
+        self.frame.clear();
+        self.rights = rights;
+        self.marks.clear_all();
+    }
+
+    /// Whether the page's rights allow the use.
+    pub fn grants(&self, what: Use) -> bool
+        ensures { result ≡ grants self.now.rights what }
+    {
+        self.rights.grants(what)
+    }
+
+    /// Gives the page other rights.
+    pub fn set_rights(&mut self, rights: Rights)
+        ensures { self.new ≡ page_with_rights rights self.old }
+    {
+        self.rights = rights;
+    }
+
+    /// Writes bytes from an offset on, which clears their marks.
+    pub fn write(&mut self, offset: usize, bytes: &[u8])
+        requires { offset + length bytes.now ≤ 4096 }
+        ensures { self.new ≡ page_written offset bytes.now self.old }
+    {
+        self.frame.write(offset, bytes);
+        self.marks.clear(offset, offset + bytes.len());
+    }
+
+    /// Marks the bytes from an offset up to, but without, another.
+    pub fn mark(&mut self, from: usize, to: usize)
+        requires kept { MARKED ≢ 0 }
+        requires ordered { from ≤ to }
+        requires within { to ≤ 4096 }
+        ensures { self.new ≡ page_marked from (to - from) self.old }
+    {
+        self.marks.set(from, to);
+    }
+
+    /// Copies the bytes from an offset on.
+    pub fn copy_to(&self, offset: usize, into: &mut [u8])
+        requires { offset + length into.old ≤ 4096 }
+        ensures bytes { into.new ≡ take (length into.old) (drop offset self.now.bytes) }
+        ensures full { length self.now.bytes ≡ 4096 }
+    {
+        self.frame.copy_to(offset, into);
+    }
+
+    /// Whether one of the `count` bytes from an offset on is marked.
+    pub fn any_marked(&self, offset: usize, count: usize) -> bool
+        requires { offset + count ≤ 4096 }
+        ensures { result ≡ list_any (λ m. m) (take count (drop offset self.now.marks)) }
+    {
+        self.marks.any(offset, count)
+    }
+
+    /// How many of the `count` bytes from an offset on stand before the first zero, if there is one.
+    pub fn zero_in(&self, offset: usize, count: usize) -> Option<usize>
+        requires { offset + count ≤ 4096 }
+        ensures found { result ≡ position (λ b. nat_eq b 0) (take count (drop offset self.now.bytes)) }
+        ensures full { length self.now.bytes ≡ 4096 }
+    {
+        self.frame.zero_in(offset, count)
+    }
+}
+
+impl<const MARKED: u8> Clone for Page<MARKED> {
+    ghost is_clone = { λ old new. new ≡ old };
+
+    fn clone(&self) -> Result<Page<MARKED>, AllocError> {
+        let frame = self.frame.copy()?;
+        let marks = self.marks.copy()?;
+        Ok(Page {
+            frame,
+            rights: self.rights,
+            marks,
+        })
+    }
+}

@@ -1,0 +1,189 @@
+//! The pages of a memory by their numbers.
+ghost use Rattle.std.specs.Prelude.{◌≡◌, ℕ, ◌+◌, ◌-◌, ◌*◌, ◌/◌, ◌%◌, ◌<◌, ◌≤◌, length, IfOk, OnOk, OnErr, IsTrue, IfNone, IfSome, ◌≢◌, nat_eq, true};
+ghost use Rattle.std.specs.FinMap as map;
+
+use crate::frame::PAGE_BYTES;
+use crate::page::Page;
+use crate::rights::{Rights, Use};
+use pr_base::NoMemory;
+use std::alloc::{AllocError, Global};
+use std::collections::BTreeMap;
+use std::marker::Model;
+
+/// Pages by their numbers, with the allocator that fresh ones come from.
+#[derive(Drop)]
+pub struct Table<const MARKED: u8> {
+    pages: BTreeMap<u64, Page<MARKED>>,
+    alloc: Global,
+}
+
+impl<const MARKED: u8> Model for Table<MARKED> {
+    ghost use Rattle.std.specs.FinMap as map;
+    ghost use Rattle.rv_mem.specs.Pages.{Pages, pages_code};
+
+    ghost Value = { Pages };
+
+    ghost coded = { pages_code };
+
+    ghost view = { λ t. map.from_entries t.pages.entries };
+}
+
+impl<const MARKED: u8> Table<MARKED> {
+    ghost use Rattle.rv_mem.specs.Page.{fresh_page, page_with_rights};
+    ghost use Rattle.rv_mem.specs.Pages.{with_page, page_allows, written, marked, bytes_from, any_marked, byte_at, HasNoPages, HasNoZero};
+
+    /// No pages.
+    pub fn new(alloc: Global) -> Table<MARKED>
+        ensures { result ≡ map.empty }
+    {
+        Table {
+            pages: BTreeMap::new(alloc),
+            alloc,
+        }
+    }
+
+    /// The allocator.
+    pub fn allocator(&self) -> Global {
+        self.alloc
+    }
+
+    /// How many pages there are.
+    pub fn len(&self) -> usize
+        ensures { result ≡ map.len self.now }
+    {
+        self.pages.len()
+    }
+
+    /// Whether the page at a number is there.
+    pub fn contains(&self, number: u64) -> bool
+        ensures { result ≡ map.contains_key self.now number }
+    {
+        self.pages.contains_key(&number)
+    }
+
+    /// Whether the page at a number is there and allows a use.
+    pub fn allows(&self, number: u64, what: Use) -> bool
+        ensures { result ≡ page_allows self.now number what }
+    {
+        match self.pages.get(&number) {
+            Some(page) => page.grants(what),
+            None => false,
+        }
+    }
+
+    /// Puts a fresh page at a number. Where memory is wanting nothing changes.
+    pub fn add_fresh(&mut self, number: u64, rights: Rights) -> Result<(), NoMemory>
+        ensures ok { OnOk result (self.new ≡ map.insert self.old number (fresh_page rights)) }
+        ensures err { OnErr result (self.new ≡ self.old) }
+    {
+        let page = Page::fresh(self.alloc, rights)?;
+        self.pages.insert(number, page)?;
+        Ok(())
+    }
+
+    /// Takes the page at a number away, if there is one.
+    pub fn remove(&mut self, number: u64)
+        ensures { self.new ≡ map.remove self.old number }
+    {
+        let _page = self.pages.remove(&number);
+    }
+
+    /// Makes the page at a number, if there is one, as it is when it is mapped.
+    pub fn reset(&mut self, number: u64, rights: Rights)
+        ensures { self.new ≡ with_page self.old number (λ _. fresh_page rights) }
+    {
+        if let Some(page) = self.pages.get_mut(&number) {
+            page.reset(rights);
+        }
+    }
+
+    /// Gives the page at a number, if there is one, other rights.
+    pub fn set_rights(&mut self, number: u64, rights: Rights)
+        ensures { self.new ≡ with_page self.old number (page_with_rights rights) }
+    {
+        if let Some(page) = self.pages.get_mut(&number) {
+            page.set_rights(rights);
+        }
+    }
+
+    /// Writes bytes that lie inside one page, if it is there, which clears their marks.
+    pub fn write(&mut self, at: u64, bytes: &[u8])
+        requires { at % 4096 + length bytes.now ≤ 4096 }
+        ensures { self.new ≡ written self.old at bytes.now }
+    {
+        if let Some(page) = self.pages.get_mut(&(at / PAGE_BYTES)) {
+            page.write((at % PAGE_BYTES) as usize, bytes);
+        }
+    }
+
+    /// Marks the `count` bytes from an address on, which lie inside one page, if it is there.
+    pub fn mark(&mut self, at: u64, count: usize)
+        requires kept { MARKED ≢ 0 }
+        requires within { at % 4096 + count ≤ 4096 }
+        ensures { self.new ≡ marked self.old at count }
+    {
+        if let Some(page) = self.pages.get_mut(&(at / PAGE_BYTES)) {
+            let offset = (at % PAGE_BYTES) as usize;
+            page.mark(offset, offset + count);
+        }
+    }
+
+    /// Copies bytes that lie inside one page that is there, and tells whether one of them is marked.
+    pub fn read(&self, at: u64, into: &mut [u8]) -> bool
+        requires within { at % 4096 + length into.old ≤ 4096 }
+        requires there { IsTrue (map.contains_key self.now (at / 4096)) }
+        ensures bytes { into.new ≡ bytes_from self.now at (length into.old) }
+        ensures marked { result ≡ any_marked self.now at (length into.old) }
+    {
+        let page = self.pages.get(&(at / PAGE_BYTES)).unwrap();
+        let offset = (at % PAGE_BYTES) as usize;
+        page.copy_to(offset, into);
+        page.any_marked(offset, into.len())
+    }
+
+    /// Whether one of the `count` bytes from an address on, which lie inside one page that is there,
+    /// is marked.
+    pub fn any_marked(&self, at: u64, count: usize) -> bool
+        requires within { at % 4096 + count ≤ 4096 }
+        requires there { IsTrue (map.contains_key self.now (at / 4096)) }
+        ensures { result ≡ any_marked self.now at count }
+    {
+        let page = self.pages.get(&(at / PAGE_BYTES)).unwrap();
+        page.any_marked((at % PAGE_BYTES) as usize, count)
+    }
+
+    /// How many of the `count` bytes from an address on, which lie inside one page that is there,
+    /// stand before the first zero, if there is one.
+    pub fn zero_in(&self, at: u64, count: usize) -> Option<usize>
+        requires within { at % 4096 + count ≤ 4096 }
+        requires there { IsTrue (map.contains_key self.now (at / 4096)) }
+        ensures none { IfNone result (HasNoZero self.now at count) }
+        ensures some { IfSome result (λ z. (z < count) × (nat_eq (byte_at self.now (at + z)) 0 ≡ true) × HasNoZero self.now at z) }
+    {
+        let page = self.pages.get(&(at / PAGE_BYTES)).unwrap();
+        page.zero_in((at % PAGE_BYTES) as usize, count)
+    }
+
+    /// The first number from `from` up to, but without, `to` at which there is a page.
+    pub fn next(&self, from: u64, to: u64) -> Option<u64>
+        requires { from ≤ to }
+        ensures none { IfNone result (HasNoPages self.now from to) }
+        ensures some { IfSome result (λ k. (from ≤ k) × (k < to) × HasNoPages self.now from k) }
+    {
+        match self.pages.range(from..to).next() {
+            Some((number, _page)) => Some(*number),
+            None => None,
+        }
+    }
+
+    /// A copy.
+    pub fn copy(&self) -> Result<Table<MARKED>, NoMemory>
+        ensures { IfOk result (λ table. table ≡ self.now) }
+    {
+        let pages = self.pages.clone()?;
+        Ok(Table {
+            pages,
+            alloc: self.alloc,
+        })
+    }
+}

@@ -1,0 +1,129 @@
+use crate::{BadAddress, MapFault, Rights, Room, Space, StoreFault, TextFault, Use};
+use std::test::Fail;
+
+const READ: Rights = Rights {
+    r: true,
+    w: false,
+    x: false,
+};
+
+const WRITE: Rights = Rights {
+    r: true,
+    w: true,
+    x: false,
+};
+
+// 16,384 pages are the most of a process; the numbers after the call are what counts.
+#[test]
+fn pages_are_limited(rt: HostRuntime) -> Result<(), Fail> {
+    let mut room = Room::new();
+    let mut space: Space<0> = Space::new(rt.alloc());
+    assert_eq!(rt; space.map(&mut room, 0, 16_385, WRITE), Err(MapFault::Full));
+    space.map(&mut room, 0x1000, 16_384, WRITE)?;
+    space.map(&mut room, 0x2000, 1, READ)?;
+    assert_eq!(rt; space.pages(), 16_384);
+    space.unmap(&mut room, 0, 2);
+    assert_eq!(rt; space.pages(), 16_383);
+    space.map(&mut room, 0x1000, 1, READ)?;
+    assert_eq!(rt; space.map(&mut room, 0, 1, WRITE), Err(MapFault::Full));
+    Ok(())
+}
+
+#[test]
+fn bytes_and_texts_are_read_as_they_were_written(rt: HostRuntime) -> Result<(), Fail> {
+    let mut room = Room::new();
+    let mut space: Space<0> = Space::new(rt.alloc());
+    space.map(&mut room, 0x1000, 2, WRITE)?;
+    space.write(0x1000, &[b'a'; 4096])?;
+    space.write(0x1ffe, b"bcd")?;
+    let mut four = [7; 4];
+    space.read(0x1ffd, &mut four, Use::Read)?;
+    assert_eq!(rt; four.as_slice(), b"abcd".as_slice());
+    assert_eq!(rt; space.text_at(0x1ffd, 5)?.as_slice(), b"abcd".as_slice());
+    for (at, max, fault) in [
+        (0x1000, 4096, TextFault::TooLong),
+        (0x1ffd, 4, TextFault::TooLong),
+        (0x0fff, 4096, TextFault::BadAddress),
+        (0x3000, 1, TextFault::BadAddress),
+    ] {
+        assert_eq!(rt; space.text_at(at, max).err(), Some(fault), "at {at}");
+    }
+    assert_eq!(rt; space.read(0x2ffd, &mut four, Use::Read), Err(BadAddress));
+    assert_eq!(rt;
+        space.read(u64::MAX - 1, &mut four, Use::Read),
+        Err(BadAddress)
+    );
+    assert_eq!(rt;
+        space.read(0x1000, &mut four, Use::Execute),
+        Err(BadAddress)
+    );
+    assert_eq!(rt; four.as_slice(), b"abcd".as_slice());
+    Ok(())
+}
+
+#[test]
+fn a_range_moves_whole_or_not_at_all(rt: HostRuntime) -> Result<(), Fail> {
+    let mut room = Room::new();
+    let mut space: Space<0> = Space::new(rt.alloc());
+    space.map(&mut room, 0x1000, 3, WRITE)?;
+    space.protect(0x3000, 1, READ)?;
+    assert_eq!(rt;
+        space.write(0x1fff, &[1; 4098]),
+        Err(StoreFault::BadAddress)
+    );
+    let mut byte = [7];
+    space.read(0x1fff, &mut byte, Use::Read)?;
+    assert_eq!(rt; byte.as_slice(), [0].as_slice());
+    space.write(0x1fff, &[1; 4097])?;
+    space.read(0x2fff, &mut byte, Use::Read)?;
+    assert_eq!(rt; byte.as_slice(), [1].as_slice());
+    assert_eq!(rt; space.protect(0x3000, 2, WRITE), Err(BadAddress));
+    assert!(rt; !space.can(0x3000, 1, Use::Write));
+    assert!(rt; space.can(u64::MAX, 0, Use::Write));
+    assert!(rt; !space.can(u64::MAX, 2, Use::Read));
+    Ok(())
+}
+
+#[test]
+fn a_fork_is_a_copy(rt: HostRuntime) -> Result<(), Fail> {
+    let mut room = Room::new();
+    let mut space: Space<1> = Space::new(rt.alloc());
+    space.map(&mut room, 0x1000, 1, WRITE)?;
+    space.write(0x1000, b"old")?;
+    space.mark(0x1002, 0x1003);
+    let mut child = space.fork(&mut room)?;
+    space.write(0x1000, b"new")?;
+    assert_eq!(rt; child.text_at(0x1000, 4)?.as_slice(), b"old".as_slice());
+    assert!(rt; child.mark_was_read());
+    assert_eq!(rt; space.text_at(0x1000, 4)?.as_slice(), b"new".as_slice());
+    assert!(rt; !space.mark_was_read());
+    Ok(())
+}
+
+// Marks from 0x1fff to 0x2000, read from both sides.
+#[test]
+fn marks_are_noted_where_they_are_read(rt: HostRuntime) -> Result<(), Fail> {
+    let cases = [
+        (0x1ffd, 2, false),
+        (0x1ffe, 2, true),
+        (0x2000, 1, true),
+        (0x2001, 2, false),
+        (0x2fff, 2, false),
+    ];
+    for (at, count, noted) in cases {
+        let mut room = Room::new();
+        let mut space: Space<1> = Space::new(rt.alloc());
+        space.map(&mut room, 0x1000, 2, WRITE)?;
+        space.mark(0x1fff, 0x2001);
+        let mut bytes = [0; 2];
+        let _ = space.read(at, &mut bytes[..count], Use::Read);
+        assert_eq!(rt; space.mark_was_read(), noted, "at {at}");
+        let mut unmarked: Space<0> = Space::new(rt.alloc());
+        let mut other = Room::new();
+        unmarked.map(&mut other, 0x1000, 2, WRITE)?;
+        unmarked.mark(0x1fff, 0x2001);
+        let _ = unmarked.read(at, &mut bytes[..count], Use::Read);
+        assert!(rt; !unmarked.mark_was_read());
+    }
+    Ok(())
+}
