@@ -74,14 +74,15 @@ impl Kernel {
     /// Makes a turn: of the ready processes in order, the one at place `pick` modulo their number
     /// runs until `fuel` instructions are done, a call is done, or it dies. So far there is one
     /// process, which every pick picks. After want of memory the kernel may only be dropped.
-    pub fn turn(&mut self, _pick: u32, fuel: u32) -> Result<Turned, NoMemory>
+    pub fn turn(&mut self, pick: u32, fuel: u32) -> Result<Turned, NoMemory>
         requires fuel { 1 ≤ fuel }
         requires turns { self.old.turns < 2 ^ 31 }
 
-        ensures made { IfOk result (λ turned. MakesTurn _pick fuel self.old turned self.new) }
+        ensures made { IfOk result (λ turned. MakesTurn pick fuel self.old turned self.new) }
         ensures over { (result ≡ Ok Turned.Over) ↔ (living self.old ≡ []) }
         ensures deadlock { (result ≡ Ok Turned.Deadlock) ↔ ((living self.old ≢ []) × (ready self.old ≡ [])) }
     {
+        let _ = pick;
         let Process::Living(running) = &mut self.process else {
             return Ok(Turned::Over);
         };
