@@ -5,7 +5,6 @@ use Rattle.kr_core.specs.Turn.{turned}
 use Rattle.kr_core.specs.Run.{Slot, Outcome, AllEnded, TurnsSpent, ends, followed_by, run}
 use Rattle.kr_core.specs.declared.process.Running.{Running}
 
-
 module _ (call : State → Running → State) (schedule : ℕ → Slot) where
   -- a run in which no process lives is over, however many turns are left
   pub run-ended : (left : ℕ) (s : State) → living s ≡ [] → run call schedule left s ≡ ends AllEnded s
@@ -19,6 +18,7 @@ module _ (call : State → Running → State) (schedule : ℕ → Slot) where
     where
       rest : Outcome
       rest = let after = turned call (schedule s.turns).pick (schedule s.turns).fuel s in followed_by after.console (run call schedule left (cleared after))
+
       by_living : (ps : List Running) → ps ≡ [] → elim ps as (λ _. Outcome) [ [] ↦ ends AllEnded s | p ∷ ps ↦ rest ] ≡ ends AllEnded s
       by_living [] e = refl
       by_living (p ∷ ps) e = cc
@@ -38,6 +38,7 @@ module _ (call : State → Running → State) (schedule : ℕ → Slot) where
     where
       rest : Outcome
       rest = let after = turned call (schedule s.turns).pick (schedule s.turns).fuel s in followed_by after.console (run call schedule left (cleared after))
+
       by_living : (ps : List Running) → ps ≢ [] → elim ps as (λ _. Outcome) [ [] ↦ ends AllEnded s | p ∷ ps ↦ rest ] ≡ rest
       by_living [] some = absurd (some refl)
       by_living (p ∷ ps) some = refl
