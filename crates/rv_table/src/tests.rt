@@ -1,500 +1,89 @@
 use crate::{Instr, decode, encode, valid};
 
+// One row for each word and the instruction that it is.
+macro_rules! words {
+    ($($word:literal $name:ident { $($field:ident: $value:expr),* })*) => {
+        [$(($word, Instr::$name { $($field: $value),* })),*]
+    };
+}
+
+// One row for each instruction.
+macro_rules! instructions {
+    ($($name:ident { $($field:ident: $value:expr),* })*) => {
+        [$(Instr::$name { $($field: $value),* }),*]
+    };
+}
+
 // The words were written by llvm-mc 14 for the line of assembly that stands beside each.
 #[test]
 fn words_are_those_of_an_assembler(rt: HostRuntime) {
-    let table = [
-        (
-            0x80030283,
-            Instr::Lb {
-                rd: 5,
-                rs1: 6,
-                imm: -2048,
-            },
-        ), // lb x5, -2048(x6)
-        (
-            0x7ffe9f83,
-            Instr::Lh {
-                rd: 31,
-                rs1: 29,
-                imm: 2047,
-            },
-        ), // lh x31, 2047(x29)
-        (
-            0x01c12083,
-            Instr::Lw {
-                rd: 1,
-                rs1: 2,
-                imm: 28,
-            },
-        ), // lw x1, 28(x2)
-        (
-            0xfff5b503,
-            Instr::Ld {
-                rd: 10,
-                rs1: 11,
-                imm: -1,
-            },
-        ), // ld x10, -1(x11)
-        (
-            0x55594883,
-            Instr::Lbu {
-                rd: 17,
-                rs1: 18,
-                imm: 1365,
-            },
-        ), // lbu x17, 1365(x18)
-        (
-            0x80035283,
-            Instr::Lhu {
-                rd: 5,
-                rs1: 6,
-                imm: -2048,
-            },
-        ), // lhu x5, -2048(x6)
-        (
-            0x7ffeef83,
-            Instr::Lwu {
-                rd: 31,
-                rs1: 29,
-                imm: 2047,
-            },
-        ), // lwu x31, 2047(x29)
-        (0x0ff0000f, Instr::Fence), // fence
-        (
-            0x01c10093,
-            Instr::Addi {
-                rd: 1,
-                rs1: 2,
-                imm: 28,
-            },
-        ), // addi x1, x2, 28
-        (
-            0xfff5a513,
-            Instr::Slti {
-                rd: 10,
-                rs1: 11,
-                imm: -1,
-            },
-        ), // slti x10, x11, -1
-        (
-            0x55593893,
-            Instr::Sltiu {
-                rd: 17,
-                rs1: 18,
-                imm: 1365,
-            },
-        ), // sltiu x17, x18, 1365
-        (
-            0x80034293,
-            Instr::Xori {
-                rd: 5,
-                rs1: 6,
-                imm: -2048,
-            },
-        ), // xori x5, x6, -2048
-        (
-            0x7ffeef93,
-            Instr::Ori {
-                rd: 31,
-                rs1: 29,
-                imm: 2047,
-            },
-        ), // ori x31, x29, 2047
-        (
-            0x01c17093,
-            Instr::Andi {
-                rd: 1,
-                rs1: 2,
-                imm: 28,
-            },
-        ), // andi x1, x2, 28
-        (
-            0x03f31293,
-            Instr::Slli {
-                rd: 5,
-                rs1: 6,
-                imm: 63,
-            },
-        ), // slli x5, x6, 63
-        (
-            0x020edf93,
-            Instr::Srli {
-                rd: 31,
-                rs1: 29,
-                imm: 32,
-            },
-        ), // srli x31, x29, 32
-        (
-            0x40115093,
-            Instr::Srai {
-                rd: 1,
-                rs1: 2,
-                imm: 1,
-            },
-        ), // srai x1, x2, 1
-        (
-            0x12345297,
-            Instr::Auipc {
-                rd: 5,
-                imm: 305418240,
-            },
-        ), // auipc x5, 74565
-        (
-            0xfff5851b,
-            Instr::Addiw {
-                rd: 10,
-                rs1: 11,
-                imm: -1,
-            },
-        ), // addiw x10, x11, -1
-        (
-            0x01f3129b,
-            Instr::Slliw {
-                rd: 5,
-                rs1: 6,
-                imm: 31,
-            },
-        ), // slliw x5, x6, 31
-        (
-            0x010edf9b,
-            Instr::Srliw {
-                rd: 31,
-                rs1: 29,
-                imm: 16,
-            },
-        ), // srliw x31, x29, 16
-        (
-            0x4011509b,
-            Instr::Sraiw {
-                rd: 1,
-                rs1: 2,
-                imm: 1,
-            },
-        ), // sraiw x1, x2, 1
-        (
-            0x80730023,
-            Instr::Sb {
-                rs1: 6,
-                rs2: 7,
-                imm: -2048,
-            },
-        ), // sb x7, -2048(x6)
-        (
-            0x7fee9fa3,
-            Instr::Sh {
-                rs1: 29,
-                rs2: 30,
-                imm: 2047,
-            },
-        ), // sh x30, 2047(x29)
-        (
-            0x02312423,
-            Instr::Sw {
-                rs1: 2,
-                rs2: 3,
-                imm: 40,
-            },
-        ), // sw x3, 40(x2)
-        (
-            0xfec5bfa3,
-            Instr::Sd {
-                rs1: 11,
-                rs2: 12,
-                imm: -1,
-            },
-        ), // sd x12, -1(x11)
-        (
-            0x007302b3,
-            Instr::Add {
-                rd: 5,
-                rs1: 6,
-                rs2: 7,
-            },
-        ), // add x5, x6, x7
-        (
-            0x41ee8fb3,
-            Instr::Sub {
-                rd: 31,
-                rs1: 29,
-                rs2: 30,
-            },
-        ), // sub x31, x29, x30
-        (
-            0x003110b3,
-            Instr::Sll {
-                rd: 1,
-                rs1: 2,
-                rs2: 3,
-            },
-        ), // sll x1, x2, x3
-        (
-            0x00c5a533,
-            Instr::Slt {
-                rd: 10,
-                rs1: 11,
-                rs2: 12,
-            },
-        ), // slt x10, x11, x12
-        (
-            0x013938b3,
-            Instr::Sltu {
-                rd: 17,
-                rs1: 18,
-                rs2: 19,
-            },
-        ), // sltu x17, x18, x19
-        (
-            0x007342b3,
-            Instr::Xor {
-                rd: 5,
-                rs1: 6,
-                rs2: 7,
-            },
-        ), // xor x5, x6, x7
-        (
-            0x01eedfb3,
-            Instr::Srl {
-                rd: 31,
-                rs1: 29,
-                rs2: 30,
-            },
-        ), // srl x31, x29, x30
-        (
-            0x403150b3,
-            Instr::Sra {
-                rd: 1,
-                rs1: 2,
-                rs2: 3,
-            },
-        ), // sra x1, x2, x3
-        (
-            0x00c5e533,
-            Instr::Or {
-                rd: 10,
-                rs1: 11,
-                rs2: 12,
-            },
-        ), // or x10, x11, x12
-        (
-            0x013978b3,
-            Instr::And {
-                rd: 17,
-                rs1: 18,
-                rs2: 19,
-            },
-        ), // and x17, x18, x19
-        (
-            0x027302b3,
-            Instr::Mul {
-                rd: 5,
-                rs1: 6,
-                rs2: 7,
-            },
-        ), // mul x5, x6, x7
-        (
-            0x03ee9fb3,
-            Instr::Mulh {
-                rd: 31,
-                rs1: 29,
-                rs2: 30,
-            },
-        ), // mulh x31, x29, x30
-        (
-            0x023120b3,
-            Instr::Mulhsu {
-                rd: 1,
-                rs1: 2,
-                rs2: 3,
-            },
-        ), // mulhsu x1, x2, x3
-        (
-            0x02c5b533,
-            Instr::Mulhu {
-                rd: 10,
-                rs1: 11,
-                rs2: 12,
-            },
-        ), // mulhu x10, x11, x12
-        (
-            0x033948b3,
-            Instr::Div {
-                rd: 17,
-                rs1: 18,
-                rs2: 19,
-            },
-        ), // div x17, x18, x19
-        (
-            0x027352b3,
-            Instr::Divu {
-                rd: 5,
-                rs1: 6,
-                rs2: 7,
-            },
-        ), // divu x5, x6, x7
-        (
-            0x03eeefb3,
-            Instr::Rem {
-                rd: 31,
-                rs1: 29,
-                rs2: 30,
-            },
-        ), // rem x31, x29, x30
-        (
-            0x023170b3,
-            Instr::Remu {
-                rd: 1,
-                rs1: 2,
-                rs2: 3,
-            },
-        ), // remu x1, x2, x3
-        (
-            0x80000fb7,
-            Instr::Lui {
-                rd: 31,
-                imm: -2147483648,
-            },
-        ), // lui x31, 524288
-        (
-            0x00c5853b,
-            Instr::Addw {
-                rd: 10,
-                rs1: 11,
-                rs2: 12,
-            },
-        ), // addw x10, x11, x12
-        (
-            0x413908bb,
-            Instr::Subw {
-                rd: 17,
-                rs1: 18,
-                rs2: 19,
-            },
-        ), // subw x17, x18, x19
-        (
-            0x007312bb,
-            Instr::Sllw {
-                rd: 5,
-                rs1: 6,
-                rs2: 7,
-            },
-        ), // sllw x5, x6, x7
-        (
-            0x01eedfbb,
-            Instr::Srlw {
-                rd: 31,
-                rs1: 29,
-                rs2: 30,
-            },
-        ), // srlw x31, x29, x30
-        (
-            0x403150bb,
-            Instr::Sraw {
-                rd: 1,
-                rs1: 2,
-                rs2: 3,
-            },
-        ), // sraw x1, x2, x3
-        (
-            0x02c5853b,
-            Instr::Mulw {
-                rd: 10,
-                rs1: 11,
-                rs2: 12,
-            },
-        ), // mulw x10, x11, x12
-        (
-            0x033948bb,
-            Instr::Divw {
-                rd: 17,
-                rs1: 18,
-                rs2: 19,
-            },
-        ), // divw x17, x18, x19
-        (
-            0x027352bb,
-            Instr::Divuw {
-                rd: 5,
-                rs1: 6,
-                rs2: 7,
-            },
-        ), // divuw x5, x6, x7
-        (
-            0x03eeefbb,
-            Instr::Remw {
-                rd: 31,
-                rs1: 29,
-                rs2: 30,
-            },
-        ), // remw x31, x29, x30
-        (
-            0x023170bb,
-            Instr::Remuw {
-                rd: 1,
-                rs1: 2,
-                rs2: 3,
-            },
-        ), // remuw x1, x2, x3
-        (
-            0x80730063,
-            Instr::Beq {
-                rs1: 6,
-                rs2: 7,
-                imm: -4096,
-            },
-        ), // beq x6, x7, -4096
-        (
-            0x7fee9fe3,
-            Instr::Bne {
-                rs1: 29,
-                rs2: 30,
-                imm: 4094,
-            },
-        ), // bne x29, x30, 4094
-        (
-            0x00314e63,
-            Instr::Blt {
-                rs1: 2,
-                rs2: 3,
-                imm: 28,
-            },
-        ), // blt x2, x3, 28
-        (
-            0xfec5dfe3,
-            Instr::Bge {
-                rs1: 11,
-                rs2: 12,
-                imm: -2,
-            },
-        ), // bge x11, x12, -2
-        (
-            0x55396b63,
-            Instr::Bltu {
-                rs1: 18,
-                rs2: 19,
-                imm: 1366,
-            },
-        ), // bltu x18, x19, 1366
-        (
-            0x80737063,
-            Instr::Bgeu {
-                rs1: 6,
-                rs2: 7,
-                imm: -4096,
-            },
-        ), // bgeu x6, x7, -4096
-        (
-            0x555908e7,
-            Instr::Jalr {
-                rd: 17,
-                rs1: 18,
-                imm: 1365,
-            },
-        ), // jalr x17, 1365(x18)
-        (0x6c45a2ef, Instr::Jal { rd: 5, imm: 370372 }), // jal x5, 370372
-        (0x00000073, Instr::Ecall), // ecall
-        (0x00100073, Instr::Ebreak), // ebreak
-    ];
+    let table = words! {
+        0x80030283 Lb { rd: 5, rs1: 6, imm: -2048 } // lb x5, -2048(x6)
+        0x7ffe9f83 Lh { rd: 31, rs1: 29, imm: 2047 } // lh x31, 2047(x29)
+        0x01c12083 Lw { rd: 1, rs1: 2, imm: 28 } // lw x1, 28(x2)
+        0xfff5b503 Ld { rd: 10, rs1: 11, imm: -1 } // ld x10, -1(x11)
+        0x55594883 Lbu { rd: 17, rs1: 18, imm: 1365 } // lbu x17, 1365(x18)
+        0x80035283 Lhu { rd: 5, rs1: 6, imm: -2048 } // lhu x5, -2048(x6)
+        0x7ffeef83 Lwu { rd: 31, rs1: 29, imm: 2047 } // lwu x31, 2047(x29)
+        0x0ff0000f Fence {} // fence
+        0x01c10093 Addi { rd: 1, rs1: 2, imm: 28 } // addi x1, x2, 28
+        0xfff5a513 Slti { rd: 10, rs1: 11, imm: -1 } // slti x10, x11, -1
+        0x55593893 Sltiu { rd: 17, rs1: 18, imm: 1365 } // sltiu x17, x18, 1365
+        0x80034293 Xori { rd: 5, rs1: 6, imm: -2048 } // xori x5, x6, -2048
+        0x7ffeef93 Ori { rd: 31, rs1: 29, imm: 2047 } // ori x31, x29, 2047
+        0x01c17093 Andi { rd: 1, rs1: 2, imm: 28 } // andi x1, x2, 28
+        0x03f31293 Slli { rd: 5, rs1: 6, imm: 63 } // slli x5, x6, 63
+        0x020edf93 Srli { rd: 31, rs1: 29, imm: 32 } // srli x31, x29, 32
+        0x40115093 Srai { rd: 1, rs1: 2, imm: 1 } // srai x1, x2, 1
+        0x12345297 Auipc { rd: 5, imm: 305418240 } // auipc x5, 74565
+        0xfff5851b Addiw { rd: 10, rs1: 11, imm: -1 } // addiw x10, x11, -1
+        0x01f3129b Slliw { rd: 5, rs1: 6, imm: 31 } // slliw x5, x6, 31
+        0x010edf9b Srliw { rd: 31, rs1: 29, imm: 16 } // srliw x31, x29, 16
+        0x4011509b Sraiw { rd: 1, rs1: 2, imm: 1 } // sraiw x1, x2, 1
+        0x80730023 Sb { rs1: 6, rs2: 7, imm: -2048 } // sb x7, -2048(x6)
+        0x7fee9fa3 Sh { rs1: 29, rs2: 30, imm: 2047 } // sh x30, 2047(x29)
+        0x02312423 Sw { rs1: 2, rs2: 3, imm: 40 } // sw x3, 40(x2)
+        0xfec5bfa3 Sd { rs1: 11, rs2: 12, imm: -1 } // sd x12, -1(x11)
+        0x007302b3 Add { rd: 5, rs1: 6, rs2: 7 } // add x5, x6, x7
+        0x41ee8fb3 Sub { rd: 31, rs1: 29, rs2: 30 } // sub x31, x29, x30
+        0x003110b3 Sll { rd: 1, rs1: 2, rs2: 3 } // sll x1, x2, x3
+        0x00c5a533 Slt { rd: 10, rs1: 11, rs2: 12 } // slt x10, x11, x12
+        0x013938b3 Sltu { rd: 17, rs1: 18, rs2: 19 } // sltu x17, x18, x19
+        0x007342b3 Xor { rd: 5, rs1: 6, rs2: 7 } // xor x5, x6, x7
+        0x01eedfb3 Srl { rd: 31, rs1: 29, rs2: 30 } // srl x31, x29, x30
+        0x403150b3 Sra { rd: 1, rs1: 2, rs2: 3 } // sra x1, x2, x3
+        0x00c5e533 Or { rd: 10, rs1: 11, rs2: 12 } // or x10, x11, x12
+        0x013978b3 And { rd: 17, rs1: 18, rs2: 19 } // and x17, x18, x19
+        0x027302b3 Mul { rd: 5, rs1: 6, rs2: 7 } // mul x5, x6, x7
+        0x03ee9fb3 Mulh { rd: 31, rs1: 29, rs2: 30 } // mulh x31, x29, x30
+        0x023120b3 Mulhsu { rd: 1, rs1: 2, rs2: 3 } // mulhsu x1, x2, x3
+        0x02c5b533 Mulhu { rd: 10, rs1: 11, rs2: 12 } // mulhu x10, x11, x12
+        0x033948b3 Div { rd: 17, rs1: 18, rs2: 19 } // div x17, x18, x19
+        0x027352b3 Divu { rd: 5, rs1: 6, rs2: 7 } // divu x5, x6, x7
+        0x03eeefb3 Rem { rd: 31, rs1: 29, rs2: 30 } // rem x31, x29, x30
+        0x023170b3 Remu { rd: 1, rs1: 2, rs2: 3 } // remu x1, x2, x3
+        0x80000fb7 Lui { rd: 31, imm: -2147483648 } // lui x31, 524288
+        0x00c5853b Addw { rd: 10, rs1: 11, rs2: 12 } // addw x10, x11, x12
+        0x413908bb Subw { rd: 17, rs1: 18, rs2: 19 } // subw x17, x18, x19
+        0x007312bb Sllw { rd: 5, rs1: 6, rs2: 7 } // sllw x5, x6, x7
+        0x01eedfbb Srlw { rd: 31, rs1: 29, rs2: 30 } // srlw x31, x29, x30
+        0x403150bb Sraw { rd: 1, rs1: 2, rs2: 3 } // sraw x1, x2, x3
+        0x02c5853b Mulw { rd: 10, rs1: 11, rs2: 12 } // mulw x10, x11, x12
+        0x033948bb Divw { rd: 17, rs1: 18, rs2: 19 } // divw x17, x18, x19
+        0x027352bb Divuw { rd: 5, rs1: 6, rs2: 7 } // divuw x5, x6, x7
+        0x03eeefbb Remw { rd: 31, rs1: 29, rs2: 30 } // remw x31, x29, x30
+        0x023170bb Remuw { rd: 1, rs1: 2, rs2: 3 } // remuw x1, x2, x3
+        0x80730063 Beq { rs1: 6, rs2: 7, imm: -4096 } // beq x6, x7, -4096
+        0x7fee9fe3 Bne { rs1: 29, rs2: 30, imm: 4094 } // bne x29, x30, 4094
+        0x00314e63 Blt { rs1: 2, rs2: 3, imm: 28 } // blt x2, x3, 28
+        0xfec5dfe3 Bge { rs1: 11, rs2: 12, imm: -2 } // bge x11, x12, -2
+        0x55396b63 Bltu { rs1: 18, rs2: 19, imm: 1366 } // bltu x18, x19, 1366
+        0x80737063 Bgeu { rs1: 6, rs2: 7, imm: -4096 } // bgeu x6, x7, -4096
+        0x555908e7 Jalr { rd: 17, rs1: 18, imm: 1365 } // jalr x17, 1365(x18)
+        0x6c45a2ef Jal { rd: 5, imm: 370372 } // jal x5, 370372
+        0x00000073 Ecall {} // ecall
+        0x00100073 Ebreak {} // ebreak
+    };
     for (word, instr) in table {
         assert_eq!(rt; decode(word), Some(instr));
         assert!(rt; valid(instr));
@@ -547,73 +136,23 @@ fn words_of_no_row_are_none(rt: HostRuntime) {
 
 #[test]
 fn operands_out_of_range_have_no_word(rt: HostRuntime) {
-    let table = [
-        Instr::Add {
-            rd: 32,
-            rs1: 0,
-            rs2: 0,
-        },
-        Instr::Add {
-            rd: 0,
-            rs1: 32,
-            rs2: 0,
-        },
-        Instr::Add {
-            rd: 0,
-            rs1: 0,
-            rs2: 255,
-        },
-        Instr::Addi {
-            rd: 0,
-            rs1: 0,
-            imm: 2048,
-        },
-        Instr::Addi {
-            rd: 0,
-            rs1: 0,
-            imm: -2049,
-        },
-        Instr::Sd {
-            rs1: 0,
-            rs2: 0,
-            imm: 2048,
-        },
-        Instr::Beq {
-            rs1: 0,
-            rs2: 0,
-            imm: 3,
-        },
-        Instr::Beq {
-            rs1: 0,
-            rs2: 0,
-            imm: 4096,
-        },
-        Instr::Jal { rd: 0, imm: -1 },
-        Instr::Jal {
-            rd: 0,
-            imm: 1048576,
-        },
-        Instr::Lui { rd: 0, imm: 4095 },
-        Instr::Lui {
-            rd: 0,
-            imm: 2147483648,
-        },
-        Instr::Slli {
-            rd: 0,
-            rs1: 0,
-            imm: 64,
-        },
-        Instr::Slliw {
-            rd: 0,
-            rs1: 0,
-            imm: 32,
-        },
-        Instr::Srai {
-            rd: 0,
-            rs1: 0,
-            imm: -1,
-        },
-    ];
+    let table = instructions! {
+        Add { rd: 32, rs1: 0, rs2: 0 }
+        Add { rd: 0, rs1: 32, rs2: 0 }
+        Add { rd: 0, rs1: 0, rs2: 255 }
+        Addi { rd: 0, rs1: 0, imm: 2048 }
+        Addi { rd: 0, rs1: 0, imm: -2049 }
+        Sd { rs1: 0, rs2: 0, imm: 2048 }
+        Beq { rs1: 0, rs2: 0, imm: 3 }
+        Beq { rs1: 0, rs2: 0, imm: 4096 }
+        Jal { rd: 0, imm: -1 }
+        Jal { rd: 0, imm: 1048576 }
+        Lui { rd: 0, imm: 4095 }
+        Lui { rd: 0, imm: 2147483648 }
+        Slli { rd: 0, rs1: 0, imm: 64 }
+        Slliw { rd: 0, rs1: 0, imm: 32 }
+        Srai { rd: 0, rs1: 0, imm: -1 }
+    };
     for instr in table {
         assert!(rt; !valid(instr));
     }
