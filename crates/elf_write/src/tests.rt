@@ -1,0 +1,42 @@
+use crate::write;
+use elf_read::check;
+use std::test::Fail;
+
+#[test]
+fn a_written_file_is_accepted(rt: HostRuntime) -> Result<(), Fail> {
+    let code = [0x73, 0, 0, 0];
+    let file = write(rt.alloc(), &code, b"data", 5)?;
+    let plan = check(file.as_slice()).expect(&rt, "accepted");
+    assert_eq!(rt; plan.entry, 0x10000);
+    assert_eq!(rt; plan.count, 2);
+    let [text, data, ..] = plan.segments;
+    assert_eq!(rt;
+        (text.at, text.file, text.memory, text.flags),
+        (0x10000, 4, 4, 5)
+    );
+    assert_eq!(rt;
+        (data.at, data.file, data.memory, data.flags),
+        (0x11000, 4, 9, 6)
+    );
+    Ok(())
+}
+
+#[test]
+fn data_stands_on_the_next_free_page(rt: HostRuntime) -> Result<(), Fail> {
+    let code = [0x13; 4097];
+    let table = [(1, 0x11000), (4096, 0x11000), (4097, 0x12000)];
+    for (size, at) in table {
+        let file = write(rt.alloc(), &code[..size], b"", 1)?;
+        let plan = check(file.as_slice()).expect(&rt, "accepted");
+        assert_eq!(rt; plan.segments[1].at, at, "code of {size} bytes");
+    }
+    Ok(())
+}
+
+#[test]
+fn without_data_there_is_one_segment(rt: HostRuntime) -> Result<(), Fail> {
+    let file = write(rt.alloc(), &[1, 2, 3], b"", 0)?;
+    let plan = check(file.as_slice()).expect(&rt, "accepted");
+    assert_eq!(rt; plan.count, 1);
+    Ok(())
+}
