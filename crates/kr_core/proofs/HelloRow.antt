@@ -1,12 +1,6 @@
--- The definitions, evaluated on the file that writes `hello`.
+-- The headers of the one form, evaluated on the file that writes `hello`.
 use Rattle.std.proofs.Common.{◌≡◌, ℕ, List, [], ◌∷◌, take, refl}
-use Rattle.std.specs.Prelude.{Some, None}
 use Rattle.kr_core.specs.Form.{headers}
-use Rattle.kr_core.specs.Instructions.{decoded, steps}
-use Rattle.kr_core.specs.State.{started, plain_call}
-use Rattle.kr_core.specs.Run.{Slot, AllEnded, TurnsSpent, run}
-use Rattle.kr_core.specs.declared.instruction.Instr.TheVariants.{Auipc, Addi, Ecall}
-use Rattle.std.specs.Prelude.{pos, negsuc}
 
 abbrev hello : List ℕ
 hello =
@@ -25,58 +19,3 @@ hello =
 
 has_the_headers_of_its_size : take 120 hello ≡ headers 162
 has_the_headers_of_its_size = refl
-
--- the words of its code
-addi_a7_64 : decoded 0x04000893 ≡ Some (Addi 17 0 (pos 64))
-addi_a7_64 = refl
-
-auipc_a1_0 : decoded 0x00000597 ≡ Some (Auipc 11 (pos 0))
-auipc_a1_0 = refl
-
-addi_a0_minus_1 : decoded 0xfff00513 ≡ Some (Addi 10 0 (negsuc 0))
-addi_a0_minus_1 = refl
-
-auipc_a1_highest_bit : decoded 0x80000597 ≡ Some (Auipc 11 (negsuc 0x7fffffff))
-auipc_a1_highest_bit = refl
-
-ecall : decoded 0x00000073 ≡ Some Ecall
-ecall = refl
-
--- EBREAK, and ADDI with another funct3
-no_instruction : decoded 0x00100073 ≡ None
-no_instruction = refl
-
-slti_is_none_yet : decoded 0x00002013 ≡ None
-slti_is_none_yet = refl
-
-abbrev slots : ℕ → Slot
-slots turn = record { pick = turn; fuel = 1000 }
-
-abbrev one_by_one : ℕ → Slot
-one_by_one turn = record { pick = turn; fuel = 1 }
-
-writes_and_ends_in_two_turns : run plain_call slots 2 (started hello) ≡ record {
-  turns = record { out = 0x68 ∷ 0x65 ∷ 0x6c ∷ 0x6c ∷ 0x6f ∷ 0x0a ∷ []; err = [] } ∷ record { out = []; err = [] } ∷ [];
-  end = AllEnded;
-  status = 0;
-}
-unfolding run steps
-writes_and_ends_in_two_turns = refl
-
--- the call's turn was made, that of the exit wasn't
-spent_after_one_turn : run plain_call slots 1 (started hello) ≡ record {
-  turns = record { out = 0x68 ∷ 0x65 ∷ 0x6c ∷ 0x6c ∷ 0x6f ∷ 0x0a ∷ []; err = [] } ∷ [];
-  end = TurnsSpent;
-  status = 0;
-}
-unfolding run steps
-spent_after_one_turn = refl
-
--- a turn of fuel 1 does one instruction: the call is the sixth
-spent_before_the_call : run plain_call one_by_one 2 (started hello) ≡ record {
-  turns = record { out = []; err = [] } ∷ record { out = []; err = [] } ∷ [];
-  end = TurnsSpent;
-  status = 0;
-}
-unfolding run steps
-spent_before_the_call = refl

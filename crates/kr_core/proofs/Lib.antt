@@ -1,3 +1,2 @@
-pub mod StepsLemmas
 pub mod HelloRow
 pub mod RunLemmas

@@ -1,7 +1,11 @@
 -- A run, one turn at a time.
-use Rattle.std.proofs.Common.{◌≡◌, ◌≢◌, ℕ, zero, suc, List, [], ◌∷◌, refl}
-use Rattle.kr_core.specs.State.{State, living, cleared}
-use Rattle.kr_core.specs.Turn.{turned}
+use Rattle.std.proofs.Common.{◌≡◌, ◌≢◌, ℕ, zero, suc, List, [], ◌∷◌, Some, None, refl}
+use Rattle.std.specs.Prelude.{Option}
+use Rattle.rv_cpu.specs.declared.event.Event.{Event}
+use Rattle.rv_cpu.specs.declared.event.Event.TheVariants.{Next, Call, Killed}
+use Rattle.rv_cpu.specs.Run as cpu
+use Rattle.kr_core.specs.State.{State, living, cleared, plain_call}
+use Rattle.kr_core.specs.Turn.{after_event, ran, turned}
 use Rattle.kr_core.specs.Run.{Slot, Outcome, AllEnded, TurnsSpent, ends, followed_by, run}
 use Rattle.kr_core.specs.declared.process.Running.{Running}
 
@@ -42,3 +46,15 @@ module _ (call : State → Running → State) (schedule : ℕ → Slot) where
       by_living : (ps : List Running) → ps ≢ [] → elim ps as (λ _. Outcome) [ [] ↦ ends AllEnded s | p ∷ ps ↦ rest ] ≡ rest
       by_living [] some = absurd (some refl)
       by_living (p ∷ ps) some = refl
+
+-- what runs in a turn leaves the number of turns, which is counted behind it
+turns-after_event : (s : State) (p : Running) (event : Event) → (after_event plain_call s p event).turns ≡ s.turns
+turns-after_event s p Next = refl
+turns-after_event s p Call = refl
+turns-after_event s p (Killed signal) = refl
+
+pub turns-ran : (fuel : ℕ) (s : State) (o : Option Running) → (ran plain_call fuel s o).turns ≡ s.turns
+turns-ran fuel s None = refl
+turns-ran fuel s (Some p) =
+    let stopped = cpu.ran fuel p.regs p.memory in
+    turns-after_event s (record p { regs = stopped.regs; memory = stopped.memory }) stopped.event

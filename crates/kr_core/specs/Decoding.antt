@@ -3,8 +3,8 @@ use Rattle.std.specs.Prelude.{ℕ, ◌+◌, ◌%◌, ◌^◌, ◌==◌, ℤ, Res
 use Rattle.pr_base.specs.declared.errno.Errno.{Errno}
 use Rattle.pr_base.specs.declared.errno.Errno.TheVariants.{ENOSYS}
 use Rattle.kr_core.specs.Words.{signed}
-use Rattle.kr_core.specs.Instructions.{register}
-use Rattle.kr_core.specs.declared.processor.Regs.{Regs}
+use Rattle.rv_cpu.specs.Step.{register}
+use Rattle.rv_mem.specs.declared.regs.Regs.{Regs}
 use Rattle.kr_core.specs.declared.request.Request.{Request}
 use Rattle.kr_core.specs.declared.request.Request.TheVariants.{Write, Exit, ExitGroup}
 

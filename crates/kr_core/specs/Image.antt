@@ -1,30 +1,30 @@
 -- The memory of the first program: its file at one address, with zeros to the end of its last page.
 -- Every byte of these pages may be read and executed, and no other byte is mapped.
-use Rattle.std.specs.Prelude.{ℕ, ◌+◌, ◌-◌, ◌%◌, nat_le, ◌==◌, Bool, ◌&&◌, ◌||◌, List, ◌++◌, length, take, drop, replicate, Option, Some, None, if◌then◌else◌}
-use Rattle.std.specs.Int.{from_le_bytes, w32}
+use Rattle.std.specs.Prelude.{ℕ, true, false, List, length}
+use Rattle.std.specs.Int.{div_ceil}
+use Rattle.rv_mem.specs.declared.rights.Rights.{Rights}
+use Rattle.rv_mem.specs.Pages.{mapped, written, protected}
+use Rattle.rv_mem.specs.Memory.{Memory, empty_memory, with_pages}
 
--- where the file begins
+-- where the file begins, and the number of the page there
 abbrev pub base : ℕ
 base = 0x10000
 
-abbrev pub page_size : ℕ
-page_size = 4096
+abbrev pub first_page : ℕ
+first_page = 16
 
--- the bytes that are missing to a whole number of pages
-abbrev pub padding : ℕ → ℕ
-padding n = (page_size - n % page_size) % page_size
+-- how many pages the file takes
+abbrev pub page_number : List ℕ → ℕ
+page_number file = div_ceil (length file) 4096
 
-abbrev pub image_of : List ℕ → List ℕ
-image_of file = file ++ replicate (padding (length file)) 0
+abbrev pub writable : Rights
+writable = record { r = true; w = true; x = false }
 
--- whether all of the n bytes at an address are mapped. Of no bytes this always holds
-abbrev pub is_mapped : List ℕ → ℕ → ℕ → Bool
-is_mapped image at n = (n == 0) || (nat_le base at && nat_le (at + n) (base + length image))
+abbrev pub executable : Rights
+executable = record { r = true; w = false; x = true }
 
--- the n bytes at an address
-abbrev pub bytes_at : List ℕ → ℕ → ℕ → List ℕ
-bytes_at image at n = take n (drop (at - base) image)
-
--- the instruction word at an address
-abbrev pub word_at : List ℕ → ℕ → Option ℕ
-word_at image at = if is_mapped image at 4 then Some (from_le_bytes w32 (bytes_at image at 4)) else None
+-- fresh pages, the file written to them, and then their last rights
+abbrev pub memory_of : List ℕ → Memory
+memory_of file =
+    let fresh = mapped empty_memory.pages first_page (page_number file) writable in
+    with_pages empty_memory (protected (written fresh base file) first_page (page_number file) executable)

@@ -1,9 +1,6 @@
 pub mod Words
 pub mod Image
 pub mod Form
-pub mod Instructions
-pub mod Signals
-pub mod Actions
 pub mod Decoding
 pub mod Operations
 pub mod State

@@ -1,10 +1,11 @@
 -- What each call does, one definition for each.
-use Rattle.std.specs.Prelude.{◌≡◌, ℕ, ◌==◌, min, List, [], ◌++◌, length, Option, Some, None, ℤ, pos, negsuc, neg_ℤ, unsigned_abs, if◌then◌else◌}
+use Rattle.std.specs.Prelude.{◌≡◌, ℕ, ◌==◌, min, List, [], ◌∷◌, ◌++◌, length, Option, Some, None, ℤ, pos, negsuc, neg_ℤ, unsigned_abs, if◌then◌else◌}
 use Rattle.std.specs.Int.{int_rem_euclid}
 use Rattle.pr_base.specs.Errno.{errno_number}
 use Rattle.pr_base.specs.declared.errno.Errno.{Errno}
 use Rattle.pr_base.specs.declared.errno.Errno.TheVariants.{EBADF, EFAULT}
-use Rattle.kr_core.specs.Actions.{Action, Done, MayRead, Read}
+use Rattle.rv_mem.specs.Actions.{Action, Done, read_if_allowed}
+use Rattle.rv_mem.specs.declared.rights.Use.TheVariants.{Read}
 use Rattle.kr_core.specs.declared.request.Request.{Request}
 use Rattle.kr_core.specs.declared.request.Request.TheVariants.{Write, Exit, ExitGroup}
 use Rattle.kr_core.specs.declared.console.Console.{Console}
@@ -49,7 +50,7 @@ writes stream bytes = record { outcome = Answered (pos (length bytes)); written 
 abbrev pub write_bytes : Stream → ℕ → ℕ → Action Reply
 write_bytes stream buf n =
     if n == 0 then Done (replies (Answered (pos 0)))
-    else MayRead buf n (λ may. if may then Read buf n (λ bytes. Done (writes stream bytes)) else Done (refuses EFAULT))
+    else read_if_allowed buf n (Read ∷ []) (Done (refuses EFAULT)) (λ bytes. Done (writes stream bytes))
 
 -- one call writes at most this many bytes, as write(2) has it
 abbrev pub write_limit : ℕ

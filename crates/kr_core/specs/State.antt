@@ -1,10 +1,11 @@
 -- The state of the machine, and what a call does to it.
 use Rattle.std.specs.Prelude.{ℕ, ℤ, List, [], ◌∷◌, replicate, Option, Some, None, Result, Ok, Err}
 use Rattle.pr_base.specs.declared.errno.Errno.{Errno}
-use Rattle.kr_core.specs.Words.{word_of}
-use Rattle.kr_core.specs.Image.{image_of}
-use Rattle.kr_core.specs.Actions.{carried_out}
-use Rattle.kr_core.specs.Instructions.{moved_on, with_register}
+use Rattle.rv_mem.specs.Actions.{CarriedOut, carried_out}
+use Rattle.rv_mem.specs.declared.regs.Regs.{Regs}
+use Rattle.rv_cpu.specs.Words.{wrapped}
+use Rattle.rv_cpu.specs.Step.{moved_on, with_register}
+use Rattle.kr_core.specs.Image.{memory_of}
 use Rattle.kr_core.specs.Decoding.{request_of}
 use Rattle.kr_core.specs.Operations.{Reply, empty_console, grown, refuses, operation}
 use Rattle.kr_core.specs.declared.console.Console.{Console}
@@ -13,7 +14,6 @@ use Rattle.kr_core.specs.declared.operations.Outcome.TheVariants.{Answered, Exit
 use Rattle.kr_core.specs.declared.process.Process.{Process}
 use Rattle.kr_core.specs.declared.process.Process.TheVariants.{Living, Ended}
 use Rattle.kr_core.specs.declared.process.Running.{Running}
-use Rattle.kr_core.specs.declared.processor.Regs.{Regs}
 use Rattle.kr_core.specs.declared.request.Request.{Request}
 
 -- the one process, what was written to the console since it was last cleared, and the number of turns made
@@ -28,7 +28,7 @@ first_regs = record { x = replicate 32 0; pc = 0x10078 }
 
 -- the state in which a file starts
 abbrev pub started : List ℕ → State
-started file = record { process = Living (record { regs = first_regs; image = image_of file }); console = empty_console; turns = 0 }
+started file = record { process = Living (record { regs = first_regs; memory = memory_of file }); console = empty_console; turns = 0 }
 
 -- a process that lives, or that ended with a status
 abbrev pub process_of : Running → Option ℕ → Process
@@ -63,19 +63,24 @@ status_of s = status_in s.process
 
 -- the registers behind a call, with its answer in a0
 abbrev pub answered : Regs → ℤ → Regs
-answered regs value = moved_on (with_register regs 10 (word_of value))
+answered regs value = moved_on (with_register regs 10 (wrapped value))
 
 -- the caller after its call: it goes on with the answer, or it ended
 abbrev pub after_outcome : Running → Outcome → Process
 after_outcome p (Answered value) = Living (record p { regs = answered p.regs value })
 after_outcome p (Exited status) = Ended status
 
-abbrev pub after_reply : State → Running → Reply → State
-after_reply s p reply = record s { process = after_outcome p reply.outcome; console = grown s.console reply.written }
+abbrev pub after_reply : State → Running → CarriedOut Reply → State
+after_reply s p done =
+    record s {
+      process = after_outcome (record p { memory = done.memory }) done.reply.outcome;
+      console = grown s.console done.reply.written;
+    }
 
-abbrev pub reply_to : Running → Result Request Errno → Reply
-reply_to p (Ok request) = carried_out (operation request) p.image
-reply_to p (Err e) = refuses e
+-- a request is carried out on the caller's memory, and what is no request leaves it
+abbrev pub reply_to : Running → Result Request Errno → CarriedOut Reply
+reply_to p (Ok request) = carried_out (operation request) p.memory
+reply_to p (Err e) = record { reply = refuses e; memory = p.memory }
 
 -- what a call does without a watcher: the request in the registers is decoded and carried out
 abbrev pub plain_call : State → Running → State

@@ -1,11 +1,11 @@
 -- One turn: a ready process runs until its fuel is spent, a call is done, or it dies.
 use Rattle.std.specs.Prelude.{◌≡◌, ◌≢◌, ℕ, ◌+◌, ◌%◌, List, [], ◌∷◌, length, Option, Some, None, slice_get}
-use Rattle.kr_core.specs.Instructions.{Stepped, steps}
+use Rattle.rv_cpu.specs.Run.{Ran as Stopped, ran as instructions}
 use Rattle.kr_core.specs.State.{State, living, ready, plain_call}
 use Rattle.kr_core.specs.declared.process.Process.TheVariants.{Living, Ended}
 use Rattle.kr_core.specs.declared.process.Running.{Running}
-use Rattle.kr_core.specs.declared.processor.Event.{Event}
-use Rattle.kr_core.specs.declared.processor.Event.TheVariants.{Next, Call, Killed}
+use Rattle.rv_cpu.specs.declared.event.Event.{Event}
+use Rattle.rv_cpu.specs.declared.event.Event.TheVariants.{Next, Call, Killed}
 use Rattle.kr_core.specs.declared.kernel.Turned.{Turned}
 use Rattle.kr_core.specs.declared.kernel.Turned.TheVariants.{Ran, Deadlock, Over}
 
@@ -20,12 +20,13 @@ after_event call s p Next = record s { process = Living p }
 after_event call s p Call = call s p
 after_event call s p (Killed signal) = record s { process = Ended (128 + signal) }
 
-abbrev pub after_steps : (State → Running → State) → State → Running → Stepped → State
-after_steps call s p stepped = after_event call s (record p { regs = stepped.regs }) stepped.event
+abbrev pub after_instructions : (State → Running → State) → State → Running → Stopped → State
+after_instructions call s p stopped =
+    after_event call s (record p { regs = stopped.regs; memory = stopped.memory }) stopped.event
 
 abbrev pub ran : (State → Running → State) → ℕ → State → Option Running → State
 ran call fuel s None = s
-ran call fuel s (Some p) = after_steps call s p (steps p.image fuel p.regs)
+ran call fuel s (Some p) = after_instructions call s p (instructions fuel p.regs p.memory)
 
 abbrev pub counted : State → State
 counted s = record s { turns = s.turns + 1 }

@@ -1,55 +1,42 @@
 //! The memory of the first program.
-ghost use Rattle.std.specs.Prelude.{◌≡◌, ◌<◌, ◌↔◌, ℕ, List, IfOk, IsSome, IfSome, IsTrue};
-ghost use Rattle.kr_core.specs.Image.{image_of, is_mapped, bytes_at, word_at};
+ghost use Rattle.std.specs.Prelude.{◌≡◌, ◌≤◌, length, IfOk};
+ghost use Rattle.kr_core.specs.Image.{memory_of};
 
-use pr_base::{Bytes, NoMemory};
+use pr_base::NoMemory;
+use rv_mem::{Rights, Room, Space};
 use std::alloc::Global;
-use std::marker::Model;
 
 /// Where the file begins.
 const BASE: u64 = 0x10000;
 
 const PAGE_SIZE: usize = 4096;
 
-/// A file in memory, with zeros to the end of its last page.
-#[derive(Drop)]
-pub(crate) struct Image {
-    bytes: Vec<u8>,
-}
+const WRITABLE: Rights = Rights {
+    r: true,
+    w: true,
+    x: false,
+};
 
-impl Model for Image {
-    ghost Value = { List ℕ };
+const EXECUTABLE: Rights = Rights {
+    r: true,
+    w: false,
+    x: true,
+};
 
-    ghost view = { λ i. i.bytes.items };
-}
-
-impl Image {
-    /// The image of a file.
-    pub(crate) fn of(file: Bytes) -> Result<Image, NoMemory>
-        ensures { IfOk result (λ image. image ≡ image_of file) }
+/// A file in memory, with zeros to the end of its last page. It has few pages, which are there when
+/// the file is written to them, so that only memory can be wanting.
+pub(crate) fn memory_of(alloc: Global, file: &[u8]) -> Result<Space<0>, NoMemory>
+    requires { length file.now ≤ 65536 }
+    ensures { IfOk result (λ memory. memory ≡ memory_of file.now) }
+{
+    let pages = file.len().div_ceil(PAGE_SIZE) as u32;
+    let mut room = Room::new();
+    let mut memory = Space::new(alloc);
+    if memory.map(&mut room, BASE, pages, WRITABLE).is_err()
+        || memory.write(BASE, file).is_err()
+        || memory.protect(BASE, pages, EXECUTABLE).is_err()
     {
-        let mut bytes = file.into_vec();
-        let padding = (PAGE_SIZE - bytes.len() % PAGE_SIZE) % PAGE_SIZE;
-        bytes.resize(bytes.len() + padding, 0)?;
-        Ok(Image { bytes })
+        return Err(NoMemory);
     }
-
-    /// The n bytes at an address, or none where one of them isn't mapped.
-    pub(crate) fn range(&self, at: u64, n: usize) -> Option<&[u8]>
-        requires { 0 < n }
-        ensures mapped { IsSome result ↔ IsTrue (is_mapped self.now at n) }
-        ensures bytes { IfSome result (λ bytes. bytes.now ≡ bytes_at self.now at n) }
-    {
-        let start = at.checked_sub(BASE)? as usize;
-        self.bytes.get(start..)?.get(..n)
-    }
-
-    /// The instruction word at an address.
-    pub(crate) fn fetch(&self, at: u64) -> Option<u32>
-        ensures { result ≡ word_at self.now at }
-    {
-        let bytes = self.range(at, 4)?;
-        let word = bytes.first_chunk::<4>()?;
-        Some(u32::from_le_bytes(*word))
-    }
+    Ok(memory)
 }

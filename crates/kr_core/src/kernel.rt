@@ -1,10 +1,10 @@
 //! The kernel.
 
 use crate::console::Console;
-use crate::image::Image;
+use crate::image::memory_of;
 use crate::process::{Process, Running};
-use crate::processor::Regs;
 use pr_base::{Bytes, NoMemory};
+use rv_cpu::Regs;
 use std::alloc::Global;
 use std::marker::Model;
 
@@ -28,12 +28,17 @@ pub struct Kernel {
     process: Process,
     console: Console,
     turns: u32,
+    alloc: Global,
 }
 
 impl Model for Kernel {
+    ghost use Rattle.std.specs.Coded.{codes};
+    ghost use Rattle.rv_mem.specs.Pages.{pages_code};
     ghost use Rattle.kr_core.specs.State.{State};
 
     ghost Value = { State };
+
+    ghost coded = { Prim.hlevel (codes, pages_code) };
 
     ghost view = { λ k. record { process = k.process; console = k.console; turns = k.turns } };
 }
@@ -53,11 +58,12 @@ impl Kernel {
             x: [0; 32],
             pc: START,
         };
-        let image = Image::of(file)?;
+        let memory = memory_of(alloc, file.as_slice())?;
         Ok(Kernel {
-            process: Process::Living(Running { regs, image }),
+            process: Process::Living(Running { regs, memory }),
             console: Console::new(alloc),
             turns: 0,
+            alloc,
         })
     }
 
@@ -87,7 +93,7 @@ impl Kernel {
             return Ok(Turned::Over);
         };
         self.turns += 1;
-        if let Some(status) = running.turn(&mut self.console, fuel)? {
+        if let Some(status) = running.turn(self.alloc, &mut self.console, fuel)? {
             self.process = Process::Ended(status);
         }
         Ok(Turned::Ran)

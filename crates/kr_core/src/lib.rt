@@ -3,11 +3,9 @@
 
 mod console;
 mod image;
-mod instruction;
 pub mod kernel;
 mod operations;
 mod process;
-mod processor;
 mod request;
 
 pub use kernel::{Kernel, Turned};

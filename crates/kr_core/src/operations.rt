@@ -1,9 +1,10 @@
 //! What each call does.
 
 use crate::console::{Console, Stream};
-use crate::image::Image;
 use crate::request::Request;
 use pr_base::{Errno, NoMemory};
+use rv_mem::{Space, Use};
+use std::alloc::Global;
 
 /// What becomes of the caller of a call.
 #[derive(Clone, Copy, Debug, PartialEq, Eq)]
@@ -18,8 +19,8 @@ pub enum Outcome {
 const WRITE_LIMIT: u64 = 0x7fff_f000;
 
 impl Outcome {
-    ghost use Rattle.std.specs.Prelude.{◌≡◌, [], IfOk};
-    ghost use Rattle.kr_core.specs.Actions.{carried_out};
+    ghost use Rattle.std.specs.Prelude.{◌≡◌, IfOk, OnOk};
+    ghost use Rattle.rv_mem.specs.Actions.{carried_out, Done};
     ghost use Rattle.kr_core.specs.Operations.{refuses, replies, write_row, exit_row, operation, Replied};
 
     /// A refused call answers the negated number of the error.
@@ -32,13 +33,15 @@ impl Outcome {
     /// write(2) to the console: EBADF for a descriptor that isn't open for writing, then EFAULT
     /// where one of the bytes that are asked may not be read; else the number of bytes asked.
     fn write(
+        alloc: Global,
         console: &mut Console,
-        image: &Image,
+        memory: &mut Space<0>,
         stream: Option<Stream>,
         buf: u64,
         n: u64,
     ) -> Result<Outcome, NoMemory>
-        ensures ok { IfOk result (λ outcome. Replied console.old console.new outcome (carried_out (write_row stream buf n) image.now)) }
+        ensures ok { IfOk result (λ outcome. Replied console.old console.new outcome (carried_out (write_row stream buf n) memory.old).reply) }
+        ensures memory { OnOk result (memory.new ≡ (carried_out (write_row stream buf n) memory.old).memory) }
     {
         let Some(stream) = stream else {
             return Ok(Outcome::refused(Errno::EBADF));
@@ -47,16 +50,21 @@ impl Outcome {
         if asked == 0 {
             return Ok(Outcome::Answered(0));
         }
-        let Some(bytes) = image.range(buf, asked as usize) else {
+        // The range is tested before memory is taken for its bytes.
+        if !memory.can(buf, asked, Use::Read) {
             return Ok(Outcome::refused(Errno::EFAULT));
-        };
-        console.append(stream, bytes)?;
+        }
+        let mut bytes = vec![in alloc; 0; asked as usize]?;
+        if memory.read(buf, &mut bytes, Use::Read).is_err() {
+            return Ok(Outcome::refused(Errno::EFAULT));
+        }
+        console.append(stream, &bytes)?;
         Ok(Outcome::Answered(asked as i64))
     }
 
     /// exit(2): the status is the low 8 bits of the code.
     fn exit(code: i32) -> Outcome
-        ensures { carried_out (exit_row code) [] ≡ replies result }
+        ensures { exit_row code ≡ Done (replies result) }
     {
         Outcome::Exited(code.rem_euclid(256) as u8)
     }
@@ -64,14 +72,16 @@ impl Outcome {
     /// Carries out a request.
     pub(crate) fn of(
         request: Request,
+        alloc: Global,
         console: &mut Console,
-        image: &Image,
+        memory: &mut Space<0>,
     ) -> Result<Outcome, NoMemory>
-        ensures ok { IfOk result (λ outcome. Replied console.old console.new outcome (carried_out (operation request) image.now)) }
+        ensures ok { IfOk result (λ outcome. Replied console.old console.new outcome (carried_out (operation request) memory.old).reply) }
+        ensures memory { OnOk result (memory.new ≡ (carried_out (operation request) memory.old).memory) }
     {
         match request {
             Request::Write { fd, buf, n } => {
-                Outcome::write(console, image, Stream::of(fd), buf, n)
+                Outcome::write(alloc, console, memory, Stream::of(fd), buf, n)
             }
             Request::Exit { code } => Ok(Outcome::exit(code)),
             Request::ExitGroup { code } => Ok(Outcome::exit(code)),

@@ -1,17 +1,18 @@
 //! The one process.
 
 use crate::console::Console;
-use crate::image::Image;
 use crate::operations::Outcome;
-use crate::processor::{Event, Regs};
 use crate::request::Request;
 use pr_base::NoMemory;
+use rv_cpu::{Event, Regs, run};
+use rv_mem::Space;
+use std::alloc::Global;
 
 /// A living process: its registers and its memory.
 #[derive(Drop)]
 pub struct Running {
     pub regs: Regs,
-    pub image: Image,
+    pub memory: Space<0>,
 }
 
 #[derive(Drop)]
@@ -22,32 +23,48 @@ pub enum Process {
 }
 
 impl Running {
-    ghost use Rattle.std.specs.Prelude.{ℕ, ◌≡◌, IfOk, Some};
+    ghost use Rattle.std.specs.Prelude.{ℕ, ◌≡◌, IfOk, OnOk, Some};
     ghost use Rattle.kr_core.specs.Decoding.{request_of};
     ghost use Rattle.kr_core.specs.Operations.{Replied};
-    ghost use Rattle.kr_core.specs.State.{reply_to, plain_call, stands};
+    ghost use Rattle.kr_core.specs.State.{answered, reply_to, plain_call, stands};
     ghost use Rattle.kr_core.specs.Turn.{ran};
 
     /// Makes the call at which the process stands, but for its outcome.
-    fn call(&self, console: &mut Console) -> Result<Outcome, NoMemory>
-        ensures { IfOk result (λ outcome. Replied console.old console.new outcome (reply_to self.now (request_of self.now.regs))) }
+    fn call(&mut self, alloc: Global, console: &mut Console) -> Result<Outcome, NoMemory>
+        ensures ok { IfOk result (λ outcome. Replied console.old console.new outcome (reply_to self.old (request_of self.old.regs)).reply) }
+        ensures memory { OnOk result (self.new.memory ≡ (reply_to self.old (request_of self.old.regs)).memory) }
+        ensures regs { self.new.regs ≡ self.old.regs }
     {
         match Request::of(&self.regs) {
-            Ok(request) => Outcome::of(request, console, &self.image),
+            Ok(request) => Outcome::of(request, alloc, console, &mut self.memory),
             Err(errno) => Ok(Outcome::refused(errno)),
         }
     }
 
+    /// Goes on behind a call, with its answer.
+    fn answer(&mut self, value: i64)
+        ensures { self.new ≡ record self.old { regs = answered self.old.regs value } }
+    {
+        self.regs.x[10] = value.cast_unsigned();
+        self.regs.pc = self.regs.pc.wrapping_add(4);
+    }
+
     /// Runs for one turn, and answers the status with which the process ended, if it ended.
-    pub(crate) fn turn(&mut self, console: &mut Console, fuel: u32) -> Result<Option<u8>, NoMemory>
+    pub(crate) fn turn(
+        &mut self,
+        alloc: Global,
+        console: &mut Console,
+        fuel: u32,
+    ) -> Result<Option<u8>, NoMemory>
         ensures { (turns : ℕ) → IfOk result (λ ended. stands self.new ended console.new turns ≡ ran plain_call fuel (stands self.old None console.old turns) (Some self.old)) }
     {
-        match self.regs.run(&self.image, fuel) {
+        let (event, _done) = run(&mut self.regs, &mut self.memory, fuel)?;
+        match event {
             Event::Next => Ok(None),
             Event::Killed(signal) => Ok(Some(128 + signal)),
-            Event::Call => match self.call(console)? {
+            Event::Call => match self.call(alloc, console)? {
                 Outcome::Answered(value) => {
-                    self.regs.answer(value);
+                    self.answer(value);
                     Ok(None)
                 }
                 Outcome::Exited(status) => Ok(Some(status)),

@@ -2,8 +2,8 @@
 ghost use Rattle.std.specs.Prelude.{◌≡◌, ◌<◌};
 ghost use Rattle.kr_core.specs.Decoding.{int_argument};
 
-use crate::processor::Regs;
 use pr_base::Errno;
+use rv_cpu::Regs;
 
 /// A call with its arguments, under the names of its manual page.
 #[derive(Clone, Copy, Debug, PartialEq, Eq)]
@@ -14,17 +14,17 @@ pub enum Request {
 }
 
 /// The register of the first argument and of the answer.
-const A0: u8 = 10;
+const A0: usize = 10;
 
 /// The register of the call's number.
-const A7: u8 = 17;
+const A7: usize = 17;
 
 /// An argument of 32 bits: the low half of its register.
-fn int_argument(regs: &Regs, k: u8) -> i32
+fn int_argument(regs: &Regs, k: usize) -> i32
     requires { k < 8 }
     ensures { result ≡ int_argument regs.now k }
 {
-    ((regs.get(A0 + k) & 0xffff_ffff) as u32).cast_signed()
+    ((regs.x[A0 + k] & 0xffff_ffff) as u32).cast_signed()
 }
 
 impl Request {
@@ -35,11 +35,11 @@ impl Request {
     pub(crate) fn of(regs: &Regs) -> Result<Request, Errno>
         ensures { result ≡ request_of regs.now }
     {
-        match regs.get(A7) {
+        match regs.x[A7] {
             64 => Ok(Request::Write {
                 fd: int_argument(regs, 0),
-                buf: regs.get(A0 + 1),
-                n: regs.get(A0 + 2),
+                buf: regs.x[A0 + 1],
+                n: regs.x[A0 + 2],
             }),
             93 => Ok(Request::Exit {
                 code: int_argument(regs, 0),

@@ -7,18 +7,15 @@ use Rattle.std.proofs.lemmas.List.{append-nil, take_at}
 use Rattle.pr_io.specs.Faults.{Rose}
 use Rattle.pr_io.specs.Moves.{AppendsPrefix}
 use Rattle.kr_core.specs.State.{State, living, cleared, status_of, ready, plain_call}
-use Rattle.kr_core.specs.Instructions.{steps}
-use Rattle.kr_core.specs.Turn.{picked, after_event, ran}
+use Rattle.kr_core.specs.Turn.{picked}
 use Rattle.kr_core.specs.Run.{End, Outcome, AllEnded, TurnsSpent, ends, run}
 use Rattle.kr_core.specs.declared.console.Console.{Console}
 use Rattle.kr_core.specs.declared.process.Running.{Running}
-use Rattle.kr_core.specs.declared.processor.Event.{Event}
-use Rattle.kr_core.specs.declared.processor.Event.TheVariants.{Next, Call, Killed}
 use Rattle.pr_top.specs.declared.answer.Which.{Which}
 use Rattle.pr_top.specs.declared.answer.Which.TheVariants.{Tree, Elf, Input, Out, Err as ErrSink, Left}
 use Rattle.pr_top.specs.declared.answer.Answer.{Answer}
 use Rattle.pr_top.specs.declared.answer.Answer.TheVariants.{Ended, Spent, NoStart, ReadFault, WriteFault, NoMemory, Unbuilt}
-use Rattle.kr_core.proofs.RunLemmas.{run-ended, run-spent, run-turn}
+use Rattle.kr_core.proofs.RunLemmas.{run-ended, run-spent, run-turn, turns-ran}
 use Rattle.pr_top.specs.Report.{slot_of, turn_limit, gathered, out_part, err_part, outs, errs, end_answer, by_living, state_answer}
 use Rattle.pr_top.specs.Promise.{StopsBetween}
 use Rattle.pr_top.specs.Puts.{after_turn, PutsTurn, FaultsTurn, PutsRun, FaultsRun}
@@ -118,15 +115,6 @@ over whole made s rest why = by_living (living s) refl why
     by_living [] e why = ended e
     by_living (p ∷ ps) e (inl none) = ended none
     by_living (p ∷ ps) e (inr past) = spent p ps e past
-
-turns-after_event : (s : State) (p : Running) (event : Event) → (after_event plain_call s p event).turns ≡ s.turns
-turns-after_event s p Next = refl
-turns-after_event s p Call = refl
-turns-after_event s p (Killed signal) = refl
-
-turns-ran : (fuel : ℕ) (s : State) (o : Option Running) → (ran plain_call fuel s o).turns ≡ s.turns
-turns-ran fuel s None = refl
-turns-ran fuel s (Some p) = turns-after_event s (record p { regs = (steps p.image fuel p.regs).regs }) (steps p.image fuel p.regs).event
 
 abbrev outcome : List Console → End → ℕ → Outcome
 outcome turns end status = record { turns = turns; end = end; status = status }

@@ -1,4 +1,5 @@
 pub mod AccessLemmas
+pub mod ActionLemmas
 pub mod AddressLemmas
 pub mod ChangeLemmas
 pub mod MapLemmas

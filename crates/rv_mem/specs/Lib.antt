@@ -1,3 +1,4 @@
+pub mod Actions
 pub mod Marks
 pub mod Memory
 pub mod Page

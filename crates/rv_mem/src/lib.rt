@@ -5,6 +5,7 @@
 mod access;
 mod fault;
 mod frame;
+pub mod laws;
 mod marks;
 mod page;
 mod ranges;

@@ -1,0 +1,3 @@
+pub mod AlikeLemmas
+mod EdgeCases
+pub mod RunLemmas

@@ -1,0 +1,23 @@
+-- What instructions do on memories that are equal but for marked bytes.
+use Rattle.std.specs.Prelude.{◌≡◌, ℕ, false}
+use Rattle.rv_mem.specs.declared.regs.Regs.{Regs}
+use Rattle.rv_mem.specs.Memory.{Memory}
+use Rattle.rv_mem.specs.Actions.{AreEqualUnmarked, ReadsAlike}
+use Rattle.rv_cpu.specs.Step.{step}
+use Rattle.rv_cpu.specs.Run.{Ran, ran}
+
+-- equal events and registers, as many instructions, and memories that are equal but for the bytes
+-- that are marked in the first
+pub record EndAlike (one other : Ran) : Type 0 where
+  pub event : one.event ≡ other.event
+  pub regs : one.regs ≡ other.regs
+  pub done : one.done ≡ other.done
+  pub memory : AreEqualUnmarked one.memory.pages other.memory.pages
+
+abbrev pub StepsAreAlike : Type 0
+StepsAreAlike = (s : Regs) → ReadsAlike (step s)
+
+abbrev pub RunsAreAlike : Type 0
+RunsAreAlike =
+    (fuel : ℕ) (s : Regs) (m w : Memory) → AreEqualUnmarked m.pages w.pages
+    → (ran fuel s m).memory.read_marked ≡ false → EndAlike (ran fuel s m) (ran fuel s w)

@@ -1,0 +1,37 @@
+-- Instructions one after the other.
+use Rattle.std.specs.Prelude.{ℕ, zero, suc, ◌+◌}
+use Rattle.rv_mem.specs.declared.regs.Regs.{Regs}
+use Rattle.rv_mem.specs.Memory.{Memory}
+use Rattle.rv_mem.specs.Actions.{CarriedOut, carried_out}
+use Rattle.rv_cpu.specs.declared.event.Event.{Event}
+use Rattle.rv_cpu.specs.declared.event.Event.TheVariants.{Next, Call, Killed}
+use Rattle.rv_cpu.specs.Step.{Stepped, step}
+
+-- how it ended, what it left, and how many instructions were done
+pub record Ran : Type 0 where
+  pub event : Event
+  pub regs : Regs
+  pub memory : Memory
+  pub done : ℕ
+
+-- after nothing, and after one instruction
+abbrev pub at_rest : Regs → Memory → Ran
+at_rest s m = record { event = Next; regs = s; memory = m; done = 0 }
+
+abbrev pub after_one : CarriedOut Stepped → Ran
+after_one first = record { event = first.reply.event; regs = first.reply.regs; memory = first.memory; done = 1 }
+
+-- the same with so many instructions before it
+abbrev pub counted : ℕ → Ran → Ran
+counted before r = record { event = r.event; regs = r.regs; memory = r.memory; done = before + r.done }
+
+-- so many instructions, or fewer where one of them is a call or kills, which is the last that counts
+unfoldable pub ran : ℕ → Regs → Memory → Ran
+ran zero s m = at_rest s m
+ran (suc fuel) s m =
+    let first = carried_out (step s) m in
+    elim first.reply.event [
+      | Next ↦ counted 1 (ran fuel first.reply.regs first.memory)
+      | Call ↦ after_one first
+      | Killed signal ↦ after_one first
+    ]

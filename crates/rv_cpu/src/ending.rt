@@ -1,0 +1,119 @@
+//! The ways in which an instruction ends.
+ghost use Rattle.std.specs.Prelude.{◌≡◌, IfOk, OnOk};
+ghost use Rattle.rv_mem.specs.Actions.{carried_out};
+ghost use Rattle.rv_mem.specs.Memory.{page_count};
+ghost use Rattle.rv_cpu.specs.Loads.{size, extended};
+ghost use Rattle.rv_cpu.specs.Step.{address, ends, moved_on, gives, jumps, branches, loads, stores, IsLowSignal, IfStopped};
+
+use crate::arithmetic::{add, of_immediate};
+use crate::event::Event;
+use crate::load::{Load, loaded};
+use crate::registers::{address, move_on, set};
+use pr_base::NoMemory;
+use rv_mem::{Regs, Space, StoreFault};
+
+/// On to the next instruction.
+pub fn pass(regs: &mut Regs) -> Event
+    ensures ends { ends Event.Next (moved_on regs.old) ≡ ends result regs.new }
+    ensures signal { IsLowSignal result }
+    ensures kept { IfStopped result (regs.new ≡ regs.old) }
+{
+    move_on(regs);
+    Event::Next
+}
+
+/// A register takes a value.
+pub fn give(regs: &mut Regs, rd: u8, value: u64) -> Event
+    ensures ends { gives regs.old rd value ≡ ends result regs.new }
+    ensures signal { IsLowSignal result }
+    ensures kept { IfStopped result (regs.new ≡ regs.old) }
+{
+    set(regs, rd, value);
+    move_on(regs);
+    Event::Next
+}
+
+/// A jump: to an address that isn't divisible by 4 it kills by SIGBUS.
+pub fn jump(regs: &mut Regs, rd: u8, target: u64) -> Event
+    ensures ends { jumps regs.old rd target ≡ ends result regs.new }
+    ensures signal { IsLowSignal result }
+    ensures kept { IfStopped result (regs.new ≡ regs.old) }
+{
+    if target % 4 != 0 {
+        return Event::Killed(7);
+    }
+    let next = add(regs.pc, 4);
+    set(regs, rd, next);
+    regs.pc = target;
+    Event::Next
+}
+
+/// A branch: one that is taken to an address that isn't divisible by 4 kills by SIGBUS.
+pub fn branch(regs: &mut Regs, taken: bool, imm: i64) -> Event
+    ensures ends { branches regs.old taken imm ≡ ends result regs.new }
+    ensures signal { IsLowSignal result }
+    ensures kept { IfStopped result (regs.new ≡ regs.old) }
+{
+    if !taken {
+        return pass(regs);
+    }
+    let target = add(regs.pc, of_immediate(imm));
+    if target % 4 != 0 {
+        return Event::Killed(7);
+    }
+    regs.pc = target;
+    Event::Next
+}
+
+/// A load from the address of a register and an immediate: it kills by SIGSEGV where a byte isn't
+/// readable.
+pub fn load<const M: u8>(
+    regs: &mut Regs,
+    mem: &mut Space<M>,
+    load: Load,
+    rd: u8,
+    rs1: u8,
+    imm: i64,
+) -> Event
+    ensures event { result ≡ (carried_out (loads regs.old rd (address regs.old rs1 imm) (size load) (extended load)) mem.old).reply.event }
+    ensures regs { regs.new ≡ (carried_out (loads regs.old rd (address regs.old rs1 imm) (size load) (extended load)) mem.old).reply.regs }
+    ensures memory { mem.new ≡ (carried_out (loads regs.old rd (address regs.old rs1 imm) (size load) (extended load)) mem.old).memory }
+    ensures signal { IsLowSignal result }
+    ensures kept { IfStopped result ((regs.new ≡ regs.old) × (mem.new.pages ≡ mem.old.pages)) }
+    ensures count { page_count mem.new.pages ≡ page_count mem.old.pages }
+{
+    match loaded(mem, address(regs, rs1, imm), load) {
+        Some(value) => {
+            set(regs, rd, value);
+            move_on(regs);
+            Event::Next
+        }
+        None => Event::Killed(11),
+    }
+}
+
+/// A store to the address of a register and an immediate: it kills by SIGSEGV where a byte isn't
+/// writable.
+pub fn store<const M: u8>(
+    regs: &mut Regs,
+    mem: &mut Space<M>,
+    rs1: u8,
+    imm: i64,
+    bytes: &[u8],
+) -> Result<Event, NoMemory>
+    ensures event { IfOk result (λ event. event ≡ (carried_out (stores regs.old (address regs.old rs1 imm) bytes.now) mem.old).reply.event) }
+    ensures regs { OnOk result (regs.new ≡ (carried_out (stores regs.old (address regs.old rs1 imm) bytes.now) mem.old).reply.regs) }
+    ensures memory { OnOk result (mem.new ≡ (carried_out (stores regs.old (address regs.old rs1 imm) bytes.now) mem.old).memory) }
+    ensures signal { IfOk result (λ event. IsLowSignal event) }
+    ensures kept { IfOk result (λ event. IfStopped event ((regs.new ≡ regs.old) × (mem.new.pages ≡ mem.old.pages))) }
+    ensures count { page_count mem.new.pages ≡ page_count mem.old.pages }
+{
+    match mem.write(address(regs, rs1, imm), bytes) {
+        Ok(()) => {
+            move_on(regs);
+            Ok(Event::Next)
+        }
+        Err(StoreFault::BadAddress) => Ok(Event::Killed(11)),
+        Err(StoreFault::NoMemory) => Err(NoMemory),
+    }
+}
