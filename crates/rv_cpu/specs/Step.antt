@@ -82,16 +82,18 @@ abbrev pub loads : Regs → ℕ → ℕ → ℕ → (ℕ → ℕ) → Action Ste
 loads s rd at n extend =
     read_if_allowed at n (Read ∷ []) (kills 11 s) (λ bytes. gives s rd (extend (little_endian bytes)))
 
--- a store writes the n lowest bytes of a register, the lowest of them first. Where one of them isn't
--- writable it kills by SIGSEGV
+-- the n lowest bytes of a register, the lowest of them first
 abbrev pub lowest_bytes : ℕ → ℕ → List ℕ
 lowest_bytes n value = bytes_low_first 0 n value
 
+-- a store writes bytes. Where one of them isn't writable it kills by SIGSEGV, and none is written
 abbrev pub stores : Regs → ℕ → List ℕ → Action Stepped
 stores s at bytes = write_if_allowed at bytes (kills 11 s) (ends Next (moved_on s))
 
 -- ---- the instructions
 
+-- what each does to registers and memory. An immediate counts as the word that it stands for; JALR clears
+-- bit 0 of its target, FENCE does nothing, and EBREAK kills by SIGTRAP
 abbrev pub executed : Regs → Instr → Action Stepped
 executed s (Lb rd rs1 imm) = loads s rd (address s rs1 imm) 1 sign_extended_byte
 executed s (Lh rd rs1 imm) = loads s rd (address s rs1 imm) 2 sign_extended_half
