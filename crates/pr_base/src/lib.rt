@@ -5,12 +5,14 @@ pub mod bytes;
 pub mod errno;
 pub mod fields;
 pub mod memory;
+pub mod texts;
 pub mod word;
 
 pub use bytes::Bytes;
 pub use errno::Errno;
 pub use fields::{field_u16, field_u32, field_u64};
 pub use memory::NoMemory;
+pub use texts::Texts;
 pub use word::bits;
 
 #[cfg(test)]
