@@ -1,2 +1,5 @@
 pub mod Errno
 pub mod Fields
+pub mod Parts
+pub mod Paths
+pub mod Pieces

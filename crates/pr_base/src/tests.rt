@@ -1,4 +1,4 @@
-use crate::{Bytes, Errno};
+use crate::{Bytes, Errno, Last, Texts, components};
 use std::test::Fail;
 
 #[test]
@@ -32,4 +32,37 @@ fn errors_have_the_numbers_of_linux(rt: HostRuntime) {
     for (errno, number) in table {
         assert_eq!(rt; errno.number(), number);
     }
+}
+
+#[test]
+fn texts_are_kept_in_order(rt: HostRuntime) -> Result<(), Fail> {
+    let mut texts = Texts::new(rt.alloc());
+    assert!(rt; texts.is_empty());
+    texts.push(Bytes::copy(rt.alloc(), b"one")?)?;
+    texts.push(Bytes::new(rt.alloc()))?;
+    assert_eq!(rt; texts.len(), 2);
+    assert_eq!(rt; texts.at(0), Some(b"one".as_slice()));
+    assert_eq!(rt; texts.at(1), Some(b"".as_slice()));
+    assert_eq!(rt; texts.at(2), None);
+    let list = texts.into_vec();
+    assert_eq!(rt; Texts::from(list).len(), 2);
+    Ok(())
+}
+
+#[test]
+fn a_path_is_parted_at_its_slashes(rt: HostRuntime) {
+    let path = components(b"/a//./b/");
+    assert!(rt; path.absolute());
+    assert!(rt; path.slash());
+    assert_eq!(rt; path.last(), Last::Name);
+    let mut left = path.into_iter();
+    assert_eq!(rt; left.next(), Some(b"a".as_slice()));
+    assert_eq!(rt; left.next(), Some(b".".as_slice()));
+    assert_eq!(rt; left.rest(), b"/b/".as_slice());
+    assert_eq!(rt; left.next(), Some(b"b".as_slice()));
+    assert_eq!(rt; left.next(), None);
+    assert_eq!(rt; components(b"/").last(), Last::Root);
+    assert!(rt; !components(b"/").slash());
+    assert_eq!(rt; components(b"a/..").last(), Last::DotDot);
+    assert_eq!(rt; components(b"").into_iter().next(), None);
 }

@@ -1,0 +1,100 @@
+-- Paths, as path_resolution(7) reads them: bytes between slashes, and what each component is. Texts of names.
+use Rattle.std.specs.Prelude.{◌≡◌, ◌≢◌, ℕ, ◌==◌, ◌≤◌, Bool, true, false, List, [], ◌∷◌, ◌++◌, ◌-◌, length, map, reverse, slice_index}
+use Rattle.std.specs.Bool.{if◌then◌else◌}
+use Rattle.std.specs.List.{All, slice_split}
+use Rattle.std.specs.Str.{bytes_eq}
+use Rattle.pr_base.specs.declared.path.Last.{Last}
+use Rattle.pr_base.specs.declared.path.Last.TheVariants as last
+
+abbrev pub slash : ℕ
+slash = 47
+
+abbrev pub is_slash : ℕ → Bool
+is_slash b = b == slash
+
+abbrev pub dot : List ℕ
+dot = 46 ∷ []
+
+abbrev pub dot_dot : List ℕ
+dot_dot = 46 ∷ 46 ∷ []
+
+-- the pieces that aren't empty
+abbrev pub not_empty : List (List ℕ) → List (List ℕ)
+not_empty [] = []
+not_empty ([] ∷ pieces) = not_empty pieces
+not_empty ((b ∷ piece) ∷ pieces) = (b ∷ piece) ∷ not_empty pieces
+
+-- the components of a path as bytes: what stands between slashes, where there is anything
+abbrev pub parts_of : List ℕ → List (List ℕ)
+parts_of path = not_empty (slice_split is_slash path)
+
+-- a component: the directory itself, the one above, or a name
+pub data Component : Type 0 where
+  Dot : Component
+  DotDot : Component
+  Name : List ℕ → Component
+
+abbrev pub component_of : List ℕ → Component
+component_of part = if bytes_eq part dot then Dot else if bytes_eq part dot_dot then DotDot else Name part
+
+-- the components of a path
+abbrev pub components_of : List ℕ → List Component
+components_of path = map component_of (parts_of path)
+
+-- a path from the root
+abbrev pub is_absolute : List ℕ → Bool
+is_absolute [] = false
+is_absolute (b ∷ _) = is_slash b
+
+abbrev pub kind_of : Component → Last
+kind_of Dot = last.Dot
+kind_of DotDot = last.DotDot
+kind_of (Name _) = last.Name
+
+-- what a path ends with: the kind of its last component, or the root where it has none
+abbrev pub last_of : List Component → Last
+last_of [] = last.Root
+last_of (c ∷ []) = kind_of c
+last_of (c ∷ d ∷ cs) = last_of (d ∷ cs)
+
+abbrev pub last_kind : List ℕ → Last
+last_kind path = last_of (components_of path)
+
+abbrev pub has_parts : List (List ℕ) → Bool
+has_parts [] = false
+has_parts (_ ∷ _) = true
+
+-- whether the last byte is a slash
+abbrev pub ends_in_slash : List ℕ → Bool
+ends_in_slash path = is_slash (slice_index path (length path - 1))
+
+-- a component with a slash behind the last one
+abbrev pub has_slash : List ℕ → Bool
+has_slash path = if has_parts (parts_of path) then ends_in_slash path else false
+
+-- a well-formed name of an entry
+pub record IsName (name : List ℕ) : Type 0 where
+  pub some : name ≢ []
+  pub short : length name ≤ 255
+  pub no_slash : All (λ b. b ≢ slash) name
+  pub no_zero : All (λ b. b ≢ 0) name
+  pub not_dot : name ≢ dot
+  pub not_dot_dot : name ≢ dot_dot
+
+-- a text is a list of names, deepest first; the root is the empty list
+abbrev pub AreNames : List (List ℕ) → Type 0
+AreNames names = All IsName names
+
+-- the bytes of a text below the root
+abbrev pub below_root : List (List ℕ) → List ℕ
+below_root [] = []
+below_root (name ∷ names) = below_root names ++ slash ∷ name
+
+-- the bytes of a text
+abbrev pub text_of : List (List ℕ) → List ℕ
+text_of [] = slash ∷ []
+text_of (name ∷ names) = below_root (name ∷ names)
+
+-- the components of the bytes of a text are its names
+abbrev pub TextsHaveTheirNames : Type 0
+TextsHaveTheirNames = (names : List (List ℕ)) → AreNames names → components_of (text_of names) ≡ map Name (reverse names)
