@@ -63,6 +63,17 @@ HasNoPages m from to = (k : ℕ) → from ≤ k → k < to → map.get m k ≡ N
 abbrev pub HasPagesAt : Pages → ℕ → ℕ → Type 0
 HasPagesAt m at n = (k : ℕ) → k < n → map.contains_key m ((at + k) / 4096) ≡ true
 
+-- a read into these bytes was refused: one of them isn't allowed, and they are as before
+pub record IsRefused (m : Pages) (at : ℕ) (what : Use) (old new : List ℕ) : Type 0 where
+  pub refused : allows_all m at (length old) what ≡ false
+  pub kept : new ≡ old
+
+-- a read into these bytes: all of them are allowed, and it tells whether one of them is marked
+pub record IsRead (m : Pages) (at : ℕ) (what : Use) (old new : List ℕ) (marks : Bool) : Type 0 where
+  pub allowed : allows_all m at (length old) what ≡ true
+  pub bytes : new ≡ bytes_from m at (length old)
+  pub marked : marks ≡ any_marked m at (length old)
+
 -- none of n bytes from an address on is zero
 abbrev pub HasNoZero : Pages → ℕ → ℕ → Type 0
 HasNoZero m at n = (k : ℕ) → k < n → nat_eq (byte_at m (at + k)) 0 ≡ false

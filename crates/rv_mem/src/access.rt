@@ -1,5 +1,5 @@
 //! Bytes read and written over several pages.
-ghost use Rattle.std.specs.Prelude.{◌≡◌, ◌≢◌, ℕ, ◌+◌, ◌-◌, ◌/◌, ◌^◌, ◌<◌, ◌≤◌, length, true};
+ghost use Rattle.std.specs.Prelude.{◌≡◌, ◌↔◌, ◌+◌, ◌%◌, ◌^◌, ◌<◌, ◌≤◌, length, false, IsTrue, MatchOption};
 ghost use Rattle.std.specs.FinMap as map;
 
 use crate::frame::PAGE_BYTES;
@@ -7,7 +7,7 @@ use crate::rights::Use;
 use crate::table::Table;
 
 impl<const MARKED: u8> Table<MARKED> {
-    ghost use Rattle.rv_mem.specs.Pages.{allows_all, any_marked, bytes_from, written, HasPagesAt, IsPlaced};
+    ghost use Rattle.rv_mem.specs.Pages.{allows_all, any_marked, bytes_from, written, HasPagesAt, IsPlaced, IsRefused, IsRead};
 
     /// Whether each of `count` bytes from an address on is there and allows a use. A range that
     /// passes the last address has a byte that isn't there.
@@ -62,4 +62,35 @@ impl<const MARKED: u8> Table<MARKED> {
             done += count;
         }
     }
+
+    /// Copies bytes if each of them allows a use, and tells whether one of them is marked.
+    pub fn read_allowed(&self, at: u64, into: &mut [u8], what: Use) -> Option<bool>
+        requires placed { IsPlaced self.now }
+        ensures { MatchOption result (IsRefused self.now at what into.old into.new) (λ marked. IsRead self.now at what into.old into.new marked) }
+    {
+        if lie_in_a_page(at, into.len()) {
+            self.read_in_page(at, into, what)
+        } else {
+            self.read_over_pages(at, into, what)
+        }
+    }
+
+    /// The same for bytes that may lie in several pages.
+    fn read_over_pages(&self, at: u64, into: &mut [u8], what: Use) -> Option<bool>
+        requires placed { IsPlaced self.now }
+        ensures { MatchOption result (IsRefused self.now at what into.old into.new) (λ marked. IsRead self.now at what into.old into.new marked) }
+    {
+        if !self.allows_all(at, into.len() as u64, what) {
+            return None;
+        }
+        let marked = self.read_all(at, into);
+        Some(marked)
+    }
+}
+
+/// Whether so many bytes from an address on are some, and lie in one page: then one look-up is enough.
+fn lie_in_a_page(at: u64, count: usize) -> bool
+    ensures { IsTrue result ↔ ((0 < count) × (at % 4096 + count ≤ 4096)) }
+{
+    count > 0 && count as u64 <= PAGE_BYTES - at % PAGE_BYTES
 }

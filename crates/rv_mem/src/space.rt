@@ -91,12 +91,13 @@ impl<const MARKED: u8> Space<MARKED> {
         ensures err { OnErr result (self.new ≡ self.old) }
         ensures err_bytes { OnErr result (into.new ≡ into.old) }
     {
-        if !self.can(at, into.len() as u64, what) {
-            return Err(BadAddress);
+        match self.pages.read_allowed(at, into, what) {
+            Some(marked) => {
+                self.read_marked |= marked;
+                Ok(())
+            }
+            None => Err(BadAddress),
         }
-        let marked = self.pages.read_all(at, into);
-        self.read_marked |= marked;
-        Ok(())
     }
 
     /// Writes bytes, all or none of them, which clears their marks.

@@ -1,5 +1,5 @@
 //! The pages of a memory by their numbers.
-ghost use Rattle.std.specs.Prelude.{◌≡◌, ℕ, ◌+◌, ◌-◌, ◌*◌, ◌/◌, ◌%◌, ◌<◌, ◌≤◌, length, IfOk, OnOk, OnErr, IsTrue, IfNone, IfSome, ◌≢◌, nat_eq, true};
+ghost use Rattle.std.specs.Prelude.{◌≡◌, ℕ, ◌+◌, ◌-◌, ◌*◌, ◌/◌, ◌%◌, ◌<◌, ◌≤◌, length, IfOk, OnOk, OnErr, IsTrue, IfNone, IfSome, MatchOption, ◌≢◌, nat_eq, true, false};
 ghost use Rattle.std.specs.FinMap as map;
 
 use crate::frame::PAGE_BYTES;
@@ -30,7 +30,7 @@ impl<const MARKED: u8> Model for Table<MARKED> {
 
 impl<const MARKED: u8> Table<MARKED> {
     ghost use Rattle.rv_mem.specs.Page.{fresh_page, page_with_rights};
-    ghost use Rattle.rv_mem.specs.Pages.{with_page, page_allows, written, marked, bytes_from, any_marked, byte_at, HasNoPages, HasNoZero};
+    ghost use Rattle.rv_mem.specs.Pages.{with_page, page_allows, written, marked, bytes_from, any_marked, allows_all, byte_at, HasNoPages, HasNoZero, IsRefused, IsRead};
 
     /// No pages.
     pub fn new(alloc: Global) -> Table<MARKED>
@@ -139,6 +139,25 @@ impl<const MARKED: u8> Table<MARKED> {
         let offset = (at % PAGE_BYTES) as usize;
         page.copy_to(offset, into);
         page.any_marked(offset, into.len())
+    }
+
+    /// Copies bytes that lie inside one page if it is there and allows a use, and tells whether one of them is
+    /// marked.
+    pub fn read_in_page(&self, at: u64, into: &mut [u8], what: Use) -> Option<bool>
+        requires some { 0 < length into.old }
+        requires within { at % 4096 + length into.old ≤ 4096 }
+        ensures { MatchOption result (IsRefused self.now at what into.old into.new) (λ marked. IsRead self.now at what into.old into.new marked) }
+    {
+        let Some(page) = self.pages.get(&(at / PAGE_BYTES)) else {
+            return None;
+        };
+        if !page.grants(what) {
+            return None;
+        }
+        let offset = (at % PAGE_BYTES) as usize;
+        page.copy_to(offset, into);
+        let marked = page.any_marked(offset, into.len());
+        Some(marked)
     }
 
     /// Whether one of the `count` bytes from an address on, which lie inside one page that is there,
