@@ -1,0 +1,18 @@
+use Rattle.std.proofs.Common.{◌≡◌, ◌∙◌, ◌+◌, ◌-◌, ◌≤◌, ◌++◌, ℕ, List, length, take, drop, sym, ap, append_assoc, arith}
+use Rattle.std.proofs.Math.Seq.{sets, sets-eq}
+use Rattle.std.proofs.lemmas.List.{drop-drop}
+use Rattle.kr_calls.proofs.stat.lay.Goals as goal
+
+-- bytes put in the middle of others
+put_over : (old field new : List ℕ) (at k : ℕ) → new ≡ field → k ≡ length field → at + length field ≤ length old → take at old ++ (new ++ drop k (drop at old)) ≡ sets old at field
+put_over old field new at k is count within =
+    let behind : at + k ≡ at + length field = omega arith in
+    ap (λ f. take at old ++ (f ++ drop k (drop at old))) is
+    ∙ ap (λ r. take at old ++ (field ++ r)) (drop-drop k at old ∙ ap (λ n. drop n old) behind)
+    ∙ sym (append_assoc (take at old) field (drop (at + length field) old))
+    ∙ sym (sets-eq field old at within)
+
+pub returns : goal.returns
+returns c =
+    let count : c.args.at + length c.args.field.now - c.args.at ≡ length c.args.field.now = omega arith in
+    put_over c.args.bytes.now c.args.field.now c.copy_from_slice.new.self c.args.at _ c.copy_from_slice.ensures.after count c.requires

@@ -1,0 +1,53 @@
+//! The request in the registers and the memory of a process.
+ghost use Rattle.kr_calls.specs.Decodes.{Decodes};
+ghost use Rattle.kr_calls.specs.Decoding.{decoding};
+
+use crate::arguments::A7;
+use crate::fault::CallFault;
+use crate::request::Request;
+use crate::rows::{descriptors, files, memory, processes};
+use pr_base::Errno;
+use rv_mem::{Regs, Space};
+
+/// The request of a call, or the error that its decoding answers: ENOSYS for what isn't the number of a call, then
+/// what its row says. Bytes, rights and marks of the memory stay; the bytes of texts count as read.
+pub fn decode<const M: u8>(regs: &Regs, mem: &mut Space<M>) -> Result<Request, CallFault>
+    ensures { Decodes result (decoding regs.now) mem.old mem.new }
+{
+    match regs.x[A7] {
+        23 => Ok(descriptors::dup(regs)),
+        24 => Ok(descriptors::dup3(regs)?),
+        25 => Ok(descriptors::fcntl(regs)),
+        29 => Ok(descriptors::ioctl(regs)),
+        46 => Ok(files::ftruncate(regs)?),
+        48 => files::faccessat(regs, mem),
+        56 => files::openat(regs, mem),
+        57 => Ok(descriptors::close(regs)),
+        59 => Ok(descriptors::pipe2(regs)?),
+        61 => Ok(files::getdents64(regs)),
+        62 => Ok(files::lseek(regs)),
+        63 => Ok(files::read(regs)),
+        64 => Ok(files::write(regs)),
+        65 => Ok(files::readv(regs)),
+        66 => Ok(files::writev(regs)),
+        78 => files::readlinkat(regs, mem),
+        79 => files::newfstatat(regs, mem),
+        80 => Ok(files::fstat(regs)),
+        93 => Ok(processes::exit(regs)),
+        94 => Ok(processes::exit_group(regs)),
+        96 => Ok(Request::SetTidAddress),
+        134 => Ok(Request::RtSigaction),
+        135 => Ok(Request::RtSigprocmask),
+        160 => Ok(processes::uname(regs)),
+        172 => Ok(Request::Getpid),
+        173 => Ok(Request::Getppid),
+        178 => Ok(Request::Gettid),
+        214 => Ok(memory::brk(regs)),
+        215 => Ok(memory::munmap(regs)?),
+        220 => Ok(processes::clone(regs)),
+        222 => Ok(memory::mmap(regs)?),
+        226 => Ok(memory::mprotect(regs)?),
+        260 => Ok(processes::wait4(regs)?),
+        _ => Err(CallFault::Err(Errno::ENOSYS)),
+    }
+}

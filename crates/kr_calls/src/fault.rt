@@ -1,0 +1,38 @@
+//! Why no request was read.
+
+use pr_base::{Errno, NoMemory};
+use rv_mem::TextFault;
+
+/// Why a call was not decoded.
+#[derive(Clone, Copy, Debug, PartialEq, Eq)]
+pub enum CallFault {
+    /// The call answers this error.
+    Err(Errno),
+    NoMemory,
+}
+
+impl From<TextFault> for CallFault {
+    ghost use Rattle.std.specs.Prelude.{◌≡◌};
+    ghost use Rattle.kr_calls.specs.Decodes.{fault_of};
+
+    ghost from_gives = { λ fault call. call ≡ fault_of fault };
+
+    fn from(fault: TextFault) -> CallFault {
+        match fault {
+            TextFault::BadAddress => CallFault::Err(Errno::EFAULT),
+            TextFault::TooLong => CallFault::Err(Errno::ENAMETOOLONG),
+            TextFault::NoMemory => CallFault::NoMemory,
+        }
+    }
+}
+
+impl From<Errno> for CallFault {
+    ghost use Rattle.std.specs.Prelude.{◌≡◌};
+    ghost use Rattle.kr_calls.specs.declared.fault.CallFault.TheVariants.{Err as Answers};
+
+    ghost from_gives = { λ errno call. call ≡ Answers errno };
+
+    fn from(errno: Errno) -> CallFault {
+        CallFault::Err(errno)
+    }
+}

@@ -1,0 +1,74 @@
+//! The table of the calls with paths.
+ghost use Rattle.std.specs.Prelude.{◌≡◌, option_map};
+ghost use Rattle.kr_calls.specs.Arguments.{has};
+ghost use Rattle.kr_calls.specs.PathTable.{look_mode, open_mode, path_at, path_use};
+
+use crate::arguments::has;
+use crate::request::Request;
+use bitflags::Flags;
+use pr_base::{AtFlags, OpenFlags, WalkMode};
+
+/// A path of a call.
+#[derive(Clone, Copy, Debug)]
+pub struct PathArg<'a> {
+    /// The descriptor from whose directory a relative path is taken.
+    pub dirfd: i32,
+    pub text: &'a [u8],
+    pub mode: WalkMode,
+    /// The number of the register that holds the address of the text.
+    pub register: u8,
+}
+
+/// Path `k` of a request, counted from 0; `None` exactly where it has no more than `k`.
+pub fn path_of(r: &Request, k: u8) -> Option<PathArg<'_>>
+    ensures { option_map path_use result ≡ path_at r.now k }
+{
+    macro_rules! path_table {
+        ($($call:ident $number:literal $dirfd:ident $text:ident [$($flags:ident)?] $mode:expr, $register:literal;)*) => {
+            match r {
+                $(Request::$call { $dirfd, $text, $($flags,)? .. } if k == $number => Some(PathArg {
+                    dirfd: *$dirfd,
+                    text: $text.as_slice(),
+                    mode: $mode,
+                    register: $register,
+                }),)*
+                _ => None,
+            }
+        };
+    }
+    path_table! {
+        Faccessat 0 dirfd path [] WalkMode::Look, 11;
+        Openat 0 dirfd path [flags] open_mode(*flags), 11;
+        Readlinkat 0 dirfd path [] WalkMode::LookLink, 11;
+        Newfstatat 0 dirfd path [flags] look_mode(*flags), 11;
+    }
+}
+
+/// What the walk of newfstatat(2) is for.
+fn look_mode(flags: u32) -> WalkMode
+    ensures { result ≡ look_mode flags }
+{
+    if has(flags, AtFlags::SYMLINK_NOFOLLOW.bits()) {
+        WalkMode::LookLink
+    } else {
+        WalkMode::Look
+    }
+}
+
+/// What the walk of openat(2) is for.
+fn open_mode(flags: u32) -> WalkMode
+    ensures { result ≡ open_mode flags }
+{
+    let keeps_link = has(flags, OpenFlags::NOFOLLOW.bits());
+    if has(flags, OpenFlags::CREAT.bits()) {
+        if has(flags, OpenFlags::EXCL.bits()) || keeps_link {
+            WalkMode::Name
+        } else {
+            WalkMode::Open
+        }
+    } else if keeps_link {
+        WalkMode::LookLink
+    } else {
+        WalkMode::Look
+    }
+}

@@ -1,0 +1,140 @@
+//! The calls of a guest.
+
+use pr_base::Bytes;
+
+/// A call with its arguments, under the names of its manual page in section 2. Numbers of descriptors and
+/// processes, modes and flags have 32 bits; addresses, lengths and the flags of `clone` and `mmap` have 64.
+#[derive(Debug, Drop)]
+pub enum Request {
+    Dup {
+        fd: i32,
+    },
+    Dup3 {
+        old: i32,
+        new: i32,
+        flags: u32,
+    },
+    Fcntl {
+        fd: i32,
+        cmd: i32,
+        arg: u64,
+    },
+    Ioctl {
+        fd: i32,
+    },
+    /// `len` is read with its sign.
+    Ftruncate {
+        fd: i32,
+        len: u64,
+    },
+    Faccessat {
+        dirfd: i32,
+        path: Bytes,
+        mode: u32,
+    },
+    /// The flags are those that were given, unknown ones among them.
+    Openat {
+        dirfd: i32,
+        path: Bytes,
+        flags: u32,
+        mode: u32,
+    },
+    Close {
+        fd: i32,
+    },
+    Pipe2 {
+        buf: u64,
+        flags: u32,
+    },
+    Getdents64 {
+        fd: i32,
+        buf: u64,
+        n: i32,
+    },
+    Lseek {
+        fd: i32,
+        off: i64,
+        whence: i32,
+    },
+    Read {
+        fd: i32,
+        buf: u64,
+        n: u64,
+    },
+    Write {
+        fd: i32,
+        buf: u64,
+        n: u64,
+    },
+    Readv {
+        fd: i32,
+        list: u64,
+        count: u64,
+    },
+    Writev {
+        fd: i32,
+        list: u64,
+        count: u64,
+    },
+    Readlinkat {
+        dirfd: i32,
+        path: Bytes,
+        buf: u64,
+        size: i32,
+    },
+    /// With `AtFlags::EMPTY_PATH` the path may be empty.
+    Newfstatat {
+        dirfd: i32,
+        path: Bytes,
+        buf: u64,
+        flags: u32,
+    },
+    Fstat {
+        fd: i32,
+        buf: u64,
+    },
+    Exit {
+        code: i32,
+    },
+    ExitGroup {
+        code: i32,
+    },
+    SetTidAddress,
+    RtSigaction,
+    RtSigprocmask,
+    Uname {
+        buf: u64,
+    },
+    Getpid,
+    Getppid,
+    Gettid,
+    Brk {
+        a: u64,
+    },
+    Munmap {
+        a: u64,
+        len: u64,
+    },
+    Clone {
+        flags: u64,
+        sp: u64,
+        ctid: u64,
+    },
+    Mmap {
+        a: u64,
+        len: u64,
+        prot: u64,
+        flags: u64,
+    },
+    Mprotect {
+        a: u64,
+        len: u64,
+        prot: u64,
+    },
+    Wait4 {
+        pid: i32,
+        status: u64,
+        options: i32,
+        usage: u64,
+    },
+}

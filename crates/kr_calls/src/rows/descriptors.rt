@@ -1,0 +1,71 @@
+//! Calls on descriptors.
+ghost use Rattle.std.specs.Prelude.{◌≡◌, Ok};
+ghost use Rattle.rv_mem.specs.Actions.{Done};
+ghost use Rattle.kr_calls.specs.Decoding.{dup_row, dup3_row, fcntl_row, ioctl_row, close_row, pipe2_row};
+
+use crate::arguments::{has_other, int, long, word};
+use crate::request::Request;
+use bitflags::Flags;
+use pr_base::{Errno, OpenFlags};
+use rv_mem::Regs;
+
+/// dup(2).
+pub fn dup(regs: &Regs) -> Request
+    ensures { dup_row regs.now ≡ Done (Ok result) }
+{
+    Request::Dup { fd: int(regs, 0) }
+}
+
+/// dup3(2): EINVAL for a flag other than O_CLOEXEC, then for two equal descriptors.
+pub fn dup3(regs: &Regs) -> Result<Request, Errno>
+    ensures { dup3_row regs.now ≡ Done result }
+{
+    let flags = word(regs, 2);
+    if has_other(flags, OpenFlags::CLOEXEC.bits()) || word(regs, 0) == word(regs, 1) {
+        return Err(Errno::EINVAL);
+    }
+    Ok(Request::Dup3 {
+        old: int(regs, 0),
+        new: int(regs, 1),
+        flags,
+    })
+}
+
+/// fcntl(2). Its commands are tested when it is carried out.
+pub fn fcntl(regs: &Regs) -> Request
+    ensures { fcntl_row regs.now ≡ Done (Ok result) }
+{
+    Request::Fcntl {
+        fd: int(regs, 0),
+        cmd: int(regs, 1),
+        arg: long(regs, 2),
+    }
+}
+
+/// ioctl(2).
+pub fn ioctl(regs: &Regs) -> Request
+    ensures { ioctl_row regs.now ≡ Done (Ok result) }
+{
+    Request::Ioctl { fd: int(regs, 0) }
+}
+
+/// close(2).
+pub fn close(regs: &Regs) -> Request
+    ensures { close_row regs.now ≡ Done (Ok result) }
+{
+    Request::Close { fd: int(regs, 0) }
+}
+
+/// pipe2(2): EINVAL for a flag other than O_CLOEXEC.
+pub fn pipe2(regs: &Regs) -> Result<Request, Errno>
+    ensures { pipe2_row regs.now ≡ Done result }
+{
+    let flags = word(regs, 1);
+    if has_other(flags, OpenFlags::CLOEXEC.bits()) {
+        return Err(Errno::EINVAL);
+    }
+    Ok(Request::Pipe2 {
+        buf: long(regs, 0),
+        flags,
+    })
+}
