@@ -1,4 +1,5 @@
 //! The request in the registers and the memory of a process.
+ghost use Rattle.std.specs.Prelude.{◌≡◌};
 ghost use Rattle.kr_calls.specs.Decodes.{Decodes};
 ghost use Rattle.kr_calls.specs.Decoding.{decoding};
 
@@ -12,7 +13,8 @@ use rv_mem::{Regs, Space};
 /// The request of a call, or the error that its decoding answers: ENOSYS for what isn't the number of a call, then
 /// what its row says. Bytes, rights and marks of the memory stay; the bytes of texts count as read.
 pub fn decode<const M: u8>(regs: &Regs, mem: &mut Space<M>) -> Result<Request, CallFault>
-    ensures { Decodes result (decoding regs.now) mem.old mem.new }
+    ensures decoded { Decodes result (decoding regs.now) mem.old mem.new }
+    ensures pages { mem.new.pages ≡ mem.old.pages }
 {
     match regs.x[A7] {
         23 => Ok(descriptors::dup(regs)),

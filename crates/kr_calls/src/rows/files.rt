@@ -23,7 +23,8 @@ const ACCESS_RIGHTS: u32 = 0x7;
 
 /// A path: EFAULT where it isn't readable, ENAMETOOLONG, then ENOENT where it is empty and may not be.
 fn path<const M: u8>(mem: &mut Space<M>, at: u64, may_be_empty: bool) -> Result<Bytes, CallFault>
-    ensures { Decodes result (text_read may_be_empty at) mem.old mem.new }
+    ensures decoded { Decodes result (text_read may_be_empty at) mem.old mem.new }
+    ensures pages { mem.new.pages ≡ mem.old.pages }
 {
     match mem.text_at(at, TEXT_LIMIT) {
         Ok(text) => named(text, may_be_empty),
@@ -57,7 +58,8 @@ pub fn ftruncate(regs: &Regs) -> Result<Request, Errno>
 
 /// faccessat(2): EINVAL for an unknown right.
 pub fn faccessat<const M: u8>(regs: &Regs, mem: &mut Space<M>) -> Result<Request, CallFault>
-    ensures { Decodes result (faccessat_row regs.now) mem.old mem.new }
+    ensures decoded { Decodes result (faccessat_row regs.now) mem.old mem.new }
+    ensures pages { mem.new.pages ≡ mem.old.pages }
 {
     if has_other_right(word(regs, 2)) {
         return Err(CallFault::Err(Errno::EINVAL));
@@ -88,7 +90,8 @@ fn has_other_right(mode: u32) -> bool
 
 /// openat(2): EINVAL for flags that aren't built.
 pub fn openat<const M: u8>(regs: &Regs, mem: &mut Space<M>) -> Result<Request, CallFault>
-    ensures { Decodes result (openat_row regs.now) mem.old mem.new }
+    ensures decoded { Decodes result (openat_row regs.now) mem.old mem.new }
+    ensures pages { mem.new.pages ≡ mem.old.pages }
 {
     if has_bad_open_flags(word(regs, 2)) {
         return Err(CallFault::Err(Errno::EINVAL));
@@ -186,7 +189,8 @@ pub fn writev(regs: &Regs) -> Request
 
 /// readlinkat(2): EINVAL for a size that isn't above 0.
 pub fn readlinkat<const M: u8>(regs: &Regs, mem: &mut Space<M>) -> Result<Request, CallFault>
-    ensures { Decodes result (readlinkat_row regs.now) mem.old mem.new }
+    ensures decoded { Decodes result (readlinkat_row regs.now) mem.old mem.new }
+    ensures pages { mem.new.pages ≡ mem.old.pages }
 {
     if has_no_size(word(regs, 3)) {
         return Err(CallFault::Err(Errno::EINVAL));
@@ -218,7 +222,8 @@ fn has_no_size(size: u32) -> bool
 
 /// newfstatat(2): EINVAL for an unknown flag. With AT_EMPTY_PATH the path may be empty.
 pub fn newfstatat<const M: u8>(regs: &Regs, mem: &mut Space<M>) -> Result<Request, CallFault>
-    ensures { Decodes result (newfstatat_row regs.now) mem.old mem.new }
+    ensures decoded { Decodes result (newfstatat_row regs.now) mem.old mem.new }
+    ensures pages { mem.new.pages ≡ mem.old.pages }
 {
     let flags = word(regs, 3);
     if has_other_stat_flag(flags) {

@@ -5,12 +5,12 @@ use Rattle.kr_calls.specs.Decoding.{newfstatat_with, has_bad_open_flags, has_no_
 use Rattle.kr_calls.proofs.TextLemmas.{accepted, failed}
 use Rattle.kr_calls.proofs.rows.files.newfstatat.Goals as goal
 
-pub returns-in-Ok : goal.returns-in-Ok
-returns-in-Ok g c =
+pub returns-in-Ok-clause-decoded : goal.returns-in-Ok-clause-decoded
+returns-in-Ok-clause-decoded g c =
     let passed : has_other (word c.args.regs.now 3) stat_flags ≡ false = ap (λ w. has_other w stat_flags) (sym c.word-flags.ensures) ∙ sym c.has_other_stat_flag.ensures ∙ c.if-has_other_stat_flag.false in
-    accepted _ (has (word c.args.regs.now 3) 0x1000) _ (long c.args.regs.now 1) _ (newfstatat_with c.args.regs.now) c.args.mem.now c.path.new.mem c.in-Ok.path c.newfstatat_with.result passed (c.allows_empty_path-may_be_empty.ensures ∙ ap (λ w. has w 0x1000) c.word-flags.ensures) c.long.ensures c.newfstatat_with.ensures c.in-Ok.ensures
+    accepted _ (has (word c.args.regs.now 3) 0x1000) _ (long c.args.regs.now 1) _ (newfstatat_with c.args.regs.now) c.args.mem.now c.path.new.mem c.in-Ok.path c.newfstatat_with.result passed (c.allows_empty_path-may_be_empty.ensures ∙ ap (λ w. has w 0x1000) c.word-flags.ensures) c.long.ensures c.newfstatat_with.ensures c.in-Ok.ensures.decoded
 
-pub returns-in-Err : goal.returns-in-Err
-returns-in-Err g c =
+pub returns-in-Err-clause-decoded : goal.returns-in-Err-clause-decoded
+returns-in-Err-clause-decoded g c =
     let passed : has_other (word c.args.regs.now 3) stat_flags ≡ false = ap (λ w. has_other w stat_flags) (sym c.word-flags.ensures) ∙ sym c.has_other_stat_flag.ensures ∙ c.if-has_other_stat_flag.false in
-    failed _ (has (word c.args.regs.now 3) 0x1000) _ (long c.args.regs.now 1) _ (newfstatat_with c.args.regs.now) c.args.mem.now c.path.new.mem c.in-Err.fault passed (c.allows_empty_path-may_be_empty.ensures ∙ ap (λ w. has w 0x1000) c.word-flags.ensures) c.long.ensures c.in-Err.ensures
+    failed _ (has (word c.args.regs.now 3) 0x1000) _ (long c.args.regs.now 1) _ (newfstatat_with c.args.regs.now) c.args.mem.now c.path.new.mem c.in-Err.fault passed (c.allows_empty_path-may_be_empty.ensures ∙ ap (λ w. has w 0x1000) c.word-flags.ensures) c.long.ensures c.in-Err.ensures.decoded

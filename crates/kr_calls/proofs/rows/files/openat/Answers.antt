@@ -5,12 +5,12 @@ use Rattle.kr_calls.specs.Decoding.{openat_with, has_bad_open_flags, has_no_size
 use Rattle.kr_calls.proofs.TextLemmas.{accepted, failed}
 use Rattle.kr_calls.proofs.rows.files.openat.Goals as goal
 
-pub returns-in-Ok : goal.returns-in-Ok
-returns-in-Ok g c =
+pub returns-in-Ok-clause-decoded : goal.returns-in-Ok-clause-decoded
+returns-in-Ok-clause-decoded g c =
     let passed : has_bad_open_flags (word c.args.regs.now 2) ≡ false = ap (λ w. has_bad_open_flags w) (sym c.word.ensures) ∙ sym c.has_bad_open_flags.ensures ∙ c.if-has_bad_open_flags.false in
-    accepted _ false _ (long c.args.regs.now 1) _ (openat_with c.args.regs.now) c.args.mem.now c.path.new.mem c.in-Ok.path c.openat_with.result passed refl c.long.ensures c.openat_with.ensures c.in-Ok.ensures
+    accepted _ false _ (long c.args.regs.now 1) _ (openat_with c.args.regs.now) c.args.mem.now c.path.new.mem c.in-Ok.path c.openat_with.result passed refl c.long.ensures c.openat_with.ensures c.in-Ok.ensures.decoded
 
-pub returns-in-Err : goal.returns-in-Err
-returns-in-Err g c =
+pub returns-in-Err-clause-decoded : goal.returns-in-Err-clause-decoded
+returns-in-Err-clause-decoded g c =
     let passed : has_bad_open_flags (word c.args.regs.now 2) ≡ false = ap (λ w. has_bad_open_flags w) (sym c.word.ensures) ∙ sym c.has_bad_open_flags.ensures ∙ c.if-has_bad_open_flags.false in
-    failed _ false _ (long c.args.regs.now 1) _ (openat_with c.args.regs.now) c.args.mem.now c.path.new.mem c.in-Err.fault passed refl c.long.ensures c.in-Err.ensures
+    failed _ false _ (long c.args.regs.now 1) _ (openat_with c.args.regs.now) c.args.mem.now c.path.new.mem c.in-Err.fault passed refl c.long.ensures c.in-Err.ensures.decoded
