@@ -1,5 +1,5 @@
 -- The first line of a script, put together.
-use Rattle.std.proofs.Common.{◌≡◌, ◌≢◌, ℕ, false, cond, List, [], ◌∷◌, Some, None, refl, sym, ap, ◌∙◌, subst}
+use Rattle.std.proofs.Common.{◌≡◌, ◌≢◌, ℕ, false, cond, List, [], ◌∷◌, Some, None, refl, sym, ap, ◌∙◌}
 use Rattle.std.specs.Prelude.{◌==◌}
 use Rattle.std.specs.List.{list_any}
 use Rattle.kr_calls.specs.Scripts.{script_of, is_cut, line_of, before, is_blank, from_blank, without_leading_blanks, without_trailing_blanks, parted, interpreter_of}

@@ -1,11 +1,11 @@
 -- A text read byte by byte is the text at its address.
-use Rattle.std.proofs.Common.{◌≡◌, ℕ, zero, suc, ◌+◌, Bool, true, false, ◌||◌, cond, List, [], ◌∷◌, Result, Ok, Err, inl, inr, ◌⊎◌, refl, sym, ap, ◌∙◌, subst, arith}
+use Rattle.std.proofs.Common.{◌≡◌, ℕ, zero, suc, ◌+◌, Bool, true, false, ◌||◌, cond, List, [], ◌∷◌, Result, Ok, Err, inl, inr, ◌⊎◌, refl, sym, ap, ◌∙◌, subst}
 use Rattle.std.specs.Prelude.{nat_eq, IsTrue, ◌&&◌, slice_index}
 use Rattle.pr_base.specs.declared.errno.Errno.{Errno}
 use Rattle.pr_base.specs.declared.errno.Errno.TheVariants.{EFAULT, ENAMETOOLONG, ENOENT}
 use Rattle.rv_mem.specs.Actions.{Action, Done, ReadBytes, CarriedOut, carried_out}
 use Rattle.rv_mem.specs.Memory.{Memory, after_read, text_of, text_after, text_reach}
-use Rattle.rv_mem.specs.Pages.{Pages, allows, allows_all, any_marked, byte_at, bytes_from}
+use Rattle.rv_mem.specs.Pages.{allows, allows_all, any_marked, byte_at, bytes_from}
 use Rattle.rv_mem.specs.declared.fault.TextFault.{TextFault}
 use Rattle.rv_mem.specs.declared.fault.TextFault.TheVariants as text
 use Rattle.rv_mem.specs.declared.rights.Use.TheVariants.{Read}

@@ -1,6 +1,6 @@
 -- The first line of a script (execve(2)): `#!`, the interpreter, and one argument. Own: a line that doesn't end in the
 -- first 255 bytes of a longer file, or that holds a zero byte, is refused, so that no argument is cut.
-use Rattle.std.specs.Prelude.{◌≡◌, ℕ, ◌==◌, ◌||◌, ◌&&◌, Bool, true, false, nat_lt, not, List, [], ◌∷◌, take, drop, reverse, Option, Some, None, length, if◌then◌else◌}
+use Rattle.std.specs.Prelude.{◌≡◌, ℕ, ◌==◌, ◌||◌, ◌&&◌, Bool, nat_lt, not, List, [], ◌∷◌, take, drop, reverse, Option, Some, None, length, if◌then◌else◌}
 use Rattle.std.specs.List.{list_any}
 
 abbrev pub is_newline : ℕ → Bool

@@ -200,11 +200,7 @@ fn structures_are_those_of_the_manual(rt: HostRuntime) -> Result<(), Fail> {
         (57, 0x10),
         (64, 2),
     ];
-    let mut left = 0;
-    for byte in bytes {
-        left += u32::from(byte != 0);
-    }
-    assert_eq!(rt; left, 14);
+    assert_eq!(rt; bytes.iter().filter(|byte| **byte != 0).count(), 14);
     for (at, byte) in expected {
         assert_eq!(rt; bytes.get(at), Some(&byte));
     }

@@ -1,4 +1,4 @@
-use Rattle.std.proofs.Common.{◌≡◌, ◌≢◌, ◌∙◌, ◌-◌, ◌≤◌, false, [], sym, ap, length, take, drop, arith, length-drop, take_all}
+use Rattle.std.proofs.Common.{◌≡◌, ◌≢◌, ◌∙◌, ◌-◌, [], sym, ap, length, take, drop, arith, length-drop, take_all}
 use Rattle.std.proofs.lemmas.Bool.Decides.{nat_tests}
 use Rattle.kr_calls.specs.Scripts.{before, is_newline, without_leading_blanks, without_trailing_blanks}
 use Rattle.kr_calls.proofs.ScriptLemmas.{script_found}

@@ -1,5 +1,5 @@
-use Rattle.std.proofs.Common.{◌≡◌, ◌≤◌, length, take, reverse}
-use Rattle.kr_calls.specs.Scripts.{without_leading_blanks, without_trailing_blanks}
+use Rattle.std.proofs.Common.{◌≡◌, ◌≤◌, length, take}
+use Rattle.kr_calls.specs.Scripts.{without_trailing_blanks}
 use Rattle.kr_calls.proofs.script.skip_last_blanks.Given as goal
 
 abbrev pub invariant-loop-end : goal.invariant-loop-end

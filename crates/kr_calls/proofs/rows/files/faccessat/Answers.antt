@@ -1,7 +1,7 @@
-use Rattle.std.proofs.Common.{◌≡◌, ◌∙◌, true, false, refl, sym, ap}
+use Rattle.std.proofs.Common.{◌≡◌, ◌∙◌, false, refl, sym, ap}
 use Rattle.std.specs.Prelude.{nat_lt}
-use Rattle.kr_calls.specs.Arguments.{word, long, has, has_other}
-use Rattle.kr_calls.specs.Decoding.{faccessat_with, has_bad_open_flags, has_no_size, stat_flags}
+use Rattle.kr_calls.specs.Arguments.{word, long}
+use Rattle.kr_calls.specs.Decoding.{faccessat_with}
 use Rattle.kr_calls.proofs.TextLemmas.{accepted, failed}
 use Rattle.kr_calls.proofs.rows.files.faccessat.Goals as goal
 

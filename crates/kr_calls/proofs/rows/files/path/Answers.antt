@@ -1,4 +1,4 @@
-use Rattle.std.proofs.Common.{◌≡◌, ◌∙◌, Ok, Err, sym, ap, subst}
+use Rattle.std.proofs.Common.{◌≡◌, ◌∙◌, Err, sym, ap, subst}
 use Rattle.kr_calls.specs.Decodes.{Decodes}
 use Rattle.kr_calls.specs.Decoding.{text_read}
 use Rattle.kr_calls.proofs.TextLemmas.{text_decoded, answered}

@@ -1,7 +1,6 @@
-use Rattle.std.proofs.Common.{◌≡◌, ◌∙◌, true, false, refl, sym, ap}
-use Rattle.std.specs.Prelude.{nat_lt}
-use Rattle.kr_calls.specs.Arguments.{word, long, has, has_other}
-use Rattle.kr_calls.specs.Decoding.{readlinkat_with, has_bad_open_flags, has_no_size, stat_flags}
+use Rattle.std.proofs.Common.{◌≡◌, ◌∙◌, false, refl, sym, ap}
+use Rattle.kr_calls.specs.Arguments.{word, long}
+use Rattle.kr_calls.specs.Decoding.{readlinkat_with, has_no_size}
 use Rattle.kr_calls.proofs.TextLemmas.{accepted, failed}
 use Rattle.kr_calls.proofs.rows.files.readlinkat.Goals as goal
 
