@@ -1,9 +1,9 @@
 -- Lists of texts, words and segments, one after the other.
-use Rattle.std.proofs.Common.{◌≡◌, ℕ, ◌+◌, ◌-◌, ◌<◌, ◌≤◌, zero, suc, List, [], ◌∷◌, ◌++◌, length, drop, get_or, refl, sym, ap, ◌∙◌, arith, append_assoc, length-append, add-one, drop-cons, Some, None, Option}
-use Rattle.std.specs.Prelude.{slice_get}
+use Rattle.std.proofs.Common.{◌≡◌, ℕ, ◌+◌, ◌-◌, ◌*◌, ◌<◌, ◌≤◌, zero, suc, List, [], ◌∷◌, ◌++◌, length, take, drop, replicate, get_or, refl, sym, ap, ◌∙◌, arith, append_assoc, length-append, add-one, drop-cons, Some, None, Option}
+use Rattle.std.specs.Prelude.{slice_get, Result, Ok, Err, OnOk}
 use Rattle.std.specs.Int.{to_le_bytes, w64}
-use Rattle.std.proofs.lemmas.List.{append-nil, drop_all}
-use Rattle.elf_load.specs.FirstStack.{text_bytes, text_addresses, word_bytes, pair_words}
+use Rattle.std.proofs.lemmas.List.{drop_all, take-replicate}
+use Rattle.elf_load.specs.FirstStack.{text_bytes, text_addresses, word_bytes, pair_words, words_of, zeros, texts_at, texts_size, stack_pointer, word_count, stack_bytes, random_bytes, random_at}
 use Rattle.elf_load.specs.declared.stack.Pair.{Pair}
 
 -- what is left behind a place that is there
@@ -84,3 +84,28 @@ words-added b0 b1 b2 b3 b4 b5 b6 n first second last e1 e2 e3 e4 e5 e6 =
     ∙ one_word b2 b3 0 (second ++ (0 ∷ last)) e3
     ∙ some_words b1 b2 first (0 ∷ (second ++ (0 ∷ last))) e2
     ∙ one_word b0 b1 n (first ++ (0 ∷ (second ++ (0 ∷ last)))) e1
+
+pub on_ok : {T E : Type 0} (r : Result T E) (P Q : Type 0) → (P → Q) → OnOk r P → OnOk r Q
+on_ok (Ok x) P Q f h = f h
+on_ok (Err x) P Q f h = tt
+
+pub zeros-cut : (n : ℕ) → n < 16 → take n (replicate 16 0) ≡ zeros n
+unfolding zeros
+zeros-cut n h = take-replicate n 16 0 (omega arith)
+
+-- ---- the stack, part by part
+
+pub stack-built : (pairs : List Pair) (args env : List (List ℕ)) (b0 b1 b2 b3 b4 b5 b6 : List ℕ) (n k : ℕ) → b0 ≡ []
+    → b1 ≡ b0 ++ word_bytes (words_of pairs args env) → b2 ≡ b1 ++ zeros n → b3 ≡ b2 ++ text_bytes args → b4 ≡ b3 ++ text_bytes env → b5 ≡ b4 ++ zeros k → b6 ≡ b5 ++ random_bytes
+    → n ≡ texts_at args env - (stack_pointer args env + 8 * word_count args env) → k ≡ random_at - (texts_at args env + texts_size args env)
+    → b6 ≡ stack_bytes pairs args env
+stack-built pairs args env b0 b1 b2 b3 b4 b5 b6 n k e0 e1 e2 e3 e4 e5 e6 is_n is_k =
+    let first : b1 ≡ word_bytes (words_of pairs args env) = e1 ∙ ap (λ b. b ++ word_bytes (words_of pairs args env)) e0 in
+    e6
+    ∙ ap (λ b. b ++ random_bytes) (e5
+    ∙ ap (λ j. b4 ++ zeros j) is_k
+    ∙ ap (λ b. b ++ zeros (random_at - (texts_at args env + texts_size args env))) (e4
+    ∙ ap (λ b. b ++ text_bytes env) (e3
+    ∙ ap (λ b. b ++ text_bytes args) (e2
+    ∙ ap (λ j. b1 ++ zeros j) is_n
+    ∙ ap (λ b. b ++ zeros (texts_at args env - (stack_pointer args env + 8 * word_count args env))) first))))

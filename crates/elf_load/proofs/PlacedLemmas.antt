@@ -97,11 +97,11 @@ protected-mapped : (m : Pages) (first n : ℕ) (before rights : Rights) → prot
 protected-mapped m first n before rights =
     same_pages _ _ (by_range (λ q. map.get (protected (mapped m first n before) first n rights) q ≡ map.get (mapped m first n rights) q) first n
     (λ k l. get-protected_in (mapped m first n before) first n rights k l
-        ∙ ap (option_map (page_with_rights rights)) (get-mapped_in m first n before k l)
-        ∙ sym (get-mapped_in m first n rights k l))
+    ∙ ap (option_map (page_with_rights rights)) (get-mapped_in m first n before k l)
+    ∙ sym (get-mapped_in m first n rights k l))
     (λ q apart. get-protected_out (mapped m first n before) first n rights q apart
-        ∙ get-mapped_out m first n before q apart
-        ∙ sym (get-mapped_out m first n rights q apart)))
+    ∙ get-mapped_out m first n before q apart
+    ∙ sym (get-mapped_out m first n rights q apart)))
 
 -- pages that are mapped, written to and then given their rights
 pub rights_last : (m : Pages) (first n : ℕ) (before rights : Rights) (at : ℕ) (bs : List ℕ) → protected (written (mapped m first n before) at bs) first n rights ≡ written (mapped m first n rights) at bs
@@ -182,8 +182,8 @@ pub segment-exceeds : (file : List ℕ) (m : Pages) (s : Segment) (first n room 
     → passes_limit room m (mapped m first n before) ≡ true → exceeds_pages (room - page_count m) (page_count (with_segment file m s)) ≡ true
 segment-exceeds file m s first n room before counted is_first is_count passes =
     ap (exceeds_pages (room - page_count m)) (count-with_segment file m s before
-        ∙ ap (λ k. page_count (mapped m (first_page s) k before)) (sym is_count)
-        ∙ ap (λ f. page_count (mapped m f n before)) (sym is_first))
+    ∙ ap (λ k. page_count (mapped m (first_page s) k before)) (sym is_count)
+    ∙ ap (λ f. page_count (mapped m f n before)) (sym is_first))
     ∙ sym (passes-exceeds room m (mapped m first n before) counted)
     ∙ passes
 
@@ -209,10 +209,10 @@ segment-put file m mapped_memory written_memory protected_memory s first n befor
     protects
     ∙ ap (λ (w : Memory). with_pages w (protected w.pages first n rights)) (writes ∙ ap (λ (w : Memory). with_pages w (written w.pages s.at bytes)) maps)
     ∙ ap (with_pages m) (rights_last m.pages first n before rights s.at bytes
-        ∙ ap (λ f. written (mapped m.pages f n rights) s.at bytes) is_first
-        ∙ ap (λ k. written (mapped m.pages (first_page s) k rights) s.at bytes) is_count
-        ∙ ap (λ r. written (mapped m.pages (first_page s) (end_page s - first_page s) r) s.at bytes) is_rights
-        ∙ ap (written (mapped m.pages (first_page s) (end_page s - first_page s) (rights_in s.flags)) s.at) is_bytes)
+    ∙ ap (λ f. written (mapped m.pages f n rights) s.at bytes) is_first
+    ∙ ap (λ k. written (mapped m.pages (first_page s) k rights) s.at bytes) is_count
+    ∙ ap (λ r. written (mapped m.pages (first_page s) (end_page s - first_page s) r) s.at bytes) is_rights
+    ∙ ap (written (mapped m.pages (first_page s) (end_page s - first_page s) (rights_in s.flags)) s.at) is_bytes)
 
 pub stack-put : (m mapped_memory written_memory : Memory) (sp : ℕ) (bytes : List ℕ)
     → mapped_memory ≡ with_pages m (mapped m.pages (stack_top / page_size - stack_pages) stack_pages stack_rights)

@@ -1,6 +1,6 @@
 //! A program as it starts.
 ghost use Rattle.std.specs.Prelude.{◌≡◌, ◌+◌, ◌≤◌, ◌↔◌, Err, None, false, length, IfOk, IsErrOf, IsTrue, OnErr, OnOk, replicate, slice_set};
-ghost use Rattle.elf_read.specs.Plans.{plan_of};
+ghost use Rattle.elf_read.specs.Plans.{plan_of, planned};
 ghost use Rattle.elf_read.specs.Rules.{first_broken};
 ghost use Rattle.rv_mem.specs.Memory.{page_count};
 ghost use Rattle.elf_load.specs.FirstStack.{exceeds_arguments};
@@ -10,7 +10,7 @@ use crate::arguments::size_of;
 use crate::fault::LoadFault;
 use crate::segments::{program_break, put_all};
 use crate::stack::FirstStack;
-use elf_read::Plan;
+use elf_read::{Plan, Segment};
 use pr_base::Texts;
 use rv_mem::{Regs, Room, Space};
 use std::alloc::Global;
@@ -28,6 +28,14 @@ pub struct Image<const M: u8> {
     pub regs: Regs,
     /// The page end of the last segment, from which brk(2) goes on.
     pub brk: u64,
+}
+
+// The segments of a plan.
+fn segments_of(plan: &Plan) -> &[Segment]
+    requires { plan.now.count ≤ 64 }
+    ensures { result.now ≡ planned plan.now }
+{
+    &plan.segments[..usize::from(plan.count)]
 }
 
 // The registers of a program that starts at `entry` with this stack pointer.
@@ -74,7 +82,7 @@ pub fn load<const M: u8>(
         return Err(LoadFault::TooManyArgs);
     };
     let stack = FirstStack::new(alloc, plan, args, env, size, ids)?;
-    let segments = &plan.segments[..usize::from(plan.count)];
+    let segments = segments_of(plan);
     let mut mem = Space::new(alloc);
     if let Err(fault) = put_all(&mut mem, room, file, segments, &stack) {
         mem.unmap(room, 0, ALL_PAGES);

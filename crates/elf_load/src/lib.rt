@@ -14,4 +14,3 @@ mod stack;
 pub use fault::LoadFault;
 pub use image::{Image, load};
 pub use stack::Pair;
-

@@ -74,7 +74,9 @@ fn put_segment<const M: u8>(
     mem.map(room, first * PAGE_SIZE, pages, WRITABLE)?;
     // The pages are there and may be written, so that only memory can be wanting.
     if mem.write(s.at, bytes).is_err()
-        || mem.protect(first * PAGE_SIZE, pages, rights_in(s.flags)).is_err()
+        || mem
+            .protect(first * PAGE_SIZE, pages, rights_in(s.flags))
+            .is_err()
     {
         return Err(MapFault::NoMemory);
     }
