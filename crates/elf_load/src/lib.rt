@@ -14,3 +14,6 @@ mod stack;
 pub use fault::LoadFault;
 pub use image::{Image, load};
 pub use stack::Pair;
+
+#[cfg(test)]
+mod tests;
