@@ -1,18 +1,20 @@
 -- What is read within a limit is judged as the whole is.
 use Rattle.std.proofs.Common.{◌≡◌, ◌⊎◌, inl, inr, ℕ, suc, ◌<◌, ◌≤◌, List, [], ◌∷◌, ◌++◌, length, Bool, true, false, Some, None, refl, sym, ap, subst, ◌∙◌, arith, length-append, IfSome}
-use Rattle.std.specs.Prelude.{Option, Ok, Err, nat_le, nat_lt, bytes_eq, ◌==◌, ◌&&◌, if◌then◌else◌}
+use Rattle.std.specs.Prelude.{Option, Result, IfErr, Ok, Err, nat_le, nat_lt, bytes_eq, ◌==◌, ◌&&◌, if◌then◌else◌}
 use Rattle.std.proofs.Math.Dec.{eqb-suc-zero}
 use Rattle.std.proofs.lemmas.List.{append-nil}
 use Rattle.std.proofs.lemmas.Fmt.{length-decimal-le}
 use Rattle.std.proofs.lemmas.Bool.{and_parts, leb-true, cases_order}
 use Rattle.std.proofs.lemmas.Bool.Decides.{nat_tests}
-use Rattle.pr_top.specs.Listing.{Listing, ids_of, is_lawful, listing_of, text_read}
+use Rattle.pr_top.specs.Listing.{Listing, ids_of, is_lawful, is_name_byte, largest_id, listing_of, text_read}
 use Rattle.kr_core.specs.Start.{start_refusal}
 use Rattle.std.specs.Option.{option_map}
+use Rattle.std.specs.List.{list_all}
 use Rattle.pr_base.specs.declared.errno.Errno.{Errno}
 use Rattle.pr_top.specs.Opening.{Start, Opening, args_of, command_name, with_input, with_elf, with_tree, with_name, startable, or_no_start, told_reading, told_opening}
 use Rattle.pr_top.specs.Promise.{ComesTo, OpeningFault}
 use Rattle.pr_base.specs.declared.errno.Errno.TheVariants.{ENOENT}
+use Rattle.pr_top.specs.declared.answer.Part.{Part}
 use Rattle.pr_top.specs.declared.answer.Part.TheVariants.{Input}
 use Rattle.pr_top.specs.declared.answer.Which.{Which}
 use Rattle.pr_top.specs.declared.answer.Answer.{Answer}
@@ -167,10 +169,11 @@ without_program name l file rest none e = rw none (by_case (bytes_eq name l.name
 
 pub name_short : (bytes : List ℕ) (l : Listing) → listing_of bytes ≡ Some l → length l.name ≤ 255
 name_short bytes l e =
-    let p = and_parts _ _ (text-listing_of bytes l e).1 in
-    let q = and_parts _ _ p.1 in
-    let r = and_parts _ _ q.1 in
-    leb-true (length l.name) 255 (and_parts _ _ (and_parts _ _ r.1).1).0
+    let p = and_parts (nat_le 1 l.uid) _ (text-listing_of bytes l e).1 in
+    let q = and_parts (nat_le l.uid largest_id) _ p.1 in
+    let r = and_parts (nat_le l.gid largest_id) _ q.1 in
+    let name = and_parts (nat_le 1 (length l.name)) (nat_le (length l.name) 255 && list_all is_name_byte l.name) r.1 in
+    leb-true (length l.name) 255 (and_parts (nat_le (length l.name) 255) (list_all is_name_byte l.name) name.1).0
 
 pub found_name : (name : List ℕ) (l m : Listing) → Some m ≡ (if bytes_eq name l.name then Some l else None) → length l.name ≤ 255 → length m.name ≤ 255
 found_name name l m e short = by_case (bytes_eq name l.name) e
@@ -205,3 +208,30 @@ no_start A B C start answer (inl e) = by_case (start_refusal start.file (args_of
     by_case : (o : Option Errno) → or_no_start start o ≡ Err answer → OpeningFault A B C answer
     by_case None e = cc
     by_case (Some errno) e = let is : NoStart errno ≡ answer = cc in subst (OpeningFault A B C) is tt
+
+pub refused_start : (start : Start) (file : List ℕ) (args : List (List ℕ)) (ids : List ℕ) (errno : Errno) → file ≡ start.file → args ≡ args_of start → ids ≡ ids_of start.listing
+    → start_refusal file args ids ≡ Some errno → startable (Ok start) ≡ Err (NoStart errno)
+refused_start start file args ids errno is_file is_args is_ids refused =
+    let same : start_refusal start.file (args_of start) (ids_of start.listing) ≡ Some errno =
+    ap (λ f. start_refusal f (args_of start) (ids_of start.listing)) (sym is_file)
+    ∙ ap (λ a. start_refusal file a (ids_of start.listing)) (sym is_args)
+    ∙ ap (start_refusal file args) (sym is_ids)
+    ∙ refused in
+    ap (or_no_start start) same
+
+-- a program that can't be started isn't a part that is unbuilt
+pub not_unbuilt : (start : Start) (answer : Answer) (part : Part) → (startable (Ok start) ≡ Err answer) ⊎ (answer ≡ NoMemory) → answer ≡ Unbuilt part → ⊥
+not_unbuilt start answer part (inr e) is = let clash : NoMemory ≡ Unbuilt part = sym e ∙ is in cc
+not_unbuilt start answer part (inl e) is = by_case (start_refusal start.file (args_of start) (ids_of start.listing)) e
+  where
+    by_case : (o : Option Errno) → or_no_start start o ≡ Err answer → ⊥
+    by_case None e = cc
+    by_case (Some errno) e = let clash : NoStart errno ≡ Unbuilt part = (let same : NoStart errno ≡ answer = cc in same ∙ is) in cc
+
+pub not_this_error : {T E : Type 0} (r : Result T E) (x : E) → r ≡ Err x → IfErr r (λ e. e ≡ x → ⊥) → ⊥
+not_this_error (Ok v) x e h = cc
+not_this_error (Err y) x e h = let same : y ≡ x = cc in h same
+
+pub of_this_error : {T E : Type 0} (r : Result T E) (x : E) (P : E → Type 0) → IfErr r (λ e. e ≡ x) → P x → IfErr r P
+of_this_error (Ok v) x P is h = tt
+of_this_error (Err y) x P is h = subst P (sym is) h

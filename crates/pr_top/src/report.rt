@@ -7,7 +7,7 @@ ghost use Rattle.pr_top.specs.Report.{first_state, slot_of, turn_limit, state_an
 ghost use Rattle.pr_top.specs.Puts.{PutsAs, PutsTurn, PutsRun, PutsReport};
 
 use crate::answer::{Answer, Which};
-use crate::opening::Start;
+use crate::opening::Opened;
 use kr_core::Kernel;
 use pr_io::{PutFault, Sink};
 use std::alloc::Global;
@@ -92,15 +92,15 @@ fn run_turns<O: Sink, R: Sink>(
 /// Runs a start on the machine in which it starts, and puts its report.
 pub(crate) fn report<O: Sink, R: Sink, L: Sink>(
     alloc: Global,
-    start: &Start<'_>,
-    kernel: &mut Kernel,
+    opened: &mut Opened<'_>,
     out: &mut O,
     err: &mut R,
     left: &mut L,
 ) -> Answer
-    requires { kernel.old ≡ first_state start.now }
-    ensures { PutsReport start.now (Rose (O.faults out.old) (O.faults out.new)) (Rose (R.faults err.old) (R.faults err.new)) (Rose (L.faults left.old) (L.faults left.new)) (O.got out.old) (O.got out.new) (R.got err.old) (R.got err.new) (L.got left.old) (L.got left.new) result }
+    requires { opened.old.kernel ≡ first_state opened.old.start }
+    ensures { PutsReport opened.old.start (Rose (O.faults out.old) (O.faults out.new)) (Rose (R.faults err.old) (R.faults err.new)) (Rose (L.faults left.old) (L.faults left.new)) (O.got out.old) (O.got out.new) (R.got err.old) (R.got err.new) (L.got left.old) (L.got left.new) result }
 {
+    let Opened { start, kernel } = opened;
     let answer = match run_turns(kernel, out, err) {
         Ok(answer) => answer,
         Err(answer) => return answer,

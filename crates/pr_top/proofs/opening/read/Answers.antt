@@ -1,4 +1,5 @@
-use Rattle.std.proofs.Common.{sym, ap, ◌∙◌, inl, map, rules, refl, None, [], ◌≡◌}
+use Rattle.std.proofs.lemmas.Bool.Decides.{nat_tests}
+use Rattle.std.proofs.Common.{arith, nat_lt, length, true, false, sym, ap, ◌∙◌, inl, map, rules, refl, None, [], ◌≡◌}
 use Rattle.std.specs.String.{string_bytes}
 use Rattle.pr_top.specs.Listing.{listing_of}
 use Rattle.pr_top.specs.Opening.{Start, told_reading, with_tree}
@@ -15,12 +16,12 @@ returns-in_default-read-clause-opened g c =
     after_tree _ words (g.T.Source.left c.args.tree.now) (g.E.Source.left c.args.elf.now) (g.I.Source.left c.args.input.now) name (sym c.in-Some.ensures) _ c.in_ok-text.text c.in_ok-text.ensures.read
     (λ e i _ _. inl (ap (λ o. with_tree name o e i) none))
 
-pub returns-then-len-ELF_LIMIT-clause-opened : goal.returns-then-len-ELF_LIMIT-clause-opened
-returns-then-len-ELF_LIMIT-clause-opened g c =
+pub returns-then-len-ge-ELF_LIMIT-clause-opened : goal.returns-then-len-ge-ELF_LIMIT-clause-opened
+returns-then-len-ge-ELF_LIMIT-clause-opened g c =
     let words = map string_bytes c.args.words.now in
     let name = c.in-Some.name.now in
     let listed = ap listing_of (sym c.as_slice.ensures) ∙ sym c.in-Some-read.ensures in
-    let long : nat_lt 65536 (length c.in_ok-file.file) ≡ true = ? in
+    let long : nat_lt 65536 (length c.in_ok-file.file) ≡ true = grind (arith, nat_tests, c.len.ensures) in
     after_elf _ words (g.T.Source.left c.args.tree.now) (g.E.Source.left c.args.elf.now) (g.I.Source.left c.args.input.now) name (sym c.in-Some.ensures) _ c.in_ok-text.text c.in_ok-text.ensures.read
     c.in-Some-read.listing listed _ c.in_ok-file.file c.in_ok-file.ensures.read
     (λ i _. inl (rw long refl))
@@ -35,7 +36,7 @@ returns-then-not-is_empty-clause-opened g c =
     let words = map string_bytes c.args.words.now in
     let name = c.in-Some.name.now in
     let listed = ap listing_of (sym c.as_slice.ensures) ∙ sym c.in-Some-read.ensures in
-    let formed : nat_lt 65536 (length c.in_ok-file.file) ≡ false = ? in
+    let formed : nat_lt 65536 (length c.in_ok-file.file) ≡ false = grind (arith, nat_tests, c.len.ensures) in
     let start : Start = record { listing = c.in-Some-read.listing; file = c.in_ok-file.file } in
     let some : c.in_ok-rest.rest ≡ [] → ⊥ = λ e. clash c.is_empty.result (c.is_empty.ensures.1 e) c.if-not-is_empty.true in
     after_input _ words (g.T.Source.left c.args.tree.now) (g.E.Source.left c.args.elf.now) (g.I.Source.left c.args.input.now) name (sym c.in-Some.ensures) _ c.in_ok-text.text c.in_ok-text.ensures.read
@@ -47,7 +48,7 @@ returns-in-Some-found-clause-opened g c =
     let words = map string_bytes c.args.words.now in
     let name = c.in-Some.name.now in
     let listed = ap listing_of (sym c.as_slice.ensures) ∙ sym c.in-Some-read.ensures in
-    let formed : nat_lt 65536 (length c.in_ok-file.file) ≡ false = ? in
+    let formed : nat_lt 65536 (length c.in_ok-file.file) ≡ false = grind (arith, nat_tests, c.len.ensures) in
     let none : c.in_ok-rest.rest ≡ [] = c.is_empty.ensures.0 c.if-not-is_empty.false in
     after_input _ words (g.T.Source.left c.args.tree.now) (g.E.Source.left c.args.elf.now) (g.I.Source.left c.args.input.now) name (sym c.in-Some.ensures) _ c.in_ok-text.text c.in_ok-text.ensures.read
     c.in-Some-read.listing listed _ c.in_ok-file.file c.in_ok-file.ensures.read _ c.in_ok-rest.rest c.in_ok-rest.ensures.read formed
@@ -63,7 +64,7 @@ returns-clause-opened g c =
     let words = map string_bytes c.args.words.now in
     let name = c.in-Some.name.now in
     let listed = ap listing_of (sym c.as_slice.ensures) ∙ sym c.in-Some-read.ensures in
-    let formed : nat_lt 65536 (length c.in_ok-file.file) ≡ false = ? in
+    let formed : nat_lt 65536 (length c.in_ok-file.file) ≡ false = grind (arith, nat_tests, c.len.ensures) in
     let none : c.in_ok-rest.rest ≡ [] = c.is_empty.ensures.0 c.if-not-is_empty.false in
     after_input _ words (g.T.Source.left c.args.tree.now) (g.E.Source.left c.args.elf.now) (g.I.Source.left c.args.input.now) name (sym c.in-Some.ensures) _ c.in_ok-text.text c.in_ok-text.ensures.read
     c.in-Some-read.listing listed _ c.in_ok-file.file c.in_ok-file.ensures.read _ c.in_ok-rest.rest c.in_ok-rest.ensures.read formed
