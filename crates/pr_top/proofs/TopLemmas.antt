@@ -2,12 +2,12 @@
 use Rattle.std.proofs.Common.{◌≡◌, ◌⊎◌, inl, inr, ℕ, ◌-◌, List, length, take, Ok, Err, None, Some, refl, sym, subst, arith, IfSome, IfOk}
 use Rattle.std.specs.Prelude.{Option}
 use Rattle.std.specs.Io.KnownBytes.{Appends, Keeps}
-use Rattle.std.proofs.KnownBytes.{Appends-nil, Appends-kept}
+use Rattle.std.proofs.KnownBytes.{Appends-nil, Appends-kept, Keeps-refl}
 use Rattle.std.proofs.lemmas.List.{take_all}
 use Rattle.pr_io.specs.Moves.{AppendsPrefix}
 use Rattle.pr_top.specs.Opening.{Start, Opening}
-use Rattle.pr_top.specs.Report.{run_of, answer_of, errs, out_part, err_part, out_of, err_of, left_of}
-use Rattle.pr_top.specs.Promise.{IsRefusal, TellsRun, IsReadFault, AnswersOpening, ComesTo, OpeningFault, StopsBetween}
+use Rattle.pr_top.specs.Report.{run_of, answer_of, errs, out_part, err_part, out_of, err_of, left_of, part_of}
+use Rattle.pr_top.specs.Promise.{IsRefusal, TellsRun, IsReadFault, AnswersOpening, ComesTo, GotPrefix, OpeningFault, StopsBetween}
 use Rattle.pr_top.specs.Puts.{PutsWhole, FaultsReport, PutsReport}
 use Rattle.pr_top.specs.declared.answer.Which.{Which}
 use Rattle.pr_top.specs.declared.answer.Which.TheVariants.{Tree, Elf, Input, Out, Err as ErrSink, Left}
@@ -25,6 +25,11 @@ whole_prefix old new bs got = (length bs, subst (Appends old new) (sym (take_all
 
 no_prefix : (old new : Option (List ℕ)) (bs : List ℕ) → Keeps old new → AppendsPrefix old new bs
 no_prefix old new bs kept = (0, Appends-kept old old new (take 0 bs) (Appends-nil old) kept)
+
+-- where nothing was put, that is a prefix
+pub nothing_put : (told : Option Opening) (part : Start → List ℕ) (got : Option (List ℕ)) → IfSome told (λ opening. GotPrefix part opening got got)
+nothing_put None part got = tt
+nothing_put (Some opening) part got = no_prefix got got (part_of part opening) (Keeps-refl got)
 
 module _ (start : Start) (out_rose err_rose left_rose : Type 0) (out out' err err' left left' : Option (List ℕ)) where
   abbrev Puts : Answer → Type 0

@@ -33,6 +33,7 @@ enum Program {
     Changed { at: usize, to: &'static [u8] },
     /// The headers of this size, and then ADDI x0, x0, 0 over and over.
     Idle { size: usize },
+    Empty,
 }
 
 impl Program {
@@ -45,6 +46,7 @@ impl Program {
                     *byte = *new;
                 }
             }
+            Program::Empty => file.clear(),
             Program::Idle { size } => {
                 file.truncate(96);
                 file.extend_from_slice(&(size as u64).to_le_bytes())?;
@@ -101,7 +103,7 @@ const REFUSED: Row = Row {
     ..HELLO_ROW
 };
 
-const ROWS: [Row; 16] = [
+const ROWS: [Row; 20] = [
     HELLO_ROW,
     Row {
         name: "another name",
@@ -144,8 +146,43 @@ const ROWS: [Row; 16] = [
     Row {
         name: "another machine",
         program: Program::Changed { at: 18, to: &[0] },
-        answer: Answer::Unbuilt { part: Part::Elf },
+        answer: Answer::NoStart {
+            errno: Errno::ENOEXEC,
+        },
         ..REFUSED
+    },
+    Row {
+        name: "another machine under another name",
+        word: "/nope",
+        program: Program::Changed { at: 18, to: &[0] },
+        answer: Answer::NoStart {
+            errno: Errno::ENOENT,
+        },
+        ..REFUSED
+    },
+    Row {
+        name: "an empty file",
+        program: Program::Empty,
+        answer: Answer::NoStart {
+            errno: Errno::ENOEXEC,
+        },
+        ..REFUSED
+    },
+    Row {
+        name: "16,129 pages beside the stack",
+        program: Program::Changed {
+            at: 104,
+            to: &[0, 0x10, 0xf0, 0x03],
+        },
+        answer: Answer::NoStart {
+            errno: Errno::ENOMEM,
+        },
+        ..REFUSED
+    },
+    Row {
+        name: "a shared object",
+        program: Program::Changed { at: 16, to: &[3] },
+        ..HELLO_ROW
     },
     Row {
         name: "the first write to the output fails",

@@ -1,74 +1,36 @@
-use Rattle.std.proofs.Common.{sym, ap, ◌∙◌, inl, map, rules, refl, None, [], ◌≡◌}
+use Rattle.std.proofs.Common.{◌≡◌, map, rules, Ok, Err}
+use Rattle.std.specs.Prelude.{IfErr, IfSome}
 use Rattle.std.specs.String.{string_bytes}
-use Rattle.pr_top.specs.Listing.{listing_of}
-use Rattle.pr_top.specs.Opening.{Start, told_opening, with_tree}
-use Rattle.pr_top.specs.declared.answer.Which.TheVariants.{Input}
-use Rattle.kr_core.specs.Form.{has_form}
-use Rattle.pr_top.proofs.OpeningLemmas.{after_tree, after_elf, after_input, ends_early, short_listing, with_rest, with_program, without_program}
-use Rattle.pr_top.proofs.DecimalLemmas.{clash}
+use Rattle.pr_io.specs.Faults.{Rose}
+use Rattle.pr_top.specs.Opening.{told_opening, told_reading}
+use Rattle.pr_top.specs.Promise.{ComesTo}
+use Rattle.pr_top.specs.declared.answer.Part.TheVariants.{Words}
+use Rattle.pr_top.specs.declared.answer.Answer.TheVariants.{Unbuilt}
+use Rattle.pr_top.proofs.OpeningLemmas.{if_started, starts_as_read, refused_at_start, no_start, not_unbuilt, not_this_error, of_this_error}
 use Rattle.pr_top.proofs.opening.open.Goals as goal
 
-pub returns-in_default-read-clause-opened : goal.returns-in_default-read-clause-opened
-returns-in_default-read-clause-opened g c =
-    let words = map string_bytes c.args.words.now in
-    let name = c.in-Some.name.now in
-    let none : listing_of c.in_ok-text.text ≡ None = ap listing_of (sym c.as_slice.ensures) ∙ sym c.in_default-read.ensures in
-    after_tree _ words (g.T.Source.left c.args.tree.now) (g.E.Source.left c.args.elf.now) (g.I.Source.left c.args.input.now) name (sym c.in-Some.ensures) _ c.in_ok-text.text c.in_ok-text.ensures.read
-    (λ e i _ _. inl (ap (λ o. with_tree name o e i) none))
+pub returns-in_err-kernel-clause-words : goal.returns-in_err-kernel-clause-words
+returns-in_err-kernel-clause-words g c =
+    let h = c.from_residual-in_err-kernel.ensures in
+    let other = not_unbuilt c.in_ok-start.start c.in_err-kernel.field-0.0 Words c.in_err-kernel.ensures.refused in
+    let no : IfErr c.from_residual-in_err-kernel.result (λ e. e ≡ Unbuilt Words → ⊥) = search (rules, other) in
+    (λ e. let w = c.in_ok-start.ensures.words.0 e in cc, λ e. absurd (not_this_error c.from_residual-in_err-kernel.result (Unbuilt Words) e no))
 
-pub returns-then-not-has_form-clause-opened : goal.returns-then-not-has_form-clause-opened
-returns-then-not-has_form-clause-opened g c =
-    let words = map string_bytes c.args.words.now in
-    let name = c.in-Some.name.now in
-    let listed = ap listing_of (sym c.as_slice.ensures) ∙ sym c.in-Some-read.ensures in
-    let formless = ap has_form (sym c.as_slice-2.ensures) ∙ sym c.has_form.ensures ∙ c.if-not-has_form.true in
-    after_elf _ words (g.T.Source.left c.args.tree.now) (g.E.Source.left c.args.elf.now) (g.I.Source.left c.args.input.now) name (sym c.in-Some.ensures) _ c.in_ok-text.text c.in_ok-text.ensures.read
-    c.in-Some-read.listing listed _ c.in_ok-file.file c.in_ok-file.ensures.read
-    (λ i _. inl (rw formless refl))
+pub returns-in_err-kernel-clause-refused : goal.returns-in_err-kernel-clause-refused
+returns-in_err-kernel-clause-refused g c =
+    let h = c.from_residual-in_err-kernel.ensures in
+    let told = told_reading (map string_bytes c.args.words.now) (g.T.Source.left c.args.tree.now) (g.E.Source.left c.args.elf.now) (g.I.Source.left c.args.input.now) in
+    let refused = if_started told (λ o. ComesTo o (Ok c.in_ok-start.start)) (λ o. ComesTo o (Err c.in_err-kernel.field-0.0)) (refused_at_start c.in_ok-start.start c.in_err-kernel.field-0.0 c.in_err-kernel.ensures.refused) c.in_ok-start.ensures.opened in
+    let is : IfErr c.from_residual-in_err-kernel.result (λ e. e ≡ c.in_err-kernel.field-0.0) = search rules in
+    of_this_error c.from_residual-in_err-kernel.result c.in_err-kernel.field-0.0 (λ answer. IfSome (told_opening (map string_bytes c.args.words.now) (g.T.Source.left c.args.tree.now) (g.E.Source.left c.args.elf.now) (g.I.Source.left c.args.input.now)) (λ o. ComesTo o (Err answer))) is refused
 
-pub returns-in_err-rest-clause-opened : goal.returns-in_err-rest-clause-opened
-returns-in_err-rest-clause-opened g c =
-    let early = ends_early (told_opening (map string_bytes c.args.words.now) (g.T.Source.left c.args.tree.now) (g.E.Source.left c.args.elf.now) (g.I.Source.left c.args.input.now)) Input _ _ _ c.in_err-rest.ensures.refused in
-    let h = c.from_residual-in_err-rest.ensures in search (rules, early)
-
-pub returns-then-not-is_empty-clause-opened : goal.returns-then-not-is_empty-clause-opened
-returns-then-not-is_empty-clause-opened g c =
-    let words = map string_bytes c.args.words.now in
-    let name = c.in-Some.name.now in
-    let listed = ap listing_of (sym c.as_slice.ensures) ∙ sym c.in-Some-read.ensures in
-    let formed = ap has_form (sym c.as_slice-2.ensures) ∙ sym c.has_form.ensures ∙ c.if-not-has_form.false in
-    let start : Start = record { listing = c.in-Some-read.listing; file = c.in_ok-file.file } in
-    let some : c.in_ok-rest.rest ≡ [] → ⊥ = λ e. clash c.is_empty.result (c.is_empty.ensures.1 e) c.if-not-is_empty.true in
-    after_input _ words (g.T.Source.left c.args.tree.now) (g.E.Source.left c.args.elf.now) (g.I.Source.left c.args.input.now) name (sym c.in-Some.ensures) _ c.in_ok-text.text c.in_ok-text.ensures.read
-    c.in-Some-read.listing listed _ c.in_ok-file.file c.in_ok-file.ensures.read _ c.in_ok-rest.rest c.in_ok-rest.ensures.read formed
-    (inl (with_rest name start c.in_ok-rest.rest some))
-
-pub returns-in-Some-found-clause-opened : goal.returns-in-Some-found-clause-opened
-returns-in-Some-found-clause-opened g c =
-    let words = map string_bytes c.args.words.now in
-    let name = c.in-Some.name.now in
-    let listed = ap listing_of (sym c.as_slice.ensures) ∙ sym c.in-Some-read.ensures in
-    let formed = ap has_form (sym c.as_slice-2.ensures) ∙ sym c.has_form.ensures ∙ c.if-not-has_form.false in
-    let none : c.in_ok-rest.rest ≡ [] = c.is_empty.ensures.0 c.if-not-is_empty.false in
-    after_input _ words (g.T.Source.left c.args.tree.now) (g.E.Source.left c.args.elf.now) (g.I.Source.left c.args.input.now) name (sym c.in-Some.ensures) _ c.in_ok-text.text c.in_ok-text.ensures.read
-    c.in-Some-read.listing listed _ c.in_ok-file.file c.in_ok-file.ensures.read _ c.in_ok-rest.rest c.in_ok-rest.ensures.read formed
-    (with_program name c.in-Some-read.listing c.in-Some-found.listing c.in_ok-file.file c.in_ok-rest.rest none c.in-Some-found.ensures)
-
-pub returns-in-Some-found-clause-tree_read : goal.returns-in-Some-found-clause-tree_read
-returns-in-Some-found-clause-tree_read g c =
-    let listed = ap listing_of (sym c.as_slice.ensures) ∙ sym c.in-Some-read.ensures in
-    c.in_ok-text.ensures.read.whole (short_listing c.in_ok-text.text c.in-Some-read.listing listed)
+pub returns-in_err-kernel-clause-fault : goal.returns-in_err-kernel-clause-fault
+returns-in_err-kernel-clause-fault g c =
+    let h = c.from_residual-in_err-kernel.ensures in
+    let free = no_start (Rose (g.T.Source.faults c.args.tree.now) (g.T.Source.faults c.read.new.tree)) (Rose (g.E.Source.faults c.args.elf.now) (g.E.Source.faults c.read.new.elf)) (Rose (g.I.Source.faults c.args.input.now) (g.I.Source.faults c.read.new.input)) c.in_ok-start.start c.in_err-kernel.field-0.0 c.in_err-kernel.ensures.refused in
+    search (rules, free)
 
 pub returns-clause-opened : goal.returns-clause-opened
 returns-clause-opened g c =
-    let words = map string_bytes c.args.words.now in
-    let name = c.in-Some.name.now in
-    let listed = ap listing_of (sym c.as_slice.ensures) ∙ sym c.in-Some-read.ensures in
-    let formed = ap has_form (sym c.as_slice-2.ensures) ∙ sym c.has_form.ensures ∙ c.if-not-has_form.false in
-    let none : c.in_ok-rest.rest ≡ [] = c.is_empty.ensures.0 c.if-not-is_empty.false in
-    after_input _ words (g.T.Source.left c.args.tree.now) (g.E.Source.left c.args.elf.now) (g.I.Source.left c.args.input.now) name (sym c.in-Some.ensures) _ c.in_ok-text.text c.in_ok-text.ensures.read
-    c.in-Some-read.listing listed _ c.in_ok-file.file c.in_ok-file.ensures.read _ c.in_ok-rest.rest c.in_ok-rest.ensures.read formed
-    (inl (without_program name c.in-Some-read.listing c.in_ok-file.file c.in_ok-rest.rest none c.in-None.ensures))
-
-pub returns-in-Some-found-clause-formed : goal.returns-in-Some-found-clause-formed
-returns-in-Some-found-clause-formed g c = ap has_form (sym c.as_slice-2.ensures) ∙ sym c.has_form.ensures ∙ c.if-not-has_form.false
+    let told = told_reading (map string_bytes c.args.words.now) (g.T.Source.left c.args.tree.now) (g.E.Source.left c.args.elf.now) (g.I.Source.left c.args.input.now) in
+    if_started told (λ o. ComesTo o (Ok c.in_ok-start.start)) (λ o. ComesTo o (Ok c.in_ok-start.start)) (starts_as_read c.in_ok-start.start c.in_ok-kernel.ensures.allowed) c.in_ok-start.ensures.opened
