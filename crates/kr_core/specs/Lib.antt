@@ -1,6 +1,6 @@
 pub mod Words
 pub mod Start
-pub mod Decoding
+pub mod Requests
 pub mod Operations
 pub mod State
 pub mod Turn

@@ -3,11 +3,11 @@ use Rattle.std.specs.Prelude.{◌≡◌, ℕ, ◌==◌, min, List, [], ◌∷◌
 use Rattle.std.specs.Int.{int_rem_euclid}
 use Rattle.pr_base.specs.Errno.{errno_number}
 use Rattle.pr_base.specs.declared.errno.Errno.{Errno}
-use Rattle.pr_base.specs.declared.errno.Errno.TheVariants.{EBADF, EFAULT}
+use Rattle.pr_base.specs.declared.errno.Errno.TheVariants.{EBADF, EFAULT, ENOSYS}
 use Rattle.rv_mem.specs.Actions.{Action, Done, read_if_allowed}
 use Rattle.rv_mem.specs.declared.rights.Use.TheVariants.{Read}
-use Rattle.kr_core.specs.declared.request.Request.{Request}
-use Rattle.kr_core.specs.declared.request.Request.TheVariants.{Write, Exit, ExitGroup}
+use Rattle.kr_calls.specs.declared.request.Request.{Request}
+use Rattle.kr_calls.specs.declared.request.Request.TheVariants as call
 use Rattle.kr_core.specs.declared.console.Console.{Console}
 use Rattle.kr_core.specs.declared.console.Stream.{Stream}
 use Rattle.kr_core.specs.declared.console.Stream.TheVariants.{Output, Error}
@@ -65,10 +65,12 @@ write_row (Some stream) buf n = write_bytes stream buf (min n write_limit)
 abbrev pub exit_row : ℤ → Action Reply
 exit_row code = Done (replies (Exited (unsigned_abs (int_rem_euclid code (pos 256)))))
 
+-- no other call is built
 abbrev pub operation : Request → Action Reply
-operation (Write fd buf n) = write_row (stream_of fd) buf n
-operation (Exit code) = exit_row code
-operation (ExitGroup code) = exit_row code
+operation (call.Write fd buf n) = write_row (stream_of fd) buf n
+operation (call.Exit code) = exit_row code
+operation (call.ExitGroup code) = exit_row code
+operation _ = Done (refuses ENOSYS)
 
 -- a call that came to this outcome, and to this console from the one before, is as the reply says
 pub record Replied (before after : Console) (outcome : Outcome) (reply : Reply) : Type 0 where

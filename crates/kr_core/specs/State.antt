@@ -2,12 +2,13 @@
 use Rattle.std.specs.Prelude.{ℕ, ℤ, List, [], ◌∷◌, Option, Some, None, Result, Ok, Err}
 use Rattle.pr_base.specs.declared.errno.Errno.{Errno}
 use Rattle.rv_mem.specs.Actions.{CarriedOut, carried_out}
+use Rattle.rv_mem.specs.Memory.{Memory}
 use Rattle.rv_mem.specs.declared.regs.Regs.{Regs}
+use Rattle.kr_calls.specs.declared.request.Request.{Request}
 use Rattle.rv_cpu.specs.Words.{wrapped}
 use Rattle.rv_cpu.specs.Step.{moved_on, with_register}
 use Rattle.elf_load.specs.Image.{image_memory, first_regs}
 use Rattle.elf_read.specs.Plans.{plan_of}
-use Rattle.kr_core.specs.Decoding.{request_of}
 use Rattle.kr_core.specs.Operations.{Reply, empty_console, grown, refuses, operation}
 use Rattle.kr_core.specs.declared.console.Console.{Console}
 use Rattle.kr_core.specs.declared.operations.Outcome.{Outcome}
@@ -15,7 +16,7 @@ use Rattle.kr_core.specs.declared.operations.Outcome.TheVariants.{Answered, Exit
 use Rattle.kr_core.specs.declared.process.Process.{Process}
 use Rattle.kr_core.specs.declared.process.Process.TheVariants.{Living, Ended}
 use Rattle.kr_core.specs.declared.process.Running.{Running}
-use Rattle.kr_core.specs.declared.request.Request.{Request}
+use Rattle.kr_core.specs.Requests.{built}
 
 -- the one process, what was written to the console since it was last cleared, and the number of turns made
 pub record State : Type 0 where
@@ -81,11 +82,18 @@ after_reply s p done =
       console = grown s.console done.reply.written;
     }
 
--- a request is carried out on the caller's memory, and what is no request leaves it
-abbrev pub reply_to : Running → Result Request Errno → CarriedOut Reply
-reply_to p (Ok request) = carried_out (operation request) p.memory
-reply_to p (Err e) = record { reply = refuses e; memory = p.memory }
+-- a request is carried out on the memory after its decoding, and an error of the decoding is the answer
+abbrev pub reply_by : Result Request Errno → Memory → CarriedOut Reply
+reply_by (Ok request) memory = carried_out (operation request) memory
+reply_by (Err e) memory = record { reply = refuses e; memory = memory }
 
--- what a call does without a watcher: the request in the registers is decoded and carried out
+abbrev pub reply_after : CarriedOut (Result Request Errno) → CarriedOut Reply
+reply_after decoded = reply_by decoded.reply decoded.memory
+
+-- the request in the registers, decoded and carried out
+abbrev pub reply_to : Running → CarriedOut Reply
+reply_to p = reply_after (carried_out (built p.regs) p.memory)
+
+-- what a call does without a watcher
 abbrev pub plain_call : State → Running → State
-plain_call s p = after_reply s p (reply_to p (request_of p.regs))
+plain_call s p = after_reply s p (reply_to p)

@@ -1,7 +1,7 @@
 //! What each call does.
 
 use crate::console::{Console, Stream};
-use crate::request::Request;
+use kr_calls::Request;
 use pr_base::{Errno, NoMemory};
 use rv_mem::{Space, Use};
 use std::alloc::Global;
@@ -69,22 +69,23 @@ impl Outcome {
         Outcome::Exited(code.rem_euclid(256) as u8)
     }
 
-    /// Carries out a request.
+    /// Carries out a request; one that isn't built is refused by ENOSYS.
     pub(crate) fn of(
-        request: Request,
+        request: &Request,
         alloc: Global,
         console: &mut Console,
         memory: &mut Space<0>,
     ) -> Result<Outcome, NoMemory>
-        ensures ok { IfOk result (λ outcome. Replied console.old console.new outcome (carried_out (operation request) memory.old).reply) }
-        ensures memory { OnOk result (memory.new ≡ (carried_out (operation request) memory.old).memory) }
+        ensures ok { IfOk result (λ outcome. Replied console.old console.new outcome (carried_out (operation request.now) memory.old).reply) }
+        ensures memory { OnOk result (memory.new ≡ (carried_out (operation request.now) memory.old).memory) }
     {
         match request {
             Request::Write { fd, buf, n } => {
-                Outcome::write(alloc, console, memory, Stream::of(fd), buf, n)
+                Outcome::write(alloc, console, memory, Stream::of(*fd), *buf, *n)
             }
-            Request::Exit { code } => Ok(Outcome::exit(code)),
-            Request::ExitGroup { code } => Ok(Outcome::exit(code)),
+            Request::Exit { code } => Ok(Outcome::exit(*code)),
+            Request::ExitGroup { code } => Ok(Outcome::exit(*code)),
+            _ => Ok(Outcome::refused(Errno::ENOSYS)),
         }
     }
 }

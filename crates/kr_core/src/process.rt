@@ -2,7 +2,8 @@
 
 use crate::console::Console;
 use crate::operations::Outcome;
-use crate::request::Request;
+use crate::request::built;
+use kr_calls::CallFault;
 use pr_base::NoMemory;
 use rv_cpu::{Event, Regs, run};
 use rv_mem::Space;
@@ -24,20 +25,20 @@ pub enum Process {
 
 impl Running {
     ghost use Rattle.std.specs.Prelude.{ℕ, ◌≡◌, IfOk, OnOk, Some};
-    ghost use Rattle.kr_core.specs.Decoding.{request_of};
     ghost use Rattle.kr_core.specs.Operations.{Replied};
     ghost use Rattle.kr_core.specs.State.{answered, reply_to, plain_call, stands};
     ghost use Rattle.kr_core.specs.Turn.{ran};
 
     /// Makes the call at which the process stands, but for its outcome.
     fn call(&mut self, alloc: Global, console: &mut Console) -> Result<Outcome, NoMemory>
-        ensures ok { IfOk result (λ outcome. Replied console.old console.new outcome (reply_to self.old (request_of self.old.regs)).reply) }
-        ensures memory { OnOk result (self.new.memory ≡ (reply_to self.old (request_of self.old.regs)).memory) }
+        ensures ok { IfOk result (λ outcome. Replied console.old console.new outcome (reply_to self.old).reply) }
+        ensures memory { OnOk result (self.new.memory ≡ (reply_to self.old).memory) }
         ensures regs { self.new.regs ≡ self.old.regs }
     {
-        match Request::of(&self.regs) {
-            Ok(request) => Outcome::of(request, alloc, console, &mut self.memory),
-            Err(errno) => Ok(Outcome::refused(errno)),
+        match built(&self.regs, &mut self.memory) {
+            Ok(request) => Outcome::of(&request, alloc, console, &mut self.memory),
+            Err(CallFault::Err(errno)) => Ok(Outcome::refused(errno)),
+            Err(CallFault::NoMemory) => Err(NoMemory),
         }
     }
 
