@@ -1,0 +1,6 @@
+pub mod Descriptors
+pub mod Files
+pub mod Maps
+pub mod Opened
+pub mod Pipes
+pub mod Slots

@@ -1,0 +1,8 @@
+//! Open files, the descriptors that name them, and pipes.
+#![tactic(auto)]
+
+pub mod descs;
+pub mod opened;
+
+pub use descs::Descs;
+pub use opened::{FilesRefusal, Moved, Opened, PipeState, What, Wrote};
