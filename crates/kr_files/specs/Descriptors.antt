@@ -12,12 +12,20 @@ descriptor_code =
     code_by (ℕ × (ℕ × Bool)) (coded× coded_ℕ (coded× coded_ℕ coded_bool))
     (λ x. (x.key, (x.number, x.cloexec))) (λ p. record { key = p.0; number = p.1.0; cloexec = p.1.1 }) (λ _. refl)
 
+-- the descriptor with this flag
+abbrev pub with_cloexec : Bool → Descriptor → Descriptor
+with_cloexec on x = record x { cloexec = on }
+
 -- descriptors by their numbers
 abbrev pub Descriptors : Type 0
 Descriptors = map.FinMap nat_cmp Descriptor
 
 abbrev pub descriptors_code : Coded Descriptors
 descriptors_code = map.code coded_ℕ descriptor_code
+
+-- the flag of a descriptor that is open
+abbrev pub cloexec_of : Descriptors → ℕ → Option Bool
+cloexec_of d fd = option_map (λ x. x.cloexec) (map.get d fd)
 
 -- what a descriptor means: the open file that it names by number, and whether an execve closes it
 pub record Named : Type 0 where

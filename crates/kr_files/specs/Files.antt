@@ -51,6 +51,7 @@ module _ {M : Type 0} where
   -- whether the end of a pipe for reading is open, and that for writing
   abbrev pub has_reader : Table M → ℕ → Bool
   has_reader t p = has_kind (is_reader p) t.files
+
   abbrev pub has_writer : Table M → ℕ → Bool
   has_writer t p = has_kind (is_writer p) t.files
 
@@ -106,8 +107,8 @@ module _ {M : Type 0} where
   closed n t =
       option_map_or
       (λ h. if nat_lt 1 h.count
-          then record t { files = map.insert t.files n (record h { count = h.count - 1 }) }
-          else without_file n h.opened.what t)
+      then record t { files = map.insert t.files n (record h { count = h.count - 1 }) }
+      else without_file n h.opened.what t)
       (map.get t.files n) t
 
   -- with a copy of each of a process's descriptors

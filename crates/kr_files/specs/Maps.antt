@@ -12,4 +12,4 @@ module _ {X : Type 0} where
 module _ {X Y : Type 0} where
   -- the map with each value changed
   unfoldable pub mapped : (ℕ → X → Y) → map.FinMap nat_cmp X → map.FinMap nat_cmp Y
-  mapped f m = map.from_entries (map_list (λ e. (e.0, f e.0 e.1)) (map.entries m))
+  mapped f m = map.from_sorted (map_list (λ e. (e.0, f e.0 e.1)) (map.entries m))

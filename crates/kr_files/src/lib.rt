@@ -3,6 +3,7 @@
 
 pub mod descs;
 pub mod opened;
+mod pipe;
 
 pub use descs::Descs;
 pub use opened::{FilesRefusal, Moved, Opened, PipeState, What, Wrote};

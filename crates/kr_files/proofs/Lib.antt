@@ -1,0 +1,3 @@
+pub mod DescriptorLemmas
+pub mod MapLemmas
+pub mod SlotLemmas
