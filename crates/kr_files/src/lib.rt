@@ -2,6 +2,7 @@
 #![tactic(auto)]
 
 pub mod descs;
+mod open_files;
 pub mod opened;
 mod pipe;
 
