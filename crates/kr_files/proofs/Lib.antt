@@ -1,3 +1,4 @@
 pub mod DescriptorLemmas
 pub mod MapLemmas
+pub mod OpenFileLemmas
 pub mod SlotLemmas
