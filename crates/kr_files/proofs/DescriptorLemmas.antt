@@ -1,17 +1,12 @@
 -- Descriptors: the lowest free one, and those of a list of slots.
 use Rattle.std.specs.FinMap as map
 use Rattle.std.proofs.Common.{◌≡◌, ◌≢◌, ◌<◌, ◌≤◌, ◌+◌, ◌-◌, ℕ, zero, suc, true, false, List, length, get_or, set, refl, sym, ap, subst, ◌∙◌, arith, cond, Option, Some, None, is_some, add-one, inl, inr}
-use Rattle.std.specs.Prelude.{Result, Ok, Err, OnErr, IsSome}
+use Rattle.std.specs.Prelude.{IsSome}
 use Rattle.std.specs.Ordering.{nat_cmp}
 use Rattle.std.proofs.lemmas.Bool.{cases_eq}
 use Rattle.kr_files.specs.Slots.{slots}
 use Rattle.kr_files.specs.Descriptors.{first_free, lowest_free}
 use Rattle.kr_files.proofs.SlotLemmas.{get-slots, slots-set_some, slots-set_none, slots-past, slots-same}
-
--- a fact that holds whatever was answered holds where the answer is an error
-pub on_error : {A E : Type 0} (r : Result A E) (P : Type 0) → P → OnErr r P
-on_error (Ok x) P p = tt
-on_error (Err e) P p = p
 
 module _ {X : Type 0} where
   -- what is there isn't missing

@@ -1,4 +1,6 @@
+pub mod AnswerLemmas
 pub mod DescriptorLemmas
 pub mod MapLemmas
 pub mod OpenFileLemmas
 pub mod SlotLemmas
+pub mod TreeLemmas

@@ -47,6 +47,38 @@ module _ {X : Type 0} where
   unfolding changed
   changed-none m k f e = ap (λ o. option_map_or (λ y. map.insert m k (f y)) o m) e
 
+  -- a key that isn't there is taken away by nothing
+  pub remove-none : (m : map.FinMap nat_cmp X) (k : ℕ) → map.get m k ≡ None → map.remove m k ≡ m
+  remove-none m k e = same_values _ _ (by_key (λ q. map.get (map.remove m k) q ≡ map.get m q) k (get-remove_same m k ∙ sym e) (λ q h. get-remove_other m k q h))
+
+  -- to take away what was just put where nothing was
+  pub remove-insert : (m : map.FinMap nat_cmp X) (k : ℕ) (x : X) → map.get m k ≡ None → map.remove (map.insert m k x) k ≡ m
+  remove-insert m k x e =
+      same_values _ _ (by_key (λ q. map.get (map.remove (map.insert m k x) k) q ≡ map.get m q) k
+      (get-remove_same (map.insert m k x) k ∙ sym e)
+      (λ q h. get-remove_other (map.insert m k x) k q h ∙ get-insert_other m k x q h))
+
+  -- to put what is there changes nothing
+  pub insert-same : (m : map.FinMap nat_cmp X) (k : ℕ) (x : X) → map.get m k ≡ Some x → map.insert m k x ≡ m
+  insert-same m k x e =
+      same_values _ _ (by_key (λ q. map.get (map.insert m k x) q ≡ map.get m q) k (get-insert_same m k x ∙ sym e) (λ q h. get-insert_other m k x q h))
+
+  -- a later value stands for an earlier one
+  pub insert-insert : (m : map.FinMap nat_cmp X) (k : ℕ) (x y : X) → map.insert (map.insert m k x) k y ≡ map.insert m k y
+  insert-insert m k x y =
+      same_values _ _ (by_key (λ q. map.get (map.insert (map.insert m k x) k y) q ≡ map.get (map.insert m k y) q) k
+      (get-insert_same (map.insert m k x) k y ∙ sym (get-insert_same m k y))
+      (λ q h. get-insert_other (map.insert m k x) k y q h ∙ get-insert_other m k x q h ∙ sym (get-insert_other m k y q h)))
+
+  pub insert-swap : (m : map.FinMap nat_cmp X) (j k : ℕ) (x y : X) → j ≢ k → map.insert (map.insert m j x) k y ≡ map.insert (map.insert m k y) j x
+  insert-swap m j k x y apart =
+      same_values _ _ (by_key (λ q. map.get (map.insert (map.insert m j x) k y) q ≡ map.get (map.insert (map.insert m k y) j x) q) k
+      (get-insert_same (map.insert m j x) k y ∙ sym (get-insert_other (map.insert m k y) j x k (λ e. apart (sym e)) ∙ get-insert_same m k y))
+      (λ q h. get-insert_other (map.insert m j x) k y q h
+          ∙ by_key (λ r. (r ≢ k → map.get (map.insert m j x) r ≡ map.get (map.insert (map.insert m k y) j x) r)) j
+          (λ _. get-insert_same m j x ∙ sym (get-insert_same (map.insert m k y) j x))
+          (λ r other away. get-insert_other m j x r other ∙ sym (get-insert_other (map.insert m k y) j x r other ∙ get-insert_other m k y r away)) q h))
+
   pub get-changed_same : (m : map.FinMap nat_cmp X) (k : ℕ) (f : X → X) → map.get (changed m k f) k ≡ option_map f (map.get m k)
   unfolding changed
   get-changed_same m k f =

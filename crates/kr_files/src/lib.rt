@@ -5,6 +5,7 @@ pub mod descs;
 mod open_files;
 pub mod opened;
 mod pipe;
+mod pipes;
 
 pub use descs::Descs;
 pub use opened::{FilesRefusal, Moved, Opened, PipeState, What, Wrote};

@@ -1,6 +1,7 @@
 use Rattle.std.proofs.Common.{◌∙◌, sym, ◌<◌, ◌≤◌, ◌+◌, length, arith}
 use Rattle.kr_files.proofs.SlotLemmas.{slots-same}
-use Rattle.kr_files.proofs.DescriptorLemmas.{put_in, on_error}
+use Rattle.kr_files.proofs.DescriptorLemmas.{put_in}
+use Rattle.kr_files.proofs.AnswerLemmas.{on_error}
 use Rattle.kr_files.proofs.descs.Descs.put.Goals as goal
 
 pub returns-in_err-widen-clause-err : goal.returns-in_err-widen-clause-err
