@@ -68,3 +68,7 @@ module _ {X : Type 0} where
   abbrev pub lowest_pair : map.FinMap nat_cmp X → Option (ℕ × ℕ)
   lowest_pair d =
       option_and_then (λ first. option_map (λ second. (first, second)) (lowest_free d (first + 1))) (lowest_free d 0)
+
+-- the descriptors with a copy of one of them
+abbrev pub with_copy_at : Descriptors → ℕ → ℕ → Bool → Descriptors
+with_copy_at d fd to cloexec = option_map_or (λ x. map.insert d to (with_cloexec cloexec x)) (map.get d fd) d

@@ -4,6 +4,8 @@ use Rattle.std.specs.Prelude.{◌≡◌, ◌≢◌, ℕ, zero, suc, ◌+◌, ◌
 use Rattle.std.specs.List.{list_any}
 use Rattle.std.specs.Option.{option_map, option_map_or, option_and_then}
 use Rattle.std.specs.Ordering.{nat_cmp}
+use Rattle.std.specs.Coded.{Coded, code_by, coded×, coded_ℕ, coded_list}
+use Rattle.kr_files.specs.declared.descs.Descriptor.{Descriptor}
 use Rattle.kr_files.specs.declared.opened.Opened.{Opened}
 use Rattle.kr_files.specs.declared.opened.What.{What}
 use Rattle.kr_files.specs.declared.opened.What.TheVariants.{File, Dir, In, Out, Err, PipeRead, PipeWrite}
@@ -153,11 +155,53 @@ pub record Kept (M : Type 0) : Type 0 where
   pub keys : map.FinMap nat_cmp ℕ
   pub table : Table M
 
+abbrev pub kept_code : {M : Type 0} → Coded (Counted M) → Coded (Kept M)
+kept_code code =
+    code_by
+    (map.FinMap nat_cmp ℕ × (map.FinMap nat_cmp (Counted _) × (map.FinMap nat_cmp (List ℕ) × (ℕ × ℕ))))
+    (coded× (map.code coded_ℕ coded_ℕ) (coded× (map.code coded_ℕ code) (coded× (map.code coded_ℕ (coded_list coded_ℕ)) (coded× coded_ℕ coded_ℕ))))
+    (λ f. (f.keys, (f.table.files, (f.table.pipes, (f.table.last_file, f.table.last_pipe)))))
+    (λ p. record {
+      keys = p.0;
+      table = record { files = p.1.0; pipes = p.1.1.0; last_file = p.1.1.1.0; last_pipe = p.1.1.1.1 };
+    })
+    (λ _. refl)
+
 module _ {M : Type 0} where
   -- every descriptor names an open file: the one that its key leads to has its number
   abbrev pub NamesOpenFiles : Kept M → Descriptors → Type 0
-  NamesOpenFiles f d = (fd : ℕ) (x : _) → map.get d fd ≡ Some x → map.get f.keys x.key ≡ Some x.number
+  NamesOpenFiles f d = (fd : ℕ) (x : Descriptor) → map.get d fd ≡ Some x → map.get f.keys x.key ≡ Some x.number
 
   -- what a descriptor leads to
   abbrev pub opened_at : Kept M → Descriptors → ℕ → Option (Opened M)
   opened_at f d fd = option_and_then (λ x. file_at f.table x.number) (map.get d fd)
+
+  -- how many descriptors name what a descriptor names
+  abbrev pub count_at : Kept M → Descriptors → ℕ → ℕ
+  count_at f d fd = option_map_or (λ x. option_map_or (λ h. h.count) (map.get f.table.files x.number) 0) (map.get d fd) 0
+
+  -- with the table changed; every file stays under its key
+  abbrev pub on_table : (Table M → Table M) → Kept M → Kept M
+  on_table change f = record f { table = change f.table }
+
+  -- changed by what a descriptor is
+  abbrev pub by_descriptor : Descriptors → ℕ → (Descriptor → Kept M → Kept M) → Kept M → Kept M
+  by_descriptor d fd change f = option_map_or (λ x. change x f) (map.get d fd) f
+
+  -- with a copy of a descriptor
+  abbrev pub copied : Descriptor → Kept M → Kept M
+  copied x f = on_table (with_copy x.number) f
+
+  -- with a descriptor closed. Its key is free where it was the last one
+  abbrev pub released : Descriptor → Kept M → Kept M
+  released x f = record {
+    keys = (if is_last f.table x.number then map.remove f.keys x.key else f.keys);
+    table = closed x.number f.table;
+  }
+
+  -- a new open file has a key that was free, and a descriptor that was
+  pub record Gives (old new : Kept M) (old_descs new_descs : Descriptors) (fd number : ℕ) (cloexec : Bool) : Type 0 where
+    pub key : ℕ
+    pub was_free : map.get old.keys key ≡ None
+    pub keys : new.keys ≡ map.insert old.keys key number
+    pub descs : new_descs ≡ map.insert old_descs fd (record { key = key; number = number; cloexec = cloexec })

@@ -5,3 +5,4 @@ pub mod OpenFiles
 pub mod Opened
 pub mod Pipes
 pub mod Slots
+pub mod Sound

@@ -7,6 +7,8 @@ use Rattle.std.specs.Coded.{Coded, code_by, coded×, coded_ℕ, coded_bool, code
 use Rattle.kr_files.specs.Maps.{changed}
 use Rattle.kr_files.specs.declared.opened.Moved.{Moved}
 use Rattle.kr_files.specs.declared.opened.Moved.TheVariants.{Bytes, NotReady as ReadNotReady}
+use Rattle.kr_files.specs.declared.opened.What.{What}
+use Rattle.kr_files.specs.declared.opened.What.TheVariants.{File, Dir, In, Out, Err, PipeRead, PipeWrite}
 use Rattle.kr_files.specs.declared.opened.Wrote.{Wrote}
 use Rattle.kr_files.specs.declared.opened.Wrote.TheVariants.{Took, NotReady as WriteNotReady, NoReader}
 
@@ -75,3 +77,13 @@ reader_gone k pipes = if writer_open k pipes then changed pipes k without_reader
 -- and after that for writing
 abbrev pub writer_gone : ℕ → PipeTable → PipeTable
 writer_gone k pipes = if reader_open k pipes then changed pipes k without_writer else map.remove pipes k
+
+-- after an open file of this kind went
+abbrev pub end_gone : What → PipeTable → PipeTable
+end_gone (PipeRead k) pipes = reader_gone k pipes
+end_gone (PipeWrite k) pipes = writer_gone k pipes
+end_gone File pipes = pipes
+end_gone Dir pipes = pipes
+end_gone In pipes = pipes
+end_gone Out pipes = pipes
+end_gone Err pipes = pipes

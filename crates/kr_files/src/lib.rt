@@ -2,10 +2,12 @@
 #![tactic(auto)]
 
 pub mod descs;
+pub mod files;
 mod open_files;
 pub mod opened;
 mod pipe;
 mod pipes;
 
 pub use descs::Descs;
+pub use files::Files;
 pub use opened::{FilesRefusal, Moved, Opened, PipeState, What, Wrote};

@@ -3,6 +3,7 @@ ghost use Rattle.std.specs.Prelude.{◌≡◌, ◌-◌, ◌++◌, length, take, 
 ghost use Rattle.std.specs.Option.{option_copied, option_map};
 ghost use Rattle.std.specs.FinMap as map;
 
+use crate::opened::What;
 use crate::pipe::Pipe;
 use pr_base::{Bytes, NoMemory};
 use std::alloc::Global;
@@ -29,7 +30,7 @@ impl Model for Pipes {
 
 impl Pipes {
     ghost use Rattle.kr_files.specs.Maps.{changed};
-    ghost use Rattle.kr_files.specs.Pipes.{fresh_pipe, holding, reader_open, writer_open, reader_gone, writer_gone};
+    ghost use Rattle.kr_files.specs.Pipes.{fresh_pipe, holding, reader_open, writer_open, reader_gone, writer_gone, end_gone};
 
     /// No pipes. It takes no memory.
     pub(crate) fn new(alloc: Global) -> Pipes
@@ -132,6 +133,17 @@ impl Pipes {
             self.remove(number);
         } else if let Some(pipe) = self.pipes.get_mut(&number) {
             pipe.end_writer();
+        }
+    }
+
+    /// Closes the end of a pipe that an open file of this kind was, if it was one.
+    pub(crate) fn end(&mut self, what: What)
+        ensures { self.new ≡ end_gone what self.old }
+    {
+        match what {
+            What::PipeRead(number) => self.end_reader(number),
+            What::PipeWrite(number) => self.end_writer(number),
+            What::File | What::Dir | What::In | What::Out | What::Err => {}
         }
     }
 }

@@ -1,0 +1,181 @@
+//! The open files of all processes, and pipes.
+ghost use Rattle.std.specs.Prelude.{◌≡◌, ◌↔◌, ◌⊎◌, ◌<◌, ◌≤◌, ◌+◌, ◌^◌, Some, None, Err, IsTrue, IsSome, IfOk, OnOk, OnErr};
+ghost use Rattle.std.specs.Option.{option_copied};
+ghost use Rattle.std.specs.FinMap as map;
+
+use crate::descs::{Descriptor, Descs};
+use crate::open_files::OpenFiles;
+use crate::opened::{FilesRefusal, Opened, What};
+use crate::pipes::Pipes;
+use pr_base::{Bytes, NoMemory};
+use std::alloc::Global;
+use std::marker::Model;
+
+/// The open files of all processes, and the pipes among them. An open file is a file description of
+/// open(2): what all copies of a descriptor share.
+///
+/// Each open file has a number, from 1 on, and so has each pipe. No number is used again.
+#[derive(Drop)]
+pub struct Files<M> {
+    open: OpenFiles<M>,
+    pipes: Pipes,
+    last_file: u64,
+    last_pipe: u32,
+}
+
+impl<M> Model for Files<M> {
+    ghost use Rattle.std.specs.Coded.{codes};
+    ghost use Rattle.kr_files.specs.Files.{Kept, kept_code};
+    ghost use Rattle.kr_files.specs.Sound.{kept_of, IsSound};
+
+    ghost Value = { Kept M };
+
+    ghost coded = { kept_code (Prim.hlevel (codes, M.code)) };
+
+    ghost view = { λ f. kept_of f.open f.pipes f.last_file f.last_pipe };
+
+    ghost invariant = { λ f. IsSound f.open.files f.pipes f.last_file f.last_pipe };
+}
+
+impl<M: Copy> Files<M> {
+    ghost use Rattle.kr_files.specs.Descriptors.{lowest_free, with_copy_at};
+    ghost use Rattle.kr_files.specs.Files.{empty_table, with_file, on_table, with_opened, at_offset, with_append, NamesOpenFiles, opened_at, count_at, by_descriptor, copied, released, Gives};
+    ghost use Rattle.kr_files.specs.Opened.{is_no_end};
+
+    /// Nothing is open. It takes no memory.
+    pub fn new(alloc: Global) -> Files<M>
+        ensures { result ≡ record { keys = map.empty; table = empty_table } }
+    {
+        Files {
+            open: OpenFiles::new(alloc),
+            pipes: Pipes::new(alloc),
+            last_file: 0,
+            last_pipe: 0,
+        }
+    }
+
+    /// Opens what is no end of a pipe, under the lowest free descriptor from `from` on.
+    pub fn open(
+        &mut self,
+        d: &mut Descs,
+        o: Opened<M>,
+        from: u32,
+        cloexec: bool,
+    ) -> Result<u32, FilesRefusal>
+        requires no_end { IsTrue (is_no_end o.what) }
+        requires numbers { self.old.table.last_file + 1 < 2 ^ 64 }
+        ensures full { (result ≡ Err FilesRefusal.Full) ↔ (lowest_free d.old from ≡ None) }
+        ensures lowest { IfOk result (λ fd. lowest_free d.old from ≡ Some fd) }
+        ensures table { OnOk result (self.new.table ≡ with_file o self.old.table) }
+        ensures gives { IfOk result (λ fd. Gives self.old self.new d.old d.new fd (self.old.table.last_file + 1) cloexec) }
+        ensures err { OnErr result (self.new ≡ self.old) }
+        ensures err_descs { OnErr result (d.new ≡ d.old) }
+    {
+        let Some(fd) = d.lowest_free(from) else {
+            return Err(FilesRefusal::Full);
+        };
+        self.open.reserve(1)?;
+        let number = self.last_file + 1;
+        let key = self.open.vacant_key();
+        d.put(
+            fd,
+            Descriptor {
+                key,
+                number,
+                cloexec,
+            },
+        )?;
+        self.open.add(number, o);
+        self.last_file = number;
+        Ok(fd)
+    }
+
+    /// Makes the lowest free descriptor from `from` on a copy of `fd`, which is open.
+    pub fn dup(
+        &mut self,
+        d: &mut Descs,
+        fd: u32,
+        from: u32,
+        cloexec: bool,
+    ) -> Result<u32, FilesRefusal>
+        requires is_open { IsSome (map.get d.old fd) }
+        requires names { NamesOpenFiles self.old d.old }
+        requires counts { count_at self.old d.old fd + 1 < 2 ^ 32 }
+        ensures full { (result ≡ Err FilesRefusal.Full) ↔ (lowest_free d.old from ≡ None) }
+        ensures lowest { IfOk result (λ to. lowest_free d.old from ≡ Some to) }
+        ensures files { OnOk result (self.new ≡ by_descriptor d.old fd copied self.old) }
+        ensures descs { IfOk result (λ to. d.new ≡ with_copy_at d.old fd to cloexec) }
+        ensures err { OnErr result (self.new ≡ self.old) }
+        ensures err_descs { OnErr result (d.new ≡ d.old) }
+    {
+        let Some(to) = d.lowest_free(from) else {
+            return Err(FilesRefusal::Full);
+        };
+        let original = d.get(fd).unwrap();
+        d.put(
+            to,
+            Descriptor {
+                cloexec,
+                ..original
+            },
+        )?;
+        self.open.raise(original);
+        Ok(to)
+    }
+
+    /// Closes a descriptor, which is open. The last one of an open file takes it away, and a pipe goes
+    /// with its last end.
+    pub fn close(&mut self, d: &mut Descs, fd: u32)
+        requires is_open { IsSome (map.get d.old fd) }
+        requires names { NamesOpenFiles self.old d.old }
+        ensures files { self.new ≡ by_descriptor d.old fd released self.old }
+        ensures descs { d.new ≡ map.remove d.old fd }
+    {
+        let descriptor = d.get(fd).unwrap();
+        d.clear(fd);
+        self.release(descriptor);
+    }
+
+    // Takes a descriptor away from what it names.
+    fn release(&mut self, descriptor: Descriptor)
+        requires { map.get self.old.keys descriptor.key ≡ Some descriptor.number }
+        ensures { self.new ≡ released descriptor self.old }
+    {
+        if let Some(what) = self.open.lower(descriptor) {
+            self.pipes.end(what);
+        }
+    }
+
+    /// What is open under a descriptor, `None` where it isn't open.
+    pub fn get(&self, d: &Descs, fd: u32) -> Option<&Opened<M>>
+        requires { NamesOpenFiles self.now d.now }
+        ensures { option_copied result ≡ opened_at self.now d.now fd }
+    {
+        match d.get(fd) {
+            Some(descriptor) => self.open.get(descriptor),
+            None => None,
+        }
+    }
+
+    /// Moves the offset of what is open under a descriptor.
+    pub fn seek(&mut self, d: &Descs, fd: u32, at: u64)
+        requires is_open { IsSome (map.get d.now fd) }
+        requires names { NamesOpenFiles self.old d.now }
+        ensures { self.new ≡ by_descriptor d.now fd (λ x. on_table (with_opened x.number (at_offset at))) self.old }
+    {
+        if let Some(descriptor) = d.get(fd) {
+            self.open.seek(descriptor, at);
+        }
+    }
+
+    /// Says whether each write of what is open under a descriptor goes to the end.
+    pub fn set_append(&mut self, d: &Descs, fd: u32, on: bool)
+        requires is_open { IsSome (map.get d.now fd) }
+        requires names { NamesOpenFiles self.old d.now }
+        ensures { self.new ≡ by_descriptor d.now fd (λ x. on_table (with_opened x.number (with_append on))) self.old }
+    {
+        if let Some(descriptor) = d.get(fd) {
+            self.open.set_append(descriptor, on);
+        }
+    }
+}
