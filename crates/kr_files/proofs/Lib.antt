@@ -1,6 +1,9 @@
 pub mod AnswerLemmas
+pub mod CloseLemmas
 pub mod DescriptorLemmas
+pub mod KindLemmas
 pub mod MapLemmas
 pub mod OpenFileLemmas
 pub mod SlotLemmas
+pub mod SoundLemmas
 pub mod TreeLemmas
