@@ -1,6 +1,7 @@
 -- Facts about what was answered.
-use Rattle.std.proofs.Common.{◌≡◌, Option, Some, None}
-use Rattle.std.specs.Prelude.{Result, Ok, Err, OnOk, OnErr, IfOk}
+use Rattle.std.proofs.Common.{◌≡◌, true, false, sym}
+use Rattle.std.proofs.lemmas.Bool.{false≢true}
+use Rattle.std.specs.Prelude.{Result, Ok, Err, is_err, OnOk, OnErr, IfOk}
 
 module _ {A E : Type 0} where
   -- a fact that holds whatever was answered holds where the answer is an error
@@ -19,3 +20,11 @@ module _ {A E : Type 0} where
   pub if_ok_map : (r : Result A E) (P Q : A → Type 0) → ((x : A) → P x → Q x) → IfOk r P → IfOk r Q
   if_ok_map (Ok x) P Q f p = f x p
   if_ok_map (Err e) P Q f p = tt
+
+  pub ok_of : (r : Result A E) (P : Type 0) → is_err r ≡ false → OnOk r P → P
+  ok_of (Ok x) P h p = p
+  ok_of (Err e) P h p = absurd (false≢true (sym h))
+
+  pub error_of : (r : Result A E) (P : Type 0) → is_err r ≡ true → OnErr r P → P
+  error_of (Ok x) P h p = absurd (false≢true h)
+  error_of (Err e) P h p = p

@@ -109,10 +109,10 @@ module _ {M : Type 0} (files : map.FinMap nat_cmp (Counted M)) (pipes : PipeTabl
         (sound-remove files pipes last_file last_pipe s n (cond (other_open side k) (changed pipes k (closing side)) (map.remove pipes k))
         (λ p q at. let r = found_in_cond (other_open side k) p q at in s.pipe_numbers p r.0 r.1)
         (λ t p q at. let r = found_in_cond (other_open side k) p q at in
-            elim (cases_eq p k) [
-              | inl same ↦ at_k t p q r.0 same r.1 (r.3 same)
-              | inr other ↦ ap (is_noted t) (r.2 other) ∙ s.noted t p r.0 r.1 ∙ sym (kind-remove_other (is_end t p) files n h here (not_it t p other))
-            ]))
+        elim (cases_eq p k) [
+          | inl same ↦ at_k t p q r.0 same r.1 (r.3 same)
+          | inr other ↦ ap (is_noted t) (r.2 other) ∙ s.noted t p r.0 r.1 ∙ sym (kind-remove_other (is_end t p) files n h here (not_it t p other))
+        ]))
       where
         not_it : (t : Bool) (p : ℕ) → p ≢ k → is_end t p h.opened.what ≡ false
         not_it t p other = by_side side t p other only_k not_opposite
@@ -171,7 +171,7 @@ module _ {M : Type 0} (files : map.FinMap nat_cmp (Counted M)) (pipes : PipeTabl
   bytes-last Out e = refl
   bytes-last Err e = refl
 
-same_kept : {M : Type 0} (j k : map.FinMap nat_cmp ℕ) (t u : Table M) → j ≡ k → t ≡ u → ◌≡◌ {A = Kept M} (record { keys = j; table = t }) (record { keys = k; table = u })
+pub same_kept : {M : Type 0} (j k : map.FinMap nat_cmp ℕ) (t u : Table M) → j ≡ k → t ≡ u → ◌≡◌ {A = Kept M} (record { keys = j; table = t }) (record { keys = k; table = u })
 same_kept j k t u e f = λ i. record { keys = e i; table = f i }
 
 module _ {M : Type 0} (table : Table M) (n : ℕ) where
@@ -191,8 +191,8 @@ module _ {M : Type 0} (table : Table M) (n : ℕ) where
   stays None e = (refl, refl)
   stays (Some h) e =
       elim (nat_lt 1 h.count) as (λ b. ◌≡◌ {A = Option What} (cond b None (Some h.opened.what)) None
-          → (not b ≡ false) × (◌≡◌ {A = Table M} (record table { files = cond b (map.insert table.files n (record h { count = h.count - 1 })) (map.remove table.files n) })
-          (cond b (record table { files = map.insert table.files n (record h { count = h.count - 1 }) }) (without_file n h.opened.what table)))) [
+      → (not b ≡ false) × (◌≡◌ {A = Table M} (record table { files = cond b (map.insert table.files n (record h { count = h.count - 1 })) (map.remove table.files n) })
+      (cond b (record table { files = map.insert table.files n (record h { count = h.count - 1 }) }) (without_file n h.opened.what table)))) [
         | true ↦ λ _. (refl, refl)
         | false ↦ λ f. absurd (none-some h.opened.what (sym f))
       ] e
@@ -202,9 +202,9 @@ module _ {M : Type 0} (table : Table M) (n : ℕ) where
   goes None what e = absurd (none-some what e)
   goes (Some h) what e =
       elim (nat_lt 1 h.count) as (λ b. ◌≡◌ {A = Option What} (cond b None (Some h.opened.what)) (Some what)
-          → (g : Counted M) × (Some h ≡ Some g) × (g.opened.what ≡ what) × (not b ≡ true)
-          × (cond b (map.insert table.files n (record h { count = h.count - 1 })) (map.remove table.files n) ≡ map.remove table.files n)
-          × (cond b (record table { files = map.insert table.files n (record h { count = h.count - 1 }) }) (without_file n h.opened.what table) ≡ without_file n what table)) [
+      → (g : Counted M) × (Some h ≡ Some g) × (g.opened.what ≡ what) × (not b ≡ true)
+      × (cond b (map.insert table.files n (record h { count = h.count - 1 })) (map.remove table.files n) ≡ map.remove table.files n)
+      × (cond b (record table { files = map.insert table.files n (record h { count = h.count - 1 }) }) (without_file n h.opened.what table) ≡ without_file n what table)) [
         | true ↦ λ f. absurd (none-some what f)
         | false ↦ λ f. (h, refl, same_Some h.opened.what what f, refl, refl, ap (λ w. without_file n w table) (same_Some h.opened.what what f))
       ] e
@@ -240,7 +240,7 @@ module _ {M : Type 0} (o new : Store M) (pipes : PipeTable) (last_file last_pipe
   less-same None ended at n = refl
   less-same (Some h) ended at n =
       elim (nat_lt 1 h.count) as (λ b. ◌≡◌ {A = Option What} (cond b None (Some h.opened.what)) None
-          → option_map (λ (g : Counted M). g.opened.what) (map.get (cond b (map.insert o.files x.number (record h { count = h.count - 1 })) (map.remove o.files x.number)) n) ≡ option_map (λ (g : Counted M). g.opened.what) (map.get o.files n)) [
+      → option_map (λ (g : Counted M). g.opened.what) (map.get (cond b (map.insert o.files x.number (record h { count = h.count - 1 })) (map.remove o.files x.number)) n) ≡ option_map (λ (g : Counted M). g.opened.what) (map.get o.files n)) [
         | true ↦ λ _. by_key (λ m. option_map (λ (g : Counted M). g.opened.what) (map.get (map.insert o.files x.number (record h { count = h.count - 1 })) m) ≡ option_map (λ (g : Counted M). g.opened.what) (map.get o.files m)) x.number
             (ap (option_map (λ (g : Counted M). g.opened.what)) (get-insert_same o.files x.number (record h { count = h.count - 1 })) ∙ sym (ap (option_map (λ (g : Counted M). g.opened.what)) at))
             (λ m other. ap (option_map (λ (g : Counted M). g.opened.what)) (get-insert_other o.files x.number (record h { count = h.count - 1 }) m other)) n

@@ -120,11 +120,11 @@ module _ {M : Type 0} (test : What → Bool) where
   kind-insert_other files n h free is =
       same_kind (map.insert files n h) files
       (λ m g found of_kind.
-          let away : m ≢ n = λ here. false≢true (sym is ∙ ap (λ (x : Counted M). test x.opened.what) (same_Some h g (sym (get-insert_same files n h) ∙ sym (ap (map.get (map.insert files n h)) here) ∙ found)) ∙ of_kind) in
-          (g, sym (get-insert_other files n h m away) ∙ found, of_kind))
+      let away : m ≢ n = λ here. false≢true (sym is ∙ ap (λ (x : Counted M). test x.opened.what) (same_Some h g (sym (get-insert_same files n h) ∙ sym (ap (map.get (map.insert files n h)) here) ∙ found)) ∙ of_kind) in
+      (g, sym (get-insert_other files n h m away) ∙ found, of_kind))
       (λ m g found of_kind.
-          let away : m ≢ n = λ here. none-some g (sym free ∙ sym (ap (map.get files) here) ∙ found) in
-          (g, get-insert_other files n h m away ∙ found, of_kind))
+      let away : m ≢ n = λ here. none-some g (sym free ∙ sym (ap (map.get files) here) ∙ found) in
+      (g, get-insert_other files n h m away ∙ found, of_kind))
 
   -- one more file that is of the kind
   pub kind-insert_same : (files : map.FinMap nat_cmp (Counted M)) (n : ℕ) (h : Counted M) → test h.opened.what ≡ true → has_kind test (map.insert files n h) ≡ true
@@ -143,16 +143,16 @@ module _ {M : Type 0} (test : What → Bool) where
   kind-remove_other files n h here is =
       same_kind (map.remove files n) files
       (λ m g found of_kind.
-          let away : m ≢ n = λ at. none-some g (sym (get-remove_same files n) ∙ sym (ap (map.get (map.remove files n)) at) ∙ found) in
-          (g, sym (get-remove_other files n m away) ∙ found, of_kind))
+      let away : m ≢ n = λ at. none-some g (sym (get-remove_same files n) ∙ sym (ap (map.get (map.remove files n)) at) ∙ found) in
+      (g, sym (get-remove_other files n m away) ∙ found, of_kind))
       (λ m g found of_kind.
-          let away : m ≢ n = λ at. false≢true (sym is ∙ ap (λ (x : Counted M). test x.opened.what) (same_Some h g (sym here ∙ sym (ap (map.get files) at) ∙ found)) ∙ of_kind) in
-          (g, get-remove_other files n m away ∙ found, of_kind))
+      let away : m ≢ n = λ at. false≢true (sym is ∙ ap (λ (x : Counted M). test x.opened.what) (same_Some h g (sym here ∙ sym (ap (map.get files) at) ∙ found)) ∙ of_kind) in
+      (g, get-remove_other files n m away ∙ found, of_kind))
 
   -- the only file of the kind taken away
   pub kind-remove_only : (files : map.FinMap nat_cmp (Counted M)) (n : ℕ)
       → ((m : ℕ) (g : Counted M) → map.get files m ≡ Some g → test g.opened.what ≡ true → m ≡ n) → has_kind test (map.remove files n) ≡ false
   kind-remove_only files n only =
       no_kind (map.remove files n) (λ m g found. not_true (test g.opened.what) (λ of_kind.
-          let away : m ≢ n = λ at. none-some g (sym (get-remove_same files n) ∙ sym (ap (map.get (map.remove files n)) at) ∙ found) in
-          away (only m g (sym (get-remove_other files n m away) ∙ found) of_kind)))
+      let away : m ≢ n = λ at. none-some g (sym (get-remove_same files n) ∙ sym (ap (map.get (map.remove files n)) at) ∙ found) in
+      away (only m g (sym (get-remove_other files n m away) ∙ found) of_kind)))

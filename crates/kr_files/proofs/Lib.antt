@@ -1,9 +1,11 @@
 pub mod AnswerLemmas
 pub mod CloseLemmas
+pub mod CountLemmas
 pub mod DescriptorLemmas
 pub mod KindLemmas
 pub mod MapLemmas
 pub mod OpenFileLemmas
+pub mod PipeLemmas
 pub mod SlotLemmas
 pub mod SoundLemmas
 pub mod TreeLemmas

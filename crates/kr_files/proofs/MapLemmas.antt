@@ -2,7 +2,8 @@
 use Rattle.std.specs.FinMap as map
 use Rattle.std.specs.FinMap.Entries.{below_all}
 use Rattle.std.proofs.Common.{◌≡◌, ◌≢◌, inl, inr, subst, ℕ, Bool, true, false, ◌&&◌, length, List, [], ◌∷◌, refl, sym, ap, ◌∙◌, arith, cond, Option, Some, None}
-use Rattle.std.specs.Prelude.{map as map_list}
+use Rattle.std.specs.Prelude.{IsSome, map as map_list}
+use Rattle.std.proofs.lemmas.Option.{none-some}
 use lib.Dec.{T}
 use Rattle.std.proofs.lemmas.List.{length-map}
 use Rattle.std.specs.Option.{option_map, option_map_or}
@@ -47,6 +48,20 @@ module _ {X : Type 0} where
   unfolding changed
   changed-none m k f e = ap (λ o. option_map_or (λ y. map.insert m k (f y)) o m) e
 
+  -- what is there stays when something is put
+  pub some-insert : (m : map.FinMap nat_cmp X) (k q : ℕ) (x : X) → IsSome (map.get m q) → IsSome (map.get (map.insert m k x) q)
+  some-insert m k q x some =
+      elim (cases_eq q k) [
+        | inl same ↦ subst IsSome (sym (ap (map.get (map.insert m k x)) same ∙ get-insert_same m k x)) refl
+        | inr other ↦ subst IsSome (sym (get-insert_other m k x q other)) some
+      ]
+
+  -- a key that is free after something was put was free before, and isn't the one that was put
+  pub free-insert : (m : map.FinMap nat_cmp X) (k q : ℕ) (x : X) → map.get (map.insert m k x) q ≡ None → (q ≢ k) × (map.get m q ≡ None)
+  free-insert m k q x free =
+      let other : q ≢ k = λ same. none-some x (sym free ∙ ap (map.get (map.insert m k x)) same ∙ get-insert_same m k x) in
+      (other, sym (get-insert_other m k x q other) ∙ free)
+
   -- a key that isn't there is taken away by nothing
   pub remove-none : (m : map.FinMap nat_cmp X) (k : ℕ) → map.get m k ≡ None → map.remove m k ≡ m
   remove-none m k e = same_values _ _ (by_key (λ q. map.get (map.remove m k) q ≡ map.get m q) k (get-remove_same m k ∙ sym e) (λ q h. get-remove_other m k q h))
@@ -75,9 +90,9 @@ module _ {X : Type 0} where
       same_values _ _ (by_key (λ q. map.get (map.insert (map.insert m j x) k y) q ≡ map.get (map.insert (map.insert m k y) j x) q) k
       (get-insert_same (map.insert m j x) k y ∙ sym (get-insert_other (map.insert m k y) j x k (λ e. apart (sym e)) ∙ get-insert_same m k y))
       (λ q h. get-insert_other (map.insert m j x) k y q h
-          ∙ by_key (λ r. (r ≢ k → map.get (map.insert m j x) r ≡ map.get (map.insert (map.insert m k y) j x) r)) j
-          (λ _. get-insert_same m j x ∙ sym (get-insert_same (map.insert m k y) j x))
-          (λ r other away. get-insert_other m j x r other ∙ sym (get-insert_other (map.insert m k y) j x r other ∙ get-insert_other m k y r away)) q h))
+      ∙ by_key (λ r. (r ≢ k → map.get (map.insert m j x) r ≡ map.get (map.insert (map.insert m k y) j x) r)) j
+      (λ _. get-insert_same m j x ∙ sym (get-insert_same (map.insert m k y) j x))
+      (λ r other away. get-insert_other m j x r other ∙ sym (get-insert_other (map.insert m k y) j x r other ∙ get-insert_other m k y r away)) q h))
 
   pub get-changed_same : (m : map.FinMap nat_cmp X) (k : ℕ) (f : X → X) → map.get (changed m k f) k ≡ option_map f (map.get m k)
   unfolding changed

@@ -13,7 +13,7 @@ use Rattle.kr_files.specs.declared.open_files.OpenFile.{OpenFile}
 use Rattle.kr_files.specs.Files.{Counted}
 use Rattle.kr_files.specs.Maps.{changed, mapped}
 use Rattle.kr_files.specs.OpenFiles.{Store, store_of, counted, files_in, numbers_in, AreDistinct, ended_kind, with_one_less}
-use Rattle.kr_files.proofs.MapLemmas.{same_values, by_key, get-insert_same, get-insert_other, get-remove_same, get-remove_other, changed-some, get-mapped}
+use Rattle.kr_files.proofs.MapLemmas.{some-insert, same_values, by_key, get-insert_same, get-insert_other, get-remove_same, get-remove_other, changed-some, get-mapped}
 use Rattle.kr_files.proofs.SlotLemmas.{get-slots}
 
 -- two options are the same where each value of one is that of the other
@@ -70,13 +70,6 @@ module _ {M : Type 0} where
             (suc later.0, later.1, later.2, later.3, later.4)
       ]
 
-  some_inserted : (m : map.FinMap nat_cmp (Counted M)) (k q : ℕ) (h : Counted M) → IsSome (map.get m q) → IsSome (map.get (map.insert m k h) q)
-  some_inserted m k q h some =
-      elim (cases_eq q k) [
-        | inl same ↦ subst IsSome (sym (ap (map.get (map.insert m k h)) same ∙ get-insert_same m k h)) refl
-        | inr other ↦ subst IsSome (sym (get-insert_other m k h q other)) some
-      ]
-
   is_found : (xs : List (Option (OpenFile M))) (k : ℕ) (e : OpenFile M) → get_or xs k None ≡ Some e → IsSome (map.get (files_in xs) e.number)
   is_found [] k e here = absurd (none-some e here)
   is_found (None ∷ xs) zero e here = absurd (none-some e here)
@@ -84,7 +77,7 @@ module _ {M : Type 0} where
       let same : a ≡ e = same_Some a e here in
       subst IsSome (sym (ap (λ (x : OpenFile M). map.get (files_in (Some a ∷ xs)) x.number) (sym same) ∙ get-insert_same (files_in xs) a.number (counted a))) refl
   is_found (None ∷ xs) (suc k) e here = is_found xs k e here
-  is_found (Some a ∷ xs) (suc k) e here = some_inserted (files_in xs) a.number e.number (counted a) (is_found xs k e here)
+  is_found (Some a ∷ xs) (suc k) e here = some-insert (files_in xs) a.number e.number (counted a) (is_found xs k e here)
 
   -- a file in a slot is found
   pub get-files_in : (xs : List (Option (OpenFile M))) (k : ℕ) (e : OpenFile M) → AreDistinct xs → get_or xs k None ≡ Some e → map.get (files_in xs) e.number ≡ Some (counted e)
@@ -140,7 +133,7 @@ module _ {M : Type 0} where
         same_values _ _ (by_key (λ q. map.get (numbers_in t.slots) q ≡ map.get (map.insert (numbers_in s.slots) key e.number) q) key
         (get-numbers_in t.slots key ∙ ap (option_map (λ (x : OpenFile M). x.number)) u.changed ∙ sym (get-insert_same (numbers_in s.slots) key e.number))
         (λ q other. get-numbers_in t.slots q ∙ ap (option_map (λ (x : OpenFile M). x.number)) (u.others q other) ∙ sym (get-numbers_in s.slots q)
-            ∙ sym (get-insert_other (numbers_in s.slots) key e.number q other)))
+        ∙ sym (get-insert_other (numbers_in s.slots) key e.number q other)))
 
     pub files-put : (e : OpenFile M) → AreDistinct s.slots → AreDistinct t.slots → Updates s t key (Some e)
         → ((a : OpenFile M) → get s key ≡ Some a → a.number ≡ e.number) → files_in t.slots ≡ map.insert (files_in s.slots) e.number (counted e)
@@ -148,15 +141,15 @@ module _ {M : Type 0} where
         same_values _ _ (by_key (λ q. map.get (files_in t.slots) q ≡ map.get (map.insert (files_in s.slots) e.number (counted e)) q) e.number
         (get-files_in t.slots key e new u.changed ∙ sym (get-insert_same (files_in s.slots) e.number (counted e)))
         (λ q other. same_options _ _
-            (λ h found.
-                let slot = slot_of t.slots q h found in
-                let away : slot.0 ≢ key = λ here. other (sym slot.3 ∙ ap (λ (x : OpenFile M). x.number) (same_Some slot.1 e (sym slot.2 ∙ ap (get t) here ∙ u.changed))) in
-                sym (ap (map.get (files_in s.slots)) slot.3) ∙ get-files_in s.slots slot.0 slot.1 old (sym (u.others slot.0 away) ∙ slot.2) ∙ ap Some slot.4)
-            (λ h found.
-                let slot = slot_of s.slots q h found in
-                let away : slot.0 ≢ key = λ here. other (sym slot.3 ∙ was slot.1 (sym (ap (get s) here) ∙ slot.2)) in
-                sym (ap (map.get (files_in t.slots)) slot.3) ∙ get-files_in t.slots slot.0 slot.1 new (u.others slot.0 away ∙ slot.2) ∙ ap Some slot.4)
-            ∙ sym (get-insert_other (files_in s.slots) e.number (counted e) q other)))
+        (λ h found.
+        let slot = slot_of t.slots q h found in
+        let away : slot.0 ≢ key = λ here. other (sym slot.3 ∙ ap (λ (x : OpenFile M). x.number) (same_Some slot.1 e (sym slot.2 ∙ ap (get t) here ∙ u.changed))) in
+        sym (ap (map.get (files_in s.slots)) slot.3) ∙ get-files_in s.slots slot.0 slot.1 old (sym (u.others slot.0 away) ∙ slot.2) ∙ ap Some slot.4)
+        (λ h found.
+        let slot = slot_of s.slots q h found in
+        let away : slot.0 ≢ key = λ here. other (sym slot.3 ∙ was slot.1 (sym (ap (get s) here) ∙ slot.2)) in
+        sym (ap (map.get (files_in t.slots)) slot.3) ∙ get-files_in t.slots slot.0 slot.1 new (u.others slot.0 away ∙ slot.2) ∙ ap Some slot.4)
+        ∙ sym (get-insert_other (files_in s.slots) e.number (counted e) q other)))
 
     -- ---- a slot emptied
 
@@ -170,29 +163,29 @@ module _ {M : Type 0} where
         same_values _ _ (by_key (λ q. map.get (numbers_in t.slots) q ≡ map.get (map.remove (numbers_in s.slots) key) q) key
         (get-numbers_in t.slots key ∙ ap (option_map (λ (x : OpenFile M). x.number)) u.changed ∙ sym (get-remove_same (numbers_in s.slots) key))
         (λ q other. get-numbers_in t.slots q ∙ ap (option_map (λ (x : OpenFile M). x.number)) (u.others q other) ∙ sym (get-numbers_in s.slots q)
-            ∙ sym (get-remove_other (numbers_in s.slots) key q other)))
+        ∙ sym (get-remove_other (numbers_in s.slots) key q other)))
 
     pub files-clear : (e : OpenFile M) → AreDistinct s.slots → Updates s t key None → get s key ≡ Some e → files_in t.slots ≡ map.remove (files_in s.slots) e.number
     files-clear e old u was =
         let new = distinct-clear old u in
         same_values _ _ (by_key (λ q. map.get (files_in t.slots) q ≡ map.get (map.remove (files_in s.slots) e.number) q) e.number
         (same_options _ _
-            (λ h found.
-                let slot = slot_of t.slots e.number h found in
-                let away : slot.0 ≢ key = λ here. none-some slot.1 (sym u.changed ∙ sym (ap (get t) here) ∙ slot.2) in
-                absurd (away (old slot.0 key slot.1 e (sym (u.others slot.0 away) ∙ slot.2) was slot.3)))
-            (λ h found. absurd (none-some h found))
-            ∙ sym (get-remove_same (files_in s.slots) e.number))
+        (λ h found.
+        let slot = slot_of t.slots e.number h found in
+        let away : slot.0 ≢ key = λ here. none-some slot.1 (sym u.changed ∙ sym (ap (get t) here) ∙ slot.2) in
+        absurd (away (old slot.0 key slot.1 e (sym (u.others slot.0 away) ∙ slot.2) was slot.3)))
+        (λ h found. absurd (none-some h found))
+        ∙ sym (get-remove_same (files_in s.slots) e.number))
         (λ q other. same_options _ _
-            (λ h found.
-                let slot = slot_of t.slots q h found in
-                let away : slot.0 ≢ key = λ here. none-some slot.1 (sym u.changed ∙ sym (ap (get t) here) ∙ slot.2) in
-                sym (ap (map.get (files_in s.slots)) slot.3) ∙ get-files_in s.slots slot.0 slot.1 old (sym (u.others slot.0 away) ∙ slot.2) ∙ ap Some slot.4)
-            (λ h found.
-                let slot = slot_of s.slots q h found in
-                let away : slot.0 ≢ key = λ here. other (sym slot.3 ∙ ap (λ (x : OpenFile M). x.number) (same_Some slot.1 e (sym slot.2 ∙ ap (get s) here ∙ was))) in
-                sym (ap (map.get (files_in t.slots)) slot.3) ∙ get-files_in t.slots slot.0 slot.1 new (u.others slot.0 away ∙ slot.2) ∙ ap Some slot.4)
-            ∙ sym (get-remove_other (files_in s.slots) e.number q other)))
+        (λ h found.
+        let slot = slot_of t.slots q h found in
+        let away : slot.0 ≢ key = λ here. none-some slot.1 (sym u.changed ∙ sym (ap (get t) here) ∙ slot.2) in
+        sym (ap (map.get (files_in s.slots)) slot.3) ∙ get-files_in s.slots slot.0 slot.1 old (sym (u.others slot.0 away) ∙ slot.2) ∙ ap Some slot.4)
+        (λ h found.
+        let slot = slot_of s.slots q h found in
+        let away : slot.0 ≢ key = λ here. other (sym slot.3 ∙ ap (λ (x : OpenFile M). x.number) (same_Some slot.1 e (sym slot.2 ∙ ap (get s) here ∙ was))) in
+        sym (ap (map.get (files_in t.slots)) slot.3) ∙ get-files_in t.slots slot.0 slot.1 new (u.others slot.0 away ∙ slot.2) ∙ ap Some slot.4)
+        ∙ sym (get-remove_other (files_in s.slots) e.number q other)))
 
   -- ---- a file changed in its slot
 

@@ -16,6 +16,10 @@ descriptor_code =
 abbrev pub with_cloexec : Bool → Descriptor → Descriptor
 with_cloexec on x = record x { cloexec = on }
 
+-- a descriptor that is taken, and names nothing yet
+abbrev pub unnamed : Bool → Descriptor
+unnamed cloexec = record { key = 0; number = 0; cloexec = cloexec }
+
 -- descriptors by their numbers
 abbrev pub Descriptors : Type 0
 Descriptors = map.FinMap nat_cmp Descriptor

@@ -1,6 +1,6 @@
 -- The open files and pipes of a machine, by their numbers.
 use Rattle.std.specs.FinMap as map
-use Rattle.std.specs.Prelude.{◌≡◌, ◌≢◌, ℕ, zero, suc, ◌+◌, ◌-◌, ◌==◌, ◌<◌, ◌≤◌, Bool, true, false, ◌||◌, not, List, [], ◌++◌, length, drop, nat_lt, Option, Some, None, if◌then◌else◌, refl}
+use Rattle.std.specs.Prelude.{◌≡◌, ◌≢◌, ℕ, zero, suc, ◌+◌, ◌-◌, ◌==◌, ◌<◌, ◌≤◌, ◌^◌, Bool, true, false, ◌||◌, not, List, [], ◌++◌, length, drop, nat_lt, Option, Some, None, if◌then◌else◌, refl}
 use Rattle.std.specs.List.{list_any}
 use Rattle.std.specs.Option.{option_map, option_map_or, option_and_then}
 use Rattle.std.specs.Ordering.{nat_cmp}
@@ -10,7 +10,7 @@ use Rattle.kr_files.specs.declared.opened.Opened.{Opened}
 use Rattle.kr_files.specs.declared.opened.What.{What}
 use Rattle.kr_files.specs.declared.opened.What.TheVariants.{File, Dir, In, Out, Err, PipeRead, PipeWrite}
 use Rattle.kr_files.specs.declared.opened.PipeState.{PipeState}
-use Rattle.kr_files.specs.Descriptors.{Descriptors, Meanings, named_count}
+use Rattle.kr_files.specs.Descriptors.{Descriptors, Meanings, meanings, named_count}
 use Rattle.kr_files.specs.Maps.{changed, mapped}
 use Rattle.kr_files.specs.Opened.{is_reader, is_writer, pipe_end, after_removal, after_rename}
 use Rattle.kr_files.specs.Pipes.{after_write}
@@ -167,6 +167,25 @@ kept_code code =
     })
     (λ _. refl)
 
+-- a new open file has a key that was free, and a descriptor that was
+pub record Gives (old new : map.FinMap nat_cmp ℕ) (old_descs new_descs : Descriptors) (fd number : ℕ) (cloexec : Bool) : Type 0 where
+  pub key : ℕ
+  pub was_free : map.get old key ≡ None
+  pub keys : new ≡ map.insert old key number
+  pub descs : new_descs ≡ map.insert old_descs fd (record { key = key; number = number; cloexec = cloexec })
+
+-- two new open files have keys that were free, and the ends of a pipe
+pub record GivesPair (old new : map.FinMap nat_cmp ℕ) (old_descs new_descs : Descriptors) (first second number : ℕ) (cloexec : Bool) : Type 0 where
+  pub reader : ℕ
+  pub writer : ℕ
+  pub reader_free : map.get old reader ≡ None
+  pub writer_free : map.get old writer ≡ None
+  pub apart : writer ≢ reader
+  pub keys : new ≡ map.insert (map.insert old reader number) writer (number + 1)
+  pub descs : new_descs ≡ map.insert
+      (map.insert old_descs first (record { key = reader; number = number; cloexec = cloexec }))
+      second (record { key = writer; number = number + 1; cloexec = cloexec })
+
 module _ {M : Type 0} where
   -- every descriptor names an open file: the one that its key leads to has its number
   abbrev pub NamesOpenFiles : Kept M → Descriptors → Type 0
@@ -199,9 +218,6 @@ module _ {M : Type 0} where
     table = closed x.number f.table;
   }
 
-  -- a new open file has a key that was free, and a descriptor that was
-  pub record Gives (old new : Kept M) (old_descs new_descs : Descriptors) (fd number : ℕ) (cloexec : Bool) : Type 0 where
-    pub key : ℕ
-    pub was_free : map.get old.keys key ≡ None
-    pub keys : new.keys ≡ map.insert old.keys key number
-    pub descs : new_descs ≡ map.insert old_descs fd (record { key = key; number = number; cloexec = cloexec })
+  -- each open file's count of descriptors has room for a copy of each of these
+  abbrev pub FitsCopies : Kept M → Descriptors → Type 0
+  FitsCopies f d = (n : ℕ) (h : Counted M) → map.get f.table.files n ≡ Some h → h.count + named_count (meanings d) n < 2 ^ 32

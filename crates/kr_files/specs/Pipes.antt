@@ -14,10 +14,14 @@ use Rattle.kr_files.specs.declared.opened.Wrote.TheVariants.{Took, NotReady as W
 
 -- ---- reading and writing, by the bytes that a pipe holds
 
+-- whether a read waits: the pipe is empty, and has a writer
+abbrev pub read_waits : List ℕ → Bool → Bool
+read_waits bytes writer = length bytes == 0 && writer
+
 -- what a read of n bytes answers: the oldest bytes, as many as there are up to n, and none of an empty
 -- pipe without a writer
 abbrev pub moved_of : List ℕ → Bool → ℕ → Moved
-moved_of bytes writer n = if length bytes == 0 && writer then ReadNotReady else Bytes (take n bytes)
+moved_of bytes writer n = if read_waits bytes writer then ReadNotReady else Bytes (take n bytes)
 
 -- what a write answers: it takes as many bytes as there is room for in 65,536
 abbrev pub wrote_of : List ℕ → Bool → List ℕ → Wrote
@@ -61,12 +65,14 @@ holding bytes p = record p { bytes = bytes }
 -- whether a pipe's end for reading is open, and that for writing
 abbrev pub reader_open : ℕ → PipeTable → Bool
 reader_open k pipes = option_map_or (λ p. p.reader) (map.get pipes k) false
+
 abbrev pub writer_open : ℕ → PipeTable → Bool
 writer_open k pipes = option_map_or (λ p. p.writer) (map.get pipes k) false
 
 -- with an end closed
 abbrev pub without_reader : Pipe → Pipe
 without_reader p = record p { reader = false }
+
 abbrev pub without_writer : Pipe → Pipe
 without_writer p = record p { writer = false }
 

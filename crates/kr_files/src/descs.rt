@@ -43,9 +43,11 @@ impl Model for Descs {
 }
 
 impl Descriptor {
+    ghost use Rattle.kr_files.specs.Descriptors.{unnamed};
+
     /// A descriptor that is taken, and names no open file yet.
     pub(crate) fn unnamed(cloexec: bool) -> Descriptor
-        ensures { result ≡ record { key = 0; number = 0; cloexec = cloexec } }
+        ensures { result ≡ unnamed cloexec }
     {
         Descriptor {
             key: 0,
@@ -69,7 +71,7 @@ fn widen(list: &mut Vec<Option<Descriptor>>, len: usize) -> Result<(), NoMemory>
 }
 
 impl Descs {
-    ghost use Rattle.kr_files.specs.Descriptors.{lowest_free, with_cloexec, cloexec_of};
+    ghost use Rattle.kr_files.specs.Descriptors.{lowest_free, with_cloexec, cloexec_of, unnamed};
     ghost use Rattle.kr_files.specs.Maps.{changed};
 
     /// No descriptor is open. It takes no memory.
@@ -146,6 +148,32 @@ impl Descs {
         if (fd as usize) < self.list.len() {
             self.list[fd as usize] = Some(descriptor);
         }
+    }
+
+    /// Takes two descriptors that name nothing yet, both or none of them.
+    pub(crate) fn claim_pair(
+        &mut self,
+        first: u32,
+        second: u32,
+        cloexec: bool,
+    ) -> Result<(), NoMemory>
+        requires order { first < second }
+        requires below { second < 1024 }
+        ensures ok { OnOk result (self.new ≡ map.insert (map.insert self.old first (unnamed cloexec)) second (unnamed cloexec)) }
+        ensures err { OnErr result (self.new ≡ self.old) }
+    {
+        widen(&mut self.list, second as usize + 1)?;
+        self.list[first as usize] = Some(Descriptor::unnamed(cloexec));
+        self.list[second as usize] = Some(Descriptor::unnamed(cloexec));
+        Ok(())
+    }
+
+    /// From this number on no descriptor is open.
+    pub(crate) fn len(&self) -> u32
+        ensures free { (q : ℕ) → result ≤ q → map.get self.now q ≡ None }
+        ensures bound { result ≤ 1024 }
+    {
+        self.list.len() as u32
     }
 
     /// Frees a descriptor.

@@ -1,11 +1,11 @@
 //! The open files of all processes, and pipes.
-ghost use Rattle.std.specs.Prelude.{◌≡◌, ◌↔◌, ◌⊎◌, ◌<◌, ◌≤◌, ◌+◌, ◌^◌, Some, None, Err, IsTrue, IsSome, IfOk, OnOk, OnErr};
-ghost use Rattle.std.specs.Option.{option_copied};
+ghost use Rattle.std.specs.Prelude.{◌≡◌, ◌≢◌, ◌↔◌, ◌⊎◌, ◌<◌, ◌≤◌, ◌+◌, ◌^◌, length, Some, None, Err, IsTrue, IsSome, IfOk, OnOk, OnErr};
+ghost use Rattle.std.specs.Option.{option_copied, option_map};
 ghost use Rattle.std.specs.FinMap as map;
 
 use crate::descs::{Descriptor, Descs};
 use crate::open_files::OpenFiles;
-use crate::opened::{FilesRefusal, Opened, What};
+use crate::opened::{FilesRefusal, Moved, Opened, PipeState, What, Wrote};
 use crate::pipes::Pipes;
 use pr_base::{Bytes, NoMemory};
 use std::alloc::Global;
@@ -21,7 +21,11 @@ pub struct Files<M> {
     pipes: Pipes,
     last_file: u64,
     last_pipe: u32,
+    alloc: Global,
 }
+
+/// How many pipes there may be.
+const PIPES: usize = 4096;
 
 impl<M> Model for Files<M> {
     ghost use Rattle.std.specs.Coded.{codes};
@@ -38,9 +42,10 @@ impl<M> Model for Files<M> {
 }
 
 impl<M: Copy> Files<M> {
-    ghost use Rattle.kr_files.specs.Descriptors.{lowest_free, with_copy_at};
-    ghost use Rattle.kr_files.specs.Files.{empty_table, with_file, on_table, with_opened, at_offset, with_append, NamesOpenFiles, opened_at, count_at, by_descriptor, copied, released, Gives};
+    ghost use Rattle.kr_files.specs.Descriptors.{lowest_free, lowest_pair, with_copy_at, meanings};
+    ghost use Rattle.kr_files.specs.Files.{empty_table, with_file, with_pipe, with_copies, FitsCopies, GivesPair, has_reader, has_writer, pipe_after_read, pipe_after_write, pipe_state_of, on_table, with_opened, at_offset, with_append, NamesOpenFiles, opened_at, count_at, by_descriptor, copied, released, Gives};
     ghost use Rattle.kr_files.specs.Opened.{is_no_end};
+    ghost use Rattle.kr_files.specs.Pipes.{moved_of, wrote_of};
 
     /// Nothing is open. It takes no memory.
     pub fn new(alloc: Global) -> Files<M>
@@ -51,6 +56,7 @@ impl<M: Copy> Files<M> {
             pipes: Pipes::new(alloc),
             last_file: 0,
             last_pipe: 0,
+            alloc,
         }
     }
 
@@ -67,7 +73,7 @@ impl<M: Copy> Files<M> {
         ensures full { (result ≡ Err FilesRefusal.Full) ↔ (lowest_free d.old from ≡ None) }
         ensures lowest { IfOk result (λ fd. lowest_free d.old from ≡ Some fd) }
         ensures table { OnOk result (self.new.table ≡ with_file o self.old.table) }
-        ensures gives { IfOk result (λ fd. Gives self.old self.new d.old d.new fd (self.old.table.last_file + 1) cloexec) }
+        ensures gives { IfOk result (λ fd. Gives self.old.keys self.new.keys d.old d.new fd (self.old.table.last_file + 1) cloexec) }
         ensures err { OnErr result (self.new ≡ self.old) }
         ensures err_descs { OnErr result (d.new ≡ d.old) }
     {
@@ -121,6 +127,135 @@ impl<M: Copy> Files<M> {
         )?;
         self.open.raise(original);
         Ok(to)
+    }
+
+    /// Makes a descriptor a copy of `fd`, which is open. Where it was open before, that one is closed.
+    pub fn dup_to(&mut self, d: &mut Descs, fd: u32, to: u32, cloexec: bool) -> Result<(), NoMemory>
+        requires is_open { IsSome (map.get d.old fd) }
+        requires below { to < 1024 }
+        requires other { to ≢ fd }
+        requires names { NamesOpenFiles self.old d.old }
+        requires counts { count_at self.old d.old fd + 1 < 2 ^ 32 }
+        ensures files { OnOk result (self.new ≡ by_descriptor d.old to released (by_descriptor d.old fd copied self.old)) }
+        ensures descs { OnOk result (d.new ≡ with_copy_at d.old fd to cloexec) }
+        ensures err { OnErr result (self.new ≡ self.old) }
+        ensures err_descs { OnErr result (d.new ≡ d.old) }
+    {
+        let original = d.get(fd).unwrap();
+        let replaced = d.get(to);
+        d.put(
+            to,
+            Descriptor {
+                cloexec,
+                ..original
+            },
+        )?;
+        self.open.raise(original);
+        if let Some(replaced) = replaced {
+            self.release(replaced);
+        }
+        Ok(())
+    }
+
+    /// Makes a pipe, and opens its ends under the two lowest free descriptors, the reader first.
+    pub fn pipe(&mut self, d: &mut Descs, cloexec: bool) -> Result<(u32, u32), FilesRefusal>
+        requires files { self.old.table.last_file + 2 < 2 ^ 64 }
+        requires pipes { self.old.table.last_pipe + 1 < 2 ^ 32 }
+        ensures full { (result ≡ Err FilesRefusal.Full) ↔ ((lowest_pair d.old ≡ None) ⊎ (4096 ≤ map.len self.old.table.pipes)) }
+        ensures lowest { IfOk result (λ fds. lowest_pair d.old ≡ Some (fds.0, fds.1)) }
+        ensures table { OnOk result (self.new.table ≡ with_pipe self.old.table) }
+        ensures gives { IfOk result (λ fds. GivesPair self.old.keys self.new.keys d.old d.new fds.0 fds.1 (self.old.table.last_file + 1) cloexec) }
+        ensures err { OnErr result (self.new ≡ self.old) }
+        ensures err_descs { OnErr result (d.new ≡ d.old) }
+    {
+        let Some(first) = d.lowest_free(0) else {
+            return Err(FilesRefusal::Full);
+        };
+        let Some(second) = d.lowest_free(first + 1) else {
+            return Err(FilesRefusal::Full);
+        };
+        if self.pipes.len() >= PIPES {
+            return Err(FilesRefusal::Full);
+        }
+        if self.open.reserve(2).is_err() {
+            return Err(FilesRefusal::NoMemory);
+        }
+        let pipe = self.last_pipe + 1;
+        if self.pipes.add(pipe).is_err() {
+            return Err(FilesRefusal::NoMemory);
+        }
+        if d.claim_pair(first, second, cloexec).is_err() {
+            self.pipes.remove(pipe);
+            return Err(FilesRefusal::NoMemory);
+        }
+        let number = self.last_file + 1;
+        let ends = (
+            Opened::reader(self.alloc, pipe),
+            Opened::writer(self.alloc, pipe),
+        );
+        self.open
+            .add_pair(d, (first, second), ends, number, cloexec);
+        self.last_file = number + 1;
+        self.last_pipe = pipe;
+        Ok((first, second))
+    }
+
+    /// A copy of all descriptors, for a new process.
+    pub fn fork(&mut self, d: &Descs) -> Result<Descs, NoMemory>
+        requires names { NamesOpenFiles self.old d.now }
+        requires counts { FitsCopies self.old d.now }
+        ensures copies { IfOk result (λ copy. copy ≡ d.now) }
+        ensures files { OnOk result (self.new ≡ on_table (with_copies (meanings d.now)) self.old) }
+        ensures err { OnErr result (self.new ≡ self.old) }
+    {
+        let copy = d.copy()?;
+        self.open.raise_all(d);
+        Ok(copy)
+    }
+
+    /// Takes the oldest bytes out of a pipe, as many as there are up to `n`.
+    pub fn pipe_read(&mut self, pipe: u32, n: usize) -> Result<Moved, NoMemory>
+        requires exists { IsSome (map.get self.old.table.pipes pipe) }
+        requires asked { 0 < n }
+        ensures answer { IfOk result (λ moved. option_map (λ bytes. moved_of bytes (has_writer self.old.table pipe) n) (map.get self.old.table.pipes pipe) ≡ Some moved) }
+        ensures after { OnOk result (self.new ≡ on_table (pipe_after_read pipe n) self.old) }
+        ensures err { OnErr result (self.new ≡ self.old) }
+    {
+        if self.pipes.waits_for_writer(pipe) {
+            return Ok(Moved::NotReady);
+        }
+        Ok(Moved::Bytes(self.pipes.take(pipe, n)?))
+    }
+
+    /// Puts bytes into a pipe, as many as there is room for.
+    pub fn pipe_write(&mut self, pipe: u32, b: &[u8]) -> Result<Wrote, NoMemory>
+        requires exists { IsSome (map.get self.old.table.pipes pipe) }
+        requires asked { 0 < length b.now }
+        ensures answer { IfOk result (λ wrote. option_map (λ bytes. wrote_of bytes (has_reader self.old.table pipe) b.now) (map.get self.old.table.pipes pipe) ≡ Some wrote) }
+        ensures after { OnOk result (self.new ≡ on_table (pipe_after_write pipe b.now) self.old) }
+        ensures err { OnErr result (self.new ≡ self.old) }
+    {
+        if !self.pipes.has_reader(pipe) {
+            return Ok(Wrote::NoReader);
+        }
+        if self.pipes.is_full(pipe) {
+            return Ok(Wrote::NotReady);
+        }
+        Ok(Wrote::Took(self.pipes.put(pipe, b)?))
+    }
+
+    /// How a pipe stands, `None` where there is no such pipe.
+    pub fn pipe_state(&self, pipe: u32) -> Option<PipeState>
+        ensures { result ≡ pipe_state_of self.now.table pipe }
+    {
+        match self.pipes.get(pipe) {
+            Some(held) => Some(PipeState {
+                bytes: held.len() as u32,
+                reader: held.has_reader(),
+                writer: held.has_writer(),
+            }),
+            None => None,
+        }
     }
 
     /// Closes a descriptor, which is open. The last one of an open file takes it away, and a pipe goes

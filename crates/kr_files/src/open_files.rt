@@ -1,9 +1,9 @@
 //! The table of open files.
-ghost use Rattle.std.specs.Prelude.{◌≡◌, ◌<◌, ◌≤◌, ◌+◌, ◌^◌, Some, None, OnOk, OnErr, is_some, if◌then◌else◌};
+ghost use Rattle.std.specs.Prelude.{◌≡◌, ℕ, ◌<◌, ◌≤◌, ◌+◌, ◌^◌, Some, None, IsSome, OnOk, OnErr, is_some, if◌then◌else◌};
 ghost use Rattle.std.specs.Option.{option_copied, option_map, option_map_or};
 ghost use Rattle.std.specs.FinMap as map;
 
-use crate::descs::Descriptor;
+use crate::descs::{Descriptor, Descs};
 use crate::opened::{Opened, What};
 use pr_base::NoMemory;
 use slab::Slab;
@@ -40,8 +40,10 @@ impl<M> Model for OpenFiles<M> {
 }
 
 impl<M: Copy> OpenFiles<M> {
-    ghost use Rattle.kr_files.specs.Files.{counted_more, on_opened, at_offset, with_append};
-    ghost use Rattle.kr_files.specs.Maps.{changed};
+    ghost use Rattle.kr_files.specs.Files.{Counted, GivesPair, counted_more, on_opened, at_offset, with_append};
+    ghost use Rattle.kr_files.specs.Maps.{changed, mapped};
+    ghost use Rattle.kr_files.specs.Descriptors.{meanings, named_count};
+    ghost use Rattle.kr_files.specs.declared.descs.Descriptor.{Descriptor};
     ghost use Rattle.kr_files.specs.OpenFiles.{SameFiles, ended_kind, with_one_less};
 
     /// No file is open. It takes no memory.
@@ -142,5 +144,73 @@ impl<M: Copy> OpenFiles<M> {
     {
         let file = &mut self.slab[descriptor.key];
         file.opened.append = on;
+    }
+
+    /// Keeps one more file under a descriptor that is taken already.
+    pub(crate) fn add_under(
+        &mut self,
+        d: &mut Descs,
+        fd: u32,
+        number: u64,
+        opened: Opened<M>,
+        cloexec: bool,
+    )
+        requires room { 1 ≤ self.old.room }
+        requires fresh { map.get self.old.files number ≡ None }
+        requires taken { IsSome (map.get d.old fd) }
+        ensures free { map.get self.old.keys self.old.vacant ≡ None }
+        ensures keys { self.new.keys ≡ map.insert self.old.keys self.old.vacant number }
+        ensures files { self.new.files ≡ map.insert self.old.files number (record { opened = opened; count = 1 }) }
+        ensures room { self.new.room + 1 ≡ self.old.room }
+        ensures descs { d.new ≡ map.insert d.old fd (record { key = self.old.vacant; number = number; cloexec = cloexec }) }
+    {
+        let key = self.vacant_key();
+        d.replace(
+            fd,
+            Descriptor {
+                key,
+                number,
+                cloexec,
+            },
+        );
+        self.add(number, opened);
+    }
+
+    /// Keeps two more files under descriptors that are taken already.
+    pub(crate) fn add_pair(
+        &mut self,
+        d: &mut Descs,
+        fds: (u32, u32),
+        opened: (Opened<M>, Opened<M>),
+        number: u64,
+        cloexec: bool,
+    )
+        requires room { 2 ≤ self.old.room }
+        requires number { number + 1 < 2 ^ 64 }
+        requires fresh { map.get self.old.files number ≡ None }
+        requires fresh_next { map.get self.old.files (number + 1) ≡ None }
+        requires taken { IsSome (map.get d.old fds.0) }
+        requires taken_next { IsSome (map.get d.old fds.1) }
+        ensures gives { GivesPair self.old.keys self.new.keys d.old d.new fds.0 fds.1 number cloexec }
+        ensures files { self.new.files ≡ map.insert (map.insert self.old.files number (record { opened = opened.0; count = 1 })) (number + 1) (record { opened = opened.1; count = 1 }) }
+    {
+        let (first, second) = fds;
+        let (reader, writer) = opened;
+        self.add_under(d, first, number, reader, cloexec);
+        self.add_under(d, second, number + 1, writer, cloexec);
+    }
+
+    /// Counts one descriptor more for each of these.
+    pub(crate) fn raise_all(&mut self, d: &Descs)
+        requires named { (fd : ℕ) (x : Descriptor) → map.get d.now fd ≡ Some x → map.get self.old.keys x.key ≡ Some x.number }
+        requires counted { (n : ℕ) (h : Counted M) → map.get self.old.files n ≡ Some h → h.count + named_count (meanings d.now) n < 2 ^ 32 }
+        ensures keys { self.new.keys ≡ self.old.keys }
+        ensures files { self.new.files ≡ mapped (λ n. counted_more (named_count (meanings d.now) n)) self.old.files }
+    {
+        for fd in 0..d.len() {
+            if let Some(descriptor) = d.get(fd) {
+                self.raise(descriptor);
+            }
+        }
     }
 }

@@ -2,6 +2,7 @@
 
 use kr_tree::{Ino, Place};
 use pr_base::{Bytes, NoMemory};
+use std::alloc::Global;
 
 /// An open file description: what open(2) makes, and what every copy of its descriptor shares.
 #[derive(Drop)]
@@ -19,6 +20,44 @@ pub struct Opened<M> {
     /// The offset in bytes at which the next read or write begins, or the serial of the last entry
     /// that was read of a directory.
     pub at: u64,
+}
+
+impl<M: Copy> Opened<M> {
+    ghost use Rattle.std.specs.Prelude.{◌≡◌, true, false};
+    ghost use Rattle.kr_files.specs.Opened.{pipe_end};
+    ghost use Rattle.kr_files.specs.declared.opened.What.TheVariants.{PipeRead as ReadEnd, PipeWrite as WriteEnd};
+
+    /// The end of a pipe that is read.
+    pub(crate) fn reader(alloc: Global, pipe: u32) -> Opened<M>
+        ensures { result ≡ pipe_end (ReadEnd pipe) true false }
+    {
+        Opened {
+            place: None,
+            dir: 0,
+            name: Bytes::new(alloc),
+            what: What::PipeRead(pipe),
+            read: true,
+            write: false,
+            append: false,
+            at: 0,
+        }
+    }
+
+    /// The end of a pipe that is written.
+    pub(crate) fn writer(alloc: Global, pipe: u32) -> Opened<M>
+        ensures { result ≡ pipe_end (WriteEnd pipe) false true }
+    {
+        Opened {
+            place: None,
+            dir: 0,
+            name: Bytes::new(alloc),
+            what: What::PipeWrite(pipe),
+            read: false,
+            write: true,
+            append: false,
+            at: 0,
+        }
+    }
 }
 
 /// The kind of what is open. A `u32` is the number of a pipe.

@@ -33,6 +33,8 @@ impl Model for Pipe {
 }
 
 impl Pipe {
+    ghost use Rattle.kr_files.specs.Pipes.{read_waits};
+
     /// An empty pipe with both ends open.
     pub(crate) fn new(alloc: Global) -> Pipe
         ensures { result ≡ record { bytes = []; reader = true; writer = true } }
@@ -65,6 +67,13 @@ impl Pipe {
         ensures { result ≡ self.now.writer }
     {
         self.writer
+    }
+
+    /// Whether a read waits: nothing is there, and somebody can still write.
+    pub(crate) fn waits_for_writer(&self) -> bool
+        ensures { result ≡ read_waits self.now.bytes self.now.writer }
+    {
+        self.bytes.is_empty() && self.writer
     }
 
     /// Closes its end for reading.

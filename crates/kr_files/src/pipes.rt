@@ -1,10 +1,10 @@
 //! All pipes.
-ghost use Rattle.std.specs.Prelude.{◌≡◌, ◌-◌, ◌++◌, length, take, drop, min, Some, IsSome, OnOk, OnErr, IfOk};
+ghost use Rattle.std.specs.Prelude.{◌≡◌, ◌-◌, ◌++◌, nat_le, length, take, drop, min, Some, IsSome, OnOk, OnErr, IfOk};
 ghost use Rattle.std.specs.Option.{option_copied, option_map};
 ghost use Rattle.std.specs.FinMap as map;
 
 use crate::opened::What;
-use crate::pipe::Pipe;
+use crate::pipe::{PIPE_BYTES, Pipe};
 use pr_base::{Bytes, NoMemory};
 use std::alloc::Global;
 use std::collections::BTreeMap;
@@ -30,7 +30,7 @@ impl Model for Pipes {
 
 impl Pipes {
     ghost use Rattle.kr_files.specs.Maps.{changed};
-    ghost use Rattle.kr_files.specs.Pipes.{fresh_pipe, holding, reader_open, writer_open, reader_gone, writer_gone, end_gone};
+    ghost use Rattle.kr_files.specs.Pipes.{read_waits, fresh_pipe, holding, reader_open, writer_open, reader_gone, writer_gone, end_gone};
 
     /// No pipes. It takes no memory.
     pub(crate) fn new(alloc: Global) -> Pipes
@@ -112,6 +112,24 @@ impl Pipes {
             Some(pipe) => pipe.has_writer(),
             None => false,
         }
+    }
+
+    /// Whether a read of a pipe waits.
+    pub(crate) fn waits_for_writer(&self, number: u32) -> bool
+        requires { IsSome (map.get self.now number) }
+        ensures { option_map (λ p. read_waits p.bytes p.writer) (map.get self.now number) ≡ Some result }
+    {
+        let pipe = self.get(number).unwrap();
+        pipe.waits_for_writer()
+    }
+
+    /// Whether a pipe has no room for another byte.
+    pub(crate) fn is_full(&self, number: u32) -> bool
+        requires { IsSome (map.get self.now number) }
+        ensures { option_map (λ p. nat_le 65536 (length p.bytes)) (map.get self.now number) ≡ Some result }
+    {
+        let pipe = self.get(number).unwrap();
+        pipe.len() >= PIPE_BYTES
     }
 
     /// Closes a pipe's end for reading. A pipe without ends goes.

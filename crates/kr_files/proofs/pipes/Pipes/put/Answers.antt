@@ -22,8 +22,8 @@ returns-clause-ok c =
     let there = there_mut c.self.inside.pipes c.args.number c.get_mut.result c.unwrap-pipe.result c.get_mut.ensures.value c.unwrap-pipe.ensures in
     on_ok_map c.put.result _ _
     (λ is. written c.self.inside.pipes (c.get_mut.follows.lender c.put.new.self) c.args.self.now c.args.number c.unwrap-pipe.result.now c.put.new.self c.self.view_is there (c.get_mut.follows.holds c.put.new.self).3
-        ∙ ap (map.insert c.args.self.now c.args.number) is
-        ∙ sym (changed-some c.args.self.now c.args.number (λ p. holding (p.bytes ++ take (65536 - length p.bytes) c.args.b.now) p) c.unwrap-pipe.result.now found))
+    ∙ ap (map.insert c.args.self.now c.args.number) is
+    ∙ sym (changed-some c.args.self.now c.args.number (λ p. holding (p.bytes ++ take (65536 - length p.bytes) c.args.b.now) p) c.unwrap-pipe.result.now found))
     c.put.ensures.ok
 
 pub returns-clause-err : goal.returns-clause-err
@@ -32,6 +32,6 @@ returns-clause-err c =
     let there = there_mut c.self.inside.pipes c.args.number c.get_mut.result c.unwrap-pipe.result c.get_mut.ensures.value c.unwrap-pipe.ensures in
     on_error_map c.put.result _ _
     (λ is. written c.self.inside.pipes (c.get_mut.follows.lender c.put.new.self) c.args.self.now c.args.number c.unwrap-pipe.result.now c.put.new.self c.self.view_is there (c.get_mut.follows.holds c.put.new.self).3
-        ∙ ap (map.insert c.args.self.now c.args.number) is
-        ∙ insert-same c.args.self.now c.args.number c.unwrap-pipe.result.now found)
+    ∙ ap (map.insert c.args.self.now c.args.number) is
+    ∙ insert-same c.args.self.now c.args.number c.unwrap-pipe.result.now found)
     c.put.ensures.err
