@@ -57,8 +57,8 @@ module _ {M : Type 0} (files : map.FinMap nat_cmp (Counted M)) (d : Descriptors)
   pub raised-none : map.get d k ≡ None → mapped (λ n. counted_more (named_below (meanings d) n k)) files ≡ mapped (λ n. counted_more (named_below (meanings d) n (k + 1))) files
   raised-none none =
       same_values _ _ (λ q. get-mapped (λ n. counted_more (named_below (meanings d) n k)) files q
-          ∙ counts_same (named_below (meanings d) q k) (named_below (meanings d) q (k + 1)) (sym (below-none (meanings d) q k (none-meanings d k none))) (map.get files q)
-          ∙ sym (get-mapped (λ n. counted_more (named_below (meanings d) n (k + 1))) files q))
+      ∙ counts_same (named_below (meanings d) q k) (named_below (meanings d) q (k + 1)) (sym (below-none (meanings d) q k (none-meanings d k none))) (map.get files q)
+      ∙ sym (get-mapped (λ n. counted_more (named_below (meanings d) n (k + 1))) files q))
 
   twice : (a : ℕ) (o : Option (Counted M)) → option_map (counted_more 1) (option_map (counted_more a) o) ≡ option_map (counted_more (a + 1)) o
   twice a None = refl
@@ -69,14 +69,14 @@ module _ {M : Type 0} (files : map.FinMap nat_cmp (Counted M)) (d : Descriptors)
   raised-some x here =
       same_values _ _ (by_key (λ q. map.get (changed (mapped (λ n. counted_more (named_below (meanings d) n k)) files) x.number (counted_more 1)) q ≡ map.get (mapped (λ n. counted_more (named_below (meanings d) n (k + 1))) files) q) x.number
       (get-changed_same (mapped (λ n. counted_more (named_below (meanings d) n k)) files) x.number (counted_more 1)
-          ∙ ap (option_map (counted_more 1)) (get-mapped (λ n. counted_more (named_below (meanings d) n k)) files x.number)
-          ∙ twice (named_below (meanings d) x.number k) (map.get files x.number)
-          ∙ counts_same (named_below (meanings d) x.number k + 1) (named_below (meanings d) x.number (k + 1)) (omega (arith, below-more (meanings d) x.number k, here-same d k x here)) (map.get files x.number)
-          ∙ sym (get-mapped (λ n. counted_more (named_below (meanings d) n (k + 1))) files x.number))
+      ∙ ap (option_map (counted_more 1)) (get-mapped (λ n. counted_more (named_below (meanings d) n k)) files x.number)
+      ∙ twice (named_below (meanings d) x.number k) (map.get files x.number)
+      ∙ counts_same (named_below (meanings d) x.number k + 1) (named_below (meanings d) x.number (k + 1)) (omega (arith, below-more (meanings d) x.number k, here-same d k x here)) (map.get files x.number)
+      ∙ sym (get-mapped (λ n. counted_more (named_below (meanings d) n (k + 1))) files x.number))
       (λ q other. get-changed_other (mapped (λ n. counted_more (named_below (meanings d) n k)) files) x.number (counted_more 1) q other
-          ∙ get-mapped (λ n. counted_more (named_below (meanings d) n k)) files q
-          ∙ counts_same (named_below (meanings d) q k) (named_below (meanings d) q (k + 1)) (omega (arith, below-more (meanings d) q k, here-other d k x q here other)) (map.get files q)
-          ∙ sym (get-mapped (λ n. counted_more (named_below (meanings d) n (k + 1))) files q)))
+      ∙ get-mapped (λ n. counted_more (named_below (meanings d) n k)) files q
+      ∙ counts_same (named_below (meanings d) q k) (named_below (meanings d) q (k + 1)) (omega (arith, below-more (meanings d) q k, here-other d k x q here other)) (map.get files q)
+      ∙ sym (get-mapped (λ n. counted_more (named_below (meanings d) n (k + 1))) files q)))
 
   pub raised-nothing : files ≡ mapped (λ n. counted_more (named_below (meanings d) n 0)) files
   unfolding named_below
@@ -90,9 +90,9 @@ module _ {M : Type 0} (files : map.FinMap nat_cmp (Counted M)) (d : Descriptors)
   raised-all within none =
       let e : k + (1024 - k) ≡ 1024 = omega arith in
       same_values _ _ (λ q. get-mapped (λ n. counted_more (named_below (meanings d) n k)) files q
-          ∙ counts_same (named_below (meanings d) q k) (named_below (meanings d) q 1024)
-          (sym (ap (named_below (meanings d) q) (sym e) ∙ below-past (meanings d) q k (1024 - k) (λ r low. none-meanings d r (none r low)))) (map.get files q)
-          ∙ sym (get-mapped (λ n. counted_more (named_below (meanings d) n 1024)) files q))
+      ∙ counts_same (named_below (meanings d) q k) (named_below (meanings d) q 1024)
+      (sym (ap (named_below (meanings d) q) (sym e) ∙ below-past (meanings d) q k (1024 - k) (λ r low. none-meanings d r (none r low)))) (map.get files q)
+      ∙ sym (get-mapped (λ n. counted_more (named_below (meanings d) n 1024)) files q))
 
   -- the count of what a descriptor names has room for one more
   pub raise_fits : (x : Descriptor) → k < 1024 → map.get d k ≡ Some x

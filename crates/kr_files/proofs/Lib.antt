@@ -1,4 +1,5 @@
 pub mod AnswerLemmas
+pub mod ClaimLemmas
 pub mod CloseLemmas
 pub mod CountLemmas
 pub mod DescriptorLemmas

@@ -285,7 +285,7 @@ module _ {M : Type 0} (files : map.FinMap nat_cmp (Counted M)) (pipes : PipeTabl
   sound-pipe =
       sound-add half (map.insert pipes (last_pipe + 1) half_pipe) (last_file + 1) (last_pipe + 1) sound-half w (map.insert pipes (last_pipe + 1) fresh_pipe) (last_pipe + 1) (omega arith)
       (λ side p n g e at is. no_writer_in_half n g at
-          (subst (λ k. is_end false k g.opened.what ≡ true) (sym (writer_here side p e).1) (subst (λ t. is_end t p g.opened.what ≡ true) (writer_here side p e).0 is)))
+      (subst (λ k. is_end false k g.opened.what ≡ true) (sym (writer_here side p e).1) (subst (λ t. is_end t p g.opened.what ≡ true) (writer_here side p e).0 is)))
       (λ side p e. let same = (writer_here side p e).1 in omega arith)
       (λ p q at. elim (pipe_of fresh_pipe p q at) [
         | inl here ↦ let e = here.0 in omega arith

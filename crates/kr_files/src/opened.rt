@@ -60,6 +60,51 @@ impl<M: Copy> Opened<M> {
     }
 }
 
+impl<M: Copy> Opened<M> {
+    ghost use Rattle.std.specs.Prelude.{◌≡◌, IsTrue, Some};
+    ghost use Rattle.kr_files.specs.Opened.{remembers, nameless, named_at, after_removal, after_rename};
+
+    /// Whether the entry of a name in a directory is remembered.
+    pub(crate) fn remembers(&self, dir: Ino, name: &[u8]) -> bool
+        ensures { result ≡ remembers dir name.now self.now }
+    {
+        !self.name.is_empty() && self.dir == dir && self.name.as_slice() == name
+    }
+
+    /// Forgets the entry of a name in a directory, if it is the one that is remembered.
+    pub(crate) fn forget(&mut self, dir: Ino, name: &[u8])
+        ensures { self.new ≡ after_removal dir name.now self.old }
+    {
+        if self.remembers(dir, name) {
+            self.dir = 0;
+            self.name.clear();
+        }
+    }
+
+    /// Remembers another entry.
+    fn remember(&mut self, dir: Ino, name: Bytes)
+        ensures { self.new ≡ named_at dir name self.old }
+    {
+        self.dir = if name.is_empty() { 0 } else { dir };
+        self.name = name;
+    }
+
+    /// Follows a rename that took the entry of `new` in `to` away. `copy` is one of `new`, where the
+    /// entry that was renamed is remembered.
+    pub(crate) fn follow(&mut self, dir: Ino, name: &[u8], to: Ino, new: &[u8], copy: Option<Bytes>)
+        requires { IsTrue (remembers dir name.now self.old) → copy ≡ Some new.now }
+        ensures { self.new ≡ after_rename dir name.now to new.now self.old }
+    {
+        self.forget(to, new);
+        if self.remembers(dir, name) {
+            match copy {
+                Some(copy) => self.remember(to, copy),
+                None => unreachable!(),
+            }
+        }
+    }
+}
+
 /// The kind of what is open. A `u32` is the number of a pipe.
 #[derive(Clone, Copy, Debug, PartialEq, Eq)]
 pub enum What {
