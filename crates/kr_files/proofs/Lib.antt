@@ -3,6 +3,7 @@ pub mod ClaimLemmas
 pub mod CloseLemmas
 pub mod CountLemmas
 pub mod DescriptorLemmas
+pub mod EntryLemmas
 pub mod KindLemmas
 pub mod MapLemmas
 pub mod OpenFileLemmas

@@ -10,9 +10,10 @@ use Rattle.std.proofs.lemmas.Option.{same_Some, none-some}
 use Rattle.slab.specs.Slab.{Slab, get, ContainsKey, with_value, Updates}
 use Rattle.slab.proofs.SlabLemmas.{Updates-with_value}
 use Rattle.kr_files.specs.declared.open_files.OpenFile.{OpenFile}
-use Rattle.kr_files.specs.Files.{Counted}
+use Rattle.kr_files.specs.Files.{Counted, on_opened}
+use Rattle.kr_files.specs.declared.opened.Opened.{Opened}
 use Rattle.kr_files.specs.Maps.{changed, mapped}
-use Rattle.kr_files.specs.OpenFiles.{Store, store_of, counted, files_in, numbers_in, AreDistinct, ended_kind, with_one_less}
+use Rattle.kr_files.specs.OpenFiles.{Store, store_of, counted, files_in, numbers_in, AreDistinct, ChangesEach, on_file, ended_kind, with_one_less}
 use Rattle.kr_files.proofs.MapLemmas.{some-insert, same_values, by_key, get-insert_same, get-insert_other, get-remove_same, get-remove_other, changed-some, get-mapped}
 use Rattle.kr_files.proofs.SlotLemmas.{get-slots}
 
@@ -228,3 +229,39 @@ module _ {M : Type 0} where
       pub files-changed : (f : Counted M → Counted M) → AreDistinct s.slots → counted e' ≡ f (counted e) → files_in (with_value s key e').slots ≡ changed old.files n f
       files-changed f distinct is =
           files-changed_to distinct ∙ ap (map.insert old.files n) is ∙ sym (changed-some old.files n f (counted e) (file_found e distinct here))
+
+-- ---- every file changed in its slot
+
+module _ {M : Type 0} (s t : Slab (OpenFile M)) (f : Opened M → Opened M) (each : ChangesEach f s t) where
+  before : (k : ℕ) (e : OpenFile M) → get t k ≡ Some e → (a : OpenFile M) × (get s k ≡ Some a) × (on_file f a ≡ e)
+  before k e at = mapped_some (on_file f) (get s k) e (sym (each k) ∙ at)
+
+  pub distinct-each : AreDistinct s.slots → AreDistinct t.slots
+  distinct-each distinct j k a b at_j at_k same =
+      let x = before j a at_j in
+      let y = before k b at_k in
+      distinct j k x.0 y.0 x.1 y.1 (ap (λ (e : OpenFile M). e.number) x.2 ∙ same ∙ sym (ap (λ (e : OpenFile M). e.number) y.2))
+
+  numbers_same : (o : Option (OpenFile M)) → option_map (λ (e : OpenFile M). e.number) (option_map (on_file f) o) ≡ option_map (λ (e : OpenFile M). e.number) o
+  numbers_same None = refl
+  numbers_same (Some e) = refl
+
+  pub numbers-each : numbers_in t.slots ≡ numbers_in s.slots
+  numbers-each =
+      same_values _ _ (λ k. get-numbers_in t.slots k ∙ ap (option_map (λ (e : OpenFile M). e.number)) (each k) ∙ numbers_same (get s k) ∙ sym (get-numbers_in s.slots k))
+
+  pub files-each : AreDistinct s.slots → files_in t.slots ≡ mapped (λ n. on_opened f) (files_in s.slots)
+  files-each distinct =
+      same_values _ _ (λ n. same_options _ _
+      (λ h found.
+      let slot = slot_of t.slots n h found in
+      let a = before slot.0 slot.1 slot.2 in
+      get-mapped (λ n. on_opened f) (files_in s.slots) n
+      ∙ ap (option_map (on_opened f)) (ap (map.get (files_in s.slots)) (sym slot.3 ∙ sym (ap (λ (e : OpenFile M). e.number) a.2)) ∙ get-files_in s.slots slot.0 a.0 distinct a.1)
+      ∙ ap Some (ap counted a.2 ∙ slot.4))
+      (λ h found.
+      let a = mapped_some (on_opened f) (map.get (files_in s.slots) n) h (sym (get-mapped (λ n. on_opened f) (files_in s.slots) n) ∙ found) in
+      let slot = slot_of s.slots n a.0 a.1 in
+      ap (map.get (files_in t.slots)) (sym slot.3)
+      ∙ get-files_in t.slots slot.0 (on_file f slot.1) (distinct-each distinct) (each slot.0 ∙ ap (option_map (on_file f)) slot.2)
+      ∙ ap Some (ap (on_opened f) slot.4 ∙ a.2)))

@@ -1,10 +1,12 @@
 -- Open files as they are kept: each under a key, with its number and the count of its descriptors.
 use Rattle.std.specs.FinMap as map
-use Rattle.std.specs.Prelude.{◌≡◌, ◌≤◌, ℕ, ◌-◌, Bool, List, [], ◌∷◌, Option, Some, None, map as map_list, nat_lt, is_some, slice_index_or, if◌then◌else◌, refl}
+use Rattle.std.specs.Prelude.{◌≡◌, ◌≢◌, ◌<◌, ◌≤◌, ℕ, ◌-◌, Bool, List, [], ◌∷◌, Option, Some, None, map as map_list, nat_lt, is_some, IsTrue, slice_index_or, if◌then◌else◌, refl}
 use Rattle.std.specs.Option.{option_map, option_map_or, option_and_then}
 use Rattle.std.specs.Ordering.{nat_cmp}
 use Rattle.std.specs.Coded.{Coded, code_by, coded×, coded_ℕ}
-use Rattle.slab.specs.Slab.{Slab, slab_len}
+use Rattle.slab.specs.Slab.{Slab, slab_len, get}
+use Rattle.kr_files.specs.declared.opened.Opened.{Opened}
+use Rattle.kr_files.specs.Opened.{remembers}
 use Rattle.kr_files.specs.declared.opened.What.{What}
 use Rattle.kr_files.specs.declared.open_files.OpenFile.{OpenFile}
 use Rattle.kr_files.specs.Files.{Counted}
@@ -71,3 +73,21 @@ module _ {M : Type 0} where
       option_map_or
       (λ h. if nat_lt 1 h.count then map.insert files n (record h { count = h.count - 1 }) else map.remove files n)
       (map.get files n) files
+
+  -- the file with what is open changed
+  abbrev pub on_file : (Opened M → Opened M) → OpenFile M → OpenFile M
+  on_file f e = record e { opened = f e.opened }
+
+  -- every file was changed so
+  abbrev pub ChangesEach : (Opened M → Opened M) → Slab (OpenFile M) → Slab (OpenFile M) → Type 0
+  ChangesEach f old new = (q : ℕ) → get new q ≡ option_map (on_file f) (get old q)
+
+  -- the file under one key was changed so, and no other
+  pub record ChangesAt (f : Opened M → Opened M) (old new : Slab (OpenFile M)) (key : ℕ) : Type 0 where
+    pub here : get new key ≡ option_map (on_file f) (get old key)
+    pub others : (q : ℕ) → q ≢ key → get new q ≡ get old q
+
+  -- each of the first `count` files that remember this entry has a copy of the new name
+  abbrev pub HasCopies : ℕ → List ℕ → List ℕ → Slab (OpenFile M) → List (Option (List ℕ)) → ℕ → Type 0
+  HasCopies dir name new s copies count =
+      (k : ℕ) (e : OpenFile M) → k < count → get s k ≡ Some e → IsTrue (remembers dir name e.opened) → slice_index_or copies k None ≡ Some new

@@ -7,7 +7,8 @@ use crate::descs::{Descriptor, Descs};
 use crate::open_files::OpenFiles;
 use crate::opened::{FilesRefusal, Moved, Opened, PipeState, What, Wrote};
 use crate::pipes::Pipes;
-use pr_base::{Bytes, NoMemory};
+use kr_tree::Ino;
+use pr_base::NoMemory;
 use std::alloc::Global;
 use std::marker::Model;
 
@@ -43,8 +44,8 @@ impl<M> Model for Files<M> {
 
 impl<M: Copy> Files<M> {
     ghost use Rattle.kr_files.specs.Descriptors.{lowest_free, lowest_pair, with_copy_at, meanings};
-    ghost use Rattle.kr_files.specs.Files.{empty_table, with_file, with_pipe, with_copies, FitsCopies, GivesPair, has_reader, has_writer, pipe_after_read, pipe_after_write, pipe_state_of, on_table, with_opened, at_offset, with_append, NamesOpenFiles, opened_at, count_at, by_descriptor, copied, released, Gives};
-    ghost use Rattle.kr_files.specs.Opened.{is_no_end};
+    ghost use Rattle.kr_files.specs.Files.{empty_table, with_all_opened, with_file, with_pipe, with_copies, FitsCopies, GivesPair, has_reader, has_writer, pipe_after_read, pipe_after_write, pipe_state_of, on_table, with_opened, at_offset, with_append, NamesOpenFiles, opened_at, count_at, by_descriptor, copied, released, Gives};
+    ghost use Rattle.kr_files.specs.Opened.{is_no_end, after_removal, after_rename};
     ghost use Rattle.kr_files.specs.Pipes.{moved_of, wrote_of};
 
     /// Nothing is open. It takes no memory.
@@ -198,6 +199,23 @@ impl<M: Copy> Files<M> {
         self.last_file = number + 1;
         self.last_pipe = pipe;
         Ok((first, second))
+    }
+
+    /// Makes the open files nameless that remember an entry, which was removed.
+    pub fn removed(&mut self, dir: Ino, name: &[u8])
+        ensures { self.new ≡ on_table (with_all_opened (after_removal dir name.now)) self.old }
+    {
+        self.open.removed(dir, name);
+    }
+
+    /// Lets the open files follow a rename: those that remember the entry that was replaced, `new` in
+    /// `to`, get nameless, and then those that remember the old one, `name` in `dir`, remember the new.
+    pub fn renamed(&mut self, dir: Ino, name: &[u8], to: Ino, new: &[u8]) -> Result<(), NoMemory>
+        ensures ok { OnOk result (self.new ≡ on_table (with_all_opened (after_rename dir name.now to new.now)) self.old) }
+        ensures err { OnErr result (self.new ≡ self.old) }
+    {
+        self.open.renamed(self.alloc, dir, name, to, new)?;
+        Ok(())
     }
 
     /// A copy of all descriptors, for a new process.

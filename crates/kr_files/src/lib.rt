@@ -7,6 +7,7 @@ mod open_files;
 pub mod opened;
 mod pipe;
 mod pipes;
+mod renames;
 
 pub use descs::Descs;
 pub use files::Files;

@@ -5,6 +5,8 @@ ghost use Rattle.std.specs.FinMap as map;
 
 use crate::descs::{Descriptor, Descs};
 use crate::opened::{Opened, What};
+use crate::renames::{copies_for, follow_all, forget_all};
+use kr_tree::Ino;
 use pr_base::NoMemory;
 use slab::Slab;
 use std::alloc::Global;
@@ -45,6 +47,7 @@ impl<M: Copy> OpenFiles<M> {
     ghost use Rattle.kr_files.specs.Descriptors.{meanings, named_count};
     ghost use Rattle.kr_files.specs.declared.descs.Descriptor.{Descriptor};
     ghost use Rattle.kr_files.specs.OpenFiles.{SameFiles, ended_kind, with_one_less};
+    ghost use Rattle.kr_files.specs.Opened.{after_removal, after_rename};
 
     /// No file is open. It takes no memory.
     pub(crate) fn new(alloc: Global) -> OpenFiles<M>
@@ -212,5 +215,31 @@ impl<M: Copy> OpenFiles<M> {
                 self.raise(descriptor);
             }
         }
+    }
+
+    /// Makes the files nameless that remember an entry.
+    pub(crate) fn removed(&mut self, dir: Ino, name: &[u8])
+        ensures keys { self.new.keys ≡ self.old.keys }
+        ensures files { self.new.files ≡ mapped (λ n. on_opened (after_removal dir name.now)) self.old.files }
+    {
+        forget_all(&mut self.slab, dir, name);
+    }
+
+    /// Lets the files follow a rename that took the entry of `new` in `to` away.
+    pub(crate) fn renamed(
+        &mut self,
+        alloc: Global,
+        dir: Ino,
+        name: &[u8],
+        to: Ino,
+        new: &[u8],
+    ) -> Result<(), NoMemory>
+        ensures keys { OnOk result (self.new.keys ≡ self.old.keys) }
+        ensures files { OnOk result (self.new.files ≡ mapped (λ n. on_opened (after_rename dir name.now to new.now)) self.old.files) }
+        ensures err { OnErr result (self.new ≡ self.old) }
+    {
+        let copies = copies_for(&self.slab, alloc, dir, name, new)?;
+        follow_all(&mut self.slab, copies, dir, name, to, new);
+        Ok(())
     }
 }
