@@ -1,20 +1,20 @@
 -- A descriptor less: the open files, and the pipes with them.
 use Rattle.std.specs.FinMap as map
-use Rattle.std.proofs.Common.{◌≡◌, ◌≢◌, ◌⊎◌, ◌≤◌, ◌<◌, ◌+◌, ◌-◌, inl, inr, subst, ℕ, Bool, true, false, not, ◌||◌, List, [], refl, sym, ap, ◌∙◌, arith, cond, Option, Some, None, is_some, nat_lt}
+use Rattle.std.proofs.Common.{◌≡◌, ◌≢◌, ◌⊎◌, ◌-◌, inl, inr, subst, ℕ, Bool, true, false, not, List, refl, sym, ap, ◌∙◌, cond, Option, Some, None, is_some, nat_lt}
 use Rattle.std.specs.Option.{option_map, option_map_or, option_and_then}
 use Rattle.std.specs.Ordering.{nat_cmp}
-use Rattle.std.proofs.lemmas.Bool.{cases_eq, false≢true}
+use Rattle.std.proofs.lemmas.Bool.{cases_eq}
 use Rattle.std.proofs.lemmas.Option.{same_Some, none-some}
 use Rattle.kr_files.specs.declared.descs.Descriptor.{Descriptor}
 use Rattle.kr_files.specs.declared.opened.What.{What}
 use Rattle.kr_files.specs.declared.opened.What.TheVariants.{File, Dir, In, Out, Err, PipeRead, PipeWrite}
-use Rattle.kr_files.specs.Files.{Counted, Table, Kept, has_kind, closed, is_last, without_file, pipes_left, released}
+use Rattle.kr_files.specs.Files.{Counted, Table, Kept, has_kind, closed, without_file, pipes_left, released}
 use Rattle.kr_files.specs.Maps.{changed, mapped}
 use Rattle.kr_files.specs.OpenFiles.{Store, ended_kind, with_one_less}
 use Rattle.kr_files.specs.Opened.{is_no_end, is_reader, is_writer}
 use Rattle.kr_files.specs.Pipes.{Pipe, PipeTable, reader_gone, writer_gone, end_gone, reader_open, writer_open, without_reader, without_writer}
 use Rattle.kr_files.specs.Sound.{IsSound, is_end, is_noted, kept_of}
-use Rattle.kr_files.proofs.MapLemmas.{same_values, by_key, get-insert_same, get-insert_other, get-remove_same, get-remove_other, remove-none, changed-some, get-changed_same, get-changed_other, get-mapped, mapped-insert, mapped-remove, insert-same}
+use Rattle.kr_files.proofs.MapLemmas.{same_values, by_key, get-insert_same, get-insert_other, get-remove_same, get-remove_other, remove-none, get-changed_same, get-changed_other, get-mapped, mapped-remove}
 use Rattle.kr_files.proofs.KindLemmas.{kind-remove_other, kind-remove_only}
 use Rattle.kr_files.proofs.SoundLemmas.{SameKinds, equal_same, equal_other, no_side, sound-same_kinds, sound-remove}
 

@@ -1,10 +1,9 @@
 -- How many descriptors name a file, as far as some number.
 use Rattle.std.specs.FinMap as map
-use Rattle.std.proofs.Common.{◌≡◌, ◌≢◌, ◌≤◌, ◌<◌, ◌+◌, ◌-◌, ◌^◌, inl, inr, subst, ℕ, zero, suc, refl, sym, ap, ◌∙◌, arith, cond, Option, Some, None, add-one}
+use Rattle.std.proofs.Common.{◌≡◌, ◌≢◌, ◌≤◌, ◌<◌, ◌+◌, ◌-◌, ◌^◌, subst, ℕ, zero, suc, refl, sym, ap, ◌∙◌, arith, cond, Option, Some, None, add-one}
 use Rattle.std.specs.Prelude.{◌==◌}
 use Rattle.std.specs.Option.{option_map, option_map_or}
 use Rattle.std.specs.Ordering.{nat_cmp}
-use Rattle.std.proofs.lemmas.Bool.{cases_eq}
 use Rattle.kr_files.specs.declared.descs.Descriptor.{Descriptor}
 use Rattle.kr_files.specs.Descriptors.{Descriptors, Meanings, Named, meanings, named_below}
 use Rattle.kr_files.specs.Files.{Counted, counted_more}

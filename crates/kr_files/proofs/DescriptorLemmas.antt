@@ -1,6 +1,6 @@
 -- Descriptors: the lowest free one, and those of a list of slots.
 use Rattle.std.specs.FinMap as map
-use Rattle.std.proofs.Common.{◌≡◌, ◌≢◌, ◌<◌, ◌≤◌, ◌+◌, ◌-◌, ℕ, zero, suc, true, false, List, length, get_or, set, refl, sym, ap, subst, ◌∙◌, arith, cond, Option, Some, None, is_some, add-one, inl, inr}
+use Rattle.std.proofs.Common.{◌≡◌, ◌<◌, ◌≤◌, ◌+◌, ◌-◌, ℕ, zero, suc, true, false, List, length, get_or, set, refl, sym, ap, subst, ◌∙◌, arith, cond, Option, Some, None, is_some, inl, inr}
 use Rattle.std.specs.Prelude.{IsSome}
 use Rattle.std.specs.Ordering.{nat_cmp}
 use Rattle.std.proofs.lemmas.Bool.{cases_eq}

@@ -1,5 +1,5 @@
 -- What doesn't change when an open file forgets an entry or remembers another.
-use Rattle.std.proofs.Common.{◌≡◌, ℕ, Bool, true, false, List, refl, ap, ◌∙◌, cond}
+use Rattle.std.proofs.Common.{◌≡◌, ℕ, Bool, true, false, List, refl, ◌∙◌, cond}
 use Rattle.kr_files.specs.declared.opened.Opened.{Opened}
 use Rattle.kr_files.specs.Opened.{remembers, nameless, named_at, after_removal, after_rename}
 

@@ -1,6 +1,6 @@
 -- From the slots of open files to what a contract sees.
 use Rattle.std.specs.FinMap as map
-use Rattle.std.proofs.Common.{◌≡◌, ◌≢◌, inl, inr, subst, ℕ, zero, suc, ◌+◌, ◌-◌, ◌<◌, ◌≤◌, Bool, true, false, List, [], ◌∷◌, get_or, set, refl, sym, ap, ◌∙◌, arith, cond, Option, Some, None, is_some, nat_lt}
+use Rattle.std.proofs.Common.{◌≡◌, ◌≢◌, inl, inr, subst, ℕ, zero, suc, ◌-◌, ◌<◌, ◌≤◌, List, [], ◌∷◌, get_or, set, refl, sym, ap, ◌∙◌, arith, cond, Option, Some, None, nat_lt}
 use Rattle.std.specs.Prelude.{IsSome, map as map_list}
 use Rattle.std.specs.Option.{option_map, option_map_or, option_and_then}
 use Rattle.std.specs.Ordering.{nat_cmp}

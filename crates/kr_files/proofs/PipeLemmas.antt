@@ -1,24 +1,22 @@
 -- Reading and writing of pipes: from the pipes as they are kept to their bytes.
 use Rattle.std.specs.FinMap as map
-use Rattle.std.proofs.Common.{◌≡◌, ◌≢◌, ◌≤◌, ◌<◌, ◌+◌, ◌-◌, inl, inr, subst, ℕ, zero, suc, Bool, true, false, ◌&&◌, List, [], ◌∷◌, ◌++◌, length, take, drop, refl, sym, ap, ◌∙◌, arith, cond, Option, Some, None}
+use Rattle.std.proofs.Common.{◌≡◌, ◌-◌, inl, inr, subst, ℕ, zero, suc, Bool, true, false, ◌&&◌, List, [], ◌∷◌, ◌++◌, length, take, drop, refl, sym, ap, ◌∙◌, arith, cond, Option, Some, None}
 use Rattle.std.specs.Prelude.{◌==◌, min, nat_le, IsSome}
 use Rattle.std.specs.Option.{option_map, option_map_or}
-use Rattle.std.specs.Ordering.{nat_cmp}
 use Rattle.std.proofs.lemmas.Bool.{cases_eq, false≢true}
 use Rattle.std.proofs.lemmas.Bool.Decides.{nat_tests}
 use Rattle.std.proofs.lemmas.List.{append-nil}
-use Rattle.std.proofs.lemmas.Option.{same_Some, none-some}
-use Rattle.kr_files.specs.declared.opened.Moved.{Moved}
+use Rattle.std.proofs.lemmas.Option.{same_Some}
 use Rattle.kr_files.specs.declared.opened.Moved.TheVariants.{Bytes, NotReady as ReadNotReady}
 use Rattle.kr_files.specs.declared.opened.Wrote.{Wrote}
 use Rattle.kr_files.specs.declared.opened.Wrote.TheVariants.{Took, NotReady as WriteNotReady, NoReader}
-use Rattle.kr_files.specs.Files.{Counted, Kept, Table, has_kind, has_reader, has_writer, on_table, pipe_after_read, pipe_after_write, pipe_state_of}
-use Rattle.kr_files.specs.Maps.{changed, mapped}
+use Rattle.kr_files.specs.Files.{Kept, has_reader, has_writer, on_table, pipe_after_read, pipe_after_write, pipe_state_of}
+use Rattle.kr_files.specs.Maps.{changed}
 use Rattle.kr_files.specs.OpenFiles.{Store}
 use Rattle.kr_files.specs.Pipes.{Pipe, PipeTable, holding, moved_of, wrote_of, after_write, read_waits, reader_open}
-use Rattle.kr_files.specs.Sound.{IsSound, is_end, is_noted, kept_of}
-use Rattle.kr_files.proofs.MapLemmas.{same_values, by_key, get-insert_same, get-insert_other, insert-same, changed-some, get-mapped, mapped-insert}
-use Rattle.kr_files.proofs.CloseLemmas.{bytes_of, same_kept}
+use Rattle.kr_files.specs.Sound.{IsSound, is_noted, kept_of}
+use Rattle.kr_files.proofs.MapLemmas.{get-insert_same, get-insert_other, insert-same, changed-some, get-mapped, mapped-insert}
+use Rattle.kr_files.proofs.CloseLemmas.{bytes_of}
 
 get_bytes : (pipes : PipeTable) (p : ℕ) → map.get (bytes_of pipes) p ≡ option_map (λ (q : Pipe). q.bytes) (map.get pipes p)
 get_bytes pipes p = get-mapped (λ k q. q.bytes) pipes p

@@ -1,8 +1,8 @@
 -- What ties pipes to open files, after each change.
 use Rattle.std.specs.FinMap as map
-use Rattle.std.proofs.Common.{◌≡◌, ◌≢◌, ◌⊎◌, ◌≤◌, ◌<◌, ◌+◌, inl, inr, subst, ℕ, Bool, true, false, ◌||◌, List, [], refl, sym, ap, ◌∙◌, arith, cond, Option, Some, None}
+use Rattle.std.proofs.Common.{◌≡◌, ◌≢◌, ◌⊎◌, ◌≤◌, ◌+◌, inl, inr, subst, ℕ, Bool, true, false, ◌||◌, [], refl, sym, ap, ◌∙◌, arith, Option, Some, None}
 use Rattle.std.specs.Prelude.{◌==◌}
-use Rattle.std.specs.Option.{option_map, option_map_or}
+use Rattle.std.specs.Option.{option_map}
 use Rattle.std.specs.Ordering.{nat_cmp}
 use Rattle.std.proofs.lemmas.Bool.{cases_eq, false≢true}
 use Rattle.std.proofs.lemmas.Bool.Decides.{nat_tests}
@@ -15,7 +15,7 @@ use Rattle.kr_files.specs.Maps.{changed, mapped}
 use Rattle.kr_files.specs.Sound.{IsSound, is_end, is_noted}
 use Rattle.kr_files.specs.Pipes.{Pipe, PipeTable, fresh_pipe}
 use Rattle.kr_files.proofs.MapLemmas.{by_key, get-insert_same, get-insert_other, get-remove_same, get-remove_other, get-changed_same, get-changed_other, get-mapped}
-use Rattle.kr_files.proofs.KindLemmas.{same_kind, not_true, either_true, or_true, kind_some, no_kind, kind-insert, kind-remove_other, kind-remove_only}
+use Rattle.kr_files.proofs.KindLemmas.{same_kind, not_true, either_true, or_true, kind_some, no_kind, kind-insert}
 
 pub equal_true : (a b : ℕ) → (a == b) ≡ true → a ≡ b
 equal_true a b e = grind (arith, nat_tests)

@@ -1,6 +1,6 @@
 -- The open files and pipes of a machine, by their numbers.
 use Rattle.std.specs.FinMap as map
-use Rattle.std.specs.Prelude.{◌≡◌, ◌≢◌, ℕ, zero, suc, ◌+◌, ◌-◌, ◌==◌, ◌<◌, ◌≤◌, ◌^◌, Bool, true, false, ◌||◌, not, List, [], ◌++◌, length, drop, nat_lt, Option, Some, None, if◌then◌else◌, refl}
+use Rattle.std.specs.Prelude.{◌≡◌, ◌≢◌, ℕ, ◌+◌, ◌-◌, ◌<◌, ◌^◌, Bool, true, false, not, List, [], length, drop, nat_lt, Option, Some, None, if◌then◌else◌, refl}
 use Rattle.std.specs.List.{list_any}
 use Rattle.std.specs.Option.{option_map, option_map_or, option_and_then}
 use Rattle.std.specs.Ordering.{nat_cmp}
@@ -12,7 +12,7 @@ use Rattle.kr_files.specs.declared.opened.What.TheVariants.{File, Dir, In, Out, 
 use Rattle.kr_files.specs.declared.opened.PipeState.{PipeState}
 use Rattle.kr_files.specs.Descriptors.{Descriptors, Meanings, meanings, named_count}
 use Rattle.kr_files.specs.Maps.{changed, mapped}
-use Rattle.kr_files.specs.Opened.{is_reader, is_writer, pipe_end, after_removal, after_rename}
+use Rattle.kr_files.specs.Opened.{is_reader, is_writer, pipe_end}
 use Rattle.kr_files.specs.Pipes.{after_write}
 
 -- an open file, and how many descriptors name it

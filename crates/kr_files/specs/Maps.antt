@@ -1,6 +1,6 @@
 -- Changes of finite maps from numbers.
 use Rattle.std.specs.FinMap as map
-use Rattle.std.specs.Prelude.{ℕ, List, Option, map as map_list}
+use Rattle.std.specs.Prelude.{ℕ, map as map_list}
 use Rattle.std.specs.Option.{option_map_or}
 use Rattle.std.specs.Ordering.{nat_cmp}
 

@@ -1,6 +1,6 @@
 -- Pipes: what they hold, and what a read and a write of them do.
 use Rattle.std.specs.FinMap as map
-use Rattle.std.specs.Prelude.{ℕ, ◌-◌, ◌==◌, Bool, true, false, ◌&&◌, List, [], ◌++◌, length, take, drop, min, nat_le, if◌then◌else◌, refl}
+use Rattle.std.specs.Prelude.{ℕ, ◌-◌, ◌==◌, Bool, true, false, ◌&&◌, List, [], ◌++◌, length, take, min, nat_le, if◌then◌else◌, refl}
 use Rattle.std.specs.Option.{option_map_or}
 use Rattle.std.specs.Ordering.{nat_cmp}
 use Rattle.std.specs.Coded.{Coded, code_by, coded×, coded_ℕ, coded_bool, coded_list}

@@ -1,4 +1,4 @@
-use Rattle.std.proofs.Common.{◌≡◌, ◌<◌, ◌≤◌, ℕ, length, vec_len}
+use Rattle.std.proofs.Common.{◌≡◌, ◌<◌, ◌≤◌, ℕ, vec_len}
 use Rattle.std.specs.Option.{option_map}
 use Rattle.slab.specs.Slab.{get}
 use Rattle.kr_files.specs.OpenFiles.{HasCopies, on_file}

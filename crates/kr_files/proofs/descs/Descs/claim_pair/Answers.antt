@@ -1,4 +1,4 @@
-use Rattle.std.proofs.Common.{◌∙◌, ◌<◌, ◌≤◌, ◌+◌, Some, length, set, refl, ap, arith}
+use Rattle.std.proofs.Common.{◌∙◌, Some, set, ap, arith}
 use Rattle.std.specs.FinMap as map
 use Rattle.std.proofs.lemmas.List.{length-set}
 use Rattle.kr_files.proofs.AnswerLemmas.{on_error}

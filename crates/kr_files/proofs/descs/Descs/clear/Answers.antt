@@ -1,5 +1,5 @@
 use Rattle.kr_files.proofs.DescriptorLemmas.{cleared, cleared_past}
-use Rattle.std.proofs.Common.{◌<◌, ◌≤◌, length, arith}
+use Rattle.std.proofs.Common.{arith}
 use Rattle.kr_files.proofs.descs.Descs.clear.Goals as goal
 
 pub returns-then-fd-len : goal.returns-then-fd-len

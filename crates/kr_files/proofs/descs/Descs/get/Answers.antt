@@ -1,4 +1,4 @@
-use Rattle.std.proofs.Common.{◌≤◌, ◌≡◌, ◌∙◌, sym, None, arith}
+use Rattle.std.proofs.Common.{sym, None, arith}
 use Rattle.kr_files.proofs.DescriptorLemmas.{found_in}
 use Rattle.kr_files.proofs.descs.Descs.get.Goals as goal
 

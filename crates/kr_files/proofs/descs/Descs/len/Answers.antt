@@ -1,4 +1,4 @@
-use Rattle.std.proofs.Common.{◌≤◌, length, None, arith}
+use Rattle.std.proofs.Common.{None, arith}
 use Rattle.std.proofs.lemmas.List.{get_or_past}
 use Rattle.kr_files.proofs.DescriptorLemmas.{none_past}
 use Rattle.kr_files.proofs.descs.Descs.len.Goals as goal

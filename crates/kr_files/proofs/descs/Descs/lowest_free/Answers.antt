@@ -1,5 +1,4 @@
-use Rattle.std.proofs.Common.{◌≡◌, ◌∙◌, sym, ◌<◌, ◌≤◌, ap, arith, is_some, not}
-use Rattle.std.specs.FinMap as map
+use Rattle.std.proofs.Common.{◌∙◌, sym, ap, is_some, not}
 use Rattle.kr_files.proofs.DescriptorLemmas.{first_free-taken, first_free-found, first_free-end}
 use Rattle.kr_files.proofs.descs.Descs.lowest_free.Goals as goal
 

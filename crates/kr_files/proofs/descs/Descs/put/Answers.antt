@@ -1,4 +1,4 @@
-use Rattle.std.proofs.Common.{◌∙◌, sym, ◌<◌, ◌≤◌, ◌+◌, length, arith}
+use Rattle.std.proofs.Common.{◌∙◌, arith}
 use Rattle.kr_files.proofs.SlotLemmas.{slots-same}
 use Rattle.kr_files.proofs.DescriptorLemmas.{put_in}
 use Rattle.kr_files.proofs.AnswerLemmas.{on_error}

@@ -1,4 +1,4 @@
-use Rattle.std.proofs.Common.{◌≡◌, ◌<◌, ◌≤◌, length, arith, None, get_or}
+use Rattle.std.proofs.Common.{arith, None}
 use Rattle.std.specs.FinMap as map
 use Rattle.std.proofs.lemmas.List.{get_or_past}
 use Rattle.kr_files.proofs.DescriptorLemmas.{put_over, none_past, not_missing}

@@ -1,4 +1,4 @@
-use Rattle.std.proofs.Common.{◌+◌, ◌∙◌, ap, subst, sym, refl}
+use Rattle.std.proofs.Common.{◌+◌, ◌∙◌, ap, subst, sym}
 use Rattle.std.specs.FinMap as map
 use Rattle.kr_files.specs.Files.{Counted}
 use Rattle.kr_files.specs.Sound.{IsSound}

@@ -1,4 +1,4 @@
-use Rattle.std.proofs.Common.{◌≡◌, ◌≢◌, ◌<◌, ◌≤◌, ◌+◌, ◌∙◌, inl, inr, ℕ, ap, sym, subst, refl, Ok, Some, arith}
+use Rattle.std.proofs.Common.{◌≢◌, ◌<◌, ◌≤◌, ◌+◌, ◌∙◌, inr, ap, sym, subst, refl, arith}
 use Rattle.std.specs.FinMap as map
 use Rattle.std.specs.Prelude.{IsSome}
 use Rattle.kr_files.specs.Descriptors.{unnamed}

@@ -1,9 +1,9 @@
-use Rattle.std.proofs.Common.{◌≡◌, ◌∙◌, ◌-◌, ℕ, Bool, true, false, refl, ap, sym, subst, Some, length}
+use Rattle.std.proofs.Common.{◌∙◌, refl, ap, sym, subst}
 use Rattle.std.specs.FinMap as map
-use Rattle.std.specs.Prelude.{IsSome, nat_le, min, List, take}
+use Rattle.std.specs.Prelude.{IsSome, take}
 use Rattle.std.specs.Option.{option_map}
-use Rattle.kr_files.specs.Files.{Kept, has_reader, has_writer, on_table, pipe_after_read, pipe_after_write}
-use Rattle.kr_files.specs.Pipes.{Pipe, moved_of, wrote_of, read_waits}
+use Rattle.kr_files.specs.Files.{Kept, has_writer, on_table, pipe_after_read}
+use Rattle.kr_files.specs.Pipes.{Pipe, moved_of, read_waits}
 use Rattle.kr_files.specs.Sound.{IsSound, kept_of}
 use Rattle.kr_files.proofs.PipeLemmas.{pipe_there, told, read-waits, read-waits_after, read-moves, read-moves_after, sound-read}
 use Rattle.kr_files.proofs.files.Files.pipe_read.Goals as goal

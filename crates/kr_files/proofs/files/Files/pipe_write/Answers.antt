@@ -1,9 +1,9 @@
-use Rattle.std.proofs.Common.{◌≡◌, ◌∙◌, ◌-◌, ℕ, Bool, true, false, refl, ap, sym, subst, Some, length}
+use Rattle.std.proofs.Common.{◌∙◌, ◌-◌, ap, sym, subst, length}
 use Rattle.std.specs.FinMap as map
-use Rattle.std.specs.Prelude.{IsSome, nat_le, min, List, take}
+use Rattle.std.specs.Prelude.{IsSome, nat_le, min}
 use Rattle.std.specs.Option.{option_map}
-use Rattle.kr_files.specs.Files.{Kept, has_reader, has_writer, on_table, pipe_after_read, pipe_after_write}
-use Rattle.kr_files.specs.Pipes.{Pipe, moved_of, wrote_of, read_waits}
+use Rattle.kr_files.specs.Files.{Kept, has_reader, on_table, pipe_after_write}
+use Rattle.kr_files.specs.Pipes.{Pipe, wrote_of}
 use Rattle.kr_files.specs.Sound.{IsSound, kept_of}
 use Rattle.kr_files.proofs.PipeLemmas.{pipe_there, told, reader_told, write-no_reader, write-no_reader_after, write-waits, write-waits_after, write-takes, write-takes_after, sound-write}
 use Rattle.kr_files.proofs.files.Files.pipe_write.Goals as goal

@@ -1,7 +1,6 @@
-use Rattle.std.proofs.Common.{◌≡◌, ◌∙◌, sym, ap, subst, ℕ, refl}
+use Rattle.std.proofs.Common.{◌∙◌, sym, ap}
 use Rattle.std.specs.FinMap as map
 use Rattle.std.proofs.lemmas.Option.{none-some}
-use Rattle.slab.specs.Slab.{get}
 use Rattle.kr_files.specs.declared.open_files.OpenFile.{OpenFile}
 use Rattle.kr_files.specs.OpenFiles.{Store, counted}
 use Rattle.kr_files.proofs.OpenFileLemmas.{get-files_in, distinct-put, numbers-put, files-put}

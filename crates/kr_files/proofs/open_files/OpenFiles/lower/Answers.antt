@@ -1,6 +1,5 @@
-use Rattle.std.proofs.Common.{◌≡◌, ◌-◌, ◌<◌, ◌≤◌, ◌∙◌, sym, ap, subst, refl, None, is_some, cond, arith}
+use Rattle.std.proofs.Common.{◌-◌, ◌≤◌, ◌∙◌, sym, ap, subst, refl, None, is_some, cond}
 use Rattle.std.specs.FinMap as map
-use Rattle.std.specs.Prelude.{if◌then◌else◌}
 use Rattle.kr_files.specs.declared.open_files.OpenFile.{OpenFile}
 use Rattle.kr_files.specs.OpenFiles.{Store, counted}
 use Rattle.slab.specs.Slab.{get, Updates}

@@ -1,4 +1,4 @@
-use Rattle.std.proofs.Common.{◌+◌, ◌<◌, ◌^◌, ap, subst, refl, arith}
+use Rattle.std.proofs.Common.{◌+◌, ◌<◌, ◌^◌, subst, refl, arith}
 use Rattle.std.specs.Option.{option_map_or}
 use Rattle.kr_files.specs.declared.open_files.OpenFile.{OpenFile}
 use Rattle.kr_files.specs.Files.{Counted, counted_more}

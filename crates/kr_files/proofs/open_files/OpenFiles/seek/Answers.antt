@@ -1,8 +1,7 @@
-use Rattle.std.proofs.Common.{◌+◌, ◌<◌, ◌^◌, ap, subst, refl, arith}
-use Rattle.std.specs.Option.{option_map_or}
+use Rattle.std.proofs.Common.{refl}
 use Rattle.kr_files.specs.declared.open_files.OpenFile.{OpenFile}
-use Rattle.kr_files.specs.Files.{Counted, on_opened, at_offset}
-use Rattle.kr_files.proofs.OpenFileLemmas.{has_key, file_found, distinct-changed, numbers-changed, files-changed}
+use Rattle.kr_files.specs.Files.{on_opened, at_offset}
+use Rattle.kr_files.proofs.OpenFileLemmas.{has_key, distinct-changed, numbers-changed, files-changed}
 use Rattle.kr_files.proofs.open_files.OpenFiles.seek.Goals as goal
 
 pub index_mut-file-requires : goal.index_mut-file-requires

@@ -1,4 +1,4 @@
-use Rattle.std.proofs.Common.{◌≡◌, ◌≤◌, take, drop, vec_len, vec_capacity, length}
+use Rattle.std.proofs.Common.{◌≡◌, take, drop, vec_len, vec_capacity, length}
 use Rattle.std.specs.Prelude.{min}
 use Rattle.kr_files.proofs.pipe.Pipe.take.Given as goal
 

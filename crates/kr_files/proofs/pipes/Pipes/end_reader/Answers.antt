@@ -1,6 +1,5 @@
 use Rattle.std.proofs.Common.{◌≡◌, ◌∙◌, ap, sym, cond, true}
 use Rattle.std.specs.FinMap as map
-use Rattle.std.specs.Option.{option_copied_mut}
 use Rattle.kr_files.specs.Maps.{changed}
 use Rattle.kr_files.specs.Pipes.{writer_open, without_reader}
 use Rattle.kr_files.proofs.MapLemmas.{changed-some, changed-none}
