@@ -1,0 +1,13 @@
+pub mod AnswerLemmas
+pub mod ClaimLemmas
+pub mod CloseLemmas
+pub mod CountLemmas
+pub mod DescriptorLemmas
+pub mod EntryLemmas
+pub mod KindLemmas
+pub mod MapLemmas
+pub mod OpenFileLemmas
+pub mod PipeLemmas
+pub mod SlotLemmas
+pub mod SoundLemmas
+pub mod TreeLemmas

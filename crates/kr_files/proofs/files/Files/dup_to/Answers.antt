@@ -1,0 +1,16 @@
+use Rattle.std.proofs.Common.{subst, sym, refl}
+use Rattle.kr_files.specs.Files.{counted_more}
+use Rattle.kr_files.specs.Maps.{changed}
+use Rattle.kr_files.specs.Sound.{IsSound}
+use Rattle.kr_files.proofs.SoundLemmas.{same-changed, sound-same_kinds}
+use Rattle.kr_files.proofs.files.Files.dup_to.Goals as goal
+
+pub invariant_of-self : goal.invariant_of-self
+invariant_of-self g c =
+    subst (λ files. IsSound files c.self.inside.pipes c.self.inside.last_file c.self.inside.last_pipe) (sym c.raise.ensures.files)
+    (sound-same_kinds c.self.inside.open.files (changed c.self.inside.open.files c.unwrap-original.result.number (counted_more 1)) (same-changed c.self.inside.open.files c.unwrap-original.result.number (counted_more 1) (λ h. refl)) c.self.inside.pipes c.self.inside.last_file c.self.inside.last_pipe c.self.invariant)
+
+pub invariant_of-self-in_default : goal.invariant_of-self-in_default
+invariant_of-self-in_default g c =
+    subst (λ files. IsSound files c.self.inside.pipes c.self.inside.last_file c.self.inside.last_pipe) (sym c.raise.ensures.files)
+    (sound-same_kinds c.self.inside.open.files (changed c.self.inside.open.files c.unwrap-original.result.number (counted_more 1)) (same-changed c.self.inside.open.files c.unwrap-original.result.number (counted_more 1) (λ h. refl)) c.self.inside.pipes c.self.inside.last_file c.self.inside.last_pipe c.self.invariant)

@@ -1,0 +1,60 @@
+use Rattle.std.proofs.Common.{◌∙◌, ◌-◌, ap, sym, subst, length}
+use Rattle.std.specs.FinMap as map
+use Rattle.std.specs.Prelude.{IsSome, nat_le, min}
+use Rattle.std.specs.Option.{option_map}
+use Rattle.kr_files.specs.Files.{Kept, has_reader, on_table, pipe_after_write}
+use Rattle.kr_files.specs.Pipes.{Pipe, wrote_of}
+use Rattle.kr_files.specs.Sound.{IsSound, kept_of}
+use Rattle.kr_files.proofs.PipeLemmas.{pipe_there, told, reader_told, write-no_reader, write-no_reader_after, write-waits, write-waits_after, write-takes, write-takes_after, sound-write}
+use Rattle.kr_files.proofs.files.Files.pipe_write.Goals as goal
+
+pub returns-then-not-has_reader-clause-answer : goal.returns-then-not-has_reader-clause-answer
+returns-then-not-has_reader-clause-answer g c =
+    let there = pipe_there c.self.inside.pipes c.args.pipe (subst (λ (k : Kept g.row.M.Denot). IsSome (map.get k.table.pipes c.args.pipe)) (sym c.self.view_is) c.requires.exists) in
+    let none = sym (reader_told c.self.inside.pipes c.args.pipe there.0 there.1) ∙ sym c.has_reader.ensures ∙ c.if-not-has_reader.true in
+    sym (ap (λ (k : Kept g.row.M.Denot). option_map (λ bytes. wrote_of bytes (has_reader k.table c.args.pipe) c.args.b.now) (map.get k.table.pipes c.args.pipe)) c.self.view_is)
+    ∙ write-no_reader c.self.inside.open c.self.inside.pipes c.self.inside.last_file c.self.inside.last_pipe c.self.invariant c.args.pipe there.0 there.1 c.args.b.now none
+
+pub returns-then-not-has_reader-clause-after : goal.returns-then-not-has_reader-clause-after
+returns-then-not-has_reader-clause-after g c =
+    let there = pipe_there c.self.inside.pipes c.args.pipe (subst (λ (k : Kept g.row.M.Denot). IsSome (map.get k.table.pipes c.args.pipe)) (sym c.self.view_is) c.requires.exists) in
+    let none = sym (reader_told c.self.inside.pipes c.args.pipe there.0 there.1) ∙ sym c.has_reader.ensures ∙ c.if-not-has_reader.true in
+    sym c.self.view_is ∙ write-no_reader_after c.self.inside.open c.self.inside.pipes c.self.inside.last_file c.self.inside.last_pipe c.self.invariant c.args.pipe there.0 there.1 c.args.b.now none ∙ ap (λ (k : Kept g.row.M.Denot). on_table (pipe_after_write c.args.pipe c.args.b.now) k) c.self.view_is
+
+pub returns-then-is_full-clause-answer : goal.returns-then-is_full-clause-answer
+returns-then-is_full-clause-answer g c =
+    let there = pipe_there c.self.inside.pipes c.args.pipe (subst (λ (k : Kept g.row.M.Denot). IsSome (map.get k.table.pipes c.args.pipe)) (sym c.self.view_is) c.requires.exists) in
+    let some = sym (reader_told c.self.inside.pipes c.args.pipe there.0 there.1) ∙ sym c.has_reader.ensures ∙ c.if-not-has_reader.false in
+    let full = told (λ (p : Pipe). nat_le 65536 (length p.bytes)) _ there.0 c.is_full.result there.1 c.is_full.ensures ∙ c.if-is_full.true in
+    sym (ap (λ (k : Kept g.row.M.Denot). option_map (λ bytes. wrote_of bytes (has_reader k.table c.args.pipe) c.args.b.now) (map.get k.table.pipes c.args.pipe)) c.self.view_is)
+    ∙ write-waits c.self.inside.open c.self.inside.pipes c.self.inside.last_file c.self.inside.last_pipe c.self.invariant c.args.pipe there.0 there.1 c.args.b.now some full
+
+pub returns-then-is_full-clause-after : goal.returns-then-is_full-clause-after
+returns-then-is_full-clause-after g c =
+    let there = pipe_there c.self.inside.pipes c.args.pipe (subst (λ (k : Kept g.row.M.Denot). IsSome (map.get k.table.pipes c.args.pipe)) (sym c.self.view_is) c.requires.exists) in
+    let some = sym (reader_told c.self.inside.pipes c.args.pipe there.0 there.1) ∙ sym c.has_reader.ensures ∙ c.if-not-has_reader.false in
+    let full = told (λ (p : Pipe). nat_le 65536 (length p.bytes)) _ there.0 c.is_full.result there.1 c.is_full.ensures ∙ c.if-is_full.true in
+    sym c.self.view_is ∙ write-waits_after c.self.inside.open c.self.inside.pipes c.self.inside.last_file c.self.inside.last_pipe c.self.invariant c.args.pipe there.0 there.1 c.args.b.now some full ∙ ap (λ (k : Kept g.row.M.Denot). on_table (pipe_after_write c.args.pipe c.args.b.now) k) c.self.view_is
+
+pub invariant_of-self-2 : goal.invariant_of-self-2
+invariant_of-self-2 g c =
+    let there = pipe_there c.self.inside.pipes c.args.pipe (subst (λ (k : Kept g.row.M.Denot). IsSome (map.get k.table.pipes c.args.pipe)) (sym c.self.view_is) c.requires.exists) in
+    subst (λ pipes. IsSound c.self.inside.open.files pipes c.self.inside.last_file c.self.inside.last_pipe) (sym c.in_ok-put.ensures.ok)
+    (sound-write c.self.inside.open c.self.inside.pipes c.self.inside.last_file c.self.inside.last_pipe c.self.invariant c.args.pipe there.0 there.1 c.args.b.now)
+
+pub returns-clause-answer : goal.returns-clause-answer
+returns-clause-answer g c =
+    let there = pipe_there c.self.inside.pipes c.args.pipe (subst (λ (k : Kept g.row.M.Denot). IsSome (map.get k.table.pipes c.args.pipe)) (sym c.self.view_is) c.requires.exists) in
+    let some = sym (reader_told c.self.inside.pipes c.args.pipe there.0 there.1) ∙ sym c.has_reader.ensures ∙ c.if-not-has_reader.false in
+    let room = told (λ (p : Pipe). nat_le 65536 (length p.bytes)) _ there.0 c.is_full.result there.1 c.is_full.ensures ∙ c.if-is_full.false in
+    let count = told (λ (p : Pipe). min (length c.args.b.now) (65536 - length p.bytes)) _ there.0 c.in_ok-put.field-0 there.1 c.in_ok-put.ensures.count in
+    sym (ap (λ (k : Kept g.row.M.Denot). option_map (λ bytes. wrote_of bytes (has_reader k.table c.args.pipe) c.args.b.now) (map.get k.table.pipes c.args.pipe)) c.self.view_is)
+    ∙ write-takes c.self.inside.open c.self.inside.pipes c.self.inside.last_file c.self.inside.last_pipe c.self.invariant c.args.pipe there.0 there.1 c.args.b.now c.in_ok-put.field-0 some room (sym count)
+
+pub returns-clause-after : goal.returns-clause-after
+returns-clause-after g c =
+    let there = pipe_there c.self.inside.pipes c.args.pipe (subst (λ (k : Kept g.row.M.Denot). IsSome (map.get k.table.pipes c.args.pipe)) (sym c.self.view_is) c.requires.exists) in
+    let some = sym (reader_told c.self.inside.pipes c.args.pipe there.0 there.1) ∙ sym c.has_reader.ensures ∙ c.if-not-has_reader.false in
+    ap (λ pipes. kept_of c.self.inside.open pipes c.self.inside.last_file c.self.inside.last_pipe) c.in_ok-put.ensures.ok
+    ∙ write-takes_after c.self.inside.open c.self.inside.pipes c.self.inside.last_file c.self.inside.last_pipe c.self.invariant c.args.pipe there.0 there.1 c.args.b.now some
+    ∙ ap (λ (k : Kept g.row.M.Denot). on_table (pipe_after_write c.args.pipe c.args.b.now) k) c.self.view_is

@@ -1,0 +1,7 @@
+use Rattle.std.proofs.Common.{◌∙◌, ap, sym}
+use Rattle.std.specs.FinMap as map
+use Rattle.kr_files.proofs.TreeLemmas.{len-from_entries}
+use Rattle.kr_files.proofs.pipes.Pipes.len.Goals as goal
+
+pub returns : goal.returns
+returns c = c.len.ensures.len ∙ sym (len-from_entries _ c.len.ensures.ordered) ∙ ap map.len c.self.view_is

@@ -1,0 +1,5 @@
+use Rattle.kr_files.proofs.TreeLemmas.{removed}
+use Rattle.kr_files.proofs.pipes.Pipes.remove.Goals as goal
+
+pub returns : goal.returns
+returns c = removed c.self.inside.pipes c.remove-pipe.new.self c.args.self.now c.args.number c.self.view_is c.remove-pipe.ensures.updates

@@ -1,0 +1,36 @@
+use Rattle.std.proofs.Common.{◌∙◌, Some, ap, sym, take, drop}
+use Rattle.std.specs.FinMap as map
+use Rattle.std.specs.Option.{option_map}
+use Rattle.kr_files.specs.Pipes.{holding}
+use Rattle.kr_files.proofs.AnswerLemmas.{on_ok_map, on_error_map, if_ok_map}
+use Rattle.kr_files.proofs.MapLemmas.{changed-some, insert-same}
+use Rattle.kr_files.proofs.TreeLemmas.{is_found, found_mut, there_mut, written}
+use Rattle.kr_files.proofs.pipes.Pipes.take.Goals as goal
+
+pub unwrap-pipe-requires : goal.unwrap-pipe-requires
+unwrap-pipe-requires c = is_found c.self.inside.pipes c.args.self.now c.args.number c.get_mut.result c.self.view_is c.get_mut.ensures.value c.requires
+
+pub returns-clause-bytes : goal.returns-clause-bytes
+returns-clause-bytes c =
+    let found = found_mut c.self.inside.pipes c.args.self.now c.args.number c.get_mut.result c.unwrap-pipe.result c.self.view_is c.get_mut.ensures.value c.unwrap-pipe.ensures in
+    if_ok_map c.take.result _ _ (λ x is. ap (option_map (λ p. take c.args.n p.bytes)) found ∙ ap Some (sym is)) c.take.ensures.bytes
+
+pub returns-clause-ok : goal.returns-clause-ok
+returns-clause-ok c =
+    let found = found_mut c.self.inside.pipes c.args.self.now c.args.number c.get_mut.result c.unwrap-pipe.result c.self.view_is c.get_mut.ensures.value c.unwrap-pipe.ensures in
+    let there = there_mut c.self.inside.pipes c.args.number c.get_mut.result c.unwrap-pipe.result c.get_mut.ensures.value c.unwrap-pipe.ensures in
+    on_ok_map c.take.result _ _
+    (λ is. written c.self.inside.pipes (c.get_mut.follows.lender c.take.new.self) c.args.self.now c.args.number c.unwrap-pipe.result.now c.take.new.self c.self.view_is there (c.get_mut.follows.holds c.take.new.self).3
+    ∙ ap (map.insert c.args.self.now c.args.number) is
+    ∙ sym (changed-some c.args.self.now c.args.number (λ p. holding (drop c.args.n p.bytes) p) c.unwrap-pipe.result.now found))
+    c.take.ensures.ok
+
+pub returns-clause-err : goal.returns-clause-err
+returns-clause-err c =
+    let found = found_mut c.self.inside.pipes c.args.self.now c.args.number c.get_mut.result c.unwrap-pipe.result c.self.view_is c.get_mut.ensures.value c.unwrap-pipe.ensures in
+    let there = there_mut c.self.inside.pipes c.args.number c.get_mut.result c.unwrap-pipe.result c.get_mut.ensures.value c.unwrap-pipe.ensures in
+    on_error_map c.take.result _ _
+    (λ is. written c.self.inside.pipes (c.get_mut.follows.lender c.take.new.self) c.args.self.now c.args.number c.unwrap-pipe.result.now c.take.new.self c.self.view_is there (c.get_mut.follows.holds c.take.new.self).3
+    ∙ ap (map.insert c.args.self.now c.args.number) is
+    ∙ insert-same c.args.self.now c.args.number c.unwrap-pipe.result.now found)
+    c.take.ensures.err
