@@ -20,9 +20,9 @@ neither a b no_a no_b = rw (no_a, no_b) refl
 bound_label : (places : List (Option ℕ)) (label : ℕ) → label < length places → All IsSome places → unbound_label places (Some label) ≡ None
 bound_label places label given bound = is_bound (place_of places label) label (bound label None given)
   where
-  is_bound : (place : Option ℕ) (label : ℕ) → IsSome place → ◌≡◌ {A = Option ℕ} (if is_none place then Some label else None) None
-  is_bound None label some = cc
-  is_bound (Some place) label some = refl
+    is_bound : (place : Option ℕ) (label : ℕ) → IsSome place → ◌≡◌ {A = Option ℕ} (if is_none place then Some label else None) None
+    is_bound None label some = cc
+    is_bound (Some place) label some = refl
 
 none_unbound : (places : List (Option ℕ)) (items : List Item) → All (IsProper (length places)) items → All IsSome places → first_unbound places items ≡ None
 none_unbound places [] proper bound = refl
@@ -31,12 +31,12 @@ none_unbound places (item ∷ rest) proper bound =
     (of_item places item (All-head (IsProper (length places)) item rest proper) bound)
     (none_unbound places rest (All-tail (IsProper (length places)) item rest proper) bound)
   where
-  of_item : (places : List (Option ℕ)) (item : Item) → IsProper (length places) item → All IsSome places → unbound_label places (label_of item) ≡ None
-  of_item places (Plain i) proper bound = refl
-  of_item places (Jump rd to) proper bound = bound_label places to proper.1 bound
-  of_item places (Branch i to) proper bound = bound_label places to proper.1 bound
-  of_item places (Address rd of) proper bound = bound_label places of proper.1 bound
-  of_item places (Data bytes) proper bound = refl
+    of_item : (places : List (Option ℕ)) (item : Item) → IsProper (length places) item → All IsSome places → unbound_label places (label_of item) ≡ None
+    of_item places (Plain i) proper bound = refl
+    of_item places (Jump rd to) proper bound = bound_label places to proper.1 bound
+    of_item places (Branch i to) proper bound = bound_label places to proper.1 bound
+    of_item places (Address rd of) proper bound = bound_label places of proper.1 bound
+    of_item places (Data bytes) proper bound = refl
 
 -- ---- distances
 

@@ -1,10 +1,12 @@
 -- Programs as lists of items, and what always holds of them.
-use Rattle.std.proofs.Common.{◌≡◌, ℕ, ◌+◌, ◌*◌, ◌%◌, ◌<◌, ◌≤◌, ◌^◌, List, [], ◌∷◌, ◌++◌, All, Option, Some, None, length, drop, get_or, set, length-set, arith, refl, sym, ap, subst, ◌∙◌}
+use Rattle.std.proofs.Common.{◌≡◌, ℕ, ◌+◌, ◌*◌, ◌%◌, ◌<◌, ◌≤◌, ◌^◌, List, [], ◌∷◌, ◌++◌, All, Option, Some, None, length, drop, get_or, set, length-set, length-append, arith, refl, sym, ap, subst, ◌∙◌}
 use Rattle.std.specs.Option.{option_or}
 use Rattle.std.proofs.lemmas.List.{drop_more}
 use Rattle.std.proofs.lemmas.List.Elements.{All-head, All-tail, All-push, All-set, All-weaker}
 use Rattle.rv_asm.specs.declared.item.Item.{Item}
 use Rattle.rv_asm.specs.declared.item.Item.TheVariants.{Plain, Jump, Branch, Address, Data}
+use Rattle.rv_table.specs.declared.instr.Instr.{Instr}
+use Rattle.rv_asm.specs.Assembly.{word, bytes_of, code_from}
 use Rattle.rv_asm.specs.Program.{size_of, total, IsProper, IsInside, IsSound}
 
 pub option_or_none : {A : Type 0} (a b : Option A) → option_or a b ≡ None → (a ≡ None) × (b ≡ None)
@@ -58,3 +60,20 @@ sound_bind items places size label sound =
       proper = subst P (sym same) sound.proper;
       inside = All-set (IsInside size) places label (Some size) (omega (arith, sound.counted), omega arith) sound.inside;
     }
+
+-- ---- the length of the code
+
+length-word : (i : Instr) → length (word i) ≡ 4
+length-word i = refl
+
+pub length-bytes_of : (places : List (Option ℕ)) (at : ℕ) (item : Item) → length (bytes_of places at item) ≡ size_of item
+length-bytes_of places at (Plain i) = refl
+length-bytes_of places at (Jump rd to) = refl
+length-bytes_of places at (Branch i to) = refl
+length-bytes_of places at (Address rd of) = refl
+length-bytes_of places at (Data bytes) = refl
+
+pub length-code_from : (places : List (Option ℕ)) (at : ℕ) (items : List Item) → length (code_from places at items) ≡ total items
+length-code_from places at [] = refl
+length-code_from places at (item ∷ rest) =
+    omega (arith, length-append (bytes_of places at item) (code_from places (at + size_of item) rest), length-bytes_of places at item, length-code_from places (at + size_of item) rest)

@@ -34,13 +34,13 @@ pub floor_above : (z : ℤ) → z ≤ℤ (int_div_euclid z (pos 4096) *ℤ pos 4
 floor_above (pos n) = omega (arith, ints)
 floor_above (negsuc n) = omega (arith, ints)
 
-lower_fits : (d : ℤ) → FitsWidth 12 (lower d)
+pub lower_fits : (d : ℤ) → FitsWidth 12 (lower d)
 lower_fits d =
     let below : (int_div_euclid (d +ℤ pos 2048) (pos 4096) *ℤ pos 4096) ≤ℤ (d +ℤ pos 2048) = floor_below (d +ℤ pos 2048) in
     let above : (d +ℤ pos 2048) ≤ℤ (int_div_euclid (d +ℤ pos 2048) (pos 4096) *ℤ pos 4096 +ℤ pos 4095) = floor_above (d +ℤ pos 2048) in
     FitsWidth-twelve (lower d) (omega (arith, ints)) (omega (arith, ints))
 
-times_multiple : (q : ℤ) → IsMultiple 4096 (q *ℤ pos 4096)
+pub times_multiple : (q : ℤ) → IsMultiple 4096 (q *ℤ pos 4096)
 times_multiple q = rw (unsigned_abs-mul q (pos 4096)) (omega arith)
 
 -- ---- distances are even
@@ -51,8 +51,8 @@ distance_even p a p_even a_even = omega (arith, ints)
 pub place_inside : (places : List (Option ℕ)) (size label : ℕ) → All (IsInside size) places → IsInside size (place_of places label)
 place_inside places size label inside =
     elim (cases_lt label (length places)) [
-      inl given ↦ inside label None given
-    | inr past ↦ let missing : slice_index_or places label None ≡ None = get_or_past places label None past in rw missing tt
+      | inl given ↦ inside label None given
+      | inr past ↦ let missing : slice_index_or places label None ≡ None = get_or_past places label None past in rw missing tt
     ]
 
 place_even : (size : ℕ) (place : Option ℕ) → IsInside size place → unwrap_or place 0 % 4 ≡ 0
@@ -76,17 +76,21 @@ IsValid-aimed _ d branch fits even = absurd branch
 
 pub has_words : (places : List (Option ℕ)) (at labels size : ℕ) (item : Item) → IsProper labels item → far_label places at item (label_of item) ≡ None → at % 4 ≡ 0 → All (IsInside size) places → HasWords places at item
 has_words places at labels size (Plain i) proper near even inside = proper
-has_words places at labels size (Jump rd to) proper near even inside =
-    (proper.0,
-     FitsWidth-fits 21 (distance places at to) (in_reach (fits 21 (distance places at to)) to near),
-     distance_even (unwrap_or (place_of places to) 0) at (place_even size (place_of places to) (place_inside places size to inside)) even)
+has_words places at labels size (Jump rd to) proper near even inside = (
+  proper.0,
+  FitsWidth-fits 21 (distance places at to) (in_reach (fits 21 (distance places at to)) to near),
+  distance_even (unwrap_or (place_of places to) 0) at (place_even size (place_of places to) (place_inside places size to inside)) even,
+)
 has_words places at labels size (Branch i to) proper near even inside =
     IsValid-aimed i (distance places at to) proper.0
     (FitsWidth-fits 13 (distance places at to) (in_reach (fits 13 (distance places at to)) to near))
     (distance_even (unwrap_or (place_of places to) 0) at (place_even size (place_of places to) (place_inside places size to inside)) even)
-has_words places at labels size (Address rd of) proper near even inside =
-    ((proper.0,
-      FitsWidth-fits 32 (upper (distance places at of)) (in_reach (fits 32 (upper (distance places at of))) of near),
-      times_multiple (int_div_euclid (distance places at of +ℤ pos 2048) (pos 4096))),
-     (proper.0, proper.0, lower_fits (distance places at of)))
+has_words places at labels size (Address rd of) proper near even inside = (
+  (
+    proper.0,
+    FitsWidth-fits 32 (upper (distance places at of)) (in_reach (fits 32 (upper (distance places at of))) of near),
+    times_multiple (int_div_euclid (distance places at of +ℤ pos 2048) (pos 4096)),
+  ),
+  (proper.0, proper.0, lower_fits (distance places at of)),
+)
 has_words places at labels size (Data bytes) proper near even inside = tt

@@ -88,7 +88,13 @@ fn put_item(
         }
         Item::Address { rd, of } => {
             let to = distance(places, at, *of);
-            put_word(code, Instr::Auipc { rd: *rd, imm: upper(to) })?;
+            put_word(
+                code,
+                Instr::Auipc {
+                    rd: *rd,
+                    imm: upper(to),
+                },
+            )?;
             put_word(
                 code,
                 Instr::Addi {

@@ -7,9 +7,11 @@ mod assembly;
 mod distance;
 mod fault;
 mod item;
+mod laws;
 mod program;
 
 pub use fault::AsmFault;
+pub use laws::{items_stand_in_order, parts_add_up};
 pub use program::Asm;
 
 #[cfg(test)]

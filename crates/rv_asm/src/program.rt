@@ -67,7 +67,7 @@ impl Asm {
         requires given { label < length self.old.places }
         requires once { place_of self.old.places label ≡ None }
         ensures { self.new ≡ record self.old {
-            places = slice_set self.old.places label (Some (total self.old.items))
+          places = slice_set self.old.places label (Some (total self.old.items));
         } }
     {
         self.places[label as usize] = Some(self.size);
@@ -145,6 +145,8 @@ impl Asm {
         ensures fault { IfSome (first_fault self) (λ fault. result ≡ Err fault) }
         ensures code { IfNone (first_fault self)
             (MatchResult result (λ code. code ≡ code_of self) (λ fault. fault ≡ AsmFault.NoMemory)) }
+
+        ensures size { IfOk result (λ code. length code ≡ total self.items) }
 
         // A short program without branches, whose labels are all bound, has no fault.
         ensures near { IsNear self → first_fault self ≡ None }

@@ -18,7 +18,7 @@ put_item-requires-clause-words c =
     let k : ℕ = c.loop-item.item-index in
     let item : Item = c.item-item.result in
     let proper : IsProper (length c.args.places.now) item =
-        subst (IsProper (length c.args.places.now)) (sym c.item-item.is) (All-get_or (IsProper (length c.args.places.now)) items k item c.loop-item-test.true c.requires.sound.proper) in
+    subst (IsProper (length c.args.places.now)) (sym c.item-item.is) (All-get_or (IsProper (length c.args.places.now)) items k item c.loop-item-test.true c.requires.sound.proper) in
     has_words c.args.places.now c.loop-item.at (length c.args.places.now) (total items) item proper
     (left_in_reach c.args.places.now c.loop-item.at item (drop k items) (drop (k + 1) items) (drop-item items k item c.loop-item-test.true c.item-item.is) c.loop-item.invariant.reached).0
     c.loop-item.invariant.aligned c.requires.sound.inside
@@ -33,7 +33,7 @@ loop-item-preserved c =
     let rest : List Item = drop (k + 1) items in
     let next : drop k items ≡ item ∷ rest = drop-item items k item c.loop-item-test.true c.item-item.is in
     let proper : IsProper (length places) item =
-        subst (IsProper (length places)) (sym c.item-item.is) (All-get_or (IsProper (length places)) items k item c.loop-item-test.true c.requires.sound.proper) in
+    subst (IsProper (length places)) (sym c.item-item.is) (All-get_or (IsProper (length places)) items k item c.loop-item-test.true c.requires.sound.proper) in
     let whole : size_of item % 4 ≡ 0 = size_aligned (length places) item proper in
     record {
       front = rw (c.size-at.ensures, c.in_ok-put_item.ensures, append_assoc) (ap (λ (left : List Item). c.loop-item.code.items ++ code_from places at left) (sym next) ∙ c.loop-item.invariant.front);
