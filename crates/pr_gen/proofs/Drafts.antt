@@ -1,6 +1,7 @@
 -- Code while it is written: its items are no branches, and its labels are bound while three stay open.
-use Rattle.std.proofs.Common.{◌≡◌, ℕ, ◌+◌, ◌-◌, ◌*◌, ◌<◌, ◌≤◌, List, [], ◌∷◌, ◌++◌, All, Option, Some, None, length, replicate, length-append, length-replicate, arith, refl}
+use Rattle.std.proofs.Common.{◌≡◌, ℕ, ◌+◌, ◌-◌, ◌*◌, ◌<◌, ◌≤◌, List, [], ◌∷◌, ◌++◌, All, Option, Some, None, length, replicate, length-append, arith, refl}
 use Rattle.std.specs.Int.{div_ceil}
+use Rattle.std.proofs.lemmas.List.{length-replicate}
 use Rattle.std.proofs.lemmas.List.Elements.{All-push}
 use Rattle.rv_asm.specs.declared.item.Item.{Item}
 use Rattle.rv_asm.specs.declared.item.Item.TheVariants.{Plain, Jump, Address, Data}
@@ -17,4 +18,4 @@ kept_item p size more item kept straight is = record {
 
 pub length-padded : (b : List ℕ) → length (padded b) ≡ div_ceil (length b) 4 * 4
 length-padded b =
-    omega (arith, length-append b (replicate (div_ceil (length b) 4 * 4 - length b) 0), length-replicate (div_ceil (length b) 4 * 4 - length b) 0)
+    omega (arith, length-append b (replicate (div_ceil (length b) 4 * 4 - length b) 0), length-replicate {A = ℕ} (div_ceil (length b) 4 * 4 - length b) 0)

@@ -1,5 +1,5 @@
 -- The steps of a probe, and how much data they need.
-use Rattle.std.specs.Prelude.{◌≡◌, ℕ, ◌+◌, ◌-◌, ◌*◌, ◌%◌, ◌<◌, ◌≤◌, List, [], ◌∷◌, ◌++◌, length, All, Contains}
+use Rattle.std.specs.Prelude.{◌≡◌, ℕ, ◌+◌, ◌-◌, ◌*◌, ◌%◌, ◌<◌, ◌≤◌, min, List, [], ◌∷◌, ◌++◌, length, All, Contains}
 use Rattle.pr_gen.specs.declared.steps.ProbeStep.{ProbeStep}
 use Rattle.pr_gen.specs.declared.steps.ProbeStep.TheVariants.{Call, SetSp}
 use Rattle.pr_gen.specs.declared.steps.Arg.{Arg}
@@ -64,9 +64,9 @@ abbrev pub texts_room : List (List ℕ) → ℕ
 texts_room [] = 0
 texts_room (t ∷ ts) = text_room t + texts_room ts
 
--- the addresses of a list, one more that is zero, and the texts
+-- the addresses of a list, one more that is zero, and the texts; an empty list takes nothing
 abbrev pub list_room : List (List ℕ) → ℕ
-list_room ts = 8 * (length ts + 1) + texts_room ts
+list_room ts = 8 * (length ts + min 1 (length ts)) + texts_room ts
 
 abbrev pub room_of : Arg → ℕ
 room_of (Num n) = 0

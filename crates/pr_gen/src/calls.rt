@@ -5,7 +5,7 @@ ghost use Rattle.pr_gen.specs.Draft.{Grows, IsOpen};
 ghost use Rattle.pr_gen.specs.Steps.{IsEarlier, IsStepEarlier, room_in, step_room};
 
 use crate::code::Code;
-use crate::constants::{ANSWERS, CLONE, SHOW_CONTENT, SHOW_NUMBER};
+use crate::constants::{ANSWERS, CLONE, EMPTY_LIST, SHOW_CONTENT, SHOW_NUMBER};
 use crate::instructions::{A0, A7, BUF, CLONED, RA, SP, ZERO, instr};
 use crate::steps::{Arg, ProbeStep, Show, Who};
 use pr_base::NoMemory;
@@ -52,6 +52,16 @@ fn answer_at(place: u32) -> i64
     ANSWERS + 8 * i64::from(place)
 }
 
+// Adds instructions that leave in `rd` an address `at` bytes behind the buffer's.
+fn load_address(code: &mut Code, rd: u8, at: u64) -> Result<(), NoMemory>
+    requires rd { rd < 32 }
+    requires room { code.old.size < 2 ^ 30 }
+    ensures { OnOk result (Grows 48 code.old code.new) }
+{
+    load_number(code, rd, at)?;
+    code.put(instr!(add rd, rd, BUF))
+}
+
 // Adds instructions that leave an argument in `rd`. Its texts, if it has any, stand at `at`.
 fn put_arg(code: &mut Code, rd: u8, arg: &Arg, at: u64) -> Result<(), NoMemory>
     requires rd { rd < 32 }
@@ -61,10 +71,8 @@ fn put_arg(code: &mut Code, rd: u8, arg: &Arg, at: u64) -> Result<(), NoMemory>
 {
     match arg {
         Arg::Num(number) => load_number(code, rd, *number),
-        Arg::Text(_) | Arg::List(_) => {
-            load_number(code, rd, at)?;
-            code.put(instr!(add rd, rd, BUF))
-        }
+        Arg::List(texts) if texts.is_empty() => load_address(code, rd, EMPTY_LIST),
+        Arg::Text(_) | Arg::List(_) => load_address(code, rd, at),
         Arg::Buf => code.put(instr!(addi rd, BUF, 0)),
         Arg::Answer(place) => code.put(instr!(ld rd, answer_at(*place), BUF)),
     }
@@ -90,7 +98,7 @@ fn put_args(code: &mut Code, args: &[Arg], at: u64) -> Result<u64, NoMemory>
 
 // Adds what is shown of the answer in a0.
 fn put_show(code: &mut Code, show: Show) -> Result<(), NoMemory>
-    requires open { IsOpen code.old.places }
+    requires given { 2 < length code.old.places }
     requires room { code.old.size < 2 ^ 30 }
     ensures { OnOk result (Grows 4 code.old code.new) }
 {
@@ -125,7 +133,7 @@ fn put_call(
 ) -> Result<u64, NoMemory>
     requires place { place < 256 }
     requires earlier { All (IsEarlier 256) args.now }
-    requires open { IsOpen code.old.places }
+    requires given { 2 < length code.old.places }
     requires room { code.old.size < 2 ^ 28 }
     requires texts { at + room_in args.now ≤ 2 ^ 32 }
     ensures next { IfOk result (λ next. next ≡ at + room_in args.now) }

@@ -1,5 +1,6 @@
 //! The code of a probe while it is written.
-ghost use Rattle.std.specs.Prelude.{◌≡◌, ◌+◌, ◌-◌, ◌<◌, ◌≤◌, ◌^◌, [], ◌∷◌, ◌++◌, length, Some, None, All, IsSome, slice_set, IfOk, OnOk};
+ghost use Rattle.std.specs.Prelude.{◌≡◌, ◌+◌, ◌-◌, ◌*◌, ◌<◌, ◌≤◌, ◌^◌, [], ◌∷◌, ◌++◌, length, Some, None, All, IsSome, slice_set, IfOk, OnOk};
+ghost use Rattle.std.specs.Int.{div_ceil};
 ghost use Rattle.rv_table.specs.Encoding.{IsValid};
 ghost use Rattle.rv_asm.specs.Program.{place_of};
 ghost use Rattle.pr_gen.specs.Draft.{Draft, Grows, longer};
@@ -97,15 +98,23 @@ impl Code {
         Ok(())
     }
 
+    // Adds bytes, and zeros behind them up to a multiple of four.
+    fn bytes(&mut self, b: &[u8]) -> Result<(), NoMemory>
+        requires { self.old.size + length b.now < 2 ^ 33 }
+        ensures { OnOk result (self.new ≡ longer (div_ceil (length b.now) 4 * 4) self.old) }
+    {
+        self.asm.bytes(b)?;
+        self.size += b.len().div_ceil(4) * 4;
+        Ok(())
+    }
+
     /// Fills the last page with zeros.
     pub fn fill_page(&mut self) -> Result<(), NoMemory>
         requires { self.old.size < 2 ^ 32 }
         ensures { OnOk result (Grows 4096 self.old self.new) }
     {
         let rest = (PAGE_BYTES - self.size % PAGE_BYTES) % PAGE_BYTES;
-        self.asm.bytes(&[0; PAGE_BYTES][..rest])?;
-        self.size += rest.div_ceil(4) * 4;
-        Ok(())
+        self.bytes(&[0; PAGE_BYTES][..rest])
     }
 
     /// The code, where each label is bound.

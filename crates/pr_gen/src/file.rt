@@ -43,7 +43,7 @@ fn put_steps(code: &mut Code, steps: &[ProbeStep]) -> Result<(), NoMemory>
     requires open { IsOpen code.old.places }
     requires labels { length code.old.places ≤ 3 }
     requires begun { code.old.size ≡ 20 }
-    requires texts { 4128 + room steps.now ≤ 2 ^ 32 }
+    requires texts { 4136 + room steps.now ≤ 2 ^ 32 }
     ensures open { OnOk result (IsOpen code.new.places) }
     ensures begun { OnOk result (20 ≤ code.new.size) }
     ensures size { OnOk result (code.new.size ≤ 91156) }

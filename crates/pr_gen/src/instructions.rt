@@ -4,18 +4,27 @@
 pub(crate) const ZERO: u8 = 0;
 /// Where a routine goes back to.
 pub(crate) const RA: u8 = 1;
+
 pub(crate) const SP: u8 = 2;
+
 pub(crate) const T0: u8 = 5;
+
 pub(crate) const T1: u8 = 6;
+
 pub(crate) const T2: u8 = 7;
+
 pub(crate) const T3: u8 = 28;
 /// The buffer's address, from which all data is named.
 pub(crate) const BUF: u8 = 8;
 /// What the last clone answered. No call changes it: a process that comes from a clone has its own.
 pub(crate) const CLONED: u8 = 9;
+
 pub(crate) const A0: u8 = 10;
+
 pub(crate) const A1: u8 = 11;
+
 pub(crate) const A2: u8 = 12;
+
 pub(crate) const A7: u8 = 17;
 
 // An instruction, with its operands in the order of the assembler's: the register that is written

@@ -60,19 +60,21 @@ pub enum Show {
 /// How many bytes of data a text takes: with one to eight zeros behind it, so that the next one stands at
 /// a multiple of eight.
 pub(crate) fn text_room(text: &[u8]) -> u64
-    requires { length text.now ≤ 2 ^ 32 }
+    requires { length text.now ≤ 2 ^ 33 }
     ensures { result ≡ spec.text_room text.now }
 {
     let len = text.len() as u64;
     len + (8 - len % 8)
 }
 
-/// How many bytes of data a list of texts takes: the addresses, one more that is zero, and the texts.
+// How many bytes of data a list of texts takes: the addresses, one more that is zero, and the texts. An
+// empty list takes nothing: all share a zero.
 fn list_room(texts: &Texts) -> u64
     requires { spec.list_room texts.now ≤ 2 ^ 32 }
     ensures { result ≡ spec.list_room texts.now }
 {
-    let mut room = 8 * (texts.len() as u64 + 1);
+    let count = texts.len() as u64;
+    let mut room = 8 * (count + count.min(1));
     let mut k = 0;
     while let Some(text) = texts.at(k) {
         room += text_room(text);

@@ -6,7 +6,7 @@ use Rattle.pr_gen.proofs.data.put_texts.Given as goal
 abbrev pub invariant-loop-text : goal.invariant-loop-text
 invariant-loop-text l = record {
   within : l.k ≤ length l.texts;
-  room : length l.data.items + texts_room (drop l.k l.texts) ≡ length l.initial.data.items + texts_room l.texts;
+  room : length l.out.items + texts_room (drop l.k l.texts) ≡ length l.initial.out.items + texts_room l.texts;
 }
 
 abbrev pub decreases-loop-text : goal.decreases-loop-text

@@ -11,5 +11,5 @@ invariant-loop-place l = record {
   some_open : IsOpen l.code.places;
   labels : length l.code.places ≤ 3 + l.place;
   earlier : AreEarlier l.place (drop l.place l.steps);
-  texts : l.at + room (drop l.place l.steps) ≡ 4128 + room l.steps;
+  texts : l.at + room (drop l.place l.steps) ≡ 4136 + room l.steps;
 }
