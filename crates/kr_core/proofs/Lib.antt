@@ -1,2 +1,1 @@
-pub mod HelloRow
 pub mod RunLemmas

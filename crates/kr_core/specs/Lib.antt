@@ -1,6 +1,5 @@
 pub mod Words
-pub mod Image
-pub mod Form
+pub mod Start
 pub mod Decoding
 pub mod Operations
 pub mod State

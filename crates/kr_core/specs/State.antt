@@ -1,11 +1,12 @@
 -- The state of the machine, and what a call does to it.
-use Rattle.std.specs.Prelude.{ℕ, ℤ, List, [], ◌∷◌, replicate, Option, Some, None, Result, Ok, Err}
+use Rattle.std.specs.Prelude.{ℕ, ℤ, List, [], ◌∷◌, Option, Some, None, Result, Ok, Err}
 use Rattle.pr_base.specs.declared.errno.Errno.{Errno}
 use Rattle.rv_mem.specs.Actions.{CarriedOut, carried_out}
 use Rattle.rv_mem.specs.declared.regs.Regs.{Regs}
 use Rattle.rv_cpu.specs.Words.{wrapped}
 use Rattle.rv_cpu.specs.Step.{moved_on, with_register}
-use Rattle.kr_core.specs.Image.{memory_of}
+use Rattle.elf_load.specs.Image.{image_memory, first_regs}
+use Rattle.elf_read.specs.Plans.{plan_of}
 use Rattle.kr_core.specs.Decoding.{request_of}
 use Rattle.kr_core.specs.Operations.{Reply, empty_console, grown, refuses, operation}
 use Rattle.kr_core.specs.declared.console.Console.{Console}
@@ -22,13 +23,16 @@ pub record State : Type 0 where
   pub console : Console
   pub turns : ℕ
 
--- the registers of a new process: the pc at the first instruction, all others zero
-abbrev pub first_regs : Regs
-first_regs = record { x = replicate 32 0; pc = 0x10078 }
+-- the process of an accepted file that starts with these arguments, no environment and these real and
+-- effective user and group numbers
+abbrev pub first_process : List ℕ → List (List ℕ) → List ℕ → Running
+first_process file args ids =
+    let plan = plan_of file in
+    record { regs = first_regs plan args []; memory = image_memory file plan args [] ids }
 
--- the state in which a file starts
-abbrev pub started : List ℕ → State
-started file = record { process = Living (record { regs = first_regs; memory = memory_of file }); console = empty_console; turns = 0 }
+-- the state in which it starts
+abbrev pub started : List ℕ → List (List ℕ) → List ℕ → State
+started file args ids = record { process = Living (first_process file args ids); console = empty_console; turns = 0 }
 
 -- a process that lives, or that ended with a status
 abbrev pub process_of : Running → Option ℕ → Process

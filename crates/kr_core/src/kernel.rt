@@ -1,15 +1,21 @@
 //! The kernel.
 
 use crate::console::Console;
-use crate::image::memory_of;
 use crate::process::{Process, Running};
-use pr_base::{Bytes, NoMemory};
-use rv_cpu::Regs;
+use elf_load::{LoadFault, load};
+use elf_read::check;
+use pr_base::{Errno, NoMemory, Texts};
+use rv_mem::Room;
 use std::alloc::Global;
 use std::marker::Model;
 
-/// Where the first instruction lies: behind the headers.
-const START: u64 = 0x10078;
+/// Why a file doesn't start.
+#[derive(Clone, Copy, Debug, PartialEq, Eq)]
+pub enum StartFault {
+    /// The error that execve(2) answers.
+    Err(Errno),
+    NoMemory,
+}
 
 /// What a call for a turn did.
 #[derive(Clone, Copy, Debug, PartialEq, Eq)]
@@ -44,27 +50,51 @@ impl Model for Kernel {
 }
 
 impl Kernel {
-    ghost use Rattle.std.specs.Prelude.{◌≡◌, ◌≢◌, ◌↔◌, ◌<◌, ◌≤◌, ◌^◌, [], length, IsTrue, IfOk};
-    ghost use Rattle.kr_core.specs.Form.{has_form};
+    ghost use Rattle.std.specs.Prelude.{◌≡◌, ◌≢◌, ◌↔◌, ◌<◌, ◌≤◌, ◌^◌, [], length, Err, IfOk};
+    ghost use Rattle.std.specs.Prelude.{IfErr, IsSome, None, false};
+    ghost use Rattle.elf_read.specs.Rules.{first_broken};
+    ghost use Rattle.elf_load.specs.FirstStack.{exceeds_arguments};
+    ghost use Rattle.kr_core.specs.Start.{start_refusal, IsCausedBy};
+    ghost use Rattle.kr_core.specs.declared.kernel.StartFault.TheVariants.{Err as Refused};
     ghost use Rattle.kr_core.specs.State.{started, living, ready, cleared, status_of};
     ghost use Rattle.kr_core.specs.Turn.{MakesTurn};
 
-    /// The machine in which a file starts: its image, the pc at 0x10078, all other registers zero.
-    pub fn start(alloc: Global, file: Bytes) -> Result<Kernel, NoMemory>
-        requires { IsTrue (has_form file) }
-        ensures { IfOk result (λ kernel. kernel ≡ started file) }
+    /// The machine in which a file starts, with these arguments and an empty environment. The four
+    /// numbers of `ids` are the real and the effective user and group. ENOEXEC where the file isn't
+    /// accepted, else ENOMEM where it has more pages than a process may have.
+    pub fn start(
+        alloc: Global,
+        file: &[u8],
+        args: &Texts,
+        ids: [u32; 4],
+    ) -> Result<Kernel, StartFault>
+        // The arguments are within the limits.
+        requires { exceeds_arguments args.now [] ≡ false }
+        ensures started { IfOk result (λ kernel. kernel ≡ started file.now args.now ids) }
+        ensures allowed { IfOk result (λ _. start_refusal file.now args.now ids ≡ None) }
+        ensures refused { IfErr result (λ fault. IsCausedBy (start_refusal file.now args.now ids) fault) }
+
+        // The rules are tested before memory is taken.
+        ensures rules { IsSome (first_broken file.now) → result ≡ Err (Refused Errno.ENOEXEC) }
     {
-        let regs = Regs {
-            x: [0; 32],
-            pc: START,
+        let Ok(plan) = check(file) else {
+            return Err(StartFault::Err(Errno::ENOEXEC));
         };
-        let memory = memory_of(alloc, file.as_slice())?;
-        Ok(Kernel {
-            process: Process::Living(Running { regs, memory }),
-            console: Console::new(alloc),
-            turns: 0,
-            alloc,
-        })
+        let mut room = Room::new();
+        match load(alloc, &mut room, file, &plan, args, &Texts::new(alloc), ids) {
+            Ok(image) => Ok(Kernel {
+                process: Process::Living(Running {
+                    regs: image.regs,
+                    memory: image.mem,
+                }),
+                console: Console::new(alloc),
+                turns: 0,
+                alloc,
+            }),
+            Err(LoadFault::TooManyPages) => Err(StartFault::Err(Errno::ENOMEM)),
+            Err(LoadFault::TooManyArgs) => unreachable!(),
+            Err(LoadFault::NoMemory) => Err(StartFault::NoMemory),
+        }
     }
 
     /// How many processes live.

@@ -2,10 +2,9 @@
 #![tactic(auto)]
 
 mod console;
-mod image;
 pub mod kernel;
 mod operations;
 mod process;
 mod request;
 
-pub use kernel::{Kernel, Turned};
+pub use kernel::{Kernel, StartFault, Turned};

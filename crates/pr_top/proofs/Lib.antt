@@ -1,6 +1,5 @@
 pub mod DecimalLemmas
 pub mod ListingLemmas
-pub mod HeadersLemmas
 pub mod OpeningLemmas
 pub mod RunLemmas
 pub mod ReportLemmas

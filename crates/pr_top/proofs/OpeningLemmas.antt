@@ -1,15 +1,17 @@
 -- What is read within a limit is judged as the whole is.
 use Rattle.std.proofs.Common.{◌≡◌, ◌⊎◌, inl, inr, ℕ, suc, ◌<◌, ◌≤◌, List, [], ◌∷◌, ◌++◌, length, Bool, true, false, Some, None, refl, sym, ap, subst, ◌∙◌, arith, length-append, IfSome}
-use Rattle.std.specs.Prelude.{Option, Ok, Err, nat_le, bytes_eq, ◌==◌, ◌&&◌, if◌then◌else◌}
+use Rattle.std.specs.Prelude.{Option, Ok, Err, nat_le, nat_lt, bytes_eq, ◌==◌, ◌&&◌, if◌then◌else◌}
 use Rattle.std.proofs.Math.Dec.{eqb-suc-zero}
 use Rattle.std.proofs.lemmas.List.{append-nil}
 use Rattle.std.proofs.lemmas.Fmt.{length-decimal-le}
 use Rattle.std.proofs.lemmas.Bool.{and_parts, leb-true, cases_order}
 use Rattle.std.proofs.lemmas.Bool.Decides.{nat_tests}
-use Rattle.kr_core.specs.Form.{has_form}
-use Rattle.pr_top.specs.Listing.{Listing, is_lawful, listing_of, text_read}
-use Rattle.pr_top.specs.Opening.{Start, Opening, command_name, with_input, with_elf, with_tree, with_name, opening, told_opening}
-use Rattle.pr_top.specs.Promise.{ComesTo}
+use Rattle.pr_top.specs.Listing.{Listing, ids_of, is_lawful, listing_of, text_read}
+use Rattle.kr_core.specs.Start.{start_refusal}
+use Rattle.std.specs.Option.{option_map}
+use Rattle.pr_base.specs.declared.errno.Errno.{Errno}
+use Rattle.pr_top.specs.Opening.{Start, Opening, args_of, command_name, with_input, with_elf, with_tree, with_name, startable, or_no_start, told_reading, told_opening}
+use Rattle.pr_top.specs.Promise.{ComesTo, OpeningFault}
 use Rattle.pr_base.specs.declared.errno.Errno.TheVariants.{ENOENT}
 use Rattle.pr_top.specs.declared.answer.Part.TheVariants.{Input}
 use Rattle.pr_top.specs.declared.answer.Which.{Which}
@@ -69,26 +71,15 @@ same_listing t new bytes reads = by_case (whole_or_long tree_limit t new bytes r
 pub short_listing : (bytes : List ℕ) (l : Listing) → listing_of bytes ≡ Some l → length bytes < tree_limit
 short_listing bytes l e = let p = text-listing_of bytes l e in omega (arith, ap length p.0, length-text_read l p.1)
 
-too_long_for_the_form : (file : List ℕ) → elf_limit ≤ length file → has_form file ≡ false
-too_long_for_the_form file long =
-    let over : nat_le (length file) 65536 ≡ false = grind (arith, nat_tests, long) in
-    no_form (nat_le 121 (length file)) (nat_le (length file) 65536) _ over
-  where
-    no_form : (a b c : Bool) → b ≡ false → (a && (b && c)) ≡ false
-    no_form true b c e = rw e refl
-    no_form false b c e = refl
-
-pub short_form : (file : List ℕ) → has_form file ≡ true → length file < elf_limit
-short_form file h =
-    let bound = leb-true (length file) 65536 (and_parts _ _ (and_parts (nat_le 121 (length file)) _ h).1).0 in
-    omega (arith, bound)
+is_too_long : (file : List ℕ) → elf_limit ≤ length file → nat_lt 65536 (length file) ≡ true
+is_too_long file long = grind (arith, nat_tests, long)
 
 pub same_file : (name : List ℕ) (l : Listing) (file input : List ℕ) (new : Option (List ℕ)) (bytes : List ℕ) → ReadsWithin elf_limit (Some file) new bytes → with_elf name l file input ≡ with_elf name l bytes input
 same_file name l file input new bytes reads = by_case (whole_or_long elf_limit file new bytes reads).cases
   where
     by_case : (bytes ≡ file) ⊎ ((elf_limit ≤ length bytes) × (elf_limit ≤ length file)) → with_elf name l file input ≡ with_elf name l bytes input
     by_case (inl same) = ap (λ f. with_elf name l f input) (sym same)
-    by_case (inr long) = rw (too_long_for_the_form file long.1, too_long_for_the_form bytes long.0) refl
+    by_case (inr long) = rw (is_too_long file long.1, is_too_long bytes long.0) refl
 
 pub same_input : (name : List ℕ) (start : Start) (input : List ℕ) (new : Option (List ℕ)) (bytes : List ℕ) → ReadsWithin input_limit (Some input) new bytes → with_input name start input ≡ with_input name start bytes
 same_input name start input new bytes reads = by_case (whole_or_long input_limit input new bytes reads).cases
@@ -102,20 +93,20 @@ same_input name start input new bytes reads = by_case (whole_or_long input_limit
 
 -- ---- the opening of what the sources told, judged by what was read of them
 module _ (P : Opening → Type 0) (words : List (List ℕ)) (tree elf input : Option (List ℕ)) where
-  pub refuses_words : command_name words ≡ None → P (with_name None [] [] []) → IfSome (told_opening words tree elf input) P
+  pub refuses_words : command_name words ≡ None → P (with_name None [] [] []) → IfSome (told_reading words tree elf input) P
   refuses_words none holds = by_told tree elf input
     where
-      by_told : (t e i : Option (List ℕ)) → IfSome (told_opening words t e i) P
+      by_told : (t e i : Option (List ℕ)) → IfSome (told_reading words t e i) P
       by_told (Some t) (Some e) (Some i) = subst (λ n. P (with_name n t e i)) (sym none) holds
       by_told (Some t) (Some e) None = tt
       by_told (Some t) None i = tt
       by_told None e i = tt
 
   module _ (name : List ℕ) (named : command_name words ≡ Some name) (tree' : Option (List ℕ)) (listing : List ℕ) (reads_tree : ReadsWithin tree_limit tree tree' listing) where
-    pub after_tree : ((e i : List ℕ) → elf ≡ Some e → input ≡ Some i → P (with_tree name (listing_of listing) e i)) → IfSome (told_opening words tree elf input) P
+    pub after_tree : ((e i : List ℕ) → elf ≡ Some e → input ≡ Some i → P (with_tree name (listing_of listing) e i)) → IfSome (told_reading words tree elf input) P
     after_tree holds = by_told tree elf input reads_tree holds
       where
-        by_told : (t e i : Option (List ℕ)) → ReadsWithin tree_limit t tree' listing → ((f g : List ℕ) → e ≡ Some f → i ≡ Some g → P (with_tree name (listing_of listing) f g)) → IfSome (told_opening words t e i) P
+        by_told : (t e i : Option (List ℕ)) → ReadsWithin tree_limit t tree' listing → ((f g : List ℕ) → e ≡ Some f → i ≡ Some g → P (with_tree name (listing_of listing) f g)) → IfSome (told_reading words t e i) P
         by_told (Some t) (Some e) (Some i) reads holds =
             let here = holds e i refl refl in
             let same = same_listing t tree' listing reads in
@@ -125,12 +116,12 @@ module _ (P : Opening → Type 0) (words : List (List ℕ)) (tree elf input : Op
         by_told None e i reads holds = tt
 
     module _ (l : Listing) (listed : listing_of listing ≡ Some l) (elf' : Option (List ℕ)) (file : List ℕ) (reads_elf : ReadsWithin elf_limit elf elf' file) where
-      pub after_elf : ((i : List ℕ) → input ≡ Some i → P (with_elf name l file i)) → IfSome (told_opening words tree elf input) P
+      pub after_elf : ((i : List ℕ) → input ≡ Some i → P (with_elf name l file i)) → IfSome (told_reading words tree elf input) P
       after_elf holds = after_tree (λ e i told_elf told_input.
           let reads = subst (λ o. ReadsWithin elf_limit o elf' file) told_elf reads_elf in
           subst (λ o. P (with_tree name o e i)) (sym listed) (subst P (sym (same_file name l e i elf' file reads)) (holds i told_input)))
 
-      pub after_input : (input' : Option (List ℕ)) (rest : List ℕ) → ReadsWithin input_limit input input' rest → has_form file ≡ true → P (with_input name (record { listing = l; file = file }) rest) → IfSome (told_opening words tree elf input) P
+      pub after_input : (input' : Option (List ℕ)) (rest : List ℕ) → ReadsWithin input_limit input input' rest → nat_lt 65536 (length file) ≡ false → P (with_input name (record { listing = l; file = file }) rest) → IfSome (told_reading words tree elf input) P
       after_input input' rest reads_input formed holds = after_elf (λ i told.
           let reads = subst (λ o. ReadsWithin input_limit o input' rest) told reads_input in
           let same = same_input name (record { listing = l; file = file }) i input' rest reads in
@@ -171,3 +162,46 @@ without_program name l file rest none e = rw none (by_case (bytes_eq name l.name
     by_case : (b : Bool) → None ≡ (if b then Some l else None) → (if b then starts l file else Err (NoStart ENOENT)) ≡ Err (NoStart ENOENT)
     by_case true e = cc
     by_case false e = refl
+
+-- ---- names
+
+pub name_short : (bytes : List ℕ) (l : Listing) → listing_of bytes ≡ Some l → length l.name ≤ 255
+name_short bytes l e =
+    let p = and_parts _ _ (text-listing_of bytes l e).1 in
+    let q = and_parts _ _ p.1 in
+    let r = and_parts _ _ q.1 in
+    leb-true (length l.name) 255 (and_parts _ _ (and_parts _ _ r.1).1).0
+
+pub found_name : (name : List ℕ) (l m : Listing) → Some m ≡ (if bytes_eq name l.name then Some l else None) → length l.name ≤ 255 → length m.name ≤ 255
+found_name name l m e short = by_case (bytes_eq name l.name) e
+  where
+    by_case : (b : Bool) → Some m ≡ (if b then Some l else None) → length m.name ≤ 255
+    by_case true e = let same : l ≡ m = cc in subst (λ (k : Listing). length k.name ≤ 255) same short
+    by_case false e = cc
+
+-- ---- from what was read to the opening
+
+pub if_started : (told : Option Opening) (P Q : Opening → Type 0) → ((o : Opening) → P o → Q (startable o)) → IfSome told P → IfSome (option_map startable told) Q
+if_started None P Q f h = tt
+if_started (Some o) P Q f h = f o h
+
+-- a reading that starts, one that is refused, and one that ends early
+pub starts_as_read : (start : Start) → startable (Ok start) ≡ Ok start → (o : Opening) → ComesTo o (Ok start) → ComesTo (startable o) (Ok start)
+starts_as_read start allowed o comes = ap startable comes ∙ allowed
+
+pub refused_as_read : (answer : Answer) (o : Opening) → ComesTo o (Err answer) → ComesTo (startable o) (Err answer)
+refused_as_read answer o (inl e) = inl (ap startable e)
+refused_as_read answer o (inr early) = inr early
+
+pub refused_at_start : (start : Start) (answer : Answer) → (startable (Ok start) ≡ Err answer) ⊎ (answer ≡ NoMemory) → (o : Opening) → ComesTo o (Ok start) → ComesTo (startable o) (Err answer)
+refused_at_start start answer (inl e) o comes = inl (ap startable comes ∙ e)
+refused_at_start start answer (inr e) o comes = inr (inl e)
+
+-- what the start of a program answers
+pub no_start : (A B C : Type 0) (start : Start) (answer : Answer) → (startable (Ok start) ≡ Err answer) ⊎ (answer ≡ NoMemory) → OpeningFault A B C answer
+no_start A B C start answer (inr e) = subst (OpeningFault A B C) (sym e) tt
+no_start A B C start answer (inl e) = by_case (start_refusal start.file (args_of start) (ids_of start.listing)) e
+  where
+    by_case : (o : Option Errno) → or_no_start start o ≡ Err answer → OpeningFault A B C answer
+    by_case None e = cc
+    by_case (Some errno) e = let is : NoStart errno ≡ answer = cc in subst (OpeningFault A B C) is tt

@@ -5,11 +5,11 @@ use Rattle.std.specs.Io.KnownBytes.{Appends, Keeps}
 use Rattle.std.proofs.KnownBytes.{Appends-nil, Keeps-refl}
 use Rattle.std.proofs.lemmas.List.{take_all}
 use Rattle.pr_io.specs.Faults.{Rose}
-use Rattle.kr_core.specs.State.{State, started, plain_call}
+use Rattle.kr_core.specs.State.{State, plain_call}
 use Rattle.kr_core.specs.Run.{End, AllEnded, TurnsSpent, Outcome, run}
 use Rattle.pr_top.specs.Listing.{Listing, text_left}
 use Rattle.pr_top.specs.Opening.{Start}
-use Rattle.pr_top.specs.Report.{slot_of, turn_limit, run_of, outs, errs, end_answer, answer_of, left_of}
+use Rattle.pr_top.specs.Report.{first_state, slot_of, turn_limit, run_of, outs, errs, end_answer, answer_of, left_of}
 use Rattle.pr_top.specs.Promise.{StopsBetween}
 use Rattle.pr_top.specs.Puts.{PutsAs, PutsRun, FaultsRun, PutsWhole, PutsBetween, FaultsReport, PutsReport}
 use Rattle.pr_top.specs.declared.answer.Which.{Which}
@@ -17,7 +17,7 @@ use Rattle.pr_top.specs.declared.answer.Which.TheVariants.{Tree, Elf, Input, Out
 use Rattle.pr_top.specs.declared.answer.Answer.{Answer}
 use Rattle.pr_top.specs.declared.answer.Answer.TheVariants.{Ended, Spent, NoStart, ReadFault, WriteFault, NoMemory, Unbuilt}
 
-pub run_of-started : (start : Start) (s : State) → s ≡ started start.file → run plain_call slot_of turn_limit s ≡ run_of start
+pub run_of-started : (start : Start) (s : State) → s ≡ first_state start → run plain_call slot_of turn_limit s ≡ run_of start
 unfolding run_of
 run_of-started start s e = ap (run plain_call slot_of turn_limit) e
 

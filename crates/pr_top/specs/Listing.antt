@@ -12,6 +12,14 @@ pub record Listing : Type 0 where
   pub gid : ℕ
   pub name : List ℕ
 
+-- the word that names the program
+abbrev pub word_of : Listing → List ℕ
+word_of l = codes "/" ++ l.name
+
+-- the real and the effective user and group of its process
+abbrev pub ids_of : Listing → List ℕ
+ids_of l = l.uid ∷ l.uid ∷ l.gid ∷ l.gid ∷ []
+
 -- the largest number of a user or group
 abbrev pub largest_id : ℕ
 largest_id = 4294967294

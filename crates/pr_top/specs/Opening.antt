@@ -1,8 +1,10 @@
 -- The opening: what the words and the bytes of the three sources come to, a start or the first refusal.
-use Rattle.std.specs.Prelude.{ℕ, ◌==◌, bytes_eq, List, [], ◌∷◌, length, codes, Option, Some, None, Result, Ok, Err, if◌then◌else◌}
+use Rattle.std.specs.Prelude.{ℕ, ◌==◌, nat_lt, bytes_eq, List, [], ◌∷◌, length, codes, Option, Some, None, Result, Ok, Err, if◌then◌else◌}
 use Rattle.pr_base.specs.declared.errno.Errno.TheVariants.{ENOENT}
-use Rattle.kr_core.specs.Form.{has_form}
-use Rattle.pr_top.specs.Listing.{Listing, is_name, behind, listing_of}
+use Rattle.pr_base.specs.declared.errno.Errno.{Errno}
+use Rattle.std.specs.Option.{option_map}
+use Rattle.kr_core.specs.Start.{start_refusal}
+use Rattle.pr_top.specs.Listing.{Listing, is_name, behind, listing_of, word_of, ids_of}
 use Rattle.pr_top.specs.declared.answer.Part.TheVariants.{Words, Tree, Elf, Input}
 use Rattle.pr_top.specs.declared.answer.Answer.{Answer}
 use Rattle.pr_top.specs.declared.answer.Answer.TheVariants.{NoStart, Unbuilt}
@@ -33,8 +35,9 @@ found name start = if bytes_eq name start.listing.name then Ok start else Err (N
 abbrev pub with_input : List ℕ → Start → List ℕ → Opening
 with_input name start input = if length input == 0 then found name start else Err (Unbuilt Input)
 
+-- a file may have 65,536 bytes
 abbrev pub with_elf : List ℕ → Listing → List ℕ → List ℕ → Opening
-with_elf name listing elf input = if has_form elf then with_input name (record { listing = listing; file = elf }) input else Err (Unbuilt Elf)
+with_elf name listing elf input = if nat_lt 65536 (length elf) then Err (Unbuilt Elf) else with_input name (record { listing = listing; file = elf }) input
 
 abbrev pub with_tree : List ℕ → Option Listing → List ℕ → List ℕ → Opening
 with_tree name None elf input = Err (Unbuilt Tree)
@@ -45,12 +48,31 @@ with_name None tree elf input = Err (Unbuilt Words)
 with_name (Some name) tree elf input = with_tree name (listing_of tree) elf input
 
 -- the words, the listing, the file, the input and the name are looked at in this order
-abbrev pub opening : List (List ℕ) → List ℕ → List ℕ → List ℕ → Opening
-opening words tree elf input = with_name (command_name words) tree elf input
+abbrev pub reading : List (List ℕ) → List ℕ → List ℕ → List ℕ → Opening
+reading words tree elf input = with_name (command_name words) tree elf input
 
--- the opening of sources that tell what they have left
+-- the program's one argument is the word that named it
+abbrev pub args_of : Start → List (List ℕ)
+args_of start = word_of start.listing ∷ []
+
+abbrev pub or_no_start : Start → Option Errno → Opening
+or_no_start start None = Ok start
+or_no_start start (Some errno) = Err (NoStart errno)
+
+-- last the error of execve(2), where the program can't be started
+abbrev pub startable : Opening → Opening
+startable (Ok start) = or_no_start start (start_refusal start.file (args_of start) (ids_of start.listing))
+startable (Err refusal) = Err refusal
+
+abbrev pub opening : List (List ℕ) → List ℕ → List ℕ → List ℕ → Opening
+opening words tree elf input = startable (reading words tree elf input)
+
+-- the same of sources that tell what they have left
+abbrev pub told_reading : List (List ℕ) → Option (List ℕ) → Option (List ℕ) → Option (List ℕ) → Option Opening
+told_reading words (Some tree) (Some elf) (Some input) = Some (reading words tree elf input)
+told_reading words (Some tree) (Some elf) None = None
+told_reading words (Some tree) None input = None
+told_reading words None elf input = None
+
 abbrev pub told_opening : List (List ℕ) → Option (List ℕ) → Option (List ℕ) → Option (List ℕ) → Option Opening
-told_opening words (Some tree) (Some elf) (Some input) = Some (opening words tree elf input)
-told_opening words (Some tree) (Some elf) None = None
-told_opening words (Some tree) None input = None
-told_opening words None elf input = None
+told_opening words tree elf input = option_map startable (told_reading words tree elf input)

@@ -3,7 +3,7 @@ use Rattle.std.specs.Prelude.{◌≡◌, ◌⊎◌, ℕ, ◌-◌, List, take, Op
 use Rattle.std.specs.Io.KnownBytes.{Appends}
 use Rattle.pr_io.specs.Moves.{AppendsPrefix}
 use Rattle.kr_core.specs.declared.console.Console.{Console}
-use Rattle.pr_top.specs.Opening.{Start, Opening, told_opening}
+use Rattle.pr_top.specs.Opening.{Start, Opening, told_reading, told_opening}
 use Rattle.pr_top.specs.Report.{outs, errs, answer_of, part_of}
 use Rattle.pr_top.specs.declared.answer.Which.{Which}
 use Rattle.pr_top.specs.declared.answer.Which.TheVariants.{Tree, Elf, Input, Out, Err as ErrSink, Left}
@@ -102,6 +102,10 @@ IsRefusal NoMemory = ⊥
 -- P of the opening of these words and sources, where the sources tell what they have left
 abbrev pub IfTold : List (List ℕ) → Option (List ℕ) → Option (List ℕ) → Option (List ℕ) → (Opening → Type 0) → Type 0
 IfTold words tree elf input P = IfSome (told_opening words tree elf input) P
+
+-- P of what is read of them, before the program is started
+abbrev pub IfRead : List (List ℕ) → Option (List ℕ) → Option (List ℕ) → Option (List ℕ) → (Opening → Type 0) → Type 0
+IfRead words tree elf input P = IfSome (told_reading words tree elf input) P
 
 -- what is answered on an opening: its refusal, or the end of its run. Want of memory or a fault may come instead
 abbrev pub AnswersOpening : Opening → Answer → Type 0

@@ -4,8 +4,8 @@ use Rattle.kr_core.specs.State.{State, started, living, status_of, plain_call}
 use Rattle.kr_core.specs.Run.{Slot, End, AllEnded, TurnsSpent, Outcome, run}
 use Rattle.kr_core.specs.declared.process.Running.{Running}
 use Rattle.kr_core.specs.declared.console.Console.{Console}
-use Rattle.pr_top.specs.Listing.{text_left}
-use Rattle.pr_top.specs.Opening.{Start, Opening}
+use Rattle.pr_top.specs.Listing.{text_left, ids_of}
+use Rattle.pr_top.specs.Opening.{Start, Opening, args_of}
 use Rattle.pr_top.specs.declared.answer.Answer.{Answer}
 use Rattle.pr_top.specs.declared.answer.Answer.TheVariants.{Ended, Spent}
 
@@ -17,9 +17,13 @@ slot_of turn = record { pick = turn; fuel = 1000 }
 abbrev pub turn_limit : ℕ
 turn_limit = 1000000
 
+-- the state in which the program starts
+abbrev pub first_state : Start → State
+first_state start = started start.file (args_of start) (ids_of start.listing)
+
 -- the mounted run
 unfoldable pub run_of : Start → Outcome
-run_of start = run plain_call slot_of turn_limit (started start.file)
+run_of start = run plain_call slot_of turn_limit (first_state start)
 
 -- a part of the console of each turn, in order
 abbrev pub gathered : (Console → List ℕ) → List Console → List ℕ

@@ -3,7 +3,7 @@ ghost use Rattle.std.specs.Prelude.{◌≡◌, ◌==◌, option_map};
 ghost use Rattle.std.specs.List.{list_all, position};
 ghost use Rattle.pr_top.specs.Listing.{is_digit, is_name_byte, is_name, behind, cut_at, is_decimal, id_of};
 
-use pr_base::{Bytes, NoMemory};
+use pr_base::{Bytes, NoMemory, Texts};
 use std::alloc::Global;
 use std::marker::Model;
 
@@ -105,8 +105,8 @@ fn id_of(text: &[u8]) -> Option<u32>
 }
 
 impl<'a> Listing<'a> {
-    ghost use Rattle.std.specs.Prelude.{◌≡◌, IfOk, bytes_eq, if◌then◌else◌};
-    ghost use Rattle.pr_top.specs.Listing.{listing_of, user_line, text_left};
+    ghost use Rattle.std.specs.Prelude.{◌≡◌, ◌∷◌, [], IfOk, bytes_eq, if◌then◌else◌};
+    ghost use Rattle.pr_top.specs.Listing.{ids_of, listing_of, user_line, text_left, word_of};
 
     /// The listing of some bytes, where they are one.
     #[tactic(auto, unfolding(crate::specs::Listing::listing_of))]
@@ -140,6 +140,24 @@ impl<'a> Listing<'a> {
         } else {
             None
         }
+    }
+
+    /// The one argument of the program: the word that names it.
+    pub(crate) fn args(&self, alloc: Global) -> Result<Texts, NoMemory>
+        ensures { IfOk result (λ args. args ≡ word_of self.now ∷ []) }
+    {
+        let mut word = Bytes::copy(alloc, b"/")?;
+        word.append(self.name)?;
+        let mut args = Texts::new(alloc);
+        args.push(word)?;
+        Ok(args)
+    }
+
+    /// The real and the effective user and group of its process.
+    pub(crate) fn ids(&self) -> [u32; 4]
+        ensures { result ≡ ids_of self.now }
+    {
+        [self.uid, self.uid, self.gid, self.gid]
     }
 
     fn user_line(&self, alloc: Global) -> Result<Bytes, NoMemory>

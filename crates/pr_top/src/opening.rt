@@ -1,17 +1,17 @@
 //! The opening: the words and the three sources are read and looked at, one after the other.
-ghost use Rattle.std.specs.Prelude.{◌≡◌, ◌≤◌, length, nat_eq, map, ◌↔◌, IsTrue, None, IfOk, OnOk, IfErr};
-ghost use Rattle.std.specs.List.{starts_with};
+ghost use Rattle.std.specs.Prelude.{◌≡◌, ◌≤◌, ◌⊎◌, length, map, ◌↔◌, None, IfOk, Ok, Err, OnOk, IfErr};
 ghost use Rattle.std.specs.String.{string_bytes};
 ghost use Rattle.std.specs.Option.{option_copied};
-ghost use Rattle.kr_core.specs.Form.{has_form, headers};
 ghost use Rattle.std.specs.Io.KnownBytes.{IsAtEnd};
 ghost use Rattle.pr_io.specs.Faults.{Rose};
 ghost use Rattle.pr_top.specs.Opening.{command_name};
+ghost use Rattle.pr_top.specs.Report.{first_state};
 ghost use Rattle.pr_top.specs.Reading.{ReadsWithin, IsReadRefusal};
-ghost use Rattle.pr_top.specs.Promise.{IfTold, ComesTo, OpeningFault};
+ghost use Rattle.pr_top.specs.Promise.{IfRead, IfTold, ComesTo, OpeningFault};
 
 use crate::answer::{Answer, Part, Which};
 use crate::listing::{Listing, behind, is_name};
+use kr_core::{Kernel, StartFault};
 use pr_base::{Bytes, Errno};
 use pr_io::Source;
 use std::alloc::Global;
@@ -39,45 +39,11 @@ impl<'a> Model for Start<'a> {
     ghost view = { λ s. record { listing = s.listing; file = s.file } };
 }
 
-/// The bytes of the headers in front of the two sizes of the file.
-const HEADERS: [u8; 96] = [
-    0x7f, 0x45, 0x4c, 0x46, 2, 1, 1, 0, 0, 0, 0, 0, 0, 0, 0, 0, // e_ident
-    2, 0, 0xf3, 0, 1, 0, 0, 0, // type, machine, version
-    0x78, 0, 1, 0, 0, 0, 0, 0, // entry
-    0x40, 0, 0, 0, 0, 0, 0, 0, // program headers
-    0, 0, 0, 0, 0, 0, 0, 0, // section headers
-    0, 0, 0, 0, 0x40, 0, 0x38, 0, 1, 0, 0, 0, 0, 0, 0, 0, // flags, sizes and numbers of headers
-    1, 0, 0, 0, 5, 0, 0, 0, // PT_LOAD, readable and executable
-    0, 0, 0, 0, 0, 0, 0, 0, // offset
-    0, 0, 1, 0, 0, 0, 0, 0, // virtual address
-    0, 0, 1, 0, 0, 0, 0, 0, // physical address
-];
-
-/// The alignment of the segment, the bytes behind the two sizes.
-const ALIGNMENT: [u8; 8] = [0, 0x10, 0, 0, 0, 0, 0, 0];
-
-/// Whether a file begins with the headers of its own size.
-fn has_headers(file: &[u8]) -> bool
-    ensures { result ≡ starts_with nat_eq file.now (headers (length file.now)) }
-{
-    let size = (file.len() as u64).to_le_bytes();
-    let Some(sizes) = behind(&HEADERS, file) else {
-        return false;
-    };
-    let Some(second_size) = behind(&size, sizes) else {
-        return false;
-    };
-    let Some(alignment) = behind(&size, second_size) else {
-        return false;
-    };
-    behind(&ALIGNMENT, alignment).is_some()
-}
-
-/// Whether this is a file of the form that can be started.
-fn has_form(file: &[u8]) -> bool
-    ensures { result ≡ has_form file.now }
-{
-    (121..=65536).contains(&file.len()) && has_headers(file)
+/// A start, and the machine in which it starts.
+#[derive(Drop)]
+pub(crate) struct Opened<'a> {
+    pub(crate) start: Start<'a>,
+    pub(crate) kernel: Kernel,
 }
 
 /// The name in the one word `/NAME`.
@@ -121,7 +87,7 @@ fn read_within<S: Source>(
 }
 
 /// Reads and looks at the words, the listing, the file, the input and the name in this order.
-pub(crate) fn open<'a, T: Source, E: Source, I: Source>(
+fn read<'a, T: Source, E: Source, I: Source>(
     alloc: Global,
     words: &'a [String],
     tree: &mut T,
@@ -129,8 +95,8 @@ pub(crate) fn open<'a, T: Source, E: Source, I: Source>(
     input: &mut I,
 ) -> Result<Start<'a>, Answer>
     ensures words { command_name (map string_bytes words.now) ≡ None ↔ (result ≡ Err (Answer.Unbuilt Part.Words)) }
-    ensures opened { IfTold (map string_bytes words.now) (T.left tree.old) (E.left elf.old) (I.left input.old) (λ o. ComesTo o result) }
-    ensures formed { IfOk result (λ start. IsTrue (has_form start.file)) }
+    ensures opened { IfRead (map string_bytes words.now) (T.left tree.old) (E.left elf.old) (I.left input.old) (λ o. ComesTo o result) }
+    ensures named { IfOk result (λ start. length start.listing.name ≤ 255) }
     ensures tree_read { OnOk result (IsAtEnd (T.left tree.new)) }
     ensures elf_read { OnOk result (IsAtEnd (E.left elf.new)) }
     ensures input_read { OnOk result (IsAtEnd (I.left input.new)) }
@@ -144,7 +110,7 @@ pub(crate) fn open<'a, T: Source, E: Source, I: Source>(
         return Err(Answer::Unbuilt { part: Part::Tree });
     };
     let file = read_within(alloc, elf, ELF_LIMIT, Which::Elf)?;
-    if !has_form(file.as_slice()) {
+    if file.len() >= ELF_LIMIT {
         return Err(Answer::Unbuilt { part: Part::Elf });
     }
     let rest = read_within(alloc, input, INPUT_LIMIT, Which::Input)?;
@@ -157,4 +123,49 @@ pub(crate) fn open<'a, T: Source, E: Source, I: Source>(
             errno: Errno::ENOENT,
         }),
     }
+}
+
+impl Start<'_> {
+    ghost use Rattle.std.specs.Prelude.{◌≡◌, ◌≤◌, ◌⊎◌, length, Ok, Err, IfOk, IfErr};
+    ghost use Rattle.pr_top.specs.Opening.{startable};
+    ghost use Rattle.pr_top.specs.Report.{first_state};
+
+    /// The machine in which the program starts.
+    fn kernel(&self, alloc: Global) -> Result<Kernel, Answer>
+        requires { length self.now.listing.name ≤ 255 }
+        ensures started { IfOk result (λ kernel. kernel ≡ first_state self.now) }
+        ensures allowed { IfOk result (λ _. startable (Ok self.now) ≡ Ok self.now) }
+        ensures refused { IfErr result (λ answer. (startable (Ok self.now) ≡ Err answer) ⊎ (answer ≡ Answer.NoMemory)) }
+    {
+        let Ok(args) = self.listing.args(alloc) else {
+            return Err(Answer::NoMemory);
+        };
+        match Kernel::start(alloc, self.file.as_slice(), &args, self.listing.ids()) {
+            Ok(kernel) => Ok(kernel),
+            Err(StartFault::Err(errno)) => Err(Answer::NoStart { errno }),
+            Err(StartFault::NoMemory) => Err(Answer::NoMemory),
+        }
+    }
+}
+
+/// Reads and looks at the words and the sources, and starts the program.
+pub(crate) fn open<'a, T: Source, E: Source, I: Source>(
+    alloc: Global,
+    words: &'a [String],
+    tree: &mut T,
+    elf: &mut E,
+    input: &mut I,
+) -> Result<Opened<'a>, Answer>
+    ensures words { command_name (map string_bytes words.now) ≡ None ↔ (result ≡ Err (Answer.Unbuilt Part.Words)) }
+    ensures opened { IfOk result (λ opened. IfTold (map string_bytes words.now) (T.left tree.old) (E.left elf.old) (I.left input.old) (λ o. ComesTo o (Ok opened.start))) }
+    ensures refused { IfErr result (λ answer. IfTold (map string_bytes words.now) (T.left tree.old) (E.left elf.old) (I.left input.old) (λ o. ComesTo o (Err answer))) }
+    ensures started { IfOk result (λ opened. opened.kernel ≡ first_state opened.start) }
+    ensures tree_read { OnOk result (IsAtEnd (T.left tree.new)) }
+    ensures elf_read { OnOk result (IsAtEnd (E.left elf.new)) }
+    ensures input_read { OnOk result (IsAtEnd (I.left input.new)) }
+    ensures fault { IfErr result (OpeningFault (Rose (T.faults tree.old) (T.faults tree.new)) (Rose (E.faults elf.old) (E.faults elf.new)) (Rose (I.faults input.old) (I.faults input.new))) }
+{
+    let start = read(alloc, words, tree, elf, input)?;
+    let kernel = start.kernel(alloc)?;
+    Ok(Opened { start, kernel })
 }

@@ -1,16 +1,14 @@
 //! The report: the guest runs turn after turn, what it writes is put to the sinks, and last the listing.
-ghost use Rattle.std.specs.Prelude.{◌≡◌, ◌≢◌, ◌<◌, ◌≤◌, ◌^◌, [], IsTrue};
+ghost use Rattle.std.specs.Prelude.{◌≡◌, ◌≢◌, ◌<◌, ◌≤◌, ◌^◌, []};
 ghost use Rattle.pr_io.specs.Faults.{Rose};
-ghost use Rattle.kr_core.specs.Form.{has_form};
 ghost use Rattle.kr_core.specs.State.{living, plain_call};
 ghost use Rattle.kr_core.specs.Run.{run};
-ghost use Rattle.pr_top.specs.Report.{slot_of, turn_limit, state_answer};
+ghost use Rattle.pr_top.specs.Report.{first_state, slot_of, turn_limit, state_answer};
 ghost use Rattle.pr_top.specs.Puts.{PutsAs, PutsTurn, PutsRun, PutsReport};
 
 use crate::answer::{Answer, Which};
 use crate::opening::Start;
 use kr_core::Kernel;
-use pr_base::Bytes;
 use pr_io::{PutFault, Sink};
 use std::alloc::Global;
 
@@ -91,24 +89,19 @@ fn run_turns<O: Sink, R: Sink>(
     Ok(answer_of(kernel))
 }
 
-/// Runs a start, and puts its report.
+/// Runs a start on the machine in which it starts, and puts its report.
 pub(crate) fn report<O: Sink, R: Sink, L: Sink>(
     alloc: Global,
     start: &Start<'_>,
+    kernel: &mut Kernel,
     out: &mut O,
     err: &mut R,
     left: &mut L,
 ) -> Answer
-    requires { IsTrue (has_form start.now.file) }
+    requires { kernel.old ≡ first_state start.now }
     ensures { PutsReport start.now (Rose (O.faults out.old) (O.faults out.new)) (Rose (R.faults err.old) (R.faults err.new)) (Rose (L.faults left.old) (L.faults left.new)) (O.got out.old) (O.got out.new) (R.got err.old) (R.got err.new) (L.got left.old) (L.got left.new) result }
 {
-    let Ok(file) = Bytes::copy(alloc, start.file.as_slice()) else {
-        return Answer::NoMemory;
-    };
-    let Ok(mut kernel) = Kernel::start(alloc, file) else {
-        return Answer::NoMemory;
-    };
-    let answer = match run_turns(&mut kernel, out, err) {
+    let answer = match run_turns(kernel, out, err) {
         Ok(answer) => answer,
         Err(answer) => return answer,
     };

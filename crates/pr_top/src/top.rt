@@ -76,7 +76,7 @@ pub fn proot<T: Source, E: Source, I: Source, O: Sink, R: Sink, L: Sink>(
         (result ≡ answer_of start) ⊎ (result ≡ Answer.NoMemory))) }
 {
     match open(alloc, words, tree, elf, input) {
-        Ok(start) => report(alloc, &start, out, err, left),
+        Ok(mut opened) => report(alloc, &opened.start, &mut opened.kernel, out, err, left),
         Err(answer) => answer,
     }
 }

@@ -1,6 +1,5 @@
 use Rattle.std.proofs.Common.{IsTrue, sym, ap, ◌∙◌, subst}
-use Rattle.kr_core.specs.Form.{has_form}
-use Rattle.kr_core.specs.State.{started, plain_call}
+use Rattle.kr_core.specs.State.{plain_call}
 use Rattle.kr_core.specs.Run.{run}
 use Rattle.pr_top.specs.Report.{slot_of, turn_limit}
 use Rattle.pr_top.specs.Puts.{PutsAs}
@@ -11,35 +10,26 @@ use Rattle.std.specs.Io.KnownBytes.{Appends}
 use Rattle.std.specs.Prelude.{Err}
 use Rattle.pr_top.proofs.report.report.Goals as goal
 
-pub start-requires : goal.start-requires
-start-requires g c =
-    let is = c.in-Ok.ensures ∙ c.as_slice.ensures ∙ file_of c.start.inside.listing c.start.inside.file c.args.start.now c.start.view_is in
-    subst (λ f. IsTrue (has_form f)) (sym is) c.requires
-
 pub returns-in-Err : goal.returns-in-Err
 returns-in-Err g c =
-    let file = c.in-Ok.ensures ∙ c.as_slice.ensures ∙ file_of c.start.inside.listing c.start.inside.file c.args.start.now c.start.view_is in
-    let is = run_of-started c.args.start.now c.in-Ok-start.kernel (c.in-Ok-start.ensures ∙ ap started file) in
-    stops_in_run c.args.start.now _ _ _ _ (g.L.Sink.got c.args.left.now) (g.L.Sink.got c.args.left.now) _ _ _ _ (run plain_call slot_of turn_limit c.in-Ok-start.kernel) is _ c.in-Err.answer c.in-Err.ensures.put
+    let is = run_of-started c.args.start.now c.args.kernel.now c.requires in
+    stops_in_run c.args.start.now _ _ _ _ (g.L.Sink.got c.args.left.now) (g.L.Sink.got c.args.left.now) _ _ _ _ (run plain_call slot_of turn_limit c.args.kernel.now) is _ c.in-Err.answer c.in-Err.ensures.put
 
 pub returns-in_default-left : goal.returns-in_default-left
 returns-in_default-left g c =
-    let file = c.in-Ok.ensures ∙ c.as_slice.ensures ∙ file_of c.start.inside.listing c.start.inside.file c.args.start.now c.start.view_is in
-    let is = run_of-started c.args.start.now c.in-Ok-start.kernel (c.in-Ok-start.ensures ∙ ap started file) in
-    between_run_and_listing c.args.start.now _ _ _ _ (g.L.Sink.got c.args.left.now) (g.L.Sink.got c.args.left.now) 0 0 0 0 (run plain_call slot_of turn_limit c.in-Ok-start.kernel) is c.in-Ok-run_turns.answer c.in-Ok-run_turns.ensures.put (Keeps-refl (g.L.Sink.got c.args.left.now))
+    let is = run_of-started c.args.start.now c.args.kernel.now c.requires in
+    between_run_and_listing c.args.start.now _ _ _ _ (g.L.Sink.got c.args.left.now) (g.L.Sink.got c.args.left.now) 0 0 0 0 (run plain_call slot_of turn_limit c.args.kernel.now) is c.in-Ok-run_turns.answer c.in-Ok-run_turns.ensures.put (Keeps-refl (g.L.Sink.got c.args.left.now))
 
 pub returns-in-Ok-put_some : goal.returns-in-Ok-put_some
 returns-in-Ok-put_some g c =
-    let file = c.in-Ok.ensures ∙ c.as_slice.ensures ∙ file_of c.start.inside.listing c.start.inside.file c.args.start.now c.start.view_is in
-    let is = run_of-started c.args.start.now c.in-Ok-start.kernel (c.in-Ok-start.ensures ∙ ap started file) in
+    let is = run_of-started c.args.start.now c.args.kernel.now c.requires in
     let text = c.as_slice-3.ensures ∙ c.in-Ok-left.ensures ∙ text_of c.start.inside.listing c.start.inside.file c.as_slice-2.result.now c.args.start.now c.start.view_is c.as_slice-2.ensures in
     let listed = subst (Appends (g.L.Sink.got c.args.left.now) (g.L.Sink.got c.put_some.new.sink)) text c.in-Ok-put_some.ensures.put in
-    puts_whole c.args.start.now _ _ _ _ (g.L.Sink.got c.args.left.now) (g.L.Sink.got c.put_some.new.sink) 0 0 0 0 (run plain_call slot_of turn_limit c.in-Ok-start.kernel) is c.in-Ok-run_turns.answer c.in-Ok-run_turns.ensures.put _ _ _ listed
+    puts_whole c.args.start.now _ _ _ _ (g.L.Sink.got c.args.left.now) (g.L.Sink.got c.put_some.new.sink) 0 0 0 0 (run plain_call slot_of turn_limit c.args.kernel.now) is c.in-Ok-run_turns.answer c.in-Ok-run_turns.ensures.put _ _ _ listed
 
 pub returns : goal.returns
 returns g c =
-    let file = c.in-Ok.ensures ∙ c.as_slice.ensures ∙ file_of c.start.inside.listing c.start.inside.file c.args.start.now c.start.view_is in
-    let is = run_of-started c.args.start.now c.in-Ok-start.kernel (c.in-Ok-start.ensures ∙ ap started file) in
+    let is = run_of-started c.args.start.now c.args.kernel.now c.requires in
     let text = c.as_slice-3.ensures ∙ c.in-Ok-left.ensures ∙ text_of c.start.inside.listing c.start.inside.file c.as_slice-2.result.now c.args.start.now c.start.view_is c.as_slice-2.ensures in
     let put = subst (λ bytes. PutsAs Left (g.L.Sink.got c.args.left.now) (g.L.Sink.got c.put_some.new.sink) (g.L.Sink.faults c.args.left.now) (g.L.Sink.faults c.put_some.new.sink) bytes (Err c.in-Err-put_some.fault)) text c.in-Err-put_some.ensures.put in
-    stops_in_listing c.args.start.now _ _ _ _ (g.L.Sink.got c.args.left.now) (g.L.Sink.got c.put_some.new.sink) _ _ _ _ (run plain_call slot_of turn_limit c.in-Ok-start.kernel) is c.in-Ok-run_turns.answer c.in-Ok-run_turns.ensures.put (g.L.Sink.faults c.args.left.now) (g.L.Sink.faults c.put_some.new.sink) c.in-Err-put_some.fault put
+    stops_in_listing c.args.start.now _ _ _ _ (g.L.Sink.got c.args.left.now) (g.L.Sink.got c.put_some.new.sink) _ _ _ _ (run plain_call slot_of turn_limit c.args.kernel.now) is c.in-Ok-run_turns.answer c.in-Ok-run_turns.ensures.put (g.L.Sink.faults c.args.left.now) (g.L.Sink.faults c.put_some.new.sink) c.in-Err-put_some.fault put

@@ -1,0 +1,111 @@
+-- Lists of texts, words and segments, one after the other.
+use Rattle.std.proofs.Common.{◌≡◌, ℕ, ◌+◌, ◌-◌, ◌*◌, ◌<◌, ◌≤◌, zero, suc, List, [], ◌∷◌, ◌++◌, length, take, drop, replicate, get_or, refl, sym, ap, ◌∙◌, arith, append_assoc, length-append, add-one, drop-cons, Some, None, Option}
+use Rattle.std.specs.Prelude.{slice_get, Result, Ok, Err, OnOk}
+use Rattle.std.specs.Int.{to_le_bytes, w64}
+use Rattle.std.proofs.lemmas.List.{drop_all, take-replicate}
+use Rattle.elf_load.specs.FirstStack.{text_bytes, text_addresses, word_bytes, pair_words, words_of, zeros, texts_at, texts_size, stack_pointer, word_count, stack_bytes, random_bytes, random_at}
+use Rattle.elf_load.specs.declared.stack.Pair.{Pair}
+
+-- what is left behind a place that is there
+pub drop-at : {A : Type 0} (xs : List A) (k : ℕ) (x : A) → slice_get xs k ≡ Some x → drop k xs ≡ x ∷ drop (k + 1) xs
+drop-at [] k x e = cc
+drop-at (y ∷ xs) zero x e = let same : y ≡ x = cc in ap (λ z. z ∷ xs) same
+drop-at (y ∷ xs) (suc k) x e =
+    let next : suc (k + 1) ≡ suc k + 1 = omega arith in
+    drop-at xs k x e ∙ ap (λ j. x ∷ drop j (y ∷ xs)) next
+
+-- texts: the first of those left, and none
+pub text_bytes-at : (ts : List (List ℕ)) (k : ℕ) (t : List ℕ) → drop k ts ≡ t ∷ drop (k + 1) ts → text_bytes (drop k ts) ≡ t ++ (0 ∷ text_bytes (drop (k + 1) ts))
+text_bytes-at ts k t e = ap text_bytes e
+
+pub size-at : (ts : List (List ℕ)) (k : ℕ) (t : List ℕ) → drop k ts ≡ t ∷ drop (k + 1) ts → length (text_bytes (drop k ts)) ≡ length t + 1 + length (text_bytes (drop (k + 1) ts))
+size-at ts k t e = ap length (text_bytes-at ts k t e) ∙ length-append t (0 ∷ text_bytes (drop (k + 1) ts)) ∙ omega arith
+
+pub text_bytes-end : (ts : List (List ℕ)) (k : ℕ) → length ts ≤ k → text_bytes (drop k ts) ≡ []
+text_bytes-end ts k past = ap text_bytes (drop_all k ts past)
+
+pub size-end : (ts : List (List ℕ)) (k : ℕ) → length ts ≤ k → length (text_bytes (drop k ts)) ≡ 0
+size-end ts k past = ap length (text_bytes-end ts k past)
+
+-- a text and its end were added
+pub text-added : (bytes t rest : List ℕ) → ((bytes ++ t) ++ (0 ∷ [])) ++ rest ≡ bytes ++ (t ++ (0 ∷ rest))
+text-added bytes t rest = append_assoc (bytes ++ t) (0 ∷ []) rest ∙ append_assoc bytes t (0 ∷ rest)
+
+-- their addresses
+pub addresses-at : (ts : List (List ℕ)) (k : ℕ) (t : List ℕ) (at : ℕ) → drop k ts ≡ t ∷ drop (k + 1) ts → word_bytes (text_addresses at (drop k ts)) ≡ to_le_bytes w64 at ++ word_bytes (text_addresses (at + length t + 1) (drop (k + 1) ts))
+addresses-at ts k t at e = ap (λ r. word_bytes (text_addresses at r)) e
+
+pub addresses-end : (ts : List (List ℕ)) (k at : ℕ) → length ts ≤ k → word_bytes (text_addresses at (drop k ts)) ≡ []
+addresses-end ts k at past = ap (λ r. word_bytes (text_addresses at r)) (drop_all k ts past)
+
+-- words of pairs
+pub pairs-at : (ps : List Pair) (k : ℕ) (d : Pair) → k < length ps → word_bytes (pair_words (drop k ps)) ≡ to_le_bytes w64 (get_or ps k d).kind ++ (to_le_bytes w64 (get_or ps k d).value ++ word_bytes (pair_words (drop (k + 1) ps)))
+pairs-at ps k d within =
+    ap (λ r. word_bytes (pair_words r)) (drop-cons ps k d within)
+    ∙ ap (λ j. to_le_bytes w64 (get_or ps k d).kind ++ (to_le_bytes w64 (get_or ps k d).value ++ word_bytes (pair_words (drop j ps)))) (sym (add-one k))
+
+pub pairs-end : (ps : List Pair) (k : ℕ) → length ps ≤ k → word_bytes (pair_words (drop k ps)) ≡ []
+pairs-end ps k past = ap (λ r. word_bytes (pair_words r)) (drop_all k ps past)
+
+pub word_bytes-append : (vs ws : List ℕ) → word_bytes (vs ++ ws) ≡ word_bytes vs ++ word_bytes ws
+word_bytes-append [] ws = refl
+word_bytes-append (v ∷ vs) ws =
+    ap (λ r. to_le_bytes w64 v ++ r) (word_bytes-append vs ws) ∙ sym (append_assoc (to_le_bytes w64 v) (word_bytes vs) (word_bytes ws))
+
+-- ---- bytes to which words were added
+
+pub pair-added : (old before between after : List ℕ) (ps : List Pair) (k : ℕ) (d : Pair) → k < length ps
+    → between ≡ before ++ to_le_bytes w64 (get_or ps k d).kind → after ≡ between ++ to_le_bytes w64 (get_or ps k d).value
+    → before ++ word_bytes (pair_words (drop k ps)) ≡ old ++ word_bytes (pair_words ps) → after ++ word_bytes (pair_words (drop (k + 1) ps)) ≡ old ++ word_bytes (pair_words ps)
+pair-added old before between after ps k d within first second so_far =
+    let kind : List ℕ = to_le_bytes w64 (get_or ps k d).kind in
+    let value : List ℕ = to_le_bytes w64 (get_or ps k d).value in
+    let rest : List ℕ = word_bytes (pair_words (drop (k + 1) ps)) in
+    ap (λ b. b ++ rest) (second ∙ ap (λ b. b ++ value) first)
+    ∙ append_assoc (before ++ kind) value rest
+    ∙ append_assoc before kind (value ++ rest)
+    ∙ ap (λ r. before ++ r) (sym (pairs-at ps k d within))
+    ∙ so_far
+
+one_word : (before after : List ℕ) (w : ℕ) (ws : List ℕ) → after ≡ before ++ to_le_bytes w64 w → after ++ word_bytes ws ≡ before ++ word_bytes (w ∷ ws)
+one_word before after w ws e = ap (λ b. b ++ word_bytes ws) e ∙ append_assoc before (to_le_bytes w64 w) (word_bytes ws)
+
+some_words : (before after vs ws : List ℕ) → after ≡ before ++ word_bytes vs → after ++ word_bytes ws ≡ before ++ word_bytes (vs ++ ws)
+some_words before after vs ws e =
+    ap (λ b. b ++ word_bytes ws) e ∙ append_assoc before (word_bytes vs) (word_bytes ws) ∙ ap (λ r. before ++ r) (sym (word_bytes-append vs ws))
+
+-- a number, words, a zero, words, a zero, words
+pub words-added : (b0 b1 b2 b3 b4 b5 b6 : List ℕ) (n : ℕ) (first second last : List ℕ) → b1 ≡ b0 ++ to_le_bytes w64 n → b2 ≡ b1 ++ word_bytes first → b3 ≡ b2 ++ to_le_bytes w64 0
+    → b4 ≡ b3 ++ word_bytes second → b5 ≡ b4 ++ to_le_bytes w64 0 → b6 ≡ b5 ++ word_bytes last → b6 ≡ b0 ++ word_bytes (n ∷ (first ++ (0 ∷ (second ++ (0 ∷ last)))))
+words-added b0 b1 b2 b3 b4 b5 b6 n first second last e1 e2 e3 e4 e5 e6 =
+    e6
+    ∙ one_word b4 b5 0 last e5
+    ∙ some_words b3 b4 second (0 ∷ last) e4
+    ∙ one_word b2 b3 0 (second ++ (0 ∷ last)) e3
+    ∙ some_words b1 b2 first (0 ∷ (second ++ (0 ∷ last))) e2
+    ∙ one_word b0 b1 n (first ++ (0 ∷ (second ++ (0 ∷ last)))) e1
+
+pub on_ok : {T E : Type 0} (r : Result T E) (P Q : Type 0) → (P → Q) → OnOk r P → OnOk r Q
+on_ok (Ok x) P Q f h = f h
+on_ok (Err x) P Q f h = tt
+
+pub zeros-cut : (n : ℕ) → n < 16 → take n (replicate 16 0) ≡ zeros n
+unfolding zeros
+zeros-cut n h = take-replicate n 16 0 (omega arith)
+
+-- ---- the stack, part by part
+
+pub stack-built : (pairs : List Pair) (args env : List (List ℕ)) (b0 b1 b2 b3 b4 b5 b6 : List ℕ) (n k : ℕ) → b0 ≡ []
+    → b1 ≡ b0 ++ word_bytes (words_of pairs args env) → b2 ≡ b1 ++ zeros n → b3 ≡ b2 ++ text_bytes args → b4 ≡ b3 ++ text_bytes env → b5 ≡ b4 ++ zeros k → b6 ≡ b5 ++ random_bytes
+    → n ≡ texts_at args env - (stack_pointer args env + 8 * word_count args env) → k ≡ random_at - (texts_at args env + texts_size args env)
+    → b6 ≡ stack_bytes pairs args env
+stack-built pairs args env b0 b1 b2 b3 b4 b5 b6 n k e0 e1 e2 e3 e4 e5 e6 is_n is_k =
+    let first : b1 ≡ word_bytes (words_of pairs args env) = e1 ∙ ap (λ b. b ++ word_bytes (words_of pairs args env)) e0 in
+    e6
+    ∙ ap (λ b. b ++ random_bytes) (e5
+    ∙ ap (λ j. b4 ++ zeros j) is_k
+    ∙ ap (λ b. b ++ zeros (random_at - (texts_at args env + texts_size args env))) (e4
+    ∙ ap (λ b. b ++ text_bytes env) (e3
+    ∙ ap (λ b. b ++ text_bytes args) (e2
+    ∙ ap (λ j. b1 ++ zeros j) is_n
+    ∙ ap (λ b. b ++ zeros (texts_at args env - (stack_pointer args env + 8 * word_count args env))) first))))

@@ -1,0 +1,2 @@
+pub mod FirstStack
+pub mod Image

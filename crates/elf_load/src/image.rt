@@ -1,0 +1,96 @@
+//! A program as it starts.
+ghost use Rattle.std.specs.Prelude.{◌≡◌, ◌+◌, ◌≤◌, ◌↔◌, Err, None, false, length, IfOk, IsErrOf, IsTrue, OnErr, OnOk, replicate, slice_set};
+ghost use Rattle.elf_read.specs.Plans.{plan_of, planned};
+ghost use Rattle.elf_read.specs.Rules.{first_broken};
+ghost use Rattle.rv_mem.specs.Memory.{page_count};
+ghost use Rattle.elf_load.specs.FirstStack.{exceeds_arguments};
+ghost use Rattle.elf_load.specs.Image.{first_regs, image_exceeds, image_memory, program_break};
+
+use crate::arguments::size_of;
+use crate::fault::LoadFault;
+use crate::segments::{program_break, put_all};
+use crate::stack::FirstStack;
+use elf_read::{Plan, Segment};
+use pr_base::Texts;
+use rv_mem::{Regs, Room, Space};
+use std::alloc::Global;
+
+/// The register of the stack pointer.
+const SP: usize = 2;
+
+/// How many pages there may be in a memory, by their addresses.
+const ALL_PAGES: u32 = 67_108_863;
+
+/// What a program starts with: its memory, its registers, and the address at which its data end.
+#[derive(Drop)]
+pub struct Image<const M: u8> {
+    pub mem: Space<M>,
+    pub regs: Regs,
+    /// The page end of the last segment, from which brk(2) goes on.
+    pub brk: u64,
+}
+
+// The segments of a plan.
+fn segments_of(plan: &Plan) -> &[Segment]
+    requires { plan.now.count ≤ 64 }
+    ensures { result.now ≡ planned plan.now }
+{
+    &plan.segments[..usize::from(plan.count)]
+}
+
+// The registers of a program that starts at `entry` with this stack pointer.
+fn first_regs(entry: u64, sp: u64) -> Regs
+    ensures { result ≡ record { x = slice_set (replicate 32 0) 2 sp; pc = entry } }
+{
+    let mut x = [0; 32];
+    x[SP] = sp;
+    Regs { x, pc: entry }
+}
+
+/// Loads an accepted file by its plan: its segments with their rights, zeros up to their memory sizes,
+/// and 1 MiB of stack with the arguments, the environment and what the program is told of itself. The
+/// four numbers of `ids` are the real and the effective user and group.
+///
+/// The limits of arguments are tested first. The room counts the pages of all processes; after every
+/// refusal it is as before.
+pub fn load<const M: u8>(
+    alloc: Global,
+    room: &mut Room,
+    file: &[u8],
+    plan: &Plan,
+    args: &Texts,
+    env: &Texts,
+    ids: [u32; 4],
+) -> Result<Image<M>, LoadFault>
+    // The plan is the one that the file's check gave.
+    requires accepted { first_broken file.now ≡ None }
+    requires plan { plan.now ≡ plan_of file.now }
+
+    ensures args { IsErrOf result LoadFault.TooManyArgs ↔ IsTrue (exceeds_arguments args.now env.now) }
+    // Too many pages are the cause exactly where the image passes a limit, want of memory aside.
+    ensures pages { result ≡ Err LoadFault.TooManyPages → IsTrue (image_exceeds room.old file.now plan.now args.now env.now ids) }
+    ensures within { OnOk result (image_exceeds room.old file.now plan.now args.now env.now ids ≡ false) }
+
+    ensures memory { IfOk result (λ image. image.mem ≡ image_memory file.now plan.now args.now env.now ids) }
+    ensures regs { IfOk result (λ image. image.regs ≡ first_regs plan.now args.now env.now) }
+    ensures brk { IfOk result (λ image. image.brk ≡ program_break plan.now) }
+
+    ensures room { IfOk result (λ image. room.new ≡ room.old + page_count image.mem.pages) }
+    ensures err_room { OnErr result (room.new ≡ room.old) }
+{
+    let Some(size) = size_of(args, env) else {
+        return Err(LoadFault::TooManyArgs);
+    };
+    let stack = FirstStack::new(alloc, plan, args, env, size, ids)?;
+    let segments = segments_of(plan);
+    let mut mem = Space::new(alloc);
+    if let Err(fault) = put_all(&mut mem, room, file, segments, &stack) {
+        mem.unmap(room, 0, ALL_PAGES);
+        return Err(LoadFault::from(fault));
+    }
+    Ok(Image {
+        mem,
+        regs: first_regs(plan.entry, stack.sp),
+        brk: program_break(segments),
+    })
+}

@@ -1,0 +1,308 @@
+use crate::{Image, LoadFault, load};
+use elf_read::check;
+use pr_base::{Bytes, Texts};
+use rv_mem::{Room, Use};
+use std::alloc::Global;
+use std::process::Abort;
+use std::test::Fail;
+
+/// The file that writes `hello` and exits, as an assembler made it.
+const HELLO: [u8; 162] = [
+    0x7f, 0x45, 0x4c, 0x46, 0x02, 0x01, 0x01, 0x00, 0x00, 0x00, 0x00, 0x00, 0x00, 0x00, 0x00, 0x00,
+    0x02, 0x00, 0xf3, 0x00, 0x01, 0x00, 0x00, 0x00, 0x78, 0x00, 0x01, 0x00, 0x00, 0x00, 0x00, 0x00,
+    0x40, 0x00, 0x00, 0x00, 0x00, 0x00, 0x00, 0x00, 0x00, 0x00, 0x00, 0x00, 0x00, 0x00, 0x00, 0x00,
+    0x00, 0x00, 0x00, 0x00, 0x40, 0x00, 0x38, 0x00, 0x01, 0x00, 0x00, 0x00, 0x00, 0x00, 0x00, 0x00,
+    0x01, 0x00, 0x00, 0x00, 0x05, 0x00, 0x00, 0x00, 0x00, 0x00, 0x00, 0x00, 0x00, 0x00, 0x00, 0x00,
+    0x00, 0x00, 0x01, 0x00, 0x00, 0x00, 0x00, 0x00, 0x00, 0x00, 0x01, 0x00, 0x00, 0x00, 0x00, 0x00,
+    0xa2, 0x00, 0x00, 0x00, 0x00, 0x00, 0x00, 0x00, 0xa2, 0x00, 0x00, 0x00, 0x00, 0x00, 0x00, 0x00,
+    0x00, 0x10, 0x00, 0x00, 0x00, 0x00, 0x00, 0x00, 0x93, 0x08, 0x00, 0x04, 0x13, 0x05, 0x10, 0x00,
+    0x97, 0x05, 0x00, 0x00, 0x93, 0x85, 0xc5, 0x01, 0x13, 0x06, 0x60, 0x00, 0x73, 0x00, 0x00, 0x00,
+    0x93, 0x08, 0xd0, 0x05, 0x13, 0x05, 0x00, 0x00, 0x73, 0x00, 0x00, 0x00, 0x68, 0x65, 0x6c, 0x6c,
+    0x6f, 0x0a,
+];
+
+/// A program header to be loaded: its rights, its offset, its address, and its sizes in the file and
+/// in memory.
+#[derive(Clone, Copy)]
+struct Part {
+    flags: u8,
+    offset: u16,
+    address: u64,
+    file: u16,
+    memory: u64,
+}
+
+fn put(file: &mut [u8], at: usize, bytes: &[u8]) {
+    for (place, byte) in file.iter_mut().skip(at).zip(bytes) {
+        *place = *byte;
+    }
+}
+
+/// A file of two pages with the ELF header of the hello file and two such program headers. From 0x800
+/// on each byte is its place modulo 256, but not 0.
+fn with_parts(parts: [Part; 2]) -> [u8; 8192] {
+    let mut file = [0; 8192];
+    for (at, byte) in file.iter_mut().enumerate().skip(0x800) {
+        *byte = (at % 255) as u8 | 1;
+    }
+    put(&mut file, 0, &HELLO[..64]);
+    put(&mut file, 56, &[2]);
+    let mut at = 64usize;
+    for part in parts {
+        put(&mut file, at, &[1, 0, 0, 0, part.flags]);
+        put(&mut file, at.wrapping_add(8), &part.offset.to_le_bytes());
+        put(&mut file, at.wrapping_add(16), &part.address.to_le_bytes());
+        put(&mut file, at.wrapping_add(32), &part.file.to_le_bytes());
+        put(&mut file, at.wrapping_add(40), &part.memory.to_le_bytes());
+        at = at.wrapping_add(56);
+    }
+    file
+}
+
+fn texts(alloc: Global, list: &[&str]) -> Result<Texts, Fail> {
+    let mut texts = Texts::new(alloc);
+    for text in list {
+        texts.push(Bytes::copy(alloc, text.as_bytes())?)?;
+    }
+    Ok(texts)
+}
+
+/// Loads a file that is accepted, for the user and group 1000 and 100.
+fn loaded<R: Abort + AllocGlobal>(
+    rt: &R,
+    room: &mut Room,
+    file: &[u8],
+    args: &Texts,
+    env: &Texts,
+) -> Result<Image<0>, LoadFault> {
+    let plan = check(file).expect(rt, "accepted");
+    load(
+        rt.alloc(),
+        room,
+        file,
+        &plan,
+        args,
+        env,
+        [1000, 1001, 100, 101],
+    )
+}
+
+/// The word at an address.
+fn word(image: &mut Image<0>, at: u64) -> Option<u64> {
+    let mut bytes = [0; 8];
+    image.mem.read(at, &mut bytes, Use::Read).ok()?;
+    Some(u64::from_le_bytes(bytes))
+}
+
+/// The byte at an address.
+fn byte(image: &mut Image<0>, at: u64) -> Option<u8> {
+    let mut bytes = [0];
+    image.mem.read(at, &mut bytes, Use::Read).ok()?;
+    Some(bytes[0])
+}
+
+#[test]
+fn the_hello_file_stands_in_memory(rt: HostRuntime) -> Result<(), Fail> {
+    let args = texts(rt.alloc(), &["/hello"])?;
+    let env = Texts::new(rt.alloc());
+    let mut room = Room::new();
+    let mut image = loaded(&rt, &mut room, &HELLO, &args, &env).expect(&rt, "loaded");
+    assert_eq!(rt; image.mem.pages(), 257);
+    assert_eq!(rt; image.brk, 0x11000);
+    assert_eq!(rt; image.regs.pc, 0x10078);
+    for (k, register) in image.regs.x.iter().enumerate() {
+        assert_eq!(rt; *register, if k == 2 { 0x3f_ffff_ef00 } else { 0 }, "x{k}");
+    }
+    let mut bytes = [0; 162];
+    assert!(rt; image.mem.read(0x10000, &mut bytes, Use::Execute).is_ok());
+    assert_eq!(rt; bytes, HELLO);
+    assert_eq!(rt; byte(&mut image, 0x100a2), Some(0));
+    assert!(rt; !image.mem.can(0x10000, 1, Use::Write));
+    Ok(())
+}
+
+// Where the ABI puts each word, by hand.
+const HELLO_WORDS: [u64; 28] = [
+    1,
+    0x3f_ffff_efe0,
+    0,
+    0,
+    3,
+    0x10040,
+    4,
+    56,
+    5,
+    1,
+    6,
+    4096,
+    9,
+    0x10078,
+    11,
+    1000,
+    12,
+    1001,
+    13,
+    100,
+    14,
+    101,
+    23,
+    0,
+    25,
+    0x3f_ffff_eff0,
+    0,
+    0,
+];
+
+#[test]
+fn the_first_stack_of_the_hello_file_is_the_abis(rt: HostRuntime) -> Result<(), Fail> {
+    let args = texts(rt.alloc(), &["/hello"])?;
+    let env = Texts::new(rt.alloc());
+    let mut room = Room::new();
+    let mut image = loaded(&rt, &mut room, &HELLO, &args, &env).expect(&rt, "loaded");
+    let mut at: u64 = 0x3f_ffff_ef00;
+    for want in HELLO_WORDS {
+        assert_eq!(rt; word(&mut image, at), Some(want), "at {at}");
+        at = at.wrapping_add(8);
+    }
+    let mut text = [0; 7];
+    assert!(rt;
+        image
+            .mem
+            .read(0x3f_ffff_efe0, &mut text, Use::Write)
+            .is_ok()
+    );
+    assert_eq!(rt; text, *b"/hello\0");
+    let mut random = [0; 16];
+    assert!(rt;
+        image
+            .mem
+            .read(0x3f_ffff_eff0, &mut random, Use::Read)
+            .is_ok()
+    );
+    assert_eq!(rt;
+        random,
+        [0, 1, 2, 3, 4, 5, 6, 7, 8, 9, 10, 11, 12, 13, 14, 15]
+    );
+    assert!(rt; image.mem.can(0x3f_ffef_f000, 0x10_0000, Use::Write));
+    assert!(rt; !image.mem.can(0x3f_ffef_efff, 1, Use::Read));
+    assert!(rt; !image.mem.can(0x3f_ffff_f000, 1, Use::Read));
+    Ok(())
+}
+
+#[test]
+fn arguments_and_environment_stand_behind_each_other(rt: HostRuntime) -> Result<(), Fail> {
+    let args = texts(rt.alloc(), &["a", "bc"])?;
+    let env = texts(rt.alloc(), &["K=v"])?;
+    let mut room = Room::new();
+    let mut image = loaded(&rt, &mut room, &HELLO, &args, &env).expect(&rt, "loaded");
+    let sp = image.regs.x[2];
+    assert_eq!(rt; sp, 0x3f_ffff_eef0);
+    let words = [
+        2,
+        0x3f_ffff_efe0,
+        0x3f_ffff_efe2,
+        0,
+        0x3f_ffff_efe5,
+        0,
+        3,
+        0x10040,
+    ];
+    let mut at = sp;
+    for want in words {
+        assert_eq!(rt; word(&mut image, at), Some(want), "at {at}");
+        at = at.wrapping_add(8);
+    }
+    let mut bytes = [0; 9];
+    assert!(rt;
+        image
+            .mem
+            .read(0x3f_ffff_efe0, &mut bytes, Use::Read)
+            .is_ok()
+    );
+    assert_eq!(rt; bytes, *b"a\0bc\0K=v\0");
+    Ok(())
+}
+
+#[test]
+fn two_segments_stand_at_their_addresses(rt: HostRuntime) -> Result<(), Fail> {
+    let file = with_parts([
+        Part {
+            flags: 4,
+            offset: 0x800,
+            address: 0x10800,
+            file: 0x10,
+            memory: 0x20,
+        },
+        Part {
+            flags: 6,
+            offset: 0xffe,
+            address: 0x12ffe,
+            file: 4,
+            memory: 0x2002,
+        },
+    ]);
+    let args = Texts::new(rt.alloc());
+    let env = Texts::new(rt.alloc());
+    let mut room = Room::new();
+    let mut image = loaded(&rt, &mut room, &file, &args, &env).expect(&rt, "loaded");
+    // A page for the first, three for the second and 256 for the stack.
+    assert_eq!(rt; image.mem.pages(), 260);
+    assert_eq!(rt; image.brk, 0x15000);
+    let bytes = [
+        (0x10000, Some(0)),
+        (0x107ff, Some(0)),
+        (0x10800, Some(0x09)),
+        (0x1080f, Some(0x17)),
+        (0x10810, Some(0)),
+        (0x11000, None),
+        (0x12ffd, Some(0)),
+        (0x12ffe, Some(0x0f)),
+        (0x12fff, Some(0x0f)),
+        (0x13000, Some(0x11)),
+        (0x13001, Some(0x11)),
+        (0x13002, Some(0)),
+        (0x14fff, Some(0)),
+        (0x15000, None),
+    ];
+    for (at, want) in bytes {
+        assert_eq!(rt; byte(&mut image, at), want, "at {at}");
+    }
+    assert!(rt; !image.mem.can(0x10000, 1, Use::Write));
+    assert!(rt; !image.mem.can(0x10000, 1, Use::Execute));
+    assert!(rt; image.mem.can(0x12000, 0x3000, Use::Write));
+    assert!(rt; !image.mem.can(0x12000, 1, Use::Execute));
+    // No segment holds the table.
+    assert_eq!(rt; word(&mut image, 0x3f_ffff_ef28), Some(3));
+    assert_eq!(rt; word(&mut image, 0x3f_ffff_ef30), Some(0));
+    Ok(())
+}
+
+#[test]
+fn limits_are_told_apart(rt: HostRuntime) -> Result<(), Fail> {
+    let none = Texts::new(rt.alloc());
+    let mut many = Texts::new(rt.alloc());
+    for _ in 0..4097 {
+        many.push(Bytes::new(rt.alloc()))?;
+    }
+    let one = Part {
+        flags: 5,
+        offset: 0,
+        address: 0x10000,
+        file: 0x100,
+        memory: 0x100,
+    };
+    let large = Part {
+        flags: 5,
+        offset: 0,
+        address: 0x100_0000,
+        file: 0x100,
+        memory: 16_128 * 4096,
+    };
+    let file = with_parts([one, large]);
+    let mut room = Room::new();
+    let refused = loaded(&rt, &mut room, &file, &many, &none).err();
+    assert_eq!(rt; refused, Some(LoadFault::TooManyArgs));
+    let refused = loaded(&rt, &mut room, &file, &none, &none).err();
+    assert_eq!(rt; refused, Some(LoadFault::TooManyPages));
+    Ok(())
+}
