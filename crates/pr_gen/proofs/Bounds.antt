@@ -8,7 +8,7 @@ use Rattle.pr_gen.specs.declared.steps.Arg.{Arg}
 use Rattle.pr_gen.specs.declared.steps.Arg.TheVariants.{Num, Text, List as TextList, Buf, Answer}
 use Rattle.pr_gen.specs.Steps.{texts_of, texts_in, texts, bytes_in, text_room, texts_room, room_of, room_in, room, IsProbe}
 
-bytes_in-append : (ts us : List (List ℕ)) → bytes_in (ts ++ us) ≡ bytes_in ts + bytes_in us
+pub bytes_in-append : (ts us : List (List ℕ)) → bytes_in (ts ++ us) ≡ bytes_in ts + bytes_in us
 bytes_in-append [] us = omega arith
 bytes_in-append (t ∷ ts) us = omega (arith, bytes_in-append ts us)
 

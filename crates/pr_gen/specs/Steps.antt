@@ -27,6 +27,9 @@ abbrev pub bytes_in : List (List ℕ) → ℕ
 bytes_in [] = 0
 bytes_in (t ∷ ts) = length t + bytes_in ts
 
+abbrev pub IsWithoutZeros : List ℕ → Type 0
+IsWithoutZeros t = Contains t 0 → ⊥
+
 -- ---- answers
 
 -- an answer is one of an earlier step
@@ -49,7 +52,7 @@ AreEarlier place (step ∷ rest) = IsStepEarlier place step × AreEarlier (place
 
 pub record IsProbe (steps : List ProbeStep) : Type 0 where
   pub few : length steps ≤ 256
-  pub without_zeros : All (λ t. Contains t 0 → ⊥) (texts steps)
+  pub without_zeros : All IsWithoutZeros (texts steps)
   pub few_texts : length (texts steps) ≤ 65536
   pub few_bytes : bytes_in (texts steps) ≤ 1048576
   pub earlier : AreEarlier 0 steps

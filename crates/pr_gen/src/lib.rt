@@ -9,6 +9,7 @@
 
 mod calls;
 mod code;
+mod conditions;
 mod constants;
 mod data;
 mod file;
@@ -16,6 +17,7 @@ mod instructions;
 mod showing;
 mod steps;
 
+pub use conditions::is_probe;
 pub use file::probe;
 pub use steps::{Arg, ProbeStep, Show, Who};
 
