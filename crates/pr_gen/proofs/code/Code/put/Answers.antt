@@ -1,0 +1,7 @@
+use Rattle.std.proofs.Common.{refl}
+use Rattle.rv_asm.specs.declared.item.Item.TheVariants.{Plain, Jump, Address}
+use Rattle.pr_gen.proofs.Drafts.{kept_item}
+use Rattle.pr_gen.proofs.code.Code.put.Goals as goal
+
+pub invariant_of-self-2 : goal.invariant_of-self-2
+invariant_of-self-2 c = rw c.in_ok-put.ensures.ok (kept_item c.self.inside.asm c.self.inside.size 4 (Plain c.args.i) c.self.invariant tt refl)
