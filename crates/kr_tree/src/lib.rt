@@ -2,5 +2,7 @@
 #![tactic(auto)]
 
 pub mod place;
+pub mod user;
 
 pub use place::{Host, Ino, Place, ProcAt};
+pub use user::{Right, User};

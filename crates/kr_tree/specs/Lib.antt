@@ -1,0 +1,5 @@
+pub mod Changes
+pub mod Lawful
+pub mod Names
+pub mod Rights
+pub mod Tree
