@@ -1,9 +1,9 @@
 -- What a tree keeps, and which moves of an entry keep it.
-use Rattle.std.specs.Prelude.{ℕ, ◌≡◌, ◌≢◌, ◌+◌, ◌≤◌, ◌<◌, true, false, List, [], ◌∷◌, length, map as map_list, Some, None, nat_eq, ◌⊎◌, bytes_eq}
+use Rattle.std.specs.Prelude.{ℕ, ◌≡◌, ◌≢◌, ◌+◌, ◌≤◌, ◌<◌, true, false, List, [], ◌∷◌, length, Some, None, nat_eq, ◌⊎◌}
 use Rattle.std.specs.FinMap as map
-use Rattle.std.specs.List.{AllByRecursion, IsDistinct}
 use Rattle.kr_tree.specs.Tree.{Tree, Inode, Entry, Standing, RegularFile, root, inode, body, body_is, entry, entries, entries_of, above, standing, standing_of, is_directory, is_filled, takes_names, bytes_of}
 use Rattle.kr_tree.specs.Names.{is_name}
+use Rattle.kr_tree.specs.Entries.{Entries, IsListed}
 use Rattle.kr_tree.specs.Changes.{file_limit, byte_limit, count_limit, counted, is_unused}
 
 -- ---- counts
@@ -46,16 +46,9 @@ pub record IsCounted (t : Tree) : Type 0 where
 
 -- ---- one directory
 
--- serials strictly rise from above one up to below another
-abbrev pub RisesWithin : ℕ → ℕ → List Entry → Type 0
-RisesWithin low next [] = low < next
-RisesWithin low next (e ∷ es) = (low < e.serial) × RisesWithin e.serial next es
-
--- a directory's entries have well-formed names, no two the same, and serials that rise from 3 on
-pub record IsListed (x : Inode) : Type 0 where
-  pub rises : RisesWithin 2 x.next_serial (entries_of x.node.body)
-  pub distinct : IsDistinct bytes_eq (map_list (λ e. e.name) (entries_of x.node.body))
-  pub well_formed : AllByRecursion (λ e. is_name e.name ≡ true) (entries_of x.node.body)
+-- the entries of a directory, and the serial that the next one takes
+abbrev pub entries_beside : Inode → Entries
+entries_beside x = record { list = entries_of x.node.body; next = x.next_serial }
 
 -- an entry stands in a list
 abbrev pub IsIn : Entry → List Entry → Type 0
@@ -83,7 +76,7 @@ pub record IsSound (t : Tree) : Type 0 where
   pub numbered : (i : ℕ) (x : Inode) → inode t i ≡ Some x → (0 < i) × (i < t.next)
   -- what is in the tree is named or held
   pub used : (i : ℕ) (x : Inode) → inode t i ≡ Some x → is_unused x ≡ false
-  pub listed : (i : ℕ) (x : Inode) → inode t i ≡ Some x → IsListed x
+  pub listed : (i : ℕ) (x : Inode) → inode t i ≡ Some x → IsListed (entries_beside x)
   -- a directory that was removed has no entries
   pub emptied : (i : ℕ) (x : Inode) → inode t i ≡ Some x → standing_of x.node.body ≡ None → entries_of x.node.body ≡ []
   -- every entry's inode is there

@@ -1,6 +1,7 @@
 //! The tree of inodes on which both machines work.
 #![tactic(auto)]
 
+mod entries;
 pub mod place;
 pub mod user;
 

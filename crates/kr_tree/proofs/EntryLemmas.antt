@@ -1,0 +1,133 @@
+-- Lists of entries after one was added or taken away.
+use Rattle.std.proofs.Common.{◌≡◌, ℕ, ◌+◌, ◌<◌, Bool, true, false, not, cond, List, [], ◌∷◌, ◌++◌, filter, ◌||◌, refl, sym, ap, ◌∙◌, arith, lit<, Some, None, Vec}
+use Rattle.std.specs.Prelude.{bytes_eq}
+use Rattle.std.specs.Option.{option_map}
+use Rattle.std.specs.List.{list_any, AllByRecursion, IsDistinct}
+use Rattle.std.specs.Map.{lookup, remove_entry}
+use Rattle.std.proofs.lemmas.Cmp.{nat_list_eq_equiv}
+use Rattle.std.proofs.lemmas.Map.Keys.{IsDistinct-head, IsDistinct-tail, IsDistinct-cons, IsDistinct-push}
+use Rattle.kr_tree.specs.declared.entries.Slot.{Slot}
+use Rattle.kr_tree.specs.Tree.{Entry, entry_named}
+use Rattle.kr_tree.specs.Names.{is_name}
+use Rattle.kr_tree.specs.Changes.{without_name}
+use Rattle.kr_tree.specs.Entries.{Entries, RisesWithin, names_in, IsListed, slot_of, entry_of, list_of, with_new, without}
+
+-- ---- serials
+
+pub rises_below : (low next : ℕ) (es : List Entry) → RisesWithin low next es → low < next
+rises_below low next [] h = h
+rises_below low next (e ∷ es) h = let rest : e.serial < next = rises_below e.serial next es h.1 in omega (arith, h.0)
+
+rises_from_lower : (low from next : ℕ) (es : List Entry) → low < from → RisesWithin from next es → RisesWithin low next es
+rises_from_lower low from next [] l h = omega arith
+rises_from_lower low from next (e ∷ es) l h = (omega (arith, h.0), h.1)
+
+pub rises-new : (low next i : ℕ) (name : List ℕ) (es : List Entry) → RisesWithin low next es → RisesWithin low (next + 1) (es ++ (record { name = name; serial = next; inode = i }) ∷ [])
+rises-new low next i name [] h = (h, omega arith)
+rises-new low next i name (e ∷ es) h = (h.0, rises-new e.serial next i name es h.1)
+
+pub rises-filter : (p : Entry → Bool) (low next : ℕ) (es : List Entry) → RisesWithin low next es → RisesWithin low next (filter p es)
+rises-filter p low next [] h = h
+rises-filter p low next (e ∷ es) h =
+    let rest = rises-filter p e.serial next es h.1 in
+    elim (p e) as (λ b. RisesWithin low next (cond b (e ∷ filter p es) (filter p es))) [
+      | true ↦ (h.0, rest)
+      | false ↦ rises_from_lower low e.serial next (filter p es) h.0 rest
+    ]
+
+-- ---- names
+
+names-new : (es : List Entry) (e : Entry) → names_in (es ++ e ∷ []) ≡ names_in es ++ e.name ∷ []
+names-new [] e = refl
+names-new (x ∷ es) e = ap (λ r. x.name ∷ r) (names-new es e)
+
+none_named : (name : List ℕ) (es : List Entry) → entry_named name es ≡ None → list_any (bytes_eq name) (names_in es) ≡ false
+none_named name [] h = refl
+none_named name (e ∷ es) h =
+    elim (bytes_eq name e.name) as (λ b. cond b (Some e) (entry_named name es) ≡ None → (b || list_any (bytes_eq name) (names_in es)) ≡ false) [
+      | true ↦ λ h. absurd cc
+      | false ↦ λ h. none_named name es h
+    ] h
+
+pub distinct-new : (es : List Entry) (e : Entry) → entry_named e.name es ≡ None → IsDistinct bytes_eq (names_in es) → IsDistinct bytes_eq (names_in (es ++ e ∷ []))
+distinct-new es e free h =
+    rw (names-new es e) (IsDistinct-push nat_list_eq_equiv (names_in es) e.name h (none_named e.name es free))
+
+all-filter : (P : List ℕ → Type 0) (p : Entry → Bool) (es : List Entry) → AllByRecursion P (names_in es) → AllByRecursion P (names_in (filter p es))
+all-filter P p [] h = h
+all-filter P p (e ∷ es) h =
+    elim (p e) as (λ b. AllByRecursion P (names_in (cond b (e ∷ filter p es) (filter p es)))) [
+      | true ↦ (h.0, all-filter P p es h.1)
+      | false ↦ all-filter P p es h.1
+    ]
+
+distinct-filter : (p : Entry → Bool) (es : List Entry) → IsDistinct bytes_eq (names_in es) → IsDistinct bytes_eq (names_in (filter p es))
+distinct-filter p [] h = h
+distinct-filter p (e ∷ es) h =
+    let rest = distinct-filter p es (IsDistinct-tail bytes_eq e.name (names_in es) h) in
+    let head = all-filter (λ y. bytes_eq e.name y ≡ false) p es (IsDistinct-head bytes_eq e.name (names_in es) h) in
+    elim (p e) as (λ b. IsDistinct bytes_eq (names_in (cond b (e ∷ filter p es) (filter p es)))) [
+      | true ↦ IsDistinct-cons bytes_eq e.name (names_in (filter p es)) head rest
+      | false ↦ rest
+    ]
+
+all-new : (P : List ℕ → Type 0) (es : List Entry) (e : Entry) → P e.name → AllByRecursion P (names_in es) → AllByRecursion P (names_in (es ++ e ∷ []))
+all-new P [] e here h = (here, h)
+all-new P (x ∷ es) e here h = (h.0, all-new P es e here h.1)
+
+-- ---- both
+
+pub listed-new : (name : List ℕ) (i : ℕ) (d : Entries) → is_name name ≡ true → entry_named name d.list ≡ None → IsListed d → IsListed (with_new name i d)
+listed-new name i d well free h = record {
+  rises = rises-new 2 d.next i name d.list h.rises;
+  distinct = distinct-new d.list (record { name = name; serial = d.next; inode = i }) free h.distinct;
+  well_formed = all-new (λ n. is_name n ≡ true) d.list (record { name = name; serial = d.next; inode = i }) well h.well_formed;
+}
+
+pub listed-without : (name : List ℕ) (d : Entries) → IsListed d → IsListed (without name d)
+listed-without name d h = record {
+  rises = rises-filter (λ e. not (bytes_eq name e.name)) 2 d.next d.list h.rises;
+  distinct = distinct-filter (λ e. not (bytes_eq name e.name)) d.list h.distinct;
+  well_formed = all-filter (λ n. is_name n ≡ true) (λ e. not (bytes_eq name e.name)) d.list h.well_formed;
+}
+
+-- ---- what is stored
+
+pub slot-found : {Z : Type 0} (name : List ℕ) (es : List (Vec ℕ Z × Slot)) → lookup (λ (k : Vec ℕ Z). bytes_eq name k.items) es ≡ option_map slot_of (entry_named name (list_of es))
+slot-found name [] = refl
+slot-found name (e ∷ es) =
+    elim (bytes_eq name e.0.items) as (λ b. cond b (Some e.1) (lookup (λ k. bytes_eq name k.items) es) ≡ option_map slot_of (cond b (Some (entry_of e)) (entry_named name (list_of es)))) [
+      | true ↦ refl
+      | false ↦ slot-found name es
+    ]
+
+pub list-new : {Z : Type 0} (es : List (Vec ℕ Z × Slot)) (e : Vec ℕ Z × Slot) → list_of (es ++ e ∷ []) ≡ list_of es ++ entry_of e ∷ []
+list-new [] e = refl
+list-new (x ∷ es) e = ap (λ r. entry_of x ∷ r) (list-new es e)
+
+-- no name of a list is one, so nothing is taken away
+none_without : (name : List ℕ) (es : List Entry) → AllByRecursion (λ n. bytes_eq name n ≡ false) (names_in es) → without_name name es ≡ es
+none_without name [] h = refl
+none_without name (e ∷ es) h =
+    ap (λ b. cond (not b) (e ∷ without_name name es) (without_name name es)) h.0 ∙ ap (λ r. e ∷ r) (none_without name es h.1)
+
+all_alike : (a b : List ℕ) (ns : List (List ℕ)) → bytes_eq a b ≡ true → AllByRecursion (λ n. bytes_eq b n ≡ false) ns → AllByRecursion (λ n. bytes_eq a n ≡ false) ns
+all_alike a b [] e h = h
+all_alike a b (n ∷ ns) e h = (nat_list_eq_equiv.congr a b n e ∙ h.0, all_alike a b ns e h.1)
+
+pub list-without : {Z : Type 0} (name : List ℕ) (es : List (Vec ℕ Z × Slot)) → IsDistinct bytes_eq (names_in (list_of es))
+    → list_of (remove_entry (λ (k : Vec ℕ Z). bytes_eq name k.items) es) ≡ without_name name (list_of es)
+list-without name [] h = refl
+list-without {Z} name (e ∷ es) h =
+    elim (bytes_eq name e.0.items) as (λ b. bytes_eq name e.0.items ≡ b
+    → list_of (cond b es (e ∷ remove_entry (λ (k : Vec ℕ Z). bytes_eq name k.items) es)) ≡ cond (not b) (entry_of e ∷ without_name name (list_of es)) (without_name name (list_of es))) [
+      | true ↦ λ is. sym (none_without name (list_of es) (all_alike name e.0.items (names_in (list_of es)) is (IsDistinct-head bytes_eq e.0.items (names_in (list_of es)) h)))
+      | false ↦ λ _. ap (λ r. entry_of e ∷ r) (list-without name es (IsDistinct-tail bytes_eq e.0.items (names_in (list_of es)) h))
+    ] refl
+
+pub no_slot : {Z : Type 0} (name : List ℕ) (es : List (Vec ℕ Z × Slot)) → entry_named name (list_of es) ≡ None → lookup (λ (k : Vec ℕ Z). bytes_eq name k.items) es ≡ None
+no_slot name es h = slot-found name es ∙ ap (option_map slot_of) h
+
+pub listed-none : IsListed (record { list = []; next = 3 })
+unfolding IsDistinct
+listed-none = record { rises = lit< tt; distinct = tt; well_formed = tt }
