@@ -3,7 +3,8 @@ use Rattle.std.specs.Prelude.{ℕ, ◌+◌, ◌-◌, Bool, true, false, ◌&&◌
 use Rattle.std.specs.FinMap as map
 use Rattle.std.specs.List.{filter}
 use Rattle.std.specs.Option.{option_map_or}
-use Rattle.kr_tree.specs.Tree.{Tree, Inodes, Inode, Body, Directory, RegularFile, SymbolicLink, ProcessDirectory, Entry, Standing, root, inode, entry, is_directory, bytes_of, body_is}
+use Rattle.kr_tree.specs.declared.standing.Standing.{Standing}
+use Rattle.kr_tree.specs.Tree.{Tree, Inodes, Inode, Body, Directory, RegularFile, SymbolicLink, ProcessDirectory, Entry, root, inode, entry, is_directory, bytes_of, body_is}
 
 -- ---- one body
 

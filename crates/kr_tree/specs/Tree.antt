@@ -1,22 +1,18 @@
 -- The tree of inodes, as path_resolution(7) and stat(2) speak of it, and its look-ups.
-use Rattle.std.specs.Prelude.{ℕ, Bool, true, false, List, [], ◌∷◌, map as map_list, Option, Some, None, bytes_eq, nat_lt, ◌⊎◌, refl}
+use Rattle.std.specs.Prelude.{◌≡◌, ℕ, Bool, true, false, List, [], ◌∷◌, map as map_list, Option, Some, None, bytes_eq, nat_lt, ◌⊎◌, refl}
 use Rattle.std.specs.FinMap as map
 use Rattle.std.specs.List.{find}
 use Rattle.std.specs.Option.{option_map, option_map_or, option_and_then}
 use Rattle.std.specs.Ordering.{nat_cmp}
 use Rattle.std.specs.Coded.{Coded, code_by, coded×, coded⊎, coded_ℕ, coded_list, coded_option}
-use Rattle.std.proofs.Common.{inl, inr, ◌≡◌}
+use Rattle.std.proofs.Common.{inl, inr}
+use Rattle.kr_tree.specs.declared.standing.Standing.{Standing}
 
 -- a name in a directory
 pub record Entry : Type 0 where
   pub name : List ℕ
   pub serial : ℕ
   pub inode : ℕ
-
--- where a directory stands: the inode of the directory above it, and the serial of its entry there
-pub record Standing : Type 0 where
-  pub inode : ℕ
-  pub serial : ℕ
 
 pub data Body : Type 0 where
   -- its entries in the order of their serials, and where it stands; a removed one stands nowhere

@@ -1,9 +1,15 @@
 //! The tree of inodes on which both machines work.
 #![tactic(auto)]
 
+mod content;
 mod entries;
+mod inode;
+pub mod node;
 pub mod place;
+pub mod standing;
 pub mod user;
 
+pub use node::{Kind, Meta, Node, TreeRefusal};
 pub use place::{Host, Ino, Place, ProcAt};
+pub use standing::Standing;
 pub use user::{Right, User};

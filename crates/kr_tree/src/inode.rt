@@ -1,0 +1,137 @@
+//! One inode.
+ghost use Rattle.std.specs.Prelude.{◌≡◌, ◌+◌, ◌-◌, ◌^◌, ◌<◌, ◌≤◌, true, false, [], Some, None, OnOk, OnErr, IsOk, IsTrue, ◌↔◌, length};
+ghost use Rattle.std.specs.Option.{option_map, option_copied};
+
+use crate::content::{Content, DirContent};
+use crate::entries::{Entries, Slot};
+use crate::node::{Kind, Meta};
+use crate::place::Ino;
+use crate::standing::Standing;
+use crate::user::{Right, User};
+use pr_base::NoMemory;
+use std::alloc::Global;
+use std::marker::Model;
+
+/// A node with the counts that are kept beside it.
+#[derive(Drop)]
+pub struct Inode {
+    mode: u16,
+    uid: u32,
+    gid: u32,
+    names: u32,
+    holds: u32,
+    content: Content,
+}
+
+impl Model for Inode {
+    ghost use Rattle.kr_tree.specs.Tree.{Inode, inode_code};
+    ghost use Rattle.kr_tree.specs.Stored.{body_stored, next_serial_stored, directories_stored};
+
+    ghost Value = { Inode };
+
+    ghost coded = { inode_code };
+
+    ghost view = { λ x. record { node = record { mode = x.mode; uid = x.uid; gid = x.gid; body = body_stored x.content }; names = x.names; holds = x.holds; next_serial = next_serial_stored x.content; directories = directories_stored x.content } };
+}
+
+impl Inode {
+    ghost use Rattle.kr_tree.specs.Tree.{bytes_of, entry_named, entry_after, entries_of, standing_of, is_directory, file_of, text_of};
+    ghost use Rattle.kr_tree.specs.Rights.{allows};
+    ghost use Rattle.kr_tree.specs.Names.{is_name};
+    ghost use Rattle.kr_tree.specs.Entries.{slot_of};
+    ghost use Rattle.kr_tree.specs.Stored.{kind_of, meta_of};
+    ghost use Rattle.kr_tree.specs.Changes.{with_mode, with_owner, with_names, with_holds, with_entry, without_entry, unnamed, with_body, with_standing, is_unused, counted};
+
+    /// Its kind.
+    pub fn kind(&self) -> Kind
+        ensures { result ≡ kind_of self.now.node.body }
+    {
+        match &self.content {
+            Content::Dir(_) => Kind::Dir,
+            Content::File(_) => Kind::File,
+            Content::Link(_) => Kind::Link,
+            Content::Proc(_) => Kind::Proc,
+        }
+    }
+
+    /// How many bytes a file or a link's text has; 0 of any other.
+    pub fn size(&self) -> u64
+        ensures { result ≡ length (bytes_of self.now.node.body) }
+    {
+        match &self.content {
+            Content::File(bytes) | Content::Link(bytes) => bytes.len() as u64,
+            Content::Dir(_) | Content::Proc(_) => 0,
+        }
+    }
+
+    /// What stat(2) tells of it.
+    pub fn meta(&self) -> Meta
+        ensures { result ≡ meta_of self.now }
+    {
+        Meta {
+            mode: self.mode,
+            uid: self.uid,
+            gid: self.gid,
+            names: self.names,
+            size: self.size(),
+        }
+    }
+
+    /// What is kept at a name of a directory.
+    pub fn find(&self, name: &[u8]) -> Option<Slot>
+        ensures { result ≡ option_map slot_of (entry_named name.now (entries_of self.now.node.body)) }
+    {
+        match &self.content {
+            Content::Dir(dir) => dir.entries.find(name),
+            _ => None,
+        }
+    }
+
+    /// Where a directory stands.
+    pub fn standing(&self) -> Option<Standing>
+        ensures { result ≡ standing_of self.now.node.body }
+    {
+        match &self.content {
+            Content::Dir(dir) => dir.standing,
+            Content::Proc(standing) => *standing,
+            _ => None,
+        }
+    }
+
+    /// The bytes of a file.
+    pub fn file(&self) -> Option<&[u8]>
+        ensures { option_copied result ≡ file_of self.now.node.body }
+    {
+        match &self.content {
+            Content::File(bytes) => Some(bytes.as_slice()),
+            _ => None,
+        }
+    }
+
+    /// The text of a link.
+    pub fn link_text(&self) -> Option<&[u8]>
+        ensures { option_copied result ≡ text_of self.now.node.body }
+    {
+        match &self.content {
+            Content::Link(text) => Some(text.as_slice()),
+            _ => None,
+        }
+    }
+
+    /// Whether nothing names or holds it.
+    pub fn is_unused(&self) -> bool
+        ensures { result ≡ is_unused self.now }
+    {
+        self.names == 0 && self.holds == 0
+    }
+
+    /// How many of a directory's entries are directories.
+    pub fn directories(&self) -> u32
+        ensures { result ≡ self.now.directories }
+    {
+        match &self.content {
+            Content::Dir(dir) => dir.directories,
+            _ => 0,
+        }
+    }
+}
