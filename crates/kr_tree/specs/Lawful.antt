@@ -3,7 +3,7 @@ use Rattle.std.specs.Prelude.{ℕ, zero, suc, ◌≡◌, ◌≢◌, ◌+◌, ◌
 use Rattle.std.specs.FinMap as map
 use Rattle.std.specs.Option.{option_map_or}
 use Rattle.kr_tree.specs.declared.standing.Standing.{Standing}
-use Rattle.kr_tree.specs.Tree.{Tree, Inodes, Inode, Entry, Body, Directory, RegularFile, root, inode, body, body_is, entry, entries, entries_of, above, standing, standing_of, is_directory, is_filled, takes_names, bytes_of}
+use Rattle.kr_tree.specs.Tree.{Tree, Inodes, Inode, Entry, Directory, RegularFile, root, inode, body, body_is, entry, entries, entries_of, above, standing, is_directory, is_filled, takes_names, bytes_of}
 use Rattle.kr_tree.specs.Names.{is_name}
 use Rattle.kr_tree.specs.Entries.{Entries, IsListed}
 use Rattle.kr_tree.specs.Changes.{file_limit, byte_limit, count_limit, counted, is_unused}

@@ -1,6 +1,5 @@
 -- What the stored form of an inode stands for, and what a caller is told of it.
-use Rattle.std.specs.Prelude.{ℕ, ◌+◌, ◌/◌, ◌%◌, Bool, true, false, List, [], length, Option, Some, None}
-use Rattle.kr_tree.specs.declared.standing.Standing.{Standing}
+use Rattle.std.specs.Prelude.{ℕ, [], length, None}
 use Rattle.kr_tree.specs.declared.content.Content.{Content}
 use Rattle.kr_tree.specs.declared.content.Content.TheVariants.{Dir as DirContent, File as FileContent, Link as LinkContent, Proc as ProcContent}
 use Rattle.kr_tree.specs.declared.node.Kind.{Kind}

@@ -128,6 +128,13 @@ is_directory (RegularFile bytes) = false
 is_directory (SymbolicLink text) = false
 is_directory (ProcessDirectory standing) = true
 
+-- whether it keeps entries; the process directory shows those of processes
+abbrev pub is_listed : Body → Bool
+is_listed (Directory entries standing) = true
+is_listed (RegularFile bytes) = false
+is_listed (SymbolicLink text) = false
+is_listed (ProcessDirectory standing) = false
+
 -- whether names can be put into it: a directory proper that wasn't removed
 abbrev pub takes_names : Body → Bool
 takes_names (Directory entries (Some standing)) = true

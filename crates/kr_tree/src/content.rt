@@ -1,7 +1,10 @@
 //! What an inode holds.
+ghost use Rattle.std.specs.Prelude.{◌≡◌, ◌+◌, ◌-◌, ◌^◌, ◌<◌, true, None, OnOk, OnErr};
 
 use crate::entries::Entries;
+use crate::place::Ino;
 use crate::standing::Standing;
+use pr_base::NoMemory;
 
 /// The content of a directory.
 #[derive(Drop)]
@@ -20,4 +23,33 @@ pub enum Content {
     File(Vec<u8>),
     Link(Vec<u8>),
     Proc(Option<Standing>),
+}
+
+impl DirContent {
+    ghost use Rattle.kr_tree.specs.Tree.{entry_named};
+    ghost use Rattle.kr_tree.specs.Names.{is_name};
+    ghost use Rattle.kr_tree.specs.Entries.{with_new, without};
+    ghost use Rattle.kr_tree.specs.Changes.{counted};
+
+    /// One more entry, which may be a directory.
+    pub fn add(&mut self, name: Vec<u8>, inode: Ino, is_dir: bool) -> Result<(), NoMemory>
+        requires well_formed { is_name name.items ≡ true }
+        requires free { entry_named name.items self.old.entries.list ≡ None }
+        requires serials { self.old.entries.next + 1 < 2 ^ 64 }
+        requires directories { self.old.directories + 1 < 2 ^ 32 }
+        ensures ok { OnOk result (self.new ≡ record { entries = with_new name.items inode self.old.entries; standing = self.old.standing; directories = self.old.directories + counted is_dir }) }
+        ensures err { OnErr result (self.new ≡ self.old) }
+    {
+        self.entries.add(name, inode)?;
+        self.directories += u32::from(is_dir);
+        Ok(())
+    }
+
+    /// An entry taken away, which may be a directory.
+    pub fn remove(&mut self, name: &[u8], is_dir: bool)
+        ensures { self.new ≡ record { entries = without name.now self.old.entries; standing = self.old.standing; directories = self.old.directories - counted is_dir } }
+    {
+        self.entries.remove(name);
+        self.directories = self.directories.saturating_sub(u32::from(is_dir));
+    }
 }

@@ -8,7 +8,7 @@ use crate::node::{Kind, Meta};
 use crate::place::Ino;
 use crate::standing::Standing;
 use crate::user::{Right, User};
-use pr_base::NoMemory;
+use pr_base::{NoMemory, bits};
 use std::alloc::Global;
 use std::marker::Model;
 
@@ -35,7 +35,7 @@ impl Model for Inode {
 }
 
 impl Inode {
-    ghost use Rattle.kr_tree.specs.Tree.{bytes_of, entry_named, entry_after, entries_of, standing_of, is_directory, file_of, text_of};
+    ghost use Rattle.kr_tree.specs.Tree.{bytes_of, entry_named, entry_after, entries_of, standing_of, is_listed, is_directory, file_of, text_of};
     ghost use Rattle.kr_tree.specs.Rights.{allows};
     ghost use Rattle.kr_tree.specs.Names.{is_name};
     ghost use Rattle.kr_tree.specs.Entries.{slot_of};
@@ -132,6 +132,108 @@ impl Inode {
         match &self.content {
             Content::Dir(dir) => dir.directories,
             _ => 0,
+        }
+    }
+
+    /// Whether the user has a right to it, by the first class of its mode that fits the user.
+    pub fn allows(&self, user: User, right: Right) -> bool
+        ensures { result ≡ allows user self.now.node right }
+    {
+        let mode = u32::from(self.mode);
+        let class = if user.uid == self.uid {
+            bits::<8, 6>(mode)
+        } else if user.gid == self.gid {
+            bits::<5, 3>(mode)
+        } else {
+            bits::<2, 0>(mode)
+        };
+        let bit = match right {
+            Right::Read => bits::<2, 2>(class),
+            Right::Write => bits::<1, 1>(class),
+            Right::Search => bits::<0, 0>(class),
+        };
+        bit == 1
+    }
+
+    pub fn set_mode(&mut self, mode: u16)
+        ensures { self.new ≡ with_mode mode self.old }
+    {
+        self.mode = mode;
+    }
+
+    pub fn set_owner(&mut self, uid: u32, gid: u32)
+        ensures { self.new ≡ with_owner uid gid self.old }
+    {
+        self.uid = uid;
+        self.gid = gid;
+    }
+
+    /// One more hold.
+    pub fn hold(&mut self)
+        requires { self.old.holds + 1 < 2 ^ 32 }
+        ensures { self.new ≡ with_holds (λ n. n + 1) self.old }
+    {
+        self.holds += 1;
+    }
+
+    /// One hold less.
+    pub fn release(&mut self)
+        requires { 0 < self.old.holds }
+        ensures { self.new ≡ with_holds (λ n. n - 1) self.old }
+    {
+        self.holds -= 1;
+    }
+
+    /// One more name.
+    pub fn add_name(&mut self)
+        requires { self.old.names + 1 < 2 ^ 32 }
+        ensures { self.new ≡ with_names (λ n. n + 1) self.old }
+    {
+        self.names += 1;
+    }
+
+    /// One name less; a directory then stands nowhere.
+    pub fn remove_name(&mut self)
+        requires { 0 < self.old.names }
+        ensures { self.new ≡ unnamed self.old }
+    {
+        self.names -= 1;
+        self.stand(None);
+    }
+
+    /// Another place for a directory.
+    pub fn stand(&mut self, standing: Option<Standing>)
+        ensures { self.new ≡ with_body (with_standing standing) self.old }
+    {
+        match &mut self.content {
+            Content::Dir(dir) => dir.standing = standing,
+            Content::Proc(old) => *old = standing,
+            _ => {}
+        }
+    }
+
+    /// One more entry of a directory.
+    pub fn add_entry(&mut self, name: Vec<u8>, inode: Ino, is_dir: bool) -> Result<(), NoMemory>
+        requires directory { IsTrue (is_listed self.old.node.body) }
+        requires well_formed { is_name name.items ≡ true }
+        requires free { entry_named name.items (entries_of self.old.node.body) ≡ None }
+        requires serials { self.old.next_serial + 1 < 2 ^ 64 }
+        requires directories { self.old.directories + 1 < 2 ^ 32 }
+        ensures ok { OnOk result (self.new ≡ with_entry name.items inode is_dir self.old) }
+        ensures err { OnErr result (self.new ≡ self.old) }
+    {
+        match &mut self.content {
+            Content::Dir(dir) => dir.add(name, inode, is_dir),
+            _ => unreachable!(),
+        }
+    }
+
+    /// An entry of a directory taken away.
+    pub fn remove_entry(&mut self, name: &[u8], is_dir: bool)
+        ensures { self.new ≡ without_entry name.now is_dir self.old }
+    {
+        if let Content::Dir(dir) = &mut self.content {
+            dir.remove(name, is_dir);
         }
     }
 }

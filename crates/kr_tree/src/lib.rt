@@ -7,6 +7,7 @@ mod inode;
 pub mod node;
 pub mod place;
 pub mod standing;
+mod store;
 pub mod user;
 
 pub use node::{Kind, Meta, Node, TreeRefusal};

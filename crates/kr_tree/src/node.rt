@@ -43,6 +43,11 @@ pub enum TreeRefusal {
 }
 
 impl From<NoMemory> for TreeRefusal {
+    ghost use Rattle.std.specs.Prelude.{◌≡◌};
+    ghost use Rattle.kr_tree.specs.declared.node.TreeRefusal.TheVariants.{NoMemory as RefusedForMemory};
+
+    ghost from_gives = { λ error refusal. refusal ≡ RefusedForMemory };
+
     fn from(_error: NoMemory) -> TreeRefusal {
         TreeRefusal::NoMemory
     }
