@@ -84,3 +84,18 @@ with_inode_id m k =
     same : (o : Option Inode) → option_map (λ x. x) o ≡ o
     same None = refl
     same (Some x) = refl
+
+-- a number at which nothing is, and one at which something is, differ
+pub apart : (m : Inodes) (i k : ℕ) → map.get m i ≡ None → is_some (map.get m k) ≡ true → k ≢ i
+apart m i k none there e = let no : false ≡ true = sym (ap is_some (ap (map.get m) e ∙ none)) ∙ there in absurd cc
+
+-- a change at one number and a new inode at another, in either order
+pub with-insert : (m : Inodes) (k i : ℕ) (f : Inode → Inode) (x : Inode) → k ≢ i → with_inode k f (map.insert m i x) ≡ map.insert (with_inode k f m) i x
+with-insert m k i f x h =
+    same_inodes _ _ (by_inode (λ q. map.get (with_inode k f (map.insert m i x)) q ≡ map.get (map.insert (with_inode k f m) i x) q) k
+    (get-with_same (map.insert m i x) k f ∙ ap (option_map f) (get-insert_other m i x k h)
+    ∙ sym (get-insert_other (with_inode k f m) i x k h ∙ get-with_same m k f))
+    (λ q other. get-with_other (map.insert m i x) k f q other
+    ∙ by_inode (λ q. q ≢ k → map.get (map.insert m i x) q ≡ map.get (map.insert (with_inode k f m) i x) q) i
+    (λ _. get-insert_same m i x ∙ sym (get-insert_same (with_inode k f m) i x))
+    (λ q away other. get-insert_other m i x q away ∙ sym (get-with_other m k f q other) ∙ sym (get-insert_other (with_inode k f m) i x q away)) q other))

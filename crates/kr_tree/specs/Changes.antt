@@ -1,5 +1,5 @@
 -- What each change of a tree leaves: all that isn't said here stays as it was.
-use Rattle.std.specs.Prelude.{ℕ, ◌+◌, ◌-◌, Bool, true, false, ◌&&◌, ◌||◌, not, List, [], ◌∷◌, ◌++◌, length, take, drop, replicate, Option, Some, None, bytes_eq, nat_eq, nat_lt, if◌then◌else◌}
+use Rattle.std.specs.Prelude.{ℕ, ◌+◌, ◌-◌, Bool, true, false, ◌&&◌, ◌||◌, not, List, [], ◌∷◌, ◌++◌, length, take, drop, replicate, Option, Some, None, bytes_eq, nat_eq, nat_le, nat_lt, if◌then◌else◌}
 use Rattle.std.specs.FinMap as map
 use Rattle.std.specs.List.{filter}
 use Rattle.std.specs.Option.{option_map_or}
@@ -275,3 +275,11 @@ is_too_big (ProcessDirectory standing) = false
 -- whether the numbers of a tree pass a limit
 abbrev pub passes_limit : Tree → Bool
 passes_limit t = nat_lt count_limit (map.len t.inodes) || nat_lt count_limit t.names || nat_lt byte_limit t.bytes
+
+-- whether there is no room for one inode more, with a name and so many bytes
+abbrev pub has_no_room : ℕ → Tree → Bool
+has_no_room size t = nat_le count_limit (map.len t.inodes) || nat_le count_limit t.names || nat_lt byte_limit (t.bytes + size)
+
+-- whether there is no room for one name more
+abbrev pub has_no_name_left : Tree → Bool
+has_no_name_left t = nat_le count_limit t.names

@@ -1,10 +1,12 @@
 //! What an inode holds.
-ghost use Rattle.std.specs.Prelude.{◌≡◌, ◌+◌, ◌-◌, ◌^◌, ◌<◌, true, None, OnOk, OnErr};
+ghost use Rattle.std.specs.Prelude.{◌≡◌, ◌+◌, ◌-◌, ◌^◌, ◌<◌, true, Some, None, OnOk, OnErr};
 
 use crate::entries::Entries;
+use crate::node::Node;
 use crate::place::Ino;
 use crate::standing::Standing;
 use pr_base::NoMemory;
+use std::alloc::Global;
 
 /// The content of a directory.
 #[derive(Drop)]
@@ -51,5 +53,28 @@ impl DirContent {
     {
         self.entries.remove(name);
         self.directories = self.directories.saturating_sub(u32::from(is_dir));
+    }
+}
+
+impl Content {
+    ghost use Rattle.kr_tree.specs.Changes.{with_standing};
+    ghost use Rattle.kr_tree.specs.Stored.{body_stored, next_serial_stored, directories_stored, body_of_new};
+
+    /// The content of a new node, which stands somewhere if it is a directory.
+    pub fn new(alloc: Global, node: Node, standing: Standing) -> Content
+        ensures body { body_stored result ≡ with_standing (Some standing) (body_of_new node) }
+        ensures serials { next_serial_stored result ≡ 3 }
+        ensures directories { directories_stored result ≡ 0 }
+    {
+        match node {
+            Node::Dir => Content::Dir(DirContent {
+                entries: Entries::new(alloc),
+                standing: Some(standing),
+                directories: 0,
+            }),
+            Node::File(bytes) => Content::File(bytes.into_vec()),
+            Node::Link(text) => Content::Link(text.into_vec()),
+            Node::Proc => Content::Proc(Some(standing)),
+        }
     }
 }

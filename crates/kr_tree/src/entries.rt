@@ -58,6 +58,13 @@ impl Entries {
         self.by_name.is_empty()
     }
 
+    /// The serial that the next entry takes.
+    pub fn next_serial(&self) -> u64
+        ensures { result ≡ self.now.next }
+    {
+        self.next
+    }
+
     /// What is kept at a name.
     pub fn find(&self, name: &[u8]) -> Option<Slot>
         ensures { result ≡ option_map slot_of (entry_named name.now self.now.list) }

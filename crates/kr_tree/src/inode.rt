@@ -4,7 +4,7 @@ ghost use Rattle.std.specs.Option.{option_map, option_copied};
 
 use crate::content::{Content, DirContent};
 use crate::entries::{Entries, Slot};
-use crate::node::{Kind, Meta};
+use crate::node::{Kind, Meta, Node};
 use crate::place::Ino;
 use crate::standing::Standing;
 use crate::user::{Right, User};
@@ -39,8 +39,22 @@ impl Inode {
     ghost use Rattle.kr_tree.specs.Rights.{allows};
     ghost use Rattle.kr_tree.specs.Names.{is_name};
     ghost use Rattle.kr_tree.specs.Entries.{slot_of};
-    ghost use Rattle.kr_tree.specs.Stored.{kind_of, meta_of};
-    ghost use Rattle.kr_tree.specs.Changes.{with_mode, with_owner, with_names, with_holds, with_entry, without_entry, unnamed, with_body, with_standing, is_unused, counted};
+    ghost use Rattle.kr_tree.specs.Stored.{kind_of, meta_of, body_of_new};
+    ghost use Rattle.kr_tree.specs.Changes.{with_mode, with_owner, with_names, with_holds, with_entry, without_entry, unnamed, with_body, with_standing, is_unused, counted, fresh};
+
+    /// A new inode with one name, by what a caller hands in and where it stands if it is a directory.
+    pub fn new(alloc: Global, node: Node, meta: Meta, standing: Standing) -> Inode
+        ensures { result ≡ fresh meta.mode meta.uid meta.gid (with_standing (Some standing) (body_of_new node)) }
+    {
+        Inode {
+            mode: meta.mode,
+            uid: meta.uid,
+            gid: meta.gid,
+            names: 1,
+            holds: 0,
+            content: Content::new(alloc, node, standing),
+        }
+    }
 
     /// Its kind.
     pub fn kind(&self) -> Kind
@@ -123,6 +137,16 @@ impl Inode {
         ensures { result ≡ is_unused self.now }
     {
         self.names == 0 && self.holds == 0
+    }
+
+    /// The serial that a directory's next entry takes.
+    pub fn next_serial(&self) -> u64
+        ensures { result ≡ self.now.next_serial }
+    {
+        match &self.content {
+            Content::Dir(dir) => dir.entries.next_serial(),
+            _ => 3,
+        }
     }
 
     /// How many of a directory's entries are directories.

@@ -32,6 +32,43 @@ pub enum Node {
     Proc,
 }
 
+/// The most bytes of one file.
+const FILE_LIMIT: usize = 16_777_216;
+
+impl Node {
+    ghost use Rattle.std.specs.Prelude.{◌≡◌, length};
+    ghost use Rattle.kr_tree.specs.Tree.{is_directory, bytes_of};
+    ghost use Rattle.kr_tree.specs.Changes.{is_too_big};
+    ghost use Rattle.kr_tree.specs.Stored.{body_of_new};
+
+    /// Whether it is a directory, as the process directory is.
+    pub fn is_directory(&self) -> bool
+        ensures { result ≡ is_directory (body_of_new self.now) }
+    {
+        matches!(self, Node::Dir | Node::Proc)
+    }
+
+    /// How many bytes it has.
+    pub fn size(&self) -> u64
+        ensures { result ≡ length (bytes_of (body_of_new self.now)) }
+    {
+        match self {
+            Node::File(bytes) | Node::Link(bytes) => bytes.len() as u64,
+            Node::Dir | Node::Proc => 0,
+        }
+    }
+
+    /// Whether it is a file with too many bytes.
+    pub fn is_too_big(&self) -> bool
+        ensures { result ≡ is_too_big (body_of_new self.now) }
+    {
+        match self {
+            Node::File(bytes) => FILE_LIMIT < bytes.len(),
+            _ => false,
+        }
+    }
+}
+
 /// Why a tree refuses a change, which leaves it as it was.
 #[derive(Clone, Copy, Debug, PartialEq, Eq)]
 pub enum TreeRefusal {

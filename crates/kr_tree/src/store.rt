@@ -1,5 +1,5 @@
 //! The inodes by their numbers.
-ghost use Rattle.std.specs.Prelude.{◌≡◌, ◌+◌, ◌-◌, ◌^◌, ◌<◌, true, false, Some, None, OnOk, OnErr, IsTrue, IfSome};
+ghost use Rattle.std.specs.Prelude.{◌≡◌, ◌+◌, ◌-◌, ◌^◌, ◌<◌, true, false, Some, None, OnOk, OnErr, IsTrue, IfSome, IsSome};
 ghost use Rattle.std.specs.FinMap as map;
 ghost use Rattle.std.specs.Option.{option_copied, option_map_or};
 
@@ -166,5 +166,33 @@ impl Store {
             Some(directory) => directory.add_entry(name, inode, is_dir),
             None => Ok(()),
         }
+    }
+
+    /// Puts a new inode at a free number, and an entry for it into a directory. Where memory is
+    /// wanting nothing changes.
+    pub fn put(
+        &mut self,
+        dir: Ino,
+        name: Vec<u8>,
+        ino: Ino,
+        inode: Inode,
+        is_dir: bool,
+    ) -> Result<(), NoMemory>
+        requires new { map.get self.old ino ≡ None }
+        requires there { IsSome (map.get self.old dir) }
+        requires directory { IfSome (map.get self.old dir) (λ x. IsTrue (is_listed x.node.body)) }
+        requires well_formed { is_name name.items ≡ true }
+        requires free { IfSome (map.get self.old dir) (λ x. entry_named name.items (entries_of x.node.body) ≡ None) }
+        requires serials { IfSome (map.get self.old dir) (λ x. x.next_serial + 1 < 2 ^ 64) }
+        requires directories { IfSome (map.get self.old dir) (λ x. x.directories + 1 < 2 ^ 32) }
+        ensures ok { OnOk result (self.new ≡ map.insert (with_inode dir (with_entry name.items ino is_dir) self.old) ino inode) }
+        ensures err { OnErr result (self.new ≡ self.old) }
+    {
+        self.insert(ino, inode)?;
+        let added = self.add_entry(dir, name, ino, is_dir);
+        if added.is_err() {
+            self.remove(ino);
+        }
+        added
     }
 }

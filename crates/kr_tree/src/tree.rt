@@ -1,0 +1,157 @@
+//! The tree.
+ghost use Rattle.std.specs.Prelude.{◌≡◌, ◌+◌, ◌-◌, ◌^◌, ◌<◌, ◌↔◌, ◌&&◌, not, true, false, Some, None, OnOk, OnErr, IfOk, IsErrOf, IsTrue, IfSome};
+ghost use Rattle.std.specs.Option.{option_map, option_map_or, option_and_then, option_copied};
+
+use crate::inode::Inode;
+use crate::node::{Kind, Meta, Node, TreeRefusal};
+use crate::place::Ino;
+use crate::standing::Standing;
+use crate::store::Store;
+use crate::user::{Right, User};
+use pr_base::NoMemory;
+use std::alloc::Global;
+use std::marker::Model;
+
+/// The number of the root.
+pub const ROOT: Ino = 1;
+
+/// The most inodes, and the most names, the root's apart.
+const COUNT_LIMIT: u32 = 1_048_576;
+
+/// The most bytes of files and links' texts in all.
+const BYTE_LIMIT: u64 = 268_435_456;
+
+/// A tree of inodes: directories, files, links and at most one way to each directory. A proof sees
+/// it as a finite map of inodes by their numbers.
+#[derive(Drop)]
+pub struct Tree {
+    store: Store,
+    next: Ino,
+    names: u32,
+    bytes: u64,
+    alloc: Global,
+}
+
+impl Model for Tree {
+    ghost use Rattle.kr_tree.specs.Tree.{Tree, tree_code};
+    ghost use Rattle.kr_tree.specs.Lawful.{IsSound, IsCounted};
+
+    ghost Value = { Tree };
+
+    ghost coded = { tree_code };
+
+    ghost view = { λ t. record { inodes = t.store; next = t.next; names = t.names; bytes = t.bytes } };
+
+    ghost invariant = { λ t. IsSound (record { inodes = t.store; next = t.next; names = t.names; bytes = t.bytes }) × IsCounted (record { inodes = t.store; next = t.next; names = t.names; bytes = t.bytes }) };
+}
+
+impl Tree {
+    ghost use Rattle.kr_tree.specs.Tree.{inode, body, entry, above, body_is, takes_names, file_of, text_of, entry_named, entries_of};
+    ghost use Rattle.kr_tree.specs.Rights.{may};
+    ghost use Rattle.kr_tree.specs.Names.{is_name};
+    ghost use Rattle.kr_tree.specs.Stored.{kind_of, meta_of, body_of_new};
+    ghost use Rattle.kr_tree.specs.Changes.{new_tree, added, next_serial, is_too_big, has_no_room};
+    ghost use Rattle.kr_tree.specs.Lawful.{IsSound, IsCounted};
+
+    /// A tree with a root alone, by the mode, owner and group of `root`.
+    pub fn new(alloc: Global, root: Meta) -> Result<Tree, NoMemory>
+        ensures { IfOk result (λ tree. tree ≡ new_tree root.mode root.uid root.gid) }
+    {
+        let standing = Standing {
+            inode: ROOT,
+            serial: 0,
+        };
+        let mut store = Store::new(alloc);
+        store.insert(ROOT, Inode::new(alloc, Node::Dir, root, standing))?;
+        Ok(Tree {
+            store,
+            next: ROOT + 1,
+            names: 0,
+            bytes: 0,
+            alloc,
+        })
+    }
+
+    /// What holds of every tree.
+    pub fn is_sound(&self)
+        ensures sound { IsSound self.now }
+        ensures counted { IsCounted self.now }
+    {
+        let _ = &self.next;
+    }
+
+    /// The kind of an inode; `None` exactly where it isn't there.
+    pub fn kind(&self, ino: Ino) -> Option<Kind>
+        ensures { result ≡ option_map kind_of (body self.now ino) }
+    {
+        match self.store.get(ino) {
+            Some(inode) => Some(inode.kind()),
+            None => None,
+        }
+    }
+
+    /// What stat(2) tells of an inode; `None` exactly where it isn't there.
+    pub fn meta(&self, ino: Ino) -> Option<Meta>
+        ensures { result ≡ option_map meta_of (inode self.now ino) }
+    {
+        match self.store.get(ino) {
+            Some(inode) => Some(inode.meta()),
+            None => None,
+        }
+    }
+
+    /// The inode of a name in a directory; `None` exactly where there is no such entry.
+    pub fn entry(&self, dir: Ino, name: &[u8]) -> Option<Ino>
+        ensures { result ≡ entry self.now dir name.now }
+    {
+        match self.store.get(dir)?.find(name) {
+            Some(slot) => Some(slot.inode),
+            None => None,
+        }
+    }
+
+    /// The inode above a directory or the process directory; `None` exactly where it is neither or
+    /// was removed. Above the root is the root.
+    pub fn above(&self, dir: Ino) -> Option<Ino>
+        ensures { result ≡ above self.now dir }
+    {
+        match self.store.get(dir)?.standing() {
+            Some(standing) => Some(standing.inode),
+            None => None,
+        }
+    }
+
+    /// Whether the inode is there and the user has a right to it.
+    pub fn may(&self, user: User, ino: Ino, right: Right) -> bool
+        ensures { result ≡ may self.now user ino right }
+    {
+        match self.store.get(ino) {
+            Some(inode) => inode.allows(user, right),
+            None => false,
+        }
+    }
+
+    /// The bytes of a file; `None` exactly where it is no file.
+    pub fn file(&self, ino: Ino) -> Option<&[u8]>
+        ensures { option_copied result ≡ option_and_then file_of (body self.now ino) }
+    {
+        self.store.get(ino)?.file()
+    }
+
+    /// The text of a link; `None` exactly where it is no link.
+    pub fn link_text(&self, ino: Ino) -> Option<&[u8]>
+        ensures { option_copied result ≡ option_and_then text_of (body self.now ino) }
+    {
+        self.store.get(ino)?.link_text()
+    }
+
+    /// How many of a directory's entries are directories, the process directory among them.
+    pub fn directories(&self, dir: Ino) -> u32
+        ensures { result ≡ option_map_or (λ x. x.directories) (inode self.now dir) 0 }
+    {
+        match self.store.get(dir) {
+            Some(inode) => inode.directories(),
+            None => 0,
+        }
+    }
+}
