@@ -122,3 +122,8 @@ there t sound counts dir e h =
     counts_entries : (i : ℕ) (o : Option Inode) → value (λ x. count_in i (entries_of x.node.body)) o ≡ count_in i (option_map_or (λ x. entries_of x.node.body) o [])
     counts_entries i None = refl
     counts_entries i (Some x) = refl
+
+pub sum-zero : (f : Inode → ℕ) (m : Inodes) (k : ℕ) → ((q : ℕ) → value f (map.get m q) ≡ 0) → sum_below f m k ≡ 0
+unfolding sum_below
+sum-zero f m zero h = refl
+sum-zero f m (suc k) h = let here = h k in let rest = sum-zero f m k h in omega arith
