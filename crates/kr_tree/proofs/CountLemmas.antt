@@ -1,11 +1,12 @@
 -- Sums over the inodes, and counts of entries.
 use Rattle.std.specs.FinMap as map
-use Rattle.std.proofs.Common.{◌≡◌, ◌≢◌, ◌⊎◌, inl, inr, subst, ℕ, zero, suc, ◌+◌, ◌≤◌, ◌<◌, Bool, true, false, List, [], ◌∷◌, ◌++◌, refl, sym, ap, ◌∙◌, arith, Option, Some, None, nat_eq, eq-eqb, add-one}
-use Rattle.std.specs.Option.{option_map_or}
+use Rattle.std.proofs.Common.{◌≡◌, ◌≢◌, ◌⊎◌, inl, inr, subst, ℕ, zero, suc, ◌+◌, ◌≤◌, ◌<◌, List, [], ◌∷◌, ◌++◌, refl, sym, ap, ◌∙◌, arith, Option, Some, None, nat_eq, eq-eqb, add-one}
+use Rattle.std.specs.Option.{option_map, option_map_or, option_and_then}
+use Rattle.kr_tree.specs.declared.standing.Standing.{Standing}
 use Rattle.std.proofs.lemmas.Bool.{cases_eq, ne_eqb}
-use Rattle.kr_tree.specs.Tree.{Tree, Inode, Inodes, Entry, inode, entries, entries_of, body_is, is_directory}
+use Rattle.kr_tree.specs.Tree.{Tree, Inode, Inodes, Entry, root, inode, entries, entries_of, standing, standing_of, above, body_is, is_directory}
 use Rattle.kr_tree.specs.Changes.{counted}
-use Rattle.kr_tree.specs.Lawful.{sum_below, total, count_in, directories_in, names_of, IsIn, IsCounted, IsSound, HasItsInodes}
+use Rattle.kr_tree.specs.Lawful.{sum_below, count_in, directories_in, IsIn, IsCounted, IsSound, HasItsInodes}
 
 -- what f gives at a number, and 0 where nothing is there
 abbrev pub value : (Inode → ℕ) → Option Inode → ℕ
@@ -98,7 +99,7 @@ directories-new t (x ∷ es) e = let rest = directories-new t es e in omega arit
 
 -- ---- what is counted is there
 
-entries_there : (t : Tree) (dir : ℕ) (e : Entry) → IsIn e (entries t dir) → (x : Inode) × (inode t dir ≡ Some x)
+pub entries_there : (t : Tree) (dir : ℕ) (e : Entry) → IsIn e (entries t dir) → (x : Inode) × (inode t dir ≡ Some x)
 entries_there t dir e h =
     elim (inode t dir) as (λ o. IsIn e (option_map_or (λ x. entries_of x.node.body) o []) → (x : Inode) × (o ≡ Some x)) [
       | None ↦ λ h. absurd h
@@ -127,3 +128,33 @@ pub sum-zero : (f : Inode → ℕ) (m : Inodes) (k : ℕ) → ((q : ℕ) → val
 unfolding sum_below
 sum-zero f m zero h = refl
 sum-zero f m (suc k) h = let here = h k in let rest = sum-zero f m k h in omega arith
+
+-- ---- what is above is there
+
+root_there : (o : Option Inode) (s : Standing) → option_and_then (λ x. standing_of x.node.body) o ≡ Some s → (x : Inode) × (o ≡ Some x)
+root_there None s h = absurd cc
+root_there (Some x) s h = (x, refl)
+
+pub standing_there : (t : Tree) → IsSound t → (q : ℕ) (s : Standing) → standing t q ≡ Some s → (x : Inode) × (inode t s.inode ≡ Some x)
+standing_there t sound q s is =
+    elim (cases_eq q root) [
+      | inl e ↦
+          let at_root : standing t root ≡ Some s = ap (standing t) (sym e) ∙ is in
+          let same : s.inode ≡ root = let both : Some s ≡ Some (record { inode = root; serial = 0 }) = sym at_root ∙ sound.rooted in root_of s both in
+          let P : ℕ → Type 0 = λ k. (x : Inode) × (inode t k ≡ Some x) in
+          subst P (sym same) (root_there (inode t root) s at_root)
+      | inr d ↦ entries_there t s.inode (record { name = (sound.stands q s d is).0; serial = s.serial; inode = q }) (sound.stands q s d is).1
+    ]
+  where
+    root_of : (s : Standing) → Some s ≡ Some (record { inode = root; serial = 0 }) → s.inode ≡ root
+    root_of s h = ap (λ o. option_map_or (λ s. s.inode) o 0) h
+
+pub above_there : (t : Tree) → IsSound t → (q up : ℕ) → above t q ≡ Some up → (x : Inode) × (inode t up ≡ Some x)
+above_there t sound q up h =
+    elim (standing t q) as (λ o. standing t q ≡ o → option_map (λ s. s.inode) o ≡ Some up → (x : Inode) × (inode t up ≡ Some x)) [
+      | None ↦ λ _ h. absurd cc
+      | Some s ↦ λ is h.
+          let e : s.inode ≡ up = ap (λ o. option_map_or (λ k. k) o 0) h in
+          let P : ℕ → Type 0 = λ k. (x : Inode) × (inode t k ≡ Some x) in
+          subst P e (standing_there t sound q s is)
+    ] refl h

@@ -1,18 +1,18 @@
 -- A tree with a root alone.
 use Rattle.std.specs.FinMap as map
-use Rattle.std.proofs.Common.{◌≡◌, ◌≢◌, inl, inr, subst, ℕ, ◌+◌, ◌≤◌, ◌<◌, Bool, true, false, List, [], ◌∷◌, length, refl, sym, ap, ◌∙◌, arith, cond, Option, Some, None, is_some, lit<, lit≤, nat_eq}
+use Rattle.std.proofs.Common.{◌≡◌, ◌≢◌, inl, inr, subst, ℕ, ◌+◌, true, false, List, [], length, refl, sym, ap, ◌∙◌, arith, cond, Option, Some, None, is_some, lit≤}
 use Rattle.std.specs.Option.{option_map, option_map_or, option_and_then}
 use Rattle.std.specs.Ordering.{nat_cmp}
 use Rattle.std.specs.Cmp.{nat_cmp_total}
 use Rattle.std.proofs.lemmas.Bool.{cases_eq}
 use Rattle.kr_tree.specs.declared.standing.Standing.{Standing}
-use Rattle.kr_tree.specs.Tree.{Tree, Inode, Inodes, Entry, Body, Directory, RegularFile, root, inode, entries, entries_of, standing, standing_of, body_is, is_directory, body, bytes_of}
+use Rattle.kr_tree.specs.Tree.{Tree, Inode, Entry, Directory, RegularFile, root, inode, entries, entries_of, standing_of, is_directory, is_listed, body, bytes_of}
 use Rattle.kr_tree.specs.Entries.{IsListed}
-use Rattle.kr_tree.specs.Changes.{fresh, new_tree, is_unused, counted}
+use Rattle.kr_tree.specs.Changes.{fresh, new_tree, is_unused}
 use Rattle.kr_tree.specs.Lawful.{IsSound, IsCounted, RisesToEnd, AtRoot, IsIn, entries_beside, count_in, directories_in, names_of, total}
 use Rattle.kr_tree.proofs.InodesLemmas.{get-insert_same, get-insert_other, by_inode}
 use Rattle.kr_tree.proofs.EntryLemmas.{listed-none}
-use Rattle.kr_tree.proofs.CountLemmas.{value, sum-zero, counted-same, counted-other}
+use Rattle.kr_tree.proofs.CountLemmas.{value, sum-zero, counted-other}
 
 root_standing : Option Standing
 root_standing = Some (record { inode = root; serial = 0 })
@@ -51,7 +51,8 @@ module _ (mode uid gid : ℕ) where
 
   pub sound-new_tree : IsSound t
   sound-new_tree = record {
-    rooted = ap (option_map (λ y. y.node.body)) here ∙ ap (λ es. Some (Directory es (Some (record { inode = root; serial = 0 })))) (sym (no_entries root));
+    rooted = ap (option_and_then (λ y. standing_of y.node.body)) here;
+    root_listed = ap (λ o. option_map_or (λ y. is_listed y.node.body) o false) here;
     numbered = λ i y h. let is = (only i y h).0 in (omega arith, omega arith);
     used = λ i y h. ap is_unused (only i y h).1;
     listed = λ i y h. let P : Inode → Type 0 = λ y. IsListed (entries_beside y) in subst P (sym (only i y h).1) listed-none;

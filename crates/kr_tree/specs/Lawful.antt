@@ -3,7 +3,7 @@ use Rattle.std.specs.Prelude.{ℕ, zero, suc, ◌≡◌, ◌≢◌, ◌+◌, ◌
 use Rattle.std.specs.FinMap as map
 use Rattle.std.specs.Option.{option_map_or}
 use Rattle.kr_tree.specs.declared.standing.Standing.{Standing}
-use Rattle.kr_tree.specs.Tree.{Tree, Inodes, Inode, Entry, Directory, RegularFile, root, inode, body, body_is, entry, entries, entries_of, above, standing, is_directory, is_filled, takes_names, bytes_of}
+use Rattle.kr_tree.specs.Tree.{Tree, Inodes, Inode, Entry, RegularFile, root, inode, body, body_is, entry, entries, entries_of, above, standing, is_directory, is_listed, is_filled, takes_names, bytes_of}
 use Rattle.kr_tree.specs.Names.{is_name}
 use Rattle.kr_tree.specs.Entries.{Entries, IsListed}
 use Rattle.kr_tree.specs.Changes.{file_limit, byte_limit, count_limit, counted, is_unused}
@@ -64,7 +64,8 @@ pub data IsBelow (t : Tree) (top : ℕ) : ℕ → Type 0 where
 
 pub record IsSound (t : Tree) : Type 0 where
   -- the root is a directory that stands in itself
-  pub rooted : body t root ≡ Some (Directory (entries t root) (Some (record { inode = root; serial = 0 })))
+  pub rooted : standing t root ≡ Some (record { inode = root; serial = 0 })
+  pub root_listed : body_is is_listed t root ≡ true
   -- numbers are drawn in order
   pub numbered : (i : ℕ) (x : Inode) → inode t i ≡ Some x → (0 < i) × (i < t.next)
   -- what is in the tree is named or held

@@ -1,5 +1,5 @@
 use Rattle.std.specs.FinMap as map
-use Rattle.std.proofs.Common.{◌≡◌, true, ◌∙◌, ap, sym, subst, ℕ, ◌+◌, ◌<◌, ◌^◌, Option, Some, None}
+use Rattle.std.proofs.Common.{◌≡◌, ◌∙◌, ap, sym, subst, ◌+◌, ◌<◌, ◌^◌, Option, None}
 use Rattle.std.specs.Prelude.{IfSome, IsTrue}
 use Rattle.kr_tree.specs.Tree.{Inode, is_listed, entry_named, entries_of}
 use Rattle.kr_tree.specs.Changes.{with_inode, with_entry}
