@@ -340,3 +340,14 @@ module _ (t : Tree) (sound : IsSound t) (counts : IsCounted t) (dir : ℕ) (name
         let before = counts.all_bytes in
         omega arith;
   }
+
+-- the same of what the code leaves
+pub kept-added : (t : Tree) → IsSound t → IsCounted t → (dir : ℕ) (name : List ℕ) (mode uid gid : ℕ) (b : Body)
+    → body_is takes_names t dir ≡ true → is_name name ≡ true → entry t dir name ≡ None → entries_of b ≡ [] → is_too_big b ≡ false → (size : ℕ) → size ≡ length (bytes_of b) → has_no_room size t ≡ false
+    → (m : Inodes) → m ≡ (added dir name mode uid gid b t).inodes
+    → IsSound (record { inodes = m; next = t.next + 1; names = t.names + 1; bytes = t.bytes + size }) × IsCounted (record { inodes = m; next = t.next + 1; names = t.names + 1; bytes = t.bytes + size })
+kept-added t sound counts dir name mode uid gid b takes well free plain small size is room m same =
+    let P : Inodes → ℕ → Type 0 = λ m size. IsSound (record { inodes = m; next = t.next + 1; names = t.names + 1; bytes = t.bytes + size }) × IsCounted (record { inodes = m; next = t.next + 1; names = t.names + 1; bytes = t.bytes + size }) in
+    let room_is : has_no_room (length (bytes_of b)) t ≡ false = ap (λ n. has_no_room n t) (sym is) ∙ room in
+    subst (λ n. P m n) (sym is) (subst (λ m. P m (length (bytes_of b))) (sym same)
+    (sound-added t sound counts dir name mode uid gid b takes well free plain small room_is, counted-added t sound counts dir name mode uid gid b takes well free plain small room_is))

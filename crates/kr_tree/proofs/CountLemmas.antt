@@ -1,11 +1,11 @@
 -- Sums over the inodes, and counts of entries.
 use Rattle.std.specs.FinMap as map
-use Rattle.std.proofs.Common.{◌≡◌, ◌≢◌, ◌⊎◌, inl, inr, subst, ℕ, zero, suc, ◌+◌, ◌≤◌, ◌<◌, List, [], ◌∷◌, ◌++◌, refl, sym, ap, ◌∙◌, arith, Option, Some, None, nat_eq, eq-eqb, add-one}
+use Rattle.std.proofs.Common.{◌≡◌, Bool, true, false, ◌≢◌, ◌⊎◌, inl, inr, subst, ℕ, zero, suc, ◌+◌, ◌≤◌, ◌<◌, List, [], ◌∷◌, ◌++◌, length, refl, sym, ap, ◌∙◌, arith, Option, Some, None, nat_eq, eq-eqb, add-one}
 use Rattle.std.specs.Option.{option_map, option_map_or, option_and_then}
 use Rattle.kr_tree.specs.declared.standing.Standing.{Standing}
 use Rattle.std.proofs.lemmas.Bool.{cases_eq, ne_eqb}
 use Rattle.kr_tree.specs.Tree.{Tree, Inode, Inodes, Entry, root, inode, entries, entries_of, standing, standing_of, above, body_is, is_directory}
-use Rattle.kr_tree.specs.Changes.{counted}
+use Rattle.kr_tree.specs.Changes.{counted, count_limit}
 use Rattle.kr_tree.specs.Lawful.{sum_below, count_in, directories_in, IsIn, IsCounted, IsSound, HasItsInodes}
 
 -- what f gives at a number, and 0 where nothing is there
@@ -158,3 +158,47 @@ above_there t sound q up h =
           let P : ℕ → Type 0 = λ k. (x : Inode) × (inode t k ≡ Some x) in
           subst P e (standing_there t sound q s is)
     ] refl h
+
+-- ---- counts are small
+
+counted-le : (b : Bool) → counted b ≤ 1
+counted-le true = omega arith
+counted-le false = omega arith
+
+pub directories-le : (t : Tree) (es : List Entry) → directories_in t es ≤ length es
+directories-le t [] = omega arith
+directories-le t (e ∷ es) = let rest = directories-le t es in let one = counted-le (body_is is_directory t e.inode) in omega arith
+
+pub directories_few : (t : Tree) → IsSound t → IsCounted t → (dir : ℕ) (x : Inode) → inode t dir ≡ Some x → x.directories ≤ count_limit
+directories_few t sound counts dir x at =
+    let below = (sound.numbered dir x at).1 in
+    let some = sum-at (λ z. length (entries_of z.node.body)) t.inodes dir t.next below in
+    let here : value (λ z. length (entries_of z.node.body)) (inode t dir) ≡ length (entries_of x.node.body) = ap (value (λ z. length (entries_of z.node.body))) at in
+    let is : x.directories ≡ directories_in t (entries_of x.node.body) =
+    sym (ap (value (λ z. z.directories)) at) ∙ counts.directories dir ∙ ap (λ o. directories_in t (option_map_or (λ z. entries_of z.node.body) o [])) at in
+    let few = directories-le t (entries_of x.node.body) in
+    let all = counts.all_names in
+    let limit = sound.names_limited in
+    omega arith
+
+value-le : (f g : Inode → ℕ) → ((x : Inode) → f x ≤ g x) → (o : Option Inode) → value f o ≤ value g o
+value-le f g h None = omega arith
+value-le f g h (Some x) = h x
+
+sum-le : (f g : Inode → ℕ) → ((x : Inode) → f x ≤ g x) → (m : Inodes) (n : ℕ) → sum_below f m n ≤ sum_below g m n
+unfolding sum_below
+sum-le f g h m zero = omega arith
+sum-le f g h m (suc n) = let here = value-le f g h (map.get m n) in let rest = sum-le f g h m n in omega arith
+
+count-le : (i : ℕ) (es : List Entry) → count_in i es ≤ length es
+count-le i [] = omega arith
+count-le i (e ∷ es) = let rest = count-le i es in let one = counted-le (nat_eq i e.inode) in omega arith
+
+pub names_few : (t : Tree) → IsSound t → IsCounted t → (i : ℕ) → value (λ x. x.names) (inode t i) ≤ count_limit + 1
+names_few t sound counts i =
+    let is = counts.names i in
+    let few = sum-le (λ x. count_in i (entries_of x.node.body)) (λ x. length (entries_of x.node.body)) (λ x. count-le i (entries_of x.node.body)) t.inodes t.next in
+    let one = counted-le (nat_eq i root) in
+    let all = counts.all_names in
+    let limit = sound.names_limited in
+    omega arith

@@ -1,5 +1,5 @@
 //! The tree.
-ghost use Rattle.std.specs.Prelude.{◌≡◌, ◌+◌, ◌-◌, ◌^◌, ◌<◌, ◌↔◌, ◌&&◌, not, true, false, Some, None, OnOk, OnErr, IfOk, IsErrOf, IsTrue, IfSome};
+ghost use Rattle.std.specs.Prelude.{◌≡◌, ◌+◌, ◌-◌, ◌^◌, ◌<◌, ◌↔◌, ◌&&◌, not, true, false, Some, None, OnOk, OnErr, IfOk, length, IsErrOf, IsTrue, IfSome};
 ghost use Rattle.std.specs.Option.{option_map, option_map_or, option_and_then, option_copied};
 
 use crate::inode::Inode;
@@ -46,7 +46,7 @@ impl Model for Tree {
 }
 
 impl Tree {
-    ghost use Rattle.kr_tree.specs.Tree.{inode, body, entry, above, body_is, takes_names, file_of, text_of, entry_named, entries_of};
+    ghost use Rattle.kr_tree.specs.Tree.{inode, body, entry, above, body_is, takes_names, file_of, text_of, bytes_of};
     ghost use Rattle.kr_tree.specs.Rights.{may};
     ghost use Rattle.kr_tree.specs.Names.{is_name};
     ghost use Rattle.kr_tree.specs.Stored.{kind_of, meta_of, body_of_new};
@@ -153,5 +153,68 @@ impl Tree {
             Some(inode) => inode.directories(),
             None => 0,
         }
+    }
+
+    /// Puts a new node under a free name in a directory, and gives its number, the next one.
+    /// TooBig comes before Full.
+    pub fn add(&mut self, dir: Ino, name: &[u8], node: Node, meta: Meta) -> Result<Ino, TreeRefusal>
+        requires directory { body_is takes_names self.old dir ≡ true }
+        requires well_formed { is_name name.now ≡ true }
+        requires free { entry self.old dir name.now ≡ None }
+        requires numbers { self.old.next + 1 < 2 ^ 32 }
+        requires serials { next_serial self.old dir + 1 < 2 ^ 64 }
+        ensures too_big { IsErrOf result TreeRefusal.TooBig ↔ IsTrue (is_too_big (body_of_new node)) }
+        ensures full { IsErrOf result TreeRefusal.Full ↔ IsTrue (not (is_too_big (body_of_new node)) && has_no_room (length (bytes_of (body_of_new node))) self.old) }
+        ensures number { IfOk result (λ ino. ino ≡ self.old.next) }
+        ensures ok { OnOk result (self.new ≡ added dir name.now meta.mode meta.uid meta.gid (body_of_new node) self.old) }
+        ensures err { OnErr result (self.new ≡ self.old) }
+    {
+        let size = node.size();
+        if node.is_too_big() {
+            return Err(TreeRefusal::TooBig);
+        }
+        if self.has_no_room(size) {
+            return Err(TreeRefusal::Full);
+        }
+        let ino = self.next;
+        let is_dir = node.is_directory();
+        let standing = Standing {
+            inode: dir,
+            serial: self.next_serial(dir),
+        };
+        let name = self.copy(name)?;
+        let inode = Inode::new(self.alloc, node, meta, standing);
+        self.store.put(dir, name, ino, inode, is_dir)?;
+        self.next += 1;
+        self.names += 1;
+        self.bytes += size;
+        Ok(ino)
+    }
+
+    /// Whether there is no room for one inode more, with a name and `size` bytes.
+    fn has_no_room(&self, size: u64) -> bool
+        requires { size < 2 ^ 63 }
+        ensures { result ≡ has_no_room size self.now }
+    {
+        COUNT_LIMIT as usize <= self.store.len()
+            || COUNT_LIMIT <= self.names
+            || BYTE_LIMIT < self.bytes + size
+    }
+
+    /// The serial that the next entry of a directory takes.
+    fn next_serial(&self, dir: Ino) -> u64
+        ensures { result ≡ next_serial self.now dir }
+    {
+        match self.store.get(dir) {
+            Some(inode) => inode.next_serial(),
+            None => 0,
+        }
+    }
+
+    /// A copy of a name.
+    fn copy(&self, name: &[u8]) -> Result<Vec<u8>, NoMemory>
+        ensures { IfOk result (λ copy. copy.items ≡ name.now) }
+    {
+        Ok(name.to_vec(self.alloc)?)
     }
 }
