@@ -10,7 +10,7 @@ use Rattle.kr_tree.specs.Tree.{Tree, Inode, Inodes, Entry, Body, RegularFile, ro
 use Rattle.kr_tree.specs.Names.{is_name}
 use Rattle.kr_tree.specs.Entries.{IsListed}
 use Rattle.kr_tree.specs.Changes.{fresh, added, with_inode, with_entry, with_standing, next_serial, next_standing, is_unused, is_too_big, has_no_room, counted, count_limit, byte_limit, file_limit}
-use Rattle.kr_tree.specs.Lawful.{IsSound, IsCounted, RisesToEnd, AtRoot, AtRemoved, Above, IsIn, entries_beside, count_in, directories_in, names_of, total}
+use Rattle.kr_tree.specs.Lawful.{IsKept, IsSound, IsCounted, HasNoUnused, RisesToEnd, AtRoot, AtRemoved, Above, IsIn, entries_beside, count_in, directories_in, names_of, total}
 use Rattle.kr_tree.proofs.InodesLemmas.{get-insert_same, get-insert_other, get-with_same, get-with_other, len-with}
 use Rattle.kr_tree.proofs.EntryLemmas.{listed-none, listed-new}
 use Rattle.kr_tree.proofs.BodyLemmas.{entries-with_entries, standing-with_entries, is_directory-with_entries, is_listed-with_entries, bytes-with_entries, file-with_entries, entries-with_standing, standing-with_standing, is_directory-with_standing, bytes-with_standing, file-with_standing, takes-is_listed, takes-stands, listed-is_directory, is_directory-stands}
@@ -213,11 +213,6 @@ module _ (t : Tree) (sound : IsSound t) (counts : IsCounted t) (dir : ℕ) (name
       | inl is ↦ let first = (sound.numbered dir x at_dir) in (omega arith, omega arith)
       | inr n ↦ let before = there_before i z h n in let low = sound.numbered i before.0 before.1 in (low.0, omega arith)
     ];
-    used = λ i z h. let P : Option Inode → Type 0 = λ o. option_map_or is_unused o false ≡ false in ap (λ o. option_map_or is_unused o false) (sym h)
-        ∙ by (λ i. option_map_or is_unused (inode u i) false ≡ false)
-        (ap (λ o. option_map_or is_unused o false) new_is)
-        (ap (λ o. option_map_or is_unused o false) dir_is ∙ sound.used dir x at_dir)
-        (λ q d n. ap (λ o. option_map_or is_unused o false) (other_is q d n) ∙ unused_before q) i;
     listed = listed_at;
     emptied = λ i h. by (λ i. standing u i ≡ None → entries u i ≡ [])
         (λ _. entries_new)
@@ -259,17 +254,24 @@ module _ (t : Tree) (sound : IsSound t) (counts : IsCounted t) (dir : ℕ) (name
         | inr d ↦ (z, sym (other_is i d n) ∙ h)
       ]
 
-      unused_before : (q : ℕ) → option_map_or is_unused (inode t q) false ≡ false
-      unused_before q = elim (inode t q) as (λ o. inode t q ≡ o → option_map_or is_unused o false ≡ false) [
-        | None ↦ λ _. refl
-        | Some z ↦ λ h. sound.used q z h
-      ] refl
-
       body_some : {a c : Body} → Some a ≡ Some c → a ≡ c
       body_some {a} h = ap (λ o. option_map_or (λ s. s) o a) h
 
       small_file : (b : Body) (bytes : List ℕ) → b ≡ RegularFile bytes → is_too_big b ≡ false → length bytes ≤ file_limit
       small_file b bytes is h = let test : nat_lt file_limit (length bytes) ≡ false = ap is_too_big (sym is) ∙ h in grind (arith, nat_tests)
+
+  pub used-added : HasNoUnused t → HasNoUnused u
+  used-added used i z h = ap (λ o. option_map_or is_unused o false) (sym h)
+      ∙ by (λ i. option_map_or is_unused (inode u i) false ≡ false)
+      (ap (λ o. option_map_or is_unused o false) new_is)
+      (ap (λ o. option_map_or is_unused o false) dir_is ∙ used dir x at_dir)
+      (λ q d n. ap (λ o. option_map_or is_unused o false) (other_is q d n) ∙ unused_before q) i
+    where
+      unused_before : (q : ℕ) → option_map_or is_unused (inode t q) false ≡ false
+      unused_before q = elim (inode t q) as (λ o. inode t q ≡ o → option_map_or is_unused o false ≡ false) [
+        | None ↦ λ _. refl
+        | Some z ↦ λ h. used q z h
+      ] refl
 
   -- ---- its counts
 
@@ -342,12 +344,16 @@ module _ (t : Tree) (sound : IsSound t) (counts : IsCounted t) (dir : ℕ) (name
   }
 
 -- the same of what the code leaves
-pub kept-added : (t : Tree) → IsSound t → IsCounted t → (dir : ℕ) (name : List ℕ) (mode uid gid : ℕ) (b : Body)
+pub kept-added : (t : Tree) → IsKept t → (dir : ℕ) (name : List ℕ) (mode uid gid : ℕ) (b : Body)
     → body_is takes_names t dir ≡ true → is_name name ≡ true → entry t dir name ≡ None → entries_of b ≡ [] → is_too_big b ≡ false → (size : ℕ) → size ≡ length (bytes_of b) → has_no_room size t ≡ false
     → (m : Inodes) → m ≡ (added dir name mode uid gid b t).inodes
-    → IsSound (record { inodes = m; next = t.next + 1; names = t.names + 1; bytes = t.bytes + size }) × IsCounted (record { inodes = m; next = t.next + 1; names = t.names + 1; bytes = t.bytes + size })
-kept-added t sound counts dir name mode uid gid b takes well free plain small size is room m same =
-    let P : Inodes → ℕ → Type 0 = λ m size. IsSound (record { inodes = m; next = t.next + 1; names = t.names + 1; bytes = t.bytes + size }) × IsCounted (record { inodes = m; next = t.next + 1; names = t.names + 1; bytes = t.bytes + size }) in
+    → IsKept (record { inodes = m; next = t.next + 1; names = t.names + 1; bytes = t.bytes + size })
+kept-added t h dir name mode uid gid b takes well free plain small size is room m same =
+    let P : Inodes → ℕ → Type 0 = λ m size. IsKept (record { inodes = m; next = t.next + 1; names = t.names + 1; bytes = t.bytes + size }) in
     let room_is : has_no_room (length (bytes_of b)) t ≡ false = ap (λ n. has_no_room n t) (sym is) ∙ room in
     subst (λ n. P m n) (sym is) (subst (λ m. P m (length (bytes_of b))) (sym same)
-    (sound-added t sound counts dir name mode uid gid b takes well free plain small room_is, counted-added t sound counts dir name mode uid gid b takes well free plain small room_is))
+    (record {
+      sound = sound-added t h.sound h.counted dir name mode uid gid b takes well free plain small room_is;
+      counted = counted-added t h.sound h.counted dir name mode uid gid b takes well free plain small room_is;
+      used = used-added t h.sound h.counted dir name mode uid gid b takes well free plain small room_is h.used;
+    }))

@@ -9,7 +9,7 @@ use Rattle.kr_tree.specs.declared.standing.Standing.{Standing}
 use Rattle.kr_tree.specs.Tree.{Tree, Inode, Entry, Directory, RegularFile, root, inode, entries, entries_of, standing_of, is_directory, is_listed, body, bytes_of}
 use Rattle.kr_tree.specs.Entries.{IsListed}
 use Rattle.kr_tree.specs.Changes.{fresh, new_tree, is_unused}
-use Rattle.kr_tree.specs.Lawful.{IsSound, IsCounted, RisesToEnd, AtRoot, IsIn, entries_beside, count_in, directories_in, names_of, total}
+use Rattle.kr_tree.specs.Lawful.{IsSound, IsCounted, HasNoUnused, RisesToEnd, AtRoot, IsIn, entries_beside, count_in, directories_in, names_of, total}
 use Rattle.kr_tree.proofs.InodesLemmas.{get-insert_same, get-insert_other, by_inode}
 use Rattle.kr_tree.proofs.EntryLemmas.{listed-none}
 use Rattle.kr_tree.proofs.CountLemmas.{value, sum-zero, counted-other}
@@ -54,7 +54,6 @@ module _ (mode uid gid : ℕ) where
     rooted = ap (option_and_then (λ y. standing_of y.node.body)) here;
     root_listed = ap (λ o. option_map_or (λ y. is_listed y.node.body) o false) here;
     numbered = λ i y h. let is = (only i y h).0 in (omega arith, omega arith);
-    used = λ i y h. ap is_unused (only i y h).1;
     listed = λ i y h. let P : Inode → Type 0 = λ y. IsListed (entries_beside y) in subst P (sym (only i y h).1) listed-none;
     emptied = λ i h. no_entries i;
     alone = λ dir e h is. absurd (none_in dir e h);
@@ -73,6 +72,9 @@ module _ (mode uid gid : ℕ) where
       | inr d ↦ let no : None ≡ Some (RegularFile bytes) = sym (ap (option_map (λ y. y.node.body)) (away i d)) ∙ h in absurd cc
     ];
   }
+
+  pub used-new_tree : HasNoUnused t
+  used-new_tree = λ i y h. ap is_unused (only i y h).1
 
   pub counted-new_tree : IsCounted t
   counted-new_tree = record {

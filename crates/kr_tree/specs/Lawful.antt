@@ -68,8 +68,6 @@ pub record IsSound (t : Tree) : Type 0 where
   pub root_listed : body_is is_listed t root ≡ true
   -- numbers are drawn in order
   pub numbered : (i : ℕ) (x : Inode) → inode t i ≡ Some x → (0 < i) × (i < t.next)
-  -- what is in the tree is named or held
-  pub used : (i : ℕ) (x : Inode) → inode t i ≡ Some x → is_unused x ≡ false
   pub listed : (i : ℕ) (x : Inode) → inode t i ≡ Some x → IsListed (entries_beside x)
   -- what stands nowhere has no entries, as a directory that was removed
   pub emptied : (i : ℕ) → standing t i ≡ None → entries t i ≡ []
@@ -83,9 +81,19 @@ pub record IsSound (t : Tree) : Type 0 where
   pub bytes_limited : t.bytes ≤ byte_limit
   pub files_limited : (i : ℕ) (bytes : List ℕ) → body t i ≡ Some (RegularFile bytes) → length bytes ≤ file_limit
 
+-- what is in the tree is named or held
+abbrev pub HasNoUnused : Tree → Type 0
+HasNoUnused t = (i : ℕ) (x : Inode) → inode t i ≡ Some x → is_unused x ≡ false
+
 -- every entry's inode is there
 abbrev pub HasItsInodes : Tree → Type 0
 HasItsInodes t = (dir : ℕ) (e : Entry) → IsIn e (entries t dir) → (x : Inode) × (inode t e.inode ≡ Some x)
+
+-- all that every tree keeps
+pub record IsKept (t : Tree) : Type 0 where
+  pub sound : IsSound t
+  pub counted : IsCounted t
+  pub used : HasNoUnused t
 
 -- ---- moves
 

@@ -34,7 +34,7 @@ pub struct Tree {
 
 impl Model for Tree {
     ghost use Rattle.kr_tree.specs.Tree.{Tree, tree_code};
-    ghost use Rattle.kr_tree.specs.Lawful.{IsSound, IsCounted};
+    ghost use Rattle.kr_tree.specs.Lawful.{IsKept};
 
     ghost Value = { Tree };
 
@@ -42,7 +42,7 @@ impl Model for Tree {
 
     ghost view = { λ t. record { inodes = t.store; next = t.next; names = t.names; bytes = t.bytes } };
 
-    ghost invariant = { λ t. IsSound (record { inodes = t.store; next = t.next; names = t.names; bytes = t.bytes }) × IsCounted (record { inodes = t.store; next = t.next; names = t.names; bytes = t.bytes }) };
+    ghost invariant = { λ t. IsKept (record { inodes = t.store; next = t.next; names = t.names; bytes = t.bytes }) };
 }
 
 impl Tree {
@@ -51,7 +51,7 @@ impl Tree {
     ghost use Rattle.kr_tree.specs.Names.{is_name};
     ghost use Rattle.kr_tree.specs.Stored.{kind_of, meta_of, body_of_new};
     ghost use Rattle.kr_tree.specs.Changes.{new_tree, added, next_serial, is_too_big, has_no_room};
-    ghost use Rattle.kr_tree.specs.Lawful.{IsSound, IsCounted};
+    ghost use Rattle.kr_tree.specs.Lawful.{IsKept, HasItsInodes};
 
     /// A tree with a root alone, by the mode, owner and group of `root`.
     pub fn new(alloc: Global, root: Meta) -> Result<Tree, NoMemory>
@@ -73,9 +73,9 @@ impl Tree {
     }
 
     /// What holds of every tree.
-    pub fn is_sound(&self)
-        ensures sound { IsSound self.now }
-        ensures counted { IsCounted self.now }
+    pub fn is_kept(&self)
+        ensures kept { IsKept self.now }
+        ensures there { HasItsInodes self.now }
     {
         let _ = &self.next;
     }

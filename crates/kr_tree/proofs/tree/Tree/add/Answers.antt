@@ -14,7 +14,7 @@ put-requires-clause-directories c =
     let t : Tree = record { inodes = c.self.inside.store; next = c.self.inside.next; names = c.self.inside.names; bytes = c.self.inside.bytes } in
     elim (map.get c.self.inside.store c.args.dir) as (λ o. map.get c.self.inside.store c.args.dir ≡ o → IfSome o (λ x. x.directories + 1 < 2 ^ 32)) [
       | None ↦ λ _. tt
-      | Some x ↦ λ h. let few = directories_few t c.self.invariant.0 c.self.invariant.1 c.args.dir x h in omega arith
+      | Some x ↦ λ h. let few = directories_few t c.self.invariant.sound c.self.invariant.counted c.args.dir x h in omega arith
     ] refl
 
 pub invariant_of-self-2 : goal.invariant_of-self-2
@@ -24,7 +24,7 @@ invariant_of-self-2 c =
     let Free : Tree → Type 0 = λ t. entry t c.args.dir c.args.name.now ≡ None in
     let Room : Tree → Type 0 = λ t. has_no_room c.size-size.result t ≡ false in
     let view = sym c.self.view_is in
-    kept-added t c.self.invariant.0 c.self.invariant.1 c.args.dir c.args.name.now c.args.meta.mode c.args.meta.uid c.args.meta.gid (body_of_new c.args.node)
+    kept-added t c.self.invariant c.args.dir c.args.name.now c.args.meta.mode c.args.meta.uid c.args.meta.gid (body_of_new c.args.node)
     (subst Takes view c.requires.directory) c.requires.well_formed (subst Free view c.requires.free) (entries-new c.args.node)
     (sym c.is_too_big.ensures ∙ c.if-is_too_big.false) c.size-size.result c.size-size.ensures (subst Room view (sym c.has_no_room.ensures ∙ c.if-has_no_room.false))
     c.put.new.self
