@@ -190,13 +190,21 @@ linked dir name file t = record {
 abbrev pub is_unused : Inode → Bool
 is_unused x = nat_eq x.names 0 && nat_eq x.holds 0
 
--- the tree without an inode
-abbrev pub dropped : ℕ → Tree → Tree
-dropped i t = record { inodes = map.remove t.inodes i; next = t.next; names = t.names; bytes = t.bytes - size t i }
+-- whether an inode is there and nothing names or holds it
+abbrev pub is_unused_at : ℕ → Inodes → Bool
+is_unused_at i m = option_map_or is_unused (map.get m i) false
+
+-- the inodes without one that nothing names or holds
+abbrev pub without_unused : ℕ → Inodes → Inodes
+without_unused i m = if is_unused_at i m then map.remove m i else m
+
+-- how many bytes go with it
+abbrev pub freed : ℕ → Inodes → ℕ
+freed i m = if is_unused_at i m then option_map_or (λ x. length (bytes_of x.node.body)) (map.get m i) 0 else 0
 
 -- an inode that nothing names or holds is dropped
 abbrev pub dropped_if_unused : ℕ → Tree → Tree
-dropped_if_unused i t = if option_map_or is_unused (inode t i) false then dropped i t else t
+dropped_if_unused i t = record { inodes = without_unused i t.inodes; next = t.next; names = t.names; bytes = t.bytes - freed i t.inodes }
 
 -- one name taken away from an inode
 abbrev pub unlinked : ℕ → List ℕ → ℕ → Tree → Tree

@@ -31,7 +31,7 @@ impl Model for Store {
 impl Store {
     ghost use Rattle.kr_tree.specs.Tree.{entry_named, entries_of, is_listed};
     ghost use Rattle.kr_tree.specs.Names.{is_name};
-    ghost use Rattle.kr_tree.specs.Changes.{with_inode, with_mode, with_owner, with_names, with_holds, with_entry, without_entry, unnamed, with_body, with_standing};
+    ghost use Rattle.kr_tree.specs.Changes.{with_inode, with_mode, with_owner, with_names, with_holds, with_entry, without_entry, unnamed, with_body, with_standing, without_unused, freed};
 
     /// No inodes. It takes no memory yet.
     pub fn new(alloc: Global) -> Store
@@ -70,6 +70,22 @@ impl Store {
         ensures { self.new ≡ map.remove self.old ino }
     {
         let _gone = self.inodes.remove(&ino);
+    }
+
+    /// Takes the inode of a number away if nothing names or holds it, and tells how many bytes went
+    /// with it.
+    pub fn remove_if_unused(&mut self, ino: Ino) -> u64
+        ensures inodes { self.new ≡ without_unused ino self.old }
+        ensures bytes { result ≡ freed ino self.old }
+    {
+        match self.get(ino) {
+            Some(inode) if inode.is_unused() => {
+                let size = inode.size();
+                self.remove(ino);
+                size
+            }
+            _ => 0,
+        }
     }
 
     pub fn set_mode(&mut self, ino: Ino, mode: u16)

@@ -1,5 +1,5 @@
 //! The tree.
-ghost use Rattle.std.specs.Prelude.{◌≡◌, ◌+◌, ◌-◌, ◌^◌, ◌<◌, ◌↔◌, ◌&&◌, not, true, false, Some, None, OnOk, OnErr, IfOk, length, IsErrOf, IsTrue, IfSome};
+ghost use Rattle.std.specs.Prelude.{◌≡◌, ◌+◌, ◌-◌, ◌^◌, ◌<◌, ◌↔◌, ◌&&◌, not, true, false, Some, None, OnOk, OnErr, IfOk, IsSome, length, IsErrOf, IsTrue, IfSome};
 ghost use Rattle.std.specs.Option.{option_map, option_map_or, option_and_then, option_copied};
 
 use crate::inode::Inode;
@@ -50,7 +50,7 @@ impl Tree {
     ghost use Rattle.kr_tree.specs.Rights.{may};
     ghost use Rattle.kr_tree.specs.Names.{is_name};
     ghost use Rattle.kr_tree.specs.Stored.{kind_of, meta_of, body_of_new};
-    ghost use Rattle.kr_tree.specs.Changes.{new_tree, added, next_serial, is_too_big, has_no_room};
+    ghost use Rattle.kr_tree.specs.Changes.{new_tree, added, next_serial, is_too_big, has_no_room, held, released, mode_set, owner_set};
     ghost use Rattle.kr_tree.specs.Lawful.{IsKept, HasItsInodes};
 
     /// A tree with a root alone, by the mode, owner and group of `root`.
@@ -189,6 +189,41 @@ impl Tree {
         self.names += 1;
         self.bytes += size;
         Ok(ino)
+    }
+
+    /// Holds an inode once more: while it is held it stays, also without a name.
+    pub fn hold(&mut self, ino: Ino)
+        requires there { IsSome (inode self.old ino) }
+        requires holds { option_map_or (λ x. x.holds) (inode self.old ino) 0 + 1 < 2 ^ 32 }
+        ensures { self.new ≡ held ino self.old }
+    {
+        self.store.hold(ino);
+    }
+
+    /// Takes one hold off an inode, which is dropped if it has no name and no other hold.
+    pub fn release(&mut self, ino: Ino)
+        requires { 0 < option_map_or (λ x. x.holds) (inode self.old ino) 0 }
+        ensures { self.new ≡ released ino self.old }
+    {
+        self.store.release(ino);
+        let freed = self.store.remove_if_unused(ino);
+        self.bytes -= freed;
+    }
+
+    /// Gives an inode another mode.
+    pub fn set_mode(&mut self, ino: Ino, mode: u16)
+        requires { IsSome (inode self.old ino) }
+        ensures { self.new ≡ mode_set ino mode self.old }
+    {
+        self.store.set_mode(ino, mode);
+    }
+
+    /// Gives an inode another owner and group.
+    pub fn set_owner(&mut self, ino: Ino, uid: u32, gid: u32)
+        requires { IsSome (inode self.old ino) }
+        ensures { self.new ≡ owner_set ino uid gid self.old }
+    {
+        self.store.set_owner(ino, uid, gid);
     }
 
     /// Whether there is no room for one inode more, with a name and `size` bytes.
