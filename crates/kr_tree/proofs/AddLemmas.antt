@@ -21,6 +21,10 @@ pub passing : (test : Body → Bool) (o : Option Inode) → option_map_or (λ x.
 passing test None h = absurd cc
 passing test (Some x) h = (x, refl, h)
 
+pub none_of : (o : Option Entry) → option_map (λ s. s.inode) o ≡ None → o ≡ None
+none_of None h = refl
+none_of (Some s) h = absurd cc
+
 or_first : (a b : Bool) → (a || b) ≡ false → a ≡ false
 or_first true b h = absurd cc
 or_first false b h = refl
@@ -197,10 +201,6 @@ module _ (t : Tree) (sound : IsSound t) (counts : IsCounted t) (dir : ℕ) (name
     where
       some_is : (a z : Inode) → Some a ≡ Some z → a ≡ z
       some_is a z h = ap (λ o. option_map_or (λ s. s) o a) h
-
-      none_of : (o : Option Entry) → option_map (λ s. s.inode) o ≡ None → o ≡ None
-      none_of None h = refl
-      none_of (Some s) h = absurd cc
 
       free_in : (es : List Entry) → entry_named name (entries t dir) ≡ entry_named name es → entry_named name es ≡ None
       free_in es same = none_of (entry_named name es) (ap (option_map (λ s. s.inode)) (sym same) ∙ free)

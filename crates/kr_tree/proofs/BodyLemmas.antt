@@ -1,9 +1,9 @@
 -- Bodies after a change.
-use Rattle.std.proofs.Common.{◌≡◌, ℕ, true, List, [], refl, Option, Some, None}
+use Rattle.std.proofs.Common.{◌≡◌, ℕ, true, false, List, [], refl, Option, Some, None}
 use Rattle.kr_tree.specs.declared.standing.Standing.{Standing}
 use Rattle.kr_tree.specs.declared.node.Node.{Node as NewNode}
 use Rattle.kr_tree.specs.declared.node.Node.TheVariants.{Dir as NewDir, File as NewFile, Link as NewLink, Proc as NewProc}
-use Rattle.kr_tree.specs.Tree.{Body, Directory, RegularFile, SymbolicLink, ProcessDirectory, Entry, entries_of, standing_of, is_directory, is_listed, takes_names, bytes_of}
+use Rattle.kr_tree.specs.Tree.{Body, Directory, RegularFile, SymbolicLink, ProcessDirectory, Entry, entries_of, standing_of, is_directory, is_listed, takes_names, may_be_linked, bytes_of}
 use Rattle.kr_tree.specs.Changes.{with_entries, with_standing}
 use Rattle.kr_tree.specs.Stored.{body_of_new}
 
@@ -110,6 +110,12 @@ listed-is_directory (Directory es s) h = refl
 listed-is_directory (RegularFile bs) h = absurd cc
 listed-is_directory (SymbolicLink bs) h = absurd cc
 listed-is_directory (ProcessDirectory s) h = absurd cc
+
+pub linked-is_directory : (b : Body) → may_be_linked b ≡ true → is_directory b ≡ false
+linked-is_directory (Directory es s) h = absurd cc
+linked-is_directory (RegularFile bs) h = refl
+linked-is_directory (SymbolicLink bs) h = refl
+linked-is_directory (ProcessDirectory s) h = absurd cc
 
 -- a new node has no entries
 pub entries-new : (n : NewNode) → entries_of (body_of_new n) ≡ []

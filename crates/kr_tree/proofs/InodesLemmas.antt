@@ -99,3 +99,15 @@ with-insert m k i f x h =
     ∙ by_inode (λ q. q ≢ k → map.get (map.insert m i x) q ≡ map.get (map.insert (with_inode k f m) i x) q) i
     (λ _. get-insert_same m i x ∙ sym (get-insert_same (with_inode k f m) i x))
     (λ q away other. get-insert_other m i x q away ∙ sym (get-with_other m k f q other) ∙ sym (get-insert_other (with_inode k f m) i x q away)) q other))
+
+-- a change that leaves the number of names
+pub stays-names : (m : Inodes) (k : ℕ) (f : Inode → Inode) (q : ℕ) → ((x : Inode) → (f x).names ≡ x.names)
+    → option_map_or (λ x. x.names) (map.get (with_inode k f m) q) 0 ≡ option_map_or (λ x. x.names) (map.get m q) 0
+stays-names m k f q same =
+    by_inode (λ q. option_map_or (λ x. x.names) (map.get (with_inode k f m) q) 0 ≡ option_map_or (λ x. x.names) (map.get m q) 0) k
+    (ap (λ o. option_map_or (λ x. x.names) o 0) (get-with_same m k f) ∙ mapped (map.get m k))
+    (λ q d. ap (λ o. option_map_or (λ x. x.names) o 0) (get-with_other m k f q d)) q
+  where
+    mapped : (o : Option Inode) → option_map_or (λ x. x.names) (option_map f o) 0 ≡ option_map_or (λ x. x.names) o 0
+    mapped None = refl
+    mapped (Some x) = same x

@@ -157,6 +157,13 @@ is_file (RegularFile bytes) = true
 is_file (SymbolicLink text) = false
 is_file (ProcessDirectory standing) = false
 
+-- a file or a link, which may have several names
+abbrev pub may_be_linked : Body → Bool
+may_be_linked (Directory entries standing) = false
+may_be_linked (RegularFile bytes) = true
+may_be_linked (SymbolicLink text) = true
+may_be_linked (ProcessDirectory standing) = false
+
 -- a file's bytes or a link's text
 abbrev pub bytes_of : Body → List ℕ
 bytes_of (Directory entries standing) = []

@@ -46,11 +46,11 @@ impl Model for Tree {
 }
 
 impl Tree {
-    ghost use Rattle.kr_tree.specs.Tree.{inode, body, entry, above, body_is, takes_names, file_of, text_of, bytes_of};
+    ghost use Rattle.kr_tree.specs.Tree.{inode, body, entry, above, body_is, takes_names, may_be_linked, file_of, text_of, bytes_of};
     ghost use Rattle.kr_tree.specs.Rights.{may};
     ghost use Rattle.kr_tree.specs.Names.{is_name};
     ghost use Rattle.kr_tree.specs.Stored.{kind_of, meta_of, body_of_new};
-    ghost use Rattle.kr_tree.specs.Changes.{new_tree, added, next_serial, is_too_big, has_no_room, held, released, mode_set, owner_set};
+    ghost use Rattle.kr_tree.specs.Changes.{new_tree, added, next_serial, is_too_big, has_no_room, has_no_name_left, linked, held, released, mode_set, owner_set};
     ghost use Rattle.kr_tree.specs.Lawful.{IsKept, HasItsInodes};
 
     /// A tree with a root alone, by the mode, owner and group of `root`.
@@ -189,6 +189,28 @@ impl Tree {
         self.names += 1;
         self.bytes += size;
         Ok(ino)
+    }
+
+    /// Gives a file or a link another name, which is free.
+    pub fn link(&mut self, dir: Ino, name: &[u8], file: Ino) -> Result<(), TreeRefusal>
+        requires directory { body_is takes_names self.old dir ≡ true }
+        requires well_formed { is_name name.now ≡ true }
+        requires free { entry self.old dir name.now ≡ None }
+        requires serials { next_serial self.old dir + 1 < 2 ^ 64 }
+        requires file { body_is may_be_linked self.old file ≡ true }
+        ensures full { IsErrOf result TreeRefusal.Full ↔ IsTrue (has_no_name_left self.old) }
+        ensures never_too_big { ¬ IsErrOf result TreeRefusal.TooBig }
+        ensures ok { OnOk result (self.new ≡ linked dir name.now file self.old) }
+        ensures err { OnErr result (self.new ≡ self.old) }
+    {
+        if COUNT_LIMIT <= self.names {
+            return Err(TreeRefusal::Full);
+        }
+        let name = self.copy(name)?;
+        self.store.add_entry(dir, name, file, false)?;
+        self.store.add_name(file);
+        self.names += 1;
+        Ok(())
     }
 
     /// Holds an inode once more: while it is held it stays, also without a name.
