@@ -1,10 +1,11 @@
 -- Bodies after a change.
-use Rattle.std.proofs.Common.{◌≡◌, ℕ, true, false, List, [], refl, Option, Some, None}
+use Rattle.std.proofs.Common.{◌≡◌, ℕ, true, false, List, [], ◌∷◌, refl, Option, Some, None}
 use Rattle.kr_tree.specs.declared.standing.Standing.{Standing}
 use Rattle.kr_tree.specs.declared.node.Node.{Node as NewNode}
 use Rattle.kr_tree.specs.declared.node.Node.TheVariants.{Dir as NewDir, File as NewFile, Link as NewLink, Proc as NewProc}
-use Rattle.kr_tree.specs.Tree.{Body, Directory, RegularFile, SymbolicLink, ProcessDirectory, Entry, entries_of, standing_of, is_directory, is_listed, takes_names, may_be_linked, bytes_of}
+use Rattle.kr_tree.specs.Tree.{Body, Directory, RegularFile, SymbolicLink, ProcessDirectory, Entry, entries_of, standing_of, is_directory, is_listed, takes_names, may_be_linked, is_filled, bytes_of}
 use Rattle.kr_tree.specs.Changes.{with_entries, with_standing}
+use Rattle.kr_tree.specs.Lawful.{IsIn}
 use Rattle.kr_tree.specs.Stored.{body_of_new}
 
 -- ---- other entries
@@ -116,6 +117,26 @@ linked-is_directory (Directory es s) h = absurd cc
 linked-is_directory (RegularFile bs) h = refl
 linked-is_directory (SymbolicLink bs) h = refl
 linked-is_directory (ProcessDirectory s) h = absurd cc
+
+pub standing-without : (b : Body) → standing_of (with_standing None b) ≡ None
+standing-without (Directory es s) = refl
+standing-without (RegularFile bs) = refl
+standing-without (SymbolicLink bs) = refl
+standing-without (ProcessDirectory s) = refl
+
+pub filled-entries : (b : Body) → is_filled b ≡ false → entries_of b ≡ []
+filled-entries (Directory [] s) h = refl
+filled-entries (Directory (e ∷ es) s) h = absurd cc
+filled-entries (RegularFile bs) h = refl
+filled-entries (SymbolicLink bs) h = refl
+filled-entries (ProcessDirectory s) h = refl
+
+-- what has an entry keeps entries
+pub entries-is_listed : (b : Body) (e : Entry) → IsIn e (entries_of b) → is_listed b ≡ true
+entries-is_listed (Directory es s) e h = refl
+entries-is_listed (RegularFile bs) e h = absurd h
+entries-is_listed (SymbolicLink bs) e h = absurd h
+entries-is_listed (ProcessDirectory s) e h = absurd h
 
 -- a new node has no entries
 pub entries-new : (n : NewNode) → entries_of (body_of_new n) ≡ []

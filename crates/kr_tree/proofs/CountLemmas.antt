@@ -4,8 +4,9 @@ use Rattle.std.proofs.Common.{◌≡◌, Bool, true, false, ◌≢◌, ◌⊎◌
 use Rattle.std.specs.Option.{option_map, option_map_or, option_and_then}
 use Rattle.kr_tree.specs.declared.standing.Standing.{Standing}
 use Rattle.std.proofs.lemmas.Bool.{cases_eq, ne_eqb}
-use Rattle.kr_tree.specs.Tree.{Tree, Inode, Inodes, Entry, root, inode, entries, entries_of, standing, standing_of, above, body_is, is_directory}
+use Rattle.kr_tree.specs.Tree.{Tree, Inode, Inodes, Entry, root, inode, entries, entries_of, standing, standing_of, above, body_is, is_directory, is_listed}
 use Rattle.kr_tree.specs.Changes.{counted, count_limit}
+use Rattle.kr_tree.proofs.BodyLemmas.{listed-is_directory}
 use Rattle.kr_tree.specs.Lawful.{sum_below, count_in, directories_in, IsIn, IsCounted, IsSound, HasItsInodes}
 
 -- what f gives at a number, and 0 where nothing is there
@@ -202,3 +203,9 @@ names_few t sound counts i =
     let all = counts.all_names in
     let limit = sound.names_limited in
     omega arith
+
+pub root_directory : (t : Tree) → IsSound t → body_is is_directory t root ≡ true
+root_directory t sound = elim (inode t root) as (λ o. option_map_or (λ x. is_listed x.node.body) o false ≡ true → option_map_or (λ x. is_directory x.node.body) o false ≡ true) [
+  | None ↦ λ h. absurd cc
+  | Some x ↦ λ h. listed-is_directory x.node.body h
+] sound.root_listed

@@ -1,7 +1,7 @@
 -- Lists of entries after one was added or taken away.
-use Rattle.std.proofs.Common.{◌≡◌, ℕ, ◌+◌, ◌<◌, Bool, true, false, not, cond, List, [], ◌∷◌, ◌++◌, filter, ◌||◌, refl, sym, ap, ◌∙◌, arith, lit<, Some, None, Vec}
+use Rattle.std.proofs.Common.{◌≡◌, inl, inr, subst, ℕ, ◌+◌, ◌<◌, Bool, true, false, not, cond, List, [], ◌∷◌, ◌++◌, filter, ◌||◌, refl, sym, ap, ◌∙◌, arith, lit<, Some, None, Vec}
 use Rattle.std.specs.Prelude.{bytes_eq}
-use Rattle.std.specs.Option.{option_map}
+use Rattle.std.specs.Option.{option_map, option_map_or}
 use Rattle.std.specs.List.{list_any, AllByRecursion, IsDistinct}
 use Rattle.std.specs.Map.{lookup, remove_entry}
 use Rattle.std.proofs.lemmas.Cmp.{nat_list_eq_equiv}
@@ -10,6 +10,7 @@ use Rattle.kr_tree.specs.declared.entries.Slot.{Slot}
 use Rattle.kr_tree.specs.Tree.{Entry, entry_named}
 use Rattle.kr_tree.specs.Names.{is_name}
 use Rattle.kr_tree.specs.Changes.{without_name}
+use Rattle.kr_tree.specs.Lawful.{IsIn}
 use Rattle.kr_tree.specs.Entries.{Entries, RisesWithin, names_in, IsListed, slot_of, entry_of, list_of, with_new, without}
 
 -- ---- serials
@@ -131,3 +132,91 @@ no_slot name es h = slot-found name es ∙ ap (option_map slot_of) h
 pub listed-none : IsListed (record { list = []; next = 3 })
 unfolding IsDistinct
 listed-none = record { rises = lit< tt; distinct = tt; well_formed = tt }
+
+-- ---- one entry among others
+
+pub named_in : (name : List ℕ) (es : List Entry) (e : Entry) → entry_named name es ≡ Some e → IsIn e es × (bytes_eq name e.name ≡ true)
+named_in name [] e h = absurd cc
+named_in name (x ∷ es) e h =
+    elim (bytes_eq name x.name) as (λ b. bytes_eq name x.name ≡ b → cond b (Some x) (entry_named name es) ≡ Some e → IsIn e (x ∷ es) × (bytes_eq name e.name ≡ true)) [
+      | true ↦ λ is h. let same : x ≡ e = ap (λ o. option_map_or (λ s. s) o x) h in (inl same, ap (λ s. bytes_eq name s.name) (sym same) ∙ is)
+      | false ↦ λ is h. let rest = named_in name es e h in (inr rest.0, rest.1)
+    ] refl h
+
+all-in : (P : List ℕ → Type 0) (es : List Entry) (e : Entry) → AllByRecursion P (names_in es) → IsIn e es → P e.name
+all-in P [] e h is = absurd is
+all-in P (x ∷ es) e h (inl same) = subst (λ s. P s.name) same h.0
+all-in P (x ∷ es) e h (inr is) = all-in P es e h.1 is
+
+-- an entry of a name is the one that is found by it
+pub in_named : (name : List ℕ) (es : List Entry) (e : Entry) → IsDistinct bytes_eq (names_in es) → IsIn e es → bytes_eq name e.name ≡ true → entry_named name es ≡ Some e
+in_named name [] e h is n = absurd is
+in_named name (x ∷ es) e h (inl same) n = ap (λ b. cond b (Some x) (entry_named name es)) (ap (λ s. bytes_eq name s.name) same ∙ n) ∙ ap Some same
+in_named name (x ∷ es) e h (inr is) n =
+    let apart = all-in (λ m. bytes_eq x.name m ≡ false) es e (IsDistinct-head bytes_eq x.name (names_in es) h) is in
+    let other : bytes_eq name x.name ≡ false = elim (bytes_eq name x.name) as (λ b. bytes_eq name x.name ≡ b → b ≡ false) [
+      | true ↦ λ t. let no : true ≡ false = sym n ∙ nat_list_eq_equiv.congr name x.name e.name t ∙ apart in absurd cc
+      | false ↦ λ _. refl
+    ] refl in
+    ap (λ b. cond b (Some x) (entry_named name es)) other ∙ in_named name es e (IsDistinct-tail bytes_eq x.name (names_in es) h) is n
+
+pub in_above : (low next : ℕ) (es : List Entry) (e : Entry) → RisesWithin low next es → IsIn e es → (low < e.serial) × (e.serial < next)
+in_above low next [] e h is = absurd is
+in_above low next (x ∷ es) e h (inl same) =
+    let below = rises_below x.serial next es h.1 in
+    let serial : x.serial ≡ e.serial = ap (λ s. s.serial) same in
+    let first = h.0 in
+    (omega arith, omega arith)
+in_above low next (x ∷ es) e h (inr is) = let rest = in_above x.serial next es e h.1 is in let first = h.0 in (omega arith, rest.1)
+
+-- a serial has one entry
+pub serial_alone : (low next : ℕ) (es : List Entry) (a b : Entry) → RisesWithin low next es → IsIn a es → IsIn b es → a.serial ≡ b.serial → a ≡ b
+serial_alone low next [] a b h is_a is_b same = absurd is_a
+serial_alone low next (x ∷ es) a b h (inl ea) (inl eb) same = sym ea ∙ eb
+serial_alone low next (x ∷ es) a b h (inl ea) (inr ib) same =
+    let above = in_above x.serial next es b h.1 ib in let is : x.serial ≡ a.serial = ap (λ s. s.serial) ea in absurd (omega arith)
+serial_alone low next (x ∷ es) a b h (inr ia) (inl eb) same =
+    let above = in_above x.serial next es a h.1 ia in let is : x.serial ≡ b.serial = ap (λ s. s.serial) eb in absurd (omega arith)
+serial_alone low next (x ∷ es) a b h (inr ia) (inr ib) same = serial_alone x.serial next es a b h.1 ia ib same
+
+-- ---- without the entry of a name
+
+pub in_without : (name : List ℕ) (es : List Entry) (e : Entry) → IsIn e (without_name name es) → IsIn e es × (bytes_eq name e.name ≡ false)
+in_without name [] e h = absurd h
+in_without name (x ∷ es) e h =
+    elim (bytes_eq name x.name) as (λ b. bytes_eq name x.name ≡ b → IsIn e (cond (not b) (x ∷ without_name name es) (without_name name es)) → IsIn e (x ∷ es) × (bytes_eq name e.name ≡ false)) [
+      | true ↦ λ _ h. let rest = in_without name es e h in (inr rest.0, rest.1)
+      | false ↦ λ is h. first is (in_without name es e) h
+    ] refl h
+  where
+    first : bytes_eq name x.name ≡ false → (IsIn e (without_name name es) → IsIn e es × (bytes_eq name e.name ≡ false)) → IsIn e (x ∷ without_name name es) → IsIn e (x ∷ es) × (bytes_eq name e.name ≡ false)
+    first is rest (inl same) = (inl same, ap (λ s. bytes_eq name s.name) (sym same) ∙ is)
+    first is rest (inr h) = (inr (rest h).0, (rest h).1)
+
+pub in_still : (name : List ℕ) (es : List Entry) (e : Entry) → IsIn e es → bytes_eq name e.name ≡ false → IsIn e (without_name name es)
+in_still name [] e h n = absurd h
+in_still name (x ∷ es) e (inl same) n =
+    subst (λ b. IsIn e (cond (not b) (x ∷ without_name name es) (without_name name es))) (sym (ap (λ s. bytes_eq name s.name) same ∙ n)) (inl same)
+in_still name (x ∷ es) e (inr h) n =
+    elim (bytes_eq name x.name) as (λ b. IsIn e (cond (not b) (x ∷ without_name name es) (without_name name es))) [
+      | true ↦ in_still name es e h n
+      | false ↦ inr (in_still name es e h n)
+    ]
+
+-- what is summed up over the entries is less by what was taken away
+abbrev pub weighed : (Entry → ℕ) → List Entry → ℕ
+weighed w [] = 0
+weighed w (e ∷ es) = w e + weighed w es
+
+pub weighed-without : (w : Entry → ℕ) (name : List ℕ) (es : List Entry) (e : Entry) → IsDistinct bytes_eq (names_in es) → entry_named name es ≡ Some e
+    → weighed w (without_name name es) + w e ≡ weighed w es
+weighed-without w name [] e h is = absurd cc
+weighed-without w name (x ∷ es) e h is =
+    elim (bytes_eq name x.name) as (λ b. bytes_eq name x.name ≡ b → cond b (Some x) (entry_named name es) ≡ Some e
+    → weighed w (cond (not b) (x ∷ without_name name es) (without_name name es)) + w e ≡ w x + weighed w es) [
+      | true ↦ λ t is.
+          let same : w x ≡ w e = ap (λ o. option_map_or w o 0) is in
+          let all : weighed w (without_name name es) ≡ weighed w es = ap (weighed w) (none_without name es (all_alike name x.name (names_in es) t (IsDistinct-head bytes_eq x.name (names_in es) h))) in
+          omega arith
+      | false ↦ λ _ is. let rest = weighed-without w name es e (IsDistinct-tail bytes_eq x.name (names_in es) h) is in omega arith
+    ] refl is
