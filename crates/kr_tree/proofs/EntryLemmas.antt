@@ -1,13 +1,14 @@
 -- Lists of entries after one was added or taken away.
-use Rattle.std.proofs.Common.{◌≡◌, inl, inr, subst, ℕ, ◌+◌, ◌<◌, Bool, true, false, not, cond, List, [], ◌∷◌, ◌++◌, filter, ◌||◌, refl, sym, ap, ◌∙◌, arith, lit<, Some, None, Vec}
+use Rattle.std.proofs.Common.{◌≡◌, inl, inr, subst, zero, suc, ◌≤◌, length, get_or, slice_get, nat_le, nat_lt, ℕ, ◌+◌, ◌<◌, Bool, true, false, not, cond, List, [], ◌∷◌, ◌++◌, filter, ◌||◌, refl, sym, ap, ◌∙◌, arith, lit<, Some, None, Vec}
 use Rattle.std.specs.Prelude.{bytes_eq}
 use Rattle.std.specs.Option.{option_map, option_map_or}
 use Rattle.std.specs.List.{list_any, AllByRecursion, IsDistinct}
 use Rattle.std.specs.Map.{lookup, remove_entry}
+use Rattle.std.proofs.lemmas.Bool.Decides.{nat_tests}
 use Rattle.std.proofs.lemmas.Cmp.{nat_list_eq_equiv}
 use Rattle.std.proofs.lemmas.Map.Keys.{IsDistinct-head, IsDistinct-tail, IsDistinct-cons, IsDistinct-push}
 use Rattle.kr_tree.specs.declared.entries.Slot.{Slot}
-use Rattle.kr_tree.specs.Tree.{Entry, entry_named}
+use Rattle.kr_tree.specs.Tree.{Entry, entry_named, entry_after}
 use Rattle.kr_tree.specs.Names.{is_name}
 use Rattle.kr_tree.specs.Changes.{without_name}
 use Rattle.kr_tree.specs.Lawful.{IsIn}
@@ -220,3 +221,34 @@ weighed-without w name (x ∷ es) e h is =
           omega arith
       | false ↦ λ _ is. let rest = weighed-without w name es e (IsDistinct-tail bytes_eq x.name (names_in es) h) is in omega arith
     ] refl is
+
+-- ---- the first entry above a serial
+
+-- at the place that parts the serials at most one from those above it
+pub entry_after-place : {Z : Type 0} (s : ℕ) (es : List (Vec ℕ Z × Slot)) (i : ℕ) → i ≤ length es
+    → ((k : ℕ) (d : Vec ℕ Z × Slot) → k < i → nat_le (get_or es k d).1.serial s ≡ true)
+    → ((d : Vec ℕ Z × Slot) → i < length es → nat_le (get_or es i d).1.serial s ≡ false)
+    → option_map entry_of (slice_get es i) ≡ entry_after s (list_of es)
+entry_after-place s [] i l below at = refl
+entry_after-place s (e ∷ es) zero l below at =
+    let above : nat_lt s e.1.serial ≡ true = let no = at e (omega arith) in grind (arith, nat_tests) in
+    sym (ap (λ b. cond b (Some (entry_of e)) (entry_after s (list_of es))) above)
+entry_after-place s (e ∷ es) (suc i) l below at =
+    let not_above : nat_lt s e.1.serial ≡ false = let yes = below 0 e (omega arith) in grind (arith, nat_tests) in
+    entry_after-place s es i (omega arith) (λ k d h. below (suc k) d (omega arith)) (λ d h. at d (omega arith))
+    ∙ sym (ap (λ b. cond b (Some (entry_of e)) (entry_after s (list_of es))) not_above)
+
+serial_above : {Z : Type 0} (low next : ℕ) (es : List (Vec ℕ Z × Slot)) → RisesWithin low next (list_of es) → (k : ℕ) (d : Vec ℕ Z × Slot) → k < length es → low < (get_or es k d).1.serial
+serial_above low next [] h k d l = absurd (omega arith)
+serial_above low next (e ∷ es) h zero d l = h.0
+serial_above low next (e ∷ es) h (suc k) d l = let rest = serial_above e.1.serial next es h.1 k d (omega arith) in let first = h.0 in omega arith
+
+-- serials at most one stand before those above it
+pub serials_parted : {Z : Type 0} (low next s : ℕ) (es : List (Vec ℕ Z × Slot)) → RisesWithin low next (list_of es) → (i j : ℕ) (d : Vec ℕ Z × Slot) → i ≤ j → j < length es
+    → nat_le (get_or es j d).1.serial s ≡ true → nat_le (get_or es i d).1.serial s ≡ true
+serials_parted low next s [] h i j d l m t = absurd (omega arith)
+serials_parted low next s (e ∷ es) h zero zero d l m t = t
+serials_parted low next s (e ∷ es) h zero (suc j) d l m t =
+    let above = serial_above e.1.serial next es h.1 j d (omega arith) in grind (arith, nat_tests)
+serials_parted low next s (e ∷ es) h (suc i) zero d l m t = absurd (omega arith)
+serials_parted low next s (e ∷ es) h (suc i) (suc j) d l m t = serials_parted e.1.serial next s es h.1 i j d (omega arith) (omega arith) t

@@ -7,13 +7,14 @@ use Rattle.std.proofs.lemmas.Bool.{cases_eq}
 use Rattle.kr_tree.specs.declared.standing.Standing.{Standing}
 use Rattle.kr_tree.specs.Tree.{Tree, Inode, Inodes, Entry, Body, RegularFile, root, inode, entry, entry_named, entries, entries_of, standing, standing_of, above, body_is, is_directory, is_listed, is_filled, body, bytes_of}
 use Rattle.kr_tree.specs.Entries.{IsListed}
-use Rattle.kr_tree.specs.Changes.{with_inode, without_entry, without_name, unnamed, unlinked, dropped_if_unused, is_unused, counted, count_limit, byte_limit, file_limit}
+use Rattle.kr_tree.specs.Changes.{with_inode, without_entry, without_name, unnamed, unlinked, without_unused, freed, is_unused, counted, count_limit, byte_limit, file_limit}
 use Rattle.kr_tree.specs.Lawful.{IsKept, IsSound, IsCounted, RisesToEnd, AtRoot, AtRemoved, Above, IsIn, entries_beside, count_in, directories_in, names_of, total}
-use Rattle.kr_tree.proofs.InodesLemmas.{get-with_same, get-with_other, len-with}
+use Rattle.kr_tree.proofs.InodesLemmas.{get-with_same, get-with_other, len-with, stays-names}
 use Rattle.kr_tree.proofs.EntryLemmas.{listed-without, named_in, in_named, in_above, serial_alone, in_without, in_still, weighed, weighed-without}
 use Rattle.kr_tree.proofs.BodyLemmas.{entries-with_entries, standing-with_entries, is_directory-with_entries, is_listed-with_entries, bytes-with_entries, file-with_entries, entries-with_standing, is_directory-with_standing, is_listed-with_standing, bytes-with_standing, file-with_standing, standing-without, filled-entries, entries-is_listed}
-use Rattle.kr_tree.proofs.CountLemmas.{value, sum-changed, counted-same, counted-other, directories-same, entries_there, there, root_directory}
-use Rattle.kr_tree.proofs.DropLemmas.{kept-dropped}
+use Rattle.kr_tree.proofs.CountLemmas.{value, sum-at, sum-changed, counted-same, counted-other, directories-same, entries_there, there, root_directory}
+use Rattle.kr_tree.proofs.DropLemmas.{kept-dropped, freed-le}
+use Rattle.kr_tree.proofs.QuietLemmas.{of_entries}
 
 -- counts as weights
 weighed-count : (i : ℕ) (es : List Entry) → weighed (λ e. counted (nat_eq i e.inode)) es ≡ count_in i es
@@ -93,7 +94,7 @@ module _ (t : Tree) (sound : IsSound t) (counts : IsCounted t) (dir : ℕ) (name
   not_root same =
       let root_dirs : body_is is_directory t i ≡ true = ap (body_is is_directory t) same ∙ root_directory t sound in
       let stood : standing t i ≡ Some (record { inode = dir; serial = e.serial }) = sym (ap (standing t) e_is) ∙ sound.alone dir e e_in (ap (body_is is_directory t) e_is ∙ root_dirs) in
-      let both : Some (record { inode = dir; serial = e.serial }) ≡ Some (record { inode = root; serial = 0 }) = sym stood ∙ ap (standing t) same ∙ sound.rooted in
+      let both : ◌≡◌ {A = Option Standing} (Some (record { inode = dir; serial = e.serial })) (Some (record { inode = root; serial = 0 })) = sym stood ∙ ap (standing t) same ∙ sound.rooted in
       let zero : e.serial ≡ 0 = ap (λ o. option_map_or (λ s. s.serial) o 0) both in
       let P : List Entry → Type 0 = λ es. IsIn e es in
       let low = in_above 2 x.next_serial (entries_of x.node.body) e x_kept.rises (subst P entries_at e_in) in
@@ -194,7 +195,7 @@ module _ (t : Tree) (sound : IsSound t) (counts : IsCounted t) (dir : ℕ) (name
       let P : List Entry → Type 0 = λ es. IsIn z es in
       let mine : standing t i ≡ Some (record { inode = dir; serial = e.serial }) = sym (ap (standing t) e_is) ∙ sound.alone dir e e_in (ap (body_is is_directory t) (e_is ∙ sym s) ∙ is_dir) in
       let its : standing t i ≡ Some (record { inode = q; serial = z.serial }) = sym (ap (standing t) s) ∙ sound.alone q z (before q z h) is_dir in
-      let both : Some (record { inode = dir; serial = e.serial }) ≡ Some (record { inode = q; serial = z.serial }) = sym mine ∙ its in
+      let both : ◌≡◌ {A = Option Standing} (Some (record { inode = dir; serial = e.serial })) (Some (record { inode = q; serial = z.serial })) = sym mine ∙ its in
       let same_dir : dir ≡ q = ap (λ o. option_map_or (λ s. s.inode) o 0) both in
       let same_serial : e.serial ≡ z.serial = ap (λ o. option_map_or (λ s. s.serial) o 0) both in
       let left = in_without name (entries t dir) z (subst P (ap (entries u) (sym same_dir) ∙ entries_dir) h) in
@@ -360,3 +361,48 @@ module _ (t : Tree) (sound : IsSound t) (counts : IsCounted t) (dir : ℕ) (name
 pub kept-unlinked : (t : Tree) → IsKept t → (dir : ℕ) (name : List ℕ) (i : ℕ) → entry t dir name ≡ Some i → body_is is_filled t i ≡ false → IsKept (unlinked dir name i t)
 kept-unlinked t h dir name i is empty =
     kept-dropped _ (sound-parted t h.sound h.counted dir name i is empty) (counted-parted t h.sound h.counted dir name i is empty) i (used-parted t h.sound h.counted dir name i is empty h.used)
+
+-- ---- the same of what the code leaves
+
+-- the inodes after a name was taken away, before the inode is dropped
+abbrev pub parted : ℕ → List ℕ → ℕ → Bool → Inodes → Inodes
+parted dir name i dirs m = with_inode i unnamed (with_inode dir (without_entry name dirs) m)
+
+pub kept-removed : (t : Tree) → IsKept t → (dir : ℕ) (name : List ℕ) (i : ℕ) → entry t dir name ≡ Some i → body_is is_filled t i ≡ false
+    → (dirs : Bool) → dirs ≡ body_is is_directory t i → (m : Inodes) → m ≡ parted dir name i dirs t.inodes → (n : Inodes) → n ≡ without_unused i m → (gone : ℕ) → gone ≡ freed i m
+    → IsKept (record { inodes = n; next = t.next; names = t.names - 1; bytes = t.bytes - gone }) × (gone ≤ t.bytes)
+kept-removed t h dir name i is empty flag flag_is m m_is n n_is gone gone_is =
+    let all : m ≡ parted dir name i (body_is is_directory t i) t.inodes = m_is ∙ ap (λ b. parted dir name i b t.inodes) flag_is in
+    let P : Inodes → ℕ → Type 0 = λ n gone. IsKept (record { inodes = n; next = t.next; names = t.names - 1; bytes = t.bytes - gone }) × (gone ≤ t.bytes) in
+    subst (λ k. P n k) (sym (gone_is ∙ ap (freed i) all))
+    (subst (λ k. P k (freed i (parted dir name i (body_is is_directory t i) t.inodes))) (sym (n_is ∙ ap (without_unused i) all)) (
+      kept-unlinked t h dir name i is empty,
+      freed-le _ (sound-parted t h.sound h.counted dir name i is empty) (counted-parted t h.sound h.counted dir name i is empty) i,
+    ))
+
+-- a name can be taken off its inode
+pub name_left : (t : Tree) → IsKept t → (dir : ℕ) (name : List ℕ) (i : ℕ) → entry t dir name ≡ Some i → body_is is_filled t i ≡ false → (dirs : Bool)
+    → 0 < option_map_or (λ z. z.names) (map.get (with_inode dir (without_entry name dirs) t.inodes) i) 1
+name_left t h dir name i is empty dirs =
+    let some = has_name t h.sound h.counted dir name i is empty in
+    let same = stays-names t.inodes dir (without_entry name dirs) i (λ _. refl) in
+    by (map.get (with_inode dir (without_entry name dirs) t.inodes) i) (omega arith)
+  where
+    by : (o : Option Inode) → 0 < option_map_or (λ z. z.names) o 0 → 0 < option_map_or (λ z. z.names) o 1
+    by None l = absurd (omega arith)
+    by (Some z) l = l
+
+pub some_name : (t : Tree) → IsKept t → (dir : ℕ) (name : List ℕ) (i : ℕ) → entry t dir name ≡ Some i → 1 ≤ t.names
+some_name t h dir name i is =
+    let e = entry_found name (entry_named name (entries t dir)) i is in
+    let inside = (named_in name (entries t dir) e.0 e.1).0 in
+    let at = entries_there t dir e.0 inside in
+    let one = sum-at (λ z. length (entries_of z.node.body)) t.inodes dir t.next ((h.sound.numbered dir at.0 at.1).1) in
+    let here : value (λ z. length (entries_of z.node.body)) (inode t dir) ≡ length (entries t dir) = of_entries length refl (inode t dir) in
+    let some = filled (entries t dir) e.0 inside in
+    let all = h.counted.all_names in
+    omega arith
+  where
+    filled : (es : List Entry) (e : Entry) → IsIn e es → 1 ≤ length es
+    filled [] e h = absurd h
+    filled (x ∷ es) e h = omega arith

@@ -36,7 +36,7 @@ impl Model for Entries {
 }
 
 impl Entries {
-    ghost use Rattle.kr_tree.specs.Tree.{entry_named};
+    ghost use Rattle.kr_tree.specs.Tree.{entry_named, entry_after};
     ghost use Rattle.kr_tree.specs.Names.{is_name};
     ghost use Rattle.kr_tree.specs.Entries.{no_entries, with_new, without, slot_of, IsListed};
 
@@ -70,6 +70,19 @@ impl Entries {
         ensures { result ≡ option_map slot_of (entry_named name.now self.now.list) }
     {
         self.by_name.get(name).copied()
+    }
+
+    /// The first entry whose serial is above one: its serial, name and inode.
+    pub fn after(&self, serial: u64) -> Option<(u64, &[u8], Ino)>
+        ensures { option_map (λ p. record { name = p.1.now; serial = p.0; inode = p.2 }) result ≡ entry_after serial self.now.list }
+    {
+        let at = self
+            .by_name
+            .partition_point(|_name, slot| slot.serial <= serial);
+        match self.by_name.get_index(at) {
+            Some((name, slot)) => Some((slot.serial, name.as_slice(), slot.inode)),
+            None => None,
+        }
     }
 
     /// Adds an entry, which takes the next serial.

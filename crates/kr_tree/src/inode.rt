@@ -101,6 +101,16 @@ impl Inode {
         }
     }
 
+    /// The first entry of a directory whose serial is above one: its serial, name and inode.
+    pub fn after(&self, serial: u64) -> Option<(u64, &[u8], Ino)>
+        ensures { option_map (λ p. record { name = p.1.now; serial = p.0; inode = p.2 }) result ≡ entry_after serial (entries_of self.now.node.body) }
+    {
+        match &self.content {
+            Content::Dir(dir) => dir.entries.after(serial),
+            _ => None,
+        }
+    }
+
     /// Where a directory stands.
     pub fn standing(&self) -> Option<Standing>
         ensures { result ≡ standing_of self.now.node.body }
@@ -110,6 +120,13 @@ impl Inode {
             Content::Proc(standing) => *standing,
             _ => None,
         }
+    }
+
+    /// Whether it is a directory, as the process directory is.
+    pub fn is_directory(&self) -> bool
+        ensures { result ≡ is_directory self.now.node.body }
+    {
+        matches!(&self.content, Content::Dir(_) | Content::Proc(_))
     }
 
     /// The bytes of a file.

@@ -46,11 +46,11 @@ impl Model for Tree {
 }
 
 impl Tree {
-    ghost use Rattle.kr_tree.specs.Tree.{inode, body, entry, above, body_is, takes_names, may_be_linked, file_of, text_of, bytes_of};
+    ghost use Rattle.kr_tree.specs.Tree.{inode, body, entry, entries, entry_after, above, body_is, is_directory, is_filled, takes_names, may_be_linked, file_of, text_of, bytes_of};
     ghost use Rattle.kr_tree.specs.Rights.{may};
     ghost use Rattle.kr_tree.specs.Names.{is_name};
     ghost use Rattle.kr_tree.specs.Stored.{kind_of, meta_of, body_of_new};
-    ghost use Rattle.kr_tree.specs.Changes.{new_tree, added, next_serial, is_too_big, has_no_room, has_no_name_left, linked, held, released, mode_set, owner_set};
+    ghost use Rattle.kr_tree.specs.Changes.{new_tree, added, next_serial, is_too_big, has_no_room, has_no_name_left, linked, removed, held, released, mode_set, owner_set};
     ghost use Rattle.kr_tree.specs.Lawful.{IsKept, HasItsInodes};
 
     /// A tree with a root alone, by the mode, owner and group of `root`.
@@ -108,6 +108,14 @@ impl Tree {
             Some(slot) => Some(slot.inode),
             None => None,
         }
+    }
+
+    /// The first entry of a directory whose serial is above `after`: its serial, name and inode.
+    /// `None` exactly where no entry's is.
+    pub fn next_entry(&self, dir: Ino, after: u64) -> Option<(u64, &[u8], Ino)>
+        ensures { option_map (λ p. record { name = p.1.now; serial = p.0; inode = p.2 }) result ≡ entry_after after (entries self.now dir) }
+    {
+        self.store.get(dir)?.after(after)
     }
 
     /// The inode above a directory or the process directory; `None` exactly where it is neither or
@@ -213,6 +221,22 @@ impl Tree {
         Ok(())
     }
 
+    /// Takes a name away, if there is one. Its inode is dropped if it has no other name and no hold; a
+    /// directory that is held stays, and stands nowhere.
+    pub fn remove(&mut self, dir: Ino, name: &[u8])
+        requires empty { IfSome (entry self.old dir name.now) (λ ino. body_is is_filled self.old ino ≡ false) }
+        ensures { self.new ≡ removed dir name.now self.old }
+    {
+        if let Some(ino) = self.entry(dir, name) {
+            let is_dir = self.is_directory(ino);
+            self.store.remove_entry(dir, name, is_dir);
+            self.store.remove_name(ino);
+            let freed = self.store.remove_if_unused(ino);
+            self.names -= 1;
+            self.bytes -= freed;
+        }
+    }
+
     /// Holds an inode once more: while it is held it stays, also without a name.
     pub fn hold(&mut self, ino: Ino)
         requires there { IsSome (inode self.old ino) }
@@ -256,6 +280,16 @@ impl Tree {
         COUNT_LIMIT as usize <= self.store.len()
             || COUNT_LIMIT <= self.names
             || BYTE_LIMIT < self.bytes + size
+    }
+
+    /// Whether an inode is a directory, as the process directory is.
+    fn is_directory(&self, ino: Ino) -> bool
+        ensures { result ≡ body_is is_directory self.now ino }
+    {
+        match self.store.get(ino) {
+            Some(inode) => inode.is_directory(),
+            None => false,
+        }
     }
 
     /// The serial that the next entry of a directory takes.
