@@ -1,0 +1,113 @@
+-- Inodes after one of them was changed.
+use Rattle.std.specs.FinMap as map
+use Rattle.std.proofs.Common.{◌≡◌, ◌≢◌, inl, inr, subst, ℕ, ◌+◌, true, false, refl, sym, ap, ◌∙◌, arith, cond, Option, Some, None, is_some}
+use Rattle.std.specs.Option.{option_map, option_map_or}
+use Rattle.std.specs.Ordering.{nat_cmp, eq_by_cmp}
+use Rattle.std.specs.Cmp.{nat_cmp_total}
+use Rattle.std.proofs.lemmas.Bool.{cases_eq}
+use Rattle.std.proofs.lemmas.Bool.Decides.{nat_tests}
+use Rattle.kr_tree.specs.Tree.{Inode, Inodes}
+use Rattle.kr_tree.specs.Changes.{with_inode}
+
+-- two maps with the same inodes are the same
+pub same_inodes : (m n : Inodes) → ((q : ℕ) → map.get m q ≡ map.get n q) → m ≡ n
+same_inodes m n h = map.same_map nat_cmp_total map.nat_cmp-IsAntisymmetric m n h
+
+pub ties-same : (q : ℕ) → eq_by_cmp nat_cmp q q ≡ true
+ties-same q = grind (arith, nat_tests)
+
+pub ties-other : (q k : ℕ) → q ≢ k → eq_by_cmp nat_cmp q k ≡ false
+ties-other q k h = grind (arith, nat_tests)
+
+pub get-insert_same : (m : Inodes) (k : ℕ) (x : Inode) → map.get (map.insert m k x) k ≡ Some x
+get-insert_same m k x = map.get-insert nat_cmp_total m k x k ∙ ap (λ b. cond b (Some x) (map.get m k)) (ties-same k)
+
+pub get-insert_other : (m : Inodes) (k : ℕ) (x : Inode) (q : ℕ) → q ≢ k → map.get (map.insert m k x) q ≡ map.get m q
+get-insert_other m k x q h = map.get-insert nat_cmp_total m k x q ∙ ap (λ b. cond b (Some x) (map.get m q)) (ties-other q k h)
+
+pub get-remove_same : (m : Inodes) (k : ℕ) → map.get (map.remove m k) k ≡ None
+get-remove_same m k = map.get-remove nat_cmp_total m k k ∙ ap (λ b. cond b None (map.get m k)) (ties-same k)
+
+pub get-remove_other : (m : Inodes) (k : ℕ) (q : ℕ) → q ≢ k → map.get (map.remove m k) q ≡ map.get m q
+get-remove_other m k q h = map.get-remove nat_cmp_total m k q ∙ ap (λ b. cond b None (map.get m q)) (ties-other q k h)
+
+pub get-with_same : (m : Inodes) (k : ℕ) (f : Inode → Inode) → map.get (with_inode k f m) k ≡ option_map f (map.get m k)
+unfolding with_inode
+get-with_same m k f =
+    elim (map.get m k) as (λ o. map.get m k ≡ o → map.get (option_map_or (λ x. map.insert m k (f x)) o m) k ≡ option_map f o) [
+      | None ↦ λ e. e
+      | Some x ↦ λ e. get-insert_same m k (f x)
+    ] refl
+
+pub get-with_other : (m : Inodes) (k : ℕ) (f : Inode → Inode) (q : ℕ) → q ≢ k → map.get (with_inode k f m) q ≡ map.get m q
+unfolding with_inode
+get-with_other m k f q h =
+    elim (map.get m k) as (λ o. map.get (option_map_or (λ x. map.insert m k (f x)) o m) q ≡ map.get m q) [
+      | None ↦ refl
+      | Some x ↦ get-insert_other m k (f x) q h
+    ]
+
+-- by the inode that is looked up: the one that was changed, or another
+pub by_inode : (P : ℕ → Type 0) (k : ℕ) → P k → ((q : ℕ) → q ≢ k → P q) → (q : ℕ) → P q
+by_inode P k here there q = elim (cases_eq q k) [ inl e ↦ subst P (sym e) here | inr h ↦ there q h ]
+
+pub with_inode_none : (m : Inodes) (k : ℕ) (f : Inode → Inode) → map.get m k ≡ None → with_inode k f m ≡ m
+unfolding with_inode
+with_inode_none m k f e = ap (λ o. option_map_or (λ x. map.insert m k (f x)) o m) e
+
+pub with_inode_some : (m : Inodes) (k : ℕ) (f : Inode → Inode) (x : Inode) → map.get m k ≡ Some x → with_inode k f m ≡ map.insert m k (f x)
+unfolding with_inode
+with_inode_some m k f x e = ap (λ o. option_map_or (λ x. map.insert m k (f x)) o m) e
+
+-- as many inodes as before
+pub len-with : (m : Inodes) (k : ℕ) (f : Inode → Inode) → map.len (with_inode k f m) ≡ map.len m
+unfolding with_inode
+len-with m k f =
+    elim (map.get m k) as (λ o. map.get m k ≡ o → map.len (option_map_or (λ x. map.insert m k (f x)) o m) ≡ map.len m) [
+      | None ↦ λ e. refl
+      | Some x ↦ λ e. map.len-insert nat_cmp_total m k (f x) ∙ ap (λ o. cond (is_some o) (map.len m) (map.len m + 1)) e
+    ] refl
+
+-- an inode put in where there was none and taken away again
+pub remove-insert : (m : Inodes) (k : ℕ) (x : Inode) → map.get m k ≡ None → map.remove (map.insert m k x) k ≡ m
+remove-insert m k x none =
+    same_inodes _ _ (by_inode (λ q. map.get (map.remove (map.insert m k x) k) q ≡ map.get m q) k
+    (get-remove_same (map.insert m k x) k ∙ sym none)
+    (λ q h. get-remove_other (map.insert m k x) k q h ∙ get-insert_other m k x q h))
+
+pub with_inode_id : (m : Inodes) (k : ℕ) → with_inode k (λ x. x) m ≡ m
+with_inode_id m k =
+    same_inodes _ _ (by_inode (λ q. map.get (with_inode k (λ x. x) m) q ≡ map.get m q) k
+    (get-with_same m k (λ x. x) ∙ same (map.get m k))
+    (λ q h. get-with_other m k (λ x. x) q h))
+  where
+    same : (o : Option Inode) → option_map (λ x. x) o ≡ o
+    same None = refl
+    same (Some x) = refl
+
+-- a number at which nothing is, and one at which something is, differ
+pub apart : (m : Inodes) (i k : ℕ) → map.get m i ≡ None → is_some (map.get m k) ≡ true → k ≢ i
+apart m i k none there e = let no : false ≡ true = sym (ap is_some (ap (map.get m) e ∙ none)) ∙ there in absurd cc
+
+-- a change at one number and a new inode at another, in either order
+pub with-insert : (m : Inodes) (k i : ℕ) (f : Inode → Inode) (x : Inode) → k ≢ i → with_inode k f (map.insert m i x) ≡ map.insert (with_inode k f m) i x
+with-insert m k i f x h =
+    same_inodes _ _ (by_inode (λ q. map.get (with_inode k f (map.insert m i x)) q ≡ map.get (map.insert (with_inode k f m) i x) q) k
+    (get-with_same (map.insert m i x) k f ∙ ap (option_map f) (get-insert_other m i x k h)
+    ∙ sym (get-insert_other (with_inode k f m) i x k h ∙ get-with_same m k f))
+    (λ q other. get-with_other (map.insert m i x) k f q other
+    ∙ by_inode (λ q. q ≢ k → map.get (map.insert m i x) q ≡ map.get (map.insert (with_inode k f m) i x) q) i
+    (λ _. get-insert_same m i x ∙ sym (get-insert_same (with_inode k f m) i x))
+    (λ q away other. get-insert_other m i x q away ∙ sym (get-with_other m k f q other) ∙ sym (get-insert_other (with_inode k f m) i x q away)) q other))
+
+-- a change that leaves the number of names
+pub stays-names : (m : Inodes) (k : ℕ) (f : Inode → Inode) (q : ℕ) → ((x : Inode) → (f x).names ≡ x.names)
+    → option_map_or (λ x. x.names) (map.get (with_inode k f m) q) 0 ≡ option_map_or (λ x. x.names) (map.get m q) 0
+stays-names m k f q same =
+    by_inode (λ q. option_map_or (λ x. x.names) (map.get (with_inode k f m) q) 0 ≡ option_map_or (λ x. x.names) (map.get m q) 0) k
+    (ap (λ o. option_map_or (λ x. x.names) o 0) (get-with_same m k f) ∙ mapped (map.get m k))
+    (λ q d. ap (λ o. option_map_or (λ x. x.names) o 0) (get-with_other m k f q d)) q
+  where
+    mapped : (o : Option Inode) → option_map_or (λ x. x.names) (option_map f o) 0 ≡ option_map_or (λ x. x.names) o 0
+    mapped None = refl
+    mapped (Some x) = same x

@@ -1,0 +1,311 @@
+//! The tree.
+ghost use Rattle.std.specs.Prelude.{◌≡◌, ◌+◌, ◌-◌, ◌^◌, ◌<◌, ◌↔◌, ◌&&◌, not, true, false, Some, None, OnOk, OnErr, IfOk, IsSome, length, IsErrOf, IsTrue, IfSome};
+ghost use Rattle.std.specs.Option.{option_map, option_map_or, option_and_then, option_copied};
+
+use crate::inode::Inode;
+use crate::node::{Kind, Meta, Node, TreeRefusal};
+use crate::place::Ino;
+use crate::standing::Standing;
+use crate::store::Store;
+use crate::user::{Right, User};
+use pr_base::NoMemory;
+use std::alloc::Global;
+use std::marker::Model;
+
+/// The number of the root.
+pub const ROOT: Ino = 1;
+
+/// The most inodes, and the most names, the root's apart.
+const COUNT_LIMIT: u32 = 1_048_576;
+
+/// The most bytes of files and links' texts in all.
+const BYTE_LIMIT: u64 = 268_435_456;
+
+/// A tree of inodes: directories, files, links and at most one way to each directory. A proof sees
+/// it as a finite map of inodes by their numbers.
+#[derive(Drop)]
+pub struct Tree {
+    store: Store,
+    next: Ino,
+    names: u32,
+    bytes: u64,
+    alloc: Global,
+}
+
+impl Model for Tree {
+    ghost use Rattle.kr_tree.specs.Tree.{Tree, tree_code};
+    ghost use Rattle.kr_tree.specs.Lawful.{IsKept};
+
+    ghost Value = { Tree };
+
+    ghost coded = { tree_code };
+
+    ghost view = { λ t. record { inodes = t.store; next = t.next; names = t.names; bytes = t.bytes } };
+
+    ghost invariant = { λ t. IsKept (record { inodes = t.store; next = t.next; names = t.names; bytes = t.bytes }) };
+}
+
+impl Tree {
+    ghost use Rattle.kr_tree.specs.Tree.{inode, body, entry, entries, entry_after, above, body_is, is_directory, is_filled, takes_names, may_be_linked, file_of, text_of, bytes_of};
+    ghost use Rattle.kr_tree.specs.Rights.{may};
+    ghost use Rattle.kr_tree.specs.Names.{is_name};
+    ghost use Rattle.kr_tree.specs.Stored.{kind_of, meta_of, body_of_new};
+    ghost use Rattle.kr_tree.specs.Changes.{new_tree, added, next_serial, is_too_big, has_no_room, has_no_name_left, linked, removed, held, released, mode_set, owner_set};
+    ghost use Rattle.kr_tree.specs.Lawful.{IsKept, HasItsInodes};
+
+    /// A tree with a root alone, by the mode, owner and group of `root`.
+    pub fn new(alloc: Global, root: Meta) -> Result<Tree, NoMemory>
+        ensures { IfOk result (λ tree. tree ≡ new_tree root.mode root.uid root.gid) }
+    {
+        let standing = Standing {
+            inode: ROOT,
+            serial: 0,
+        };
+        let mut store = Store::new(alloc);
+        store.insert(ROOT, Inode::new(alloc, Node::Dir, root, standing))?;
+        Ok(Tree {
+            store,
+            next: ROOT + 1,
+            names: 0,
+            bytes: 0,
+            alloc,
+        })
+    }
+
+    /// What holds of every tree.
+    pub fn is_kept(&self)
+        ensures kept { IsKept self.now }
+        ensures there { HasItsInodes self.now }
+    {
+        let _ = &self.next;
+    }
+
+    /// The kind of an inode; `None` exactly where it isn't there.
+    pub fn kind(&self, ino: Ino) -> Option<Kind>
+        ensures { result ≡ option_map kind_of (body self.now ino) }
+    {
+        match self.store.get(ino) {
+            Some(inode) => Some(inode.kind()),
+            None => None,
+        }
+    }
+
+    /// What stat(2) tells of an inode; `None` exactly where it isn't there.
+    pub fn meta(&self, ino: Ino) -> Option<Meta>
+        ensures { result ≡ option_map meta_of (inode self.now ino) }
+    {
+        match self.store.get(ino) {
+            Some(inode) => Some(inode.meta()),
+            None => None,
+        }
+    }
+
+    /// The inode of a name in a directory; `None` exactly where there is no such entry.
+    pub fn entry(&self, dir: Ino, name: &[u8]) -> Option<Ino>
+        ensures { result ≡ entry self.now dir name.now }
+    {
+        match self.store.get(dir)?.find(name) {
+            Some(slot) => Some(slot.inode),
+            None => None,
+        }
+    }
+
+    /// The first entry of a directory whose serial is above `after`: its serial, name and inode.
+    /// `None` exactly where no entry's is.
+    pub fn next_entry(&self, dir: Ino, after: u64) -> Option<(u64, &[u8], Ino)>
+        ensures { option_map (λ p. record { name = p.1.now; serial = p.0; inode = p.2 }) result ≡ entry_after after (entries self.now dir) }
+    {
+        self.store.get(dir)?.after(after)
+    }
+
+    /// The inode above a directory or the process directory; `None` exactly where it is neither or
+    /// was removed. Above the root is the root.
+    pub fn above(&self, dir: Ino) -> Option<Ino>
+        ensures { result ≡ above self.now dir }
+    {
+        match self.store.get(dir)?.standing() {
+            Some(standing) => Some(standing.inode),
+            None => None,
+        }
+    }
+
+    /// Whether the inode is there and the user has a right to it.
+    pub fn may(&self, user: User, ino: Ino, right: Right) -> bool
+        ensures { result ≡ may self.now user ino right }
+    {
+        match self.store.get(ino) {
+            Some(inode) => inode.allows(user, right),
+            None => false,
+        }
+    }
+
+    /// The bytes of a file; `None` exactly where it is no file.
+    pub fn file(&self, ino: Ino) -> Option<&[u8]>
+        ensures { option_copied result ≡ option_and_then file_of (body self.now ino) }
+    {
+        self.store.get(ino)?.file()
+    }
+
+    /// The text of a link; `None` exactly where it is no link.
+    pub fn link_text(&self, ino: Ino) -> Option<&[u8]>
+        ensures { option_copied result ≡ option_and_then text_of (body self.now ino) }
+    {
+        self.store.get(ino)?.link_text()
+    }
+
+    /// How many of a directory's entries are directories, the process directory among them.
+    pub fn directories(&self, dir: Ino) -> u32
+        ensures { result ≡ option_map_or (λ x. x.directories) (inode self.now dir) 0 }
+    {
+        match self.store.get(dir) {
+            Some(inode) => inode.directories(),
+            None => 0,
+        }
+    }
+
+    /// Puts a new node under a free name in a directory, and gives its number, the next one.
+    /// TooBig comes before Full.
+    pub fn add(&mut self, dir: Ino, name: &[u8], node: Node, meta: Meta) -> Result<Ino, TreeRefusal>
+        requires directory { body_is takes_names self.old dir ≡ true }
+        requires well_formed { is_name name.now ≡ true }
+        requires free { entry self.old dir name.now ≡ None }
+        requires numbers { self.old.next + 1 < 2 ^ 32 }
+        requires serials { next_serial self.old dir + 1 < 2 ^ 64 }
+        ensures too_big { IsErrOf result TreeRefusal.TooBig ↔ IsTrue (is_too_big (body_of_new node)) }
+        ensures full { IsErrOf result TreeRefusal.Full ↔ IsTrue (not (is_too_big (body_of_new node)) && has_no_room (length (bytes_of (body_of_new node))) self.old) }
+        ensures number { IfOk result (λ ino. ino ≡ self.old.next) }
+        ensures ok { OnOk result (self.new ≡ added dir name.now meta.mode meta.uid meta.gid (body_of_new node) self.old) }
+        ensures err { OnErr result (self.new ≡ self.old) }
+    {
+        let size = node.size();
+        if node.is_too_big() {
+            return Err(TreeRefusal::TooBig);
+        }
+        if self.has_no_room(size) {
+            return Err(TreeRefusal::Full);
+        }
+        let ino = self.next;
+        let is_dir = node.is_directory();
+        let standing = Standing {
+            inode: dir,
+            serial: self.next_serial(dir),
+        };
+        let name = self.copy(name)?;
+        let inode = Inode::new(self.alloc, node, meta, standing);
+        self.store.put(dir, name, ino, inode, is_dir)?;
+        self.next += 1;
+        self.names += 1;
+        self.bytes += size;
+        Ok(ino)
+    }
+
+    /// Gives a file or a link another name, which is free.
+    pub fn link(&mut self, dir: Ino, name: &[u8], file: Ino) -> Result<(), TreeRefusal>
+        requires directory { body_is takes_names self.old dir ≡ true }
+        requires well_formed { is_name name.now ≡ true }
+        requires free { entry self.old dir name.now ≡ None }
+        requires serials { next_serial self.old dir + 1 < 2 ^ 64 }
+        requires file { body_is may_be_linked self.old file ≡ true }
+        ensures full { IsErrOf result TreeRefusal.Full ↔ IsTrue (has_no_name_left self.old) }
+        ensures never_too_big { ¬ IsErrOf result TreeRefusal.TooBig }
+        ensures ok { OnOk result (self.new ≡ linked dir name.now file self.old) }
+        ensures err { OnErr result (self.new ≡ self.old) }
+    {
+        if COUNT_LIMIT <= self.names {
+            return Err(TreeRefusal::Full);
+        }
+        let name = self.copy(name)?;
+        self.store.add_entry(dir, name, file, false)?;
+        self.store.add_name(file);
+        self.names += 1;
+        Ok(())
+    }
+
+    /// Takes a name away, if there is one. Its inode is dropped if it has no other name and no hold; a
+    /// directory that is held stays, and stands nowhere.
+    pub fn remove(&mut self, dir: Ino, name: &[u8])
+        requires empty { IfSome (entry self.old dir name.now) (λ ino. body_is is_filled self.old ino ≡ false) }
+        ensures { self.new ≡ removed dir name.now self.old }
+    {
+        if let Some(ino) = self.entry(dir, name) {
+            let is_dir = self.is_directory(ino);
+            self.store.remove_entry(dir, name, is_dir);
+            self.store.remove_name(ino);
+            let freed = self.store.remove_if_unused(ino);
+            self.names -= 1;
+            self.bytes -= freed;
+        }
+    }
+
+    /// Holds an inode once more: while it is held it stays, also without a name.
+    pub fn hold(&mut self, ino: Ino)
+        requires there { IsSome (inode self.old ino) }
+        requires holds { option_map_or (λ x. x.holds) (inode self.old ino) 0 + 1 < 2 ^ 32 }
+        ensures { self.new ≡ held ino self.old }
+    {
+        self.store.hold(ino);
+    }
+
+    /// Takes one hold off an inode, which is dropped if it has no name and no other hold.
+    pub fn release(&mut self, ino: Ino)
+        requires { 0 < option_map_or (λ x. x.holds) (inode self.old ino) 0 }
+        ensures { self.new ≡ released ino self.old }
+    {
+        self.store.release(ino);
+        let freed = self.store.remove_if_unused(ino);
+        self.bytes -= freed;
+    }
+
+    /// Gives an inode another mode.
+    pub fn set_mode(&mut self, ino: Ino, mode: u16)
+        requires { IsSome (inode self.old ino) }
+        ensures { self.new ≡ mode_set ino mode self.old }
+    {
+        self.store.set_mode(ino, mode);
+    }
+
+    /// Gives an inode another owner and group.
+    pub fn set_owner(&mut self, ino: Ino, uid: u32, gid: u32)
+        requires { IsSome (inode self.old ino) }
+        ensures { self.new ≡ owner_set ino uid gid self.old }
+    {
+        self.store.set_owner(ino, uid, gid);
+    }
+
+    /// Whether there is no room for one inode more, with a name and `size` bytes.
+    fn has_no_room(&self, size: u64) -> bool
+        requires { size < 2 ^ 63 }
+        ensures { result ≡ has_no_room size self.now }
+    {
+        COUNT_LIMIT as usize <= self.store.len()
+            || COUNT_LIMIT <= self.names
+            || BYTE_LIMIT < self.bytes + size
+    }
+
+    /// Whether an inode is a directory, as the process directory is.
+    fn is_directory(&self, ino: Ino) -> bool
+        ensures { result ≡ body_is is_directory self.now ino }
+    {
+        match self.store.get(ino) {
+            Some(inode) => inode.is_directory(),
+            None => false,
+        }
+    }
+
+    /// The serial that the next entry of a directory takes.
+    fn next_serial(&self, dir: Ino) -> u64
+        ensures { result ≡ next_serial self.now dir }
+    {
+        match self.store.get(dir) {
+            Some(inode) => inode.next_serial(),
+            None => 0,
+        }
+    }
+
+    /// A copy of a name.
+    fn copy(&self, name: &[u8]) -> Result<Vec<u8>, NoMemory>
+        ensures { IfOk result (λ copy. copy.items ≡ name.now) }
+    {
+        Ok(name.to_vec(self.alloc)?)
+    }
+}
