@@ -2,8 +2,9 @@
 use Rattle.std.proofs.Common.{◌≡◌, ℕ, ◌+◌, ◌-◌, ◌*◌, ◌<◌, ◌≤◌, zero, suc, List, [], ◌∷◌, ◌++◌, length, take, drop, replicate, get_or, refl, sym, ap, ◌∙◌, arith, append_assoc, length-append, add-one, drop-cons, Some, None, Option}
 use Rattle.std.specs.Prelude.{slice_get, Result, Ok, Err, OnOk}
 use Rattle.std.specs.Int.{to_le_bytes, w64}
-use Rattle.std.proofs.lemmas.List.{drop_all, take-replicate}
-use Rattle.elf_load.specs.FirstStack.{text_bytes, text_addresses, word_bytes, pair_words, words_of, zeros, texts_at, texts_size, stack_pointer, word_count, stack_bytes, random_bytes, random_at}
+use Rattle.std.proofs.lemmas.List.{drop_all, length-replicate, take-replicate}
+use Rattle.elf_read.specs.declared.plan.Plan.{Plan}
+use Rattle.elf_load.specs.FirstStack.{aligned, text_bytes, text_addresses, word_bytes, pair_words, pairs_of, words_of, zeros, texts_at, texts_size, stack_pointer, word_count, stack_bytes, random_bytes, random_at}
 use Rattle.elf_load.specs.declared.stack.Pair.{Pair}
 
 -- what is left behind a place that is there
@@ -109,3 +110,69 @@ stack-built pairs args env b0 b1 b2 b3 b4 b5 b6 n k e0 e1 e2 e3 e4 e5 e6 is_n is
     ∙ ap (λ b. b ++ text_bytes args) (e2
     ∙ ap (λ j. b1 ++ zeros j) is_n
     ∙ ap (λ b. b ++ zeros (texts_at args env - (stack_pointer args env + 8 * word_count args env))) first))))
+
+-- ---- how large the stack is
+
+length-word_bytes : (ws : List ℕ) → length (word_bytes ws) ≡ 8 * length ws
+length-word_bytes [] = refl
+length-word_bytes (w ∷ ws) =
+    let first : length (to_le_bytes w64 w) ≡ 8 = refl in
+    omega (arith, first, length-append (to_le_bytes w64 w) (word_bytes ws), length-word_bytes ws)
+
+length-text_addresses : (at : ℕ) (ts : List (List ℕ)) → length (text_addresses at ts) ≡ length ts
+length-text_addresses at [] = refl
+length-text_addresses at (t ∷ ts) = ap suc (length-text_addresses (at + length t + 1) ts)
+
+length-words : (pairs : List Pair) (args env : List (List ℕ)) → length (pair_words pairs) ≡ 24 → length (words_of pairs args env) ≡ word_count args env
+length-words pairs args env twelve =
+    let at = texts_at args env in
+    let behind = at + length (text_bytes args) in
+    omega (
+      arith,
+      twelve,
+      length-text_addresses at args,
+      length-text_addresses behind env,
+      length-append (text_addresses at args) (0 ∷ (text_addresses behind env ++ (0 ∷ pair_words pairs))),
+      length-append (text_addresses behind env) (0 ∷ pair_words pairs),
+    )
+
+length-zeros : (n : ℕ) → length (zeros n) ≡ n
+unfolding zeros
+length-zeros n = length-replicate n 0
+
+-- what may be given leaves room in 1 MiB
+pub stack_low : (args env : List (List ℕ)) → texts_size args env ≤ 131072 → length args ≤ 4096 → length env ≤ 4096 → 0x3F_FFEF_F000 ≤ stack_pointer args env
+stack_low args env size few_args few_env = omega arith
+
+-- and reaches to the top
+pub stack_ends : (plan : Plan) (ids : List ℕ) (args env : List (List ℕ)) → texts_size args env ≤ 131072 → length args ≤ 4096 → length env ≤ 4096
+    → stack_pointer args env + length (stack_bytes (pairs_of plan ids) args env) ≡ 0x3F_FFFF_F000
+stack_ends plan ids args env size few_args few_env =
+    let pairs = pairs_of plan ids in
+    let words : length (word_bytes (words_of pairs args env)) ≡ 8 * word_count args env =
+    length-word_bytes (words_of pairs args env) ∙ ap (λ n. 8 * n) (length-words pairs args env refl) in
+    let below = texts_at args env - (stack_pointer args env + 8 * word_count args env) in
+    let above = random_at - (texts_at args env + texts_size args env) in
+    let b1 = word_bytes (words_of pairs args env) in
+    let b2 = b1 ++ zeros below in
+    let b3 = b2 ++ text_bytes args in
+    let b4 = b3 ++ text_bytes env in
+    omega (
+      arith,
+      words,
+      length-append b1 (zeros below),
+      length-zeros below,
+      length-append b2 (text_bytes args),
+      length-append b3 (text_bytes env),
+      length-append b4 (zeros above),
+      length-zeros above,
+      length-append (b4 ++ zeros above) random_bytes,
+    )
+
+-- the stack pointer as it is computed
+pub pointer-is : (args env : List (List ℕ)) (size at args_count env_count sp : ℕ) → at ≡ aligned (random_at - size) → size ≡ texts_size args env → args_count ≡ length args → env_count ≡ length env
+    → sp ≡ aligned (at - 8 * (args_count + env_count + 27)) → sp ≡ stack_pointer args env
+pointer-is args env size at args_count env_count sp is_at is_size is_args is_env is_sp =
+    let first : at ≡ texts_at args env = is_at ∙ ap (λ s. aligned (random_at - s)) is_size in
+    let count : 8 * (args_count + env_count + 27) ≡ 8 * word_count args env = omega arith in
+    is_sp ∙ ap (λ n. aligned (at - n)) count ∙ ap (λ t. aligned (t - 8 * word_count args env)) first

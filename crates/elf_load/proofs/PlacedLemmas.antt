@@ -1,17 +1,17 @@
 -- Pages whose rights are given after their bytes are written, and how many pages there are.
 use Rattle.std.specs.FinMap as map
-use Rattle.std.proofs.Common.{◌≡◌, ◌≢◌, ◌⊎◌, inl, inr, ℕ, ◌+◌, ◌-◌, ◌*◌, ◌/◌, ◌%◌, ◌≤◌, ◌<◌, zero, suc, Bool, true, false, ◌||◌, nat_lt, List, [], ◌∷◌, ◌++◌, length, drop, get_or, refl, sym, ap, ◌∙◌, arith, Some, None, Option, add-one, drop-cons}
-use Rattle.std.specs.Option.{option_map}
-use Rattle.std.specs.Prelude.{IsTrue, Result, Ok, Err, is_ok, OnOk}
+use Rattle.std.proofs.Common.{◌≡◌, ◌≢◌, ◌⊎◌, inl, inr, ℕ, ◌+◌, ◌-◌, ◌*◌, ◌/◌, ◌%◌, ◌≤◌, ◌<◌, zero, suc, Bool, true, false, ◌||◌, nat_lt, List, [], ◌∷◌, ◌++◌, length, drop, get_or, refl, sym, ap, ◌∙◌, arith, Some, None, Option, add-one, drop-cons, is_some, ◌&&◌}
+use Rattle.std.specs.Option.{option_map, option_map_or}
 use Rattle.std.proofs.lemmas.Bool.{cases_eq}
 use Rattle.std.proofs.lemmas.Bool.Decides.{nat_tests}
 use Rattle.std.proofs.lemmas.List.{drop_all}
 use Rattle.rv_mem.specs.declared.rights.Rights.{Rights}
-use Rattle.rv_mem.specs.Page.{PageState, fresh_page, page_with_rights, page_written}
-use Rattle.rv_mem.specs.Pages.{Pages, with_page, written, mapped, protected}
+use Rattle.rv_mem.specs.declared.rights.Use.{Use}
+use Rattle.rv_mem.specs.Page.{PageState, grants, page_with_rights, page_written}
+use Rattle.rv_mem.specs.Pages.{Pages, with_page, written, mapped, protected, allows, allows_all, has_pages}
 use Rattle.rv_mem.specs.Memory.{Memory, with_pages, page_count, room_after, passes_limit}
 use Rattle.rv_mem.proofs.PagesLemmas.{same_pages, get-with_page_same, get-with_page_other, with_page_twice, with_page_same}
-use Rattle.rv_mem.proofs.ChangeLemmas.{get-mapped_in, get-mapped_out, len-mapped-le, len-written, len-protected}
+use Rattle.rv_mem.proofs.ChangeLemmas.{get-mapped_in, get-mapped_out, len-mapped-le, len-written, len-protected, contains-written}
 use Rattle.rv_mem.proofs.TableLemmas.{by_range, mapped-zero}
 use Rattle.elf_load.specs.Image.{with_segment, with_segments, with_stack, exceeds_pages, end_page, break_from, first_page, file_bytes, rights_in, stack_pages, stack_rights}
 use Rattle.elf_load.specs.FirstStack.{stack_top}
@@ -193,11 +193,6 @@ stack-limits m sp room bytes counted =
     passes-exceeds room m (mapped m (stack_top / page_size - stack_pages) stack_pages stack_rights) counted
     ∙ ap (exceeds_pages (room - page_count m)) (sym (count-with_stack m sp bytes))
 
--- what is done where a call answered Ok
-pub where_ok : {T E : Type 0} (r : Result T E) (P : Type 0) → is_ok r ≡ true → OnOk r P → P
-where_ok (Ok x) P e h = h
-where_ok (Err x) P e h = cc
-
 pub segment-put : (file : List ℕ) (m mapped_memory written_memory protected_memory : Memory) (s : Segment) (first n : ℕ) (before rights : Rights) (bytes : List ℕ)
     → first ≡ first_page s → n ≡ end_page s - first_page s → rights ≡ rights_in s.flags → bytes ≡ file_bytes file s
     → mapped_memory ≡ with_pages m (mapped m.pages first n before)
@@ -238,3 +233,31 @@ segments-exceed file start m segments i d others others' within same so_far pass
     let count = ap page_count all in
     exceeds-more others (page_count (with_segment file m (get_or segments i d))) (page_count (with_segments file start segments)) (omega arith)
     (ap (λ o. exceeds_pages o (page_count (with_segment file m (get_or segments i d)))) (sym same) ∙ passes)
+
+-- ---- bytes and pages that are there
+
+-- every byte of mapped pages may be used as their rights say
+pub allowed-mapped : (m : Pages) (first n : ℕ) (rights : Rights) (at len : ℕ) (what : Use) → grants rights what ≡ true → first * 4096 ≤ at → at + len ≤ (first + n) * 4096
+    → allows_all (mapped m first n rights) at len what ≡ true
+unfolding allows_all
+allowed-mapped m first n rights at zero what granted low high = refl
+allowed-mapped m first n rights at (suc len) what granted low high =
+    let place : first + (at / 4096 - first) ≡ at / 4096 = omega arith in
+    let here : allows (mapped m first n rights) at what ≡ true =
+    ap (λ k. option_map_or (λ p. grants p.rights what) (map.get (mapped m first n rights) k) false) (sym place)
+    ∙ ap (λ o. option_map_or (λ p. grants p.rights what) o false) (get-mapped_in m first n rights (at / 4096 - first) (omega arith))
+    ∙ granted in
+    ap (λ b. b && allows_all (mapped m first n rights) (at + 1) len what) here
+    ∙ allowed-mapped m first n rights (at + 1) len what granted (omega arith) (omega arith)
+
+all_there : (m : Pages) (first n : ℕ) → ((k : ℕ) → k < n → map.contains_key m (first + k) ≡ true) → has_pages m first n ≡ true
+unfolding has_pages
+all_there m first zero there = refl
+all_there m first (suc n) there =
+    ap (λ b. b && map.contains_key m (first + n)) (all_there m first n (λ k l. there k (omega arith))) ∙ there n (omega arith)
+
+-- pages that were mapped are there, also after bytes were written
+pub there-written : (m : Pages) (first n : ℕ) (rights : Rights) (at : ℕ) (bs : List ℕ) → has_pages (written (mapped m first n rights) at bs) first n ≡ true
+there-written m first n rights at bs =
+    all_there (written (mapped m first n rights) at bs) first n
+    (λ k l. contains-written (mapped m first n rights) at bs (first + k) ∙ ap is_some (get-mapped_in m first n rights k l))

@@ -1,13 +1,14 @@
 //! Segments and the stack in the memory of a process.
-ghost use Rattle.std.specs.Prelude.{◌≡◌, ◌+◌, ◌-◌, ◌*◌, ◌^◌, ◌<◌, ◌≤◌, All, Err, length, false, IsTrue, OnOk};
+ghost use Rattle.std.specs.Prelude.{◌≡◌, ◌+◌, ◌-◌, ◌*◌, ◌/◌, ◌%◌, ◌^◌, ◌<◌, ◌≤◌, All, Err, length, true, false, IfErr, IsTrue, OnOk};
 ghost use Rattle.elf_read.specs.Plans.{IsSound};
 ghost use Rattle.rv_mem.specs.Memory.{page_count, with_pages};
+ghost use Rattle.rv_mem.specs.Pages.{allows_all, has_pages, protected, written};
 ghost use Rattle.elf_load.specs.Image.{break_from, end_page, exceeds_pages, first_page, rights_in, with_segment, with_segments, with_stack};
 
 use crate::stack::{FirstStack, STACK_TOP};
 use elf_read::Segment;
 use pr_base::bits;
-use rv_mem::{MapFault, Rights, Room, Space};
+use rv_mem::{MapFault, PAGES_END, Rights, Room, Space, StoreFault, Use};
 
 const PAGE_SIZE: u64 = 4096;
 
@@ -54,6 +55,33 @@ pub(crate) fn program_break(segments: &[Segment]) -> u64
     end
 }
 
+// Writes bytes where they may be written, so that only memory can be wanting.
+fn write_there<const M: u8>(mem: &mut Space<M>, at: u64, bytes: &[u8]) -> Result<(), MapFault>
+    requires { allows_all mem.old.pages at (length bytes.now) Use.Write ≡ true }
+    ensures ok { OnOk result (mem.new ≡ with_pages mem.old (written mem.old.pages at bytes.now)) }
+    ensures err { IfErr result (λ fault. fault ≡ MapFault.NoMemory) }
+    ensures count { page_count mem.new.pages ≡ page_count mem.old.pages }
+{
+    match mem.write(at, bytes) {
+        Ok(()) => Ok(()),
+        Err(StoreFault::BadAddress) => unreachable!(),
+        Err(StoreFault::NoMemory) => Err(MapFault::NoMemory),
+    }
+}
+
+// Gives pages that are there other rights.
+fn protect_there<const M: u8>(mem: &mut Space<M>, at: u64, pages: u32, rights: Rights)
+    requires aligned { at % 4096 ≡ 0 }
+    requires below { at + 4096 * pages ≤ PAGES_END }
+    requires there { has_pages mem.old.pages (at / 4096) pages ≡ true }
+    ensures pages { mem.new ≡ with_pages mem.old (protected mem.old.pages (at / 4096) pages rights) }
+    ensures count { page_count mem.new.pages ≡ page_count mem.old.pages }
+{
+    if mem.protect(at, pages, rights).is_err() {
+        unreachable!();
+    }
+}
+
 // Maps the pages of a segment, copies its bytes of the file and gives the pages their rights. What is
 // mapped is counted, whatever this answers.
 fn put_segment<const M: u8>(
@@ -72,14 +100,8 @@ fn put_segment<const M: u8>(
     let pages = (end_page(s) - first) as u32;
     let bytes = &file[s.offset as usize..(s.offset + s.file) as usize];
     mem.map(room, first * PAGE_SIZE, pages, WRITABLE)?;
-    // The pages are there and may be written, so that only memory can be wanting.
-    if mem.write(s.at, bytes).is_err()
-        || mem
-            .protect(first * PAGE_SIZE, pages, rights_in(s.flags))
-            .is_err()
-    {
-        return Err(MapFault::NoMemory);
-    }
+    write_there(mem, s.at, bytes)?;
+    protect_there(mem, first * PAGE_SIZE, pages, rights_in(s.flags));
     Ok(())
 }
 
@@ -109,17 +131,15 @@ fn put_stack<const M: u8>(
     stack: &FirstStack,
 ) -> Result<(), MapFault>
     requires counted { page_count mem.old.pages ≤ room.old }
+    requires placed { STACK_LOW ≤ stack.now.sp }
+    requires fits { stack.now.sp + length stack.now.bytes ≤ STACK_TOP }
     ensures full { result ≡ Err MapFault.Full → IsTrue (exceeds_pages (room.old - page_count mem.old.pages) (page_count (with_stack mem.old.pages stack.now.sp stack.now.bytes))) }
     ensures within { OnOk result (exceeds_pages (room.old - page_count mem.old.pages) (page_count mem.new.pages) ≡ false) }
     ensures ok { OnOk result (mem.new ≡ with_pages mem.old (with_stack mem.old.pages stack.now.sp stack.now.bytes)) }
     ensures room { room.new + page_count mem.old.pages ≡ room.old + page_count mem.new.pages }
 {
     mem.map(room, STACK_LOW, STACK_PAGES, WRITABLE)?;
-    // The stack has room for what is allowed, so that only memory can be wanting.
-    if mem.write(stack.sp, stack.bytes.as_slice()).is_err() {
-        return Err(MapFault::NoMemory);
-    }
-    Ok(())
+    write_there(mem, stack.sp, stack.bytes.as_slice())
 }
 
 /// Puts all that a program starts with into memory. What is mapped is counted, whatever this answers.
@@ -132,6 +152,8 @@ pub(crate) fn put_all<const M: u8>(
 ) -> Result<(), MapFault>
     requires sound { All (IsSound (length file.now)) segments.now }
     requires counted { page_count mem.old.pages ≤ room.old }
+    requires placed { STACK_LOW ≤ stack.now.sp }
+    requires fits { stack.now.sp + length stack.now.bytes ≤ STACK_TOP }
     ensures full { result ≡ Err MapFault.Full → IsTrue (exceeds_pages (room.old - page_count mem.old.pages) (page_count (with_stack (with_segments file.now mem.old.pages segments.now) stack.now.sp stack.now.bytes))) }
     ensures within { OnOk result (exceeds_pages (room.old - page_count mem.old.pages) (page_count mem.new.pages) ≡ false) }
     ensures ok { OnOk result (mem.new ≡ with_pages mem.old (with_stack (with_segments file.now mem.old.pages segments.now) stack.now.sp stack.now.bytes)) }

@@ -180,6 +180,8 @@ impl FirstStack {
         requires size { size ≡ texts_size args.now env.now }
         requires within { size ≤ 131072 }
         ensures sp { IfOk result (λ stack. stack.sp ≡ stack_pointer args.now env.now) }
+        ensures placed { IfOk result (λ stack. 0x3F_FFEF_F000 ≤ stack.sp) }
+        ensures ends { IfOk result (λ stack. stack.sp + length stack.bytes ≡ STACK_TOP) }
         ensures bytes { IfOk result (λ stack. stack.bytes ≡ stack_bytes (pairs_of plan.now ids) args.now env.now) }
     {
         let texts_at = aligned(RANDOM_AT - size as u64);

@@ -18,7 +18,7 @@ put_all-requires g c = (
   omega arith,
   (
     subst (λ ss. All (IsSound (length c.args.file.now)) ss) (sym c.segments_of-segments.ensures) (sound_plan c.args.file.now c.args.plan.now c.requires.accepted c.requires.plan),
-    omega (arith, c.new-mem.ensures.count),
+    (omega (arith, c.new-mem.ensures.count), (omega (arith, c.in_ok-stack.ensures.placed), omega (arith, c.in_ok-stack.ensures.ends))),
   ),
 )
 
