@@ -8,8 +8,9 @@ loop:
         ld      t1, -8(sp)
         lw      t2, -16(sp)
         lbu     t3, -24(sp)
-        add     s1, t1, t2
-        xor     s1, s1, t3
+        add     s1, t1, t1
+        add     s1, s1, t2
+        add     s1, s1, t3
         addi    t0, t0, -1
         bne     t0, zero, loop
         andi    a0, s1, 127
