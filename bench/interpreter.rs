@@ -2,12 +2,13 @@
 //! map, and a match on the opcode. It is written once, and doesn't follow the product's changes.
 //!
 //! `interpreter FILE` runs a file whose one segment is the whole file at 0x10000 with its code at 0x10078,
-//! and prints the number of instructions, the seconds that they took, and the exit code.
+//! with 1 MiB of stack, and prints the number of instructions, the seconds that they took, and the exit code.
 
 use std::collections::BTreeMap;
 use std::time::Instant;
 
 const PAGE: u64 = 4096;
+const STACK_TOP: u64 = 0x3F_FFFF_F000;
 
 struct Page {
     bytes: [u8; PAGE as usize],
@@ -59,13 +60,19 @@ fn word_of(value: u32) -> u64 {
 impl Machine {
     fn load(file: &[u8]) -> Machine {
         let mut pages = BTreeMap::new();
+        for number in STACK_TOP / PAGE - 256..STACK_TOP / PAGE {
+            let bytes = [0; PAGE as usize];
+            pages.insert(number, Box::new(Page { bytes, read: true, write: true, execute: false }));
+        }
         for (k, part) in file.chunks(PAGE as usize).enumerate() {
             let mut bytes = [0; PAGE as usize];
             bytes[..part.len()].copy_from_slice(part);
             let page = Page { bytes, read: true, write: false, execute: true };
             pages.insert(16 + k as u64, Box::new(page));
         }
-        Machine { pages, x: [0; 32], pc: 0x10078 }
+        let mut x = [0; 32];
+        x[2] = STACK_TOP - 0x1100;
+        Machine { pages, x, pc: 0x10078 }
     }
 
     fn read<const N: usize>(&self, at: u64, access: Access) -> Option<[u8; N]> {

@@ -1,17 +1,17 @@
 -- The image as a whole, and pages that are taken back.
 use Rattle.std.specs.FinMap as map
-use Rattle.std.proofs.Common.{◌≡◌, ◌≢◌, ℕ, ◌+◌, ◌-◌, ◌*◌, ◌/◌, ◌≤◌, ◌<◌, zero, suc, Bool, true, false, List, [], ◌∷◌, ◌++◌, length, take, replicate, refl, sym, ap, subst, ◌∙◌, arith, Some, None, Option, is_some, length-append, add-one, cond, not}
+use Rattle.std.proofs.Common.{◌≡◌, ℕ, ◌+◌, ◌-◌, ◌≤◌, zero, suc, Bool, true, false, List, length, refl, sym, ap, subst, ◌∙◌, arith, Some, None, Option, is_some, length-append, add-one, cond, not}
 use Rattle.std.specs.Prelude.{All, filter}
 use Rattle.std.specs.Ordering.{nat_cmp}
 use Rattle.std.proofs.lemmas.List.{length-map}
 use Rattle.std.proofs.lemmas.List.Filters.{length-filter_both}
 use Rattle.rv_mem.specs.Page.{PageState}
 use Rattle.rv_mem.specs.Pages.{Pages, unmapped, IsPlaced}
-use Rattle.rv_mem.specs.Memory.{Memory, empty_memory, with_pages, page_count, room_after}
+use Rattle.rv_mem.specs.Memory.{Memory, empty_memory, with_pages, page_count}
 use Rattle.rv_mem.proofs.PagesLemmas.{same_pages}
 use Rattle.rv_mem.proofs.ChangeLemmas.{get-unmapped_in}
 use Rattle.rv_mem.proofs.TableLemmas.{by_range}
-use Rattle.elf_read.specs.Plans.{IsSound, plan_of, planned, segment_of, segments_of}
+use Rattle.elf_read.specs.Plans.{IsInOrder, IsSound, plan_of, planned, segment_of, segments_of}
 use Rattle.elf_read.specs.Headers.{file_header, program_headers, table_entries}
 use Rattle.elf_read.specs.Rules.{first_broken, first_broken_identity, first_broken_table, is_bad_table, is_segment, displacement}
 use Rattle.elf_read.specs.declared.headers.FileHeader.{FileHeader}
@@ -21,12 +21,14 @@ use Rattle.std.specs.Option.{option_or}
 use Rattle.std.proofs.lemmas.Bool.Decides.{nat_tests}
 use Rattle.elf_read.specs.declared.plan.Plan.{Plan}
 use Rattle.elf_read.specs.declared.plan.Segment.{Segment}
-use Rattle.elf_read.proofs.Accepted.{planned_sound}
+use Rattle.elf_read.proofs.Accepted.{planned_sound, planned_in_order}
+use Rattle.elf_load.specs.Placed.{HoldsSegment, HoldsBytes}
+use Rattle.elf_load.proofs.AddressedLemmas.{image_holds, stack_holds}
 use Rattle.elf_load.specs.FirstStack.{stack_pointer, stack_bytes, pairs_of}
 use Rattle.rv_mem.specs.declared.fault.MapFault.{MapFault}
 use Rattle.rv_mem.specs.declared.fault.MapFault.TheVariants.{Full, NoMemory}
 use Rattle.elf_load.specs.declared.fault.LoadFault.TheVariants.{TooManyPages}
-use Rattle.elf_load.specs.Image.{fault_of, with_segments, with_stack, image_pages, image_memory, image_exceeds, exceeds_pages}
+use Rattle.elf_load.specs.Image.{fault_of, with_segments, with_stack, image_pages, exceeds_pages}
 
 -- ---- the plan
 
@@ -101,3 +103,18 @@ nothing_left m placed =
     (λ q apart. none_left (map.get (unmapped m 0 67108863) q) (λ there. let below = placed q there in apart q below (omega arith))
     ∙ sym (map.get-empty nat_cmp q))))
     ∙ map.len-empty nat_cmp PageState
+
+-- ---- address by address
+
+pub image_segments : (file : List ℕ) (plan : Plan) (args env : List (List ℕ)) (ids : List ℕ) → first_broken file ≡ None → plan ≡ plan_of file → 0x3F_FFEF_F000 ≤ stack_pointer args env
+    → All (HoldsSegment file (image_pages file plan args env ids)) (planned plan)
+unfolding image_pages
+image_segments file plan args env ids accepted is low =
+    let ordered = subst (λ p. IsInOrder 0 (planned p)) (sym is) (planned_in_order file accepted) in
+    image_holds file (planned plan) (stack_pointer args env) (stack_bytes (pairs_of plan ids) args env) (sound_plan file plan accepted is) ordered low
+
+pub image_stack : (file : List ℕ) (plan : Plan) (args env : List (List ℕ)) (ids : List ℕ) → 0x3F_FFEF_F000 ≤ stack_pointer args env
+    → stack_pointer args env + length (stack_bytes (pairs_of plan ids) args env) ≤ 0x3F_FFFF_F000
+    → HoldsBytes (image_pages file plan args env ids) (stack_pointer args env) (stack_bytes (pairs_of plan ids) args env)
+unfolding image_pages
+image_stack file plan args env ids low high = stack_holds file (planned plan) (stack_pointer args env) (stack_bytes (pairs_of plan ids) args env) low high

@@ -1,3 +1,4 @@
+pub mod AddressedLemmas
 pub mod ImageLemmas
 pub mod ListLemmas
 pub mod PlacedLemmas

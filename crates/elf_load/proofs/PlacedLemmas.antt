@@ -1,6 +1,6 @@
 -- Pages whose rights are given after their bytes are written, and how many pages there are.
 use Rattle.std.specs.FinMap as map
-use Rattle.std.proofs.Common.{◌≡◌, ◌≢◌, ◌⊎◌, inl, inr, ℕ, ◌+◌, ◌-◌, ◌*◌, ◌/◌, ◌%◌, ◌≤◌, ◌<◌, zero, suc, Bool, true, false, ◌||◌, nat_lt, List, [], ◌∷◌, ◌++◌, length, drop, get_or, refl, sym, ap, ◌∙◌, arith, Some, None, Option, add-one, drop-cons, is_some, ◌&&◌}
+use Rattle.std.proofs.Common.{◌≡◌, ◌≢◌, ◌⊎◌, inl, inr, ℕ, ◌+◌, ◌-◌, ◌*◌, ◌/◌, ◌%◌, ◌≤◌, ◌<◌, zero, suc, true, false, ◌||◌, nat_lt, List, [], ◌∷◌, length, drop, get_or, refl, sym, ap, ◌∙◌, arith, add-one, drop-cons, is_some, ◌&&◌}
 use Rattle.std.specs.Option.{option_map, option_map_or}
 use Rattle.std.proofs.lemmas.Bool.{cases_eq}
 use Rattle.std.proofs.lemmas.Bool.Decides.{nat_tests}
@@ -9,7 +9,7 @@ use Rattle.rv_mem.specs.declared.rights.Rights.{Rights}
 use Rattle.rv_mem.specs.declared.rights.Use.{Use}
 use Rattle.rv_mem.specs.Page.{PageState, grants, page_with_rights, page_written}
 use Rattle.rv_mem.specs.Pages.{Pages, with_page, written, mapped, protected, allows, allows_all, has_pages}
-use Rattle.rv_mem.specs.Memory.{Memory, with_pages, page_count, room_after, passes_limit}
+use Rattle.rv_mem.specs.Memory.{Memory, with_pages, page_count, passes_limit}
 use Rattle.rv_mem.proofs.PagesLemmas.{same_pages, get-with_page_same, get-with_page_other, with_page_twice, with_page_same}
 use Rattle.rv_mem.proofs.ChangeLemmas.{get-mapped_in, get-mapped_out, len-mapped-le, len-written, len-protected, contains-written}
 use Rattle.rv_mem.proofs.TableLemmas.{by_range, mapped-zero}

@@ -1,5 +1,5 @@
 -- The memory, the registers and the end of the data with which an accepted file starts.
-use Rattle.std.specs.Prelude.{ℕ, ◌+◌, ◌-◌, ◌*◌, ◌/◌, ◌%◌, ◌==◌, nat_lt, Bool, true, false, ◌||◌, List, [], ◌∷◌, length, take, drop, replicate, slice_set}
+use Rattle.std.specs.Prelude.{ℕ, ◌+◌, ◌-◌, ◌*◌, ◌/◌, ◌%◌, ◌==◌, nat_lt, Bool, true, false, ◌||◌, List, [], ◌∷◌, take, drop, replicate, slice_set}
 use Rattle.std.specs.Int.{div_ceil}
 use Rattle.rv_mem.specs.declared.rights.Rights.{Rights}
 use Rattle.rv_mem.specs.declared.regs.Regs.{Regs}

@@ -1,2 +1,3 @@
 pub mod FirstStack
 pub mod Image
+pub mod Placed

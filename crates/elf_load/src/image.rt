@@ -1,9 +1,10 @@
 //! A program as it starts.
-ghost use Rattle.std.specs.Prelude.{◌≡◌, ◌+◌, ◌≤◌, ◌↔◌, Err, None, false, length, IfOk, IsErrOf, IsTrue, OnErr, OnOk, replicate, slice_set};
+ghost use Rattle.std.specs.Prelude.{◌≡◌, ◌+◌, ◌≤◌, ◌↔◌, All, Err, None, false, length, IfOk, IsErrOf, IsTrue, OnErr, OnOk, replicate, slice_set};
 ghost use Rattle.elf_read.specs.Plans.{plan_of, planned};
 ghost use Rattle.elf_read.specs.Rules.{first_broken};
 ghost use Rattle.rv_mem.specs.Memory.{page_count};
-ghost use Rattle.elf_load.specs.FirstStack.{exceeds_arguments};
+ghost use Rattle.elf_load.specs.FirstStack.{exceeds_arguments, pairs_of, stack_bytes, stack_pointer};
+ghost use Rattle.elf_load.specs.Placed.{HoldsBytes, HoldsSegment};
 ghost use Rattle.elf_load.specs.Image.{first_regs, image_exceeds, image_memory, program_break};
 
 use crate::arguments::size_of;
@@ -74,6 +75,10 @@ pub fn load<const M: u8>(
     ensures memory { IfOk result (λ image. image.mem ≡ image_memory file.now plan.now args.now env.now ids) }
     ensures regs { IfOk result (λ image. image.regs ≡ first_regs plan.now args.now env.now) }
     ensures brk { IfOk result (λ image. image.brk ≡ program_break plan.now) }
+
+    // So each segment of the file and the first stack stand in memory, address by address.
+    ensures segments { IfOk result (λ image. All (HoldsSegment file.now image.mem.pages) (planned plan.now)) }
+    ensures stack { IfOk result (λ image. HoldsBytes image.mem.pages (stack_pointer args.now env.now) (stack_bytes (pairs_of plan.now ids) args.now env.now)) }
 
     ensures room { IfOk result (λ image. room.new ≡ room.old + page_count image.mem.pages) }
     ensures err_room { OnErr result (room.new ≡ room.old) }

@@ -1,5 +1,5 @@
 use Rattle.elf_load.proofs.ListLemmas.{drop-at}
-use Rattle.std.proofs.Common.{sym, ap, ◌∙◌, rules, ◌≡◌, Some}
+use Rattle.std.proofs.Common.{sym, ap, ◌∙◌, ◌≡◌, Some}
 use Rattle.std.specs.Prelude.{slice_get}
 use Rattle.std.specs.Option.{option_copied}
 use Rattle.elf_load.proofs.arguments.text_at.Goals as goal

@@ -1,5 +1,4 @@
-use Rattle.std.proofs.Common.{◌≡◌, rules}
-use Rattle.rv_mem.specs.Memory.{page_count}
+use Rattle.std.proofs.Common.{rules}
 use Rattle.elf_load.specs.Image.{with_segments}
 use Rattle.elf_load.proofs.PlacedLemmas.{exceeds-more, more-with_stack}
 use Rattle.elf_load.proofs.segments.put_all.Goals as goal

@@ -1,5 +1,4 @@
 use Rattle.std.proofs.Common.{◌≡◌, ◌+◌, ◌-◌, sym, ap, ◌∙◌, arith, rules}
-use Rattle.std.specs.Prelude.{Bool}
 use Rattle.rv_mem.specs.Memory.{Memory, page_count}
 use Rattle.elf_load.specs.Image.{with_segments}
 use Rattle.elf_load.proofs.PlacedLemmas.{segments-exceed, with_segments-at, with_segments-end, memory-with_pages}

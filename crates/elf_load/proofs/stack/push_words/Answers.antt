@@ -1,4 +1,4 @@
-use Rattle.std.proofs.Common.{◌≡◌, ◌++◌, ◌+◌, length, sym, ap, ◌∙◌}
+use Rattle.std.proofs.Common.{◌≡◌, ◌++◌, ◌+◌, length, ap, ◌∙◌}
 use Rattle.std.specs.Int.{to_le_bytes, w64}
 use Rattle.elf_load.specs.FirstStack.{text_addresses, text_bytes, texts_at, pair_words, word_bytes}
 use Rattle.elf_load.proofs.ListLemmas.{words-added, on_ok}

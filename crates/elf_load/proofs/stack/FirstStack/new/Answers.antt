@@ -1,4 +1,4 @@
-use Rattle.std.proofs.Common.{◌≡◌, ◌≤◌, ◌-◌, ◌+◌, ◌*◌, length, ap, ◌∙◌, arith, sym, subst}
+use Rattle.std.proofs.Common.{◌≡◌, ◌≤◌, ◌-◌, ◌+◌, ◌*◌, length, ap, ◌∙◌, arith}
 use Rattle.elf_load.specs.FirstStack.{aligned, texts_at, stack_pointer, word_count, random_at, texts_size, pairs_of, word_bytes, words_of}
 use Rattle.std.proofs.Common.{◌++◌}
 use Rattle.elf_load.proofs.ListLemmas.{pointer-is, stack-built, stack_low, stack_ends}
