@@ -40,7 +40,7 @@ impl Inode {
     ghost use Rattle.kr_tree.specs.Names.{is_name};
     ghost use Rattle.kr_tree.specs.Entries.{slot_of};
     ghost use Rattle.kr_tree.specs.Stored.{kind_of, meta_of, body_of_new};
-    ghost use Rattle.kr_tree.specs.Changes.{with_mode, with_owner, with_names, with_holds, with_entry, without_entry, unnamed, with_body, with_standing, is_unused, counted, fresh};
+    ghost use Rattle.kr_tree.specs.Changes.{with_mode, with_owner, with_names, with_holds, with_entry, without_entry, unnamed, with_body, with_standing, with_bytes, sized, overwritten, is_unused, counted, fresh};
 
     /// A new inode with one name, by what a caller hands in and where it stands if it is a directory.
     pub fn new(alloc: Global, node: Node, meta: Meta, standing: Standing) -> Inode
@@ -251,6 +251,24 @@ impl Inode {
             Content::Proc(old) => *old = standing,
             _ => {}
         }
+    }
+
+    /// Cuts a file at a size, or fills it with zeros up to it. Where memory is wanting nothing
+    /// changes.
+    pub fn resize(&mut self, size: usize) -> Result<(), NoMemory>
+        ensures ok { OnOk result (self.new ≡ with_body (with_bytes (sized size)) self.old) }
+        ensures err { OnErr result (self.new ≡ self.old) }
+    {
+        self.content.resize(size)
+    }
+
+    /// Writes bytes into a file from a place on. Where memory is wanting nothing changes.
+    pub fn overwrite(&mut self, at: usize, b: &[u8]) -> Result<(), NoMemory>
+        requires { 0 < length b.now → at + length b.now < 2 ^ 63 }
+        ensures ok { OnOk result (self.new ≡ with_body (with_bytes (overwritten at b.now)) self.old) }
+        ensures err { OnErr result (self.new ≡ self.old) }
+    {
+        self.content.overwrite(at, b)
     }
 
     /// One more entry of a directory.
