@@ -35,7 +35,7 @@ impl Model for Inode {
 }
 
 impl Inode {
-    ghost use Rattle.kr_tree.specs.Tree.{bytes_of, entry_named, entry_after, entries_of, standing_of, is_listed, is_directory, file_of, text_of};
+    ghost use Rattle.kr_tree.specs.Tree.{bytes_of, entry_named, entry_after, entries_of, standing_of, is_listed, takes_names, is_filled, is_directory, file_of, text_of};
     ghost use Rattle.kr_tree.specs.Rights.{allows};
     ghost use Rattle.kr_tree.specs.Names.{is_name};
     ghost use Rattle.kr_tree.specs.Entries.{slot_of};
@@ -129,6 +129,26 @@ impl Inode {
         matches!(&self.content, Content::Dir(_) | Content::Proc(_))
     }
 
+    /// Whether names can be put into it: a directory proper that wasn't removed.
+    pub fn takes_names(&self) -> bool
+        ensures { result ≡ takes_names self.now.node.body }
+    {
+        match &self.content {
+            Content::Dir(dir) => dir.standing.is_some(),
+            _ => false,
+        }
+    }
+
+    /// Whether it is a directory with entries.
+    pub fn is_filled(&self) -> bool
+        ensures { result ≡ is_filled self.now.node.body }
+    {
+        match &self.content {
+            Content::Dir(dir) => !dir.entries.is_empty(),
+            _ => false,
+        }
+    }
+
     /// The bytes of a file.
     pub fn file(&self) -> Option<&[u8]>
         ensures { option_copied result ≡ file_of self.now.node.body }
@@ -147,6 +167,13 @@ impl Inode {
             Content::Link(text) => Some(text.as_slice()),
             _ => None,
         }
+    }
+
+    /// How often it is held.
+    pub fn holds(&self) -> u32
+        ensures { result ≡ self.now.holds }
+    {
+        self.holds
     }
 
     /// Whether nothing names or holds it.

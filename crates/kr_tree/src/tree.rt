@@ -154,6 +154,53 @@ impl Tree {
         self.store.get(ino)?.link_text()
     }
 
+    /// Whether an inode is a directory that wasn't removed, so that names can be put into it.
+    pub fn takes_names(&self, dir: Ino) -> bool
+        ensures { result ≡ body_is takes_names self.now dir }
+    {
+        match self.store.get(dir) {
+            Some(inode) => inode.takes_names(),
+            None => false,
+        }
+    }
+
+    /// Whether an inode is a directory with entries.
+    pub fn is_filled(&self, dir: Ino) -> bool
+        ensures { result ≡ body_is is_filled self.now dir }
+    {
+        match self.store.get(dir) {
+            Some(inode) => inode.is_filled(),
+            None => false,
+        }
+    }
+
+    /// How often an inode is held; 0 where it isn't there.
+    pub fn holds(&self, ino: Ino) -> u32
+        ensures { result ≡ option_map_or (λ x. x.holds) (inode self.now ino) 0 }
+    {
+        match self.store.get(ino) {
+            Some(inode) => inode.holds(),
+            None => 0,
+        }
+    }
+
+    /// The number that the next inode takes.
+    pub fn next_number(&self) -> Ino
+        ensures { result ≡ self.now.next }
+    {
+        self.next
+    }
+
+    /// The serial that the next entry of a directory takes; 0 where there is none.
+    pub fn next_serial(&self, dir: Ino) -> u64
+        ensures { result ≡ next_serial self.now dir }
+    {
+        match self.store.get(dir) {
+            Some(inode) => inode.next_serial(),
+            None => 0,
+        }
+    }
+
     /// How many of a directory's entries are directories, the process directory among them.
     pub fn directories(&self, dir: Ino) -> u32
         ensures { result ≡ option_map_or (λ x. x.directories) (inode self.now dir) 0 }
@@ -349,16 +396,6 @@ impl Tree {
             return Err(TreeRefusal::Full);
         }
         Ok(bytes)
-    }
-
-    /// The serial that the next entry of a directory takes.
-    fn next_serial(&self, dir: Ino) -> u64
-        ensures { result ≡ next_serial self.now dir }
-    {
-        match self.store.get(dir) {
-            Some(inode) => inode.next_serial(),
-            None => 0,
-        }
     }
 
     /// A copy of a name.
