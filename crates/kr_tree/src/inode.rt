@@ -35,7 +35,7 @@ impl Model for Inode {
 }
 
 impl Inode {
-    ghost use Rattle.kr_tree.specs.Tree.{bytes_of, entry_named, entry_after, entries_of, standing_of, is_listed, takes_names, is_filled, is_directory, file_of, text_of};
+    ghost use Rattle.kr_tree.specs.Tree.{bytes_of, entry_named, entry_after, entries_of, standing_of, is_listed, takes_names, is_filled, is_file, may_be_linked, is_directory, file_of, text_of};
     ghost use Rattle.kr_tree.specs.Rights.{allows};
     ghost use Rattle.kr_tree.specs.Names.{is_name};
     ghost use Rattle.kr_tree.specs.Entries.{slot_of};
@@ -137,6 +137,20 @@ impl Inode {
             Content::Dir(dir) => dir.standing.is_some(),
             _ => false,
         }
+    }
+
+    /// Whether it is a file.
+    pub fn is_file(&self) -> bool
+        ensures { result ≡ is_file self.now.node.body }
+    {
+        matches!(&self.content, Content::File(_))
+    }
+
+    /// Whether it is a file or a link, which may have several names.
+    pub fn may_be_linked(&self) -> bool
+        ensures { result ≡ may_be_linked self.now.node.body }
+    {
+        matches!(&self.content, Content::File(_) | Content::Link(_))
     }
 
     /// Whether it is a directory with entries.

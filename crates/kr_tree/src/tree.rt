@@ -174,6 +174,36 @@ impl Tree {
         }
     }
 
+    /// Whether an inode is a file.
+    pub fn is_file(&self, ino: Ino) -> bool
+        ensures { result ≡ body_is is_file self.now ino }
+    {
+        match self.store.get(ino) {
+            Some(inode) => inode.is_file(),
+            None => false,
+        }
+    }
+
+    /// Whether an inode is a file or a link, which may have several names.
+    pub fn may_be_linked(&self, ino: Ino) -> bool
+        ensures { result ≡ body_is may_be_linked self.now ino }
+    {
+        match self.store.get(ino) {
+            Some(inode) => inode.may_be_linked(),
+            None => false,
+        }
+    }
+
+    /// Whether an inode is there and may be held once more.
+    pub fn may_be_held(&self, ino: Ino) -> bool
+        ensures { IsTrue result ↔ (IsSome (inode self.now ino) × (option_map_or (λ x. x.holds) (inode self.now ino) 0 + 1 < 2 ^ 32)) }
+    {
+        match self.store.get(ino) {
+            Some(inode) => inode.holds() < u32::MAX,
+            None => false,
+        }
+    }
+
     /// How often an inode is held; 0 where it isn't there.
     pub fn holds(&self, ino: Ino) -> u32
         ensures { result ≡ option_map_or (λ x. x.holds) (inode self.now ino) 0 }
