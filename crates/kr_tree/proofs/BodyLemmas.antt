@@ -3,8 +3,8 @@ use Rattle.std.proofs.Common.{◌≡◌, ℕ, true, false, List, [], ◌∷◌, 
 use Rattle.kr_tree.specs.declared.standing.Standing.{Standing}
 use Rattle.kr_tree.specs.declared.node.Node.{Node as NewNode}
 use Rattle.kr_tree.specs.declared.node.Node.TheVariants.{Dir as NewDir, File as NewFile, Link as NewLink, Proc as NewProc}
-use Rattle.kr_tree.specs.Tree.{Body, Directory, RegularFile, SymbolicLink, ProcessDirectory, Entry, entries_of, standing_of, is_directory, is_listed, takes_names, may_be_linked, is_filled, bytes_of}
-use Rattle.kr_tree.specs.Changes.{with_entries, with_standing}
+use Rattle.kr_tree.specs.Tree.{Body, Directory, RegularFile, SymbolicLink, ProcessDirectory, Entry, entries_of, standing_of, is_directory, is_listed, takes_names, may_be_linked, is_filled, is_file, bytes_of}
+use Rattle.kr_tree.specs.Changes.{with_entries, with_standing, with_bytes}
 use Rattle.kr_tree.specs.Lawful.{IsIn}
 use Rattle.kr_tree.specs.Stored.{body_of_new}
 
@@ -83,6 +83,38 @@ file-with_standing s (Directory es _) bytes h = absurd cc
 file-with_standing s (RegularFile bs) bytes h = h
 file-with_standing s (SymbolicLink bs) bytes h = absurd cc
 file-with_standing s (ProcessDirectory _) bytes h = absurd cc
+
+-- ---- other bytes
+
+pub entries-with_bytes : (f : List ℕ → List ℕ) (b : Body) → entries_of (with_bytes f b) ≡ entries_of b
+entries-with_bytes f (Directory es s) = refl
+entries-with_bytes f (RegularFile bs) = refl
+entries-with_bytes f (SymbolicLink bs) = refl
+entries-with_bytes f (ProcessDirectory s) = refl
+
+pub standing-with_bytes : (f : List ℕ → List ℕ) (b : Body) → standing_of (with_bytes f b) ≡ standing_of b
+standing-with_bytes f (Directory es s) = refl
+standing-with_bytes f (RegularFile bs) = refl
+standing-with_bytes f (SymbolicLink bs) = refl
+standing-with_bytes f (ProcessDirectory s) = refl
+
+pub is_directory-with_bytes : (f : List ℕ → List ℕ) (b : Body) → is_directory (with_bytes f b) ≡ is_directory b
+is_directory-with_bytes f (Directory es s) = refl
+is_directory-with_bytes f (RegularFile bs) = refl
+is_directory-with_bytes f (SymbolicLink bs) = refl
+is_directory-with_bytes f (ProcessDirectory s) = refl
+
+pub is_listed-with_bytes : (f : List ℕ → List ℕ) (b : Body) → is_listed (with_bytes f b) ≡ is_listed b
+is_listed-with_bytes f (Directory es s) = refl
+is_listed-with_bytes f (RegularFile bs) = refl
+is_listed-with_bytes f (SymbolicLink bs) = refl
+is_listed-with_bytes f (ProcessDirectory s) = refl
+
+pub file-with_bytes : (f : List ℕ → List ℕ) (b : Body) → is_file b ≡ true → with_bytes f b ≡ RegularFile (f (bytes_of b))
+file-with_bytes f (Directory es s) h = absurd cc
+file-with_bytes f (RegularFile bs) h = refl
+file-with_bytes f (SymbolicLink bs) h = absurd cc
+file-with_bytes f (ProcessDirectory s) h = absurd cc
 
 -- ---- what follows
 

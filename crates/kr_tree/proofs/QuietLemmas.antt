@@ -1,14 +1,16 @@
 -- A tree after a change that leaves its entries and names: of a mode, an owner, holds or a file's bytes.
 use Rattle.std.specs.FinMap as map
-use Rattle.std.proofs.Common.{◌≡◌, subst, ℕ, ◌+◌, ◌≤◌, ◌<◌, true, false, ◌&&◌, nat_eq, List, [], length, refl, sym, ap, ◌∙◌, arith, Option, Some, None}
+use Rattle.std.proofs.Common.{◌≡◌, subst, ℕ, ◌+◌, ◌≤◌, ◌<◌, true, false, ◌&&◌, nat_eq, ◌-◌, List, [], length, refl, sym, ap, ◌∙◌, arith, Option, Some, None}
 use Rattle.std.specs.Option.{option_map, option_map_or, option_and_then}
 use Rattle.std.proofs.lemmas.Bool.Decides.{nat_tests}
-use Rattle.kr_tree.specs.Tree.{Tree, Inode, Inodes, Entry, RegularFile, root, inode, entries, entries_of, standing, standing_of, body_is, is_directory, is_listed, body, bytes_of}
+use Rattle.kr_tree.specs.Tree.{Tree, Inode, Inodes, Entry, RegularFile, root, inode, entries, entries_of, standing, standing_of, body_is, is_directory, is_listed, body, is_file, bytes_of}
 use Rattle.kr_tree.specs.Entries.{IsListed}
-use Rattle.kr_tree.specs.Changes.{with_inode, is_unused, count_limit, byte_limit, file_limit}
+use Rattle.kr_tree.specs.Changes.{with_inode, with_body, with_bytes, size, is_unused, count_limit, byte_limit, file_limit}
 use Rattle.kr_tree.specs.Lawful.{IsKept, IsSound, IsCounted, HasNoUnused, RisesToEnd, AtRoot, AtRemoved, Above, IsIn, entries_beside, count_in, directories_in, total, sum_below}
 use Rattle.kr_tree.proofs.InodesLemmas.{get-with_same, get-with_other, len-with, by_inode}
-use Rattle.kr_tree.proofs.CountLemmas.{value, sum-same, sum-changed, directories-same}
+use Rattle.kr_tree.proofs.BodyLemmas.{entries-with_bytes, standing-with_bytes, is_directory-with_bytes, is_listed-with_bytes, file-with_bytes}
+use Rattle.kr_tree.proofs.AddLemmas.{passing}
+use Rattle.kr_tree.proofs.CountLemmas.{value, sum-at, sum-same, sum-changed, directories-same}
 
 -- ---- trees that look alike
 
@@ -141,9 +143,6 @@ module _ (t : Tree) (k : ℕ) (g : Inode → Inode) (quiet : IsQuiet g) (bytes :
         omega arith
   ] refl
 
-  abbrev size : Option Inode → ℕ
-  size o = value (λ x. length (bytes_of x.node.body)) o
-
   pub sound-quiet : IsSound t → bytes ≤ byte_limit
       → ((x : Inode) (bs : List ℕ) → inode t k ≡ Some x → (g x).node.body ≡ RegularFile bs → length bs ≤ file_limit)
       → IsSound u
@@ -157,7 +156,7 @@ module _ (t : Tree) (k : ℕ) (g : Inode → Inode) (quiet : IsQuiet g) (bytes :
       mapped bs None at h = absurd cc
       mapped bs (Some x) at h = files x bs at (ap (λ o. option_map_or (λ b. b) o (g x).node.body) h)
 
-  pub counted-quiet : IsSound t → IsCounted t → bytes + size (inode t k) ≡ t.bytes + size (option_map g (inode t k)) → IsCounted u
+  pub counted-quiet : IsSound t → IsCounted t → bytes + value (λ x. length (bytes_of x.node.body)) (inode t k) ≡ t.bytes + value (λ x. length (bytes_of x.node.body)) (option_map g (inode t k)) → IsCounted u
   counted-quiet sound counts sum =
       counted-alike t u looks-quiet counts
       (let sums = total-quiet (λ x. length (bytes_of x.node.body)) (λ q x is. (sound.numbered q x is).1) in let before = counts.all_bytes in omega arith)
@@ -213,3 +212,52 @@ module _ (t : Tree) (k : ℕ) (g : Inode → Inode) (still : (x : Inode) → (g 
 -- one more hold
 pub held_used : (x : Inode) → is_unused x ≡ false → (nat_eq x.names 0 && nat_eq (x.holds + 1) 0) ≡ false
 held_used x h = grind (arith, nat_tests)
+
+-- ---- other bytes of a file
+
+other_bytes : (f : List ℕ → List ℕ) → IsQuiet (with_body (with_bytes f))
+other_bytes f = record {
+  entries = λ x. entries-with_bytes f x.node.body;
+  standing = λ x. standing-with_bytes f x.node.body;
+  directory = λ x. is_directory-with_bytes f x.node.body;
+  listed = λ x. is_listed-with_bytes f x.node.body;
+  names = λ _. refl;
+  directories = λ _. refl;
+  serial = λ _. refl;
+}
+
+-- a file has no more bytes than there are in all
+pub size-le : (t : Tree) → IsKept t → (k : ℕ) → value (λ x. length (bytes_of x.node.body)) (inode t k) ≤ t.bytes
+size-le t h k = elim (inode t k) as (λ o. inode t k ≡ o → value (λ x. length (bytes_of x.node.body)) o ≤ t.bytes) [
+  | None ↦ λ _. omega arith
+  | Some x ↦ λ at.
+      let one = sum-at (λ x. length (bytes_of x.node.body)) t.inodes k t.next ((h.sound.numbered k x at).1) in
+      let here : value (λ x. length (bytes_of x.node.body)) (map.get t.inodes k) ≡ length (bytes_of x.node.body) = ap (value (λ x. length (bytes_of x.node.body))) at in
+      let all = h.counted.all_bytes in
+      omega arith
+] refl
+
+-- of what the code leaves: `new` bytes in the file
+pub kept-bytes : (t : Tree) → IsKept t → (k : ℕ) → body_is is_file t k ≡ true → (f : List ℕ → List ℕ) (new : ℕ)
+    → ((x : Inode) → inode t k ≡ Some x → new ≡ length (f (bytes_of x.node.body))) → new ≤ file_limit → (bytes : ℕ) → bytes ≡ t.bytes - size t k + new → bytes ≤ byte_limit
+    → (m : Inodes) → m ≡ with_inode k (with_body (with_bytes f)) t.inodes
+    → IsKept (record { inodes = m; next = t.next; names = t.names; bytes = bytes })
+kept-bytes t h k file f new new_is limit bytes bytes_is all m m_is =
+    let P : Inodes → Type 0 = λ m. IsKept (record { inodes = m; next = t.next; names = t.names; bytes = bytes }) in
+    let x = passing is_file (inode t k) file in
+    let g = with_body (with_bytes f) in
+    let body_is : with_bytes f x.0.node.body ≡ RegularFile (f (bytes_of x.0.node.body)) = file-with_bytes f x.0.node.body x.2 in
+    let count = new_is x.0 x.1 in
+    let little = size-le t h k in
+    let after : value (λ x. length (bytes_of x.node.body)) (option_map (with_body (with_bytes f)) (inode t k)) ≡ new =
+    ap (λ o. value (λ x. length (bytes_of x.node.body)) (option_map (with_body (with_bytes f)) o)) x.1 ∙ ap (λ b. length (bytes_of b)) body_is ∙ sym count in
+    subst P (sym m_is) (record {
+      sound = sound-quiet t k (with_body (with_bytes f)) (other_bytes f) bytes h.sound all
+          (λ z bs at is.
+          let same : x.0 ≡ z = ap (λ o. option_map_or (λ s. s) o x.0) (sym x.1 ∙ at) in
+          let it : RegularFile (f (bytes_of x.0.node.body)) ≡ RegularFile bs = sym body_is ∙ ap (λ z. with_bytes f z.node.body) same ∙ is in
+          let long : length (f (bytes_of x.0.node.body)) ≡ length bs = ap (λ b. length (bytes_of b)) it in
+          omega arith);
+      counted = counted-quiet t k (with_body (with_bytes f)) (other_bytes f) bytes h.sound h.counted (omega arith);
+      used = used-quiet t k (with_body (with_bytes f)) (other_bytes f) bytes h.used (λ _ u. u);
+    })

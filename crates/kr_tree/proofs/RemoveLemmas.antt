@@ -7,7 +7,7 @@ use Rattle.std.proofs.lemmas.Bool.{cases_eq}
 use Rattle.kr_tree.specs.declared.standing.Standing.{Standing}
 use Rattle.kr_tree.specs.Tree.{Tree, Inode, Inodes, Entry, Body, RegularFile, root, inode, entry, entry_named, entries, entries_of, standing, standing_of, above, body_is, is_directory, is_listed, is_filled, body, bytes_of}
 use Rattle.kr_tree.specs.Entries.{IsListed}
-use Rattle.kr_tree.specs.Changes.{with_inode, without_entry, without_name, unnamed, unlinked, without_unused, freed, is_unused, counted, count_limit, byte_limit, file_limit}
+use Rattle.kr_tree.specs.Changes.{with_inode, without_entry, without_name, unnamed, unlinked, without_unused, freed, is_unused, counted, file_limit}
 use Rattle.kr_tree.specs.Lawful.{IsKept, IsSound, IsCounted, RisesToEnd, AtRoot, AtRemoved, Above, IsIn, entries_beside, count_in, directories_in, names_of, total}
 use Rattle.kr_tree.proofs.InodesLemmas.{get-with_same, get-with_other, len-with, stays-names}
 use Rattle.kr_tree.proofs.EntryLemmas.{listed-without, named_in, in_named, in_above, serial_alone, in_without, in_still, weighed, weighed-without}

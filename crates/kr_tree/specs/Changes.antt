@@ -1,5 +1,5 @@
 -- What each change of a tree leaves: all that isn't said here stays as it was.
-use Rattle.std.specs.Prelude.{ℕ, ◌+◌, ◌-◌, Bool, true, false, ◌&&◌, ◌||◌, not, List, [], ◌∷◌, ◌++◌, length, take, drop, replicate, Option, Some, None, bytes_eq, nat_eq, nat_le, nat_lt, if◌then◌else◌}
+use Rattle.std.specs.Prelude.{ℕ, ◌+◌, ◌-◌, Bool, true, false, ◌&&◌, ◌||◌, not, List, [], ◌∷◌, ◌++◌, length, take, drop, replicate, max, Option, Some, None, bytes_eq, nat_eq, nat_le, nat_lt, if◌then◌else◌}
 use Rattle.std.specs.FinMap as map
 use Rattle.std.specs.List.{filter}
 use Rattle.std.specs.Option.{option_map_or}
@@ -250,6 +250,10 @@ mode_set i mode t = with_inodes (with_inode i (with_mode mode) t.inodes) t
 abbrev pub owner_set : ℕ → ℕ → ℕ → Tree → Tree
 owner_set i uid gid t = with_inodes (with_inode i (with_owner uid gid) t.inodes) t
 
+-- how many bytes a file has after some were written at a place
+abbrev pub size_written : ℕ → ℕ → ℕ → ℕ
+size_written at count size = if nat_eq count 0 then size else max size (at + count)
+
 -- a file whose bytes become f of them
 abbrev pub bytes_set : ℕ → (List ℕ → List ℕ) → Tree → Tree
 bytes_set i f t = record {
@@ -291,3 +295,11 @@ has_no_room size t = nat_le count_limit (map.len t.inodes) || nat_le count_limit
 -- whether there is no room for one name more
 abbrev pub has_no_name_left : Tree → Bool
 has_no_name_left t = nat_le count_limit t.names
+
+-- whether a file may not have so many bytes
+abbrev pub is_past_file : ℕ → Bool
+is_past_file new = nat_lt file_limit new
+
+-- whether there is no room for a file with so many bytes in place of those that it has
+abbrev pub has_no_room_for : ℕ → ℕ → Tree → Bool
+has_no_room_for file new t = nat_lt byte_limit (t.bytes - size t file + new)

@@ -1,5 +1,6 @@
 //! What an inode holds.
-ghost use Rattle.std.specs.Prelude.{◌≡◌, ◌+◌, ◌-◌, ◌^◌, ◌<◌, true, Some, None, OnOk, OnErr};
+ghost use Rattle.std.specs.Prelude.{length, take, drop, replicate, ◌++◌, ◌≤◌, ◌≡◌, ◌+◌, ◌-◌, ◌^◌, ◌<◌, true, Some, None, OnOk, OnErr};
+ghost use Rattle.kr_tree.specs.Changes.{sized, overwritten};
 
 use crate::entries::Entries;
 use crate::node::Node;
@@ -57,7 +58,7 @@ impl DirContent {
 }
 
 impl Content {
-    ghost use Rattle.kr_tree.specs.Changes.{with_standing};
+    ghost use Rattle.kr_tree.specs.Changes.{with_standing, with_bytes};
     ghost use Rattle.kr_tree.specs.Stored.{body_stored, next_serial_stored, directories_stored, body_of_new};
 
     /// The content of a new node, which stands somewhere if it is a directory.
@@ -77,4 +78,74 @@ impl Content {
             Node::Proc => Content::Proc(Some(standing)),
         }
     }
+
+    /// Cuts the bytes of a file at a size, or fills them with zeros up to it. Where memory is wanting
+    /// nothing changes.
+    pub fn resize(&mut self, size: usize) -> Result<(), NoMemory>
+        ensures ok { OnOk result (body_stored self.new ≡ with_bytes (sized size) (body_stored self.old)) }
+        ensures err { OnErr result (body_stored self.new ≡ body_stored self.old) }
+        ensures serials { next_serial_stored self.new ≡ next_serial_stored self.old }
+        ensures directories { directories_stored self.new ≡ directories_stored self.old }
+    {
+        if let Content::File(bytes) = self {
+            bytes.resize(size, 0)?;
+        }
+        Ok(())
+    }
+
+    /// Writes bytes into a file from a place on, with zeros in a gap before them. Where memory is
+    /// wanting nothing changes.
+    pub fn overwrite(&mut self, at: usize, b: &[u8]) -> Result<(), NoMemory>
+        requires { 0 < length b.now → at + length b.now < 2 ^ 63 }
+        ensures ok { OnOk result (body_stored self.new ≡ with_bytes (overwritten at b.now) (body_stored self.old)) }
+        ensures err { OnErr result (body_stored self.new ≡ body_stored self.old) }
+        ensures serials { next_serial_stored self.new ≡ next_serial_stored self.old }
+        ensures directories { directories_stored self.new ≡ directories_stored self.old }
+    {
+        if let Content::File(bytes) = self {
+            overwrite(bytes, at, b)?;
+        }
+        Ok(())
+    }
+}
+
+/// Writes bytes from a place on, with zeros in a gap before them.
+fn overwrite(bytes: &mut Vec<u8>, at: usize, b: &[u8]) -> Result<(), NoMemory>
+    requires { 0 < length b.now → at + length b.now < 2 ^ 63 }
+    ensures ok { OnOk result (bytes.new.items ≡ overwritten at b.now bytes.old.items) }
+    ensures err { OnErr result (bytes.new.items ≡ bytes.old.items) }
+{
+    if b.is_empty() {
+        return Ok(());
+    }
+    grow(bytes, at + b.len())?;
+    put(bytes, at, b);
+    Ok(())
+}
+
+/// Fills bytes up with zeros to a length, if there are fewer.
+fn grow(bytes: &mut Vec<u8>, end: usize) -> Result<(), NoMemory>
+    ensures ok { OnOk result (bytes.new.items ≡ bytes.old.items ++ replicate (end - length bytes.old.items) 0) }
+    ensures err { OnErr result (bytes.new.items ≡ bytes.old.items) }
+{
+    if bytes.len() < end {
+        bytes.resize(end, 0)?;
+    }
+    Ok(())
+}
+
+/// Writes bytes over those from a place on.
+fn put(bytes: &mut Vec<u8>, at: usize, b: &[u8])
+    requires { at + length b.now ≤ length bytes.old.items }
+    ensures { bytes.new.items ≡ take at bytes.old.items ++ b.now ++ drop (at + length b.now) bytes.old.items }
+{
+    put_slice(bytes.as_mut_slice(), at, b);
+}
+
+/// The same of a slice.
+fn put_slice(bytes: &mut [u8], at: usize, b: &[u8])
+    requires { at + length b.now ≤ length bytes.old }
+    ensures { bytes.new ≡ take at bytes.old ++ b.now ++ drop (at + length b.now) bytes.old }
+{
+    bytes[at..at + b.len()].copy_from_slice(b);
 }

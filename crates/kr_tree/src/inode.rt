@@ -35,12 +35,12 @@ impl Model for Inode {
 }
 
 impl Inode {
-    ghost use Rattle.kr_tree.specs.Tree.{bytes_of, entry_named, entry_after, entries_of, standing_of, is_listed, is_directory, file_of, text_of};
+    ghost use Rattle.kr_tree.specs.Tree.{bytes_of, entry_named, entry_after, entries_of, standing_of, is_listed, takes_names, is_filled, is_file, may_be_linked, is_directory, file_of, text_of};
     ghost use Rattle.kr_tree.specs.Rights.{allows};
     ghost use Rattle.kr_tree.specs.Names.{is_name};
     ghost use Rattle.kr_tree.specs.Entries.{slot_of};
     ghost use Rattle.kr_tree.specs.Stored.{kind_of, meta_of, body_of_new};
-    ghost use Rattle.kr_tree.specs.Changes.{with_mode, with_owner, with_names, with_holds, with_entry, without_entry, unnamed, with_body, with_standing, is_unused, counted, fresh};
+    ghost use Rattle.kr_tree.specs.Changes.{with_mode, with_owner, with_names, with_holds, with_entry, without_entry, unnamed, with_body, with_standing, with_bytes, sized, overwritten, is_unused, counted, fresh};
 
     /// A new inode with one name, by what a caller hands in and where it stands if it is a directory.
     pub fn new(alloc: Global, node: Node, meta: Meta, standing: Standing) -> Inode
@@ -129,6 +129,40 @@ impl Inode {
         matches!(&self.content, Content::Dir(_) | Content::Proc(_))
     }
 
+    /// Whether names can be put into it: a directory proper that wasn't removed.
+    pub fn takes_names(&self) -> bool
+        ensures { result ≡ takes_names self.now.node.body }
+    {
+        match &self.content {
+            Content::Dir(dir) => dir.standing.is_some(),
+            _ => false,
+        }
+    }
+
+    /// Whether it is a file.
+    pub fn is_file(&self) -> bool
+        ensures { result ≡ is_file self.now.node.body }
+    {
+        matches!(&self.content, Content::File(_))
+    }
+
+    /// Whether it is a file or a link, which may have several names.
+    pub fn may_be_linked(&self) -> bool
+        ensures { result ≡ may_be_linked self.now.node.body }
+    {
+        matches!(&self.content, Content::File(_) | Content::Link(_))
+    }
+
+    /// Whether it is a directory with entries.
+    pub fn is_filled(&self) -> bool
+        ensures { result ≡ is_filled self.now.node.body }
+    {
+        match &self.content {
+            Content::Dir(dir) => !dir.entries.is_empty(),
+            _ => false,
+        }
+    }
+
     /// The bytes of a file.
     pub fn file(&self) -> Option<&[u8]>
         ensures { option_copied result ≡ file_of self.now.node.body }
@@ -147,6 +181,13 @@ impl Inode {
             Content::Link(text) => Some(text.as_slice()),
             _ => None,
         }
+    }
+
+    /// How often it is held.
+    pub fn holds(&self) -> u32
+        ensures { result ≡ self.now.holds }
+    {
+        self.holds
     }
 
     /// Whether nothing names or holds it.
@@ -251,6 +292,24 @@ impl Inode {
             Content::Proc(old) => *old = standing,
             _ => {}
         }
+    }
+
+    /// Cuts a file at a size, or fills it with zeros up to it. Where memory is wanting nothing
+    /// changes.
+    pub fn resize(&mut self, size: usize) -> Result<(), NoMemory>
+        ensures ok { OnOk result (self.new ≡ with_body (with_bytes (sized size)) self.old) }
+        ensures err { OnErr result (self.new ≡ self.old) }
+    {
+        self.content.resize(size)
+    }
+
+    /// Writes bytes into a file from a place on. Where memory is wanting nothing changes.
+    pub fn overwrite(&mut self, at: usize, b: &[u8]) -> Result<(), NoMemory>
+        requires { 0 < length b.now → at + length b.now < 2 ^ 63 }
+        ensures ok { OnOk result (self.new ≡ with_body (with_bytes (overwritten at b.now)) self.old) }
+        ensures err { OnErr result (self.new ≡ self.old) }
+    {
+        self.content.overwrite(at, b)
     }
 
     /// One more entry of a directory.

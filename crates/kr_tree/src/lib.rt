@@ -4,6 +4,7 @@
 mod content;
 mod entries;
 mod inode;
+pub mod name;
 pub mod node;
 pub mod place;
 pub mod standing;
@@ -11,8 +12,12 @@ mod store;
 mod tree;
 pub mod user;
 
+pub use name::is_name;
 pub use node::{Kind, Meta, Node, TreeRefusal};
 pub use place::{Host, Ino, Place, ProcAt};
 pub use standing::Standing;
 pub use tree::{ROOT, Tree};
 pub use user::{Right, User};
+
+#[cfg(test)]
+mod tests;

@@ -33,7 +33,7 @@ pub enum Node {
 }
 
 /// The most bytes of one file.
-const FILE_LIMIT: usize = 16_777_216;
+pub const FILE_LIMIT: usize = 16_777_216;
 
 impl Node {
     ghost use Rattle.std.specs.Prelude.{◌≡◌, length};

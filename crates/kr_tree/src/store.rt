@@ -1,5 +1,5 @@
 //! The inodes by their numbers.
-ghost use Rattle.std.specs.Prelude.{◌≡◌, ◌+◌, ◌-◌, ◌^◌, ◌<◌, true, false, Some, None, OnOk, OnErr, IsTrue, IfSome, IsSome};
+ghost use Rattle.std.specs.Prelude.{length, ◌≡◌, ◌+◌, ◌-◌, ◌^◌, ◌<◌, true, false, Some, None, OnOk, OnErr, IsTrue, IfSome, IsSome};
 ghost use Rattle.std.specs.FinMap as map;
 ghost use Rattle.std.specs.Option.{option_copied, option_map_or};
 
@@ -31,7 +31,7 @@ impl Model for Store {
 impl Store {
     ghost use Rattle.kr_tree.specs.Tree.{entry_named, entries_of, is_listed};
     ghost use Rattle.kr_tree.specs.Names.{is_name};
-    ghost use Rattle.kr_tree.specs.Changes.{with_inode, with_mode, with_owner, with_names, with_holds, with_entry, without_entry, unnamed, with_body, with_standing, without_unused, freed};
+    ghost use Rattle.kr_tree.specs.Changes.{with_inode, with_mode, with_owner, with_names, with_holds, with_entry, without_entry, unnamed, with_body, with_standing, with_bytes, sized, overwritten, without_unused, freed};
 
     /// No inodes. It takes no memory yet.
     pub fn new(alloc: Global) -> Store
@@ -159,6 +159,30 @@ impl Store {
     {
         if let Some(inode) = self.inodes.get_mut(&dir) {
             inode.remove_entry(name, is_dir);
+        }
+    }
+
+    /// Cuts a file at a size, or fills it with zeros up to it. Where memory is wanting nothing
+    /// changes.
+    pub fn resize(&mut self, ino: Ino, size: usize) -> Result<(), NoMemory>
+        ensures ok { OnOk result (self.new ≡ with_inode ino (with_body (with_bytes (sized size))) self.old) }
+        ensures err { OnErr result (self.new ≡ self.old) }
+    {
+        match self.inodes.get_mut(&ino) {
+            Some(inode) => inode.resize(size),
+            None => Ok(()),
+        }
+    }
+
+    /// Writes bytes into a file from a place on. Where memory is wanting nothing changes.
+    pub fn overwrite(&mut self, ino: Ino, at: usize, b: &[u8]) -> Result<(), NoMemory>
+        requires { 0 < length b.now → at + length b.now < 2 ^ 63 }
+        ensures ok { OnOk result (self.new ≡ with_inode ino (with_body (with_bytes (overwritten at b.now))) self.old) }
+        ensures err { OnErr result (self.new ≡ self.old) }
+    {
+        match self.inodes.get_mut(&ino) {
+            Some(inode) => inode.overwrite(at, b),
+            None => Ok(()),
         }
     }
 

@@ -1,9 +1,10 @@
 //! The tree.
-ghost use Rattle.std.specs.Prelude.{◌≡◌, ◌+◌, ◌-◌, ◌^◌, ◌<◌, ◌↔◌, ◌&&◌, not, true, false, Some, None, OnOk, OnErr, IfOk, IsSome, length, IsErrOf, IsTrue, IfSome};
+ghost use Rattle.std.specs.Prelude.{◌≡◌, ◌+◌, ◌-◌, ◌^◌, ◌<◌, ◌≤◌, ◌↔◌, ◌&&◌, not, true, false, Some, None, OnOk, OnErr, IfOk, IsSome, length, IsErrOf, IsTrue, IfSome};
 ghost use Rattle.std.specs.Option.{option_map, option_map_or, option_and_then, option_copied};
+ghost use Rattle.kr_tree.specs.Changes.{size_written, is_past_file, file_limit, byte_limit};
 
 use crate::inode::Inode;
-use crate::node::{Kind, Meta, Node, TreeRefusal};
+use crate::node::{FILE_LIMIT, Kind, Meta, Node, TreeRefusal};
 use crate::place::Ino;
 use crate::standing::Standing;
 use crate::store::Store;
@@ -46,11 +47,11 @@ impl Model for Tree {
 }
 
 impl Tree {
-    ghost use Rattle.kr_tree.specs.Tree.{inode, body, entry, entries, entry_after, above, body_is, is_directory, is_filled, takes_names, may_be_linked, file_of, text_of, bytes_of};
+    ghost use Rattle.kr_tree.specs.Tree.{inode, body, entry, entries, entry_after, above, body_is, is_directory, is_filled, takes_names, may_be_linked, is_file, file_of, text_of, bytes_of};
     ghost use Rattle.kr_tree.specs.Rights.{may};
     ghost use Rattle.kr_tree.specs.Names.{is_name};
     ghost use Rattle.kr_tree.specs.Stored.{kind_of, meta_of, body_of_new};
-    ghost use Rattle.kr_tree.specs.Changes.{new_tree, added, next_serial, is_too_big, has_no_room, has_no_name_left, linked, removed, held, released, mode_set, owner_set};
+    ghost use Rattle.kr_tree.specs.Changes.{new_tree, added, next_serial, is_too_big, has_no_room, has_no_name_left, linked, removed, held, released, mode_set, owner_set, bytes_set, sized, overwritten, size, has_no_room_for};
     ghost use Rattle.kr_tree.specs.Lawful.{IsKept, HasItsInodes};
 
     /// A tree with a root alone, by the mode, owner and group of `root`.
@@ -153,6 +154,83 @@ impl Tree {
         self.store.get(ino)?.link_text()
     }
 
+    /// Whether an inode is a directory that wasn't removed, so that names can be put into it.
+    pub fn takes_names(&self, dir: Ino) -> bool
+        ensures { result ≡ body_is takes_names self.now dir }
+    {
+        match self.store.get(dir) {
+            Some(inode) => inode.takes_names(),
+            None => false,
+        }
+    }
+
+    /// Whether an inode is a directory with entries.
+    pub fn is_filled(&self, dir: Ino) -> bool
+        ensures { result ≡ body_is is_filled self.now dir }
+    {
+        match self.store.get(dir) {
+            Some(inode) => inode.is_filled(),
+            None => false,
+        }
+    }
+
+    /// Whether an inode is a file.
+    pub fn is_file(&self, ino: Ino) -> bool
+        ensures { result ≡ body_is is_file self.now ino }
+    {
+        match self.store.get(ino) {
+            Some(inode) => inode.is_file(),
+            None => false,
+        }
+    }
+
+    /// Whether an inode is a file or a link, which may have several names.
+    pub fn may_be_linked(&self, ino: Ino) -> bool
+        ensures { result ≡ body_is may_be_linked self.now ino }
+    {
+        match self.store.get(ino) {
+            Some(inode) => inode.may_be_linked(),
+            None => false,
+        }
+    }
+
+    /// Whether an inode is there and may be held once more.
+    pub fn may_be_held(&self, ino: Ino) -> bool
+        ensures { IsTrue result ↔ (IsSome (inode self.now ino) × (option_map_or (λ x. x.holds) (inode self.now ino) 0 + 1 < 2 ^ 32)) }
+    {
+        match self.store.get(ino) {
+            Some(inode) => inode.holds() < u32::MAX,
+            None => false,
+        }
+    }
+
+    /// How often an inode is held; 0 where it isn't there.
+    pub fn holds(&self, ino: Ino) -> u32
+        ensures { result ≡ option_map_or (λ x. x.holds) (inode self.now ino) 0 }
+    {
+        match self.store.get(ino) {
+            Some(inode) => inode.holds(),
+            None => 0,
+        }
+    }
+
+    /// The number that the next inode takes.
+    pub fn next_number(&self) -> Ino
+        ensures { result ≡ self.now.next }
+    {
+        self.next
+    }
+
+    /// The serial that the next entry of a directory takes; 0 where there is none.
+    pub fn next_serial(&self, dir: Ino) -> u64
+        ensures { result ≡ next_serial self.now dir }
+    {
+        match self.store.get(dir) {
+            Some(inode) => inode.next_serial(),
+            None => 0,
+        }
+    }
+
     /// How many of a directory's entries are directories, the process directory among them.
     pub fn directories(&self, dir: Ino) -> u32
         ensures { result ≡ option_map_or (λ x. x.directories) (inode self.now dir) 0 }
@@ -237,6 +315,36 @@ impl Tree {
         }
     }
 
+    /// Cuts a file at a size, or fills it with zeros up to it. TooBig comes before Full.
+    pub fn set_size(&mut self, file: Ino, new: u64) -> Result<(), TreeRefusal>
+        requires { body_is is_file self.old file ≡ true }
+        ensures too_big { IsErrOf result TreeRefusal.TooBig ↔ IsTrue (is_past_file new) }
+        ensures full { IsErrOf result TreeRefusal.Full ↔ IsTrue (not (is_past_file new) && has_no_room_for file new self.old) }
+        ensures ok { OnOk result (self.new ≡ bytes_set file (sized new) self.old) }
+        ensures err { OnErr result (self.new ≡ self.old) }
+    {
+        let bytes = self.room_for(file, new)?;
+        self.store.resize(file, new as usize)?;
+        self.bytes = bytes;
+        Ok(())
+    }
+
+    /// Writes bytes into a file from a place on, with zeros in a gap before them; no bytes change
+    /// nothing. TooBig comes before Full.
+    pub fn write_file(&mut self, file: Ino, at: u64, b: &[u8]) -> Result<(), TreeRefusal>
+        requires { body_is is_file self.old file ≡ true }
+        ensures too_big { IsErrOf result TreeRefusal.TooBig ↔ IsTrue (is_past_file (size_written at (length b.now) (size self.old file))) }
+        ensures full { IsErrOf result TreeRefusal.Full ↔ IsTrue (not (is_past_file (size_written at (length b.now) (size self.old file))) && has_no_room_for file (size_written at (length b.now) (size self.old file)) self.old) }
+        ensures ok { OnOk result (self.new ≡ bytes_set file (overwritten at b.now) self.old) }
+        ensures err { OnErr result (self.new ≡ self.old) }
+    {
+        let new = size_written(at, b.len(), self.size(file));
+        let bytes = self.room_for(file, new)?;
+        self.store.overwrite(file, at as usize, b)?;
+        self.bytes = bytes;
+        Ok(())
+    }
+
     /// Holds an inode once more: while it is held it stays, also without a name.
     pub fn hold(&mut self, ino: Ino)
         requires there { IsSome (inode self.old ino) }
@@ -292,14 +400,32 @@ impl Tree {
         }
     }
 
-    /// The serial that the next entry of a directory takes.
-    fn next_serial(&self, dir: Ino) -> u64
-        ensures { result ≡ next_serial self.now dir }
+    /// How many bytes an inode has.
+    fn size(&self, ino: Ino) -> u64
+        ensures { result ≡ size self.now ino }
     {
-        match self.store.get(dir) {
-            Some(inode) => inode.next_serial(),
+        match self.store.get(ino) {
+            Some(inode) => inode.size(),
             None => 0,
         }
+    }
+
+    /// How many bytes there are in all with `new` bytes in a file, if that passes no limit.
+    fn room_for(&self, file: Ino, new: u64) -> Result<u64, TreeRefusal>
+        ensures too_big { IsErrOf result TreeRefusal.TooBig ↔ IsTrue (is_past_file new) }
+        ensures full { IsErrOf result TreeRefusal.Full ↔ IsTrue (not (is_past_file new) && has_no_room_for file new self.now) }
+        ensures memory { ¬ IsErrOf result TreeRefusal.NoMemory }
+        ensures ok { IfOk result (λ bytes. bytes ≡ self.now.bytes - size self.now file + new) }
+        ensures limits { IfOk result (λ bytes. (new ≤ file_limit) × (bytes ≤ byte_limit)) }
+    {
+        if (FILE_LIMIT as u64) < new {
+            return Err(TreeRefusal::TooBig);
+        }
+        let bytes = self.bytes - self.size(file) + new;
+        if BYTE_LIMIT < bytes {
+            return Err(TreeRefusal::Full);
+        }
+        Ok(bytes)
     }
 
     /// A copy of a name.
@@ -307,5 +433,18 @@ impl Tree {
         ensures { IfOk result (λ copy. copy.items ≡ name.now) }
     {
         Ok(name.to_vec(self.alloc)?)
+    }
+}
+
+/// How many bytes a file has after `count` of them were written at a place, where that is no more
+/// than a file may have; else any number that is more.
+fn size_written(at: u64, count: usize, size: u64) -> u64
+    ensures past { is_past_file result ≡ is_past_file (size_written at count size) }
+    ensures within { result ≤ file_limit → result ≡ size_written at count size }
+{
+    if count == 0 {
+        size
+    } else {
+        at.saturating_add(count as u64).max(size)
     }
 }

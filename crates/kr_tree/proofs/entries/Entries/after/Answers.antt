@@ -1,12 +1,12 @@
-use Rattle.std.proofs.Common.{List, ◌≡◌, ℕ, ◌≤◌, ◌<◌, true, false, ◌∙◌, ap, sym, rules, arith, Option, Some, None, slice_get, length, get_or, nat_le}
+use Rattle.std.proofs.Common.{List, ◌≡◌, ℕ, ◌≤◌, true, false, ◌∙◌, ap, rules, arith, Some, slice_get, length, nat_le}
 use Rattle.std.specs.Prelude.{Vec}
 use Rattle.std.specs.Option.{option_map}
-use Rattle.std.specs.List.Sorted.{IsPartitionPoint, IsPartitionedBy}
+use Rattle.std.specs.List.Sorted.{IsPartitionPoint}
 use Rattle.std.specs.declared.alloc.Global.{Global}
 use Rattle.std.proofs.lemmas.Fn.{always_returns_same}
 use Rattle.kr_tree.specs.declared.entries.Slot.{Slot}
-use Rattle.kr_tree.specs.Tree.{Entry, entry_after}
-use Rattle.kr_tree.specs.Entries.{entry_of, list_of, Entries}
+use Rattle.kr_tree.specs.Tree.{entry_after}
+use Rattle.kr_tree.specs.Entries.{entry_of, list_of}
 use Rattle.kr_tree.proofs.EntryLemmas.{entry_after-place, serials_parted}
 use Rattle.kr_tree.proofs.entries.Entries.after.Goals as goal
 

@@ -4,7 +4,7 @@ use Rattle.std.specs.Option.{option_map_or}
 use Rattle.std.specs.FinMap as map
 use Rattle.std.proofs.Common.{◌<◌}
 use Rattle.kr_tree.specs.Tree.{Tree, Inode, Inodes, entry, body_is, is_filled, is_directory}
-use Rattle.kr_tree.specs.Changes.{with_inode, unnamed, without_entry}
+use Rattle.kr_tree.specs.Changes.{with_inode, unnamed}
 use Rattle.kr_tree.proofs.RemoveLemmas.{kept-removed, name_left, some_name}
 use Rattle.kr_tree.proofs.tree.Tree.remove.Goals as goal
 
