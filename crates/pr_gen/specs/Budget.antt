@@ -1,5 +1,5 @@
 -- How many texts there may still be.
-use Rattle.std.specs.Prelude.{ℕ, ◌+◌, ◌-◌, ◌≤◌, List, [], length, All}
+use Rattle.std.specs.Prelude.{ℕ, ◌-◌, ◌≤◌, List, [], length, All}
 use Rattle.pr_gen.specs.declared.conditions.Budget.{Budget}
 use Rattle.pr_gen.specs.declared.steps.ProbeStep.{ProbeStep}
 use Rattle.pr_gen.specs.declared.steps.ProbeStep.TheVariants.{Call, SetSp}

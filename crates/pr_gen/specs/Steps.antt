@@ -1,5 +1,5 @@
 -- The steps of a probe, and how much data they need.
-use Rattle.std.specs.Prelude.{◌≡◌, ℕ, ◌+◌, ◌-◌, ◌*◌, ◌%◌, ◌<◌, ◌≤◌, min, List, [], ◌∷◌, ◌++◌, length, All, Contains}
+use Rattle.std.specs.Prelude.{ℕ, ◌+◌, ◌-◌, ◌*◌, ◌%◌, ◌<◌, ◌≤◌, min, List, [], ◌∷◌, ◌++◌, length, All, Contains}
 use Rattle.pr_gen.specs.declared.steps.ProbeStep.{ProbeStep}
 use Rattle.pr_gen.specs.declared.steps.ProbeStep.TheVariants.{Call, SetSp}
 use Rattle.pr_gen.specs.declared.steps.Arg.{Arg}

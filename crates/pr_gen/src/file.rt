@@ -26,6 +26,7 @@ fn start(alloc: Global) -> Result<Code, NoMemory>
     ensures size { IfOk result (λ code. code.size ≡ 20) }
 {
     let mut code = Code::new(alloc);
+    // END, SHOW_NUMBER and SHOW_CONTENT, which are labels 0, 1 and 2.
     code.label()?;
     code.label()?;
     code.label()?;

@@ -1,5 +1,5 @@
 -- A short program without branches, whose labels are all bound, has no fault.
-use Rattle.std.proofs.Common.{◌≡◌, ℕ, ◌+◌, ◌-◌, ◌*◌, ◌<◌, ◌≤◌, ◌^◌, Bool, true, false, nat_lt, List, [], ◌∷◌, All, Option, Some, None, length, slice_index_or, arith, refl}
+use Rattle.std.proofs.Common.{◌≡◌, ℕ, ◌+◌, ◌-◌, ◌<◌, ◌≤◌, ◌^◌, true, List, [], ◌∷◌, All, Option, Some, None, length, arith, refl}
 use Rattle.std.specs.Prelude.{ℤ, pos, negsuc, ◌+ℤ◌, ◌-ℤ◌, ◌*ℤ◌, ◌≤ℤ◌, IsSome, is_none, unwrap_or, if◌then◌else◌}
 use Rattle.std.specs.Int.{int_div_euclid}
 use Rattle.std.specs.Option.{option_or}
@@ -9,7 +9,7 @@ use Rattle.std.proofs.lemmas.List.Elements.{All-head, All-tail}
 use Rattle.rv_asm.specs.declared.item.Item.{Item}
 use Rattle.rv_asm.specs.declared.item.Item.TheVariants.{Plain, Jump, Branch, Address, Data}
 use Rattle.rv_asm.specs.Program.{Program, place_of, label_of, size_of, total, IsProper, IsInside, IsSound}
-use Rattle.rv_asm.specs.Assembly.{distance, fits, upper, unbound_label, first_unbound, reaches, far_label, first_far, first_fault, IsNoBranch, IsNear}
+use Rattle.rv_asm.specs.Assembly.{fits, upper, unbound_label, first_unbound, far_label, first_far, first_fault, IsNoBranch, IsNear}
 use Rattle.rv_asm.proofs.Reach.{floor_below, floor_above, place_inside}
 
 neither : {A : Type 0} (a b : Option A) → a ≡ None → b ≡ None → option_or a b ≡ None

@@ -1,18 +1,18 @@
 -- The instructions of an item whose label is in reach have words.
-use Rattle.std.proofs.Common.{◌≡◌, ℕ, ◌+◌, ◌-◌, ◌*◌, ◌/◌, ◌%◌, ◌<◌, ◌≤◌, ◌^◌, Bool, true, false, cond, nat_lt, List, All, Option, Some, None, length, slice_index_or, arith, refl, inl, inr}
-use Rattle.std.specs.Prelude.{ℤ, pos, negsuc, ◌+ℤ◌, ◌-ℤ◌, ◌*ℤ◌, ◌≤ℤ◌, ◌<ℤ◌, unsigned_abs, unwrap_or, if◌then◌else◌}
+use Rattle.std.proofs.Common.{◌≡◌, ℕ, ◌%◌, Bool, true, false, List, All, Option, Some, None, length, slice_index_or, arith, refl, inl, inr}
+use Rattle.std.specs.Prelude.{ℤ, pos, negsuc, ◌+ℤ◌, ◌-ℤ◌, ◌*ℤ◌, ◌≤ℤ◌, unwrap_or, if◌then◌else◌}
 use Rattle.std.specs.Int.{int_div_euclid}
 use Rattle.std.proofs.lemmas.Int.{ints, unsigned_abs-mul}
 use Rattle.std.proofs.lemmas.Bool.{cases_lt}
 use Rattle.std.proofs.lemmas.Bool.Decides.{nat_tests}
 use Rattle.std.proofs.lemmas.List.{get_or_past}
 use Rattle.rv_table.specs.declared.instr.Instr.{Instr}
-use Rattle.rv_table.specs.declared.instr.Instr.TheVariants.{Jal, Auipc, Addi, Beq, Bne, Blt, Bge, Bltu, Bgeu}
+use Rattle.rv_table.specs.declared.instr.Instr.TheVariants.{Beq, Bne, Blt, Bge, Bltu, Bgeu}
 use Rattle.rv_table.specs.Encoding.{IsValid, FitsWidth, IsMultiple}
 use Rattle.rv_asm.specs.declared.item.Item.{Item}
 use Rattle.rv_asm.specs.declared.item.Item.TheVariants.{Plain, Jump, Branch, Address, Data}
 use Rattle.rv_asm.specs.Program.{place_of, label_of, IsBranch, IsProper, IsInside}
-use Rattle.rv_asm.specs.Assembly.{distance, fits, upper, lower, reaches, far_label, aimed, HasWords}
+use Rattle.rv_asm.specs.Assembly.{distance, fits, upper, lower, far_label, aimed, HasWords}
 
 -- ---- widths
 

@@ -1,12 +1,9 @@
 -- The definitions on worked rows.
-use Rattle.std.proofs.Common.{◌≡◌, ℕ, ◌+◌, ◌-◌, ◌^◌, List, [], ◌∷◌, Option, Some, None, replicate, refl}
-use Rattle.std.specs.Prelude.{ℤ, pos}
+use Rattle.std.proofs.Common.{◌≡◌, [], ◌∷◌, Some, None, replicate, refl}
+use Rattle.std.specs.Prelude.{pos}
 use Rattle.rv_table.specs.declared.instr.Instr.TheVariants.{Beq, Ecall}
-use Rattle.rv_asm.specs.declared.fault.AsmFault.{AsmFault}
 use Rattle.rv_asm.specs.declared.fault.AsmFault.TheVariants.{Unbound, Far}
-use Rattle.rv_asm.specs.declared.item.Item.{Item}
-use Rattle.rv_asm.specs.declared.item.Item.TheVariants.{Plain, Jump, Branch, Address, Data}
-use Rattle.rv_asm.specs.Program.{Program}
+use Rattle.rv_asm.specs.declared.item.Item.TheVariants.{Plain, Jump, Branch, Address}
 use Rattle.rv_asm.specs.Assembly.{first_fault, first_far, bytes_of}
 
 unbound_zero : first_fault (record { items = Branch (Beq 0 0 (pos 0)) 0 ∷ []; places = None ∷ [] }) ≡ Some (Unbound 0)

@@ -1,5 +1,5 @@
 -- The code of a program, and its first fault.
-use Rattle.std.specs.Prelude.{◌≡◌, ℕ, ◌+◌, ◌*◌, ◌<◌, ◌^◌, ◌-◌, Bool, true, nat_lt, if◌then◌else◌, ℤ, pos, negsuc, ◌+ℤ◌, ◌-ℤ◌, ◌*ℤ◌, List, [], ◌∷◌, ◌++◌, All, Option, Some, None, IsSome, is_none, unwrap_or, option_and_then}
+use Rattle.std.specs.Prelude.{ℕ, ◌+◌, ◌<◌, ◌^◌, ◌-◌, Bool, true, nat_lt, if◌then◌else◌, ℤ, pos, negsuc, ◌+ℤ◌, ◌-ℤ◌, ◌*ℤ◌, List, [], ◌∷◌, ◌++◌, All, Option, Some, None, IsSome, is_none, unwrap_or}
 use Rattle.std.specs.Int.{int_div_euclid, to_le_bytes, w32}
 use Rattle.std.specs.Option.{option_map, option_or}
 use Rattle.rv_table.specs.declared.instr.Instr.{Instr}

@@ -1,5 +1,5 @@
-use Rattle.std.proofs.Common.{◌+◌, ◌*◌, arith, sym}
-use Rattle.pr_gen.proofs.Bounds.{texts_next, texts_passed, count-bound}
+use Rattle.std.proofs.Common.{arith, sym}
+use Rattle.pr_gen.proofs.Bounds.{texts_next}
 use Rattle.pr_gen.proofs.data.put_addresses.Goals as goal
 
 pub text_room-at-requires : goal.text_room-at-requires

@@ -1,4 +1,4 @@
-use Rattle.std.proofs.Common.{◌+◌, arith, sym}
+use Rattle.std.proofs.Common.{arith, sym}
 use Rattle.pr_gen.proofs.Bounds.{texts_next, texts_end, count-bound}
 use Rattle.pr_gen.proofs.data.put_texts.Goals as goal
 

@@ -1,4 +1,4 @@
-use Rattle.std.proofs.Common.{◌+◌, arith, sym}
+use Rattle.std.proofs.Common.{arith, sym}
 use Rattle.pr_gen.proofs.Bounds.{texts_next, texts_end}
 use Rattle.pr_gen.proofs.steps.list_room.Goals as goal
 

@@ -1,8 +1,8 @@
-use Rattle.std.proofs.Common.{◌≡◌, ℕ, ◌+◌, List, [], ◌∷◌, ◌++◌, Option, length, take, drop, append_assoc, arith, refl, ap, sym, ◌∙◌}
+use Rattle.std.proofs.Common.{◌≡◌, ℕ, ◌+◌, List, [], ◌∷◌, ◌++◌, Option, take, drop, append_assoc, arith, refl, ap, ◌∙◌}
 use Rattle.std.proofs.lemmas.List.{take_at, drop_at}
 use Rattle.rv_asm.specs.declared.item.Item.{Item}
-use Rattle.rv_asm.specs.Program.{Program, size_of, total}
-use Rattle.rv_asm.specs.Assembly.{bytes_of, code_from, code_of}
+use Rattle.rv_asm.specs.Program.{size_of, total}
+use Rattle.rv_asm.specs.Assembly.{bytes_of, code_from}
 use Rattle.rv_asm.proofs.Programs.{length-bytes_of, length-code_from}
 use Rattle.rv_asm.proofs.laws.items_stand_in_order.Goals as goal
 

@@ -2,7 +2,7 @@ use Rattle.std.proofs.Common.{◌≡◌, arith}
 use Rattle.std.specs.Prelude.{ℤ, pos, ◌+ℤ◌, ◌-ℤ◌}
 use Rattle.std.specs.Int.{int_div_euclid}
 use Rattle.std.proofs.lemmas.Int.{ints}
-use Rattle.rv_asm.specs.Assembly.{upper, lower}
+use Rattle.rv_asm.specs.Assembly.{upper}
 use Rattle.rv_asm.proofs.Reach.{lower_fits, times_multiple}
 use Rattle.rv_asm.proofs.laws.parts_add_up.Goals as goal
 

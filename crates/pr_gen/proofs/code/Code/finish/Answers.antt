@@ -1,6 +1,6 @@
 use Rattle.std.proofs.Common.{◌≡◌, ℕ, ◌<◌, ◌^◌, All, List, Option, None, arith, ap, sym, subst}
 use Rattle.std.specs.Prelude.{IsSome}
-use Rattle.rv_asm.specs.Program.{Program, total}
+use Rattle.rv_asm.specs.Program.{Program}
 use Rattle.rv_asm.specs.Assembly.{first_fault, IsNear}
 use Rattle.pr_gen.specs.Draft.{Draft, IsKept}
 use Rattle.pr_gen.proofs.code.Code.finish.Goals as goal

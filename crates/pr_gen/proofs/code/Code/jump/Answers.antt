@@ -1,5 +1,5 @@
 use Rattle.std.proofs.Common.{refl}
-use Rattle.rv_asm.specs.declared.item.Item.TheVariants.{Plain, Jump, Address}
+use Rattle.rv_asm.specs.declared.item.Item.TheVariants.{Jump}
 use Rattle.pr_gen.proofs.Drafts.{kept_item}
 use Rattle.pr_gen.proofs.code.Code.jump.Goals as goal
 

@@ -1,0 +1,10 @@
+//! Tests of what probes do: loaded and run on the processor alone, with each call answered from a list,
+//! and through the whole program.
+#![tactic(auto)]
+
+#[cfg(test)]
+mod host;
+#[cfg(test)]
+mod tests;
+#[cfg(test)]
+mod whole;

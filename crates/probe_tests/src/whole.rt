@@ -1,0 +1,83 @@
+//! A probe through the whole program.
+
+use pr_base::Bytes;
+use pr_gen::{Arg, ProbeStep, Show, Who, is_probe, probe};
+use pr_io::{MemSink, MemSource};
+use pr_top::{Answer, proot};
+use std::alloc::Global;
+use std::test::Fail;
+
+/// The number of `write`.
+const WRITE: u16 = 64;
+
+/// A call with three arguments.
+fn call(number: u16, args: [Arg; 3], show: Show) -> ProbeStep {
+    let [first, second, third] = args;
+    ProbeStep::Call {
+        number,
+        args: [first, second, third, Arg::Num(0), Arg::Num(0), Arg::Num(0)],
+        who: Who::All,
+        show,
+    }
+}
+
+fn text(alloc: Global) -> Result<Arg, Fail> {
+    Ok(Arg::Text(Bytes::copy(alloc, b"hello\n")?))
+}
+
+fn source(alloc: Global, bytes: &[u8]) -> Result<MemSource, Fail> {
+    Ok(MemSource::new(Bytes::copy(alloc, bytes)?, Vec::new(alloc)))
+}
+
+// Writes of a text, of nothing, to a descriptor that isn't open and from an address that isn't mapped; a
+// call that isn't built; and a write of three bytes of the buffer, which is still all zeros.
+#[test]
+fn writes_answer_what_they_moved(rt: HostRuntime) -> Result<(), Fail> {
+    let alloc = rt.alloc();
+    let steps = [
+        call(
+            WRITE,
+            [Arg::Num(1), text(alloc)?, Arg::Num(6)],
+            Show::Number,
+        ),
+        call(
+            WRITE,
+            [Arg::Num(1), text(alloc)?, Arg::Num(0)],
+            Show::Number,
+        ),
+        call(
+            WRITE,
+            [Arg::Num(7), text(alloc)?, Arg::Num(6)],
+            Show::Number,
+        ),
+        call(WRITE, [Arg::Num(1), Arg::Num(0), Arg::Num(6)], Show::Number),
+        call(1000, [Arg::Num(1), text(alloc)?, Arg::Num(6)], Show::Number),
+        call(WRITE, [Arg::Num(2), Arg::Buf, Arg::Num(3)], Show::Content),
+    ];
+    assert!(rt; is_probe(&steps));
+    let file = probe(alloc, &steps)?;
+    let words = vec![in alloc; String::from_str(alloc, "/probe")?]?;
+    let mut tree = source(alloc, b"user 1000 1000\nd 755 0 0 /\nx 755 0 0 /probe\n")?;
+    let mut elf = source(alloc, file.as_slice())?;
+    let mut input = source(alloc, b"")?;
+    let mut out = MemSink::new(alloc, Vec::new(alloc));
+    let mut err = MemSink::new(alloc, Vec::new(alloc));
+    let mut left = MemSink::new(alloc, Vec::new(alloc));
+    let answer = proot(
+        alloc,
+        words.as_slice(),
+        &mut tree,
+        &mut elf,
+        &mut input,
+        &mut out,
+        &mut err,
+        &mut left,
+    );
+    assert_eq!(rt; answer, Answer::Ended { status: 0 });
+    assert_eq!(rt;
+        out.got(),
+        b"hello\n6\n0\n-9\n-14\n-38\n\0\0\0\n".as_slice()
+    );
+    assert_eq!(rt; err.got(), b"\0\0\0".as_slice());
+    Ok(())
+}
