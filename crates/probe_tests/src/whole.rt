@@ -7,8 +7,15 @@ use pr_top::{Answer, proot};
 use std::alloc::Global;
 use std::test::Fail;
 
-/// The number of `write`.
+/// The numbers of `write`, `openat` and `dup3`.
 const WRITE: u16 = 64;
+
+const OPENAT: u16 = 56;
+
+const DUP3: u16 = 24;
+
+/// AT_FDCWD, the working directory in place of a descriptor.
+const HERE: u64 = 0xffff_ff9c;
 
 /// A call with three arguments.
 fn call(number: u16, args: [Arg; 3], show: Show) -> ProbeStep {
@@ -30,7 +37,8 @@ fn source(alloc: Global, bytes: &[u8]) -> Result<MemSource, Fail> {
 }
 
 // Writes of a text, of nothing, to a descriptor that isn't open and from an address that isn't mapped; a
-// call that isn't built; and a write of three bytes of the buffer, which is still all zeros.
+// call of no number; two calls that are decoded and not built, one with a path that isn't readable and one with
+// arguments that are refused; and a write of three bytes of the buffer, which is still all zeros.
 #[test]
 fn writes_answer_what_they_moved(rt: HostRuntime) -> Result<(), Fail> {
     let alloc = rt.alloc();
@@ -52,6 +60,12 @@ fn writes_answer_what_they_moved(rt: HostRuntime) -> Result<(), Fail> {
         ),
         call(WRITE, [Arg::Num(1), Arg::Num(0), Arg::Num(6)], Show::Number),
         call(1000, [Arg::Num(1), text(alloc)?, Arg::Num(6)], Show::Number),
+        call(
+            OPENAT,
+            [Arg::Num(HERE), Arg::Num(0), Arg::Num(0)],
+            Show::Number,
+        ),
+        call(DUP3, [Arg::Num(3), Arg::Num(3), Arg::Num(0)], Show::Number),
         call(WRITE, [Arg::Num(2), Arg::Buf, Arg::Num(3)], Show::Content),
     ];
     assert!(rt; is_probe(&steps));
@@ -76,7 +90,7 @@ fn writes_answer_what_they_moved(rt: HostRuntime) -> Result<(), Fail> {
     assert_eq!(rt; answer, Answer::Ended { status: 0 });
     assert_eq!(rt;
         out.got(),
-        b"hello\n6\n0\n-9\n-14\n-38\n\0\0\0\n".as_slice()
+        b"hello\n6\n0\n-9\n-14\n-38\n-38\n-38\n\0\0\0\n".as_slice()
     );
     assert_eq!(rt; err.got(), b"\0\0\0".as_slice());
     Ok(())
