@@ -4,7 +4,7 @@ use Rattle.std.specs.Prelude.{slice_get, Result, Ok, Err, OnOk}
 use Rattle.std.specs.Int.{to_le_bytes, w64}
 use Rattle.std.proofs.lemmas.List.{drop_all, length-replicate, take-replicate}
 use Rattle.elf_read.specs.declared.plan.Plan.{Plan}
-use Rattle.elf_load.specs.FirstStack.{aligned, text_bytes, text_addresses, word_bytes, pair_words, pairs_of, words_of, zeros, texts_at, texts_size, stack_pointer, word_count, stack_bytes, random_bytes, random_at}
+use Rattle.elf_load.specs.FirstStack.{ArePlaced, pair_place, aligned, text_bytes, text_addresses, word_bytes, pair_words, pairs_of, words_of, zeros, texts_at, texts_size, stack_pointer, word_count, stack_bytes, random_bytes, random_at}
 use Rattle.elf_load.specs.declared.stack.Pair.{Pair}
 
 -- what is left behind a place that is there
@@ -176,3 +176,38 @@ pointer-is args env size at args_count env_count sp is_at is_size is_args is_env
     let first : at ≡ texts_at args env = is_at ∙ ap (λ s. aligned (random_at - s)) is_size in
     let count : 8 * (args_count + env_count + 27) ≡ 8 * word_count args env = omega arith in
     is_sp ∙ ap (λ n. aligned (at - n)) count ∙ ap (λ t. aligned (t - 8 * word_count args env)) first
+
+-- ---- where the pairs stand
+
+behind : (xs ys : List ℕ) (k : ℕ) → slice_get (xs ++ ys) (length xs + k) ≡ slice_get ys k
+behind [] ys k = let same : 0 + k ≡ k = omega arith in ap (slice_get ys) same
+behind (x ∷ xs) ys k = let next : suc (length xs) + k ≡ suc (length xs + k) = omega arith in ap (slice_get (x ∷ (xs ++ ys))) next ∙ behind xs ys k
+
+kind_at : (ps : List Pair) (k : ℕ) (p : Pair) → slice_get ps k ≡ Some p → slice_get (pair_words ps) (2 * k) ≡ Some p.kind
+kind_at [] k p e = cc
+kind_at (q ∷ ps) zero p e = let same : q ≡ p = cc in ap (λ (r : Pair). Some r.kind) same
+kind_at (q ∷ ps) (suc k) p e = let next : 2 * suc k ≡ suc (suc (2 * k)) = omega arith in ap (slice_get (pair_words (q ∷ ps))) next ∙ kind_at ps k p e
+
+value_at : (ps : List Pair) (k : ℕ) (p : Pair) → slice_get ps k ≡ Some p → slice_get (pair_words ps) (2 * k + 1) ≡ Some p.value
+value_at [] k p e = cc
+value_at (q ∷ ps) zero p e = let same : q ≡ p = cc in ap (λ (r : Pair). Some r.value) same
+value_at (q ∷ ps) (suc k) p e = let next : 2 * suc k + 1 ≡ suc (suc (2 * k + 1)) = omega arith in ap (slice_get (pair_words (q ∷ ps))) next ∙ value_at ps k p e
+
+-- behind the number of arguments, the two lists and their ends
+word_at : (n : ℕ) (first second last : List ℕ) (k : ℕ) → slice_get (n ∷ (first ++ (0 ∷ (second ++ (0 ∷ last))))) (length first + length second + 3 + k) ≡ slice_get last k
+word_at n first second last k =
+    let place : length first + length second + 3 + k ≡ suc (length first + suc (length second + suc k)) = omega arith in
+    ap (slice_get (n ∷ (first ++ (0 ∷ (second ++ (0 ∷ last)))))) place
+    ∙ behind first (0 ∷ (second ++ (0 ∷ last))) (suc (length second + suc k))
+    ∙ behind second (0 ∷ last) (suc k)
+
+pub are_placed : ArePlaced
+are_placed = λ pairs args env k p e.
+    let at = texts_at args env in
+    let first : List ℕ = text_addresses at args in
+    let second : List ℕ = text_addresses (at + length (text_bytes args)) env in
+    let place : pair_place args env k ≡ length first + length second + 3 + 2 * k = omega (arith, length-text_addresses at args, length-text_addresses (at + length (text_bytes args)) env) in
+    let next : pair_place args env k + 1 ≡ length first + length second + 3 + (2 * k + 1) = omega (arith, length-text_addresses at args, length-text_addresses (at + length (text_bytes args)) env) in (
+      ap (slice_get (words_of pairs args env)) place ∙ word_at (length args) first second (pair_words pairs) (2 * k) ∙ kind_at pairs k p e,
+      ap (slice_get (words_of pairs args env)) next ∙ word_at (length args) first second (pair_words pairs) (2 * k + 1) ∙ value_at pairs k p e,
+    )

@@ -1,6 +1,6 @@
 -- The stack with which a program starts, as the System V ABI and its RISC-V supplement draw it: what
 -- each part has, and where it stands below the part above it.
-use Rattle.std.specs.Prelude.{ℕ, ◌+◌, ◌-◌, ◌*◌, ◌/◌, nat_lt, Bool, ◌||◌, List, [], ◌∷◌, ◌++◌, length, replicate, slice_index}
+use Rattle.std.specs.Prelude.{◌≡◌, ℕ, ◌+◌, ◌-◌, ◌*◌, ◌/◌, nat_lt, Bool, ◌||◌, List, [], ◌∷◌, ◌++◌, length, replicate, slice_index, slice_get, Some}
 use Rattle.std.specs.Int.{to_le_bytes, w64}
 use Rattle.elf_read.specs.Headers.{entry_size}
 use Rattle.elf_read.specs.Rules.{page_size}
@@ -84,6 +84,13 @@ words_of pairs args env =
 -- the place among the words of the pair at a place among the pairs; its value stands right behind its kind
 abbrev pub pair_place : List (List ℕ) → List (List ℕ) → ℕ → ℕ
 pair_place args env k = length args + length env + 3 + 2 * k
+
+-- so each pair stands at its place
+abbrev pub ArePlaced : Type 0
+ArePlaced =
+    (pairs : List Pair) (args env : List (List ℕ)) (k : ℕ) (p : Pair) → slice_get pairs k ≡ Some p
+    → (slice_get (words_of pairs args env) (pair_place args env k) ≡ Some p.kind)
+    × (slice_get (words_of pairs args env) (pair_place args env k + 1) ≡ Some p.value)
 
 -- words as they stand in memory, the lowest byte of each first
 abbrev pub word_bytes : List ℕ → List ℕ

@@ -8,6 +8,7 @@
 mod arguments;
 mod fault;
 mod image;
+pub mod laws;
 mod segments;
 mod stack;
 
