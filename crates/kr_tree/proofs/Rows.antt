@@ -8,7 +8,7 @@ use Rattle.kr_tree.specs.declared.user.Right.TheVariants.{Read, Write, Search}
 use Rattle.kr_tree.specs.declared.place.ProcAt.TheVariants.{SelfLink, Dir, Cwd, Root, Exe, FdDir, Fd}
 use Rattle.kr_tree.specs.Tree.{Node, Inode, Entry, Directory, RegularFile, SymbolicLink, entry_named, entry_after, entries_of}
 use Rattle.kr_tree.specs.Rights.{allows, is_kept_by_sticky}
-use Rattle.kr_tree.specs.Names.{is_name, bytes_of_text, process_names}
+use Rattle.kr_tree.specs.Names.{is_name, process_names}
 use Rattle.kr_tree.specs.Changes.{fresh, with_entry, without_entry, sized, overwritten, is_too_big}
 
 -- ---- names
@@ -42,12 +42,6 @@ slash_in_name = refl
 
 zero_in_name : is_name (97 ∷ 0 ∷ []) ≡ false
 zero_in_name = refl
-
-text_of_root : bytes_of_text [] ≡ codes "/"
-text_of_root = refl
-
-text_deepest_first : bytes_of_text (codes "c" ∷ codes "b" ∷ codes "a" ∷ []) ≡ codes "/a/b/c"
-text_deepest_first = refl
 
 self_link : process_names SelfLink ≡ codes "self" ∷ []
 self_link = refl

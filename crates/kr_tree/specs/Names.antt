@@ -1,6 +1,6 @@
 -- Names of what stands in the tree. A host text is a list of names, the deepest first: that of
 -- `/a/b` has b and then a, and that of the root has none.
-use Rattle.std.specs.Prelude.{ℕ, Bool, false, ◌&&◌, ◌||◌, not, List, [], ◌∷◌, ◌++◌, length, Option, Some, None, nat_eq, nat_le, nat_lt, codes, if◌then◌else◌}
+use Rattle.std.specs.Prelude.{ℕ, Bool, false, ◌&&◌, ◌||◌, not, List, [], ◌∷◌, length, Option, Some, None, nat_eq, nat_le, nat_lt, codes, if◌then◌else◌}
 use Rattle.std.specs.List.{list_all}
 use Rattle.std.specs.Option.{option_and_then}
 use Rattle.std.specs.Fmt.{decimal}
@@ -40,15 +40,6 @@ entry_searched t user name dir = if may t user dir Search then entry t dir name 
 abbrev pub reached : Tree → User → List (List ℕ) → Option ℕ
 reached t user [] = Some root
 reached t user (name ∷ text) = option_and_then (entry_searched t user name) (reached t user text)
-
--- the bytes of a host text: each name after a slash, and `/` alone for the root
-abbrev pub bytes_below_root : List (List ℕ) → List ℕ
-bytes_below_root [] = []
-bytes_below_root (name ∷ text) = bytes_below_root text ++ 47 ∷ name
-
-abbrev pub bytes_of_text : List (List ℕ) → List ℕ
-bytes_of_text [] = 47 ∷ []
-bytes_of_text (name ∷ text) = bytes_below_root (name ∷ text)
 
 -- ---- below the process directory
 
