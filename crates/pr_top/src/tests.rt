@@ -103,7 +103,7 @@ const REFUSED: Row = Row {
     ..HELLO_ROW
 };
 
-const ROWS: [Row; 20] = [
+const ROWS: [Row; 15] = [
     HELLO_ROW,
     Row {
         name: "another name",
@@ -142,47 +142,6 @@ const ROWS: [Row; 20] = [
         input: b"x",
         answer: Answer::Unbuilt { part: Part::Input },
         ..REFUSED
-    },
-    Row {
-        name: "another machine",
-        program: Program::Changed { at: 18, to: &[0] },
-        answer: Answer::NoStart {
-            errno: Errno::ENOEXEC,
-        },
-        ..REFUSED
-    },
-    Row {
-        name: "another machine under another name",
-        word: "/nope",
-        program: Program::Changed { at: 18, to: &[0] },
-        answer: Answer::NoStart {
-            errno: Errno::ENOENT,
-        },
-        ..REFUSED
-    },
-    Row {
-        name: "an empty file",
-        program: Program::Empty,
-        answer: Answer::NoStart {
-            errno: Errno::ENOEXEC,
-        },
-        ..REFUSED
-    },
-    Row {
-        name: "16,129 pages beside the stack",
-        program: Program::Changed {
-            at: 104,
-            to: &[0, 0x10, 0xf0, 0x03],
-        },
-        answer: Answer::NoStart {
-            errno: Errno::ENOMEM,
-        },
-        ..REFUSED
-    },
-    Row {
-        name: "a shared object",
-        program: Program::Changed { at: 16, to: &[3] },
-        ..HELLO_ROW
     },
     Row {
         name: "the first write to the output fails",
@@ -251,6 +210,51 @@ const ROWS: [Row; 20] = [
     },
 ];
 
+/// Rows of files that the start looks at.
+const STARTS: [Row; 5] = [
+    Row {
+        name: "another machine",
+        program: Program::Changed { at: 18, to: &[0] },
+        answer: Answer::NoStart {
+            errno: Errno::ENOEXEC,
+        },
+        ..REFUSED
+    },
+    Row {
+        name: "another machine under another name",
+        word: "/nope",
+        program: Program::Changed { at: 18, to: &[0] },
+        answer: Answer::NoStart {
+            errno: Errno::ENOENT,
+        },
+        ..REFUSED
+    },
+    Row {
+        name: "an empty file",
+        program: Program::Empty,
+        answer: Answer::NoStart {
+            errno: Errno::ENOEXEC,
+        },
+        ..REFUSED
+    },
+    Row {
+        name: "16,129 pages beside the stack",
+        program: Program::Changed {
+            at: 104,
+            to: &[0, 0x10, 0xf0, 0x03],
+        },
+        answer: Answer::NoStart {
+            errno: Errno::ENOMEM,
+        },
+        ..REFUSED
+    },
+    Row {
+        name: "a shared object",
+        program: Program::Changed { at: 16, to: &[3] },
+        ..HELLO_ROW
+    },
+];
+
 fn source(alloc: Global, bytes: &[u8], fails: &[u32]) -> Result<MemSource, Fail> {
     Ok(MemSource::new(Bytes::copy(alloc, bytes)?, fails.to_vec(alloc)?))
 }
@@ -315,6 +319,14 @@ fn the_listing_that_is_left_has_the_file(rt: HostRuntime) -> Result<(), Fail> {
 #[test]
 fn rows_do_what_they_have_to(rt: HostRuntime) -> Result<(), Fail> {
     for row in &ROWS {
+        check(&rt, row)?;
+    }
+    Ok(())
+}
+
+#[test]
+fn starts_do_what_they_have_to(rt: HostRuntime) -> Result<(), Fail> {
+    for row in &STARTS {
         check(&rt, row)?;
     }
     Ok(())
