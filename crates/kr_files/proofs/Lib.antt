@@ -8,6 +8,7 @@ pub mod KindLemmas
 pub mod MapLemmas
 pub mod OpenFileLemmas
 pub mod PipeLemmas
+pub mod ServesLemmas
 pub mod SlotLemmas
 pub mod SoundLemmas
 pub mod TreeLemmas

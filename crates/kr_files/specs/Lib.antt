@@ -4,5 +4,6 @@ pub mod Maps
 pub mod OpenFiles
 pub mod Opened
 pub mod Pipes
+pub mod Serves
 pub mod Slots
 pub mod Sound
