@@ -6,6 +6,7 @@ pub mod DescriptorLemmas
 pub mod EntryLemmas
 pub mod KindLemmas
 pub mod MapLemmas
+pub mod MountLemmas
 pub mod OpenFileLemmas
 pub mod PipeLemmas
 pub mod ServesLemmas

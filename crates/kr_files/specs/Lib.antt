@@ -7,3 +7,4 @@ pub mod Pipes
 pub mod Serves
 pub mod Slots
 pub mod Sound
+pub mod WithoutMounts
