@@ -1,6 +1,6 @@
 -- Each call does on a table without its mounts what it does on the table.
 use Rattle.std.specs.FinMap as map
-use Rattle.std.proofs.Common.{◌≡◌, ◌≢◌, ℕ, ◌+◌, ◌-◌, Bool, true, false, not, List, drop, refl, sym, ap, ◌∙◌, cond, Option, Some, None, nat_lt, length}
+use Rattle.std.proofs.Common.{◌≡◌, ◌≢◌, ℕ, ◌+◌, ◌-◌, Bool, true, false, not, List, [], drop, refl, sym, ap, ◌∙◌, cond, Option, Some, None, nat_lt, length}
 use Rattle.std.specs.Option.{option_map, option_map_or}
 use Rattle.std.specs.Ordering.{nat_cmp}
 use Rattle.std.proofs.lemmas.Option.{none-some, same_Some}
@@ -11,7 +11,7 @@ use Rattle.kr_files.specs.declared.opened.What.TheVariants.{File, Dir, In, Out, 
 use Rattle.kr_files.specs.Descriptors.{Meanings, named_count}
 use Rattle.kr_files.specs.Files.{Counted, Table, empty_table, file_at, has_kind, has_reader, has_writer, pipe_state_of, with_file, with_pipe, with_copy, with_copies, pipes_left, without_file, closed, counted_more, on_opened, with_opened, at_offset, with_append, with_all_opened, with_bytes, pipe_after_read, pipe_after_write}
 use Rattle.kr_files.specs.Maps.{changed, mapped}
-use Rattle.kr_files.specs.Opened.{is_reader, is_writer, remembers, nameless, named_at, after_removal, after_rename}
+use Rattle.kr_files.specs.Opened.{is_reader, is_writer, pipe_end, remembers, nameless, named_at, after_removal, after_rename}
 use Rattle.kr_files.specs.Pipes.{after_write}
 use Rattle.kr_files.specs.WithoutMounts.{without_mount, counted_without_mount, without_mounts}
 use Rattle.kr_files.proofs.KindLemmas.{same_bools, some_kind, kind_some}
@@ -46,12 +46,12 @@ module _ {M : Type 0} where
   has_kind-without_mounts test files =
       same_bools _ _
       (λ any.
-          let found = some_kind test (mapped (λ n. counted_without_mount) files) any in
-          let g = of_mapped (map.get files found.0) found.1 (sym (get-mapped (λ n. counted_without_mount) files found.0) ∙ found.2) in
-          kind_some test files found.0 g.0 g.1 (ap (λ (h : Counted (Unit {0})). test h.opened.what) g.2 ∙ found.3))
+      let found = some_kind test (mapped (λ n. counted_without_mount) files) any in
+      let g = of_mapped (map.get files found.0) found.1 (sym (get-mapped (λ n. counted_without_mount) files found.0) ∙ found.2) in
+      kind_some test files found.0 g.0 g.1 (ap (λ (h : Counted (Unit {0})). test h.opened.what) g.2 ∙ found.3))
       (λ any.
-          let found = some_kind test files any in
-          kind_some test (mapped (λ n. counted_without_mount) files) found.0 (counted_without_mount found.1) (get-mapped (λ n. counted_without_mount) files found.0 ∙ ap (option_map counted_without_mount) found.2) found.3)
+      let found = some_kind test files any in
+      kind_some test (mapped (λ n. counted_without_mount) files) found.0 (counted_without_mount found.1) (get-mapped (λ n. counted_without_mount) files found.0 ∙ ap (option_map counted_without_mount) found.2) found.3)
 
   chosen : (b : Bool) (o p : Opened M) → without_mount (cond b o p) ≡ cond b (without_mount o) (without_mount p)
   chosen true o p = refl
@@ -134,3 +134,46 @@ module _ {M : Type 0} where
     rename-without_mounts dir name to new =
         on_files _ _ (mapped-mapped counted_without_mount t.files (λ n. on_opened (after_rename dir name to new)) (λ n. on_opened (after_rename dir name to new))
         (λ n h. ap (λ o. record { opened = o; count = h.count }) (rename-without_mount dir name to new h.opened)))
+
+    -- pipe
+    pub with_pipe-without_mounts : without_mounts (with_pipe t) ≡ with_pipe (without_mounts t)
+    with_pipe-without_mounts =
+        let reader : Counted M = record { opened = pipe_end (PipeRead (t.last_pipe + 1)) true false; count = 1 } in
+        let writer : Counted M = record { opened = pipe_end (PipeWrite (t.last_pipe + 1)) false true; count = 1 } in
+        ap (λ fs. record { files = fs; pipes = map.insert t.pipes (t.last_pipe + 1) []; last_file = t.last_file + 1 + 1; last_pipe = t.last_pipe + 1 })
+        (mapped-insert (λ n. counted_without_mount) (map.insert t.files (t.last_file + 1) reader) (t.last_file + 1 + 1) writer
+        ∙ ap (λ m. map.insert m (t.last_file + 1 + 1) (counted_without_mount writer)) (mapped-insert (λ n. counted_without_mount) t.files (t.last_file + 1) reader))
+
+    left_kind : (test : What → Bool) (n : ℕ) → has_kind test (map.remove (mapped (λ k. counted_without_mount) t.files) n) ≡ has_kind test (map.remove t.files n)
+    left_kind test n =
+        ap (λ (fs : map.FinMap nat_cmp (Counted (Unit {0}))). has_kind test fs) (sym (mapped-remove (λ k. counted_without_mount) t.files n)) ∙ has_kind-without_mounts test (map.remove t.files n)
+
+    left-without_mounts : (n : ℕ) (what : What) → pipes_left what (map.remove t.files n) t.pipes ≡ pipes_left what (map.remove (mapped (λ k. counted_without_mount) t.files) n) t.pipes
+    left-without_mounts n (PipeRead p) = ap (λ b. cond b t.pipes (map.remove t.pipes p)) (sym (left_kind (is_writer p) n))
+    left-without_mounts n (PipeWrite p) = ap (λ b. cond b t.pipes (map.remove t.pipes p)) (sym (left_kind (is_reader p) n))
+    left-without_mounts n File = refl
+    left-without_mounts n Dir = refl
+    left-without_mounts n In = refl
+    left-without_mounts n Out = refl
+    left-without_mounts n Err = refl
+
+    without_file-without_mounts : (n : ℕ) (what : What) → without_mounts (without_file n what t) ≡ without_file n what (without_mounts t)
+    without_file-without_mounts n what =
+        let files = mapped-remove (λ k. counted_without_mount) t.files n in
+        let pipes = left-without_mounts n what in
+        λ i. record { files = files i; pipes = pipes i; last_file = t.last_file; last_pipe = t.last_pipe }
+
+    -- close, and what dup_to closes
+    pub closed-without_mounts : (n : ℕ) → without_mounts (closed n t) ≡ closed n (without_mounts t)
+    unfolding closed
+    closed-without_mounts n =
+        elim (map.get t.files n) as (λ o. without_mounts (option_map_or (λ (h : Counted M). cond (nat_lt 1 h.count) (record t { files = map.insert t.files n (record h { count = h.count - 1 }) }) (without_file n h.opened.what t)) o t)
+        ≡ option_map_or (λ (h : Counted (Unit {0})). cond (nat_lt 1 h.count) (record (without_mounts t) { files = map.insert (without_mounts t).files n (record h { count = h.count - 1 }) }) (without_file n h.opened.what (without_mounts t))) (option_map counted_without_mount o) (without_mounts t)) [
+          | None ↦ refl
+          | Some h ↦ elim (nat_lt 1 h.count) as (λ b. without_mounts (cond b (record t { files = map.insert t.files n (record h { count = h.count - 1 }) }) (without_file n h.opened.what t))
+              ≡ cond b (record (without_mounts t) { files = map.insert (without_mounts t).files n (record (counted_without_mount h) { count = h.count - 1 }) }) (without_file n h.opened.what (without_mounts t))) [
+                | true ↦ on_files _ _ (mapped-insert (λ k. counted_without_mount) t.files n (record h { count = h.count - 1 }))
+                | false ↦ without_file-without_mounts n h.opened.what
+              ]
+        ]
+        ∙ sym (ap (λ o. option_map_or (λ (h : Counted (Unit {0})). cond (nat_lt 1 h.count) (record (without_mounts t) { files = map.insert (without_mounts t).files n (record h { count = h.count - 1 }) }) (without_file n h.opened.what (without_mounts t))) o (without_mounts t)) (get-mapped (λ k. counted_without_mount) t.files n))
