@@ -6,8 +6,10 @@ pub mod DescriptorLemmas
 pub mod EntryLemmas
 pub mod KindLemmas
 pub mod MapLemmas
+pub mod MountLemmas
 pub mod OpenFileLemmas
 pub mod PipeLemmas
+pub mod ServesLemmas
 pub mod SlotLemmas
 pub mod SoundLemmas
 pub mod TreeLemmas
