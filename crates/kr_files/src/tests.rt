@@ -1,7 +1,7 @@
 ghost use Rattle.std.specs.Prelude.{IsTrue, IfOk};
 ghost use Rattle.kr_files.specs.Opened.{is_no_end};
 
-use crate::{Descs, Files, FilesRefusal, Opened, What};
+use crate::{Descs, Files, FilesRefusal, Moved, Opened, What, Wrote};
 use kr_tree::{Host, Place};
 use pr_base::{Bytes, NoMemory};
 use std::alloc::Global;
@@ -79,4 +79,36 @@ fn the_lowest_free_descriptor_is_taken(rt: HostRuntime) -> Result<(), Fail> {
     assert_eq!(rt; guest.dup(2, 0, false), Some(Ok(0)));
     assert_eq!(rt; guest.dup(2, 1024, false), Some(Err(FilesRefusal::Full)));
     Ok(())
+}
+
+#[test]
+fn bytes_go_through_a_pipe_in_order(rt: HostRuntime) -> Result<(), Fail> {
+    let mut files = Files::<u32>::new(rt.alloc());
+    let mut descs = Descs::new(rt.alloc());
+    assert_eq!(rt; files.pipe(&mut descs, false), Ok((0, 1)));
+    assert!(rt; writes(&mut files, 1, b"abc", Wrote::Took(3)));
+    assert!(rt; reads(&mut files, 1, 2, b"ab"));
+    assert!(rt; reads(&mut files, 1, 2, b"c"));
+    files.renamed(5, b"f", 5, b"g")?;
+    Ok(())
+}
+
+fn writes(files: &mut Files<u32>, pipe: u32, b: &[u8], answer: Wrote) -> bool {
+    if b.is_empty() || files.pipe_state(pipe).is_none() {
+        return false;
+    }
+    match files.pipe_write(pipe, b) {
+        Ok(wrote) => wrote == answer,
+        Err(_) => false,
+    }
+}
+
+fn reads(files: &mut Files<u32>, pipe: u32, n: usize, bytes: &[u8]) -> bool {
+    if n == 0 || files.pipe_state(pipe).is_none() {
+        return false;
+    }
+    match files.pipe_read(pipe, n) {
+        Ok(Moved::Bytes(moved)) => moved.as_slice() == bytes,
+        _ => false,
+    }
 }
