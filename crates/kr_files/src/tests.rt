@@ -52,6 +52,24 @@ impl Guest {
         }
         Some(self.files.dup(&mut self.descs, fd, from, cloexec))
     }
+
+    fn dup_to(&mut self, fd: u32, to: u32) -> Option<Result<(), NoMemory>> {
+        if self.descs.cloexec(fd).is_none() || to >= 1024 || to == fd {
+            return None;
+        }
+        Some(self.files.dup_to(&mut self.descs, fd, to, false))
+    }
+
+    // The flag of a descriptor of the child.
+    fn fork_and_look(self, fd: u32) -> Option<bool> {
+        let Guest {
+            mut files,
+            descs,
+            calls: _,
+        } = self;
+        let child = files.fork(&descs).ok()?;
+        child.cloexec(fd)
+    }
 }
 
 fn file(alloc: Global, name: &[u8]) -> Result<Opened<u32>, NoMemory>
@@ -78,6 +96,8 @@ fn the_lowest_free_descriptor_is_taken(rt: HostRuntime) -> Result<(), Fail> {
     assert_eq!(rt; guest.open(file(rt.alloc(), b"f")?, 2, true), Ok(2));
     assert_eq!(rt; guest.dup(2, 0, false), Some(Ok(0)));
     assert_eq!(rt; guest.dup(2, 1024, false), Some(Err(FilesRefusal::Full)));
+    assert_eq!(rt; guest.dup_to(0, 5), Some(Ok(())));
+    assert_eq!(rt; guest.fork_and_look(2), Some(true));
     Ok(())
 }
 
