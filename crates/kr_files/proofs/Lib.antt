@@ -9,6 +9,7 @@ pub mod MapLemmas
 pub mod MountLemmas
 pub mod OpenFileLemmas
 pub mod PipeLemmas
+pub mod ServedLemmas
 pub mod ServesLemmas
 pub mod SlotLemmas
 pub mod SoundLemmas

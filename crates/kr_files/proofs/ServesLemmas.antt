@@ -1,19 +1,19 @@
 -- A process's descriptors name open files, and are counted, after each call.
 use Rattle.std.specs.FinMap as map
-use Rattle.std.proofs.Common.{◌≡◌, ◌≢◌, ◌≤◌, ◌<◌, ◌+◌, ◌-◌, ◌^◌, inl, inr, subst, ℕ, zero, suc, Bool, true, false, not, refl, sym, ap, ◌∙◌, arith, cond, Option, Some, None, nat_lt}
-use Rattle.std.specs.Prelude.{◌==◌, IsSome}
+use Rattle.std.proofs.Common.{◌≡◌, ◌≢◌, ◌≤◌, ◌<◌, ◌+◌, ◌-◌, inl, inr, subst, ℕ, zero, suc, true, false, not, refl, sym, ap, ◌∙◌, arith, cond, Option, Some, None, nat_lt}
+use Rattle.std.specs.Prelude.{◌==◌}
 use Rattle.std.specs.Option.{option_map, option_map_or}
 use Rattle.std.specs.Ordering.{nat_cmp}
 use Rattle.std.proofs.lemmas.Bool.{cases_eq}
 use Rattle.std.proofs.lemmas.Bool.Decides.{nat_tests}
 use Rattle.std.proofs.lemmas.Option.{same_Some, none-some}
 use Rattle.kr_files.specs.declared.descs.Descriptor.{Descriptor}
-use Rattle.kr_files.specs.Descriptors.{Descriptors, Meanings, Named, meanings, named_below, named_count}
-use Rattle.kr_files.specs.Files.{Counted, Kept, Table, counted_more, copied, released, closed, is_last, without_file, on_table}
+use Rattle.kr_files.specs.Descriptors.{Descriptors, Named, meanings, named_below, named_count}
+use Rattle.kr_files.specs.Files.{Counted, Kept, counted_more, copied, released, closed, without_file}
 use Rattle.kr_files.specs.Serves.{Serves}
 use Rattle.kr_files.proofs.MapLemmas.{same_values, by_key, get-insert_same, get-insert_other, get-remove_same, get-remove_other, get-changed_same, get-changed_other}
 use Rattle.kr_files.proofs.SoundLemmas.{equal_same, equal_other}
-use Rattle.kr_files.proofs.CountLemmas.{named_here, below-more, here-same, here-other, get-meanings, none-meanings}
+use Rattle.kr_files.proofs.CountLemmas.{named_here, get-meanings, none-meanings}
 
 -- one for this number, and nothing for any other
 abbrev pub one_at : ℕ → ℕ → ℕ

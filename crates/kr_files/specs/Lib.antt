@@ -4,6 +4,7 @@ pub mod Maps
 pub mod OpenFiles
 pub mod Opened
 pub mod Pipes
+pub mod Served
 pub mod Serves
 pub mod Slots
 pub mod Sound

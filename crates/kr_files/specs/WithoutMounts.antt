@@ -1,9 +1,6 @@
 -- Open files without their mounts: the host's object, the remembered entry, the kind, what is allowed, and
 -- the offset. Machines with different mounts are compared on them.
-use Rattle.std.specs.FinMap as map
-use Rattle.std.specs.Prelude.{ℕ}
 use Rattle.std.specs.Option.{option_map}
-use Rattle.kr_tree.specs.declared.place.Place.{Place}
 use Rattle.kr_files.specs.declared.opened.Opened.{Opened}
 use Rattle.kr_files.specs.Files.{Counted, Table}
 use Rattle.kr_files.specs.Maps.{mapped}

@@ -12,3 +12,6 @@ mod renames;
 pub use descs::Descs;
 pub use files::Files;
 pub use opened::{FilesRefusal, Moved, Opened, PipeState, What, Wrote};
+
+#[cfg(test)]
+mod tests;
