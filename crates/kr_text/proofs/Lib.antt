@@ -1,1 +1,3 @@
+pub mod CanonicalRows
 pub mod LineRows
+pub mod ReadingRows
