@@ -1,3 +1,5 @@
+pub mod Answers
 pub mod Canonical
 pub mod Lines
+pub mod Pieces
 pub mod Reading

@@ -1,5 +1,7 @@
 //! Why a listing can't be read.
 
+use pr_base::NoMemory;
+
 /// What is wrong with a line. In a line the first of `Form`, `Number`, `Name`, `RootUser`,
 /// `NoParent`, `Twice`, `NoTarget`, `TwoElf` and `TooBig` counts.
 #[derive(Clone, Copy, Debug, PartialEq, Eq)]
@@ -35,4 +37,33 @@ pub enum ListFault {
     /// told of the line after the last.
     Bad { line: u32, why: TreeWhy },
     NoMemory,
+}
+
+/// Why a line wasn't read.
+#[derive(Clone, Copy, Debug, PartialEq, Eq)]
+pub(crate) enum LineFault {
+    Bad(TreeWhy),
+    NoMemory,
+}
+
+impl From<TreeWhy> for LineFault {
+    ghost use Rattle.std.specs.Prelude.{◌≡◌};
+    ghost use Rattle.kr_text.specs.declared.fault.LineFault.TheVariants.{Bad};
+
+    ghost from_gives = { λ why fault. fault ≡ Bad why };
+
+    fn from(why: TreeWhy) -> LineFault {
+        LineFault::Bad(why)
+    }
+}
+
+impl From<NoMemory> for LineFault {
+    ghost use Rattle.std.specs.Prelude.{◌≡◌};
+    ghost use Rattle.kr_text.specs.declared.fault.LineFault.TheVariants.{NoMemory as NoMemoryForLine};
+
+    ghost from_gives = { λ error fault. fault ≡ NoMemoryForLine };
+
+    fn from(_error: NoMemory) -> LineFault {
+        LineFault::NoMemory
+    }
 }

@@ -1,8 +1,13 @@
 //! The text form in which the tree comes in and goes out.
 #![tactic(auto)]
 
+mod escape;
 mod fault;
 mod line;
+mod listing;
+mod number;
 mod path;
+mod pieces;
 
 pub use fault::{ListFault, TreeWhy};
+pub use listing::wants_elf;
