@@ -11,3 +11,6 @@ mod pieces;
 
 pub use fault::{ListFault, TreeWhy};
 pub use listing::wants_elf;
+
+#[cfg(test)]
+mod tests;

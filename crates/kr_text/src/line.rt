@@ -150,15 +150,22 @@ impl Line {
         let Some(kind) = fields.next() else {
             return Err(LineFault::Bad(TreeWhy::Form));
         };
-        match kind {
-            b"user" => Ok(user_line(fields)?),
-            b"d" => dir_line(alloc, fields),
-            b"f" => file_line(alloc, fields),
-            b"x" => elf_line(alloc, fields),
-            b"l" => link_line(alloc, fields),
-            b"h" => name_line(alloc, fields),
-            b"p" => proc_line(alloc, fields),
-            _ => Err(LineFault::Bad(TreeWhy::Form)),
+        if kind == b"user".as_slice() {
+            Ok(user_line(fields)?)
+        } else if kind == b"d".as_slice() {
+            dir_line(alloc, fields)
+        } else if kind == b"f".as_slice() {
+            file_line(alloc, fields)
+        } else if kind == b"x".as_slice() {
+            elf_line(alloc, fields)
+        } else if kind == b"l".as_slice() {
+            link_line(alloc, fields)
+        } else if kind == b"h".as_slice() {
+            name_line(alloc, fields)
+        } else if kind == b"p".as_slice() {
+            proc_line(alloc, fields)
+        } else {
+            Err(LineFault::Bad(TreeWhy::Form))
         }
     }
 }
