@@ -5,3 +5,4 @@ pub mod LineRows
 pub mod NumberLemmas
 pub mod PieceLemmas
 pub mod ReadingRows
+pub mod WalkLemmas

@@ -3,3 +3,4 @@ pub mod Canonical
 pub mod Lines
 pub mod Pieces
 pub mod Reading
+pub mod Spots

@@ -1,5 +1,5 @@
 -- A listing read line after line, and its first bad line.
-use Rattle.std.specs.Prelude.{ℕ, ◌+◌, min, Bool, true, false, ◌||◌, List, [], ◌∷◌, length, codes, Option, Some, None, is_some, Result, Ok, Err, nat_eq, if◌then◌else◌}
+use Rattle.std.specs.Prelude.{ℕ, ◌+◌, min, Bool, true, false, ◌||◌, List, [], ◌∷◌, length, codes, Option, Some, None, is_some, Result, Ok, Err, ok_or, nat_eq, if◌then◌else◌}
 use Rattle.std.specs.List.{list_any, starts_with, slice_split}
 use Rattle.std.specs.Option.{option_and_then}
 use Rattle.kr_tree.specs.declared.user.User.{User}
@@ -13,17 +13,10 @@ use Rattle.kr_text.specs.declared.fault.ListFault.TheVariants.{Bad}
 use Rattle.kr_text.specs.declared.line.Owner.{Owner}
 use Rattle.kr_text.specs.declared.line.Line.{Line}
 use Rattle.kr_text.specs.declared.line.Line.TheVariants.{User as UserLine, Dir as DirLine, File as FileLine, Elf as ElfLine, Link as LinkLine, Name as NameLine, Proc as ProcLine}
+use Rattle.kr_text.specs.declared.so_far.SoFar.{SoFar}
 use Rattle.kr_text.specs.Lines.{◌>>=◌, line_of}
 
 -- ---- what was read so far
-
--- the tree and the user, once there are lines for them, and whether there was a line of the process
--- directory and one of a file with the ELF source's bytes
-pub record SoFar : Type 0 where
-  pub tree : Option Tree
-  pub user : Option User
-  pub has_proc : Bool
-  pub has_elf : Bool
 
 abbrev pub nothing_read : SoFar
 nothing_read = record { tree = None; user = None; has_proc = false; has_elf = false }
@@ -33,36 +26,40 @@ with_tree t s = record { tree = Some t; user = s.user; has_proc = s.has_proc; ha
 
 -- ---- where a name goes
 
--- a tree, a directory of it and a name that is free there
-pub record Place : Type 0 where
-  pub tree : Tree
-  pub dir : ℕ
-  pub name : List ℕ
+-- a directory of a tree and a name that is free there
+abbrev pub Place : Type 0
+Place = ℕ × List ℕ
 
--- what a text names, where it is a directory to which names can be added
-abbrev pub directory_at : Tree → List (List ℕ) → Option ℕ
-directory_at t text = option_and_then (λ dir. if body_is takes_names t dir then Some dir else None) (named t text)
+-- a directory to which names can be added
+abbrev pub directory_of : Tree → Option ℕ → Option ℕ
+directory_of t at = option_and_then (λ dir. if body_is takes_names t dir then Some dir else None) at
 
 abbrev pub free_in : Tree → List ℕ → Option ℕ → Result Place TreeWhy
 free_in t name None = Err NoParent
-free_in t name (Some dir) = if is_some (entry t dir name) then Err Twice else Ok (record { tree = t; dir = dir; name = name })
+free_in t name (Some dir) = if is_some (entry t dir name) then Err Twice else Ok (dir, name)
 
--- before the root's line nothing has a directory above it, and after it the root is there already
-abbrev pub place_in : Option Tree → List (List ℕ) → Result Place TreeWhy
-place_in None text = Err NoParent
-place_in (Some t) [] = Err Twice
-place_in (Some t) (name ∷ text) = free_in t name (directory_at t text)
+-- once the root is there, its path is taken
+abbrev pub place_below : Tree → List (List ℕ) → Result Place TreeWhy
+place_below t [] = Err Twice
+place_below t (name ∷ text) = free_in t name (directory_of t (named t text))
+
+-- before the root's line nothing has a directory above it
+abbrev pub tree_of : SoFar → Result Tree TreeWhy
+tree_of s = ok_or s.tree NoParent
 
 -- ---- what a line adds
 
 -- a new node at its place, within the limits
-abbrev pub put : Owner → Body → Place → Result Tree TreeWhy
-put owner body p =
-    if is_too_big body || has_no_room (length (bytes_of body)) p.tree then Err TooBig
-    else Ok (added p.dir p.name owner.mode owner.uid owner.gid body p.tree)
+abbrev pub put : Owner → Body → Tree → Place → Result Tree TreeWhy
+put owner body t p =
+    if is_too_big body || has_no_room (length (bytes_of body)) t then Err TooBig
+    else Ok (added p.0 p.1 owner.mode owner.uid owner.gid body t)
+
+abbrev pub node_put : Owner → List (List ℕ) → Body → Tree → Result Tree TreeWhy
+node_put owner text body t = place_below t text >>= put owner body t
 
 abbrev pub node_read : Owner → List (List ℕ) → Body → SoFar → Result SoFar TreeWhy
-node_read owner text body s = place_in s.tree text >>= (λ p. put owner body p >>= (λ t. Ok (with_tree t s)))
+node_read owner text body s = tree_of s >>= (λ t. node_put owner text body t >>= (λ u. Ok (with_tree u s)))
 
 -- the root, which needs no directory above
 abbrev pub root_read : Owner → SoFar → Result SoFar TreeWhy
@@ -77,19 +74,27 @@ user_read user s =
     if is_some s.user then Err Twice
     else Ok (record { tree = s.tree; user = Some user; has_proc = s.has_proc; has_elf = s.has_elf })
 
-abbrev pub elf_put : Owner → List ℕ → SoFar → Place → Result SoFar TreeWhy
-elf_put owner elf s p =
-    if s.has_elf then Err TwoElf
-    else put owner (RegularFile elf) p >>= (λ t. Ok (record { tree = Some t; user = s.user; has_proc = s.has_proc; has_elf = true }))
+abbrev pub elf_put : Owner → List (List ℕ) → List ℕ → Bool → Tree → Result Tree TreeWhy
+elf_put owner text elf has_elf t = place_below t text >>= (λ p. if has_elf then Err TwoElf else put owner (RegularFile elf) t p)
+
+abbrev pub with_elf : Tree → SoFar → SoFar
+with_elf t s = record { tree = Some t; user = s.user; has_proc = s.has_proc; has_elf = true }
+
+abbrev pub elf_read : Owner → List (List ℕ) → List ℕ → SoFar → Result SoFar TreeWhy
+elf_read owner text elf s = tree_of s >>= (λ t. elf_put owner text elf s.has_elf t >>= (λ u. Ok (with_elf u s)))
 
 -- mode 0555, owner and group 0
 abbrev pub proc_owner : Owner
 proc_owner = record { mode = 365; uid = 0; gid = 0 }
 
-abbrev pub proc_put : SoFar → Place → Result SoFar TreeWhy
-proc_put s p =
-    if s.has_proc then Err Twice
-    else put proc_owner (ProcessDirectory None) p >>= (λ t. Ok (record { tree = Some t; user = s.user; has_proc = true; has_elf = s.has_elf }))
+abbrev pub proc_put : List (List ℕ) → Bool → Tree → Result Tree TreeWhy
+proc_put text has_proc t = place_below t text >>= (λ p. if has_proc then Err Twice else put proc_owner (ProcessDirectory None) t p)
+
+abbrev pub with_proc : Tree → SoFar → SoFar
+with_proc t s = record { tree = Some t; user = s.user; has_proc = true; has_elf = s.has_elf }
+
+abbrev pub proc_read : List (List ℕ) → SoFar → Result SoFar TreeWhy
+proc_read text s = tree_of s >>= (λ t. proc_put text s.has_proc t >>= (λ u. Ok (with_proc u s)))
 
 -- the file that a text names
 abbrev pub or_no_target : Option ℕ → Result ℕ TreeWhy
@@ -99,18 +104,24 @@ or_no_target (Some file) = Ok file
 abbrev pub file_at : Tree → List (List ℕ) → Result ℕ TreeWhy
 file_at t text = or_no_target (option_and_then (λ i. if body_is is_file t i then Some i else None) (named t text))
 
-abbrev pub link_put : SoFar → Place → ℕ → Result SoFar TreeWhy
-link_put s p file = if has_no_name_left p.tree then Err TooBig else Ok (with_tree (linked p.dir p.name file p.tree) s)
+abbrev pub link_put : Tree → Place → ℕ → Result Tree TreeWhy
+link_put t p file = if has_no_name_left t then Err TooBig else Ok (linked p.0 p.1 file t)
+
+abbrev pub name_put : List (List ℕ) → List (List ℕ) → Tree → Result Tree TreeWhy
+name_put text existing t = place_below t text >>= (λ p. file_at t existing >>= link_put t p)
+
+abbrev pub name_read : List (List ℕ) → List (List ℕ) → SoFar → Result SoFar TreeWhy
+name_read text existing s = tree_of s >>= (λ t. name_put text existing t >>= (λ u. Ok (with_tree u s)))
 
 -- what was read once a line was added to it. The ELF source's bytes stand first
 abbrev pub line_read : List ℕ → Line → SoFar → Result SoFar TreeWhy
 line_read elf (UserLine user) s = user_read user s
 line_read elf (DirLine owner text) s = dir_read owner text s
 line_read elf (FileLine owner text bytes) s = node_read owner text (RegularFile bytes) s
-line_read elf (ElfLine owner text) s = place_in s.tree text >>= elf_put owner elf s
+line_read elf (ElfLine owner text) s = elf_read owner text elf s
 line_read elf (LinkLine owner text target) s = node_read owner text (SymbolicLink target) s
-line_read elf (NameLine text existing) s = place_in s.tree text >>= (λ p. file_at p.tree existing >>= link_put s p)
-line_read elf (ProcLine text) s = place_in s.tree text >>= proc_put s
+line_read elf (NameLine text existing) s = name_read text existing s
+line_read elf (ProcLine text) s = proc_read text s
 
 -- ---- the listing
 

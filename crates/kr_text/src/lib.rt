@@ -8,6 +8,8 @@ mod listing;
 mod number;
 mod path;
 mod pieces;
+mod so_far;
+mod walk;
 
 pub use fault::{ListFault, TreeWhy};
 pub use listing::wants_elf;

@@ -1,7 +1,7 @@
 //! Paths and texts of a listing.
-ghost use Rattle.std.specs.Prelude.{◌≡◌, ◌||◌, nat_eq, length};
+ghost use Rattle.std.specs.Prelude.{◌≡◌, ◌||◌, nat_eq, length, reverse};
 ghost use Rattle.std.specs.List.{list_all, slice_split};
-ghost use Rattle.pr_base.specs.Paths.{is_slash};
+ghost use Rattle.pr_base.specs.Paths.{is_slash, parts_of};
 ghost use Rattle.kr_tree.specs.Names.{is_name};
 ghost use Rattle.kr_text.specs.Lines.{is_path, path_of, text_of, bytes_of};
 ghost use Rattle.kr_text.specs.Answers.{IsRead};
@@ -59,6 +59,13 @@ fn is_path(bytes: &[u8]) -> bool
 }
 
 impl Path {
+    /// The path's own bytes.
+    pub(crate) fn bytes(&self) -> &[u8]
+        ensures { reverse (parts_of result.now) ≡ self.now }
+    {
+        self.bytes.as_slice()
+    }
+
     /// The path of a field.
     pub(crate) fn read(alloc: Global, field: &[u8]) -> Result<Path, LineFault>
         ensures { IsRead (path_of field.now) result }
