@@ -5,4 +5,5 @@ pub mod LineRows
 pub mod NumberLemmas
 pub mod PieceLemmas
 pub mod ReadingRows
+pub mod ThreeLines
 pub mod WalkLemmas
