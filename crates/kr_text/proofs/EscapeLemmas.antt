@@ -3,7 +3,7 @@ use Rattle.std.proofs.Common.{◌≡◌, ℕ, List, [], ◌∷◌, ◌++◌, len
 use Rattle.std.specs.Prelude.{nat_eq, if◌then◌else◌}
 use Rattle.std.specs.Option.{option_map}
 use Rattle.std.proofs.lemmas.Bool.{false_from_ne_true, eqb-true}
-use Rattle.kr_text.specs.Lines.{is_plain, byte_of, unescaped, behind_percent, onto, plain}
+use Rattle.kr_text.specs.Fields.{is_plain, byte_of, unescaped, behind_percent, onto, plain}
 
 pub no_digits : (text : List ℕ) → length text ≡ 0 → behind_percent text ≡ None
 unfolding unescaped

@@ -1,7 +1,9 @@
 pub mod CanonicalRows
+pub mod DrawnLemmas
 pub mod EscapeLemmas
 pub mod LineLemmas
 pub mod LineRows
+pub mod NameLemmas
 pub mod NumberLemmas
 pub mod PieceLemmas
 pub mod ReadingRows

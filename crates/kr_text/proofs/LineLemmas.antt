@@ -4,7 +4,8 @@ use Rattle.kr_text.specs.declared.fault.TreeWhy.{TreeWhy}
 use Rattle.kr_text.specs.declared.fault.TreeWhy.TheVariants.{Form}
 use Rattle.kr_text.specs.declared.fault.LineFault.{LineFault}
 use Rattle.kr_text.specs.declared.fault.LineFault.TheVariants.{Bad, NoMemory}
-use Rattle.kr_text.specs.Lines.{◌>>=◌, user_line, dir_line, file_line, elf_line, link_line, name_line, proc_line}
+use Rattle.kr_text.specs.Fields.{◌>>=◌}
+use Rattle.kr_text.specs.Lines.{user_line, dir_line, file_line, elf_line, link_line, name_line, proc_line}
 use Rattle.kr_text.specs.Answers.{IsRead}
 
 pub not_one_proc : (fields : List (List ℕ)) → length fields ≢ 1 → proc_line fields ≡ Err Form

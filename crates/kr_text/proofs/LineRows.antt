@@ -5,7 +5,8 @@ use Rattle.hex.proofs.OnLiterals.{hex_on_literals}
 use Rattle.kr_text.specs.declared.fault.TreeWhy.TheVariants.{Form, Number, Name, RootUser}
 use Rattle.kr_text.specs.declared.line.Owner.{Owner}
 use Rattle.kr_text.specs.declared.line.Line.TheVariants.{User as UserLine, Dir as DirLine, File as FileLine, Elf as ElfLine, Link as LinkLine, Name as NameLine, Proc as ProcLine}
-use Rattle.kr_text.specs.Lines.{line_of, unescaped}
+use Rattle.kr_text.specs.Fields.{unescaped}
+use Rattle.kr_text.specs.Lines.{line_of}
 
 abbrev owner : ℕ → ℕ → ℕ → Owner
 owner mode uid gid = record { mode = mode; uid = uid; gid = gid }

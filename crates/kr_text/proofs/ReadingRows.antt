@@ -8,7 +8,8 @@ use Rattle.kr_text.specs.declared.fault.TreeWhy.TheVariants.{Form, Name, NoParen
 use Rattle.kr_text.specs.declared.fault.ListFault.TheVariants.{Bad}
 use Rattle.kr_text.specs.declared.line.Owner.{Owner}
 use Rattle.kr_text.specs.declared.line.Line.TheVariants.{User as UserLine, Dir as DirLine, File as FileLine, Elf as ElfLine, Link as LinkLine, Name as NameLine, Proc as ProcLine}
-use Rattle.kr_text.specs.Lines.{line_of, unescaped}
+use Rattle.kr_text.specs.Fields.{unescaped}
+use Rattle.kr_text.specs.Lines.{line_of}
 use Rattle.kr_text.specs.declared.so_far.SoFar.{SoFar}
 use Rattle.kr_text.specs.Reading.{nothing_read, line_read, listing_of, read_from, wants_elf}
 

@@ -10,7 +10,7 @@ use Rattle.kr_tree.specs.Changes.{new_tree, added, fresh, has_no_room}
 use Rattle.kr_text.specs.declared.line.Owner.{Owner}
 use Rattle.kr_text.specs.declared.line.Line.TheVariants.{Dir as DirLine}
 use Rattle.kr_text.specs.declared.so_far.SoFar.{SoFar}
-use Rattle.kr_text.specs.Lines.{unescaped}
+use Rattle.kr_text.specs.Fields.{unescaped}
 use Rattle.kr_text.specs.Reading.{line_read, listing_of, read_from, then_on}
 
 abbrev owner : Owner

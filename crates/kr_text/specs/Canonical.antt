@@ -11,7 +11,7 @@ use Rattle.hex.specs.Hex.{encode_lower}
 use Rattle.kr_tree.specs.declared.user.User.{User}
 use Rattle.kr_tree.specs.Tree.{Tree, Node, Entry, Body, Directory, RegularFile, SymbolicLink, ProcessDirectory, root, node, entries}
 use Rattle.kr_tree.specs.Names.{bytes_of_text}
-use Rattle.kr_text.specs.Lines.{is_plain, percent}
+use Rattle.kr_text.specs.Fields.{is_plain, percent}
 
 -- ---- fields
 

@@ -14,7 +14,8 @@ use Rattle.kr_text.specs.declared.line.Owner.{Owner}
 use Rattle.kr_text.specs.declared.line.Line.{Line}
 use Rattle.kr_text.specs.declared.line.Line.TheVariants.{User as UserLine, Dir as DirLine, File as FileLine, Elf as ElfLine, Link as LinkLine, Name as NameLine, Proc as ProcLine}
 use Rattle.kr_text.specs.declared.so_far.SoFar.{SoFar}
-use Rattle.kr_text.specs.Lines.{◌>>=◌, line_of}
+use Rattle.kr_text.specs.Fields.{◌>>=◌}
+use Rattle.kr_text.specs.Lines.{line_of}
 
 -- ---- what was read so far
 

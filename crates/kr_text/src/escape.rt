@@ -1,7 +1,7 @@
 //! Bytes of names and texts, which escapes stand for where they aren't graphic.
 ghost use Rattle.std.specs.Prelude.{◌≡◌, ◌<◌, ◌∷◌, length, MatchOption, IfSome, IfOk, option_map, None};
 ghost use Rattle.hex.specs.Hex.{hex_digit_value};
-ghost use Rattle.kr_text.specs.Lines.{is_plain, byte_of, unescaped, behind_percent};
+ghost use Rattle.kr_text.specs.Fields.{is_plain, byte_of, unescaped, behind_percent};
 
 use pr_base::{Bytes, NoMemory};
 use std::alloc::Global;

@@ -9,6 +9,7 @@ mod number;
 mod path;
 mod pieces;
 mod so_far;
+mod steps;
 mod walk;
 
 pub use fault::{ListFault, TreeWhy};

@@ -1,6 +1,6 @@
 //! Numbers of a listing, which zeros may lead.
 ghost use Rattle.std.specs.Prelude.{◌≡◌, ◌≤◌, IfOk};
-ghost use Rattle.kr_text.specs.Lines.{numeral, id_of, mode_of};
+ghost use Rattle.kr_text.specs.Fields.{numeral, id_of, mode_of};
 
 use crate::fault::TreeWhy;
 

@@ -1,9 +1,9 @@
 //! Paths and texts of a listing.
-ghost use Rattle.std.specs.Prelude.{◌≡◌, ◌||◌, nat_eq, length, reverse};
+ghost use Rattle.std.specs.Prelude.{◌≡◌, ◌||◌, nat_eq, true, length, reverse};
 ghost use Rattle.std.specs.List.{list_all, slice_split};
 ghost use Rattle.pr_base.specs.Paths.{is_slash, parts_of};
 ghost use Rattle.kr_tree.specs.Names.{is_name};
-ghost use Rattle.kr_text.specs.Lines.{is_path, path_of, text_of, bytes_of};
+ghost use Rattle.kr_text.specs.Fields.{is_path, path_of, text_of, bytes_of};
 ghost use Rattle.kr_text.specs.Answers.{IsRead};
 
 use crate::escape::unescape;
@@ -25,12 +25,15 @@ pub(crate) struct Path {
 }
 
 impl Model for Path {
-    ghost use Rattle.std.specs.Prelude.{ℕ, List, reverse};
+    ghost use Rattle.std.specs.Prelude.{◌≡◌, ℕ, true, List, reverse};
     ghost use Rattle.pr_base.specs.Paths.{parts_of};
+    ghost use Rattle.kr_text.specs.Fields.{is_path};
 
     ghost Value = { List (List ℕ) };
 
     ghost view = { λ p. reverse (parts_of p.bytes) };
+
+    ghost invariant = { λ p. is_path p.bytes ≡ true };
 }
 
 /// Whether each piece between slashes is a name.
@@ -60,8 +63,10 @@ fn is_path(bytes: &[u8]) -> bool
 
 impl Path {
     /// The path's own bytes.
+    #[tactic(auto, using(crate::proofs::NameLemmas::path_names))]
     pub(crate) fn bytes(&self) -> &[u8]
-        ensures { reverse (parts_of result.now) ≡ self.now }
+        ensures text { reverse (parts_of result.now) ≡ self.now }
+        ensures names { list_all is_name (parts_of result.now) ≡ true }
     {
         self.bytes.as_slice()
     }

@@ -1,8 +1,9 @@
 //! What a path leads to in a tree.
-ghost use Rattle.std.specs.Prelude.{◌≡◌, reverse};
+ghost use Rattle.std.specs.Prelude.{◌≡◌, true, None, reverse, IfOk};
+ghost use Rattle.kr_tree.specs.Tree.{body_is, takes_names, entry};
 ghost use Rattle.std.specs.Option.{option_copied};
 ghost use Rattle.pr_base.specs.Paths.{parts_of};
-ghost use Rattle.kr_tree.specs.Names.{named};
+ghost use Rattle.kr_tree.specs.Names.{named, is_name};
 ghost use Rattle.kr_text.specs.Reading.{place_below, free_in, directory_of, file_at};
 ghost use Rattle.kr_text.specs.Spots.{IsSpot};
 
@@ -50,7 +51,10 @@ pub(crate) struct Spot<'a> {
 
 /// What stands before the last name of a path is walked, and the last name is left.
 fn free_in<'a>(tree: &Tree, dir: Option<Ino>, name: &'a [u8]) -> Result<Spot<'a>, TreeWhy>
-    ensures { IsSpot (free_in tree.now name.now (directory_of tree.now dir)) result }
+    ensures spot { IsSpot (free_in tree.now name.now (directory_of tree.now dir)) result }
+    ensures takes { IfOk result (λ spot. body_is takes_names tree.now spot.dir ≡ true) }
+    ensures free { IfOk result (λ spot. entry tree.now spot.dir spot.name.now ≡ None) }
+    ensures name { IfOk result (λ spot. spot.name.now ≡ name.now) }
 {
     let Some(dir) = dir else {
         return Err(TreeWhy::NoParent);
@@ -66,7 +70,10 @@ fn free_in<'a>(tree: &Tree, dir: Option<Ino>, name: &'a [u8]) -> Result<Spot<'a>
 
 /// The directory and the name at which a path's node can be added.
 pub(crate) fn place_below<'a>(tree: &Tree, path: &'a Path) -> Result<Spot<'a>, TreeWhy>
-    ensures { IsSpot (place_below tree.now path.now) result }
+    ensures spot { IsSpot (place_below tree.now path.now) result }
+    ensures takes { IfOk result (λ spot. body_is takes_names tree.now spot.dir ≡ true) }
+    ensures free { IfOk result (λ spot. entry tree.now spot.dir spot.name.now ≡ None) }
+    ensures well_formed { IfOk result (λ spot. is_name spot.name.now ≡ true) }
 {
     let mut names = components(path.bytes()).into_iter();
     let Some(mut last) = names.next() else {

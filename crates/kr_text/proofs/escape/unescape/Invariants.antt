@@ -1,6 +1,6 @@
 use Rattle.std.proofs.Common.{◌≡◌, ◌++◌, length}
 use Rattle.std.specs.Option.{option_map}
-use Rattle.kr_text.specs.Lines.{unescaped}
+use Rattle.kr_text.specs.Fields.{unescaped}
 use Rattle.kr_text.proofs.escape.unescape.Given as goal
 
 abbrev pub invariant-loop-rest : goal.invariant-loop-rest
