@@ -5,7 +5,7 @@ use Rattle.std.specs.FinMap as map
 use Rattle.std.specs.Cmp.{nat_cmp_total}
 use Rattle.std.specs.Ordering.{nat_cmp}
 use Rattle.std.specs.Option.{option_map, option_map_or}
-use Rattle.kr_tree.specs.Tree.{Tree, Inode, Inodes, Body, Directory, root, inode, body_is, takes_names, is_directory, bytes_of}
+use Rattle.kr_tree.specs.Tree.{Tree, Inode, Inodes, Body, Directory, RegularFile, SymbolicLink, ProcessDirectory, root, inode, body_is, takes_names, is_file, may_be_linked, is_directory, bytes_of}
 use Rattle.kr_tree.specs.Changes.{added, linked, new_tree, fresh, with_inode, with_entry, with_names, with_standing, next_standing, next_serial, count_limit}
 use Rattle.kr_tree.specs.Lawful.{IsKept}
 use Rattle.kr_tree.proofs.InodesLemmas.{get-insert_same, get-insert_other, get-with_same, get-with_other, len-with, by_inode}
@@ -110,3 +110,17 @@ pub put_drawn : (t : Tree) (dir : ℕ) (name : List ℕ) (mode uid gid : ℕ) (b
 put_drawn t dir name mode uid gid b takes kept drawn = let x = there t dir takes in added_drawn t dir x.0 name mode uid gid b kept drawn x.1
 
 pub ruleset numbers_fit = (next_fits, serial_fits)
+
+-- a file may have a further name
+pub file_linked : (t : Tree) (i : ℕ) → body_is is_file t i ≡ true → body_is may_be_linked t i ≡ true
+file_linked t i is = go (inode t i) is
+  where
+    by_body : (b : Body) → is_file b ≡ true → may_be_linked b ≡ true
+    by_body (Directory entries standing) h = cc
+    by_body (RegularFile bytes) h = refl
+    by_body (SymbolicLink text) h = refl
+    by_body (ProcessDirectory standing) h = cc
+
+    go : (o : Option Inode) → option_map_or (λ x. is_file x.node.body) o false ≡ true → option_map_or (λ x. may_be_linked x.node.body) o false ≡ true
+    go None h = h
+    go (Some x) h = by_body x.node.body h

@@ -1,6 +1,6 @@
 //! What a path leads to in a tree.
 ghost use Rattle.std.specs.Prelude.{◌≡◌, true, None, reverse, IfOk};
-ghost use Rattle.kr_tree.specs.Tree.{body_is, takes_names, entry};
+ghost use Rattle.kr_tree.specs.Tree.{body_is, takes_names, is_file, entry};
 ghost use Rattle.std.specs.Option.{option_copied};
 ghost use Rattle.pr_base.specs.Paths.{parts_of};
 ghost use Rattle.kr_tree.specs.Names.{named, is_name};
@@ -28,7 +28,8 @@ fn named(tree: &Tree, path: &[u8]) -> Option<Ino>
 
 /// The file that a path names.
 pub(crate) fn file_at(tree: &Tree, path: &Path) -> Result<Ino, TreeWhy>
-    ensures { result ≡ file_at tree.now path.now }
+    ensures value { result ≡ file_at tree.now path.now }
+    ensures file { IfOk result (λ ino. body_is is_file tree.now ino ≡ true) }
 {
     match named(tree, path.bytes()) {
         None => Err(TreeWhy::NoTarget),

@@ -15,8 +15,8 @@ loop-name-init c =
     let same : parts_left c.into_iter-name-iterator.result ≡ rest = ap parts_left c.into_iter-name-iterator.ensures.into_iter_gives in
     let whole : c.in-Some.last.now ∷ rest ≡ parts_of c.bytes.result.now = sym c.in-Some.ensures.steps ∙ all in (
       ap (λ names. placed t (Some 1) c.in-Some.last.now names) same
-      ∙ placed_root t c.in-Some.last.now rest
-      ∙ ap (λ names. place_below t (reverse names)) whole
-      ∙ ap (place_below t) c.bytes.ensures.text,
+          ∙ placed_root t c.in-Some.last.now rest
+          ∙ ap (λ names. place_below t (reverse names)) whole
+          ∙ ap (place_below t) c.bytes.ensures.text,
       ap (λ names. list_all is_name (c.in-Some.last.now ∷ names)) same ∙ ap (list_all is_name) whole ∙ c.bytes.ensures.names,
     )
