@@ -1,12 +1,16 @@
 -- Lines of another number of fields, and what a reader answers where a part of a line is bad.
-use Rattle.std.proofs.Common.{◌≡◌, ◌≢◌, ℕ, List, [], ◌∷◌, length, Result, Ok, Err, refl, sym, ap, ◌∙◌}
+use Rattle.std.proofs.Common.{◌≡◌, ◌≢◌, ℕ, List, [], ◌∷◌, length, Result, Ok, Err, None, refl, sym, ap, ◌∙◌}
 use Rattle.kr_text.specs.declared.fault.TreeWhy.{TreeWhy}
 use Rattle.kr_text.specs.declared.fault.TreeWhy.TheVariants.{Form}
 use Rattle.kr_text.specs.declared.fault.LineFault.{LineFault}
 use Rattle.kr_text.specs.declared.fault.LineFault.TheVariants.{Bad, NoMemory}
 use Rattle.kr_text.specs.Fields.{◌>>=◌}
 use Rattle.kr_text.specs.Lines.{user_line, dir_line, file_line, elf_line, link_line, name_line, proc_line}
-use Rattle.kr_text.specs.Answers.{IsRead}
+use Rattle.kr_text.specs.Answers.{IsRead, Changes}
+use Rattle.kr_tree.specs.Tree.{Directory}
+use Rattle.kr_text.specs.declared.line.Owner.{Owner}
+use Rattle.kr_text.specs.declared.so_far.SoFar.{SoFar}
+use Rattle.kr_text.specs.Reading.{dir_read, node_read}
 
 pub not_one_proc : (fields : List (List ℕ)) → length fields ≢ 1 → proc_line fields ≡ Err Form
 not_one_proc [] n = refl
@@ -64,3 +68,13 @@ bad_part part next (Bad why) e = rw e refl
 bad_part part next NoMemory e = tt
 
 pub ruleset line_parts = (bad_part, not_one_proc, not_two_user, not_two_name, not_four_dir, not_four_elf, not_four_link, not_five_file)
+
+-- a directory that isn't the root
+pub other_dir : (owner : Owner) (text : List (List ℕ)) (s : SoFar) → text ≢ [] → dir_read owner text s ≡ node_read owner text (Directory [] None) s
+other_dir owner [] s n = absurd (n refl)
+other_dir owner (name ∷ text) s n = refl
+
+-- a line that is bad, or for which memory ran out, changes nothing that counts
+pub bad_line : {A B : Type 0} (part : Result A TreeWhy) (next : A → Result B TreeWhy) (fault : LineFault) (after : B) → IsRead part (Err fault) → Changes (part >>= next) (Err fault) after
+bad_line part next (Bad why) after e = rw e refl
+bad_line part next NoMemory after e = tt

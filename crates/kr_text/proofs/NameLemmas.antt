@@ -1,9 +1,10 @@
 -- The names of a path.
-use Rattle.std.proofs.Common.{◌≡◌, ℕ, List, [], ◌∷◌, length, Bool, true, false, refl, sym, ap, ◌∙◌, arith, inl, inr, ◌⊎◌}
+use Rattle.std.proofs.Common.{◌≡◌, ℕ, List, [], ◌∷◌, length, reverse, Bool, true, false, refl, sym, ap, ◌∙◌, arith, inl, inr, ◌⊎◌}
 use Rattle.std.specs.Prelude.{◌&&◌, ◌||◌, nat_le}
 use Rattle.std.specs.List.{list_all, slice_split}
 use Rattle.std.specs.Cmp.Derive.{both_true}
 use Rattle.std.proofs.lemmas.Bool.{and_parts, or_cases, eqb-true}
+use Rattle.std.proofs.lemmas.List.{length-reverse}
 use Rattle.pr_base.specs.Paths.{is_slash, not_empty, parts_of, slash}
 use Rattle.pr_base.proofs.PathLemmas.{slash_passed}
 use Rattle.kr_tree.specs.Names.{is_name}
@@ -30,3 +31,14 @@ path_names (b ∷ names) h =
     below : (is_empty names ≡ true) ⊎ (list_all is_name (slice_split is_slash names) ≡ true) → list_all is_name (parts_of names) ≡ true
     below (inl none) = no_names names none
     below (inr all) = named_parts (slice_split is_slash names) all
+
+-- names turned round
+pub none_reversed : (names : List (List ℕ)) → names ≡ [] → reverse names ≡ []
+none_reversed names e = rw e refl
+
+pub some_reversed : (names rest : List (List ℕ)) (name : List ℕ) → names ≡ name ∷ rest → reverse names ≡ [] → ⊥
+some_reversed names rest name e none =
+    let counted : length (reverse names) ≡ 0 = ap length none in
+    let same = length-reverse names in
+    let long = ap length e in
+    omega (arith, counted, same, long)

@@ -124,6 +124,10 @@ line_read elf (LinkLine owner text target) s = node_read owner text (SymbolicLin
 line_read elf (NameLine text existing) s = name_read text existing s
 line_read elf (ProcLine text) s = proc_read text s
 
+-- what was read once a line, given as its bytes, was added to it
+abbrev pub line_added : List ℕ → List ℕ → SoFar → Result SoFar TreeWhy
+line_added elf line s = line_of line >>= (λ l. line_read elf l s)
+
 -- ---- the listing
 
 abbrev pub is_newline : ℕ → Bool
@@ -133,9 +137,12 @@ is_newline b = nat_eq b 10
 abbrev pub pieces_of : List ℕ → List (List ℕ)
 pieces_of bytes = slice_split is_newline bytes
 
--- a line is counted up to the largest number of 32 bits
 abbrev pub bad : {A : Type 0} → ℕ → TreeWhy → Result A ListFault
-bad n why = Err (Bad (min n 4294967295) why)
+bad n why = Err (Bad n why)
+
+-- the number of the next line. Lines are counted up to the largest number of 32 bits
+abbrev pub counted : ℕ → ℕ
+counted n = min (n + 1) 4294967295
 
 -- at the end, n being the number of lines and one more
 abbrev pub finished : ℕ → Option Tree → Option User → Result (Tree × User) ListFault
@@ -152,7 +159,7 @@ unfoldable pub read_from : List ℕ → ℕ → List (List ℕ) → SoFar → Re
 read_from elf n [] s = finished n s.tree s.user
 read_from elf n ([] ∷ []) s = finished n s.tree s.user
 read_from elf n ((b ∷ line) ∷ []) s = bad n Form
-read_from elf n (line ∷ next ∷ more) s = then_on n (line_of line >>= (λ l. line_read elf l s)) (read_from elf (n + 1) (next ∷ more))
+read_from elf n (line ∷ next ∷ more) s = then_on n (line_added elf line s) (read_from elf (counted n) (next ∷ more))
 
 -- the tree and the user of a listing, or its first bad line
 abbrev pub listing_of : List ℕ → List ℕ → Result (Tree × User) ListFault

@@ -1,5 +1,6 @@
 //! Paths and texts of a listing.
-ghost use Rattle.std.specs.Prelude.{◌≡◌, ◌||◌, nat_eq, true, length, reverse};
+ghost use Rattle.std.specs.Prelude.{◌≡◌, ◌≢◌, ◌||◌, [], nat_eq, true, length, reverse};
+ghost use Rattle.std.specs.Bool.{MatchBool};
 ghost use Rattle.std.specs.List.{list_all, slice_split};
 ghost use Rattle.pr_base.specs.Paths.{is_slash, parts_of};
 ghost use Rattle.kr_tree.specs.Names.{is_name};
@@ -11,7 +12,7 @@ use crate::fault::{LineFault, TreeWhy};
 use crate::pieces::Pieces;
 use hex::FromHexError;
 use kr_tree::is_name;
-use pr_base::Bytes;
+use pr_base::{Bytes, components};
 use std::alloc::Global;
 use std::marker::Model;
 
@@ -69,6 +70,14 @@ impl Path {
         ensures names { list_all is_name (parts_of result.now) ≡ true }
     {
         self.bytes.as_slice()
+    }
+
+    /// Whether it is `/`.
+    #[tactic(auto, using(crate::proofs::NameLemmas::none_reversed, crate::proofs::NameLemmas::some_reversed))]
+    pub(crate) fn is_root(&self) -> bool
+        ensures { MatchBool result (self.now ≡ []) (self.now ≢ []) }
+    {
+        components(self.bytes()).into_iter().next().is_none()
     }
 
     /// The path of a field.
