@@ -6,6 +6,7 @@ pub mod LineRows
 pub mod NameLemmas
 pub mod NumberLemmas
 pub mod PieceLemmas
+pub mod ReadLemmas
 pub mod ReadingRows
 pub mod ThreeLines
 pub mod WalkLemmas

@@ -5,4 +5,5 @@ pub mod Fields
 pub mod Lines
 pub mod Pieces
 pub mod Reading
+pub mod Results
 pub mod Spots

@@ -13,7 +13,7 @@ mod steps;
 mod walk;
 
 pub use fault::{ListFault, TreeWhy};
-pub use listing::wants_elf;
+pub use listing::{read, wants_elf};
 
 #[cfg(test)]
 mod tests;

@@ -43,6 +43,14 @@ impl<'a> Pieces<'a> {
         }
     }
 
+    /// The first piece, and those behind it.
+    pub(crate) fn begin(bytes: &'a [u8], separator: u8) -> (&'a [u8], Pieces<'a>)
+        ensures { pieces separator bytes.now ≡ result.0.now ∷ result.1 }
+    {
+        let (first, rest) = split_at_first(bytes, separator);
+        (first, Pieces { separator, rest })
+    }
+
     /// Reads the next piece; `None` where none is left.
     pub(crate) fn next(&mut self) -> Option<&'a [u8]>
         ensures { MatchOption result ((self.old ≡ []) × (self.new ≡ [])) (λ piece. self.old ≡ piece.now ∷ self.new) }
