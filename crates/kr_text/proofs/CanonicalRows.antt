@@ -3,9 +3,8 @@ use Rattle.std.proofs.Common.{◌≡◌, ℕ, List, [], ◌∷◌, ◌++◌, Som
 use Rattle.std.specs.Prelude.{codes}
 use Rattle.std.specs.Fmt.{digits}
 use Rattle.hex.proofs.OnLiterals.{hex_on_literals}
-use Rattle.kr_tree.specs.declared.user.User.{User}
 use Rattle.kr_tree.specs.Tree.{Node, Entry, Body, Directory, RegularFile, SymbolicLink, ProcessDirectory}
-use Rattle.kr_text.specs.Canonical.{Named, user_line, escaped, body_line, in_order, first_name}
+use Rattle.kr_text.specs.Canonical.{user_line, escaped, body_line, in_order, first_name}
 
 abbrev node_with : ℕ → Body → Node
 node_with mode body = record { mode = mode; uid = 1000; gid = 10; body = body }

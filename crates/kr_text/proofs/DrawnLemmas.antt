@@ -1,12 +1,12 @@
 -- Trees to which names are added, and the numbers that were drawn.
 use Rattle.std.proofs.Common.{◌≡◌, ◌≢◌, ℕ, ◌+◌, ◌<◌, ◌≤◌, ◌^◌, true, false, cond, List, [], Option, Some, None, refl, sym, ap, subst, ◌∙◌, arith}
-use Rattle.std.specs.Prelude.{is_some, length}
+use Rattle.std.specs.Prelude.{is_some}
 use Rattle.std.specs.FinMap as map
 use Rattle.std.specs.Cmp.{nat_cmp_total}
 use Rattle.std.specs.Ordering.{nat_cmp}
 use Rattle.std.specs.Option.{option_map, option_map_or}
-use Rattle.kr_tree.specs.Tree.{Tree, Inode, Inodes, Body, Directory, RegularFile, SymbolicLink, ProcessDirectory, root, inode, body_is, takes_names, is_file, may_be_linked, is_directory, bytes_of}
-use Rattle.kr_tree.specs.Changes.{added, linked, new_tree, fresh, with_inode, with_entry, with_names, with_standing, next_standing, next_serial, count_limit}
+use Rattle.kr_tree.specs.Tree.{Tree, Inode, Inodes, Body, Directory, RegularFile, SymbolicLink, ProcessDirectory, root, inode, body_is, takes_names, is_file, may_be_linked, is_directory}
+use Rattle.kr_tree.specs.Changes.{added, linked, new_tree, fresh, with_inode, with_entry, with_names, with_standing, next_standing, next_serial}
 use Rattle.kr_tree.specs.Lawful.{IsKept}
 use Rattle.kr_tree.proofs.InodesLemmas.{get-insert_same, get-insert_other, get-with_same, get-with_other, len-with, by_inode}
 use Rattle.kr_text.specs.Drawn.{IsDrawn}

@@ -1,6 +1,6 @@
 -- What each line of two worked listings says, and why each of some lines is bad.
-use Rattle.std.proofs.Common.{◌≡◌, ℕ, List, [], ◌∷◌, Ok, Err, Some, None, refl}
-use Rattle.std.specs.Prelude.{codes, true, false}
+use Rattle.std.proofs.Common.{◌≡◌, ℕ, [], ◌∷◌, Ok, Err, refl}
+use Rattle.std.specs.Prelude.{codes}
 use Rattle.hex.proofs.OnLiterals.{hex_on_literals}
 use Rattle.kr_text.specs.declared.fault.TreeWhy.TheVariants.{Form, Number, Name, RootUser}
 use Rattle.kr_text.specs.declared.line.Owner.{Owner}

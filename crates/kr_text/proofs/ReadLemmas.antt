@@ -2,12 +2,11 @@
 use Rattle.std.proofs.Common.{◌≡◌, ℕ, List, [], ◌∷◌, length, Result, Ok, Err, refl, sym, ap, ◌∙◌, arith}
 use Rattle.kr_tree.specs.declared.user.User.{User}
 use Rattle.kr_tree.specs.Tree.{Tree}
-use Rattle.kr_text.specs.declared.fault.TreeWhy.{TreeWhy}
 use Rattle.kr_text.specs.declared.fault.TreeWhy.TheVariants.{Form}
 use Rattle.kr_text.specs.declared.fault.ListFault.{ListFault}
 use Rattle.kr_text.specs.declared.fault.ListFault.TheVariants.{Bad, NoMemory}
 use Rattle.kr_text.specs.declared.so_far.SoFar.{SoFar}
-use Rattle.kr_text.specs.Reading.{read_from, line_added, counted, finished, bad, then_on}
+use Rattle.kr_text.specs.Reading.{read_from, line_added, counted, finished, then_on}
 use Rattle.kr_text.specs.Results.{AddsLine, IsListing}
 
 one_more : (elf : List ℕ) (n : ℕ) (line next : List ℕ) (more : List (List ℕ)) (s : SoFar) → read_from elf n (line ∷ next ∷ more) s ≡ then_on n (line_added elf line s) (read_from elf (counted n) (next ∷ more))

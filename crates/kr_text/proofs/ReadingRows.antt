@@ -1,13 +1,13 @@
 -- Small listings read, and what lines add.
-use Rattle.std.proofs.Common.{◌≡◌, ℕ, List, [], ◌∷◌, ◌++◌, replicate, Ok, Err, Some, None, refl}
-use Rattle.std.specs.Prelude.{codes, true, false, Bool}
+use Rattle.std.proofs.Common.{◌≡◌, [], ◌∷◌, ◌++◌, replicate, Ok, Err, Some, None, refl}
+use Rattle.std.specs.Prelude.{codes, true, false}
 use Rattle.kr_tree.specs.declared.user.User.{User}
 use Rattle.kr_tree.specs.Tree.{Tree}
 use Rattle.kr_tree.specs.Changes.{new_tree}
 use Rattle.kr_text.specs.declared.fault.TreeWhy.TheVariants.{Form, Name, NoParent, Twice, NoUser, NoRoot}
 use Rattle.kr_text.specs.declared.fault.ListFault.TheVariants.{Bad}
 use Rattle.kr_text.specs.declared.line.Owner.{Owner}
-use Rattle.kr_text.specs.declared.line.Line.TheVariants.{User as UserLine, Dir as DirLine, File as FileLine, Elf as ElfLine, Link as LinkLine, Name as NameLine, Proc as ProcLine}
+use Rattle.kr_text.specs.declared.line.Line.TheVariants.{User as UserLine, Dir as DirLine, File as FileLine, Link as LinkLine, Name as NameLine, Proc as ProcLine}
 use Rattle.kr_text.specs.Fields.{unescaped}
 use Rattle.kr_text.specs.Lines.{line_of}
 use Rattle.kr_text.specs.declared.so_far.SoFar.{SoFar}

@@ -1,11 +1,10 @@
 -- A listing of three lines, read whole.
-use Rattle.std.proofs.Common.{◌≡◌, ℕ, List, [], ◌∷◌, ◌++◌, Ok, Err, Some, None, refl, ap, ◌∙◌}
+use Rattle.std.proofs.Common.{◌≡◌, [], ◌∷◌, ◌++◌, Ok, Some, None, refl, ap, ◌∙◌}
 use Rattle.std.specs.Prelude.{codes, true, false}
 use Rattle.std.specs.FinMap as map
-use Rattle.std.specs.Ordering.{nat_cmp}
 use Rattle.std.specs.Cmp.{nat_cmp_total}
 use Rattle.kr_tree.specs.declared.user.User.{User}
-use Rattle.kr_tree.specs.Tree.{Tree, Inode, Directory, root, body_is, takes_names, entry}
+use Rattle.kr_tree.specs.Tree.{Tree, Directory, root, body_is, takes_names, entry}
 use Rattle.kr_tree.specs.Changes.{new_tree, added, fresh, has_no_room}
 use Rattle.kr_text.specs.declared.line.Owner.{Owner}
 use Rattle.kr_text.specs.declared.line.Line.TheVariants.{Dir as DirLine}

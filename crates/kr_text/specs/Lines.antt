@@ -1,7 +1,6 @@
 -- What one line of a listing says, or why it is bad. Its fields are parted by one space.
 use Rattle.std.specs.Prelude.{ℕ, Bool, List, [], ◌∷◌, codes, Result, Ok, Err, nat_eq, bytes_eq, if◌then◌else◌}
 use Rattle.std.specs.List.{slice_split}
-use Rattle.kr_tree.specs.declared.user.User.{User}
 use Rattle.kr_text.specs.declared.fault.TreeWhy.{TreeWhy}
 use Rattle.kr_text.specs.declared.fault.TreeWhy.TheVariants.{Form, RootUser}
 use Rattle.kr_text.specs.declared.line.Owner.{Owner}

@@ -91,7 +91,13 @@ impl SoFar {
         }
     }
 
-    fn add_elf(&mut self, alloc: Global, owner: Owner, path: &Path, elf: &[u8]) -> Result<(), LineFault>
+    fn add_elf(
+        &mut self,
+        alloc: Global,
+        owner: Owner,
+        path: &Path,
+        elf: &[u8],
+    ) -> Result<(), LineFault>
         requires { IfSome self.old.tree IsDrawn }
         ensures value { Changes (elf_read owner path.now elf.now self.old) result self.new }
         ensures drawn { OnOk result (IfSome self.new.tree IsDrawn) }

@@ -1,6 +1,7 @@
 //! Lines with ample memory.
 
 use crate::line::Line;
+use crate::listing::read;
 
 #[test]
 fn every_kind_of_line_is_read(rt: HostRuntime) {
@@ -17,4 +18,11 @@ fn every_kind_of_line_is_read(rt: HostRuntime) {
     for line in lines {
         assert!(rt; Line::read(rt.alloc(), line).is_ok());
     }
+}
+
+#[test]
+fn a_listing_with_every_kind_of_line_is_read(rt: HostRuntime) {
+    let listing =
+        b"user 1000 1000\nd 755 0 0 /\nd 755 1000 1000 /data\nf 644 1000 1000 /data/n 64300a\nl 1000 1000 /data/abs /f\np /proc\nh /data/m /data/n\nx 755 1000 1000 /data/p\n";
+    assert!(rt; read(rt.alloc(), listing.as_slice(), Some(b"elf".as_slice())).is_ok());
 }

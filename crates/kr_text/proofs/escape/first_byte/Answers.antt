@@ -1,4 +1,4 @@
-use Rattle.std.proofs.Common.{◌∙◌, arith}
+use Rattle.std.proofs.Common.{arith}
 use Rattle.kr_text.proofs.EscapeLemmas.{at_percent, at_plain, at_other}
 use Rattle.kr_text.proofs.escape.first_byte.Goals as goal
 

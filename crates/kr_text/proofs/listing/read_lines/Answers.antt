@@ -1,5 +1,5 @@
 use Rattle.std.proofs.Common.{◌≡◌, ◌∷◌, length, sym, ap, subst, ◌∙◌, arith, Err}
-use Rattle.kr_text.specs.Reading.{read_from, listing_of, counted}
+use Rattle.kr_text.specs.Reading.{read_from, counted}
 use Rattle.kr_text.specs.Results.{IsListing}
 use Rattle.kr_text.proofs.ReadLemmas.{more_read, fault_read, last_read, cut_read, is_listing}
 use Rattle.kr_text.proofs.listing.read_lines.Goals as goal
@@ -13,8 +13,8 @@ pub loop-next-preserved : goal.loop-next-preserved
 loop-next-preserved c =
     let n : c.saturating_add-number.result ≡ counted c.loop-next.number = omega (arith, c.saturating_add-number.ensures) in (
       ap (λ k. read_from c.args.elf.now k (c.in-Some.next.now ∷ c.next.new.self) c.read_line.new.so_far) n
-      ∙ sym (more_read c.args.elf.now c.loop-next.number c.loop-next.line.now c.in-Some.next.now c.loop-next.lines c.next.new.self c.loop-next.so_far c.read_line.new.so_far c.in-Some.ensures c.in_ok-read_line.ensures.value)
-      ∙ c.loop-next.invariant.0,
+          ∙ sym (more_read c.args.elf.now c.loop-next.number c.loop-next.line.now c.in-Some.next.now c.loop-next.lines c.next.new.self c.loop-next.so_far c.read_line.new.so_far c.in-Some.ensures c.in_ok-read_line.ensures.value)
+          ∙ c.loop-next.invariant.0,
       c.in_ok-read_line.ensures.drawn,
     )
 

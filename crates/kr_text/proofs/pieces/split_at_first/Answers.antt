@@ -1,4 +1,4 @@
-use Rattle.std.proofs.Common.{◌≡◌, ◌≢◌, ℕ, ◌+◌, ◌≤◌, suc, length, take, drop, get_or, All, arith, rules, add-one, sym, ap, subst}
+use Rattle.std.proofs.Common.{◌≢◌, ◌+◌, ◌≤◌, length, All, arith, add-one, subst}
 use Rattle.std.proofs.lemmas.List.{take_rest}
 use Rattle.std.proofs.Math.Seq.{take_all}
 use Rattle.kr_text.proofs.PieceLemmas.{split_here, split_nowhere}

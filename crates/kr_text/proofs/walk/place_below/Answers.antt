@@ -1,4 +1,4 @@
-use Rattle.std.proofs.Common.{◌≡◌, ◌∷◌, reverse, Some, None, sym, ap, ◌∙◌}
+use Rattle.std.proofs.Common.{◌≡◌, ◌∷◌, reverse, Some, sym, ap, ◌∙◌}
 use Rattle.std.specs.List.{list_all}
 use Rattle.kr_tree.specs.Names.{is_name}
 use Rattle.pr_base.specs.Paths.{parts_of}
