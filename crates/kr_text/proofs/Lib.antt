@@ -1,0 +1,12 @@
+pub mod CanonicalRows
+pub mod DrawnLemmas
+pub mod EscapeLemmas
+pub mod LineLemmas
+pub mod LineRows
+pub mod NameLemmas
+pub mod NumberLemmas
+pub mod PieceLemmas
+pub mod ReadLemmas
+pub mod ReadingRows
+pub mod ThreeLines
+pub mod WalkLemmas
