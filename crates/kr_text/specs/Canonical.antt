@@ -10,7 +10,7 @@ use Rattle.std.specs.Fmt.{decimal, digits}
 use Rattle.hex.specs.Hex.{encode_lower}
 use Rattle.kr_tree.specs.declared.user.User.{User}
 use Rattle.kr_tree.specs.Tree.{Tree, Node, Entry, Body, Directory, RegularFile, SymbolicLink, ProcessDirectory, root, node, entries}
-use Rattle.kr_tree.specs.Names.{bytes_of_text}
+use Rattle.pr_base.specs.Paths.{text_of}
 use Rattle.kr_text.specs.Fields.{is_plain, percent}
 
 -- ---- fields
@@ -23,7 +23,7 @@ escaped bytes = flat_map escape bytes
 
 -- the path of a text of names, escaped
 abbrev pub path_field : List (List ℕ) → List ℕ
-path_field text = escaped (bytes_of_text text)
+path_field text = escaped (text_of text)
 
 -- a mode in octal, with no zeros in front
 abbrev pub octal : ℕ → List ℕ
