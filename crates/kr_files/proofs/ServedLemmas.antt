@@ -7,7 +7,6 @@ use Rattle.pr_base.specs.declared.memory.NoMemory.{NoMemory}
 use Rattle.std.proofs.lemmas.Option.{none-some, same_Some}
 use Rattle.kr_files.specs.Opened.{pipe_end}
 use Rattle.kr_files.specs.declared.opened.What.TheVariants.{PipeRead, PipeWrite}
-use Rattle.std.specs.Ordering.{nat_cmp}
 use Rattle.std.proofs.lemmas.Bool.{cases_eq}
 use Rattle.kr_files.specs.declared.descs.Descriptor.{Descriptor}
 use Rattle.kr_files.specs.declared.opened.Opened.{Opened}
@@ -18,7 +17,6 @@ use Rattle.kr_files.specs.Maps.{changed}
 use Rattle.kr_files.specs.Served.{IsServed}
 use Rattle.kr_files.specs.Serves.{Serves}
 use Rattle.kr_files.proofs.MapLemmas.{same_values, by_key, get-insert_same, get-insert_other, get-remove_same, get-remove_other, get-changed_same, get-changed_other}
-use Rattle.kr_files.proofs.CountLemmas.{below-more, get-meanings}
 use Rattle.kr_files.proofs.DescriptorLemmas.{IsLowestFree, lowest_free-some}
 use Rattle.kr_files.proofs.ServesLemmas.{one_at, serves-empty, serves-same, serves-add, serves-raise, serves-close, serves-put, serves-room}
 use Rattle.kr_files.proofs.OpenFileLemmas.{value_of}

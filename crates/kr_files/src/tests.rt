@@ -60,6 +60,36 @@ impl Guest {
         Some(self.files.dup_to(&mut self.descs, fd, to, false))
     }
 
+    fn close(&mut self, fd: u32) -> bool {
+        if self.descs.cloexec(fd).is_none() {
+            return false;
+        }
+        self.files.close(&mut self.descs, fd);
+        true
+    }
+
+    fn seek(&mut self, fd: u32, at: u64) -> bool {
+        if self.descs.cloexec(fd).is_none() {
+            return false;
+        }
+        self.files.seek(&self.descs, fd, at);
+        true
+    }
+
+    fn set_append(&mut self, fd: u32) -> bool {
+        if self.descs.cloexec(fd).is_none() {
+            return false;
+        }
+        self.files.set_append(&self.descs, fd, true);
+        true
+    }
+
+    /// Where the open file of a descriptor stands, and whether it appends.
+    fn state(&self, fd: u32) -> Option<(u64, bool)> {
+        let opened = self.files.get(&self.descs, fd)?;
+        Some((opened.at, opened.append))
+    }
+
     // The flag of a descriptor of the child.
     fn fork_and_look(self, fd: u32) -> Option<bool> {
         let Guest {
@@ -102,14 +132,32 @@ fn the_lowest_free_descriptor_is_taken(rt: HostRuntime) -> Result<(), Fail> {
 }
 
 #[test]
+fn copies_share_their_open_file(rt: HostRuntime) -> Result<(), Fail> {
+    let mut guest = Guest::new(rt.alloc());
+    assert_eq!(rt; guest.open(file(rt.alloc(), b"f")?, 0, false), Ok(0));
+    assert_eq!(rt; guest.dup(0, 0, false), Some(Ok(1)));
+    assert!(rt; guest.seek(1, 9));
+    assert!(rt; guest.set_append(0));
+    assert!(rt; guest.close(0));
+    assert_eq!(rt; guest.state(0), None);
+    assert_eq!(rt; guest.state(1), Some((9, true)));
+    Ok(())
+}
+
+#[test]
 fn bytes_go_through_a_pipe_in_order(rt: HostRuntime) -> Result<(), Fail> {
     let mut files = Files::<u32>::new(rt.alloc());
     let mut descs = Descs::new(rt.alloc());
     assert_eq!(rt; files.pipe(&mut descs, false), Ok((0, 1)));
+    if descs.cloexec(1).is_some() {
+        descs.set_cloexec(1, true);
+    }
+    assert_eq!(rt; descs.cloexec(1), Some(true));
     assert!(rt; writes(&mut files, 1, b"abc", Wrote::Took(3)));
     assert!(rt; reads(&mut files, 1, 2, b"ab"));
     assert!(rt; reads(&mut files, 1, 2, b"c"));
     files.renamed(5, b"f", 5, b"g")?;
+    files.removed(5, b"g");
     Ok(())
 }
 

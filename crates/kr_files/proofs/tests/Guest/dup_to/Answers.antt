@@ -1,4 +1,4 @@
-use Rattle.std.proofs.Common.{◌≡◌, ◌≢◌, ◌<◌, ◌≤◌, ◌∙◌, sym, ap, not, is_some, false, arith}
+use Rattle.std.proofs.Common.{◌∙◌, sym, ap, not, is_some, false, arith}
 use Rattle.std.specs.FinMap as map
 use Rattle.kr_files.specs.declared.descs.Descriptor.{Descriptor}
 use Rattle.kr_files.proofs.ServedLemmas.{some_told, served-room, served-dup_to}

@@ -1,4 +1,4 @@
-use Rattle.std.proofs.Common.{◌≤◌, ◌+◌, arith}
+use Rattle.std.proofs.Common.{arith}
 use Rattle.kr_files.proofs.ServedLemmas.{served-open}
 use Rattle.kr_files.proofs.tests.Guest.open.Goals as goal
 
