@@ -1,2 +1,4 @@
 pub mod PathLemmas
 pub mod PathRows
+pub mod WalkLemmas
+pub mod WalkRows
