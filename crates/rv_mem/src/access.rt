@@ -64,6 +64,7 @@ impl<const MARKED: u8> Table<MARKED> {
     }
 
     /// Copies bytes if each of them allows a use, and tells whether one of them is marked.
+    #[inline]
     pub fn read_allowed(&self, at: u64, into: &mut [u8], what: Use) -> Option<bool>
         requires placed { IsPlaced self.now }
         ensures { MatchOption result (IsRefused self.now at what into.old into.new) (λ marked. IsRead self.now at what into.old into.new marked) }

@@ -61,6 +61,7 @@ impl Frame {
     }
 
     /// Copies the bytes from an offset on.
+    #[inline]
     pub fn copy_to(&self, offset: usize, into: &mut [u8])
         requires { offset + length into.old ≤ 4096 }
         ensures bytes { into.new ≡ take (length into.old) (drop offset self.now) }

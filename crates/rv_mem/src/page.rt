@@ -85,6 +85,7 @@ impl<const MARKED: u8> Page<MARKED> {
     }
 
     /// Copies the bytes from an offset on.
+    #[inline]
     pub fn copy_to(&self, offset: usize, into: &mut [u8])
         requires { offset + length into.old ≤ 4096 }
         ensures bytes { into.new ≡ take (length into.old) (drop offset self.now.bytes) }

@@ -84,6 +84,7 @@ impl<const MARKED: u8> Space<MARKED> {
     }
 
     /// Reads bytes for a use, all or none of them. The range is read only if it is allowed.
+    #[inline]
     pub fn read(&mut self, at: u64, into: &mut [u8], what: Use) -> Result<(), BadAddress>
         ensures when { IsOk result ↔ IsTrue (allows_all self.old.pages at (length into.old) what) }
         ensures bytes { OnOk result (into.new ≡ bytes_from self.old.pages at (length into.old)) }

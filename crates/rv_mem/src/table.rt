@@ -143,6 +143,7 @@ impl<const MARKED: u8> Table<MARKED> {
 
     /// Copies bytes that lie inside one page if it is there and allows a use, and tells whether one of them is
     /// marked.
+    #[inline]
     pub fn read_in_page(&self, at: u64, into: &mut [u8], what: Use) -> Option<bool>
         requires some { 0 < length into.old }
         requires within { at % 4096 + length into.old ≤ 4096 }
