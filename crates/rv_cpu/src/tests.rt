@@ -1,6 +1,7 @@
 use crate::{Event, Regs, run, step};
 use rv_mem::{Rights, Room, Space};
 use std::alloc::Global;
+use std::process::Abort;
 use std::test::Fail;
 
 const ALL: Rights = Rights {
@@ -32,180 +33,108 @@ fn regs(a0: u64, a1: u64) -> Regs {
     Regs { x, pc: 0x1000 }
 }
 
+// One row for each word: its line of assembly, the word, a0 and a1 before it, and a2 after it.
+macro_rules! rows {
+    ($($name:literal $word:literal: $a0:literal, $a1:literal => $a2:literal)*) => {
+        [$(($name, $word, $a0, $a1, $a2)),*]
+    };
+}
+
+/// One instruction, with these values in a0 and a1, leaves this value in a2 and goes on behind itself.
+fn assert_step(
+    rt: &impl Abort,
+    alloc: Global,
+    row: (&str, u32, u64, u64, u64),
+) -> Result<(), Fail> {
+    let (name, word, a0, a1, a2) = row;
+    let mut mem = code(alloc, &[word])?;
+    let mut regs = regs(a0, a1);
+    assert_eq!(rt; step(&mut regs, &mut mem), Ok(Event::Next), "{name}");
+    assert_eq!(rt; regs.x[12], a2, "{name} of {a0:x} and {a1:x}");
+    assert_eq!(rt; regs.pc, 0x1004, "{name}");
+    Ok(())
+}
+
 // The words are those of a stock assembler. The values are the manual's: its tables of division by
 // zero and of overflow, its rules on signs, and sign extension of words.
 #[test]
-fn arithmetic_is_the_manuals(rt: HostRuntime) -> Result<(), Fail> {
-    let rows = [
-        (
-            "div a2,a0,a1",
-            0x02b54633,
-            0x8000000000000000,
-            0xffffffffffffffff,
-            0x8000000000000000,
-        ),
-        (
-            "rem a2,a0,a1",
-            0x02b56633,
-            0x8000000000000000,
-            0xffffffffffffffff,
-            0,
-        ),
-        ("div a2,a0,a1", 0x02b54633, 7, 0, 0xffffffffffffffff),
-        ("rem a2,a0,a1", 0x02b56633, 7, 0, 7),
-        ("divu a2,a0,a1", 0x02b55633, 7, 0, 0xffffffffffffffff),
-        ("remu a2,a0,a1", 0x02b57633, 7, 0, 7),
-        (
-            "div a2,a0,a1",
-            0x02b54633,
-            0xfffffffffffffff9,
-            2,
-            0xfffffffffffffffd,
-        ),
-        (
-            "rem a2,a0,a1",
-            0x02b56633,
-            0xfffffffffffffff9,
-            2,
-            0xffffffffffffffff,
-        ),
-        (
-            "divw a2,a0,a1",
-            0x02b5463b,
-            0x80000000,
-            0xffffffff,
-            0xffffffff80000000,
-        ),
-        ("remw a2,a0,a1", 0x02b5663b, 0x80000000, 0xffffffff, 0),
-        (
-            "divw a2,a0,a1",
-            0x02b5463b,
-            7,
-            0x100000000,
-            0xffffffffffffffff,
-        ),
-        (
-            "remw a2,a0,a1",
-            0x02b5663b,
-            0x80000007,
-            0x100000000,
-            0xffffffff80000007,
-        ),
-        (
-            "divuw a2,a0,a1",
-            0x02b5563b,
-            0xffffffff,
-            1,
-            0xffffffffffffffff,
-        ),
-        (
-            "remuw a2,a0,a1",
-            0x02b5763b,
-            0xffffffff,
-            0,
-            0xffffffffffffffff,
-        ),
-        (
-            "mulhsu a2,a0,a1",
-            0x02b52633,
-            0xffffffffffffffff,
-            0xffffffffffffffff,
-            0xffffffffffffffff,
-        ),
-        (
-            "mulh a2,a0,a1",
-            0x02b51633,
-            0xffffffffffffffff,
-            0xffffffffffffffff,
-            0,
-        ),
-        (
-            "mulhu a2,a0,a1",
-            0x02b53633,
-            0xffffffffffffffff,
-            0xffffffffffffffff,
-            0xfffffffffffffffe,
-        ),
-        (
-            "mul a2,a0,a1",
-            0x02b50633,
-            0xffffffffffffffff,
-            0xffffffffffffffff,
-            1,
-        ),
-        (
-            "mulw a2,a0,a1",
-            0x02b5063b,
-            0x80000000,
-            1,
-            0xffffffff80000000,
-        ),
-        (
-            "addw a2,a0,a1",
-            0x00b5063b,
-            0x7fffffff,
-            1,
-            0xffffffff80000000,
-        ),
-        ("subw a2,a0,a1", 0x40b5063b, 0, 1, 0xffffffffffffffff),
-        ("sllw a2,a0,a1", 0x00b5163b, 1, 0x1f, 0xffffffff80000000),
-        ("sllw a2,a0,a1", 0x00b5163b, 1, 0x20, 1),
-        ("srlw a2,a0,a1", 0x00b5563b, 0xfffffff0, 2, 0x3ffffffc),
-        (
-            "srlw a2,a0,a1",
-            0x00b5563b,
-            0x80000000,
-            0,
-            0xffffffff80000000,
-        ),
-        (
-            "sraw a2,a0,a1",
-            0x40b5563b,
-            0x80000000,
-            4,
-            0xfffffffff8000000,
-        ),
-        (
-            "sraiw a2,a0,31",
-            0x41f5561b,
-            0x80000000,
-            0,
-            0xffffffffffffffff,
-        ),
-        ("sll a2,a0,a1", 0x00b51633, 3, 0x3f, 0x8000000000000000),
-        ("srl a2,a0,a1", 0x00b55633, 0x8000000000000000, 0x3f, 1),
-        (
-            "sra a2,a0,a1",
-            0x40b55633,
-            0x8000000000000000,
-            0x3f,
-            0xffffffffffffffff,
-        ),
-        (
-            "srai a2,a0,63",
-            0x43f55613,
-            0x8000000000000000,
-            0,
-            0xffffffffffffffff,
-        ),
-        ("slli a2,a0,63", 0x03f51613, 1, 0, 0x8000000000000000),
-        ("slt a2,a0,a1", 0x00b52633, 0xffffffffffffffff, 0, 1),
-        ("sltu a2,a0,a1", 0x00b53633, 0xffffffffffffffff, 0, 0),
-        ("slti a2,a0,-1", 0xfff52613, 0xfffffffffffffffe, 0, 1),
-        ("sltiu a2,a0,-1", 0xfff53613, 0xfffffffffffffffe, 0, 1),
-        ("addi a2,a0,-1", 0xfff50613, 0, 0, 0xffffffffffffffff),
-        ("xori a2,a0,-1", 0xfff54613, 0xf0, 0, 0xffffffffffffff0f),
-        ("addiw a2,a0,-1", 0xfff5061b, 0, 0, 0xffffffffffffffff),
-        ("lui a2,0x80000", 0x80000637, 0, 0, 0xffffffff80000000),
-        ("auipc a2,0xfffff", 0xfffff617, 0, 0, 0),
-        ("addi a2,zero,5", 0x00500613, 0, 0, 5),
-    ];
-    for (name, word, a0, a1, a2) in rows {
-        let mut mem = code(rt.alloc(), &[word])?;
-        let mut regs = regs(a0, a1);
-        assert_eq!(rt; step(&mut regs, &mut mem), Ok(Event::Next), "{name}");
-        assert_eq!(rt; regs.x[12], a2, "{name} of {a0:x} and {a1:x}");
-        assert_eq!(rt; regs.pc, 0x1004, "{name}");
+fn division_is_the_manuals(rt: HostRuntime) -> Result<(), Fail> {
+    let rows = rows! {
+        "div a2,a0,a1" 0x02b54633: 0x8000000000000000, 0xffffffffffffffff => 0x8000000000000000
+        "rem a2,a0,a1" 0x02b56633: 0x8000000000000000, 0xffffffffffffffff => 0
+        "div a2,a0,a1" 0x02b54633: 7, 0 => 0xffffffffffffffff
+        "rem a2,a0,a1" 0x02b56633: 7, 0 => 7
+        "divu a2,a0,a1" 0x02b55633: 7, 0 => 0xffffffffffffffff
+        "remu a2,a0,a1" 0x02b57633: 7, 0 => 7
+        "div a2,a0,a1" 0x02b54633: 0xfffffffffffffff9, 2 => 0xfffffffffffffffd
+        "rem a2,a0,a1" 0x02b56633: 0xfffffffffffffff9, 2 => 0xffffffffffffffff
+        "divw a2,a0,a1" 0x02b5463b: 0x80000000, 0xffffffff => 0xffffffff80000000
+        "remw a2,a0,a1" 0x02b5663b: 0x80000000, 0xffffffff => 0
+        "divw a2,a0,a1" 0x02b5463b: 7, 0x100000000 => 0xffffffffffffffff
+        "remw a2,a0,a1" 0x02b5663b: 0x80000007, 0x100000000 => 0xffffffff80000007
+        "divuw a2,a0,a1" 0x02b5563b: 0xffffffff, 1 => 0xffffffffffffffff
+        "remuw a2,a0,a1" 0x02b5763b: 0xffffffff, 0 => 0xffffffffffffffff
+    };
+    for row in rows {
+        assert_step(&rt, rt.alloc(), row)?;
+    }
+    Ok(())
+}
+
+#[test]
+fn multiplication_is_the_manuals(rt: HostRuntime) -> Result<(), Fail> {
+    let rows = rows! {
+        "mulhsu a2,a0,a1" 0x02b52633: 0xffffffffffffffff, 0xffffffffffffffff => 0xffffffffffffffff
+        "mulh a2,a0,a1" 0x02b51633: 0xffffffffffffffff, 0xffffffffffffffff => 0
+        "mulhu a2,a0,a1" 0x02b53633: 0xffffffffffffffff, 0xffffffffffffffff => 0xfffffffffffffffe
+        "mul a2,a0,a1" 0x02b50633: 0xffffffffffffffff, 0xffffffffffffffff => 1
+        "mulw a2,a0,a1" 0x02b5063b: 0x80000000, 1 => 0xffffffff80000000
+    };
+    for row in rows {
+        assert_step(&rt, rt.alloc(), row)?;
+    }
+    Ok(())
+}
+
+#[test]
+fn shifts_are_the_manuals(rt: HostRuntime) -> Result<(), Fail> {
+    let rows = rows! {
+        "sllw a2,a0,a1" 0x00b5163b: 1, 0x1f => 0xffffffff80000000
+        "sllw a2,a0,a1" 0x00b5163b: 1, 0x20 => 1
+        "srlw a2,a0,a1" 0x00b5563b: 0xfffffff0, 2 => 0x3ffffffc
+        "srlw a2,a0,a1" 0x00b5563b: 0x80000000, 0 => 0xffffffff80000000
+        "sraw a2,a0,a1" 0x40b5563b: 0x80000000, 4 => 0xfffffffff8000000
+        "sraiw a2,a0,31" 0x41f5561b: 0x80000000, 0 => 0xffffffffffffffff
+        "sll a2,a0,a1" 0x00b51633: 3, 0x3f => 0x8000000000000000
+        "srl a2,a0,a1" 0x00b55633: 0x8000000000000000, 0x3f => 1
+        "sra a2,a0,a1" 0x40b55633: 0x8000000000000000, 0x3f => 0xffffffffffffffff
+        "srai a2,a0,63" 0x43f55613: 0x8000000000000000, 0 => 0xffffffffffffffff
+        "slli a2,a0,63" 0x03f51613: 1, 0 => 0x8000000000000000
+    };
+    for row in rows {
+        assert_step(&rt, rt.alloc(), row)?;
+    }
+    Ok(())
+}
+
+#[test]
+fn other_arithmetic_is_the_manuals(rt: HostRuntime) -> Result<(), Fail> {
+    let rows = rows! {
+        "addw a2,a0,a1" 0x00b5063b: 0x7fffffff, 1 => 0xffffffff80000000
+        "subw a2,a0,a1" 0x40b5063b: 0, 1 => 0xffffffffffffffff
+        "slt a2,a0,a1" 0x00b52633: 0xffffffffffffffff, 0 => 1
+        "sltu a2,a0,a1" 0x00b53633: 0xffffffffffffffff, 0 => 0
+        "slti a2,a0,-1" 0xfff52613: 0xfffffffffffffffe, 0 => 1
+        "sltiu a2,a0,-1" 0xfff53613: 0xfffffffffffffffe, 0 => 1
+        "addi a2,a0,-1" 0xfff50613: 0, 0 => 0xffffffffffffffff
+        "xori a2,a0,-1" 0xfff54613: 0xf0, 0 => 0xffffffffffffff0f
+        "addiw a2,a0,-1" 0xfff5061b: 0, 0 => 0xffffffffffffffff
+        "lui a2,0x80000" 0x80000637: 0, 0 => 0xffffffff80000000
+        "auipc a2,0xfffff" 0xfffff617: 0, 0 => 0
+        "addi a2,zero,5" 0x00500613: 0, 0 => 5
+    };
+    for row in rows {
+        assert_step(&rt, rt.alloc(), row)?;
     }
     Ok(())
 }
