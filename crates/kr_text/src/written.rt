@@ -36,21 +36,39 @@ fn escape(out: &mut Vec<u8>, byte: u8) -> Result<(), NoMemory>
     Ok(())
 }
 
-/// Adds bytes with their escapes.
-fn escaped(out: &mut Vec<u8>, bytes: &[u8]) -> Result<(), NoMemory>
-    ensures { OnOk result (out.new.items ≡ out.old.items ++ escaped bytes.now) }
-{
-    for byte in bytes {
-        escape(out, *byte)?;
-    }
-    Ok(())
-}
-
 /// Adds bytes.
 fn put(out: &mut Vec<u8>, bytes: &[u8]) -> Result<(), NoMemory>
     ensures { OnOk result (out.new.items ≡ out.old.items ++ bytes.now) }
 {
     out.extend_from_slice(bytes)?;
+    Ok(())
+}
+
+/// Bytes in two parts: those in front that stand for themselves, and the others.
+fn split_plain(bytes: &[u8]) -> (&[u8], &[u8])
+    ensures parts { bytes.now ≡ result.0.now ++ result.1.now }
+    ensures plain { escaped result.0.now ≡ result.0.now }
+{
+    for (at, byte) in bytes.iter().enumerate() {
+        if !is_plain(*byte) {
+            return (&bytes[..at], &bytes[at..]);
+        }
+    }
+    (bytes, &[])
+}
+
+/// Adds bytes with their escapes.
+fn escaped(out: &mut Vec<u8>, bytes: &[u8]) -> Result<(), NoMemory>
+    ensures { OnOk result (out.new.items ≡ out.old.items ++ escaped bytes.now) }
+{
+    let (plain, mut rest) = split_plain(bytes);
+    put(out, plain)?;
+    while let Some((byte, behind)) = rest.split_first() {
+        escape(out, *byte)?;
+        let (plain, others) = split_plain(behind);
+        put(out, plain)?;
+        rest = others;
+    }
     Ok(())
 }
 
