@@ -144,7 +144,7 @@ named_in name (x ∷ es) e h =
       | false ↦ λ is h. let rest = named_in name es e h in (inr rest.0, rest.1)
     ] refl h
 
-all-in : (P : List ℕ → Type 0) (es : List Entry) (e : Entry) → AllByRecursion P (names_in es) → IsIn e es → P e.name
+pub all-in : (P : List ℕ → Type 0) (es : List Entry) (e : Entry) → AllByRecursion P (names_in es) → IsIn e es → P e.name
 all-in P [] e h is = absurd is
 all-in P (x ∷ es) e h (inl same) = subst (λ s. P s.name) same h.0
 all-in P (x ∷ es) e h (inr is) = all-in P es e h.1 is

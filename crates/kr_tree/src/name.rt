@@ -1,11 +1,20 @@
 //! Names of entries.
-ghost use Rattle.std.specs.Prelude.{◌≡◌, not, ◌||◌, nat_eq};
+ghost use Rattle.std.specs.Prelude.{◌≡◌, not, ◌||◌, nat_eq, IsTrue, ◌↔◌};
 ghost use Rattle.std.specs.List.{list_all};
+ghost use Rattle.pr_base.specs.Paths.{IsName};
 ghost use Rattle.kr_tree.specs.Names.{is_name, is_dots};
 
 /// Whether an entry may have a name: 1 to 255 bytes, none of them a slash or zero, and not `.` or
 /// `..`.
 pub fn is_name(name: &[u8]) -> bool
+    ensures tests { result ≡ is_name name.now }
+    ensures means { IsTrue result ↔ IsName name.now }
+{
+    passes(name)
+}
+
+/// The same, as the definition tests it.
+fn passes(name: &[u8]) -> bool
     ensures { result ≡ is_name name.now }
 {
     0 < name.len() && name.len() <= 255 && has_plain_bytes(name) && !is_dots(name)

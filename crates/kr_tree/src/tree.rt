@@ -49,7 +49,7 @@ impl Model for Tree {
 impl Tree {
     ghost use Rattle.kr_tree.specs.Tree.{inode, body, entry, entries, entry_after, above, body_is, is_directory, is_filled, takes_names, may_be_linked, is_file, file_of, text_of, bytes_of};
     ghost use Rattle.kr_tree.specs.Rights.{may};
-    ghost use Rattle.kr_tree.specs.Names.{is_name};
+    ghost use Rattle.kr_tree.specs.Names.{is_name, NamedHaveHostNames, HostNamesLead};
     ghost use Rattle.kr_tree.specs.Stored.{kind_of, meta_of, body_of_new};
     ghost use Rattle.kr_tree.specs.Changes.{new_tree, added, next_serial, is_too_big, has_no_room, has_no_name_left, linked, removed, held, released, mode_set, owner_set, bytes_set, sized, overwritten, size, has_no_room_for};
     ghost use Rattle.kr_tree.specs.Lawful.{IsKept, HasItsInodes};
@@ -77,6 +77,15 @@ impl Tree {
     pub fn is_kept(&self)
         ensures kept { IsKept self.now }
         ensures there { HasItsInodes self.now }
+    {
+        let _ = &self.next;
+    }
+
+    /// Each directory that a text of names leads to has that host name and no other, and a host name
+    /// leads to its directory.
+    pub fn has_host_names(&self)
+        ensures named { NamedHaveHostNames self.now }
+        ensures lead { HostNamesLead self.now }
     {
         let _ = &self.next;
     }
