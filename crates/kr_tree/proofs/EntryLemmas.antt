@@ -204,6 +204,27 @@ in_still name (x ∷ es) e (inr h) n =
       | false ↦ inr (in_still name es e h n)
     ]
 
+-- taking a name away passes over an entry of another
+pub without-new : (name : List ℕ) (es : List Entry) (e : Entry) → bytes_eq name e.name ≡ false → without_name name (es ++ e ∷ []) ≡ without_name name es ++ e ∷ []
+without-new name [] e h = ap (λ b. cond (not b) (e ∷ []) []) h
+without-new name (x ∷ es) e h =
+    elim (bytes_eq name x.name) as (λ b. cond (not b) (x ∷ without_name name (es ++ e ∷ [])) (without_name name (es ++ e ∷ [])) ≡ cond (not b) (x ∷ without_name name es) (without_name name es) ++ e ∷ []) [
+      | true ↦ without-new name es e h
+      | false ↦ ap (λ r. x ∷ r) (without-new name es e h)
+    ]
+
+-- a name that isn't there isn't there after another was taken away
+pub none-without : (name gone : List ℕ) (es : List Entry) → entry_named name es ≡ None → entry_named name (without_name gone es) ≡ None
+none-without name gone [] h = refl
+none-without name gone (x ∷ es) h =
+    elim (bytes_eq name x.name) as (λ b. bytes_eq name x.name ≡ b → cond b (Some x) (entry_named name es) ≡ None → entry_named name (cond (not (bytes_eq gone x.name)) (x ∷ without_name gone es) (without_name gone es)) ≡ None) [
+      | true ↦ λ _ h. absurd cc
+      | false ↦ λ is h. elim (bytes_eq gone x.name) as (λ b. entry_named name (cond (not b) (x ∷ without_name gone es) (without_name gone es)) ≡ None) [
+        | true ↦ none-without name gone es h
+        | false ↦ ap (λ b. cond b (Some x) (entry_named name (without_name gone es))) is ∙ none-without name gone es h
+      ]
+    ] refl h
+
 -- what is summed up over the entries is less by what was taken away
 abbrev pub weighed : (Entry → ℕ) → List Entry → ℕ
 weighed w [] = 0

@@ -51,8 +51,8 @@ impl Tree {
     ghost use Rattle.kr_tree.specs.Rights.{may};
     ghost use Rattle.kr_tree.specs.Names.{is_name, NamedHaveHostNames, HostNamesLead};
     ghost use Rattle.kr_tree.specs.Stored.{kind_of, meta_of, body_of_new};
-    ghost use Rattle.kr_tree.specs.Changes.{new_tree, added, next_serial, is_too_big, has_no_room, has_no_name_left, linked, removed, held, released, mode_set, owner_set, bytes_set, sized, overwritten, size, has_no_room_for};
-    ghost use Rattle.kr_tree.specs.Lawful.{IsKept, HasItsInodes};
+    ghost use Rattle.kr_tree.specs.Changes.{new_tree, added, next_serial, is_too_big, has_no_room, has_no_name_left, linked, removed, moved, unlinked, renamed, held, released, mode_set, owner_set, bytes_set, sized, overwritten, size, has_no_room_for};
+    ghost use Rattle.kr_tree.specs.Lawful.{IsKept, HasItsInodes, IsBelow, IsLawfulMove};
 
     /// A tree with a root alone, by the mode, owner and group of `root`.
     pub fn new(alloc: Global, root: Meta) -> Result<Tree, NoMemory>
@@ -322,6 +322,36 @@ impl Tree {
             self.names -= 1;
             self.bytes -= freed;
         }
+    }
+
+    /// Moves an entry to a free name.
+    fn move_to_free(
+        &mut self,
+        dir: Ino,
+        name: &[u8],
+        to: Ino,
+        new: &[u8],
+        ino: Ino,
+    ) -> Result<(), NoMemory>
+        requires there { entry self.old dir name.now ≡ Some ino }
+        requires takes { body_is takes_names self.old to ≡ true }
+        requires well_formed { is_name new.now ≡ true }
+        requires free { entry self.old to new.now ≡ None }
+        requires aside { body_is is_directory self.old ino ≡ true → ¬ IsBelow self.old ino to }
+        requires serials { next_serial self.old to + 1 < 2 ^ 64 }
+        ensures ok { OnOk result (self.new ≡ moved dir name.now to new.now ino self.old) }
+        ensures err { OnErr result (self.new ≡ self.old) }
+    {
+        let is_dir = self.is_directory(ino);
+        let standing = Standing {
+            inode: to,
+            serial: self.next_serial(to),
+        };
+        let copy = self.copy(new)?;
+        self.store.add_entry(to, copy, ino, is_dir)?;
+        self.store.remove_entry(dir, name, is_dir);
+        self.store.stand(ino, standing);
+        Ok(())
     }
 
     /// Cuts a file at a size, or fills it with zeros up to it. TooBig comes before Full.
