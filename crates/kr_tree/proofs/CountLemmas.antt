@@ -107,6 +107,12 @@ pub directories-new : (t : Tree) (es : List Entry) (e : Entry) → directories_i
 directories-new t [] e = omega arith
 directories-new t (x ∷ es) e = let rest = directories-new t es e in omega arith
 
+-- a directory's entry is counted
+pub directories-at : (t : Tree) (e : Entry) (es : List Entry) → IsIn e es → counted (body_is is_directory t e.inode) ≤ directories_in t es
+directories-at t e [] h = absurd h
+directories-at t e (x ∷ es) (inl same) = let here : counted (body_is is_directory t x.inode) ≡ counted (body_is is_directory t e.inode) = ap (λ e. counted (body_is is_directory t e.inode)) same in omega arith
+directories-at t e (x ∷ es) (inr h) = let rest = directories-at t e es h in omega arith
+
 -- ---- what is counted is there
 
 pub entries_there : (t : Tree) (dir : ℕ) (e : Entry) → IsIn e (entries t dir) → (x : Inode) × (inode t dir ≡ Some x)

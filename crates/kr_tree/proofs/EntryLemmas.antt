@@ -6,6 +6,7 @@ use Rattle.std.specs.List.{list_any, AllByRecursion, IsDistinct}
 use Rattle.std.specs.Map.{lookup, remove_entry}
 use Rattle.std.proofs.lemmas.Bool.Decides.{nat_tests}
 use Rattle.std.proofs.lemmas.Cmp.{nat_list_eq_equiv}
+use Rattle.std.proofs.lemmas.Slice.Eq.{bytes_eq-Decides}
 use Rattle.std.proofs.lemmas.Map.Keys.{IsDistinct-head, IsDistinct-tail, IsDistinct-cons, IsDistinct-push}
 use Rattle.kr_tree.specs.declared.entries.Slot.{Slot}
 use Rattle.kr_tree.specs.Tree.{Entry, entry_named, entry_after}
@@ -212,6 +213,34 @@ without-new name (x ∷ es) e h =
       | true ↦ without-new name es e h
       | false ↦ ap (λ r. x ∷ r) (without-new name es e h)
     ]
+
+-- a name is found as before after another was taken away
+pub named-without : (name gone : List ℕ) (es : List Entry) → bytes_eq gone name ≡ false → entry_named name (without_name gone es) ≡ entry_named name es
+named-without name gone [] n = refl
+named-without name gone (x ∷ es) n =
+    elim (bytes_eq gone x.name) as (λ b. bytes_eq gone x.name ≡ b → entry_named name (cond (not b) (x ∷ without_name gone es) (without_name gone es)) ≡ cond (bytes_eq name x.name) (Some x) (entry_named name es)) [
+      | true ↦ λ g. named-without name gone es n ∙ sym (ap (λ b. cond b (Some x) (entry_named name es)) (other g))
+      | false ↦ λ _. ap (cond (bytes_eq name x.name) (Some x)) (named-without name gone es n)
+    ] refl
+  where
+    other : bytes_eq gone x.name ≡ true → bytes_eq name x.name ≡ false
+    other g = elim (bytes_eq name x.name) as (λ b. bytes_eq name x.name ≡ b → b ≡ false) [
+      | true ↦ λ m.
+          let one : gone ≡ x.name = (bytes_eq-Decides gone x.name).0 g in
+          let two : name ≡ x.name = (bytes_eq-Decides name x.name).0 m in
+          let no : true ≡ false = sym ((bytes_eq-Decides gone name).1 (one ∙ sym two)) ∙ n in
+          absurd cc
+      | false ↦ λ _. refl
+    ] refl
+
+-- a name that was taken away isn't there
+pub named-gone : (name : List ℕ) (es : List Entry) → entry_named name (without_name name es) ≡ None
+named-gone name [] = refl
+named-gone name (x ∷ es) =
+    elim (bytes_eq name x.name) as (λ b. bytes_eq name x.name ≡ b → entry_named name (cond (not b) (x ∷ without_name name es) (without_name name es)) ≡ None) [
+      | true ↦ λ _. named-gone name es
+      | false ↦ λ is. ap (λ b. cond b (Some x) (entry_named name (without_name name es))) is ∙ named-gone name es
+    ] refl
 
 -- a name that isn't there isn't there after another was taken away
 pub none-without : (name gone : List ℕ) (es : List Entry) → entry_named name es ≡ None → entry_named name (without_name gone es) ≡ None

@@ -1,13 +1,13 @@
 -- Inodes after one of them was changed.
 use Rattle.std.specs.FinMap as map
-use Rattle.std.proofs.Common.{◌≡◌, ◌≢◌, inl, inr, subst, ℕ, ◌+◌, true, false, refl, sym, ap, ◌∙◌, arith, cond, Option, Some, None, is_some}
+use Rattle.std.proofs.Common.{◌≡◌, ◌≢◌, inl, inr, subst, ℕ, ◌+◌, Bool, true, false, refl, sym, ap, ◌∙◌, arith, cond, Option, Some, None, is_some}
 use Rattle.std.specs.Option.{option_map, option_map_or}
 use Rattle.std.specs.Ordering.{nat_cmp, eq_by_cmp}
 use Rattle.std.specs.Cmp.{nat_cmp_total}
 use Rattle.std.proofs.lemmas.Bool.{cases_eq}
 use Rattle.std.proofs.lemmas.Bool.Decides.{nat_tests}
 use Rattle.kr_tree.specs.Tree.{Inode, Inodes}
-use Rattle.kr_tree.specs.Changes.{with_inode}
+use Rattle.kr_tree.specs.Changes.{with_inode, is_unused, is_unused_at, without_unused}
 
 -- two maps with the same inodes are the same
 pub same_inodes : (m n : Inodes) → ((q : ℕ) → map.get m q ≡ map.get n q) → m ≡ n
@@ -174,3 +174,33 @@ with-alike m k f g h =
     mapped : (o : Option Inode) → map.get m k ≡ o → option_map f o ≡ option_map g o
     mapped None at = refl
     mapped (Some x) at = ap Some (h x at)
+
+-- ---- an inode that may be dropped
+
+pub get-unused_other : (m : Inodes) (k q : ℕ) → q ≢ k → map.get (without_unused k m) q ≡ map.get m q
+get-unused_other m k q d = elim (is_unused_at k m) as (λ b. map.get (cond b (map.remove m k) m) q ≡ map.get m q) [
+  | true ↦ get-remove_other m k q d
+  | false ↦ refl
+]
+
+-- what f tells of it afterwards, where it tells the same of what was there and of nothing
+pub unused_same : {A : Type 0} (f : Option Inode → A) (m : Inodes) (k : ℕ) → f (map.get m k) ≡ f None → f (map.get (without_unused k m) k) ≡ f None
+unused_same f m k h = elim (is_unused_at k m) as (λ b. f (map.get (cond b (map.remove m k) m) k) ≡ f None) [
+  | true ↦ ap f (get-remove_same m k)
+  | false ↦ h
+]
+
+pub unused-with : (m : Inodes) (k j : ℕ) (f : Inode → Inode) → k ≢ j → without_unused k (with_inode j f m) ≡ with_inode j f (without_unused k m)
+unused-with m k j f h =
+    ap (λ o. cond (option_map_or is_unused o false) (map.remove (with_inode j f m) k) (with_inode j f m)) (get-with_other m j f k h)
+    ∙ by_use (is_unused_at k m)
+  where
+    by_use : (b : Bool) → cond b (map.remove (with_inode j f m) k) (with_inode j f m) ≡ with_inode j f (cond b (map.remove m k) m)
+    by_use false = refl
+    by_use true =
+        same_inodes _ _ (by_inode (λ q. map.get (map.remove (with_inode j f m) k) q ≡ map.get (with_inode j f (map.remove m k)) q) k
+        (get-remove_same (with_inode j f m) k ∙ sym (get-with_other (map.remove m k) j f k h ∙ get-remove_same m k))
+        (λ q d. get-remove_other (with_inode j f m) k q d
+        ∙ by_inode (λ q. q ≢ k → map.get (with_inode j f m) q ≡ map.get (with_inode j f (map.remove m k)) q) j
+        (λ a. get-with_same m j f ∙ ap (option_map f) (sym (get-remove_other m k j a)) ∙ sym (get-with_same (map.remove m k) j f))
+        (λ q b a. get-with_other m j f q b ∙ sym (get-remove_other m k q a) ∙ sym (get-with_other (map.remove m k) j f q b)) q d))

@@ -1,20 +1,20 @@
 -- Well-formed names, and the host names of directories.
-use Rattle.std.proofs.Common.{◌≡◌, ◌≢◌, ◌⊎◌, inl, inr, subst, ℕ, zero, suc, ◌+◌, ◌≤◌, ◌<◌, true, false, not, ◌&&◌, ◌||◌, List, [], ◌∷◌, length, drop, refl, sym, ap, ◌∙◌, arith, cond, Option, Some, None, nat_eq, nat_le, nat_lt}
+use Rattle.std.proofs.Common.{◌≡◌, ◌≢◌, ◌⊎◌, inl, inr, subst, ℕ, zero, suc, ◌+◌, ◌-◌, ◌≤◌, ◌<◌, true, false, not, ◌&&◌, ◌||◌, List, [], ◌∷◌, length, drop, ◌++◌, reverse, append-nil, append_assoc, refl, sym, ap, ◌∙◌, arith, cond, Option, Some, None, nat_eq, nat_le, nat_lt}
 use Rattle.std.specs.Prelude.{Decides}
 use Rattle.std.specs.List.{list_all}
 use Rattle.std.specs.Option.{option_map, option_map_or, option_and_then}
 use Rattle.std.proofs.lemmas.Bool.{cases_eq, eqb-true, eq-eqb, ne_eqb}
 use Rattle.std.proofs.lemmas.Bool.Decides.{nat_tests, Decides-eqb, Decides-and, Decides-not, Decides-like, Decides-by_and}
 use Rattle.std.proofs.lemmas.Slice.Eq.{bytes_eq-Decides}
-use Rattle.std.proofs.lemmas.List.{length-drop}
+use Rattle.std.proofs.lemmas.List.{length-drop, reverse-append}
 use Rattle.std.proofs.lemmas.List.Elements.{All-cons, All-nil}
 use Rattle.indexmap.proofs.IndexTableLemmas.Probe.{pigeonhole}
-use Rattle.pr_base.specs.Paths.{IsName, AreNames, slash, dot, dot_dot}
+use Rattle.pr_base.specs.Paths.{IsName, AreNames, slash, dot, dot_dot, below_root}
 use Rattle.kr_tree.specs.declared.standing.Standing.{Standing}
-use Rattle.kr_tree.specs.Tree.{Tree, Inode, Entry, root, inode, entry, entry_named, entry_at, entries, entries_of, standing, standing_of, body_is, is_directory}
-use Rattle.kr_tree.specs.Names.{is_name, is_dots, named, step_up, host_name_within, NamedHaveHostNames, HostNamesLead}
+use Rattle.kr_tree.specs.Tree.{Tree, Inode, Entry, root, inode, entry, entry_named, entry_at, entries, entries_of, standing, standing_of, above, body_is, is_directory}
+use Rattle.kr_tree.specs.Names.{is_name, is_dots, named, step_up, host_name_within, host_name, NamedHaveHostNames, StandingHaveHostNames, HostNamesLead}
 use Rattle.kr_tree.specs.Entries.{IsListed, RisesWithin}
-use Rattle.kr_tree.specs.Lawful.{IsSound, IsIn}
+use Rattle.kr_tree.specs.Lawful.{IsSound, IsIn, RisesToEnd, AtRoot, AtRemoved, Above}
 use Rattle.kr_tree.proofs.BodyLemmas.{entries-is_listed, listed-is_directory, is_directory-stands}
 use Rattle.kr_tree.proofs.EntryLemmas.{named_in, in_named, in_above, all-in, serial_alone}
 use Rattle.kr_tree.proofs.CountLemmas.{entries_there, root_directory}
@@ -60,12 +60,15 @@ then_some : {A B : Type 0} (f : A → Option B) (o : Option A) (y : B) → optio
 then_some f None y h = absurd cc
 then_some f (Some x) y h = (x, refl, h)
 
-some_is : {A : Type 0} (a b : A) → Some a ≡ Some b → a ≡ b
+pub some_is : {A : Type 0} (a b : A) → Some a ≡ Some b → a ≡ b
 some_is a b h = ap (λ o. option_map_or (λ s. s) o a) h
 
-map_some : {A B : Type 0} (f : A → B) (o : Option A) (y : B) → option_map f o ≡ Some y → (x : A) × (o ≡ Some x) × (f x ≡ y)
+pub map_some : {A B : Type 0} (f : A → B) (o : Option A) (y : B) → option_map f o ≡ Some y → (x : A) × (o ≡ Some x) × (f x ≡ y)
 map_some f None y h = absurd cc
 map_some f (Some x) y h = (x, refl, some_is (f x) y h)
+
+second : (p q : List ℕ × ℕ) → p ≡ q → p.1 ≡ q.1
+second p q h = ap (λ (p : List ℕ × ℕ). p.1) h
 
 -- the entry of a serial stands in the list
 at_in : (serial : ℕ) (es : List Entry) (e : Entry) → entry_at serial es ≡ Some e → IsIn e es × (serial ≡ e.serial)
@@ -224,8 +227,122 @@ module _ (t : Tree) (sound : IsSound t) where
           let left_two = length-drop j text in
           omega arith
 
+  -- what has an entry wasn't removed
+  stands_above : (k : ℕ) (e : Entry) (o : Option Standing) → standing t k ≡ o → IsIn e (entries t k) → (s : Standing) × (standing t k ≡ Some s)
+  stands_above k e None n is = absurd (subst (λ es. IsIn e es) (sound.emptied k n) is)
+  stands_above k e (Some s) h is = (s, h)
+
+  -- what stands somewhere is named: what is above it has an entry and so wasn't removed
+  text_of_rise : (dir : ℕ) (s : Standing) → standing t dir ≡ Some s → RisesToEnd t dir → (text : List (List ℕ)) × (named t text ≡ Some dir)
+  text_of_rise dir s h AtRoot = ([], refl)
+  text_of_rise dir s h (AtRemoved n) = let no : Some s.inode ≡ None = sym (ap (option_map (λ s. s.inode)) h) ∙ n in absurd cc
+  text_of_rise dir s h (Above {up = up} a r) = elim (cases_eq dir root) [
+    | inl e ↦ ([], ap Some (sym e))
+    | inr away ↦
+        let own = sound.stands dir s away h in
+        let e : Entry = record { name = own.0; serial = s.serial; inode = dir } in
+        let list = listed_in s.inode e own.1 in
+        let here : entry t s.inode own.0 ≡ Some dir = ap (option_map (λ e. e.inode)) (in_named own.0 (entries t s.inode) e list.1.distinct own.1 ((bytes_eq-Decides own.0 own.0).1 refl)) in
+        let same : up ≡ s.inode = some_is up s.inode (sym a ∙ ap (option_map (λ s. s.inode)) h) in
+        let stood = stands_above up e (standing t up) refl (subst (λ k. IsIn e (entries t k)) (sym same) own.1) in
+        let above = text_of_rise up stood.0 stood.1 r in
+        (own.0 ∷ above.0, ap (option_and_then (λ d. entry t d own.0)) (above.1 ∙ ap Some same) ∙ here)
+  ]
+
+  -- one step up towards the root
+  pub host_name-above : (n dir up : ℕ) (text : List (List ℕ)) → dir ≢ root → above t dir ≡ Some up → host_name_within (suc n) t dir ≡ Some text → (rest : List (List ℕ)) × (host_name_within n t up ≡ Some rest)
+  host_name-above n dir up text away a h =
+      let step = then_some (λ up. option_map (λ text. up.0 ∷ text) (host_name_within n t up.1)) (step_up t dir) text (sym (host_name-step n t dir away) ∙ h) in
+      let rest = map_some (λ text. step.0.0 ∷ text) (host_name_within n t step.0.1) text step.2 in
+      let s = then_some (λ s. option_map (λ e. (e.name, s.inode)) (entry_at s.serial (entries t s.inode))) (standing t dir) step.0 step.1 in
+      let e = map_some (λ e. (e.name, s.0.inode)) (entry_at s.0.serial (entries t s.0.inode)) step.0 s.2 in
+      let same : step.0.1 ≡ up = sym (second (e.0.name, s.0.inode) step.0 e.2) ∙ some_is s.0.inode up (sym (ap (option_map (λ s. s.inode)) s.1) ∙ a) in
+      (rest.0, subst (λ k. host_name_within n t k ≡ Some rest.0) same rest.1)
+
   pub named-host_name : NamedHaveHostNames t
   named-host_name text dir h is = host_name-found text dir h is t.next (depth text dir h is)
 
+  pub standing-host_name : StandingHaveHostNames t
+  standing-host_name dir s h =
+      let dirs = standing_directory dir s h in
+      let text = text_of_rise dir s h (sound.rises dir dirs) in
+      (text.0, named-host_name text.0 dir text.1 dirs)
+
   pub host_names-lead : HostNamesLead t
   host_names-lead dir text h = host_name-leads t.next dir text h
+
+  pub host_name-of_root : host_name t root ≡ Some []
+  host_name-of_root = named-host_name [] root refl (root_directory t sound)
+
+  -- a directory is called as its entry, below what is above it
+  pub host_name-entry : (dir : ℕ) (name : List ℕ) (i : ℕ) → entry t dir name ≡ Some i → body_is is_directory t i ≡ true → host_name t i ≡ option_map (λ text. name ∷ text) (host_name t dir)
+  host_name-entry dir name i h is =
+      let e = map_some (λ e. e.inode) (entry_named name (entries t dir)) i h in
+      let stood = stands_above dir e.0 (standing t dir) refl (named_in name (entries t dir) e.0 e.1).0 in
+      let text = standing-host_name dir stood.0 stood.1 in
+      let leads = host_names-lead dir text.0 text.1 in
+      named-host_name (name ∷ text.0) i (ap (option_and_then (λ d. entry t d name)) leads.0 ∙ h) is ∙ sym (ap (option_map (λ text. name ∷ text)) text.1)
+
+  pub host_name-below : (i dir : ℕ) → i ≢ root → above t i ≡ Some dir → (name : List ℕ) × (host_name t i ≡ option_map (λ text. name ∷ text) (host_name t dir)) × (is_name name ≡ true)
+  host_name-below i dir away h =
+      let s = map_some (λ s. s.inode) (standing t i) dir h in
+      let own = sound.stands i s.0 away s.1 in
+      let e : Entry = record { name = own.0; serial = s.0.serial; inode = i } in
+      let list = listed_in s.0.inode e own.1 in
+      let here : entry t s.0.inode own.0 ≡ Some i = ap (option_map (λ e. e.inode)) (in_named own.0 (entries t s.0.inode) e list.1.distinct own.1 ((bytes_eq-Decides own.0 own.0).1 refl)) in (
+        own.0,
+        host_name-entry s.0.inode own.0 i here (standing_directory i s.0 s.1) ∙ ap (λ k. option_map (λ text. own.0 ∷ text) (host_name t k)) s.2,
+        all-in (λ name. is_name name ≡ true) (entries t s.0.inode) e list.1.well_formed own.1,
+      )
+
+  -- what is no directory, or was removed, has none
+  pub no_host_name : (i : ℕ) → standing t i ≡ None → host_name t i ≡ None
+  no_host_name i none = elim (host_name t i) as (λ o. host_name t i ≡ o → o ≡ None) [
+    | None ↦ λ _. refl
+    | Some text ↦ λ h. let leads = host_names-lead i text h in nowhere text leads.0 leads.1
+  ] refl
+    where
+      nowhere : (text : List (List ℕ)) → named t text ≡ Some i → body_is is_directory t i ≡ true → Some text ≡ None
+      nowhere [] h is = let no : ◌≡◌ {A = Option Standing} (Some (record { inode = root; serial = 0 })) None = sym sound.rooted ∙ ap (standing t) (some_is root i h) ∙ none in absurd cc
+      nowhere (name ∷ text) h is =
+          let up = then_some (λ d. entry t d name) (named t text) i h in
+          let step = named_step name up.0 i up.2 is in
+          let no : ◌≡◌ {A = Option (List ℕ × ℕ)} (Some (name, up.0)) None = sym step.0 ∙ ap (option_and_then (λ s. option_map (λ e. (e.name, s.inode)) (entry_at s.serial (entries t s.inode)))) none in
+          absurd cc
+
+  pub no_directory_name : (i : ℕ) → body_is is_directory t i ≡ false → host_name t i ≡ None
+  no_directory_name i h = elim (host_name t i) as (λ o. host_name t i ≡ o → o ≡ None) [
+    | None ↦ λ _. refl
+    | Some text ↦ λ is. let no : false ≡ true = sym h ∙ (host_names-lead i text is).1 in absurd cc
+  ] refl
+
+-- ---- names written from their end
+
+-- bytes, and the host name of a directory from its end after them
+abbrev pub written : List ℕ → ℕ → Tree → ℕ → Option (List ℕ)
+written bytes n t dir = option_map (λ text. bytes ++ reverse (below_root text)) (host_name_within n t dir)
+
+pub written-none : (bytes : List ℕ) (n : ℕ) (t : Tree) (dir : ℕ) → n ≡ 0 → written bytes n t dir ≡ None
+written-none bytes n t dir e = ap (λ n. written bytes n t dir) e ∙ ap (option_map (λ text. bytes ++ reverse (below_root text))) (host_name-zero t dir)
+
+pub written-root : (bytes : List ℕ) (n k : ℕ) (t : Tree) (dir : ℕ) → k < n → dir ≡ root → written bytes (n - k) t dir ≡ Some bytes
+written-root bytes n k t dir l e =
+    let more : n - k ≡ suc (n - suc k) = omega arith in
+    ap (λ n. written bytes n t dir) more ∙ ap (option_map (λ text. bytes ++ reverse (below_root text))) (host_name-root (n - suc k) t dir e) ∙ ap Some (append-nil bytes)
+
+-- one step up writes a name
+pub written-step : (bytes : List ℕ) (n k : ℕ) (t : Tree) (dir : ℕ) → k < n → dir ≢ root → (up : Option (List ℕ × ℕ)) → up ≡ step_up t dir
+    → written bytes (n - k) t dir ≡ option_and_then (λ up. written (bytes ++ reverse (slash ∷ up.0)) (n - (k + 1)) t up.1) up
+written-step bytes n k t dir l away up is =
+    let more : n - k ≡ suc (n - (k + 1)) = omega arith in
+    ap (λ n. written bytes n t dir) more ∙ ap (option_map (λ text. bytes ++ reverse (below_root text))) (host_name-step (n - (k + 1)) t dir away ∙ ap (option_and_then (λ up. option_map (λ text. up.0 ∷ text) (host_name_within (n - (k + 1)) t up.1))) (sym is))
+    ∙ by up
+  where
+    both : (name : List ℕ) (o : Option (List (List ℕ))) → option_map (λ text. bytes ++ reverse (below_root text)) (option_map (λ text. name ∷ text) o) ≡ option_map (λ text. (bytes ++ reverse (slash ∷ name)) ++ reverse (below_root text)) o
+    both name None = refl
+    both name (Some text) = ap Some (ap (λ r. bytes ++ r) (reverse-append (below_root text) (slash ∷ name)) ∙ sym (append_assoc bytes (reverse (slash ∷ name)) (reverse (below_root text))))
+
+    by : (up : Option (List ℕ × ℕ)) → option_map (λ text. bytes ++ reverse (below_root text)) (option_and_then (λ up. option_map (λ text. up.0 ∷ text) (host_name_within (n - (k + 1)) t up.1)) up)
+        ≡ option_and_then (λ up. written (bytes ++ reverse (slash ∷ up.0)) (n - (k + 1)) t up.1) up
+    by None = refl
+    by (Some up) = both up.0 (host_name_within (n - (k + 1)) t up.1)

@@ -6,6 +6,7 @@ use Rattle.std.specs.Option.{option_map, option_and_then}
 use Rattle.std.specs.Fmt.{decimal}
 use Rattle.kr_tree.specs.declared.user.User.{User}
 use Rattle.kr_tree.specs.declared.user.Right.TheVariants.{Search}
+use Rattle.kr_tree.specs.declared.standing.Standing.{Standing}
 use Rattle.kr_tree.specs.declared.place.ProcAt.{ProcAt}
 use Rattle.kr_tree.specs.declared.place.ProcAt.TheVariants.{SelfLink, Dir, Cwd, Root, Exe, FdDir, Fd}
 use Rattle.pr_base.specs.Paths.{AreNames}
@@ -64,6 +65,10 @@ host_name t dir = host_name_within t.next t dir
 -- a directory that a text names has this host name and no other
 abbrev pub NamedHaveHostNames : Tree → Type 0
 NamedHaveHostNames t = (text : List (List ℕ)) (dir : ℕ) → named t text ≡ Some dir → body_is is_directory t dir ≡ true → host_name t dir ≡ Some text
+
+-- a directory that wasn't removed has a host name
+abbrev pub StandingHaveHostNames : Tree → Type 0
+StandingHaveHostNames t = (dir : ℕ) (s : Standing) → standing t dir ≡ Some s → (text : List (List ℕ)) × (host_name t dir ≡ Some text)
 
 -- a host name consists of names, and names the directory that has it
 abbrev pub HostNamesLead : Tree → Type 0

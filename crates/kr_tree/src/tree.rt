@@ -1,9 +1,10 @@
 //! The tree.
-ghost use Rattle.std.specs.Prelude.{◌≡◌, ◌+◌, ◌-◌, ◌^◌, ◌<◌, ◌≤◌, ◌↔◌, ◌&&◌, not, true, false, Some, None, OnOk, OnErr, IfOk, IsSome, length, IsErrOf, IsTrue, IfSome};
+ghost use Rattle.std.specs.Prelude.{◌≡◌, ◌≢◌, ◌+◌, ◌-◌, ◌^◌, ◌<◌, ◌≤◌, ◌↔◌, ◌&&◌, not, true, false, Some, None, OnOk, OnErr, IfOk, IsSome, length, IsErrOf, IsTrue, IfSome, ℕ, reverse};
 ghost use Rattle.std.specs.Option.{option_map, option_map_or, option_and_then, option_copied};
 ghost use Rattle.kr_tree.specs.Changes.{size_written, is_past_file, file_limit, byte_limit};
 
 use crate::inode::Inode;
+use crate::name::is_name;
 use crate::node::{FILE_LIMIT, Kind, Meta, Node, TreeRefusal};
 use crate::place::Ino;
 use crate::standing::Standing;
@@ -47,9 +48,10 @@ impl Model for Tree {
 }
 
 impl Tree {
-    ghost use Rattle.kr_tree.specs.Tree.{inode, body, entry, entries, entry_after, above, body_is, is_directory, is_filled, takes_names, may_be_linked, is_file, file_of, text_of, bytes_of};
+    ghost use Rattle.kr_tree.specs.Tree.{nodes, inode, body, entry, entries, entry_after, above, body_is, is_directory, is_filled, takes_names, may_be_linked, is_file, file_of, text_of, bytes_of};
+    ghost use Rattle.pr_base.specs.Paths.{below_root, text_of as bytes_of_text};
     ghost use Rattle.kr_tree.specs.Rights.{may};
-    ghost use Rattle.kr_tree.specs.Names.{is_name, NamedHaveHostNames, HostNamesLead};
+    ghost use Rattle.kr_tree.specs.Names.{is_name, step_up, host_name, NamedHaveHostNames, StandingHaveHostNames, HostNamesLead};
     ghost use Rattle.kr_tree.specs.Stored.{kind_of, meta_of, body_of_new};
     ghost use Rattle.kr_tree.specs.Changes.{new_tree, added, next_serial, is_too_big, has_no_room, has_no_name_left, linked, removed, moved, unlinked, renamed, held, released, mode_set, owner_set, bytes_set, sized, overwritten, size, has_no_room_for};
     ghost use Rattle.kr_tree.specs.Lawful.{IsKept, HasItsInodes, IsBelow, IsLawfulMove};
@@ -81,10 +83,11 @@ impl Tree {
         let _ = &self.next;
     }
 
-    /// Each directory that a text of names leads to has that host name and no other, and a host name
-    /// leads to its directory.
+    /// Each directory that a text of names leads to has that host name and no other, each that wasn't
+    /// removed has one, and a host name leads to its directory.
     pub fn has_host_names(&self)
         ensures named { NamedHaveHostNames self.now }
+        ensures standing { StandingHaveHostNames self.now }
         ensures lead { HostNamesLead self.now }
     {
         let _ = &self.next;
@@ -137,6 +140,26 @@ impl Tree {
             Some(standing) => Some(standing.inode),
             None => None,
         }
+    }
+
+    /// Whether a directory is another or stands below it.
+    pub fn is_below(&self, top: Ino, dir: Ino) -> bool
+        ensures { IsTrue result ↔ IsBelow self.now top dir }
+    {
+        let mut at = dir;
+        for _step in 0..self.next {
+            if at == top {
+                return true;
+            }
+            if at == ROOT {
+                return false;
+            }
+            match self.above(at) {
+                Some(up) => at = up,
+                None => return false,
+            }
+        }
+        false
     }
 
     /// Whether the inode is there and the user has a right to it.
@@ -324,6 +347,36 @@ impl Tree {
         }
     }
 
+    /// Whether [`Tree::rename`] may move an entry so: it is there, and goes into a directory that
+    /// wasn't removed and isn't at or below it, to a free name or in place of an entry of its kind
+    /// without entries.
+    pub fn is_lawful_move(&self, dir: Ino, name: &[u8], to: Ino, new: &[u8]) -> bool
+        ensures { IsTrue result ↔ IsLawfulMove self.now dir name.now to new.now }
+    {
+        match self.entry(dir, name) {
+            Some(ino) => {
+                is_name(new)
+                    && self.takes_names(to)
+                    && !(self.is_directory(ino) && self.is_below(ino, to))
+                    && self.may_replace(ino, self.entry(to, new))
+            }
+            None => false,
+        }
+    }
+
+    /// Whether an inode may take the name of another, if there is one.
+    fn may_replace(&self, ino: Ino, old: Option<Ino>) -> bool
+        ensures { IsTrue result ↔ ((k : ℕ) → old ≡ Some k → k ≢ ino → (body_is is_directory self.now k ≡ body_is is_directory self.now ino) × (body_is is_filled self.now k ≡ false)) }
+    {
+        match old {
+            Some(old) => {
+                old == ino
+                    || (self.is_directory(old) == self.is_directory(ino) && !self.is_filled(old))
+            }
+            None => true,
+        }
+    }
+
     /// Moves an entry to a free name.
     fn move_to_free(
         &mut self,
@@ -430,7 +483,7 @@ impl Tree {
     }
 
     /// Whether an inode is a directory, as the process directory is.
-    fn is_directory(&self, ino: Ino) -> bool
+    pub fn is_directory(&self, ino: Ino) -> bool
         ensures { result ≡ body_is is_directory self.now ino }
     {
         match self.store.get(ino) {
