@@ -1,15 +1,12 @@
 -- Lists of entries after one was added or taken away.
-use Rattle.std.proofs.Common.{◌≡◌, inl, inr, subst, zero, suc, ◌≤◌, length, get_or, slice_get, nat_le, nat_lt, ℕ, ◌+◌, ◌<◌, Bool, true, false, not, cond, List, [], ◌∷◌, ◌++◌, filter, ◌||◌, refl, sym, ap, ◌∙◌, arith, lit<, Some, None, Vec}
+use Rattle.std.proofs.Common.{◌≡◌, inl, inr, subst, ℕ, ◌+◌, ◌<◌, Bool, true, false, not, cond, List, [], ◌∷◌, ◌++◌, filter, ◌||◌, refl, sym, ap, ◌∙◌, arith, lit<, Some, None}
 use Rattle.std.specs.Prelude.{bytes_eq}
-use Rattle.std.specs.Option.{option_map, option_map_or}
+use Rattle.std.specs.Option.{option_map_or}
 use Rattle.std.specs.List.{list_any, AllByRecursion, IsDistinct}
-use Rattle.std.specs.Map.{lookup, remove_entry}
-use Rattle.std.proofs.lemmas.Bool.Decides.{nat_tests}
 use Rattle.std.proofs.lemmas.Cmp.{nat_list_eq_equiv}
 use Rattle.std.proofs.lemmas.Slice.Eq.{bytes_eq-Decides}
 use Rattle.std.proofs.lemmas.Map.Keys.{IsDistinct-head, IsDistinct-tail, IsDistinct-cons, IsDistinct-push}
-use Rattle.kr_tree.specs.declared.entries.Slot.{Slot}
-use Rattle.kr_tree.specs.Tree.{Entry, entry_named, entry_after}
+use Rattle.kr_tree.specs.Tree.{Entry, entry_named}
 use Rattle.kr_tree.specs.Names.{is_name}
 use Rattle.kr_tree.specs.Changes.{without_name}
 use Rattle.kr_tree.specs.Lawful.{IsIn}

@@ -1,8 +1,8 @@
 -- What is kept at names, in no order, and the places that serials have in it, in order.
-use Rattle.std.proofs.Common.{◌≡◌, ◌≢◌, ◌⊎◌, inl, inr, subst, zero, suc, ◌≤◌, length, get_or, take, set, slice_get, nat_lt, nat_eq, ℕ, ◌+◌, ◌-◌, ◌<◌, Bool, true, false, not, cond, List, [], ◌∷◌, ◌++◌, filter, refl, sym, ap, ◌∙◌, arith, Some, None, Option, Vec, true≢false, eq-eqb}
-use Rattle.std.specs.Prelude.{bytes_eq, swap_remove}
+use Rattle.std.proofs.Common.{◌≡◌, ◌≢◌, inl, inr, subst, zero, suc, length, slice_get, nat_lt, nat_eq, ℕ, ◌<◌, Bool, true, false, not, cond, List, [], ◌∷◌, filter, refl, sym, ap, ◌∙◌, arith, Some, None, Option, Vec, eq-eqb}
+use Rattle.std.specs.Prelude.{bytes_eq}
 use Rattle.std.specs.Option.{option_map, option_map_or}
-use Rattle.std.specs.List.{find, AllByRecursion, IsDistinct}
+use Rattle.std.specs.List.{AllByRecursion, IsDistinct}
 use Rattle.std.specs.List.Sorted.{IsStrictlySortedBy}
 use Rattle.std.specs.Ordering.{nat_cmp, is_eq, is_lt}
 use Rattle.std.specs.declared.cmp.Ordering.TheVariants.{Less}
@@ -10,17 +10,17 @@ use Rattle.std.specs.Map.{keys_of, lookup}
 use Rattle.std.specs.BTreeMap.{is_at}
 use Rattle.std.specs.BTreeMap.Range.{range_contains}
 use Rattle.std.specs.declared.ops.Bound.TheVariants.{Excluded, Unbounded}
-use Rattle.std.proofs.lemmas.Bool.{cases_eq, eqb-true, ne_eqb}
+use Rattle.std.proofs.lemmas.Bool.{eqb-true, ne_eqb}
 use Rattle.std.proofs.lemmas.Bool.Decides.{nat_tests}
-use Rattle.std.proofs.lemmas.Option.{same_Some, slice_get_within}
+use Rattle.std.proofs.lemmas.Option.{same_Some}
 use Rattle.std.proofs.lemmas.Map.Entries.{place_from_lookup}
 use Rattle.std.proofs.lemmas.Map.Keys.{sorted_head, sorted_tail}
 use Rattle.kr_tree.specs.declared.entries.Slot.{Slot}
 use Rattle.kr_tree.specs.Tree.{Entry, entry_named, entry_after, entry_at}
 use Rattle.kr_tree.specs.Changes.{without_name}
 use Rattle.kr_tree.specs.Lawful.{IsIn}
-use Rattle.kr_tree.specs.Entries.{Entries, RisesWithin, names_in, IsListed, IsPaired, slot_of, entry_of, placed, place_of, serial_at}
-use Rattle.kr_tree.proofs.EntryLemmas.{rises_below, in_above, in_named, in_without, in_still}
+use Rattle.kr_tree.specs.Entries.{RisesWithin, names_in, IsPaired, slot_of, entry_of, placed, place_of, serial_at}
+use Rattle.kr_tree.proofs.EntryLemmas.{rises_below, in_above, in_named}
 
 -- ---- tests of numbers
 

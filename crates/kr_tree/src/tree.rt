@@ -4,13 +4,13 @@ ghost use Rattle.std.specs.Option.{option_map, option_map_or, option_and_then, o
 ghost use Rattle.kr_tree.specs.Changes.{size_written, is_past_file, file_limit, byte_limit};
 
 use crate::inode::Inode;
-use crate::name::is_name;
+use crate::name::{append_backward, from_end, is_name};
 use crate::node::{FILE_LIMIT, Kind, Meta, Node, TreeRefusal};
 use crate::place::Ino;
 use crate::standing::Standing;
 use crate::store::Store;
 use crate::user::{Right, User};
-use pr_base::NoMemory;
+use pr_base::{Bytes, NoMemory};
 use std::alloc::Global;
 use std::marker::Model;
 
@@ -162,6 +162,17 @@ impl Tree {
         false
     }
 
+    /// The host name of a directory or the process directory, from the root on; `None` exactly where
+    /// it is neither, was removed or stands below one that was.
+    pub fn name_of(&self, dir: Ino) -> Result<Option<Bytes>, NoMemory>
+        ensures { IfOk result (λ name. name ≡ option_map bytes_of_text (host_name self.now dir)) }
+    {
+        match self.name_backward(dir)? {
+            Some(backward) => Ok(Some(from_end(backward)?)),
+            None => Ok(None),
+        }
+    }
+
     /// Whether the inode is there and the user has a right to it.
     pub fn may(&self, user: User, ino: Ino, right: Right) -> bool
         ensures { result ≡ may self.now user ino right }
@@ -244,6 +255,14 @@ impl Tree {
             Some(inode) => inode.holds(),
             None => 0,
         }
+    }
+
+    /// Whether two trees have the same nodes at the same numbers, with the serials of their entries;
+    /// holds and next numbers aside.
+    pub fn same(&self, other: &Tree) -> bool
+        ensures { IsTrue result ↔ (nodes self.now ≡ nodes other.now) }
+    {
+        self.store.same(&other.store)
     }
 
     /// The number that the next inode takes.
@@ -377,6 +396,24 @@ impl Tree {
         }
     }
 
+    /// Moves an entry, as rename(2) does: to a free name, or in place of an entry of its kind, whose
+    /// inode loses that name. Where both are names of one inode nothing changes.
+    pub fn rename(&mut self, dir: Ino, name: &[u8], to: Ino, new: &[u8]) -> Result<(), NoMemory>
+        requires lawful { IsLawfulMove self.old dir name.now to new.now }
+        requires serials { next_serial self.old to + 1 < 2 ^ 64 }
+        ensures ok { OnOk result (self.new ≡ renamed dir name.now to new.now self.old) }
+        ensures err { OnErr result (self.new ≡ self.old) }
+    {
+        match self.entry(dir, name) {
+            Some(ino) => match self.entry(to, new) {
+                Some(old) if old == ino => Ok(()),
+                Some(old) => self.move_onto(dir, name, to, new, ino, old),
+                None => self.move_to_free(dir, name, to, new, ino),
+            },
+            None => Ok(()),
+        }
+    }
+
     /// Moves an entry to a free name.
     fn move_to_free(
         &mut self,
@@ -404,6 +441,43 @@ impl Tree {
         self.store.add_entry(to, copy, ino, is_dir)?;
         self.store.remove_entry(dir, name, is_dir);
         self.store.stand(ino, standing);
+        Ok(())
+    }
+
+    /// Moves an entry to the name of another, which is no filled directory and of the same kind.
+    fn move_onto(
+        &mut self,
+        dir: Ino,
+        name: &[u8],
+        to: Ino,
+        new: &[u8],
+        ino: Ino,
+        old: Ino,
+    ) -> Result<(), NoMemory>
+        requires there { entry self.old dir name.now ≡ Some ino }
+        requires takes { body_is takes_names self.old to ≡ true }
+        requires well_formed { is_name new.now ≡ true }
+        requires named { entry self.old to new.now ≡ Some old }
+        requires apart { old ≢ ino }
+        requires alike { body_is is_directory self.old old ≡ body_is is_directory self.old ino }
+        requires empty { body_is is_filled self.old old ≡ false }
+        requires aside { body_is is_directory self.old ino ≡ true → ¬ IsBelow self.old ino to }
+        requires serials { next_serial self.old to + 1 < 2 ^ 64 }
+        ensures ok { OnOk result (self.new ≡ moved dir name.now to new.now ino (unlinked to new.now old self.old)) }
+        ensures err { OnErr result (self.new ≡ self.old) }
+    {
+        let is_dir = self.is_directory(ino);
+        let standing = Standing {
+            inode: to,
+            serial: self.next_serial(to),
+        };
+        self.store.replace_entry(to, new, ino, is_dir)?;
+        self.store.remove_name(old);
+        let freed = self.store.remove_if_unused(old);
+        self.store.remove_entry(dir, name, is_dir);
+        self.store.stand(ino, standing);
+        self.names -= 1;
+        self.bytes -= freed;
         Ok(())
     }
 
@@ -470,6 +544,38 @@ impl Tree {
         ensures { self.new ≡ owner_set ino uid gid self.old }
     {
         self.store.set_owner(ino, uid, gid);
+    }
+
+    /// The name under which a directory stands, and the inode above it.
+    fn step_up(&self, dir: Ino) -> Option<(&[u8], Ino)>
+        ensures { option_map (λ p. (p.0.now, p.1)) result ≡ step_up self.now dir }
+    {
+        let standing = self.store.get(dir)?.standing()?;
+        match self.store.get(standing.inode)?.at(standing.serial) {
+            Some((name, _ino)) => Some((name, standing.inode)),
+            None => None,
+        }
+    }
+
+    /// The host name of a directory, read from its end; nothing for the root.
+    fn name_backward(&self, dir: Ino) -> Result<Option<Vec<u8>>, NoMemory>
+        ensures { IfOk result (λ name. option_map (λ b. b.items) name ≡ option_map (λ text. reverse (below_root text)) (host_name self.now dir)) }
+    {
+        let mut backward = Vec::new(self.alloc);
+        let mut at = dir;
+        for _step in 0..self.next {
+            if at == ROOT {
+                return Ok(Some(backward));
+            }
+            match self.step_up(at) {
+                Some((name, up)) => {
+                    append_backward(&mut backward, name)?;
+                    at = up;
+                }
+                None => return Ok(None),
+            }
+        }
+        Ok(None)
     }
 
     /// Whether there is no room for one inode more, with a name and `size` bytes.

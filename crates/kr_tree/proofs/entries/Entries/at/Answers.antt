@@ -1,6 +1,4 @@
-use Rattle.std.proofs.Common.{◌∙◌, ap, sym, Some}
-use Rattle.std.specs.Option.{option_map}
-use Rattle.kr_tree.specs.Tree.{entry_at}
+use Rattle.std.proofs.Common.{sym}
 use Rattle.kr_tree.proofs.PairLemmas.{serial_found, serial_not_found, place_taken}
 use Rattle.kr_tree.proofs.entries.Entries.at.Goals as goal
 

@@ -1,6 +1,6 @@
 use Rattle.std.proofs.Common.{◌≡◌, ◌∙◌, [], ◌∷◌, refl, ap, sym, subst, length, List}
 use Rattle.kr_tree.specs.Tree.{Entry}
-use Rattle.kr_tree.specs.Entries.{Entries, placed}
+use Rattle.kr_tree.specs.Entries.{Entries}
 use Rattle.kr_tree.proofs.PairLemmas.{all_stand, length-placed}
 use Rattle.kr_tree.proofs.entries.Entries.is_empty.Goals as goal
 

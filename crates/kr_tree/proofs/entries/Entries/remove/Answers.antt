@@ -7,12 +7,12 @@ use Rattle.std.specs.List.Sorted.{IsStrictlySortedBy}
 use Rattle.std.specs.Map.{keys_of, lookup}
 use Rattle.std.specs.declared.alloc.Global.{Global}
 use Rattle.std.proofs.lemmas.Option.{same_Some}
-use Rattle.indexmap.specs.IndexMap.{IndexMap, swap_remove_entry}
+use Rattle.indexmap.specs.IndexMap.{swap_remove_entry}
 use Rattle.indexmap.proofs.MapLemmas.{Found-position, swap_remove_entry-found}
 use Rattle.kr_tree.specs.declared.entries.Slot.{Slot}
-use Rattle.kr_tree.specs.Tree.{Entry, entry_named}
+use Rattle.kr_tree.specs.Tree.{Entry}
 use Rattle.kr_tree.specs.Changes.{without_name}
-use Rattle.kr_tree.specs.Entries.{Entries, IsListed, IsPaired, placed, place_of}
+use Rattle.kr_tree.specs.Entries.{IsListed, IsPaired, placed, place_of}
 use Rattle.kr_tree.proofs.EntryLemmas.{listed-without}
 use Rattle.kr_tree.proofs.PairLemmas.{not_named, nothing_named}
 use Rattle.kr_tree.proofs.PlaceLemmas.{Sets, at_first, last_taken, inner_taken, moved_is_there}

@@ -1,8 +1,7 @@
-use Rattle.std.proofs.Common.{◌≡◌, ℕ, ◌+◌, ◌++◌, ◌∷◌, [], ◌∙◌, Bool, true, sym, ap, subst, List, Option, None, Some, is_some, length, slice_get, position, refl, arith}
+use Rattle.std.proofs.Common.{◌≡◌, ℕ, ◌+◌, ◌++◌, ◌∷◌, [], ◌∙◌, Bool, true, sym, ap, subst, List, Option, None, Some, is_some, slice_get, position, refl, arith}
 use Rattle.std.specs.Prelude.{Vec, bytes_eq}
-use Rattle.std.specs.List.{position_or_len}
 use Rattle.std.specs.Option.{IsSome, option_map}
-use Rattle.std.specs.Map.{keys_of, values_of, lookup}
+use Rattle.std.specs.Map.{keys_of, values_of}
 use Rattle.std.specs.declared.alloc.Global.{Global}
 use Rattle.std.proofs.lemmas.Option.{same_Some, slice_get-map}
 use Rattle.indexmap.specs.IndexMap.{set_value_at}

@@ -1,6 +1,6 @@
-use Rattle.std.proofs.Common.{◌≡◌, ◌∙◌, ap, sym, subst, length, List, arith}
-use Rattle.kr_tree.specs.Tree.{Entry, entry_after}
-use Rattle.kr_tree.specs.Entries.{Entries, RisesWithin, placed}
+use Rattle.std.proofs.Common.{◌≡◌, ◌∙◌, ap, sym, subst, length, arith}
+use Rattle.kr_tree.specs.Tree.{entry_after}
+use Rattle.kr_tree.specs.Entries.{Entries, RisesWithin}
 use Rattle.kr_tree.proofs.PairLemmas.{all_stand, length-placed}
 use Rattle.kr_tree.proofs.SameLemmas.{walked-start, walked-next, walked-all, walked-on, one_entry, none_tested}
 use Rattle.kr_tree.proofs.entries.Entries.same.Goals as goal
