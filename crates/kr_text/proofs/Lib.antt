@@ -1,10 +1,15 @@
 pub mod CanonicalRows
+pub mod DepthLemmas
 pub mod DrawnLemmas
 pub mod EscapeLemmas
+pub mod FirstLemmas
+pub mod FullPathLemmas
 pub mod LineLemmas
 pub mod LineRows
 pub mod NameLemmas
+pub mod NamesLemmas
 pub mod NumberLemmas
+pub mod OrderLemmas
 pub mod PieceLemmas
 pub mod ReadLemmas
 pub mod ReadingRows

@@ -2,7 +2,9 @@ pub mod Answers
 pub mod Canonical
 pub mod Drawn
 pub mod Fields
+pub mod FirstNames
 pub mod Lines
+pub mod Order
 pub mod Pieces
 pub mod Reading
 pub mod Results

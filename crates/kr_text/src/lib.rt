@@ -1,17 +1,22 @@
 //! The text form in which the tree comes in and goes out.
 #![tactic(auto)]
 
+mod canonical;
 mod escape;
 mod fault;
 mod line;
 mod listing;
+mod names;
 mod number;
+mod order;
 mod path;
 mod pieces;
 mod so_far;
 mod steps;
 mod walk;
+mod written;
 
+pub use canonical::write;
 pub use fault::{ListFault, TreeWhy};
 pub use listing::{read, wants_elf};
 

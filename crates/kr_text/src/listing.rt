@@ -110,7 +110,8 @@ fn source_bytes(elf: Option<&[u8]>) -> &[u8]
 
 /// Reads a listing: its tree and its user, or its first bad line. The bytes of the ELF source are
 /// those of the file of the line that begins with `x `, where there is one. In the tree nothing is
-/// held, and each number of an inode is one above that drawn before it.
+/// held, the inodes' numbers are those from 1 on, and each next number is one after the last: that of
+/// inodes, and in each directory that of serials, which begin at 3.
 pub fn read(alloc: Global, bytes: &[u8], elf: Option<&[u8]>) -> Result<(Tree, User), ListFault>
     requires { IsTrue (wants_elf bytes.now) → IsSome elf }
     ensures listing { IsListing (listing_of (unwrap_or (option_copied elf.entry) []) bytes.now) result }

@@ -6,4 +6,4 @@ use Rattle.kr_text.proofs.steps.link.Goals as goal
 pub returns-in-Ok-clause-drawn : goal.returns-in-Ok-clause-drawn
 returns-in-Ok-clause-drawn c =
     subst IsDrawn (sym c.in-Ok.ensures.ok)
-    (linked_drawn c.args.tree.now c.args.spot.dir c.args.file c.args.spot.name.now c.requires.drawn)
+    (linked_drawn c.args.tree.now c.args.spot.dir c.args.file c.args.spot.name.now c.requires.directory c.requires.drawn)

@@ -1,5 +1,4 @@
 use Rattle.std.proofs.Common.{sym, subst}
-use Rattle.kr_tree.specs.Stored.{body_of_new}
 use Rattle.kr_text.specs.Drawn.{IsDrawn}
 use Rattle.kr_text.proofs.DrawnLemmas.{put_drawn}
 use Rattle.kr_text.proofs.steps.put.Goals as goal
@@ -7,4 +6,4 @@ use Rattle.kr_text.proofs.steps.put.Goals as goal
 pub returns-in-Ok-clause-drawn : goal.returns-in-Ok-clause-drawn
 returns-in-Ok-clause-drawn c =
     subst IsDrawn (sym c.in-Ok.ensures.ok)
-    (put_drawn c.args.tree.now c.args.spot.dir c.args.spot.name.now c.args.owner.mode c.args.owner.uid c.args.owner.gid (body_of_new c.args.node) c.requires.directory c.is_kept.ensures.kept c.requires.drawn)
+    (put_drawn c.args.tree.now c.args.spot.dir c.args.spot.name.now c.args.owner.mode c.args.owner.uid c.args.owner.gid c.args.node c.requires.directory c.is_kept.ensures.kept c.requires.drawn)
