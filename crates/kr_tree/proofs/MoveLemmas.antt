@@ -14,6 +14,7 @@ use Rattle.kr_tree.specs.Lawful.{IsKept, IsSound, IsCounted, HasNoUnused, RisesT
 use Rattle.kr_tree.proofs.InodesLemmas.{get-with_same, get-with_other, len-with, stays-with, there-with, each-with, with-swap, with-twice, with-alike}
 use Rattle.kr_tree.proofs.EntryLemmas.{listed-new, listed-without, named_in, in_named, in_above, serial_alone, in_without, in_still, none-without, without-new, weighed, weighed-without}
 use Rattle.kr_tree.proofs.BodyLemmas.{entries-with_entries, standing-with_entries, is_directory-with_entries, is_listed-with_entries, takes-with_entries, with_entries-swap, bytes-with_entries, file-with_entries, entries-with_standing, standing-with_standing, is_directory-with_standing, is_listed-with_standing, bytes-with_standing, file-with_standing, stands-nowhere, takes-is_listed, takes-stands, listed-is_directory, entries-is_listed}
+use Rattle.kr_tree.proofs.NameLemmas.{listed_in, filled_directory}
 use Rattle.kr_tree.proofs.AddLemmas.{passing, none_of}
 use Rattle.kr_tree.proofs.CountLemmas.{value, sum-with, count-new, in-new, in-last, in-append, directories-same, directories-new, entries_there, there}
 use Rattle.kr_tree.proofs.RemoveLemmas.{weighed-count, weighed-directories, weighed-length, entry_found}
@@ -29,31 +30,19 @@ turns t k (Above {up = up} a r) away h =
     turns t up r (λ e. away (sym same ∙ e)) (ap (above t) same ∙ h ∙ ap Some (sym same))
 
 module _ (t : Tree) (sound : IsSound t) where
-  listed_in : (k : ℕ) (e : Entry) → IsIn e (entries t k) → (next : ℕ) × IsListed (record { list = entries t k; next = next })
-  listed_in k e is =
-      let x = entries_there t k e is in
-      let P : Option Inode → Type 0 = λ o. IsListed (record { list = option_map_or (λ z. entries_of z.node.body) o []; next = x.0.next_serial }) in
-      (x.0.next_serial, subst P (sym x.1) (sound.listed k x.0 x.1))
-
-  pub filled_directory : (k : ℕ) (e : Entry) → IsIn e (entries t k) → body_is is_directory t k ≡ true
-  filled_directory k e is =
-      let x = entries_there t k e is in
-      let P : Option Inode → Type 0 = λ o. IsIn e (option_map_or (λ z. entries_of z.node.body) o []) in
-      ap (λ o. option_map_or (λ z. is_directory z.node.body) o false) x.1 ∙ listed-is_directory x.0.node.body (entries-is_listed x.0.node.body e (subst P x.1 is))
-
   -- no entry stands for the root, nor for its own directory
-  pub entry_not_root : (k : ℕ) (e : Entry) → IsIn e (entries t k) → body_is is_directory t e.inode ≡ true → e.inode ≢ root
+  entry_not_root : (k : ℕ) (e : Entry) → IsIn e (entries t k) → body_is is_directory t e.inode ≡ true → e.inode ≢ root
   entry_not_root k e is dirs same =
       let stood = sound.alone k e is dirs in
       let both : ◌≡◌ {A = Option Standing} (Some (record { inode = k; serial = e.serial })) (Some (record { inode = root; serial = 0 })) = sym stood ∙ ap (standing t) same ∙ sound.rooted in
       let zero : e.serial ≡ 0 = ap (λ o. option_map_or (λ s. s.serial) o 0) both in
-      let list = listed_in k e is in
+      let list = listed_in t sound k e is in
       let low = in_above 2 list.0 (entries t k) e list.1.rises is in
       absurd (omega arith)
 
-  pub entry_not_itself : (k : ℕ) (e : Entry) → IsIn e (entries t k) → e.inode ≢ k
+  entry_not_itself : (k : ℕ) (e : Entry) → IsIn e (entries t k) → e.inode ≢ k
   entry_not_itself k e is same =
-      let dirs : body_is is_directory t k ≡ true = filled_directory k e is in
+      let dirs : body_is is_directory t k ≡ true = filled_directory t sound k e is in
       let stood : standing t k ≡ Some (record { inode = k; serial = e.serial }) = ap (standing t) (sym same) ∙ sound.alone k e is (ap (body_is is_directory t) same ∙ dirs) in
       turns t k (sound.rises k dirs) (λ r. entry_not_root k e is (ap (body_is is_directory t) same ∙ dirs) (same ∙ r)) (ap (option_map (λ s. s.inode)) stood)
 

@@ -107,14 +107,14 @@ host_name-step n t dir away =
 
 module _ (t : Tree) (sound : IsSound t) where
   -- the entries of a directory are listed
-  listed_in : (k : ℕ) (e : Entry) → IsIn e (entries t k) → (next : ℕ) × IsListed (record { list = entries t k; next = next })
+  pub listed_in : (k : ℕ) (e : Entry) → IsIn e (entries t k) → (next : ℕ) × IsListed (record { list = entries t k; next = next })
   listed_in k e is =
       let x = entries_there t k e is in
       let P : Option Inode → Type 0 = λ o. IsListed (record { list = option_map_or (λ z. entries_of z.node.body) o []; next = x.0.next_serial }) in
       (x.0.next_serial, subst P (sym x.1) (sound.listed k x.0 x.1))
 
   -- what has an entry is a directory
-  filled_directory : (k : ℕ) (e : Entry) → IsIn e (entries t k) → body_is is_directory t k ≡ true
+  pub filled_directory : (k : ℕ) (e : Entry) → IsIn e (entries t k) → body_is is_directory t k ≡ true
   filled_directory k e is =
       let x = entries_there t k e is in
       let P : Option Inode → Type 0 = λ o. IsIn e (option_map_or (λ z. entries_of z.node.body) o []) in

@@ -146,6 +146,7 @@ impl Tree {
     pub fn is_below(&self, top: Ino, dir: Ino) -> bool
         ensures { IsTrue result ↔ IsBelow self.now top dir }
     {
+        // No directory is met twice on the way up, so it has fewer steps than numbers were drawn.
         let mut at = dir;
         for _step in 0..self.next {
             if at == top {
@@ -213,6 +214,16 @@ impl Tree {
     {
         match self.store.get(dir) {
             Some(inode) => inode.is_filled(),
+            None => false,
+        }
+    }
+
+    /// Whether an inode is a directory, as the process directory is.
+    pub fn is_directory(&self, ino: Ino) -> bool
+        ensures { result ≡ body_is is_directory self.now ino }
+    {
+        match self.store.get(ino) {
+            Some(inode) => inode.is_directory(),
             None => false,
         }
     }
@@ -437,6 +448,7 @@ impl Tree {
             inode: to,
             serial: self.next_serial(to),
         };
+        // The new entry first: it alone wants memory.
         let copy = self.copy(new)?;
         self.store.add_entry(to, copy, ino, is_dir)?;
         self.store.remove_entry(dir, name, is_dir);
@@ -444,7 +456,8 @@ impl Tree {
         Ok(())
     }
 
-    /// Moves an entry to the name of another, which is no filled directory and of the same kind.
+    /// Moves an entry to the name of another, which is a directory without entries where the one that
+    /// is moved is a directory, and none where it isn't. The inode that had the name loses it.
     fn move_onto(
         &mut self,
         dir: Ino,
@@ -471,6 +484,7 @@ impl Tree {
             inode: to,
             serial: self.next_serial(to),
         };
+        // The new entry first: it alone wants memory.
         self.store.replace_entry(to, new, ino, is_dir)?;
         self.store.remove_name(old);
         let freed = self.store.remove_if_unused(old);
@@ -561,6 +575,7 @@ impl Tree {
     fn name_backward(&self, dir: Ino) -> Result<Option<Vec<u8>>, NoMemory>
         ensures { IfOk result (λ name. option_map (λ b. b.items) name ≡ option_map (λ text. reverse (below_root text)) (host_name self.now dir)) }
     {
+        // No directory is met twice on the way up, so it has fewer steps than numbers were drawn.
         let mut backward = Vec::new(self.alloc);
         let mut at = dir;
         for _step in 0..self.next {
@@ -586,16 +601,6 @@ impl Tree {
         COUNT_LIMIT as usize <= self.store.len()
             || COUNT_LIMIT <= self.names
             || BYTE_LIMIT < self.bytes + size
-    }
-
-    /// Whether an inode is a directory, as the process directory is.
-    pub fn is_directory(&self, ino: Ino) -> bool
-        ensures { result ≡ body_is is_directory self.now ino }
-    {
-        match self.store.get(ino) {
-            Some(inode) => inode.is_directory(),
-            None => false,
-        }
     }
 
     /// How many bytes an inode has.
