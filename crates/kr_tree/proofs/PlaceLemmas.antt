@@ -1,11 +1,12 @@
 -- Names and places after a name was added, taken away or given another serial.
-use Rattle.std.proofs.Common.{◌≡◌, ◌≢◌, ◌⊎◌, inl, inr, subst, zero, suc, ◌≤◌, length, get_or, take, set, slice_get, ℕ, ◌+◌, ◌-◌, ◌<◌, Bool, true, false, not, cond, List, [], ◌∷◌, ◌++◌, refl, sym, ap, ◌∙◌, arith, Some, None, Option, Vec, eq-eqb}
+use Rattle.std.proofs.Common.{◌≡◌, ◌≢◌, ◌⊎◌, inl, inr, subst, zero, suc, ◌≤◌, length, get_or, take, set, slice_get, ℕ, ◌+◌, ◌-◌, ◌<◌, Bool, true, false, not, cond, List, [], ◌∷◌, ◌++◌, refl, sym, ap, ◌∙◌, arith, Some, None, Option, Vec, eq-eqb, position}
 use Rattle.std.specs.Prelude.{bytes_eq, swap_remove}
 use Rattle.std.specs.Option.{IsSome, option_map}
 use Rattle.std.specs.List.{IsDistinct, position_or_len}
 use Rattle.std.specs.List.Sorted.{IsStrictlySortedBy}
 use Rattle.std.specs.Ordering.{nat_cmp}
 use Rattle.indexmap.specs.IndexMap.{set_value_at}
+use Rattle.indexmap.proofs.MapLemmas.{Found-position}
 use Rattle.std.specs.Map.{keys_of, lookup}
 use Rattle.std.specs.BTreeMap.{is_at}
 use Rattle.std.proofs.lemmas.Bool.{cases_eq, cases_lt, ne_eqb}
@@ -102,7 +103,7 @@ module _ {K X : Type 0} where
   set_here (e ∷ es) (suc i) w x at = set_here es i w x at
 
 -- what stands at the place of the first key that passes a test
-pub at_first : {K X : Type 0} (test : K → Bool) (es : List (K × X)) → position_or_len test (keys_of es) < length es
+at_first : {K X : Type 0} (test : K → Bool) (es : List (K × X)) → position_or_len test (keys_of es) < length es
     → (x : K × X) × (slice_get es (position_or_len test (keys_of es)) ≡ Some x) × (test x.0 ≡ true) × (lookup test es ≡ Some x.1)
 at_first test [] l = absurd (omega arith)
 at_first {K} {X} test (e ∷ es) l =
@@ -111,6 +112,16 @@ at_first {K} {X} test (e ∷ es) l =
       | true ↦ λ is _. (e, refl, is, refl)
       | false ↦ λ _ l. let rest = at_first test es (omega arith) in let n = position_or_len test (keys_of es) in let next : 1 + n ≡ suc n = omega arith in (rest.0, ap (slice_get (e ∷ es)) next ∙ rest.1, rest.2, rest.3)
     ] refl l
+
+-- what stands at the place of a key that is found
+pub at_position : {K X : Type 0} (test : K → Bool) (es : List (K × X)) (i : ℕ) → position test (keys_of es) ≡ Some i
+    → (x : K × X) × (slice_get es i ≡ Some x) × (test x.0 ≡ true) × (lookup test es ≡ Some x.1)
+at_position test es i is =
+    let first = Found-position test es i is in
+    let within = first.within in
+    let same = first.or_len in
+    let x = at_first test es (omega (arith, within, same)) in
+    (x.0, ap (slice_get es) (sym same) ∙ x.1, x.2, x.3)
 
 -- ---- places under serials, after a change
 

@@ -1,4 +1,4 @@
-use Rattle.std.proofs.Common.{◌≡◌, ℕ, ◌-◌, ◌∙◌, Bool, true, sym, ap, subst, List, Option, None, Some, length, slice_get, position, refl, arith}
+use Rattle.std.proofs.Common.{◌≡◌, ℕ, ◌-◌, ◌∙◌, Bool, true, sym, ap, subst, List, Option, None, Some, length, slice_get, position, refl}
 use Rattle.std.specs.Prelude.{Vec, bytes_eq, swap_remove}
 use Rattle.std.specs.Borrow.{MutBor}
 use Rattle.std.specs.Option.{IsSome, option_copied_mut}
@@ -8,14 +8,14 @@ use Rattle.std.specs.Map.{keys_of, lookup}
 use Rattle.std.specs.declared.alloc.Global.{Global}
 use Rattle.std.proofs.lemmas.Option.{same_Some}
 use Rattle.indexmap.specs.IndexMap.{swap_remove_entry}
-use Rattle.indexmap.proofs.MapLemmas.{Found-position, swap_remove_entry-found}
+use Rattle.indexmap.proofs.MapLemmas.{swap_remove_entry-found}
 use Rattle.kr_tree.specs.declared.entries.Slot.{Slot}
 use Rattle.kr_tree.specs.Tree.{Entry}
 use Rattle.kr_tree.specs.Changes.{without_name}
 use Rattle.kr_tree.specs.Entries.{IsListed, IsPaired, placed, place_of}
 use Rattle.kr_tree.proofs.EntryLemmas.{listed-without}
 use Rattle.kr_tree.proofs.PairLemmas.{not_named, nothing_named}
-use Rattle.kr_tree.proofs.PlaceLemmas.{Sets, at_first, last_taken, inner_taken, moved_is_there}
+use Rattle.kr_tree.proofs.PlaceLemmas.{Sets, at_position, last_taken, inner_taken, moved_is_there}
 use Rattle.kr_tree.proofs.entries.Entries.remove.Goals as goal
 
 -- what stood at the place that was found
@@ -27,12 +27,9 @@ stood : (name : List ℕ) (es ns : List (Vec ℕ Global × Slot)) (i : ℕ) (slo
     → Some slot ≡ lookup (λ (k : Vec ℕ Global). bytes_eq name k.items) es → ns ≡ swap_remove_entry (λ (k : Vec ℕ Global). bytes_eq name k.items) es → Stood name es ns i slot
 stood name es ns i slot index value entries =
     let test : Vec ℕ Global → Bool = λ k. bytes_eq name k.items in
-    let first = Found-position test es i (sym index) in
-    let within = first.within in
-    let is = first.or_len in
-    let x = at_first test es (omega (arith, within, is)) in
+    let x = at_position test es i (sym index) in
     record {
-      at = (x.0, ap (slice_get es) (sym is) ∙ x.1, x.2, same_Some slot x.0.1 (value ∙ x.3));
+      at = (x.0, x.1, x.2, same_Some slot x.0.1 (value ∙ x.3));
       after = entries ∙ swap_remove_entry-found test es i x.0 (sym index);
     }
 

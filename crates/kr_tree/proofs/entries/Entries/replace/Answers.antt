@@ -1,30 +1,24 @@
-use Rattle.std.proofs.Common.{◌≡◌, ℕ, ◌+◌, ◌++◌, ◌∷◌, [], ◌∙◌, Bool, true, sym, ap, subst, List, Option, None, Some, is_some, slice_get, position, refl, arith}
+use Rattle.std.proofs.Common.{◌≡◌, ℕ, ◌+◌, ◌++◌, ◌∷◌, [], ◌∙◌, true, sym, ap, subst, List, Option, None, Some, is_some, slice_get, position, refl}
 use Rattle.std.specs.Prelude.{Vec, bytes_eq}
 use Rattle.std.specs.Option.{IsSome, option_map}
 use Rattle.std.specs.Map.{keys_of, values_of}
 use Rattle.std.specs.declared.alloc.Global.{Global}
 use Rattle.std.proofs.lemmas.Option.{same_Some, slice_get-map}
 use Rattle.indexmap.specs.IndexMap.{set_value_at}
-use Rattle.indexmap.proofs.MapLemmas.{Found-position}
 use Rattle.kr_tree.specs.declared.entries.Slot.{Slot}
 use Rattle.kr_tree.specs.Tree.{Entry, entry_named}
 use Rattle.kr_tree.specs.Changes.{without_name}
 use Rattle.kr_tree.specs.Entries.{Entries, IsListed, IsPaired, placed, place_of, slot_of, with_new, without}
 use Rattle.kr_tree.proofs.PairLemmas.{found}
-use Rattle.kr_tree.proofs.PlaceLemmas.{Sets, at_first, listed-replaced, replaced}
+use Rattle.kr_tree.proofs.PlaceLemmas.{Sets, at_position, listed-replaced, replaced}
 use Rattle.kr_tree.proofs.entries.Entries.replace.Goals as goal
 
 -- what stands at the place that was found
 stands : (name : List ℕ) (es : List (Vec ℕ Global × Slot)) (i : ℕ) (slot : Slot) → Some i ≡ position (λ (k : Vec ℕ Global). bytes_eq name k.items) (keys_of es) → slice_get (values_of es) i ≡ Some slot
     → (x : Vec ℕ Global × Slot) × (slice_get es i ≡ Some x) × (bytes_eq name x.0.items ≡ true) × (slot ≡ x.1)
 stands name es i slot index value =
-    let test : Vec ℕ Global → Bool = λ k. bytes_eq name k.items in
-    let first = Found-position test es i (sym index) in
-    let within = first.within in
-    let is = first.or_len in
-    let x = at_first test es (omega (arith, within, is)) in
-    let at : slice_get es i ≡ Some x.0 = ap (slice_get es) (sym is) ∙ x.1 in
-    (x.0, at, x.2, same_Some slot x.0.1 (sym value ∙ slice_get-map (λ (e : Vec ℕ Global × Slot). e.1) es i ∙ ap (option_map (λ (e : Vec ℕ Global × Slot). e.1)) at))
+    let x = at_position (λ (k : Vec ℕ Global). bytes_eq name k.items) es i (sym index) in
+    (x.0, x.1, x.2, same_Some slot x.0.1 (sym value ∙ slice_get-map (λ (e : Vec ℕ Global × Slot). e.1) es i ∙ ap (option_map (λ (e : Vec ℕ Global × Slot). e.1)) x.1))
 
 is_slot : (o : Option Entry) → is_some (option_map slot_of o) ≡ is_some o
 is_slot None = refl
