@@ -1,6 +1,6 @@
 use Rattle.std.proofs.Common.{arith}
 use Rattle.kr_files.proofs.ServedLemmas.{served-open}
-use Rattle.kr_files.proofs.tests.Guest.open.Goals as goal
+use Rattle.kr_files.proofs.guest.Guest.open.Goals as goal
 
 pub invariant_of-self : goal.invariant_of-self
 invariant_of-self c =

@@ -2,7 +2,7 @@ use Rattle.std.proofs.Common.{◌∙◌, sym, ap, not, is_some}
 use Rattle.std.specs.FinMap as map
 use Rattle.kr_files.specs.declared.descs.Descriptor.{Descriptor}
 use Rattle.kr_files.proofs.ServedLemmas.{some_told, served-room, served-dup}
-use Rattle.kr_files.proofs.tests.Guest.dup.Goals as goal
+use Rattle.kr_files.proofs.guest.Guest.dup.Goals as goal
 
 pub dup-requires-clause-counts : goal.dup-requires-clause-counts
 dup-requires-clause-counts c = served-room c.self.inside.files c.self.inside.descs c.self.inside.calls c.self.invariant c.args.fd

@@ -2,7 +2,7 @@ use Rattle.std.proofs.Common.{◌∙◌, sym, ap, not, is_some, false, arith}
 use Rattle.std.specs.FinMap as map
 use Rattle.kr_files.specs.declared.descs.Descriptor.{Descriptor}
 use Rattle.kr_files.proofs.ServedLemmas.{some_told, served-room, served-dup_to}
-use Rattle.kr_files.proofs.tests.Guest.dup_to.Goals as goal
+use Rattle.kr_files.proofs.guest.Guest.dup_to.Goals as goal
 
 pub dup_to-requires-clause-counts : goal.dup_to-requires-clause-counts
 dup_to-requires-clause-counts c = served-room c.self.inside.files c.self.inside.descs c.self.inside.calls c.self.invariant c.args.fd
