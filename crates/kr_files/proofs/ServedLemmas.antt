@@ -1,6 +1,6 @@
 -- A process on a table of its own stays served, whatever a call answers.
 use Rattle.std.specs.FinMap as map
-use Rattle.std.proofs.Common.{◌≡◌, ◌≢◌, ◌≤◌, ◌<◌, ◌+◌, ◌-◌, ◌*◌, ◌^◌, inl, inr, subst, ℕ, zero, suc, Bool, true, false, nat_lt, is_some, refl, sym, ap, ◌∙◌, arith, cond, Option, Some, None}
+use Rattle.std.proofs.Common.{◌≡◌, ◌≢◌, ◌≤◌, ◌<◌, ◌+◌, ◌-◌, ◌*◌, ◌^◌, inl, inr, subst, ℕ, zero, suc, Bool, true, false, nat_lt, is_some, refl, sym, ap, ◌∙◌, arith, cond, List, Option, Some, None}
 use Rattle.std.specs.Prelude.{◌==◌, IsSome, Result, Ok, Err, IfOk, OnOk, OnErr}
 use Rattle.std.specs.Option.{option_map, option_map_or, option_and_then}
 use Rattle.pr_base.specs.declared.memory.NoMemory.{NoMemory}
@@ -11,14 +11,14 @@ use Rattle.std.proofs.lemmas.Bool.{cases_eq}
 use Rattle.kr_files.specs.declared.descs.Descriptor.{Descriptor}
 use Rattle.kr_files.specs.declared.opened.Opened.{Opened}
 use Rattle.kr_files.specs.declared.opened.FilesRefusal.{FilesRefusal}
-use Rattle.kr_files.specs.Descriptors.{Descriptors, Named, Meanings, meanings, named_below, lowest_free, lowest_pair, with_copy_at, with_cloexec}
-use Rattle.kr_files.specs.Files.{Counted, Kept, Table, FitsCopies, closed, without_file, Gives, GivesPair, empty_table, with_file, with_pipe, on_table, on_opened, with_opened, by_descriptor, copied, released, count_at}
+use Rattle.kr_files.specs.Descriptors.{Descriptors, Named, Meanings, meanings, named_below, lowest_free, lowest_pair, with_copy_at, with_cloexec, named_count}
+use Rattle.kr_files.specs.Files.{Counted, Kept, Table, FitsCopies, NamesOpenFiles, with_copies, with_all_opened, with_bytes, closed, without_file, Gives, GivesPair, empty_table, with_file, with_pipe, on_table, on_opened, with_opened, by_descriptor, copied, released, count_at}
 use Rattle.kr_files.specs.Maps.{changed}
 use Rattle.kr_files.specs.Served.{IsServed}
 use Rattle.kr_files.specs.Serves.{Serves}
-use Rattle.kr_files.proofs.MapLemmas.{same_values, by_key, get-insert_same, get-insert_other, get-remove_same, get-remove_other, get-changed_same, get-changed_other}
+use Rattle.kr_files.proofs.MapLemmas.{same_values, by_key, get-insert_same, get-insert_other, get-remove_same, get-remove_other, get-changed_same, get-changed_other, get-mapped}
 use Rattle.kr_files.proofs.DescriptorLemmas.{IsLowestFree, lowest_free-some}
-use Rattle.kr_files.proofs.ServesLemmas.{one_at, serves-empty, serves-same, serves-add, serves-raise, serves-close, serves-put, serves-room}
+use Rattle.kr_files.proofs.ServesLemmas.{one_at, serves-empty, serves-same, serves-add, serves-raise, serves-close, serves-put, serves-room, serves-fork, names-close}
 use Rattle.kr_files.proofs.OpenFileLemmas.{value_of}
 
 here_small : (d : Meanings) (n k : ℕ) → option_map_or (λ (x : Named). cond (x.number == n) 1 0) (map.get d k) 0 ≤ 1
@@ -165,6 +165,49 @@ module _ {M : Type 0} where
 
         pipe_kept : (x : Descriptor) → (released x f).table.last_pipe ≡ f.table.last_pipe
         pipe_kept x = (closed_last f.table x.number).1
+
+    -- what another process names stays open where its copy of a descriptor is closed
+    pub served-fork_close : (g k : Kept M) (e : Descriptors) (fd : ℕ) → g ≡ on_table (with_copies (meanings d)) f → e ≡ d → IsSome (map.get e fd) → k ≡ by_descriptor e fd released g → NamesOpenFiles k d
+    served-fork_close g k e fd forked same there files =
+        let x = value_of (map.get d fd) (subst (λ m. IsSome (map.get m fd)) same there) in
+        let forked_ = on_table (with_copies (meanings d)) f in
+        let is = files ∙ ap (λ m. by_descriptor m fd released g) same ∙ ap (λ o. option_map_or (λ (y : Descriptor). released y g) o g) x.1 ∙ ap (released x.0) forked in
+        let both = serves-fork f d (λ _. 0) s.serves in
+        subst (λ m. NamesOpenFiles m d) (sym is)
+        (names-close forked_ d (λ n. 0 + named_count (meanings d) n) both fd x.0 x.1 d s.serves.names (λ q y at. (s.serves.below q y at).0) (λ n. omega arith))
+
+    -- a call that opens and closes nothing
+    pub served-kept : (g : Kept M) → g.keys ≡ f.keys → g.table.last_file ≡ f.table.last_file → g.table.last_pipe ≡ f.table.last_pipe
+        → ((n : ℕ) → option_map (λ (h : Counted M). h.count) (map.get g.table.files n) ≡ option_map (λ (h : Counted M). h.count) (map.get f.table.files n)) → IsServed g d calls
+    served-kept g keys last pipes counts = record {
+      serves = serves-same f d (λ _. 0) s.serves g keys last counts;
+      files = subst (λ n. n ≤ 2 * calls) (sym last) s.files;
+      pipes = subst (λ n. n ≤ calls) (sym pipes) s.pipes;
+      few = s.few;
+    }
+
+    -- names changed
+    pub served-all_changed : (change : Opened M → Opened M) → IsServed (on_table (with_all_opened change) f) d calls
+    served-all_changed change =
+        served-kept (on_table (with_all_opened change) f) refl refl refl
+        (λ n. ap (option_map (λ (h : Counted M). h.count)) (get-mapped (λ q. on_opened change) f.table.files n) ∙ kept (map.get f.table.files n))
+      where
+        kept : (o : Option (Counted M)) → option_map (λ (h : Counted M). h.count) (option_map (on_opened change) o) ≡ option_map (λ (h : Counted M). h.count) o
+        kept None = refl
+        kept (Some h) = refl
+
+    -- bytes went through a pipe
+    pub served-bytes : (p : ℕ) (change : List ℕ → List ℕ) → IsServed (on_table (λ t. option_map_or (λ bytes. with_bytes p (change bytes) t) (map.get t.pipes p) t) f) d calls
+    served-bytes p change = of_pipe (map.get f.table.pipes p)
+      where
+        of_pipe : (o : Option (List ℕ)) → IsServed (record { keys = f.keys; table = option_map_or (λ bytes. with_bytes p (change bytes) f.table) o f.table }) d calls
+        of_pipe None = s
+        of_pipe (Some bytes) = served-kept (record { keys = f.keys; table = with_bytes p (change bytes) f.table }) refl refl refl (λ n. refl)
+
+    -- a change that is made or refused
+    pub served-if_ok : {T E : Type 0} (g : Kept M) (r : Result T E) (change : Table M → Table M) → IsServed (on_table change f) d calls → OnOk r (g ≡ on_table change f) → OnErr r (g ≡ f) → IsServed g d calls
+    served-if_ok g (Ok x) change then_ ok err = subst (λ k. IsServed k d calls) (sym ok) then_
+    served-if_ok g (Err x) change then_ ok err = subst (λ k. IsServed k d calls) (sym err) s
 
     -- what is open changed, and no count
     pub served-changed : (g : Kept M) (fd : ℕ) (change : Opened M → Opened M) → g ≡ by_descriptor d fd (λ x. on_table (with_opened x.number change)) f → IsServed g d calls

@@ -9,9 +9,9 @@ use Rattle.std.proofs.lemmas.Bool.Decides.{nat_tests}
 use Rattle.std.proofs.lemmas.Option.{same_Some, none-some}
 use Rattle.kr_files.specs.declared.descs.Descriptor.{Descriptor}
 use Rattle.kr_files.specs.Descriptors.{Descriptors, Named, meanings, named_below, named_count}
-use Rattle.kr_files.specs.Files.{Counted, Kept, counted_more, copied, released, closed, without_file}
+use Rattle.kr_files.specs.Files.{Counted, Kept, NamesOpenFiles, counted_more, copied, on_table, released, closed, with_copies, without_file}
 use Rattle.kr_files.specs.Serves.{Serves}
-use Rattle.kr_files.proofs.MapLemmas.{same_values, by_key, get-insert_same, get-insert_other, get-remove_same, get-remove_other, get-changed_same, get-changed_other}
+use Rattle.kr_files.proofs.MapLemmas.{same_values, by_key, get-insert_same, get-insert_other, get-remove_same, get-remove_other, get-changed_same, get-changed_other, get-mapped}
 use Rattle.kr_files.proofs.SoundLemmas.{equal_same, equal_other}
 use Rattle.kr_files.proofs.CountLemmas.{named_here, get-meanings, none-meanings}
 
@@ -206,6 +206,42 @@ module _ {M : Type 0} where
                 }
               ] refl
         ] refl
+
+    -- what others name stays open where a descriptor is closed
+    pub names-close : (fd : ℕ) (x : Descriptor) → map.get d fd ≡ Some x
+        → (e : Descriptors) → NamesOpenFiles f e → ((q : ℕ) (y : Descriptor) → map.get e q ≡ Some y → q < 1024) → ((n : ℕ) → named_count (meanings e) n ≤ others n)
+        → NamesOpenFiles (released x f) e
+    names-close fd x here e names below many q y at =
+        elim (map.get f.table.files x.number) as (λ o. map.get f.table.files x.number ≡ o
+        → map.get (cond (option_map_or (λ (h : Counted M). not (nat_lt 1 h.count)) o false) (map.remove f.keys x.key) f.keys) y.key ≡ Some y.number) [
+          | None ↦ λ _. names q y at
+          | Some h ↦ λ there. elim (nat_lt 1 h.count) as (λ b. nat_lt 1 h.count ≡ b → map.get (cond (not b) (map.remove f.keys x.key) f.keys) y.key ≡ Some y.number) [
+            | true ↦ λ _. names q y at
+            | false ↦ λ few.
+                let away : y.key ≢ x.key = λ same.
+                let number : y.number ≡ x.number = same_Some y.number x.number (sym (names q y at) ∙ ap (map.get f.keys) same ∙ s.names fd x here) in
+                let one = count-some d fd x here (s.below fd x here).0 in
+                let two = subst (λ m. 1 ≤ named_count (meanings e) m) number (count-some e q y at (below q y at)) in
+                let small : h.count ≤ 1 = grind (arith, nat_tests) in
+                omega (arith, s.counted x.number h there, one, two, many x.number, small) in
+                get-remove_other f.keys x.key y.key away ∙ names q y at
+          ] refl
+        ] refl
+
+    -- a copy of all descriptors, which is another process's
+    pub serves-fork : Serves (on_table (with_copies (meanings d)) f) d (λ n. others n + named_count (meanings d) n)
+    serves-fork = record {
+      names = s.names;
+      below = s.below;
+      counted = λ n k at. copied_count n k (map.get f.table.files n) refl (sym (get-mapped (λ m. counted_more (named_count (meanings d) m)) f.table.files n) ∙ at);
+    }
+      where
+        copied_count : (n : ℕ) (k : Counted M) (o : Option (Counted M)) → map.get f.table.files n ≡ o → option_map (counted_more (named_count (meanings d) n)) o ≡ Some k
+            → k.count ≡ named_count (meanings d) n + (others n + named_count (meanings d) n)
+        copied_count n k None e c = absurd (none-some k c)
+        copied_count n k (Some h) e c =
+            let is : h.count + named_count (meanings d) n ≡ k.count = ap (λ (y : Counted M). y.count) (same_Some (counted_more (named_count (meanings d) n) h) k c) in
+            omega (arith, is, s.counted n h e)
 
     -- the count of what a descriptor names, where nothing else names it
     pub serves-room : ((n : ℕ) → others n ≡ 0) → (n : ℕ) (h : Counted M) → map.get f.table.files n ≡ Some h → h.count ≡ named_count (meanings d) n

@@ -14,4 +14,6 @@ pub use files::Files;
 pub use opened::{FilesRefusal, Moved, Opened, PipeState, What, Wrote};
 
 #[cfg(test)]
+mod guest;
+#[cfg(test)]
 mod tests;

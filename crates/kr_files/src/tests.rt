@@ -1,123 +1,14 @@
-ghost use Rattle.std.specs.Prelude.{IsTrue, IfOk};
-ghost use Rattle.kr_files.specs.Opened.{is_no_end};
-
-use crate::{Descs, Files, FilesRefusal, Moved, Opened, What, Wrote};
-use kr_tree::{Host, Place};
-use pr_base::{Bytes, NoMemory};
-use std::alloc::Global;
-use std::marker::Model;
+use crate::guest::{Guest, file};
+use crate::{Descs, FilesRefusal, Moved, Wrote};
+use std::process::Abort;
 use std::test::Fail;
 
-/// A process on a table of its own. Each method makes the call where its conditions hold.
-#[derive(Drop)]
-struct Guest {
-    files: Files<u32>,
-    descs: Descs,
-    calls: u32,
-}
-
-impl Model for Guest {
-    ghost use Rattle.std.specs.Prelude.{ℕ};
-    ghost use Rattle.kr_files.specs.Served.{IsServed};
-
-    ghost Value = { ℕ };
-
-    ghost view = { λ g. g.calls };
-
-    ghost invariant = { λ g. IsServed g.files g.descs g.calls };
-}
-
-impl Guest {
-    fn new(alloc: Global) -> Guest {
-        Guest {
-            files: Files::new(alloc),
-            descs: Descs::new(alloc),
-            calls: 0,
-        }
+/// The bytes that were read.
+fn is_read(answer: Option<Result<Moved, pr_base::NoMemory>>, bytes: &[u8]) -> bool {
+    match answer {
+        Some(Ok(Moved::Bytes(moved))) => moved.as_slice() == bytes,
+        _ => false,
     }
-
-    fn open(&mut self, o: Opened<u32>, from: u32, cloexec: bool) -> Result<u32, FilesRefusal>
-        requires { IsTrue (is_no_end o.what) }
-    {
-        if self.calls >= 10_000 {
-            return Err(FilesRefusal::NoMemory);
-        }
-        self.calls += 1;
-        self.files.open(&mut self.descs, o, from, cloexec)
-    }
-
-    fn dup(&mut self, fd: u32, from: u32, cloexec: bool) -> Option<Result<u32, FilesRefusal>> {
-        if self.descs.cloexec(fd).is_none() {
-            return None;
-        }
-        Some(self.files.dup(&mut self.descs, fd, from, cloexec))
-    }
-
-    fn dup_to(&mut self, fd: u32, to: u32) -> Option<Result<(), NoMemory>> {
-        if self.descs.cloexec(fd).is_none() || to >= 1024 || to == fd {
-            return None;
-        }
-        Some(self.files.dup_to(&mut self.descs, fd, to, false))
-    }
-
-    fn close(&mut self, fd: u32) -> bool {
-        if self.descs.cloexec(fd).is_none() {
-            return false;
-        }
-        self.files.close(&mut self.descs, fd);
-        true
-    }
-
-    fn seek(&mut self, fd: u32, at: u64) -> bool {
-        if self.descs.cloexec(fd).is_none() {
-            return false;
-        }
-        self.files.seek(&self.descs, fd, at);
-        true
-    }
-
-    fn set_append(&mut self, fd: u32) -> bool {
-        if self.descs.cloexec(fd).is_none() {
-            return false;
-        }
-        self.files.set_append(&self.descs, fd, true);
-        true
-    }
-
-    /// Where the open file of a descriptor stands, and whether it appends.
-    fn state(&self, fd: u32) -> Option<(u64, bool)> {
-        let opened = self.files.get(&self.descs, fd)?;
-        Some((opened.at, opened.append))
-    }
-
-    // The flag of a descriptor of the child.
-    fn fork_and_look(self, fd: u32) -> Option<bool> {
-        let Guest {
-            mut files,
-            descs,
-            calls: _,
-        } = self;
-        let child = files.fork(&descs).ok()?;
-        child.cloexec(fd)
-    }
-}
-
-fn file(alloc: Global, name: &[u8]) -> Result<Opened<u32>, NoMemory>
-    ensures { IfOk result (λ o. IsTrue (is_no_end o.what)) }
-{
-    Ok(Opened {
-        place: Some(Place {
-            mount: 0,
-            host: Host::Node(7),
-        }),
-        dir: 5,
-        name: Bytes::copy(alloc, name)?,
-        what: What::File,
-        read: true,
-        write: true,
-        append: false,
-        at: 0,
-    })
 }
 
 #[test]
@@ -127,7 +18,40 @@ fn the_lowest_free_descriptor_is_taken(rt: HostRuntime) -> Result<(), Fail> {
     assert_eq!(rt; guest.dup(2, 0, false), Some(Ok(0)));
     assert_eq!(rt; guest.dup(2, 1024, false), Some(Err(FilesRefusal::Full)));
     assert_eq!(rt; guest.dup_to(0, 5), Some(Ok(())));
-    assert_eq!(rt; guest.fork_and_look(2), Some(true));
+    assert_eq!(rt; guest.fork_and_close(2), Some((true, 0)));
+    Ok(())
+}
+
+#[test]
+fn a_descriptor_closed_in_the_middle_is_free(rt: HostRuntime) -> Result<(), Fail> {
+    let mut guest = Guest::new(rt.alloc());
+    for fd in 0..5 {
+        assert_eq!(rt; guest.open(file(rt.alloc(), b"f")?, 0, false), Ok(fd));
+    }
+    assert!(rt; guest.close(1));
+    assert!(rt; guest.close(3));
+    assert_eq!(rt; guest.dup(0, 2, false), Some(Ok(3)));
+    assert_eq!(rt; guest.dup(0, 0, false), Some(Ok(1)));
+    assert_eq!(rt; guest.dup(0, 0, false), Some(Ok(5)));
+    Ok(())
+}
+
+#[test]
+fn there_are_at_most_1024_descriptors(rt: HostRuntime) -> Result<(), Fail> {
+    let mut guest = Guest::new(rt.alloc());
+    assert_eq!(rt; guest.open(file(rt.alloc(), b"f")?, 0, false), Ok(0));
+    for fd in 1..1023 {
+        assert_eq!(rt; guest.dup(0, 0, false), Some(Ok(fd)));
+    }
+    assert_eq!(rt; guest.pipe(), Err(FilesRefusal::Full));
+    assert_eq!(rt; guest.dup(0, 0, false), Some(Ok(1023)));
+    assert_eq!(rt; guest.dup(0, 0, false), Some(Err(FilesRefusal::Full)));
+    assert_eq!(rt;
+        guest.open(file(rt.alloc(), b"g")?, 0, false),
+        Err(FilesRefusal::Full)
+    );
+    assert!(rt; guest.close(700));
+    assert_eq!(rt; guest.open(file(rt.alloc(), b"g")?, 0, false), Ok(700));
     Ok(())
 }
 
@@ -138,6 +62,7 @@ fn copies_share_their_open_file(rt: HostRuntime) -> Result<(), Fail> {
     assert_eq!(rt; guest.dup(0, 0, false), Some(Ok(1)));
     assert!(rt; guest.seek(1, 9));
     assert!(rt; guest.set_append(0));
+    assert_eq!(rt; guest.dup_to(0, 1), Some(Ok(())));
     assert!(rt; guest.close(0));
     assert_eq!(rt; guest.state(0), None);
     assert_eq!(rt; guest.state(1), Some((9, true)));
@@ -145,38 +70,101 @@ fn copies_share_their_open_file(rt: HostRuntime) -> Result<(), Fail> {
 }
 
 #[test]
+fn a_pipe_goes_with_its_last_end(rt: HostRuntime) -> Result<(), Fail> {
+    let mut guest = Guest::new(rt.alloc());
+    assert_eq!(rt; guest.pipe(), Ok((0, 1)));
+    assert_eq!(rt; guest.open(file(rt.alloc(), b"f")?, 0, false), Ok(2));
+    assert_eq!(rt; guest.dup_to(2, 0), Some(Ok(())));
+    assert!(rt; guest.pipe_is_there(1));
+    assert_eq!(rt; guest.write(1, b"a"), Some(Ok(Wrote::NoReader)));
+    assert_eq!(rt; guest.dup_to(2, 1), Some(Ok(())));
+    assert!(rt; !guest.pipe_is_there(1));
+    // Its number isn't used again.
+    assert_eq!(rt; guest.pipe(), Ok((3, 4)));
+    assert!(rt; guest.pipe_is_there(2));
+    Ok(())
+}
+
+#[test]
 fn bytes_go_through_a_pipe_in_order(rt: HostRuntime) -> Result<(), Fail> {
-    let mut files = Files::<u32>::new(rt.alloc());
+    let mut guest = Guest::new(rt.alloc());
+    assert_eq!(rt; guest.pipe(), Ok((0, 1)));
+    assert!(rt; matches!(guest.read(1, 1), Some(Ok(Moved::NotReady))));
+    assert_eq!(rt; guest.write(1, b"abc"), Some(Ok(Wrote::Took(3))));
+    assert!(rt; is_read(guest.read(1, 2), b"ab"));
+    assert!(rt; is_read(guest.read(1, 2), b"c"));
+    assert_eq!(rt; guest.write(1, b"d"), Some(Ok(Wrote::Took(1))));
+    // Without a writer what is there is read, and then nothing.
+    assert!(rt; guest.close(1));
+    assert!(rt; is_read(guest.read(1, 2), b"d"));
+    assert!(rt; is_read(guest.read(1, 2), b""));
+    Ok(())
+}
+
+/// Fills a pipe with pieces of 4,096 bytes, each of one value.
+fn fill(rt: &impl Abort, guest: &mut Guest, values: &[u8]) {
+    for value in values {
+        assert_eq!(rt;
+            guest.write(1, &[*value; 4096]),
+            Some(Ok(Wrote::Took(4096)))
+        );
+    }
+}
+
+#[test]
+fn a_pipe_holds_65536_bytes(rt: HostRuntime) -> Result<(), Fail> {
+    let mut guest = Guest::new(rt.alloc());
+    assert_eq!(rt; guest.pipe(), Ok((0, 1)));
+    fill(
+        &rt,
+        &mut guest,
+        &[1, 2, 3, 4, 5, 6, 7, 8, 9, 10, 11, 12, 13, 14, 15, 16],
+    );
+    assert_eq!(rt; guest.write(1, b"x"), Some(Ok(Wrote::NotReady)));
+    assert!(rt; is_read(guest.read(1, 4095), &[1; 4095]));
+    // What there is room for is written, across the end of what was held.
+    assert_eq!(rt; guest.write(1, &[17; 4096]), Some(Ok(Wrote::Took(4095))));
+    assert_eq!(rt; guest.write(1, b"x"), Some(Ok(Wrote::NotReady)));
+    assert!(rt; is_read(guest.read(1, 1), &[1]));
+    for value in 2..17 {
+        assert!(rt; is_read(guest.read(1, 4096), &[value; 4096]));
+    }
+    assert!(rt; is_read(guest.read(1, 65536), &[17; 4095]));
+    assert!(rt; matches!(guest.read(1, 1), Some(Ok(Moved::NotReady))));
+    Ok(())
+}
+
+#[test]
+fn open_files_follow_their_names(rt: HostRuntime) -> Result<(), Fail> {
+    let mut guest = Guest::new(rt.alloc());
+    assert_eq!(rt; guest.open(file(rt.alloc(), b"f")?, 0, false), Ok(0));
+    assert_eq!(rt; guest.open(file(rt.alloc(), b"f")?, 0, false), Ok(1));
+    assert_eq!(rt; guest.open(file(rt.alloc(), b"g")?, 0, false), Ok(2));
+    guest.renamed(5, b"f", 6, b"h")?;
+    assert_eq!(rt; guest.name(0), Some((6, b"h".as_slice())));
+    assert_eq!(rt; guest.name(1), Some((6, b"h".as_slice())));
+    assert_eq!(rt; guest.name(2), Some((5, b"g".as_slice())));
+    // What was replaced is nameless.
+    guest.renamed(5, b"g", 6, b"h")?;
+    assert_eq!(rt; guest.name(0), Some((0, b"".as_slice())));
+    assert_eq!(rt; guest.name(2), Some((6, b"h".as_slice())));
+    guest.removed(5, b"h");
+    assert_eq!(rt; guest.name(2), Some((6, b"h".as_slice())));
+    guest.removed(6, b"h");
+    assert_eq!(rt; guest.name(2), Some((0, b"".as_slice())));
+    Ok(())
+}
+
+#[test]
+fn each_descriptor_has_its_own_flag(rt: HostRuntime) -> Result<(), Fail> {
     let mut descs = Descs::new(rt.alloc());
+    assert_eq!(rt; descs.cloexec(1), None);
+    let mut files = crate::Files::<u32>::new(rt.alloc());
     assert_eq!(rt; files.pipe(&mut descs, false), Ok((0, 1)));
     if descs.cloexec(1).is_some() {
         descs.set_cloexec(1, true);
     }
     assert_eq!(rt; descs.cloexec(1), Some(true));
-    assert!(rt; writes(&mut files, 1, b"abc", Wrote::Took(3)));
-    assert!(rt; reads(&mut files, 1, 2, b"ab"));
-    assert!(rt; reads(&mut files, 1, 2, b"c"));
-    files.renamed(5, b"f", 5, b"g")?;
-    files.removed(5, b"g");
+    assert_eq!(rt; descs.cloexec(0), Some(false));
     Ok(())
-}
-
-fn writes(files: &mut Files<u32>, pipe: u32, b: &[u8], answer: Wrote) -> bool {
-    if b.is_empty() || files.pipe_state(pipe).is_none() {
-        return false;
-    }
-    match files.pipe_write(pipe, b) {
-        Ok(wrote) => wrote == answer,
-        Err(_) => false,
-    }
-}
-
-fn reads(files: &mut Files<u32>, pipe: u32, n: usize, bytes: &[u8]) -> bool {
-    if n == 0 || files.pipe_state(pipe).is_none() {
-        return false;
-    }
-    match files.pipe_read(pipe, n) {
-        Ok(Moved::Bytes(moved)) => moved.as_slice() == bytes,
-        _ => false,
-    }
 }

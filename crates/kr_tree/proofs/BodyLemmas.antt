@@ -1,5 +1,5 @@
 -- Bodies after a change.
-use Rattle.std.proofs.Common.{◌≡◌, ℕ, true, false, List, [], ◌∷◌, refl, Option, Some, None}
+use Rattle.std.proofs.Common.{◌≡◌, ℕ, true, false, List, [], ◌∷◌, refl, ap, Option, Some, None}
 use Rattle.kr_tree.specs.declared.standing.Standing.{Standing}
 use Rattle.kr_tree.specs.declared.node.Node.{Node as NewNode}
 use Rattle.kr_tree.specs.declared.node.Node.TheVariants.{Dir as NewDir, File as NewFile, Link as NewLink, Proc as NewProc}
@@ -33,6 +33,20 @@ is_listed-with_entries f (Directory es s) = refl
 is_listed-with_entries f (RegularFile bs) = refl
 is_listed-with_entries f (SymbolicLink bs) = refl
 is_listed-with_entries f (ProcessDirectory s) = refl
+
+pub takes-with_entries : (f : List Entry → List Entry) (b : Body) → takes_names (with_entries f b) ≡ takes_names b
+takes-with_entries f (Directory es (Some s)) = refl
+takes-with_entries f (Directory es None) = refl
+takes-with_entries f (RegularFile bs) = refl
+takes-with_entries f (SymbolicLink bs) = refl
+takes-with_entries f (ProcessDirectory s) = refl
+
+-- one change of the entries after another
+pub with_entries-swap : (f g : List Entry → List Entry) (b : Body) → ((es : List Entry) → f (g es) ≡ g (f es)) → with_entries f (with_entries g b) ≡ with_entries g (with_entries f b)
+with_entries-swap f g (Directory es s) h = ap (λ es. Directory es s) (h es)
+with_entries-swap f g (RegularFile bs) h = refl
+with_entries-swap f g (SymbolicLink bs) h = refl
+with_entries-swap f g (ProcessDirectory s) h = refl
 
 pub bytes-with_entries : (f : List Entry → List Entry) (b : Body) → bytes_of (with_entries f b) ≡ bytes_of b
 bytes-with_entries f (Directory es s) = refl
@@ -117,6 +131,12 @@ file-with_bytes f (SymbolicLink bs) h = absurd cc
 file-with_bytes f (ProcessDirectory s) h = absurd cc
 
 -- ---- what follows
+
+pub stands-nowhere : (b : Body) → is_directory b ≡ false → standing_of b ≡ None
+stands-nowhere (Directory es s) h = absurd cc
+stands-nowhere (RegularFile bs) h = refl
+stands-nowhere (SymbolicLink bs) h = refl
+stands-nowhere (ProcessDirectory s) h = absurd cc
 
 -- what stands somewhere is a directory
 pub is_directory-stands : (b : Body) (s : Standing) → standing_of b ≡ Some s → is_directory b ≡ true

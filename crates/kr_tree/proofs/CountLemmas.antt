@@ -5,7 +5,8 @@ use Rattle.std.specs.Option.{option_map, option_map_or, option_and_then}
 use Rattle.kr_tree.specs.declared.standing.Standing.{Standing}
 use Rattle.std.proofs.lemmas.Bool.{cases_eq, ne_eqb}
 use Rattle.kr_tree.specs.Tree.{Tree, Inode, Inodes, Entry, root, inode, entries, entries_of, standing, standing_of, above, body_is, is_directory, is_listed}
-use Rattle.kr_tree.specs.Changes.{counted, count_limit}
+use Rattle.kr_tree.specs.Changes.{counted, count_limit, with_inode}
+use Rattle.kr_tree.proofs.InodesLemmas.{get-with_same, get-with_other}
 use Rattle.kr_tree.proofs.BodyLemmas.{listed-is_directory}
 use Rattle.kr_tree.specs.Lawful.{sum_below, count_in, directories_in, IsIn, IsCounted, IsSound, HasItsInodes}
 
@@ -39,6 +40,14 @@ sum-changed f m n i (suc k) l h =
           let rest = sum-changed f m n i k (omega arith) h in
           omega arith
     ]
+
+-- after a change of the one at a number
+pub sum-with : (f : Inode → ℕ) (m : Inodes) (k n : ℕ) (g : Inode → Inode) (x : Inode) → map.get m k ≡ Some x → k < n → sum_below f (with_inode k g m) n + f x ≡ sum_below f m n + f (g x)
+sum-with f m k n g x at l =
+    let changed = sum-changed f m (with_inode k g m) k n l (λ q d. get-with_other m k g q d) in
+    let was : value f (map.get m k) ≡ f x = ap (value f) at in
+    let is : value f (map.get (with_inode k g m) k) ≡ f (g x) = ap (value f) (get-with_same m k g ∙ ap (option_map g) at) in
+    omega arith
 
 pub sum-suc : (f : Inode → ℕ) (m : Inodes) (k : ℕ) → sum_below f m (k + 1) ≡ value f (map.get m k) + sum_below f m k
 unfolding sum_below
@@ -97,6 +106,12 @@ directories-same t u (e ∷ es) h =
 pub directories-new : (t : Tree) (es : List Entry) (e : Entry) → directories_in t (es ++ e ∷ []) ≡ directories_in t es + counted (body_is is_directory t e.inode)
 directories-new t [] e = omega arith
 directories-new t (x ∷ es) e = let rest = directories-new t es e in omega arith
+
+-- a directory's entry is counted
+pub directories-at : (t : Tree) (e : Entry) (es : List Entry) → IsIn e es → counted (body_is is_directory t e.inode) ≤ directories_in t es
+directories-at t e [] h = absurd h
+directories-at t e (x ∷ es) (inl same) = let here : counted (body_is is_directory t x.inode) ≡ counted (body_is is_directory t e.inode) = ap (λ e. counted (body_is is_directory t e.inode)) same in omega arith
+directories-at t e (x ∷ es) (inr h) = let rest = directories-at t e es h in omega arith
 
 -- ---- what is counted is there
 

@@ -1,18 +1,16 @@
 -- Lists of entries after one was added or taken away.
-use Rattle.std.proofs.Common.{◌≡◌, inl, inr, subst, zero, suc, ◌≤◌, length, get_or, slice_get, nat_le, nat_lt, ℕ, ◌+◌, ◌<◌, Bool, true, false, not, cond, List, [], ◌∷◌, ◌++◌, filter, ◌||◌, refl, sym, ap, ◌∙◌, arith, lit<, Some, None, Vec}
+use Rattle.std.proofs.Common.{◌≡◌, inl, inr, subst, ℕ, ◌+◌, ◌<◌, Bool, true, false, not, cond, List, [], ◌∷◌, ◌++◌, filter, ◌||◌, refl, sym, ap, ◌∙◌, arith, lit<, Some, None}
 use Rattle.std.specs.Prelude.{bytes_eq}
-use Rattle.std.specs.Option.{option_map, option_map_or}
+use Rattle.std.specs.Option.{option_map_or}
 use Rattle.std.specs.List.{list_any, AllByRecursion, IsDistinct}
-use Rattle.std.specs.Map.{lookup, remove_entry}
-use Rattle.std.proofs.lemmas.Bool.Decides.{nat_tests}
 use Rattle.std.proofs.lemmas.Cmp.{nat_list_eq_equiv}
+use Rattle.std.proofs.lemmas.Slice.Eq.{bytes_eq-Decides}
 use Rattle.std.proofs.lemmas.Map.Keys.{IsDistinct-head, IsDistinct-tail, IsDistinct-cons, IsDistinct-push}
-use Rattle.kr_tree.specs.declared.entries.Slot.{Slot}
-use Rattle.kr_tree.specs.Tree.{Entry, entry_named, entry_after}
+use Rattle.kr_tree.specs.Tree.{Entry, entry_named}
 use Rattle.kr_tree.specs.Names.{is_name}
 use Rattle.kr_tree.specs.Changes.{without_name}
 use Rattle.kr_tree.specs.Lawful.{IsIn}
-use Rattle.kr_tree.specs.Entries.{Entries, RisesWithin, names_in, IsListed, slot_of, entry_of, list_of, with_new, without}
+use Rattle.kr_tree.specs.Entries.{Entries, RisesWithin, names_in, IsListed, with_new, without}
 
 -- ---- serials
 
@@ -93,19 +91,7 @@ listed-without name d h = record {
   well_formed = all-filter (λ n. is_name n ≡ true) (λ e. not (bytes_eq name e.name)) d.list h.well_formed;
 }
 
--- ---- what is stored
-
-pub slot-found : {Z : Type 0} (name : List ℕ) (es : List (Vec ℕ Z × Slot)) → lookup (λ (k : Vec ℕ Z). bytes_eq name k.items) es ≡ option_map slot_of (entry_named name (list_of es))
-slot-found name [] = refl
-slot-found name (e ∷ es) =
-    elim (bytes_eq name e.0.items) as (λ b. cond b (Some e.1) (lookup (λ k. bytes_eq name k.items) es) ≡ option_map slot_of (cond b (Some (entry_of e)) (entry_named name (list_of es)))) [
-      | true ↦ refl
-      | false ↦ slot-found name es
-    ]
-
-pub list-new : {Z : Type 0} (es : List (Vec ℕ Z × Slot)) (e : Vec ℕ Z × Slot) → list_of (es ++ e ∷ []) ≡ list_of es ++ entry_of e ∷ []
-list-new [] e = refl
-list-new (x ∷ es) e = ap (λ r. entry_of x ∷ r) (list-new es e)
+-- ---- nothing taken away
 
 -- no name of a list is one, so nothing is taken away
 none_without : (name : List ℕ) (es : List Entry) → AllByRecursion (λ n. bytes_eq name n ≡ false) (names_in es) → without_name name es ≡ es
@@ -116,19 +102,6 @@ none_without name (e ∷ es) h =
 all_alike : (a b : List ℕ) (ns : List (List ℕ)) → bytes_eq a b ≡ true → AllByRecursion (λ n. bytes_eq b n ≡ false) ns → AllByRecursion (λ n. bytes_eq a n ≡ false) ns
 all_alike a b [] e h = h
 all_alike a b (n ∷ ns) e h = (nat_list_eq_equiv.congr a b n e ∙ h.0, all_alike a b ns e h.1)
-
-pub list-without : {Z : Type 0} (name : List ℕ) (es : List (Vec ℕ Z × Slot)) → IsDistinct bytes_eq (names_in (list_of es))
-    → list_of (remove_entry (λ (k : Vec ℕ Z). bytes_eq name k.items) es) ≡ without_name name (list_of es)
-list-without name [] h = refl
-list-without {Z} name (e ∷ es) h =
-    elim (bytes_eq name e.0.items) as (λ b. bytes_eq name e.0.items ≡ b
-    → list_of (cond b es (e ∷ remove_entry (λ (k : Vec ℕ Z). bytes_eq name k.items) es)) ≡ cond (not b) (entry_of e ∷ without_name name (list_of es)) (without_name name (list_of es))) [
-      | true ↦ λ is. sym (none_without name (list_of es) (all_alike name e.0.items (names_in (list_of es)) is (IsDistinct-head bytes_eq e.0.items (names_in (list_of es)) h)))
-      | false ↦ λ _. ap (λ r. entry_of e ∷ r) (list-without name es (IsDistinct-tail bytes_eq e.0.items (names_in (list_of es)) h))
-    ] refl
-
-pub no_slot : {Z : Type 0} (name : List ℕ) (es : List (Vec ℕ Z × Slot)) → entry_named name (list_of es) ≡ None → lookup (λ (k : Vec ℕ Z). bytes_eq name k.items) es ≡ None
-no_slot name es h = slot-found name es ∙ ap (option_map slot_of) h
 
 pub listed-none : IsListed (record { list = []; next = 3 })
 unfolding IsDistinct
@@ -144,7 +117,7 @@ named_in name (x ∷ es) e h =
       | false ↦ λ is h. let rest = named_in name es e h in (inr rest.0, rest.1)
     ] refl h
 
-all-in : (P : List ℕ → Type 0) (es : List Entry) (e : Entry) → AllByRecursion P (names_in es) → IsIn e es → P e.name
+pub all-in : (P : List ℕ → Type 0) (es : List Entry) (e : Entry) → AllByRecursion P (names_in es) → IsIn e es → P e.name
 all-in P [] e h is = absurd is
 all-in P (x ∷ es) e h (inl same) = subst (λ s. P s.name) same h.0
 all-in P (x ∷ es) e h (inr is) = all-in P es e h.1 is
@@ -204,6 +177,55 @@ in_still name (x ∷ es) e (inr h) n =
       | false ↦ inr (in_still name es e h n)
     ]
 
+-- taking a name away passes over an entry of another
+pub without-new : (name : List ℕ) (es : List Entry) (e : Entry) → bytes_eq name e.name ≡ false → without_name name (es ++ e ∷ []) ≡ without_name name es ++ e ∷ []
+without-new name [] e h = ap (λ b. cond (not b) (e ∷ []) []) h
+without-new name (x ∷ es) e h =
+    elim (bytes_eq name x.name) as (λ b. cond (not b) (x ∷ without_name name (es ++ e ∷ [])) (without_name name (es ++ e ∷ [])) ≡ cond (not b) (x ∷ without_name name es) (without_name name es) ++ e ∷ []) [
+      | true ↦ without-new name es e h
+      | false ↦ ap (λ r. x ∷ r) (without-new name es e h)
+    ]
+
+-- a name is found as before after another was taken away
+pub named-without : (name gone : List ℕ) (es : List Entry) → bytes_eq gone name ≡ false → entry_named name (without_name gone es) ≡ entry_named name es
+named-without name gone [] n = refl
+named-without name gone (x ∷ es) n =
+    elim (bytes_eq gone x.name) as (λ b. bytes_eq gone x.name ≡ b → entry_named name (cond (not b) (x ∷ without_name gone es) (without_name gone es)) ≡ cond (bytes_eq name x.name) (Some x) (entry_named name es)) [
+      | true ↦ λ g. named-without name gone es n ∙ sym (ap (λ b. cond b (Some x) (entry_named name es)) (other g))
+      | false ↦ λ _. ap (cond (bytes_eq name x.name) (Some x)) (named-without name gone es n)
+    ] refl
+  where
+    other : bytes_eq gone x.name ≡ true → bytes_eq name x.name ≡ false
+    other g = elim (bytes_eq name x.name) as (λ b. bytes_eq name x.name ≡ b → b ≡ false) [
+      | true ↦ λ m.
+          let one : gone ≡ x.name = (bytes_eq-Decides gone x.name).0 g in
+          let two : name ≡ x.name = (bytes_eq-Decides name x.name).0 m in
+          let no : true ≡ false = sym ((bytes_eq-Decides gone name).1 (one ∙ sym two)) ∙ n in
+          absurd cc
+      | false ↦ λ _. refl
+    ] refl
+
+-- a name that was taken away isn't there
+pub named-gone : (name : List ℕ) (es : List Entry) → entry_named name (without_name name es) ≡ None
+named-gone name [] = refl
+named-gone name (x ∷ es) =
+    elim (bytes_eq name x.name) as (λ b. bytes_eq name x.name ≡ b → entry_named name (cond (not b) (x ∷ without_name name es) (without_name name es)) ≡ None) [
+      | true ↦ λ _. named-gone name es
+      | false ↦ λ is. ap (λ b. cond b (Some x) (entry_named name (without_name name es))) is ∙ named-gone name es
+    ] refl
+
+-- a name that isn't there isn't there after another was taken away
+pub none-without : (name gone : List ℕ) (es : List Entry) → entry_named name es ≡ None → entry_named name (without_name gone es) ≡ None
+none-without name gone [] h = refl
+none-without name gone (x ∷ es) h =
+    elim (bytes_eq name x.name) as (λ b. bytes_eq name x.name ≡ b → cond b (Some x) (entry_named name es) ≡ None → entry_named name (cond (not (bytes_eq gone x.name)) (x ∷ without_name gone es) (without_name gone es)) ≡ None) [
+      | true ↦ λ _ h. absurd cc
+      | false ↦ λ is h. elim (bytes_eq gone x.name) as (λ b. entry_named name (cond (not b) (x ∷ without_name gone es) (without_name gone es)) ≡ None) [
+        | true ↦ none-without name gone es h
+        | false ↦ ap (λ b. cond b (Some x) (entry_named name (without_name gone es))) is ∙ none-without name gone es h
+      ]
+    ] refl h
+
 -- what is summed up over the entries is less by what was taken away
 abbrev pub weighed : (Entry → ℕ) → List Entry → ℕ
 weighed w [] = 0
@@ -221,34 +243,3 @@ weighed-without w name (x ∷ es) e h is =
           omega arith
       | false ↦ λ _ is. let rest = weighed-without w name es e (IsDistinct-tail bytes_eq x.name (names_in es) h) is in omega arith
     ] refl is
-
--- ---- the first entry above a serial
-
--- at the place that parts the serials at most one from those above it
-pub entry_after-place : {Z : Type 0} (s : ℕ) (es : List (Vec ℕ Z × Slot)) (i : ℕ) → i ≤ length es
-    → ((k : ℕ) (d : Vec ℕ Z × Slot) → k < i → nat_le (get_or es k d).1.serial s ≡ true)
-    → ((d : Vec ℕ Z × Slot) → i < length es → nat_le (get_or es i d).1.serial s ≡ false)
-    → option_map entry_of (slice_get es i) ≡ entry_after s (list_of es)
-entry_after-place s [] i l below at = refl
-entry_after-place s (e ∷ es) zero l below at =
-    let above : nat_lt s e.1.serial ≡ true = let no = at e (omega arith) in grind (arith, nat_tests) in
-    sym (ap (λ b. cond b (Some (entry_of e)) (entry_after s (list_of es))) above)
-entry_after-place s (e ∷ es) (suc i) l below at =
-    let not_above : nat_lt s e.1.serial ≡ false = let yes = below 0 e (omega arith) in grind (arith, nat_tests) in
-    entry_after-place s es i (omega arith) (λ k d h. below (suc k) d (omega arith)) (λ d h. at d (omega arith))
-    ∙ sym (ap (λ b. cond b (Some (entry_of e)) (entry_after s (list_of es))) not_above)
-
-serial_above : {Z : Type 0} (low next : ℕ) (es : List (Vec ℕ Z × Slot)) → RisesWithin low next (list_of es) → (k : ℕ) (d : Vec ℕ Z × Slot) → k < length es → low < (get_or es k d).1.serial
-serial_above low next [] h k d l = absurd (omega arith)
-serial_above low next (e ∷ es) h zero d l = h.0
-serial_above low next (e ∷ es) h (suc k) d l = let rest = serial_above e.1.serial next es h.1 k d (omega arith) in let first = h.0 in omega arith
-
--- serials at most one stand before those above it
-pub serials_parted : {Z : Type 0} (low next s : ℕ) (es : List (Vec ℕ Z × Slot)) → RisesWithin low next (list_of es) → (i j : ℕ) (d : Vec ℕ Z × Slot) → i ≤ j → j < length es
-    → nat_le (get_or es j d).1.serial s ≡ true → nat_le (get_or es i d).1.serial s ≡ true
-serials_parted low next s [] h i j d l m t = absurd (omega arith)
-serials_parted low next s (e ∷ es) h zero zero d l m t = t
-serials_parted low next s (e ∷ es) h zero (suc j) d l m t =
-    let above = serial_above e.1.serial next es h.1 j d (omega arith) in grind (arith, nat_tests)
-serials_parted low next s (e ∷ es) h (suc i) zero d l m t = absurd (omega arith)
-serials_parted low next s (e ∷ es) h (suc i) (suc j) d l m t = serials_parted e.1.serial next s es h.1 i j d (omega arith) (omega arith) t

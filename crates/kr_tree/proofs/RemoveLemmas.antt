@@ -17,19 +17,19 @@ use Rattle.kr_tree.proofs.DropLemmas.{kept-dropped, freed-le}
 use Rattle.kr_tree.proofs.QuietLemmas.{of_entries}
 
 -- counts as weights
-weighed-count : (i : ℕ) (es : List Entry) → weighed (λ e. counted (nat_eq i e.inode)) es ≡ count_in i es
+pub weighed-count : (i : ℕ) (es : List Entry) → weighed (λ e. counted (nat_eq i e.inode)) es ≡ count_in i es
 weighed-count i [] = refl
 weighed-count i (e ∷ es) = ap (λ n. counted (nat_eq i e.inode) + n) (weighed-count i es)
 
-weighed-directories : (t : Tree) (es : List Entry) → weighed (λ e. counted (body_is is_directory t e.inode)) es ≡ directories_in t es
+pub weighed-directories : (t : Tree) (es : List Entry) → weighed (λ e. counted (body_is is_directory t e.inode)) es ≡ directories_in t es
 weighed-directories t [] = refl
 weighed-directories t (e ∷ es) = ap (λ n. counted (body_is is_directory t e.inode) + n) (weighed-directories t es)
 
-weighed-length : (es : List Entry) → weighed (λ _. 1) es ≡ length es
+pub weighed-length : (es : List Entry) → weighed (λ _. 1) es ≡ length es
 weighed-length [] = refl
 weighed-length (e ∷ es) = let rest = weighed-length es in omega arith
 
-entry_found : (name : List ℕ) (o : Option Entry) (i : ℕ) → option_map (λ e. e.inode) o ≡ Some i → (e : Entry) × (o ≡ Some e) × (e.inode ≡ i)
+pub entry_found : (name : List ℕ) (o : Option Entry) (i : ℕ) → option_map (λ e. e.inode) o ≡ Some i → (e : Entry) × (o ≡ Some e) × (e.inode ≡ i)
 entry_found name None i h = absurd cc
 entry_found name (Some e) i h = (e, refl, ap (λ o. option_map_or (λ s. s) o i) h)
 

@@ -1,6 +1,11 @@
 -- The entries of one directory by themselves, and the serial that the next one takes.
-use Rattle.std.specs.Prelude.{◌≡◌, ℕ, ◌+◌, ◌<◌, true, bytes_eq, List, [], ◌∷◌, ◌++◌, map as map_list, refl, Vec}
+use Rattle.std.specs.Prelude.{◌≡◌, ℕ, ◌+◌, ◌<◌, true, bytes_eq, slice_get, List, [], ◌∷◌, ◌++◌, map as map_list, Option, Some, refl, Vec}
 use Rattle.std.specs.List.{AllByRecursion, IsDistinct}
+use Rattle.std.specs.List.Sorted.{IsStrictlySortedBy}
+use Rattle.std.specs.Option.{option_map, option_map_or}
+use Rattle.std.specs.Ordering.{nat_cmp}
+use Rattle.std.specs.Map.{keys_of, lookup}
+use Rattle.std.specs.BTreeMap.{is_at}
 use Rattle.std.specs.Coded.{Coded, code_by, coded×, coded_ℕ, coded_list}
 use Rattle.kr_tree.specs.Tree.{Entry, entry_code}
 use Rattle.kr_tree.specs.Names.{is_name}
@@ -46,5 +51,22 @@ slot_of e = record { serial = e.serial; inode = e.inode }
 abbrev pub entry_of : {Z : Type 0} → Vec ℕ Z × Slot → Entry
 entry_of e = record { name = e.0.items; serial = e.1.serial; inode = e.1.inode }
 
-abbrev pub list_of : {Z : Type 0} → List (Vec ℕ Z × Slot) → List Entry
-list_of es = map_list entry_of es
+-- the entry that stands at each place, in the order of the serials that the places are kept under
+abbrev pub placed : {Z : Type 0} → List (Vec ℕ Z × Slot) → List (ℕ × ℕ) → List Entry
+placed es [] = []
+placed es (p ∷ ps) = option_map_or (λ e. entry_of e ∷ placed es ps) (slice_get es p.1) (placed es ps)
+
+-- the place that is kept under a serial
+abbrev pub place_of : List (ℕ × ℕ) → ℕ → Option ℕ
+place_of ps serial = lookup (is_at (nat_cmp serial)) ps
+
+-- the serial of what stands at a place
+abbrev pub serial_at : {Z : Type 0} → List (Vec ℕ Z × Slot) → ℕ → Option ℕ
+serial_at es place = option_map (λ e. e.1.serial) (slice_get es place)
+
+-- what stands at the place of a serial has that serial, and the serial of what stands at a place has
+-- that place
+pub record IsPaired {Z : Type 0} (es : List (Vec ℕ Z × Slot)) (ps : List (ℕ × ℕ)) : Type 0 where
+  pub ordered : IsStrictlySortedBy nat_cmp (keys_of ps)
+  pub stands : (serial place : ℕ) → place_of ps serial ≡ Some place → serial_at es place ≡ Some serial
+  pub kept : (serial place : ℕ) → serial_at es place ≡ Some serial → place_of ps serial ≡ Some place

@@ -1,5 +1,5 @@
 -- The tree of inodes, as path_resolution(7) and stat(2) speak of it, and its look-ups.
-use Rattle.std.specs.Prelude.{◌≡◌, ℕ, Bool, true, false, List, [], ◌∷◌, map as map_list, Option, Some, None, bytes_eq, nat_lt, ◌⊎◌, refl}
+use Rattle.std.specs.Prelude.{◌≡◌, ℕ, Bool, true, false, List, [], ◌∷◌, map as map_list, Option, Some, None, bytes_eq, nat_eq, nat_lt, ◌⊎◌, refl}
 use Rattle.std.specs.FinMap as map
 use Rattle.std.specs.List.{find}
 use Rattle.std.specs.Option.{option_map, option_map_or, option_and_then}
@@ -186,6 +186,10 @@ text_of (ProcessDirectory standing) = None
 -- the entry of a name
 abbrev pub entry_named : List ℕ → List Entry → Option Entry
 entry_named name entries = find (λ e. bytes_eq name e.name) entries
+
+-- the entry of a serial
+abbrev pub entry_at : ℕ → List Entry → Option Entry
+entry_at serial entries = find (λ e. nat_eq serial e.serial) entries
 
 -- the first entry whose serial is above one
 abbrev pub entry_after : ℕ → List Entry → Option Entry

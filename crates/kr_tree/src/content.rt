@@ -1,5 +1,5 @@
 //! What an inode holds.
-ghost use Rattle.std.specs.Prelude.{length, take, drop, replicate, ◌++◌, ◌≤◌, ◌≡◌, ◌+◌, ◌-◌, ◌^◌, ◌<◌, true, Some, None, OnOk, OnErr};
+ghost use Rattle.std.specs.Prelude.{length, take, drop, replicate, ◌++◌, ◌≤◌, ◌≡◌, ◌+◌, ◌-◌, ◌^◌, ◌<◌, true, Some, None, OnOk, OnErr, IsSome, IsTrue, ◌↔◌};
 ghost use Rattle.kr_tree.specs.Changes.{sized, overwritten};
 
 use crate::entries::Entries;
@@ -48,6 +48,17 @@ impl DirContent {
         Ok(())
     }
 
+    /// An entry for another inode in place of one of the same name. Both are directories or neither
+    /// is, so that there are as many as before.
+    pub fn replace(&mut self, name: &[u8], inode: Ino) -> Result<(), NoMemory>
+        requires named { IsSome (entry_named name.now self.old.entries.list) }
+        requires serials { self.old.entries.next + 1 < 2 ^ 64 }
+        ensures ok { OnOk result (self.new ≡ record { entries = with_new name.now inode (without name.now self.old.entries); standing = self.old.standing; directories = self.old.directories }) }
+        ensures err { OnErr result (self.new ≡ self.old) }
+    {
+        self.entries.replace(name, inode)
+    }
+
     /// An entry taken away, which may be a directory.
     pub fn remove(&mut self, name: &[u8], is_dir: bool)
         ensures { self.new ≡ record { entries = without name.now self.old.entries; standing = self.old.standing; directories = self.old.directories - counted is_dir } }
@@ -76,6 +87,23 @@ impl Content {
             Node::File(bytes) => Content::File(bytes.into_vec()),
             Node::Link(text) => Content::Link(text.into_vec()),
             Node::Proc => Content::Proc(Some(standing)),
+        }
+    }
+
+    /// Whether both are of one kind and hold the same, a directory the same entries under the same
+    /// serials at the same place.
+    pub fn same(&self, other: &Content) -> bool
+        ensures { IsTrue result ↔ (body_stored self.now ≡ body_stored other.now) }
+    {
+        match (self, other) {
+            (Content::Dir(one), Content::Dir(two)) => {
+                one.entries.same(&two.entries) && one.standing == two.standing
+            }
+            (Content::File(one), Content::File(two)) | (Content::Link(one), Content::Link(two)) => {
+                one.as_slice() == two.as_slice()
+            }
+            (Content::Proc(one), Content::Proc(two)) => *one == *two,
+            _ => false,
         }
     }
 

@@ -1,5 +1,5 @@
 //! One inode.
-ghost use Rattle.std.specs.Prelude.{◌≡◌, ◌+◌, ◌-◌, ◌^◌, ◌<◌, ◌≤◌, true, false, [], Some, None, OnOk, OnErr, IsOk, IsTrue, ◌↔◌, length};
+ghost use Rattle.std.specs.Prelude.{◌≡◌, ◌+◌, ◌-◌, ◌^◌, ◌<◌, ◌≤◌, true, false, [], Some, None, OnOk, OnErr, IsOk, IsSome, IsTrue, ◌↔◌, length};
 ghost use Rattle.std.specs.Option.{option_map, option_copied};
 
 use crate::content::{Content, DirContent};
@@ -35,7 +35,7 @@ impl Model for Inode {
 }
 
 impl Inode {
-    ghost use Rattle.kr_tree.specs.Tree.{bytes_of, entry_named, entry_after, entries_of, standing_of, is_listed, takes_names, is_filled, is_file, may_be_linked, is_directory, file_of, text_of};
+    ghost use Rattle.kr_tree.specs.Tree.{bytes_of, entry_named, entry_at, entry_after, entries_of, standing_of, is_listed, takes_names, is_filled, is_file, may_be_linked, is_directory, file_of, text_of};
     ghost use Rattle.kr_tree.specs.Rights.{allows};
     ghost use Rattle.kr_tree.specs.Names.{is_name};
     ghost use Rattle.kr_tree.specs.Entries.{slot_of};
@@ -107,6 +107,16 @@ impl Inode {
     {
         match &self.content {
             Content::Dir(dir) => dir.entries.after(serial),
+            _ => None,
+        }
+    }
+
+    /// The entry of a directory that has a serial: its name and inode.
+    pub fn at(&self, serial: u64) -> Option<(&[u8], Ino)>
+        ensures { option_map (λ p. record { name = p.0.now; serial = serial; inode = p.1 }) result ≡ entry_at serial (entries_of self.now.node.body) }
+    {
+        match &self.content {
+            Content::Dir(dir) => dir.entries.at(serial),
             _ => None,
         }
     }
@@ -237,6 +247,16 @@ impl Inode {
         bit == 1
     }
 
+    /// Whether the nodes are the same, without what is kept beside them.
+    pub fn same(&self, other: &Inode) -> bool
+        ensures { IsTrue result ↔ (self.now.node ≡ other.now.node) }
+    {
+        self.mode == other.mode
+            && self.uid == other.uid
+            && self.gid == other.gid
+            && self.content.same(&other.content)
+    }
+
     pub fn set_mode(&mut self, mode: u16)
         ensures { self.new ≡ with_mode mode self.old }
     {
@@ -324,6 +344,22 @@ impl Inode {
     {
         match &mut self.content {
             Content::Dir(dir) => dir.add(name, inode, is_dir),
+            _ => unreachable!(),
+        }
+    }
+
+    /// An entry of a directory for another inode in place of one of the same name. Both are
+    /// directories or neither is.
+    pub fn replace_entry(&mut self, name: &[u8], inode: Ino, is_dir: bool) -> Result<(), NoMemory>
+        requires directory { IsTrue (is_listed self.old.node.body) }
+        requires named { IsSome (entry_named name.now (entries_of self.old.node.body)) }
+        requires serials { self.old.next_serial + 1 < 2 ^ 64 }
+        requires directories { counted is_dir ≤ self.old.directories }
+        ensures ok { OnOk result (self.new ≡ with_entry name.now inode is_dir (without_entry name.now is_dir self.old)) }
+        ensures err { OnErr result (self.new ≡ self.old) }
+    {
+        match &mut self.content {
+            Content::Dir(dir) => dir.replace(name, inode),
             _ => unreachable!(),
         }
     }

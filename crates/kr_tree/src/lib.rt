@@ -20,4 +20,6 @@ pub use tree::{ROOT, Tree};
 pub use user::{Right, User};
 
 #[cfg(test)]
+mod entry_tests;
+#[cfg(test)]
 mod tests;

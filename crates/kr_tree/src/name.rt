@@ -1,11 +1,22 @@
 //! Names of entries.
-ghost use Rattle.std.specs.Prelude.{◌≡◌, not, ◌||◌, nat_eq};
+ghost use Rattle.std.specs.Prelude.{◌≡◌, not, ◌||◌, nat_eq, IsTrue, ◌↔◌, OnOk, IfOk, ℕ, List, ◌++◌, [], ◌∷◌, reverse};
 ghost use Rattle.std.specs.List.{list_all};
+ghost use Rattle.pr_base.specs.Paths.{IsName, slash, below_root, text_of};
 ghost use Rattle.kr_tree.specs.Names.{is_name, is_dots};
+
+use pr_base::{Bytes, NoMemory};
 
 /// Whether an entry may have a name: 1 to 255 bytes, none of them a slash or zero, and not `.` or
 /// `..`.
 pub fn is_name(name: &[u8]) -> bool
+    ensures tests { result ≡ is_name name.now }
+    ensures means { IsTrue result ↔ IsName name.now }
+{
+    passes(name)
+}
+
+/// The same, as the definition tests it.
+fn passes(name: &[u8]) -> bool
     ensures { result ≡ is_name name.now }
 {
     0 < name.len() && name.len() <= 255 && has_plain_bytes(name) && !is_dots(name)
@@ -27,4 +38,27 @@ fn is_dots(name: &[u8]) -> bool
         [a, b] => *a == b'.' && *b == b'.',
         _ => false,
     }
+}
+
+/// Adds a slash and a name at the end of bytes that are read from their end.
+pub(crate) fn append_backward(backward: &mut Vec<u8>, name: &[u8]) -> Result<(), NoMemory>
+    ensures { OnOk result (backward.new.items ≡ backward.old.items ++ reverse (slash ∷ name.now)) }
+{
+    for byte in name.iter().rev() {
+        backward.push(*byte)?;
+    }
+    backward.push(b'/')?;
+    Ok(())
+}
+
+/// A text from its bytes from their end, without the slash that stands for the root.
+pub(crate) fn from_end(mut backward: Vec<u8>) -> Result<Bytes, NoMemory>
+    ensures { IfOk result (λ whole. (text : List (List ℕ)) → backward.items ≡ reverse (below_root text) → whole ≡ text_of text) }
+{
+    if backward.is_empty() {
+        backward.push(b'/')?;
+    } else {
+        backward.as_mut_slice().reverse();
+    }
+    Ok(Bytes::from(backward))
 }

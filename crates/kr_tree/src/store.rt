@@ -1,5 +1,5 @@
 //! The inodes by their numbers.
-ghost use Rattle.std.specs.Prelude.{length, ◌≡◌, ◌+◌, ◌-◌, ◌^◌, ◌<◌, true, false, Some, None, OnOk, OnErr, IsTrue, IfSome, IsSome};
+ghost use Rattle.std.specs.Prelude.{length, ◌≡◌, ◌+◌, ◌-◌, ◌^◌, ◌<◌, ◌≤◌, true, false, Some, None, OnOk, OnErr, IsTrue, ◌↔◌, IfSome, IsSome};
 ghost use Rattle.std.specs.FinMap as map;
 ghost use Rattle.std.specs.Option.{option_copied, option_map_or};
 
@@ -29,9 +29,9 @@ impl Model for Store {
 }
 
 impl Store {
-    ghost use Rattle.kr_tree.specs.Tree.{entry_named, entries_of, is_listed};
+    ghost use Rattle.kr_tree.specs.Tree.{entry_named, entries_of, is_listed, with_values};
     ghost use Rattle.kr_tree.specs.Names.{is_name};
-    ghost use Rattle.kr_tree.specs.Changes.{with_inode, with_mode, with_owner, with_names, with_holds, with_entry, without_entry, unnamed, with_body, with_standing, with_bytes, sized, overwritten, without_unused, freed};
+    ghost use Rattle.kr_tree.specs.Changes.{with_inode, with_mode, with_owner, with_names, with_holds, with_entry, without_entry, unnamed, with_body, with_standing, with_bytes, sized, overwritten, without_unused, freed, counted};
 
     /// No inodes. It takes no memory yet.
     pub fn new(alloc: Global) -> Store
@@ -54,6 +54,20 @@ impl Store {
         ensures { option_copied result ≡ map.get self.now ino }
     {
         self.inodes.get(&ino)
+    }
+
+    /// Whether both have the same nodes at the same numbers, without what is kept beside them.
+    pub fn same(&self, other: &Store) -> bool
+        ensures { IsTrue result ↔ (with_values (λ x. x.node) self.now ≡ with_values (λ x. x.node) other.now) }
+    {
+        let mut others = other.inodes.iter();
+        for (ino, inode) in self.inodes.iter() {
+            match others.next() {
+                Some((number, found)) if *number == *ino && inode.same(found) => {}
+                _ => return false,
+            }
+        }
+        others.next().is_none()
     }
 
     /// Puts an inode at a number. Where memory is wanting nothing changes.
@@ -204,6 +218,28 @@ impl Store {
     {
         match self.inodes.get_mut(&dir) {
             Some(directory) => directory.add_entry(name, inode, is_dir),
+            None => Ok(()),
+        }
+    }
+
+    /// An entry of a directory for another inode in place of one of the same name. Both are
+    /// directories or neither is. Where memory is wanting nothing changes.
+    pub fn replace_entry(
+        &mut self,
+        dir: Ino,
+        name: &[u8],
+        inode: Ino,
+        is_dir: bool,
+    ) -> Result<(), NoMemory>
+        requires directory { IfSome (map.get self.old dir) (λ x. IsTrue (is_listed x.node.body)) }
+        requires named { IfSome (map.get self.old dir) (λ x. IsSome (entry_named name.now (entries_of x.node.body))) }
+        requires serials { IfSome (map.get self.old dir) (λ x. x.next_serial + 1 < 2 ^ 64) }
+        requires directories { IfSome (map.get self.old dir) (λ x. counted is_dir ≤ x.directories) }
+        ensures ok { OnOk result (self.new ≡ with_inode dir (λ x. with_entry name.now inode is_dir (without_entry name.now is_dir x)) self.old) }
+        ensures err { OnErr result (self.new ≡ self.old) }
+    {
+        match self.inodes.get_mut(&dir) {
+            Some(directory) => directory.replace_entry(name, inode, is_dir),
             None => Ok(()),
         }
     }

@@ -1,15 +1,16 @@
 //! The tree.
-ghost use Rattle.std.specs.Prelude.{◌≡◌, ◌+◌, ◌-◌, ◌^◌, ◌<◌, ◌≤◌, ◌↔◌, ◌&&◌, not, true, false, Some, None, OnOk, OnErr, IfOk, IsSome, length, IsErrOf, IsTrue, IfSome};
+ghost use Rattle.std.specs.Prelude.{◌≡◌, ◌≢◌, ◌+◌, ◌-◌, ◌^◌, ◌<◌, ◌≤◌, ◌↔◌, ◌&&◌, not, true, false, Some, None, OnOk, OnErr, IfOk, IsSome, length, IsErrOf, IsTrue, IfSome, ℕ, reverse};
 ghost use Rattle.std.specs.Option.{option_map, option_map_or, option_and_then, option_copied};
 ghost use Rattle.kr_tree.specs.Changes.{size_written, is_past_file, file_limit, byte_limit};
 
 use crate::inode::Inode;
+use crate::name::{append_backward, from_end, is_name};
 use crate::node::{FILE_LIMIT, Kind, Meta, Node, TreeRefusal};
 use crate::place::Ino;
 use crate::standing::Standing;
 use crate::store::Store;
 use crate::user::{Right, User};
-use pr_base::NoMemory;
+use pr_base::{Bytes, NoMemory};
 use std::alloc::Global;
 use std::marker::Model;
 
@@ -47,12 +48,13 @@ impl Model for Tree {
 }
 
 impl Tree {
-    ghost use Rattle.kr_tree.specs.Tree.{inode, body, entry, entries, entry_after, above, body_is, is_directory, is_filled, takes_names, may_be_linked, is_file, file_of, text_of, bytes_of};
+    ghost use Rattle.kr_tree.specs.Tree.{nodes, inode, body, entry, entries, entry_after, above, body_is, is_directory, is_filled, takes_names, may_be_linked, is_file, file_of, text_of, bytes_of};
+    ghost use Rattle.pr_base.specs.Paths.{below_root, text_of as bytes_of_text};
     ghost use Rattle.kr_tree.specs.Rights.{may};
-    ghost use Rattle.kr_tree.specs.Names.{is_name};
+    ghost use Rattle.kr_tree.specs.Names.{is_name, step_up, host_name, NamedHaveHostNames, StandingHaveHostNames, HostNamesLead};
     ghost use Rattle.kr_tree.specs.Stored.{kind_of, meta_of, body_of_new};
-    ghost use Rattle.kr_tree.specs.Changes.{new_tree, added, next_serial, is_too_big, has_no_room, has_no_name_left, linked, removed, held, released, mode_set, owner_set, bytes_set, sized, overwritten, size, has_no_room_for};
-    ghost use Rattle.kr_tree.specs.Lawful.{IsKept, HasItsInodes};
+    ghost use Rattle.kr_tree.specs.Changes.{new_tree, added, next_serial, is_too_big, has_no_room, has_no_name_left, linked, removed, moved, unlinked, renamed, held, released, mode_set, owner_set, bytes_set, sized, overwritten, size, has_no_room_for};
+    ghost use Rattle.kr_tree.specs.Lawful.{IsKept, HasItsInodes, IsBelow, IsLawfulMove};
 
     /// A tree with a root alone, by the mode, owner and group of `root`.
     pub fn new(alloc: Global, root: Meta) -> Result<Tree, NoMemory>
@@ -77,6 +79,16 @@ impl Tree {
     pub fn is_kept(&self)
         ensures kept { IsKept self.now }
         ensures there { HasItsInodes self.now }
+    {
+        let _ = &self.next;
+    }
+
+    /// Each directory that a text of names leads to has that host name and no other, each that wasn't
+    /// removed has one, and a host name leads to its directory.
+    pub fn has_host_names(&self)
+        ensures named { NamedHaveHostNames self.now }
+        ensures standing { StandingHaveHostNames self.now }
+        ensures lead { HostNamesLead self.now }
     {
         let _ = &self.next;
     }
@@ -130,6 +142,38 @@ impl Tree {
         }
     }
 
+    /// Whether a directory is another or stands below it.
+    pub fn is_below(&self, top: Ino, dir: Ino) -> bool
+        ensures { IsTrue result ↔ IsBelow self.now top dir }
+    {
+        // No directory is met twice on the way up, so it has fewer steps than numbers were drawn.
+        let mut at = dir;
+        for _step in 0..self.next {
+            if at == top {
+                return true;
+            }
+            if at == ROOT {
+                return false;
+            }
+            match self.above(at) {
+                Some(up) => at = up,
+                None => return false,
+            }
+        }
+        false
+    }
+
+    /// The host name of a directory or the process directory, from the root on; `None` exactly where
+    /// it is neither, was removed or stands below one that was.
+    pub fn name_of(&self, dir: Ino) -> Result<Option<Bytes>, NoMemory>
+        ensures { IfOk result (λ name. name ≡ option_map bytes_of_text (host_name self.now dir)) }
+    {
+        match self.name_backward(dir)? {
+            Some(backward) => Ok(Some(from_end(backward)?)),
+            None => Ok(None),
+        }
+    }
+
     /// Whether the inode is there and the user has a right to it.
     pub fn may(&self, user: User, ino: Ino, right: Right) -> bool
         ensures { result ≡ may self.now user ino right }
@@ -174,6 +218,16 @@ impl Tree {
         }
     }
 
+    /// Whether an inode is a directory, as the process directory is.
+    pub fn is_directory(&self, ino: Ino) -> bool
+        ensures { result ≡ body_is is_directory self.now ino }
+    {
+        match self.store.get(ino) {
+            Some(inode) => inode.is_directory(),
+            None => false,
+        }
+    }
+
     /// Whether an inode is a file.
     pub fn is_file(&self, ino: Ino) -> bool
         ensures { result ≡ body_is is_file self.now ino }
@@ -212,6 +266,14 @@ impl Tree {
             Some(inode) => inode.holds(),
             None => 0,
         }
+    }
+
+    /// Whether two trees have the same nodes at the same numbers, with the serials of their entries;
+    /// holds and next numbers aside.
+    pub fn same(&self, other: &Tree) -> bool
+        ensures { IsTrue result ↔ (nodes self.now ≡ nodes other.now) }
+    {
+        self.store.same(&other.store)
     }
 
     /// The number that the next inode takes.
@@ -315,6 +377,124 @@ impl Tree {
         }
     }
 
+    /// Whether [`Tree::rename`] may move an entry so: it is there, and goes into a directory that
+    /// wasn't removed and isn't at or below it, to a free name or in place of an entry of its kind
+    /// without entries.
+    pub fn is_lawful_move(&self, dir: Ino, name: &[u8], to: Ino, new: &[u8]) -> bool
+        ensures { IsTrue result ↔ IsLawfulMove self.now dir name.now to new.now }
+    {
+        match self.entry(dir, name) {
+            Some(ino) => {
+                is_name(new)
+                    && self.takes_names(to)
+                    && !(self.is_directory(ino) && self.is_below(ino, to))
+                    && self.may_replace(ino, self.entry(to, new))
+            }
+            None => false,
+        }
+    }
+
+    /// Whether an inode may take the name of another, if there is one.
+    fn may_replace(&self, ino: Ino, old: Option<Ino>) -> bool
+        ensures { IsTrue result ↔ ((k : ℕ) → old ≡ Some k → k ≢ ino → (body_is is_directory self.now k ≡ body_is is_directory self.now ino) × (body_is is_filled self.now k ≡ false)) }
+    {
+        match old {
+            Some(old) => {
+                old == ino
+                    || (self.is_directory(old) == self.is_directory(ino) && !self.is_filled(old))
+            }
+            None => true,
+        }
+    }
+
+    /// Moves an entry, as rename(2) does: to a free name, or in place of an entry of its kind, whose
+    /// inode loses that name. Where both are names of one inode nothing changes.
+    pub fn rename(&mut self, dir: Ino, name: &[u8], to: Ino, new: &[u8]) -> Result<(), NoMemory>
+        requires lawful { IsLawfulMove self.old dir name.now to new.now }
+        requires serials { next_serial self.old to + 1 < 2 ^ 64 }
+        ensures ok { OnOk result (self.new ≡ renamed dir name.now to new.now self.old) }
+        ensures err { OnErr result (self.new ≡ self.old) }
+    {
+        match self.entry(dir, name) {
+            Some(ino) => match self.entry(to, new) {
+                Some(old) if old == ino => Ok(()),
+                Some(old) => self.move_onto(dir, name, to, new, ino, old),
+                None => self.move_to_free(dir, name, to, new, ino),
+            },
+            None => Ok(()),
+        }
+    }
+
+    /// Moves an entry to a free name.
+    fn move_to_free(
+        &mut self,
+        dir: Ino,
+        name: &[u8],
+        to: Ino,
+        new: &[u8],
+        ino: Ino,
+    ) -> Result<(), NoMemory>
+        requires there { entry self.old dir name.now ≡ Some ino }
+        requires takes { body_is takes_names self.old to ≡ true }
+        requires well_formed { is_name new.now ≡ true }
+        requires free { entry self.old to new.now ≡ None }
+        requires aside { body_is is_directory self.old ino ≡ true → ¬ IsBelow self.old ino to }
+        requires serials { next_serial self.old to + 1 < 2 ^ 64 }
+        ensures ok { OnOk result (self.new ≡ moved dir name.now to new.now ino self.old) }
+        ensures err { OnErr result (self.new ≡ self.old) }
+    {
+        let is_dir = self.is_directory(ino);
+        let standing = Standing {
+            inode: to,
+            serial: self.next_serial(to),
+        };
+        // The new entry first: it alone wants memory.
+        let copy = self.copy(new)?;
+        self.store.add_entry(to, copy, ino, is_dir)?;
+        self.store.remove_entry(dir, name, is_dir);
+        self.store.stand(ino, standing);
+        Ok(())
+    }
+
+    /// Moves an entry to the name of another, which is a directory without entries where the one that
+    /// is moved is a directory, and none where it isn't. The inode that had the name loses it.
+    fn move_onto(
+        &mut self,
+        dir: Ino,
+        name: &[u8],
+        to: Ino,
+        new: &[u8],
+        ino: Ino,
+        old: Ino,
+    ) -> Result<(), NoMemory>
+        requires there { entry self.old dir name.now ≡ Some ino }
+        requires takes { body_is takes_names self.old to ≡ true }
+        requires well_formed { is_name new.now ≡ true }
+        requires named { entry self.old to new.now ≡ Some old }
+        requires apart { old ≢ ino }
+        requires alike { body_is is_directory self.old old ≡ body_is is_directory self.old ino }
+        requires empty { body_is is_filled self.old old ≡ false }
+        requires aside { body_is is_directory self.old ino ≡ true → ¬ IsBelow self.old ino to }
+        requires serials { next_serial self.old to + 1 < 2 ^ 64 }
+        ensures ok { OnOk result (self.new ≡ moved dir name.now to new.now ino (unlinked to new.now old self.old)) }
+        ensures err { OnErr result (self.new ≡ self.old) }
+    {
+        let is_dir = self.is_directory(ino);
+        let standing = Standing {
+            inode: to,
+            serial: self.next_serial(to),
+        };
+        // The new entry first: it alone wants memory.
+        self.store.replace_entry(to, new, ino, is_dir)?;
+        self.store.remove_name(old);
+        let freed = self.store.remove_if_unused(old);
+        self.store.remove_entry(dir, name, is_dir);
+        self.store.stand(ino, standing);
+        self.names -= 1;
+        self.bytes -= freed;
+        Ok(())
+    }
+
     /// Cuts a file at a size, or fills it with zeros up to it. TooBig comes before Full.
     pub fn set_size(&mut self, file: Ino, new: u64) -> Result<(), TreeRefusal>
         requires { body_is is_file self.old file ≡ true }
@@ -380,6 +560,39 @@ impl Tree {
         self.store.set_owner(ino, uid, gid);
     }
 
+    /// The name under which a directory stands, and the inode above it.
+    fn step_up(&self, dir: Ino) -> Option<(&[u8], Ino)>
+        ensures { option_map (λ p. (p.0.now, p.1)) result ≡ step_up self.now dir }
+    {
+        let standing = self.store.get(dir)?.standing()?;
+        match self.store.get(standing.inode)?.at(standing.serial) {
+            Some((name, _ino)) => Some((name, standing.inode)),
+            None => None,
+        }
+    }
+
+    /// The host name of a directory, read from its end; nothing for the root.
+    fn name_backward(&self, dir: Ino) -> Result<Option<Vec<u8>>, NoMemory>
+        ensures { IfOk result (λ name. option_map (λ b. b.items) name ≡ option_map (λ text. reverse (below_root text)) (host_name self.now dir)) }
+    {
+        // No directory is met twice on the way up, so it has fewer steps than numbers were drawn.
+        let mut backward = Vec::new(self.alloc);
+        let mut at = dir;
+        for _step in 0..self.next {
+            if at == ROOT {
+                return Ok(Some(backward));
+            }
+            match self.step_up(at) {
+                Some((name, up)) => {
+                    append_backward(&mut backward, name)?;
+                    at = up;
+                }
+                None => return Ok(None),
+            }
+        }
+        Ok(None)
+    }
+
     /// Whether there is no room for one inode more, with a name and `size` bytes.
     fn has_no_room(&self, size: u64) -> bool
         requires { size < 2 ^ 63 }
@@ -388,16 +601,6 @@ impl Tree {
         COUNT_LIMIT as usize <= self.store.len()
             || COUNT_LIMIT <= self.names
             || BYTE_LIMIT < self.bytes + size
-    }
-
-    /// Whether an inode is a directory, as the process directory is.
-    fn is_directory(&self, ino: Ino) -> bool
-        ensures { result ≡ body_is is_directory self.now ino }
-    {
-        match self.store.get(ino) {
-            Some(inode) => inode.is_directory(),
-            None => false,
-        }
     }
 
     /// How many bytes an inode has.

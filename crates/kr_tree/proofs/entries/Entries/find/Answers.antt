@@ -1,6 +1,8 @@
 use Rattle.std.proofs.Common.{◌∙◌}
-use Rattle.kr_tree.proofs.EntryLemmas.{slot-found}
+use Rattle.kr_tree.proofs.PairLemmas.{found}
 use Rattle.kr_tree.proofs.entries.Entries.find.Goals as goal
 
 pub returns : goal.returns
-returns c = rw (← c.self.view_is) (c.copied.ensures ∙ (c.get.ensures.value ∙ slot-found c.args.name.now c.self.inside.by_name.entries))
+returns c =
+    let d = c.self.inside in
+    rw (← c.self.view_is) (c.copied.ensures ∙ (c.get.ensures.value ∙ found c.args.name.now d.by_name.entries d.by_serial.entries c.self.invariant.0 c.self.invariant.1.distinct))

@@ -1,9 +1,11 @@
-use Rattle.std.proofs.Common.{List, sym, subst, Vec}
-use Rattle.std.specs.declared.alloc.Global.{Global}
-use Rattle.kr_tree.specs.declared.entries.Slot.{Slot}
-use Rattle.kr_tree.specs.Entries.{IsListed, list_of}
+use Rattle.std.proofs.Common.{List, sym, subst}
+use Rattle.kr_tree.specs.Tree.{Entry}
+use Rattle.kr_tree.specs.Entries.{IsListed}
 use Rattle.kr_tree.proofs.EntryLemmas.{listed-none}
+use Rattle.kr_tree.proofs.PairLemmas.{none_in_none, paired-none}
 use Rattle.kr_tree.proofs.entries.Entries.new.Goals as goal
 
 pub invariant_of-result : goal.invariant_of-result
-invariant_of-result c = let P : List (Vec _ Global × Slot) → Type 0 = λ es. IsListed (record { list = list_of es; next = 3 }) in subst P (sym c.new.ensures.empty) listed-none
+invariant_of-result c =
+    let P : List Entry → Type 0 = λ es. IsListed (record { list = es; next = 3 }) in
+    (paired-none c.new.result.entries c.new-2.result.entries c.new.ensures.empty c.new-2.ensures.empty c.new-2.ensures.ordered, subst P (sym (none_in_none c.new.result.entries c.new-2.result.entries c.new-2.ensures.empty)) listed-none)
