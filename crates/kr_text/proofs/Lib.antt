@@ -15,3 +15,6 @@ pub mod ReadLemmas
 pub mod ReadingRows
 pub mod ThreeLines
 pub mod WalkLemmas
+pub mod WrittenFields
+pub mod WrittenLines
+pub mod WrittenPaths
