@@ -26,7 +26,7 @@ pub line_ends : (kind : List ℕ) (fields : List (List ℕ)) → line kind field
 line_ends kind [] = refl
 line_ends kind (field ∷ fields) = ap (λ more. kind ++ 32 ∷ more) (line_ends field fields) ∙ sym (append_assoc kind (32 ∷ joined field fields) (10 ∷ []))
 
-at_each : {A : Type 0} (P : A → Type 0) (xs : List A) → AllByRecursion P xs → All P xs
+pub at_each : {A : Type 0} (P : A → Type 0) (xs : List A) → AllByRecursion P xs → All P xs
 at_each P [] all k d lt = absurd (omega arith)
 at_each P (x ∷ xs) all zero d lt = all.0
 at_each P (x ∷ xs) all (suc k) d lt = at_each P xs all.1 k d (omega arith)
@@ -61,7 +61,7 @@ joined_plain kind (field ∷ fields) is are = plain-append kind (32 ∷ joined f
 
 -- ---- what each line says
 
-one_letter : (c : ℕ) → 33 ≤ c → c ≤ 126 → AreGraphic (c ∷ [])
+pub one_letter : (c : ℕ) → 33 ≤ c → c ≤ 126 → AreGraphic (c ∷ [])
 one_letter c low high = ((low, high), tt)
 
 -- an owner whose numbers a listing can have

@@ -1,17 +1,19 @@
 -- When two trees show the same, whatever the numbers of their inodes and serials, and which trees a
 -- listing can stand for.
-use Rattle.std.specs.Prelude.{◌≡◌, ◌≢◌, ℕ, ◌+◌, ◌≤◌, ◌<◌, List, [], ◌∷◌, ◌++◌, length, Bool, true, false, Option, Some, None, ◌↔◌}
+use Rattle.std.specs.Prelude.{◌≡◌, ◌≢◌, ℕ, ◌+◌, ◌≤◌, ◌<◌, List, [], ◌∷◌, ◌++◌, length, Bool, true, false, Option, Some, None, Ok, ◌↔◌}
 use Rattle.std.specs.List.{AllByRecursion}
 use Rattle.std.specs.Option.{option_map, option_map_or, option_and_then}
 use Rattle.kr_tree.specs.declared.user.User.{User}
 use Rattle.kr_tree.specs.Tree.{Tree, Node, Body, Directory, RegularFile, SymbolicLink, ProcessDirectory, node, body_is, is_file, bytes_of}
 use Rattle.kr_tree.specs.Names.{named}
+use Rattle.kr_tree.specs.Lawful.{IsKept}
 use Rattle.kr_tree.specs.Changes.{count_limit, byte_limit}
 use Rattle.pr_base.specs.Paths.{text_of}
 use Rattle.kr_text.specs.declared.names.Named.{Named}
 use Rattle.kr_text.specs.Fields.{largest_id, largest_mode, path_limit, unescaped}
 use Rattle.kr_text.specs.Lines.{link_mode}
-use Rattle.kr_text.specs.Canonical.{first_name, all_names, escaped}
+use Rattle.kr_text.specs.Canonical.{first_name, all_names, escaped, canonical}
+use Rattle.kr_text.specs.Reading.{listing_of}
 
 -- ---- what a text shows
 
@@ -93,6 +95,8 @@ pub record CanBeListed (t : Tree) (user : User) : Type 0 where
   pub bodies : (text : List (List ℕ)) (n : Node) → shown t text ≡ Some n → CanBeWritten n n.body
   pub one_process_directory : (a b : List (List ℕ)) (n m : Node) → shown t a ≡ Some n → shown t b ≡ Some m → is_process_directory n.body ≡ true → is_process_directory m.body ≡ true → a ≡ b
   pub paths : (text : List (List ℕ)) (n : Node) → shown t text ≡ Some n → (length (text_of text) ≤ path_limit) × AreTextBytes (text_of text)
+  -- the limits, where a link counts once for each of its names; the root's name isn't counted
+  pub names : length (all_names t) ≤ count_limit + 1
   pub inodes : inodes_read t ≤ count_limit
   pub bytes : bytes_read t ≤ byte_limit
 
@@ -100,3 +104,7 @@ pub record CanBeListed (t : Tree) (user : User) : Type 0 where
 
 abbrev pub EscapesAreReadBack : Type 0
 EscapesAreReadBack = (bytes : List ℕ) → AreTextBytes bytes → unescaped (escaped bytes) ≡ Some bytes
+
+-- reading the canonical listing of a tree that can be listed gives its user and the same tree
+abbrev pub ListingsAreReadBack : Type 0
+ListingsAreReadBack = (t : Tree) (user : User) (elf : List ℕ) → IsKept t → CanBeListed t user → (u : Tree) × (listing_of elf (canonical t user) ≡ Ok (u, user)) × IsSame t u
