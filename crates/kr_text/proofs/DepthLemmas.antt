@@ -43,11 +43,11 @@ named_above t name text i is = go (named t text) refl is
     go (Some dir) at same = (dir, at, same)
 
 -- an inode stands in one place
-one_standing : (o : Option Standing) (s r : Standing) → o ≡ Some s → o ≡ Some r → s ≡ r
+pub one_standing : (o : Option Standing) (s r : Standing) → o ≡ Some s → o ≡ Some r → s ≡ r
 one_standing o s r is also = let both : Some s ≡ Some r = sym is ∙ also in cc
 
 -- where an entry is that of a directory, that stands there
-stands_in : (t : Tree) → IsKept t → (dir : ℕ) (name : List ℕ) (i : ℕ) → entry t dir name ≡ Some i → body_is is_directory t i ≡ true → (s : Standing) × (standing t i ≡ Some s) × (s.inode ≡ dir) × (2 < s.serial)
+pub stands_in : (t : Tree) → IsKept t → (dir : ℕ) (name : List ℕ) (i : ℕ) → entry t dir name ≡ Some i → body_is is_directory t i ≡ true → (s : Standing) × (standing t i ≡ Some s) × (s.inode ≡ dir) × (2 < s.serial)
 stands_in t kept dir name i is directory =
     let found = entry_in t dir name i is in
     let e : Entry = found.0 in
@@ -56,7 +56,7 @@ stands_in t kept dir name i is directory =
     (s, ap (standing t) (sym found.2) ∙ kept.sound.alone dir e found.1 (subst (λ j. body_is is_directory t j ≡ true) (sym found.2) directory), refl, (in_above 2 rises.0 (entries t dir) e rises.1 found.1).0)
 
 -- no entry is the root's
-root_is_no_entry : (t : Tree) → IsKept t → (dir : ℕ) (name : List ℕ) → entry t dir name ≡ Some root → ⊥
+pub root_is_no_entry : (t : Tree) → IsKept t → (dir : ℕ) (name : List ℕ) → entry t dir name ≡ Some root → ⊥
 root_is_no_entry t kept dir name is =
     let at = stands_in t kept dir name root is (root_directory t kept.sound) in
     let none = ap (λ s. s.serial) (one_standing (standing t root) at.0 (record { inode = root; serial = 0 }) at.1 kept.sound.rooted) in

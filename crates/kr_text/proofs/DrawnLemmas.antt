@@ -16,7 +16,7 @@ use Rattle.kr_tree.proofs.InodesLemmas.{get-insert_same, get-insert_other, get-w
 use Rattle.kr_text.specs.Drawn.{IsDrawn, after_last}
 
 -- what isn't drawn yet isn't there
-next_free : (t : Tree) → IsKept t → inode t t.next ≡ None
+pub next_free : (t : Tree) → IsKept t → inode t t.next ≡ None
 next_free t kept = go (inode t t.next) refl
   where
     go : (o : Option Inode) → inode t t.next ≡ o → o ≡ None
@@ -45,10 +45,10 @@ insert_each P m k y new others = by_inode (λ q. (x : Inode) → map.get (map.in
     (λ x e. subst P (same y x (sym (get-insert_same m k y) ∙ e)) new)
     (λ q n x e. others q x (sym (get-insert_other m k y q n) ∙ e))
 
-len_more : (m : Inodes) (k : ℕ) (y : Inode) → map.get m k ≡ None → map.len (map.insert m k y) ≡ map.len m + 1
+pub len_more : (m : Inodes) (k : ℕ) (y : Inode) → map.get m k ≡ None → map.len (map.insert m k y) ≡ map.len m + 1
 len_more m k y none = map.len-insert nat_cmp_total m k y ∙ ap (λ o. cond (is_some o) (map.len m) (map.len m + 1)) none
 
-other_number : (t : Tree) (dir : ℕ) (x : Inode) → IsKept t → inode t dir ≡ Some x → t.next ≢ dir
+pub other_number : (t : Tree) (dir : ℕ) (x : Inode) → IsKept t → inode t dir ≡ Some x → t.next ≢ dir
 other_number t dir x kept there is = let l = (kept.sound.numbered dir x there).1 in omega (arith, l, is)
 
 -- ---- a directory to which names can be added

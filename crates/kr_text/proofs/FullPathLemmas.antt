@@ -18,13 +18,17 @@ whole : (name : List ℕ) → 0 < length name → All (λ b. is_slash b ≡ fals
 whole [] some plain = absurd (omega arith)
 whole (b ∷ name) some plain = ap not_empty (slice_split_none is_slash (b ∷ name) plain)
 
-pub name_is_whole : (name : List ℕ) → is_name name ≡ true → parts_of name ≡ name ∷ []
-name_is_whole name h =
+-- a name has bytes, none of which is a slash
+pub name_bytes : (name : List ℕ) → is_name name ≡ true → (0 < length name) × All (λ b. is_slash b ≡ false) name
+name_bytes name h =
     let named = and_parts (nat_lt 0 (length name) && nat_le (length name) 255 && list_all (λ b. not (nat_eq b 47 || nat_eq b 0)) name) (not (is_dots name)) h in
     let plain = and_parts (nat_lt 0 (length name) && nat_le (length name) 255) (list_all (λ b. not (nat_eq b 47 || nat_eq b 0)) name) named.0 in
     let some = and_parts (nat_lt 0 (length name)) (nat_le (length name) 255) plain.0 in
     let bytes = AllPass-from_list_all (λ b. not (nat_eq b 47 || nat_eq b 0)) name plain.1 in
-    whole name (ltb-true 0 (length name) some.0) (λ k d l. first_false (nat_eq (get_or name k d) 47) (nat_eq (get_or name k d) 0) (bytes k d l))
+    (ltb-true 0 (length name) some.0, λ k d l. first_false (nat_eq (get_or name k d) 47) (nat_eq (get_or name k d) 0) (bytes k d l))
+
+pub name_is_whole : (name : List ℕ) → is_name name ≡ true → parts_of name ≡ name ∷ []
+name_is_whole name h = let bytes = name_bytes name h in whole name bytes.0 bytes.1
 
 pub names_below : (path name : List ℕ) → is_name name ≡ true → reverse (parts_of ((path ++ 47 ∷ []) ++ name)) ≡ name ∷ reverse (parts_of path)
 names_below path name h =

@@ -20,7 +20,7 @@ use Rattle.kr_text.proofs.DepthLemmas.{depth_limited}
 
 -- ---- lists
 
-all-mapped : {A : Type 0} (P Q : A → Type 0) (xs : List A) → AllByRecursion P xs → ((x : A) → P x → Q x) → AllByRecursion Q xs
+pub all-mapped : {A : Type 0} (P Q : A → Type 0) (xs : List A) → AllByRecursion P xs → ((x : A) → P x → Q x) → AllByRecursion Q xs
 all-mapped P Q [] all each = tt
 all-mapped P Q (x ∷ xs) all each = (each x all.0, all-mapped P Q xs all.1 each)
 
@@ -38,21 +38,21 @@ flat_map-same f g h (x ∷ xs) all = let one = all.0 in let more = flat_map-same
 abbrev pub IsNamed : Tree → Named → Type 0
 IsNamed t n = named t n.path ≡ Some n.ino
 
-each_entry : (t : Tree) (dir : ℕ) → IsKept t → (e : Entry) → IsIn e (entries t dir) → entry t dir e.name ≡ Some e.inode
+pub each_entry : (t : Tree) (dir : ℕ) → IsKept t → (e : Entry) → IsIn e (entries t dir) → entry t dir e.name ≡ Some e.inode
 each_entry t dir kept e is = go (inode t dir) refl is
   where
     go : (o : Option Inode) → inode t dir ≡ o → IsIn e (option_map_or (λ x. entries_of x.node.body) o []) → option_map (λ f. f.inode) (entry_named e.name (option_map_or (λ x. entries_of x.node.body) o [])) ≡ Some e.inode
     go None none in_none = absurd in_none
     go (Some x) there in_some = ap (option_map (λ f. f.inode)) (in_named e.name (entries_of x.node.body) e (kept.sound.listed dir x there).distinct in_some (nat_list_eq_equiv.refl e.name))
 
-below_named : (t : Tree) (n : Named) (p : List ℕ × ℕ) → IsNamed t n → entry t n.ino p.0 ≡ Some p.1 → IsNamed t (below n.path p)
+pub below_named : (t : Tree) (n : Named) (p : List ℕ × ℕ) → IsNamed t n → entry t n.ino p.0 ≡ Some p.1 → IsNamed t (below n.path p)
 below_named t n p is entry_is = ap (option_and_then (λ dir. entry t dir p.0)) is ∙ entry_is
 
 pub children_named : (t : Tree) → IsKept t → (n : Named) → IsNamed t n → AllByRecursion (λ p. IsNamed t (below n.path p)) (put_in_order [] (entries t n.ino))
 children_named t kept n is = all-put (λ p. IsNamed t (below n.path p)) [] (entries t n.ino) tt (λ e is_in. below_named t n (e.name, e.inode) is (each_entry t n.ino kept e is_in))
 
 -- at the greatest depth there is nothing below
-no_children : (t : Tree) → IsKept t → (n : Named) → IsNamed t n → map.len t.inodes ≤ length n.path → children t n ≡ []
+pub no_children : (t : Tree) → IsKept t → (n : Named) → IsNamed t n → map.len t.inodes ≤ length n.path → children t n ≡ []
 no_children t kept n is deep = go (entries t n.ino) refl
   where
     go : (es : List Entry) → entries t n.ino ≡ es → map_list (below n.path) (put_in_order [] es) ≡ []

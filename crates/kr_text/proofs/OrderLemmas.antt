@@ -83,7 +83,7 @@ entries_rise t dir kept = go (inode t dir) refl
     go (Some x) e = (x.next_serial, (kept.sound.listed dir x e).rises)
 
 -- the names of a directory are names
-well_formed_in : (es : List Entry) (e : Entry) → AllByRecursion (λ name. is_name name ≡ true) (names_in es) → IsIn e es → is_name e.name ≡ true
+pub well_formed_in : (es : List Entry) (e : Entry) → AllByRecursion (λ name. is_name name ≡ true) (names_in es) → IsIn e es → is_name e.name ≡ true
 well_formed_in [] e all is = absurd is
 well_formed_in (x ∷ es) e all (inl same) = subst (λ y. is_name y.name ≡ true) same all.0
 well_formed_in (x ∷ es) e all (inr is) = well_formed_in es e all.1 is

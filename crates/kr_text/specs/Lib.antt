@@ -8,4 +8,5 @@ pub mod Order
 pub mod Pieces
 pub mod Reading
 pub mod Results
+pub mod Same
 pub mod Spots

@@ -4,6 +4,7 @@
 mod canonical;
 mod escape;
 mod fault;
+pub mod laws;
 mod line;
 mod listing;
 mod names;
