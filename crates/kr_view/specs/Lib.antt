@@ -1,0 +1,17 @@
+pub mod Answers
+pub mod Begins
+pub mod Component
+pub mod HostNames
+pub mod Leads
+pub mod Names
+pub mod Parts
+pub mod Positions
+pub mod Reach
+pub mod Rests
+pub mod Rows
+pub mod Sights
+pub mod Stacks
+pub mod Steps
+pub mod View
+pub mod Walk
+pub mod Ways
