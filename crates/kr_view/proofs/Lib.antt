@@ -8,4 +8,5 @@ pub mod ResolveLemmas
 pub mod RestLemmas
 pub mod StackLemmas
 pub mod StepLemmas
+pub mod TableLemmas
 pub mod WalkLemmas

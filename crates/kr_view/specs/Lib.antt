@@ -2,6 +2,7 @@ pub mod Answers
 pub mod Begins
 pub mod Component
 pub mod HostNames
+pub mod Laws
 pub mod Leads
 pub mod Names
 pub mod Parts

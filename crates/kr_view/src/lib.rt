@@ -2,6 +2,7 @@
 #![tactic(auto)]
 
 mod around;
+pub mod laws;
 mod name;
 mod part;
 mod position;
