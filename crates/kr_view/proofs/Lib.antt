@@ -1,0 +1,12 @@
+pub mod HostNameLemmas
+pub mod LandingLemmas
+pub mod LastLemmas
+pub mod NameLemmas
+pub mod OutcomeLemmas
+pub mod ReachLemmas
+pub mod ResolveLemmas
+pub mod RestLemmas
+pub mod StackLemmas
+pub mod StepLemmas
+pub mod TableLemmas
+pub mod WalkLemmas

@@ -1,0 +1,59 @@
+-- Laws of views and of walks over them.
+use Rattle.std.specs.Prelude.{ℕ, ◌≡◌, Bool, true, false, List, [], ◌∷◌, Some}
+use Rattle.std.specs.Option.{option_map}
+use Rattle.pr_base.specs.Paths.{Component}
+use Rattle.pr_base.specs.WalkFrame.{after_look, ends_here, walk_on}
+use Rattle.pr_base.specs.declared.path.WalkMode.{WalkMode}
+use Rattle.kr_tree.specs.declared.place.Place.{Place}
+use Rattle.kr_tree.specs.Tree.{Tree, body, body_is, entry, is_directory, is_listed}
+use Rattle.kr_tree.specs.Lawful.{IsSound}
+use Rattle.kr_view.specs.View.{Row, row, node_in, root_place, root_source, down, up, covered, plain, is_there, StandsIn}
+use Rattle.kr_view.specs.Component.{Surroundings, look}
+use Rattle.kr_view.specs.Walk.{looking}
+use Rattle.kr_view.specs.Steps.{middle_trail, last_trail}
+
+-- ---- views
+
+-- a place is the source of its mount, there and of the kind of which it was settled
+pub record IsSettledSource (t : Tree) (table : List Row) (q : Place ℕ) : Type 0 where
+  pub settled : Row
+  pub there : row table q.mount ≡ Some settled
+  pub place : q ≡ node_in q.mount settled.source
+  pub kind : option_map is_directory (body t settled.source) ≡ Some settled.is_dir
+
+-- a place is a directory of a mount
+pub record IsDirectoryIn (t : Tree) (q : Place ℕ) : Type 0 where
+  pub dir : ℕ
+  pub place : q ≡ node_in q.mount dir
+  pub listed : body_is is_listed t dir ≡ true
+
+-- the laws of the mounts of a view that stands in a tree
+pub record LawsOfPlaces (t : Tree) (table : List Row) : Type 0 where
+  -- where paths begin is a directory
+  pub root_stands : IsSettledSource t table (root_place table)
+  pub root_kind : option_map is_directory (body t (root_source table)) ≡ Some true
+  -- a mount point leads to the source of the mount that stands there, and from that source one comes
+  -- back to its directory
+  pub down_stands : (mount dir : ℕ) (name : List ℕ) (q : Place ℕ) → down table mount dir name ≡ Some q → IsSettledSource t table q
+  pub down_up : (mount dir : ℕ) (name : List ℕ) (k i : ℕ) → down table mount dir name ≡ Some (node_in k i) → up table k i ≡ Some (node_in mount dir)
+  pub up_stands : (mount dir : ℕ) (q : Place ℕ) → up table mount dir ≡ Some q → IsDirectoryIn t q
+  -- a name to which a mount leads is covered, and a covered name is an entry of a directory
+  pub down_covered : (mount dir : ℕ) (name : List ℕ) → is_there (down table mount dir name) ≡ true → covered table dir name ≡ true
+  pub covered_there : (dir : ℕ) (name : List ℕ) → covered table dir name ≡ true → (body_is is_listed t dir ≡ true) × (is_there (entry t dir name) ≡ true)
+
+abbrev pub PlacesHaveTheirLaws : Type 0
+PlacesHaveTheirLaws = (t : Tree) (table : List Row) → StandsIn t table → LawsOfPlaces t table
+
+abbrev pub PlainStands : Type 0
+PlainStands = (t : Tree) → IsSound t → StandsIn t plain
+
+-- ---- walks
+
+-- the walk along no component ends where it begins, and along some it looks at the first one
+pub record WalksGoByComponents : Type 0 where
+  pub none : (around : Surroundings) (mode : WalkMode) (left : ℕ) (s : Place ℕ) (slash : Bool) → walk_on (looking around) mode left s [] slash ≡ ends_here (looking around) s slash
+  pub last : (around : Surroundings) (mode : WalkMode) (left : ℕ) (s : Place ℕ) (c : Component) (slash : Bool)
+      → walk_on (looking around) mode left s (c ∷ []) slash ≡ after_look (record { place = s; component = c; is_last = true }) (last_trail around mode left s c slash (look around s c))
+  pub middle : (around : Surroundings) (mode : WalkMode) (left : ℕ) (s : Place ℕ) (c d : Component) (cs : List Component) (slash : Bool)
+      → walk_on (looking around) mode left s (c ∷ d ∷ cs) slash
+      ≡ after_look (record { place = s; component = c; is_last = false }) (middle_trail around mode left s (d ∷ cs) slash (look around s c))

@@ -1,0 +1,122 @@
+-- What a walk reaches: the longest host name of a place or free name, its base included, and whether it
+-- looks up a name in the process directory. A place without a name doesn't count.
+use Rattle.std.specs.Prelude.{ℕ, ◌≤◌, ◌≡◌, Bool, true, false, ◌||◌, List, [], ◌∷◌, length, max, Option, Some, None, Result, Ok, Err, if◌then◌else◌}
+use Rattle.std.specs.Option.{option_map}
+use Rattle.pr_base.specs.Paths.{text_of, below_root}
+use Rattle.pr_base.specs.WalkFrame.{Fails, Missing, Leads, Links, Jumps, Landing, LookedAt}
+use Rattle.pr_base.specs.declared.errno.Errno.{Errno}
+use Rattle.pr_base.specs.declared.errno.Errno.TheVariants.{ENOTDIR}
+use Rattle.pr_base.specs.declared.path.Last.{Last}
+use Rattle.pr_base.specs.declared.path.Last.TheVariants as last
+use Rattle.kr_tree.specs.declared.place.Host.{Host}
+use Rattle.kr_tree.specs.declared.place.Place.{Place}
+use Rattle.kr_view.specs.declared.target.Reach.{Reach}
+use Rattle.kr_view.specs.Component.{Surroundings, SeenPlace, look, meets_processes}
+use Rattle.kr_view.specs.Names.{Text, directory_name, component_name, free_name, landing_name}
+use Rattle.kr_view.specs.Walk.{PlaceTrail, PlaceTarget}
+
+-- ---- lengths
+
+abbrev pub text_length : Text → ℕ
+text_length names = length (text_of names)
+
+-- how many bytes a text has below the root
+abbrev pub bytes_below : Text → ℕ
+bytes_below names = length (below_root names)
+
+-- a number, or another where that is there and greater
+abbrev pub greater : Option ℕ → ℕ → ℕ
+greater (Some k) n = max n k
+greater None n = n
+
+-- a length, or that of a name where it is greater
+abbrev pub raised : Option Text → ℕ → ℕ
+raised name n = greater (option_map text_length name) n
+
+abbrev pub raised_by_all : List (Option Text) → ℕ → ℕ
+raised_by_all [] n = n
+raised_by_all (name ∷ names) n = raised_by_all names (raised name n)
+
+-- ---- one look
+
+-- the name of what is there
+abbrev pub seen_name : Option Text → SeenPlace → Option Text
+seen_name name (Fails e) = None
+seen_name name Missing = None
+seen_name name (Leads is_dir p found) = name
+seen_name name (Links found text) = name
+seen_name name (Jumps found lead) = name
+
+abbrev pub lead_name : Surroundings → Option (Landing (Place ℕ) (Place ℕ)) → Option Text
+lead_name around (Some landing) = landing_name around landing
+lead_name around None = None
+
+-- the name of what a process link leads to
+abbrev pub jump_name : Surroundings → SeenPlace → Option Text
+jump_name around (Fails e) = None
+jump_name around Missing = None
+jump_name around (Leads is_dir p found) = None
+jump_name around (Links found text) = None
+jump_name around (Jumps found lead) = lead_name around lead
+
+-- the names that a look reaches: its place, what it shows, and where a process link that the walk
+-- followed leads
+abbrev pub look_names : Surroundings → Place ℕ → SeenPlace → Option Text → Bool → List (Option Text)
+look_names around p seen name followed =
+    directory_name around p.host ∷ seen_name name seen ∷ (if followed then jump_name around seen else None) ∷ []
+
+-- what was reached after a look
+abbrev pub look_reach : Surroundings → LookedAt (Place ℕ) → Bool → Reach → Reach
+look_reach around l followed r = record {
+  longest = raised_by_all (look_names around l.place (look around l.place l.component) (component_name around l.place l.component) followed) r.longest;
+  met_proc = r.met_proc || meets_processes around l.place l.component;
+}
+
+-- ---- a trail
+
+abbrev pub is_no_directory : Errno → Bool
+is_no_directory ENOTDIR = true
+is_no_directory _ = false
+
+-- whether the last component was a process link that was followed: it led to what was found, or to
+-- what is no directory where one was wanted
+abbrev pub has_landed : Result PlaceTarget Errno → Bool
+has_landed (Ok target) = target.jumped
+has_landed (Err e) = is_no_directory e
+
+-- whether a walk went on behind the look before these
+abbrev pub went_on : List (LookedAt (Place ℕ)) → Result PlaceTarget Errno → Bool
+went_on [] answer = has_landed answer
+went_on (l ∷ looks) answer = true
+
+abbrev pub free_target_name : Surroundings → PlaceTarget → Option (Place ℕ) → Option Text
+free_target_name around target (Some p) = None
+free_target_name around target None = free_name around target.dir.host target.name
+
+-- where a path, or the text of a link, has no component, the place where it begins
+abbrev pub beginning_name : Surroundings → Host → Last → Option Text
+beginning_name around host last.Root = directory_name around host
+beginning_name around host last.Name = None
+beginning_name around host last.Dot = None
+beginning_name around host last.DotDot = None
+
+-- the names at the end that no look reached
+abbrev pub end_names : Surroundings → Result PlaceTarget Errno → List (Option Text)
+end_names around (Ok target) = beginning_name around target.dir.host target.last ∷ free_target_name around target target.found ∷ []
+end_names around (Err e) = []
+
+abbrev pub end_reach : Surroundings → Result PlaceTarget Errno → Reach → Reach
+end_reach around answer r = record { longest = raised_by_all (end_names around answer) r.longest; met_proc = r.met_proc }
+
+abbrev pub reach_along : Surroundings → List (LookedAt (Place ℕ)) → Result PlaceTarget Errno → Reach → Reach
+reach_along around [] answer r = end_reach around answer r
+reach_along around (l ∷ looks) answer r = reach_along around looks answer (look_reach around l (went_on looks answer) r)
+
+-- what was reached after a walk
+abbrev pub reach_after : Surroundings → PlaceTrail → Reach → Reach
+reach_after around trail r = reach_along around trail.looks trail.answer r
+
+-- one reach has all that another has
+pub record Covers (more less : Reach) : Type 0 where
+  pub longest : less.longest ≤ more.longest
+  pub met_proc : less.met_proc ≡ true → more.met_proc ≡ true

@@ -1,0 +1,34 @@
+-- What a walk has in its hands, as plain data: its surroundings, and what a component shows.
+use Rattle.std.specs.Prelude.{ℕ, List, Option}
+use Rattle.pr_base.specs.WalkFrame as frame
+use Rattle.kr_tree.specs.declared.place.ProcAt.{ProcAt}
+use Rattle.kr_tree.specs.declared.user.User.{User}
+use Rattle.kr_tree.specs.Tree.{Tree}
+use Rattle.kr_view.specs.declared.procs.Lead.{Lead}
+use Rattle.kr_view.specs.declared.around.Around.{Around}
+use Rattle.kr_view.specs.declared.around.Sight.{Sight}
+use Rattle.kr_view.specs.declared.around.Sight.TheVariants.{Fails, Missing, Leads, Links, Jumps}
+use Rattle.kr_view.specs.View.{Row}
+use Rattle.kr_view.specs.Leads.{numbered, lead_numbered}
+use Rattle.kr_view.specs.Component.{Surroundings, SeenPlace, seen_link}
+
+-- what a view, a tree and the processes show to a caller, with the numbers of the mounts
+abbrev pub surroundings : {M : Type 0} → (M → ℕ) → List Row → Tree → User → (Option ProcAt → List ℕ → Option ProcAt) → (ProcAt → Lead M) → Surroundings
+surroundings number table tree user finds leads = record {
+  table = table;
+  tree = tree;
+  user = user;
+  finds = finds;
+  leads = λ at. lead_numbered number (leads at);
+}
+
+abbrev pub scene : {M P Q : Type 0} → (M → ℕ) → (P → List Row) → (Q → ℕ → Option ProcAt → List ℕ → Option ProcAt) → (Q → ℕ → ProcAt → Lead M) → Around P Q → Surroundings
+scene number mounts finds leads a =
+    surroundings number (mounts a.places.now) a.tree.now a.user (finds a.procs.now a.caller) (leads a.procs.now a.caller)
+
+abbrev pub sight_seen : {M : Type 0} → (M → ℕ) → Surroundings → Sight M → SeenPlace
+sight_seen number around (Fails e) = frame.Fails e
+sight_seen number around Missing = frame.Missing
+sight_seen number around (Leads spot is_dir) = frame.Leads is_dir (numbered number spot.place) (numbered number spot.place)
+sight_seen number around (Links spot text) = frame.Links (numbered number spot.place) text.now
+sight_seen number around (Jumps spot at) = seen_link around (numbered number spot.place) (around.leads at)

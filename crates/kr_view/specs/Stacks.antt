@@ -1,0 +1,13 @@
+-- What is left to be read of a walk's paths.
+use Rattle.std.specs.Prelude.{ℕ, List, slice_range}
+use Rattle.pr_base.specs.Paths.{Component}
+use Rattle.kr_view.specs.declared.rests.Rests.{Rests}
+use Rattle.kr_view.specs.declared.rests.Taken.{Taken}
+use Rattle.kr_view.specs.Rests.{stacked}
+
+abbrev pub stack_of : Rests → List Component
+stack_of rests = stacked rests.list.items
+
+-- the component that was taken
+abbrev pub taken_part : Taken → List ℕ
+taken_part taken = slice_range taken.rest.text taken.span.begin taken.span.end

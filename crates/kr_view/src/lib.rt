@@ -1,0 +1,20 @@
+//! Path resolution on the tree of inodes, over any view of its mounts.
+#![tactic(auto)]
+
+mod around;
+pub mod laws;
+mod name;
+mod part;
+mod position;
+pub mod procs;
+mod rest;
+mod rests;
+pub mod target;
+pub mod view;
+mod walk;
+
+pub use kr_tree::{Host, Ino, Place, ProcAt};
+pub use procs::{Lead, NoProcs, Procs};
+pub use target::{Reach, Target, WalkFault};
+pub use view::{HostMount, MountRow, Places, Plain};
+pub use walk::resolve;
