@@ -1,3 +1,4 @@
+pub mod FoundLemmas
 pub mod HostNameLemmas
 pub mod LandingLemmas
 pub mod LastLemmas

@@ -1,15 +1,16 @@
 -- Laws of views and of walks over them.
-use Rattle.std.specs.Prelude.{ℕ, ◌≡◌, Bool, true, false, List, [], ◌∷◌, Some}
+use Rattle.std.specs.Prelude.{ℕ, ◌≡◌, ◌≢◌, Bool, true, false, List, [], ◌∷◌, Option, Some, None, Ok}
 use Rattle.std.specs.Option.{option_map}
-use Rattle.pr_base.specs.Paths.{Component}
-use Rattle.pr_base.specs.WalkFrame.{after_look, ends_here, walk_on}
+use Rattle.pr_base.specs.Paths.{Component, kind_of}
+use Rattle.pr_base.specs.WalkFrame.{Seen, Fails, Missing, Leads, Links, Jumps, Looking, Target, name_of, after_look, ends_here, walk_on}
+use Rattle.pr_base.specs.declared.path.Last.TheVariants as last
 use Rattle.pr_base.specs.declared.path.WalkMode.{WalkMode}
 use Rattle.kr_tree.specs.declared.place.Place.{Place}
 use Rattle.kr_tree.specs.Tree.{Tree, body, body_is, entry, is_directory, is_listed}
 use Rattle.kr_tree.specs.Lawful.{IsSound}
 use Rattle.kr_view.specs.View.{Row, row, node_in, root_place, root_source, down, up, covered, plain, is_there, StandsIn}
-use Rattle.kr_view.specs.Component.{Surroundings, look}
-use Rattle.kr_view.specs.Walk.{looking}
+use Rattle.kr_view.specs.Component.{Surroundings, look, is_directory_at}
+use Rattle.kr_view.specs.Walk.{PlaceTarget, looking, place_walk}
 use Rattle.kr_view.specs.Steps.{middle_trail, last_trail}
 
 -- ---- views
@@ -57,3 +58,23 @@ pub record WalksGoByComponents : Type 0 where
   pub middle : (around : Surroundings) (mode : WalkMode) (left : ℕ) (s : Place ℕ) (c d : Component) (cs : List Component) (slash : Bool)
       → walk_on (looking around) mode left s (c ∷ d ∷ cs) slash
       ≡ after_look (record { place = s; component = c; is_last = false }) (middle_trail around mode left s (d ∷ cs) slash (look around s c))
+
+-- what a component shows is what was found
+abbrev pub Shows : {S F : Type 0} → Seen S F → Option F → Type 0
+Shows (Fails e) found = ⊥
+Shows Missing found = found ≡ None
+Shows (Leads is_dir q f) found = found ≡ Some f
+Shows (Links f text) found = found ≡ Some f
+Shows (Jumps f lead) found = found ≡ Some f
+
+-- a target is what its last component shows from its directory
+abbrev pub IsShown : {S F : Type 0} → Looking S F → Target S F → Type 0
+IsShown looking t = (c : Component) × (kind_of c ≡ t.last) × (name_of c ≡ t.name) × Shows (looking.look t.dir c) t.found
+
+-- a walk that ends with a component, and not with where a process link leads, found what that component
+-- shows; so its directory is one
+pub record FoundIsShown : Type 0 where
+  pub shown : (around : Surroundings) (mode : WalkMode) (base : Place ℕ) (path : List ℕ) (t : PlaceTarget) → (place_walk around mode base path).answer ≡ Ok t → t.jumped ≡ false → t.last ≢ last.Root
+      → IsShown (looking around) t
+  pub in_directory : (around : Surroundings) (mode : WalkMode) (base : Place ℕ) (path : List ℕ) (t : PlaceTarget) → (place_walk around mode base path).answer ≡ Ok t → t.jumped ≡ false → t.last ≢ last.Root
+      → is_directory_at around t.dir.host ≡ true

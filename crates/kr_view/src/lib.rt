@@ -18,3 +18,6 @@ pub use procs::{Lead, NoProcs, Procs};
 pub use target::{Reach, Target, WalkFault};
 pub use view::{HostMount, MountRow, Places, Plain};
 pub use walk::resolve;
+
+#[cfg(test)]
+mod tests;
