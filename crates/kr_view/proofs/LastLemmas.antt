@@ -1,11 +1,10 @@
 -- The end of a walk.
-use Rattle.std.proofs.Common.{◌≡◌, ◌≢◌, ℕ, Bool, true, false, not, ◌||◌, ◌&&◌, List, [], ◌++◌, append-nil, Some, None, Result, Ok, Err, refl, sym, ap, subst, ◌∙◌, ◌≤◌, length, arith}
-use Rattle.std.proofs.lemmas.Bool.Decides.{nat_tests}
+use Rattle.std.proofs.Common.{◌≡◌, ◌≢◌, ℕ, Bool, true, false, not, ◌||◌, ◌&&◌, List, [], ◌++◌, append-nil, Some, None, Result, Ok, Err, refl, sym, ap, subst, ◌∙◌}
 use Rattle.std.specs.Bool.{if◌then◌else◌}
 use Rattle.std.specs.Result.{IsErr, IsErrAnd}
 use Rattle.pr_base.specs.Paths.{Component, Dot, DotDot, Name, components_of, has_slash}
-use Rattle.pr_base.specs.WalkFrame.{Landing, ends, fails, begins_at, jumps_on, is_followed, wants_directory, may_be_free, target_at, name_of, ends_landed, Fails, Missing, Leads, Links, Jumps}
-use Rattle.pr_base.specs.declared.errno.Errno.TheVariants.{EACCES, ENAMETOOLONG, ENOTDIR}
+use Rattle.pr_base.specs.WalkFrame.{Landing, ends, fails, begins_at, jumps_on, is_followed, wants_directory, may_be_free, target_at, name_of, ends_landed, Missing, Leads, Links, Jumps}
+use Rattle.pr_base.specs.declared.errno.Errno.TheVariants.{ENOTDIR}
 use Rattle.pr_base.specs.declared.path.Last.TheVariants as last
 use Rattle.pr_base.specs.declared.path.WalkMode.{WalkMode}
 use Rattle.kr_tree.specs.declared.place.Place.{Place}
@@ -19,7 +18,7 @@ use Rattle.kr_view.specs.declared.walk.Walk.{Walk}
 use Rattle.kr_view.specs.declared.walk.Step.{Step}
 use Rattle.kr_view.specs.declared.walk.Step.TheVariants.{Ends}
 use Rattle.kr_view.specs.Leads.{numbered}
-use Rattle.kr_view.specs.Component.{Surroundings, SeenPlace, landing, seen_link, look, is_directory_at, may_search, too_long, named_in}
+use Rattle.kr_view.specs.Component.{Surroundings, SeenPlace, landing, seen_link}
 use Rattle.kr_view.specs.Names.{free_name}
 use Rattle.kr_view.specs.Walk.{PlaceTrail, PlaceTarget, looking}
 use Rattle.kr_view.specs.Reach.{Covers, raised}
@@ -156,16 +155,3 @@ module _ {M : Type 0} (number : M → ℕ) (around : Surroundings) (mode : WalkM
   ends_free new at same long met =
       let all : new ≡ record { longest = raised (free_name around s.host (name_of c)) old.longest; met_proc = old.met_proc } = λ i. record { longest = long i; met_proc = met i } in
       ((target_at s c slash None, ap (λ t. t.answer) at, same), all ∙ sym (ap (λ t. reach_behind around seen t old) at ∙ free_reach around seen s c slash old))
-
--- what is missing was looked up, so its name isn't too long
-pub missing_short : (around : Surroundings) (p : Place ℕ) (c : Component) → Missing ≡ look around p c → length (name_of c) ≤ 255
-missing_short around p Dot h = omega arith
-missing_short around p DotDot h = omega arith
-missing_short around p (Name name) h = short (is_directory_at around p.host) (may_search around p.host) (too_long name) refl h
-  where
-    short : (dir search long : Bool) → long ≡ too_long name
-        → Missing ≡ (if dir then (if search then (if long then Fails ENAMETOOLONG else named_in around p.mount p.host name) else Fails EACCES) else Fails ENOTDIR) → length name ≤ 255
-    short true true true long h = absurd cc
-    short true true false long h = grind (arith, nat_tests)
-    short true false tooLong long h = absurd cc
-    short false search tooLong long h = absurd cc

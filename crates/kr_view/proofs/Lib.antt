@@ -5,6 +5,7 @@ pub mod LastLemmas
 pub mod NameLemmas
 pub mod OutcomeLemmas
 pub mod ReachLemmas
+pub mod ReachedLemmas
 pub mod ResolveLemmas
 pub mod RestLemmas
 pub mod StackLemmas

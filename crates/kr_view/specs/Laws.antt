@@ -1,12 +1,13 @@
 -- Laws of views and of walks over them.
 use Rattle.std.specs.Prelude.{ℕ, ◌≡◌, ◌≢◌, Bool, true, false, List, [], ◌∷◌, Option, Some, None, Ok}
 use Rattle.std.specs.Option.{option_map}
-use Rattle.pr_base.specs.Paths.{Component, kind_of}
+use Rattle.pr_base.specs.Paths.{Component, kind_of, AreNames, text_of}
 use Rattle.pr_base.specs.WalkFrame.{Seen, Fails, Missing, Leads, Links, Jumps, Looking, Target, name_of, after_look, ends_here, walk_on}
 use Rattle.pr_base.specs.declared.path.Last.TheVariants as last
 use Rattle.pr_base.specs.declared.path.WalkMode.{WalkMode}
 use Rattle.kr_tree.specs.declared.place.Place.{Place}
-use Rattle.kr_tree.specs.Tree.{Tree, body, body_is, entry, is_directory, is_listed}
+use Rattle.kr_tree.specs.Tree.{Tree, Body, Directory, RegularFile, SymbolicLink, ProcessDirectory, body, body_is, entry, is_directory, is_listed}
+use Rattle.kr_tree.specs.Names.{reached}
 use Rattle.kr_tree.specs.Lawful.{IsSound}
 use Rattle.kr_view.specs.View.{Row, row, node_in, root_place, root_source, down, up, covered, plain, is_there, StandsIn}
 use Rattle.kr_view.specs.Component.{Surroundings, look, is_directory_at}
@@ -78,3 +79,16 @@ pub record FoundIsShown : Type 0 where
       → IsShown (looking around) t
   pub in_directory : (around : Surroundings) (mode : WalkMode) (base : Place ℕ) (path : List ℕ) (t : PlaceTarget) → (place_walk around mode base path).answer ≡ Ok t → t.jumped ≡ false → t.last ≢ last.Root
       → is_directory_at around t.dir.host ≡ true
+
+-- whether a body is a link
+abbrev pub is_link : Body → Bool
+is_link (Directory entries standing) = false
+is_link (RegularFile bytes) = false
+is_link (SymbolicLink text) = true
+is_link (ProcessDirectory standing) = false
+
+-- over the host's own view a walk along a text arrives at the inode that the text reaches with search on
+-- the way, where that is there and no link
+abbrev pub ReachedIsFound : Type 0
+ReachedIsFound = (around : Surroundings) (mode : WalkMode) (base : Place ℕ) (text : List (List ℕ)) (i : ℕ) → around.table ≡ plain → AreNames text → reached around.tree around.user text ≡ Some i
+    → option_map is_link (body around.tree i) ≡ Some false → (t : PlaceTarget) × ((place_walk around mode base (text_of text)).answer ≡ Ok t) × (t.found ≡ Some (node_in 0 i))
