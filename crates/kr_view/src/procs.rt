@@ -63,7 +63,7 @@ impl<M> NoProcs<M> {
 impl<M: Copy> Procs for NoProcs<M> {
     type Mount = M;
 
-    ghost use Rattle.std.specs.Prelude.{None};
+    ghost use Rattle.std.specs.Prelude.{◌≡◌, None, Ok};
     ghost use Rattle.kr_view.specs.declared.procs.Lead.TheVariants.{NoLink};
 
     ghost finds = { λ procs caller at name. None };
@@ -74,7 +74,9 @@ impl<M: Copy> Procs for NoProcs<M> {
         None
     }
 
-    fn lead(&self, _caller: u32, _at: ProcAt) -> Result<Lead<M>, NoMemory> {
+    fn lead(&self, _caller: u32, _at: ProcAt) -> Result<Lead<M>, NoMemory>
+        ensures { result ≡ Ok NoLink }
+    {
         Ok(Lead::NoLink)
     }
 }
