@@ -137,7 +137,9 @@ impl Guest {
             descs,
             calls: _,
         } = self;
-        let mut child = files.fork(&descs).ok()?;
+        let Ok(mut child) = files.fork(&descs) else {
+            return None;
+        };
         let flag = child.cloexec(fd)?;
         files.close(&mut child, fd);
         let opened = files.get(&descs, fd)?;
