@@ -1,13 +1,14 @@
 -- Paths that are written, read again.
-use Rattle.std.proofs.Common.{◌≡◌, ◌≢◌, ℕ, ◌≤◌, true, false, cond, List, [], ◌∷◌, ◌++◌, length, reverse, Ok, refl, sym, ap, ◌∙◌, arith}
+use Rattle.std.proofs.Common.{◌≡◌, ℕ, ◌≤◌, true, false, List, [], ◌∷◌, ◌++◌, length, reverse, Ok, refl, sym, ap, ◌∙◌, arith}
 use Rattle.std.specs.Prelude.{Bool, ◌||◌, nat_le}
-use Rattle.std.specs.List.{AllByRecursion, list_all, slice_split, onto_first}
+use Rattle.std.specs.List.{AllByRecursion, list_all, slice_split}
 use Rattle.std.specs.Cmp.Derive.{both_true}
 use Rattle.std.proofs.lemmas.Bool.{le-leb}
 use Rattle.std.proofs.lemmas.Grind.{reverse_onto}
 use Rattle.std.proofs.lemmas.List.{reverse-reverse, length-reverse}
-use Rattle.std.proofs.lemmas.List.Splits.{slice_split_none, length-slice_split, slice_split-cons_yes, slice_split-cons_no}
+use Rattle.std.proofs.lemmas.List.Splits.{slice_split_none, slice_split-cons_yes, slice_split-cons_no}
 use Rattle.pr_base.specs.Paths.{is_slash, slash, not_empty, parts_of, below_root, text_of}
+use Rattle.pr_base.proofs.PathLemmas.{pieces_seam}
 use Rattle.kr_tree.specs.Names.{is_name}
 use Rattle.kr_text.specs.Fields.{is_path, is_empty, path_limit, names_of, path_of}
 use Rattle.kr_text.specs.Canonical.{path_field}
@@ -15,25 +16,7 @@ use Rattle.kr_text.specs.Same.{AreTextBytes}
 use Rattle.kr_text.proofs.FullPathLemmas.{name_bytes}
 use Rattle.kr_text.proofs.WrittenFields.{AreGraphic, escapes_read, escapes_graphic}
 
--- ---- pieces between slashes
-
-onto_first-append : (b : ℕ) (pieces more : List (List ℕ)) → pieces ≢ [] → onto_first b (pieces ++ more) ≡ onto_first b pieces ++ more
-onto_first-append b [] more some = absurd (some refl)
-onto_first-append b (piece ∷ pieces) more some = refl
-
-pieces_are_some : (path : List ℕ) → slice_split is_slash path ≢ []
-pieces_are_some path none =
-    let counted = length-slice_split is_slash path in
-    let zero : length (slice_split is_slash path) ≡ 0 = ap length none in
-    omega arith
-
-pieces_seam : (path more : List ℕ) → slice_split is_slash (path ++ slash ∷ more) ≡ slice_split is_slash path ++ slice_split is_slash more
-pieces_seam [] more = refl
-pieces_seam (b ∷ path) more =
-    let rest = pieces_seam path more in
-    rw rest
-    (elim (is_slash b) as (λ t. cond t ([] ∷ (slice_split is_slash path ++ slice_split is_slash more)) (onto_first b (slice_split is_slash path ++ slice_split is_slash more)) ≡ cond t ([] ∷ slice_split is_slash path) (onto_first b (slice_split is_slash path)) ++ slice_split is_slash more)
-    [ true ↦ refl | false ↦ onto_first-append b _ _ (pieces_are_some path) ])
+-- ---- the pieces of a text
 
 -- names of a text
 abbrev pub AreNames : List (List ℕ) → Type 0

@@ -57,7 +57,7 @@ pieces_are_some path none =
     omega arith
 
 -- a slash parts the pieces
-pieces_seam : (path more : List ℕ) → slice_split is_slash (path ++ slash ∷ more) ≡ slice_split is_slash path ++ slice_split is_slash more
+pub pieces_seam : (path more : List ℕ) → slice_split is_slash (path ++ slash ∷ more) ≡ slice_split is_slash path ++ slice_split is_slash more
 pieces_seam [] more = refl
 pieces_seam (b ∷ path) more =
     let rest = pieces_seam path more in
