@@ -223,9 +223,9 @@ fn arguments_and_environment_stand_behind_each_other(rt: HostRuntime) -> Result<
     Ok(())
 }
 
-#[test]
-fn two_segments_stand_at_their_addresses(rt: HostRuntime) -> Result<(), Fail> {
-    let file = with_parts([
+// A segment of one page, whose second half is zeros, and one of three pages that begins at the end of its first.
+fn with_two_segments() -> [u8; 8192] {
+    with_parts([
         Part {
             flags: 4,
             offset: 0x800,
@@ -240,14 +240,16 @@ fn two_segments_stand_at_their_addresses(rt: HostRuntime) -> Result<(), Fail> {
             file: 4,
             memory: 0x2002,
         },
-    ]);
+    ])
+}
+
+#[test]
+fn two_segments_stand_at_their_addresses(rt: HostRuntime) -> Result<(), Fail> {
+    let file = with_two_segments();
     let args = Texts::new(rt.alloc());
     let env = Texts::new(rt.alloc());
     let mut room = Room::new();
     let mut image = loaded(&rt, &mut room, &file, &args, &env).expect(&rt, "loaded");
-    // A page for the first, three for the second and 256 for the stack.
-    assert_eq!(rt; image.mem.pages(), 260);
-    assert_eq!(rt; image.brk, 0x15000);
     let bytes = [
         (0x10000, Some(0)),
         (0x107ff, Some(0)),
@@ -267,6 +269,19 @@ fn two_segments_stand_at_their_addresses(rt: HostRuntime) -> Result<(), Fail> {
     for (at, want) in bytes {
         assert_eq!(rt; byte(&mut image, at), want, "at {at}");
     }
+    Ok(())
+}
+
+#[test]
+fn two_segments_have_their_pages_and_rights(rt: HostRuntime) -> Result<(), Fail> {
+    let file = with_two_segments();
+    let args = Texts::new(rt.alloc());
+    let env = Texts::new(rt.alloc());
+    let mut room = Room::new();
+    let mut image = loaded(&rt, &mut room, &file, &args, &env).expect(&rt, "loaded");
+    // A page for the first, three for the second and 256 for the stack.
+    assert_eq!(rt; image.mem.pages(), 260);
+    assert_eq!(rt; image.brk, 0x15000);
     assert!(rt; !image.mem.can(0x10000, 1, Use::Write));
     assert!(rt; !image.mem.can(0x10000, 1, Use::Execute));
     assert!(rt; image.mem.can(0x12000, 0x3000, Use::Write));

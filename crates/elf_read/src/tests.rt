@@ -150,27 +150,20 @@ fn a_cut_file_is_refused_by_the_first_rule(rt: HostRuntime) {
 }
 
 #[test]
-fn headers_are_tested_rule_by_rule(rt: HostRuntime) {
+fn the_first_broken_rule_is_told(rt: HostRuntime) {
     let good = header(LOAD, 0, 0x10000, 2048, 2048);
     let next = header(LOAD, 0, 0x11000, 2048, 2048);
+    let interp = header(INTERP, 0, 0, 0, 0);
+    let outside = header(LOAD, 0, 0x10000, 2049, 4096);
     let table = [
         (
-            "an unknown kind",
-            [good, header(ATTRIBUTES, 9, 8, 7, 6), next],
-            None,
-        ),
-        (
             "an interpreter",
-            [good, header(INTERP, 0, 0, 0, 0), next],
+            [good, interp, next],
             Some(ElfFault::Interp { header: 1 }),
         ),
         (
             "broken sizes behind an interpreter",
-            [
-                good,
-                header(INTERP, 0, 0, 0, 0),
-                header(LOAD, 0, 0x11000, 9, 8),
-            ],
+            [good, interp, header(LOAD, 0, 0x11000, 9, 8)],
             Some(ElfFault::Sizes { header: 2 }),
         ),
         (
@@ -180,44 +173,8 @@ fn headers_are_tested_rule_by_rule(rt: HostRuntime) {
         ),
         (
             "a later rule at an earlier header",
-            [
-                header(LOAD, 0, 0x10000, 2049, 4096),
-                good,
-                header(LOAD, 1, 0x20000, 1, 1),
-            ],
+            [outside, good, header(LOAD, 1, 0x20000, 1, 1)],
             Some(ElfFault::Sizes { header: 2 }),
-        ),
-        (
-            "no memory size, and every other rule broken",
-            [good, header(LOAD, 2047, 5, 99, 0), next],
-            None,
-        ),
-        (
-            "a fault behind two headers of other kinds",
-            [
-                header(ATTRIBUTES, 0, 0, 0, 0),
-                header(6, 0, 0, 0, 0),
-                header(LOAD, 0, 0x10000, 2049, 4096),
-            ],
-            Some(ElfFault::Outside { header: 2 }),
-        ),
-        (
-            "the last place",
-            [
-                good,
-                header(ATTRIBUTES, 0, 0, 0, 0),
-                header(LOAD, 0, 0x3e_ffff_f000, 0, 0x1000),
-            ],
-            None,
-        ),
-        (
-            "one byte past the last place",
-            [
-                good,
-                header(ATTRIBUTES, 0, 0, 0, 0),
-                header(LOAD, 0, 0x3e_ffff_f000, 0, 0x1001),
-            ],
-            Some(ElfFault::Place { header: 2 }),
         ),
     ];
     for (name, headers, fault) in table {
@@ -226,35 +183,66 @@ fn headers_are_tested_rule_by_rule(rt: HostRuntime) {
 }
 
 #[test]
+fn headers_without_a_segment_are_passed_over(rt: HostRuntime) {
+    let good = header(LOAD, 0, 0x10000, 2048, 2048);
+    let next = header(LOAD, 0, 0x11000, 2048, 2048);
+    let other = header(ATTRIBUTES, 0, 0, 0, 0);
+    let outside = header(LOAD, 0, 0x10000, 2049, 4096);
+    let table = [
+        (
+            "an unknown kind",
+            [good, header(ATTRIBUTES, 9, 8, 7, 6), next],
+            None,
+        ),
+        (
+            "no memory size, and every other rule broken",
+            [good, header(LOAD, 2047, 5, 99, 0), next],
+            None,
+        ),
+        (
+            "a fault behind two headers of other kinds",
+            [other, header(6, 0, 0, 0, 0), outside],
+            Some(ElfFault::Outside { header: 2 }),
+        ),
+    ];
+    for (name, headers, fault) in table {
+        assert_eq!(rt; check(&with_headers(headers)).err(), fault, "{name}");
+    }
+}
+
+#[test]
+fn a_segment_ends_at_the_last_place_at_most(rt: HostRuntime) {
+    let good = header(LOAD, 0, 0x10000, 2048, 2048);
+    let other = header(ATTRIBUTES, 0, 0, 0, 0);
+    let last = header(LOAD, 0, 0x3e_ffff_f000, 0, 0x1000);
+    assert_eq!(rt; check(&with_headers([good, other, last])).err(), None);
+    let past = header(LOAD, 0, 0x3e_ffff_f000, 0, 0x1001);
+    let fault = ElfFault::Place { header: 2 };
+    assert_eq!(rt;
+        check(&with_headers([good, other, past])).err(),
+        Some(fault)
+    );
+}
+
+#[test]
 fn segments_are_in_order_of_pages(rt: HostRuntime) {
     let good = header(LOAD, 0, 0x10000, 2048, 2048);
     let next = header(LOAD, 0, 0x11000, 2048, 2048);
+    let other = header(ATTRIBUTES, 0, 0, 0, 0);
     let table = [
         (
             "two segments on one page",
-            [
-                good,
-                header(LOAD, 2048, 0x10800, 0, 1),
-                header(ATTRIBUTES, 0, 0, 0, 0),
-            ],
+            [good, header(LOAD, 2048, 0x10800, 0, 1), other],
             Some(ElfFault::Order { header: 1 }),
         ),
         (
             "a segment on the next page, behind a whole one",
-            [
-                header(LOAD, 0, 0x10000, 0, 4096),
-                header(ATTRIBUTES, 0, 0, 0, 0),
-                next,
-            ],
+            [header(LOAD, 0, 0x10000, 0, 4096), other, next],
             None,
         ),
         (
             "a segment on the last page of the one before, which ends one byte later",
-            [
-                header(LOAD, 0, 0x10000, 0, 4097),
-                header(ATTRIBUTES, 0, 0, 0, 0),
-                next,
-            ],
+            [header(LOAD, 0, 0x10000, 0, 4097), other, next],
             Some(ElfFault::Order { header: 2 }),
         ),
         (

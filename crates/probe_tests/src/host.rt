@@ -1,6 +1,6 @@
 //! A machine that runs a probe and answers its calls from a list.
 
-use elf_load::load;
+use elf_load::{Image, load};
 use elf_read::check;
 use pr_base::{Bytes, Texts};
 use pr_gen::{ProbeStep, is_probe, probe};
@@ -48,13 +48,8 @@ fn call_of(regs: &Regs) -> Call {
     }
 }
 
-/// Runs a probe to its end, at which it must exit with 0. Calls but for those of `write` and `exit` are
-/// answered in order.
-pub fn run_probe<R: Abort + AllocGlobal>(
-    rt: &R,
-    steps: &[ProbeStep],
-    replies: &[Reply],
-) -> Result<Done, Fail> {
+/// The image of a probe, without arguments and environment.
+fn image_of<R: Abort + AllocGlobal>(rt: &R, steps: &[ProbeStep]) -> Result<Image<0>, Fail> {
     assert!(rt; is_probe(steps));
     let file = probe(rt.alloc(), steps)?;
     let plan = check(file.as_slice()).expect(rt, "accepted");
@@ -71,6 +66,17 @@ pub fn run_probe<R: Abort + AllocGlobal>(
         ids,
     )
     .expect(rt, "loaded");
+    Ok(image)
+}
+
+/// Runs a probe to its end, at which it must exit with 0. Calls but for those of `write` and `exit` are
+/// answered in order.
+pub fn run_probe<R: Abort + AllocGlobal>(
+    rt: &R,
+    steps: &[ProbeStep],
+    replies: &[Reply],
+) -> Result<Done, Fail> {
+    let image = image_of(rt, steps)?;
     let mut memory = image.mem;
     let mut regs = image.regs;
     let mut calls = Vec::new(rt.alloc());

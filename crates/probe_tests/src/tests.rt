@@ -185,10 +185,9 @@ fn text_at<R: Abort>(rt: &R, memory: &mut Space<0>, at: u64) -> Bytes {
     memory.text_at(at, 100).expect(rt, "a text")
 }
 
-#[test]
-fn arguments_are_in_their_registers(rt: HostRuntime) -> Result<(), Fail> {
-    let alloc = rt.alloc();
-    let steps = [
+/// Three calls with arguments of every kind behind one of a child, each with the buffer in a1.
+fn steps_with_arguments(alloc: Global) -> Result<[ProbeStep; 5], Fail> {
+    Ok([
         ProbeStep::SetSp(0x20_0001_0000),
         call_by(1000, Who::Child),
         call(
@@ -215,21 +214,32 @@ fn arguments_are_in_their_registers(rt: HostRuntime) -> Result<(), Fail> {
             ],
             Show::Nothing,
         ),
-        call(
-            1003,
-            [
-                Arg::Text(Bytes::copy(alloc, b"eight by")?),
-                Arg::Buf,
-                Arg::List(texts(alloc, &[b"one", b"", b"three"])?),
-                Arg::List(Texts::new(alloc)),
-                Arg::Text(Bytes::copy(alloc, b"/last")?),
-                Arg::Answer(3),
-            ],
-            Show::Nothing,
-        ),
+        call_with_texts(alloc)?,
+    ])
+}
+
+fn call_with_texts(alloc: Global) -> Result<ProbeStep, Fail> {
+    let args = [
+        Arg::Text(Bytes::copy(alloc, b"eight by")?),
+        Arg::Buf,
+        Arg::List(texts(alloc, &[b"one", b"", b"three"])?),
+        Arg::List(Texts::new(alloc)),
+        Arg::Text(Bytes::copy(alloc, b"/last")?),
+        Arg::Answer(3),
     ];
+    Ok(call(1003, args, Show::Nothing))
+}
+
+/// The calls of these steps, which are answered by -2 with data, by 77 and by 0.
+fn done_with_arguments<R: Abort + AllocGlobal>(rt: &R) -> Result<Done, Fail> {
+    let steps = steps_with_arguments(rt.alloc())?;
     let replies: [Reply; 3] = [(-2, b"data"), (77, b""), (0, b"")];
-    let mut done = run_probe(&rt, &steps, &replies)?;
+    run_probe(rt, &steps, &replies)
+}
+
+#[test]
+fn arguments_are_in_their_registers(rt: HostRuntime) -> Result<(), Fail> {
+    let done = done_with_arguments(&rt)?;
     let [first, second, third] = *done.calls.as_slice() else {
         panic!(&rt; "three calls");
     };
@@ -251,22 +261,28 @@ fn arguments_are_in_their_registers(rt: HostRuntime) -> Result<(), Fail> {
     );
     assert_eq!(rt; second.args, [0xffff_ffff_ffff_fffe, buf, 0, 0, 2048, 2047]);
     assert_eq!(rt; (third.args[1], third.args[5]), (buf, 77));
+    Ok(())
+}
+
+#[test]
+fn texts_and_lists_stand_where_their_arguments_say(rt: HostRuntime) -> Result<(), Fail> {
+    let mut done = done_with_arguments(&rt)?;
+    let [_, _, third] = *done.calls.as_slice() else {
+        panic!(&rt; "three calls");
+    };
+    let [text, buf, list, empty, last, _] = third.args;
     let memory = &mut done.memory;
     assert_eq!(rt; text_at(&rt, memory, buf).as_slice(), b"data".as_slice());
     assert_eq!(rt;
-        text_at(&rt, memory, third.args[0]).as_slice(),
+        text_at(&rt, memory, text).as_slice(),
         b"eight by".as_slice()
     );
-    assert_eq!(rt;
-        text_at(&rt, memory, third.args[4]).as_slice(),
-        b"/last".as_slice()
-    );
-    let list = third.args[2];
+    assert_eq!(rt; text_at(&rt, memory, last).as_slice(), b"/last".as_slice());
     for (k, text) in [b"one".as_slice(), b"", b"three"].iter().enumerate() {
         let at = address_at(&rt, memory, list.wrapping_add(8 * k as u64));
         assert_eq!(rt; text_at(&rt, memory, at).as_slice(), *text);
     }
     assert_eq!(rt; address_at(&rt, memory, list.wrapping_add(24)), 0);
-    assert_eq!(rt; address_at(&rt, memory, third.args[3]), 0);
+    assert_eq!(rt; address_at(&rt, memory, empty), 0);
     Ok(())
 }

@@ -39,35 +39,24 @@ fn source(alloc: Global, bytes: &[u8]) -> Result<MemSource, Fail> {
 // Writes of a text, of nothing, to a descriptor that isn't open and from an address that isn't mapped; a
 // call of no number; two calls that are decoded and not built, one with a path that isn't readable and one with
 // arguments that are refused; and a write of three bytes of the buffer, which is still all zeros.
+fn writes(alloc: Global) -> Result<[ProbeStep; 8], Fail> {
+    let numbered = |number, args| call(number, args, Show::Number);
+    Ok([
+        numbered(WRITE, [Arg::Num(1), text(alloc)?, Arg::Num(6)]),
+        numbered(WRITE, [Arg::Num(1), text(alloc)?, Arg::Num(0)]),
+        numbered(WRITE, [Arg::Num(7), text(alloc)?, Arg::Num(6)]),
+        numbered(WRITE, [Arg::Num(1), Arg::Num(0), Arg::Num(6)]),
+        numbered(1000, [Arg::Num(1), text(alloc)?, Arg::Num(6)]),
+        numbered(OPENAT, [Arg::Num(HERE), Arg::Num(0), Arg::Num(0)]),
+        numbered(DUP3, [Arg::Num(3), Arg::Num(3), Arg::Num(0)]),
+        call(WRITE, [Arg::Num(2), Arg::Buf, Arg::Num(3)], Show::Content),
+    ])
+}
+
 #[test]
 fn writes_answer_what_they_moved(rt: HostRuntime) -> Result<(), Fail> {
     let alloc = rt.alloc();
-    let steps = [
-        call(
-            WRITE,
-            [Arg::Num(1), text(alloc)?, Arg::Num(6)],
-            Show::Number,
-        ),
-        call(
-            WRITE,
-            [Arg::Num(1), text(alloc)?, Arg::Num(0)],
-            Show::Number,
-        ),
-        call(
-            WRITE,
-            [Arg::Num(7), text(alloc)?, Arg::Num(6)],
-            Show::Number,
-        ),
-        call(WRITE, [Arg::Num(1), Arg::Num(0), Arg::Num(6)], Show::Number),
-        call(1000, [Arg::Num(1), text(alloc)?, Arg::Num(6)], Show::Number),
-        call(
-            OPENAT,
-            [Arg::Num(HERE), Arg::Num(0), Arg::Num(0)],
-            Show::Number,
-        ),
-        call(DUP3, [Arg::Num(3), Arg::Num(3), Arg::Num(0)], Show::Number),
-        call(WRITE, [Arg::Num(2), Arg::Buf, Arg::Num(3)], Show::Content),
-    ];
+    let steps = writes(alloc)?;
     assert!(rt; is_probe(&steps));
     let file = probe(alloc, &steps)?;
     let words = vec![in alloc; String::from_str(alloc, "/probe")?]?;
