@@ -7,11 +7,11 @@ use Rattle.std.specs.BTreeMap.{BTreeMap, get}
 use Rattle.std.specs.Ordering.{nat_cmp}
 use Rattle.std.proofs.lemmas.Cmp.{nat_list_eq_equiv}
 use Rattle.std.proofs.lemmas.List.Concat.{flat_map-append}
-use Rattle.kr_tree.specs.declared.user.User.{User}
+use Rattle.kr_inode.specs.declared.user.User.{User}
 use Rattle.kr_tree.specs.Tree.{Tree, Inode, Entry, Body, Directory, RegularFile, SymbolicLink, ProcessDirectory, Node, inode, entry, entries, entries_of, entry_named, body_is, is_file}
 use Rattle.kr_tree.specs.Names.{named}
 use Rattle.kr_tree.specs.Lawful.{IsKept, IsIn}
-use Rattle.kr_tree.proofs.EntryLemmas.{in_named}
+use Rattle.kr_inode.proofs.EntryLemmas.{in_named}
 use Rattle.kr_text.specs.declared.names.Named.{Named}
 use Rattle.kr_text.specs.Canonical.{canonical, user_line, put_in_order, below, children, names_under, root_name, first_name, line_at, body_line, owner_of, lines_after}
 use Rattle.kr_text.specs.FirstNames.{AreFirst}

@@ -3,7 +3,7 @@
 use Rattle.std.specs.Prelude.{◌≡◌, ◌≢◌, ℕ, ◌+◌, ◌≤◌, ◌<◌, List, [], ◌∷◌, ◌++◌, length, Bool, true, false, Option, Some, None, Ok, ◌↔◌}
 use Rattle.std.specs.List.{AllByRecursion}
 use Rattle.std.specs.Option.{option_map, option_map_or, option_and_then}
-use Rattle.kr_tree.specs.declared.user.User.{User}
+use Rattle.kr_inode.specs.declared.user.User.{User}
 use Rattle.kr_tree.specs.Tree.{Tree, Node, Body, Directory, RegularFile, SymbolicLink, ProcessDirectory, node, body_is, is_file, bytes_of}
 use Rattle.kr_tree.specs.Names.{named}
 use Rattle.kr_tree.specs.Lawful.{IsKept}

@@ -1,6 +1,6 @@
 //! What was read of a listing so far.
 ghost use Rattle.std.specs.Prelude.{◌≡◌, IfSome, OnOk};
-ghost use Rattle.kr_tree.specs.Stored.{body_of_new};
+ghost use Rattle.kr_inode.specs.Stored.{body_of_new};
 ghost use Rattle.kr_text.specs.Answers.{Changes};
 ghost use Rattle.kr_text.specs.Drawn.{IsDrawn};
 ghost use Rattle.kr_text.specs.Reading.{nothing_read, user_read, root_read, dir_read, node_read, elf_read, proc_read, name_read, line_read, line_added};

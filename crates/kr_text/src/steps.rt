@@ -2,7 +2,7 @@
 ghost use Rattle.std.specs.Prelude.{◌≡◌, true, None, OnOk};
 ghost use Rattle.kr_tree.specs.Tree.{body_is, takes_names, is_file, entry};
 ghost use Rattle.kr_tree.specs.Names.{is_name};
-ghost use Rattle.kr_tree.specs.Stored.{body_of_new};
+ghost use Rattle.kr_inode.specs.Stored.{body_of_new};
 ghost use Rattle.kr_text.specs.Answers.{Changes};
 ghost use Rattle.kr_text.specs.Drawn.{IsDrawn};
 ghost use Rattle.kr_text.specs.Reading.{put, node_put, elf_put, proc_put, link_put, name_put};

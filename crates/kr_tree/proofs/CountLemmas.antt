@@ -1,13 +1,13 @@
 -- Sums over the inodes, and counts of entries.
 use Rattle.std.specs.FinMap as map
-use Rattle.std.proofs.Common.{◌≡◌, Bool, true, false, ◌≢◌, ◌⊎◌, inl, inr, subst, ℕ, zero, suc, ◌+◌, ◌≤◌, ◌<◌, List, [], ◌∷◌, ◌++◌, length, refl, sym, ap, ◌∙◌, arith, Option, Some, None, nat_eq, eq-eqb, add-one}
+use Rattle.std.proofs.Common.{◌≡◌, Bool, true, false, ◌≢◌, inl, inr, subst, ℕ, zero, suc, ◌+◌, ◌≤◌, ◌<◌, List, [], ◌∷◌, ◌++◌, length, refl, sym, ap, ◌∙◌, arith, Option, Some, None, nat_eq, eq-eqb, add-one}
 use Rattle.std.specs.Option.{option_map, option_map_or, option_and_then}
-use Rattle.kr_tree.specs.declared.standing.Standing.{Standing}
+use Rattle.kr_inode.specs.declared.standing.Standing.{Standing}
 use Rattle.std.proofs.lemmas.Bool.{cases_eq, ne_eqb}
 use Rattle.kr_tree.specs.Tree.{Tree, Inode, Inodes, Entry, root, inode, entries, entries_of, standing, standing_of, above, body_is, is_directory, is_listed}
 use Rattle.kr_tree.specs.Changes.{counted, count_limit, with_inode}
 use Rattle.kr_tree.proofs.InodesLemmas.{get-with_same, get-with_other}
-use Rattle.kr_tree.proofs.BodyLemmas.{listed-is_directory}
+use Rattle.kr_inode.proofs.BodyLemmas.{listed-is_directory}
 use Rattle.kr_tree.specs.Lawful.{sum_below, count_in, directories_in, IsIn, IsCounted, IsSound, HasItsInodes}
 
 -- what f gives at a number, and 0 where nothing is there
@@ -79,21 +79,6 @@ pub in-counted : (e : Entry) (es : List Entry) → IsIn e es → 0 < count_in e.
 in-counted e [] h = absurd h
 in-counted e (x ∷ es) (inl is) = let here = counted-same e.inode x.inode (ap (λ e. e.inode) (sym is)) in omega arith
 in-counted e (x ∷ es) (inr h) = let rest = in-counted e es h in omega arith
-
-pub in-new : (e x : Entry) (es : List Entry) → IsIn e es → IsIn e (es ++ x ∷ [])
-in-new e x [] h = absurd h
-in-new e x (y ∷ es) (inl is) = inl is
-in-new e x (y ∷ es) (inr h) = inr (in-new e x es h)
-
-pub in-last : (x : Entry) (es : List Entry) → IsIn x (es ++ x ∷ [])
-in-last x [] = inl refl
-in-last x (y ∷ es) = inr (in-last x es)
-
-pub in-append : (e x : Entry) (es : List Entry) → IsIn e (es ++ x ∷ []) → IsIn e es ⊎ (x ≡ e)
-in-append e x [] (inl is) = inr is
-in-append e x [] (inr h) = absurd h
-in-append e x (y ∷ es) (inl is) = inl (inl is)
-in-append e x (y ∷ es) (inr h) = elim (in-append e x es h) [ inl r ↦ inl (inr r) | inr is ↦ inr is ]
 
 -- directories, where the entries' inodes are so in both trees
 pub directories-same : (t u : Tree) (es : List Entry) → ((e : Entry) → IsIn e es → body_is is_directory u e.inode ≡ body_is is_directory t e.inode) → directories_in u es ≡ directories_in t es

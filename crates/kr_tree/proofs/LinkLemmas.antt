@@ -6,13 +6,13 @@ use Rattle.std.proofs.lemmas.Bool.{cases_eq}
 use Rattle.std.proofs.lemmas.Bool.Decides.{nat_tests}
 use Rattle.kr_tree.specs.Tree.{Tree, Inode, Inodes, Entry, Body, RegularFile, root, inode, entry, entry_named, entries, entries_of, standing, standing_of, body_is, is_directory, is_listed, takes_names, may_be_linked, body, bytes_of}
 use Rattle.kr_tree.specs.Names.{is_name}
-use Rattle.kr_tree.specs.Entries.{IsListed}
+use Rattle.kr_inode.specs.Entries.{IsListed}
 use Rattle.kr_tree.specs.Changes.{linked, with_inode, with_entry, with_names, is_unused, has_no_name_left, counted, count_limit, file_limit}
 use Rattle.kr_tree.specs.Lawful.{IsKept, IsSound, IsCounted, HasNoUnused, RisesToEnd, AtRoot, AtRemoved, Above, IsIn, entries_beside, count_in, directories_in, total}
 use Rattle.kr_tree.proofs.InodesLemmas.{get-with_same, get-with_other, len-with}
-use Rattle.kr_tree.proofs.EntryLemmas.{listed-new}
-use Rattle.kr_tree.proofs.BodyLemmas.{entries-with_entries, standing-with_entries, is_directory-with_entries, is_listed-with_entries, bytes-with_entries, file-with_entries, takes-is_listed, takes-stands, listed-is_directory, linked-is_directory}
-use Rattle.kr_tree.proofs.CountLemmas.{value, sum-changed, counted-same, counted-other, count-new, in-new, in-append, directories-same, directories-new}
+use Rattle.kr_inode.proofs.EntryLemmas.{listed-new, in-new, in-append}
+use Rattle.kr_inode.proofs.BodyLemmas.{entries-with_entries, standing-with_entries, is_directory-with_entries, is_listed-with_entries, bytes-with_entries, file-with_entries, takes-is_listed, takes-stands, listed-is_directory, linked-is_directory}
+use Rattle.kr_tree.proofs.CountLemmas.{value, sum-changed, counted-same, counted-other, count-new, directories-same, directories-new}
 use Rattle.kr_tree.proofs.AddLemmas.{passing, none_of}
 
 module _ (t : Tree) (h : IsKept t) (dir : ℕ) (name : List ℕ) (file : ℕ)

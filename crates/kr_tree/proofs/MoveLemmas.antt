@@ -5,18 +5,18 @@ use Rattle.std.specs.Prelude.{bytes_eq}
 use Rattle.std.specs.Option.{option_map, option_map_or, option_and_then}
 use Rattle.std.proofs.lemmas.Bool.{cases_eq}
 use Rattle.std.proofs.lemmas.Slice.Eq.{bytes_eq-Decides}
-use Rattle.kr_tree.specs.declared.standing.Standing.{Standing}
+use Rattle.kr_inode.specs.declared.standing.Standing.{Standing}
 use Rattle.kr_tree.specs.Tree.{Tree, Inode, Inodes, Entry, RegularFile, root, inode, entry, entry_named, entries, entries_of, standing, standing_of, above, body_is, is_directory, is_listed, takes_names, bytes_of}
 use Rattle.kr_tree.specs.Names.{is_name}
-use Rattle.kr_tree.specs.Entries.{IsListed}
+use Rattle.kr_inode.specs.Entries.{IsListed}
 use Rattle.kr_tree.specs.Changes.{with_inode, with_body, with_standing, with_entry, without_entry, without_name, next_serial, next_standing, moved, is_unused, counted, file_limit}
 use Rattle.kr_tree.specs.Lawful.{IsKept, IsSound, IsCounted, HasNoUnused, RisesToEnd, AtRoot, AtRemoved, Above, IsBelow, Here, Below, IsIn, entries_beside, count_in, directories_in, names_of, total}
 use Rattle.kr_tree.proofs.InodesLemmas.{get-with_same, get-with_other, len-with, stays-with, there-with, each-with, with-swap, with-twice, with-alike}
-use Rattle.kr_tree.proofs.EntryLemmas.{listed-new, listed-without, named_in, in_named, in_above, serial_alone, in_without, in_still, none-without, without-new, weighed, weighed-without}
-use Rattle.kr_tree.proofs.BodyLemmas.{entries-with_entries, standing-with_entries, is_directory-with_entries, is_listed-with_entries, takes-with_entries, with_entries-swap, bytes-with_entries, file-with_entries, entries-with_standing, standing-with_standing, is_directory-with_standing, is_listed-with_standing, bytes-with_standing, file-with_standing, stands-nowhere, takes-is_listed, takes-stands, listed-is_directory, entries-is_listed}
+use Rattle.kr_inode.proofs.EntryLemmas.{listed-new, listed-without, named_in, in_named, in_above, serial_alone, in_without, in_still, none-without, without-new, weighed, weighed-without, in-new, in-last, in-append}
+use Rattle.kr_inode.proofs.BodyLemmas.{entries-with_entries, standing-with_entries, is_directory-with_entries, is_listed-with_entries, takes-with_entries, with_entries-swap, bytes-with_entries, file-with_entries, entries-with_standing, standing-with_standing, is_directory-with_standing, is_listed-with_standing, bytes-with_standing, file-with_standing, stands-nowhere, takes-is_listed, takes-stands, listed-is_directory, entries-is_listed}
 use Rattle.kr_tree.proofs.NameLemmas.{listed_in, filled_directory}
 use Rattle.kr_tree.proofs.AddLemmas.{passing, none_of}
-use Rattle.kr_tree.proofs.CountLemmas.{value, sum-with, count-new, in-new, in-last, in-append, directories-same, directories-new, entries_there, there}
+use Rattle.kr_tree.proofs.CountLemmas.{value, sum-with, count-new, directories-same, directories-new, entries_there, there}
 use Rattle.kr_tree.proofs.RemoveLemmas.{weighed-count, weighed-directories, weighed-length, entry_found}
 
 -- ---- what an entry stands for

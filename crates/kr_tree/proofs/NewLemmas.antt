@@ -5,13 +5,13 @@ use Rattle.std.specs.Option.{option_map, option_map_or, option_and_then}
 use Rattle.std.specs.Ordering.{nat_cmp}
 use Rattle.std.specs.Cmp.{nat_cmp_total}
 use Rattle.std.proofs.lemmas.Bool.{cases_eq}
-use Rattle.kr_tree.specs.declared.standing.Standing.{Standing}
+use Rattle.kr_inode.specs.declared.standing.Standing.{Standing}
 use Rattle.kr_tree.specs.Tree.{Tree, Inode, Entry, Directory, RegularFile, root, inode, entries, entries_of, standing_of, is_directory, is_listed, body, bytes_of}
-use Rattle.kr_tree.specs.Entries.{IsListed}
+use Rattle.kr_inode.specs.Entries.{IsListed}
 use Rattle.kr_tree.specs.Changes.{fresh, new_tree, is_unused}
 use Rattle.kr_tree.specs.Lawful.{IsSound, IsCounted, HasNoUnused, RisesToEnd, AtRoot, IsIn, entries_beside, count_in, directories_in, names_of, total}
 use Rattle.kr_tree.proofs.InodesLemmas.{get-insert_same, get-insert_other, by_inode}
-use Rattle.kr_tree.proofs.EntryLemmas.{listed-none}
+use Rattle.kr_inode.proofs.EntryLemmas.{listed-none}
 use Rattle.kr_tree.proofs.CountLemmas.{value, sum-zero, counted-other}
 
 root_standing : Option Standing

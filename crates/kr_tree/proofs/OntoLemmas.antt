@@ -10,8 +10,8 @@ use Rattle.kr_tree.specs.Names.{is_name}
 use Rattle.kr_tree.specs.Changes.{with_inode, with_body, with_standing, with_entry, without_entry, without_name, next_serial, next_standing, moved, unlinked, unnamed, without_unused, freed, is_unused, counted}
 use Rattle.kr_tree.specs.Lawful.{IsKept, IsBelow, Here, Below, directories_in}
 use Rattle.kr_tree.proofs.InodesLemmas.{get-with_same, get-with_other, stays-with, with-swap, with-twice, get-unused_other, unused_same, unused-with}
-use Rattle.kr_tree.proofs.EntryLemmas.{named_in, named-without, named-gone}
-use Rattle.kr_tree.proofs.BodyLemmas.{entries-with_entries, standing-with_entries, is_directory-with_entries, takes-with_entries, takes-is_listed, filled-entries, standing-without}
+use Rattle.kr_inode.proofs.EntryLemmas.{named_in, named-without, named-gone}
+use Rattle.kr_inode.proofs.BodyLemmas.{entries-with_entries, standing-with_entries, is_directory-with_entries, takes-with_entries, takes-is_listed, filled-entries, standing-without}
 use Rattle.kr_tree.proofs.AddLemmas.{passing}
 use Rattle.kr_tree.proofs.CountLemmas.{directories-at}
 use Rattle.kr_tree.proofs.RemoveLemmas.{entry_found, kept-unlinked, kept-removed, name_left}

@@ -4,14 +4,14 @@ use Rattle.std.proofs.Common.{◌≡◌, ◌≢◌, inl, inr, subst, ℕ, ◌+�
 use Rattle.std.specs.Prelude.{bytes_eq}
 use Rattle.std.specs.Option.{option_map, option_map_or, option_and_then}
 use Rattle.std.proofs.lemmas.Bool.{cases_eq}
-use Rattle.kr_tree.specs.declared.standing.Standing.{Standing}
+use Rattle.kr_inode.specs.declared.standing.Standing.{Standing}
 use Rattle.kr_tree.specs.Tree.{Tree, Inode, Inodes, Entry, Body, RegularFile, root, inode, entry, entry_named, entries, entries_of, standing, standing_of, above, body_is, is_directory, is_listed, is_filled, body, bytes_of}
-use Rattle.kr_tree.specs.Entries.{IsListed}
+use Rattle.kr_inode.specs.Entries.{IsListed}
 use Rattle.kr_tree.specs.Changes.{with_inode, without_entry, without_name, unnamed, unlinked, without_unused, freed, is_unused, counted, file_limit}
 use Rattle.kr_tree.specs.Lawful.{IsKept, IsSound, IsCounted, RisesToEnd, AtRoot, AtRemoved, Above, IsIn, entries_beside, count_in, directories_in, names_of, total}
 use Rattle.kr_tree.proofs.InodesLemmas.{get-with_same, get-with_other, len-with, stays-names}
-use Rattle.kr_tree.proofs.EntryLemmas.{listed-without, named_in, in_named, in_above, serial_alone, in_without, in_still, weighed, weighed-without}
-use Rattle.kr_tree.proofs.BodyLemmas.{entries-with_entries, standing-with_entries, is_directory-with_entries, is_listed-with_entries, bytes-with_entries, file-with_entries, entries-with_standing, is_directory-with_standing, is_listed-with_standing, bytes-with_standing, file-with_standing, standing-without, filled-entries, entries-is_listed}
+use Rattle.kr_inode.proofs.EntryLemmas.{listed-without, named_in, in_named, in_above, serial_alone, in_without, in_still, weighed, weighed-without}
+use Rattle.kr_inode.proofs.BodyLemmas.{entries-with_entries, standing-with_entries, is_directory-with_entries, is_listed-with_entries, bytes-with_entries, file-with_entries, entries-with_standing, is_directory-with_standing, is_listed-with_standing, bytes-with_standing, file-with_standing, standing-without, filled-entries, entries-is_listed}
 use Rattle.kr_tree.proofs.CountLemmas.{value, sum-at, sum-changed, counted-same, counted-other, directories-same, entries_there, there, root_directory}
 use Rattle.kr_tree.proofs.DropLemmas.{kept-dropped, freed-le}
 use Rattle.kr_tree.proofs.QuietLemmas.{of_entries}

@@ -1,11 +1,12 @@
 -- What a tree keeps, and which moves of an entry keep it.
-use Rattle.std.specs.Prelude.{ℕ, zero, suc, ◌≡◌, ◌≢◌, ◌+◌, ◌≤◌, ◌<◌, true, false, List, [], ◌∷◌, length, Some, None, nat_eq, ◌⊎◌}
+use Rattle.std.specs.Prelude.{ℕ, zero, suc, ◌≡◌, ◌≢◌, ◌+◌, ◌≤◌, ◌<◌, true, false, List, [], ◌∷◌, length, Some, None, nat_eq}
 use Rattle.std.specs.FinMap as map
 use Rattle.std.specs.Option.{option_map_or}
-use Rattle.kr_tree.specs.declared.standing.Standing.{Standing}
+use Rattle.kr_inode.specs.declared.standing.Standing.{Standing}
 use Rattle.kr_tree.specs.Tree.{Tree, Inodes, Inode, Entry, RegularFile, root, inode, body, body_is, entry, entries, entries_of, above, standing, is_directory, is_listed, is_filled, takes_names, bytes_of}
 use Rattle.kr_tree.specs.Names.{is_name}
-use Rattle.kr_tree.specs.Entries.{Entries, IsListed}
+use Rattle.kr_inode.specs.Entries.{Entries, IsListed}
+pub use Rattle.kr_inode.specs.Entries.{IsIn}
 use Rattle.kr_tree.specs.Changes.{file_limit, byte_limit, count_limit, counted, is_unused}
 
 -- ---- counts
@@ -45,11 +46,6 @@ pub record IsCounted (t : Tree) : Type 0 where
 -- the entries of a directory, and the serial that the next one takes
 abbrev pub entries_beside : Inode → Entries
 entries_beside x = record { list = entries_of x.node.body; next = x.next_serial }
-
--- an entry stands in a list
-abbrev pub IsIn : Entry → List Entry → Type 0
-IsIn e [] = ⊥
-IsIn e (x ∷ xs) = (x ≡ e) ⊎ IsIn e xs
 
 -- going up from a directory one comes to the root, or to one that was removed
 pub data RisesToEnd (t : Tree) : ℕ → Type 0 where

@@ -1,31 +1,18 @@
 -- Names of what stands in the tree. A host text is a list of names, the deepest first: that of
 -- `/a/b` has b and then a, and that of the root has none.
-use Rattle.std.specs.Prelude.{◌≡◌, ℕ, zero, suc, Bool, true, false, ◌&&◌, ◌||◌, not, List, [], ◌∷◌, length, Option, Some, None, nat_eq, nat_le, nat_lt, codes, if◌then◌else◌}
-use Rattle.std.specs.List.{list_all}
+use Rattle.std.specs.Prelude.{◌≡◌, ℕ, zero, suc, true, List, [], ◌∷◌, Option, Some, None, nat_eq, codes, if◌then◌else◌}
 use Rattle.std.specs.Option.{option_map, option_and_then}
 use Rattle.std.specs.Fmt.{decimal}
-use Rattle.kr_tree.specs.declared.user.User.{User}
-use Rattle.kr_tree.specs.declared.user.Right.TheVariants.{Search}
-use Rattle.kr_tree.specs.declared.standing.Standing.{Standing}
+use Rattle.kr_inode.specs.declared.user.User.{User}
+use Rattle.kr_inode.specs.declared.user.Right.TheVariants.{Search}
+use Rattle.kr_inode.specs.declared.standing.Standing.{Standing}
 use Rattle.kr_tree.specs.declared.place.ProcAt.{ProcAt}
 use Rattle.kr_tree.specs.declared.place.ProcAt.TheVariants.{SelfLink, Dir, Cwd, Root, Exe, FdDir, Fd}
 use Rattle.pr_base.specs.Paths.{AreNames}
 use Rattle.kr_tree.specs.Tree.{Tree, root, entry, entry_at, entries, standing, body_is, is_directory}
 use Rattle.kr_tree.specs.Rights.{may}
-
--- ---- one name
-
--- `.` and `..`
-abbrev pub is_dots : List ℕ → Bool
-is_dots [] = false
-is_dots (a ∷ []) = nat_eq a 46
-is_dots (a ∷ b ∷ []) = nat_eq a 46 && nat_eq b 46
-is_dots (a ∷ b ∷ c ∷ rest) = false
-
--- a name that an entry may have: 1 to 255 bytes, none of them a slash or zero, and not `.` or `..`
-abbrev pub is_name : List ℕ → Bool
-is_name name =
-    nat_lt 0 (length name) && nat_le (length name) 255 && list_all (λ b. not (nat_eq b 47 || nat_eq b 0)) name && not (is_dots name)
+-- the name of an entry
+pub use Rattle.kr_inode.specs.Names.{is_name}
 
 -- ---- what a text leads to
 

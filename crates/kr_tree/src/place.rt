@@ -1,7 +1,6 @@
 //! Places of a walk: what a mount and an inode, or a name below the process directory, stand for.
 
-/// The number of an inode. The root has 1; numbers aren't used again.
-pub type Ino = u32;
+use kr_inode::Ino;
 
 /// What stands in the process directory, as proc(5) names it. A `u32` in front is a process's number.
 #[derive(Clone, Copy, Debug, PartialEq, Eq)]

@@ -3,9 +3,7 @@ ghost use Rattle.std.specs.Prelude.{length, ◌≡◌, ◌+◌, ◌-◌, ◌^◌
 ghost use Rattle.std.specs.FinMap as map;
 ghost use Rattle.std.specs.Option.{option_copied, option_map_or};
 
-use crate::inode::Inode;
-use crate::place::Ino;
-use crate::standing::Standing;
+use kr_inode::{Ino, Inode, Standing};
 use pr_base::NoMemory;
 use std::alloc::Global;
 use std::collections::BTreeMap;

@@ -1,8 +1,7 @@
 //! Trees with ample memory.
 
-use crate::node::{Kind, Meta, Node, TreeRefusal};
-use crate::place::Ino;
 use crate::tree::{ROOT, Tree};
+use crate::{Ino, Kind, Meta, Node, TreeRefusal};
 use pr_base::{Bytes, NoMemory};
 use std::test::Fail;
 

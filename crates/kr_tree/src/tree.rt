@@ -3,13 +3,10 @@ ghost use Rattle.std.specs.Prelude.{◌≡◌, ◌≢◌, ◌+◌, ◌-◌, ◌^
 ghost use Rattle.std.specs.Option.{option_map, option_map_or, option_and_then, option_copied};
 ghost use Rattle.kr_tree.specs.Changes.{size_written, is_past_file, file_limit, byte_limit};
 
-use crate::inode::Inode;
-use crate::name::{append_backward, from_end, is_name};
-use crate::node::{FILE_LIMIT, Kind, Meta, Node, TreeRefusal};
-use crate::place::Ino;
-use crate::standing::Standing;
+use crate::name::{append_backward, from_end};
+use crate::refusal::TreeRefusal;
 use crate::store::Store;
-use crate::user::{Right, User};
+use kr_inode::{FILE_LIMIT, Ino, Inode, Kind, Meta, Node, Right, Standing, User, is_name};
 use pr_base::{Bytes, NoMemory};
 use std::alloc::Global;
 use std::marker::Model;
@@ -52,7 +49,7 @@ impl Tree {
     ghost use Rattle.pr_base.specs.Paths.{below_root, text_of as bytes_of_text};
     ghost use Rattle.kr_tree.specs.Rights.{may};
     ghost use Rattle.kr_tree.specs.Names.{is_name, step_up, host_name, NamedHaveHostNames, StandingHaveHostNames, HostNamesLead};
-    ghost use Rattle.kr_tree.specs.Stored.{kind_of, meta_of, body_of_new};
+    ghost use Rattle.kr_inode.specs.Stored.{kind_of, meta_of, body_of_new};
     ghost use Rattle.kr_tree.specs.Changes.{new_tree, added, next_serial, is_too_big, has_no_room, has_no_name_left, linked, removed, moved, unlinked, renamed, held, released, mode_set, owner_set, bytes_set, sized, overwritten, size, has_no_room_for};
     ghost use Rattle.kr_tree.specs.Lawful.{IsKept, HasItsInodes, IsBelow, IsLawfulMove};
 

@@ -16,7 +16,7 @@ use Rattle.pr_base.specs.declared.path.WalkMode.TheVariants as modes
 use Rattle.pr_base.proofs.PathLemmas.{texts_have_their_names}
 use Rattle.kr_tree.specs.declared.place.Host.TheVariants.{Node}
 use Rattle.kr_tree.specs.declared.place.Place.{Place}
-use Rattle.kr_tree.specs.declared.user.Right.TheVariants.{Search}
+use Rattle.kr_inode.specs.declared.user.Right.TheVariants.{Search}
 use Rattle.kr_tree.specs.Tree.{Tree, Body, Directory, RegularFile, SymbolicLink, ProcessDirectory, Inode, root, inode, body, body_is, entry, entry_named, entries_of, is_directory}
 use Rattle.kr_tree.specs.Names.{reached, entry_searched}
 use Rattle.kr_tree.specs.Rights.{may}

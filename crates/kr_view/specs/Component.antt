@@ -10,8 +10,8 @@ use Rattle.kr_tree.specs.declared.place.Host.TheVariants.{Node, Proc}
 use Rattle.kr_tree.specs.declared.place.Place.{Place}
 use Rattle.kr_tree.specs.declared.place.ProcAt.{ProcAt}
 use Rattle.kr_tree.specs.declared.place.ProcAt.TheVariants.{SelfLink, Dir, Cwd, Root, Exe, FdDir, Fd}
-use Rattle.kr_tree.specs.declared.user.User.{User}
-use Rattle.kr_tree.specs.declared.user.Right.TheVariants.{Search}
+use Rattle.kr_inode.specs.declared.user.User.{User}
+use Rattle.kr_inode.specs.declared.user.Right.TheVariants.{Search}
 use Rattle.kr_tree.specs.Tree.{Tree, Body, Directory, RegularFile, SymbolicLink, ProcessDirectory, body, body_is, entry, above as node_above, is_directory}
 use Rattle.kr_tree.specs.Rights.{may}
 use Rattle.kr_view.specs.declared.procs.Lead.{Lead}

@@ -4,7 +4,7 @@
 
 ghost use Rattle.std.specs.Prelude.{◌≡◌, [], Ok, IfOk};
 ghost use Rattle.kr_tree.specs.Tree.{Tree as TreeOfInodes};
-ghost use Rattle.kr_tree.specs.declared.user.User.{User};
+ghost use Rattle.kr_inode.specs.declared.user.User.{User};
 ghost use Rattle.kr_text.specs.Reading.{listing_of};
 ghost use Rattle.kr_text.specs.Canonical.{canonical};
 

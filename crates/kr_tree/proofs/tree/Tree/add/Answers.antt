@@ -3,8 +3,8 @@ use Rattle.std.proofs.Common.{◌≡◌, true, false, ◌∙◌, ap, sym, subst,
 use Rattle.std.specs.Prelude.{IfSome}
 use Rattle.kr_tree.specs.Tree.{Tree, entry, body_is, takes_names, is_directory}
 use Rattle.kr_tree.specs.Changes.{with_inode, with_entry, with_standing, fresh, has_no_room, next_serial}
-use Rattle.kr_tree.specs.Stored.{body_of_new}
-use Rattle.kr_tree.proofs.BodyLemmas.{entries-new}
+use Rattle.kr_inode.specs.Stored.{body_of_new}
+use Rattle.kr_inode.proofs.BodyLemmas.{entries-new}
 use Rattle.kr_tree.proofs.AddLemmas.{kept-added}
 use Rattle.kr_tree.proofs.CountLemmas.{directories_few}
 use Rattle.kr_tree.proofs.tree.Tree.add.Goals as goal

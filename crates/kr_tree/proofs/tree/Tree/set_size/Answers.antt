@@ -1,7 +1,7 @@
 use Rattle.std.proofs.Common.{◌≡◌, true, ◌+◌, ◌-◌, ◌∙◌, ap, sym, subst}
 use Rattle.kr_tree.specs.Tree.{Tree, body_is, is_file, bytes_of}
 use Rattle.kr_tree.specs.Changes.{size, sized}
-use Rattle.kr_tree.proofs.BytesLemmas.{length-sized}
+use Rattle.kr_inode.proofs.BytesLemmas.{length-sized}
 use Rattle.kr_tree.proofs.QuietLemmas.{kept-bytes}
 use Rattle.kr_tree.proofs.tree.Tree.set_size.Goals as goal
 

@@ -2,7 +2,7 @@ use Rattle.std.proofs.Common.{◌≡◌, true, ◌+◌, ◌-◌, ◌∙◌, ap, 
 use Rattle.std.specs.Option.{option_map_or}
 use Rattle.kr_tree.specs.Tree.{Tree, Inode, body_is, is_file, bytes_of}
 use Rattle.kr_tree.specs.Changes.{size, size_written, overwritten}
-use Rattle.kr_tree.proofs.BytesLemmas.{length-overwritten}
+use Rattle.kr_inode.proofs.BytesLemmas.{length-overwritten}
 use Rattle.kr_tree.proofs.QuietLemmas.{kept-bytes}
 use Rattle.kr_tree.proofs.tree.Tree.write_file.Goals as goal
 

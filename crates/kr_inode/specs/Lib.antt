@@ -1,0 +1,6 @@
+pub mod Changes
+pub mod Entries
+pub mod Inode
+pub mod Names
+pub mod Rights
+pub mod Stored
