@@ -1,4 +1,5 @@
 pub mod CanonicalRows
+pub mod CountedNames
 pub mod DepthLemmas
 pub mod DrawnLemmas
 pub mod EscapeLemmas

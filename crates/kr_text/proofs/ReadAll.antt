@@ -25,6 +25,7 @@ use Rattle.kr_text.specs.Same.{bare, bare_body, shown, IsSame, NameOneFile, CanB
 use Rattle.kr_text.proofs.NamesLemmas.{IsNamed}
 use Rattle.kr_text.proofs.OrderedNames.{IsAmong, AreInOrder, names_inside, under_parts, all_in_order}
 use Rattle.kr_text.proofs.DepthLemmas.{named_above, entry_in}
+use Rattle.kr_text.proofs.CountedNames.{all_names_counted}
 use Rattle.kr_text.proofs.DrawnLemmas.{len_more}
 use Rattle.kr_text.proofs.EveryName.{every_name}
 use Rattle.kr_text.proofs.Mirrors.{Mirrors, node_there, read_name}
@@ -178,7 +179,8 @@ read_begun t kept user can x es standing at is =
     let few = can.inodes in
     let small = can.bytes in
     let count = ap length all in
-    let names = can.names in
+    let names = all_names_counted t kept in
+    let limit = kept.sound.names_limited in
     record {
       u = new_tree x.mode x.uid x.gid;
       tree_is = refl;
@@ -186,7 +188,7 @@ read_begun t kept user can x es standing at is =
       process = λ never. absurd (differ never);
       mirrors = mirrors_root t x es standing at is;
       inodes_left = omega (arith, one, inodes, few);
-      names_left = omega (arith, count, names);
+      names_left = omega (arith, count, names, limit);
       bytes_left = omega (arith, bytes, small);
     }
   where

@@ -95,8 +95,7 @@ pub record CanBeListed (t : Tree) (user : User) : Type 0 where
   pub bodies : (text : List (List ℕ)) (n : Node) → shown t text ≡ Some n → CanBeWritten n n.body
   pub one_process_directory : (a b : List (List ℕ)) (n m : Node) → shown t a ≡ Some n → shown t b ≡ Some m → is_process_directory n.body ≡ true → is_process_directory m.body ≡ true → a ≡ b
   pub paths : (text : List (List ℕ)) (n : Node) → shown t text ≡ Some n → (length (text_of text) ≤ path_limit) × AreTextBytes (text_of text)
-  -- the limits, where a link counts once for each of its names; the root's name isn't counted
-  pub names : length (all_names t) ≤ count_limit + 1
+  -- the limits, where a link counts once for each of its names; that of names a kept tree meets
   pub inodes : inodes_read t ≤ count_limit
   pub bytes : bytes_read t ≤ byte_limit
 
