@@ -10,8 +10,9 @@ use Rattle.kr_tree.specs.Tree.{Tree, Inode, Inodes, Entry, Body, RegularFile, ro
 use Rattle.kr_tree.specs.Names.{is_name}
 use Rattle.kr_inode.specs.Entries.{IsListed}
 use Rattle.kr_tree.specs.Changes.{fresh, added, with_inode, with_entry, with_standing, next_serial, next_standing, is_unused, is_too_big, has_no_room, counted, count_limit, byte_limit, file_limit}
-use Rattle.kr_tree.specs.Lawful.{IsKept, IsSound, IsCounted, HasNoUnused, RisesToEnd, AtRoot, AtRemoved, Above, IsIn, entries_beside, count_in, directories_in, names_of, total}
+use Rattle.kr_tree.specs.Lawful.{IsKept, IsSound, IsCounted, HasNoUnused, RisesToEnd, AtRoot, AtRemoved, Above, IsIn, entries_beside, count_in, directories_in, names_of, total, AreBytes, IsOfBytes}
 use Rattle.kr_tree.proofs.InodesLemmas.{get-insert_same, get-insert_other, get-with_same, get-with_other, len-with}
+use Rattle.kr_tree.proofs.OfBytesLemmas.{of_bytes-added}
 use Rattle.kr_inode.proofs.EntryLemmas.{listed-none, listed-new, in-new, in-last, in-append}
 use Rattle.kr_inode.proofs.BodyLemmas.{entries-with_entries, standing-with_entries, is_directory-with_entries, is_listed-with_entries, bytes-with_entries, file-with_entries, entries-with_standing, standing-with_standing, is_directory-with_standing, bytes-with_standing, file-with_standing, takes-is_listed, takes-stands, listed-is_directory, is_directory-stands}
 use Rattle.kr_tree.proofs.CountLemmas.{value, sum-same, sum-changed, sum-suc, counted-same, counted-other, count-new, directories-same, directories-new, there, standing_there, above_there}
@@ -345,10 +346,10 @@ module _ (t : Tree) (sound : IsSound t) (counts : IsCounted t) (dir : ℕ) (name
 
 -- the same of what the code leaves
 pub kept-added : (t : Tree) → IsKept t → (dir : ℕ) (name : List ℕ) (mode uid gid : ℕ) (b : Body)
-    → body_is takes_names t dir ≡ true → is_name name ≡ true → entry t dir name ≡ None → entries_of b ≡ [] → is_too_big b ≡ false → (size : ℕ) → size ≡ length (bytes_of b) → has_no_room size t ≡ false
+    → body_is takes_names t dir ≡ true → is_name name ≡ true → entry t dir name ≡ None → entries_of b ≡ [] → is_too_big b ≡ false → (size : ℕ) → size ≡ length (bytes_of b) → has_no_room size t ≡ false → AreBytes name → IsOfBytes b
     → (m : Inodes) → m ≡ (added dir name mode uid gid b t).inodes
     → IsKept (record { inodes = m; next = t.next + 1; names = t.names + 1; bytes = t.bytes + size })
-kept-added t h dir name mode uid gid b takes well free plain small size is room m same =
+kept-added t h dir name mode uid gid b takes well free plain small size is room name_bytes bytes m same =
     let P : Inodes → ℕ → Type 0 = λ m size. IsKept (record { inodes = m; next = t.next + 1; names = t.names + 1; bytes = t.bytes + size }) in
     let room_is : has_no_room (length (bytes_of b)) t ≡ false = ap (λ n. has_no_room n t) (sym is) ∙ room in
     subst (λ n. P m n) (sym is) (subst (λ m. P m (length (bytes_of b))) (sym same)
@@ -356,4 +357,5 @@ kept-added t h dir name mode uid gid b takes well free plain small size is room 
       sound = sound-added t h.sound h.counted dir name mode uid gid b takes well free plain small room_is;
       counted = counted-added t h.sound h.counted dir name mode uid gid b takes well free plain small room_is;
       used = used-added t h.sound h.counted dir name mode uid gid b takes well free plain small room_is h.used;
+      bytes = of_bytes-added t h.bytes dir name mode uid gid b name_bytes bytes;
     }))

@@ -6,8 +6,9 @@ use Rattle.std.specs.Cmp.{nat_cmp_total}
 use Rattle.std.proofs.lemmas.Bool.{cases_eq, eqb-true}
 use Rattle.kr_tree.specs.Tree.{Tree, Inode, Entry, RegularFile, root, inode, entries, entries_of, standing, standing_of, body_is, is_directory, is_listed, body, bytes_of}
 use Rattle.kr_tree.specs.Changes.{is_unused, is_unused_at, freed, dropped_if_unused, file_limit}
-use Rattle.kr_tree.specs.Lawful.{IsKept, IsSound, IsCounted, HasNoUnused, IsIn, entries_beside, count_in, directories_in, names_of, total}
+use Rattle.kr_tree.specs.Lawful.{IsKept, IsSound, IsCounted, HasNoUnused, HasBytes, IsIn, entries_beside, count_in, directories_in, names_of, total}
 use Rattle.kr_tree.proofs.InodesLemmas.{get-remove_same, get-remove_other, by_inode}
+use Rattle.kr_tree.proofs.OfBytesLemmas.{of_bytes-removed}
 use Rattle.kr_tree.proofs.CountLemmas.{value, sum-changed, sum-at, in-counted, counted-same, entries_there}
 use Rattle.kr_tree.proofs.QuietLemmas.{LooksAlike, of_entries, sound-alike, counted-alike}
 
@@ -107,8 +108,8 @@ unused_names x h = eqb-true x.names 0 (first (nat_eq x.names 0) (nat_eq x.holds 
     first false b h = absurd cc
 
 -- an inode that may be unused is dropped if it is
-pub kept-dropped : (u : Tree) → IsSound u → IsCounted u → (k : ℕ) → ((i : ℕ) (z : Inode) → i ≢ k → inode u i ≡ Some z → is_unused z ≡ false) → IsKept (dropped_if_unused k u)
-kept-dropped u sound counts k used =
+pub kept-dropped : (u : Tree) → IsSound u → IsCounted u → (k : ℕ) → ((i : ℕ) (z : Inode) → i ≢ k → inode u i ≡ Some z → is_unused z ≡ false) → HasBytes u → IsKept (dropped_if_unused k u)
+kept-dropped u sound counts k used bytes =
     elim (is_unused_at k u.inodes) as (λ b. is_unused_at k u.inodes ≡ b
     → IsKept (record { inodes = cond b (map.remove u.inodes k) u.inodes; next = u.next; names = u.names; bytes = u.bytes - cond b (value (λ x. length (bytes_of x.node.body)) (inode u k)) 0 })) [
       | true ↦ λ h. gone (inode u k) refl h
@@ -122,6 +123,7 @@ kept-dropped u sound counts k used =
               | inl e ↦ sym (ap (λ o. option_map_or is_unused o false) (ap (inode u) (sym e) ∙ at)) ∙ h
               | inr d ↦ used i z d at
             ];
+            bytes = bytes;
           })
     ] refl
   where
@@ -135,6 +137,7 @@ kept-dropped u sound counts k used =
           sound = sound-dropped u sound counts k x at none;
           counted = counted-dropped u sound counts k x at none;
           used = used-dropped u sound counts k x at none used;
+          bytes = of_bytes-removed u.inodes k bytes;
         })
 
 pub freed-le : (u : Tree) → IsSound u → IsCounted u → (k : ℕ) → freed k u.inodes ≤ u.bytes

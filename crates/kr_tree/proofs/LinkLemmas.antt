@@ -8,8 +8,9 @@ use Rattle.kr_tree.specs.Tree.{Tree, Inode, Inodes, Entry, Body, RegularFile, ro
 use Rattle.kr_tree.specs.Names.{is_name}
 use Rattle.kr_inode.specs.Entries.{IsListed}
 use Rattle.kr_tree.specs.Changes.{linked, with_inode, with_entry, with_names, is_unused, has_no_name_left, counted, count_limit, file_limit}
-use Rattle.kr_tree.specs.Lawful.{IsKept, IsSound, IsCounted, HasNoUnused, RisesToEnd, AtRoot, AtRemoved, Above, IsIn, entries_beside, count_in, directories_in, total}
+use Rattle.kr_tree.specs.Lawful.{IsKept, IsSound, IsCounted, HasNoUnused, RisesToEnd, AtRoot, AtRemoved, Above, IsIn, entries_beside, count_in, directories_in, total, AreBytes}
 use Rattle.kr_tree.proofs.InodesLemmas.{get-with_same, get-with_other, len-with}
+use Rattle.kr_tree.proofs.OfBytesLemmas.{of_bytes-linked}
 use Rattle.kr_inode.proofs.EntryLemmas.{listed-new, in-new, in-append}
 use Rattle.kr_inode.proofs.BodyLemmas.{entries-with_entries, standing-with_entries, is_directory-with_entries, is_listed-with_entries, bytes-with_entries, file-with_entries, takes-is_listed, takes-stands, listed-is_directory, linked-is_directory}
 use Rattle.kr_tree.proofs.CountLemmas.{value, sum-changed, counted-same, counted-other, count-new, directories-same, directories-new}
@@ -256,13 +257,14 @@ module _ (t : Tree) (h : IsKept t) (dir : ℕ) (name : List ℕ) (file : ℕ)
       still_used = grind (arith, nat_tests)
 
 pub kept-linked : (t : Tree) (h : IsKept t) (dir : ℕ) (name : List ℕ) (file : ℕ)
-    → body_is takes_names t dir ≡ true → is_name name ≡ true → entry t dir name ≡ None → body_is may_be_linked t file ≡ true → has_no_name_left t ≡ false
+    → body_is takes_names t dir ≡ true → is_name name ≡ true → entry t dir name ≡ None → body_is may_be_linked t file ≡ true → has_no_name_left t ≡ false → AreBytes name
     → (m : Inodes) → m ≡ (linked dir name file t).inodes
     → IsKept (record { inodes = m; next = t.next; names = t.names + 1; bytes = t.bytes })
-kept-linked t h dir name file takes well free leaf room m same =
+kept-linked t h dir name file takes well free leaf room bytes m same =
     let P : Inodes → Type 0 = λ m. IsKept (record { inodes = m; next = t.next; names = t.names + 1; bytes = t.bytes }) in
     subst P (sym same) (record {
       sound = sound-linked t h dir name file takes well free leaf room;
       counted = counted-linked t h dir name file takes well free leaf room;
       used = used-linked t h dir name file takes well free leaf room;
+      bytes = of_bytes-linked t h.bytes dir name file bytes;
     })

@@ -10,8 +10,9 @@ use Rattle.kr_tree.specs.Tree.{Tree, Inode, Inodes, Entry, RegularFile, root, in
 use Rattle.kr_tree.specs.Names.{is_name}
 use Rattle.kr_inode.specs.Entries.{IsListed}
 use Rattle.kr_tree.specs.Changes.{with_inode, with_body, with_standing, with_entry, without_entry, without_name, next_serial, next_standing, moved, is_unused, counted, file_limit}
-use Rattle.kr_tree.specs.Lawful.{IsKept, IsSound, IsCounted, HasNoUnused, RisesToEnd, AtRoot, AtRemoved, Above, IsBelow, Here, Below, IsIn, entries_beside, count_in, directories_in, names_of, total}
+use Rattle.kr_tree.specs.Lawful.{IsKept, IsSound, IsCounted, HasNoUnused, RisesToEnd, AtRoot, AtRemoved, Above, IsBelow, Here, Below, IsIn, entries_beside, count_in, directories_in, names_of, total, AreBytes}
 use Rattle.kr_tree.proofs.InodesLemmas.{get-with_same, get-with_other, len-with, stays-with, there-with, each-with, with-swap, with-twice, with-alike}
+use Rattle.kr_tree.proofs.OfBytesLemmas.{of_bytes-moved}
 use Rattle.kr_inode.proofs.EntryLemmas.{listed-new, listed-without, named_in, in_named, in_above, serial_alone, in_without, in_still, none-without, without-new, weighed, weighed-without, in-new, in-last, in-append}
 use Rattle.kr_inode.proofs.BodyLemmas.{entries-with_entries, standing-with_entries, is_directory-with_entries, is_listed-with_entries, takes-with_entries, with_entries-swap, bytes-with_entries, file-with_entries, entries-with_standing, standing-with_standing, is_directory-with_standing, is_listed-with_standing, bytes-with_standing, file-with_standing, stands-nowhere, takes-is_listed, takes-stands, listed-is_directory, entries-is_listed}
 use Rattle.kr_tree.proofs.NameLemmas.{listed_in, filled_directory}
@@ -563,21 +564,22 @@ module _ (t : Tree) (sound : IsSound t) (counts : IsCounted t) (dir : ℕ) (name
       each-with P m2 i stand (each-with P m1 to grow (each-with P t.inodes dir shrink used (λ z at h. h)) (λ z at h. h)) (λ z at h. h)
 
 pub kept-moved : (t : Tree) → IsKept t → (dir : ℕ) (name : List ℕ) (to : ℕ) (new : List ℕ) (i : ℕ)
-    → entry t dir name ≡ Some i → body_is takes_names t to ≡ true → is_name new ≡ true → entry t to new ≡ None → (body_is is_directory t i ≡ true → ¬ IsBelow t i to)
+    → entry t dir name ≡ Some i → body_is takes_names t to ≡ true → is_name new ≡ true → entry t to new ≡ None → (body_is is_directory t i ≡ true → ¬ IsBelow t i to) → AreBytes new
     → IsKept (moved dir name to new i t)
-kept-moved t h dir name to new i is takes well free aside = record {
+kept-moved t h dir name to new i is takes well free aside bytes = record {
   sound = sound-moved t h.sound h.counted dir name to new i is takes well free aside;
   counted = counted-moved t h.sound h.counted dir name to new i is takes well free aside;
   used = used-moved t h.sound h.counted dir name to new i is takes well free aside h.used;
+  bytes = of_bytes-moved t h.bytes dir name to new i bytes;
 }
 
 -- the inodes as the code leaves them: the new entry first, then the old one away, then a directory at
 -- its new place
 pub kept-move : (t : Tree) (h : IsKept t) (dir : ℕ) (name : List ℕ) (to : ℕ) (new : List ℕ) (i : ℕ)
-    → entry t dir name ≡ Some i → body_is takes_names t to ≡ true → is_name new ≡ true → entry t to new ≡ None → (body_is is_directory t i ≡ true → ¬ IsBelow t i to)
+    → entry t dir name ≡ Some i → body_is takes_names t to ≡ true → is_name new ≡ true → entry t to new ≡ None → (body_is is_directory t i ≡ true → ¬ IsBelow t i to) → AreBytes new
     → (m : Inodes) → m ≡ with_inode i (with_body (with_standing (next_standing t to))) (with_inode dir (without_entry name (body_is is_directory t i)) (with_inode to (with_entry new i (body_is is_directory t i)) t.inodes))
     → IsKept (record { inodes = m; next = t.next; names = t.names; bytes = t.bytes }) × (m ≡ (moved dir name to new i t).inodes)
-kept-move t h dir name to new i is takes well free aside m m_is =
+kept-move t h dir name to new i is takes well free aside bytes m m_is =
     let same : m ≡ (moved dir name to new i t).inodes = m_is ∙ ap (with_inode i (with_body (with_standing (next_standing t to)))) (grown_first t h.sound h.counted dir name to new i is takes well free aside) in
     let P : Inodes → Type 0 = λ m. IsKept (record { inodes = m; next = t.next; names = t.names; bytes = t.bytes }) in
-    (subst P (sym same) (kept-moved t h dir name to new i is takes well free aside), same)
+    (subst P (sym same) (kept-moved t h dir name to new i is takes well free aside bytes), same)

@@ -14,6 +14,7 @@ use Rattle.kr_inode.specs.Entries.{IsListed, RisesWithin}
 use Rattle.kr_tree.specs.Lawful.{IsSound, IsIn, RisesToEnd, AtRoot, AtRemoved, Above}
 use Rattle.kr_inode.proofs.BodyLemmas.{entries-is_listed, listed-is_directory, is_directory-stands}
 use Rattle.kr_inode.proofs.EntryLemmas.{named_in, in_named, in_above, all-in, serial_alone}
+use Rattle.kr_inode.proofs.NameLemmas.{name_decides}
 use Rattle.kr_tree.proofs.CountLemmas.{entries_there, root_directory}
 
 -- ---- what is found

@@ -8,7 +8,7 @@ use Rattle.std.proofs.lemmas.Slice.Eq.{bytes_eq-Decides}
 use Rattle.kr_tree.specs.Tree.{Tree, Inode, Inodes, inode, entry, entry_named, entries, entries_of, standing, standing_of, above, body_is, is_directory, is_filled, takes_names, bytes_of}
 use Rattle.kr_tree.specs.Names.{is_name}
 use Rattle.kr_tree.specs.Changes.{with_inode, with_body, with_standing, with_entry, without_entry, without_name, next_serial, next_standing, moved, unlinked, unnamed, without_unused, freed, is_unused, counted}
-use Rattle.kr_tree.specs.Lawful.{IsKept, IsBelow, Here, Below, directories_in}
+use Rattle.kr_tree.specs.Lawful.{IsKept, IsBelow, Here, Below, directories_in, AreBytes}
 use Rattle.kr_tree.proofs.InodesLemmas.{get-with_same, get-with_other, stays-with, with-swap, with-twice, get-unused_other, unused_same, unused-with}
 use Rattle.kr_inode.proofs.EntryLemmas.{named_in, named-without, named-gone}
 use Rattle.kr_inode.proofs.BodyLemmas.{entries-with_entries, standing-with_entries, is_directory-with_entries, takes-with_entries, takes-is_listed, filled-entries, standing-without}
@@ -26,7 +26,7 @@ has_entry t k name i is empty = elim (inode t k) as (λ o. option_map (λ e. e.i
 
 module _ (t : Tree) (h : IsKept t) (dir : ℕ) (name : List ℕ) (to : ℕ) (new : List ℕ) (i old : ℕ)
     (is : entry t dir name ≡ Some i) (takes : body_is takes_names t to ≡ true) (well : is_name new ≡ true) (there : entry t to new ≡ Some old) (apart : old ≢ i)
-    (alike : body_is is_directory t old ≡ body_is is_directory t i) (empty : body_is is_filled t old ≡ false) (aside : body_is is_directory t i ≡ true → ¬ IsBelow t i to) where
+    (alike : body_is is_directory t old ≡ body_is is_directory t i) (empty : body_is is_filled t old ≡ false) (aside : body_is is_directory t i ≡ true → ¬ IsBelow t i to) (new_bytes : AreBytes new) where
   abbrev shrink : Inode → Inode
   shrink = without_entry new (body_is is_directory t old)
 
@@ -143,7 +143,7 @@ module _ (t : Tree) (h : IsKept t) (dir : ℕ) (name : List ℕ) (to : ℕ) (new
       n_is ∙ ap (form (next_serial t to) (body_is is_directory t i)) dropped_last
       ∙ ap (λ s. form s (body_is is_directory t i) (with_inode to (with_entry new i (body_is is_directory t i)) v.inodes)) (sym serial_still)
       ∙ ap (λ b. form (next_serial v to) b (with_inode to (with_entry new i b) v.inodes)) (sym directory_still) in
-      let moved_on = kept-move v (kept-unlinked t h to new old there empty) dir name to new i is_still takes_still well free_now aside_still n shape in
+      let moved_on = kept-move v (kept-unlinked t h to new old there empty) dir name to new i is_still takes_still well free_now aside_still new_bytes n shape in
       let bytes : gone ≡ freed old (with_inode old unnamed m) = gone_is ∙ freed_same in
       let few = (kept-removed t h to new old there empty (body_is is_directory t old) refl (with_inode old unnamed m) refl (without_unused old (with_inode old unnamed m)) refl (freed old (with_inode old unnamed m)) refl).1 in
       let P : ℕ → Type 0 = λ k. IsKept (record { inodes = n; next = t.next; names = t.names - 1; bytes = t.bytes - k })
@@ -178,6 +178,7 @@ pub record IsOnto (t : Tree) (dir : ℕ) (name : List ℕ) (to : ℕ) (new : Lis
   pub alike : body_is is_directory t old ≡ body_is is_directory t ino
   pub empty : body_is is_filled t old ≡ false
   pub aside : body_is is_directory t ino ≡ true → ¬ IsBelow t ino to
+  pub bytes : AreBytes new
 
 -- what each step left, and how many bytes went
 pub record Steps (t : Tree) (dir : ℕ) (name : List ℕ) (to : ℕ) (new : List ℕ) (ino old : ℕ) (m : Inodes) (gone : ℕ) : Type 0 where
@@ -207,7 +208,7 @@ pub name_is_left : (t : Tree) → IsKept t → (dir : ℕ) (name : List ℕ) (to
 name_is_left t h dir name to new ino old on b dirs m m_is =
     let P : Inodes → Type 0 = λ m. 0 < option_map_or (λ z. z.names) (map.get m old) 1 in
     subst P (sym (regrown_is t.inodes m to new ino b (body_is is_directory t ino) dirs m_is))
-    (name_to_lose t h dir name to new ino old on.there on.takes on.well_formed on.named on.apart on.alike on.empty on.aside)
+    (name_to_lose t h dir name to new ino old on.there on.takes on.well_formed on.named on.apart on.alike on.empty on.aside on.bytes)
 
 -- there are directories enough where one is replaced
 pub directories_left : (t : Tree) → IsKept t → (dir : ℕ) (name : List ℕ) (to : ℕ) (new : List ℕ) (ino old : ℕ) → IsOnto t dir name to new ino old
@@ -215,7 +216,7 @@ pub directories_left : (t : Tree) → IsKept t → (dir : ℕ) (name : List ℕ)
 directories_left t h dir name to new ino old on b dirs =
     elim (map.get t.inodes to) as (λ o. map.get t.inodes to ≡ o → IfSome o (λ x. counted b ≤ x.directories)) [
       | None ↦ λ _. tt
-      | Some x ↦ λ at. subst (λ b. counted b ≤ x.directories) (sym dirs) (enough_left t h dir name to new ino old on.there on.takes on.well_formed on.named on.apart on.alike on.empty on.aside x at)
+      | Some x ↦ λ at. subst (λ b. counted b ≤ x.directories) (sym dirs) (enough_left t h dir name to new ino old on.there on.takes on.well_formed on.named on.apart on.alike on.empty on.aside on.bytes x at)
     ] refl
 
 pub kept-onto : (t : Tree) → IsKept t → (dir : ℕ) (name : List ℕ) (to : ℕ) (new : List ℕ) (ino old : ℕ) → IsOnto t dir name to new ino old → (m : Inodes) (gone : ℕ) → Steps t dir name to new ino old m gone
@@ -226,7 +227,7 @@ kept-onto t h dir name to new ino old on m gone s =
     let after : Bool → Inodes = λ b. with_inode old unnamed (with_inode to (λ x. with_entry new ino b (without_entry new b x)) t.inodes) in
     let parted : s.parted ≡ after dirs = s.parted_is ∙ ap (with_inode old unnamed) (regrown_is t.inodes s.replaced to new ino s.is_dir dirs s.dir_is s.replaced_is) in
     let form : ℕ → Bool → Inodes → Inodes = λ n b m. with_inode ino (with_body (with_standing (Some (record { inode = to; serial = n })))) (with_inode dir (without_entry name b) m) in
-    kept-replaced t h dir name to new ino old on.there on.takes on.well_formed on.named on.apart on.alike on.empty on.aside
+    kept-replaced t h dir name to new ino old on.there on.takes on.well_formed on.named on.apart on.alike on.empty on.aside on.bytes
     m
     (s.m_is
     ∙ ap (with_inode ino (with_body (with_standing (Some (record { inode = to; serial = s.serial }))))) (s.emptied_is ∙ ap (with_inode dir (without_entry name s.is_dir)) (s.dropped_is ∙ ap (without_unused old) parted))

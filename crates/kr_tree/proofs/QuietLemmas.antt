@@ -6,8 +6,9 @@ use Rattle.std.proofs.lemmas.Bool.Decides.{nat_tests}
 use Rattle.kr_tree.specs.Tree.{Tree, Inode, Inodes, Entry, RegularFile, root, inode, entries, entries_of, standing, standing_of, body_is, is_directory, is_listed, body, is_file, bytes_of}
 use Rattle.kr_inode.specs.Entries.{IsListed}
 use Rattle.kr_tree.specs.Changes.{with_inode, with_body, with_bytes, size, is_unused, count_limit, byte_limit, file_limit}
-use Rattle.kr_tree.specs.Lawful.{IsKept, IsSound, IsCounted, HasNoUnused, RisesToEnd, AtRoot, AtRemoved, Above, IsIn, entries_beside, count_in, directories_in, total, sum_below}
+use Rattle.kr_tree.specs.Lawful.{IsKept, IsSound, IsCounted, HasNoUnused, RisesToEnd, AtRoot, AtRemoved, Above, IsIn, entries_beside, count_in, directories_in, total, sum_below, AreBytes, IsOfBytes}
 use Rattle.kr_tree.proofs.InodesLemmas.{get-with_same, get-with_other, len-with, by_inode}
+use Rattle.kr_tree.proofs.OfBytesLemmas.{of_bytes-with, of_bytes-with_bytes}
 use Rattle.kr_inode.proofs.BodyLemmas.{entries-with_bytes, standing-with_bytes, is_directory-with_bytes, is_listed-with_bytes, file-with_bytes}
 use Rattle.kr_tree.proofs.AddLemmas.{passing}
 use Rattle.kr_tree.proofs.CountLemmas.{value, sum-at, sum-same, sum-changed, directories-same}
@@ -207,6 +208,7 @@ module _ (t : Tree) (k : ℕ) (g : Inode → Inode) (still : (x : Inode) → (g 
         sound = sound-still h.sound;
         counted = counted-still h.sound h.counted;
         used = used-quiet t k g quiet t.bytes h.used used;
+        bytes = of_bytes-with t.inodes k g h.bytes (λ x of_bytes. subst IsOfBytes (sym (still x)) of_bytes);
       })
 
 -- one more hold
@@ -238,11 +240,11 @@ size-le t h k = elim (inode t k) as (λ o. inode t k ≡ o → value (λ x. leng
 ] refl
 
 -- of what the code leaves: `new` bytes in the file
-pub kept-bytes : (t : Tree) → IsKept t → (k : ℕ) → body_is is_file t k ≡ true → (f : List ℕ → List ℕ) (new : ℕ)
+pub kept-bytes : (t : Tree) → IsKept t → (k : ℕ) → body_is is_file t k ≡ true → (f : List ℕ → List ℕ) → ((bytes : List ℕ) → AreBytes bytes → AreBytes (f bytes)) → (new : ℕ)
     → ((x : Inode) → inode t k ≡ Some x → new ≡ length (f (bytes_of x.node.body))) → new ≤ file_limit → (bytes : ℕ) → bytes ≡ t.bytes - size t k + new → bytes ≤ byte_limit
     → (m : Inodes) → m ≡ with_inode k (with_body (with_bytes f)) t.inodes
     → IsKept (record { inodes = m; next = t.next; names = t.names; bytes = bytes })
-kept-bytes t h k file f new new_is limit bytes bytes_is all m m_is =
+kept-bytes t h k file f stay new new_is limit bytes bytes_is all m m_is =
     let P : Inodes → Type 0 = λ m. IsKept (record { inodes = m; next = t.next; names = t.names; bytes = bytes }) in
     let x = passing is_file (inode t k) file in
     let g = with_body (with_bytes f) in
@@ -260,4 +262,5 @@ kept-bytes t h k file f new new_is limit bytes bytes_is all m m_is =
           omega arith);
       counted = counted-quiet t k (with_body (with_bytes f)) (other_bytes f) bytes h.sound h.counted (omega arith);
       used = used-quiet t k (with_body (with_bytes f)) (other_bytes f) bytes h.used (λ _ u. u);
+      bytes = of_bytes-with t.inodes k (with_body (with_bytes f)) h.bytes (λ z. of_bytes-with_bytes f stay z.node.body);
     })

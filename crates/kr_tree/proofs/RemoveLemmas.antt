@@ -10,6 +10,7 @@ use Rattle.kr_inode.specs.Entries.{IsListed}
 use Rattle.kr_tree.specs.Changes.{with_inode, without_entry, without_name, unnamed, unlinked, without_unused, freed, is_unused, counted, file_limit}
 use Rattle.kr_tree.specs.Lawful.{IsKept, IsSound, IsCounted, RisesToEnd, AtRoot, AtRemoved, Above, IsIn, entries_beside, count_in, directories_in, names_of, total}
 use Rattle.kr_tree.proofs.InodesLemmas.{get-with_same, get-with_other, len-with, stays-names}
+use Rattle.kr_tree.proofs.OfBytesLemmas.{of_bytes-parted}
 use Rattle.kr_inode.proofs.EntryLemmas.{listed-without, named_in, in_named, in_above, serial_alone, in_without, in_still, weighed, weighed-without}
 use Rattle.kr_inode.proofs.BodyLemmas.{entries-with_entries, standing-with_entries, is_directory-with_entries, is_listed-with_entries, bytes-with_entries, file-with_entries, entries-with_standing, is_directory-with_standing, is_listed-with_standing, bytes-with_standing, file-with_standing, standing-without, filled-entries, entries-is_listed}
 use Rattle.kr_tree.proofs.CountLemmas.{value, sum-at, sum-changed, counted-same, counted-other, directories-same, entries_there, there, root_directory}
@@ -361,6 +362,7 @@ module _ (t : Tree) (sound : IsSound t) (counts : IsCounted t) (dir : ℕ) (name
 pub kept-unlinked : (t : Tree) → IsKept t → (dir : ℕ) (name : List ℕ) (i : ℕ) → entry t dir name ≡ Some i → body_is is_filled t i ≡ false → IsKept (unlinked dir name i t)
 kept-unlinked t h dir name i is empty =
     kept-dropped _ (sound-parted t h.sound h.counted dir name i is empty) (counted-parted t h.sound h.counted dir name i is empty) i (used-parted t h.sound h.counted dir name i is empty h.used)
+    (of_bytes-parted t.inodes h.bytes dir name i (body_is is_directory t i))
 
 -- ---- the same of what the code leaves
 

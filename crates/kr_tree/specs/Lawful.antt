@@ -1,9 +1,10 @@
 -- What a tree keeps, and which moves of an entry keep it.
 use Rattle.std.specs.Prelude.{ℕ, zero, suc, ◌≡◌, ◌≢◌, ◌+◌, ◌≤◌, ◌<◌, true, false, List, [], ◌∷◌, length, Some, None, nat_eq}
 use Rattle.std.specs.FinMap as map
+use Rattle.std.specs.List.{AllByRecursion}
 use Rattle.std.specs.Option.{option_map_or}
 use Rattle.kr_inode.specs.declared.standing.Standing.{Standing}
-use Rattle.kr_tree.specs.Tree.{Tree, Inodes, Inode, Entry, RegularFile, root, inode, body, body_is, entry, entries, entries_of, above, standing, is_directory, is_listed, is_filled, takes_names, bytes_of}
+use Rattle.kr_tree.specs.Tree.{Tree, Inodes, Inode, Entry, Body, Directory, RegularFile, SymbolicLink, ProcessDirectory, root, inode, body, body_is, entry, entries, entries_of, above, standing, is_directory, is_listed, is_filled, takes_names, bytes_of}
 use Rattle.kr_tree.specs.Names.{is_name}
 use Rattle.kr_inode.specs.Entries.{Entries, IsListed}
 pub use Rattle.kr_inode.specs.Entries.{IsIn}
@@ -85,11 +86,27 @@ HasNoUnused t = (i : ℕ) (x : Inode) → inode t i ≡ Some x → is_unused x �
 abbrev pub HasItsInodes : Tree → Type 0
 HasItsInodes t = (dir : ℕ) (e : Entry) → IsIn e (entries t dir) → (x : Inode) × (inode t e.inode ≡ Some x)
 
+-- numbers that are bytes
+abbrev pub AreBytes : List ℕ → Type 0
+AreBytes bytes = AllByRecursion (λ b. b < 256) bytes
+
+-- the names of entries, the bytes of a file and the text of a link are bytes
+abbrev pub IsOfBytes : Body → Type 0
+IsOfBytes (Directory entries standing) = AllByRecursion (λ e. AreBytes e.name) entries
+IsOfBytes (RegularFile bytes) = AreBytes bytes
+IsOfBytes (SymbolicLink text) = AreBytes text
+IsOfBytes (ProcessDirectory standing) = Unit {0}
+
+-- all names, files and texts are of bytes
+abbrev pub HasBytes : Tree → Type 0
+HasBytes t = (i : ℕ) (x : Inode) → inode t i ≡ Some x → IsOfBytes x.node.body
+
 -- all that every tree keeps
 pub record IsKept (t : Tree) : Type 0 where
   pub sound : IsSound t
   pub counted : IsCounted t
   pub used : HasNoUnused t
+  pub bytes : HasBytes t
 
 -- ---- moves
 

@@ -2,6 +2,8 @@
 ghost use Rattle.std.specs.Prelude.{◌≡◌, ◌≢◌, ◌+◌, ◌-◌, ◌^◌, ◌<◌, ◌≤◌, ◌↔◌, ◌&&◌, not, true, false, Some, None, OnOk, OnErr, IfOk, IsSome, length, IsErrOf, IsTrue, IfSome, ℕ, reverse};
 ghost use Rattle.std.specs.Option.{option_map, option_map_or, option_and_then, option_copied};
 ghost use Rattle.kr_tree.specs.Changes.{size_written, is_past_file, file_limit, byte_limit};
+ghost use Rattle.kr_tree.specs.Lawful.{AreBytes, IsOfBytes};
+ghost use Rattle.kr_inode.specs.Stored.{body_of_new};
 
 use crate::name::{append_backward, from_end};
 use crate::refusal::TreeRefusal;
@@ -49,7 +51,7 @@ impl Tree {
     ghost use Rattle.pr_base.specs.Paths.{below_root, text_of as bytes_of_text};
     ghost use Rattle.kr_tree.specs.Rights.{may};
     ghost use Rattle.kr_tree.specs.Names.{is_name, step_up, host_name, NamedHaveHostNames, StandingHaveHostNames, HostNamesLead};
-    ghost use Rattle.kr_inode.specs.Stored.{kind_of, meta_of, body_of_new};
+    ghost use Rattle.kr_inode.specs.Stored.{kind_of, meta_of};
     ghost use Rattle.kr_tree.specs.Changes.{new_tree, added, next_serial, is_too_big, has_no_room, has_no_name_left, linked, removed, moved, unlinked, renamed, held, released, mode_set, owner_set, bytes_set, sized, overwritten, size, has_no_room_for};
     ghost use Rattle.kr_tree.specs.Lawful.{IsKept, HasItsInodes, IsBelow, IsLawfulMove};
 
@@ -314,6 +316,7 @@ impl Tree {
         ensures ok { OnOk result (self.new ≡ added dir name.now meta.mode meta.uid meta.gid (body_of_new node) self.old) }
         ensures err { OnErr result (self.new ≡ self.old) }
     {
+        is_of_bytes(&node);
         let size = node.size();
         if node.is_too_big() {
             return Err(TreeRefusal::TooBig);
@@ -635,6 +638,20 @@ impl Tree {
         Ok(name.to_vec(self.alloc)?)
     }
 }
+
+/// That the bytes of a new node are below 256.
+fn is_of_bytes(node: &Node)
+    ensures { IsOfBytes (body_of_new node.now) }
+{
+    if let Node::File(bytes) | Node::Link(bytes) = node {
+        are_bytes(bytes.as_slice());
+    }
+}
+
+/// That bytes are below 256, which a proof is told of a slice alone.
+fn are_bytes(bytes: &[u8])
+    ensures { AreBytes bytes.now }
+{}
 
 /// How many bytes a file has after `count` of them were written at a place, where that is no more
 /// than a file may have; else any number that is more.

@@ -7,6 +7,7 @@ use Rattle.kr_inode.specs.Stored.{body_of_new}
 use Rattle.kr_inode.proofs.BodyLemmas.{entries-new}
 use Rattle.kr_tree.proofs.AddLemmas.{kept-added}
 use Rattle.kr_tree.proofs.CountLemmas.{directories_few}
+use Rattle.kr_tree.proofs.OfBytesLemmas.{known_bytes}
 use Rattle.kr_tree.proofs.tree.Tree.add.Goals as goal
 
 pub put-requires-clause-directories : goal.put-requires-clause-directories
@@ -26,7 +27,7 @@ invariant_of-self-2 c =
     let view = sym c.self.view_is in
     kept-added t c.self.invariant c.args.dir c.args.name.now c.args.meta.mode c.args.meta.uid c.args.meta.gid (body_of_new c.args.node)
     (subst Takes view c.requires.directory) c.requires.well_formed (subst Free view c.requires.free) (entries-new c.args.node)
-    (sym c.is_too_big.ensures ∙ c.if-is_too_big.false) c.size-size.result c.size-size.ensures (subst Room view (sym c.has_no_room.ensures ∙ c.if-has_no_room.false))
+    (sym c.is_too_big.ensures ∙ c.if-is_too_big.false) c.size-size.result c.size-size.ensures (subst Room view (sym c.has_no_room.ensures ∙ c.if-has_no_room.false)) (known_bytes c.args.name.now c.type_inv.name) c.is_of_bytes.ensures
     c.put.new.self
     (c.in_ok-put.ensures.ok
     ∙ ap (λ n. map.insert (with_inode c.args.dir (with_entry n c.self.inside.next c.is_directory-is_dir.result) c.self.inside.store) c.self.inside.next c.new-inode.result) c.in_ok-name.ensures

@@ -8,6 +8,7 @@ use Rattle.kr_tree.specs.Changes.{with_inode, with_entry, with_names, count_limi
 use Rattle.kr_tree.proofs.InodesLemmas.{stays-names}
 use Rattle.kr_tree.proofs.LinkLemmas.{kept-linked}
 use Rattle.kr_tree.proofs.CountLemmas.{directories_few, names_few}
+use Rattle.kr_tree.proofs.OfBytesLemmas.{known_bytes}
 use Rattle.kr_tree.proofs.tree.Tree.link.Goals as goal
 
 pub add_entry-requires-clause-directories : goal.add_entry-requires-clause-directories
@@ -35,7 +36,7 @@ invariant_of-self-2 c =
     let view = sym c.self.view_is in
     let room : nat_le count_limit t.names ≡ false = grind (arith, nat_tests) in
     kept-linked t c.self.invariant c.args.dir c.args.name.now c.args.file
-    (subst Takes view c.requires.directory) c.requires.well_formed (subst Free view c.requires.free) (subst Leaf view c.requires.file) room
+    (subst Takes view c.requires.directory) c.requires.well_formed (subst Free view c.requires.free) (subst Leaf view c.requires.file) room (known_bytes c.args.name.now c.type_inv.name)
     c.add_name.new.self
     (c.add_name.ensures
     ∙ ap (with_inode c.args.file (with_names (λ n. n + 1))) (c.in_ok-add_entry.ensures.ok ∙ ap (λ n. with_inode c.args.dir (with_entry n c.args.file false) c.self.inside.store) c.in_ok-name.ensures))

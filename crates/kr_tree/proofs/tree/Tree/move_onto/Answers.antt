@@ -3,18 +3,19 @@ use Rattle.kr_tree.specs.Tree.{Tree, entry, body_is, is_directory}
 use Rattle.kr_tree.specs.Changes.{next_serial, moved, unlinked}
 use Rattle.kr_tree.proofs.OntoLemmas.{IsOnto, kept-onto, name_is_left, directories_left}
 use Rattle.kr_tree.proofs.RemoveLemmas.{some_name}
+use Rattle.kr_tree.proofs.OfBytesLemmas.{known_bytes}
 use Rattle.kr_tree.proofs.tree.Tree.move_onto.Goals as goal
 
 pub replace_entry-requires-clause-directories : goal.replace_entry-requires-clause-directories
 replace_entry-requires-clause-directories c =
     let t : Tree = record { inodes = c.self.inside.store; next = c.self.inside.next; names = c.self.inside.names; bytes = c.self.inside.bytes } in
-    let on : IsOnto t c.args.dir c.args.name.now c.args.to c.args.new.now c.args.ino c.args.old = (subst (λ t. IsOnto t c.args.dir c.args.name.now c.args.to c.args.new.now c.args.ino c.args.old) (sym c.self.view_is) (record { there = c.requires.there; takes = c.requires.takes; well_formed = c.requires.well_formed; named = c.requires.named; apart = c.requires.apart; alike = c.requires.alike; empty = c.requires.empty; aside = c.requires.aside })) in
+    let on : IsOnto t c.args.dir c.args.name.now c.args.to c.args.new.now c.args.ino c.args.old = (subst (λ t. IsOnto t c.args.dir c.args.name.now c.args.to c.args.new.now c.args.ino c.args.old) (sym c.self.view_is) (record { there = c.requires.there; takes = c.requires.takes; well_formed = c.requires.well_formed; named = c.requires.named; apart = c.requires.apart; alike = c.requires.alike; empty = c.requires.empty; aside = c.requires.aside; bytes = known_bytes c.args.new.now c.type_inv.new })) in
     directories_left t c.self.invariant c.args.dir c.args.name.now c.args.to c.args.new.now c.args.ino c.args.old on c.is_directory-is_dir.result (c.is_directory-is_dir.ensures ∙ ap (λ t. body_is is_directory t c.args.ino) (sym c.self.view_is))
 
 pub remove_name-requires : goal.remove_name-requires
 remove_name-requires c =
     let t : Tree = record { inodes = c.self.inside.store; next = c.self.inside.next; names = c.self.inside.names; bytes = c.self.inside.bytes } in
-    let on : IsOnto t c.args.dir c.args.name.now c.args.to c.args.new.now c.args.ino c.args.old = (subst (λ t. IsOnto t c.args.dir c.args.name.now c.args.to c.args.new.now c.args.ino c.args.old) (sym c.self.view_is) (record { there = c.requires.there; takes = c.requires.takes; well_formed = c.requires.well_formed; named = c.requires.named; apart = c.requires.apart; alike = c.requires.alike; empty = c.requires.empty; aside = c.requires.aside })) in
+    let on : IsOnto t c.args.dir c.args.name.now c.args.to c.args.new.now c.args.ino c.args.old = (subst (λ t. IsOnto t c.args.dir c.args.name.now c.args.to c.args.new.now c.args.ino c.args.old) (sym c.self.view_is) (record { there = c.requires.there; takes = c.requires.takes; well_formed = c.requires.well_formed; named = c.requires.named; apart = c.requires.apart; alike = c.requires.alike; empty = c.requires.empty; aside = c.requires.aside; bytes = known_bytes c.args.new.now c.type_inv.new })) in
     name_is_left t c.self.invariant c.args.dir c.args.name.now c.args.to c.args.new.now c.args.ino c.args.old on c.is_directory-is_dir.result (c.is_directory-is_dir.ensures ∙ ap (λ t. body_is is_directory t c.args.ino) (sym c.self.view_is))
     c.replace_entry.new.self c.in_ok-replace_entry.ensures.ok
 
@@ -26,7 +27,7 @@ overflow_sub-self c =
 pub overflow_sub-self-2 : goal.overflow_sub-self-2
 overflow_sub-self-2 c =
     let t : Tree = record { inodes = c.self.inside.store; next = c.self.inside.next; names = c.self.inside.names; bytes = c.self.inside.bytes } in
-    let on : IsOnto t c.args.dir c.args.name.now c.args.to c.args.new.now c.args.ino c.args.old = (subst (λ t. IsOnto t c.args.dir c.args.name.now c.args.to c.args.new.now c.args.ino c.args.old) (sym c.self.view_is) (record { there = c.requires.there; takes = c.requires.takes; well_formed = c.requires.well_formed; named = c.requires.named; apart = c.requires.apart; alike = c.requires.alike; empty = c.requires.empty; aside = c.requires.aside })) in
+    let on : IsOnto t c.args.dir c.args.name.now c.args.to c.args.new.now c.args.ino c.args.old = (subst (λ t. IsOnto t c.args.dir c.args.name.now c.args.to c.args.new.now c.args.ino c.args.old) (sym c.self.view_is) (record { there = c.requires.there; takes = c.requires.takes; well_formed = c.requires.well_formed; named = c.requires.named; apart = c.requires.apart; alike = c.requires.alike; empty = c.requires.empty; aside = c.requires.aside; bytes = known_bytes c.args.new.now c.type_inv.new })) in
     (kept-onto t c.self.invariant c.args.dir c.args.name.now c.args.to c.args.new.now c.args.ino c.args.old on
     c.stand.new.self c.remove_if_unused-freed.result
     (record {
@@ -49,7 +50,7 @@ overflow_sub-self-2 c =
 pub invariant_of-self-2 : goal.invariant_of-self-2
 invariant_of-self-2 c =
     let t : Tree = record { inodes = c.self.inside.store; next = c.self.inside.next; names = c.self.inside.names; bytes = c.self.inside.bytes } in
-    let on : IsOnto t c.args.dir c.args.name.now c.args.to c.args.new.now c.args.ino c.args.old = (subst (λ t. IsOnto t c.args.dir c.args.name.now c.args.to c.args.new.now c.args.ino c.args.old) (sym c.self.view_is) (record { there = c.requires.there; takes = c.requires.takes; well_formed = c.requires.well_formed; named = c.requires.named; apart = c.requires.apart; alike = c.requires.alike; empty = c.requires.empty; aside = c.requires.aside })) in
+    let on : IsOnto t c.args.dir c.args.name.now c.args.to c.args.new.now c.args.ino c.args.old = (subst (λ t. IsOnto t c.args.dir c.args.name.now c.args.to c.args.new.now c.args.ino c.args.old) (sym c.self.view_is) (record { there = c.requires.there; takes = c.requires.takes; well_formed = c.requires.well_formed; named = c.requires.named; apart = c.requires.apart; alike = c.requires.alike; empty = c.requires.empty; aside = c.requires.aside; bytes = known_bytes c.args.new.now c.type_inv.new })) in
     (kept-onto t c.self.invariant c.args.dir c.args.name.now c.args.to c.args.new.now c.args.ino c.args.old on
     c.stand.new.self c.remove_if_unused-freed.result
     (record {
@@ -72,7 +73,7 @@ invariant_of-self-2 c =
 pub returns-clause-ok : goal.returns-clause-ok
 returns-clause-ok c =
     let t : Tree = record { inodes = c.self.inside.store; next = c.self.inside.next; names = c.self.inside.names; bytes = c.self.inside.bytes } in
-    let on : IsOnto t c.args.dir c.args.name.now c.args.to c.args.new.now c.args.ino c.args.old = (subst (λ t. IsOnto t c.args.dir c.args.name.now c.args.to c.args.new.now c.args.ino c.args.old) (sym c.self.view_is) (record { there = c.requires.there; takes = c.requires.takes; well_formed = c.requires.well_formed; named = c.requires.named; apart = c.requires.apart; alike = c.requires.alike; empty = c.requires.empty; aside = c.requires.aside })) in
+    let on : IsOnto t c.args.dir c.args.name.now c.args.to c.args.new.now c.args.ino c.args.old = (subst (λ t. IsOnto t c.args.dir c.args.name.now c.args.to c.args.new.now c.args.ino c.args.old) (sym c.self.view_is) (record { there = c.requires.there; takes = c.requires.takes; well_formed = c.requires.well_formed; named = c.requires.named; apart = c.requires.apart; alike = c.requires.alike; empty = c.requires.empty; aside = c.requires.aside; bytes = known_bytes c.args.new.now c.type_inv.new })) in
     (kept-onto t c.self.invariant c.args.dir c.args.name.now c.args.to c.args.new.now c.args.ino c.args.old on
     c.stand.new.self c.remove_if_unused-freed.result
     (record {

@@ -6,6 +6,7 @@ use Rattle.kr_tree.specs.Changes.{with_inode, with_body, with_standing, with_ent
 use Rattle.kr_tree.specs.Lawful.{IsKept, IsBelow}
 use Rattle.kr_tree.proofs.CountLemmas.{directories_few}
 use Rattle.kr_tree.proofs.MoveLemmas.{kept-move}
+use Rattle.kr_tree.proofs.OfBytesLemmas.{known_bytes}
 use Rattle.kr_tree.proofs.tree.Tree.move_to_free.Goals as goal
 use Rattle.kr_tree.proofs.tree.Tree.move_to_free.Goals.{After-stand}
 
@@ -33,7 +34,7 @@ done c =
     let step : ℕ → Bool → List ℕ → Inodes = λ n b new.
     with_inode c.args.ino (with_body (with_standing (Some (record { inode = c.args.to; serial = n })))) (with_inode c.args.dir (without_entry c.args.name.now b) (with_inode c.args.to (with_entry new c.args.ino b) c.self.inside.store)) in
     kept-move t c.self.invariant c.args.dir c.args.name.now c.args.to c.args.new.now c.args.ino
-    (subst There view c.requires.there) (subst Takes view c.requires.takes) c.requires.well_formed (subst Free view c.requires.free) (subst Aside view c.requires.aside)
+    (subst There view c.requires.there) (subst Takes view c.requires.takes) c.requires.well_formed (subst Free view c.requires.free) (subst Aside view c.requires.aside) (known_bytes c.args.new.now c.type_inv.new)
     c.stand.new.self
     (c.stand.ensures
     ∙ ap (with_inode c.args.ino (with_body (with_standing (Some (record { inode = c.args.to; serial = c.next_serial.result })))))

@@ -3,6 +3,7 @@ use Rattle.std.proofs.Common.{◌∙◌, ap, sym, subst}
 use Rattle.kr_tree.specs.Tree.{Inodes}
 use Rattle.kr_tree.specs.Lawful.{IsKept}
 use Rattle.kr_tree.proofs.NewLemmas.{sound-new_tree, counted-new_tree, used-new_tree}
+use Rattle.kr_tree.proofs.OfBytesLemmas.{of_bytes-new_tree}
 use Rattle.kr_tree.proofs.tree.Tree.new.Goals as goal
 
 pub invariant_of-result : goal.invariant_of-result
@@ -13,4 +14,5 @@ invariant_of-result c =
       sound = sound-new_tree c.args.root.mode c.args.root.uid c.args.root.gid;
       counted = counted-new_tree c.args.root.mode c.args.root.uid c.args.root.gid;
       used = used-new_tree c.args.root.mode c.args.root.uid c.args.root.gid;
+      bytes = of_bytes-new_tree c.args.root.mode c.args.root.uid c.args.root.gid;
     })
