@@ -1,5 +1,8 @@
+pub mod DirectoryLemmas
+pub mod EndLemmas
 pub mod FoundLemmas
 pub mod HostNameLemmas
+pub mod JumpedLemmas
 pub mod LandingLemmas
 pub mod LastLemmas
 pub mod NameLemmas

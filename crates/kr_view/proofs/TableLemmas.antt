@@ -17,7 +17,7 @@ use Rattle.kr_view.specs.Ways.{ino_of}
 use Rattle.kr_view.specs.View.{Point, Row, row, node_in, root_source, root_place, source_place, is_name_at, is_point, stands_at, down, point_place, up, is_there, covered, plain, plain_row, PointStands, StandsIn}
 use Rattle.kr_view.specs.Laws.{IsSettledSource, IsDirectoryIn, LawsOfPlaces}
 
-same_some : {A : Type 0} (a b : A) → Some a ≡ Some b → a ≡ b
+pub same_some : {A : Type 0} (a b : A) → Some a ≡ Some b → a ≡ b
 same_some a b h = ap (λ o. option_map_or (λ s. s) o a) h
 
 and_then : {A B : Type 0} (f : A → Option B) (o : Option A) (y : B) → option_and_then f o ≡ Some y → (x : A) × (o ≡ Some x) × (f x ≡ Some y)

@@ -1,7 +1,7 @@
 -- Laws of views and of walks over them.
 use Rattle.std.specs.Prelude.{ℕ, ◌≡◌, ◌≢◌, Bool, true, false, List, [], ◌∷◌, Option, Some, None, Ok}
 use Rattle.std.specs.Option.{option_map}
-use Rattle.pr_base.specs.Paths.{Component, kind_of, AreNames, text_of}
+use Rattle.pr_base.specs.Paths.{Component, kind_of, components_of, AreNames, text_of}
 use Rattle.pr_base.specs.WalkFrame.{Seen, Fails, Missing, Leads, Links, Jumps, Looking, Target, name_of, after_look, ends_here, walk_on}
 use Rattle.pr_base.specs.declared.path.Last.TheVariants as last
 use Rattle.pr_base.specs.declared.path.WalkMode.{WalkMode}
@@ -79,6 +79,22 @@ pub record FoundIsShown : Type 0 where
       → IsShown (looking around) t
   pub in_directory : (around : Surroundings) (mode : WalkMode) (base : Place ℕ) (path : List ℕ) (t : PlaceTarget) → (place_walk around mode base path).answer ≡ Ok t → t.jumped ≡ false → t.last ≢ last.Root
       → is_directory_at around t.dir.host ≡ true
+
+-- where walks end is a directory. What a process link led to is apart, since it isn't looked at again
+pub record WalksEndInDirectories : Type 0 where
+  -- the directory of a target is one: where its last component was looked up, and where no component was
+  -- left, the root place or the directory of the link whose text has none
+  pub directory : (around : Surroundings) (mode : WalkMode) (base : Place ℕ) (path : List ℕ) (t : PlaceTarget) → StandsIn around.tree around.table → path ≢ [] → (place_walk around mode base path).answer ≡ Ok t → t.jumped ≡ false
+      → is_directory_at around t.dir.host ≡ true
+  -- where no component was left, the directory itself is found
+  pub itself : (around : Surroundings) (mode : WalkMode) (base : Place ℕ) (path : List ℕ) (t : PlaceTarget) → (place_walk around mode base path).answer ≡ Ok t → t.last ≡ last.Root → t.found ≡ Some t.dir
+  -- the table must stand, since slashes alone end at the root place, whatever stands there
+  pub slashes : (around : Surroundings) (mode : WalkMode) (base : Place ℕ) (path : List ℕ) → path ≢ [] → components_of path ≡ [] → place_walk around mode base path ≡ ends_here (looking around) (root_place around.table) false
+  -- the path mustn't be empty, since the empty one ends at its base, whatever stands there
+  pub empty : (around : Surroundings) (mode : WalkMode) (base : Place ℕ) → place_walk around mode base [] ≡ ends_here (looking around) base false
+  -- a directory to which a process link led is its own; of a file the link tells the directory
+  pub jumped : (around : Surroundings) (mode : WalkMode) (base : Place ℕ) (path : List ℕ) (t : PlaceTarget) → (place_walk around mode base path).answer ≡ Ok t → t.jumped ≡ true
+      → (p : Place ℕ) × (t.found ≡ Some p) × (is_directory_at around p.host ≡ true → t.dir ≡ p)
 
 -- whether a body is a link
 abbrev pub is_link : Body → Bool
