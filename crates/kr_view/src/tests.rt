@@ -435,63 +435,56 @@ impl Procs for OneLink {
 }
 
 #[test]
-fn links_of_the_process_directory(rt: HostRuntime) -> Result<(), Fail> {
+fn a_link_of_the_process_directory_to_a_file(rt: HostRuntime) -> Result<(), Fail> {
     let alloc = rt.alloc();
     let tree = plain_tree(alloc)?.ok_or("no tree")?;
-    let to_file = OneLink {
+    let procs = OneLink {
         alloc,
         to: node_at(5),
         dir: 3,
         name: b"g",
     };
-    let to_dir = OneLink {
+    let (look, keep) = (WalkMode::Look, WalkMode::LookLink);
+    let table = [
+        given(b"/proc/x", look, Seen::At(3, 1, Last::Name, false, Some(5))),
+        given(b"/proc/x/", look, Seen::Refused(Errno::ENOTDIR)),
+        given(b"/proc/x/y", look, Seen::Refused(Errno::ENOTDIR)),
+        given(b"/proc/x", keep, Seen::At(8, 1, Last::Name, false, Some(8))),
+    ];
+    for row in table {
+        let answer = walk(alloc, &tree, &procs, row.path, row.mode, &mut nothing());
+        assert_eq!(rt; answer, row.want);
+    }
+    Ok(())
+}
+
+#[test]
+fn a_link_of_the_process_directory_to_a_directory(rt: HostRuntime) -> Result<(), Fail> {
+    let alloc = rt.alloc();
+    let tree = plain_tree(alloc)?.ok_or("no tree")?;
+    let procs = OneLink {
         alloc,
         to: node_at(3),
         dir: 0,
         name: b"",
     };
+    let (look, open) = (WalkMode::Look, WalkMode::Open);
     let table = [
-        given(
-            b"/proc/x",
-            WalkMode::Look,
-            Seen::At(3, 1, Last::Name, false, Some(5)),
-        ),
-        given(b"/proc/x/", WalkMode::Look, Seen::Refused(Errno::ENOTDIR)),
-        given(b"/proc/x/y", WalkMode::Look, Seen::Refused(Errno::ENOTDIR)),
-        given(
-            b"/proc/x",
-            WalkMode::LookLink,
-            Seen::At(8, 1, Last::Name, false, Some(8)),
-        ),
-    ];
-    for row in table {
-        let answer = walk(alloc, &tree, &to_file, row.path, row.mode, &mut nothing());
-        assert_eq!(rt; answer, row.want);
-    }
-    let table = [
-        given(
-            b"/proc/x",
-            WalkMode::Open,
-            Seen::At(3, 0, Last::Name, false, Some(3)),
-        ),
-        given(
-            b"/proc/x/",
-            WalkMode::Look,
-            Seen::At(3, 0, Last::Name, true, Some(3)),
-        ),
+        given(b"/proc/x", open, Seen::At(3, 0, Last::Name, false, Some(3))),
+        given(b"/proc/x/", look, Seen::At(3, 0, Last::Name, true, Some(3))),
         given(
             b"/proc/x/g",
-            WalkMode::Look,
+            look,
             Seen::At(3, 1, Last::Name, false, Some(5)),
         ),
         given(
             b"/proc/x/..",
-            WalkMode::Look,
+            look,
             Seen::At(3, 0, Last::DotDot, false, Some(2)),
         ),
     ];
     for row in table {
-        let answer = walk(alloc, &tree, &to_dir, row.path, row.mode, &mut nothing());
+        let answer = walk(alloc, &tree, &procs, row.path, row.mode, &mut nothing());
         assert_eq!(rt; answer, row.want);
     }
     Ok(())
