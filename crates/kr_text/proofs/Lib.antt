@@ -7,6 +7,7 @@ pub mod EveryName
 pub mod FirstLemmas
 pub mod FullPathLemmas
 pub mod Growth
+pub mod KeptBytes
 pub mod LineLemmas
 pub mod LineRows
 pub mod Mirrors

@@ -15,6 +15,7 @@ use Rattle.kr_tree.specs.Changes.{new_tree, fresh}
 use Rattle.kr_tree.specs.Lawful.{IsKept, IsIn}
 use Rattle.kr_tree.proofs.InodesLemmas.{get-insert_same, get-insert_other, by_inode}
 use Rattle.kr_tree.proofs.NewLemmas.{sound-new_tree, counted-new_tree, used-new_tree}
+use Rattle.kr_tree.proofs.OfBytesLemmas.{of_bytes-new_tree}
 use Rattle.kr_text.specs.declared.fault.ListFault.{ListFault}
 use Rattle.kr_text.specs.declared.names.Named.{Named}
 use Rattle.kr_text.specs.declared.so_far.SoFar.{SoFar}
@@ -102,7 +103,7 @@ mirrors_root t x es standing at is =
     let y : Inode = fresh x.mode x.uid x.gid (Directory [] (Some (record { inode = root; serial = 0 }))) in
     let shows : shown v [] ≡ shown t [] = ap (λ o. option_map bare (option_map (λ z. z.node) o)) (get-insert_same map.empty root y) ∙ ap (λ b. Some (record { mode = x.mode; uid = x.uid; gid = x.gid; body = bare_body b })) (sym is) ∙ sym (ap (option_map bare) at) in
     record {
-      kept = record { sound = sound-new_tree x.mode x.uid x.gid; counted = counted-new_tree x.mode x.uid x.gid; used = used-new_tree x.mode x.uid x.gid };
+      kept = record { sound = sound-new_tree x.mode x.uid x.gid; counted = counted-new_tree x.mode x.uid x.gid; used = used-new_tree x.mode x.uid x.gid; bytes = of_bytes-new_tree x.mode x.uid x.gid };
       are_named = λ m is_m. subst (IsNamed t) (sym (root_named m is_m)) refl;
       shows = λ m is_m. subst (λ k. shown v k.path ≡ shown t k.path) (sym (root_named m is_m)) shows;
       only = λ tx i named_i. (root_name, inl refl, sym (root_alone x.mode x.uid x.gid tx i named_i));

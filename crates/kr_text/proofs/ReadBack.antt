@@ -3,14 +3,13 @@ use Rattle.std.proofs.Common.{◌≡◌, ℕ, ◌+◌, ◌<◌, ◌≤◌, Bool,
 use Rattle.std.specs.Prelude.{codes, ok_or}
 use Rattle.std.specs.FinMap as map
 use Rattle.std.specs.Fmt.{decimal}
-use Rattle.std.specs.List.{AllByRecursion}
 use Rattle.std.specs.Option.{option_map, option_map_or, option_and_then}
 use Rattle.std.proofs.lemmas.Bool.{false_from_ne_true, ltb-true}
 use Rattle.kr_inode.specs.declared.user.User.{User}
 use Rattle.kr_inode.specs.declared.standing.Standing.{Standing}
 use Rattle.kr_tree.specs.Tree.{Tree, Inode, Node, Entry, Body, Directory, RegularFile, SymbolicLink, ProcessDirectory, inode, node, entry, body, body_is, is_file, bytes_of}
 use Rattle.kr_tree.specs.Names.{named}
-use Rattle.kr_tree.specs.Lawful.{IsKept}
+use Rattle.kr_tree.specs.Lawful.{IsKept, AreBytes, IsOfBytes}
 use Rattle.kr_tree.specs.Changes.{count_limit, byte_limit, file_limit, is_too_big}
 use Rattle.kr_text.specs.declared.fault.TreeWhy.{TreeWhy}
 use Rattle.kr_text.specs.declared.fault.TreeWhy.TheVariants.{NoParent}
@@ -20,7 +19,8 @@ use Rattle.kr_text.specs.declared.so_far.SoFar.{SoFar}
 use Rattle.kr_text.specs.Fields.{◌>>=◌}
 use Rattle.kr_text.specs.Canonical.{first_name, owner_of, line_at, body_line, octal, path_field, bytes_field, escaped}
 use Rattle.kr_text.specs.Reading.{with_tree, with_proc, node_put, node_read, dir_read, name_put, name_read, proc_put, proc_read, proc_owner, line_read, line_added}
-use Rattle.kr_text.specs.Same.{bare, bare_body, shown, CanBeListed, CanBeWritten, is_process_directory, body_weight, weight_after}
+use Rattle.kr_text.specs.Same.{bare, bare_body, shown, AreTextBytes, CanBeListed, CanBeWritten, is_process_directory, body_weight, weight_after}
+use Rattle.kr_text.proofs.KeptBytes.{node_of_bytes, text_bytes, path_bytes, names_of_bytes}
 use Rattle.kr_text.proofs.NamesLemmas.{IsNamed}
 use Rattle.kr_text.proofs.OrderedNames.{IsAmong, IsNext, among-front, among-end}
 use Rattle.kr_text.proofs.DepthLemmas.{named_above}
@@ -61,7 +61,7 @@ next_named t earlier n next = ap (named t) next.path ∙ ap (option_and_then (λ
 
 module _ (t : Tree) (kept : IsKept t) (user : User) (can : CanBeListed t user) where
   pub is_path : (n : Named) (x : Node) → IsNamed t n → node t n.ino ≡ Some x → IsPath n.path
-  is_path n x is at = let shows = shows_node t n x is at in let path = can.paths n.path (bare x) shows in record { names = path_names t kept n.path n.ino is; bytes = path.1; short = path.0 }
+  is_path n x is at = let shows = shows_node t n x is at in let names = path_names t kept n.path n.ino is in record { names = names; bytes = path_bytes n.path names (names_of_bytes t kept n.path n.ino is); short = can.paths n.path (bare x) shows }
 
   pub is_written : (n : Named) (x : Node) → IsNamed t n → node t n.ino ≡ Some x → IsWritten (owner_of x)
   is_written n x is at = let shows = shows_node t n x is at in record { mode = can.modes n.path (bare x) shows; uid = (can.owners n.path (bare x) shows).0; gid = (can.owners n.path (bare x) shows).1 }
@@ -168,22 +168,23 @@ module _ (t : Tree) (kept : IsKept t) (user : User) (can : CanBeListed t user) (
   step_link target is =
       let fields : List (List ℕ) = decimal x.uid ∷ decimal x.gid ∷ path_field n.path ∷ escaped target ∷ [] in
       let link_can = body_can (SymbolicLink target) (ap bare_body is) in
+      let are : AreTextBytes target = text_bytes target link_can.3 (subst IsOfBytes is (node_of_bytes t kept n.ino x at)) in
       let size_is : length (bytes_of x.body) ≡ length target = ap (λ b. length (bytes_of b)) is in
       let weight_bytes : body_weight (length (bytes_of x.body)) (first_name n.ino earlier) x.body ≡ length target = weight_is (length (bytes_of x.body)) (SymbolicLink target) is ∙ size_is in
       let grown = node_read_back t kept earlier reads.u reads.mirrors n next x at (SymbolicLink target) (sym (ap bare_body is)) refl refl (not_file t n.ino x at (ap is_file is)) (inodes_room (weight_is 1 (SymbolicLink target) is)) names_room (bytes_room (length target) weight_bytes) in
       record {
         text = joined (codes "l") fields;
         line_is = written_line t earlier n x at ∙ ap (body_line n.path (owner_of x) (first_name n.ino earlier)) is ∙ line_ends (codes "l") fields;
-        plain = joined_plain (codes "l") fields (one_letter 108 (omega arith) (omega arith)) (decimal_graphic x.uid owner_n.uid, (decimal_graphic x.gid owner_n.gid, (path_graphic n.path path_n.bytes, (escapes_graphic target link_can.3, tt))));
+        plain = joined_plain (codes "l") fields (one_letter 108 (omega arith) (omega arith)) (decimal_graphic x.uid owner_n.uid, (decimal_graphic x.gid owner_n.gid, (path_graphic n.path path_n.bytes, (escapes_graphic target are, tt))));
         after = with_tree grown.tree s;
-        adds = ap (λ r. r >>= (λ l. line_read elf l s)) (link_back n.path (owner_of x) target path_n owner_n link_can.0 link_can.3 link_can.1 link_can.2) ∙ node_added s reads.u grown.tree (owner_of x) n.path (SymbolicLink target) reads.tree_is grown.is;
+        adds = ap (λ r. r >>= (λ l. line_read elf l s)) (link_back n.path (owner_of x) target path_n owner_n link_can.0 are link_can.1 link_can.2) ∙ node_added s reads.u grown.tree (owner_of x) n.path (SymbolicLink target) reads.tree_is grown.is;
         reads = after_new t user earlier n rest s reads x at (node_put (owner_of x) n.path (SymbolicLink target) reads.u) 1 (length target) (weight_is 1 (SymbolicLink target) is) weight_bytes grown;
       }
 
   step_first : (bytes : List ℕ) → x.body ≡ RegularFile bytes → first_name n.ino earlier ≡ None → Step t user earlier n rest elf s
   step_first bytes is none =
       let fields : List (List ℕ) = octal x.mode ∷ decimal x.uid ∷ decimal x.gid ∷ path_field n.path ∷ bytes_field bytes ∷ [] in
-      let are : AllByRecursion (λ b. b < 256) bytes = body_can (RegularFile bytes) (ap bare_body is) in
+      let are : AreBytes bytes = subst IsOfBytes is (node_of_bytes t kept n.ino x at) in
       let limited = kept.sound.files_limited n.ino bytes (body_at t n.ino x (RegularFile bytes) at is) in
       let small : is_too_big (RegularFile bytes) ≡ false = false_from_ne_true _ (λ b. let l = ltb-true file_limit (length bytes) b in omega (arith, l, limited)) in
       let size_is : length (bytes_of x.body) ≡ length bytes = ap (λ b. length (bytes_of b)) is in

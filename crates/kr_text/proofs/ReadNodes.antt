@@ -24,6 +24,7 @@ use Rattle.kr_text.proofs.OrderedNames.{IsNext}
 use Rattle.kr_text.proofs.DepthLemmas.{entry_in}
 use Rattle.kr_text.proofs.DrawnLemmas.{next_free, len_more, other_number, file_linked}
 use Rattle.kr_text.proofs.Growth.{Grows, found_entry, named_there, added_grows, added_shows, linked_grows}
+use Rattle.kr_text.proofs.KeptBytes.{entry_of_bytes, node_of_bytes, of_bytes-alike}
 use Rattle.kr_text.proofs.Mirrors.{Mirrors, read_name, takes_where_listed, mirrors_new, mirrors_again, first_found, bare_directory}
 
 -- ---- entries and names
@@ -109,7 +110,8 @@ node_read_back t kept_t earlier u mirrors n next x node_is b same_bare no_entrie
     let spot = spot_of t kept_t earlier u mirrors n next in
     let has_room : has_no_room (length (bytes_of b)) u ≡ false = room (length (bytes_of b)) u inodes names bytes in
     let v : Tree = added spot.dir next.name x.mode x.uid x.gid b u in
-    let kept_v : IsKept v = kept-added u mirrors.kept spot.dir next.name x.mode x.uid x.gid b spot.takes (entry_is_name t kept_t next.directory.ino next.name n.ino next.entry_is) spot.free no_entries small (length (bytes_of b)) refl has_room v.inodes refl in
+    let kept_v : IsKept v = kept-added u mirrors.kept spot.dir next.name x.mode x.uid x.gid b spot.takes (entry_is_name t kept_t next.directory.ino next.name n.ino next.entry_is) spot.free no_entries small (length (bytes_of b)) refl has_room
+    (entry_of_bytes t kept_t next.directory.ino next.name n.ino next.entry_is) (of_bytes-alike b x.body same_bare no_entries (node_of_bytes t kept_t n.ino x node_is)) v.inodes refl in
     let grows : Grows u v spot.dir next.name u.next = added_grows u mirrors.kept spot.dir next.name spot.takes spot.free x.mode x.uid x.gid b no_entries in
     let shows = added_shows u mirrors.kept spot.dir next.name spot.takes spot.free x.mode x.uid x.gid b ∙ ap (λ bb. Some (record { mode = x.mode; uid = x.uid; gid = x.gid; body = bb })) same_bare in
     let y : Inode = fresh x.mode x.uid x.gid (with_standing (next_standing u spot.dir) b) in
@@ -155,7 +157,8 @@ name_read_again t kept_t earlier u mirrors n next x node_is file first first_is 
     let file_t : body_is is_file t n.ino ≡ true = body_of_node is_file t n.ino x node_is ∙ file in
     let left : has_no_name_left u ≡ false = false_from_ne_true _ (λ b. let l = leb-true count_limit u.names b in omega (arith, l, names)) in
     let v : Tree = linked spot.dir next.name j u in
-    let kept_v : IsKept v = kept-linked u mirrors.kept spot.dir next.name j spot.takes (entry_is_name t kept_t next.directory.ino next.name n.ino next.entry_is) spot.free (file_linked u j is_file_u) left v.inodes refl in
+    let kept_v : IsKept v = kept-linked u mirrors.kept spot.dir next.name j spot.takes (entry_is_name t kept_t next.directory.ino next.name n.ino next.entry_is) spot.free (file_linked u j is_file_u) left
+    (entry_of_bytes t kept_t next.directory.ino next.name n.ino next.entry_is) v.inodes refl in
     let grows : Grows u v spot.dir next.name j = linked_grows u mirrors.kept spot.dir next.name spot.takes spot.free j is_file_u in
     let target : file_at u first ≡ Ok j = ap (λ o. or_no_target (option_and_then (λ i. if body_is is_file u i then Some i else None) o)) (ap (named u) (sym m.2) ∙ r.2) ∙ ap (λ b. or_no_target (if b then Some j else None)) is_file_u in
     record {

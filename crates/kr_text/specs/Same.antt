@@ -43,15 +43,19 @@ pub record IsSame (t u : Tree) : Type 0 where
 
 -- ---- which trees a listing can stand for
 
--- the bytes of a name or of a link's text
+-- no byte is zero
+abbrev pub HasNoZero : List ℕ → Type 0
+HasNoZero bytes = AllByRecursion (λ b. 0 < b) bytes
+
+-- the bytes of a path or of a link's text
 abbrev pub AreTextBytes : List ℕ → Type 0
 AreTextBytes bytes = AllByRecursion (λ b. (0 < b) × (b < 256)) bytes
 
 -- what each node of a kind must have
 abbrev pub CanBeWritten : Node → Body → Type 0
 CanBeWritten n (Directory entries standing) = Unit {0}
-CanBeWritten n (RegularFile bytes) = AllByRecursion (λ b. b < 256) bytes
-CanBeWritten n (SymbolicLink text) = (n.mode ≡ link_mode) × (1 ≤ length text) × (length text ≤ path_limit) × AreTextBytes text
+CanBeWritten n (RegularFile bytes) = Unit {0}
+CanBeWritten n (SymbolicLink text) = (n.mode ≡ link_mode) × (1 ≤ length text) × (length text ≤ path_limit) × HasNoZero text
 CanBeWritten n (ProcessDirectory standing) = (n.mode ≡ 365) × (n.uid ≡ 0) × (n.gid ≡ 0)
 
 abbrev pub is_process_directory : Body → Bool
@@ -94,7 +98,7 @@ pub record CanBeListed (t : Tree) (user : User) : Type 0 where
   pub owners : (text : List (List ℕ)) (n : Node) → shown t text ≡ Some n → (n.uid ≤ largest_id) × (n.gid ≤ largest_id)
   pub bodies : (text : List (List ℕ)) (n : Node) → shown t text ≡ Some n → CanBeWritten n n.body
   pub one_process_directory : (a b : List (List ℕ)) (n m : Node) → shown t a ≡ Some n → shown t b ≡ Some m → is_process_directory n.body ≡ true → is_process_directory m.body ≡ true → a ≡ b
-  pub paths : (text : List (List ℕ)) (n : Node) → shown t text ≡ Some n → (length (text_of text) ≤ path_limit) × AreTextBytes (text_of text)
+  pub paths : (text : List (List ℕ)) (n : Node) → shown t text ≡ Some n → length (text_of text) ≤ path_limit
   -- the limits, where a link counts once for each of its names; that of names a kept tree meets
   pub inodes : inodes_read t ≤ count_limit
   pub bytes : bytes_read t ≤ byte_limit
