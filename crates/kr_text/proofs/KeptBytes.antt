@@ -1,5 +1,5 @@
 -- Names, paths and texts of a kept tree are of bytes.
-use Rattle.std.proofs.Common.{◌≡◌, ℕ, ◌<◌, true, List, [], ◌∷◌, ◌++◌, Option, Some, None, refl, sym, subst, arith, inl, inr}
+use Rattle.std.proofs.Common.{◌≡◌, ℕ, ◌<◌, true, List, [], ◌∷◌, Option, Some, None, refl, sym, subst, arith, inl, inr}
 use Rattle.std.specs.Prelude.{◌||◌, not, nat_eq}
 use Rattle.std.specs.List.{AllByRecursion, list_all}
 use Rattle.std.specs.Option.{option_map, option_map_or}
@@ -12,6 +12,7 @@ use Rattle.kr_tree.specs.Lawful.{IsKept, IsIn, AreBytes, IsOfBytes}
 use Rattle.kr_text.specs.Same.{AreTextBytes, HasNoZero, bare_body}
 use Rattle.kr_text.proofs.DepthLemmas.{named_above}
 use Rattle.kr_text.proofs.FullPathLemmas.{name_tests}
+use Rattle.kr_text.proofs.OrderedNames.{all-append}
 use Rattle.kr_text.proofs.Growth.{found_entry}
 
 -- ---- one node
@@ -78,14 +79,10 @@ no_zeros (b ∷ bytes) all =
     positive : (b : ℕ) → not (nat_eq b 47 || nat_eq b 0) ≡ true → 0 < b
     positive b is = grind (arith, nat_tests)
 
-text-append : (a b : List ℕ) → AreTextBytes a → AreTextBytes b → AreTextBytes (a ++ b)
-text-append [] b are more = more
-text-append (c ∷ a) b are more = (are.0, text-append a b are.1 more)
-
 below_bytes : (text : List (List ℕ)) → AllByRecursion (λ name. is_name name ≡ true) text → AllByRecursion AreBytes text → AreTextBytes (below_root text)
 below_bytes [] names are = tt
 below_bytes (name ∷ text) names are =
-    text-append (below_root text) (slash ∷ name) (below_bytes text names.1 are.1)
+    all-append (λ b. (0 < b) × (b < 256)) (below_root text) (slash ∷ name) (below_bytes text names.1 are.1)
     ((omega arith, omega arith), text_bytes name (no_zeros name (name_tests name names.0).1) are.0)
 
 pub path_bytes : (text : List (List ℕ)) → AllByRecursion (λ name. is_name name ≡ true) text → AllByRecursion AreBytes text → AreTextBytes (text_of text)

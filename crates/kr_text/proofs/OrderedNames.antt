@@ -93,7 +93,7 @@ one_above a b path (name ∷ text) (inl one) (inr two) = let same = ap length (r
 one_above a b path (name ∷ text) (inr one) (inl two) = let same = ap length (rest_of b name path text two) in let long = below_longer (a ∷ path) text one in absurd (omega (arith, same, long))
 one_above a b path (name ∷ text) (inr one) (inr two) = one_above a b path text one two
 
-all-append : {A : Type 0} (P : A → Type 0) (xs ys : List A) → AllByRecursion P xs → AllByRecursion P ys → AllByRecursion P (xs ++ ys)
+pub all-append : {A : Type 0} (P : A → Type 0) (xs ys : List A) → AllByRecursion P xs → AllByRecursion P ys → AllByRecursion P (xs ++ ys)
 all-append P [] ys all more = more
 all-append P (x ∷ xs) ys all more = (all.0, all-append P xs ys all.1 more)
 
