@@ -26,15 +26,39 @@ fn escapes_are_read_and_written(rt: HostRuntime) -> Result<(), Fail> {
             b"d 755 0 0 /%25\n".as_slice(),
             b"d 755 0 0 /%25\n".as_slice(),
         ),
+        (
+            b"l 0 0 /a %41%2f%0A\n".as_slice(),
+            b"l 0 0 /a A/%0a\n".as_slice(),
+        ),
+    ];
+    for (lines, written) in rows {
+        let listing = begun(rt.alloc(), lines)?;
+        let expected = begun(rt.alloc(), written)?;
+        assert!(rt; is_written_as(rt.alloc(), listing.as_slice(), expected.as_slice())?);
+    }
+    Ok(())
+}
+
+#[test]
+fn escaped_slashes_part_components(rt: HostRuntime) -> Result<(), Fail> {
+    let rows = [
         (b"d 755 0 0 %2fa\n".as_slice(), b"d 755 0 0 /a\n".as_slice()),
         (
             b"d 755 0 0 /a\nd 755 0 0 /a%2fb\n".as_slice(),
             b"d 755 0 0 /a\nd 755 0 0 /a/b\n".as_slice(),
         ),
-        (
-            b"l 0 0 /a %41%2f%0A\n".as_slice(),
-            b"l 0 0 /a A/%0a\n".as_slice(),
-        ),
+    ];
+    for (lines, written) in rows {
+        let listing = begun(rt.alloc(), lines)?;
+        let expected = begun(rt.alloc(), written)?;
+        assert!(rt; is_written_as(rt.alloc(), listing.as_slice(), expected.as_slice())?);
+    }
+    Ok(())
+}
+
+#[test]
+fn digits_are_written_in_one_form(rt: HostRuntime) -> Result<(), Fail> {
+    let rows = [
         (
             b"f 0 0 0 /a ABcd\n".as_slice(),
             b"f 0 0 0 /a abcd\n".as_slice(),
