@@ -50,7 +50,7 @@ pair_stays : (names : List (List ℕ × ℕ)) (es : List Entry) (q : List ℕ ×
 pair_stays names [] q apart is = is
 pair_stays names (e ∷ es) q apart is = pair_stays (insert_entry by_bytes names e.name e.inode) es q (λ f is_f. apart f (inr is_f)) (pair_old names e.name e.inode q (apart e (inl refl)) is)
 
-pair_put : (names : List (List ℕ × ℕ)) (es : List Entry) (e : Entry) → IsDistinct bytes_eq (names_in es) → IsIn e es → HasPair (e.name, e.inode) (put_in_order names es)
+pub pair_put : (names : List (List ℕ × ℕ)) (es : List Entry) (e : Entry) → IsDistinct bytes_eq (names_in es) → IsIn e es → HasPair (e.name, e.inode) (put_in_order names es)
 pair_put names [] e distinct is = absurd is
 pair_put names (x ∷ es) e distinct (inl same) =
     subst (λ y. HasPair (y.name, y.inode) (put_in_order names (x ∷ es))) same
@@ -86,7 +86,7 @@ among-some f path (q ∷ ps) n is = elim (among-parts n (f (below path q)) (flat
   | inr two ↦ let more = among-some f path ps n two in (more.0, inr more.1, more.2)
 ]
 
-all-of : (P : List ℕ × ℕ → Type 0) (ps : List (List ℕ × ℕ)) (p : List ℕ × ℕ) → AllByRecursion P ps → HasPair p ps → P p
+pub all-of : (P : List ℕ × ℕ → Type 0) (ps : List (List ℕ × ℕ)) (p : List ℕ × ℕ) → AllByRecursion P ps → HasPair p ps → P p
 all-of P [] p all is = absurd is
 all-of P (q ∷ ps) p all (inl same) = subst P same all.0
 all-of P (q ∷ ps) p all (inr is) = all-of P ps p all.1 is

@@ -10,7 +10,7 @@ use Rattle.kr_tree.specs.Tree.{Tree, body_is, is_file}
 use Rattle.kr_tree.proofs.InodesLemmas.{by_inode, ties-other}
 use Rattle.kr_text.specs.declared.names.Named.{Named}
 use Rattle.kr_text.specs.Canonical.{first_name}
-use Rattle.kr_text.specs.FirstNames.{AreFirst}
+use Rattle.kr_text.specs.FirstNames.{AreFirst, has_several, kept_name}
 
 first_stays : (i : ℕ) (earlier : List Named) (x : Named) (path : List (List ℕ)) → first_name i earlier ≡ Some path → first_name i (earlier ++ x ∷ []) ≡ Some path
 first_stays i [] x path is = cc
@@ -34,29 +34,45 @@ unknown : {A : Type 0} (o : Option A) → is_some o ≡ false → o ≡ None
 unknown None e = refl
 unknown (Some x) e = cc
 
--- a file's name of which none was noted yet
-pub first_noted : (t : Tree) (m n : BTreeMap ℕ (List (List ℕ))) (x : Named) (path : List (List ℕ)) → path ≡ x.path → is_some (get nat_cmp m x.ino) ≡ false → body_is is_file t x.ino ≡ true → Updates nat_cmp m n x.ino (Some path)
-    → (earlier : List Named) → AreFirst t m earlier → AreFirst t n (earlier ++ x ∷ [])
-first_noted t m n x path is none file updates earlier first =
-    by_inode (λ i. body_is is_file t i ≡ true → get nat_cmp n i ≡ first_name i (earlier ++ x ∷ [])) x.ino
-    (λ _. updates.1 ∙ ap Some is ∙ sym (first_here earlier x (sym (first x.ino file) ∙ unknown (get nat_cmp m x.ino) none)))
-    (λ i other f. updates.2 i (ties-other x.ino i (λ e. other (sym e))) ∙ first i f ∙ sym (first_elsewhere i earlier x (λ e. other (sym e))))
+kept_elsewhere : (t : Tree) (i : ℕ) (earlier : List Named) (x : Named) → x.ino ≢ i → kept_name t i (earlier ++ x ∷ []) ≡ kept_name t i earlier
+kept_elsewhere t i earlier x other = ap (λ path. cond (has_several t i) path None) (first_elsewhere i earlier x other)
 
--- a name of a file of which one was noted
-pub first_already : (t : Tree) (m : BTreeMap ℕ (List (List ℕ))) (x : Named) → is_some (get nat_cmp m x.ino) ≡ true → (earlier : List Named) → AreFirst t m earlier → AreFirst t m (earlier ++ x ∷ [])
-first_already t m x there earlier first =
-    by_inode (λ i. body_is is_file t i ≡ true → get nat_cmp m i ≡ first_name i (earlier ++ x ∷ [])) x.ino
-    (λ f. go (get nat_cmp m x.ino) refl there f)
-    (λ i other f. first i f ∙ sym (first_elsewhere i earlier x (λ e. other (sym e))))
+kept_of_several : (t : Tree) (i : ℕ) (names : List Named) → has_several t i ≡ true → kept_name t i names ≡ first_name i names
+kept_of_several t i names several = ap (λ b. cond b (first_name i names) None) several
+
+kept_of_one : (t : Tree) (i : ℕ) (names : List Named) → has_several t i ≡ false → kept_name t i names ≡ None
+kept_of_one t i names one = ap (λ b. cond b (first_name i names) None) one
+
+-- a name of what has several, of which none was noted yet
+pub first_noted : (t : Tree) (m n : BTreeMap ℕ (List (List ℕ))) (x : Named) → has_several t x.ino ≡ true → is_some (get nat_cmp m x.ino) ≡ false → Updates nat_cmp m n x.ino (Some x.path)
+    → (earlier : List Named) → AreFirst t m earlier → AreFirst t n (earlier ++ x ∷ [])
+first_noted t m n x several none updates earlier first =
+    by_inode (λ i. body_is is_file t i ≡ true → get nat_cmp n i ≡ kept_name t i (earlier ++ x ∷ [])) x.ino
+    (λ file. updates.1 ∙ sym (first_here earlier x (sym (first x.ino file ∙ kept_of_several t x.ino earlier several) ∙ unknown (get nat_cmp m x.ino) none)) ∙ sym (kept_of_several t x.ino (earlier ++ x ∷ []) several))
+    (λ i other f. updates.2 i (ties-other x.ino i (λ e. other (sym e))) ∙ first i f ∙ sym (kept_elsewhere t i earlier x (λ e. other (sym e))))
+
+-- a name of what has several, of which one was noted
+pub first_already : (t : Tree) (m : BTreeMap ℕ (List (List ℕ))) (x : Named) → has_several t x.ino ≡ true → is_some (get nat_cmp m x.ino) ≡ true → (earlier : List Named) → AreFirst t m earlier → AreFirst t m (earlier ++ x ∷ [])
+first_already t m x several there earlier first =
+    by_inode (λ i. body_is is_file t i ≡ true → get nat_cmp m i ≡ kept_name t i (earlier ++ x ∷ [])) x.ino
+    (λ f. go (get nat_cmp m x.ino) refl there f ∙ sym (kept_of_several t x.ino (earlier ++ x ∷ []) several))
+    (λ i other f. first i f ∙ sym (kept_elsewhere t i earlier x (λ e. other (sym e))))
   where
     go : (o : Option (List (List ℕ))) → get nat_cmp m x.ino ≡ o → is_some o ≡ true → body_is is_file t x.ino ≡ true → get nat_cmp m x.ino ≡ first_name x.ino (earlier ++ x ∷ [])
     go None e is f = cc
-    go (Some path) e is f = e ∙ sym (first_stays x.ino earlier x path (sym (first x.ino f) ∙ e))
+    go (Some path) e is f = e ∙ sym (first_stays x.ino earlier x path (sym (first x.ino f ∙ kept_of_several t x.ino earlier several) ∙ e))
+
+-- the name of what has one
+pub first_of_one : (t : Tree) (m : BTreeMap ℕ (List (List ℕ))) (x : Named) → has_several t x.ino ≡ false → (earlier : List Named) → AreFirst t m earlier → AreFirst t m (earlier ++ x ∷ [])
+first_of_one t m x one earlier first =
+    by_inode (λ i. body_is is_file t i ≡ true → get nat_cmp m i ≡ kept_name t i (earlier ++ x ∷ [])) x.ino
+    (λ f. first x.ino f ∙ kept_of_one t x.ino earlier one ∙ sym (kept_of_one t x.ino (earlier ++ x ∷ []) one))
+    (λ i other f. first i f ∙ sym (kept_elsewhere t i earlier x (λ e. other (sym e))))
 
 -- a name of what is no file
 pub first_of_others : (t : Tree) (m : BTreeMap ℕ (List (List ℕ))) (x : Named) → body_is is_file t x.ino ≡ false → (earlier : List Named) → AreFirst t m earlier → AreFirst t m (earlier ++ x ∷ [])
 first_of_others t m x other earlier first i f =
-    first i f ∙ sym (first_elsewhere i earlier x (λ same. apart same f))
+    first i f ∙ sym (kept_elsewhere t i earlier x (λ same. apart same f))
   where
     apart : x.ino ≡ i → body_is is_file t i ≡ true → ⊥
     apart same is = let no : body_is is_file t i ≡ false = sym (ap (body_is is_file t) same) ∙ other in cc

@@ -14,9 +14,11 @@ pub mod Mirrors
 pub mod NameLemmas
 pub mod NamesLemmas
 pub mod NumberLemmas
+pub mod OneName
 pub mod OrderLemmas
 pub mod OrderedNames
 pub mod PieceLemmas
+pub mod SortedNames
 pub mod ReadAll
 pub mod ReadBack
 pub mod ReadLemmas
@@ -24,6 +26,7 @@ pub mod ReadNodes
 pub mod ReadingRows
 pub mod ThreeLines
 pub mod WalkLemmas
+pub mod WayLemmas
 pub mod WrittenFields
 pub mod WrittenLines
 pub mod WrittenPaths

@@ -24,7 +24,7 @@ pub all-mapped : {A : Type 0} (P Q : A → Type 0) (xs : List A) → AllByRecurs
 all-mapped P Q [] all each = tt
 all-mapped P Q (x ∷ xs) all each = (each x all.0, all-mapped P Q xs all.1 each)
 
-all-in_front : {A B : Type 0} (P : B → Type 0) (f : A → B) (xs : List A) (ys : List B) → AllByRecursion (λ x. P (f x)) xs → AllByRecursion P ys → AllByRecursion P (map_list f xs ++ ys)
+pub all-in_front : {A B : Type 0} (P : B → Type 0) (f : A → B) (xs : List A) (ys : List B) → AllByRecursion (λ x. P (f x)) xs → AllByRecursion P ys → AllByRecursion P (map_list f xs ++ ys)
 all-in_front P f [] ys all more = more
 all-in_front P f (x ∷ xs) ys all more = (all.0, all-in_front P f xs ys all.1 more)
 
@@ -82,72 +82,3 @@ under_step t kept n is = go (map.len t.inodes) refl
         ap (λ names. n ∷ names) (flat_map-same (names_under depth t) (names_under (suc depth) t) (below n.path) (put_in_order [] (entries t n.ino))
         (all-mapped (λ p. IsNamed t (below n.path p)) (λ p. names_under depth t (below n.path p) ≡ names_under (suc depth) t (below n.path p)) (put_in_order [] (entries t n.ino)) (children_named t kept n is)
         (λ p is_p. stable t kept depth (below n.path p) is_p (omega (arith, some)))))
-
--- ---- lines
-
--- only a file's line has its first name
-same_line : (t : Tree) (n : Named) (a b : Option (List (List ℕ))) → (body_is is_file t n.ino ≡ true → a ≡ b) → line_at t n a ≡ line_at t n b
-same_line t n a b same = go (inode t n.ino) same
-  where
-    by_body : (x : Node) (b2 : Body) → (is_file b2 ≡ true → a ≡ b) → body_line n.path (owner_of x) a b2 ≡ body_line n.path (owner_of x) b b2
-    by_body x (Directory es standing) h = refl
-    by_body x (RegularFile bytes) h = ap (λ first. body_line n.path (owner_of x) first (RegularFile bytes)) (h refl)
-    by_body x (SymbolicLink text) h = refl
-    by_body x (ProcessDirectory standing) h = refl
-
-    go : (o : Option Inode) → (option_map_or (λ x. is_file x.node.body) o false ≡ true → a ≡ b) → option_map_or (λ x. body_line n.path (owner_of x) a x.body) (option_map (λ x. x.node) o) [] ≡ option_map_or (λ x. body_line n.path (owner_of x) b x.body) (option_map (λ x. x.node) o) []
-    go None h = refl
-    go (Some x) h = by_body x.node x.node.body h
-
--- the listing so far, with the lines of the names that wait, is the canonical one
-pub record IsOnTheWay (t : Tree) (user : User) (listing : List ℕ) (first : BTreeMap ℕ (List (List ℕ))) (waiting : List Named) : Type 0 where
-  pub earlier : List Named
-  pub rest : listing ++ lines_after t earlier (flat_map (under t) waiting) ≡ canonical t user
-  pub first_names : AreFirst t first earlier
-  pub there : AllByRecursion (IsNamed t) waiting
-
-pub at_start : (t : Tree) (user : User) (listing : List ℕ) (first : BTreeMap ℕ (List (List ℕ))) (waiting : List Named)
-    → listing ≡ user_line user → ((i : ℕ) → get nat_cmp first i ≡ None) → waiting ≡ root_name ∷ [] → IsOnTheWay t user listing first waiting
-at_start t user listing first waiting begun none alone = record {
-  earlier = [];
-  rest = (λ i. begun i ++ lines_after t [] (flat_map (under t) (alone i))) ∙ ap (λ names. user_line user ++ lines_after t [] names) (append-nil (under t root_name));
-  first_names = λ i file. none i;
-  there = subst (AllByRecursion (IsNamed t)) (sym alone) (refl, tt);
-}
-
--- the names that are left once one and all below it were put in their place
-next_names : (t : Tree) → IsKept t → (n : Named) (rest : List Named) → IsNamed t n → flat_map (under t) (n ∷ rest) ≡ n ∷ flat_map (under t) (children t n ++ rest)
-next_names t kept n rest is = ap (λ names. names ++ flat_map (under t) rest) (under_step t kept n is) ∙ ap (λ names. n ∷ names) (sym (flat_map-append (under t) (children t n) rest))
-
-pub fewer_names : (t : Tree) → IsKept t → (n : Named) (rest before after : List Named) → before ≡ n ∷ rest → after ≡ children t n ++ rest → AllByRecursion (IsNamed t) before → length (flat_map (under t) after) < length (flat_map (under t) before)
-fewer_names t kept n rest before after is_before is_after there =
-    let all : AllByRecursion (IsNamed t) (n ∷ rest) = subst (AllByRecursion (IsNamed t)) is_before there in
-    let shorter : length (flat_map (under t) before) ≡ suc (length (flat_map (under t) (children t n ++ rest))) = ap (λ names. length (flat_map (under t) names)) is_before ∙ ap length (next_names t kept n rest all.0) in
-    let same : length (flat_map (under t) after) ≡ length (flat_map (under t) (children t n ++ rest)) = ap (λ names. length (flat_map (under t) names)) is_after in
-    omega arith
-
-pub on_the_way : (t : Tree) → IsKept t → (user : User) (n : Named) (rest before after : List Named) (listing more : List ℕ) (first next : BTreeMap ℕ (List (List ℕ)))
-    → before ≡ n ∷ rest → after ≡ children t n ++ rest → more ≡ listing ++ line_at t n (get nat_cmp first n.ino)
-    → ((earlier : List Named) → AreFirst t first earlier → AreFirst t next (earlier ++ n ∷ []))
-    → IsOnTheWay t user listing first before → IsOnTheWay t user more next after
-unfolding lines_after
-on_the_way t kept user n rest before after listing more first next is_before is_after is_more noted way =
-    let all : AllByRecursion (IsNamed t) (n ∷ rest) = subst (AllByRecursion (IsNamed t)) is_before way.there in
-    let left : List Named = flat_map (under t) (children t n ++ rest) in
-    let line : line_at t n (get nat_cmp first n.ino) ≡ line_at t n (first_name n.ino way.earlier) = same_line t n (get nat_cmp first n.ino) (first_name n.ino way.earlier) (way.first_names n.ino) in
-    record {
-      earlier = way.earlier ++ n ∷ [];
-      rest =
-          (λ i. is_more i ++ lines_after t (way.earlier ++ n ∷ []) (flat_map (under t) (is_after i)))
-          ∙ append_assoc listing (line_at t n (get nat_cmp first n.ino)) (lines_after t (way.earlier ++ n ∷ []) left)
-          ∙ ap (λ l. listing ++ (l ++ lines_after t (way.earlier ++ n ∷ []) left)) line
-          ∙ ap (λ names. listing ++ lines_after t way.earlier names) (sym (ap (flat_map (under t)) is_before ∙ next_names t kept n rest all.0))
-          ∙ way.rest;
-      first_names = noted way.earlier way.first_names;
-      there = subst (AllByRecursion (IsNamed t)) (sym is_after) (all-in_front (IsNamed t) (below n.path) (put_in_order [] (entries t n.ino)) rest (children_named t kept n all.0) all.1);
-    }
-
-pub at_end : (t : Tree) (user : User) (listing : List ℕ) (first : BTreeMap ℕ (List (List ℕ))) (waiting : List Named) → waiting ≡ [] → IsOnTheWay t user listing first waiting → listing ≡ canonical t user
-unfolding lines_after
-at_end t user listing first waiting none way =
-    sym (append-nil listing) ∙ ap (λ names. listing ++ lines_after t way.earlier (flat_map (under t) names)) (sym none) ∙ way.rest

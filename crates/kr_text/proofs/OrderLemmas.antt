@@ -18,13 +18,6 @@ use Rattle.kr_tree.specs.Lawful.{IsKept, IsIn}
 use Rattle.kr_text.specs.Canonical.{by_bytes, put_in_order}
 use Rattle.kr_text.specs.Order.{pairs_of, AreNamed}
 
--- what is stored is put in order as its names are
-pub pairs-insert : {Z : Type 0} (es : List (Vec ℕ Z × ℕ)) (k : Vec ℕ Z) (i : ℕ) → pairs_of (insert_entry (λ (x y : Vec ℕ Z). slice_cmp nat_cmp x.items y.items) es k i) ≡ insert_entry by_bytes (pairs_of es) k.items i
-pairs-insert [] k i = refl
-pairs-insert (e ∷ es) k i =
-    elim (slice_cmp nat_cmp k.items e.0.items) as (λ r. pairs_of (match_ordering r ((k, i) ∷ e ∷ es) ((e.0, i) ∷ es) (e ∷ insert_entry (λ x y. slice_cmp nat_cmp x.items y.items) es k i)) ≡ match_ordering r ((k.items, i) ∷ pairs_of (e ∷ es)) ((e.0.items, i) ∷ pairs_of es) ((e.0.items, e.1) ∷ insert_entry by_bytes (pairs_of es) k.items i))
-    [ Less ↦ refl | Equal ↦ refl | Greater ↦ ap (λ ps. (e.0.items, e.1) ∷ ps) (pairs-insert es k i) ]
-
 -- what holds of a new name and of all others holds of all
 pub all-insert : (P : List ℕ × ℕ → Type 0) (names : List (List ℕ × ℕ)) (k : List ℕ) (i : ℕ) → P (k, i) → AllByRecursion P names → AllByRecursion P (insert_entry by_bytes names k i)
 all-insert P [] k i new all = (new, tt)

@@ -48,13 +48,6 @@ impl FullPath {
         Ok(FullPath { below_root })
     }
 
-    pub(crate) fn copy(&self, alloc: Global) -> Result<FullPath, NoMemory>
-        ensures { IfOk result (λ path. path ≡ self.now) }
-    {
-        let below_root = self.below_root.to_vec(alloc)?;
-        Ok(FullPath { below_root })
-    }
-
     /// Its bytes.
     pub(crate) fn as_slice(&self) -> &[u8]
         ensures { result.now ≡ text_of self.now }

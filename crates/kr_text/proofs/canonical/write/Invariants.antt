@@ -1,6 +1,7 @@
 use Rattle.std.proofs.Common.{length}
 use Rattle.std.specs.List.{flat_map}
-use Rattle.kr_text.proofs.NamesLemmas.{IsOnTheWay, under}
+use Rattle.kr_text.proofs.NamesLemmas.{under}
+use Rattle.kr_text.proofs.WayLemmas.{IsOnTheWay}
 use Rattle.kr_text.proofs.canonical.write.Given as goal
 
 abbrev pub invariant-loop-name : goal.invariant-loop-name

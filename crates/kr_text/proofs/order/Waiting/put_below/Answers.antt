@@ -9,8 +9,8 @@ pub loop-name-preserved : goal.loop-name-preserved
 loop-name-preserved c =
     let path = c.args.path.now in
     let taken = c.pop_last.new.self in
-    let put : c.put.new.self ≡ below path (c.in-Some.name.items, c.in-Some.ino) ∷ c.loop-name.self = search rules in
+    let put : c.put.new.self ≡ below path (c.in-Some.name.now, c.in-Some.ino) ∷ c.loop-name.self = search rules in
     record {
-      waiting = ap (λ w. map (below path) taken ++ w) put ∙ put_in_front (below path) taken (c.in-Some.name.items, c.in-Some.ino) c.loop-name.self ∙ ap (λ names. map (below path) names ++ c.loop-name.self) (sym c.in-Some.ensures) ∙ c.loop-name.invariant.waiting;
-      well_formed = all_but_last (λ p. is_name p.0 ≡ true) taken (c.in-Some.name.items, c.in-Some.ino) (subst AreNamed c.in-Some.ensures c.loop-name.invariant.well_formed);
+      waiting = ap (λ w. map (below path) taken ++ w) put ∙ put_in_front (below path) taken (c.in-Some.name.now, c.in-Some.ino) c.loop-name.self ∙ ap (λ names. map (below path) names ++ c.loop-name.self) (sym c.in-Some.ensures) ∙ c.loop-name.invariant.waiting;
+      well_formed = all_but_last (λ p. is_name p.0 ≡ true) taken (c.in-Some.name.now, c.in-Some.ino) (subst AreNamed c.in-Some.ensures c.loop-name.invariant.well_formed);
     }
