@@ -20,6 +20,11 @@ pub(crate) enum Fault {
 }
 
 impl From<NoMemory> for Fault {
+    ghost use Rattle.std.specs.Prelude.{◌≡◌};
+    ghost use Rattle.list_tree.specs.declared.fault.Fault.TheVariants.{Memory as MemoryRanOut};
+
+    ghost from_gives = { λ error fault. fault ≡ MemoryRanOut };
+
     fn from(_error: NoMemory) -> Fault {
         Fault::Memory
     }

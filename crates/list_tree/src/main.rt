@@ -2,11 +2,7 @@
 //! word the program adds, looks up and removes so many names of one directory instead.
 #![tactic(auto)]
 
-ghost use Rattle.std.specs.Prelude.{◌≡◌, [], Ok, IfOk};
-ghost use Rattle.kr_tree.specs.Tree.{Tree as TreeOfInodes};
-ghost use Rattle.kr_inode.specs.declared.user.User.{User};
-ghost use Rattle.kr_text.specs.Reading.{listing_of};
-ghost use Rattle.kr_text.specs.Canonical.{canonical};
+ghost use Rattle.list_tree.specs.Rewritten.{IsRewritten};
 
 mod fault;
 mod names;
@@ -20,9 +16,9 @@ use std::env;
 use std::io::{Read, Write};
 use std::process::ExitCode;
 
-/// The canonical form of a listing.
+/// The canonical form of a listing, or what is wrong with it.
 fn rewritten(alloc: Global, listing: &[u8]) -> Result<Bytes, Fault>
-    ensures { IfOk result (λ out. (t : TreeOfInodes) × (user : User) × (listing_of [] listing.now ≡ Ok (t, user)) × (out ≡ canonical t user)) }
+    ensures { IsRewritten listing.now result }
 {
     if wants_elf(listing) {
         return Err(Fault::Elf);
