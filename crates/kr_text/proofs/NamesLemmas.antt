@@ -1,20 +1,15 @@
 -- All names of a tree, and their lines.
-use Rattle.std.proofs.Common.{◌≡◌, ℕ, zero, suc, ◌+◌, ◌<◌, ◌≤◌, true, false, List, [], ◌∷◌, ◌++◌, length, map as map_list, Option, Some, None, refl, sym, ap, subst, ◌∙◌, arith, append_assoc, append-nil, inl}
+use Rattle.std.proofs.Common.{◌≡◌, ℕ, zero, suc, ◌+◌, ◌≤◌, List, [], ◌∷◌, ◌++◌, length, map as map_list, Option, Some, None, refl, sym, ap, subst, ◌∙◌, arith, inl}
 use Rattle.std.specs.FinMap as map
 use Rattle.std.specs.List.{AllByRecursion, flat_map}
 use Rattle.std.specs.Option.{option_map, option_map_or, option_and_then}
-use Rattle.std.specs.BTreeMap.{BTreeMap, get}
-use Rattle.std.specs.Ordering.{nat_cmp}
 use Rattle.std.proofs.lemmas.Cmp.{nat_list_eq_equiv}
-use Rattle.std.proofs.lemmas.List.Concat.{flat_map-append}
-use Rattle.kr_inode.specs.declared.user.User.{User}
-use Rattle.kr_tree.specs.Tree.{Tree, Inode, Entry, Body, Directory, RegularFile, SymbolicLink, ProcessDirectory, Node, inode, entry, entries, entries_of, entry_named, body_is, is_file}
+use Rattle.kr_tree.specs.Tree.{Tree, Inode, Entry, inode, entry, entries, entries_of, entry_named}
 use Rattle.kr_tree.specs.Names.{named}
 use Rattle.kr_tree.specs.Lawful.{IsKept, IsIn}
 use Rattle.kr_inode.proofs.EntryLemmas.{in_named}
 use Rattle.kr_text.specs.declared.names.Named.{Named}
-use Rattle.kr_text.specs.Canonical.{canonical, user_line, put_in_order, below, children, names_under, root_name, first_name, line_at, body_line, owner_of, lines_after}
-use Rattle.kr_text.specs.FirstNames.{AreFirst}
+use Rattle.kr_text.specs.Canonical.{put_in_order, below, children, names_under}
 use Rattle.kr_text.proofs.OrderLemmas.{all-put}
 use Rattle.kr_text.proofs.DepthLemmas.{depth_limited}
 

@@ -1,9 +1,8 @@
 -- The names of one directory in their order.
-use Rattle.std.proofs.Common.{◌≡◌, ℕ, ◌<◌, ◌≤◌, true, false, cond, List, [], ◌∷◌, ◌++◌, Option, Some, None, refl, sym, ap, subst, ◌∙◌, arith, Vec, inl, inr, append_assoc, map as map_list}
+use Rattle.std.proofs.Common.{◌≡◌, ℕ, ◌<◌, ◌≤◌, true, false, cond, List, [], ◌∷◌, ◌++◌, Option, Some, None, refl, sym, ap, subst, ◌∙◌, arith, inl, inr, append_assoc, map as map_list}
 use Rattle.std.specs.Prelude.{nat_lt}
 use Rattle.std.specs.declared.cmp.Ordering.TheVariants.{Less, Equal, Greater}
-use Rattle.std.specs.Ordering.{nat_cmp, match_ordering}
-use Rattle.std.specs.Cmp.Lexicographic.{slice_cmp}
+use Rattle.std.specs.Ordering.{match_ordering}
 use Rattle.std.specs.FinMap.{nat_cmp-IsAntisymmetric, slice_cmp-IsAntisymmetric}
 use Rattle.std.specs.List.{AllByRecursion, filter}
 use Rattle.std.specs.Option.{option_map_or}
@@ -16,7 +15,7 @@ use Rattle.kr_tree.specs.Names.{is_name}
 use Rattle.kr_inode.specs.Entries.{RisesWithin, names_in}
 use Rattle.kr_tree.specs.Lawful.{IsKept, IsIn}
 use Rattle.kr_text.specs.Canonical.{by_bytes, put_in_order}
-use Rattle.kr_text.specs.Order.{pairs_of, AreNamed}
+use Rattle.kr_text.specs.Order.{AreNamed}
 
 -- what holds of a new name and of all others holds of all
 pub all-insert : (P : List ℕ × ℕ → Type 0) (names : List (List ℕ × ℕ)) (k : List ℕ) (i : ℕ) → P (k, i) → AllByRecursion P names → AllByRecursion P (insert_entry by_bytes names k i)

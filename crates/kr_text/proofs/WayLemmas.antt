@@ -1,5 +1,5 @@
 -- A listing while it is written.
-use Rattle.std.proofs.Common.{◌≡◌, ◌≢◌, ℕ, suc, inl, inr, ◌<◌, ◌≤◌, true, false, Bool, List, [], ◌∷◌, ◌++◌, length, Option, Some, None, refl, sym, ap, subst, ◌∙◌, arith, append_assoc, append-nil, cond, map as map_list, Result, Ok, Err}
+use Rattle.std.proofs.Common.{◌≡◌, ◌≢◌, ℕ, suc, inl, inr, ◌<◌, true, false, List, [], ◌∷◌, ◌++◌, length, Option, Some, None, refl, sym, ap, subst, ◌∙◌, arith, append_assoc, append-nil, cond, map as map_list, Result, Ok, Err}
 use Rattle.std.specs.Prelude.{OnOk}
 use Rattle.std.specs.FinMap as map
 use Rattle.std.specs.List.{AllByRecursion, flat_map}
@@ -11,7 +11,7 @@ use Rattle.kr_inode.specs.declared.user.User.{User}
 use Rattle.kr_tree.specs.Tree.{Tree, Inode, Body, Directory, RegularFile, SymbolicLink, ProcessDirectory, Node, inode, entries, entries_of, body_is, is_file}
 use Rattle.kr_tree.specs.Lawful.{IsKept}
 use Rattle.kr_text.specs.declared.names.Named.{Named}
-use Rattle.kr_text.specs.Canonical.{canonical, user_line, put_in_order, below, children, root_name, first_name, line_at, body_line, owner_of, lines_after, all_names}
+use Rattle.kr_text.specs.Canonical.{canonical, user_line, put_in_order, below, children, root_name, first_name, line_at, body_line, owner_of, lines_after}
 use Rattle.kr_text.specs.FirstNames.{AreFirst, has_several, kept_name}
 use Rattle.kr_text.proofs.NamesLemmas.{IsNamed, all-in_front, children_named, under, under_step}
 use Rattle.kr_text.proofs.OrderedNames.{IsAmong, AreInOrder, among-last, names_inside, under_parts, all_in_order}
