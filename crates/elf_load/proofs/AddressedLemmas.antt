@@ -31,7 +31,7 @@ length-file_bytes : (file : List ℕ) (s : Segment) → length (file_bytes file 
 length-file_bytes file s = omega (arith, length-take s.file (drop s.offset file))
 
 -- a page that isn't one of the segment's
-get-with_segment_out : (file : List ℕ) (size : ℕ) (m : Pages) (s : Segment) (q : ℕ) → IsSound size s → (q < first_page s) ⊎ (end_page s ≤ q) → map.get (with_segment file m s) q ≡ map.get m q
+pub get-with_segment_out : (file : List ℕ) (size : ℕ) (m : Pages) (s : Segment) (q : ℕ) → IsSound size s → (q < first_page s) ⊎ (end_page s ≤ q) → map.get (with_segment file m s) q ≡ map.get m q
 unfolding with_segment
 get-with_segment_out file size m s q sound apart =
     get-written_out (mapped m (first_page s) (end_page s - first_page s) (rights_in s.flags)) s.at (file_bytes file s) q (λ k l e. by_side k l e apart)

@@ -25,10 +25,7 @@ use Rattle.elf_read.proofs.Accepted.{planned_sound, planned_in_order}
 use Rattle.elf_load.specs.Placed.{HoldsSegment, HoldsBytes}
 use Rattle.elf_load.proofs.AddressedLemmas.{image_holds, stack_holds}
 use Rattle.elf_load.specs.FirstStack.{stack_pointer, stack_bytes, pairs_of}
-use Rattle.rv_mem.specs.declared.fault.MapFault.{MapFault}
-use Rattle.rv_mem.specs.declared.fault.MapFault.TheVariants.{Full, NoMemory}
-use Rattle.elf_load.specs.declared.fault.LoadFault.TheVariants.{TooManyPages}
-use Rattle.elf_load.specs.Image.{fault_of, with_segments, with_stack, image_pages, exceeds_pages}
+use Rattle.elf_load.specs.Image.{with_segments, with_stack, image_pages, exceeds_pages}
 
 -- ---- the plan
 
@@ -83,11 +80,6 @@ pub exceeds-is : (room : ℕ) (m : Memory) (pages all : Pages) → page_count m.
 exceeds-is room m pages all none are =
     let others : room - page_count m.pages ≡ room = omega arith in
     ap (λ o. exceeds_pages o (page_count pages)) others ∙ ap (λ p. exceeds_pages room (page_count p)) are
-
--- the cause of a refusal for too many pages
-pub full_from : (cause : MapFault) → fault_of cause ≡ TooManyPages → cause ≡ Full
-full_from Full e = refl
-full_from NoMemory e = cc
 
 -- ---- pages that are taken back
 

@@ -1,4 +1,5 @@
 pub mod AddressedLemmas
+pub mod CountLemmas
 pub mod ImageLemmas
 pub mod ListLemmas
 pub mod PlacedLemmas

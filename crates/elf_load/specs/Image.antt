@@ -9,10 +9,6 @@ use Rattle.elf_read.specs.Plans.{planned}
 use Rattle.elf_read.specs.Rules.{page_size}
 use Rattle.elf_read.specs.declared.plan.Plan.{Plan}
 use Rattle.elf_read.specs.declared.plan.Segment.{Segment}
-use Rattle.rv_mem.specs.declared.fault.MapFault.{MapFault}
-use Rattle.rv_mem.specs.declared.fault.MapFault.TheVariants.{Full, NoMemory}
-use Rattle.elf_load.specs.declared.fault.LoadFault.{LoadFault}
-use Rattle.elf_load.specs.declared.fault.LoadFault.TheVariants.{TooManyPages, NoMemory as Wanting}
 use Rattle.elf_load.specs.FirstStack.{stack_top, stack_pointer, stack_bytes, pairs_of}
 
 -- ---- segments
@@ -41,6 +37,11 @@ with_segment file m s =
 unfoldable pub with_segments : List ℕ → Pages → List Segment → Pages
 with_segments file m [] = m
 with_segments file m (s ∷ segments) = with_segments file (with_segment file m s) segments
+
+-- how many pages segments have that share none
+abbrev pub segment_pages : List Segment → ℕ
+segment_pages [] = 0
+segment_pages (s ∷ segments) = end_page s - first_page s + segment_pages segments
 
 -- the address at which the pages of the last segment end
 abbrev pub break_from : ℕ → List Segment → ℕ
@@ -85,8 +86,3 @@ exceeds_pages others pages = nat_lt 16384 pages || nat_lt 262144 (others + pages
 abbrev pub image_exceeds : ℕ → List ℕ → Plan → List (List ℕ) → List (List ℕ) → List ℕ → Bool
 image_exceeds others file plan args env ids =
     exceeds_pages others (page_count (image_pages file plan args env ids))
-
--- what a refusal of pages is to the loader
-abbrev pub fault_of : MapFault → LoadFault
-fault_of Full = TooManyPages
-fault_of NoMemory = Wanting

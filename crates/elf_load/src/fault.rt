@@ -1,7 +1,6 @@
 //! Why a program isn't loaded.
 
 use pr_base::NoMemory;
-use rv_mem::MapFault;
 
 /// Why a program isn't loaded.
 #[derive(Clone, Copy, Debug, PartialEq, Eq)]
@@ -22,19 +21,5 @@ impl From<NoMemory> for LoadFault {
 
     fn from(_want: NoMemory) -> LoadFault {
         LoadFault::NoMemory
-    }
-}
-
-impl From<MapFault> for LoadFault {
-    ghost use Rattle.elf_load.specs.Image.{fault_of};
-    ghost use Rattle.std.specs.Prelude.{◌≡◌};
-
-    ghost from_gives = { λ cause fault. fault ≡ fault_of cause };
-
-    fn from(cause: MapFault) -> LoadFault {
-        match cause {
-            MapFault::Full => LoadFault::TooManyPages,
-            MapFault::NoMemory => LoadFault::NoMemory,
-        }
     }
 }

@@ -1,5 +1,5 @@
 //! A program as it starts.
-ghost use Rattle.std.specs.Prelude.{◌≡◌, ◌+◌, ◌≤◌, ◌↔◌, All, Err, None, false, length, IfOk, IsErrOf, IsTrue, OnErr, OnOk, replicate, slice_set};
+ghost use Rattle.std.specs.Prelude.{◌≡◌, ◌+◌, ◌≤◌, ◌↔◌, All, None, false, length, IfOk, IsErrOf, IsTrue, OnErr, OnOk, replicate, slice_set};
 ghost use Rattle.elf_read.specs.Plans.{plan_of, planned};
 ghost use Rattle.elf_read.specs.Rules.{first_broken};
 ghost use Rattle.rv_mem.specs.Memory.{page_count};
@@ -9,11 +9,11 @@ ghost use Rattle.elf_load.specs.Image.{first_regs, image_exceeds, image_memory, 
 
 use crate::arguments::size_of;
 use crate::fault::LoadFault;
-use crate::segments::{program_break, put_all};
+use crate::segments::{exceed_limits, program_break, put_all};
 use crate::stack::FirstStack;
 use elf_read::{Plan, Segment};
 use pr_base::Texts;
-use rv_mem::{Regs, Room, Space};
+use rv_mem::{MapFault, Regs, Room, Space};
 use std::alloc::Global;
 
 /// The register of the stack pointer.
@@ -52,8 +52,8 @@ fn first_regs(entry: u64, sp: u64) -> Regs
 /// and 1 MiB of stack with the arguments, the environment and what the program is told of itself. The
 /// four numbers of `ids` are the real and the effective user and group.
 ///
-/// The limits of arguments are tested first. The room counts the pages of all processes; after every
-/// refusal it is as before.
+/// The limits of arguments are tested first, then those of pages; neither test takes memory. The room
+/// counts the pages of all processes; after every refusal it is as before.
 pub fn load<const M: u8>(
     alloc: Global,
     room: &mut Room,
@@ -68,8 +68,7 @@ pub fn load<const M: u8>(
     requires plan { plan.now ≡ plan_of file.now }
 
     ensures args { IsErrOf result LoadFault.TooManyArgs ↔ IsTrue (exceeds_arguments args.now env.now) }
-    // Too many pages are the cause exactly where the image passes a limit, want of memory aside.
-    ensures pages { result ≡ Err LoadFault.TooManyPages → IsTrue (image_exceeds room.old file.now plan.now args.now env.now ids) }
+    ensures pages { IsErrOf result LoadFault.TooManyPages ↔ ((exceeds_arguments args.now env.now ≡ false) × IsTrue (image_exceeds room.old file.now plan.now args.now env.now ids)) }
     ensures within { OnOk result (image_exceeds room.old file.now plan.now args.now env.now ids ≡ false) }
 
     ensures memory { IfOk result (λ image. image.mem ≡ image_memory file.now plan.now args.now env.now ids) }
@@ -86,12 +85,19 @@ pub fn load<const M: u8>(
     let Some(size) = size_of(args, env) else {
         return Err(LoadFault::TooManyArgs);
     };
-    let stack = FirstStack::new(alloc, plan, args, env, size, ids)?;
     let segments = segments_of(plan);
+    if exceed_limits(room, segments) {
+        return Err(LoadFault::TooManyPages);
+    }
+    let stack = FirstStack::new(alloc, plan, args, env, size, ids)?;
     let mut mem = Space::new(alloc);
-    if let Err(fault) = put_all(&mut mem, room, file, segments, &stack) {
-        mem.unmap(room, 0, ALL_PAGES);
-        return Err(LoadFault::from(fault));
+    match put_all(&mut mem, room, file, segments, &stack) {
+        Ok(()) => {}
+        Err(MapFault::Full) => unreachable!(),
+        Err(MapFault::NoMemory) => {
+            mem.unmap(room, 0, ALL_PAGES);
+            return Err(LoadFault::NoMemory);
+        }
     }
     Ok(Image {
         mem,

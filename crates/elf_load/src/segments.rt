@@ -1,14 +1,15 @@
 //! Segments and the stack in the memory of a process.
 ghost use Rattle.std.specs.Prelude.{◌≡◌, ◌+◌, ◌-◌, ◌*◌, ◌/◌, ◌%◌, ◌^◌, ◌<◌, ◌≤◌, All, Err, length, true, false, IfErr, IsTrue, OnOk};
+ghost use Rattle.std.specs.Option.{SomeIff};
 ghost use Rattle.elf_read.specs.Plans.{IsSound};
 ghost use Rattle.rv_mem.specs.Memory.{page_count, with_pages};
 ghost use Rattle.rv_mem.specs.Pages.{allows_all, has_pages, protected, written};
-ghost use Rattle.elf_load.specs.Image.{break_from, end_page, exceeds_pages, first_page, rights_in, with_segment, with_segments, with_stack};
+ghost use Rattle.elf_load.specs.Image.{break_from, end_page, exceeds_pages, first_page, rights_in, segment_pages, stack_pages, with_segment, with_segments, with_stack};
 
 use crate::stack::{FirstStack, STACK_TOP};
 use elf_read::Segment;
 use pr_base::bits;
-use rv_mem::{MapFault, PAGES_END, Rights, Room, Space, StoreFault, Use};
+use rv_mem::{MapFault, PAGES_END, Rights, Room, SPACE_PAGES, Space, StoreFault, Use};
 
 const PAGE_SIZE: u64 = 4096;
 
@@ -41,6 +42,34 @@ fn end_page(s: &Segment) -> u64
     ensures { result ≡ end_page s.now }
 {
     (s.at + s.memory).div_ceil(PAGE_SIZE)
+}
+
+// How many pages segments have that share none. `None` where there are more than `most`.
+fn pages_within(segments: &[Segment], most: u64) -> Option<u64>
+    requires { All (λ s. s.at + s.memory < 2 ^ 48) segments.now }
+    ensures { SomeIff result (segment_pages segments.now ≤ most) (segment_pages segments.now) }
+{
+    let mut left = most;
+    for s in segments {
+        let pages = end_page(s) - s.at / PAGE_SIZE;
+        if pages > left {
+            return None;
+        }
+        left -= pages;
+    }
+    Some(most - left)
+}
+
+/// Whether segments that share no page have, with the stack, more pages than a process may have, or more
+/// than are left in the room.
+pub(crate) fn exceed_limits(room: &Room, segments: &[Segment]) -> bool
+    requires { All (λ s. s.at + s.memory < 2 ^ 48) segments.now }
+    ensures { result ≡ exceeds_pages room.now (segment_pages segments.now + stack_pages) }
+{
+    match pages_within(segments, u64::from(SPACE_PAGES - STACK_PAGES)) {
+        None => true,
+        Some(pages) => pages + u64::from(STACK_PAGES) > u64::from(room.free()),
+    }
 }
 
 /// The address at which the pages of the last segment end, 0 where there is none.

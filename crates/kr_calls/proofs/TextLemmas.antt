@@ -14,7 +14,7 @@ use Rattle.kr_calls.specs.declared.fault.CallFault.{CallFault}
 use Rattle.kr_calls.specs.declared.fault.CallFault.TheVariants as call
 use Rattle.kr_calls.specs.declared.request.Request.{Request}
 use Rattle.kr_calls.specs.Texts.{read_text}
-use Rattle.kr_calls.specs.Decodes.{fault_of, named_text, IsCutShort, Gives, Decodes}
+use Rattle.kr_calls.specs.Decodes.{fault_of, named_text, uses_memory, WantsForTexts, Gives, Decodes}
 use Rattle.kr_calls.specs.Decoding.{Decoded, accepts, refuses, unless, text_limit, named, with_text, text_read}
 
 -- what is gone on with, by what the text at the address is
@@ -79,14 +79,6 @@ answered may_be_empty (Err fault) = Err (fault_of fault)
 abbrev text_chosen : Bool → Result (List ℕ) TextFault → Action (Result (List ℕ) Errno)
 text_chosen may_be_empty r = chosen (Done (Err EFAULT)) (Done (Err ENAMETOOLONG)) (named may_be_empty (Done (Err ENOENT)) (λ t. Done (Ok t))) r
 
-given : (may : Bool) (m new whole : Memory) (r : Result (List ℕ) TextFault) → new ≡ whole → IsCutShort m new whole → Gives (answered may r) (carried_out (text_chosen may r) whole) m new
-given true m new whole (Ok []) is cut = (refl, is)
-given false m new whole (Ok []) is cut = (refl, is)
-given may m new whole (Ok (b ∷ t)) is cut = (refl, is)
-given may m new whole (Err text.BadAddress) is cut = (refl, is)
-given may m new whole (Err text.TooLong) is cut = (refl, is)
-given may m new whole (Err text.NoMemory) is cut = cut
-
 memory_chosen : (may : Bool) (r : Result (List ℕ) TextFault) (whole : Memory) → (carried_out (text_chosen may r) whole).memory ≡ whole
 memory_chosen true (Ok []) whole = refl
 memory_chosen false (Ok []) whole = refl
@@ -95,16 +87,13 @@ memory_chosen may (Err text.BadAddress) whole = refl
 memory_chosen may (Err text.TooLong) whole = refl
 memory_chosen may (Err text.NoMemory) whole = refl
 
-kept_or : (a b : Bool) → IsTrue a → IsTrue (a || b)
-kept_or true b h = refl
-kept_or false b h = absurd cc
-
-cut_short : (m new whole : Memory) (at n : ℕ) → new ≡ after_read m at n → new ≡ whole → IsCutShort m new whole
-cut_short m new whole at n is same = record {
-  pages = ap (λ s. s.pages) is;
-  kept = λ h. subst (λ s. IsTrue s.read_marked) (sym is) (kept_or m.read_marked (any_marked m.pages at n) h);
-  within = λ h. subst (λ s. IsTrue s.read_marked) same h;
-}
+given : (may : Bool) (new whole : Memory) (r : Result (List ℕ) TextFault) → new ≡ whole → Gives (answered may r) (carried_out (text_chosen may r) whole) new
+given true new whole (Ok []) is = (refl, is)
+given false new whole (Ok []) is = (refl, is)
+given may new whole (Ok (b ∷ t)) is = (refl, is)
+given may new whole (Err text.BadAddress) is = (refl, is)
+given may new whole (Err text.TooLong) is = (refl, is)
+given may new whole (Err text.NoMemory) is = is
 
 -- the text that was read, or want of memory in its place, is that of the definition
 pub text_decoded : (may : Bool) (at : ℕ) (m new : Memory) (r : Result (List ℕ) TextFault)
@@ -114,12 +103,12 @@ text_decoded may at m new r h is =
     let reach = text_reach m.pages at text_limit in
     let found = text_of m.pages at text_limit in
     let whole : carried_out (text_read may at) m ≡ carried_out (text_chosen may found) (after_read m at reach) = read_text_is text_limit at _ _ _ m in
-    subst (λ w. Gives (answered may r) w m new) (sym whole)
+    subst (λ w. Gives (answered may r) w new) (sym whole)
     (elim h [
-      | inl e ↦ subst (λ t. Gives (answered may r) (carried_out (text_chosen may t) (after_read m at reach)) m new) e
-          (given may m new (after_read m at reach) r is (cut_short m new (after_read m at reach) at reach is is))
-      | inr e ↦ subst (λ s. Gives (answered may s) (carried_out (text_chosen may found) (after_read m at reach)) m new) (sym e)
-          (cut_short m new _ at reach is (is ∙ sym (memory_chosen may found (after_read m at reach))))
+      | inl e ↦ subst (λ t. Gives (answered may r) (carried_out (text_chosen may t) (after_read m at reach)) new) e
+          (given may new (after_read m at reach) r is)
+      | inr e ↦ subst (λ s. Gives (answered may s) (carried_out (text_chosen may found) (after_read m at reach)) new) (sym e)
+          (is ∙ sym (memory_chosen may found (after_read m at reach)))
     ])
 
 -- ---- a call with a text
@@ -153,11 +142,11 @@ pub accepted : (broken may may_asked : Bool) (at asked : ℕ) (f : List ℕ → 
 accepted broken may may_asked at asked f m new t request passed e d is h =
     let h' : Decodes (Ok t) (text_read may at) m new = subst (λ b. Decodes (Ok t) (text_read b at) m new) e (subst (λ a. Decodes (Ok t) (text_read may_asked a) m new) d h) in
     subst (λ b. Decodes (Ok request) (unless b (with_text may at (λ t. accepts (f t)))) m new) (sym passed)
-    (subst (λ w. Gives (Ok request) w m new) (sym (row_is may at f m)) (ap (ok_map f) h'.0 ∙ ap Ok (sym is), h'.1))
+    (subst (λ w. Gives (Ok request) w new) (sym (row_is may at f m)) (ap (ok_map f) h'.0 ∙ ap Ok (sym is), h'.1))
 
-failed_row : (fault : CallFault) (f : List ℕ → Request) (done : CarriedOut (Result (List ℕ) Errno)) (m new : Memory) → Gives {A = List ℕ} (Err fault) done m new → Gives {A = Request} (Err fault) (with_reply f done) m new
-failed_row (call.Err errno) f done m new h = (ap (ok_map f) h.0, h.1)
-failed_row call.NoMemory f done m new h = h
+failed_row : (fault : CallFault) (f : List ℕ → Request) (done : CarriedOut (Result (List ℕ) Errno)) (new : Memory) → Gives {A = List ℕ} (Err fault) done new → Gives {A = Request} (Err fault) (with_reply f done) new
+failed_row (call.Err errno) f done new h = (ap (ok_map f) h.0, h.1)
+failed_row call.NoMemory f done new h = h
 
 -- the error of its text
 pub failed : (broken may may_asked : Bool) (at asked : ℕ) (f : List ℕ → Request) (m new : Memory) (fault : CallFault)
@@ -166,4 +155,10 @@ pub failed : (broken may may_asked : Bool) (at asked : ℕ) (f : List ℕ → Re
 failed broken may may_asked at asked f m new fault passed e d h =
     let h' : Decodes {A = List ℕ} (Err fault) (text_read may at) m new = subst (λ b. Decodes {A = List ℕ} (Err fault) (text_read b at) m new) e (subst (λ a. Decodes {A = List ℕ} (Err fault) (text_read may_asked a) m new) d h) in
     subst (λ b. Decodes {A = Request} (Err fault) (unless b (with_text may at (λ t. accepts (f t)))) m new) (sym passed)
-    (subst (λ w. Gives {A = Request} (Err fault) w m new) (sym (row_is may at f m)) (failed_row fault f _ m new h'))
+    (subst (λ w. Gives {A = Request} (Err fault) w new) (sym (row_is may at f m)) (failed_row fault f _ new h'))
+
+-- a call whose tests pass reads its text, and so may want memory for it
+pub may_want : (broken may : Bool) (at : ℕ) (next : List ℕ → Action Decoded) (result : Result Request CallFault) → broken ≡ false → WantsForTexts result (unless broken (with_text may at next))
+unfolding read_text
+may_want broken may at next result passed wanting =
+    ap (λ b. uses_memory (unless b (with_text may at next))) passed

@@ -1,6 +1,6 @@
 //! The request in the registers and the memory of a process.
 ghost use Rattle.std.specs.Prelude.{◌≡◌};
-ghost use Rattle.kr_calls.specs.Decodes.{Decodes};
+ghost use Rattle.kr_calls.specs.Decodes.{Decodes, WantsForTexts};
 ghost use Rattle.kr_calls.specs.Decoding.{decoding};
 
 use crate::arguments::A7;
@@ -11,9 +11,11 @@ use pr_base::Errno;
 use rv_mem::{Regs, Space};
 
 /// The request of a call, or the error that its decoding answers: ENOSYS for what isn't the number of a call, then
-/// what its row says. Bytes, rights and marks of the memory stay; the bytes of texts count as read.
+/// what its row says. Bytes, rights and marks of the memory stay; the bytes of texts count as read. Memory can be
+/// wanting only for texts, and what was read before that counts as read.
 pub fn decode<const M: u8>(regs: &Regs, mem: &mut Space<M>) -> Result<Request, CallFault>
     ensures decoded { Decodes result (decoding regs.now) mem.old mem.new }
+    ensures wanting { WantsForTexts result (decoding regs.now) }
     ensures pages { mem.new.pages ≡ mem.old.pages }
 {
     match regs.x[A7] {

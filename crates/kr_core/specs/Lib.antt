@@ -1,4 +1,3 @@
-pub mod Words
 pub mod Start
 pub mod Requests
 pub mod Operations

@@ -51,8 +51,7 @@ impl Model for Kernel {
 
 impl Kernel {
     ghost use Rattle.std.specs.Prelude.{◌≡◌, ◌≢◌, ◌↔◌, ◌<◌, ◌≤◌, ◌^◌, [], length, Err, IfOk};
-    ghost use Rattle.std.specs.Prelude.{IfErr, IsSome, None, false};
-    ghost use Rattle.elf_read.specs.Rules.{first_broken};
+    ghost use Rattle.std.specs.Prelude.{IfErr, IfSome, None, false};
     ghost use Rattle.elf_load.specs.FirstStack.{exceeds_arguments};
     ghost use Rattle.kr_core.specs.Start.{start_refusal, IsCausedBy};
     ghost use Rattle.kr_core.specs.declared.kernel.StartFault.TheVariants.{Err as Refused};
@@ -74,8 +73,8 @@ impl Kernel {
         ensures allowed { IfOk result (λ _. start_refusal file.now args.now ids ≡ None) }
         ensures refused { IfErr result (λ fault. IsCausedBy (start_refusal file.now args.now ids) fault) }
 
-        // The rules are tested before memory is taken.
-        ensures rules { IsSome (first_broken file.now) → result ≡ Err (Refused Errno.ENOEXEC) }
+        // Both are tested before memory is taken.
+        ensures certain { IfSome (start_refusal file.now args.now ids) (λ errno. result ≡ Err (Refused errno)) }
     {
         let Ok(plan) = check(file) else {
             return Err(StartFault::Err(Errno::ENOEXEC));

@@ -20,7 +20,7 @@ pub use fault::{BadAddress, MapFault, StoreFault, TextFault};
 pub use regs::Regs;
 pub use rights::{Rights, Use};
 pub use room::Room;
-pub use space::{PAGES_END, Space};
+pub use space::{PAGES_END, SPACE_PAGES, Space};
 
 #[cfg(test)]
 mod tests;

@@ -31,7 +31,7 @@ impl Room {
     }
 
     /// How many more pages there may be.
-    pub(crate) fn free(&self) -> u32
+    pub fn free(&self) -> u32
         ensures { result + self.now ≡ 262144 }
     {
         ROOM_PAGES - self.pages

@@ -13,7 +13,7 @@ use std::alloc::Global;
 use std::marker::Model;
 
 /// The most pages that a process may have.
-const SPACE_PAGES: u32 = 16_384;
+pub const SPACE_PAGES: u32 = 16_384;
 
 /// Every page lies below this address.
 pub const PAGES_END: u64 = 0x3F_FFFF_F000;

@@ -2,7 +2,7 @@
 ghost use Rattle.std.specs.Prelude.{◌≡◌, nat_lt, Ok};
 ghost use Rattle.rv_mem.specs.Actions.{Done};
 ghost use Rattle.kr_calls.specs.Arguments.{has, has_other};
-ghost use Rattle.kr_calls.specs.Decodes.{Decodes, named_text};
+ghost use Rattle.kr_calls.specs.Decodes.{Decodes, WantsForTexts, named_text};
 ghost use Rattle.kr_calls.specs.Decoding.{text_read, ftruncate_row, faccessat_row, faccessat_with, openat_row, openat_with, getdents64_row, lseek_row, read_row, write_row, readv_row, writev_row, readlinkat_row, readlinkat_with, newfstatat_row, newfstatat_with, fstat_row, has_bad_open_flags, has_no_size, stat_flags};
 
 use crate::arguments::{has, has_other, int, long, signed_long, word};
@@ -59,6 +59,7 @@ pub fn ftruncate(regs: &Regs) -> Result<Request, Errno>
 /// faccessat(2): EINVAL for an unknown right.
 pub fn faccessat<const M: u8>(regs: &Regs, mem: &mut Space<M>) -> Result<Request, CallFault>
     ensures decoded { Decodes result (faccessat_row regs.now) mem.old mem.new }
+    ensures wanting { WantsForTexts result (faccessat_row regs.now) }
     ensures pages { mem.new.pages ≡ mem.old.pages }
 {
     if has_other_right(word(regs, 2)) {
@@ -91,6 +92,7 @@ fn has_other_right(mode: u32) -> bool
 /// openat(2): EINVAL for flags that aren't built.
 pub fn openat<const M: u8>(regs: &Regs, mem: &mut Space<M>) -> Result<Request, CallFault>
     ensures decoded { Decodes result (openat_row regs.now) mem.old mem.new }
+    ensures wanting { WantsForTexts result (openat_row regs.now) }
     ensures pages { mem.new.pages ≡ mem.old.pages }
 {
     if has_bad_open_flags(word(regs, 2)) {
@@ -190,6 +192,7 @@ pub fn writev(regs: &Regs) -> Request
 /// readlinkat(2): EINVAL for a size that isn't above 0.
 pub fn readlinkat<const M: u8>(regs: &Regs, mem: &mut Space<M>) -> Result<Request, CallFault>
     ensures decoded { Decodes result (readlinkat_row regs.now) mem.old mem.new }
+    ensures wanting { WantsForTexts result (readlinkat_row regs.now) }
     ensures pages { mem.new.pages ≡ mem.old.pages }
 {
     if has_no_size(word(regs, 3)) {
@@ -223,6 +226,7 @@ fn has_no_size(size: u32) -> bool
 /// newfstatat(2): EINVAL for an unknown flag. With AT_EMPTY_PATH the path may be empty.
 pub fn newfstatat<const M: u8>(regs: &Regs, mem: &mut Space<M>) -> Result<Request, CallFault>
     ensures decoded { Decodes result (newfstatat_row regs.now) mem.old mem.new }
+    ensures wanting { WantsForTexts result (newfstatat_row regs.now) }
     ensures pages { mem.new.pages ≡ mem.old.pages }
 {
     let flags = word(regs, 3);
