@@ -15,6 +15,3 @@ mod stack;
 pub use fault::LoadFault;
 pub use image::{Image, load};
 pub use stack::Pair;
-
-#[cfg(test)]
-mod tests;

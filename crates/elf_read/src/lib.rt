@@ -14,6 +14,3 @@ pub use fault::ElfFault;
 pub use file::check;
 pub use headers::{FileHeader, ProgramHeader};
 pub use plan::{Plan, Segment};
-
-#[cfg(test)]
-mod tests;

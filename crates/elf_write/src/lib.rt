@@ -6,6 +6,3 @@
 mod layout;
 
 pub use layout::write;
-
-#[cfg(test)]
-mod tests;

@@ -18,6 +18,3 @@ pub use paths::{PathArg, path_of};
 pub use request::Request;
 pub use script::script_line;
 pub use stat::{Stat, stat_bytes};
-
-#[cfg(test)]
-mod tests;

@@ -20,6 +20,3 @@ mod written;
 pub use canonical::write;
 pub use fault::{ListFault, TreeWhy};
 pub use listing::{read, wants_elf};
-
-#[cfg(test)]
-mod tests;

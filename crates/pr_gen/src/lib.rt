@@ -20,6 +20,3 @@ mod steps;
 pub use conditions::is_probe;
 pub use file::probe;
 pub use steps::{Arg, ProbeStep, Show, Who};
-
-#[cfg(test)]
-mod tests;

@@ -11,6 +11,3 @@ pub mod top;
 
 pub use answer::{Answer, Part, Which};
 pub use top::proot;
-
-#[cfg(test)]
-mod tests;

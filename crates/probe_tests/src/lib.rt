@@ -1,4 +1,4 @@
-//! Tests of what probes do: loaded and run on the processor alone, with each call answered from a list,
+//! Tests of probes as they are written, and of what they do: loaded and run on the processor alone, with each call answered from a list,
 //! and through the whole program.
 #![tactic(auto)]
 
@@ -8,3 +8,5 @@ mod host;
 mod tests;
 #[cfg(test)]
 mod whole;
+#[cfg(test)]
+mod written;

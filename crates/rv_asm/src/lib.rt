@@ -13,6 +13,3 @@ mod program;
 pub use fault::AsmFault;
 pub use laws::{items_stand_in_order, parts_add_up};
 pub use program::Asm;
-
-#[cfg(test)]
-mod tests;

@@ -15,6 +15,3 @@ pub use event::Event;
 pub use execution::step;
 pub use running::run;
 pub use rv_mem::Regs;
-
-#[cfg(test)]
-mod tests;

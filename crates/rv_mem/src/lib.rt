@@ -21,6 +21,3 @@ pub use regs::Regs;
 pub use rights::{Rights, Use};
 pub use room::Room;
 pub use space::{PAGES_END, SPACE_PAGES, Space};
-
-#[cfg(test)]
-mod tests;

@@ -12,6 +12,3 @@ mod layout;
 pub use decoding::decode;
 pub use encoding::{encode, valid};
 pub use instr::Instr;
-
-#[cfg(test)]
-mod tests;

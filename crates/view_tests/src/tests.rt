@@ -1,36 +1,12 @@
 //! Walks over the *data* listing, with ample memory. What each must answer was worked out by hand: nodes have
 //! the numbers of their lines, from the root's 1 on.
 
+use fixtures::DATA;
 use kr_tree::{Ino, Tree, User};
 use kr_view::{Host, HostMount, NoProcs, Place, Places, Plain, Reach, Target, WalkFault, resolve};
 use pr_base::{Errno, Last, WalkMode};
 use std::alloc::Global;
 use std::test::Fail;
-
-const DATA: &[u8] = b"user 1000 1000
-d 755 0 0 /
-d 755 1000 1000 /data
-f 644 1000 1000 /data/n 64300a
-l 1000 1000 /data/abs /f
-l 1000 1000 /data/up /../../f
-d 755 1000 1000 /other
-d 755 1000 1000 /other/x
-f 644 1000 1000 /other/o 6f0a
-f 644 1000 1000 /new 6e65770a
-p /proc
-d 755 1000 1000 /g
-d 755 1000 1000 /g/a
-d 755 1000 1000 /g/a/x
-d 755 1000 1000 /g/a/b
-f 644 1000 1000 /g/a/b/f 660a
-d 755 1000 1000 /g/b
-d 755 1000 1000 /g/mnt
-d 755 1000 1000 /g/proc
-f 644 1000 1000 /g/f 6f6c640a
-h /g/h /g/f
-f 644 0 0 /g/for -
-x 755 1000 1000 /g/p
-";
 
 /// The bytes of the ELF source.
 const ELF: &[u8] = b"\x7fELF";

@@ -1,4 +1,4 @@
-use crate::{BadAddress, MapFault, Rights, Room, Space, StoreFault, TextFault, Use};
+use rv_mem::{BadAddress, MapFault, Rights, Room, Space, StoreFault, TextFault, Use};
 use std::test::Fail;
 
 const READ: Rights = Rights {

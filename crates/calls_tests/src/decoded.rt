@@ -1,4 +1,4 @@
-use crate::{CallFault, Request, Stat, decode, dirent_bytes, path_of, script_line, stat_bytes};
+use kr_calls::{CallFault, Request, Stat, decode, dirent_bytes, path_of, script_line, stat_bytes};
 use pr_base::{Errno, WalkMode};
 use rv_mem::{Regs, Rights, Room, Space};
 use std::alloc::Global;
@@ -140,6 +140,26 @@ fn texts_are_looked_for_last(rt: HostRuntime) -> Result<(), Fail> {
 }
 
 // Flags that openat ignores are kept; a text of 4,095 bytes is the longest.
+// Calls without an argument that is used, by their numbers in the generic table of Linux.
+#[test]
+fn calls_without_arguments_are_told_by_their_numbers(rt: HostRuntime) -> Result<(), Fail> {
+    let mut memory = memory(rt.alloc())?;
+    let rows = [
+        (96, "SetTidAddress"),
+        (134, "RtSigaction"),
+        (135, "RtSigprocmask"),
+        (172, "Getpid"),
+        (173, "Getppid"),
+        (178, "Gettid"),
+    ];
+    for (number, name) in rows {
+        let request = decode(&registers(number, [UNMAPPED; 5]), &mut memory).expect(&rt, "decoded");
+        let told = format!(in rt.alloc(); "{request:?}")?;
+        assert_eq!(rt; told.as_str(), name);
+    }
+    Ok(())
+}
+
 #[test]
 fn texts_and_flags_are_kept(rt: HostRuntime) -> Result<(), Fail> {
     let mut memory = memory(rt.alloc())?;

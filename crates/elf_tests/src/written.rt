@@ -1,5 +1,5 @@
-use crate::write;
 use elf_read::check;
+use elf_write::write;
 use std::test::Fail;
 
 #[test]

@@ -1,25 +1,11 @@
-use crate::{Image, LoadFault, load};
+use elf_load::{Image, LoadFault, load};
 use elf_read::check;
+use fixtures::HELLO;
 use pr_base::{Bytes, Texts};
 use rv_mem::{Room, Use};
 use std::alloc::Global;
 use std::process::Abort;
 use std::test::Fail;
-
-/// The file that writes `hello` and exits, as an assembler made it.
-const HELLO: [u8; 162] = [
-    0x7f, 0x45, 0x4c, 0x46, 0x02, 0x01, 0x01, 0x00, 0x00, 0x00, 0x00, 0x00, 0x00, 0x00, 0x00, 0x00,
-    0x02, 0x00, 0xf3, 0x00, 0x01, 0x00, 0x00, 0x00, 0x78, 0x00, 0x01, 0x00, 0x00, 0x00, 0x00, 0x00,
-    0x40, 0x00, 0x00, 0x00, 0x00, 0x00, 0x00, 0x00, 0x00, 0x00, 0x00, 0x00, 0x00, 0x00, 0x00, 0x00,
-    0x00, 0x00, 0x00, 0x00, 0x40, 0x00, 0x38, 0x00, 0x01, 0x00, 0x00, 0x00, 0x00, 0x00, 0x00, 0x00,
-    0x01, 0x00, 0x00, 0x00, 0x05, 0x00, 0x00, 0x00, 0x00, 0x00, 0x00, 0x00, 0x00, 0x00, 0x00, 0x00,
-    0x00, 0x00, 0x01, 0x00, 0x00, 0x00, 0x00, 0x00, 0x00, 0x00, 0x01, 0x00, 0x00, 0x00, 0x00, 0x00,
-    0xa2, 0x00, 0x00, 0x00, 0x00, 0x00, 0x00, 0x00, 0xa2, 0x00, 0x00, 0x00, 0x00, 0x00, 0x00, 0x00,
-    0x00, 0x10, 0x00, 0x00, 0x00, 0x00, 0x00, 0x00, 0x93, 0x08, 0x00, 0x04, 0x13, 0x05, 0x10, 0x00,
-    0x97, 0x05, 0x00, 0x00, 0x93, 0x85, 0xc5, 0x01, 0x13, 0x06, 0x60, 0x00, 0x73, 0x00, 0x00, 0x00,
-    0x93, 0x08, 0xd0, 0x05, 0x13, 0x05, 0x00, 0x00, 0x73, 0x00, 0x00, 0x00, 0x68, 0x65, 0x6c, 0x6c,
-    0x6f, 0x0a,
-];
 
 /// A program header to be loaded: its rights, its offset, its address, and its sizes in the file and
 /// in memory.
@@ -292,13 +278,8 @@ fn two_segments_have_their_pages_and_rights(rt: HostRuntime) -> Result<(), Fail>
     Ok(())
 }
 
-#[test]
-fn limits_are_told_apart(rt: HostRuntime) -> Result<(), Fail> {
-    let none = Texts::new(rt.alloc());
-    let mut many = Texts::new(rt.alloc());
-    for _ in 0..4097 {
-        many.push(Bytes::new(rt.alloc()))?;
-    }
+/// A segment of one page, and one of so many.
+fn with_pages(pages: u64) -> [u8; 8192] {
     let one = Part {
         flags: 5,
         offset: 0,
@@ -311,13 +292,27 @@ fn limits_are_told_apart(rt: HostRuntime) -> Result<(), Fail> {
         offset: 0,
         address: 0x100_0000,
         file: 0x100,
-        memory: 16_128 * 4096,
+        memory: pages.wrapping_mul(4096),
     };
-    let file = with_parts([one, large]);
+    with_parts([one, large])
+}
+
+// With 256 pages of stack, 16,384 pages are the most.
+#[test]
+fn limits_are_told_apart(rt: HostRuntime) -> Result<(), Fail> {
+    let none = Texts::new(rt.alloc());
+    let mut many = Texts::new(rt.alloc());
+    for _ in 0..4097 {
+        many.push(Bytes::new(rt.alloc()))?;
+    }
     let mut room = Room::new();
-    let refused = loaded(&rt, &mut room, &file, &many, &none).err();
+    let too_large = with_pages(16_128);
+    let refused = loaded(&rt, &mut room, &too_large, &many, &none).err();
     assert_eq!(rt; refused, Some(LoadFault::TooManyArgs));
-    let refused = loaded(&rt, &mut room, &file, &none, &none).err();
+    let refused = loaded(&rt, &mut room, &too_large, &none, &none).err();
     assert_eq!(rt; refused, Some(LoadFault::TooManyPages));
+    let image = loaded(&rt, &mut room, &with_pages(16_127), &none, &none).expect(&rt, "loaded");
+    assert_eq!(rt; image.mem.pages(), 16_384);
+    assert_eq!(rt; room.free(), 262_144 - 16_384);
     Ok(())
 }

@@ -1,4 +1,4 @@
-use crate::{Arg, ProbeStep, Show, Who, is_probe, probe};
+use pr_gen::{Arg, ProbeStep, Show, Who, is_probe, probe};
 use pr_base::{Bytes, Texts, field_u32};
 use std::alloc::Global;
 use std::test::Fail;

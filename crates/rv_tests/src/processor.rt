@@ -1,4 +1,4 @@
-use crate::{Event, Regs, run, step};
+use rv_cpu::{Event, Regs, run, step};
 use rv_mem::{Rights, Room, Space};
 use std::alloc::Global;
 use std::process::Abort;

@@ -1,7 +1,7 @@
 //! Escapes, and the longest names and paths.
 
-use crate::fault::TreeWhy;
 use crate::tests::{begun, first_fault, is_written_as};
+use kr_text::TreeWhy;
 use pr_base::{Bytes, NoMemory};
 use std::alloc::Global;
 use std::test::Fail;

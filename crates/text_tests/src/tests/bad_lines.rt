@@ -1,8 +1,7 @@
 //! Bad lines, each with its number and what is wrong with it.
 
-use crate::fault::{ListFault, TreeWhy};
-use crate::listing::read;
 use crate::tests::{begun, first_fault};
+use kr_text::{ListFault, TreeWhy, read};
 use std::test::Fail;
 
 #[test]
@@ -170,5 +169,20 @@ fn a_file_has_a_largest_size(rt: HostRuntime) -> Result<(), Fail> {
         why: TreeWhy::TooBig,
     };
     assert!(rt; refused.err() == Some(too_big));
+    Ok(())
+}
+
+/// As many names as the root may have beside it, for each of which there is an inode.
+const MOST_NAMES: u32 = 1_048_575;
+
+#[test]
+fn a_link_too_many_is_too_big(rt: HostRuntime) -> Result<(), Fail> {
+    let mut listing = begun(rt.alloc(), b"")?;
+    for number in 0..=MOST_NAMES {
+        let line = format!(in rt.alloc(); "l 0 0 /{number} x\n")?;
+        listing.append(line.as_bytes())?;
+    }
+    let fault = first_fault(rt.alloc(), listing.as_slice());
+    assert!(rt; fault == Some((MOST_NAMES + 3, TreeWhy::TooBig)));
     Ok(())
 }

@@ -1,32 +1,8 @@
 //! Two listings, each with its canonical form.
 
 use crate::tests::is_written_as;
+use fixtures::DATA;
 use std::test::Fail;
-
-const DATA: &[u8] = b"user 1000 1000
-d 755 0 0 /
-d 755 1000 1000 /data
-f 644 1000 1000 /data/n 64300a
-l 1000 1000 /data/abs /f
-l 1000 1000 /data/up /../../f
-d 755 1000 1000 /other
-d 755 1000 1000 /other/x
-f 644 1000 1000 /other/o 6f0a
-f 644 1000 1000 /new 6e65770a
-p /proc
-d 755 1000 1000 /g
-d 755 1000 1000 /g/a
-d 755 1000 1000 /g/a/x
-d 755 1000 1000 /g/a/b
-f 644 1000 1000 /g/a/b/f 660a
-d 755 1000 1000 /g/b
-d 755 1000 1000 /g/mnt
-d 755 1000 1000 /g/proc
-f 644 1000 1000 /g/f 6f6c640a
-h /g/h /g/f
-f 644 0 0 /g/for -
-x 755 1000 1000 /g/p
-";
 
 /// The same in order. The program has the bytes of the ELF source.
 const DATA_IN_ORDER: &[u8] = b"user 1000 1000

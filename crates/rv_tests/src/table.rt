@@ -1,4 +1,4 @@
-use crate::{Instr, decode, encode, valid};
+use rv_table::{Instr, decode, encode, valid};
 
 // One row for each word and the instruction that it is.
 macro_rules! words {

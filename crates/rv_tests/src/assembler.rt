@@ -1,7 +1,7 @@
 ghost use Rattle.std.specs.Prelude.{◌≡◌, OnOk};
 
-use crate::{Asm, AsmFault};
 use pr_base::NoMemory;
+use rv_asm::{Asm, AsmFault};
 use rv_table::Instr;
 use std::test::Fail;
 

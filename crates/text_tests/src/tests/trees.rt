@@ -1,7 +1,7 @@
 //! Trees that no listing has, written.
 
-use crate::canonical::write;
 use crate::tests::{begun, is_written_as};
+use kr_text::write;
 use kr_tree::{Ino, Meta, Node, ROOT, Tree, TreeRefusal, User, is_name};
 use pr_base::Bytes;
 use std::test::Fail;

@@ -6,10 +6,7 @@ mod escapes;
 mod trees;
 mod worked;
 
-use crate::canonical::write;
-use crate::fault::{ListFault, TreeWhy};
-use crate::line::Line;
-use crate::listing::read;
+use kr_text::{ListFault, TreeWhy, read, write};
 use pr_base::{Bytes, NoMemory};
 use std::alloc::Global;
 
@@ -49,17 +46,15 @@ fn begun(alloc: Global, lines: &[u8]) -> Result<Bytes, NoMemory> {
 
 #[test]
 fn every_kind_of_line_is_read(rt: HostRuntime) {
-    let lines = [
-        b"user 1000 1000".as_slice(),
-        b"d 755 0 0 /".as_slice(),
-        b"f 644 1000 1000 /data/n 64300A".as_slice(),
-        b"f 644 0 0 /g/for -".as_slice(),
-        b"x 755 1000 1000 /g/p".as_slice(),
-        b"l 1000 1000 /data/up /../../f".as_slice(),
-        b"h /g/h%20 /g/f".as_slice(),
-        b"p /proc".as_slice(),
-    ];
-    for line in lines {
-        assert!(rt; Line::read(rt.alloc(), line).is_ok());
-    }
+    let listing = b"user 1000 1000
+d 755 0 0 /
+d 755 0 0 /g
+f 644 1000 1000 /n 64300A
+f 644 0 0 /g/for -
+x 755 1000 1000 /g/p
+l 1000 1000 /up /../../f
+h /g/h%20 /g/for
+p /proc
+";
+    assert!(rt; read(rt.alloc(), listing, Some(ELF)).is_ok());
 }
