@@ -1,3 +1,4 @@
 pub mod TextLemmas
 pub mod ScriptLemmas
 pub mod ScriptRows
+pub mod TwoTextLemmas

@@ -28,6 +28,11 @@ Gives (Err call.NoMemory) done new = new ≡ done.memory
 abbrev pub Decodes : {A : Type 0} → Result A CallFault → Action (Result A Errno) → Memory → Memory → Type 0
 Decodes result action old new = Gives result (carried_out action old) new
 
+-- a text that was looked for is the reply's, or its error is
+abbrev pub Finds : {A : Type 0} → Result (Unit {0}) Errno → Action (Result A Errno) → Memory → Memory → Type 0
+Finds {A = A} (Ok found) action old new = (x : A) × ((carried_out action old).reply ≡ Ok x) × (new ≡ (carried_out action old).memory)
+Finds (Err errno) action old new = ((carried_out action old).reply ≡ Err errno) × (new ≡ (carried_out action old).memory)
+
 -- whether an action uses the memory at all, as one that reads a text does
 abbrev pub uses_memory : {A : Type 0} → Action A → Bool
 uses_memory (Done reply) = false

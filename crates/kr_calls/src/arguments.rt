@@ -1,7 +1,10 @@
 //! The arguments of a call in the registers (syscall(2) on RISC-V), and tests that several calls make of them.
 ghost use Rattle.std.specs.Prelude.{◌≡◌, ◌<◌};
 ghost use Rattle.kr_calls.specs.Arguments.{long, signed_long, word, int, has, has_other, is_unaligned};
+ghost use Rattle.kr_calls.specs.Decoding.{stat_flags};
 
+use bitflags::Flags;
+use pr_base::AtFlags;
 use rv_mem::Regs;
 
 /// The register of the first argument and of the answer.
@@ -61,4 +64,21 @@ pub fn is_unaligned(a: u64) -> bool
     ensures { result ≡ is_unaligned a }
 {
     a % 4096 > 0
+}
+
+/// Whether flags have a bit that neither newfstatat(2) nor fchownat(2) knows.
+pub fn has_other_stat_flag(flags: u32) -> bool
+    ensures { result ≡ has_other flags stat_flags }
+{
+    has_other(
+        flags,
+        AtFlags::SYMLINK_NOFOLLOW.bits() | AtFlags::EMPTY_PATH.bits(),
+    )
+}
+
+/// Whether an empty path means the descriptor.
+pub fn allows_empty_path(flags: u32) -> bool
+    ensures { result ≡ has flags 0x1000 }
+{
+    has(flags, AtFlags::EMPTY_PATH.bits())
 }

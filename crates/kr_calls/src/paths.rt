@@ -1,12 +1,15 @@
 //! The table of the calls with paths.
 ghost use Rattle.std.specs.Prelude.{◌≡◌, option_map};
 ghost use Rattle.kr_calls.specs.Arguments.{has};
-ghost use Rattle.kr_calls.specs.PathTable.{look_mode, open_mode, path_at, path_use};
+ghost use Rattle.kr_calls.specs.PathTable.{link_mode, look_mode, open_mode, path_at, path_use};
 
 use crate::arguments::has;
 use crate::request::Request;
 use bitflags::Flags;
 use pr_base::{AtFlags, OpenFlags, WalkMode};
+
+/// AT_FDCWD, which stands for the working directory in place of a descriptor.
+const WORKING_DIRECTORY: i32 = -100;
 
 /// A path of a call.
 #[derive(Clone, Copy, Debug)]
@@ -24,8 +27,17 @@ pub fn path_of(r: &Request, k: u8) -> Option<PathArg<'_>>
     ensures { option_map path_use result ≡ path_at r.now k }
 {
     macro_rules! path_table {
-        ($($call:ident $number:literal $dirfd:ident $text:ident [$($flags:ident)?] $mode:expr, $register:literal;)*) => {
+        (
+            from the working directory: $($here:ident)*;
+            $($call:ident $number:literal $dirfd:ident $text:ident [$($flags:ident)?] $mode:expr, $register:literal;)*
+        ) => {
             match r {
+                $(Request::$here { path, .. } if k == 0 => Some(PathArg {
+                    dirfd: WORKING_DIRECTORY,
+                    text: path.as_slice(),
+                    mode: WalkMode::Look,
+                    register: 10,
+                }),)*
                 $(Request::$call { $dirfd, $text, $($flags,)? .. } if k == $number => Some(PathArg {
                     dirfd: *$dirfd,
                     text: $text.as_slice(),
@@ -37,6 +49,16 @@ pub fn path_of(r: &Request, k: u8) -> Option<PathArg<'_>>
         };
     }
     path_table! {
+        from the working directory: Chdir Chroot Execve;
+        Mkdirat 0 dirfd path [] WalkMode::Name, 11;
+        Unlinkat 0 dirfd path [] WalkMode::Name, 11;
+        Symlinkat 0 dirfd path [] WalkMode::Name, 12;
+        Linkat 0 olddir old [flags] link_mode(*flags), 11;
+        Linkat 1 newdir new [] WalkMode::Name, 13;
+        Renameat2 0 olddir old [] WalkMode::Name, 11;
+        Renameat2 1 newdir new [] WalkMode::Name, 13;
+        Fchmodat 0 dirfd path [] WalkMode::Look, 11;
+        Fchownat 0 dirfd path [flags] look_mode(*flags), 11;
         Faccessat 0 dirfd path [] WalkMode::Look, 11;
         Openat 0 dirfd path [flags] open_mode(*flags), 11;
         Readlinkat 0 dirfd path [] WalkMode::LookLink, 11;
@@ -44,7 +66,7 @@ pub fn path_of(r: &Request, k: u8) -> Option<PathArg<'_>>
     }
 }
 
-/// What the walk of newfstatat(2) is for.
+/// What the walk of newfstatat(2) and fchownat(2) is for.
 fn look_mode(flags: u32) -> WalkMode
     ensures { result ≡ look_mode flags }
 {
@@ -52,6 +74,17 @@ fn look_mode(flags: u32) -> WalkMode
         WalkMode::LookLink
     } else {
         WalkMode::Look
+    }
+}
+
+/// What the walk along the old path of linkat(2) is for.
+fn link_mode(flags: u32) -> WalkMode
+    ensures { result ≡ link_mode flags }
+{
+    if has(flags, AtFlags::SYMLINK_FOLLOW.bits()) {
+        WalkMode::Look
+    } else {
+        WalkMode::LookLink
     }
 }
 

@@ -6,6 +6,10 @@ use pr_base::Bytes;
 /// processes, modes and flags have 32 bits; addresses, lengths and the flags of `clone` and `mmap` have 64.
 #[derive(Debug, Drop)]
 pub enum Request {
+    Getcwd {
+        buf: u64,
+        size: u64,
+    },
     Dup {
         fd: i32,
     },
@@ -22,6 +26,29 @@ pub enum Request {
     Ioctl {
         fd: i32,
     },
+    Mkdirat {
+        dirfd: i32,
+        path: Bytes,
+        mode: u32,
+    },
+    Unlinkat {
+        dirfd: i32,
+        path: Bytes,
+        flags: u32,
+    },
+    /// The text of the link comes before its place.
+    Symlinkat {
+        text: Bytes,
+        dirfd: i32,
+        path: Bytes,
+    },
+    Linkat {
+        olddir: i32,
+        old: Bytes,
+        newdir: i32,
+        new: Bytes,
+        flags: u32,
+    },
     /// `len` is read with its sign.
     Ftruncate {
         fd: i32,
@@ -31,6 +58,37 @@ pub enum Request {
         dirfd: i32,
         path: Bytes,
         mode: u32,
+    },
+    Chdir {
+        path: Bytes,
+    },
+    Fchdir {
+        fd: i32,
+    },
+    Chroot {
+        path: Bytes,
+    },
+    Fchmod {
+        fd: i32,
+        mode: u32,
+    },
+    Fchmodat {
+        dirfd: i32,
+        path: Bytes,
+        mode: u32,
+    },
+    /// With `AtFlags::EMPTY_PATH` the path may be empty. A number of all ones leaves the one that is there.
+    Fchownat {
+        dirfd: i32,
+        path: Bytes,
+        uid: u32,
+        gid: u32,
+        flags: u32,
+    },
+    Fchown {
+        fd: i32,
+        uid: u32,
+        gid: u32,
     },
     /// The flags are those that were given, unknown ones among them.
     Openat {
@@ -102,11 +160,62 @@ pub enum Request {
     SetTidAddress,
     RtSigaction,
     RtSigprocmask,
+    Setregid {
+        rgid: u32,
+        egid: u32,
+    },
+    Setgid {
+        gid: u32,
+    },
+    Setreuid {
+        ruid: u32,
+        euid: u32,
+    },
+    Setuid {
+        uid: u32,
+    },
+    Setresuid {
+        ruid: u32,
+        euid: u32,
+        suid: u32,
+    },
+    /// The addresses where the three numbers are written.
+    Getresuid {
+        ruid: u64,
+        euid: u64,
+        suid: u64,
+    },
+    Setresgid {
+        rgid: u32,
+        egid: u32,
+        sgid: u32,
+    },
+    /// The addresses where the three numbers are written.
+    Getresgid {
+        rgid: u64,
+        egid: u64,
+        sgid: u64,
+    },
+    Getgroups {
+        size: i32,
+        list: u64,
+    },
+    Setgroups {
+        size: i32,
+        list: u64,
+    },
     Uname {
         buf: u64,
     },
+    Umask {
+        m: u32,
+    },
     Getpid,
     Getppid,
+    Getuid,
+    Geteuid,
+    Getgid,
+    Getegid,
     Gettid,
     Brk {
         a: u64,
@@ -119,6 +228,12 @@ pub enum Request {
         flags: u64,
         sp: u64,
         ctid: u64,
+    },
+    /// `args` and `env` are the addresses of lists.
+    Execve {
+        path: Bytes,
+        args: u64,
+        env: u64,
     },
     Mmap {
         a: u64,
@@ -136,5 +251,12 @@ pub enum Request {
         status: u64,
         options: i32,
         usage: u64,
+    },
+    /// The fifth argument of the call is 0.
+    Renameat2 {
+        olddir: i32,
+        old: Bytes,
+        newdir: i32,
+        new: Bytes,
     },
 }

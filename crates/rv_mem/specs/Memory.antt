@@ -1,6 +1,6 @@
 -- The memory of a process: its pages, and whether a marked byte was read.
 use Rattle.std.specs.FinMap as map
-use Rattle.std.specs.Prelude.{ℕ, zero, suc, ◌+◌, ◌-◌, Bool, false, ◌||◌, List, [], ◌∷◌, Result, Ok, Err, nat_eq, nat_lt, if◌then◌else◌, refl}
+use Rattle.std.specs.Prelude.{ℕ, zero, suc, ◌+◌, ◌-◌, Bool, false, ◌||◌, List, [], ◌∷◌, length, Result, Ok, Err, nat_eq, nat_lt, if◌then◌else◌, refl}
 use Rattle.std.specs.Coded.{Coded, code_by, coded×, coded_bool}
 use Rattle.rv_mem.specs.declared.fault.TextFault.{TextFault}
 use Rattle.rv_mem.specs.declared.fault.TextFault.TheVariants.{BadAddress, TooLong}
@@ -39,6 +39,11 @@ text_of m at (suc max) =
     if allows m at Read
     then (if nat_eq (byte_at m at) 0 then Ok [] else text_after (byte_at m at) (text_of m (at + 1) max))
     else Err BadAddress
+
+-- how many bytes a text has
+abbrev pub size_of_text : Result (List ℕ) TextFault → Result ℕ TextFault
+size_of_text (Ok text) = Ok (length text)
+size_of_text (Err fault) = Err fault
 
 -- how many bytes are read to find that text: up to and with the first zero, at most `max`, and none
 -- from the first unreadable one on

@@ -44,7 +44,7 @@ impl<const MARKED: u8> Model for Space<MARKED> {
 
 impl<const MARKED: u8> Space<MARKED> {
     ghost use Rattle.rv_mem.specs.Pages.{allows_all, bytes_from, written, mapped, unmapped, protected, has_pages, marked, IsPlaced, IsWhole};
-    ghost use Rattle.rv_mem.specs.Memory.{empty_memory, with_pages, after_read, passes_limit, room_after, page_count, text_of, text_reach};
+    ghost use Rattle.rv_mem.specs.Memory.{empty_memory, with_pages, after_read, passes_limit, room_after, page_count, size_of_text, text_of, text_reach};
 
     /// A memory without pages. Its pages come from `alloc`.
     pub fn new(alloc: Global) -> Space<MARKED>
@@ -113,6 +113,21 @@ impl<const MARKED: u8> Space<MARKED> {
         }
         self.pages.write_all(at, bytes);
         Ok(())
+    }
+
+    /// How many bytes the text at an address has, up to, but without, the first zero, which is among the first
+    /// `max`. It reads what `text_at` reads, and takes no memory.
+    pub fn text_size(&mut self, at: u64, max: u32) -> Result<u32, TextFault>
+        ensures size { result ≡ size_of_text (text_of self.old.pages at max) }
+        ensures after { self.new ≡ after_read self.old at (text_reach self.old.pages at max) }
+    {
+        let scan = self.pages.scan(at, u64::from(max));
+        self.read_marked |= scan.marked;
+        match scan.end {
+            TextEnd::Zero => Ok((scan.reach - 1) as u32),
+            TextEnd::Unreadable => Err(TextFault::BadAddress),
+            TextEnd::Limit => Err(TextFault::TooLong),
+        }
     }
 
     /// The text at an address: the bytes before the first zero, which is among at most `max` bytes

@@ -1,7 +1,7 @@
 //! Calls on descriptors.
 ghost use Rattle.std.specs.Prelude.{◌≡◌, Ok};
 ghost use Rattle.rv_mem.specs.Actions.{Done};
-ghost use Rattle.kr_calls.specs.Decoding.{dup_row, dup3_row, fcntl_row, ioctl_row, close_row, pipe2_row};
+ghost use Rattle.kr_calls.specs.Decoding.{dup_row, dup3_row, fcntl_row, ioctl_row, fchdir_row, fchmod_row, fchown_row, close_row, pipe2_row};
 
 use crate::arguments::{has_other, int, long, word};
 use crate::request::Request;
@@ -47,6 +47,34 @@ pub fn ioctl(regs: &Regs) -> Request
     ensures { ioctl_row regs.now ≡ Done (Ok result) }
 {
     Request::Ioctl { fd: int(regs, 0) }
+}
+
+/// fchdir(2).
+pub fn fchdir(regs: &Regs) -> Request
+    ensures { fchdir_row regs.now ≡ Done (Ok result) }
+{
+    Request::Fchdir { fd: int(regs, 0) }
+}
+
+/// fchmod(2).
+pub fn fchmod(regs: &Regs) -> Request
+    ensures { fchmod_row regs.now ≡ Done (Ok result) }
+{
+    Request::Fchmod {
+        fd: int(regs, 0),
+        mode: word(regs, 1),
+    }
+}
+
+/// fchown(2).
+pub fn fchown(regs: &Regs) -> Request
+    ensures { fchown_row regs.now ≡ Done (Ok result) }
+{
+    Request::Fchown {
+        fd: int(regs, 0),
+        uid: word(regs, 1),
+        gid: word(regs, 2),
+    }
 }
 
 /// close(2).

@@ -1,46 +1,23 @@
 //! Calls on files and directories.
 ghost use Rattle.std.specs.Prelude.{◌≡◌, nat_lt, Ok};
 ghost use Rattle.rv_mem.specs.Actions.{Done};
-ghost use Rattle.kr_calls.specs.Arguments.{has, has_other};
-ghost use Rattle.kr_calls.specs.Decodes.{Decodes, WantsForTexts, named_text};
-ghost use Rattle.kr_calls.specs.Decoding.{text_read, ftruncate_row, faccessat_row, faccessat_with, openat_row, openat_with, getdents64_row, lseek_row, read_row, write_row, readv_row, writev_row, readlinkat_row, readlinkat_with, newfstatat_row, newfstatat_with, fstat_row, has_bad_open_flags, has_no_size, stat_flags};
+ghost use Rattle.kr_calls.specs.Arguments.{has};
+ghost use Rattle.kr_calls.specs.Decodes.{Decodes, WantsForTexts};
+ghost use Rattle.kr_calls.specs.Decoding.{ftruncate_row, faccessat_row, faccessat_with, openat_row, openat_with, getdents64_row, lseek_row, read_row, write_row, readv_row, writev_row, readlinkat_row, readlinkat_with, newfstatat_row, newfstatat_with, fstat_row, has_bad_open_flags, has_no_size};
 
-use crate::arguments::{has, has_other, int, long, signed_long, word};
+use crate::arguments::{allows_empty_path, has, has_other_stat_flag, int, long, signed_long, word};
 use crate::fault::CallFault;
 use crate::request::Request;
+use crate::rows::texts::path;
 use bitflags::Flags;
-use pr_base::{AtFlags, Bytes, Errno, OpenFlags};
+use pr_base::{Bytes, Errno, OpenFlags};
 use rv_mem::{Regs, Space};
-
-/// The most bytes of a path or text, its zero among them.
-const TEXT_LIMIT: u32 = 4096;
 
 /// The bits of the access mode of openat(2); both of them are no mode.
 const ACCESS_MODE: u32 = 0x3;
 
 /// The rights that faccessat(2) may ask for: R_OK 4, W_OK 2 and X_OK 1.
 const ACCESS_RIGHTS: u32 = 0x7;
-
-/// A path: EFAULT where it isn't readable, ENAMETOOLONG, then ENOENT where it is empty and may not be.
-fn path<const M: u8>(mem: &mut Space<M>, at: u64, may_be_empty: bool) -> Result<Bytes, CallFault>
-    ensures decoded { Decodes result (text_read may_be_empty at) mem.old mem.new }
-    ensures pages { mem.new.pages ≡ mem.old.pages }
-{
-    match mem.text_at(at, TEXT_LIMIT) {
-        Ok(text) => named(text, may_be_empty),
-        Err(fault) => Err(CallFault::from(fault)),
-    }
-}
-
-/// A text that was read: ENOENT where it is empty and may not be.
-fn named(text: Bytes, may_be_empty: bool) -> Result<Bytes, CallFault>
-    ensures { result ≡ named_text may_be_empty text }
-{
-    if text.is_empty() && !may_be_empty {
-        return Err(CallFault::Err(Errno::ENOENT));
-    }
-    Ok(text)
-}
 
 /// ftruncate(2): EINVAL for a negative length.
 pub fn ftruncate(regs: &Regs) -> Result<Request, Errno>
@@ -89,7 +66,7 @@ fn has_other_right(mode: u32) -> bool
     mode > ACCESS_RIGHTS
 }
 
-/// openat(2): EINVAL for flags that aren't built.
+/// openat(2): EINVAL for flags that make no sense together; unknown ones are kept.
 pub fn openat<const M: u8>(regs: &Regs, mem: &mut Space<M>) -> Result<Request, CallFault>
     ensures decoded { Decodes result (openat_row regs.now) mem.old mem.new }
     ensures wanting { WantsForTexts result (openat_row regs.now) }
@@ -116,11 +93,11 @@ fn openat_with(regs: &Regs, path: Bytes) -> Request
     }
 }
 
-/// The access mode 3, or a file to be made, which isn't built yet.
+/// The access mode 3, or a file to be made that has to be a directory.
 fn has_bad_open_flags(flags: u32) -> bool
     ensures { result ≡ has_bad_open_flags flags }
 {
-    has(flags, ACCESS_MODE) || has(flags, OpenFlags::CREAT.bits())
+    has(flags, ACCESS_MODE) || has(flags, OpenFlags::CREAT.bits() | OpenFlags::DIRECTORY.bits())
 }
 
 /// getdents64(2).
@@ -250,23 +227,6 @@ fn newfstatat_with(regs: &Regs, path: Bytes) -> Request
         buf: long(regs, 2),
         flags: word(regs, 3),
     }
-}
-
-/// Whether flags have a bit that newfstatat(2) doesn't know.
-fn has_other_stat_flag(flags: u32) -> bool
-    ensures { result ≡ has_other flags stat_flags }
-{
-    has_other(
-        flags,
-        AtFlags::SYMLINK_NOFOLLOW.bits() | AtFlags::EMPTY_PATH.bits(),
-    )
-}
-
-/// Whether an empty path means the descriptor.
-fn allows_empty_path(flags: u32) -> bool
-    ensures { result ≡ has flags 0x1000 }
-{
-    has(flags, AtFlags::EMPTY_PATH.bits())
 }
 
 /// fstat(2).

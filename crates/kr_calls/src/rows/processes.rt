@@ -1,7 +1,7 @@
 //! Calls on processes.
 ghost use Rattle.std.specs.Prelude.{◌≡◌, Ok};
 ghost use Rattle.rv_mem.specs.Actions.{Done};
-ghost use Rattle.kr_calls.specs.Decoding.{exit_row, exit_group_row, uname_row, clone_row, wait4_row};
+ghost use Rattle.kr_calls.specs.Decoding.{getcwd_row, exit_row, exit_group_row, uname_row, clone_row, wait4_row};
 
 use crate::arguments::{has_other, int, long, word};
 use crate::request::Request;
@@ -10,6 +10,16 @@ use rv_mem::Regs;
 
 /// The flags of wait4(2): WNOHANG 1, WUNTRACED 2 and WCONTINUED 8.
 const WAIT_FLAGS: u32 = 0xB;
+
+/// getcwd(2).
+pub fn getcwd(regs: &Regs) -> Request
+    ensures { getcwd_row regs.now ≡ Done (Ok result) }
+{
+    Request::Getcwd {
+        buf: long(regs, 0),
+        size: long(regs, 1),
+    }
+}
 
 /// exit(2).
 pub fn exit(regs: &Regs) -> Request

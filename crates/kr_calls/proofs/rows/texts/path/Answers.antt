@@ -2,7 +2,7 @@ use Rattle.std.proofs.Common.{◌≡◌, ◌∙◌, Err, sym, ap, subst}
 use Rattle.kr_calls.specs.Decodes.{Decodes}
 use Rattle.kr_calls.specs.Decoding.{text_read}
 use Rattle.kr_calls.proofs.TextLemmas.{text_decoded, answered}
-use Rattle.kr_calls.proofs.rows.files.path.Goals as goal
+use Rattle.kr_calls.proofs.rows.texts.path.Goals as goal
 
 pub returns-in-Ok-clause-decoded : goal.returns-in-Ok-clause-decoded
 returns-in-Ok-clause-decoded g c =

@@ -1,0 +1,18 @@
+use Rattle.std.proofs.Common.{false, refl}
+use Rattle.kr_calls.specs.Arguments.{long}
+use Rattle.kr_calls.specs.declared.request.Request.TheVariants.{Chroot}
+use Rattle.kr_calls.specs.Decoding.{accepts}
+use Rattle.kr_calls.proofs.TextLemmas.{accepted, failed, may_want}
+use Rattle.kr_calls.proofs.rows.names.chroot.Goals as goal
+
+pub returns-in-Ok-clause-decoded : goal.returns-in-Ok-clause-decoded
+returns-in-Ok-clause-decoded g c =
+    accepted false false _ (long c.args.regs.now 0) _ Chroot c.args.mem.now c.path.new.mem c.in-Ok.path _ refl refl c.long.ensures refl c.in-Ok.ensures.decoded
+
+pub returns-in-Err-clause-decoded : goal.returns-in-Err-clause-decoded
+returns-in-Err-clause-decoded g c =
+    failed false false _ (long c.args.regs.now 0) _ Chroot c.args.mem.now c.path.new.mem c.in-Err.fault refl refl c.long.ensures c.in-Err.ensures.decoded
+
+pub returns-in-Err-clause-wanting : goal.returns-in-Err-clause-wanting
+returns-in-Err-clause-wanting g c =
+    may_want false false (long c.args.regs.now 0) (λ path. accepts (Chroot path)) _ refl

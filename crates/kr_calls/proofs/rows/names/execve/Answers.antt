@@ -1,0 +1,17 @@
+use Rattle.std.proofs.Common.{false, refl}
+use Rattle.kr_calls.specs.Arguments.{long}
+use Rattle.kr_calls.specs.Decoding.{accepts, execve_with}
+use Rattle.kr_calls.proofs.TextLemmas.{accepted, failed, may_want}
+use Rattle.kr_calls.proofs.rows.names.execve.Goals as goal
+
+pub returns-in-Ok-clause-decoded : goal.returns-in-Ok-clause-decoded
+returns-in-Ok-clause-decoded g c =
+    accepted false false _ (long c.args.regs.now 0) _ (execve_with c.args.regs.now) c.args.mem.now c.path.new.mem c.in-Ok.path c.execve_with.result refl refl c.long.ensures c.execve_with.ensures c.in-Ok.ensures.decoded
+
+pub returns-in-Err-clause-decoded : goal.returns-in-Err-clause-decoded
+returns-in-Err-clause-decoded g c =
+    failed false false _ (long c.args.regs.now 0) _ (execve_with c.args.regs.now) c.args.mem.now c.path.new.mem c.in-Err.fault refl refl c.long.ensures c.in-Err.ensures.decoded
+
+pub returns-in-Err-clause-wanting : goal.returns-in-Err-clause-wanting
+returns-in-Err-clause-wanting g c =
+    may_want false false (long c.args.regs.now 0) (λ path. accepts (execve_with c.args.regs.now path)) _ refl
