@@ -17,6 +17,9 @@ const LAST_BYTE: u64 = 0x11fff;
 
 const UNMAPPED: u64 = 0x20000;
 
+/// The last byte of the page of `a`, and so a text of one.
+const ONE_A: u64 = 0x10fff;
+
 fn memory(alloc: Global) -> Result<Space<0>, Fail> {
     let mut room = Room::new();
     let mut memory = Space::new(alloc);
@@ -64,7 +67,11 @@ fn bad_arguments_are_refused(rt: HostRuntime) -> Result<(), Fail> {
         (46, [3, 1 << 63, 0, 0, 0]),
         (48, [HERE, UNMAPPED, 8, 0, 0]),
         (56, [HERE, UNMAPPED, 3, 0, 0]),
-        (56, [HERE, ZEROS, 0o100, 0, 0]),
+        (56, [HERE, ZEROS, 0o200100, 0, 0]),
+        (35, [HERE, UNMAPPED, 0x400, 0, 0]),
+        (37, [HERE, UNMAPPED, HERE, UNMAPPED, 0x100]),
+        (54, [HERE, UNMAPPED, 1, 2, 0x200]),
+        (276, [HERE, UNMAPPED, HERE, UNMAPPED, 1]),
         (59, [UNMAPPED, 1, 0, 0, 0]),
         (78, [HERE, UNMAPPED, 0, HIGH, 0]),
         (78, [HERE, PAGE_OF_A, 0, 0x8000_0000, 0]),
@@ -99,7 +106,17 @@ fn lawful_arguments_are_accepted(rt: HostRuntime) -> Result<(), Fail> {
         (25, [3, 1030, u64::MAX, 0, 0]),
         (29, [3, 0, 0, 0, 0]),
         (46, [3, (1 << 63) - 1, 0, 0, 0]),
-        (48, [HERE, LAST_BYTE - 4096, 7, 0, 0]),
+        (34, [HERE, ONE_A, 0o777, 0, 0]),
+        (35, [HERE, ONE_A, HIGH | 0x200, 0, 0]),
+        (36, [ONE_A, HERE, ONE_A, 0, 0]),
+        (37, [HERE, ONE_A, HERE, ONE_A, 0x400]),
+        (48, [HERE, ONE_A, 7, 0, 0]),
+        (49, [ONE_A, 0, 0, 0, 0]),
+        (53, [HERE, ONE_A, u64::MAX, 0, 0]),
+        (54, [HERE, ZEROS, 1, 2, 0x1100]),
+        (56, [HERE, ONE_A, 0o101, 0, 0]),
+        (221, [ONE_A, UNMAPPED, UNMAPPED, 0, 0]),
+        (276, [HERE, ONE_A, HERE, ONE_A, HIGH]),
         (59, [UNMAPPED, 0o2000000, 0, 0, 0]),
         (62, [3, u64::MAX, 9, 0, 0]),
         (66, [3, 0, u64::MAX, 0, 0]),
@@ -127,7 +144,19 @@ fn texts_are_looked_for_last(rt: HostRuntime) -> Result<(), Fail> {
         (56, [HERE, PAGE_OF_A, 0, 0, 0], Errno::ENAMETOOLONG),
         (78, [HERE, ZEROS, 0, 1, 0], Errno::ENOENT),
         (79, [HERE, ZEROS, 0, 0x100, 0], Errno::ENOENT),
-        (17, [0, 0, 0, 0, 0], Errno::ENOSYS),
+        (34, [HERE, UNMAPPED, 0, 0, 0], Errno::EFAULT),
+        (36, [ONE_A, HERE, UNMAPPED, 0, 0], Errno::EFAULT),
+        (36, [ZEROS, HERE, UNMAPPED, 0, 0], Errno::ENOENT),
+        (
+            37,
+            [HERE, PAGE_OF_A, HERE, UNMAPPED, 0],
+            Errno::ENAMETOOLONG,
+        ),
+        (54, [HERE, ZEROS, 1, 2, 0x100], Errno::ENOENT),
+        (56, [HERE, ZEROS, 0o100, 0, 0], Errno::ENOENT),
+        (221, [ZEROS, 0, 0, 0x1000, 0x1000], Errno::ENOENT),
+        (276, [HERE, ONE_A, HERE, ZEROS, 0], Errno::ENOENT),
+        (16, [0, 0, 0, 0, 0], Errno::ENOSYS),
         (HIGH | 64, [1, ZEROS, 1, 0, 0], Errno::ENOSYS),
     ];
     for (number, arguments, errno) in others {
@@ -139,27 +168,94 @@ fn texts_are_looked_for_last(rt: HostRuntime) -> Result<(), Fail> {
     Ok(())
 }
 
-// Flags that openat ignores are kept; a text of 4,095 bytes is the longest.
-// Calls without an argument that is used, by their numbers in the generic table of Linux.
+// The numbers are those of the generic table of Linux; the arguments stand in the order of the manual.
 #[test]
-fn calls_without_arguments_are_told_by_their_numbers(rt: HostRuntime) -> Result<(), Fail> {
+fn calls_without_texts_are_told_by_their_numbers(rt: HostRuntime) -> Result<(), Fail> {
     let mut memory = memory(rt.alloc())?;
     let rows = [
+        (17, "Getcwd { buf: 1, size: 2 }"),
+        (50, "Fchdir { fd: 1 }"),
+        (52, "Fchmod { fd: 1, mode: 2 }"),
+        (55, "Fchown { fd: 1, uid: 2, gid: 3 }"),
         (96, "SetTidAddress"),
         (134, "RtSigaction"),
         (135, "RtSigprocmask"),
+        (143, "Setregid { rgid: 1, egid: 2 }"),
+        (144, "Setgid { gid: 1 }"),
+        (145, "Setreuid { ruid: 1, euid: 2 }"),
+        (146, "Setuid { uid: 1 }"),
+        (147, "Setresuid { ruid: 1, euid: 2, suid: 3 }"),
+        (148, "Getresuid { ruid: 1, euid: 2, suid: 3 }"),
+        (149, "Setresgid { rgid: 1, egid: 2, sgid: 3 }"),
+        (150, "Getresgid { rgid: 1, egid: 2, sgid: 3 }"),
+        (158, "Getgroups { size: 1, list: 2 }"),
+        (159, "Setgroups { size: 1, list: 2 }"),
+        (166, "Umask { m: 1 }"),
         (172, "Getpid"),
         (173, "Getppid"),
+        (174, "Getuid"),
+        (175, "Geteuid"),
+        (176, "Getgid"),
+        (177, "Getegid"),
         (178, "Gettid"),
     ];
     for (number, name) in rows {
-        let request = decode(&registers(number, [UNMAPPED; 5]), &mut memory).expect(&rt, "decoded");
+        let request = decode(&registers(number, [1, 2, 3, 4, 5]), &mut memory).expect(
+            &rt, "decoded",
+        );
         let told = format!(in rt.alloc(); "{request:?}")?;
         assert_eq!(rt; told.as_str(), name);
     }
     Ok(())
 }
 
+/// A call's number and arguments, and what its walk is for and the register of the text, path by path.
+type PathRow = (u64, [u64; 5], [Option<(WalkMode, u8)>; 2]);
+
+// The modes are those of the manual: which calls follow a last link, and which name an entry.
+#[test]
+fn paths_have_their_modes(rt: HostRuntime) -> Result<(), Fail> {
+    let mut memory = memory(rt.alloc())?;
+    let look = Some((WalkMode::Look, 11));
+    let link = Some((WalkMode::LookLink, 11));
+    let name = Some((WalkMode::Name, 11));
+    let new = Some((WalkMode::Name, 13));
+    let rows: [PathRow; 15] = [
+        (34, [HERE, ONE_A, 0, 0, 0], [name, None]),
+        (35, [HERE, ONE_A, 0, 0, 0], [name, None]),
+        (
+            36,
+            [ONE_A, HERE, ONE_A, 0, 0],
+            [Some((WalkMode::Name, 12)), None],
+        ),
+        (37, [HERE, ONE_A, HERE, ONE_A, 0], [link, new]),
+        (37, [HERE, ONE_A, HERE, ONE_A, 0x400], [look, new]),
+        (49, [ONE_A, 0, 0, 0, 0], [Some((WalkMode::Look, 10)), None]),
+        (53, [HERE, ONE_A, 0, 0, 0], [look, None]),
+        (54, [HERE, ONE_A, 0, 0, 0], [look, None]),
+        (54, [HERE, ONE_A, 0, 0, 0x100], [link, None]),
+        (
+            56,
+            [HERE, ONE_A, 0o101, 0, 0],
+            [Some((WalkMode::Open, 11)), None],
+        ),
+        (56, [HERE, ONE_A, 0o301, 0, 0], [name, None]),
+        (56, [HERE, ONE_A, 0o400100, 0, 0], [name, None]),
+        (221, [ONE_A, 0, 0, 0, 0], [Some((WalkMode::Look, 10)), None]),
+        (276, [HERE, ONE_A, HERE, ONE_A, 0], [name, new]),
+        (57, [3, 0, 0, 0, 0], [None, None]),
+    ];
+    for (number, arguments, paths) in rows {
+        let request = decode(&registers(number, arguments), &mut memory).expect(&rt, "decoded");
+        for (k, want) in [(0, paths[0]), (1, paths[1]), (2, None)] {
+            let found = path_of(&request, k).map(|path| (path.mode, path.register));
+            assert!(rt; found == want, "path {k} of call {number}");
+        }
+    }
+    Ok(())
+}
+
+// Flags that openat ignores are kept; a text of 4,095 bytes is the longest.
 #[test]
 fn texts_and_flags_are_kept(rt: HostRuntime) -> Result<(), Fail> {
     let mut memory = memory(rt.alloc())?;
