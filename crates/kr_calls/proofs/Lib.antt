@@ -2,3 +2,4 @@ pub mod TextLemmas
 pub mod ScriptLemmas
 pub mod ScriptRows
 pub mod TwoTextLemmas
+pub mod ExpansionRows

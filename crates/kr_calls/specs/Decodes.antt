@@ -6,6 +6,9 @@ use Rattle.rv_mem.specs.Actions.{Action, Done, MayUse, ReadBytes, WriteBytes, Ca
 use Rattle.rv_mem.specs.Memory.{Memory}
 use Rattle.rv_mem.specs.declared.fault.TextFault.{TextFault}
 use Rattle.rv_mem.specs.declared.fault.TextFault.TheVariants as text
+use Rattle.rv_mem.specs.declared.regs.Regs.{Regs}
+use Rattle.kr_calls.specs.declared.request.Request.{Request}
+use Rattle.kr_calls.specs.Decoding.{decoding}
 use Rattle.kr_calls.specs.declared.fault.CallFault.{CallFault}
 use Rattle.kr_calls.specs.declared.fault.CallFault.TheVariants as call
 
@@ -43,3 +46,13 @@ uses_memory (WriteBytes at bytes next) = true
 -- memory is wanting only where a text was read
 abbrev pub WantsForTexts : {A : Type 0} → Result A CallFault → Action (Result A Errno) → Type 0
 WantsForTexts result action = result ≡ Err call.NoMemory → IsTrue (uses_memory action)
+
+-- a request that the decoding of some registers and memory gives
+pub record CanBeGiven (request : Request) : Type 0 where
+  pub regs : Regs
+  pub memory : Memory
+  pub given : (carried_out (decoding regs) memory).reply ≡ Ok request
+
+-- what was decoded is such a request
+abbrev pub DecodedIsGiven : Type 0
+DecodedIsGiven = (regs : Regs) (old new : Memory) (request : Request) → Decodes (Ok request) (decoding regs) old new → CanBeGiven request

@@ -2,6 +2,7 @@ pub mod Arguments
 pub mod Decodes
 pub mod Decoding
 pub mod DirectoryEntries
+pub mod Expansion
 pub mod PathTable
 pub mod Scripts
 pub mod Stats

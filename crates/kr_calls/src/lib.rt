@@ -5,6 +5,7 @@ mod arguments;
 pub mod decoding;
 pub mod directory_entry;
 pub mod fault;
+pub mod laws;
 pub mod paths;
 pub mod request;
 mod rows;
