@@ -17,7 +17,7 @@ use Rattle.kr_view.specs.Component.{Surroundings, SeenPlace, is_process_director
 
 module _ (around : Surroundings) where
   abbrev pub IsOwn : Landing (Place ℕ) (Place ℕ) → Type 0
-  IsOwn l = is_directory_at around l.found.host ≡ true → l.dir ≡ l.found
+  IsOwn l = is_directory_at around.tree l.found.host ≡ true → l.dir ≡ l.found
 
   abbrev LeadsOwn : Option (Landing (Place ℕ) (Place ℕ)) → Type 0
   LeadsOwn None = Unit {0}
@@ -36,9 +36,9 @@ module _ (around : Surroundings) where
   either_way false x y p q = q
 
   own_landing : (p : Place ℕ) (dir : ℕ) (name : List ℕ) → IsOwn (landing around p dir name)
-  own_landing p dir name = at (is_directory_at around p.host) refl
+  own_landing p dir name = at (is_directory_at around.tree p.host) refl
     where
-      at : (b : Bool) → is_directory_at around p.host ≡ b
+      at : (b : Bool) → is_directory_at around.tree p.host ≡ b
           → IsOwn (if b then record { place = p; found = p; is_dir = true; dir = p; name = [] } else record { place = p; found = p; is_dir = false; dir = node_in p.mount dir; name = name })
       at true is directory = refl
       at false is directory = absurd cc
@@ -109,8 +109,8 @@ module _ (around : Surroundings) where
 
   own_look : (p : Place ℕ) (c : Component) → SeesOwn (look around p c)
   own_look p c =
-      either_way (is_directory_at around p.host) (if may_search around p.host then inside around p c else Fails EACCES) (Fails ENOTDIR)
-      (either_way (may_search around p.host) (inside around p c) (Fails EACCES) (own_inside p c) tt) tt
+      either_way (is_directory_at around.tree p.host) (if may_search around.tree around.user p.host then inside around p c else Fails EACCES) (Fails ENOTDIR)
+      (either_way (may_search around.tree around.user p.host) (inside around p c) (Fails EACCES) (own_inside p c) tt) tt
 
   pub jumped_own : (p : Place ℕ) (c : Component) (f : Place ℕ) (l : Landing (Place ℕ) (Place ℕ)) → look around p c ≡ Jumps f (Some l) → IsOwn l
   jumped_own p c f l looked = subst SeesOwn looked (own_look p c)

@@ -85,7 +85,7 @@ landing_place around p dir name =
     let at_directory : Landing (Place ℕ) (Place ℕ) = record { place = p; found = p; is_dir = true; dir = p; name = [] } in
     let at_file : Landing (Place ℕ) (Place ℕ) = record { place = p; found = p; is_dir = false; dir = node_in p.mount dir; name = name } in
     let at : Bool → Landing (Place ℕ) (Place ℕ) = λ b. if b then at_directory else at_file in
-    elim (is_directory_at around p.host) as (λ b. (at b).place ≡ p) [ true ↦ refl | false ↦ refl ]
+    elim (is_directory_at around.tree p.host) as (λ b. (at b).place ≡ p) [ true ↦ refl | false ↦ refl ]
 
 module _ (around : Surroundings) (mode : WalkMode) (left : ℕ) (s : Place ℕ) (rest : List Component) (slash : Bool) (link : Place ℕ) where
   -- behind a process link the walk goes on with one link less

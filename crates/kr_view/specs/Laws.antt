@@ -78,14 +78,14 @@ pub record FoundIsShown : Type 0 where
   pub shown : (around : Surroundings) (mode : WalkMode) (base : Place ℕ) (path : List ℕ) (t : PlaceTarget) → (place_walk around mode base path).answer ≡ Ok t → t.jumped ≡ false → t.last ≢ last.Root
       → IsShown (looking around) t
   pub in_directory : (around : Surroundings) (mode : WalkMode) (base : Place ℕ) (path : List ℕ) (t : PlaceTarget) → (place_walk around mode base path).answer ≡ Ok t → t.jumped ≡ false → t.last ≢ last.Root
-      → is_directory_at around t.dir.host ≡ true
+      → is_directory_at around.tree t.dir.host ≡ true
 
 -- where walks end is a directory. What a process link led to is apart, since it isn't looked at again
 pub record WalksEndInDirectories : Type 0 where
   -- the directory of a target is one: where its last component was looked up, and where no component was
   -- left, the root place or the directory of the link whose text has none
   pub directory : (around : Surroundings) (mode : WalkMode) (base : Place ℕ) (path : List ℕ) (t : PlaceTarget) → StandsIn around.tree around.table → path ≢ [] → (place_walk around mode base path).answer ≡ Ok t → t.jumped ≡ false
-      → is_directory_at around t.dir.host ≡ true
+      → is_directory_at around.tree t.dir.host ≡ true
   -- where no component was left, the directory itself is found
   pub itself : (around : Surroundings) (mode : WalkMode) (base : Place ℕ) (path : List ℕ) (t : PlaceTarget) → (place_walk around mode base path).answer ≡ Ok t → t.last ≡ last.Root → t.found ≡ Some t.dir
   -- the table must stand, since slashes alone end at the root place, whatever stands there
@@ -94,7 +94,7 @@ pub record WalksEndInDirectories : Type 0 where
   pub empty : (around : Surroundings) (mode : WalkMode) (base : Place ℕ) → place_walk around mode base [] ≡ ends_here (looking around) base false
   -- a directory to which a process link led is its own; of a file the link tells the directory
   pub jumped : (around : Surroundings) (mode : WalkMode) (base : Place ℕ) (path : List ℕ) (t : PlaceTarget) → (place_walk around mode base path).answer ≡ Ok t → t.jumped ≡ true
-      → (p : Place ℕ) × (t.found ≡ Some p) × (is_directory_at around p.host ≡ true → t.dir ≡ p)
+      → (p : Place ℕ) × (t.found ≡ Some p) × (is_directory_at around.tree p.host ≡ true → t.dir ≡ p)
 
 -- whether a body is a link
 abbrev pub is_link : Body → Bool

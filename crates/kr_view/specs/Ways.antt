@@ -76,7 +76,7 @@ IsSightWay number around p c sight = IsSightCalled number around p c (component_
 -- whether what is no link is a directory: it is one where an entry was taken for one, and it isn't where it
 -- wasn't taken for one
 abbrev pub IsKind : Surroundings → Host → Way → Bool → Type 0
-IsKind around host way true = way ≡ Enters → is_directory_at around host ≡ true
+IsKind around host way true = way ≡ Enters → is_directory_at around.tree host ≡ true
 IsKind around host way false = body_is is_directory around.tree (ino_of host) ≡ false
 
 abbrev pub HasKind : {M : Type 0} → Surroundings → Sight M → Type 0

@@ -90,7 +90,7 @@ fn is_looked_up(part: &Part<'_>) -> bool
 impl<'a, P: Places, Q: Procs<Mount = P::Mount>> Around<'a, P, Q> {
     /// Whether an object is a directory.
     pub(crate) fn is_directory(&self, host: Host) -> bool
-        ensures { result ≡ is_directory_at (scene P.number P.mounts Q.finds Q.leads self.now) host }
+        ensures { result ≡ is_directory_at self.now.tree.now host }
     {
         match host {
             Host::Node(ino) => matches!(self.tree.kind(ino), Some(Kind::Dir | Kind::Proc)),
@@ -100,7 +100,7 @@ impl<'a, P: Places, Q: Procs<Mount = P::Mount>> Around<'a, P, Q> {
 
     /// Whether the user may search an object.
     fn may_search(&self, host: Host) -> bool
-        ensures { result ≡ may_search (scene P.number P.mounts Q.finds Q.leads self.now) host }
+        ensures { result ≡ may_search self.now.tree.now self.now.user host }
     {
         match host {
             Host::Node(ino) => self.tree.may(self.user, ino, Right::Search),
