@@ -1,12 +1,15 @@
+pub mod ArrivalLemmas
 pub mod DirectoryLemmas
 pub mod EndLemmas
 pub mod FoundLemmas
 pub mod HostNameLemmas
+pub mod HostReachLemmas
 pub mod JumpedLemmas
 pub mod LandingLemmas
 pub mod LastLemmas
 pub mod NameLemmas
 pub mod OutcomeLemmas
+pub mod PathEndLemmas
 pub mod ReachLemmas
 pub mod ReachedLemmas
 pub mod ResolveLemmas

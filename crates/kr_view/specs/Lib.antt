@@ -2,12 +2,15 @@ pub mod Answers
 pub mod Begins
 pub mod Component
 pub mod HostNames
+pub mod HostReach
 pub mod Laws
 pub mod Leads
 pub mod Names
 pub mod Parts
+pub mod PathParts
 pub mod Positions
 pub mod Reach
+pub mod ReachLaws
 pub mod Rests
 pub mod Rows
 pub mod Sights
