@@ -1,6 +1,7 @@
 pub mod DirectoryLemmas
 pub mod EndLemmas
 pub mod FoundLemmas
+pub mod GuestNameLemmas
 pub mod HostNameLemmas
 pub mod JumpedLemmas
 pub mod LandingLemmas

@@ -9,7 +9,7 @@ use Rattle.kr_tree.specs.declared.place.Place.{Place}
 use Rattle.kr_tree.specs.Tree.{Tree, Body, Directory, RegularFile, SymbolicLink, ProcessDirectory, body, body_is, entry, is_directory, is_listed}
 use Rattle.kr_tree.specs.Names.{reached}
 use Rattle.kr_tree.specs.Lawful.{IsSound}
-use Rattle.kr_view.specs.View.{Row, row, node_in, root_place, root_source, down, up, covered, plain, is_there, StandsIn}
+use Rattle.kr_view.specs.View.{Row, row, node_in, root_place, root_source, down, up, covered, source, plain, is_there, StandsIn, IsAsSettled}
 use Rattle.kr_view.specs.Component.{Surroundings, look, is_directory_at}
 use Rattle.kr_view.specs.Walk.{PlaceTarget, looking, place_walk}
 use Rattle.kr_view.specs.Steps.{middle_trail, last_trail}
@@ -47,7 +47,12 @@ abbrev pub PlacesHaveTheirLaws : Type 0
 PlacesHaveTheirLaws = (t : Tree) (table : List Row) → StandsIn t table → LawsOfPlaces t table
 
 abbrev pub PlainStands : Type 0
-PlainStands = (t : Tree) → IsSound t → StandsIn t plain
+PlainStands = (t : Tree) → IsSound t → StandsIn t plain × IsAsSettled t plain
+
+-- what a call is told of the source of a mount is the entry that leads to it, while the table is as it was
+-- settled
+abbrev pub SettledSourcesAreEntries : Type 0
+SettledSourcesAreEntries = (t : Tree) (table : List Row) (k : ℕ) (r : Row) (e : ℕ × List ℕ) → IsAsSettled t table → row table k ≡ Some r → source table k ≡ Some e → entry t e.0 e.1 ≡ Some r.source
 
 -- ---- walks
 

@@ -1,14 +1,26 @@
 //! Laws of views and walks, each carried by a function that does nothing.
-ghost use Rattle.kr_view.specs.Laws.{FoundIsShown, PlacesHaveTheirLaws, PlainStands, ReachedIsFound, WalksEndInDirectories, WalksGoByComponents};
+ghost use Rattle.kr_view.specs.GuestNames.{GuestNamesGoByPlaces};
+ghost use Rattle.kr_view.specs.Laws.{FoundIsShown, PlacesHaveTheirLaws, PlainStands, ReachedIsFound, SettledSourcesAreEntries, WalksEndInDirectories, WalksGoByComponents};
 
 /// The laws of a view whose mounts stand in a tree.
 pub fn places_have_their_laws()
     ensures { PlacesHaveTheirLaws }
 {}
 
-/// The host's own view stands in every tree.
+/// The host's own view stands in every tree, and is as it was settled.
 pub fn plain_stands()
     ensures { PlainStands }
+{}
+
+/// The directory and name of a mount's source lead to it, while the mounts are as they were settled.
+pub fn settled_sources_are_entries()
+    ensures { SettledSourcesAreEntries }
+{}
+
+/// The guest name of a place goes by the place: the source of a mount is called by its location, what is
+/// below by the names from there down, and nothing else has one.
+pub fn guest_names_go_by_places()
+    ensures { GuestNamesGoByPlaces }
 {}
 
 /// A walk looks at one component after the other; what comes behind a look depends on what it shows.
