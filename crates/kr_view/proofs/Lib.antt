@@ -4,10 +4,14 @@ pub mod FoundLemmas
 pub mod GuestNameLemmas
 pub mod HostNameLemmas
 pub mod JumpedLemmas
+pub mod KeepLemmas
 pub mod LandingLemmas
 pub mod LastLemmas
 pub mod NameLemmas
+pub mod NodeLemmas
 pub mod OutcomeLemmas
+pub mod PlaceLemmas
+pub mod ProcessLemmas
 pub mod ReachLemmas
 pub mod ReachedLemmas
 pub mod ResolveLemmas

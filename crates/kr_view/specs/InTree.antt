@@ -10,8 +10,9 @@ use Rattle.kr_tree.specs.Tree.{Tree, inode, entry, body_is}
 use Rattle.kr_tree.specs.Lawful.{IsSound, HasItsInodes}
 use Rattle.kr_view.specs.declared.procs.Lead.{Lead}
 use Rattle.kr_view.specs.declared.procs.Lead.TheVariants.{Jump}
-use Rattle.kr_view.specs.View.{Row, row, source, node_in, is_there, StandsIn}
+use Rattle.kr_view.specs.View.{Row, row, is_there, StandsIn}
 use Rattle.kr_view.specs.Component.{Surroundings, is_processes, is_directory_at}
+use Rattle.kr_view.specs.Processes.{LawsOfProcesses, no_finds, no_leads}
 use Rattle.kr_view.specs.Walk.{PlaceTarget, place_walk}
 
 -- an object of a tree: an inode that is there, or what stands in the process directory of the tree
@@ -33,21 +34,28 @@ pub record LeadToPlaces (t : Tree) (table : List Row) (leads : ProcAt → Lead �
   pub files : (at : ProcAt) (p : Place ℕ) (dir : ℕ) (name : List ℕ) → leads at ≡ Jump p dir name → is_directory_at t p.host ≡ false → IsName name
   pub directories : (at : ProcAt) (p : Place ℕ) (dir : ℕ) (name : List ℕ) → leads at ≡ Jump p dir name → is_directory_at t p.host ≡ true → (dir ≡ 0) × (name ≡ [])
 
--- what a file remembers is an entry of the tree, and that is the file. An open file is one as long as its
--- entry stays; but one that is the source of a mount remembers the entry at which that was settled, and so
--- only while the mounts are as they were settled
+-- what a file remembers is an entry of the tree, and leads to it. So it is as long as that entry stays; but a
+-- file that is the source of a mount remembers the entry at which it was settled, and so only while the mounts
+-- are as they were settled
 abbrev pub LeadToEntries : Tree → (ProcAt → Lead ℕ) → Type 0
-LeadToEntries t leads = (at : ProcAt) (mount i dir : ℕ) (name : List ℕ) → leads at ≡ Jump (node_in mount i) dir name → is_directory_at t (Node i) ≡ false → entry t dir name ≡ Some i
+LeadToEntries t leads =
+    (at : ProcAt) (p : Place ℕ) (dir : ℕ) (name : List ℕ) → leads at ≡ Jump p dir name → is_directory_at t p.host ≡ false → (i : ℕ) × (p.host ≡ Node i) × (entry t dir name ≡ Some i)
+
+-- before a process lives the process directory keeps its laws, and leads nowhere
+pub record NoProcessesKeepLaws : Type 0 where
+  pub lawful : LawsOfProcesses no_finds no_leads
+  pub places : (t : Tree) (table : List Row) → LeadToPlaces t table no_leads
+  pub entries : (t : Tree) → LeadToEntries t no_leads
 
 -- ---- walks
 
 -- all that a walk goes through stands, and so does the place where it begins
-pub record StandsAround (around : Surroundings) (base : Place ℕ) : Type 0 where
+pub record StandsAround (around : Surroundings) (p : Place ℕ) : Type 0 where
   pub sound : IsSound around.tree
   pub inodes : HasItsInodes around.tree
   pub mounts : StandsIn around.tree around.table
   pub leads : LeadToPlaces around.tree around.table around.leads
-  pub base : IsPlaceOf around.tree around.table base
+  pub begins : IsPlaceOf around.tree around.table p
 
 -- then a walk comes to places of the view in the tree alone
 pub record WalksKeepPlaces : Type 0 where

@@ -6,7 +6,7 @@ use Rattle.pr_base.specs.WalkFrame.{Seen, Fails, Missing, Leads, Links, Jumps, L
 use Rattle.pr_base.specs.declared.path.Last.TheVariants as last
 use Rattle.pr_base.specs.declared.path.WalkMode.{WalkMode}
 use Rattle.kr_tree.specs.declared.place.Place.{Place}
-use Rattle.kr_tree.specs.Tree.{Tree, Body, Directory, RegularFile, SymbolicLink, ProcessDirectory, body, body_is, entry, is_directory, is_listed}
+use Rattle.kr_tree.specs.Tree.{Tree, Body, Directory, RegularFile, SymbolicLink, ProcessDirectory, node, body, body_is, entry, is_directory, is_listed}
 use Rattle.kr_tree.specs.Names.{reached}
 use Rattle.kr_tree.specs.Lawful.{IsSound}
 use Rattle.kr_view.specs.View.{Row, row, node_in, root_place, root_source, down, up, covered, source, plain, is_there, StandsIn, IsAsSettled}
@@ -113,3 +113,11 @@ is_link (ProcessDirectory standing) = false
 abbrev pub ReachedIsFound : Type 0
 ReachedIsFound = (around : Surroundings) (mode : WalkMode) (base : Place ℕ) (text : List (List ℕ)) (i : ℕ) → around.table ≡ plain → AreNames text → reached around.tree around.user text ≡ Some i
     → option_map is_link (body around.tree i) ≡ Some false → (t : PlaceTarget) × ((place_walk around mode base (text_of text)).answer ≡ Ok t) × (t.found ≡ Some (node_in 0 i))
+
+-- the same surroundings with another tree
+abbrev pub with_tree : Tree → Surroundings → Surroundings
+with_tree t around = record { table = around.table; tree = t; user = around.user; finds = around.finds; leads = around.leads }
+
+-- a walk reads of a tree the nodes of numbers alone, and so no holds and no counts
+abbrev pub WalksReadNodes : Type 0
+WalksReadNodes = (around : Surroundings) (t : Tree) → ((i : ℕ) → node around.tree i ≡ node t i) → (mode : WalkMode) (base : Place ℕ) (path : List ℕ) → place_walk around mode base path ≡ place_walk (with_tree t around) mode base path

@@ -35,3 +35,11 @@ pub record LawsOfProcesses (finds : Finds) (leads : ProcAt → Lead ℕ) : Type 
   pub shown : (name : List ℕ) (pid : ℕ) → finds None name ≡ Some (Dir pid) → is_there (finds (Some (Dir pid)) (codes "cwd")) ≡ true
   -- only `self` leads by a text
   pub texts : (at : ProcAt) (text : List ℕ) → leads at ≡ Text text → at ≡ SelfLink
+
+-- ---- before a process lives
+
+abbrev pub no_finds : Finds
+no_finds at name = None
+
+abbrev pub no_leads : ProcAt → Lead ℕ
+no_leads at = NoLink
