@@ -18,13 +18,17 @@ use Rattle.kr_view.specs.declared.procs.Lead.{Lead}
 use Rattle.kr_view.specs.declared.procs.Lead.TheVariants.{Text, Jump, Nameless, NoLink}
 use Rattle.kr_view.specs.View.{Row, down, up, node_in, is_root_place, is_there}
 
+-- what a name stands for, by the place in the process directory where it is looked up
+abbrev pub Finds : Type 0
+Finds = Option ProcAt → List ℕ → Option ProcAt
+
 -- what a walk goes through: the mounts, the tree, the user, and what the process directory shows to the
 -- caller, by the place in it where a name is looked up and by the link that is followed
 pub record Surroundings : Type 0 where
   pub table : List Row
   pub tree : Tree
   pub user : User
-  pub finds : Option ProcAt → List ℕ → Option ProcAt
+  pub finds : Finds
   pub leads : ProcAt → Lead ℕ
 
 abbrev pub SeenPlace : Type 0

@@ -6,10 +6,10 @@ use Rattle.pr_base.specs.WalkFrame.{Seen, Fails, Missing, Leads, Links, Jumps, L
 use Rattle.pr_base.specs.declared.path.Last.TheVariants as last
 use Rattle.pr_base.specs.declared.path.WalkMode.{WalkMode}
 use Rattle.kr_tree.specs.declared.place.Place.{Place}
-use Rattle.kr_tree.specs.Tree.{Tree, Body, Directory, RegularFile, SymbolicLink, ProcessDirectory, body, body_is, entry, is_directory, is_listed}
+use Rattle.kr_tree.specs.Tree.{Tree, Body, Directory, RegularFile, SymbolicLink, ProcessDirectory, node, body, body_is, entry, is_directory, is_listed}
 use Rattle.kr_tree.specs.Names.{reached}
 use Rattle.kr_tree.specs.Lawful.{IsSound}
-use Rattle.kr_view.specs.View.{Row, row, node_in, root_place, root_source, down, up, covered, plain, is_there, StandsIn}
+use Rattle.kr_view.specs.View.{Row, row, node_in, root_place, root_source, down, up, covered, source, plain, is_there, StandsIn, IsAsSettled}
 use Rattle.kr_view.specs.Component.{Surroundings, look, is_directory_at}
 use Rattle.kr_view.specs.Walk.{PlaceTarget, looking, place_walk}
 use Rattle.kr_view.specs.Steps.{middle_trail, last_trail}
@@ -47,7 +47,12 @@ abbrev pub PlacesHaveTheirLaws : Type 0
 PlacesHaveTheirLaws = (t : Tree) (table : List Row) → StandsIn t table → LawsOfPlaces t table
 
 abbrev pub PlainStands : Type 0
-PlainStands = (t : Tree) → IsSound t → StandsIn t plain
+PlainStands = (t : Tree) → IsSound t → StandsIn t plain × IsAsSettled t plain
+
+-- what a call is told of the source of a mount is the entry that leads to it, while the table is as it was
+-- settled
+abbrev pub SettledSourcesAreEntries : Type 0
+SettledSourcesAreEntries = (t : Tree) (table : List Row) (k : ℕ) (r : Row) (e : ℕ × List ℕ) → IsAsSettled t table → row table k ≡ Some r → source table k ≡ Some e → entry t e.0 e.1 ≡ Some r.source
 
 -- ---- walks
 
@@ -108,3 +113,11 @@ is_link (ProcessDirectory standing) = false
 abbrev pub ReachedIsFound : Type 0
 ReachedIsFound = (around : Surroundings) (mode : WalkMode) (base : Place ℕ) (text : List (List ℕ)) (i : ℕ) → around.table ≡ plain → AreNames text → reached around.tree around.user text ≡ Some i
     → option_map is_link (body around.tree i) ≡ Some false → (t : PlaceTarget) × ((place_walk around mode base (text_of text)).answer ≡ Ok t) × (t.found ≡ Some (node_in 0 i))
+
+-- the same surroundings with another tree
+abbrev pub with_tree : Tree → Surroundings → Surroundings
+with_tree t around = record { table = around.table; tree = t; user = around.user; finds = around.finds; leads = around.leads }
+
+-- a walk reads of a tree the nodes of numbers alone, and so no holds and no counts
+abbrev pub WalksReadNodes : Type 0
+WalksReadNodes = (around : Surroundings) (t : Tree) → ((i : ℕ) → node around.tree i ≡ node t i) → (mode : WalkMode) (base : Place ℕ) (path : List ℕ) → place_walk around mode base path ≡ place_walk (with_tree t around) mode base path

@@ -1,14 +1,17 @@
 pub mod Answers
 pub mod Begins
 pub mod Component
+pub mod GuestNames
 pub mod HostNames
 pub mod HostReach
+pub mod InTree
 pub mod Laws
 pub mod Leads
 pub mod Names
 pub mod Parts
 pub mod PathParts
 pub mod Positions
+pub mod Processes
 pub mod Reach
 pub mod ReachLaws
 pub mod Rests

@@ -1,7 +1,7 @@
 -- Names of places. The host name of a directory is the tree's; another object has one by how a walk came
 -- to it: the entry, the directory and name at which a mount's source was found, or what a process link
 -- carries. The guest name of a place is the location of its mount, followed by the names from the
--- mount's source down to the place.
+-- mount's source down to the place; that of the source itself is the location.
 use Rattle.std.specs.Prelude.{ℕ, Bool, List, [], ◌∷◌, ◌++◌, Option, Some, None, bytes_eq, if◌then◌else◌}
 use Rattle.std.specs.Option.{option_map, option_and_then}
 use Rattle.std.specs.List.{position}
@@ -15,8 +15,8 @@ use Rattle.kr_tree.specs.declared.place.ProcAt.{ProcAt}
 use Rattle.kr_tree.specs.declared.place.ProcAt.TheVariants.{SelfLink, Dir, Cwd, Root, Exe, FdDir, Fd}
 use Rattle.kr_tree.specs.Tree.{body_is}
 use Rattle.kr_tree.specs.Names.{host_name, process_names}
-use Rattle.kr_view.specs.View.{Row, row, is_point, stands_at, source_entry}
-use Rattle.kr_view.specs.Component.{Surroundings, SeenPlace, is_shown, is_processes, above}
+use Rattle.kr_view.specs.View.{Row, row, is_node, is_point, stands_at, source_entry}
+use Rattle.kr_view.specs.Component.{Surroundings, SeenPlace, is_directory_at, is_shown, is_processes, above}
 
 abbrev pub Text : Type 0
 Text = List (List ℕ)
@@ -116,20 +116,40 @@ abbrev pub names_below : Text → Text → Option Text
 names_below top [] = if texts_eq top [] then Some [] else None
 names_below top (name ∷ names) = if texts_eq top (name ∷ names) then Some [] else below name (names_below top names)
 
+-- the directory and name of an entry, as an object remembers it; none where it remembers none
+abbrev pub Remembered : Type 0
+Remembered = Option (ℕ × List ℕ)
+
+abbrev pub entry_name : Surroundings → Remembered → Option Text
+entry_name around (Some e) = below e.1 (host_name around.tree e.0)
+entry_name around None = None
+
+-- the host name of an object: of a directory the tree's, of another that of the entry which it remembers
+abbrev pub object_name : Surroundings → Host → Remembered → Option Text
+object_name around host remembered = if is_directory_at around.tree host then directory_name around host else entry_name around remembered
+
 -- the names from the top down, put behind a location
 abbrev pub moved_to : Text → Option Text → Option Text → Option Text
 moved_to location (Some top) (Some text) = option_map (λ names. names ++ location) (names_below top text)
 moved_to location (Some top) None = None
 moved_to location None text = None
 
-abbrev pub guest_name_in : Surroundings → Option Row → Option Text → Option Text
-guest_name_in around (Some r) name = moved_to r.text.location (source_name around r) name
-guest_name_in around None name = None
+-- the source of a mount is called as the mount is located. A file is so whatever its own name is now, and
+-- without one, too; a directory that was removed has no name
+abbrev pub located : Surroundings → Row → Option Text
+located around r = if r.is_dir then option_map (λ top. r.text.location) (host_name around.tree r.source) else Some r.text.location
 
--- the guest name of what has a host name and is seen in a mount
-abbrev pub guest_name : Surroundings → ℕ → Option Text → Option Text
-guest_name around mount name = guest_name_in around (row around.table mount) name
+abbrev pub guest_name_in : Surroundings → Option Row → Host → Remembered → Option Text
+guest_name_in around (Some r) host remembered =
+    if is_node host r.source then located around r
+    else moved_to r.text.location (host_name around.tree r.source) (object_name around host remembered)
+guest_name_in around None host remembered = None
 
--- the guest name of a directory
+-- the guest name of a place, whose object remembers an entry. It goes by the place: the source of its own
+-- mount stands at the location, whatever names the texts would give
+abbrev pub guest_name : Surroundings → Place ℕ → Remembered → Option Text
+guest_name around p remembered = guest_name_in around (row around.table p.mount) p.host remembered
+
+-- the guest name of a directory, which remembers nothing
 abbrev pub guest_directory_name : Surroundings → Place ℕ → Option Text
-guest_directory_name around p = guest_name around p.mount (directory_name around p.host)
+guest_directory_name around p = guest_name around p None
