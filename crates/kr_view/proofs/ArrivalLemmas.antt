@@ -11,14 +11,14 @@ use Rattle.pr_base.specs.declared.errno.Errno.{Errno}
 use Rattle.pr_base.specs.declared.errno.Errno.TheVariants.{EACCES, ENAMETOOLONG, ENOTDIR}
 use Rattle.pr_base.specs.declared.path.WalkMode.{WalkMode}
 use Rattle.pr_base.specs.declared.path.WalkMode.TheVariants as modes
-use Rattle.pr_base.proofs.PathLemmas.{parts_seam, below_root_components}
+use Rattle.pr_base.proofs.PathLemmas.{name_is_part, names_are_parts, part_component, components_seam, names_onto, below_root_components, below_root_absolute}
 use Rattle.pr_base.proofs.WalkLemmas.{walk-none, walk-last, walk-middle}
 use Rattle.kr_inode.specs.declared.user.Right.TheVariants.{Search}
 use Rattle.kr_tree.specs.declared.place.Host.{Host}
 use Rattle.kr_tree.specs.declared.place.Host.TheVariants.{Node, Proc}
 use Rattle.kr_tree.specs.declared.place.Place.{Place}
 use Rattle.kr_tree.specs.declared.place.ProcAt.{ProcAt}
-use Rattle.kr_tree.specs.Tree.{Tree, Body, Directory, RegularFile, SymbolicLink, ProcessDirectory, root, body, body_is, entry, is_directory}
+use Rattle.kr_tree.specs.Tree.{Tree, Inode, inode, Body, Directory, RegularFile, SymbolicLink, ProcessDirectory, root, body, body_is, entry, is_directory}
 use Rattle.kr_tree.specs.Rights.{may}
 use Rattle.kr_tree.proofs.NameLemmas.{some_is}
 use Rattle.kr_tree.proofs.EntryLemmas.{body_test}
@@ -29,12 +29,12 @@ use Rattle.kr_view.specs.Component.{Surroundings, SeenPlace, look, inside, named
 use Rattle.kr_view.specs.Laws.{is_link}
 use Rattle.kr_view.specs.Names.{Text}
 use Rattle.kr_view.specs.Walk.{PlaceTarget, looking, place_walk}
-use Rattle.kr_view.specs.HostReach.{is_link_at, is_there_at, host_place, object_in}
-use Rattle.kr_view.specs.PathParts.{IsPart}
+use Rattle.kr_view.specs.InTree.{IsObjectOf}
+use Rattle.kr_view.specs.HostReach.{is_link_at, host_place, object_in, reaches}
 use Rattle.kr_view.specs.Steps.{here_target}
 use Rattle.kr_view.specs.ReachLaws.{reaches_in, slashed, IsJoined, IsNameBelow, WalksGoOnBehindTexts, EntriesAreFound, TextsAreFound}
-use Rattle.kr_view.proofs.HostReachLemmas.{last_object}
-use Rattle.kr_view.proofs.PathEndLemmas.{name_is_part, part_alone, part_component, components_joined, absolute_below, ends_behind, slash_behind, part_no_slash, part_relative, names_onto}
+use Rattle.kr_view.proofs.HostReachLemmas.{last_object, below_processes}
+use Rattle.kr_view.proofs.PathEndLemmas.{slash_behind, slashed_parts, slashed_has, slashed_relative}
 
 -- ---- what stands at an object
 
@@ -44,10 +44,14 @@ seen_object around (Some x) = seen_at around (host_place x) x
 seen_object around None = Missing
 
 -- what is there and no link is led to
-pub led_to : (around : Surroundings) (p : Place ℕ) (x : Host) → is_there_at around.tree x ≡ true → is_link_at around.tree x ≡ false → seen_at around p x ≡ Leads (is_directory_at around.tree x) p p
+pub led_to : (around : Surroundings) (p : Place ℕ) (x : Host) → IsObjectOf around.tree x → is_link_at around.tree x ≡ false → seen_at around p x ≡ Leads (is_directory_at around.tree x) p p
 led_to around p (Node i) there firm =
-    by (body around.tree i) there (sym (body_test is_link around.tree i) ∙ firm) ∙ ap (λ b. Leads b p p) (sym (body_test is_directory around.tree i))
+    by (body around.tree i) (bodied (inode around.tree i) there) (sym (body_test is_link around.tree i) ∙ firm) ∙ ap (λ b. Leads b p p) (sym (body_test is_directory around.tree i))
   where
+    bodied : (o : Option Inode) → is_there o ≡ true → is_there (option_map (λ (x : Inode). x.node.body) o) ≡ true
+    bodied None there = there
+    bodied (Some x) there = refl
+
     by : (o : Option Body) → is_there o ≡ true → option_map_or is_link o false ≡ false → seen_body p o ≡ Leads (option_map_or is_directory o false) p p
     by None there firm = absurd cc
     by (Some (Directory es st)) there firm = refl
@@ -60,14 +64,14 @@ led_to around p (Proc i at) there firm = by (is_process_directory at) (around.le
     by true l firm = refl
     by false l firm = absurd cc
 
--- a directory is there and no link
-pub directory_there : (t : Tree) (x : Host) → is_directory_at t x ≡ true → is_there_at t x ≡ true
-directory_there t (Node i) dir = by (body t i) (sym (body_test is_directory t i) ∙ dir)
+-- a directory that is reached is there, and it is no link
+pub directory_there : (around : Surroundings) (text : Text) (x : Host) → reaches_in around text ≡ Some x → is_directory_at around.tree x ≡ true → IsObjectOf around.tree x
+directory_there around text (Node i) way dir = by (inode around.tree i) dir
   where
-    by : (o : Option Body) → option_map_or is_directory o false ≡ true → is_there o ≡ true
+    by : (o : Option Inode) → option_map_or (λ (x : Inode). is_directory x.node.body) o false ≡ true → is_there o ≡ true
     by None dir = absurd cc
-    by (Some b) dir = refl
-directory_there t (Proc i at) dir = refl
+    by (Some x) dir = refl
+directory_there around text (Proc i at) way dir = (below_processes around.tree around.user around.finds text i at way).processes
 
 pub directory_firm : (t : Tree) (x : Host) → is_directory_at t x ≡ true → is_link_at t x ≡ false
 directory_firm t (Node i) dir = body_test is_link t i ∙ by (body t i) (sym (body_test is_directory t i) ∙ dir)
@@ -130,7 +134,7 @@ module _ (around : Surroundings) (mode : WalkMode) (left : ℕ) (again : Onward 
       ap (λ b. (if b then jumps_on left (ends_landed mode sl) lead else ends (target_at s c sl (Some found))).answer) stays ∙ ap (λ f. Ok (target_at s c sl (Some f))) at
 
   -- what is there is found as the last component
-  pub last_object_found : (p : Place ℕ) (x : Host) → is_there_at around.tree x ≡ true → (is_followed mode sl ≡ true → is_link_at around.tree x ≡ false)
+  pub last_object_found : (p : Place ℕ) (x : Host) → IsObjectOf around.tree x → (is_followed mode sl ≡ true → is_link_at around.tree x ≡ false)
       → behind (seen_at around p x) ≡ (ends_found mode (is_directory_at around.tree x) (target_at s c sl (Some p))).answer
   last_object_found p x there firm = by (is_link_at around.tree x) refl
     where
@@ -183,13 +187,13 @@ module _ (around : Surroundings) (is_plain : around.table ≡ plain) where
   name_short name is = let most = is.short in grind (arith, nat_tests)
 
   -- along a text that is reached a walk comes to what it reaches, and goes on from there
-  pub arrives : (mode : WalkMode) (left : ℕ) (text : Text) (x : Host) (c : Component) (cs : List Component) (sl : Bool) → AreNames text → reaches_in around text ≡ Some x → is_there_at around.tree x ≡ true → is_link_at around.tree x ≡ false
+  pub arrives : (mode : WalkMode) (left : ℕ) (text : Text) (x : Host) (c : Component) (cs : List Component) (sl : Bool) → AreNames text → reaches_in around text ≡ Some x → IsObjectOf around.tree x → is_link_at around.tree x ≡ false
       → (walk_on (looking around) mode left (node_in 0 root) (map Name (reverse text) ++ c ∷ cs) sl).answer ≡ (walk_on (looking around) mode left (host_place x) (c ∷ cs) sl).answer
   arrives mode left [] x c cs sl are way there firm = let same : Node root ≡ x = some_is (Node root) x way in ap (λ x. (walk_on (looking around) mode left (host_place x) (c ∷ cs) sl).answer) same
   arrives mode left (name ∷ text) x c cs sl are way there firm =
       let s = last_object around.tree around.user around.finds text name x way in
       ap (λ cs. (walk_on (looking around) mode left (node_in 0 root) cs sl).answer) (names_onto text name (c ∷ cs))
-      ∙ arrives mode left text s.dir (Name name) (c ∷ cs) sl (All-tail IsName name text are) s.way (directory_there around.tree s.dir s.is_dir) (directory_firm around.tree s.dir s.is_dir)
+      ∙ arrives mode left text s.dir (Name name) (c ∷ cs) sl (All-tail IsName name text are) s.way (directory_there around text s.dir s.way s.is_dir) (directory_firm around.tree s.dir s.is_dir)
       ∙ ap (λ t. t.answer) (walk-middle (looking around) mode left (host_place s.dir) (Name name) c cs sl)
       ∙ ap (λ seen. (in_middle (looking around) left (onward (looking around) mode left) (host_place s.dir) (c ∷ cs) sl (λ q. walk_on (looking around) mode left q (c ∷ cs) sl) seen).answer)
       (look_object s.dir x name s.is_dir s.search (name_short name (All-head IsName name text are)) s.there ∙ led_to around (host_place x) x there firm)
@@ -209,18 +213,18 @@ module _ (around : Surroundings) (is_plain : around.table ≡ plain) where
     components : components_of front ≡ map Name (reverse text)
 
   front_of : (text : Text) (more path : List ℕ) → AreNames text → IsJoined text more path → Front text more path
-  front_of text more path are (inr e) = record { front = below_root text; joined = e; absolute = absolute_below text more; components = below_root_components text are }
+  front_of text more path are (inr e) = record { front = below_root text; joined = e; absolute = below_root_absolute text more; components = below_root_components text (names_are_parts text are) }
   front_of [] more path are (inl e) = record { front = slash ∷ []; joined = e; absolute = refl; components = refl }
-  front_of (name ∷ text) more path are (inl e) = record { front = below_root (name ∷ text); joined = e; absolute = absolute_below (name ∷ text) more; components = below_root_components (name ∷ text) are }
+  front_of (name ∷ text) more path are (inl e) = record { front = below_root (name ∷ text); joined = e; absolute = below_root_absolute (name ∷ text) more; components = below_root_components (name ∷ text) (names_are_parts (name ∷ text) are) }
 
-  pub goes_on : (mode : WalkMode) (base : Place ℕ) (text : Text) (x : Host) (more path : List ℕ) → AreNames text → reaches_in around text ≡ Some x → is_there_at around.tree x ≡ true → is_link_at around.tree x ≡ false
+  pub goes_on : (mode : WalkMode) (base : Place ℕ) (text : Text) (x : Host) (more path : List ℕ) → AreNames text → reaches_in around text ≡ Some x → IsObjectOf around.tree x → is_link_at around.tree x ≡ false
       → is_absolute more ≡ false → has_parts (parts_of more) ≡ true → IsJoined text more path → (place_walk around mode base path).answer ≡ (place_walk around mode (host_place x) more).answer
   goes_on mode base text x more path are way there firm relative some joined =
       let f = front_of text more path are joined in
       let all = f.front ++ slash ∷ more in
       ap (λ path. (place_walk around mode base path).answer) f.joined
       ∙ ap (λ t. t.answer) (root_walk mode base all f.absolute)
-      ∙ ap (λ cs. (walk_on (looking around) mode most_links (node_in 0 root) cs (has_slash all)).answer) (components_joined f.front more ∙ ap (λ cs. cs ++ components_of more) f.components)
+      ∙ ap (λ cs. (walk_on (looking around) mode most_links (node_in 0 root) cs (has_slash all)).answer) (components_seam f.front more ∙ ap (λ cs. cs ++ components_of more) f.components)
       ∙ ap (λ sl. (walk_on (looking around) mode most_links (node_in 0 root) (map Name (reverse text) ++ components_of more) sl).answer) (slash_behind f.front more some)
       ∙ by (parts_of more) some
       ∙ ap (λ b. (walk_on (looking around) mode most_links (if b then root_place around.table else host_place x) (components_of more) (has_slash more)).answer) (sym relative)
@@ -235,20 +239,6 @@ walks_go_on_behind_texts around mode base text x more path is_plain are way ther
 
 -- ---- at a name
 
-slashed_parts : (sl : Bool) (name : List ℕ) → IsPart name → parts_of (slashed sl name) ≡ name ∷ []
-slashed_parts true name is = parts_seam name [] ∙ append-nil (parts_of name) ∙ part_alone name is
-slashed_parts false name is = part_alone name is
-
-slashed_has : (sl : Bool) (name : List ℕ) → IsPart name → has_slash (slashed sl name) ≡ sl
-slashed_has true name is =
-    ap (λ p. if has_parts p then ends_in_slash (name ++ slash ∷ []) else false) (slashed_parts true name is) ∙ ends_behind name (slash ∷ []) (λ e. absurd cc)
-slashed_has false name is = part_no_slash name is
-
-slashed_relative : (sl : Bool) (name : List ℕ) → IsPart name → is_absolute (slashed sl name) ≡ false
-slashed_relative sl [] is = absurd (is.some refl)
-slashed_relative true (b ∷ bs) is = part_relative (b ∷ bs) is
-slashed_relative false (b ∷ bs) is = part_relative (b ∷ bs) is
-
 module _ (around : Surroundings) (mode : WalkMode) (base : Place ℕ) (text : Text) (dir : Host) (name : List ℕ) (sl : Bool) (path : List ℕ) (n : IsNameBelow around text dir name sl path) where
   abbrev at_name : SeenPlace → Result PlaceTarget Errno
   at_name seen = (at_last (looking around) mode most_links (onward (looking around) mode most_links) (host_place dir) (Name name) sl seen).answer
@@ -259,14 +249,14 @@ module _ (around : Surroundings) (mode : WalkMode) (base : Place ℕ) (text : Te
       let more = slashed sl name in
       let relative = slashed_relative sl name n.is_component in
       let part = slashed_parts sl name n.is_component in
-      goes_on around n.over_plain mode base text dir more path n.names n.reached_dir (directory_there around.tree dir n.is_directory) (directory_firm around.tree dir n.is_directory) relative (ap has_parts part) n.joined
+      goes_on around n.over_plain mode base text dir more path n.names n.reached_dir (directory_there around text dir n.reached_dir n.is_directory) (directory_firm around.tree dir n.is_directory) relative (ap has_parts part) n.joined
       ∙ ap (λ b. (walk_on (looking around) mode most_links (if b then root_place around.table else host_place dir) (components_of more) (has_slash more)).answer) relative
       ∙ ap (λ ps. (walk_on (looking around) mode most_links (host_place dir) (map component_of ps) (has_slash more)).answer) part
       ∙ ap (λ c. (walk_on (looking around) mode most_links (host_place dir) (c ∷ []) (has_slash more)).answer) (part_component name n.is_component)
       ∙ ap (λ b. (walk_on (looking around) mode most_links (host_place dir) (Name name ∷ []) b).answer) (slashed_has sl name n.is_component)
       ∙ ap (λ t. t.answer) (walk-last (looking around) mode most_links (host_place dir) (Name name) sl)
 
-  pub found_at_name : (x : Host) → may_search around.tree around.user dir ≡ true → too_long name ≡ false → object_in around.tree around.finds name dir ≡ Some x → is_there_at around.tree x ≡ true → (is_followed mode sl ≡ true → is_link_at around.tree x ≡ false)
+  pub found_at_name : (x : Host) → may_search around.tree around.user dir ≡ true → too_long name ≡ false → object_in around.tree around.finds name dir ≡ Some x → IsObjectOf around.tree x → (is_followed mode sl ≡ true → is_link_at around.tree x ≡ false)
       → (place_walk around mode base path).answer ≡ (ends_found mode (is_directory_at around.tree x) (target_at (host_place dir) (Name name) sl (Some (host_place x)))).answer
   found_at_name x search short there is firm =
       name_walk ∙ ap at_name (look_object around n.over_plain dir x name n.is_directory search short there)
@@ -285,7 +275,7 @@ module _ (around : Surroundings) (mode : WalkMode) (base : Place ℕ) (text : Te
 
 -- in mode Name the target is that name of the directory, with what stands there
 pub entry_at_name : (around : Surroundings) (base : Place ℕ) (text : Text) (dir : Host) (name : List ℕ) (sl : Bool) (path : List ℕ) → IsNameBelow around text dir name sl path
-    → may_search around.tree around.user dir ≡ true → too_long name ≡ false → ((x : Host) → object_in around.tree around.finds name dir ≡ Some x → is_there_at around.tree x ≡ true)
+    → may_search around.tree around.user dir ≡ true → too_long name ≡ false → ((x : Host) → object_in around.tree around.finds name dir ≡ Some x → IsObjectOf around.tree x)
     → (place_walk around modes.Name base path).answer ≡ Ok (target_at (host_place dir) (Name name) sl (option_map host_place (object_in around.tree around.finds name dir)))
 entry_at_name around base text dir name sl path n search short there = by (object_in around.tree around.finds name dir) refl
   where
@@ -304,7 +294,7 @@ entries_are_found = record {
 
 -- ---- at the end of a text
 
-pub target_found : (around : Surroundings) (mode : WalkMode) (base : Place ℕ) (name : List ℕ) (text : Text) (x : Host) (sl : Bool) → around.table ≡ plain → AreNames (name ∷ text) → reaches_in around (name ∷ text) ≡ Some x → is_there_at around.tree x ≡ true
+pub target_found : (around : Surroundings) (mode : WalkMode) (base : Place ℕ) (name : List ℕ) (text : Text) (x : Host) (sl : Bool) → around.table ≡ plain → AreNames (name ∷ text) → reaches_in around (name ∷ text) ≡ Some x → IsObjectOf around.tree x
     → (is_followed mode sl ≡ true → is_link_at around.tree x ≡ false)
     → (dir : Host) × (reaches_in around text ≡ Some dir) × ((place_walk around mode base (slashed sl (text_of (name ∷ text)))).answer ≡ (ends_found mode (is_directory_at around.tree x) (target_at (host_place dir) (Name name) sl (Some (host_place x)))).answer)
 target_found around mode base name text x sl is_plain are way there firm =
@@ -324,7 +314,7 @@ target_found around mode base name text x sl is_plain are way there firm =
     slash_moved true = append_assoc (below_root text) (slash ∷ name) (slash ∷ [])
     slash_moved false = refl
 
-pub text_found : (around : Surroundings) (mode : WalkMode) (base : Place ℕ) (text : Text) (x : Host) (sl : Bool) → around.table ≡ plain → AreNames text → reaches_in around text ≡ Some x → is_there_at around.tree x ≡ true
+pub text_found : (around : Surroundings) (mode : WalkMode) (base : Place ℕ) (text : Text) (x : Host) (sl : Bool) → around.table ≡ plain → AreNames text → reaches_in around text ≡ Some x → IsObjectOf around.tree x
     → (is_followed mode sl ≡ true → is_link_at around.tree x ≡ false) → (wants_directory mode sl ≡ true → is_directory_at around.tree x ≡ true)
     → (t : PlaceTarget) × ((place_walk around mode base (slashed sl (text_of text))).answer ≡ Ok t) × (t.found ≡ Some (host_place x))
 text_found around mode base [] x sl is_plain are way there firm wanted =

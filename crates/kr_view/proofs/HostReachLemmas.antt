@@ -9,15 +9,19 @@ use Rattle.kr_tree.specs.declared.place.Host.{Host}
 use Rattle.kr_tree.specs.declared.place.Host.TheVariants.{Node, Proc}
 use Rattle.kr_tree.specs.declared.place.ProcAt.{ProcAt}
 use Rattle.kr_tree.specs.Tree.{Tree, Body, root, body, body_is, entry, is_directory}
-use Rattle.kr_tree.specs.Names.{named, reached}
+use Rattle.kr_tree.specs.Names.{named, reached, process_names}
 use Rattle.kr_tree.specs.Lawful.{IsSound, HasItsInodes}
 use Rattle.kr_tree.proofs.NameLemmas.{then_some, some_is}
 use Rattle.kr_tree.proofs.EntryLemmas.{guarded, body_test, filled_body, entry_in_directory, entry_named_well, named_once, named_there, last_step, step_more, reached-named}
 use Rattle.kr_view.specs.View.{is_there}
-use Rattle.kr_view.specs.Component.{is_processes, is_directory_at, may_search}
+use Rattle.kr_view.specs.declared.procs.Lead.{Lead}
+use Rattle.kr_view.specs.Component.{Finds, is_processes, is_directory_at, may_search}
 use Rattle.kr_view.specs.Names.{Text}
-use Rattle.kr_view.specs.HostReach.{Finds, is_there_at, object_in, object_searched, reaches}
-use Rattle.kr_view.specs.ReachLaws.{HasWellFormedNames, IsBelowProcesses, ReachesGoByNames, ReachesAreSound}
+use Rattle.kr_view.specs.InTree.{IsObjectOf}
+use Rattle.kr_view.specs.Processes.{LawsOfProcesses, names_down_to}
+use Rattle.kr_view.specs.HostReach.{object_in, object_searched, reaches}
+use Rattle.kr_view.proofs.ProcessNameLemmas.{found_under_name}
+use Rattle.kr_view.specs.ReachLaws.{IsBelowProcesses, ReachesGoByNames, ReachesAreSound}
 
 -- ---- one name more
 
@@ -140,31 +144,50 @@ reaches_go_by_names = record { inode_reached = inode_reached; reached_inode = re
 
 -- ---- in a tree that is kept
 
-pub reached_there : (t : Tree) (user : User) (finds : Finds) (text : Text) (x : Host) → IsSound t → HasItsInodes t → reaches t user finds text ≡ Some x → is_there_at t x ≡ true
+pub reached_there : (t : Tree) (user : User) (finds : Finds) (text : Text) (x : Host) → IsSound t → HasItsInodes t → reaches t user finds text ≡ Some x → IsObjectOf t x
 reached_there t user finds text (Node i) sound inodes e =
     let x = named_there t sound inodes text i (reached-named t user text i (reached_inode t user finds text i e)) in
-    ap (λ o. is_there (option_map (λ x. x.node.body) o)) x.1
-reached_there t user finds text (Proc i at) sound inodes e = refl
+    ap is_there x.1
+reached_there t user finds text (Proc i at) sound inodes e = (below_processes t user finds text i at e).processes
 
 -- what stands in a directory stands under a name
-pub object_name : (t : Tree) (finds : Finds) → IsSound t → HasWellFormedNames finds → (name : List ℕ) (dir x : Host) → object_in t finds name dir ≡ Some x → IsName name
-object_name t finds sound well name dir (Node i) e = let n = entry_in t finds name dir i e in entry_named_well t sound n.ino name i n.there
-object_name t finds sound well name dir (Proc i at) e = by dir (found_in t finds name dir i at e)
+pub object_name : (t : Tree) (finds : Finds) (leads : ProcAt → Lead ℕ) → IsSound t → LawsOfProcesses finds leads → (name : List ℕ) (dir x : Host) → object_in t finds name dir ≡ Some x → IsName name
+object_name t finds leads sound laws name dir (Node i) e = let n = entry_in t finds name dir i e in entry_named_well t sound n.ino name i n.there
+object_name t finds leads sound laws name dir (Proc i at) e = by dir (found_in t finds name dir i at e)
   where
     by : (dir : Host) → IsFoundIn t finds name i at dir → IsName name
-    by _ (at_top is found) = well None name at found
-    by _ (below_top up found) = well (Some up) name at found
+    by _ (at_top is found) = found_under_name finds leads laws None name at found
+    by _ (below_top up found) = found_under_name finds leads laws (Some up) name at found
 
-pub reached_names : (t : Tree) (user : User) (finds : Finds) (text : Text) (x : Host) → IsSound t → HasWellFormedNames finds → reaches t user finds text ≡ Some x → AreNames text
-reached_names t user finds [] x sound well e = All-nil IsName
-reached_names t user finds (name ∷ text) x sound well e =
+pub reached_names : (t : Tree) (user : User) (finds : Finds) (leads : ProcAt → Lead ℕ) (text : Text) (x : Host) → IsSound t → LawsOfProcesses finds leads → reaches t user finds text ≡ Some x → AreNames text
+reached_names t user finds leads [] x sound laws e = All-nil IsName
+reached_names t user finds leads (name ∷ text) x sound laws e =
     let s = last_object t user finds text name x e in
-    All-cons IsName name text (object_name t finds sound well name s.dir x s.there) (reached_names t user finds text s.dir sound well s.way)
+    All-cons IsName name text (object_name t finds leads sound laws name s.dir x s.there) (reached_names t user finds leads text s.dir sound laws s.way)
+
+-- what stands in a process directory has its names behind the text of that
+IsNamedBelow : Tree → User → Text → ℕ → ProcAt → Type 0
+IsNamedBelow t user text i at = (top : Text) × (text ≡ process_names at ++ top) × (reached t user top ≡ Some i)
+
+pub reached_process : (t : Tree) (user : User) (finds : Finds) (leads : ProcAt → Lead ℕ) (text : Text) (i : ℕ) (at : ProcAt) → LawsOfProcesses finds leads → reaches t user finds text ≡ Some (Proc i at)
+    → (top : Text) × (text ≡ process_names at ++ top) × (reached t user top ≡ Some i)
+unfolding IsNamedBelow
+reached_process t user finds leads [] i at laws e = absurd cc
+reached_process t user finds leads (name ∷ text) i at laws e =
+    let s = last_object t user finds text name (Proc i at) e in
+    by s.dir s.way (λ up way. reached_process t user finds leads text i up laws way) (found_in t finds name s.dir i at s.there)
+  where
+    by : (dir : Host) → reaches t user finds text ≡ Some dir → ((up : ProcAt) → reaches t user finds text ≡ Some (Proc i up) → IsNamedBelow t user text i up) → IsFoundIn t finds name i at dir → IsNamedBelow t user (name ∷ text) i at
+    by _ way above (at_top is found) = (text, ap (λ names. names ++ text) (sym (laws.named None name at found)), reached_inode t user finds text i way)
+    by _ way above (below_top up found) =
+        let b = above up way in
+        (b.0, ap (λ text. name ∷ text) b.1 ∙ ap (λ names. names ++ b.0) (sym (laws.named (Some up) name at found)), b.2)
 
 pub reaches_are_sound : ReachesAreSound
 reaches_are_sound = record {
   there = reached_there;
   names = reached_names;
+  process_names = reached_process;
   once = λ t user finds one two i sound h k is.
       named_once t sound one two i (reached-named t user one i (reached_inode t user finds one i h)) (reached-named t user two i (reached_inode t user finds two i k)) is;
 }

@@ -15,6 +15,7 @@ pub mod OutcomeLemmas
 pub mod PathEndLemmas
 pub mod PlaceLemmas
 pub mod ProcessLemmas
+pub mod ProcessNameLemmas
 pub mod ReachLemmas
 pub mod ReachedLemmas
 pub mod ResolveLemmas

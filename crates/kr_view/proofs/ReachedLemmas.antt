@@ -7,23 +7,23 @@ use Rattle.pr_base.specs.declared.path.WalkMode.{WalkMode}
 use Rattle.pr_base.specs.declared.path.WalkMode.TheVariants as modes
 use Rattle.kr_tree.specs.declared.place.Host.TheVariants.{Node}
 use Rattle.kr_tree.specs.declared.place.Place.{Place}
-use Rattle.kr_tree.specs.Tree.{Tree, Body, body}
+use Rattle.kr_tree.specs.Tree.{Tree, Inode, inode, body}
 use Rattle.kr_tree.specs.Names.{reached}
-use Rattle.kr_tree.proofs.EntryLemmas.{body_test}
 use Rattle.kr_view.specs.View.{node_in, is_there, plain}
 use Rattle.kr_view.specs.Component.{Surroundings}
 use Rattle.kr_view.specs.Walk.{PlaceTarget, place_walk}
 use Rattle.kr_view.specs.Laws.{is_link}
-use Rattle.kr_view.specs.HostReach.{is_link_at, is_there_at}
+use Rattle.kr_view.specs.InTree.{IsObjectOf}
+use Rattle.kr_view.specs.HostReach.{is_link_at}
 use Rattle.kr_view.proofs.HostReachLemmas.{inode_reached}
 use Rattle.kr_view.proofs.ArrivalLemmas.{text_found}
 
-there_and_firm : (t : Tree) (i : ℕ) → option_map is_link (body t i) ≡ Some false → (is_there_at t (Node i) ≡ true) × (is_link_at t (Node i) ≡ false)
-there_and_firm t i h = let firm = by (body t i) h in (firm.0, body_test is_link t i ∙ firm.1)
+there_and_firm : (t : Tree) (i : ℕ) → option_map is_link (body t i) ≡ Some false → IsObjectOf t (Node i) × (is_link_at t (Node i) ≡ false)
+there_and_firm t i h = by (inode t i) h
   where
-    by : (o : Option Body) → option_map is_link o ≡ Some false → (is_there o ≡ true) × (option_map_or is_link o false ≡ false)
+    by : (o : Option Inode) → option_map is_link (option_map (λ x. x.node.body) o) ≡ Some false → (is_there o ≡ true) × (option_map_or (λ x. is_link x.node.body) o false ≡ false)
     by None h = absurd cc
-    by (Some b) h = let firm : is_link b ≡ false = cc in (refl, firm)
+    by (Some x) h = let firm : is_link x.node.body ≡ false = cc in (refl, firm)
 
 unwanted : (mode : WalkMode) → wants_directory mode false ≡ false
 unwanted modes.Look = refl

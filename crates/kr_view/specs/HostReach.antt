@@ -1,20 +1,14 @@
 -- What a host text reaches with search on each directory on the way, in the tree and in the process directory.
-use Rattle.std.specs.Prelude.{ℕ, Bool, true, false, not, List, [], ◌∷◌, Option, Some, None, if◌then◌else◌}
+use Rattle.std.specs.Prelude.{ℕ, Bool, not, List, [], ◌∷◌, Option, Some, None, if◌then◌else◌}
 use Rattle.std.specs.Option.{option_map, option_and_then}
 use Rattle.kr_inode.specs.declared.user.User.{User}
 use Rattle.kr_tree.specs.declared.place.Host.{Host}
 use Rattle.kr_tree.specs.declared.place.Host.TheVariants.{Node, Proc}
 use Rattle.kr_tree.specs.declared.place.Place.{Place}
-use Rattle.kr_tree.specs.declared.place.ProcAt.{ProcAt}
-use Rattle.kr_tree.specs.Tree.{Tree, root, body, body_is, entry}
-use Rattle.kr_view.specs.View.{is_there}
+use Rattle.kr_tree.specs.Tree.{Tree, root, body_is, entry}
 use Rattle.kr_view.specs.Laws.{is_link}
-use Rattle.kr_view.specs.Component.{is_process_directory, is_processes, is_directory_at, may_search}
+use Rattle.kr_view.specs.Component.{Finds, is_process_directory, is_processes, is_directory_at, may_search}
 use Rattle.kr_view.specs.Names.{Text}
-
--- what the process directory shows under a name, by the directory in it where the name is looked up
-abbrev pub Finds : Type 0
-Finds = Option ProcAt → List ℕ → Option ProcAt
 
 -- ---- objects of the host
 
@@ -22,11 +16,6 @@ Finds = Option ProcAt → List ℕ → Option ProcAt
 abbrev pub is_link_at : Tree → Host → Bool
 is_link_at t (Node i) = body_is is_link t i
 is_link_at t (Proc i at) = not (is_process_directory at)
-
--- whether an object is in the tree; of the process directory only what it shows is spoken of
-abbrev pub is_there_at : Tree → Host → Bool
-is_there_at t (Node i) = is_there (body t i)
-is_there_at t (Proc i at) = true
 
 -- an object as the host's own view sees it
 abbrev pub host_place : Host → Place ℕ

@@ -9,7 +9,6 @@ pub mod Laws
 pub mod Leads
 pub mod Names
 pub mod Parts
-pub mod PathParts
 pub mod Positions
 pub mod Processes
 pub mod Reach
