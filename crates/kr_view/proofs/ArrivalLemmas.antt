@@ -1,25 +1,24 @@
 -- Walks of the host's own view along texts that are reached.
-use Rattle.std.proofs.Common.{◌≡◌, ◌≢◌, ◌||◌, ℕ, Bool, true, false, not, inl, inr, List, [], ◌∷◌, ◌++◌, map, reverse, Option, Some, None, Result, Ok, Err, refl, sym, ap, subst, ◌∙◌, arith, append_assoc, append-nil}
+use Rattle.std.proofs.Common.{◌≡◌, ◌||◌, ℕ, Bool, true, false, not, inl, inr, List, [], ◌∷◌, ◌++◌, map, reverse, Option, Some, None, Result, Ok, Err, refl, sym, ap, ◌∙◌, arith, append_assoc, append-nil}
 use Rattle.std.specs.Bool.{if◌then◌else◌}
 use Rattle.std.specs.Option.{option_map, option_map_or}
 use Rattle.std.proofs.lemmas.Bool.{false_from_ne_true}
 use Rattle.std.proofs.lemmas.Bool.Decides.{nat_tests}
 use Rattle.std.proofs.lemmas.List.Elements.{All-head, All-tail}
-use Rattle.pr_base.specs.Paths.{Component, Name, slash, has_parts, ends_in_slash, has_slash, parts_of, component_of, components_of, is_absolute, below_root, text_of, IsName, AreNames}
-use Rattle.pr_base.specs.WalkFrame.{Seen, Fails, Missing, Leads, Links, Jumps, Onward, Target, begins_at, most_links, walk_on, onward, in_middle, at_last, is_followed, wants_directory, target_at, ends, fails, ends_found, ends_missing, ends_landed, jumps_on}
+use Rattle.pr_base.specs.Paths.{Component, Dot, Name, slash, dot, has_parts, has_slash, parts_of, component_of, components_of, is_absolute, below_root, text_of, name_path, IsName, AreNames}
+use Rattle.pr_base.specs.WalkFrame.{Fails, Missing, Leads, Links, Jumps, Onward, here, begins_at, most_links, walk_on, onward, in_middle, at_last, is_followed, wants_directory, target_at, ends, fails, ends_found, ends_missing, ends_landed, jumps_on}
 use Rattle.pr_base.specs.declared.errno.Errno.{Errno}
 use Rattle.pr_base.specs.declared.errno.Errno.TheVariants.{EACCES, ENAMETOOLONG, ENOTDIR}
 use Rattle.pr_base.specs.declared.path.WalkMode.{WalkMode}
 use Rattle.pr_base.specs.declared.path.WalkMode.TheVariants as modes
 use Rattle.pr_base.proofs.PathLemmas.{name_is_part, names_are_parts, part_component, components_seam, names_onto, below_root_components, below_root_absolute}
 use Rattle.pr_base.proofs.WalkLemmas.{walk-none, walk-last, walk-middle}
-use Rattle.kr_inode.specs.declared.user.Right.TheVariants.{Search}
+use Rattle.pr_base.specs.Texts.{Text}
 use Rattle.kr_tree.specs.declared.place.Host.{Host}
 use Rattle.kr_tree.specs.declared.place.Host.TheVariants.{Node, Proc}
 use Rattle.kr_tree.specs.declared.place.Place.{Place}
 use Rattle.kr_tree.specs.declared.place.ProcAt.{ProcAt}
 use Rattle.kr_tree.specs.Tree.{Tree, Inode, inode, Body, Directory, RegularFile, SymbolicLink, ProcessDirectory, root, body, body_is, entry, is_directory}
-use Rattle.kr_tree.specs.Rights.{may}
 use Rattle.kr_tree.proofs.NameLemmas.{some_is}
 use Rattle.kr_tree.proofs.EntryLemmas.{body_test}
 use Rattle.kr_view.specs.declared.procs.Lead.{Lead}
@@ -27,12 +26,10 @@ use Rattle.kr_view.specs.declared.procs.Lead.TheVariants.{Text as TextLead, Jump
 use Rattle.kr_view.specs.View.{Row, node_in, is_there, root_place, plain, down}
 use Rattle.kr_view.specs.Component.{Surroundings, SeenPlace, look, inside, named_in, through_point, too_long, seen_at, seen_in_processes, seen_entry, seen_body, seen_link, is_processes, is_process_directory, is_directory_at, may_search, shows_directory}
 use Rattle.kr_view.specs.Laws.{is_link}
-use Rattle.kr_view.specs.Names.{Text}
 use Rattle.kr_view.specs.Walk.{PlaceTarget, looking, place_walk}
 use Rattle.kr_view.specs.InTree.{IsObjectOf}
-use Rattle.kr_view.specs.HostReach.{is_link_at, host_place, object_in, reaches}
-use Rattle.kr_view.specs.Steps.{here_target}
-use Rattle.kr_view.specs.ReachLaws.{reaches_in, slashed, IsJoined, IsNameBelow, WalksGoOnBehindTexts, EntriesAreFound, TextsAreFound}
+use Rattle.kr_view.specs.HostReach.{is_link_at, host_place, object_in}
+use Rattle.kr_view.specs.ReachLaws.{reaches_in, slashed, IsJoined, IsNamePath, IsNameBelow, WalksGoOnBehindTexts, EntriesAreFound, TextsAreFound, DirectoriesAreSearched}
 use Rattle.kr_view.proofs.HostReachLemmas.{last_object, below_processes}
 use Rattle.kr_view.proofs.PathEndLemmas.{slash_behind, slashed_parts, slashed_has, slashed_relative}
 
@@ -111,7 +108,14 @@ link_seen around p (Proc i at) link = by (is_process_directory at) (around.leads
     by false Nameless link = refl
     by false NoLink link = refl
 
--- where a link isn't followed, no directory is asked for
+-- without a slash no directory is asked for
+pub unasked : (mode : WalkMode) → wants_directory mode false ≡ false
+unasked modes.Look = refl
+unasked modes.LookLink = refl
+unasked modes.Name = refl
+unasked modes.Open = refl
+
+-- nor where a link isn't followed
 unwanted : (mode : WalkMode) (sl : Bool) → is_followed mode sl ≡ false → wants_directory mode sl ≡ false
 unwanted modes.Look sl h = absurd cc
 unwanted modes.LookLink sl h = h
@@ -239,6 +243,14 @@ walks_go_on_behind_texts around mode base text x more path is_plain are way ther
 
 -- ---- at a name
 
+name_joined : (text : Text) (name : List ℕ) (sl : Bool) (path : List ℕ) → IsNamePath text name sl path → IsJoined text (slashed sl name) path
+name_joined text name sl path (inr e) = inl e
+name_joined text name sl path (inl e) = inr (e ∙ ap (λ more. below_root text ++ slash ∷ more) (by sl))
+  where
+    by : (sl : Bool) → name ++ (if sl then slash ∷ [] else []) ≡ slashed sl name
+    by true = refl
+    by false = append-nil name
+
 module _ (around : Surroundings) (mode : WalkMode) (base : Place ℕ) (text : Text) (dir : Host) (name : List ℕ) (sl : Bool) (path : List ℕ) (n : IsNameBelow around text dir name sl path) where
   abbrev at_name : SeenPlace → Result PlaceTarget Errno
   at_name seen = (at_last (looking around) mode most_links (onward (looking around) mode most_links) (host_place dir) (Name name) sl seen).answer
@@ -247,13 +259,13 @@ module _ (around : Surroundings) (mode : WalkMode) (base : Place ℕ) (text : Te
   pub name_walk : (place_walk around mode base path).answer ≡ at_name (look around (host_place dir) (Name name))
   name_walk =
       let more = slashed sl name in
-      let relative = slashed_relative sl name n.is_component in
-      let part = slashed_parts sl name n.is_component in
-      goes_on around n.over_plain mode base text dir more path n.names n.reached_dir (directory_there around text dir n.reached_dir n.is_directory) (directory_firm around.tree dir n.is_directory) relative (ap has_parts part) n.joined
+      let relative = slashed_relative sl name n.is_part in
+      let part = slashed_parts sl name n.is_part in
+      goes_on around n.over_plain mode base text dir more path n.names n.reached_dir (directory_there around text dir n.reached_dir n.is_directory) (directory_firm around.tree dir n.is_directory) relative (ap has_parts part) (name_joined text name sl path n.written)
       ∙ ap (λ b. (walk_on (looking around) mode most_links (if b then root_place around.table else host_place dir) (components_of more) (has_slash more)).answer) relative
       ∙ ap (λ ps. (walk_on (looking around) mode most_links (host_place dir) (map component_of ps) (has_slash more)).answer) part
-      ∙ ap (λ c. (walk_on (looking around) mode most_links (host_place dir) (c ∷ []) (has_slash more)).answer) (part_component name n.is_component)
-      ∙ ap (λ b. (walk_on (looking around) mode most_links (host_place dir) (Name name ∷ []) b).answer) (slashed_has sl name n.is_component)
+      ∙ ap (λ c. (walk_on (looking around) mode most_links (host_place dir) (c ∷ []) (has_slash more)).answer) (part_component name n.is_part)
+      ∙ ap (λ b. (walk_on (looking around) mode most_links (host_place dir) (Name name ∷ []) b).answer) (slashed_has sl name n.is_part)
       ∙ ap (λ t. t.answer) (walk-last (looking around) mode most_links (host_place dir) (Name name) sl)
 
   pub found_at_name : (x : Host) → may_search around.tree around.user dir ≡ true → too_long name ≡ false → object_in around.tree around.finds name dir ≡ Some x → IsObjectOf around.tree x → (is_followed mode sl ≡ true → is_link_at around.tree x ≡ false)
@@ -305,23 +317,23 @@ target_found around mode base name text x sl is_plain are way there firm =
       names = All-tail IsName name text are;
       reached_dir = s.way;
       is_directory = s.is_dir;
-      is_component = name_is_part name is;
-      joined = inr (slash_moved sl);
+      is_part = name_is_part name is;
+      written = inl (written sl);
     } in
     (s.dir, s.way, found_at_name around mode base text s.dir name sl (slashed sl (text_of (name ∷ text))) n x s.search (name_short around is_plain name is) s.there there firm)
   where
-    slash_moved : (sl : Bool) → slashed sl (below_root text ++ slash ∷ name) ≡ below_root text ++ slash ∷ slashed sl name
-    slash_moved true = append_assoc (below_root text) (slash ∷ name) (slash ∷ [])
-    slash_moved false = refl
+    written : (sl : Bool) → slashed sl (below_root text ++ slash ∷ name) ≡ name_path text name sl
+    written true = append_assoc (below_root text) (slash ∷ name) (slash ∷ [])
+    written false = ap (λ name. below_root text ++ slash ∷ name) (sym (append-nil name))
 
 pub text_found : (around : Surroundings) (mode : WalkMode) (base : Place ℕ) (text : Text) (x : Host) (sl : Bool) → around.table ≡ plain → AreNames text → reaches_in around text ≡ Some x → IsObjectOf around.tree x
     → (is_followed mode sl ≡ true → is_link_at around.tree x ≡ false) → (wants_directory mode sl ≡ true → is_directory_at around.tree x ≡ true)
     → (t : PlaceTarget) × ((place_walk around mode base (slashed sl (text_of text))).answer ≡ Ok t) × (t.found ≡ Some (host_place x))
 text_found around mode base [] x sl is_plain are way there firm wanted =
     let same : Node root ≡ x = some_is (Node root) x way in
-    (here_target (root_place around.table) false, by sl, ap (λ table. Some (root_place table)) is_plain ∙ ap (λ x. Some (host_place x)) same)
+    (here (looking around) (root_place around.table) false, by sl, ap (λ table. Some (root_place table)) is_plain ∙ ap (λ x. Some (host_place x)) same)
   where
-    by : (sl : Bool) → (place_walk around mode base (slashed sl (slash ∷ []))).answer ≡ Ok (here_target (root_place around.table) false)
+    by : (sl : Bool) → (place_walk around mode base (slashed sl (slash ∷ []))).answer ≡ Ok (here (looking around) (root_place around.table) false)
     by true = ap (λ t. t.answer) (walk-none (looking around) mode most_links (root_place around.table) false)
     by false = ap (λ t. t.answer) (walk-none (looking around) mode most_links (root_place around.table) false)
 text_found around mode base (name ∷ text) x sl is_plain are way there firm wanted =
@@ -334,3 +346,17 @@ text_found around mode base (name ∷ text) x sl is_plain are way there firm wan
 
 pub texts_are_found : TextsAreFound
 texts_are_found = record { found = text_found; target = target_found }
+
+-- ---- at a directory itself
+
+pub directories_are_searched : DirectoriesAreSearched
+directories_are_searched around mode base text x path is_plain are way there firm joined =
+    goes_on around is_plain mode base text x dot path are way there firm refl refl joined
+    ∙ ap (λ t. t.answer) (walk-last (looking around) mode most_links (host_place x) Dot false)
+    ∙ by (is_directory_at around.tree x) (may_search around.tree around.user x)
+  where
+    by : (dir open_ : Bool) → (at_last (looking around) mode most_links (onward (looking around) mode most_links) (host_place x) Dot false (if dir then (if open_ then shows_directory (host_place x) else Fails EACCES) else Fails ENOTDIR)).answer
+        ≡ (if dir then (if open_ then Ok (target_at (host_place x) Dot false (Some (host_place x))) else Err EACCES) else Err ENOTDIR)
+    by true true = ap (λ b. (if b then ends (target_at (host_place x) Dot false (Some (host_place x))) else ends (target_at (host_place x) Dot false (Some (host_place x)))).answer) (unasked mode)
+    by true false = refl
+    by false b = refl

@@ -4,11 +4,12 @@ use Rattle.std.specs.Bool.{if◌then◌else◌}
 use Rattle.std.specs.Option.{option_map, option_map_or, option_and_then}
 use Rattle.std.proofs.lemmas.List.Elements.{All-cons, All-nil}
 use Rattle.pr_base.specs.Paths.{IsName, AreNames}
+use Rattle.pr_base.specs.Texts.{Text}
 use Rattle.kr_inode.specs.declared.user.User.{User}
 use Rattle.kr_tree.specs.declared.place.Host.{Host}
 use Rattle.kr_tree.specs.declared.place.Host.TheVariants.{Node, Proc}
 use Rattle.kr_tree.specs.declared.place.ProcAt.{ProcAt}
-use Rattle.kr_tree.specs.Tree.{Tree, Body, root, body, body_is, entry, is_directory}
+use Rattle.kr_tree.specs.Tree.{Tree, root, body_is, entry}
 use Rattle.kr_tree.specs.Names.{named, reached, process_names}
 use Rattle.kr_tree.specs.Lawful.{IsSound, HasItsInodes}
 use Rattle.kr_tree.proofs.NameLemmas.{then_some, some_is}
@@ -16,9 +17,8 @@ use Rattle.kr_tree.proofs.EntryLemmas.{guarded, body_test, filled_body, entry_in
 use Rattle.kr_view.specs.View.{is_there}
 use Rattle.kr_view.specs.declared.procs.Lead.{Lead}
 use Rattle.kr_view.specs.Component.{Finds, is_processes, is_directory_at, may_search}
-use Rattle.kr_view.specs.Names.{Text}
 use Rattle.kr_view.specs.InTree.{IsObjectOf}
-use Rattle.kr_view.specs.Processes.{LawsOfProcesses, names_down_to}
+use Rattle.kr_view.specs.Processes.{LawsOfProcesses}
 use Rattle.kr_view.specs.HostReach.{object_in, object_searched, reaches}
 use Rattle.kr_view.proofs.ProcessNameLemmas.{found_under_name}
 use Rattle.kr_view.specs.ReachLaws.{IsBelowProcesses, ReachesGoByNames, ReachesAreSound}

@@ -1,10 +1,8 @@
 -- A walk along a text that is reached among inodes, over the host's own view.
-use Rattle.std.proofs.Common.{◌≡◌, ℕ, Bool, true, false, List, Option, Some, None, Ok, refl, sym, ◌∙◌}
+use Rattle.std.proofs.Common.{◌≡◌, ℕ, true, false, List, Option, Some, None, Ok, refl, sym, ◌∙◌}
 use Rattle.std.specs.Option.{option_map, option_map_or}
 use Rattle.pr_base.specs.Paths.{AreNames, text_of}
-use Rattle.pr_base.specs.WalkFrame.{wants_directory}
 use Rattle.pr_base.specs.declared.path.WalkMode.{WalkMode}
-use Rattle.pr_base.specs.declared.path.WalkMode.TheVariants as modes
 use Rattle.kr_tree.specs.declared.place.Host.TheVariants.{Node}
 use Rattle.kr_tree.specs.declared.place.Place.{Place}
 use Rattle.kr_tree.specs.Tree.{Tree, Inode, inode, body}
@@ -16,7 +14,7 @@ use Rattle.kr_view.specs.Laws.{is_link}
 use Rattle.kr_view.specs.InTree.{IsObjectOf}
 use Rattle.kr_view.specs.HostReach.{is_link_at}
 use Rattle.kr_view.proofs.HostReachLemmas.{inode_reached}
-use Rattle.kr_view.proofs.ArrivalLemmas.{text_found}
+use Rattle.kr_view.proofs.ArrivalLemmas.{unasked, text_found}
 
 there_and_firm : (t : Tree) (i : ℕ) → option_map is_link (body t i) ≡ Some false → IsObjectOf t (Node i) × (is_link_at t (Node i) ≡ false)
 there_and_firm t i h = by (inode t i) h
@@ -25,15 +23,9 @@ there_and_firm t i h = by (inode t i) h
     by None h = absurd cc
     by (Some x) h = let firm : is_link x.node.body ≡ false = cc in (refl, firm)
 
-unwanted : (mode : WalkMode) → wants_directory mode false ≡ false
-unwanted modes.Look = refl
-unwanted modes.LookLink = refl
-unwanted modes.Name = refl
-unwanted modes.Open = refl
-
 pub reached_is_found : (around : Surroundings) (mode : WalkMode) (base : Place ℕ) (text : List (List ℕ)) (i : ℕ) → around.table ≡ plain → AreNames text → reached around.tree around.user text ≡ Some i
     → option_map is_link (body around.tree i) ≡ Some false → (t : PlaceTarget) × ((place_walk around mode base (text_of text)).answer ≡ Ok t) × (t.found ≡ Some (node_in 0 i))
 reached_is_found around mode base text i is_plain are h no_link =
     let is = there_and_firm around.tree i no_link in
     text_found around mode base text (Node i) false is_plain are (inode_reached around.tree around.user around.finds text i h) is.0 (λ followed. is.1)
-    (λ wanted. let no : false ≡ true = sym (unwanted mode) ∙ wanted in absurd cc)
+    (λ wanted. let no : false ≡ true = sym (unasked mode) ∙ wanted in absurd cc)

@@ -1,6 +1,7 @@
 -- What a host text reaches with search on each directory on the way, in the tree and in the process directory.
 use Rattle.std.specs.Prelude.{ℕ, Bool, not, List, [], ◌∷◌, Option, Some, None, if◌then◌else◌}
 use Rattle.std.specs.Option.{option_map, option_and_then}
+use Rattle.pr_base.specs.Texts.{Text}
 use Rattle.kr_inode.specs.declared.user.User.{User}
 use Rattle.kr_tree.specs.declared.place.Host.{Host}
 use Rattle.kr_tree.specs.declared.place.Host.TheVariants.{Node, Proc}
@@ -8,7 +9,6 @@ use Rattle.kr_tree.specs.declared.place.Place.{Place}
 use Rattle.kr_tree.specs.Tree.{Tree, root, body_is, entry}
 use Rattle.kr_view.specs.Laws.{is_link}
 use Rattle.kr_view.specs.Component.{Finds, is_process_directory, is_processes, is_directory_at, may_search}
-use Rattle.kr_view.specs.Names.{Text}
 
 -- ---- objects of the host
 

@@ -1,9 +1,11 @@
 -- Laws of what host texts reach, and of walks along them over the host's own view.
-use Rattle.std.specs.Prelude.{ℕ, ◌≡◌, ◌⊎◌, Bool, true, false, List, [], ◌∷◌, ◌++◌, Option, Some, None, Ok, Err}
+use Rattle.std.specs.Prelude.{ℕ, ◌≡◌, ◌⊎◌, Bool, true, false, List, [], ◌∷◌, ◌++◌, Option, Some, None, Result, Ok, Err, if◌then◌else◌}
 use Rattle.std.specs.Option.{option_map}
-use Rattle.pr_base.specs.Paths.{Name, slash, parts_of, has_parts, is_absolute, AreNames, IsPart, below_root, text_of}
+use Rattle.pr_base.specs.Paths.{Dot, Name, slash, dot, parts_of, has_parts, is_absolute, AreNames, IsPart, below_root, text_of, name_path}
+use Rattle.pr_base.specs.Texts.{Text}
 use Rattle.pr_base.specs.WalkFrame.{is_followed, wants_directory, target_at, ends_found, ends_missing}
-use Rattle.pr_base.specs.declared.errno.Errno.TheVariants.{EACCES, ENAMETOOLONG}
+use Rattle.pr_base.specs.declared.errno.Errno.{Errno}
+use Rattle.pr_base.specs.declared.errno.Errno.TheVariants.{EACCES, ENAMETOOLONG, ENOTDIR}
 use Rattle.pr_base.specs.declared.path.WalkMode.{WalkMode}
 use Rattle.pr_base.specs.declared.path.WalkMode.TheVariants as modes
 use Rattle.kr_inode.specs.declared.user.User.{User}
@@ -19,7 +21,6 @@ use Rattle.kr_view.specs.View.{plain}
 use Rattle.kr_view.specs.Processes.{LawsOfProcesses}
 use Rattle.kr_view.specs.InTree.{IsObjectOf}
 use Rattle.kr_view.specs.Component.{Finds, Surroundings, is_processes, is_directory_at, may_search, too_long}
-use Rattle.kr_view.specs.Names.{Text}
 use Rattle.kr_view.specs.Walk.{PlaceTarget, place_walk}
 use Rattle.kr_view.specs.HostReach.{is_link_at, host_place, object_in, reaches}
 
@@ -73,14 +74,18 @@ WalksGoOnBehindTexts =
     (around : Surroundings) (mode : WalkMode) (base : Place ℕ) (text : Text) (x : Host) (more path : List ℕ) → around.table ≡ plain → AreNames text → reaches_in around text ≡ Some x → IsObjectOf around.tree x → is_link_at around.tree x ≡ false
     → is_absolute more ≡ false → has_parts (parts_of more) ≡ true → IsJoined text more path → (place_walk around mode base path).answer ≡ (place_walk around mode (host_place x) more).answer
 
--- a name in a directory that a text reaches
+-- a path of a name below a text, with a slash behind it or without
+abbrev pub IsNamePath : Text → List ℕ → Bool → List ℕ → Type 0
+IsNamePath text name behind path = (path ≡ name_path text name behind) ⊎ (path ≡ text_of text ++ slash ∷ slashed behind name)
+
+-- such a path, where the text reaches a directory
 pub record IsNameBelow (around : Surroundings) (text : Text) (dir : Host) (name : List ℕ) (slash_behind : Bool) (path : List ℕ) : Type 0 where
   pub over_plain : around.table ≡ plain
   pub names : AreNames text
   pub reached_dir : reaches_in around text ≡ Some dir
   pub is_directory : is_directory_at around.tree dir ≡ true
-  pub is_component : IsPart name
-  pub joined : IsJoined text (slashed slash_behind name) path
+  pub is_part : IsPart name
+  pub written : IsNamePath text name slash_behind path
 
 -- the walk along a text that reaches a directory, and a name
 pub record EntriesAreFound : Type 0 where
@@ -110,3 +115,15 @@ pub record TextsAreFound : Type 0 where
   pub target : (around : Surroundings) (mode : WalkMode) (base : Place ℕ) (name : List ℕ) (text : Text) (x : Host) (slash_behind : Bool) → around.table ≡ plain → AreNames (name ∷ text) → reaches_in around (name ∷ text) ≡ Some x → IsObjectOf around.tree x
       → (is_followed mode slash_behind ≡ true → is_link_at around.tree x ≡ false)
       → (dir : Host) × (reaches_in around text ≡ Some dir) × ((place_walk around mode base (slashed slash_behind (text_of (name ∷ text)))).answer ≡ (ends_found mode (is_directory_at around.tree x) (target_at (host_place dir) (Name name) slash_behind (Some (host_place x)))).answer)
+
+-- what a walk answers at an object that stands for itself: it must be a directory that may be searched
+abbrev pub searched : Surroundings → Host → Result PlaceTarget Errno
+searched around x =
+    if is_directory_at around.tree x then (if may_search around.tree around.user x then Ok (target_at (host_place x) Dot false (Some (host_place x))) else Err EACCES)
+    else Err ENOTDIR
+
+-- the walk along a text that is reached, and `.`, tells whether it is a directory that may be searched
+abbrev pub DirectoriesAreSearched : Type 0
+DirectoriesAreSearched =
+    (around : Surroundings) (mode : WalkMode) (base : Place ℕ) (text : Text) (x : Host) (path : List ℕ) → around.table ≡ plain → AreNames text → reaches_in around text ≡ Some x → IsObjectOf around.tree x → is_link_at around.tree x ≡ false
+    → IsJoined text dot path → (place_walk around mode base path).answer ≡ searched around x

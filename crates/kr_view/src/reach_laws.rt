@@ -1,5 +1,5 @@
 //! Laws of what host texts reach and of walks along them, each carried by a function that does nothing.
-ghost use Rattle.kr_view.specs.ReachLaws.{EntriesAreFound, ReachesAreSound, ReachesGoByNames, TextsAreFound, WalksGoOnBehindTexts};
+ghost use Rattle.kr_view.specs.ReachLaws.{DirectoriesAreSearched, EntriesAreFound, ReachesAreSound, ReachesGoByNames, TextsAreFound, WalksGoOnBehindTexts};
 
 /// What is reached over hosts is, where it is an inode, what is reached over inodes, and else stands in a
 /// process directory that is reached.
@@ -27,4 +27,10 @@ pub fn entries_are_found()
 /// behind it or without.
 pub fn texts_are_found()
     ensures { TextsAreFound }
+{}
+
+/// Over the host's own view the walk along a text that is reached, and `.`, tells whether a directory is there that
+/// may be searched.
+pub fn directories_are_searched()
+    ensures { DirectoriesAreSearched }
 {}
