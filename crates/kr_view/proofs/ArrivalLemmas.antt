@@ -11,7 +11,7 @@ use Rattle.pr_base.specs.declared.errno.Errno.{Errno}
 use Rattle.pr_base.specs.declared.errno.Errno.TheVariants.{EACCES, ENAMETOOLONG, ENOTDIR}
 use Rattle.pr_base.specs.declared.path.WalkMode.{WalkMode}
 use Rattle.pr_base.specs.declared.path.WalkMode.TheVariants as modes
-use Rattle.pr_base.proofs.PathLemmas.{name_is_part, names_are_parts, part_component, components_seam, names_onto, below_root_components, below_root_absolute}
+use Rattle.pr_base.proofs.PathLemmas.{name_is_part, names_are_parts, part_component, components_seam, names_onto, below_root_components, below_root_absolute, slash_behind}
 use Rattle.pr_base.proofs.WalkLemmas.{walk-none, walk-last, walk-middle}
 use Rattle.pr_base.specs.Texts.{Text}
 use Rattle.kr_tree.specs.declared.place.Host.{Host}
@@ -31,7 +31,7 @@ use Rattle.kr_view.specs.InTree.{IsObjectOf}
 use Rattle.kr_view.specs.HostReach.{is_link_at, host_place, object_in}
 use Rattle.kr_view.specs.ReachLaws.{reaches_in, slashed, IsJoined, IsNamePath, IsNameBelow, WalksGoOnBehindTexts, EntriesAreFound, TextsAreFound, DirectoriesAreSearched}
 use Rattle.kr_view.proofs.HostReachLemmas.{last_object, below_processes}
-use Rattle.kr_view.proofs.PathEndLemmas.{slash_behind, slashed_parts, slashed_has, slashed_relative}
+use Rattle.kr_view.proofs.SlashedLemmas.{slashed_parts, slashed_has, slashed_relative}
 
 -- ---- what stands at an object
 

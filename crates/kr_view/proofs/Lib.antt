@@ -12,7 +12,6 @@ pub mod LastLemmas
 pub mod NameLemmas
 pub mod NodeLemmas
 pub mod OutcomeLemmas
-pub mod PathEndLemmas
 pub mod PlaceLemmas
 pub mod ProcessLemmas
 pub mod ProcessNameLemmas
@@ -20,6 +19,7 @@ pub mod ReachLemmas
 pub mod ReachedLemmas
 pub mod ResolveLemmas
 pub mod RestLemmas
+pub mod SlashedLemmas
 pub mod StackLemmas
 pub mod StepLemmas
 pub mod TableLemmas
