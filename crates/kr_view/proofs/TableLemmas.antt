@@ -9,6 +9,7 @@ use Rattle.std.proofs.lemmas.Bool.{eqb-true, eq-eqb}
 use Rattle.std.proofs.lemmas.Option.{slice_get-get_or}
 use Rattle.std.specs.List.{list_any, position_or_len}
 use Rattle.std.proofs.lemmas.Slice.Eq.{bytes_eq-Decides}
+use Rattle.pr_base.specs.Paths.{AreNames}
 use Rattle.kr_tree.specs.declared.place.Place.{Place}
 use Rattle.kr_tree.specs.Tree.{Tree, root, body, body_is, inode, entry, is_directory, is_listed}
 use Rattle.kr_tree.specs.Lawful.{IsSound}
@@ -199,9 +200,13 @@ only_row : (k : ℕ) (r : Row) → row plain k ≡ Some r → (k ≡ 0) × (plai
 only_row zero r h = (refl, same_some plain_row r h)
 only_row (suc k) r h = no_row k r h
 
+no_names : AreNames []
+no_names = λ i d h. absurd (omega arith)
+
 plain_table : IsTable plain
 plain_table = record {
   root_location = λ r h. sym (ap (λ r. r.text.location) (only_row 0 r h).1);
+  location_names = λ k r h. let P : Row → Type 0 = λ r. AreNames r.text.location in subst P (only_row k r h).1 no_names;
   root_point = λ r h. sym (ap (λ r. r.point) (only_row 0 r h).1);
   later_point = λ k r h. no_row k r h;
   own_point = λ j k q r p a b _ _. (only_row j q a).0 ∙ sym (only_row k r b).0;
