@@ -1,10 +1,11 @@
 -- Guest names.
-use Rattle.std.proofs.Common.{◌≡◌, ◌≢◌, ◌+◌, ◌<◌, ℕ, Bool, true, false, cond, Option, Some, None, List, [], ◌∷◌, ◌++◌, length, refl, sym, ap, ◌∙◌, arith, append-nil, nat_eq}
+use Rattle.std.proofs.Common.{◌≡◌, ◌≢◌, ◌+◌, ◌<◌, ℕ, Bool, true, false, cond, Option, Some, None, List, [], ◌∷◌, ◌++◌, length, refl, sym, ap, ◌∙◌, arith, append-nil, append_assoc, drop, nat_eq}
 use Rattle.std.specs.Bool.{if◌then◌else◌}
 use Rattle.std.specs.Option.{option_map, option_and_then}
 use Rattle.std.proofs.lemmas.Bool.{false_from_ne_true, eq-eqb}
 use Rattle.std.proofs.lemmas.List.{length-append}
 use Rattle.std.proofs.lemmas.Slice.Eq.{bytes_eq-Decides, slice_eq-Decides}
+use Rattle.pr_base.specs.Paths.{slash, below_root, text_of}
 use Rattle.kr_tree.specs.declared.place.Host.{Host}
 use Rattle.kr_tree.specs.declared.place.Host.TheVariants.{Node, Proc}
 use Rattle.kr_tree.specs.declared.place.Place.{Place}
@@ -162,3 +163,36 @@ module _ (around : Surroundings) where
   pub plain_view : (p : Place ℕ) (remembered : Remembered) → IsSound around.tree → around.table ≡ plain → p.mount ≡ 0 → guest_name around p remembered ≡ object_name around p.host remembered
   plain_view p remembered sound is_plain mount =
       ap (λ table. guest_object around (row table p.mount) p.host remembered) is_plain ∙ ap (λ k. guest_object around (row plain k) p.host remembered) mount ∙ plain_object sound p.host remembered
+
+-- ---- bytes
+
+-- the bytes of names behind others
+pub below_root_append : (names top : Text) → below_root (names ++ top) ≡ below_root top ++ below_root names
+below_root_append [] top = sym (append-nil (below_root top))
+below_root_append (name ∷ names) top = ap (λ bytes. bytes ++ slash ∷ name) (below_root_append names top) ∙ append_assoc (below_root top) (below_root names) (slash ∷ name)
+
+-- the location, and what is left of the host name behind the source's
+pub moved_bytes : (t : Tree) (o : Option Row) (r : Row) (dir end : ℕ) (name location guest : List ℕ) → o ≡ Some r → Some (drop end name) ≡ option_map below_root (names_down t r.source dir)
+    → location ≡ below_root r.text.location → guest ≡ location ++ drop end name → Some guest ≡ option_map below_root (guest_directory t o dir)
+moved_bytes t o r dir end name location guest there down located whole =
+    let m = map_some below_root (names_down t r.source dir) (drop end name) (sym down) in
+    ap Some (whole ∙ ap (λ l. l ++ drop end name) located ∙ ap (λ b. below_root r.text.location ++ b) (sym m.2) ∙ sym (below_root_append m.0 r.text.location))
+    ∙ ap (λ o. option_map below_root (option_map (λ names. names ++ r.text.location) o)) (sym m.1)
+    ∙ ap (λ o. option_map below_root (guest_directory t o dir)) (sym there)
+
+-- a directory that isn't below the source has no guest name
+pub no_bytes : (t : Tree) (o : Option Row) (r : Row) (dir : ℕ) → o ≡ Some r → None ≡ option_map below_root (names_down t r.source dir) → ◌≡◌ {A = Option (List ℕ)} None (option_map below_root (guest_directory t o dir))
+no_bytes t o r dir there down = none (names_down t r.source dir) down ∙ ap (λ o. option_map below_root (guest_directory t o dir)) (sym there)
+  where
+    none : (names : Option Text) → None ≡ option_map below_root names → ◌≡◌ {A = Option (List ℕ)} None (option_map below_root (option_map (λ names. names ++ r.text.location) names))
+    none None h = refl
+    none (Some names) h = absurd cc
+
+-- the text of a name from its bytes below the root
+pub rooted_text : (names : Option Text) (bytes text : List ℕ) → Some bytes ≡ option_map below_root names → ((names : Text) → bytes ≡ below_root names → text ≡ text_of names) → Some text ≡ option_map text_of names
+rooted_text None bytes text is rooted = absurd cc
+rooted_text (Some names) bytes text is rooted = ap Some (rooted names (some_is bytes (below_root names) is))
+
+pub no_text : (names : Option Text) → None ≡ option_map below_root names → ◌≡◌ {A = Option (List ℕ)} None (option_map text_of names)
+no_text None h = refl
+no_text (Some names) h = absurd cc

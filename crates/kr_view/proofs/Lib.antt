@@ -20,3 +20,4 @@ pub mod StackLemmas
 pub mod StepLemmas
 pub mod TableLemmas
 pub mod WalkLemmas
+pub mod WayUpLemmas

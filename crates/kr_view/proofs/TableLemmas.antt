@@ -102,7 +102,7 @@ covers_name mount dir name r h =
     let p = point_there (is_point mount dir name) r h in
     ap (λ o. option_map_or (is_name_at dir name) o false) p.1 ∙ (point_is mount dir name p.0 p.2).1
 
-there_is : {A : Type 0} (o : Option A) → is_there o ≡ true → (x : A) × (o ≡ Some x)
+pub there_is : {A : Type 0} (o : Option A) → is_there o ≡ true → (x : A) × (o ≡ Some x)
 there_is None h = absurd cc
 there_is (Some x) h = (x, refl)
 

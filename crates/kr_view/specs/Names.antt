@@ -143,13 +143,14 @@ abbrev pub is_file_source : Option Row → ℕ → Bool
 is_file_source (Some r) i = if r.is_dir then false else nat_eq r.source i
 is_file_source None i = false
 
+-- an inode below the source of a mount
+abbrev pub guest_below : Tree → Option Row → ℕ → Remembered → Option Text
+guest_below t r i remembered = if body_is is_directory t i then guest_directory t r i else guest_entry t r remembered
+
 -- an inode, seen in a mount. It goes by the place: the source that is no directory is called by the
 -- location, whatever its own name is now, and without one, too
 abbrev pub guest_node : Tree → Option Row → ℕ → Remembered → Option Text
-guest_node t r i remembered =
-    if is_file_source r i then option_map (λ r. r.text.location) r
-    else if body_is is_directory t i then guest_directory t r i
-    else guest_entry t r remembered
+guest_node t r i remembered = if is_file_source r i then option_map (λ r. r.text.location) r else guest_below t r i remembered
 
 -- what stands in the process directory
 abbrev pub guest_process : Surroundings → Option Row → ℕ → ProcAt → Remembered → Option Text
