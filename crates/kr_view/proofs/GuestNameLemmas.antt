@@ -2,10 +2,10 @@
 use Rattle.std.proofs.Common.{◌≡◌, ◌≢◌, ◌+◌, ◌<◌, ℕ, Bool, true, false, cond, Option, Some, None, List, [], ◌∷◌, ◌++◌, length, refl, sym, ap, ◌∙◌, arith, append-nil, append_assoc, drop, nat_eq}
 use Rattle.std.specs.Bool.{if◌then◌else◌}
 use Rattle.std.specs.Option.{option_map, option_and_then}
-use Rattle.std.proofs.lemmas.Bool.{false_from_ne_true, eq-eqb}
-use Rattle.std.proofs.lemmas.List.{length-append}
-use Rattle.std.proofs.lemmas.Slice.Eq.{bytes_eq-Decides, slice_eq-Decides}
-use Rattle.pr_base.specs.Paths.{slash, below_root, text_of}
+use Rattle.std.proofs.lemmas.Bool.{eq-eqb}
+use Rattle.pr_base.specs.Paths.{below_root, text_of}
+use Rattle.pr_base.proofs.PathLemmas.{below_root_append}
+use Rattle.pr_base.proofs.TextLemmas.{some_is, map_some, below_found, below_there}
 use Rattle.kr_tree.specs.declared.place.Host.{Host}
 use Rattle.kr_tree.specs.declared.place.Host.TheVariants.{Node, Proc}
 use Rattle.kr_tree.specs.declared.place.Place.{Place}
@@ -13,45 +13,16 @@ use Rattle.kr_tree.specs.declared.place.ProcAt.{ProcAt}
 use Rattle.kr_tree.specs.Lawful.{IsSound}
 use Rattle.kr_tree.specs.Names.{host_name}
 use Rattle.kr_tree.specs.Tree.{Tree, root, body_is, is_directory}
-use Rattle.kr_tree.proofs.NameLemmas.{some_is, map_some, host_name-of_root, no_directory_name}
+use Rattle.kr_tree.proofs.NameLemmas.{host_name-of_root, no_directory_name}
 use Rattle.kr_view.specs.View.{Row, row, node_in, plain, plain_row}
 use Rattle.kr_view.specs.Component.{Surroundings, is_process_directory, is_directory_at}
-use Rattle.kr_view.specs.Names.{Text, texts_eq, below, names_below, names_down, Remembered, host_entry, guest_directory, guest_entry, is_file_source, guest_node, guest_process, guest_object, process_object_name, directory_name, object_name, guest_name}
-
--- ---- what is below a text
-
-pub texts_same : (a b : Text) → texts_eq a b ≡ true → a ≡ b
-texts_same a b h = (slice_eq-Decides bytes_eq-Decides a b (texts_eq a b) refl).0 h
-
-pub texts_true : (a b : Text) → a ≡ b → texts_eq a b ≡ true
-texts_true a b h = (slice_eq-Decides bytes_eq-Decides a b (texts_eq a b) refl).1 h
-
-pub below_is : (top text rest : Text) → names_below top text ≡ Some rest → text ≡ rest ++ top
-below_is top [] rest h = at (texts_eq top []) refl h
-  where
-    at : (b : Bool) → texts_eq top [] ≡ b → (if b then Some [] else None) ≡ Some rest → [] ≡ rest ++ top
-    at true e h = let none : [] ≡ rest = some_is [] rest h in sym (texts_same top [] e) ∙ ap (λ r. r ++ top) none
-    at false e h = absurd cc
-below_is top (name ∷ names) rest h = at (texts_eq top (name ∷ names)) refl h (below_is top names)
-  where
-    at : (b : Bool) → texts_eq top (name ∷ names) ≡ b → (if b then Some [] else option_map (λ rest. name ∷ rest) (names_below top names)) ≡ Some rest → ((r : Text) → names_below top names ≡ Some r → names ≡ r ++ top) → name ∷ names ≡ rest ++ top
-    at true e h ih = let none : [] ≡ rest = some_is [] rest h in sym (texts_same top (name ∷ names) e) ∙ ap (λ r. r ++ top) none
-    at false e h ih =
-        let m = map_some (λ r. name ∷ r) (names_below top names) rest h in
-        ap (λ ns. name ∷ ns) (ih m.0 m.1) ∙ ap (λ r. r ++ top) m.2
-
-pub is_below : (top rest : Text) → names_below top (rest ++ top) ≡ Some rest
-is_below [] [] = refl
-is_below (name ∷ top) [] = ap (λ b. if b then Some [] else option_map (λ rest. name ∷ rest) (names_below (name ∷ top) top)) (texts_true (name ∷ top) (name ∷ top) refl)
-is_below top (name ∷ rest) =
-    let other : texts_eq top (name ∷ (rest ++ top)) ≡ false = false_from_ne_true _ (λ e. let same = texts_same top (name ∷ (rest ++ top)) e in let sum = length-append rest top in omega (arith, ap length same)) in
-    ap (λ b. if b then Some [] else option_map (λ rest. name ∷ rest) (names_below top (rest ++ top))) other ∙ ap (option_map (λ rest. name ∷ rest)) (is_below top rest)
+use Rattle.kr_view.specs.Names.{Text, below, names_below, names_down, Remembered, host_entry, guest_directory, guest_entry, is_file_source, guest_node, guest_process, guest_object, process_object_name, directory_name, object_name, guest_name}
 
 -- all is below the root, and stays as it is
 below_the_root : (text : Option Text) → option_map (λ names. names ++ []) (option_and_then (names_below []) text) ≡ text
 below_the_root None = refl
 below_the_root (Some text) =
-    ap (λ t. option_map (λ names. names ++ []) (names_below [] t)) (sym (append-nil text)) ∙ ap (option_map (λ names. names ++ [])) (is_below [] text) ∙ ap Some (append-nil text)
+    ap (λ t. option_map (λ names. names ++ []) (names_below [] t)) (sym (append-nil text)) ∙ ap (option_map (λ names. names ++ [])) (below_there [] text) ∙ ap Some (append-nil text)
 
 -- ---- directories
 
@@ -85,7 +56,7 @@ module _ (t : Tree) (r : Row) (kind : r.is_dir ≡ true) where
       ∙ ap (λ o. option_map (λ names. names ++ r.text.location) (option_and_then (λ high. option_and_then (names_below high) o) top)) named
 
   below_it : (i : ℕ) (top names : Text) → host_name t r.source ≡ Some top → host_name t i ≡ Some (names ++ top) → guest_directory t (Some r) i ≡ Some (names ++ r.text.location)
-  below_it i top names above named = down_from i (Some top) (Some (names ++ top)) above named ∙ ap (option_map (λ names. names ++ r.text.location)) (is_below top names)
+  below_it i top names above named = down_from i (Some top) (Some (names ++ top)) above named ∙ ap (option_map (λ names. names ++ r.text.location)) (below_there top names)
 
   only_it : (i : ℕ) (guest : Text) (top text : Option Text) → host_name t r.source ≡ top → host_name t i ≡ text → guest_directory t (Some r) i ≡ Some guest
       → (high : Text) × (names : Text) × (host_name t r.source ≡ Some high) × (host_name t i ≡ Some (names ++ high)) × (guest ≡ names ++ r.text.location)
@@ -93,7 +64,7 @@ module _ (t : Tree) (r : Row) (kind : r.is_dir ≡ true) where
   only_it i guest (Some high) None above named h = let none : None ≡ Some guest = sym (down_from i (Some high) None above named) ∙ h in absurd cc
   only_it i guest (Some high) (Some text) above named h =
       let m = map_some (λ names. names ++ r.text.location) (names_below high text) guest (sym (down_from i (Some high) (Some text) above named) ∙ h) in
-      (high, m.0, above, named ∙ ap Some (below_is high text m.0 m.1), sym m.2)
+      (high, m.0, above, named ∙ ap Some (below_found high text m.0 m.1), sym m.2)
 
 -- ---- places
 
@@ -165,11 +136,6 @@ module _ (around : Surroundings) where
       ap (λ table. guest_object around (row table p.mount) p.host remembered) is_plain ∙ ap (λ k. guest_object around (row plain k) p.host remembered) mount ∙ plain_object sound p.host remembered
 
 -- ---- bytes
-
--- the bytes of names behind others
-pub below_root_append : (names top : Text) → below_root (names ++ top) ≡ below_root top ++ below_root names
-below_root_append [] top = sym (append-nil (below_root top))
-below_root_append (name ∷ names) top = ap (λ bytes. bytes ++ slash ∷ name) (below_root_append names top) ∙ append_assoc (below_root top) (below_root names) (slash ∷ name)
 
 -- the location, and what is left of the host name behind the source's
 pub moved_bytes : (t : Tree) (o : Option Row) (r : Row) (dir end : ℕ) (name location guest : List ℕ) → o ≡ Some r → Some (drop end name) ≡ option_map below_root (names_down t r.source dir)

@@ -1,10 +1,7 @@
 pub mod DirectoryLemmas
-pub mod EndLemmas
-pub mod FoundLemmas
 pub mod GuestNameLemmas
 pub mod HostNameLemmas
 pub mod JumpedLemmas
-pub mod KeepLemmas
 pub mod LandingLemmas
 pub mod LastLemmas
 pub mod NameLemmas
@@ -19,5 +16,4 @@ pub mod RestLemmas
 pub mod StackLemmas
 pub mod StepLemmas
 pub mod TableLemmas
-pub mod WalkLemmas
 pub mod WayUpLemmas

@@ -208,6 +208,7 @@ plain_table = record {
   root_location = λ r h. sym (ap (λ r. r.text.location) (only_row 0 r h).1);
   location_names = λ k r h. let P : Row → Type 0 = λ r. AreNames r.text.location in subst P (only_row k r h).1 no_names;
   root_point = λ r h. sym (ap (λ r. r.point) (only_row 0 r h).1);
+  text_point = λ k r h. let P : Row → Type 0 = λ r. is_there r.text.point ≡ is_there r.point in subst P (only_row k r h).1 refl;
   later_point = λ k r h. no_row k r h;
   own_point = λ j k q r p a b _ _. (only_row j q a).0 ∙ sym (only_row k r b).0;
   own_index = λ j k q r a b _. (only_row j q a).0 ∙ sym (only_row k r b).0;

@@ -6,14 +6,16 @@ use Rattle.std.proofs.lemmas.Bool.{false_from_ne_true, eqb-true, eq-eqb}
 use Rattle.std.proofs.lemmas.List.{length-append}
 use Rattle.std.proofs.lemmas.List.Elements.{All-head}
 use Rattle.std.proofs.Math.Seq.{take-append_seam, drop-append_seam, take-length}
+use Rattle.pr_base.specs.Texts.{texts_eq}
+use Rattle.pr_base.proofs.PathLemmas.{below_root_append}
+use Rattle.pr_base.proofs.TextLemmas.{some_is, map_some, texts_same, below_there}
 use Rattle.pr_base.specs.Paths.{slash, below_root, IsName, AreNames}
 use Rattle.kr_inode.specs.declared.standing.Standing.{Standing}
 use Rattle.kr_tree.specs.Tree.{Tree, above, standing}
 use Rattle.kr_tree.specs.Names.{named as named_by, host_name, HostNamesLead}
 use Rattle.kr_tree.specs.Lawful.{IsSound}
-use Rattle.kr_tree.proofs.NameLemmas.{some_is, map_some, no_host_name}
-use Rattle.kr_view.specs.Names.{Text, texts_eq, names_below, names_down}
-use Rattle.kr_view.proofs.GuestNameLemmas.{texts_same, is_below, below_root_append}
+use Rattle.kr_tree.proofs.NameLemmas.{no_host_name}
+use Rattle.kr_view.specs.Names.{Text, names_below, names_down}
 use Rattle.kr_view.proofs.HostNameLemmas.{names_hang_together}
 
 -- on the way up from a directory of this name: the names that were passed, and those of where the way
@@ -54,7 +56,7 @@ module _ (t : Tree) (IsTop : Text → Type 0) (name : List ℕ) (dir : ℕ) wher
         let top : host_name t source ≡ Some way.left = ap (host_name t) is ∙ way.called in
         let down : names_down t source dir ≡ Some way.passed =
         ap (λ o. option_and_then (λ high. option_and_then (names_below high) (host_name t dir)) o) top
-        ∙ ap (option_and_then (names_below way.left)) way.whole ∙ is_below way.left way.passed in
+        ∙ ap (option_and_then (names_below way.left)) way.whole ∙ below_there way.left way.passed in
         ap Some rest_is ∙ ap (option_map below_root) (sym down)
 
     -- where the way stands isn't called as what is looked for

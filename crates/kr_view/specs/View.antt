@@ -117,7 +117,7 @@ location table mount = option_map_or (λ r. text_of r.text.location) (row table 
 -- one mount, whose source is the root of the host
 abbrev pub plain_row : Row
 plain_row = record {
-  text = record { index = 0; location = []; source = []; point = [] };
+  text = record { index = 0; location = []; source = []; point = None };
   source = root;
   source_dir = 0;
   source_name = [];
@@ -137,6 +137,7 @@ pub record IsTable (table : List Row) : Type 0 where
   pub root_location : (r : Row) → row table 0 ≡ Some r → r.text.location ≡ []
   pub location_names : (k : ℕ) (r : Row) → row table k ≡ Some r → AreNames r.text.location
   pub root_point : (r : Row) → row table 0 ≡ Some r → r.point ≡ None
+  pub text_point : (k : ℕ) (r : Row) → row table k ≡ Some r → is_there r.text.point ≡ is_there r.point
   pub later_point : (k : ℕ) (r : Row) → row table (suc k) ≡ Some r → (p : Point) × (r.point ≡ Some p)
   pub own_point : (j k : ℕ) (q r : Row) (p : Point) → row table j ≡ Some q → row table k ≡ Some r → q.point ≡ Some p → r.point ≡ Some p → j ≡ k
   pub own_index : (j k : ℕ) (q r : Row) → row table j ≡ Some q → row table k ≡ Some r → q.text.index ≡ r.text.index → j ≡ k

@@ -1,13 +1,12 @@
 -- What holds of the places that a walk goes through, where each look keeps it.
-use Rattle.std.proofs.Common.{◌≡◌, ℕ, zero, suc, Bool, true, false, ◌||◌, List, [], ◌∷◌, ◌++◌, Option, Some, None, Ok, refl, sym, ap, subst, ◌∙◌}
+use Rattle.std.proofs.Common.{◌≡◌, ℕ, zero, suc, Bool, true, false, ◌||◌, List, [], ◌∷◌, ◌++◌, Option, Some, None, refl, sym, ap, subst, ◌∙◌}
 use Rattle.std.specs.Bool.{if◌then◌else◌}
 use Rattle.pr_base.specs.Paths.{Component, components_of, has_slash, is_absolute}
-use Rattle.pr_base.specs.WalkFrame.{Seen, Fails, Missing, Leads, Links, Jumps, Looking, Landing, Target, Trail, Onward, fails, ends, begins_at, loops, is_followed, wants_directory, may_be_free, target_at, ends_landed, jumps_on, in_middle, at_last, along, walk_on}
-use Rattle.pr_base.specs.declared.errno.Errno.{Errno}
+use Rattle.pr_base.specs.WalkFrame.{Seen, Fails, Missing, Leads, Links, Jumps, Looking, Landing, Target, Trail, Onward, fails, ends, begins_at, loops, is_followed, wants_directory, may_be_free, target_at, here, landed, ends_landed, jumps_on, in_middle, at_last, along, walk_on}
 use Rattle.pr_base.specs.declared.errno.Errno.TheVariants.{ENOENT, ENOTDIR}
 use Rattle.pr_base.specs.declared.path.WalkMode.{WalkMode}
-use Rattle.kr_view.specs.Laws.{Shows}
-use Rattle.kr_view.proofs.EndLemmas.{here, landed, EndsSo, failed, ended, either_way, lands, jumps}
+use Rattle.pr_base.specs.WalkLaws.{Shows}
+use Rattle.pr_base.proofs.EndLemmas.{EndsSo, failed, ended, either_way, lands, jumps}
 
 module _ {S F : Type 0} (Good : S → Type 0) where
   -- where a walk goes on from what is seen
