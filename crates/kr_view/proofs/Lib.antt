@@ -1,6 +1,8 @@
+pub mod ArrivalLemmas
 pub mod DirectoryLemmas
 pub mod GuestNameLemmas
 pub mod HostNameLemmas
+pub mod HostReachLemmas
 pub mod JumpedLemmas
 pub mod LandingLemmas
 pub mod LastLemmas
@@ -9,10 +11,12 @@ pub mod NodeLemmas
 pub mod OutcomeLemmas
 pub mod PlaceLemmas
 pub mod ProcessLemmas
+pub mod ProcessNameLemmas
 pub mod ReachLemmas
 pub mod ReachedLemmas
 pub mod ResolveLemmas
 pub mod RestLemmas
+pub mod SlashedLemmas
 pub mod StackLemmas
 pub mod StepLemmas
 pub mod TableLemmas

@@ -3,6 +3,7 @@ pub mod Begins
 pub mod Component
 pub mod GuestNames
 pub mod HostNames
+pub mod HostReach
 pub mod InTree
 pub mod Laws
 pub mod Leads
@@ -11,6 +12,7 @@ pub mod Parts
 pub mod Positions
 pub mod Processes
 pub mod Reach
+pub mod ReachLaws
 pub mod Rests
 pub mod Rows
 pub mod Sights

@@ -8,6 +8,7 @@ mod name;
 mod part;
 mod position;
 pub mod procs;
+pub mod reach_laws;
 mod rest;
 mod rests;
 pub mod target;
