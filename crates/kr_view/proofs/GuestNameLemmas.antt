@@ -1,149 +1,164 @@
 -- Guest names.
-use Rattle.std.proofs.Common.{◌≡◌, ◌≢◌, ◌+◌, ◌<◌, ℕ, Bool, true, false, cond, Option, Some, None, List, [], ◌∷◌, ◌++◌, length, refl, sym, ap, ◌∙◌, arith, append-nil, nat_eq}
+use Rattle.std.proofs.Common.{◌≡◌, ◌≢◌, ◌+◌, ◌<◌, ℕ, Bool, true, false, cond, Option, Some, None, List, [], ◌∷◌, ◌++◌, length, refl, sym, ap, ◌∙◌, arith, append-nil, append_assoc, drop, nat_eq}
 use Rattle.std.specs.Bool.{if◌then◌else◌}
-use Rattle.std.specs.Option.{option_map, option_map_or}
-use Rattle.std.proofs.lemmas.Bool.{false_from_ne_true, eqb-true, eq-eqb}
-use Rattle.std.proofs.lemmas.List.{length-append}
-use Rattle.std.proofs.lemmas.Slice.Eq.{bytes_eq-Decides, slice_eq-Decides}
+use Rattle.std.specs.Option.{option_map, option_and_then}
+use Rattle.std.proofs.lemmas.Bool.{eq-eqb}
+use Rattle.pr_base.specs.Paths.{below_root, text_of}
+use Rattle.pr_base.proofs.PathLemmas.{below_root_append}
+use Rattle.pr_base.proofs.TextLemmas.{some_is, map_some, below_found, below_there}
 use Rattle.kr_tree.specs.declared.place.Host.{Host}
 use Rattle.kr_tree.specs.declared.place.Host.TheVariants.{Node, Proc}
 use Rattle.kr_tree.specs.declared.place.Place.{Place}
+use Rattle.kr_tree.specs.declared.place.ProcAt.{ProcAt}
 use Rattle.kr_tree.specs.Lawful.{IsSound}
 use Rattle.kr_tree.specs.Names.{host_name}
 use Rattle.kr_tree.specs.Tree.{Tree, root, body_is, is_directory}
-use Rattle.kr_tree.proofs.CountLemmas.{root_directory}
-use Rattle.kr_tree.proofs.NameLemmas.{some_is, map_some, host_name-of_root}
-use Rattle.kr_view.specs.View.{Row, row, node_in, is_node, plain, plain_row}
-use Rattle.kr_view.specs.Component.{Surroundings, is_directory_at}
-use Rattle.kr_view.specs.Names.{Text, Remembered, texts_eq, names_below, moved_to, located, entry_name, directory_name, object_name, guest_name_in, guest_name}
-
--- ---- what is below a text
-
-texts_same : (a b : Text) → texts_eq a b ≡ true → a ≡ b
-texts_same a b h = (slice_eq-Decides bytes_eq-Decides a b (texts_eq a b) refl).0 h
-
-texts_true : (a b : Text) → a ≡ b → texts_eq a b ≡ true
-texts_true a b h = (slice_eq-Decides bytes_eq-Decides a b (texts_eq a b) refl).1 h
-
-pub below_is : (top text rest : Text) → names_below top text ≡ Some rest → text ≡ rest ++ top
-below_is top [] rest h = at (texts_eq top []) refl h
-  where
-    at : (b : Bool) → texts_eq top [] ≡ b → (if b then Some [] else None) ≡ Some rest → [] ≡ rest ++ top
-    at true e h = let none : [] ≡ rest = some_is [] rest h in sym (texts_same top [] e) ∙ ap (λ r. r ++ top) none
-    at false e h = absurd cc
-below_is top (name ∷ names) rest h = at (texts_eq top (name ∷ names)) refl h (below_is top names)
-  where
-    at : (b : Bool) → texts_eq top (name ∷ names) ≡ b → (if b then Some [] else option_map (λ rest. name ∷ rest) (names_below top names)) ≡ Some rest → ((r : Text) → names_below top names ≡ Some r → names ≡ r ++ top) → name ∷ names ≡ rest ++ top
-    at true e h ih = let none : [] ≡ rest = some_is [] rest h in sym (texts_same top (name ∷ names) e) ∙ ap (λ r. r ++ top) none
-    at false e h ih =
-        let m = map_some (λ r. name ∷ r) (names_below top names) rest h in
-        ap (λ ns. name ∷ ns) (ih m.0 m.1) ∙ ap (λ r. r ++ top) m.2
-
-pub is_below : (top rest : Text) → names_below top (rest ++ top) ≡ Some rest
-is_below [] [] = refl
-is_below (name ∷ top) [] = ap (λ b. if b then Some [] else option_map (λ rest. name ∷ rest) (names_below (name ∷ top) top)) (texts_true (name ∷ top) (name ∷ top) refl)
-is_below top (name ∷ rest) =
-    let other : texts_eq top (name ∷ (rest ++ top)) ≡ false = false_from_ne_true _ (λ e. let same = texts_same top (name ∷ (rest ++ top)) e in let sum = length-append rest top in omega (arith, ap length same)) in
-    ap (λ b. if b then Some [] else option_map (λ rest. name ∷ rest) (names_below top (rest ++ top))) other ∙ ap (option_map (λ rest. name ∷ rest)) (is_below top rest)
+use Rattle.kr_tree.proofs.NameLemmas.{host_name-of_root, no_directory_name}
+use Rattle.kr_view.specs.View.{Row, row, node_in, plain, plain_row}
+use Rattle.kr_view.specs.Component.{Surroundings, is_process_directory, is_directory_at}
+use Rattle.kr_view.specs.Names.{Text, below, names_below, names_down, Remembered, host_entry, guest_directory, guest_entry, is_file_source, guest_node, guest_process, guest_object, process_object_name, directory_name, object_name, guest_name}
 
 -- all is below the root, and stays as it is
-below_the_root : (text : Option Text) → moved_to [] (Some []) text ≡ text
+below_the_root : (text : Option Text) → option_map (λ names. names ++ []) (option_and_then (names_below []) text) ≡ text
 below_the_root None = refl
 below_the_root (Some text) =
-    ap (λ t. option_map (λ names. names ++ []) (names_below [] t)) (sym (append-nil text)) ∙ ap (option_map (λ names. names ++ [])) (is_below [] text) ∙ ap Some (append-nil text)
+    ap (λ t. option_map (λ names. names ++ []) (names_below [] t)) (sym (append-nil text)) ∙ ap (option_map (λ names. names ++ [])) (below_there [] text) ∙ ap Some (append-nil text)
+
+-- ---- directories
+
+-- what has a host name is a directory
+named_directory : (t : Tree) → IsSound t → (i : ℕ) (text : Text) → host_name t i ≡ Some text → body_is is_directory t i ≡ true
+named_directory t sound i text named = at (body_is is_directory t i) refl
+  where
+    at : (b : Bool) → body_is is_directory t i ≡ b → b ≡ true
+    at true is = refl
+    at false is = let clash : None ≡ Some text = sym (no_directory_name t sound i is) ∙ named in absurd cc
+
+-- the source that is a directory isn't called by its place alone
+no_file : (r : Row) (i : ℕ) → r.is_dir ≡ true → is_file_source (Some r) i ≡ false
+no_file r i kind = ap (λ b. if b then false else nat_eq r.source i) kind
+
+module _ (t : Tree) (r : Row) (kind : r.is_dir ≡ true) where
+  node_directory : (i : ℕ) (remembered : Remembered) → body_is is_directory t i ≡ true → guest_node t (Some r) i remembered ≡ guest_directory t (Some r) i
+  node_directory i remembered is =
+      ap (λ b. if b then Some r.text.location else if body_is is_directory t i then guest_directory t (Some r) i else guest_entry t (Some r) remembered) (no_file r i kind)
+      ∙ ap (λ b. if b then guest_directory t (Some r) i else guest_entry t (Some r) remembered) is
+
+  node_other : (i : ℕ) (remembered : Remembered) → body_is is_directory t i ≡ false → guest_node t (Some r) i remembered ≡ guest_entry t (Some r) remembered
+  node_other i remembered is =
+      ap (λ b. if b then Some r.text.location else if body_is is_directory t i then guest_directory t (Some r) i else guest_entry t (Some r) remembered) (no_file r i kind)
+      ∙ ap (λ b. if b then guest_directory t (Some r) i else guest_entry t (Some r) remembered) is
+
+  down_from : (i : ℕ) (top text : Option Text) → host_name t r.source ≡ top → host_name t i ≡ text
+      → guest_directory t (Some r) i ≡ option_map (λ names. names ++ r.text.location) (option_and_then (λ high. option_and_then (names_below high) text) top)
+  down_from i top text above named =
+      ap (λ o. option_map (λ names. names ++ r.text.location) (option_and_then (λ high. option_and_then (names_below high) (host_name t i)) o)) above
+      ∙ ap (λ o. option_map (λ names. names ++ r.text.location) (option_and_then (λ high. option_and_then (names_below high) o) top)) named
+
+  below_it : (i : ℕ) (top names : Text) → host_name t r.source ≡ Some top → host_name t i ≡ Some (names ++ top) → guest_directory t (Some r) i ≡ Some (names ++ r.text.location)
+  below_it i top names above named = down_from i (Some top) (Some (names ++ top)) above named ∙ ap (option_map (λ names. names ++ r.text.location)) (below_there top names)
+
+  only_it : (i : ℕ) (guest : Text) (top text : Option Text) → host_name t r.source ≡ top → host_name t i ≡ text → guest_directory t (Some r) i ≡ Some guest
+      → (high : Text) × (names : Text) × (host_name t r.source ≡ Some high) × (host_name t i ≡ Some (names ++ high)) × (guest ≡ names ++ r.text.location)
+  only_it i guest None text above named h = let none : None ≡ Some guest = sym (down_from i None text above named) ∙ h in absurd cc
+  only_it i guest (Some high) None above named h = let none : None ≡ Some guest = sym (down_from i (Some high) None above named) ∙ h in absurd cc
+  only_it i guest (Some high) (Some text) above named h =
+      let m = map_some (λ names. names ++ r.text.location) (names_below high text) guest (sym (down_from i (Some high) (Some text) above named) ∙ h) in
+      (high, m.0, above, named ∙ ap Some (below_found high text m.0 m.1), sym m.2)
 
 -- ---- places
 
-node_is : (host : Host) (i : ℕ) → is_node host i ≡ true → host ≡ Node i
-node_is (Node j) i h = ap Node (eqb-true j i h)
-node_is (Proc j at) i h = absurd cc
-
-other_node : (host : Host) (i : ℕ) → host ≢ Node i → is_node host i ≡ false
-other_node host i other = false_from_ne_true _ (λ h. other (node_is host i h))
-
-same_node : (i : ℕ) → nat_eq i i ≡ true
-same_node i = eq-eqb i i refl
-
 module _ (around : Surroundings) where
-  -- the source of a mount
-  at_source : (k : ℕ) (r : Row) (remembered : Remembered) → row around.table k ≡ Some r → guest_name around (node_in k r.source) remembered ≡ located around r
-  at_source k r remembered there =
-      ap (λ o. guest_name_in around o (Node r.source) remembered) there
-      ∙ ap (λ b. if b then located around r else moved_to r.text.location (host_name around.tree r.source) (object_name around (Node r.source) remembered)) (same_node r.source)
-
-  -- another place
-  off_source : (p : Place ℕ) (r : Row) (remembered : Remembered) → row around.table p.mount ≡ Some r → p.host ≢ Node r.source
-      → guest_name around p remembered ≡ moved_to r.text.location (host_name around.tree r.source) (object_name around p.host remembered)
-  off_source p r remembered there other =
-      ap (λ o. guest_name_in around o p.host remembered) there
-      ∙ ap (λ b. if b then located around r else moved_to r.text.location (host_name around.tree r.source) (object_name around p.host remembered)) (other_node p.host r.source other)
-
-  where_located : (r : Row) (b : Bool) (o : Option Text) → r.is_dir ≡ b → host_name around.tree r.source ≡ o → located around r ≡ (if b then option_map (λ top. r.text.location) o else Some r.text.location)
-  where_located r b o kind named =
-      ap (λ b. if b then option_map (λ top. r.text.location) (host_name around.tree r.source) else Some r.text.location) kind
-      ∙ ap (λ o. if b then option_map (λ top. r.text.location) o else Some r.text.location) named
+  in_row : (k i : ℕ) (r : Row) (remembered : Remembered) → row around.table k ≡ Some r → guest_name around (node_in k i) remembered ≡ guest_node around.tree (Some r) i remembered
+  in_row k i r remembered there = ap (λ o. guest_node around.tree o i remembered) there
 
   pub file_source : (k : ℕ) (r : Row) (remembered : Remembered) → row around.table k ≡ Some r → r.is_dir ≡ false → guest_name around (node_in k r.source) remembered ≡ Some r.text.location
-  file_source k r remembered there kind = at_source k r remembered there ∙ where_located r false (host_name around.tree r.source) kind refl
-
-  pub directory_source : (k : ℕ) (r : Row) (remembered : Remembered) (top : Text) → row around.table k ≡ Some r → host_name around.tree r.source ≡ Some top
-      → guest_name around (node_in k r.source) remembered ≡ Some r.text.location
-  directory_source k r remembered top there named = at_source k r remembered there ∙ where_located r r.is_dir (Some top) refl named ∙ either r.is_dir
+  file_source k r remembered there kind =
+      in_row k r.source r remembered there
+      ∙ ap (λ b. if b then Some r.text.location else if body_is is_directory around.tree r.source then guest_directory around.tree (Some r) r.source else guest_entry around.tree (Some r) remembered) is
     where
-      either : (b : Bool) → (if b then Some r.text.location else Some r.text.location) ≡ Some r.text.location
-      either true = refl
-      either false = refl
+      is : is_file_source (Some r) r.source ≡ true
+      is = ap (λ b. if b then false else nat_eq r.source r.source) kind ∙ eq-eqb r.source r.source refl
 
-  pub removed_source : (k : ℕ) (r : Row) (remembered : Remembered) → row around.table k ≡ Some r → r.is_dir ≡ true → host_name around.tree r.source ≡ None
+  pub below_source : (k i : ℕ) (r : Row) (remembered : Remembered) (top names : Text) → IsSound around.tree → row around.table k ≡ Some r → r.is_dir ≡ true
+      → host_name around.tree r.source ≡ Some top → host_name around.tree i ≡ Some (names ++ top) → guest_name around (node_in k i) remembered ≡ Some (names ++ r.text.location)
+  below_source k i r remembered top names sound there kind above named =
+      in_row k i r remembered there ∙ node_directory around.tree r kind i remembered (named_directory around.tree sound i (names ++ top) named) ∙ below_it around.tree r kind i top names above named
+
+  pub directory_source : (k : ℕ) (r : Row) (remembered : Remembered) (top : Text) → IsSound around.tree → row around.table k ≡ Some r → r.is_dir ≡ true → host_name around.tree r.source ≡ Some top
+      → guest_name around (node_in k r.source) remembered ≡ Some r.text.location
+  directory_source k r remembered top sound there kind above = below_source k r.source r remembered top [] sound there kind above above
+
+  pub removed_source : (k : ℕ) (r : Row) (remembered : Remembered) → row around.table k ≡ Some r → r.is_dir ≡ true → body_is is_directory around.tree r.source ≡ true → host_name around.tree r.source ≡ None
       → guest_name around (node_in k r.source) remembered ≡ None
-  removed_source k r remembered there kind none = at_source k r remembered there ∙ where_located r true None kind none
+  removed_source k r remembered there kind is none =
+      in_row k r.source r remembered there ∙ node_directory around.tree r kind r.source remembered is ∙ down_from around.tree r kind r.source None None none none
 
-  pub below_source : (p : Place ℕ) (r : Row) (remembered : Remembered) (top names : Text) → row around.table p.mount ≡ Some r → p.host ≢ Node r.source
-      → host_name around.tree r.source ≡ Some top → object_name around p.host remembered ≡ Some (names ++ top) → guest_name around p remembered ≡ Some (names ++ r.text.location)
-  below_source p r remembered top names there other above named =
-      off_source p r remembered there other
-      ∙ ap (λ o. moved_to r.text.location o (object_name around p.host remembered)) above
-      ∙ ap (moved_to r.text.location (Some top)) named
-      ∙ ap (option_map (λ names. names ++ r.text.location)) (is_below top names)
+  pub only_below : (k i : ℕ) (r : Row) (remembered : Remembered) (guest : Text) → row around.table k ≡ Some r → r.is_dir ≡ true → body_is is_directory around.tree i ≡ true → guest_name around (node_in k i) remembered ≡ Some guest
+      → (top : Text) × (names : Text) × (host_name around.tree r.source ≡ Some top) × (host_name around.tree i ≡ Some (names ++ top)) × (guest ≡ names ++ r.text.location)
+  only_below k i r remembered guest there kind is h =
+      only_it around.tree r kind i guest (host_name around.tree r.source) (host_name around.tree i) refl refl (sym (in_row k i r remembered there ∙ node_directory around.tree r kind i remembered is) ∙ h)
 
-  -- what is moved to a location stands below the top
-  moved_is : (location : Text) (top text : Option Text) (guest : Text) → moved_to location top text ≡ Some guest
-      → (high : Text) × (names : Text) × (top ≡ Some high) × (text ≡ Some (names ++ high)) × (guest ≡ names ++ location)
-  moved_is location None text guest h = absurd cc
-  moved_is location (Some top) None guest h = absurd cc
-  moved_is location (Some top) (Some text) guest h =
-      let m = map_some (λ names. names ++ location) (names_below top text) guest h in
-      (top, m.0, refl, ap Some (below_is top text m.0 m.1), sym m.2)
+  pub entries : (k i dir : ℕ) (r : Row) (name : List ℕ) → row around.table k ≡ Some r → r.is_dir ≡ true → body_is is_directory around.tree i ≡ false → body_is is_directory around.tree dir ≡ true
+      → guest_name around (node_in k i) (Some (dir, name)) ≡ below name (guest_name around (node_in k dir) None)
+  entries k i dir r name there kind other is =
+      in_row k i r (Some (dir, name)) there ∙ node_other around.tree r kind i (Some (dir, name)) other ∙ ap (below name) (sym (in_row k dir r None there ∙ node_directory around.tree r kind dir None is))
 
-  pub only_below : (p : Place ℕ) (r : Row) (remembered : Remembered) (guest : Text) → row around.table p.mount ≡ Some r → p.host ≢ Node r.source → guest_name around p remembered ≡ Some guest
-      → (top : Text) × (names : Text) × (host_name around.tree r.source ≡ Some top) × (object_name around p.host remembered ≡ Some (names ++ top)) × (guest ≡ names ++ r.text.location)
-  only_below p r remembered guest there other h =
-      moved_is r.text.location (host_name around.tree r.source) (object_name around p.host remembered) guest (sym (off_source p r remembered there other) ∙ h)
+  pub nameless : (k i : ℕ) (r : Row) → row around.table k ≡ Some r → r.is_dir ≡ true → body_is is_directory around.tree i ≡ false → guest_name around (node_in k i) None ≡ None
+  nameless k i r there kind other = in_row k i r None there ∙ node_other around.tree r kind i None other
+
+  pub processes : (k i : ℕ) (at : ProcAt) (r : Row) (remembered : Remembered) → row around.table k ≡ Some r → r.is_dir ≡ true → body_is is_directory around.tree i ≡ true → is_process_directory at ≡ true
+      → guest_name around (record { mount = k; host = Proc i at }) remembered ≡ process_object_name around at (guest_name around (node_in k i) None)
+  processes k i at r remembered there kind is directory =
+      ap (λ o. guest_process around o i at remembered) there
+      ∙ ap (λ b. if b then process_object_name around at (guest_directory around.tree (Some r) i) else guest_entry around.tree (Some r) remembered) directory
+      ∙ ap (process_object_name around at) (sym (in_row k i r None there ∙ node_directory around.tree r kind i None is))
 
   -- ---- the host's own view
 
-  pub host_names : (p : Place ℕ) (remembered : Remembered) → IsSound around.tree → around.table ≡ plain → p.mount ≡ 0 → guest_name around p remembered ≡ object_name around p.host remembered
-  host_names p remembered sound is_plain mount =
-      ap (λ table. guest_name_in around (row table p.mount) p.host remembered) is_plain
-      ∙ ap (λ k. guest_name_in around (row plain k) p.host remembered) mount
-      ∙ at (is_node p.host root) refl
-    where
-      top : host_name around.tree root ≡ Some []
-      top = host_name-of_root around.tree sound
+  plain_directory : IsSound around.tree → (i : ℕ) → guest_directory around.tree (Some plain_row) i ≡ host_name around.tree i
+  plain_directory sound i = down_from around.tree plain_row refl i (Some []) (host_name around.tree i) (host_name-of_root around.tree sound) refl ∙ below_the_root (host_name around.tree i)
 
-      named : (host : Host) → host ≡ Node root → Some [] ≡ object_name around host remembered
-      named host is =
-          sym top
-          ∙ sym (ap (λ b. if b then host_name around.tree root else entry_name around remembered) (root_directory around.tree sound))
-          ∙ ap (λ h. object_name around h remembered) (sym is)
+  plain_entry : IsSound around.tree → (remembered : Remembered) → guest_entry around.tree (Some plain_row) remembered ≡ host_entry around.tree remembered
+  plain_entry sound None = refl
+  plain_entry sound (Some e) = ap (below e.1) (plain_directory sound e.0)
 
-      at : (b : Bool) → is_node p.host root ≡ b
-          → (if is_node p.host root then located around plain_row else moved_to [] (host_name around.tree root) (object_name around p.host remembered)) ≡ object_name around p.host remembered
-      at true is =
-          ap (λ b. if b then located around plain_row else moved_to [] (host_name around.tree root) (object_name around p.host remembered)) is
-          ∙ ap (option_map (λ top. [])) top
-          ∙ named p.host (node_is p.host root is)
-      at false is =
-          ap (λ b. if b then located around plain_row else moved_to [] (host_name around.tree root) (object_name around p.host remembered)) is
-          ∙ ap (λ o. moved_to [] o (object_name around p.host remembered)) top
-          ∙ below_the_root (object_name around p.host remembered)
+  plain_object : IsSound around.tree → (host : Host) (remembered : Remembered) → guest_object around (Some plain_row) host remembered ≡ object_name around host remembered
+  plain_object sound (Node i) remembered =
+      ap (λ o. if body_is is_directory around.tree i then o else guest_entry around.tree (Some plain_row) remembered) (plain_directory sound i)
+      ∙ ap (λ o. if body_is is_directory around.tree i then host_name around.tree i else o) (plain_entry sound remembered)
+  plain_object sound (Proc i at) remembered =
+      ap (λ o. if is_process_directory at then process_object_name around at o else guest_entry around.tree (Some plain_row) remembered) (plain_directory sound i)
+      ∙ ap (λ o. if is_process_directory at then process_object_name around at (host_name around.tree i) else o) (plain_entry sound remembered)
+
+  pub plain_view : (p : Place ℕ) (remembered : Remembered) → IsSound around.tree → around.table ≡ plain → p.mount ≡ 0 → guest_name around p remembered ≡ object_name around p.host remembered
+  plain_view p remembered sound is_plain mount =
+      ap (λ table. guest_object around (row table p.mount) p.host remembered) is_plain ∙ ap (λ k. guest_object around (row plain k) p.host remembered) mount ∙ plain_object sound p.host remembered
+
+-- ---- bytes
+
+-- the location, and what is left of the host name behind the source's
+pub moved_bytes : (t : Tree) (o : Option Row) (r : Row) (dir end : ℕ) (name location guest : List ℕ) → o ≡ Some r → Some (drop end name) ≡ option_map below_root (names_down t r.source dir)
+    → location ≡ below_root r.text.location → guest ≡ location ++ drop end name → Some guest ≡ option_map below_root (guest_directory t o dir)
+moved_bytes t o r dir end name location guest there down located whole =
+    let m = map_some below_root (names_down t r.source dir) (drop end name) (sym down) in
+    ap Some (whole ∙ ap (λ l. l ++ drop end name) located ∙ ap (λ b. below_root r.text.location ++ b) (sym m.2) ∙ sym (below_root_append m.0 r.text.location))
+    ∙ ap (λ o. option_map below_root (option_map (λ names. names ++ r.text.location) o)) (sym m.1)
+    ∙ ap (λ o. option_map below_root (guest_directory t o dir)) (sym there)
+
+-- a directory that isn't below the source has no guest name
+pub no_bytes : (t : Tree) (o : Option Row) (r : Row) (dir : ℕ) → o ≡ Some r → None ≡ option_map below_root (names_down t r.source dir) → ◌≡◌ {A = Option (List ℕ)} None (option_map below_root (guest_directory t o dir))
+no_bytes t o r dir there down = none (names_down t r.source dir) down ∙ ap (λ o. option_map below_root (guest_directory t o dir)) (sym there)
+  where
+    none : (names : Option Text) → None ≡ option_map below_root names → ◌≡◌ {A = Option (List ℕ)} None (option_map below_root (option_map (λ names. names ++ r.text.location) names))
+    none None h = refl
+    none (Some names) h = absurd cc
+
+-- the text of a name from its bytes below the root
+pub rooted_text : (names : Option Text) (bytes text : List ℕ) → Some bytes ≡ option_map below_root names → ((names : Text) → bytes ≡ below_root names → text ≡ text_of names) → Some text ≡ option_map text_of names
+rooted_text None bytes text is rooted = absurd cc
+rooted_text (Some names) bytes text is rooted = ap Some (rooted names (some_is bytes (below_root names) is))
+
+pub no_text : (names : Option Text) → None ≡ option_map below_root names → ◌≡◌ {A = Option (List ℕ)} None (option_map text_of names)
+no_text None h = refl
+no_text (Some names) h = absurd cc

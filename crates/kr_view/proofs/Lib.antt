@@ -1,12 +1,9 @@
 pub mod ArrivalLemmas
 pub mod DirectoryLemmas
-pub mod EndLemmas
-pub mod FoundLemmas
 pub mod GuestNameLemmas
 pub mod HostNameLemmas
 pub mod HostReachLemmas
 pub mod JumpedLemmas
-pub mod KeepLemmas
 pub mod LandingLemmas
 pub mod LastLemmas
 pub mod NameLemmas
@@ -23,4 +20,4 @@ pub mod SlashedLemmas
 pub mod StackLemmas
 pub mod StepLemmas
 pub mod TableLemmas
-pub mod WalkLemmas
+pub mod WayUpLemmas

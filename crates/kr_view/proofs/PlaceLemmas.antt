@@ -6,6 +6,9 @@ use Rattle.pr_base.specs.Paths.{Component, Dot, DotDot, Name, components_of, has
 use Rattle.pr_base.specs.WalkFrame.{Fails, Missing, Leads, Links, Jumps, Landing, most_links, begins_at}
 use Rattle.pr_base.specs.declared.errno.Errno.TheVariants.{ENOENT, EACCES, ENOTDIR, ENAMETOOLONG}
 use Rattle.pr_base.specs.declared.path.WalkMode.{WalkMode}
+use Rattle.pr_base.proofs.EndLemmas.{EndsSo}
+use Rattle.pr_base.proofs.KeepLemmas.{GoesOn, walk_keeps}
+use Rattle.pr_base.proofs.TextLemmas.{some_is, map_some}
 use Rattle.kr_inode.proofs.EntryLemmas.{named_in as entry_in}
 use Rattle.kr_tree.specs.declared.place.Host.{Host}
 use Rattle.kr_tree.specs.declared.place.Host.TheVariants.{Node, Proc}
@@ -15,21 +18,15 @@ use Rattle.kr_tree.specs.declared.place.ProcAt.TheVariants.{SelfLink, Dir, Cwd, 
 use Rattle.kr_tree.specs.Tree.{Tree, Inode, Entry, Body, Directory, RegularFile, SymbolicLink, ProcessDirectory, inode, body, body_is, entry, entry_named, entries, above as node_above, is_directory, is_listed}
 use Rattle.kr_tree.specs.Lawful.{IsSound, HasItsInodes}
 use Rattle.kr_tree.proofs.CountLemmas.{above_there, entries_there}
-use Rattle.kr_tree.proofs.NameLemmas.{some_is, map_some}
 use Rattle.kr_view.specs.declared.procs.Lead.{Lead}
 use Rattle.kr_view.specs.declared.procs.Lead.TheVariants.{Text, Jump, Nameless, NoLink}
 use Rattle.kr_view.specs.View.{Point, Row, row, node_in, root_place, point_place, is_there, down, up, is_root_place, StandsIn}
 use Rattle.kr_view.specs.Component.{Surroundings, SeenPlace, is_process_directory, is_directory_at, may_search, shows_directory, seen_body, landing, seen_link, seen_at, above_body, above_node, is_shown, above_process, above_host, seen_in_processes, seen_entry, is_processes, in_node, through_point, named_in, too_long, inside, look}
 use Rattle.kr_view.specs.Walk.{PlaceTarget, looking, place_walk}
-use Rattle.kr_view.specs.Laws.{Shows, IsSettledSource, IsDirectoryIn}
+use Rattle.pr_base.specs.WalkLaws.{Shows}
+use Rattle.kr_view.specs.Laws.{IsSettledSource}
 use Rattle.kr_view.specs.InTree.{IsObjectOf, IsPlaceOf, LeadToPlaces, LeadToEntries, StandsAround, WalksKeepPlaces}
-use Rattle.kr_view.proofs.EndLemmas.{landed, here, EndsSo}
-use Rattle.kr_view.proofs.KeepLemmas.{GoesOn, walk_keeps}
 use Rattle.kr_view.proofs.TableLemmas.{laws_of_places}
-
-there_is : {A : Type 0} (o : Option A) → is_there o ≡ true → (x : A) × (o ≡ Some x)
-there_is None h = absurd cc
-there_is (Some x) h = (x, refl)
 
 -- what passes a test is there
 tested_there : (test : Body → Bool) (t : Tree) (i : ℕ) → body_is test t i ≡ true → is_there (inode t i) ≡ true

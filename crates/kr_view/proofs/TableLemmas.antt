@@ -9,6 +9,7 @@ use Rattle.std.proofs.lemmas.Bool.{eqb-true, eq-eqb}
 use Rattle.std.proofs.lemmas.Option.{slice_get-get_or}
 use Rattle.std.specs.List.{list_any, position_or_len}
 use Rattle.std.proofs.lemmas.Slice.Eq.{bytes_eq-Decides}
+use Rattle.pr_base.specs.Paths.{AreNames}
 use Rattle.kr_tree.specs.declared.place.Place.{Place}
 use Rattle.kr_tree.specs.Tree.{Tree, root, body, body_is, inode, entry, is_directory, is_listed}
 use Rattle.kr_tree.specs.Lawful.{IsSound}
@@ -101,7 +102,7 @@ covers_name mount dir name r h =
     let p = point_there (is_point mount dir name) r h in
     ap (λ o. option_map_or (is_name_at dir name) o false) p.1 ∙ (point_is mount dir name p.0 p.2).1
 
-there_is : {A : Type 0} (o : Option A) → is_there o ≡ true → (x : A) × (o ≡ Some x)
+pub there_is : {A : Type 0} (o : Option A) → is_there o ≡ true → (x : A) × (o ≡ Some x)
 there_is None h = absurd cc
 there_is (Some x) h = (x, refl)
 
@@ -199,10 +200,15 @@ only_row : (k : ℕ) (r : Row) → row plain k ≡ Some r → (k ≡ 0) × (plai
 only_row zero r h = (refl, same_some plain_row r h)
 only_row (suc k) r h = no_row k r h
 
+no_names : AreNames []
+no_names = λ i d h. absurd (omega arith)
+
 plain_table : IsTable plain
 plain_table = record {
   root_location = λ r h. sym (ap (λ r. r.text.location) (only_row 0 r h).1);
+  location_names = λ k r h. let P : Row → Type 0 = λ r. AreNames r.text.location in subst P (only_row k r h).1 no_names;
   root_point = λ r h. sym (ap (λ r. r.point) (only_row 0 r h).1);
+  text_point = λ k r h. let P : Row → Type 0 = λ r. is_there r.text.point ≡ is_there r.point in subst P (only_row k r h).1 refl;
   later_point = λ k r h. no_row k r h;
   own_point = λ j k q r p a b _ _. (only_row j q a).0 ∙ sym (only_row k r b).0;
   own_index = λ j k q r a b _. (only_row j q a).0 ∙ sym (only_row k r b).0;

@@ -4,7 +4,7 @@
 use Rattle.std.specs.Prelude.{ℕ, suc, ◌≡◌, ◌<◌, Bool, true, false, ◌&&◌, List, [], ◌∷◌, slice_get, position, Option, Some, None, nat_eq, bytes_eq, if◌then◌else◌}
 use Rattle.std.specs.Option.{option_map, option_map_or, option_and_then}
 use Rattle.pr_base.specs.MountText.{MountText}
-use Rattle.pr_base.specs.Paths.{text_of, IsName}
+use Rattle.pr_base.specs.Paths.{text_of, IsName, AreNames}
 use Rattle.kr_tree.specs.declared.place.Host.{Host}
 use Rattle.kr_tree.specs.declared.place.Host.TheVariants.{Node, Proc}
 use Rattle.kr_tree.specs.declared.place.Place.{Place}
@@ -130,12 +130,14 @@ plain = plain_row ∷ []
 
 -- ---- a table and a tree
 
--- what every table keeps, whatever the tree: the first mount is the root's, located at the root and without
--- a mount point, and each later one has one; no two stand at one mount point, and none has the index or
--- the location of another
+-- what every table keeps, whatever the tree: locations are texts of well-formed names; the first mount is the
+-- root's, located at the root and without a mount point, and each later one has one; no two stand at one
+-- mount point, and none has the index or the location of another
 pub record IsTable (table : List Row) : Type 0 where
   pub root_location : (r : Row) → row table 0 ≡ Some r → r.text.location ≡ []
+  pub location_names : (k : ℕ) (r : Row) → row table k ≡ Some r → AreNames r.text.location
   pub root_point : (r : Row) → row table 0 ≡ Some r → r.point ≡ None
+  pub text_point : (k : ℕ) (r : Row) → row table k ≡ Some r → is_there r.text.point ≡ is_there r.point
   pub later_point : (k : ℕ) (r : Row) → row table (suc k) ≡ Some r → (p : Point) × (r.point ≡ Some p)
   pub own_point : (j k : ℕ) (q r : Row) (p : Point) → row table j ≡ Some q → row table k ≡ Some r → q.point ≡ Some p → r.point ≡ Some p → j ≡ k
   pub own_index : (j k : ℕ) (q r : Row) → row table j ≡ Some q → row table k ≡ Some r → q.text.index ≡ r.text.index → j ≡ k

@@ -1,7 +1,7 @@
 //! Laws of views and walks, each carried by a function that does nothing.
 ghost use Rattle.kr_view.specs.GuestNames.{GuestNamesGoByPlaces};
 ghost use Rattle.kr_view.specs.InTree.{NoProcessesKeepLaws, WalksKeepPlaces};
-ghost use Rattle.kr_view.specs.Laws.{FoundIsShown, PlacesHaveTheirLaws, PlainStands, ReachedIsFound, SettledSourcesAreEntries, WalksEndInDirectories, WalksGoByComponents, WalksReadNodes};
+ghost use Rattle.kr_view.specs.Laws.{FoundIsShown, PlacesHaveTheirLaws, PlainStands, ReachedIsFound, SettledSourcesAreEntries, WalksEndInDirectories, WalksReadNodes};
 
 /// The laws of a view whose mounts stand in a tree.
 pub fn places_have_their_laws()
@@ -22,11 +22,6 @@ pub fn settled_sources_are_entries()
 /// below by the names from there down, and nothing else has one.
 pub fn guest_names_go_by_places()
     ensures { GuestNamesGoByPlaces }
-{}
-
-/// A walk looks at one component after the other; what comes behind a look depends on what it shows.
-pub fn walks_go_by_components()
-    ensures { WalksGoByComponents }
 {}
 
 /// What a walk found is what its last component shows from the directory of the target.

@@ -2,6 +2,7 @@
 #![tactic(auto)]
 
 mod around;
+mod guest;
 pub mod laws;
 mod name;
 mod part;
@@ -14,6 +15,7 @@ pub mod target;
 pub mod view;
 mod walk;
 
+pub use guest::guest_name;
 pub use kr_tree::{Host, Ino, Place, ProcAt};
 pub use procs::{Lead, NoProcs, Procs};
 pub use target::{Reach, Target, WalkFault};

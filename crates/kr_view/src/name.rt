@@ -97,7 +97,7 @@ pub(crate) fn entered(name: Option<Bytes>, part: &[u8]) -> Result<Option<Bytes>,
 }
 
 /// Where the last slash of a path stands; 0 where it has none.
-fn last_slash(path: &[u8]) -> usize
+pub(crate) fn last_slash(path: &[u8]) -> usize
     ensures within { result ≤ length path.now }
     ensures last { (front name : List ℕ) → path.now ≡ front ++ slash ∷ name → All (λ b. b ≢ slash) name → result ≡ length front }
 {
@@ -131,7 +131,7 @@ pub(crate) fn directory_name(tree: &Tree, ino: Ino) -> Result<Option<Bytes>, NoM
 }
 
 /// The bytes of a host name without the root's slash.
-fn below_the_root(text: Bytes) -> Bytes
+pub(crate) fn below_the_root(text: Bytes) -> Bytes
     ensures { (names : List (List ℕ)) → AreNames names → text ≡ text_of names → result ≡ below_root names }
 {
     if text.len() == 1 {
