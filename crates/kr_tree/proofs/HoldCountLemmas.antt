@@ -1,14 +1,15 @@
 -- The holds on all inodes, before and after each change.
 use Rattle.std.specs.FinMap as map
-use Rattle.std.proofs.Common.{◌≡◌, ℕ, ◌+◌, ◌-◌, ◌≤◌, ◌<◌, Bool, true, false, ◌&&◌, nat_eq, List, refl, sym, ap, ◌∙◌, arith, cond, Option, Some, None, IsSome}
+use Rattle.std.proofs.Common.{◌≡◌, ℕ, ◌+◌, ◌-◌, ◌≤◌, ◌<◌, Bool, true, false, ◌&&◌, nat_eq, List, [], refl, sym, ap, ◌∙◌, arith, cond, Option, Some, None, IsSome}
+use Rattle.std.specs.Ordering.{nat_cmp}
 use Rattle.std.specs.Option.{option_map_or}
 use Rattle.std.proofs.lemmas.Bool.{eqb-true}
-use Rattle.kr_tree.specs.Tree.{Tree, Inode, Inodes, Body, inode, entry, body_is, is_directory}
-use Rattle.kr_tree.specs.Changes.{with_inode, with_holds, with_body, with_mode, with_owner, with_bytes, with_standing, with_entry, without_entry, with_names, unnamed, is_unused, is_unused_at, without_unused, held, released, unlinked, removed, moved, renamed_onto, renamed, added, linked, fresh, next_standing}
+use Rattle.kr_tree.specs.Tree.{Tree, Inode, Inodes, Body, Directory, root, inode, entry, body_is, is_directory}
+use Rattle.kr_tree.specs.Changes.{new_tree, with_inode, with_holds, with_body, with_mode, with_owner, with_bytes, with_standing, with_entry, without_entry, with_names, unnamed, is_unused, is_unused_at, without_unused, held, released, unlinked, removed, moved, renamed_onto, renamed, added, linked, fresh, next_standing}
 use Rattle.kr_tree.specs.Lawful.{IsSound, sum_below}
-use Rattle.kr_tree.specs.Holds.{holds_at, holds_in_all, HoldsAreCounted}
+use Rattle.kr_tree.specs.Holds.{holds_at, holds_in_all, HoldsInAll, HoldsAreCounted}
 use Rattle.kr_tree.proofs.InodesLemmas.{by_inode, get-insert_same, get-insert_other, get-remove_same, get-remove_other, stays-with}
-use Rattle.kr_tree.proofs.CountLemmas.{value, sum-same, sum-with, sum-suc, sum-at}
+use Rattle.kr_tree.proofs.CountLemmas.{value, sum-same, sum-with, sum-suc, sum-at, sum-zero}
 
 -- the holds on the inode of a number, if it is there
 abbrev held_times : Inodes → ℕ → ℕ
@@ -149,9 +150,21 @@ module _ (t : Tree) (sound : IsSound t) where
   quiet_in_all : (i : ℕ) (g : Inode → Inode) → ((x : Inode) → (g x).holds ≡ x.holds) → holds_below (with_inode i g t.inodes) t.next ≡ holds_in_all t
   quiet_in_all i g same = same_below t.inodes (with_inode i g t.inodes) t.next (as_held-with t.inodes i g same)
 
-pub holds_are_counted : HoldsAreCounted
-holds_are_counted t sound = record {
+-- the root isn't held
+none_in_all : (mode uid gid : ℕ) → holds_in_all (new_tree mode uid gid) ≡ 0
+none_in_all mode uid gid = sum-zero (λ x. x.holds) all 2 (by_inode (λ q. held_times all q ≡ 0) root (ap (value (λ x. x.holds)) (get-insert_same map.empty root new))
+    (λ q d. ap (value (λ x. x.holds)) (get-insert_other map.empty root new q d ∙ map.get-empty nat_cmp q)))
+  where
+    new : Inode
+    new = fresh mode uid gid (Directory [] (Some (record { inode = root; serial = 0 })))
+
+    all : Inodes
+    all = map.insert map.empty root new
+
+changed_in_all : (t : Tree) → IsSound t → HoldsInAll t
+changed_in_all t sound = record {
   most = most_held t sound;
+  fits = λ room i. let most = most_held t sound i in omega arith;
   held = held_in_all t sound;
   released = released_in_all t sound;
   added = added_in_all t sound;
@@ -162,3 +175,6 @@ holds_are_counted t sound = record {
   owner_set = λ i uid gid. quiet_in_all t sound i (with_owner uid gid) (λ x. refl);
   bytes_set = λ i f. quiet_in_all t sound i (with_body (with_bytes f)) (λ x. refl);
 }
+
+pub holds_are_counted : HoldsAreCounted
+holds_are_counted = record { none = none_in_all; changed = changed_in_all }

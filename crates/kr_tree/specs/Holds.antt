@@ -1,9 +1,9 @@
 -- How often the inodes of a tree are held, and a tree with fewer holds.
-use Rattle.std.specs.Prelude.{ℕ, ◌≡◌, ◌+◌, ◌-◌, ◌≤◌, ◌<◌, List, IsSome}
+use Rattle.std.specs.Prelude.{ℕ, ◌≡◌, ◌+◌, ◌-◌, ◌≤◌, ◌<◌, ◌^◌, List, IsSome}
 use Rattle.std.specs.Option.{option_map_or}
 use Rattle.pr_base.specs.Maps.{mapped}
 use Rattle.kr_tree.specs.Tree.{Tree, Inode, Body, inode, entry, nodes}
-use Rattle.kr_tree.specs.Changes.{with_holds, added, linked, removed, renamed, held, released, mode_set, owner_set, bytes_set, next_serial, has_no_room, has_no_name_left, has_no_room_for}
+use Rattle.kr_tree.specs.Changes.{with_holds, new_tree, added, linked, removed, renamed, held, released, mode_set, owner_set, bytes_set, next_serial, has_no_room, has_no_name_left, has_no_room_for}
 use Rattle.kr_tree.specs.Lawful.{IsSound, IsKept, total}
 
 -- how many names an inode has, and how often it is held; none where it isn't there
@@ -23,6 +23,7 @@ holds_in_all t = total (λ x. x.holds) t
 -- all, there is on each inode
 pub record HoldsInAll (t : Tree) : Type 0 where
   pub most : (i : ℕ) → holds_at t i ≤ holds_in_all t
+  pub fits : holds_in_all t + 1 < 2 ^ 32 → (i : ℕ) → holds_at t i + 1 < 2 ^ 32
   pub held : (i : ℕ) → IsSome (inode t i) → holds_in_all (held i t) ≡ holds_in_all t + 1
   pub released : (i : ℕ) → 0 < holds_at t i → holds_in_all (released i t) + 1 ≡ holds_in_all t
   pub added : (dir : ℕ) (name : List ℕ) (mode uid gid : ℕ) (body : Body) → holds_in_all (added dir name mode uid gid body t) ≡ holds_in_all t
@@ -33,8 +34,9 @@ pub record HoldsInAll (t : Tree) : Type 0 where
   pub owner_set : (i uid gid : ℕ) → holds_in_all (owner_set i uid gid t) ≡ holds_in_all t
   pub bytes_set : (i : ℕ) (f : List ℕ → List ℕ) → holds_in_all (bytes_set i f t) ≡ holds_in_all t
 
-abbrev pub HoldsAreCounted : Type 0
-HoldsAreCounted = (t : Tree) → IsSound t → HoldsInAll t
+pub record HoldsAreCounted : Type 0 where
+  pub none : (mode uid gid : ℕ) → holds_in_all (new_tree mode uid gid) ≡ 0
+  pub changed : (t : Tree) → IsSound t → HoldsInAll t
 
 -- ---- fewer holds
 
