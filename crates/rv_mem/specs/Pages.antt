@@ -5,6 +5,7 @@ use Rattle.std.specs.Prelude.{◌≡◌, ◌≤◌, ◌<◌, Some, None, length,
 use Rattle.std.specs.Option.{option_map_or}
 use Rattle.std.specs.Ordering.{nat_cmp}
 use Rattle.std.specs.Coded.{Coded, coded_ℕ}
+use Rattle.pr_base.specs.Maps.{changed}
 use Rattle.rv_mem.specs.declared.rights.Rights.{Rights}
 use Rattle.rv_mem.specs.declared.rights.Use.{Use}
 use Rattle.rv_mem.specs.Page.{PageState, page_code, fresh_page, grants, page_with_rights, page_written, page_marked}
@@ -89,8 +90,8 @@ IsWhole m = (k : ℕ) (p : PageState) → map.get m k ≡ Some p → (length p.b
 -- ---- changes
 
 -- the pages with f done to the one at a number, if one is there
-unfoldable pub with_page : Pages → ℕ → (PageState → PageState) → Pages
-with_page m number f = option_map_or (λ p. map.insert m number (f p)) (map.get m number) m
+abbrev pub with_page : Pages → ℕ → (PageState → PageState) → Pages
+with_page m number f = changed m number f
 
 -- the bytes written from an address on
 unfoldable pub written : Pages → ℕ → List ℕ → Pages
