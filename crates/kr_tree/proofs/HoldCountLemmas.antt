@@ -4,11 +4,11 @@ use Rattle.std.proofs.Common.{◌≡◌, ℕ, ◌+◌, ◌-◌, ◌≤◌, ◌<�
 use Rattle.std.specs.Ordering.{nat_cmp}
 use Rattle.std.specs.Option.{option_map_or}
 use Rattle.std.proofs.lemmas.Bool.{eqb-true}
+use Rattle.pr_base.proofs.MapLemmas.{by_key, get-insert_same, get-insert_other, get-remove_same, get-remove_other, stays-changed}
 use Rattle.kr_tree.specs.Tree.{Tree, Inode, Inodes, Body, Directory, root, inode, entry, body_is, is_directory}
 use Rattle.kr_tree.specs.Changes.{new_tree, with_inode, with_holds, with_body, with_mode, with_owner, with_bytes, with_standing, with_entry, without_entry, with_names, unnamed, is_unused, is_unused_at, without_unused, held, released, unlinked, removed, moved, renamed_onto, renamed, added, linked, fresh, next_standing}
 use Rattle.kr_tree.specs.Lawful.{IsSound, sum_below}
 use Rattle.kr_tree.specs.Holds.{holds_at, holds_in_all, HoldsInAll, HoldsAreCounted}
-use Rattle.kr_tree.proofs.InodesLemmas.{by_inode, get-insert_same, get-insert_other, get-remove_same, get-remove_other, stays-with}
 use Rattle.kr_tree.proofs.CountLemmas.{value, sum-same, sum-with, sum-suc, sum-at, sum-zero}
 
 -- the holds on the inode of a number, if it is there
@@ -26,7 +26,7 @@ AsHeld m n = (q : ℕ) → held_times n q ≡ held_times m q
 
 as_held-with : (m : Inodes) (k : ℕ) (g : Inode → Inode) → ((x : Inode) → (g x).holds ≡ x.holds) → AsHeld m (with_inode k g m)
 unfolding AsHeld
-as_held-with m k g same q = stays-with (value (λ x. x.holds)) m k g same q
+as_held-with m k g same q = stays-changed (value (λ x. x.holds)) m k g same q
 
 as_held-both : (m n o : Inodes) → AsHeld m n → AsHeld n o → AsHeld m o
 unfolding AsHeld
@@ -48,7 +48,7 @@ as_held-unused m k q = by (is_unused_at k m) refl
     by : (b : Bool) → is_unused_at k m ≡ b → held_times (cond b (map.remove m k) m) q ≡ held_times m q
     by false is = refl
     by true is =
-        by_inode (λ q. held_times (map.remove m k) q ≡ held_times m q) k
+        by_key (λ q. held_times (map.remove m k) q ≡ held_times m q) k
         (ap (value (λ x. x.holds)) (get-remove_same m k) ∙ sym (unheld (map.get m k) is))
         (λ q d. ap (value (λ x. x.holds)) (get-remove_other m k q d)) q
 
@@ -152,7 +152,7 @@ module _ (t : Tree) (sound : IsSound t) where
 
 -- the root isn't held
 none_in_all : (mode uid gid : ℕ) → holds_in_all (new_tree mode uid gid) ≡ 0
-none_in_all mode uid gid = sum-zero (λ x. x.holds) all 2 (by_inode (λ q. held_times all q ≡ 0) root (ap (value (λ x. x.holds)) (get-insert_same map.empty root new))
+none_in_all mode uid gid = sum-zero (λ x. x.holds) all 2 (by_key (λ q. held_times all q ≡ 0) root (ap (value (λ x. x.holds)) (get-insert_same map.empty root new))
     (λ q d. ap (value (λ x. x.holds)) (get-insert_other map.empty root new q d ∙ map.get-empty nat_cmp q)))
   where
     new : Inode

@@ -4,13 +4,13 @@ use Rattle.std.proofs.Common.{◌≡◌, subst, ℕ, zero, suc, ◌+◌, ◌-◌
 use Rattle.std.specs.Option.{option_map, option_map_or, option_and_then}
 use Rattle.std.proofs.lemmas.Bool.Decides.{nat_tests}
 use Rattle.pr_base.specs.Maps.{mapped}
-use Rattle.pr_base.proofs.MapLemmas.{same_values, len-mapped, get-mapped, mapped-insert, mapped-remove}
+use Rattle.pr_base.proofs.MapLemmas.{by_key, same_values, get-changed_same, get-changed_other, get-remove_same, get-remove_other, len-mapped, get-mapped, mapped-insert, mapped-remove}
 use Rattle.kr_inode.specs.declared.standing.Standing.{Standing}
 use Rattle.kr_tree.specs.Tree.{Tree, Inode, Inodes, Body, root, inode, body, body_is, entry, entries_of, entry_named, standing_of, is_directory, is_listed, bytes_of, nodes}
 use Rattle.kr_tree.specs.Changes.{with_inode, with_inodes, with_holds, with_body, with_mode, with_owner, with_bytes, with_standing, with_entry, without_entry, with_names, unnamed, is_unused, is_unused_at, dropped_if_unused, held, released, unlinked, removed, moved, renamed_onto, renamed, added, linked, bytes_set, fresh, next_serial, next_standing, count_limit, byte_limit, size}
 use Rattle.kr_tree.specs.Lawful.{IsKept, IsOfBytes, entries_beside}
 use Rattle.kr_tree.specs.Holds.{names_at, holds_at, fewer, with_fewer, ChangesAreAlikeWithFewerHolds, TreesLookAlikeWithFewerHolds, TreesAreKeptWithFewerHolds}
-use Rattle.kr_tree.proofs.InodesLemmas.{by_inode, get-with_same, get-with_other, get-remove_same, get-remove_other, stays-names}
+use Rattle.kr_tree.proofs.InodesLemmas.{stays-names}
 use Rattle.kr_tree.proofs.NameLemmas.{some_is}
 use Rattle.kr_tree.proofs.NodesLemmas.{get-with_values}
 use Rattle.kr_tree.proofs.CountLemmas.{value, sum-same}
@@ -72,11 +72,11 @@ module _ (less : ℕ → ℕ) where
 
   lighter-with : (m : Inodes) (k : ℕ) (g : Inode → Inode) → ((x : Inode) → map.get m k ≡ Some x → fewer (less k) (g x) ≡ g (fewer (less k) x)) → lighter (with_inode k g m) ≡ with_inode k g (lighter m)
   lighter-with m k g same =
-      same_values _ _ (by_inode (λ q. map.get (lighter (with_inode k g m)) q ≡ map.get (with_inode k g (lighter m)) q) k
-      (get-mapped (λ i. fewer (less i)) (with_inode k g m) k ∙ ap (option_map (fewer (less k))) (get-with_same m k g) ∙ by (map.get m k) same
-      ∙ sym (ap (option_map g) (get-mapped (λ i. fewer (less i)) m k)) ∙ sym (get-with_same (lighter m) k g))
-      (λ q d. get-mapped (λ i. fewer (less i)) (with_inode k g m) q ∙ ap (option_map (fewer (less q))) (get-with_other m k g q d)
-      ∙ sym (get-mapped (λ i. fewer (less i)) m q) ∙ sym (get-with_other (lighter m) k g q d)))
+      same_values _ _ (by_key (λ q. map.get (lighter (with_inode k g m)) q ≡ map.get (with_inode k g (lighter m)) q) k
+      (get-mapped (λ i. fewer (less i)) (with_inode k g m) k ∙ ap (option_map (fewer (less k))) (get-changed_same m k g) ∙ by (map.get m k) same
+      ∙ sym (ap (option_map g) (get-mapped (λ i. fewer (less i)) m k)) ∙ sym (get-changed_same (lighter m) k g))
+      (λ q d. get-mapped (λ i. fewer (less i)) (with_inode k g m) q ∙ ap (option_map (fewer (less q))) (get-changed_other m k g q d)
+      ∙ sym (get-mapped (λ i. fewer (less i)) m q) ∙ sym (get-changed_other (lighter m) k g q d)))
     where
       by : (o : Option Inode) → ((x : Inode) → o ≡ Some x → fewer (less k) (g x) ≡ g (fewer (less k) x)) → option_map (fewer (less k)) (option_map g o) ≡ option_map g (option_map (fewer (less k)) o)
       by None same = refl
@@ -156,7 +156,7 @@ module _ (less : ℕ → ℕ) where
     where
       by : (b : Bool) → 0 < value (λ x. x.names) (map.get (cond b (map.remove t.inodes i) t.inodes) q) → 0 < value (λ x. x.names) (map.get t.inodes q)
       by false = λ l. l
-      by true = by_inode (λ q. 0 < value (λ x. x.names) (map.get (map.remove t.inodes i) q) → 0 < value (λ x. x.names) (map.get t.inodes q)) i
+      by true = by_key (λ q. 0 < value (λ x. x.names) (map.get (map.remove t.inodes i) q) → 0 < value (λ x. x.names) (map.get t.inodes q)) i
           (λ l. let none : value (λ x. x.names) (map.get (map.remove t.inodes i) i) ≡ 0 = ap (value (λ x. x.names)) (get-remove_same t.inodes i) in absurd (omega arith))
           (λ q d l. subst (λ o. 0 < value (λ x. x.names) o) (get-remove_other t.inodes i q d) l) q
 
