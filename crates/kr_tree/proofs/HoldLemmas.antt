@@ -314,7 +314,10 @@ changes_are_alike_with_fewer_holds less t = record {
 
 pub trees_look_alike_with_fewer_holds : TreesLookAlikeWithFewerHolds
 trees_look_alike_with_fewer_holds less t = record {
+  inode = get-mapped (λ i. fewer (less i)) t.inodes;
   nodes = same_nodes less t;
+  node = unread less (option_map (λ x. x.node)) (λ n x. refl) t.inodes;
+  entries = unread less (λ o. option_map_or (λ x. entries_of x.node.body) o []) (λ n x. refl) t.inodes;
   entry = same_entry less t;
   next_serial = same_serial less t;
   names = same_names less t;

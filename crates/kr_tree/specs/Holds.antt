@@ -1,8 +1,8 @@
 -- How often the inodes of a tree are held, and a tree with fewer holds.
 use Rattle.std.specs.Prelude.{ℕ, ◌≡◌, ◌+◌, ◌-◌, ◌≤◌, ◌<◌, ◌^◌, List, IsSome}
-use Rattle.std.specs.Option.{option_map_or}
+use Rattle.std.specs.Option.{option_map, option_map_or}
 use Rattle.pr_base.specs.Maps.{mapped}
-use Rattle.kr_tree.specs.Tree.{Tree, Inode, Body, inode, entry, nodes}
+use Rattle.kr_tree.specs.Tree.{Tree, Inode, Body, inode, node, nodes, entry, entries}
 use Rattle.kr_tree.specs.Changes.{with_holds, new_tree, added, linked, removed, renamed, held, released, mode_set, owner_set, bytes_set, next_serial, has_no_room, has_no_name_left, has_no_room_for}
 use Rattle.kr_tree.specs.Lawful.{IsSound, IsKept, total}
 
@@ -65,7 +65,10 @@ pub record ChangesWithFewerHolds (less : ℕ → ℕ) (t : Tree) : Type 0 where
 
 -- what is looked up in a tree is the same with fewer holds, and so is whether a change passes a limit
 pub record LooksWithFewerHolds (less : ℕ → ℕ) (t : Tree) : Type 0 where
+  pub inode : (i : ℕ) → inode (with_fewer less t) i ≡ option_map (fewer (less i)) (inode t i)
   pub nodes : nodes (with_fewer less t) ≡ nodes t
+  pub node : (i : ℕ) → node (with_fewer less t) i ≡ node t i
+  pub entries : (dir : ℕ) → entries (with_fewer less t) dir ≡ entries t dir
   pub entry : (dir : ℕ) (name : List ℕ) → entry (with_fewer less t) dir name ≡ entry t dir name
   pub next_serial : (dir : ℕ) → next_serial (with_fewer less t) dir ≡ next_serial t dir
   pub names : (i : ℕ) → names_at (with_fewer less t) i ≡ names_at t i
