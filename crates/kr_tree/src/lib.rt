@@ -2,6 +2,7 @@
 #![tactic(auto)]
 
 pub mod hold_laws;
+pub mod laws;
 mod name;
 pub mod place;
 pub mod refusal;

@@ -24,7 +24,7 @@ use Rattle.kr_tree.proofs.EntryLemmas.{body_test}
 use Rattle.kr_view.specs.declared.procs.Lead.{Lead}
 use Rattle.kr_view.specs.declared.procs.Lead.TheVariants.{Text as TextLead, Jump, Nameless, NoLink}
 use Rattle.kr_view.specs.View.{Row, node_in, is_there, root_place, plain, down}
-use Rattle.kr_view.specs.Component.{Surroundings, SeenPlace, look, inside, named_in, through_point, too_long, seen_at, seen_in_processes, seen_entry, seen_body, seen_link, is_processes, is_process_directory, is_directory_at, may_search, shows_directory}
+use Rattle.kr_view.specs.Component.{Surroundings, SeenPlace, look_up, inside, named_in, through_point, too_long, seen_at, seen_in_processes, seen_entry, seen_body, seen_link, is_processes, is_process_directory, is_directory_at, may_search, shows_directory}
 use Rattle.kr_view.specs.Laws.{is_link}
 use Rattle.kr_view.specs.Walk.{PlaceTarget, looking, place_walk}
 use Rattle.kr_view.specs.InTree.{IsObjectOf}
@@ -155,7 +155,7 @@ module _ (around : Surroundings) (mode : WalkMode) (left : ℕ) (again : Onward 
 module _ (around : Surroundings) (is_plain : around.table ≡ plain) where
   -- a name in a directory that may be searched
   pub look_name : (dir : Host) (name : List ℕ) → is_directory_at around.tree dir ≡ true → may_search around.tree around.user dir ≡ true
-      → look around (host_place dir) (Name name) ≡ (if too_long name then Fails ENAMETOOLONG else seen_object around (object_in around.tree around.finds name dir))
+      → look_up around (host_place dir) (Name name) ≡ (if too_long name then Fails ENAMETOOLONG else seen_object around (object_in around.tree around.finds name dir))
   look_name dir name is_dir search =
       ap (λ b. if b then (if may_search around.tree around.user dir then inside around (host_place dir) (Name name) else Fails EACCES) else Fails ENOTDIR) is_dir
       ∙ ap (λ b. if b then inside around (host_place dir) (Name name) else Fails EACCES) search
@@ -178,11 +178,11 @@ module _ (around : Surroundings) (is_plain : around.table ≡ plain) where
       object_named (Proc i at) = process_seen i (around.finds (Some at) name)
 
   pub look_object : (dir x : Host) (name : List ℕ) → is_directory_at around.tree dir ≡ true → may_search around.tree around.user dir ≡ true → too_long name ≡ false → object_in around.tree around.finds name dir ≡ Some x
-      → look around (host_place dir) (Name name) ≡ seen_at around (host_place x) x
+      → look_up around (host_place dir) (Name name) ≡ seen_at around (host_place x) x
   look_object dir x name is_dir search short there =
       look_name dir name is_dir search ∙ ap (λ b. if b then Fails ENAMETOOLONG else seen_object around (object_in around.tree around.finds name dir)) short ∙ ap (seen_object around) there
 
-  pub look_closed : (dir : Host) (name : List ℕ) → is_directory_at around.tree dir ≡ true → may_search around.tree around.user dir ≡ false → look around (host_place dir) (Name name) ≡ Fails EACCES
+  pub look_closed : (dir : Host) (name : List ℕ) → is_directory_at around.tree dir ≡ true → may_search around.tree around.user dir ≡ false → look_up around (host_place dir) (Name name) ≡ Fails EACCES
   look_closed dir name is_dir search =
       ap (λ b. if b then (if may_search around.tree around.user dir then inside around (host_place dir) (Name name) else Fails EACCES) else Fails ENOTDIR) is_dir
       ∙ ap (λ b. if b then inside around (host_place dir) (Name name) else Fails EACCES) search
@@ -272,7 +272,7 @@ module _ (around : Surroundings) (text : Text) (dir : Host) (name : List ℕ) (s
     at_name seen = (at_last (looking around) mode most_links (onward (looking around) mode most_links) (host_place dir) (Name name) sl seen).answer
 
     -- the walk ends as what is seen at the name says
-    name_walk : (place_walk around mode base path).answer ≡ at_name (look around (host_place dir) (Name name))
+    name_walk : (place_walk around mode base path).answer ≡ at_name (look_up around (host_place dir) (Name name))
     name_walk =
         let more = slashed sl name in
         let relative = slashed_relative sl name part in

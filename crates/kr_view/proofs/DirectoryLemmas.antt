@@ -11,7 +11,7 @@ use Rattle.pr_base.specs.declared.path.WalkMode.{WalkMode}
 use Rattle.kr_tree.specs.declared.place.Place.{Place}
 use Rattle.kr_tree.specs.Tree.{Tree, Inode, inode, body, body_is, is_directory}
 use Rattle.kr_view.specs.View.{root_source, root_place, StandsIn}
-use Rattle.kr_view.specs.Component.{Surroundings, SeenPlace, look, inside, is_directory_at, may_search}
+use Rattle.kr_view.specs.Component.{Surroundings, SeenPlace, look_up, inside, is_directory_at, may_search}
 use Rattle.kr_view.specs.Walk.{PlaceTrail, PlaceTarget, looking, place_walk}
 use Rattle.pr_base.specs.WalkLaws.{Shows}
 use Rattle.pr_base.proofs.EndLemmas.{EndsSo, walk_ends}
@@ -21,7 +21,7 @@ use Rattle.kr_view.proofs.TableLemmas.{same_some, laws_of_places}
 use Rattle.kr_view.proofs.RestLemmas.{begun_has_parts}
 
 -- from what is no directory nothing is shown
-pub looked_in : (around : Surroundings) (p : Place ℕ) (c : Component) (found : Option (Place ℕ)) → Shows (look around p c) found → is_directory_at around.tree p.host ≡ true
+pub looked_in : (around : Surroundings) (p : Place ℕ) (c : Component) (found : Option (Place ℕ)) → Shows (look_up around p c) found → is_directory_at around.tree p.host ≡ true
 looked_in around p c found shows = at (is_directory_at around.tree p.host) refl shows
   where
     at : (b : Bool) → is_directory_at around.tree p.host ≡ b → Shows (if b then (if may_search around.tree around.user p.host then inside around p c else Fails EACCES) else Fails ENOTDIR) found → is_directory_at around.tree p.host ≡ true

@@ -23,7 +23,7 @@ use Rattle.kr_view.specs.Walk.{PlaceTrail, PlaceTarget, looking}
 use Rattle.kr_view.specs.Reach.{Covers, raised, reached_landing, reach_after}
 use Rattle.kr_view.specs.Answers.{told, target_numbered}
 use Rattle.kr_view.specs.Stacks.{stack_of}
-use Rattle.kr_view.specs.Steps.{last_trail, IsLanded, IsFollowed, IsOutcome}
+use Rattle.kr_view.specs.Steps.{last_trail, IsLanded, IsFollowed, HasOutcome}
 use Rattle.kr_view.proofs.ReachLemmas.{covers_refl}
 use Rattle.kr_view.proofs.OutcomeLemmas.{want_behind, at_follow_error, jumps_to}
 
@@ -59,12 +59,12 @@ module _ {M : Type 0} (number : M → ℕ) (around : Surroundings) (mode : WalkM
   behind_last = last_trail around mode walk.left (numbered number walk.position.place) c walk.slash (seen_link around link lead)
 
   pub last_want : (r : Result (Step M) WalkFault) → IsErr r → IsErrAnd r (λ f. f ≡ fault.NoMemory)
-      → IsOutcome number around mode behind_last.answer (reach_after around behind_last old) old old r
+      → HasOutcome number around mode behind_last.answer (reach_after around behind_last old) old old r
   last_want r err want = want_behind number around mode behind_last.answer behind_last old r err want
 
   pub last_text_error : (text : List ℕ) (slash : Bool) (e : WalkFault) (r : Result (Step M) WalkFault) → lead ≡ Text text → slash ≡ (walk.slash || has_slash text) → is_followed mode walk.slash ≡ true → stack_of walk.rests ≡ []
       → IsErr r → IsErrAnd r (λ f. f ≡ e) → IsFollowed number around walk text slash (Err e)
-      → IsOutcome number around mode behind_last.answer (reach_after around behind_last old) old old r
+      → HasOutcome number around mode behind_last.answer (reach_after around behind_last old) old old r
   last_text_error text slash e r is slashed followed none err same follows =
       let s = numbered number walk.position.place in
       let seen = ap (seen_link around link) is in
@@ -86,13 +86,13 @@ module _ {M : Type 0} (number : M → ℕ) (around : Surroundings) (mode : WalkM
 
   pub landed_ends : (p : Place ℕ) (dir : ℕ) (name : List ℕ) (new : Reach) (target : Told M) → lead ≡ Jump p dir name → is_followed mode walk.slash ≡ true → walk.left ≢ 0
       → new ≡ reached_landing around (landing around p dir name) old → IsLanded number (ends_landed mode walk.slash (landing around p dir name)).answer (Ok target)
-      → IsOutcome number around mode behind_last.answer (reach_after around behind_last old) old new (Ok (Ends target))
+      → HasOutcome number around mode behind_last.answer (reach_after around behind_last old) old new (Ok (Ends target))
   landed_ends p dir name new target is followed some reached landed =
       ((landed.0, ap (λ t. t.answer) (landed_answer p dir name is followed some) ∙ landed.1, landed.2), reached ∙ sym (landed_whole p dir name is followed some))
 
   pub landed_error : (p : Place ℕ) (dir : ℕ) (name : List ℕ) (new : Reach) (e : WalkFault) (r : Result (Step M) WalkFault) → lead ≡ Jump p dir name → is_followed mode walk.slash ≡ true → walk.left ≢ 0
       → new ≡ reached_landing around (landing around p dir name) old → IsErr r → IsErrAnd r (λ f. f ≡ e) → IsLanded number (ends_landed mode walk.slash (landing around p dir name)).answer (Err e)
-      → Covers new old → IsOutcome number around mode behind_last.answer (reach_after around behind_last old) old new r
+      → Covers new old → HasOutcome number around mode behind_last.answer (reach_after around behind_last old) old new r
   landed_error p dir name new e (Ok step) is followed some reached err same landed covers = absurd cc
   landed_error p dir name new (fault.Err e) (Err fault.NoMemory) is followed some reached err same landed covers = absurd cc
   landed_error p dir name new fault.NoMemory (Err (fault.Err f)) is followed some reached err same landed covers = absurd cc
@@ -140,13 +140,13 @@ module _ (around : Surroundings) (mode : WalkMode) (left : ℕ) (s : Place ℕ) 
 
 module _ {M : Type 0} (number : M → ℕ) (around : Surroundings) (mode : WalkMode) (trail : PlaceTrail) (s : Place ℕ) (c : Component) (slash : Bool) (old : Reach) (target : Told M) where
   pub ends_at : (q : Place ℕ) → trail ≡ ends (target_at s c slash (Some q)) → told (target_at s c slash (Some q)) ≡ target_numbered number target
-      → IsOutcome number around mode trail.answer (reach_after around trail old) old old (Ok (Ends target))
+      → HasOutcome number around mode trail.answer (reach_after around trail old) old old (Ok (Ends target))
   ends_at q at same =
       ((target_at s c slash (Some q), ap (λ t. t.answer) at, same), sym (ap (λ t. reach_after around t old) at ∙ found_reach around s c slash q old))
 
   pub ends_free : (new : Reach) → trail ≡ ends (target_at s c slash None) → told (target_at s c slash None) ≡ target_numbered number target
       → new.longest ≡ raised (free_name around s.host (name_of c)) old.longest → new.met_proc ≡ old.met_proc
-      → IsOutcome number around mode trail.answer (reach_after around trail old) old new (Ok (Ends target))
+      → HasOutcome number around mode trail.answer (reach_after around trail old) old new (Ok (Ends target))
   ends_free new at same long met =
       let all : new ≡ record { longest = raised (free_name around s.host (name_of c)) old.longest; met_proc = old.met_proc } = λ i. record { longest = long i; met_proc = met i } in
       ((target_at s c slash None, ap (λ t. t.answer) at, same), all ∙ sym (ap (λ t. reach_after around t old) at ∙ free_reach around s c slash old))

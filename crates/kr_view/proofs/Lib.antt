@@ -6,6 +6,7 @@ pub mod HostReachLemmas
 pub mod JumpedLemmas
 pub mod LandingLemmas
 pub mod LastLemmas
+pub mod LivingLemmas
 pub mod NameLemmas
 pub mod NodeLemmas
 pub mod OutcomeLemmas

@@ -16,7 +16,7 @@ use Rattle.kr_tree.specs.Rights.{allows}
 use Rattle.kr_view.specs.declared.procs.Lead.{Lead}
 use Rattle.kr_view.specs.declared.procs.Lead.TheVariants.{Text as TextLead, Jump, Nameless, NoLink}
 use Rattle.kr_view.specs.View.{root_place, is_root_place, down, up, node_in}
-use Rattle.kr_view.specs.Component.{Surroundings, SeenPlace, is_directory_at, may_search, shows_directory, seen_body, seen_link, seen_at, above_body, above_node, above_host, is_process_directory, is_processes, seen_in_processes, seen_entry, in_node, through_point, named_in, too_long, inside, look}
+use Rattle.kr_view.specs.Component.{Surroundings, SeenPlace, is_directory_at, may_search, shows_directory, seen_body, seen_link, seen_at, above_body, above_node, above_host, is_process_directory, is_processes, seen_in_processes, seen_entry, in_node, through_point, named_in, too_long, inside, look_up}
 use Rattle.kr_view.specs.Walk.{looking, place_walk}
 use Rattle.kr_view.specs.Laws.{with_tree, WalksReadNodes}
 
@@ -117,7 +117,7 @@ module _ (around : Surroundings) (u : Tree) (same : (i : ℕ) → node around.tr
   inside_same p DotDot = ap (λ s. if is_root_place around.table p then shows_directory p else s) (above_host_same p.mount p.host)
   inside_same p (Name name) = ap (λ s. if too_long name then Fails ENAMETOOLONG else s) (named_in_same p.mount p.host name)
 
-  look_same : (p : Place ℕ) (c : Component) → look around p c ≡ look other p c
+  look_same : (p : Place ℕ) (c : Component) → look_up around p c ≡ look_up other p c
   look_same p c =
       ap (λ b. if b then (if may_search t around.user p.host then inside around p c else Fails EACCES) else Fails ENOTDIR) (dir_same p.host)
       ∙ ap (λ b. if is_directory_at u p.host then (if b then inside around p c else Fails EACCES) else Fails ENOTDIR) (search_same p.host)

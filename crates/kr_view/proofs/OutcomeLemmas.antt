@@ -22,13 +22,13 @@ use Rattle.kr_view.specs.Walk.{PlaceTrail, PlaceTarget, looking}
 use Rattle.kr_view.specs.Reach.{Covers, reached_landing, reach_after}
 use Rattle.kr_view.specs.Stacks.{stack_of}
 use Rattle.kr_view.specs.Positions.{IsNamed}
-use Rattle.kr_view.specs.Steps.{trail_of, middle_trail, Follows, IsFollowed, GoesOn, IsOutcome}
+use Rattle.kr_view.specs.Steps.{trail_of, middle_trail, Follows, IsFollowed, GoesOn, HasOutcome}
 use Rattle.pr_base.proofs.WalkLemmas.{onward-less, onward-none}
 use Rattle.kr_view.proofs.ReachLemmas.{covers_refl, covers_trans, covers_after, covers_landing, behind_jump}
 
 module _ {M : Type 0} (number : M → ℕ) (around : Surroundings) (mode : WalkMode) where
   pub at_want : (answer : Result PlaceTarget Errno) (whole old new : Reach) (r : Result (Step M) WalkFault) → IsErr r → IsErrAnd r (λ f. f ≡ fault.NoMemory)
-      → Covers new old × Covers whole new → IsOutcome number around mode answer whole old new r
+      → Covers new old × Covers whole new → HasOutcome number around mode answer whole old new r
   at_want answer whole old new (Ok step) is want part = absurd cc
   at_want answer whole old new (Err (fault.Err e)) is want part = absurd cc
   at_want answer whole old new (Err fault.NoMemory) is want part = part
@@ -41,7 +41,7 @@ module _ {M : Type 0} (number : M → ℕ) (around : Surroundings) (mode : WalkM
   pub at_follow_error : (walk : Walk M) (text : List ℕ) (slash : Bool) (trail : PlaceTrail) (old : Reach) (e : WalkFault) (r : Result (Step M) WalkFault) → IsErr r → IsErrAnd r (λ f. f ≡ e)
       → IsFollowed number around walk text slash (Err e)
       → trail ≡ onward (looking around) mode walk.left (begins_at (looking around) (numbered number walk.position.place) text) (components_of text ++ stack_of walk.rests) slash
-      → IsOutcome number around mode trail.answer (reach_after around trail old) old old r
+      → HasOutcome number around mode trail.answer (reach_after around trail old) old old r
   at_follow_error walk text slash trail old e (Ok step) is same followed at = absurd cc
   at_follow_error walk text slash trail old (fault.Err e) (Err fault.NoMemory) is same followed at = absurd cc
   at_follow_error walk text slash trail old fault.NoMemory (Err (fault.Err f)) is same followed at = absurd cc
@@ -92,24 +92,24 @@ module _ {M : Type 0} (number : M → ℕ) (around : Surroundings) (mode : WalkM
   behind_link = middle_trail around mode walk.left (numbered number walk.position.place) (stack_of walk.rests) walk.slash (seen_link around link lead)
 
   pub link_want : (r : Result (Step M) WalkFault) → IsErr r → IsErrAnd r (λ f. f ≡ fault.NoMemory)
-      → IsOutcome number around mode behind_link.answer (reach_after around behind_link old) old old r
+      → HasOutcome number around mode behind_link.answer (reach_after around behind_link old) old old r
   link_want r err want =
       at_want number around mode behind_link.answer (reach_after around behind_link old) old old r err want
       (covers_refl old, covers_after around behind_link old)
 
   pub text_error : (text : List ℕ) (e : WalkFault) (r : Result (Step M) WalkFault) → lead ≡ Text text → IsErr r → IsErrAnd r (λ f. f ≡ e) → IsFollowed number around walk text walk.slash (Err e)
-      → IsOutcome number around mode behind_link.answer (reach_after around behind_link old) old old r
+      → HasOutcome number around mode behind_link.answer (reach_after around behind_link old) old old r
   text_error text e r is err same followed =
       let s = numbered number walk.position.place in
       let T = middle_trail around mode walk.left s (stack_of walk.rests) walk.slash (Links link text) in
-      let at_text : IsOutcome number around mode T.answer (reach_after around T old) old old r = at_follow_error number around mode walk text walk.slash T old e r err same followed refl in
-      let Q : Lead ℕ → Type 0 = λ lead. IsOutcome number around mode (middle_trail around mode walk.left s (stack_of walk.rests) walk.slash (seen_link around link lead)).answer
+      let at_text : HasOutcome number around mode T.answer (reach_after around T old) old old r = at_follow_error number around mode walk text walk.slash T old e r err same followed refl in
+      let Q : Lead ℕ → Type 0 = λ lead. HasOutcome number around mode (middle_trail around mode walk.left s (stack_of walk.rests) walk.slash (seen_link around link lead)).answer
       (reach_after around (middle_trail around mode walk.left s (stack_of walk.rests) walk.slash (seen_link around link lead)) old) old old r in
       subst Q (sym is) at_text
 
   pub landing_error : (p : Place ℕ) (dir : ℕ) (name : List ℕ) (new : Reach) (r : Result (Step M) WalkFault) → lead ≡ Jump p dir name → walk.left ≢ 0 → stack_of walk.rests ≢ []
       → IsErr r → IsErrAnd r (λ f. f ≡ fault.NoMemory) → Covers new old × Covers (reached_landing around (landing around p dir name) old) new
-      → IsOutcome number around mode behind_link.answer (reach_after around behind_link old) old new r
+      → HasOutcome number around mode behind_link.answer (reach_after around behind_link old) old new r
   landing_error p dir name new r is some more err want part =
       let l = landing around p dir name in
       let s = numbered number walk.position.place in
@@ -119,7 +119,7 @@ module _ {M : Type 0} (number : M → ℕ) (around : Surroundings) (mode : WalkM
       let P : Reach → Type 0 = λ whole. Covers whole new in
       let whole : Covers (reach_after around T old) new = subst P (sym (middle_jump_reach around mode walk.left s (stack_of walk.rests) walk.slash link p dir name old some)) all in
       let at_jump = at_want number around mode T.answer (reach_after around T old) old new r err want (part.0, whole) in
-      let Q : Lead ℕ → Type 0 = λ lead. IsOutcome number around mode (middle_trail around mode walk.left s (stack_of walk.rests) walk.slash (seen_link around link lead)).answer
+      let Q : Lead ℕ → Type 0 = λ lead. HasOutcome number around mode (middle_trail around mode walk.left s (stack_of walk.rests) walk.slash (seen_link around link lead)).answer
       (reach_after around (middle_trail around mode walk.left s (stack_of walk.rests) walk.slash (seen_link around link lead)) old) old new r in
       subst Q (sym is) at_jump
 
@@ -145,5 +145,5 @@ module _ {M : Type 0} (number : M → ℕ) (around : Surroundings) (mode : WalkM
 
 -- where memory is wanting before anything more was reached
 pub want_behind : {M : Type 0} (number : M → ℕ) (around : Surroundings) (mode : WalkMode) (answer : Result PlaceTarget Errno) (trail : PlaceTrail) (old : Reach) (r : Result (Step M) WalkFault)
-    → IsErr r → IsErrAnd r (λ f. f ≡ fault.NoMemory) → IsOutcome number around mode answer (reach_after around trail old) old old r
+    → IsErr r → IsErrAnd r (λ f. f ≡ fault.NoMemory) → HasOutcome number around mode answer (reach_after around trail old) old old r
 want_behind number around mode answer trail old r err want = at_want number around mode answer (reach_after around trail old) old old r err want (covers_refl old, covers_after around trail old)

@@ -21,7 +21,7 @@ use Rattle.kr_tree.proofs.CountLemmas.{above_there, entries_there}
 use Rattle.kr_view.specs.declared.procs.Lead.{Lead}
 use Rattle.kr_view.specs.declared.procs.Lead.TheVariants.{Text, Jump, Nameless, NoLink}
 use Rattle.kr_view.specs.View.{Point, Row, row, node_in, root_place, point_place, is_there, down, up, is_root_place, StandsIn}
-use Rattle.kr_view.specs.Component.{Surroundings, SeenPlace, is_process_directory, is_directory_at, may_search, shows_directory, seen_body, landing, seen_link, seen_at, above_body, above_node, is_shown, above_process, above_host, seen_in_processes, seen_entry, is_processes, in_node, through_point, named_in, too_long, inside, look}
+use Rattle.kr_view.specs.Component.{Surroundings, SeenPlace, is_process_directory, is_directory_at, may_search, shows_directory, seen_body, landing, seen_link, seen_at, above_body, above_node, is_shown, above_process, above_host, seen_in_processes, seen_entry, is_processes, in_node, through_point, named_in, too_long, inside, look_up}
 use Rattle.kr_view.specs.Walk.{PlaceTarget, looking, place_walk}
 use Rattle.pr_base.specs.WalkLaws.{Shows}
 use Rattle.kr_view.specs.Laws.{IsSettledSource}
@@ -189,7 +189,7 @@ module _ (around : Surroundings) (base : Place ℕ) (stand : StandsAround around
   sees_inside p DotDot good = either_way (is_root_place around.table p) (shows_directory p) (above_host around p.mount p.host) (sees_directory p good) (sees_above_host p.mount p.host good.mounted good.object)
   sees_inside p (Name name) good = either_way (too_long name) (Fails ENAMETOOLONG) (named_in around p.mount p.host name) tt (sees_named_in p.mount p.host name good.mounted good.object)
 
-  sees_look : (p : Place ℕ) (c : Component) → Good p → Sees (look around p c)
+  sees_look : (p : Place ℕ) (c : Component) → Good p → Sees (look_up around p c)
   sees_look p c good =
       either_way (is_directory_at t p.host) (if may_search t around.user p.host then inside around p c else Fails EACCES) (Fails ENOTDIR)
       (either_way (may_search t around.user p.host) (inside around p c) (Fails EACCES) (sees_inside p c good) tt) tt
@@ -226,7 +226,7 @@ module _ (around : Surroundings) (base : Place ℕ) (stand : StandsAround around
   shown_good (Jumps f None) found p sees shows is = let P : Place ℕ → Type 0 = λ p. Good p in subst P (some_is f p (sym shows ∙ is)) sees
   shown_good (Jumps f (Some l)) found p sees shows is = let P : Place ℕ → Type 0 = λ p. Good p in subst P (some_is f p (sym shows ∙ is)) sees.0
 
-  jump_lands : (s : Place ℕ) (c : Component) (f : Place ℕ) (l : Landing (Place ℕ) (Place ℕ)) → Good s → look around s c ≡ Jumps f (Some l) → LandsAt l
+  jump_lands : (s : Place ℕ) (c : Component) (f : Place ℕ) (l : Landing (Place ℕ) (Place ℕ)) → Good s → look_up around s c ≡ Jumps f (Some l) → LandsAt l
   jump_lands s c f l good looked = (subst Sees looked (sees_look s c good)).1
 
   -- ---- walks
@@ -237,9 +237,9 @@ module _ (around : Surroundings) (base : Place ℕ) (stand : StandsAround around
 
     pub found_good : EndsSo (looking around) FoundGood (place_walk around mode base path)
     found_good =
-        walk_keeps Good (looking around) FoundGood root_there (λ s c good. goes_on (look around s c) (sees_look s c good))
+        walk_keeps Good (looking around) FoundGood root_there (λ s c good. goes_on (look_up around s c) (sees_look s c good))
         (λ s slash good p is. let P : Place ℕ → Type 0 = λ p. Good p in subst P (some_is s p is) good)
-        (λ s c slash found good shows p is. shown_good (look around s c) found p (sees_look s c good) shows is)
+        (λ s c slash found good shows p is. shown_good (look_up around s c) found p (sees_look s c good) shows is)
         (λ s c slash f l good looked p is. let P : Place ℕ → Type 0 = λ p. Good p in subst P (some_is l.found p is) (landed_at l (jump_lands s c f l good looked)).1)
         mode most_links base path (has_slash path) stand.begins
 
@@ -248,7 +248,7 @@ module _ (around : Surroundings) (base : Place ℕ) (stand : StandsAround around
 
     pub directory_good : EndsSo (looking around) InGood (place_walk around mode base path)
     directory_good =
-        walk_keeps Good (looking around) InGood root_there (λ s c good. goes_on (look around s c) (sees_look s c good))
+        walk_keeps Good (looking around) InGood root_there (λ s c good. goes_on (look_up around s c) (sees_look s c good))
         (λ s slash good jumped. good)
         (λ s c slash found good shows jumped. good)
         (λ s c slash f l good looked jumped. absurd cc)
@@ -283,7 +283,7 @@ module _ (around : Surroundings) (base : Place ℕ) (stand : StandsAround around
 
       pub remembered_good : EndsSo (looking around) DirGood (place_walk around mode base path)
       remembered_good =
-          walk_keeps Good (looking around) DirGood root_there (λ s c good. goes_on (look around s c) (sees_look s c good))
+          walk_keeps Good (looking around) DirGood root_there (λ s c good. goes_on (look_up around s c) (sees_look s c good))
           (λ s slash good. good)
           (λ s c slash found good shows. good)
           (λ s c slash f l good looked. remembers l (jump_lands s c f l good looked))

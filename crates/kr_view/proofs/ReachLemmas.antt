@@ -7,11 +7,11 @@ use Rattle.pr_base.specs.WalkFrame.{LookedAt, Landing, after_look, after_jump}
 use Rattle.pr_base.specs.declared.errno.Errno.{Errno}
 use Rattle.kr_tree.specs.declared.place.Place.{Place}
 use Rattle.kr_view.specs.declared.target.Reach.{Reach}
-use Rattle.kr_view.specs.Component.{Surroundings, look, meets_processes}
+use Rattle.kr_view.specs.Component.{Surroundings, look_up, meets_processes}
 use Rattle.kr_view.specs.Names.{Text, component_name, directory_name, landing_name}
 use Rattle.kr_view.specs.Walk.{PlaceTrail, PlaceTarget}
 use Rattle.kr_view.specs.Reach.{Covers, raised, raised_by_all, seen_name, look_names, end_names, look_reach, looks_reach, reached_landing, landings_reach, end_reach, reach_after}
-use Rattle.kr_view.specs.Steps.{noted, IsPart}
+use Rattle.kr_view.specs.Steps.{noted, HasReached}
 
 pub covers_refl : (r : Reach) → Covers r r
 covers_refl r = record { longest = omega arith; met_proc = λ h. h }
@@ -37,7 +37,7 @@ either false b h = absurd cc
 pub covers_look : (around : Surroundings) (l : LookedAt (Place ℕ)) (r : Reach) → Covers (look_reach around l r) r
 covers_look around l r =
     record {
-      longest = all_more (look_names around l.place (look around l.place l.component) (component_name around l.place l.component)) r.longest;
+      longest = all_more (look_names around l.place (look_up around l.place l.component) (component_name around l.place l.component)) r.longest;
       met_proc = λ h. either r.met_proc (meets_processes around l.place l.component) h;
     }
 
@@ -76,7 +76,7 @@ looks_swap : (around : Surroundings) (looks : List (LookedAt (Place ℕ))) (land
     → looks_reach around looks (reached_landing around landing r) ≡ reached_landing around landing (looks_reach around looks r)
 looks_swap around [] landing r = refl
 looks_swap around (l ∷ looks) landing r =
-    let names = look_names around l.place (look around l.place l.component) (component_name around l.place l.component) in
+    let names = look_names around l.place (look_up around l.place l.component) (component_name around l.place l.component) in
     let met : Bool = r.met_proc || meets_processes around l.place l.component in
     let same : look_reach around l (reached_landing around landing r) ≡ reached_landing around landing (look_reach around l r) =
     ap (λ n. record { longest = n; met_proc = met }) (all_swap names (landing_name around landing) r.longest) in
@@ -88,7 +88,7 @@ pub behind_jump : (around : Surroundings) (landing : Landing (Place ℕ) (Place 
 behind_jump around landing trail r =
     ap (λ q. end_reach around trail.answer (landings_reach around trail.landings q)) (sym (looks_swap around trail.looks landing r))
 
--- a trail behind a look reaches what the look reaches, and then what is left
+-- a trail behind a look-up reaches what the look reaches, and then what is left
 pub behind_look : (around : Surroundings) (l : LookedAt (Place ℕ)) (trail : PlaceTrail) (r : Reach)
     → reach_after around (after_look l trail) r ≡ reach_after around trail (noted around l.place l.component r)
 behind_look around l trail r = refl
@@ -100,12 +100,12 @@ noted_part around p c r m long met = (
   record { longest = let more = raised_more (directory_name around p.host) r.longest in omega arith; met_proc = λ h. met ∙ either r.met_proc (meets_processes around p c) h },
   record {
     longest =
-        let more = raised_more (seen_name (component_name around p c) (look around p c)) (raised (directory_name around p.host) r.longest) in
+        let more = raised_more (seen_name (component_name around p c) (look_up around p c)) (raised (directory_name around p.host) r.longest) in
         rw long more;
     met_proc = λ h. sym met ∙ h;
   },
 )
 
-pub part_at_error : {T : Type 0} (whole old new : Reach) (r : Result T NoMemory) → IsErr r → Covers new old × Covers whole new → IsPart whole old new r
+pub part_at_error : {T : Type 0} (whole old new : Reach) (r : Result T NoMemory) → IsErr r → Covers new old × Covers whole new → HasReached whole old new r
 part_at_error whole old new (Ok x) is part = absurd cc
 part_at_error whole old new (Err e) is part = part

@@ -114,8 +114,7 @@ module _ (t : Tree) (IsTop : Text → Type 0) (name : List ℕ) (dir : ℕ) wher
                 let called : host_name t up ≡ Some left = (names_hang_together t sound lead).up place up over ∙ ap (option_map (drop 1)) way.called ∙ ap (λ l. Some (drop 1 l)) is in
                 let text : name ≡ below_root left ++ below_root (way.passed ++ part ∷ []) =
                 way.text ∙ ap (λ l. below_root l ++ below_root way.passed) is ∙ append_assoc (below_root left) (slash ∷ part) (below_root way.passed)
-                ∙ ap (λ bytes. below_root left ++ bytes) (sym (below_root_append way.passed (part ∷ []))) in
-                (
+                ∙ ap (λ bytes. below_root left ++ bytes) (sym (below_root_append way.passed (part ∷ []))) in (
                   record { passed = way.passed ++ part ∷ []; left = left; whole = whole; called = called; text = text; end = last_is; apart = λ top is_top. further part left is top is_top all_names },
                   omega arith,
                 )

@@ -168,12 +168,12 @@ inside around p Dot = shows_directory p
 inside around p DotDot = above around p
 inside around p (Name name) = named around p name
 
-abbrev pub look : Surroundings → Place ℕ → Component → SeenPlace
-look around p c =
+abbrev pub look_up : Surroundings → Place ℕ → Component → SeenPlace
+look_up around p c =
     if is_directory_at around.tree p.host then (if may_search around.tree around.user p.host then inside around p c else Fails EACCES)
     else Fails ENOTDIR
 
--- ---- what a look touches
+-- ---- what a look-up touches
 
 abbrev pub in_processes : Surroundings → Host → Bool
 in_processes around (Node i) = body_is is_processes around.tree i
@@ -185,7 +185,7 @@ is_looked_up Dot = false
 is_looked_up DotDot = false
 is_looked_up (Name name) = if too_long name then false else true
 
--- whether a look comes to look up a name in the process directory or below it
+-- whether a look-up comes to look up a name in the process directory or below it
 abbrev pub meets_processes : Surroundings → Place ℕ → Component → Bool
 meets_processes around p c =
     if is_directory_at around.tree p.host then (if may_search around.tree around.user p.host then (if is_looked_up c then in_processes around p.host else false) else false)

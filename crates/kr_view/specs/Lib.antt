@@ -1,14 +1,15 @@
 pub mod Answers
 pub mod Begins
 pub mod Component
+pub mod Components
 pub mod GuestNames
 pub mod HostNames
 pub mod HostReach
 pub mod InTree
 pub mod Laws
 pub mod Leads
+pub mod Living
 pub mod Names
-pub mod Parts
 pub mod Positions
 pub mod Processes
 pub mod Reach

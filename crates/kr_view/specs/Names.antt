@@ -76,7 +76,7 @@ abbrev pub named_name : Surroundings → ℕ → Host → List ℕ → Option Te
 named_name around mount (Node i) name = point_name around i name (row_at around.table mount i name)
 named_name around mount (Proc i at) name = found_process_name around i (around.finds (Some at) name)
 
--- the name of the directory that a look led to
+-- the name of the directory that a look-up led to
 abbrev pub led_to_name : Surroundings → SeenPlace → Option Text
 led_to_name around (Leads is_dir p found) = directory_name around p.host
 led_to_name around (Fails e) = None

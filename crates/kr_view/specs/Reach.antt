@@ -10,7 +10,7 @@ use Rattle.pr_base.specs.declared.path.Last.TheVariants as last
 use Rattle.kr_tree.specs.declared.place.Host.{Host}
 use Rattle.kr_tree.specs.declared.place.Place.{Place}
 use Rattle.kr_view.specs.declared.target.Reach.{Reach}
-use Rattle.kr_view.specs.Component.{Surroundings, SeenPlace, look, meets_processes}
+use Rattle.kr_view.specs.Component.{Surroundings, SeenPlace, look_up, meets_processes}
 use Rattle.kr_view.specs.Names.{Text, directory_name, component_name, free_name, landing_name}
 use Rattle.kr_view.specs.Walk.{PlaceTrail, PlaceTarget}
 
@@ -36,7 +36,7 @@ abbrev pub raised_by_all : List (Option Text) → ℕ → ℕ
 raised_by_all [] n = n
 raised_by_all (name ∷ names) n = raised_by_all names (raised name n)
 
--- ---- one look
+-- ---- one look-up
 
 -- the name of what is there
 abbrev pub seen_name : Option Text → SeenPlace → Option Text
@@ -46,14 +46,14 @@ seen_name name (Leads is_dir p found) = name
 seen_name name (Links found text) = name
 seen_name name (Jumps found lead) = name
 
--- the names that a look reaches: its place, and what it shows
+-- the names that a look-up reaches: its place, and what it shows
 abbrev pub look_names : Surroundings → Place ℕ → SeenPlace → Option Text → List (Option Text)
 look_names around p seen name = directory_name around p.host ∷ seen_name name seen ∷ []
 
--- what was reached after a look
+-- what was reached after a look-up
 abbrev pub look_reach : Surroundings → LookedAt (Place ℕ) → Reach → Reach
 look_reach around l r = record {
-  longest = raised_by_all (look_names around l.place (look around l.place l.component) (component_name around l.place l.component)) r.longest;
+  longest = raised_by_all (look_names around l.place (look_up around l.place l.component) (component_name around l.place l.component)) r.longest;
   met_proc = r.met_proc || meets_processes around l.place l.component;
 }
 
@@ -84,7 +84,7 @@ beginning_name around host last.Name = None
 beginning_name around host last.Dot = None
 beginning_name around host last.DotDot = None
 
--- the names at the end that no look reached
+-- the names at the end that no look-up reached
 abbrev pub end_names : Surroundings → Result PlaceTarget Errno → List (Option Text)
 end_names around (Ok target) = beginning_name around target.dir.host target.last ∷ free_target_name around target target.found ∷ []
 end_names around (Err e) = []

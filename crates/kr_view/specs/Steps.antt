@@ -13,6 +13,7 @@ use Rattle.kr_view.specs.declared.target.Reach.{Reach}
 use Rattle.kr_view.specs.declared.target.Target.{Target}
 use Rattle.kr_view.specs.declared.target.WalkFault.{WalkFault}
 use Rattle.kr_view.specs.declared.target.WalkFault.TheVariants as fault
+use Rattle.kr_view.specs.declared.rests.Taken.{Taken}
 use Rattle.kr_view.specs.declared.walk.Walk.{Walk}
 use Rattle.kr_view.specs.declared.walk.Step.{Step}
 use Rattle.kr_view.specs.declared.walk.Step.TheVariants.{Goes, Ends}
@@ -22,6 +23,7 @@ use Rattle.kr_view.specs.Walk.{PlaceTrail, PlaceTarget, looking}
 use Rattle.kr_view.specs.Reach.{Covers, look_reach, reach_after}
 use Rattle.kr_view.specs.Answers.{told, target_numbered}
 use Rattle.kr_view.specs.Positions.{IsNamed}
+use Rattle.kr_view.specs.Rests.{components_left}
 use Rattle.kr_view.specs.Stacks.{stack_of}
 
 -- what is left of a walk
@@ -40,9 +42,20 @@ middle_trail around = laws.middle_trail (looking around)
 abbrev pub last_trail : Surroundings → WalkMode → ℕ → Place ℕ → Component → Bool → SeenPlace → PlaceTrail
 last_trail around = laws.last_trail (looking around)
 
+-- the same of a walk: where it stands, and the links that it may still follow
+abbrev pub behind_middle : {M : Type 0} → (M → ℕ) → Surroundings → WalkMode → Walk M → List Component → SeenPlace → PlaceTrail
+behind_middle number around mode walk rest seen = middle_trail around mode walk.left (numbered number walk.position.place) rest walk.slash seen
+
+abbrev pub behind_last : {M : Type 0} → (M → ℕ) → Surroundings → WalkMode → Walk M → Component → SeenPlace → PlaceTrail
+behind_last number around mode walk c seen = last_trail around mode walk.left (numbered number walk.position.place) c walk.slash seen
+
+-- the components behind one that was taken
+abbrev pub rest_behind : {M : Type 0} → Taken → Walk M → List Component
+rest_behind taken walk = components_left taken.rest ++ stack_of walk.rests
+
 -- ---- what is reached
 
--- what was reached after a look
+-- what was reached after a look-up
 abbrev pub noted : Surroundings → Place ℕ → Component → Reach → Reach
 noted around p c r = look_reach around (record { place = p; component = c; is_last = false }) r
 
@@ -53,9 +66,9 @@ here_target s slash = record { dir = s; name = []; last = last.Root; slash = sla
 -- ---- outcomes
 
 -- a call that doesn't answer for want of memory has reached all, another a part
-abbrev pub IsPart : {T : Type 0} → Reach → Reach → Reach → Result T NoMemory → Type 0
-IsPart whole old new (Ok x) = new ≡ whole
-IsPart whole old new (Err e) = Covers new old × Covers whole new
+abbrev pub HasReached : {T : Type 0} → Reach → Reach → Reach → Result T NoMemory → Type 0
+HasReached whole old new (Ok x) = new ≡ whole
+HasReached whole old new (Err e) = Covers new old × Covers whole new
 
 -- the target to which a process link led
 abbrev pub IsLanded : {M : Type 0} → (M → ℕ) → Result PlaceTarget Errno → Result (Target M) WalkFault → Type 0
@@ -82,12 +95,16 @@ pub record GoesOn {M : Type 0} (number : M → ℕ) (around : Surroundings) (mod
   pub named : IsNamed around.tree on.position.place.host on.position.name
 
 -- the answer, and all that is reached; where memory is wanting a part of that
-abbrev pub IsOutcome : {M : Type 0} → (M → ℕ) → Surroundings → WalkMode → Result PlaceTarget Errno → Reach → Reach → Reach → Result (Step M) WalkFault → Type 0
-IsOutcome number around mode answer whole old new (Ok (Goes on)) = GoesOn number around mode answer whole old new on
-IsOutcome number around mode answer whole old new (Ok (Ends target)) =
+abbrev pub HasOutcome : {M : Type 0} → (M → ℕ) → Surroundings → WalkMode → Result PlaceTarget Errno → Reach → Reach → Reach → Result (Step M) WalkFault → Type 0
+HasOutcome number around mode answer whole old new (Ok (Goes on)) = GoesOn number around mode answer whole old new on
+HasOutcome number around mode answer whole old new (Ok (Ends target)) =
     ((t : PlaceTarget) × (answer ≡ Ok t) × (told t ≡ target_numbered number target)) × (new ≡ whole)
-IsOutcome number around mode answer whole old new (Err (fault.Err e)) = (answer ≡ Err e) × (new ≡ whole)
-IsOutcome number around mode answer whole old new (Err fault.NoMemory) = Covers new old × Covers whole new
+HasOutcome number around mode answer whole old new (Err (fault.Err e)) = (answer ≡ Err e) × (new ≡ whole)
+HasOutcome number around mode answer whole old new (Err fault.NoMemory) = Covers new old × Covers whole new
+
+-- what comes of a step where this trail is left
+abbrev pub IsOutcome : {M : Type 0} → (M → ℕ) → Surroundings → WalkMode → PlaceTrail → Reach → Reach → Result (Step M) WalkFault → Type 0
+IsOutcome number around mode trail old new result = HasOutcome number around mode trail.answer (reach_after around trail old) old new result
 
 -- a step that goes on leaves less work
 abbrev pub HasLess : {M : Type 0} → ℕ → Result (Step M) WalkFault → Type 0

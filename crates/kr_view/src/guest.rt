@@ -8,6 +8,7 @@ ghost use Rattle.kr_view.specs.Names.{names_down, guest_directory, is_file_sourc
 
 use crate::name::{below_the_root, directory_name, entered, last_slash};
 use crate::view::Places;
+use kr_tree::laws::{directories_have_host_names, trees_are_kept};
 use kr_tree::{Host, Ino, Tree};
 use pr_base::{Bytes, NoMemory};
 use std::alloc::Global;
@@ -118,8 +119,8 @@ fn source_end<P: Places>(
     ensures end { IfSome result (λ end. end ≤ length name.now) }
     ensures below { (r : Row) → row (P.mounts places.now) (P.number mount) ≡ Some r → option_map (λ end. drop end name.now) result ≡ option_map below_root (names_down tree.now r.source dir) }
 {
-    tree.is_kept();
-    tree.has_host_names();
+    trees_are_kept(tree);
+    directories_have_host_names(tree);
     let mut at = dir;
     let mut end = name.len();
     while !is_source(places, mount, at) {

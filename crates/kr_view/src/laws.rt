@@ -1,6 +1,7 @@
 //! Laws of views and walks, each carried by a function that does nothing.
 ghost use Rattle.kr_view.specs.GuestNames.{GuestNamesGoByPlaces};
 ghost use Rattle.kr_view.specs.InTree.{NoProcessesKeepLaws, WalksKeepPlaces};
+ghost use Rattle.kr_view.specs.Living.{LivingProcessesKeepLaws};
 ghost use Rattle.kr_view.specs.Laws.{FoundIsShown, PlacesHaveTheirLaws, PlainStands, ReachedIsFound, SettledSourcesAreEntries, WalksEndInDirectories, WalksReadNodes};
 
 /// The laws of a view whose mounts stand in a tree.
@@ -43,6 +44,12 @@ pub fn walks_end_in_directories()
 /// Before a process lives the process directory keeps all that every one keeps, and leads nowhere.
 pub fn no_processes_keep_laws()
     ensures { NoProcessesKeepLaws }
+{}
+
+/// A process directory with a directory for each living process and a link for each of its descriptors keeps
+/// all that every one keeps.
+pub fn living_processes_keep_laws()
+    ensures { LivingProcessesKeepLaws }
 {}
 
 /// A walk comes to places of the view in the tree alone, where it begins at one and where the links of the

@@ -6,13 +6,13 @@ ghost use Rattle.kr_view.specs.View.{is_root_place, node_in};
 ghost use Rattle.kr_tree.specs.declared.place.Host.TheVariants.{Node};
 ghost use Rattle.kr_view.specs.Leads.{numbered};
 ghost use Rattle.pr_base.specs.Paths.{DotDot, Name};
-ghost use Rattle.kr_view.specs.Parts.{part_data};
-ghost use Rattle.kr_view.specs.Sights.{scene, sight_seen};
+ghost use Rattle.kr_view.specs.Components.{component_data};
+ghost use Rattle.kr_view.specs.Sights.{surroundings_of, sight_seen};
 ghost use Rattle.kr_view.specs.Ways.{HasKind, spot_of, IsSightAt, IsSightCalled, IsSightWay};
 ghost use Rattle.kr_view.specs.Names.{led_to_name, found_process_name, node_entry_name};
-ghost use Rattle.kr_view.specs.Component.{is_process_directory, is_directory_at, may_search, seen_at, above, above_process, above_body, in_processes, seen_in_processes, in_node, named, look, is_looked_up, meets_processes, is_shown};
+ghost use Rattle.kr_view.specs.Component.{is_process_directory, is_directory_at, may_search, seen_at, above, above_process, above_body, in_processes, seen_in_processes, in_node, named, look_up, is_looked_up, meets_processes, is_shown};
 
-use crate::part::Part;
+use crate::component::Component;
 use crate::procs::Procs;
 use crate::view::Places;
 use kr_tree::{Host, Ino, Kind, Place, ProcAt, Right, Tree, User};
@@ -21,7 +21,7 @@ use std::alloc::Global;
 
 /// What a walk goes through: the mounts, the tree, the user, and what the processes show to the caller.
 #[derive(Clone, Copy)]
-pub(crate) struct Around<'a, P, Q> {
+pub(crate) struct Surroundings<'a, P, Q> {
     pub(crate) alloc: Global,
     pub(crate) places: &'a P,
     pub(crate) procs: &'a Q,
@@ -78,16 +78,16 @@ pub(crate) fn is_process_directory(at: ProcAt) -> bool
 }
 
 /// Whether a component is looked up among entries.
-fn is_looked_up(part: &Part<'_>) -> bool
-    ensures { result ≡ is_looked_up (part_data part.now) }
+fn is_looked_up(component: &Component<'_>) -> bool
+    ensures { result ≡ is_looked_up (component_data component.now) }
 {
-    match part {
-        Part::Dot | Part::DotDot => false,
-        Part::Name(name) => name.len() <= NAME_LIMIT,
+    match component {
+        Component::Dot | Component::DotDot => false,
+        Component::Name(name) => name.len() <= NAME_LIMIT,
     }
 }
 
-impl<'a, P: Places, Q: Procs<Mount = P::Mount>> Around<'a, P, Q> {
+impl<'a, P: Places, Q: Procs<Mount = P::Mount>> Surroundings<'a, P, Q> {
     /// Whether an object is a directory.
     pub(crate) fn is_directory(&self, host: Host) -> bool
         ensures { result ≡ is_directory_at self.now.tree.now host }
@@ -110,7 +110,7 @@ impl<'a, P: Places, Q: Procs<Mount = P::Mount>> Around<'a, P, Q> {
 
     /// Whether an object is the process directory, or stands in it.
     fn in_processes(&self, host: Host) -> bool
-        ensures { result ≡ in_processes (scene P.number P.mounts Q.finds Q.leads self.now) host }
+        ensures { let around = surroundings_of P.number P.mounts Q.finds Q.leads self.now in result ≡ in_processes around host }
     {
         match host {
             Host::Node(ino) => matches!(self.tree.kind(ino), Some(Kind::Proc)),
@@ -120,7 +120,7 @@ impl<'a, P: Places, Q: Procs<Mount = P::Mount>> Around<'a, P, Q> {
 
     /// Whether a process is still shown to the caller.
     pub(crate) fn is_shown(&self, pid: u32) -> bool
-        ensures { result ≡ is_shown (scene P.number P.mounts Q.finds Q.leads self.now) pid }
+        ensures { let around = surroundings_of P.number P.mounts Q.finds Q.leads self.now in result ≡ is_shown around pid }
     {
         self.procs
             .find(self.caller, Some(ProcAt::Dir(pid)), b"cwd")
@@ -129,9 +129,9 @@ impl<'a, P: Places, Q: Procs<Mount = P::Mount>> Around<'a, P, Q> {
 
     /// What stands at a place to which a walk comes.
     fn seen_at(&self, spot: Spot<P::Mount>) -> Sight<'a, P::Mount>
-        ensures seen { sight_seen P.number (scene P.number P.mounts Q.finds Q.leads self.now) result ≡ seen_at (scene P.number P.mounts Q.finds Q.leads self.now) (numbered P.number spot.place) spot.place.host }
+        ensures seen { let around = surroundings_of P.number P.mounts Q.finds Q.leads self.now in sight_seen P.number around result ≡ seen_at around (numbered P.number spot.place) spot.place.host }
         ensures spot { IsSightAt spot result }
-        ensures kind { HasKind (scene P.number P.mounts Q.finds Q.leads self.now) result }
+        ensures kind { let around = surroundings_of P.number P.mounts Q.finds Q.leads self.now in HasKind around result }
     {
         match spot.place.host {
             Host::Node(ino) => match self.tree.link_text(ino) {
@@ -152,9 +152,9 @@ impl<'a, P: Places, Q: Procs<Mount = P::Mount>> Around<'a, P, Q> {
     fn seen_node(&self, spot: Spot<P::Mount>, ino: Ino) -> Sight<'a, P::Mount>
         requires at { spot.place.host ≡ Node ino }
         requires no_link { option_and_then text_of (body self.now.tree.now ino) ≡ None }
-        ensures seen { sight_seen P.number (scene P.number P.mounts Q.finds Q.leads self.now) result ≡ seen_at (scene P.number P.mounts Q.finds Q.leads self.now) (numbered P.number spot.place) (Node ino) }
+        ensures seen { let around = surroundings_of P.number P.mounts Q.finds Q.leads self.now in sight_seen P.number around result ≡ seen_at around (numbered P.number spot.place) (Node ino) }
         ensures spot { IsSightAt spot result }
-        ensures kind { HasKind (scene P.number P.mounts Q.finds Q.leads self.now) result }
+        ensures kind { let around = surroundings_of P.number P.mounts Q.finds Q.leads self.now in HasKind around result }
     {
         match self.tree.kind(ino) {
             Some(Kind::Dir | Kind::Proc) => Sight::Leads(spot, true),
@@ -165,9 +165,9 @@ impl<'a, P: Places, Q: Procs<Mount = P::Mount>> Around<'a, P, Q> {
 
     /// What `..` shows from a place.
     fn above(&self, place: Place<P::Mount>) -> Sight<'a, P::Mount>
-        ensures seen { sight_seen P.number (scene P.number P.mounts Q.finds Q.leads self.now) result ≡ above (scene P.number P.mounts Q.finds Q.leads self.now) (numbered P.number place) }
-        ensures way { IsSightWay P.number (scene P.number P.mounts Q.finds Q.leads self.now) (numbered P.number place) DotDot result }
-        ensures kind { HasKind (scene P.number P.mounts Q.finds Q.leads self.now) result }
+        ensures seen { let around = surroundings_of P.number P.mounts Q.finds Q.leads self.now in sight_seen P.number around result ≡ above around (numbered P.number place) }
+        ensures way { let around = surroundings_of P.number P.mounts Q.finds Q.leads self.now in IsSightWay P.number around (numbered P.number place) DotDot result }
+        ensures kind { let around = surroundings_of P.number P.mounts Q.finds Q.leads self.now in HasKind around result }
     {
         if self.is_root_place(place) {
             return Sight::directory(place, Way::Stays);
@@ -191,9 +191,9 @@ impl<'a, P: Places, Q: Procs<Mount = P::Mount>> Around<'a, P, Q> {
 
     /// The directory above one that isn't the source of its mount.
     fn above_node(&self, mount: P::Mount, ino: Ino) -> Sight<'a, P::Mount>
-        ensures seen { sight_seen P.number (scene P.number P.mounts Q.finds Q.leads self.now) result ≡ above_body (P.number mount) (node_above self.now.tree.now ino) }
-        ensures way { IsSightCalled P.number (scene P.number P.mounts Q.finds Q.leads self.now) (node_in (P.number mount) ino) DotDot (led_to_name (scene P.number P.mounts Q.finds Q.leads self.now) (above_body (P.number mount) (node_above self.now.tree.now ino))) result }
-        ensures kind { HasKind (scene P.number P.mounts Q.finds Q.leads self.now) result }
+        ensures seen { let around = surroundings_of P.number P.mounts Q.finds Q.leads self.now in sight_seen P.number around result ≡ above_body (P.number mount) (node_above self.now.tree.now ino) }
+        ensures way { let around = surroundings_of P.number P.mounts Q.finds Q.leads self.now in IsSightCalled P.number around (node_in (P.number mount) ino) DotDot (led_to_name around (above_body (P.number mount) (node_above self.now.tree.now ino))) result }
+        ensures kind { let around = surroundings_of P.number P.mounts Q.finds Q.leads self.now in HasKind around result }
     {
         match self.tree.above(ino) {
             Some(dir) => Sight::directory(
@@ -209,9 +209,9 @@ impl<'a, P: Places, Q: Procs<Mount = P::Mount>> Around<'a, P, Q> {
 
     /// The directory above what stands in the process directory of an inode.
     fn above_process(&self, mount: P::Mount, ino: Ino, at: ProcAt) -> Sight<'a, P::Mount>
-        ensures seen { sight_seen P.number (scene P.number P.mounts Q.finds Q.leads self.now) result ≡ above_process (scene P.number P.mounts Q.finds Q.leads self.now) (P.number mount) ino at }
-        ensures way { IsSightCalled P.number (scene P.number P.mounts Q.finds Q.leads self.now) (node_in (P.number mount) ino) DotDot (led_to_name (scene P.number P.mounts Q.finds Q.leads self.now) (above_process (scene P.number P.mounts Q.finds Q.leads self.now) (P.number mount) ino at)) result }
-        ensures kind { HasKind (scene P.number P.mounts Q.finds Q.leads self.now) result }
+        ensures seen { let around = surroundings_of P.number P.mounts Q.finds Q.leads self.now in sight_seen P.number around result ≡ above_process around (P.number mount) ino at }
+        ensures way { let around = surroundings_of P.number P.mounts Q.finds Q.leads self.now in IsSightCalled P.number around (node_in (P.number mount) ino) DotDot (led_to_name around (above_process around (P.number mount) ino at)) result }
+        ensures kind { let around = surroundings_of P.number P.mounts Q.finds Q.leads self.now in HasKind around result }
     {
         let (pid, host) = match at {
             ProcAt::Dir(pid) => (pid, Host::Node(ino)),
@@ -233,9 +233,9 @@ impl<'a, P: Places, Q: Procs<Mount = P::Mount>> Around<'a, P, Q> {
         at: Option<ProcAt>,
         name: &[u8],
     ) -> Sight<'a, P::Mount>
-        ensures seen { sight_seen P.number (scene P.number P.mounts Q.finds Q.leads self.now) result ≡ seen_in_processes (scene P.number P.mounts Q.finds Q.leads self.now) (P.number mount) ino (Q.finds self.now.procs.now self.now.caller at name.now) }
-        ensures way { IsSightCalled P.number (scene P.number P.mounts Q.finds Q.leads self.now) (node_in (P.number mount) ino) (Name name.now) (found_process_name (scene P.number P.mounts Q.finds Q.leads self.now) ino (Q.finds self.now.procs.now self.now.caller at name.now)) result }
-        ensures kind { HasKind (scene P.number P.mounts Q.finds Q.leads self.now) result }
+        ensures seen { let around = surroundings_of P.number P.mounts Q.finds Q.leads self.now in sight_seen P.number around result ≡ seen_in_processes around (P.number mount) ino (Q.finds self.now.procs.now self.now.caller at name.now) }
+        ensures way { let around = surroundings_of P.number P.mounts Q.finds Q.leads self.now in IsSightCalled P.number around (node_in (P.number mount) ino) (Name name.now) (found_process_name around ino (Q.finds self.now.procs.now self.now.caller at name.now)) result }
+        ensures kind { let around = surroundings_of P.number P.mounts Q.finds Q.leads self.now in HasKind around result }
     {
         match self.procs.find(self.caller, at, name) {
             Some(found) => self.seen_at(Spot {
@@ -251,9 +251,9 @@ impl<'a, P: Places, Q: Procs<Mount = P::Mount>> Around<'a, P, Q> {
 
     /// What a name that is no mount point shows in an inode.
     fn in_node(&self, mount: P::Mount, ino: Ino, name: &[u8]) -> Sight<'a, P::Mount>
-        ensures seen { sight_seen P.number (scene P.number P.mounts Q.finds Q.leads self.now) result ≡ in_node (scene P.number P.mounts Q.finds Q.leads self.now) (P.number mount) ino name.now }
-        ensures way { IsSightCalled P.number (scene P.number P.mounts Q.finds Q.leads self.now) (node_in (P.number mount) ino) (Name name.now) (node_entry_name (scene P.number P.mounts Q.finds Q.leads self.now) ino name.now) result }
-        ensures kind { HasKind (scene P.number P.mounts Q.finds Q.leads self.now) result }
+        ensures seen { let around = surroundings_of P.number P.mounts Q.finds Q.leads self.now in sight_seen P.number around result ≡ in_node around (P.number mount) ino name.now }
+        ensures way { let around = surroundings_of P.number P.mounts Q.finds Q.leads self.now in IsSightCalled P.number around (node_in (P.number mount) ino) (Name name.now) (node_entry_name around ino name.now) result }
+        ensures kind { let around = surroundings_of P.number P.mounts Q.finds Q.leads self.now in HasKind around result }
     {
         if self.in_processes(Host::Node(ino)) {
             return self.in_process(mount, ino, None, name);
@@ -272,9 +272,9 @@ impl<'a, P: Places, Q: Procs<Mount = P::Mount>> Around<'a, P, Q> {
 
     /// What a name shows.
     fn named(&self, place: Place<P::Mount>, name: &[u8]) -> Sight<'a, P::Mount>
-        ensures seen { sight_seen P.number (scene P.number P.mounts Q.finds Q.leads self.now) result ≡ named (scene P.number P.mounts Q.finds Q.leads self.now) (numbered P.number place) name.now }
-        ensures way { IsSightWay P.number (scene P.number P.mounts Q.finds Q.leads self.now) (numbered P.number place) (Name name.now) result }
-        ensures kind { HasKind (scene P.number P.mounts Q.finds Q.leads self.now) result }
+        ensures seen { let around = surroundings_of P.number P.mounts Q.finds Q.leads self.now in sight_seen P.number around result ≡ named around (numbered P.number place) name.now }
+        ensures way { let around = surroundings_of P.number P.mounts Q.finds Q.leads self.now in IsSightWay P.number around (numbered P.number place) (Name name.now) result }
+        ensures kind { let around = surroundings_of P.number P.mounts Q.finds Q.leads self.now in HasKind around result }
     {
         if NAME_LIMIT < name.len() {
             return Sight::Fails(Errno::ENAMETOOLONG);
@@ -292,10 +292,14 @@ impl<'a, P: Places, Q: Procs<Mount = P::Mount>> Around<'a, P, Q> {
     }
 
     /// What a component shows. The tests stand in the order in which path_resolution(7) has them.
-    pub(crate) fn look(&self, place: Place<P::Mount>, part: &Part<'_>) -> Sight<'a, P::Mount>
-        ensures seen { sight_seen P.number (scene P.number P.mounts Q.finds Q.leads self.now) result ≡ look (scene P.number P.mounts Q.finds Q.leads self.now) (numbered P.number place) (part_data part.now) }
-        ensures way { IsSightWay P.number (scene P.number P.mounts Q.finds Q.leads self.now) (numbered P.number place) (part_data part.now) result }
-        ensures kind { HasKind (scene P.number P.mounts Q.finds Q.leads self.now) result }
+    pub(crate) fn look_up(
+        &self,
+        place: Place<P::Mount>,
+        component: &Component<'_>,
+    ) -> Sight<'a, P::Mount>
+        ensures seen { let around = surroundings_of P.number P.mounts Q.finds Q.leads self.now in sight_seen P.number around result ≡ look_up around (numbered P.number place) (component_data component.now) }
+        ensures way { let around = surroundings_of P.number P.mounts Q.finds Q.leads self.now in IsSightWay P.number around (numbered P.number place) (component_data component.now) result }
+        ensures kind { let around = surroundings_of P.number P.mounts Q.finds Q.leads self.now in HasKind around result }
     {
         if !self.is_directory(place.host) {
             return Sight::Fails(Errno::ENOTDIR);
@@ -303,20 +307,20 @@ impl<'a, P: Places, Q: Procs<Mount = P::Mount>> Around<'a, P, Q> {
         if !self.may_search(place.host) {
             return Sight::Fails(Errno::EACCES);
         }
-        match part {
-            Part::Dot => Sight::directory(place, Way::Stays),
-            Part::DotDot => self.above(place),
-            Part::Name(name) => self.named(place, name),
+        match component {
+            Component::Dot => Sight::directory(place, Way::Stays),
+            Component::DotDot => self.above(place),
+            Component::Name(name) => self.named(place, name),
         }
     }
 
-    /// Whether a look comes to look up a name in the process directory.
-    pub(crate) fn meets_processes(&self, place: Place<P::Mount>, part: &Part<'_>) -> bool
-        ensures { result ≡ meets_processes (scene P.number P.mounts Q.finds Q.leads self.now) (numbered P.number place) (part_data part.now) }
+    /// Whether a look-up comes to look up a name in the process directory.
+    pub(crate) fn meets_processes(&self, place: Place<P::Mount>, component: &Component<'_>) -> bool
+        ensures { let around = surroundings_of P.number P.mounts Q.finds Q.leads self.now in result ≡ meets_processes around (numbered P.number place) (component_data component.now) }
     {
         self.is_directory(place.host)
             && self.may_search(place.host)
-            && is_looked_up(part)
+            && is_looked_up(component)
             && self.in_processes(place.host)
     }
 }

@@ -4,15 +4,15 @@ use Rattle.pr_base.specs.Paths.{component_of, components_of, parts_of}
 use Rattle.pr_base.specs.WalkFrame.{walk_on, begins_at}
 use Rattle.kr_view.specs.Leads.{numbered}
 use Rattle.kr_view.specs.Walk.{looking}
-use Rattle.kr_view.specs.Sights.{scene}
+use Rattle.kr_view.specs.Sights.{surroundings_of}
 use Rattle.kr_view.specs.Stacks.{stack_of}
 use Rattle.kr_view.proofs.RestLemmas.{parts_fewer}
 use Rattle.pr_base.proofs.WalkLemmas.{onward-less}
-use Rattle.kr_view.proofs.around.Around.follow.Goals as goal
+use Rattle.kr_view.proofs.surroundings.Surroundings.follow.Goals as goal
 
 pub returns : goal.returns
 returns g c =
-    let around = scene g.P.Places.number g.P.Places.mounts g.Q.Procs.finds g.Q.Procs.leads c.args.self.now in
+    let around = surroundings_of g.P.Places.number g.P.Places.mounts g.Q.Procs.finds g.Q.Procs.leads c.args.self.now in
     let s = numbered g.P.Places.number c.args.walk.position.place in
     let text = c.args.text.now in
     let pushed : stack_of c.push.new.self ≡ components_of text ++ stack_of c.args.walk.rests =
