@@ -7,6 +7,7 @@ ghost use Rattle.kr_text.specs.FirstNames.{AreFirst, has_several};
 use crate::names::{FullPath, Named};
 use crate::order::Waiting;
 use crate::written::{line_at, user_line};
+use kr_tree::laws::trees_are_kept;
 use kr_tree::{Ino, Tree, User};
 use pr_base::{Bytes, NoMemory};
 use std::alloc::Global;
@@ -57,7 +58,7 @@ fn go_on(
 pub fn write(alloc: Global, tree: &Tree, user: User) -> Result<Bytes, NoMemory>
     ensures { IfOk result (λ listing. listing ≡ canonical tree.now user) }
 {
-    tree.is_kept();
+    trees_are_kept(tree);
     let mut listing = user_line(alloc, user)?;
     let mut first = BTreeMap::new(alloc);
     let mut waiting = Waiting::at_root(alloc)?;

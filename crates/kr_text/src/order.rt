@@ -6,6 +6,7 @@ ghost use Rattle.kr_text.specs.Canonical.{put_in_order, below, children, root_na
 ghost use Rattle.kr_text.specs.Order.{AreNamed, HasHead, head, pairs_of, pairs_in};
 
 use crate::names::{FullPath, Named};
+use kr_tree::laws::trees_are_kept;
 use kr_tree::{Ino, Tree};
 use pr_base::NoMemory;
 use std::alloc::Global;
@@ -51,7 +52,7 @@ fn items_of<'a>(alloc: Global, tree: &'a Tree, dir: Ino) -> Result<Vec<Item<'a>>
     ensures pairs { IfOk result (λ items. pairs_of items.items ≡ pairs_in (entries tree.now dir)) }
     ensures heads { IfOk result (λ items. All HasHead items.items) }
 {
-    tree.is_kept();
+    trees_are_kept(tree);
     let mut items = Vec::new(alloc);
     let mut after = 0;
     while let Some((serial, name, ino)) = tree.next_entry(dir, after) {
@@ -83,7 +84,7 @@ impl<'a> InOrder<'a> {
         ensures names { IfOk result (λ names. names ≡ put_in_order [] (entries tree.now dir)) }
         ensures well_formed { IfOk result AreNamed }
     {
-        tree.is_kept();
+        trees_are_kept(tree);
         let mut items = items_of(alloc, tree, dir)?;
         items.sort_unstable();
         Ok(InOrder { items })

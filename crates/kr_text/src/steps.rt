@@ -11,6 +11,7 @@ use crate::fault::{LineFault, TreeWhy};
 use crate::line::Owner;
 use crate::path::Path;
 use crate::walk::{Spot, file_at, place_below};
+use kr_tree::laws::trees_are_kept;
 use kr_tree::{Ino, Meta, Node, Tree, TreeRefusal};
 use pr_base::Bytes;
 
@@ -24,7 +25,7 @@ fn put(tree: &mut Tree, spot: Spot<'_>, owner: Owner, node: Node) -> Result<(), 
     ensures tree { Changes (put owner (body_of_new node) tree.old (spot.entry.dir, spot.entry.name.now)) result tree.new }
     ensures drawn { OnOk result (IsDrawn tree.new) }
 {
-    tree.is_kept();
+    trees_are_kept(tree);
     let meta = Meta {
         mode: owner.mode,
         uid: owner.uid,
@@ -107,7 +108,7 @@ fn link(tree: &mut Tree, spot: Spot<'_>, file: Ino) -> Result<(), LineFault>
     ensures tree { Changes (link_put tree.old (spot.entry.dir, spot.entry.name.now) file) result tree.new }
     ensures drawn { OnOk result (IsDrawn tree.new) }
 {
-    tree.is_kept();
+    trees_are_kept(tree);
     match tree.link(spot.dir, spot.name, file) {
         Ok(()) => Ok(()),
         Err(TreeRefusal::NoMemory) => Err(LineFault::NoMemory),

@@ -19,7 +19,7 @@ use Rattle.kr_tree.proofs.CountLemmas.{entries_there, root_directory}
 
 -- ---- what is found
 
-then_some : {A B : Type 0} (f : A → Option B) (o : Option A) (y : B) → option_and_then f o ≡ Some y → (x : A) × (o ≡ Some x) × (f x ≡ Some y)
+pub then_some : {A B : Type 0} (f : A → Option B) (o : Option A) (y : B) → option_and_then f o ≡ Some y → (x : A) × (o ≡ Some x) × (f x ≡ Some y)
 then_some f None y h = absurd cc
 then_some f (Some x) y h = (x, refl, h)
 
@@ -34,7 +34,7 @@ second : (p q : List ℕ × ℕ) → p ≡ q → p.1 ≡ q.1
 second p q h = ap (λ (p : List ℕ × ℕ). p.1) h
 
 -- the entry of a serial stands in the list
-at_in : (serial : ℕ) (es : List Entry) (e : Entry) → entry_at serial es ≡ Some e → IsIn e es × (serial ≡ e.serial)
+pub at_in : (serial : ℕ) (es : List Entry) (e : Entry) → entry_at serial es ≡ Some e → IsIn e es × (serial ≡ e.serial)
 at_in serial [] e h = absurd cc
 at_in serial (x ∷ es) e h =
     elim (nat_eq serial x.serial) as (λ b. nat_eq serial x.serial ≡ b → cond b (Some x) (entry_at serial es) ≡ Some e → IsIn e (x ∷ es) × (serial ≡ e.serial)) [
@@ -84,20 +84,20 @@ module _ (t : Tree) (sound : IsSound t) where
       ap (λ o. option_map_or (λ z. is_directory z.node.body) o false) x.1 ∙ listed-is_directory x.0.node.body (entries-is_listed x.0.node.body e (subst P x.1 is))
 
   -- what stands somewhere is a directory
-  standing_directory : (k : ℕ) (s : Standing) → standing t k ≡ Some s → body_is is_directory t k ≡ true
+  pub standing_directory : (k : ℕ) (s : Standing) → standing t k ≡ Some s → body_is is_directory t k ≡ true
   standing_directory k s h = elim (inode t k) as (λ o. option_and_then (λ z. standing_of z.node.body) o ≡ Some s → option_map_or (λ z. is_directory z.node.body) o false ≡ true) [
     | None ↦ λ h. absurd cc
     | Some x ↦ λ h. is_directory-stands x.node.body s h
   ] h
 
-  directory_below : (k : ℕ) → body_is is_directory t k ≡ true → k < t.next
+  pub directory_below : (k : ℕ) → body_is is_directory t k ≡ true → k < t.next
   directory_below k h = elim (inode t k) as (λ o. inode t k ≡ o → option_map_or (λ z. is_directory z.node.body) o false ≡ true → k < t.next) [
     | None ↦ λ _ h. absurd cc
     | Some x ↦ λ at h. (sound.numbered k x at).1
   ] refl h
 
   -- one step up from a directory names it
-  step_names : (dir : ℕ) (up : List ℕ × ℕ) → dir ≢ root → step_up t dir ≡ Some up → (entry t up.1 up.0 ≡ Some dir) × (body_is is_directory t dir ≡ true) × IsName up.0
+  pub step_names : (dir : ℕ) (up : List ℕ × ℕ) → dir ≢ root → step_up t dir ≡ Some up → (entry t up.1 up.0 ≡ Some dir) × (body_is is_directory t dir ≡ true) × IsName up.0
   step_names dir up away h =
       let s = then_some (λ s. option_map (λ e. (e.name, s.inode)) (entry_at s.serial (entries t s.inode))) (standing t dir) up h in
       let e = map_some (λ e. (e.name, s.0.inode)) (entry_at s.0.serial (entries t s.0.inode)) up s.2 in
@@ -127,7 +127,7 @@ module _ (t : Tree) (sound : IsSound t) where
   ]
 
   -- the name under which a named directory stands, and where
-  named_step : (name : List ℕ) (up dir : ℕ) → entry t up name ≡ Some dir → body_is is_directory t dir ≡ true → (step_up t dir ≡ Some (name, up)) × (dir ≢ root) × (body_is is_directory t up ≡ true)
+  pub named_step : (name : List ℕ) (up dir : ℕ) → entry t up name ≡ Some dir → body_is is_directory t dir ≡ true → (step_up t dir ≡ Some (name, up)) × (dir ≢ root) × (body_is is_directory t up ≡ true)
   named_step name up dir h is =
       let e = map_some (λ e. e.inode) (entry_named name (entries t up)) dir h in
       let found = named_in name (entries t up) e.0 e.1 in
@@ -146,7 +146,7 @@ module _ (t : Tree) (sound : IsSound t) where
       )
 
   -- what a text names and is a directory is called so, given steps enough
-  host_name-found : (text : List (List ℕ)) (dir : ℕ) → named t text ≡ Some dir → body_is is_directory t dir ≡ true → (n : ℕ) → length text < n → host_name_within n t dir ≡ Some text
+  pub host_name-found : (text : List (List ℕ)) (dir : ℕ) → named t text ≡ Some dir → body_is is_directory t dir ≡ true → (n : ℕ) → length text < n → host_name_within n t dir ≡ Some text
   host_name-found [] dir h is zero l = absurd (omega arith)
   host_name-found [] dir h is (suc n) l = host_name-root n t dir (sym (some_is root dir h))
   host_name-found (name ∷ text) dir h is zero l = absurd (omega arith)
@@ -156,12 +156,12 @@ module _ (t : Tree) (sound : IsSound t) where
       host_name-step n t dir step.1 ∙ ap (option_and_then (λ up. option_map (λ text. up.0 ∷ text) (host_name_within n t up.1))) step.0
       ∙ ap (option_map (λ text. name ∷ text)) (host_name-found text up.0 up.1 step.2 n (omega arith))
 
-  texts_same : (one two : List (List ℕ)) (dir : ℕ) → named t one ≡ Some dir → named t two ≡ Some dir → body_is is_directory t dir ≡ true → one ≡ two
+  pub texts_same : (one two : List (List ℕ)) (dir : ℕ) → named t one ≡ Some dir → named t two ≡ Some dir → body_is is_directory t dir ≡ true → one ≡ two
   texts_same one two dir h k is =
       some_is one two (sym (host_name-found one dir h is (length one + length two + 1) (omega arith)) ∙ host_name-found two dir k is (length one + length two + 1) (omega arith))
 
   -- what stands above it on the way
-  named_above : (k : ℕ) (text : List (List ℕ)) (dir : ℕ) → named t text ≡ Some dir → body_is is_directory t dir ≡ true
+  pub named_above : (k : ℕ) (text : List (List ℕ)) (dir : ℕ) → named t text ≡ Some dir → body_is is_directory t dir ≡ true
       → (up : ℕ) × (named t (drop k text) ≡ Some up) × (body_is is_directory t up ≡ true)
   named_above zero text dir h is = (dir, h, is)
   named_above (suc k) [] dir h is = (dir, h, is)
@@ -170,7 +170,7 @@ module _ (t : Tree) (sound : IsSound t) where
       named_above k text up.0 up.1 (named_step name up.0 dir up.2 is).2
 
   -- no directory is met twice on the way, so a text is shorter than the next number
-  depth : (text : List (List ℕ)) (dir : ℕ) → named t text ≡ Some dir → body_is is_directory t dir ≡ true → length text < t.next
+  pub depth : (text : List (List ℕ)) (dir : ℕ) → named t text ≡ Some dir → body_is is_directory t dir ≡ true → length text < t.next
   depth text dir h is =
       let met : ℕ → ℕ = λ k. option_map_or (λ i. i) (named t (drop k text)) 0 in
       let many = pigeonhole (length text + 1) t.next met (λ k l. below k) (λ i j l m e. apart i j l m e) in
@@ -191,12 +191,12 @@ module _ (t : Tree) (sound : IsSound t) where
           omega arith
 
   -- what has an entry wasn't removed
-  stands_above : (k : ℕ) (e : Entry) (o : Option Standing) → standing t k ≡ o → IsIn e (entries t k) → (s : Standing) × (standing t k ≡ Some s)
+  pub stands_above : (k : ℕ) (e : Entry) (o : Option Standing) → standing t k ≡ o → IsIn e (entries t k) → (s : Standing) × (standing t k ≡ Some s)
   stands_above k e None n is = absurd (subst (λ es. IsIn e es) (sound.emptied k n) is)
   stands_above k e (Some s) h is = (s, h)
 
   -- what stands somewhere is named: what is above it has an entry and so wasn't removed
-  text_of_rise : (dir : ℕ) (s : Standing) → standing t dir ≡ Some s → RisesToEnd t dir → (text : List (List ℕ)) × (named t text ≡ Some dir)
+  pub text_of_rise : (dir : ℕ) (s : Standing) → standing t dir ≡ Some s → RisesToEnd t dir → (text : List (List ℕ)) × (named t text ≡ Some dir)
   text_of_rise dir s h AtRoot = ([], refl)
   text_of_rise dir s h (AtRemoved n) = let no : Some s.inode ≡ None = sym (ap (option_map (λ s. s.inode)) h) ∙ n in absurd cc
   text_of_rise dir s h (Above {up = up} a r) = elim (cases_eq dir root) [

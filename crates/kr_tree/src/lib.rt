@@ -1,6 +1,8 @@
 //! The tree of inodes on which both machines work.
 #![tactic(auto)]
 
+pub mod hold_laws;
+pub mod laws;
 mod name;
 pub mod place;
 pub mod refusal;

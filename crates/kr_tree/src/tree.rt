@@ -75,16 +75,15 @@ impl Tree {
     }
 
     /// What holds of every tree.
-    pub fn is_kept(&self)
+    pub(crate) fn is_kept(&self)
         ensures kept { IsKept self.now }
         ensures there { HasItsInodes self.now }
     {
         let _ = &self.next;
     }
 
-    /// Each directory that a text of names leads to has that host name and no other, each that wasn't
-    /// removed has one, and a host name leads to its directory.
-    pub fn has_host_names(&self)
+    /// How the host names of its directories and the texts that lead to them belong together.
+    pub(crate) fn has_host_names(&self)
         ensures named { NamedHaveHostNames self.now }
         ensures standing { StandingHaveHostNames self.now }
         ensures lead { HostNamesLead self.now }

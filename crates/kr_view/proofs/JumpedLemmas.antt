@@ -13,11 +13,11 @@ use Rattle.kr_tree.specs.Tree.{Body, Directory, RegularFile, SymbolicLink, Proce
 use Rattle.kr_view.specs.declared.procs.Lead.{Lead}
 use Rattle.kr_view.specs.declared.procs.Lead.TheVariants.{Text, Jump, Nameless, NoLink}
 use Rattle.kr_view.specs.View.{node_in, down, up, is_root_place}
-use Rattle.kr_view.specs.Component.{Surroundings, SeenPlace, is_process_directory, is_directory_at, may_search, shows_directory, seen_body, landing, seen_link, seen_at, above_body, above_node, is_shown, above_process, above_host, seen_in_processes, seen_entry, is_processes, in_node, through_point, named_in, too_long, inside, look}
+use Rattle.kr_view.specs.Component.{Surroundings, SeenPlace, is_process_directory, is_directory_at, may_search, shows_directory, seen_body, landing, seen_link, seen_at, above_body, above_node, is_shown, above_process, above_host, seen_in_processes, seen_entry, is_processes, in_node, through_point, named_in, too_long, inside, look_up}
 
 module _ (around : Surroundings) where
   abbrev pub IsOwn : Landing (Place ℕ) (Place ℕ) → Type 0
-  IsOwn l = is_directory_at around l.found.host ≡ true → l.dir ≡ l.found
+  IsOwn l = is_directory_at around.tree l.found.host ≡ true → l.dir ≡ l.found
 
   abbrev LeadsOwn : Option (Landing (Place ℕ) (Place ℕ)) → Type 0
   LeadsOwn None = Unit {0}
@@ -36,9 +36,9 @@ module _ (around : Surroundings) where
   either_way false x y p q = q
 
   own_landing : (p : Place ℕ) (dir : ℕ) (name : List ℕ) → IsOwn (landing around p dir name)
-  own_landing p dir name = at (is_directory_at around p.host) refl
+  own_landing p dir name = at (is_directory_at around.tree p.host) refl
     where
-      at : (b : Bool) → is_directory_at around p.host ≡ b
+      at : (b : Bool) → is_directory_at around.tree p.host ≡ b
           → IsOwn (if b then record { place = p; found = p; is_dir = true; dir = p; name = [] } else record { place = p; found = p; is_dir = false; dir = node_in p.mount dir; name = name })
       at true is directory = refl
       at false is directory = absurd cc
@@ -107,10 +107,10 @@ module _ (around : Surroundings) where
   own_inside p DotDot = either_way (is_root_place around.table p) (shows_directory p) (above_host around p.mount p.host) tt (own_above_host p.mount p.host)
   own_inside p (Name name) = either_way (too_long name) (Fails ENAMETOOLONG) (named_in around p.mount p.host name) tt (own_named_in p.mount p.host name)
 
-  own_look : (p : Place ℕ) (c : Component) → SeesOwn (look around p c)
+  own_look : (p : Place ℕ) (c : Component) → SeesOwn (look_up around p c)
   own_look p c =
-      either_way (is_directory_at around p.host) (if may_search around p.host then inside around p c else Fails EACCES) (Fails ENOTDIR)
-      (either_way (may_search around p.host) (inside around p c) (Fails EACCES) (own_inside p c) tt) tt
+      either_way (is_directory_at around.tree p.host) (if may_search around.tree around.user p.host then inside around p c else Fails EACCES) (Fails ENOTDIR)
+      (either_way (may_search around.tree around.user p.host) (inside around p c) (Fails EACCES) (own_inside p c) tt) tt
 
-  pub jumped_own : (p : Place ℕ) (c : Component) (f : Place ℕ) (l : Landing (Place ℕ) (Place ℕ)) → look around p c ≡ Jumps f (Some l) → IsOwn l
+  pub jumped_own : (p : Place ℕ) (c : Component) (f : Place ℕ) (l : Landing (Place ℕ) (Place ℕ)) → look_up around p c ≡ Jumps f (Some l) → IsOwn l
   jumped_own p c f l looked = subst SeesOwn looked (own_look p c)

@@ -11,7 +11,7 @@ use Rattle.kr_view.specs.Component.{Surroundings}
 use Rattle.kr_view.specs.Walk.{PlaceTrail, PlaceTarget}
 use Rattle.kr_view.specs.Reach.{Covers, reach_after}
 use Rattle.kr_view.specs.Answers.{IsAnswer, IsReached}
-use Rattle.kr_view.specs.Steps.{IsOutcome}
+use Rattle.kr_view.specs.Steps.{HasOutcome}
 use Rattle.kr_view.proofs.ReachLemmas.{covers_refl, covers_trans, covers_after}
 
 module _ {M : Type 0} (number : M → ℕ) (around : Surroundings) (mode : WalkMode) (trail : PlaceTrail) (first : Reach) where
@@ -21,7 +21,7 @@ module _ {M : Type 0} (number : M → ℕ) (around : Surroundings) (mode : WalkM
   want_at_start (Err (fault.Err e)) err want = absurd cc
   want_at_start (Err fault.NoMemory) err want = (covers_refl first, covers_after around trail first)
 
-  pub error_answer : (answer : Result PlaceTarget Errno) (whole old new : Reach) (e : WalkFault) (r : Result (Told M) WalkFault) → IsOutcome {M = M} number around mode answer whole old new (Err e) → answer ≡ trail.answer
+  pub error_answer : (answer : Result PlaceTarget Errno) (whole old new : Reach) (e : WalkFault) (r : Result (Told M) WalkFault) → HasOutcome {M = M} number around mode answer whole old new (Err e) → answer ≡ trail.answer
       → IsErr r → IsErrAnd r (λ f. f ≡ e) → IsAnswer number trail.answer r
   error_answer answer whole old new e (Ok target) out ends err same = absurd cc
   error_answer answer whole old new (fault.Err e) (Err fault.NoMemory) out ends err same = tt
@@ -29,7 +29,7 @@ module _ {M : Type 0} (number : M → ℕ) (around : Surroundings) (mode : WalkM
   error_answer answer whole old new fault.NoMemory (Err (fault.Err f)) out ends err same = absurd cc
   error_answer answer whole old new (fault.Err e) (Err (fault.Err f)) out ends err same = let one : f ≡ e = cc in sym ends ∙ out.0 ∙ ap Err (sym one)
 
-  pub error_reach : (answer : Result PlaceTarget Errno) (whole old new : Reach) (e : WalkFault) (r : Result (Told M) WalkFault) → IsOutcome {M = M} number around mode answer whole old new (Err e) → whole ≡ reach_after around trail first
+  pub error_reach : (answer : Result PlaceTarget Errno) (whole old new : Reach) (e : WalkFault) (r : Result (Told M) WalkFault) → HasOutcome {M = M} number around mode answer whole old new (Err e) → whole ≡ reach_after around trail first
       → Covers old first → IsErr r → IsErrAnd r (λ f. f ≡ e) → IsReached around trail first new r
   error_reach answer whole old new e (Ok target) out reaches covers err same = absurd cc
   error_reach answer whole old new (fault.Err e) (Err fault.NoMemory) out reaches covers err same = absurd cc

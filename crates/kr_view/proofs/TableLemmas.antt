@@ -9,12 +9,13 @@ use Rattle.std.proofs.lemmas.Bool.{eqb-true, eq-eqb}
 use Rattle.std.proofs.lemmas.Option.{slice_get-get_or}
 use Rattle.std.specs.List.{list_any, position_or_len}
 use Rattle.std.proofs.lemmas.Slice.Eq.{bytes_eq-Decides}
+use Rattle.pr_base.specs.Paths.{AreNames}
 use Rattle.kr_tree.specs.declared.place.Place.{Place}
 use Rattle.kr_tree.specs.Tree.{Tree, root, body, body_is, inode, entry, is_directory, is_listed}
 use Rattle.kr_tree.specs.Lawful.{IsSound}
 use Rattle.kr_tree.proofs.CountLemmas.{root_directory}
 use Rattle.kr_view.specs.Ways.{ino_of}
-use Rattle.kr_view.specs.View.{Point, Row, row, node_in, root_source, root_place, source_place, is_name_at, is_point, stands_at, down, point_place, up, is_there, covered, plain, plain_row, PointStands, StandsIn}
+use Rattle.kr_view.specs.View.{Point, Row, row, node_in, root_source, root_place, source_place, is_name_at, is_point, stands_at, down, point_place, up, is_there, covered, source, source_entry, plain, plain_row, IsTable, PointStands, StandsIn, IsAsSettled}
 use Rattle.kr_view.specs.Laws.{IsSettledSource, IsDirectoryIn, LawsOfPlaces}
 
 pub same_some : {A : Type 0} (a b : A) → Some a ≡ Some b → a ≡ b
@@ -101,7 +102,7 @@ covers_name mount dir name r h =
     let p = point_there (is_point mount dir name) r h in
     ap (λ o. option_map_or (is_name_at dir name) o false) p.1 ∙ (point_is mount dir name p.0 p.2).1
 
-there_is : {A : Type 0} (o : Option A) → is_there o ≡ true → (x : A) × (o ≡ Some x)
+pub there_is : {A : Type 0} (o : Option A) → is_there o ≡ true → (x : A) × (o ≡ Some x)
 there_is None h = absurd cc
 there_is (Some x) h = (x, refl)
 
@@ -192,8 +193,31 @@ directory_kind t i h =
       | Some x ↦ λ h. ap Some h
     ] h
 
-pub plain_in_tree : (t : Tree) → IsSound t → StandsIn t plain
+no_row : {A : Type 0} (k : ℕ) (r : Row) → row plain (suc k) ≡ Some r → A
+no_row k r h = absurd cc
+
+only_row : (k : ℕ) (r : Row) → row plain k ≡ Some r → (k ≡ 0) × (plain_row ≡ r)
+only_row zero r h = (refl, same_some plain_row r h)
+only_row (suc k) r h = no_row k r h
+
+no_names : AreNames []
+no_names = λ i d h. absurd (omega arith)
+
+plain_table : IsTable plain
+plain_table = record {
+  root_location = λ r h. sym (ap (λ r. r.text.location) (only_row 0 r h).1);
+  location_names = λ k r h. let P : Row → Type 0 = λ r. AreNames r.text.location in subst P (only_row k r h).1 no_names;
+  root_point = λ r h. sym (ap (λ r. r.point) (only_row 0 r h).1);
+  text_point = λ k r h. let P : Row → Type 0 = λ r. is_there r.text.point ≡ is_there r.point in subst P (only_row k r h).1 refl;
+  later_point = λ k r h. no_row k r h;
+  own_point = λ j k q r p a b _ _. (only_row j q a).0 ∙ sym (only_row k r b).0;
+  own_index = λ j k q r a b _. (only_row j q a).0 ∙ sym (only_row k r b).0;
+  own_location = λ j k q r a b _. (only_row j q a).0 ∙ sym (only_row k r b).0;
+}
+
+plain_in_tree : (t : Tree) → IsSound t → StandsIn t plain
 plain_in_tree t sound = record {
+  lawful = plain_table;
   rooted = (plain_row, refl, refl);
   sources = sources;
   points = points;
@@ -206,3 +230,27 @@ plain_in_tree t sound = record {
     points : (k : ℕ) (r : Row) (p : Point) → row plain k ≡ Some r → r.point ≡ Some p → PointStands t k p
     points zero r p h is = let none : None ≡ Some p = ap (λ r. r.point) (same_some plain_row r h) ∙ is in absurd cc
     points (suc k) r p h is = absurd cc
+
+-- its one source is a directory
+plain_as_settled : (t : Tree) → IsAsSettled t plain
+plain_as_settled t = record {
+  named = λ k r h none. absurd (no_file k r h none);
+  entered = λ k r h none. absurd (no_file k r h none);
+}
+  where
+    no_file : (k : ℕ) (r : Row) → row plain k ≡ Some r → r.is_dir ≡ false → ⊥
+    no_file k r h none = let clash : true ≡ false = ap (λ r. r.is_dir) (only_row k r h).1 ∙ none in absurd cc
+
+pub plain_stands : (t : Tree) → IsSound t → StandsIn t plain × IsAsSettled t plain
+plain_stands t sound = (plain_in_tree t sound, plain_as_settled t)
+
+-- ---- as it was settled
+
+pub settled_entry : (t : Tree) (table : List Row) (k : ℕ) (r : Row) (e : ℕ × List ℕ) → IsAsSettled t table → row table k ≡ Some r → source table k ≡ Some e → entry t e.0 e.1 ≡ Some r.source
+settled_entry t table k r e settled there is = at r.is_dir refl (sym (ap (option_and_then source_entry) there) ∙ is)
+  where
+    at : (b : Bool) → r.is_dir ≡ b → (if r.is_dir then None else Some (r.source_dir, r.source_name)) ≡ Some e → entry t e.0 e.1 ≡ Some r.source
+    at true kind h = let clash : None ≡ Some e = sym (ap (λ b. if b then None else Some (r.source_dir, r.source_name)) kind) ∙ h in absurd cc
+    at false kind h =
+        let one = same_some (r.source_dir, r.source_name) e (sym (ap (λ b. if b then None else Some (r.source_dir, r.source_name)) kind) ∙ h) in
+        ap (λ (e : ℕ × List ℕ). entry t e.0 e.1) (sym one) ∙ settled.entered k r there kind

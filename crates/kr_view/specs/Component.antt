@@ -18,13 +18,17 @@ use Rattle.kr_view.specs.declared.procs.Lead.{Lead}
 use Rattle.kr_view.specs.declared.procs.Lead.TheVariants.{Text, Jump, Nameless, NoLink}
 use Rattle.kr_view.specs.View.{Row, down, up, node_in, is_root_place, is_there}
 
+-- what a name stands for, by the place in the process directory where it is looked up
+abbrev pub Finds : Type 0
+Finds = Option ProcAt → List ℕ → Option ProcAt
+
 -- what a walk goes through: the mounts, the tree, the user, and what the process directory shows to the
 -- caller, by the place in it where a name is looked up and by the link that is followed
 pub record Surroundings : Type 0 where
   pub table : List Row
   pub tree : Tree
   pub user : User
-  pub finds : Option ProcAt → List ℕ → Option ProcAt
+  pub finds : Finds
   pub leads : ProcAt → Lead ℕ
 
 abbrev pub SeenPlace : Type 0
@@ -42,14 +46,15 @@ is_process_directory (Exe pid) = false
 is_process_directory (FdDir pid) = true
 is_process_directory (Fd pid fd) = false
 
-abbrev pub is_directory_at : Surroundings → Host → Bool
-is_directory_at around (Node i) = body_is is_directory around.tree i
-is_directory_at around (Proc i at) = is_process_directory at
+-- whether an object is a directory goes by the tree, so it is the same over every view
+abbrev pub is_directory_at : Tree → Host → Bool
+is_directory_at t (Node i) = body_is is_directory t i
+is_directory_at t (Proc i at) = is_process_directory at
 
 -- the directories of the process directory may be searched
-abbrev pub may_search : Surroundings → Host → Bool
-may_search around (Node i) = may around.tree around.user i Search
-may_search around (Proc i at) = true
+abbrev pub may_search : Tree → User → Host → Bool
+may_search t user (Node i) = may t user i Search
+may_search t user (Proc i at) = true
 
 -- ---- what stands at a place
 
@@ -68,7 +73,7 @@ seen_body p None = Missing
 -- object remembers, in the mount of the place
 abbrev pub landing : Surroundings → Place ℕ → ℕ → List ℕ → Landing (Place ℕ) (Place ℕ)
 landing around p dir name =
-    if is_directory_at around p.host then record { place = p; found = p; is_dir = true; dir = p; name = [] }
+    if is_directory_at around.tree p.host then record { place = p; found = p; is_dir = true; dir = p; name = [] }
     else record { place = p; found = p; is_dir = false; dir = node_in p.mount dir; name = name }
 
 abbrev pub seen_link : Surroundings → Place ℕ → Lead ℕ → SeenPlace
@@ -163,12 +168,12 @@ inside around p Dot = shows_directory p
 inside around p DotDot = above around p
 inside around p (Name name) = named around p name
 
-abbrev pub look : Surroundings → Place ℕ → Component → SeenPlace
-look around p c =
-    if is_directory_at around p.host then (if may_search around p.host then inside around p c else Fails EACCES)
+abbrev pub look_up : Surroundings → Place ℕ → Component → SeenPlace
+look_up around p c =
+    if is_directory_at around.tree p.host then (if may_search around.tree around.user p.host then inside around p c else Fails EACCES)
     else Fails ENOTDIR
 
--- ---- what a look touches
+-- ---- what a look-up touches
 
 abbrev pub in_processes : Surroundings → Host → Bool
 in_processes around (Node i) = body_is is_processes around.tree i
@@ -180,8 +185,8 @@ is_looked_up Dot = false
 is_looked_up DotDot = false
 is_looked_up (Name name) = if too_long name then false else true
 
--- whether a look comes to look up a name in the process directory or below it
+-- whether a look-up comes to look up a name in the process directory or below it
 abbrev pub meets_processes : Surroundings → Place ℕ → Component → Bool
 meets_processes around p c =
-    if is_directory_at around p.host then (if may_search around p.host then (if is_looked_up c then in_processes around p.host else false) else false)
+    if is_directory_at around.tree p.host then (if may_search around.tree around.user p.host then (if is_looked_up c then in_processes around p.host else false) else false)
     else false

@@ -1,18 +1,18 @@
 -- Laws of views and of walks over them.
-use Rattle.std.specs.Prelude.{ℕ, ◌≡◌, ◌≢◌, Bool, true, false, List, [], ◌∷◌, Option, Some, None, Ok}
+use Rattle.std.specs.Prelude.{ℕ, ◌≡◌, ◌≢◌, Bool, true, false, List, [], Some, Ok}
 use Rattle.std.specs.Option.{option_map}
-use Rattle.pr_base.specs.Paths.{Component, kind_of, components_of, AreNames, text_of}
-use Rattle.pr_base.specs.WalkFrame.{Seen, Fails, Missing, Leads, Links, Jumps, Looking, Target, name_of, after_look, ends_here, walk_on}
+use Rattle.pr_base.specs.Paths.{components_of, AreNames, text_of}
+use Rattle.pr_base.specs.WalkFrame.{ends_here}
+use Rattle.pr_base.specs.WalkLaws.{IsShown}
 use Rattle.pr_base.specs.declared.path.Last.TheVariants as last
 use Rattle.pr_base.specs.declared.path.WalkMode.{WalkMode}
 use Rattle.kr_tree.specs.declared.place.Place.{Place}
-use Rattle.kr_tree.specs.Tree.{Tree, Body, Directory, RegularFile, SymbolicLink, ProcessDirectory, body, body_is, entry, is_directory, is_listed}
+use Rattle.kr_tree.specs.Tree.{Tree, Body, Directory, RegularFile, SymbolicLink, ProcessDirectory, node, body, body_is, entry, is_directory, is_listed}
 use Rattle.kr_tree.specs.Names.{reached}
 use Rattle.kr_tree.specs.Lawful.{IsSound}
-use Rattle.kr_view.specs.View.{Row, row, node_in, root_place, root_source, down, up, covered, plain, is_there, StandsIn}
-use Rattle.kr_view.specs.Component.{Surroundings, look, is_directory_at}
+use Rattle.kr_view.specs.View.{Row, row, node_in, root_place, root_source, down, up, covered, source, plain, is_there, StandsIn, IsAsSettled}
+use Rattle.kr_view.specs.Component.{Surroundings, is_directory_at}
 use Rattle.kr_view.specs.Walk.{PlaceTarget, looking, place_walk}
-use Rattle.kr_view.specs.Steps.{middle_trail, last_trail}
 
 -- ---- views
 
@@ -47,30 +47,14 @@ abbrev pub PlacesHaveTheirLaws : Type 0
 PlacesHaveTheirLaws = (t : Tree) (table : List Row) → StandsIn t table → LawsOfPlaces t table
 
 abbrev pub PlainStands : Type 0
-PlainStands = (t : Tree) → IsSound t → StandsIn t plain
+PlainStands = (t : Tree) → IsSound t → StandsIn t plain × IsAsSettled t plain
+
+-- what a call is told of the source of a mount is the entry that leads to it, while the table is as it was
+-- settled
+abbrev pub SettledSourcesAreEntries : Type 0
+SettledSourcesAreEntries = (t : Tree) (table : List Row) (k : ℕ) (r : Row) (e : ℕ × List ℕ) → IsAsSettled t table → row table k ≡ Some r → source table k ≡ Some e → entry t e.0 e.1 ≡ Some r.source
 
 -- ---- walks
-
--- the walk along no component ends where it begins, and along some it looks at the first one
-pub record WalksGoByComponents : Type 0 where
-  pub none : (around : Surroundings) (mode : WalkMode) (left : ℕ) (s : Place ℕ) (slash : Bool) → walk_on (looking around) mode left s [] slash ≡ ends_here (looking around) s slash
-  pub last : (around : Surroundings) (mode : WalkMode) (left : ℕ) (s : Place ℕ) (c : Component) (slash : Bool)
-      → walk_on (looking around) mode left s (c ∷ []) slash ≡ after_look (record { place = s; component = c; is_last = true }) (last_trail around mode left s c slash (look around s c))
-  pub middle : (around : Surroundings) (mode : WalkMode) (left : ℕ) (s : Place ℕ) (c d : Component) (cs : List Component) (slash : Bool)
-      → walk_on (looking around) mode left s (c ∷ d ∷ cs) slash
-      ≡ after_look (record { place = s; component = c; is_last = false }) (middle_trail around mode left s (d ∷ cs) slash (look around s c))
-
--- what a component shows is what was found
-abbrev pub Shows : {S F : Type 0} → Seen S F → Option F → Type 0
-Shows (Fails e) found = ⊥
-Shows Missing found = found ≡ None
-Shows (Leads is_dir q f) found = found ≡ Some f
-Shows (Links f text) found = found ≡ Some f
-Shows (Jumps f lead) found = found ≡ Some f
-
--- a target is what its last component shows from its directory
-abbrev pub IsShown : {S F : Type 0} → Looking S F → Target S F → Type 0
-IsShown looking t = (c : Component) × (kind_of c ≡ t.last) × (name_of c ≡ t.name) × Shows (looking.look t.dir c) t.found
 
 -- a walk that ends with a component, and not with where a process link leads, found what that component
 -- shows; so its directory is one
@@ -78,14 +62,14 @@ pub record FoundIsShown : Type 0 where
   pub shown : (around : Surroundings) (mode : WalkMode) (base : Place ℕ) (path : List ℕ) (t : PlaceTarget) → (place_walk around mode base path).answer ≡ Ok t → t.jumped ≡ false → t.last ≢ last.Root
       → IsShown (looking around) t
   pub in_directory : (around : Surroundings) (mode : WalkMode) (base : Place ℕ) (path : List ℕ) (t : PlaceTarget) → (place_walk around mode base path).answer ≡ Ok t → t.jumped ≡ false → t.last ≢ last.Root
-      → is_directory_at around t.dir.host ≡ true
+      → is_directory_at around.tree t.dir.host ≡ true
 
 -- where walks end is a directory. What a process link led to is apart, since it isn't looked at again
 pub record WalksEndInDirectories : Type 0 where
   -- the directory of a target is one: where its last component was looked up, and where no component was
   -- left, the root place or the directory of the link whose text has none
   pub directory : (around : Surroundings) (mode : WalkMode) (base : Place ℕ) (path : List ℕ) (t : PlaceTarget) → StandsIn around.tree around.table → path ≢ [] → (place_walk around mode base path).answer ≡ Ok t → t.jumped ≡ false
-      → is_directory_at around t.dir.host ≡ true
+      → is_directory_at around.tree t.dir.host ≡ true
   -- where no component was left, the directory itself is found
   pub itself : (around : Surroundings) (mode : WalkMode) (base : Place ℕ) (path : List ℕ) (t : PlaceTarget) → (place_walk around mode base path).answer ≡ Ok t → t.last ≡ last.Root → t.found ≡ Some t.dir
   -- the table must stand, since slashes alone end at the root place, whatever stands there
@@ -94,7 +78,7 @@ pub record WalksEndInDirectories : Type 0 where
   pub empty : (around : Surroundings) (mode : WalkMode) (base : Place ℕ) → place_walk around mode base [] ≡ ends_here (looking around) base false
   -- a directory to which a process link led is its own; of a file the link tells the directory
   pub jumped : (around : Surroundings) (mode : WalkMode) (base : Place ℕ) (path : List ℕ) (t : PlaceTarget) → (place_walk around mode base path).answer ≡ Ok t → t.jumped ≡ true
-      → (p : Place ℕ) × (t.found ≡ Some p) × (is_directory_at around p.host ≡ true → t.dir ≡ p)
+      → (p : Place ℕ) × (t.found ≡ Some p) × (is_directory_at around.tree p.host ≡ true → t.dir ≡ p)
 
 -- whether a body is a link
 abbrev pub is_link : Body → Bool
@@ -108,3 +92,11 @@ is_link (ProcessDirectory standing) = false
 abbrev pub ReachedIsFound : Type 0
 ReachedIsFound = (around : Surroundings) (mode : WalkMode) (base : Place ℕ) (text : List (List ℕ)) (i : ℕ) → around.table ≡ plain → AreNames text → reached around.tree around.user text ≡ Some i
     → option_map is_link (body around.tree i) ≡ Some false → (t : PlaceTarget) × ((place_walk around mode base (text_of text)).answer ≡ Ok t) × (t.found ≡ Some (node_in 0 i))
+
+-- the same surroundings with another tree
+abbrev pub with_tree : Tree → Surroundings → Surroundings
+with_tree t around = record { table = around.table; tree = t; user = around.user; finds = around.finds; leads = around.leads }
+
+-- a walk reads of a tree the nodes of numbers alone, and so no holds and no counts
+abbrev pub WalksReadNodes : Type 0
+WalksReadNodes = (around : Surroundings) (t : Tree) → ((i : ℕ) → node around.tree i ≡ node t i) → (mode : WalkMode) (base : Place ℕ) (path : List ℕ) → place_walk around mode base path ≡ place_walk (with_tree t around) mode base path

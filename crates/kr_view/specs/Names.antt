@@ -1,55 +1,48 @@
 -- Names of places. The host name of a directory is the tree's; another object has one by how a walk came
 -- to it: the entry, the directory and name at which a mount's source was found, or what a process link
 -- carries. The guest name of a place is the location of its mount, followed by the names from the
--- mount's source down to the place.
-use Rattle.std.specs.Prelude.{ℕ, Bool, List, [], ◌∷◌, ◌++◌, Option, Some, None, bytes_eq, if◌then◌else◌}
+-- mount's source down to the place; that of the source itself is the location.
+use Rattle.std.specs.Prelude.{ℕ, Bool, false, List, ◌++◌, Option, Some, None, nat_eq, if◌then◌else◌}
 use Rattle.std.specs.Option.{option_map, option_and_then}
 use Rattle.std.specs.List.{position}
-use Rattle.std.specs.Cmp.Lexicographic.{pointwise}
 use Rattle.pr_base.specs.Paths.{Component, Dot, DotDot, Name}
 use Rattle.pr_base.specs.WalkFrame.{Fails, Missing, Leads, Links, Jumps, Landing}
+pub use Rattle.pr_base.specs.Texts.{Text, below, names_below}
 use Rattle.kr_tree.specs.declared.place.Host.{Host}
 use Rattle.kr_tree.specs.declared.place.Host.TheVariants.{Node, Proc}
 use Rattle.kr_tree.specs.declared.place.Place.{Place}
 use Rattle.kr_tree.specs.declared.place.ProcAt.{ProcAt}
 use Rattle.kr_tree.specs.declared.place.ProcAt.TheVariants.{SelfLink, Dir, Cwd, Root, Exe, FdDir, Fd}
-use Rattle.kr_tree.specs.Tree.{body_is}
+use Rattle.kr_tree.specs.Tree.{Tree, body_is, is_directory}
 use Rattle.kr_tree.specs.Names.{host_name, process_names}
 use Rattle.kr_view.specs.View.{Row, row, is_point, stands_at, source_entry}
-use Rattle.kr_view.specs.Component.{Surroundings, SeenPlace, is_shown, is_processes, above}
-
-abbrev pub Text : Type 0
-Text = List (List ℕ)
+use Rattle.kr_view.specs.Component.{Surroundings, SeenPlace, is_process_directory, is_directory_at, is_shown, is_processes, above}
 
 -- ---- host names
 
--- a name in what may have a name itself
-abbrev pub below : List ℕ → Option Text → Option Text
-below name text = option_map (λ names. name ∷ names) text
-
--- what stands in the process directory of an inode
-abbrev pub process_name : Surroundings → ℕ → ProcAt → Option Text
-process_name around i at = option_map (λ names. process_names at ++ names) (host_name around.tree i)
+-- what stands in the process directory, by the name of that
+abbrev pub process_name : ProcAt → Option Text → Option Text
+process_name at top = option_map (λ names. process_names at ++ names) top
 
 -- a directory of a process that ended was removed
-abbrev pub shown_process_name : Surroundings → ℕ → ℕ → ProcAt → Option Text
-shown_process_name around i pid at = if is_shown around pid then process_name around i at else None
+abbrev pub shown_process_name : Surroundings → ℕ → ProcAt → Option Text → Option Text
+shown_process_name around pid at top = if is_shown around pid then process_name at top else None
 
 -- an object of the process directory
-abbrev pub process_object_name : Surroundings → ℕ → ProcAt → Option Text
-process_object_name around i SelfLink = process_name around i SelfLink
-process_object_name around i (Dir pid) = shown_process_name around i pid (Dir pid)
-process_object_name around i (Cwd pid) = process_name around i (Cwd pid)
-process_object_name around i (Root pid) = process_name around i (Root pid)
-process_object_name around i (Exe pid) = process_name around i (Exe pid)
-process_object_name around i (FdDir pid) = shown_process_name around i pid (FdDir pid)
-process_object_name around i (Fd pid fd) = process_name around i (Fd pid fd)
+abbrev pub process_object_name : Surroundings → ProcAt → Option Text → Option Text
+process_object_name around SelfLink top = process_name SelfLink top
+process_object_name around (Dir pid) top = shown_process_name around pid (Dir pid) top
+process_object_name around (Cwd pid) top = process_name (Cwd pid) top
+process_object_name around (Root pid) top = process_name (Root pid) top
+process_object_name around (Exe pid) top = process_name (Exe pid) top
+process_object_name around (FdDir pid) top = shown_process_name around pid (FdDir pid) top
+process_object_name around (Fd pid fd) top = process_name (Fd pid fd) top
 
 -- the host name of a directory, which an inode that is none hasn't, nor one that was removed; and of
 -- what stands in the process directory
 abbrev pub directory_name : Surroundings → Host → Option Text
 directory_name around (Node i) = host_name around.tree i
-directory_name around (Proc i at) = process_object_name around i at
+directory_name around (Proc i at) = process_object_name around at (host_name around.tree i)
 
 -- ---- the host name of what a component shows
 
@@ -62,7 +55,7 @@ abbrev pub source_name : Surroundings → Row → Option Text
 source_name around r = source_entry_name around r.source (source_entry r)
 
 abbrev pub found_process_name : Surroundings → ℕ → Option ProcAt → Option Text
-found_process_name around i (Some at) = process_object_name around i at
+found_process_name around i (Some at) = process_object_name around at (host_name around.tree i)
 found_process_name around i None = None
 
 -- an entry
@@ -83,7 +76,7 @@ abbrev pub named_name : Surroundings → ℕ → Host → List ℕ → Option Te
 named_name around mount (Node i) name = point_name around i name (row_at around.table mount i name)
 named_name around mount (Proc i at) name = found_process_name around i (around.finds (Some at) name)
 
--- the name of the directory that a look led to
+-- the name of the directory that a look-up led to
 abbrev pub led_to_name : Surroundings → SeenPlace → Option Text
 led_to_name around (Leads is_dir p found) = directory_name around p.host
 led_to_name around (Fails e) = None
@@ -108,28 +101,55 @@ landing_name around landing =
 
 -- ---- guest names
 
-abbrev pub texts_eq : Text → Text → Bool
-texts_eq = pointwise bytes_eq
+-- the names from one directory of the tree down to another; none where that doesn't stand at or below it
+abbrev pub names_down : Tree → ℕ → ℕ → Option Text
+names_down t top dir = option_and_then (λ high. option_and_then (names_below high) (host_name t dir)) (host_name t top)
 
--- the names of a text below another; none where it doesn't stand at or below that
-abbrev pub names_below : Text → Text → Option Text
-names_below top [] = if texts_eq top [] then Some [] else None
-names_below top (name ∷ names) = if texts_eq top (name ∷ names) then Some [] else below name (names_below top names)
+-- a directory of the tree, seen in a mount: the location, and the names from the source down
+abbrev pub guest_directory : Tree → Option Row → ℕ → Option Text
+guest_directory t (Some r) i = option_map (λ names. names ++ r.text.location) (names_down t r.source i)
+guest_directory t None i = None
 
--- the names from the top down, put behind a location
-abbrev pub moved_to : Text → Option Text → Option Text → Option Text
-moved_to location (Some top) (Some text) = option_map (λ names. names ++ location) (names_below top text)
-moved_to location (Some top) None = None
-moved_to location None text = None
+-- the directory and name of an entry, as a file remembers it; none where it remembers none
+abbrev pub Remembered : Type 0
+Remembered = Option (ℕ × List ℕ)
 
-abbrev pub guest_name_in : Surroundings → Option Row → Option Text → Option Text
-guest_name_in around (Some r) name = moved_to r.text.location (source_name around r) name
-guest_name_in around None name = None
+-- what is no directory has the names of the entry that it remembers, on the host and for a guest
+abbrev pub host_entry : Tree → Remembered → Option Text
+host_entry t (Some e) = below e.1 (host_name t e.0)
+host_entry t None = None
 
--- the guest name of what has a host name and is seen in a mount
-abbrev pub guest_name : Surroundings → ℕ → Option Text → Option Text
-guest_name around mount name = guest_name_in around (row around.table mount) name
+abbrev pub guest_entry : Tree → Option Row → Remembered → Option Text
+guest_entry t r (Some e) = below e.1 (guest_directory t r e.0)
+guest_entry t r None = None
 
--- the guest name of a directory
-abbrev pub guest_directory_name : Surroundings → Place ℕ → Option Text
-guest_directory_name around p = guest_name around p.mount (directory_name around p.host)
+-- whether an inode is the source of a mount and no directory
+abbrev pub is_file_source : Option Row → ℕ → Bool
+is_file_source (Some r) i = if r.is_dir then false else nat_eq r.source i
+is_file_source None i = false
+
+-- an inode below the source of a mount
+abbrev pub guest_below : Tree → Option Row → ℕ → Remembered → Option Text
+guest_below t r i remembered = if body_is is_directory t i then guest_directory t r i else guest_entry t r remembered
+
+-- an inode, seen in a mount. It goes by the place: the source that is no directory is called by the
+-- location, whatever its own name is now, and without one, too
+abbrev pub guest_node : Tree → Option Row → ℕ → Remembered → Option Text
+guest_node t r i remembered = if is_file_source r i then option_map (λ r. r.text.location) r else guest_below t r i remembered
+
+-- what stands in the process directory
+abbrev pub guest_process : Surroundings → Option Row → ℕ → ProcAt → Remembered → Option Text
+guest_process around r i at remembered =
+    if is_process_directory at then process_object_name around at (guest_directory around.tree r i) else guest_entry around.tree r remembered
+
+abbrev pub guest_object : Surroundings → Option Row → Host → Remembered → Option Text
+guest_object around r (Node i) remembered = guest_node around.tree r i remembered
+guest_object around r (Proc i at) remembered = guest_process around r i at remembered
+
+-- the guest name of a place, whose object remembers an entry where it is no directory
+abbrev pub guest_name : Surroundings → Place ℕ → Remembered → Option Text
+guest_name around p remembered = guest_object around (row around.table p.mount) p.host remembered
+
+-- its host name
+abbrev pub object_name : Surroundings → Host → Remembered → Option Text
+object_name around host remembered = if is_directory_at around.tree host then directory_name around host else host_entry around.tree remembered

@@ -5,9 +5,9 @@ use Rattle.kr_tree.specs.declared.place.ProcAt.{ProcAt}
 use Rattle.kr_inode.specs.declared.user.User.{User}
 use Rattle.kr_tree.specs.Tree.{Tree}
 use Rattle.kr_view.specs.declared.procs.Lead.{Lead}
-use Rattle.kr_view.specs.declared.around.Around.{Around}
-use Rattle.kr_view.specs.declared.around.Sight.{Sight}
-use Rattle.kr_view.specs.declared.around.Sight.TheVariants.{Fails, Missing, Leads, Links, Jumps}
+use Rattle.kr_view.specs.declared.surroundings.Surroundings.{Surroundings as Held}
+use Rattle.kr_view.specs.declared.surroundings.Sight.{Sight}
+use Rattle.kr_view.specs.declared.surroundings.Sight.TheVariants.{Fails, Missing, Leads, Links, Jumps}
 use Rattle.kr_view.specs.View.{Row}
 use Rattle.kr_view.specs.Leads.{numbered, lead_numbered}
 use Rattle.kr_view.specs.Component.{Surroundings, SeenPlace, seen_link}
@@ -22,8 +22,8 @@ surroundings number table tree user finds leads = record {
   leads = λ at. lead_numbered number (leads at);
 }
 
-abbrev pub scene : {M P Q : Type 0} → (M → ℕ) → (P → List Row) → (Q → ℕ → Option ProcAt → List ℕ → Option ProcAt) → (Q → ℕ → ProcAt → Lead M) → Around P Q → Surroundings
-scene number mounts finds leads a =
+abbrev pub surroundings_of : {M P Q : Type 0} → (M → ℕ) → (P → List Row) → (Q → ℕ → Option ProcAt → List ℕ → Option ProcAt) → (Q → ℕ → ProcAt → Lead M) → Held P Q → Surroundings
+surroundings_of number mounts finds leads a =
     surroundings number (mounts a.places.now) a.tree.now a.user (finds a.procs.now a.caller) (leads a.procs.now a.caller)
 
 abbrev pub sight_seen : {M : Type 0} → (M → ℕ) → Surroundings → Sight M → SeenPlace

@@ -9,5 +9,5 @@ abbrev pub stack_of : Rests → List Component
 stack_of rests = stacked rests.list.items
 
 -- the component that was taken
-abbrev pub taken_part : Taken → List ℕ
-taken_part taken = slice_range taken.rest.text taken.span.begin taken.span.end
+abbrev pub taken_bytes : Taken → List ℕ
+taken_bytes taken = slice_range taken.rest.text taken.span.begin taken.span.end

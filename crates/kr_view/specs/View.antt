@@ -1,10 +1,10 @@
 -- A view as plain data: one table of mounts, each row with the inodes that a kernel reads and the texts
 -- that a tracer reads, and what is asked of it. A mount's number is its place in the table, the root's
 -- is 0; its index is that of the binding which it settles.
-use Rattle.std.specs.Prelude.{ℕ, ◌≡◌, ◌<◌, Bool, true, false, ◌&&◌, List, [], ◌∷◌, slice_get, position, Option, Some, None, nat_eq, bytes_eq, if◌then◌else◌}
+use Rattle.std.specs.Prelude.{ℕ, suc, ◌≡◌, ◌<◌, Bool, true, false, ◌&&◌, List, [], ◌∷◌, slice_get, position, Option, Some, None, nat_eq, bytes_eq, if◌then◌else◌}
 use Rattle.std.specs.Option.{option_map, option_map_or, option_and_then}
 use Rattle.pr_base.specs.MountText.{MountText}
-use Rattle.pr_base.specs.Paths.{text_of}
+use Rattle.pr_base.specs.Paths.{text_of, IsName, AreNames}
 use Rattle.kr_tree.specs.declared.place.Host.{Host}
 use Rattle.kr_tree.specs.declared.place.Host.TheVariants.{Node, Proc}
 use Rattle.kr_tree.specs.declared.place.Place.{Place}
@@ -117,7 +117,7 @@ location table mount = option_map_or (λ r. text_of r.text.location) (row table 
 -- one mount, whose source is the root of the host
 abbrev pub plain_row : Row
 plain_row = record {
-  text = record { index = 0; location = []; source = []; point = [] };
+  text = record { index = 0; location = []; source = []; point = None };
   source = root;
   source_dir = 0;
   source_name = [];
@@ -130,16 +130,37 @@ plain = plain_row ∷ []
 
 -- ---- a table and a tree
 
--- a mount point stands in a tree: an entry of a directory, in a mount that comes before the one that
--- stands there
+-- what every table keeps, whatever the tree: locations are texts of well-formed names; the first mount is the
+-- root's, located at the root and without a mount point, and each later one has one; no two stand at one
+-- mount point, and none has the index or the location of another
+pub record IsTable (table : List Row) : Type 0 where
+  pub root_location : (r : Row) → row table 0 ≡ Some r → r.text.location ≡ []
+  pub location_names : (k : ℕ) (r : Row) → row table k ≡ Some r → AreNames r.text.location
+  pub root_point : (r : Row) → row table 0 ≡ Some r → r.point ≡ None
+  pub text_point : (k : ℕ) (r : Row) → row table k ≡ Some r → is_there r.text.point ≡ is_there r.point
+  pub later_point : (k : ℕ) (r : Row) → row table (suc k) ≡ Some r → (p : Point) × (r.point ≡ Some p)
+  pub own_point : (j k : ℕ) (q r : Row) (p : Point) → row table j ≡ Some q → row table k ≡ Some r → q.point ≡ Some p → r.point ≡ Some p → j ≡ k
+  pub own_index : (j k : ℕ) (q r : Row) → row table j ≡ Some q → row table k ≡ Some r → q.text.index ≡ r.text.index → j ≡ k
+  pub own_location : (j k : ℕ) (q r : Row) → row table j ≡ Some q → row table k ≡ Some r → q.text.location ≡ r.text.location → j ≡ k
+
+-- a mount point stands in a tree: an entry of a directory by a well-formed name, in a mount that comes
+-- before the one that stands there
 pub record PointStands (t : Tree) (k : ℕ) (p : Point) : Type 0 where
   pub before : p.mount < k
+  pub named : IsName p.name
   pub listed : body_is is_listed t p.dir ≡ true
   pub there : is_there (entry t p.dir p.name) ≡ true
 
--- a table stands in a tree: its first mount is the root's, which has no mount point and is a
--- directory; each source is there, and a directory where it was one; and each mount point stands
+-- a table stands in a tree: its first mount is a directory; each source is there, and a directory where it
+-- was one; and each mount point stands
 pub record StandsIn (t : Tree) (table : List Row) : Type 0 where
+  pub lawful : IsTable table
   pub rooted : (r : Row) × (row table 0 ≡ Some r) × (r.is_dir ≡ true)
   pub sources : (k : ℕ) (r : Row) → row table k ≡ Some r → option_map is_directory (body t r.source) ≡ Some r.is_dir
   pub points : (k : ℕ) (r : Row) (p : Point) → row table k ≡ Some r → r.point ≡ Some p → PointStands t k p
+
+-- a table is as it was settled: a source that is no directory is still the entry at which it was found. A
+-- table stands without this, since that entry may be renamed or removed
+pub record IsAsSettled (t : Tree) (table : List Row) : Type 0 where
+  pub named : (k : ℕ) (r : Row) → row table k ≡ Some r → r.is_dir ≡ false → IsName r.source_name
+  pub entered : (k : ℕ) (r : Row) → row table k ≡ Some r → r.is_dir ≡ false → entry t r.source_dir r.source_name ≡ Some r.source

@@ -4,7 +4,7 @@ use Rattle.pr_base.specs.WalkFrame.{Looking, Trail, Target, walk}
 use Rattle.pr_base.specs.declared.path.WalkMode.{WalkMode}
 use Rattle.kr_tree.specs.declared.place.Place.{Place}
 use Rattle.kr_view.specs.View.{root_place}
-use Rattle.kr_view.specs.Component.{Surroundings, look}
+use Rattle.kr_view.specs.Component.{Surroundings, look_up}
 
 abbrev pub PlaceTrail : Type 0
 PlaceTrail = Trail (Place ℕ) (Place ℕ)
@@ -13,7 +13,7 @@ abbrev pub PlaceTarget : Type 0
 PlaceTarget = Target (Place ℕ) (Place ℕ)
 
 abbrev pub looking : Surroundings → Looking (Place ℕ) (Place ℕ)
-looking around = record { root = root_place around.table; here = λ p. p; look = look around }
+looking around = record { root = root_place around.table; here = λ p. p; look = look_up around }
 
 -- the walk from a base along a path
 abbrev pub place_walk : Surroundings → WalkMode → Place ℕ → List ℕ → PlaceTrail

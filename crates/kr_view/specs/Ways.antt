@@ -6,11 +6,11 @@ use Rattle.kr_tree.specs.declared.place.Host.TheVariants.{Node, Proc}
 use Rattle.kr_tree.specs.declared.place.Place.{Place}
 use Rattle.kr_tree.specs.Tree.{entry, above as node_above, body_is, is_directory}
 use Rattle.kr_tree.specs.Names.{host_name}
-use Rattle.kr_view.specs.declared.around.Way.{Way}
-use Rattle.kr_view.specs.declared.around.Way.TheVariants.{Stays, Rises, CrossesUp, CrossesDown, Enters}
-use Rattle.kr_view.specs.declared.around.Spot.{Spot}
-use Rattle.kr_view.specs.declared.around.Sight.{Sight}
-use Rattle.kr_view.specs.declared.around.Sight.TheVariants.{Fails, Missing, Leads, Links, Jumps}
+use Rattle.kr_view.specs.declared.surroundings.Way.{Way}
+use Rattle.kr_view.specs.declared.surroundings.Way.TheVariants.{Stays, Rises, CrossesUp, CrossesDown, Enters}
+use Rattle.kr_view.specs.declared.surroundings.Spot.{Spot}
+use Rattle.kr_view.specs.declared.surroundings.Sight.{Sight}
+use Rattle.kr_view.specs.declared.surroundings.Sight.TheVariants.{Fails, Missing, Leads, Links, Jumps}
 use Rattle.kr_view.specs.View.{Row, row, node_in}
 use Rattle.kr_view.specs.Leads.{numbered}
 use Rattle.kr_view.specs.Component.{Surroundings, is_directory_at}
@@ -76,7 +76,7 @@ IsSightWay number around p c sight = IsSightCalled number around p c (component_
 -- whether what is no link is a directory: it is one where an entry was taken for one, and it isn't where it
 -- wasn't taken for one
 abbrev pub IsKind : Surroundings → Host → Way → Bool → Type 0
-IsKind around host way true = way ≡ Enters → is_directory_at around host ≡ true
+IsKind around host way true = way ≡ Enters → is_directory_at around.tree host ≡ true
 IsKind around host way false = body_is is_directory around.tree (ino_of host) ≡ false
 
 abbrev pub HasKind : {M : Type 0} → Surroundings → Sight M → Type 0

@@ -10,6 +10,7 @@ ghost use Rattle.kr_view.specs.Names.{below};
 ghost use Rattle.kr_view.specs.HostNames.{NamesHangTogether};
 ghost use Rattle.kr_view.specs.Reach.{text_length, bytes_below};
 
+use kr_tree::laws::{directories_have_host_names, trees_are_kept};
 use kr_tree::{Ino, ProcAt, Tree};
 use pr_base::{Bytes, NoMemory};
 
@@ -35,22 +36,22 @@ pub(crate) fn length_of(bytes: Option<u64>) -> Option<u64>
 }
 
 /// The length of the host name of an entry, in a directory whose own has so many bytes below the root.
-pub(crate) fn entry_length(bytes: Option<u64>, part: &[u8]) -> Option<u64>
-    requires { IfSome bytes (λ n. n + 1 + length part.now < 2 ^ 64) }
-    ensures { (text : Option (List (List ℕ))) → bytes ≡ option_map bytes_below text → result ≡ option_map text_length (below part.now text) }
+pub(crate) fn entry_length(bytes: Option<u64>, name: &[u8]) -> Option<u64>
+    requires { IfSome bytes (λ n. n + 1 + length name.now < 2 ^ 64) }
+    ensures { (text : Option (List (List ℕ))) → bytes ≡ option_map bytes_below text → result ≡ option_map text_length (below name.now text) }
 {
     match bytes {
-        Some(bytes) => Some(bytes + 1 + part.len() as u64),
+        Some(bytes) => Some(bytes + 1 + name.len() as u64),
         None => None,
     }
 }
 
 /// Puts an entry's name behind that of its directory.
-fn append(name: &mut Bytes, part: &[u8]) -> Result<(), NoMemory>
-    ensures { OnOk result (name.new ≡ name.old ++ slash ∷ part.now) }
+fn append(directory: &mut Bytes, name: &[u8]) -> Result<(), NoMemory>
+    ensures { OnOk result (directory.new ≡ directory.old ++ slash ∷ name.now) }
 {
-    name.append(b"/")?;
-    name.append(part)
+    directory.append(b"/")?;
+    directory.append(name)
 }
 
 /// The host name of the directory above: the bytes in front of the last slash. The root stays.
@@ -84,12 +85,12 @@ pub(crate) fn cut_name(name: Option<Bytes>) -> Option<Bytes>
 }
 
 /// An entry's host name, where its directory has one.
-pub(crate) fn entered(name: Option<Bytes>, part: &[u8]) -> Result<Option<Bytes>, NoMemory>
-    ensures { IfOk result (λ entry. (text : Option (List (List ℕ))) → name ≡ option_map below_root text → entry ≡ option_map below_root (below part.now text)) }
+pub(crate) fn entered(directory: Option<Bytes>, name: &[u8]) -> Result<Option<Bytes>, NoMemory>
+    ensures { IfOk result (λ entry. (text : Option (List (List ℕ))) → directory ≡ option_map below_root text → entry ≡ option_map below_root (below name.now text)) }
 {
-    match name {
+    match directory {
         Some(mut bytes) => {
-            append(&mut bytes, part)?;
+            append(&mut bytes, name)?;
             Ok(Some(bytes))
         }
         None => Ok(None),
@@ -97,7 +98,7 @@ pub(crate) fn entered(name: Option<Bytes>, part: &[u8]) -> Result<Option<Bytes>,
 }
 
 /// Where the last slash of a path stands; 0 where it has none.
-fn last_slash(path: &[u8]) -> usize
+pub(crate) fn last_slash(path: &[u8]) -> usize
     ensures within { result ≤ length path.now }
     ensures last { (front name : List ℕ) → path.now ≡ front ++ slash ∷ name → All (λ b. b ≢ slash) name → result ≡ length front }
 {
@@ -115,15 +116,15 @@ fn last_slash(path: &[u8]) -> usize
 pub(crate) fn names_hang_together(tree: &Tree)
     ensures { NamesHangTogether tree.now }
 {
-    tree.is_kept();
-    tree.has_host_names();
+    trees_are_kept(tree);
+    directories_have_host_names(tree);
 }
 
 /// The host name of a directory by the tree.
 pub(crate) fn directory_name(tree: &Tree, ino: Ino) -> Result<Option<Bytes>, NoMemory>
     ensures { IfOk result (λ name. name ≡ option_map below_root (host_name tree.now ino)) }
 {
-    tree.has_host_names();
+    directories_have_host_names(tree);
     match tree.name_of(ino)? {
         Some(text) => Ok(Some(below_the_root(text))),
         None => Ok(None),
@@ -131,7 +132,7 @@ pub(crate) fn directory_name(tree: &Tree, ino: Ino) -> Result<Option<Bytes>, NoM
 }
 
 /// The bytes of a host name without the root's slash.
-fn below_the_root(text: Bytes) -> Bytes
+pub(crate) fn below_the_root(text: Bytes) -> Bytes
     ensures { (names : List (List ℕ)) → AreNames names → text ≡ text_of names → result ≡ below_root names }
 {
     if text.len() == 1 {

@@ -2,20 +2,20 @@
 ghost use Rattle.std.specs.Prelude.{◌≡◌, true, ℕ, ◌+◌, ◌<◌, ◌^◌, List, Option, IfOk, IfSome};
 ghost use Rattle.std.specs.Option.{option_map};
 ghost use Rattle.kr_view.specs.Leads.{numbered};
-ghost use Rattle.kr_view.specs.Parts.{part_data};
-ghost use Rattle.kr_view.specs.Sights.{scene};
+ghost use Rattle.kr_view.specs.Components.{component_data};
+ghost use Rattle.kr_view.specs.Sights.{surroundings_of};
 ghost use Rattle.kr_view.specs.Names.{directory_name, component_name};
 ghost use Rattle.kr_view.specs.Reach.{text_length, bytes_below};
 ghost use Rattle.kr_view.specs.Ways.{ino_of, IsKind, IsSource, IsWay};
 ghost use Rattle.kr_view.specs.Positions.{IsNamed, is_gone};
 
-use crate::around::{Around, Spot, Way};
+use crate::component::{Component, name_of};
 use crate::name::{
     bytes_above, bytes_of, cut_name, directory_name, entered, entry_length, length_of,
     names_hang_together, process_bytes,
 };
-use crate::part::{Part, name_of};
 use crate::procs::Procs;
+use crate::surroundings::{Spot, Surroundings, Way};
 use crate::view::Places;
 use kr_tree::{Host, Ino, Place, ProcAt};
 use pr_base::{Bytes, NoMemory};
@@ -44,7 +44,7 @@ fn ino_of(host: Host) -> Ino
     }
 }
 
-impl<'a, P: Places, Q: Procs<Mount = P::Mount>> Around<'a, P, Q> {
+impl<'a, P: Places, Q: Procs<Mount = P::Mount>> Surroundings<'a, P, Q> {
     /// A place with the host name that the tree gives it.
     pub(crate) fn position(&self, place: Place<P::Mount>) -> Result<Position<P::Mount>, NoMemory>
         ensures place { IfOk result (λ position. position.place ≡ place) }
@@ -57,7 +57,7 @@ impl<'a, P: Places, Q: Procs<Mount = P::Mount>> Around<'a, P, Q> {
     /// How many bytes the host name of an object has below the root, by that of its inode.
     pub(crate) fn object_bytes(&self, host: Host, name: &Option<Bytes>) -> Option<u64>
         requires { IsNamed self.now.tree.now host name.now }
-        ensures bytes { result ≡ option_map bytes_below (directory_name (scene P.number P.mounts Q.finds Q.leads self.now) host) }
+        ensures bytes { let around = surroundings_of P.number P.mounts Q.finds Q.leads self.now in result ≡ option_map bytes_below (directory_name around host) }
         ensures small { IfSome result (λ n. n < 2 ^ 63 + 65) }
     {
         match host {
@@ -74,7 +74,7 @@ impl<'a, P: Places, Q: Procs<Mount = P::Mount>> Around<'a, P, Q> {
 
     /// Whether something in the process directory is a directory of a process that ended.
     fn is_gone(&self, at: ProcAt) -> bool
-        ensures { result ≡ is_gone (scene P.number P.mounts Q.finds Q.leads self.now) at }
+        ensures { let around = surroundings_of P.number P.mounts Q.finds Q.leads self.now in result ≡ is_gone around at }
     {
         match at {
             ProcAt::Dir(pid) | ProcAt::FdDir(pid) => !self.is_shown(pid),
@@ -86,12 +86,12 @@ impl<'a, P: Places, Q: Procs<Mount = P::Mount>> Around<'a, P, Q> {
     pub(crate) fn shown_length(
         &self,
         from: &Position<P::Mount>,
-        part: &Part<'_>,
+        component: &Component<'_>,
         spot: Spot<P::Mount>,
     ) -> Result<Option<u64>, NoMemory>
         requires named { IsNamed self.now.tree.now from.now.place.host from.now.name }
-        requires way { IsWay (scene P.number P.mounts Q.finds Q.leads self.now) (numbered P.number from.now.place) (part_data part.now) (numbered P.number spot.place) spot.way }
-        ensures { IfOk result (λ length. length ≡ option_map text_length (component_name (scene P.number P.mounts Q.finds Q.leads self.now) (numbered P.number from.now.place) (part_data part.now))) }
+        requires way { let around = surroundings_of P.number P.mounts Q.finds Q.leads self.now in IsWay around (numbered P.number from.now.place) (component_data component.now) (numbered P.number spot.place) spot.way }
+        ensures { let around = surroundings_of P.number P.mounts Q.finds Q.leads self.now in IfOk result (λ length. length ≡ option_map text_length (component_name around (numbered P.number from.now.place) (component_data component.now))) }
     {
         names_hang_together(self.tree);
         match spot.way {
@@ -99,13 +99,13 @@ impl<'a, P: Places, Q: Procs<Mount = P::Mount>> Around<'a, P, Q> {
             Way::Rises => Ok(length_of(bytes_above(&from.name))),
             Way::CrossesUp => self.length_by_tree(spot.place),
             Way::CrossesDown => self.source_length(spot.place),
-            Way::Enters => Ok(entry_length(bytes_of(&from.name), name_of(part))),
+            Way::Enters => Ok(entry_length(bytes_of(&from.name), name_of(component))),
         }
     }
 
     /// The length of the host name that the tree gives.
     pub(crate) fn length_by_tree(&self, place: Place<P::Mount>) -> Result<Option<u64>, NoMemory>
-        ensures { IfOk result (λ length. length ≡ option_map text_length (directory_name (scene P.number P.mounts Q.finds Q.leads self.now) place.host)) }
+        ensures { let around = surroundings_of P.number P.mounts Q.finds Q.leads self.now in IfOk result (λ length. length ≡ option_map text_length (directory_name around place.host)) }
     {
         let position = self.position(place)?;
         Ok(length_of(self.object_bytes(place.host, &position.name)))
@@ -113,7 +113,7 @@ impl<'a, P: Places, Q: Procs<Mount = P::Mount>> Around<'a, P, Q> {
 
     /// The length of the host name of a mount's source.
     fn source_length(&self, place: Place<P::Mount>) -> Result<Option<u64>, NoMemory>
-        ensures { IfOk result (λ length. (name : Option (List (List ℕ))) → IsSource (scene P.number P.mounts Q.finds Q.leads self.now) (numbered P.number place) name → length ≡ option_map text_length name) }
+        ensures { let around = surroundings_of P.number P.mounts Q.finds Q.leads self.now in IfOk result (λ length. (name : Option (List (List ℕ))) → IsSource around (numbered P.number place) name → length ≡ option_map text_length name) }
     {
         match self.places.source(place.mount) {
             Some((dir, entry)) => {
@@ -129,13 +129,13 @@ impl<'a, P: Places, Q: Procs<Mount = P::Mount>> Around<'a, P, Q> {
     pub(crate) fn moved(
         &self,
         from: Position<P::Mount>,
-        part: &Part<'_>,
+        component: &Component<'_>,
         spot: Spot<P::Mount>,
         is_dir: bool,
     ) -> Result<Position<P::Mount>, NoMemory>
         requires named { IsNamed self.now.tree.now from.place.host from.name }
-        requires way { IsWay (scene P.number P.mounts Q.finds Q.leads self.now) (numbered P.number from.place) (part_data part.now) (numbered P.number spot.place) spot.way }
-        requires kind { IsKind (scene P.number P.mounts Q.finds Q.leads self.now) spot.place.host spot.way is_dir }
+        requires way { let around = surroundings_of P.number P.mounts Q.finds Q.leads self.now in IsWay around (numbered P.number from.place) (component_data component.now) (numbered P.number spot.place) spot.way }
+        requires kind { let around = surroundings_of P.number P.mounts Q.finds Q.leads self.now in IsKind around spot.place.host spot.way is_dir }
         ensures place { IfOk result (λ position. position.place ≡ spot.place) }
         ensures named { IfOk result (λ position. IsNamed self.now.tree.now position.place.host position.name) }
     {
@@ -144,7 +144,7 @@ impl<'a, P: Places, Q: Procs<Mount = P::Mount>> Around<'a, P, Q> {
             names_hang_together(self.tree);
             return Ok(Position { place, name: None });
         }
-        let name = self.moved_name(from, part, spot)?;
+        let name = self.moved_name(from, component, spot)?;
         Ok(Position { place, name })
     }
 
@@ -152,19 +152,19 @@ impl<'a, P: Places, Q: Procs<Mount = P::Mount>> Around<'a, P, Q> {
     fn moved_name(
         &self,
         from: Position<P::Mount>,
-        part: &Part<'_>,
+        component: &Component<'_>,
         spot: Spot<P::Mount>,
     ) -> Result<Option<Bytes>, NoMemory>
         requires named { IsNamed self.now.tree.now from.place.host from.name }
-        requires way { IsWay (scene P.number P.mounts Q.finds Q.leads self.now) (numbered P.number from.place) (part_data part.now) (numbered P.number spot.place) spot.way }
-        requires kind { IsKind (scene P.number P.mounts Q.finds Q.leads self.now) spot.place.host spot.way true }
+        requires way { let around = surroundings_of P.number P.mounts Q.finds Q.leads self.now in IsWay around (numbered P.number from.place) (component_data component.now) (numbered P.number spot.place) spot.way }
+        requires kind { let around = surroundings_of P.number P.mounts Q.finds Q.leads self.now in IsKind around spot.place.host spot.way true }
         ensures { IfOk result (λ name. IsNamed self.now.tree.now spot.place.host name) }
     {
         names_hang_together(self.tree);
         match spot.way {
             Way::Stays => Ok(from.name),
             Way::Rises => Ok(cut_name(from.name)),
-            Way::Enters => entered(from.name, name_of(part)),
+            Way::Enters => entered(from.name, name_of(component)),
             Way::CrossesUp | Way::CrossesDown => directory_name(self.tree, ino_of(spot.place.host)),
         }
     }

@@ -63,10 +63,11 @@ impl<M> NoProcs<M> {
 impl<M: Copy> Procs for NoProcs<M> {
     type Mount = M;
 
-    ghost use Rattle.std.specs.Prelude.{◌≡◌, None, Ok};
+    ghost use Rattle.std.specs.Prelude.{◌≡◌, Ok};
+    ghost use Rattle.kr_view.specs.Processes.{no_finds};
     ghost use Rattle.kr_view.specs.declared.procs.Lead.TheVariants.{NoLink};
 
-    ghost finds = { λ procs caller at name. None };
+    ghost finds = { λ procs caller. no_finds };
 
     ghost leads = { λ procs caller at. NoLink };
 

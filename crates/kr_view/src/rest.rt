@@ -57,7 +57,7 @@ impl Rest {
     }
 
     /// The bytes of a component.
-    pub(crate) fn part(&self, span: Span) -> &[u8]
+    pub(crate) fn bytes(&self, span: Span) -> &[u8]
         requires end { span.end ≤ length self.now.text }
         requires begin { span.begin ≤ span.end }
         ensures { result.now ≡ slice_range self.now.text span.begin span.end }

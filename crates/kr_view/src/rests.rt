@@ -26,12 +26,12 @@ pub(crate) struct Taken {
 }
 
 impl Taken {
-    ghost use Rattle.kr_view.specs.Stacks.{taken_part};
+    ghost use Rattle.kr_view.specs.Stacks.{taken_bytes};
 
-    pub(crate) fn part(&self) -> &[u8]
-        ensures { result.now ≡ taken_part self.now }
+    pub(crate) fn bytes(&self) -> &[u8]
+        ensures { result.now ≡ taken_bytes self.now }
     {
-        self.rest.part(self.span)
+        self.rest.bytes(self.span)
     }
 
     /// What is left of the path.
@@ -50,7 +50,7 @@ impl Taken {
 }
 
 impl Rests {
-    ghost use Rattle.kr_view.specs.Stacks.{stack_of, taken_part};
+    ghost use Rattle.kr_view.specs.Stacks.{stack_of, taken_bytes};
 
     pub(crate) fn new(alloc: Global) -> Rests
         ensures { stack_of result ≡ [] }
@@ -87,7 +87,7 @@ impl Rests {
 
     /// Takes the next component, with the path in which it stands.
     pub(crate) fn next(&mut self) -> Option<Taken>
-        ensures { MatchOption result (stack_of self.old ≡ []) (λ taken. stack_of self.old ≡ component_of (taken_part taken) ∷ (components_left taken.rest ++ stack_of self.new)) }
+        ensures { MatchOption result (stack_of self.old ≡ []) (λ taken. stack_of self.old ≡ component_of (taken_bytes taken) ∷ (components_left taken.rest ++ stack_of self.new)) }
     {
         let mut rest = self.list.pop()?;
         let span = rest.next()?;

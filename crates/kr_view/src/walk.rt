@@ -4,28 +4,27 @@ ghost use Rattle.std.specs.Option.{option_map};
 ghost use Rattle.pr_base.specs.declared.path.WalkMode.{WalkMode};
 ghost use Rattle.pr_base.specs.WalkFrame.{is_followed, wants_directory, may_be_free, target_at, ends_landed, begins_at, name_of};
 ghost use Rattle.kr_view.specs.Leads.{numbered, lead_numbered};
-ghost use Rattle.kr_view.specs.Parts.{part_data};
-ghost use Rattle.kr_view.specs.Rests.{components_left};
-ghost use Rattle.kr_view.specs.Stacks.{stack_of, taken_part};
-ghost use Rattle.pr_base.specs.Paths.{Component, component_of, has_slash};
+ghost use Rattle.kr_view.specs.Components.{component_data};
+ghost use Rattle.kr_view.specs.Stacks.{stack_of, taken_bytes};
+ghost use Rattle.pr_base.specs.Paths.{Component as PathComponent, component_of, has_slash};
 ghost use Rattle.kr_tree.specs.declared.place.Place.{Place};
-ghost use Rattle.kr_view.specs.Sights.{surroundings, scene, sight_seen};
+ghost use Rattle.kr_view.specs.Sights.{surroundings, surroundings_of, sight_seen};
 ghost use Rattle.kr_view.specs.Ways.{HasKind, IsSightWay};
 ghost use Rattle.kr_view.specs.Positions.{IsNamed};
-ghost use Rattle.kr_view.specs.Component.{look, landing, seen_link};
+ghost use Rattle.kr_view.specs.Component.{look_up, landing, seen_link};
 ghost use Rattle.kr_view.specs.Names.{free_name, landing_name};
 ghost use Rattle.kr_view.specs.Walk.{place_walk, looking};
-ghost use Rattle.kr_view.specs.Reach.{text_length, end_reach, reach_after};
+ghost use Rattle.kr_view.specs.Reach.{text_length, end_reach, reached_landing, reach_after};
 ghost use Rattle.kr_view.specs.Answers.{told, target_numbered, IsAnswer, IsReached};
-ghost use Rattle.kr_view.specs.Steps.{trail_of, middle_trail, last_trail, reach_behind, noted, here_target, reached_landing, work, IsPart, IsFollowed, IsLanded, IsOutcome, HasLess};
+ghost use Rattle.kr_view.specs.Steps.{trail_of, behind_middle, behind_last, rest_behind, noted, here_target, work, HasReached, IsFollowed, IsLanded, IsOutcome, HasLess};
 
-use crate::around::{Around, Sight, Spot};
+use crate::component::{Component, component_of, kind_of, name_of};
 use crate::name::{bytes_of, directory_name, entry_length, length_of};
-use crate::part::{Part, kind_of, name_of, part_of};
 use crate::position::Position;
 use crate::procs::{Lead, Procs};
 use crate::rest::Rest;
 use crate::rests::{Rests, Taken};
+use crate::surroundings::{Sight, Spot, Surroundings};
 use crate::target::{Reach, Target, WalkFault};
 use crate::view::Places;
 use kr_tree::{Host, Ino, Place, ProcAt, Tree, User};
@@ -112,10 +111,10 @@ pub fn resolve<P: Places, Q: Procs<Mount = P::Mount>>(
     mode: WalkMode,
     reach: &mut Reach,
 ) -> Result<Target<P::Mount>, WalkFault>
-    ensures answer { IsAnswer P.number (place_walk (surroundings P.number (P.mounts places.now) tree.now user (Q.finds procs.now caller) (Q.leads procs.now caller)) mode (numbered P.number base) path.now).answer result }
+    ensures answer { let around = surroundings P.number (P.mounts places.now) tree.now user (Q.finds procs.now caller) (Q.leads procs.now caller) in IsAnswer P.number (place_walk around mode (numbered P.number base) path.now).answer result }
     ensures reach { let around = surroundings P.number (P.mounts places.now) tree.now user (Q.finds procs.now caller) (Q.leads procs.now caller) in IsReached around (place_walk around mode (numbered P.number base) path.now) reach.old reach.new result }
 {
-    let around = Around {
+    let surroundings = Surroundings {
         alloc,
         places,
         procs,
@@ -123,19 +122,19 @@ pub fn resolve<P: Places, Q: Procs<Mount = P::Mount>>(
         user,
         caller,
     };
-    let mut walk = around.begin(base, path)?;
+    let mut walk = surroundings.begin(base, path)?;
     'steps: loop {
-        match around.step(walk, mode, reach)? {
+        match surroundings.step(walk, mode, reach)? {
             Step::Goes(on) => walk = on,
             Step::Ends(target) => return Ok(target),
         }
     }
 }
 
-impl<'a, P: Places, Q: Procs<Mount = P::Mount>> Around<'a, P, Q> {
+impl<'a, P: Places, Q: Procs<Mount = P::Mount>> Surroundings<'a, P, Q> {
     /// A walk before its first step.
     fn begin(&self, base: Place<P::Mount>, path: &[u8]) -> Result<Walk<P::Mount>, NoMemory>
-        ensures trail { IfOk result (λ walk. (mode : WalkMode) → trail_of P.number (scene P.number P.mounts Q.finds Q.leads self.now) mode walk ≡ place_walk (scene P.number P.mounts Q.finds Q.leads self.now) mode (numbered P.number base) path.now) }
+        ensures trail { let around = surroundings_of P.number P.mounts Q.finds Q.leads self.now in IfOk result (λ walk. (mode : WalkMode) → trail_of P.number around mode walk ≡ place_walk around mode (numbered P.number base) path.now) }
         ensures named { IfOk result (λ walk. IsNamed self.now.tree.now walk.position.place.host walk.position.name) }
     {
         let parts = components(path);
@@ -162,16 +161,16 @@ impl<'a, P: Places, Q: Procs<Mount = P::Mount>> Around<'a, P, Q> {
         reach: &mut Reach,
     ) -> Result<Step<P::Mount>, WalkFault>
         requires named { IsNamed self.now.tree.now walk.position.place.host walk.position.name }
-        ensures outcome { IsOutcome P.number (scene P.number P.mounts Q.finds Q.leads self.now) mode (trail_of P.number (scene P.number P.mounts Q.finds Q.leads self.now) mode walk).answer (reach_after (scene P.number P.mounts Q.finds Q.leads self.now) (trail_of P.number (scene P.number P.mounts Q.finds Q.leads self.now) mode walk) reach.old) reach.old reach.new result }
+        ensures outcome { let around = surroundings_of P.number P.mounts Q.finds Q.leads self.now in IsOutcome P.number around mode (trail_of P.number around mode walk) reach.old reach.new result }
         ensures less { HasLess (work walk) result }
     {
         let mut walk = walk;
         let Some(taken) = walk.rests.next() else {
             return Ok(Step::Ends(self.end_here(&walk, reach)));
         };
-        let part = part_of(taken.part());
-        let sight = self.look(walk.position.place(), &part);
-        self.note(&walk.position, &part, &sight, reach)?;
+        let component = component_of(taken.bytes());
+        let sight = self.look_up(walk.position.place(), &component);
+        self.note(&walk.position, &component, &sight, reach)?;
         if walk.rests.none_behind(&taken) {
             self.at_last(walk, &taken, &sight, mode, reach)
         } else {
@@ -183,7 +182,7 @@ impl<'a, P: Places, Q: Procs<Mount = P::Mount>> Around<'a, P, Q> {
     fn end_here(&self, walk: &Walk<P::Mount>, reach: &mut Reach) -> Target<P::Mount>
         requires named { IsNamed self.now.tree.now walk.now.position.place.host walk.now.position.name }
         ensures answer { told (here_target (numbered P.number walk.now.position.place) walk.now.slash) ≡ target_numbered P.number result }
-        ensures reach { reach.new ≡ end_reach (scene P.number P.mounts Q.finds Q.leads self.now) (Ok (here_target (numbered P.number walk.now.position.place) walk.now.slash)) reach.old }
+        ensures reach { let around = surroundings_of P.number P.mounts Q.finds Q.leads self.now in reach.new ≡ end_reach around (Ok (here_target (numbered P.number walk.now.position.place) walk.now.slash)) reach.old }
     {
         let place = walk.position.place;
         reach.raise(length_of(self.object_bytes(place.host, &walk.position.name)));
@@ -196,24 +195,24 @@ impl<'a, P: Places, Q: Procs<Mount = P::Mount>> Around<'a, P, Q> {
         }
     }
 
-    /// Notes what a look reaches.
+    /// Notes what a look-up reaches.
     fn note(
         &self,
         position: &Position<P::Mount>,
-        part: &Part<'_>,
+        component: &Component<'_>,
         sight: &Sight<'_, P::Mount>,
         reach: &mut Reach,
     ) -> Result<(), NoMemory>
         requires named { IsNamed self.now.tree.now position.now.place.host position.now.name }
-        requires seen { sight_seen P.number (scene P.number P.mounts Q.finds Q.leads self.now) sight.now ≡ look (scene P.number P.mounts Q.finds Q.leads self.now) (numbered P.number position.now.place) (part_data part.now) }
-        requires way { IsSightWay P.number (scene P.number P.mounts Q.finds Q.leads self.now) (numbered P.number position.now.place) (part_data part.now) sight.now }
-        ensures { IsPart (noted (scene P.number P.mounts Q.finds Q.leads self.now) (numbered P.number position.now.place) (part_data part.now) reach.old) reach.old reach.new result }
+        requires seen { let around = surroundings_of P.number P.mounts Q.finds Q.leads self.now in sight_seen P.number around sight.now ≡ look_up around (numbered P.number position.now.place) (component_data component.now) }
+        requires way { let around = surroundings_of P.number P.mounts Q.finds Q.leads self.now in IsSightWay P.number around (numbered P.number position.now.place) (component_data component.now) sight.now }
+        ensures { let around = surroundings_of P.number P.mounts Q.finds Q.leads self.now in HasReached (noted around (numbered P.number position.now.place) (component_data component.now) reach.old) reach.old reach.new result }
     {
         let place = position.place;
         reach.raise(length_of(self.object_bytes(place.host, &position.name)));
-        reach.meet(self.meets_processes(place, part));
+        reach.meet(self.meets_processes(place, component));
         if let Some(spot) = sight.spot() {
-            reach.raise(self.shown_length(position, part, spot)?);
+            reach.raise(self.shown_length(position, component, spot)?);
         }
         Ok(())
     }
@@ -227,18 +226,23 @@ impl<'a, P: Places, Q: Procs<Mount = P::Mount>> Around<'a, P, Q> {
         reach: &mut Reach,
     ) -> Result<Step<P::Mount>, WalkFault>
         requires named { IsNamed self.now.tree.now walk.position.place.host walk.position.name }
-        requires way { IsSightWay P.number (scene P.number P.mounts Q.finds Q.leads self.now) (numbered P.number walk.position.place) (component_of (taken_part taken)) sight.now }
-        requires kind { HasKind (scene P.number P.mounts Q.finds Q.leads self.now) sight.now }
-        requires more { components_left taken.rest ++ stack_of walk.rests ≢ [] }
-        ensures outcome { (mode : WalkMode) → let trail = middle_trail (scene P.number P.mounts Q.finds Q.leads self.now) mode walk.left (numbered P.number walk.position.place) (components_left taken.rest ++ stack_of walk.rests) walk.slash (sight_seen P.number (scene P.number P.mounts Q.finds Q.leads self.now) sight.now) in IsOutcome P.number (scene P.number P.mounts Q.finds Q.leads self.now) mode trail.answer (reach_behind (scene P.number P.mounts Q.finds Q.leads self.now) (sight_seen P.number (scene P.number P.mounts Q.finds Q.leads self.now) sight.now) trail reach.old) reach.old reach.new result }
-        ensures less { HasLess (walk.left * 2 ^ 64 + length (components_left taken.rest ++ stack_of walk.rests) + 1) result }
+        requires way { let around = surroundings_of P.number P.mounts Q.finds Q.leads self.now in IsSightWay P.number around (numbered P.number walk.position.place) (component_of (taken_bytes taken)) sight.now }
+        requires kind { let around = surroundings_of P.number P.mounts Q.finds Q.leads self.now in HasKind around sight.now }
+        requires more { rest_behind taken walk ≢ [] }
+        ensures outcome { let around = surroundings_of P.number P.mounts Q.finds Q.leads self.now in (mode : WalkMode) → IsOutcome P.number around mode (behind_middle P.number around mode walk (rest_behind taken walk) (sight_seen P.number around sight.now)) reach.old reach.new result }
+        ensures less { HasLess (walk.left * 2 ^ 64 + length (rest_behind taken walk) + 1) result }
     {
         let mut walk = walk;
         match sight {
             Sight::Fails(errno) => Err(WalkFault::Err(*errno)),
             Sight::Missing => Err(WalkFault::Err(Errno::ENOENT)),
             Sight::Leads(spot, is_dir) => {
-                let position = self.moved(walk.position, &part_of(taken.part()), *spot, *is_dir)?;
+                let position = self.moved(
+                    walk.position,
+                    &component_of(taken.bytes()),
+                    *spot,
+                    *is_dir,
+                )?;
                 walk.rests.push(taken.into_rest())?;
                 Ok(Step::Goes(Walk {
                     position,
@@ -269,12 +273,12 @@ impl<'a, P: Places, Q: Procs<Mount = P::Mount>> Around<'a, P, Q> {
         reach: &mut Reach,
     ) -> Result<Step<P::Mount>, WalkFault>
         requires named { IsNamed self.now.tree.now walk.position.place.host walk.position.name }
-        requires seen { sight_seen P.number (scene P.number P.mounts Q.finds Q.leads self.now) sight.now ≡ look (scene P.number P.mounts Q.finds Q.leads self.now) (numbered P.number walk.position.place) (component_of (taken_part taken.now)) }
+        requires seen { let around = surroundings_of P.number P.mounts Q.finds Q.leads self.now in sight_seen P.number around sight.now ≡ look_up around (numbered P.number walk.position.place) (component_of (taken_bytes taken.now)) }
         requires none { stack_of walk.rests ≡ [] }
-        ensures outcome { let trail = last_trail (scene P.number P.mounts Q.finds Q.leads self.now) mode walk.left (numbered P.number walk.position.place) (component_of (taken_part taken.now)) walk.slash (sight_seen P.number (scene P.number P.mounts Q.finds Q.leads self.now) sight.now) in IsOutcome P.number (scene P.number P.mounts Q.finds Q.leads self.now) mode trail.answer (reach_behind (scene P.number P.mounts Q.finds Q.leads self.now) (sight_seen P.number (scene P.number P.mounts Q.finds Q.leads self.now) sight.now) trail reach.old) reach.old reach.new result }
+        ensures outcome { let around = surroundings_of P.number P.mounts Q.finds Q.leads self.now in IsOutcome P.number around mode (behind_last P.number around mode walk (component_of (taken_bytes taken.now)) (sight_seen P.number around sight.now)) reach.old reach.new result }
         ensures less { HasLess (walk.left * 2 ^ 64 + 1) result }
     {
-        let part = part_of(taken.part());
+        let component = component_of(taken.bytes());
         let dir = walk.position.place();
         match sight {
             Sight::Fails(errno) => Err(WalkFault::Err(*errno)),
@@ -282,26 +286,36 @@ impl<'a, P: Places, Q: Procs<Mount = P::Mount>> Around<'a, P, Q> {
                 if !may_be_free(mode) {
                     return Err(WalkFault::Err(Errno::ENOENT));
                 }
-                let target = self.target(dir, &part, walk.slash, None)?;
-                reach.raise(self.free_length(&walk.position, &part));
+                let target = self.target(dir, &component, walk.slash, None)?;
+                reach.raise(self.free_length(&walk.position, &component));
                 Ok(Step::Ends(target))
             }
             Sight::Leads(spot, is_dir) => {
                 if is_refused(mode, walk.slash, *is_dir) {
                     return Err(WalkFault::Err(Errno::ENOTDIR));
                 }
-                Ok(Step::Ends(self.target(dir, &part, walk.slash, Some(spot.place))?))
+                Ok(Step::Ends(self.target(dir, &component, walk.slash, Some(spot.place))?))
             }
             Sight::Links(spot, text) => {
                 if !is_followed(mode, walk.slash) {
-                    return Ok(Step::Ends(self.target(dir, &part, walk.slash, Some(spot.place))?));
+                    return Ok(Step::Ends(self.target(
+                        dir,
+                        &component,
+                        walk.slash,
+                        Some(spot.place),
+                    )?));
                 }
                 let slash = slash_behind(walk.slash, text);
                 Ok(Step::Goes(self.follow(walk, text, slash)?))
             }
             Sight::Jumps(spot, at) => {
                 if !is_followed(mode, walk.slash) {
-                    return Ok(Step::Ends(self.target(dir, &part, walk.slash, Some(spot.place))?));
+                    return Ok(Step::Ends(self.target(
+                        dir,
+                        &component,
+                        walk.slash,
+                        Some(spot.place),
+                    )?));
                 }
                 self.jump_last(walk, *at, mode, reach)
             }
@@ -312,29 +326,29 @@ impl<'a, P: Places, Q: Procs<Mount = P::Mount>> Around<'a, P, Q> {
     fn target(
         &self,
         dir: Place<P::Mount>,
-        part: &Part<'_>,
+        component: &Component<'_>,
         slash: bool,
         found: Option<Place<P::Mount>>,
     ) -> Result<Target<P::Mount>, NoMemory>
-        ensures { IfOk result (λ target. told (target_at (numbered P.number dir) (part_data part.now) slash (option_map (numbered P.number) found)) ≡ target_numbered P.number target) }
+        ensures { IfOk result (λ target. told (target_at (numbered P.number dir) (component_data component.now) slash (option_map (numbered P.number) found)) ≡ target_numbered P.number target) }
     {
         Ok(Target {
             dir,
-            name: Bytes::copy(self.alloc, name_of(part))?,
-            last: kind_of(part),
+            name: Bytes::copy(self.alloc, name_of(component))?,
+            last: kind_of(component),
             slash,
             found,
         })
     }
 
     /// The length of the host name of a free name.
-    fn free_length(&self, position: &Position<P::Mount>, part: &Part<'_>) -> Option<u64>
+    fn free_length(&self, position: &Position<P::Mount>, component: &Component<'_>) -> Option<u64>
         requires named { IsNamed self.now.tree.now position.now.place.host position.now.name }
-        requires short { length (name_of (part_data part.now)) ≤ 255 }
-        ensures { result ≡ option_map text_length (free_name (scene P.number P.mounts Q.finds Q.leads self.now) position.now.place.host (name_of (part_data part.now))) }
+        requires short { length (name_of (component_data component.now)) ≤ 255 }
+        ensures { let around = surroundings_of P.number P.mounts Q.finds Q.leads self.now in result ≡ option_map text_length (free_name around position.now.place.host (name_of (component_data component.now))) }
     {
         let bytes = self.object_bytes(position.place.host, &position.name);
-        entry_length(bytes, name_of(part))
+        entry_length(bytes, name_of(component))
     }
 
     /// The walk behind a link that is followed: the components of its text come before the rest.
@@ -345,7 +359,7 @@ impl<'a, P: Places, Q: Procs<Mount = P::Mount>> Around<'a, P, Q> {
         slash: bool,
     ) -> Result<Walk<P::Mount>, WalkFault>
         requires named { IsNamed self.now.tree.now walk.position.place.host walk.position.name }
-        ensures { IsFollowed P.number (scene P.number P.mounts Q.finds Q.leads self.now) walk text.now slash result }
+        ensures { let around = surroundings_of P.number P.mounts Q.finds Q.leads self.now in IsFollowed P.number around walk text.now slash result }
     {
         let Walk {
             position,
@@ -373,7 +387,7 @@ impl<'a, P: Places, Q: Procs<Mount = P::Mount>> Around<'a, P, Q> {
         path: &[u8],
     ) -> Result<Position<P::Mount>, NoMemory>
         requires named { IsNamed self.now.tree.now position.place.host position.name }
-        ensures place { IfOk result (λ beginning. numbered P.number beginning.place ≡ begins_at (looking (scene P.number P.mounts Q.finds Q.leads self.now)) (numbered P.number position.place) path.now) }
+        ensures place { let around = surroundings_of P.number P.mounts Q.finds Q.leads self.now in IfOk result (λ beginning. numbered P.number beginning.place ≡ begins_at (looking around) (numbered P.number position.place) path.now) }
         ensures named { IfOk result (λ beginning. IsNamed self.now.tree.now beginning.place.host beginning.name) }
     {
         if components(path).absolute() {
@@ -392,7 +406,7 @@ impl<'a, P: Places, Q: Procs<Mount = P::Mount>> Around<'a, P, Q> {
     ) -> Result<Step<P::Mount>, WalkFault>
         requires named { IsNamed self.now.tree.now walk.position.place.host walk.position.name }
         requires more { stack_of walk.rests ≢ [] }
-        ensures outcome { (mode : WalkMode) (link : Place ℕ) → let seen = seen_link (scene P.number P.mounts Q.finds Q.leads self.now) link ((scene P.number P.mounts Q.finds Q.leads self.now).leads at) in let trail = middle_trail (scene P.number P.mounts Q.finds Q.leads self.now) mode walk.left (numbered P.number walk.position.place) (stack_of walk.rests) walk.slash seen in IsOutcome P.number (scene P.number P.mounts Q.finds Q.leads self.now) mode trail.answer (reach_behind (scene P.number P.mounts Q.finds Q.leads self.now) seen trail reach.old) reach.old reach.new result }
+        ensures outcome { let around = surroundings_of P.number P.mounts Q.finds Q.leads self.now in (mode : WalkMode) (link : Place ℕ) → IsOutcome P.number around mode (behind_middle P.number around mode walk (stack_of walk.rests) (seen_link around link (around.leads at))) reach.old reach.new result }
         ensures less { HasLess (work walk) result }
     {
         if walk.left == 0 {
@@ -428,7 +442,7 @@ impl<'a, P: Places, Q: Procs<Mount = P::Mount>> Around<'a, P, Q> {
         requires named { IsNamed self.now.tree.now walk.position.place.host walk.position.name }
         requires none { stack_of walk.rests ≡ [] }
         requires followed { is_followed mode walk.slash ≡ true }
-        ensures outcome { (link : Place ℕ) (c : Component) → let seen = seen_link (scene P.number P.mounts Q.finds Q.leads self.now) link ((scene P.number P.mounts Q.finds Q.leads self.now).leads at) in let trail = last_trail (scene P.number P.mounts Q.finds Q.leads self.now) mode walk.left (numbered P.number walk.position.place) c walk.slash seen in IsOutcome P.number (scene P.number P.mounts Q.finds Q.leads self.now) mode trail.answer (reach_behind (scene P.number P.mounts Q.finds Q.leads self.now) seen trail reach.old) reach.old reach.new result }
+        ensures outcome { let around = surroundings_of P.number P.mounts Q.finds Q.leads self.now in (link : Place ℕ) (c : PathComponent) → IsOutcome P.number around mode (behind_last P.number around mode walk c (seen_link around link (around.leads at))) reach.old reach.new result }
         ensures less { HasLess (work walk) result }
     {
         if walk.left == 0 {
@@ -455,7 +469,7 @@ impl<'a, P: Places, Q: Procs<Mount = P::Mount>> Around<'a, P, Q> {
         name: &[u8],
         reach: &mut Reach,
     ) -> Result<(), NoMemory>
-        ensures { IsPart (reached_landing (scene P.number P.mounts Q.finds Q.leads self.now) (landing (scene P.number P.mounts Q.finds Q.leads self.now) (numbered P.number place) dir name.now) reach.old) reach.old reach.new result }
+        ensures { let around = surroundings_of P.number P.mounts Q.finds Q.leads self.now in HasReached (reached_landing around (landing around (numbered P.number place) dir name.now) reach.old) reach.old reach.new result }
     {
         let length = self.landing_length(place, dir, name)?;
         reach.raise(length);
@@ -469,7 +483,7 @@ impl<'a, P: Places, Q: Procs<Mount = P::Mount>> Around<'a, P, Q> {
         dir: Ino,
         name: &[u8],
     ) -> Result<Option<u64>, NoMemory>
-        ensures { IfOk result (λ length. length ≡ option_map text_length (landing_name (scene P.number P.mounts Q.finds Q.leads self.now) (landing (scene P.number P.mounts Q.finds Q.leads self.now) (numbered P.number place) dir name.now))) }
+        ensures { let around = surroundings_of P.number P.mounts Q.finds Q.leads self.now in IfOk result (λ length. length ≡ option_map text_length (landing_name around (landing around (numbered P.number place) dir name.now))) }
     {
         if self.is_directory(place.host) {
             return self.length_by_tree(place);
@@ -488,7 +502,7 @@ impl<'a, P: Places, Q: Procs<Mount = P::Mount>> Around<'a, P, Q> {
         slash: bool,
         mode: WalkMode,
     ) -> Result<Target<P::Mount>, WalkFault>
-        ensures { IsLanded P.number (ends_landed mode slash (landing (scene P.number P.mounts Q.finds Q.leads self.now) (numbered P.number place) dir name)).answer result }
+        ensures { let around = surroundings_of P.number P.mounts Q.finds Q.leads self.now in IsLanded P.number (ends_landed mode slash (landing around (numbered P.number place) dir name)).answer result }
     {
         if self.is_directory(place.host) {
             return Ok(Target {

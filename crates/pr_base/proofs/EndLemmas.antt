@@ -17,22 +17,22 @@ module _ {S F : Type 0} (looking : Looking S F) (P : Target S F → Type 0) wher
   abbrev pub EndsSo : Trail S F → Type 0
   EndsSo trail = (t : Target S F) → trail.answer ≡ Ok t → P t
 
-  failed : (e : Errno) → EndsSo (fails e)
+  pub failed : (e : Errno) → EndsSo (fails e)
   failed e t h = absurd cc
 
-  ended : (target : Target S F) → P target → EndsSo (ends target)
+  pub ended : (target : Target S F) → P target → EndsSo (ends target)
   ended target holds t h = subst P (same_target target t h) holds
 
-  either_way : (b : Bool) (x y : Trail S F) → EndsSo x → EndsSo y → EndsSo (if b then x else y)
+  pub either_way : (b : Bool) (x y : Trail S F) → EndsSo x → EndsSo y → EndsSo (if b then x else y)
   either_way true x y p q = p
   either_way false x y p q = q
 
-  lands : (mode : WalkMode) (slash : Bool) (l : Landing S F) → P (landed l slash) → EndsSo (ends_landed mode slash l)
+  pub lands : (mode : WalkMode) (slash : Bool) (l : Landing S F) → P (landed l slash) → EndsSo (ends_landed mode slash l)
   lands mode slash l holds =
       let t : Target S F = landed l slash in
       either_way (wants_directory mode slash) (if l.is_dir then ends t else fails ENOTDIR) (ends t) (either_way l.is_dir (ends t) (fails ENOTDIR) (ended t holds) (failed ENOTDIR)) (ended t holds)
 
-  jumps : (left : ℕ) (go : Landing S F → Trail S F) (lead : Option (Landing S F)) → ((l : Landing S F) → lead ≡ Some l → EndsSo (go l)) → EndsSo (jumps_on left go lead)
+  pub jumps : (left : ℕ) (go : Landing S F → Trail S F) (lead : Option (Landing S F)) → ((l : Landing S F) → lead ≡ Some l → EndsSo (go l)) → EndsSo (jumps_on left go lead)
   jumps zero go lead each = failed _
   jumps (suc left) go None each = failed ENOENT
   jumps (suc left) go (Some l) each = each l refl

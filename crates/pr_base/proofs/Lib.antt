@@ -1,6 +1,7 @@
 pub mod AlikeLemmas
 pub mod BTreeLemmas
 pub mod EndLemmas
+pub mod KeepLemmas
 pub mod MapLemmas
 pub mod PathLemmas
 pub mod PathRows

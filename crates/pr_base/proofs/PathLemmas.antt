@@ -1,5 +1,5 @@
 -- Paths and their pieces.
-use Rattle.std.proofs.Common.{◌≡◌, ◌≢◌, ℕ, ◌+◌, ◌-◌, suc, Bool, true, false, cond, List, [], ◌∷◌, ◌++◌, length, map, reverse, get_or, refl, sym, ap, ◌∙◌, arith, append-nil, append_assoc, eq-eqb, All}
+use Rattle.std.proofs.Common.{◌≡◌, ◌≢◌, ℕ, ◌+◌, ◌-◌, Bool, true, false, cond, List, [], ◌∷◌, ◌++◌, length, map, reverse, get_or, refl, sym, ap, ◌∙◌, arith, append-nil, append_assoc, eq-eqb, All}
 use Rattle.std.specs.Bool.{if◌then◌else◌}
 use Rattle.std.specs.List.{AllByRecursion, slice_split, onto_first}
 use Rattle.std.specs.Str.{bytes_eq}
@@ -7,7 +7,7 @@ use Rattle.std.proofs.lemmas.Bool.{ne_eqb, eqb-false, both_ways, false_from_ne_t
 use Rattle.std.proofs.lemmas.Slice.Eq.{bytes_eq-Decides}
 use Rattle.std.proofs.lemmas.Grind.{reverse_onto}
 use Rattle.std.proofs.lemmas.List.{map-append, length-append, get_or-append-add}
-use Rattle.std.proofs.lemmas.List.Elements.{All-cons, All-nil, All-head, All-tail, All-weaker, All-from_recursion}
+use Rattle.std.proofs.lemmas.List.Elements.{All-cons, All-nil, All-head, All-tail, All-weaker}
 use Rattle.std.proofs.lemmas.List.Splits.{slice_split_none, slice_split_at, length-slice_split}
 use Rattle.pr_base.specs.Paths.{slash, dot, dot_dot, is_slash, is_absolute, not_empty, parts_of, has_parts, ends_in_slash, has_slash, Component, Dot, DotDot, Name, component_of, kind_of, last_of, components_of, IsPart, AreParts, IsComponent, IsName, AreNames, below_root, text_of, name_path, PathsHaveComponents, TextsHaveTheirNames, PathsJoin, TextsAreAbsolute}
 use Rattle.pr_base.specs.declared.path.Last.{Last}
@@ -196,28 +196,56 @@ pub text_absolute : (names : List (List ℕ)) → is_absolute (text_of names) �
 text_absolute [] = refl
 text_absolute (name ∷ names) = below_root_absolute names name
 
--- the last byte of a part is no slash
-no_end_slash : (front name : List ℕ) → IsPart name → ends_in_slash (front ++ slash ∷ name) ≡ false
-no_end_slash front [] is = absurd (is.some refl)
-no_end_slash front (b ∷ bs) is =
-    let all : length (front ++ slash ∷ b ∷ bs) - 1 ≡ length front + suc (length bs) = let sum = length-append front (slash ∷ b ∷ bs) in omega arith in
-    let last = ap (λ k. get_or (front ++ slash ∷ b ∷ bs) k 0) all ∙ get_or-append-add front (slash ∷ b ∷ bs) (suc (length bs)) 0 in
-    ap is_slash last ∙ ne_eqb (get_or (b ∷ bs) (length bs) 0) slash (is.no_slash (length bs) 0 (omega arith))
+-- ---- the last byte of a path
 
-end_slash : (path : List ℕ) → ends_in_slash (path ++ slash ∷ []) ≡ true
-end_slash path =
-    let all : length (path ++ slash ∷ []) - 1 ≡ length path + 0 = let sum = length-append path (slash ∷ []) in omega arith in
-    ap is_slash (ap (λ k. get_or (path ++ slash ∷ []) k 0) all ∙ get_or-append-add path (slash ∷ []) 0 0)
+-- it is that of what stands at its end
+pub ends_behind : (front more : List ℕ) → more ≢ [] → ends_in_slash (front ++ more) ≡ ends_in_slash more
+ends_behind front [] some = absurd (some refl)
+ends_behind front (b ∷ bs) some =
+    let all : length (front ++ b ∷ bs) - 1 ≡ length front + length bs = let sum = length-append front (b ∷ bs) in omega arith in
+    let own : length (b ∷ bs) - 1 ≡ length bs = omega arith in
+    ap is_slash (ap (λ k. get_or (front ++ b ∷ bs) k 0) all ∙ get_or-append-add front (b ∷ bs) (length bs) 0 ∙ ap (λ k. get_or (b ∷ bs) k 0) (sym own))
 
-both_false : (b : Bool) → (if b then false else false) ≡ false
-both_false true = refl
-both_false false = refl
+some_parts : (more : List ℕ) → has_parts (parts_of more) ≡ true → more ≢ []
+some_parts more h none = let clash : true ≡ false = sym h ∙ ap (λ m. has_parts (parts_of m)) none in absurd cc
+
+parts_behind : (front more : List (List ℕ)) → has_parts more ≡ true → has_parts (front ++ more) ≡ true
+parts_behind [] more h = h
+parts_behind (part ∷ front) more h = refl
+
+-- a path that ends with components has the slash behind these
+pub slash_behind : (front more : List ℕ) → has_parts (parts_of more) ≡ true → has_slash (front ++ slash ∷ more) ≡ has_slash more
+slash_behind front more h =
+    ap (λ b. if b then ends_in_slash (front ++ slash ∷ more) else false) (ap has_parts (parts_seam front more) ∙ parts_behind (parts_of front) (parts_of more) h)
+    ∙ ap ends_in_slash (sym (append_assoc front (slash ∷ []) more)) ∙ ends_behind (front ++ slash ∷ []) more (some_parts more h)
+    ∙ sym (ap (λ b. if b then ends_in_slash more else false) h)
+
+-- a part doesn't end in a slash, nor begin with one
+pub part_no_slash : (name : List ℕ) → IsPart name → has_slash name ≡ false
+part_no_slash [] is = absurd (is.some refl)
+part_no_slash (b ∷ bs) is =
+    let own : length (b ∷ bs) - 1 ≡ length bs = omega arith in
+    ap (λ p. if has_parts p then ends_in_slash (b ∷ bs) else false) (part_alone (b ∷ bs) is)
+    ∙ ap is_slash (ap (λ k. get_or (b ∷ bs) k 0) own) ∙ ne_eqb (get_or (b ∷ bs) (length bs) 0) slash (is.no_slash (length bs) 0 (omega arith))
+
+pub part_relative : (name : List ℕ) → IsPart name → is_absolute name ≡ false
+part_relative [] is = absurd (is.some refl)
+part_relative (b ∷ bs) is = ne_eqb b slash (is.no_slash 0 0 (omega arith))
+
+part_there : (name : List ℕ) → IsPart name → has_parts (parts_of name) ≡ true
+part_there name is = ap has_parts (part_alone name is)
+
+-- a slash that is put behind a part is one
+part_closed : (name : List ℕ) → IsPart name → (has_parts (parts_of (name ++ slash ∷ [])) ≡ true) × (has_slash (name ++ slash ∷ []) ≡ true)
+part_closed name is =
+    let there : has_parts (parts_of (name ++ slash ∷ [])) ≡ true = ap has_parts (parts_seam name [] ∙ append-nil (parts_of name)) ∙ part_there name is in
+    (there, ap (λ b. if b then ends_in_slash (name ++ slash ∷ []) else false) there ∙ ends_behind name (slash ∷ []) (λ e. absurd cc))
 
 pub text_no_slash : (names : List (List ℕ)) → AreParts names → has_slash (text_of names) ≡ false
 text_no_slash [] are = refl
 text_no_slash (name ∷ names) are =
-    ap (λ b. if has_parts (parts_of (text_of (name ∷ names))) then b else false) (no_end_slash (below_root names) name (All-head IsPart name names are))
-    ∙ both_false (has_parts (parts_of (text_of (name ∷ names))))
+    let is = All-head IsPart name names are in
+    slash_behind (below_root names) name (part_there name is) ∙ part_no_slash name is
 
 -- ---- a name in front of which a text stands
 
@@ -234,14 +262,10 @@ name_components names name behind are =
     ∙ ap (λ cs. cs ++ component_of name ∷ []) (below_root_components names (All-tail IsPart name names are))
     ∙ ap (λ c. map Name (reverse names) ++ c ∷ []) (part_component name is) ∙ sym (names_end names name)
 
-some_parts : (parts : List (List ℕ)) (name : List ℕ) → has_parts (parts ++ name ∷ []) ≡ true
-some_parts [] name = refl
-some_parts (part ∷ parts) name = refl
-
 pub name_slash : (names : List (List ℕ)) (name : List ℕ) (behind : Bool) → AreParts (name ∷ names) → has_slash (name_path names name behind) ≡ behind
 name_slash names name true are =
-    ap (λ b. if b then ends_in_slash (name_path names name true) else false) (ap has_parts (name_parts names name true (All-head IsPart name names are)) ∙ some_parts (parts_of (below_root names)) name)
-    ∙ ap ends_in_slash (sym (append_assoc (below_root names) (slash ∷ name) (slash ∷ []))) ∙ end_slash (below_root names ++ slash ∷ name)
+    let closed = part_closed name (All-head IsPart name names are) in
+    slash_behind (below_root names) (name ++ slash ∷ []) closed.0 ∙ closed.1
 name_slash names name false are = ap (λ n. has_slash (below_root names ++ slash ∷ n)) (append-nil name) ∙ text_no_slash (name ∷ names) are
 
 pub paths_join : PathsJoin

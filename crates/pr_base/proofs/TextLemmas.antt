@@ -2,11 +2,10 @@
 use Rattle.std.proofs.Common.{◌≡◌, ℕ, Bool, true, false, Option, Some, None, List, [], ◌∷◌, ◌++◌, length, map, reverse, refl, ap, sym, ◌∙◌, arith}
 use Rattle.std.specs.Bool.{if◌then◌else◌}
 use Rattle.std.specs.Option.{option_map, option_map_or}
-use Rattle.std.specs.Str.{bytes_eq}
 use Rattle.std.proofs.lemmas.Bool.{false_from_ne_true}
 use Rattle.std.proofs.lemmas.List.{length-append, reverse-reverse}
 use Rattle.std.proofs.lemmas.Slice.Eq.{bytes_eq-Decides, slice_eq-Decides}
-use Rattle.pr_base.specs.Paths.{Component, Dot, DotDot, Name, components_of, AreParts, text_of}
+use Rattle.pr_base.specs.Paths.{Component, Dot, DotDot, Name, components_of}
 use Rattle.pr_base.specs.Texts.{Text, texts_eq, names_below, NamesStandInFront, TextsAreToldApart}
 use Rattle.pr_base.proofs.PathLemmas.{texts_have_their_names}
 

@@ -10,7 +10,7 @@ use Rattle.kr_text.proofs.order.items_of.Goals as goal
 pub loop-serial-init : goal.loop-serial-init
 loop-serial-init c =
     let none = c.new-items.ensures.items in
-    let start = later_start c.args.tree.now c.args.dir c.is_kept.ensures.kept in
+    let start = later_start c.args.tree.now c.args.dir c.trees_are_kept.ensures.kept in
     record {
       pairs = λ k. pairs_of (none k) ++ pairs_in (start k);
       heads = λ k d l. let few = ap length none in absurd (omega (arith, few, l));
@@ -18,12 +18,12 @@ loop-serial-init c =
 
 pub loop-serial-smaller : goal.loop-serial-smaller
 loop-serial-smaller c =
-    let fewer = ap length (later_next c.args.tree.now c.args.dir c.loop-serial.after _ c.is_kept.ensures.kept c.in-Some.ensures) in
+    let fewer = ap length (later_next c.args.tree.now c.args.dir c.loop-serial.after _ c.trees_are_kept.ensures.kept c.in-Some.ensures) in
     omega arith
 
 pub loop-serial-preserved : goal.loop-serial-preserved
 loop-serial-preserved c =
-    let next = later_next c.args.tree.now c.args.dir c.loop-serial.after _ c.is_kept.ensures.kept c.in-Some.ensures in
+    let next = later_next c.args.tree.now c.args.dir c.loop-serial.after _ c.trees_are_kept.ensures.kept c.in-Some.ensures in
     let items = c.loop-serial.items.items in
     let item : Item = record { head = c.head_of-head.result; name = c.in-Some.name; ino = c.in-Some.ino } in
     let put : c.push.new.self.items ≡ items ++ item ∷ [] = search rules in

@@ -6,4 +6,4 @@ use Rattle.kr_text.proofs.steps.put.Goals as goal
 pub returns-in-Ok-clause-drawn : goal.returns-in-Ok-clause-drawn
 returns-in-Ok-clause-drawn c =
     subst IsDrawn (sym c.in-Ok.ensures.ok)
-    (put_drawn c.args.tree.now c.args.spot.dir c.args.spot.name.now c.args.owner.mode c.args.owner.uid c.args.owner.gid c.args.node c.requires.directory c.is_kept.ensures.kept c.requires.drawn)
+    (put_drawn c.args.tree.now c.args.spot.dir c.args.spot.name.now c.args.owner.mode c.args.owner.uid c.args.owner.gid c.args.node c.requires.directory c.trees_are_kept.ensures.kept c.requires.drawn)

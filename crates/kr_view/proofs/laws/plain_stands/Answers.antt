@@ -1,5 +1,5 @@
-use Rattle.kr_view.proofs.TableLemmas.{plain_in_tree}
+use Rattle.kr_view.proofs.TableLemmas.{plain_stands}
 use Rattle.kr_view.proofs.laws.plain_stands.Goals as goal
 
 pub returns : goal.returns
-returns c = plain_in_tree
+returns c = plain_stands

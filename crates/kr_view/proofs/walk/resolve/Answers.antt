@@ -2,7 +2,7 @@ use Rattle.std.proofs.Common.{Ok, sym, ap, subst, ◌∙◌}
 use Rattle.kr_view.specs.Leads.{numbered}
 use Rattle.kr_view.specs.Reach.{reach_after}
 use Rattle.kr_view.specs.Sights.{surroundings}
-use Rattle.kr_view.specs.Steps.{trail_of, IsOutcome}
+use Rattle.kr_view.specs.Steps.{trail_of, HasOutcome}
 use Rattle.kr_view.specs.declared.walk.Step.{Step}
 use Rattle.kr_view.specs.declared.walk.Step.TheVariants.{Goes, Ends}
 use Rattle.kr_view.specs.Walk.{place_walk}
@@ -44,7 +44,7 @@ pub steps-preserved : goal.steps-preserved
 steps-preserved g c =
     let around = surroundings g.P.Places.number (g.P.Places.mounts c.args.places.now) c.args.tree.now c.args.user (g.Q.Procs.finds c.args.procs.now c.args.caller) (g.Q.Procs.leads c.args.procs.now c.args.caller) in
     let left = trail_of g.P.Places.number around c.args.mode c.steps.walk in
-    let P : Step g.row.P-Mount.Denot → Type 0 = λ s. IsOutcome g.P.Places.number around c.args.mode left.answer (reach_after around left c.steps.reach) c.steps.reach c.step.new.reach (Ok s) in
+    let P : Step g.row.P-Mount.Denot → Type 0 = λ s. HasOutcome g.P.Places.number around c.args.mode left.answer (reach_after around left c.steps.reach) c.steps.reach c.step.new.reach (Ok s) in
     let out : P (Goes c.in-Goes.on) = subst P c.in-Goes.is c.in_ok-on.ensures.outcome in
     record {
       ends = out.ends ∙ c.steps.invariant.ends;
@@ -57,12 +57,12 @@ pub returns-in-Ends-clause-answer : goal.returns-in-Ends-clause-answer
 returns-in-Ends-clause-answer g c =
     let around = surroundings g.P.Places.number (g.P.Places.mounts c.args.places.now) c.args.tree.now c.args.user (g.Q.Procs.finds c.args.procs.now c.args.caller) (g.Q.Procs.leads c.args.procs.now c.args.caller) in
     let left = trail_of g.P.Places.number around c.args.mode c.steps.walk in
-    let P : Step g.row.P-Mount.Denot → Type 0 = λ s. IsOutcome g.P.Places.number around c.args.mode left.answer (reach_after around left c.steps.reach) c.steps.reach c.step.new.reach (Ok s) in
+    let P : Step g.row.P-Mount.Denot → Type 0 = λ s. HasOutcome g.P.Places.number around c.args.mode left.answer (reach_after around left c.steps.reach) c.steps.reach c.step.new.reach (Ok s) in
     let out : P (Ends c.in-Ends.target) = subst P c.in-Ends.is c.in_ok-on.ensures.outcome in (out.0.0, sym c.steps.invariant.ends ∙ out.0.1, out.0.2)
 
 pub returns-in-Ends-clause-reach : goal.returns-in-Ends-clause-reach
 returns-in-Ends-clause-reach g c =
     let around = surroundings g.P.Places.number (g.P.Places.mounts c.args.places.now) c.args.tree.now c.args.user (g.Q.Procs.finds c.args.procs.now c.args.caller) (g.Q.Procs.leads c.args.procs.now c.args.caller) in
     let left = trail_of g.P.Places.number around c.args.mode c.steps.walk in
-    let P : Step g.row.P-Mount.Denot → Type 0 = λ s. IsOutcome g.P.Places.number around c.args.mode left.answer (reach_after around left c.steps.reach) c.steps.reach c.step.new.reach (Ok s) in
+    let P : Step g.row.P-Mount.Denot → Type 0 = λ s. HasOutcome g.P.Places.number around c.args.mode left.answer (reach_after around left c.steps.reach) c.steps.reach c.step.new.reach (Ok s) in
     let out : P (Ends c.in-Ends.target) = subst P c.in-Ends.is c.in_ok-on.ensures.outcome in out.1 ∙ c.steps.invariant.reaches

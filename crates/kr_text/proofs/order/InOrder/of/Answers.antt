@@ -8,8 +8,8 @@ use Rattle.kr_text.proofs.order.InOrder.of.Goals as goal
 
 pub returns-clause-names : goal.returns-clause-names
 returns-clause-names c =
-    items_in_order (entries c.args.tree.now c.args.dir) c.in_ok-items.items.items c.sort_unstable.new.self.items (distinct_entries c.args.tree.now c.args.dir c.is_kept.ensures.kept) c.in_ok-items.ensures.pairs c.in_ok-items.ensures.heads c.sort_unstable.ensures.permutation c.sort_unstable.ensures.sorted
+    items_in_order (entries c.args.tree.now c.args.dir) c.in_ok-items.items.items c.sort_unstable.new.self.items (distinct_entries c.args.tree.now c.args.dir c.trees_are_kept.ensures.kept) c.in_ok-items.ensures.pairs c.in_ok-items.ensures.heads c.sort_unstable.ensures.permutation c.sort_unstable.ensures.sorted
 
 pub returns-clause-well_formed : goal.returns-clause-well_formed
 returns-clause-well_formed c =
-    subst AreNamed (sym (returns-clause-names c)) (are_named c.args.tree.now c.args.dir c.is_kept.ensures.kept)
+    subst AreNamed (sym (returns-clause-names c)) (are_named c.args.tree.now c.args.dir c.trees_are_kept.ensures.kept)
