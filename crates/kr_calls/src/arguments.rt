@@ -4,7 +4,7 @@ ghost use Rattle.kr_calls.specs.Arguments.{long, signed_long, word, int, has, ha
 ghost use Rattle.kr_calls.specs.Decoding.{stat_flags};
 
 use bitflags::Flags;
-use pr_base::AtFlags;
+use pr_base::{AtFlags, PAGE_SIZE};
 use rv_mem::Regs;
 
 /// The register of the first argument and of the answer.
@@ -63,7 +63,7 @@ pub fn has_other(flags: u32, known: u32) -> bool
 pub fn is_unaligned(a: u64) -> bool
     ensures { result ≡ is_unaligned a }
 {
-    a % 4096 > 0
+    a % PAGE_SIZE > 0
 }
 
 /// Whether flags have a bit that neither newfstatat(2) nor fchownat(2) knows.
