@@ -56,7 +56,7 @@ pub record ReachesAreSound : Type 0 where
 
 -- what the user comes to by a host text, in a walk's surroundings
 abbrev pub reaches_in : Surroundings → Text → Option Host
-reaches_in around text = reaches around.tree around.user around.finds text
+reaches_in around text = reaches around.space.tree around.space.user around.space.finds text
 
 -- a path, with a slash behind it where one is wanted
 abbrev pub slashed : Bool → List ℕ → List ℕ
@@ -71,7 +71,7 @@ IsJoined text more path = (path ≡ text_of text ++ slash ∷ more) ⊎ (path �
 -- directory or not, if it is no link
 abbrev pub WalksGoOnBehindTexts : Type 0
 WalksGoOnBehindTexts =
-    (around : Surroundings) (mode : WalkMode) (base : Place ℕ) (text : Text) (x : Host) (more path : List ℕ) → around.table ≡ plain → AreNames text → reaches_in around text ≡ Some x → IsObjectOf around.tree x → is_link_at around.tree x ≡ false
+    (around : Surroundings) (mode : WalkMode) (base : Place ℕ) (text : Text) (x : Host) (more path : List ℕ) → around.space.table ≡ plain → AreNames text → reaches_in around text ≡ Some x → IsObjectOf around.space.tree x → is_link_at around.space.tree x ≡ false
     → is_absolute more ≡ false → has_parts (parts_of more) ≡ true → IsJoined text more path → (place_walk around mode base path).answer ≡ (place_walk around mode (host_place x) more).answer
 
 -- a path of a name below a text, with a slash behind it or without
@@ -80,10 +80,10 @@ IsNamePath text name behind path = (path ≡ name_path text name behind) ⊎ (pa
 
 -- such a path, where the text reaches a directory
 pub record IsNameBelow (around : Surroundings) (text : Text) (dir : Host) (name : List ℕ) (slash_behind : Bool) (path : List ℕ) : Type 0 where
-  pub over_plain : around.table ≡ plain
+  pub over_plain : around.space.table ≡ plain
   pub names : AreNames text
   pub reached_dir : reaches_in around text ≡ Some dir
-  pub is_directory : is_directory_at around.tree dir ≡ true
+  pub is_directory : is_directory_at around.space.tree dir ≡ true
   pub is_part : IsPart name
   pub written : IsNamePath text name slash_behind path
 
@@ -91,39 +91,39 @@ pub record IsNameBelow (around : Surroundings) (text : Text) (dir : Host) (name 
 pub record EntriesAreFound : Type 0 where
   -- what stands there, a link where it isn't followed: no directory is refused where one is asked for
   pub found : (around : Surroundings) (mode : WalkMode) (base : Place ℕ) (text : Text) (dir x : Host) (name : List ℕ) (slash_behind : Bool) (path : List ℕ) → IsNameBelow around text dir name slash_behind path
-      → may_search around.tree around.user dir ≡ true → too_long name ≡ false → object_in around.tree around.finds name dir ≡ Some x → IsObjectOf around.tree x → (is_followed mode slash_behind ≡ true → is_link_at around.tree x ≡ false)
-      → (place_walk around mode base path).answer ≡ (ends_found mode (is_directory_at around.tree x) (target_at (host_place dir) (Name name) slash_behind (Some (host_place x)))).answer
+      → may_search around.space.tree around.space.user dir ≡ true → too_long name ≡ false → object_in around.space.tree around.space.finds name dir ≡ Some x → IsObjectOf around.space.tree x → (is_followed mode slash_behind ≡ true → is_link_at around.space.tree x ≡ false)
+      → (place_walk around mode base path).answer ≡ (ends_found mode (is_directory_at around.space.tree x) (target_at (host_place dir) (Name name) slash_behind (Some (host_place x)))).answer
   pub free : (around : Surroundings) (mode : WalkMode) (base : Place ℕ) (text : Text) (dir : Host) (name : List ℕ) (slash_behind : Bool) (path : List ℕ) → IsNameBelow around text dir name slash_behind path
-      → may_search around.tree around.user dir ≡ true → too_long name ≡ false → object_in around.tree around.finds name dir ≡ None
+      → may_search around.space.tree around.space.user dir ≡ true → too_long name ≡ false → object_in around.space.tree around.space.finds name dir ≡ None
       → (place_walk around mode base path).answer ≡ (ends_missing mode (host_place dir) (Name name) slash_behind).answer
   pub long : (around : Surroundings) (mode : WalkMode) (base : Place ℕ) (text : Text) (dir : Host) (name : List ℕ) (slash_behind : Bool) (path : List ℕ) → IsNameBelow around text dir name slash_behind path
-      → may_search around.tree around.user dir ≡ true → too_long name ≡ true → (place_walk around mode base path).answer ≡ Err ENAMETOOLONG
+      → may_search around.space.tree around.space.user dir ≡ true → too_long name ≡ true → (place_walk around mode base path).answer ≡ Err ENAMETOOLONG
   pub closed : (around : Surroundings) (mode : WalkMode) (base : Place ℕ) (text : Text) (dir : Host) (name : List ℕ) (slash_behind : Bool) (path : List ℕ) → IsNameBelow around text dir name slash_behind path
-      → may_search around.tree around.user dir ≡ false → (place_walk around mode base path).answer ≡ Err EACCES
+      → may_search around.space.tree around.space.user dir ≡ false → (place_walk around mode base path).answer ≡ Err EACCES
   -- a path that names an entry, and so follows no link and asks for no directory
   pub entry : (around : Surroundings) (base : Place ℕ) (text : Text) (dir : Host) (name : List ℕ) (slash_behind : Bool) (path : List ℕ) → IsNameBelow around text dir name slash_behind path
-      → may_search around.tree around.user dir ≡ true → too_long name ≡ false → ((x : Host) → object_in around.tree around.finds name dir ≡ Some x → IsObjectOf around.tree x)
-      → (place_walk around modes.Name base path).answer ≡ Ok (target_at (host_place dir) (Name name) slash_behind (option_map host_place (object_in around.tree around.finds name dir)))
+      → may_search around.space.tree around.space.user dir ≡ true → too_long name ≡ false → ((x : Host) → object_in around.space.tree around.space.finds name dir ≡ Some x → IsObjectOf around.space.tree x)
+      → (place_walk around modes.Name base path).answer ≡ Ok (target_at (host_place dir) (Name name) slash_behind (option_map host_place (object_in around.space.tree around.space.finds name dir)))
 
 -- the walk along a text, with or without a slash behind it, arrives at the object that the text reaches, a
 -- link where it isn't followed
 pub record TextsAreFound : Type 0 where
-  pub found : (around : Surroundings) (mode : WalkMode) (base : Place ℕ) (text : Text) (x : Host) (slash_behind : Bool) → around.table ≡ plain → AreNames text → reaches_in around text ≡ Some x → IsObjectOf around.tree x
-      → (is_followed mode slash_behind ≡ true → is_link_at around.tree x ≡ false) → (wants_directory mode slash_behind ≡ true → is_directory_at around.tree x ≡ true)
+  pub found : (around : Surroundings) (mode : WalkMode) (base : Place ℕ) (text : Text) (x : Host) (slash_behind : Bool) → around.space.table ≡ plain → AreNames text → reaches_in around text ≡ Some x → IsObjectOf around.space.tree x
+      → (is_followed mode slash_behind ≡ true → is_link_at around.space.tree x ≡ false) → (wants_directory mode slash_behind ≡ true → is_directory_at around.space.tree x ≡ true)
       → (t : PlaceTarget) × ((place_walk around mode base (slashed slash_behind (text_of text))).answer ≡ Ok t) × (t.found ≡ Some (host_place x))
   -- with the whole target, and refused where a directory is asked for and it is none
-  pub target : (around : Surroundings) (mode : WalkMode) (base : Place ℕ) (name : List ℕ) (text : Text) (x : Host) (slash_behind : Bool) → around.table ≡ plain → AreNames (name ∷ text) → reaches_in around (name ∷ text) ≡ Some x → IsObjectOf around.tree x
-      → (is_followed mode slash_behind ≡ true → is_link_at around.tree x ≡ false)
-      → (dir : Host) × (reaches_in around text ≡ Some dir) × ((place_walk around mode base (slashed slash_behind (text_of (name ∷ text)))).answer ≡ (ends_found mode (is_directory_at around.tree x) (target_at (host_place dir) (Name name) slash_behind (Some (host_place x)))).answer)
+  pub target : (around : Surroundings) (mode : WalkMode) (base : Place ℕ) (name : List ℕ) (text : Text) (x : Host) (slash_behind : Bool) → around.space.table ≡ plain → AreNames (name ∷ text) → reaches_in around (name ∷ text) ≡ Some x → IsObjectOf around.space.tree x
+      → (is_followed mode slash_behind ≡ true → is_link_at around.space.tree x ≡ false)
+      → (dir : Host) × (reaches_in around text ≡ Some dir) × ((place_walk around mode base (slashed slash_behind (text_of (name ∷ text)))).answer ≡ (ends_found mode (is_directory_at around.space.tree x) (target_at (host_place dir) (Name name) slash_behind (Some (host_place x)))).answer)
 
 -- what a walk answers at an object that stands for itself: it must be a directory that may be searched
 abbrev pub searched : Surroundings → Host → Result PlaceTarget Errno
 searched around x =
-    if is_directory_at around.tree x then (if may_search around.tree around.user x then Ok (target_at (host_place x) Dot false (Some (host_place x))) else Err EACCES)
+    if is_directory_at around.space.tree x then (if may_search around.space.tree around.space.user x then Ok (target_at (host_place x) Dot false (Some (host_place x))) else Err EACCES)
     else Err ENOTDIR
 
 -- the walk along a text that is reached, and `.`, tells whether it is a directory that may be searched
 abbrev pub DirectoriesAreSearched : Type 0
 DirectoriesAreSearched =
-    (around : Surroundings) (mode : WalkMode) (base : Place ℕ) (text : Text) (x : Host) (path : List ℕ) → around.table ≡ plain → AreNames text → reaches_in around text ≡ Some x → IsObjectOf around.tree x → is_link_at around.tree x ≡ false
+    (around : Surroundings) (mode : WalkMode) (base : Place ℕ) (text : Text) (x : Host) (path : List ℕ) → around.space.table ≡ plain → AreNames text → reaches_in around text ≡ Some x → IsObjectOf around.space.tree x → is_link_at around.space.tree x ≡ false
     → IsJoined text dot path → (place_walk around mode base path).answer ≡ searched around x

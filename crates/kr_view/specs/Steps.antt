@@ -79,7 +79,7 @@ IsLanded number answer (Err fault.NoMemory) = Unit {0}
 -- the walk behind a link that was followed
 pub record Follows {M : Type 0} (number : M → ℕ) (around : Surroundings) (walk : Walk M) (text : List ℕ) (slash : Bool) (on : Walk M) : Type 0 where
   pub trail : (mode : WalkMode) → trail_of number around mode on ≡ onward (looking around) mode walk.left (begins_at (looking around) (numbered number walk.position.place) text) (components_of text ++ stack_of walk.rests) slash
-  pub named : IsNamed around.tree on.position.place.host on.position.name
+  pub named : IsNamed around.space.tree on.position.place.host on.position.name
   pub less : work on < work walk
 
 abbrev pub IsFollowed : {M : Type 0} → (M → ℕ) → Surroundings → Walk M → List ℕ → Bool → Result (Walk M) WalkFault → Type 0
@@ -92,7 +92,7 @@ pub record GoesOn {M : Type 0} (number : M → ℕ) (around : Surroundings) (mod
   pub ends : (trail_of number around mode on).answer ≡ answer
   pub reaches : reach_after around (trail_of number around mode on) new ≡ whole
   pub covers : Covers new old
-  pub named : IsNamed around.tree on.position.place.host on.position.name
+  pub named : IsNamed around.space.tree on.position.place.host on.position.name
 
 -- the answer, and all that is reached; where memory is wanting a part of that
 abbrev pub HasOutcome : {M : Type 0} → (M → ℕ) → Surroundings → WalkMode → Result PlaceTarget Errno → Reach → Reach → Reach → Result (Step M) WalkFault → Type 0

@@ -182,7 +182,7 @@ impl<'a, P: Places, Q: Procs<Mount = P::Mount>> Surroundings<'a, P, Q> {
     fn end_here(&self, walk: &Walk<P::Mount>, reach: &mut Reach) -> Target<P::Mount>
         requires named { IsNamed self.now.tree.now walk.now.position.place.host walk.now.position.name }
         ensures answer { told (here_target (numbered P.number walk.now.position.place) walk.now.slash) ≡ target_numbered P.number result }
-        ensures reach { let around = surroundings_of P.number P.mounts Q.finds Q.leads self.now in reach.new ≡ end_reach around (Ok (here_target (numbered P.number walk.now.position.place) walk.now.slash)) reach.old }
+        ensures reach { let around = surroundings_of P.number P.mounts Q.finds Q.leads self.now in reach.new ≡ end_reach around.space (Ok (here_target (numbered P.number walk.now.position.place) walk.now.slash)) reach.old }
     {
         let place = walk.position.place;
         reach.raise(length_of(self.object_bytes(place.host, &walk.position.name)));
@@ -205,7 +205,7 @@ impl<'a, P: Places, Q: Procs<Mount = P::Mount>> Surroundings<'a, P, Q> {
     ) -> Result<(), NoMemory>
         requires named { IsNamed self.now.tree.now position.now.place.host position.now.name }
         requires seen { let around = surroundings_of P.number P.mounts Q.finds Q.leads self.now in sight_seen P.number around sight.now ≡ look_up around (numbered P.number position.now.place) (component_data component.now) }
-        requires way { let around = surroundings_of P.number P.mounts Q.finds Q.leads self.now in IsSightWay P.number around (numbered P.number position.now.place) (component_data component.now) sight.now }
+        requires way { let around = surroundings_of P.number P.mounts Q.finds Q.leads self.now in IsSightWay P.number around.space (numbered P.number position.now.place) (component_data component.now) sight.now }
         ensures { let around = surroundings_of P.number P.mounts Q.finds Q.leads self.now in HasReached (noted around (numbered P.number position.now.place) (component_data component.now) reach.old) reach.old reach.new result }
     {
         let place = position.place;
@@ -226,8 +226,8 @@ impl<'a, P: Places, Q: Procs<Mount = P::Mount>> Surroundings<'a, P, Q> {
         reach: &mut Reach,
     ) -> Result<Step<P::Mount>, WalkFault>
         requires named { IsNamed self.now.tree.now walk.position.place.host walk.position.name }
-        requires way { let around = surroundings_of P.number P.mounts Q.finds Q.leads self.now in IsSightWay P.number around (numbered P.number walk.position.place) (component_of (taken_bytes taken)) sight.now }
-        requires kind { let around = surroundings_of P.number P.mounts Q.finds Q.leads self.now in HasKind around sight.now }
+        requires way { let around = surroundings_of P.number P.mounts Q.finds Q.leads self.now in IsSightWay P.number around.space (numbered P.number walk.position.place) (component_of (taken_bytes taken)) sight.now }
+        requires kind { let around = surroundings_of P.number P.mounts Q.finds Q.leads self.now in HasKind around.space sight.now }
         requires more { rest_behind taken walk ≢ [] }
         ensures outcome { let around = surroundings_of P.number P.mounts Q.finds Q.leads self.now in (mode : WalkMode) → IsOutcome P.number around mode (behind_middle P.number around mode walk (rest_behind taken walk) (sight_seen P.number around sight.now)) reach.old reach.new result }
         ensures less { HasLess (walk.left * 2 ^ 64 + length (rest_behind taken walk) + 1) result }
@@ -345,7 +345,7 @@ impl<'a, P: Places, Q: Procs<Mount = P::Mount>> Surroundings<'a, P, Q> {
     fn free_length(&self, position: &Position<P::Mount>, component: &Component<'_>) -> Option<u64>
         requires named { IsNamed self.now.tree.now position.now.place.host position.now.name }
         requires short { length (name_of (component_data component.now)) ≤ 255 }
-        ensures { let around = surroundings_of P.number P.mounts Q.finds Q.leads self.now in result ≡ option_map text_length (free_name around position.now.place.host (name_of (component_data component.now))) }
+        ensures { let around = surroundings_of P.number P.mounts Q.finds Q.leads self.now in result ≡ option_map text_length (free_name around.space position.now.place.host (name_of (component_data component.now))) }
     {
         let bytes = self.object_bytes(position.place.host, &position.name);
         entry_length(bytes, name_of(component))
@@ -406,7 +406,7 @@ impl<'a, P: Places, Q: Procs<Mount = P::Mount>> Surroundings<'a, P, Q> {
     ) -> Result<Step<P::Mount>, WalkFault>
         requires named { IsNamed self.now.tree.now walk.position.place.host walk.position.name }
         requires more { stack_of walk.rests ≢ [] }
-        ensures outcome { let around = surroundings_of P.number P.mounts Q.finds Q.leads self.now in (mode : WalkMode) (link : Place ℕ) → IsOutcome P.number around mode (behind_middle P.number around mode walk (stack_of walk.rests) (seen_link around link (around.leads at))) reach.old reach.new result }
+        ensures outcome { let around = surroundings_of P.number P.mounts Q.finds Q.leads self.now in (mode : WalkMode) (link : Place ℕ) → IsOutcome P.number around mode (behind_middle P.number around mode walk (stack_of walk.rests) (seen_link around.space link (around.leads at))) reach.old reach.new result }
         ensures less { HasLess (work walk) result }
     {
         if walk.left == 0 {
@@ -442,7 +442,7 @@ impl<'a, P: Places, Q: Procs<Mount = P::Mount>> Surroundings<'a, P, Q> {
         requires named { IsNamed self.now.tree.now walk.position.place.host walk.position.name }
         requires none { stack_of walk.rests ≡ [] }
         requires followed { is_followed mode walk.slash ≡ true }
-        ensures outcome { let around = surroundings_of P.number P.mounts Q.finds Q.leads self.now in (link : Place ℕ) (c : PathComponent) → IsOutcome P.number around mode (behind_last P.number around mode walk c (seen_link around link (around.leads at))) reach.old reach.new result }
+        ensures outcome { let around = surroundings_of P.number P.mounts Q.finds Q.leads self.now in (link : Place ℕ) (c : PathComponent) → IsOutcome P.number around mode (behind_last P.number around mode walk c (seen_link around.space link (around.leads at))) reach.old reach.new result }
         ensures less { HasLess (work walk) result }
     {
         if walk.left == 0 {
@@ -469,7 +469,7 @@ impl<'a, P: Places, Q: Procs<Mount = P::Mount>> Surroundings<'a, P, Q> {
         name: &[u8],
         reach: &mut Reach,
     ) -> Result<(), NoMemory>
-        ensures { let around = surroundings_of P.number P.mounts Q.finds Q.leads self.now in HasReached (reached_landing around (landing around (numbered P.number place) dir name.now) reach.old) reach.old reach.new result }
+        ensures { let around = surroundings_of P.number P.mounts Q.finds Q.leads self.now in HasReached (reached_landing around.space (landing around.space (numbered P.number place) dir name.now) reach.old) reach.old reach.new result }
     {
         let length = self.landing_length(place, dir, name)?;
         reach.raise(length);
@@ -483,7 +483,7 @@ impl<'a, P: Places, Q: Procs<Mount = P::Mount>> Surroundings<'a, P, Q> {
         dir: Ino,
         name: &[u8],
     ) -> Result<Option<u64>, NoMemory>
-        ensures { let around = surroundings_of P.number P.mounts Q.finds Q.leads self.now in IfOk result (λ length. length ≡ option_map text_length (landing_name around (landing around (numbered P.number place) dir name.now))) }
+        ensures { let around = surroundings_of P.number P.mounts Q.finds Q.leads self.now in IfOk result (λ length. length ≡ option_map text_length (landing_name around.space (landing around.space (numbered P.number place) dir name.now))) }
     {
         if self.is_directory(place.host) {
             return self.length_by_tree(place);
@@ -502,7 +502,7 @@ impl<'a, P: Places, Q: Procs<Mount = P::Mount>> Surroundings<'a, P, Q> {
         slash: bool,
         mode: WalkMode,
     ) -> Result<Target<P::Mount>, WalkFault>
-        ensures { let around = surroundings_of P.number P.mounts Q.finds Q.leads self.now in IsLanded P.number (ends_landed mode slash (landing around (numbered P.number place) dir name)).answer result }
+        ensures { let around = surroundings_of P.number P.mounts Q.finds Q.leads self.now in IsLanded P.number (ends_landed mode slash (landing around.space (numbered P.number place) dir name)).answer result }
     {
         if self.is_directory(place.host) {
             return Ok(Target {
