@@ -41,9 +41,9 @@ seen_object around (Some x) = seen_at around (host_place x) x
 seen_object around None = Missing
 
 -- what is there and no link is led to
-pub led_to : (around : Surroundings) (p : Place ℕ) (x : Host) → IsObjectOf around.tree x → is_link_at around.tree x ≡ false → seen_at around p x ≡ Leads (is_directory_at around.tree x) p p
+pub led_to : (around : Surroundings) (p : Place ℕ) (x : Host) → IsObjectOf around.space.tree x → is_link_at around.space.tree x ≡ false → seen_at around p x ≡ Leads (is_directory_at around.space.tree x) p p
 led_to around p (Node i) there firm =
-    by (body around.tree i) (bodied (inode around.tree i) there) (sym (body_test is_link around.tree i) ∙ firm) ∙ ap (λ b. Leads b p p) (sym (body_test is_directory around.tree i))
+    by (body around.space.tree i) (bodied (inode around.space.tree i) there) (sym (body_test is_link around.space.tree i) ∙ firm) ∙ ap (λ b. Leads b p p) (sym (body_test is_directory around.space.tree i))
   where
     bodied : (o : Option Inode) → is_there o ≡ true → is_there (option_map (λ (x : Inode). x.node.body) o) ≡ true
     bodied None there = there
@@ -62,13 +62,13 @@ led_to around p (Proc i at) there firm = by (is_process_directory at) (around.le
     by false l firm = absurd cc
 
 -- a directory that is reached is there, and it is no link
-pub directory_there : (around : Surroundings) (text : Text) (x : Host) → reaches_in around text ≡ Some x → is_directory_at around.tree x ≡ true → IsObjectOf around.tree x
-directory_there around text (Node i) way dir = by (inode around.tree i) dir
+pub directory_there : (around : Surroundings) (text : Text) (x : Host) → reaches_in around text ≡ Some x → is_directory_at around.space.tree x ≡ true → IsObjectOf around.space.tree x
+directory_there around text (Node i) way dir = by (inode around.space.tree i) dir
   where
     by : (o : Option Inode) → option_map_or (λ (x : Inode). is_directory x.node.body) o false ≡ true → is_there o ≡ true
     by None dir = absurd cc
     by (Some x) dir = refl
-directory_there around text (Proc i at) way dir = (below_processes around.tree around.user around.finds text i at way).processes
+directory_there around text (Proc i at) way dir = (below_processes around.space.tree around.space.user around.space.finds text i at way).processes
 
 pub directory_firm : (t : Tree) (x : Host) → is_directory_at t x ≡ true → is_link_at t x ≡ false
 directory_firm t (Node i) dir = body_test is_link t i ∙ by (body t i) (sym (body_test is_directory t i) ∙ dir)
@@ -89,9 +89,9 @@ ShowsLink p (Leads is_dir q found) = ⊥
 ShowsLink p (Links found text) = found ≡ p
 ShowsLink p (Jumps found lead) = found ≡ p
 
-pub link_seen : (around : Surroundings) (p : Place ℕ) (x : Host) → is_link_at around.tree x ≡ true → ShowsLink p (seen_at around p x)
+pub link_seen : (around : Surroundings) (p : Place ℕ) (x : Host) → is_link_at around.space.tree x ≡ true → ShowsLink p (seen_at around p x)
 unfolding ShowsLink
-link_seen around p (Node i) link = by (body around.tree i) (sym (body_test is_link around.tree i) ∙ link)
+link_seen around p (Node i) link = by (body around.space.tree i) (sym (body_test is_link around.space.tree i) ∙ link)
   where
     by : (o : Option Body) → option_map_or is_link o false ≡ true → ShowsLink p (seen_body p o)
     by None link = absurd cc
@@ -138,26 +138,26 @@ module _ (around : Surroundings) (mode : WalkMode) (left : ℕ) (again : Onward 
       ap (λ b. (if b then jumps_on left (ends_landed mode sl) lead else ends (target_at s c sl (Some found))).answer) stays ∙ ap (λ f. Ok (target_at s c sl (Some f))) at
 
   -- what is there is found as the last component
-  pub last_object_found : (p : Place ℕ) (x : Host) → IsObjectOf around.tree x → (is_followed mode sl ≡ true → is_link_at around.tree x ≡ false)
-      → behind (seen_at around p x) ≡ (ends_found mode (is_directory_at around.tree x) (target_at s c sl (Some p))).answer
-  last_object_found p x there firm = by (is_link_at around.tree x) refl
+  pub last_object_found : (p : Place ℕ) (x : Host) → IsObjectOf around.space.tree x → (is_followed mode sl ≡ true → is_link_at around.space.tree x ≡ false)
+      → behind (seen_at around p x) ≡ (ends_found mode (is_directory_at around.space.tree x) (target_at s c sl (Some p))).answer
+  last_object_found p x there firm = by (is_link_at around.space.tree x) refl
     where
-      by : (b : Bool) → is_link_at around.tree x ≡ b → behind (seen_at around p x) ≡ (ends_found mode (is_directory_at around.tree x) (target_at s c sl (Some p))).answer
+      by : (b : Bool) → is_link_at around.space.tree x ≡ b → behind (seen_at around p x) ≡ (ends_found mode (is_directory_at around.space.tree x) (target_at s c sl (Some p))).answer
       by false is = ap behind (led_to around p x there is)
       by true is =
           let stays : is_followed mode sl ≡ false = false_from_ne_true _ (λ f. let clash : true ≡ false = sym is ∙ firm f in absurd cc) in
           let t = target_at s c sl (Some p) in
           last_link p (seen_at around p x) (link_seen around p x is) stays
-          ∙ sym (ap (λ b. (if b then (if is_directory_at around.tree x then ends t else fails ENOTDIR) else ends t).answer) (unwanted mode sl stays))
+          ∙ sym (ap (λ b. (if b then (if is_directory_at around.space.tree x then ends t else fails ENOTDIR) else ends t).answer) (unwanted mode sl stays))
 
 -- ---- along a text
 
-module _ (around : Surroundings) (is_plain : around.table ≡ plain) where
+module _ (around : Surroundings) (is_plain : around.space.table ≡ plain) where
   -- a name in a directory that may be searched
-  pub look_name : (dir : Host) (name : List ℕ) → is_directory_at around.tree dir ≡ true → may_search around.tree around.user dir ≡ true
-      → look_up around (host_place dir) (Name name) ≡ (if too_long name then Fails ENAMETOOLONG else seen_object around (object_in around.tree around.finds name dir))
+  pub look_name : (dir : Host) (name : List ℕ) → is_directory_at around.space.tree dir ≡ true → may_search around.space.tree around.space.user dir ≡ true
+      → look_up around (host_place dir) (Name name) ≡ (if too_long name then Fails ENAMETOOLONG else seen_object around (object_in around.space.tree around.space.finds name dir))
   look_name dir name is_dir search =
-      ap (λ b. if b then (if may_search around.tree around.user dir then inside around (host_place dir) (Name name) else Fails EACCES) else Fails ENOTDIR) is_dir
+      ap (λ b. if b then (if may_search around.space.tree around.space.user dir then inside around (host_place dir) (Name name) else Fails EACCES) else Fails ENOTDIR) is_dir
       ∙ ap (λ b. if b then inside around (host_place dir) (Name name) else Fails EACCES) search
       ∙ ap (λ seen. if too_long name then Fails ENAMETOOLONG else seen) (object_named dir)
     where
@@ -171,33 +171,33 @@ module _ (around : Surroundings) (is_plain : around.table ≡ plain) where
       process_seen i None = refl
       process_seen i (Some found) = refl
 
-      object_named : (dir : Host) → named_in around 0 dir name ≡ seen_object around (object_in around.tree around.finds name dir)
+      object_named : (dir : Host) → named_in around 0 dir name ≡ seen_object around (object_in around.space.tree around.space.finds name dir)
       object_named (Node i) =
           ap (λ (table : List Row). through_point around 0 i name (down table 0 i name)) is_plain
-          ∙ object_seen i (body_is is_processes around.tree i) (around.finds None name) (entry around.tree i name)
-      object_named (Proc i at) = process_seen i (around.finds (Some at) name)
+          ∙ object_seen i (body_is is_processes around.space.tree i) (around.space.finds None name) (entry around.space.tree i name)
+      object_named (Proc i at) = process_seen i (around.space.finds (Some at) name)
 
-  pub look_object : (dir x : Host) (name : List ℕ) → is_directory_at around.tree dir ≡ true → may_search around.tree around.user dir ≡ true → too_long name ≡ false → object_in around.tree around.finds name dir ≡ Some x
+  pub look_object : (dir x : Host) (name : List ℕ) → is_directory_at around.space.tree dir ≡ true → may_search around.space.tree around.space.user dir ≡ true → too_long name ≡ false → object_in around.space.tree around.space.finds name dir ≡ Some x
       → look_up around (host_place dir) (Name name) ≡ seen_at around (host_place x) x
   look_object dir x name is_dir search short there =
-      look_name dir name is_dir search ∙ ap (λ b. if b then Fails ENAMETOOLONG else seen_object around (object_in around.tree around.finds name dir)) short ∙ ap (seen_object around) there
+      look_name dir name is_dir search ∙ ap (λ b. if b then Fails ENAMETOOLONG else seen_object around (object_in around.space.tree around.space.finds name dir)) short ∙ ap (seen_object around) there
 
-  pub look_closed : (dir : Host) (name : List ℕ) → is_directory_at around.tree dir ≡ true → may_search around.tree around.user dir ≡ false → look_up around (host_place dir) (Name name) ≡ Fails EACCES
+  pub look_closed : (dir : Host) (name : List ℕ) → is_directory_at around.space.tree dir ≡ true → may_search around.space.tree around.space.user dir ≡ false → look_up around (host_place dir) (Name name) ≡ Fails EACCES
   look_closed dir name is_dir search =
-      ap (λ b. if b then (if may_search around.tree around.user dir then inside around (host_place dir) (Name name) else Fails EACCES) else Fails ENOTDIR) is_dir
+      ap (λ b. if b then (if may_search around.space.tree around.space.user dir then inside around (host_place dir) (Name name) else Fails EACCES) else Fails ENOTDIR) is_dir
       ∙ ap (λ b. if b then inside around (host_place dir) (Name name) else Fails EACCES) search
 
   name_short : (name : List ℕ) → IsName name → too_long name ≡ false
   name_short name is = let most = is.short in grind (arith, nat_tests)
 
   -- along a text that is reached a walk comes to what it reaches, and goes on from there
-  pub arrives : (mode : WalkMode) (left : ℕ) (text : Text) (x : Host) (c : Component) (cs : List Component) (sl : Bool) → AreNames text → reaches_in around text ≡ Some x → IsObjectOf around.tree x → is_link_at around.tree x ≡ false
+  pub arrives : (mode : WalkMode) (left : ℕ) (text : Text) (x : Host) (c : Component) (cs : List Component) (sl : Bool) → AreNames text → reaches_in around text ≡ Some x → IsObjectOf around.space.tree x → is_link_at around.space.tree x ≡ false
       → (walk_on (looking around) mode left (node_in 0 root) (map Name (reverse text) ++ c ∷ cs) sl).answer ≡ (walk_on (looking around) mode left (host_place x) (c ∷ cs) sl).answer
   arrives mode left [] x c cs sl are way there firm = let same : Node root ≡ x = some_is (Node root) x way in ap (λ x. (walk_on (looking around) mode left (host_place x) (c ∷ cs) sl).answer) same
   arrives mode left (name ∷ text) x c cs sl are way there firm =
-      let s = last_object around.tree around.user around.finds text name x way in
+      let s = last_object around.space.tree around.space.user around.space.finds text name x way in
       ap (λ cs. (walk_on (looking around) mode left (node_in 0 root) cs sl).answer) (names_onto text name (c ∷ cs))
-      ∙ arrives mode left text s.dir (Name name) (c ∷ cs) sl (All-tail IsName name text are) s.way (directory_there around text s.dir s.way s.is_dir) (directory_firm around.tree s.dir s.is_dir)
+      ∙ arrives mode left text s.dir (Name name) (c ∷ cs) sl (All-tail IsName name text are) s.way (directory_there around text s.dir s.way s.is_dir) (directory_firm around.space.tree s.dir s.is_dir)
       ∙ ap (λ t. t.answer) (walk-middle (looking around) mode left (host_place s.dir) (Name name) c cs sl)
       ∙ ap (λ seen. (in_middle (looking around) left (onward (looking around) mode left) (host_place s.dir) (c ∷ cs) sl (λ q. walk_on (looking around) mode left q (c ∷ cs) sl) seen).answer)
       (look_object s.dir x name s.is_dir s.search (name_short name (All-head IsName name text are)) s.there ∙ led_to around (host_place x) x there firm)
@@ -207,7 +207,7 @@ module _ (around : Surroundings) (is_plain : around.table ≡ plain) where
   -- the walk along a path from the root
   pub root_walk : (mode : WalkMode) (base : Place ℕ) (path : List ℕ) → is_absolute path ≡ true → place_walk around mode base path ≡ walk_on (looking around) mode most_links (node_in 0 root) (components_of path) (has_slash path)
   root_walk mode base path is =
-      ap (λ s. walk_on (looking around) mode most_links s (components_of path) (has_slash path)) (ap (λ b. if b then root_place around.table else base) is ∙ ap root_place is_plain)
+      ap (λ s. walk_on (looking around) mode most_links s (components_of path) (has_slash path)) (ap (λ b. if b then root_place around.space.table else base) is ∙ ap root_place is_plain)
 
   -- what stands before the slash in a path of a text and more
   record Front (text : Text) (more path : List ℕ) : Type 0 where
@@ -221,7 +221,7 @@ module _ (around : Surroundings) (is_plain : around.table ≡ plain) where
   front_of [] more path are (inl e) = record { front = slash ∷ []; joined = e; absolute = refl; components = refl }
   front_of (name ∷ text) more path are (inl e) = record { front = below_root (name ∷ text); joined = e; absolute = below_root_absolute (name ∷ text) more; components = below_root_components (name ∷ text) (names_are_parts (name ∷ text) are) }
 
-  goes_on : (mode : WalkMode) (base : Place ℕ) (text : Text) (x : Host) (more path : List ℕ) → AreNames text → reaches_in around text ≡ Some x → IsObjectOf around.tree x → is_link_at around.tree x ≡ false
+  goes_on : (mode : WalkMode) (base : Place ℕ) (text : Text) (x : Host) (more path : List ℕ) → AreNames text → reaches_in around text ≡ Some x → IsObjectOf around.space.tree x → is_link_at around.space.tree x ≡ false
       → is_absolute more ≡ false → has_parts (parts_of more) ≡ true → IsJoined text more path → (place_walk around mode base path).answer ≡ (place_walk around mode (host_place x) more).answer
   goes_on mode base text x more path are way there firm relative some joined =
       let f = front_of text more path are joined in
@@ -231,7 +231,7 @@ module _ (around : Surroundings) (is_plain : around.table ≡ plain) where
       ∙ ap (λ cs. (walk_on (looking around) mode most_links (node_in 0 root) cs (has_slash all)).answer) (components_seam f.front more ∙ ap (λ cs. cs ++ components_of more) f.components)
       ∙ ap (λ sl. (walk_on (looking around) mode most_links (node_in 0 root) (map Name (reverse text) ++ components_of more) sl).answer) (slash_behind f.front more some)
       ∙ by (parts_of more) some
-      ∙ ap (λ b. (walk_on (looking around) mode most_links (if b then root_place around.table else host_place x) (components_of more) (has_slash more)).answer) (sym relative)
+      ∙ ap (λ b. (walk_on (looking around) mode most_links (if b then root_place around.space.table else host_place x) (components_of more) (has_slash more)).answer) (sym relative)
     where
       by : (parts : List (List ℕ)) → has_parts parts ≡ true
           → (walk_on (looking around) mode most_links (node_in 0 root) (map Name (reverse text) ++ map component_of parts) (has_slash more)).answer ≡ (walk_on (looking around) mode most_links (host_place x) (map component_of parts) (has_slash more)).answer
@@ -247,7 +247,7 @@ pub directories_are_searched : DirectoriesAreSearched
 directories_are_searched around mode base text x path r firm joined =
     walks_go_on_behind_texts around mode base text x dot path r firm refl refl joined
     ∙ ap (λ t. t.answer) (walk-last (looking around) mode most_links (host_place x) Dot false)
-    ∙ by (is_directory_at around.tree x) (may_search around.tree around.user x)
+    ∙ by (is_directory_at around.space.tree x) (may_search around.space.tree around.space.user x)
   where
     by : (dir open_ : Bool) → (at_last (looking around) mode most_links (onward (looking around) mode most_links) (host_place x) Dot false (if dir then (if open_ then shows_directory (host_place x) else Fails EACCES) else Fails ENOTDIR)).answer
         ≡ (if dir then (if open_ then Ok (target_at (host_place x) Dot false (Some (host_place x))) else Err EACCES) else Err ENOTDIR)
@@ -266,7 +266,7 @@ name_joined text name sl path (inl e) = inr (e ∙ ap (λ more. below_root text 
     by false = append-nil name
 
 module _ (around : Surroundings) (text : Text) (dir : Host) (name : List ℕ) (sl : Bool) (path : List ℕ)
-    (r : IsReachedBy around text dir) (is_dir : is_directory_at around.tree dir ≡ true) (part : IsPart name) (written : IsNamePath text name sl path) where
+    (r : IsReachedBy around text dir) (is_dir : is_directory_at around.space.tree dir ≡ true) (part : IsPart name) (written : IsNamePath text name sl path) where
   module _ (mode : WalkMode) (base : Place ℕ) where
     abbrev at_name : SeenPlace → Result PlaceTarget Errno
     at_name seen = (at_last (looking around) mode most_links (onward (looking around) mode most_links) (host_place dir) (Name name) sl seen).answer
@@ -277,34 +277,34 @@ module _ (around : Surroundings) (text : Text) (dir : Host) (name : List ℕ) (s
         let more = slashed sl name in
         let relative = slashed_relative sl name part in
         let alone = slashed_parts sl name part in
-        walks_go_on_behind_texts around mode base text dir more path r (directory_firm around.tree dir is_dir) relative (ap has_parts alone) (name_joined text name sl path written)
-        ∙ ap (λ b. (walk_on (looking around) mode most_links (if b then root_place around.table else host_place dir) (components_of more) (has_slash more)).answer) relative
+        walks_go_on_behind_texts around mode base text dir more path r (directory_firm around.space.tree dir is_dir) relative (ap has_parts alone) (name_joined text name sl path written)
+        ∙ ap (λ b. (walk_on (looking around) mode most_links (if b then root_place around.space.table else host_place dir) (components_of more) (has_slash more)).answer) relative
         ∙ ap (λ ps. (walk_on (looking around) mode most_links (host_place dir) (map component_of ps) (has_slash more)).answer) alone
         ∙ ap (λ c. (walk_on (looking around) mode most_links (host_place dir) (c ∷ []) (has_slash more)).answer) (part_component name part)
         ∙ ap (λ b. (walk_on (looking around) mode most_links (host_place dir) (Name name ∷ []) b).answer) (slashed_has sl name part)
         ∙ ap (λ t. t.answer) (walk-last (looking around) mode most_links (host_place dir) (Name name) sl)
 
-    found_at_name : (x : Host) → IsLookedUp around dir name → object_in around.tree around.finds name dir ≡ Some x → IsObjectOf around.tree x → IsUnfollowed around mode sl x → (place_walk around mode base path).answer ≡ ends_with around mode dir name sl x
+    found_at_name : (x : Host) → IsLookedUp around dir name → object_in around.space.tree around.space.finds name dir ≡ Some x → IsObjectOf around.space.tree x → IsUnfollowed around mode sl x → (place_walk around mode base path).answer ≡ ends_with around mode dir name sl x
     found_at_name x up is there unfollowed =
         name_walk ∙ ap at_name (look_object around r.over_plain dir x name is_dir up.search up.short is)
         ∙ last_object_found around mode most_links (onward (looking around) mode most_links) (host_place dir) (Name name) sl (host_place x) x there unfollowed
 
-    free_at_name : IsLookedUp around dir name → object_in around.tree around.finds name dir ≡ None → (place_walk around mode base path).answer ≡ (ends_missing mode (host_place dir) (Name name) sl).answer
+    free_at_name : IsLookedUp around dir name → object_in around.space.tree around.space.finds name dir ≡ None → (place_walk around mode base path).answer ≡ (ends_missing mode (host_place dir) (Name name) sl).answer
     free_at_name up free =
-        name_walk ∙ ap at_name (look_name around r.over_plain dir name is_dir up.search ∙ ap (λ b. if b then Fails ENAMETOOLONG else seen_object around (object_in around.tree around.finds name dir)) up.short ∙ ap (seen_object around) free)
+        name_walk ∙ ap at_name (look_name around r.over_plain dir name is_dir up.search ∙ ap (λ b. if b then Fails ENAMETOOLONG else seen_object around (object_in around.space.tree around.space.finds name dir)) up.short ∙ ap (seen_object around) free)
 
-    long_at_name : may_search around.tree around.user dir ≡ true → too_long name ≡ true → (place_walk around mode base path).answer ≡ Err ENAMETOOLONG
+    long_at_name : may_search around.space.tree around.space.user dir ≡ true → too_long name ≡ true → (place_walk around mode base path).answer ≡ Err ENAMETOOLONG
     long_at_name search long =
-        name_walk ∙ ap at_name (look_name around r.over_plain dir name is_dir search ∙ ap (λ b. if b then Fails ENAMETOOLONG else seen_object around (object_in around.tree around.finds name dir)) long)
+        name_walk ∙ ap at_name (look_name around r.over_plain dir name is_dir search ∙ ap (λ b. if b then Fails ENAMETOOLONG else seen_object around (object_in around.space.tree around.space.finds name dir)) long)
 
-    closed_at_name : may_search around.tree around.user dir ≡ false → (place_walk around mode base path).answer ≡ Err EACCES
+    closed_at_name : may_search around.space.tree around.space.user dir ≡ false → (place_walk around mode base path).answer ≡ Err EACCES
     closed_at_name search = name_walk ∙ ap at_name (look_closed around r.over_plain dir name is_dir search)
 
   -- in mode Name the target is that name of the directory, with what stands there
-  entry_at_name : (base : Place ℕ) → IsLookedUp around dir name → ((x : Host) → object_in around.tree around.finds name dir ≡ Some x → IsObjectOf around.tree x) → (place_walk around modes.Name base path).answer ≡ Ok (name_target dir name sl (object_in around.tree around.finds name dir))
-  entry_at_name base up there = by (object_in around.tree around.finds name dir) refl
+  entry_at_name : (base : Place ℕ) → IsLookedUp around dir name → ((x : Host) → object_in around.space.tree around.space.finds name dir ≡ Some x → IsObjectOf around.space.tree x) → (place_walk around modes.Name base path).answer ≡ Ok (name_target dir name sl (object_in around.space.tree around.space.finds name dir))
+  entry_at_name base up there = by (object_in around.space.tree around.space.finds name dir) refl
     where
-      by : (o : Option Host) → object_in around.tree around.finds name dir ≡ o → (place_walk around modes.Name base path).answer ≡ Ok (name_target dir name sl o)
+      by : (o : Option Host) → object_in around.space.tree around.space.finds name dir ≡ o → (place_walk around modes.Name base path).answer ≡ Ok (name_target dir name sl o)
       by None is = free_at_name modes.Name base up is
       by (Some x) is = found_at_name modes.Name base x up is (there x is) (λ f. absurd cc)
 
@@ -319,7 +319,7 @@ entries_are_found = ends_at_name
 pub target_found : (around : Surroundings) (mode : WalkMode) (base : Place ℕ) (name : List ℕ) (text : Text) (x : Host) (sl : Bool) → IsReachedBy around (name ∷ text) x → IsUnfollowed around mode sl x
     → (dir : Host) × (reaches_in around text ≡ Some dir) × ((place_walk around mode base (slashed sl (text_of (name ∷ text)))).answer ≡ ends_with around mode dir name sl x)
 target_found around mode base name text x sl r unfollowed =
-    let s = last_object around.tree around.user around.finds text name x r.way in
+    let s = last_object around.space.tree around.space.user around.space.finds text name x r.way in
     let is = All-head IsName name text r.names in
     let above : IsReachedBy around text s.dir = record { over_plain = r.over_plain; names = All-tail IsName name text r.names; way = s.way; there = directory_there around text s.dir s.way s.is_dir } in (
       s.dir,
@@ -331,19 +331,19 @@ target_found around mode base name text x sl r unfollowed =
     written true = append_assoc (below_root text) (slash ∷ name) (slash ∷ [])
     written false = ap (λ name. below_root text ++ slash ∷ name) (sym (append-nil name))
 
-pub text_found : (around : Surroundings) (mode : WalkMode) (base : Place ℕ) (text : Text) (x : Host) (sl : Bool) → IsReachedBy around text x → IsUnfollowed around mode sl x → (wants_directory mode sl ≡ true → is_directory_at around.tree x ≡ true)
+pub text_found : (around : Surroundings) (mode : WalkMode) (base : Place ℕ) (text : Text) (x : Host) (sl : Bool) → IsReachedBy around text x → IsUnfollowed around mode sl x → (wants_directory mode sl ≡ true → is_directory_at around.space.tree x ≡ true)
     → (t : PlaceTarget) × ((place_walk around mode base (slashed sl (text_of text))).answer ≡ Ok t) × (t.found ≡ Some (host_place x))
 text_found around mode base [] x sl r unfollowed wanted =
     let same : Node root ≡ x = some_is (Node root) x r.way in
-    (here (looking around) (root_place around.table) false, by sl, ap (λ table. Some (root_place table)) r.over_plain ∙ ap (λ x. Some (host_place x)) same)
+    (here (looking around) (root_place around.space.table) false, by sl, ap (λ table. Some (root_place table)) r.over_plain ∙ ap (λ x. Some (host_place x)) same)
   where
-    by : (sl : Bool) → (place_walk around mode base (slashed sl (slash ∷ []))).answer ≡ Ok (here (looking around) (root_place around.table) false)
-    by true = ap (λ t. t.answer) (walk-none (looking around) mode most_links (root_place around.table) false)
-    by false = ap (λ t. t.answer) (walk-none (looking around) mode most_links (root_place around.table) false)
+    by : (sl : Bool) → (place_walk around mode base (slashed sl (slash ∷ []))).answer ≡ Ok (here (looking around) (root_place around.space.table) false)
+    by true = ap (λ t. t.answer) (walk-none (looking around) mode most_links (root_place around.space.table) false)
+    by false = ap (λ t. t.answer) (walk-none (looking around) mode most_links (root_place around.space.table) false)
 text_found around mode base (name ∷ text) x sl r unfollowed wanted =
     let f = target_found around mode base name text x sl r unfollowed in
     let t = name_target f.0 name sl (Some x) in
-    (t, f.2 ∙ unrefused (wants_directory mode sl) (is_directory_at around.tree x) t wanted, refl)
+    (t, f.2 ∙ unrefused (wants_directory mode sl) (is_directory_at around.space.tree x) t wanted, refl)
   where
     unrefused : (wants is_dir : Bool) (t : PlaceTarget) → (wants ≡ true → is_dir ≡ true) → (if wants then (if is_dir then ends t else fails ENOTDIR) else ends t).answer ≡ Ok t
     unrefused false is_dir t h = refl

@@ -21,10 +21,10 @@ use Rattle.kr_view.proofs.TableLemmas.{same_some, laws_of_places}
 use Rattle.kr_view.proofs.RestLemmas.{begun_has_parts}
 
 -- from what is no directory nothing is shown
-pub looked_in : (around : Surroundings) (p : Place ℕ) (c : Component) (found : Option (Place ℕ)) → Shows (look_up around p c) found → is_directory_at around.tree p.host ≡ true
-looked_in around p c found shows = at (is_directory_at around.tree p.host) refl shows
+pub looked_in : (around : Surroundings) (p : Place ℕ) (c : Component) (found : Option (Place ℕ)) → Shows (look_up around p c) found → is_directory_at around.space.tree p.host ≡ true
+looked_in around p c found shows = at (is_directory_at around.space.tree p.host) refl shows
   where
-    at : (b : Bool) → is_directory_at around.tree p.host ≡ b → Shows (if b then (if may_search around.tree around.user p.host then inside around p c else Fails EACCES) else Fails ENOTDIR) found → is_directory_at around.tree p.host ≡ true
+    at : (b : Bool) → is_directory_at around.space.tree p.host ≡ b → Shows (if b then (if may_search around.space.tree around.space.user p.host then inside around p c else Fails EACCES) else Fails ENOTDIR) found → is_directory_at around.space.tree p.host ≡ true
     at true is shows = is
     at false is shows = absurd shows
 
@@ -38,8 +38,8 @@ directory_there t i kind = at (inode t i) kind
     at (Some x) kind = same_some (is_directory x.node.body) true kind
 
 -- of mounts that stand in the tree the root place is a directory
-root_in : (around : Surroundings) → StandsIn around.tree around.table → is_directory_at around.tree (root_place around.table).host ≡ true
-root_in around stands = directory_there around.tree (root_source around.table) (laws_of_places around.tree around.table stands).root_kind
+root_in : (around : Surroundings) → StandsIn around.space.tree around.space.table → is_directory_at around.space.tree (root_place around.space.table).host ≡ true
+root_in around stands = directory_there around.space.tree (root_source around.space.table) (laws_of_places around.space.tree around.space.table stands).root_kind
 
 parts_none : (parts : List (List ℕ)) → map component_of parts ≡ [] → has_parts parts ≡ false
 parts_none [] h = refl
@@ -62,10 +62,10 @@ begins_at_root : {S F : Type 0} (looking : Looking S F) (base : S) (path : List 
 begins_at_root looking base path some none = ap (λ b. if b then looking.root else base) (slashes_absolute path some none)
 
 -- the text of a link begins in a directory, where the link stands in one
-text_begins_in : (around : Surroundings) (p : Place ℕ) (text : List ℕ) → is_directory_at around.tree (root_place around.table).host ≡ true → is_directory_at around.tree p.host ≡ true
-    → is_directory_at around.tree (begins_at (looking around) p text).host ≡ true
+text_begins_in : (around : Surroundings) (p : Place ℕ) (text : List ℕ) → is_directory_at around.space.tree (root_place around.space.table).host ≡ true → is_directory_at around.space.tree p.host ≡ true
+    → is_directory_at around.space.tree (begins_at (looking around) p text).host ≡ true
 text_begins_in around p text root link =
-    elim (is_absolute text) as (λ b. is_directory_at around.tree (if b then root_place around.table else p).host ≡ true) [ true ↦ root | false ↦ link ]
+    elim (is_absolute text) as (λ b. is_directory_at around.space.tree (if b then root_place around.space.table else p).host ≡ true) [ true ↦ root | false ↦ link ]
 
 -- ---- where walks end
 
@@ -77,12 +77,12 @@ no_root (Name name) = λ e. absurd cc
 
 module _ (around : Surroundings) (mode : WalkMode) (base : Place ℕ) (path : List ℕ) where
   abbrev pub IsIn : PlaceTarget → Type 0
-  IsIn t = t.jumped ≡ false → is_directory_at around.tree t.dir.host ≡ true
+  IsIn t = t.jumped ≡ false → is_directory_at around.space.tree t.dir.host ≡ true
 
-  pub in_directory : StandsIn around.tree around.table → path ≢ [] → EndsSo (looking around) IsIn (place_walk around mode base path)
+  pub in_directory : StandsIn around.space.tree around.space.table → path ≢ [] → EndsSo (looking around) IsIn (place_walk around mode base path)
   in_directory stands some =
       let root = root_in around stands in
-      let D : Place ℕ → Type 0 = λ p. is_directory_at around.tree p.host ≡ true in
+      let D : Place ℕ → Type 0 = λ p. is_directory_at around.space.tree p.host ≡ true in
       walk_ends (looking around) IsIn D
       (λ s slash begins jumped. begins)
       (λ s c slash found shows jumped. looked_in around s c found shows)
@@ -100,7 +100,7 @@ module _ (around : Surroundings) (mode : WalkMode) (base : Place ℕ) (path : Li
       mode most_links (begins_at (looking around) base path) (components_of path) (has_slash path) (λ none. tt)
 
   abbrev pub IsLanded : PlaceTarget → Type 0
-  IsLanded t = t.jumped ≡ true → (p : Place ℕ) × (t.found ≡ Some p) × (is_directory_at around.tree p.host ≡ true → t.dir ≡ p)
+  IsLanded t = t.jumped ≡ true → (p : Place ℕ) × (t.found ≡ Some p) × (is_directory_at around.space.tree p.host ≡ true → t.dir ≡ p)
 
   pub jumped_to : EndsSo (looking around) IsLanded (place_walk around mode base path)
   jumped_to =
@@ -108,13 +108,13 @@ module _ (around : Surroundings) (mode : WalkMode) (base : Place ℕ) (path : Li
       (λ s c slash f l looked jumped. (l.found, refl, jumped_own around s c f l looked)) (λ s c f text looked. tt)
       mode most_links (begins_at (looking around) base path) (components_of path) (has_slash path) (λ none. tt)
 
-  pub slashes_end : path ≢ [] → components_of path ≡ [] → place_walk around mode base path ≡ ends_here (looking around) (root_place around.table) false
+  pub slashes_end : path ≢ [] → components_of path ≡ [] → place_walk around mode base path ≡ ends_here (looking around) (root_place around.space.table) false
   slashes_end some none =
       let on : Place ℕ → List Component → Bool → PlaceTrail = walk_on (looking around) mode most_links in
       ap (λ s. on s (components_of path) (has_slash path)) (begins_at_root (looking around) base path some none)
-      ∙ ap (λ cs. on (root_place around.table) cs (has_slash path)) none
-      ∙ ap (λ b. on (root_place around.table) [] (if b then ends_in_slash path else false)) (parts_none (parts_of path) none)
-      ∙ walk-none (looking around) mode most_links (root_place around.table) false
+      ∙ ap (λ cs. on (root_place around.space.table) cs (has_slash path)) none
+      ∙ ap (λ b. on (root_place around.space.table) [] (if b then ends_in_slash path else false)) (parts_none (parts_of path) none)
+      ∙ walk-none (looking around) mode most_links (root_place around.space.table) false
 
 pub empty_ends : (around : Surroundings) (mode : WalkMode) (base : Place ℕ) → place_walk around mode base [] ≡ ends_here (looking around) base false
 empty_ends around mode base = walk-none (looking around) mode most_links base false

@@ -15,7 +15,7 @@ use Rattle.kr_tree.specs.Names.{host_name}
 use Rattle.kr_tree.specs.Tree.{Tree, root, body_is, is_directory}
 use Rattle.kr_tree.proofs.NameLemmas.{host_name-of_root, no_directory_name}
 use Rattle.kr_view.specs.View.{Row, row, node_in, plain, plain_row}
-use Rattle.kr_view.specs.Component.{Surroundings, is_process_directory, is_directory_at}
+use Rattle.kr_view.specs.Component.{Namespace, is_process_directory, is_directory_at}
 use Rattle.kr_view.specs.Names.{Text, below, names_below, names_down, Remembered, host_entry, guest_directory, guest_entry, is_file_source, guest_node, guest_process, guest_object, process_object_name, directory_name, object_name, guest_name}
 
 -- all is below the root, and stays as it is
@@ -68,72 +68,72 @@ module _ (t : Tree) (r : Row) (kind : r.is_dir ≡ true) where
 
 -- ---- places
 
-module _ (around : Surroundings) where
-  in_row : (k i : ℕ) (r : Row) (remembered : Remembered) → row around.table k ≡ Some r → guest_name around (node_in k i) remembered ≡ guest_node around.tree (Some r) i remembered
-  in_row k i r remembered there = ap (λ o. guest_node around.tree o i remembered) there
+module _ (space : Namespace) where
+  in_row : (k i : ℕ) (r : Row) (remembered : Remembered) → row space.table k ≡ Some r → guest_name space (node_in k i) remembered ≡ guest_node space.tree (Some r) i remembered
+  in_row k i r remembered there = ap (λ o. guest_node space.tree o i remembered) there
 
-  pub file_source : (k : ℕ) (r : Row) (remembered : Remembered) → row around.table k ≡ Some r → r.is_dir ≡ false → guest_name around (node_in k r.source) remembered ≡ Some r.text.location
+  pub file_source : (k : ℕ) (r : Row) (remembered : Remembered) → row space.table k ≡ Some r → r.is_dir ≡ false → guest_name space (node_in k r.source) remembered ≡ Some r.text.location
   file_source k r remembered there kind =
       in_row k r.source r remembered there
-      ∙ ap (λ b. if b then Some r.text.location else if body_is is_directory around.tree r.source then guest_directory around.tree (Some r) r.source else guest_entry around.tree (Some r) remembered) is
+      ∙ ap (λ b. if b then Some r.text.location else if body_is is_directory space.tree r.source then guest_directory space.tree (Some r) r.source else guest_entry space.tree (Some r) remembered) is
     where
       is : is_file_source (Some r) r.source ≡ true
       is = ap (λ b. if b then false else nat_eq r.source r.source) kind ∙ eq-eqb r.source r.source refl
 
-  pub below_source : (k i : ℕ) (r : Row) (remembered : Remembered) (top names : Text) → IsSound around.tree → row around.table k ≡ Some r → r.is_dir ≡ true
-      → host_name around.tree r.source ≡ Some top → host_name around.tree i ≡ Some (names ++ top) → guest_name around (node_in k i) remembered ≡ Some (names ++ r.text.location)
+  pub below_source : (k i : ℕ) (r : Row) (remembered : Remembered) (top names : Text) → IsSound space.tree → row space.table k ≡ Some r → r.is_dir ≡ true
+      → host_name space.tree r.source ≡ Some top → host_name space.tree i ≡ Some (names ++ top) → guest_name space (node_in k i) remembered ≡ Some (names ++ r.text.location)
   below_source k i r remembered top names sound there kind above named =
-      in_row k i r remembered there ∙ node_directory around.tree r kind i remembered (named_directory around.tree sound i (names ++ top) named) ∙ below_it around.tree r kind i top names above named
+      in_row k i r remembered there ∙ node_directory space.tree r kind i remembered (named_directory space.tree sound i (names ++ top) named) ∙ below_it space.tree r kind i top names above named
 
-  pub directory_source : (k : ℕ) (r : Row) (remembered : Remembered) (top : Text) → IsSound around.tree → row around.table k ≡ Some r → r.is_dir ≡ true → host_name around.tree r.source ≡ Some top
-      → guest_name around (node_in k r.source) remembered ≡ Some r.text.location
+  pub directory_source : (k : ℕ) (r : Row) (remembered : Remembered) (top : Text) → IsSound space.tree → row space.table k ≡ Some r → r.is_dir ≡ true → host_name space.tree r.source ≡ Some top
+      → guest_name space (node_in k r.source) remembered ≡ Some r.text.location
   directory_source k r remembered top sound there kind above = below_source k r.source r remembered top [] sound there kind above above
 
-  pub removed_source : (k : ℕ) (r : Row) (remembered : Remembered) → row around.table k ≡ Some r → r.is_dir ≡ true → body_is is_directory around.tree r.source ≡ true → host_name around.tree r.source ≡ None
-      → guest_name around (node_in k r.source) remembered ≡ None
+  pub removed_source : (k : ℕ) (r : Row) (remembered : Remembered) → row space.table k ≡ Some r → r.is_dir ≡ true → body_is is_directory space.tree r.source ≡ true → host_name space.tree r.source ≡ None
+      → guest_name space (node_in k r.source) remembered ≡ None
   removed_source k r remembered there kind is none =
-      in_row k r.source r remembered there ∙ node_directory around.tree r kind r.source remembered is ∙ down_from around.tree r kind r.source None None none none
+      in_row k r.source r remembered there ∙ node_directory space.tree r kind r.source remembered is ∙ down_from space.tree r kind r.source None None none none
 
-  pub only_below : (k i : ℕ) (r : Row) (remembered : Remembered) (guest : Text) → row around.table k ≡ Some r → r.is_dir ≡ true → body_is is_directory around.tree i ≡ true → guest_name around (node_in k i) remembered ≡ Some guest
-      → (top : Text) × (names : Text) × (host_name around.tree r.source ≡ Some top) × (host_name around.tree i ≡ Some (names ++ top)) × (guest ≡ names ++ r.text.location)
+  pub only_below : (k i : ℕ) (r : Row) (remembered : Remembered) (guest : Text) → row space.table k ≡ Some r → r.is_dir ≡ true → body_is is_directory space.tree i ≡ true → guest_name space (node_in k i) remembered ≡ Some guest
+      → (top : Text) × (names : Text) × (host_name space.tree r.source ≡ Some top) × (host_name space.tree i ≡ Some (names ++ top)) × (guest ≡ names ++ r.text.location)
   only_below k i r remembered guest there kind is h =
-      only_it around.tree r kind i guest (host_name around.tree r.source) (host_name around.tree i) refl refl (sym (in_row k i r remembered there ∙ node_directory around.tree r kind i remembered is) ∙ h)
+      only_it space.tree r kind i guest (host_name space.tree r.source) (host_name space.tree i) refl refl (sym (in_row k i r remembered there ∙ node_directory space.tree r kind i remembered is) ∙ h)
 
-  pub entries : (k i dir : ℕ) (r : Row) (name : List ℕ) → row around.table k ≡ Some r → r.is_dir ≡ true → body_is is_directory around.tree i ≡ false → body_is is_directory around.tree dir ≡ true
-      → guest_name around (node_in k i) (Some (dir, name)) ≡ below name (guest_name around (node_in k dir) None)
+  pub entries : (k i dir : ℕ) (r : Row) (name : List ℕ) → row space.table k ≡ Some r → r.is_dir ≡ true → body_is is_directory space.tree i ≡ false → body_is is_directory space.tree dir ≡ true
+      → guest_name space (node_in k i) (Some (dir, name)) ≡ below name (guest_name space (node_in k dir) None)
   entries k i dir r name there kind other is =
-      in_row k i r (Some (dir, name)) there ∙ node_other around.tree r kind i (Some (dir, name)) other ∙ ap (below name) (sym (in_row k dir r None there ∙ node_directory around.tree r kind dir None is))
+      in_row k i r (Some (dir, name)) there ∙ node_other space.tree r kind i (Some (dir, name)) other ∙ ap (below name) (sym (in_row k dir r None there ∙ node_directory space.tree r kind dir None is))
 
-  pub nameless : (k i : ℕ) (r : Row) → row around.table k ≡ Some r → r.is_dir ≡ true → body_is is_directory around.tree i ≡ false → guest_name around (node_in k i) None ≡ None
-  nameless k i r there kind other = in_row k i r None there ∙ node_other around.tree r kind i None other
+  pub nameless : (k i : ℕ) (r : Row) → row space.table k ≡ Some r → r.is_dir ≡ true → body_is is_directory space.tree i ≡ false → guest_name space (node_in k i) None ≡ None
+  nameless k i r there kind other = in_row k i r None there ∙ node_other space.tree r kind i None other
 
-  pub processes : (k i : ℕ) (at : ProcAt) (r : Row) (remembered : Remembered) → row around.table k ≡ Some r → r.is_dir ≡ true → body_is is_directory around.tree i ≡ true → is_process_directory at ≡ true
-      → guest_name around (record { mount = k; host = Proc i at }) remembered ≡ process_object_name around at (guest_name around (node_in k i) None)
+  pub processes : (k i : ℕ) (at : ProcAt) (r : Row) (remembered : Remembered) → row space.table k ≡ Some r → r.is_dir ≡ true → body_is is_directory space.tree i ≡ true → is_process_directory at ≡ true
+      → guest_name space (record { mount = k; host = Proc i at }) remembered ≡ process_object_name space at (guest_name space (node_in k i) None)
   processes k i at r remembered there kind is directory =
-      ap (λ o. guest_process around o i at remembered) there
-      ∙ ap (λ b. if b then process_object_name around at (guest_directory around.tree (Some r) i) else guest_entry around.tree (Some r) remembered) directory
-      ∙ ap (process_object_name around at) (sym (in_row k i r None there ∙ node_directory around.tree r kind i None is))
+      ap (λ o. guest_process space o i at remembered) there
+      ∙ ap (λ b. if b then process_object_name space at (guest_directory space.tree (Some r) i) else guest_entry space.tree (Some r) remembered) directory
+      ∙ ap (process_object_name space at) (sym (in_row k i r None there ∙ node_directory space.tree r kind i None is))
 
   -- ---- the host's own view
 
-  plain_directory : IsSound around.tree → (i : ℕ) → guest_directory around.tree (Some plain_row) i ≡ host_name around.tree i
-  plain_directory sound i = down_from around.tree plain_row refl i (Some []) (host_name around.tree i) (host_name-of_root around.tree sound) refl ∙ below_the_root (host_name around.tree i)
+  plain_directory : IsSound space.tree → (i : ℕ) → guest_directory space.tree (Some plain_row) i ≡ host_name space.tree i
+  plain_directory sound i = down_from space.tree plain_row refl i (Some []) (host_name space.tree i) (host_name-of_root space.tree sound) refl ∙ below_the_root (host_name space.tree i)
 
-  plain_entry : IsSound around.tree → (remembered : Remembered) → guest_entry around.tree (Some plain_row) remembered ≡ host_entry around.tree remembered
+  plain_entry : IsSound space.tree → (remembered : Remembered) → guest_entry space.tree (Some plain_row) remembered ≡ host_entry space.tree remembered
   plain_entry sound None = refl
   plain_entry sound (Some e) = ap (below e.1) (plain_directory sound e.0)
 
-  plain_object : IsSound around.tree → (host : Host) (remembered : Remembered) → guest_object around (Some plain_row) host remembered ≡ object_name around host remembered
+  plain_object : IsSound space.tree → (host : Host) (remembered : Remembered) → guest_object space (Some plain_row) host remembered ≡ object_name space host remembered
   plain_object sound (Node i) remembered =
-      ap (λ o. if body_is is_directory around.tree i then o else guest_entry around.tree (Some plain_row) remembered) (plain_directory sound i)
-      ∙ ap (λ o. if body_is is_directory around.tree i then host_name around.tree i else o) (plain_entry sound remembered)
+      ap (λ o. if body_is is_directory space.tree i then o else guest_entry space.tree (Some plain_row) remembered) (plain_directory sound i)
+      ∙ ap (λ o. if body_is is_directory space.tree i then host_name space.tree i else o) (plain_entry sound remembered)
   plain_object sound (Proc i at) remembered =
-      ap (λ o. if is_process_directory at then process_object_name around at o else guest_entry around.tree (Some plain_row) remembered) (plain_directory sound i)
-      ∙ ap (λ o. if is_process_directory at then process_object_name around at (host_name around.tree i) else o) (plain_entry sound remembered)
+      ap (λ o. if is_process_directory at then process_object_name space at o else guest_entry space.tree (Some plain_row) remembered) (plain_directory sound i)
+      ∙ ap (λ o. if is_process_directory at then process_object_name space at (host_name space.tree i) else o) (plain_entry sound remembered)
 
-  pub plain_view : (p : Place ℕ) (remembered : Remembered) → IsSound around.tree → around.table ≡ plain → p.mount ≡ 0 → guest_name around p remembered ≡ object_name around p.host remembered
+  pub plain_view : (p : Place ℕ) (remembered : Remembered) → IsSound space.tree → space.table ≡ plain → p.mount ≡ 0 → guest_name space p remembered ≡ object_name space p.host remembered
   plain_view p remembered sound is_plain mount =
-      ap (λ table. guest_object around (row table p.mount) p.host remembered) is_plain ∙ ap (λ k. guest_object around (row plain k) p.host remembered) mount ∙ plain_object sound p.host remembered
+      ap (λ table. guest_object space (row table p.mount) p.host remembered) is_plain ∙ ap (λ k. guest_object space (row plain k) p.host remembered) mount ∙ plain_object sound p.host remembered
 
 -- ---- bytes
 

@@ -17,7 +17,7 @@ use Rattle.kr_view.specs.Component.{Surroundings, SeenPlace, is_process_director
 
 module _ (around : Surroundings) where
   abbrev pub IsOwn : Landing (Place ℕ) (Place ℕ) → Type 0
-  IsOwn l = is_directory_at around.tree l.found.host ≡ true → l.dir ≡ l.found
+  IsOwn l = is_directory_at around.space.tree l.found.host ≡ true → l.dir ≡ l.found
 
   abbrev LeadsOwn : Option (Landing (Place ℕ) (Place ℕ)) → Type 0
   LeadsOwn None = Unit {0}
@@ -35,15 +35,15 @@ module _ (around : Surroundings) where
   either_way true x y p q = p
   either_way false x y p q = q
 
-  own_landing : (p : Place ℕ) (dir : ℕ) (name : List ℕ) → IsOwn (landing around p dir name)
-  own_landing p dir name = at (is_directory_at around.tree p.host) refl
+  own_landing : (p : Place ℕ) (dir : ℕ) (name : List ℕ) → IsOwn (landing around.space p dir name)
+  own_landing p dir name = at (is_directory_at around.space.tree p.host) refl
     where
-      at : (b : Bool) → is_directory_at around.tree p.host ≡ b
+      at : (b : Bool) → is_directory_at around.space.tree p.host ≡ b
           → IsOwn (if b then record { place = p; found = p; is_dir = true; dir = p; name = [] } else record { place = p; found = p; is_dir = false; dir = node_in p.mount dir; name = name })
       at true is directory = refl
       at false is directory = absurd cc
 
-  own_link : (p : Place ℕ) (lead : Lead ℕ) → SeesOwn (seen_link around p lead)
+  own_link : (p : Place ℕ) (lead : Lead ℕ) → SeesOwn (seen_link around.space p lead)
   own_link p (Text text) = tt
   own_link p (Jump to dir name) = own_landing to dir name
   own_link p Nameless = tt
@@ -57,28 +57,28 @@ module _ (around : Surroundings) where
   own_body p (Some (ProcessDirectory standing)) = tt
 
   own_at : (p : Place ℕ) (host : Host) → SeesOwn (seen_at around p host)
-  own_at p (Node i) = own_body p (body around.tree i)
-  own_at p (Proc i at) = either_way (is_process_directory at) (shows_directory p) (seen_link around p (around.leads at)) tt (own_link p (around.leads at))
+  own_at p (Node i) = own_body p (body around.space.tree i)
+  own_at p (Proc i at) = either_way (is_process_directory at) (shows_directory p) (seen_link around.space p (around.leads at)) tt (own_link p (around.leads at))
 
   own_above_body : (mount : ℕ) (dir : Option ℕ) → SeesOwn (above_body mount dir)
   own_above_body mount None = tt
   own_above_body mount (Some dir) = tt
 
-  own_above_node : (mount i : ℕ) (point : Option (Place ℕ)) → SeesOwn (above_node around mount i point)
-  own_above_node mount i None = own_above_body mount (node_above around.tree i)
+  own_above_node : (mount i : ℕ) (point : Option (Place ℕ)) → SeesOwn (above_node around.space mount i point)
+  own_above_node mount i None = own_above_body mount (node_above around.space.tree i)
   own_above_node mount i (Some p) = tt
 
-  own_above_process : (mount i : ℕ) (at : ProcAt) → SeesOwn (above_process around mount i at)
+  own_above_process : (mount i : ℕ) (at : ProcAt) → SeesOwn (above_process around.space mount i at)
   own_above_process mount i SelfLink = tt
-  own_above_process mount i (Dir pid) = either_way (is_shown around pid) (shows_directory (node_in mount i)) (Fails ENOENT) tt tt
+  own_above_process mount i (Dir pid) = either_way (is_shown around.space pid) (shows_directory (node_in mount i)) (Fails ENOENT) tt tt
   own_above_process mount i (Cwd pid) = tt
   own_above_process mount i (Root pid) = tt
   own_above_process mount i (Exe pid) = tt
-  own_above_process mount i (FdDir pid) = either_way (is_shown around pid) (shows_directory (record { mount = mount; host = Proc i (Dir pid) })) (Fails ENOENT) tt tt
+  own_above_process mount i (FdDir pid) = either_way (is_shown around.space pid) (shows_directory (record { mount = mount; host = Proc i (Dir pid) })) (Fails ENOENT) tt tt
   own_above_process mount i (Fd pid fd) = tt
 
-  own_above_host : (mount : ℕ) (host : Host) → SeesOwn (above_host around mount host)
-  own_above_host mount (Node i) = own_above_node mount i (up around.table mount i)
+  own_above_host : (mount : ℕ) (host : Host) → SeesOwn (above_host around.space mount host)
+  own_above_host mount (Node i) = own_above_node mount i (up around.space.table mount i)
   own_above_host mount (Proc i at) = own_above_process mount i at
 
   own_in_processes : (mount i : ℕ) (found : Option ProcAt) → SeesOwn (seen_in_processes around mount i found)
@@ -91,26 +91,26 @@ module _ (around : Surroundings) where
 
   own_in_node : (mount i : ℕ) (name : List ℕ) → SeesOwn (in_node around mount i name)
   own_in_node mount i name =
-      either_way (body_is is_processes around.tree i) (seen_in_processes around mount i (around.finds None name)) (seen_entry around mount (entry around.tree i name))
-      (own_in_processes mount i (around.finds None name)) (own_entry mount (entry around.tree i name))
+      either_way (body_is is_processes around.space.tree i) (seen_in_processes around mount i (around.space.finds None name)) (seen_entry around mount (entry around.space.tree i name))
+      (own_in_processes mount i (around.space.finds None name)) (own_entry mount (entry around.space.tree i name))
 
   own_through : (mount i : ℕ) (name : List ℕ) (source : Option (Place ℕ)) → SeesOwn (through_point around mount i name source)
   own_through mount i name None = own_in_node mount i name
   own_through mount i name (Some p) = own_at p p.host
 
   own_named_in : (mount : ℕ) (host : Host) (name : List ℕ) → SeesOwn (named_in around mount host name)
-  own_named_in mount (Node i) name = own_through mount i name (down around.table mount i name)
-  own_named_in mount (Proc i at) name = own_in_processes mount i (around.finds (Some at) name)
+  own_named_in mount (Node i) name = own_through mount i name (down around.space.table mount i name)
+  own_named_in mount (Proc i at) name = own_in_processes mount i (around.space.finds (Some at) name)
 
   own_inside : (p : Place ℕ) (c : Component) → SeesOwn (inside around p c)
   own_inside p Dot = tt
-  own_inside p DotDot = either_way (is_root_place around.table p) (shows_directory p) (above_host around p.mount p.host) tt (own_above_host p.mount p.host)
+  own_inside p DotDot = either_way (is_root_place around.space.table p) (shows_directory p) (above_host around.space p.mount p.host) tt (own_above_host p.mount p.host)
   own_inside p (Name name) = either_way (too_long name) (Fails ENAMETOOLONG) (named_in around p.mount p.host name) tt (own_named_in p.mount p.host name)
 
   own_look : (p : Place ℕ) (c : Component) → SeesOwn (look_up around p c)
   own_look p c =
-      either_way (is_directory_at around.tree p.host) (if may_search around.tree around.user p.host then inside around p c else Fails EACCES) (Fails ENOTDIR)
-      (either_way (may_search around.tree around.user p.host) (inside around p c) (Fails EACCES) (own_inside p c) tt) tt
+      either_way (is_directory_at around.space.tree p.host) (if may_search around.space.tree around.space.user p.host then inside around p c else Fails EACCES) (Fails ENOTDIR)
+      (either_way (may_search around.space.tree around.space.user p.host) (inside around p c) (Fails EACCES) (own_inside p c) tt) tt
 
   pub jumped_own : (p : Place ℕ) (c : Component) (f : Place ℕ) (l : Landing (Place ℕ) (Place ℕ)) → look_up around p c ≡ Jumps f (Some l) → IsOwn l
   jumped_own p c f l looked = subst SeesOwn looked (own_look p c)

@@ -19,12 +19,12 @@ abbrev pub landed_file : Place ℕ → ℕ → List ℕ → Bool → PlaceTarget
 landed_file p dir name slash = record { dir = node_in p.mount dir; name = name; last = last.Name; slash = slash; found = Some p; jumped = true }
 
 module _ (around : Surroundings) (p : Place ℕ) (dir : ℕ) (name : List ℕ) where
-  pub landing_of_file : is_directory_at around.tree p.host ≡ false → landing_name around (landing around p dir name) ≡ below name (host_name around.tree dir)
+  pub landing_of_file : is_directory_at around.space.tree p.host ≡ false → landing_name around.space (landing around.space p dir name) ≡ below name (host_name around.space.tree dir)
   landing_of_file h = rw h refl
 
-  pub lands_in_directory : (mode : WalkMode) (slash : Bool) → is_directory_at around.tree p.host ≡ true → (ends_landed mode slash (landing around p dir name)).answer ≡ Ok (landed_directory p slash)
+  pub lands_in_directory : (mode : WalkMode) (slash : Bool) → is_directory_at around.space.tree p.host ≡ true → (ends_landed mode slash (landing around.space p dir name)).answer ≡ Ok (landed_directory p slash)
   lands_in_directory mode slash h =
       rw h (elim (wants_directory mode slash) as (λ w. (cond w (ends (landed_directory p slash)) (ends (landed_directory p slash))).answer ≡ Ok (landed_directory p slash)) [ true ↦ refl | false ↦ refl ])
 
-  pub lands_at_file : (mode : WalkMode) (slash : Bool) → is_directory_at around.tree p.host ≡ false → wants_directory mode slash ≡ false → (ends_landed mode slash (landing around p dir name)).answer ≡ Ok (landed_file p dir name slash)
+  pub lands_at_file : (mode : WalkMode) (slash : Bool) → is_directory_at around.space.tree p.host ≡ false → wants_directory mode slash ≡ false → (ends_landed mode slash (landing around.space p dir name)).answer ≡ Ok (landed_file p dir name slash)
   lands_at_file mode slash h w = rw (h, w) refl

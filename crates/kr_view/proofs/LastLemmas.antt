@@ -45,18 +45,18 @@ last_jump around mode left s c slash link l followed some =
 
 -- what it led to is reached, and nothing more
 landing_end : (around : Surroundings) (l : Landing (Place ℕ) (Place ℕ)) (slash wants is_dir : Bool) (old : Reach)
-    → reach_after around (after_jump l (if wants then (if is_dir then ends (landed l slash) else fails ENOTDIR) else ends (landed l slash))) old ≡ reached_landing around l old
+    → reach_after around (after_jump l (if wants then (if is_dir then ends (landed l slash) else fails ENOTDIR) else ends (landed l slash))) old ≡ reached_landing around.space l old
 landing_end around l slash true true old = refl
 landing_end around l slash true false old = refl
 landing_end around l slash false is_dir old = refl
 
 pub landed_reach : (around : Surroundings) (mode : WalkMode) (l : Landing (Place ℕ) (Place ℕ)) (slash : Bool) (old : Reach)
-    → reach_after around (after_jump l (ends_landed mode slash l)) old ≡ reached_landing around l old
+    → reach_after around (after_jump l (ends_landed mode slash l)) old ≡ reached_landing around.space l old
 landed_reach around mode l slash old = landing_end around l slash (wants_directory mode slash) l.is_dir old
 
 module _ {M : Type 0} (number : M → ℕ) (around : Surroundings) (mode : WalkMode) (walk : Walk M) (link : Place ℕ) (c : Component) (lead : Lead ℕ) (old : Reach) where
   abbrev pub behind_last : PlaceTrail
-  behind_last = last_trail around mode walk.left (numbered number walk.position.place) c walk.slash (seen_link around link lead)
+  behind_last = last_trail around mode walk.left (numbered number walk.position.place) c walk.slash (seen_link around.space link lead)
 
   pub last_want : (r : Result (Step M) WalkFault) → IsErr r → IsErrAnd r (λ f. f ≡ fault.NoMemory)
       → HasOutcome number around mode behind_last.answer (reach_after around behind_last old) old old r
@@ -67,31 +67,31 @@ module _ {M : Type 0} (number : M → ℕ) (around : Surroundings) (mode : WalkM
       → HasOutcome number around mode behind_last.answer (reach_after around behind_last old) old old r
   last_text_error text slash e r is slashed followed none err same follows =
       let s = numbered number walk.position.place in
-      let seen = ap (seen_link around link) is in
+      let seen = ap (seen_link around.space link) is in
       let at = ap (last_trail around mode walk.left s c walk.slash) seen ∙ last_links around mode walk.left s c walk.slash link text (stack_of walk.rests) followed none
       ∙ ap (onward (looking around) mode walk.left (begins_at (looking around) s text) (components_of text ++ stack_of walk.rests)) (sym slashed) in
       at_follow_error number around mode walk text slash behind_last old e r err same follows at
 
   -- what the answer is, and what was reached, where it led somewhere
   landed_answer : (p : Place ℕ) (dir : ℕ) (name : List ℕ) → lead ≡ Jump p dir name → is_followed mode walk.slash ≡ true → walk.left ≢ 0
-      → behind_last ≡ after_jump (landing around p dir name) (ends_landed mode walk.slash (landing around p dir name))
+      → behind_last ≡ after_jump (landing around.space p dir name) (ends_landed mode walk.slash (landing around.space p dir name))
   landed_answer p dir name is followed some =
-      ap (λ l. last_trail around mode walk.left (numbered number walk.position.place) c walk.slash (seen_link around link l)) is
-      ∙ last_jump around mode walk.left (numbered number walk.position.place) c walk.slash link (landing around p dir name) followed some
+      ap (λ l. last_trail around mode walk.left (numbered number walk.position.place) c walk.slash (seen_link around.space link l)) is
+      ∙ last_jump around mode walk.left (numbered number walk.position.place) c walk.slash link (landing around.space p dir name) followed some
 
   landed_whole : (p : Place ℕ) (dir : ℕ) (name : List ℕ) → lead ≡ Jump p dir name → is_followed mode walk.slash ≡ true → walk.left ≢ 0
-      → reach_after around behind_last old ≡ reached_landing around (landing around p dir name) old
+      → reach_after around behind_last old ≡ reached_landing around.space (landing around.space p dir name) old
   landed_whole p dir name is followed some =
-      ap (λ t. reach_after around t old) (landed_answer p dir name is followed some) ∙ landed_reach around mode (landing around p dir name) walk.slash old
+      ap (λ t. reach_after around t old) (landed_answer p dir name is followed some) ∙ landed_reach around mode (landing around.space p dir name) walk.slash old
 
   pub landed_ends : (p : Place ℕ) (dir : ℕ) (name : List ℕ) (new : Reach) (target : Told M) → lead ≡ Jump p dir name → is_followed mode walk.slash ≡ true → walk.left ≢ 0
-      → new ≡ reached_landing around (landing around p dir name) old → IsLanded number (ends_landed mode walk.slash (landing around p dir name)).answer (Ok target)
+      → new ≡ reached_landing around.space (landing around.space p dir name) old → IsLanded number (ends_landed mode walk.slash (landing around.space p dir name)).answer (Ok target)
       → HasOutcome number around mode behind_last.answer (reach_after around behind_last old) old new (Ok (Ends target))
   landed_ends p dir name new target is followed some reached landed =
       ((landed.0, ap (λ t. t.answer) (landed_answer p dir name is followed some) ∙ landed.1, landed.2), reached ∙ sym (landed_whole p dir name is followed some))
 
   pub landed_error : (p : Place ℕ) (dir : ℕ) (name : List ℕ) (new : Reach) (e : WalkFault) (r : Result (Step M) WalkFault) → lead ≡ Jump p dir name → is_followed mode walk.slash ≡ true → walk.left ≢ 0
-      → new ≡ reached_landing around (landing around p dir name) old → IsErr r → IsErrAnd r (λ f. f ≡ e) → IsLanded number (ends_landed mode walk.slash (landing around p dir name)).answer (Err e)
+      → new ≡ reached_landing around.space (landing around.space p dir name) old → IsErr r → IsErrAnd r (λ f. f ≡ e) → IsLanded number (ends_landed mode walk.slash (landing around.space p dir name)).answer (Err e)
       → Covers new old → HasOutcome number around mode behind_last.answer (reach_after around behind_last old) old new r
   landed_error p dir name new e (Ok step) is followed some reached err same landed covers = absurd cc
   landed_error p dir name new (fault.Err e) (Err fault.NoMemory) is followed some reached err same landed covers = absurd cc
@@ -112,7 +112,7 @@ found_reach around s DotDot slash q old = refl
 found_reach around s (Name name) slash q old = refl
 
 free_reach : (around : Surroundings) (s : Place ℕ) (c : Component) (slash : Bool) (old : Reach)
-    → reach_after around (ends (target_at s c slash None)) old ≡ record { longest = raised (free_name around s.host (name_of c)) old.longest; met_proc = old.met_proc }
+    → reach_after around (ends (target_at s c slash None)) old ≡ record { longest = raised (free_name around.space s.host (name_of c)) old.longest; met_proc = old.met_proc }
 free_reach around s Dot slash old = refl
 free_reach around s DotDot slash old = refl
 free_reach around s (Name name) slash old = refl
@@ -121,7 +121,7 @@ module _ (around : Surroundings) (mode : WalkMode) (left : ℕ) (s : Place ℕ) 
   pub last_link_found : (q : Place ℕ) (text : List ℕ) → is_followed mode slash ≡ false → last_trail around mode left s c slash (Links q text) ≡ ends (target_at s c slash (Some q))
   last_link_found q text h = rw h refl
 
-  pub last_jump_found : (q : Place ℕ) (lead : Lead ℕ) → is_followed mode slash ≡ false → last_trail around mode left s c slash (seen_link around q lead) ≡ ends (target_at s c slash (Some q))
+  pub last_jump_found : (q : Place ℕ) (lead : Lead ℕ) → is_followed mode slash ≡ false → last_trail around mode left s c slash (seen_link around.space q lead) ≡ ends (target_at s c slash (Some q))
   last_jump_found q (Text text) h = rw h refl
   last_jump_found q (Jump p dir name) h = rw h refl
   last_jump_found q Nameless h = rw h refl
@@ -145,8 +145,8 @@ module _ {M : Type 0} (number : M → ℕ) (around : Surroundings) (mode : WalkM
       ((target_at s c slash (Some q), ap (λ t. t.answer) at, same), sym (ap (λ t. reach_after around t old) at ∙ found_reach around s c slash q old))
 
   pub ends_free : (new : Reach) → trail ≡ ends (target_at s c slash None) → told (target_at s c slash None) ≡ target_numbered number target
-      → new.longest ≡ raised (free_name around s.host (name_of c)) old.longest → new.met_proc ≡ old.met_proc
+      → new.longest ≡ raised (free_name around.space s.host (name_of c)) old.longest → new.met_proc ≡ old.met_proc
       → HasOutcome number around mode trail.answer (reach_after around trail old) old new (Ok (Ends target))
   ends_free new at same long met =
-      let all : new ≡ record { longest = raised (free_name around s.host (name_of c)) old.longest; met_proc = old.met_proc } = λ i. record { longest = long i; met_proc = met i } in
+      let all : new ≡ record { longest = raised (free_name around.space s.host (name_of c)) old.longest; met_proc = old.met_proc } = λ i. record { longest = long i; met_proc = met i } in
       ((target_at s c slash None, ap (λ t. t.answer) at, same), all ∙ sym (ap (λ t. reach_after around t old) at ∙ free_reach around s c slash old))

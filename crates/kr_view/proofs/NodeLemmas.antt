@@ -24,9 +24,9 @@ use Rattle.kr_view.specs.Laws.{with_tree, WalksReadNodes}
 by_node : (test : Body → Bool) (v : Tree) (i : ℕ) → body_is test v i ≡ option_map_or (λ (n : NodeWord). test n.body) (node v i) false
 by_node test v i = elim (inode v i) as (λ o. option_map_or (λ (x : Inode). test x.node.body) o false ≡ option_map_or (λ (n : NodeWord). test n.body) (option_map (λ (x : Inode). x.node) o) false) [ None ↦ refl | Some x ↦ refl ]
 
-module _ (around : Surroundings) (u : Tree) (same : (i : ℕ) → node around.tree i ≡ node u i) where
+module _ (around : Surroundings) (u : Tree) (same : (i : ℕ) → node around.space.tree i ≡ node u i) where
   abbrev t : Tree
-  t = around.tree
+  t = around.space.tree
 
   abbrev other : Surroundings
   other = with_tree u around
@@ -64,11 +64,11 @@ module _ (around : Surroundings) (u : Tree) (same : (i : ℕ) → node around.tr
   dir_same (Node i) = body_is_same is_directory i
   dir_same (Proc i at) = refl
 
-  search_same : (h : Host) → may_search t around.user h ≡ may_search u around.user h
-  search_same (Node i) = ap (λ o. option_map_or (λ (n : NodeWord). allows around.user n Search) o false) (same i)
+  search_same : (h : Host) → may_search t around.space.user h ≡ may_search u around.space.user h
+  search_same (Node i) = ap (λ o. option_map_or (λ (n : NodeWord). allows around.space.user n Search) o false) (same i)
   search_same (Proc i at) = refl
 
-  link_same : (p : Place ℕ) (l : Lead ℕ) → seen_link around p l ≡ seen_link other p l
+  link_same : (p : Place ℕ) (l : Lead ℕ) → seen_link around.space p l ≡ seen_link other.space p l
   link_same p (TextLead text) = refl
   link_same p (Jump to dir name) =
       ap (λ b. seen_link_at b) (dir_same to.host)
@@ -92,39 +92,39 @@ module _ (around : Surroundings) (u : Tree) (same : (i : ℕ) → node around.tr
 
   in_same : (m i : ℕ) (name : List ℕ) → in_node around m i name ≡ in_node other m i name
   in_same m i name =
-      ap (λ b. if b then seen_in_processes around m i (around.finds None name) else seen_entry around m (entry t i name)) (body_is_same is_processes i)
-      ∙ ap (λ s. if body_is is_processes u i then s else seen_entry around m (entry t i name)) (found_same m i (around.finds None name))
-      ∙ ap (λ s. if body_is is_processes u i then seen_in_processes other m i (around.finds None name) else s) (ap (seen_entry around m) (entry_same i name) ∙ entered_same m (entry u i name))
+      ap (λ b. if b then seen_in_processes around m i (around.space.finds None name) else seen_entry around m (entry t i name)) (body_is_same is_processes i)
+      ∙ ap (λ s. if body_is is_processes u i then s else seen_entry around m (entry t i name)) (found_same m i (around.space.finds None name))
+      ∙ ap (λ s. if body_is is_processes u i then seen_in_processes other m i (around.space.finds None name) else s) (ap (seen_entry around m) (entry_same i name) ∙ entered_same m (entry u i name))
 
   through_same : (m i : ℕ) (name : List ℕ) (o : Option (Place ℕ)) → through_point around m i name o ≡ through_point other m i name o
   through_same m i name None = in_same m i name
   through_same m i name (Some p) = seen_same p p.host
 
   named_in_same : (m : ℕ) (h : Host) (name : List ℕ) → named_in around m h name ≡ named_in other m h name
-  named_in_same m (Node i) name = through_same m i name (down around.table m i name)
-  named_in_same m (Proc i at) name = found_same m i (around.finds (Some at) name)
+  named_in_same m (Node i) name = through_same m i name (down around.space.table m i name)
+  named_in_same m (Proc i at) name = found_same m i (around.space.finds (Some at) name)
 
-  above_node_same : (m i : ℕ) (o : Option (Place ℕ)) → above_node around m i o ≡ above_node other m i o
+  above_node_same : (m i : ℕ) (o : Option (Place ℕ)) → above_node around.space m i o ≡ above_node other.space m i o
   above_node_same m i None = ap (above_body m) (above_same i)
   above_node_same m i (Some p) = refl
 
-  above_host_same : (m : ℕ) (h : Host) → above_host around m h ≡ above_host other m h
-  above_host_same m (Node i) = above_node_same m i (up around.table m i)
+  above_host_same : (m : ℕ) (h : Host) → above_host around.space m h ≡ above_host other.space m h
+  above_host_same m (Node i) = above_node_same m i (up around.space.table m i)
   above_host_same m (Proc i at) = refl
 
   inside_same : (p : Place ℕ) (c : Component) → inside around p c ≡ inside other p c
   inside_same p Dot = refl
-  inside_same p DotDot = ap (λ s. if is_root_place around.table p then shows_directory p else s) (above_host_same p.mount p.host)
+  inside_same p DotDot = ap (λ s. if is_root_place around.space.table p then shows_directory p else s) (above_host_same p.mount p.host)
   inside_same p (Name name) = ap (λ s. if too_long name then Fails ENAMETOOLONG else s) (named_in_same p.mount p.host name)
 
   look_same : (p : Place ℕ) (c : Component) → look_up around p c ≡ look_up other p c
   look_same p c =
-      ap (λ b. if b then (if may_search t around.user p.host then inside around p c else Fails EACCES) else Fails ENOTDIR) (dir_same p.host)
+      ap (λ b. if b then (if may_search t around.space.user p.host then inside around p c else Fails EACCES) else Fails ENOTDIR) (dir_same p.host)
       ∙ ap (λ b. if is_directory_at u p.host then (if b then inside around p c else Fails EACCES) else Fails ENOTDIR) (search_same p.host)
-      ∙ ap (λ s. if is_directory_at u p.host then (if may_search u around.user p.host then s else Fails EACCES) else Fails ENOTDIR) (inside_same p c)
+      ∙ ap (λ s. if is_directory_at u p.host then (if may_search u around.space.user p.host then s else Fails EACCES) else Fails ENOTDIR) (inside_same p c)
 
   looking_same : looking around ≡ looking other
-  looking_same = λ j. record { root = root_place around.table; here = λ p. p; look = λ p c. (look_same p c) j }
+  looking_same = λ j. record { root = root_place around.space.table; here = λ p. p; look = λ p c. (look_same p c) j }
 
   walk_same : (mode : WalkMode) (base : Place ℕ) (path : List ℕ) → place_walk around mode base path ≡ place_walk other mode base path
   walk_same mode base path = ap (λ l. walk l mode base path) looking_same

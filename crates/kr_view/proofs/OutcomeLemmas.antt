@@ -64,32 +64,32 @@ pub jumps_to : {S F : Type 0} (left : ℕ) (go : Landing S F → Trail S F) (l :
 jumps_to zero go l some = absurd (some refl)
 jumps_to (suc left) go l some = refl
 
-landing_place : (around : Surroundings) (p : Place ℕ) (dir : ℕ) (name : List ℕ) → (landing around p dir name).place ≡ p
+landing_place : (around : Surroundings) (p : Place ℕ) (dir : ℕ) (name : List ℕ) → (landing around.space p dir name).place ≡ p
 landing_place around p dir name =
     let at_directory : Landing (Place ℕ) (Place ℕ) = record { place = p; found = p; is_dir = true; dir = p; name = [] } in
     let at_file : Landing (Place ℕ) (Place ℕ) = record { place = p; found = p; is_dir = false; dir = node_in p.mount dir; name = name } in
     let at : Bool → Landing (Place ℕ) (Place ℕ) = λ b. if b then at_directory else at_file in
-    elim (is_directory_at around.tree p.host) as (λ b. (at b).place ≡ p) [ true ↦ refl | false ↦ refl ]
+    elim (is_directory_at around.space.tree p.host) as (λ b. (at b).place ≡ p) [ true ↦ refl | false ↦ refl ]
 
 module _ (around : Surroundings) (mode : WalkMode) (left : ℕ) (s : Place ℕ) (rest : List Component) (slash : Bool) (link : Place ℕ) where
   -- behind a process link the walk goes on with one link less
   middle_jump : (p : Place ℕ) (dir : ℕ) (name : List ℕ) → left ≢ 0
-      → middle_trail around mode left s rest slash (Jumps link (Some (landing around p dir name))) ≡ after_jump (landing around p dir name) (walk_on (looking around) mode (left - 1) p rest slash)
+      → middle_trail around mode left s rest slash (Jumps link (Some (landing around.space p dir name))) ≡ after_jump (landing around.space p dir name) (walk_on (looking around) mode (left - 1) p rest slash)
   middle_jump p dir name some =
-      let l = landing around p dir name in
+      let l = landing around.space p dir name in
       jumps_to left (λ l. onward (looking around) mode left l.place rest slash) l some
       ∙ ap (after_jump l) (onward-less (looking around) mode left l.place rest slash some ∙ ap (λ q. walk_on (looking around) mode (left - 1) q rest slash) (landing_place around p dir name))
 
   middle_jump_reach : (p : Place ℕ) (dir : ℕ) (name : List ℕ) (old : Reach) → left ≢ 0
-      → reach_after around (middle_trail around mode left s rest slash (Jumps link (Some (landing around p dir name)))) old
-      ≡ reach_after around (walk_on (looking around) mode (left - 1) p rest slash) (reached_landing around (landing around p dir name) old)
+      → reach_after around (middle_trail around mode left s rest slash (Jumps link (Some (landing around.space p dir name)))) old
+      ≡ reach_after around (walk_on (looking around) mode (left - 1) p rest slash) (reached_landing around.space (landing around.space p dir name) old)
   middle_jump_reach p dir name old some =
-      ap (λ t. reach_after around t old) (middle_jump p dir name some) ∙ behind_jump around (landing around p dir name) (walk_on (looking around) mode (left - 1) p rest slash) old
+      ap (λ t. reach_after around t old) (middle_jump p dir name some) ∙ behind_jump around (landing around.space p dir name) (walk_on (looking around) mode (left - 1) p rest slash) old
 
 module _ {M : Type 0} (number : M → ℕ) (around : Surroundings) (mode : WalkMode) (walk : Walk M) (link : Place ℕ) (lead : Lead ℕ) (old : Reach) where
   -- what is left of a walk behind a process link
   abbrev pub behind_link : PlaceTrail
-  behind_link = middle_trail around mode walk.left (numbered number walk.position.place) (stack_of walk.rests) walk.slash (seen_link around link lead)
+  behind_link = middle_trail around mode walk.left (numbered number walk.position.place) (stack_of walk.rests) walk.slash (seen_link around.space link lead)
 
   pub link_want : (r : Result (Step M) WalkFault) → IsErr r → IsErrAnd r (λ f. f ≡ fault.NoMemory)
       → HasOutcome number around mode behind_link.answer (reach_after around behind_link old) old old r
@@ -103,32 +103,32 @@ module _ {M : Type 0} (number : M → ℕ) (around : Surroundings) (mode : WalkM
       let s = numbered number walk.position.place in
       let T = middle_trail around mode walk.left s (stack_of walk.rests) walk.slash (Links link text) in
       let at_text : HasOutcome number around mode T.answer (reach_after around T old) old old r = at_follow_error number around mode walk text walk.slash T old e r err same followed refl in
-      let Q : Lead ℕ → Type 0 = λ lead. HasOutcome number around mode (middle_trail around mode walk.left s (stack_of walk.rests) walk.slash (seen_link around link lead)).answer
-      (reach_after around (middle_trail around mode walk.left s (stack_of walk.rests) walk.slash (seen_link around link lead)) old) old old r in
+      let Q : Lead ℕ → Type 0 = λ lead. HasOutcome number around mode (middle_trail around mode walk.left s (stack_of walk.rests) walk.slash (seen_link around.space link lead)).answer
+      (reach_after around (middle_trail around mode walk.left s (stack_of walk.rests) walk.slash (seen_link around.space link lead)) old) old old r in
       subst Q (sym is) at_text
 
   pub landing_error : (p : Place ℕ) (dir : ℕ) (name : List ℕ) (new : Reach) (r : Result (Step M) WalkFault) → lead ≡ Jump p dir name → walk.left ≢ 0 → stack_of walk.rests ≢ []
-      → IsErr r → IsErrAnd r (λ f. f ≡ fault.NoMemory) → Covers new old × Covers (reached_landing around (landing around p dir name) old) new
+      → IsErr r → IsErrAnd r (λ f. f ≡ fault.NoMemory) → Covers new old × Covers (reached_landing around.space (landing around.space p dir name) old) new
       → HasOutcome number around mode behind_link.answer (reach_after around behind_link old) old new r
   landing_error p dir name new r is some more err want part =
-      let l = landing around p dir name in
+      let l = landing around.space p dir name in
       let s = numbered number walk.position.place in
       let T = middle_trail around mode walk.left s (stack_of walk.rests) walk.slash (Jumps link (Some l)) in
       let on = walk_on (looking around) mode (walk.left - 1) p (stack_of walk.rests) walk.slash in
-      let all : Covers (reach_after around on (reached_landing around l old)) new = covers_trans _ (reached_landing around l old) new (covers_after around on (reached_landing around l old)) part.1 in
+      let all : Covers (reach_after around on (reached_landing around.space l old)) new = covers_trans _ (reached_landing around.space l old) new (covers_after around on (reached_landing around.space l old)) part.1 in
       let P : Reach → Type 0 = λ whole. Covers whole new in
       let whole : Covers (reach_after around T old) new = subst P (sym (middle_jump_reach around mode walk.left s (stack_of walk.rests) walk.slash link p dir name old some)) all in
       let at_jump = at_want number around mode T.answer (reach_after around T old) old new r err want (part.0, whole) in
-      let Q : Lead ℕ → Type 0 = λ lead. HasOutcome number around mode (middle_trail around mode walk.left s (stack_of walk.rests) walk.slash (seen_link around link lead)).answer
-      (reach_after around (middle_trail around mode walk.left s (stack_of walk.rests) walk.slash (seen_link around link lead)) old) old new r in
+      let Q : Lead ℕ → Type 0 = λ lead. HasOutcome number around mode (middle_trail around mode walk.left s (stack_of walk.rests) walk.slash (seen_link around.space link lead)).answer
+      (reach_after around (middle_trail around mode walk.left s (stack_of walk.rests) walk.slash (seen_link around.space link lead)) old) old new r in
       subst Q (sym is) at_jump
 
   pub landing_goes : (p : Place ℕ) (dir : ℕ) (name : List ℕ) (new : Reach) (on : Walk M) → lead ≡ Jump p dir name → walk.left ≢ 0 → stack_of walk.rests ≢ []
-      → new ≡ reached_landing around (landing around p dir name) old → trail_of number around mode on ≡ walk_on (looking around) mode (walk.left - 1) p (stack_of walk.rests) walk.slash
-      → IsNamed around.tree on.position.place.host on.position.name
+      → new ≡ reached_landing around.space (landing around.space p dir name) old → trail_of number around mode on ≡ walk_on (looking around) mode (walk.left - 1) p (stack_of walk.rests) walk.slash
+      → IsNamed around.space.tree on.position.place.host on.position.name
       → GoesOn number around mode behind_link.answer (reach_after around behind_link old) old new on
   landing_goes p dir name new on is some more reached goes named =
-      let l = landing around p dir name in
+      let l = landing around.space p dir name in
       let s = numbered number walk.position.place in
       let T = middle_trail around mode walk.left s (stack_of walk.rests) walk.slash (Jumps link (Some l)) in
       let at_jump : GoesOn number around mode T.answer (reach_after around T old) old new on = record {
@@ -139,8 +139,8 @@ module _ {M : Type 0} (number : M → ℕ) (around : Surroundings) (mode : WalkM
         covers = let P : Reach → Type 0 = λ n. Covers n old in subst P (sym reached) (covers_landing around l old);
         named = named;
       } in
-      let Q : Lead ℕ → Type 0 = λ lead. GoesOn number around mode (middle_trail around mode walk.left s (stack_of walk.rests) walk.slash (seen_link around link lead)).answer
-      (reach_after around (middle_trail around mode walk.left s (stack_of walk.rests) walk.slash (seen_link around link lead)) old) old new on in
+      let Q : Lead ℕ → Type 0 = λ lead. GoesOn number around mode (middle_trail around mode walk.left s (stack_of walk.rests) walk.slash (seen_link around.space link lead)).answer
+      (reach_after around (middle_trail around mode walk.left s (stack_of walk.rests) walk.slash (seen_link around.space link lead)) old) old new on in
       subst Q (sym is) at_jump
 
 -- where memory is wanting before anything more was reached

@@ -52,40 +52,40 @@ earlier (q ∷ table) (suc j) (suc k) r there before = earlier table j k r there
 
 module _ (around : Surroundings) (base : Place ℕ) (stand : StandsAround around base) where
   abbrev t : Tree
-  t = around.tree
+  t = around.space.tree
 
   abbrev Good : Place ℕ → Type 0
-  Good p = IsPlaceOf around.tree around.table p
+  Good p = IsPlaceOf around.space.tree around.space.table p
 
   -- ---- places
 
-  in_mount : (mount i : ℕ) → is_there (row around.table mount) ≡ true → is_there (inode t i) ≡ true → Good (node_in mount i)
+  in_mount : (mount i : ℕ) → is_there (row around.space.table mount) ≡ true → is_there (inode t i) ≡ true → Good (node_in mount i)
   in_mount mount i mounted there = record { mounted = mounted; object = there }
 
-  source_there : (q : Place ℕ) → IsSettledSource t around.table q → Good q
+  source_there : (q : Place ℕ) → IsSettledSource t around.space.table q → Good q
   source_there q source =
       let P : Place ℕ → Type 0 = λ p. Good p in
       subst P (sym source.place) (in_mount q.mount source.settled.source (ap is_there source.there) (kind_there t source.settled.source source.settled.is_dir source.kind))
 
-  root_there : Good (root_place around.table)
-  root_there = source_there (root_place around.table) (laws_of_places t around.table stand.mounts).root_stands
+  root_there : Good (root_place around.space.table)
+  root_there = source_there (root_place around.space.table) (laws_of_places t around.space.table stand.mounts).root_stands
 
   -- above the source of a mount
-  point_there : (mount i : ℕ) (q : Place ℕ) → up around.table mount i ≡ Some q → Good q
-  point_there mount i q h = at (row around.table mount) refl h
+  point_there : (mount i : ℕ) (q : Place ℕ) → up around.space.table mount i ≡ Some q → Good q
+  point_there mount i q h = at (row around.space.table mount) refl h
     where
-      at_point : (r : Row) → row around.table mount ≡ Some r → (o : Option Point) → r.point ≡ o → option_map (λ p. node_in p.mount p.dir) o ≡ Some q → Good q
+      at_point : (r : Row) → row around.space.table mount ≡ Some r → (o : Option Point) → r.point ≡ o → option_map (λ p. node_in p.mount p.dir) o ≡ Some q → Good q
       at_point r there None pointed h = absurd cc
       at_point r there (Some p) pointed h =
           let stands = stand.mounts.points mount r p there pointed in
           let P : Place ℕ → Type 0 = λ q. Good q in
-          subst P (some_is (node_in p.mount p.dir) q h) (in_mount p.mount p.dir (earlier around.table p.mount mount r there stands.before) (tested_there is_listed t p.dir stands.listed))
+          subst P (some_is (node_in p.mount p.dir) q h) (in_mount p.mount p.dir (earlier around.space.table p.mount mount r there stands.before) (tested_there is_listed t p.dir stands.listed))
 
-      where_source : (r : Row) → row around.table mount ≡ Some r → (b : Bool) → (if b then point_place r else None) ≡ Some q → Good q
+      where_source : (r : Row) → row around.space.table mount ≡ Some r → (b : Bool) → (if b then point_place r else None) ≡ Some q → Good q
       where_source r there true h = at_point r there r.point refl h
       where_source r there false h = absurd cc
 
-      at : (o : Option Row) → row around.table mount ≡ o → option_and_then (λ r. if nat_eq r.source i then point_place r else None) o ≡ Some q → Good q
+      at : (o : Option Row) → row around.space.table mount ≡ o → option_and_then (λ r. if nat_eq r.source i then point_place r else None) o ≡ Some q → Good q
       at None there h = absurd cc
       at (Some r) there h = where_source r there (nat_eq r.source i) h
 
@@ -99,7 +99,7 @@ module _ (around : Surroundings) (base : Place ℕ) (stand : StandsAround around
 
   -- where a link of the process directory leads
   abbrev LandsAt : Landing (Place ℕ) (Place ℕ) → Type 0
-  LandsAt l = (at : ProcAt) × (to : Place ℕ) × (dir : ℕ) × (name : List ℕ) × (around.leads at ≡ Jump to dir name) × (l ≡ landing around to dir name)
+  LandsAt l = (at : ProcAt) × (to : Place ℕ) × (dir : ℕ) × (name : List ℕ) × (around.leads at ≡ Jump to dir name) × (l ≡ landing around.space to dir name)
 
   abbrev Sees : SeenPlace → Type 0
   Sees (Fails e) = Unit {0}
@@ -113,7 +113,7 @@ module _ (around : Surroundings) (base : Place ℕ) (stand : StandsAround around
   either_way true x y p q = p
   either_way false x y p q = q
 
-  sees_link : (p : Place ℕ) (at : ProcAt) (lead : Lead ℕ) → around.leads at ≡ lead → Good p → Sees (seen_link around p lead)
+  sees_link : (p : Place ℕ) (at : ProcAt) (lead : Lead ℕ) → around.leads at ≡ lead → Good p → Sees (seen_link around.space p lead)
   sees_link p at (Text text) is good = good
   sees_link p at (Jump to dir name) is good = (good, (at, to, dir, name, is, refl))
   sees_link p at Nameless is good = good
@@ -128,71 +128,71 @@ module _ (around : Surroundings) (base : Place ℕ) (stand : StandsAround around
 
   sees_at : (p : Place ℕ) (host : Host) → Good p → Sees (seen_at around p host)
   sees_at p (Node i) good = sees_body p (body t i) good
-  sees_at p (Proc i at) good = either_way (is_process_directory at) (shows_directory p) (seen_link around p (around.leads at)) (good, good) (sees_link p at (around.leads at) refl good)
+  sees_at p (Proc i at) good = either_way (is_process_directory at) (shows_directory p) (seen_link around.space p (around.leads at)) (good, good) (sees_link p at (around.leads at) refl good)
 
   sees_directory : (p : Place ℕ) → Good p → Sees (shows_directory p)
   sees_directory p good = (good, good)
 
   -- ---- `..`
 
-  sees_above_body : (mount i : ℕ) (dir : Option ℕ) → node_above t i ≡ dir → is_there (row around.table mount) ≡ true → Sees (above_body mount dir)
+  sees_above_body : (mount i : ℕ) (dir : Option ℕ) → node_above t i ≡ dir → is_there (row around.space.table mount) ≡ true → Sees (above_body mount dir)
   sees_above_body mount i None is mounted = tt
   sees_above_body mount i (Some dir) is mounted = sees_directory (node_in mount dir) (in_mount mount dir mounted (ap is_there (above_there t stand.sound i dir is).1))
 
-  sees_above_node : (mount i : ℕ) (point : Option (Place ℕ)) → up around.table mount i ≡ point → is_there (row around.table mount) ≡ true → Sees (above_node around mount i point)
+  sees_above_node : (mount i : ℕ) (point : Option (Place ℕ)) → up around.space.table mount i ≡ point → is_there (row around.space.table mount) ≡ true → Sees (above_node around.space mount i point)
   sees_above_node mount i None is mounted = sees_above_body mount i (node_above t i) refl mounted
   sees_above_node mount i (Some q) is mounted = sees_directory q (point_there mount i q is)
 
-  sees_above_process : (mount i : ℕ) (at : ProcAt) → is_there (row around.table mount) ≡ true → body_is is_processes t i ≡ true → Sees (above_process around mount i at)
+  sees_above_process : (mount i : ℕ) (at : ProcAt) → is_there (row around.space.table mount) ≡ true → body_is is_processes t i ≡ true → Sees (above_process around.space mount i at)
   sees_above_process mount i SelfLink mounted processes = tt
   sees_above_process mount i (Dir pid) mounted processes =
-      either_way (is_shown around pid) (shows_directory (node_in mount i)) (Fails ENOENT) (sees_directory (node_in mount i) (in_mount mount i mounted (tested_there is_processes t i processes))) tt
+      either_way (is_shown around.space pid) (shows_directory (node_in mount i)) (Fails ENOENT) (sees_directory (node_in mount i) (in_mount mount i mounted (tested_there is_processes t i processes))) tt
   sees_above_process mount i (Cwd pid) mounted processes = tt
   sees_above_process mount i (Root pid) mounted processes = tt
   sees_above_process mount i (Exe pid) mounted processes = tt
   sees_above_process mount i (FdDir pid) mounted processes =
-      either_way (is_shown around pid) (shows_directory (record { mount = mount; host = Proc i (Dir pid) })) (Fails ENOENT)
+      either_way (is_shown around.space pid) (shows_directory (record { mount = mount; host = Proc i (Dir pid) })) (Fails ENOENT)
       (sees_directory (record { mount = mount; host = Proc i (Dir pid) }) (record { mounted = mounted; object = processes })) tt
   sees_above_process mount i (Fd pid fd) mounted processes = tt
 
-  sees_above_host : (mount : ℕ) (host : Host) → is_there (row around.table mount) ≡ true → IsObjectOf t host → Sees (above_host around mount host)
-  sees_above_host mount (Node i) mounted object = sees_above_node mount i (up around.table mount i) refl mounted
+  sees_above_host : (mount : ℕ) (host : Host) → is_there (row around.space.table mount) ≡ true → IsObjectOf t host → Sees (above_host around.space mount host)
+  sees_above_host mount (Node i) mounted object = sees_above_node mount i (up around.space.table mount i) refl mounted
   sees_above_host mount (Proc i at) mounted object = sees_above_process mount i at mounted object
 
   -- ---- a name
 
-  sees_in_processes : (mount i : ℕ) (found : Option ProcAt) → is_there (row around.table mount) ≡ true → body_is is_processes t i ≡ true → Sees (seen_in_processes around mount i found)
+  sees_in_processes : (mount i : ℕ) (found : Option ProcAt) → is_there (row around.space.table mount) ≡ true → body_is is_processes t i ≡ true → Sees (seen_in_processes around mount i found)
   sees_in_processes mount i None mounted processes = tt
   sees_in_processes mount i (Some at) mounted processes = sees_at (record { mount = mount; host = Proc i at }) (Proc i at) (record { mounted = mounted; object = processes })
 
-  sees_entry : (mount dir : ℕ) (name : List ℕ) (found : Option ℕ) → entry t dir name ≡ found → is_there (row around.table mount) ≡ true → Sees (seen_entry around mount found)
+  sees_entry : (mount dir : ℕ) (name : List ℕ) (found : Option ℕ) → entry t dir name ≡ found → is_there (row around.space.table mount) ≡ true → Sees (seen_entry around mount found)
   sees_entry mount dir name None is mounted = tt
   sees_entry mount dir name (Some i) is mounted = sees_at (node_in mount i) (Node i) (in_mount mount i mounted (entry_there dir i name is))
 
-  sees_in_node : (mount i : ℕ) (name : List ℕ) → is_there (row around.table mount) ≡ true → Sees (in_node around mount i name)
+  sees_in_node : (mount i : ℕ) (name : List ℕ) → is_there (row around.space.table mount) ≡ true → Sees (in_node around mount i name)
   sees_in_node mount i name mounted = at (body_is is_processes t i) refl
     where
-      at : (b : Bool) → body_is is_processes t i ≡ b → Sees (if b then seen_in_processes around mount i (around.finds None name) else seen_entry around mount (entry t i name))
-      at true is = sees_in_processes mount i (around.finds None name) mounted is
+      at : (b : Bool) → body_is is_processes t i ≡ b → Sees (if b then seen_in_processes around mount i (around.space.finds None name) else seen_entry around mount (entry t i name))
+      at true is = sees_in_processes mount i (around.space.finds None name) mounted is
       at false is = sees_entry mount i name (entry t i name) refl mounted
 
-  sees_through : (mount i : ℕ) (name : List ℕ) (source : Option (Place ℕ)) → down around.table mount i name ≡ source → is_there (row around.table mount) ≡ true → Sees (through_point around mount i name source)
+  sees_through : (mount i : ℕ) (name : List ℕ) (source : Option (Place ℕ)) → down around.space.table mount i name ≡ source → is_there (row around.space.table mount) ≡ true → Sees (through_point around mount i name source)
   sees_through mount i name None is mounted = sees_in_node mount i name mounted
-  sees_through mount i name (Some q) is mounted = sees_at q q.host (source_there q ((laws_of_places t around.table stand.mounts).down_stands mount i name q is))
+  sees_through mount i name (Some q) is mounted = sees_at q q.host (source_there q ((laws_of_places t around.space.table stand.mounts).down_stands mount i name q is))
 
-  sees_named_in : (mount : ℕ) (host : Host) (name : List ℕ) → is_there (row around.table mount) ≡ true → IsObjectOf t host → Sees (named_in around mount host name)
-  sees_named_in mount (Node i) name mounted object = sees_through mount i name (down around.table mount i name) refl mounted
-  sees_named_in mount (Proc i at) name mounted object = sees_in_processes mount i (around.finds (Some at) name) mounted object
+  sees_named_in : (mount : ℕ) (host : Host) (name : List ℕ) → is_there (row around.space.table mount) ≡ true → IsObjectOf t host → Sees (named_in around mount host name)
+  sees_named_in mount (Node i) name mounted object = sees_through mount i name (down around.space.table mount i name) refl mounted
+  sees_named_in mount (Proc i at) name mounted object = sees_in_processes mount i (around.space.finds (Some at) name) mounted object
 
   sees_inside : (p : Place ℕ) (c : Component) → Good p → Sees (inside around p c)
   sees_inside p Dot good = sees_directory p good
-  sees_inside p DotDot good = either_way (is_root_place around.table p) (shows_directory p) (above_host around p.mount p.host) (sees_directory p good) (sees_above_host p.mount p.host good.mounted good.object)
+  sees_inside p DotDot good = either_way (is_root_place around.space.table p) (shows_directory p) (above_host around.space p.mount p.host) (sees_directory p good) (sees_above_host p.mount p.host good.mounted good.object)
   sees_inside p (Name name) good = either_way (too_long name) (Fails ENAMETOOLONG) (named_in around p.mount p.host name) tt (sees_named_in p.mount p.host name good.mounted good.object)
 
   sees_look : (p : Place ℕ) (c : Component) → Good p → Sees (look_up around p c)
   sees_look p c good =
-      either_way (is_directory_at t p.host) (if may_search t around.user p.host then inside around p c else Fails EACCES) (Fails ENOTDIR)
-      (either_way (may_search t around.user p.host) (inside around p c) (Fails EACCES) (sees_inside p c good) tt) tt
+      either_way (is_directory_at t p.host) (if may_search t around.space.user p.host then inside around p c else Fails EACCES) (Fails ENOTDIR)
+      (either_way (may_search t around.space.user p.host) (inside around p c) (Fails EACCES) (sees_inside p c good) tt) tt
 
   -- ---- landings
 
@@ -200,7 +200,7 @@ module _ (around : Surroundings) (base : Place ℕ) (stand : StandsAround around
   abbrev lands_by : Place ℕ → ℕ → List ℕ → Bool → Landing (Place ℕ) (Place ℕ)
   lands_by to dir name b = if b then record { place = to; found = to; is_dir = true; dir = to; name = [] } else record { place = to; found = to; is_dir = false; dir = node_in to.mount dir; name = name }
 
-  landing_place : (to : Place ℕ) (dir : ℕ) (name : List ℕ) → ((landing around to dir name).place ≡ to) × ((landing around to dir name).found ≡ to)
+  landing_place : (to : Place ℕ) (dir : ℕ) (name : List ℕ) → ((landing around.space to dir name).place ≡ to) × ((landing around.space to dir name).found ≡ to)
   landing_place to dir name = elim (is_directory_at t to.host) as (λ b. ((lands_by to dir name b).place ≡ to) × ((lands_by to dir name b).found ≡ to)) [ true ↦ (refl, refl) | false ↦ (refl, refl) ]
 
   landed_at : (l : Landing (Place ℕ) (Place ℕ)) → LandsAt l → Good l.place × Good l.found
@@ -256,7 +256,7 @@ module _ (around : Surroundings) (base : Place ℕ) (stand : StandsAround around
 
     module _ (entries_stand : LeadToEntries t around.leads) where
       -- the directory that is remembered has the entry, and so it is there
-      remembered_there : (link : ProcAt) (to : Place ℕ) (dir : ℕ) (name : List ℕ) → around.leads link ≡ Jump to dir name → Good (landing around to dir name).dir
+      remembered_there : (link : ProcAt) (to : Place ℕ) (dir : ℕ) (name : List ℕ) → around.leads link ≡ Jump to dir name → Good (landing around.space to dir name).dir
       remembered_there link to dir name is = by (is_directory_at t to.host) refl
         where
           good : Good to
@@ -268,7 +268,7 @@ module _ (around : Surroundings) (base : Place ℕ) (stand : StandsAround around
               let e = map_some (λ (e : Entry). e.inode) (entry_named name (entries t dir)) entered.0 entered.2 in
               ap is_there (entries_there t dir e.0 (entry_in name (entries t dir) e.0 e.1).0).1
 
-          by : (b : Bool) → is_directory_at t to.host ≡ b → Good (landing around to dir name).dir
+          by : (b : Bool) → is_directory_at t to.host ≡ b → Good (landing around.space to dir name).dir
           by b e = let P : Bool → Type 0 = λ b. Good (lands_by to dir name b).dir in subst P (sym e) (at b e)
             where
               at : (b : Bool) → is_directory_at t to.host ≡ b → Good (lands_by to dir name b).dir

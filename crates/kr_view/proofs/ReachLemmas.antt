@@ -37,28 +37,28 @@ either false b h = absurd cc
 pub covers_look : (around : Surroundings) (l : LookedAt (Place ℕ)) (r : Reach) → Covers (look_reach around l r) r
 covers_look around l r =
     record {
-      longest = all_more (look_names around l.place (look_up around l.place l.component) (component_name around l.place l.component)) r.longest;
-      met_proc = λ h. either r.met_proc (meets_processes around l.place l.component) h;
+      longest = all_more (look_names around.space l.place (look_up around l.place l.component) (component_name around.space l.place l.component)) r.longest;
+      met_proc = λ h. either r.met_proc (meets_processes around.space l.place l.component) h;
     }
 
 covers_looks : (around : Surroundings) (looks : List (LookedAt (Place ℕ))) (r : Reach) → Covers (looks_reach around looks r) r
 covers_looks around [] r = covers_refl r
 covers_looks around (l ∷ looks) r = covers_trans _ (look_reach around l r) r (covers_looks around looks _) (covers_look around l r)
 
-pub covers_landing : (around : Surroundings) (l : Landing (Place ℕ) (Place ℕ)) (r : Reach) → Covers (reached_landing around l r) r
-covers_landing around l r = record { longest = raised_more (landing_name around l) r.longest; met_proc = λ h. h }
+pub covers_landing : (around : Surroundings) (l : Landing (Place ℕ) (Place ℕ)) (r : Reach) → Covers (reached_landing around.space l r) r
+covers_landing around l r = record { longest = raised_more (landing_name around.space l) r.longest; met_proc = λ h. h }
 
-covers_landings : (around : Surroundings) (landings : List (Landing (Place ℕ) (Place ℕ))) (r : Reach) → Covers (landings_reach around landings r) r
+covers_landings : (around : Surroundings) (landings : List (Landing (Place ℕ) (Place ℕ))) (r : Reach) → Covers (landings_reach around.space landings r) r
 covers_landings around [] r = covers_refl r
-covers_landings around (l ∷ landings) r = covers_trans _ (reached_landing around l r) r (covers_landings around landings _) (covers_landing around l r)
+covers_landings around (l ∷ landings) r = covers_trans _ (reached_landing around.space l r) r (covers_landings around landings _) (covers_landing around l r)
 
-covers_end : (around : Surroundings) (answer : Result PlaceTarget Errno) (r : Reach) → Covers (end_reach around answer r) r
-covers_end around answer r = record { longest = all_more (end_names around answer) r.longest; met_proc = λ h. h }
+covers_end : (around : Surroundings) (answer : Result PlaceTarget Errno) (r : Reach) → Covers (end_reach around.space answer r) r
+covers_end around answer r = record { longest = all_more (end_names around.space answer) r.longest; met_proc = λ h. h }
 
 pub covers_after : (around : Surroundings) (trail : PlaceTrail) (r : Reach) → Covers (reach_after around trail r) r
 covers_after around trail r =
     let looked = looks_reach around trail.looks r in
-    let led = landings_reach around trail.landings looked in
+    let led = landings_reach around.space trail.landings looked in
     covers_trans _ led r (covers_end around trail.answer led) (covers_trans led looked r (covers_landings around trail.landings looked) (covers_looks around trail.looks r))
 
 -- ---- what is reached, in whatever order
@@ -73,20 +73,20 @@ all_swap [] a n = refl
 all_swap (name ∷ names) a n = ap (raised_by_all names) (raised_swap name a n) ∙ all_swap names a (raised name n)
 
 looks_swap : (around : Surroundings) (looks : List (LookedAt (Place ℕ))) (landing : Landing (Place ℕ) (Place ℕ)) (r : Reach)
-    → looks_reach around looks (reached_landing around landing r) ≡ reached_landing around landing (looks_reach around looks r)
+    → looks_reach around looks (reached_landing around.space landing r) ≡ reached_landing around.space landing (looks_reach around looks r)
 looks_swap around [] landing r = refl
 looks_swap around (l ∷ looks) landing r =
-    let names = look_names around l.place (look_up around l.place l.component) (component_name around l.place l.component) in
-    let met : Bool = r.met_proc || meets_processes around l.place l.component in
-    let same : look_reach around l (reached_landing around landing r) ≡ reached_landing around landing (look_reach around l r) =
-    ap (λ n. record { longest = n; met_proc = met }) (all_swap names (landing_name around landing) r.longest) in
+    let names = look_names around.space l.place (look_up around l.place l.component) (component_name around.space l.place l.component) in
+    let met : Bool = r.met_proc || meets_processes around.space l.place l.component in
+    let same : look_reach around l (reached_landing around.space landing r) ≡ reached_landing around.space landing (look_reach around l r) =
+    ap (λ n. record { longest = n; met_proc = met }) (all_swap names (landing_name around.space landing) r.longest) in
     ap (looks_reach around looks) same ∙ looks_swap around looks landing (look_reach around l r)
 
 -- a walk behind a process link reaches where that leads, and then what is left
 pub behind_jump : (around : Surroundings) (landing : Landing (Place ℕ) (Place ℕ)) (trail : PlaceTrail) (r : Reach)
-    → reach_after around (after_jump landing trail) r ≡ reach_after around trail (reached_landing around landing r)
+    → reach_after around (after_jump landing trail) r ≡ reach_after around trail (reached_landing around.space landing r)
 behind_jump around landing trail r =
-    ap (λ q. end_reach around trail.answer (landings_reach around trail.landings q)) (sym (looks_swap around trail.looks landing r))
+    ap (λ q. end_reach around.space trail.answer (landings_reach around.space trail.landings q)) (sym (looks_swap around trail.looks landing r))
 
 -- a trail behind a look-up reaches what the look reaches, and then what is left
 pub behind_look : (around : Surroundings) (l : LookedAt (Place ℕ)) (trail : PlaceTrail) (r : Reach)
@@ -94,13 +94,13 @@ pub behind_look : (around : Surroundings) (l : LookedAt (Place ℕ)) (trail : Pl
 behind_look around l trail r = refl
 
 -- what was noted before memory was wanting
-pub noted_part : (around : Surroundings) (p : Place ℕ) (c : Component) (r m : Reach) → m.longest ≡ raised (directory_name around p.host) r.longest
-    → m.met_proc ≡ (r.met_proc || meets_processes around p c) → Covers m r × Covers (noted around p c r) m
+pub noted_part : (around : Surroundings) (p : Place ℕ) (c : Component) (r m : Reach) → m.longest ≡ raised (directory_name around.space p.host) r.longest
+    → m.met_proc ≡ (r.met_proc || meets_processes around.space p c) → Covers m r × Covers (noted around p c r) m
 noted_part around p c r m long met = (
-  record { longest = let more = raised_more (directory_name around p.host) r.longest in omega arith; met_proc = λ h. met ∙ either r.met_proc (meets_processes around p c) h },
+  record { longest = let more = raised_more (directory_name around.space p.host) r.longest in omega arith; met_proc = λ h. met ∙ either r.met_proc (meets_processes around.space p c) h },
   record {
     longest =
-        let more = raised_more (seen_name (component_name around p c) (look_up around p c)) (raised (directory_name around p.host) r.longest) in
+        let more = raised_more (seen_name (component_name around.space p c) (look_up around p c)) (raised (directory_name around.space p.host) r.longest) in
         rw long more;
     met_proc = λ h. sym met ∙ h;
   },

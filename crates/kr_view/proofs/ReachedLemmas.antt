@@ -24,9 +24,9 @@ there_and_firm t i h = by (inode t i) h
     by None h = absurd cc
     by (Some x) h = let firm : is_link x.node.body ≡ false = cc in (refl, firm)
 
-pub reached_is_found : (around : Surroundings) (mode : WalkMode) (base : Place ℕ) (text : List (List ℕ)) (i : ℕ) → around.table ≡ plain → AreNames text → reached around.tree around.user text ≡ Some i
-    → option_map is_link (body around.tree i) ≡ Some false → (t : PlaceTarget) × ((place_walk around mode base (text_of text)).answer ≡ Ok t) × (t.found ≡ Some (node_in 0 i))
+pub reached_is_found : (around : Surroundings) (mode : WalkMode) (base : Place ℕ) (text : List (List ℕ)) (i : ℕ) → around.space.table ≡ plain → AreNames text → reached around.space.tree around.space.user text ≡ Some i
+    → option_map is_link (body around.space.tree i) ≡ Some false → (t : PlaceTarget) × ((place_walk around mode base (text_of text)).answer ≡ Ok t) × (t.found ≡ Some (node_in 0 i))
 reached_is_found around mode base text i is_plain are h no_link =
-    let is = there_and_firm around.tree i no_link in
-    let r : IsReachedBy around text (Node i) = record { over_plain = is_plain; names = are; way = inode_reached around.tree around.user around.finds text i h; there = is.0 } in
+    let is = there_and_firm around.space.tree i no_link in
+    let r : IsReachedBy around text (Node i) = record { over_plain = is_plain; names = are; way = inode_reached around.space.tree around.space.user around.space.finds text i h; there = is.0 } in
     text_found around mode base text (Node i) false r (λ followed. is.1) (λ wanted. let no : false ≡ true = sym (unasked mode) ∙ wanted in absurd cc)

@@ -33,7 +33,7 @@ module _ {M : Type 0} (number : M → ℕ) (around : Surroundings) (mode : WalkM
 
   -- the place where it began
   pub ends_at_beginning : (new : Reach) (target : Told M) → stack_of walk.rests ≡ [] → told (here_target stands walk.slash) ≡ target_numbered number target
-      → new ≡ end_reach around (Ok (here_target stands walk.slash)) old → HasOutcome number around mode trail.answer (reach_after around trail old) old new (Ok (Ends target))
+      → new ≡ end_reach around.space (Ok (here_target stands walk.slash)) old → HasOutcome number around mode trail.answer (reach_after around trail old) old new (Ok (Ends target))
   ends_at_beginning new target none same reached =
       let at = ap (λ cs. walk_on_stack cs) none ∙ walk-none (looking around) mode walk.left stands walk.slash in
       ((here_target stands walk.slash, ap (λ t. t.answer) at, same), reached ∙ sym (ap (λ t. reach_after around t old) at))

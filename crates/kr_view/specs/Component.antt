@@ -22,13 +22,17 @@ use Rattle.kr_view.specs.View.{Row, down, up, node_in, is_root_place, is_there}
 abbrev pub Finds : Type 0
 Finds = Option ProcAt → List ℕ → Option ProcAt
 
--- what a walk goes through: the mounts, the tree, the user, and what the process directory shows to the
--- caller, by the place in it where a name is looked up and by the link that is followed
-pub record Surroundings : Type 0 where
+-- what places and texts stand by: the mounts, the tree, the user, and what the process directory shows to the
+-- caller by names
+pub record Namespace : Type 0 where
   pub table : List Row
   pub tree : Tree
   pub user : User
   pub finds : Finds
+
+-- what a walk goes through: beside these, where the links of the process directory lead
+pub record Surroundings : Type 0 where
+  pub space : Namespace
   pub leads : ProcAt → Lead ℕ
 
 abbrev pub SeenPlace : Type 0
@@ -71,21 +75,21 @@ seen_body p None = Missing
 
 -- where a process link leads: to a directory itself, and to a file with the directory and name that its
 -- object remembers, in the mount of the place
-abbrev pub landing : Surroundings → Place ℕ → ℕ → List ℕ → Landing (Place ℕ) (Place ℕ)
-landing around p dir name =
-    if is_directory_at around.tree p.host then record { place = p; found = p; is_dir = true; dir = p; name = [] }
+abbrev pub landing : Namespace → Place ℕ → ℕ → List ℕ → Landing (Place ℕ) (Place ℕ)
+landing space p dir name =
+    if is_directory_at space.tree p.host then record { place = p; found = p; is_dir = true; dir = p; name = [] }
     else record { place = p; found = p; is_dir = false; dir = node_in p.mount dir; name = name }
 
-abbrev pub seen_link : Surroundings → Place ℕ → Lead ℕ → SeenPlace
-seen_link around p (Text text) = Links p text
-seen_link around p (Jump to dir name) = Jumps p (Some (landing around to dir name))
-seen_link around p Nameless = Jumps p None
-seen_link around p NoLink = Jumps p None
+abbrev pub seen_link : Namespace → Place ℕ → Lead ℕ → SeenPlace
+seen_link space p (Text text) = Links p text
+seen_link space p (Jump to dir name) = Jumps p (Some (landing space to dir name))
+seen_link space p Nameless = Jumps p None
+seen_link space p NoLink = Jumps p None
 
 abbrev pub seen_at : Surroundings → Place ℕ → Host → SeenPlace
-seen_at around p (Node i) = seen_body p (body around.tree i)
+seen_at around p (Node i) = seen_body p (body around.space.tree i)
 seen_at around p (Proc i at) =
-    if is_process_directory at then shows_directory p else seen_link around p (around.leads at)
+    if is_process_directory at then shows_directory p else seen_link around.space p (around.leads at)
 
 -- ---- `..`
 
@@ -95,33 +99,33 @@ above_body mount None = Fails ENOENT
 
 -- above the source of a mount stands the directory of its mount point; above another directory the one
 -- in which it is an entry, and above a removed one nothing
-abbrev pub above_node : Surroundings → ℕ → ℕ → Option (Place ℕ) → SeenPlace
-above_node around mount i (Some p) = shows_directory p
-above_node around mount i None = above_body mount (node_above around.tree i)
+abbrev pub above_node : Namespace → ℕ → ℕ → Option (Place ℕ) → SeenPlace
+above_node space mount i (Some p) = shows_directory p
+above_node space mount i None = above_body mount (node_above space.tree i)
 
 -- whether a process is still shown; the directories of one that ended were removed
-abbrev pub is_shown : Surroundings → ℕ → Bool
-is_shown around pid = is_there (around.finds (Some (Dir pid)) (codes "cwd"))
+abbrev pub is_shown : Namespace → ℕ → Bool
+is_shown space pid = is_there (space.finds (Some (Dir pid)) (codes "cwd"))
 
-abbrev pub above_process : Surroundings → ℕ → ℕ → ProcAt → SeenPlace
-above_process around mount i (Dir pid) =
-    if is_shown around pid then shows_directory (node_in mount i) else Fails ENOENT
-above_process around mount i (FdDir pid) =
-    if is_shown around pid then shows_directory (record { mount = mount; host = Proc i (Dir pid) }) else Fails ENOENT
+abbrev pub above_process : Namespace → ℕ → ℕ → ProcAt → SeenPlace
+above_process space mount i (Dir pid) =
+    if is_shown space pid then shows_directory (node_in mount i) else Fails ENOENT
+above_process space mount i (FdDir pid) =
+    if is_shown space pid then shows_directory (record { mount = mount; host = Proc i (Dir pid) }) else Fails ENOENT
 -- from the links nothing is looked at, since they are no directories
-above_process around mount i SelfLink = Fails ENOTDIR
-above_process around mount i (Cwd pid) = Fails ENOTDIR
-above_process around mount i (Root pid) = Fails ENOTDIR
-above_process around mount i (Exe pid) = Fails ENOTDIR
-above_process around mount i (Fd pid fd) = Fails ENOTDIR
+above_process space mount i SelfLink = Fails ENOTDIR
+above_process space mount i (Cwd pid) = Fails ENOTDIR
+above_process space mount i (Root pid) = Fails ENOTDIR
+above_process space mount i (Exe pid) = Fails ENOTDIR
+above_process space mount i (Fd pid fd) = Fails ENOTDIR
 
-abbrev pub above_host : Surroundings → ℕ → Host → SeenPlace
-above_host around mount (Node i) = above_node around mount i (up around.table mount i)
-above_host around mount (Proc i at) = above_process around mount i at
+abbrev pub above_host : Namespace → ℕ → Host → SeenPlace
+above_host space mount (Node i) = above_node space mount i (up space.table mount i)
+above_host space mount (Proc i at) = above_process space mount i at
 
 -- `..` at the root place stays there
-abbrev pub above : Surroundings → Place ℕ → SeenPlace
-above around p = if is_root_place around.table p then shows_directory p else above_host around p.mount p.host
+abbrev pub above : Namespace → Place ℕ → SeenPlace
+above space p = if is_root_place space.table p then shows_directory p else above_host space p.mount p.host
 
 -- ---- a name
 
@@ -142,8 +146,8 @@ is_processes (ProcessDirectory standing) = true
 
 abbrev pub in_node : Surroundings → ℕ → ℕ → List ℕ → SeenPlace
 in_node around mount i name =
-    if body_is is_processes around.tree i then seen_in_processes around mount i (around.finds None name)
-    else seen_entry around mount (entry around.tree i name)
+    if body_is is_processes around.space.tree i then seen_in_processes around mount i (around.space.finds None name)
+    else seen_entry around mount (entry around.space.tree i name)
 
 -- a name at which a mount stands enters its source
 abbrev pub through_point : Surroundings → ℕ → ℕ → List ℕ → Option (Place ℕ) → SeenPlace
@@ -151,8 +155,8 @@ through_point around mount i name (Some p) = seen_at around p p.host
 through_point around mount i name None = in_node around mount i name
 
 abbrev pub named_in : Surroundings → ℕ → Host → List ℕ → SeenPlace
-named_in around mount (Node i) name = through_point around mount i name (down around.table mount i name)
-named_in around mount (Proc i at) name = seen_in_processes around mount i (around.finds (Some at) name)
+named_in around mount (Node i) name = through_point around mount i name (down around.space.table mount i name)
+named_in around mount (Proc i at) name = seen_in_processes around mount i (around.space.finds (Some at) name)
 
 abbrev pub too_long : List ℕ → Bool
 too_long name = nat_lt 255 (length name)
@@ -165,19 +169,19 @@ named around p name = if too_long name then Fails ENAMETOOLONG else named_in aro
 -- in a directory that may be searched
 abbrev pub inside : Surroundings → Place ℕ → Component → SeenPlace
 inside around p Dot = shows_directory p
-inside around p DotDot = above around p
+inside around p DotDot = above around.space p
 inside around p (Name name) = named around p name
 
 abbrev pub look_up : Surroundings → Place ℕ → Component → SeenPlace
 look_up around p c =
-    if is_directory_at around.tree p.host then (if may_search around.tree around.user p.host then inside around p c else Fails EACCES)
+    if is_directory_at around.space.tree p.host then (if may_search around.space.tree around.space.user p.host then inside around p c else Fails EACCES)
     else Fails ENOTDIR
 
 -- ---- what a look-up touches
 
-abbrev pub in_processes : Surroundings → Host → Bool
-in_processes around (Node i) = body_is is_processes around.tree i
-in_processes around (Proc i at) = true
+abbrev pub in_processes : Namespace → Host → Bool
+in_processes space (Node i) = body_is is_processes space.tree i
+in_processes space (Proc i at) = true
 
 -- whether a component is looked up among entries: a name that isn't too long
 abbrev pub is_looked_up : Component → Bool
@@ -186,7 +190,7 @@ is_looked_up DotDot = false
 is_looked_up (Name name) = if too_long name then false else true
 
 -- whether a look-up comes to look up a name in the process directory or below it
-abbrev pub meets_processes : Surroundings → Place ℕ → Component → Bool
-meets_processes around p c =
-    if is_directory_at around.tree p.host then (if may_search around.tree around.user p.host then (if is_looked_up c then in_processes around p.host else false) else false)
+abbrev pub meets_processes : Namespace → Place ℕ → Component → Bool
+meets_processes space p c =
+    if is_directory_at space.tree p.host then (if may_search space.tree space.user p.host then (if is_looked_up c then in_processes space p.host else false) else false)
     else false

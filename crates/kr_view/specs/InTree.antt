@@ -51,18 +51,18 @@ pub record NoProcessesKeepLaws : Type 0 where
 
 -- all that a walk goes through stands, and so does the place where it begins
 pub record StandsAround (around : Surroundings) (p : Place ℕ) : Type 0 where
-  pub sound : IsSound around.tree
-  pub inodes : HasItsInodes around.tree
-  pub mounts : StandsIn around.tree around.table
-  pub leads : LeadToPlaces around.tree around.table around.leads
-  pub begins : IsPlaceOf around.tree around.table p
+  pub sound : IsSound around.space.tree
+  pub inodes : HasItsInodes around.space.tree
+  pub mounts : StandsIn around.space.tree around.space.table
+  pub leads : LeadToPlaces around.space.tree around.space.table around.leads
+  pub begins : IsPlaceOf around.space.tree around.space.table p
 
 -- then a walk comes to places of the view in the tree alone
 pub record WalksKeepPlaces : Type 0 where
   pub found : (around : Surroundings) (mode : WalkMode) (base : Place ℕ) (path : List ℕ) (t : PlaceTarget) (p : Place ℕ) → StandsAround around base → (place_walk around mode base path).answer ≡ Ok t → t.found ≡ Some p
-      → IsPlaceOf around.tree around.table p
+      → IsPlaceOf around.space.tree around.space.table p
   pub directory : (around : Surroundings) (mode : WalkMode) (base : Place ℕ) (path : List ℕ) (t : PlaceTarget) → StandsAround around base → (place_walk around mode base path).answer ≡ Ok t → t.jumped ≡ false
-      → IsPlaceOf around.tree around.table t.dir
+      → IsPlaceOf around.space.tree around.space.table t.dir
   -- the directory that a file remembers, to which a link of the process directory led
-  pub remembered : (around : Surroundings) (mode : WalkMode) (base : Place ℕ) (path : List ℕ) (t : PlaceTarget) → StandsAround around base → LeadToEntries around.tree around.leads → (place_walk around mode base path).answer ≡ Ok t
-      → IsPlaceOf around.tree around.table t.dir
+  pub remembered : (around : Surroundings) (mode : WalkMode) (base : Place ℕ) (path : List ℕ) (t : PlaceTarget) → StandsAround around base → LeadToEntries around.space.tree around.leads → (place_walk around mode base path).answer ≡ Ok t
+      → IsPlaceOf around.space.tree around.space.table t.dir

@@ -62,23 +62,23 @@ pub record FoundIsShown : Type 0 where
   pub shown : (around : Surroundings) (mode : WalkMode) (base : Place ℕ) (path : List ℕ) (t : PlaceTarget) → (place_walk around mode base path).answer ≡ Ok t → t.jumped ≡ false → t.last ≢ last.Root
       → IsShown (looking around) t
   pub in_directory : (around : Surroundings) (mode : WalkMode) (base : Place ℕ) (path : List ℕ) (t : PlaceTarget) → (place_walk around mode base path).answer ≡ Ok t → t.jumped ≡ false → t.last ≢ last.Root
-      → is_directory_at around.tree t.dir.host ≡ true
+      → is_directory_at around.space.tree t.dir.host ≡ true
 
 -- where walks end is a directory. What a process link led to is apart, since it isn't looked at again
 pub record WalksEndInDirectories : Type 0 where
   -- the directory of a target is one: where its last component was looked up, and where no component was
   -- left, the root place or the directory of the link whose text has none
-  pub directory : (around : Surroundings) (mode : WalkMode) (base : Place ℕ) (path : List ℕ) (t : PlaceTarget) → StandsIn around.tree around.table → path ≢ [] → (place_walk around mode base path).answer ≡ Ok t → t.jumped ≡ false
-      → is_directory_at around.tree t.dir.host ≡ true
+  pub directory : (around : Surroundings) (mode : WalkMode) (base : Place ℕ) (path : List ℕ) (t : PlaceTarget) → StandsIn around.space.tree around.space.table → path ≢ [] → (place_walk around mode base path).answer ≡ Ok t → t.jumped ≡ false
+      → is_directory_at around.space.tree t.dir.host ≡ true
   -- where no component was left, the directory itself is found
   pub itself : (around : Surroundings) (mode : WalkMode) (base : Place ℕ) (path : List ℕ) (t : PlaceTarget) → (place_walk around mode base path).answer ≡ Ok t → t.last ≡ last.Root → t.found ≡ Some t.dir
   -- the table must stand, since slashes alone end at the root place, whatever stands there
-  pub slashes : (around : Surroundings) (mode : WalkMode) (base : Place ℕ) (path : List ℕ) → path ≢ [] → components_of path ≡ [] → place_walk around mode base path ≡ ends_here (looking around) (root_place around.table) false
+  pub slashes : (around : Surroundings) (mode : WalkMode) (base : Place ℕ) (path : List ℕ) → path ≢ [] → components_of path ≡ [] → place_walk around mode base path ≡ ends_here (looking around) (root_place around.space.table) false
   -- the path mustn't be empty, since the empty one ends at its base, whatever stands there
   pub empty : (around : Surroundings) (mode : WalkMode) (base : Place ℕ) → place_walk around mode base [] ≡ ends_here (looking around) base false
   -- a directory to which a process link led is its own; of a file the link tells the directory
   pub jumped : (around : Surroundings) (mode : WalkMode) (base : Place ℕ) (path : List ℕ) (t : PlaceTarget) → (place_walk around mode base path).answer ≡ Ok t → t.jumped ≡ true
-      → (p : Place ℕ) × (t.found ≡ Some p) × (is_directory_at around.tree p.host ≡ true → t.dir ≡ p)
+      → (p : Place ℕ) × (t.found ≡ Some p) × (is_directory_at around.space.tree p.host ≡ true → t.dir ≡ p)
 
 -- whether a body is a link
 abbrev pub is_link : Body → Bool
@@ -90,13 +90,13 @@ is_link (ProcessDirectory standing) = false
 -- over the host's own view a walk along a text arrives at the inode that the text reaches with search on
 -- the way, where that is there and no link
 abbrev pub ReachedIsFound : Type 0
-ReachedIsFound = (around : Surroundings) (mode : WalkMode) (base : Place ℕ) (text : List (List ℕ)) (i : ℕ) → around.table ≡ plain → AreNames text → reached around.tree around.user text ≡ Some i
-    → option_map is_link (body around.tree i) ≡ Some false → (t : PlaceTarget) × ((place_walk around mode base (text_of text)).answer ≡ Ok t) × (t.found ≡ Some (node_in 0 i))
+ReachedIsFound = (around : Surroundings) (mode : WalkMode) (base : Place ℕ) (text : List (List ℕ)) (i : ℕ) → around.space.table ≡ plain → AreNames text → reached around.space.tree around.space.user text ≡ Some i
+    → option_map is_link (body around.space.tree i) ≡ Some false → (t : PlaceTarget) × ((place_walk around mode base (text_of text)).answer ≡ Ok t) × (t.found ≡ Some (node_in 0 i))
 
 -- the same surroundings with another tree
 abbrev pub with_tree : Tree → Surroundings → Surroundings
-with_tree t around = record { table = around.table; tree = t; user = around.user; finds = around.finds; leads = around.leads }
+with_tree t around = record { space = record { table = around.space.table; tree = t; user = around.space.user; finds = around.space.finds }; leads = around.leads }
 
 -- a walk reads of a tree the nodes of numbers alone, and so no holds and no counts
 abbrev pub WalksReadNodes : Type 0
-WalksReadNodes = (around : Surroundings) (t : Tree) → ((i : ℕ) → node around.tree i ≡ node t i) → (mode : WalkMode) (base : Place ℕ) (path : List ℕ) → place_walk around mode base path ≡ place_walk (with_tree t around) mode base path
+WalksReadNodes = (around : Surroundings) (t : Tree) → ((i : ℕ) → node around.space.tree i ≡ node t i) → (mode : WalkMode) (base : Place ℕ) (path : List ℕ) → place_walk around mode base path ≡ place_walk (with_tree t around) mode base path

@@ -16,7 +16,7 @@ use Rattle.kr_tree.specs.declared.place.ProcAt.TheVariants.{SelfLink, Dir, Cwd, 
 use Rattle.kr_tree.specs.Tree.{Tree, body_is, is_directory}
 use Rattle.kr_tree.specs.Names.{host_name, process_names}
 use Rattle.kr_view.specs.View.{Row, row, is_point, stands_at, source_entry}
-use Rattle.kr_view.specs.Component.{Surroundings, SeenPlace, is_process_directory, is_directory_at, is_shown, is_processes, above}
+use Rattle.kr_view.specs.Component.{Namespace, SeenPlace, is_process_directory, is_directory_at, is_shown, is_processes, above}
 
 -- ---- host names
 
@@ -25,79 +25,79 @@ abbrev pub process_name : ProcAt → Option Text → Option Text
 process_name at top = option_map (λ names. process_names at ++ names) top
 
 -- a directory of a process that ended was removed
-abbrev pub shown_process_name : Surroundings → ℕ → ProcAt → Option Text → Option Text
-shown_process_name around pid at top = if is_shown around pid then process_name at top else None
+abbrev pub shown_process_name : Namespace → ℕ → ProcAt → Option Text → Option Text
+shown_process_name space pid at top = if is_shown space pid then process_name at top else None
 
 -- an object of the process directory
-abbrev pub process_object_name : Surroundings → ProcAt → Option Text → Option Text
-process_object_name around SelfLink top = process_name SelfLink top
-process_object_name around (Dir pid) top = shown_process_name around pid (Dir pid) top
-process_object_name around (Cwd pid) top = process_name (Cwd pid) top
-process_object_name around (Root pid) top = process_name (Root pid) top
-process_object_name around (Exe pid) top = process_name (Exe pid) top
-process_object_name around (FdDir pid) top = shown_process_name around pid (FdDir pid) top
-process_object_name around (Fd pid fd) top = process_name (Fd pid fd) top
+abbrev pub process_object_name : Namespace → ProcAt → Option Text → Option Text
+process_object_name space SelfLink top = process_name SelfLink top
+process_object_name space (Dir pid) top = shown_process_name space pid (Dir pid) top
+process_object_name space (Cwd pid) top = process_name (Cwd pid) top
+process_object_name space (Root pid) top = process_name (Root pid) top
+process_object_name space (Exe pid) top = process_name (Exe pid) top
+process_object_name space (FdDir pid) top = shown_process_name space pid (FdDir pid) top
+process_object_name space (Fd pid fd) top = process_name (Fd pid fd) top
 
 -- the host name of a directory, which an inode that is none hasn't, nor one that was removed; and of
 -- what stands in the process directory
-abbrev pub directory_name : Surroundings → Host → Option Text
-directory_name around (Node i) = host_name around.tree i
-directory_name around (Proc i at) = process_object_name around at (host_name around.tree i)
+abbrev pub directory_name : Namespace → Host → Option Text
+directory_name space (Node i) = host_name space.tree i
+directory_name space (Proc i at) = process_object_name space at (host_name space.tree i)
 
 -- ---- the host name of what a component shows
 
-abbrev pub source_entry_name : Surroundings → ℕ → Option (ℕ × List ℕ) → Option Text
-source_entry_name around source (Some e) = below e.1 (host_name around.tree e.0)
-source_entry_name around source None = host_name around.tree source
+abbrev pub source_entry_name : Namespace → ℕ → Option (ℕ × List ℕ) → Option Text
+source_entry_name space source (Some e) = below e.1 (host_name space.tree e.0)
+source_entry_name space source None = host_name space.tree source
 
 -- the source of a mount: a directory by the tree, another as it was settled
-abbrev pub source_name : Surroundings → Row → Option Text
-source_name around r = source_entry_name around r.source (source_entry r)
+abbrev pub source_name : Namespace → Row → Option Text
+source_name space r = source_entry_name space r.source (source_entry r)
 
-abbrev pub found_process_name : Surroundings → ℕ → Option ProcAt → Option Text
-found_process_name around i (Some at) = process_object_name around at (host_name around.tree i)
-found_process_name around i None = None
+abbrev pub found_process_name : Namespace → ℕ → Option ProcAt → Option Text
+found_process_name space i (Some at) = process_object_name space at (host_name space.tree i)
+found_process_name space i None = None
 
 -- an entry
-abbrev pub node_entry_name : Surroundings → ℕ → List ℕ → Option Text
-node_entry_name around i name =
-    if body_is is_processes around.tree i then found_process_name around i (around.finds None name)
-    else below name (host_name around.tree i)
+abbrev pub node_entry_name : Namespace → ℕ → List ℕ → Option Text
+node_entry_name space i name =
+    if body_is is_processes space.tree i then found_process_name space i (space.finds None name)
+    else below name (host_name space.tree i)
 
-abbrev pub point_name : Surroundings → ℕ → List ℕ → Option Row → Option Text
-point_name around i name (Some r) = source_name around r
-point_name around i name None = node_entry_name around i name
+abbrev pub point_name : Namespace → ℕ → List ℕ → Option Row → Option Text
+point_name space i name (Some r) = source_name space r
+point_name space i name None = node_entry_name space i name
 
 -- the row whose mount stands at a name
 abbrev pub row_at : List Row → ℕ → ℕ → List ℕ → Option Row
 row_at table mount i name = option_and_then (row table) (position (stands_at (is_point mount i name)) table)
 
-abbrev pub named_name : Surroundings → ℕ → Host → List ℕ → Option Text
-named_name around mount (Node i) name = point_name around i name (row_at around.table mount i name)
-named_name around mount (Proc i at) name = found_process_name around i (around.finds (Some at) name)
+abbrev pub named_name : Namespace → ℕ → Host → List ℕ → Option Text
+named_name space mount (Node i) name = point_name space i name (row_at space.table mount i name)
+named_name space mount (Proc i at) name = found_process_name space i (space.finds (Some at) name)
 
 -- the name of the directory that a look-up led to
-abbrev pub led_to_name : Surroundings → SeenPlace → Option Text
-led_to_name around (Leads is_dir p found) = directory_name around p.host
-led_to_name around (Fails e) = None
-led_to_name around Missing = None
-led_to_name around (Links found text) = None
-led_to_name around (Jumps found lead) = None
+abbrev pub led_to_name : Namespace → SeenPlace → Option Text
+led_to_name space (Leads is_dir p found) = directory_name space p.host
+led_to_name space (Fails e) = None
+led_to_name space Missing = None
+led_to_name space (Links found text) = None
+led_to_name space (Jumps found lead) = None
 
-abbrev pub component_name : Surroundings → Place ℕ → Component → Option Text
-component_name around p Dot = directory_name around p.host
-component_name around p DotDot = led_to_name around (above around p)
-component_name around p (Name name) = named_name around p.mount p.host name
+abbrev pub component_name : Namespace → Place ℕ → Component → Option Text
+component_name space p Dot = directory_name space p.host
+component_name space p DotDot = led_to_name space (above space p)
+component_name space p (Name name) = named_name space p.mount p.host name
 
 -- a free name of a directory
-abbrev pub free_name : Surroundings → Host → List ℕ → Option Text
-free_name around dir name = below name (directory_name around dir)
+abbrev pub free_name : Namespace → Host → List ℕ → Option Text
+free_name space dir name = below name (directory_name space dir)
 
 -- what a process link leads to: a directory by the tree, a file as its object remembers it
-abbrev pub landing_name : Surroundings → Landing (Place ℕ) (Place ℕ) → Option Text
-landing_name around landing =
-    if landing.is_dir then directory_name around landing.found.host
-    else free_name around landing.dir.host landing.name
+abbrev pub landing_name : Namespace → Landing (Place ℕ) (Place ℕ) → Option Text
+landing_name space landing =
+    if landing.is_dir then directory_name space landing.found.host
+    else free_name space landing.dir.host landing.name
 
 -- ---- guest names
 
@@ -138,18 +138,18 @@ abbrev pub guest_node : Tree → Option Row → ℕ → Remembered → Option Te
 guest_node t r i remembered = if is_file_source r i then option_map (λ r. r.text.location) r else guest_below t r i remembered
 
 -- what stands in the process directory
-abbrev pub guest_process : Surroundings → Option Row → ℕ → ProcAt → Remembered → Option Text
-guest_process around r i at remembered =
-    if is_process_directory at then process_object_name around at (guest_directory around.tree r i) else guest_entry around.tree r remembered
+abbrev pub guest_process : Namespace → Option Row → ℕ → ProcAt → Remembered → Option Text
+guest_process space r i at remembered =
+    if is_process_directory at then process_object_name space at (guest_directory space.tree r i) else guest_entry space.tree r remembered
 
-abbrev pub guest_object : Surroundings → Option Row → Host → Remembered → Option Text
-guest_object around r (Node i) remembered = guest_node around.tree r i remembered
-guest_object around r (Proc i at) remembered = guest_process around r i at remembered
+abbrev pub guest_object : Namespace → Option Row → Host → Remembered → Option Text
+guest_object space r (Node i) remembered = guest_node space.tree r i remembered
+guest_object space r (Proc i at) remembered = guest_process space r i at remembered
 
 -- the guest name of a place, whose object remembers an entry where it is no directory
-abbrev pub guest_name : Surroundings → Place ℕ → Remembered → Option Text
-guest_name around p remembered = guest_object around (row around.table p.mount) p.host remembered
+abbrev pub guest_name : Namespace → Place ℕ → Remembered → Option Text
+guest_name space p remembered = guest_object space (row space.table p.mount) p.host remembered
 
 -- its host name
-abbrev pub object_name : Surroundings → Host → Remembered → Option Text
-object_name around host remembered = if is_directory_at around.tree host then directory_name around host else host_entry around.tree remembered
+abbrev pub object_name : Namespace → Host → Remembered → Option Text
+object_name space host remembered = if is_directory_at space.tree host then directory_name space host else host_entry space.tree remembered

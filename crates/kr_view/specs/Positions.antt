@@ -7,7 +7,7 @@ use Rattle.kr_tree.specs.declared.place.ProcAt.{ProcAt}
 use Rattle.kr_tree.specs.declared.place.ProcAt.TheVariants.{SelfLink, Dir, Cwd, Root, Exe, FdDir, Fd}
 use Rattle.kr_tree.specs.Tree.{Tree}
 use Rattle.kr_tree.specs.Names.{host_name}
-use Rattle.kr_view.specs.Component.{Surroundings, is_shown}
+use Rattle.kr_view.specs.Component.{Namespace, is_shown}
 use Rattle.kr_view.specs.Ways.{ino_of}
 
 -- the bytes below the root are those of the host name of an object's inode
@@ -15,11 +15,11 @@ abbrev pub IsNamed : Tree → Host → Option (List ℕ) → Type 0
 IsNamed t host name = name ≡ option_map below_root (host_name t (ino_of host))
 
 -- whether an object of the process directory is a directory of a process that ended
-abbrev pub is_gone : Surroundings → ProcAt → Bool
-is_gone around SelfLink = false
-is_gone around (Dir pid) = not (is_shown around pid)
-is_gone around (Cwd pid) = false
-is_gone around (Root pid) = false
-is_gone around (Exe pid) = false
-is_gone around (FdDir pid) = not (is_shown around pid)
-is_gone around (Fd pid fd) = false
+abbrev pub is_gone : Namespace → ProcAt → Bool
+is_gone space SelfLink = false
+is_gone space (Dir pid) = not (is_shown space pid)
+is_gone space (Cwd pid) = false
+is_gone space (Root pid) = false
+is_gone space (Exe pid) = false
+is_gone space (FdDir pid) = not (is_shown space pid)
+is_gone space (Fd pid fd) = false

@@ -10,7 +10,7 @@ use Rattle.pr_base.specs.declared.path.Last.TheVariants as last
 use Rattle.kr_tree.specs.declared.place.Host.{Host}
 use Rattle.kr_tree.specs.declared.place.Place.{Place}
 use Rattle.kr_view.specs.declared.target.Reach.{Reach}
-use Rattle.kr_view.specs.Component.{Surroundings, SeenPlace, look_up, meets_processes}
+use Rattle.kr_view.specs.Component.{Namespace, Surroundings, SeenPlace, look_up, meets_processes}
 use Rattle.kr_view.specs.Names.{Text, directory_name, component_name, free_name, landing_name}
 use Rattle.kr_view.specs.Walk.{PlaceTrail, PlaceTarget}
 
@@ -47,14 +47,14 @@ seen_name name (Links found text) = name
 seen_name name (Jumps found lead) = name
 
 -- the names that a look-up reaches: its place, and what it shows
-abbrev pub look_names : Surroundings → Place ℕ → SeenPlace → Option Text → List (Option Text)
-look_names around p seen name = directory_name around p.host ∷ seen_name name seen ∷ []
+abbrev pub look_names : Namespace → Place ℕ → SeenPlace → Option Text → List (Option Text)
+look_names space p seen name = directory_name space p.host ∷ seen_name name seen ∷ []
 
 -- what was reached after a look-up
 abbrev pub look_reach : Surroundings → LookedAt (Place ℕ) → Reach → Reach
 look_reach around l r = record {
-  longest = raised_by_all (look_names around l.place (look_up around l.place l.component) (component_name around l.place l.component)) r.longest;
-  met_proc = r.met_proc || meets_processes around l.place l.component;
+  longest = raised_by_all (look_names around.space l.place (look_up around l.place l.component) (component_name around.space l.place l.component)) r.longest;
+  met_proc = r.met_proc || meets_processes around.space l.place l.component;
 }
 
 abbrev pub looks_reach : Surroundings → List (LookedAt (Place ℕ)) → Reach → Reach
@@ -64,39 +64,39 @@ looks_reach around (l ∷ looks) r = looks_reach around looks (look_reach around
 -- ---- process links
 
 -- where a process link leads that is followed is reached
-abbrev pub reached_landing : Surroundings → Landing (Place ℕ) (Place ℕ) → Reach → Reach
-reached_landing around landing r = record { longest = raised (landing_name around landing) r.longest; met_proc = r.met_proc }
+abbrev pub reached_landing : Namespace → Landing (Place ℕ) (Place ℕ) → Reach → Reach
+reached_landing space landing r = record { longest = raised (landing_name space landing) r.longest; met_proc = r.met_proc }
 
-abbrev pub landings_reach : Surroundings → List (Landing (Place ℕ) (Place ℕ)) → Reach → Reach
-landings_reach around [] r = r
-landings_reach around (landing ∷ landings) r = landings_reach around landings (reached_landing around landing r)
+abbrev pub landings_reach : Namespace → List (Landing (Place ℕ) (Place ℕ)) → Reach → Reach
+landings_reach space [] r = r
+landings_reach space (landing ∷ landings) r = landings_reach space landings (reached_landing space landing r)
 
 -- ---- the end
 
-abbrev pub free_target_name : Surroundings → PlaceTarget → Option (Place ℕ) → Option Text
-free_target_name around target (Some p) = None
-free_target_name around target None = free_name around target.dir.host target.name
+abbrev pub free_target_name : Namespace → PlaceTarget → Option (Place ℕ) → Option Text
+free_target_name space target (Some p) = None
+free_target_name space target None = free_name space target.dir.host target.name
 
 -- where a path, or the text of a link, has no component, the place where it begins
-abbrev pub beginning_name : Surroundings → Host → Last → Option Text
-beginning_name around host last.Root = directory_name around host
-beginning_name around host last.Name = None
-beginning_name around host last.Dot = None
-beginning_name around host last.DotDot = None
+abbrev pub beginning_name : Namespace → Host → Last → Option Text
+beginning_name space host last.Root = directory_name space host
+beginning_name space host last.Name = None
+beginning_name space host last.Dot = None
+beginning_name space host last.DotDot = None
 
 -- the names at the end that no look-up reached
-abbrev pub end_names : Surroundings → Result PlaceTarget Errno → List (Option Text)
-end_names around (Ok target) = beginning_name around target.dir.host target.last ∷ free_target_name around target target.found ∷ []
-end_names around (Err e) = []
+abbrev pub end_names : Namespace → Result PlaceTarget Errno → List (Option Text)
+end_names space (Ok target) = beginning_name space target.dir.host target.last ∷ free_target_name space target target.found ∷ []
+end_names space (Err e) = []
 
-abbrev pub end_reach : Surroundings → Result PlaceTarget Errno → Reach → Reach
-end_reach around answer r = record { longest = raised_by_all (end_names around answer) r.longest; met_proc = r.met_proc }
+abbrev pub end_reach : Namespace → Result PlaceTarget Errno → Reach → Reach
+end_reach space answer r = record { longest = raised_by_all (end_names space answer) r.longest; met_proc = r.met_proc }
 
 -- ---- a trail
 
 -- what was reached after a walk
 abbrev pub reach_after : Surroundings → PlaceTrail → Reach → Reach
-reach_after around trail r = end_reach around trail.answer (landings_reach around trail.landings (looks_reach around trail.looks r))
+reach_after around trail r = end_reach around.space trail.answer (landings_reach around.space trail.landings (looks_reach around trail.looks r))
 
 -- one reach has all that another has
 pub record Covers (more less : Reach) : Type 0 where

@@ -62,14 +62,14 @@ ReachesAreSound = (t : Tree) (user : User) (finds : Finds) (leads : ProcAt → L
 
 -- what the user comes to by a host text, in a walk's surroundings
 abbrev pub reaches_in : Surroundings → Text → Option Host
-reaches_in around text = reaches around.tree around.user around.finds text
+reaches_in around text = reaches around.space.tree around.space.user around.space.finds text
 
 -- over the host's own view a text of well-formed names reaches an object of the tree
 pub record IsReachedBy (around : Surroundings) (text : Text) (x : Host) : Type 0 where
-  pub over_plain : around.table ≡ plain
+  pub over_plain : around.space.table ≡ plain
   pub names : AreNames text
   pub way : reaches_in around text ≡ Some x
-  pub there : IsObjectOf around.tree x
+  pub there : IsObjectOf around.space.tree x
 
 -- a path, with a slash behind it where one is wanted
 abbrev pub slashed : Bool → List ℕ → List ℕ
@@ -88,25 +88,25 @@ IsNamePath text name behind path = (path ≡ name_path text name behind) ⊎ (pa
 -- directory or not, if it is no link
 abbrev pub WalksGoOnBehindTexts : Type 0
 WalksGoOnBehindTexts =
-    (around : Surroundings) (mode : WalkMode) (base : Place ℕ) (text : Text) (x : Host) (more path : List ℕ) → IsReachedBy around text x → is_link_at around.tree x ≡ false
+    (around : Surroundings) (mode : WalkMode) (base : Place ℕ) (text : Text) (x : Host) (more path : List ℕ) → IsReachedBy around text x → is_link_at around.space.tree x ≡ false
     → is_absolute more ≡ false → has_parts (parts_of more) ≡ true → IsJoined text more path
     → (place_walk around mode base path).answer ≡ (place_walk around mode (host_place x) more).answer
 
 -- what a walk answers at an object that stands for itself: it must be a directory that may be searched
 abbrev pub searched : Surroundings → Host → Result PlaceTarget Errno
 searched around x =
-    if is_directory_at around.tree x then (if may_search around.tree around.user x then Ok (target_at (host_place x) Dot false (Some (host_place x))) else Err EACCES)
+    if is_directory_at around.space.tree x then (if may_search around.space.tree around.space.user x then Ok (target_at (host_place x) Dot false (Some (host_place x))) else Err EACCES)
     else Err ENOTDIR
 
 -- the walk along a text that is reached, and `.`, tells whether it is a directory that may be searched
 abbrev pub DirectoriesAreSearched : Type 0
 DirectoriesAreSearched =
-    (around : Surroundings) (mode : WalkMode) (base : Place ℕ) (text : Text) (x : Host) (path : List ℕ) → IsReachedBy around text x → is_link_at around.tree x ≡ false → IsJoined text dot path
+    (around : Surroundings) (mode : WalkMode) (base : Place ℕ) (text : Text) (x : Host) (path : List ℕ) → IsReachedBy around text x → is_link_at around.space.tree x ≡ false → IsJoined text dot path
     → (place_walk around mode base path).answer ≡ searched around x
 
 -- an object is no link that a walk in a mode follows
 abbrev pub IsUnfollowed : Surroundings → WalkMode → Bool → Host → Type 0
-IsUnfollowed around mode slash_behind x = is_followed mode slash_behind ≡ true → is_link_at around.tree x ≡ false
+IsUnfollowed around mode slash_behind x = is_followed mode slash_behind ≡ true → is_link_at around.space.tree x ≡ false
 
 -- the target of a name in a directory
 abbrev pub name_target : Host → List ℕ → Bool → Option Host → PlaceTarget
@@ -114,36 +114,36 @@ name_target dir name slash_behind found = target_at (host_place dir) (Name name)
 
 -- how a walk ends with an object under a name: it is found, but where a slash asks for a directory and it is none
 abbrev pub ends_with : Surroundings → WalkMode → Host → List ℕ → Bool → Host → Result PlaceTarget Errno
-ends_with around mode dir name slash_behind x = (ends_found mode (is_directory_at around.tree x) (name_target dir name slash_behind (Some x))).answer
+ends_with around mode dir name slash_behind x = (ends_found mode (is_directory_at around.space.tree x) (name_target dir name slash_behind (Some x))).answer
 
 -- a name that isn't too long is looked up in a directory that the user may search
 pub record IsLookedUp (around : Surroundings) (dir : Host) (name : List ℕ) : Type 0 where
-  pub search : may_search around.tree around.user dir ≡ true
+  pub search : may_search around.space.tree around.space.user dir ≡ true
   pub short : too_long name ≡ false
 
 -- how a walk along a path ends that leads to a name in a directory
 pub record EndsAtName (around : Surroundings) (dir : Host) (name : List ℕ) (slash_behind : Bool) (path : List ℕ) : Type 0 where
-  pub found : (mode : WalkMode) (base : Place ℕ) (x : Host) → IsLookedUp around dir name → object_in around.tree around.finds name dir ≡ Some x → IsObjectOf around.tree x → IsUnfollowed around mode slash_behind x
+  pub found : (mode : WalkMode) (base : Place ℕ) (x : Host) → IsLookedUp around dir name → object_in around.space.tree around.space.finds name dir ≡ Some x → IsObjectOf around.space.tree x → IsUnfollowed around mode slash_behind x
       → (place_walk around mode base path).answer ≡ ends_with around mode dir name slash_behind x
-  pub free : (mode : WalkMode) (base : Place ℕ) → IsLookedUp around dir name → object_in around.tree around.finds name dir ≡ None
+  pub free : (mode : WalkMode) (base : Place ℕ) → IsLookedUp around dir name → object_in around.space.tree around.space.finds name dir ≡ None
       → (place_walk around mode base path).answer ≡ (ends_missing mode (host_place dir) (Name name) slash_behind).answer
-  pub long : (mode : WalkMode) (base : Place ℕ) → may_search around.tree around.user dir ≡ true → too_long name ≡ true → (place_walk around mode base path).answer ≡ Err ENAMETOOLONG
-  pub closed : (mode : WalkMode) (base : Place ℕ) → may_search around.tree around.user dir ≡ false → (place_walk around mode base path).answer ≡ Err EACCES
+  pub long : (mode : WalkMode) (base : Place ℕ) → may_search around.space.tree around.space.user dir ≡ true → too_long name ≡ true → (place_walk around mode base path).answer ≡ Err ENAMETOOLONG
+  pub closed : (mode : WalkMode) (base : Place ℕ) → may_search around.space.tree around.space.user dir ≡ false → (place_walk around mode base path).answer ≡ Err EACCES
   -- a path that names an entry has that name of the directory, and what stands there
-  pub entry : (base : Place ℕ) → IsLookedUp around dir name → ((x : Host) → object_in around.tree around.finds name dir ≡ Some x → IsObjectOf around.tree x)
-      → (place_walk around modes.Name base path).answer ≡ Ok (name_target dir name slash_behind (object_in around.tree around.finds name dir))
+  pub entry : (base : Place ℕ) → IsLookedUp around dir name → ((x : Host) → object_in around.space.tree around.space.finds name dir ≡ Some x → IsObjectOf around.space.tree x)
+      → (place_walk around modes.Name base path).answer ≡ Ok (name_target dir name slash_behind (object_in around.space.tree around.space.finds name dir))
 
 -- so ends the walk along a text that reaches a directory, and a name
 abbrev pub EntriesAreFound : Type 0
 EntriesAreFound =
-    (around : Surroundings) (text : Text) (dir : Host) (name : List ℕ) (slash_behind : Bool) (path : List ℕ) → IsReachedBy around text dir → is_directory_at around.tree dir ≡ true → IsPart name → IsNamePath text name slash_behind path
+    (around : Surroundings) (text : Text) (dir : Host) (name : List ℕ) (slash_behind : Bool) (path : List ℕ) → IsReachedBy around text dir → is_directory_at around.space.tree dir ≡ true → IsPart name → IsNamePath text name slash_behind path
     → EndsAtName around dir name slash_behind path
 
 -- the walk along a text, with or without a slash behind it, arrives at the object that the text reaches, a
 -- link where it isn't followed
 pub record TextsAreFound : Type 0 where
   pub found : (around : Surroundings) (mode : WalkMode) (base : Place ℕ) (text : Text) (x : Host) (slash_behind : Bool) → IsReachedBy around text x → IsUnfollowed around mode slash_behind x
-      → (wants_directory mode slash_behind ≡ true → is_directory_at around.tree x ≡ true)
+      → (wants_directory mode slash_behind ≡ true → is_directory_at around.space.tree x ≡ true)
       → (t : PlaceTarget) × ((place_walk around mode base (slashed slash_behind (text_of text))).answer ≡ Ok t) × (t.found ≡ Some (host_place x))
   -- with the whole target, and refused where a directory is asked for and it is none
   pub target : (around : Surroundings) (mode : WalkMode) (base : Place ℕ) (name : List ℕ) (text : Text) (x : Host) (slash_behind : Bool) → IsReachedBy around (name ∷ text) x → IsUnfollowed around mode slash_behind x

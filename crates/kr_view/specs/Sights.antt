@@ -15,10 +15,7 @@ use Rattle.kr_view.specs.Component.{Surroundings, SeenPlace, seen_link}
 -- what a view, a tree and the processes show to a caller, with the numbers of the mounts
 abbrev pub surroundings : {M : Type 0} → (M → ℕ) → List Row → Tree → User → (Option ProcAt → List ℕ → Option ProcAt) → (ProcAt → Lead M) → Surroundings
 surroundings number table tree user finds leads = record {
-  table = table;
-  tree = tree;
-  user = user;
-  finds = finds;
+  space = record { table = table; tree = tree; user = user; finds = finds };
   leads = λ at. lead_numbered number (leads at);
 }
 
@@ -31,4 +28,4 @@ sight_seen number around (Fails e) = frame.Fails e
 sight_seen number around Missing = frame.Missing
 sight_seen number around (Leads spot is_dir) = frame.Leads is_dir (numbered number spot.place) (numbered number spot.place)
 sight_seen number around (Links spot text) = frame.Links (numbered number spot.place) text.now
-sight_seen number around (Jumps spot at) = seen_link around (numbered number spot.place) (around.leads at)
+sight_seen number around (Jumps spot at) = seen_link around.space (numbered number spot.place) (around.leads at)

@@ -1,6 +1,6 @@
 -- One step of a walk: what is left of the walk behind it, and what it reached.
 use Rattle.std.specs.Prelude.{ℕ, ◌≡◌, ◌<◌, ◌+◌, ◌*◌, ◌^◌, Bool, false, List, [], ◌++◌, length, Some, Result, Ok, Err}
-use Rattle.pr_base.specs.Paths.{Component, components_of}
+use Rattle.pr_base.specs.Paths.{Component, component_of, components_of}
 use Rattle.pr_base.specs.WalkFrame.{begins_at, onward, walk_on}
 use Rattle.pr_base.specs.WalkLaws as laws
 use Rattle.pr_base.specs.declared.errno.Errno.{Errno}
@@ -13,18 +13,21 @@ use Rattle.kr_view.specs.declared.target.Reach.{Reach}
 use Rattle.kr_view.specs.declared.target.Target.{Target}
 use Rattle.kr_view.specs.declared.target.WalkFault.{WalkFault}
 use Rattle.kr_view.specs.declared.target.WalkFault.TheVariants as fault
+use Rattle.kr_tree.specs.declared.place.ProcAt.{ProcAt}
 use Rattle.kr_view.specs.declared.rests.Taken.{Taken}
+use Rattle.kr_view.specs.declared.surroundings.Sight.{Sight}
 use Rattle.kr_view.specs.declared.walk.Walk.{Walk}
 use Rattle.kr_view.specs.declared.walk.Step.{Step}
 use Rattle.kr_view.specs.declared.walk.Step.TheVariants.{Goes, Ends}
 use Rattle.kr_view.specs.Leads.{numbered}
-use Rattle.kr_view.specs.Component.{Surroundings, SeenPlace}
+use Rattle.kr_view.specs.Component.{Surroundings, SeenPlace, seen_link}
+use Rattle.kr_view.specs.Sights.{sight_seen}
 use Rattle.kr_view.specs.Walk.{PlaceTrail, PlaceTarget, looking}
 use Rattle.kr_view.specs.Reach.{Covers, look_reach, reach_after}
 use Rattle.kr_view.specs.Answers.{told, target_numbered}
 use Rattle.kr_view.specs.Positions.{IsNamed}
 use Rattle.kr_view.specs.Rests.{components_left}
-use Rattle.kr_view.specs.Stacks.{stack_of}
+use Rattle.kr_view.specs.Stacks.{stack_of, taken_bytes}
 
 -- what is left of a walk
 abbrev pub trail_of : {M : Type 0} → (M → ℕ) → Surroundings → WalkMode → Walk M → PlaceTrail
@@ -42,16 +45,27 @@ middle_trail around = laws.middle_trail (looking around)
 abbrev pub last_trail : Surroundings → WalkMode → ℕ → Place ℕ → Component → Bool → SeenPlace → PlaceTrail
 last_trail around = laws.last_trail (looking around)
 
--- the same of a walk: where it stands, and the links that it may still follow
-abbrev pub behind_middle : {M : Type 0} → (M → ℕ) → Surroundings → WalkMode → Walk M → List Component → SeenPlace → PlaceTrail
-behind_middle number around mode walk rest seen = middle_trail around mode walk.left (numbered number walk.position.place) rest walk.slash seen
-
-abbrev pub behind_last : {M : Type 0} → (M → ℕ) → Surroundings → WalkMode → Walk M → Component → SeenPlace → PlaceTrail
-behind_last number around mode walk c seen = last_trail around mode walk.left (numbered number walk.position.place) c walk.slash seen
-
 -- the components behind one that was taken
 abbrev pub rest_behind : {M : Type 0} → Taken → Walk M → List Component
 rest_behind taken walk = components_left taken.rest ++ stack_of walk.rests
+
+-- what is left of a walk behind a component that was taken from it, by what that shows
+abbrev pub left_in_middle : {M : Type 0} → (M → ℕ) → Surroundings → WalkMode → Walk M → Taken → Sight M → PlaceTrail
+left_in_middle number around mode walk taken sight =
+    middle_trail around mode walk.left (numbered number walk.position.place) (rest_behind taken walk) walk.slash (sight_seen number around sight)
+
+abbrev pub left_at_last : {M : Type 0} → (M → ℕ) → Surroundings → WalkMode → Walk M → Taken → Sight M → PlaceTrail
+left_at_last number around mode walk taken sight =
+    last_trail around mode walk.left (numbered number walk.position.place) (component_of (taken_bytes taken)) walk.slash (sight_seen number around sight)
+
+-- what is left of it behind a link of the process directory, wherever that stands
+abbrev pub left_by_jump : {M : Type 0} → (M → ℕ) → Surroundings → WalkMode → Walk M → ProcAt → Place ℕ → PlaceTrail
+left_by_jump number around mode walk at link =
+    middle_trail around mode walk.left (numbered number walk.position.place) (stack_of walk.rests) walk.slash (seen_link around.space link (around.leads at))
+
+abbrev pub left_by_last_jump : {M : Type 0} → (M → ℕ) → Surroundings → WalkMode → Walk M → ProcAt → Place ℕ → Component → PlaceTrail
+left_by_last_jump number around mode walk at link c =
+    last_trail around mode walk.left (numbered number walk.position.place) c walk.slash (seen_link around.space link (around.leads at))
 
 -- ---- what is reached
 
@@ -79,7 +93,7 @@ IsLanded number answer (Err fault.NoMemory) = Unit {0}
 -- the walk behind a link that was followed
 pub record Follows {M : Type 0} (number : M → ℕ) (around : Surroundings) (walk : Walk M) (text : List ℕ) (slash : Bool) (on : Walk M) : Type 0 where
   pub trail : (mode : WalkMode) → trail_of number around mode on ≡ onward (looking around) mode walk.left (begins_at (looking around) (numbered number walk.position.place) text) (components_of text ++ stack_of walk.rests) slash
-  pub named : IsNamed around.tree on.position.place.host on.position.name
+  pub named : IsNamed around.space.tree on.position.place.host on.position.name
   pub less : work on < work walk
 
 abbrev pub IsFollowed : {M : Type 0} → (M → ℕ) → Surroundings → Walk M → List ℕ → Bool → Result (Walk M) WalkFault → Type 0
@@ -92,7 +106,7 @@ pub record GoesOn {M : Type 0} (number : M → ℕ) (around : Surroundings) (mod
   pub ends : (trail_of number around mode on).answer ≡ answer
   pub reaches : reach_after around (trail_of number around mode on) new ≡ whole
   pub covers : Covers new old
-  pub named : IsNamed around.tree on.position.place.host on.position.name
+  pub named : IsNamed around.space.tree on.position.place.host on.position.name
 
 -- the answer, and all that is reached; where memory is wanting a part of that
 abbrev pub HasOutcome : {M : Type 0} → (M → ℕ) → Surroundings → WalkMode → Result PlaceTarget Errno → Reach → Reach → Reach → Result (Step M) WalkFault → Type 0

@@ -13,7 +13,7 @@ abbrev pub PlaceTarget : Type 0
 PlaceTarget = Target (Place ℕ) (Place ℕ)
 
 abbrev pub looking : Surroundings → Looking (Place ℕ) (Place ℕ)
-looking around = record { root = root_place around.table; here = λ p. p; look = look_up around }
+looking around = record { root = root_place around.space.table; here = λ p. p; look = look_up around }
 
 -- the walk from a base along a path
 abbrev pub place_walk : Surroundings → WalkMode → Place ℕ → List ℕ → PlaceTrail

@@ -28,7 +28,8 @@ pub fn guest_name<P: Places>(
 ) -> Result<Option<Bytes>, NoMemory>
     requires table { IsTable (P.mounts places.now) }
     requires mounted { is_there (row (P.mounts places.now) (P.number mount)) ≡ true }
-    ensures { let names = guest_node tree.now (row (P.mounts places.now) (P.number mount)) ino (option_map (λ e. (e.0, e.1.now)) remembered.entry) in IfOk result (λ name. name ≡ option_map text_of names) }
+    ensures { let names = guest_node tree.now (row (P.mounts places.now) (P.number mount)) ino (option_map (λ e. (e.0, e.1.now)) remembered.entry) in
+        IfOk result (λ name. name ≡ option_map text_of names) }
 {
     if is_file_source(places, mount, ino) {
         return Ok(Some(Bytes::copy(alloc, places.location(mount))?));
@@ -71,7 +72,8 @@ fn guest_below<P: Places>(
 ) -> Result<Option<Bytes>, NoMemory>
     requires table { IsTable (P.mounts places.now) }
     requires mounted { is_there (row (P.mounts places.now) (P.number mount)) ≡ true }
-    ensures { let names = guest_below tree.now (row (P.mounts places.now) (P.number mount)) ino (option_map (λ e. (e.0, e.1.now)) remembered.entry) in IfOk result (λ name. name ≡ option_map below_root names) }
+    ensures { let names = guest_below tree.now (row (P.mounts places.now) (P.number mount)) ino (option_map (λ e. (e.0, e.1.now)) remembered.entry) in
+        IfOk result (λ name. name ≡ option_map below_root names) }
 {
     if tree.is_directory(ino) {
         return guest_directory(alloc, places, tree, mount, ino);
@@ -117,7 +119,8 @@ fn source_end<P: Places>(
     requires table { IsTable (P.mounts places.now) }
     requires named { Some name.now ≡ option_map below_root (host_name tree.now dir) }
     ensures end { IfSome result (λ end. end ≤ length name.now) }
-    ensures below { (r : Row) → row (P.mounts places.now) (P.number mount) ≡ Some r → option_map (λ end. drop end name.now) result ≡ option_map below_root (names_down tree.now r.source dir) }
+    ensures below { (r : Row) → row (P.mounts places.now) (P.number mount) ≡ Some r →
+        option_map (λ end. drop end name.now) result ≡ option_map below_root (names_down tree.now r.source dir) }
 {
     trees_are_kept(tree);
     directories_have_host_names(tree);

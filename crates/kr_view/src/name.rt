@@ -66,7 +66,8 @@ fn cut(name: Bytes) -> Bytes
 
 /// How many bytes the host name of the directory above has.
 pub(crate) fn bytes_above(name: &Option<Bytes>) -> Option<u64>
-    ensures { (text : Option (List (List ℕ))) → IfSome text AreNames → name.now ≡ option_map below_root text → result ≡ option_map bytes_below (option_map (drop 1) text) }
+    ensures { (text : Option (List (List ℕ))) →
+        IfSome text AreNames → name.now ≡ option_map below_root text → result ≡ option_map bytes_below (option_map (drop 1) text) }
 {
     match name {
         Some(bytes) => Some(last_slash(bytes.as_slice()) as u64),
@@ -76,7 +77,8 @@ pub(crate) fn bytes_above(name: &Option<Bytes>) -> Option<u64>
 
 /// The host name of the directory above, where there is one.
 pub(crate) fn cut_name(name: Option<Bytes>) -> Option<Bytes>
-    ensures { (text : Option (List (List ℕ))) → IfSome text AreNames → name ≡ option_map below_root text → result ≡ option_map below_root (option_map (drop 1) text) }
+    ensures { (text : Option (List (List ℕ))) →
+        IfSome text AreNames → name ≡ option_map below_root text → result ≡ option_map below_root (option_map (drop 1) text) }
 {
     match name {
         Some(bytes) => Some(cut(bytes)),
@@ -86,7 +88,8 @@ pub(crate) fn cut_name(name: Option<Bytes>) -> Option<Bytes>
 
 /// An entry's host name, where its directory has one.
 pub(crate) fn entered(directory: Option<Bytes>, name: &[u8]) -> Result<Option<Bytes>, NoMemory>
-    ensures { IfOk result (λ entry. (text : Option (List (List ℕ))) → directory ≡ option_map below_root text → entry ≡ option_map below_root (below name.now text)) }
+    ensures { IfOk result (λ entry. (text : Option (List (List ℕ))) →
+        directory ≡ option_map below_root text → entry ≡ option_map below_root (below name.now text)) }
 {
     match directory {
         Some(mut bytes) => {

@@ -57,7 +57,8 @@ impl<'a, P: Places, Q: Procs<Mount = P::Mount>> Surroundings<'a, P, Q> {
     /// How many bytes the host name of an object has below the root, by that of its inode.
     pub(crate) fn object_bytes(&self, host: Host, name: &Option<Bytes>) -> Option<u64>
         requires { IsNamed self.now.tree.now host name.now }
-        ensures bytes { let around = surroundings_of P.number P.mounts Q.finds Q.leads self.now in result ≡ option_map bytes_below (directory_name around host) }
+        ensures bytes { let around = surroundings_of P.number P.mounts Q.finds Q.leads self.now in
+            result ≡ option_map bytes_below (directory_name around.space host) }
         ensures small { IfSome result (λ n. n < 2 ^ 63 + 65) }
     {
         match host {
@@ -74,7 +75,8 @@ impl<'a, P: Places, Q: Procs<Mount = P::Mount>> Surroundings<'a, P, Q> {
 
     /// Whether something in the process directory is a directory of a process that ended.
     fn is_gone(&self, at: ProcAt) -> bool
-        ensures { let around = surroundings_of P.number P.mounts Q.finds Q.leads self.now in result ≡ is_gone around at }
+        ensures { let around = surroundings_of P.number P.mounts Q.finds Q.leads self.now in
+            result ≡ is_gone around.space at }
     {
         match at {
             ProcAt::Dir(pid) | ProcAt::FdDir(pid) => !self.is_shown(pid),
@@ -90,8 +92,10 @@ impl<'a, P: Places, Q: Procs<Mount = P::Mount>> Surroundings<'a, P, Q> {
         spot: Spot<P::Mount>,
     ) -> Result<Option<u64>, NoMemory>
         requires named { IsNamed self.now.tree.now from.now.place.host from.now.name }
-        requires way { let around = surroundings_of P.number P.mounts Q.finds Q.leads self.now in IsWay around (numbered P.number from.now.place) (component_data component.now) (numbered P.number spot.place) spot.way }
-        ensures { let around = surroundings_of P.number P.mounts Q.finds Q.leads self.now in IfOk result (λ length. length ≡ option_map text_length (component_name around (numbered P.number from.now.place) (component_data component.now))) }
+        requires way { let around = surroundings_of P.number P.mounts Q.finds Q.leads self.now in
+            IsWay around.space (numbered P.number from.now.place) (component_data component.now) (numbered P.number spot.place) spot.way }
+        ensures { let around = surroundings_of P.number P.mounts Q.finds Q.leads self.now in
+            IfOk result (λ length. length ≡ option_map text_length (component_name around.space (numbered P.number from.now.place) (component_data component.now))) }
     {
         names_hang_together(self.tree);
         match spot.way {
@@ -105,7 +109,8 @@ impl<'a, P: Places, Q: Procs<Mount = P::Mount>> Surroundings<'a, P, Q> {
 
     /// The length of the host name that the tree gives.
     pub(crate) fn length_by_tree(&self, place: Place<P::Mount>) -> Result<Option<u64>, NoMemory>
-        ensures { let around = surroundings_of P.number P.mounts Q.finds Q.leads self.now in IfOk result (λ length. length ≡ option_map text_length (directory_name around place.host)) }
+        ensures { let around = surroundings_of P.number P.mounts Q.finds Q.leads self.now in
+            IfOk result (λ length. length ≡ option_map text_length (directory_name around.space place.host)) }
     {
         let position = self.position(place)?;
         Ok(length_of(self.object_bytes(place.host, &position.name)))
@@ -113,7 +118,8 @@ impl<'a, P: Places, Q: Procs<Mount = P::Mount>> Surroundings<'a, P, Q> {
 
     /// The length of the host name of a mount's source.
     fn source_length(&self, place: Place<P::Mount>) -> Result<Option<u64>, NoMemory>
-        ensures { let around = surroundings_of P.number P.mounts Q.finds Q.leads self.now in IfOk result (λ length. (name : Option (List (List ℕ))) → IsSource around (numbered P.number place) name → length ≡ option_map text_length name) }
+        ensures { let around = surroundings_of P.number P.mounts Q.finds Q.leads self.now in
+            IfOk result (λ length. (name : Option (List (List ℕ))) → IsSource around.space (numbered P.number place) name → length ≡ option_map text_length name) }
     {
         match self.places.source(place.mount) {
             Some((dir, entry)) => {
@@ -134,8 +140,10 @@ impl<'a, P: Places, Q: Procs<Mount = P::Mount>> Surroundings<'a, P, Q> {
         is_dir: bool,
     ) -> Result<Position<P::Mount>, NoMemory>
         requires named { IsNamed self.now.tree.now from.place.host from.name }
-        requires way { let around = surroundings_of P.number P.mounts Q.finds Q.leads self.now in IsWay around (numbered P.number from.place) (component_data component.now) (numbered P.number spot.place) spot.way }
-        requires kind { let around = surroundings_of P.number P.mounts Q.finds Q.leads self.now in IsKind around spot.place.host spot.way is_dir }
+        requires way { let around = surroundings_of P.number P.mounts Q.finds Q.leads self.now in
+            IsWay around.space (numbered P.number from.place) (component_data component.now) (numbered P.number spot.place) spot.way }
+        requires kind { let around = surroundings_of P.number P.mounts Q.finds Q.leads self.now in
+            IsKind around.space spot.place.host spot.way is_dir }
         ensures place { IfOk result (λ position. position.place ≡ spot.place) }
         ensures named { IfOk result (λ position. IsNamed self.now.tree.now position.place.host position.name) }
     {
@@ -156,8 +164,10 @@ impl<'a, P: Places, Q: Procs<Mount = P::Mount>> Surroundings<'a, P, Q> {
         spot: Spot<P::Mount>,
     ) -> Result<Option<Bytes>, NoMemory>
         requires named { IsNamed self.now.tree.now from.place.host from.name }
-        requires way { let around = surroundings_of P.number P.mounts Q.finds Q.leads self.now in IsWay around (numbered P.number from.place) (component_data component.now) (numbered P.number spot.place) spot.way }
-        requires kind { let around = surroundings_of P.number P.mounts Q.finds Q.leads self.now in IsKind around spot.place.host spot.way true }
+        requires way { let around = surroundings_of P.number P.mounts Q.finds Q.leads self.now in
+            IsWay around.space (numbered P.number from.place) (component_data component.now) (numbered P.number spot.place) spot.way }
+        requires kind { let around = surroundings_of P.number P.mounts Q.finds Q.leads self.now in
+            IsKind around.space spot.place.host spot.way true }
         ensures { IfOk result (λ name. IsNamed self.now.tree.now spot.place.host name) }
     {
         names_hang_together(self.tree);

@@ -45,7 +45,8 @@ impl Rest {
     /// Reads a component, and tells where it stands.
     pub(crate) fn next(&mut self) -> Option<Span>
         ensures text { self.new.text ≡ self.old.text }
-        ensures first { MatchOption result (parts_left self.old ≡ []) (λ span. (span.end ≤ length self.new.text) × (span.begin ≤ span.end) × (parts_left self.old ≡ slice_range self.new.text span.begin span.end ∷ parts_left self.new)) }
+        ensures first { MatchOption result (parts_left self.old ≡ []) (λ span.
+            (span.end ≤ length self.new.text) × (span.begin ≤ span.end) × (parts_left self.old ≡ slice_range self.new.text span.begin span.end ∷ parts_left self.new)) }
     {
         if self.is_done() {
             return None;

@@ -87,7 +87,8 @@ impl Rests {
 
     /// Takes the next component, with the path in which it stands.
     pub(crate) fn next(&mut self) -> Option<Taken>
-        ensures { MatchOption result (stack_of self.old ≡ []) (λ taken. stack_of self.old ≡ component_of (taken_bytes taken) ∷ (components_left taken.rest ++ stack_of self.new)) }
+        ensures { MatchOption result (stack_of self.old ≡ []) (λ taken.
+            stack_of self.old ≡ component_of (taken_bytes taken) ∷ (components_left taken.rest ++ stack_of self.new)) }
     {
         let mut rest = self.list.pop()?;
         let span = rest.next()?;

@@ -110,7 +110,8 @@ impl<'a, P: Places, Q: Procs<Mount = P::Mount>> Surroundings<'a, P, Q> {
 
     /// Whether an object is the process directory, or stands in it.
     fn in_processes(&self, host: Host) -> bool
-        ensures { let around = surroundings_of P.number P.mounts Q.finds Q.leads self.now in result ≡ in_processes around host }
+        ensures { let around = surroundings_of P.number P.mounts Q.finds Q.leads self.now in
+            result ≡ in_processes around.space host }
     {
         match host {
             Host::Node(ino) => matches!(self.tree.kind(ino), Some(Kind::Proc)),
@@ -120,7 +121,8 @@ impl<'a, P: Places, Q: Procs<Mount = P::Mount>> Surroundings<'a, P, Q> {
 
     /// Whether a process is still shown to the caller.
     pub(crate) fn is_shown(&self, pid: u32) -> bool
-        ensures { let around = surroundings_of P.number P.mounts Q.finds Q.leads self.now in result ≡ is_shown around pid }
+        ensures { let around = surroundings_of P.number P.mounts Q.finds Q.leads self.now in
+            result ≡ is_shown around.space pid }
     {
         self.procs
             .find(self.caller, Some(ProcAt::Dir(pid)), b"cwd")
@@ -129,9 +131,11 @@ impl<'a, P: Places, Q: Procs<Mount = P::Mount>> Surroundings<'a, P, Q> {
 
     /// What stands at a place to which a walk comes.
     fn seen_at(&self, spot: Spot<P::Mount>) -> Sight<'a, P::Mount>
-        ensures seen { let around = surroundings_of P.number P.mounts Q.finds Q.leads self.now in sight_seen P.number around result ≡ seen_at around (numbered P.number spot.place) spot.place.host }
+        ensures seen { let around = surroundings_of P.number P.mounts Q.finds Q.leads self.now in
+            sight_seen P.number around result ≡ seen_at around (numbered P.number spot.place) spot.place.host }
         ensures spot { IsSightAt spot result }
-        ensures kind { let around = surroundings_of P.number P.mounts Q.finds Q.leads self.now in HasKind around result }
+        ensures kind { let around = surroundings_of P.number P.mounts Q.finds Q.leads self.now in
+            HasKind around.space result }
     {
         match spot.place.host {
             Host::Node(ino) => match self.tree.link_text(ino) {
@@ -152,9 +156,11 @@ impl<'a, P: Places, Q: Procs<Mount = P::Mount>> Surroundings<'a, P, Q> {
     fn seen_node(&self, spot: Spot<P::Mount>, ino: Ino) -> Sight<'a, P::Mount>
         requires at { spot.place.host ≡ Node ino }
         requires no_link { option_and_then text_of (body self.now.tree.now ino) ≡ None }
-        ensures seen { let around = surroundings_of P.number P.mounts Q.finds Q.leads self.now in sight_seen P.number around result ≡ seen_at around (numbered P.number spot.place) (Node ino) }
+        ensures seen { let around = surroundings_of P.number P.mounts Q.finds Q.leads self.now in
+            sight_seen P.number around result ≡ seen_at around (numbered P.number spot.place) (Node ino) }
         ensures spot { IsSightAt spot result }
-        ensures kind { let around = surroundings_of P.number P.mounts Q.finds Q.leads self.now in HasKind around result }
+        ensures kind { let around = surroundings_of P.number P.mounts Q.finds Q.leads self.now in
+            HasKind around.space result }
     {
         match self.tree.kind(ino) {
             Some(Kind::Dir | Kind::Proc) => Sight::Leads(spot, true),
@@ -165,9 +171,12 @@ impl<'a, P: Places, Q: Procs<Mount = P::Mount>> Surroundings<'a, P, Q> {
 
     /// What `..` shows from a place.
     fn above(&self, place: Place<P::Mount>) -> Sight<'a, P::Mount>
-        ensures seen { let around = surroundings_of P.number P.mounts Q.finds Q.leads self.now in sight_seen P.number around result ≡ above around (numbered P.number place) }
-        ensures way { let around = surroundings_of P.number P.mounts Q.finds Q.leads self.now in IsSightWay P.number around (numbered P.number place) DotDot result }
-        ensures kind { let around = surroundings_of P.number P.mounts Q.finds Q.leads self.now in HasKind around result }
+        ensures seen { let around = surroundings_of P.number P.mounts Q.finds Q.leads self.now in
+            sight_seen P.number around result ≡ above around.space (numbered P.number place) }
+        ensures way { let around = surroundings_of P.number P.mounts Q.finds Q.leads self.now in
+            IsSightWay P.number around.space (numbered P.number place) DotDot result }
+        ensures kind { let around = surroundings_of P.number P.mounts Q.finds Q.leads self.now in
+            HasKind around.space result }
     {
         if self.is_root_place(place) {
             return Sight::directory(place, Way::Stays);
@@ -191,9 +200,12 @@ impl<'a, P: Places, Q: Procs<Mount = P::Mount>> Surroundings<'a, P, Q> {
 
     /// The directory above one that isn't the source of its mount.
     fn above_node(&self, mount: P::Mount, ino: Ino) -> Sight<'a, P::Mount>
-        ensures seen { let around = surroundings_of P.number P.mounts Q.finds Q.leads self.now in sight_seen P.number around result ≡ above_body (P.number mount) (node_above self.now.tree.now ino) }
-        ensures way { let around = surroundings_of P.number P.mounts Q.finds Q.leads self.now in IsSightCalled P.number around (node_in (P.number mount) ino) DotDot (led_to_name around (above_body (P.number mount) (node_above self.now.tree.now ino))) result }
-        ensures kind { let around = surroundings_of P.number P.mounts Q.finds Q.leads self.now in HasKind around result }
+        ensures seen { let around = surroundings_of P.number P.mounts Q.finds Q.leads self.now in
+            sight_seen P.number around result ≡ above_body (P.number mount) (node_above self.now.tree.now ino) }
+        ensures way { let around = surroundings_of P.number P.mounts Q.finds Q.leads self.now in
+            IsSightCalled P.number around.space (node_in (P.number mount) ino) DotDot (led_to_name around.space (above_body (P.number mount) (node_above self.now.tree.now ino))) result }
+        ensures kind { let around = surroundings_of P.number P.mounts Q.finds Q.leads self.now in
+            HasKind around.space result }
     {
         match self.tree.above(ino) {
             Some(dir) => Sight::directory(
@@ -209,9 +221,12 @@ impl<'a, P: Places, Q: Procs<Mount = P::Mount>> Surroundings<'a, P, Q> {
 
     /// The directory above what stands in the process directory of an inode.
     fn above_process(&self, mount: P::Mount, ino: Ino, at: ProcAt) -> Sight<'a, P::Mount>
-        ensures seen { let around = surroundings_of P.number P.mounts Q.finds Q.leads self.now in sight_seen P.number around result ≡ above_process around (P.number mount) ino at }
-        ensures way { let around = surroundings_of P.number P.mounts Q.finds Q.leads self.now in IsSightCalled P.number around (node_in (P.number mount) ino) DotDot (led_to_name around (above_process around (P.number mount) ino at)) result }
-        ensures kind { let around = surroundings_of P.number P.mounts Q.finds Q.leads self.now in HasKind around result }
+        ensures seen { let around = surroundings_of P.number P.mounts Q.finds Q.leads self.now in
+            sight_seen P.number around result ≡ above_process around.space (P.number mount) ino at }
+        ensures way { let around = surroundings_of P.number P.mounts Q.finds Q.leads self.now in
+            IsSightCalled P.number around.space (node_in (P.number mount) ino) DotDot (led_to_name around.space (above_process around.space (P.number mount) ino at)) result }
+        ensures kind { let around = surroundings_of P.number P.mounts Q.finds Q.leads self.now in
+            HasKind around.space result }
     {
         let (pid, host) = match at {
             ProcAt::Dir(pid) => (pid, Host::Node(ino)),
@@ -233,9 +248,12 @@ impl<'a, P: Places, Q: Procs<Mount = P::Mount>> Surroundings<'a, P, Q> {
         at: Option<ProcAt>,
         name: &[u8],
     ) -> Sight<'a, P::Mount>
-        ensures seen { let around = surroundings_of P.number P.mounts Q.finds Q.leads self.now in sight_seen P.number around result ≡ seen_in_processes around (P.number mount) ino (Q.finds self.now.procs.now self.now.caller at name.now) }
-        ensures way { let around = surroundings_of P.number P.mounts Q.finds Q.leads self.now in IsSightCalled P.number around (node_in (P.number mount) ino) (Name name.now) (found_process_name around ino (Q.finds self.now.procs.now self.now.caller at name.now)) result }
-        ensures kind { let around = surroundings_of P.number P.mounts Q.finds Q.leads self.now in HasKind around result }
+        ensures seen { let around = surroundings_of P.number P.mounts Q.finds Q.leads self.now in
+            sight_seen P.number around result ≡ seen_in_processes around (P.number mount) ino (around.space.finds at name.now) }
+        ensures way { let around = surroundings_of P.number P.mounts Q.finds Q.leads self.now in
+            IsSightCalled P.number around.space (node_in (P.number mount) ino) (Name name.now) (found_process_name around.space ino (around.space.finds at name.now)) result }
+        ensures kind { let around = surroundings_of P.number P.mounts Q.finds Q.leads self.now in
+            HasKind around.space result }
     {
         match self.procs.find(self.caller, at, name) {
             Some(found) => self.seen_at(Spot {
@@ -251,9 +269,12 @@ impl<'a, P: Places, Q: Procs<Mount = P::Mount>> Surroundings<'a, P, Q> {
 
     /// What a name that is no mount point shows in an inode.
     fn in_node(&self, mount: P::Mount, ino: Ino, name: &[u8]) -> Sight<'a, P::Mount>
-        ensures seen { let around = surroundings_of P.number P.mounts Q.finds Q.leads self.now in sight_seen P.number around result ≡ in_node around (P.number mount) ino name.now }
-        ensures way { let around = surroundings_of P.number P.mounts Q.finds Q.leads self.now in IsSightCalled P.number around (node_in (P.number mount) ino) (Name name.now) (node_entry_name around ino name.now) result }
-        ensures kind { let around = surroundings_of P.number P.mounts Q.finds Q.leads self.now in HasKind around result }
+        ensures seen { let around = surroundings_of P.number P.mounts Q.finds Q.leads self.now in
+            sight_seen P.number around result ≡ in_node around (P.number mount) ino name.now }
+        ensures way { let around = surroundings_of P.number P.mounts Q.finds Q.leads self.now in
+            IsSightCalled P.number around.space (node_in (P.number mount) ino) (Name name.now) (node_entry_name around.space ino name.now) result }
+        ensures kind { let around = surroundings_of P.number P.mounts Q.finds Q.leads self.now in
+            HasKind around.space result }
     {
         if self.in_processes(Host::Node(ino)) {
             return self.in_process(mount, ino, None, name);
@@ -272,9 +293,12 @@ impl<'a, P: Places, Q: Procs<Mount = P::Mount>> Surroundings<'a, P, Q> {
 
     /// What a name shows.
     fn named(&self, place: Place<P::Mount>, name: &[u8]) -> Sight<'a, P::Mount>
-        ensures seen { let around = surroundings_of P.number P.mounts Q.finds Q.leads self.now in sight_seen P.number around result ≡ named around (numbered P.number place) name.now }
-        ensures way { let around = surroundings_of P.number P.mounts Q.finds Q.leads self.now in IsSightWay P.number around (numbered P.number place) (Name name.now) result }
-        ensures kind { let around = surroundings_of P.number P.mounts Q.finds Q.leads self.now in HasKind around result }
+        ensures seen { let around = surroundings_of P.number P.mounts Q.finds Q.leads self.now in
+            sight_seen P.number around result ≡ named around (numbered P.number place) name.now }
+        ensures way { let around = surroundings_of P.number P.mounts Q.finds Q.leads self.now in
+            IsSightWay P.number around.space (numbered P.number place) (Name name.now) result }
+        ensures kind { let around = surroundings_of P.number P.mounts Q.finds Q.leads self.now in
+            HasKind around.space result }
     {
         if NAME_LIMIT < name.len() {
             return Sight::Fails(Errno::ENAMETOOLONG);
@@ -297,9 +321,12 @@ impl<'a, P: Places, Q: Procs<Mount = P::Mount>> Surroundings<'a, P, Q> {
         place: Place<P::Mount>,
         component: &Component<'_>,
     ) -> Sight<'a, P::Mount>
-        ensures seen { let around = surroundings_of P.number P.mounts Q.finds Q.leads self.now in sight_seen P.number around result ≡ look_up around (numbered P.number place) (component_data component.now) }
-        ensures way { let around = surroundings_of P.number P.mounts Q.finds Q.leads self.now in IsSightWay P.number around (numbered P.number place) (component_data component.now) result }
-        ensures kind { let around = surroundings_of P.number P.mounts Q.finds Q.leads self.now in HasKind around result }
+        ensures seen { let around = surroundings_of P.number P.mounts Q.finds Q.leads self.now in
+            sight_seen P.number around result ≡ look_up around (numbered P.number place) (component_data component.now) }
+        ensures way { let around = surroundings_of P.number P.mounts Q.finds Q.leads self.now in
+            IsSightWay P.number around.space (numbered P.number place) (component_data component.now) result }
+        ensures kind { let around = surroundings_of P.number P.mounts Q.finds Q.leads self.now in
+            HasKind around.space result }
     {
         if !self.is_directory(place.host) {
             return Sight::Fails(Errno::ENOTDIR);
@@ -316,7 +343,8 @@ impl<'a, P: Places, Q: Procs<Mount = P::Mount>> Surroundings<'a, P, Q> {
 
     /// Whether a look-up comes to look up a name in the process directory.
     pub(crate) fn meets_processes(&self, place: Place<P::Mount>, component: &Component<'_>) -> bool
-        ensures { let around = surroundings_of P.number P.mounts Q.finds Q.leads self.now in result ≡ meets_processes around (numbered P.number place) (component_data component.now) }
+        ensures { let around = surroundings_of P.number P.mounts Q.finds Q.leads self.now in
+            result ≡ meets_processes around.space (numbered P.number place) (component_data component.now) }
     {
         self.is_directory(place.host)
             && self.may_search(place.host)

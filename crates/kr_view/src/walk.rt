@@ -16,7 +16,7 @@ ghost use Rattle.kr_view.specs.Names.{free_name, landing_name};
 ghost use Rattle.kr_view.specs.Walk.{place_walk, looking};
 ghost use Rattle.kr_view.specs.Reach.{text_length, end_reach, reached_landing, reach_after};
 ghost use Rattle.kr_view.specs.Answers.{told, target_numbered, IsAnswer, IsReached};
-ghost use Rattle.kr_view.specs.Steps.{trail_of, behind_middle, behind_last, rest_behind, noted, here_target, work, HasReached, IsFollowed, IsLanded, IsOutcome, HasLess};
+ghost use Rattle.kr_view.specs.Steps.{trail_of, rest_behind, left_in_middle, left_at_last, left_by_jump, left_by_last_jump, noted, here_target, work, HasReached, IsFollowed, IsLanded, IsOutcome, HasLess};
 
 use crate::component::{Component, component_of, kind_of, name_of};
 use crate::name::{bytes_of, directory_name, entry_length, length_of};
@@ -111,8 +111,10 @@ pub fn resolve<P: Places, Q: Procs<Mount = P::Mount>>(
     mode: WalkMode,
     reach: &mut Reach,
 ) -> Result<Target<P::Mount>, WalkFault>
-    ensures answer { let around = surroundings P.number (P.mounts places.now) tree.now user (Q.finds procs.now caller) (Q.leads procs.now caller) in IsAnswer P.number (place_walk around mode (numbered P.number base) path.now).answer result }
-    ensures reach { let around = surroundings P.number (P.mounts places.now) tree.now user (Q.finds procs.now caller) (Q.leads procs.now caller) in IsReached around (place_walk around mode (numbered P.number base) path.now) reach.old reach.new result }
+    ensures answer { let around = surroundings P.number (P.mounts places.now) tree.now user (Q.finds procs.now caller) (Q.leads procs.now caller) in
+        IsAnswer P.number (place_walk around mode (numbered P.number base) path.now).answer result }
+    ensures reach { let around = surroundings P.number (P.mounts places.now) tree.now user (Q.finds procs.now caller) (Q.leads procs.now caller) in
+        IsReached around (place_walk around mode (numbered P.number base) path.now) reach.old reach.new result }
 {
     let surroundings = Surroundings {
         alloc,
@@ -134,7 +136,8 @@ pub fn resolve<P: Places, Q: Procs<Mount = P::Mount>>(
 impl<'a, P: Places, Q: Procs<Mount = P::Mount>> Surroundings<'a, P, Q> {
     /// A walk before its first step.
     fn begin(&self, base: Place<P::Mount>, path: &[u8]) -> Result<Walk<P::Mount>, NoMemory>
-        ensures trail { let around = surroundings_of P.number P.mounts Q.finds Q.leads self.now in IfOk result (λ walk. (mode : WalkMode) → trail_of P.number around mode walk ≡ place_walk around mode (numbered P.number base) path.now) }
+        ensures trail { let around = surroundings_of P.number P.mounts Q.finds Q.leads self.now in
+            IfOk result (λ walk. (mode : WalkMode) → trail_of P.number around mode walk ≡ place_walk around mode (numbered P.number base) path.now) }
         ensures named { IfOk result (λ walk. IsNamed self.now.tree.now walk.position.place.host walk.position.name) }
     {
         let parts = components(path);
@@ -161,7 +164,8 @@ impl<'a, P: Places, Q: Procs<Mount = P::Mount>> Surroundings<'a, P, Q> {
         reach: &mut Reach,
     ) -> Result<Step<P::Mount>, WalkFault>
         requires named { IsNamed self.now.tree.now walk.position.place.host walk.position.name }
-        ensures outcome { let around = surroundings_of P.number P.mounts Q.finds Q.leads self.now in IsOutcome P.number around mode (trail_of P.number around mode walk) reach.old reach.new result }
+        ensures outcome { let around = surroundings_of P.number P.mounts Q.finds Q.leads self.now in
+            IsOutcome P.number around mode (trail_of P.number around mode walk) reach.old reach.new result }
         ensures less { HasLess (work walk) result }
     {
         let mut walk = walk;
@@ -182,7 +186,8 @@ impl<'a, P: Places, Q: Procs<Mount = P::Mount>> Surroundings<'a, P, Q> {
     fn end_here(&self, walk: &Walk<P::Mount>, reach: &mut Reach) -> Target<P::Mount>
         requires named { IsNamed self.now.tree.now walk.now.position.place.host walk.now.position.name }
         ensures answer { told (here_target (numbered P.number walk.now.position.place) walk.now.slash) ≡ target_numbered P.number result }
-        ensures reach { let around = surroundings_of P.number P.mounts Q.finds Q.leads self.now in reach.new ≡ end_reach around (Ok (here_target (numbered P.number walk.now.position.place) walk.now.slash)) reach.old }
+        ensures reach { let around = surroundings_of P.number P.mounts Q.finds Q.leads self.now in
+            reach.new ≡ end_reach around.space (Ok (here_target (numbered P.number walk.now.position.place) walk.now.slash)) reach.old }
     {
         let place = walk.position.place;
         reach.raise(length_of(self.object_bytes(place.host, &walk.position.name)));
@@ -204,9 +209,12 @@ impl<'a, P: Places, Q: Procs<Mount = P::Mount>> Surroundings<'a, P, Q> {
         reach: &mut Reach,
     ) -> Result<(), NoMemory>
         requires named { IsNamed self.now.tree.now position.now.place.host position.now.name }
-        requires seen { let around = surroundings_of P.number P.mounts Q.finds Q.leads self.now in sight_seen P.number around sight.now ≡ look_up around (numbered P.number position.now.place) (component_data component.now) }
-        requires way { let around = surroundings_of P.number P.mounts Q.finds Q.leads self.now in IsSightWay P.number around (numbered P.number position.now.place) (component_data component.now) sight.now }
-        ensures { let around = surroundings_of P.number P.mounts Q.finds Q.leads self.now in HasReached (noted around (numbered P.number position.now.place) (component_data component.now) reach.old) reach.old reach.new result }
+        requires seen { let around = surroundings_of P.number P.mounts Q.finds Q.leads self.now in
+            sight_seen P.number around sight.now ≡ look_up around (numbered P.number position.now.place) (component_data component.now) }
+        requires way { let around = surroundings_of P.number P.mounts Q.finds Q.leads self.now in
+            IsSightWay P.number around.space (numbered P.number position.now.place) (component_data component.now) sight.now }
+        ensures { let around = surroundings_of P.number P.mounts Q.finds Q.leads self.now in
+            HasReached (noted around (numbered P.number position.now.place) (component_data component.now) reach.old) reach.old reach.new result }
     {
         let place = position.place;
         reach.raise(length_of(self.object_bytes(place.host, &position.name)));
@@ -226,10 +234,13 @@ impl<'a, P: Places, Q: Procs<Mount = P::Mount>> Surroundings<'a, P, Q> {
         reach: &mut Reach,
     ) -> Result<Step<P::Mount>, WalkFault>
         requires named { IsNamed self.now.tree.now walk.position.place.host walk.position.name }
-        requires way { let around = surroundings_of P.number P.mounts Q.finds Q.leads self.now in IsSightWay P.number around (numbered P.number walk.position.place) (component_of (taken_bytes taken)) sight.now }
-        requires kind { let around = surroundings_of P.number P.mounts Q.finds Q.leads self.now in HasKind around sight.now }
+        requires way { let around = surroundings_of P.number P.mounts Q.finds Q.leads self.now in
+            IsSightWay P.number around.space (numbered P.number walk.position.place) (component_of (taken_bytes taken)) sight.now }
+        requires kind { let around = surroundings_of P.number P.mounts Q.finds Q.leads self.now in
+            HasKind around.space sight.now }
         requires more { rest_behind taken walk ≢ [] }
-        ensures outcome { let around = surroundings_of P.number P.mounts Q.finds Q.leads self.now in (mode : WalkMode) → IsOutcome P.number around mode (behind_middle P.number around mode walk (rest_behind taken walk) (sight_seen P.number around sight.now)) reach.old reach.new result }
+        ensures outcome { let around = surroundings_of P.number P.mounts Q.finds Q.leads self.now in
+            (mode : WalkMode) → IsOutcome P.number around mode (left_in_middle P.number around mode walk taken sight.now) reach.old reach.new result }
         ensures less { HasLess (walk.left * 2 ^ 64 + length (rest_behind taken walk) + 1) result }
     {
         let mut walk = walk;
@@ -273,9 +284,11 @@ impl<'a, P: Places, Q: Procs<Mount = P::Mount>> Surroundings<'a, P, Q> {
         reach: &mut Reach,
     ) -> Result<Step<P::Mount>, WalkFault>
         requires named { IsNamed self.now.tree.now walk.position.place.host walk.position.name }
-        requires seen { let around = surroundings_of P.number P.mounts Q.finds Q.leads self.now in sight_seen P.number around sight.now ≡ look_up around (numbered P.number walk.position.place) (component_of (taken_bytes taken.now)) }
+        requires seen { let around = surroundings_of P.number P.mounts Q.finds Q.leads self.now in
+            sight_seen P.number around sight.now ≡ look_up around (numbered P.number walk.position.place) (component_of (taken_bytes taken.now)) }
         requires none { stack_of walk.rests ≡ [] }
-        ensures outcome { let around = surroundings_of P.number P.mounts Q.finds Q.leads self.now in IsOutcome P.number around mode (behind_last P.number around mode walk (component_of (taken_bytes taken.now)) (sight_seen P.number around sight.now)) reach.old reach.new result }
+        ensures outcome { let around = surroundings_of P.number P.mounts Q.finds Q.leads self.now in
+            IsOutcome P.number around mode (left_at_last P.number around mode walk taken.now sight.now) reach.old reach.new result }
         ensures less { HasLess (walk.left * 2 ^ 64 + 1) result }
     {
         let component = component_of(taken.bytes());
@@ -330,7 +343,8 @@ impl<'a, P: Places, Q: Procs<Mount = P::Mount>> Surroundings<'a, P, Q> {
         slash: bool,
         found: Option<Place<P::Mount>>,
     ) -> Result<Target<P::Mount>, NoMemory>
-        ensures { IfOk result (λ target. told (target_at (numbered P.number dir) (component_data component.now) slash (option_map (numbered P.number) found)) ≡ target_numbered P.number target) }
+        ensures { IfOk result (λ target.
+            told (target_at (numbered P.number dir) (component_data component.now) slash (option_map (numbered P.number) found)) ≡ target_numbered P.number target) }
     {
         Ok(Target {
             dir,
@@ -345,7 +359,8 @@ impl<'a, P: Places, Q: Procs<Mount = P::Mount>> Surroundings<'a, P, Q> {
     fn free_length(&self, position: &Position<P::Mount>, component: &Component<'_>) -> Option<u64>
         requires named { IsNamed self.now.tree.now position.now.place.host position.now.name }
         requires short { length (name_of (component_data component.now)) ≤ 255 }
-        ensures { let around = surroundings_of P.number P.mounts Q.finds Q.leads self.now in result ≡ option_map text_length (free_name around position.now.place.host (name_of (component_data component.now))) }
+        ensures { let around = surroundings_of P.number P.mounts Q.finds Q.leads self.now in
+            result ≡ option_map text_length (free_name around.space position.now.place.host (name_of (component_data component.now))) }
     {
         let bytes = self.object_bytes(position.place.host, &position.name);
         entry_length(bytes, name_of(component))
@@ -359,7 +374,8 @@ impl<'a, P: Places, Q: Procs<Mount = P::Mount>> Surroundings<'a, P, Q> {
         slash: bool,
     ) -> Result<Walk<P::Mount>, WalkFault>
         requires named { IsNamed self.now.tree.now walk.position.place.host walk.position.name }
-        ensures { let around = surroundings_of P.number P.mounts Q.finds Q.leads self.now in IsFollowed P.number around walk text.now slash result }
+        ensures { let around = surroundings_of P.number P.mounts Q.finds Q.leads self.now in
+            IsFollowed P.number around walk text.now slash result }
     {
         let Walk {
             position,
@@ -387,7 +403,8 @@ impl<'a, P: Places, Q: Procs<Mount = P::Mount>> Surroundings<'a, P, Q> {
         path: &[u8],
     ) -> Result<Position<P::Mount>, NoMemory>
         requires named { IsNamed self.now.tree.now position.place.host position.name }
-        ensures place { let around = surroundings_of P.number P.mounts Q.finds Q.leads self.now in IfOk result (λ beginning. numbered P.number beginning.place ≡ begins_at (looking around) (numbered P.number position.place) path.now) }
+        ensures place { let around = surroundings_of P.number P.mounts Q.finds Q.leads self.now in
+            IfOk result (λ beginning. numbered P.number beginning.place ≡ begins_at (looking around) (numbered P.number position.place) path.now) }
         ensures named { IfOk result (λ beginning. IsNamed self.now.tree.now beginning.place.host beginning.name) }
     {
         if components(path).absolute() {
@@ -406,7 +423,8 @@ impl<'a, P: Places, Q: Procs<Mount = P::Mount>> Surroundings<'a, P, Q> {
     ) -> Result<Step<P::Mount>, WalkFault>
         requires named { IsNamed self.now.tree.now walk.position.place.host walk.position.name }
         requires more { stack_of walk.rests ≢ [] }
-        ensures outcome { let around = surroundings_of P.number P.mounts Q.finds Q.leads self.now in (mode : WalkMode) (link : Place ℕ) → IsOutcome P.number around mode (behind_middle P.number around mode walk (stack_of walk.rests) (seen_link around link (around.leads at))) reach.old reach.new result }
+        ensures outcome { let around = surroundings_of P.number P.mounts Q.finds Q.leads self.now in
+            (mode : WalkMode) (link : Place ℕ) → IsOutcome P.number around mode (left_by_jump P.number around mode walk at link) reach.old reach.new result }
         ensures less { HasLess (work walk) result }
     {
         if walk.left == 0 {
@@ -442,7 +460,8 @@ impl<'a, P: Places, Q: Procs<Mount = P::Mount>> Surroundings<'a, P, Q> {
         requires named { IsNamed self.now.tree.now walk.position.place.host walk.position.name }
         requires none { stack_of walk.rests ≡ [] }
         requires followed { is_followed mode walk.slash ≡ true }
-        ensures outcome { let around = surroundings_of P.number P.mounts Q.finds Q.leads self.now in (link : Place ℕ) (c : PathComponent) → IsOutcome P.number around mode (behind_last P.number around mode walk c (seen_link around link (around.leads at))) reach.old reach.new result }
+        ensures outcome { let around = surroundings_of P.number P.mounts Q.finds Q.leads self.now in
+            (link : Place ℕ) (c : PathComponent) → IsOutcome P.number around mode (left_by_last_jump P.number around mode walk at link c) reach.old reach.new result }
         ensures less { HasLess (work walk) result }
     {
         if walk.left == 0 {
@@ -469,7 +488,8 @@ impl<'a, P: Places, Q: Procs<Mount = P::Mount>> Surroundings<'a, P, Q> {
         name: &[u8],
         reach: &mut Reach,
     ) -> Result<(), NoMemory>
-        ensures { let around = surroundings_of P.number P.mounts Q.finds Q.leads self.now in HasReached (reached_landing around (landing around (numbered P.number place) dir name.now) reach.old) reach.old reach.new result }
+        ensures { let around = surroundings_of P.number P.mounts Q.finds Q.leads self.now in
+            HasReached (reached_landing around.space (landing around.space (numbered P.number place) dir name.now) reach.old) reach.old reach.new result }
     {
         let length = self.landing_length(place, dir, name)?;
         reach.raise(length);
@@ -483,7 +503,8 @@ impl<'a, P: Places, Q: Procs<Mount = P::Mount>> Surroundings<'a, P, Q> {
         dir: Ino,
         name: &[u8],
     ) -> Result<Option<u64>, NoMemory>
-        ensures { let around = surroundings_of P.number P.mounts Q.finds Q.leads self.now in IfOk result (λ length. length ≡ option_map text_length (landing_name around (landing around (numbered P.number place) dir name.now))) }
+        ensures { let around = surroundings_of P.number P.mounts Q.finds Q.leads self.now in
+            IfOk result (λ length. length ≡ option_map text_length (landing_name around.space (landing around.space (numbered P.number place) dir name.now))) }
     {
         if self.is_directory(place.host) {
             return self.length_by_tree(place);
@@ -502,7 +523,8 @@ impl<'a, P: Places, Q: Procs<Mount = P::Mount>> Surroundings<'a, P, Q> {
         slash: bool,
         mode: WalkMode,
     ) -> Result<Target<P::Mount>, WalkFault>
-        ensures { let around = surroundings_of P.number P.mounts Q.finds Q.leads self.now in IsLanded P.number (ends_landed mode slash (landing around (numbered P.number place) dir name)).answer result }
+        ensures { let around = surroundings_of P.number P.mounts Q.finds Q.leads self.now in
+            IsLanded P.number (ends_landed mode slash (landing around.space (numbered P.number place) dir name)).answer result }
     {
         if self.is_directory(place.host) {
             return Ok(Target {

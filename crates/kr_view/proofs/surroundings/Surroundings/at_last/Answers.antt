@@ -75,7 +75,7 @@ returns-in_ok-target-in-Missing-clause-outcome g c =
     let at = ap (last_trail around c.args.mode c.args.walk.left s component c.args.walk.slash) (ap (sight_seen g.P.Places.number around) c.in-Missing.is)
     ∙ last_missing around c.args.mode c.args.walk.left s component c.args.walk.slash (sym c.may_be_free.ensures ∙ c.if-not-may_be_free.false) in
     ends_free g.P.Places.number around c.args.mode trail s component c.args.walk.slash c.args.reach.now c.in_ok-target-in-Missing.target c.raise.new.self at same
-    (c.raise.ensures.longest ∙ ap (λ l. greater l c.args.reach.now.longest) (c.free_length.ensures ∙ ap (λ p. option_map text_length (free_name around s.host (name_of p))) is_component)) c.raise.ensures.met_proc
+    (c.raise.ensures.longest ∙ ap (λ l. greater l c.args.reach.now.longest) (c.free_length.ensures ∙ ap (λ p. option_map text_length (free_name around.space s.host (name_of p))) is_component)) c.raise.ensures.met_proc
 
 pub returns-in_err-follow-in-Links-clause-outcome : goal.returns-in_err-follow-in-Links-clause-outcome
 returns-in_err-follow-in-Links-clause-outcome g c =

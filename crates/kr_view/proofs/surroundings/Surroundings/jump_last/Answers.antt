@@ -28,9 +28,9 @@ returns-in_err-landed-in-Jump-clause-outcome g c = λ link component.
     let around = surroundings_of g.P.Places.number g.P.Places.mounts g.Q.Procs.finds g.Q.Procs.leads c.args.self.now in
     let p = numbered g.P.Places.number c.in-Jump.place in
     let old = c.args.reach.now in
-    let l = landing around p c.in-Jump.dir c.in-Jump.name in
+    let l = landing around.space p c.in-Jump.dir c.in-Jump.name in
     let led = ap (lead_numbered g.P.Places.number) (sym c.in_ok-text.ensures ∙ c.in-Jump.is) in
-    let reached : c.land.new.reach ≡ reached_landing around l old = c.in_ok-land-in-Jump.ensures ∙ ap (λ n. reached_landing around (landing around p c.in-Jump.dir n) old) c.as_slice-in-Jump.ensures in
+    let reached : c.land.new.reach ≡ reached_landing around.space l old = c.in_ok-land-in-Jump.ensures ∙ ap (λ n. reached_landing around.space (landing around.space p c.in-Jump.dir n) old) c.as_slice-in-Jump.ensures in
     landed_error g.P.Places.number around c.args.mode c.args.walk link component _ old p c.in-Jump.dir c.in-Jump.name c.land.new.reach _ _ led c.requires.followed c.if-walk-eq0.false reached
     c.from_residual-in_err-landed-in-Jump.ensures.0 c.from_residual-in_err-landed-in-Jump.ensures.1 c.in_err-landed-in-Jump.ensures
     (let P : Reach → Type 0 = λ n. Covers n old in subst P (sym reached) (covers_landing around l old))
@@ -41,6 +41,6 @@ returns-in_ok-landed-in-Jump-clause-outcome g c = λ link component.
     let p = numbered g.P.Places.number c.in-Jump.place in
     let old = c.args.reach.now in
     let led = ap (lead_numbered g.P.Places.number) (sym c.in_ok-text.ensures ∙ c.in-Jump.is) in
-    let reached = c.in_ok-land-in-Jump.ensures ∙ ap (λ n. reached_landing around (landing around p c.in-Jump.dir n) old) c.as_slice-in-Jump.ensures in
+    let reached = c.in_ok-land-in-Jump.ensures ∙ ap (λ n. reached_landing around.space (landing around.space p c.in-Jump.dir n) old) c.as_slice-in-Jump.ensures in
     landed_ends g.P.Places.number around c.args.mode c.args.walk link component _ old p c.in-Jump.dir c.in-Jump.name c.land.new.reach c.in_ok-landed-in-Jump.field-0 led c.requires.followed c.if-walk-eq0.false reached
     c.in_ok-landed-in-Jump.ensures

@@ -14,7 +14,7 @@ returns-in_err-shown_length g c =
     let p = numbered g.P.Places.number c.args.position.now.place in
     let component = component_data c.args.component.now in
     let r = c.args.reach.now in
-    let length = c.length_of.ensures (directory_name around p.host) c.object_bytes.ensures.bytes in
+    let length = c.length_of.ensures (directory_name around.space p.host) c.object_bytes.ensures.bytes in
     let long = c.meet.ensures.longest ∙ c.raise.ensures.longest ∙ ap (λ l. greater l r.longest) length in
     let met = c.meet.ensures.met_proc ∙ ap (λ m. m || c.meets_processes.result) c.raise.ensures.met_proc ∙ ap (λ m. r.met_proc || m) c.meets_processes.ensures in
     part_at_error (noted around p component r) r c.meet.new.self c.from_residual.result c.from_residual.ensures.0 (noted_part around p component r c.meet.new.self long met)

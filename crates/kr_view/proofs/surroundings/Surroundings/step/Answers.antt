@@ -24,7 +24,7 @@ returns-in_default-clause-outcome g c =
 pub note-requires-clause-way : goal.note-requires-clause-way
 note-requires-clause-way g c =
     let around = surroundings_of g.P.Places.number g.P.Places.mounts g.Q.Procs.finds g.Q.Procs.leads c.args.self.now in
-    let P : Place _ → Type 0 = λ p. IsSightWay g.P.Places.number around (numbered g.P.Places.number p) (component_data c.component_of-component.result) c.look_up-sight.result in
+    let P : Place _ → Type 0 = λ p. IsSightWay g.P.Places.number around.space (numbered g.P.Places.number p) (component_data c.component_of-component.result) c.look_up-sight.result in
     subst P c.place.ensures c.look_up-sight.ensures.way
 
 pub returns-in_err-note-clause-outcome : goal.returns-in_err-note-clause-outcome
@@ -43,8 +43,8 @@ in_middle-requires-clause-way g c =
     let s = numbered g.P.Places.number c.args.walk.position.place in
     let component = component_of (taken_bytes c.in-Some.taken) in
     let is_component : component_data c.component_of-component.result ≡ component = c.component_of-component.ensures ∙ ap component_of c.bytes.ensures in
-    let P : Place _ → Type 0 = λ p. IsSightWay g.P.Places.number around (numbered g.P.Places.number p) (component_data c.component_of-component.result) c.look_up-sight.result in
-    let Q : Component → Type 0 = λ p. IsSightWay g.P.Places.number around s p c.look_up-sight.result in
+    let P : Place _ → Type 0 = λ p. IsSightWay g.P.Places.number around.space (numbered g.P.Places.number p) (component_data c.component_of-component.result) c.look_up-sight.result in
+    let Q : Component → Type 0 = λ p. IsSightWay g.P.Places.number around.space s p c.look_up-sight.result in
     subst Q is_component (subst P c.place.ensures c.look_up-sight.ensures.way)
 
 pub returns-then-none_behind-clause-outcome : goal.returns-then-none_behind-clause-outcome
