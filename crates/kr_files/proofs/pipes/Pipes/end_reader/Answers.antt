@@ -1,7 +1,7 @@
 use Rattle.std.proofs.Common.{◌≡◌, ◌∙◌, ap, sym, cond, true}
 use Rattle.std.specs.FinMap as map
 use Rattle.kr_files.specs.Maps.{changed}
-use Rattle.kr_files.specs.Pipes.{writer_open, without_reader}
+use Rattle.kr_files.specs.StoredPipes.{writer_open, without_reader}
 use Rattle.kr_files.proofs.MapLemmas.{changed-some, changed-none}
 use Rattle.kr_files.proofs.TreeLemmas.{get-view, written, untouched}
 use Rattle.kr_files.proofs.pipes.Pipes.end_reader.Goals as goal
