@@ -111,6 +111,14 @@ impl Guest {
         self.files.pipe(&mut self.descs, false)
     }
 
+    pub fn takes_pipe(&self) -> bool {
+        self.files.takes_pipe(&self.descs)
+    }
+
+    pub fn lowest_free(&self, from: u32) -> Option<u32> {
+        self.descs.lowest_free(from)
+    }
+
     pub fn pipe_is_there(&self, pipe: u32) -> bool {
         self.files.pipe_state(pipe).is_some()
     }
