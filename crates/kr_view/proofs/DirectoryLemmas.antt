@@ -13,12 +13,12 @@ use Rattle.kr_tree.specs.Tree.{Tree, Inode, inode, body, body_is, is_directory}
 use Rattle.kr_view.specs.View.{root_source, root_place, StandsIn}
 use Rattle.kr_view.specs.Component.{Surroundings, SeenPlace, look, inside, is_directory_at, may_search}
 use Rattle.kr_view.specs.Walk.{PlaceTrail, PlaceTarget, looking, place_walk}
-use Rattle.kr_view.specs.Laws.{Shows}
-use Rattle.kr_view.proofs.EndLemmas.{EndsSo, walk_ends}
+use Rattle.pr_base.specs.WalkLaws.{Shows}
+use Rattle.pr_base.proofs.EndLemmas.{EndsSo, walk_ends}
+use Rattle.pr_base.proofs.WalkLemmas.{walk-none}
 use Rattle.kr_view.proofs.JumpedLemmas.{jumped_own}
 use Rattle.kr_view.proofs.TableLemmas.{same_some, laws_of_places}
 use Rattle.kr_view.proofs.RestLemmas.{begun_has_parts}
-use Rattle.kr_view.proofs.WalkLemmas.{walk_none}
 
 -- from what is no directory nothing is shown
 pub looked_in : (around : Surroundings) (p : Place ℕ) (c : Component) (found : Option (Place ℕ)) → Shows (look around p c) found → is_directory_at around p.host ≡ true
@@ -114,7 +114,7 @@ module _ (around : Surroundings) (mode : WalkMode) (base : Place ℕ) (path : Li
       ap (λ s. on s (components_of path) (has_slash path)) (begins_at_root (looking around) base path some none)
       ∙ ap (λ cs. on (root_place around.table) cs (has_slash path)) none
       ∙ ap (λ b. on (root_place around.table) [] (if b then ends_in_slash path else false)) (parts_none (parts_of path) none)
-      ∙ walk_none (looking around) mode most_links (root_place around.table) false
+      ∙ walk-none (looking around) mode most_links (root_place around.table) false
 
 pub empty_ends : (around : Surroundings) (mode : WalkMode) (base : Place ℕ) → place_walk around mode base [] ≡ ends_here (looking around) base false
-empty_ends around mode base = walk_none (looking around) mode most_links base false
+empty_ends around mode base = walk-none (looking around) mode most_links base false

@@ -3,7 +3,7 @@ use Rattle.std.proofs.Common.{◌≡◌, ◌≢◌, ℕ, Bool, true, false, not,
 use Rattle.std.specs.Bool.{if◌then◌else◌}
 use Rattle.std.specs.Result.{IsErr, IsErrAnd}
 use Rattle.pr_base.specs.Paths.{Component, Dot, DotDot, Name, components_of, has_slash}
-use Rattle.pr_base.specs.WalkFrame.{Landing, ends, fails, begins_at, jumps_on, is_followed, wants_directory, may_be_free, target_at, name_of, ends_landed, Missing, Leads, Links, Jumps}
+use Rattle.pr_base.specs.WalkFrame.{Landing, ends, fails, begins_at, landed, after_jump, onward, jumps_on, is_followed, wants_directory, may_be_free, target_at, name_of, ends_landed, Missing, Leads, Links, Jumps}
 use Rattle.pr_base.specs.declared.errno.Errno.TheVariants.{ENOTDIR}
 use Rattle.pr_base.specs.declared.path.Last.TheVariants as last
 use Rattle.pr_base.specs.declared.path.WalkMode.{WalkMode}
@@ -18,86 +18,82 @@ use Rattle.kr_view.specs.declared.walk.Walk.{Walk}
 use Rattle.kr_view.specs.declared.walk.Step.{Step}
 use Rattle.kr_view.specs.declared.walk.Step.TheVariants.{Ends}
 use Rattle.kr_view.specs.Leads.{numbered}
-use Rattle.kr_view.specs.Component.{Surroundings, SeenPlace, landing, seen_link}
+use Rattle.kr_view.specs.Component.{Surroundings, landing, seen_link}
 use Rattle.kr_view.specs.Names.{free_name}
 use Rattle.kr_view.specs.Walk.{PlaceTrail, PlaceTarget, looking}
-use Rattle.kr_view.specs.Reach.{Covers, raised}
+use Rattle.kr_view.specs.Reach.{Covers, raised, reached_landing, reach_after}
 use Rattle.kr_view.specs.Answers.{told, target_numbered}
 use Rattle.kr_view.specs.Stacks.{stack_of}
-use Rattle.kr_view.specs.Steps.{again, last_trail, reach_behind, reached_landing, IsLanded, IsFollowed, IsOutcome}
+use Rattle.kr_view.specs.Steps.{last_trail, IsLanded, IsFollowed, IsOutcome}
 use Rattle.kr_view.proofs.ReachLemmas.{covers_refl}
-use Rattle.kr_view.proofs.OutcomeLemmas.{want_behind, links_error, jumps_to}
+use Rattle.kr_view.proofs.OutcomeLemmas.{want_behind, at_follow_error, jumps_to}
 
 -- ---- links
 
 pub last_links : (around : Surroundings) (mode : WalkMode) (left : ℕ) (s : Place ℕ) (c : Component) (slash : Bool) (found : Place ℕ) (text : List ℕ) (rest : List Component) → is_followed mode slash ≡ true → rest ≡ []
-    → last_trail around mode left s c slash (Links found text) ≡ again (looking around) mode left (begins_at (looking around) s text) (components_of text ++ rest) (slash || has_slash text)
+    → last_trail around mode left s c slash (Links found text) ≡ onward (looking around) mode left (begins_at (looking around) s text) (components_of text ++ rest) (slash || has_slash text)
 last_links around mode left s c slash found text rest followed none =
-    let at = again (looking around) mode left (begins_at (looking around) s text) in
+    let at = onward (looking around) mode left (begins_at (looking around) s text) in
     ap (λ b. if b then at (components_of text) (slash || has_slash text) else ends (target_at s c slash (Some found))) followed
     ∙ ap (λ cs. at cs (slash || has_slash text)) (sym (append-nil (components_of text)) ∙ ap (λ cs. components_of text ++ cs) (sym none))
 
 -- ---- a process link
 
 pub last_jump : (around : Surroundings) (mode : WalkMode) (left : ℕ) (s : Place ℕ) (c : Component) (slash : Bool) (link : Place ℕ) (l : Landing (Place ℕ) (Place ℕ)) → is_followed mode slash ≡ true → left ≢ 0
-    → last_trail around mode left s c slash (Jumps link (Some l)) ≡ ends_landed mode slash l
+    → last_trail around mode left s c slash (Jumps link (Some l)) ≡ after_jump l (ends_landed mode slash l)
 last_jump around mode left s c slash link l followed some =
     ap (λ b. if b then jumps_on left (ends_landed mode slash) (Some l) else ends (target_at s c slash (Some link))) followed ∙ jumps_to left (ends_landed mode slash) l some
 
 -- what it led to is reached, and nothing more
-landing_end : (around : Surroundings) (link : Place ℕ) (l : Landing (Place ℕ) (Place ℕ)) (slash wants is_dir : Bool) (old : Reach)
-    → reach_behind around (Jumps link (Some l))
-    (if wants then (if is_dir then ends (record { dir = l.dir; name = l.name; last = last.Name; slash = slash; found = Some l.found; jumped = true }) else fails ENOTDIR)
-    else ends (record { dir = l.dir; name = l.name; last = last.Name; slash = slash; found = Some l.found; jumped = true })) old
-    ≡ reached_landing around l old
-landing_end around link l slash true true old = refl
-landing_end around link l slash true false old = refl
-landing_end around link l slash false is_dir old = refl
+landing_end : (around : Surroundings) (l : Landing (Place ℕ) (Place ℕ)) (slash wants is_dir : Bool) (old : Reach)
+    → reach_after around (after_jump l (if wants then (if is_dir then ends (landed l slash) else fails ENOTDIR) else ends (landed l slash))) old ≡ reached_landing around l old
+landing_end around l slash true true old = refl
+landing_end around l slash true false old = refl
+landing_end around l slash false is_dir old = refl
 
-pub landed_reach : (around : Surroundings) (mode : WalkMode) (link : Place ℕ) (l : Landing (Place ℕ) (Place ℕ)) (slash : Bool) (old : Reach)
-    → reach_behind around (Jumps link (Some l)) (ends_landed mode slash l) old ≡ reached_landing around l old
-landed_reach around mode link l slash old = landing_end around link l slash (wants_directory mode slash) l.is_dir old
+pub landed_reach : (around : Surroundings) (mode : WalkMode) (l : Landing (Place ℕ) (Place ℕ)) (slash : Bool) (old : Reach)
+    → reach_after around (after_jump l (ends_landed mode slash l)) old ≡ reached_landing around l old
+landed_reach around mode l slash old = landing_end around l slash (wants_directory mode slash) l.is_dir old
 
 module _ {M : Type 0} (number : M → ℕ) (around : Surroundings) (mode : WalkMode) (walk : Walk M) (link : Place ℕ) (c : Component) (lead : Lead ℕ) (old : Reach) where
   abbrev pub behind_last : PlaceTrail
   behind_last = last_trail around mode walk.left (numbered number walk.position.place) c walk.slash (seen_link around link lead)
 
   pub last_want : (r : Result (Step M) WalkFault) → IsErr r → IsErrAnd r (λ f. f ≡ fault.NoMemory)
-      → IsOutcome number around mode behind_last.answer (reach_behind around (seen_link around link lead) behind_last old) old old r
-  last_want r err want = want_behind number around mode behind_last.answer (seen_link around link lead) behind_last old r err want
+      → IsOutcome number around mode behind_last.answer (reach_after around behind_last old) old old r
+  last_want r err want = want_behind number around mode behind_last.answer behind_last old r err want
 
   pub last_text_error : (text : List ℕ) (slash : Bool) (e : WalkFault) (r : Result (Step M) WalkFault) → lead ≡ Text text → slash ≡ (walk.slash || has_slash text) → is_followed mode walk.slash ≡ true → stack_of walk.rests ≡ []
       → IsErr r → IsErrAnd r (λ f. f ≡ e) → IsFollowed number around walk text slash (Err e)
-      → IsOutcome number around mode behind_last.answer (reach_behind around (seen_link around link lead) behind_last old) old old r
+      → IsOutcome number around mode behind_last.answer (reach_after around behind_last old) old old r
   last_text_error text slash e r is slashed followed none err same follows =
       let s = numbered number walk.position.place in
       let seen = ap (seen_link around link) is in
       let at = ap (last_trail around mode walk.left s c walk.slash) seen ∙ last_links around mode walk.left s c walk.slash link text (stack_of walk.rests) followed none
-      ∙ ap (again (looking around) mode walk.left (begins_at (looking around) s text) (components_of text ++ stack_of walk.rests)) (sym slashed) in
-      links_error number around mode old walk text slash (seen_link around link lead) behind_last link e r seen at err same follows
+      ∙ ap (onward (looking around) mode walk.left (begins_at (looking around) s text) (components_of text ++ stack_of walk.rests)) (sym slashed) in
+      at_follow_error number around mode walk text slash behind_last old e r err same follows at
 
   -- what the answer is, and what was reached, where it led somewhere
-  landed_answer : (p : Place ℕ) (dir : ℕ) (name : List ℕ) → lead ≡ Jump p dir name → is_followed mode walk.slash ≡ true → walk.left ≢ 0 → behind_last ≡ ends_landed mode walk.slash (landing around p dir name)
+  landed_answer : (p : Place ℕ) (dir : ℕ) (name : List ℕ) → lead ≡ Jump p dir name → is_followed mode walk.slash ≡ true → walk.left ≢ 0
+      → behind_last ≡ after_jump (landing around p dir name) (ends_landed mode walk.slash (landing around p dir name))
   landed_answer p dir name is followed some =
       ap (λ l. last_trail around mode walk.left (numbered number walk.position.place) c walk.slash (seen_link around link l)) is
       ∙ last_jump around mode walk.left (numbered number walk.position.place) c walk.slash link (landing around p dir name) followed some
 
   landed_whole : (p : Place ℕ) (dir : ℕ) (name : List ℕ) → lead ≡ Jump p dir name → is_followed mode walk.slash ≡ true → walk.left ≢ 0
-      → reach_behind around (seen_link around link lead) behind_last old ≡ reached_landing around (landing around p dir name) old
+      → reach_after around behind_last old ≡ reached_landing around (landing around p dir name) old
   landed_whole p dir name is followed some =
-      ap (λ t. reach_behind around (seen_link around link lead) t old) (landed_answer p dir name is followed some)
-      ∙ ap (λ l. reach_behind around (seen_link around link l) (ends_landed mode walk.slash (landing around p dir name)) old) is
-      ∙ landed_reach around mode link (landing around p dir name) walk.slash old
+      ap (λ t. reach_after around t old) (landed_answer p dir name is followed some) ∙ landed_reach around mode (landing around p dir name) walk.slash old
 
   pub landed_ends : (p : Place ℕ) (dir : ℕ) (name : List ℕ) (new : Reach) (target : Told M) → lead ≡ Jump p dir name → is_followed mode walk.slash ≡ true → walk.left ≢ 0
       → new ≡ reached_landing around (landing around p dir name) old → IsLanded number (ends_landed mode walk.slash (landing around p dir name)).answer (Ok target)
-      → IsOutcome number around mode behind_last.answer (reach_behind around (seen_link around link lead) behind_last old) old new (Ok (Ends target))
+      → IsOutcome number around mode behind_last.answer (reach_after around behind_last old) old new (Ok (Ends target))
   landed_ends p dir name new target is followed some reached landed =
       ((landed.0, ap (λ t. t.answer) (landed_answer p dir name is followed some) ∙ landed.1, landed.2), reached ∙ sym (landed_whole p dir name is followed some))
 
   pub landed_error : (p : Place ℕ) (dir : ℕ) (name : List ℕ) (new : Reach) (e : WalkFault) (r : Result (Step M) WalkFault) → lead ≡ Jump p dir name → is_followed mode walk.slash ≡ true → walk.left ≢ 0
       → new ≡ reached_landing around (landing around p dir name) old → IsErr r → IsErrAnd r (λ f. f ≡ e) → IsLanded number (ends_landed mode walk.slash (landing around p dir name)).answer (Err e)
-      → Covers new old → IsOutcome number around mode behind_last.answer (reach_behind around (seen_link around link lead) behind_last old) old new r
+      → Covers new old → IsOutcome number around mode behind_last.answer (reach_after around behind_last old) old new r
   landed_error p dir name new e (Ok step) is followed some reached err same landed covers = absurd cc
   landed_error p dir name new (fault.Err e) (Err fault.NoMemory) is followed some reached err same landed covers = absurd cc
   landed_error p dir name new fault.NoMemory (Err (fault.Err f)) is followed some reached err same landed covers = absurd cc
@@ -111,16 +107,16 @@ module _ {M : Type 0} (number : M → ℕ) (around : Surroundings) (mode : WalkM
 -- ---- what is found as it stands, and a free name
 
 -- nothing more is reached
-found_reach : (around : Surroundings) (seen : SeenPlace) (s : Place ℕ) (c : Component) (slash : Bool) (q : Place ℕ) (old : Reach) → reach_behind around seen (ends (target_at s c slash (Some q))) old ≡ old
-found_reach around seen s Dot slash q old = refl
-found_reach around seen s DotDot slash q old = refl
-found_reach around seen s (Name name) slash q old = refl
+found_reach : (around : Surroundings) (s : Place ℕ) (c : Component) (slash : Bool) (q : Place ℕ) (old : Reach) → reach_after around (ends (target_at s c slash (Some q))) old ≡ old
+found_reach around s Dot slash q old = refl
+found_reach around s DotDot slash q old = refl
+found_reach around s (Name name) slash q old = refl
 
-free_reach : (around : Surroundings) (seen : SeenPlace) (s : Place ℕ) (c : Component) (slash : Bool) (old : Reach)
-    → reach_behind around seen (ends (target_at s c slash None)) old ≡ record { longest = raised (free_name around s.host (name_of c)) old.longest; met_proc = old.met_proc }
-free_reach around seen s Dot slash old = refl
-free_reach around seen s DotDot slash old = refl
-free_reach around seen s (Name name) slash old = refl
+free_reach : (around : Surroundings) (s : Place ℕ) (c : Component) (slash : Bool) (old : Reach)
+    → reach_after around (ends (target_at s c slash None)) old ≡ record { longest = raised (free_name around s.host (name_of c)) old.longest; met_proc = old.met_proc }
+free_reach around s Dot slash old = refl
+free_reach around s DotDot slash old = refl
+free_reach around s (Name name) slash old = refl
 
 module _ (around : Surroundings) (mode : WalkMode) (left : ℕ) (s : Place ℕ) (c : Component) (slash : Bool) where
   pub last_link_found : (q : Place ℕ) (text : List ℕ) → is_followed mode slash ≡ false → last_trail around mode left s c slash (Links q text) ≡ ends (target_at s c slash (Some q))
@@ -143,15 +139,15 @@ module _ (around : Surroundings) (mode : WalkMode) (left : ℕ) (s : Place ℕ) 
       unrefused true false t h = absurd cc
       unrefused false is_dir t h = refl
 
-module _ {M : Type 0} (number : M → ℕ) (around : Surroundings) (mode : WalkMode) (seen : SeenPlace) (trail : PlaceTrail) (s : Place ℕ) (c : Component) (slash : Bool) (old : Reach) (target : Told M) where
+module _ {M : Type 0} (number : M → ℕ) (around : Surroundings) (mode : WalkMode) (trail : PlaceTrail) (s : Place ℕ) (c : Component) (slash : Bool) (old : Reach) (target : Told M) where
   pub ends_at : (q : Place ℕ) → trail ≡ ends (target_at s c slash (Some q)) → told (target_at s c slash (Some q)) ≡ target_numbered number target
-      → IsOutcome number around mode trail.answer (reach_behind around seen trail old) old old (Ok (Ends target))
+      → IsOutcome number around mode trail.answer (reach_after around trail old) old old (Ok (Ends target))
   ends_at q at same =
-      ((target_at s c slash (Some q), ap (λ t. t.answer) at, same), sym (ap (λ t. reach_behind around seen t old) at ∙ found_reach around seen s c slash q old))
+      ((target_at s c slash (Some q), ap (λ t. t.answer) at, same), sym (ap (λ t. reach_after around t old) at ∙ found_reach around s c slash q old))
 
   pub ends_free : (new : Reach) → trail ≡ ends (target_at s c slash None) → told (target_at s c slash None) ≡ target_numbered number target
       → new.longest ≡ raised (free_name around s.host (name_of c)) old.longest → new.met_proc ≡ old.met_proc
-      → IsOutcome number around mode trail.answer (reach_behind around seen trail old) old new (Ok (Ends target))
+      → IsOutcome number around mode trail.answer (reach_after around trail old) old new (Ok (Ends target))
   ends_free new at same long met =
       let all : new ≡ record { longest = raised (free_name around s.host (name_of c)) old.longest; met_proc = old.met_proc } = λ i. record { longest = long i; met_proc = met i } in
-      ((target_at s c slash None, ap (λ t. t.answer) at, same), all ∙ sym (ap (λ t. reach_behind around seen t old) at ∙ free_reach around seen s c slash old))
+      ((target_at s c slash None, ap (λ t. t.answer) at, same), all ∙ sym (ap (λ t. reach_after around t old) at ∙ free_reach around s c slash old))

@@ -1,6 +1,4 @@
 pub mod DirectoryLemmas
-pub mod EndLemmas
-pub mod FoundLemmas
 pub mod HostNameLemmas
 pub mod JumpedLemmas
 pub mod LandingLemmas
@@ -14,4 +12,3 @@ pub mod RestLemmas
 pub mod StackLemmas
 pub mod StepLemmas
 pub mod TableLemmas
-pub mod WalkLemmas

@@ -3,7 +3,7 @@ use Rattle.std.proofs.Common.{◌≡◌, ◌≢◌, ◌-◌, ℕ, zero, suc, Boo
 use Rattle.std.specs.Bool.{if◌then◌else◌}
 use Rattle.std.specs.Result.{IsErr, IsErrAnd}
 use Rattle.pr_base.specs.Paths.{Component, components_of}
-use Rattle.pr_base.specs.WalkFrame.{Landing, Trail, fails, begins_at, jumps_on, walk_on, Links, Jumps}
+use Rattle.pr_base.specs.WalkFrame.{Landing, Trail, fails, begins_at, after_jump, jumps_on, onward, walk_on, Links, Jumps}
 use Rattle.pr_base.specs.declared.errno.Errno.{Errno}
 use Rattle.pr_base.specs.declared.errno.Errno.TheVariants.{ELOOP}
 use Rattle.pr_base.specs.declared.path.WalkMode.{WalkMode}
@@ -19,22 +19,12 @@ use Rattle.kr_view.specs.View.{node_in}
 use Rattle.kr_view.specs.Leads.{numbered}
 use Rattle.kr_view.specs.Component.{Surroundings, SeenPlace, is_directory_at, landing, seen_link}
 use Rattle.kr_view.specs.Walk.{PlaceTrail, PlaceTarget, looking}
-use Rattle.kr_view.specs.Reach.{Covers, raised, jump_name, went_on, reach_after}
+use Rattle.kr_view.specs.Reach.{Covers, reached_landing, reach_after}
 use Rattle.kr_view.specs.Stacks.{stack_of}
 use Rattle.kr_view.specs.Positions.{IsNamed}
-use Rattle.kr_view.specs.Steps.{again, trail_of, middle_trail, jumped_to, reach_behind, reached_landing, Follows, IsFollowed, GoesOn, IsOutcome}
-use Rattle.kr_view.proofs.ReachLemmas.{covers_refl, covers_trans, covers_after, covers_behind, covers_landing}
-use Rattle.kr_view.proofs.WalkLemmas.{walk_last, walk_middle, again_less, again_none}
-
--- without a process link nothing is reached beside the trail
-same_both : {A : Type 0} (b : Bool) (x : A) → (if b then x else x) ≡ x
-same_both true x = refl
-same_both false x = refl
-
-pub no_jump : (around : Surroundings) (seen : SeenPlace) (trail : PlaceTrail) (r : Reach) → jump_name around seen ≡ None → reach_behind around seen trail r ≡ reach_after around trail r
-no_jump around seen trail r none =
-    let still : (if went_on trail.looks trail.answer then jump_name around seen else None) ≡ None = ap (λ j. if went_on trail.looks trail.answer then j else None) none ∙ same_both (went_on trail.looks trail.answer) None in
-    ap (λ j. reach_after around trail (record { longest = raised j r.longest; met_proc = r.met_proc })) still
+use Rattle.kr_view.specs.Steps.{trail_of, middle_trail, Follows, IsFollowed, GoesOn, IsOutcome}
+use Rattle.pr_base.proofs.WalkLemmas.{onward-less, onward-none}
+use Rattle.kr_view.proofs.ReachLemmas.{covers_refl, covers_trans, covers_after, covers_landing, behind_jump}
 
 module _ {M : Type 0} (number : M → ℕ) (around : Surroundings) (mode : WalkMode) where
   pub at_want : (answer : Result PlaceTarget Errno) (whole old new : Reach) (r : Result (Step M) WalkFault) → IsErr r → IsErrAnd r (λ f. f ≡ fault.NoMemory)
@@ -46,23 +36,23 @@ module _ {M : Type 0} (number : M → ℕ) (around : Surroundings) (mode : WalkM
   -- a link that was followed
   followed_at : (walk : Walk M) (text : List ℕ) (slash : Bool) → PlaceTrail
   followed_at walk text slash =
-      again (looking around) mode walk.left (begins_at (looking around) (numbered number walk.position.place) text) (components_of text ++ stack_of walk.rests) slash
+      onward (looking around) mode walk.left (begins_at (looking around) (numbered number walk.position.place) text) (components_of text ++ stack_of walk.rests) slash
 
   pub at_follow_error : (walk : Walk M) (text : List ℕ) (slash : Bool) (trail : PlaceTrail) (old : Reach) (e : WalkFault) (r : Result (Step M) WalkFault) → IsErr r → IsErrAnd r (λ f. f ≡ e)
       → IsFollowed number around walk text slash (Err e)
-      → trail ≡ again (looking around) mode walk.left (begins_at (looking around) (numbered number walk.position.place) text) (components_of text ++ stack_of walk.rests) slash
+      → trail ≡ onward (looking around) mode walk.left (begins_at (looking around) (numbered number walk.position.place) text) (components_of text ++ stack_of walk.rests) slash
       → IsOutcome number around mode trail.answer (reach_after around trail old) old old r
   at_follow_error walk text slash trail old e (Ok step) is same followed at = absurd cc
   at_follow_error walk text slash trail old (fault.Err e) (Err fault.NoMemory) is same followed at = absurd cc
   at_follow_error walk text slash trail old fault.NoMemory (Err (fault.Err f)) is same followed at = absurd cc
   at_follow_error walk text slash trail old fault.NoMemory (Err fault.NoMemory) is same followed at = (covers_refl old, covers_after around trail old)
   at_follow_error walk text slash trail old (fault.Err e) (Err (fault.Err f)) is same followed at =
-      let loops : trail ≡ fails ELOOP = at ∙ again_none (looking around) mode walk.left _ _ slash followed.1 in
+      let loops : trail ≡ fails ELOOP = at ∙ onward-none (looking around) mode walk.left _ _ slash followed.1 in
       let one : f ≡ e = cc in
       (ap (λ t. t.answer) loops ∙ ap Err (sym followed.0 ∙ sym one), ap (λ t. reach_after around t old) (sym loops))
 
   pub at_follow : (walk : Walk M) (text : List ℕ) (slash : Bool) (trail : PlaceTrail) (old : Reach) (on : Walk M) → Follows number around walk text slash on
-      → trail ≡ again (looking around) mode walk.left (begins_at (looking around) (numbered number walk.position.place) text) (components_of text ++ stack_of walk.rests) slash
+      → trail ≡ onward (looking around) mode walk.left (begins_at (looking around) (numbered number walk.position.place) text) (components_of text ++ stack_of walk.rests) slash
       → GoesOn number around mode trail.answer (reach_after around trail old) old old on
   at_follow walk text slash trail old on follows at =
       let same = follows.trail mode ∙ sym at in
@@ -70,13 +60,7 @@ module _ {M : Type 0} (number : M → ℕ) (around : Surroundings) (mode : WalkM
 
 -- ---- a process link
 
-went_on_walk : (around : Surroundings) (mode : WalkMode) (left : ℕ) (s : Place ℕ) (rest : List Component) (slash : Bool) → rest ≢ []
-    → went_on (walk_on (looking around) mode left s rest slash).looks (walk_on (looking around) mode left s rest slash).answer ≡ true
-went_on_walk around mode left s [] slash some = absurd (some refl)
-went_on_walk around mode left s (c ∷ []) slash some = ap (λ t. went_on t.looks t.answer) (walk_last (looking around) mode left s c slash)
-went_on_walk around mode left s (c ∷ d ∷ cs) slash some = ap (λ t. went_on t.looks t.answer) (walk_middle (looking around) mode left s c d cs slash)
-
-pub jumps_to : {S F : Type 0} (left : ℕ) (go : Landing S F → Trail S F) (l : Landing S F) → left ≢ 0 → jumps_on left go (Some l) ≡ go l
+pub jumps_to : {S F : Type 0} (left : ℕ) (go : Landing S F → Trail S F) (l : Landing S F) → left ≢ 0 → jumps_on left go (Some l) ≡ after_jump l (go l)
 jumps_to zero go l some = absurd (some refl)
 jumps_to (suc left) go l some = refl
 
@@ -89,20 +73,18 @@ landing_place around p dir name =
 
 module _ (around : Surroundings) (mode : WalkMode) (left : ℕ) (s : Place ℕ) (rest : List Component) (slash : Bool) (link : Place ℕ) where
   -- behind a process link the walk goes on with one link less
-  middle_jump : (p : Place ℕ) (dir : ℕ) (name : List ℕ) → left ≢ 0 → middle_trail around mode left s rest slash (Jumps link (Some (landing around p dir name))) ≡ walk_on (looking around) mode (left - 1) p rest slash
+  middle_jump : (p : Place ℕ) (dir : ℕ) (name : List ℕ) → left ≢ 0
+      → middle_trail around mode left s rest slash (Jumps link (Some (landing around p dir name))) ≡ after_jump (landing around p dir name) (walk_on (looking around) mode (left - 1) p rest slash)
   middle_jump p dir name some =
-      jumps_to left (λ l. again (looking around) mode left l.place rest slash) (landing around p dir name) some
-      ∙ again_less (looking around) mode left (landing around p dir name).place rest slash some
-      ∙ ap (λ q. walk_on (looking around) mode (left - 1) q rest slash) (landing_place around p dir name)
+      let l = landing around p dir name in
+      jumps_to left (λ l. onward (looking around) mode left l.place rest slash) l some
+      ∙ ap (after_jump l) (onward-less (looking around) mode left l.place rest slash some ∙ ap (λ q. walk_on (looking around) mode (left - 1) q rest slash) (landing_place around p dir name))
 
-  middle_jump_reach : (p : Place ℕ) (dir : ℕ) (name : List ℕ) (old : Reach) → left ≢ 0 → rest ≢ []
-      → reach_behind around (Jumps link (Some (landing around p dir name))) (middle_trail around mode left s rest slash (Jumps link (Some (landing around p dir name)))) old
+  middle_jump_reach : (p : Place ℕ) (dir : ℕ) (name : List ℕ) (old : Reach) → left ≢ 0
+      → reach_after around (middle_trail around mode left s rest slash (Jumps link (Some (landing around p dir name)))) old
       ≡ reach_after around (walk_on (looking around) mode (left - 1) p rest slash) (reached_landing around (landing around p dir name) old)
-  middle_jump_reach p dir name old some more =
-      let on = walk_on (looking around) mode (left - 1) p rest slash in
-      let went : went_on on.looks on.answer ≡ true = went_on_walk around mode (left - 1) p rest slash more in
-      ap (λ t. reach_behind around (Jumps link (Some (landing around p dir name))) t old) (middle_jump p dir name some)
-      ∙ ap (λ b. reach_after around on (jumped_to around (Jumps link (Some (landing around p dir name))) b old)) went
+  middle_jump_reach p dir name old some =
+      ap (λ t. reach_after around t old) (middle_jump p dir name some) ∙ behind_jump around (landing around p dir name) (walk_on (looking around) mode (left - 1) p rest slash) old
 
 module _ {M : Type 0} (number : M → ℕ) (around : Surroundings) (mode : WalkMode) (walk : Walk M) (link : Place ℕ) (lead : Lead ℕ) (old : Reach) where
   -- what is left of a walk behind a process link
@@ -110,26 +92,24 @@ module _ {M : Type 0} (number : M → ℕ) (around : Surroundings) (mode : WalkM
   behind_link = middle_trail around mode walk.left (numbered number walk.position.place) (stack_of walk.rests) walk.slash (seen_link around link lead)
 
   pub link_want : (r : Result (Step M) WalkFault) → IsErr r → IsErrAnd r (λ f. f ≡ fault.NoMemory)
-      → IsOutcome number around mode behind_link.answer (reach_behind around (seen_link around link lead) behind_link old) old old r
+      → IsOutcome number around mode behind_link.answer (reach_after around behind_link old) old old r
   link_want r err want =
-      at_want number around mode behind_link.answer (reach_behind around (seen_link around link lead) behind_link old) old old r err want
-      (covers_refl old, covers_behind around (seen_link around link lead) behind_link old)
+      at_want number around mode behind_link.answer (reach_after around behind_link old) old old r err want
+      (covers_refl old, covers_after around behind_link old)
 
   pub text_error : (text : List ℕ) (e : WalkFault) (r : Result (Step M) WalkFault) → lead ≡ Text text → IsErr r → IsErrAnd r (λ f. f ≡ e) → IsFollowed number around walk text walk.slash (Err e)
-      → IsOutcome number around mode behind_link.answer (reach_behind around (seen_link around link lead) behind_link old) old old r
+      → IsOutcome number around mode behind_link.answer (reach_after around behind_link old) old old r
   text_error text e r is err same followed =
       let s = numbered number walk.position.place in
       let T = middle_trail around mode walk.left s (stack_of walk.rests) walk.slash (Links link text) in
-      let at_text : IsOutcome number around mode T.answer (reach_behind around (Links link text) T old) old old r =
-      let P : Reach → Type 0 = λ whole. IsOutcome number around mode T.answer whole old old r in
-      subst P (sym (no_jump around (Links link text) T old refl)) (at_follow_error number around mode walk text walk.slash T old e r err same followed refl) in
+      let at_text : IsOutcome number around mode T.answer (reach_after around T old) old old r = at_follow_error number around mode walk text walk.slash T old e r err same followed refl in
       let Q : Lead ℕ → Type 0 = λ lead. IsOutcome number around mode (middle_trail around mode walk.left s (stack_of walk.rests) walk.slash (seen_link around link lead)).answer
-      (reach_behind around (seen_link around link lead) (middle_trail around mode walk.left s (stack_of walk.rests) walk.slash (seen_link around link lead)) old) old old r in
+      (reach_after around (middle_trail around mode walk.left s (stack_of walk.rests) walk.slash (seen_link around link lead)) old) old old r in
       subst Q (sym is) at_text
 
   pub landing_error : (p : Place ℕ) (dir : ℕ) (name : List ℕ) (new : Reach) (r : Result (Step M) WalkFault) → lead ≡ Jump p dir name → walk.left ≢ 0 → stack_of walk.rests ≢ []
       → IsErr r → IsErrAnd r (λ f. f ≡ fault.NoMemory) → Covers new old × Covers (reached_landing around (landing around p dir name) old) new
-      → IsOutcome number around mode behind_link.answer (reach_behind around (seen_link around link lead) behind_link old) old new r
+      → IsOutcome number around mode behind_link.answer (reach_after around behind_link old) old new r
   landing_error p dir name new r is some more err want part =
       let l = landing around p dir name in
       let s = numbered number walk.position.place in
@@ -137,49 +117,33 @@ module _ {M : Type 0} (number : M → ℕ) (around : Surroundings) (mode : WalkM
       let on = walk_on (looking around) mode (walk.left - 1) p (stack_of walk.rests) walk.slash in
       let all : Covers (reach_after around on (reached_landing around l old)) new = covers_trans _ (reached_landing around l old) new (covers_after around on (reached_landing around l old)) part.1 in
       let P : Reach → Type 0 = λ whole. Covers whole new in
-      let whole : Covers (reach_behind around (Jumps link (Some l)) T old) new = subst P (sym (middle_jump_reach around mode walk.left s (stack_of walk.rests) walk.slash link p dir name old some more)) all in
-      let at_jump = at_want number around mode T.answer (reach_behind around (Jumps link (Some l)) T old) old new r err want (part.0, whole) in
+      let whole : Covers (reach_after around T old) new = subst P (sym (middle_jump_reach around mode walk.left s (stack_of walk.rests) walk.slash link p dir name old some)) all in
+      let at_jump = at_want number around mode T.answer (reach_after around T old) old new r err want (part.0, whole) in
       let Q : Lead ℕ → Type 0 = λ lead. IsOutcome number around mode (middle_trail around mode walk.left s (stack_of walk.rests) walk.slash (seen_link around link lead)).answer
-      (reach_behind around (seen_link around link lead) (middle_trail around mode walk.left s (stack_of walk.rests) walk.slash (seen_link around link lead)) old) old new r in
+      (reach_after around (middle_trail around mode walk.left s (stack_of walk.rests) walk.slash (seen_link around link lead)) old) old new r in
       subst Q (sym is) at_jump
 
   pub landing_goes : (p : Place ℕ) (dir : ℕ) (name : List ℕ) (new : Reach) (on : Walk M) → lead ≡ Jump p dir name → walk.left ≢ 0 → stack_of walk.rests ≢ []
       → new ≡ reached_landing around (landing around p dir name) old → trail_of number around mode on ≡ walk_on (looking around) mode (walk.left - 1) p (stack_of walk.rests) walk.slash
       → IsNamed around.tree on.position.place.host on.position.name
-      → GoesOn number around mode behind_link.answer (reach_behind around (seen_link around link lead) behind_link old) old new on
+      → GoesOn number around mode behind_link.answer (reach_after around behind_link old) old new on
   landing_goes p dir name new on is some more reached goes named =
       let l = landing around p dir name in
       let s = numbered number walk.position.place in
       let T = middle_trail around mode walk.left s (stack_of walk.rests) walk.slash (Jumps link (Some l)) in
-      let at_jump : GoesOn number around mode T.answer (reach_behind around (Jumps link (Some l)) T old) old new on = record {
-        ends = ap (λ t. t.answer) (goes ∙ sym (middle_jump around mode walk.left s (stack_of walk.rests) walk.slash link p dir name some));
+      let at_jump : GoesOn number around mode T.answer (reach_after around T old) old new on = record {
+        ends = ap (λ t. t.answer) goes ∙ sym (ap (λ t. t.answer) (middle_jump around mode walk.left s (stack_of walk.rests) walk.slash link p dir name some));
         reaches =
             ap (λ t. reach_after around t new) goes ∙ ap (reach_after around (walk_on (looking around) mode (walk.left - 1) p (stack_of walk.rests) walk.slash)) reached
-            ∙ sym (middle_jump_reach around mode walk.left s (stack_of walk.rests) walk.slash link p dir name old some more);
+            ∙ sym (middle_jump_reach around mode walk.left s (stack_of walk.rests) walk.slash link p dir name old some);
         covers = let P : Reach → Type 0 = λ n. Covers n old in subst P (sym reached) (covers_landing around l old);
         named = named;
       } in
       let Q : Lead ℕ → Type 0 = λ lead. GoesOn number around mode (middle_trail around mode walk.left s (stack_of walk.rests) walk.slash (seen_link around link lead)).answer
-      (reach_behind around (seen_link around link lead) (middle_trail around mode walk.left s (stack_of walk.rests) walk.slash (seen_link around link lead)) old) old new on in
+      (reach_after around (middle_trail around mode walk.left s (stack_of walk.rests) walk.slash (seen_link around link lead)) old) old new on in
       subst Q (sym is) at_jump
 
 -- where memory is wanting before anything more was reached
-pub want_behind : {M : Type 0} (number : M → ℕ) (around : Surroundings) (mode : WalkMode) (answer : Result PlaceTarget Errno) (seen : SeenPlace) (trail : PlaceTrail) (old : Reach) (r : Result (Step M) WalkFault)
-    → IsErr r → IsErrAnd r (λ f. f ≡ fault.NoMemory) → IsOutcome number around mode answer (reach_behind around seen trail old) old old r
-want_behind number around mode answer seen trail old r err want =
-    at_want number around mode answer (reach_behind around seen trail old) old old r err want (covers_refl old, covers_behind around seen trail old)
-
-module _ {M : Type 0} (number : M → ℕ) (around : Surroundings) (mode : WalkMode) (old : Reach) where
-  pub links_error : (walk : Walk M) (text : List ℕ) (slash : Bool) (seen : SeenPlace) (trail : PlaceTrail) (found : Place ℕ) (e : WalkFault) (r : Result (Step M) WalkFault) → seen ≡ Links found text
-      → trail ≡ again (looking around) mode walk.left (begins_at (looking around) (numbered number walk.position.place) text) (components_of text ++ stack_of walk.rests) slash
-      → IsErr r → IsErrAnd r (λ f. f ≡ e) → IsFollowed number around walk text slash (Err e) → IsOutcome number around mode trail.answer (reach_behind around seen trail old) old old r
-  links_error walk text slash seen trail found e r is at err same followed =
-      let P : Reach → Type 0 = λ whole. IsOutcome number around mode trail.answer whole old old r in
-      subst P (sym (no_jump around seen trail old (ap (jump_name around) is))) (at_follow_error number around mode walk text slash trail old e r err same followed at)
-
-  pub links_goes : (walk : Walk M) (text : List ℕ) (slash : Bool) (seen : SeenPlace) (trail : PlaceTrail) (found : Place ℕ) (on : Walk M) → seen ≡ Links found text
-      → trail ≡ again (looking around) mode walk.left (begins_at (looking around) (numbered number walk.position.place) text) (components_of text ++ stack_of walk.rests) slash
-      → Follows number around walk text slash on → GoesOn number around mode trail.answer (reach_behind around seen trail old) old old on
-  links_goes walk text slash seen trail found on is at follows =
-      let P : Reach → Type 0 = λ whole. GoesOn number around mode trail.answer whole old old on in
-      subst P (sym (no_jump around seen trail old (ap (jump_name around) is))) (at_follow number around mode walk text slash trail old on follows at)
+pub want_behind : {M : Type 0} (number : M → ℕ) (around : Surroundings) (mode : WalkMode) (answer : Result PlaceTarget Errno) (trail : PlaceTrail) (old : Reach) (r : Result (Step M) WalkFault)
+    → IsErr r → IsErrAnd r (λ f. f ≡ fault.NoMemory) → IsOutcome number around mode answer (reach_after around trail old) old old r
+want_behind number around mode answer trail old r err want = at_want number around mode answer (reach_after around trail old) old old r err want (covers_refl old, covers_after around trail old)

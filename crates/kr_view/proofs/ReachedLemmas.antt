@@ -13,7 +13,8 @@ use Rattle.pr_base.specs.declared.errno.Errno.TheVariants.{EACCES, ENAMETOOLONG,
 use Rattle.pr_base.specs.declared.path.Last.TheVariants as last
 use Rattle.pr_base.specs.declared.path.WalkMode.{WalkMode}
 use Rattle.pr_base.specs.declared.path.WalkMode.TheVariants as modes
-use Rattle.pr_base.proofs.PathLemmas.{texts_have_their_names}
+use Rattle.pr_base.proofs.PathLemmas.{names_are_parts, names_onto, below_root_absolute, text_no_slash, texts_have_their_names}
+use Rattle.pr_base.proofs.WalkLemmas.{walk-none, walk-last, walk-middle}
 use Rattle.kr_tree.specs.declared.place.Host.TheVariants.{Node}
 use Rattle.kr_tree.specs.declared.place.Place.{Place}
 use Rattle.kr_inode.specs.declared.user.Right.TheVariants.{Search}
@@ -25,7 +26,6 @@ use Rattle.kr_view.specs.Component.{Surroundings, look, inside, named_in, too_lo
 use Rattle.kr_view.specs.Walk.{PlaceTarget, looking, place_walk}
 use Rattle.kr_view.specs.Laws.{is_link}
 use Rattle.kr_view.specs.Steps.{last_trail, middle_trail}
-use Rattle.kr_view.proofs.WalkLemmas.{walk_none, walk_last, walk_middle}
 
 found_then : {A B : Type 0} (f : A → Option B) (o : Option A) (y : B) → option_and_then f o ≡ Some y → (x : A) × (o ≡ Some x) × (f x ≡ Some y)
 found_then f None y h = absurd cc
@@ -87,11 +87,6 @@ module _ (around : Surroundings) (is_plain : around.table ≡ plain) where
             ∙ led.1,
       )
 
-  names_onto : (text : List (List ℕ)) (name : List ℕ) (rest : List Component) → map Name (reverse (name ∷ text)) ++ rest ≡ map Name (reverse text) ++ (Name name ∷ rest)
-  names_onto text name rest =
-      let last : map Name (reverse (name ∷ text)) ≡ map Name (reverse text) ++ Name name ∷ [] = ap (map Name) (reverse_onto text name []) ∙ map-append Name (reverse text) (name ∷ []) in
-      ap (λ cs. cs ++ rest) last ∙ append_assoc (map Name (reverse text)) (Name name ∷ []) rest
-
   module _ (mode : WalkMode) (left : ℕ) where
     -- along a text that is reached a walk comes to what it reaches
     arrives : (text : List (List ℕ)) (d : ℕ) (c : Component) (cs : List Component) → AreNames text → reached around.tree around.user text ≡ Some d → option_map is_link (body around.tree d) ≡ Some false
@@ -104,13 +99,13 @@ module _ (around : Surroundings) (is_plain : around.table ≡ plain) where
         let seen = look_entry up.0 d name up.2 (All-head IsName name text are) no_link in
         ap (λ cs. (walk_on (looking around) mode left (node_in 0 root) cs false).answer) (names_onto text name (c ∷ cs))
         ∙ arrives text up.0 (Name name) (c ∷ cs) (All-tail IsName name text are) up.1 (ap (option_map is_link) filled.2)
-        ∙ ap (λ t. t.answer) (walk_middle (looking around) mode left (node_in 0 up.0) (Name name) c cs false)
+        ∙ ap (λ t. t.answer) (walk-middle (looking around) mode left (node_in 0 up.0) (Name name) c cs false)
         ∙ ap (λ seen. (middle_trail around mode left (node_in 0 up.0) (c ∷ cs) false seen).answer) seen.1
 
     found_at_end : (d : ℕ) (name : List ℕ) (is_dir : Bool) (q : Place ℕ) → look around (node_in 0 d) (Name name) ≡ Leads is_dir q q
         → (walk_on (looking around) mode left (node_in 0 d) (Name name ∷ []) false).answer ≡ Ok (target_at (node_in 0 d) (Name name) false (Some q))
     found_at_end d name is_dir q seen =
-        ap (λ t. t.answer) (walk_last (looking around) mode left (node_in 0 d) (Name name) false)
+        ap (λ t. t.answer) (walk-last (looking around) mode left (node_in 0 d) (Name name) false)
         ∙ ap (λ seen. (last_trail around mode left (node_in 0 d) (Name name) false seen).answer) seen
         ∙ ap (λ b. (if b then (if is_dir then ends (target_at (node_in 0 d) (Name name) false (Some q)) else fails ENOTDIR) else ends (target_at (node_in 0 d) (Name name) false (Some q))).answer) (unasked mode)
       where
@@ -135,42 +130,21 @@ module _ (around : Surroundings) (is_plain : around.table ≡ plain) where
           refl,
         )
 
--- ---- the bytes of a text
-
-absolute_below : (names : List (List ℕ)) (rest : List ℕ) → is_absolute (below_root names ++ slash ∷ rest) ≡ true
-absolute_below [] rest = refl
-absolute_below (name ∷ names) rest = ap is_absolute (append_assoc (below_root names) (slash ∷ name) (slash ∷ rest)) ∙ absolute_below names (name ++ slash ∷ rest)
-
-no_end_slash : (front name : List ℕ) → IsName name → ends_in_slash (front ++ slash ∷ name) ≡ false
-no_end_slash front [] is = absurd (is.some refl)
-no_end_slash front (b ∷ bs) is =
-    let all : length (front ++ slash ∷ b ∷ bs) - 1 ≡ length front + suc (length bs) = let sum = length-append front (slash ∷ b ∷ bs) in omega arith in
-    let last = ap (λ k. get_or (front ++ slash ∷ b ∷ bs) k 0) all ∙ get_or-append-add front (slash ∷ b ∷ bs) (suc (length bs)) 0 in
-    ap is_slash last ∙ ne_eqb (get_or (b ∷ bs) (length bs) 0) slash (is.no_slash (length bs) 0 (omega arith))
-
-text_no_slash : (names : List (List ℕ)) (name : List ℕ) → IsName name → has_slash (text_of (name ∷ names)) ≡ false
-text_no_slash names name is =
-    ap (λ b. if has_parts (parts_of (text_of (name ∷ names))) then b else false) (no_end_slash (below_root names) name is) ∙ both_false (has_parts (parts_of (text_of (name ∷ names))))
-  where
-    both_false : (b : Bool) → (if b then false else false) ≡ false
-    both_false true = refl
-    both_false false = refl
-
 pub reached_is_found : (around : Surroundings) (mode : WalkMode) (base : Place ℕ) (text : List (List ℕ)) (i : ℕ) → around.table ≡ plain → AreNames text → reached around.tree around.user text ≡ Some i
     → option_map is_link (body around.tree i) ≡ Some false → (t : PlaceTarget) × ((place_walk around mode base (text_of text)).answer ≡ Ok t) × (t.found ≡ Some (node_in 0 i))
 reached_is_found around mode base [] i is_plain are h no_link =
     let same : root ≡ i = cc in (
       record { dir = root_place around.table; name = []; last = last.Root; slash = false; found = Some (root_place around.table); jumped = false },
-      ap (λ t. t.answer) (walk_none (looking around) mode most_links (root_place around.table) false),
+      ap (λ t. t.answer) (walk-none (looking around) mode most_links (root_place around.table) false),
       ap (λ t. Some (root_place t)) is_plain ∙ ap (λ i. Some (node_in 0 i)) same,
     )
 reached_is_found around mode base (name ∷ text) i is_plain are h no_link =
     let found = reached_at_end around is_plain mode most_links text name i are h no_link in
     let path = text_of (name ∷ text) in
     let begins : begins_at (looking around) base path ≡ node_in 0 root =
-    ap (λ b. if b then root_place around.table else base) (absolute_below text name) ∙ ap root_place is_plain in
+    ap (λ b. if b then root_place around.table else base) (below_root_absolute text name) ∙ ap root_place is_plain in
     let same =
     ap (λ s. (walk_on (looking around) mode most_links s (components_of path) (has_slash path)).answer) begins
-    ∙ ap (λ cs. (walk_on (looking around) mode most_links (node_in 0 root) cs (has_slash path)).answer) (texts_have_their_names (name ∷ text) are)
-    ∙ ap (λ b. (walk_on (looking around) mode most_links (node_in 0 root) (map Name (reverse (name ∷ text))) b).answer) (text_no_slash text name (All-head IsName name text are)) in
+    ∙ ap (λ cs. (walk_on (looking around) mode most_links (node_in 0 root) cs (has_slash path)).answer) (texts_have_their_names (name ∷ text) (names_are_parts (name ∷ text) are))
+    ∙ ap (λ b. (walk_on (looking around) mode most_links (node_in 0 root) (map Name (reverse (name ∷ text))) b).answer) (text_no_slash (name ∷ text) (names_are_parts (name ∷ text) are)) in
     (found.0, same ∙ found.1, found.2)

@@ -19,9 +19,9 @@ use Rattle.kr_view.specs.Walk.{PlaceTrail, PlaceTarget, looking}
 use Rattle.kr_view.specs.Reach.{Covers, end_reach, reach_after}
 use Rattle.kr_view.specs.Answers.{told, target_numbered}
 use Rattle.kr_view.specs.Stacks.{stack_of}
-use Rattle.kr_view.specs.Steps.{trail_of, middle_trail, last_trail, reach_behind, noted, here_target, IsOutcome}
-use Rattle.kr_view.proofs.ReachLemmas.{covers_trans, covers_look, covers_behind}
-use Rattle.kr_view.proofs.WalkLemmas.{walk_none, walk_last, walk_middle}
+use Rattle.kr_view.specs.Steps.{trail_of, middle_trail, last_trail, noted, here_target, IsOutcome}
+use Rattle.kr_view.proofs.ReachLemmas.{covers_trans, covers_look, covers_after}
+use Rattle.pr_base.proofs.WalkLemmas.{walk-none, walk-last, walk-middle}
 use Rattle.kr_view.proofs.OutcomeLemmas.{at_want}
 
 module _ {M : Type 0} (number : M → ℕ) (around : Surroundings) (mode : WalkMode) (walk : Walk M) (old : Reach) where
@@ -35,7 +35,7 @@ module _ {M : Type 0} (number : M → ℕ) (around : Surroundings) (mode : WalkM
   pub ends_at_beginning : (new : Reach) (target : Told M) → stack_of walk.rests ≡ [] → told (here_target stands walk.slash) ≡ target_numbered number target
       → new ≡ end_reach around (Ok (here_target stands walk.slash)) old → IsOutcome number around mode trail.answer (reach_after around trail old) old new (Ok (Ends target))
   ends_at_beginning new target none same reached =
-      let at = ap (λ cs. walk_on_stack cs) none ∙ walk_none (looking around) mode walk.left stands walk.slash in
+      let at = ap (λ cs. walk_on_stack cs) none ∙ walk-none (looking around) mode walk.left stands walk.slash in
       ((here_target stands walk.slash, ap (λ t. t.answer) at, same), reached ∙ sym (ap (λ t. reach_after around t old) at))
     where
       walk_on_stack : List Component → PlaceTrail
@@ -50,38 +50,38 @@ module _ {M : Type 0} (number : M → ℕ) (around : Surroundings) (mode : WalkM
 
   -- an outcome behind a look is one of the walk
   behind : (l : LookedAt (Place ℕ)) (t : PlaceTrail) (mid new : Reach) (r : Result (Step M) WalkFault) → trail ≡ after_look l t → mid ≡ noted around l.place l.component old
-      → IsOutcome number around mode t.answer (reach_behind around (look around l.place l.component) t mid) mid new r → IsOutcome number around mode trail.answer (reach_after around trail old) old new r
+      → IsOutcome number around mode t.answer (reach_after around t mid) mid new r → IsOutcome number around mode trail.answer (reach_after around trail old) old new r
   behind l t mid new r at is out =
-      let more : Covers mid old = let P : Reach → Type 0 = λ m. Covers m old in subst P (sym is) (covers_look around (record { place = l.place; component = l.component; is_last = false }) false old) in
+      let more : Covers mid old = let P : Reach → Type 0 = λ m. Covers m old in subst P (sym is) (covers_look around (record { place = l.place; component = l.component; is_last = false }) old) in
       let P : PlaceTrail → Type 0 = λ trail. IsOutcome number around mode trail.answer (reach_after around trail old) old new r in
       let Q : Reach → Type 0 = λ whole. IsOutcome number around mode t.answer whole old new r in
-      subst P (sym at) (subst Q (ap (reach_behind around (look around l.place l.component) t) is) (earlier t.answer (reach_behind around (look around l.place l.component) t mid) mid new r more out))
+      subst P (sym at) (subst Q (ap (reach_after around t) is) (earlier t.answer (reach_after around t mid) mid new r more out))
 
   at_end : (c : Component) (rest : List Component) → stack_of walk.rests ≡ c ∷ rest → rest ≡ []
       → trail ≡ after_look (record { place = stands; component = c; is_last = true }) (last_trail around mode walk.left stands c walk.slash (look around stands c))
-  at_end c rest is none = ap (λ cs. walk_on (looking around) mode walk.left stands cs walk.slash) (is ∙ ap (λ cs. c ∷ cs) none) ∙ walk_last (looking around) mode walk.left stands c walk.slash
+  at_end c rest is none = ap (λ cs. walk_on (looking around) mode walk.left stands cs walk.slash) (is ∙ ap (λ cs. c ∷ cs) none) ∙ walk-last (looking around) mode walk.left stands c walk.slash
 
   in_between : (c : Component) (rest : List Component) → stack_of walk.rests ≡ c ∷ rest → rest ≢ []
       → trail ≡ after_look (record { place = stands; component = c; is_last = false }) (middle_trail around mode walk.left stands rest walk.slash (look around stands c))
   in_between c [] is more = absurd (more refl)
-  in_between c (d ∷ cs) is more = ap (λ cs. walk_on (looking around) mode walk.left stands cs walk.slash) is ∙ walk_middle (looking around) mode walk.left stands c d cs walk.slash
+  in_between c (d ∷ cs) is more = ap (λ cs. walk_on (looking around) mode walk.left stands cs walk.slash) is ∙ walk-middle (looking around) mode walk.left stands c d cs walk.slash
 
   pub last_outcome : (c : Component) (rest : List Component) (seen : SeenPlace) (mid new : Reach) (r : Result (Step M) WalkFault) → stack_of walk.rests ≡ c ∷ rest → rest ≡ [] → seen ≡ look around stands c
       → mid ≡ noted around stands c old
-      → IsOutcome number around mode (last_trail around mode walk.left stands c walk.slash seen).answer (reach_behind around seen (last_trail around mode walk.left stands c walk.slash seen) mid) mid new r
+      → IsOutcome number around mode (last_trail around mode walk.left stands c walk.slash seen).answer (reach_after around (last_trail around mode walk.left stands c walk.slash seen) mid) mid new r
       → IsOutcome number around mode trail.answer (reach_after around trail old) old new r
   last_outcome c rest seen mid new r is none looked reached out =
       let t = last_trail around mode walk.left stands c walk.slash in
-      let P : SeenPlace → Type 0 = λ seen. IsOutcome number around mode (t seen).answer (reach_behind around seen (t seen) mid) mid new r in
+      let P : SeenPlace → Type 0 = λ seen. IsOutcome number around mode (t seen).answer (reach_after around (t seen) mid) mid new r in
       behind (record { place = stands; component = c; is_last = true }) (t (look around stands c)) mid new r (at_end c rest is none) reached (subst P looked out)
 
   pub middle_outcome : (c : Component) (rest : List Component) (seen : SeenPlace) (mid new : Reach) (r : Result (Step M) WalkFault) → stack_of walk.rests ≡ c ∷ rest → rest ≢ [] → seen ≡ look around stands c
       → mid ≡ noted around stands c old
-      → IsOutcome number around mode (middle_trail around mode walk.left stands rest walk.slash seen).answer (reach_behind around seen (middle_trail around mode walk.left stands rest walk.slash seen) mid) mid new r
+      → IsOutcome number around mode (middle_trail around mode walk.left stands rest walk.slash seen).answer (reach_after around (middle_trail around mode walk.left stands rest walk.slash seen) mid) mid new r
       → IsOutcome number around mode trail.answer (reach_after around trail old) old new r
   middle_outcome c rest seen mid new r is more looked reached out =
       let t = middle_trail around mode walk.left stands rest walk.slash in
-      let P : SeenPlace → Type 0 = λ seen. IsOutcome number around mode (t seen).answer (reach_behind around seen (t seen) mid) mid new r in
+      let P : SeenPlace → Type 0 = λ seen. IsOutcome number around mode (t seen).answer (reach_after around (t seen) mid) mid new r in
       behind (record { place = stands; component = c; is_last = false }) (t (look around stands c)) mid new r (in_between c rest is more) reached (subst P looked out)
 
   -- what a look reaches the walk does
@@ -89,11 +89,11 @@ module _ {M : Type 0} (number : M → ℕ) (around : Surroundings) (mode : WalkM
   covers_noted c [] is =
       let t = last_trail around mode walk.left stands c walk.slash (look around stands c) in
       let P : PlaceTrail → Type 0 = λ trail. Covers (reach_after around trail old) (noted around stands c old) in
-      subst P (sym (at_end c [] is refl)) (covers_behind around (look around stands c) t (noted around stands c old))
+      subst P (sym (at_end c [] is refl)) (covers_after around t (noted around stands c old))
   covers_noted c (d ∷ cs) is =
       let t = middle_trail around mode walk.left stands (d ∷ cs) walk.slash (look around stands c) in
       let P : PlaceTrail → Type 0 = λ trail. Covers (reach_after around trail old) (noted around stands c old) in
-      subst P (sym (in_between c (d ∷ cs) is (λ no. absurd cc))) (covers_behind around (look around stands c) t (noted around stands c old))
+      subst P (sym (in_between c (d ∷ cs) is (λ no. absurd cc))) (covers_after around t (noted around stands c old))
 
   pub note_error : (c : Component) (rest : List Component) (new : Reach) (r : Result (Step M) WalkFault) → stack_of walk.rests ≡ c ∷ rest → IsErr r → IsErrAnd r (λ f. f ≡ fault.NoMemory)
       → Covers new old × Covers (noted around stands c old) new → IsOutcome number around mode trail.answer (reach_after around trail old) old new r

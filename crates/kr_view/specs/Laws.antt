@@ -1,8 +1,9 @@
 -- Laws of views and of walks over them.
 use Rattle.std.specs.Prelude.{ℕ, ◌≡◌, ◌≢◌, Bool, true, false, List, [], ◌∷◌, Option, Some, None, Ok}
 use Rattle.std.specs.Option.{option_map}
-use Rattle.pr_base.specs.Paths.{Component, kind_of, components_of, AreNames, text_of}
-use Rattle.pr_base.specs.WalkFrame.{Seen, Fails, Missing, Leads, Links, Jumps, Looking, Target, name_of, after_look, ends_here, walk_on}
+use Rattle.pr_base.specs.Paths.{components_of, AreNames, text_of}
+use Rattle.pr_base.specs.WalkFrame.{ends_here}
+use Rattle.pr_base.specs.WalkLaws.{IsShown}
 use Rattle.pr_base.specs.declared.path.Last.TheVariants as last
 use Rattle.pr_base.specs.declared.path.WalkMode.{WalkMode}
 use Rattle.kr_tree.specs.declared.place.Place.{Place}
@@ -10,9 +11,8 @@ use Rattle.kr_tree.specs.Tree.{Tree, Body, Directory, RegularFile, SymbolicLink,
 use Rattle.kr_tree.specs.Names.{reached}
 use Rattle.kr_tree.specs.Lawful.{IsSound}
 use Rattle.kr_view.specs.View.{Row, row, node_in, root_place, root_source, down, up, covered, plain, is_there, StandsIn}
-use Rattle.kr_view.specs.Component.{Surroundings, look, is_directory_at}
+use Rattle.kr_view.specs.Component.{Surroundings, is_directory_at}
 use Rattle.kr_view.specs.Walk.{PlaceTarget, looking, place_walk}
-use Rattle.kr_view.specs.Steps.{middle_trail, last_trail}
 
 -- ---- views
 
@@ -50,27 +50,6 @@ abbrev pub PlainStands : Type 0
 PlainStands = (t : Tree) → IsSound t → StandsIn t plain
 
 -- ---- walks
-
--- the walk along no component ends where it begins, and along some it looks at the first one
-pub record WalksGoByComponents : Type 0 where
-  pub none : (around : Surroundings) (mode : WalkMode) (left : ℕ) (s : Place ℕ) (slash : Bool) → walk_on (looking around) mode left s [] slash ≡ ends_here (looking around) s slash
-  pub last : (around : Surroundings) (mode : WalkMode) (left : ℕ) (s : Place ℕ) (c : Component) (slash : Bool)
-      → walk_on (looking around) mode left s (c ∷ []) slash ≡ after_look (record { place = s; component = c; is_last = true }) (last_trail around mode left s c slash (look around s c))
-  pub middle : (around : Surroundings) (mode : WalkMode) (left : ℕ) (s : Place ℕ) (c d : Component) (cs : List Component) (slash : Bool)
-      → walk_on (looking around) mode left s (c ∷ d ∷ cs) slash
-      ≡ after_look (record { place = s; component = c; is_last = false }) (middle_trail around mode left s (d ∷ cs) slash (look around s c))
-
--- what a component shows is what was found
-abbrev pub Shows : {S F : Type 0} → Seen S F → Option F → Type 0
-Shows (Fails e) found = ⊥
-Shows Missing found = found ≡ None
-Shows (Leads is_dir q f) found = found ≡ Some f
-Shows (Links f text) found = found ≡ Some f
-Shows (Jumps f lead) found = found ≡ Some f
-
--- a target is what its last component shows from its directory
-abbrev pub IsShown : {S F : Type 0} → Looking S F → Target S F → Type 0
-IsShown looking t = (c : Component) × (kind_of c ≡ t.last) × (name_of c ≡ t.name) × Shows (looking.look t.dir c) t.found
 
 -- a walk that ends with a component, and not with where a process link leads, found what that component
 -- shows; so its directory is one

@@ -2,12 +2,12 @@
 -- to it: the entry, the directory and name at which a mount's source was found, or what a process link
 -- carries. The guest name of a place is the location of its mount, followed by the names from the
 -- mount's source down to the place.
-use Rattle.std.specs.Prelude.{ℕ, Bool, List, [], ◌∷◌, ◌++◌, Option, Some, None, bytes_eq, if◌then◌else◌}
+use Rattle.std.specs.Prelude.{ℕ, List, ◌++◌, Option, Some, None, if◌then◌else◌}
 use Rattle.std.specs.Option.{option_map, option_and_then}
 use Rattle.std.specs.List.{position}
-use Rattle.std.specs.Cmp.Lexicographic.{pointwise}
 use Rattle.pr_base.specs.Paths.{Component, Dot, DotDot, Name}
 use Rattle.pr_base.specs.WalkFrame.{Fails, Missing, Leads, Links, Jumps, Landing}
+pub use Rattle.pr_base.specs.Texts.{Text, below, names_below}
 use Rattle.kr_tree.specs.declared.place.Host.{Host}
 use Rattle.kr_tree.specs.declared.place.Host.TheVariants.{Node, Proc}
 use Rattle.kr_tree.specs.declared.place.Place.{Place}
@@ -18,14 +18,7 @@ use Rattle.kr_tree.specs.Names.{host_name, process_names}
 use Rattle.kr_view.specs.View.{Row, row, is_point, stands_at, source_entry}
 use Rattle.kr_view.specs.Component.{Surroundings, SeenPlace, is_shown, is_processes, above}
 
-abbrev pub Text : Type 0
-Text = List (List ℕ)
-
 -- ---- host names
-
--- a name in what may have a name itself
-abbrev pub below : List ℕ → Option Text → Option Text
-below name text = option_map (λ names. name ∷ names) text
 
 -- what stands in the process directory of an inode
 abbrev pub process_name : Surroundings → ℕ → ProcAt → Option Text
@@ -107,14 +100,6 @@ landing_name around landing =
     else free_name around landing.dir.host landing.name
 
 -- ---- guest names
-
-abbrev pub texts_eq : Text → Text → Bool
-texts_eq = pointwise bytes_eq
-
--- the names of a text below another; none where it doesn't stand at or below that
-abbrev pub names_below : Text → Text → Option Text
-names_below top [] = if texts_eq top [] then Some [] else None
-names_below top (name ∷ names) = if texts_eq top (name ∷ names) then Some [] else below name (names_below top names)
 
 -- the names from the top down, put behind a location
 abbrev pub moved_to : Text → Option Text → Option Text → Option Text

@@ -5,7 +5,6 @@ use Rattle.std.specs.Option.{option_map}
 use Rattle.pr_base.specs.Paths.{text_of, below_root}
 use Rattle.pr_base.specs.WalkFrame.{Fails, Missing, Leads, Links, Jumps, Landing, LookedAt}
 use Rattle.pr_base.specs.declared.errno.Errno.{Errno}
-use Rattle.pr_base.specs.declared.errno.Errno.TheVariants.{ENOTDIR}
 use Rattle.pr_base.specs.declared.path.Last.{Last}
 use Rattle.pr_base.specs.declared.path.Last.TheVariants as last
 use Rattle.kr_tree.specs.declared.place.Host.{Host}
@@ -47,47 +46,32 @@ seen_name name (Leads is_dir p found) = name
 seen_name name (Links found text) = name
 seen_name name (Jumps found lead) = name
 
-abbrev pub lead_name : Surroundings → Option (Landing (Place ℕ) (Place ℕ)) → Option Text
-lead_name around (Some landing) = landing_name around landing
-lead_name around None = None
-
--- the name of what a process link leads to
-abbrev pub jump_name : Surroundings → SeenPlace → Option Text
-jump_name around (Fails e) = None
-jump_name around Missing = None
-jump_name around (Leads is_dir p found) = None
-jump_name around (Links found text) = None
-jump_name around (Jumps found lead) = lead_name around lead
-
--- the names that a look reaches: its place, what it shows, and where a process link that the walk
--- followed leads
-abbrev pub look_names : Surroundings → Place ℕ → SeenPlace → Option Text → Bool → List (Option Text)
-look_names around p seen name followed =
-    directory_name around p.host ∷ seen_name name seen ∷ (if followed then jump_name around seen else None) ∷ []
+-- the names that a look reaches: its place, and what it shows
+abbrev pub look_names : Surroundings → Place ℕ → SeenPlace → Option Text → List (Option Text)
+look_names around p seen name = directory_name around p.host ∷ seen_name name seen ∷ []
 
 -- what was reached after a look
-abbrev pub look_reach : Surroundings → LookedAt (Place ℕ) → Bool → Reach → Reach
-look_reach around l followed r = record {
-  longest = raised_by_all (look_names around l.place (look around l.place l.component) (component_name around l.place l.component) followed) r.longest;
+abbrev pub look_reach : Surroundings → LookedAt (Place ℕ) → Reach → Reach
+look_reach around l r = record {
+  longest = raised_by_all (look_names around l.place (look around l.place l.component) (component_name around l.place l.component)) r.longest;
   met_proc = r.met_proc || meets_processes around l.place l.component;
 }
 
--- ---- a trail
+abbrev pub looks_reach : Surroundings → List (LookedAt (Place ℕ)) → Reach → Reach
+looks_reach around [] r = r
+looks_reach around (l ∷ looks) r = looks_reach around looks (look_reach around l r)
 
-abbrev pub is_no_directory : Errno → Bool
-is_no_directory ENOTDIR = true
-is_no_directory _ = false
+-- ---- process links
 
--- whether the last component was a process link that was followed: it led to what was found, or to
--- what is no directory where one was wanted
-abbrev pub has_landed : Result PlaceTarget Errno → Bool
-has_landed (Ok target) = target.jumped
-has_landed (Err e) = is_no_directory e
+-- where a process link leads that is followed is reached
+abbrev pub reached_landing : Surroundings → Landing (Place ℕ) (Place ℕ) → Reach → Reach
+reached_landing around landing r = record { longest = raised (landing_name around landing) r.longest; met_proc = r.met_proc }
 
--- whether a walk went on behind the look before these
-abbrev pub went_on : List (LookedAt (Place ℕ)) → Result PlaceTarget Errno → Bool
-went_on [] answer = has_landed answer
-went_on (l ∷ looks) answer = true
+abbrev pub landings_reach : Surroundings → List (Landing (Place ℕ) (Place ℕ)) → Reach → Reach
+landings_reach around [] r = r
+landings_reach around (landing ∷ landings) r = landings_reach around landings (reached_landing around landing r)
+
+-- ---- the end
 
 abbrev pub free_target_name : Surroundings → PlaceTarget → Option (Place ℕ) → Option Text
 free_target_name around target (Some p) = None
@@ -108,13 +92,11 @@ end_names around (Err e) = []
 abbrev pub end_reach : Surroundings → Result PlaceTarget Errno → Reach → Reach
 end_reach around answer r = record { longest = raised_by_all (end_names around answer) r.longest; met_proc = r.met_proc }
 
-abbrev pub reach_along : Surroundings → List (LookedAt (Place ℕ)) → Result PlaceTarget Errno → Reach → Reach
-reach_along around [] answer r = end_reach around answer r
-reach_along around (l ∷ looks) answer r = reach_along around looks answer (look_reach around l (went_on looks answer) r)
+-- ---- a trail
 
 -- what was reached after a walk
 abbrev pub reach_after : Surroundings → PlaceTrail → Reach → Reach
-reach_after around trail r = reach_along around trail.looks trail.answer r
+reach_after around trail r = end_reach around trail.answer (landings_reach around trail.landings (looks_reach around trail.looks r))
 
 -- one reach has all that another has
 pub record Covers (more less : Reach) : Type 0 where

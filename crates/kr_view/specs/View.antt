@@ -117,7 +117,7 @@ location table mount = option_map_or (λ r. text_of r.text.location) (row table 
 -- one mount, whose source is the root of the host
 abbrev pub plain_row : Row
 plain_row = record {
-  text = record { index = 0; location = []; source = []; point = [] };
+  text = record { index = 0; location = []; source = []; point = None };
   source = root;
   source_dir = 0;
   source_name = [];

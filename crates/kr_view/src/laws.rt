@@ -1,5 +1,5 @@
 //! Laws of views and walks, each carried by a function that does nothing.
-ghost use Rattle.kr_view.specs.Laws.{FoundIsShown, PlacesHaveTheirLaws, PlainStands, ReachedIsFound, WalksEndInDirectories, WalksGoByComponents};
+ghost use Rattle.kr_view.specs.Laws.{FoundIsShown, PlacesHaveTheirLaws, PlainStands, ReachedIsFound, WalksEndInDirectories};
 
 /// The laws of a view whose mounts stand in a tree.
 pub fn places_have_their_laws()
@@ -9,11 +9,6 @@ pub fn places_have_their_laws()
 /// The host's own view stands in every tree.
 pub fn plain_stands()
     ensures { PlainStands }
-{}
-
-/// A walk looks at one component after the other; what comes behind a look depends on what it shows.
-pub fn walks_go_by_components()
-    ensures { WalksGoByComponents }
 {}
 
 /// What a walk found is what its last component shows from the directory of the target.

@@ -15,9 +15,9 @@ ghost use Rattle.kr_view.specs.Positions.{IsNamed};
 ghost use Rattle.kr_view.specs.Component.{look, landing, seen_link};
 ghost use Rattle.kr_view.specs.Names.{free_name, landing_name};
 ghost use Rattle.kr_view.specs.Walk.{place_walk, looking};
-ghost use Rattle.kr_view.specs.Reach.{text_length, end_reach, reach_after};
+ghost use Rattle.kr_view.specs.Reach.{text_length, end_reach, reached_landing, reach_after};
 ghost use Rattle.kr_view.specs.Answers.{told, target_numbered, IsAnswer, IsReached};
-ghost use Rattle.kr_view.specs.Steps.{trail_of, middle_trail, last_trail, reach_behind, noted, here_target, reached_landing, work, IsPart, IsFollowed, IsLanded, IsOutcome, HasLess};
+ghost use Rattle.kr_view.specs.Steps.{trail_of, middle_trail, last_trail, noted, here_target, work, IsPart, IsFollowed, IsLanded, IsOutcome, HasLess};
 
 use crate::around::{Around, Sight, Spot};
 use crate::name::{bytes_of, directory_name, entry_length, length_of};
@@ -230,7 +230,7 @@ impl<'a, P: Places, Q: Procs<Mount = P::Mount>> Around<'a, P, Q> {
         requires way { IsSightWay P.number (scene P.number P.mounts Q.finds Q.leads self.now) (numbered P.number walk.position.place) (component_of (taken_part taken)) sight.now }
         requires kind { HasKind (scene P.number P.mounts Q.finds Q.leads self.now) sight.now }
         requires more { components_left taken.rest ++ stack_of walk.rests ≢ [] }
-        ensures outcome { (mode : WalkMode) → let trail = middle_trail (scene P.number P.mounts Q.finds Q.leads self.now) mode walk.left (numbered P.number walk.position.place) (components_left taken.rest ++ stack_of walk.rests) walk.slash (sight_seen P.number (scene P.number P.mounts Q.finds Q.leads self.now) sight.now) in IsOutcome P.number (scene P.number P.mounts Q.finds Q.leads self.now) mode trail.answer (reach_behind (scene P.number P.mounts Q.finds Q.leads self.now) (sight_seen P.number (scene P.number P.mounts Q.finds Q.leads self.now) sight.now) trail reach.old) reach.old reach.new result }
+        ensures outcome { (mode : WalkMode) → let trail = middle_trail (scene P.number P.mounts Q.finds Q.leads self.now) mode walk.left (numbered P.number walk.position.place) (components_left taken.rest ++ stack_of walk.rests) walk.slash (sight_seen P.number (scene P.number P.mounts Q.finds Q.leads self.now) sight.now) in IsOutcome P.number (scene P.number P.mounts Q.finds Q.leads self.now) mode trail.answer (reach_after (scene P.number P.mounts Q.finds Q.leads self.now) trail reach.old) reach.old reach.new result }
         ensures less { HasLess (walk.left * 2 ^ 64 + length (components_left taken.rest ++ stack_of walk.rests) + 1) result }
     {
         let mut walk = walk;
@@ -271,7 +271,7 @@ impl<'a, P: Places, Q: Procs<Mount = P::Mount>> Around<'a, P, Q> {
         requires named { IsNamed self.now.tree.now walk.position.place.host walk.position.name }
         requires seen { sight_seen P.number (scene P.number P.mounts Q.finds Q.leads self.now) sight.now ≡ look (scene P.number P.mounts Q.finds Q.leads self.now) (numbered P.number walk.position.place) (component_of (taken_part taken.now)) }
         requires none { stack_of walk.rests ≡ [] }
-        ensures outcome { let trail = last_trail (scene P.number P.mounts Q.finds Q.leads self.now) mode walk.left (numbered P.number walk.position.place) (component_of (taken_part taken.now)) walk.slash (sight_seen P.number (scene P.number P.mounts Q.finds Q.leads self.now) sight.now) in IsOutcome P.number (scene P.number P.mounts Q.finds Q.leads self.now) mode trail.answer (reach_behind (scene P.number P.mounts Q.finds Q.leads self.now) (sight_seen P.number (scene P.number P.mounts Q.finds Q.leads self.now) sight.now) trail reach.old) reach.old reach.new result }
+        ensures outcome { let trail = last_trail (scene P.number P.mounts Q.finds Q.leads self.now) mode walk.left (numbered P.number walk.position.place) (component_of (taken_part taken.now)) walk.slash (sight_seen P.number (scene P.number P.mounts Q.finds Q.leads self.now) sight.now) in IsOutcome P.number (scene P.number P.mounts Q.finds Q.leads self.now) mode trail.answer (reach_after (scene P.number P.mounts Q.finds Q.leads self.now) trail reach.old) reach.old reach.new result }
         ensures less { HasLess (walk.left * 2 ^ 64 + 1) result }
     {
         let part = part_of(taken.part());
@@ -392,7 +392,7 @@ impl<'a, P: Places, Q: Procs<Mount = P::Mount>> Around<'a, P, Q> {
     ) -> Result<Step<P::Mount>, WalkFault>
         requires named { IsNamed self.now.tree.now walk.position.place.host walk.position.name }
         requires more { stack_of walk.rests ≢ [] }
-        ensures outcome { (mode : WalkMode) (link : Place ℕ) → let seen = seen_link (scene P.number P.mounts Q.finds Q.leads self.now) link ((scene P.number P.mounts Q.finds Q.leads self.now).leads at) in let trail = middle_trail (scene P.number P.mounts Q.finds Q.leads self.now) mode walk.left (numbered P.number walk.position.place) (stack_of walk.rests) walk.slash seen in IsOutcome P.number (scene P.number P.mounts Q.finds Q.leads self.now) mode trail.answer (reach_behind (scene P.number P.mounts Q.finds Q.leads self.now) seen trail reach.old) reach.old reach.new result }
+        ensures outcome { (mode : WalkMode) (link : Place ℕ) → let seen = seen_link (scene P.number P.mounts Q.finds Q.leads self.now) link ((scene P.number P.mounts Q.finds Q.leads self.now).leads at) in let trail = middle_trail (scene P.number P.mounts Q.finds Q.leads self.now) mode walk.left (numbered P.number walk.position.place) (stack_of walk.rests) walk.slash seen in IsOutcome P.number (scene P.number P.mounts Q.finds Q.leads self.now) mode trail.answer (reach_after (scene P.number P.mounts Q.finds Q.leads self.now) trail reach.old) reach.old reach.new result }
         ensures less { HasLess (work walk) result }
     {
         if walk.left == 0 {
@@ -428,7 +428,7 @@ impl<'a, P: Places, Q: Procs<Mount = P::Mount>> Around<'a, P, Q> {
         requires named { IsNamed self.now.tree.now walk.position.place.host walk.position.name }
         requires none { stack_of walk.rests ≡ [] }
         requires followed { is_followed mode walk.slash ≡ true }
-        ensures outcome { (link : Place ℕ) (c : Component) → let seen = seen_link (scene P.number P.mounts Q.finds Q.leads self.now) link ((scene P.number P.mounts Q.finds Q.leads self.now).leads at) in let trail = last_trail (scene P.number P.mounts Q.finds Q.leads self.now) mode walk.left (numbered P.number walk.position.place) c walk.slash seen in IsOutcome P.number (scene P.number P.mounts Q.finds Q.leads self.now) mode trail.answer (reach_behind (scene P.number P.mounts Q.finds Q.leads self.now) seen trail reach.old) reach.old reach.new result }
+        ensures outcome { (link : Place ℕ) (c : Component) → let seen = seen_link (scene P.number P.mounts Q.finds Q.leads self.now) link ((scene P.number P.mounts Q.finds Q.leads self.now).leads at) in let trail = last_trail (scene P.number P.mounts Q.finds Q.leads self.now) mode walk.left (numbered P.number walk.position.place) c walk.slash seen in IsOutcome P.number (scene P.number P.mounts Q.finds Q.leads self.now) mode trail.answer (reach_after (scene P.number P.mounts Q.finds Q.leads self.now) trail reach.old) reach.old reach.new result }
         ensures less { HasLess (work walk) result }
     {
         if walk.left == 0 {

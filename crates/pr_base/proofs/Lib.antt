@@ -1,4 +1,10 @@
+pub mod AlikeLemmas
+pub mod BTreeLemmas
+pub mod EndLemmas
+pub mod KeepLemmas
+pub mod MapLemmas
 pub mod PathLemmas
 pub mod PathRows
+pub mod TextLemmas
 pub mod WalkLemmas
 pub mod WalkRows

@@ -1,7 +1,8 @@
 -- Paths worked out by hand.
-use Rattle.std.proofs.Common.{◌≡◌, true, false, [], ◌∷◌, refl}
+use Rattle.std.proofs.Common.{◌≡◌, true, false, [], ◌∷◌, Some, None, refl}
 use Rattle.std.specs.Prelude.{codes}
-use Rattle.pr_base.specs.Paths.{Dot, DotDot, Name, components_of, is_absolute, has_slash, last_kind, text_of}
+use Rattle.pr_base.specs.Paths.{Dot, DotDot, Name, components_of, is_absolute, has_slash, last_kind, text_of, name_path}
+use Rattle.pr_base.specs.Texts.{names_below}
 use Rattle.pr_base.specs.declared.path.Last.TheVariants as last
 
 -- slashes in a row part once, and a dot is a component
@@ -36,3 +37,18 @@ three_dots = refl
 
 deepest_first : text_of (codes "b" ∷ codes "a" ∷ []) ≡ codes "/a/b"
 deepest_first = refl
+
+a_name_with_a_slash_behind : name_path (codes "a" ∷ []) (codes "b") true ≡ codes "/a/b/"
+a_name_with_a_slash_behind = refl
+
+a_name_in_the_root : name_path [] (codes "b") false ≡ codes "/b"
+a_name_in_the_root = refl
+
+below_the_top : names_below (codes "a" ∷ []) (codes "c" ∷ codes "b" ∷ codes "a" ∷ []) ≡ Some (codes "c" ∷ codes "b" ∷ [])
+below_the_top = refl
+
+the_top_itself : names_below (codes "a" ∷ []) (codes "a" ∷ []) ≡ Some []
+the_top_itself = refl
+
+elsewhere : names_below (codes "a" ∷ []) (codes "a" ∷ codes "b" ∷ []) ≡ None
+elsewhere = refl

@@ -54,6 +54,9 @@ answer m path = (walk looking m TheRoot path).answer
 abbrev looks : WalkMode → List ℕ → List (LookedAt Spot)
 looks m path = (walk looking m TheRoot path).looks
 
+abbrev landings : WalkMode → List ℕ → List (Landing Spot Spot)
+landings m path = (walk looking m TheRoot path).landings
+
 -- what stands in the root under a name
 abbrev in_the_root : List ℕ → Bool → Option Spot → Result (Target Spot Spot) Errno
 in_the_root name slash found = Ok (record { dir = TheRoot; name = name; last = last.Name; slash = slash; found = found; jumped = false })
@@ -153,3 +156,23 @@ a_process_link_that_leads_nowhere = refl
 the_looks_of_a_link : looks Look (codes "/./@") ≡ record { place = TheRoot; component = Dot; is_last = false } ∷ record { place = TheRoot; component = Name (codes "@"); is_last = true } ∷ record { place = TheRoot; component = Name (codes "?"); is_last = true } ∷ []
 unfolding walk_on
 the_looks_of_a_link = refl
+
+a_jump_is_told_where_it_led : landings Open (codes "/1") ≡ landing ∷ []
+unfolding walk_on
+a_jump_is_told_where_it_led = refl
+
+a_jump_is_told_before_what_comes_behind : landings Look (codes "/1/x") ≡ landing ∷ []
+unfolding walk_on
+a_jump_is_told_before_what_comes_behind = refl
+
+a_jump_to_a_file_is_told_where_a_directory_was_wanted : landings Look (codes "/1/") ≡ landing ∷ []
+unfolding walk_on
+a_jump_to_a_file_is_told_where_a_directory_was_wanted = refl
+
+what_is_not_followed_is_no_jump : landings NameMode (codes "/1") ≡ []
+unfolding walk_on
+what_is_not_followed_is_no_jump = refl
+
+below_a_file_is_no_jump : landings Look (codes "/?/x") ≡ []
+unfolding walk_on
+below_a_file_is_no_jump = refl

@@ -1,7 +1,13 @@
+pub mod Alike
 pub mod Errno
 pub mod Fields
+pub mod Maps
 pub mod MountText
+pub mod Page
 pub mod Parts
 pub mod Paths
+pub mod Peeks
 pub mod Pieces
+pub mod Texts
 pub mod WalkFrame
+pub mod WalkLaws

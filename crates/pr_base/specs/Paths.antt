@@ -72,6 +72,19 @@ ends_in_slash path = is_slash (slice_index path (length path - 1))
 abbrev pub has_slash : List ℕ → Bool
 has_slash path = if has_parts (parts_of path) then ends_in_slash path else false
 
+-- what a name between slashes can be: also one that is too long for an entry or has a zero byte
+pub record IsPart (name : List ℕ) : Type 0 where
+  pub some : name ≢ []
+  pub no_slash : All (λ b. b ≢ slash) name
+  pub not_dot : name ≢ dot
+  pub not_dot_dot : name ≢ dot_dot
+
+-- what the component of a path can be
+abbrev pub IsComponent : Component → Type 0
+IsComponent Dot = Unit {0}
+IsComponent DotDot = Unit {0}
+IsComponent (Name name) = IsPart name
+
 -- a well-formed name of an entry
 pub record IsName (name : List ℕ) : Type 0 where
   pub some : name ≢ []
@@ -85,6 +98,9 @@ pub record IsName (name : List ℕ) : Type 0 where
 abbrev pub AreNames : List (List ℕ) → Type 0
 AreNames names = All IsName names
 
+abbrev pub AreParts : List (List ℕ) → Type 0
+AreParts names = All IsPart names
+
 -- the bytes of a text below the root
 abbrev pub below_root : List (List ℕ) → List ℕ
 below_root [] = []
@@ -95,6 +111,30 @@ abbrev pub text_of : List (List ℕ) → List ℕ
 text_of [] = slash ∷ []
 text_of (name ∷ names) = below_root (name ∷ names)
 
+-- the path of a name in front of which a text stands, with a slash behind it or without
+abbrev pub name_path : List (List ℕ) → List ℕ → Bool → List ℕ
+name_path names name behind = below_root names ++ slash ∷ (name ++ (if behind then slash ∷ [] else []))
+
+-- ---- laws
+
+-- whatever bytes a path has, each of its components is one
+abbrev pub PathsHaveComponents : Type 0
+PathsHaveComponents = (path : List ℕ) → All IsComponent (components_of path)
+
 -- the components of the bytes of a text are its names
 abbrev pub TextsHaveTheirNames : Type 0
-TextsHaveTheirNames = (names : List (List ℕ)) → AreNames names → components_of (text_of names) ≡ map Name (reverse names)
+TextsHaveTheirNames = (names : List (List ℕ)) → AreParts names → components_of (text_of names) ≡ map Name (reverse names)
+
+-- paths that are put together have the components of their parts
+pub record PathsJoin : Type 0 where
+  pub joined : (path more : List ℕ) → components_of (path ++ slash ∷ more) ≡ components_of path ++ components_of more
+  pub closed : (path : List ℕ) → components_of (path ++ slash ∷ []) ≡ components_of path
+  pub named : (names : List (List ℕ)) (name : List ℕ) (behind : Bool) → AreParts (name ∷ names) → components_of (name_path names name behind) ≡ map Name (reverse (name ∷ names))
+
+-- the bytes of a text are a path from the root without a slash behind, and so is a name in front of which
+-- it stands, but for the slash that is put there
+pub record TextsAreAbsolute : Type 0 where
+  pub begun : (names : List (List ℕ)) → is_absolute (text_of names) ≡ true
+  pub ended : (names : List (List ℕ)) → AreParts names → has_slash (text_of names) ≡ false
+  pub name_begun : (names : List (List ℕ)) (name : List ℕ) (behind : Bool) → is_absolute (name_path names name behind) ≡ true
+  pub name_ended : (names : List (List ℕ)) (name : List ℕ) (behind : Bool) → AreParts (name ∷ names) → has_slash (name_path names name behind) ≡ behind

@@ -58,20 +58,25 @@ pub record LookedAt (S : Type 0) : Type 0 where
   pub component : Component
   pub is_last : Bool
 
--- the looks of a walk in their order, and its answer
+-- the looks of a walk, where the process links led that it followed, each in its order, and its answer
 pub record Trail (S F : Type 0) : Type 0 where
   pub looks : List (LookedAt S)
+  pub landings : List (Landing S F)
   pub answer : Result (Target S F) Errno
 
 abbrev pub fails : {S F : Type 0} → Errno → Trail S F
-fails e = record { looks = []; answer = Err e }
+fails e = record { looks = []; landings = []; answer = Err e }
 
 abbrev pub ends : {S F : Type 0} → Target S F → Trail S F
-ends target = record { looks = []; answer = Ok target }
+ends target = record { looks = []; landings = []; answer = Ok target }
 
 -- one more look before a trail
 abbrev pub after_look : {S F : Type 0} → LookedAt S → Trail S F → Trail S F
-after_look l trail = record { looks = l ∷ trail.looks; answer = trail.answer }
+after_look l trail = record { looks = l ∷ trail.looks; landings = trail.landings; answer = trail.answer }
+
+-- one more process link that was followed before a trail
+abbrev pub after_jump : {S F : Type 0} → Landing S F → Trail S F → Trail S F
+after_jump l trail = record { looks = trail.looks; landings = l ∷ trail.landings; answer = trail.answer }
 
 -- ---- what the four modes ask of the last component
 
@@ -103,10 +108,13 @@ name_of Dot = []
 name_of DotDot = []
 name_of (Name name) = name
 
--- a path without components ends at the place where it begins
+-- a path without components is at the place where it begins
+abbrev pub here : {S F : Type 0} → Looking S F → S → Bool → Target S F
+here looking s slash =
+    record { dir = s; name = []; last = last.Root; slash = slash; found = Some (looking.here s); jumped = false }
+
 abbrev pub ends_here : {S F : Type 0} → Looking S F → S → Bool → Trail S F
-ends_here looking s slash =
-    ends (record { dir = s; name = []; last = last.Root; slash = slash; found = Some (looking.here s); jumped = false })
+ends_here looking s slash = ends (here looking s slash)
 
 -- the last component as it stands in its directory
 abbrev pub target_at : {S F : Type 0} → S → Component → Bool → Option F → Target S F
@@ -121,10 +129,14 @@ abbrev pub ends_found : {S F : Type 0} → WalkMode → Bool → Target S F → 
 ends_found mode is_dir target =
     if wants_directory mode target.slash then (if is_dir then ends target else fails ENOTDIR) else ends target
 
--- what a process link led to isn't looked at again
+-- what a process link led to
+abbrev pub landed : {S F : Type 0} → Landing S F → Bool → Target S F
+landed landing slash =
+    record { dir = landing.dir; name = landing.name; last = last.Name; slash = slash; found = Some landing.found; jumped = true }
+
+-- it isn't looked at again
 abbrev pub ends_landed : {S F : Type 0} → WalkMode → Bool → Landing S F → Trail S F
-ends_landed mode slash landing =
-    ends_found mode landing.is_dir (record { dir = landing.dir; name = landing.name; last = last.Name; slash = slash; found = Some landing.found; jumped = true })
+ends_landed mode slash landing = ends_found mode landing.is_dir (landed landing slash)
 
 -- ---- the walk
 
@@ -140,7 +152,7 @@ Onward S F = S → List Component → Bool → Trail S F
 abbrev pub jumps_on : {S F : Type 0} → ℕ → (Landing S F → Trail S F) → Option (Landing S F) → Trail S F
 jumps_on zero go lead = fails ELOOP
 jumps_on (suc left) go None = fails ENOENT
-jumps_on (suc left) go (Some landing) = go landing
+jumps_on (suc left) go (Some landing) = after_jump landing (go landing)
 
 -- after a component behind which others come: `go` says what comes after a place that it leads to
 abbrev pub in_middle : {S F : Type 0} → Looking S F → ℕ → Onward S F → S → List Component → Bool → (S → Trail S F) → Seen S F → Trail S F

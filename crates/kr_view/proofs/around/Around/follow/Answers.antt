@@ -7,7 +7,7 @@ use Rattle.kr_view.specs.Walk.{looking}
 use Rattle.kr_view.specs.Sights.{scene}
 use Rattle.kr_view.specs.Stacks.{stack_of}
 use Rattle.kr_view.proofs.RestLemmas.{parts_fewer}
-use Rattle.kr_view.proofs.WalkLemmas.{again_less}
+use Rattle.pr_base.proofs.WalkLemmas.{onward-less}
 use Rattle.kr_view.proofs.around.Around.follow.Goals as goal
 
 pub returns : goal.returns
@@ -25,7 +25,7 @@ returns g c =
       trail = λ mode.
           ap (λ q. walk_on (looking around) mode (c.args.walk.left - 1) q (stack_of c.push.new.self) c.args.slash) c.in_ok-position.ensures.place
           ∙ ap (λ cs. walk_on (looking around) mode (c.args.walk.left - 1) (begins_at (looking around) s text) cs c.args.slash) pushed
-          ∙ sym (again_less (looking around) mode c.args.walk.left (begins_at (looking around) s text) (components_of text ++ stack_of c.args.walk.rests) c.args.slash some);
+          ∙ sym (onward-less (looking around) mode c.args.walk.left (begins_at (looking around) s text) (components_of text ++ stack_of c.args.walk.rests) c.args.slash some);
       named = c.in_ok-position.ensures.named;
       less = let bound : length text < 2 ^ 64 = omega arith in omega arith;
     }

@@ -2,8 +2,7 @@ use Rattle.std.proofs.Common.{◌≡◌, ◌||◌, sym, ap, subst, ◌∙◌}
 use Rattle.pr_base.specs.Paths.{has_slash}
 use Rattle.kr_view.specs.declared.procs.Lead.TheVariants.{Text}
 use Rattle.kr_view.specs.declared.target.Reach.{Reach}
-use Rattle.kr_view.specs.Reach.{Covers}
-use Rattle.kr_view.specs.Steps.{reached_landing}
+use Rattle.kr_view.specs.Reach.{Covers, reached_landing}
 use Rattle.kr_view.specs.Component.{landing}
 use Rattle.kr_view.specs.Leads.{numbered, lead_numbered}
 use Rattle.kr_view.specs.Sights.{scene}

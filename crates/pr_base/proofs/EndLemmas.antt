@@ -1,21 +1,13 @@
 -- Where a walk ends: what holds of each of its three endings holds of its target.
-use Rattle.std.proofs.Common.{◌≡◌, ℕ, zero, suc, Bool, true, false, ◌||◌, List, [], ◌∷◌, ◌++◌, Option, Some, None, Result, Ok, refl, sym, ap, subst, ◌∙◌}
+use Rattle.std.proofs.Common.{◌≡◌, ◌≢◌, ℕ, zero, suc, Bool, true, false, ◌||◌, List, [], ◌∷◌, ◌++◌, Option, Some, None, Result, Ok, refl, sym, ap, subst, ◌∙◌}
 use Rattle.std.specs.Bool.{if◌then◌else◌}
 use Rattle.pr_base.specs.Paths.{Component, components_of, has_slash}
-use Rattle.pr_base.specs.WalkFrame.{Seen, Fails, Missing, Leads, Links, Jumps, Looking, Landing, Target, Trail, Onward, fails, ends, begins_at, loops, is_followed, wants_directory, may_be_free, target_at, ends_landed, jumps_on, in_middle, at_last, along, walk_on}
+use Rattle.pr_base.specs.WalkFrame.{Seen, Fails, Missing, Leads, Links, Jumps, Looking, Landing, Target, Trail, Onward, fails, ends, begins_at, loops, is_followed, wants_directory, may_be_free, target_at, here, landed, ends_landed, jumps_on, in_middle, at_last, along, walk_on, most_links}
 use Rattle.pr_base.specs.declared.errno.Errno.{Errno}
 use Rattle.pr_base.specs.declared.errno.Errno.TheVariants.{ENOENT, ENOTDIR}
 use Rattle.pr_base.specs.declared.path.Last.TheVariants as last
 use Rattle.pr_base.specs.declared.path.WalkMode.{WalkMode}
-use Rattle.kr_view.specs.Laws.{Shows}
-
--- a path without components, at the place where it begins
-abbrev pub here : {S F : Type 0} → Looking S F → S → Bool → Target S F
-here looking s slash = record { dir = s; name = []; last = last.Root; slash = slash; found = Some (looking.here s); jumped = false }
-
--- where a process link leads
-abbrev pub landed : {S F : Type 0} → Landing S F → Bool → Target S F
-landed l slash = record { dir = l.dir; name = l.name; last = last.Name; slash = slash; found = Some l.found; jumped = true }
+use Rattle.pr_base.specs.WalkLaws.{Shows, IsShown, FoundIsShown, JumpIsShown}
 
 pub same_target : {S F : Type 0} (one two : Target S F) → ◌≡◌ {A = Result (Target S F) Errno} (Ok one) (Ok two) → one ≡ two
 same_target one two h = cc
@@ -25,22 +17,22 @@ module _ {S F : Type 0} (looking : Looking S F) (P : Target S F → Type 0) wher
   abbrev pub EndsSo : Trail S F → Type 0
   EndsSo trail = (t : Target S F) → trail.answer ≡ Ok t → P t
 
-  failed : (e : Errno) → EndsSo (fails e)
+  pub failed : (e : Errno) → EndsSo (fails e)
   failed e t h = absurd cc
 
-  ended : (target : Target S F) → P target → EndsSo (ends target)
+  pub ended : (target : Target S F) → P target → EndsSo (ends target)
   ended target holds t h = subst P (same_target target t h) holds
 
-  either_way : (b : Bool) (x y : Trail S F) → EndsSo x → EndsSo y → EndsSo (if b then x else y)
+  pub either_way : (b : Bool) (x y : Trail S F) → EndsSo x → EndsSo y → EndsSo (if b then x else y)
   either_way true x y p q = p
   either_way false x y p q = q
 
-  lands : (mode : WalkMode) (slash : Bool) (l : Landing S F) → P (landed l slash) → EndsSo (ends_landed mode slash l)
+  pub lands : (mode : WalkMode) (slash : Bool) (l : Landing S F) → P (landed l slash) → EndsSo (ends_landed mode slash l)
   lands mode slash l holds =
       let t : Target S F = landed l slash in
       either_way (wants_directory mode slash) (if l.is_dir then ends t else fails ENOTDIR) (ends t) (either_way l.is_dir (ends t) (fails ENOTDIR) (ended t holds) (failed ENOTDIR)) (ended t holds)
 
-  jumps : (left : ℕ) (go : Landing S F → Trail S F) (lead : Option (Landing S F)) → ((l : Landing S F) → lead ≡ Some l → EndsSo (go l)) → EndsSo (jumps_on left go lead)
+  pub jumps : (left : ℕ) (go : Landing S F → Trail S F) (lead : Option (Landing S F)) → ((l : Landing S F) → lead ≡ Some l → EndsSo (go l)) → EndsSo (jumps_on left go lead)
   jumps zero go lead each = failed _
   jumps (suc left) go None each = failed ENOENT
   jumps (suc left) go (Some l) each = each l refl
@@ -91,3 +83,28 @@ module _ {S F : Type 0} (looking : Looking S F) (P : Target S F → Type 0) wher
     unfolding walk_on
     walk_ends mode zero s cs slash begins = along_ends mode zero loops (λ s cs slash begins. failed _) cs s slash begins
     walk_ends mode (suc left) s cs slash begins = along_ends mode (suc left) (walk_on looking mode left) (walk_ends mode left) cs s slash begins
+
+module _ {S F : Type 0} (looking : Looking S F) where
+  -- a target that a component shows is shown
+  abbrev pub IsShownThere : Target S F → Type 0
+  IsShownThere t = t.jumped ≡ false → t.last ≢ last.Root → IsShown looking t
+
+  pub walk_shown : (mode : WalkMode) (left : ℕ) (s : S) (cs : List Component) (slash : Bool) → EndsSo looking IsShownThere (walk_on looking mode left s cs slash)
+  walk_shown mode left s cs slash =
+      walk_ends looking IsShownThere (λ s. Unit {0}) (λ s slash begins jumped root. absurd (root refl)) (λ s c slash found shows jumped root. (c, refl, refl, shows)) (λ s c slash f l looked jumped. absurd cc) (λ s c f text looked. tt)
+      mode left s cs slash (λ none. tt)
+
+  -- and one to which a process link led is where that link leads
+  abbrev pub IsJumpThere : Target S F → Type 0
+  IsJumpThere t = t.jumped ≡ true → (s : S) × (c : Component) × (f : F) × (l : Landing S F) × (looking.look s c ≡ Jumps f (Some l)) × (t ≡ landed l t.slash)
+
+  pub walk_jumped : (mode : WalkMode) (left : ℕ) (s : S) (cs : List Component) (slash : Bool) → EndsSo looking IsJumpThere (walk_on looking mode left s cs slash)
+  walk_jumped mode left s cs slash =
+      walk_ends looking IsJumpThere (λ s. Unit {0}) (λ s slash begins jumped. absurd cc) (λ s c slash found shows jumped. absurd cc) (λ s c slash f l looked jumped. (s, c, f, l, looked, refl)) (λ s c f text looked. tt)
+      mode left s cs slash (λ none. tt)
+
+pub found_is_shown : (S F : Type 0) → FoundIsShown S F
+found_is_shown S F looking mode base path = walk_shown looking mode most_links (begins_at looking base path) (components_of path) (has_slash path)
+
+pub jump_is_shown : (S F : Type 0) → JumpIsShown S F
+jump_is_shown S F looking mode base path = walk_jumped looking mode most_links (begins_at looking base path) (components_of path) (has_slash path)

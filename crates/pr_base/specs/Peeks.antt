@@ -1,0 +1,32 @@
+-- What a tracer is told by the kernel that runs its process, as functions of what it asks.
+use Rattle.std.specs.Prelude.{ℕ, ◌≡◌, List, Option, Result, Ok, Err, IfSome}
+use Rattle.pr_base.specs.Texts.{IsText}
+use Rattle.pr_base.specs.declared.errno.Errno.{Errno}
+use Rattle.pr_base.specs.declared.peeks.BaseKind.{BaseKind}
+use Rattle.pr_base.specs.declared.peeks.PeekFault.{PeekFault}
+use Rattle.pr_base.specs.declared.peeks.PeekFault.TheVariants as fault
+use Rattle.pr_base.specs.declared.peeks.PeekKind.{PeekKind}
+
+-- by a host path: the kind of what stands there, the text of a link, the first bytes of a file that may
+-- be executed. By a process and a descriptor: what it is, and its host name if it has one. By a process:
+-- the host names of its working directory and executable, if they have one
+pub record Peeked : Type 0 where
+  pub kind : List ℕ → Result PeekKind Errno
+  pub link_text : List ℕ → Result (List ℕ) Errno
+  pub head : List ℕ → ℕ → Result (List ℕ) Errno
+  pub base_kind : ℕ → ℕ → BaseKind
+  pub base_name : ℕ → ℕ → Option (List ℕ)
+  pub cwd_name : ℕ → Option (List ℕ)
+  pub exe_name : ℕ → Option (List ℕ)
+
+-- the answer is this one, but for want of memory
+abbrev pub IsPeeked : {T : Type 0} → Result T Errno → Result T PeekFault → Type 0
+IsPeeked answer (Ok x) = answer ≡ Ok x
+IsPeeked answer (Err (fault.Err e)) = answer ≡ Err e
+IsPeeked answer (Err fault.NoMemory) = Unit {0}
+
+-- a name that is there is the bytes of a text
+pub record NamesAreTexts (peeked : Peeked) : Type 0 where
+  pub base : (pid fd : ℕ) → IfSome (peeked.base_name pid fd) IsText
+  pub cwd : (pid : ℕ) → IfSome (peeked.cwd_name pid) IsText
+  pub exe : (pid : ℕ) → IfSome (peeked.exe_name pid) IsText
