@@ -12,18 +12,17 @@ use std::marker::Model;
 pub struct Guest {
     files: Files<u32>,
     descs: Descs,
-    calls: u32,
 }
 
 impl Model for Guest {
     ghost use Rattle.std.specs.Prelude.{ℕ};
-    ghost use Rattle.files_tests.specs.Served.{IsServed};
+    ghost use Rattle.kr_files.specs.Serves.{Serves};
 
     ghost Value = { ℕ };
 
-    ghost view = { λ g. g.calls };
+    ghost view = { λ g. g.files.table.last_file };
 
-    ghost invariant = { λ g. IsServed g.files g.descs g.calls };
+    ghost invariant = { λ g. Serves g.files g.descs (λ _. 0) };
 }
 
 impl Guest {
@@ -31,17 +30,15 @@ impl Guest {
         Guest {
             files: Files::new(alloc),
             descs: Descs::new(alloc),
-            calls: 0,
         }
     }
 
     pub fn open(&mut self, o: Opened<u32>, from: u32, cloexec: bool) -> Result<u32, FilesRefusal>
         requires { IsTrue (is_no_end o.what) }
     {
-        if self.calls >= 10_000 {
+        if self.files.last_file() == u64::MAX {
             return Err(FilesRefusal::NoMemory);
         }
-        self.calls += 1;
         self.files.open(&mut self.descs, o, from, cloexec)
     }
 
@@ -104,10 +101,9 @@ impl Guest {
     }
 
     pub fn pipe(&mut self) -> Result<(u32, u32), FilesRefusal> {
-        if self.calls >= 10_000 {
+        if self.files.last_file() >= u64::MAX - 1 || self.files.last_pipe() == u32::MAX {
             return Err(FilesRefusal::NoMemory);
         }
-        self.calls += 1;
         self.files.pipe(&mut self.descs, false)
     }
 
@@ -140,11 +136,7 @@ impl Guest {
     /// The flag of a descriptor of a child, and where its open file stands here once the child has
     /// closed it.
     pub fn fork_and_close(self, fd: u32) -> Option<(bool, u64)> {
-        let Guest {
-            mut files,
-            descs,
-            calls: _,
-        } = self;
+        let Guest { mut files, descs } = self;
         let Ok(mut child) = files.fork(&descs) else {
             return None;
         };

@@ -6,11 +6,10 @@ pub mod DescriptorLemmas
 pub mod EntryLemmas
 pub mod KindLemmas
 pub mod LawLemmas
-pub mod MapLemmas
 pub mod MountLemmas
 pub mod OpenFileLemmas
 pub mod PipeLemmas
+pub mod ServedLemmas
 pub mod ServesLemmas
 pub mod SlotLemmas
 pub mod SoundLemmas
-pub mod TreeLemmas

@@ -2,7 +2,6 @@
 pub mod Descriptors
 pub mod Files
 pub mod Laws
-pub mod Maps
 pub mod Opened
 pub mod Pipes
 -- what stands above them

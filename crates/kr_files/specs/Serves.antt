@@ -12,3 +12,7 @@ module _ {M : Type 0} where
     pub names : NamesOpenFiles f d
     pub below : (fd : ℕ) (x : Descriptor) → map.get d fd ≡ Some x → (fd < 1024) × (x.number ≤ f.table.last_file)
     pub counted : (n : ℕ) (h : Counted M) → map.get f.table.files n ≡ Some h → h.count ≡ named_count (meanings d) n + others n
+
+  -- nothing else names a file that isn't opened yet
+  abbrev pub IsFresh : Kept M → (ℕ → ℕ) → Type 0
+  IsFresh f others = (n : ℕ) → f.table.last_file < n → others n ≡ 0

@@ -4,7 +4,7 @@ use Rattle.std.specs.Prelude.{◌≡◌, ◌≤◌, ℕ, Bool, true, false, leng
 use Rattle.std.specs.Ordering.{nat_cmp}
 use Rattle.kr_files.specs.declared.opened.What.{What}
 use Rattle.kr_files.specs.Files.{Counted, Kept, has_kind}
-use Rattle.kr_files.specs.Maps.{mapped}
+use Rattle.pr_base.specs.Maps.{mapped}
 use Rattle.kr_files.specs.OpenFiles.{Store}
 use Rattle.kr_files.specs.Opened.{is_reader, is_writer}
 use Rattle.kr_files.specs.StoredPipes.{Pipe, PipeTable}

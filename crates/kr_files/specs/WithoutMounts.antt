@@ -3,7 +3,7 @@
 use Rattle.std.specs.Option.{option_map}
 use Rattle.kr_files.specs.declared.opened.Opened.{Opened}
 use Rattle.kr_files.specs.Files.{Counted, Table}
-use Rattle.kr_files.specs.Maps.{mapped}
+use Rattle.pr_base.specs.Maps.{mapped}
 
 module _ {M : Type 0} where
   abbrev pub without_mount : Opened M → Opened (Unit {0})

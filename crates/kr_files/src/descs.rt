@@ -74,7 +74,7 @@ impl Descs {
     ghost use Rattle.kr_files.specs.Descriptors.{lowest_free, with_cloexec, cloexec_of};
     ghost use Rattle.kr_files.specs.Slots.{unnamed};
     ghost use Rattle.kr_files.specs.Laws.{AreFew};
-    ghost use Rattle.kr_files.specs.Maps.{changed};
+    ghost use Rattle.pr_base.specs.Maps.{changed};
 
     /// No descriptor is open. It takes no memory.
     pub fn new(alloc: Global) -> Descs

@@ -44,7 +44,7 @@ impl<M> Model for OpenFiles<M> {
 impl<M: Copy> OpenFiles<M> {
     ghost use Rattle.kr_files.specs.Files.{Counted, GivesPair, counted_more, on_opened, at_offset, with_append};
     ghost use Rattle.kr_files.specs.Laws.{HaveKeys, AreCounted};
-    ghost use Rattle.kr_files.specs.Maps.{changed, mapped};
+    ghost use Rattle.pr_base.specs.Maps.{changed, mapped};
     ghost use Rattle.kr_files.specs.Descriptors.{meanings, named_count};
     ghost use Rattle.kr_files.specs.declared.descs.Descriptor.{Descriptor};
     ghost use Rattle.kr_files.specs.OpenFiles.{SameFiles, ended_kind, with_one_less};

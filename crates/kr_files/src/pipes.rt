@@ -29,7 +29,7 @@ impl Model for Pipes {
 }
 
 impl Pipes {
-    ghost use Rattle.kr_files.specs.Maps.{changed};
+    ghost use Rattle.pr_base.specs.Maps.{changed};
     ghost use Rattle.kr_files.specs.Pipes.{read_waits};
     ghost use Rattle.kr_files.specs.StoredPipes.{fresh_pipe, holding, reader_open, writer_open, reader_gone, writer_gone, end_gone};
 

@@ -1,4 +1,4 @@
-use Rattle.files_tests.proofs.ServedLemmas.{served-new}
+use Rattle.kr_files.proofs.ServedLemmas.{served-new}
 use Rattle.files_tests.proofs.guest.Guest.new.Goals as goal
 
 pub invariant_of-result : goal.invariant_of-result
