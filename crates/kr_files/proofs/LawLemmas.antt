@@ -1,12 +1,11 @@
 -- What holds of every table of open files.
 use Rattle.std.specs.FinMap as map
 use Rattle.std.proofs.Common.{◌≡◌, ◌≤◌, subst, ℕ, true, false, List, length, refl, sym, ap, ◌∙◌, Option, Some, None}
-use Rattle.std.specs.Prelude.{◌↔◌, IsSome}
+use Rattle.std.specs.Prelude.{IsSome}
 use Rattle.std.specs.Option.{option_map, option_and_then}
 use Rattle.kr_files.specs.declared.descs.Descriptor.{Descriptor}
-use Rattle.kr_files.specs.declared.opened.Opened.{Opened}
 use Rattle.kr_files.specs.Descriptors.{Descriptors}
-use Rattle.kr_files.specs.Files.{Counted, Kept, NamesOpenFiles, file_at, opened_at}
+use Rattle.kr_files.specs.Files.{Counted, Kept, NamesOpenFiles, file_at}
 use Rattle.kr_files.specs.Laws.{HaveKeys, AreCounted, IsKept, OpenHaveFiles}
 use Rattle.kr_files.specs.OpenFiles.{Store}
 use Rattle.kr_files.specs.Opened.{is_reader, is_writer}

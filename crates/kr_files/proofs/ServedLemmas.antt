@@ -1,7 +1,7 @@
 -- What a process's descriptors name stays served, whatever a call answers.
 use Rattle.std.specs.FinMap as map
 use Rattle.std.proofs.Common.{◌≡◌, ◌≢◌, ◌≤◌, ◌<◌, ◌+◌, ◌^◌, inl, inr, subst, ℕ, Bool, true, false, is_some, refl, sym, ap, ◌∙◌, arith, List, Option, Some, None}
-use Rattle.std.specs.Prelude.{◌==◌, IsSome, Result, Ok, Err, IfOk, OnOk, OnErr}
+use Rattle.std.specs.Prelude.{IsSome, Result, Ok, Err, IfOk, OnOk, OnErr}
 use Rattle.std.specs.Option.{option_map, option_map_or, option_and_then}
 use Rattle.pr_base.specs.declared.memory.NoMemory.{NoMemory}
 use Rattle.std.proofs.lemmas.Option.{none-some, same_Some}
@@ -185,7 +185,7 @@ module _ {M : Type 0} where
               let still = get-remove_other d to fd (λ same. other (sym same)) ∙ x.1 in
               let whole = put ∙ sym (insert_over d to (with_cloexec cloexec x.0)) in
               subst (λ k. Serves k e others) (sym (is ∙ ap (released y) copies))
-              (subst (λ m. Serves (released y (copied x.0 f)) m others) (sym whole) 
+              (subst (λ m. Serves (released y (copied x.0 f)) m others) (sym whole)
               (serves-put (released y (copied x.0 f)) (map.remove d to) others to (with_cloexec cloexec x.0) closed_ (get-remove_same d to) low (closed_.names fd x.0 still) (closed_.below fd x.0 still).1))
         ] refl files
 

@@ -6,7 +6,7 @@ use Rattle.kr_files.specs.declared.descs.Descriptor.{Descriptor}
 use Rattle.kr_files.specs.declared.opened.Opened.{Opened}
 use Rattle.kr_files.specs.declared.opened.What.TheVariants.{PipeRead, PipeWrite}
 use Rattle.kr_files.specs.Descriptors.{Descriptors, meanings, named_count, lowest_free, lowest_pair, IsLowestFree, AllTaken}
-use Rattle.kr_files.specs.Files.{Counted, Table, Kept, NamesOpenFiles, opened_at, takes_pipe}
+use Rattle.kr_files.specs.Files.{Counted, Table, Kept, opened_at, takes_pipe}
 use Rattle.kr_files.specs.Opened.{after_removal, after_rename}
 
 -- ---- open files and pipes

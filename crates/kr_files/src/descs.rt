@@ -14,7 +14,7 @@ pub const DESCRIPTORS: u32 = 1024;
 ///
 /// The key finds the open file at once. Its number says which one is meant, also once another one is
 /// kept under that key.
-#[derive(Clone, Copy, Debug, PartialEq, Eq)]
+#[derive(Clone, Copy)]
 pub(crate) struct Descriptor {
     pub(crate) key: usize,
     pub(crate) number: u64,

@@ -4,6 +4,8 @@ ghost use Rattle.kr_files.specs.declared.descs.Descriptor.{Descriptor};
 ghost use Rattle.kr_files.specs.Descriptors.{Named};
 ghost use Rattle.kr_files.specs.Files.{NamesOpenFiles};
 ghost use Rattle.kr_files.specs.Laws.{IsKept, OpenHaveFiles, RenamedOntoItself, AreFew, LowestIsLeast, LowestByMeaning};
+ghost use Rattle.kr_files.specs.Serves.{CallsServe};
+ghost use Rattle.kr_files.specs.WithoutMounts.{CallsGoWithoutMounts};
 
 use crate::descs::Descs;
 use crate::files::Files;
@@ -45,4 +47,14 @@ pub fn lowest_free_goes_by_the_meaning<M: Copy>()
 /// An entry renamed onto itself is forgotten.
 pub fn renamed_onto_itself_is_forgotten<M: Copy>()
     ensures { RenamedOntoItself M }
+{}
+
+/// What a process's descriptors name stays open and counted, whatever its calls answer.
+pub fn calls_serve<M: Copy>()
+    ensures { CallsServe M }
+{}
+
+/// Each call does on open files without their mounts what it does on open files.
+pub fn calls_go_without_mounts<M: Copy>()
+    ensures { CallsGoWithoutMounts M }
 {}
