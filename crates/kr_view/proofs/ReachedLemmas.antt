@@ -1,13 +1,10 @@
 -- A walk along a text over the host's own view.
-use Rattle.std.proofs.Common.{◌≡◌, ℕ, ◌+◌, ◌-◌, Bool, true, false, List, [], ◌∷◌, ◌++◌, map, reverse, length, get_or, Option, Some, None, Ok, refl, sym, ap, ◌∙◌, arith, append_assoc, append-nil, suc}
+use Rattle.std.proofs.Common.{◌≡◌, ℕ, Bool, true, false, List, [], ◌∷◌, ◌++◌, map, reverse, Option, Some, None, Ok, refl, sym, ap, ◌∙◌, arith, append-nil}
 use Rattle.std.specs.Bool.{if◌then◌else◌}
 use Rattle.std.specs.Option.{option_map, option_map_or, option_and_then}
-use Rattle.std.proofs.lemmas.Bool.{ne_eqb}
 use Rattle.std.proofs.lemmas.Bool.Decides.{nat_tests}
-use Rattle.std.proofs.lemmas.Grind.{reverse_onto}
-use Rattle.std.proofs.lemmas.List.{map-append, length-append, get_or-append-add}
 use Rattle.std.proofs.lemmas.List.Elements.{All-head, All-tail}
-use Rattle.pr_base.specs.Paths.{Component, Name, slash, is_slash, has_parts, ends_in_slash, has_slash, parts_of, components_of, is_absolute, below_root, text_of, IsName, AreNames}
+use Rattle.pr_base.specs.Paths.{Component, Name, has_slash, components_of, text_of, IsName, AreNames}
 use Rattle.pr_base.specs.WalkFrame.{Fails, Leads, begins_at, most_links, walk_on, fails, ends, wants_directory, target_at}
 use Rattle.pr_base.specs.declared.errno.Errno.TheVariants.{EACCES, ENAMETOOLONG, ENOTDIR}
 use Rattle.pr_base.specs.declared.path.Last.TheVariants as last
