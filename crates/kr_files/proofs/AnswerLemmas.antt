@@ -1,7 +1,7 @@
 -- Facts about what was answered.
 use Rattle.std.proofs.Common.{◌≡◌, true, false, sym}
 use Rattle.std.proofs.lemmas.Bool.{false≢true}
-use Rattle.std.specs.Prelude.{Result, Ok, Err, is_err, OnOk, OnErr, IfOk}
+use Rattle.std.specs.Prelude.{Result, Ok, Err, is_err, IsErr, OnOk, OnErr, IfOk}
 
 module _ {A E : Type 0} where
   -- a fact that holds whatever was answered holds where the answer is an error
@@ -24,6 +24,11 @@ module _ {A E : Type 0} where
   pub ok_of : (r : Result A E) (P : Type 0) → is_err r ≡ false → OnOk r P → P
   ok_of (Ok x) P h p = p
   ok_of (Err e) P h p = absurd (false≢true (sym h))
+
+  -- an error isn't an answer that is Ok
+  pub error_not_ok : (r : Result A E) (x : A) → IsErr r → r ≡ Ok x → ⊥
+  error_not_ok (Ok y) x h e = absurd (false≢true h)
+  error_not_ok (Err f) x h e = absurd (cc)
 
   pub error_of : (r : Result A E) (P : Type 0) → is_err r ≡ true → OnErr r P → P
   error_of (Ok x) P h p = absurd (false≢true h)

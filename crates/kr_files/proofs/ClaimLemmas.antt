@@ -1,21 +1,24 @@
 -- Two descriptors that were taken, and then name open files.
 use Rattle.std.specs.FinMap as map
-use Rattle.std.proofs.Common.{◌≡◌, ◌≢◌, ◌⊎◌, ◌≤◌, ◌<◌, ◌+◌, inl, inr, subst, ℕ, Bool, true, false, refl, sym, ap, ◌∙◌, arith, Some, None}
-use Rattle.std.specs.Prelude.{IsSome, Result, Ok, Err}
+use Rattle.std.proofs.Common.{◌≡◌, ◌≢◌, ◌≤◌, ◌<◌, ◌+◌, subst, ℕ, Bool, true, false, ◌&&◌, nat_lt, is_some, refl, sym, ap, ◌∙◌, arith, Option, Some}
+use Rattle.std.specs.Prelude.{◌↔◌, IsSome, Result, Ok, Err}
 use Rattle.std.specs.Option.{option_map, option_and_then}
 use Rattle.std.specs.Ordering.{nat_cmp}
-use Rattle.std.proofs.lemmas.Option.{none-some}
+use Rattle.std.proofs.lemmas.Bool.{false≢true}
+use Rattle.std.proofs.lemmas.Bool.Decides.{nat_tests}
 use Rattle.kr_files.specs.declared.descs.Descriptor.{Descriptor}
 use Rattle.kr_files.specs.declared.opened.FilesRefusal.{FilesRefusal}
 use Rattle.kr_files.specs.declared.opened.FilesRefusal.TheVariants.{Full, NoMemory}
-use Rattle.kr_files.specs.Descriptors.{Descriptors, lowest_free, lowest_pair, unnamed}
-use Rattle.kr_files.specs.Files.{Counted, Table, GivesPair, with_pipe}
+use Rattle.kr_files.specs.Descriptors.{Descriptors, lowest_free, lowest_pair}
+use Rattle.kr_files.specs.Slots.{unnamed}
+use Rattle.kr_files.specs.Files.{Counted, Table, GivesPair, with_pipe, takes_pipe}
 use Rattle.kr_files.specs.Opened.{pipe_end}
-use Rattle.kr_files.specs.Pipes.{Pipe, PipeTable, fresh_pipe}
+use Rattle.kr_files.specs.StoredPipes.{Pipe, PipeTable, fresh_pipe}
 use Rattle.kr_files.specs.declared.opened.Opened.{Opened}
 use Rattle.kr_files.specs.declared.opened.What.TheVariants.{PipeRead, PipeWrite}
 use Rattle.kr_files.proofs.CloseLemmas.{bytes_of}
-use Rattle.kr_files.proofs.MapLemmas.{mapped-insert, some-insert, get-insert_same, insert-insert, insert-swap}
+use Rattle.kr_files.proofs.OpenFileLemmas.{value_of}
+use Rattle.pr_base.proofs.MapLemmas.{mapped-insert, some-insert, get-insert_same, insert-insert, insert-swap}
 
 -- want of memory isn't Full, and neither is an answer that is Ok
 pub wanting_not_full : {A : Type 0} → ◌≡◌ {A = Result A FilesRefusal} (Err NoMemory) (Err Full) → ⊥
@@ -29,10 +32,32 @@ pub pair_is : (d : Descriptors) (first second : ℕ) → Some first ≡ lowest_f
 pair_is d first second e f =
     ap (option_and_then (λ k. option_map (λ j. (k, j)) (lowest_free d (k + 1)))) (sym e) ∙ ap (option_map (λ j. (first, j))) (sym f)
 
--- so there are enough descriptors, and with fewer than 4,096 pipes nothing is full
-pub not_full : (d : Descriptors) (first second count : ℕ) → lowest_pair d ≡ Some (first, second) → count < 4096 → (lowest_pair d ≡ None) ⊎ (4096 ≤ count) → ⊥
-not_full d first second count pair few (inl none) = none-some (first, second) (sym none ∙ pair)
-not_full d first second count pair few (inr many) = absurd (omega arith)
+module _ {M : Type 0} (t : Table M) (d : Descriptors) where
+  -- there are enough descriptors, and fewer than 4,096 pipes
+  pub pipe_taken : (first second : ℕ) → lowest_pair d ≡ Some (first, second) → map.len t.pipes < 4096 → takes_pipe t d ≡ true
+  pipe_taken first second pair few =
+      let small : nat_lt (map.len t.pipes) 4096 ≡ true = grind (arith, nat_tests) in
+      ap (λ o. is_some o && nat_lt (map.len t.pipes) 4096) pair ∙ small
+
+  -- there are as many pipes as there may be
+  pub pipe_refused : 4096 ≤ map.len t.pipes → takes_pipe t d ≡ false
+  pipe_refused many =
+      let full : nat_lt (map.len t.pipes) 4096 ≡ false = grind (arith, nat_tests) in
+      ap (λ b. is_some (lowest_pair d) && b) full ∙ none (is_some (lowest_pair d))
+    where
+      none : (b : Bool) → (b && false) ≡ false
+      none true = refl
+      none false = refl
+
+  -- whether there are, by the count of pipes
+  pub taken_by_count : (first : ℕ) (second : Option ℕ) (count : ℕ) → Some first ≡ lowest_free d 0 → second ≡ lowest_free d (first + 1) → is_some second ≡ true
+      → count ≡ map.len t.pipes → nat_lt count 4096 ≡ takes_pipe t d
+  taken_by_count first second count e f some same =
+      let found = value_of second some in
+      ap (λ n. nat_lt n 4096) same ∙ sym (ap (λ o. is_some o && nat_lt (map.len t.pipes) 4096) (pair_is d first found.0 e (sym found.1 ∙ f)))
+
+  pub answers_no_full : {A : Type 0} (r : Result A FilesRefusal) → takes_pipe t d ≡ true → (r ≡ Err Full → ⊥) → (r ≡ Err Full) ↔ (takes_pipe t d ≡ false)
+  answers_no_full r takes other = (λ e. absurd (other e), λ none. absurd (false≢true (sym none ∙ takes)))
 
 module _ (d : Descriptors) (first second : ℕ) (u x y : Descriptor) where
   pub claimed_first : IsSome (map.get (map.insert (map.insert d first u) second u) first)
@@ -47,11 +72,6 @@ module _ (d : Descriptors) (first second : ℕ) (u x y : Descriptor) where
       ap (λ m. map.insert m second y) (insert-swap (map.insert d first u) second first u x (λ e. apart (sym e)))
       ∙ insert-insert (map.insert (map.insert d first u) first x) second u y
       ∙ ap (λ m. map.insert m second y) (insert-insert d first u x)
-
--- where nothing is full, Full isn't answered
-pub answers_no_full : {A : Type 0} (r : Result A FilesRefusal) (d : Descriptors) (first second count : ℕ) → lowest_pair d ≡ Some (first, second) → count < 4096 → (r ≡ Err Full → ⊥)
-    → (r ≡ Err Full → (lowest_pair d ≡ None) ⊎ (4096 ≤ count)) × ((lowest_pair d ≡ None) ⊎ (4096 ≤ count) → r ≡ Err Full)
-answers_no_full r d first second count pair few other = (λ e. absurd (other e), λ e. absurd (not_full d first second count pair few e))
 
 -- the two files have keys that were free before anything was taken, and stand in place of what was taken
 pub given : {mid new old : map.FinMap nat_cmp ℕ} {claimed after before : Descriptors} {first second number last : ℕ} {cloexec : Bool}

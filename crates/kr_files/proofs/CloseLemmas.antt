@@ -1,6 +1,7 @@
 -- A descriptor less: the open files, and the pipes with them.
 use Rattle.std.specs.FinMap as map
-use Rattle.std.proofs.Common.{◌≡◌, ◌≢◌, ◌⊎◌, ◌-◌, inl, inr, subst, ℕ, Bool, true, false, not, List, refl, sym, ap, ◌∙◌, cond, Option, Some, None, is_some, nat_lt}
+use Rattle.std.proofs.Common.{◌≡◌, ◌≢◌, ◌⊎◌, ◌-◌, ◌≤◌, length, inl, inr, subst, ℕ, Bool, true, false, not, List, refl, sym, ap, ◌∙◌, cond, Option, Some, None, is_some, nat_lt}
+use Rattle.std.specs.Prelude.{IsSome}
 use Rattle.std.specs.Option.{option_map, option_map_or, option_and_then}
 use Rattle.std.specs.Ordering.{nat_cmp}
 use Rattle.std.proofs.lemmas.Bool.{cases_eq}
@@ -9,13 +10,14 @@ use Rattle.kr_files.specs.declared.descs.Descriptor.{Descriptor}
 use Rattle.kr_files.specs.declared.opened.What.{What}
 use Rattle.kr_files.specs.declared.opened.What.TheVariants.{File, Dir, In, Out, Err, PipeRead, PipeWrite}
 use Rattle.kr_files.specs.Files.{Counted, Table, Kept, has_kind, closed, without_file, pipes_left, released}
-use Rattle.kr_files.specs.Maps.{changed, mapped}
+use Rattle.pr_base.specs.Maps.{changed, mapped}
 use Rattle.kr_files.specs.OpenFiles.{Store, ended_kind, with_one_less}
 use Rattle.kr_files.specs.Opened.{is_no_end, is_reader, is_writer}
-use Rattle.kr_files.specs.Pipes.{Pipe, PipeTable, reader_gone, writer_gone, end_gone, reader_open, writer_open, without_reader, without_writer}
+use Rattle.kr_files.specs.StoredPipes.{Pipe, PipeTable, reader_gone, writer_gone, end_gone, reader_open, writer_open, without_reader, without_writer}
 use Rattle.kr_files.specs.Sound.{IsSound, is_end, is_noted, kept_of}
-use Rattle.kr_files.proofs.MapLemmas.{same_values, by_key, get-insert_same, get-insert_other, get-remove_same, get-remove_other, remove-none, get-changed_same, get-changed_other, get-mapped, mapped-remove}
-use Rattle.kr_files.proofs.KindLemmas.{kind-remove_other, kind-remove_only}
+use Rattle.pr_base.proofs.MapLemmas.{same_values, by_key, get-insert_same, get-insert_other, get-remove_same, get-remove_other, remove-none, get-changed_same, get-changed_other, get-mapped, mapped-remove}
+use Rattle.kr_files.proofs.KindLemmas.{kind_some, kind-remove_other, kind-remove_only}
+use Rattle.kr_files.proofs.OpenFileLemmas.{value_of}
 use Rattle.kr_files.proofs.SoundLemmas.{SameKinds, equal_same, equal_other, no_side, sound-same_kinds, sound-remove}
 
 -- the bytes of each pipe
@@ -42,6 +44,12 @@ bytes-gone pipes k f false same = mapped-remove (λ p q. q.bytes) pipes k
 no_pipe : (pipes : PipeTable) (k : ℕ) (stays : Bool) → map.get pipes k ≡ None → cond stays (bytes_of pipes) (map.remove (bytes_of pipes) k) ≡ bytes_of pipes
 no_pipe pipes k true none = refl
 no_pipe pipes k false none = remove-none (bytes_of pipes) k (get-mapped (λ p q. q.bytes) pipes k ∙ ap (option_map (λ (q : Pipe). q.bytes)) none)
+
+sides : (t side : Bool) → (t ≡ side) ⊎ (t ≡ not side)
+sides true true = inl refl
+sides true false = inr refl
+sides false true = inr refl
+sides false false = inl refl
 
 module _ {M : Type 0} (files : map.FinMap nat_cmp (Counted M)) (pipes : PipeTable) (last_file last_pipe : ℕ) (s : IsSound files pipes last_file last_pipe) (n : ℕ) (h : Counted M) (here : map.get files n ≡ Some h) where
   -- the pipes without one side of pipe k: taken away where the other side isn't open
@@ -108,12 +116,40 @@ module _ {M : Type 0} (files : map.FinMap nat_cmp (Counted M)) (pipes : PipeTabl
         subst (λ left. IsSound (map.remove files n) left last_file last_pipe) (sym (gone_is side k))
         (sound-remove files pipes last_file last_pipe s n (cond (other_open side k) (changed pipes k (closing side)) (map.remove pipes k))
         (λ p q at. let r = found_in_cond (other_open side k) p q at in s.pipe_numbers p r.0 r.1)
+        (λ p q at. let r = found_in_cond (other_open side k) p q at in
+        elim (cases_eq p k) [
+          | inl same ↦ subst (λ (x : List ℕ). length x ≤ 65536) (sym (ap (λ (x : Pipe). x.bytes) (r.3 same) ∙ closing_bytes side r.0)) (s.bounded p r.0 r.1)
+          | inr other ↦ subst (λ (x : Pipe). length x.bytes ≤ 65536) (sym (r.2 other)) (s.bounded p r.0 r.1)
+        ])
+        (λ t p m g away at is_g. elim (cases_eq p k) [
+          | inl same ↦ still_there t p m g same away at is_g
+          | inr other ↦ left_there (other_open side k) p other (s.has_pipe t p m g at is_g)
+        ])
         (λ t p q at. let r = found_in_cond (other_open side k) p q at in
         elim (cases_eq p k) [
           | inl same ↦ at_k t p q r.0 same r.1 (r.3 same)
           | inr other ↦ ap (is_noted t) (r.2 other) ∙ s.noted t p r.0 r.1 ∙ sym (kind-remove_other (is_end t p) files n h here (not_it t p other))
         ]))
       where
+        left_there : (b : Bool) (p : ℕ) → p ≢ k → IsSome (map.get pipes p) → IsSome (map.get (cond b (changed pipes k (closing side)) (map.remove pipes k)) p)
+        left_there true p other there = subst IsSome (sym (get-changed_other pipes k (closing side) p other)) there
+        left_there false p other there = subst IsSome (sym (get-remove_other pipes k p other)) there
+
+        -- the pipe stays where another file is an end of it
+        still_there : (t : Bool) (p m : ℕ) (g : Counted M) → p ≡ k → m ≢ n → map.get files m ≡ Some g → is_end t p g.opened.what ≡ true
+            → IsSome (map.get (cond (other_open side k) (changed pipes k (closing side)) (map.remove pipes k)) p)
+        still_there t p m g same away at is_g =
+            let of_k : is_end t k g.opened.what ≡ true = ap (λ j. is_end t j g.opened.what) (sym same) ∙ is_g in
+            let pipe = value_of (map.get pipes k) (s.has_pipe t k m g at of_k) in
+            elim (sides t side) [
+              | inl e ↦ absurd (away (s.single side k m n g h at here (ap (λ b. is_end b k g.opened.what) (sym e) ∙ of_k) is))
+              | inr e ↦
+                  let open_ : other_open side k ≡ true =
+                  other_open_is side k pipe.0 pipe.1 ∙ kind_some (is_end (not side) k) files m g at (ap (λ b. is_end b k g.opened.what) (sym e) ∙ of_k) in
+                  subst (λ b. IsSome (map.get (cond b (changed pipes k (closing side)) (map.remove pipes k)) p)) (sym open_)
+                  (subst IsSome (sym (ap (map.get (changed pipes k (closing side))) same ∙ get-changed_same pipes k (closing side) ∙ ap (option_map (closing side)) pipe.1)) refl)
+            ]
+
         not_it : (t : Bool) (p : ℕ) → p ≢ k → is_end t p h.opened.what ≡ false
         not_it t p other = by_side side t p other only_k not_opposite
           where
@@ -132,15 +168,9 @@ module _ {M : Type 0} (files : map.FinMap nat_cmp (Counted M)) (pipes : PipeTabl
               | inr e ↦ ap (λ b. is_noted b q) e ∙ ap (is_noted (not side)) closes ∙ noted_opposite side r ∙ s.noted (not side) p r there
                   ∙ sym (ap (λ b. has_kind (is_end b p) (map.remove files n)) e ∙ kind-remove_other (is_end (not side) p) files n h here (not_opposite p))
             ]
-          where
-            sides : (t side : Bool) → (t ≡ side) ⊎ (t ≡ not side)
-            sides true true = inl refl
-            sides true false = inr refl
-            sides false true = inr refl
-            sides false false = inl refl
 
   no_end_of : is_no_end h.opened.what ≡ true → IsSound (map.remove files n) pipes last_file last_pipe
-  no_end_of is = sound-remove files pipes last_file last_pipe s n pipes s.pipe_numbers (λ side p q at. s.noted side p q at ∙ sym (kind-remove_other (is_end side p) files n h here (no_side h.opened.what is side p)))
+  no_end_of is = sound-remove files pipes last_file last_pipe s n pipes s.pipe_numbers s.bounded (λ side p m g away at is_g. s.has_pipe side p m g at is_g) (λ side p q at. s.noted side p q at ∙ sym (kind-remove_other (is_end side p) files n h here (no_side h.opened.what is side p)))
 
   -- the file was taken away, and the pipe whose last end it was
   pub sound-last : (what : What) → h.opened.what ≡ what → IsSound (map.remove files n) (end_gone what pipes) last_file last_pipe

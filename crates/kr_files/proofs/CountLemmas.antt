@@ -1,19 +1,31 @@
 -- How many descriptors name a file, as far as some number.
 use Rattle.std.specs.FinMap as map
-use Rattle.std.proofs.Common.{◌≡◌, ◌≢◌, ◌≤◌, ◌<◌, ◌+◌, ◌-◌, ◌^◌, subst, ℕ, zero, suc, refl, sym, ap, ◌∙◌, arith, cond, Option, Some, None, add-one}
+use Rattle.std.proofs.Common.{◌≡◌, ◌≢◌, ◌≤◌, ◌<◌, ◌+◌, ◌-◌, ◌^◌, subst, ℕ, zero, suc, refl, sym, ap, ◌∙◌, arith, true, false, cond, Option, Some, None, add-one}
 use Rattle.std.specs.Prelude.{◌==◌}
 use Rattle.std.specs.Option.{option_map, option_map_or}
 use Rattle.std.specs.Ordering.{nat_cmp}
 use Rattle.kr_files.specs.declared.descs.Descriptor.{Descriptor}
 use Rattle.kr_files.specs.Descriptors.{Descriptors, Meanings, Named, meanings, named_below}
 use Rattle.kr_files.specs.Files.{Counted, counted_more}
-use Rattle.kr_files.specs.Maps.{changed, mapped}
-use Rattle.kr_files.proofs.MapLemmas.{same_values, by_key, get-mapped, get-changed_same, get-changed_other}
+use Rattle.pr_base.specs.Maps.{changed, mapped}
+use Rattle.pr_base.proofs.MapLemmas.{same_values, by_key, get-mapped, get-changed_same, get-changed_other}
 use Rattle.kr_files.proofs.SoundLemmas.{equal_same, equal_other}
 
 -- whether the descriptor of a number names a file, as a number
 abbrev pub named_here : Meanings → ℕ → ℕ → ℕ
 named_here d n k = option_map_or (λ (x : Named). cond (x.number == n) 1 0) (map.get d k) 0
+
+here_small : (d : Meanings) (n k : ℕ) → named_here d n k ≤ 1
+here_small d n k = elim (map.get d k) as (λ o. option_map_or (λ (x : Named). cond (x.number == n) 1 0) o 0 ≤ 1) [
+  | None ↦ omega arith
+  | Some x ↦ elim (x.number == n) as (λ b. cond b 1 0 ≤ 1) [ true ↦ omega arith | false ↦ omega arith ]
+]
+
+-- each descriptor counts once
+pub below_small : (d : Meanings) (n k : ℕ) → named_below d n k ≤ k
+unfolding named_below
+below_small d n zero = omega arith
+below_small d n (suc k) = omega (arith, below_small d n k, here_small d n k)
 
 pub below-more : (d : Meanings) (n k : ℕ) → named_below d n (k + 1) ≡ named_below d n k + named_here d n k
 unfolding named_below

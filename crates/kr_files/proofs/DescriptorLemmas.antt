@@ -1,12 +1,27 @@
 -- Descriptors: the lowest free one, and those of a list of slots.
 use Rattle.std.specs.FinMap as map
-use Rattle.std.proofs.Common.{◌≡◌, ◌<◌, ◌≤◌, ◌+◌, ◌-◌, ℕ, zero, suc, true, false, List, length, get_or, set, refl, sym, ap, subst, ◌∙◌, arith, cond, Option, Some, None, is_some, inl, inr}
+use Rattle.std.proofs.Common.{◌≡◌, ◌<◌, ◌≤◌, ◌+◌, ◌-◌, ℕ, zero, suc, Bool, true, false, nat_lt, List, length, get_or, set, refl, sym, ap, subst, ◌∙◌, arith, cond, Option, Some, None, is_some, inl, inr}
 use Rattle.std.specs.Prelude.{IsSome}
 use Rattle.std.specs.Ordering.{nat_cmp}
+use Rattle.std.specs.Option.{option_map, option_and_then}
 use Rattle.std.proofs.lemmas.Bool.{cases_eq}
+use Rattle.std.proofs.lemmas.Bool.Decides.{nat_tests}
+use Rattle.std.proofs.lemmas.List.{get_or_past}
+use Rattle.std.proofs.lemmas.Option.{none-some}
+use Rattle.kr_files.specs.declared.descs.Descriptor.{Descriptor}
+use Rattle.kr_files.specs.Laws.{AreFew, LowestIsLeast}
+use Rattle.kr_files.proofs.CountLemmas.{below_small}
+use Rattle.pr_base.proofs.MapLemmas.{get-mapped}
 use Rattle.kr_files.specs.Slots.{slots}
-use Rattle.kr_files.specs.Descriptors.{first_free, lowest_free}
+use Rattle.kr_files.specs.Descriptors.{Descriptors, Named, meanings, first_free, lowest_free, lowest_pair, IsLowestFree, AllTaken}
 use Rattle.kr_files.proofs.SlotLemmas.{get-slots, slots-set_some, slots-set_none, slots-past, slots-same}
+
+at_most : (a b : ℕ) → (b < a → ⊥) → a ≤ b
+at_most a b above = by_test (nat_lt b a) refl
+  where
+    by_test : (t : Bool) → nat_lt b a ≡ t → a ≤ b
+    by_test true e = absurd (above (grind (arith, nat_tests)))
+    by_test false e = grind (arith, nat_tests)
 
 module _ {X : Type 0} where
   -- what is there isn't missing
@@ -50,13 +65,6 @@ module _ {X : Type 0} where
   pub first_free-end : (d : map.FinMap nat_cmp X) (k : ℕ) → 1024 ≤ k → first_free d k (1024 - k) ≡ None
   unfolding first_free
   first_free-end d k h = let e : 1024 - k ≡ 0 = omega arith in ap (first_free d k) e
-
-  -- the lowest free number is free, at least `from` and below 1,024, and no lower one is free
-  pub record IsLowestFree (d : map.FinMap nat_cmp X) (from fd : ℕ) : Type 0 where
-    pub free : map.get d fd ≡ None
-    pub from_on : from ≤ fd
-    pub below : fd < 1024
-    pub lower_taken : (q : ℕ) → from ≤ q → q < fd → IsSome (map.get d q)
 
   none_of : (o : Option X) → is_some o ≡ false → o ≡ None
   none_of None h = refl
@@ -107,3 +115,62 @@ module _ {X : Type 0} where
   -- and where it gives none, all from `from` on are taken
   pub lowest_free-none : (d : map.FinMap nat_cmp X) (from : ℕ) → lowest_free d from ≡ None → (q : ℕ) → from ≤ q → q < 1024 → IsSome (map.get d q)
   lowest_free-none d from e q low high = first_is_none (1024 - from) d from refl e q low high
+
+  -- both ways
+  pub lowest_is_least : LowestIsLeast X
+  lowest_is_least = record {
+    some = λ d from fd. (lowest_free-some d from fd, λ is. least d from fd is (lowest_free d from) refl);
+    none = λ d from. (lowest_free-none d from, λ taken. no_free d from taken (lowest_free d from) refl);
+  }
+    where
+      least : (d : map.FinMap nat_cmp X) (from fd : ℕ) → IsLowestFree d from fd → (o : Option ℕ) → lowest_free d from ≡ o → lowest_free d from ≡ Some fd
+      least d from fd is None e = absurd (not_missing (map.get d fd) (lowest_free-none d from e fd is.from_on is.below) is.free)
+      least d from fd is (Some k) e =
+          let found = lowest_free-some d from k e in
+          let up : fd ≤ k = at_most fd k (λ low. not_missing (map.get d k) (is.lower_taken k found.from_on low) found.free) in
+          let down : k ≤ fd = at_most k fd (λ low. not_missing (map.get d fd) (found.lower_taken fd is.from_on low) is.free) in
+          let same : k ≡ fd = omega arith in
+          e ∙ ap Some same
+
+      no_free : (d : map.FinMap nat_cmp X) (from : ℕ) → AllTaken d from → (o : Option ℕ) → lowest_free d from ≡ o → lowest_free d from ≡ None
+      no_free d from taken None e = e
+      no_free d from taken (Some k) e =
+          let found = lowest_free-some d from k e in
+          absurd (not_missing (map.get d k) (taken k found.from_on found.below) found.free)
+
+-- ---- descriptors and their meanings
+
+same_taken : (d : Descriptors) (q : ℕ) → is_some (map.get (meanings d) q) ≡ is_some (map.get d q)
+same_taken d q = ap is_some (get-mapped (λ fd (x : Descriptor). record { number = x.number; cloexec = x.cloexec }) d q) ∙ kept (map.get d q)
+  where
+    kept : (o : Option Descriptor) → is_some {T = Named} (option_map (λ (x : Descriptor). record { number = x.number; cloexec = x.cloexec }) o) ≡ is_some o
+    kept None = refl
+    kept (Some x) = refl
+
+pub first_free-meanings : (d : Descriptors) (k count : ℕ) → first_free (meanings d) k count ≡ first_free d k count
+unfolding first_free
+first_free-meanings d k zero = refl
+first_free-meanings d k (suc count) =
+    ap (λ b. cond b (first_free (meanings d) (k + 1) count) (Some k)) (same_taken d k)
+    ∙ ap (λ o. cond (is_some (map.get d k)) o (Some k)) (first_free-meanings d (k + 1) count)
+
+pub lowest_free-meanings : (d : Descriptors) (from : ℕ) → lowest_free (meanings d) from ≡ lowest_free d from
+lowest_free-meanings d from = first_free-meanings d from (1024 - from)
+
+pub lowest_pair-meanings : (d : Descriptors) → lowest_pair (meanings d) ≡ lowest_pair d
+lowest_pair-meanings d i =
+    option_and_then (λ first. option_map (λ second. (first, second)) (lowest_free-meanings d (first + 1) i)) (lowest_free-meanings d 0 i)
+
+-- ---- how many there are
+
+pub are_few : (xs : List (Option Descriptor)) (d : Descriptors) → slots xs ≡ d → length xs ≤ 1024 → AreFew d
+are_few xs d e few = record {
+  below = λ fd x at. below fd x at (nat_lt fd 1024) refl;
+  copies = λ n. below_small (meanings d) n 1024;
+}
+  where
+    below : (fd : ℕ) (x : Descriptor) → map.get d fd ≡ Some x → (b : Bool) → nat_lt fd 1024 ≡ b → fd < 1024
+    below fd x at true low = grind (arith, nat_tests)
+    below fd x at false high =
+        let past : 1024 ≤ fd = grind (arith, nat_tests) in
+        absurd (none-some x (sym (none_past xs d fd e (get_or_past xs fd None (omega arith))) ∙ at))

@@ -5,7 +5,7 @@ pub mod CountLemmas
 pub mod DescriptorLemmas
 pub mod EntryLemmas
 pub mod KindLemmas
-pub mod MapLemmas
+pub mod LawLemmas
 pub mod MountLemmas
 pub mod OpenFileLemmas
 pub mod PipeLemmas
@@ -13,4 +13,3 @@ pub mod ServedLemmas
 pub mod ServesLemmas
 pub mod SlotLemmas
 pub mod SoundLemmas
-pub mod TreeLemmas

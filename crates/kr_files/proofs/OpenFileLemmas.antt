@@ -12,9 +12,10 @@ use Rattle.slab.proofs.SlabLemmas.{Updates-with_value}
 use Rattle.kr_files.specs.declared.open_files.OpenFile.{OpenFile}
 use Rattle.kr_files.specs.Files.{Counted, on_opened}
 use Rattle.kr_files.specs.declared.opened.Opened.{Opened}
-use Rattle.kr_files.specs.Maps.{changed, mapped}
-use Rattle.kr_files.specs.OpenFiles.{Store, store_of, counted, files_in, numbers_in, AreDistinct, ChangesEach, on_file, ended_kind, with_one_less}
-use Rattle.kr_files.proofs.MapLemmas.{some-insert, same_values, by_key, get-insert_same, get-insert_other, get-remove_same, get-remove_other, changed-some, get-mapped}
+use Rattle.kr_files.specs.Laws.{HaveKeys, AreCounted}
+use Rattle.pr_base.specs.Maps.{changed, mapped}
+use Rattle.kr_files.specs.OpenFiles.{Store, store_of, counted, files_in, numbers_in, AreDistinct, AreStored, ChangesEach, on_file, ended_kind, with_one_less}
+use Rattle.pr_base.proofs.MapLemmas.{some-insert, same_values, by_key, get-insert_same, get-insert_other, get-remove_same, get-remove_other, changed-some, get-mapped}
 use Rattle.kr_files.proofs.SlotLemmas.{get-slots}
 
 -- two options are the same where each value of one is that of the other
@@ -33,7 +34,7 @@ pub value_of : {X : Type 0} (o : Option X) → IsSome o → (x : X) × (o ≡ So
 value_of None some = absurd (cc)
 value_of (Some x) some = (x, refl)
 
-mapped_some : {X Y : Type 0} (f : X → Y) (o : Option X) (y : Y) → option_map f o ≡ Some y → (x : X) × (o ≡ Some x) × (f x ≡ y)
+pub mapped_some : {X Y : Type 0} (f : X → Y) (o : Option X) (y : Y) → option_map f o ≡ Some y → (x : X) × (o ≡ Some x) × (f x ≡ y)
 mapped_some f None y e = absurd (none-some y e)
 mapped_some f (Some x) y e = (x, refl, same_Some (f x) y e)
 
@@ -89,6 +90,29 @@ module _ {M : Type 0} where
       let equal = same_Some slot.1 e (sym slot.2 ∙ ap (λ q. get_or xs q None) same ∙ here) in
       some.1 ∙ ap Some (sym slot.4 ∙ ap counted equal)
 
+  -- ---- what holds of files and keys
+
+  module _ (xs : List (Option (OpenFile M))) (stored : AreStored xs) where
+    led : (k n : ℕ) → map.get (numbers_in xs) k ≡ Some n → (e : OpenFile M) × (get_or xs k None ≡ Some e) × (e.number ≡ n)
+    led k n at = mapped_some (λ (e : OpenFile M). e.number) (get_or xs k None) n (sym (get-numbers_in xs k) ∙ at)
+
+    pub have_keys : HaveKeys (numbers_in xs) (files_in xs)
+    have_keys = record {
+      leads = λ k n at.
+          let e = led k n at in
+          subst IsSome (sym (ap (map.get (files_in xs)) (sym e.2) ∙ get-files_in xs k e.0 stored.distinct e.1)) refl;
+      has_key = λ n h at.
+          let slot = slot_of xs n h at in
+          (slot.0, get-numbers_in xs slot.0 ∙ ap (option_map (λ (e : OpenFile M). e.number)) slot.2 ∙ ap Some slot.3);
+      one_key = λ j k n at_j at_k.
+          let a = led j n at_j in
+          let b = led k n at_k in
+          stored.distinct j k a.0 b.0 a.1 b.1 (a.2 ∙ sym b.2);
+    }
+
+    pub are_counted : AreCounted (files_in xs)
+    are_counted n h at = let slot = slot_of xs n h at in subst (λ (x : Counted M). 1 ≤ x.count) slot.4 (stored.named slot.0 slot.1 slot.2)
+
   -- ---- one descriptor less
 
   module _ (files : map.FinMap nat_cmp (Counted M)) (n : ℕ) (h : Counted M) (here : map.get files n ≡ Some h) where
@@ -129,6 +153,16 @@ module _ {M : Type 0} where
           ]
         ]
 
+    pub stored-put : (e : OpenFile M) → AreStored s.slots → Updates s t key (Some e) → 1 ≤ e.count
+        → ((j : ℕ) (a : OpenFile M) → get s j ≡ Some a → a.number ≡ e.number → j ≡ key) → AreStored t.slots
+    stored-put e stored u one only = record {
+      distinct = distinct-put e stored.distinct u only;
+      named = λ k a at. elim (cases_eq k key) [
+        | inl here ↦ subst (λ (x : OpenFile M). 1 ≤ x.count) (same_Some e a (sym u.changed ∙ sym (ap (get t) here) ∙ at)) one
+        | inr other ↦ stored.named k a (sym (u.others k other) ∙ at)
+      ];
+    }
+
     pub numbers-put : (e : OpenFile M) → Updates s t key (Some e) → numbers_in t.slots ≡ map.insert (numbers_in s.slots) key e.number
     numbers-put e u =
         same_values _ _ (by_key (λ q. map.get (numbers_in t.slots) q ≡ map.get (map.insert (numbers_in s.slots) key e.number) q) key
@@ -158,6 +192,15 @@ module _ {M : Type 0} where
     distinct-clear distinct u j k a b at_j at_k same =
         let away : (q : ℕ) (x : OpenFile M) → get t q ≡ Some x → q ≢ key = λ q x at here. none-some x (sym u.changed ∙ sym (ap (get t) here) ∙ at) in
         distinct j k a b (sym (u.others j (away j a at_j)) ∙ at_j) (sym (u.others k (away k b at_k)) ∙ at_k) same
+
+    pub stored-clear : AreStored s.slots → Updates s t key None → AreStored t.slots
+    stored-clear stored u = record {
+      distinct = distinct-clear stored.distinct u;
+      named = λ k a at. elim (cases_eq k key) [
+        | inl here ↦ absurd (none-some a (sym u.changed ∙ sym (ap (get t) here) ∙ at))
+        | inr other ↦ stored.named k a (sym (u.others k other) ∙ at)
+      ];
+    }
 
     pub numbers-clear : Updates s t key None → numbers_in t.slots ≡ map.remove (numbers_in s.slots) key
     numbers-clear u =
@@ -212,6 +255,9 @@ module _ {M : Type 0} where
       pub distinct-changed : AreDistinct s.slots → AreDistinct (with_value s key e').slots
       distinct-changed distinct = distinct-put s (with_value s key e') key e' distinct written (λ j a at number. distinct j key a e at here (number ∙ same))
 
+      pub stored-changed : AreStored s.slots → 1 ≤ e'.count → AreStored (with_value s key e').slots
+      stored-changed stored one = stored-put s (with_value s key e') key e' stored written one (λ j a at number. stored.distinct j key a e at here (number ∙ same))
+
       pub numbers-changed : numbers_in (with_value s key e').slots ≡ old.keys
       numbers-changed =
           numbers-put s (with_value s key e') key e' written
@@ -241,6 +287,12 @@ module _ {M : Type 0} (s t : Slab (OpenFile M)) (f : Opened M → Opened M) (eac
       let x = before j a at_j in
       let y = before k b at_k in
       distinct j k x.0 y.0 x.1 y.1 (ap (λ (e : OpenFile M). e.number) x.2 ∙ same ∙ sym (ap (λ (e : OpenFile M). e.number) y.2))
+
+  pub stored-each : AreStored s.slots → AreStored t.slots
+  stored-each stored = record {
+    distinct = distinct-each stored.distinct;
+    named = λ k e at. let x = before k e at in subst (λ (y : OpenFile M). 1 ≤ y.count) x.2 (stored.named k x.0 x.1);
+  }
 
   numbers_same : (o : Option (OpenFile M)) → option_map (λ (e : OpenFile M). e.number) (option_map (on_file f) o) ≡ option_map (λ (e : OpenFile M). e.number) o
   numbers_same None = refl

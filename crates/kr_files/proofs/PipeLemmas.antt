@@ -1,24 +1,25 @@
 -- Reading and writing of pipes: from the pipes as they are kept to their bytes.
 use Rattle.std.specs.FinMap as map
-use Rattle.std.proofs.Common.{◌≡◌, ◌-◌, inl, inr, subst, ℕ, zero, suc, Bool, true, false, ◌&&◌, List, [], ◌∷◌, ◌++◌, length, take, drop, refl, sym, ap, ◌∙◌, arith, cond, Option, Some, None}
+use Rattle.std.proofs.Common.{◌≡◌, ◌≤◌, ◌-◌, length-append, length-drop, inl, inr, subst, ℕ, zero, suc, Bool, true, false, ◌&&◌, List, [], ◌∷◌, ◌++◌, length, take, drop, refl, sym, ap, ◌∙◌, arith, cond, Option, Some, None}
 use Rattle.std.specs.Prelude.{◌==◌, min, nat_le, IsSome}
 use Rattle.std.specs.Option.{option_map, option_map_or}
 use Rattle.std.proofs.lemmas.Bool.{cases_eq, false≢true}
 use Rattle.std.proofs.lemmas.Bool.Decides.{nat_tests}
-use Rattle.std.proofs.lemmas.List.{append-nil}
+use Rattle.std.proofs.lemmas.List.{append-nil, length-take}
 use Rattle.std.proofs.lemmas.Option.{same_Some}
 use Rattle.kr_files.specs.declared.opened.Moved.TheVariants.{Bytes, NotReady as ReadNotReady}
 use Rattle.kr_files.specs.declared.opened.Wrote.{Wrote}
 use Rattle.kr_files.specs.declared.opened.Wrote.TheVariants.{Took, NotReady as WriteNotReady, NoReader}
-use Rattle.kr_files.specs.Files.{Kept, has_reader, has_writer, on_table, pipe_after_read, pipe_after_write, pipe_state_of}
-use Rattle.kr_files.specs.Maps.{changed}
+use Rattle.kr_files.specs.Files.{Kept, has_reader, has_writer, reads_wait, writes_wait, on_table, pipe_after_read, pipe_after_write, pipe_state_of}
+use Rattle.pr_base.specs.Maps.{changed}
 use Rattle.kr_files.specs.OpenFiles.{Store}
-use Rattle.kr_files.specs.Pipes.{Pipe, PipeTable, holding, moved_of, wrote_of, after_write, read_waits, reader_open}
+use Rattle.kr_files.specs.Pipes.{moved_of, wrote_of, after_write, read_waits}
+use Rattle.kr_files.specs.StoredPipes.{Pipe, PipeTable, holding, reader_open}
 use Rattle.kr_files.specs.Sound.{IsSound, is_noted, kept_of}
-use Rattle.kr_files.proofs.MapLemmas.{get-insert_same, get-insert_other, insert-same, changed-some, get-mapped, mapped-insert}
+use Rattle.pr_base.proofs.MapLemmas.{some-insert, get-insert_same, get-insert_other, insert-same, changed-some, get-mapped, mapped-insert}
 use Rattle.kr_files.proofs.CloseLemmas.{bytes_of}
 
-get_bytes : (pipes : PipeTable) (p : ℕ) → map.get (bytes_of pipes) p ≡ option_map (λ (q : Pipe). q.bytes) (map.get pipes p)
+pub get_bytes : (pipes : PipeTable) (p : ℕ) → map.get (bytes_of pipes) p ≡ option_map (λ (q : Pipe). q.bytes) (map.get pipes p)
 get_bytes pipes p = get-mapped (λ k q. q.bytes) pipes p
 
 there : (o : Option Pipe) → IsSome (option_map (λ (q : Pipe). q.bytes) o) → (q : Pipe) × (o ≡ Some q)
@@ -87,15 +88,25 @@ module _ {M : Type 0} (o : Store M) (pipes : PipeTable) (last_file last_pipe : �
         ∙ ap (λ w. Some (record { bytes = length q.bytes; reader = q.reader; writer = w })) g
         ∙ sym state-some
 
+    pub reads_wait-is : reads_wait kept.table p ≡ read_waits q.bytes q.writer
+    reads_wait-is = ap (λ o. option_map_or (λ bytes. read_waits bytes (has_writer kept.table p)) o false) held ∙ ap (read_waits q.bytes) (sym writer_is)
+
+    pub writes_wait-is : writes_wait kept.table p ≡ (q.reader && nat_le 65536 (length q.bytes))
+    writes_wait-is = ap (λ o. has_reader kept.table p && option_map_or (λ bytes. nat_le 65536 (length bytes)) o false) held ∙ ap (λ b. b && nat_le 65536 (length q.bytes)) (sym reader_is)
+
     -- other bytes in a pipe
-    pub sound-holding : (b : List ℕ) → IsSound o.files (map.insert pipes p (holding b q)) last_file last_pipe
-    sound-holding b = record {
+    pub sound-holding : (b : List ℕ) → length b ≤ 65536 → IsSound o.files (map.insert pipes p (holding b q)) last_file last_pipe
+    sound-holding b small = record {
       file_numbers = s.file_numbers;
       pipe_numbers = λ k r at. elim (cases_eq k p) [
         | inl same ↦ s.pipe_numbers k q (ap (map.get pipes) same ∙ here)
         | inr other ↦ s.pipe_numbers k r (sym (get-insert_other pipes p (holding b q) k other) ∙ at)
       ];
-      end_numbers = s.end_numbers;
+      has_pipe = λ side k n h at is. some-insert pipes p k (holding b q) (s.has_pipe side k n h at is);
+      bounded = λ k r at. elim (cases_eq k p) [
+        | inl same ↦ subst (λ (x : Pipe). length x.bytes ≤ 65536) (same_Some (holding b q) r (sym (get-insert_same pipes p (holding b q)) ∙ sym (ap (map.get (map.insert pipes p (holding b q))) same) ∙ at)) small
+        | inr other ↦ s.bounded k r (sym (get-insert_other pipes p (holding b q) k other) ∙ at)
+      ];
       noted = λ side k r at. elim (cases_eq k p) [
         | inl same ↦ ap (is_noted side) (sym (same_Some (holding b q) r (sym (get-insert_same pipes p (holding b q)) ∙ sym (ap (map.get (map.insert pipes p (holding b q))) same) ∙ at)))
             ∙ flags side ∙ s.noted side k q (ap (map.get pipes) same ∙ here)
@@ -142,7 +153,7 @@ module _ {M : Type 0} (o : Store M) (pipes : PipeTable) (last_file last_pipe : �
           ∙ with_bytes_kept (drop n q.bytes) ∙ sym read_after
 
       pub sound-read : IsSound o.files (changed pipes p (λ r. holding (drop n r.bytes) r)) last_file last_pipe
-      sound-read = subst (λ ps. IsSound o.files ps last_file last_pipe) (sym (changed-some pipes p (λ r. holding (drop n r.bytes) r) q here)) (sound-holding (drop n q.bytes))
+      sound-read = subst (λ ps. IsSound o.files ps last_file last_pipe) (sym (changed-some pipes p (λ r. holding (drop n r.bytes) r) q here)) (sound-holding (drop n q.bytes) (omega (arith, length-drop n q.bytes, s.bounded p q here)))
 
     -- ---- writing
 
@@ -185,4 +196,5 @@ module _ {M : Type 0} (o : Store M) (pipes : PipeTable) (last_file last_pipe : �
       pub sound-write : IsSound o.files (changed pipes p (λ r. holding (r.bytes ++ take (65536 - length r.bytes) b) r)) last_file last_pipe
       sound-write =
           subst (λ ps. IsSound o.files ps last_file last_pipe) (sym (changed-some pipes p (λ r. holding (r.bytes ++ take (65536 - length r.bytes) b) r) q here))
-          (sound-holding (q.bytes ++ take (65536 - length q.bytes) b))
+          (sound-holding (q.bytes ++ take (65536 - length q.bytes) b)
+          (omega (arith, length-append q.bytes (take (65536 - length q.bytes) b), length-take (65536 - length q.bytes) b, s.bounded p q here)))

@@ -1,7 +1,7 @@
 -- What ties pipes to open files, after each change.
 use Rattle.std.specs.FinMap as map
 use Rattle.std.proofs.Common.{◌≡◌, ◌≢◌, ◌⊎◌, ◌≤◌, ◌+◌, inl, inr, subst, ℕ, Bool, true, false, ◌||◌, [], refl, sym, ap, ◌∙◌, arith, Option, Some, None}
-use Rattle.std.specs.Prelude.{◌==◌}
+use Rattle.std.specs.Prelude.{◌==◌, length, IsSome}
 use Rattle.std.specs.Option.{option_map}
 use Rattle.std.specs.Ordering.{nat_cmp}
 use Rattle.std.proofs.lemmas.Bool.{cases_eq, false≢true}
@@ -11,10 +11,11 @@ use Rattle.kr_files.specs.Opened.{is_no_end, is_reader, is_writer}
 use Rattle.std.proofs.lemmas.Option.{same_Some, none-some}
 use Rattle.kr_files.specs.declared.opened.What.{What}
 use Rattle.kr_files.specs.Files.{Counted, has_kind}
-use Rattle.kr_files.specs.Maps.{changed, mapped}
+use Rattle.pr_base.specs.Maps.{changed, mapped}
 use Rattle.kr_files.specs.Sound.{IsSound, is_end, is_noted}
-use Rattle.kr_files.specs.Pipes.{Pipe, PipeTable, fresh_pipe}
-use Rattle.kr_files.proofs.MapLemmas.{by_key, get-insert_same, get-insert_other, get-remove_same, get-remove_other, get-changed_same, get-changed_other, get-mapped}
+use Rattle.kr_files.specs.StoredPipes.{Pipe, PipeTable, fresh_pipe}
+use Rattle.kr_files.proofs.OpenFileLemmas.{value_of}
+use Rattle.pr_base.proofs.MapLemmas.{by_key, some-insert, get-insert_same, get-insert_other, get-remove_same, get-remove_other, get-changed_same, get-changed_other, get-mapped}
 use Rattle.kr_files.proofs.KindLemmas.{same_kind, not_true, either_true, or_true, kind_some, no_kind, kind-insert}
 
 pub equal_true : (a b : ℕ) → (a == b) ≡ true → a ≡ b
@@ -69,7 +70,8 @@ module _ {M : Type 0} where
     sound-same_kinds pipes last_file last_pipe s = record {
       file_numbers = λ n h here. s.file_numbers n (back n h here).0 (back n h here).1;
       pipe_numbers = s.pipe_numbers;
-      end_numbers = λ side p n h here is. let g = back n h here in s.end_numbers side p n g.0 g.1 (ap (is_end side p) g.2 ∙ is);
+      has_pipe = λ side p n h here is. let g = back n h here in s.has_pipe side p n g.0 g.1 (ap (is_end side p) g.2 ∙ is);
+      bounded = s.bounded;
       noted = λ side p q here. s.noted side p q here ∙ sym (same_has_kind (is_end side p));
       single = λ side p m n g h at_m at_n is_g is_h.
           let a = back m g at_m in
@@ -85,7 +87,8 @@ module _ {M : Type 0} where
       record {
         file_numbers = λ n h here. absurd (no_file n h here);
         pipe_numbers = λ p q here. absurd (no_pipe p q here);
-        end_numbers = λ side p n h here is. absurd (no_file n h here);
+        has_pipe = λ side p n h here is. absurd (no_file n h here);
+        bounded = λ p q here. absurd (no_pipe p q here);
         noted = λ side p q here. absurd (no_pipe p q here);
         single = λ side p m n g h at_m at_n is_g is_h. absurd (no_file m g at_m);
       }
@@ -124,14 +127,20 @@ module _ {M : Type 0} where
           | Some q ↦ λ here. let low = s.pipe_numbers (last_pipe + 1) q here in absurd (omega arith)
         ] refl
 
+    -- an end of a pipe is that of one that was made
+    pub end_number : (side : Bool) (p n : ℕ) (h : Counted M) → map.get files n ≡ Some h → is_end side p h.opened.what ≡ true → p ≤ last_pipe
+    end_number side p n h here is = let there = value_of (map.get pipes p) (s.has_pipe side p n h here is) in s.pipe_numbers p there.0 there.1
+
     -- one more file
-    pub sound-add : (h : Counted M) (more : PipeTable) (last : ℕ) → last_pipe ≤ last
+    pub sound-add : (h : Counted M) (more : PipeTable) (last : ℕ)
         → ((side : Bool) (p n : ℕ) (g : Counted M) → is_end side p h.opened.what ≡ true → map.get files n ≡ Some g → is_end side p g.opened.what ≡ true → ⊥)
-        → ((side : Bool) (p : ℕ) → is_end side p h.opened.what ≡ true → p ≤ last)
+        → ((side : Bool) (p : ℕ) → is_end side p h.opened.what ≡ true → IsSome (map.get more p))
+        → ((p : ℕ) → IsSome (map.get pipes p) → IsSome (map.get more p))
         → ((p : ℕ) (q : Pipe) → map.get more p ≡ Some q → p ≤ last)
+        → ((p : ℕ) (q : Pipe) → map.get more p ≡ Some q → length q.bytes ≤ 65536)
         → ((side : Bool) (p : ℕ) (q : Pipe) → map.get more p ≡ Some q → is_noted side q ≡ (is_end side p h.opened.what || has_kind (is_end side p) files))
         → IsSound (map.insert files (last_file + 1) h) more (last_file + 1) last
-    sound-add h more last up only bound numbers noted =
+    sound-add h more last only has stays numbers bounded noted =
         let now : (n : ℕ) (g : Counted M) → map.get (map.insert files (last_file + 1) h) n ≡ Some g → n ≡ last_file + 1 → h ≡ g
         = λ n g at here. same_Some h g (sym (get-insert_same files (last_file + 1) h) ∙ sym (ap (map.get (map.insert files (last_file + 1) h)) here) ∙ at) in
         let before : (n : ℕ) (g : Counted M) → map.get (map.insert files (last_file + 1) h) n ≡ Some g → n ≢ last_file + 1 → map.get files n ≡ Some g
@@ -142,10 +151,11 @@ module _ {M : Type 0} where
             | inr other ↦ let low = s.file_numbers n g (before n g at other) in omega arith
           ];
           pipe_numbers = numbers;
-          end_numbers = λ side p n g at is. elim (cases_eq n (last_file + 1)) [
-            | inl here ↦ bound side p (ap (λ (x : Counted M). is_end side p x.opened.what) (now n g at here) ∙ is)
-            | inr other ↦ let low = s.end_numbers side p n g (before n g at other) is in omega arith
+          has_pipe = λ side p n g at is. elim (cases_eq n (last_file + 1)) [
+            | inl here ↦ has side p (ap (λ (x : Counted M). is_end side p x.opened.what) (now n g at here) ∙ is)
+            | inr other ↦ stays p (s.has_pipe side p n g (before n g at other) is)
           ];
+          bounded = bounded;
           noted = λ side p q at. noted side p q at ∙ sym (kind-insert (is_end side p) files (last_file + 1) h fresh_file);
           single = λ side p m n f g at_m at_n is_f is_g. elim (cases_eq m (last_file + 1)) [
             | inl here_m ↦ elim (cases_eq n (last_file + 1)) [
@@ -163,24 +173,30 @@ module _ {M : Type 0} where
     pub sound-open : (h : Counted M) → is_no_end h.opened.what ≡ true → IsSound (map.insert files (last_file + 1) h) pipes (last_file + 1) last_pipe
     sound-open h is =
         let none = no_side h.opened.what is in
-        sound-add h pipes last_pipe (omega arith)
+        sound-add h pipes last_pipe
         (λ side p n g e _ _. false≢true (sym (none side p) ∙ e))
         (λ side p e. absurd (false≢true (sym (none side p) ∙ e)))
-        s.pipe_numbers
+        (λ p there. there)
+        s.pipe_numbers s.bounded
         (λ side p q at. s.noted side p q at ∙ ap (λ b. b || has_kind (is_end side p) files) (sym (none side p)))
 
     -- a file was closed
     pub sound-remove : (n : ℕ) (left : PipeTable)
         → ((p : ℕ) (q : Pipe) → map.get left p ≡ Some q → p ≤ last_pipe)
+        → ((p : ℕ) (q : Pipe) → map.get left p ≡ Some q → length q.bytes ≤ 65536)
+        → ((side : Bool) (p m : ℕ) (g : Counted M) → m ≢ n → map.get files m ≡ Some g → is_end side p g.opened.what ≡ true → IsSome (map.get left p))
         → ((side : Bool) (p : ℕ) (q : Pipe) → map.get left p ≡ Some q → is_noted side q ≡ has_kind (is_end side p) (map.remove files n))
         → IsSound (map.remove files n) left last_file last_pipe
-    sound-remove n left numbers noted =
+    sound-remove n left numbers bounded has noted =
+        let away : (m : ℕ) (g : Counted M) → map.get (map.remove files n) m ≡ Some g → m ≢ n
+        = λ m g at here. none-some g (sym (get-remove_same files n) ∙ sym (ap (map.get (map.remove files n)) here) ∙ at) in
         let before : (m : ℕ) (g : Counted M) → map.get (map.remove files n) m ≡ Some g → map.get files m ≡ Some g
-        = λ m g at. sym (get-remove_other files n m (λ here. none-some g (sym (get-remove_same files n) ∙ sym (ap (map.get (map.remove files n)) here) ∙ at))) ∙ at in
+        = λ m g at. sym (get-remove_other files n m (away m g at)) ∙ at in
         record {
           file_numbers = λ m g at. s.file_numbers m g (before m g at);
           pipe_numbers = numbers;
-          end_numbers = λ side p m g at is. s.end_numbers side p m g (before m g at) is;
+          has_pipe = λ side p m g at is. has side p m g (away m g at) (before m g at) is;
+          bounded = bounded;
           noted = noted;
           single = λ side p m k f g at_m at_k is_f is_g. s.single side p m k f g (before m f at_m) (before k g at_k) is_f is_g;
         }
@@ -192,7 +208,7 @@ half_pipe = record { bytes = []; reader = true; writer = false }
 module _ {M : Type 0} (files : map.FinMap nat_cmp (Counted M)) (pipes : PipeTable) (last_file last_pipe : ℕ) (s : IsSound files pipes last_file last_pipe)
     (r w : Counted M) (is_r : r.opened.what ≡ PipeRead (last_pipe + 1)) (is_w : w.opened.what ≡ PipeWrite (last_pipe + 1)) where
   no_end_yet : (side : Bool) (n : ℕ) (g : Counted M) → map.get files n ≡ Some g → is_end side (last_pipe + 1) g.opened.what ≡ true → ⊥
-  no_end_yet side n g at is = let low = s.end_numbers side (last_pipe + 1) n g at is in absurd (omega arith)
+  no_end_yet side n g at is = let low = end_number files pipes last_file last_pipe s side (last_pipe + 1) n g at is in absurd (omega arith)
 
   none_yet : (side : Bool) → has_kind (is_end side (last_pipe + 1)) files ≡ false
   none_yet side = no_kind (is_end side (last_pipe + 1)) files (λ n g at. not_true (is_end side (last_pipe + 1) g.opened.what) (no_end_yet side n g at))
@@ -216,6 +232,9 @@ module _ {M : Type 0} (files : map.FinMap nat_cmp (Counted M)) (pipes : PipeTabl
         | inl same ↦ inl (same, same_Some x q (sym (get-insert_same pipes (last_pipe + 1) x) ∙ sym (ap (map.get (map.insert pipes (last_pipe + 1) x)) same) ∙ at))
         | inr other ↦ inr (other, sym (get-insert_other pipes (last_pipe + 1) x p other) ∙ at)
       ]
+
+  there_now : (x : Pipe) (p : ℕ) → p ≡ last_pipe + 1 → IsSome (map.get (map.insert pipes (last_pipe + 1) x) p)
+  there_now x p same = subst IsSome (sym (ap (map.get (map.insert pipes (last_pipe + 1) x)) same ∙ get-insert_same pipes (last_pipe + 1) x)) refl
 
   is_here : (p : ℕ) → (last_pipe + 1 == p) ≡ true → last_pipe + 1 ≡ p
   is_here p e = equal_true (last_pipe + 1) p e
@@ -241,12 +260,17 @@ module _ {M : Type 0} (files : map.FinMap nat_cmp (Counted M)) (pipes : PipeTabl
   -- the end for reading was opened
   sound-half : IsSound (map.insert files (last_file + 1) r) (map.insert pipes (last_pipe + 1) half_pipe) (last_file + 1) (last_pipe + 1)
   sound-half =
-      sound-add files pipes last_file last_pipe s r (map.insert pipes (last_pipe + 1) half_pipe) (last_pipe + 1) (omega arith)
+      sound-add files pipes last_file last_pipe s r (map.insert pipes (last_pipe + 1) half_pipe) (last_pipe + 1)
       (λ side p n g e at is. no_end_yet side n g at (subst (λ k. is_end side k g.opened.what ≡ true) (sym (reader_here side p e).1) is))
-      (λ side p e. let same = (reader_here side p e).1 in omega arith)
+      (λ side p e. there_now half_pipe p (sym (reader_here side p e).1))
+      (λ p there. some-insert pipes (last_pipe + 1) p half_pipe there)
       (λ p q at. elim (pipe_of half_pipe p q at) [
         | inl here ↦ let e = here.0 in omega arith
         | inr away ↦ let low = s.pipe_numbers p q away.1 in omega arith
+      ])
+      (λ p q at. elim (pipe_of half_pipe p q at) [
+        | inl here ↦ subst (λ (x : Pipe). length x.bytes ≤ 65536) here.1 (omega arith)
+        | inr away ↦ s.bounded p q away.1
       ])
       (λ side p q at. elim (pipe_of half_pipe p q at) [
         | inl here ↦ ap (is_noted side) (sym here.1) ∙ half_noted side ∙ sym (ap (λ k. is_end side k r.opened.what || has_kind (is_end side k) files) here.0)
@@ -283,13 +307,20 @@ module _ {M : Type 0} (files : map.FinMap nat_cmp (Counted M)) (pipes : PipeTabl
   pub sound-pipe : IsSound (map.insert (map.insert files (last_file + 1) r) (last_file + 1 + 1) w) (map.insert pipes (last_pipe + 1) fresh_pipe) (last_file + 1 + 1) (last_pipe + 1)
   unfolding half
   sound-pipe =
-      sound-add half (map.insert pipes (last_pipe + 1) half_pipe) (last_file + 1) (last_pipe + 1) sound-half w (map.insert pipes (last_pipe + 1) fresh_pipe) (last_pipe + 1) (omega arith)
+      sound-add half (map.insert pipes (last_pipe + 1) half_pipe) (last_file + 1) (last_pipe + 1) sound-half w (map.insert pipes (last_pipe + 1) fresh_pipe) (last_pipe + 1)
       (λ side p n g e at is. no_writer_in_half n g at
       (subst (λ k. is_end false k g.opened.what ≡ true) (sym (writer_here side p e).1) (subst (λ t. is_end t p g.opened.what ≡ true) (writer_here side p e).0 is)))
-      (λ side p e. let same = (writer_here side p e).1 in omega arith)
+      (λ side p e. there_now fresh_pipe p (sym (writer_here side p e).1))
+      (λ p there. by_key (λ q. IsSome (map.get (map.insert pipes (last_pipe + 1) half_pipe) q) → IsSome (map.get (map.insert pipes (last_pipe + 1) fresh_pipe) q)) (last_pipe + 1)
+      (λ _. there_now fresh_pipe (last_pipe + 1) refl)
+      (λ q other was. some-insert pipes (last_pipe + 1) q fresh_pipe (subst IsSome (get-insert_other pipes (last_pipe + 1) half_pipe q other) was)) p there)
       (λ p q at. elim (pipe_of fresh_pipe p q at) [
         | inl here ↦ let e = here.0 in omega arith
         | inr away ↦ let low = s.pipe_numbers p q away.1 in omega arith
+      ])
+      (λ p q at. elim (pipe_of fresh_pipe p q at) [
+        | inl here ↦ subst (λ (x : Pipe). length x.bytes ≤ 65536) here.1 (omega arith)
+        | inr away ↦ s.bounded p q away.1
       ])
       (λ side p q at. elim (pipe_of fresh_pipe p q at) [
         | inl here ↦ ap (is_noted side) (sym here.1) ∙ whole_noted side ∙ sym (ap (λ k. is_end side k w.opened.what || has_kind (is_end side k) half) here.0)

@@ -1,10 +1,10 @@
 -- The descriptors of a process.
 use Rattle.std.specs.FinMap as map
-use Rattle.std.specs.Prelude.{ℕ, zero, suc, ◌+◌, ◌-◌, ◌==◌, Bool, Option, Some, None, if◌then◌else◌, refl}
+use Rattle.std.specs.Prelude.{◌≡◌, ℕ, zero, suc, ◌+◌, ◌-◌, ◌==◌, ◌<◌, ◌≤◌, Bool, Option, Some, None, IsSome, if◌then◌else◌, refl}
 use Rattle.std.specs.Option.{option_map, option_map_or, option_and_then}
 use Rattle.std.specs.Ordering.{nat_cmp}
 use Rattle.std.specs.Coded.{Coded, code_by, coded×, coded_ℕ, coded_bool}
-use Rattle.kr_files.specs.Maps.{mapped}
+use Rattle.pr_base.specs.Maps.{mapped}
 use Rattle.kr_files.specs.declared.descs.Descriptor.{Descriptor}
 
 abbrev pub descriptor_code : Coded Descriptor
@@ -15,10 +15,6 @@ descriptor_code =
 -- the descriptor with this flag
 abbrev pub with_cloexec : Bool → Descriptor → Descriptor
 with_cloexec on x = record x { cloexec = on }
-
--- a descriptor that is taken, and names nothing yet
-abbrev pub unnamed : Bool → Descriptor
-unnamed cloexec = record { key = 0; number = 0; cloexec = cloexec }
 
 -- descriptors by their numbers
 abbrev pub Descriptors : Type 0
@@ -67,6 +63,17 @@ module _ {X : Type 0} where
   -- the lowest free descriptor from a number on; a process has those below 1,024
   abbrev pub lowest_free : map.FinMap nat_cmp X → ℕ → Option ℕ
   lowest_free d from = first_free d from (1024 - from)
+
+  -- what that is: a free descriptor, and from that number on no lower one is
+  pub record IsLowestFree (d : map.FinMap nat_cmp X) (from fd : ℕ) : Type 0 where
+    pub free : map.get d fd ≡ None
+    pub from_on : from ≤ fd
+    pub below : fd < 1024
+    pub lower_taken : (q : ℕ) → from ≤ q → q < fd → IsSome (map.get d q)
+
+  -- from a number on no descriptor is free
+  abbrev pub AllTaken : map.FinMap nat_cmp X → ℕ → Type 0
+  AllTaken d from = (q : ℕ) → from ≤ q → q < 1024 → IsSome (map.get d q)
 
   -- the two lowest free descriptors
   abbrev pub lowest_pair : map.FinMap nat_cmp X → Option (ℕ × ℕ)

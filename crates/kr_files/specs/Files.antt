@@ -1,6 +1,6 @@
 -- The open files and pipes of a machine, by their numbers.
 use Rattle.std.specs.FinMap as map
-use Rattle.std.specs.Prelude.{◌≡◌, ◌≢◌, ℕ, ◌+◌, ◌-◌, ◌<◌, ◌^◌, Bool, true, false, not, List, [], length, drop, nat_lt, Option, Some, None, if◌then◌else◌, refl}
+use Rattle.std.specs.Prelude.{◌≡◌, ◌≢◌, ℕ, ◌+◌, ◌-◌, ◌<◌, ◌^◌, Bool, true, false, not, ◌&&◌, List, [], length, drop, nat_lt, nat_le, Option, Some, None, is_some, if◌then◌else◌, refl}
 use Rattle.std.specs.List.{list_any}
 use Rattle.std.specs.Option.{option_map, option_map_or, option_and_then}
 use Rattle.std.specs.Ordering.{nat_cmp}
@@ -10,10 +10,10 @@ use Rattle.kr_files.specs.declared.opened.Opened.{Opened}
 use Rattle.kr_files.specs.declared.opened.What.{What}
 use Rattle.kr_files.specs.declared.opened.What.TheVariants.{File, Dir, In, Out, Err, PipeRead, PipeWrite}
 use Rattle.kr_files.specs.declared.opened.PipeState.{PipeState}
-use Rattle.kr_files.specs.Descriptors.{Descriptors, Meanings, meanings, named_count}
-use Rattle.kr_files.specs.Maps.{changed, mapped}
+use Rattle.kr_files.specs.Descriptors.{Descriptors, Meanings, meanings, named_count, lowest_pair}
+use Rattle.pr_base.specs.Maps.{changed, mapped}
 use Rattle.kr_files.specs.Opened.{is_reader, is_writer, pipe_end}
-use Rattle.kr_files.specs.Pipes.{after_write}
+use Rattle.kr_files.specs.Pipes.{after_write, read_waits}
 
 -- an open file, and how many descriptors name it
 pub record Counted (M : Type 0) : Type 0 where
@@ -57,6 +57,13 @@ module _ {M : Type 0} where
   abbrev pub has_writer : Table M → ℕ → Bool
   has_writer t p = has_kind (is_writer p) t.files
 
+  -- whether a read of a pipe waits, and whether a write does: it is empty and has a writer, or full and has a reader
+  abbrev pub reads_wait : Table M → ℕ → Bool
+  reads_wait t p = option_map_or (λ bytes. read_waits bytes (has_writer t p)) (map.get t.pipes p) false
+
+  abbrev pub writes_wait : Table M → ℕ → Bool
+  writes_wait t p = has_reader t p && option_map_or (λ bytes. nat_le 65536 (length bytes)) (map.get t.pipes p) false
+
   -- how a pipe stands
   abbrev pub pipe_state_of : Table M → ℕ → Option PipeState
   pipe_state_of t p =
@@ -70,6 +77,10 @@ module _ {M : Type 0} where
     files = map.insert t.files (t.last_file + 1) (record { opened = o; count = 1 });
     last_file = t.last_file + 1;
   }
+
+  -- whether one more pipe is made: two descriptors are free, and there are fewer than 4,096 pipes
+  abbrev pub takes_pipe : {X : Type 0} → Table M → map.FinMap nat_cmp X → Bool
+  takes_pipe t d = is_some (lowest_pair d) && nat_lt (map.len t.pipes) 4096
 
   -- with one more pipe, which is empty, and its two ends, the reader first
   abbrev pub with_pipe : Table M → Table M

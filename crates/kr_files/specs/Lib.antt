@@ -1,11 +1,14 @@
+-- what the calls promise
 pub mod Descriptors
 pub mod Files
-pub mod Maps
-pub mod OpenFiles
+pub mod Laws
 pub mod Opened
 pub mod Pipes
-pub mod Served
+-- what stands above them
 pub mod Serves
+pub mod WithoutMounts
+-- how all that is kept
+pub mod OpenFiles
 pub mod Slots
 pub mod Sound
-pub mod WithoutMounts
+pub mod StoredPipes

@@ -1,6 +1,7 @@
--- Open files as they are kept: each under a key, with its number and the count of its descriptors.
+-- Open files as they are kept: each under a key, with its number and the count of its descriptors. No public
+-- clause cites this module.
 use Rattle.std.specs.FinMap as map
-use Rattle.std.specs.Prelude.{◌≡◌, ◌≢◌, ◌<◌, ℕ, ◌-◌, List, [], ◌∷◌, Option, Some, None, map as map_list, nat_lt, IsTrue, slice_index_or, if◌then◌else◌, refl}
+use Rattle.std.specs.Prelude.{◌≡◌, ◌≢◌, ◌<◌, ◌≤◌, ℕ, ◌-◌, List, [], ◌∷◌, Option, Some, None, map as map_list, nat_lt, IsTrue, slice_index_or, if◌then◌else◌, refl}
 use Rattle.std.specs.Option.{option_map, option_map_or, option_and_then}
 use Rattle.std.specs.Ordering.{nat_cmp}
 use Rattle.std.specs.Coded.{Coded, code_by, coded×, coded_ℕ}
@@ -56,6 +57,15 @@ module _ {M : Type 0} where
   AreDistinct xs =
       (j k : ℕ) (a b : OpenFile M) → slice_index_or xs j None ≡ Some a → slice_index_or xs k None ≡ Some b
       → a.number ≡ b.number → j ≡ k
+
+  -- each file is named by a descriptor at least
+  abbrev pub AreNamed : List (Option (OpenFile M)) → Type 0
+  AreNamed xs = (k : ℕ) (a : OpenFile M) → slice_index_or xs k None ≡ Some a → 1 ≤ a.count
+
+  -- what holds of the slots
+  pub record AreStored (xs : List (Option (OpenFile M))) : Type 0 where
+    pub distinct : AreDistinct xs
+    pub named : AreNamed xs
 
   -- the same files under the same keys
   pub record SameFiles (old new : Store M) : Type 0 where

@@ -14,7 +14,7 @@ pub const DESCRIPTORS: u32 = 1024;
 ///
 /// The key finds the open file at once. Its number says which one is meant, also once another one is
 /// kept under that key.
-#[derive(Clone, Copy, Debug, PartialEq, Eq)]
+#[derive(Clone, Copy)]
 pub(crate) struct Descriptor {
     pub(crate) key: usize,
     pub(crate) number: u64,
@@ -43,7 +43,7 @@ impl Model for Descs {
 }
 
 impl Descriptor {
-    ghost use Rattle.kr_files.specs.Descriptors.{unnamed};
+    ghost use Rattle.kr_files.specs.Slots.{unnamed};
 
     /// A descriptor that is taken, and names no open file yet.
     pub(crate) fn unnamed(cloexec: bool) -> Descriptor
@@ -71,8 +71,10 @@ fn widen(list: &mut Vec<Option<Descriptor>>, len: usize) -> Result<(), NoMemory>
 }
 
 impl Descs {
-    ghost use Rattle.kr_files.specs.Descriptors.{lowest_free, with_cloexec, cloexec_of, unnamed};
-    ghost use Rattle.kr_files.specs.Maps.{changed};
+    ghost use Rattle.kr_files.specs.Descriptors.{lowest_free, with_cloexec, cloexec_of};
+    ghost use Rattle.kr_files.specs.Slots.{unnamed};
+    ghost use Rattle.kr_files.specs.Laws.{AreFew};
+    ghost use Rattle.pr_base.specs.Maps.{changed};
 
     /// No descriptor is open. It takes no memory.
     pub fn new(alloc: Global) -> Descs
@@ -116,8 +118,8 @@ impl Descs {
         }
     }
 
-    /// The lowest free descriptor from a number on.
-    pub(crate) fn lowest_free(&self, from: u32) -> Option<u32>
+    /// The lowest free descriptor from a number on, `None` where all below 1,024 are open.
+    pub fn lowest_free(&self, from: u32) -> Option<u32>
         ensures free { result ≡ lowest_free self.now from }
         ensures within { IfSome result (λ fd. fd < 1024) }
     {
@@ -166,6 +168,13 @@ impl Descs {
         self.list[first as usize] = Some(Descriptor::unnamed(cloexec));
         self.list[second as usize] = Some(Descriptor::unnamed(cloexec));
         Ok(())
+    }
+
+    /// What [`descriptors_are_few`](crate::laws::descriptors_are_few) says.
+    pub(crate) fn are_few(&self)
+        ensures { AreFew self.now }
+    {
+        let _ = &self.list;
     }
 
     /// From this number on no descriptor is open.

@@ -1,5 +1,5 @@
 //! The open files of all processes, and pipes.
-ghost use Rattle.std.specs.Prelude.{◌≡◌, ◌≢◌, ◌↔◌, ◌⊎◌, ◌<◌, ◌≤◌, ◌+◌, ◌^◌, length, Some, None, Err, IsTrue, IsSome, IfOk, OnOk, OnErr};
+ghost use Rattle.std.specs.Prelude.{◌≡◌, ◌≢◌, ◌↔◌, ◌<◌, ◌+◌, ◌^◌, length, false, Some, None, Ok, Err, IsTrue, IsSome, IfOk, OnOk, OnErr};
 ghost use Rattle.std.specs.Option.{option_copied, option_map};
 ghost use Rattle.std.specs.FinMap as map;
 
@@ -44,8 +44,9 @@ impl<M> Model for Files<M> {
 
 impl<M: Copy> Files<M> {
     ghost use Rattle.kr_files.specs.Descriptors.{lowest_free, lowest_pair, with_copy_at, meanings};
-    ghost use Rattle.kr_files.specs.Files.{empty_table, with_all_opened, with_file, with_pipe, with_copies, FitsCopies, GivesPair, has_reader, has_writer, pipe_after_read, pipe_after_write, pipe_state_of, on_table, with_opened, at_offset, with_append, NamesOpenFiles, opened_at, count_at, by_descriptor, copied, released, Gives};
+    ghost use Rattle.kr_files.specs.Files.{empty_table, with_all_opened, with_file, with_pipe, with_copies, FitsCopies, GivesPair, has_reader, has_writer, reads_wait, writes_wait, takes_pipe, pipe_after_read, pipe_after_write, pipe_state_of, on_table, with_opened, at_offset, with_append, NamesOpenFiles, opened_at, count_at, by_descriptor, copied, released, Gives};
     ghost use Rattle.kr_files.specs.Opened.{is_no_end, after_removal, after_rename};
+    ghost use Rattle.kr_files.specs.Laws.{IsKept};
     ghost use Rattle.kr_files.specs.Pipes.{moved_of, wrote_of};
 
     /// Nothing is open. It takes no memory.
@@ -59,6 +60,27 @@ impl<M: Copy> Files<M> {
             last_pipe: 0,
             alloc,
         }
+    }
+
+    /// The last number that an open file got, 0 before the first.
+    pub fn last_file(&self) -> u64
+        ensures { result ≡ self.now.table.last_file }
+    {
+        self.last_file
+    }
+
+    /// The last number that a pipe got, 0 before the first.
+    pub fn last_pipe(&self) -> u32
+        ensures { result ≡ self.now.table.last_pipe }
+    {
+        self.last_pipe
+    }
+
+    /// What [`files_are_kept`](crate::laws::files_are_kept) says.
+    pub(crate) fn are_kept(&self)
+        ensures { IsKept self.now }
+    {
+        self.open.are_kept();
     }
 
     /// Opens what is no end of a pipe, under the lowest free descriptor from `from` on.
@@ -158,11 +180,21 @@ impl<M: Copy> Files<M> {
         Ok(())
     }
 
+    /// Whether there is room for one more pipe, which is where `pipe` doesn't answer Full.
+    pub fn takes_pipe(&self, d: &Descs) -> bool
+        ensures { result ≡ takes_pipe self.now.table d.now }
+    {
+        match d.lowest_free(0) {
+            Some(first) => d.lowest_free(first + 1).is_some() && self.pipes.len() < PIPES,
+            None => false,
+        }
+    }
+
     /// Makes a pipe, and opens its ends under the two lowest free descriptors, the reader first.
     pub fn pipe(&mut self, d: &mut Descs, cloexec: bool) -> Result<(u32, u32), FilesRefusal>
         requires files { self.old.table.last_file + 2 < 2 ^ 64 }
         requires pipes { self.old.table.last_pipe + 1 < 2 ^ 32 }
-        ensures full { (result ≡ Err FilesRefusal.Full) ↔ ((lowest_pair d.old ≡ None) ⊎ (4096 ≤ map.len self.old.table.pipes)) }
+        ensures full { (result ≡ Err FilesRefusal.Full) ↔ (takes_pipe self.old.table d.old ≡ false) }
         ensures lowest { IfOk result (λ fds. lowest_pair d.old ≡ Some (fds.0, fds.1)) }
         ensures table { OnOk result (self.new.table ≡ with_pipe self.old.table) }
         ensures gives { IfOk result (λ fds. GivesPair self.old.keys self.new.keys d.old d.new fds.0 fds.1 (self.old.table.last_file + 1) cloexec) }
@@ -235,6 +267,7 @@ impl<M: Copy> Files<M> {
     pub fn pipe_read(&mut self, pipe: u32, n: usize) -> Result<Moved, NoMemory>
         requires exists { IsSome (map.get self.old.table.pipes pipe) }
         requires asked { 0 < n }
+        ensures waits { (result ≡ Ok Moved.NotReady) ↔ IsTrue (reads_wait self.old.table pipe) }
         ensures answer { IfOk result (λ moved. option_map (λ bytes. moved_of bytes (has_writer self.old.table pipe) n) (map.get self.old.table.pipes pipe) ≡ Some moved) }
         ensures after { OnOk result (self.new ≡ on_table (pipe_after_read pipe n) self.old) }
         ensures err { OnErr result (self.new ≡ self.old) }
@@ -249,6 +282,8 @@ impl<M: Copy> Files<M> {
     pub fn pipe_write(&mut self, pipe: u32, b: &[u8]) -> Result<Wrote, NoMemory>
         requires exists { IsSome (map.get self.old.table.pipes pipe) }
         requires asked { 0 < length b.now }
+        ensures waits { (result ≡ Ok Wrote.NotReady) ↔ IsTrue (writes_wait self.old.table pipe) }
+        ensures no_reader { (result ≡ Ok Wrote.NoReader) ↔ (has_reader self.old.table pipe ≡ false) }
         ensures answer { IfOk result (λ wrote. option_map (λ bytes. wrote_of bytes (has_reader self.old.table pipe) b.now) (map.get self.old.table.pipes pipe) ≡ Some wrote) }
         ensures after { OnOk result (self.new ≡ on_table (pipe_after_write pipe b.now) self.old) }
         ensures err { OnErr result (self.new ≡ self.old) }
@@ -302,7 +337,8 @@ impl<M: Copy> Files<M> {
     /// What is open under a descriptor, `None` where it isn't open.
     pub fn get(&self, d: &Descs, fd: u32) -> Option<&Opened<M>>
         requires { NamesOpenFiles self.now d.now }
-        ensures { option_copied result ≡ opened_at self.now d.now fd }
+        ensures value { option_copied result ≡ opened_at self.now d.now fd }
+        ensures found { IsSome result ↔ IsSome (map.get d.now fd) }
     {
         match d.get(fd) {
             Some(descriptor) => self.open.get(descriptor),

@@ -3,6 +3,7 @@
 
 pub mod descs;
 pub mod files;
+pub mod laws;
 mod open_files;
 pub mod opened;
 mod pipe;
@@ -12,8 +13,3 @@ mod renames;
 pub use descs::Descs;
 pub use files::Files;
 pub use opened::{FilesRefusal, Moved, Opened, PipeState, What, Wrote};
-
-#[cfg(test)]
-mod guest;
-#[cfg(test)]
-mod tests;

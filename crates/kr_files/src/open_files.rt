@@ -34,16 +34,17 @@ impl<M> Model for OpenFiles<M> {
 
     ghost coded = { store_code (Prim.hlevel (codes, M.code)) };
 
-    ghost use Rattle.kr_files.specs.OpenFiles.{store_of, AreDistinct};
+    ghost use Rattle.kr_files.specs.OpenFiles.{store_of, AreStored};
 
     ghost view = { λ o. store_of o.slab };
 
-    ghost invariant = { λ o. AreDistinct o.slab.slots };
+    ghost invariant = { λ o. AreStored o.slab.slots };
 }
 
 impl<M: Copy> OpenFiles<M> {
     ghost use Rattle.kr_files.specs.Files.{Counted, GivesPair, counted_more, on_opened, at_offset, with_append};
-    ghost use Rattle.kr_files.specs.Maps.{changed, mapped};
+    ghost use Rattle.kr_files.specs.Laws.{HaveKeys, AreCounted};
+    ghost use Rattle.pr_base.specs.Maps.{changed, mapped};
     ghost use Rattle.kr_files.specs.Descriptors.{meanings, named_count};
     ghost use Rattle.kr_files.specs.declared.descs.Descriptor.{Descriptor};
     ghost use Rattle.kr_files.specs.OpenFiles.{SameFiles, ended_kind, with_one_less};
@@ -57,6 +58,14 @@ impl<M: Copy> OpenFiles<M> {
         OpenFiles {
             slab: Slab::new(alloc),
         }
+    }
+
+    /// Files and keys belong together, and each file is named by a descriptor.
+    pub(crate) fn are_kept(&self)
+        ensures keys { HaveKeys self.now.keys self.now.files }
+        ensures counts { AreCounted self.now.files }
+    {
+        let _ = &self.slab;
     }
 
     /// Makes room for so many more files.
@@ -94,7 +103,8 @@ impl<M: Copy> OpenFiles<M> {
     /// What is open under a descriptor.
     pub(crate) fn get(&self, descriptor: Descriptor) -> Option<&Opened<M>>
         requires { map.get self.now.keys descriptor.key ≡ Some descriptor.number }
-        ensures { option_copied result ≡ option_map (λ h. h.opened) (map.get self.now.files descriptor.number) }
+        ensures value { option_copied result ≡ option_map (λ h. h.opened) (map.get self.now.files descriptor.number) }
+        ensures found { IsSome result }
     {
         match self.slab.get(descriptor.key) {
             Some(file) => Some(&file.opened),

@@ -106,7 +106,7 @@ impl<M: Copy> Opened<M> {
 }
 
 /// The kind of what is open. A `u32` is the number of a pipe.
-#[derive(Clone, Copy, Debug, PartialEq, Eq)]
+#[derive(Clone, Copy)]
 pub enum What {
     File,
     Dir,
@@ -123,7 +123,7 @@ pub enum What {
 }
 
 /// Why no descriptor was given.
-#[derive(Clone, Copy, Debug, PartialEq, Eq)]
+#[derive(Clone, Copy, Debug, PartialEq)]
 pub enum FilesRefusal {
     /// Too few descriptors are free, or there are as many pipes as there may be.
     Full,
@@ -142,7 +142,7 @@ impl From<NoMemory> for FilesRefusal {
 }
 
 /// What a read of a pipe answers.
-#[derive(Debug, Drop)]
+#[derive(Drop)]
 pub enum Moved {
     /// The bytes that were taken out, none where the pipe is empty and nobody can write to it.
     Bytes(Bytes),
@@ -151,7 +151,7 @@ pub enum Moved {
 }
 
 /// What a write to a pipe answers.
-#[derive(Clone, Copy, Debug, PartialEq, Eq)]
+#[derive(Clone, Copy, Debug, PartialEq)]
 pub enum Wrote {
     /// How many of the bytes were put in.
     Took(u32),
@@ -162,7 +162,7 @@ pub enum Wrote {
 }
 
 /// How a pipe stands.
-#[derive(Clone, Copy, Debug, PartialEq, Eq)]
+#[derive(Clone, Copy)]
 pub struct PipeState {
     /// How many bytes it holds.
     pub bytes: u32,

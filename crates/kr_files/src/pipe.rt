@@ -21,7 +21,7 @@ pub(crate) struct Pipe {
 impl Model for Pipe {
     ghost use Rattle.std.specs.Prelude.{◌≤◌};
     ghost use Rattle.std.specs.VecDeque.{deque_len};
-    ghost use Rattle.kr_files.specs.Pipes.{Pipe as PipeValue, pipe_code};
+    ghost use Rattle.kr_files.specs.StoredPipes.{Pipe as PipeValue, pipe_code};
 
     ghost Value = { PipeValue };
 

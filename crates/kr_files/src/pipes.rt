@@ -19,7 +19,7 @@ pub(crate) struct Pipes {
 
 impl Model for Pipes {
     ghost use Rattle.std.specs.FinMap as map;
-    ghost use Rattle.kr_files.specs.Pipes.{PipeTable, pipe_table_code};
+    ghost use Rattle.kr_files.specs.StoredPipes.{PipeTable, pipe_table_code};
 
     ghost Value = { PipeTable };
 
@@ -29,8 +29,9 @@ impl Model for Pipes {
 }
 
 impl Pipes {
-    ghost use Rattle.kr_files.specs.Maps.{changed};
-    ghost use Rattle.kr_files.specs.Pipes.{read_waits, fresh_pipe, holding, reader_open, writer_open, reader_gone, writer_gone, end_gone};
+    ghost use Rattle.pr_base.specs.Maps.{changed};
+    ghost use Rattle.kr_files.specs.Pipes.{read_waits};
+    ghost use Rattle.kr_files.specs.StoredPipes.{fresh_pipe, holding, reader_open, writer_open, reader_gone, writer_gone, end_gone};
 
     /// No pipes. It takes no memory.
     pub(crate) fn new(alloc: Global) -> Pipes

@@ -1,46 +1,50 @@
-use Rattle.std.proofs.Common.{◌≢◌, ◌<◌, ◌≤◌, ◌+◌, ◌∙◌, inr, ap, sym, subst, refl, arith}
+use Rattle.std.proofs.Common.{◌≢◌, ◌<◌, ◌≤◌, ◌+◌, ◌∙◌, ap, sym, subst, refl, arith}
 use Rattle.std.specs.FinMap as map
 use Rattle.std.specs.Prelude.{IsSome}
-use Rattle.kr_files.specs.Descriptors.{unnamed}
+use Rattle.kr_files.specs.Slots.{unnamed}
 use Rattle.kr_files.specs.Files.{Kept, Counted, with_pipe}
-use Rattle.kr_files.specs.Pipes.{Pipe, fresh_pipe}
+use Rattle.kr_files.specs.StoredPipes.{Pipe, fresh_pipe}
 use Rattle.kr_files.specs.Sound.{IsSound, kept_of}
 use Rattle.kr_files.proofs.AnswerLemmas.{ok_of}
-use Rattle.kr_files.proofs.ClaimLemmas.{wanting_not_full, ok_not_full, pair_is, answers_no_full, claimed_first, claimed_second, given, table_with_pipe}
+use Rattle.kr_files.proofs.ClaimLemmas.{wanting_not_full, ok_not_full, pair_is, pipe_taken, pipe_refused, answers_no_full, claimed_first, claimed_second, given, table_with_pipe}
 use Rattle.kr_files.proofs.CloseLemmas.{bytes_of, same_kept}
 use Rattle.kr_files.proofs.DescriptorLemmas.{lowest_free-some}
-use Rattle.kr_files.proofs.MapLemmas.{len-mapped, remove-insert}
+use Rattle.pr_base.proofs.MapLemmas.{len-mapped, remove-insert}
 use Rattle.kr_files.proofs.SoundLemmas.{fresh_pipe_number, sound-pipe}
 use Rattle.kr_files.proofs.files.Files.pipe.Goals as goal
 
 pub returns-then-len-ge-PIPES-clause-full : goal.returns-then-len-ge-PIPES-clause-full
 returns-then-len-ge-PIPES-clause-full g c =
     let count = sym (ap (λ (k : Kept g.row.M.Denot). map.len k.table.pipes) c.self.view_is) ∙ len-mapped (λ p (q : Pipe). q.bytes) c.self.inside.pipes ∙ sym c.len.ensures in
-    (λ _. inr (subst (λ n. 4096 ≤ n) (sym count) c.if-len-ge-PIPES.true), λ _. refl)
+    (λ _. pipe_refused c.args.self.now.table c.args.d.now (subst (λ n. 4096 ≤ n) (sym count) c.if-len-ge-PIPES.true), λ _. refl)
 
 pub returns-then-is_err-clause-full : goal.returns-then-is_err-clause-full
 returns-then-is_err-clause-full g c =
     let pair = pair_is c.args.d.now c.in-Some.first c.in-Some-lowest_free.second c.in-Some.ensures.free c.in-Some-lowest_free.ensures.free in
     let count = sym (ap (λ (k : Kept g.row.M.Denot). map.len k.table.pipes) c.self.view_is) ∙ len-mapped (λ p (q : Pipe). q.bytes) c.self.inside.pipes ∙ sym c.len.ensures in
-    answers_no_full _ c.args.d.now c.in-Some.first c.in-Some-lowest_free.second _ pair (subst (λ n. n < 4096) (sym count) c.if-len-ge-PIPES.false) wanting_not_full
+    let takes = pipe_taken c.args.self.now.table c.args.d.now c.in-Some.first c.in-Some-lowest_free.second pair (subst (λ n. n < 4096) (sym count) c.if-len-ge-PIPES.false) in
+    answers_no_full c.args.self.now.table c.args.d.now _ takes wanting_not_full
 
 pub returns-then-is_err-2-clause-full : goal.returns-then-is_err-2-clause-full
 returns-then-is_err-2-clause-full g c =
     let pair = pair_is c.args.d.now c.in-Some.first c.in-Some-lowest_free.second c.in-Some.ensures.free c.in-Some-lowest_free.ensures.free in
     let count = sym (ap (λ (k : Kept g.row.M.Denot). map.len k.table.pipes) c.self.view_is) ∙ len-mapped (λ p (q : Pipe). q.bytes) c.self.inside.pipes ∙ sym c.len.ensures in
-    answers_no_full _ c.args.d.now c.in-Some.first c.in-Some-lowest_free.second _ pair (subst (λ n. n < 4096) (sym count) c.if-len-ge-PIPES.false) wanting_not_full
+    let takes = pipe_taken c.args.self.now.table c.args.d.now c.in-Some.first c.in-Some-lowest_free.second pair (subst (λ n. n < 4096) (sym count) c.if-len-ge-PIPES.false) in
+    answers_no_full c.args.self.now.table c.args.d.now _ takes wanting_not_full
 
 pub returns-then-is_err-3-clause-full : goal.returns-then-is_err-3-clause-full
 returns-then-is_err-3-clause-full g c =
     let pair = pair_is c.args.d.now c.in-Some.first c.in-Some-lowest_free.second c.in-Some.ensures.free c.in-Some-lowest_free.ensures.free in
     let count = sym (ap (λ (k : Kept g.row.M.Denot). map.len k.table.pipes) c.self.view_is) ∙ len-mapped (λ p (q : Pipe). q.bytes) c.self.inside.pipes ∙ sym c.len.ensures in
-    answers_no_full _ c.args.d.now c.in-Some.first c.in-Some-lowest_free.second _ pair (subst (λ n. n < 4096) (sym count) c.if-len-ge-PIPES.false) wanting_not_full
+    let takes = pipe_taken c.args.self.now.table c.args.d.now c.in-Some.first c.in-Some-lowest_free.second pair (subst (λ n. n < 4096) (sym count) c.if-len-ge-PIPES.false) in
+    answers_no_full c.args.self.now.table c.args.d.now _ takes wanting_not_full
 
 pub returns-clause-full : goal.returns-clause-full
 returns-clause-full g c =
     let pair = pair_is c.args.d.now c.in-Some.first c.in-Some-lowest_free.second c.in-Some.ensures.free c.in-Some-lowest_free.ensures.free in
     let count = sym (ap (λ (k : Kept g.row.M.Denot). map.len k.table.pipes) c.self.view_is) ∙ len-mapped (λ p (q : Pipe). q.bytes) c.self.inside.pipes ∙ sym c.len.ensures in
-    answers_no_full _ c.args.d.now c.in-Some.first c.in-Some-lowest_free.second _ pair (subst (λ n. n < 4096) (sym count) c.if-len-ge-PIPES.false) (ok_not_full _)
+    let takes = pipe_taken c.args.self.now.table c.args.d.now c.in-Some.first c.in-Some-lowest_free.second pair (subst (λ n. n < 4096) (sym count) c.if-len-ge-PIPES.false) in
+    answers_no_full c.args.self.now.table c.args.d.now _ takes (ok_not_full _)
 
 pub claim_pair-requires-clause-order : goal.claim_pair-requires-clause-order
 claim_pair-requires-clause-order g c =

@@ -2,10 +2,13 @@ use Rattle.std.proofs.Common.{◌∙◌, refl, ap, sym, subst}
 use Rattle.std.specs.FinMap as map
 use Rattle.std.specs.Prelude.{IsSome, take}
 use Rattle.std.specs.Option.{option_map}
-use Rattle.kr_files.specs.Files.{Kept, has_writer, on_table, pipe_after_read}
-use Rattle.kr_files.specs.Pipes.{Pipe, moved_of, read_waits}
+use Rattle.std.proofs.lemmas.Bool.{false≢true}
+use Rattle.kr_files.specs.Files.{Kept, has_writer, reads_wait, on_table, pipe_after_read}
+use Rattle.kr_files.specs.Pipes.{moved_of, read_waits}
+use Rattle.kr_files.specs.StoredPipes.{Pipe}
 use Rattle.kr_files.specs.Sound.{IsSound, kept_of}
-use Rattle.kr_files.proofs.PipeLemmas.{pipe_there, told, read-waits, read-waits_after, read-moves, read-moves_after, sound-read}
+use Rattle.kr_files.proofs.AnswerLemmas.{error_not_ok}
+use Rattle.kr_files.proofs.PipeLemmas.{pipe_there, told, reads_wait-is, read-waits, read-waits_after, read-moves, read-moves_after, sound-read}
 use Rattle.kr_files.proofs.files.Files.pipe_read.Goals as goal
 
 pub waits_for_writer-requires : goal.waits_for_writer-requires
@@ -46,3 +49,24 @@ returns-clause-after g c =
     ap (λ pipes. kept_of c.self.inside.open pipes c.self.inside.last_file c.self.inside.last_pipe) c.in_ok-take.ensures.ok
     ∙ read-moves_after c.self.inside.open c.self.inside.pipes c.self.inside.last_file c.self.inside.last_pipe c.self.invariant c.args.pipe there.0 there.1 c.args.n
     ∙ ap (λ (k : Kept g.row.M.Denot). on_table (pipe_after_read c.args.pipe c.args.n) k) c.self.view_is
+
+pub returns-then-waits_for_writer-clause-waits : goal.returns-then-waits_for_writer-clause-waits
+returns-then-waits_for_writer-clause-waits g c =
+    let there = pipe_there c.self.inside.pipes c.args.pipe (subst (λ (k : Kept g.row.M.Denot). IsSome (map.get k.table.pipes c.args.pipe)) (sym c.self.view_is) c.requires.exists) in
+    let told = told (λ (p : Pipe). read_waits p.bytes p.writer) _ there.0 c.waits_for_writer.result there.1 c.waits_for_writer.ensures ∙ c.if-waits_for_writer.true in
+    let is = sym (ap (λ (k : Kept g.row.M.Denot). reads_wait k.table c.args.pipe) c.self.view_is) ∙ reads_wait-is c.self.inside.open c.self.inside.pipes c.self.inside.last_file c.self.inside.last_pipe c.self.invariant c.args.pipe there.0 there.1 ∙ told in
+    (λ _. is, λ _. refl)
+
+pub returns-in_err-take-clause-waits : goal.returns-in_err-take-clause-waits
+returns-in_err-take-clause-waits g c =
+    let there = pipe_there c.self.inside.pipes c.args.pipe (subst (λ (k : Kept g.row.M.Denot). IsSome (map.get k.table.pipes c.args.pipe)) (sym c.self.view_is) c.requires.exists) in
+    let told = told (λ (p : Pipe). read_waits p.bytes p.writer) _ there.0 c.waits_for_writer.result there.1 c.waits_for_writer.ensures ∙ c.if-waits_for_writer.false in
+    let is = sym (ap (λ (k : Kept g.row.M.Denot). reads_wait k.table c.args.pipe) c.self.view_is) ∙ reads_wait-is c.self.inside.open c.self.inside.pipes c.self.inside.last_file c.self.inside.last_pipe c.self.invariant c.args.pipe there.0 there.1 ∙ told in
+    (λ e. absurd (error_not_ok _ _ c.from_residual.ensures.0 e), λ waits. absurd (false≢true (sym is ∙ waits)))
+
+pub returns-clause-waits : goal.returns-clause-waits
+returns-clause-waits g c =
+    let there = pipe_there c.self.inside.pipes c.args.pipe (subst (λ (k : Kept g.row.M.Denot). IsSome (map.get k.table.pipes c.args.pipe)) (sym c.self.view_is) c.requires.exists) in
+    let told = told (λ (p : Pipe). read_waits p.bytes p.writer) _ there.0 c.waits_for_writer.result there.1 c.waits_for_writer.ensures ∙ c.if-waits_for_writer.false in
+    let is = sym (ap (λ (k : Kept g.row.M.Denot). reads_wait k.table c.args.pipe) c.self.view_is) ∙ reads_wait-is c.self.inside.open c.self.inside.pipes c.self.inside.last_file c.self.inside.last_pipe c.self.invariant c.args.pipe there.0 there.1 ∙ told in
+    (λ e. absurd (cc), λ waits. absurd (false≢true (sym is ∙ waits)))

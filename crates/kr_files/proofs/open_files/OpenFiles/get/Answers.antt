@@ -5,9 +5,9 @@ use Rattle.kr_files.specs.Files.{Counted}
 use Rattle.kr_files.proofs.OpenFileLemmas.{file_found, entry_of}
 use Rattle.kr_files.proofs.open_files.OpenFiles.get.Goals as goal
 
-pub returns-in-Some : goal.returns-in-Some
-returns-in-Some g c =
-    sym (ap (option_map (λ (h : Counted g.row.M.Denot). h.opened)) (file_found c.self.inside.slab c.args.self.now c.args.descriptor.key c.args.descriptor.number c.self.view_is c.requires c.in-Some.file.now c.self.invariant (sym c.in-Some.ensures)))
+pub returns-in-Some-clause-value : goal.returns-in-Some-clause-value
+returns-in-Some-clause-value g c =
+    sym (ap (option_map (λ (h : Counted g.row.M.Denot). h.opened)) (file_found c.self.inside.slab c.args.self.now c.args.descriptor.key c.args.descriptor.number c.self.view_is c.requires c.in-Some.file.now c.self.invariant.distinct (sym c.in-Some.ensures)))
 
 pub returns-in-None : goal.returns-in-None
 returns-in-None g c =

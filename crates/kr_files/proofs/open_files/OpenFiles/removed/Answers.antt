@@ -1,13 +1,13 @@
 use Rattle.std.proofs.Common.{◌∙◌, ap}
 use Rattle.kr_files.specs.Files.{on_opened}
-use Rattle.kr_files.specs.Maps.{mapped}
+use Rattle.pr_base.specs.Maps.{mapped}
 use Rattle.kr_files.specs.Opened.{after_removal}
 use Rattle.kr_files.specs.OpenFiles.{Store}
-use Rattle.kr_files.proofs.OpenFileLemmas.{distinct-each, numbers-each, files-each}
+use Rattle.kr_files.proofs.OpenFileLemmas.{stored-each, numbers-each, files-each}
 use Rattle.kr_files.proofs.open_files.OpenFiles.removed.Goals as goal
 
 pub invariant_of-self : goal.invariant_of-self
-invariant_of-self g c = distinct-each c.self.inside.slab c.forget_all.new.slab (after_removal c.args.dir c.args.name.now) c.forget_all.ensures c.self.invariant
+invariant_of-self g c = stored-each c.self.inside.slab c.forget_all.new.slab (after_removal c.args.dir c.args.name.now) c.forget_all.ensures c.self.invariant
 
 pub returns-clause-keys : goal.returns-clause-keys
 returns-clause-keys g c =
@@ -16,5 +16,5 @@ returns-clause-keys g c =
 
 pub returns-clause-files : goal.returns-clause-files
 returns-clause-files g c =
-    files-each c.self.inside.slab c.forget_all.new.slab (after_removal c.args.dir c.args.name.now) c.forget_all.ensures c.self.invariant
+    files-each c.self.inside.slab c.forget_all.new.slab (after_removal c.args.dir c.args.name.now) c.forget_all.ensures c.self.invariant.distinct
     ∙ ap (λ (o : Store g.row.M.Denot). mapped (λ n. on_opened (after_removal c.args.dir c.args.name.now)) o.files) c.self.view_is
