@@ -57,7 +57,7 @@ led_to around p (Node i) there firm =
     by (Some (ProcessDirectory st)) there firm = refl
 led_to around p (Proc i at) there firm = by (is_process_directory at) (around.leads at) firm
   where
-    by : (b : Bool) (l : Lead ℕ) → not b ≡ false → (if b then shows_directory p else seen_link around p l) ≡ Leads b p p
+    by : (b : Bool) (l : Lead ℕ) → not b ≡ false → (if b then shows_directory p else seen_link around.space p l) ≡ Leads b p p
     by true l firm = refl
     by false l firm = absurd cc
 
@@ -101,7 +101,7 @@ link_seen around p (Node i) link = by (body around.space.tree i) (sym (body_test
     by (Some (ProcessDirectory st)) link = absurd cc
 link_seen around p (Proc i at) link = by (is_process_directory at) (around.leads at) link
   where
-    by : (b : Bool) (l : Lead ℕ) → not b ≡ true → ShowsLink p (if b then shows_directory p else seen_link around p l)
+    by : (b : Bool) (l : Lead ℕ) → not b ≡ true → ShowsLink p (if b then shows_directory p else seen_link around.space p l)
     by true l link = absurd cc
     by false (TextLead text) link = refl
     by false (Jump place dir name) link = refl
