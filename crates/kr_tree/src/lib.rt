@@ -13,6 +13,3 @@ pub use kr_inode::{Ino, Kind, Meta, Node, Right, Standing, User, is_name};
 pub use place::{Host, Place, ProcAt};
 pub use refusal::TreeRefusal;
 pub use tree::{ROOT, Tree};
-
-#[cfg(test)]
-mod tests;

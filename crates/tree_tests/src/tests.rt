@@ -1,7 +1,6 @@
-//! Trees with ample memory.
+//! What calls on trees answer with ample memory. All of it was worked out by hand.
 
-use crate::tree::{ROOT, Tree};
-use crate::{Ino, Kind, Meta, Node, TreeRefusal};
+use kr_tree::{Ino, Kind, Meta, Node, ROOT, Tree, TreeRefusal, is_name};
 use pr_base::{Bytes, NoMemory};
 use std::test::Fail;
 
@@ -15,11 +14,11 @@ const PLAIN: Meta = Meta {
 
 /// Adds a node where the tree takes it.
 fn put(tree: &mut Tree, dir: Ino, name: &[u8], node: Node) -> Option<Result<Ino, TreeRefusal>> {
-    let fits = crate::is_name(name)
+    let fits = is_name(name)
         && tree.takes_names(dir)
         && tree.entry(dir, name).is_none()
-        && tree.next_number() < 1000
-        && tree.next_serial(dir) < 1000;
+        && tree.next_number() < u32::MAX
+        && tree.next_serial(dir) < u64::MAX;
     if fits {
         Some(tree.add(dir, name, node, PLAIN))
     } else {
@@ -62,10 +61,10 @@ fn let_go(tree: &mut Tree, ino: Ino) -> bool {
 
 /// Gives a file another name.
 fn link(tree: &mut Tree, dir: Ino, name: &[u8], file: Ino) -> Option<Result<(), TreeRefusal>> {
-    let fits = crate::is_name(name)
+    let fits = is_name(name)
         && tree.takes_names(dir)
         && tree.entry(dir, name).is_none()
-        && tree.next_serial(dir) < 1000
+        && tree.next_serial(dir) < u64::MAX
         && tree.may_be_linked(file);
     if fits {
         Some(tree.link(dir, name, file))
@@ -92,7 +91,7 @@ fn a_file_stays_while_it_is_named_or_held(rt: HostRuntime) -> Result<(), Fail> {
 }
 
 #[test]
-fn a_gap_is_filled_with_zeros(rt: HostRuntime) -> Result<(), Fail> {
+fn what_a_file_grows_by_is_zeros(rt: HostRuntime) -> Result<(), Fail> {
     let mut tree = Tree::new(rt.alloc(), PLAIN)?;
     let bytes = Bytes::copy(rt.alloc(), b"abc")?;
     assert!(rt; put(&mut tree, ROOT, b"a", Node::File(bytes)) == Some(Ok(2)));
@@ -103,7 +102,88 @@ fn a_gap_is_filled_with_zeros(rt: HostRuntime) -> Result<(), Fail> {
     assert!(rt; tree.set_size(2, 2) == Ok(()));
     assert!(rt; tree.file(2) == Some(b"ab".as_slice()));
     assert!(rt; tree.is_file(2));
-    assert!(rt; tree.set_size(2, 268_435_457) == Err(TreeRefusal::TooBig));
+    assert!(rt; tree.is_file(2));
+    assert!(rt; tree.set_size(2, 4) == Ok(()));
+    assert!(rt; tree.file(2) == Some(b"ab\0\0".as_slice()));
+    Ok(())
+}
+
+/// Gives a file another size.
+fn resize(tree: &mut Tree, ino: Ino, size: u64) -> Option<Result<(), TreeRefusal>> {
+    if tree.is_file(ino) {
+        Some(tree.set_size(ino, size))
+    } else {
+        None
+    }
+}
+
+/// Writes at the beginning of a file.
+fn write(tree: &mut Tree, ino: Ino, b: &[u8]) -> Option<Result<(), TreeRefusal>> {
+    if tree.is_file(ino) {
+        Some(tree.write_file(ino, 0, b))
+    } else {
+        None
+    }
+}
+
+/// A name for each number below 1,048,576.
+fn numbered(number: u32) -> [u8; 4] {
+    [
+        b'A' + ((number >> 15) & 31) as u8,
+        b'A' + ((number >> 10) & 31) as u8,
+        b'A' + ((number >> 5) & 31) as u8,
+        b'A' + (number & 31) as u8,
+    ]
+}
+
+#[test]
+fn a_tree_has_at_most_268435456_bytes(rt: HostRuntime) -> Result<(), Fail> {
+    const FULL: TreeRefusal = TreeRefusal::Full;
+    let mut tree = Tree::new(rt.alloc(), PLAIN)?;
+    // Sixteen files of the greatest size.
+    for ino in 2..18 {
+        let bytes = Bytes::new(rt.alloc());
+        assert!(rt; put(&mut tree, ROOT, &numbered(ino), Node::File(bytes)) == Some(Ok(ino)));
+        assert!(rt; resize(&mut tree, ino, 16_777_217) == Some(Err(TreeRefusal::TooBig)));
+        assert!(rt; resize(&mut tree, ino, 16_777_216) == Some(Ok(())));
+    }
+    let bytes = Bytes::new(rt.alloc());
+    assert!(rt; put(&mut tree, ROOT, b"b", Node::File(bytes)) == Some(Ok(18)));
+    assert!(rt; resize(&mut tree, 18, 1) == Some(Err(FULL)));
+    assert!(rt; write(&mut tree, 18, b"x") == Some(Err(FULL)));
+    let bytes = Bytes::copy(rt.alloc(), b"x")?;
+    assert!(rt; put(&mut tree, ROOT, b"c", Node::File(bytes)) == Some(Err(FULL)));
+    let text = Bytes::copy(rt.alloc(), b"x")?;
+    assert!(rt; put(&mut tree, ROOT, b"c", Node::Link(text)) == Some(Err(FULL)));
+    assert!(rt; put(&mut tree, ROOT, b"c", Node::Dir) == Some(Ok(19)));
+    assert!(rt; resize(&mut tree, 2, 16_777_215) == Some(Ok(())));
+    assert!(rt; write(&mut tree, 18, b"x") == Some(Ok(())));
+    Ok(())
+}
+
+#[test]
+fn a_tree_has_at_most_1048576_inodes_and_names(rt: HostRuntime) -> Result<(), Fail> {
+    const FULL: TreeRefusal = TreeRefusal::Full;
+    let mut tree = Tree::new(rt.alloc(), PLAIN)?;
+    let mut added = 0;
+    // The root is an inode without a name.
+    for number in 1..1_048_576 {
+        let bytes = Bytes::new(rt.alloc());
+        if put(&mut tree, ROOT, &numbered(number), Node::File(bytes)) == Some(Ok(number + 1)) {
+            added = number;
+        }
+    }
+    assert!(rt; added == 1_048_575);
+    // No inode is left, and one name.
+    assert!(rt; put(&mut tree, ROOT, b"d", Node::Dir) == Some(Err(FULL)));
+    assert!(rt; link(&mut tree, ROOT, b"d", 2) == Some(Ok(())));
+    assert!(rt; link(&mut tree, ROOT, b"e", 2) == Some(Err(FULL)));
+    // An inode is left, and no name.
+    assert!(rt; take(&mut tree, ROOT, &numbered(2)));
+    assert!(rt; link(&mut tree, ROOT, b"e", 2) == Some(Ok(())));
+    assert!(rt; put(&mut tree, ROOT, b"f", Node::Dir) == Some(Err(FULL)));
+    assert!(rt; take(&mut tree, ROOT, b"e"));
+    assert!(rt; put(&mut tree, ROOT, b"f", Node::Dir) == Some(Ok(1_048_577)));
     Ok(())
 }
 
@@ -115,7 +195,7 @@ fn shift(
     to: Ino,
     new: &[u8],
 ) -> Option<Result<(), NoMemory>> {
-    if tree.is_lawful_move(dir, name, to, new) && tree.next_serial(to) < 1000 {
+    if tree.is_lawful_move(dir, name, to, new) && tree.next_serial(to) < u64::MAX {
         Some(tree.rename(dir, name, to, new))
     } else {
         None
@@ -172,6 +252,33 @@ fn a_directory_moves_with_what_is_below_it(rt: HostRuntime) -> Result<(), Fail> 
     // Not below itself, and not onto a directory that isn't empty.
     assert!(rt; shift(&mut tree, ROOT, b"z", 4, b"y").is_none());
     assert!(rt; shift(&mut tree, ROOT, b"f", ROOT, b"z").is_none());
+    Ok(())
+}
+
+#[test]
+fn a_directory_takes_the_name_of_an_empty_one(rt: HostRuntime) -> Result<(), Fail> {
+    let mut tree = Tree::new(rt.alloc(), PLAIN)?;
+    assert!(rt; put(&mut tree, ROOT, b"d", Node::Dir) == Some(Ok(2)));
+    assert!(rt; put(&mut tree, 2, b"x", Node::Dir) == Some(Ok(3)));
+    assert!(rt; put(&mut tree, ROOT, b"e", Node::Dir) == Some(Ok(4)));
+    assert!(rt; put(&mut tree, ROOT, b"f", Node::Dir) == Some(Ok(5)));
+    assert!(rt; shift(&mut tree, ROOT, b"d", ROOT, b"e") == Some(Ok(())));
+    assert!(rt; tree.entry(ROOT, b"d").is_none());
+    assert!(rt; tree.entry(ROOT, b"e") == Some(2));
+    assert!(rt; is_called(&tree, 3, b"/e/x")?);
+    assert!(rt; tree.kind(4).is_none());
+    assert!(rt; tree.directories(ROOT) == 2);
+    // One that is held stays, without a name.
+    assert!(rt; tree.may_be_held(5));
+    tree.hold(5);
+    assert!(rt; shift(&mut tree, ROOT, b"e", ROOT, b"f") == Some(Ok(())));
+    assert!(rt; tree.entry(ROOT, b"f") == Some(2));
+    assert!(rt; tree.kind(5) == Some(Kind::Dir));
+    assert!(rt; is_called(&tree, 5, b"")?);
+    assert!(rt; tree.above(5).is_none());
+    assert!(rt; !tree.takes_names(5));
+    assert!(rt; let_go(&mut tree, 5));
+    assert!(rt; tree.kind(5).is_none());
     Ok(())
 }
 

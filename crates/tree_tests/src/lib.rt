@@ -1,0 +1,5 @@
+//! Tests of trees.
+#![tactic(auto)]
+
+#[cfg(test)]
+mod tests;
