@@ -8,7 +8,7 @@ use Rattle.std.proofs.lemmas.List.Elements.{All-nil, All-cons, All-head, All-tai
 use Rattle.rv_mem.specs.declared.rights.Rights.{Rights}
 use Rattle.rv_mem.specs.Page.{fresh_page, zero_bytes, grants, page_written}
 use Rattle.rv_mem.specs.Pages.{Pages, with_page, written, mapped, IsWhole}
-use Rattle.rv_mem.proofs.PagesLemmas.{get-with_page_other}
+use Rattle.pr_base.proofs.MapLemmas.{get-changed_other}
 use Rattle.rv_mem.proofs.ChangeLemmas.{get-mapped_in, get-mapped_out}
 use Rattle.rv_mem.proofs.SpaceLemmas.{IsWhole-mapped, IsWhole-written, IsWhole-empty}
 use Rattle.rv_mem.proofs.AddressLemmas.{allows-written, byte_at-written_in, byte_at-written_other}
@@ -25,7 +25,7 @@ get-written_out m at [] q apart = refl
 get-written_out m at (b ∷ bs) q apart =
     let here : q ≢ at / 4096 = λ e. apart 0 (omega arith) (omega arith) in
     get-written_out (with_page m (at / 4096) (page_written (at % 4096) (b ∷ []))) (at + 1) bs q (λ k l e. apart (k + 1) (omega arith) (omega arith))
-    ∙ get-with_page_other m (at / 4096) (page_written (at % 4096) (b ∷ [])) q here
+    ∙ get-changed_other m (at / 4096) (page_written (at % 4096) (b ∷ [])) q here
 
 length-file_bytes : (file : List ℕ) (s : Segment) → length (file_bytes file s) ≤ s.file
 length-file_bytes file s = omega (arith, length-take s.file (drop s.offset file))

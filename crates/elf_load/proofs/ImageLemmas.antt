@@ -8,7 +8,7 @@ use Rattle.std.proofs.lemmas.List.Filters.{length-filter_both}
 use Rattle.rv_mem.specs.Page.{PageState}
 use Rattle.rv_mem.specs.Pages.{Pages, unmapped, IsPlaced}
 use Rattle.rv_mem.specs.Memory.{Memory, empty_memory, with_pages, page_count}
-use Rattle.rv_mem.proofs.PagesLemmas.{same_pages}
+use Rattle.pr_base.proofs.MapLemmas.{same_values}
 use Rattle.rv_mem.proofs.ChangeLemmas.{get-unmapped_in}
 use Rattle.rv_mem.proofs.TableLemmas.{by_range}
 use Rattle.elf_read.specs.Plans.{IsInOrder, IsSound, plan_of, planned, segment_of, segments_of}
@@ -98,7 +98,7 @@ none_left (Some p) h = absurd (h refl)
 -- where all addresses are unmapped no page is left
 pub nothing_left : (m : Pages) → IsPlaced (unmapped m 0 67108863) → page_count (unmapped m 0 67108863) ≡ 0
 nothing_left m placed =
-    ap map.len (same_pages (unmapped m 0 67108863) map.empty (by_range (λ q. map.get (unmapped m 0 67108863) q ≡ map.get (map.empty {X = PageState} {R = nat_cmp}) q) 0 67108863
+    ap map.len (same_values (unmapped m 0 67108863) map.empty (by_range (λ q. map.get (unmapped m 0 67108863) q ≡ map.get (map.empty {X = PageState} {R = nat_cmp}) q) 0 67108863
     (λ k l. get-unmapped_in m 0 67108863 k l ∙ sym (map.get-empty nat_cmp (0 + k)))
     (λ q apart. none_left (map.get (unmapped m 0 67108863) q) (λ there. let below = placed q there in apart q below (omega arith))
     ∙ sym (map.get-empty nat_cmp q))))

@@ -10,7 +10,8 @@ use Rattle.rv_mem.specs.declared.rights.Use.{Use}
 use Rattle.rv_mem.specs.Page.{PageState, grants, page_with_rights, page_written}
 use Rattle.rv_mem.specs.Pages.{Pages, with_page, written, mapped, protected, allows, allows_all, has_pages}
 use Rattle.rv_mem.specs.Memory.{Memory, with_pages, page_count, passes_limit}
-use Rattle.rv_mem.proofs.PagesLemmas.{same_pages, get-with_page_same, get-with_page_other, with_page_twice, with_page_same}
+use Rattle.pr_base.proofs.MapLemmas.{same_values, get-changed_same, get-changed_other}
+use Rattle.rv_mem.proofs.PagesLemmas.{with_page_twice, with_page_same}
 use Rattle.rv_mem.proofs.ChangeLemmas.{get-mapped_in, get-mapped_out, len-mapped-le, len-written, len-protected, contains-written}
 use Rattle.rv_mem.proofs.TableLemmas.{by_range, mapped-zero}
 use Rattle.elf_load.specs.Image.{with_segment, with_segments, with_stack, exceeds_pages, end_page, break_from, first_page, file_bytes, rights_in, stack_pages, stack_rights}
@@ -29,33 +30,33 @@ with_page_swap m j k f g commute =
           ∙ with_page_same m k (λ p. g (f p)) (λ p. f (g p)) commute
           ∙ sym (with_page_twice m k g f)
           ∙ ap (λ i. with_page (with_page m k g) i f) (sym e)
-      | inr d ↦ same_pages _ _ (λ q. at_page q (cases_eq q j) (cases_eq q k) d)
+      | inr d ↦ same_values _ _ (λ q. at_page q (cases_eq q j) (cases_eq q k) d)
     ]
   where
     at_page : (q : ℕ) → (q ≡ j) ⊎ (q ≢ j) → (q ≡ k) ⊎ (q ≢ k) → j ≢ k → map.get (with_page (with_page m j f) k g) q ≡ map.get (with_page (with_page m k g) j f) q
     at_page q (inl e) (inl e') d = absurd (d (sym e ∙ e'))
     at_page q (inl e) (inr n) d =
-        let here : map.get (with_page m k g) j ≡ map.get m j = get-with_page_other m k g j d in
+        let here : map.get (with_page m k g) j ≡ map.get m j = get-changed_other m k g j d in
         ap (map.get (with_page (with_page m j f) k g)) e
-        ∙ get-with_page_other (with_page m j f) k g j d
-        ∙ get-with_page_same m j f
+        ∙ get-changed_other (with_page m j f) k g j d
+        ∙ get-changed_same m j f
         ∙ ap (option_map f) (sym here)
-        ∙ sym (get-with_page_same (with_page m k g) j f)
+        ∙ sym (get-changed_same (with_page m k g) j f)
         ∙ ap (map.get (with_page (with_page m k g) j f)) (sym e)
     at_page q (inr n) (inl e) d =
         let other : k ≢ j = λ w. d (sym w) in
-        let here : map.get (with_page m j f) k ≡ map.get m k = get-with_page_other m j f k other in
+        let here : map.get (with_page m j f) k ≡ map.get m k = get-changed_other m j f k other in
         ap (map.get (with_page (with_page m j f) k g)) e
-        ∙ get-with_page_same (with_page m j f) k g
+        ∙ get-changed_same (with_page m j f) k g
         ∙ ap (option_map g) here
-        ∙ sym (get-with_page_same m k g)
-        ∙ sym (get-with_page_other (with_page m k g) j f k other)
+        ∙ sym (get-changed_same m k g)
+        ∙ sym (get-changed_other (with_page m k g) j f k other)
         ∙ ap (map.get (with_page (with_page m k g) j f)) (sym e)
     at_page q (inr n) (inr n') d =
-        get-with_page_other (with_page m j f) k g q n'
-        ∙ get-with_page_other m j f q n
-        ∙ sym (get-with_page_other m k g q n')
-        ∙ sym (get-with_page_other (with_page m k g) j f q n)
+        get-changed_other (with_page m j f) k g q n'
+        ∙ get-changed_other m j f q n
+        ∙ sym (get-changed_other m k g q n')
+        ∙ sym (get-changed_other (with_page m k g) j f q n)
 
 protected-with_page : (m : Pages) (j first n : ℕ) (rights : Rights) (i b : ℕ) → protected (with_page m j (page_written i (b ∷ []))) first n rights ≡ with_page (protected m first n rights) j (page_written i (b ∷ []))
 unfolding protected
@@ -75,7 +76,7 @@ get-protected_out : (m : Pages) (first n : ℕ) (rights : Rights) (q : ℕ) → 
 unfolding protected
 get-protected_out m first zero rights q h = refl
 get-protected_out m first (suc n) rights q h =
-    get-with_page_other (protected m first n rights) (first + n) (page_with_rights rights) q (h n (omega arith))
+    get-changed_other (protected m first n rights) (first + n) (page_with_rights rights) q (h n (omega arith))
     ∙ get-protected_out m first n rights q (λ k l. h k (omega arith))
 
 get-protected_in : (m : Pages) (first n : ℕ) (rights : Rights) (k : ℕ) → k < n → map.get (protected m first n rights) (first + k) ≡ option_map (page_with_rights rights) (map.get m (first + k))
@@ -84,18 +85,18 @@ get-protected_in m first zero rights k h = absurd (omega arith)
 get-protected_in m first (suc n) rights k h =
     elim (cases_eq k n) [
       | inl e ↦ ap (λ j. map.get (protected m first (suc n) rights) (first + j)) e
-          ∙ get-with_page_same (protected m first n rights) (first + n) (page_with_rights rights)
+          ∙ get-changed_same (protected m first n rights) (first + n) (page_with_rights rights)
           ∙ ap (option_map (page_with_rights rights)) (get-protected_out m first n rights (first + n) (λ j l w. absurd (omega arith)))
           ∙ ap (λ j. option_map (page_with_rights rights) (map.get m (first + j))) (sym e)
       | inr d ↦
           let other : first + k ≢ first + n = λ w. d (omega arith) in
           let below : k < n = omega arith in
-          get-with_page_other (protected m first n rights) (first + n) (page_with_rights rights) (first + k) other ∙ get-protected_in m first n rights k below
+          get-changed_other (protected m first n rights) (first + n) (page_with_rights rights) (first + k) other ∙ get-protected_in m first n rights k below
     ]
 
 protected-mapped : (m : Pages) (first n : ℕ) (before rights : Rights) → protected (mapped m first n before) first n rights ≡ mapped m first n rights
 protected-mapped m first n before rights =
-    same_pages _ _ (by_range (λ q. map.get (protected (mapped m first n before) first n rights) q ≡ map.get (mapped m first n rights) q) first n
+    same_values _ _ (by_range (λ q. map.get (protected (mapped m first n before) first n rights) q ≡ map.get (mapped m first n rights) q) first n
     (λ k l. get-protected_in (mapped m first n before) first n rights k l
     ∙ ap (option_map (page_with_rights rights)) (get-mapped_in m first n before k l)
     ∙ sym (get-mapped_in m first n rights k l))

@@ -7,10 +7,8 @@ ghost use Rattle.elf_load.specs.Image.{break_from, end_page, exceeds_pages, firs
 
 use crate::stack::{FirstStack, STACK_TOP};
 use elf_read::Segment;
-use pr_base::bits;
+use pr_base::{PAGE_SIZE, bits};
 use rv_mem::{MapFault, PAGES_END, Rights, Room, Space, StoreFault, Use};
-
-const PAGE_SIZE: u64 = 4096;
 
 /// Where the stack begins, and how many pages it has: 1 MiB.
 const STACK_LOW: u64 = STACK_TOP - 0x10_0000;

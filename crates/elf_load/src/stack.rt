@@ -5,7 +5,7 @@ ghost use Rattle.elf_load.specs.FirstStack.{aligned, pair_words, pairs_of, stack
 
 use crate::arguments::text_at;
 use elf_read::Plan;
-use pr_base::{Bytes, NoMemory, Texts};
+use pr_base::{Bytes, NoMemory, PAGE_SIZE, Texts};
 use std::alloc::Global;
 
 /// Where the stack ends.
@@ -85,7 +85,7 @@ fn pairs(plan: &Plan, ids: [u32; 4]) -> [Pair; 12]
         Pair::new(AT_PHDR, plan.phdr),
         Pair::new(AT_PHENT, 56),
         Pair::new(AT_PHNUM, u64::from(plan.phnum)),
-        Pair::new(AT_PAGESZ, 4096),
+        Pair::new(AT_PAGESZ, PAGE_SIZE),
         Pair::new(AT_ENTRY, plan.entry),
         Pair::new(AT_UID, u64::from(uid)),
         Pair::new(AT_EUID, u64::from(euid)),

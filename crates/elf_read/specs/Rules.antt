@@ -1,5 +1,6 @@
 -- Which files are accepted: the rules in their order, each of them over all program headers before the
 -- next one. The names of fields and of values are those of the ELF-64 object file format.
+pub use Rattle.pr_base.specs.Page.{page_size}
 use Rattle.std.specs.Prelude.{ℕ, ◌+◌, ◌*◌, ◌/◌, ◌%◌, ◌==◌, nat_lt, if◌then◌else◌, Bool, not, ◌&&◌, ◌||◌, List, [], ◌∷◌, length, nat_eq, Option, Some, None, slice_index, position}
 use Rattle.std.specs.List.{starts_with, list_any}
 use Rattle.std.specs.Int.{div_ceil}
@@ -41,9 +42,6 @@ pt_interp = 3
 
 abbrev pub most_headers : ℕ
 most_headers = 64
-
-abbrev pub page_size : ℕ
-page_size = 4096
 
 abbrev pub lowest_address : ℕ
 lowest_address = 0x10000

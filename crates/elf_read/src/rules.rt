@@ -5,9 +5,8 @@ ghost use Rattle.elf_read.specs.Rules.{first_broken_header, first_disorder, is_m
 
 use crate::fault::ElfFault;
 use crate::headers::ProgramHeader;
+use pr_base::PAGE_SIZE;
 
-/// The size of a page, in bytes.
-const PAGE_SIZE: u64 = 4096;
 /// The lowest address that a segment may have.
 const LOWEST_ADDRESS: u128 = 0x10000;
 /// Where the addresses end that a segment may have.

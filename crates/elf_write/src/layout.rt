@@ -5,11 +5,11 @@ ghost use Rattle.elf_read.specs.Rules.{first_broken};
 ghost use Rattle.elf_write.specs.Layout.{code_segment, data_segment, data_offset, padded, program_header_bytes, segments, written};
 
 use elf_read::Segment;
-use pr_base::{Bytes, NoMemory};
+use pr_base::{Bytes, NoMemory, PAGE_SIZE};
 use std::alloc::Global;
 
-/// The size of a page, in bytes.
-const PAGE_SIZE: usize = 4096;
+/// The size of a page, as a length.
+const PAGE_LENGTH: usize = PAGE_SIZE as usize;
 /// Where the code begins in memory.
 const CODE_ADDRESS: u64 = 0x10000;
 /// `p_type` of a part to be loaded.
@@ -44,7 +44,7 @@ fn put_program_header(file: &mut Vec<u8>, segment: &Segment) -> Result<(), NoMem
     file.extend_from_slice(&segment.at.to_le_bytes())?;
     file.extend_from_slice(&segment.file.to_le_bytes())?;
     file.extend_from_slice(&segment.memory.to_le_bytes())?;
-    file.extend_from_slice(&(PAGE_SIZE as u64).to_le_bytes())?;
+    file.extend_from_slice(&PAGE_SIZE.to_le_bytes())?;
     Ok(())
 }
 
@@ -63,27 +63,27 @@ fn lay_out(alloc: Global, code: &[u8], init: &[u8], bss: u32) -> Result<Bytes, N
     requires { length code.now + length init.now + bss ≤ 8388608 }
     ensures { IfOk result (λ file. file ≡ written code.now init.now bss) }
 {
-    let code_end = code.len().div_ceil(PAGE_SIZE) * PAGE_SIZE;
+    let code_end = code.len().div_ceil(PAGE_LENGTH) * PAGE_LENGTH;
     let code_segment = Segment {
         at: CODE_ADDRESS,
         memory: code.len() as u64,
-        offset: PAGE_SIZE as u64,
+        offset: PAGE_SIZE,
         file: code.len() as u64,
         flags: PF_R + PF_X,
     };
     let data_segment = Segment {
         at: CODE_ADDRESS + code_end as u64,
         memory: init.len() as u64 + u64::from(bss),
-        offset: (PAGE_SIZE + code_end) as u64,
+        offset: (PAGE_LENGTH + code_end) as u64,
         file: init.len() as u64,
         flags: PF_R + PF_W,
     };
     let mut file = Vec::from_slice(alloc, &FILE_HEADER)?;
     put_program_header(&mut file, &code_segment)?;
     put_program_header(&mut file, &data_segment)?;
-    pad(&mut file, PAGE_SIZE)?;
+    pad(&mut file, PAGE_LENGTH)?;
     file.extend_from_slice(code)?;
-    pad(&mut file, PAGE_SIZE + code_end)?;
+    pad(&mut file, PAGE_LENGTH + code_end)?;
     file.extend_from_slice(init)?;
     Ok(Bytes::from(file))
 }

@@ -2,6 +2,7 @@
 use Rattle.std.specs.Prelude.{ℕ, ◌+◌, ◌%◌, ◌^◌, ◌==◌, Bool, true, false, nat_lt, nat_le, ℤ, slice_index, if◌then◌else◌}
 use Rattle.std.specs.Int.{cast_signed, w32, w64}
 use Rattle.std.specs.Int.RustNames.{bit_and}
+use Rattle.pr_base.specs.Page.{page_size}
 use Rattle.rv_mem.specs.declared.regs.Regs.{Regs}
 
 -- the number is the whole of a7
@@ -34,7 +35,7 @@ has flags bits = bit_and flags bits == bits
 
 -- whether an address isn't that of a page
 abbrev pub is_unaligned : ℕ → Bool
-is_unaligned a = nat_lt 0 (a % 4096)
+is_unaligned a = nat_lt 0 (a % page_size)
 
 -- whether a number of 64 bits is negative, read with its sign
 abbrev pub is_negative : ℕ → Bool

@@ -2,6 +2,7 @@
 ghost use Rattle.std.specs.Prelude.{◌≡◌, ◌<◌};
 ghost use Rattle.kr_calls.specs.Arguments.{long, signed_long, word, int, has, has_other, is_unaligned};
 
+use pr_base::PAGE_SIZE;
 use rv_mem::Regs;
 
 /// The register of the first argument and of the answer.
@@ -60,5 +61,5 @@ pub fn has_other(flags: u32, known: u32) -> bool
 pub fn is_unaligned(a: u64) -> bool
     ensures { result ≡ is_unaligned a }
 {
-    a % 4096 > 0
+    a % PAGE_SIZE > 0
 }

@@ -13,7 +13,7 @@ use Rattle.kr_tree.proofs.AddLemmas.{passing}
 use Rattle.kr_inode.proofs.BodyLemmas.{entries-is_listed, listed-is_directory}
 use Rattle.kr_tree.proofs.CountLemmas.{root_directory}
 use Rattle.kr_inode.proofs.EntryLemmas.{named_in, in_above}
-use Rattle.kr_tree.proofs.InodesLemmas.{get-remove_other}
+use Rattle.pr_base.proofs.MapLemmas.{get-remove_other}
 use Rattle.kr_text.proofs.OrderLemmas.{entries_rise}
 
 -- ---- a name in a directory

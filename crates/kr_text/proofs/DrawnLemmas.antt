@@ -12,7 +12,7 @@ use Rattle.kr_inode.proofs.BodyLemmas.{entries-with_entries, entries-with_standi
 use Rattle.kr_tree.specs.Tree.{Tree, Entry, entries_of, is_listed, Inode, Inodes, Body, Directory, RegularFile, SymbolicLink, ProcessDirectory, root, inode, body_is, takes_names, is_file, may_be_linked, is_directory}
 use Rattle.kr_tree.specs.Changes.{added, linked, new_tree, fresh, with_inode, with_entry, with_names, with_standing, next_standing, next_serial}
 use Rattle.kr_tree.specs.Lawful.{IsKept}
-use Rattle.kr_tree.proofs.InodesLemmas.{get-insert_same, get-insert_other, get-with_same, get-with_other, len-with, by_inode}
+use Rattle.pr_base.proofs.MapLemmas.{get-insert_same, get-insert_other, get-changed_same, get-changed_other, len-changed, by_key}
 use Rattle.kr_text.specs.Drawn.{IsDrawn, after_last}
 
 -- what isn't drawn yet isn't there
@@ -35,13 +35,13 @@ mapped f (Some z) x e = (z, refl, same (f z) x e)
 
 -- a test of each inode of a map with one inode changed
 with_each : (P : Inode → Type 0) (m : Inodes) (k : ℕ) (f : Inode → Inode) → ((x : Inode) → map.get m k ≡ Some x → P (f x)) → ((q : ℕ) (x : Inode) → map.get m q ≡ Some x → P x) → (q : ℕ) (x : Inode) → map.get (with_inode k f m) q ≡ Some x → P x
-with_each P m k f changed others = by_inode (λ q. (x : Inode) → map.get (with_inode k f m) q ≡ Some x → P x) k
-    (λ x e. let z = mapped f (map.get m k) x (sym (get-with_same m k f) ∙ e) in subst P z.2 (changed z.0 z.1))
-    (λ q n x e. others q x (sym (get-with_other m k f q n) ∙ e))
+with_each P m k f changed others = by_key (λ q. (x : Inode) → map.get (with_inode k f m) q ≡ Some x → P x) k
+    (λ x e. let z = mapped f (map.get m k) x (sym (get-changed_same m k f) ∙ e) in subst P z.2 (changed z.0 z.1))
+    (λ q n x e. others q x (sym (get-changed_other m k f q n) ∙ e))
 
 -- and of a map with one more
 insert_each : (P : Inode → Type 0) (m : Inodes) (k : ℕ) (y : Inode) → P y → ((q : ℕ) (x : Inode) → map.get m q ≡ Some x → P x) → (q : ℕ) (x : Inode) → map.get (map.insert m k y) q ≡ Some x → P x
-insert_each P m k y new others = by_inode (λ q. (x : Inode) → map.get (map.insert m k y) q ≡ Some x → P x) k
+insert_each P m k y new others = by_key (λ q. (x : Inode) → map.get (map.insert m k y) q ≡ Some x → P x) k
     (λ x e. subst P (same y x (sym (get-insert_same m k y) ∙ e)) new)
     (λ q n x e. others q x (sym (get-insert_other m k y q n) ∙ e))
 
@@ -89,9 +89,9 @@ serial_of_fresh mode uid gid s b none = sym (ap (after_last 3) (entries-with_sta
 -- ---- the changes
 
 there_still : (m : Inodes) (k : ℕ) (f : Inode → Inode) (q : ℕ) (x : Inode) → map.get m q ≡ Some x → (y : Inode) × (map.get (with_inode k f m) q ≡ Some y)
-there_still m k f q x there = by_inode (λ r. (z : Inode) → map.get m r ≡ Some z → (y : Inode) × (map.get (with_inode k f m) r ≡ Some y)) k
-    (λ z e. (f z, get-with_same m k f ∙ ap (option_map f) e))
-    (λ r other z e. (z, get-with_other m k f r other ∙ e)) q x there
+there_still m k f q x there = by_key (λ r. (z : Inode) → map.get m r ≡ Some z → (y : Inode) × (map.get (with_inode k f m) r ≡ Some y)) k
+    (λ z e. (f z, get-changed_same m k f ∙ ap (option_map f) e))
+    (λ r other z e. (z, get-changed_other m k f r other ∙ e)) q x there
 
 pub added_drawn : (t : Tree) (dir : ℕ) (x : Inode) (name : List ℕ) (mode uid gid : ℕ) (b : Body) → IsKept t → IsDrawn t → inode t dir ≡ Some x → is_listed x.node.body ≡ true → entries_of b ≡ [] → IsDrawn (added dir name mode uid gid b t)
 unfolding NextSerial
@@ -99,14 +99,14 @@ added_drawn t dir x name mode uid gid b kept drawn there listed no_entries =
     let f : Inode → Inode = with_entry name t.next (is_directory b) in
     let m : Inodes = with_inode dir f t.inodes in
     let y : Inode = fresh mode uid gid (with_standing (next_standing t dir) b) in
-    let free : map.get m t.next ≡ None = get-with_other t.inodes dir f t.next (other_number t dir x kept there) ∙ next_free t kept in
+    let free : map.get m t.next ≡ None = get-changed_other t.inodes dir f t.next (other_number t dir x kept there) ∙ next_free t kept in
     let serial : (z : Inode) → map.get t.inodes dir ≡ Some z → NextSerial (f z) = λ z e. serial_of_new z name t.next (is_directory b) (subst (λ w. is_listed w.node.body ≡ true) (same x z (sym there ∙ e)) listed) in
     record {
       last_number = t.next;
       last_inode = y;
       last_there = get-insert_same m t.next y;
       next_number = refl;
-      all_numbers = let more = len_more m t.next y free in let len = len-with t.inodes dir f in let next = drawn.next_number in let all = drawn.all_numbers in omega (arith, more, len, next, all);
+      all_numbers = let more = len_more m t.next y free in let len = len-changed t.inodes dir f in let next = drawn.next_number in let all = drawn.all_numbers in omega (arith, more, len, next, all);
       unheld = insert_each (λ z. z.holds ≡ 0) m t.next y refl (with_each (λ z. z.holds ≡ 0) t.inodes dir f (λ z e. drawn.unheld dir z e) drawn.unheld);
       next_serials = insert_each NextSerial m t.next y (serial_of_fresh mode uid gid (next_standing t dir) b no_entries) (with_each NextSerial t.inodes dir f serial drawn.next_serials);
       few_serials = insert_each (λ z. z.next_serial ≤ t.names + 1 + 3) m t.next y (omega arith) (with_each (λ z. z.next_serial ≤ t.names + 1 + 3) t.inodes dir f (λ z e. let l = drawn.few_serials dir z e in omega (arith, l)) (λ q z e. let l = drawn.few_serials q z e in omega (arith, l)));
@@ -128,7 +128,7 @@ linked_drawn t dir file name takes drawn =
       last_inode = two.0;
       last_there = two.1;
       next_number = drawn.next_number;
-      all_numbers = len-with m file g ∙ len-with t.inodes dir f ∙ drawn.all_numbers;
+      all_numbers = len-changed m file g ∙ len-changed t.inodes dir f ∙ drawn.all_numbers;
       unheld = with_each (λ z. z.holds ≡ 0) m file g (λ z e. unheld_m file z e) unheld_m;
       next_serials = with_each NextSerial m file g (λ z e. next_m file z e) next_m;
       few_serials = with_each (λ z. z.next_serial ≤ t.names + 1 + 3) m file g (λ z e. few_m file z e) few_m;

@@ -7,7 +7,7 @@ use Rattle.std.specs.Option.{option_map}
 use Rattle.std.specs.Ordering.{nat_cmp}
 use Rattle.std.proofs.lemmas.Bool.{ne_eqb}
 use Rattle.kr_tree.specs.Tree.{Tree, body_is, is_file}
-use Rattle.kr_tree.proofs.InodesLemmas.{by_inode, ties-other}
+use Rattle.pr_base.proofs.MapLemmas.{by_key, ties-other}
 use Rattle.kr_text.specs.declared.names.Named.{Named}
 use Rattle.kr_text.specs.Canonical.{first_name}
 use Rattle.kr_text.specs.FirstNames.{AreFirst, has_several, kept_name}
@@ -47,14 +47,14 @@ kept_of_one t i names one = ap (λ b. cond b (first_name i names) None) one
 pub first_noted : (t : Tree) (m n : BTreeMap ℕ (List (List ℕ))) (x : Named) → has_several t x.ino ≡ true → is_some (get nat_cmp m x.ino) ≡ false → Updates nat_cmp m n x.ino (Some x.path)
     → (earlier : List Named) → AreFirst t m earlier → AreFirst t n (earlier ++ x ∷ [])
 first_noted t m n x several none updates earlier first =
-    by_inode (λ i. body_is is_file t i ≡ true → get nat_cmp n i ≡ kept_name t i (earlier ++ x ∷ [])) x.ino
+    by_key (λ i. body_is is_file t i ≡ true → get nat_cmp n i ≡ kept_name t i (earlier ++ x ∷ [])) x.ino
     (λ file. updates.1 ∙ sym (first_here earlier x (sym (first x.ino file ∙ kept_of_several t x.ino earlier several) ∙ unknown (get nat_cmp m x.ino) none)) ∙ sym (kept_of_several t x.ino (earlier ++ x ∷ []) several))
     (λ i other f. updates.2 i (ties-other x.ino i (λ e. other (sym e))) ∙ first i f ∙ sym (kept_elsewhere t i earlier x (λ e. other (sym e))))
 
 -- a name of what has several, of which one was noted
 pub first_already : (t : Tree) (m : BTreeMap ℕ (List (List ℕ))) (x : Named) → has_several t x.ino ≡ true → is_some (get nat_cmp m x.ino) ≡ true → (earlier : List Named) → AreFirst t m earlier → AreFirst t m (earlier ++ x ∷ [])
 first_already t m x several there earlier first =
-    by_inode (λ i. body_is is_file t i ≡ true → get nat_cmp m i ≡ kept_name t i (earlier ++ x ∷ [])) x.ino
+    by_key (λ i. body_is is_file t i ≡ true → get nat_cmp m i ≡ kept_name t i (earlier ++ x ∷ [])) x.ino
     (λ f. go (get nat_cmp m x.ino) refl there f ∙ sym (kept_of_several t x.ino (earlier ++ x ∷ []) several))
     (λ i other f. first i f ∙ sym (kept_elsewhere t i earlier x (λ e. other (sym e))))
   where
@@ -65,7 +65,7 @@ first_already t m x several there earlier first =
 -- the name of what has one
 pub first_of_one : (t : Tree) (m : BTreeMap ℕ (List (List ℕ))) (x : Named) → has_several t x.ino ≡ false → (earlier : List Named) → AreFirst t m earlier → AreFirst t m (earlier ++ x ∷ [])
 first_of_one t m x one earlier first =
-    by_inode (λ i. body_is is_file t i ≡ true → get nat_cmp m i ≡ kept_name t i (earlier ++ x ∷ [])) x.ino
+    by_key (λ i. body_is is_file t i ≡ true → get nat_cmp m i ≡ kept_name t i (earlier ++ x ∷ [])) x.ino
     (λ f. first x.ino f ∙ kept_of_one t x.ino earlier one ∙ sym (kept_of_one t x.ino (earlier ++ x ∷ []) one))
     (λ i other f. first i f ∙ sym (kept_elsewhere t i earlier x (λ e. other (sym e))))
 

@@ -12,7 +12,7 @@ use Rattle.kr_tree.proofs.AddLemmas.{passing}
 use Rattle.kr_inode.proofs.BodyLemmas.{entries-with_entries, entries-with_standing, takes-is_listed}
 use Rattle.kr_tree.proofs.CountLemmas.{there as entry_there, root_directory}
 use Rattle.kr_inode.proofs.EntryLemmas.{named_in, serial_alone}
-use Rattle.kr_tree.proofs.InodesLemmas.{by_inode, get-insert_same, get-insert_other, get-with_same, get-with_other}
+use Rattle.pr_base.proofs.MapLemmas.{by_key, get-insert_same, get-insert_other, get-changed_same, get-changed_other}
 use Rattle.kr_text.specs.Same.{bare, bare_body}
 use Rattle.kr_text.proofs.OrderLemmas.{entries_rise}
 use Rattle.kr_text.proofs.DepthLemmas.{entry_in, named_above, has_entries, root_is_no_entry, one_standing}
@@ -111,14 +111,14 @@ module _ {u v : Tree} {dir : ℕ} {name : List ℕ} {j : ℕ} (grows : Grows u v
   entry_new = ap (λ es. option_map (λ e. e.inode) (entry_named name es)) grows.at_dir ∙ ap (option_map (λ e. e.inode)) (found_last name (entries u dir) grows.new (no_entry (entry_named name (entries u dir)) grows.free) (sym grows.new_name)) ∙ ap Some grows.new_inode
 
   entry_kept : (d : ℕ) (c : List ℕ) (i : ℕ) → entry u d c ≡ Some i → entry v d c ≡ Some i
-  entry_kept d c i is = by_inode (λ q. entry u q c ≡ Some i → entry v q c ≡ Some i) dir
+  entry_kept d c i is = by_key (λ q. entry u q c ≡ Some i → entry v q c ≡ Some i) dir
       (λ h. let e = some_entry (entry_named c (entries u dir)) i h in
       ap (λ es. option_map (λ e. e.inode) (entry_named c es)) grows.at_dir ∙ ap (option_map (λ e. e.inode)) (found_before c (entries u dir) grows.new e.0 e.1) ∙ ap Some e.2)
       (λ q other h. let e = entry_in u q c i h in let x = same_there u q e.0 e.1 in
       ap (λ es. option_map (λ e. e.inode) (entry_named c es)) (grows.elsewhere q x.0 x.1 other) ∙ h) d is
 
   entry_only : (d : ℕ) (c : List ℕ) (i : ℕ) (x : Inode) → inode u d ≡ Some x → entry v d c ≡ Some i → (entry u d c ≡ Some i) ⊎ ((d ≡ dir) × (c ≡ name) × (i ≡ j))
-  entry_only d c i x there is = by_inode (λ q. inode u q ≡ Some x → entry v q c ≡ Some i → (entry u q c ≡ Some i) ⊎ ((q ≡ dir) × (c ≡ name) × (i ≡ j))) dir
+  entry_only d c i x there is = by_key (λ q. inode u q ≡ Some x → entry v q c ≡ Some i → (entry u q c ≡ Some i) ⊎ ((q ≡ dir) × (c ≡ name) × (i ≡ j))) dir
       (λ _ h.
       let e = some_entry (entry_named c (entries v dir)) i h in
       elim (found_either c (entries u dir) grows.new e.0 (ap (entry_named c) (sym grows.at_dir) ∙ e.1)) [
@@ -193,8 +193,8 @@ module _ (u : Tree) (kept : IsKept u) (dir : ℕ) (name : List ℕ) (takes : bod
       let m : Inodes = with_inode dir f u.inodes in
       let y : Inode = fresh mode uid gid (with_standing (next_standing u dir) b) in
       let numbered : (d : ℕ) (z : Inode) → inode u d ≡ Some z → d ≢ u.next = (λ d z is same. let below = (kept.sound.numbered d z is).1 in omega (arith, below, same)) in
-      let here : inode v dir ≡ Some (f x) = get-insert_other m u.next y dir (numbered dir x at.1) ∙ get-with_same u.inodes dir f ∙ ap (option_map f) at.1 in
-      let away : (d : ℕ) (z : Inode) → inode u d ≡ Some z → d ≢ dir → inode v d ≡ inode u d = (λ d z is other. get-insert_other m u.next y d (numbered d z is) ∙ get-with_other u.inodes dir f d other) in
+      let here : inode v dir ≡ Some (f x) = get-insert_other m u.next y dir (numbered dir x at.1) ∙ get-changed_same u.inodes dir f ∙ ap (option_map f) at.1 in
+      let away : (d : ℕ) (z : Inode) → inode u d ≡ Some z → d ≢ dir → inode v d ≡ inode u d = (λ d z is other. get-insert_other m u.next y d (numbered d z is) ∙ get-changed_other u.inodes dir f d other) in
       let e : Entry = record { name = name; serial = x.next_serial; inode = u.next } in
       record {
         new = e;
@@ -205,7 +205,7 @@ module _ (u : Tree) (kept : IsKept u) (dir : ℕ) (name : List ℕ) (takes : bod
         leaf = entries_at v u.next y (get-insert_same m u.next y) ∙ entries-with_standing (next_standing u dir) b ∙ none;
         free = free;
         bare_kept = λ i n is. let z = node_at (inode u i) n is in
-            by_inode (λ q. inode u q ≡ Some z.0 → option_map bare (node v q) ≡ Some (bare n)) dir
+            by_key (λ q. inode u q ≡ Some z.0 → option_map bare (node v q) ≡ Some (bare n)) dir
             (λ h.
             let same : x ≡ z.0 = same_some x z.0 (sym at.1 ∙ h) in
             let body : bare_body (f x).node.body ≡ bare_body x.node.body = bare_entries (λ es. es ++ e ∷ []) x.node.body in
@@ -234,9 +234,9 @@ module _ (u : Tree) (kept : IsKept u) (dir : ℕ) (name : List ℕ) (takes : bod
       let m : Inodes = with_inode dir f u.inodes in
       let w = passing is_file (inode u file) is_a_file in
       let apart : dir ≢ file = (λ same. not_both x.node.body at.2 (subst (λ z. is_file z.node.body ≡ true) (same_some w.0 x (sym w.1 ∙ ap (inode u) (sym same) ∙ at.1)) w.2)) in
-      let here : inode v dir ≡ Some (f x) = get-with_other m file g dir apart ∙ get-with_same u.inodes dir f ∙ ap (option_map f) at.1 in
-      let there : inode v file ≡ Some (g w.0) = get-with_same m file g ∙ ap (option_map g) (get-with_other u.inodes dir f file (λ same. apart (sym same)) ∙ w.1) in
-      let away : (d : ℕ) → d ≢ dir → d ≢ file → inode v d ≡ inode u d = (λ d other another. get-with_other m file g d another ∙ get-with_other u.inodes dir f d other) in
+      let here : inode v dir ≡ Some (f x) = get-changed_other m file g dir apart ∙ get-changed_same u.inodes dir f ∙ ap (option_map f) at.1 in
+      let there : inode v file ≡ Some (g w.0) = get-changed_same m file g ∙ ap (option_map g) (get-changed_other u.inodes dir f file (λ same. apart (sym same)) ∙ w.1) in
+      let away : (d : ℕ) → d ≢ dir → d ≢ file → inode v d ≡ inode u d = (λ d other another. get-changed_other m file g d another ∙ get-changed_other u.inodes dir f d other) in
       let e : Entry = record { name = name; serial = x.next_serial; inode = file } in
       let no_entries : entries_of w.0.node.body ≡ [] = leaf_body w.0.node.body w.2 in
       record {
@@ -244,20 +244,20 @@ module _ (u : Tree) (kept : IsKept u) (dir : ℕ) (name : List ℕ) (takes : bod
         new_name = refl;
         new_inode = refl;
         at_dir = entries_at v dir (f x) here ∙ entries-with_entries (λ es. es ++ e ∷ []) x.node.body (takes-is_listed x.node.body at.2) ∙ ap (λ es. es ++ e ∷ []) (sym (entries_at u dir x at.1));
-        elsewhere = λ d z is other. by_inode (λ q. q ≢ dir → entries v q ≡ entries u q) file
+        elsewhere = λ d z is other. by_key (λ q. q ≢ dir → entries v q ≡ entries u q) file
             (λ _. entries_at v file (g w.0) there ∙ sym (entries_at u file w.0 w.1))
             (λ q another o. same_entries_at u v q (away q o another)) d other;
         leaf = entries_at v file (g w.0) there ∙ no_entries;
         free = free;
         bare_kept = λ i n is. let z = node_at (inode u i) n is in
-            by_inode (λ q. inode u q ≡ Some z.0 → option_map bare (node v q) ≡ Some (bare n)) dir
+            by_key (λ q. inode u q ≡ Some z.0 → option_map bare (node v q) ≡ Some (bare n)) dir
             (λ h.
             let same : x ≡ z.0 = same_some x z.0 (sym at.1 ∙ h) in
             let body : bare_body (f x).node.body ≡ bare_body x.node.body = bare_entries (λ es. es ++ e ∷ []) x.node.body in
             ap (λ o. option_map bare (option_map (λ k. k.node) o)) here
             ∙ ap (λ bb. Some (record { mode = x.node.mode; uid = x.node.uid; gid = x.node.gid; body = bb })) body
             ∙ ap (λ k. Some (bare k.node)) same ∙ ap (λ k. Some (bare k)) z.2)
-            (λ q other h. by_inode (λ r. r ≢ dir → inode u r ≡ Some z.0 → option_map bare (node v r) ≡ Some (bare n)) file
+            (λ q other h. by_key (λ r. r ≢ dir → inode u r ≡ Some z.0 → option_map bare (node v r) ≡ Some (bare n)) file
             (λ _ h2. ap (λ o. option_map bare (option_map (λ k. k.node) o)) there ∙ ap (λ k. Some (bare k.node)) (same_some w.0 z.0 (sym w.1 ∙ h2)) ∙ ap (λ k. Some (bare k)) z.2)
             (λ r another o h2. ap (λ k. option_map bare (option_map (λ l. l.node) k)) (away r o another ∙ h2) ∙ ap (λ k. Some (bare k)) z.2) q other h) i z.1;
       }

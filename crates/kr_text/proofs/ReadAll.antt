@@ -13,7 +13,7 @@ use Rattle.kr_tree.specs.Tree.{Tree, Inode, Node, Entry, Body, Directory, Regula
 use Rattle.kr_tree.specs.Names.{named}
 use Rattle.kr_tree.specs.Changes.{new_tree, fresh}
 use Rattle.kr_tree.specs.Lawful.{IsKept, IsIn}
-use Rattle.kr_tree.proofs.InodesLemmas.{get-insert_same, get-insert_other, by_inode}
+use Rattle.pr_base.proofs.MapLemmas.{get-insert_same, get-insert_other, by_key}
 use Rattle.kr_tree.proofs.NewLemmas.{sound-new_tree, counted-new_tree, used-new_tree}
 use Rattle.kr_tree.proofs.OfBytesLemmas.{of_bytes-new_tree}
 use Rattle.kr_text.specs.declared.fault.ListFault.{ListFault}
@@ -82,7 +82,7 @@ names_read t kept user can elf (n ∷ rest) earlier s k order reads =
 nothing_inside : (mode uid gid dir : ℕ) (e : Entry) → IsIn e (entries (new_tree mode uid gid) dir) → ⊥
 nothing_inside mode uid gid dir =
     let y : Inode = fresh mode uid gid (Directory [] (Some (record { inode = root; serial = 0 }))) in
-    by_inode (λ q. (e : Entry) → IsIn e (entries (new_tree mode uid gid) q) → ⊥) root
+    by_key (λ q. (e : Entry) → IsIn e (entries (new_tree mode uid gid) q) → ⊥) root
     (λ e is_in. subst (λ o. IsIn e (option_map_or (λ z. entries_of z.node.body) o [])) (get-insert_same map.empty root y) is_in)
     (λ q other e is_in. subst (λ o. IsIn e (option_map_or (λ z. entries_of z.node.body) o [])) (get-insert_other map.empty root y q other ∙ map.get-empty nat_cmp q) is_in) dir
 

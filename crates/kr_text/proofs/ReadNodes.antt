@@ -11,7 +11,7 @@ use Rattle.kr_tree.specs.Changes.{added, linked, fresh, with_inode, with_entry, 
 use Rattle.kr_tree.proofs.AddLemmas.{kept-added, passing}
 use Rattle.kr_tree.proofs.LinkLemmas.{kept-linked}
 use Rattle.kr_inode.proofs.BodyLemmas.{entries-is_listed, listed-is_directory, takes-is_listed}
-use Rattle.kr_tree.proofs.InodesLemmas.{len-with, get-with_other}
+use Rattle.pr_base.proofs.MapLemmas.{len-changed, get-changed_other}
 use Rattle.kr_text.specs.declared.fault.TreeWhy.{TreeWhy}
 use Rattle.kr_text.specs.declared.fault.TreeWhy.TheVariants.{Twice, TooBig}
 use Rattle.kr_text.specs.declared.names.Named.{Named}
@@ -117,12 +117,12 @@ node_read_back t kept_t earlier u mirrors n next x node_is b same_bare no_entrie
     let y : Inode = fresh x.mode x.uid x.gid (with_standing (next_standing u spot.dir) b) in
     let m : Inodes = with_inode spot.dir (with_entry next.name u.next (is_directory b)) u.inodes in
     let d = passing takes_names (inode u spot.dir) spot.takes in
-    let not_there : map.get m u.next ≡ None = get-with_other u.inodes spot.dir (with_entry next.name u.next (is_directory b)) u.next (other_number u spot.dir d.0 mirrors.kept d.1) ∙ next_free u mirrors.kept in
+    let not_there : map.get m u.next ≡ None = get-changed_other u.inodes spot.dir (with_entry next.name u.next (is_directory b)) u.next (other_number u spot.dir d.0 mirrors.kept d.1) ∙ next_free u mirrors.kept in
     record {
       tree = v;
       is = ap (λ r. r >>= put (owner_of x) b u) spot.place ∙ ap (λ p. if p then Err TooBig else Ok v) (ap (λ p. p || has_no_room (length (bytes_of b)) u) small ∙ has_room);
       mirrors = mirrors_new kept_t mirrors next grows kept_v spot.at (takes_directory u spot.dir spot.takes) x node_is shows (λ tx at. let z = named_there u mirrors.kept tx u.next at in never (sym z.1 ∙ next_free u mirrors.kept)) first;
-      inodes_more = len_more m u.next y not_there ∙ ap (λ k. k + 1) (len-with u.inodes spot.dir (with_entry next.name u.next (is_directory b)));
+      inodes_more = len_more m u.next y not_there ∙ ap (λ k. k + 1) (len-changed u.inodes spot.dir (with_entry next.name u.next (is_directory b)));
       names_more = refl;
       bytes_more = refl;
     }
@@ -166,8 +166,8 @@ name_read_again t kept_t earlier u mirrors n next x node_is file first first_is 
       is = ap (λ p. p >>= (λ q. file_at u first >>= link_put u q)) spot.place ∙ ap (λ f. f >>= link_put u (spot.dir, next.name)) target ∙ ap (λ b. if b then Err TooBig else Ok v) left;
       mirrors = mirrors_again kept_t mirrors next grows kept_v spot.at (takes_directory u spot.dir spot.takes) x node_is (grows.bare_kept j r.1 r.3 ∙ ap Some r.4) m.0 m.1 m.3 file_t r.2;
       inodes_more =
-          let one = len-with (with_inode spot.dir (with_entry next.name j false) u.inodes) j (with_names (λ k. k + 1)) in
-          let two = len-with u.inodes spot.dir (with_entry next.name j false) in
+          let one = len-changed (with_inode spot.dir (with_entry next.name j false) u.inodes) j (with_names (λ k. k + 1)) in
+          let two = len-changed u.inodes spot.dir (with_entry next.name j false) in
           omega (arith, one, two);
       names_more = refl;
       bytes_more = omega arith;

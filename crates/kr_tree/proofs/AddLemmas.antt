@@ -11,7 +11,7 @@ use Rattle.kr_tree.specs.Names.{is_name}
 use Rattle.kr_inode.specs.Entries.{IsListed}
 use Rattle.kr_tree.specs.Changes.{fresh, added, with_inode, with_entry, with_standing, next_serial, next_standing, is_unused, is_too_big, has_no_room, counted, count_limit, byte_limit, file_limit}
 use Rattle.kr_tree.specs.Lawful.{IsKept, IsSound, IsCounted, HasNoUnused, RisesToEnd, AtRoot, AtRemoved, Above, IsIn, entries_beside, count_in, directories_in, names_of, total, AreBytes, IsOfBytes}
-use Rattle.kr_tree.proofs.InodesLemmas.{get-insert_same, get-insert_other, get-with_same, get-with_other, len-with}
+use Rattle.pr_base.proofs.MapLemmas.{get-insert_same, get-insert_other, get-changed_same, get-changed_other, len-changed}
 use Rattle.kr_tree.proofs.OfBytesLemmas.{of_bytes-added}
 use Rattle.kr_inode.proofs.EntryLemmas.{listed-none, listed-new, in-new, in-last, in-append}
 use Rattle.kr_inode.proofs.BodyLemmas.{entries-with_entries, standing-with_entries, is_directory-with_entries, is_listed-with_entries, bytes-with_entries, file-with_entries, entries-with_standing, standing-with_standing, is_directory-with_standing, bytes-with_standing, file-with_standing, takes-is_listed, takes-stands, listed-is_directory, is_directory-stands}
@@ -76,10 +76,10 @@ module _ (t : Tree) (sound : IsSound t) (counts : IsCounted t) (dir : ℕ) (name
 
   dir_is : inode u dir ≡ Some grown
   dir_is = get-insert_other (with_inode dir (with_entry name t.next (is_directory b)) t.inodes) t.next y dir dir_old
-      ∙ get-with_same t.inodes dir (with_entry name t.next (is_directory b)) ∙ ap (option_map (with_entry name t.next (is_directory b))) at_dir
+      ∙ get-changed_same t.inodes dir (with_entry name t.next (is_directory b)) ∙ ap (option_map (with_entry name t.next (is_directory b))) at_dir
 
   other_is : (q : ℕ) → q ≢ dir → q ≢ t.next → inode u q ≡ inode t q
-  other_is q d n = get-insert_other (with_inode dir (with_entry name t.next (is_directory b)) t.inodes) t.next y q n ∙ get-with_other t.inodes dir (with_entry name t.next (is_directory b)) q d
+  other_is q d n = get-insert_other (with_inode dir (with_entry name t.next (is_directory b)) t.inodes) t.next y q n ∙ get-changed_other t.inodes dir (with_entry name t.next (is_directory b)) q d
 
   -- by the number: the new one, the directory's, another
   by : (P : ℕ → Type 0) → P t.next → P dir → ((q : ℕ) → q ≢ dir → q ≢ t.next → P q) → (q : ℕ) → P q
@@ -230,8 +230,8 @@ module _ (t : Tree) (sound : IsSound t) (counts : IsCounted t) (dir : ℕ) (name
         let full : nat_le count_limit (map.len t.inodes) ≡ false = or_first (nat_le count_limit (map.len t.inodes)) (nat_le count_limit t.names) (or_first (nat_le count_limit (map.len t.inodes) || nat_le count_limit t.names) (nat_lt byte_limit (t.bytes + length (bytes_of b))) room) in
         let below : map.len t.inodes < count_limit = grind (arith, nat_tests) in
         let one_more = map.len-insert nat_cmp_total (with_inode dir (with_entry name t.next (is_directory b)) t.inodes) t.next y
-        ∙ ap (λ o. cond (is_some o) (map.len (with_inode dir (with_entry name t.next (is_directory b)) t.inodes)) (map.len (with_inode dir (with_entry name t.next (is_directory b)) t.inodes) + 1)) (get-with_other t.inodes dir (with_entry name t.next (is_directory b)) t.next (λ is. dir_old (sym is)) ∙ none_new) in
-        let same = len-with t.inodes dir (with_entry name t.next (is_directory b)) in
+        ∙ ap (λ o. cond (is_some o) (map.len (with_inode dir (with_entry name t.next (is_directory b)) t.inodes)) (map.len (with_inode dir (with_entry name t.next (is_directory b)) t.inodes) + 1)) (get-changed_other t.inodes dir (with_entry name t.next (is_directory b)) t.next (λ is. dir_old (sym is)) ∙ none_new) in
+        let same = len-changed t.inodes dir (with_entry name t.next (is_directory b)) in
         omega arith;
     names_limited =
         let full : nat_le count_limit t.names ≡ false = or_second (nat_le count_limit (map.len t.inodes)) (nat_le count_limit t.names) (or_first (nat_le count_limit (map.len t.inodes) || nat_le count_limit t.names) (nat_lt byte_limit (t.bytes + length (bytes_of b))) room) in
@@ -286,9 +286,9 @@ module _ (t : Tree) (sound : IsSound t) (counts : IsCounted t) (dir : ℕ) (name
       let at_top : value f (map.get u.inodes t.next) ≡ f y = ap (value f) new_is in
       let below = sum-same f with_dir u.inodes t.next (λ q l. ap (value f) (get-insert_other with_dir t.next y q (λ is. absurd (omega arith)))) in
       let dir_below = (sound.numbered dir x at_dir).1 in
-      let changed = sum-changed f t.inodes with_dir dir t.next dir_below (λ q d. get-with_other t.inodes dir (with_entry name t.next (is_directory b)) q d) in
+      let changed = sum-changed f t.inodes with_dir dir t.next dir_below (λ q d. get-changed_other t.inodes dir (with_entry name t.next (is_directory b)) q d) in
       let was : value f (map.get t.inodes dir) ≡ f x = ap (value f) at_dir in
-      let is : value f (map.get with_dir dir) ≡ f grown = ap (value f) (get-with_same t.inodes dir (with_entry name t.next (is_directory b)) ∙ ap (option_map (with_entry name t.next (is_directory b))) at_dir) in
+      let is : value f (map.get with_dir dir) ≡ f grown = ap (value f) (get-changed_same t.inodes dir (with_entry name t.next (is_directory b)) ∙ ap (option_map (with_entry name t.next (is_directory b))) at_dir) in
       omega arith
 
   grown_entries : entries_of grown.node.body ≡ entries_of x.node.body ++ e ∷ []

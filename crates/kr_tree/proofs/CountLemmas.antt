@@ -6,7 +6,7 @@ use Rattle.kr_inode.specs.declared.standing.Standing.{Standing}
 use Rattle.std.proofs.lemmas.Bool.{cases_eq, ne_eqb}
 use Rattle.kr_tree.specs.Tree.{Tree, Inode, Inodes, Entry, root, inode, entries, entries_of, standing, standing_of, above, body_is, is_directory, is_listed}
 use Rattle.kr_tree.specs.Changes.{counted, count_limit, with_inode}
-use Rattle.kr_tree.proofs.InodesLemmas.{get-with_same, get-with_other}
+use Rattle.pr_base.proofs.MapLemmas.{get-changed_same, get-changed_other}
 use Rattle.kr_inode.proofs.BodyLemmas.{listed-is_directory}
 use Rattle.kr_tree.specs.Lawful.{sum_below, count_in, directories_in, IsIn, IsCounted, IsSound, HasItsInodes}
 
@@ -44,9 +44,9 @@ sum-changed f m n i (suc k) l h =
 -- after a change of the one at a number
 pub sum-with : (f : Inode → ℕ) (m : Inodes) (k n : ℕ) (g : Inode → Inode) (x : Inode) → map.get m k ≡ Some x → k < n → sum_below f (with_inode k g m) n + f x ≡ sum_below f m n + f (g x)
 sum-with f m k n g x at l =
-    let changed = sum-changed f m (with_inode k g m) k n l (λ q d. get-with_other m k g q d) in
+    let changed = sum-changed f m (with_inode k g m) k n l (λ q d. get-changed_other m k g q d) in
     let was : value f (map.get m k) ≡ f x = ap (value f) at in
-    let is : value f (map.get (with_inode k g m) k) ≡ f (g x) = ap (value f) (get-with_same m k g ∙ ap (option_map g) at) in
+    let is : value f (map.get (with_inode k g m) k) ≡ f (g x) = ap (value f) (get-changed_same m k g ∙ ap (option_map g) at) in
     omega arith
 
 pub sum-suc : (f : Inode → ℕ) (m : Inodes) (k : ℕ) → sum_below f m (k + 1) ≡ value f (map.get m k) + sum_below f m k

@@ -7,7 +7,7 @@ use Rattle.std.proofs.lemmas.Bool.{cases_eq, eqb-true}
 use Rattle.kr_tree.specs.Tree.{Tree, Inode, Entry, RegularFile, root, inode, entries, entries_of, standing, standing_of, body_is, is_directory, is_listed, body, bytes_of}
 use Rattle.kr_tree.specs.Changes.{is_unused, is_unused_at, freed, dropped_if_unused, file_limit}
 use Rattle.kr_tree.specs.Lawful.{IsKept, IsSound, IsCounted, HasNoUnused, HasBytes, IsIn, entries_beside, count_in, directories_in, names_of, total}
-use Rattle.kr_tree.proofs.InodesLemmas.{get-remove_same, get-remove_other, by_inode}
+use Rattle.pr_base.proofs.MapLemmas.{get-remove_same, get-remove_other, by_key}
 use Rattle.kr_tree.proofs.OfBytesLemmas.{of_bytes-removed}
 use Rattle.kr_tree.proofs.CountLemmas.{value, sum-changed, sum-at, in-counted, counted-same, entries_there}
 use Rattle.kr_tree.proofs.QuietLemmas.{LooksAlike, of_entries, sound-alike, counted-alike}
@@ -51,24 +51,24 @@ module _ (u : Tree) (sound : IsSound u) (counts : IsCounted u) (k : ℕ) (x : In
 
   looks : LooksAlike u v
   looks = record {
-    lists = by_inode (λ q. entries v q ≡ entries u q) k
+    lists = by_key (λ q. entries v q ≡ entries u q) k
         (ap (λ o. option_map_or (λ z. entries_of z.node.body) o []) gone ∙ sym no_entries)
         (λ q d. ap (λ o. option_map_or (λ z. entries_of z.node.body) o []) (rest q d));
-    standings = by_inode (λ q. standing v q ≡ standing u q) k
+    standings = by_key (λ q. standing v q ≡ standing u q) k
         (ap (option_and_then (λ z. standing_of z.node.body)) gone ∙ sym stands_nowhere)
         (λ q d. ap (option_and_then (λ z. standing_of z.node.body)) (rest q d));
-    directory = by_inode (λ q. body_is is_directory v q ≡ true → body_is is_directory u q ≡ true) k
+    directory = by_key (λ q. body_is is_directory v q ≡ true → body_is is_directory u q ≡ true) k
         (λ h. let no : false ≡ true = sym (ap (λ o. option_map_or (λ z. is_directory z.node.body) o false) gone) ∙ h in absurd cc)
         (λ q d h. sym (ap (λ o. option_map_or (λ z. is_directory z.node.body) o false) (rest q d)) ∙ h);
     directory_in = λ d e h. ap (λ o. option_map_or (λ z. is_directory z.node.body) o false) (rest e.inode (unnamed d e h));
     root_listed = ap (λ o. option_map_or (λ z. is_listed z.node.body) o false) (rest root (λ is. not_root (sym is)));
-    names = by_inode (λ q. value (λ z. z.names) (inode v q) ≡ value (λ z. z.names) (inode u q)) k
+    names = by_key (λ q. value (λ z. z.names) (inode v q) ≡ value (λ z. z.names) (inode u q)) k
         (ap (value (λ z. z.names)) gone ∙ sym (ap (value (λ z. z.names)) at ∙ no_names))
         (λ q d. ap (value (λ z. z.names)) (rest q d));
-    directories = by_inode (λ q. value (λ z. z.directories) (inode v q) ≡ value (λ z. z.directories) (inode u q)) k
+    directories = by_key (λ q. value (λ z. z.directories) (inode v q) ≡ value (λ z. z.directories) (inode u q)) k
         (ap (value (λ z. z.directories)) gone ∙ sym (counts.directories k ∙ ap (directories_in u) no_entries))
         (λ q d. ap (value (λ z. z.directories)) (rest q d));
-    there = by_inode (λ q. (y : Inode) → inode v q ≡ Some y → (x : Inode) × (inode u q ≡ Some x) × (entries_beside y ≡ entries_beside x)) k
+    there = by_key (λ q. (y : Inode) → inode v q ≡ Some y → (x : Inode) × (inode u q ≡ Some x) × (entries_beside y ≡ entries_beside x)) k
         (λ y h. let no : None ≡ Some y = sym gone ∙ h in absurd cc)
         (λ q d y h. (y, sym (rest q d) ∙ h, refl));
     next = refl;
@@ -87,7 +87,7 @@ module _ (u : Tree) (sound : IsSound u) (counts : IsCounted u) (k : ℕ) (x : In
       sound-alike u v looks sound
       (let len = map.len-remove nat_cmp_total u.inodes k ∙ ap (λ o. cond (is_some o) (map.len u.inodes - 1) (map.len u.inodes)) at in let l = sound.inodes_limited in omega arith)
       (let l = sound.bytes_limited in omega arith)
-      (λ i bs. by_inode (λ i. body v i ≡ Some (RegularFile bs) → length bs ≤ file_limit) k
+      (λ i bs. by_key (λ i. body v i ≡ Some (RegularFile bs) → length bs ≤ file_limit) k
       (λ h. let no : None ≡ Some (RegularFile bs) = sym (ap (option_map (λ z. z.node.body)) gone) ∙ h in absurd cc)
       (λ q d h. sound.files_limited q bs (sym (ap (option_map (λ z. z.node.body)) (rest q d)) ∙ h)) i)
 
@@ -95,7 +95,7 @@ module _ (u : Tree) (sound : IsSound u) (counts : IsCounted u) (k : ℕ) (x : In
   counted-dropped = counted-alike u v looks counts (let sums = total_dropped (λ z. length (bytes_of z.node.body)) in let before = counts.all_bytes in omega arith)
 
   pub used-dropped : ((i : ℕ) (z : Inode) → i ≢ k → inode u i ≡ Some z → is_unused z ≡ false) → HasNoUnused v
-  used-dropped used = by_inode (λ i. (z : Inode) → inode v i ≡ Some z → is_unused z ≡ false) k
+  used-dropped used = by_key (λ i. (z : Inode) → inode v i ≡ Some z → is_unused z ≡ false) k
       (λ z h. let no : None ≡ Some z = sym gone ∙ h in absurd cc)
       (λ q d z h. used q z d (sym (rest q d) ∙ h))
 

@@ -9,7 +9,7 @@ use Rattle.kr_tree.specs.Names.{is_name}
 use Rattle.kr_inode.specs.Entries.{IsListed}
 use Rattle.kr_tree.specs.Changes.{linked, with_inode, with_entry, with_names, is_unused, has_no_name_left, counted, count_limit, file_limit}
 use Rattle.kr_tree.specs.Lawful.{IsKept, IsSound, IsCounted, HasNoUnused, RisesToEnd, AtRoot, AtRemoved, Above, IsIn, entries_beside, count_in, directories_in, total, AreBytes}
-use Rattle.kr_tree.proofs.InodesLemmas.{get-with_same, get-with_other, len-with}
+use Rattle.pr_base.proofs.MapLemmas.{get-changed_same, get-changed_other, len-changed}
 use Rattle.kr_tree.proofs.OfBytesLemmas.{of_bytes-linked}
 use Rattle.kr_inode.proofs.EntryLemmas.{listed-new, in-new, in-append}
 use Rattle.kr_inode.proofs.BodyLemmas.{entries-with_entries, standing-with_entries, is_directory-with_entries, is_listed-with_entries, bytes-with_entries, file-with_entries, takes-is_listed, takes-stands, listed-is_directory, linked-is_directory}
@@ -66,13 +66,13 @@ module _ (t : Tree) (h : IsKept t) (dir : ℕ) (name : List ℕ) (file : ℕ)
   middle = with_inode dir grow t.inodes
 
   dir_is : inode u dir ≡ Some grown
-  dir_is = get-with_other middle file (with_names (λ n. n + 1)) dir apart ∙ get-with_same t.inodes dir grow ∙ ap (option_map grow) at_dir
+  dir_is = get-changed_other middle file (with_names (λ n. n + 1)) dir apart ∙ get-changed_same t.inodes dir grow ∙ ap (option_map grow) at_dir
 
   file_is : inode u file ≡ Some named
-  file_is = get-with_same middle file (with_names (λ n. n + 1)) ∙ ap (option_map (with_names (λ n. n + 1))) (get-with_other t.inodes dir grow file (λ e. apart (sym e)) ∙ at_file)
+  file_is = get-changed_same middle file (with_names (λ n. n + 1)) ∙ ap (option_map (with_names (λ n. n + 1))) (get-changed_other t.inodes dir grow file (λ e. apart (sym e)) ∙ at_file)
 
   other_is : (q : ℕ) → q ≢ dir → q ≢ file → inode u q ≡ inode t q
-  other_is q d f = get-with_other middle file (with_names (λ n. n + 1)) q f ∙ get-with_other t.inodes dir grow q d
+  other_is q d f = get-changed_other middle file (with_names (λ n. n + 1)) q f ∙ get-changed_other t.inodes dir grow q d
 
   by : (P : ℕ → Type 0) → P dir → P file → ((q : ℕ) → q ≢ dir → q ≢ file → P q) → (q : ℕ) → P q
   by P here there rest q =
@@ -179,7 +179,7 @@ module _ (t : Tree) (h : IsKept t) (dir : ℕ) (name : List ℕ) (file : ℕ)
     stands = λ d s away is. let before = h.sound.stands d s away (sym (standings d) ∙ is) in
         (before.0, kept s.inode (record { name = before.0; serial = s.serial; inode = d }) before.1);
     rises = λ d is. rises_still d (h.sound.rises d (sym (directories d) ∙ is));
-    inodes_limited = let l = h.sound.inodes_limited in let one = len-with middle file (with_names (λ n. n + 1)) in let two = len-with t.inodes dir grow in omega arith;
+    inodes_limited = let l = h.sound.inodes_limited in let one = len-changed middle file (with_names (λ n. n + 1)) in let two = len-changed t.inodes dir grow in omega arith;
     names_limited = let full : nat_le count_limit t.names ≡ false = room in let below : t.names < count_limit = grind (arith, nat_tests) in omega arith;
     bytes_limited = h.sound.bytes_limited;
     files_limited = λ i bytes. by (λ i. body u i ≡ Some (RegularFile bytes) → length bytes ≤ file_limit)
@@ -190,11 +190,11 @@ module _ (t : Tree) (h : IsKept t) (dir : ℕ) (name : List ℕ) (file : ℕ)
 
   total_linked : (f : Inode → ℕ) → f named ≡ f y → total f u + f x ≡ total f t + f grown
   total_linked f same =
-      let one = sum-changed f t.inodes middle dir t.next ((h.sound.numbered dir x at_dir).1) (λ q d. get-with_other t.inodes dir grow q d) in
-      let two = sum-changed f middle u.inodes file t.next ((h.sound.numbered file y at_file).1) (λ q d. get-with_other middle file (with_names (λ n. n + 1)) q d) in
+      let one = sum-changed f t.inodes middle dir t.next ((h.sound.numbered dir x at_dir).1) (λ q d. get-changed_other t.inodes dir grow q d) in
+      let two = sum-changed f middle u.inodes file t.next ((h.sound.numbered file y at_file).1) (λ q d. get-changed_other middle file (with_names (λ n. n + 1)) q d) in
       let was : value f (map.get t.inodes dir) ≡ f x = ap (value f) at_dir in
-      let is : value f (map.get middle dir) ≡ f grown = ap (value f) (get-with_same t.inodes dir grow ∙ ap (option_map grow) at_dir) in
-      let was_file : value f (map.get middle file) ≡ f y = ap (value f) (get-with_other t.inodes dir grow file (λ e. apart (sym e)) ∙ at_file) in
+      let is : value f (map.get middle dir) ≡ f grown = ap (value f) (get-changed_same t.inodes dir grow ∙ ap (option_map grow) at_dir) in
+      let was_file : value f (map.get middle file) ≡ f y = ap (value f) (get-changed_other t.inodes dir grow file (λ e. apart (sym e)) ∙ at_file) in
       let is_file : value f (map.get u.inodes file) ≡ f named = ap (value f) file_is in
       omega arith
 

@@ -11,7 +11,7 @@ use Rattle.kr_tree.specs.Names.{is_name}
 use Rattle.kr_inode.specs.Entries.{IsListed}
 use Rattle.kr_tree.specs.Changes.{with_inode, with_body, with_standing, with_entry, without_entry, without_name, next_serial, next_standing, moved, is_unused, counted, file_limit}
 use Rattle.kr_tree.specs.Lawful.{IsKept, IsSound, IsCounted, HasNoUnused, RisesToEnd, AtRoot, AtRemoved, Above, IsBelow, Here, Below, IsIn, entries_beside, count_in, directories_in, names_of, total, AreBytes}
-use Rattle.kr_tree.proofs.InodesLemmas.{get-with_same, get-with_other, len-with, stays-with, there-with, each-with, with-swap, with-twice, with-alike}
+use Rattle.pr_base.proofs.MapLemmas.{get-changed_same, get-changed_other, len-changed, stays-changed, there-changed, each-changed, changed-swap, changed-twice, changed-alike}
 use Rattle.kr_tree.proofs.OfBytesLemmas.{of_bytes-moved}
 use Rattle.kr_inode.proofs.EntryLemmas.{listed-new, listed-without, named_in, in_named, in_above, serial_alone, in_without, in_still, none-without, without-new, weighed, weighed-without, in-new, in-last, in-append}
 use Rattle.kr_inode.proofs.BodyLemmas.{entries-with_entries, standing-with_entries, is_directory-with_entries, is_listed-with_entries, takes-with_entries, with_entries-swap, bytes-with_entries, file-with_entries, entries-with_standing, standing-with_standing, is_directory-with_standing, is_listed-with_standing, bytes-with_standing, file-with_standing, stands-nowhere, takes-is_listed, takes-stands, listed-is_directory, entries-is_listed}
@@ -128,7 +128,7 @@ module _ (t : Tree) (sound : IsSound t) (counts : IsCounted t) (dir : ℕ) (name
   -- ---- what is there
 
   takes1 : option_map_or (λ z. takes_names z.node.body) (map.get m1 to) false ≡ true
-  takes1 = stays-with (λ o. option_map_or (λ z. takes_names z.node.body) o false) t.inodes dir shrink (λ z. takes-with_entries (without_name name) z.node.body) to ∙ takes
+  takes1 = stays-changed (λ o. option_map_or (λ z. takes_names z.node.body) o false) t.inodes dir shrink (λ z. takes-with_entries (without_name name) z.node.body) to ∙ takes
 
   w : Inode
   w = (passing takes_names (map.get m1 to) takes1).0
@@ -142,15 +142,15 @@ module _ (t : Tree) (sound : IsSound t) (counts : IsCounted t) (dir : ℕ) (name
   w_listed = takes-is_listed (passing takes_names (map.get m1 to) takes1).0.node.body (passing takes_names (map.get m1 to) takes1).2
 
   i_at : map.get m2 i ≡ Some y
-  i_at = get-with_other m1 to grow i (λ s. to_apart (sym s)) ∙ get-with_other t.inodes dir shrink i (λ s. dir_apart (sym s)) ∙ at_i
+  i_at = get-changed_other m1 to grow i (λ s. to_apart (sym s)) ∙ get-changed_other t.inodes dir shrink i (λ s. dir_apart (sym s)) ∙ at_i
 
   u_i : inode u i ≡ Some (stand y)
-  u_i = get-with_same m2 i stand ∙ ap (option_map stand) i_at
+  u_i = get-changed_same m2 i stand ∙ ap (option_map stand) i_at
 
   -- what tells nothing of entries and standing stays
   stays : {A : Type 0} (f : Option Inode → A) → ((z : Inode) → f (Some (shrink z)) ≡ f (Some z)) → ((z : Inode) → f (Some (grow z)) ≡ f (Some z)) → ((z : Inode) → f (Some (stand z)) ≡ f (Some z))
       → (q : ℕ) → f (inode u q) ≡ f (inode t q)
-  stays f one two three q = stays-with f m2 i stand three q ∙ stays-with f m1 to grow two q ∙ stays-with f t.inodes dir shrink one q
+  stays f one two three q = stays-changed f m2 i stand three q ∙ stays-changed f m1 to grow two q ∙ stays-changed f t.inodes dir shrink one q
 
   directories : (q : ℕ) → body_is is_directory u q ≡ body_is is_directory t q
   directories = stays (λ o. option_map_or (λ z. is_directory z.node.body) o false)
@@ -160,9 +160,9 @@ module _ (t : Tree) (sound : IsSound t) (counts : IsCounted t) (dir : ℕ) (name
 
   standing_other : (q : ℕ) → q ≢ i → standing u q ≡ standing t q
   standing_other q n =
-      ap (option_and_then (λ z. standing_of z.node.body)) (get-with_other m2 i stand q n)
-      ∙ stays-with (option_and_then (λ z. standing_of z.node.body)) m1 to grow (λ z. standing-with_entries (λ es. es ++ (record { name = new; serial = z.next_serial; inode = i }) ∷ []) z.node.body) q
-      ∙ stays-with (option_and_then (λ z. standing_of z.node.body)) t.inodes dir shrink (λ z. standing-with_entries (without_name name) z.node.body) q
+      ap (option_and_then (λ z. standing_of z.node.body)) (get-changed_other m2 i stand q n)
+      ∙ stays-changed (option_and_then (λ z. standing_of z.node.body)) m1 to grow (λ z. standing-with_entries (λ es. es ++ (record { name = new; serial = z.next_serial; inode = i }) ∷ []) z.node.body) q
+      ∙ stays-changed (option_and_then (λ z. standing_of z.node.body)) t.inodes dir shrink (λ z. standing-with_entries (without_name name) z.node.body) q
 
   y_directory : is_directory y.node.body ≡ dirs
   y_directory = sym (ap (λ o. option_map_or (λ z. is_directory z.node.body) o false) at_i)
@@ -175,7 +175,7 @@ module _ (t : Tree) (sound : IsSound t) (counts : IsCounted t) (dir : ℕ) (name
       ∙ stands-nowhere (with_standing (next_standing t to) y.node.body) (is_directory-with_standing (next_standing t to) y.node.body ∙ y_directory ∙ h)
 
   serial_is : w.next_serial ≡ next_serial t to
-  serial_is = sym (ap (λ o. option_map_or (λ z. z.next_serial) o 0) at_to) ∙ stays-with (λ o. option_map_or (λ z. z.next_serial) o 0) t.inodes dir shrink (λ _. refl) to
+  serial_is = sym (ap (λ o. option_map_or (λ z. z.next_serial) o 0) at_to) ∙ stays-changed (λ o. option_map_or (λ z. z.next_serial) o 0) t.inodes dir shrink (λ _. refl) to
 
   abbrev e' : Entry
   e' = record { name = new; serial = w.next_serial; inode = i }
@@ -192,22 +192,22 @@ module _ (t : Tree) (sound : IsSound t) (counts : IsCounted t) (dir : ℕ) (name
   grown_entries = entries-with_entries (λ es. es ++ e' ∷ []) w.node.body w_listed
 
   listing_dir : listing m1 dir ≡ without_name name (entries t dir)
-  listing_dir = ap (λ o. option_map_or (λ z. entries_of z.node.body) o []) (get-with_same t.inodes dir shrink ∙ ap (option_map shrink) at_dir) ∙ shrunk_entries ∙ ap (without_name name) (sym entries_at)
+  listing_dir = ap (λ o. option_map_or (λ z. entries_of z.node.body) o []) (get-changed_same t.inodes dir shrink ∙ ap (option_map shrink) at_dir) ∙ shrunk_entries ∙ ap (without_name name) (sym entries_at)
 
   listing_away : (q : ℕ) → q ≢ dir → listing m1 q ≡ entries t q
-  listing_away q d = ap (λ o. option_map_or (λ z. entries_of z.node.body) o []) (get-with_other t.inodes dir shrink q d)
+  listing_away q d = ap (λ o. option_map_or (λ z. entries_of z.node.body) o []) (get-changed_other t.inodes dir shrink q d)
 
   listing_to : listing m1 to ≡ entries_of w.node.body
   listing_to = ap (λ o. option_map_or (λ z. entries_of z.node.body) o []) at_to
 
   entries_last : (q : ℕ) → entries u q ≡ listing m2 q
-  entries_last = stays-with (λ o. option_map_or (λ z. entries_of z.node.body) o []) m2 i stand (λ z. entries-with_standing (next_standing t to) z.node.body)
+  entries_last = stays-changed (λ o. option_map_or (λ z. entries_of z.node.body) o []) m2 i stand (λ z. entries-with_standing (next_standing t to) z.node.body)
 
   entries_to : entries u to ≡ listing m1 to ++ e' ∷ []
-  entries_to = entries_last to ∙ ap (λ o. option_map_or (λ z. entries_of z.node.body) o []) (get-with_same m1 to grow ∙ ap (option_map grow) at_to) ∙ grown_entries ∙ ap (λ es. es ++ e' ∷ []) (sym listing_to)
+  entries_to = entries_last to ∙ ap (λ o. option_map_or (λ z. entries_of z.node.body) o []) (get-changed_same m1 to grow ∙ ap (option_map grow) at_to) ∙ grown_entries ∙ ap (λ es. es ++ e' ∷ []) (sym listing_to)
 
   entries_rest : (q : ℕ) → q ≢ to → entries u q ≡ listing m1 q
-  entries_rest q n = entries_last q ∙ ap (λ o. option_map_or (λ z. entries_of z.node.body) o []) (get-with_other m1 to grow q n)
+  entries_rest q n = entries_last q ∙ ap (λ o. option_map_or (λ z. entries_of z.node.body) o []) (get-changed_other m1 to grow q n)
 
   -- an entry that is left
   left : (q : ℕ) (z : Entry) → IsIn z (listing m1 q) → IsIn z (entries t q) × (q ≡ dir → bytes_eq name z.name ≡ false)
@@ -316,7 +316,7 @@ module _ (t : Tree) (sound : IsSound t) (counts : IsCounted t) (dir : ℕ) (name
   listed_at : (q : ℕ) (z : Inode) → inode u q ≡ Some z → IsListed (entries_beside z)
   listed_at =
       let P : Inode → Type 0 = λ z. IsListed (entries_beside z) in
-      each-with P m2 i stand (each-with P m1 to grow (each-with P t.inodes dir shrink sound.listed shrunk_listed) grown_listed)
+      each-changed P m2 i stand (each-changed P m1 to grow (each-changed P t.inodes dir shrink sound.listed shrunk_listed) grown_listed)
       (λ z at h. let R : List Entry → Type 0 = λ es. IsListed (record { list = es; next = z.next_serial }) in subst R (sym (entries-with_standing (next_standing t to) z.node.body)) h)
     where
       shrunk_listed : (z : Inode) → inode t dir ≡ Some z → IsListed (entries_beside z) → IsListed (entries_beside (shrink z))
@@ -337,9 +337,9 @@ module _ (t : Tree) (sound : IsSound t) (counts : IsCounted t) (dir : ℕ) (name
   file_still : (q : ℕ) (z : Inode) → inode u q ≡ Some z → (bytes : List ℕ) → z.node.body ≡ RegularFile bytes → length bytes ≤ file_limit
   file_still =
       let P : Inode → Type 0 = λ z. (bytes : List ℕ) → z.node.body ≡ RegularFile bytes → length bytes ≤ file_limit in
-      each-with P m2 i stand
-      (each-with P m1 to grow
-      (each-with P t.inodes dir shrink (λ q z at bytes h. sound.files_limited q bytes (ap (option_map (λ z. z.node.body)) at ∙ ap Some h))
+      each-changed P m2 i stand
+      (each-changed P m1 to grow
+      (each-changed P t.inodes dir shrink (λ q z at bytes h. sound.files_limited q bytes (ap (option_map (λ z. z.node.body)) at ∙ ap Some h))
       (λ z at h bytes is. h bytes (file-with_entries (without_name name) z.node.body bytes is)))
       (λ z at h bytes is. h bytes (file-with_entries (λ es. es ++ (record { name = new; serial = z.next_serial; inode = i }) ∷ []) z.node.body bytes is)))
       (λ z at h bytes is. h bytes (file-with_standing (next_standing t to) z.node.body bytes is))
@@ -418,16 +418,16 @@ module _ (t : Tree) (sound : IsSound t) (counts : IsCounted t) (dir : ℕ) (name
         (λ z. is_listed-with_entries (λ es. es ++ (record { name = new; serial = z.next_serial; inode = i }) ∷ []) z.node.body)
         (λ z. is_listed-with_standing (next_standing t to) z.node.body) root ∙ sound.root_listed;
     numbered = λ q z h.
-        let two = there-with m2 i stand q z h in
-        let one = there-with m1 to grow q two.0 two.1 in
-        let none = there-with t.inodes dir shrink q one.0 one.1 in
+        let two = there-changed m2 i stand q z h in
+        let one = there-changed m1 to grow q two.0 two.1 in
+        let none = there-changed t.inodes dir shrink q one.0 one.1 in
         sound.numbered q none.0 none.1;
     listed = listed_at;
     emptied = emptied_in;
     alone = alone_in;
     stands = stands_in;
     rises = λ d h. rises_still d (sound.rises d (sym (directories d) ∙ h));
-    inodes_limited = let l = sound.inodes_limited in let one = len-with m2 i stand in let two = len-with m1 to grow in let three = len-with t.inodes dir shrink in omega arith;
+    inodes_limited = let l = sound.inodes_limited in let one = len-changed m2 i stand in let two = len-changed m1 to grow in let three = len-changed t.inodes dir shrink in omega arith;
     names_limited = sound.names_limited;
     bytes_limited = sound.bytes_limited;
     files_limited = λ q bytes h. let z = body_file (inode u q) bytes h in file_still q z.0 z.1 bytes z.2;
@@ -463,9 +463,9 @@ module _ (t : Tree) (sound : IsSound t) (counts : IsCounted t) (dir : ℕ) (name
   directories_still : (q : ℕ) (z : Inode) → inode u q ≡ Some z → z.directories ≡ directories_in t (entries_of z.node.body)
   directories_still =
       let P : Inode → Type 0 = λ z. z.directories ≡ directories_in t (entries_of z.node.body) in
-      each-with P m2 i stand
-      (each-with P m1 to grow
-      (each-with P t.inodes dir shrink (λ q z at. sym (ap (value (λ z. z.directories)) at) ∙ counts.directories q ∙ ap (λ o. directories_in t (option_map_or (λ z. entries_of z.node.body) o [])) at)
+      each-changed P m2 i stand
+      (each-changed P m1 to grow
+      (each-changed P t.inodes dir shrink (λ q z at. sym (ap (value (λ z. z.directories)) at) ∙ counts.directories q ∙ ap (λ o. directories_in t (option_map_or (λ z. entries_of z.node.body) o [])) at)
       fewer) more)
       (λ z at h. h ∙ ap (directories_in t) (sym (entries-with_standing (next_standing t to) z.node.body)))
     where
@@ -530,10 +530,10 @@ module _ (t : Tree) (sound : IsSound t) (counts : IsCounted t) (dir : ℕ) (name
   -- the new entry may come first
   pub grown_first : with_inode dir shrink (with_inode to grow t.inodes) ≡ m2
   grown_first = elim (cases_eq dir to) [
-    | inr d ↦ with-swap t.inodes dir to shrink grow d
+    | inr d ↦ changed-swap t.inodes dir to shrink grow d
     | inl s ↦
         let P : ℕ → Type 0 = λ k. with_inode dir shrink (with_inode k grow t.inodes) ≡ with_inode k grow (with_inode dir shrink t.inodes) in
-        subst P s (with-twice t.inodes dir shrink grow ∙ with-alike t.inodes dir (λ z. shrink (grow z)) (λ z. grow (shrink z)) (λ z at. swapped z (enough z at) (other s)) ∙ sym (with-twice t.inodes dir grow shrink))
+        subst P s (changed-twice t.inodes dir shrink grow ∙ changed-alike t.inodes dir (λ z. shrink (grow z)) (λ z. grow (shrink z)) (λ z at. swapped z (enough z at) (other s)) ∙ sym (changed-twice t.inodes dir grow shrink))
   ]
     where
       other : dir ≡ to → bytes_eq name new ≡ false
@@ -561,7 +561,7 @@ module _ (t : Tree) (sound : IsSound t) (counts : IsCounted t) (dir : ℕ) (name
   pub used-moved : HasNoUnused t → HasNoUnused u
   used-moved used =
       let P : Inode → Type 0 = λ z. is_unused z ≡ false in
-      each-with P m2 i stand (each-with P m1 to grow (each-with P t.inodes dir shrink used (λ z at h. h)) (λ z at h. h)) (λ z at h. h)
+      each-changed P m2 i stand (each-changed P m1 to grow (each-changed P t.inodes dir shrink used (λ z at h. h)) (λ z at h. h)) (λ z at h. h)
 
 pub kept-moved : (t : Tree) → IsKept t → (dir : ℕ) (name : List ℕ) (to : ℕ) (new : List ℕ) (i : ℕ)
     → entry t dir name ≡ Some i → body_is takes_names t to ≡ true → is_name new ≡ true → entry t to new ≡ None → (body_is is_directory t i ≡ true → ¬ IsBelow t i to) → AreBytes new

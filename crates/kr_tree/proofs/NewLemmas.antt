@@ -10,7 +10,7 @@ use Rattle.kr_tree.specs.Tree.{Tree, Inode, Entry, Directory, RegularFile, root,
 use Rattle.kr_inode.specs.Entries.{IsListed}
 use Rattle.kr_tree.specs.Changes.{fresh, new_tree, is_unused}
 use Rattle.kr_tree.specs.Lawful.{IsSound, IsCounted, HasNoUnused, RisesToEnd, AtRoot, IsIn, entries_beside, count_in, directories_in, names_of, total}
-use Rattle.kr_tree.proofs.InodesLemmas.{get-insert_same, get-insert_other, by_inode}
+use Rattle.pr_base.proofs.MapLemmas.{get-insert_same, get-insert_other, by_key}
 use Rattle.kr_inode.proofs.EntryLemmas.{listed-none}
 use Rattle.kr_tree.proofs.CountLemmas.{value, sum-zero, counted-other}
 
@@ -39,7 +39,7 @@ module _ (mode uid gid : ℕ) where
       ]
 
   no_entries : (q : ℕ) → entries t q ≡ []
-  no_entries = by_inode (λ q. entries t q ≡ []) root
+  no_entries = by_key (λ q. entries t q ≡ []) root
       (ap (λ o. option_map_or (λ y. entries_of y.node.body) o []) here)
       (λ q h. ap (λ o. option_map_or (λ y. entries_of y.node.body) o []) (away q h))
 
@@ -47,7 +47,7 @@ module _ (mode uid gid : ℕ) where
   none_in q e h = let P : List Entry → Type 0 = λ es. IsIn e es in subst P (no_entries q) h
 
   nothing : (f : Inode → ℕ) → f x ≡ 0 → total f t ≡ 0
-  nothing f zero = sum-zero f t.inodes t.next (by_inode (λ q. value f (map.get t.inodes q) ≡ 0) root (ap (value f) here ∙ zero) (λ q h. ap (value f) (away q h)))
+  nothing f zero = sum-zero f t.inodes t.next (by_key (λ q. value f (map.get t.inodes q) ≡ 0) root (ap (value f) here ∙ zero) (λ q h. ap (value f) (away q h)))
 
   pub sound-new_tree : IsSound t
   sound-new_tree = record {
@@ -78,12 +78,12 @@ module _ (mode uid gid : ℕ) where
 
   pub counted-new_tree : IsCounted t
   counted-new_tree = record {
-    names = by_inode (λ q. value (λ y. y.names) (inode t q) ≡ names_of t q) root
+    names = by_key (λ q. value (λ y. y.names) (inode t q) ≡ names_of t q) root
         (let is : value (λ y. y.names) (inode t root) ≡ 1 = ap (value (λ y. y.names)) here in
         let none = nothing (λ y. count_in root (entries_of y.node.body)) refl in omega arith)
         (λ q h. let is : value (λ y. y.names) (inode t q) ≡ 0 = ap (value (λ y. y.names)) (away q h) in
         let none = nothing (λ y. count_in q (entries_of y.node.body)) refl in let other = counted-other q root h in omega arith);
-    directories = λ q. by_inode (λ q. value (λ y. y.directories) (inode t q) ≡ 0) root (ap (value (λ y. y.directories)) here) (λ q h. ap (value (λ y. y.directories)) (away q h)) q
+    directories = λ q. by_key (λ q. value (λ y. y.directories) (inode t q) ≡ 0) root (ap (value (λ y. y.directories)) here) (λ q h. ap (value (λ y. y.directories)) (away q h)) q
         ∙ sym (ap (directories_in t) (no_entries q));
     all_names = sym (nothing (λ y. length (entries_of y.node.body)) refl);
     all_bytes = sym (nothing (λ y. length (bytes_of y.node.body)) refl);

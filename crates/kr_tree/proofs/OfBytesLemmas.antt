@@ -8,7 +8,7 @@ use Rattle.kr_inode.specs.declared.standing.Standing.{Standing}
 use Rattle.kr_tree.specs.Tree.{Tree, Inodes, Inode, Body, Directory, RegularFile, SymbolicLink, ProcessDirectory, root, body_is, is_directory}
 use Rattle.kr_tree.specs.Changes.{with_entries, with_standing, with_bytes, without_name, sized, overwritten, with_entry, without_entry, with_body, with_names, unnamed, with_inode, fresh, new_tree, added, linked, moved, next_standing}
 use Rattle.kr_tree.specs.Lawful.{HasBytes, AreBytes, IsOfBytes}
-use Rattle.kr_tree.proofs.InodesLemmas.{get-insert_same, get-insert_other, get-remove_same, get-remove_other, by_inode, each-with}
+use Rattle.pr_base.proofs.MapLemmas.{get-insert_same, get-insert_other, get-remove_same, get-remove_other, by_key, each-changed}
 
 -- ---- lists
 
@@ -88,7 +88,7 @@ abbrev pub AreOfBytes : Inodes → Type 0
 AreOfBytes m = (q : ℕ) (z : Inode) → map.get m q ≡ Some z → IsOfBytes z.node.body
 
 pub of_bytes-insert : (m : Inodes) (k : ℕ) (x : Inode) → AreOfBytes m → IsOfBytes x.node.body → AreOfBytes (map.insert m k x)
-of_bytes-insert m k x are is = by_inode (λ q. (z : Inode) → map.get (map.insert m k x) q ≡ Some z → IsOfBytes z.node.body) k
+of_bytes-insert m k x are is = by_key (λ q. (z : Inode) → map.get (map.insert m k x) q ≡ Some z → IsOfBytes z.node.body) k
     (λ z at. let same : Some x ≡ Some z = sym (get-insert_same m k x) ∙ at in subst (λ y. IsOfBytes y.node.body) (same_inode x z same) is)
     (λ q other z at. are q z (sym (get-insert_other m k x q other) ∙ at))
   where
@@ -96,7 +96,7 @@ of_bytes-insert m k x are is = by_inode (λ q. (z : Inode) → map.get (map.inse
     same_inode y z e = cc
 
 pub of_bytes-removed : (m : Inodes) (k : ℕ) → AreOfBytes m → AreOfBytes (map.remove m k)
-of_bytes-removed m k are = by_inode (λ q. (z : Inode) → map.get (map.remove m k) q ≡ Some z → IsOfBytes z.node.body) k
+of_bytes-removed m k are = by_key (λ q. (z : Inode) → map.get (map.remove m k) q ≡ Some z → IsOfBytes z.node.body) k
     (λ z at. absurd (none z (sym (get-remove_same m k) ∙ at)))
     (λ q other z at. are q z (sym (get-remove_other m k q other) ∙ at))
   where
@@ -104,7 +104,7 @@ of_bytes-removed m k are = by_inode (λ q. (z : Inode) → map.get (map.remove m
     none z e = cc
 
 pub of_bytes-with : (m : Inodes) (k : ℕ) (g : Inode → Inode) → AreOfBytes m → ((z : Inode) → IsOfBytes z.node.body → IsOfBytes (g z).node.body) → AreOfBytes (with_inode k g m)
-of_bytes-with m k g are step = each-with (λ z. IsOfBytes z.node.body) m k g are (λ z at. step z)
+of_bytes-with m k g are step = each-changed (λ z. IsOfBytes z.node.body) m k g are (λ z at. step z)
 
 -- ---- what each change leaves
 

@@ -9,7 +9,8 @@ use Rattle.kr_tree.specs.Tree.{Tree, Inode, Inodes, inode, entry, entry_named, e
 use Rattle.kr_tree.specs.Names.{is_name}
 use Rattle.kr_tree.specs.Changes.{with_inode, with_body, with_standing, with_entry, without_entry, without_name, next_serial, next_standing, moved, unlinked, unnamed, without_unused, freed, is_unused, counted}
 use Rattle.kr_tree.specs.Lawful.{IsKept, IsBelow, Here, Below, directories_in, AreBytes}
-use Rattle.kr_tree.proofs.InodesLemmas.{get-with_same, get-with_other, stays-with, with-swap, with-twice, get-unused_other, unused_same, unused-with}
+use Rattle.pr_base.proofs.MapLemmas.{get-changed_same, get-changed_other, stays-changed, changed-swap, changed-twice}
+use Rattle.kr_tree.proofs.InodesLemmas.{get-unused_other, unused_same, unused-with}
 use Rattle.kr_inode.proofs.EntryLemmas.{named_in, named-without, named-gone}
 use Rattle.kr_inode.proofs.BodyLemmas.{entries-with_entries, standing-with_entries, is_directory-with_entries, takes-with_entries, takes-is_listed, filled-entries, standing-without}
 use Rattle.kr_tree.proofs.AddLemmas.{passing}
@@ -44,14 +45,14 @@ module _ (t : Tree) (h : IsKept t) (dir : ℕ) (name : List ℕ) (to : ℕ) (new
   to_apart s = has_entry t to new old there (ap (body_is is_filled t) s ∙ empty)
 
   other_is : (q : ℕ) → q ≢ old → inode v q ≡ map.get m q
-  other_is q n = get-unused_other (with_inode old unnamed m) old q n ∙ get-with_other m old unnamed q n
+  other_is q n = get-unused_other (with_inode old unnamed m) old q n ∙ get-changed_other m old unnamed q n
 
   stays : {A : Type 0} (f : Option Inode → A) → ((z : Inode) → f (Some (shrink z)) ≡ f (Some z)) → (q : ℕ) → q ≢ old → f (inode v q) ≡ f (inode t q)
-  stays f same q n = ap f (other_is q n) ∙ stays-with f t.inodes to shrink same q
+  stays f same q n = ap f (other_is q n) ∙ stays-changed f t.inodes to shrink same q
 
   standing_old : standing v old ≡ None
   standing_old = unused_same (option_and_then (λ z. standing_of z.node.body)) (with_inode old unnamed m) old
-      (ap (option_and_then (λ z. standing_of z.node.body)) (get-with_same m old unnamed) ∙ none (map.get m old))
+      (ap (option_and_then (λ z. standing_of z.node.body)) (get-changed_same m old unnamed) ∙ none (map.get m old))
     where
       none : (o : Option Inode) → option_and_then (λ z. standing_of z.node.body) (option_map unnamed o) ≡ None
       none None = refl
@@ -73,7 +74,7 @@ module _ (t : Tree) (h : IsKept t) (dir : ℕ) (name : List ℕ) (to : ℕ) (new
   entries_to : entries v to ≡ without_name new (entries t to)
   entries_to =
       let w = passing takes_names (inode t to) takes in
-      ap (λ o. option_map_or (λ z. entries_of z.node.body) o []) (other_is to to_apart ∙ get-with_same t.inodes to shrink ∙ ap (option_map shrink) w.1)
+      ap (λ o. option_map_or (λ z. entries_of z.node.body) o []) (other_is to to_apart ∙ get-changed_same t.inodes to shrink ∙ ap (option_map shrink) w.1)
       ∙ entries-with_entries (without_name new) w.0.node.body (takes-is_listed w.0.node.body w.2)
       ∙ ap (λ o. without_name new (option_map_or (λ z. entries_of z.node.body) o [])) (sym w.1)
 
@@ -92,7 +93,7 @@ module _ (t : Tree) (h : IsKept t) (dir : ℕ) (name : List ℕ) (to : ℕ) (new
       found : entry_named name (entries v dir) ≡ entry_named name (entries t dir)
       found = elim (cases_eq dir to) [
         | inl s ↦ ap (λ k. entry_named name (entries v k)) s ∙ ap (entry_named name) entries_to ∙ named-without name new (entries t to) (names_apart s) ∙ ap (λ k. entry_named name (entries t k)) (sym s)
-        | inr d ↦ ap (λ o. entry_named name (option_map_or (λ z. entries_of z.node.body) o [])) (other_is dir dir_apart ∙ get-with_other t.inodes to shrink dir d)
+        | inr d ↦ ap (λ o. entry_named name (option_map_or (λ z. entries_of z.node.body) o [])) (other_is dir dir_apart ∙ get-changed_other t.inodes to shrink dir d)
       ]
 
   takes_still : body_is takes_names v to ≡ true
@@ -120,15 +121,15 @@ module _ (t : Tree) (h : IsKept t) (dir : ℕ) (name : List ℕ) (to : ℕ) (new
   grow_last : replaced ≡ with_inode to (with_entry new i (body_is is_directory t i)) (with_inode old unnamed m)
   grow_last =
       ap (λ b. with_inode old unnamed (with_inode to (λ z. with_entry new i (body_is is_directory t i) (without_entry new b z)) t.inodes)) (sym alike)
-      ∙ ap (with_inode old unnamed) (sym (with-twice t.inodes to (with_entry new i (body_is is_directory t i)) shrink))
-      ∙ with-swap m old to unnamed (with_entry new i (body_is is_directory t i)) (λ s. to_apart (sym s))
+      ∙ ap (with_inode old unnamed) (sym (changed-twice t.inodes to (with_entry new i (body_is is_directory t i)) shrink))
+      ∙ changed-swap m old to unnamed (with_entry new i (body_is is_directory t i)) (λ s. to_apart (sym s))
 
   dropped_last : without_unused old replaced ≡ with_inode to (with_entry new i (body_is is_directory t i)) v.inodes
   dropped_last = ap (without_unused old) grow_last ∙ unused-with (with_inode old unnamed m) old to (with_entry new i (body_is is_directory t i)) (λ s. to_apart (sym s))
 
   freed_same : freed old replaced ≡ freed old (with_inode old unnamed m)
   freed_same = ap (freed old) grow_last
-      ∙ ap (λ o. cond (option_map_or is_unused o false) (option_map_or (λ z. length (bytes_of z.node.body)) o 0) 0) (get-with_other (with_inode old unnamed m) to (with_entry new i (body_is is_directory t i)) old (λ s. to_apart (sym s)))
+      ∙ ap (λ o. cond (option_map_or is_unused o false) (option_map_or (λ z. length (bytes_of z.node.body)) o 0) 0) (get-changed_other (with_inode old unnamed m) to (with_entry new i (body_is is_directory t i)) old (λ s. to_apart (sym s)))
 
   abbrev form : ℕ → Bool → Inodes → Inodes
   form n b k = with_inode i (with_body (with_standing (Some (record { inode = to; serial = n })))) (with_inode dir (without_entry name b) k)
@@ -154,7 +155,7 @@ module _ (t : Tree) (h : IsKept t) (dir : ℕ) (name : List ℕ) (to : ℕ) (new
   pub name_to_lose : 0 < option_map_or (λ z. z.names) (map.get (with_inode to regrow t.inodes) old) 1
   name_to_lose =
       subst (λ o. 0 < option_map_or (λ z. z.names) o 1)
-      (get-with_other t.inodes to shrink old (λ s. to_apart (sym s)) ∙ sym (get-with_other t.inodes to regrow old (λ s. to_apart (sym s))))
+      (get-changed_other t.inodes to shrink old (λ s. to_apart (sym s)) ∙ sym (get-changed_other t.inodes to regrow old (λ s. to_apart (sym s))))
       (name_left t h to new old there empty (body_is is_directory t old))
 
   -- a directory is counted where one is replaced

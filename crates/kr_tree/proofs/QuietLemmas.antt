@@ -7,7 +7,7 @@ use Rattle.kr_tree.specs.Tree.{Tree, Inode, Inodes, Entry, RegularFile, root, in
 use Rattle.kr_inode.specs.Entries.{IsListed}
 use Rattle.kr_tree.specs.Changes.{with_inode, with_body, with_bytes, size, is_unused, count_limit, byte_limit, file_limit}
 use Rattle.kr_tree.specs.Lawful.{IsKept, IsSound, IsCounted, HasNoUnused, RisesToEnd, AtRoot, AtRemoved, Above, IsIn, entries_beside, count_in, directories_in, total, sum_below, AreBytes, IsOfBytes}
-use Rattle.kr_tree.proofs.InodesLemmas.{get-with_same, get-with_other, len-with, by_inode}
+use Rattle.pr_base.proofs.MapLemmas.{get-changed_same, get-changed_other, len-changed, by_key}
 use Rattle.kr_tree.proofs.OfBytesLemmas.{of_bytes-with, of_bytes-with_bytes}
 use Rattle.kr_inode.proofs.BodyLemmas.{entries-with_bytes, standing-with_bytes, is_directory-with_bytes, is_listed-with_bytes, file-with_bytes}
 use Rattle.kr_tree.proofs.AddLemmas.{passing}
@@ -92,12 +92,12 @@ module _ (t : Tree) (k : ℕ) (g : Inode → Inode) (quiet : IsQuiet g) (bytes :
   u = record { inodes = with_inode k g t.inodes; next = t.next; names = t.names; bytes = bytes }
 
   at : inode u k ≡ option_map g (inode t k)
-  at = get-with_same t.inodes k g
+  at = get-changed_same t.inodes k g
 
   stays : {A : Type 0} (f : Option Inode → A) → ((x : Inode) → f (Some (g x)) ≡ f (Some x)) → (q : ℕ) → f (inode u q) ≡ f (inode t q)
-  stays f same = by_inode (λ q. f (inode u q) ≡ f (inode t q)) k
+  stays f same = by_key (λ q. f (inode u q) ≡ f (inode t q)) k
       (ap f at ∙ mapped (inode t k))
-      (λ q d. ap f (get-with_other t.inodes k g q d))
+      (λ q d. ap f (get-changed_other t.inodes k g q d))
     where
       mapped : (o : Option Inode) → f (option_map g o) ≡ f o
       mapped None = refl
@@ -125,20 +125,20 @@ module _ (t : Tree) (k : ℕ) (g : Inode → Inode) (quiet : IsQuiet g) (bytes :
       mapped (Some x) y h = (x, refl, ap (λ o. option_map_or entries_beside o (entries_beside y)) (sym h) ∙ beside x)
 
       there : (q : ℕ) (y : Inode) → inode u q ≡ Some y → (x : Inode) × (inode t q ≡ Some x) × (entries_beside y ≡ entries_beside x)
-      there = by_inode (λ q. (y : Inode) → inode u q ≡ Some y → (x : Inode) × (inode t q ≡ Some x) × (entries_beside y ≡ entries_beside x)) k
+      there = by_key (λ q. (y : Inode) → inode u q ≡ Some y → (x : Inode) × (inode t q ≡ Some x) × (entries_beside y ≡ entries_beside x)) k
           (λ y h. mapped (inode t k) y (sym at ∙ h))
-          (λ q d y h. (y, sym (get-with_other t.inodes k g q d) ∙ h, refl))
+          (λ q d y h. (y, sym (get-changed_other t.inodes k g q d) ∙ h, refl))
 
   -- the bytes in all
   total-quiet : (f : Inode → ℕ) → ((q : ℕ) (x : Inode) → inode t q ≡ Some x → q < t.next) → total f u + value f (inode t k) ≡ total f t + value f (option_map g (inode t k))
   total-quiet f low = elim (inode t k) as (λ o. inode t k ≡ o → total f u + value f o ≡ total f t + value f (option_map g o)) [
     | None ↦ λ h.
-        let same = sum-same f t.inodes u.inodes t.next (by_inode (λ q. q < t.next → value f (inode u q) ≡ value f (inode t q)) k
+        let same = sum-same f t.inodes u.inodes t.next (by_key (λ q. q < t.next → value f (inode u q) ≡ value f (inode t q)) k
         (λ _. ap (value f) (at ∙ ap (option_map g) h) ∙ sym (ap (value f) h))
-        (λ q d _. ap (value f) (get-with_other t.inodes k g q d))) in
+        (λ q d _. ap (value f) (get-changed_other t.inodes k g q d))) in
         omega arith
     | Some x ↦ λ h.
-        let changed = sum-changed f t.inodes u.inodes k t.next (low k x h) (λ q d. get-with_other t.inodes k g q d) in
+        let changed = sum-changed f t.inodes u.inodes k t.next (low k x h) (λ q d. get-changed_other t.inodes k g q d) in
         let was : value f (map.get t.inodes k) ≡ f x = ap (value f) h in
         let is : value f (map.get u.inodes k) ≡ f (g x) = ap (value f) (at ∙ ap (option_map g) h) in
         omega arith
@@ -148,10 +148,10 @@ module _ (t : Tree) (k : ℕ) (g : Inode → Inode) (quiet : IsQuiet g) (bytes :
       → ((x : Inode) (bs : List ℕ) → inode t k ≡ Some x → (g x).node.body ≡ RegularFile bs → length bs ≤ file_limit)
       → IsSound u
   sound-quiet sound limit files =
-      sound-alike t u looks-quiet sound (let l = sound.inodes_limited in let same = len-with t.inodes k g in omega arith) limit
-      (λ i bs. by_inode (λ i. body u i ≡ Some (RegularFile bs) → length bs ≤ file_limit) k
+      sound-alike t u looks-quiet sound (let l = sound.inodes_limited in let same = len-changed t.inodes k g in omega arith) limit
+      (λ i bs. by_key (λ i. body u i ≡ Some (RegularFile bs) → length bs ≤ file_limit) k
       (λ is. mapped bs (inode t k) refl (sym (ap (option_map (λ x. x.node.body)) at) ∙ is))
-      (λ q d is. sound.files_limited q bs (sym (ap (option_map (λ x. x.node.body)) (get-with_other t.inodes k g q d)) ∙ is)) i)
+      (λ q d is. sound.files_limited q bs (sym (ap (option_map (λ x. x.node.body)) (get-changed_other t.inodes k g q d)) ∙ is)) i)
     where
       mapped : (bs : List ℕ) (o : Option Inode) → inode t k ≡ o → option_map (λ x. x.node.body) (option_map g o) ≡ Some (RegularFile bs) → length bs ≤ file_limit
       mapped bs None at h = absurd cc
@@ -164,9 +164,9 @@ module _ (t : Tree) (k : ℕ) (g : Inode → Inode) (quiet : IsQuiet g) (bytes :
 
   pub used-quiet : HasNoUnused t → ((x : Inode) → is_unused x ≡ false → is_unused (g x) ≡ false) → HasNoUnused u
   used-quiet h used =
-      by_inode (λ i. (y : Inode) → inode u i ≡ Some y → is_unused y ≡ false) k
+      by_key (λ i. (y : Inode) → inode u i ≡ Some y → is_unused y ≡ false) k
       (λ y is. unused y (inode t k) refl (sym at ∙ is))
-      (λ q d y is. h q y (sym (get-with_other t.inodes k g q d) ∙ is))
+      (λ q d y is. h q y (sym (get-changed_other t.inodes k g q d) ∙ is))
     where
       unused : (y : Inode) (o : Option Inode) → inode t k ≡ o → option_map g o ≡ Some y → is_unused y ≡ false
       unused y None at h = absurd cc

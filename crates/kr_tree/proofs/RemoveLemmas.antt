@@ -9,7 +9,8 @@ use Rattle.kr_tree.specs.Tree.{Tree, Inode, Inodes, Entry, Body, RegularFile, ro
 use Rattle.kr_inode.specs.Entries.{IsListed}
 use Rattle.kr_tree.specs.Changes.{with_inode, without_entry, without_name, unnamed, unlinked, without_unused, freed, is_unused, counted, file_limit}
 use Rattle.kr_tree.specs.Lawful.{IsKept, IsSound, IsCounted, RisesToEnd, AtRoot, AtRemoved, Above, IsIn, entries_beside, count_in, directories_in, names_of, total}
-use Rattle.kr_tree.proofs.InodesLemmas.{get-with_same, get-with_other, len-with, stays-names}
+use Rattle.pr_base.proofs.MapLemmas.{get-changed_same, get-changed_other, len-changed}
+use Rattle.kr_tree.proofs.InodesLemmas.{stays-names}
 use Rattle.kr_tree.proofs.OfBytesLemmas.{of_bytes-parted}
 use Rattle.kr_inode.proofs.EntryLemmas.{listed-without, named_in, in_named, in_above, serial_alone, in_without, in_still, weighed, weighed-without}
 use Rattle.kr_inode.proofs.BodyLemmas.{entries-with_entries, standing-with_entries, is_directory-with_entries, is_listed-with_entries, bytes-with_entries, file-with_entries, entries-with_standing, is_directory-with_standing, is_listed-with_standing, bytes-with_standing, file-with_standing, standing-without, filled-entries, entries-is_listed}
@@ -107,13 +108,13 @@ module _ (t : Tree) (sound : IsSound t) (counts : IsCounted t) (dir : ℕ) (name
   shrunk = shrink x
 
   dir_is : inode u dir ≡ Some shrunk
-  dir_is = get-with_other middle i unnamed dir apart ∙ get-with_same t.inodes dir shrink ∙ ap (option_map shrink) at_dir
+  dir_is = get-changed_other middle i unnamed dir apart ∙ get-changed_same t.inodes dir shrink ∙ ap (option_map shrink) at_dir
 
   i_is : inode u i ≡ Some (unnamed y)
-  i_is = get-with_same middle i unnamed ∙ ap (option_map unnamed) (get-with_other t.inodes dir shrink i (λ s. apart (sym s)) ∙ at_i)
+  i_is = get-changed_same middle i unnamed ∙ ap (option_map unnamed) (get-changed_other t.inodes dir shrink i (λ s. apart (sym s)) ∙ at_i)
 
   other_is : (q : ℕ) → q ≢ dir → q ≢ i → inode u q ≡ inode t q
-  other_is q d n = get-with_other middle i unnamed q n ∙ get-with_other t.inodes dir shrink q d
+  other_is q d n = get-changed_other middle i unnamed q n ∙ get-changed_other t.inodes dir shrink q d
 
   by : (P : ℕ → Type 0) → P dir → P i → ((q : ℕ) → q ≢ dir → q ≢ i → P q) → (q : ℕ) → P q
   by P here there rest q =
@@ -251,7 +252,7 @@ module _ (t : Tree) (sound : IsSound t) (counts : IsCounted t) (dir : ℕ) (name
       | inr n ↦ let was = sound.stands d s away (sym (standing_other d n) ∙ h) in (was.0, kept s.inode (record { name = was.0; serial = s.serial; inode = d }) n was.1)
     ];
     rises = λ d h. rises_still d (sound.rises d (sym (directories d) ∙ h));
-    inodes_limited = let l = sound.inodes_limited in let one = len-with middle i unnamed in let two = len-with t.inodes dir shrink in omega arith;
+    inodes_limited = let l = sound.inodes_limited in let one = len-changed middle i unnamed in let two = len-changed t.inodes dir shrink in omega arith;
     names_limited = let l = sound.names_limited in omega arith;
     bytes_limited = sound.bytes_limited;
     files_limited = λ q bytes. by (λ q. body u q ≡ Some (RegularFile bytes) → length bytes ≤ file_limit)
@@ -264,11 +265,11 @@ module _ (t : Tree) (sound : IsSound t) (counts : IsCounted t) (dir : ℕ) (name
 
   total_parted : (f : Inode → ℕ) → f (unnamed y) ≡ f y → total f u + f x ≡ total f t + f shrunk
   total_parted f same =
-      let one = sum-changed f t.inodes middle dir t.next ((sound.numbered dir x at_dir).1) (λ q d. get-with_other t.inodes dir shrink q d) in
-      let two = sum-changed f middle u.inodes i t.next ((sound.numbered i y at_i).1) (λ q d. get-with_other middle i unnamed q d) in
+      let one = sum-changed f t.inodes middle dir t.next ((sound.numbered dir x at_dir).1) (λ q d. get-changed_other t.inodes dir shrink q d) in
+      let two = sum-changed f middle u.inodes i t.next ((sound.numbered i y at_i).1) (λ q d. get-changed_other middle i unnamed q d) in
       let was : value f (map.get t.inodes dir) ≡ f x = ap (value f) at_dir in
-      let now : value f (map.get middle dir) ≡ f shrunk = ap (value f) (get-with_same t.inodes dir shrink ∙ ap (option_map shrink) at_dir) in
-      let was_i : value f (map.get middle i) ≡ f y = ap (value f) (get-with_other t.inodes dir shrink i (λ s. apart (sym s)) ∙ at_i) in
+      let now : value f (map.get middle dir) ≡ f shrunk = ap (value f) (get-changed_same t.inodes dir shrink ∙ ap (option_map shrink) at_dir) in
+      let was_i : value f (map.get middle i) ≡ f y = ap (value f) (get-changed_other t.inodes dir shrink i (λ s. apart (sym s)) ∙ at_i) in
       let now_i : value f (map.get u.inodes i) ≡ f (unnamed y) = ap (value f) i_is in
       omega arith
 

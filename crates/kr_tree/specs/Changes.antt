@@ -2,6 +2,7 @@
 use Rattle.std.specs.Prelude.{ℕ, ◌+◌, ◌-◌, Bool, false, ◌||◌, List, [], length, Option, Some, None, nat_eq, nat_le, nat_lt, if◌then◌else◌}
 use Rattle.std.specs.FinMap as map
 use Rattle.std.specs.Option.{option_map_or}
+use Rattle.pr_base.specs.Maps.{changed}
 use Rattle.kr_inode.specs.declared.standing.Standing.{Standing}
 use Rattle.kr_tree.specs.Tree.{Tree, Inodes, Inode, Body, Directory, root, inode, entry, is_directory, bytes_of, body_is}
 -- changes of a node by itself
@@ -10,8 +11,8 @@ pub use Rattle.kr_inode.specs.Changes.{with_entries, with_standing, with_bytes, 
 -- ---- the inodes
 
 -- the inodes with f done to the one of a number, if it is there
-unfoldable pub with_inode : ℕ → (Inode → Inode) → Inodes → Inodes
-with_inode i f m = option_map_or (λ x. map.insert m i (f x)) (map.get m i) m
+abbrev pub with_inode : ℕ → (Inode → Inode) → Inodes → Inodes
+with_inode i f m = changed m i f
 
 -- the serial that the next entry of a directory takes
 abbrev pub next_serial : Tree → ℕ → ℕ

@@ -5,7 +5,6 @@ use Rattle.std.specs.Result.{IsErr, IsErrAnd}
 use Rattle.pr_base.specs.Paths.{Component, Dot, DotDot, Name, components_of, has_slash}
 use Rattle.pr_base.specs.WalkFrame.{Landing, ends, fails, begins_at, landed, after_jump, onward, jumps_on, is_followed, wants_directory, may_be_free, target_at, name_of, ends_landed, Missing, Leads, Links, Jumps}
 use Rattle.pr_base.specs.declared.errno.Errno.TheVariants.{ENOTDIR}
-use Rattle.pr_base.specs.declared.path.Last.TheVariants as last
 use Rattle.pr_base.specs.declared.path.WalkMode.{WalkMode}
 use Rattle.kr_tree.specs.declared.place.Place.{Place}
 use Rattle.kr_view.specs.declared.procs.Lead.{Lead}

@@ -1,5 +1,5 @@
 -- What comes of a step.
-use Rattle.std.proofs.Common.{◌≡◌, ◌≢◌, ◌-◌, ℕ, zero, suc, Bool, true, false, List, [], ◌∷◌, ◌++◌, Some, None, Result, Ok, Err, refl, sym, ap, subst, ◌∙◌}
+use Rattle.std.proofs.Common.{◌≡◌, ◌≢◌, ◌-◌, ℕ, zero, suc, Bool, true, false, List, [], ◌++◌, Some, Result, Ok, Err, refl, sym, ap, subst, ◌∙◌}
 use Rattle.std.specs.Bool.{if◌then◌else◌}
 use Rattle.std.specs.Result.{IsErr, IsErrAnd}
 use Rattle.pr_base.specs.Paths.{Component, components_of}
@@ -17,7 +17,7 @@ use Rattle.kr_view.specs.declared.walk.Walk.{Walk}
 use Rattle.kr_view.specs.declared.walk.Step.{Step}
 use Rattle.kr_view.specs.View.{node_in}
 use Rattle.kr_view.specs.Leads.{numbered}
-use Rattle.kr_view.specs.Component.{Surroundings, SeenPlace, is_directory_at, landing, seen_link}
+use Rattle.kr_view.specs.Component.{Surroundings, is_directory_at, landing, seen_link}
 use Rattle.kr_view.specs.Walk.{PlaceTrail, PlaceTarget, looking}
 use Rattle.kr_view.specs.Reach.{Covers, reached_landing, reach_after}
 use Rattle.kr_view.specs.inside.Stacks.{stack_of}

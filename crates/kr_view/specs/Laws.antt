@@ -1,5 +1,5 @@
 -- Laws of views and of walks over them.
-use Rattle.std.specs.Prelude.{ℕ, ◌≡◌, ◌≢◌, Bool, true, false, List, [], ◌∷◌, Option, Some, None, Ok}
+use Rattle.std.specs.Prelude.{ℕ, ◌≡◌, ◌≢◌, Bool, true, false, List, [], Some, Ok}
 use Rattle.std.specs.Option.{option_map}
 use Rattle.pr_base.specs.Paths.{components_of, AreNames, text_of}
 use Rattle.pr_base.specs.WalkFrame.{ends_here}

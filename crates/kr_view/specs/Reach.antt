@@ -1,6 +1,6 @@
 -- What a walk reaches: the longest host name of a place or free name, its base included, and whether it
 -- looks up a name in the process directory. A place without a name doesn't count.
-use Rattle.std.specs.Prelude.{ℕ, ◌≤◌, ◌≡◌, Bool, true, false, ◌||◌, List, [], ◌∷◌, length, max, Option, Some, None, Result, Ok, Err, if◌then◌else◌}
+use Rattle.std.specs.Prelude.{ℕ, ◌≤◌, ◌≡◌, true, ◌||◌, List, [], ◌∷◌, length, max, Option, Some, None, Result, Ok, Err}
 use Rattle.std.specs.Option.{option_map}
 use Rattle.pr_base.specs.Paths.{text_of, below_root}
 use Rattle.pr_base.specs.WalkFrame.{Fails, Missing, Leads, Links, Jumps, Landing, LookedAt}

@@ -5,14 +5,14 @@ ghost use Rattle.rv_table.specs.Encoding.{IsValid};
 ghost use Rattle.rv_asm.specs.Program.{place_of};
 ghost use Rattle.pr_gen.specs.Draft.{Draft, Grows, longer};
 
-use pr_base::{Bytes, NoMemory};
+use pr_base::{Bytes, NoMemory, PAGE_SIZE};
 use rv_asm::{Asm, AsmFault};
 use rv_table::Instr;
 use std::alloc::Global;
 use std::marker::Model;
 
-/// The size of a page, in bytes.
-const PAGE_BYTES: usize = 4096;
+/// The size of a page, as a length.
+const PAGE_LENGTH: usize = PAGE_SIZE as usize;
 
 /// Code without conditional branches to labels: a branch stands over a jump, which reaches farther. So
 /// no label is out of reach in a code of less than 2^20 bytes.
@@ -113,8 +113,8 @@ impl Code {
         requires { self.old.size < 2 ^ 32 }
         ensures { OnOk result (Grows 4096 self.old self.new) }
     {
-        let rest = (PAGE_BYTES - self.size % PAGE_BYTES) % PAGE_BYTES;
-        self.bytes(&[0; PAGE_BYTES][..rest])
+        let rest = (PAGE_LENGTH - self.size % PAGE_LENGTH) % PAGE_LENGTH;
+        self.bytes(&[0; PAGE_LENGTH][..rest])
     }
 
     /// The code, where each label is bound.

@@ -8,7 +8,7 @@ use Rattle.rv_mem.specs.Page.{PageState, grants, page_written}
 use Rattle.rv_mem.specs.Pages.{Pages, with_page, written, byte_at, is_marked, allows, allows_all, any_marked, bytes_from, IsWhole}
 use Rattle.rv_mem.specs.Memory.{Memory, with_pages, after_read}
 use Rattle.rv_mem.specs.Actions.{Action, Done, MayUse, ReadBytes, WriteBytes, CarriedOut, carried_out, allows_uses, rights_of, AreEqualUnmarked, ReadsAlike}
-use Rattle.rv_mem.proofs.PagesLemmas.{get-with_page_same, get-with_page_other}
+use Rattle.pr_base.proofs.MapLemmas.{get-changed_same, get-changed_other}
 use Rattle.rv_mem.proofs.SpaceLemmas.{IsWhole-written}
 use Rattle.rv_mem.proofs.AddressLemmas.{byte_at-written_other, is_marked-written_other, byte_at-written_in}
 use Rattle.rv_mem.proofs.ChangeLemmas.{contains-with_page}
@@ -65,10 +65,10 @@ rights_kept m k i b q =
     elim (cases_eq q k) [
       | inl e ↦
           ap (rights_of (with_page m k (page_written i (b ∷ [])))) e
-          ∙ ap (option_map (λ p. p.rights)) (get-with_page_same m k (page_written i (b ∷ [])))
+          ∙ ap (option_map (λ p. p.rights)) (get-changed_same m k (page_written i (b ∷ [])))
           ∙ rights_mapped i b (map.get m k)
           ∙ ap (rights_of m) (sym e)
-      | inr n ↦ ap (option_map (λ p. p.rights)) (get-with_page_other m k (page_written i (b ∷ [])) q n)
+      | inr n ↦ ap (option_map (λ p. p.rights)) (get-changed_other m k (page_written i (b ∷ [])) q n)
     ]
 
 there_by_rights : (o : Option PageState) → is_some o ≡ is_some (option_map (λ p. p.rights) o)

@@ -8,7 +8,7 @@ use Rattle.std.proofs.lemmas.List.{get_or-set_same, get_or-set_other}
 use Rattle.rv_mem.specs.declared.rights.Use.{Use}
 use Rattle.rv_mem.specs.Page.{PageState, grants, page_written, page_marked}
 use Rattle.rv_mem.specs.Pages.{Pages, with_page, written, marked, byte_at, is_marked, allows, IsWhole}
-use Rattle.rv_mem.proofs.PagesLemmas.{get-with_page_same, get-with_page_other}
+use Rattle.pr_base.proofs.MapLemmas.{get-changed_same, get-changed_other}
 use Rattle.rv_mem.proofs.SpaceLemmas.{IsWhole-written, IsWhole-marked}
 use Rattle.rv_mem.proofs.ChangeLemmas.{contains-with_page}
 
@@ -24,8 +24,8 @@ read_same f d g (Some p) h = h p refl
 read_kept : {X : Type 0} (f : PageState → X) (d : X) (m : Pages) (k : ℕ) (g : PageState → PageState) (q : ℕ) → (q ≡ k → (p : PageState) → f (g p) ≡ f p) → read_from f d (with_page m k g) q ≡ read_from f d m q
 read_kept f d m k g q h =
     elim (cases_eq q k) [
-      | inl e ↦ ap (read_from f d (with_page m k g)) e ∙ ap (λ o. option_map_or f o d) (get-with_page_same m k g) ∙ read_same f d g (map.get m k) (λ p is. h e p) ∙ ap (read_from f d m) (sym e)
-      | inr n ↦ ap (λ o. option_map_or f o d) (get-with_page_other m k g q n)
+      | inl e ↦ ap (read_from f d (with_page m k g)) e ∙ ap (λ o. option_map_or f o d) (get-changed_same m k g) ∙ read_same f d g (map.get m k) (λ p is. h e p) ∙ ap (read_from f d m) (sym e)
+      | inr n ↦ ap (λ o. option_map_or f o d) (get-changed_other m k g q n)
     ]
 
 pub allows-written : (m : Pages) (at : ℕ) (bs : List ℕ) (a : ℕ) (what : Use) → allows (written m at bs) a what ≡ allows m a what
@@ -77,7 +77,7 @@ byte_at-written_in m at (b ∷ bs) zero whole l there =
     let first = with_page m (at / 4096) (page_written (at % 4096) (b ∷ [])) in
     ap (byte_at (written first (at + 1) bs)) here
     ∙ byte_at-written_other first (at + 1) bs at (λ k l e. absurd (omega arith))
-    ∙ ap (λ o. option_map_or (λ p. get_or p.bytes (at % 4096) 0) o 0) (get-with_page_same m (at / 4096) (page_written (at % 4096) (b ∷ [])))
+    ∙ ap (λ o. option_map_or (λ p. get_or p.bytes (at % 4096) 0) o 0) (get-changed_same m (at / 4096) (page_written (at % 4096) (b ∷ [])))
     ∙ byte_set m at b (map.get m (at / 4096)) refl whole (ap (λ a. map.contains_key m (a / 4096)) (sym here) ∙ there)
 byte_at-written_in m at (b ∷ bs) (suc k) whole l there =
     let next : at + suc k ≡ at + 1 + k = omega arith in
@@ -131,7 +131,7 @@ is_marked-marked_in m at (suc n) zero whole l there =
     let first = with_page m (at / 4096) (page_marked (at % 4096) 1) in
     ap (is_marked (marked first (at + 1) n)) here
     ∙ is_marked-marked_other first (at + 1) n at (λ k l e. absurd (omega arith))
-    ∙ ap (λ o. option_map_or (λ p. get_or p.marks (at % 4096) false) o false) (get-with_page_same m (at / 4096) (page_marked (at % 4096) 1))
+    ∙ ap (λ o. option_map_or (λ p. get_or p.marks (at % 4096) false) o false) (get-changed_same m (at / 4096) (page_marked (at % 4096) 1))
     ∙ mark_set m at (map.get m (at / 4096)) refl whole (ap (λ a. map.contains_key m (a / 4096)) (sym here) ∙ there)
 is_marked-marked_in m at (suc n) (suc k) whole l there =
     let next : at + suc k ≡ at + 1 + k = omega arith in
@@ -156,7 +156,7 @@ is_marked-written_in m at (b ∷ bs) zero whole l =
     let first = with_page m (at / 4096) (page_written (at % 4096) (b ∷ [])) in
     ap (is_marked (written first (at + 1) bs)) here
     ∙ is_marked-written_other first (at + 1) bs at (λ k l e. absurd (omega arith))
-    ∙ ap (λ o. option_map_or (λ p. get_or p.marks (at % 4096) false) o false) (get-with_page_same m (at / 4096) (page_written (at % 4096) (b ∷ [])))
+    ∙ ap (λ o. option_map_or (λ p. get_or p.marks (at % 4096) false) o false) (get-changed_same m (at / 4096) (page_written (at % 4096) (b ∷ [])))
     ∙ mark_cleared m at b (map.get m (at / 4096)) refl whole
 is_marked-written_in m at (b ∷ bs) (suc k) whole l =
     let next : at + suc k ≡ at + 1 + k = omega arith in

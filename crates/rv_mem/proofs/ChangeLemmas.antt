@@ -7,7 +7,7 @@ use Rattle.std.proofs.lemmas.Bool.{cases_eq}
 use Rattle.rv_mem.specs.declared.rights.Rights.{Rights}
 use Rattle.rv_mem.specs.Page.{PageState, fresh_page, page_written, page_marked}
 use Rattle.rv_mem.specs.Pages.{Pages, with_page, written, marked, mapped, unmapped, protected}
-use Rattle.rv_mem.proofs.PagesLemmas.{by_page, get-insert_same, get-insert_other, get-remove_same, get-remove_other, get-with_page_same, get-with_page_other, with_page_some, with_page_none}
+use Rattle.pr_base.proofs.MapLemmas.{by_key, get-insert_same, get-insert_other, get-remove_same, get-remove_other, get-changed_same, get-changed_other, changed-some, changed-none}
 
 -- ---- which pages are there
 
@@ -17,9 +17,9 @@ is_some-map f (Some p) = refl
 
 pub contains-with_page : (m : Pages) (k : ℕ) (f : PageState → PageState) (q : ℕ) → map.contains_key (with_page m k f) q ≡ map.contains_key m q
 contains-with_page m k f =
-    by_page (λ q. map.contains_key (with_page m k f) q ≡ map.contains_key m q) k
-    (ap is_some (get-with_page_same m k f) ∙ is_some-map f (map.get m k))
-    (λ q h. ap is_some (get-with_page_other m k f q h))
+    by_key (λ q. map.contains_key (with_page m k f) q ≡ map.contains_key m q) k
+    (ap is_some (get-changed_same m k f) ∙ is_some-map f (map.get m k))
+    (λ q h. ap is_some (get-changed_other m k f q h))
 
 pub contains-written : (m : Pages) (at : ℕ) (bs : List ℕ) (q : ℕ) → map.contains_key (written m at bs) q ≡ map.contains_key m q
 unfolding written
@@ -42,8 +42,8 @@ len-same : (m n : Pages) (k : ℕ) (p : PageState) → map.contains_key m k ≡ 
 len-same m n k p h = map.len-insert nat_cmp_total m k p ∙ ap (λ b. cond b (map.len m) (map.len m + 1)) h
 
 len-changed : (m : Pages) (k : ℕ) (f : PageState → PageState) (o : Option PageState) → map.get m k ≡ o → map.len (with_page m k f) ≡ map.len m
-len-changed m k f None e = ap map.len (with_page_none m k f e)
-len-changed m k f (Some p) e = ap map.len (with_page_some m k f p e) ∙ len-same m m k (f p) (ap is_some e)
+len-changed m k f None e = ap map.len (changed-none m k f e)
+len-changed m k f (Some p) e = ap map.len (changed-some m k f p e) ∙ len-same m m k (f p) (ap is_some e)
 
 pub len-with_page : (m : Pages) (k : ℕ) (f : PageState → PageState) → map.len (with_page m k f) ≡ map.len m
 len-with_page m k f = len-changed m k f (map.get m k) refl

@@ -15,46 +15,12 @@ use Rattle.std.specs.declared.ops.Bound.TheVariants.{Included, Excluded}
 use Rattle.std.specs.BTreeMap.{BTreeMap, is_at, get_by, Updates, UpdatesBy}
 use Rattle.rv_mem.specs.Page.{PageState}
 use Rattle.rv_mem.specs.Pages.{Pages, with_page, HasNoPages}
-use Rattle.rv_mem.proofs.PagesLemmas.{same_pages, by_page, with_page_some, with_page_none, ties-other, get-insert_same, get-insert_other, get-remove_same, get-remove_other}
+use Rattle.pr_base.proofs.BTreeLemmas.{get-view, inserted}
+use Rattle.pr_base.proofs.MapLemmas.{changed-some, changed-none}
 
 -- the entries of a tree as a finite map
 abbrev pub pages_of : List (ℕ × PageState) → Pages
 pages_of es = map.from_entries es
-
-found : (q : ℕ) (es : List (ℕ × PageState)) → map.find nat_cmp q es ≡ lookup (is_at (nat_cmp q)) es
-found q [] = refl
-found q (e ∷ es) = ap (cond (eq_by_cmp nat_cmp q e.0) (Some e.1)) (found q es)
-
-pub get-pages_of : (es : List (ℕ × PageState)) (q : ℕ) → map.get (pages_of es) q ≡ lookup (is_at (nat_cmp q)) es
-get-pages_of es q = map.get-from_entries nat_cmp_total es q ∙ found q es
-
-pub get-view : (es : List (ℕ × PageState)) (m : Pages) (q : ℕ) → pages_of es ≡ m → lookup (is_at (nat_cmp q)) es ≡ map.get m q
-get-view es m q e = sym (get-pages_of es q) ∙ ap (λ r. map.get r q) e
-
-pub inserted : (m n : BTreeMap ℕ PageState) (old : Pages) (k : ℕ) (p : PageState) → pages_of m.entries ≡ old → Updates nat_cmp m n k (Some p) → pages_of n.entries ≡ map.insert old k p
-inserted m n old k p e u =
-    same_pages _ _ (by_page (λ q. map.get (pages_of n.entries) q ≡ map.get (map.insert old k p) q) k
-    (get-pages_of n.entries k ∙ u.1 ∙ sym (get-insert_same old k p))
-    (λ q h. get-pages_of n.entries q ∙ u.2 q (ties-other k q (λ w. h (sym w))) ∙ get-view m.entries old q e ∙ sym (get-insert_other old k p q h)))
-
-pub removed : (m n : BTreeMap ℕ PageState) (old : Pages) (k : ℕ) → pages_of m.entries ≡ old → Updates nat_cmp m n k None → pages_of n.entries ≡ map.remove old k
-removed m n old k e u =
-    same_pages _ _ (by_page (λ q. map.get (pages_of n.entries) q ≡ map.get (map.remove old k) q) k
-    (get-pages_of n.entries k ∙ u.1 ∙ sym (get-remove_same old k))
-    (λ q h. get-pages_of n.entries q ∙ u.2 q (ties-other k q (λ w. h (sym w))) ∙ get-view m.entries old q e ∙ sym (get-remove_other old k q h)))
-
-above : (x : ℕ) (es : List (ℕ × PageState)) → AllByRecursion (λ y. nat_cmp x y ≡ Less) (keys_of es) → lookup (is_at (nat_cmp x)) es ≡ None
-above x [] h = refl
-above x (e ∷ es) h = ap (λ r. cond (is_eq r) (Some e.1) (lookup (is_at (nat_cmp x)) es)) h.0 ∙ above x es h.1
-
--- each entry is counted once
-pub len-pages_of : (es : List (ℕ × PageState)) → IsStrictlySortedBy nat_cmp (keys_of es) → map.len (pages_of es) ≡ length es
-len-pages_of [] h = map.len-empty nat_cmp PageState
-len-pages_of (e ∷ es) h =
-    map.len-insert nat_cmp_total (pages_of es) e.0 e.1
-    ∙ ap (λ o. cond (is_some o) (map.len (pages_of es)) (map.len (pages_of es) + 1)) (get-pages_of es e.0 ∙ above e.0 es (sorted_head nat_cmp e.0 (keys_of es) h))
-    ∙ ap (λ n. n + 1) (len-pages_of es (sorted_tail nat_cmp e.0 (keys_of es) h))
-    ∙ add-one (length es)
 
 -- the page at a number changed in place
 pub changed : (m n : BTreeMap ℕ PageState) (old : Pages) (k : ℕ) (f : PageState → PageState) (p w : PageState)
@@ -63,13 +29,13 @@ pub changed : (m n : BTreeMap ℕ PageState) (old : Pages) (k : ℕ) (f : PageSt
 changed m n old k f p w e there u is =
     inserted m n old k w e (u (subst IsSome there refl))
     ∙ ap (map.insert old k) is
-    ∙ sym (with_page_some old k f p (sym (get-view m.entries old k e) ∙ sym there))
+    ∙ sym (changed-some old k f p (sym (get-view m.entries old k e) ∙ sym there))
 
 -- no page at a number
 pub unchanged : (m n : BTreeMap ℕ PageState) (old : Pages) (k : ℕ) (f : PageState → PageState)
     → pages_of m.entries ≡ old → None ≡ get_by (nat_cmp k) m → n ≡ m → pages_of n.entries ≡ with_page old k f
 unchanged m n old k f e absent same =
-    ap (λ t. pages_of t.entries) same ∙ e ∙ sym (with_page_none old k f (sym (get-view m.entries old k e) ∙ sym absent))
+    ap (λ t. pages_of t.entries) same ∙ e ∙ sym (changed-none old k f (sym (get-view m.entries old k e) ∙ sym absent))
 
 is_some-copied : (o : Option (Bor PageState)) → is_some (option_copied o) ≡ is_some o
 is_some-copied None = refl

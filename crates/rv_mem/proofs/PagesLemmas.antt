@@ -8,89 +8,16 @@ use Rattle.std.specs.List.{list_any}
 use Rattle.std.proofs.lemmas.Bool.{cases_eq}
 use Rattle.std.proofs.lemmas.Bool.Decides.{nat_tests}
 use Rattle.std.proofs.lemmas.List.{drop_more}
+use Rattle.pr_base.proofs.MapLemmas.{changed-id, changed-none, changed-twice, changed-alike}
 use Rattle.rv_mem.specs.declared.rights.Use.{Use}
 use Rattle.rv_mem.specs.Page.{PageState, page_written, page_marked}
 use Rattle.rv_mem.specs.Pages.{Pages, with_page, written, marked, page_allows, allows, allows_all, byte_at, bytes_from, is_marked, any_marked, HasNoPages}
 
--- two memories with the same pages are the same
-pub same_pages : (m n : Pages) → ((q : ℕ) → map.get m q ≡ map.get n q) → m ≡ n
-same_pages m n h = map.same_map nat_cmp_total map.nat_cmp-IsAntisymmetric m n h
-
-pub ties-same : (q : ℕ) → eq_by_cmp nat_cmp q q ≡ true
-ties-same q = grind (arith, nat_tests)
-
-pub ties-other : (q k : ℕ) → q ≢ k → eq_by_cmp nat_cmp q k ≡ false
-ties-other q k h = grind (arith, nat_tests)
-
-pub get-insert_same : (m : Pages) (k : ℕ) (p : PageState) → map.get (map.insert m k p) k ≡ Some p
-get-insert_same m k p = map.get-insert nat_cmp_total m k p k ∙ ap (λ b. cond b (Some p) (map.get m k)) (ties-same k)
-
-pub get-insert_other : (m : Pages) (k : ℕ) (p : PageState) (q : ℕ) → q ≢ k → map.get (map.insert m k p) q ≡ map.get m q
-get-insert_other m k p q h = map.get-insert nat_cmp_total m k p q ∙ ap (λ b. cond b (Some p) (map.get m q)) (ties-other q k h)
-
-pub get-remove_same : (m : Pages) (k : ℕ) → map.get (map.remove m k) k ≡ None
-get-remove_same m k = map.get-remove nat_cmp_total m k k ∙ ap (λ b. cond b None (map.get m k)) (ties-same k)
-
-pub get-remove_other : (m : Pages) (k : ℕ) (q : ℕ) → q ≢ k → map.get (map.remove m k) q ≡ map.get m q
-get-remove_other m k q h = map.get-remove nat_cmp_total m k q ∙ ap (λ b. cond b None (map.get m q)) (ties-other q k h)
-
-pub get-with_page_same : (m : Pages) (k : ℕ) (f : PageState → PageState) → map.get (with_page m k f) k ≡ option_map f (map.get m k)
-unfolding with_page
-get-with_page_same m k f =
-    elim (map.get m k) as (λ o. map.get m k ≡ o → map.get (option_map_or (λ p. map.insert m k (f p)) o m) k ≡ option_map f o) [
-      | None ↦ λ e. e
-      | Some p ↦ λ e. get-insert_same m k (f p)
-    ] refl
-
-pub get-with_page_other : (m : Pages) (k : ℕ) (f : PageState → PageState) (q : ℕ) → q ≢ k → map.get (with_page m k f) q ≡ map.get m q
-unfolding with_page
-get-with_page_other m k f q h =
-    elim (map.get m k) as (λ o. map.get (option_map_or (λ p. map.insert m k (f p)) o m) q ≡ map.get m q) [
-      | None ↦ refl
-      | Some p ↦ get-insert_other m k (f p) q h
-    ]
-
--- by the page that is looked up: the one that was changed, or another
-pub by_page : (P : ℕ → Type 0) (k : ℕ) → P k → ((q : ℕ) → q ≢ k → P q) → (q : ℕ) → P q
-by_page P k here there q = elim (cases_eq q k) [ inl e ↦ subst P (sym e) here | inr h ↦ there q h ]
-
-map-map : (f g : PageState → PageState) (o : Option PageState) → option_map g (option_map f o) ≡ option_map (λ p. g (f p)) o
-map-map f g None = refl
-map-map f g (Some p) = refl
-
-map-same : (f g : PageState → PageState) → ((p : PageState) → f p ≡ g p) → (o : Option PageState) → option_map f o ≡ option_map g o
-map-same f g h None = refl
-map-same f g h (Some p) = ap Some (h p)
-
-map-id : (o : Option PageState) → option_map (λ p. p) o ≡ o
-map-id None = refl
-map-id (Some p) = refl
-
 pub with_page_twice : (m : Pages) (k : ℕ) (f g : PageState → PageState) → with_page (with_page m k f) k g ≡ with_page m k (λ p. g (f p))
-with_page_twice m k f g =
-    same_pages _ _ (by_page (λ q. map.get (with_page (with_page m k f) k g) q ≡ map.get (with_page m k (λ p. g (f p))) q) k
-    (get-with_page_same (with_page m k f) k g ∙ ap (option_map g) (get-with_page_same m k f) ∙ map-map f g (map.get m k) ∙ sym (get-with_page_same m k (λ p. g (f p))))
-    (λ q h. get-with_page_other (with_page m k f) k g q h ∙ get-with_page_other m k f q h ∙ sym (get-with_page_other m k (λ p. g (f p)) q h)))
+with_page_twice m k f g = changed-twice m k g f
 
 pub with_page_same : (m : Pages) (k : ℕ) (f g : PageState → PageState) → ((p : PageState) → f p ≡ g p) → with_page m k f ≡ with_page m k g
-with_page_same m k f g e =
-    same_pages _ _ (by_page (λ q. map.get (with_page m k f) q ≡ map.get (with_page m k g) q) k
-    (get-with_page_same m k f ∙ map-same f g e (map.get m k) ∙ sym (get-with_page_same m k g))
-    (λ q h. get-with_page_other m k f q h ∙ sym (get-with_page_other m k g q h)))
-
-pub with_page_id : (m : Pages) (k : ℕ) → with_page m k (λ p. p) ≡ m
-with_page_id m k =
-    same_pages _ _ (by_page (λ q. map.get (with_page m k (λ p. p)) q ≡ map.get m q) k
-    (get-with_page_same m k (λ p. p) ∙ map-id (map.get m k))
-    (λ q h. get-with_page_other m k (λ p. p) q h))
-
-pub with_page_none : (m : Pages) (k : ℕ) (f : PageState → PageState) → map.get m k ≡ None → with_page m k f ≡ m
-unfolding with_page
-with_page_none m k f e = ap (λ o. option_map_or (λ p. map.insert m k (f p)) o m) e
-
-pub with_page_some : (m : Pages) (k : ℕ) (f : PageState → PageState) (p : PageState) → map.get m k ≡ Some p → with_page m k f ≡ map.insert m k (f p)
-unfolding with_page
-with_page_some m k f p e = ap (λ o. option_map_or (λ p. map.insert m k (f p)) o m) e
+with_page_same m k f g same = changed-alike m k f g (λ p there. same p)
 
 -- ---- bytes inside one page
 
@@ -106,7 +33,7 @@ page_marked-suc i n p = ap (λ j. page_marked j n (page_marked i 1 p)) (add-one 
 -- writing inside one page changes that page
 pub written_in_page : (m : Pages) (k i at : ℕ) (bs : List ℕ) → at ≡ k * 4096 + i → i + length bs ≤ 4096 → written m at bs ≡ with_page m k (page_written i bs)
 unfolding written
-written_in_page m k i at [] e h = sym (with_page_id m k)
+written_in_page m k i at [] e h = sym (changed-id m k)
 written_in_page m k i at (b ∷ bs) e h =
     let number : at / 4096 ≡ k = omega arith in
     let place : at % 4096 ≡ i = omega arith in
@@ -119,7 +46,7 @@ written_in_page m k i at (b ∷ bs) e h =
 -- marking inside one page changes that page
 pub marked_in_page : (m : Pages) (k i at n : ℕ) → at ≡ k * 4096 + i → i + n ≤ 4096 → marked m at n ≡ with_page m k (page_marked i n)
 unfolding marked
-marked_in_page m k i at zero e h = sym (with_page_id m k)
+marked_in_page m k i at zero e h = sym (changed-id m k)
 marked_in_page m k i at (suc n) e h =
     let number : at / 4096 ≡ k = omega arith in
     let place : at % 4096 ≡ i = omega arith in
@@ -135,7 +62,7 @@ unfolding marked
 marked_nowhere m at zero from to none low high = refl
 marked_nowhere m at (suc n) from to none low high =
     let here : map.get m (at / 4096) ≡ None = none (at / 4096) low (omega arith) in
-    ap (λ r. marked r (at + 1) n) (with_page_none m (at / 4096) (page_marked (at % 4096) 1) here)
+    ap (λ r. marked r (at + 1) n) (changed-none m (at / 4096) (page_marked (at % 4096) 1) here)
     ∙ marked_nowhere m (at + 1) n from to none (omega arith) (omega arith)
 
 -- ---- one range after another

@@ -9,7 +9,7 @@ use Rattle.rv_mem.specs.Page.{PageState, fresh_page, page_written, page_marked, 
 use Rattle.rv_mem.specs.Pages.{Pages, with_page, written, marked, mapped, unmapped, protected, IsPlaced, IsWhole}
 use Rattle.rv_mem.proofs.ChangeLemmas.{contains-written, contains-marked, contains-protected, get-mapped_out, get-unmapped_in, get-unmapped_out}
 use Rattle.rv_mem.proofs.PageLemmas.{length-zero_bytes, length-no_marks}
-use Rattle.rv_mem.proofs.PagesLemmas.{by_page, get-insert_same, get-insert_other, get-remove_same, get-remove_other, get-with_page_same, get-with_page_other}
+use Rattle.pr_base.proofs.MapLemmas.{by_key, get-insert_same, get-insert_other, get-remove_same, get-remove_other, get-changed_same, get-changed_other}
 use Rattle.rv_mem.proofs.TableLemmas.{by_range}
 
 pub IsPlaced-empty : IsPlaced map.empty
@@ -49,13 +49,13 @@ IsWhole-empty k p h = let none : None ≡ Some p = sym (map.get-empty nat_cmp k)
 
 IsWhole-insert : (m : Pages) (k : ℕ) (w : PageState) → WholePage w → IsWhole m → IsWhole (map.insert m k w)
 IsWhole-insert m k w h whole =
-    by_page (λ q. (p : PageState) → map.get (map.insert m k w) q ≡ Some p → WholePage p) k
+    by_key (λ q. (p : PageState) → map.get (map.insert m k w) q ≡ Some p → WholePage p) k
     (λ p e. whole_some w p h (sym (get-insert_same m k w) ∙ e))
     (λ q d p e. whole q p (sym (get-insert_other m k w q d) ∙ e))
 
 IsWhole-remove : (m : Pages) (k : ℕ) → IsWhole m → IsWhole (map.remove m k)
 IsWhole-remove m k whole =
-    by_page (λ q. (p : PageState) → map.get (map.remove m k) q ≡ Some p → WholePage p) k
+    by_key (λ q. (p : PageState) → map.get (map.remove m k) q ≡ Some p → WholePage p) k
     (λ p e. let none : None ≡ Some p = sym (get-remove_same m k) ∙ e in absurd cc)
     (λ q d p e. whole q p (sym (get-remove_other m k q d) ∙ e))
 
@@ -65,9 +65,9 @@ whole_map f (Some w) h p e = whole_some (f w) p (h w refl) e
 
 IsWhole-with_page : (m : Pages) (k : ℕ) (f : PageState → PageState) → ((p : PageState) → WholePage p → WholePage (f p)) → IsWhole m → IsWhole (with_page m k f)
 IsWhole-with_page m k f keeps whole =
-    by_page (λ q. (p : PageState) → map.get (with_page m k f) q ≡ Some p → WholePage p) k
-    (λ p e. whole_map f (map.get m k) (λ w is. keeps w (whole k w is)) p (sym (get-with_page_same m k f) ∙ e))
-    (λ q d p e. whole q p (sym (get-with_page_other m k f q d) ∙ e))
+    by_key (λ q. (p : PageState) → map.get (with_page m k f) q ≡ Some p → WholePage p) k
+    (λ p e. whole_map f (map.get m k) (λ w is. keeps w (whole k w is)) p (sym (get-changed_same m k f) ∙ e))
+    (λ q d p e. whole q p (sym (get-changed_other m k f q d) ∙ e))
 
 pub IsWhole-written : (m : Pages) (at : ℕ) (bs : List ℕ) → IsWhole m → IsWhole (written m at bs)
 unfolding written

@@ -10,7 +10,8 @@ use Rattle.std.proofs.lemmas.List.Folds.{list_any-append}
 use Rattle.rv_mem.specs.declared.rights.Rights.{Rights}
 use Rattle.rv_mem.specs.Page.{PageState, fresh_page, page_with_rights}
 use Rattle.rv_mem.specs.Pages.{Pages, with_page, mapped, unmapped, protected, marked, has_pages, HasNoPages}
-use Rattle.rv_mem.proofs.PagesLemmas.{same_pages, get-insert_same, get-insert_other, get-remove_same, get-remove_other, get-with_page_same, get-with_page_other, marked-add, marked_nowhere}
+use Rattle.pr_base.proofs.MapLemmas.{same_values, get-insert_same, get-insert_other, get-remove_same, get-remove_other, get-changed_same, get-changed_other}
+use Rattle.rv_mem.proofs.PagesLemmas.{marked-add, marked_nowhere}
 use Rattle.rv_mem.proofs.ChangeLemmas.{len-mapped_more, len-mapped-le, get-mapped_in, get-mapped_out, get-unmapped_in, get-unmapped_out}
 
 -- ---- counting
@@ -138,7 +139,7 @@ pub undone : (old m new : Pages) (xs : List ℕ) (i : ℕ)
     → ((q : ℕ) → list_any (nat_eq q) xs ≡ false → map.get new q ≡ map.get m q)
     → new ≡ old
 undone old m new xs i absent others gone kept =
-    same_pages new old (λ q. go q (list_any (nat_eq q) xs) refl)
+    same_values new old (λ q. go q (list_any (nat_eq q) xs) refl)
   where
     go : (q : ℕ) (b : Bool) → list_any (nat_eq q) xs ≡ b → map.get new q ≡ map.get old q
     go q true e = none_from (map.get new q) (gone q e) ∙ sym (none_from (map.get old q) (absent q e))
@@ -183,10 +184,10 @@ pub fresh_more : (m : Pages) (first k : ℕ) (p : PageState) → map.contains_ke
     → (j : ℕ) → j < k + 1 → map.get (with_page m (first + k) (λ _. p)) (first + j) ≡ Some p
 fresh_more m first k p there so_far j l =
     elim (cases_eq j k) [
-      | inl e ↦ ap (λ i. map.get (with_page m (first + k) (λ _. p)) (first + i)) e ∙ get-with_page_same m (first + k) (λ _. p) ∙ always p (map.get m (first + k)) there
+      | inl e ↦ ap (λ i. map.get (with_page m (first + k) (λ _. p)) (first + i)) e ∙ get-changed_same m (first + k) (λ _. p) ∙ always p (map.get m (first + k)) there
       | inr d ↦
           let other : first + j ≢ first + k = λ e. d (omega arith) in
-          get-with_page_other m (first + k) (λ _. p) (first + j) other ∙ so_far j (omega arith)
+          get-changed_other m (first + k) (λ _. p) (first + j) other ∙ so_far j (omega arith)
     ]
 
 pub by_range : (P : ℕ → Type 0) (first count : ℕ) → ((k : ℕ) → k < count → P (first + k)) → ((q : ℕ) → ((k : ℕ) → k < count → q ≢ first + k) → P q) → (q : ℕ) → P q
@@ -205,7 +206,7 @@ pub mapped_from : (old m : Pages) (first count : ℕ) (rights : Rights)
     → ((j : ℕ) → j < count → map.get m (first + j) ≡ Some (fresh_page rights))
     → m ≡ mapped old first count rights
 mapped_from old m first count rights outside fresh =
-    same_pages m (mapped old first count rights) (by_range (λ q. map.get m q ≡ map.get (mapped old first count rights) q) first count
+    same_values m (mapped old first count rights) (by_range (λ q. map.get m q ≡ map.get (mapped old first count rights) q) first count
     (λ k l. fresh k l ∙ sym (get-mapped_in old first count rights k l))
     (λ q apart. outside q apart ∙ sym (get-mapped_out old first count rights q apart)))
 
@@ -214,7 +215,7 @@ pub unmapped_from : (old m : Pages) (first count : ℕ)
     → ((j : ℕ) → j < count → map.get m (first + j) ≡ None)
     → m ≡ unmapped old first count
 unmapped_from old m first count outside gone =
-    same_pages m (unmapped old first count) (by_range (λ q. map.get m q ≡ map.get (unmapped old first count) q) first count
+    same_values m (unmapped old first count) (by_range (λ q. map.get m q ≡ map.get (unmapped old first count) q) first count
     (λ k l. gone k l ∙ sym (get-unmapped_in old first count k l))
     (λ q apart. outside q apart ∙ sym (get-unmapped_out old first count q apart)))
 

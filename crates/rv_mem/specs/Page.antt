@@ -6,6 +6,7 @@ use Rattle.rv_mem.specs.declared.rights.Rights.{Rights}
 use Rattle.rv_mem.specs.declared.rights.Use.{Use}
 use Rattle.rv_mem.specs.declared.rights.Use.TheVariants.{Read, Write, Execute}
 use Rattle.rv_mem.specs.Marks.{no_marks}
+use Rattle.pr_base.specs.Page.{page_size}
 
 -- whether the rights allow a use
 abbrev pub grants : Rights → Use → Bool
@@ -30,7 +31,7 @@ page_code =
     (λ s. (s.bytes, (s.rights, s.marks))) (λ p. record { bytes = p.0; rights = p.1.0; marks = p.1.1 }) (λ _. refl)
 
 unfoldable pub zero_bytes : List ℕ
-zero_bytes = replicate 4096 0
+zero_bytes = replicate page_size 0
 
 -- a page as it is mapped: zeros without a mark
 abbrev pub fresh_page : Rights → PageState

@@ -5,9 +5,11 @@ use Rattle.std.specs.Prelude.{◌≡◌, ◌≤◌, ◌<◌, Some, None, length,
 use Rattle.std.specs.Option.{option_map_or}
 use Rattle.std.specs.Ordering.{nat_cmp}
 use Rattle.std.specs.Coded.{Coded, coded_ℕ}
+use Rattle.pr_base.specs.Maps.{changed}
 use Rattle.rv_mem.specs.declared.rights.Rights.{Rights}
 use Rattle.rv_mem.specs.declared.rights.Use.{Use}
 use Rattle.rv_mem.specs.Page.{PageState, page_code, fresh_page, grants, page_with_rights, page_written, page_marked}
+use Rattle.pr_base.specs.Page.{page_size}
 
 abbrev pub Pages : Type 0
 Pages = map.FinMap nat_cmp PageState
@@ -19,11 +21,11 @@ pages_code = map.code coded_ℕ page_code
 
 -- the byte at an address, and 0 where there is no page
 abbrev pub byte_at : Pages → ℕ → ℕ
-byte_at m a = option_map_or (λ p. slice_index p.bytes (a % 4096)) (map.get m (a / 4096)) 0
+byte_at m a = option_map_or (λ p. slice_index p.bytes (a % page_size)) (map.get m (a / page_size)) 0
 
 -- whether the byte at an address is marked
 abbrev pub is_marked : Pages → ℕ → Bool
-is_marked m a = option_map_or (λ p. slice_index_or p.marks (a % 4096) false) (map.get m (a / 4096)) false
+is_marked m a = option_map_or (λ p. slice_index_or p.marks (a % page_size) false) (map.get m (a / page_size)) false
 
 -- whether the page at a number is there and allows a use
 abbrev pub page_allows : Pages → ℕ → Use → Bool
@@ -31,7 +33,7 @@ page_allows m number what = option_map_or (λ p. grants p.rights what) (map.get 
 
 -- whether the byte at an address is there and allows a use
 abbrev pub allows : Pages → ℕ → Use → Bool
-allows m a what = page_allows m (a / 4096) what
+allows m a what = page_allows m (a / page_size) what
 
 -- ---- ranges of addresses
 
@@ -61,7 +63,7 @@ HasNoPages m from to = (k : ℕ) → from ≤ k → k < to → map.get m k ≡ N
 
 -- each of n bytes from an address on is there
 abbrev pub HasPagesAt : Pages → ℕ → ℕ → Type 0
-HasPagesAt m at n = (k : ℕ) → k < n → map.contains_key m ((at + k) / 4096) ≡ true
+HasPagesAt m at n = (k : ℕ) → k < n → map.contains_key m ((at + k) / page_size) ≡ true
 
 -- a read into these bytes was refused: one of them isn't allowed, and they are as before
 pub record IsRefused (m : Pages) (at : ℕ) (what : Use) (old new : List ℕ) : Type 0 where
@@ -84,23 +86,23 @@ IsPlaced m = (k : ℕ) → map.contains_key m k ≡ true → k < 67108863
 
 -- every page has 4,096 bytes and as many marks
 abbrev pub IsWhole : Pages → Type 0
-IsWhole m = (k : ℕ) (p : PageState) → map.get m k ≡ Some p → (length p.bytes ≡ 4096) × (length p.marks ≡ 4096)
+IsWhole m = (k : ℕ) (p : PageState) → map.get m k ≡ Some p → (length p.bytes ≡ page_size) × (length p.marks ≡ page_size)
 
 -- ---- changes
 
 -- the pages with f done to the one at a number, if one is there
-unfoldable pub with_page : Pages → ℕ → (PageState → PageState) → Pages
-with_page m number f = option_map_or (λ p. map.insert m number (f p)) (map.get m number) m
+abbrev pub with_page : Pages → ℕ → (PageState → PageState) → Pages
+with_page m number f = changed m number f
 
 -- the bytes written from an address on
 unfoldable pub written : Pages → ℕ → List ℕ → Pages
 written m at [] = m
-written m at (b ∷ bs) = written (with_page m (at / 4096) (page_written (at % 4096) (b ∷ []))) (at + 1) bs
+written m at (b ∷ bs) = written (with_page m (at / page_size) (page_written (at % page_size) (b ∷ []))) (at + 1) bs
 
 -- the n bytes from an address on marked, those apart that aren't there
 unfoldable pub marked : Pages → ℕ → ℕ → Pages
 marked m at zero = m
-marked m at (suc n) = marked (with_page m (at / 4096) (page_marked (at % 4096) 1)) (at + 1) n
+marked m at (suc n) = marked (with_page m (at / page_size) (page_marked (at % page_size) 1)) (at + 1) n
 
 -- n fresh pages from a number on, in place of those that are there
 unfoldable pub mapped : Pages → ℕ → ℕ → Rights → Pages

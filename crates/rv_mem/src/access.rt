@@ -1,10 +1,11 @@
 //! Bytes read and written over several pages.
+ghost use Rattle.pr_base.specs.Page.{page_size};
 ghost use Rattle.std.specs.Prelude.{◌≡◌, ◌↔◌, ◌+◌, ◌%◌, ◌^◌, ◌<◌, ◌≤◌, length, false, IsTrue, MatchOption};
 ghost use Rattle.std.specs.FinMap as map;
 
-use crate::frame::PAGE_BYTES;
 use crate::rights::Use;
 use crate::table::Table;
+use pr_base::PAGE_SIZE;
 
 impl<const MARKED: u8> Table<MARKED> {
     ghost use Rattle.rv_mem.specs.Pages.{allows_all, any_marked, bytes_from, written, HasPagesAt, IsPlaced, IsRefused, IsRead};
@@ -18,10 +19,10 @@ impl<const MARKED: u8> Table<MARKED> {
         let mut next = at;
         let mut left = count;
         while left > 0 {
-            if !self.allows(next / PAGE_BYTES, what) {
+            if !self.allows(next / PAGE_SIZE, what) {
                 return false;
             }
-            let here = (PAGE_BYTES - next % PAGE_BYTES).min(left);
+            let here = (PAGE_SIZE - next % PAGE_SIZE).min(left);
             next += here;
             left -= here;
         }
@@ -39,7 +40,7 @@ impl<const MARKED: u8> Table<MARKED> {
         let mut marked = false;
         while done < into.len() {
             let next = at + done as u64;
-            let room = (PAGE_BYTES - next % PAGE_BYTES) as usize;
+            let room = (PAGE_SIZE - next % PAGE_SIZE) as usize;
             let count = room.min(into.len() - done);
             let seen = self.read(next, &mut into[done..done + count]);
             marked |= seen;
@@ -56,7 +57,7 @@ impl<const MARKED: u8> Table<MARKED> {
         let mut done = 0;
         while done < bytes.len() {
             let next = at + done as u64;
-            let room = (PAGE_BYTES - next % PAGE_BYTES) as usize;
+            let room = (PAGE_SIZE - next % PAGE_SIZE) as usize;
             let count = room.min(bytes.len() - done);
             self.write(next, &bytes[done..done + count]);
             done += count;
@@ -91,7 +92,7 @@ impl<const MARKED: u8> Table<MARKED> {
 
 /// Whether so many bytes from an address on are some, and lie in one page: then one look-up is enough.
 fn lie_in_a_page(at: u64, count: usize) -> bool
-    ensures { IsTrue result ↔ ((0 < count) × (at % 4096 + count ≤ 4096)) }
+    ensures { IsTrue result ↔ ((0 < count) × (at % page_size + count ≤ page_size)) }
 {
-    count > 0 && count as u64 <= PAGE_BYTES - at % PAGE_BYTES
+    count > 0 && count as u64 <= PAGE_SIZE - at % PAGE_SIZE
 }

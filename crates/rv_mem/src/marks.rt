@@ -1,10 +1,11 @@
 //! The marks of a page's bytes.
+ghost use Rattle.pr_base.specs.Page.{page_size};
 ghost use Rattle.std.specs.Prelude.{◌≡◌, ◌≢◌, ◌+◌, ◌-◌, ◌≤◌, take, drop, replicate, length, IfOk, false, true};
 ghost use Rattle.std.specs.List.{list_any};
 ghost use Rattle.std.proofs.Math.Seq.{sets};
 ghost use Rattle.rv_mem.specs.Marks.{no_marks};
 
-use crate::frame::PAGE_SIZE;
+use crate::frame::PAGE_LENGTH;
 use std::alloc::{AllocError, Global};
 use std::marker::Model;
 
@@ -35,7 +36,7 @@ impl<const MARKED: u8> Marks<MARKED> {
                 stored: Vec::new(alloc),
             });
         }
-        let stored = vec![in alloc; false; PAGE_SIZE]?;
+        let stored = vec![in alloc; false; PAGE_LENGTH]?;
         Ok(Marks { stored })
     }
 
@@ -57,7 +58,7 @@ impl<const MARKED: u8> Marks<MARKED> {
     /// Takes the marks of the bytes from an index up to, but without, another away.
     pub fn clear(&mut self, from: usize, to: usize)
         requires ordered { from ≤ to }
-        requires within { to ≤ 4096 }
+        requires within { to ≤ page_size }
         ensures { self.new ≡ sets self.old from (replicate (to - from) false) }
     {
         if MARKED != 0 {
@@ -69,7 +70,7 @@ impl<const MARKED: u8> Marks<MARKED> {
     pub fn set(&mut self, from: usize, to: usize)
         requires kept { MARKED ≢ 0 }
         requires ordered { from ≤ to }
-        requires within { to ≤ 4096 }
+        requires within { to ≤ page_size }
         ensures { self.new ≡ sets self.old from (replicate (to - from) true) }
     {
         set_all(&mut self.stored, from, to, true);
@@ -77,7 +78,7 @@ impl<const MARKED: u8> Marks<MARKED> {
 
     /// Whether one of the `count` bytes from an index on is marked.
     pub fn any(&self, from: usize, count: usize) -> bool
-        requires { from + count ≤ 4096 }
+        requires { from + count ≤ page_size }
         ensures { result ≡ list_any (λ m. m) (take count (drop from self.now)) }
     {
         MARKED != 0 && self.stored[from..from + count].iter().any(|mark| *mark)

@@ -1,4 +1,5 @@
 //! A page of a process's memory.
+ghost use Rattle.pr_base.specs.Page.{page_size};
 ghost use Rattle.std.specs.Prelude.{◌≡◌, ◌≢◌, ◌+◌, ◌-◌, ◌≤◌, length, take, drop, IfOk, nat_eq, position};
 ghost use Rattle.std.specs.List.{list_any};
 
@@ -67,7 +68,7 @@ impl<const MARKED: u8> Page<MARKED> {
 
     /// Writes bytes from an offset on, which clears their marks.
     pub fn write(&mut self, offset: usize, bytes: &[u8])
-        requires { offset + length bytes.now ≤ 4096 }
+        requires { offset + length bytes.now ≤ page_size }
         ensures { self.new ≡ page_written offset bytes.now self.old }
     {
         self.frame.write(offset, bytes);
@@ -78,7 +79,7 @@ impl<const MARKED: u8> Page<MARKED> {
     pub fn mark(&mut self, from: usize, to: usize)
         requires kept { MARKED ≢ 0 }
         requires ordered { from ≤ to }
-        requires within { to ≤ 4096 }
+        requires within { to ≤ page_size }
         ensures { self.new ≡ page_marked from (to - from) self.old }
     {
         self.marks.set(from, to);
@@ -87,16 +88,16 @@ impl<const MARKED: u8> Page<MARKED> {
     /// Copies the bytes from an offset on.
     #[inline]
     pub fn copy_to(&self, offset: usize, into: &mut [u8])
-        requires { offset + length into.old ≤ 4096 }
+        requires { offset + length into.old ≤ page_size }
         ensures bytes { into.new ≡ take (length into.old) (drop offset self.now.bytes) }
-        ensures full { length self.now.bytes ≡ 4096 }
+        ensures full { length self.now.bytes ≡ page_size }
     {
         self.frame.copy_to(offset, into);
     }
 
     /// Whether one of the `count` bytes from an offset on is marked.
     pub fn any_marked(&self, offset: usize, count: usize) -> bool
-        requires { offset + count ≤ 4096 }
+        requires { offset + count ≤ page_size }
         ensures { result ≡ list_any (λ m. m) (take count (drop offset self.now.marks)) }
     {
         self.marks.any(offset, count)
@@ -104,9 +105,9 @@ impl<const MARKED: u8> Page<MARKED> {
 
     /// How many of the `count` bytes from an offset on stand before the first zero, if there is one.
     pub fn zero_in(&self, offset: usize, count: usize) -> Option<usize>
-        requires { offset + count ≤ 4096 }
+        requires { offset + count ≤ page_size }
         ensures found { result ≡ position (λ b. nat_eq b 0) (take count (drop offset self.now.bytes)) }
-        ensures full { length self.now.bytes ≡ 4096 }
+        ensures full { length self.now.bytes ≡ page_size }
     {
         self.frame.zero_in(offset, count)
     }

@@ -3,10 +3,9 @@ ghost use Rattle.std.specs.Prelude.{◌≡◌, ◌≢◌, ℕ, ◌+◌, ◌-◌,
 ghost use Rattle.std.specs.List.{list_any};
 ghost use Rattle.std.specs.FinMap as map;
 
-use crate::frame::PAGE_BYTES;
 use crate::rights::Rights;
 use crate::table::Table;
-use pr_base::NoMemory;
+use pr_base::{NoMemory, PAGE_SIZE};
 use std::alloc::AllocError;
 
 impl<const MARKED: u8> Table<MARKED> {
@@ -131,11 +130,11 @@ impl<const MARKED: u8> Table<MARKED> {
     {
         let mut next = from;
         while next < to {
-            let Some(number) = self.next(next / PAGE_BYTES, (to - 1) / PAGE_BYTES + 1) else {
+            let Some(number) = self.next(next / PAGE_SIZE, (to - 1) / PAGE_SIZE + 1) else {
                 return;
             };
-            let here = next.max(number * PAGE_BYTES);
-            let count = (PAGE_BYTES - here % PAGE_BYTES).min(to - here);
+            let here = next.max(number * PAGE_SIZE);
+            let count = (PAGE_SIZE - here % PAGE_SIZE).min(to - here);
             self.mark(here, count as usize);
             next = here + count;
         }

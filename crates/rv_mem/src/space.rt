@@ -1,14 +1,14 @@
 //! The memory of one process.
+ghost use Rattle.pr_base.specs.Page.{page_size};
 ghost use Rattle.std.specs.Prelude.{◌≡◌, ◌↔◌, ◌⊎◌, ◌+◌, ◌-◌, ◌*◌, ◌/◌, ◌%◌, ◌<◌, ◌≤◌, true, false, length, nat_eq, if◌then◌else◌, IsOk, IsTrue, IfOk, OnOk, OnErr, IsErrOf};
 ghost use Rattle.std.specs.FinMap as map;
 
 use crate::fault::{BadAddress, MapFault, StoreFault, TextFault};
-use crate::frame::PAGE_BYTES;
 use crate::rights::{Rights, Use};
 use crate::room::Room;
 use crate::table::Table;
 use crate::text::TextEnd;
-use pr_base::Bytes;
+use pr_base::{Bytes, PAGE_SIZE};
 use std::alloc::Global;
 use std::marker::Model;
 
@@ -142,18 +142,18 @@ impl<const MARKED: u8> Space<MARKED> {
         pages: u32,
         rights: Rights,
     ) -> Result<(), MapFault>
-        requires aligned { at % 4096 ≡ 0 }
-        requires below { at + 4096 * pages ≤ PAGES_END }
+        requires aligned { at % page_size ≡ 0 }
+        requires below { at + page_size * pages ≤ PAGES_END }
         requires counted { page_count self.old.pages ≤ room.old }
 
         // The limits are compared with the numbers after the call.
-        ensures full { IsErrOf result MapFault.Full ↔ IsTrue (passes_limit room.old self.old.pages (mapped self.old.pages (at / 4096) pages rights)) }
-        ensures ok { OnOk result (self.new ≡ with_pages self.old (mapped self.old.pages (at / 4096) pages rights)) }
+        ensures full { IsErrOf result MapFault.Full ↔ IsTrue (passes_limit room.old self.old.pages (mapped self.old.pages (at / page_size) pages rights)) }
+        ensures ok { OnOk result (self.new ≡ with_pages self.old (mapped self.old.pages (at / page_size) pages rights)) }
         ensures room { OnOk result (room.new ≡ room_after room.old self.old.pages self.new.pages) }
         ensures err { OnErr result (self.new ≡ self.old) }
         ensures err_room { OnErr result (room.new ≡ room.old) }
     {
-        let first = at / PAGE_BYTES;
+        let first = at / PAGE_SIZE;
         let count = u64::from(pages);
         let limit = (SPACE_PAGES - self.pages()).min(room.free());
         let Some(added) = self.pages.count_absent(first, count, limit) else {
@@ -166,27 +166,27 @@ impl<const MARKED: u8> Space<MARKED> {
 
     /// Takes those pages of a range away that are there.
     pub fn unmap(&mut self, room: &mut Room, at: u64, pages: u32)
-        requires aligned { at % 4096 ≡ 0 }
-        requires below { at + 4096 * pages ≤ PAGES_END }
+        requires aligned { at % page_size ≡ 0 }
+        requires below { at + page_size * pages ≤ PAGES_END }
         requires counted { page_count self.old.pages ≤ room.old }
-        ensures pages { self.new ≡ with_pages self.old (unmapped self.old.pages (at / 4096) pages) }
+        ensures pages { self.new ≡ with_pages self.old (unmapped self.old.pages (at / page_size) pages) }
         ensures room { room.new ≡ room_after room.old self.old.pages self.new.pages }
     {
         let before = self.pages();
-        self.pages.unmap(at / PAGE_BYTES, u64::from(pages));
+        self.pages.unmap(at / PAGE_SIZE, u64::from(pages));
         room.remove(before - self.pages());
     }
 
     /// Gives the pages of a range other rights, all or none of them.
     pub fn protect(&mut self, at: u64, pages: u32, rights: Rights) -> Result<(), BadAddress>
-        requires aligned { at % 4096 ≡ 0 }
-        requires below { at + 4096 * pages ≤ PAGES_END }
-        ensures when { IsOk result ↔ IsTrue (has_pages self.old.pages (at / 4096) pages) }
-        ensures ok { OnOk result (self.new ≡ with_pages self.old (protected self.old.pages (at / 4096) pages rights)) }
+        requires aligned { at % page_size ≡ 0 }
+        requires below { at + page_size * pages ≤ PAGES_END }
+        ensures when { IsOk result ↔ IsTrue (has_pages self.old.pages (at / page_size) pages) }
+        ensures ok { OnOk result (self.new ≡ with_pages self.old (protected self.old.pages (at / page_size) pages rights)) }
         ensures err { OnErr result (self.new ≡ self.old) }
         ensures count { page_count self.new.pages ≡ page_count self.old.pages }
     {
-        let first = at / PAGE_BYTES;
+        let first = at / PAGE_SIZE;
         let count = u64::from(pages);
         if !self.pages.has_all(first, count) {
             return Err(BadAddress);

@@ -1,11 +1,11 @@
 //! The pages of a memory by their numbers.
+ghost use Rattle.pr_base.specs.Page.{page_size};
 ghost use Rattle.std.specs.Prelude.{◌≡◌, ℕ, ◌+◌, ◌-◌, ◌*◌, ◌/◌, ◌%◌, ◌<◌, ◌≤◌, length, IfOk, OnOk, OnErr, IsTrue, IfNone, IfSome, MatchOption, ◌≢◌, nat_eq, true, false};
 ghost use Rattle.std.specs.FinMap as map;
 
-use crate::frame::PAGE_BYTES;
 use crate::page::Page;
 use crate::rights::{Rights, Use};
-use pr_base::NoMemory;
+use pr_base::{NoMemory, PAGE_SIZE};
 use std::alloc::{AllocError, Global};
 use std::collections::BTreeMap;
 use std::marker::Model;
@@ -108,35 +108,35 @@ impl<const MARKED: u8> Table<MARKED> {
 
     /// Writes bytes that lie inside one page, if it is there, which clears their marks.
     pub fn write(&mut self, at: u64, bytes: &[u8])
-        requires { at % 4096 + length bytes.now ≤ 4096 }
+        requires { at % page_size + length bytes.now ≤ page_size }
         ensures { self.new ≡ written self.old at bytes.now }
     {
-        if let Some(page) = self.pages.get_mut(&(at / PAGE_BYTES)) {
-            page.write((at % PAGE_BYTES) as usize, bytes);
+        if let Some(page) = self.pages.get_mut(&(at / PAGE_SIZE)) {
+            page.write((at % PAGE_SIZE) as usize, bytes);
         }
     }
 
     /// Marks the `count` bytes from an address on, which lie inside one page, if it is there.
     pub fn mark(&mut self, at: u64, count: usize)
         requires kept { MARKED ≢ 0 }
-        requires within { at % 4096 + count ≤ 4096 }
+        requires within { at % page_size + count ≤ page_size }
         ensures { self.new ≡ marked self.old at count }
     {
-        if let Some(page) = self.pages.get_mut(&(at / PAGE_BYTES)) {
-            let offset = (at % PAGE_BYTES) as usize;
+        if let Some(page) = self.pages.get_mut(&(at / PAGE_SIZE)) {
+            let offset = (at % PAGE_SIZE) as usize;
             page.mark(offset, offset + count);
         }
     }
 
     /// Copies bytes that lie inside one page that is there, and tells whether one of them is marked.
     pub fn read(&self, at: u64, into: &mut [u8]) -> bool
-        requires within { at % 4096 + length into.old ≤ 4096 }
-        requires there { IsTrue (map.contains_key self.now (at / 4096)) }
+        requires within { at % page_size + length into.old ≤ page_size }
+        requires there { IsTrue (map.contains_key self.now (at / page_size)) }
         ensures bytes { into.new ≡ bytes_from self.now at (length into.old) }
         ensures marked { result ≡ any_marked self.now at (length into.old) }
     {
-        let page = self.pages.get(&(at / PAGE_BYTES)).unwrap();
-        let offset = (at % PAGE_BYTES) as usize;
+        let page = self.pages.get(&(at / PAGE_SIZE)).unwrap();
+        let offset = (at % PAGE_SIZE) as usize;
         page.copy_to(offset, into);
         page.any_marked(offset, into.len())
     }
@@ -146,16 +146,16 @@ impl<const MARKED: u8> Table<MARKED> {
     #[inline]
     pub fn read_in_page(&self, at: u64, into: &mut [u8], what: Use) -> Option<bool>
         requires some { 0 < length into.old }
-        requires within { at % 4096 + length into.old ≤ 4096 }
+        requires within { at % page_size + length into.old ≤ page_size }
         ensures { MatchOption result (IsRefused self.now at what into.old into.new) (λ marked. IsRead self.now at what into.old into.new marked) }
     {
-        let Some(page) = self.pages.get(&(at / PAGE_BYTES)) else {
+        let Some(page) = self.pages.get(&(at / PAGE_SIZE)) else {
             return None;
         };
         if !page.grants(what) {
             return None;
         }
-        let offset = (at % PAGE_BYTES) as usize;
+        let offset = (at % PAGE_SIZE) as usize;
         page.copy_to(offset, into);
         let marked = page.any_marked(offset, into.len());
         Some(marked)
@@ -164,24 +164,24 @@ impl<const MARKED: u8> Table<MARKED> {
     /// Whether one of the `count` bytes from an address on, which lie inside one page that is there,
     /// is marked.
     pub fn any_marked(&self, at: u64, count: usize) -> bool
-        requires within { at % 4096 + count ≤ 4096 }
-        requires there { IsTrue (map.contains_key self.now (at / 4096)) }
+        requires within { at % page_size + count ≤ page_size }
+        requires there { IsTrue (map.contains_key self.now (at / page_size)) }
         ensures { result ≡ any_marked self.now at count }
     {
-        let page = self.pages.get(&(at / PAGE_BYTES)).unwrap();
-        page.any_marked((at % PAGE_BYTES) as usize, count)
+        let page = self.pages.get(&(at / PAGE_SIZE)).unwrap();
+        page.any_marked((at % PAGE_SIZE) as usize, count)
     }
 
     /// How many of the `count` bytes from an address on, which lie inside one page that is there,
     /// stand before the first zero, if there is one.
     pub fn zero_in(&self, at: u64, count: usize) -> Option<usize>
-        requires within { at % 4096 + count ≤ 4096 }
-        requires there { IsTrue (map.contains_key self.now (at / 4096)) }
+        requires within { at % page_size + count ≤ page_size }
+        requires there { IsTrue (map.contains_key self.now (at / page_size)) }
         ensures none { IfNone result (HasNoZero self.now at count) }
         ensures some { IfSome result (λ z. (z < count) × (nat_eq (byte_at self.now (at + z)) 0 ≡ true) × HasNoZero self.now at z) }
     {
-        let page = self.pages.get(&(at / PAGE_BYTES)).unwrap();
-        page.zero_in((at % PAGE_BYTES) as usize, count)
+        let page = self.pages.get(&(at / PAGE_SIZE)).unwrap();
+        page.zero_in((at % PAGE_SIZE) as usize, count)
     }
 
     /// The first number from `from` up to, but without, `to` at which there is a page.

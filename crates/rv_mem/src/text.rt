@@ -1,9 +1,9 @@
 //! Texts that end with a zero byte.
 ghost use Rattle.std.specs.Prelude.{◌≡◌, ◌+◌, ◌-◌, ◌^◌, ◌≤◌, true, length, IfOk};
 
-use crate::frame::PAGE_BYTES;
 use crate::rights::Use;
 use crate::table::Table;
+use pr_base::PAGE_SIZE;
 use std::alloc::AllocError;
 
 /// Where the search for a text's end stopped.
@@ -47,11 +47,11 @@ impl<const MARKED: u8> Table<MARKED> {
         let mut marked = false;
         while reach < max {
             let next = at + reach;
-            if !self.allows(next / PAGE_BYTES, Use::Read) {
+            if !self.allows(next / PAGE_SIZE, Use::Read) {
                 let end = TextEnd::Unreadable;
                 return Scan { reach, marked, end };
             }
-            let count = (PAGE_BYTES - next % PAGE_BYTES).min(max - reach);
+            let count = (PAGE_SIZE - next % PAGE_SIZE).min(max - reach);
             if let Some(before) = self.zero_in(next, count as usize) {
                 marked |= self.any_marked(next, before + 1);
                 reach += before as u64 + 1;

@@ -1,5 +1,5 @@
 use Rattle.std.proofs.Common.{◌∙◌}
-use Rattle.kr_tree.proofs.StoreLemmas.{get-view}
+use Rattle.pr_base.proofs.BTreeLemmas.{get-view}
 use Rattle.kr_tree.proofs.store.Store.get.Goals as goal
 
 pub returns : goal.returns

@@ -3,7 +3,7 @@ use Rattle.std.proofs.Common.{◌≡◌, ◌∙◌, ap, sym, subst, ◌+◌, ◌
 use Rattle.std.specs.Prelude.{IfSome, IsTrue}
 use Rattle.kr_tree.specs.Tree.{Inode, is_listed, entry_named, entries_of}
 use Rattle.kr_tree.specs.Changes.{with_inode, with_entry}
-use Rattle.kr_tree.proofs.InodesLemmas.{apart, get-insert_other, remove-insert, with-insert}
+use Rattle.pr_base.proofs.MapLemmas.{apart, get-insert_other, remove-insert, changed-insert}
 use Rattle.kr_tree.proofs.StoreLemmas.{on_ok, on_err}
 use Rattle.kr_tree.proofs.store.Store.put.Goals as goal
 
@@ -37,5 +37,5 @@ pub returns-else-is_err-clause-ok : goal.returns-else-is_err-clause-ok
 returns-else-is_err-clause-ok c =
     on_ok _ _ c.add_entry-added.result
     (λ is. is ∙ ap (with_inode c.args.dir (with_entry c.args.name.items c.args.ino c.args.is_dir)) c.in_ok-insert.ensures.ok
-    ∙ with-insert c.args.self.now c.args.dir c.args.ino (with_entry c.args.name.items c.args.ino c.args.is_dir) c.args.inode (apart c.args.self.now c.args.ino c.args.dir c.requires.new c.requires.there))
+    ∙ changed-insert c.args.self.now c.args.dir c.args.ino (with_entry c.args.name.items c.args.ino c.args.is_dir) c.args.inode (apart c.args.self.now c.args.ino c.args.dir c.requires.new c.requires.there))
     c.add_entry-added.ensures.ok

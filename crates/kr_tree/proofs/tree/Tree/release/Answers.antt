@@ -2,7 +2,7 @@ use Rattle.std.proofs.Common.{ℕ, ◌-◌, ◌≤◌, ◌∙◌, ap, sym, subst
 use Rattle.kr_tree.specs.Tree.{Tree, Inodes}
 use Rattle.kr_tree.specs.Changes.{with_inode, with_holds, without_unused, freed}
 use Rattle.kr_tree.specs.Lawful.{IsKept}
-use Rattle.kr_tree.proofs.InodesLemmas.{get-with_other}
+use Rattle.pr_base.proofs.MapLemmas.{get-changed_other}
 use Rattle.kr_tree.proofs.OfBytesLemmas.{of_bytes-with}
 use Rattle.kr_tree.proofs.QuietLemmas.{sound-still, counted-still}
 use Rattle.kr_tree.proofs.DropLemmas.{kept-dropped, freed-le}
@@ -26,5 +26,5 @@ invariant_of-self c =
     (subst (λ m. P m (freed c.args.ino u.inodes)) (sym (c.remove_if_unused-freed.ensures.inodes ∙ ap (without_unused c.args.ino) c.release.ensures))
     (kept-dropped u (sound-still t c.args.ino (with_holds (λ n. n - 1)) (λ _. refl) (λ _. refl) (λ _. refl) (λ _. refl) c.self.invariant.sound)
     (counted-still t c.args.ino (with_holds (λ n. n - 1)) (λ _. refl) (λ _. refl) (λ _. refl) (λ _. refl) c.self.invariant.sound c.self.invariant.counted)
-    c.args.ino (λ i z away at. c.self.invariant.used i z (sym (get-with_other t.inodes c.args.ino (with_holds (λ n. n - 1)) i away) ∙ at))
+    c.args.ino (λ i z away at. c.self.invariant.used i z (sym (get-changed_other t.inodes c.args.ino (with_holds (λ n. n - 1)) i away) ∙ at))
     (of_bytes-with t.inodes c.args.ino (with_holds (λ n. n - 1)) c.self.invariant.bytes (λ _ is. is))))

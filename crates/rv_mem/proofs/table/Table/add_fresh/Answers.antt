@@ -1,6 +1,6 @@
 use Rattle.std.proofs.Common.{◌∙◌, ap}
 use Rattle.std.specs.FinMap as map
-use Rattle.rv_mem.proofs.MapLemmas.{inserted}
+use Rattle.pr_base.proofs.BTreeLemmas.{inserted}
 use Rattle.rv_mem.proofs.table.Table.add_fresh.Goals as goal
 
 pub returns-clause-ok : goal.returns-clause-ok

@@ -1,7 +1,7 @@
 use Rattle.std.proofs.Common.{◌∙◌, ap, false}
 use Rattle.std.specs.Option.{option_map_or}
 use Rattle.rv_mem.specs.Page.{grants}
-use Rattle.rv_mem.proofs.MapLemmas.{get-view}
+use Rattle.pr_base.proofs.BTreeLemmas.{get-view}
 use Rattle.rv_mem.proofs.table.Table.allows.Goals as goal
 
 pub returns-in-Some : goal.returns-in-Some

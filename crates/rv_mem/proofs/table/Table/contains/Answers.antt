@@ -1,5 +1,5 @@
 use Rattle.std.proofs.Common.{◌∙◌, ap, is_some}
-use Rattle.rv_mem.proofs.MapLemmas.{get-view}
+use Rattle.pr_base.proofs.BTreeLemmas.{get-view}
 use Rattle.rv_mem.proofs.table.Table.contains.Goals as goal
 
 pub returns : goal.returns

@@ -1,7 +1,7 @@
 use Rattle.std.proofs.Common.{◌∙◌, ap, sym}
 use Rattle.std.specs.FinMap as map
-use Rattle.rv_mem.proofs.MapLemmas.{len-pages_of}
+use Rattle.pr_base.proofs.BTreeLemmas.{len-from_entries}
 use Rattle.rv_mem.proofs.table.Table.len.Goals as goal
 
 pub returns : goal.returns
-returns g c = c.len.ensures.len ∙ sym (len-pages_of _ c.len.ensures.ordered) ∙ ap map.len c.self.view_is
+returns g c = c.len.ensures.len ∙ sym (len-from_entries _ c.len.ensures.ordered) ∙ ap map.len c.self.view_is

@@ -2,7 +2,7 @@ use Rattle.std.proofs.Common.{ℕ, List, ◌≡◌, ◌+◌, ◌∙◌, arith, t
 use Rattle.std.specs.FinMap as map
 use Rattle.std.specs.List.{list_any}
 use Rattle.rv_mem.specs.Page.{fresh_page}
-use Rattle.rv_mem.proofs.PagesLemmas.{get-with_page_other}
+use Rattle.pr_base.proofs.MapLemmas.{get-changed_other}
 use Rattle.rv_mem.proofs.ChangeLemmas.{contains-with_page}
 use Rattle.rv_mem.proofs.TableLemmas.{there_after, outside_after, fresh_more, mapped_from}
 use Rattle.rv_mem.proofs.table.Table.map.Goals as goal
@@ -20,7 +20,7 @@ loop-k-init g c =
 pub loop-k-preserved : goal.loop-k-preserved
 loop-k-preserved g c = record {
   there = λ j l. rw c.reset.ensures (contains-with_page c.loop-k.self (c.args.first + c.loop-k.k) (λ _. fresh_page c.args.rights) (c.args.first + j) ∙ c.loop-k.invariant.there j l);
-  outside = λ q apart. rw c.reset.ensures (get-with_page_other c.loop-k.self (c.args.first + c.loop-k.k) (λ _. fresh_page c.args.rights) q (apart c.loop-k.k c.loop-k-test.true) ∙ c.loop-k.invariant.outside q apart);
+  outside = λ q apart. rw c.reset.ensures (get-changed_other c.loop-k.self (c.args.first + c.loop-k.k) (λ _. fresh_page c.args.rights) q (apart c.loop-k.k c.loop-k-test.true) ∙ c.loop-k.invariant.outside q apart);
   fresh = λ j l. rw c.reset.ensures (fresh_more c.loop-k.self c.args.first c.loop-k.k (fresh_page c.args.rights) (c.loop-k.invariant.there c.loop-k.k c.loop-k-test.true) c.loop-k.invariant.fresh j l);
 }
 

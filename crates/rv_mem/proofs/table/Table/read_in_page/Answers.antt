@@ -5,7 +5,8 @@ use Rattle.std.specs.Option.{option_map_or, option_copied}
 use Rattle.rv_mem.specs.Page.{grants}
 use Rattle.rv_mem.specs.Pages.{page_allows}
 use Rattle.rv_mem.proofs.PagesLemmas.{bytes_from_in_page, any_marked_in_page, allows_all_in_page, allows_all_refused}
-use Rattle.rv_mem.proofs.MapLemmas.{get-view, get-found}
+use Rattle.pr_base.proofs.BTreeLemmas.{get-view}
+use Rattle.rv_mem.proofs.MapLemmas.{get-found}
 use Rattle.rv_mem.proofs.table.Table.read_in_page.Goals as goal
 
 pub returns-in_default : goal.returns-in_default

@@ -1,4 +1,4 @@
-use Rattle.rv_mem.proofs.MapLemmas.{removed}
+use Rattle.pr_base.proofs.BTreeLemmas.{removed}
 use Rattle.rv_mem.proofs.table.Table.remove.Goals as goal
 
 pub returns : goal.returns
