@@ -14,7 +14,7 @@ use Rattle.kr_tree.specs.Names.{is_name, named, entry_searched, reached}
 use Rattle.kr_tree.specs.Rights.{may}
 use Rattle.kr_tree.specs.Lawful.{IsSound, IsIn, HasItsInodes}
 use Rattle.kr_tree.proofs.CountLemmas.{root_directory}
-use Rattle.kr_tree.proofs.NameLemmas.{then_some, map_some, some_is, listed_in, filled_directory, named-host_name}
+use Rattle.kr_tree.proofs.NameLemmas.{then_some, map_some, some_is, listed_in, named-host_name}
 
 pub guarded : {A : Type 0} (b : Bool) (o : Option A) (y : A) → (if b then o else None) ≡ Some y → (b ≡ true) × (o ≡ Some y)
 guarded true o y h = (refl, h)

@@ -1,4 +1,5 @@
 pub mod Changes
+pub mod Holds
 pub mod Lawful
 pub mod Names
 pub mod Rights

@@ -5,7 +5,7 @@ use Rattle.std.specs.Option.{option_map, option_map_or}
 use Rattle.std.proofs.lemmas.Bool.{false_from_ne_true}
 use Rattle.std.proofs.lemmas.Bool.Decides.{nat_tests}
 use Rattle.std.proofs.lemmas.List.Elements.{All-head, All-tail}
-use Rattle.pr_base.specs.Paths.{Component, Dot, Name, slash, dot, has_parts, has_slash, parts_of, component_of, components_of, is_absolute, below_root, text_of, name_path, IsName, AreNames}
+use Rattle.pr_base.specs.Paths.{Component, Dot, Name, slash, dot, has_parts, has_slash, parts_of, component_of, components_of, is_absolute, below_root, text_of, name_path, IsPart, IsName, AreNames}
 use Rattle.pr_base.specs.WalkFrame.{Fails, Missing, Leads, Links, Jumps, Onward, here, begins_at, most_links, walk_on, onward, in_middle, at_last, is_followed, wants_directory, target_at, ends, fails, ends_found, ends_missing, ends_landed, jumps_on}
 use Rattle.pr_base.specs.declared.errno.Errno.{Errno}
 use Rattle.pr_base.specs.declared.errno.Errno.TheVariants.{EACCES, ENAMETOOLONG, ENOTDIR}
@@ -29,7 +29,7 @@ use Rattle.kr_view.specs.Laws.{is_link}
 use Rattle.kr_view.specs.Walk.{PlaceTarget, looking, place_walk}
 use Rattle.kr_view.specs.InTree.{IsObjectOf}
 use Rattle.kr_view.specs.HostReach.{is_link_at, host_place, object_in}
-use Rattle.kr_view.specs.ReachLaws.{reaches_in, slashed, IsJoined, IsNamePath, IsNameBelow, WalksGoOnBehindTexts, EntriesAreFound, TextsAreFound, DirectoriesAreSearched}
+use Rattle.kr_view.specs.ReachLaws.{reaches_in, IsReachedBy, slashed, IsJoined, IsNamePath, IsUnfollowed, IsLookedUp, name_target, ends_with, EndsAtName, WalksGoOnBehindTexts, DirectoriesAreSearched, EntriesAreFound, TextsAreFound}
 use Rattle.kr_view.proofs.HostReachLemmas.{last_object, below_processes}
 use Rattle.kr_view.proofs.SlashedLemmas.{slashed_parts, slashed_has, slashed_relative}
 
@@ -221,7 +221,7 @@ module _ (around : Surroundings) (is_plain : around.space.table ≡ plain) where
   front_of [] more path are (inl e) = record { front = slash ∷ []; joined = e; absolute = refl; components = refl }
   front_of (name ∷ text) more path are (inl e) = record { front = below_root (name ∷ text); joined = e; absolute = below_root_absolute (name ∷ text) more; components = below_root_components (name ∷ text) (names_are_parts (name ∷ text) are) }
 
-  pub goes_on : (mode : WalkMode) (base : Place ℕ) (text : Text) (x : Host) (more path : List ℕ) → AreNames text → reaches_in around text ≡ Some x → IsObjectOf around.space.tree x → is_link_at around.space.tree x ≡ false
+  goes_on : (mode : WalkMode) (base : Place ℕ) (text : Text) (x : Host) (more path : List ℕ) → AreNames text → reaches_in around text ≡ Some x → IsObjectOf around.space.tree x → is_link_at around.space.tree x ≡ false
       → is_absolute more ≡ false → has_parts (parts_of more) ≡ true → IsJoined text more path → (place_walk around mode base path).answer ≡ (place_walk around mode (host_place x) more).answer
   goes_on mode base text x more path are way there firm relative some joined =
       let f = front_of text more path are joined in
@@ -239,7 +239,21 @@ module _ (around : Surroundings) (is_plain : around.space.table ≡ plain) where
       by (part ∷ parts) some = arrives mode most_links text x (component_of part) (map component_of parts) (has_slash more) are way there firm
 
 pub walks_go_on_behind_texts : WalksGoOnBehindTexts
-walks_go_on_behind_texts around mode base text x more path is_plain are way there firm relative some joined = goes_on around is_plain mode base text x more path are way there firm relative some joined
+walks_go_on_behind_texts around mode base text x more path r firm relative some joined = goes_on around r.over_plain mode base text x more path r.names r.way r.there firm relative some joined
+
+-- ---- at a directory itself
+
+pub directories_are_searched : DirectoriesAreSearched
+directories_are_searched around mode base text x path r firm joined =
+    walks_go_on_behind_texts around mode base text x dot path r firm refl refl joined
+    ∙ ap (λ t. t.answer) (walk-last (looking around) mode most_links (host_place x) Dot false)
+    ∙ by (is_directory_at around.space.tree x) (may_search around.space.tree around.space.user x)
+  where
+    by : (dir open_ : Bool) → (at_last (looking around) mode most_links (onward (looking around) mode most_links) (host_place x) Dot false (if dir then (if open_ then shows_directory (host_place x) else Fails EACCES) else Fails ENOTDIR)).answer
+        ≡ (if dir then (if open_ then Ok (target_at (host_place x) Dot false (Some (host_place x))) else Err EACCES) else Err ENOTDIR)
+    by true true = ap (λ b. (if b then ends (target_at (host_place x) Dot false (Some (host_place x))) else ends (target_at (host_place x) Dot false (Some (host_place x)))).answer) (unasked mode)
+    by true false = refl
+    by false b = refl
 
 -- ---- at a name
 
@@ -251,94 +265,85 @@ name_joined text name sl path (inl e) = inr (e ∙ ap (λ more. below_root text 
     by true = refl
     by false = append-nil name
 
-module _ (around : Surroundings) (mode : WalkMode) (base : Place ℕ) (text : Text) (dir : Host) (name : List ℕ) (sl : Bool) (path : List ℕ) (n : IsNameBelow around text dir name sl path) where
-  abbrev at_name : SeenPlace → Result PlaceTarget Errno
-  at_name seen = (at_last (looking around) mode most_links (onward (looking around) mode most_links) (host_place dir) (Name name) sl seen).answer
+module _ (around : Surroundings) (text : Text) (dir : Host) (name : List ℕ) (sl : Bool) (path : List ℕ)
+    (r : IsReachedBy around text dir) (is_dir : is_directory_at around.space.tree dir ≡ true) (part : IsPart name) (written : IsNamePath text name sl path) where
+  module _ (mode : WalkMode) (base : Place ℕ) where
+    abbrev at_name : SeenPlace → Result PlaceTarget Errno
+    at_name seen = (at_last (looking around) mode most_links (onward (looking around) mode most_links) (host_place dir) (Name name) sl seen).answer
 
-  -- the walk ends as what is seen at the name says
-  pub name_walk : (place_walk around mode base path).answer ≡ at_name (look_up around (host_place dir) (Name name))
-  name_walk =
-      let more = slashed sl name in
-      let relative = slashed_relative sl name n.is_part in
-      let part = slashed_parts sl name n.is_part in
-      goes_on around n.over_plain mode base text dir more path n.names n.reached_dir (directory_there around text dir n.reached_dir n.is_directory) (directory_firm around.space.tree dir n.is_directory) relative (ap has_parts part) (name_joined text name sl path n.written)
-      ∙ ap (λ b. (walk_on (looking around) mode most_links (if b then root_place around.space.table else host_place dir) (components_of more) (has_slash more)).answer) relative
-      ∙ ap (λ ps. (walk_on (looking around) mode most_links (host_place dir) (map component_of ps) (has_slash more)).answer) part
-      ∙ ap (λ c. (walk_on (looking around) mode most_links (host_place dir) (c ∷ []) (has_slash more)).answer) (part_component name n.is_part)
-      ∙ ap (λ b. (walk_on (looking around) mode most_links (host_place dir) (Name name ∷ []) b).answer) (slashed_has sl name n.is_part)
-      ∙ ap (λ t. t.answer) (walk-last (looking around) mode most_links (host_place dir) (Name name) sl)
+    -- the walk ends as what is seen at the name says
+    name_walk : (place_walk around mode base path).answer ≡ at_name (look_up around (host_place dir) (Name name))
+    name_walk =
+        let more = slashed sl name in
+        let relative = slashed_relative sl name part in
+        let alone = slashed_parts sl name part in
+        walks_go_on_behind_texts around mode base text dir more path r (directory_firm around.space.tree dir is_dir) relative (ap has_parts alone) (name_joined text name sl path written)
+        ∙ ap (λ b. (walk_on (looking around) mode most_links (if b then root_place around.space.table else host_place dir) (components_of more) (has_slash more)).answer) relative
+        ∙ ap (λ ps. (walk_on (looking around) mode most_links (host_place dir) (map component_of ps) (has_slash more)).answer) alone
+        ∙ ap (λ c. (walk_on (looking around) mode most_links (host_place dir) (c ∷ []) (has_slash more)).answer) (part_component name part)
+        ∙ ap (λ b. (walk_on (looking around) mode most_links (host_place dir) (Name name ∷ []) b).answer) (slashed_has sl name part)
+        ∙ ap (λ t. t.answer) (walk-last (looking around) mode most_links (host_place dir) (Name name) sl)
 
-  pub found_at_name : (x : Host) → may_search around.space.tree around.space.user dir ≡ true → too_long name ≡ false → object_in around.space.tree around.space.finds name dir ≡ Some x → IsObjectOf around.space.tree x → (is_followed mode sl ≡ true → is_link_at around.space.tree x ≡ false)
-      → (place_walk around mode base path).answer ≡ (ends_found mode (is_directory_at around.space.tree x) (target_at (host_place dir) (Name name) sl (Some (host_place x)))).answer
-  found_at_name x search short there is firm =
-      name_walk ∙ ap at_name (look_object around n.over_plain dir x name n.is_directory search short there)
-      ∙ last_object_found around mode most_links (onward (looking around) mode most_links) (host_place dir) (Name name) sl (host_place x) x is firm
+    found_at_name : (x : Host) → IsLookedUp around dir name → object_in around.space.tree around.space.finds name dir ≡ Some x → IsObjectOf around.space.tree x → IsUnfollowed around mode sl x → (place_walk around mode base path).answer ≡ ends_with around mode dir name sl x
+    found_at_name x up is there unfollowed =
+        name_walk ∙ ap at_name (look_object around r.over_plain dir x name is_dir up.search up.short is)
+        ∙ last_object_found around mode most_links (onward (looking around) mode most_links) (host_place dir) (Name name) sl (host_place x) x there unfollowed
 
-  pub free_at_name : may_search around.space.tree around.space.user dir ≡ true → too_long name ≡ false → object_in around.space.tree around.space.finds name dir ≡ None → (place_walk around mode base path).answer ≡ (ends_missing mode (host_place dir) (Name name) sl).answer
-  free_at_name search short free =
-      name_walk ∙ ap at_name (look_name around n.over_plain dir name n.is_directory search ∙ ap (λ b. if b then Fails ENAMETOOLONG else seen_object around (object_in around.space.tree around.space.finds name dir)) short ∙ ap (seen_object around) free)
+    free_at_name : IsLookedUp around dir name → object_in around.space.tree around.space.finds name dir ≡ None → (place_walk around mode base path).answer ≡ (ends_missing mode (host_place dir) (Name name) sl).answer
+    free_at_name up free =
+        name_walk ∙ ap at_name (look_name around r.over_plain dir name is_dir up.search ∙ ap (λ b. if b then Fails ENAMETOOLONG else seen_object around (object_in around.space.tree around.space.finds name dir)) up.short ∙ ap (seen_object around) free)
 
-  pub long_at_name : may_search around.space.tree around.space.user dir ≡ true → too_long name ≡ true → (place_walk around mode base path).answer ≡ Err ENAMETOOLONG
-  long_at_name search long =
-      name_walk ∙ ap at_name (look_name around n.over_plain dir name n.is_directory search ∙ ap (λ b. if b then Fails ENAMETOOLONG else seen_object around (object_in around.space.tree around.space.finds name dir)) long)
+    long_at_name : may_search around.space.tree around.space.user dir ≡ true → too_long name ≡ true → (place_walk around mode base path).answer ≡ Err ENAMETOOLONG
+    long_at_name search long =
+        name_walk ∙ ap at_name (look_name around r.over_plain dir name is_dir search ∙ ap (λ b. if b then Fails ENAMETOOLONG else seen_object around (object_in around.space.tree around.space.finds name dir)) long)
 
-  pub closed_at_name : may_search around.space.tree around.space.user dir ≡ false → (place_walk around mode base path).answer ≡ Err EACCES
-  closed_at_name search = name_walk ∙ ap at_name (look_closed around n.over_plain dir name n.is_directory search)
+    closed_at_name : may_search around.space.tree around.space.user dir ≡ false → (place_walk around mode base path).answer ≡ Err EACCES
+    closed_at_name search = name_walk ∙ ap at_name (look_closed around r.over_plain dir name is_dir search)
 
--- in mode Name the target is that name of the directory, with what stands there
-pub entry_at_name : (around : Surroundings) (base : Place ℕ) (text : Text) (dir : Host) (name : List ℕ) (sl : Bool) (path : List ℕ) → IsNameBelow around text dir name sl path
-    → may_search around.space.tree around.space.user dir ≡ true → too_long name ≡ false → ((x : Host) → object_in around.space.tree around.space.finds name dir ≡ Some x → IsObjectOf around.space.tree x)
-    → (place_walk around modes.Name base path).answer ≡ Ok (target_at (host_place dir) (Name name) sl (option_map host_place (object_in around.space.tree around.space.finds name dir)))
-entry_at_name around base text dir name sl path n search short there = by (object_in around.space.tree around.space.finds name dir) refl
-  where
-    by : (o : Option Host) → object_in around.space.tree around.space.finds name dir ≡ o → (place_walk around modes.Name base path).answer ≡ Ok (target_at (host_place dir) (Name name) sl (option_map host_place o))
-    by None is = free_at_name around modes.Name base text dir name sl path n search short is
-    by (Some x) is = found_at_name around modes.Name base text dir name sl path n x search short is (there x is) (λ f. absurd cc)
+  -- in mode Name the target is that name of the directory, with what stands there
+  entry_at_name : (base : Place ℕ) → IsLookedUp around dir name → ((x : Host) → object_in around.space.tree around.space.finds name dir ≡ Some x → IsObjectOf around.space.tree x) → (place_walk around modes.Name base path).answer ≡ Ok (name_target dir name sl (object_in around.space.tree around.space.finds name dir))
+  entry_at_name base up there = by (object_in around.space.tree around.space.finds name dir) refl
+    where
+      by : (o : Option Host) → object_in around.space.tree around.space.finds name dir ≡ o → (place_walk around modes.Name base path).answer ≡ Ok (name_target dir name sl o)
+      by None is = free_at_name modes.Name base up is
+      by (Some x) is = found_at_name modes.Name base x up is (there x is) (λ f. absurd cc)
+
+  pub ends_at_name : EndsAtName around dir name sl path
+  ends_at_name = record { found = found_at_name; free = free_at_name; long = long_at_name; closed = closed_at_name; entry = entry_at_name }
 
 pub entries_are_found : EntriesAreFound
-entries_are_found = record {
-  found = λ around mode base text dir x name sl path n. found_at_name around mode base text dir name sl path n x;
-  free = free_at_name;
-  long = long_at_name;
-  closed = closed_at_name;
-  entry = entry_at_name;
-}
+entries_are_found = ends_at_name
 
 -- ---- at the end of a text
 
-pub target_found : (around : Surroundings) (mode : WalkMode) (base : Place ℕ) (name : List ℕ) (text : Text) (x : Host) (sl : Bool) → around.space.table ≡ plain → AreNames (name ∷ text) → reaches_in around (name ∷ text) ≡ Some x → IsObjectOf around.space.tree x
-    → (is_followed mode sl ≡ true → is_link_at around.space.tree x ≡ false)
-    → (dir : Host) × (reaches_in around text ≡ Some dir) × ((place_walk around mode base (slashed sl (text_of (name ∷ text)))).answer ≡ (ends_found mode (is_directory_at around.space.tree x) (target_at (host_place dir) (Name name) sl (Some (host_place x)))).answer)
-target_found around mode base name text x sl is_plain are way there firm =
-    let s = last_object around.space.tree around.space.user around.space.finds text name x way in
-    let is = All-head IsName name text are in
-    let n : IsNameBelow around text s.dir name sl (slashed sl (text_of (name ∷ text))) = record {
-      over_plain = is_plain;
-      names = All-tail IsName name text are;
-      reached_dir = s.way;
-      is_directory = s.is_dir;
-      is_part = name_is_part name is;
-      written = inl (written sl);
-    } in
-    (s.dir, s.way, found_at_name around mode base text s.dir name sl (slashed sl (text_of (name ∷ text))) n x s.search (name_short around is_plain name is) s.there there firm)
+pub target_found : (around : Surroundings) (mode : WalkMode) (base : Place ℕ) (name : List ℕ) (text : Text) (x : Host) (sl : Bool) → IsReachedBy around (name ∷ text) x → IsUnfollowed around mode sl x
+    → (dir : Host) × (reaches_in around text ≡ Some dir) × ((place_walk around mode base (slashed sl (text_of (name ∷ text)))).answer ≡ ends_with around mode dir name sl x)
+target_found around mode base name text x sl r unfollowed =
+    let s = last_object around.space.tree around.space.user around.space.finds text name x r.way in
+    let is = All-head IsName name text r.names in
+    let above : IsReachedBy around text s.dir = record { over_plain = r.over_plain; names = All-tail IsName name text r.names; way = s.way; there = directory_there around text s.dir s.way s.is_dir } in (
+      s.dir,
+      s.way,
+      (ends_at_name around text s.dir name sl (slashed sl (text_of (name ∷ text))) above s.is_dir (name_is_part name is) (inl (written sl))).found mode base x (record { search = s.search; short = name_short around r.over_plain name is }) s.there r.there unfollowed,
+    )
   where
     written : (sl : Bool) → slashed sl (below_root text ++ slash ∷ name) ≡ name_path text name sl
     written true = append_assoc (below_root text) (slash ∷ name) (slash ∷ [])
     written false = ap (λ name. below_root text ++ slash ∷ name) (sym (append-nil name))
 
-pub text_found : (around : Surroundings) (mode : WalkMode) (base : Place ℕ) (text : Text) (x : Host) (sl : Bool) → around.space.table ≡ plain → AreNames text → reaches_in around text ≡ Some x → IsObjectOf around.space.tree x
-    → (is_followed mode sl ≡ true → is_link_at around.space.tree x ≡ false) → (wants_directory mode sl ≡ true → is_directory_at around.space.tree x ≡ true)
+pub text_found : (around : Surroundings) (mode : WalkMode) (base : Place ℕ) (text : Text) (x : Host) (sl : Bool) → IsReachedBy around text x → IsUnfollowed around mode sl x → (wants_directory mode sl ≡ true → is_directory_at around.space.tree x ≡ true)
     → (t : PlaceTarget) × ((place_walk around mode base (slashed sl (text_of text))).answer ≡ Ok t) × (t.found ≡ Some (host_place x))
-text_found around mode base [] x sl is_plain are way there firm wanted =
-    let same : Node root ≡ x = some_is (Node root) x way in
-    (here (looking around) (root_place around.space.table) false, by sl, ap (λ table. Some (root_place table)) is_plain ∙ ap (λ x. Some (host_place x)) same)
+text_found around mode base [] x sl r unfollowed wanted =
+    let same : Node root ≡ x = some_is (Node root) x r.way in
+    (here (looking around) (root_place around.space.table) false, by sl, ap (λ table. Some (root_place table)) r.over_plain ∙ ap (λ x. Some (host_place x)) same)
   where
     by : (sl : Bool) → (place_walk around mode base (slashed sl (slash ∷ []))).answer ≡ Ok (here (looking around) (root_place around.space.table) false)
     by true = ap (λ t. t.answer) (walk-none (looking around) mode most_links (root_place around.space.table) false)
     by false = ap (λ t. t.answer) (walk-none (looking around) mode most_links (root_place around.space.table) false)
-text_found around mode base (name ∷ text) x sl is_plain are way there firm wanted =
-    let f = target_found around mode base name text x sl is_plain are way there firm in
-    (target_at (host_place f.0) (Name name) sl (Some (host_place x)), f.2 ∙ unrefused (wants_directory mode sl) (is_directory_at around.space.tree x) (target_at (host_place f.0) (Name name) sl (Some (host_place x))) wanted, refl)
+text_found around mode base (name ∷ text) x sl r unfollowed wanted =
+    let f = target_found around mode base name text x sl r unfollowed in
+    let t = name_target f.0 name sl (Some x) in
+    (t, f.2 ∙ unrefused (wants_directory mode sl) (is_directory_at around.space.tree x) t wanted, refl)
   where
     unrefused : (wants is_dir : Bool) (t : PlaceTarget) → (wants ≡ true → is_dir ≡ true) → (if wants then (if is_dir then ends t else fails ENOTDIR) else ends t).answer ≡ Ok t
     unrefused false is_dir t h = refl
@@ -346,17 +351,3 @@ text_found around mode base (name ∷ text) x sl is_plain are way there firm wan
 
 pub texts_are_found : TextsAreFound
 texts_are_found = record { found = text_found; target = target_found }
-
--- ---- at a directory itself
-
-pub directories_are_searched : DirectoriesAreSearched
-directories_are_searched around mode base text x path is_plain are way there firm joined =
-    goes_on around is_plain mode base text x dot path are way there firm refl refl joined
-    ∙ ap (λ t. t.answer) (walk-last (looking around) mode most_links (host_place x) Dot false)
-    ∙ by (is_directory_at around.space.tree x) (may_search around.space.tree around.space.user x)
-  where
-    by : (dir open_ : Bool) → (at_last (looking around) mode most_links (onward (looking around) mode most_links) (host_place x) Dot false (if dir then (if open_ then shows_directory (host_place x) else Fails EACCES) else Fails ENOTDIR)).answer
-        ≡ (if dir then (if open_ then Ok (target_at (host_place x) Dot false (Some (host_place x))) else Err EACCES) else Err ENOTDIR)
-    by true true = ap (λ b. (if b then ends (target_at (host_place x) Dot false (Some (host_place x))) else ends (target_at (host_place x) Dot false (Some (host_place x)))).answer) (unasked mode)
-    by true false = refl
-    by false b = refl

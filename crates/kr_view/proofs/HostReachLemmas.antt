@@ -140,7 +140,12 @@ below_processes t user finds (name ∷ text) i at e =
         record { names = name ∷ b.names; top = b.top; joined = ap (λ text. name ∷ text) b.joined; reached_top = b.reached_top; processes = b.processes }
 
 pub reaches_go_by_names : ReachesGoByNames
-reaches_go_by_names = record { inode_reached = inode_reached; reached_inode = reached_inode; named_alone = named_alone; below_processes = below_processes }
+reaches_go_by_names t user finds text = record {
+  inode_reached = inode_reached t user finds text;
+  reached_inode = reached_inode t user finds text;
+  named_alone = named_alone t user finds text;
+  below_processes = below_processes t user finds text;
+}
 
 -- ---- in a tree that is kept
 
@@ -184,10 +189,10 @@ reached_process t user finds leads (name ∷ text) i at laws e =
         (b.0, ap (λ text. name ∷ text) b.1 ∙ ap (λ names. names ++ b.0) (sym (laws.named (Some up) name at found)), b.2)
 
 pub reaches_are_sound : ReachesAreSound
-reaches_are_sound = record {
-  there = reached_there;
-  names = reached_names;
-  process_names = reached_process;
-  once = λ t user finds one two i sound h k is.
-      named_once t sound one two i (reached-named t user one i (reached_inode t user finds one i h)) (reached-named t user two i (reached_inode t user finds two i k)) is;
+reaches_are_sound t user finds leads text = record {
+  there = reached_there t user finds text;
+  names = reached_names t user finds leads text;
+  process_names = reached_process t user finds leads text;
+  once = λ other i sound h k is.
+      named_once t sound text other i (reached-named t user text i (reached_inode t user finds text i h)) (reached-named t user other i (reached_inode t user finds other i k)) is;
 }

@@ -13,6 +13,7 @@ use Rattle.kr_view.specs.Walk.{PlaceTarget, place_walk}
 use Rattle.kr_view.specs.Laws.{is_link}
 use Rattle.kr_view.specs.InTree.{IsObjectOf}
 use Rattle.kr_view.specs.HostReach.{is_link_at}
+use Rattle.kr_view.specs.ReachLaws.{IsReachedBy}
 use Rattle.kr_view.proofs.HostReachLemmas.{inode_reached}
 use Rattle.kr_view.proofs.ArrivalLemmas.{unasked, text_found}
 
@@ -27,5 +28,5 @@ pub reached_is_found : (around : Surroundings) (mode : WalkMode) (base : Place �
     → option_map is_link (body around.space.tree i) ≡ Some false → (t : PlaceTarget) × ((place_walk around mode base (text_of text)).answer ≡ Ok t) × (t.found ≡ Some (node_in 0 i))
 reached_is_found around mode base text i is_plain are h no_link =
     let is = there_and_firm around.space.tree i no_link in
-    text_found around mode base text (Node i) false is_plain are (inode_reached around.space.tree around.space.user around.space.finds text i h) is.0 (λ followed. is.1)
-    (λ wanted. let no : false ≡ true = sym (unasked mode) ∙ wanted in absurd cc)
+    let r : IsReachedBy around text (Node i) = record { over_plain = is_plain; names = are; way = inode_reached around.space.tree around.space.user around.space.finds text i h; there = is.0 } in
+    text_found around mode base text (Node i) false r (λ followed. is.1) (λ wanted. let no : false ≡ true = sym (unasked mode) ∙ wanted in absurd cc)
