@@ -7,7 +7,7 @@ use Rattle.kr_tree.specs.Tree.{Tree, root, above}
 use Rattle.kr_tree.specs.Names.{host_name, HostNamesLead}
 use Rattle.kr_tree.specs.Lawful.{IsSound}
 use Rattle.kr_tree.proofs.NameLemmas.{host_name-of_root, host_name-entry, host_name-below, no_directory_name}
-use Rattle.kr_view.specs.HostNames.{NamesHangTogether}
+use Rattle.kr_view.specs.inside.HostNames.{NamesHangTogether}
 
 -- the name behind the last one
 dropped : (name : List ℕ) (text : Option (List (List ℕ))) → option_map (drop 1) (option_map (λ names. name ∷ names) text) ≡ text

@@ -22,8 +22,8 @@ use Rattle.kr_view.specs.Names.{free_name}
 use Rattle.kr_view.specs.Walk.{PlaceTrail, PlaceTarget, looking}
 use Rattle.kr_view.specs.Reach.{Covers, raised, reached_landing, reach_after}
 use Rattle.kr_view.specs.Answers.{told, target_numbered}
-use Rattle.kr_view.specs.Stacks.{stack_of}
-use Rattle.kr_view.specs.Steps.{last_trail, IsLanded, IsFollowed, HasOutcome}
+use Rattle.kr_view.specs.inside.Stacks.{stack_of}
+use Rattle.kr_view.specs.inside.Steps.{last_trail, IsLanded, IsFollowed, HasOutcome}
 use Rattle.kr_view.proofs.ReachLemmas.{covers_refl}
 use Rattle.kr_view.proofs.OutcomeLemmas.{want_behind, at_follow_error, jumps_to}
 

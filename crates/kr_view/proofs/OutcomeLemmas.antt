@@ -20,9 +20,9 @@ use Rattle.kr_view.specs.Leads.{numbered}
 use Rattle.kr_view.specs.Component.{Surroundings, is_directory_at, landing, seen_link}
 use Rattle.kr_view.specs.Walk.{PlaceTrail, PlaceTarget, looking}
 use Rattle.kr_view.specs.Reach.{Covers, reached_landing, reach_after}
-use Rattle.kr_view.specs.Stacks.{stack_of}
-use Rattle.kr_view.specs.Positions.{IsNamed}
-use Rattle.kr_view.specs.Steps.{trail_of, middle_trail, Follows, IsFollowed, GoesOn, HasOutcome}
+use Rattle.kr_view.specs.inside.Stacks.{stack_of}
+use Rattle.kr_view.specs.inside.Positions.{IsNamed}
+use Rattle.kr_view.specs.inside.Steps.{trail_of, middle_trail, Follows, IsFollowed, GoesOn, HasOutcome}
 use Rattle.pr_base.proofs.WalkLemmas.{onward-less, onward-none}
 use Rattle.kr_view.proofs.ReachLemmas.{covers_refl, covers_trans, covers_after, covers_landing, behind_jump}
 

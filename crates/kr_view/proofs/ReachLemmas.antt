@@ -11,7 +11,7 @@ use Rattle.kr_view.specs.Component.{Surroundings, look_up, meets_processes}
 use Rattle.kr_view.specs.Names.{Text, component_name, directory_name, landing_name}
 use Rattle.kr_view.specs.Walk.{PlaceTrail, PlaceTarget}
 use Rattle.kr_view.specs.Reach.{Covers, raised, raised_by_all, seen_name, look_names, end_names, look_reach, looks_reach, reached_landing, landings_reach, end_reach, reach_after}
-use Rattle.kr_view.specs.Steps.{noted, HasReached}
+use Rattle.kr_view.specs.inside.Steps.{noted, HasReached}
 
 pub covers_refl : (r : Reach) → Covers r r
 covers_refl r = record { longest = omega arith; met_proc = λ h. h }

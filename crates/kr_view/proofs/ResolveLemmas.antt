@@ -11,7 +11,7 @@ use Rattle.kr_view.specs.Component.{Surroundings}
 use Rattle.kr_view.specs.Walk.{PlaceTrail, PlaceTarget}
 use Rattle.kr_view.specs.Reach.{Covers, reach_after}
 use Rattle.kr_view.specs.Answers.{IsAnswer, IsReached}
-use Rattle.kr_view.specs.Steps.{HasOutcome}
+use Rattle.kr_view.specs.inside.Steps.{HasOutcome}
 use Rattle.kr_view.proofs.ReachLemmas.{covers_refl, covers_trans, covers_after}
 
 module _ {M : Type 0} (number : M → ℕ) (around : Surroundings) (mode : WalkMode) (trail : PlaceTrail) (first : Reach) where

@@ -4,7 +4,7 @@ use Rattle.std.proofs.lemmas.Bool.Decides.{nat_tests}
 use Rattle.std.specs.List.{list_all}
 use Rattle.pr_base.specs.Paths.{Component, component_of, has_parts}
 use Rattle.kr_view.specs.declared.rest.Rest.{Rest}
-use Rattle.kr_view.specs.Rests.{parts_left, components_left, has_more, stacked}
+use Rattle.kr_view.specs.inside.Rests.{parts_left, components_left, has_more, stacked}
 
 -- a path on top is read first
 pub stacked_push : (rests : List Rest) (r : Rest) → stacked (rests ++ r ∷ []) ≡ components_left r ++ stacked rests

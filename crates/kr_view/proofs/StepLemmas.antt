@@ -18,8 +18,8 @@ use Rattle.kr_view.specs.Component.{Surroundings, SeenPlace, look_up}
 use Rattle.kr_view.specs.Walk.{PlaceTrail, PlaceTarget, looking}
 use Rattle.kr_view.specs.Reach.{Covers, end_reach, reach_after}
 use Rattle.kr_view.specs.Answers.{told, target_numbered}
-use Rattle.kr_view.specs.Stacks.{stack_of}
-use Rattle.kr_view.specs.Steps.{trail_of, middle_trail, last_trail, noted, here_target, HasOutcome}
+use Rattle.kr_view.specs.inside.Stacks.{stack_of}
+use Rattle.kr_view.specs.inside.Steps.{trail_of, middle_trail, last_trail, noted, here_target, HasOutcome}
 use Rattle.kr_view.proofs.ReachLemmas.{covers_trans, covers_look, covers_after}
 use Rattle.pr_base.proofs.WalkLemmas.{walk-none, walk-last, walk-middle}
 use Rattle.kr_view.proofs.OutcomeLemmas.{at_want}

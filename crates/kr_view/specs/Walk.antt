@@ -3,8 +3,13 @@ use Rattle.std.specs.Prelude.{ℕ, List}
 use Rattle.pr_base.specs.WalkFrame.{Looking, Trail, Target, walk}
 use Rattle.pr_base.specs.declared.path.WalkMode.{WalkMode}
 use Rattle.kr_tree.specs.declared.place.Place.{Place}
-use Rattle.kr_view.specs.View.{root_place}
-use Rattle.kr_view.specs.Component.{Surroundings, look_up}
+use Rattle.kr_inode.specs.declared.user.User.{User}
+use Rattle.kr_tree.specs.declared.place.ProcAt.{ProcAt}
+use Rattle.kr_tree.specs.Tree.{Tree}
+use Rattle.kr_view.specs.declared.procs.Lead.{Lead}
+use Rattle.kr_view.specs.Leads.{lead_numbered}
+use Rattle.kr_view.specs.View.{Row, root_place}
+use Rattle.kr_view.specs.Component.{Finds, Surroundings, look_up}
 
 abbrev pub PlaceTrail : Type 0
 PlaceTrail = Trail (Place ℕ) (Place ℕ)
@@ -18,3 +23,10 @@ looking around = record { root = root_place around.space.table; here = λ p. p; 
 -- the walk from a base along a path
 abbrev pub place_walk : Surroundings → WalkMode → Place ℕ → List ℕ → PlaceTrail
 place_walk around mode base path = walk (looking around) mode base path
+
+-- what a view, a tree and the processes show to a caller, with the numbers of the mounts
+abbrev pub surroundings : {M : Type 0} → (M → ℕ) → List Row → Tree → User → Finds → (ProcAt → Lead M) → Surroundings
+surroundings number table tree user finds leads = record {
+  space = record { table = table; tree = tree; user = user; finds = finds };
+  leads = λ at. lead_numbered number (leads at);
+}

@@ -1,7 +1,7 @@
 //! Components of paths.
 ghost use Rattle.std.specs.Prelude.{◌≡◌};
 ghost use Rattle.pr_base.specs.Paths.{component_of, kind_of};
-ghost use Rattle.kr_view.specs.Components.{component_data};
+ghost use Rattle.kr_view.specs.inside.Components.{component_data};
 ghost use Rattle.pr_base.specs.WalkFrame.{name_of};
 
 use pr_base::Last;

@@ -7,7 +7,7 @@ ghost use Rattle.std.specs.Fmt.{decimal};
 ghost use Rattle.pr_base.specs.Paths.{slash, below_root, text_of, AreNames};
 ghost use Rattle.kr_tree.specs.Names.{host_name, process_names};
 ghost use Rattle.kr_view.specs.Names.{below};
-ghost use Rattle.kr_view.specs.HostNames.{NamesHangTogether};
+ghost use Rattle.kr_view.specs.inside.HostNames.{NamesHangTogether};
 ghost use Rattle.kr_view.specs.Reach.{text_length, bytes_below};
 
 use kr_tree::laws::{directories_have_host_names, trees_are_kept};

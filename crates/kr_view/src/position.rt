@@ -2,12 +2,12 @@
 ghost use Rattle.std.specs.Prelude.{◌≡◌, true, ℕ, ◌+◌, ◌<◌, ◌^◌, List, Option, IfOk, IfSome};
 ghost use Rattle.std.specs.Option.{option_map};
 ghost use Rattle.kr_view.specs.Leads.{numbered};
-ghost use Rattle.kr_view.specs.Components.{component_data};
-ghost use Rattle.kr_view.specs.Sights.{surroundings_of};
+ghost use Rattle.kr_view.specs.inside.Components.{component_data};
+ghost use Rattle.kr_view.specs.inside.Sights.{surroundings_of};
 ghost use Rattle.kr_view.specs.Names.{directory_name, component_name};
 ghost use Rattle.kr_view.specs.Reach.{text_length, bytes_below};
-ghost use Rattle.kr_view.specs.Ways.{ino_of, IsKind, IsSource, IsWay};
-ghost use Rattle.kr_view.specs.Positions.{IsNamed, is_gone};
+ghost use Rattle.kr_view.specs.inside.Ways.{ino_of, IsKind, IsSource, IsWay};
+ghost use Rattle.kr_view.specs.inside.Positions.{IsNamed, is_gone};
 
 use crate::component::{Component, name_of};
 use crate::name::{

@@ -3,7 +3,7 @@ ghost use Rattle.std.specs.Prelude.{◌≡◌, ◌≢◌, ◌≤◌, ◌+◌, �
 ghost use Rattle.std.specs.List.{All};
 ghost use Rattle.pr_base.specs.Paths.{slash, parts_of};
 ghost use Rattle.pr_base.specs.Pieces.{BeginsSlash};
-ghost use Rattle.kr_view.specs.Begins.{begins_part};
+ghost use Rattle.kr_view.specs.inside.Begins.{begins_part};
 
 use pr_base::Bytes;
 
@@ -26,7 +26,7 @@ pub(crate) struct Span {
 
 impl Rest {
     ghost use Rattle.pr_base.specs.Paths.{has_parts};
-    ghost use Rattle.kr_view.specs.Rests.{parts_left};
+    ghost use Rattle.kr_view.specs.inside.Rests.{parts_left};
 
     pub(crate) fn new(text: Bytes) -> Rest
         ensures { parts_left result ≡ parts_of text }

@@ -2,7 +2,7 @@
 ghost use Rattle.std.specs.Prelude.{◌≡◌, ◌≤◌, ◌∷◌, [], ◌++◌, length, true, not, IsTrue, MatchOption, OnOk, OnErr, ◌↔◌};
 ghost use Rattle.std.specs.List.{list_all};
 ghost use Rattle.pr_base.specs.Paths.{component_of};
-ghost use Rattle.kr_view.specs.Rests.{components_left, has_more};
+ghost use Rattle.kr_view.specs.inside.Rests.{components_left, has_more};
 
 use crate::rest::{Rest, Span};
 use pr_base::NoMemory;
@@ -26,7 +26,7 @@ pub(crate) struct Taken {
 }
 
 impl Taken {
-    ghost use Rattle.kr_view.specs.Stacks.{taken_bytes};
+    ghost use Rattle.kr_view.specs.inside.Stacks.{taken_bytes};
 
     pub(crate) fn bytes(&self) -> &[u8]
         ensures { result.now ≡ taken_bytes self.now }
@@ -50,7 +50,7 @@ impl Taken {
 }
 
 impl Rests {
-    ghost use Rattle.kr_view.specs.Stacks.{stack_of, taken_bytes};
+    ghost use Rattle.kr_view.specs.inside.Stacks.{stack_of, taken_bytes};
 
     pub(crate) fn new(alloc: Global) -> Rests
         ensures { stack_of result ≡ [] }

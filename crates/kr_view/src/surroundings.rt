@@ -6,9 +6,9 @@ ghost use Rattle.kr_view.specs.View.{is_root_place, node_in};
 ghost use Rattle.kr_tree.specs.declared.place.Host.TheVariants.{Node};
 ghost use Rattle.kr_view.specs.Leads.{numbered};
 ghost use Rattle.pr_base.specs.Paths.{DotDot, Name};
-ghost use Rattle.kr_view.specs.Components.{component_data};
-ghost use Rattle.kr_view.specs.Sights.{surroundings_of, sight_seen};
-ghost use Rattle.kr_view.specs.Ways.{HasKind, spot_of, IsSightAt, IsSightCalled, IsSightWay};
+ghost use Rattle.kr_view.specs.inside.Components.{component_data};
+ghost use Rattle.kr_view.specs.inside.Sights.{surroundings_of, sight_seen};
+ghost use Rattle.kr_view.specs.inside.Ways.{HasKind, spot_of, IsSightAt, IsSightCalled, IsSightWay};
 ghost use Rattle.kr_view.specs.Names.{led_to_name, found_process_name, node_entry_name};
 ghost use Rattle.kr_view.specs.Component.{is_process_directory, is_directory_at, may_search, seen_at, above, above_process, above_body, in_processes, seen_in_processes, in_node, named, look_up, is_looked_up, meets_processes, is_shown};
 

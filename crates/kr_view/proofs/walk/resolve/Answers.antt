@@ -1,8 +1,8 @@
 use Rattle.std.proofs.Common.{Ok, sym, ap, subst, ◌∙◌}
 use Rattle.kr_view.specs.Leads.{numbered}
 use Rattle.kr_view.specs.Reach.{reach_after}
-use Rattle.kr_view.specs.Sights.{surroundings}
-use Rattle.kr_view.specs.Steps.{trail_of, HasOutcome}
+use Rattle.kr_view.specs.Walk.{surroundings}
+use Rattle.kr_view.specs.inside.Steps.{trail_of, HasOutcome}
 use Rattle.kr_view.specs.declared.walk.Step.{Step}
 use Rattle.kr_view.specs.declared.walk.Step.TheVariants.{Goes, Ends}
 use Rattle.kr_view.specs.Walk.{place_walk}

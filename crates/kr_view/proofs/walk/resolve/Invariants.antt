@@ -1,9 +1,9 @@
 use Rattle.std.proofs.Common.{◌≡◌}
 use Rattle.kr_view.specs.Leads.{numbered}
-use Rattle.kr_view.specs.Positions.{IsNamed}
+use Rattle.kr_view.specs.inside.Positions.{IsNamed}
 use Rattle.kr_view.specs.Reach.{Covers, reach_after}
-use Rattle.kr_view.specs.Sights.{surroundings}
-use Rattle.kr_view.specs.Steps.{trail_of, work}
+use Rattle.kr_view.specs.Walk.{surroundings}
+use Rattle.kr_view.specs.inside.Steps.{trail_of, work}
 use Rattle.kr_view.specs.Walk.{place_walk}
 use Rattle.kr_view.proofs.walk.resolve.Given as goal
 

@@ -1,5 +1,5 @@
 use Rattle.std.proofs.Common.{ap, ◌∙◌}
-use Rattle.kr_view.specs.Rests.{stacked}
+use Rattle.kr_view.specs.inside.Rests.{stacked}
 use Rattle.kr_view.proofs.StackLemmas.{stacked_push}
 use Rattle.kr_view.proofs.rests.Rests.push.Goals as goal
 

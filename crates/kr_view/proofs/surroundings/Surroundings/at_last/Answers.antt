@@ -6,12 +6,12 @@ use Rattle.kr_view.specs.Names.{free_name}
 use Rattle.kr_view.specs.Reach.{greater, text_length, reach_after}
 use Rattle.kr_view.specs.Component.{SeenPlace}
 use Rattle.kr_view.specs.Leads.{numbered}
-use Rattle.kr_view.specs.Components.{component_data}
+use Rattle.kr_view.specs.inside.Components.{component_data}
 use Rattle.kr_view.specs.Walk.{looking}
 use Rattle.kr_view.specs.Answers.{told, target_numbered}
-use Rattle.kr_view.specs.Stacks.{stack_of, taken_bytes}
-use Rattle.kr_view.specs.Sights.{surroundings_of, sight_seen}
-use Rattle.kr_view.specs.Steps.{last_trail, HasOutcome}
+use Rattle.kr_view.specs.inside.Stacks.{stack_of, taken_bytes}
+use Rattle.kr_view.specs.inside.Sights.{surroundings_of, sight_seen}
+use Rattle.kr_view.specs.inside.Steps.{last_trail, HasOutcome}
 use Rattle.kr_view.proofs.OutcomeLemmas.{at_follow_error, at_follow}
 use Rattle.kr_view.proofs.LastLemmas.{last_links, last_link_found, last_jump_found, last_missing, last_leads, ends_at, ends_free}
 use Rattle.kr_view.proofs.surroundings.Surroundings.at_last.Goals as goal

@@ -4,8 +4,8 @@ use Rattle.pr_base.specs.Paths.{component_of, components_of, parts_of}
 use Rattle.pr_base.specs.WalkFrame.{walk_on, begins_at}
 use Rattle.kr_view.specs.Leads.{numbered}
 use Rattle.kr_view.specs.Walk.{looking}
-use Rattle.kr_view.specs.Sights.{surroundings_of}
-use Rattle.kr_view.specs.Stacks.{stack_of}
+use Rattle.kr_view.specs.inside.Sights.{surroundings_of}
+use Rattle.kr_view.specs.inside.Stacks.{stack_of}
 use Rattle.kr_view.proofs.RestLemmas.{parts_fewer}
 use Rattle.pr_base.proofs.WalkLemmas.{onward-less}
 use Rattle.kr_view.proofs.surroundings.Surroundings.follow.Goals as goal

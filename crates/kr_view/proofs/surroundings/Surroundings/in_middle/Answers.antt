@@ -4,12 +4,12 @@ use Rattle.pr_base.specs.WalkFrame.{begins_at, onward}
 use Rattle.kr_view.specs.declared.walk.Walk.{Walk}
 use Rattle.kr_view.specs.Component.{SeenPlace, seen_link}
 use Rattle.kr_view.specs.Leads.{numbered}
-use Rattle.kr_view.specs.Rests.{components_left}
+use Rattle.kr_view.specs.inside.Rests.{components_left}
 use Rattle.kr_view.specs.Walk.{looking}
-use Rattle.kr_view.specs.Stacks.{stack_of}
-use Rattle.kr_view.specs.Sights.{surroundings_of, sight_seen}
+use Rattle.kr_view.specs.inside.Stacks.{stack_of}
+use Rattle.kr_view.specs.inside.Sights.{surroundings_of, sight_seen}
 use Rattle.kr_view.specs.Reach.{reach_after}
-use Rattle.kr_view.specs.Steps.{middle_trail, HasOutcome}
+use Rattle.kr_view.specs.inside.Steps.{middle_trail, HasOutcome}
 use Rattle.kr_view.proofs.OutcomeLemmas.{want_behind, at_follow_error}
 use Rattle.kr_view.proofs.surroundings.Surroundings.in_middle.Goals as goal
 

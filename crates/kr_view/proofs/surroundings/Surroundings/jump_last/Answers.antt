@@ -5,7 +5,7 @@ use Rattle.kr_view.specs.declared.target.Reach.{Reach}
 use Rattle.kr_view.specs.Reach.{Covers, reached_landing}
 use Rattle.kr_view.specs.Component.{landing}
 use Rattle.kr_view.specs.Leads.{numbered, lead_numbered}
-use Rattle.kr_view.specs.Sights.{surroundings_of}
+use Rattle.kr_view.specs.inside.Sights.{surroundings_of}
 use Rattle.kr_view.proofs.ReachLemmas.{covers_landing}
 use Rattle.kr_view.proofs.LastLemmas.{last_want, last_text_error, landed_ends, landed_error}
 use Rattle.kr_view.proofs.surroundings.Surroundings.jump_last.Goals as goal

@@ -1,6 +1,6 @@
 use Rattle.std.proofs.Common.{sym, ◌∙◌, refl}
 use Rattle.kr_view.specs.Leads.{numbered}
-use Rattle.kr_view.specs.Sights.{surroundings_of}
+use Rattle.kr_view.specs.inside.Sights.{surroundings_of}
 use Rattle.kr_view.proofs.LandingLemmas.{landed_directory, landed_file, lands_in_directory, lands_at_file}
 use Rattle.kr_view.proofs.surroundings.Surroundings.landed.Goals as goal
 

@@ -2,7 +2,7 @@ use Rattle.std.proofs.Common.{length, sym, ap, ◌∙◌}
 use Rattle.std.specs.Option.{option_map}
 use Rattle.kr_tree.specs.Names.{host_name}
 use Rattle.kr_view.specs.Leads.{numbered}
-use Rattle.kr_view.specs.Sights.{surroundings_of}
+use Rattle.kr_view.specs.inside.Sights.{surroundings_of}
 use Rattle.kr_view.specs.Reach.{text_length}
 use Rattle.kr_view.proofs.NameLemmas.{lengths_below}
 use Rattle.kr_view.proofs.LandingLemmas.{landing_of_file}

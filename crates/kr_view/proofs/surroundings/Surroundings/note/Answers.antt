@@ -1,10 +1,10 @@
 use Rattle.std.proofs.Common.{◌||◌, ap, ◌∙◌}
 use Rattle.kr_view.specs.Leads.{numbered}
-use Rattle.kr_view.specs.Components.{component_data}
-use Rattle.kr_view.specs.Sights.{surroundings_of}
+use Rattle.kr_view.specs.inside.Components.{component_data}
+use Rattle.kr_view.specs.inside.Sights.{surroundings_of}
 use Rattle.kr_view.specs.Names.{directory_name}
 use Rattle.kr_view.specs.Reach.{greater}
-use Rattle.kr_view.specs.Steps.{noted}
+use Rattle.kr_view.specs.inside.Steps.{noted}
 use Rattle.kr_view.proofs.ReachLemmas.{noted_part, part_at_error}
 use Rattle.kr_view.proofs.surroundings.Surroundings.note.Goals as goal
 

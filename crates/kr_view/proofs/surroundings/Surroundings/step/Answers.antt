@@ -3,13 +3,13 @@ use Rattle.pr_base.specs.Paths.{Component, component_of}
 use Rattle.kr_tree.specs.declared.place.Place.{Place}
 use Rattle.kr_view.specs.Component.{look_up}
 use Rattle.kr_view.specs.Leads.{numbered}
-use Rattle.kr_view.specs.Components.{component_data}
+use Rattle.kr_view.specs.inside.Components.{component_data}
 use Rattle.kr_view.specs.Reach.{Covers}
-use Rattle.kr_view.specs.Rests.{components_left}
-use Rattle.kr_view.specs.Sights.{surroundings_of, sight_seen}
-use Rattle.kr_view.specs.Stacks.{stack_of, taken_bytes}
-use Rattle.kr_view.specs.Steps.{noted}
-use Rattle.kr_view.specs.Ways.{IsSightWay}
+use Rattle.kr_view.specs.inside.Rests.{components_left}
+use Rattle.kr_view.specs.inside.Sights.{surroundings_of, sight_seen}
+use Rattle.kr_view.specs.inside.Stacks.{stack_of, taken_bytes}
+use Rattle.kr_view.specs.inside.Steps.{noted}
+use Rattle.kr_view.specs.inside.Ways.{IsSightWay}
 use Rattle.kr_view.proofs.StepLemmas.{ends_at_beginning, last_outcome, middle_outcome, note_error}
 use Rattle.kr_view.proofs.surroundings.Surroundings.step.Goals as goal
 

@@ -2,23 +2,16 @@
 use Rattle.std.specs.Prelude.{ℕ, List, Option}
 use Rattle.pr_base.specs.WalkFrame as frame
 use Rattle.kr_tree.specs.declared.place.ProcAt.{ProcAt}
-use Rattle.kr_inode.specs.declared.user.User.{User}
-use Rattle.kr_tree.specs.Tree.{Tree}
 use Rattle.kr_view.specs.declared.procs.Lead.{Lead}
 use Rattle.kr_view.specs.declared.surroundings.Surroundings.{Surroundings as Held}
 use Rattle.kr_view.specs.declared.surroundings.Sight.{Sight}
 use Rattle.kr_view.specs.declared.surroundings.Sight.TheVariants.{Fails, Missing, Leads, Links, Jumps}
 use Rattle.kr_view.specs.View.{Row}
-use Rattle.kr_view.specs.Leads.{numbered, lead_numbered}
+use Rattle.kr_view.specs.Leads.{numbered}
+use Rattle.kr_view.specs.Walk.{surroundings}
 use Rattle.kr_view.specs.Component.{Surroundings, SeenPlace, seen_link}
 
--- what a view, a tree and the processes show to a caller, with the numbers of the mounts
-abbrev pub surroundings : {M : Type 0} → (M → ℕ) → List Row → Tree → User → (Option ProcAt → List ℕ → Option ProcAt) → (ProcAt → Lead M) → Surroundings
-surroundings number table tree user finds leads = record {
-  space = record { table = table; tree = tree; user = user; finds = finds };
-  leads = λ at. lead_numbered number (leads at);
-}
-
+-- the surroundings of a walk in its hands
 abbrev pub surroundings_of : {M P Q : Type 0} → (M → ℕ) → (P → List Row) → (Q → ℕ → Option ProcAt → List ℕ → Option ProcAt) → (Q → ℕ → ProcAt → Lead M) → Held P Q → Surroundings
 surroundings_of number mounts finds leads a =
     surroundings number (mounts a.places.now) a.tree.now a.user (finds a.procs.now a.caller) (leads a.procs.now a.caller)

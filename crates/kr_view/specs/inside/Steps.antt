@@ -21,13 +21,13 @@ use Rattle.kr_view.specs.declared.walk.Step.{Step}
 use Rattle.kr_view.specs.declared.walk.Step.TheVariants.{Goes, Ends}
 use Rattle.kr_view.specs.Leads.{numbered}
 use Rattle.kr_view.specs.Component.{Surroundings, SeenPlace, seen_link}
-use Rattle.kr_view.specs.Sights.{sight_seen}
+use Rattle.kr_view.specs.inside.Sights.{sight_seen}
 use Rattle.kr_view.specs.Walk.{PlaceTrail, PlaceTarget, looking}
 use Rattle.kr_view.specs.Reach.{Covers, look_reach, reach_after}
 use Rattle.kr_view.specs.Answers.{told, target_numbered}
-use Rattle.kr_view.specs.Positions.{IsNamed}
-use Rattle.kr_view.specs.Rests.{components_left}
-use Rattle.kr_view.specs.Stacks.{stack_of, taken_bytes}
+use Rattle.kr_view.specs.inside.Positions.{IsNamed}
+use Rattle.kr_view.specs.inside.Rests.{components_left}
+use Rattle.kr_view.specs.inside.Stacks.{stack_of, taken_bytes}
 
 -- what is left of a walk
 abbrev pub trail_of : {M : Type 0} → (M → ℕ) → Surroundings → WalkMode → Walk M → PlaceTrail

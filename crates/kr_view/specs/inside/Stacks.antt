@@ -3,7 +3,7 @@ use Rattle.std.specs.Prelude.{ℕ, List, slice_range}
 use Rattle.pr_base.specs.Paths.{Component}
 use Rattle.kr_view.specs.declared.rests.Rests.{Rests}
 use Rattle.kr_view.specs.declared.rests.Taken.{Taken}
-use Rattle.kr_view.specs.Rests.{stacked}
+use Rattle.kr_view.specs.inside.Rests.{stacked}
 
 abbrev pub stack_of : Rests → List Component
 stack_of rests = stacked rests.list.items

@@ -8,7 +8,7 @@ use Rattle.kr_tree.specs.declared.place.ProcAt.TheVariants.{SelfLink, Dir, Cwd, 
 use Rattle.kr_tree.specs.Tree.{Tree}
 use Rattle.kr_tree.specs.Names.{host_name}
 use Rattle.kr_view.specs.Component.{Namespace, is_shown}
-use Rattle.kr_view.specs.Ways.{ino_of}
+use Rattle.kr_view.specs.inside.Ways.{ino_of}
 
 -- the bytes below the root are those of the host name of an object's inode
 abbrev pub IsNamed : Tree → Host → Option (List ℕ) → Type 0
