@@ -1,6 +1,6 @@
 -- Inodes after one of them was changed.
 use Rattle.std.specs.FinMap as map
-use Rattle.std.proofs.Common.{◌≡◌, ◌≢◌, ℕ, Bool, true, false, refl, sym, ap, ◌∙◌, cond, Option, Some, None}
+use Rattle.std.proofs.Common.{◌≡◌, ◌≢◌, ℕ, Bool, true, false, refl, sym, ap, ◌∙◌, cond, Option, None}
 use Rattle.std.specs.Option.{option_map, option_map_or}
 use Rattle.pr_base.proofs.MapLemmas.{same_values, by_key, get-remove_same, get-remove_other, get-changed_same, get-changed_other, stays-changed}
 use Rattle.kr_tree.specs.Tree.{Inode, Inodes}
