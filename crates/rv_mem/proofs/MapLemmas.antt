@@ -1,18 +1,14 @@
 -- The tree that stores the pages, as a finite map.
 use Rattle.std.specs.FinMap as map
-use Rattle.std.proofs.Common.{◌≡◌, ◌≤◌, ◌<◌, ℕ, ◌+◌, true, false, List, [], ◌∷◌, length, refl, sym, ap, subst, ◌∙◌, cond, Option, Some, None, arith, is_some, add-one, Bor}
-use Rattle.std.specs.Ordering.{nat_cmp, eq_by_cmp, is_eq, is_gt}
+use Rattle.std.proofs.Common.{◌≡◌, ◌≤◌, ◌<◌, ℕ, true, false, List, [], ◌∷◌, refl, sym, ap, subst, ◌∙◌, Option, Some, None, arith, is_some, Bor}
+use Rattle.std.specs.Ordering.{nat_cmp, is_gt}
 use Rattle.std.specs.declared.cmp.Ordering.TheVariants.{Less}
-use Rattle.std.specs.List.{AllByRecursion}
 use Rattle.std.specs.Option.{IsSome, option_copied}
-use Rattle.std.specs.Cmp.{nat_cmp_total}
-use Rattle.std.specs.Map.{lookup, keys_of}
-use Rattle.std.specs.List.Sorted.{IsStrictlySortedBy}
-use Rattle.std.proofs.lemmas.Map.Keys.{sorted_head, sorted_tail, le_from_not_gt}
+use Rattle.std.proofs.lemmas.Map.Keys.{le_from_not_gt}
 use Rattle.std.proofs.lemmas.Bool.Decides.{nat_tests}
 use Rattle.std.specs.BTreeMap.Range.{IsRangeOf}
 use Rattle.std.specs.declared.ops.Bound.TheVariants.{Included, Excluded}
-use Rattle.std.specs.BTreeMap.{BTreeMap, is_at, get_by, Updates, UpdatesBy}
+use Rattle.std.specs.BTreeMap.{BTreeMap, get_by, UpdatesBy}
 use Rattle.rv_mem.specs.Page.{PageState}
 use Rattle.rv_mem.specs.Pages.{Pages, with_page, HasNoPages}
 use Rattle.pr_base.proofs.BTreeLemmas.{get-view, inserted}
