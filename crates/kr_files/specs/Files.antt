@@ -13,7 +13,9 @@ use Rattle.kr_files.specs.declared.opened.PipeState.{PipeState}
 use Rattle.kr_files.specs.Descriptors.{Descriptors, Meanings, meanings, named_count, lowest_pair}
 use Rattle.pr_base.specs.Maps.{changed, mapped}
 use Rattle.kr_files.specs.Opened.{is_reader, is_writer, pipe_end}
-use Rattle.kr_files.specs.Pipes.{after_write, read_waits}
+use Rattle.kr_files.specs.declared.opened.Moved.{Moved}
+use Rattle.kr_files.specs.declared.opened.Wrote.{Wrote}
+use Rattle.kr_files.specs.Pipes.{after_write, moved_of, wrote_of, read_waits}
 
 -- an open file, and how many descriptors name it
 pub record Counted (M : Type 0) : Type 0 where
@@ -145,6 +147,13 @@ module _ {M : Type 0} where
   with_all_opened f t = record t { files = mapped (λ n. on_opened f) t.files }
 
   -- ---- bytes of pipes
+
+  -- what a read of n bytes answers, and what a write does
+  abbrev pub read_answer : Table M → ℕ → ℕ → Option Moved
+  read_answer t p n = option_map (λ bytes. moved_of bytes (has_writer t p) n) (map.get t.pipes p)
+
+  abbrev pub write_answer : Table M → ℕ → List ℕ → Option Wrote
+  write_answer t p b = option_map (λ bytes. wrote_of bytes (has_reader t p) b) (map.get t.pipes p)
 
   -- with these bytes in a pipe
   abbrev pub with_bytes : ℕ → List ℕ → Table M → Table M

@@ -44,10 +44,9 @@ impl<M> Model for Files<M> {
 
 impl<M: Copy> Files<M> {
     ghost use Rattle.kr_files.specs.Descriptors.{lowest_free, lowest_pair, with_copy_at, meanings};
-    ghost use Rattle.kr_files.specs.Files.{empty_table, with_all_opened, with_file, with_pipe, with_copies, FitsCopies, GivesPair, has_reader, has_writer, reads_wait, writes_wait, takes_pipe, pipe_after_read, pipe_after_write, pipe_state_of, on_table, with_opened, at_offset, with_append, NamesOpenFiles, opened_at, count_at, by_descriptor, copied, released, Gives};
+    ghost use Rattle.kr_files.specs.Files.{empty_table, with_all_opened, with_file, with_pipe, with_copies, FitsCopies, GivesPair, has_reader, reads_wait, read_answer, write_answer, writes_wait, takes_pipe, pipe_after_read, pipe_after_write, pipe_state_of, on_table, with_opened, at_offset, with_append, NamesOpenFiles, opened_at, count_at, by_descriptor, copied, released, Gives};
     ghost use Rattle.kr_files.specs.Opened.{is_no_end, after_removal, after_rename};
     ghost use Rattle.kr_files.specs.Laws.{IsKept};
-    ghost use Rattle.kr_files.specs.Pipes.{moved_of, wrote_of};
 
     /// Nothing is open. It takes no memory.
     pub fn new(alloc: Global) -> Files<M>
@@ -268,7 +267,7 @@ impl<M: Copy> Files<M> {
         requires exists { IsSome (map.get self.old.table.pipes pipe) }
         requires asked { 0 < n }
         ensures waits { (result ≡ Ok Moved.NotReady) ↔ IsTrue (reads_wait self.old.table pipe) }
-        ensures answer { IfOk result (λ moved. option_map (λ bytes. moved_of bytes (has_writer self.old.table pipe) n) (map.get self.old.table.pipes pipe) ≡ Some moved) }
+        ensures answer { IfOk result (λ moved. read_answer self.old.table pipe n ≡ Some moved) }
         ensures after { OnOk result (self.new ≡ on_table (pipe_after_read pipe n) self.old) }
         ensures err { OnErr result (self.new ≡ self.old) }
     {
@@ -284,7 +283,7 @@ impl<M: Copy> Files<M> {
         requires asked { 0 < length b.now }
         ensures waits { (result ≡ Ok Wrote.NotReady) ↔ IsTrue (writes_wait self.old.table pipe) }
         ensures no_reader { (result ≡ Ok Wrote.NoReader) ↔ (has_reader self.old.table pipe ≡ false) }
-        ensures answer { IfOk result (λ wrote. option_map (λ bytes. wrote_of bytes (has_reader self.old.table pipe) b.now) (map.get self.old.table.pipes pipe) ≡ Some wrote) }
+        ensures answer { IfOk result (λ wrote. write_answer self.old.table pipe b.now ≡ Some wrote) }
         ensures after { OnOk result (self.new ≡ on_table (pipe_after_write pipe b.now) self.old) }
         ensures err { OnErr result (self.new ≡ self.old) }
     {
