@@ -1,5 +1,5 @@
 -- Guest names.
-use Rattle.std.proofs.Common.{◌≡◌, ◌≢◌, ◌+◌, ◌<◌, ℕ, Bool, true, false, cond, Option, Some, None, List, [], ◌∷◌, ◌++◌, length, refl, sym, ap, ◌∙◌, arith, append-nil, append_assoc, drop, nat_eq}
+use Rattle.std.proofs.Common.{◌≡◌, ℕ, Bool, true, false, Option, Some, None, List, [], ◌++◌, refl, sym, ap, ◌∙◌, append-nil, drop, nat_eq}
 use Rattle.std.specs.Bool.{if◌then◌else◌}
 use Rattle.std.specs.Option.{option_map, option_and_then}
 use Rattle.std.proofs.lemmas.Bool.{eq-eqb}
@@ -12,11 +12,11 @@ use Rattle.kr_tree.specs.declared.place.Place.{Place}
 use Rattle.kr_tree.specs.declared.place.ProcAt.{ProcAt}
 use Rattle.kr_tree.specs.Lawful.{IsSound}
 use Rattle.kr_tree.specs.Names.{host_name}
-use Rattle.kr_tree.specs.Tree.{Tree, root, body_is, is_directory}
+use Rattle.kr_tree.specs.Tree.{Tree, body_is, is_directory}
 use Rattle.kr_tree.proofs.NameLemmas.{host_name-of_root, no_directory_name}
 use Rattle.kr_view.specs.View.{Row, row, node_in, plain, plain_row}
-use Rattle.kr_view.specs.Component.{Namespace, is_process_directory, is_directory_at}
-use Rattle.kr_view.specs.Names.{Text, below, names_below, names_down, Remembered, host_entry, guest_directory, guest_entry, is_file_source, guest_node, guest_process, guest_object, process_object_name, directory_name, object_name, guest_name}
+use Rattle.kr_view.specs.Component.{Namespace, is_process_directory}
+use Rattle.kr_view.specs.Names.{Text, below, names_below, names_down, Remembered, host_entry, guest_directory, guest_entry, is_file_source, guest_node, guest_process, guest_object, process_object_name, object_name, guest_name}
 
 -- all is below the root, and stays as it is
 below_the_root : (text : Option Text) → option_map (λ names. names ++ []) (option_and_then (names_below []) text) ≡ text

@@ -1,9 +1,9 @@
 -- A walk comes to places of the view in the tree alone.
-use Rattle.std.proofs.Common.{◌≡◌, ℕ, ◌<◌, zero, suc, Bool, true, false, List, [], ◌∷◌, Option, Some, None, Ok, refl, sym, ap, subst, ◌∙◌, arith, nat_eq}
+use Rattle.std.proofs.Common.{◌≡◌, ℕ, ◌<◌, zero, suc, Bool, true, false, List, [], ◌∷◌, Option, Some, None, refl, sym, ap, subst, ◌∙◌, arith, nat_eq}
 use Rattle.std.specs.Bool.{if◌then◌else◌}
 use Rattle.std.specs.Option.{option_map, option_map_or, option_and_then}
-use Rattle.pr_base.specs.Paths.{Component, Dot, DotDot, Name, components_of, has_slash}
-use Rattle.pr_base.specs.WalkFrame.{Fails, Missing, Leads, Links, Jumps, Landing, most_links, begins_at}
+use Rattle.pr_base.specs.Paths.{Component, Dot, DotDot, Name, has_slash}
+use Rattle.pr_base.specs.WalkFrame.{Fails, Missing, Leads, Links, Jumps, Landing, most_links}
 use Rattle.pr_base.specs.declared.errno.Errno.TheVariants.{ENOENT, EACCES, ENOTDIR, ENAMETOOLONG}
 use Rattle.pr_base.specs.declared.path.WalkMode.{WalkMode}
 use Rattle.pr_base.proofs.EndLemmas.{EndsSo}
@@ -16,16 +16,15 @@ use Rattle.kr_tree.specs.declared.place.Place.{Place}
 use Rattle.kr_tree.specs.declared.place.ProcAt.{ProcAt}
 use Rattle.kr_tree.specs.declared.place.ProcAt.TheVariants.{SelfLink, Dir, Cwd, Root, Exe, FdDir, Fd}
 use Rattle.kr_tree.specs.Tree.{Tree, Inode, Entry, Body, Directory, RegularFile, SymbolicLink, ProcessDirectory, inode, body, body_is, entry, entry_named, entries, above as node_above, is_directory, is_listed}
-use Rattle.kr_tree.specs.Lawful.{IsSound, HasItsInodes}
 use Rattle.kr_tree.proofs.CountLemmas.{above_there, entries_there}
 use Rattle.kr_view.specs.declared.procs.Lead.{Lead}
 use Rattle.kr_view.specs.declared.procs.Lead.TheVariants.{Text, Jump, Nameless, NoLink}
-use Rattle.kr_view.specs.View.{Point, Row, row, node_in, root_place, point_place, is_there, down, up, is_root_place, StandsIn}
+use Rattle.kr_view.specs.View.{Point, Row, row, node_in, root_place, point_place, is_there, down, up, is_root_place}
 use Rattle.kr_view.specs.Component.{Surroundings, SeenPlace, is_process_directory, is_directory_at, may_search, shows_directory, seen_body, landing, seen_link, seen_at, above_body, above_node, is_shown, above_process, above_host, seen_in_processes, seen_entry, is_processes, in_node, through_point, named_in, too_long, inside, look_up}
 use Rattle.kr_view.specs.Walk.{PlaceTarget, looking, place_walk}
 use Rattle.pr_base.specs.WalkLaws.{Shows}
 use Rattle.kr_view.specs.Laws.{IsSettledSource}
-use Rattle.kr_view.specs.InTree.{IsObjectOf, IsPlaceOf, LeadToPlaces, LeadToEntries, StandsAround, WalksKeepPlaces}
+use Rattle.kr_view.specs.InTree.{IsObjectOf, IsPlaceOf, LeadToEntries, StandsAround, WalksKeepPlaces}
 use Rattle.kr_view.proofs.TableLemmas.{laws_of_places}
 
 -- what passes a test is there

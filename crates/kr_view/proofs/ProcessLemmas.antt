@@ -1,7 +1,5 @@
 -- What process directories keep.
-use Rattle.std.proofs.Common.{◌≡◌, ℕ, Some, None, refl}
-use Rattle.kr_view.specs.Processes.{LawsOfProcesses, no_finds, no_leads}
-use Rattle.kr_view.specs.InTree.{LeadToPlaces, LeadToEntries, NoProcessesKeepLaws}
+use Rattle.kr_view.specs.InTree.{NoProcessesKeepLaws}
 
 pub no_processes : NoProcessesKeepLaws
 no_processes = record {

@@ -1,5 +1,5 @@
 -- Places of a view in a tree.
-use Rattle.std.specs.Prelude.{ℕ, ◌≡◌, ◌≢◌, true, false, List, [], Option, Some, Ok}
+use Rattle.std.specs.Prelude.{ℕ, ◌≡◌, true, false, List, [], Some, Ok}
 use Rattle.pr_base.specs.Paths.{IsName}
 use Rattle.pr_base.specs.declared.path.WalkMode.{WalkMode}
 use Rattle.kr_tree.specs.declared.place.Host.{Host}

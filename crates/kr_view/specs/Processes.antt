@@ -4,7 +4,7 @@ use Rattle.kr_tree.specs.declared.place.ProcAt.{ProcAt}
 use Rattle.kr_tree.specs.declared.place.ProcAt.TheVariants.{SelfLink, Dir, Cwd, Root, Exe, FdDir, Fd}
 use Rattle.kr_tree.specs.Names.{process_names}
 use Rattle.kr_view.specs.declared.procs.Lead.{Lead}
-use Rattle.kr_view.specs.declared.procs.Lead.TheVariants.{Text, Jump, Nameless, NoLink}
+use Rattle.kr_view.specs.declared.procs.Lead.TheVariants.{Text, NoLink}
 use Rattle.kr_view.specs.View.{is_there}
 use Rattle.kr_view.specs.Component.{Finds}
 

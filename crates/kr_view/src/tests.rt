@@ -1,8 +1,11 @@
 ghost use Rattle.std.specs.Prelude.{◌<◌};
 
+use crate::laws::plain_stands;
 use crate::{
-    Host, HostMount, Lead, NoProcs, Place, Places, Plain, ProcAt, Procs, Reach, WalkFault, resolve,
+    Host, HostMount, Lead, NoProcs, Place, Places, Plain, ProcAt, Procs, Reach, WalkFault,
+    guest_name, resolve,
 };
+use kr_tree::laws::trees_are_kept;
 use kr_tree::{Ino, Meta, Node, ROOT, Tree, User};
 use pr_base::{Bytes, Errno, Last, NoMemory, WalkMode};
 use std::alloc::Global;
@@ -672,5 +675,33 @@ fn what_was_reached_before_stays(rt: HostRuntime) -> Result<(), Fail> {
     assert_eq!(rt; answer, Seen::At(1, 1, Last::Name, false, Some(2)));
     assert_eq!(rt; reach.longest, 9);
     assert!(rt; reach.met_proc);
+    Ok(())
+}
+
+/// The guest name of an inode over the host's own view.
+fn called(
+    alloc: Global,
+    tree: &Tree,
+    ino: Ino,
+    remembered: Option<(Ino, &[u8])>,
+) -> Result<Option<Bytes>, NoMemory> {
+    plain_stands();
+    trees_are_kept(tree);
+    guest_name(alloc, &Plain::new(), tree, HostMount, ino, remembered)
+}
+
+#[test]
+fn guest_names_over_the_hosts_own_view(rt: HostRuntime) -> Result<(), Fail> {
+    let alloc = rt.alloc();
+    let tree = plain_tree(alloc)?.ok_or("no tree")?;
+    let root = called(alloc, &tree, ROOT, None)?.ok_or("the root has no name")?;
+    assert_eq!(rt; root.as_slice(), b"/".as_slice());
+    let directory = called(alloc, &tree, 3, None)?.ok_or("no name of a directory")?;
+    assert_eq!(rt; directory.as_slice(), b"/d/e".as_slice());
+    let file = called(alloc, &tree, 5, Some((3, b"g")))?.ok_or("no name of a file")?;
+    assert_eq!(rt; file.as_slice(), b"/d/e/g".as_slice());
+    let beside_root = called(alloc, &tree, 5, Some((ROOT, b"h")))?.ok_or("no name below the root")?;
+    assert_eq!(rt; beside_root.as_slice(), b"/h".as_slice());
+    assert!(rt; called(alloc, &tree, 5, None)?.is_none());
     Ok(())
 }

@@ -1,9 +1,9 @@
-use Rattle.std.proofs.Common.{◌≡◌, ℕ, List, Bool, Option, sym, ap, ◌∙◌}
+use Rattle.std.proofs.Common.{Bool, sym, ap, ◌∙◌}
 use Rattle.std.specs.Bool.{if◌then◌else◌}
 use Rattle.std.specs.Option.{option_map}
 use Rattle.pr_base.specs.Paths.{text_of}
 use Rattle.kr_view.specs.View.{Row, row}
-use Rattle.kr_view.specs.Names.{guest_below, is_file_source}
+use Rattle.kr_view.specs.Names.{guest_below}
 use Rattle.kr_view.proofs.GuestNameLemmas.{rooted_text}
 use Rattle.kr_view.proofs.guest.guest_name.Goals as goal
 

@@ -1,10 +1,8 @@
-use Rattle.std.proofs.Common.{◌≡◌, ◌≢◌, ℕ, true, false, Option, Some, None, arith, sym, ap, ◌∙◌, nat_eq, not, refl}
+use Rattle.std.proofs.Common.{sym, ap, ◌∙◌}
 use Rattle.std.specs.Option.{option_map}
 use Rattle.std.proofs.lemmas.Bool.{eqb-true}
 use Rattle.pr_base.specs.Paths.{below_root}
-use Rattle.kr_tree.specs.Tree.{above}
-use Rattle.kr_view.specs.View.{Row, row}
-use Rattle.kr_view.proofs.WayUpLemmas.{way_begins, within, found_down, none_down, not_removed, way_goes_on, called_apart}
+use Rattle.kr_view.proofs.WayUpLemmas.{way_begins, found_down, none_down, not_removed, way_goes_on, called_apart}
 use Rattle.kr_view.proofs.guest.source_end.Goals as goal
 
 pub loop-mount-init : goal.loop-mount-init

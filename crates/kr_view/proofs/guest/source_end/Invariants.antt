@@ -1,7 +1,6 @@
 use Rattle.std.proofs.Common.{◌≡◌, Some}
 use Rattle.kr_tree.specs.Names.{host_name}
 use Rattle.kr_view.specs.View.{Row, row}
-use Rattle.kr_view.specs.Names.{Text}
 use Rattle.kr_view.proofs.WayUpLemmas.{WayUp}
 use Rattle.kr_view.proofs.guest.source_end.Given as goal
 
