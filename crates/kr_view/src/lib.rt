@@ -21,6 +21,3 @@ pub use procs::{Lead, NoProcs, Procs};
 pub use target::{Reach, Target, WalkFault};
 pub use view::{HostMount, MountRow, Places, Plain};
 pub use walk::resolve;
-
-#[cfg(test)]
-mod tests;

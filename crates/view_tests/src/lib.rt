@@ -1,5 +1,14 @@
-//! Tests of walks over a tree that was read from a listing.
+//! Tests of walks: over trees that are made name by name, over one that was read from a listing, and through links of
+//! the process directory.
 #![tactic(auto)]
 
 #[cfg(test)]
-mod tests;
+mod listed;
+#[cfg(test)]
+mod made;
+#[cfg(test)]
+mod processes;
+#[cfg(test)]
+mod reached;
+#[cfg(test)]
+mod walking;

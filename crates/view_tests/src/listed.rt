@@ -1,24 +1,15 @@
 //! Walks over the *data* listing, with ample memory. What each must answer was worked out by hand: nodes have
 //! the numbers of their lines, from the root's 1 on.
 
+use crate::walking::{Seen, nothing, walk};
 use fixtures::DATA;
-use kr_tree::{Ino, Tree, User};
-use kr_view::{Host, HostMount, NoProcs, Place, Places, Plain, Reach, Target, WalkFault, resolve};
+use kr_tree::Ino;
+use kr_view::NoProcs;
 use pr_base::{Errno, Last, WalkMode};
-use std::alloc::Global;
 use std::test::Fail;
 
 /// The bytes of the ELF source.
 const ELF: &[u8] = b"\x7fELF";
-
-/// What a walk answered, without the bytes of its name.
-#[derive(Clone, Copy, Debug, PartialEq, Eq)]
-enum Seen {
-    Refused(Errno),
-    /// The directory, how many bytes the name has, its kind, the slash, and what was found.
-    At(Ino, usize, Last, bool, Option<Ino>),
-    WantsMemory,
-}
 
 /// A path, and what the walk along it answers.
 #[derive(Clone, Copy)]
@@ -50,49 +41,9 @@ fn ended(path: &'static [u8], dir: Ino, last: Last, found: Ino) -> Case {
     }
 }
 
-fn ino(place: Place<HostMount>) -> Ino {
-    match place.host {
-        Host::Node(ino) | Host::Proc(ino, _) => ino,
-    }
-}
-
-fn told(answer: Result<Target<HostMount>, WalkFault>) -> Seen {
-    match answer {
-        Ok(target) => {
-            let found = match target.found {
-                Some(place) => Some(ino(place)),
-                None => None,
-            };
-            Seen::At(
-                ino(target.dir),
-                target.name.len(),
-                target.last,
-                target.slash,
-                found,
-            )
-        }
-        Err(WalkFault::Err(errno)) => Seen::Refused(errno),
-        Err(WalkFault::NoMemory) => Seen::WantsMemory,
-    }
-}
-
-/// A walk from the root of the host.
-fn walk(alloc: Global, tree: &Tree, user: User, path: &[u8], mode: WalkMode) -> Seen {
-    let places = Plain::new();
-    let procs = NoProcs::new();
-    let mut reach = Reach {
-        longest: 0,
-        met_proc: false,
-    };
-    let base = places.root();
-    told(resolve(
-        alloc, &places, &procs, tree, user, 2, base, path, mode, &mut reach,
-    ))
-}
-
 #[test]
 fn look_ups_of_the_data_listing(rt: HostRuntime) -> Result<(), Fail> {
-    let (tree, user) = kr_text::read(rt.alloc(), DATA, Some(ELF))?;
+    let (tree, _user) = kr_text::read(rt.alloc(), DATA, Some(ELF))?;
     let table = [
         named(b"/data/n", 2, 1, false, Some(3)),
         refused(b"/data/n/", Errno::ENOTDIR),
@@ -108,7 +59,14 @@ fn look_ups_of_the_data_listing(rt: HostRuntime) -> Result<(), Fail> {
         named(b"/g/a/b/../x", 12, 1, false, Some(13)),
     ];
     for case in table {
-        let answer = walk(rt.alloc(), &tree, user, case.path, WalkMode::Look);
+        let answer = walk(
+            rt.alloc(),
+            &tree,
+            &NoProcs::new(),
+            case.path,
+            WalkMode::Look,
+            &mut nothing(),
+        );
         assert_eq!(rt; answer, case.want);
     }
     Ok(())
@@ -116,7 +74,7 @@ fn look_ups_of_the_data_listing(rt: HostRuntime) -> Result<(), Fail> {
 
 #[test]
 fn look_ups_that_keep_a_last_link(rt: HostRuntime) -> Result<(), Fail> {
-    let (tree, user) = kr_text::read(rt.alloc(), DATA, Some(ELF))?;
+    let (tree, _user) = kr_text::read(rt.alloc(), DATA, Some(ELF))?;
     let table = [
         named(b"/data/abs", 2, 3, false, Some(4)),
         refused(b"/data/abs/", Errno::ENOENT),
@@ -128,7 +86,14 @@ fn look_ups_that_keep_a_last_link(rt: HostRuntime) -> Result<(), Fail> {
         refused(b"/data/free", Errno::ENOENT),
     ];
     for case in table {
-        let answer = walk(rt.alloc(), &tree, user, case.path, WalkMode::LookLink);
+        let answer = walk(
+            rt.alloc(),
+            &tree,
+            &NoProcs::new(),
+            case.path,
+            WalkMode::LookLink,
+            &mut nothing(),
+        );
         assert_eq!(rt; answer, case.want);
     }
     Ok(())
@@ -136,7 +101,7 @@ fn look_ups_that_keep_a_last_link(rt: HostRuntime) -> Result<(), Fail> {
 
 #[test]
 fn entries_that_are_there_or_free(rt: HostRuntime) -> Result<(), Fail> {
-    let (tree, user) = kr_text::read(rt.alloc(), DATA, Some(ELF))?;
+    let (tree, _user) = kr_text::read(rt.alloc(), DATA, Some(ELF))?;
     let table = [
         named(b"/data/abs", 2, 3, false, Some(4)),
         named(b"/data/abs/", 2, 3, true, Some(4)),
@@ -148,7 +113,14 @@ fn entries_that_are_there_or_free(rt: HostRuntime) -> Result<(), Fail> {
         refused(b"/data/free/x", Errno::ENOENT),
     ];
     for case in table {
-        let answer = walk(rt.alloc(), &tree, user, case.path, WalkMode::Name);
+        let answer = walk(
+            rt.alloc(),
+            &tree,
+            &NoProcs::new(),
+            case.path,
+            WalkMode::Name,
+            &mut nothing(),
+        );
         assert_eq!(rt; answer, case.want);
     }
     Ok(())
@@ -156,7 +128,7 @@ fn entries_that_are_there_or_free(rt: HostRuntime) -> Result<(), Fail> {
 
 #[test]
 fn entries_to_which_a_last_link_leads(rt: HostRuntime) -> Result<(), Fail> {
-    let (tree, user) = kr_text::read(rt.alloc(), DATA, Some(ELF))?;
+    let (tree, _user) = kr_text::read(rt.alloc(), DATA, Some(ELF))?;
     let table = [
         named(b"/data/abs", 1, 1, false, None),
         named(b"/data/abs/", 1, 1, true, None),
@@ -168,7 +140,14 @@ fn entries_to_which_a_last_link_leads(rt: HostRuntime) -> Result<(), Fail> {
         ended(b"/", 1, Last::Root, 1),
     ];
     for case in table {
-        let answer = walk(rt.alloc(), &tree, user, case.path, WalkMode::Open);
+        let answer = walk(
+            rt.alloc(),
+            &tree,
+            &NoProcs::new(),
+            case.path,
+            WalkMode::Open,
+            &mut nothing(),
+        );
         assert_eq!(rt; answer, case.want);
     }
     Ok(())
