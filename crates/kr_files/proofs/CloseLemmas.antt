@@ -1,6 +1,6 @@
 -- A descriptor less: the open files, and the pipes with them.
 use Rattle.std.specs.FinMap as map
-use Rattle.std.proofs.Common.{◌≡◌, ◌≢◌, ◌⊎◌, ◌-◌, ◌≤◌, length, inl, inr, subst, ℕ, Bool, true, false, not, List, refl, sym, ap, ◌∙◌, cond, Option, Some, None, is_some, nat_lt}
+use Rattle.std.proofs.Common.{◌≡◌, ◌≢◌, ◌⊎◌, ◌-◌, ◌≤◌, length, inl, inr, subst, ℕ, Bool, true, false, not, ◌||◌, List, refl, sym, ap, ◌∙◌, cond, Option, Some, None, is_some, nat_lt}
 use Rattle.std.specs.Prelude.{IsSome}
 use Rattle.std.specs.Option.{option_map, option_map_or, option_and_then}
 use Rattle.std.specs.Ordering.{nat_cmp}
@@ -16,7 +16,7 @@ use Rattle.kr_files.specs.Opened.{is_no_end, is_reader, is_writer}
 use Rattle.kr_files.specs.StoredPipes.{Pipe, PipeTable, reader_gone, writer_gone, end_gone, reader_open, writer_open, without_reader, without_writer}
 use Rattle.kr_files.specs.Sound.{IsSound, is_end, is_noted, kept_of}
 use Rattle.pr_base.proofs.MapLemmas.{same_values, by_key, get-insert_same, get-insert_other, get-remove_same, get-remove_other, remove-none, get-changed_same, get-changed_other, get-mapped, mapped-remove}
-use Rattle.kr_files.proofs.KindLemmas.{kind_some, kind-remove_other, kind-remove_only}
+use Rattle.kr_files.proofs.KindLemmas.{either_true, kind_some, kind-remove_other, kind-remove_only}
 use Rattle.kr_files.proofs.OpenFileLemmas.{value_of}
 use Rattle.kr_files.proofs.SoundLemmas.{SameKinds, equal_same, equal_other, no_side, sound-same_kinds, sound-remove}
 
@@ -81,6 +81,15 @@ module _ {M : Type 0} (files : map.FinMap nat_cmp (Counted M)) (pipes : PipeTabl
   closing_bytes true q = refl
   closing_bytes false q = refl
 
+  -- an end is left where the other side is open
+  end_left : (side : Bool) (q : Pipe) → is_noted (not side) q ≡ true → ((closing side q).reader || (closing side q).writer) ≡ true
+  end_left true q e = e
+  end_left false q e = either_true q.reader false e
+
+  other_noted : (side : Bool) (k : ℕ) (q : Pipe) → map.get pipes k ≡ Some q → other_open side k ≡ is_noted (not side) q
+  other_noted true k q at = ap (λ o. option_map_or (λ (p : Pipe). p.writer) o false) at
+  other_noted false k q at = ap (λ o. option_map_or (λ (p : Pipe). p.reader) o false) at
+
   -- whether the other side is open, by the files
   other_open_is : (side : Bool) (k : ℕ) (q : Pipe) → map.get pipes k ≡ Some q → other_open side k ≡ has_kind (is_end (not side) k) files
   other_open_is true k q at = ap (λ o. option_map_or (λ (p : Pipe). p.writer) o false) at ∙ s.noted false k q at
@@ -118,6 +127,11 @@ module _ {M : Type 0} (files : map.FinMap nat_cmp (Counted M)) (pipes : PipeTabl
         (λ p q at. let r = found_in_cond (other_open side k) p q at in s.pipe_numbers p r.0 r.1)
         (λ p q at. let r = found_in_cond (other_open side k) p q at in
         elim (cases_eq p k) [
+          | inl same ↦ subst (λ (x : Pipe). (x.reader || x.writer) ≡ true) (sym (r.3 same)) (end_left side r.0 (sym (other_noted side k r.0 (ap (map.get pipes) (sym same) ∙ r.1)) ∙ open_left (other_open side k) p q same at))
+          | inr other ↦ subst (λ (x : Pipe). (x.reader || x.writer) ≡ true) (sym (r.2 other)) (s.has_end p r.0 r.1)
+        ])
+        (λ p q at. let r = found_in_cond (other_open side k) p q at in
+        elim (cases_eq p k) [
           | inl same ↦ subst (λ (x : List ℕ). length x ≤ 65536) (sym (ap (λ (x : Pipe). x.bytes) (r.3 same) ∙ closing_bytes side r.0)) (s.bounded p r.0 r.1)
           | inr other ↦ subst (λ (x : Pipe). length x.bytes ≤ 65536) (sym (r.2 other)) (s.bounded p r.0 r.1)
         ])
@@ -131,6 +145,10 @@ module _ {M : Type 0} (files : map.FinMap nat_cmp (Counted M)) (pipes : PipeTabl
           | inr other ↦ ap (is_noted t) (r.2 other) ∙ s.noted t p r.0 r.1 ∙ sym (kind-remove_other (is_end t p) files n h here (not_it t p other))
         ]))
       where
+        open_left : (b : Bool) (p : ℕ) (q : Pipe) → p ≡ k → map.get (cond b (changed pipes k (closing side)) (map.remove pipes k)) p ≡ Some q → b ≡ true
+        open_left true p q same at = refl
+        open_left false p q same at = absurd (none-some q (sym (get-remove_same pipes k) ∙ sym (ap (map.get (map.remove pipes k)) same) ∙ at))
+
         left_there : (b : Bool) (p : ℕ) → p ≢ k → IsSome (map.get pipes p) → IsSome (map.get (cond b (changed pipes k (closing side)) (map.remove pipes k)) p)
         left_there true p other there = subst IsSome (sym (get-changed_other pipes k (closing side) p other)) there
         left_there false p other there = subst IsSome (sym (get-remove_other pipes k p other)) there
@@ -170,7 +188,7 @@ module _ {M : Type 0} (files : map.FinMap nat_cmp (Counted M)) (pipes : PipeTabl
             ]
 
   no_end_of : is_no_end h.opened.what ≡ true → IsSound (map.remove files n) pipes last_file last_pipe
-  no_end_of is = sound-remove files pipes last_file last_pipe s n pipes s.pipe_numbers s.bounded (λ side p m g away at is_g. s.has_pipe side p m g at is_g) (λ side p q at. s.noted side p q at ∙ sym (kind-remove_other (is_end side p) files n h here (no_side h.opened.what is side p)))
+  no_end_of is = sound-remove files pipes last_file last_pipe s n pipes s.pipe_numbers s.has_end s.bounded (λ side p m g away at is_g. s.has_pipe side p m g at is_g) (λ side p q at. s.noted side p q at ∙ sym (kind-remove_other (is_end side p) files n h here (no_side h.opened.what is side p)))
 
   -- the file was taken away, and the pipe whose last end it was
   pub sound-last : (what : What) → h.opened.what ≡ what → IsSound (map.remove files n) (end_gone what pipes) last_file last_pipe

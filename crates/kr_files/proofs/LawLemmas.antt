@@ -1,11 +1,11 @@
 -- What holds of every table of open files.
 use Rattle.std.specs.FinMap as map
 use Rattle.std.proofs.Common.{◌≡◌, ◌≤◌, subst, ℕ, true, false, List, length, refl, sym, ap, ◌∙◌, Option, Some, None}
-use Rattle.std.specs.Prelude.{IsSome}
+use Rattle.std.specs.Prelude.{◌||◌, IsSome}
 use Rattle.std.specs.Option.{option_map, option_and_then}
 use Rattle.kr_files.specs.declared.descs.Descriptor.{Descriptor}
 use Rattle.kr_files.specs.Descriptors.{Descriptors}
-use Rattle.kr_files.specs.Files.{Counted, Kept, NamesOpenFiles, file_at}
+use Rattle.kr_files.specs.Files.{Counted, Kept, NamesOpenFiles, file_at, has_writer}
 use Rattle.kr_files.specs.Laws.{HaveKeys, AreCounted, IsKept, OpenHaveFiles}
 use Rattle.kr_files.specs.OpenFiles.{Store}
 use Rattle.kr_files.specs.Opened.{is_reader, is_writer}
@@ -33,6 +33,9 @@ module _ {M : Type 0} where
     writes = λ p n h at is. has_bytes pipes p (s.has_pipe false p n h at (ap (is_writer p) is ∙ equal_same p));
     one_reader = λ p m n g h at_m at_n is_g is_h. s.single true p m n g h at_m at_n (ap (is_reader p) is_g ∙ equal_same p) (ap (is_reader p) is_h ∙ equal_same p);
     one_writer = λ p m n g h at_m at_n is_g is_h. s.single false p m n g h at_m at_n (ap (is_writer p) is_g ∙ equal_same p) (ap (is_writer p) is_h ∙ equal_same p);
+    ends = λ p there.
+        let q = pipe_there pipes p there in
+        sym (ap (λ b. b || has_writer (kept_of o pipes last_file last_pipe).table p) (s.noted true p q.0 q.1)) ∙ sym (ap (λ b. q.0.reader || b) (s.noted false p q.0 q.1)) ∙ s.has_end p q.0 q.1;
     bytes = λ p bytes at.
         let q = mapped_some (λ (q : Pipe). q.bytes) (map.get pipes p) bytes (sym (get_bytes pipes p) ∙ at) in
         subst (λ (b : List ℕ). length b ≤ 65536) q.2 (s.bounded p q.0 q.1);

@@ -1,6 +1,6 @@
 -- Reading and writing of pipes: from the pipes as they are kept to their bytes.
 use Rattle.std.specs.FinMap as map
-use Rattle.std.proofs.Common.{◌≡◌, ◌≤◌, ◌-◌, length-append, length-drop, inl, inr, subst, ℕ, zero, suc, Bool, true, false, ◌&&◌, List, [], ◌∷◌, ◌++◌, length, take, drop, refl, sym, ap, ◌∙◌, arith, cond, Option, Some, None}
+use Rattle.std.proofs.Common.{◌≡◌, ◌≤◌, ◌-◌, length-append, length-drop, inl, inr, subst, ℕ, zero, suc, Bool, true, false, ◌&&◌, ◌||◌, List, [], ◌∷◌, ◌++◌, length, take, drop, refl, sym, ap, ◌∙◌, arith, cond, Option, Some, None}
 use Rattle.std.specs.Prelude.{◌==◌, min, nat_le, IsSome}
 use Rattle.std.specs.Option.{option_map, option_map_or}
 use Rattle.std.proofs.lemmas.Bool.{cases_eq, false≢true}
@@ -103,6 +103,10 @@ module _ {M : Type 0} (o : Store M) (pipes : PipeTable) (last_file last_pipe : �
         | inr other ↦ s.pipe_numbers k r (sym (get-insert_other pipes p (holding b q) k other) ∙ at)
       ];
       has_pipe = λ side k n h at is. some-insert pipes p k (holding b q) (s.has_pipe side k n h at is);
+      has_end = λ k r at. elim (cases_eq k p) [
+        | inl same ↦ subst (λ (x : Pipe). (x.reader || x.writer) ≡ true) (same_Some (holding b q) r (sym (get-insert_same pipes p (holding b q)) ∙ sym (ap (map.get (map.insert pipes p (holding b q))) same) ∙ at)) (s.has_end p q here)
+        | inr other ↦ s.has_end k r (sym (get-insert_other pipes p (holding b q) k other) ∙ at)
+      ];
       bounded = λ k r at. elim (cases_eq k p) [
         | inl same ↦ subst (λ (x : Pipe). length x.bytes ≤ 65536) (same_Some (holding b q) r (sym (get-insert_same pipes p (holding b q)) ∙ sym (ap (map.get (map.insert pipes p (holding b q))) same) ∙ at)) small
         | inr other ↦ s.bounded k r (sym (get-insert_other pipes p (holding b q) k other) ∙ at)

@@ -71,6 +71,7 @@ module _ {M : Type 0} where
       file_numbers = λ n h here. s.file_numbers n (back n h here).0 (back n h here).1;
       pipe_numbers = s.pipe_numbers;
       has_pipe = λ side p n h here is. let g = back n h here in s.has_pipe side p n g.0 g.1 (ap (is_end side p) g.2 ∙ is);
+      has_end = s.has_end;
       bounded = s.bounded;
       noted = λ side p q here. s.noted side p q here ∙ sym (same_has_kind (is_end side p));
       single = λ side p m n g h at_m at_n is_g is_h.
@@ -88,6 +89,7 @@ module _ {M : Type 0} where
         file_numbers = λ n h here. absurd (no_file n h here);
         pipe_numbers = λ p q here. absurd (no_pipe p q here);
         has_pipe = λ side p n h here is. absurd (no_file n h here);
+        has_end = λ p q here. absurd (no_pipe p q here);
         bounded = λ p q here. absurd (no_pipe p q here);
         noted = λ side p q here. absurd (no_pipe p q here);
         single = λ side p m n g h at_m at_n is_g is_h. absurd (no_file m g at_m);
@@ -137,10 +139,11 @@ module _ {M : Type 0} where
         → ((side : Bool) (p : ℕ) → is_end side p h.opened.what ≡ true → IsSome (map.get more p))
         → ((p : ℕ) → IsSome (map.get pipes p) → IsSome (map.get more p))
         → ((p : ℕ) (q : Pipe) → map.get more p ≡ Some q → p ≤ last)
+        → ((p : ℕ) (q : Pipe) → map.get more p ≡ Some q → (q.reader || q.writer) ≡ true)
         → ((p : ℕ) (q : Pipe) → map.get more p ≡ Some q → length q.bytes ≤ 65536)
         → ((side : Bool) (p : ℕ) (q : Pipe) → map.get more p ≡ Some q → is_noted side q ≡ (is_end side p h.opened.what || has_kind (is_end side p) files))
         → IsSound (map.insert files (last_file + 1) h) more (last_file + 1) last
-    sound-add h more last only has stays numbers bounded noted =
+    sound-add h more last only has stays numbers ends bounded noted =
         let now : (n : ℕ) (g : Counted M) → map.get (map.insert files (last_file + 1) h) n ≡ Some g → n ≡ last_file + 1 → h ≡ g
         = λ n g at here. same_Some h g (sym (get-insert_same files (last_file + 1) h) ∙ sym (ap (map.get (map.insert files (last_file + 1) h)) here) ∙ at) in
         let before : (n : ℕ) (g : Counted M) → map.get (map.insert files (last_file + 1) h) n ≡ Some g → n ≢ last_file + 1 → map.get files n ≡ Some g
@@ -155,6 +158,7 @@ module _ {M : Type 0} where
             | inl here ↦ has side p (ap (λ (x : Counted M). is_end side p x.opened.what) (now n g at here) ∙ is)
             | inr other ↦ stays p (s.has_pipe side p n g (before n g at other) is)
           ];
+          has_end = ends;
           bounded = bounded;
           noted = λ side p q at. noted side p q at ∙ sym (kind-insert (is_end side p) files (last_file + 1) h fresh_file);
           single = λ side p m n f g at_m at_n is_f is_g. elim (cases_eq m (last_file + 1)) [
@@ -177,17 +181,18 @@ module _ {M : Type 0} where
         (λ side p n g e _ _. false≢true (sym (none side p) ∙ e))
         (λ side p e. absurd (false≢true (sym (none side p) ∙ e)))
         (λ p there. there)
-        s.pipe_numbers s.bounded
+        s.pipe_numbers s.has_end s.bounded
         (λ side p q at. s.noted side p q at ∙ ap (λ b. b || has_kind (is_end side p) files) (sym (none side p)))
 
     -- a file was closed
     pub sound-remove : (n : ℕ) (left : PipeTable)
         → ((p : ℕ) (q : Pipe) → map.get left p ≡ Some q → p ≤ last_pipe)
+        → ((p : ℕ) (q : Pipe) → map.get left p ≡ Some q → (q.reader || q.writer) ≡ true)
         → ((p : ℕ) (q : Pipe) → map.get left p ≡ Some q → length q.bytes ≤ 65536)
         → ((side : Bool) (p m : ℕ) (g : Counted M) → m ≢ n → map.get files m ≡ Some g → is_end side p g.opened.what ≡ true → IsSome (map.get left p))
         → ((side : Bool) (p : ℕ) (q : Pipe) → map.get left p ≡ Some q → is_noted side q ≡ has_kind (is_end side p) (map.remove files n))
         → IsSound (map.remove files n) left last_file last_pipe
-    sound-remove n left numbers bounded has noted =
+    sound-remove n left numbers ends bounded has noted =
         let away : (m : ℕ) (g : Counted M) → map.get (map.remove files n) m ≡ Some g → m ≢ n
         = λ m g at here. none-some g (sym (get-remove_same files n) ∙ sym (ap (map.get (map.remove files n)) here) ∙ at) in
         let before : (m : ℕ) (g : Counted M) → map.get (map.remove files n) m ≡ Some g → map.get files m ≡ Some g
@@ -196,6 +201,7 @@ module _ {M : Type 0} where
           file_numbers = λ m g at. s.file_numbers m g (before m g at);
           pipe_numbers = numbers;
           has_pipe = λ side p m g at is. has side p m g (away m g at) (before m g at) is;
+          has_end = ends;
           bounded = bounded;
           noted = noted;
           single = λ side p m k f g at_m at_k is_f is_g. s.single side p m k f g (before m f at_m) (before k g at_k) is_f is_g;
@@ -269,6 +275,10 @@ module _ {M : Type 0} (files : map.FinMap nat_cmp (Counted M)) (pipes : PipeTabl
         | inr away ↦ let low = s.pipe_numbers p q away.1 in omega arith
       ])
       (λ p q at. elim (pipe_of half_pipe p q at) [
+        | inl here ↦ subst (λ (x : Pipe). (x.reader || x.writer) ≡ true) here.1 refl
+        | inr away ↦ s.has_end p q away.1
+      ])
+      (λ p q at. elim (pipe_of half_pipe p q at) [
         | inl here ↦ subst (λ (x : Pipe). length x.bytes ≤ 65536) here.1 (omega arith)
         | inr away ↦ s.bounded p q away.1
       ])
@@ -317,6 +327,10 @@ module _ {M : Type 0} (files : map.FinMap nat_cmp (Counted M)) (pipes : PipeTabl
       (λ p q at. elim (pipe_of fresh_pipe p q at) [
         | inl here ↦ let e = here.0 in omega arith
         | inr away ↦ let low = s.pipe_numbers p q away.1 in omega arith
+      ])
+      (λ p q at. elim (pipe_of fresh_pipe p q at) [
+        | inl here ↦ subst (λ (x : Pipe). (x.reader || x.writer) ≡ true) here.1 refl
+        | inr away ↦ s.has_end p q away.1
       ])
       (λ p q at. elim (pipe_of fresh_pipe p q at) [
         | inl here ↦ subst (λ (x : Pipe). length x.bytes ≤ 65536) here.1 (omega arith)

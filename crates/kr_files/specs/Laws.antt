@@ -1,12 +1,12 @@
 -- What holds of every table of open files, and of the descriptors of every process.
 use Rattle.std.specs.FinMap as map
-use Rattle.std.specs.Prelude.{◌≡◌, ◌↔◌, ◌<◌, ◌≤◌, ℕ, List, length, Some, None, IsSome}
+use Rattle.std.specs.Prelude.{◌≡◌, ◌↔◌, ◌<◌, ◌≤◌, ℕ, ◌||◌, List, length, Some, None, IsSome, IsTrue}
 use Rattle.std.specs.Ordering.{nat_cmp}
 use Rattle.kr_files.specs.declared.descs.Descriptor.{Descriptor}
 use Rattle.kr_files.specs.declared.opened.Opened.{Opened}
 use Rattle.kr_files.specs.declared.opened.What.TheVariants.{PipeRead, PipeWrite}
 use Rattle.kr_files.specs.Descriptors.{Descriptors, meanings, named_count, lowest_free, lowest_pair, IsLowestFree, AllTaken}
-use Rattle.kr_files.specs.Files.{Counted, Table, Kept, opened_at, takes_pipe}
+use Rattle.kr_files.specs.Files.{Counted, Table, Kept, opened_at, has_reader, has_writer, takes_pipe}
 use Rattle.kr_files.specs.Opened.{after_removal, after_rename}
 
 -- ---- open files and pipes
@@ -22,6 +22,7 @@ module _ {M : Type 0} where
   abbrev pub AreCounted : map.FinMap nat_cmp (Counted M) → Type 0
   AreCounted files = (n : ℕ) (h : Counted M) → map.get files n ≡ Some h → 1 ≤ h.count
 
+  -- what holds of every table
   pub record IsKept (f : Kept M) : Type 0 where
     pub keys : HaveKeys f.keys f.table.files
     pub counts : AreCounted f.table.files
@@ -36,7 +37,9 @@ module _ {M : Type 0} where
         → g.opened.what ≡ PipeRead p → h.opened.what ≡ PipeRead p → m ≡ n
     pub one_writer : (p m n : ℕ) (g h : Counted M) → map.get f.table.files m ≡ Some g → map.get f.table.files n ≡ Some h
         → g.opened.what ≡ PipeWrite p → h.opened.what ≡ PipeWrite p → m ≡ n
-    -- a pipe holds at most 65,536 bytes
+    -- a pipe has an open end
+    pub ends : (p : ℕ) → IsSome (map.get f.table.pipes p) → IsTrue (has_reader f.table p || has_writer f.table p)
+    -- and holds at most 65,536 bytes
     pub bytes : (p : ℕ) (bytes : List ℕ) → map.get f.table.pipes p ≡ Some bytes → length bytes ≤ 65536
 
   -- what a descriptor leads to is there exactly where the descriptor is open

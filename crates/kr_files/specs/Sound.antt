@@ -1,6 +1,6 @@
 -- What ties the pipes as they are kept to the open files. No public clause cites this module.
 use Rattle.std.specs.FinMap as map
-use Rattle.std.specs.Prelude.{◌≡◌, ◌≤◌, ℕ, Bool, true, false, length, Some, IsSome}
+use Rattle.std.specs.Prelude.{◌≡◌, ◌≤◌, ℕ, Bool, true, false, ◌||◌, length, Some, IsSome}
 use Rattle.std.specs.Ordering.{nat_cmp}
 use Rattle.kr_files.specs.declared.opened.What.{What}
 use Rattle.kr_files.specs.Files.{Counted, Kept, has_kind}
@@ -26,6 +26,8 @@ module _ {M : Type 0} where
     pub pipe_numbers : (p : ℕ) (q : Pipe) → map.get pipes p ≡ Some q → p ≤ last_pipe
     -- an end of a pipe has its pipe
     pub has_pipe : (side : Bool) (p n : ℕ) (h : Counted M) → map.get files n ≡ Some h → is_end side p h.opened.what ≡ true → IsSome (map.get pipes p)
+    -- a pipe has an open end
+    pub has_end : (p : ℕ) (q : Pipe) → map.get pipes p ≡ Some q → (q.reader || q.writer) ≡ true
     -- a pipe holds at most 65,536 bytes
     pub bounded : (p : ℕ) (q : Pipe) → map.get pipes p ≡ Some q → length q.bytes ≤ 65536
     -- a pipe's side is noted as open where some open file is that end
