@@ -57,12 +57,14 @@ pub record StandsAround (around : Surroundings) (p : Place ℕ) : Type 0 where
   pub leads : LeadToPlaces around.space.tree around.space.table around.leads
   pub begins : IsPlaceOf around.space.tree around.space.table p
 
--- then a walk comes to places of the view in the tree alone
-pub record WalksKeepPlaces : Type 0 where
-  pub found : (around : Surroundings) (mode : WalkMode) (base : Place ℕ) (path : List ℕ) (t : PlaceTarget) (p : Place ℕ) → StandsAround around base → (place_walk around mode base path).answer ≡ Ok t → t.found ≡ Some p
-      → IsPlaceOf around.space.tree around.space.table p
-  pub directory : (around : Surroundings) (mode : WalkMode) (base : Place ℕ) (path : List ℕ) (t : PlaceTarget) → StandsAround around base → (place_walk around mode base path).answer ≡ Ok t → t.jumped ≡ false
-      → IsPlaceOf around.space.tree around.space.table t.dir
+-- a target is of places of the view in the tree
+pub record IsTargetOfPlaces (around : Surroundings) (t : PlaceTarget) : Type 0 where
+  pub found : (p : Place ℕ) → t.found ≡ Some p → IsPlaceOf around.space.tree around.space.table p
+  pub directory : t.jumped ≡ false → IsPlaceOf around.space.tree around.space.table t.dir
   -- the directory that a file remembers, to which a link of the process directory led
-  pub remembered : (around : Surroundings) (mode : WalkMode) (base : Place ℕ) (path : List ℕ) (t : PlaceTarget) → StandsAround around base → LeadToEntries around.space.tree around.leads → (place_walk around mode base path).answer ≡ Ok t
-      → IsPlaceOf around.space.tree around.space.table t.dir
+  pub remembered : LeadToEntries around.space.tree around.leads → IsPlaceOf around.space.tree around.space.table t.dir
+
+-- where all stands a walk comes to places of the view in the tree alone
+abbrev pub WalksKeepPlaces : Type 0
+WalksKeepPlaces =
+    (around : Surroundings) (mode : WalkMode) (base : Place ℕ) (path : List ℕ) (t : PlaceTarget) → StandsAround around base → (place_walk around mode base path).answer ≡ Ok t → IsTargetOfPlaces around t
