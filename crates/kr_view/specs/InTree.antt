@@ -1,5 +1,5 @@
 -- Places of a view in a tree.
-use Rattle.std.specs.Prelude.{ℕ, ◌≡◌, true, false, List, [], Some, Ok}
+use Rattle.std.specs.Prelude.{ℕ, ◌≡◌, ◌≢◌, true, false, List, [], Some, Ok}
 use Rattle.pr_base.specs.Paths.{IsName}
 use Rattle.pr_base.specs.declared.path.WalkMode.{WalkMode}
 use Rattle.kr_tree.specs.declared.place.Host.{Host}
@@ -28,10 +28,11 @@ pub record IsPlaceOf (t : Tree) (table : List Row) (p : Place ℕ) : Type 0 wher
 -- ---- where links of the process directory lead
 
 -- every link that leads on leads to a place of the view in the tree. To a file it leads with the directory and
--- name that its object remembers; of a directory there is none to remember
+-- name that its object remembers; that is empty where it has none, as a mount's source can be without. Of a
+-- directory there is none to remember
 pub record LeadToPlaces (t : Tree) (table : List Row) (leads : ProcAt → Lead ℕ) : Type 0 where
   pub places : (at : ProcAt) (p : Place ℕ) (dir : ℕ) (name : List ℕ) → leads at ≡ Jump p dir name → IsPlaceOf t table p
-  pub files : (at : ProcAt) (p : Place ℕ) (dir : ℕ) (name : List ℕ) → leads at ≡ Jump p dir name → is_directory_at t p.host ≡ false → IsName name
+  pub files : (at : ProcAt) (p : Place ℕ) (dir : ℕ) (name : List ℕ) → leads at ≡ Jump p dir name → is_directory_at t p.host ≡ false → name ≢ [] → IsName name
   pub directories : (at : ProcAt) (p : Place ℕ) (dir : ℕ) (name : List ℕ) → leads at ≡ Jump p dir name → is_directory_at t p.host ≡ true → (dir ≡ 0) × (name ≡ [])
 
 -- what a file remembers is an entry of the tree, and leads to it. So it is as long as that entry stays; but a
