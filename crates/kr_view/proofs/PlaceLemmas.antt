@@ -289,8 +289,8 @@ module _ (around : Surroundings) (base : Place ℕ) (stand : StandsAround around
           mode most_links base path (has_slash path) stand.begins
 
 pub walks_keep_places : WalksKeepPlaces
-walks_keep_places = record {
-  found = λ around mode base path t p stand ends is. found_good around base stand mode path t ends p is;
-  directory = λ around mode base path t stand. directory_good around base stand mode path t;
-  remembered = λ around mode base path t stand entries. remembered_good around base stand mode path entries t;
+walks_keep_places around mode base path t stand ends = record {
+  found = found_good around base stand mode path t ends;
+  directory = directory_good around base stand mode path t ends;
+  remembered = λ entries. remembered_good around base stand mode path entries t ends;
 }

@@ -12,7 +12,7 @@ no_processes = record {
   };
   places = λ t table. record {
     places = λ at p dir name h. absurd cc;
-    files = λ at p dir name h none. absurd cc;
+    files = λ at p dir name h none some. absurd cc;
     directories = λ at p dir name h is. absurd cc;
   };
   entries = λ t at p dir name h none. absurd cc;

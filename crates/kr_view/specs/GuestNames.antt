@@ -10,7 +10,26 @@ use Rattle.kr_view.specs.View.{Row, row, node_in, plain}
 use Rattle.kr_view.specs.Component.{Namespace, is_process_directory}
 use Rattle.kr_view.specs.Names.{Text, below, process_object_name, Remembered, object_name, guest_name}
 
--- guest names go by places: each case, and no other
+-- in a mount whose source is a directory
+pub record NamesInDirectoryMount (space : Namespace) (k : ℕ) (r : Row) : Type 0 where
+  -- the source is called by the location; but one that was removed has no host name, and no guest name
+  pub source : (remembered : Remembered) (top : Text) → host_name space.tree r.source ≡ Some top → guest_name space (node_in k r.source) remembered ≡ Some r.text.location
+  pub removed : (remembered : Remembered) → body_is is_directory space.tree r.source ≡ true → host_name space.tree r.source ≡ None → guest_name space (node_in k r.source) remembered ≡ None
+  -- a directory below the source is called by the location and the names from the source down, and one that isn't
+  -- below it has no guest name
+  pub below_source : (i : ℕ) (remembered : Remembered) (top names : Text) → host_name space.tree r.source ≡ Some top → host_name space.tree i ≡ Some (names ++ top)
+      → guest_name space (node_in k i) remembered ≡ Some (names ++ r.text.location)
+  pub only_below : (i : ℕ) (remembered : Remembered) (guest : Text) → body_is is_directory space.tree i ≡ true → guest_name space (node_in k i) remembered ≡ Some guest
+      → (top : Text) × (names : Text) × (host_name space.tree r.source ≡ Some top) × (host_name space.tree i ≡ Some (names ++ top)) × (guest ≡ names ++ r.text.location)
+  -- another inode is called by the directory and name that it remembers, and has no guest name without them
+  pub entries : (i dir : ℕ) (name : List ℕ) → body_is is_directory space.tree i ≡ false → body_is is_directory space.tree dir ≡ true
+      → guest_name space (node_in k i) (Some (dir, name)) ≡ below name (guest_name space (node_in k dir) None)
+  pub nameless : (i : ℕ) → body_is is_directory space.tree i ≡ false → guest_name space (node_in k i) None ≡ None
+  -- a directory below the process directory is called by that and its own names
+  pub processes : (i : ℕ) (at : ProcAt) (remembered : Remembered) → body_is is_directory space.tree i ≡ true → is_process_directory at ≡ true
+      → guest_name space (record { mount = k; host = Proc i at }) remembered ≡ process_object_name space at (guest_name space (node_in k i) None)
+
+-- guest names go by places
 pub record GuestNamesGoByPlaces : Type 0 where
   -- over the host's own view a place is called as its object is on the host
   pub plain_view : (space : Namespace) (p : Place ℕ) (remembered : Remembered) → IsSound space.tree → space.table ≡ plain → p.mount ≡ 0
@@ -18,22 +37,4 @@ pub record GuestNamesGoByPlaces : Type 0 where
   -- a source that is no directory is called by the location, whatever it remembers
   pub file_source : (space : Namespace) (k : ℕ) (r : Row) (remembered : Remembered) → row space.table k ≡ Some r → r.is_dir ≡ false
       → guest_name space (node_in k r.source) remembered ≡ Some r.text.location
-  -- so is a directory; but one that was removed has no host name, and no guest name
-  pub directory_source : (space : Namespace) (k : ℕ) (r : Row) (remembered : Remembered) (top : Text) → IsSound space.tree → row space.table k ≡ Some r → r.is_dir ≡ true → host_name space.tree r.source ≡ Some top
-      → guest_name space (node_in k r.source) remembered ≡ Some r.text.location
-  pub removed_source : (space : Namespace) (k : ℕ) (r : Row) (remembered : Remembered) → row space.table k ≡ Some r → r.is_dir ≡ true → body_is is_directory space.tree r.source ≡ true → host_name space.tree r.source ≡ None
-      → guest_name space (node_in k r.source) remembered ≡ None
-  -- a directory below a source is called by the location and the names from the source down, and one that isn't
-  -- below it has no guest name
-  pub below_source : (space : Namespace) (k i : ℕ) (r : Row) (remembered : Remembered) (top names : Text) → IsSound space.tree → row space.table k ≡ Some r → r.is_dir ≡ true
-      → host_name space.tree r.source ≡ Some top → host_name space.tree i ≡ Some (names ++ top) → guest_name space (node_in k i) remembered ≡ Some (names ++ r.text.location)
-  pub only_below : (space : Namespace) (k i : ℕ) (r : Row) (remembered : Remembered) (guest : Text) → row space.table k ≡ Some r → r.is_dir ≡ true → body_is is_directory space.tree i ≡ true
-      → guest_name space (node_in k i) remembered ≡ Some guest
-      → (top : Text) × (names : Text) × (host_name space.tree r.source ≡ Some top) × (host_name space.tree i ≡ Some (names ++ top)) × (guest ≡ names ++ r.text.location)
-  -- another inode is called by the directory and name that it remembers, and has no guest name without them
-  pub entries : (space : Namespace) (k i dir : ℕ) (r : Row) (name : List ℕ) → row space.table k ≡ Some r → r.is_dir ≡ true → body_is is_directory space.tree i ≡ false → body_is is_directory space.tree dir ≡ true
-      → guest_name space (node_in k i) (Some (dir, name)) ≡ below name (guest_name space (node_in k dir) None)
-  pub nameless : (space : Namespace) (k i : ℕ) (r : Row) → row space.table k ≡ Some r → r.is_dir ≡ true → body_is is_directory space.tree i ≡ false → guest_name space (node_in k i) None ≡ None
-  -- a directory below the process directory is called by that and its own names
-  pub processes : (space : Namespace) (k i : ℕ) (at : ProcAt) (r : Row) (remembered : Remembered) → row space.table k ≡ Some r → r.is_dir ≡ true → body_is is_directory space.tree i ≡ true → is_process_directory at ≡ true
-      → guest_name space (record { mount = k; host = Proc i at }) remembered ≡ process_object_name space at (guest_name space (node_in k i) None)
+  pub directory_mount : (space : Namespace) (k : ℕ) (r : Row) → IsSound space.tree → row space.table k ≡ Some r → r.is_dir ≡ true → NamesInDirectoryMount space k r

@@ -1,5 +1,5 @@
 -- Places of a view in a tree.
-use Rattle.std.specs.Prelude.{ℕ, ◌≡◌, true, false, List, [], Some, Ok}
+use Rattle.std.specs.Prelude.{ℕ, ◌≡◌, ◌≢◌, true, false, List, [], Some, Ok}
 use Rattle.pr_base.specs.Paths.{IsName}
 use Rattle.pr_base.specs.declared.path.WalkMode.{WalkMode}
 use Rattle.kr_tree.specs.declared.place.Host.{Host}
@@ -28,10 +28,11 @@ pub record IsPlaceOf (t : Tree) (table : List Row) (p : Place ℕ) : Type 0 wher
 -- ---- where links of the process directory lead
 
 -- every link that leads on leads to a place of the view in the tree. To a file it leads with the directory and
--- name that its object remembers; of a directory there is none to remember
+-- name that its object remembers; that is empty where it has none, as a mount's source can be without. Of a
+-- directory there is none to remember
 pub record LeadToPlaces (t : Tree) (table : List Row) (leads : ProcAt → Lead ℕ) : Type 0 where
   pub places : (at : ProcAt) (p : Place ℕ) (dir : ℕ) (name : List ℕ) → leads at ≡ Jump p dir name → IsPlaceOf t table p
-  pub files : (at : ProcAt) (p : Place ℕ) (dir : ℕ) (name : List ℕ) → leads at ≡ Jump p dir name → is_directory_at t p.host ≡ false → IsName name
+  pub files : (at : ProcAt) (p : Place ℕ) (dir : ℕ) (name : List ℕ) → leads at ≡ Jump p dir name → is_directory_at t p.host ≡ false → name ≢ [] → IsName name
   pub directories : (at : ProcAt) (p : Place ℕ) (dir : ℕ) (name : List ℕ) → leads at ≡ Jump p dir name → is_directory_at t p.host ≡ true → (dir ≡ 0) × (name ≡ [])
 
 -- what a file remembers is an entry of the tree, and leads to it. So it is as long as that entry stays; but a
@@ -57,12 +58,14 @@ pub record StandsAround (around : Surroundings) (p : Place ℕ) : Type 0 where
   pub leads : LeadToPlaces around.space.tree around.space.table around.leads
   pub begins : IsPlaceOf around.space.tree around.space.table p
 
--- then a walk comes to places of the view in the tree alone
-pub record WalksKeepPlaces : Type 0 where
-  pub found : (around : Surroundings) (mode : WalkMode) (base : Place ℕ) (path : List ℕ) (t : PlaceTarget) (p : Place ℕ) → StandsAround around base → (place_walk around mode base path).answer ≡ Ok t → t.found ≡ Some p
-      → IsPlaceOf around.space.tree around.space.table p
-  pub directory : (around : Surroundings) (mode : WalkMode) (base : Place ℕ) (path : List ℕ) (t : PlaceTarget) → StandsAround around base → (place_walk around mode base path).answer ≡ Ok t → t.jumped ≡ false
-      → IsPlaceOf around.space.tree around.space.table t.dir
+-- a target is of places of the view in the tree
+pub record IsTargetOfPlaces (around : Surroundings) (t : PlaceTarget) : Type 0 where
+  pub found : (p : Place ℕ) → t.found ≡ Some p → IsPlaceOf around.space.tree around.space.table p
+  pub directory : t.jumped ≡ false → IsPlaceOf around.space.tree around.space.table t.dir
   -- the directory that a file remembers, to which a link of the process directory led
-  pub remembered : (around : Surroundings) (mode : WalkMode) (base : Place ℕ) (path : List ℕ) (t : PlaceTarget) → StandsAround around base → LeadToEntries around.space.tree around.leads → (place_walk around mode base path).answer ≡ Ok t
-      → IsPlaceOf around.space.tree around.space.table t.dir
+  pub remembered : LeadToEntries around.space.tree around.leads → IsPlaceOf around.space.tree around.space.table t.dir
+
+-- where all stands a walk comes to places of the view in the tree alone
+abbrev pub WalksKeepPlaces : Type 0
+WalksKeepPlaces =
+    (around : Surroundings) (mode : WalkMode) (base : Place ℕ) (path : List ℕ) (t : PlaceTarget) → StandsAround around base → (place_walk around mode base path).answer ≡ Ok t → IsTargetOfPlaces around t
