@@ -16,6 +16,3 @@ pub use name::is_name;
 pub use node::{FILE_LIMIT, Ino, Kind, Meta, Node};
 pub use standing::Standing;
 pub use user::{Right, User};
-
-#[cfg(test)]
-mod tests;

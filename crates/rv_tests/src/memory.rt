@@ -29,6 +29,22 @@ fn pages_are_limited(rt: HostRuntime) -> Result<(), Fail> {
     Ok(())
 }
 
+// 262,144 pages are the most of all processes: as many as 16 of them may have.
+#[test]
+fn pages_of_all_are_limited(rt: HostRuntime) -> Result<(), Fail> {
+    let mut room = Room::new();
+    let mut spaces: Vec<Space<0>> = Vec::new(rt.alloc());
+    for _ in 0..16 {
+        let mut space = Space::new(rt.alloc());
+        space.map(&mut room, 0x1000, 16_384, WRITE)?;
+        spaces.push(space)?;
+    }
+    let mut last: Space<0> = Space::new(rt.alloc());
+    assert_eq!(rt; last.map(&mut room, 0, 1, WRITE), Err(MapFault::Full));
+    assert_eq!(rt; last.pages(), 0);
+    Ok(())
+}
+
 #[test]
 fn bytes_and_texts_are_read_as_they_were_written(rt: HostRuntime) -> Result<(), Fail> {
     let mut room = Room::new();

@@ -317,6 +317,25 @@ fn directories_alone_have_host_names(rt: HostRuntime) -> Result<(), Fail> {
     Ok(())
 }
 
+// Seventeen names of 255 bytes, each with a slash in front.
+#[test]
+fn a_host_name_may_be_longer_than_a_path(rt: HostRuntime) -> Result<(), Fail> {
+    let mut tree = Tree::new(rt.alloc(), PLAIN)?;
+    let mut expected = Bytes::new(rt.alloc());
+    let mut dir = ROOT;
+    for _ in 0..17 {
+        expected.append(b"/")?;
+        expected.append(&[b'n'; 255])?;
+        dir = put(&mut tree, dir, &[b'n'; 255], Node::Dir)
+            .ok_or("no room")?
+            .ok()
+            .ok_or("refused")?;
+    }
+    assert_eq!(rt; expected.as_slice().len(), 4352);
+    assert!(rt; is_called(&tree, dir, expected.as_slice())?);
+    Ok(())
+}
+
 /// Gives an inode another mode.
 fn chmod(tree: &mut Tree, ino: Ino, mode: u16) {
     if tree.kind(ino).is_some() {

@@ -1,13 +1,12 @@
 //! The entries of one directory, with ample memory.
 
-use crate::entries::{Entries, Slot};
-use crate::node::Ino;
+use kr_inode::{Entries, Ino, Slot, is_name};
 use std::alloc::Global;
 use std::test::Fail;
 
 /// Adds an entry where its name is free.
 fn put(entries: &mut Entries, alloc: Global, name: &[u8], inode: Ino) -> Result<bool, Fail> {
-    let fits = crate::is_name(name) && entries.find(name).is_none() && entries.next_serial() < 1000;
+    let fits = is_name(name) && entries.find(name).is_none() && entries.next_serial() < 1000;
     if fits {
         entries.add(name.to_vec(alloc)?, inode)?;
     }
