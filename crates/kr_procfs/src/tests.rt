@@ -21,7 +21,7 @@ fn names_are_given(rt: HostRuntime) -> Result<(), Fail> {
         assert!(rt; name.as_slice() == expected);
     }
     let text = pipe_text(alloc, 12)?;
-    assert!(rt; text.as_slice() == b"pipe:[12]");
+    assert!(rt; text.as_slice() == b"pipe:[12]".as_slice());
     Ok(())
 }
 

@@ -1,0 +1,41 @@
+-- What two machines with equal bare states have in common.
+use Rattle.std.specs.Prelude.{◌≡◌, ℕ, false}
+use Rattle.rv_mem.specs.Memory.{Memory}
+use Rattle.rv_mem.specs.Pages.{Pages}
+use Rattle.rv_mem.specs.Actions.{carried_out, AreEqualUnmarked}
+use Rattle.kr_calls.specs.declared.request.Request.{Request}
+use Rattle.kr_model.specs.State.{State, Image, image_layout}
+use Rattle.kr_model.specs.Change.{Change, PageChange, Birth}
+use Rattle.kr_model.specs.Applied.{Mounts, applied, layouts, images, pages_after}
+use Rattle.kr_model.specs.Operation.{operation}
+use Rattle.kr_model.specs.Seen.{Seen}
+use Rattle.kr_model.specs.Bare.{bare, bare_mounts, ArePinned}
+use Rattle.kr_model.specs.Known.{known}
+
+-- what calls ask of a state is asked of its bare part alone
+abbrev pub KnownIsBare : Type 0 → Type 0
+KnownIsBare M =
+    (pins : ℕ → ℕ) (pid : ℕ) (s : State M Image) → known image_layout pid s ≡ known (λ m. m) pid (bare image_layout pins s)
+
+-- a change does on the bare part what it does on the whole, where each mount's source is held and has a name before it
+-- and after it
+abbrev pub ChangesAreBare : Type 0 → Type 0
+ChangesAreBare M =
+    (pins : ℕ → ℕ) (mounts : Mounts M) (pid : ℕ) (c : Change) (s : State M Image)
+    → ArePinned pins s.tree → ArePinned pins (applied images mounts pid c s).tree
+    → bare image_layout pins (applied images mounts pid c s) ≡ applied layouts (bare_mounts mounts) pid c (bare image_layout pins s)
+
+-- what two machines with equal bare states and equal facts are answered. Where the first one's call reads no marked
+-- byte, the outcomes and the changes are the same, and the memories stay equal but for marked bytes
+abbrev pub CallsAlike : Type 0 → Type 0 → Type 0
+CallsAlike M N =
+    (p q : ℕ → ℕ) (pid : ℕ) (r : Request) (seen : Seen) (s : State M Image) (t : State N Image) (m w : Memory)
+    → bare image_layout p s ≡ bare image_layout q t → AreEqualUnmarked m.pages w.pages
+    → (carried_out (operation pid r seen (known image_layout pid s)) m).memory.read_marked ≡ false
+    → ((carried_out (operation pid r seen (known image_layout pid s)) m).reply ≡ (carried_out (operation pid r seen (known image_layout pid t)) w).reply)
+    × AreEqualUnmarked (carried_out (operation pid r seen (known image_layout pid s)) m).memory.pages (carried_out (operation pid r seen (known image_layout pid t)) w).memory.pages
+
+-- pages that are changed, and those of a child, stay equal but for marked bytes
+pub record PagesStayAlike : Type 0 where
+  pub changed : (c : PageChange) (m w : Pages) → AreEqualUnmarked m w → AreEqualUnmarked (pages_after c m) (pages_after c w)
+  pub born : (b : Birth) (x y : Image) → AreEqualUnmarked x.memory.pages y.memory.pages → AreEqualUnmarked (images.born b x).memory.pages (images.born b y).memory.pages

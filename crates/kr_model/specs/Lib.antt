@@ -1,0 +1,23 @@
+pub mod State
+pub mod Change
+pub mod Applied
+pub mod Bare
+pub mod Known
+pub mod Seen
+pub mod Reply
+-- what calls come to
+pub mod Asking
+pub mod Pieces
+pub mod DescriptorRows
+pub mod FileRows
+pub mod NameRows
+pub mod AttributeRows
+pub mod DirectoryRows
+pub mod MemoryRows
+pub mod ProcessRows
+pub mod IdentityRows
+pub mod Operation
+pub mod Uses
+pub mod ProcessDirectory
+pub mod Walks
+pub mod Laws

@@ -1,0 +1,34 @@
+-- What a call comes to: an outcome, and the changes that it makes.
+use Rattle.std.specs.Prelude.{ℕ, List, [], ◌∷◌, pos, neg_ℤ}
+use Rattle.pr_base.specs.declared.errno.Errno.{Errno}
+use Rattle.pr_base.specs.Errno.{errno_number}
+use Rattle.rv_mem.specs.Actions.{Action, Done}
+use Rattle.kr_model.specs.declared.outcome.Outcome.{Outcome}
+use Rattle.kr_model.specs.declared.outcome.Outcome.TheVariants.{Answer, Wait, Ended}
+use Rattle.kr_model.specs.Change.{Change, End}
+
+pub record Reply : Type 0 where
+  pub outcome : Outcome
+  pub changes : List Change
+
+abbrev pub Replying : Type 0
+Replying = Action Reply
+
+abbrev pub answers : ℕ → List Change → Reply
+answers n changes = record { outcome = Answer (pos n); changes = changes }
+
+-- a refused call answers the negated number of the error, and changes nothing
+abbrev pub refusal : Errno → Reply
+refusal e = record { outcome = Answer (neg_ℤ (pos (errno_number e))); changes = [] }
+
+abbrev pub done : ℕ → List Change → Replying
+done n changes = Done (answers n changes)
+
+abbrev pub refuse : Errno → Replying
+refuse e = Done (refusal e)
+
+abbrev pub waits : Replying
+waits = Done (record { outcome = Wait; changes = [] })
+
+abbrev pub ends : ℕ → Replying
+ends status = Done (record { outcome = Ended; changes = End status ∷ [] })
