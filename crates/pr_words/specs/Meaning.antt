@@ -1,12 +1,12 @@
 -- What options that were accepted ask for. The last one given stands first in these lists.
-use Rattle.std.specs.Prelude.{ℕ, ◌+◌, bytes_eq, Bool, true, false, List, [], ◌∷◌, ◌++◌, length, codes, Option, Some, None, is_some, unwrap_or, if◌then◌else◌}
-use Rattle.std.specs.Option.{option_map}
+use Rattle.std.specs.Prelude.{ℕ, List, [], ◌∷◌, codes, Option, Some, None, is_some, unwrap_or}
 use Rattle.pr_base.specs.declared.bind.Bind.{Bind}
 use Rattle.pr_words.specs.declared.options.Slot.{Slot}
 use Rattle.pr_words.specs.declared.options.Options.{Options}
 use Rattle.pr_words.specs.declared.setting.Setting.{Setting}
 use Rattle.pr_words.specs.declared.setting.Setting.TheVariants.{Root, Bind as BindSetting, Directory, RootId, ChangeId, Variable, Turns, Schedule, Native, Calm, Case}
-use Rattle.pr_words.specs.Values.{variable_name}
+use Rattle.pr_words.specs.Bindings.{with_bind}
+use Rattle.pr_words.specs.Variables.{with_variable}
 
 -- ---- the latest of a kind
 
@@ -59,26 +59,11 @@ calm_in s = None
 
 -- ---- all of a kind
 
--- a binding with the next index, from 1
-abbrev pub with_bind : List ℕ → List ℕ → Bool → List Bind → List Bind
-with_bind host guest keep binds = binds ++ record { index = length binds + 1; host = host; guest = guest; keep = keep } ∷ []
-
 -- all bindings in the order in which they are given
 abbrev pub binds_of : List Setting → List Bind
 binds_of [] = []
 binds_of (BindSetting host guest keep ∷ earlier) = with_bind host guest keep (binds_of earlier)
 binds_of (s ∷ earlier) = binds_of earlier
-
-abbrev pub same_name : Option (List ℕ) → Option (List ℕ) → Bool
-same_name (Some a) (Some b) = bytes_eq a b
-same_name (Some a) None = false
-same_name None b = false
-
--- a variable in the place of the one of its name, or behind all others
-abbrev pub with_variable : List ℕ → List (List ℕ) → List (List ℕ)
-with_variable text [] = text ∷ []
-with_variable text (other ∷ texts) =
-    if same_name (variable_name text) (variable_name other) then text ∷ texts else other ∷ with_variable text texts
 
 -- the environment
 abbrev pub variables_of : List Setting → List (List ℕ)

@@ -14,27 +14,9 @@ use Rattle.pr_words.specs.declared.setting.Setting.{Setting}
 use Rattle.pr_words.specs.declared.setting.Setting.TheVariants.{Root as RootSetting, Bind as BindSetting, Directory as DirectorySetting, RootId as RootIdSetting, ChangeId as ChangeIdSetting, Variable as VariableSetting, Turns as TurnsSetting, Schedule as ScheduleSetting, Native as NativeSetting, Calm as CalmSetting, Case as CaseSetting}
 use Rattle.pr_words.specs.declared.options.Options.{Options}
 use Rattle.pr_words.specs.Spelling.{spelling_of, own_value}
+use Rattle.pr_words.specs.Rules.{smaller}
 use Rattle.pr_words.specs.Values.{turns_of, case_of, ids_of, schedule_of, binding_of, Binding, is_variable}
 use Rattle.pr_words.specs.Meaning.{latest, root_in, directory_in, change_in, ids_in, turns_in, schedule_in, case_in, native_in, calm_in, options_of}
-
--- ---- the rules by their numbers
-
-abbrev pub number_of_rule : Why → ℕ
-number_of_rule Unknown = 1
-number_of_rule NoValue = 2
-number_of_rule BadNumber = 3
-number_of_rule BadSchedule = 4
-number_of_rule BadBind = 5
-number_of_rule BadEnv = 6
-number_of_rule Twice = 7
-number_of_rule CalmAlone = 8
-number_of_rule CaseAlone = 9
-number_of_rule ZeroByte = 10
-number_of_rule BadId = 11
-
--- of two rules the one with the smaller number
-abbrev pub smaller : Why → Why → Why
-smaller a b = if nat_le (number_of_rule a) (number_of_rule b) then a else b
 
 -- ---- the options and the command
 
@@ -56,15 +38,15 @@ unfoldable mutual
   line_of n (word ∷ words) = elim (spelling_of word) as (λ _. Line) [
     | CommandWord ↦ Command n (word ∷ words)
     | UnknownWord ↦ Then n NoSuch (line_of (n + 1) words)
-    | Lacking kind ↦ Then n WithoutValue (line_of (n + 1) words)
-    | Flag kind ↦ Then n (WithValue kind []) (line_of (n + 1) words)
-    | Long kind ↦ Then n (WithValue kind (own_value word)) (line_of (n + 1) words)
-    | Short kind ↦ with_next n kind words
+    | Lacking what ↦ Then n WithoutValue (line_of (n + 1) words)
+    | Flag what ↦ Then n (WithValue what []) (line_of (n + 1) words)
+    | Long what ↦ Then n (WithValue what (own_value word)) (line_of (n + 1) words)
+    | Short what ↦ with_next n what words
   ]
 
   pub with_next : ℕ → Kind → List (List ℕ) → Line
-  with_next n kind [] = Then n WithoutValue (Command (n + 1) [])
-  with_next n kind (value ∷ words) = Then n (WithValue kind value) (line_of (n + 2) words)
+  with_next n what [] = Then n WithoutValue (Command (n + 1) [])
+  with_next n what (value ∷ words) = Then n (WithValue what value) (line_of (n + 2) words)
 
 -- ---- what an option asks for
 
@@ -110,7 +92,7 @@ or_twice true (Err why) = Err (smaller why Twice)
 abbrev pub told : List Setting → Asked → Result Setting Why
 told earlier NoSuch = Err Unknown
 told earlier WithoutValue = Err NoValue
-told earlier (WithValue kind value) = or_twice (is_again kind earlier) (setting_of kind value)
+told earlier (WithValue what value) = or_twice (is_again what earlier) (setting_of what value)
 
 -- ---- options that don't stand together
 

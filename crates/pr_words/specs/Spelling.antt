@@ -51,7 +51,7 @@ long_named name =
 
 abbrev pub spelled_or : (Kind → Spelled) → Spelled → Option Kind → Spelled
 spelled_or form other None = other
-spelled_or form other (Some kind) = form kind
+spelled_or form other (Some what) = form what
 
 -- a word that begins with `-` and has no `=`
 abbrev pub without_value : List ℕ → Spelled

@@ -1,5 +1,8 @@
 //! Why words can't be read.
 
+ghost use Rattle.std.specs.Prelude.{◌≡◌};
+ghost use Rattle.pr_words.specs.Rules.{number_of_rule, smaller};
+
 use pr_base::NoMemory;
 
 /// The rule that a word breaks. Of the rules up to `Twice` and `BadId` that one word breaks the one with
@@ -28,6 +31,26 @@ pub enum Why {
     ZeroByte = 10,
     /// The value isn't two numbers of a user and a group with a `:` between them.
     BadId = 11,
+}
+
+impl Why {
+    /// The rule's number.
+    pub fn number(self) -> u8
+        ensures { result ≡ number_of_rule self }
+    {
+        self as u8
+    }
+
+    /// This rule or another one, whichever has the smaller number.
+    pub(crate) fn or_smaller(self, other: Why) -> Why
+        ensures { result ≡ smaller self other }
+    {
+        if self.number() <= other.number() {
+            self
+        } else {
+            other
+        }
+    }
 }
 
 /// Why words weren't read.

@@ -2,10 +2,17 @@
 #![tactic(auto)]
 
 mod fault;
+mod front;
 mod kind;
 mod options;
+mod schedule;
 mod setting;
+mod so_far;
 mod spelling;
+mod value;
+mod variables;
+mod words;
 
 pub use fault::{Why, WordsFault};
 pub use options::{Binds, Options, Slot, Slots};
+pub use words::read;

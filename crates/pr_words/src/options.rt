@@ -1,6 +1,9 @@
 //! What the words ask for.
+ghost use Rattle.std.specs.Prelude.{◌≡◌, [], ◌∷◌, ◌++◌, ◌+◌, ◌<◌, ◌^◌, length, ◌↔◌, IsTrue, OnOk};
+ghost use Rattle.pr_words.specs.Bindings.{with_bind};
 
-use pr_base::{Bind, Bytes, Texts};
+use pr_base::{Bind, Bytes, NoMemory, Texts};
+use std::alloc::Global;
 use std::marker::Model;
 
 /// One slot of a schedule: in its turn the process at place `pick` runs, for `fuel` instructions at most.
@@ -27,6 +30,50 @@ impl Model for Slots {
     ghost view = { λ s. s.list.items };
 }
 
+impl From<Vec<Slot>> for Slots {
+    ghost from_gives = { λ list slots. slots ≡ list.items };
+
+    fn from(list: Vec<Slot>) -> Slots {
+        Slots { list }
+    }
+}
+
+impl Slots {
+    /// No slots. It takes no memory.
+    pub fn new(alloc: Global) -> Slots
+        ensures { result ≡ [] }
+    {
+        Slots {
+            list: Vec::new(alloc),
+        }
+    }
+
+    /// The slots as the vector that holds them. It takes no memory.
+    pub fn into_vec(self) -> Vec<Slot>
+        ensures { result.items ≡ self }
+    {
+        self.list
+    }
+
+    pub fn as_slice(&self) -> &[Slot]
+        ensures { result.now ≡ self.now }
+    {
+        self.list.as_slice()
+    }
+
+    pub fn len(&self) -> usize
+        ensures { result ≡ length self.now }
+    {
+        self.list.len()
+    }
+
+    pub fn is_empty(&self) -> bool
+        ensures { IsTrue result ↔ (self.now ≡ []) }
+    {
+        self.list.is_empty()
+    }
+}
+
 /// Bindings in the order in which they are given, which contracts see as a list.
 #[derive(Debug, Drop)]
 pub struct Binds {
@@ -40,6 +87,66 @@ impl Model for Binds {
     ghost Value = { List OneBind };
 
     ghost view = { λ b. b.list.items };
+}
+
+impl From<Vec<Bind>> for Binds {
+    ghost from_gives = { λ list binds. binds ≡ list.items };
+
+    fn from(list: Vec<Bind>) -> Binds {
+        Binds { list }
+    }
+}
+
+impl Binds {
+    /// No bindings, in a value that can grow. It takes no memory yet.
+    pub fn new(alloc: Global) -> Binds
+        ensures { result ≡ [] }
+    {
+        Binds {
+            list: Vec::new(alloc),
+        }
+    }
+
+    /// Adds a binding at the end, with the next index.
+    pub(crate) fn add(&mut self, host: Bytes, guest: Bytes, keep: bool) -> Result<(), NoMemory>
+        requires { length self.old + 1 < 2 ^ 32 }
+        ensures { OnOk result (self.new ≡ with_bind host guest keep self.old) }
+    {
+        let index = self.list.len() as u32 + 1;
+        let bind = Bind {
+            index,
+            host,
+            guest,
+            keep,
+        };
+        self.list.push(bind)?;
+        Ok(())
+    }
+
+    /// The bindings as the vector that holds them. It takes no memory.
+    pub fn into_vec(self) -> Vec<Bind>
+        ensures { result.items ≡ self }
+    {
+        self.list
+    }
+
+    pub fn as_slice(&self) -> &[Bind]
+        ensures { result.now ≡ self.now }
+    {
+        self.list.as_slice()
+    }
+
+    pub fn len(&self) -> usize
+        ensures { result ≡ length self.now }
+    {
+        self.list.len()
+    }
+
+    pub fn is_empty(&self) -> bool
+        ensures { IsTrue result ↔ (self.now ≡ []) }
+    {
+        self.list.is_empty()
+    }
 }
 
 /// What the words ask for.
