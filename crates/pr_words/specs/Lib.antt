@@ -1,0 +1,9 @@
+pub mod Answers
+pub mod Bindings
+pub mod Meaning
+pub mod Reading
+pub mod Rules
+pub mod Spelling
+pub mod Steps
+pub mod Values
+pub mod Variables
