@@ -1,7 +1,10 @@
 pub mod CutLemmas
 pub mod LoopLemmas
 pub mod NumberLemmas
+pub mod PositionLemmas
 pub mod ReadLemmas
 pub mod ScheduleLemmas
+pub mod SoundLemmas
+pub mod ValueLemmas
 pub mod VariableLemmas
 pub mod WordRows

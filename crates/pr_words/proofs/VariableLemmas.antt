@@ -1,12 +1,11 @@
 -- A variable put into a list of them.
 use Rattle.std.proofs.Common.{◌≡◌, ℕ, suc, zero, ◌<◌, ◌≤◌, List, [], ◌∷◌, ◌++◌, length, get_or, set, Bool, true, false, Option, Some, None, refl, sym, ap, ◌∙◌, arith}
-use Rattle.std.specs.Prelude.{nat_lt, if◌then◌else◌}
-use Rattle.std.specs.List.{position, position_or_len}
-use Rattle.std.proofs.lemmas.Bool.{lt-ltb}
+use Rattle.std.specs.Prelude.{if◌then◌else◌}
+use Rattle.std.specs.List.{position}
 use Rattle.std.proofs.lemmas.List.Quantifiers.{position-Some}
-use Rattle.std.proofs.lemmas.List.Sums.{fails_before_first}
 use Rattle.pr_words.specs.Values.{variable_name}
 use Rattle.pr_words.specs.Variables.{same_name, with_variable}
+use Rattle.pr_words.proofs.PositionLemmas.{none_passes}
 
 abbrev pub has_name_of : List ℕ → List ℕ → Bool
 has_name_of text other = same_name (variable_name text) (variable_name other)
@@ -34,11 +33,4 @@ put_at text texts at e =
 
 -- behind the others
 pub put_last : (text : List ℕ) (texts : List (List ℕ)) → position (has_name_of text) texts ≡ None → texts ++ text ∷ [] ≡ with_variable text texts
-put_last text texts e = put_behind text texts (λ k l. fails_before_first (has_name_of text) texts k [] (by_case (nat_lt (position_or_len (has_name_of text) texts) (length texts)) refl k l))
-  where
-    here : nat_lt (position_or_len (has_name_of text) texts) (length texts) ≡ true → position (has_name_of text) texts ≡ Some (position_or_len (has_name_of text) texts)
-    here h = rw h refl
-
-    by_case : (h : Bool) → nat_lt (position_or_len (has_name_of text) texts) (length texts) ≡ h → (k : ℕ) → k < length texts → k < position_or_len (has_name_of text) texts
-    by_case true h k l = let yes = here h in cc
-    by_case false h k l = let past : (position_or_len (has_name_of text) texts < length texts) → ⊥ = λ m. let yes = lt-ltb _ _ m in cc in omega (arith, past, l)
+put_last text texts e = put_behind text texts (λ k l. none_passes (has_name_of text) texts e k [] l)

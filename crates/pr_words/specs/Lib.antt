@@ -3,6 +3,7 @@ pub mod Bindings
 pub mod Meaning
 pub mod Reading
 pub mod Rules
+pub mod Sound
 pub mod Spelling
 pub mod Steps
 pub mod Values

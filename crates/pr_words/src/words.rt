@@ -1,9 +1,10 @@
 //! The words of a command line.
-ghost use Rattle.std.specs.Prelude.{◌≡◌, ◌+◌, ◌<◌, ◌≤◌, ◌^◌, length, map, OnOk, IfOk};
+ghost use Rattle.std.specs.Prelude.{◌≡◌, ◌+◌, ◌<◌, ◌≤◌, ◌^◌, length, map, [], OnOk, IfOk};
 ghost use Rattle.std.specs.List.{list_any, position};
 ghost use Rattle.std.specs.String.{string_bytes};
 ghost use Rattle.pr_words.specs.Answers.{IsAnswer};
-ghost use Rattle.pr_words.specs.Reading.{has_zero, reading_of};
+ghost use Rattle.pr_words.specs.Reading.{has_zero, line_of, accepted, reading_of};
+ghost use Rattle.pr_words.specs.Sound.{AreSound};
 ghost use Rattle.pr_words.specs.Steps.{step_of, StepsTo};
 
 use crate::fault::{OptionFault, Why, WordsFault};
@@ -49,21 +50,11 @@ fn read_option(
     }
 }
 
-/// Reads the words of a command line: options, and then the command, which begins at the first word
-/// that doesn't begin with `-`. Where words break a rule, the answer is the first such word and its rule:
-/// a zero byte in a word first; then, word by word, the smallest number among the rules that the word
-/// breaks; and last what may not stand beside `--case`, and `--calm` without `--native`. Nothing else is
-/// refused but for want of memory.
-pub fn read(alloc: Global, words: &[String]) -> Result<Options, WordsFault>
+/// Reads options up to the command, none of whose words has a zero byte.
+fn read_line(alloc: Global, words: &[String]) -> Result<Options, WordsFault>
     requires { length words.now < 2 ^ 32 }
-    ensures { IsAnswer (reading_of (map string_bytes words.now)) result }
+    ensures { IsAnswer (accepted [] (line_of 1 (map string_bytes words.now))) result }
 {
-    if let Some(at) = place_of_zero(words) {
-        return Err(WordsFault::Usage {
-            word: at as u32 + 1,
-            why: Why::ZeroByte,
-        });
-    }
     let mut so_far = SoFar::new(alloc);
     let mut place = 1;
     let mut rest = words;
@@ -76,4 +67,23 @@ pub fn read(alloc: Global, words: &[String]) -> Result<Options, WordsFault>
         place += taken;
     }
     so_far.finish(alloc, place, rest)
+}
+
+/// Reads the words of a command line: options, and then the command, which begins at the first word
+/// that doesn't begin with `-`. Where words break a rule, the answer is the first such word and its rule:
+/// a zero byte in a word first; then, word by word, the smallest number among the rules that the word
+/// breaks; and last what may not stand beside `--case`, and `--calm` without `--native`. Nothing else is
+/// refused but for want of memory.
+pub fn read(alloc: Global, words: &[String]) -> Result<Options, WordsFault>
+    requires { length words.now < 2 ^ 32 }
+    ensures answer { IsAnswer (reading_of (map string_bytes words.now)) result }
+    ensures sound { IfOk result AreSound }
+{
+    if let Some(at) = place_of_zero(words) {
+        return Err(WordsFault::Usage {
+            word: at as u32 + 1,
+            why: Why::ZeroByte,
+        });
+    }
+    read_line(alloc, words)
 }
