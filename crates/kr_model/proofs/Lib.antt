@@ -4,3 +4,15 @@ pub mod BareLemmas
 pub mod KnownLemmas
 pub mod ImageLemmas
 pub mod CallLemmas
+pub mod RefusalLemmas
+pub mod CleanDescriptorRows
+pub mod CleanPieces
+pub mod CleanFileRows
+pub mod CleanNameRows
+pub mod CleanAttributeRows
+pub mod CleanOtherRows
+pub mod CleanCalls
+pub mod StayLemmas
+pub mod ShapeLemmas
+pub mod SlotLemmas
+pub mod OperationRows

@@ -1,5 +1,6 @@
 -- What two machines with equal bare states have in common.
-use Rattle.std.specs.Prelude.{◌≡◌, ℕ, false}
+use Rattle.std.specs.Prelude.{◌≡◌, ◌≢◌, ℕ, true, false, []}
+use Rattle.pr_base.specs.declared.errno.Errno.TheVariants.{ENOSYS}
 use Rattle.rv_mem.specs.Memory.{Memory}
 use Rattle.rv_mem.specs.Pages.{Pages}
 use Rattle.rv_mem.specs.Actions.{carried_out, AreEqualUnmarked}
@@ -8,9 +9,10 @@ use Rattle.kr_model.specs.State.{State, Image, image_layout}
 use Rattle.kr_model.specs.Change.{Change, PageChange, Birth}
 use Rattle.kr_model.specs.Applied.{Mounts, applied, layouts, images, pages_after}
 use Rattle.kr_model.specs.Operation.{operation}
-use Rattle.kr_model.specs.Seen.{Seen}
+use Rattle.kr_model.specs.Reply.{is_refusal, unbuilt}
+use Rattle.kr_model.specs.Seen.{Seen, WalkFails}
 use Rattle.kr_model.specs.Bare.{bare, bare_mounts, ArePinned}
-use Rattle.kr_model.specs.Known.{known}
+use Rattle.kr_model.specs.Known.{Known, known}
 
 -- what calls ask of a state is asked of its bare part alone
 abbrev pub KnownIsBare : Type 0 → Type 0
@@ -39,3 +41,13 @@ CallsAlike M N =
 pub record PagesStayAlike : Type 0 where
   pub changed : (c : PageChange) (m w : Pages) → AreEqualUnmarked m w → AreEqualUnmarked (pages_after c m) (pages_after c w)
   pub born : (b : Birth) (x y : Image) → AreEqualUnmarked x.memory.pages y.memory.pages → AreEqualUnmarked (images.born b x).memory.pages (images.born b y).memory.pages
+
+-- a call that answers an error has changed nothing and written nothing, and the error is ENOSYS only where that is told
+-- of its walk, which no walk answers
+abbrev pub RefusalsChangeNothing : Type 0
+RefusalsChangeNothing =
+    (pid : ℕ) (r : Request) (seen : Seen) (k : Known) (m : Memory) → seen ≢ WalkFails ENOSYS
+    → is_refusal (carried_out (operation pid r seen k) m).reply.outcome ≡ true
+    → ((carried_out (operation pid r seen k) m).reply.changes ≡ [])
+    × ((carried_out (operation pid r seen k) m).memory.pages ≡ m.pages)
+    × ((carried_out (operation pid r seen k) m).reply.outcome ≢ unbuilt)

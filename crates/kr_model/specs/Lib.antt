@@ -20,4 +20,6 @@ pub mod Operation
 pub mod Uses
 pub mod ProcessDirectory
 pub mod Walks
+pub mod Lawful
+pub mod Judged
 pub mod Laws

@@ -1,10 +1,11 @@
 -- What a call comes to: an outcome, and the changes that it makes.
-use Rattle.std.specs.Prelude.{ℕ, List, [], ◌∷◌, pos, neg_ℤ}
+use Rattle.std.specs.Prelude.{ℕ, Bool, true, false, List, [], ◌∷◌, pos, negsuc, neg_ℤ}
 use Rattle.pr_base.specs.declared.errno.Errno.{Errno}
+use Rattle.pr_base.specs.declared.errno.Errno.TheVariants.{ENOSYS}
 use Rattle.pr_base.specs.Errno.{errno_number}
 use Rattle.rv_mem.specs.Actions.{Action, Done}
 use Rattle.kr_model.specs.declared.outcome.Outcome.{Outcome}
-use Rattle.kr_model.specs.declared.outcome.Outcome.TheVariants.{Answer, Wait, Ended}
+use Rattle.kr_model.specs.declared.outcome.Outcome.TheVariants.{Answer, Wait, Ended, NoMemory}
 use Rattle.kr_model.specs.Change.{Change, End}
 
 pub record Reply : Type 0 where
@@ -32,3 +33,15 @@ waits = Done (record { outcome = Wait; changes = [] })
 
 abbrev pub ends : ℕ → Replying
 ends status = Done (record { outcome = Ended; changes = End status ∷ [] })
+
+-- whether an outcome is an error
+abbrev pub is_refusal : Outcome → Bool
+is_refusal (Answer (pos n)) = false
+is_refusal (Answer (negsuc n)) = true
+is_refusal Wait = false
+is_refusal Ended = false
+is_refusal NoMemory = false
+
+-- ENOSYS, which no call that is decoded answers
+abbrev pub unbuilt : Outcome
+unbuilt = (refusal ENOSYS).outcome
