@@ -1,3 +1,4 @@
 pub mod ByteLemmas
 pub mod IndexLemmas
+pub mod LawLemmas
 pub mod RowLemmas

@@ -1,6 +1,6 @@
 -- What the rows of a table tell of a text: which of them owns it, and its host text.
-use Rattle.std.proofs.Common.{◌≡◌, ◌≢◌, ◌<◌, ◌≤◌, ◌+◌, ℕ, suc, Bool, true, false, not, cond, Option, Some, None, List, [], ◌∷◌, ◌++◌, map, length, drop, take, get_or, reverse, refl, ap, sym, subst, ◌∙◌, arith, nat_lt, nat_eq, ◌||◌, All, IfSome, append-nil}
-use Rattle.std.specs.Prelude.{position, slice_get}
+use Rattle.std.proofs.Common.{◌≡◌, ◌≢◌, ◌<◌, ◌≤◌, ◌+◌, ℕ, Bool, true, false, not, cond, Option, Some, None, List, [], ◌∷◌, ◌++◌, map, length, drop, take, get_or, reverse, refl, ap, sym, subst, ◌∙◌, arith, nat_lt, nat_eq, ◌||◌, All, IfSome, append-nil}
+use Rattle.std.specs.Prelude.{position}
 use Rattle.std.specs.Bool.{Decides}
 use Rattle.std.specs.List.{position_or_len, find, list_any}
 use Rattle.std.specs.Option.{option_map, option_map_or, option_and_then}
@@ -18,10 +18,10 @@ use Rattle.pr_base.specs.Paths.{IsPart, AreParts, parts_of, below_root, text_of}
 use Rattle.pr_base.specs.Texts.{Text, texts_eq, names_below}
 use Rattle.pr_base.specs.declared.bind.Bound.{Bound}
 use Rattle.pr_base.proofs.PathLemmas.{below_root_append}
-use Rattle.pr_base.proofs.TextLemmas.{some_is, texts_are_told_apart}
+use Rattle.pr_base.proofs.TextLemmas.{texts_are_told_apart}
 use Rattle.pt_bind.specs.Binding.{is_located, located, source_of, number_at, owner, host_at, host_of, guest_in, guest_of, is_point, IsWritten, names_of, point_of, row_of, rows_of, AreTexts, AreSettled, AreBounds}
 use Rattle.pt_bind.specs.Kept.{is_at, IsOwned, IsReadTo}
-use Rattle.pt_bind.proofs.ByteLemmas.{names_written, their_names, spelled, spelled_parts, spelled_in_turn}
+use Rattle.pt_bind.proofs.ByteLemmas.{names_written, spelled, spelled_parts, spelled_in_turn}
 
 -- ---- rows are read back from their bytes
 
@@ -64,7 +64,7 @@ position_alike one two table h =
     ap (λ l. cond (nat_lt (position_or_len one (map bound_of table)) l) (Some (position_or_len one (map bound_of table))) None) (length-map table bound_of)
     ∙ ap (λ k. cond (nat_lt k (length table)) (Some k) None) n
 
-located_is : (row : MountText) (t : Text) → Decides (is_located t row) (row.location ≡ t)
+pub located_is : (row : MountText) (t : Text) → Decides (is_located t row) (row.location ≡ t)
 located_is row t = slice_eq-Decides bytes_eq-Decides row.location t (is_located t row) refl
 
 row_alike : (t : Text) → AreParts t → (row : MountText) → AreTexts row → is_at (text_of t) (bound_of row) ≡ is_located t row

@@ -9,7 +9,7 @@ use Rattle.pr_base.specs.MountText.{MountText}
 use Rattle.pr_base.specs.Paths.{below_root}
 use Rattle.pr_base.specs.Texts.{Text}
 use Rattle.pr_base.specs.declared.bind.Bound.{Bound}
-use Rattle.pt_bind.specs.Binding.{AreBounds, owner, host_of, source_of}
+use Rattle.pt_bind.specs.Binding.{owner, host_of, source_of}
 
 abbrev pub is_at : List ℕ → Bound → Bool
 is_at bytes bound = bytes_eq bound.location bytes

@@ -1,5 +1,5 @@
-use Rattle.std.proofs.Common.{◌≡◌, ◌∙◌, ap, sym, cond}
-use Rattle.pt_bind.proofs.IndexLemmas.{new_noted, old_noted}
+use Rattle.std.proofs.Common.{◌∙◌, sym}
+use Rattle.pt_bind.proofs.IndexLemmas.{new_noted}
 use Rattle.pt_bind.proofs.table.note.Goals as goal
 
 pub returns-in_ok-insert : goal.returns-in_ok-insert

@@ -1,7 +1,6 @@
 use Rattle.std.proofs.Common.{◌≡◌, ◌≢◌, ◌++◌, List, ℕ, ◌∙◌, ap, sym, Some, None, refl}
 use Rattle.std.proofs.lemmas.Bool.Decides.{Decides-eqb}
 use Rattle.std.proofs.lemmas.Slice.Eq.{strip_prefix_is}
-use Rattle.pr_base.specs.Paths.{below_root}
 use Rattle.pt_bind.specs.Binding.{names_of}
 use Rattle.pt_bind.proofs.ByteLemmas.{spelled_parts, not_in_front, within_name, in_front}
 use Rattle.pt_bind.proofs.text.rest_below.Goals as goal

@@ -1,4 +1,4 @@
-use Rattle.std.proofs.Common.{◌≡◌, ◌+◌, ◌∙◌, ◌∷◌, [], ◌++◌, ap, sym, take, get_or, length, ℕ, List, subst, rules, vec_len}
+use Rattle.std.proofs.Common.{◌≡◌, ◌+◌, ◌∙◌, ◌∷◌, [], ◌++◌, ap, sym, take, length, ℕ, List, subst, rules, vec_len}
 use Rattle.std.proofs.lemmas.List.{take_more}
 use Rattle.pr_base.specs.declared.bind.Bound.{Bound}
 use Rattle.pt_bind.specs.Kept.{IsIndex, IsNoted}

@@ -1,4 +1,4 @@
-use Rattle.std.proofs.Common.{◌≡◌, ◌∙◌, ap, sym, subst, nat_eq, ◌++◌, Some, None}
+use Rattle.std.proofs.Common.{◌∙◌, ap, sym, subst, nat_eq, ◌++◌}
 use Rattle.std.specs.Option.{option_map}
 use Rattle.pr_base.specs.Paths.{below_root, text_of}
 use Rattle.pr_base.specs.Texts.{names_below}

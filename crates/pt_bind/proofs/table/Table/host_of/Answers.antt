@@ -1,5 +1,5 @@
 use Rattle.std.proofs.Common.{◌≡◌, ◌≤◌, ◌∙◌, ℕ, List, ap, sym, subst, ◌++◌, length, drop, get_or, ◌<◌}
-use Rattle.pr_base.specs.Paths.{below_root, text_of}
+use Rattle.pr_base.specs.Paths.{text_of}
 use Rattle.pt_bind.specs.Binding.{AreBounds, IsWritten, names_of, row_of, rows_of}
 use Rattle.std.proofs.lemmas.List.{length-map}
 use Rattle.pr_base.specs.declared.bind.Bound.{Bound}

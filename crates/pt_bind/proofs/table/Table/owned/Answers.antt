@@ -1,12 +1,11 @@
-use Rattle.std.proofs.Common.{◌≡◌, ◌≤◌, ◌+◌, ◌∷◌, ◌++◌, Some, None, [], length, reverse, take, subst, sym, ◌∙◌, ap, arith, rules}
+use Rattle.std.proofs.Common.{◌≡◌, ◌+◌, ◌∷◌, ◌++◌, Some, None, [], length, reverse, take, subst, sym, ◌∙◌, ap, rules}
 use Rattle.std.specs.Prelude.{position}
-use Rattle.std.specs.Option.{option_copied}
 use Rattle.std.proofs.lemmas.List.{length-take-le}
 use Rattle.pr_base.specs.Parts.{parts_left}
 use Rattle.pr_base.specs.Paths.{parts_of}
 use Rattle.pt_bind.specs.Binding.{rows_of, located, AreBounds}
 use Rattle.pt_bind.specs.Kept.{is_at, IsReadTo}
-use Rattle.pt_bind.proofs.RowLemmas.{rows_settled, step_fits, step_located, read_some, read_none, read_begun, read_ended}
+use Rattle.pt_bind.proofs.RowLemmas.{rows_settled, step_fits, step_located, read_some, read_none, read_ended}
 use Rattle.pt_bind.proofs.table.Table.owned.Goals as goal
 
 pub overflow_add-end-in-loop-part : goal.overflow_add-end-in-loop-part

@@ -1,4 +1,3 @@
-use Rattle.std.proofs.Common.{◌≡◌, ◌++◌, List, ℕ, length, reverse}
 use Rattle.pr_base.specs.Parts.{parts_left}
 use Rattle.pr_base.specs.Paths.{parts_of}
 use Rattle.pt_bind.specs.Kept.{IsReadTo}
