@@ -1,5 +1,5 @@
 //! A program as it starts.
-ghost use Rattle.std.specs.Prelude.{◌≡◌, ◌+◌, ◌≤◌, ◌↔◌, All, None, false, length, IfOk, IsErrOf, IsTrue, OnErr, OnOk, replicate, slice_set};
+ghost use Rattle.std.specs.Prelude.{◌≡◌, ◌+◌, ◌≤◌, ◌↔◌, All, None, false, IfOk, IsErrOf, IsTrue, OnErr, OnOk, replicate, slice_set};
 ghost use Rattle.elf_read.specs.Plans.{plan_of, planned};
 ghost use Rattle.elf_read.specs.Rules.{first_broken};
 ghost use Rattle.rv_mem.specs.Memory.{page_count};

@@ -4,7 +4,7 @@ ghost use Rattle.std.specs.Option.{SomeIff};
 ghost use Rattle.elf_read.specs.Plans.{IsSound};
 ghost use Rattle.rv_mem.specs.Memory.{page_count, with_pages};
 ghost use Rattle.rv_mem.specs.Pages.{allows_all, has_pages, protected, written};
-ghost use Rattle.elf_load.specs.Image.{break_from, end_page, exceeds_pages, first_page, rights_in, segment_pages, stack_pages, with_segment, with_segments, with_stack};
+ghost use Rattle.elf_load.specs.Image.{break_from, end_page, exceeds_pages, rights_in, segment_pages, stack_pages, with_segment, with_segments, with_stack};
 
 use crate::stack::{FirstStack, STACK_TOP};
 use elf_read::Segment;

@@ -1,5 +1,5 @@
 //! The fields of the ELF header and of a program header, under the names of the format.
-ghost use Rattle.std.specs.Prelude.{◌≡◌, ◌≢◌, ◌+◌, ◌*◌, ◌<◌, ◌≤◌, length, MatchOption};
+ghost use Rattle.std.specs.Prelude.{◌≡◌, ◌<◌, ◌≤◌, length};
 ghost use Rattle.std.specs.Option.{SomeIff};
 
 use pr_base::{field_u16, field_u32, field_u64};

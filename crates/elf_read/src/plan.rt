@@ -1,6 +1,5 @@
 //! What a loader needs of an accepted file.
 ghost use Rattle.std.specs.Prelude.{◌≡◌, ◌+◌, ◌*◌, ◌^◌, ◌<◌, ◌≤◌, ◌++◌, All, None, drop, length, position};
-ghost use Rattle.elf_read.specs.Headers.{entry_size};
 ghost use Rattle.elf_read.specs.Plans.{address_in, plan_with, segments_of};
 ghost use Rattle.elf_read.specs.Rules.{displacement, is_misplaced, is_missized};
 

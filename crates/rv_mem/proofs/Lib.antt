@@ -1,10 +1,14 @@
 pub mod AccessLemmas
 pub mod ActionLemmas
 pub mod AddressLemmas
+pub mod AlikeLemmas
 pub mod ChangeLemmas
+pub mod LayoutLemmas
 pub mod MapLemmas
 pub mod PageLemmas
 pub mod PagesLemmas
+pub mod PlanLemmas
+pub mod SharedLemmas
 pub mod SpaceLemmas
 pub mod TableLemmas
 pub mod TextLemmas

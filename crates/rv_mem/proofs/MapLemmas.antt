@@ -71,3 +71,11 @@ first_page_in t m from to k p rest e h = (
   λ q low high. sym (get-view t.entries m q e)
       ∙ none_before k q _ high (h.2 q (not_above from q low, is_below q to (let below : k < to = from_below k to h.1.0.1 in omega arith))),
 )
+
+some_there : (o : Option PageState) (p : PageState) → o ≡ Some p → is_some o ≡ true
+some_there o p h = ap is_some h
+
+-- that entry is there
+pub first_page_there : (t : BTreeMap ℕ PageState) (m : Pages) (from to k : ℕ) (p : PageState) (rest : List (ℕ × PageState)) → pages_of t.entries ≡ m
+    → IsRangeOf nat_cmp (Included from) (Excluded to) t ((k, p) ∷ rest) → map.contains_key m k ≡ true
+first_page_there t m from to k p rest e h = some_there (map.get m k) p (sym (get-view t.entries m k e) ∙ h.1.1)

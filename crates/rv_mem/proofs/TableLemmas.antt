@@ -262,7 +262,7 @@ max_is a b here e = go (nat_le a b) refl
 
 -- ---- taking pages away
 
-below_or_not : (P : Type 0) (a b : ℕ) → (a < b → P) → (b ≤ a → P) → P
+pub below_or_not : (P : Type 0) (a b : ℕ) → (a < b → P) → (b ≤ a → P) → P
 below_or_not P a b low high = go (nat_lt a b) refl
   where
     go : (t : Bool) → nat_lt a b ≡ t → P

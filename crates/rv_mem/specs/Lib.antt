@@ -1,4 +1,5 @@
 pub mod Actions
+pub mod Layout
 pub mod Marks
 pub mod Memory
 pub mod Page

@@ -99,6 +99,11 @@ unfoldable pub written : Pages → ℕ → List ℕ → Pages
 written m at [] = m
 written m at (b ∷ bs) = written (with_page m (at / page_size) (page_written (at % page_size) (b ∷ []))) (at + 1) bs
 
+-- the pages from a number on replaced by these, those apart that aren't there
+unfoldable pub replaced : Pages → ℕ → List PageState → Pages
+replaced m first [] = m
+replaced m first (p ∷ ps) = replaced (with_page m first (λ _. p)) (first + 1) ps
+
 -- the n bytes from an address on marked, those apart that aren't there
 unfoldable pub marked : Pages → ℕ → ℕ → Pages
 marked m at zero = m

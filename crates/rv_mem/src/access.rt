@@ -1,14 +1,15 @@
 //! Bytes read and written over several pages.
 ghost use Rattle.pr_base.specs.Page.{page_size};
-ghost use Rattle.std.specs.Prelude.{◌≡◌, ◌↔◌, ◌+◌, ◌%◌, ◌^◌, ◌<◌, ◌≤◌, length, false, IsTrue, MatchOption};
+ghost use Rattle.std.specs.Prelude.{◌≡◌, ◌↔◌, ◌+◌, ◌%◌, ◌^◌, ◌<◌, ◌≤◌, length, false, IsTrue, IfOk, OnOk, OnErr, ◌/◌, MatchOption};
 ghost use Rattle.std.specs.FinMap as map;
 
+use crate::page::Page;
 use crate::rights::Use;
 use crate::table::Table;
-use pr_base::PAGE_SIZE;
+use pr_base::{NoMemory, PAGE_SIZE};
 
 impl<const MARKED: u8> Table<MARKED> {
-    ghost use Rattle.rv_mem.specs.Pages.{allows_all, any_marked, bytes_from, written, HasPagesAt, IsPlaced, IsRefused, IsRead};
+    ghost use Rattle.rv_mem.specs.Pages.{allows_all, any_marked, bytes_from, written, replaced, HasPagesAt, IsPlaced, IsRefused, IsRead};
 
     /// Whether each of `count` bytes from an address on is there and allows a use. A range that
     /// passes the last address has a byte that isn't there.
@@ -49,18 +50,50 @@ impl<const MARKED: u8> Table<MARKED> {
         marked
     }
 
-    /// Writes bytes over those that are there, which clears their marks.
-    pub fn write_all(&mut self, at: u64, bytes: &[u8])
+    /// Writes bytes over those that are all there, which clears their marks. Where memory is wanting none
+    /// is written.
+    pub fn write_all(&mut self, at: u64, bytes: &[u8]) -> Result<(), NoMemory>
         requires fits { at + length bytes.now ≤ 2 ^ 64 }
-        ensures { self.new ≡ written self.old at bytes.now }
+        requires there { HasPagesAt self.old at (length bytes.now) }
+        ensures ok { OnOk result (self.new ≡ written self.old at bytes.now) }
+        ensures err { OnErr result (self.new ≡ self.old) }
     {
+        if lie_in_a_page(at, bytes.len()) {
+            return self.write(at, bytes);
+        }
+        let pages = self.plan(at, bytes)?;
+        self.replace_all(at / PAGE_SIZE, pages);
+        Ok(())
+    }
+
+    /// The pages that bytes are written to, as they are then. All copies are taken here, before the first
+    /// page is replaced.
+    fn plan(&self, at: u64, bytes: &[u8]) -> Result<Vec<Page<MARKED>>, NoMemory>
+        requires fits { at + length bytes.now ≤ 2 ^ 64 }
+        requires there { HasPagesAt self.now at (length bytes.now) }
+        ensures pages { IfOk result (λ pages. replaced self.now (at / page_size) pages.items ≡ written self.now at bytes.now) }
+        ensures count { IfOk result (λ pages. at / page_size + length pages.items < 2 ^ 64) }
+    {
+        let mut pages = Vec::new(self.allocator());
         let mut done = 0;
         while done < bytes.len() {
             let next = at + done as u64;
             let room = (PAGE_SIZE - next % PAGE_SIZE) as usize;
             let count = room.min(bytes.len() - done);
-            self.write(next, &bytes[done..done + count]);
+            let page = self.page_after(next, &bytes[done..done + count])?;
+            pages.push(page)?;
             done += count;
+        }
+        Ok(pages)
+    }
+
+    /// Puts pages in place of those from a number on.
+    fn replace_all(&mut self, first: u64, mut pages: Vec<Page<MARKED>>)
+        requires { first + length pages.items < 2 ^ 64 }
+        ensures { self.new ≡ replaced self.old first pages.entry.items }
+    {
+        while let Some(page) = pages.pop() {
+            self.replace(first + pages.len() as u64, page);
         }
     }
 

@@ -44,6 +44,17 @@ impl From<NoMemory> for MapFault {
     }
 }
 
+impl From<NoMemory> for StoreFault {
+    ghost use Rattle.rv_mem.specs.declared.fault.StoreFault.TheVariants.{NoMemory as Wanting};
+    ghost use Rattle.std.specs.Prelude.{◌≡◌};
+
+    ghost from_gives = { λ _ fault. fault ≡ Wanting };
+
+    fn from(_want: NoMemory) -> StoreFault {
+        StoreFault::NoMemory
+    }
+}
+
 impl From<AllocError> for TextFault {
     ghost use Rattle.rv_mem.specs.declared.fault.TextFault.TheVariants.{NoMemory as Wanting};
     ghost use Rattle.std.specs.Prelude.{◌≡◌};

@@ -1,4 +1,4 @@
-//! The bytes of a page.
+//! The bytes of a page, as they are stored.
 ghost use Rattle.pr_base.specs.Page.{page_size};
 ghost use Rattle.std.specs.Prelude.{◌≡◌, ◌+◌, ◌-◌, ◌≤◌, length, take, drop, IfOk, nat_eq, position};
 ghost use Rattle.std.proofs.Math.Seq.{sets};
@@ -11,7 +11,7 @@ use std::marker::Model;
 /// How many bytes a page has, as the length of what holds them.
 pub const PAGE_LENGTH: usize = PAGE_SIZE as usize;
 
-/// The bytes of a page.
+/// The bytes of a page, as they are stored.
 #[derive(Drop)]
 pub struct Frame {
     bytes: Vec<u8>,
@@ -35,21 +35,6 @@ impl Frame {
     {
         let bytes = vec![in alloc; 0; PAGE_LENGTH]?;
         Ok(Frame { bytes })
-    }
-
-    /// A copy.
-    pub fn copy(&self) -> Result<Frame, AllocError>
-        ensures { IfOk result (λ frame. frame ≡ self.now) }
-    {
-        let bytes = self.bytes.clone()?;
-        Ok(Frame { bytes })
-    }
-
-    /// Makes all bytes zero.
-    pub fn clear(&mut self)
-        ensures { self.new ≡ zero_bytes }
-    {
-        self.bytes.fill(0);
     }
 
     /// Writes bytes from an offset on.
@@ -79,5 +64,14 @@ impl Frame {
         self.bytes[offset..offset + count]
             .iter()
             .position(|byte| *byte == 0)
+    }
+}
+
+impl Clone for Frame {
+    ghost is_clone = { λ old new. new ≡ old };
+
+    fn clone(&self) -> Result<Frame, AllocError> {
+        let bytes = self.bytes.clone()?;
+        Ok(Frame { bytes })
     }
 }

@@ -12,6 +12,7 @@ mod ranges;
 mod regs;
 mod rights;
 mod room;
+mod shared;
 mod space;
 mod table;
 mod text;

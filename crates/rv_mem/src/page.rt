@@ -1,18 +1,19 @@
 //! A page of a process's memory.
 ghost use Rattle.pr_base.specs.Page.{page_size};
-ghost use Rattle.std.specs.Prelude.{◌≡◌, ◌≢◌, ◌+◌, ◌-◌, ◌≤◌, length, take, drop, IfOk, nat_eq, position};
+ghost use Rattle.std.specs.Prelude.{◌≡◌, ◌≢◌, ◌+◌, ◌-◌, ◌≤◌, length, take, drop, IfOk, OnOk, OnErr, nat_eq, position};
 ghost use Rattle.std.specs.List.{list_any};
 
-use crate::frame::Frame;
 use crate::marks::Marks;
 use crate::rights::{Rights, Use};
+use crate::shared::Shared;
+use pr_base::NoMemory;
 use std::alloc::{AllocError, Global};
 use std::marker::Model;
 
-/// A page. Its rights and marks stand apart from its bytes.
+/// A page. Its copies share its bytes until one of them is written; its rights and marks are its own.
 #[derive(Drop)]
 pub struct Page<const MARKED: u8> {
-    frame: Frame,
+    shared: Shared,
     rights: Rights,
     marks: Marks<MARKED>,
 }
@@ -24,7 +25,7 @@ impl<const MARKED: u8> Model for Page<MARKED> {
 
     ghost coded = { page_code };
 
-    ghost view = { λ p. record { bytes = p.frame; rights = p.rights; marks = p.marks } };
+    ghost view = { λ p. record { bytes = p.shared; rights = p.rights; marks = p.marks } };
 }
 
 impl<const MARKED: u8> Page<MARKED> {
@@ -34,10 +35,9 @@ impl<const MARKED: u8> Page<MARKED> {
     pub fn fresh(alloc: Global, rights: Rights) -> Result<Page<MARKED>, AllocError>
         ensures { IfOk result (λ p. p ≡ fresh_page rights) }
     {
-        let frame = Frame::zeros(alloc)?;
         let marks = Marks::none(alloc)?;
         Ok(Page {
-            frame,
+            shared: Shared::zeros(),
             rights,
             marks,
         })
@@ -47,7 +47,7 @@ impl<const MARKED: u8> Page<MARKED> {
     pub fn reset(&mut self, rights: Rights)
         ensures { self.new ≡ fresh_page rights }
     {
-        self.frame.clear();
+        self.shared.clear();
         self.rights = rights;
         self.marks.clear_all();
     }
@@ -66,13 +66,30 @@ impl<const MARKED: u8> Page<MARKED> {
         self.rights = rights;
     }
 
-    /// Writes bytes from an offset on, which clears their marks.
-    pub fn write(&mut self, offset: usize, bytes: &[u8])
+    /// Writes bytes from an offset on, in a copy where they are shared, which clears their marks.
+    pub fn write(&mut self, alloc: Global, offset: usize, bytes: &[u8]) -> Result<(), NoMemory>
         requires { offset + length bytes.now ≤ page_size }
-        ensures { self.new ≡ page_written offset bytes.now self.old }
+        ensures ok { OnOk result (self.new ≡ page_written offset bytes.now self.old) }
+        ensures err { OnErr result (self.new ≡ self.old) }
     {
-        self.frame.write(offset, bytes);
+        self.shared.write(alloc, offset, bytes)?;
         self.marks.clear(offset, offset + bytes.len());
+        Ok(())
+    }
+
+    /// The page as it is after a write.
+    pub fn after(
+        &self,
+        alloc: Global,
+        offset: usize,
+        bytes: &[u8],
+    ) -> Result<Page<MARKED>, NoMemory>
+        requires { offset + length bytes.now ≤ page_size }
+        ensures { IfOk result (λ p. p ≡ page_written offset bytes.now self.now) }
+    {
+        let mut page = self.clone()?;
+        page.write(alloc, offset, bytes)?;
+        Ok(page)
     }
 
     /// Marks the bytes from an offset up to, but without, another.
@@ -92,7 +109,7 @@ impl<const MARKED: u8> Page<MARKED> {
         ensures bytes { into.new ≡ take (length into.old) (drop offset self.now.bytes) }
         ensures full { length self.now.bytes ≡ page_size }
     {
-        self.frame.copy_to(offset, into);
+        self.shared.copy_to(offset, into);
     }
 
     /// Whether one of the `count` bytes from an offset on is marked.
@@ -109,7 +126,7 @@ impl<const MARKED: u8> Page<MARKED> {
         ensures found { result ≡ position (λ b. nat_eq b 0) (take count (drop offset self.now.bytes)) }
         ensures full { length self.now.bytes ≡ page_size }
     {
-        self.frame.zero_in(offset, count)
+        self.shared.zero_in(offset, count)
     }
 }
 
@@ -117,10 +134,10 @@ impl<const MARKED: u8> Clone for Page<MARKED> {
     ghost is_clone = { λ old new. new ≡ old };
 
     fn clone(&self) -> Result<Page<MARKED>, AllocError> {
-        let frame = self.frame.copy()?;
+        let shared = self.shared.share()?;
         let marks = self.marks.copy()?;
         Ok(Page {
-            frame,
+            shared,
             rights: self.rights,
             marks,
         })

@@ -1,5 +1,5 @@
 //! Changes of several pages at once.
-ghost use Rattle.std.specs.Prelude.{◌≡◌, ◌≢◌, ℕ, ◌+◌, ◌-◌, ◌/◌, ◌^◌, ◌<◌, ◌≤◌, true, false, nat_eq, length, IfOk, OnOk, OnErr, MatchOption, slice_index};
+ghost use Rattle.std.specs.Prelude.{◌≡◌, ◌≢◌, ℕ, ◌+◌, ◌-◌, ◌/◌, ◌^◌, ◌<◌, ◌≤◌, true, false, nat_eq, length, IfOk, OnOk, OnErr, MatchOption, IfNone, IfSome, slice_index};
 ghost use Rattle.std.specs.List.{list_any};
 ghost use Rattle.std.specs.FinMap as map;
 
@@ -9,6 +9,7 @@ use pr_base::{NoMemory, PAGE_SIZE};
 use std::alloc::AllocError;
 
 impl<const MARKED: u8> Table<MARKED> {
+    ghost use Rattle.rv_mem.specs.Layout.{layout_of, has_page, HasNoPlace, IsLowestPlace};
     ghost use Rattle.rv_mem.specs.Pages.{mapped, unmapped, protected, marked, has_pages};
 
     /// How many of `count` pages from a number on aren't there, if they are at most `limit`.
@@ -120,6 +121,31 @@ impl<const MARKED: u8> Table<MARKED> {
         for k in 0..count {
             self.set_rights(first + k, rights);
         }
+    }
+
+    /// Whether one of `count` pages from a number on is there.
+    pub fn has_any(&self, first: u64, count: u64) -> bool
+        requires fits { first + count < 2 ^ 64 }
+        ensures { result ≡ has_page (layout_of self.now) first count }
+    {
+        self.next(first, first + count).is_some()
+    }
+
+    /// The lowest number from `from` on at which `count` pages have a place that ends by `end`.
+    pub fn lowest_place(&self, from: u64, end: u64, count: u64) -> Option<u64>
+        requires ordered { from ≤ end }
+        requires fits { end + count < 2 ^ 64 }
+        ensures none { IfNone result (HasNoPlace (layout_of self.now) from end end count) }
+        ensures some { IfSome result (IsLowestPlace (layout_of self.now) from end count) }
+    {
+        let mut place = from;
+        while place + count <= end {
+            let Some(number) = self.next(place, place + count) else {
+                return Some(place);
+            };
+            place = number + 1;
+        }
+        None
     }
 
     /// Marks the bytes from an address up to, but without, another that are there.

@@ -1,6 +1,6 @@
 //! The memory of one process.
 ghost use Rattle.pr_base.specs.Page.{page_size};
-ghost use Rattle.std.specs.Prelude.{◌≡◌, ◌↔◌, ◌⊎◌, ◌+◌, ◌-◌, ◌*◌, ◌/◌, ◌%◌, ◌<◌, ◌≤◌, true, false, length, nat_eq, if◌then◌else◌, IsOk, IsTrue, IfOk, OnOk, OnErr, IsErrOf};
+ghost use Rattle.std.specs.Prelude.{◌≡◌, ◌↔◌, ◌⊎◌, ◌+◌, ◌-◌, ◌*◌, ◌/◌, ◌%◌, ◌<◌, ◌≤◌, true, false, length, nat_eq, if◌then◌else◌, IsOk, IsTrue, IfOk, OnOk, OnErr, IfNone, IfSome, IsErrOf};
 ghost use Rattle.std.specs.FinMap as map;
 
 use crate::fault::{BadAddress, MapFault, StoreFault, TextFault};
@@ -44,6 +44,7 @@ impl<const MARKED: u8> Model for Space<MARKED> {
 
 impl<const MARKED: u8> Space<MARKED> {
     ghost use Rattle.rv_mem.specs.Pages.{allows_all, bytes_from, written, mapped, unmapped, protected, has_pages, marked, IsPlaced, IsWhole};
+    ghost use Rattle.rv_mem.specs.Layout.{layout_of, has_page, HasNoPlace, IsLowestPlace};
     ghost use Rattle.rv_mem.specs.Memory.{empty_memory, with_pages, after_read, passes_limit, room_after, page_count, size_of_text, text_of, text_reach};
 
     /// A memory without pages. Its pages come from `alloc`.
@@ -111,7 +112,7 @@ impl<const MARKED: u8> Space<MARKED> {
         if !self.can(at, bytes.len() as u64, Use::Write) {
             return Err(StoreFault::BadAddress);
         }
-        self.pages.write_all(at, bytes);
+        self.pages.write_all(at, bytes)?;
         Ok(())
     }
 
@@ -208,6 +209,35 @@ impl<const MARKED: u8> Space<MARKED> {
         }
         self.pages.protect(first, count, rights);
         Ok(())
+    }
+
+    /// Whether one of the pages of a range is mapped.
+    pub fn has_any(&self, at: u64, pages: u32) -> bool
+        requires aligned { at % page_size ≡ 0 }
+        requires below { at + page_size * pages ≤ PAGES_END }
+        ensures { result ≡ has_page (layout_of self.now.pages) (at / page_size) pages }
+    {
+        self.pages.has_any(at / PAGE_SIZE, u64::from(pages))
+    }
+
+    /// The lowest address from `from` on at which so many pages have a place: none of them is mapped, and they
+    /// end by `end`.
+    pub fn lowest_place(&self, from: u64, end: u64, pages: u32) -> Option<u64>
+        requires aligned { (from % page_size ≡ 0) × (end % page_size ≡ 0) }
+        requires ordered { from ≤ end }
+        requires below { end ≤ PAGES_END }
+        ensures none { IfNone result (HasNoPlace (layout_of self.now.pages) (from / page_size) (end / page_size) (end / page_size) pages) }
+        ensures some { IfSome result (λ at. IsLowestPlace (layout_of self.now.pages) (from / page_size) (end / page_size) pages (at / page_size)) }
+        ensures aligned { IfSome result (λ at. at % page_size ≡ 0) }
+    {
+        let count = u64::from(pages);
+        match self
+            .pages
+            .lowest_place(from / PAGE_SIZE, end / PAGE_SIZE, count)
+        {
+            Some(place) => Some(place * PAGE_SIZE),
+            None => None,
+        }
     }
 
     /// Marks the mapped bytes from an address up to, but without, another, if marks are kept.

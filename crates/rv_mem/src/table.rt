@@ -106,14 +106,36 @@ impl<const MARKED: u8> Table<MARKED> {
         }
     }
 
-    /// Writes bytes that lie inside one page, if it is there, which clears their marks.
-    pub fn write(&mut self, at: u64, bytes: &[u8])
-        requires { at % page_size + length bytes.now ≤ page_size }
-        ensures { self.new ≡ written self.old at bytes.now }
+    /// Puts a page in place of the one at a number, if one is there.
+    pub fn replace(&mut self, number: u64, page: Page<MARKED>)
+        ensures { self.new ≡ with_page self.old number (λ _. page.entry) }
     {
-        if let Some(page) = self.pages.get_mut(&(at / PAGE_SIZE)) {
-            page.write((at % PAGE_SIZE) as usize, bytes);
+        if let Some(place) = self.pages.get_mut(&number) {
+            *place = page;
         }
+    }
+
+    /// Writes bytes that lie inside one page, if it is there, which clears their marks.
+    pub fn write(&mut self, at: u64, bytes: &[u8]) -> Result<(), NoMemory>
+        requires { at % page_size + length bytes.now ≤ page_size }
+        ensures ok { OnOk result (self.new ≡ written self.old at bytes.now) }
+        ensures err { OnErr result (self.new ≡ self.old) }
+    {
+        let alloc = self.alloc;
+        let Some(page) = self.pages.get_mut(&(at / PAGE_SIZE)) else {
+            return Ok(());
+        };
+        page.write(alloc, (at % PAGE_SIZE) as usize, bytes)
+    }
+
+    /// The page at an address, which is there, as it is after bytes inside it were written.
+    pub fn page_after(&self, at: u64, bytes: &[u8]) -> Result<Page<MARKED>, NoMemory>
+        requires within { at % page_size + length bytes.now ≤ page_size }
+        requires there { IsTrue (map.contains_key self.now (at / page_size)) }
+        ensures { IfOk result (λ p. map.get (written self.now at bytes.now) (at / page_size) ≡ Some p) }
+    {
+        let page = self.pages.get(&(at / PAGE_SIZE)).unwrap();
+        page.after(self.alloc, (at % PAGE_SIZE) as usize, bytes)
     }
 
     /// Marks the `count` bytes from an address on, which lie inside one page, if it is there.
@@ -189,6 +211,7 @@ impl<const MARKED: u8> Table<MARKED> {
         requires { from ≤ to }
         ensures none { IfNone result (HasNoPages self.now from to) }
         ensures some { IfSome result (λ k. (from ≤ k) × (k < to) × HasNoPages self.now from k) }
+        ensures there { IfSome result (λ k. IsTrue (map.contains_key self.now k)) }
     {
         match self.pages.range(from..to).next() {
             Some((number, _page)) => Some(*number),

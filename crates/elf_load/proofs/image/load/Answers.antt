@@ -2,7 +2,6 @@ use Rattle.std.proofs.Common.{◌≡◌, ◌+◌, ◌<◌, ◌≤◌, Bool, true
 use Rattle.std.specs.Prelude.{All, IsTrue, IsNone}
 use Rattle.rv_mem.specs.Pages.{IsPlaced, unmapped}
 use Rattle.rv_mem.specs.Memory.{Memory, page_count}
-use Rattle.rv_mem.specs.declared.fault.MapFault.TheVariants.{Full}
 use Rattle.elf_read.specs.Plans.{IsSound, planned}
 use Rattle.elf_read.specs.declared.plan.Segment.{Segment}
 use Rattle.elf_load.specs.Placed.{HoldsSegment, HoldsBytes}

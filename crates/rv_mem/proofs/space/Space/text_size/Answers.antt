@@ -1,4 +1,4 @@
-use Rattle.std.proofs.Common.{◌≡◌, ◌∙◌, ◌-◌, Ok, sym, ap}
+use Rattle.std.proofs.Common.{◌∙◌, ◌-◌, Ok, sym, ap}
 use Rattle.rv_mem.specs.Memory.{Memory, size_of_text, text_of}
 use Rattle.rv_mem.specs.Pages.{bytes_from}
 use Rattle.rv_mem.specs.Scan.{text_from}
