@@ -1,5 +1,5 @@
 //! A program while it is written.
-ghost use Rattle.std.specs.Prelude.{◌≡◌, ◌+◌, ◌-◌, ◌<◌, ◌≤◌, ◌^◌, [], ◌∷◌, ◌++◌, length, Some, None, slice_set, slice_index_or, IfOk, IfNone, IfSome, OnErr, OnOk, MatchResult};
+ghost use Rattle.std.specs.Prelude.{◌≡◌, ◌+◌, ◌-◌, ◌<◌, ◌^◌, [], ◌∷◌, ◌++◌, length, Some, None, slice_set, IfOk, IfNone, IfSome, OnErr, OnOk, MatchResult};
 ghost use Rattle.rv_table.specs.Encoding.{IsValid};
 ghost use Rattle.rv_asm.specs.declared.item.Item.TheVariants.{Plain, Jump, Branch, Address, Data};
 ghost use Rattle.rv_asm.specs.Program.{Program, place_of, with_item, padded, IsBranch, IsProper, total};

@@ -1,21 +1,47 @@
 -- Which instructions a part of the processor has to expect.
 use Rattle.rv_table.specs.declared.instr.Instr.{Instr}
-use Rattle.rv_table.specs.declared.instr.Instr.TheVariants.{Lb, Lh, Lw, Ld, Lbu, Lhu, Lwu, Sb, Sh, Sw, Sd, Beq, Bne, Blt, Bge, Bltu, Bgeu, Jal, Jalr, Ecall, Ebreak, Fence, Add, Sub, Sll, Slt, Sltu, Xor, Srl, Sra, Or, And, Mul, Mulh, Mulhsu, Mulhu, Div, Divu, Rem, Remu, Addw, Subw, Sllw, Srlw, Sraw, Mulw, Divw, Divuw, Remw, Remuw}
+use Rattle.rv_table.specs.declared.instr.Instr.TheVariants.{Lb, Lh, Lw, Ld, Lbu, Lhu, Lwu, Sb, Sh, Sw, Sd, Beq, Bne, Blt, Bge, Bltu, Bgeu, Jal, Jalr, Ecall, Ebreak, Fence, Add, Sub, Sll, Slt, Sltu, Xor, Srl, Sra, Or, And, Mul, Mulh, Mulhsu, Mulhu, Div, Divu, Rem, Remu, Addw, Subw, Sllw, Srlw, Sraw, Mulw, Divw, Divuw, Remw, Remuw, LrW, LrD, ScW, ScD, AmoswapW, AmoswapD, AmoaddW, AmoaddD, AmoxorW, AmoxorD, AmoandW, AmoandD, AmoorW, AmoorD, AmominW, AmominD, AmomaxW, AmomaxD, AmominuW, AmominuD, AmomaxuW, AmomaxuD}
 
 -- no load and no store
+abbrev pub IsNoAccess : Instr → Type 0
+IsNoAccess (Lb rd rs1 imm) = ⊥
+IsNoAccess (Lh rd rs1 imm) = ⊥
+IsNoAccess (Lw rd rs1 imm) = ⊥
+IsNoAccess (Ld rd rs1 imm) = ⊥
+IsNoAccess (Lbu rd rs1 imm) = ⊥
+IsNoAccess (Lhu rd rs1 imm) = ⊥
+IsNoAccess (Lwu rd rs1 imm) = ⊥
+IsNoAccess (Sb rs1 rs2 imm) = ⊥
+IsNoAccess (Sh rs1 rs2 imm) = ⊥
+IsNoAccess (Sw rs1 rs2 imm) = ⊥
+IsNoAccess (Sd rs1 rs2 imm) = ⊥
+IsNoAccess i = Unit {0}
+
+-- and no atomic instruction
 abbrev pub UsesNoMemory : Instr → Type 0
-UsesNoMemory (Lb rd rs1 imm) = ⊥
-UsesNoMemory (Lh rd rs1 imm) = ⊥
-UsesNoMemory (Lw rd rs1 imm) = ⊥
-UsesNoMemory (Ld rd rs1 imm) = ⊥
-UsesNoMemory (Lbu rd rs1 imm) = ⊥
-UsesNoMemory (Lhu rd rs1 imm) = ⊥
-UsesNoMemory (Lwu rd rs1 imm) = ⊥
-UsesNoMemory (Sb rs1 rs2 imm) = ⊥
-UsesNoMemory (Sh rs1 rs2 imm) = ⊥
-UsesNoMemory (Sw rs1 rs2 imm) = ⊥
-UsesNoMemory (Sd rs1 rs2 imm) = ⊥
-UsesNoMemory i = Unit {0}
+UsesNoMemory (LrW rd rs1 order) = ⊥
+UsesNoMemory (LrD rd rs1 order) = ⊥
+UsesNoMemory (ScW rd rs1 rs2 order) = ⊥
+UsesNoMemory (ScD rd rs1 rs2 order) = ⊥
+UsesNoMemory (AmoswapW rd rs1 rs2 order) = ⊥
+UsesNoMemory (AmoswapD rd rs1 rs2 order) = ⊥
+UsesNoMemory (AmoaddW rd rs1 rs2 order) = ⊥
+UsesNoMemory (AmoaddD rd rs1 rs2 order) = ⊥
+UsesNoMemory (AmoxorW rd rs1 rs2 order) = ⊥
+UsesNoMemory (AmoxorD rd rs1 rs2 order) = ⊥
+UsesNoMemory (AmoandW rd rs1 rs2 order) = ⊥
+UsesNoMemory (AmoandD rd rs1 rs2 order) = ⊥
+UsesNoMemory (AmoorW rd rs1 rs2 order) = ⊥
+UsesNoMemory (AmoorD rd rs1 rs2 order) = ⊥
+UsesNoMemory (AmominW rd rs1 rs2 order) = ⊥
+UsesNoMemory (AmominD rd rs1 rs2 order) = ⊥
+UsesNoMemory (AmomaxW rd rs1 rs2 order) = ⊥
+UsesNoMemory (AmomaxD rd rs1 rs2 order) = ⊥
+UsesNoMemory (AmominuW rd rs1 rs2 order) = ⊥
+UsesNoMemory (AmominuD rd rs1 rs2 order) = ⊥
+UsesNoMemory (AmomaxuW rd rs1 rs2 order) = ⊥
+UsesNoMemory (AmomaxuD rd rs1 rs2 order) = ⊥
+UsesNoMemory i = IsNoAccess i
 
 -- and no jump, no branch, no ECALL, no EBREAK and no FENCE
 abbrev pub GoesStraightOn : Instr → Type 0

@@ -1,8 +1,9 @@
 -- What instructions do on memories that are equal but for marked bytes.
-use Rattle.std.specs.Prelude.{◌≡◌, ℕ, false}
+use Rattle.std.specs.Prelude.{◌≡◌, ℕ, false, Option}
 use Rattle.rv_mem.specs.declared.regs.Regs.{Regs}
 use Rattle.rv_mem.specs.Memory.{Memory}
 use Rattle.rv_mem.specs.Actions.{AreEqualUnmarked, ReadsAlike}
+use Rattle.rv_cpu.specs.declared.reservation.Held.{Held}
 use Rattle.rv_cpu.specs.Step.{step}
 use Rattle.rv_cpu.specs.Run.{Ran, ran}
 
@@ -15,7 +16,7 @@ pub record EndAlike (one other : Ran) : Type 0 where
   pub memory : AreEqualUnmarked one.memory.pages other.memory.pages
 
 abbrev pub StepsAreAlike : Type 0
-StepsAreAlike = (s : Regs) → ReadsAlike (step s)
+StepsAreAlike = (s : Regs) (held : Option Held) → ReadsAlike (step s held)
 
 abbrev pub RunsAreAlike : Type 0
 RunsAreAlike =

@@ -1,3 +1,4 @@
+pub mod Amos
 pub mod Groups
 pub mod Laws
 pub mod Loads

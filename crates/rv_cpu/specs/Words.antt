@@ -140,3 +140,29 @@ word_remainder a b =
 abbrev pub word_remainder_unsigned : ℕ → ℕ → ℕ
 word_remainder_unsigned a b =
     if low_word b == 0 then sign_extended a else sign_extended (low_word a % low_word b)
+
+-- ---- the lesser and the greater of two numbers
+
+abbrev pub least : ℕ → ℕ → ℕ
+least a b = if is_less a b then a else b
+
+abbrev pub greatest : ℕ → ℕ → ℕ
+greatest a b = if is_less a b then b else a
+
+abbrev pub least_unsigned : ℕ → ℕ → ℕ
+least_unsigned a b = if is_less_unsigned a b then a else b
+
+abbrev pub greatest_unsigned : ℕ → ℕ → ℕ
+greatest_unsigned a b = if is_less_unsigned a b then b else a
+
+abbrev pub word_least : ℕ → ℕ → ℕ
+word_least a b = least (sign_extended a) (sign_extended b)
+
+abbrev pub word_greatest : ℕ → ℕ → ℕ
+word_greatest a b = greatest (sign_extended a) (sign_extended b)
+
+abbrev pub word_least_unsigned : ℕ → ℕ → ℕ
+word_least_unsigned a b = least_unsigned (low_word a) (low_word b)
+
+abbrev pub word_greatest_unsigned : ℕ → ℕ → ℕ
+word_greatest_unsigned a b = greatest_unsigned (low_word a) (low_word b)

@@ -223,3 +223,55 @@ pub fn sltu(a: u64, b: u64) -> u64
 {
     u64::from(a < b)
 }
+
+/// The lesser of two numbers, both read as signed.
+pub fn min(a: u64, b: u64) -> u64
+    ensures { result ≡ word.least a b }
+{
+    if is_less(a, b) { a } else { b }
+}
+
+/// The greater of two numbers, both read as signed.
+pub fn max(a: u64, b: u64) -> u64
+    ensures { result ≡ word.greatest a b }
+{
+    if is_less(a, b) { b } else { a }
+}
+
+/// The lesser of two numbers.
+pub fn minu(a: u64, b: u64) -> u64
+    ensures { result ≡ word.least_unsigned a b }
+{
+    if a < b { a } else { b }
+}
+
+/// The greater of two numbers.
+pub fn maxu(a: u64, b: u64) -> u64
+    ensures { result ≡ word.greatest_unsigned a b }
+{
+    if a < b { b } else { a }
+}
+
+pub fn minw(a: u64, b: u64) -> u64
+    ensures { result ≡ word.word_least a b }
+{
+    min(extend(low(a)), extend(low(b)))
+}
+
+pub fn maxw(a: u64, b: u64) -> u64
+    ensures { result ≡ word.word_greatest a b }
+{
+    max(extend(low(a)), extend(low(b)))
+}
+
+pub fn minuw(a: u64, b: u64) -> u64
+    ensures { result ≡ word.word_least_unsigned a b }
+{
+    minu(u64::from(low(a)), u64::from(low(b)))
+}
+
+pub fn maxuw(a: u64, b: u64) -> u64
+    ensures { result ≡ word.word_greatest_unsigned a b }
+{
+    maxu(u64::from(low(a)), u64::from(low(b)))
+}

@@ -1,20 +1,21 @@
 //! The ways in which an instruction ends.
-ghost use Rattle.std.specs.Prelude.{◌≡◌, IfOk, OnOk};
+ghost use Rattle.std.specs.Prelude.{◌≡◌, IfOk};
 ghost use Rattle.rv_mem.specs.Actions.{carried_out};
 ghost use Rattle.rv_mem.specs.Memory.{page_count};
 ghost use Rattle.rv_cpu.specs.Loads.{size, extended};
-ghost use Rattle.rv_cpu.specs.Step.{address, ends, moved_on, gives, jumps, branches, loads, stores, IsLowSignal, IfStopped};
+ghost use Rattle.rv_cpu.specs.Step.{address, moved_on, gives, jumps, branches, loads, stores, Leaves, IsLowSignal, IfStopped};
 
 use crate::arithmetic::{add, of_immediate};
 use crate::event::Event;
 use crate::load::{Load, loaded};
-use crate::registers::{address, move_on, set};
+use crate::registers::{address, move_on, set, set_and_move_on};
 use pr_base::NoMemory;
 use rv_mem::{Regs, Space, StoreFault};
 
 /// On to the next instruction.
 pub fn pass(regs: &mut Regs) -> Event
-    ensures ends { ends Event.Next (moved_on regs.old) ≡ ends result regs.new }
+    ensures event { result ≡ Event.Next }
+    ensures regs { regs.new ≡ moved_on regs.old }
     ensures signal { IsLowSignal result }
     ensures kept { IfStopped result (regs.new ≡ regs.old) }
 {
@@ -24,18 +25,19 @@ pub fn pass(regs: &mut Regs) -> Event
 
 /// A register takes a value.
 pub fn give(regs: &mut Regs, rd: u8, value: u64) -> Event
-    ensures ends { gives regs.old rd value ≡ ends result regs.new }
+    ensures event { result ≡ (gives regs.old rd value).event }
+    ensures regs { regs.new ≡ (gives regs.old rd value).regs }
     ensures signal { IsLowSignal result }
     ensures kept { IfStopped result (regs.new ≡ regs.old) }
 {
-    set(regs, rd, value);
-    move_on(regs);
+    set_and_move_on(regs, rd, value);
     Event::Next
 }
 
 /// A jump: to an address that isn't divisible by 4 it kills by SIGBUS.
 pub fn jump(regs: &mut Regs, rd: u8, target: u64) -> Event
-    ensures ends { jumps regs.old rd target ≡ ends result regs.new }
+    ensures event { result ≡ (jumps regs.old rd target).event }
+    ensures regs { regs.new ≡ (jumps regs.old rd target).regs }
     ensures signal { IsLowSignal result }
     ensures kept { IfStopped result (regs.new ≡ regs.old) }
 {
@@ -50,7 +52,8 @@ pub fn jump(regs: &mut Regs, rd: u8, target: u64) -> Event
 
 /// A branch: one that is taken to an address that isn't divisible by 4 kills by SIGBUS.
 pub fn branch(regs: &mut Regs, taken: bool, imm: i64) -> Event
-    ensures ends { branches regs.old taken imm ≡ ends result regs.new }
+    ensures event { result ≡ (branches regs.old taken imm).event }
+    ensures regs { regs.new ≡ (branches regs.old taken imm).regs }
     ensures signal { IsLowSignal result }
     ensures kept { IfStopped result (regs.new ≡ regs.old) }
 {
@@ -75,17 +78,15 @@ pub fn load<const M: u8>(
     rs1: u8,
     imm: i64,
 ) -> Event
-    ensures event { result ≡ (carried_out (loads regs.old rd (address regs.old rs1 imm) (size load) (extended load)) mem.old).reply.event }
-    ensures regs { regs.new ≡ (carried_out (loads regs.old rd (address regs.old rs1 imm) (size load) (extended load)) mem.old).reply.regs }
-    ensures memory { mem.new ≡ (carried_out (loads regs.old rd (address regs.old rs1 imm) (size load) (extended load)) mem.old).memory }
+    ensures leaves { (held : _) → let action = loads regs.old held rd (address regs.old rs1 imm) (size load) (extended load) in
+        Leaves (carried_out action mem.old) result regs.new held mem.new }
     ensures signal { IsLowSignal result }
     ensures kept { IfStopped result ((regs.new ≡ regs.old) × (mem.new.pages ≡ mem.old.pages)) }
     ensures count { page_count mem.new.pages ≡ page_count mem.old.pages }
 {
     match loaded(mem, address(regs, rs1, imm), load) {
         Some(value) => {
-            set(regs, rd, value);
-            move_on(regs);
+            set_and_move_on(regs, rd, value);
             Event::Next
         }
         None => Event::Killed(11),
@@ -101,9 +102,8 @@ pub fn store<const M: u8>(
     imm: i64,
     bytes: &[u8],
 ) -> Result<Event, NoMemory>
-    ensures event { IfOk result (λ event. event ≡ (carried_out (stores regs.old (address regs.old rs1 imm) bytes.now) mem.old).reply.event) }
-    ensures regs { OnOk result (regs.new ≡ (carried_out (stores regs.old (address regs.old rs1 imm) bytes.now) mem.old).reply.regs) }
-    ensures memory { OnOk result (mem.new ≡ (carried_out (stores regs.old (address regs.old rs1 imm) bytes.now) mem.old).memory) }
+    ensures leaves { (held : _) → let action = stores regs.old held (address regs.old rs1 imm) bytes.now in
+        IfOk result (λ event. Leaves (carried_out action mem.old) event regs.new held mem.new) }
     ensures signal { IfOk result (λ event. IsLowSignal event) }
     ensures kept { IfOk result (λ event. IfStopped event ((regs.new ≡ regs.old) × (mem.new.pages ≡ mem.old.pages))) }
     ensures count { page_count mem.new.pages ≡ page_count mem.old.pages }

@@ -3,17 +3,19 @@ ghost use Rattle.std.specs.Prelude.{◌≡◌, IfOk, OnOk};
 ghost use Rattle.rv_mem.specs.Actions.{carried_out};
 ghost use Rattle.rv_mem.specs.Memory.{page_count};
 ghost use Rattle.rv_table.specs.Rows.{decoded};
-ghost use Rattle.rv_cpu.specs.Step.{ends, executed, step, IsLowSignal, IfStopped};
-ghost use Rattle.rv_cpu.specs.Groups.{UsesNoMemory, GoesStraightOn, HasAnImmediate};
+ghost use Rattle.rv_cpu.specs.Step.{ends, executed, holds, step, Leaves, IsLowSignal, IfStopped};
+ghost use Rattle.rv_cpu.specs.Groups.{IsNoAccess, UsesNoMemory, GoesStraightOn, HasAnImmediate};
 
 use crate::arithmetic::{
     add, addw, div, divu, divuw, divw, is_less, mul, mulh, mulhsu, mulhu, mulw, of_immediate, rem,
     remu, remuw, remw, sll, sllw, slt, sltu, sra, sraw, srl, srlw, sub, subw,
 };
+use crate::atomic::{Amo, load_reserved, replace, store_conditional};
 use crate::ending::{branch, give, jump, load, pass, store};
 use crate::event::Event;
 use crate::load::{Load, read_word};
 use crate::registers::{address, bytes, get};
+use crate::reservation::Held;
 use pr_base::NoMemory;
 use rv_mem::{Regs, Space, Use};
 use rv_table::{Instr, decode};
@@ -22,11 +24,17 @@ use rv_table::{Instr, decode};
 ///
 /// A fetch at an address that isn't divisible by 4 kills by SIGBUS and reads nothing, one of bytes
 /// that aren't executable kills by SIGSEGV. At a call the pc stays at the call. A killing instruction
-/// leaves registers and bytes as they were. After `NoMemory` registers and memory may only be dropped.
-pub fn step<const M: u8>(regs: &mut Regs, mem: &mut Space<M>) -> Result<Event, NoMemory>
-    ensures event { IfOk result (λ event. event ≡ (carried_out (step regs.old) mem.old).reply.event) }
-    ensures regs { OnOk result (regs.new ≡ (carried_out (step regs.old) mem.old).reply.regs) }
-    ensures memory { OnOk result (mem.new ≡ (carried_out (step regs.old) mem.old).memory) }
+/// leaves registers and bytes as they were. `held` is what the last LR reserved, if no SC came after it.
+/// After `NoMemory` registers and memory may only be dropped.
+pub fn step<const M: u8>(
+    regs: &mut Regs,
+    mem: &mut Space<M>,
+    held: &mut Option<Held>,
+) -> Result<Event, NoMemory>
+    ensures event { IfOk result (λ event. event ≡ (carried_out (step regs.old held.old) mem.old).reply.event) }
+    ensures regs { OnOk result (regs.new ≡ (carried_out (step regs.old held.old) mem.old).reply.regs) }
+    ensures held { OnOk result (held.new ≡ (carried_out (step regs.old held.old) mem.old).reply.held) }
+    ensures memory { OnOk result (mem.new ≡ (carried_out (step regs.old held.old) mem.old).memory) }
     ensures signal { IfOk result (λ event. IsLowSignal event) }
     ensures kept { IfOk result (λ event. IfStopped event ((regs.new ≡ regs.old) × (mem.new.pages ≡ mem.old.pages))) }
     ensures count { page_count mem.new.pages ≡ page_count mem.old.pages }
@@ -38,16 +46,19 @@ pub fn step<const M: u8>(regs: &mut Regs, mem: &mut Space<M>) -> Result<Event, N
         return Ok(Event::Killed(11));
     };
     match decode(word) {
-        Some(i) => execute(regs, mem, i),
+        Some(i) => execute(regs, mem, held, i),
         None => Ok(Event::Killed(4)),
     }
 }
 
 /// Executes an instruction: the loads and the stores here.
-fn execute<const M: u8>(regs: &mut Regs, mem: &mut Space<M>, i: Instr) -> Result<Event, NoMemory>
-    ensures event { IfOk result (λ event. event ≡ (carried_out (executed regs.old i) mem.old).reply.event) }
-    ensures regs { OnOk result (regs.new ≡ (carried_out (executed regs.old i) mem.old).reply.regs) }
-    ensures memory { OnOk result (mem.new ≡ (carried_out (executed regs.old i) mem.old).memory) }
+fn execute<const M: u8>(
+    regs: &mut Regs,
+    mem: &mut Space<M>,
+    held: &mut Option<Held>,
+    i: Instr,
+) -> Result<Event, NoMemory>
+    ensures leaves { IfOk result (λ event. Leaves (carried_out (executed regs.old held.old i) mem.old) event regs.new held.new mem.new) }
     ensures signal { IfOk result (λ event. IsLowSignal event) }
     ensures kept { IfOk result (λ event. IfStopped event ((regs.new ≡ regs.old) × (mem.new.pages ≡ mem.old.pages))) }
     ensures count { page_count mem.new.pages ≡ page_count mem.old.pages }
@@ -64,6 +75,78 @@ fn execute<const M: u8>(regs: &mut Regs, mem: &mut Space<M>, i: Instr) -> Result
         Instr::Sh { rs1, rs2, imm } => store(regs, mem, rs1, imm, &bytes(regs, rs2)[..2]),
         Instr::Sw { rs1, rs2, imm } => store(regs, mem, rs1, imm, &bytes(regs, rs2)[..4]),
         Instr::Sd { rs1, rs2, imm } => store(regs, mem, rs1, imm, &bytes(regs, rs2)),
+        other => execute_atomic(regs, mem, held, other),
+    }
+}
+
+/// The atomic instructions.
+fn execute_atomic<const M: u8>(
+    regs: &mut Regs,
+    mem: &mut Space<M>,
+    held: &mut Option<Held>,
+    i: Instr,
+) -> Result<Event, NoMemory>
+    requires { IsNoAccess i }
+    ensures leaves { IfOk result (λ event. Leaves (carried_out (executed regs.old held.old i) mem.old) event regs.new held.new mem.new) }
+    ensures signal { IfOk result (λ event. IsLowSignal event) }
+    ensures kept { IfOk result (λ event. IfStopped event ((regs.new ≡ regs.old) × (mem.new.pages ≡ mem.old.pages))) }
+    ensures count { page_count mem.new.pages ≡ page_count mem.old.pages }
+{
+    match i {
+        Instr::LrW { rd, rs1, .. } => Ok(load_reserved(regs, mem, held, false, rd, rs1)),
+        Instr::LrD { rd, rs1, .. } => Ok(load_reserved(regs, mem, held, true, rd, rs1)),
+        Instr::ScW { rd, rs1, rs2, .. } => store_conditional(regs, mem, held, false, rd, rs1, rs2),
+        Instr::ScD { rd, rs1, rs2, .. } => store_conditional(regs, mem, held, true, rd, rs1, rs2),
+        Instr::AmoswapW { rd, rs1, rs2, .. } => replace(regs, mem, Amo::Swap, false, rd, rs1, rs2),
+        Instr::AmoswapD { rd, rs1, rs2, .. } => replace(regs, mem, Amo::Swap, true, rd, rs1, rs2),
+        Instr::AmoaddW { rd, rs1, rs2, .. } => replace(regs, mem, Amo::Add, false, rd, rs1, rs2),
+        Instr::AmoaddD { rd, rs1, rs2, .. } => replace(regs, mem, Amo::Add, true, rd, rs1, rs2),
+        Instr::AmoxorW { rd, rs1, rs2, .. } => replace(regs, mem, Amo::Xor, false, rd, rs1, rs2),
+        Instr::AmoxorD { rd, rs1, rs2, .. } => replace(regs, mem, Amo::Xor, true, rd, rs1, rs2),
+        Instr::AmoandW { rd, rs1, rs2, .. } => replace(regs, mem, Amo::And, false, rd, rs1, rs2),
+        Instr::AmoandD { rd, rs1, rs2, .. } => replace(regs, mem, Amo::And, true, rd, rs1, rs2),
+        Instr::AmoorW { rd, rs1, rs2, .. } => replace(regs, mem, Amo::Or, false, rd, rs1, rs2),
+        Instr::AmoorD { rd, rs1, rs2, .. } => replace(regs, mem, Amo::Or, true, rd, rs1, rs2),
+        Instr::AmominW { rd, rs1, rs2, .. } => replace(regs, mem, Amo::Min, false, rd, rs1, rs2),
+        Instr::AmominD { rd, rs1, rs2, .. } => replace(regs, mem, Amo::Min, true, rd, rs1, rs2),
+        Instr::AmomaxW { rd, rs1, rs2, .. } => replace(regs, mem, Amo::Max, false, rd, rs1, rs2),
+        Instr::AmomaxD { rd, rs1, rs2, .. } => replace(regs, mem, Amo::Max, true, rd, rs1, rs2),
+        Instr::AmominuW { rd, rs1, rs2, .. } => replace(
+            regs,
+            mem,
+            Amo::MinUnsigned,
+            false,
+            rd,
+            rs1,
+            rs2,
+        ),
+        Instr::AmominuD { rd, rs1, rs2, .. } => replace(
+            regs,
+            mem,
+            Amo::MinUnsigned,
+            true,
+            rd,
+            rs1,
+            rs2,
+        ),
+        Instr::AmomaxuW { rd, rs1, rs2, .. } => replace(
+            regs,
+            mem,
+            Amo::MaxUnsigned,
+            false,
+            rd,
+            rs1,
+            rs2,
+        ),
+        Instr::AmomaxuD { rd, rs1, rs2, .. } => replace(
+            regs,
+            mem,
+            Amo::MaxUnsigned,
+            true,
+            rd,
+            rs1,
+            rs2,
+        ),
         other => Ok(execute_jump(regs, other)),
     }
 }
@@ -71,7 +154,7 @@ fn execute<const M: u8>(regs: &mut Regs, mem: &mut Space<M>, i: Instr) -> Result
 /// The jumps, the branches, ECALL, EBREAK and FENCE.
 fn execute_jump(regs: &mut Regs, i: Instr) -> Event
     requires { UsesNoMemory i }
-    ensures ends { executed regs.old i ≡ ends result regs.new }
+    ensures ends { (held : _) → executed regs.old held i ≡ holds held (ends result regs.new) }
     ensures signal { IsLowSignal result }
     ensures kept { IfStopped result (regs.new ≡ regs.old) }
 {
@@ -95,7 +178,7 @@ fn execute_jump(regs: &mut Regs, i: Instr) -> Event
 /// Arithmetic on two registers.
 fn execute_on_registers(regs: &mut Regs, i: Instr) -> Event
     requires { GoesStraightOn i }
-    ensures ends { executed regs.old i ≡ ends result regs.new }
+    ensures ends { (held : _) → executed regs.old held i ≡ holds held (ends result regs.new) }
     ensures signal { IsLowSignal result }
     ensures kept { IfStopped result (regs.new ≡ regs.old) }
 {
@@ -135,7 +218,7 @@ fn execute_on_registers(regs: &mut Regs, i: Instr) -> Event
 /// Arithmetic on an immediate.
 fn execute_on_immediate(regs: &mut Regs, i: Instr) -> Event
     requires { HasAnImmediate i }
-    ensures ends { executed regs.old i ≡ ends result regs.new }
+    ensures ends { (held : _) → executed regs.old held i ≡ holds held (ends result regs.new) }
     ensures signal { IsLowSignal result }
     ensures kept { IfStopped result (regs.new ≡ regs.old) }
 {

@@ -4,6 +4,7 @@ ghost use Rattle.rv_mem.specs.Pages.{allows_all, bytes_from};
 ghost use Rattle.rv_mem.specs.Memory.{after_read};
 ghost use Rattle.pr_base.specs.Fields.{little_endian};
 ghost use Rattle.rv_cpu.specs.Loads.{size, extended};
+ghost use Rattle.rv_cpu.specs.Step.{width};
 ghost use Rattle.rv_cpu.specs.Words as word;
 
 use crate::arithmetic::extend;
@@ -105,5 +106,17 @@ pub fn loaded<const M: u8>(mem: &mut Space<M>, at: u64, load: Load) -> Option<u6
         Load::ByteUnsigned => Some(u64::from(read_byte(mem, at)?)),
         Load::HalfUnsigned => Some(u64::from(read_half(mem, at)?)),
         Load::WordUnsigned => Some(u64::from(read_word(mem, at, Use::Read)?)),
+    }
+}
+
+/// The number that a doubleword holds, or a word, which isn't wide. `None` where a byte isn't readable.
+pub fn number_at<const M: u8>(mem: &mut Space<M>, wide: bool, at: u64) -> Option<u64>
+    ensures some { let n = width wide in IfSome result (λ number. (allows_all mem.old.pages at n Use.Read ≡ true) × (number ≡ little_endian (bytes_from mem.old.pages at n)) × (mem.new ≡ after_read mem.old at n)) }
+    ensures none { result ≡ None → (allows_all mem.old.pages at (width wide) Use.Read ≡ false) × (mem.new ≡ mem.old) }
+{
+    if wide {
+        read_double(mem, at)
+    } else {
+        Some(u64::from(read_word(mem, at, Use::Read)?))
     }
 }

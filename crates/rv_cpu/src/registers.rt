@@ -31,6 +31,14 @@ pub fn move_on(regs: &mut Regs)
     regs.pc = add(regs.pc, 4);
 }
 
+/// Sets a register, but for register 0, and goes on behind an instruction.
+pub fn set_and_move_on(regs: &mut Regs, r: u8, value: u64)
+    ensures { regs.new ≡ moved_on (with_register regs.old r value) }
+{
+    set(regs, r, value);
+    move_on(regs);
+}
+
 /// The address of a load, a store or a jump: a register and an immediate.
 pub fn address(regs: &Regs, r: u8, imm: i64) -> u64
     ensures { result ≡ address regs.now r imm }

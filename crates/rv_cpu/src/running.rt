@@ -10,7 +10,7 @@ use pr_base::NoMemory;
 use rv_mem::{Regs, Space};
 
 /// Does so many instructions, or fewer where one of them is a call or kills, which is the last. Tells
-/// how it ended, and how many were done, in which that last one counts. After `NoMemory` registers and
+/// how it ended, and how many were done, in which that last one counts. Nothing is reserved at first. After `NoMemory` registers and
 /// memory may only be dropped.
 pub fn run<const M: u8>(
     regs: &mut Regs,
@@ -24,8 +24,9 @@ pub fn run<const M: u8>(
     ensures signal { IfOk result (λ end. IsLowSignal end.0) }
     ensures count { page_count mem.new.pages ≡ page_count mem.old.pages }
 {
+    let mut held = None;
     for done in 0..fuel {
-        match step(regs, mem)? {
+        match step(regs, mem, &mut held)? {
             Event::Next => {}
             event => return Ok((event, done + 1)),
         }

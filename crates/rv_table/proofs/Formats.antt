@@ -3,10 +3,10 @@
 use Rattle.std.proofs.Common.{◌≡◌, ℕ, ◌+◌, ◌*◌, ◌/◌, ◌%◌, ◌^◌, ◌<◌, bit_and, refl, sym, ◌∙◌, arith, lit≤, ap}
 use Rattle.std.specs.Prelude.{ℤ, pos, negsuc}
 use Rattle.std.proofs.lemmas.Nat.{and_le_r}
-use Rattle.rv_table.specs.declared.layout.Operands.TheVariants.{Register, Immediate, Store, Branch, Upper, Jump, Shift, WordShift}
-use Rattle.rv_table.specs.Rows.{bits, rd_of, rs1_of, rs2_of, i_immediate, s_immediate, b_immediate, u_immediate, j_immediate, shift_amount, word_shift_amount}
+use Rattle.rv_table.specs.declared.layout.Operands.TheVariants.{Register, Immediate, Store, Branch, Upper, Jump, Shift, WordShift, Atomic, Reserve}
+use Rattle.rv_table.specs.Rows.{bits, rd_of, rs1_of, rs2_of, i_immediate, s_immediate, b_immediate, u_immediate, j_immediate, shift_amount, word_shift_amount, order_of}
 use Rattle.rv_table.specs.Encoding.{placed, registers, unsigned, IsInRange}
-use Rattle.rv_table.proofs.Masks.{and-opcode, and-funct3, and-funct6, and-funct7}
+use Rattle.rv_table.proofs.Masks.{and-opcode, and-funct3, and-funct6, and-funct7, and-funct5, and-rs2}
 use Rattle.rv_table.proofs.TwosComplement.{unsigned-lt, signed-unsigned, FitsWidth-signed, unsigned-signed, unsigned-multiple, IsMultiple-signed}
 
 -- ---- the fixed bits that each mask leaves
@@ -20,6 +20,11 @@ funct6_parts : (v : ℕ) → bit_and v 0xfc00707f ≡ v → (v < 2 ^ 32) × (v �
 funct6_parts v only =
     let fits : v < 2 ^ 32 = omega (arith, and_le_r v 0xfc00707f) in
     (fits, sym only ∙ and-funct6 v fits)
+
+funct5_parts : (v : ℕ) → bit_and v 0xf800707f ≡ v → (v < 2 ^ 32) × (v ≡ v / 2 ^ 27 * 2 ^ 27 + v / 2 ^ 12 % 8 * 2 ^ 12 + v % 128)
+funct5_parts v only =
+    let fits : v < 2 ^ 32 = omega (arith, and_le_r v 0xf800707f) in
+    (fits, sym only ∙ and-funct5 v fits)
 
 funct3_parts : (v : ℕ) → bit_and v 0x0000707f ≡ v → v ≡ v / 2 ^ 12 % 8 * 2 ^ 12 + v % 128
 funct3_parts v only = sym only ∙ and-funct3 v
@@ -227,3 +232,47 @@ pub WordShift-back : (v w : ℕ) → w < 2 ^ 32 → bit_and w 0xfe00707f ≡ v
 WordShift-back v w fits m =
     let parts = Register-back v w fits m in
     (parts.0, omega (arith, parts.1))
+
+-- atomic instructions
+atomic_word : (op f3 f5 : ℕ) → op < 128 → f3 < 8 → f5 < 32 → (rd rs1 rs2 order : ℕ) → IsInRange (Atomic rd rs1 rs2 order) → (v w : ℕ)
+    → v ≡ f5 * 2 ^ 27 + f3 * 2 ^ 12 + op → w ≡ v + placed (Atomic rd rs1 rs2 order)
+    → (bit_and w 0xf800707f ≡ v) × (rd_of w ≡ rd) × (rs1_of w ≡ rs1) × (rs2_of w ≡ rs2) × (order_of w ≡ order) × (w < 2 ^ 32)
+atomic_word op f3 f5 p q s rd rs1 rs2 order range v w e d =
+    let fits : w < 2 ^ 32 = omega arith in
+    (and-funct5 w fits ∙ omega arith, omega arith, omega arith, omega arith, omega arith, fits)
+
+pub Atomic-there : (v : ℕ) → bit_and v 0xf800707f ≡ v → (rd rs1 rs2 order : ℕ) → IsInRange (Atomic rd rs1 rs2 order) → (w : ℕ)
+    → w ≡ v + placed (Atomic rd rs1 rs2 order)
+    → (bit_and w 0xf800707f ≡ v) × (rd_of w ≡ rd) × (rs1_of w ≡ rs1) × (rs2_of w ≡ rs2) × (order_of w ≡ order) × (w < 2 ^ 32)
+Atomic-there v only rd rs1 rs2 order range w d =
+    let parts = funct5_parts v only in
+    atomic_word (v % 128) (v / 2 ^ 12 % 8) (v / 2 ^ 27) (omega arith) (omega arith) (omega arith) rd rs1 rs2 order range v w parts.1 d
+
+pub Atomic-back : (v w : ℕ) → w < 2 ^ 32 → bit_and w 0xf800707f ≡ v
+    → IsInRange (Atomic (rd_of w) (rs1_of w) (rs2_of w) (order_of w))
+    × (v + placed (Atomic (rd_of w) (rs1_of w) (rs2_of w) (order_of w)) ≡ w)
+Atomic-back v w fits m =
+    let fixed : v ≡ w / 2 ^ 27 * 2 ^ 27 + w / 2 ^ 12 % 8 * 2 ^ 12 + w % 128 = sym m ∙ and-funct5 w fits in
+    ((omega arith, omega arith, omega arith, omega arith), omega arith)
+
+-- LR, whose second register is 0
+reserve_word : (op f3 f5 : ℕ) → op < 128 → f3 < 8 → f5 < 32 → (rd rs1 order : ℕ) → IsInRange (Reserve rd rs1 order) → (v w : ℕ)
+    → v ≡ f5 * 2 ^ 27 + f3 * 2 ^ 12 + op → w ≡ v + placed (Reserve rd rs1 order)
+    → (bit_and w 0xf9f0707f ≡ v) × (rd_of w ≡ rd) × (rs1_of w ≡ rs1) × (order_of w ≡ order) × (w < 2 ^ 32)
+reserve_word op f3 f5 p q s rd rs1 order range v w e d =
+    let fits : w < 2 ^ 32 = omega arith in
+    (and-rs2 w fits ∙ omega arith, omega arith, omega arith, omega arith, fits)
+
+pub Reserve-there : (v : ℕ) → bit_and v 0xf800707f ≡ v → (rd rs1 order : ℕ) → IsInRange (Reserve rd rs1 order) → (w : ℕ)
+    → w ≡ v + placed (Reserve rd rs1 order)
+    → (bit_and w 0xf9f0707f ≡ v) × (rd_of w ≡ rd) × (rs1_of w ≡ rs1) × (order_of w ≡ order) × (w < 2 ^ 32)
+Reserve-there v only rd rs1 order range w d =
+    let parts = funct5_parts v only in
+    reserve_word (v % 128) (v / 2 ^ 12 % 8) (v / 2 ^ 27) (omega arith) (omega arith) (omega arith) rd rs1 order range v w parts.1 d
+
+pub Reserve-back : (v w : ℕ) → bit_and v 0xf800707f ≡ v → w < 2 ^ 32 → bit_and w 0xf9f0707f ≡ v
+    → IsInRange (Reserve (rd_of w) (rs1_of w) (order_of w)) × (v + placed (Reserve (rd_of w) (rs1_of w) (order_of w)) ≡ w)
+Reserve-back v w only fits m =
+    let parts = funct5_parts v only in
+    let fixed : v ≡ w / 2 ^ 27 * 2 ^ 27 + w / 2 ^ 20 % 32 * 2 ^ 20 + w / 2 ^ 12 % 8 * 2 ^ 12 + w % 128 = sym m ∙ and-rs2 w fits in
+    ((omega arith, omega arith, omega arith), omega arith)

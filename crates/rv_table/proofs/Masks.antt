@@ -55,6 +55,36 @@ and-funct7 w fits =
       kept w 0xfe00707f 25 7 refl,
     )
 
+-- the opcode, funct3 and the upper five bits
+pub and-funct5 : (w : ℕ) → w < 2 ^ 32
+    → bit_and w 0xf800707f ≡ w / 2 ^ 27 * 2 ^ 27 + w / 2 ^ 12 % 8 * 2 ^ 12 + w % 128
+and-funct5 w fits =
+    omega (
+      arith,
+      and_le_r w 0xf800707f,
+      kept w 0xf800707f 0 7 refl,
+      dropped w 0xf800707f 7 5 refl,
+      kept w 0xf800707f 12 3 refl,
+      dropped w 0xf800707f 15 12 refl,
+      kept w 0xf800707f 27 5 refl,
+    )
+
+-- the same and rs2
+pub and-rs2 : (w : ℕ) → w < 2 ^ 32
+    → bit_and w 0xf9f0707f ≡ w / 2 ^ 27 * 2 ^ 27 + w / 2 ^ 20 % 32 * 2 ^ 20 + w / 2 ^ 12 % 8 * 2 ^ 12 + w % 128
+and-rs2 w fits =
+    omega (
+      arith,
+      and_le_r w 0xf9f0707f,
+      kept w 0xf9f0707f 0 7 refl,
+      dropped w 0xf9f0707f 7 5 refl,
+      kept w 0xf9f0707f 12 3 refl,
+      dropped w 0xf9f0707f 15 5 refl,
+      kept w 0xf9f0707f 20 5 refl,
+      dropped w 0xf9f0707f 25 2 refl,
+      kept w 0xf9f0707f 27 5 refl,
+    )
+
 -- the whole word
 pub and-word : (w : ℕ) → w < 2 ^ 32 → bit_and w 0xffffffff ≡ w
 and-word w fits = rw (and_mask w 32) (omega arith)

@@ -2,15 +2,15 @@
 -- decoded has the word that it came from.
 use Rattle.std.proofs.Common.{◌≡◌, ℕ, zero, suc, ◌+◌, ◌<◌, ◌^◌, List, [], ◌∷◌, length, bit_and, Some, refl, sym, ap, ◌∙◌, arith, lit<, inl, inr}
 use Rattle.std.specs.Prelude.{ℤ, slice_index_or, ◌⊎◌, ◌↔◌, Option, None, IfSome}
-use Rattle.rv_table.specs.declared.layout.Operands.TheVariants.{Register, Immediate, Store, Branch, Upper, Jump, Shift, WordShift, Fixed}
+use Rattle.rv_table.specs.declared.layout.Operands.TheVariants.{Register, Immediate, Store, Branch, Upper, Jump, Shift, WordShift, Fixed, Atomic, Reserve}
 use Rattle.rv_table.specs.declared.instr.Instr.{Instr}
-use Rattle.rv_table.specs.declared.instr.Instr.TheVariants.{Lb, Lh, Lw, Ld, Lbu, Lhu, Lwu, Fence, Addi, Slti, Sltiu, Xori, Ori, Andi, Slli, Srli, Srai, Auipc, Addiw, Slliw, Srliw, Sraiw, Sb, Sh, Sw, Sd, Add, Sub, Sll, Slt, Sltu, Xor, Srl, Sra, Or, And, Mul, Mulh, Mulhsu, Mulhu, Div, Divu, Rem, Remu, Lui, Addw, Subw, Sllw, Srlw, Sraw, Mulw, Divw, Divuw, Remw, Remuw, Beq, Bne, Blt, Bge, Bltu, Bgeu, Jalr, Jal, Ecall, Ebreak}
-use Rattle.rv_table.specs.Rows.{Format, R, I, S, B, U, J, Shift6, Shift5, Plain, Row, row, rows, Matches, instruction, decoded, rd_of, rs1_of, rs2_of, i_immediate, s_immediate, b_immediate, u_immediate, j_immediate, shift_amount, word_shift_amount}
+use Rattle.rv_table.specs.declared.instr.Instr.TheVariants.{Lb, Lh, Lw, Ld, Lbu, Lhu, Lwu, Fence, Addi, Slti, Sltiu, Xori, Ori, Andi, Slli, Srli, Srai, Auipc, Addiw, Slliw, Srliw, Sraiw, Sb, Sh, Sw, Sd, Add, Sub, Sll, Slt, Sltu, Xor, Srl, Sra, Or, And, Mul, Mulh, Mulhsu, Mulhu, Div, Divu, Rem, Remu, Lui, Addw, Subw, Sllw, Srlw, Sraw, Mulw, Divw, Divuw, Remw, Remuw, Beq, Bne, Blt, Bge, Bltu, Bgeu, Jalr, Jal, Ecall, Ebreak, LrW, LrD, ScW, ScD, AmoswapW, AmoswapD, AmoaddW, AmoaddD, AmoxorW, AmoxorD, AmoandW, AmoandD, AmoorW, AmoorD, AmominW, AmominD, AmomaxW, AmomaxD, AmominuW, AmominuD, AmomaxuW, AmomaxuD}
+use Rattle.rv_table.specs.Rows.{Format, R, I, S, B, U, J, Shift6, Shift5, Plain, Amo, Lr, Row, row, rows, Matches, instruction, decoded, rd_of, rs1_of, rs2_of, i_immediate, s_immediate, b_immediate, u_immediate, j_immediate, shift_amount, word_shift_amount, order_of}
 use Rattle.rv_table.specs.Encoding.{layout, layout_of, encoded, placed, IsValid}
 use Rattle.std.proofs.lemmas.Nat.{and_le_r}
 use Rattle.rv_table.proofs.Masks.{and-word}
 use Rattle.rv_table.proofs.Matching.{decoded-match, decoded-carries}
-use Rattle.rv_table.proofs.Formats.{Register-there, Register-back, Immediate-there, Immediate-back, Store-there, Store-back, Branch-there, Branch-back, Upper-there, Upper-back, Jump-there, Jump-back, Shift-there, Shift-back, WordShift-there, WordShift-back}
+use Rattle.rv_table.proofs.Formats.{Register-there, Register-back, Immediate-there, Immediate-back, Store-there, Store-back, Branch-there, Branch-back, Upper-there, Upper-back, Jump-there, Jump-back, Shift-there, Shift-back, WordShift-there, WordShift-back, Atomic-there, Atomic-back, Reserve-there, Reserve-back}
 
 -- a row has its format's mask, no other fixed bits, and the layout of its instructions
 abbrev IsLaidOut : ℕ → ℕ → Format → Type 0
@@ -33,6 +33,12 @@ IsLaidOut m v (Shift5 make) =
 IsLaidOut m v (Plain i) =
     (layout_of i ≡ layout (layout_of i).fixed Fixed) × (bit_and (layout_of i).fixed m ≡ v)
     × (bit_and (layout_of i).fixed 0xffffffff ≡ (layout_of i).fixed) × ((m ≡ 0xffffffff) ⊎ (i ≡ Fence))
+IsLaidOut m v (Amo make) =
+    (m ≡ 0xf800707f) × (bit_and v 0xf800707f ≡ v)
+    × ((rd rs1 rs2 order : ℕ) → layout_of (make rd rs1 rs2 order) ≡ layout v (Atomic rd rs1 rs2 order))
+IsLaidOut m v (Lr make) =
+    (m ≡ 0xf9f0707f) × (bit_and v 0xf800707f ≡ v)
+    × ((rd rs1 order : ℕ) → layout_of (make rd rs1 order) ≡ layout v (Reserve rd rs1 order))
 
 abbrev Each : (Row → Type 0) → List Row → Type 0
 Each P [] = Unit {0}
@@ -81,6 +87,29 @@ rows_are_laid_out =
     (refl, refl, λ rs1 rs2 imm. refl) and
     (refl, refl, λ rs1 rs2 imm. refl) and
     (refl, refl, λ rs1 rs2 imm. refl) and
+    -- opcode 2f
+    (refl, refl, λ rd rs1 order. refl) and
+    (refl, refl, λ rd rs1 order. refl) and
+    (refl, refl, λ rd rs1 rs2 order. refl) and
+    (refl, refl, λ rd rs1 rs2 order. refl) and
+    (refl, refl, λ rd rs1 rs2 order. refl) and
+    (refl, refl, λ rd rs1 rs2 order. refl) and
+    (refl, refl, λ rd rs1 rs2 order. refl) and
+    (refl, refl, λ rd rs1 rs2 order. refl) and
+    (refl, refl, λ rd rs1 rs2 order. refl) and
+    (refl, refl, λ rd rs1 rs2 order. refl) and
+    (refl, refl, λ rd rs1 rs2 order. refl) and
+    (refl, refl, λ rd rs1 rs2 order. refl) and
+    (refl, refl, λ rd rs1 rs2 order. refl) and
+    (refl, refl, λ rd rs1 rs2 order. refl) and
+    (refl, refl, λ rd rs1 rs2 order. refl) and
+    (refl, refl, λ rd rs1 rs2 order. refl) and
+    (refl, refl, λ rd rs1 rs2 order. refl) and
+    (refl, refl, λ rd rs1 rs2 order. refl) and
+    (refl, refl, λ rd rs1 rs2 order. refl) and
+    (refl, refl, λ rd rs1 rs2 order. refl) and
+    (refl, refl, λ rd rs1 rs2 order. refl) and
+    (refl, refl, λ rd rs1 rs2 order. refl) and
     -- opcode 33
     (refl, refl, λ rd rs1 rs2. refl) and
     (refl, refl, λ rd rs1 rs2. refl) and
@@ -176,6 +205,16 @@ back m v (Shift5 make) laid w fits h =
     let parts = WordShift-back v w fits (rw mask at h) in
     let same = laid.2 (rd_of w) (rs1_of w) (word_shift_amount w) in
     (rw same parts.0, λ _. rw same parts.1)
+back m v (Amo make) laid w fits h =
+    let mask = laid.0 in
+    let parts = Atomic-back v w fits (rw mask at h) in
+    let same = laid.2 (rd_of w) (rs1_of w) (rs2_of w) (order_of w) in
+    (rw same parts.0, λ _. rw same parts.1)
+back m v (Lr make) laid w fits h =
+    let mask = laid.0 in
+    let parts = Reserve-back v w laid.1 fits (rw mask at h) in
+    let same = laid.2 (rd_of w) (rs1_of w) (order_of w) in
+    (rw same parts.0, λ _. rw same parts.1)
 back m v (Plain i) laid w fits h =
     let operands : (layout_of i).operands ≡ Fixed = ap (λ l. l.operands) laid.0 in
     let word : (i ≡ Fence → ⊥) → encoded i ≡ w =
@@ -205,6 +244,8 @@ IsThere (U make) = (rd : ℕ) (imm : ℤ) → IsValid (make rd imm) → (encoded
 IsThere (J make) = (rd : ℕ) (imm : ℤ) → IsValid (make rd imm) → (encoded (make rd imm) < 2 ^ 32) × (decoded (encoded (make rd imm)) ≡ Some (make rd imm))
 IsThere (Shift6 make) = (rd rs1 : ℕ) (imm : ℤ) → IsValid (make rd rs1 imm) → (encoded (make rd rs1 imm) < 2 ^ 32) × (decoded (encoded (make rd rs1 imm)) ≡ Some (make rd rs1 imm))
 IsThere (Shift5 make) = (rd rs1 : ℕ) (imm : ℤ) → IsValid (make rd rs1 imm) → (encoded (make rd rs1 imm) < 2 ^ 32) × (decoded (encoded (make rd rs1 imm)) ≡ Some (make rd rs1 imm))
+IsThere (Amo make) = (rd rs1 rs2 order : ℕ) → IsValid (make rd rs1 rs2 order) → (encoded (make rd rs1 rs2 order) < 2 ^ 32) × (decoded (encoded (make rd rs1 rs2 order)) ≡ Some (make rd rs1 rs2 order))
+IsThere (Lr make) = (rd rs1 order : ℕ) → IsValid (make rd rs1 order) → (encoded (make rd rs1 order) < 2 ^ 32) × (decoded (encoded (make rd rs1 order)) ≡ Some (make rd rs1 order))
 IsThere (Plain i) = (encoded i < 2 ^ 32) × (decoded (encoded i) ≡ Some i)
 
 there : (m v : ℕ) (f : Format) → IsLaidOut m v f → ((w : ℕ) → bit_and w m ≡ v → decoded w ≡ Some (instruction f w)) → IsThere f
@@ -264,6 +305,20 @@ there m v (Shift5 make) laid found = λ rd rs1 imm valid.
     let read : decoded word ≡ Some (make rd rs1 imm) =
     found word (rw laid.0 parts.0) ∙ rw (parts.1, parts.2, parts.3) refl in
     rw same (parts.4, read)
+there m v (Amo make) laid found = λ rd rs1 rs2 order valid.
+    let same = laid.2 rd rs1 rs2 order in
+    let word : ℕ = v + placed (Atomic rd rs1 rs2 order) in
+    let parts = Atomic-there v laid.1 rd rs1 rs2 order (rw same at valid) word refl in
+    let read : decoded word ≡ Some (make rd rs1 rs2 order) =
+    found word (rw laid.0 parts.0) ∙ rw (parts.1, parts.2, parts.3, parts.4) refl in
+    rw same (parts.5, read)
+there m v (Lr make) laid found = λ rd rs1 order valid.
+    let same = laid.2 rd rs1 order in
+    let word : ℕ = v + placed (Reserve rd rs1 order) in
+    let parts = Reserve-there v laid.1 rd rs1 order (rw same at valid) word refl in
+    let read : decoded word ≡ Some (make rd rs1 order) =
+    found word (rw laid.0 parts.0) ∙ rw (parts.1, parts.2, parts.3) refl in
+    rw same (parts.4, read)
 there m v (Plain i) laid found =
     let operands : (layout_of i).operands ≡ Fixed = ap (λ l. l.operands) laid.0 in
     let word : encoded i ≡ (layout_of i).fixed = rw operands (omega arith) in
@@ -304,45 +359,67 @@ encoded-there (Sb rs1 rs2 imm) valid = there_at 22 missing (lit< tt) rs1 rs2 imm
 encoded-there (Sh rs1 rs2 imm) valid = there_at 23 missing (lit< tt) rs1 rs2 imm valid
 encoded-there (Sw rs1 rs2 imm) valid = there_at 24 missing (lit< tt) rs1 rs2 imm valid
 encoded-there (Sd rs1 rs2 imm) valid = there_at 25 missing (lit< tt) rs1 rs2 imm valid
-encoded-there (Add rd rs1 rs2) valid = there_at 26 missing (lit< tt) rd rs1 rs2 valid
-encoded-there (Sub rd rs1 rs2) valid = there_at 27 missing (lit< tt) rd rs1 rs2 valid
-encoded-there (Sll rd rs1 rs2) valid = there_at 28 missing (lit< tt) rd rs1 rs2 valid
-encoded-there (Slt rd rs1 rs2) valid = there_at 29 missing (lit< tt) rd rs1 rs2 valid
-encoded-there (Sltu rd rs1 rs2) valid = there_at 30 missing (lit< tt) rd rs1 rs2 valid
-encoded-there (Xor rd rs1 rs2) valid = there_at 31 missing (lit< tt) rd rs1 rs2 valid
-encoded-there (Srl rd rs1 rs2) valid = there_at 32 missing (lit< tt) rd rs1 rs2 valid
-encoded-there (Sra rd rs1 rs2) valid = there_at 33 missing (lit< tt) rd rs1 rs2 valid
-encoded-there (Or rd rs1 rs2) valid = there_at 34 missing (lit< tt) rd rs1 rs2 valid
-encoded-there (And rd rs1 rs2) valid = there_at 35 missing (lit< tt) rd rs1 rs2 valid
-encoded-there (Mul rd rs1 rs2) valid = there_at 36 missing (lit< tt) rd rs1 rs2 valid
-encoded-there (Mulh rd rs1 rs2) valid = there_at 37 missing (lit< tt) rd rs1 rs2 valid
-encoded-there (Mulhsu rd rs1 rs2) valid = there_at 38 missing (lit< tt) rd rs1 rs2 valid
-encoded-there (Mulhu rd rs1 rs2) valid = there_at 39 missing (lit< tt) rd rs1 rs2 valid
-encoded-there (Div rd rs1 rs2) valid = there_at 40 missing (lit< tt) rd rs1 rs2 valid
-encoded-there (Divu rd rs1 rs2) valid = there_at 41 missing (lit< tt) rd rs1 rs2 valid
-encoded-there (Rem rd rs1 rs2) valid = there_at 42 missing (lit< tt) rd rs1 rs2 valid
-encoded-there (Remu rd rs1 rs2) valid = there_at 43 missing (lit< tt) rd rs1 rs2 valid
-encoded-there (Lui rd imm) valid = there_at 44 missing (lit< tt) rd imm valid
-encoded-there (Addw rd rs1 rs2) valid = there_at 45 missing (lit< tt) rd rs1 rs2 valid
-encoded-there (Subw rd rs1 rs2) valid = there_at 46 missing (lit< tt) rd rs1 rs2 valid
-encoded-there (Sllw rd rs1 rs2) valid = there_at 47 missing (lit< tt) rd rs1 rs2 valid
-encoded-there (Srlw rd rs1 rs2) valid = there_at 48 missing (lit< tt) rd rs1 rs2 valid
-encoded-there (Sraw rd rs1 rs2) valid = there_at 49 missing (lit< tt) rd rs1 rs2 valid
-encoded-there (Mulw rd rs1 rs2) valid = there_at 50 missing (lit< tt) rd rs1 rs2 valid
-encoded-there (Divw rd rs1 rs2) valid = there_at 51 missing (lit< tt) rd rs1 rs2 valid
-encoded-there (Divuw rd rs1 rs2) valid = there_at 52 missing (lit< tt) rd rs1 rs2 valid
-encoded-there (Remw rd rs1 rs2) valid = there_at 53 missing (lit< tt) rd rs1 rs2 valid
-encoded-there (Remuw rd rs1 rs2) valid = there_at 54 missing (lit< tt) rd rs1 rs2 valid
-encoded-there (Beq rs1 rs2 imm) valid = there_at 55 missing (lit< tt) rs1 rs2 imm valid
-encoded-there (Bne rs1 rs2 imm) valid = there_at 56 missing (lit< tt) rs1 rs2 imm valid
-encoded-there (Blt rs1 rs2 imm) valid = there_at 57 missing (lit< tt) rs1 rs2 imm valid
-encoded-there (Bge rs1 rs2 imm) valid = there_at 58 missing (lit< tt) rs1 rs2 imm valid
-encoded-there (Bltu rs1 rs2 imm) valid = there_at 59 missing (lit< tt) rs1 rs2 imm valid
-encoded-there (Bgeu rs1 rs2 imm) valid = there_at 60 missing (lit< tt) rs1 rs2 imm valid
-encoded-there (Jalr rd rs1 imm) valid = there_at 61 missing (lit< tt) rd rs1 imm valid
-encoded-there (Jal rd imm) valid = there_at 62 missing (lit< tt) rd imm valid
-encoded-there Ecall valid = there_at 63 missing (lit< tt)
-encoded-there Ebreak valid = there_at 64 missing (lit< tt)
+encoded-there (LrW rd rs1 order) valid = there_at 26 missing (lit< tt) rd rs1 order valid
+encoded-there (LrD rd rs1 order) valid = there_at 27 missing (lit< tt) rd rs1 order valid
+encoded-there (ScW rd rs1 rs2 order) valid = there_at 28 missing (lit< tt) rd rs1 rs2 order valid
+encoded-there (ScD rd rs1 rs2 order) valid = there_at 29 missing (lit< tt) rd rs1 rs2 order valid
+encoded-there (AmoswapW rd rs1 rs2 order) valid = there_at 30 missing (lit< tt) rd rs1 rs2 order valid
+encoded-there (AmoswapD rd rs1 rs2 order) valid = there_at 31 missing (lit< tt) rd rs1 rs2 order valid
+encoded-there (AmoaddW rd rs1 rs2 order) valid = there_at 32 missing (lit< tt) rd rs1 rs2 order valid
+encoded-there (AmoaddD rd rs1 rs2 order) valid = there_at 33 missing (lit< tt) rd rs1 rs2 order valid
+encoded-there (AmoxorW rd rs1 rs2 order) valid = there_at 34 missing (lit< tt) rd rs1 rs2 order valid
+encoded-there (AmoxorD rd rs1 rs2 order) valid = there_at 35 missing (lit< tt) rd rs1 rs2 order valid
+encoded-there (AmoandW rd rs1 rs2 order) valid = there_at 36 missing (lit< tt) rd rs1 rs2 order valid
+encoded-there (AmoandD rd rs1 rs2 order) valid = there_at 37 missing (lit< tt) rd rs1 rs2 order valid
+encoded-there (AmoorW rd rs1 rs2 order) valid = there_at 38 missing (lit< tt) rd rs1 rs2 order valid
+encoded-there (AmoorD rd rs1 rs2 order) valid = there_at 39 missing (lit< tt) rd rs1 rs2 order valid
+encoded-there (AmominW rd rs1 rs2 order) valid = there_at 40 missing (lit< tt) rd rs1 rs2 order valid
+encoded-there (AmominD rd rs1 rs2 order) valid = there_at 41 missing (lit< tt) rd rs1 rs2 order valid
+encoded-there (AmomaxW rd rs1 rs2 order) valid = there_at 42 missing (lit< tt) rd rs1 rs2 order valid
+encoded-there (AmomaxD rd rs1 rs2 order) valid = there_at 43 missing (lit< tt) rd rs1 rs2 order valid
+encoded-there (AmominuW rd rs1 rs2 order) valid = there_at 44 missing (lit< tt) rd rs1 rs2 order valid
+encoded-there (AmominuD rd rs1 rs2 order) valid = there_at 45 missing (lit< tt) rd rs1 rs2 order valid
+encoded-there (AmomaxuW rd rs1 rs2 order) valid = there_at 46 missing (lit< tt) rd rs1 rs2 order valid
+encoded-there (AmomaxuD rd rs1 rs2 order) valid = there_at 47 missing (lit< tt) rd rs1 rs2 order valid
+encoded-there (Add rd rs1 rs2) valid = there_at 48 missing (lit< tt) rd rs1 rs2 valid
+encoded-there (Sub rd rs1 rs2) valid = there_at 49 missing (lit< tt) rd rs1 rs2 valid
+encoded-there (Sll rd rs1 rs2) valid = there_at 50 missing (lit< tt) rd rs1 rs2 valid
+encoded-there (Slt rd rs1 rs2) valid = there_at 51 missing (lit< tt) rd rs1 rs2 valid
+encoded-there (Sltu rd rs1 rs2) valid = there_at 52 missing (lit< tt) rd rs1 rs2 valid
+encoded-there (Xor rd rs1 rs2) valid = there_at 53 missing (lit< tt) rd rs1 rs2 valid
+encoded-there (Srl rd rs1 rs2) valid = there_at 54 missing (lit< tt) rd rs1 rs2 valid
+encoded-there (Sra rd rs1 rs2) valid = there_at 55 missing (lit< tt) rd rs1 rs2 valid
+encoded-there (Or rd rs1 rs2) valid = there_at 56 missing (lit< tt) rd rs1 rs2 valid
+encoded-there (And rd rs1 rs2) valid = there_at 57 missing (lit< tt) rd rs1 rs2 valid
+encoded-there (Mul rd rs1 rs2) valid = there_at 58 missing (lit< tt) rd rs1 rs2 valid
+encoded-there (Mulh rd rs1 rs2) valid = there_at 59 missing (lit< tt) rd rs1 rs2 valid
+encoded-there (Mulhsu rd rs1 rs2) valid = there_at 60 missing (lit< tt) rd rs1 rs2 valid
+encoded-there (Mulhu rd rs1 rs2) valid = there_at 61 missing (lit< tt) rd rs1 rs2 valid
+encoded-there (Div rd rs1 rs2) valid = there_at 62 missing (lit< tt) rd rs1 rs2 valid
+encoded-there (Divu rd rs1 rs2) valid = there_at 63 missing (lit< tt) rd rs1 rs2 valid
+encoded-there (Rem rd rs1 rs2) valid = there_at 64 missing (lit< tt) rd rs1 rs2 valid
+encoded-there (Remu rd rs1 rs2) valid = there_at 65 missing (lit< tt) rd rs1 rs2 valid
+encoded-there (Lui rd imm) valid = there_at 66 missing (lit< tt) rd imm valid
+encoded-there (Addw rd rs1 rs2) valid = there_at 67 missing (lit< tt) rd rs1 rs2 valid
+encoded-there (Subw rd rs1 rs2) valid = there_at 68 missing (lit< tt) rd rs1 rs2 valid
+encoded-there (Sllw rd rs1 rs2) valid = there_at 69 missing (lit< tt) rd rs1 rs2 valid
+encoded-there (Srlw rd rs1 rs2) valid = there_at 70 missing (lit< tt) rd rs1 rs2 valid
+encoded-there (Sraw rd rs1 rs2) valid = there_at 71 missing (lit< tt) rd rs1 rs2 valid
+encoded-there (Mulw rd rs1 rs2) valid = there_at 72 missing (lit< tt) rd rs1 rs2 valid
+encoded-there (Divw rd rs1 rs2) valid = there_at 73 missing (lit< tt) rd rs1 rs2 valid
+encoded-there (Divuw rd rs1 rs2) valid = there_at 74 missing (lit< tt) rd rs1 rs2 valid
+encoded-there (Remw rd rs1 rs2) valid = there_at 75 missing (lit< tt) rd rs1 rs2 valid
+encoded-there (Remuw rd rs1 rs2) valid = there_at 76 missing (lit< tt) rd rs1 rs2 valid
+encoded-there (Beq rs1 rs2 imm) valid = there_at 77 missing (lit< tt) rs1 rs2 imm valid
+encoded-there (Bne rs1 rs2 imm) valid = there_at 78 missing (lit< tt) rs1 rs2 imm valid
+encoded-there (Blt rs1 rs2 imm) valid = there_at 79 missing (lit< tt) rs1 rs2 imm valid
+encoded-there (Bge rs1 rs2 imm) valid = there_at 80 missing (lit< tt) rs1 rs2 imm valid
+encoded-there (Bltu rs1 rs2 imm) valid = there_at 81 missing (lit< tt) rs1 rs2 imm valid
+encoded-there (Bgeu rs1 rs2 imm) valid = there_at 82 missing (lit< tt) rs1 rs2 imm valid
+encoded-there (Jalr rd rs1 imm) valid = there_at 83 missing (lit< tt) rd rs1 imm valid
+encoded-there (Jal rd imm) valid = there_at 84 missing (lit< tt) rd imm valid
+encoded-there Ecall valid = there_at 85 missing (lit< tt)
+encoded-there Ebreak valid = there_at 86 missing (lit< tt)
 
 -- an instruction is valid exactly where some word is decoded to it
 pub IsValid-word : (i : Instr) → IsValid i ↔ (w : ℕ) × (w < 2 ^ 32) × (decoded w ≡ Some i)

@@ -2,10 +2,10 @@
 use Rattle.std.specs.Prelude.{◌≡◌, ℕ, ◌+◌, ◌-◌, ◌*◌, ◌%◌, ◌^◌, ◌<◌, ℤ, pos, negsuc, unsigned_abs}
 use Rattle.rv_table.specs.declared.layout.Layout.{Layout}
 use Rattle.rv_table.specs.declared.layout.Operands.{Operands}
-use Rattle.rv_table.specs.declared.layout.Operands.TheVariants.{Register, Immediate, Store, Branch, Upper, Jump, Shift, WordShift, Fixed}
+use Rattle.rv_table.specs.declared.layout.Operands.TheVariants.{Register, Immediate, Store, Branch, Upper, Jump, Shift, WordShift, Fixed, Atomic, Reserve}
 use Rattle.rv_table.specs.Rows.{bits}
 use Rattle.rv_table.specs.declared.instr.Instr.{Instr}
-use Rattle.rv_table.specs.declared.instr.Instr.TheVariants.{Lb, Lh, Lw, Ld, Lbu, Lhu, Lwu, Fence, Addi, Slti, Sltiu, Xori, Ori, Andi, Slli, Srli, Srai, Auipc, Addiw, Slliw, Srliw, Sraiw, Sb, Sh, Sw, Sd, Add, Sub, Sll, Slt, Sltu, Xor, Srl, Sra, Or, And, Mul, Mulh, Mulhsu, Mulhu, Div, Divu, Rem, Remu, Lui, Addw, Subw, Sllw, Srlw, Sraw, Mulw, Divw, Divuw, Remw, Remuw, Beq, Bne, Blt, Bge, Bltu, Bgeu, Jalr, Jal, Ecall, Ebreak}
+use Rattle.rv_table.specs.declared.instr.Instr.TheVariants.{Lb, Lh, Lw, Ld, Lbu, Lhu, Lwu, Fence, Addi, Slti, Sltiu, Xori, Ori, Andi, Slli, Srli, Srai, Auipc, Addiw, Slliw, Srliw, Sraiw, Sb, Sh, Sw, Sd, Add, Sub, Sll, Slt, Sltu, Xor, Srl, Sra, Or, And, Mul, Mulh, Mulhsu, Mulhu, Div, Divu, Rem, Remu, Lui, Addw, Subw, Sllw, Srlw, Sraw, Mulw, Divw, Divuw, Remw, Remuw, Beq, Bne, Blt, Bge, Bltu, Bgeu, Jalr, Jal, Ecall, Ebreak, LrW, LrD, ScW, ScD, AmoswapW, AmoswapD, AmoaddW, AmoaddD, AmoxorW, AmoxorD, AmoandW, AmoandD, AmoorW, AmoorD, AmominW, AmominD, AmomaxW, AmomaxD, AmominuW, AmominuD, AmomaxuW, AmomaxuD}
 
 abbrev pub layout : ℕ → Operands → Layout
 layout v o = record { fixed = v; operands = o }
@@ -78,6 +78,46 @@ layout_of (Jalr rd rs1 imm) = layout 0x00000067 (Immediate rd rs1 imm)
 layout_of (Jal rd imm) = layout 0x0000006f (Jump rd imm)
 layout_of Ecall = layout 0x00000073 Fixed
 layout_of Ebreak = layout 0x00100073 Fixed
+layout_of (LrW rd rs1 order) = layout 0x1000202f (Reserve rd rs1 order)
+layout_of (LrD rd rs1 order) = layout 0x1000302f (Reserve rd rs1 order)
+layout_of (ScW rd rs1 rs2 order) = layout 0x1800202f (Atomic rd rs1 rs2 order)
+layout_of (ScD rd rs1 rs2 order) = layout 0x1800302f (Atomic rd rs1 rs2 order)
+layout_of (AmoswapW rd rs1 rs2 order) = layout 0x0800202f (Atomic rd rs1 rs2 order)
+layout_of (AmoswapD rd rs1 rs2 order) = layout 0x0800302f (Atomic rd rs1 rs2 order)
+layout_of (AmoaddW rd rs1 rs2 order) = layout 0x0000202f (Atomic rd rs1 rs2 order)
+layout_of (AmoaddD rd rs1 rs2 order) = layout 0x0000302f (Atomic rd rs1 rs2 order)
+layout_of (AmoxorW rd rs1 rs2 order) = layout 0x2000202f (Atomic rd rs1 rs2 order)
+layout_of (AmoxorD rd rs1 rs2 order) = layout 0x2000302f (Atomic rd rs1 rs2 order)
+layout_of (AmoandW rd rs1 rs2 order) = layout 0x6000202f (Atomic rd rs1 rs2 order)
+layout_of (AmoandD rd rs1 rs2 order) = layout 0x6000302f (Atomic rd rs1 rs2 order)
+layout_of (AmoorW rd rs1 rs2 order) = layout 0x4000202f (Atomic rd rs1 rs2 order)
+layout_of (AmoorD rd rs1 rs2 order) = layout 0x4000302f (Atomic rd rs1 rs2 order)
+layout_of (AmominW rd rs1 rs2 order) = layout 0x8000202f (Atomic rd rs1 rs2 order)
+layout_of (AmominD rd rs1 rs2 order) = layout 0x8000302f (Atomic rd rs1 rs2 order)
+layout_of (AmomaxW rd rs1 rs2 order) = layout 0xa000202f (Atomic rd rs1 rs2 order)
+layout_of (AmomaxD rd rs1 rs2 order) = layout 0xa000302f (Atomic rd rs1 rs2 order)
+layout_of (AmominuW rd rs1 rs2 order) = layout 0xc000202f (Atomic rd rs1 rs2 order)
+layout_of (AmominuD rd rs1 rs2 order) = layout 0xc000302f (Atomic rd rs1 rs2 order)
+layout_of (AmomaxuW rd rs1 rs2 order) = layout 0xe000202f (Atomic rd rs1 rs2 order)
+layout_of (AmomaxuD rd rs1 rs2 order) = layout 0xe000302f (Atomic rd rs1 rs2 order)
+
+-- format R, with bits for the order of accesses
+abbrev pub IsAtomic : Operands → Type 0
+IsAtomic (Atomic rd rs1 rs2 order) = Unit {0}
+IsAtomic (Reserve rd rs1 order) = Unit {0}
+IsAtomic o = ⊥
+
+-- format R, with them and without
+abbrev pub HasFormatR : Operands → Type 0
+HasFormatR (Register rd rs1 rs2) = Unit {0}
+HasFormatR o = IsAtomic o
+
+-- format I, also with an amount of a shift, or format R
+abbrev pub HasFormatIOrR : Operands → Type 0
+HasFormatIOrR (Immediate rd rs1 imm) = Unit {0}
+HasFormatIOrR (Shift rd rs1 imm) = Unit {0}
+HasFormatIOrR (WordShift rd rs1 imm) = Unit {0}
+HasFormatIOrR o = HasFormatR o
 
 -- ---- the ranges of the operands
 
@@ -105,6 +145,8 @@ IsInRange (Jump rd imm) = (rd < 32) × FitsWidth 21 imm × IsMultiple 2 imm
 IsInRange (Shift rd rs1 imm) = (rd < 32) × (rs1 < 32) × IsBelow 64 imm
 IsInRange (WordShift rd rs1 imm) = (rd < 32) × (rs1 < 32) × IsBelow 32 imm
 IsInRange Fixed = Unit {0}
+IsInRange (Atomic rd rs1 rs2 order) = (rd < 32) × (rs1 < 32) × (rs2 < 32) × (order < 4)
+IsInRange (Reserve rd rs1 order) = (rd < 32) × (rs1 < 32) × (order < 4)
 
 abbrev pub IsValid : Instr → Type 0
 IsValid i = IsInRange (layout_of i).operands
@@ -137,6 +179,8 @@ placed (Jump rd imm) =
 placed (Shift rd rs1 imm) = registers rd rs1 0 + unsigned_abs imm * 2 ^ 20
 placed (WordShift rd rs1 imm) = registers rd rs1 0 + unsigned_abs imm * 2 ^ 20
 placed Fixed = 0
+placed (Atomic rd rs1 rs2 order) = registers rd rs1 rs2 + order * 2 ^ 25
+placed (Reserve rd rs1 order) = registers rd rs1 0 + order * 2 ^ 25
 
 abbrev pub encoded : Instr → ℕ
 encoded i = (layout_of i).fixed + placed (layout_of i).operands

@@ -1,8 +1,8 @@
--- The instructions of RV64I and of the extension M as data: one row for each mnemonic, as the RISC-V
+-- The instructions of RV64I and of the extensions M and A as data: one row for each mnemonic, as the RISC-V
 -- unprivileged specification lists them. A reader who has it open checks them line by line.
 use Rattle.std.specs.Prelude.{◌≡◌, ℕ, ◌+◌, ◌-◌, ◌*◌, ◌/◌, ◌%◌, ◌^◌, ◌==◌, nat_lt, if◌then◌else◌, Bool, ℤ, pos, ◌-ℤ◌, List, [], ◌∷◌, ◌++◌, Option, Some, None, bit_and}
 use Rattle.rv_table.specs.declared.instr.Instr.{Instr}
-use Rattle.rv_table.specs.declared.instr.Instr.TheVariants.{Lb, Lh, Lw, Ld, Lbu, Lhu, Lwu, Fence, Addi, Slti, Sltiu, Xori, Ori, Andi, Slli, Srli, Srai, Auipc, Addiw, Slliw, Srliw, Sraiw, Sb, Sh, Sw, Sd, Add, Sub, Sll, Slt, Sltu, Xor, Srl, Sra, Or, And, Mul, Mulh, Mulhsu, Mulhu, Div, Divu, Rem, Remu, Lui, Addw, Subw, Sllw, Srlw, Sraw, Mulw, Divw, Divuw, Remw, Remuw, Beq, Bne, Blt, Bge, Bltu, Bgeu, Jalr, Jal, Ecall, Ebreak}
+use Rattle.rv_table.specs.declared.instr.Instr.TheVariants.{Lb, Lh, Lw, Ld, Lbu, Lhu, Lwu, Fence, Addi, Slti, Sltiu, Xori, Ori, Andi, Slli, Srli, Srai, Auipc, Addiw, Slliw, Srliw, Sraiw, Sb, Sh, Sw, Sd, Add, Sub, Sll, Slt, Sltu, Xor, Srl, Sra, Or, And, Mul, Mulh, Mulhsu, Mulhu, Div, Divu, Rem, Remu, Lui, Addw, Subw, Sllw, Srlw, Sraw, Mulw, Divw, Divuw, Remw, Remuw, Beq, Bne, Blt, Bge, Bltu, Bgeu, Jalr, Jal, Ecall, Ebreak, LrW, LrD, ScW, ScD, AmoswapW, AmoswapD, AmoaddW, AmoaddD, AmoxorW, AmoxorD, AmoandW, AmoandD, AmoorW, AmoorD, AmominW, AmominD, AmomaxW, AmomaxD, AmominuW, AmominuD, AmomaxuW, AmomaxuD}
 
 -- ---- the fields of a word
 
@@ -50,10 +50,15 @@ shift_amount w = pos (bits 25 20 w)
 abbrev pub word_shift_amount : ℕ → ℤ
 word_shift_amount w = pos (bits 24 20 w)
 
+-- whether other accesses are ordered before and behind an atomic one: the bits aq and rl
+abbrev pub order_of : ℕ → ℕ
+order_of w = bits 26 25 w
+
 -- ---- the rows
 
 -- which operands stand in a word, and the instruction that has them: the formats R, I, S, B, U and J
--- of the manual, the shifts by six bits and by five, and words without operands
+-- of the manual, the shifts by six bits and by five, words without operands, and the atomic instructions,
+-- which are R with two bits for their order, among them LR without a second register
 pub data Format : Type 0 where
   R : (ℕ → ℕ → ℕ → Instr) → Format
   I : (ℕ → ℕ → ℤ → Instr) → Format
@@ -64,6 +69,8 @@ pub data Format : Type 0 where
   Shift6 : (ℕ → ℕ → ℤ → Instr) → Format
   Shift5 : (ℕ → ℕ → ℤ → Instr) → Format
   Plain : Instr → Format
+  Amo : (ℕ → ℕ → ℕ → ℕ → Instr) → Format
+  Lr : (ℕ → ℕ → ℕ → Instr) → Format
 
 -- the instruction of a word, in a format
 abbrev pub instruction : Format → ℕ → Instr
@@ -76,6 +83,8 @@ instruction (J make) w = make (rd_of w) (j_immediate w)
 instruction (Shift6 make) w = make (rd_of w) (rs1_of w) (shift_amount w)
 instruction (Shift5 make) w = make (rd_of w) (rs1_of w) (word_shift_amount w)
 instruction (Plain i) w = i
+instruction (Amo make) w = make (rd_of w) (rs1_of w) (rs2_of w) (order_of w)
+instruction (Lr make) w = make (rd_of w) (rs1_of w) (order_of w)
 
 -- the bits of the word that are fixed, their values, and the rest of it
 pub record Row : Type 0 where
@@ -135,6 +144,32 @@ store_rows =
     row 0x0000707f 0x00001023 (S Sh) ∷
     row 0x0000707f 0x00002023 (S Sw) ∷
     row 0x0000707f 0x00003023 (S Sd) ∷ []
+
+-- opcode 2f: atomic instructions, on words and on doublewords
+abbrev pub atomic_rows : List Row
+atomic_rows =
+    row 0xf9f0707f 0x1000202f (Lr LrW) ∷
+    row 0xf9f0707f 0x1000302f (Lr LrD) ∷
+    row 0xf800707f 0x1800202f (Amo ScW) ∷
+    row 0xf800707f 0x1800302f (Amo ScD) ∷
+    row 0xf800707f 0x0800202f (Amo AmoswapW) ∷
+    row 0xf800707f 0x0800302f (Amo AmoswapD) ∷
+    row 0xf800707f 0x0000202f (Amo AmoaddW) ∷
+    row 0xf800707f 0x0000302f (Amo AmoaddD) ∷
+    row 0xf800707f 0x2000202f (Amo AmoxorW) ∷
+    row 0xf800707f 0x2000302f (Amo AmoxorD) ∷
+    row 0xf800707f 0x6000202f (Amo AmoandW) ∷
+    row 0xf800707f 0x6000302f (Amo AmoandD) ∷
+    row 0xf800707f 0x4000202f (Amo AmoorW) ∷
+    row 0xf800707f 0x4000302f (Amo AmoorD) ∷
+    row 0xf800707f 0x8000202f (Amo AmominW) ∷
+    row 0xf800707f 0x8000302f (Amo AmominD) ∷
+    row 0xf800707f 0xa000202f (Amo AmomaxW) ∷
+    row 0xf800707f 0xa000302f (Amo AmomaxD) ∷
+    row 0xf800707f 0xc000202f (Amo AmominuW) ∷
+    row 0xf800707f 0xc000302f (Amo AmominuD) ∷
+    row 0xf800707f 0xe000202f (Amo AmomaxuW) ∷
+    row 0xf800707f 0xe000302f (Amo AmomaxuD) ∷ []
 
 -- opcode 33: arithmetic on two registers
 abbrev pub register_rows : List Row
@@ -205,8 +240,8 @@ system_rows =
 
 abbrev pub rows : List Row
 rows =
-    load_rows ++ fence_rows ++ immediate_rows ++ auipc_rows ++ word_immediate_rows ++ store_rows ++ register_rows
-    ++ lui_rows ++ word_register_rows ++ branch_rows ++ jalr_rows ++ jal_rows ++ system_rows
+    load_rows ++ fence_rows ++ immediate_rows ++ auipc_rows ++ word_immediate_rows ++ store_rows ++ atomic_rows
+    ++ register_rows ++ lui_rows ++ word_register_rows ++ branch_rows ++ jalr_rows ++ jal_rows ++ system_rows
 
 -- a word has the fixed bits of a row
 abbrev pub Matches : Row → ℕ → Type 0

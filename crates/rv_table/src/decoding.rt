@@ -1,11 +1,11 @@
 //! From words to instructions.
 ghost use Rattle.std.specs.Prelude.{◌≡◌, ◌≢◌, ◌≤◌, ◌↔◌, IfSome, IsNone, All, filter, length};
 ghost use Rattle.rv_table.specs.Encoding.{IsValid, encoded};
-ghost use Rattle.rv_table.specs.Rows.{Matches, is_match, instruction, rows, first_match, decoded, load_rows, fence_rows, immediate_rows, auipc_rows, word_immediate_rows, store_rows, register_rows, lui_rows, word_register_rows, branch_rows, jalr_rows, jal_rows, system_rows};
+ghost use Rattle.rv_table.specs.Rows.{Matches, is_match, instruction, rows, first_match, decoded, load_rows, fence_rows, immediate_rows, auipc_rows, word_immediate_rows, store_rows, atomic_rows, register_rows, lui_rows, word_register_rows, branch_rows, jalr_rows, jal_rows, system_rows};
 
 use crate::fields::{
-    b_immediate, i_immediate, j_immediate, rd, rs1, rs2, s_immediate, shift_amount, u_immediate,
-    word_shift_amount,
+    b_immediate, i_immediate, j_immediate, order, rd, rs1, rs2, s_immediate, shift_amount,
+    u_immediate, word_shift_amount,
 };
 use crate::instr::Instr;
 use pr_base::bits;
@@ -38,6 +38,17 @@ macro_rules! instruction {
     };
     (Plain $name:ident $word:ident) => {
         Instr::$name
+    };
+    (Amo $name:ident $word:ident) => {
+        Instr::$name {
+            rd: rd($word),
+            rs1: rs1($word),
+            rs2: rs2($word),
+            order: order($word),
+        }
+    };
+    (Lr $name:ident $word:ident) => {
+        Instr::$name { rd: rd($word), rs1: rs1($word), order: order($word) }
     };
 }
 
@@ -80,6 +91,7 @@ fn by_opcode(word: u32) -> Option<Instr>
         0x17 => auipc(word),
         0x1b => word_immediate(word),
         0x23 => store(word),
+        0x2f => atomic(word),
         0x33 => register(word),
         0x37 => lui(word),
         0x3b => word_register(word),
@@ -162,6 +174,36 @@ fn store(word: u32) -> Option<Instr>
         Sh 0x0000707f 0x00001023 S
         Sw 0x0000707f 0x00002023 S
         Sd 0x0000707f 0x00003023 S
+    }
+}
+
+fn atomic(word: u32) -> Option<Instr>
+    ensures { result ≡ first_match atomic_rows word }
+{
+    first_match! {
+        word;
+        LrW 0xf9f0707f 0x1000202f Lr
+        LrD 0xf9f0707f 0x1000302f Lr
+        ScW 0xf800707f 0x1800202f Amo
+        ScD 0xf800707f 0x1800302f Amo
+        AmoswapW 0xf800707f 0x0800202f Amo
+        AmoswapD 0xf800707f 0x0800302f Amo
+        AmoaddW 0xf800707f 0x0000202f Amo
+        AmoaddD 0xf800707f 0x0000302f Amo
+        AmoxorW 0xf800707f 0x2000202f Amo
+        AmoxorD 0xf800707f 0x2000302f Amo
+        AmoandW 0xf800707f 0x6000202f Amo
+        AmoandD 0xf800707f 0x6000302f Amo
+        AmoorW 0xf800707f 0x4000202f Amo
+        AmoorD 0xf800707f 0x4000302f Amo
+        AmominW 0xf800707f 0x8000202f Amo
+        AmominD 0xf800707f 0x8000302f Amo
+        AmomaxW 0xf800707f 0xa000202f Amo
+        AmomaxD 0xf800707f 0xa000302f Amo
+        AmominuW 0xf800707f 0xc000202f Amo
+        AmominuD 0xf800707f 0xc000302f Amo
+        AmomaxuW 0xf800707f 0xe000202f Amo
+        AmomaxuD 0xf800707f 0xe000302f Amo
     }
 }
 

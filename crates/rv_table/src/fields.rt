@@ -91,3 +91,10 @@ pub fn word_shift_amount(word: u32) -> i64
 {
     i64::from(bits::<24, 20>(word))
 }
+
+/// Whether other accesses are ordered before and behind an atomic one: the bits `aq` and `rl`.
+pub fn order(word: u32) -> u8
+    ensures { result ≡ manual.order_of word }
+{
+    bits::<26, 25>(word) as u8
+}

@@ -1,10 +1,11 @@
 //! The instructions.
 
-/// An instruction of RV64I or of the extension M, with a variant for each mnemonic.
+/// An instruction of RV64I or of the extensions M and A, with a variant for each mnemonic.
 ///
 /// `rd`, `rs1` and `rs2` are numbers of registers, below 32. `imm` is the immediate as the
 /// instruction uses it: a number of bytes for loads, stores, jumps and branches, the whole upper part
-/// with its twelve zeros for LUI and AUIPC, the amount for shifts.
+/// with its twelve zeros for LUI and AUIPC, the amount for shifts. `order` has the bits `aq` (2) and
+/// `rl` (1) of an atomic instruction, which order nothing here, where one instruction follows another.
 #[derive(Clone, Copy, Debug, PartialEq, Eq)]
 pub enum Instr {
     /// Load byte, sign-extended.
@@ -137,4 +138,48 @@ pub enum Instr {
     Ecall,
     /// Call the debugger.
     Ebreak,
+    /// Load a word, sign-extended, and reserve it.
+    LrW { rd: u8, rs1: u8, order: u8 },
+    /// Load a doubleword and reserve it.
+    LrD { rd: u8, rs1: u8, order: u8 },
+    /// Store a word if it is reserved.
+    ScW { rd: u8, rs1: u8, rs2: u8, order: u8 },
+    /// Store a doubleword if it is reserved.
+    ScD { rd: u8, rs1: u8, rs2: u8, order: u8 },
+    /// Swap a register and a word in memory.
+    AmoswapW { rd: u8, rs1: u8, rs2: u8, order: u8 },
+    /// Swap a register and a doubleword in memory.
+    AmoswapD { rd: u8, rs1: u8, rs2: u8, order: u8 },
+    /// Add to a word in memory.
+    AmoaddW { rd: u8, rs1: u8, rs2: u8, order: u8 },
+    /// Add to a doubleword in memory.
+    AmoaddD { rd: u8, rs1: u8, rs2: u8, order: u8 },
+    /// Exclusive or with a word in memory.
+    AmoxorW { rd: u8, rs1: u8, rs2: u8, order: u8 },
+    /// Exclusive or with a doubleword in memory.
+    AmoxorD { rd: u8, rs1: u8, rs2: u8, order: u8 },
+    /// And with a word in memory.
+    AmoandW { rd: u8, rs1: u8, rs2: u8, order: u8 },
+    /// And with a doubleword in memory.
+    AmoandD { rd: u8, rs1: u8, rs2: u8, order: u8 },
+    /// Or with a word in memory.
+    AmoorW { rd: u8, rs1: u8, rs2: u8, order: u8 },
+    /// Or with a doubleword in memory.
+    AmoorD { rd: u8, rs1: u8, rs2: u8, order: u8 },
+    /// Minimum with a word in memory, signed.
+    AmominW { rd: u8, rs1: u8, rs2: u8, order: u8 },
+    /// Minimum with a doubleword in memory, signed.
+    AmominD { rd: u8, rs1: u8, rs2: u8, order: u8 },
+    /// Maximum with a word in memory, signed.
+    AmomaxW { rd: u8, rs1: u8, rs2: u8, order: u8 },
+    /// Maximum with a doubleword in memory, signed.
+    AmomaxD { rd: u8, rs1: u8, rs2: u8, order: u8 },
+    /// Minimum with a word in memory, unsigned.
+    AmominuW { rd: u8, rs1: u8, rs2: u8, order: u8 },
+    /// Minimum with a doubleword in memory, unsigned.
+    AmominuD { rd: u8, rs1: u8, rs2: u8, order: u8 },
+    /// Maximum with a word in memory, unsigned.
+    AmomaxuW { rd: u8, rs1: u8, rs2: u8, order: u8 },
+    /// Maximum with a doubleword in memory, unsigned.
+    AmomaxuD { rd: u8, rs1: u8, rs2: u8, order: u8 },
 }

@@ -34,6 +34,10 @@ pub enum Operands {
     WordShift { rd: u8, rs1: u8, imm: i64 },
     /// None.
     Fixed,
+    /// Format R, with two bits for the order of accesses.
+    Atomic { rd: u8, rs1: u8, rs2: u8, order: u8 },
+    /// The same without a second register.
+    Reserve { rd: u8, rs1: u8, order: u8 },
 }
 
 /// Whether `WIDTH` bits hold the number in two's complement.
@@ -79,6 +83,13 @@ impl Operands {
             Operands::Shift { rd, rs1, imm } => rd < 32 && rs1 < 32 && (0..64).contains(&imm),
             Operands::WordShift { rd, rs1, imm } => rd < 32 && rs1 < 32 && (0..32).contains(&imm),
             Operands::Fixed => true,
+            Operands::Atomic {
+                rd,
+                rs1,
+                rs2,
+                order,
+            } => rd < 32 && rs1 < 32 && rs2 < 32 && order < 4,
+            Operands::Reserve { rd, rs1, order } => rd < 32 && rs1 < 32 && order < 4,
         }
     }
 
@@ -116,6 +127,14 @@ impl Operands {
             Operands::Shift { rd, rs1, imm } => registers(rd, rs1, 0) + ((imm as u32) << 20),
             Operands::WordShift { rd, rs1, imm } => registers(rd, rs1, 0) + ((imm as u32) << 20),
             Operands::Fixed => 0,
+            Operands::Atomic {
+                rd,
+                rs1,
+                rs2,
+                order,
+            } => registers(rd, rs1, rs2) + (u32::from(order) << 25),
+            Operands::Reserve { rd, rs1, order } => registers(rd, rs1, 0)
+                + (u32::from(order) << 25),
         }
     }
 }
@@ -130,20 +149,49 @@ fn registers(rd: u8, rs1: u8, rs2: u8) -> u32
     (u32::from(rd) << 7) + (u32::from(rs1) << 15) + (u32::from(rs2) << 20)
 }
 
-// One row for each mnemonic: the fixed bits of its word, and its operands.
+// One row for each mnemonic: the fixed bits of its word, and its operands. Other instructions go on to
+// the next function.
 macro_rules! layouts {
-    ($instr:ident; $($name:ident $fixed:literal $format:ident { $($field:ident),* })*) => {
+    ($instr:ident; $($name:ident $fixed:literal $format:ident { $($field:ident),* })*; $others:expr) => {
         match $instr {
             $(Instr::$name { $($field),* } => Layout {
                 fixed: $fixed,
                 operands: Operands::$format { $($field),* },
             },)*
+            _ => $others,
         }
     };
 }
 
-/// What the word of an instruction is made of.
+/// What the word of an instruction is made of: the formats S, B, U and J and words without operands here.
 pub fn layout_of(instr: Instr) -> Layout
+    ensures { result ≡ spec.layout_of instr }
+{
+    layouts! {
+        instr;
+        Fence 0x0ff0000f Fixed {}
+        Auipc 0x00000017 Upper { rd, imm }
+        Sb 0x00000023 Store { rs1, rs2, imm }
+        Sh 0x00001023 Store { rs1, rs2, imm }
+        Sw 0x00002023 Store { rs1, rs2, imm }
+        Sd 0x00003023 Store { rs1, rs2, imm }
+        Lui 0x00000037 Upper { rd, imm }
+        Beq 0x00000063 Branch { rs1, rs2, imm }
+        Bne 0x00001063 Branch { rs1, rs2, imm }
+        Blt 0x00004063 Branch { rs1, rs2, imm }
+        Bge 0x00005063 Branch { rs1, rs2, imm }
+        Bltu 0x00006063 Branch { rs1, rs2, imm }
+        Bgeu 0x00007063 Branch { rs1, rs2, imm }
+        Jal 0x0000006f Jump { rd, imm }
+        Ecall 0x00000073 Fixed {}
+        Ebreak 0x00100073 Fixed {}
+        ; layout_of_immediate(instr)
+    }
+}
+
+/// Format I.
+fn layout_of_immediate(instr: Instr) -> Layout
+    requires { spec.HasFormatIOrR (spec.layout_of instr).operands }
     ensures { result ≡ spec.layout_of instr }
 {
     layouts! {
@@ -155,7 +203,6 @@ pub fn layout_of(instr: Instr) -> Layout
         Lbu 0x00004003 Immediate { rd, rs1, imm }
         Lhu 0x00005003 Immediate { rd, rs1, imm }
         Lwu 0x00006003 Immediate { rd, rs1, imm }
-        Fence 0x0ff0000f Fixed {}
         Addi 0x00000013 Immediate { rd, rs1, imm }
         Slti 0x00002013 Immediate { rd, rs1, imm }
         Sltiu 0x00003013 Immediate { rd, rs1, imm }
@@ -165,15 +212,22 @@ pub fn layout_of(instr: Instr) -> Layout
         Slli 0x00001013 Shift { rd, rs1, imm }
         Srli 0x00005013 Shift { rd, rs1, imm }
         Srai 0x40005013 Shift { rd, rs1, imm }
-        Auipc 0x00000017 Upper { rd, imm }
         Addiw 0x0000001b Immediate { rd, rs1, imm }
         Slliw 0x0000101b WordShift { rd, rs1, imm }
         Srliw 0x0000501b WordShift { rd, rs1, imm }
         Sraiw 0x4000501b WordShift { rd, rs1, imm }
-        Sb 0x00000023 Store { rs1, rs2, imm }
-        Sh 0x00001023 Store { rs1, rs2, imm }
-        Sw 0x00002023 Store { rs1, rs2, imm }
-        Sd 0x00003023 Store { rs1, rs2, imm }
+        Jalr 0x00000067 Immediate { rd, rs1, imm }
+        ; layout_of_register(instr)
+    }
+}
+
+/// Format R.
+fn layout_of_register(instr: Instr) -> Layout
+    requires { spec.HasFormatR (spec.layout_of instr).operands }
+    ensures { result ≡ spec.layout_of instr }
+{
+    layouts! {
+        instr;
         Add 0x00000033 Register { rd, rs1, rs2 }
         Sub 0x40000033 Register { rd, rs1, rs2 }
         Sll 0x00001033 Register { rd, rs1, rs2 }
@@ -192,7 +246,6 @@ pub fn layout_of(instr: Instr) -> Layout
         Divu 0x02005033 Register { rd, rs1, rs2 }
         Rem 0x02006033 Register { rd, rs1, rs2 }
         Remu 0x02007033 Register { rd, rs1, rs2 }
-        Lui 0x00000037 Upper { rd, imm }
         Addw 0x0000003b Register { rd, rs1, rs2 }
         Subw 0x4000003b Register { rd, rs1, rs2 }
         Sllw 0x0000103b Register { rd, rs1, rs2 }
@@ -203,15 +256,39 @@ pub fn layout_of(instr: Instr) -> Layout
         Divuw 0x0200503b Register { rd, rs1, rs2 }
         Remw 0x0200603b Register { rd, rs1, rs2 }
         Remuw 0x0200703b Register { rd, rs1, rs2 }
-        Beq 0x00000063 Branch { rs1, rs2, imm }
-        Bne 0x00001063 Branch { rs1, rs2, imm }
-        Blt 0x00004063 Branch { rs1, rs2, imm }
-        Bge 0x00005063 Branch { rs1, rs2, imm }
-        Bltu 0x00006063 Branch { rs1, rs2, imm }
-        Bgeu 0x00007063 Branch { rs1, rs2, imm }
-        Jalr 0x00000067 Immediate { rd, rs1, imm }
-        Jal 0x0000006f Jump { rd, imm }
-        Ecall 0x00000073 Fixed {}
-        Ebreak 0x00100073 Fixed {}
+        ; layout_of_atomic(instr)
+    }
+}
+
+/// Atomic instructions.
+fn layout_of_atomic(instr: Instr) -> Layout
+    requires { spec.IsAtomic (spec.layout_of instr).operands }
+    ensures { result ≡ spec.layout_of instr }
+{
+    layouts! {
+        instr;
+        LrW 0x1000202f Reserve { rd, rs1, order }
+        LrD 0x1000302f Reserve { rd, rs1, order }
+        ScW 0x1800202f Atomic { rd, rs1, rs2, order }
+        ScD 0x1800302f Atomic { rd, rs1, rs2, order }
+        AmoswapW 0x0800202f Atomic { rd, rs1, rs2, order }
+        AmoswapD 0x0800302f Atomic { rd, rs1, rs2, order }
+        AmoaddW 0x0000202f Atomic { rd, rs1, rs2, order }
+        AmoaddD 0x0000302f Atomic { rd, rs1, rs2, order }
+        AmoxorW 0x2000202f Atomic { rd, rs1, rs2, order }
+        AmoxorD 0x2000302f Atomic { rd, rs1, rs2, order }
+        AmoandW 0x6000202f Atomic { rd, rs1, rs2, order }
+        AmoandD 0x6000302f Atomic { rd, rs1, rs2, order }
+        AmoorW 0x4000202f Atomic { rd, rs1, rs2, order }
+        AmoorD 0x4000302f Atomic { rd, rs1, rs2, order }
+        AmominW 0x8000202f Atomic { rd, rs1, rs2, order }
+        AmominD 0x8000302f Atomic { rd, rs1, rs2, order }
+        AmomaxW 0xa000202f Atomic { rd, rs1, rs2, order }
+        AmomaxD 0xa000302f Atomic { rd, rs1, rs2, order }
+        AmominuW 0xc000202f Atomic { rd, rs1, rs2, order }
+        AmominuD 0xc000302f Atomic { rd, rs1, rs2, order }
+        AmomaxuW 0xe000202f Atomic { rd, rs1, rs2, order }
+        AmomaxuD 0xe000302f Atomic { rd, rs1, rs2, order }
+        ; unreachable!()
     }
 }

@@ -1,6 +1,6 @@
-//! The instructions of RV64I and of the extension M: what a word means, and the word of an instruction.
-//! Sources: the RISC-V unprivileged specification, its chapters on RV32I, RV64I and M and its listings
-//! of instructions.
+//! The instructions of RV64I and of the extensions M and A: what a word means, and the word of an
+//! instruction. Sources: the RISC-V unprivileged specification, its chapters on RV32I, RV64I, M and A
+//! and its listings of instructions.
 #![tactic(auto)]
 
 mod decoding;

@@ -1,4 +1,5 @@
 use rv_mem::{BadAddress, MapFault, Rights, Room, Space, StoreFault, TextFault, Use};
+use std::process::Abort;
 use std::test::Fail;
 
 const READ: Rights = Rights {
@@ -140,6 +141,74 @@ fn marks_are_noted_where_they_are_read(rt: HostRuntime) -> Result<(), Fail> {
         unmarked.mark(0x1fff, 0x2001);
         let _ = unmarked.read(at, &mut bytes[..count], Use::Read);
         assert!(rt; !unmarked.mark_was_read());
+    }
+    Ok(())
+}
+
+fn assert_text<const M: u8>(
+    rt: &impl Abort,
+    space: &mut Space<M>,
+    at: u64,
+    text: &[u8; 4],
+) -> Result<(), Fail> {
+    let mut four = [0; 4];
+    space.read(at, &mut four, Use::Read)?;
+    assert_eq!(rt; four.as_slice(), text.as_slice());
+    Ok(())
+}
+
+// Rights and marks are each space's own.
+#[test]
+fn rights_and_marks_are_not_shared(rt: HostRuntime) -> Result<(), Fail> {
+    let mut room = Room::new();
+    let mut space: Space<1> = Space::new(rt.alloc());
+    space.map(&mut room, 0x1000, 3, WRITE)?;
+    space.mark(0x1000, 0x1004);
+    let mut child = space.fork(&mut room)?;
+    child.protect(0x2000, 1, READ)?;
+    child.write(0x1000, b"abcd")?;
+    assert_text(&rt, &mut child, 0x1000, b"abcd")?;
+    assert!(rt; !child.mark_was_read());
+    assert_eq!(rt;
+        child.write(0x1fff, &[1; 4098]),
+        Err(StoreFault::BadAddress)
+    );
+    assert_text(&rt, &mut child, 0x1ffc, &[0; 4])?;
+    space.write(0x1fff, &[1; 4098])?;
+    assert_text(&rt, &mut child, 0x2ffd, &[0; 4])?;
+    assert_text(&rt, &mut space, 0x2ffd, &[1; 4])?;
+    assert_text(&rt, &mut space, 0x1000, &[0; 4])?;
+    assert!(rt; space.mark_was_read());
+    Ok(())
+}
+
+// Pages 2 and 5 of the pages 1 to 7 are mapped.
+#[test]
+fn places_are_the_lowest_free_ones(rt: HostRuntime) -> Result<(), Fail> {
+    let mut room = Room::new();
+    let mut space: Space<0> = Space::new(rt.alloc());
+    space.map(&mut room, 0x2000, 1, READ)?;
+    space.map(&mut room, 0x5000, 1, WRITE)?;
+    for (pages, place) in [
+        (1, Some(0x1000)),
+        (2, Some(0x3000)),
+        (3, None),
+        (0, Some(0x1000)),
+    ] {
+        assert_eq!(rt;
+            space.lowest_place(0x1000, 0x8000, pages),
+            place,
+            "{pages} pages"
+        );
+    }
+    for (at, pages, any) in [
+        (0x1000, 1, false),
+        (0x1000, 2, true),
+        (0x3000, 2, false),
+        (0x3000, 3, true),
+        (0x2000, 0, false),
+    ] {
+        assert_eq!(rt; space.has_any(at, pages), any, "{pages} pages at {at}");
     }
     Ok(())
 }

@@ -4,14 +4,14 @@ use std::alloc::Global;
 use std::process::Abort;
 use std::test::Fail;
 
-const ALL: Rights = Rights {
+pub const ALL: Rights = Rights {
     r: true,
     w: true,
     x: true,
 };
 
 /// A memory whose one page, at 0x1000, begins with these instructions.
-fn code(alloc: Global, words: &[u32]) -> Result<Space<1>, Fail> {
+pub fn code(alloc: Global, words: &[u32]) -> Result<Space<1>, Fail> {
     let mut room = Room::new();
     let mut mem = Space::new(alloc);
     mem.map(&mut room, 0x1000, 1, ALL)?;
@@ -25,7 +25,7 @@ fn code(alloc: Global, words: &[u32]) -> Result<Space<1>, Fail> {
 
 /// Registers at the first instruction, with these values in a0 and a1. What stands in the place of
 /// register 0 is read by nothing.
-fn regs(a0: u64, a1: u64) -> Regs {
+pub fn regs(a0: u64, a1: u64) -> Regs {
     let mut x = [0; 32];
     x[0] = 99;
     x[10] = a0;
@@ -49,7 +49,11 @@ fn assert_step(
     let (name, word, a0, a1, a2) = row;
     let mut mem = code(alloc, &[word])?;
     let mut regs = regs(a0, a1);
-    assert_eq!(rt; step(&mut regs, &mut mem), Ok(Event::Next), "{name}");
+    assert_eq!(rt;
+        step(&mut regs, &mut mem, &mut None),
+        Ok(Event::Next),
+        "{name}"
+    );
     assert_eq!(rt; regs.x[12], a2, "{name} of {a0:x} and {a1:x}");
     assert_eq!(rt; regs.pc, 0x1004, "{name}");
     Ok(())
@@ -156,7 +160,11 @@ fn loads_extend_what_they_read(rt: HostRuntime) -> Result<(), Fail> {
         let mut mem = code(rt.alloc(), &[word])?;
         mem.write(0x1801, &[0x80, 0x81, 0x82, 0x83, 0x84, 0x85, 0x86, 0x87])?;
         let mut regs = regs(0x1801, 0);
-        assert_eq!(rt; step(&mut regs, &mut mem), Ok(Event::Next), "{name}");
+        assert_eq!(rt;
+            step(&mut regs, &mut mem, &mut None),
+            Ok(Event::Next),
+            "{name}"
+        );
         assert_eq!(rt; regs.x[12], a2, "{name}");
     }
     Ok(())
@@ -179,7 +187,11 @@ fn jumps_go_where_the_manual_says(rt: HostRuntime) -> Result<(), Fail> {
     for (name, word, a0, a1, pc) in rows {
         let mut mem = code(rt.alloc(), &[word])?;
         let mut regs = regs(a0, a1);
-        assert_eq!(rt; step(&mut regs, &mut mem), Ok(Event::Next), "{name}");
+        assert_eq!(rt;
+            step(&mut regs, &mut mem, &mut None),
+            Ok(Event::Next),
+            "{name}"
+        );
         assert_eq!(rt; regs.pc, pc, "{name}");
     }
     Ok(())
@@ -195,7 +207,7 @@ fn what_stops_leaves_the_registers(rt: HostRuntime) -> Result<(), Fail> {
         ("jalr ra,2(a0)", 0x002500e7, 0x1000, Event::Killed(7)),
         ("sd a1,0(a0)", 0x00b53023, 0x1ffc, Event::Killed(11)),
         ("ld a2,0(a0)", 0x00053603, 0x1ffc, Event::Killed(11)),
-        // Words that are no instruction of RV64I or M: nothing, a compressed one, a float one.
+        // Words that are no instruction of RV64I, M or A: nothing, a compressed one, a float one.
         ("zero", 0, 0, Event::Killed(4)),
         ("c.li a0,0", 0x00004501, 0, Event::Killed(4)),
         ("fadd.s fa0,fa0,fa1", 0x00b57553, 0, Event::Killed(4)),
@@ -204,7 +216,7 @@ fn what_stops_leaves_the_registers(rt: HostRuntime) -> Result<(), Fail> {
         let mut mem = code(rt.alloc(), &[word])?;
         let before = regs(a0, 0);
         let mut after = before;
-        assert_eq!(rt; step(&mut after, &mut mem), Ok(event), "{name}");
+        assert_eq!(rt; step(&mut after, &mut mem, &mut None), Ok(event), "{name}");
         assert_eq!(rt; after, before, "{name}");
     }
     Ok(())
@@ -224,7 +236,11 @@ fn a_fetch_tests_its_address_first(rt: HostRuntime) -> Result<(), Fail> {
         mem.mark(0x1000, 0x2000);
         let mut regs = regs(0, 0);
         regs.pc = pc;
-        assert_eq!(rt; step(&mut regs, &mut mem), Ok(event), "at {pc:x}");
+        assert_eq!(rt;
+            step(&mut regs, &mut mem, &mut None),
+            Ok(event),
+            "at {pc:x}"
+        );
         assert_eq!(rt; mem.mark_was_read(), noted, "at {pc:x}");
     }
     Ok(())

@@ -114,6 +114,51 @@ fn words_of_jumps_and_the_rest_are_those_of_an_assembler(rt: HostRuntime) {
 }
 
 #[test]
+fn atomic_words_are_those_of_an_assembler(rt: HostRuntime) {
+    let table = words! {
+        0x100322af LrW { rd: 5, rs1: 6, order: 0 } // lr.w x5, (x6)
+        0x120ebfaf LrD { rd: 31, rs1: 29, order: 1 } // lr.d.rl x31, (x29)
+        0x1c3120af ScW { rd: 1, rs1: 2, rs2: 3, order: 2 } // sc.w.aq x1, x3, (x2)
+        0x1ec5b52f ScD { rd: 10, rs1: 11, rs2: 12, order: 3 } // sc.d.aqrl x10, x12, (x11)
+        0x093928af AmoswapW { rd: 17, rs1: 18, rs2: 19, order: 0 } // amoswap.w x17, x19, (x18)
+        0x0a7332af AmoswapD { rd: 5, rs1: 6, rs2: 7, order: 1 } // amoswap.d.rl x5, x7, (x6)
+        0x05eeafaf AmoaddW { rd: 31, rs1: 29, rs2: 30, order: 2 } // amoadd.w.aq x31, x30, (x29)
+        0x063130af AmoaddD { rd: 1, rs1: 2, rs2: 3, order: 3 } // amoadd.d.aqrl x1, x3, (x2)
+        0x20c5a52f AmoxorW { rd: 10, rs1: 11, rs2: 12, order: 0 } // amoxor.w x10, x12, (x11)
+        0x233938af AmoxorD { rd: 17, rs1: 18, rs2: 19, order: 1 } // amoxor.d.rl x17, x19, (x18)
+        0x647322af AmoandW { rd: 5, rs1: 6, rs2: 7, order: 2 } // amoand.w.aq x5, x7, (x6)
+        0x67eebfaf AmoandD { rd: 31, rs1: 29, rs2: 30, order: 3 } // amoand.d.aqrl x31, x30, (x29)
+        0x403120af AmoorW { rd: 1, rs1: 2, rs2: 3, order: 0 } // amoor.w x1, x3, (x2)
+        0x42c5b52f AmoorD { rd: 10, rs1: 11, rs2: 12, order: 1 } // amoor.d.rl x10, x12, (x11)
+        0x853928af AmominW { rd: 17, rs1: 18, rs2: 19, order: 2 } // amomin.w.aq x17, x19, (x18)
+        0x867332af AmominD { rd: 5, rs1: 6, rs2: 7, order: 3 } // amomin.d.aqrl x5, x7, (x6)
+        0xa1eeafaf AmomaxW { rd: 31, rs1: 29, rs2: 30, order: 0 } // amomax.w x31, x30, (x29)
+        0xa23130af AmomaxD { rd: 1, rs1: 2, rs2: 3, order: 1 } // amomax.d.rl x1, x3, (x2)
+        0xc4c5a52f AmominuW { rd: 10, rs1: 11, rs2: 12, order: 2 } // amominu.w.aq x10, x12, (x11)
+        0xc73938af AmominuD { rd: 17, rs1: 18, rs2: 19, order: 3 } // amominu.d.aqrl x17, x19, (x18)
+        0xe07322af AmomaxuW { rd: 5, rs1: 6, rs2: 7, order: 0 } // amomaxu.w x5, x7, (x6)
+        0xe3eebfaf AmomaxuD { rd: 31, rs1: 29, rs2: 30, order: 1 } // amomaxu.d.rl x31, x30, (x29)
+    };
+    for (word, instr) in table {
+        assert_eq!(rt; decode(word), Some(instr));
+        assert!(rt; valid(instr));
+        assert_eq!(rt; encode(instr), word);
+    }
+}
+
+#[test]
+fn known_atomic_words_are_decoded(rt: HostRuntime) {
+    let table = words! {
+        0x00c5_a52f AmoaddW { rd: 10, rs1: 11, rs2: 12, order: 0 }
+        0x1005_b52f LrD { rd: 10, rs1: 11, order: 0 }
+        0x18c5_b52f ScD { rd: 10, rs1: 11, rs2: 12, order: 0 }
+    };
+    for (word, instr) in table {
+        assert_eq!(rt; decode(word), Some(instr));
+    }
+}
+
+#[test]
 fn a_known_word_is_decoded(rt: HostRuntime) {
     let addi = Instr::Addi {
         rd: 11,
@@ -140,7 +185,12 @@ fn words_of_no_row_are_none(rt: HostRuntime) {
         0x0000_4501, // c.li x10, 0
         0x00b5_7553, // fadd.s f10, f10, f11
         0x0005_3507, // fld f10, 0(x10)
-        0x1005_252f, // lr.w x10, (x10)
+        0x1015_252f, // LR with a second register
+        0x1185_352f, // the same, on doublewords
+        0x00b5_152f, // an AMO with funct3 1
+        0x00b5_452f, // an AMO with funct3 4
+        0x28b5_252f, // no operation of an AMO: 5
+        0xf8b5_352f, // 31
         0x0000_100f, // fence.i
         0x3000_2573, // csrrs x10, mstatus, x0
         0x0200_0073, // ECALL with another bit
@@ -174,6 +224,11 @@ fn operands_out_of_range_have_no_word(rt: HostRuntime) {
         Slli { rd: 0, rs1: 0, imm: 64 }
         Slliw { rd: 0, rs1: 0, imm: 32 }
         Srai { rd: 0, rs1: 0, imm: -1 }
+        LrW { rd: 32, rs1: 0, order: 0 }
+        LrD { rd: 0, rs1: 0, order: 4 }
+        ScW { rd: 0, rs1: 0, rs2: 32, order: 0 }
+        AmoaddD { rd: 0, rs1: 32, rs2: 0, order: 0 }
+        AmoaddW { rd: 0, rs1: 0, rs2: 0, order: 4 }
     };
     for instr in table {
         assert!(rt; !valid(instr));

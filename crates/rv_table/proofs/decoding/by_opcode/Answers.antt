@@ -33,6 +33,11 @@ returns-in-35 c =
     let opcode : c.args.word % 128 ≡ 35 = omega (arith, c.bits.ensures, c.in-35.is) in
     c.store.ensures ∙ sym (decoded-opcode c.args.word 35 opcode)
 
+pub returns-in-47 : goal.returns-in-47
+returns-in-47 c =
+    let opcode : c.args.word % 128 ≡ 47 = omega (arith, c.bits.ensures, c.in-47.is) in
+    c.atomic.ensures ∙ sym (decoded-opcode c.args.word 47 opcode)
+
 pub returns-in-51 : goal.returns-in-51
 returns-in-51 c =
     let opcode : c.args.word % 128 ≡ 51 = omega (arith, c.bits.ensures, c.in-51.is) in
@@ -71,5 +76,5 @@ returns-in-115 c =
 pub returns-in_default : goal.returns-in_default
 returns-in_default c =
     let other : Excludes opcodes (c.args.word % 128) =
-    (omega (arith, c.bits.ensures), (omega (arith, c.bits.ensures), (omega (arith, c.bits.ensures), (omega (arith, c.bits.ensures), (omega (arith, c.bits.ensures), (omega (arith, c.bits.ensures), (omega (arith, c.bits.ensures), (omega (arith, c.bits.ensures), (omega (arith, c.bits.ensures), (omega (arith, c.bits.ensures), (omega (arith, c.bits.ensures), (omega (arith, c.bits.ensures), (omega (arith, c.bits.ensures), tt))))))))))))) in
+    (omega (arith, c.bits.ensures), (omega (arith, c.bits.ensures), (omega (arith, c.bits.ensures), (omega (arith, c.bits.ensures), (omega (arith, c.bits.ensures), (omega (arith, c.bits.ensures), (omega (arith, c.bits.ensures), (omega (arith, c.bits.ensures), (omega (arith, c.bits.ensures), (omega (arith, c.bits.ensures), (omega (arith, c.bits.ensures), (omega (arith, c.bits.ensures), (omega (arith, c.bits.ensures), (omega (arith, c.bits.ensures), tt)))))))))))))) in
     sym (decoded-excluded c.args.word other)

@@ -1,0 +1,7 @@
+pub mod Carried
+pub mod Programs
+pub mod Fetch
+pub mod Operations
+pub mod Outside
+pub mod PassLemmas
+pub mod Registers
