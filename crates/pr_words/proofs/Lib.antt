@@ -2,9 +2,11 @@ pub mod CutLemmas
 pub mod LoopLemmas
 pub mod NumberLemmas
 pub mod PositionLemmas
+pub mod ReadBackLemmas
 pub mod ReadLemmas
 pub mod ScheduleLemmas
 pub mod SoundLemmas
+pub mod SpelledLemmas
 pub mod ValueLemmas
 pub mod VariableLemmas
 pub mod WordRows

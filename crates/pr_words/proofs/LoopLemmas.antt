@@ -1,7 +1,7 @@
 -- Words read one after the other.
-use Rattle.std.proofs.Common.{◌≡◌, ◌≢◌, ℕ, zero, suc, ◌+◌, ◌<◌, ◌≤◌, List, [], ◌∷◌, length, map, drop, Bool, true, false, cond, Option, Some, None, Result, Ok, Err, refl, sym, ap, ◌∙◌, subst, arith}
-use Rattle.std.specs.Prelude.{nat_lt, not}
-use Rattle.std.specs.List.{position, position_or_len, prefix_len}
+use Rattle.std.proofs.Common.{◌≡◌, ◌≢◌, ℕ, ◌+◌, ◌≤◌, List, [], ◌∷◌, length, map, drop, Bool, Some, None, Result, Ok, Err, refl, sym, ap, ◌∙◌, subst, arith}
+use Rattle.std.specs.Prelude.{not}
+use Rattle.std.specs.List.{position, prefix_len}
 use Rattle.std.proofs.lemmas.List.{length-map, length-drop}
 use Rattle.pr_words.specs.declared.fault.Why.TheVariants.{ZeroByte}
 use Rattle.pr_words.specs.declared.fault.WordsFault.{WordsFault}
@@ -11,7 +11,7 @@ use Rattle.pr_words.specs.declared.so_far.SoFar.{SoFar}
 use Rattle.pr_words.specs.Answers.{IsAnswer}
 use Rattle.pr_words.specs.Reading.{accepted, line_of, has_zero, reading_of}
 use Rattle.pr_words.specs.Steps.{step_of, StepsTo, finished, so_far_of}
-use Rattle.pr_words.proofs.ReadLemmas.{Reached, IsReading, reached_more, reached_command, reached_fault, reached_end, reached_first}
+use Rattle.pr_words.proofs.ReadLemmas.{IsReading, reached_more, reached_command, reached_fault, reached_end, reached_first}
 
 -- ---- zero bytes
 

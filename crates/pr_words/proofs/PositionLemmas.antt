@@ -1,5 +1,5 @@
 -- Where no element passes a test.
-use Rattle.std.proofs.Common.{◌≡◌, ℕ, ◌<◌, List, length, Bool, true, false, Some, None, refl, arith, All}
+use Rattle.std.proofs.Common.{◌≡◌, ◌<◌, List, length, Bool, true, false, Some, None, refl, arith, All}
 use Rattle.std.specs.Prelude.{nat_lt}
 use Rattle.std.specs.List.{position, position_or_len}
 use Rattle.std.proofs.lemmas.Bool.{lt-ltb}

@@ -1,8 +1,7 @@
 -- Options read one after the other.
-use Rattle.std.proofs.Common.{◌≡◌, ◌≢◌, ℕ, ◌+◌, ◌<◌, ◌≤◌, List, [], ◌∷◌, length, drop, Bool, true, false, Option, Some, None, Result, Ok, Err, refl, sym, ap, ◌∙◌, subst, arith}
+use Rattle.std.proofs.Common.{◌≡◌, ◌≢◌, ℕ, ◌+◌, ◌<◌, ◌≤◌, List, [], ◌∷◌, length, drop, Option, Some, None, Result, Ok, Err, refl, sym, ap, ◌∙◌, subst, arith}
 use Rattle.std.specs.Prelude.{IfOk, IfSome}
 use Rattle.pr_words.specs.declared.fault.Why.{Why}
-use Rattle.pr_words.specs.declared.fault.Why.TheVariants.{Unknown, NoValue}
 use Rattle.pr_words.specs.declared.fault.WordsFault.{WordsFault}
 use Rattle.pr_words.specs.declared.fault.WordsFault.TheVariants.{Usage}
 use Rattle.pr_words.specs.declared.kind.Kind.{Kind}
@@ -14,8 +13,8 @@ use Rattle.pr_words.specs.declared.setting.Setting.TheVariants.{Root as RootSett
 use Rattle.pr_words.specs.declared.options.Options.{Options}
 use Rattle.pr_words.specs.declared.so_far.SoFar.{SoFar}
 use Rattle.pr_words.specs.Spelling.{spelling_of, own_value}
-use Rattle.pr_words.specs.Reading.{Line, line_of, with_next, accepted, ended, Given, settings_of, is_again, setting_of, or_twice}
-use Rattle.pr_words.specs.Steps.{so_far_of, added, is_again_in, Front, front_by, front_of, IsWithin, Step, with_setting, with_front, step_of, finished}
+use Rattle.pr_words.specs.Reading.{line_of, with_next, accepted, ended, Given, settings_of, is_again, setting_of, or_twice}
+use Rattle.pr_words.specs.Steps.{so_far_of, added, is_again_in, Front, front_by, front_of, with_setting, with_front, step_of, finished}
 
 abbrev Answer : Type 0
 Answer = Result Options WordsFault

@@ -1,15 +1,14 @@
 -- Options that were read are such as callers rely on.
 use Rattle.std.proofs.Common.{◌≡◌, ◌≢◌, ℕ, zero, suc, ◌+◌, ◌<◌, ◌≤◌, List, [], ◌∷◌, ◌++◌, length, Bool, true, false, Option, Some, None, Result, Ok, Err, refl, sym, ap, ◌∙◌, subst, arith, All}
-use Rattle.std.specs.Prelude.{codes, nat_eq, unwrap_or, slice_get, IfSome, IfOk, if◌then◌else◌}
-use Rattle.std.specs.List.{list_any, position}
-use Rattle.std.specs.Option.{option_map}
+use Rattle.std.specs.Prelude.{codes, unwrap_or, slice_get, IfSome, IfOk, if◌then◌else◌}
+use Rattle.std.specs.List.{position}
 use Rattle.std.proofs.lemmas.Bool.{or_parts, eqb-false}
 use Rattle.std.proofs.lemmas.List.Elements.{All-nil, All-cons, All-head, All-tail, All-push, All-weaker}
 use Rattle.pr_base.specs.declared.bind.Bind.{Bind as OneBind}
 use Rattle.pr_words.specs.declared.fault.Why.{Why}
-use Rattle.pr_words.specs.declared.fault.Why.TheVariants.{ZeroByte, BadEnv, BadNumber, BadBind, BadSchedule, BadId, CalmAlone, CaseAlone}
+use Rattle.pr_words.specs.declared.fault.Why.TheVariants.{BadEnv, BadNumber, BadBind, BadSchedule, BadId, CalmAlone, CaseAlone}
 use Rattle.pr_words.specs.declared.fault.WordsFault.{WordsFault}
-use Rattle.pr_words.specs.declared.fault.WordsFault.TheVariants.{Usage, NoMemory}
+use Rattle.pr_words.specs.declared.fault.WordsFault.TheVariants.{Usage}
 use Rattle.pr_words.specs.declared.kind.Kind.{Kind}
 use Rattle.pr_words.specs.declared.kind.Kind.TheVariants.{Root, Bind, Directory, RootId, ChangeId, Variable, Turns, Schedule, Native, Calm, Case}
 use Rattle.pr_words.specs.declared.spelling.Spelled.{Spelled}
@@ -24,7 +23,7 @@ use Rattle.pr_words.specs.Values.{is_variable, largest_id, turns_of, case_of, id
 use Rattle.pr_words.specs.Variables.{same_name, with_variable}
 use Rattle.pr_words.specs.Values.{variable_name}
 use Rattle.pr_words.specs.Meaning.{latest, or_earlier, root_in, directory_in, ids_in, turns_in, schedule_in, case_in, binds_of, variables_of, options_of}
-use Rattle.pr_words.specs.Reading.{Asked, NoSuch, WithoutValue, WithValue, Line, Then, Command, line_of, with_next, bind_setting, setting_of, is_again, or_twice, told, Given, settings_of, case_alone, calm_alone, broken_at, ended, accepted, has_zero, reading_of}
+use Rattle.pr_words.specs.Reading.{Asked, NoSuch, WithoutValue, WithValue, Line, Then, Command, line_of, with_next, bind_setting, setting_of, is_again, or_twice, told, Given, settings_of, case_alone, calm_alone, broken_at, accepted, has_zero, reading_of}
 use Rattle.pr_words.specs.Sound.{IsText, IsBinding, AreNumbered, IsSlot, IsVariable, AreSound}
 use Rattle.pr_words.proofs.PositionLemmas.{none_passes}
 use Rattle.pr_words.proofs.ValueLemmas.{ok_map, number_in, ids_in_range, schedule_in_range, own_value_text, binding_in_range}

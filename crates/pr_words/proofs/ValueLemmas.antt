@@ -1,5 +1,5 @@
 -- What values that were read say lies within its range.
-use Rattle.std.proofs.Common.{◌≡◌, ◌≢◌, ℕ, ◌+◌, ◌-◌, ◌<◌, ◌≤◌, List, [], ◌∷◌, length, take, drop, Bool, true, false, Option, Some, None, Result, Ok, Err, refl, sym, ap, ◌∙◌, subst, arith, All}
+use Rattle.std.proofs.Common.{◌≡◌, ◌≢◌, ℕ, ◌+◌, ◌-◌, ◌<◌, ◌≤◌, List, [], ◌∷◌, length, take, Bool, true, false, Option, Some, None, Ok, refl, sym, subst, arith, All}
 use Rattle.std.specs.Prelude.{codes, nat_eq, nat_le, ok_or, ◌&&◌, if◌then◌else◌}
 use Rattle.std.specs.List.{ends_with}
 use Rattle.std.specs.Option.{option_map, option_and_then}
@@ -9,7 +9,7 @@ use Rattle.std.proofs.lemmas.List.Elements.{All-take, All-drop, All-nil, All-con
 use Rattle.pr_words.specs.declared.fault.Why.{Why}
 use Rattle.pr_words.specs.declared.options.Slot.{Slot}
 use Rattle.pr_words.specs.Spelling.{cut_at, own_value, second_or_none}
-use Rattle.pr_words.specs.Values.{is_numeral, number_of, id_of, ids_of, largest_id, slot_of, slots_of, schedule_of, without_mark, Binding, parts_of, if_whole, binding_of}
+use Rattle.pr_words.specs.Values.{is_numeral, number_of, id_of, ids_of, largest_id, slot_of, slots_of, schedule_of, without_mark, Binding, parts_of, binding_of}
 use Rattle.pr_words.specs.Sound.{IsText, IsSlot}
 use Rattle.pr_words.proofs.CutLemmas.{first_at, cut_parts}
 use Rattle.pr_words.proofs.ScheduleLemmas.{texts_of}

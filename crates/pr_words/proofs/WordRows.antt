@@ -1,15 +1,11 @@
 -- What worked lists of words are read as.
-use Rattle.std.proofs.Common.{◌≡◌, ℕ, ◌+◌, List, [], ◌∷◌, Result, Ok, Err, Option, Some, None, Bool, true, false, refl}
+use Rattle.std.proofs.Common.{◌≡◌, ℕ, [], ◌∷◌, Result, Ok, Err, Some, None, true, false, refl}
 use Rattle.std.specs.Prelude.{codes}
-use Rattle.std.specs.Str.Parse.{digits_value}
-use Rattle.pr_base.specs.declared.bind.Bind.{Bind}
 use Rattle.pr_words.specs.declared.fault.Why.{Why}
 use Rattle.pr_words.specs.declared.fault.Why.TheVariants.{Unknown, NoValue, BadNumber, BadSchedule, BadBind, BadEnv, Twice, CalmAlone, CaseAlone, ZeroByte, BadId}
 use Rattle.pr_words.specs.declared.fault.WordsFault.{WordsFault}
 use Rattle.pr_words.specs.declared.fault.WordsFault.TheVariants.{Usage}
 use Rattle.pr_words.specs.declared.options.Options.{Options}
-use Rattle.pr_words.specs.declared.options.Slot.{Slot}
-use Rattle.pr_words.specs.Values.{number_of, binding_of, ids_of, schedule_of, Binding}
 use Rattle.pr_words.specs.Reading.{line_of, with_next, accepted, reading_of}
 
 abbrev Read : Type 0

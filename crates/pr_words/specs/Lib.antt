@@ -1,6 +1,7 @@
 pub mod Answers
 pub mod Bindings
 pub mod Meaning
+pub mod ReadBack
 pub mod Reading
 pub mod Rules
 pub mod Sound

@@ -1,5 +1,5 @@
 -- What one word is: an option, by its names, or the start of the command.
-use Rattle.std.specs.Prelude.{ℕ, ◌+◌, ◌==◌, bytes_eq, nat_eq, Bool, List, take, drop, codes, Option, Some, None, if◌then◌else◌}
+use Rattle.std.specs.Prelude.{ℕ, ◌+◌, ◌==◌, bytes_eq, nat_eq, List, take, drop, codes, Option, Some, None, if◌then◌else◌}
 use Rattle.std.specs.List.{starts_with, position}
 use Rattle.std.specs.Option.{option_map}
 use Rattle.pr_words.specs.declared.kind.Kind.{Kind}

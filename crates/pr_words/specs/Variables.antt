@@ -1,5 +1,5 @@
 -- The variables of an environment, texts `K=V`.
-use Rattle.std.specs.Prelude.{ℕ, bytes_eq, Bool, true, false, List, [], ◌∷◌, Option, Some, None, if◌then◌else◌}
+use Rattle.std.specs.Prelude.{ℕ, bytes_eq, Bool, false, List, [], ◌∷◌, Option, Some, None, if◌then◌else◌}
 use Rattle.pr_words.specs.Values.{variable_name}
 
 abbrev pub same_name : Option (List ℕ) → Option (List ℕ) → Bool

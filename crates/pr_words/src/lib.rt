@@ -4,6 +4,7 @@
 mod fault;
 mod front;
 mod kind;
+pub mod laws;
 mod options;
 mod schedule;
 mod setting;

@@ -160,7 +160,7 @@ pub struct Options {
     pub cwd: Bytes,
     /// The user and the group that the guest sees as its own, where they aren't those of the host.
     pub ids: Option<(u32, u32)>,
-    /// The environment: texts `K=V`, of which no two have the same name.
+    /// The environment: texts `K=V`. A name that is given again has its last value in its first place.
     pub env: Texts,
     /// After how many turns the run is over.
     pub turns: u32,

@@ -1,8 +1,8 @@
 //! Words and what they are read as, worked out by hand from the table of options. In a row a `|` parts two
 //! words.
 
-use pr_base::NoMemory;
-use pr_words::{Options, WordsFault, read};
+use pr_base::{Bind, NoMemory, Texts};
+use pr_words::{Binds, Options, Slot, Slots, Why, WordsFault, read};
 use std::alloc::Global;
 use std::test::Fail;
 
@@ -191,52 +191,82 @@ fn text(bytes: &[u8]) -> &str {
     }
 }
 
+/// Adds one word behind others.
+fn add(line: &mut String, word: &str) -> Result<(), NoMemory> {
+    line.push_str(" ")?;
+    line.push_str(word)?;
+    Ok(())
+}
+
+/// Adds texts, each behind a word of its own.
+fn add_texts(line: &mut String, front: &str, texts: &Texts) -> Result<(), NoMemory> {
+    for k in 0..texts.len() {
+        if let Some(bytes) = texts.at(k) {
+            line.push_str(front)?;
+            add(line, text(bytes))?;
+        }
+    }
+    Ok(())
+}
+
+fn add_bind(alloc: Global, line: &mut String, bind: &Bind) -> Result<(), NoMemory> {
+    let index = bind.index;
+    let host = text(bind.host.as_slice());
+    let guest = text(bind.guest.as_slice());
+    let keep = bind.keep;
+    let bind = format!(in alloc; "bind {index} {host} {guest} {keep}")?;
+    add(line, bind.as_str())
+}
+
+fn add_slot(alloc: Global, line: &mut String, slot: Slot) -> Result<(), NoMemory> {
+    let Slot { pick, fuel } = slot;
+    let slot = format!(in alloc; "slot {pick}*{fuel}")?;
+    add(line, slot.as_str())
+}
+
+fn add_ids(alloc: Global, line: &mut String, ids: Option<(u32, u32)>) -> Result<(), NoMemory> {
+    let Some((uid, gid)) = ids else {
+        return Ok(());
+    };
+    let ids = format!(in alloc; "ids {uid}:{gid}")?;
+    add(line, ids.as_str())
+}
+
+fn add_case(alloc: Global, line: &mut String, number: Option<u32>) -> Result<(), NoMemory> {
+    let Some(number) = number else {
+        return Ok(());
+    };
+    let case = format!(in alloc; "case {number}")?;
+    add(line, case.as_str())
+}
+
+fn add_lists(alloc: Global, line: &mut String, options: &Options) -> Result<(), NoMemory> {
+    for bind in options.binds.as_slice() {
+        add_bind(alloc, line, bind)?;
+    }
+    add_texts(line, " env", &options.env)?;
+    for slot in options.schedule.as_slice() {
+        add_slot(alloc, line, *slot)?;
+    }
+    Ok(())
+}
+
 /// What options ask for, as a row writes it.
 fn written(alloc: Global, options: &Options) -> Result<String, NoMemory> {
     let root = text(options.root.as_slice());
     let cwd = text(options.cwd.as_slice());
     let turns = options.turns;
     let mut line = format!(in alloc; "{root} {cwd} {turns}")?;
-    if let Some((uid, gid)) = options.ids {
-        let ids = format!(in alloc; " ids {uid}:{gid}")?;
-        line.push_str(ids.as_str())?;
-    }
-    for bind in options.binds.as_slice() {
-        let index = bind.index;
-        let host = text(bind.host.as_slice());
-        let guest = text(bind.guest.as_slice());
-        let keep = bind.keep;
-        let bind = format!(in alloc; " bind {index} {host} {guest} {keep}")?;
-        line.push_str(bind.as_str())?;
-    }
-    for k in 0..options.env.len() {
-        if let Some(variable) = options.env.at(k) {
-            line.push_str(" env ")?;
-            line.push_str(text(variable))?;
-        }
-    }
-    for slot in options.schedule.as_slice() {
-        let pick = slot.pick;
-        let fuel = slot.fuel;
-        let slot = format!(in alloc; " slot {pick}*{fuel}")?;
-        line.push_str(slot.as_str())?;
-    }
+    add_ids(alloc, &mut line, options.ids)?;
+    add_lists(alloc, &mut line, options)?;
     if options.native {
-        line.push_str(" native")?;
+        add(&mut line, "native")?;
     }
     if options.calm {
-        line.push_str(" calm")?;
+        add(&mut line, "calm")?;
     }
-    if let Some(number) = options.case {
-        let case = format!(in alloc; " case {number}")?;
-        line.push_str(case.as_str())?;
-    }
-    for k in 0..options.command.len() {
-        if let Some(word) = options.command.at(k) {
-            line.push_str(" ")?;
-            line.push_str(text(word))?;
-        }
-    }
+    add_case(alloc, &mut line, options.case)?;
+    add_texts(&mut line, "", &options.command)?;
     Ok(line)
 }
 
@@ -302,5 +332,18 @@ fn slots_read(alloc: Global, count: usize) -> Result<Option<usize>, NoMemory> {
 fn a_schedule_has_1024_slots_at_most(rt: HostRuntime) -> Result<(), Fail> {
     assert!(rt; slots_read(rt.alloc(), 1024)? == Some(1024));
     assert!(rt; slots_read(rt.alloc(), 1025)? == None);
+    Ok(())
+}
+
+#[test]
+fn lists_give_back_what_they_hold(rt: HostRuntime) -> Result<(), Fail> {
+    let words = words_of(rt.alloc(), "-b|a|-b|b|--schedule=1*2")?;
+    assert!(rt; words.len() < 100);
+    let options = read(rt.alloc(), words.as_slice())?;
+    let binds = Binds::from(options.binds.into_vec());
+    assert!(rt; binds.len() == 2 && !binds.is_empty());
+    let slots = Slots::from(options.schedule.into_vec());
+    assert!(rt; slots.len() == 1 && !slots.is_empty());
+    assert!(rt; Why::BadId.number() == 11);
     Ok(())
 }

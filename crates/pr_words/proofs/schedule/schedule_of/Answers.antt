@@ -1,4 +1,4 @@
-use Rattle.std.proofs.Common.{◌≡◌, ◌<◌, ◌≤◌, count_by, sym, ap, ◌∙◌, arith, Some}
+use Rattle.std.proofs.Common.{◌<◌, ◌≤◌, count_by, sym, ap, ◌∙◌, arith, Some}
 use Rattle.pr_words.proofs.CutLemmas.{is_byte}
 use Rattle.pr_words.proofs.ScheduleLemmas.{texts_of, slots_after, schedule-many, next_slot, bad_slot, bad_last, good_last}
 use Rattle.pr_words.proofs.schedule.schedule_of.Goals as goal
