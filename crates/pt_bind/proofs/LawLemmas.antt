@@ -1,7 +1,6 @@
 -- The owner of a text is the longest location that it begins with.
-use Rattle.std.proofs.Common.{◌≡◌, ◌≢◌, ◌<◌, ◌≤◌, ◌+◌, ℕ, suc, zero, Bool, true, false, not, cond, Option, Some, None, List, [], ◌∷◌, ◌++◌, length, get_or, refl, ap, sym, subst, ◌∙◌, arith, nat_lt, nat_eq, inl, inr}
-use Rattle.std.specs.Prelude.{position, slice_get}
-use Rattle.std.specs.Bool.{Decides}
+use Rattle.std.proofs.Common.{◌≡◌, ◌≢◌, ◌<◌, ◌≤◌, ℕ, Bool, true, false, cond, Option, Some, None, List, [], ◌∷◌, ◌++◌, length, get_or, refl, ap, sym, ◌∙◌, arith, nat_lt, nat_eq, inl, inr}
+use Rattle.std.specs.Prelude.{slice_get}
 use Rattle.std.specs.List.{find, position_or_len}
 use Rattle.std.specs.Option.{option_map, option_map_or, option_and_then}
 use Rattle.std.proofs.lemmas.Bool.Decides.{nat_tests}
@@ -13,7 +12,7 @@ use Rattle.std.proofs.lemmas.List.Quantifiers.{position-Some}
 use Rattle.std.proofs.lemmas.Option.{slice_get-get_or, slice_get_within, get_or_from_slice_get}
 use Rattle.pr_base.specs.MountText.{MountText}
 use Rattle.pr_base.specs.Texts.{Text, names_below}
-use Rattle.pr_base.proofs.TextLemmas.{some_is, below_there}
+use Rattle.pr_base.proofs.TextLemmas.{below_there}
 use Rattle.pt_bind.specs.Binding.{is_located, located, source_of, number_at, owner, host_at, host_of, index_of, guest_in, guest_of, AreSettled}
 use Rattle.pt_bind.specs.Laws.{OwnedAt, OwnersAreLongest, HostTextsGoBack}
 use Rattle.pt_bind.proofs.RowLemmas.{located_is}

@@ -2,3 +2,4 @@ pub mod ByteLemmas
 pub mod IndexLemmas
 pub mod LawLemmas
 pub mod RowLemmas
+pub mod TagLemmas

@@ -1,5 +1,5 @@
 -- What the rows of a table tell of a text: which of them owns it, and its host text.
-use Rattle.std.proofs.Common.{◌≡◌, ◌≢◌, ◌<◌, ◌≤◌, ◌+◌, ℕ, Bool, true, false, not, cond, Option, Some, None, List, [], ◌∷◌, ◌++◌, map, length, drop, take, get_or, reverse, refl, ap, sym, subst, ◌∙◌, arith, nat_lt, nat_eq, ◌||◌, All, IfSome, append-nil}
+use Rattle.std.proofs.Common.{◌≡◌, ◌≢◌, ◌<◌, ◌≤◌, ◌+◌, ℕ, zero, suc, Bool, true, false, not, cond, Option, Some, None, List, [], ◌∷◌, ◌++◌, map, length, drop, take, get_or, reverse, refl, ap, sym, subst, ◌∙◌, arith, nat_lt, nat_eq, ◌||◌, All, IfSome, append-nil}
 use Rattle.std.specs.Prelude.{position}
 use Rattle.std.specs.Bool.{Decides}
 use Rattle.std.specs.List.{position_or_len, find, list_any}
@@ -10,7 +10,7 @@ use Rattle.std.proofs.lemmas.Bool.Decides.{same_from_decides}
 use Rattle.std.proofs.lemmas.Grind.{reverse_onto}
 use Rattle.std.proofs.lemmas.Option.{slice_get-get_or, slice_get-map}
 use Rattle.std.proofs.lemmas.List.{length-append, length-map, append_assoc, reverse-append, reverse-reverse}
-use Rattle.std.proofs.lemmas.List.Elements.{All-head, All-tail, All-map}
+use Rattle.std.proofs.lemmas.List.Elements.{All-nil, All-cons, All-head, All-tail, All-map}
 use Rattle.std.proofs.lemmas.List.Quantifiers.{position-Some}
 use Rattle.std.proofs.lemmas.Slice.Eq.{bytes_eq-Decides, slice_eq-Decides}
 use Rattle.pr_base.specs.MountText.{MountText, bound_of}
@@ -18,7 +18,7 @@ use Rattle.pr_base.specs.Paths.{IsPart, AreParts, parts_of, below_root, text_of}
 use Rattle.pr_base.specs.Texts.{Text, texts_eq, names_below}
 use Rattle.pr_base.specs.declared.bind.Bound.{Bound}
 use Rattle.pr_base.proofs.PathLemmas.{below_root_append}
-use Rattle.pr_base.proofs.TextLemmas.{texts_are_told_apart}
+use Rattle.pr_base.proofs.TextLemmas.{below_found, map_some, texts_are_told_apart}
 use Rattle.pt_bind.specs.Binding.{is_located, located, source_of, number_at, owner, host_at, host_of, guest_in, guest_of, is_point, IsWritten, names_of, point_of, row_of, rows_of, AreTexts, AreSettled, AreBounds}
 use Rattle.pt_bind.specs.Kept.{is_at, IsOwned, IsReadTo}
 use Rattle.pt_bind.proofs.ByteLemmas.{names_written, spelled, spelled_parts, spelled_in_turn}
@@ -296,3 +296,57 @@ guest_is index bounds host b rest guest e some is =
     at : (o : Option Text) → Some rest ≡ option_map below_root o → option_map text_of (option_map (λ rest. rest ++ names_of b.location) o) ≡ Some guest
     at None h = absurd cc
     at (Some names) h = ap Some (sym (is names (ap (λ o. option_map_or (λ r. r) o rest) h)))
+
+-- ---- what is answered is a text again
+
+source_parts : (table : List MountText) (k : ℕ) → All AreTexts table → AreParts (source_of table k)
+source_parts [] k are = All-nil IsPart
+source_parts (row ∷ rows) zero are = (All-head AreTexts row rows are).source
+source_parts (row ∷ rows) (suc k) are = source_parts rows k (All-tail AreTexts row rows are)
+
+host_parts : (table : List MountText) → All AreTexts table → (t : Text) → AreParts t → AreParts (host_of table t)
+host_parts table are [] parts = source_parts table 0 are
+host_parts table are (name ∷ t) parts = at (located table (name ∷ t)) (host_parts table are t (All-tail IsPart name t parts))
+  where
+    at : (o : Option ℕ) → AreParts (host_of table t) → AreParts (host_at table o (name ∷ host_of table t))
+    at (Some k) up = source_parts table k are
+    at None up = All-cons IsPart name (host_of table t) (All-head IsPart name t parts) up
+
+parts_in_front : (xs ys : Text) → AreParts (xs ++ ys) → AreParts xs
+parts_in_front [] ys are = All-nil IsPart
+parts_in_front (x ∷ xs) ys are = All-cons IsPart x xs (All-head IsPart x (xs ++ ys) are) (parts_in_front xs ys (All-tail IsPart x (xs ++ ys) are))
+
+parts_joined : (xs ys : Text) → AreParts xs → AreParts ys → AreParts (xs ++ ys)
+parts_joined [] ys one two = two
+parts_joined (x ∷ xs) ys one two = All-cons IsPart x (xs ++ ys) (All-head IsPart x xs one) (parts_joined xs ys (All-tail IsPart x xs one) two)
+
+guest_in_parts : (row : MountText) → AreTexts row → (host guest : Text) → AreParts host → guest_in row host ≡ Some guest → AreParts guest
+guest_in_parts row are host guest parts h =
+    let m = map_some (λ rest. rest ++ row.location) (names_below row.source host) guest h in
+    let front : AreParts m.0 = parts_in_front m.0 row.source (subst AreParts (below_found row.source host m.0 m.1) parts) in
+    subst AreParts m.2 (parts_joined m.0 row.location front are.location)
+
+guest_parts : (table : List MountText) → All AreTexts table → (index : ℕ) (host guest : Text) → AreParts host → guest_of table index host ≡ Some guest → AreParts guest
+guest_parts [] are index host guest parts h = absurd cc
+guest_parts (row ∷ rows) are index host guest parts h = at (nat_eq row.index index) h (guest_parts rows (All-tail AreTexts row rows are) index host guest parts)
+  where
+    at : (b : Bool) → option_and_then (λ row. guest_in row host) (cond b (Some row) (find (λ row. nat_eq row.index index) rows)) ≡ Some guest → (guest_of rows index host ≡ Some guest → AreParts guest) → AreParts guest
+    at true e later = guest_in_parts row (All-head AreTexts row rows are) host guest parts e
+    at false e later = later e
+
+module _ (bounds : List Bound) (are : AreBounds bounds) where
+  pub host_written : (guest : List ℕ) → IsWritten guest → (host : List ℕ) → host ≡ text_of (host_of (rows_of bounds) (names_of guest)) → IsWritten host
+  host_written guest w host e = record {
+    names = host_of (rows_of bounds) (names_of guest);
+    are_parts = host_parts (rows_of bounds) (rows_settled bounds are).texts (names_of guest) (spelled_parts guest w);
+    written = e;
+  }
+
+  pub guest_written : (index : ℕ) (host : List ℕ) → IsWritten host → (guest : List ℕ) → Some guest ≡ option_map text_of (guest_of (rows_of bounds) index (names_of host)) → IsWritten guest
+  guest_written index host w guest e =
+      let m = map_some text_of (guest_of (rows_of bounds) index (names_of host)) guest (sym e) in
+      record {
+        names = m.0;
+        are_parts = guest_parts (rows_of bounds) (rows_settled bounds are).texts index (names_of host) m.0 (spelled_parts host w) m.1;
+        written = sym m.2;
+      }

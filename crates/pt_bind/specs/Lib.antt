@@ -1,3 +1,4 @@
 pub mod Binding
 pub mod Kept
 pub mod Laws
+pub mod Tags

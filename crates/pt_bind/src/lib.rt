@@ -2,7 +2,15 @@
 #![tactic(auto)]
 
 pub mod laws;
+pub mod slot;
 pub mod table;
+mod tagged;
+pub mod tags;
 mod text;
 
+pub use slot::Slot;
 pub use table::Table;
+pub use tags::Tags;
+
+#[cfg(test)]
+mod tests;

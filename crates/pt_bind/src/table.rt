@@ -1,5 +1,5 @@
 //! Tables of bindings.
-ghost use Rattle.std.specs.Prelude.{◌≡◌, ◌≤◌, length, drop, nat_eq, bytes_eq, IfOk, OnOk};
+ghost use Rattle.std.specs.Prelude.{◌≡◌, ◌≤◌, length, drop, nat_eq, bytes_eq, IfOk, IfSome, OnOk};
 ghost use Rattle.std.specs.List.{find, list_any};
 ghost use Rattle.std.specs.Option.{option_copied, option_map};
 ghost use Rattle.pr_base.specs.Paths.{text_of};
@@ -70,7 +70,8 @@ impl Table {
     /// The host text of a guest text.
     pub fn host_of(&self, guest: &[u8]) -> Result<Bytes, NoMemory>
         requires { IsWritten guest.now }
-        ensures { IfOk result (λ host. host ≡ text_of (host_of (rows_of self.now) (names_of guest.now))) }
+        ensures host { IfOk result (λ host. host ≡ text_of (host_of (rows_of self.now) (names_of guest.now))) }
+        ensures written { IfOk result IsWritten }
     {
         let owned = self.owned(guest);
         let source = self.rows[owned.number].source.as_slice();
@@ -82,7 +83,8 @@ impl Table {
     /// this index or the host text isn't at or below its source.
     pub fn guest_of(&self, index: u32, host: &[u8]) -> Result<Option<Bytes>, NoMemory>
         requires { IsWritten host.now }
-        ensures { IfOk result (λ guest. guest ≡ option_map text_of (guest_of (rows_of self.now) index (names_of host.now))) }
+        ensures guest { IfOk result (λ guest. guest ≡ option_map text_of (guest_of (rows_of self.now) index (names_of host.now))) }
+        ensures written { IfOk result (λ guest. IfSome guest IsWritten) }
     {
         let Some(row) = self.row_of_index(index) else {
             return Ok(None);

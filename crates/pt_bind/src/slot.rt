@@ -1,0 +1,12 @@
+//! What of a process has a tag.
+
+/// What of a process has a tag.
+#[derive(Clone, Copy, Debug, PartialEq, Eq)]
+pub enum Slot {
+    /// Its working directory.
+    Cwd,
+    /// Its executable.
+    Exe,
+    /// What a descriptor is open for.
+    Fd(u32),
+}

@@ -1,0 +1,6 @@
+mod EndingLemmas
+mod GuestLemmas
+mod LookLemmas
+mod NumberLemmas
+mod PlainLemmas
+mod WalkRows

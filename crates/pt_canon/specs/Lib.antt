@@ -1,0 +1,5 @@
+pub mod Canon
+pub mod Kept
+pub mod Laws
+pub mod ProcessLinks
+pub mod TextWalk

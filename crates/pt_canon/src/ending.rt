@@ -1,0 +1,14 @@
+//! Where a walk ends.
+
+use crate::guest::Guest;
+use pr_base::Last;
+
+/// Where a walk ends: the guest text that it answers, what the path ends with, whether a slash stands behind that, and
+/// whether what was asked for is there.
+#[derive(Drop)]
+pub(crate) struct Ending {
+    pub(crate) guest: Guest,
+    pub(crate) last: Last,
+    pub(crate) slash: bool,
+    pub(crate) exists: bool,
+}

@@ -1,0 +1,12 @@
+//! Laws of the definitions, each carried by a function that does nothing.
+ghost use Rattle.pt_canon.specs.Laws.{TextsAreLookedAt, TextsLeadToThemselves};
+
+/// Each case of looking at a component from a guest text.
+pub fn texts_are_looked_at()
+    ensures { TextsAreLookedAt }
+{}
+
+/// A walk along a text on which no link stands comes to that text.
+pub fn texts_lead_to_themselves()
+    ensures { TextsLeadToThemselves }
+{}
