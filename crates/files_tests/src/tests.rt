@@ -209,51 +209,39 @@ fn remembers(guest: &Guest, fd: u32, entry: Entry) -> bool {
     guest.name(fd) == Some((entry.0, entry.1))
 }
 
+/// A change of names, and what the first file, which shares its name with the second, and the third remember after it.
+type Renaming = (Change, Entry, Entry);
+
+fn renamings() -> [Renaming; 6] {
+    const NAMELESS: Entry = Entry(0, b"");
+    let (f, g, h, i) = (
+        Entry(5, b"f"),
+        Entry(5, b"g"),
+        Entry(6, b"h"),
+        Entry(5, b"i"),
+    );
+    [
+        // To another directory, and within one.
+        (Change::Renamed(f, h), h, g),
+        (Change::Renamed(g, i), h, i),
+        // Another entry of the name, or of the directory.
+        (Change::Renamed(Entry(6, b"i"), Entry(6, b"j")), h, i),
+        (Change::Removed(Entry(5, b"h")), h, i),
+        // What is replaced gets nameless.
+        (Change::Renamed(i, h), NAMELESS, h),
+        // So it does where it is the entry that is renamed.
+        (Change::Renamed(h, h), NAMELESS, NAMELESS),
+    ]
+}
+
 #[test]
 fn open_files_follow_their_names(rt: HostRuntime) -> Result<(), Fail> {
-    const NAMELESS: Entry = Entry(0, b"");
     let mut guest = Guest::new(rt.alloc());
     for name in [b"f", b"f", b"g"] {
         let opened = guest.open(file(rt.alloc(), name)?, 0, false);
         assert!(rt; opened.is_ok());
     }
-    // What the first, which shares its name with the second, and the third remember after each change.
-    for (change, first, third) in [
-        // To another directory, and within one.
-        (
-            Change::Renamed(Entry(5, b"f"), Entry(6, b"h")),
-            Entry(6, b"h"),
-            Entry(5, b"g"),
-        ),
-        (
-            Change::Renamed(Entry(5, b"g"), Entry(5, b"i")),
-            Entry(6, b"h"),
-            Entry(5, b"i"),
-        ),
-        // Another entry of the name, or of the directory.
-        (
-            Change::Renamed(Entry(6, b"i"), Entry(6, b"j")),
-            Entry(6, b"h"),
-            Entry(5, b"i"),
-        ),
-        (
-            Change::Removed(Entry(5, b"h")),
-            Entry(6, b"h"),
-            Entry(5, b"i"),
-        ),
-        // What is replaced gets nameless.
-        (
-            Change::Renamed(Entry(5, b"i"), Entry(6, b"h")),
-            NAMELESS,
-            Entry(6, b"h"),
-        ),
-        // So it does where it is the entry that is renamed.
-        (
-            Change::Renamed(Entry(6, b"h"), Entry(6, b"h")),
-            NAMELESS,
-            NAMELESS,
-        ),
-    ] {
+    for (change, first, third) in renamings() {
         match change {
             Change::Renamed(from, to) => guest.renamed(from.0, from.1, to.0, to.1)?,
             Change::Removed(entry) => guest.removed(entry.0, entry.1),

@@ -1,6 +1,6 @@
 //! The first line of a script.
-ghost use Rattle.std.specs.Prelude.{◌≡◌, ◌≤◌, length, option_map, drop, MatchOption};
-ghost use Rattle.kr_calls.specs.Scripts.{script_of, is_cut, line_of, before, is_blank, is_newline, from_blank, without_leading_blanks, without_trailing_blanks, BeginsScript};
+ghost use Rattle.std.specs.Prelude.{◌≡◌, ◌≤◌, length, option_map};
+ghost use Rattle.kr_calls.specs.Scripts.{script_of, is_cut, before, is_blank, is_newline, from_blank, without_leading_blanks, without_trailing_blanks, BeginsScript};
 
 /// The first bytes of a file among which a script's line ends.
 const LINE_LIMIT: usize = 255;

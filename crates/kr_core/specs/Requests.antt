@@ -1,6 +1,5 @@
 -- The calls that are built, of those whose decoding is.
-use Rattle.std.specs.Prelude.{ℕ, ◌==◌, ◌||◌, Bool, Result, Err, if◌then◌else◌}
-use Rattle.pr_base.specs.declared.errno.Errno.{Errno}
+use Rattle.std.specs.Prelude.{ℕ, ◌==◌, ◌||◌, Bool, Err, if◌then◌else◌}
 use Rattle.pr_base.specs.declared.errno.Errno.TheVariants.{ENOSYS}
 use Rattle.rv_mem.specs.Actions.{Action, Done}
 use Rattle.rv_mem.specs.declared.regs.Regs.{Regs}

@@ -1,11 +1,11 @@
 //! The open files of all processes, and pipes.
 ghost use Rattle.std.specs.Prelude.{◌≡◌, ◌≢◌, ◌↔◌, ◌<◌, ◌+◌, ◌^◌, length, false, Some, None, Ok, Err, IsTrue, IsSome, IfOk, OnOk, OnErr};
-ghost use Rattle.std.specs.Option.{option_copied, option_map};
+ghost use Rattle.std.specs.Option.{option_copied};
 ghost use Rattle.std.specs.FinMap as map;
 
 use crate::descs::{Descriptor, Descs};
 use crate::open_files::OpenFiles;
-use crate::opened::{FilesRefusal, Moved, Opened, PipeState, What, Wrote};
+use crate::opened::{FilesRefusal, Moved, Opened, PipeState, Wrote};
 use crate::pipes::Pipes;
 use kr_tree::Ino;
 use pr_base::NoMemory;

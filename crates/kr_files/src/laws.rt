@@ -1,5 +1,4 @@
 //! Laws of open files and descriptors, each carried by a function that does nothing.
-ghost use Rattle.std.specs.Prelude.{◌≡◌};
 ghost use Rattle.kr_files.specs.declared.descs.Descriptor.{Descriptor};
 ghost use Rattle.kr_files.specs.Descriptors.{Named};
 ghost use Rattle.kr_files.specs.Files.{NamesOpenFiles};

@@ -62,7 +62,7 @@ impl<M: Copy> Opened<M> {
 
 impl<M: Copy> Opened<M> {
     ghost use Rattle.std.specs.Prelude.{◌≡◌, IsTrue, Some};
-    ghost use Rattle.kr_files.specs.Opened.{remembers, nameless, named_at, after_removal, after_rename};
+    ghost use Rattle.kr_files.specs.Opened.{remembers, named_at, after_removal, after_rename};
 
     /// Whether the entry of a name in a directory is remembered.
     pub(crate) fn remembers(&self, dir: Ino, name: &[u8]) -> bool

@@ -1,5 +1,5 @@
 //! One pipe.
-ghost use Rattle.std.specs.Prelude.{◌≡◌, ◌+◌, ◌-◌, ◌<◌, ◌≤◌, [], ◌++◌, length, take, drop, min, IsOk, IfOk, OnOk, OnErr, true, false};
+ghost use Rattle.std.specs.Prelude.{◌≡◌, ◌+◌, ◌-◌, ◌<◌, ◌≤◌, [], ◌++◌, length, take, drop, min, IfOk, OnOk, OnErr, true, false};
 
 use pr_base::{Bytes, NoMemory};
 use std::alloc::Global;

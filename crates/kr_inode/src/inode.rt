@@ -1,9 +1,9 @@
 //! One inode.
-ghost use Rattle.std.specs.Prelude.{◌≡◌, ◌+◌, ◌-◌, ◌^◌, ◌<◌, ◌≤◌, true, false, [], Some, None, OnOk, OnErr, IsOk, IsSome, IsTrue, ◌↔◌, length};
+ghost use Rattle.std.specs.Prelude.{◌≡◌, ◌+◌, ◌-◌, ◌^◌, ◌<◌, ◌≤◌, true, false, [], Some, None, OnOk, OnErr, IsSome, IsTrue, ◌↔◌, length};
 ghost use Rattle.std.specs.Option.{option_map, option_copied};
 
-use crate::content::{Content, DirContent};
-use crate::entries::{Entries, Slot};
+use crate::content::Content;
+use crate::entries::Slot;
 use crate::node::{Ino, Kind, Meta, Node};
 use crate::standing::Standing;
 use crate::user::{Right, User};

@@ -1,11 +1,15 @@
 -- Equal bare states and equal facts give equal replies.
-use Rattle.std.proofs.Common.{◌≡◌, subst, sym, ap, ◌∙◌}
+use Rattle.std.proofs.Common.{◌≡◌, ℕ, List, [], ◌∷◌, refl, subst, sym, ap, ◌∙◌}
 use Rattle.rv_mem.specs.Actions.{carried_out, AreEqualUnmarked}
 use Rattle.rv_mem.proofs.ActionLemmas.{reads_alike}
-use Rattle.kr_model.specs.State.{image_layout}
+use Rattle.kr_model.specs.State.{State, image_layout}
 use Rattle.kr_model.specs.Known.{Known, known}
 use Rattle.kr_model.specs.Operation.{operation}
-use Rattle.kr_model.specs.Laws.{CallsAlike}
+use Rattle.kr_model.specs.Laws.{CallsAlike, ArePinnedAlong, AllChangesAreBare}
+use Rattle.kr_model.specs.Applied.{Computing, Mounts, applied, all_applied, images, layouts}
+use Rattle.kr_model.specs.Bare.{bare_mounts, ArePinned}
+use Rattle.kr_model.specs.Change.{Change}
+use Rattle.kr_model.proofs.BareLemmas.{change-bare}
 use Rattle.kr_model.proofs.KnownLemmas.{known-bare}
 
 pub calls-alike : (M N : Type 0) → CallsAlike M N
@@ -14,3 +18,15 @@ calls-alike M N p q pid r seen s t m w same memories unmarked =
     subst (λ (k : Known). ((carried_out (operation pid r seen (known image_layout pid s)) m).reply ≡ (carried_out (operation pid r seen k) w).reply)
     × AreEqualUnmarked (carried_out (operation pid r seen (known image_layout pid s)) m).memory.pages (carried_out (operation pid r seen k) w).memory.pages) k
     (reads_alike (operation pid r seen (known image_layout pid s)) m w memories unmarked)
+
+-- ---- all changes of a call
+
+pinned_first : {M X : Type 0} (pins : ℕ → ℕ) (computing : Computing X) (mounts : Mounts M) (pid : ℕ) (cs : List Change) (s : State M X) → ArePinnedAlong pins computing mounts pid cs s → ArePinned pins s.tree
+pinned_first pins computing mounts pid [] s pinned = pinned
+pinned_first pins computing mounts pid (c ∷ cs) s pinned = pinned.0
+
+pub all_bare : (M : Type 0) → AllChangesAreBare M
+all_bare M pins mounts pid [] s pinned = refl
+all_bare M pins mounts pid (c ∷ cs) s pinned =
+    all_bare M pins mounts pid cs (applied images mounts pid c s) pinned.1
+    ∙ ap (all_applied layouts (bare_mounts mounts) pid cs) (change-bare M pins mounts pid c s pinned.0 (pinned_first pins images mounts pid cs (applied images mounts pid c s) pinned.1))

@@ -1,11 +1,10 @@
 -- Calls on attributes that answer an error change nothing.
-use Rattle.std.proofs.Common.{ℕ, zero, suc, ◌+◌, ◌-◌, ◌*◌, Bool, true, false, ◌&&◌, List, [], ◌∷◌, length, take, drop, refl, Option, Some, None, ℤ, pos, negsuc}
+use Rattle.std.proofs.Common.{ℕ, false, ◌&&◌, List, refl, Option, ℤ}
 use Rattle.std.specs.Prelude.{◌==◌}
 use Rattle.pr_base.specs.declared.errno.Errno.TheVariants.{EPERM, ENOENT, EBADF, EACCES, EFAULT, EINVAL}
-use Rattle.kr_files.specs.declared.opened.Opened.{Opened}
 use Rattle.kr_files.specs.declared.opened.What.{What}
 use Rattle.kr_files.specs.declared.opened.What.TheVariants.{File, Dir as DirOpen, In, Out, Err, PipeRead, PipeWrite}
-use Rattle.kr_tree.specs.Tree.{Node, Body, Directory, RegularFile, SymbolicLink, ProcessDirectory}
+use Rattle.kr_tree.specs.Tree.{Body, Directory, RegularFile, SymbolicLink, ProcessDirectory}
 use Rattle.kr_tree.specs.declared.place.Host.{Host}
 use Rattle.kr_tree.specs.declared.place.Host.TheVariants as host
 use Rattle.kr_calls.specs.declared.stat.Stat.{Stat}
@@ -13,8 +12,8 @@ use Rattle.kr_inode.specs.declared.user.User.{User}
 use Rattle.kr_model.specs.Change.{Change}
 use Rattle.kr_model.specs.Known.{Known, known_node}
 use Rattle.kr_model.specs.Seen.{Looked}
-use Rattle.kr_model.specs.AttributeRows.{unchanged, may_give, node_stat, process_stat, console_stat, pipe_stat, faccessat_row, chmod_host, fchmod_row, fchmodat_row, chown_by, chown_host, chown_open, fchown_row, fchownat_row, fchownat_here, tell_stat, stat_host, stat_unplaced, stat_open, fstat_row, newfstatat_row, newfstatat_here, tell_text, readlink_body, readlink_host, readlinkat_row}
-use Rattle.kr_model.proofs.RefusalLemmas.{IsClean, refused, answered, waiting, ending, tested, read, wrote, either, maybe, by_open}
+use Rattle.kr_model.specs.AttributeRows.{unchanged, may_give, node_stat, process_stat, console_stat, pipe_stat, faccessat_row, chmod_host, fchmod_row, fchmodat_row, chown_by, chown_host, fchown_row, fchownat_row, fchownat_here, tell_stat, stat_host, stat_unplaced, fstat_row, newfstatat_row, newfstatat_here, tell_text, readlink_body, readlink_host, readlinkat_row}
+use Rattle.kr_model.proofs.RefusalLemmas.{IsClean, refused, answered, tested, wrote, either, maybe, by_open}
 
 pub faccessat_clean : (k : Known) (l : Looked) (mode : ℕ) → IsClean false (faccessat_row k l mode)
 faccessat_clean k l mode = either _ answered (refused EACCES refl)

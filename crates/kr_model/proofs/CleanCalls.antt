@@ -1,10 +1,10 @@
 -- Every call that answers an error has changed nothing and written nothing.
-use Rattle.std.proofs.Common.{◌≡◌, ◌≢◌, ◌∙◌, sym, ap, ℕ, zero, suc, ◌+◌, ◌-◌, ◌*◌, Bool, true, false, ◌&&◌, List, [], ◌∷◌, length, take, drop, refl, Option, Some, None, ℤ, pos, negsuc}
+use Rattle.std.proofs.Common.{◌≡◌, ◌≢◌, ℕ, false, List, [], ◌∷◌, refl, Option}
 use Rattle.pr_base.specs.declared.errno.Errno.TheVariants.{EPERM, ENOENT, ESRCH, E2BIG, ENOEXEC, EBADF, ECHILD, EAGAIN, ENOMEM, EACCES, EFAULT, EBUSY, EEXIST, EXDEV, ENOTDIR, EISDIR, EINVAL, EMFILE, ENOTTY, EFBIG, ENOSPC, ESPIPE, EPIPE, ERANGE, ENAMETOOLONG, ENOSYS, ENOTEMPTY, ELOOP}
 use Rattle.pr_base.specs.declared.errno.Errno.{Errno}
 use Rattle.kr_calls.specs.declared.request.Request.{Request}
 use Rattle.kr_calls.specs.declared.request.Request.TheVariants as call
-use Rattle.kr_model.specs.Known.{Known, known_node}
+use Rattle.kr_model.specs.Known.{Known}
 use Rattle.kr_model.specs.Laws.{RefusalsChangeNothing}
 use Rattle.kr_model.specs.Operation.{looked_up, link_read, opened, taken, made, linked, moved, directory_named, by_path, operation}
 use Rattle.kr_model.specs.Reply.{Replying, refuse}

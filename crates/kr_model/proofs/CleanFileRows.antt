@@ -1,5 +1,5 @@
 -- Calls on files that answer an error change nothing.
-use Rattle.std.proofs.Common.{cond, ℕ, zero, suc, ◌+◌, ◌-◌, ◌*◌, Bool, true, false, ◌&&◌, List, [], ◌∷◌, length, take, drop, refl, Option, Some, None, ℤ, pos, negsuc}
+use Rattle.std.proofs.Common.{cond, ℕ, Bool, true, false, List, [], ◌∷◌, refl, Option, Some, None, ℤ}
 use Rattle.pr_base.specs.declared.errno.Errno.TheVariants.{ENOENT, EBADF, EACCES, EEXIST, ENOTDIR, EISDIR, EINVAL, EMFILE, EFBIG, ENOSPC, ELOOP}
 use Rattle.kr_files.specs.declared.opened.Opened.{Opened}
 use Rattle.kr_files.specs.declared.opened.What.{What}
@@ -12,9 +12,9 @@ use Rattle.kr_model.specs.Known.{Known, known_node}
 use Rattle.kr_model.specs.Pieces.{Piece, one_piece}
 use Rattle.kr_model.specs.Reply.{Replying, refuse}
 use Rattle.kr_model.specs.Seen.{Looked, Opening, OpensNoName, OpensSlashed, OpensFound, OpensNew}
-use Rattle.kr_model.specs.FileRows.{read_pipe, read_what, read_pieces, if_readable, read_row, readv_row, write_pipe, put_in_file, write_file, write_what, write_pieces, if_writable, write_row, writev_row, cut_file, ftruncate_row, open_under, open_directory, open_file, open_body, open_host, open_found, make_and_open, open_new, openat_row}
+use Rattle.kr_model.specs.FileRows.{read_pipe, read_what, read_pieces, if_readable, read_row, readv_row, write_pipe, put_in_file, write_file, write_what, write_pieces, if_writable, write_row, writev_row, ftruncate_row, open_under, open_directory, open_file, open_body, open_host, open_found, make_and_open, open_new, openat_row}
 use Rattle.kr_model.proofs.CleanPieces.{all_read, usable, handed, listed, written_to}
-use Rattle.kr_model.proofs.RefusalLemmas.{IsClean, refused, answered, waiting, ending, tested, read, wrote, either, maybe, by_open}
+use Rattle.kr_model.proofs.RefusalLemmas.{IsClean, refused, answered, waiting, ending, either, maybe, by_open}
 
 -- ---- reading
 

@@ -1,20 +1,20 @@
 -- Calls on names that answer an error change nothing.
-use Rattle.std.proofs.Common.{cond, not, ◌||◌, ℕ, zero, suc, ◌+◌, ◌-◌, ◌*◌, Bool, true, false, ◌&&◌, List, [], ◌∷◌, length, take, drop, refl, Option, Some, None, ℤ, pos, negsuc}
+use Rattle.std.proofs.Common.{cond, not, ◌||◌, ℕ, Bool, true, false, ◌&&◌, List, [], refl, Option, Some, None}
 use Rattle.pr_base.specs.declared.errno.Errno.TheVariants.{EPERM, ENOENT, EACCES, EBUSY, EEXIST, EXDEV, ENOTDIR, EISDIR, EINVAL, ENOSPC, ENOTEMPTY}
 use Rattle.std.specs.Bool.{if◌then◌else◌}
 use Rattle.std.specs.Option.{option_map_or}
-use Rattle.kr_tree.specs.Tree.{Node, Body, Directory, RegularFile, SymbolicLink, ProcessDirectory}
+use Rattle.kr_tree.specs.Tree.{Node}
 use Rattle.kr_tree.specs.declared.place.Host.{Host}
 use Rattle.kr_tree.specs.declared.place.Host.TheVariants as host
 use Rattle.pr_base.specs.declared.path.Last.{Last}
 use Rattle.pr_base.specs.declared.path.Last.TheVariants as last
 use Rattle.kr_model.specs.Known.{Known, known_node}
 use Rattle.kr_model.specs.Reply.{Replying, done, refuse}
-use Rattle.kr_model.specs.Asking.{body_passes, is_directory_host, is_processes_host}
+use Rattle.kr_model.specs.Asking.{is_directory_host, is_processes_host}
 use Rattle.kr_model.specs.Seen.{Looked, Entered, Taken, TakesNoName, TakesCovered, Takes, Made, MakesNoName, MakesOver, Makes}
-use Rattle.kr_model.specs.NameRows.{is_one, is_at_or_above, is_above_old, make_directory, mkdirat_row, make_link, symlinkat_row, link_node, link_host, linkat_row, remove_file, remove_directory, unless_kept, take_entry, unlink_found, unlink_row, ending_removed, rmdir_found, rmdir_row, unlinkat_row, move_free, move_over, move_onto, move_entry, move_found, move_uncovered, move_taken, renameat2_row}
+use Rattle.kr_model.specs.NameRows.{is_one, is_at_or_above, is_above_old, mkdirat_row, symlinkat_row, link_host, linkat_row, remove_file, remove_directory, take_entry, unlink_found, unlink_row, ending_removed, rmdir_row, unlinkat_row, move_free, move_over, move_onto, move_entry, move_found, move_uncovered, move_taken, renameat2_row}
 use Rattle.kr_model.proofs.CleanPieces.{written_to}
-use Rattle.kr_model.proofs.RefusalLemmas.{IsClean, refused, answered, waiting, ending, tested, read, wrote, either, maybe, by_open}
+use Rattle.kr_model.proofs.RefusalLemmas.{IsClean, refused, answered, either, maybe}
 
 -- ---- new names
 

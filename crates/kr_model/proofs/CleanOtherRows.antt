@@ -1,21 +1,18 @@
 -- Calls on directories, memory, processes and identity that answer an error change nothing.
-use Rattle.std.proofs.Common.{◌||◌, nat_lt, replicate, ℕ, zero, suc, ◌+◌, ◌-◌, ◌*◌, Bool, true, false, ◌&&◌, List, [], ◌∷◌, length, take, drop, refl, Option, Some, None, ℤ, pos, negsuc}
+use Rattle.std.proofs.Common.{◌||◌, nat_lt, replicate, ℕ, zero, suc, ◌-◌, Bool, true, false, ◌&&◌, List, [], ◌∷◌, refl, Option, Some, None, ℤ, pos, negsuc}
 use Rattle.std.specs.Int.{to_le_bytes, w32}
 use Rattle.pr_base.specs.declared.errno.Errno.TheVariants.{EPERM, ENOENT, ECHILD, EAGAIN, ENOMEM, EACCES, EFAULT, ENOTDIR, EINVAL, ERANGE}
 use Rattle.kr_tree.specs.declared.place.Host.{Host}
-use Rattle.kr_tree.specs.declared.place.Host.TheVariants as host
-use Rattle.kr_files.specs.declared.opened.Opened.{Opened}
-use Rattle.rv_mem.specs.declared.rights.Use.TheVariants.{Write}
-use Rattle.kr_model.specs.Known.{Known, known_node}
+use Rattle.kr_model.specs.Known.{Known}
 use Rattle.kr_model.specs.Reply.{Replying, done}
 use Rattle.kr_model.specs.Seen.{Looked}
 use Rattle.kr_model.specs.Change.{Reap}
 use Rattle.kr_model.specs.State.{Ended}
-use Rattle.kr_model.specs.DirectoryRows.{Listed, fitting, tell_entries, list_rest, list_host, getdents64_row, if_entered, chdir_row, fchdir_row, chroot_row, tell_directory, getcwd_row, shown_by, behind}
-use Rattle.kr_model.specs.MemoryRows.{pages_end, page_count, passes_limit, has_page, grow, brk_row, map_at, map_fixed, map_free, mmap_row, munmap_row, mprotect_row, lowest_place}
-use Rattle.kr_model.specs.ProcessRows.{usage_size, uname_row, exit_row, born, told_born, clone_row, null_or_writable, unless_null, tell_end, reap, wait_for, wait4_row}
-use Rattle.kr_model.specs.IdentityRows.{set_row, set_two_row, set_three_row, get_three_row, getgroups_row, setgroups_row}
-use Rattle.kr_model.proofs.RefusalLemmas.{IsClean, refused, answered, waiting, ending, tested, read, wrote, either, maybe, by_open}
+use Rattle.kr_model.specs.DirectoryRows.{Listed, tell_entries, list_rest, list_host, getdents64_row, if_entered, chdir_row, fchdir_row, chroot_row, tell_directory, getcwd_row, shown_by, behind}
+use Rattle.kr_model.specs.MemoryRows.{pages_end, page_count, passes_limit, has_page, grow, brk_row, map_at, mmap_row, munmap_row, mprotect_row, lowest_place}
+use Rattle.kr_model.specs.ProcessRows.{usage_size, uname_row, exit_row, clone_row, null_or_writable, unless_null, tell_end, reap, wait_for, wait4_row}
+use Rattle.kr_model.specs.IdentityRows.{set_row, set_two_row, set_three_row, get_three_row, getgroups_row}
+use Rattle.kr_model.proofs.RefusalLemmas.{IsClean, refused, answered, waiting, ending, tested, wrote, either, maybe, by_open}
 
 -- ---- directories
 

@@ -1,17 +1,16 @@
 -- Tests and uses of pieces of memory, and of directories to be changed, change nothing where they refuse.
-use Rattle.std.proofs.Common.{ℕ, zero, suc, ◌+◌, ◌-◌, ◌*◌, Bool, true, false, ◌&&◌, List, [], ◌∷◌, length, take, drop, refl, Option, Some, None, ℤ, pos, negsuc}
+use Rattle.std.proofs.Common.{ℕ, Bool, true, false, ◌&&◌, List, [], ◌∷◌, refl, Option, Some, None}
 use Rattle.pr_base.specs.declared.errno.Errno.TheVariants.{ENOENT, EACCES, EFAULT, EINVAL, ENOTDIR}
 use Rattle.kr_tree.specs.Tree.{Node, Body, Directory, RegularFile, SymbolicLink, ProcessDirectory}
 use Rattle.kr_tree.specs.declared.place.Host.{Host}
 use Rattle.kr_tree.specs.declared.place.Host.TheVariants as host
-use Rattle.kr_inode.specs.declared.standing.Standing.{Standing}
 use Rattle.rv_mem.specs.declared.rights.Use.{Use}
 use Rattle.kr_model.specs.Change.{Change}
 use Rattle.kr_model.specs.Known.{Known, known_node}
 use Rattle.kr_model.specs.Reply.{Replying}
 use Rattle.kr_model.specs.Asking.{writable_body, writable_node, writable, is_over}
-use Rattle.kr_model.specs.Pieces.{Piece, Part, may_use_all, read_all, write_all, if_usable, hand, if_summed, with_list, pieces_of, cut_to, laid_into}
-use Rattle.kr_model.proofs.RefusalLemmas.{IsClean, refused, answered, waiting, ending, tested, read, wrote, either, maybe, by_open}
+use Rattle.kr_model.specs.Pieces.{Piece, Part, may_use_all, read_all, write_all, if_usable, hand, if_summed, with_list, pieces_of}
+use Rattle.kr_model.proofs.RefusalLemmas.{IsClean, refused, answered, tested, read, wrote, either}
 
 used : {w : Bool} (what : Use) (pieces : List Piece) {next : Bool → Replying} → ((b : Bool) → IsClean w (next b)) → IsClean w (may_use_all what pieces next)
 used what [] clean = clean true

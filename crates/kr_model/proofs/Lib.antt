@@ -12,7 +12,10 @@ pub mod CleanNameRows
 pub mod CleanAttributeRows
 pub mod CleanOtherRows
 pub mod CleanCalls
+pub mod BuiltLemmas
 pub mod StayLemmas
 pub mod ShapeLemmas
 pub mod SlotLemmas
 pub mod OperationRows
+pub mod NameLemmas
+pub mod ProcessLemmas

@@ -1,29 +1,27 @@
 -- Calls worked out by hand, on what is known of a small machine: the tests of the caller's memory all succeed or all
 -- fail, and what is read of it are sevens.
 use Rattle.std.specs.FinMap as map
-use Rattle.std.proofs.Common.{◌≡◌, ℕ, Bool, true, false, List, [], ◌∷◌, ◌++◌, length, replicate, refl, Option, Some, None, ℤ, pos, negsuc}
-use Rattle.std.specs.Prelude.{codes, neg_ℤ, ◌==◌, if◌then◌else◌}
-use Rattle.pr_base.specs.declared.errno.Errno.{Errno}
-use Rattle.pr_base.specs.declared.errno.Errno.TheVariants.{EPERM, ENOENT, EBADF, ECHILD, EACCES, EFAULT, EBUSY, EEXIST, EXDEV, ENOTDIR, EISDIR, EINVAL, ENOTTY, EFBIG, ENOSPC, ESPIPE, ERANGE, ENOTEMPTY, ELOOP}
+use Rattle.std.proofs.Common.{◌≡◌, ℕ, Bool, true, false, List, [], ◌∷◌, replicate, refl, Option, Some, None, pos, negsuc}
+use Rattle.std.specs.Prelude.{codes, ◌==◌, if◌then◌else◌}
+use Rattle.pr_base.specs.declared.errno.Errno.TheVariants.{EPERM, ENOENT, EBADF, ECHILD, ENOMEM, EACCES, EFAULT, EBUSY, EEXIST, EXDEV, ENOTDIR, EISDIR, EINVAL, ENOTTY, EFBIG, ESPIPE, ERANGE, ENOTEMPTY, ELOOP}
 use Rattle.pr_base.specs.declared.path.Last.TheVariants as last
-use Rattle.rv_mem.specs.Actions.{Action, Done, MayUse, ReadBytes, WriteBytes}
+use Rattle.rv_mem.specs.Actions.{Done, MayUse, ReadBytes, WriteBytes}
 use Rattle.kr_calls.specs.declared.request.Request.{Request}
 use Rattle.kr_calls.specs.declared.request.Request.TheVariants as call
 use Rattle.kr_inode.specs.declared.standing.Standing.{Standing}
-use Rattle.kr_inode.specs.declared.user.User.{User}
-use Rattle.kr_tree.specs.Tree.{Node, Body, Directory, RegularFile, SymbolicLink, ProcessDirectory}
-use Rattle.kr_tree.specs.declared.place.Host.{Host}
+use Rattle.kr_tree.specs.Tree.{Body, Directory, RegularFile, SymbolicLink, ProcessDirectory}
 use Rattle.kr_tree.specs.declared.place.Host.TheVariants as host
-use Rattle.kr_tree.specs.declared.place.ProcAt.TheVariants.{SelfLink, Dir as OfProcess, Cwd, FdDir}
+use Rattle.kr_tree.specs.declared.place.ProcAt.TheVariants.{Cwd}
 use Rattle.kr_files.specs.declared.opened.Opened.{Opened}
 use Rattle.kr_files.specs.declared.opened.What.{What}
-use Rattle.kr_files.specs.declared.opened.What.TheVariants.{File, Dir, In, Out, Err, PipeRead, PipeWrite}
-use Rattle.kr_model.specs.Change.{Change, AddNode, LinkNode, RemoveName, MoveName, SetMode, SetOwner, SetSize, WriteFile, CloseDescriptor, SetCloexec, Seek, SetAppend, TakeFromPipe, PutIntoPipe, TakeInput, WriteOut, ChangeDirectory, SetUmask, Fork, Reap, OfFound, OfDescriptor}
-use Rattle.kr_model.specs.Known.{Known, Caller, Fact, Family}
+use Rattle.kr_files.specs.declared.opened.What.TheVariants.{File, Dir, In, Out, PipeRead, PipeWrite}
+use Rattle.kr_model.specs.Change.{AddNode, LinkNode, RemoveName, MoveName, SetMode, SetOwner, SetSize, WriteFile, CloseDescriptor, SetCloexec, Seek, SetAppend, TakeFromPipe, PutIntoPipe, TakeInput, WriteOut, ChangePages, UnmapPages, ProtectPages, SetBreak, ChangeDirectory, SetUmask, Reap, OfFound, OfDescriptor}
+use Rattle.kr_model.specs.Known.{Known, Fact}
+use Rattle.kr_model.specs.MemoryRows.{mapped_among}
 use Rattle.kr_model.specs.NameRows.{is_within}
 use Rattle.kr_model.specs.Operation.{operation}
-use Rattle.kr_model.specs.Reply.{Reply, Replying, answers, refusal, waits, ends, done}
-use Rattle.kr_model.specs.Seen.{Seen, Looked, Taken, Made, NoPath, WalkFails, LooksUp, ReadsLink, Opens, OpensFound, OpensNoName, TakesEntry, TakesNoName, TakesCovered, Takes, MakesEntry, MakesNoName, MakesOver, Makes, Links, Moves, NamesDirectory}
+use Rattle.kr_model.specs.Reply.{Reply, Replying, answers, refusal, waits, ends}
+use Rattle.kr_model.specs.Seen.{Seen, Taken, Made, NoPath, WalkFails, LooksUp, ReadsLink, Opens, OpensFound, OpensNoName, TakesEntry, TakesNoName, TakesCovered, Takes, MakesEntry, MakesOver, Makes, Links, Moves, NamesDirectory}
 
 -- ---- a small machine
 
@@ -515,3 +513,21 @@ getgroups_of_a_negative_size = refl
 
 setgroups_is_refused : ends_in (call.Setgroups (pos 0) 0) (NoPath) ≡ refusal EPERM
 setgroups_is_refused = refl
+
+-- ---- memory
+
+brk_below_the_start : ends_in (call.Brk 0) (NoPath) ≡ answers 0x31000 []
+brk_below_the_start = refl
+
+brk_back : ends_in (call.Brk 0x30800) (NoPath) ≡ answers 0x30800 (ChangePages (UnmapPages 0x31 0) ∷ SetBreak 0x30800 ∷ [])
+brk_back = refl
+
+mmap_outside_the_places : ends_in (call.Mmap 0x1000 0x1000 3 0x32) (NoPath) ≡ refusal ENOMEM
+mmap_outside_the_places = refl
+
+munmap_rounds_up : ends_in (call.Munmap 0x1000 0x1001) (NoPath) ≡ answers 0 (ChangePages (UnmapPages 1 2) ∷ [])
+munmap_rounds_up = refl
+
+mprotect_of_no_bytes : ends_in (call.Mprotect 0x1000 0 5) (NoPath) ≡ answers 0 (ChangePages (ProtectPages 1 0 (record { r = true; w = false; x = true })) ∷ [])
+unfolding mapped_among
+mprotect_of_no_bytes = refl

@@ -1,13 +1,11 @@
 -- A call that answers an error has changed nothing and written nothing.
-use Rattle.std.specs.FinMap as map
-use Rattle.std.proofs.Common.{◌≡◌, ◌≢◌, ℕ, zero, suc, Bool, true, false, List, [], ◌∷◌, refl, sym, ap, ◌∙◌, arith, cond, Option, Some, None, ℤ, pos, negsuc}
+use Rattle.std.proofs.Common.{◌≡◌, ◌≢◌, ℕ, Bool, true, false, List, [], refl, ap, arith, cond, Option, Some, None, ℤ}
 use Rattle.std.specs.Prelude.{unsigned_abs}
 use Rattle.std.specs.Option.{option_map_or}
 use Rattle.pr_base.specs.declared.errno.Errno.{Errno}
 use Rattle.pr_base.specs.declared.errno.Errno.TheVariants.{EPERM, ENOENT, ESRCH, E2BIG, ENOEXEC, EBADF, ECHILD, EAGAIN, ENOMEM, EACCES, EFAULT, EBUSY, EEXIST, EXDEV, ENOTDIR, EISDIR, EINVAL, EMFILE, ENOTTY, EFBIG, ENOSPC, ESPIPE, EPIPE, ERANGE, ENAMETOOLONG, ENOSYS, ENOTEMPTY, ELOOP}
-use Rattle.pr_base.specs.Errno.{errno_number}
 use Rattle.rv_mem.specs.declared.rights.Use.{Use}
-use Rattle.rv_mem.specs.Actions.{Action, Done, MayUse, ReadBytes, WriteBytes, carried_out, allows_uses}
+use Rattle.rv_mem.specs.Actions.{MayUse, ReadBytes, WriteBytes, carried_out, allows_uses}
 use Rattle.rv_mem.specs.Memory.{Memory, with_pages, after_read}
 use Rattle.rv_mem.specs.Pages.{written, bytes_from}
 use Rattle.kr_files.specs.declared.opened.Opened.{Opened}
@@ -15,7 +13,7 @@ use Rattle.kr_model.specs.declared.outcome.Outcome.{Outcome}
 use Rattle.kr_model.specs.declared.outcome.Outcome.TheVariants.{Answer}
 use Rattle.kr_model.specs.Change.{Change}
 use Rattle.kr_model.specs.Known.{Known}
-use Rattle.kr_model.specs.Reply.{Reply, Replying, answers, refusal, done, refuse, waits, ends, is_refusal, unbuilt}
+use Rattle.kr_model.specs.Reply.{Replying, refusal, done, refuse, waits, ends, is_refusal, unbuilt}
 use Rattle.kr_model.specs.Asking.{or_closed, of_number, or_badf, descriptor_number}
 
 -- ---- errors

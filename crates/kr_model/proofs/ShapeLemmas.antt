@@ -1,17 +1,16 @@
 -- What is reached from the root stays where what has a name does.
-use Rattle.std.specs.FinMap as map
-use Rattle.std.proofs.Common.{◌≡◌, ℕ, zero, suc, ◌+◌, ◌<◌, ◌≤◌, Bool, true, false, List, [], ◌∷◌, refl, sym, ap, ◌∙◌, subst, arith, cond, Option, Some, None}
+use Rattle.std.proofs.Common.{◌≡◌, ℕ, ◌<◌, Bool, true, false, List, [], ◌∷◌, refl, sym, ap, ◌∙◌, subst, arith, Option, Some, None}
 use Rattle.std.specs.Option.{option_map, option_map_or, option_and_then}
-use Rattle.kr_tree.specs.Tree.{Tree, Inode, Inodes, Node, Entry, Body, Directory, RegularFile, SymbolicLink, ProcessDirectory, root, inode, entry, entries, entries_of, entry_named, body_without_bytes}
+use Rattle.kr_tree.specs.Tree.{Tree, Inode, Node, Entry, Body, Directory, RegularFile, SymbolicLink, ProcessDirectory, root, inode, entry, entries, entries_of, entry_named, body_without_bytes}
 use Rattle.kr_tree.specs.Changes as tree
-use Rattle.kr_tree.specs.Lawful.{IsKept, IsIn, count_in, names_of}
+use Rattle.kr_tree.specs.Lawful.{IsKept, count_in, names_of}
 use Rattle.kr_tree.specs.Names.{named}
 use Rattle.kr_tree.proofs.CountLemmas.{sum-at, in-counted, entries_there}
 use Rattle.kr_tree.proofs.EntryLemmas.{entered}
 use Rattle.kr_files.specs.Descriptors.{Named}
 use Rattle.kr_model.specs.State.{Process, State, process, named as descriptor}
 use Rattle.kr_model.specs.Change.{Change, AddNode, LinkNode, RemoveName, MoveName, SetMode, SetOwner, SetSize, WriteFile, OpenFile, CopyDescriptor, CloseDescriptor, SetCloexec, Seek, SetAppend, MakePipe, TakeFromPipe, PutIntoPipe, TakeInput, WriteOut, WriteErr, ChangePages, SetBreak, SetUmask, ChangeDirectory, Fork, End, Reap, ReplaceImage, ReplaceExecutable, CloseOnExec}
-use Rattle.kr_model.specs.Applied.{Computing, Mounts, applied, mount_of, open_in, copy_over, moved_to, forked_from, executed, on_opened_of}
+use Rattle.kr_model.specs.Applied.{Computing, Mounts, applied, mount_of, open_in, copy_over, moved_to, forked_from, executed}
 use Rattle.kr_model.specs.Judged.{alters_shape, alters_bytes, without_bytes, IsReachedStill}
 use Rattle.kr_model.proofs.StayLemmas.{Stay, stay, stay_with, stay_open, stay_close, stay_copy_over, stay_moved, stay_executed, stay_forked, stay_close_on_exec, stay_end}
 

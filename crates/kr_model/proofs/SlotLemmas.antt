@@ -1,16 +1,15 @@
 -- Slots stay where a change leaves them.
 use Rattle.std.specs.FinMap as map
-use Rattle.std.proofs.Common.{◌≡◌, ℕ, Bool, true, false, List, [], ◌∷◌, refl, sym, ap, ◌∙◌, cond, Option, Some, None}
+use Rattle.std.proofs.Common.{◌≡◌, ℕ, Bool, true, false, List, [], refl, sym, ap, ◌∙◌, cond, Option, Some, None}
 use Rattle.std.specs.Prelude.{◌==◌, map as map_list}
 use Rattle.std.specs.List.{find}
 use Rattle.std.specs.Option.{option_map, option_map_or, option_and_then}
 use Rattle.pr_base.specs.Maps.{changed}
 use Rattle.pr_base.proofs.MapLemmas.{by_key, get-changed_same, get-changed_other}
-use Rattle.kr_tree.specs.declared.place.Place.{Place}
 use Rattle.kr_files.specs.Descriptors.{Meanings, Named}
 use Rattle.kr_model.specs.State.{Process, State, process, named, is_pid, at_pid, with_process, with_descs}
 use Rattle.kr_model.specs.Change.{Change, AddNode, LinkNode, RemoveName, MoveName, SetMode, SetOwner, SetSize, WriteFile, OpenFile, CopyDescriptor, CloseDescriptor, SetCloexec, Seek, SetAppend, MakePipe, TakeFromPipe, PutIntoPipe, TakeInput, WriteOut, WriteErr, ChangePages, SetBreak, SetUmask, ChangeDirectory, Fork, End, Reap, ReplaceImage, ReplaceExecutable, CloseOnExec}
-use Rattle.kr_model.specs.Applied.{Computing, Mounts, applied, with_living, exe_remembers, with_exe_name, exe_after_removal, exe_after_rename, with_image, with_brk, with_umask, with_program}
+use Rattle.kr_model.specs.Applied.{Computing, Mounts, applied, exe_remembers, with_exe_name, exe_after_removal, exe_after_rename, with_image, with_brk, with_umask, with_program}
 use Rattle.kr_model.specs.Judged.{alters_slots, HasSlots}
 use Rattle.kr_model.proofs.BareLemmas.{found-mapped}
 

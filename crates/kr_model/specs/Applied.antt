@@ -9,6 +9,7 @@ use Rattle.std.specs.Prelude.{slice_set}
 use Rattle.rv_mem.specs.declared.regs.Regs.{Regs}
 use Rattle.rv_mem.specs.Memory as memory
 use Rattle.rv_mem.specs.Pages as pages
+use Rattle.rv_mem.specs.Layout.{laid}
 use Rattle.kr_tree.specs.Tree.{Tree}
 use Rattle.kr_tree.specs.Changes as tree
 use Rattle.kr_tree.specs.declared.place.Host.{Host}
@@ -54,11 +55,6 @@ images = record {
   };
   loaded = λ image. image;
 }
-
--- n pages from a number on with these rights
-unfoldable pub laid : Layout → ℕ → ℕ → (Layout → ℕ → Layout) → Layout
-laid m first zero f = m
-laid m first (suc n) f = f (laid m first n f) (first + n)
 
 abbrev pub layout_after : PageChange → Layout → Layout
 layout_after (MapPages first count rights) m = laid m first count (λ m k. map.insert m k rights)

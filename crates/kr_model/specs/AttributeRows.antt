@@ -1,9 +1,8 @@
 -- Calls on the attributes of a file: rights, mode, owner, stat(2) and the text of a link, each in the order of its tests
 -- (section 2 of the manual; the order is our own).
-use Rattle.std.specs.Prelude.{ℕ, ◌+◌, ◌-◌, ◌/◌, ◌%◌, ◌*◌, ◌==◌, ◌&&◌, ◌||◌, ◌++◌, not, Bool, true, false, List, [], ◌∷◌, length, take, nat_eq, Option, Some, None, ℤ, pos, negsuc, unsigned_abs, if◌then◌else◌}
+use Rattle.std.specs.Prelude.{ℕ, ◌+◌, ◌%◌, ◌==◌, ◌&&◌, ◌||◌, not, Bool, true, false, List, [], ◌∷◌, length, take, Option, Some, None, ℤ, unsigned_abs, if◌then◌else◌}
 use Rattle.std.specs.Int.{div_ceil}
 use Rattle.std.specs.Option.{option_map_or}
-use Rattle.pr_base.specs.declared.errno.Errno.{Errno}
 use Rattle.pr_base.specs.declared.errno.Errno.TheVariants.{EPERM, ENOENT, EBADF, EACCES, EFAULT, EINVAL}
 use Rattle.rv_mem.specs.Actions.{write_if_allowed}
 use Rattle.kr_calls.specs.Arguments.{has}
@@ -12,13 +11,12 @@ use Rattle.kr_calls.specs.declared.stat.Stat.{Stat}
 use Rattle.kr_inode.specs.declared.user.User.{User}
 use Rattle.kr_inode.specs.declared.user.Right.{Right}
 use Rattle.kr_inode.specs.declared.user.Right.TheVariants.{Read, Write, Search}
-use Rattle.kr_inode.specs.declared.standing.Standing.{Standing}
 use Rattle.kr_tree.specs.Tree.{Node, Body, Directory, RegularFile, SymbolicLink, ProcessDirectory}
 use Rattle.kr_tree.specs.Rights.{allows}
 use Rattle.kr_tree.specs.declared.place.Host.{Host}
 use Rattle.kr_tree.specs.declared.place.Host.TheVariants as host
 use Rattle.kr_tree.specs.declared.place.ProcAt.{ProcAt}
-use Rattle.kr_tree.specs.declared.place.ProcAt.TheVariants.{SelfLink, Dir, Cwd, Root, Exe, FdDir, Fd}
+use Rattle.kr_tree.specs.declared.place.ProcAt.TheVariants.{Dir, FdDir}
 use Rattle.kr_view.specs.Component.{is_process_directory}
 use Rattle.kr_procfs.specs.Objects.{inode_number}
 use Rattle.kr_files.specs.declared.opened.Opened.{Opened}

@@ -1,10 +1,9 @@
 -- Calls on descriptors, each in the order of its tests (section 2 of the manual; the order is our own). Where a
 -- descriptor is named, EBADF comes first.
 use Rattle.std.specs.FinMap as map
-use Rattle.std.specs.Prelude.{ℕ, zero, suc, ◌+◌, ◌%◌, ◌==◌, ◌||◌, ◌++◌, Bool, true, false, List, [], ◌∷◌, length, nat_lt, nat_le, Option, Some, None, ℤ, pos, negsuc, ◌+ℤ◌, if◌then◌else◌}
+use Rattle.std.specs.Prelude.{ℕ, zero, suc, ◌+◌, ◌%◌, ◌==◌, ◌++◌, Bool, true, false, List, [], ◌∷◌, length, nat_lt, nat_le, Option, Some, None, ℤ, pos, negsuc, ◌+ℤ◌, if◌then◌else◌}
 use Rattle.std.specs.Int.{to_le_bytes, w32}
 use Rattle.std.specs.Option.{option_map_or}
-use Rattle.pr_base.specs.declared.errno.Errno.{Errno}
 use Rattle.pr_base.specs.declared.errno.Errno.TheVariants.{EBADF, EFAULT, EINVAL, EMFILE, ENOTTY, ESPIPE}
 use Rattle.rv_mem.specs.Actions.{write_if_allowed}
 use Rattle.kr_calls.specs.Arguments.{has}

@@ -1,13 +1,11 @@
 -- Calls that read directories and change to them, each in the order of its tests (section 2 of the manual; the order is
 -- our own).
-use Rattle.std.specs.Prelude.{ℕ, zero, suc, ◌+◌, ◌-◌, ◌==◌, ◌&&◌, ◌++◌, not, Bool, true, false, List, [], ◌∷◌, length, nat_lt, nat_le, codes, map as map_list, Option, Some, None, ℤ, pos, negsuc, if◌then◌else◌}
+use Rattle.std.specs.Prelude.{ℕ, ◌+◌, ◌-◌, ◌==◌, ◌++◌, not, List, [], ◌∷◌, length, nat_lt, nat_le, codes, map as map_list, Option, Some, None, ℤ, pos, negsuc, if◌then◌else◌}
 use Rattle.std.specs.List.{filter, find}
 use Rattle.std.specs.Option.{option_map_or}
-use Rattle.pr_base.specs.declared.errno.Errno.{Errno}
 use Rattle.pr_base.specs.declared.errno.Errno.TheVariants.{EPERM, ENOENT, EACCES, EFAULT, ENOTDIR, EINVAL, ERANGE}
 use Rattle.rv_mem.specs.Actions.{write_if_allowed}
 use Rattle.kr_calls.specs.DirectoryEntries.{record_length, entry_bytes}
-use Rattle.kr_inode.specs.declared.standing.Standing.{Standing}
 use Rattle.kr_tree.specs.Tree.{Entry, Body, Directory, RegularFile, SymbolicLink, ProcessDirectory}
 use Rattle.kr_tree.specs.declared.place.Host.{Host}
 use Rattle.kr_tree.specs.declared.place.Host.TheVariants.{Node, Proc}
@@ -15,10 +13,9 @@ use Rattle.kr_tree.specs.declared.place.ProcAt.{ProcAt}
 use Rattle.kr_tree.specs.declared.place.ProcAt.TheVariants.{SelfLink, Dir, Cwd, Root, Exe, FdDir, Fd}
 use Rattle.kr_view.specs.Component.{is_process_directory}
 use Rattle.kr_procfs.specs.Objects.{own_name, inode_number, serial}
-use Rattle.kr_files.specs.declared.opened.Opened.{Opened}
 use Rattle.kr_model.specs.Asking.{or_badf, is_directory_host, is_searched, is_over}
-use Rattle.kr_model.specs.Change.{MountOf, OfFound, OfDescriptor, ChangeDirectory, Seek}
-use Rattle.kr_model.specs.Known.{Known, Family, known_node}
+use Rattle.kr_model.specs.Change.{OfFound, OfDescriptor, ChangeDirectory, Seek}
+use Rattle.kr_model.specs.Known.{Known, known_node}
 use Rattle.kr_model.specs.Reply.{Replying, done, refuse}
 use Rattle.kr_model.specs.Seen.{Looked}
 

@@ -1,11 +1,9 @@
 -- Reading, writing, cutting and opening of files, each in the order of its tests (section 2 of the manual; the order
 -- is our own).
-use Rattle.std.specs.Prelude.{ℕ, ◌+◌, ◌-◌, ◌%◌, ◌==◌, ◌&&◌, ◌||◌, min, not, Bool, true, false, List, [], ◌∷◌, length, take, drop, nat_lt, nat_le, Option, Some, None, ℤ, if◌then◌else◌}
-use Rattle.std.specs.Int.RustNames.{bit_and}
+use Rattle.std.specs.Prelude.{ℕ, ◌+◌, ◌-◌, ◌%◌, ◌==◌, ◌&&◌, ◌||◌, not, Bool, true, false, List, [], ◌∷◌, length, take, drop, nat_lt, nat_le, Option, Some, None, ℤ, if◌then◌else◌}
 use Rattle.std.specs.Option.{option_map_or}
-use Rattle.pr_base.specs.declared.errno.Errno.{Errno}
 use Rattle.pr_base.specs.declared.errno.Errno.TheVariants.{ENOENT, EBADF, EACCES, EEXIST, ENOTDIR, EISDIR, EINVAL, EMFILE, EFBIG, ENOSPC, ELOOP}
-use Rattle.rv_mem.specs.declared.rights.Use.TheVariants.{Read, Write}
+use Rattle.rv_mem.specs.declared.rights.Use.TheVariants.{Read}
 use Rattle.kr_calls.specs.Arguments.{has}
 use Rattle.kr_inode.specs.declared.user.Right.TheVariants.{Read as ReadRight, Write as WriteRight}
 use Rattle.kr_tree.specs.Tree.{Node, Body, Directory, RegularFile, SymbolicLink, ProcessDirectory}

@@ -1,6 +1,6 @@
 -- Calls on the numbers of the user and its groups, as an unprivileged process has them: real, effective and saved are
 -- one (section 2 of the manual; the order of tests is our own).
-use Rattle.std.specs.Prelude.{ℕ, ◌==◌, ◌&&◌, ◌||◌, not, Bool, true, List, [], ◌∷◌, ℤ, pos, negsuc, zero, suc, if◌then◌else◌}
+use Rattle.std.specs.Prelude.{ℕ, ◌==◌, ◌&&◌, ◌||◌, Bool, [], ◌∷◌, ℤ, pos, negsuc, zero, suc, if◌then◌else◌}
 use Rattle.std.specs.Int.{to_le_bytes, w32}
 use Rattle.pr_base.specs.declared.errno.Errno.TheVariants.{EPERM, EFAULT, EINVAL}
 use Rattle.rv_mem.specs.Actions.{MayUse, WriteBytes, write_if_allowed}

@@ -1,8 +1,9 @@
 -- What is asked of a call by its changes alone, and what stays where a change isn't judged to alter it.
-use Rattle.std.specs.Prelude.{◌≡◌, ℕ, Bool, true, false, not, List, Option, Some}
+use Rattle.std.specs.Prelude.{◌≡◌, ◌<◌, ℕ, Bool, true, false, not, List, Some}
 use Rattle.std.specs.List.{list_all}
 use Rattle.std.specs.Option.{option_map}
 use Rattle.kr_tree.specs.Tree.{Tree, Node, node, body_without_bytes}
+use Rattle.kr_tree.specs.Holds.{names_at}
 use Rattle.kr_tree.specs.Lawful.{IsKept}
 use Rattle.kr_tree.specs.Names.{named}
 use Rattle.kr_model.specs.Applied.{Computing, Mounts, applied, cwd_of, exe_of}
@@ -53,6 +54,12 @@ is_quiet (End status) = false
 is_quiet (ReplaceExecutable from host dir name) = false
 is_quiet _ = true
 
+-- whether it takes a name away; each other change leaves a name to what has one
+abbrev pub takes_name : Change → Bool
+takes_name (RemoveName dir name) = true
+takes_name (MoveName dir name to new) = true
+takes_name _ = false
+
 -- of all changes of a call
 abbrev pub leaves_shape : List Change → Bool
 leaves_shape cs = list_all (λ c. not (alters_shape c)) cs
@@ -92,6 +99,12 @@ pub record ChangesLeave {M X : Type 0} (computing : Computing X) (mounts : Mount
   pub shape : IsKept s.tree → alters_shape c ≡ false → HasShape s.tree (applied computing mounts pid c s).tree
   pub bytes : IsKept s.tree → alters_shape c ≡ false → alters_bytes c ≡ false → IsReachedStill (λ n. n) s.tree (applied computing mounts pid c s).tree
   pub slots : alters_slots c ≡ false → HasSlots s (applied computing mounts pid c s)
+
+-- and what has a name keeps one: so the sources of mounts do
+abbrev pub NamesStay : Type 0 → Type 0 → Type 0
+NamesStay M X =
+    (computing : Computing X) (mounts : Mounts M) (pid : ℕ) (c : Change) (s : State M X) → takes_name c ≡ false
+    → (i : ℕ) → 0 < names_at s.tree i → 0 < names_at (applied computing mounts pid c s).tree i
 
 abbrev pub ChangesAreJudged : Type 0 → Type 0 → Type 0
 ChangesAreJudged M X = (computing : Computing X) (mounts : Mounts M) (pid : ℕ) (c : Change) (s : State M X) → ChangesLeave computing mounts pid c s

@@ -1,6 +1,7 @@
--- What holds of every state that a view's mounts see, whatever calls were made.
+-- What holds of every state that a view's mounts see, whatever calls were made. Machines name mounts in their own way;
+-- `number` says which row of the view's table a mount is.
 use Rattle.std.specs.FinMap as map
-use Rattle.std.specs.Prelude.{◌≡◌, ◌≢◌, ℕ, suc, ◌+◌, ◌≤◌, ◌<◌, Bool, true, false, List, [], ◌∷◌, length, map as map_list, ◌==◌, Option, Some, IsSome}
+use Rattle.std.specs.Prelude.{◌≡◌, ◌≢◌, ℕ, suc, ◌+◌, ◌≤◌, ◌<◌, Bool, true, false, List, [], ◌∷◌, length, map as map_list, ◌==◌, Some, IsSome}
 use Rattle.std.specs.List.{list_any}
 use Rattle.pr_base.specs.Paths.{IsName}
 use Rattle.rv_mem.specs.Pages.{IsWhole, IsPlaced}
@@ -12,6 +13,7 @@ use Rattle.kr_tree.specs.declared.place.Place.{Place}
 use Rattle.kr_view.specs.View.{Row, is_there, StandsIn}
 use Rattle.kr_view.specs.Component.{is_directory_at}
 use Rattle.kr_view.specs.InTree.{IsPlaceOf}
+use Rattle.kr_view.specs.Leads.{numbered}
 use Rattle.kr_files.specs.declared.opened.Opened.{Opened}
 use Rattle.kr_files.specs.declared.opened.What.TheVariants.{PipeRead, PipeWrite}
 use Rattle.kr_files.specs.Descriptors.{Named}
@@ -35,8 +37,8 @@ IsNameOrNone name = name ≢ [] → IsName name
 -- ---- open files
 
 -- an open file has a place exactly where it is a file or directory of the view in the tree, and then one of that kind
-pub record IsOpenIn (t : Tree) (table : List Row) (o : Opened ℕ) : Type 0 where
-  pub placed : (p : Place ℕ) → o.place ≡ Some p → IsPlaceOf t table p × (is_directory_at t p.host ≡ is_dir o.what) × (is_file_at t p.host ≡ is_file_open o.what)
+pub record IsOpenIn {M : Type 0} (number : M → ℕ) (t : Tree) (table : List Row) (o : Opened M) : Type 0 where
+  pub placed : (p : Place M) → o.place ≡ Some p → IsPlaceOf t table (numbered number p) × (is_directory_at t p.host ≡ is_dir o.what) × (is_file_at t p.host ≡ is_file_open o.what)
   pub files : is_file_open o.what ≡ true → is_there o.place ≡ true
   pub directories : is_dir o.what ≡ true → (is_there o.place ≡ true) × (o.dir ≡ 0) × (o.name ≡ [])
   pub others : is_file_open o.what ≡ false → is_dir o.what ≡ false → is_there o.place ≡ false
@@ -65,9 +67,9 @@ pub record ArePids {M X : Type 0} (s : State M X) : Type 0 where
   pub few : length s.living + length s.ended ≤ most_processes
 
 -- the working directory is a directory of the view in the tree, and the executable a file
-pub record IsProcessIn (t : Tree) (table : List Row) (p : Process ℕ Image) : Type 0 where
-  pub cwd : IsPlaceOf t table p.cwd × (is_directory_at t p.cwd.host ≡ true)
-  pub exe : IsPlaceOf t table p.exe × (is_file_at t p.exe.host ≡ true)
+pub record IsProcessIn {M : Type 0} (number : M → ℕ) (t : Tree) (table : List Row) (p : Process M Image) : Type 0 where
+  pub cwd : IsPlaceOf t table (numbered number p.cwd) × (is_directory_at t p.cwd.host ≡ true)
+  pub exe : IsPlaceOf t table (numbered number p.exe) × (is_file_at t p.exe.host ≡ true)
   pub exe_name : IsNameOrNone p.exe_name
   pub breaks : (p.brk_start ≤ p.brk) × (p.brk ≤ pages_end)
   pub whole : IsWhole p.image.memory.pages
@@ -76,11 +78,11 @@ pub record IsProcessIn (t : Tree) (table : List Row) (p : Process ℕ Image) : T
 
 -- ---- the state
 
-pub record IsLawful (table : List Row) (s : State ℕ Image) : Type 0 where
+pub record IsLawful {M : Type 0} (number : M → ℕ) (table : List Row) (s : State M Image) : Type 0 where
   pub tree : IsKept s.tree
   pub mounts : StandsIn s.tree table
-  pub processes : (pid : ℕ) (p : Process ℕ Image) → process pid s ≡ Some p → IsProcessIn s.tree table p
-  pub files : (n : ℕ) (o : Opened ℕ) → file_at s.files n ≡ Some o → IsOpenIn s.tree table o
+  pub processes : (pid : ℕ) (p : Process M Image) → process pid s ≡ Some p → IsProcessIn number s.tree table p
+  pub files : (n : ℕ) (o : Opened M) → file_at s.files n ≡ Some o → IsOpenIn number s.tree table o
   pub pipes : HasPipes s.files
   -- every descriptor is below 1,024 and names an open file
   pub descriptors : (pid fd : ℕ) (x : Named) → named pid fd s ≡ Some x → (fd < 1024) × IsSome (file_at s.files x.number)

@@ -1,5 +1,5 @@
 -- What two machines with equal bare states have in common.
-use Rattle.std.specs.Prelude.{◌≡◌, ◌≢◌, ℕ, true, false, []}
+use Rattle.std.specs.Prelude.{◌≡◌, ◌≢◌, ℕ, true, false, List, [], ◌∷◌}
 use Rattle.pr_base.specs.declared.errno.Errno.TheVariants.{ENOSYS}
 use Rattle.rv_mem.specs.Memory.{Memory}
 use Rattle.rv_mem.specs.Pages.{Pages}
@@ -7,10 +7,12 @@ use Rattle.rv_mem.specs.Actions.{carried_out, AreEqualUnmarked}
 use Rattle.kr_calls.specs.declared.request.Request.{Request}
 use Rattle.kr_model.specs.State.{State, Image, image_layout}
 use Rattle.kr_model.specs.Change.{Change, PageChange, Birth}
-use Rattle.kr_model.specs.Applied.{Mounts, applied, layouts, images, pages_after}
+use Rattle.kr_model.specs.Applied.{Computing, Mounts, applied, all_applied, layouts, images, pages_after}
 use Rattle.kr_model.specs.Operation.{operation}
 use Rattle.kr_model.specs.Reply.{is_refusal, unbuilt}
 use Rattle.kr_model.specs.Seen.{Seen, WalkFails}
+use Rattle.kr_model.specs.Walks.{seen as seen_of_paths}
+use Rattle.kr_view.specs.View.{Row}
 use Rattle.kr_model.specs.Bare.{bare, bare_mounts, ArePinned}
 use Rattle.kr_model.specs.Known.{Known, known}
 
@@ -26,6 +28,17 @@ ChangesAreBare M =
     (pins : ℕ → ℕ) (mounts : Mounts M) (pid : ℕ) (c : Change) (s : State M Image)
     → ArePinned pins s.tree → ArePinned pins (applied images mounts pid c s).tree
     → bare image_layout pins (applied images mounts pid c s) ≡ applied layouts (bare_mounts mounts) pid c (bare image_layout pins s)
+
+-- the mounts' sources are held and have names before each of some changes, and after the last
+abbrev pub ArePinnedAlong : {M X : Type 0} → (ℕ → ℕ) → Computing X → Mounts M → ℕ → List Change → State M X → Type 0
+ArePinnedAlong pins computing mounts pid [] s = ArePinned pins s.tree
+ArePinnedAlong pins computing mounts pid (c ∷ cs) s = ArePinned pins s.tree × ArePinnedAlong pins computing mounts pid cs (applied computing mounts pid c s)
+
+-- and so do all changes of a call, in their order
+abbrev pub AllChangesAreBare : Type 0 → Type 0
+AllChangesAreBare M =
+    (pins : ℕ → ℕ) (mounts : Mounts M) (pid : ℕ) (cs : List Change) (s : State M Image) → ArePinnedAlong pins images mounts pid cs s
+    → bare image_layout pins (all_applied images mounts pid cs s) ≡ all_applied layouts (bare_mounts mounts) pid cs (bare image_layout pins s)
 
 -- what two machines with equal bare states and equal facts are answered. Where the first one's call reads no marked
 -- byte, the outcomes and the changes are the same, and the memories stay equal but for marked bytes
@@ -43,7 +56,7 @@ pub record PagesStayAlike : Type 0 where
   pub born : (b : Birth) (x y : Image) → AreEqualUnmarked x.memory.pages y.memory.pages → AreEqualUnmarked (images.born b x).memory.pages (images.born b y).memory.pages
 
 -- a call that answers an error has changed nothing and written nothing, and the error is ENOSYS only where that is told
--- of its walk, which no walk answers
+-- of its paths
 abbrev pub RefusalsChangeNothing : Type 0
 RefusalsChangeNothing =
     (pid : ℕ) (r : Request) (seen : Seen) (k : Known) (m : Memory) → seen ≢ WalkFails ENOSYS
@@ -51,3 +64,7 @@ RefusalsChangeNothing =
     → ((carried_out (operation pid r seen k) m).reply.changes ≡ [])
     × ((carried_out (operation pid r seen k) m).memory.pages ≡ m.pages)
     × ((carried_out (operation pid r seen k) m).reply.outcome ≢ unbuilt)
+
+-- which it never is
+abbrev pub NoWalkAnswersEnosys : Type 0 → Type 0
+NoWalkAnswersEnosys X = (table : List Row) (pid : ℕ) (s : State ℕ X) (r : Request) → seen_of_paths table pid s r ≢ WalkFails ENOSYS

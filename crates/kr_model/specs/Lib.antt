@@ -2,6 +2,7 @@ pub mod State
 pub mod Change
 pub mod Applied
 pub mod Bare
+pub mod Images
 pub mod Known
 pub mod Seen
 pub mod Reply
@@ -21,5 +22,6 @@ pub mod Uses
 pub mod ProcessDirectory
 pub mod Walks
 pub mod Lawful
+pub mod Conditions
 pub mod Judged
 pub mod Laws

@@ -1,7 +1,7 @@
 -- Calls on the caller's pages, each in the order of its tests (section 2 of the manual; the order is our own). Pages have
 -- 4,096 bytes, and lengths are rounded up to pages.
 use Rattle.std.specs.FinMap as map
-use Rattle.std.specs.Prelude.{ℕ, zero, suc, ◌+◌, ◌-◌, ◌/◌, ◌%◌, ◌==◌, ◌||◌, ◌&&◌, ◌*◌, not, Bool, true, false, List, [], ◌∷◌, nat_lt, nat_le, map as map_list, Option, Some, None, if◌then◌else◌}
+use Rattle.std.specs.Prelude.{ℕ, zero, suc, ◌+◌, ◌-◌, ◌/◌, ◌==◌, ◌||◌, ◌*◌, not, Bool, true, false, List, [], ◌∷◌, nat_lt, nat_le, map as map_list, Option, Some, None, if◌then◌else◌}
 use Rattle.std.specs.Int.{div_ceil}
 use Rattle.std.specs.Option.{option_map_or}
 use Rattle.pr_base.specs.declared.errno.Errno.TheVariants.{ENOMEM}

@@ -13,7 +13,7 @@ use Rattle.kr_model.specs.MemoryRows.{brk_row, mmap_row, munmap_row, mprotect_ro
 use Rattle.kr_model.specs.NameRows.{mkdirat_row, unlinkat_row, symlinkat_row, linkat_row, renameat2_row}
 use Rattle.kr_model.specs.ProcessRows.{pid_row, getppid_row, signals_row, umask_row, uname_row, exit_row, clone_row, wait4_row}
 use Rattle.kr_model.specs.Reply.{Replying, refuse}
-use Rattle.kr_model.specs.Seen.{Seen, Looked, Opening, Taken, Made, NoPath, WalkFails, LooksUp, ReadsLink, Opens, TakesEntry, MakesEntry, Links, Moves, NamesDirectory}
+use Rattle.kr_model.specs.Seen.{Seen, Looked, Opening, Taken, Made, WalkFails, LooksUp, ReadsLink, Opens, TakesEntry, MakesEntry, Links, Moves, NamesDirectory}
 
 -- ---- the facts that a call uses: the error of its walk, or what it was told. Others aren't given to it
 

@@ -1,6 +1,6 @@
 -- Bytes that a call moves between itself and pieces of the caller's memory, as readv(2) and writev(2) give them; read(2)
 -- and write(2) have one piece.
-use Rattle.std.specs.Prelude.{ℕ, zero, suc, ◌+◌, ◌-◌, ◌*◌, ◌==◌, ◌&&◌, ◌++◌, min, Bool, true, false, List, [], ◌∷◌, length, take, drop, sum, map as map_list, nat_lt, if◌then◌else◌}
+use Rattle.std.specs.Prelude.{ℕ, zero, suc, ◌-◌, ◌*◌, ◌&&◌, ◌++◌, min, Bool, true, List, [], ◌∷◌, length, take, drop, sum, map as map_list, nat_lt, if◌then◌else◌}
 use Rattle.std.specs.Int.{from_le_bytes, w64}
 use Rattle.pr_base.specs.declared.errno.Errno.TheVariants.{EFAULT, EINVAL}
 use Rattle.rv_mem.specs.Actions.{MayUse, ReadBytes, WriteBytes, read_if_allowed}

@@ -10,7 +10,7 @@ use Rattle.kr_tree.specs.declared.place.ProcAt.TheVariants.{SelfLink, Dir, Cwd, 
 use Rattle.kr_view.specs.declared.procs.Lead.{Lead}
 use Rattle.kr_view.specs.declared.procs.Lead.TheVariants.{Text, Jump, Nameless, NoLink}
 use Rattle.kr_view.specs.View.{Row, root_place, is_there}
-use Rattle.kr_view.specs.Component.{Finds, Namespace, Surroundings}
+use Rattle.kr_view.specs.Component.{Namespace, Surroundings}
 use Rattle.kr_view.specs.Living.{Living, finds_among}
 use Rattle.kr_view.specs.Names.{Remembered, guest_name}
 use Rattle.kr_procfs.specs.Objects.{pipe_text, console_text}

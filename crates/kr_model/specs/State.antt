@@ -4,11 +4,9 @@ use Rattle.std.specs.FinMap as map
 use Rattle.std.specs.Prelude.{ℕ, Bool, List, ◌==◌, Option, map as map_list, if◌then◌else◌}
 use Rattle.std.specs.List.{find}
 use Rattle.std.specs.Option.{option_and_then}
-use Rattle.std.specs.Ordering.{nat_cmp}
 use Rattle.rv_mem.specs.declared.regs.Regs.{Regs}
-use Rattle.rv_mem.specs.declared.rights.Rights.{Rights}
 use Rattle.rv_mem.specs.Memory.{Memory}
-use Rattle.rv_mem.specs.Pages.{Pages}
+pub use Rattle.rv_mem.specs.Layout.{Layout, layout_of}
 use Rattle.kr_inode.specs.declared.user.User.{User}
 use Rattle.kr_tree.specs.Tree.{Tree}
 use Rattle.kr_tree.specs.declared.place.Host.{Host}
@@ -17,7 +15,6 @@ use Rattle.kr_tree.specs.declared.place.Place.{Place}
 use Rattle.kr_files.specs.declared.opened.Opened.{Opened}
 use Rattle.kr_files.specs.Descriptors.{Meanings, Named}
 use Rattle.kr_files.specs.Files.{Table, file_at}
-use Rattle.pr_base.specs.Maps.{mapped}
 
 -- ---- what a process computes on
 
@@ -25,13 +22,6 @@ use Rattle.pr_base.specs.Maps.{mapped}
 pub record Image : Type 0 where
   pub regs : Regs
   pub memory : Memory
-
--- which pages are mapped, and with which rights: what calls ask of a memory but for its bytes
-abbrev pub Layout : Type 0
-Layout = map.FinMap nat_cmp Rights
-
-abbrev pub layout_of : Pages → Layout
-layout_of m = mapped (λ n p. p.rights) m
 
 abbrev pub image_layout : Image → Layout
 image_layout image = layout_of image.memory.pages

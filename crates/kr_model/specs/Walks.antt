@@ -1,8 +1,8 @@
 -- The walks of a call over a state: from its paths to their targets, or to the error of the first that fails, and what a
 -- call is told of the targets in a view.
-use Rattle.std.specs.Prelude.{ℕ, ◌==◌, ◌&&◌, Bool, true, false, List, [], ◌∷◌, Option, Some, None, Result, Ok, Err, ℤ, if◌then◌else◌}
+use Rattle.std.specs.Prelude.{ℕ, ◌==◌, Bool, false, List, [], ◌∷◌, Option, Some, None, Result, Ok, Err, if◌then◌else◌}
 use Rattle.std.specs.Option.{option_map, option_map_or, option_and_then}
-use Rattle.pr_base.specs.Paths.{is_absolute, text_of}
+use Rattle.pr_base.specs.Paths.{is_absolute}
 use Rattle.pr_base.specs.declared.errno.Errno.{Errno}
 use Rattle.pr_base.specs.declared.errno.Errno.TheVariants.{ENOENT, EBADF, ENOTDIR}
 use Rattle.pr_base.specs.declared.path.Last.{Last}

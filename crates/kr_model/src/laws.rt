@@ -1,6 +1,7 @@
 //! Laws of the definitions, each carried by a function that does nothing.
-ghost use Rattle.kr_model.specs.Judged.{ChangesAreJudged};
-ghost use Rattle.kr_model.specs.Laws.{CallsAlike, ChangesAreBare, KnownIsBare, PagesStayAlike, RefusalsChangeNothing};
+ghost use Rattle.kr_model.specs.Images.{ProcessesStayAlike};
+ghost use Rattle.kr_model.specs.Judged.{ChangesAreJudged, NamesStay};
+ghost use Rattle.kr_model.specs.Laws.{AllChangesAreBare, CallsAlike, ChangesAreBare, KnownIsBare, NoWalkAnswersEnosys, PagesStayAlike, RefusalsChangeNothing};
 
 /// What calls ask of a state is asked of its bare part alone.
 pub fn known_is_bare<T>()
@@ -10,6 +11,11 @@ pub fn known_is_bare<T>()
 /// A change does on the bare part of a state what it does on the state.
 pub fn changes_are_bare<T>()
     ensures { ChangesAreBare T }
+{}
+
+/// And so do all changes of a call, where the mounts' sources are held and named all along.
+pub fn all_changes_are_bare<T>()
+    ensures { AllChangesAreBare T }
 {}
 
 /// Equal bare states and equal facts give equal replies, for every call.
@@ -22,13 +28,30 @@ pub fn pages_stay_alike()
     ensures { PagesStayAlike }
 {}
 
-/// A call that answers an error has changed nothing and written nothing. No call that is decoded answers ENOSYS.
+/// A call that answers an error has changed nothing and written nothing, and where it isn't told ENOSYS of its paths
+/// it doesn't answer that.
 pub fn refusals_change_nothing()
     ensures { RefusalsChangeNothing }
+{}
+
+/// No call is told ENOSYS of its paths, so no call that is decoded answers it.
+pub fn no_walk_answers_enosys<X>()
+    ensures { NoWalkAnswersEnosys X }
 {}
 
 /// A change that isn't judged to alter the shape of the tree, the bytes of files or the slots of processes leaves them
 /// as they are.
 pub fn changes_are_judged<T, X>()
     ensures { ChangesAreJudged T X }
+{}
+
+/// What has a name keeps one, unless a change takes a name away.
+pub fn names_stay<T, X>()
+    ensures { NamesStay T X }
+{}
+
+/// A change leaves the processes of two machines alike: memories that are equal but for marked bytes, and registers that
+/// are alike by a relation which a child inherits.
+pub fn processes_stay_alike<T, U>()
+    ensures { ProcessesStayAlike T U }
 {}

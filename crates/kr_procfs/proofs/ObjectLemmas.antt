@@ -1,6 +1,6 @@
 -- Names, inode numbers and serials of what stands in the process directory.
-use Rattle.std.proofs.Common.{◌≡◌, ℕ, ◌+◌, ◌*◌, ◌<◌, ◌^◌, List, [], ◌∷◌, refl, sym, ap, ◌∙◌, arith, Option, Some, None}
-use Rattle.std.specs.Prelude.{get_or, codes, Bool, true, false}
+use Rattle.std.proofs.Common.{◌≡◌, ℕ, ◌<◌, ◌^◌, List, [], ◌∷◌, refl, sym, ap, ◌∙◌, arith}
+use Rattle.std.specs.Prelude.{get_or, codes, true, false}
 use Rattle.std.specs.List.{list_all}
 use Rattle.std.specs.Fmt.{decimal}
 use Rattle.std.proofs.lemmas.Fmt.{decimal_injective}
@@ -10,7 +10,7 @@ use Rattle.kr_tree.specs.Names.{process_names}
 use Rattle.kr_view.specs.Processes.{holder, names_down_to}
 use Rattle.kr_procfs.specs.Decimals.{is_digit}
 use Rattle.kr_procfs.proofs.DecimalLemmas.{digits-decimal}
-use Rattle.kr_procfs.specs.Objects.{own_name, base, inode_number, serial, HasSmallNumbers, NamesStandForOne, FoundUnderOwnNames, FitsNumbers, InodesAreApart, SerialsRise}
+use Rattle.kr_procfs.specs.Objects.{own_name, inode_number, serial, NamesStandForOne, FoundUnderOwnNames, FitsNumbers, InodesAreApart, SerialsRise}
 
 -- ---- names
 

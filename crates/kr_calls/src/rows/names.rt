@@ -1,6 +1,6 @@
 //! Calls on names of files.
 ghost use Rattle.std.specs.Prelude.{◌≡◌};
-ghost use Rattle.kr_calls.specs.Arguments.{has, has_other};
+ghost use Rattle.kr_calls.specs.Arguments.{has_other};
 ghost use Rattle.kr_calls.specs.Decodes.{Decodes, WantsForTexts};
 ghost use Rattle.kr_calls.specs.Decoding.{mkdirat_row, mkdirat_with, unlinkat_row, unlinkat_with, symlinkat_row, symlinkat_with, link_flags, linkat_row, linkat_with, remove_flags, renameat2_row, renameat2_with, chdir_row, chroot_row, fchmodat_row, fchmodat_with, fchownat_row, fchownat_with, execve_row, execve_with};
 
@@ -114,7 +114,9 @@ pub fn execve<const M: u8>(regs: &Regs, mem: &mut Space<M>) -> Result<Request, C
     ensures wanting { WantsForTexts result (execve_row regs.now) }
     ensures pages { mem.new.pages ≡ mem.old.pages }
 {
-    match path(mem, long(regs, 0), false) {
+    // It has no flag by which an empty path could mean a descriptor.
+    let may_be_empty = false;
+    match path(mem, long(regs, 0), may_be_empty) {
         Ok(path) => Ok(execve_with(regs, path)),
         Err(fault) => Err(fault),
     }

@@ -1,5 +1,5 @@
-use Rattle.std.proofs.Common.{◌≡◌, List, ℕ, sym, ◌∙◌, subst, true, refl}
-use Rattle.kr_procfs.specs.Decimals.{is_decimal, number_named}
+use Rattle.std.proofs.Common.{◌≡◌, List, ℕ, sym, ◌∙◌, subst, true}
+use Rattle.kr_procfs.specs.Decimals.{is_decimal}
 use Rattle.kr_procfs.proofs.DecimalLemmas.{number_named-other, named-parsed, number_named-unparsed, text-decimal}
 use Rattle.kr_procfs.proofs.decimal.number_of.Goals as goal
 

@@ -1,4 +1,4 @@
-use Rattle.std.proofs.Common.{◌≡◌, ◌∙◌, false, refl, sym, ap}
+use Rattle.std.proofs.Common.{◌≡◌, ◌∙◌, false, sym, ap}
 use Rattle.kr_calls.specs.Arguments.{word, long, has_other}
 use Rattle.kr_calls.specs.Decoding.{renameat2_with}
 use Rattle.kr_calls.proofs.TwoTextLemmas.{accepted, failed, may_want}

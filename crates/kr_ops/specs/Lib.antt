@@ -1,0 +1,5 @@
+pub mod Laws
+pub mod Living
+pub mod Making
+pub mod Meaning
+pub mod Sound

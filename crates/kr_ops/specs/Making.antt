@@ -1,0 +1,10 @@
+-- What a function that makes a change leaves.
+use Rattle.std.specs.Prelude.{◌≡◌, ℕ}
+use Rattle.kr_model.specs.Applied.{Mounts, applied, images}
+use Rattle.kr_model.specs.Change.{Change}
+use Rattle.kr_ops.specs.declared.state.State.{State}
+use Rattle.kr_ops.specs.Meaning.{meaning}
+
+-- the change of the definition, whatever the mounts of the call's path are: for changes that name none
+abbrev pub Makes : {T : Type 0} {M : ℕ} → ℕ → Change → State T M → State T M → Type 0
+Makes {T} pid c old new = (mounts : Mounts T) → meaning new ≡ applied images mounts pid c (meaning old)
