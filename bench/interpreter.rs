@@ -1,7 +1,9 @@
 //! A plain interpreter of RV64IM, against which the benchmark compares the product: pages in an ordered
-//! map, and a match on the opcode. It is written once, and doesn't follow the product's changes.
+//! map, and a match on the opcode. With `remembered` in front of the file the map leads to places in a list
+//! of pages, and the places of the last pages used are tried first, as in the product. It is written once,
+//! and doesn't follow the product's changes.
 //!
-//! `interpreter FILE` runs a file whose one segment is the whole file at 0x10000 with its code at 0x10078,
+//! `interpreter [remembered] FILE` runs a file whose one segment is the whole file at 0x10000 with its code at 0x10078,
 //! with 1 MiB of stack, and prints the number of instructions, the seconds that they took, and the exit code.
 
 use std::collections::BTreeMap;
@@ -39,8 +41,71 @@ enum Stop {
     Killed(u8),
 }
 
-struct Machine {
+trait Memory {
+    fn put(&mut self, number: u64, page: Page);
+    fn get(&mut self, number: u64, access: Access) -> Option<&mut Page>;
+}
+
+#[derive(Default)]
+struct Mapped {
     pages: BTreeMap<u64, Box<Page>>,
+}
+
+impl Memory for Mapped {
+    fn put(&mut self, number: u64, page: Page) {
+        self.pages.insert(number, Box::new(page));
+    }
+
+    fn get(&mut self, number: u64, access: Access) -> Option<&mut Page> {
+        let page = self.pages.get_mut(&number)?;
+        page.allows(access).then_some(page)
+    }
+}
+
+const RECENT: u64 = 8;
+
+#[derive(Default)]
+struct Remembered {
+    places: BTreeMap<u64, usize>,
+    pages: Vec<(u64, Box<Page>)>,
+    fetched: usize,
+    recent: [usize; RECENT as usize],
+}
+
+impl Remembered {
+    fn remembered(&mut self, number: u64, access: Access) -> &mut usize {
+        match access {
+            Access::Execute => &mut self.fetched,
+            _ => &mut self.recent[(number % RECENT) as usize],
+        }
+    }
+
+    fn place(&mut self, number: u64, access: Access) -> Option<usize> {
+        let place = *self.remembered(number, access);
+        if self.pages.get(place).is_some_and(|(found, _)| *found == number) {
+            return Some(place);
+        }
+        let place = *self.places.get(&number)?;
+        *self.remembered(number, access) = place;
+        Some(place)
+    }
+}
+
+impl Memory for Remembered {
+    fn put(&mut self, number: u64, page: Page) {
+        self.places.insert(number, self.pages.len());
+        self.pages.push((number, Box::new(page)));
+    }
+
+    fn get(&mut self, number: u64, access: Access) -> Option<&mut Page> {
+        let place = self.place(number, access)?;
+        let page = &mut self.pages[place].1;
+        page.allows(access).then_some(page)
+    }
+}
+
+struct Machine<M> {
+    pages: M,
     x: [u64; 32],
     pc: u64,
 }
@@ -57,34 +122,34 @@ fn word_of(value: u32) -> u64 {
     value as i32 as i64 as u64
 }
 
-impl Machine {
-    fn load(file: &[u8]) -> Machine {
-        let mut pages = BTreeMap::new();
+impl<M: Memory + Default> Machine<M> {
+    fn load(file: &[u8]) -> Machine<M> {
+        let mut pages = M::default();
         for number in STACK_TOP / PAGE - 256..STACK_TOP / PAGE {
             let bytes = [0; PAGE as usize];
-            pages.insert(number, Box::new(Page { bytes, read: true, write: true, execute: false }));
+            pages.put(number, Page { bytes, read: true, write: true, execute: false });
         }
         for (k, part) in file.chunks(PAGE as usize).enumerate() {
             let mut bytes = [0; PAGE as usize];
             bytes[..part.len()].copy_from_slice(part);
             let page = Page { bytes, read: true, write: false, execute: true };
-            pages.insert(16 + k as u64, Box::new(page));
+            pages.put(16 + k as u64, page);
         }
         let mut x = [0; 32];
         x[2] = STACK_TOP - 0x1100;
         Machine { pages, x, pc: 0x10078 }
     }
 
-    fn read<const N: usize>(&self, at: u64, access: Access) -> Option<[u8; N]> {
+    fn read<const N: usize>(&mut self, at: u64, access: Access) -> Option<[u8; N]> {
         let offset = (at % PAGE) as usize;
-        let page = self.pages.get(&(at / PAGE)).filter(|p| p.allows(access))?;
+        let page = self.pages.get(at / PAGE, access)?;
         if let Some(bytes) = page.bytes.get(offset..offset + N) {
             return bytes.try_into().ok();
         }
         let mut bytes = [0; N];
         for (k, byte) in bytes.iter_mut().enumerate() {
             let place = at.checked_add(k as u64)?;
-            let page = self.pages.get(&(place / PAGE)).filter(|p| p.allows(access))?;
+            let page = self.pages.get(place / PAGE, access)?;
             *byte = page.bytes[(place % PAGE) as usize];
         }
         Some(bytes)
@@ -93,11 +158,11 @@ impl Machine {
     fn write(&mut self, at: u64, bytes: &[u8]) -> Option<()> {
         for k in 0..bytes.len() as u64 {
             let number = at.checked_add(k)? / PAGE;
-            self.pages.get(&number).filter(|p| p.allows(Access::Write))?;
+            self.pages.get(number, Access::Write)?;
         }
         for (k, byte) in bytes.iter().enumerate() {
             let place = at + k as u64;
-            self.pages.get_mut(&(place / PAGE))?.bytes[(place % PAGE) as usize] = *byte;
+            self.pages.get(place / PAGE, Access::Write)?.bytes[(place % PAGE) as usize] = *byte;
         }
         Some(())
     }
@@ -117,7 +182,7 @@ impl Machine {
         Ok(())
     }
 
-    fn load_value(&self, kind: u32, at: u64) -> Result<u64, Stop> {
+    fn load_value(&mut self, kind: u32, at: u64) -> Result<u64, Stop> {
         const BAD: Stop = Stop::Killed(11);
         Ok(match kind {
             0 => self.read::<1>(at, Access::Read).ok_or(BAD)?[0] as i8 as u64,
@@ -199,7 +264,7 @@ impl Machine {
                     1 | 5 => return Err(Stop::Killed(4)),
                     _ => 0,
                 };
-                let value = Machine::arithmetic(kind, funct7, a, imm)?;
+                let value = Self::arithmetic(kind, funct7, a, imm)?;
                 self.set(rd, value);
             }
             0x17 => self.set(rd, self.pc.wrapping_add(word_of(word & !0xfff))),
@@ -208,7 +273,7 @@ impl Machine {
                 if kind != 0 && funct7 & !32 != 0 {
                     return Err(Stop::Killed(4));
                 }
-                let value = Machine::word_arithmetic(kind, funct7, a as u32, imm as u32)?;
+                let value = Self::word_arithmetic(kind, funct7, a as u32, imm as u32)?;
                 self.set(rd, value);
             }
             0x23 => {
@@ -221,12 +286,12 @@ impl Machine {
                 self.write(at, &bytes[..count]).ok_or(Stop::Killed(11))?;
             }
             0x33 => {
-                let value = Machine::arithmetic(kind, funct7, a, b)?;
+                let value = Self::arithmetic(kind, funct7, a, b)?;
                 self.set(rd, value);
             }
             0x37 => self.set(rd, word_of(word & !0xfff)),
             0x3b => {
-                let value = Machine::word_arithmetic(kind, funct7, a as u32, b as u32)?;
+                let value = Self::word_arithmetic(kind, funct7, a as u32, b as u32)?;
                 self.set(rd, value);
             }
             0x63 => {
@@ -269,10 +334,8 @@ impl Machine {
     }
 }
 
-fn main() {
-    let path = std::env::args().nth(1).expect("interpreter FILE");
-    let file = std::fs::read(path).expect("the file can be read");
-    let mut machine = Machine::load(&file);
+fn run<M: Memory + Default>(file: &[u8]) {
+    let mut machine = Machine::<M>::load(file);
     let start = Instant::now();
     let mut count = 0u64;
     let status = loop {
@@ -285,4 +348,13 @@ fn main() {
         }
     };
     println!("{count} {:.6} {status}", start.elapsed().as_secs_f64());
+}
+
+fn main() {
+    let words: Vec<String> = std::env::args().skip(1).collect();
+    let file = std::fs::read(words.last().expect("interpreter [remembered] FILE")).expect("the file can be read");
+    match words.len() {
+        1 => run::<Mapped>(&file),
+        _ => run::<Remembered>(&file),
+    }
 }

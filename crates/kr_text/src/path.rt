@@ -1,5 +1,5 @@
 //! Paths and texts of a listing.
-ghost use Rattle.std.specs.Prelude.{◌≡◌, ◌≢◌, ◌||◌, [], nat_eq, true, length, reverse};
+ghost use Rattle.std.specs.Prelude.{◌≡◌, ◌≢◌, ◌||◌, [], true, reverse};
 ghost use Rattle.std.specs.Bool.{MatchBool};
 ghost use Rattle.std.specs.List.{list_all, slice_split};
 ghost use Rattle.pr_base.specs.Paths.{is_slash, parts_of};

@@ -1,7 +1,6 @@
 //! What a path leads to in a tree.
 ghost use Rattle.std.specs.Prelude.{◌≡◌, true, None, reverse, IfOk};
 ghost use Rattle.kr_tree.specs.Tree.{body_is, takes_names, is_file, entry};
-ghost use Rattle.std.specs.Option.{option_copied};
 ghost use Rattle.pr_base.specs.Paths.{parts_of};
 ghost use Rattle.kr_tree.specs.Names.{named, is_name};
 ghost use Rattle.kr_text.specs.Reading.{place_below, free_in, directory_of, file_at};

@@ -1,5 +1,5 @@
 //! Guest names of inodes.
-ghost use Rattle.std.specs.Prelude.{◌≡◌, true, ℕ, List, ◌≤◌, length, drop, nat_eq, Some, IfOk, IfSome, OnOk};
+ghost use Rattle.std.specs.Prelude.{◌≡◌, true, ℕ, List, ◌≤◌, length, drop, nat_eq, Some, IfOk, IfSome};
 ghost use Rattle.std.specs.Option.{option_map};
 ghost use Rattle.pr_base.specs.Paths.{below_root, text_of};
 ghost use Rattle.kr_tree.specs.Names.{host_name};

@@ -1,5 +1,5 @@
 //! Paths that a walk reads.
-ghost use Rattle.std.specs.Prelude.{◌≡◌, ◌≢◌, ◌≤◌, ◌+◌, ◌∷◌, true, not, [], take, drop, length, slice_range, IsTrue, MatchOption};
+ghost use Rattle.std.specs.Prelude.{◌≡◌, ◌≢◌, ◌≤◌, ◌+◌, ◌∷◌, not, [], take, drop, length, slice_range, IsTrue, MatchOption};
 ghost use Rattle.std.specs.List.{All};
 ghost use Rattle.pr_base.specs.Paths.{slash, parts_of};
 ghost use Rattle.pr_base.specs.Pieces.{BeginsSlash};

@@ -1,5 +1,5 @@
 //! The paths that a walk reads: the one that it began with, and the texts of links.
-ghost use Rattle.std.specs.Prelude.{◌≡◌, ◌≤◌, ◌∷◌, [], ◌++◌, length, true, not, IsTrue, MatchOption, OnOk, OnErr, ◌↔◌};
+ghost use Rattle.std.specs.Prelude.{◌≡◌, ◌≤◌, ◌∷◌, [], ◌++◌, length, not, IsTrue, MatchOption, OnOk, ◌↔◌};
 ghost use Rattle.std.specs.List.{list_all};
 ghost use Rattle.pr_base.specs.Paths.{component_of};
 ghost use Rattle.kr_view.specs.inside.Rests.{components_left, has_more};

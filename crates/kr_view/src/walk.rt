@@ -1,9 +1,9 @@
 //! Walks along paths.
-ghost use Rattle.std.specs.Prelude.{◌≡◌, ◌≢◌, ℕ, ◌≤◌, ◌+◌, ◌*◌, ◌^◌, [], ◌++◌, ◌||◌, ◌&&◌, not, length, true, IfOk};
+ghost use Rattle.std.specs.Prelude.{◌≡◌, ◌≢◌, ℕ, ◌≤◌, ◌+◌, ◌*◌, ◌^◌, [], ◌||◌, ◌&&◌, not, length, true, IfOk};
 ghost use Rattle.std.specs.Option.{option_map};
 ghost use Rattle.pr_base.specs.declared.path.WalkMode.{WalkMode};
 ghost use Rattle.pr_base.specs.WalkFrame.{is_followed, wants_directory, may_be_free, target_at, ends_landed, begins_at, name_of};
-ghost use Rattle.kr_view.specs.Leads.{numbered, lead_numbered};
+ghost use Rattle.kr_view.specs.Leads.{numbered};
 ghost use Rattle.kr_view.specs.inside.Components.{component_data};
 ghost use Rattle.kr_view.specs.inside.Stacks.{stack_of, taken_bytes};
 ghost use Rattle.pr_base.specs.Paths.{Component as PathComponent, component_of, has_slash};
@@ -11,10 +11,10 @@ ghost use Rattle.kr_tree.specs.declared.place.Place.{Place};
 ghost use Rattle.kr_view.specs.inside.Sights.{surroundings_of, sight_seen};
 ghost use Rattle.kr_view.specs.inside.Ways.{HasKind, IsSightWay};
 ghost use Rattle.kr_view.specs.inside.Positions.{IsNamed};
-ghost use Rattle.kr_view.specs.Component.{look_up, landing, seen_link};
+ghost use Rattle.kr_view.specs.Component.{look_up, landing};
 ghost use Rattle.kr_view.specs.Names.{free_name, landing_name};
 ghost use Rattle.kr_view.specs.Walk.{surroundings, place_walk, looking};
-ghost use Rattle.kr_view.specs.Reach.{text_length, end_reach, reached_landing, reach_after};
+ghost use Rattle.kr_view.specs.Reach.{text_length, end_reach, reached_landing};
 ghost use Rattle.kr_view.specs.Answers.{told, target_numbered, IsAnswer, IsReached};
 ghost use Rattle.kr_view.specs.inside.Steps.{trail_of, rest_behind, left_in_middle, left_at_last, left_by_jump, left_by_last_jump, noted, here_target, work, HasReached, IsFollowed, IsLanded, IsOutcome, HasLess};
 
@@ -24,7 +24,7 @@ use crate::position::Position;
 use crate::procs::{Lead, Procs};
 use crate::rest::Rest;
 use crate::rests::{Rests, Taken};
-use crate::surroundings::{Sight, Spot, Surroundings};
+use crate::surroundings::{Sight, Surroundings};
 use crate::target::{Reach, Target, WalkFault};
 use crate::view::Places;
 use kr_tree::{Host, Ino, Place, ProcAt, Tree, User};

@@ -11,7 +11,7 @@ use Rattle.kr_core.specs.Start.{start_refusal}
 use Rattle.std.specs.Option.{option_map}
 use Rattle.std.specs.List.{list_all}
 use Rattle.pr_base.specs.declared.errno.Errno.{Errno}
-use Rattle.pr_top.specs.Opening.{Start, Opening, args_of, command_name, with_input, with_elf, with_tree, with_name, startable, or_no_start, told_reading, told_opening}
+use Rattle.pr_top.specs.Opening.{Start, Opening, args_of, command_name, with_input, with_elf, with_tree, with_name, startable, or_no_start, told_reading}
 use Rattle.pr_top.specs.Promise.{ComesTo, OpeningFault}
 use Rattle.pr_base.specs.declared.errno.Errno.TheVariants.{ENOENT}
 use Rattle.pr_top.specs.declared.answer.Part.{Part}

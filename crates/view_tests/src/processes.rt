@@ -1,11 +1,8 @@
 //! Walks through links of the process directory.
 
-use crate::walking::{
-    Seen, chain_name, chained, given, link, linked_tree, node_at, nothing, plain_tree, put, walk,
-    walk_from,
-};
-use kr_tree::{Ino, Node, ROOT};
-use kr_view::{Host, HostMount, Lead, Place, ProcAt, Procs};
+use crate::walking::{Seen, chain_name, chained, given, node_at, nothing, plain_tree, walk};
+use kr_tree::Ino;
+use kr_view::{HostMount, Lead, Place, ProcAt, Procs};
 use pr_base::{Bytes, Errno, Last, NoMemory, WalkMode};
 use std::alloc::Global;
 use std::test::Fail;

@@ -1,8 +1,6 @@
 //! What walks reach, and names of places.
 
-use crate::walking::{
-    Seen, chained, link, linked_tree, node_at, nothing, plain_tree, put, walk, walk_from,
-};
+use crate::walking::{Seen, linked_tree, node_at, nothing, plain_tree, walk, walk_from};
 use kr_tree::laws::trees_are_kept;
 use kr_tree::{Ino, ROOT, Tree};
 use kr_view::laws::plain_stands;

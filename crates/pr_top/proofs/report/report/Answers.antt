@@ -1,10 +1,10 @@
-use Rattle.std.proofs.Common.{IsTrue, sym, ap, ◌∙◌, subst}
+use Rattle.std.proofs.Common.{◌∙◌, subst}
 use Rattle.kr_core.specs.State.{plain_call}
 use Rattle.kr_core.specs.Run.{run}
 use Rattle.pr_top.specs.Report.{slot_of, turn_limit}
 use Rattle.pr_top.specs.Puts.{PutsAs}
 use Rattle.pr_top.specs.declared.answer.Which.TheVariants.{Left}
-use Rattle.pr_top.proofs.ReportLemmas.{run_of-started, stops_in_run, between_run_and_listing, stops_in_listing, puts_whole, file_of, text_of}
+use Rattle.pr_top.proofs.ReportLemmas.{run_of-started, stops_in_run, between_run_and_listing, stops_in_listing, puts_whole, text_of}
 use Rattle.std.proofs.KnownBytes.{Keeps-refl}
 use Rattle.std.specs.Io.KnownBytes.{Appends}
 use Rattle.std.specs.Prelude.{Err}
