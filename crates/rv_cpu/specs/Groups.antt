@@ -17,12 +17,16 @@ IsNoAccess (Sw rs1 rs2 imm) = ⊥
 IsNoAccess (Sd rs1 rs2 imm) = ⊥
 IsNoAccess i = Unit {0}
 
--- and no atomic instruction
+-- and none that reserves or needs a reservation
+abbrev pub UsesNoReservation : Instr → Type 0
+UsesNoReservation (LrW rd rs1 order) = ⊥
+UsesNoReservation (LrD rd rs1 order) = ⊥
+UsesNoReservation (ScW rd rs1 rs2 order) = ⊥
+UsesNoReservation (ScD rd rs1 rs2 order) = ⊥
+UsesNoReservation i = IsNoAccess i
+
+-- and no other atomic instruction
 abbrev pub UsesNoMemory : Instr → Type 0
-UsesNoMemory (LrW rd rs1 order) = ⊥
-UsesNoMemory (LrD rd rs1 order) = ⊥
-UsesNoMemory (ScW rd rs1 rs2 order) = ⊥
-UsesNoMemory (ScD rd rs1 rs2 order) = ⊥
 UsesNoMemory (AmoswapW rd rs1 rs2 order) = ⊥
 UsesNoMemory (AmoswapD rd rs1 rs2 order) = ⊥
 UsesNoMemory (AmoaddW rd rs1 rs2 order) = ⊥
@@ -41,7 +45,7 @@ UsesNoMemory (AmominuW rd rs1 rs2 order) = ⊥
 UsesNoMemory (AmominuD rd rs1 rs2 order) = ⊥
 UsesNoMemory (AmomaxuW rd rs1 rs2 order) = ⊥
 UsesNoMemory (AmomaxuD rd rs1 rs2 order) = ⊥
-UsesNoMemory i = IsNoAccess i
+UsesNoMemory i = UsesNoReservation i
 
 -- and no jump, no branch, no ECALL, no EBREAK and no FENCE
 abbrev pub GoesStraightOn : Instr → Type 0

@@ -4,7 +4,7 @@ ghost use Rattle.rv_mem.specs.Actions.{carried_out};
 ghost use Rattle.rv_mem.specs.Memory.{page_count};
 ghost use Rattle.rv_table.specs.Rows.{decoded};
 ghost use Rattle.rv_cpu.specs.Step.{ends, executed, holds, step, Leaves, IsLowSignal, IfStopped};
-ghost use Rattle.rv_cpu.specs.Groups.{IsNoAccess, UsesNoMemory, GoesStraightOn, HasAnImmediate};
+ghost use Rattle.rv_cpu.specs.Groups.{IsNoAccess, UsesNoReservation, UsesNoMemory, GoesStraightOn, HasAnImmediate};
 
 use crate::arithmetic::{
     add, addw, div, divu, divuw, divw, is_less, mul, mulh, mulhsu, mulhu, mulw, of_immediate, rem,
@@ -79,7 +79,7 @@ fn execute<const M: u8>(
     }
 }
 
-/// The atomic instructions.
+/// The atomic instructions: those that reserve, or that need a reservation, here.
 fn execute_atomic<const M: u8>(
     regs: &mut Regs,
     mem: &mut Space<M>,
@@ -97,6 +97,25 @@ fn execute_atomic<const M: u8>(
         Instr::LrD { rd, rs1, .. } => Ok(load_reserved(regs, mem, held, true, rd, rs1)),
         Instr::ScW { rd, rs1, rs2, .. } => store_conditional(regs, mem, held, false, rd, rs1, rs2),
         Instr::ScD { rd, rs1, rs2, .. } => store_conditional(regs, mem, held, true, rd, rs1, rs2),
+        other => execute_amo(regs, mem, other),
+    }
+}
+
+/// The atomic memory operations.
+fn execute_amo<const M: u8>(
+    regs: &mut Regs,
+    mem: &mut Space<M>,
+    i: Instr,
+) -> Result<Event, NoMemory>
+    requires { UsesNoReservation i }
+    ensures leaves { (held : _) → IfOk result (λ event. Leaves (carried_out (executed regs.old held i) mem.old) event regs.new held mem.new) }
+    ensures signal { IfOk result (λ event. IsLowSignal event) }
+    ensures kept { IfOk result (λ event. IfStopped event ((regs.new ≡ regs.old) × (mem.new.pages ≡ mem.old.pages))) }
+    ensures count { page_count mem.new.pages ≡ page_count mem.old.pages }
+{
+    let least = Amo::MinUnsigned;
+    let greatest = Amo::MaxUnsigned;
+    match i {
         Instr::AmoswapW { rd, rs1, rs2, .. } => replace(regs, mem, Amo::Swap, false, rd, rs1, rs2),
         Instr::AmoswapD { rd, rs1, rs2, .. } => replace(regs, mem, Amo::Swap, true, rd, rs1, rs2),
         Instr::AmoaddW { rd, rs1, rs2, .. } => replace(regs, mem, Amo::Add, false, rd, rs1, rs2),
@@ -111,42 +130,10 @@ fn execute_atomic<const M: u8>(
         Instr::AmominD { rd, rs1, rs2, .. } => replace(regs, mem, Amo::Min, true, rd, rs1, rs2),
         Instr::AmomaxW { rd, rs1, rs2, .. } => replace(regs, mem, Amo::Max, false, rd, rs1, rs2),
         Instr::AmomaxD { rd, rs1, rs2, .. } => replace(regs, mem, Amo::Max, true, rd, rs1, rs2),
-        Instr::AmominuW { rd, rs1, rs2, .. } => replace(
-            regs,
-            mem,
-            Amo::MinUnsigned,
-            false,
-            rd,
-            rs1,
-            rs2,
-        ),
-        Instr::AmominuD { rd, rs1, rs2, .. } => replace(
-            regs,
-            mem,
-            Amo::MinUnsigned,
-            true,
-            rd,
-            rs1,
-            rs2,
-        ),
-        Instr::AmomaxuW { rd, rs1, rs2, .. } => replace(
-            regs,
-            mem,
-            Amo::MaxUnsigned,
-            false,
-            rd,
-            rs1,
-            rs2,
-        ),
-        Instr::AmomaxuD { rd, rs1, rs2, .. } => replace(
-            regs,
-            mem,
-            Amo::MaxUnsigned,
-            true,
-            rd,
-            rs1,
-            rs2,
-        ),
+        Instr::AmominuW { rd, rs1, rs2, .. } => replace(regs, mem, least, false, rd, rs1, rs2),
+        Instr::AmominuD { rd, rs1, rs2, .. } => replace(regs, mem, least, true, rd, rs1, rs2),
+        Instr::AmomaxuW { rd, rs1, rs2, .. } => replace(regs, mem, greatest, false, rd, rs1, rs2),
+        Instr::AmomaxuD { rd, rs1, rs2, .. } => replace(regs, mem, greatest, true, rd, rs1, rs2),
         other => Ok(execute_jump(regs, other)),
     }
 }
