@@ -7,6 +7,7 @@ pub mod LayoutLemmas
 pub mod MapLemmas
 pub mod PageLemmas
 pub mod PagesLemmas
+pub mod PlaceLemmas
 pub mod PlanLemmas
 pub mod SharedLemmas
 pub mod SpaceLemmas

@@ -4,4 +4,5 @@ pub mod Marks
 pub mod Memory
 pub mod Page
 pub mod Pages
+pub mod Places
 pub mod Scan

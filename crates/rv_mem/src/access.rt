@@ -1,8 +1,9 @@
 //! Bytes read and written over several pages.
 ghost use Rattle.pr_base.specs.Page.{page_size};
-ghost use Rattle.std.specs.Prelude.{◌≡◌, ◌↔◌, ◌+◌, ◌%◌, ◌^◌, ◌<◌, ◌≤◌, length, false, IsTrue, IfOk, OnOk, OnErr, ◌/◌, MatchOption};
+ghost use Rattle.std.specs.Prelude.{◌≡◌, ◌↔◌, ◌+◌, ◌%◌, ◌^◌, ◌<◌, ◌≤◌, length, false, IsTrue, IsErrOf, IfOk, OnOk, OnErr, ◌/◌, MatchOption};
 ghost use Rattle.std.specs.FinMap as map;
 
+use crate::fault::StoreFault;
 use crate::page::Page;
 use crate::rights::Use;
 use crate::table::Table;
@@ -50,16 +51,31 @@ impl<const MARKED: u8> Table<MARKED> {
         marked
     }
 
-    /// Writes bytes over those that are all there, which clears their marks. Where memory is wanting none
-    /// is written.
-    pub fn write_all(&mut self, at: u64, bytes: &[u8]) -> Result<(), NoMemory>
-        requires fits { at + length bytes.now ≤ 2 ^ 64 }
-        requires there { HasPagesAt self.old at (length bytes.now) }
+    /// Writes bytes if each of them may be written, which clears their marks. Where memory is wanting none is
+    /// written.
+    #[inline]
+    pub fn write_allowed(&mut self, at: u64, bytes: &[u8]) -> Result<(), StoreFault>
+        requires placed { IsPlaced self.old }
+        ensures bad { IsErrOf result StoreFault.BadAddress ↔ (allows_all self.old at (length bytes.now) Use.Write ≡ false) }
         ensures ok { OnOk result (self.new ≡ written self.old at bytes.now) }
         ensures err { OnErr result (self.new ≡ self.old) }
     {
         if lie_in_a_page(at, bytes.len()) {
-            return self.write(at, bytes);
+            self.write_in_page(at, bytes)
+        } else {
+            self.write_over_pages(at, bytes)
+        }
+    }
+
+    /// The same for bytes that may lie in several pages.
+    fn write_over_pages(&mut self, at: u64, bytes: &[u8]) -> Result<(), StoreFault>
+        requires placed { IsPlaced self.old }
+        ensures bad { IsErrOf result StoreFault.BadAddress ↔ (allows_all self.old at (length bytes.now) Use.Write ≡ false) }
+        ensures ok { OnOk result (self.new ≡ written self.old at bytes.now) }
+        ensures err { OnErr result (self.new ≡ self.old) }
+    {
+        if !self.allows_all(at, bytes.len() as u64, Use::Write) {
+            return Err(StoreFault::BadAddress);
         }
         let pages = self.plan(at, bytes)?;
         self.replace_all(at / PAGE_SIZE, pages);
@@ -99,9 +115,10 @@ impl<const MARKED: u8> Table<MARKED> {
 
     /// Copies bytes if each of them allows a use, and tells whether one of them is marked.
     #[inline]
-    pub fn read_allowed(&self, at: u64, into: &mut [u8], what: Use) -> Option<bool>
-        requires placed { IsPlaced self.now }
-        ensures { MatchOption result (IsRefused self.now at what into.old into.new) (λ marked. IsRead self.now at what into.old into.new marked) }
+    pub fn read_allowed(&mut self, at: u64, into: &mut [u8], what: Use) -> Option<bool>
+        requires placed { IsPlaced self.old }
+        ensures read { MatchOption result (IsRefused self.old at what into.old into.new) (λ marked. IsRead self.old at what into.old into.new marked) }
+        ensures same { self.new ≡ self.old }
     {
         if lie_in_a_page(at, into.len()) {
             self.read_in_page(at, into, what)

@@ -109,10 +109,7 @@ impl<const MARKED: u8> Space<MARKED> {
         ensures err { OnErr result (self.new ≡ self.old) }
         ensures count { page_count self.new.pages ≡ page_count self.old.pages }
     {
-        if !self.can(at, bytes.len() as u64, Use::Write) {
-            return Err(StoreFault::BadAddress);
-        }
-        self.pages.write_all(at, bytes)?;
+        self.pages.write_allowed(at, bytes)?;
         Ok(())
     }
 

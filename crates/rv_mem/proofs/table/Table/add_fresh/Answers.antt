@@ -1,9 +1,7 @@
-use Rattle.std.proofs.Common.{◌∙◌, ap}
-use Rattle.std.specs.FinMap as map
-use Rattle.pr_base.proofs.BTreeLemmas.{inserted}
+use Rattle.std.proofs.Common.{◌∙◌, sym}
+use Rattle.rv_mem.specs.Page.{fresh_page}
+use Rattle.rv_mem.proofs.PlaceLemmas.{put_over}
 use Rattle.rv_mem.proofs.table.Table.add_fresh.Goals as goal
 
-pub returns-clause-ok : goal.returns-clause-ok
-returns-clause-ok g c =
-    inserted c.self.inside.pages c.insert.new.self c.args.self.now c.args.number c.in_ok-page.page c.self.view_is (c.in_ok-insert.ensures.updates)
-    ∙ ap (map.insert c.args.self.now c.args.number) (c.in_ok-page.ensures)
+pub returns-then-contains-clause-ok : goal.returns-then-contains-clause-ok
+returns-then-contains-clause-ok g c = c.reset.ensures ∙ put_over c.args.self.now c.args.number (fresh_page c.args.rights) (sym c.contains.ensures ∙ c.if-contains.true)

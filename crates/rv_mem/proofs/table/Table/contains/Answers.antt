@@ -1,6 +1,12 @@
-use Rattle.std.proofs.Common.{◌∙◌, ap, is_some}
+use Rattle.std.proofs.Common.{◌∙◌, ap, sym, refl, is_some}
+use Rattle.std.specs.FinMap as map
 use Rattle.pr_base.proofs.BTreeLemmas.{get-view}
+use Rattle.rv_mem.specs.Places.{places_of}
+use Rattle.rv_mem.proofs.PlaceLemmas.{contains-pages_at}
 use Rattle.rv_mem.proofs.table.Table.contains.Goals as goal
 
 pub returns : goal.returns
-returns g c = c.contains_key.ensures ∙ ap is_some (get-view _ _ c.args.number c.self.view_is)
+returns g c =
+    let places = places_of c.self.inside.places.entries in
+    c.contains_key.ensures ∙ ap is_some (get-view c.self.inside.places.entries places c.args.number refl)
+    ∙ sym (contains-pages_at places c.self.inside.pages.items c.args.number) ∙ ap (λ m. map.contains_key m c.args.number) c.self.view_is

@@ -1,15 +1,20 @@
-use Rattle.std.proofs.Common.{◌∙◌, ap, sym}
-use Rattle.std.specs.Option.{option_copied_mut}
+use Rattle.std.proofs.Common.{◌<◌, subst, ◌∙◌, sym}
+use Rattle.std.proofs.lemmas.List.{length-set}
 use Rattle.rv_mem.specs.Page.{page_with_rights}
-use Rattle.rv_mem.proofs.MapLemmas.{pages_of, changed, unchanged}
+use Rattle.rv_mem.specs.Places.{places_of}
+use Rattle.rv_mem.proofs.PlaceLemmas.{inside, pages_at-set, pages_at-unset}
 use Rattle.rv_mem.proofs.table.Table.set_rights.Goals as goal
-use Rattle.rv_mem.proofs.table.Table.set_rights.Goals.{in-Some, in_default}
+
+pub returns-in_default : goal.returns-in_default
+returns-in_default g c = pages_at-unset (places_of c.self.inside.places.entries) c.self.inside.pages.items c.args.self.now c.args.number (page_with_rights c.args.rights) c.self.view_is (sym c.place_of.ensures ∙ c.in_default.is)
+
+pub index_mut-requires : goal.index_mut-requires
+index_mut-requires g c = subst (λ n. c.in-Some.place < n) (sym c.self.inside.pages.ok.0) (inside (places_of c.self.inside.places.entries) c.self.inside.numbers.items c.self.inside.pages.items c.args.number c.in-Some.place c.self.invariant.0 c.self.invariant.1 (sym c.in-Some.ensures))
+
+pub invariant_of-self : goal.invariant_of-self
+invariant_of-self g c = (c.self.invariant.0, length-set c.self.inside.pages.items c.in-Some.place c.set_rights.new.self ∙ c.self.invariant.1)
 
 pub returns : goal.returns
 returns g c =
-    elim c.match-get_mut.branch [
-      | in-Some w ↦ ap (λ s. pages_of s.pages.entries) w.self-inside-is
-          ∙ changed c.self.inside.pages (c.get_mut.follows.lender w.set_rights.new.self) c.args.self.now c.args.number (page_with_rights c.args.rights) _ _ c.self.view_is w.in-Some.ensures.value (c.get_mut.follows.holds w.set_rights.new.self).3 w.set_rights.ensures
-      | in_default w ↦ ap (λ s. pages_of s.pages.entries) w.self-inside-is
-          ∙ unchanged c.self.inside.pages c.get_mut.follows.lender-at-none c.args.self.now c.args.number (page_with_rights c.args.rights) c.self.view_is (ap option_copied_mut (sym w.in_default.is) ∙ c.get_mut.ensures.value) c.get_mut.follows.holds-at-none
-    ]
+    pages_at-set (places_of c.self.inside.places.entries) c.self.inside.numbers.items c.self.inside.pages.items c.args.number c.in-Some.place c.self.invariant.0 c.self.invariant.1 (sym c.in-Some.ensures)
+    c.args.self.now c.index_mut.result.now c.set_rights.new.self (page_with_rights c.args.rights) c.self.view_is c.index_mut.ensures.value c.set_rights.ensures
