@@ -1,3 +1,2 @@
 pub mod ListLemmas
-pub mod LawfulLemmas
 pub mod ChangeLemmas

@@ -1,4 +1,3 @@
-pub mod Laws
 pub mod Living
 pub mod Making
 pub mod Meaning

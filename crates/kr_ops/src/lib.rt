@@ -4,7 +4,6 @@
 mod changing;
 mod console;
 mod descriptors;
-pub mod laws;
 mod living;
 mod nodes;
 mod state;

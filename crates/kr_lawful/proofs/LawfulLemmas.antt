@@ -16,7 +16,7 @@ use Rattle.kr_model.specs.Applied.{with_living}
 use Rattle.kr_model.specs.State.{Image, image_layout, Process, State, process, named, is_pid, at_pid, with_process}
 use Rattle.kr_model.specs.Bare.{pins_of}
 use Rattle.kr_model.specs.MemoryRows.{all_pages, pages_end}
-use Rattle.kr_ops.specs.Laws.{PlainChangesKeepLawful}
+use Rattle.kr_lawful.specs.Laws.{PlainChangesKeepLawful}
 use Rattle.kr_model.specs.ProcessRows.{most_processes}
 use Rattle.kr_model.specs.Uses.{at_inode, file_uses, process_use, process_uses, names_of_file}
 use Rattle.kr_model.proofs.BareLemmas.{found-mapped}

@@ -1,0 +1,5 @@
+use Rattle.kr_lawful.proofs.HoldingLemmas.{pins-few}
+use Rattle.kr_lawful.proofs.laws.pins_are_few.Goals as goal
+
+pub returns : goal.returns
+returns c = pins-few

@@ -1,0 +1,28 @@
+//! Laws of lawful states and of changes, each carried by a function that does nothing.
+ghost use Rattle.kr_lawful.specs.Holding.{HoldsAreChanged, HoldsFit, PinsAreFew, UsedIsHeld};
+ghost use Rattle.kr_lawful.specs.Laws.{PlainChangesKeepLawful};
+
+/// A hold and a release change the count of holds of one inode by one.
+pub fn holds_are_changed()
+    ensures { HoldsAreChanged }
+{}
+
+/// The mounts hold an inode once at most.
+pub fn pins_are_few()
+    ensures { PinsAreFew }
+{}
+
+/// In a state where the holds are those of its uses, each count of holds and of descriptors has room for a process more.
+pub fn holds_fit<T, X>()
+    ensures { HoldsFit T X }
+{}
+
+/// What is open, and what a process stands in and executes, is held.
+pub fn used_is_held<T, X>()
+    ensures { UsedIsHeld T X }
+{}
+
+/// Changes of the console, of a break and of a umask keep a lawful state, where they can be made.
+pub fn plain_changes_keep_lawful<T>()
+    ensures { PlainChangesKeepLawful T }
+{}
