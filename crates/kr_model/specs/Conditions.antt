@@ -9,7 +9,7 @@ use Rattle.kr_tree.specs.Changes.{file_limit, has_no_room, has_no_name_left, has
 use Rattle.kr_tree.specs.Lawful.{AreBytes, IsOfBytes, IsLawfulMove}
 use Rattle.kr_tree.specs.Names.{is_name}
 use Rattle.kr_tree.specs.declared.place.Host.{Host}
-use Rattle.kr_view.specs.View.{Row, covered}
+use Rattle.kr_view.specs.View.{Row, covered, is_there}
 use Rattle.kr_view.specs.Component.{is_processes, is_directory_at}
 use Rattle.kr_view.specs.InTree.{IsPlaceOf}
 use Rattle.kr_view.specs.Leads.{numbered}
@@ -95,6 +95,8 @@ pub record CanOpen {M X : Type 0} (number : M → ℕ) (table : List Row) (mount
   pub free : IsFreeDescriptor pid fd s
   pub mount : M
   pub taken : mount_of mounts pid s from ≡ Some mount
+  -- a file or a directory: an end of a pipe is opened with its pipe alone
+  pub placed : is_there o.place ≡ true
   pub opens : IsOpenIn number s.tree table (in_mount mount o)
 
 pub record CanCopy {M X : Type 0} (pid fd to : ℕ) (s : State M X) : Type 0 where
