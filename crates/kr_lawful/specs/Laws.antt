@@ -1,14 +1,59 @@
--- Which changes are known to keep a lawful state, of every machine.
-use Rattle.std.specs.Prelude.{ℕ, List}
-use Rattle.kr_view.specs.View.{Row}
+-- Each change of a call keeps a lawful state, of every machine.
+use Rattle.std.specs.Prelude.{◌≡◌, ℕ, Bool, true, List}
+use Rattle.kr_tree.specs.Tree.{Body}
+use Rattle.kr_tree.specs.declared.place.Host.{Host}
+use Rattle.kr_view.specs.View.{Row, is_there}
+use Rattle.kr_files.specs.declared.opened.Opened.{Opened}
 use Rattle.kr_model.specs.Applied.{Mounts}
-use Rattle.kr_model.specs.Change.{TakeInput, WriteOut, WriteErr, SetBreak, SetUmask}
+use Rattle.kr_model.specs.Change.{Change, AddNode, LinkNode, RemoveName, MoveName, SetMode, SetOwner, SetSize, WriteFile, OpenFile, CopyDescriptor, CloseDescriptor, SetCloexec, Seek, SetAppend, MakePipe, TakeFromPipe, PutIntoPipe, TakeInput, WriteOut, WriteErr, ChangePages, SetBreak, SetUmask, ChangeDirectory, Fork, End, Reap, ReplaceImage, ReplaceExecutable, CloseOnExec, MountOf, PageChange, Birth}
 use Rattle.kr_model.specs.Conditions.{KeepsLawful}
+use Rattle.kr_model.specs.State.{Image}
 
--- those of the console, and of a process in what nothing else rests on
-pub record PlainChangesKeepLawful (M : Type 0) : Type 0 where
-  pub take_input : (number : M → ℕ) (table : List Row) (mounts : Mounts M) (pid count : ℕ) → KeepsLawful number table mounts pid (TakeInput count)
-  pub write_out : (number : M → ℕ) (table : List Row) (mounts : Mounts M) (pid : ℕ) (bytes : List ℕ) → KeepsLawful number table mounts pid (WriteOut bytes)
-  pub write_err : (number : M → ℕ) (table : List Row) (mounts : Mounts M) (pid : ℕ) (bytes : List ℕ) → KeepsLawful number table mounts pid (WriteErr bytes)
-  pub set_break : (number : M → ℕ) (table : List Row) (mounts : Mounts M) (pid brk : ℕ) → KeepsLawful number table mounts pid (SetBreak brk)
-  pub set_umask : (number : M → ℕ) (table : List Row) (mounts : Mounts M) (pid umask : ℕ) → KeepsLawful number table mounts pid (SetUmask umask)
+-- each change of a caller's call, over a view's mounts
+pub record EachKeepsLawful {M : Type 0} (number : M → ℕ) (table : List Row) (mounts : Mounts M) (pid : ℕ) : Type 0 where
+  -- names and nodes
+  pub add_node : (dir : ℕ) (name : List ℕ) (mode uid gid : ℕ) (body : Body) → KeepsLawful number table mounts pid (AddNode dir name mode uid gid body)
+  pub link_node : (dir : ℕ) (name : List ℕ) (i : ℕ) → KeepsLawful number table mounts pid (LinkNode dir name i)
+  pub remove_name : (dir : ℕ) (name : List ℕ) → KeepsLawful number table mounts pid (RemoveName dir name)
+  pub move_name : (dir : ℕ) (name : List ℕ) (to : ℕ) (new : List ℕ) → KeepsLawful number table mounts pid (MoveName dir name to new)
+  pub set_mode : (i mode : ℕ) → KeepsLawful number table mounts pid (SetMode i mode)
+  pub set_owner : (i uid gid : ℕ) → KeepsLawful number table mounts pid (SetOwner i uid gid)
+  pub set_size : (i size : ℕ) → KeepsLawful number table mounts pid (SetSize i size)
+  pub write_file : (i at : ℕ) (bytes : List ℕ) → KeepsLawful number table mounts pid (WriteFile i at bytes)
+  -- descriptors of the caller; what a path leads to has a place
+  pub open_file : (fd : ℕ) (cloexec : Bool) (from : MountOf) (o : Opened (Unit {0})) → is_there o.place ≡ true → KeepsLawful number table mounts pid (OpenFile fd cloexec from o)
+  pub copy_descriptor : (fd to : ℕ) (cloexec : Bool) → KeepsLawful number table mounts pid (CopyDescriptor fd to cloexec)
+  pub close_descriptor : (fd : ℕ) → KeepsLawful number table mounts pid (CloseDescriptor fd)
+  pub set_cloexec : (fd : ℕ) (on : Bool) → KeepsLawful number table mounts pid (SetCloexec fd on)
+  pub seek : (fd at : ℕ) → KeepsLawful number table mounts pid (Seek fd at)
+  pub set_append : (fd : ℕ) (on : Bool) → KeepsLawful number table mounts pid (SetAppend fd on)
+  -- pipes and the console
+  pub make_pipe : (first second : ℕ) (cloexec : Bool) → KeepsLawful number table mounts pid (MakePipe first second cloexec)
+  pub take_from_pipe : (pipe count : ℕ) → KeepsLawful number table mounts pid (TakeFromPipe pipe count)
+  pub put_into_pipe : (pipe : ℕ) (bytes : List ℕ) → KeepsLawful number table mounts pid (PutIntoPipe pipe bytes)
+  pub take_input : (count : ℕ) → KeepsLawful number table mounts pid (TakeInput count)
+  pub write_out : (bytes : List ℕ) → KeepsLawful number table mounts pid (WriteOut bytes)
+  pub write_err : (bytes : List ℕ) → KeepsLawful number table mounts pid (WriteErr bytes)
+  -- the caller itself, and processes
+  pub change_pages : (c : PageChange) → KeepsLawful number table mounts pid (ChangePages c)
+  pub set_break : (brk : ℕ) → KeepsLawful number table mounts pid (SetBreak brk)
+  pub set_umask : (umask : ℕ) → KeepsLawful number table mounts pid (SetUmask umask)
+  pub change_directory : (from : MountOf) (host : Host) → KeepsLawful number table mounts pid (ChangeDirectory from host)
+  pub fork : (b : Birth) → KeepsLawful number table mounts pid (Fork b)
+  pub end_ : (status : ℕ) → KeepsLawful number table mounts pid (End status)
+  pub reap : (child : ℕ) → KeepsLawful number table mounts pid (Reap child)
+  pub replace_image : (image : Image) (brk : ℕ) → KeepsLawful number table mounts pid (ReplaceImage image brk)
+  pub replace_executable : (from : MountOf) (host : Host) (dir : ℕ) (name : List ℕ) → KeepsLawful number table mounts pid (ReplaceExecutable from host dir name)
+  pub close_on_exec : KeepsLawful number table mounts pid CloseOnExec
+
+abbrev pub ChangesKeepLawful : Type 0 → Type 0
+ChangesKeepLawful M = (number : M → ℕ) (table : List Row) (mounts : Mounts M) (pid : ℕ) → EachKeepsLawful number table mounts pid
+
+-- what a change opens has a place
+abbrev pub OpensPlaced : Change → Type 0
+OpensPlaced (OpenFile fd cloexec from o) = is_there o.place ≡ true
+OpensPlaced _ = Unit {0}
+
+-- so whatever the change is
+abbrev pub EveryChangeKeepsLawful : Type 0 → Type 0
+EveryChangeKeepsLawful M = (number : M → ℕ) (table : List Row) (mounts : Mounts M) (pid : ℕ) (c : Change) → OpensPlaced c → KeepsLawful number table mounts pid c

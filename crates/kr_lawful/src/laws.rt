@@ -1,6 +1,6 @@
 //! Laws of lawful states and of changes, each carried by a function that does nothing.
 ghost use Rattle.kr_lawful.specs.Holding.{HoldsAreChanged, HoldsFit, PinsAreFew, UsedIsHeld};
-ghost use Rattle.kr_lawful.specs.Laws.{PlainChangesKeepLawful};
+ghost use Rattle.kr_lawful.specs.Laws.{ChangesKeepLawful, EveryChangeKeepsLawful};
 
 /// A hold and a release change the count of holds of one inode by one.
 pub fn holds_are_changed()
@@ -22,7 +22,12 @@ pub fn used_is_held<T, X>()
     ensures { UsedIsHeld T X }
 {}
 
-/// Changes of the console, of a break and of a umask keep a lawful state, where they can be made.
-pub fn plain_changes_keep_lawful<T>()
-    ensures { PlainChangesKeepLawful T }
+/// Each change of a call keeps a lawful state, where it can be made.
+pub fn changes_keep_lawful<T>()
+    ensures { ChangesKeepLawful T }
+{}
+
+/// And so does every change, whatever it is.
+pub fn every_change_keeps_lawful<T>()
+    ensures { EveryChangeKeepsLawful T }
 {}
