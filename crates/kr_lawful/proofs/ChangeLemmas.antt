@@ -1,14 +1,14 @@
 -- Each change keeps a lawful state, where it can be made.
-use Rattle.std.proofs.Common.{ℕ, List, ◌∙◌}
+use Rattle.std.proofs.Common.{ℕ, List, [], ◌∷◌, ◌∙◌}
 use Rattle.kr_tree.specs.Tree.{Tree}
 use Rattle.kr_tree.specs.Changes as tree
 use Rattle.kr_view.specs.View.{Row}
-use Rattle.kr_model.specs.Applied.{Mounts, with_tree}
+use Rattle.kr_model.specs.Applied.{Mounts, applied, images, with_tree}
 use Rattle.kr_model.specs.Change.{Change, AddNode, LinkNode, RemoveName, MoveName, SetMode, SetOwner, SetSize, WriteFile, OpenFile, CopyDescriptor, CloseDescriptor, SetCloexec, Seek, SetAppend, MakePipe, TakeFromPipe, PutIntoPipe, TakeInput, WriteOut, WriteErr, ChangePages, SetBreak, SetUmask, ChangeDirectory, Fork, End, Reap, ReplaceImage, ReplaceExecutable, CloseOnExec}
 use Rattle.kr_model.specs.Conditions.{KeepsLawful}
 use Rattle.kr_model.specs.Lawful.{IsLawful}
 use Rattle.kr_model.specs.State.{Image, State}
-use Rattle.kr_lawful.specs.Laws.{EachKeepsLawful, ChangesKeepLawful, OpensPlaced, EveryChangeKeepsLawful}
+use Rattle.kr_lawful.specs.Laws.{EachKeepsLawful, ChangesKeepLawful, EveryChangeKeepsLawful, AllChangesKeepLawful}
 use Rattle.kr_lawful.proofs.TreeShapeLemmas.{LeavesHolds, mode-leaves, owner-leaves, size-leaves, write-leaves, add-leaves, link-leaves}
 use Rattle.kr_lawful.proofs.OwnChangeLemmas.{input-keeps, out-keeps, err-keeps, umask-keeps, break-keeps, seek-keeps, append-keeps, cloexec-keeps, take-keeps, put-keeps, reap-keeps, pages-keep, image-keeps}
 use Rattle.kr_lawful.proofs.DescriptorChangeLemmas.{close-keeps, close-on-exec-keeps}
@@ -62,40 +62,45 @@ module _ {M : Type 0} (number : M → ℕ) (table : List Row) where
       close_on_exec = λ s l lives can. close-on-exec-keeps number table pid 1024 s l;
     }
 
-    every-keeps : (c : Change) → OpensPlaced c → KeepsLawful number table mounts pid c
-    every-keeps (AddNode dir name mode uid gid body) placed = each-keeps.add_node dir name mode uid gid body
-    every-keeps (LinkNode dir name i) placed = each-keeps.link_node dir name i
-    every-keeps (RemoveName dir name) placed = each-keeps.remove_name dir name
-    every-keeps (MoveName dir name to new) placed = each-keeps.move_name dir name to new
-    every-keeps (SetMode i mode) placed = each-keeps.set_mode i mode
-    every-keeps (SetOwner i uid gid) placed = each-keeps.set_owner i uid gid
-    every-keeps (SetSize i size) placed = each-keeps.set_size i size
-    every-keeps (WriteFile i at bytes) placed = each-keeps.write_file i at bytes
-    every-keeps (OpenFile fd cloexec from o) placed = each-keeps.open_file fd cloexec from o placed
-    every-keeps (CopyDescriptor fd to cloexec) placed = each-keeps.copy_descriptor fd to cloexec
-    every-keeps (CloseDescriptor fd) placed = each-keeps.close_descriptor fd
-    every-keeps (SetCloexec fd on) placed = each-keeps.set_cloexec fd on
-    every-keeps (Seek fd at) placed = each-keeps.seek fd at
-    every-keeps (SetAppend fd on) placed = each-keeps.set_append fd on
-    every-keeps (MakePipe first second cloexec) placed = each-keeps.make_pipe first second cloexec
-    every-keeps (TakeFromPipe pipe count) placed = each-keeps.take_from_pipe pipe count
-    every-keeps (PutIntoPipe pipe bytes) placed = each-keeps.put_into_pipe pipe bytes
-    every-keeps (TakeInput count) placed = each-keeps.take_input count
-    every-keeps (WriteOut bytes) placed = each-keeps.write_out bytes
-    every-keeps (WriteErr bytes) placed = each-keeps.write_err bytes
-    every-keeps (ChangePages c) placed = each-keeps.change_pages c
-    every-keeps (SetBreak brk) placed = each-keeps.set_break brk
-    every-keeps (SetUmask umask) placed = each-keeps.set_umask umask
-    every-keeps (ChangeDirectory from host) placed = each-keeps.change_directory from host
-    every-keeps (Fork b) placed = each-keeps.fork b
-    every-keeps (End status) placed = each-keeps.end_ status
-    every-keeps (Reap child) placed = each-keeps.reap child
-    every-keeps (ReplaceImage image brk) placed = each-keeps.replace_image image brk
-    every-keeps (ReplaceExecutable from host dir name) placed = each-keeps.replace_executable from host dir name
-    every-keeps CloseOnExec placed = each-keeps.close_on_exec
+    every-keeps : (c : Change) → KeepsLawful number table mounts pid c
+    every-keeps (AddNode dir name mode uid gid body) = each-keeps.add_node dir name mode uid gid body
+    every-keeps (LinkNode dir name i) = each-keeps.link_node dir name i
+    every-keeps (RemoveName dir name) = each-keeps.remove_name dir name
+    every-keeps (MoveName dir name to new) = each-keeps.move_name dir name to new
+    every-keeps (SetMode i mode) = each-keeps.set_mode i mode
+    every-keeps (SetOwner i uid gid) = each-keeps.set_owner i uid gid
+    every-keeps (SetSize i size) = each-keeps.set_size i size
+    every-keeps (WriteFile i at bytes) = each-keeps.write_file i at bytes
+    every-keeps (OpenFile fd cloexec from o) = each-keeps.open_file fd cloexec from o
+    every-keeps (CopyDescriptor fd to cloexec) = each-keeps.copy_descriptor fd to cloexec
+    every-keeps (CloseDescriptor fd) = each-keeps.close_descriptor fd
+    every-keeps (SetCloexec fd on) = each-keeps.set_cloexec fd on
+    every-keeps (Seek fd at) = each-keeps.seek fd at
+    every-keeps (SetAppend fd on) = each-keeps.set_append fd on
+    every-keeps (MakePipe first second cloexec) = each-keeps.make_pipe first second cloexec
+    every-keeps (TakeFromPipe pipe count) = each-keeps.take_from_pipe pipe count
+    every-keeps (PutIntoPipe pipe bytes) = each-keeps.put_into_pipe pipe bytes
+    every-keeps (TakeInput count) = each-keeps.take_input count
+    every-keeps (WriteOut bytes) = each-keeps.write_out bytes
+    every-keeps (WriteErr bytes) = each-keeps.write_err bytes
+    every-keeps (ChangePages c) = each-keeps.change_pages c
+    every-keeps (SetBreak brk) = each-keeps.set_break brk
+    every-keeps (SetUmask umask) = each-keeps.set_umask umask
+    every-keeps (ChangeDirectory from host) = each-keeps.change_directory from host
+    every-keeps (Fork b) = each-keeps.fork b
+    every-keeps (End status) = each-keeps.end_ status
+    every-keeps (Reap child) = each-keeps.reap child
+    every-keeps (ReplaceImage image brk) = each-keeps.replace_image image brk
+    every-keeps (ReplaceExecutable from host dir name) = each-keeps.replace_executable from host dir name
+    every-keeps CloseOnExec = each-keeps.close_on_exec
 
 pub changes-keep : (M : Type 0) → ChangesKeepLawful M
 changes-keep M number table mounts pid = each-keeps number table mounts pid
 
 pub every-change-keeps : (M : Type 0) → EveryChangeKeepsLawful M
-every-change-keeps M number table mounts pid c placed = every-keeps number table mounts pid c placed
+every-change-keeps M number table mounts pid c = every-keeps number table mounts pid c
+
+-- one change behind the other
+pub all-changes-keep : (M : Type 0) → AllChangesKeepLawful M
+all-changes-keep M number table mounts pid [] s l can = l
+all-changes-keep M number table mounts pid (c ∷ cs) s l can = all-changes-keep M number table mounts pid cs (applied images mounts pid c s) (every-keeps number table mounts pid c s l can.0 can.1) can.2

@@ -291,11 +291,11 @@ module _ {M : Type 0} (number : M → ℕ) (table : List Row) where
   named-as pid fd s p e = ap (option_and_then (λ (p : Process M Image). map.get p.descs fd)) e
 
   module _ (mounts : Mounts M) (pid : ℕ) where
-    pub open-keeps : (fd : ℕ) (cloexec : Bool) (from : MountOf) (o : Opened (Unit {0})) → is_there o.place ≡ true → KeepsLawful number table mounts pid (OpenFile fd cloexec from o)
-    open-keeps fd cloexec from o there s l lives can =
+    pub open-keeps : (fd : ℕ) (cloexec : Bool) (from : MountOf) (o : Opened (Unit {0})) → KeepsLawful number table mounts pid (OpenFile fd cloexec from o)
+    open-keeps fd cloexec from o s l lives can =
         let p = some-of (process pid s) lives in
         subst (λ m. IsLawful number table (option_map_or (λ m. open_in pid fd cloexec o m s) m s)) (sym can.taken)
-        (open-in-keeps pid s l p.0 p.1 fd can.free.small (sym (named-as pid fd s p.0 p.1) ∙ can.free.free) cloexec o can.mount can.opens there)
+        (open-in-keeps pid s l p.0 p.1 fd can.free.small (sym (named-as pid fd s p.0 p.1) ∙ can.free.free) cloexec o can.mount can.opens can.placed)
 
     pub copy-keeps : (fd to : ℕ) (cloexec : Bool) → KeepsLawful number table mounts pid (CopyDescriptor fd to cloexec)
     copy-keeps fd to cloexec s l lives can =

@@ -1,13 +1,14 @@
 -- Each change of a call keeps a lawful state, of every machine.
-use Rattle.std.specs.Prelude.{◌≡◌, ℕ, Bool, true, List}
+use Rattle.std.specs.Prelude.{ℕ, Bool, List, [], ◌∷◌, IsSome}
 use Rattle.kr_tree.specs.Tree.{Body}
 use Rattle.kr_tree.specs.declared.place.Host.{Host}
-use Rattle.kr_view.specs.View.{Row, is_there}
+use Rattle.kr_view.specs.View.{Row}
 use Rattle.kr_files.specs.declared.opened.Opened.{Opened}
-use Rattle.kr_model.specs.Applied.{Mounts}
+use Rattle.kr_model.specs.Applied.{Mounts, applied, all_applied, images}
 use Rattle.kr_model.specs.Change.{Change, AddNode, LinkNode, RemoveName, MoveName, SetMode, SetOwner, SetSize, WriteFile, OpenFile, CopyDescriptor, CloseDescriptor, SetCloexec, Seek, SetAppend, MakePipe, TakeFromPipe, PutIntoPipe, TakeInput, WriteOut, WriteErr, ChangePages, SetBreak, SetUmask, ChangeDirectory, Fork, End, Reap, ReplaceImage, ReplaceExecutable, CloseOnExec, MountOf, PageChange, Birth}
-use Rattle.kr_model.specs.Conditions.{KeepsLawful}
-use Rattle.kr_model.specs.State.{Image}
+use Rattle.kr_model.specs.Conditions.{CanBeMade, KeepsLawful}
+use Rattle.kr_model.specs.Lawful.{IsLawful}
+use Rattle.kr_model.specs.State.{Image, State, process}
 
 -- each change of a caller's call, over a view's mounts
 pub record EachKeepsLawful {M : Type 0} (number : M → ℕ) (table : List Row) (mounts : Mounts M) (pid : ℕ) : Type 0 where
@@ -20,8 +21,8 @@ pub record EachKeepsLawful {M : Type 0} (number : M → ℕ) (table : List Row) 
   pub set_owner : (i uid gid : ℕ) → KeepsLawful number table mounts pid (SetOwner i uid gid)
   pub set_size : (i size : ℕ) → KeepsLawful number table mounts pid (SetSize i size)
   pub write_file : (i at : ℕ) (bytes : List ℕ) → KeepsLawful number table mounts pid (WriteFile i at bytes)
-  -- descriptors of the caller; what a path leads to has a place
-  pub open_file : (fd : ℕ) (cloexec : Bool) (from : MountOf) (o : Opened (Unit {0})) → is_there o.place ≡ true → KeepsLawful number table mounts pid (OpenFile fd cloexec from o)
+  -- descriptors of the caller
+  pub open_file : (fd : ℕ) (cloexec : Bool) (from : MountOf) (o : Opened (Unit {0})) → KeepsLawful number table mounts pid (OpenFile fd cloexec from o)
   pub copy_descriptor : (fd to : ℕ) (cloexec : Bool) → KeepsLawful number table mounts pid (CopyDescriptor fd to cloexec)
   pub close_descriptor : (fd : ℕ) → KeepsLawful number table mounts pid (CloseDescriptor fd)
   pub set_cloexec : (fd : ℕ) (on : Bool) → KeepsLawful number table mounts pid (SetCloexec fd on)
@@ -49,11 +50,17 @@ pub record EachKeepsLawful {M : Type 0} (number : M → ℕ) (table : List Row) 
 abbrev pub ChangesKeepLawful : Type 0 → Type 0
 ChangesKeepLawful M = (number : M → ℕ) (table : List Row) (mounts : Mounts M) (pid : ℕ) → EachKeepsLawful number table mounts pid
 
--- what a change opens has a place
-abbrev pub OpensPlaced : Change → Type 0
-OpensPlaced (OpenFile fd cloexec from o) = is_there o.place ≡ true
-OpensPlaced _ = Unit {0}
-
 -- so whatever the change is
 abbrev pub EveryChangeKeepsLawful : Type 0 → Type 0
-EveryChangeKeepsLawful M = (number : M → ℕ) (table : List Row) (mounts : Mounts M) (pid : ℕ) (c : Change) → OpensPlaced c → KeepsLawful number table mounts pid c
+EveryChangeKeepsLawful M = (number : M → ℕ) (table : List Row) (mounts : Mounts M) (pid : ℕ) (c : Change) → KeepsLawful number table mounts pid c
+
+-- some changes can be made one behind the other
+abbrev pub CanAllBeMade : {M : Type 0} → (M → ℕ) → List Row → Mounts M → ℕ → State M Image → List Change → Type 0
+CanAllBeMade number table mounts pid s [] = Unit {0}
+CanAllBeMade number table mounts pid s (c ∷ cs) = IsSome (process pid s) × CanBeMade number table mounts pid s c × CanAllBeMade number table mounts pid (applied images mounts pid c s) cs
+
+-- and so do all changes of a call, in their order
+abbrev pub AllChangesKeepLawful : Type 0 → Type 0
+AllChangesKeepLawful M =
+    (number : M → ℕ) (table : List Row) (mounts : Mounts M) (pid : ℕ) (cs : List Change) (s : State M Image) → IsLawful number table s → CanAllBeMade number table mounts pid s cs
+    → IsLawful number table (all_applied images mounts pid cs s)

@@ -1,6 +1,6 @@
 //! Laws of lawful states and of changes, each carried by a function that does nothing.
 ghost use Rattle.kr_lawful.specs.Holding.{HoldsAreChanged, HoldsFit, PinsAreFew, UsedIsHeld};
-ghost use Rattle.kr_lawful.specs.Laws.{ChangesKeepLawful, EveryChangeKeepsLawful};
+ghost use Rattle.kr_lawful.specs.Laws.{AllChangesKeepLawful, ChangesKeepLawful, EveryChangeKeepsLawful};
 
 /// A hold and a release change the count of holds of one inode by one.
 pub fn holds_are_changed()
@@ -30,4 +30,9 @@ pub fn changes_keep_lawful<T>()
 /// And so does every change, whatever it is.
 pub fn every_change_keeps_lawful<T>()
     ensures { EveryChangeKeepsLawful T }
+{}
+
+/// And so do all changes of a call, one behind the other.
+pub fn all_changes_keep_lawful<T>()
+    ensures { AllChangesKeepLawful T }
 {}
