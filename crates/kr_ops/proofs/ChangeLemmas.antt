@@ -22,7 +22,7 @@ use Rattle.kr_ops.proofs.ListLemmas.{apart, untouched, stored, has-number, none-
 abbrev pub to_named : Descriptor → Named
 to_named x = record { number = x.number; cloexec = x.cloexec }
 
-abbrev living_as : {T : Type 0} → List (model.Process T model.Image) → model.State T model.Image → model.State T model.Image
+abbrev pub living_as : {T : Type 0} → List (model.Process T model.Image) → model.State T model.Image → model.State T model.Image
 living_as ps s = with_living (λ _. ps) s
 
 -- a descriptor that isn't open

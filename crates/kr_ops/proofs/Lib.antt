@@ -1,2 +1,11 @@
 pub mod ListLemmas
 pub mod ChangeLemmas
+pub mod ServeLemmas
+pub mod UseLemmas
+pub mod CloseLemmas
+pub mod OpeningLemmas
+pub mod NameLemmas
+pub mod PageLemmas
+pub mod PlaceLemmas
+pub mod ForkLemmas
+pub mod AskLemmas

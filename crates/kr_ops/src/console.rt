@@ -3,6 +3,7 @@ ghost use Rattle.std.specs.Prelude.{◌≡◌, ℕ, ◌+◌, ◌<◌, ◌≤◌,
 ghost use Rattle.kr_model.specs.Change.{TakeInput, WriteErr, WriteOut};
 ghost use Rattle.kr_ops.specs.Meaning.{meaning};
 ghost use Rattle.kr_ops.specs.Making.{Makes};
+ghost use Rattle.kr_ops.specs.Sound.{IsServed};
 
 use crate::state::State;
 use pr_base::NoMemory;
@@ -20,7 +21,8 @@ impl<T: Copy, const M: u8> State<T, M> {
     /// Takes so many bytes of the input that is left.
     pub fn take_input(&mut self, count: u64)
         requires { self.old.taken + count ≤ length self.old.input }
-        ensures { (pid : ℕ) → Makes pid (TakeInput count) self.old self.new }
+        ensures makes { (pid : ℕ) → Makes pid (TakeInput count) self.old self.new }
+        ensures served { IsServed self.old → IsServed self.new }
     {
         self.taken += count.min(self.input_left());
     }
@@ -28,6 +30,7 @@ impl<T: Copy, const M: u8> State<T, M> {
     /// Writes bytes to the output.
     pub fn write_out(&mut self, bytes: &[u8]) -> Result<(), NoMemory>
         ensures ok { (pid : ℕ) → OnOk result (Makes pid (WriteOut bytes.now) self.old self.new) }
+        ensures served { IsServed self.old → IsServed self.new }
         ensures err { OnErr result (meaning self.new ≡ meaning self.old) }
     {
         self.out.append(bytes)
@@ -36,6 +39,7 @@ impl<T: Copy, const M: u8> State<T, M> {
     /// Writes bytes to the error output.
     pub fn write_err(&mut self, bytes: &[u8]) -> Result<(), NoMemory>
         ensures ok { (pid : ℕ) → OnOk result (Makes pid (WriteErr bytes.now) self.old self.new) }
+        ensures served { IsServed self.old → IsServed self.new }
         ensures err { OnErr result (meaning self.new ≡ meaning self.old) }
     {
         self.err.append(bytes)

@@ -7,6 +7,7 @@ ghost use Rattle.kr_tree.specs.Changes.{has_no_name_left, has_no_room, has_no_ro
 ghost use Rattle.kr_model.specs.Change.{AddNode, LinkNode, SetMode, SetOwner, SetSize, WriteFile};
 ghost use Rattle.kr_ops.specs.Meaning.{meaning};
 ghost use Rattle.kr_ops.specs.Making.{Makes};
+ghost use Rattle.kr_ops.specs.Sound.{IsServed};
 
 use crate::state::State;
 use kr_tree::{Ino, Meta, Node, TreeRefusal};
@@ -29,6 +30,7 @@ impl<T: Copy, const M: u8> State<T, M> {
         ensures full { IsErrOf result TreeRefusal.Full ↔ IsTrue (not (is_too_big (body_of_new node)) && has_no_room (length (bytes_of (body_of_new node))) self.old.tree) }
         ensures number { IfOk result (λ ino. ino ≡ self.old.tree.next) }
         ensures ok { (pid : ℕ) → OnOk result (Makes pid (AddNode dir name.now meta.mode meta.uid meta.gid (body_of_new node)) self.old self.new) }
+        ensures served { IsServed self.old → IsServed self.new }
         ensures err { OnErr result (meaning self.new ≡ meaning self.old) }
     {
         self.tree.add(dir, name, node, meta)
@@ -43,6 +45,7 @@ impl<T: Copy, const M: u8> State<T, M> {
         requires file { body_is may_be_linked self.old.tree ino ≡ true }
         ensures full { IsErrOf result TreeRefusal.Full ↔ IsTrue (has_no_name_left self.old.tree) }
         ensures ok { (pid : ℕ) → OnOk result (Makes pid (LinkNode dir name.now ino) self.old self.new) }
+        ensures served { IsServed self.old → IsServed self.new }
         ensures err { OnErr result (meaning self.new ≡ meaning self.old) }
     {
         self.tree.link(dir, name, ino)
@@ -51,7 +54,8 @@ impl<T: Copy, const M: u8> State<T, M> {
     /// Gives a node another mode.
     pub fn set_mode(&mut self, ino: Ino, mode: u16)
         requires { IsSome (inode self.old.tree ino) }
-        ensures { (pid : ℕ) → Makes pid (SetMode ino mode) self.old self.new }
+        ensures makes { (pid : ℕ) → Makes pid (SetMode ino mode) self.old self.new }
+        ensures served { IsServed self.old → IsServed self.new }
     {
         self.tree.set_mode(ino, mode);
     }
@@ -59,7 +63,8 @@ impl<T: Copy, const M: u8> State<T, M> {
     /// Gives a node another owner and group.
     pub fn set_owner(&mut self, ino: Ino, uid: u32, gid: u32)
         requires { IsSome (inode self.old.tree ino) }
-        ensures { (pid : ℕ) → Makes pid (SetOwner ino uid gid) self.old self.new }
+        ensures makes { (pid : ℕ) → Makes pid (SetOwner ino uid gid) self.old self.new }
+        ensures served { IsServed self.old → IsServed self.new }
     {
         self.tree.set_owner(ino, uid, gid);
     }
@@ -70,6 +75,7 @@ impl<T: Copy, const M: u8> State<T, M> {
         ensures too_big { IsErrOf result TreeRefusal.TooBig ↔ IsTrue (is_past_file size) }
         ensures full { IsErrOf result TreeRefusal.Full ↔ IsTrue (not (is_past_file size) && has_no_room_for file size self.old.tree) }
         ensures ok { (pid : ℕ) → OnOk result (Makes pid (SetSize file size) self.old self.new) }
+        ensures served { IsServed self.old → IsServed self.new }
         ensures err { OnErr result (meaning self.new ≡ meaning self.old) }
     {
         self.tree.set_size(file, size)
@@ -83,6 +89,7 @@ impl<T: Copy, const M: u8> State<T, M> {
         ensures full { let after = size_written at (length bytes.now) (size self.old.tree file) in
             IsErrOf result TreeRefusal.Full ↔ IsTrue (not (is_past_file after) && has_no_room_for file after self.old.tree) }
         ensures ok { (pid : ℕ) → OnOk result (Makes pid (WriteFile file at bytes.now) self.old self.new) }
+        ensures served { IsServed self.old → IsServed self.new }
         ensures err { OnErr result (meaning self.new ≡ meaning self.old) }
     {
         self.tree.write_file(file, at, bytes)

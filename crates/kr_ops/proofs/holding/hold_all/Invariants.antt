@@ -1,0 +1,7 @@
+use Rattle.std.proofs.Common.{◌≡◌}
+use Rattle.kr_files.specs.Descriptors.{meanings}
+use Rattle.kr_model.specs.Applied.{held_for}
+use Rattle.kr_ops.proofs.holding.hold_all.Given as goal
+
+abbrev pub invariant-loop-fd : goal.invariant-loop-fd
+invariant-loop-fd g l = l.tree ≡ held_for (meanings l.descs) l.files.table l.fd l.initial.tree

@@ -1,0 +1,10 @@
+-- What lawful states are to the code.
+use Rattle.std.specs.Prelude.{ℕ, List}
+use Rattle.kr_view.specs.View.{Row}
+use Rattle.kr_model.specs.Lawful.{IsLawful}
+use Rattle.kr_ops.specs.declared.state.State.{State}
+use Rattle.kr_ops.specs.Meaning.{meaning}
+use Rattle.kr_ops.specs.Sound.{IsServed, IsSound}
+
+abbrev pub LawfulAreSound : Type 0 → ℕ → Type 0
+LawfulAreSound T M = (number : T → ℕ) (table : List Row) (s : State T M) → IsLawful number table (meaning s) → IsServed s → IsSound s
