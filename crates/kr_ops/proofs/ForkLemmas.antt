@@ -1,7 +1,7 @@
 -- A child that the code makes is made in what its state means.
 use Rattle.std.specs.FinMap as map
 use Rattle.std.proofs.Common.{◌≡◌, ℕ, zero, suc, ◌+◌, ◌≤◌, ◌<◌, ◌^◌, List, [], ◌∷◌, ◌++◌, length, get_or, refl, sym, ap, subst, ◌∙◌, true, false, arith, Option, Some, None}
-use Rattle.std.specs.Prelude.{map as map_list, IfSome, IsSome, sum}
+use Rattle.std.specs.Prelude.{map as map_list, slice_set, IfSome, IsSome, sum}
 use Rattle.std.specs.List.{AllByRecursion}
 use Rattle.std.specs.Option.{option_map, option_map_or, option_and_then}
 use Rattle.pr_base.proofs.MapLemmas.{get-mapped}
@@ -26,11 +26,12 @@ use Rattle.kr_ops.specs.declared.state.Process.{Process}
 use Rattle.kr_ops.specs.declared.state.State.{State}
 use Rattle.kr_ops.specs.Living.{HasPid}
 use Rattle.kr_ops.specs.Meaning.{meaning, process_meaning}
-use Rattle.kr_ops.specs.Sound.{IsSound}
+use Rattle.kr_ops.specs.Sound.{IsServed, IsSound}
 use Rattle.kr_ops.proofs.ChangeLemmas.{to_named}
 use Rattle.kr_ops.proofs.CloseLemmas.{place_at}
 use Rattle.kr_ops.proofs.OpeningLemmas.{found, held-is-there}
-use Rattle.kr_ops.proofs.ServeLemmas.{pages-counted, pages_of}
+use Rattle.kr_ops.proofs.PageLemmas.{own-pages, with_mem}
+use Rattle.kr_ops.proofs.ServeLemmas.{names-kept, names-still, pages-counted, pages_of, set-same}
 use Rattle.kr_ops.proofs.UseLemmas.{holds-held-most, holds-held-least, counts-fit}
 
 module _ {T : Type 0} where
@@ -84,7 +85,10 @@ module _ {T : Type 0} where
 
 -- ---- one more at the end of a list
 
-pub all-end : {A : Type 0} (P : A → Type 0) (xs : List A) (x : A) → AllByRecursion P xs → P x → AllByRecursion P (xs ++ x ∷ [])
+pub pushed : {A : Type 0} (ps qs rs : List A) (x : A) → rs ≡ qs ++ x ∷ [] → qs ≡ ps → rs ≡ ps ++ x ∷ []
+pushed ps qs rs x more same = more ∙ ap (λ xs. xs ++ x ∷ []) same
+
+all-end : {A : Type 0} (P : A → Type 0) (xs : List A) (x : A) → AllByRecursion P xs → P x → AllByRecursion P (xs ++ x ∷ [])
 all-end P [] x all here = (here, tt)
 all-end P (y ∷ ys) x all here = (all.0, all-end P ys x all.1 here)
 
@@ -98,6 +102,13 @@ module _ {T : Type 0} {M : ℕ} where
   copies-fit s sound d n h e = let room = counts-fit s sound n h e in let few = below_small (meanings d) n 1024 in omega arith
 
   -- ---- the list of the living
+
+  -- a process whose memory was copied, and so left as it was
+  pub list-before : (ps : List (Process T M)) (k : ℕ) (p : Process T M) (m : Memory) → m ≡ p.mem → p ≡ get_or ps k p → slice_set ps k (with_mem p m) ≡ ps
+  list-before ps k p m same e = ap (λ m. slice_set ps k (with_mem p m)) same ∙ set-same ps k p e
+
+  pub as-before : (ps : List (Process T M)) (k : ℕ) (p q : Process T M) (m : Memory) → m ≡ p.mem → p ≡ get_or ps k p → q ≡ get_or (slice_set ps k (with_mem p m)) k q → q ≡ get_or ps k q
+  as-before ps k p q m same e is = is ∙ ap (λ xs. get_or xs k q) (list-before ps k p m same e)
 
   abbrev pub child : ℕ → ℕ → Regs → Memory → Descriptors → List ℕ → Process T M → Process T M
   child pid parent regs mem descs name p = record {
@@ -117,13 +128,23 @@ module _ {T : Type 0} {M : ℕ} where
   }
 
   -- the room with one process more, which has as many pages as its memory
-  pub room-end : (ps : List (Process T M)) (before after : ℕ) (q : Process T M) → before ≡ pages_in_all image_layout (map_list process_meaning ps) → after ≡ before + pages_of q
+  room-end : (ps : List (Process T M)) (before after : ℕ) (q : Process T M) → before ≡ pages_in_all image_layout (map_list process_meaning ps) → after ≡ before + pages_of q
       → after ≡ pages_in_all image_layout (map_list process_meaning (ps ++ q ∷ []))
   room-end ps before after q is more =
       let all = pages-counted ps in
       let new = pages-counted (ps ++ q ∷ []) in
       let sums = sum-mapped pages_of ps q in
       omega arith
+
+  -- what the code keeps beside what a state means, with a child more
+  pub born-served : (s : State T M) → IsServed s → (files : Kept T) (q : Process T M) (ps : List (Process T M)) (room : ℕ) → files.keys ≡ s.files.keys → ps ≡ s.living.items ++ q ∷ [] → NamesOpenFiles s.files q.descs
+      → room ≡ s.room + page_count q.mem.pages → AllByRecursion (λ (p : Process T M). NamesOpenFiles files p.descs) ps × (room ≡ pages_in_all image_layout (map_list process_meaning ps))
+  born-served s served files q ps room keys is names more =
+      let own = own-pages q in
+      subst (λ (ps : List (Process T M)). AllByRecursion (λ (p : Process T M). NamesOpenFiles files p.descs) ps × (room ≡ pages_in_all image_layout (map_list process_meaning ps))) (sym is) (
+        all-end (λ (p : Process T M). NamesOpenFiles files p.descs) s.living.items q (names-still s.files files (names-kept s.files files keys) s.living.items served.files) (names-kept s.files files keys q.descs names),
+        room-end s.living.items s.room room q served.room (omega arith),
+      )
 
   -- what a state means with a child more
   abbrev pub born_state : State T M → Tree → Table T → List (Process T M) → ℕ → model.State T model.Image

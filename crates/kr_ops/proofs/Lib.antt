@@ -3,6 +3,8 @@ pub mod ChangeLemmas
 pub mod ServeLemmas
 pub mod UseLemmas
 pub mod CloseLemmas
+pub mod ClosingLemmas
+pub mod EndingLemmas
 pub mod OpeningLemmas
 pub mod NameLemmas
 pub mod PageLemmas

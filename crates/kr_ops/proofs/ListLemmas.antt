@@ -53,7 +53,7 @@ module _ {T : Type 0} {M : ℕ} where
 
   -- ---- what is found
 
-  other-at : (n : ℕ) (ps : List (Process T M)) (k : ℕ) (p : Process T M) → HaveOthers n ps → k < length ps → p ≡ get_or ps k p → (p.pid == n) ≡ false
+  pub other-at : (n : ℕ) (ps : List (Process T M)) (k : ℕ) (p : Process T M) → HaveOthers n ps → k < length ps → p ≡ get_or ps k p → (p.pid == n) ≡ false
   other-at n [] k p h l e = absurd (let none : k < 0 = l in omega arith)
   other-at n (x ∷ ps) zero p h l e = subst (λ (y : Process T M). (y.pid == n) ≡ false) (sym e) h.0
   other-at n (x ∷ ps) (suc k) p h l e = other-at n ps k p h.1 (omega arith) e

@@ -44,7 +44,7 @@ module _ {T : Type 0} {M : ℕ} where
   }
 
   -- a process has as many pages as its memory
-  own-pages : (p : Process T M) → pages_of p ≡ page_count p.mem.pages
+  pub own-pages : (p : Process T M) → pages_of p ≡ page_count p.mem.pages
   own-pages p = layouts_follow.count p.mem.pages
 
   -- a process's pages are among those of all

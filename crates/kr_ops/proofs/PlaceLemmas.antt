@@ -10,6 +10,7 @@ use Rattle.kr_model.specs.Change.{MountOf, ChangeDirectory, ReplaceExecutable}
 use Rattle.kr_model.specs.Uses.{at_inode}
 use Rattle.kr_model.specs.State as model
 use Rattle.kr_model.specs.State.{inode_of}
+use Rattle.kr_lawful.proofs.CountLemmas.{released-uses}
 use Rattle.kr_ops.specs.declared.state.Process.{Process}
 use Rattle.kr_ops.specs.declared.state.State.{State}
 use Rattle.kr_ops.specs.Living.{HasPid}
@@ -70,6 +71,15 @@ module _ {T : Type 0} {M : ℕ} where
         let uses : at_inode i 1 (Some p.cwd) + at_inode i 1 (Some p.exe) ≤ holds_at s.tree i = process-held s sound pid i (process_meaning p) (found s pid k p sound h e) in
         let one : at_inode i 1 (Some p.exe) ≡ 1 = ap (λ b. cond b 1 0) (same-test i i refl) in
         omega arith
+
+    -- an executable that is held stays so where the working directory is let go
+    pub executable-still-held : (t : Tree) → t ≡ released_at (Some p.cwd) s.tree → 0 < holds_at t (inode_of p.exe.host)
+    executable-still-held t is =
+        let i : ℕ = inode_of p.exe.host in
+        let uses : at_inode i 1 (Some p.cwd) + at_inode i 1 (Some p.exe) ≤ holds_at s.tree i = process-held s sound pid i (process_meaning p) (found s pid k p sound h e) in
+        let one : at_inode i 1 (Some p.exe) ≡ 1 = ap (λ b. cond b 1 0) (same-test i i refl) in
+        let after = released-uses s.tree (Some p.cwd) i in
+        subst (λ (t : Tree). 0 < holds_at t i) (sym is) (omega arith)
 
     pub moved-means : (place : Place T) (tree end : Tree) → tree ≡ held_at (Some place) s.tree → end ≡ released_at (Some p.cwd) tree
         → (mounts : Mounts T) (from : MountOf) → mount_of mounts pid (meaning s) from ≡ Some place.mount

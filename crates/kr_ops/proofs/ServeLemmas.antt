@@ -43,6 +43,11 @@ all-set P (y ∷ ys) zero x others here = (here, rest ys (λ j z l e. others (su
 all-set P (y ∷ ys) (suc k) x others here =
     (others 0 y (λ same. omega arith) (omega arith) refl, all-set P ys k x (λ j z d l e. others (suc j) z (λ same. d (omega arith)) (omega arith) e) here)
 
+pub set-same : {A : Type 0} (xs : List A) (k : ℕ) (x : A) → x ≡ get_or xs k x → slice_set xs k x ≡ xs
+set-same [] k x e = refl
+set-same (y ∷ ys) zero x e = ap (λ z. z ∷ ys) e
+set-same (y ∷ ys) (suc k) x e = ap (λ zs. y ∷ zs) (set-same ys k x e)
+
 -- a sum in which one summand was replaced
 pub sum-set : {A : Type 0} (f : A → ℕ) (xs : List A) (k : ℕ) (x y : A) → k < length xs → x ≡ get_or xs k x → sum (map_list f (slice_set xs k y)) + f x ≡ sum (map_list f xs) + f y
 sum-set f [] k x y l e = absurd (let none : k < 0 = l in omega arith)

@@ -1,6 +1,6 @@
 -- What is held in a sound state, and that one hold and one descriptor more fit.
 use Rattle.std.specs.FinMap as map
-use Rattle.std.proofs.Common.{◌≡◌, ℕ, ◌+◌, ◌≤◌, ◌<◌, ◌^◌, sym, subst, arith, Option, Some, None}
+use Rattle.std.proofs.Common.{◌≡◌, ℕ, ◌+◌, ◌≤◌, ◌<◌, ◌^◌, List, sym, subst, arith, Option, Some, None}
 use Rattle.std.specs.Option.{option_map, option_map_or}
 use Rattle.pr_base.proofs.MapLemmas.{by_key, get-changed_same, get-changed_other}
 use Rattle.kr_tree.specs.Tree.{Tree, Inode}
@@ -8,15 +8,18 @@ use Rattle.kr_tree.specs.Changes.{held, with_holds}
 use Rattle.kr_tree.specs.Holds.{holds_at}
 use Rattle.kr_tree.specs.declared.place.Place.{Place}
 use Rattle.kr_files.specs.Files.{Counted}
+use Rattle.kr_view.specs.View.{Row}
 use Rattle.kr_model.specs.Applied.{held_at}
+use Rattle.kr_model.specs.Bare.{pins_of}
+use Rattle.kr_model.specs.Lawful.{IsLawful}
 use Rattle.kr_model.specs.State as model
 use Rattle.kr_model.specs.State.{place_of, inode_of}
 use Rattle.kr_model.specs.Uses.{process_use}
 use Rattle.kr_model.proofs.TreeLemmas.{holds-held}
-use Rattle.kr_lawful.proofs.HoldingLemmas.{holds_fit, used_is_held}
+use Rattle.kr_lawful.proofs.HoldingLemmas.{holds_fit, pins-few, used_is_held}
 use Rattle.kr_ops.specs.declared.state.State.{State}
 use Rattle.kr_ops.specs.Meaning.{meaning}
-use Rattle.kr_ops.specs.Sound.{IsSound}
+use Rattle.kr_ops.specs.Sound.{IsServed, IsSound}
 
 -- a hold adds one at most, and takes none away
 pub holds-held-most : {T : Type 0} (o : Option (Place T)) (t : Tree) (i : ℕ) → holds_at (held_at o t) i ≤ holds_at t i + 1
@@ -47,3 +50,14 @@ module _ {T : Type 0} {M : ℕ} (s : State T M) (sound : IsSound s) where
 
   pub process-held : (pid i : ℕ) (p : model.Process T model.Image) → model.process pid (meaning s) ≡ Some p → process_use i p ≤ holds_at s.tree i
   process-held pid i p e = (used_is_held T model.Image sound.pins (meaning s) sound.uses).lives pid i p e
+
+-- a state that means a lawful state is sound
+pub sound-of : {T : Type 0} {M : ℕ} (number : T → ℕ) (table : List Row) (s : State T M) → IsLawful number table (meaning s) → IsServed s → IsSound s
+sound-of number table s lawful served = record {
+  served = served;
+  pids = lawful.pids;
+  descriptors = lawful.descriptors;
+  pins = pins_of table;
+  few = pins-few table;
+  uses = lawful.uses;
+}

@@ -1,4 +1,5 @@
 pub mod Children
+pub mod Ending
 pub mod Laws
 pub mod Living
 pub mod Making

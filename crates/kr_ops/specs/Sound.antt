@@ -1,10 +1,11 @@
 -- What holds of every state of the code, whatever the view: the facts on which its changes rest.
-use Rattle.std.specs.Prelude.{◌≡◌, ◌≤◌, ◌<◌, ℕ, Some, IsSome}
+use Rattle.std.specs.Prelude.{◌≡◌, ◌≤◌, ◌<◌, ℕ, List, Some, IsSome}
 use Rattle.std.specs.List.{AllByRecursion}
 use Rattle.kr_files.specs.Descriptors.{Named}
 use Rattle.kr_files.specs.Files.{NamesOpenFiles, file_at}
+use Rattle.kr_view.specs.View.{Row}
 use Rattle.kr_model.specs.Known.{pages_in_all}
-use Rattle.kr_model.specs.Lawful.{ArePids}
+use Rattle.kr_model.specs.Lawful.{ArePids, IsLawful}
 use Rattle.kr_model.specs.State.{image_layout, named}
 use Rattle.kr_model.specs.Uses.{AreUses}
 use Rattle.kr_ops.specs.declared.state.State.{State}
@@ -28,3 +29,10 @@ module _ {T : Type 0} {M : ℕ} where
     pub pins : ℕ → ℕ
     pub few : (i : ℕ) → pins i ≤ 1
     pub uses : AreUses pins (meaning s)
+
+  -- a lawful state of some view, for changes that go through states between
+  pub record IsOfView (s : State T M) : Type 0 where
+    pub number : T → ℕ
+    pub table : List Row
+    pub lawful : IsLawful number table (meaning s)
+    pub served : IsServed s

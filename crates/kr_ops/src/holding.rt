@@ -12,7 +12,7 @@ use kr_files::{Descs, Files};
 use kr_tree::{Host, Ino, Place, Tree};
 
 /// How many descriptors a process may have.
-const DESCRIPTORS: u32 = 1024;
+pub(crate) const DESCRIPTORS: u32 = 1024;
 
 /// The inode of an object of the host; what stands in the process directory has that directory's.
 pub(crate) fn inode_of(host: Host) -> Ino

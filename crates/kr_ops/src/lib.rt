@@ -3,9 +3,12 @@
 
 mod asking;
 mod changing;
+mod closing;
 mod console;
 mod descriptors;
+mod ending;
 mod executing;
+mod forking;
 mod holding;
 pub mod laws;
 mod living;
