@@ -6,7 +6,7 @@ use Rattle.std.proofs.lemmas.List.Elements.{All-nil, All-cons, All-head, All-tai
 use Rattle.pr_base.specs.Paths.{slash, IsPart, AreParts, below_root, text_of}
 use Rattle.pr_base.specs.Texts.{Text}
 use Rattle.pt_bind.specs.Binding.{IsWritten, names_of}
-use Rattle.pt_bind.proofs.ByteLemmas.{below_root_parts}
+use Rattle.pt_bind.proofs.ByteLemmas.{below_root_parts, names_written}
 use Rattle.pt_bind.proofs.RowLemmas.{drop_front}
 use Rattle.pt_canon.specs.Kept.{IsBelowRoot, IsParted}
 use Rattle.pt_canon.specs.ProcessLinks.{above}
@@ -56,6 +56,9 @@ text_some bytes w some = at (names_of bytes) (below_is bytes w)
 
 pub text_written : (bytes : List ℕ) → IsBelowRoot bytes → (text : List ℕ) → text ≡ text_of (names_of bytes) → IsWritten text
 text_written bytes w text e = record { names = names_of bytes; are_parts = below_parts bytes w; written = e }
+
+pub text_names : (bytes : List ℕ) → IsBelowRoot bytes → (text : List ℕ) → text ≡ text_of (names_of bytes) → names_of text ≡ names_of bytes
+text_names bytes w text e = ap names_of e ∙ names_written (names_of bytes) (below_parts bytes w)
 
 -- ---- cutting at the last slash
 

@@ -17,7 +17,7 @@ use Rattle.pr_base.specs.declared.peeks.BaseKind.TheVariants as base
 use Rattle.pr_base.specs.declared.peeks.PeekKind.{PeekKind}
 use Rattle.pr_base.specs.declared.peeks.PeekKind.TheVariants as kind
 use Rattle.pt_canon.specs.Canon.{canon_of}
-use Rattle.pt_canon.specs.TextWalk.{TextSurroundings}
+use Rattle.pt_canon.specs.TextWalk.{TextSurroundings, look_text, seen_text}
 use Rattle.pt_canon.specs.declared.canon.Canon.{Canon}
 
 abbrev is_in : List (List ℕ) → List ℕ → Bool
@@ -67,67 +67,67 @@ abbrev at : List ℕ → List ℕ → ℕ → Last → Bool → Bool → Result 
 at guest host index last slash exists = Ok (record { guest = guest; host = host; index = index; last = last; slash = slash; exists = exists })
 
 longest_location : canon_of nested modes.Look [] (codes "/mnt/x/n") ≡ at (codes "/mnt/x/n") (codes "/data/n") 1 last.Name false true
-unfolding walk_on
+unfolding walk_on look_text seen_text
 longest_location = refl
 
 shorter_location : canon_of nested modes.Look [] (codes "/mnt/o") ≡ at (codes "/mnt/o") (codes "/other/o") 2 last.Name false true
-unfolding walk_on
+unfolding walk_on look_text seen_text
 shorter_location = refl
 
 byte_prefix : canon_of one modes.Name [] (codes "/mntx") ≡ at (codes "/mntx") (codes "/g/mntx") 0 last.Name false false
-unfolding walk_on
+unfolding walk_on look_text seen_text
 byte_prefix = refl
 
 absolute_link : canon_of one modes.Look [] (codes "/mnt/abs") ≡ at (codes "/f") (codes "/g/f") 0 last.Name false true
-unfolding walk_on
+unfolding walk_on look_text seen_text
 absolute_link = refl
 
 -- the link's text leads up from its directory, and its slash counts as the path's
 relative_link : canon_of one modes.Open [] (codes "/mnt/up") ≡ at (codes "/f") (codes "/g/f") 0 last.Name true true
-unfolding walk_on
+unfolding walk_on look_text seen_text
 relative_link = refl
 
 slash_behind_a_file : canon_of one modes.Look [] (codes "/mnt/up") ≡ Err ENOTDIR
-unfolding walk_on
+unfolding walk_on look_text seen_text
 slash_behind_a_file = refl
 
 link_itself : canon_of one modes.Name [] (codes "/mnt/up") ≡ at (codes "/mnt/up") (codes "/data/up") 1 last.Name false true
-unfolding walk_on
+unfolding walk_on look_text seen_text
 link_itself = refl
 
 up_from_a_mount : canon_of one modes.Look (codes "mnt" ∷ []) (codes "..") ≡ at (codes "/") (codes "/g") 0 last.DotDot false true
-unfolding walk_on
+unfolding walk_on look_text seen_text
 up_from_a_mount = refl
 
 past_the_root : canon_of one modes.Look [] (codes "../../mnt/n") ≡ at (codes "/mnt/n") (codes "/data/n") 1 last.Name false true
-unfolding walk_on
+unfolding walk_on look_text seen_text
 past_the_root = refl
 
 -- where a name may be free, a last `..` answers the directory in which it stands
 dots_where_a_name_may_be_free : canon_of one modes.Name [] (codes "/a/..") ≡ at (codes "/a") (codes "/g/a") 0 last.DotDot false false
-unfolding walk_on
+unfolding walk_on look_text seen_text
 dots_where_a_name_may_be_free = refl
 
 root_where_a_name_may_be_free : canon_of one modes.Open [] (codes "/") ≡ at (codes "/") (codes "/g") 0 last.Root false false
-unfolding walk_on
+unfolding walk_on look_text seen_text
 root_where_a_name_may_be_free = refl
 
 free_name : canon_of one modes.Open [] (codes "/mnt/z/") ≡ at (codes "/mnt/z") (codes "/data/z") 1 last.Name true false
-unfolding walk_on
+unfolding walk_on look_text seen_text
 free_name = refl
 
 missing_name : canon_of one modes.Look [] (codes "/mnt/z") ≡ Err ENOENT
-unfolding walk_on
+unfolding walk_on look_text seen_text
 missing_name = refl
 
 up_from_nothing : canon_of one modes.Look [] (codes "/z/..") ≡ Err ENOENT
-unfolding walk_on
+unfolding walk_on look_text seen_text
 up_from_nothing = refl
 
 up_from_a_file : canon_of one modes.Look [] (codes "/f/..") ≡ Err ENOTDIR
-unfolding walk_on
+unfolding walk_on look_text seen_text
 up_from_a_file = refl
 
 up_from_a_closed_directory : canon_of one modes.Look [] (codes "/closed/..") ≡ Err EACCES
-unfolding walk_on
+unfolding walk_on look_text seen_text
 up_from_a_closed_directory = refl

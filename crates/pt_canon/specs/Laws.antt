@@ -8,7 +8,7 @@ use Rattle.pr_base.specs.declared.errno.Errno.TheVariants.{ENOENT, ENOTDIR}
 use Rattle.pr_base.specs.declared.path.WalkMode.{WalkMode}
 use Rattle.pr_base.specs.declared.peeks.PeekKind.{PeekKind}
 use Rattle.pr_base.specs.declared.peeks.PeekKind.TheVariants as kind
-use Rattle.pt_bind.specs.Binding.{host_of}
+use Rattle.pt_bind.specs.Binding.{host_of, index_of}
 use Rattle.pt_canon.specs.Canon.{canon_of}
 use Rattle.pt_canon.specs.ProcessLinks.{above, jump_at}
 use Rattle.pt_canon.specs.TextWalk.{TextSurroundings, itself_in, look_text}
@@ -56,3 +56,11 @@ IsPlain texts (name ∷ t) = IsPlain texts t × ((is_dir : _) × (look_text text
 abbrev pub TextsLeadToThemselves : Type 0
 TextsLeadToThemselves =
     (texts : TextSurroundings) (mode : WalkMode) (base t : Text) → AreParts t → IsPlain texts t → (c : Canon) × (canon_of texts mode base (text_of t) ≡ Ok c) × (c.guest ≡ text_of t)
+
+-- ---- answers
+
+-- the host text and the index of an answer are those of its guest text
+abbrev pub AnswersAreOfTheirTexts : Type 0
+AnswersAreOfTheirTexts =
+    (texts : TextSurroundings) (mode : WalkMode) (base : Text) (path : List ℕ) (c : Canon) → canon_of texts mode base path ≡ Ok c
+    → (t : Text) × (c.guest ≡ text_of t) × (c.host ≡ text_of (host_of texts.bindings t)) × (c.index ≡ index_of texts.bindings t)

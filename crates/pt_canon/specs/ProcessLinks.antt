@@ -94,9 +94,9 @@ landing_of_guest bindings peeked name guest = text_landing (is_dir_kind (peeked.
 abbrev pub landing_of_name : List MountText → Peeked → TagTable → ProcessLink → Text → Option (Landing Text Text)
 landing_of_name bindings peeked tags link name = option_map (landing_of_guest bindings peeked name) (link_guest bindings tags link name)
 
-abbrev pub landing_of : List MountText → Peeked → TagTable → ProcessLink → Option (Landing Text Text)
+unfoldable pub landing_of : List MountText → Peeked → TagTable → ProcessLink → Option (Landing Text Text)
 landing_of bindings peeked tags link = option_and_then (landing_of_name bindings peeked tags link) (link_name peeked link)
 
 -- where the link at a host text leads, if it leads anywhere
-abbrev pub jump_at : List MountText → Peeked → TagTable → Text → Option (Landing Text Text)
+unfoldable pub jump_at : List MountText → Peeked → TagTable → Text → Option (Landing Text Text)
 jump_at bindings peeked tags host = option_and_then (landing_of bindings peeked tags) (link_at host)

@@ -43,7 +43,7 @@ seen_kind texts t host (Ok kind.Link) = seen_link t (texts.peeked.link_text (tex
 seen_kind texts t host (Ok kind.Jump) = Jumps t (jump_at texts.bindings texts.peeked texts.tags host)
 seen_kind texts t host (Err e) = seen_error e
 
-abbrev pub seen_text : TextSurroundings → Text → SeenText
+unfoldable pub seen_text : TextSurroundings → Text → SeenText
 seen_text texts t = seen_kind texts t (host_of texts.bindings t) (texts.peeked.kind (text_of (host_of texts.bindings t)))
 
 -- ---- one component
@@ -74,7 +74,7 @@ where_found (Err e) seen = Fails e
 abbrev pub in_host : Peeked → Text → SeenText → SeenText
 in_host peeked host seen = in_directory (peeked.kind (text_of host)) (where_found (peeked.kind (itself_in host)) seen)
 
-abbrev pub look_text : TextSurroundings → Text → Component → SeenText
+unfoldable pub look_text : TextSurroundings → Text → Component → SeenText
 look_text texts t c = in_host texts.peeked (host_of texts.bindings t) (inside_text texts t c)
 
 -- ---- the walk

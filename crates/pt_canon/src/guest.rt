@@ -50,6 +50,7 @@ impl Guest {
     pub(crate) fn text(&self) -> &[u8]
         ensures text { result.now ≡ text_of self.now }
         ensures written { IsWritten result.now }
+        ensures names { names_of result.now ≡ self.now }
     {
         if self.bytes.is_empty() {
             b"/".as_slice()

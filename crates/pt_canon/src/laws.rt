@@ -1,5 +1,5 @@
 //! Laws of the definitions, each carried by a function that does nothing.
-ghost use Rattle.pt_canon.specs.Laws.{TextsAreLookedAt, TextsLeadToThemselves};
+ghost use Rattle.pt_canon.specs.Laws.{AnswersAreOfTheirTexts, TextsAreLookedAt, TextsLeadToThemselves};
 
 /// Each case of looking at a component from a guest text.
 pub fn texts_are_looked_at()
@@ -9,4 +9,9 @@ pub fn texts_are_looked_at()
 /// A walk along a text on which no link stands comes to that text.
 pub fn texts_lead_to_themselves()
     ensures { TextsLeadToThemselves }
+{}
+
+/// The host text and the index of an answer are those of its guest text.
+pub fn answers_are_of_their_texts()
+    ensures { AnswersAreOfTheirTexts }
 {}

@@ -2,9 +2,13 @@
 #![tactic(auto)]
 
 pub mod canon;
+mod component;
 mod ending;
 mod guest;
+mod host;
 pub mod laws;
 mod link;
+mod sight;
+mod translation;
 
 pub use canon::{Canon, WalkErr};

@@ -1,0 +1,8 @@
+use Rattle.std.proofs.Common.{◌∙◌, ap}
+use Rattle.pr_base.specs.Paths.{is_absolute, dot}
+use Rattle.pr_base.proofs.PathLemmas.{below_root_absolute}
+use Rattle.pt_bind.specs.Binding.{names_of}
+use Rattle.pt_canon.proofs.host.find_itself.Goals as goal
+
+pub kind-requires : goal.kind-requires
+kind-requires g c = ap is_absolute (c.as_slice.ensures ∙ c.in_ok-itself.ensures) ∙ below_root_absolute (names_of c.args.host.now) dot

@@ -1,0 +1,36 @@
+use Rattle.std.proofs.Common.{◌≡◌, ◌∙◌, Ok, ap, sym, subst}
+use Rattle.pr_base.specs.Peeks.{Peeked}
+use Rattle.pr_base.specs.declared.peeks.PeekKind.TheVariants as kind
+use Rattle.pt_bind.specs.Binding.{names_of}
+use Rattle.pt_canon.specs.Laws.{host_bytes}
+use Rattle.pt_canon.specs.Looks.{texts_in, IsItselfTold, IsKnown}
+use Rattle.pt_canon.specs.TextWalk.{itself_in}
+use Rattle.pt_canon.specs.declared.sight.Known.{Known}
+use Rattle.pt_canon.proofs.LookLemmas.{entered_itself, not_entered}
+use Rattle.pt_canon.proofs.translation.Translation.enter.Goals as goal
+
+pub returns-in_err-find_directory-in-Nothing-clause-answer : goal.returns-in_err-find_directory-in-Nothing-clause-answer
+returns-in_err-find_directory-in-Nothing-clause-answer g c =
+    let texts = texts_in c.args.self.now (g.K.Peeks.peeked c.args.kernel.now) in
+    let here = c.as_slice-in-Nothing.ensures ∙ c.in_ok-host-in-Nothing.ensures.host in
+    let residual = c.from_residual-in_err-find_directory-in-Nothing in
+    not_entered texts c.args.at.now c.as_slice-in-Nothing.result.now c.in_err-find_directory-in-Nothing.field-0.0 residual.result here c.in_err-find_directory-in-Nothing.ensures.answer residual.ensures.0 residual.ensures.1
+
+pub returns-in_ok-host-in-Directory-clause-answer : goal.returns-in_ok-host-in-Directory-clause-answer
+returns-in_ok-host-in-Directory-clause-answer g c =
+    let texts = texts_in c.args.self.now (g.K.Peeks.peeked c.args.kernel.now) in
+    let P : Known → Type 0 = λ known. IsKnown texts c.args.at.now known in
+    let dir : texts.peeked.kind (host_bytes texts c.args.at.now) ≡ Ok kind.Dir = subst P c.in-Directory.is c.requires in
+    let names = ap names_of c.as_slice.ensures ∙ c.in_ok-host-in-Directory.ensures.names in
+    entered_itself texts c.args.at.now c.as_slice.result.now c.find_itself.result dir names c.find_itself.ensures.answer
+
+pub returns-in_ok-find_directory-in-Nothing-clause-answer : goal.returns-in_ok-find_directory-in-Nothing-clause-answer
+returns-in_ok-find_directory-in-Nothing-clause-answer g c =
+    let peeked = g.K.Peeks.peeked c.args.kernel.now in
+    let texts = texts_in c.args.self.now peeked in
+    let dir : peeked.kind (host_bytes texts c.args.at.now) ≡ Ok kind.Dir =
+    ap peeked.kind (sym (c.as_slice-in-Nothing.ensures ∙ c.in_ok-host-in-Nothing.ensures.host)) ∙ c.in_ok-find_directory-in-Nothing.ensures.answer in
+    let P : Peeked → Type 0 = λ p. IsItselfTold (p.kind (itself_in (names_of c.as_slice-in-Nothing-2.result.now))) c.find_itself-in-Nothing.result in
+    let told : P peeked = subst P c.find_directory.ensures.same c.find_itself-in-Nothing.ensures.answer in
+    let names = ap names_of c.as_slice-in-Nothing-2.ensures ∙ c.in_ok-host-in-Nothing.ensures.names in
+    entered_itself texts c.args.at.now c.as_slice-in-Nothing-2.result.now c.find_itself-in-Nothing.result dir names told

@@ -1,0 +1,181 @@
+//! Looking at guest texts through the kernel that runs the process.
+ghost use Rattle.std.specs.Prelude.{◌≡◌, Ok, IfOk, IfSome};
+ghost use Rattle.std.specs.Option.{option_map};
+ghost use Rattle.pr_base.specs.Paths.{text_of};
+ghost use Rattle.pt_bind.specs.Binding.{IsWritten, guest_of, host_of, names_of, rows_of};
+ghost use Rattle.pt_canon.specs.Laws.{host_bytes};
+ghost use Rattle.pt_canon.specs.ProcessLinks.{jump_at, landing_of, link_guest, link_name};
+ghost use Rattle.pt_canon.specs.TextWalk.{seen_kind, seen_text};
+ghost use Rattle.pt_canon.specs.Looks.{texts_in, led, IsKnown, IsEntered, IsSeen};
+
+use crate::canon::WalkErr;
+use crate::guest::Guest;
+use crate::host::{find_directory, find_itself, kind_at, link_text_at};
+use crate::link::{ProcessLink, link_at};
+use crate::sight::{Known, Sight, unseen};
+use pr_base::{Bytes, NoMemory, PeekKind, Peeks};
+use pt_bind::{Table, Tags};
+use std::alloc::Global;
+
+/// What a tracer translates texts by: its table of bindings and its tags.
+#[derive(Clone, Copy)]
+pub(crate) struct Translation<'a> {
+    pub(crate) alloc: Global,
+    pub(crate) table: &'a Table,
+    pub(crate) tags: &'a Tags,
+}
+
+impl<'a> Translation<'a> {
+    /// The host text of a guest text.
+    pub(crate) fn host(&self, at: &Guest) -> Result<Bytes, NoMemory>
+        ensures host { IfOk result (λ host. host ≡ text_of (host_of (rows_of self.now.table.now) at.now)) }
+        ensures written { IfOk result IsWritten }
+        ensures names { IfOk result (λ host. names_of host ≡ host_of (rows_of self.now.table.now) at.now) }
+    {
+        self.table.host_of(at.text())
+    }
+
+    /// Finds that a guest text is that of a directory which may be searched, or why nothing in it can be looked up.
+    /// What is known of it isn't asked again.
+    pub(crate) fn enter<K: Peeks>(
+        &self,
+        kernel: &mut K,
+        at: &Guest,
+        known: Known,
+    ) -> Result<(), WalkErr>
+        requires { IsKnown (texts_in self.now (K.peeked kernel.old)) at.now known }
+        ensures answer { IsEntered (texts_in self.now (K.peeked kernel.old)) at.now result }
+        ensures same { K.peeked kernel.new ≡ K.peeked kernel.old }
+        ensures rest { K.kept kernel.new ≡ K.kept kernel.old }
+    {
+        match known {
+            Known::Open => Ok(()),
+            Known::Directory => {
+                let host = self.host(at)?;
+                find_itself(self.alloc, kernel, host.as_slice())
+            }
+            Known::Nothing => {
+                let host = self.host(at)?;
+                find_directory(kernel, host.as_slice())?;
+                find_itself(self.alloc, kernel, host.as_slice())
+            }
+        }
+    }
+
+    /// What stands at a guest text of which the directory may be searched.
+    pub(crate) fn see<K: Peeks>(&self, kernel: &mut K, at: &Guest) -> Result<Sight, WalkErr>
+        ensures answer { let texts = texts_in self.now (K.peeked kernel.old) in IsSeen texts at.now (seen_text texts at.now) result }
+        ensures same { K.peeked kernel.new ≡ K.peeked kernel.old }
+        ensures rest { K.kept kernel.new ≡ K.kept kernel.old }
+    {
+        let host = self.host(at)?;
+        match kind_at(kernel, host.as_slice()) {
+            Ok(kind) => self.sight_of(kernel, at, host.as_slice(), kind),
+            Err(fault) => unseen(fault),
+        }
+    }
+
+    /// What a guest text shows, by its host text and what stands there.
+    fn sight_of<K: Peeks>(
+        &self,
+        kernel: &mut K,
+        at: &Guest,
+        host: &[u8],
+        kind: PeekKind,
+    ) -> Result<Sight, WalkErr>
+        requires written { IsWritten host.now }
+        requires host { host.now ≡ host_bytes (texts_in self.now (K.peeked kernel.old)) at.now }
+        ensures answer { let texts = texts_in self.now (K.peeked kernel.old) in IsSeen texts at.now (seen_kind texts at.now (host_of texts.bindings at.now) (Ok kind)) result }
+        ensures same { K.peeked kernel.new ≡ K.peeked kernel.old }
+        ensures rest { K.kept kernel.new ≡ K.kept kernel.old }
+    {
+        match kind {
+            PeekKind::Dir => Ok(Sight::Directory),
+            PeekKind::File => Ok(Sight::File),
+            PeekKind::Jump => Ok(Sight::Jumps),
+            PeekKind::Link => {
+                let text = link_text_at(kernel, host)?;
+                Ok(Sight::Links(text))
+            }
+        }
+    }
+
+    /// Where a link of the process directory leads, by its guest text: to the guest text of its object, by the object's
+    /// tag. `None` where there is none.
+    pub(crate) fn lead<K: Peeks>(
+        &self,
+        kernel: &mut K,
+        link: &Guest,
+    ) -> Result<Option<Guest>, NoMemory>
+        ensures answer { let texts = texts_in self.now (K.peeked kernel.old) in
+            IfOk result (λ guest. guest ≡ led (jump_at texts.bindings texts.peeked texts.tags (host_of texts.bindings link.now))) }
+        ensures same { K.peeked kernel.new ≡ K.peeked kernel.old }
+        ensures rest { K.kept kernel.new ≡ K.kept kernel.old }
+    {
+        let host = self.host(link)?;
+        match link_at(host.as_slice()) {
+            Some(link) => self.lead_of(kernel, link),
+            None => Ok(None),
+        }
+    }
+
+    /// Where a link of the process directory leads.
+    fn lead_of<K: Peeks>(
+        &self,
+        kernel: &mut K,
+        link: ProcessLink,
+    ) -> Result<Option<Guest>, NoMemory>
+        ensures answer { let texts = texts_in self.now (K.peeked kernel.old) in
+            IfOk result (λ guest. guest ≡ led (landing_of texts.bindings texts.peeked texts.tags link)) }
+        ensures same { K.peeked kernel.new ≡ K.peeked kernel.old }
+        ensures rest { K.kept kernel.new ≡ K.kept kernel.old }
+    {
+        match link_name(self.alloc, kernel, link)? {
+            Some(name) => self.guest_of(link, name.as_slice()),
+            None => Ok(None),
+        }
+    }
+
+    /// The guest text of what a link of the process directory leads to, by its host name.
+    fn guest_of(&self, link: ProcessLink, name: &[u8]) -> Result<Option<Guest>, NoMemory>
+        requires { IsWritten name.now }
+        ensures { IfOk result (λ guest. guest ≡ link_guest (rows_of self.now.table.now) self.now.tags.now link (names_of name.now)) }
+    {
+        match link {
+            ProcessLink::Cwd(pid) => self.tagged(self.tags.cwd(pid), name),
+            ProcessLink::Exe(pid) => self.tagged(self.tags.exe(pid), name),
+            ProcessLink::Root(_) => Ok(Some(Guest::root(self.alloc))),
+            ProcessLink::Fd(pid, fd) => self.tagged(self.tags.fd(pid, fd), name),
+        }
+    }
+
+    /// The guest text that a tag and a host name give, if they give one.
+    fn tagged(&self, tag: u32, name: &[u8]) -> Result<Option<Guest>, NoMemory>
+        requires { IsWritten name.now }
+        ensures { IfOk result (λ guest. guest ≡ guest_of (rows_of self.now.table.now) tag (names_of name.now)) }
+    {
+        match self.table.guest_of(tag, name)? {
+            Some(guest) => Ok(Some(Guest::of(self.alloc, guest.as_slice())?)),
+            None => Ok(None),
+        }
+    }
+}
+
+/// The host name of what a link of the process directory leads to, if that has one.
+fn link_name<K: Peeks>(
+    alloc: Global,
+    kernel: &mut K,
+    link: ProcessLink,
+) -> Result<Option<Bytes>, NoMemory>
+    ensures name { IfOk result (λ name. option_map names_of name ≡ link_name (K.peeked kernel.old) link) }
+    ensures written { IfOk result (λ name. IfSome name IsWritten) }
+    ensures same { K.peeked kernel.new ≡ K.peeked kernel.old }
+    ensures rest { K.kept kernel.new ≡ K.kept kernel.old }
+{
+    match link {
+        ProcessLink::Cwd(pid) => kernel.cwd_name(pid),
+        ProcessLink::Exe(pid) => kernel.exe_name(pid),
+        ProcessLink::Root(_) => Ok(Some(Bytes::copy(alloc, b"/")?)),
+        ProcessLink::Fd(pid, fd) => kernel.base_name(pid, fd),
+    }
+}
