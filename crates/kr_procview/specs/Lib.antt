@@ -1,0 +1,6 @@
+pub mod Held
+pub mod Laws
+pub mod Numbered
+pub mod Shown
+pub mod Standing
+pub mod Targets
