@@ -17,7 +17,7 @@ use Rattle.kr_model.specs.State.{inode_of, place_of}
 use Rattle.kr_model.specs.Applied.{released_at, close, close_named}
 use Rattle.kr_ops.specs.declared.state.State.{State}
 use Rattle.kr_ops.specs.declared.state.Process.{Process}
-use Rattle.kr_ops.specs.Living.{HaveOthers, HasPid}
+use Rattle.kr_ops.specs.Living.{HasPid}
 use Rattle.kr_ops.specs.Meaning.{meaning, process_meaning}
 use Rattle.kr_ops.specs.Sound.{IsSound}
 use Rattle.kr_ops.proofs.ChangeLemmas.{to_named, named-at, shut}

@@ -1,6 +1,6 @@
 -- A process that ends in the code ends in what its state means.
 use Rattle.std.specs.FinMap as map
-use Rattle.std.proofs.Common.{◌≡◌, ◌≢◌, ℕ, zero, suc, ◌+◌, ◌≤◌, ◌<◌, Bool, true, false, cond, List, [], ◌∷◌, ◌++◌, take, drop, length, get_or, refl, sym, ap, subst, ◌∙◌, arith, Option, Some, None, is_some, inl, inr}
+use Rattle.std.proofs.Common.{◌≡◌, ℕ, zero, suc, ◌+◌, ◌≤◌, ◌<◌, Bool, true, false, cond, List, [], ◌∷◌, length, get_or, refl, sym, ap, subst, ◌∙◌, arith, Option, Some, None, is_some}
 use Rattle.std.specs.Prelude.{map as map_list, ◌==◌, not, nat_lt, sum}
 use Rattle.std.specs.List.{AllByRecursion, filter, insert, position, position_or_len, remove}
 use Rattle.std.specs.Option.{option_map_or, unwrap_or}
@@ -24,7 +24,7 @@ use Rattle.kr_ops.specs.declared.state.State.{State}
 use Rattle.kr_ops.specs.Ending.{adopted}
 use Rattle.kr_ops.specs.Living.{AreApart, HasPid, HaveOthers}
 use Rattle.kr_ops.specs.Meaning.{ended_meaning, meaning, process_meaning}
-use Rattle.kr_ops.specs.Sound.{IsServed, IsSound}
+use Rattle.kr_ops.specs.Sound.{IsSound}
 use Rattle.kr_ops.proofs.ListLemmas.{apart, apart-test, has-number, other-at, same-test, turned-test}
 use Rattle.kr_ops.proofs.NameLemmas.{KeepsUse, each-means, each-named, each-paged}
 use Rattle.kr_ops.proofs.OpeningLemmas.{found}

@@ -1,6 +1,6 @@
 -- A child that the code makes is made in what its state means.
 use Rattle.std.specs.FinMap as map
-use Rattle.std.proofs.Common.{◌≡◌, ℕ, zero, suc, ◌+◌, ◌≤◌, ◌<◌, ◌^◌, List, [], ◌∷◌, ◌++◌, length, get_or, refl, sym, ap, subst, ◌∙◌, true, false, arith, Option, Some, None}
+use Rattle.std.proofs.Common.{◌≡◌, ℕ, zero, suc, ◌+◌, ◌≤◌, ◌<◌, ◌^◌, List, [], ◌∷◌, ◌++◌, get_or, refl, sym, ap, subst, ◌∙◌, false, arith, Option, Some, None}
 use Rattle.std.specs.Prelude.{map as map_list, slice_set, IfSome, IsSome, sum}
 use Rattle.std.specs.List.{AllByRecursion}
 use Rattle.std.specs.Option.{option_map, option_map_or, option_and_then}
@@ -12,8 +12,8 @@ use Rattle.kr_tree.specs.Holds.{holds_at}
 use Rattle.kr_tree.specs.declared.place.Place.{Place}
 use Rattle.kr_files.specs.declared.descs.Descriptor.{Descriptor}
 use Rattle.kr_files.specs.declared.opened.Opened.{Opened}
-use Rattle.kr_files.specs.Descriptors.{Descriptors, Named, meanings, named_count}
-use Rattle.kr_files.specs.Files.{Counted, Kept, Table, FitsCopies, NamesOpenFiles, file_at, on_table, with_copies}
+use Rattle.kr_files.specs.Descriptors.{Descriptors, Named, meanings}
+use Rattle.kr_files.specs.Files.{Kept, Table, FitsCopies, NamesOpenFiles, file_at, on_table, with_copies}
 use Rattle.kr_files.proofs.CountLemmas.{below_small}
 use Rattle.kr_model.specs.Applied.{Mounts, images, applied, child_of, child_regs, forked_from, held_at, held_for, told}
 use Rattle.kr_model.specs.Change.{Birth, Fork}

@@ -1,9 +1,8 @@
 -- Descriptors that the code makes are made in what its state means.
 use Rattle.std.specs.FinMap as map
-use Rattle.std.proofs.Common.{◌≡◌, ◌≢◌, ℕ, ◌+◌, ◌≤◌, ◌<◌, ◌^◌, List, length, get_or, refl, sym, ap, subst, ◌∙◌, Bool, true, false, cond, arith, Option, Some, None}
+use Rattle.std.proofs.Common.{◌≡◌, ℕ, ◌+◌, ◌<◌, ◌^◌, get_or, refl, sym, ap, subst, ◌∙◌, Bool, true, false, arith, Option, Some, None}
 use Rattle.std.specs.Prelude.{◌↔◌, Result, Err, IfSome, IsSome, ◌&&◌, nat_lt, map as map_list, slice_set}
 use Rattle.std.specs.Option.{option_map, option_map_or, option_and_then, is_some}
-use Rattle.pr_base.specs.Maps.{changed}
 use Rattle.pr_base.proofs.MapLemmas.{by_key, mapped-insert, get-changed_same, get-changed_other}
 use Rattle.kr_tree.specs.Tree.{Tree, Inode, inode}
 use Rattle.kr_tree.specs.Holds.{holds_at}
@@ -11,9 +10,9 @@ use Rattle.kr_tree.specs.declared.place.Place.{Place}
 use Rattle.kr_files.specs.declared.descs.Descriptor.{Descriptor}
 use Rattle.kr_files.specs.declared.opened.Opened.{Opened}
 use Rattle.kr_files.specs.Descriptors.{Descriptors, Meanings, Named, lowest_free, lowest_pair, with_copy_at, with_cloexec}
-use Rattle.kr_files.specs.Files.{Kept, Counted, Table, with_file, with_copy, with_pipe, takes_pipe, closed, copied, released, by_descriptor, counted_more, count_at, file_at, Gives, GivesPair}
+use Rattle.kr_files.specs.Files.{Kept, Counted, with_file, with_copy, with_pipe, takes_pipe, closed, copied, released, by_descriptor, counted_more, count_at, file_at, Gives, GivesPair}
 use Rattle.kr_files.proofs.DescriptorLemmas.{lowest_free-meanings, lowest_pair-meanings}
-use Rattle.kr_model.specs.Applied.{Mounts, images, applied, held_at, released_at, in_mount, mount_of, open_in, copy_over, pipe_made}
+use Rattle.kr_model.specs.Applied.{Mounts, images, applied, held_at, released_at, in_mount, mount_of, open_in, copy_over}
 use Rattle.kr_model.specs.Change.{CopyDescriptor, MakePipe, MountOf, OpenFile}
 use Rattle.kr_model.specs.State as model
 use Rattle.kr_model.specs.State.{inode_of, place_of}

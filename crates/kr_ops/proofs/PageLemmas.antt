@@ -1,6 +1,5 @@
 -- Pages that the code changes are changed in what its state means, and counted.
-use Rattle.std.specs.FinMap as map
-use Rattle.std.proofs.Common.{◌≡◌, ℕ, zero, suc, ◌+◌, ◌-◌, ◌≤◌, ◌<◌, List, [], ◌∷◌, length, get_or, refl, sym, ap, subst, ◌∙◌, arith, Option, Some, None}
+use Rattle.std.proofs.Common.{◌≡◌, ℕ, zero, suc, ◌+◌, ◌≤◌, ◌<◌, List, [], ◌∷◌, length, get_or, sym, ap, subst, arith, Option}
 use Rattle.std.specs.Prelude.{map as map_list, slice_set, sum, IfSome, Result, Ok, Err, OnOk, OnErr}
 use Rattle.rv_mem.specs.Memory.{Memory, with_pages, room_after, page_count}
 use Rattle.rv_mem.specs.Pages.{Pages}

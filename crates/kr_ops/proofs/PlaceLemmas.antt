@@ -1,6 +1,6 @@
 -- Working directories and executables that the code changes are changed in what its state means.
-use Rattle.std.proofs.Common.{◌≡◌, ℕ, ◌+◌, ◌≤◌, ◌<◌, List, get_or, refl, sym, ap, subst, ◌∙◌, cond, true, arith, Option, Some}
-use Rattle.std.specs.Prelude.{map as map_list, slice_set, ◌==◌}
+use Rattle.std.proofs.Common.{◌≡◌, ℕ, ◌+◌, ◌≤◌, ◌<◌, List, get_or, refl, sym, ap, subst, ◌∙◌, cond, arith, Option, Some}
+use Rattle.std.specs.Prelude.{slice_set}
 use Rattle.std.specs.Option.{option_map, option_map_or}
 use Rattle.kr_tree.specs.Tree.{Tree}
 use Rattle.kr_tree.specs.Holds.{holds_at}
@@ -18,7 +18,7 @@ use Rattle.kr_ops.specs.Meaning.{meaning, process_meaning}
 use Rattle.kr_ops.specs.Sound.{IsSound}
 use Rattle.kr_ops.proofs.CloseLemmas.{outcome}
 use Rattle.kr_ops.proofs.ListLemmas.{apart, stored, has-number, same-test}
-use Rattle.kr_ops.proofs.OpeningLemmas.{found, still-held}
+use Rattle.kr_ops.proofs.OpeningLemmas.{found}
 use Rattle.kr_ops.proofs.UseLemmas.{process-held}
 
 module _ {T : Type 0} {M : ℕ} where

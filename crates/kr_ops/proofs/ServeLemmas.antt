@@ -1,7 +1,7 @@
 -- What the code keeps beside what a state means, after one of its living processes was changed.
 use Rattle.std.specs.FinMap as map
 use Rattle.std.proofs.Common.{◌≡◌, ◌≢◌, ℕ, zero, suc, ◌+◌, ◌≤◌, ◌<◌, Bool, is_some, List, [], ◌∷◌, length, get_or, refl, sym, ap, subst, ◌∙◌, arith, Option, Some, None}
-use Rattle.std.specs.Prelude.{map as map_list, slice_set, sum, IsSome, Ok}
+use Rattle.std.specs.Prelude.{map as map_list, slice_set, sum, IsSome, OnErr, Result, Ok, Err}
 use Rattle.std.specs.List.{AllByRecursion}
 use Rattle.std.specs.Option.{option_map, option_map_or, option_and_then}
 use Rattle.std.proofs.lemmas.Option.{none-some, same_Some}
@@ -21,8 +21,11 @@ use Rattle.kr_model.specs.Uses.{names_of_file}
 use Rattle.kr_lawful.proofs.SumLemmas.{sum-cons}
 use Rattle.kr_ops.specs.declared.state.Process.{Process}
 use Rattle.kr_ops.specs.declared.state.State.{State}
+use Rattle.kr_model.specs.Applied.{with_files}
+use Rattle.kr_ops.specs.Making.{IsAsBefore}
 use Rattle.kr_ops.specs.Meaning.{process_meaning, meaning}
 use Rattle.kr_ops.specs.Sound.{IsServed, IsSound}
+use Rattle.kr_ops.proofs.ChangeLemmas.{living_as}
 use Rattle.kr_ops.proofs.ListLemmas.{apart, one-found}
 
 -- ---- lists
@@ -270,3 +273,30 @@ module _ {T : Type 0} {M : ℕ} where
         by j r d m f (Some x) at some =
             names-copied-by k fd to p r x g j l e d m f (map.get p.descs to) refl
             (is ∙ ap (λ (o : Option Descriptor). by_descriptor p.descs to released (option_map_or (λ x. copied x s.files) o s.files)) at)
+
+-- ---- refusals
+
+pub on-err : {A E : Type 0} (X : Type 0) (r : Result A E) → X → OnErr r X
+on-err X (Ok a) x = tt
+on-err X (Err e) x = x
+
+module _ {T : Type 0} {M : ℕ} where
+  -- what was handed out to be changed, and came back as it was
+  pub refused-before : (s new : State T M) → IsServed s → (k : ℕ) (p : Process T M) (files : Kept T) (d : Descriptors) → k < length s.living.items → p ≡ get_or s.living.items k p → files ≡ s.files → d ≡ p.descs
+      → meaning new ≡ with_files (λ _. files.table) (living_as (map_list process_meaning (slice_set s.living.items k (record p { descs = d }))) (meaning s))
+      → new.files ≡ files → new.living.items ≡ slice_set s.living.items k (record p { descs = d }) → new.room ≡ s.room → IsAsBefore s new
+  refused-before s new served k p files d l e kept same means has_files items room =
+      let back : slice_set s.living.items k (record p { descs = d }) ≡ s.living.items =
+      ap (λ (d : Descriptors). slice_set s.living.items k (record p { descs = d })) same ∙ set-same s.living.items k p e in
+      let meant : meaning new ≡ meaning s =
+      means
+      ∙ ap (λ (f : Kept T). with_files (λ _. f.table) (living_as (map_list process_meaning (slice_set s.living.items k (record p { descs = d }))) (meaning s))) kept
+      ∙ ap (λ ps. living_as (map_list process_meaning ps) (meaning s)) back in
+      record {
+        same = meant;
+        served = record {
+          files = subst (λ (f : Kept T). AllByRecursion (λ (q : Process T M). NamesOpenFiles f q.descs) new.living.items) (sym (has_files ∙ kept))
+              (subst (AllByRecursion (λ (q : Process T M). NamesOpenFiles s.files q.descs)) (sym (items ∙ back)) served.files);
+          room = room ∙ served.room ∙ sym (ap (λ (m : model.State T model.Image). pages_in_all image_layout m.living) meant);
+        };
+      }

@@ -6,7 +6,7 @@ use crate::state::State;
 
 impl<T: Copy, const M: u8> State<T, M> {
     /// Where the living process of a number stands in the list, `None` exactly where there is none.
-    pub(crate) fn index_of(&self, pid: u32) -> Option<usize>
+    pub fn index_of(&self, pid: u32) -> Option<usize>
         ensures none { result ≡ None → HaveOthers pid self.now.living.items }
         ensures some { IfSome result (λ k. HasPid pid k self.now.living.items) }
     {

@@ -1,11 +1,11 @@
 //! Descriptors that come: files that are opened, copies, and pipes.
-ghost use Rattle.std.specs.Prelude.{◌≡◌, ◌≢◌, ◌↔◌, ◌+◌, ◌<◌, ◌^◌, ℕ, Some, None, Err, false, IsSome, IsTrue, IfSome, IfOk, OnOk};
+ghost use Rattle.std.specs.Prelude.{◌≡◌, ◌≢◌, ◌↔◌, ◌+◌, ◌<◌, ◌^◌, ℕ, Some, None, Err, false, IsSome, IsTrue, IfSome, IfOk, OnErr, OnOk};
 ghost use Rattle.kr_tree.specs.Tree.{inode};
 ghost use Rattle.kr_files.specs.Opened.{is_no_end};
 ghost use Rattle.kr_model.specs.Change.{CopyDescriptor, MakePipe};
 ghost use Rattle.kr_model.specs.State.{inode_of as host_inode, named, process};
 ghost use Rattle.kr_ops.specs.Meaning.{meaning};
-ghost use Rattle.kr_ops.specs.Making.{Makes};
+ghost use Rattle.kr_ops.specs.Making.{IsAsBefore, Makes};
 ghost use Rattle.kr_ops.specs.Opening.{lowest_of, pair_of, takes_pipe_of, Opens};
 ghost use Rattle.kr_ops.specs.Sound.{IsServed, IsSound};
 
@@ -26,6 +26,7 @@ impl<T: Copy, const M: u8> State<T, M> {
         ensures lowest { IfOk result (λ fd. lowest_of pid 0 (meaning self.old) ≡ Some fd) }
         ensures makes { IfOk result (λ fd. Opens pid fd cloexec opened self.old self.new) }
         ensures served { OnOk result (IsServed self.new) }
+        ensures err { OnErr result (IsAsBefore self.old self.new) }
     {
         let Some(k) = self.index_of(pid) else {
             unreachable!();
@@ -46,6 +47,7 @@ impl<T: Copy, const M: u8> State<T, M> {
         ensures lowest { IfOk result (λ to. lowest_of pid from (meaning self.old) ≡ Some to) }
         ensures makes { IfOk result (λ to. Makes pid (CopyDescriptor fd to cloexec) self.old self.new) }
         ensures served { OnOk result (IsServed self.new) }
+        ensures err { OnErr result (IsAsBefore self.old self.new) }
     {
         let Some(k) = self.index_of(pid) else {
             unreachable!();
@@ -91,6 +93,7 @@ impl<T: Copy, const M: u8> State<T, M> {
         ensures lowest { IfOk result (λ fds. pair_of pid (meaning self.old) ≡ Some (fds.0, fds.1)) }
         ensures makes { IfOk result (λ fds. Makes pid (MakePipe fds.0 fds.1 cloexec) self.old self.new) }
         ensures served { OnOk result (IsServed self.new) }
+        ensures err { OnErr result (IsAsBefore self.old self.new) }
     {
         let Some(k) = self.index_of(pid) else {
             unreachable!();

@@ -7,7 +7,7 @@ use Rattle.kr_model.specs.Applied.{held_at}
 use Rattle.kr_ops.specs.declared.state.Process.{Process}
 use Rattle.kr_ops.proofs.CloseLemmas.{held-there}
 use Rattle.kr_ops.proofs.OpeningLemmas.{full-same, not-open, is-open, count-fits, held-is-there, one-more-fits, lowest, copied-fresh}
-use Rattle.kr_ops.proofs.ServeLemmas.{all-at, keys-by, kept-room, names-copy, names-kept, names-set}
+use Rattle.kr_ops.proofs.ServeLemmas.{all-at, on-err, refused-before, keys-by, kept-room, names-copy, names-kept, names-set}
 use Rattle.kr_ops.proofs.UseLemmas.{holds-fit}
 use Rattle.kr_ops.proofs.state.State.copy.Goals as goal
 
@@ -64,3 +64,8 @@ returns-clause-served g c =
           (all-at (λ (q : Process _ _). NamesOpenFiles s.files q.descs) s.living.items c.in-Some.k p c.requires.sound.served.files at.within c.index_mut.ensures.value))));
       room = kept-room s c.requires.sound.served c.in-Some.k p _ at.within c.index_mut.ensures.value refl;
     }
+
+pub returns-in_err-to-clause-err : goal.returns-in_err-to-clause-err
+returns-in_err-to-clause-err g c =
+    on-err _ _
+    (refused-before c.args.self.now _ c.requires.sound.served c.in-Some.k c.index_mut.result.now c.dup.new.self c.dup.new.d c.in-Some.ensures.some.within c.index_mut.ensures.value c.in_err-to.ensures.err c.in_err-to.ensures.err_descs refl refl refl refl)

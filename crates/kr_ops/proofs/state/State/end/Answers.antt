@@ -1,4 +1,4 @@
-use Rattle.std.proofs.Common.{◌≡◌, ◌+◌, ◌∙◌, ap, sym, subst, refl, arith, Some}
+use Rattle.std.proofs.Common.{◌≡◌, ◌∙◌, ap, sym, subst, refl, arith}
 use Rattle.std.specs.Prelude.{map as map_list, ◌==◌, not}
 use Rattle.std.specs.List.{AllByRecursion, filter}
 use Rattle.kr_files.specs.Files.{NamesOpenFiles}

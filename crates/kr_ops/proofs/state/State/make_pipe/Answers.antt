@@ -4,7 +4,7 @@ use Rattle.std.proofs.lemmas.Result.{err_from_is_err_and}
 use Rattle.kr_files.specs.Files.{NamesOpenFiles}
 use Rattle.kr_ops.specs.declared.state.Process.{Process}
 use Rattle.kr_ops.proofs.OpeningLemmas.{error-of, not-living, lowest-two, pipe-means, takes-pipe}
-use Rattle.kr_ops.proofs.ServeLemmas.{all-at, kept-room, names-pair, names-paired, names-set}
+use Rattle.kr_ops.proofs.ServeLemmas.{all-at, on-err, refused-before, kept-room, names-pair, names-paired, names-set}
 use Rattle.kr_ops.proofs.state.State.make_pipe.Goals as goal
 
 pub unreachable-requires : goal.unreachable-requires
@@ -42,3 +42,8 @@ returns-clause-served g c =
           (all-at (λ (q : Process _ _). NamesOpenFiles s.files q.descs) s.living.items c.in-Some.k p c.requires.sound.served.files at.within c.index_mut.ensures.value));
       room = kept-room s c.requires.sound.served c.in-Some.k p _ at.within c.index_mut.ensures.value refl;
     }
+
+pub returns-in_err-first-clause-err : goal.returns-in_err-first-clause-err
+returns-in_err-first-clause-err g c =
+    on-err _ _
+    (refused-before c.args.self.now _ c.requires.sound.served c.in-Some.k c.index_mut.result.now c.pipe.new.self c.pipe.new.d c.in-Some.ensures.some.within c.index_mut.ensures.value c.in_err-first.ensures.err c.in_err-first.ensures.err_descs refl refl refl refl)

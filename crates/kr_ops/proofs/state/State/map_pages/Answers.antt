@@ -3,7 +3,7 @@ use Rattle.std.specs.Prelude.{◌↔◌, IsErrOf, IsTrue}
 use Rattle.std.proofs.lemmas.Result.{on_ok_weaker}
 use Rattle.pr_base.specs.Page.{page_size}
 use Rattle.rv_mem.specs.Memory.{passes_limit, with_pages}
-use Rattle.rv_mem.specs.Pages.{Pages, mapped}
+use Rattle.rv_mem.specs.Pages.{mapped}
 use Rattle.rv_mem.specs.declared.fault.MapFault.TheVariants.{Full}
 use Rattle.kr_model.specs.Change.{MapPages}
 use Rattle.kr_ops.proofs.OpeningLemmas.{not-living}

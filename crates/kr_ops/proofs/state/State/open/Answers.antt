@@ -1,7 +1,7 @@
 use Rattle.std.proofs.Common.{◌∙◌, refl}
 use Rattle.std.proofs.lemmas.Result.{err_from_is_err_and}
 use Rattle.kr_ops.proofs.OpeningLemmas.{full-same, not-living, one-more-fits, lowest, opened-means}
-use Rattle.kr_ops.proofs.ServeLemmas.{all-at, kept-room, names-add, names-insert, names-set}
+use Rattle.kr_ops.proofs.ServeLemmas.{all-at, on-err, refused-before, kept-room, names-add, names-insert, names-set}
 use Rattle.kr_ops.proofs.UseLemmas.{holds-fit}
 use Rattle.kr_files.specs.Files.{NamesOpenFiles}
 use Rattle.kr_ops.specs.declared.state.Process.{Process}
@@ -43,3 +43,8 @@ returns-clause-served g c =
           (all-at (λ (q : Process _ _). NamesOpenFiles s.files q.descs) s.living.items c.in-Some.k p c.requires.sound.served.files at.within c.index_mut.ensures.value));
       room = kept-room s c.requires.sound.served c.in-Some.k p _ at.within c.index_mut.ensures.value refl;
     }
+
+pub returns-in_err-fd-clause-err : goal.returns-in_err-fd-clause-err
+returns-in_err-fd-clause-err g c =
+    on-err _ _
+    (refused-before c.args.self.now _ c.requires.sound.served c.in-Some.k c.index_mut.result.now c.open.new.self c.open.new.d c.in-Some.ensures.some.within c.index_mut.ensures.value c.in_err-fd.ensures.err c.in_err-fd.ensures.err_descs refl refl refl refl)
