@@ -1,7 +1,6 @@
 //! What the links of the process directory lead to.
-ghost use Rattle.std.specs.Prelude.{◌≡◌, [], ℕ, None, IfSome, is_some, length, take, ◌<◌, Some};
+ghost use Rattle.std.specs.Prelude.{◌≡◌, [], is_some};
 ghost use Rattle.kr_model.specs.State.{opened, process};
-ghost use Rattle.kr_ops.specs.Living.{HaveOthers, HasPid};
 ghost use Rattle.kr_ops.specs.Meaning.{meaning};
 ghost use Rattle.kr_ops.specs.Sound.{IsSound};
 ghost use Rattle.kr_procview.specs.Targets.{process_target, opened_target_of, target_told};
@@ -22,25 +21,12 @@ pub(crate) enum Target<'a, T> {
     At(Place<T>, Ino, &'a [u8]),
 }
 
-/// Where the living process of a number stands in the list, `None` exactly where there is none.
-fn index_of<T: Copy, const M: u8>(state: &State<T, M>, pid: u32) -> Option<usize>
-    ensures none { result ≡ None → HaveOthers pid state.now.living.items }
-    ensures some { IfSome result (λ k. HasPid pid k state.now.living.items) }
-{
-    for k in 0..state.living.len() {
-        if state.living[k].pid == pid {
-            return Some(k);
-        }
-    }
-    None
-}
-
 /// Whether a process lives.
 pub(crate) fn lives<T: Copy, const M: u8>(state: &State<T, M>, pid: u32) -> bool
     requires { IsSound state.now }
     ensures { result ≡ is_some (process pid (meaning state.now)) }
 {
-    index_of(state, pid).is_some()
+    state.index_of(pid).is_some()
 }
 
 /// What the working directory of a process is.
@@ -48,7 +34,7 @@ pub(crate) fn cwd_of<T: Copy, const M: u8>(state: &State<T, M>, pid: u32) -> Tar
     requires { IsSound state.now }
     ensures { target_told result ≡ process_target cwd_target pid (meaning state.now) }
 {
-    match index_of(state, pid) {
+    match state.index_of(pid) {
         Some(k) => Target::At(state.living[k].cwd, 0, b""),
         None => Target::Nothing,
     }
@@ -75,7 +61,7 @@ pub(crate) fn exe_of<T: Copy, const M: u8>(state: &State<T, M>, pid: u32) -> Tar
     requires { IsSound state.now }
     ensures { target_told result ≡ process_target exe_target pid (meaning state.now) }
 {
-    match index_of(state, pid) {
+    match state.index_of(pid) {
         Some(k) => {
             let process = &state.living[k];
             Target::At(process.exe, process.exe_dir, process.exe_name.as_slice())
