@@ -1,8 +1,10 @@
+mod AlongLemmas
 mod EndingLemmas
 mod GuestLemmas
 mod LandingLemmas
 mod LookLemmas
 mod NumberLemmas
 mod PlainLemmas
+mod StepLemmas
 mod TextLemmas
 mod WalkRows

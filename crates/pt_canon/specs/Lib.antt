@@ -4,4 +4,5 @@ pub mod Kept
 pub mod Laws
 pub mod Looks
 pub mod ProcessLinks
+pub mod Steps
 pub mod TextWalk

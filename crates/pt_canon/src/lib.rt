@@ -10,5 +10,6 @@ pub mod laws;
 mod link;
 mod sight;
 mod translation;
+mod walk;
 
-pub use canon::{Canon, WalkErr};
+pub use canon::{Canon, WalkErr, Walker};

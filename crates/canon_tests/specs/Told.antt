@@ -1,0 +1,45 @@
+-- What a kernel in memory tells: by its rows, and names that are the same for all.
+use Rattle.std.specs.Prelude.{ℕ, List, ◌∷◌, nat_eq, Option, Some, None, Result, Ok, Err, bytes_eq, codes, if◌then◌else◌}
+use Rattle.std.specs.List.{find}
+use Rattle.pr_base.specs.declared.errno.Errno.{Errno}
+use Rattle.pr_base.specs.declared.errno.Errno.TheVariants.{EINVAL, ENOENT}
+use Rattle.pr_base.specs.declared.peeks.PeekKind.{PeekKind}
+use Rattle.pr_base.specs.declared.peeks.PeekKind.TheVariants as kind
+use Rattle.canon_tests.specs.declared.told.Row.{Row}
+use Rattle.canon_tests.specs.declared.told.Stands.{Stands}
+use Rattle.canon_tests.specs.declared.told.Stands.TheVariants as stands
+
+abbrev pub row_at : List Row → List ℕ → Option Row
+row_at rows host = find (λ row. bytes_eq row.host host) rows
+
+abbrev pub kind_of : Stands → Result PeekKind Errno
+kind_of stands.Dir = Ok kind.Dir
+kind_of stands.File = Ok kind.File
+kind_of (stands.Link text) = Ok kind.Link
+kind_of stands.Jump = Ok kind.Jump
+kind_of (stands.Fails e) = Err e
+
+abbrev pub text_in : Stands → Result (List ℕ) Errno
+text_in stands.Dir = Err EINVAL
+text_in stands.File = Err EINVAL
+text_in (stands.Link text) = Ok text
+text_in stands.Jump = Err ENOENT
+text_in (stands.Fails e) = Err e
+
+abbrev pub kind_told : Option Row → Result PeekKind Errno
+kind_told (Some row) = kind_of row.stands
+kind_told None = Err ENOENT
+
+abbrev pub text_told : Option Row → Result (List ℕ) Errno
+text_told (Some row) = text_in row.stands
+text_told None = Err ENOENT
+
+-- descriptor 4 is a pipe
+abbrev pub base_told : ℕ → Option (List ℕ)
+base_told fd = if nat_eq fd 4 then None else Some (codes "/data")
+
+abbrev pub cwd_told : Option (List ℕ)
+cwd_told = Some (codes "/data")
+
+abbrev pub exe_told : Option (List ℕ)
+exe_told = Some (codes "/data/n")

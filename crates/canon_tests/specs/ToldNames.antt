@@ -1,0 +1,51 @@
+-- The names that the kernel in memory tells are texts.
+use Rattle.std.proofs.Common.{◌≡◌, ◌≢◌, ℕ, Bool, true, false, List, [], ◌∷◌, Option, Some, None, refl, arith}
+use Rattle.std.specs.Prelude.{codes, nat_eq, IfSome, if◌then◌else◌}
+use Rattle.std.specs.List.{All}
+use Rattle.std.proofs.lemmas.List.Elements.{All-nil, All-cons}
+use Rattle.pr_base.specs.Paths.{IsName}
+use Rattle.pr_base.specs.Texts.{IsText}
+use Rattle.canon_tests.specs.Told.{base_told}
+
+abbrev beside : ℕ → ℕ → Type 0
+beside x b = b ≢ x
+
+no_byte_of_data : (x : ℕ) → 100 ≢ x → 97 ≢ x → 116 ≢ x → All (beside x) (codes "data")
+no_byte_of_data x d a t = let P = beside x in All-cons P 100 _ d (All-cons P 97 _ a (All-cons P 116 _ t (All-cons P 97 _ a (All-nil P))))
+
+data_name : IsName (codes "data")
+data_name = record {
+  some = λ e. absurd cc;
+  short = omega arith;
+  no_slash = no_byte_of_data 47 (λ e. absurd (omega arith)) (λ e. absurd (omega arith)) (λ e. absurd (omega arith));
+  no_zero = no_byte_of_data 0 (λ e. absurd (omega arith)) (λ e. absurd (omega arith)) (λ e. absurd (omega arith));
+  not_dot = λ e. absurd cc;
+  not_dot_dot = λ e. absurd cc;
+}
+
+n_name : IsName (codes "n")
+n_name = record {
+  some = λ e. absurd cc;
+  short = omega arith;
+  no_slash = All-cons (beside 47) 110 [] (λ e. absurd (omega arith)) (All-nil (beside 47));
+  no_zero = All-cons (beside 0) 110 [] (λ e. absurd (omega arith)) (All-nil (beside 0));
+  not_dot = λ e. absurd cc;
+  not_dot_dot = λ e. absurd cc;
+}
+
+pub data_text : IsText (codes "/data")
+data_text = record { names = codes "data" ∷ []; well_formed = All-cons IsName (codes "data") [] data_name (All-nil IsName); written = refl }
+
+pub n_text : IsText (codes "/data/n")
+n_text = record {
+  names = codes "n" ∷ codes "data" ∷ [];
+  well_formed = All-cons IsName (codes "n") (codes "data" ∷ []) n_name (All-cons IsName (codes "data") [] data_name (All-nil IsName));
+  written = refl;
+}
+
+pub base_text : (fd : ℕ) → IfSome (base_told fd) IsText
+base_text fd = by (nat_eq fd 4)
+  where
+    by : (b : Bool) → IfSome (if b then None else Some (codes "/data")) IsText
+    by true = tt
+    by false = data_text

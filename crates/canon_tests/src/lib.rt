@@ -1,0 +1,8 @@
+//! Tests of walks over guest texts, on a kernel in memory that tells what its rows say.
+#![tactic(auto)]
+
+#[cfg(test)]
+mod tests;
+pub mod told;
+#[cfg(test)]
+mod walking;

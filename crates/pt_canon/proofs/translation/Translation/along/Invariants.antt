@@ -1,0 +1,21 @@
+use Rattle.std.proofs.Common.{◌≡◌, ◌∷◌, length, map}
+use Rattle.std.specs.List.{All}
+use Rattle.pr_base.specs.Parts.{parts_left}
+use Rattle.pr_base.specs.Paths.{component_of, components_of, IsComponent}
+use Rattle.pt_canon.specs.Looks.{texts_in, IsKnown}
+use Rattle.pt_canon.specs.Steps.{ended, left_on}
+use Rattle.pt_canon.proofs.translation.Translation.along.Given as goal
+
+abbrev pub invariant-parts : goal.invariant-parts
+invariant-parts g l =
+    let texts = texts_in l.self (g.K.Peeks.peeked l.fn.kernel) in
+    record {
+      ends : ended l.terms.mode (left_on texts l.terms.mode l.terms.left l.at (map component_of (l.part ∷ parts_left l.parts)) l.terms.slash) ≡ ended l.terms.mode (left_on texts l.terms.mode l.terms.left l.fn.onward.at (components_of l.fn.onward.path) l.fn.onward.slash);
+      known : IsKnown texts l.at l.known;
+      fine : All IsComponent (map component_of (l.part ∷ parts_left l.parts));
+      same : g.K.Peeks.peeked l.kernel ≡ g.K.Peeks.peeked l.fn.kernel;
+      rest : g.K.Peeks.kept l.kernel ≡ g.K.Peeks.kept l.fn.kernel;
+    }
+
+abbrev pub decreases-parts : goal.decreases-parts
+decreases-parts g l = length (parts_left l.parts)

@@ -1,0 +1,34 @@
+use Rattle.std.proofs.Common.{◌∙◌, ap, sym}
+use Rattle.pr_base.specs.Paths.{Name}
+use Rattle.pr_base.specs.WalkFrame.{Links}
+use Rattle.pt_canon.specs.ProcessLinks.{above}
+use Rattle.pt_canon.specs.Looks.{texts_in, sight_seen}
+use Rattle.pt_canon.specs.Steps.{ended, last_trail}
+use Rattle.pt_canon.proofs.StepLemmas.{arrived, way_same}
+use Rattle.pt_canon.proofs.translation.Translation.arrive.Goals as goal
+
+pub returns-in-Missing-clause-answer : goal.returns-in-Missing-clause-answer
+returns-in-Missing-clause-answer g c = λ dir name is.
+    let texts = texts_in c.args.self.now (g.K.Peeks.peeked c.args.kernel.now) in
+    way_same texts c.args.terms.mode c.args.terms.left _ _ c.arrive_free.result (ap (λ s. arrived texts c.args.terms dir c.args.at name (sight_seen texts c.args.at s)) (sym c.in-Missing.is)) (c.arrive_free.ensures texts dir name is)
+
+pub returns-in-Directory-clause-answer : goal.returns-in-Directory-clause-answer
+returns-in-Directory-clause-answer g c = λ dir name is.
+    let texts = texts_in c.args.self.now (g.K.Peeks.peeked c.args.kernel.now) in
+    way_same texts c.args.terms.mode c.args.terms.left _ _ c.arrive_found.result (ap (λ s. arrived texts c.args.terms dir c.args.at name (sight_seen texts c.args.at s)) (sym c.in-Directory.is)) (c.arrive_found.ensures texts dir name)
+
+pub returns-in-File-clause-answer : goal.returns-in-File-clause-answer
+returns-in-File-clause-answer g c = λ dir name is.
+    let texts = texts_in c.args.self.now (g.K.Peeks.peeked c.args.kernel.now) in
+    way_same texts c.args.terms.mode c.args.terms.left _ _ c.arrive_found-in-File.result (ap (λ s. arrived texts c.args.terms dir c.args.at name (sight_seen texts c.args.at s)) (sym c.in-File.is)) (c.arrive_found-in-File.ensures texts dir name)
+
+pub returns-in-Links-clause-answer : goal.returns-in-Links-clause-answer
+returns-in-Links-clause-answer g c = λ dir name is.
+    let texts = texts_in c.args.self.now (g.K.Peeks.peeked c.args.kernel.now) in
+    let there = ap (λ t. ended c.args.terms.mode (last_trail texts c.args.terms (above t) (Name name) (Links c.args.at c.in-Links.text))) is in
+    way_same texts c.args.terms.mode c.args.terms.left _ _ c.arrive_link.result (there ∙ ap (λ s. arrived texts c.args.terms dir c.args.at name (sight_seen texts c.args.at s)) (sym c.in-Links.is)) (c.arrive_link.ensures texts name)
+
+pub returns-then-is_followed-clause-answer : goal.returns-then-is_followed-clause-answer
+returns-then-is_followed-clause-answer g c = λ dir name is.
+    let texts = texts_in c.args.self.now (g.K.Peeks.peeked c.args.kernel.now) in
+    way_same texts c.args.terms.mode c.args.terms.left _ _ c.land.result (ap (λ s. arrived texts c.args.terms dir c.args.at name (sight_seen texts c.args.at s)) (sym c.in-Jumps.is)) (c.land.ensures.answer dir name)

@@ -1,0 +1,31 @@
+use Rattle.std.proofs.Common.{◌≡◌, ◌∙◌, ◌++◌, ◌∷◌, true, ap, sym}
+use Rattle.pr_base.specs.Paths.{slash, components_of}
+use Rattle.pr_base.specs.WalkFrame.{Leads}
+use Rattle.pt_canon.specs.ProcessLinks.{above}
+use Rattle.pt_canon.specs.Looks.{texts_in, sight_seen}
+use Rattle.pt_canon.specs.Steps.{ended, middle_trail, start_of}
+use Rattle.pt_canon.specs.TextWalk.{seen_text}
+use Rattle.pt_canon.proofs.LookLemmas.{seen_dir}
+use Rattle.pt_canon.proofs.StepLemmas.{goes_same, pass_links, passed}
+use Rattle.pt_canon.proofs.translation.Translation.pass.Goals as goal
+
+pub returns-in-Directory-clause-answer : goal.returns-in-Directory-clause-answer
+returns-in-Directory-clause-answer g c =
+    let texts = texts_in c.args.self.now (g.K.Peeks.peeked c.args.kernel.now) in
+    let at = c.args.at in
+    let shown : seen_text texts at ≡ Leads true at at = c.requires ∙ ap (sight_seen texts at) c.in-Directory.is in
+    (ap (λ s. ended c.args.terms.mode (middle_trail texts c.args.terms (above at) (components_of c.args.behind.now) (sight_seen texts at s))) c.in-Directory.is, seen_dir texts at shown)
+
+pub returns-in_ok-start-in-Links-clause-answer : goal.returns-in_ok-start-in-Links-clause-answer
+returns-in_ok-start-in-Links-clause-answer g c =
+    let texts = texts_in c.args.self.now (g.K.Peeks.peeked c.args.kernel.now) in
+    let terms = c.args.terms in
+    let at = c.args.at in
+    let behind = c.args.behind.now in
+    let text = c.in-Links.text in
+    let path = c.in_ok-path-in-Links.path in
+    let start = c.in_ok-start-in-Links.start in
+    let begins : start ≡ start_of (above at) text = c.in_ok-start-in-Links.ensures.1 ∙ ap (start_of (above at)) c.as_slice-in-Links.ensures in
+    let joined : path ≡ text ++ slash ∷ behind = c.in_ok-path-in-Links.ensures ∙ ap (λ text. text ++ slash ∷ behind) c.as_slice.ensures in
+    let goes = pass_links texts terms at behind text path start c.in_ok-start-in-Links.ensures.0 begins joined in
+    goes_same texts terms.mode terms.left _ (passed texts terms at behind (sight_seen texts at c.args.sight)) _ (ap (λ s. passed texts terms at behind (sight_seen texts at s)) (sym c.in-Links.is)) goes

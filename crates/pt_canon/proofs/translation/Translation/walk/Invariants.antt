@@ -1,0 +1,19 @@
+use Rattle.std.proofs.Common.{◌≡◌}
+use Rattle.pr_base.specs.Paths.{components_of}
+use Rattle.pt_bind.specs.Binding.{names_of}
+use Rattle.pt_canon.specs.Looks.{texts_in}
+use Rattle.pt_canon.specs.Steps.{ended, left_on}
+use Rattle.pt_canon.specs.TextWalk.{text_walk}
+use Rattle.pt_canon.proofs.translation.Translation.walk.Given as goal
+
+abbrev pub invariant-links : goal.invariant-links
+invariant-links g l =
+    let texts = texts_in l.self (g.K.Peeks.peeked l.fn.kernel) in
+    record {
+      ends : ended l.mode (left_on texts l.mode l.left l.onward.at (components_of l.onward.path) l.onward.slash) ≡ ended l.mode (text_walk texts l.mode (names_of l.fn.base) l.fn.path);
+      same : g.K.Peeks.peeked l.kernel ≡ g.K.Peeks.peeked l.fn.kernel;
+      rest : g.K.Peeks.kept l.kernel ≡ g.K.Peeks.kept l.fn.kernel;
+    }
+
+abbrev pub decreases-links : goal.decreases-links
+decreases-links g l = l.left

@@ -1,0 +1,87 @@
+-- What the steps of a walk answer, over the definition of the walk. No public clause cites this module.
+use Rattle.std.specs.Prelude.{ℕ, ◌≡◌, ◌≢◌, ◌-◌, Bool, List, [], Option, Some, Result, Ok, Err}
+use Rattle.std.specs.Bool.{if◌then◌else◌}
+use Rattle.pr_base.specs.Paths.{Component, components_of, is_absolute}
+use Rattle.pr_base.specs.Texts.{Text}
+use Rattle.pr_base.specs.WalkFrame.{Landing, Target, Trail, fails, jumps_on, walk_on}
+use Rattle.pr_base.specs.WalkLaws as laws
+use Rattle.pr_base.specs.declared.errno.Errno.{Errno}
+use Rattle.pr_base.specs.declared.errno.Errno.TheVariants.{ELOOP}
+use Rattle.pr_base.specs.declared.path.WalkMode.{WalkMode}
+use Rattle.pt_canon.specs.Canon.{ending_of}
+use Rattle.pt_canon.specs.Looks.{IsKnown, led}
+use Rattle.pt_canon.specs.TextWalk.{TextSurroundings, SeenText, looking_texts}
+use Rattle.pt_canon.specs.declared.canon.WalkErr.{WalkErr}
+use Rattle.pt_canon.specs.declared.canon.WalkErr.TheVariants as fault
+use Rattle.pt_canon.specs.declared.ending.Ending.{Ending}
+use Rattle.pt_canon.specs.declared.walk.Onward.{Onward}
+use Rattle.pt_canon.specs.declared.walk.Passed.{Passed}
+use Rattle.pt_canon.specs.declared.walk.Passed.TheVariants as passed
+use Rattle.pt_canon.specs.declared.walk.Terms.{Terms}
+use Rattle.pt_canon.specs.declared.walk.Way.{Way}
+use Rattle.pt_canon.specs.declared.walk.Way.TheVariants as way
+
+-- what is left of a walk, as where it ends
+abbrev pub ended_by : WalkMode → Result (Target Text Text) Errno → Result Ending Errno
+ended_by mode (Ok target) = Ok (ending_of mode target)
+ended_by mode (Err e) = Err e
+
+abbrev pub ended : WalkMode → Trail Text Text → Result Ending Errno
+ended mode trail = ended_by mode trail.answer
+
+-- along components from a text
+abbrev pub left_on : TextSurroundings → WalkMode → ℕ → Text → List Component → Bool → Trail Text Text
+left_on texts mode left at cs slash = walk_on (looking_texts texts) mode left at cs slash
+
+-- behind what a component shows that others follow, and behind the last one
+abbrev pub middle_trail : TextSurroundings → Terms → Text → List Component → SeenText → Trail Text Text
+middle_trail texts terms t rest seen = laws.middle_trail (looking_texts texts) terms.mode terms.left t rest terms.slash seen
+
+abbrev pub last_trail : TextSurroundings → Terms → Text → Component → SeenText → Trail Text Text
+last_trail texts terms t c seen = laws.last_trail (looking_texts texts) terms.mode terms.left t c terms.slash seen
+
+-- ---- what a step answers
+
+-- what holds of its answer; an error is where the walk ends, but for want of memory
+abbrev pub Tells : {T : Type 0} → (T → Type 0) → Result Ending Errno → Result T WalkErr → Type 0
+Tells P whole (Ok x) = P x
+Tells P whole (Err (fault.Err e)) = whole ≡ Err e
+Tells P whole (Err fault.NoMemory) = Unit {0}
+
+-- a walk that goes on behind a link, of which one less may follow, ends as the whole one does
+pub record GoesOn (texts : TextSurroundings) (mode : WalkMode) (left : ℕ) (whole : Result Ending Errno) (on : Onward) : Type 0 where
+  pub some : left ≢ 0
+  pub ends : whole ≡ ended mode (left_on texts mode (left - 1) on.at (components_of on.path) on.slash)
+
+abbrev pub WayIs : TextSurroundings → WalkMode → ℕ → Result Ending Errno → Way → Type 0
+WayIs texts mode left whole (way.Ends ending) = whole ≡ Ok ending
+WayIs texts mode left whole (way.Goes on) = GoesOn texts mode left whole on
+
+-- of a path up to its end, or up to the first link that is followed
+abbrev pub IsWay : TextSurroundings → WalkMode → ℕ → Trail Text Text → Result Way WalkErr → Type 0
+IsWay texts mode left trail result = Tells (WayIs texts mode left (ended mode trail)) (ended mode trail) result
+
+abbrev pub PassedIs : TextSurroundings → Terms → List Component → Result Ending Errno → Passed → Type 0
+PassedIs texts terms rest whole (passed.On at known) = (whole ≡ ended terms.mode (left_on texts terms.mode terms.left at rest terms.slash)) × IsKnown texts at known
+PassedIs texts terms rest whole (passed.Off on) = GoesOn texts terms.mode terms.left whole on
+
+-- of a component that others follow
+abbrev pub IsPassed : TextSurroundings → Terms → List Component → Trail Text Text → Result Passed WalkErr → Type 0
+IsPassed texts terms rest trail result = Tells (PassedIs texts terms rest (ended terms.mode trail)) (ended terms.mode trail) result
+
+-- ---- links
+
+-- where the text of a link begins, by the text above the link
+abbrev pub start_of : Text → List ℕ → Text
+start_of t text = if is_absolute text then [] else t
+
+abbrev pub IsFollowed : ℕ → Text → Result Text WalkErr → Type 0
+IsFollowed left start (Ok at) = (left ≢ 0) × (at ≡ start)
+IsFollowed left start (Err (fault.Err e)) = (left ≡ 0) × (e ≡ ELOOP)
+IsFollowed left start (Err fault.NoMemory) = Unit {0}
+
+-- a link of the process directory
+abbrev pub IsJumped : ℕ → Option (Landing Text Text) → Result Text WalkErr → Type 0
+IsJumped left lead (Ok guest) = (left ≢ 0) × (led lead ≡ Some guest)
+IsJumped left lead (Err (fault.Err e)) = (go : Landing Text Text → Trail Text Text) → jumps_on left go lead ≡ fails e
+IsJumped left lead (Err fault.NoMemory) = Unit {0}
