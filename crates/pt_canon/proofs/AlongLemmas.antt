@@ -1,5 +1,5 @@
 -- Walks along a path, one component at a time.
-use Rattle.std.proofs.Common.{◌≡◌, ℕ, Bool, true, false, Some, Result, Ok, Err, List, [], ◌∷◌, map, ap, sym, subst, ◌∙◌}
+use Rattle.std.proofs.Common.{◌≡◌, ℕ, false, Some, Result, Ok, Err, List, [], ◌∷◌, map, ap, sym, subst, ◌∙◌}
 use Rattle.std.specs.List.{All}
 use Rattle.std.specs.Result.{IsErr, IsErrAnd}
 use Rattle.std.proofs.lemmas.List.Elements.{All-tail}
@@ -7,12 +7,11 @@ use Rattle.pr_base.specs.Paths.{Component, IsComponent, component_of, components
 use Rattle.pr_base.specs.Texts.{Text}
 use Rattle.pr_base.specs.declared.errno.Errno.{Errno}
 use Rattle.pr_base.specs.declared.path.Last.TheVariants as last
-use Rattle.pr_base.specs.declared.path.WalkMode.{WalkMode}
 use Rattle.pr_base.proofs.PathLemmas.{paths_have_components}
 use Rattle.pr_base.proofs.WalkLemmas.{walk-none}
 use Rattle.pt_canon.specs.Canon.{ending_of}
 use Rattle.pt_canon.specs.Looks.{IsKnown}
-use Rattle.pt_canon.specs.Steps.{ended, left_on, middle_trail, last_trail, GoesOn, IsPassed, PassedIs, IsWay, Tells, WayIs}
+use Rattle.pt_canon.specs.Steps.{ended, left_on, middle_trail, last_trail, GoesOn, PassedIs, IsWay, Tells, WayIs}
 use Rattle.pt_canon.specs.TextWalk.{TextSurroundings, look_text, looking_texts}
 use Rattle.pt_canon.specs.declared.canon.WalkErr.{WalkErr}
 use Rattle.pt_canon.specs.declared.ending.Ending.{Ending}

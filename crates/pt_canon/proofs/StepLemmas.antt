@@ -11,7 +11,7 @@ use Rattle.pr_base.specs.declared.path.Last.TheVariants as last
 use Rattle.pr_base.specs.declared.path.WalkMode.{WalkMode}
 use Rattle.pr_base.specs.declared.path.WalkMode.TheVariants as modes
 use Rattle.pr_base.proofs.PathLemmas.{components_seam}
-use Rattle.pr_base.proofs.TextLemmas.{map_some, some_is}
+use Rattle.pr_base.proofs.TextLemmas.{map_some}
 use Rattle.pr_base.proofs.WalkLemmas.{walk-last, walk-middle, onward-less, onward-none}
 use Rattle.pt_bind.specs.Binding.{host_of}
 use Rattle.pt_canon.specs.Canon.{ending_of}
@@ -231,9 +231,9 @@ module _ (texts : TextSurroundings) (terms : Terms) (dir at : Text) (name : List
   pub link_kept : (text : List ℕ) → is_followed terms.mode terms.slash ≡ false → arrived (Links at text) ≡ Ok (named_at at terms.slash true)
   link_kept text e = link_if text false e ∙ kept_ended dir at name false terms.mode terms.slash
 
-  pub link_goes : (text : List ℕ) (start : Text) (slash : Bool) → is_followed terms.mode terms.slash ≡ true → terms.left ≢ 0 → start ≡ start_of dir text → slash ≡ (terms.slash || has_slash text)
-      → GoesOn texts terms.mode terms.left (arrived (Links at text)) (record { at = start; path = text; slash = slash })
-  link_goes text start slash followed some is behind =
+  pub link_goes : (text : List ℕ) (start : Text) (closed : Bool) → is_followed terms.mode terms.slash ≡ true → terms.left ≢ 0 → start ≡ start_of dir text → closed ≡ (terms.slash || has_slash text)
+      → GoesOn texts terms.mode terms.left (arrived (Links at text)) (record { at = start; path = text; slash = closed })
+  link_goes text start closed followed some is behind =
       let looking = looking_texts texts in
       record {
         some = some;

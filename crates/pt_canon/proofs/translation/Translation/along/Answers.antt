@@ -1,4 +1,4 @@
-use Rattle.std.proofs.Common.{◌≡◌, ◌∙◌, ◌∷◌, List, ℕ, Ok, Err, ap, sym, subst, refl}
+use Rattle.std.proofs.Common.{◌≡◌, ◌∙◌, ◌∷◌, Ok, Err, ap, sym, subst, refl}
 use Rattle.pr_base.specs.Parts.{parts_left}
 use Rattle.pr_base.specs.Paths.{components_of, parts_of}
 use Rattle.pr_base.specs.Peeks.{Peeked}

@@ -1,5 +1,5 @@
-use Rattle.std.proofs.Common.{◌≡◌, ◌∙◌, Err, Ok, ap, sym, subst}
-use Rattle.pr_base.specs.Paths.{components_of, Name}
+use Rattle.std.proofs.Common.{◌≡◌, ◌∙◌, Err, ap, sym, subst}
+use Rattle.pr_base.specs.Paths.{components_of}
 use Rattle.pr_base.specs.Peeks.{Peeked}
 use Rattle.pt_canon.specs.Components.{component_data}
 use Rattle.pt_canon.specs.ProcessLinks.{above}

@@ -1,4 +1,4 @@
-use Rattle.std.proofs.Common.{◌≡◌, ◌∙◌, Bool, true, false, Ok, ap, sym}
+use Rattle.std.proofs.Common.{◌≡◌, ◌∙◌, true, false, Ok, ap, sym}
 use Rattle.pr_base.specs.Paths.{text_of}
 use Rattle.pr_base.specs.Peeks.{Peeked}
 use Rattle.pt_bind.specs.Binding.{host_of}
