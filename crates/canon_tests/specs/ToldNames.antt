@@ -11,7 +11,7 @@ abbrev beside : ℕ → ℕ → Type 0
 beside x b = b ≢ x
 
 no_byte_of_data : (x : ℕ) → 100 ≢ x → 97 ≢ x → 116 ≢ x → All (beside x) (codes "data")
-no_byte_of_data x d a t = let P = beside x in All-cons P 100 _ d (All-cons P 97 _ a (All-cons P 116 _ t (All-cons P 97 _ a (All-nil P))))
+no_byte_of_data x d a t = let P = beside x in All-cons P 100 (97 ∷ 116 ∷ 97 ∷ []) d (All-cons P 97 (116 ∷ 97 ∷ []) a (All-cons P 116 (97 ∷ []) t (All-cons P 97 [] a (All-nil P))))
 
 data_name : IsName (codes "data")
 data_name = record {
