@@ -1,34 +1,55 @@
 //! What walks over guest texts are tried on.
-ghost use Rattle.pt_bind.specs.Binding.{IsWritten};
 
 use crate::told::{Stands, Told};
+use bind_tests::texts::is_text;
 use pr_base::{Errno, Last, NoMemory, WalkMode};
-use pt_bind::Tags;
+use pt_bind::{Table, Tags};
 use pt_canon::{Canon, WalkErr, Walker};
 use std::alloc::Global;
 
-/// What a walk answers: a guest text, its host text and index, what the path ends with, whether a slash stands behind
-/// that, and whether it is there; or why it fails.
+/// How a path ends: what stands last, whether a slash stands behind it, and whether it is there.
+#[derive(Clone, Copy, Debug)]
+pub struct End(pub Last, pub bool, pub bool);
+
+/// What a walk answers: a guest text, its host text and index, and how the path ends; or why it fails.
 #[derive(Clone, Copy, Debug)]
 pub enum Want {
-    At(&'static [u8], &'static [u8], u32, Last, bool, bool),
+    At(&'static [u8], &'static [u8], u32, End),
     Refused(Errno),
 }
 
-/// Paths in a mode, and what the walks along them answer.
+/// A path in a mode from a guest text, and what the walk along it answers.
 #[derive(Clone, Copy, Debug)]
 pub struct Case {
-    pub path: &'static [u8],
-    pub mode: WalkMode,
-    pub want: Want,
+    base: &'static [u8],
+    path: &'static [u8],
+    mode: WalkMode,
+    want: Want,
+}
+
+impl Case {
+    fn from_root(path: &'static [u8], mode: WalkMode, want: Want) -> Case {
+        Case {
+            base: b"/",
+            path,
+            mode,
+            want,
+        }
+    }
+
+    /// The same from another guest text.
+    pub fn from(self, base: &'static [u8]) -> Case {
+        Case {
+            base,
+            path: self.path,
+            mode: self.mode,
+            want: self.want,
+        }
+    }
 }
 
 pub fn refused(path: &'static [u8], mode: WalkMode, errno: Errno) -> Case {
-    Case {
-        path,
-        mode,
-        want: Want::Refused(errno),
-    }
+    Case::from_root(path, mode, Want::Refused(errno))
 }
 
 /// A path that leads to what is there by its name.
@@ -39,11 +60,7 @@ pub fn found(
     host: &'static [u8],
     index: u32,
 ) -> Case {
-    Case {
-        path,
-        mode,
-        want: Want::At(guest, host, index, Last::Name, false, true),
-    }
+    ended(path, mode, guest, host, index, THERE)
 }
 
 /// A path that ends otherwise.
@@ -53,30 +70,92 @@ pub fn ended(
     guest: &'static [u8],
     host: &'static [u8],
     index: u32,
-    last: Last,
-    slash: bool,
-    exists: bool,
+    end: End,
 ) -> Case {
-    Case {
-        path,
-        mode,
-        want: Want::At(guest, host, index, last, slash, exists),
-    }
+    Case::from_root(path, mode, Want::At(guest, host, index, end))
 }
+
+pub const THERE: End = End(Last::Name, false, true);
 
 /// Whether an answer is the wanted one.
 pub fn meets(answer: &Result<Canon, WalkErr>, want: Want) -> bool {
     match (answer, want) {
-        (Ok(canon), Want::At(guest, host, index, last, slash, exists)) => {
+        (Ok(canon), Want::At(guest, host, index, end)) => {
             canon.guest.as_slice() == guest
                 && canon.host.as_slice() == host
                 && canon.index == index
-                && canon.last == last
-                && canon.slash == slash
-                && canon.exists == exists
+                && canon.last == end.0
+                && canon.slash == end.1
+                && canon.exists == end.2
         }
         (Err(WalkErr::Err(errno)), Want::Refused(wanted)) => *errno == wanted,
         _ => false,
+    }
+}
+
+/// A tracer's walks, on a kernel in memory.
+#[derive(Drop)]
+pub struct Bench {
+    alloc: Global,
+    walker: Walker,
+    told: Told,
+    tags: Tags,
+}
+
+impl Bench {
+    pub fn new(alloc: Global, table: Table, told: Told, tags: Tags) -> Result<Bench, NoMemory> {
+        let walker = Walker::new(alloc, table)?;
+        Ok(Bench {
+            alloc,
+            walker,
+            told,
+            tags,
+        })
+    }
+
+    /// The answer of a walk. What is no guest text is none to walk from.
+    pub fn walk(&mut self, base: &[u8], path: &[u8], mode: WalkMode) -> Result<Canon, WalkErr> {
+        if !is_text(self.alloc, base)? {
+            return Err(WalkErr::Err(Errno::EINVAL));
+        }
+        self.walker
+            .canon(&mut self.told, &self.tags, base, path, mode)
+    }
+
+    /// The first of these walks that doesn't answer what it must, if there is one.
+    pub fn unmet(&mut self, cases: &[Case]) -> Option<Case> {
+        for case in cases {
+            let answer = self.walk(case.base, case.path, case.mode);
+            if !meets(&answer, case.want) {
+                return Some(*case);
+            }
+        }
+        None
+    }
+
+    /// Sets how many calls of the kernel find memory.
+    pub fn set_calls(&mut self, calls: u32) {
+        self.told.set_calls(calls);
+    }
+
+    /// With how few calls of the kernel a path from the root has its answer.
+    pub fn peeks(&mut self, path: &[u8]) -> Option<u32> {
+        for calls in 0..64 {
+            self.set_calls(calls);
+            let answer = self.walk(b"/", path, WalkMode::Look);
+            if !matches!(answer, Err(WalkErr::NoMemory)) {
+                return Some(calls);
+            }
+        }
+        None
+    }
+
+    /// The index of a guest text by the walker's own table.
+    pub fn index(&self, guest: &[u8]) -> Result<Option<u32>, NoMemory> {
+        if !is_text(self.alloc, guest)? {
+            return Ok(None);
+        }
+        Ok(Some(self.walker.table().index_of(guest)))
     }
 }
 
@@ -104,62 +183,54 @@ pub fn listed(alloc: Global) -> Result<Told, NoMemory> {
         told.add_dir(dir, Stands::Dir)?;
     }
     told.add_dir(b"/g/closed", Stands::Fails(Errno::EACCES))?;
-    let files: [&[u8]; 5] = [b"/data/n", b"/other/o", b"/g/f", b"/g/a/b/f", b"/g/mntx"];
-    for file in files {
-        told.add(file, Stands::File)?;
-    }
+    add_files(&mut told)?;
     add_links(&mut told)?;
     Ok(told)
 }
 
+fn add_files(told: &mut Told) -> Result<(), NoMemory> {
+    let files: [&[u8]; 7] = [
+        b"/data/n",
+        b"/other/o",
+        b"/new",
+        b"/g/f",
+        b"/g/h",
+        b"/g/a/b/f",
+        b"/g/mntx",
+    ];
+    for file in files {
+        told.add(file, Stands::File)?;
+    }
+    Ok(())
+}
+
 fn add_links(told: &mut Told) -> Result<(), NoMemory> {
-    told.add_link(b"/data/abs", b"/f")?;
-    told.add_link(b"/data/up", b"../f")?;
-    told.add_link(b"/data/dir", b"../a/")?;
-    told.add_link(b"/g/out", b"/mnt/n")?;
-    told.add_link(b"/g/in", b"mnt/n")?;
-    told.add_link(b"/g/loop", b"loop")?;
-    told.add_link(b"/g/empty", b"")?;
-    told.add_link(b"/proc/self", b"1")?;
-    let jumps: [&[u8]; 6] = [
+    let links: [(&[u8], &[u8]); 10] = [
+        (b"/data/abs", b"/f"),
+        (b"/data/up", b"/../../f"),
+        (b"/data/out", b"../f"),
+        (b"/data/dir", b"../a/"),
+        (b"/data/lost", b"z"),
+        (b"/g/out", b"/mnt/n"),
+        (b"/g/in", b"mnt/n"),
+        (b"/g/loop", b"loop"),
+        (b"/g/empty", b""),
+        (b"/proc/self", b"1"),
+    ];
+    for (host, text) in links {
+        told.add_link(host, text)?;
+    }
+    let jumps: [&[u8]; 7] = [
         b"/proc/1/cwd",
         b"/proc/1/exe",
         b"/proc/1/root",
         b"/proc/1/fd/3",
         b"/proc/1/fd/4",
         b"/proc/1/fd/5",
+        b"/proc/1/fd/7",
     ];
     for jump in jumps {
         told.add(jump, Stands::Jump)?;
     }
     Ok(())
-}
-
-/// The answer of a walk from the guest's root.
-pub fn walk(
-    walker: &mut Walker,
-    told: &mut Told,
-    tags: &Tags,
-    path: &[u8],
-    mode: WalkMode,
-) -> Result<Canon, WalkErr> {
-    walker.canon(told, tags, root(), path, mode)
-}
-
-/// The first of these walks from the guest's root that doesn't answer what it must, if there is one.
-pub fn unmet(walker: &mut Walker, told: &mut Told, tags: &Tags, cases: &[Case]) -> Option<Case> {
-    for case in cases {
-        let answer = walk(walker, told, tags, case.path, case.mode);
-        if !meets(&answer, case.want) {
-            return Some(*case);
-        }
-    }
-    None
-}
-
-/// The guest text of the root.
-fn root() -> &'static [u8]
-    ensures { IsWritten result.now }
-{
-    b"/"
 }
