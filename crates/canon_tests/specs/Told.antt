@@ -1,5 +1,5 @@
 -- What a kernel in memory tells: by its rows, and names that are the same for all.
-use Rattle.std.specs.Prelude.{ℕ, List, ◌∷◌, nat_eq, Option, Some, None, Result, Ok, Err, bytes_eq, codes, if◌then◌else◌}
+use Rattle.std.specs.Prelude.{ℕ, List, nat_eq, Option, Some, None, Result, Ok, Err, bytes_eq, codes, if◌then◌else◌}
 use Rattle.std.specs.List.{find}
 use Rattle.pr_base.specs.declared.errno.Errno.{Errno}
 use Rattle.pr_base.specs.declared.errno.Errno.TheVariants.{EINVAL, ENOENT}
