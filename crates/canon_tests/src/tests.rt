@@ -27,7 +27,7 @@ fn names() -> [Case; 9] {
     [
         found(b"/mnt/n", LOOK, b"/mnt/n", b"/data/n", 1),
         found(b"mnt/n", LOOK, b"/mnt/n", b"/data/n", 1),
-        found(b"n", LOOK, b"/mnt/n", b"/data/n", 1).from(b"/mnt"),
+        found(b"n", LOOK, b"/mnt/n", b"/data/n", 1).starting(b"/mnt"),
         found(b"/mntx", LOOK, b"/mntx", b"/g/mntx", 0),
         found(b"/mnt", LOOK, b"/mnt", b"/data", 1),
         found(b"../../mnt/n", LOOK, b"/mnt/n", b"/data/n", 1),
@@ -46,8 +46,8 @@ fn refusals() -> [Case; 9] {
         refused(b"/f/.", NAME, Errno::ENOTDIR),
         refused(b"/closed/..", LOOK, Errno::EACCES),
         refused(b"/closed/x", OPEN, Errno::EACCES),
-        refused(b"..", LOOK, Errno::ENOENT).from(b"/z"),
-        refused(b"n", NAME, Errno::ENOTDIR).from(b"/f"),
+        refused(b"..", LOOK, Errno::ENOENT).starting(b"/z"),
+        refused(b"n", NAME, Errno::ENOTDIR).starting(b"/f"),
     ]
 }
 
@@ -60,7 +60,7 @@ fn sights(mode: WalkMode) -> [Case; 11] {
     let up_slash = End(Last::DotDot, true, true);
     [
         ended(b"/", mode, b"/", b"/g", 0, root),
-        ended(b"", mode, b"/mnt", b"/data", 1, root).from(b"/mnt"),
+        ended(b"", mode, b"/mnt", b"/data", 1, root).starting(b"/mnt"),
         ended(b"/mnt/.", mode, b"/mnt", b"/data", 1, dot),
         ended(b"/mnt/./", mode, b"/mnt", b"/data", 1, dot_slash),
         ended(b"/mnt/..", mode, b"/", b"/g", 0, up),
@@ -82,7 +82,7 @@ fn entries(mode: WalkMode) -> [Case; 11] {
     let up_slash = End(Last::DotDot, true, false);
     [
         ended(b"/", mode, b"/", b"/g", 0, root),
-        ended(b"", mode, b"/mnt", b"/data", 1, root).from(b"/mnt"),
+        ended(b"", mode, b"/mnt", b"/data", 1, root).starting(b"/mnt"),
         ended(b"/mnt/.", mode, b"/mnt", b"/data", 1, dot),
         ended(b"/mnt/./", mode, b"/mnt", b"/data", 1, dot_slash),
         ended(b"/mnt/..", mode, b"/mnt", b"/data", 1, up),
@@ -232,10 +232,10 @@ fn beside_bindings() -> [Case; 10] {
     let up = End(Last::DotDot, false, true);
     [
         found(b"/a/x", LOOK, b"/a/x", b"/data", 1),
-        found(b"../b/f", LOOK, b"/a/b/f", b"/g/a/b/f", 0).from(b"/a/x"),
+        found(b"../b/f", LOOK, b"/a/b/f", b"/g/a/b/f", 0).starting(b"/a/x"),
         ended(b"/a/x/..", LOOK, b"/a", b"/g/a", 0, up),
         found(b"/b", LOOK, b"/b", b"/data", 2),
-        found(b"../mnt", LOOK, b"/mnt", b"/other", 3).from(b"/b"),
+        found(b"../mnt", LOOK, b"/mnt", b"/other", 3).starting(b"/b"),
         found(b"/mnt/o", LOOK, b"/mnt/o", b"/other/o", 3),
         refused(b"/mnt/n", LOOK, Errno::ENOENT),
         found(b"/h", LOOK, b"/h", b"/g/h", 0),
@@ -267,7 +267,7 @@ fn at_lost_source() -> [Case; 4] {
     [
         refused(b"/a/b", LOOK, Errno::ENOENT),
         refused(b"/a/b/n", NAME, Errno::ENOENT),
-        refused(b"..", LOOK, Errno::ENOENT).from(b"/a/b"),
+        refused(b"..", LOOK, Errno::ENOENT).starting(b"/a/b"),
         ended(b"/a", OPEN, b"/a", b"/a", 0, FREE),
     ]
 }

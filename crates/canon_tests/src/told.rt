@@ -74,13 +74,6 @@ impl Told {
         self.add(host, Stands::Link(text))
     }
 
-    /// How many more calls find memory.
-    pub fn calls(&self) -> u32
-        ensures { result ≡ self.now.calls }
-    {
-        self.calls
-    }
-
     /// Sets how many calls find memory.
     pub fn set_calls(&mut self, calls: u32) {
         self.calls = calls;

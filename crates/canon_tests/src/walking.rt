@@ -38,7 +38,7 @@ impl Case {
     }
 
     /// The same from another guest text.
-    pub fn from(self, base: &'static [u8]) -> Case {
+    pub fn starting(self, base: &'static [u8]) -> Case {
         Case {
             base,
             path: self.path,
