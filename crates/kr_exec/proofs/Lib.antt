@@ -1,0 +1,4 @@
+pub mod LimitLemmas
+pub mod ListLemmas
+pub mod RunningLemmas
+pub mod PlanLemmas

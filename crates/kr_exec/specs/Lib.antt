@@ -1,0 +1,5 @@
+pub mod Answers
+pub mod Exec
+pub mod Finding
+pub mod Interpreters
+pub mod Lists
