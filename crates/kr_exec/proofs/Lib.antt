@@ -1,3 +1,4 @@
+pub mod ExecRows
 pub mod LimitLemmas
 pub mod ListLemmas
 pub mod RunningLemmas
