@@ -1,6 +1,7 @@
 -- What the walks of a whole plan reach.
 use Rattle.std.proofs.Common.{◌≡◌, ℕ, Bool, true, false, ◌||◌, cond, List, Result, Ok, Err, length, sym, ap, ◌∙◌}
 use Rattle.std.specs.Prelude.{nat_lt}
+use Rattle.std.specs.Result.{IfOk}
 use Rattle.kr_tree.specs.declared.place.Place.{Place}
 use Rattle.kr_view.specs.declared.target.Target.{Target}
 use Rattle.kr_view.specs.declared.target.WalkFault.{WalkFault}
@@ -10,6 +11,7 @@ use Rattle.kr_view.specs.Component.{Surroundings}
 use Rattle.kr_view.specs.Reach.{Covers}
 use Rattle.kr_view.proofs.ReachLemmas.{covers_refl}
 use Rattle.kr_calls.specs.Expansion.{bytes_with_ends, is_too_big, most_scripts}
+use Rattle.kr_exec.specs.declared.plan.ExecPlan.{ExecPlan}
 use Rattle.kr_exec.specs.Answers.{Reaches}
 use Rattle.kr_exec.specs.Exec.{are_too_big, exec_reach}
 use Rattle.kr_exec.specs.Interpreters.{interpreters, programs, walks_reach}
@@ -37,3 +39,9 @@ pub any_reach : {T : Type 0} (whole old new : Reach) (result : Result T WalkFaul
 any_reach whole old new (Ok x) is more = is
 any_reach whole old new (Err (fault.Err e)) is more = is
 any_reach whole old new (Err fault.NoMemory) is more = wanting_reach whole old new is more
+
+-- what is given to a file that is planned is what was tested
+pub lists_fit : {M : Type 0} (args env : List (List ℕ)) (bytes : ℕ) (result : Result (ExecPlan M) WalkFault) → bytes ≡ bytes_with_ends env → nat_lt 4096 (length env) ≡ false → is_too_big bytes args ≡ false
+    → IfOk result (λ plan. (plan.args ≡ args) × (plan.env ≡ env)) → IfOk result (λ plan. are_too_big plan.args plan.env ≡ false)
+lists_fit args env bytes (Ok plan) is few h same = (λ i. are_too_big (same.0 i) (same.1 i)) ∙ fits_both args env bytes is few h
+lists_fit args env bytes (Err why) is few h same = tt

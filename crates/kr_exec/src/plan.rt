@@ -1,5 +1,5 @@
 //! What a new program comes to before it is loaded.
-ghost use Rattle.std.specs.Prelude.{◌≡◌, true, IfOk, Some};
+ghost use Rattle.std.specs.Prelude.{◌≡◌, false, true, IfOk, Some};
 ghost use Rattle.std.specs.Option.{option_map_or};
 ghost use Rattle.kr_tree.specs.declared.place.Host.TheVariants.{Node};
 ghost use Rattle.kr_view.specs.Answers.{target_numbered};
@@ -7,7 +7,7 @@ ghost use Rattle.kr_view.specs.Leads.{numbered};
 ghost use Rattle.kr_view.specs.View.{source};
 ghost use Rattle.kr_view.specs.Walk.{surroundings};
 ghost use Rattle.kr_exec.specs.Answers.{plan_numbered, running, Answers, Reaches};
-ghost use Rattle.kr_exec.specs.Exec.{exec_plan, exec_reach, inode_at, target_plan};
+ghost use Rattle.kr_exec.specs.Exec.{are_too_big, exec_plan, exec_reach, inode_at, target_plan};
 ghost use Rattle.kr_exec.specs.Finding.{is_program, is_program_found};
 
 use crate::limits::{env_bytes, is_too_big};
@@ -60,6 +60,7 @@ pub fn plan_exec<P: Places, Q: Procs<Mount = P::Mount>>(
         Answers (plan_numbered P.number) (exec_plan around (numbered P.number base) (target_numbered P.number found) path.now lists.args lists.env) result }
     ensures program { IfOk result (λ plan. is_program tree.now user plan.place.host ≡ true) }
     ensures file { IfOk result (λ plan. plan.place.host ≡ Node plan.file) }
+    ensures fit { IfOk result (λ plan. are_too_big plan.args plan.env ≡ false) }
     ensures reach { let around = surroundings P.number (P.mounts places.now) tree.now user (Q.finds procs.now caller) (Q.leads procs.now caller) in
         Reaches (exec_reach around (numbered P.number base) (target_numbered P.number found) path.now lists.args lists.env reach.old) reach.old reach.new result }
 {
@@ -99,6 +100,7 @@ fn file_plan<P: Places>(
     ensures answer { Answers (plan_numbered P.number) (target_plan (P.mounts places.now) tree.now env (target_numbered P.number file) args) result }
     ensures place { IfOk result (λ plan. file.found ≡ Some plan.place) }
     ensures file { IfOk result (λ plan. plan.file ≡ inode_at plan.place.host) }
+    ensures lists { IfOk result (λ plan. (plan.args ≡ args) × (plan.env ≡ env)) }
 {
     let Target {
         dir,

@@ -1,8 +1,8 @@
 //! Scripts: files whose first line names the program that runs them.
-ghost use Rattle.std.specs.Prelude.{◌≡◌, ◌≤◌, length, true, IfOk};
+ghost use Rattle.std.specs.Prelude.{◌≡◌, ◌≤◌, length, false, true, IfOk};
 ghost use Rattle.kr_view.specs.Answers.{target_numbered, IsReached};
 ghost use Rattle.kr_view.specs.Leads.{numbered};
-ghost use Rattle.kr_calls.specs.Expansion.{is_script, most_scripts, new_args};
+ghost use Rattle.kr_calls.specs.Expansion.{is_script, is_too_big, most_scripts, new_args};
 ghost use Rattle.kr_calls.specs.Scripts.{script_of, BeginsScript};
 ghost use Rattle.kr_exec.specs.Answers.{around_of, running, Answers, IsExpanded, Reaches};
 ghost use Rattle.kr_exec.specs.Finding.{is_program_found, program_at, program_walk};
@@ -121,9 +121,11 @@ impl<'a, P: Places, Q: Procs<Mount = P::Mount>> Search<'a, P, Q> {
     ) -> Result<Command<P::Mount>, WalkFault>
         requires few { env_bytes ≤ 131072 }
         requires program { is_program_found self.now.tree.now self.now.user command.file.found ≡ true }
+        requires fit { is_too_big env_bytes command.args ≡ false }
         ensures answer { let around = around_of P.number P.mounts Q.finds Q.leads self.now in
             IsExpanded P.number (ends_of (programs around (numbered P.number base)) env_bytes most_scripts (running P.number command)) result }
         ensures program { IfOk result (λ last. is_program_found self.now.tree.now self.now.user last.file.found ≡ true) }
+        ensures fit { IfOk result (λ last. is_too_big env_bytes last.args ≡ false) }
         ensures reach { let around = around_of P.number P.mounts Q.finds Q.leads self.now in
             Reaches (walks_reach around (numbered P.number base) (paths_of (programs around (numbered P.number base)) env_bytes most_scripts (running P.number command)) reach.old) reach.old reach.new result }
     {
@@ -158,6 +160,7 @@ impl<'a, P: Places, Q: Procs<Mount = P::Mount>> Search<'a, P, Q> {
         ensures answer { let around = around_of P.number P.mounts Q.finds Q.leads self.now in
             Answers (running P.number) (interpreted (programs around (numbered P.number base)) env_bytes script.path script.args (script_of head.now)) result }
         ensures program { IfOk result (λ next. is_program_found self.now.tree.now self.now.user next.file.found ≡ true) }
+        ensures fit { IfOk result (λ next. is_too_big env_bytes next.args ≡ false) }
         ensures reach { let around = around_of P.number P.mounts Q.finds Q.leads self.now in
             Reaches (line_reach around (numbered P.number base) (script_of head.now) reach.old) reach.old reach.new result }
     {

@@ -5,7 +5,7 @@ use Rattle.kr_view.specs.Leads.{numbered}
 use Rattle.kr_view.specs.Walk.{surroundings}
 use Rattle.kr_calls.specs.Expansion.{most_scripts}
 use Rattle.kr_exec.specs.Interpreters.{interpreters, programs, walks_reach}
-use Rattle.kr_exec.proofs.PlanLemmas.{any_reach, covers_exec, fits_both, reach_is}
+use Rattle.kr_exec.proofs.PlanLemmas.{any_reach, covers_exec, fits_both, lists_fit, reach_is}
 use Rattle.kr_exec.proofs.RunningLemmas.{at_start}
 use Rattle.kr_exec.proofs.plan.plan_exec.Goals as goal
 
@@ -29,3 +29,7 @@ returns-clause-reach g c =
     (c.in_ok-last.ensures.reach ∙ ap (λ p. walks_reach around base (interpreters (programs around base) c.in-Some.env_bytes most_scripts found p l.args) c.args.reach.now) c.in_ok-path.ensures
     ∙ reach_is around base found c.args.path.now l.args l.env c.in-Some.env_bytes c.args.reach.now c.in-Some.ensures.bytes fits)
     (covers_exec around base found c.args.path.now l.args l.env c.args.reach.now)
+
+pub returns-clause-fit : goal.returns-clause-fit
+returns-clause-fit g c =
+    lists_fit c.in_ok-last.last.args c.args.lists.env c.in-Some.env_bytes c.file_plan.result c.in-Some.ensures.bytes c.in-Some.ensures.few c.in_ok-last.ensures.fit c.file_plan.ensures.lists
