@@ -63,13 +63,6 @@ ok_front texts (Err e) = Err e
 abbrev pub front : Texts → CarriedOut (Result Texts Errno) → CarriedOut (Result Texts Errno)
 front texts d = done (ok_front texts d.reply) d.memory
 
-pub front_none : (d : CarriedOut (Result Texts Errno)) → d ≡ front [] d
-front_none d = ap (λ r. done r d.memory) (by d.reply)
-  where
-    by : (r : Result Texts Errno) → r ≡ ok_front [] r
-    by (Ok rest) = refl
-    by (Err e) = refl
-
 front_more : (texts : Texts) (text : List ℕ) (d : CarriedOut (Result Texts Errno)) → front texts (goes_on (behind text) d) ≡ front (texts ++ text ∷ []) d
 front_more texts text d = by d.reply
   where
@@ -101,10 +94,6 @@ at_text left at room address m e = ap (λ b. carried_out (cond b (Done (Ok [])) 
 
 pub at_full : (at room address : ℕ) (m : Memory) → nat_eq address 0 ≡ false → carried_out (by_address 0 at room address) m ≡ done (Err E2BIG) m
 at_full at room address m e = ap (λ b. carried_out (cond b (Done (Ok [])) (Done (Err E2BIG))) m) e
-
-pub at_entry : (left at room address : ℕ) (m after : Memory) (r : Result (List ℕ) Errno) → carried_out (text_within room address) m ≡ done r after
-    → carried_out (entry left at room address) m ≡ on_reply (λ text. and_then (texts_from left (next_address at) (room - (length text + 1))) (behind text)) r after
-at_entry left at room address m after r e = and_then_is (text_within room address) _ m ∙ ap (goes_on (λ text. and_then (texts_from left (next_address at) (room - (length text + 1))) (behind text))) e
 
 -- ---- the bytes of one more text
 
@@ -304,9 +293,6 @@ pub address_refused : (at : ℕ) (m : Memory) → allows_all m.pages at 8 Read �
 address_refused at m may = ap (λ b. carried_out (cond b (ReadBytes at 8 (λ bytes. Done (Ok (little_endian bytes)))) (Done (Err EFAULT))) m) may
 
 -- ---- both lists
-
-pub list_some : (at room : ℕ) → (at ≡ 0 → ⊥) → list_at at room ≡ texts_from most_texts at room
-list_some at room some = ap (λ b. cond b (Done (Ok [])) (texts_from most_texts at room)) (not_zero at some)
 
 -- the environment comes after the arguments
 pub env_is : (args env : ℕ) (texts given : Texts) (m after : Memory) → Reads (Ok texts) (carried_out (list_at args most_bytes) m) m after → given ≡ at_least_one texts

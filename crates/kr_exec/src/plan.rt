@@ -6,7 +6,7 @@ ghost use Rattle.kr_view.specs.Answers.{target_numbered};
 ghost use Rattle.kr_view.specs.Leads.{numbered};
 ghost use Rattle.kr_view.specs.View.{source};
 ghost use Rattle.kr_view.specs.Walk.{surroundings};
-ghost use Rattle.kr_exec.specs.Answers.{plan_numbered, running, Answers, Reaches};
+ghost use Rattle.kr_exec.specs.Answers.{plan_numbered, Answers, Reaches};
 ghost use Rattle.kr_exec.specs.Exec.{are_too_big, exec_plan, exec_reach, inode_at, target_plan};
 ghost use Rattle.kr_exec.specs.Finding.{is_program, is_program_found};
 
