@@ -1,10 +1,11 @@
 //! The lists of texts that execve(2) reads: the arguments of a program, and its environment.
-ghost use Rattle.std.specs.Prelude.{◌≡◌, ◌+◌, ◌<◌, ◌++◌, [], ◌∷◌, true, false, None, IfErr, IfOk, IfSome, OnOk, length};
+ghost use Rattle.std.specs.Prelude.{◌≡◌, ◌+◌, ◌<◌, ◌≤◌, ◌++◌, [], ◌∷◌, true, false, None, IfErr, IfOk, IfSome, OnOk, length};
 ghost use Rattle.pr_base.specs.Fields.{little_endian};
 ghost use Rattle.rv_mem.specs.Actions.{carried_out};
 ghost use Rattle.rv_mem.specs.Memory.{after_read};
 ghost use Rattle.rv_mem.specs.Pages.{allows_all, bytes_from};
 ghost use Rattle.kr_calls.specs.Expansion.{bytes_with_ends};
+ghost use Rattle.kr_exec.specs.Exec.{are_too_big};
 ghost use Rattle.kr_exec.specs.Lists.{address_at, text_at, text_within, list_at, lists_at, texts_from, most_texts, at_least_one, Reads, texts_read};
 
 use crate::limits::{MOST_BYTES, MOST_TEXTS};
@@ -40,6 +41,7 @@ pub fn read_lists<const M: u8>(
     env: u64,
 ) -> Result<Lists, CallFault>
     ensures read { Reads result (carried_out (lists_at args env) mem.old) mem.old mem.new }
+    ensures fit { IfOk result (λ lists. are_too_big lists.args lists.env ≡ false) }
     ensures pages { mem.new.pages ≡ mem.old.pages }
 {
     let args = read_list(alloc, mem, args, MOST_BYTES)?;
@@ -56,6 +58,7 @@ fn or_one_empty(alloc: Global, list: List) -> Result<List, CallFault>
     requires { 0 < list.room + bytes_with_ends list.texts }
     ensures texts { IfOk result (λ more. more.texts ≡ at_least_one list.texts) }
     ensures room { IfOk result (λ more. more.room + bytes_with_ends more.texts ≡ list.room + bytes_with_ends list.texts) }
+    ensures few { length list.texts ≤ 4096 → IfOk result (λ more. length more.texts ≤ 4096) }
     ensures err { IfErr result (λ fault. fault ≡ CallFault.NoMemory) }
 {
     if !list.texts.is_empty() {
@@ -78,6 +81,7 @@ fn read_list<const M: u8>(
 ) -> Result<List, CallFault>
     ensures read { Reads (texts_read result) (carried_out (list_at at room) mem.old) mem.old mem.new }
     ensures room { IfOk result (λ list. list.room + bytes_with_ends list.texts ≡ room) }
+    ensures few { IfOk result (λ list. length list.texts ≤ 4096) }
     ensures pages { mem.new.pages ≡ mem.old.pages }
 {
     if at == 0 {
@@ -98,6 +102,7 @@ fn read_texts<const M: u8>(
 ) -> Result<List, CallFault>
     ensures read { Reads (texts_read result) (carried_out (texts_from most_texts at room) mem.old) mem.old mem.new }
     ensures room { IfOk result (λ list. list.room + bytes_with_ends list.texts ≡ room) }
+    ensures few { IfOk result (λ list. length list.texts ≤ 4096) }
     ensures pages { mem.new.pages ≡ mem.old.pages }
 {
     let mut texts = Texts::new(alloc);

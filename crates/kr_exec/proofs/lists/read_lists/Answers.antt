@@ -3,6 +3,7 @@ use Rattle.std.proofs.lemmas.Result.{err_from_is_err_and}
 use Rattle.kr_calls.specs.Expansion.{bytes_with_ends}
 use Rattle.kr_exec.specs.Lists.{at_least_one, env_at, list_at, most_bytes}
 use Rattle.kr_exec.proofs.ListLemmas.{env_err, env_is, env_ok, list_marks, reads_err, wanting_behind}
+use Rattle.kr_exec.proofs.PlanLemmas.{lists_within}
 use Rattle.kr_exec.proofs.lists.read_lists.Goals as goal
 
 pub returns-in_err-args-clause-read : goal.returns-in_err-args-clause-read
@@ -42,3 +43,8 @@ returns-clause-read g c =
     let whole =
     env_ok c.args.env c.in_ok-args-2.args.room given c.in_ok-env.env.texts _ after c.read_list-2.new.mem (env_is c.args.args c.args.env texts given m after c.in_ok-args.ensures.read c.in_ok-args-2.ensures.texts) room c.in_ok-env.ensures.read in
     (ap (λ d. d.reply) whole, sym (ap (λ d. d.memory) whole))
+
+pub returns-clause-fit : goal.returns-clause-fit
+returns-clause-fit g c =
+    let few_args = c.in_ok-args-2.ensures.few c.in_ok-args.ensures.few in
+    lists_within c.in_ok-args-2.args.texts c.in_ok-env.env.texts few_args c.in_ok-env.ensures.few (omega (arith, c.in_ok-args.ensures.room, c.in_ok-args-2.ensures.room, c.in_ok-env.ensures.room))

@@ -1,11 +1,9 @@
-use Rattle.std.proofs.Common.{◌∙◌, ap, sym}
+use Rattle.std.proofs.Common.{◌∙◌, sym}
 use Rattle.std.proofs.lemmas.Result.{err_from_is_err_and}
 use Rattle.kr_view.specs.Answers.{target_numbered}
 use Rattle.kr_view.specs.Leads.{numbered}
 use Rattle.kr_view.specs.Walk.{surroundings}
-use Rattle.kr_calls.specs.Expansion.{most_scripts}
-use Rattle.kr_exec.specs.Interpreters.{interpreters, programs, walks_reach}
-use Rattle.kr_exec.proofs.PlanLemmas.{any_reach, covers_exec, fits_both, lists_fit, reach_is}
+use Rattle.kr_exec.proofs.PlanLemmas.{any_reach, covers_exec, fits_both, lists_fit, reached_is}
 use Rattle.kr_exec.proofs.RunningLemmas.{at_start}
 use Rattle.kr_exec.proofs.plan.plan_exec.Goals as goal
 
@@ -26,8 +24,7 @@ returns-clause-reach g c =
     let l = c.args.lists in
     let fits = fits_both l.args l.env c.in-Some.env_bytes c.in-Some.ensures.bytes c.in-Some.ensures.few (sym c.is_too_big.ensures ∙ c.if-is_too_big.false) in
     any_reach _ c.args.reach.now c.expand.new.reach c.file_plan.result
-    (c.in_ok-last.ensures.reach ∙ ap (λ p. walks_reach around base (interpreters (programs around base) c.in-Some.env_bytes most_scripts found p l.args) c.args.reach.now) c.in_ok-path.ensures
-    ∙ reach_is around base found c.args.path.now l.args l.env c.in-Some.env_bytes c.args.reach.now c.in-Some.ensures.bytes fits)
+    (reached_is around base found c.args.path.now c.in_ok-path.path l.args l.env c.in-Some.env_bytes c.args.reach.now c.expand.new.reach c.in_ok-last.ensures.reach c.in_ok-path.ensures c.in-Some.ensures.bytes fits)
     (covers_exec around base found c.args.path.now l.args l.env c.args.reach.now)
 
 pub returns-clause-fit : goal.returns-clause-fit
