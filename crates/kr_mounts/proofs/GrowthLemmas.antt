@@ -66,7 +66,7 @@ module _ (user : User) (t : Tree) where
       at true takes on = through_grows table (λ v m d. way user table wanted v m d next names) on u grown mount dir name takes (down table mount dir name)
       at false takes on = grown
 
-  along_grows : (table : List Row) (one : Located) (names : List (List ℕ)) (u : Tree) → IsGrown user t u → Grows (way_along user table one u names)
+  pub along_grows : (table : List Row) (one : Located) (names : List (List ℕ)) (u : Tree) → IsGrown user t u → Grows (way_along user table one u names)
   along_grows table one [] u grown = grown
   along_grows table one (name ∷ names) u grown = way_grows table (record { is_dir = one.source.is_dir; keep = one.keep }) names name u 0 (root_source table) grown
 

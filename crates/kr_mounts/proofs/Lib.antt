@@ -1,6 +1,16 @@
 pub mod BeforeLemmas
+pub mod BoundLemmas
+pub mod CutLemmas
 pub mod GrowthLemmas
 pub mod IndexLemmas
+pub mod LocationLemmas
+pub mod MountLemmas
 pub mod OrderLemmas
+pub mod PassLemmas
 pub mod Rows
+pub mod SightLemmas
+pub mod SourceLemmas
+pub mod StopLemmas
 pub mod TableLemmas
+pub mod TurnLemmas
+pub mod WayLemmas

@@ -7,22 +7,22 @@ use Rattle.pr_base.proofs.TextLemmas.{texts_true}
 use Rattle.kr_mounts.specs.MountTable.{Located, is_located_as, counting, placed_before, in_order}
 use Rattle.kr_mounts.specs.Order.{AreApart, AreByLength, IsAmong, BindingsAreInOrder}
 
-abbrev Each : (Located → Type 0) → List Located → Type 0
+abbrev pub Each : (Located → Type 0) → List Located → Type 0
 Each P all = AllByRecursion P all
 
 -- ---- what holds of each
 
-counting_each : (P : Located → Type 0) (all : List Located) → Each P all → Each P (counting all)
+pub counting_each : (P : Located → Type 0) (all : List Located) → Each P all → Each P (counting all)
 counting_each P [] h = h
 counting_each P (one ∷ more) h =
     elim (list_any (is_located_as one) more) as (λ b. Each P (if b then counting more else one ∷ counting more)) [ true ↦ counting_each P more h.1 | false ↦ (h.0, counting_each P more h.1) ]
 
-placed_each : (P : Located → Type 0) (one : Located) (all : List Located) → P one → Each P all → Each P (placed_before one all)
+pub placed_each : (P : Located → Type 0) (one : Located) (all : List Located) → P one → Each P all → Each P (placed_before one all)
 placed_each P one [] p h = (p, h)
 placed_each P one (other ∷ more) p h =
     elim (nat_le (length one.location) (length other.location)) as (λ b. Each P (if b then one ∷ other ∷ more else other ∷ placed_before one more)) [ true ↦ (p, h) | false ↦ (h.0, placed_each P one more p h.1) ]
 
-ordered_each : (P : Located → Type 0) (all : List Located) → Each P all → Each P (in_order all)
+pub ordered_each : (P : Located → Type 0) (all : List Located) → Each P all → Each P (in_order all)
 ordered_each P [] h = h
 ordered_each P (one ∷ more) h = placed_each P one (in_order more) h.0 (ordered_each P more h.1)
 

@@ -1,8 +1,15 @@
+pub mod Bounds
+pub mod Found
 pub mod Growth
 pub mod Index
 pub mod Locations
 pub mod MountTable
 pub mod Order
+pub mod Passes
 pub mod Points
 pub mod Sources
+pub mod Spots
 pub mod Stored
+pub mod Texts
+pub mod Turns
+pub mod Ways

@@ -12,6 +12,7 @@ use Rattle.kr_view.specs.View.{Point, Row, root_source}
 use Rattle.kr_mounts.specs.Sources.{Source, source_by, root_source_by}
 use Rattle.kr_mounts.specs.Locations.{location_by}
 use Rattle.kr_mounts.specs.Points.{Left, way}
+use Rattle.kr_mounts.specs.Texts.{last_name}
 use Rattle.kr_mounts.specs.declared.fault.BindWhy.{BindWhy}
 use Rattle.kr_mounts.specs.declared.fault.BindWhy.TheVariants.{NoSource, AtRoot}
 
@@ -84,10 +85,6 @@ in_order [] = []
 in_order (one ∷ more) = placed_before one (in_order more)
 
 -- ---- rows
-
-abbrev pub last_name : Text → List ℕ
-last_name [] = []
-last_name (name ∷ text) = name
 
 -- the directory of a source; the root of the host stands in none
 abbrev pub dir_of : Source → Text → ℕ

@@ -3,7 +3,7 @@ ghost use Rattle.std.specs.Prelude.{◌≡◌, ◌++◌, ◌∷◌, [], List, le
 ghost use Rattle.kr_view.specs.Rows.{row_told};
 ghost use Rattle.kr_view.specs.View.{Row, shown, stands_at, is_point};
 ghost use Rattle.pt_bind.specs.Binding.{IsWritten};
-ghost use Rattle.kr_mounts.specs.Stored.{table_of, row_of_mount};
+ghost use Rattle.kr_mounts.specs.Stored.{AreLocated, table_of, row_of_mount};
 ghost use Rattle.kr_mounts.specs.Index.{IsIndexOf, IsNameNoted, IsKeyNoted, point_cmp, entry_cmp};
 
 use crate::mount::{Mount, copy_mount};
@@ -128,7 +128,8 @@ impl Mounted {
 
     /// The mounts as the vector that holds them.
     pub(crate) fn into_mounts(self) -> Vec<Mount>
-        ensures { result.items ≡ self }
+        ensures all { result.items ≡ self }
+        ensures located { AreLocated result.items }
     {
         self.mounts
     }

@@ -1,0 +1,26 @@
+use Rattle.std.proofs.Common.{◌≡◌, Option, Some, sym, ap, subst, ◌∙◌}
+use Rattle.std.proofs.lemmas.Result.{IfOk-weaker}
+use Rattle.pr_base.specs.declared.bind.Bound.{Bound}
+use Rattle.pt_bind.specs.Binding.{IsWritten, names_of}
+use Rattle.kr_mounts.specs.Found.{located_told, source_told}
+use Rattle.kr_mounts.specs.MountTable.{point_row, row_of}
+use Rattle.kr_mounts.specs.Stored.{point_told, row_of_mount}
+use Rattle.kr_mounts.specs.declared.mount.Mount.{Mount}
+use Rattle.kr_mounts.proofs.MountLemmas.{mount_with, point_some, row_told}
+use Rattle.kr_mounts.proofs.passes.mount_at.Goals as goal
+
+pub mount_of-requires : goal.mount_of-requires
+mount_of-requires c = c.requires.texts.source
+
+pub returns : goal.returns
+returns c =
+    let one = c.args.one in
+    let s = one.source in
+    let text : Bound = record { index = one.index; location = one.location; source = s.text; point = c.in_ok-point_text.point_text } in
+    let point = point_some c.in_ok-point_text.point_text c.in_ok-point_text.ensures.written ∙ ap Some c.in_ok-point_text.ensures.names in
+    let row = row_told text s.inode s.dir s.is_dir (Some c.args.point) ∙ ap (λ p. row_of one.index (names_of one.location) (source_told s) p (Some (point_told c.args.point))) point in
+    let P : Mount → Type 0 = λ m. m ≡ mount_with text s.inode s.dir s.is_dir (Some c.args.point) in
+    record {
+      row = IfOk-weaker c.mount_of.result P (λ m. row_of_mount m ≡ point_row c.args.tree.now (located_told one) (point_told c.args.point)) (λ (m : Mount) is. ap row_of_mount is ∙ row) c.mount_of.ensures;
+      located = IfOk-weaker c.mount_of.result P (λ m. IsWritten m.text.location) (λ (m : Mount) is. subst IsWritten (sym (ap (λ (m : Mount). m.text.location) is)) c.requires.texts.location) c.mount_of.ensures;
+    }
