@@ -1,15 +1,15 @@
 -- What settled bindings are to a tracer's table.
-use Rattle.std.proofs.Common.{◌≡◌, ◌≢◌, ◌<◌, ◌+◌, ◌⊎◌, inl, inr, ℕ, zero, suc, Bool, true, false, List, [], ◌∷◌, ◌++◌, append_assoc, append-nil, length, map, reverse, Option, Some, None, IfSome, Result, Ok, Err, slice_get, refl, ap, sym, subst, ◌∙◌, arith, nat_le, All}
+use Rattle.std.proofs.Common.{◌≡◌, ◌≢◌, ◌<◌, ◌+◌, ◌⊎◌, inl, inr, ℕ, zero, suc, true, false, List, [], ◌∷◌, ◌++◌, append_assoc, append-nil, length, map, reverse, Some, None, IfSome, Result, Ok, Err, slice_get, refl, ap, sym, subst, ◌∙◌, arith, nat_le, All}
 use Rattle.std.specs.Bool.{if◌then◌else◌}
 use Rattle.std.specs.List.{AllByRecursion, list_any}
 use Rattle.std.specs.Option.{option_map_or}
-use Rattle.std.proofs.lemmas.List.Elements.{All-cons, All-nil}
+use Rattle.std.proofs.lemmas.List.Elements.{All-cons, All-head, All-nil, All-tail}
 use Rattle.pr_base.specs.MountText.{MountText, bound_of}
 use Rattle.pr_base.specs.Paths.{AreParts, text_of}
 use Rattle.pr_base.specs.Texts.{Text}
 use Rattle.pr_base.specs.declared.bind.Bind.{Bind}
 use Rattle.pr_base.specs.declared.bind.Bound.{Bound}
-use Rattle.pt_bind.specs.Binding.{AreBounds, AreSettled, AreTexts, IsWritten, names_of, point_of, row_of as texts_of}
+use Rattle.pt_bind.specs.Binding.{AreBounds, AreTexts, IsWritten, point_of, row_of as texts_of}
 use Rattle.pt_bind.proofs.ByteLemmas.{spelled, spelled_parts}
 use Rattle.kr_inode.specs.declared.user.User.{User}
 use Rattle.kr_tree.specs.Tree.{Tree}
@@ -36,6 +36,15 @@ then_ok (Err e) go y h = absurd cc
 
 -- ---- indices
 
+-- indices that are counted on from a number
+abbrev NumberedFrom : ℕ → List Bind → Type 0
+NumberedFrom n [] = Unit {0}
+NumberedFrom n (bind ∷ binds) = (bind.index ≡ n) × NumberedFrom (n + 1) binds
+
+numbered_from : (n : ℕ) (binds : List Bind) → ((k : ℕ) (b : Bind) → slice_get binds k ≡ Some b → b.index ≡ n + k) → NumberedFrom n binds
+numbered_from n [] h = tt
+numbered_from n (bind ∷ binds) h = (let own = h 0 bind refl in omega arith, numbered_from (n + 1) binds (λ k b e. let one = h (suc k) b e in omega arith))
+
 abbrev SourcesFrom : ℕ → List Sourced → Type 0
 SourcesFrom n [] = Unit {0}
 SourcesFrom n (s ∷ more) = (s.bind.index ≡ n) × SourcesFrom (n + 1) more
@@ -51,7 +60,7 @@ sourced_bind t user bind one h =
     let made : Sourced = record { bind = bind; source = s.0 } in
     sym (ap (λ (s : Sourced). s.bind.index) (ok_is made one s.2))
 
-sources_from : (t : Tree) (user : User) (n : ℕ) (binds : List Bind) → AreNumbered n binds → (ss : List Sourced) → sources t user binds ≡ Ok ss → SourcesFrom n ss
+sources_from : (t : Tree) (user : User) (n : ℕ) (binds : List Bind) → NumberedFrom n binds → (ss : List Sourced) → sources t user binds ≡ Ok ss → SourcesFrom n ss
 sources_from t user n [] h ss is = subst (SourcesFrom n) (ok_is [] ss is) tt
 sources_from t user n (bind ∷ binds) h ss is =
     let one = then_ok (sourced t user bind) (λ one. and_then (sources t user binds) (λ more. Ok (one ∷ more))) ss is in
@@ -198,7 +207,7 @@ pub points_ok : (t : Tree) (user : User) (full : List Row) (r : Result (Row × L
 points_ok t user full (Ok all) h = (all, refl, h)
 points_ok t user full (Err e) h = absurd cc
 
-located_from : (t : Tree) (user : User) (root : List ℕ) (binds : List Bind) → AreNumbered 1 binds → (all : Row × List Located) → located_all t user root binds ≡ Ok all → (source : Source) × (all.0 ≡ root_row source) × LocatedFrom 1 all.1
+located_from : (t : Tree) (user : User) (root : List ℕ) (binds : List Bind) → NumberedFrom 1 binds → (all : Row × List Located) → located_all t user root binds ≡ Ok all → (source : Source) × (all.0 ≡ root_row source) × LocatedFrom 1 all.1
 located_from t user root binds numbered all is =
     let source = then_ok (told 0 (root_source_by t user root)) (λ source. and_then (sources t user binds) (λ more. and_then (locations t user source.inode more) (λ all. Ok (root_row source, all)))) all is in
     let more = then_ok (sources t user binds) (λ more. and_then (locations t user source.0.inode more) (λ all. Ok (root_row source.0, all))) all source.2 in
@@ -209,10 +218,10 @@ located_from t user root binds numbered all is =
     let P : Row × List Located → Type 0 = λ all. LocatedFrom 1 all.1 in
     (source.0, ap (λ (p : Row × List Located). p.0) (sym same), subst P same from)
 
-pub settled_apart : (t : Tree) (user : User) (root : List ℕ) (binds : List Bind) → AreNumbered 1 binds → (full : List Row) → (settling t user root binds).answer ≡ Ok full → IsApart full
+pub settled_apart : (t : Tree) (user : User) (root : List ℕ) (binds : List Bind) → AreNumbered binds → (full : List Row) → (settling t user root binds).answer ≡ Ok full → IsApart full
 settled_apart t user root binds numbered full is =
     let all = points_ok t user full (located_all t user root binds) is in
-    let from = located_from t user root binds numbered all.0 all.1 in
+    let from = located_from t user root binds (numbered_from 1 binds numbered) all.0 all.1 in
     let ordered = in_order (counting all.0.1) in
     let rows = points_rows user ordered t (all.0.0 ∷ []) full all.2 in
     let own = ordered_own (counting all.0.1) (counting_own all.0.1 (own_from 1 all.0.1 from.2)) in
@@ -231,6 +240,10 @@ settled_apart t user root binds numbered full is =
     }
 
 -- ---- in bytes
+
+pub by_recursion : (mounts : List Mount) → All IsSpelled mounts → AllByRecursion IsSpelled mounts
+by_recursion [] w = tt
+by_recursion (m ∷ mounts) w = (All-head IsSpelled m mounts w, by_recursion mounts (All-tail IsSpelled m mounts w))
 
 abbrev texts_in : List Row → List MountText
 texts_in rows = map (λ (r : Row). r.text) rows

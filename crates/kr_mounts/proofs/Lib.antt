@@ -3,6 +3,7 @@ pub mod BoundLemmas
 pub mod CutLemmas
 pub mod GrowthLemmas
 pub mod IndexLemmas
+pub mod LeadLemmas
 pub mod LocationLemmas
 pub mod MountLemmas
 pub mod OrderLemmas
@@ -10,6 +11,8 @@ pub mod PassLemmas
 pub mod Rows
 pub mod SightLemmas
 pub mod SourceLemmas
+pub mod StandLemmas
+pub mod StayLemmas
 pub mod StopLemmas
 pub mod TableLemmas
 pub mod TurnLemmas

@@ -1,16 +1,16 @@
 -- Walks along locations, one component after the other.
-use Rattle.std.proofs.Common.{◌≡◌, ◌≢◌, ◌-◌, map, ℕ, Bool, true, false, not, ◌&&◌, ◌||◌, List, [], ◌∷◌, ◌++◌, append-nil, Option, Some, None, Result, Ok, Err, refl, ap, sym, subst, ◌∙◌, All}
+use Rattle.std.proofs.Common.{◌≡◌, ◌≢◌, ◌-◌, map, ℕ, Bool, true, false, not, ◌&&◌, ◌||◌, List, [], ◌∷◌, ◌++◌, append-nil, Some, Result, Err, refl, ap, sym, subst, ◌∙◌, All}
 use Rattle.std.specs.Bool.{if◌then◌else◌}
 use Rattle.pr_base.specs.Paths.{Component, IsComponent, component_of, components_of, has_parts, has_slash, is_absolute, parts_of}
 use Rattle.pr_base.specs.Texts.{Text}
-use Rattle.pr_base.specs.WalkFrame.{Looking, Trail, Seen, Fails, Links, begins_at, ends, fails, at_last, in_middle, onward, is_followed, target_at, wants_directory, ends_found, walk_on, most_links}
+use Rattle.pr_base.specs.WalkFrame.{Looking, Trail, Fails, Links, begins_at, ends, fails, at_last, in_middle, onward, is_followed, target_at, wants_directory, ends_found, walk_on, most_links}
 use Rattle.pr_base.specs.declared.errno.Errno.{Errno}
 use Rattle.pr_base.specs.declared.errno.Errno.TheVariants.{ENOTDIR}
 use Rattle.pr_base.specs.declared.path.WalkMode.{WalkMode}
 use Rattle.std.proofs.lemmas.List.Elements.{All-head}
 use Rattle.pr_base.proofs.PathLemmas.{paths_have_components}
 use Rattle.pr_base.proofs.WalkLemmas.{walk-none, walk-last, walk-middle, onward-less, onward-none}
-use Rattle.kr_mounts.specs.Locations.{Spot, SeenSpot, alone, leads_to, located_at, locating, location_by, location_mode, location_of}
+use Rattle.kr_mounts.specs.Locations.{Spot, alone, leads_to, located_at, locating, location_by, location_mode, location_of}
 use Rattle.kr_mounts.specs.Spots.{location_on}
 use Rattle.kr_mounts.specs.declared.fault.BindWhy.{BindWhy}
 use Rattle.kr_mounts.specs.declared.fault.BindWhy.TheVariants.{NoPoint}

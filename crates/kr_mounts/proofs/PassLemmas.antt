@@ -4,7 +4,6 @@ use Rattle.kr_tree.specs.Tree.{Tree}
 use Rattle.kr_view.specs.View.{Row}
 use Rattle.kr_mounts.specs.MountTable.{Refusal, Settling, and_then}
 use Rattle.kr_mounts.specs.Passes.{IsPlaced, IsSettled, IsTold}
-use Rattle.kr_mounts.specs.Stored.{table_of}
 use Rattle.kr_mounts.specs.declared.fault.BindFault.{BindFault}
 use Rattle.kr_mounts.specs.declared.fault.BindWhy.{BindWhy}
 use Rattle.kr_mounts.specs.declared.fault.BindFault.TheVariants.{Bad, NoMemory}

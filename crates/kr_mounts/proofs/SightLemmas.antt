@@ -1,9 +1,9 @@
 -- What a component shows where the guest's root is the one mount.
-use Rattle.std.proofs.Common.{◌≡◌, ℕ, Bool, true, false, List, [], ◌∷◌, Option, Some, None, refl, ap, sym, subst, ◌∙◌, nat_eq}
+use Rattle.std.proofs.Common.{◌≡◌, ℕ, Bool, true, false, List, [], Option, Some, None, refl, ap, sym, subst, ◌∙◌, nat_eq}
 use Rattle.std.specs.Bool.{if◌then◌else◌}
 use Rattle.std.specs.Option.{option_map, option_map_or, option_and_then}
 use Rattle.pr_base.specs.Paths.{Component}
-use Rattle.pr_base.specs.WalkFrame.{Fails, Missing, Leads, Links}
+use Rattle.pr_base.specs.WalkFrame.{Fails, Leads, Links}
 use Rattle.pr_base.specs.declared.errno.Errno.TheVariants.{EACCES, ENOTDIR, ENOENT, ENAMETOOLONG}
 use Rattle.kr_tree.specs.Lawful.{HasItsInodes}
 use Rattle.kr_tree.specs.Tree.{Tree, Inode, Entry, Body, Directory, RegularFile, SymbolicLink, ProcessDirectory, above as node_above, body, body_is, entries_of, entry, entry_named, inode, text_of}

@@ -1,15 +1,15 @@
 -- What walks find over the host's own view before a process lives, and what sources are.
-use Rattle.std.proofs.Common.{◌≡◌, ◌≢◌, ◌⊎◌, inl, inr, ℕ, zero, suc, Bool, true, false, List, [], ◌∷◌, Option, Some, None, IfSome, Result, Ok, Err, refl, ap, sym, subst, ◌∙◌, nat_eq}
+use Rattle.std.proofs.Common.{◌≡◌, ◌⊎◌, inl, inr, ℕ, zero, suc, Bool, true, false, List, ◌∷◌, Option, Some, None, IfSome, Result, Ok, Err, refl, ap, sym, subst, ◌∙◌, nat_eq}
 use Rattle.std.specs.Bool.{if◌then◌else◌}
-use Rattle.std.specs.Option.{option_map, option_map_or, option_and_then}
+use Rattle.std.specs.Option.{option_map, option_map_or}
 use Rattle.std.proofs.lemmas.Bool.{cases_eq}
 use Rattle.std.proofs.lemmas.List.Elements.{All-cons}
 use Rattle.pr_base.specs.Paths.{Component, Dot, DotDot, Name, AreNames, AreParts, IsName, IsPart, components_of, has_slash, is_absolute, text_of}
 use Rattle.pr_base.specs.Texts.{Text, below}
-use Rattle.pr_base.specs.WalkFrame.{Seen, Fails, Missing, Leads, Links, Jumps, Landing, begins_at, most_links, name_of}
+use Rattle.pr_base.specs.WalkFrame.{Fails, Missing, Leads, Links, Jumps, begins_at, most_links, name_of}
 use Rattle.pr_base.specs.WalkLaws.{Shows}
 use Rattle.pr_base.specs.declared.errno.Errno.{Errno}
-use Rattle.pr_base.specs.declared.errno.Errno.TheVariants.{EACCES, ENOTDIR, ENOENT, ENAMETOOLONG}
+use Rattle.pr_base.specs.declared.errno.Errno.TheVariants.{EACCES, ENOTDIR, ENAMETOOLONG}
 use Rattle.pr_base.specs.declared.path.WalkMode.TheVariants.{Look}
 use Rattle.pr_base.proofs.EndLemmas.{EndsSo, walk_ends}
 use Rattle.pr_base.proofs.PathLemmas.{name_is_part, names_are_parts}

@@ -1,5 +1,5 @@
 -- Errors that are handed on.
-use Rattle.std.proofs.Common.{◌≡◌, ℕ, List, Result, Ok, Err, IsErr, IsErrAnd, ap, sym, subst, ◌∙◌}
+use Rattle.std.proofs.Common.{◌≡◌, ℕ, List, Result, Err, IsErr, IsErrAnd, ap, sym, subst, ◌∙◌}
 use Rattle.pr_base.specs.Texts.{Text}
 use Rattle.kr_tree.specs.Tree.{Tree}
 use Rattle.kr_view.specs.View.{Point}

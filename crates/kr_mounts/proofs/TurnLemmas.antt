@@ -1,5 +1,5 @@
 -- Bindings in their turns, as the code finds them from the last one on.
-use Rattle.std.proofs.Common.{◌≡◌, ◌≢◌, ◌≤◌, ◌<◌, ◌+◌, ◌||◌, ℕ, Bool, true, false, not, cond, is_some, List, [], ◌∷◌, ◌++◌, append_assoc, append-nil, length, map, All, Option, Some, None, refl, ap, sym, subst, ◌∙◌, arith, nat_lt, nat_le, nat_eq, ◌==◌, Vec, inl, inr}
+use Rattle.std.proofs.Common.{◌≡◌, ◌<◌, ◌+◌, ◌||◌, ℕ, Bool, true, false, not, is_some, List, [], ◌∷◌, ◌++◌, append_assoc, append-nil, length, map, All, Some, refl, ap, sym, subst, ◌∙◌, arith, nat_lt, nat_le, Vec}
 use Rattle.std.specs.Bool.{if◌then◌else◌}
 use Rattle.std.specs.BTreeMap.{BTreeMap, get_by, insert_entry, is_at as is_key, values}
 use Rattle.std.specs.Map.{lookup}
@@ -14,7 +14,7 @@ use Rattle.std.proofs.lemmas.Bool.Decides.{nat_tests}
 use Rattle.std.proofs.lemmas.List.{length-append}
 use Rattle.std.proofs.lemmas.List.Elements.{All-cons, All-nil, All-pop}
 use Rattle.std.proofs.lemmas.Slice.Eq.{bytes_eq-Decides}
-use Rattle.pr_base.specs.Texts.{Text, texts_eq}
+use Rattle.pr_base.specs.Texts.{texts_eq}
 use Rattle.pr_base.specs.Paths.{text_of}
 use Rattle.pr_base.proofs.TextLemmas.{texts_same, texts_true}
 use Rattle.pt_bind.specs.Binding.{IsWritten, names_of}

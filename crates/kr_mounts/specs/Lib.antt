@@ -9,6 +9,7 @@ pub mod Passes
 pub mod Points
 pub mod Sources
 pub mod Spots
+pub mod Standing
 pub mod Stored
 pub mod Texts
 pub mod Turns

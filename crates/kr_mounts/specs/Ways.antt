@@ -9,7 +9,6 @@ use Rattle.kr_tree.specs.declared.place.ProcAt.{ProcAt}
 use Rattle.kr_view.specs.View.{Point, Row, down, root_source}
 use Rattle.kr_mounts.specs.Points.{Left, Wanted, made, may_make, refused, through, way}
 use Rattle.kr_mounts.specs.Stored.{point_told}
-use Rattle.kr_mounts.specs.declared.fault.BindWhy.{BindWhy}
 use Rattle.kr_mounts.specs.declared.fault.BindWhy.TheVariants.{NoPoint, AtRoot}
 use Rattle.kr_mounts.specs.declared.location.Stop.{Stop}
 use Rattle.kr_mounts.specs.declared.location.Stop.TheVariants as stop

@@ -1,6 +1,7 @@
 //! Laws of settled bindings, each carried by a function that does nothing.
 ghost use Rattle.kr_mounts.specs.Growth.{GrownTreesHaveAllBefore, SettlingMakesNamesAlone};
 ghost use Rattle.kr_mounts.specs.Order.{BindingsAreInOrder};
+ghost use Rattle.kr_mounts.specs.Standing.{SettledMountsStand};
 
 /// Settling makes names in the tree and changes nothing else, whatever it comes to.
 pub fn settling_makes_names_alone()
@@ -16,4 +17,10 @@ pub fn bindings_are_in_order()
 /// serial of its directory, and nothing is held.
 pub fn grown_trees_have_all_before()
     ensures { GrownTreesHaveAllBefore }
+{}
+
+/// Settled mounts stand in the tree that is left, as they were settled, where bindings have their numbers as indices. The
+/// names of each location lead to its mount's source, and host texts lead to sources and to the directories of points.
+pub fn settled_mounts_stand()
+    ensures { SettledMountsStand }
 {}

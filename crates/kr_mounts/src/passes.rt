@@ -3,7 +3,8 @@ ghost use Rattle.std.specs.Prelude.{◌≡◌, ◌++◌, ◌∷◌, [], map, IfO
 ghost use Rattle.std.specs.List.{All};
 ghost use Rattle.pr_base.specs.Paths.{IsPart};
 ghost use Rattle.kr_tree.specs.Tree.{body_is, is_listed};
-ghost use Rattle.pt_bind.specs.Binding.{IsWritten, names_of};
+ghost use Rattle.pt_bind.specs.Binding.{AreBounds, IsWritten, names_of};
+ghost use Rattle.kr_mounts.specs.Bounds.{AreNumbered, HasOneMore, IsSpelled};
 ghost use Rattle.kr_mounts.specs.Found.{HasTexts, located_told, source_told};
 ghost use Rattle.kr_mounts.specs.Growth.{IsGrown};
 ghost use Rattle.kr_mounts.specs.MountTable.{located as located_of, located_all, locations, point_row, point_text as text_of_point, points, root_row, settling, sourced as source_told_of, sources, told as refusal_told};
@@ -43,7 +44,8 @@ struct Bindings {
 /// Settles bindings over a tree, as `-r` and `-b` ask for them: `root` is the host path of the guest's root, and the
 /// k-th binding, counted from 1, has index k. The first binding that is refused is told by its index, the root's is 0.
 /// Missing names on the way of locations are made in the tree, directories of mode 0755 and files of mode 0644 of the
-/// user; nothing else of the tree changes. After a refusal it may only be dropped.
+/// user; nothing else of the tree changes. After a refusal it may only be dropped. Where bindings have their numbers as
+/// indices, the texts of what is settled are what a tracer's table needs.
 pub fn settle(
     alloc: Global,
     tree: &mut Tree,
@@ -53,6 +55,7 @@ pub fn settle(
 ) -> Result<Settled, BindFault>
     requires { HasNumbers tree.old }
     ensures settled { IsSettled (settling tree.old user root.now binds.now) tree.new result }
+    ensures bounds { AreNumbered binds.now → IfOk result (λ s. AreBounds (map (λ m. m.text) s)) }
     ensures grown { IsGrown user tree.old tree.new }
 {
     let Bindings { root, located } = locate_all(alloc, tree, user, root, binds)?;
@@ -225,6 +228,7 @@ fn stand(
     requires root { IsWritten root.text }
     requires texts { All HasTexts ordered.items }
     ensures settled { IsSettled (points user (map located_told ordered.items) tree.old (root_row (source_told root) ∷ [])) tree.new result }
+    ensures texts { IfOk result (All IsSpelled) }
     ensures grown { IsGrown user tree.old tree.new }
 {
     let root = root_mount(alloc, root)?;
@@ -246,6 +250,7 @@ fn place(
     requires numbers { HasNumbers tree.old }
     requires texts { HasTexts one }
     ensures placed { IsPlaced (standing user (table_of mounted) (located_told one) tree.old) tree.new result }
+    ensures more { IfOk result (HasOneMore mounted) }
     ensures grown { IsGrown user tree.old tree.new }
     ensures numbers { HasNumbers tree.new }
 {
@@ -271,7 +276,7 @@ fn place(
 fn root_mount(alloc: Global, source: Found) -> Result<Mount, NoMemory>
     requires { IsWritten source.text }
     ensures row { IfOk result (λ m. row_of_mount m ≡ root_row (source_told source)) }
-    ensures located { IfOk result (λ m. IsWritten m.text.location) }
+    ensures texts { IfOk result IsSpelled }
 {
     let Found {
         inode,
@@ -294,7 +299,7 @@ fn mount_at(alloc: Global, tree: &Tree, one: Located, point: MountPoint) -> Resu
     requires texts { HasTexts one }
     requires part { IsPart point.name }
     ensures row { IfOk result (λ m. row_of_mount m ≡ point_row tree.now (located_told one) (point_told point)) }
-    ensures located { IfOk result (λ m. IsWritten m.text.location) }
+    ensures texts { IfOk result IsSpelled }
 {
     let Located {
         index,

@@ -1,7 +1,6 @@
-use Rattle.std.proofs.Common.{◌≡◌, ◌≢◌, [], List, Bool, true, false, sym, ap, ◌∙◌}
-use Rattle.pt_bind.specs.Binding.{names_of}
+use Rattle.std.proofs.Common.{◌≡◌, ◌≢◌, [], true, false, sym, ap, ◌∙◌}
 use Rattle.kr_mounts.specs.Locations.{located_at}
-use Rattle.kr_mounts.proofs.CutLemmas.{below_empty, below_spelled, below_written, located_some}
+use Rattle.kr_mounts.proofs.CutLemmas.{below_empty, below_written, located_some}
 use Rattle.kr_mounts.proofs.location.located.Goals as goal
 
 pub returns-then-is_empty : goal.returns-then-is_empty

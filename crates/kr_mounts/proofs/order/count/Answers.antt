@@ -1,4 +1,4 @@
-use Rattle.std.proofs.Common.{◌≡◌, ◌≤◌, ◌+◌, length, ap, arith, rules}
+use Rattle.std.proofs.Common.{◌≤◌, ◌+◌, length, ap, arith, rules}
 use Rattle.std.proofs.lemmas.List.{length-reverse}
 use Rattle.pt_bind.specs.Binding.{names_of}
 use Rattle.pt_bind.proofs.ByteLemmas.{spelled_in_turn}

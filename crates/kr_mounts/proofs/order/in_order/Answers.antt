@@ -1,4 +1,4 @@
-use Rattle.std.proofs.Common.{◌≡◌, ◌∙◌, ◌++◌, [], length, map, All, List, ℕ, sym, ap, subst, rules, vec_len}
+use Rattle.std.proofs.Common.{◌≡◌, ◌∙◌, length, map, All, List, ℕ, sym, ap, subst, rules, vec_len}
 use Rattle.std.specs.BTreeMap.{values}
 use Rattle.std.proofs.lemmas.Result.{IfOk-weaker}
 use Rattle.pt_bind.specs.Binding.{IsWritten, names_of}

@@ -1,5 +1,4 @@
-use Rattle.std.proofs.Common.{◌≡◌, ◌++◌}
-use Rattle.std.specs.BTreeMap.{values}
+use Rattle.std.proofs.Common.{◌≡◌}
 use Rattle.kr_mounts.proofs.order.in_turn.Given as goal
 
 abbrev pub invariant-loop-one : goal.invariant-loop-one

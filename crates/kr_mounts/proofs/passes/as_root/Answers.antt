@@ -1,4 +1,4 @@
-use Rattle.std.proofs.Common.{◌≡◌, Ok, Err, sym, ap, ◌∙◌}
+use Rattle.std.proofs.Common.{Ok, Err, sym, ap, ◌∙◌}
 use Rattle.std.specs.Bool.{if◌then◌else◌}
 use Rattle.pt_bind.specs.Binding.{IsWritten}
 use Rattle.kr_mounts.specs.Found.{source_told}

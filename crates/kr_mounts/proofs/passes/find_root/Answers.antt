@@ -1,4 +1,4 @@
-use Rattle.std.proofs.Common.{◌≡◌, List, ℕ, Option, Some, None, IfSome, Result, sym, ap, subst, ◌∙◌}
+use Rattle.std.proofs.Common.{Option, IfSome, Result, sym, ap, subst, ◌∙◌}
 use Rattle.std.specs.Option.{option_map}
 use Rattle.pt_bind.specs.Binding.{IsWritten}
 use Rattle.kr_mounts.specs.Found.{source_told}

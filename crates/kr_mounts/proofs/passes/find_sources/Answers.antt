@@ -3,7 +3,7 @@ use Rattle.std.proofs.lemmas.List.{drop_all, drop_more, map-append}
 use Rattle.std.proofs.lemmas.List.Elements.{All-nil, All-push}
 use Rattle.pr_base.specs.declared.bind.Bind.{Bind}
 use Rattle.kr_mounts.specs.MountTable.{and_then, sourced, sources}
-use Rattle.kr_mounts.specs.Passes.{HasSource, IsTold, sourced_told}
+use Rattle.kr_mounts.specs.Passes.{HasSource, sourced_told}
 use Rattle.kr_mounts.proofs.PassLemmas.{all_done, as_next, none_before, one_more, told_error, told_memory}
 use Rattle.kr_mounts.proofs.passes.find_sources.Goals as goal
 

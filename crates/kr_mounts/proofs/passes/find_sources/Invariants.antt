@@ -1,5 +1,5 @@
 use Rattle.std.proofs.Common.{◌≡◌, ◌++◌, All, drop, map, Ok}
-use Rattle.kr_mounts.specs.MountTable.{Refusal, and_then, sources}
+use Rattle.kr_mounts.specs.MountTable.{and_then, sources}
 use Rattle.kr_mounts.specs.Passes.{HasSource, sourced_told}
 use Rattle.kr_mounts.proofs.passes.find_sources.Given as goal
 

@@ -1,10 +1,9 @@
-use Rattle.std.proofs.Common.{◌≡◌, Ok, Result, refl, sym, ap, subst, ◌∙◌}
+use Rattle.std.proofs.Common.{Ok, Result, sym, ap, ◌∙◌}
 use Rattle.pr_base.specs.Texts.{Text}
 use Rattle.kr_mounts.specs.Found.{HasTexts, located_told, source_told}
 use Rattle.kr_mounts.specs.Locations.{location_by}
 use Rattle.kr_mounts.specs.MountTable.{Located, Refusal, and_then, located, told}
 use Rattle.kr_mounts.specs.Passes.{sourced_told}
-use Rattle.kr_mounts.specs.declared.fault.BindWhy.{BindWhy}
 use Rattle.kr_mounts.proofs.StopLemmas.{located_fault}
 use Rattle.kr_mounts.proofs.passes.locate.Goals as goal
 

@@ -1,9 +1,9 @@
-use Rattle.std.proofs.Common.{◌≡◌, List, All, Global, Vec, map, refl}
+use Rattle.std.proofs.Common.{List, All, Global, Vec, map, refl}
 use Rattle.kr_view.specs.View.{Row}
 use Rattle.pt_bind.specs.Binding.{IsWritten}
 use Rattle.kr_mounts.specs.Found.{HasTexts, located_told, source_told}
 use Rattle.kr_mounts.specs.MountTable.{Located, Sourced, located_all, locations, root_row, sources, told}
-use Rattle.kr_mounts.specs.Passes.{HasSource, IsTold, sourced_told}
+use Rattle.kr_mounts.specs.Passes.{HasSource, sourced_told}
 use Rattle.kr_mounts.specs.Sources.{root_source_by}
 use Rattle.kr_mounts.specs.declared.order.Located.{Located as KeptLocated}
 use Rattle.kr_mounts.specs.declared.passes.Bindings.{Bindings}

@@ -1,9 +1,9 @@
-use Rattle.std.proofs.Common.{◌≡◌, ◌∷◌, ◌++◌, [], List, All, Ok, Result, length, map, refl, sym, ap, subst, ◌∙◌, arith}
+use Rattle.std.proofs.Common.{◌≡◌, ◌∷◌, ◌++◌, [], All, Ok, map, sym, ap, subst, ◌∙◌, arith}
 use Rattle.std.specs.Vec.Iter.{into_iter_items}
 use Rattle.std.proofs.lemmas.List.{map-append}
 use Rattle.std.proofs.lemmas.List.Elements.{All-head, All-nil, All-push, All-tail}
 use Rattle.kr_mounts.specs.Found.{HasTexts, located_told}
-use Rattle.kr_mounts.specs.MountTable.{Sourced, and_then, located, locations}
+use Rattle.kr_mounts.specs.MountTable.{and_then, located, locations}
 use Rattle.kr_mounts.specs.Passes.{HasSource, sourced_told}
 use Rattle.kr_mounts.proofs.PassLemmas.{all_done, as_next, none_before, none_left, one_more, told_error, told_memory}
 use Rattle.kr_mounts.proofs.passes.locate_sources.Goals as goal

@@ -1,7 +1,8 @@
-use Rattle.std.proofs.Common.{◌≡◌, Option, Some, sym, ap, subst, ◌∙◌}
+use Rattle.std.proofs.Common.{◌≡◌, Some, sym, ap, subst, ◌∙◌, inr}
 use Rattle.std.proofs.lemmas.Result.{IfOk-weaker}
 use Rattle.pr_base.specs.declared.bind.Bound.{Bound}
-use Rattle.pt_bind.specs.Binding.{IsWritten, names_of}
+use Rattle.pt_bind.specs.Binding.{names_of}
+use Rattle.kr_mounts.specs.Bounds.{IsSpelled}
 use Rattle.kr_mounts.specs.Found.{located_told, source_told}
 use Rattle.kr_mounts.specs.MountTable.{point_row, row_of}
 use Rattle.kr_mounts.specs.Stored.{point_told, row_of_mount}
@@ -22,5 +23,5 @@ returns c =
     let P : Mount → Type 0 = λ m. m ≡ mount_with text s.inode s.dir s.is_dir (Some c.args.point) in
     record {
       row = IfOk-weaker c.mount_of.result P (λ m. row_of_mount m ≡ point_row c.args.tree.now (located_told one) (point_told c.args.point)) (λ (m : Mount) is. ap row_of_mount is ∙ row) c.mount_of.ensures;
-      located = IfOk-weaker c.mount_of.result P (λ m. IsWritten m.text.location) (λ (m : Mount) is. subst IsWritten (sym (ap (λ (m : Mount). m.text.location) is)) c.requires.texts.location) c.mount_of.ensures;
+      texts = IfOk-weaker c.mount_of.result P IsSpelled (λ (m : Mount) is. subst IsSpelled (sym is) (record { location = c.requires.texts.location; source = c.requires.texts.source; point = inr c.in_ok-point_text.ensures.written })) c.mount_of.ensures;
     }

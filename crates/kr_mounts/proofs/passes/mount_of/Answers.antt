@@ -1,4 +1,4 @@
-use Rattle.std.proofs.Common.{◌≡◌, sym, ap, subst, ◌∙◌}
+use Rattle.std.proofs.Common.{sym, ap, subst, ◌∙◌}
 use Rattle.pt_bind.specs.Binding.{IsWritten, names_of}
 use Rattle.kr_mounts.specs.Passes.{dir_under}
 use Rattle.kr_mounts.specs.Texts.{last_name}

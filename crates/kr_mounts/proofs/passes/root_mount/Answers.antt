@@ -1,8 +1,8 @@
-use Rattle.std.proofs.Common.{◌≡◌, [], ◌∷◌, Option, None, sym, ap, subst, ◌∙◌}
+use Rattle.std.proofs.Common.{◌≡◌, None, sym, ap, subst, ◌∙◌, inl}
 use Rattle.std.proofs.lemmas.Result.{IfOk-weaker}
-use Rattle.pr_base.specs.Paths.{slash}
 use Rattle.pr_base.specs.declared.bind.Bound.{Bound}
 use Rattle.pt_bind.specs.Binding.{IsWritten, names_of, point_of}
+use Rattle.kr_mounts.specs.Bounds.{IsSpelled}
 use Rattle.kr_mounts.specs.Found.{source_told}
 use Rattle.kr_mounts.specs.MountTable.{root_row, row_of}
 use Rattle.kr_mounts.specs.Stored.{row_of_mount}
@@ -20,5 +20,5 @@ returns c =
     let P : Mount → Type 0 = λ m. m ≡ mount_with text s.inode s.dir s.is_dir None in
     record {
       row = IfOk-weaker c.mount_of.result P (λ m. row_of_mount m ≡ root_row (source_told s)) (λ (m : Mount) is. ap row_of_mount is ∙ row) c.mount_of.ensures;
-      located = IfOk-weaker c.mount_of.result P (λ m. IsWritten m.text.location) (λ (m : Mount) is. subst IsWritten (sym (ap (λ (m : Mount). m.text.location) is ∙ c.in_ok-location.ensures)) root_written) c.mount_of.ensures;
+      texts = IfOk-weaker c.mount_of.result P IsSpelled (λ (m : Mount) is. subst IsSpelled (sym is) (record { location = subst IsWritten (sym c.in_ok-location.ensures) root_written; source = c.requires; point = inl c.new.ensures })) c.mount_of.ensures;
     }

@@ -1,10 +1,10 @@
-use Rattle.std.proofs.Common.{◌≡◌, List, ℕ, Option, Some, None, Ok, IfSome, Result, sym, ap, subst, ◌∙◌}
+use Rattle.std.proofs.Common.{Option, Ok, IfSome, sym, ap, subst, ◌∙◌}
 use Rattle.std.specs.Option.{option_map}
 use Rattle.pt_bind.specs.Binding.{IsWritten}
 use Rattle.kr_mounts.specs.Found.{source_told}
-use Rattle.kr_mounts.specs.MountTable.{Sourced, and_then, as_source, sourced, told}
-use Rattle.kr_mounts.specs.Passes.{HasSource, IsTold, sourced_told}
-use Rattle.kr_mounts.specs.Sources.{Source, source_by}
+use Rattle.kr_mounts.specs.MountTable.{and_then, as_source, sourced, told}
+use Rattle.kr_mounts.specs.Passes.{HasSource, sourced_told}
+use Rattle.kr_mounts.specs.Sources.{source_by}
 use Rattle.kr_mounts.specs.declared.fault.BindWhy.TheVariants.{NoSource}
 use Rattle.kr_mounts.specs.declared.source.Found.{Found}
 use Rattle.kr_mounts.proofs.PassLemmas.{told_memory, told_refused}

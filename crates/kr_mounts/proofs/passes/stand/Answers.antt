@@ -1,8 +1,9 @@
-use Rattle.std.proofs.Common.{◌≡◌, ◌∷◌, ◌++◌, [], List, All, Ok, map, length, arith, refl, sym, ap, subst, ◌∙◌}
+use Rattle.std.proofs.Common.{◌≡◌, ◌∷◌, ◌++◌, [], List, All, map, arith, sym, ap, subst, ◌∙◌}
 use Rattle.std.specs.Vec.Iter.{into_iter_items}
-use Rattle.std.proofs.lemmas.List.Elements.{All-head, All-tail}
+use Rattle.std.proofs.lemmas.List.Elements.{All-cons, All-head, All-nil, All-push, All-tail}
 use Rattle.kr_tree.specs.Tree.{Tree}
 use Rattle.kr_view.specs.View.{Row}
+use Rattle.kr_mounts.specs.Bounds.{IsSpelled}
 use Rattle.kr_mounts.specs.Found.{HasTexts, located_told, source_told}
 use Rattle.kr_mounts.specs.Growth.{Same}
 use Rattle.kr_mounts.specs.MountTable.{Settling, points, root_row}
@@ -16,7 +17,7 @@ pub root_mount-requires : goal.root_mount-requires
 root_mount-requires c = c.requires.root
 
 pub with-requires : goal.with-requires
-with-requires c = c.in_ok-root.ensures.located
+with-requires c = c.in_ok-root.ensures.texts.location
 
 pub returns-in_err-root-clause-settled : goal.returns-in_err-root-clause-settled
 returns-in_err-root-clause-settled c = settled_memory (points c.args.user (map located_told c.args.ordered.items) c.args.tree.now (root_row (source_told c.args.root) ∷ [])) c.args.tree.now _ c.from_residual.ensures.0 c.from_residual.ensures.1
@@ -41,6 +42,7 @@ loop-one-init c =
       texts = subst (All HasTexts) (sym read) c.requires.texts;
       grown = Same;
       numbers = c.requires.numbers;
+      spelled = subst (All IsSpelled) (sym (c.in_ok-mounted.ensures ∙ ap (λ ms. ms ++ root ∷ []) c.empty.ensures)) (All-cons IsSpelled root [] c.in_ok-root.ensures.texts (All-nil IsSpelled));
     }
 
 pub place-requires : goal.place-requires
@@ -75,6 +77,7 @@ loop-one-preserved c =
       texts = All-tail HasTexts c.in-Some.one left (subst (All HasTexts) c.in-Some.ensures.steps.0 l.invariant.texts);
       grown = grown_onward user c.args.tree.now l.tree c.place.new.tree l.invariant.grown c.in_ok-mounted-2.ensures.grown;
       numbers = c.in_ok-mounted-2.ensures.numbers;
+      spelled = (let one = c.in_ok-mounted-2.ensures.more in subst (All IsSpelled) (sym one.added) (All-push IsSpelled l.mounted one.mount l.invariant.spelled one.spelled));
     }
 
 pub returns-clause-settled : goal.returns-clause-settled

@@ -1,5 +1,6 @@
 use Rattle.std.proofs.Common.{◌≡◌, ◌∷◌, [], All, map}
 use Rattle.std.specs.Vec.Iter.{into_iter_items}
+use Rattle.kr_mounts.specs.Bounds.{IsSpelled}
 use Rattle.kr_mounts.specs.Found.{HasTexts, located_told, source_told}
 use Rattle.kr_mounts.specs.Growth.{IsGrown}
 use Rattle.kr_mounts.specs.MountTable.{points, root_row}
@@ -13,4 +14,5 @@ invariant-loop-one l = record {
   texts : All HasTexts (into_iter_items l.one-iterator);
   grown : IsGrown l.user l.fn.tree l.tree;
   numbers : HasNumbers l.tree;
+  spelled : All IsSpelled l.mounted;
 }

@@ -1,4 +1,4 @@
-use Rattle.std.proofs.Common.{◌≡◌, Option, List, ℕ, IfSome, ◌∙◌, sym, ap, subst}
+use Rattle.std.proofs.Common.{Option, List, ℕ, IfSome, ◌∙◌, sym, ap, subst}
 use Rattle.std.specs.Option.{option_map}
 use Rattle.pt_bind.specs.Binding.{IsWritten, names_of}
 use Rattle.kr_mounts.proofs.SourceLemmas.{directory_told, no_directory}

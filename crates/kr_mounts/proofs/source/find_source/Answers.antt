@@ -1,7 +1,6 @@
-use Rattle.std.proofs.Common.{◌≡◌, ℕ, Option, None, Result, Ok, Err, sym, ap, subst, ◌∙◌}
+use Rattle.std.proofs.Common.{◌≡◌, ℕ, Option, None, Ok, sym, ap, subst}
 use Rattle.std.specs.Prelude.{IfOk}
 use Rattle.std.specs.Option.{option_map}
-use Rattle.pr_base.specs.declared.errno.Errno.{Errno}
 use Rattle.pr_base.specs.declared.path.WalkMode.TheVariants.{Look}
 use Rattle.kr_tree.specs.declared.place.Place.{Place}
 use Rattle.kr_view.specs.Answers.{IsAnswer}
@@ -9,7 +8,7 @@ use Rattle.kr_view.specs.View.{plain, root_place}
 use Rattle.kr_view.specs.Walk.{place_walk}
 use Rattle.kr_view.specs.declared.view.HostMount.{HostMount}
 use Rattle.kr_mounts.specs.Found.{source_told}
-use Rattle.kr_mounts.specs.Sources.{Source, around_table, source_by, source_of}
+use Rattle.kr_mounts.specs.Sources.{Source, around_table, source_of}
 use Rattle.kr_mounts.specs.declared.source.Found.{Found}
 use Rattle.kr_mounts.proofs.SourceLemmas.{answer_name, answer_told}
 use Rattle.kr_mounts.proofs.source.find_source.Goals as goal

@@ -2,7 +2,6 @@ use Rattle.std.proofs.Common.{◌≡◌, Option, Some, sym, ap, subst, ◌∙◌
 use Rattle.std.specs.Bool.{if◌then◌else◌}
 use Rattle.std.specs.Prelude.{IfOk}
 use Rattle.std.specs.Option.{option_map}
-use Rattle.kr_tree.specs.declared.place.Host.{Host}
 use Rattle.kr_mounts.specs.Found.{source_told}
 use Rattle.kr_mounts.specs.Sources.{Source, directory_source, entry_source, source_at}
 use Rattle.kr_mounts.specs.declared.source.Found.{Found}

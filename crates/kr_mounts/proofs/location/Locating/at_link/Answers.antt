@@ -1,9 +1,6 @@
-use Rattle.std.proofs.Common.{◌≡◌, ◌∷◌, [], ◌<◌, ◌-◌, not, sym, ap, ◌∙◌, arith}
-use Rattle.std.specs.Option.{option_map}
+use Rattle.std.proofs.Common.{◌≡◌, ◌<◌, ◌-◌, not, ap, ◌∙◌, arith}
 use Rattle.pr_base.specs.Paths.{component_of, components_of}
-use Rattle.pr_base.specs.WalkFrame.{begins_at}
-use Rattle.pt_bind.specs.Binding.{names_of}
-use Rattle.kr_mounts.specs.Locations.{Spot, alone, located_at, locating, stepped}
+use Rattle.kr_mounts.specs.Locations.{Spot, located_at, stepped}
 use Rattle.kr_mounts.specs.Spots.{location_from, location_on, spot_of}
 use Rattle.kr_mounts.proofs.LocationLemmas.{link_goes, link_loops, link_stays}
 use Rattle.kr_mounts.proofs.StopLemmas.{stepped_memory}

@@ -1,4 +1,4 @@
-use Rattle.std.proofs.Common.{◌≡◌, ◌∷◌, [], ◌++◌, append_assoc, refl, sym, ap, ◌∙◌}
+use Rattle.std.proofs.Common.{◌≡◌, ◌∷◌, [], ◌++◌, append_assoc, refl, ap, ◌∙◌}
 use Rattle.pr_base.specs.Paths.{components_of, slash}
 use Rattle.pr_base.proofs.PathLemmas.{components_seam}
 use Rattle.kr_mounts.proofs.location.Locating.follow.Goals as goal

@@ -1,15 +1,14 @@
-use Rattle.std.proofs.Common.{◌≡◌, Ok, Result, sym, ap, subst, ◌∙◌}
+use Rattle.std.proofs.Common.{Ok, Result, sym, ap, subst, ◌∙◌}
 use Rattle.pr_base.specs.Paths.{components_of, has_slash}
 use Rattle.pr_base.specs.Texts.{Text}
 use Rattle.pr_base.specs.WalkFrame.{most_links}
-use Rattle.pt_bind.specs.Binding.{names_of}
-use Rattle.kr_mounts.specs.Locations.{location_by, located_at}
+use Rattle.kr_mounts.specs.Locations.{location_by}
 use Rattle.kr_mounts.specs.Spots.{IsLocated, IsStepped, location_left, location_on}
 use Rattle.kr_mounts.specs.declared.fault.BindWhy.{BindWhy}
 use Rattle.kr_mounts.specs.declared.location.Step.{Step}
 use Rattle.kr_mounts.specs.declared.location.Step.TheVariants.{Goes, Ends}
 use Rattle.kr_mounts.proofs.LocationLemmas.{location_begins}
-use Rattle.kr_mounts.proofs.StopLemmas.{located_error, located_memory}
+use Rattle.kr_mounts.proofs.StopLemmas.{located_error}
 use Rattle.kr_mounts.proofs.location.Locating.locate.Goals as goal
 
 pub steps-init : goal.steps-init

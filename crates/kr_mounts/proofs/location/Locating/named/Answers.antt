@@ -1,4 +1,4 @@
-use Rattle.std.proofs.Common.{◌≡◌, true, false, length, nat_lt, arith, sym}
+use Rattle.std.proofs.Common.{◌≡◌, true, false, arith, sym}
 use Rattle.std.proofs.lemmas.Bool.Decides.{nat_tests}
 use Rattle.kr_view.specs.Component.{too_long}
 use Rattle.kr_mounts.proofs.SightLemmas.{named_link, named_long, named_none, named_other}

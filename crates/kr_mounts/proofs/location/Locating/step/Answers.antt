@@ -1,9 +1,8 @@
-use Rattle.std.proofs.Common.{◌≡◌, ◌∷◌, [], List, Option, Some, None, Result, map, refl, sym, ap, subst, ◌∙◌}
+use Rattle.std.proofs.Common.{◌≡◌, ◌∷◌, [], Result, map, refl, sym, ap, subst, ◌∙◌}
 use Rattle.std.specs.Option.{option_map}
 use Rattle.pr_base.specs.Parts.{parts_left, rest_of}
-use Rattle.pr_base.specs.Paths.{Component, component_of, components_of}
+use Rattle.pr_base.specs.Paths.{component_of, components_of}
 use Rattle.pr_base.specs.Texts.{Text}
-use Rattle.pt_bind.specs.Binding.{names_of}
 use Rattle.kr_view.specs.View.{node_in}
 use Rattle.kr_mounts.specs.Locations.{Spot, stepped}
 use Rattle.kr_mounts.specs.Spots.{IsStepped, location_from, location_left, location_on, spot_of}

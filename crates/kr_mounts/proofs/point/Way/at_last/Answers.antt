@@ -1,4 +1,4 @@
-use Rattle.std.proofs.Common.{◌≡◌, [], Result, Err, refl, sym, ap, ◌∙◌}
+use Rattle.std.proofs.Common.{[], sym, ◌∙◌}
 use Rattle.kr_view.specs.View.{Point}
 use Rattle.kr_mounts.specs.Growth.{Same}
 use Rattle.kr_mounts.specs.Points.{way}

@@ -1,4 +1,4 @@
-use Rattle.std.proofs.Common.{◌≡◌, [], Ok, refl, sym, ap, ◌∙◌}
+use Rattle.std.proofs.Common.{[], Ok, sym, ◌∙◌}
 use Rattle.kr_view.specs.View.{Point}
 use Rattle.kr_mounts.specs.Points.{way}
 use Rattle.kr_mounts.specs.Stored.{table_of}
