@@ -6,7 +6,7 @@ use Rattle.std.specs.Option.{option_map, option_map_or, option_and_then}
 use Rattle.std.proofs.lemmas.Grind.{reverse_onto}
 use Rattle.std.proofs.lemmas.List.{reverse-reverse}
 use Rattle.std.proofs.lemmas.Option.{slice_get_within}
-use Rattle.pr_base.specs.Paths.{IsName}
+use Rattle.pr_base.specs.Paths.{AreNames, IsName}
 use Rattle.pr_base.specs.Texts.{Text}
 use Rattle.pr_base.specs.declared.bind.Bind.{Bind}
 use Rattle.kr_inode.specs.declared.user.User.{User}
@@ -17,11 +17,12 @@ use Rattle.kr_tree.specs.declared.place.Host.TheVariants.{Node, Proc}
 use Rattle.kr_tree.specs.declared.place.Place.{Place}
 use Rattle.kr_tree.specs.Changes.{has_no_room}
 use Rattle.kr_tree.specs.Lawful.{IsSound, IsCounted, HasItsInodes}
-use Rattle.kr_tree.specs.Names.{host_name, is_name, named}
+use Rattle.kr_tree.specs.Names.{host_name, is_name, named, reached}
 use Rattle.kr_tree.specs.Rights.{may}
 use Rattle.kr_tree.specs.Tree.{Tree, Inode, body, body_is, entry, inode, is_directory, is_listed, takes_names}
-use Rattle.kr_tree.proofs.EntryLemmas.{entry_named_well, named_there}
+use Rattle.kr_tree.proofs.EntryLemmas.{entry_named_well, named_once, named_there}
 use Rattle.kr_tree.proofs.NameLemmas.{host_names-lead, named-host_name, some_is}
+use Rattle.pt_bind.specs.Binding.{host_of}
 use Rattle.kr_view.specs.Laws.{is_link}
 use Rattle.kr_view.specs.View.{Point, Row, down, is_there, node_in, root_source, row}
 use Rattle.kr_mounts.specs.Growth.{HasAllBefore, Same, Made}
@@ -30,17 +31,19 @@ use Rattle.kr_mounts.specs.MountTable.{Located, Refusal, Settling, Sourced, afte
 use Rattle.kr_mounts.specs.Order.{AreApart, AreByLength}
 use Rattle.kr_mounts.specs.Points.{Left, Wanted, at_entry, at_host, at_last_name, fits, made, may_make, point_unless, refused, through, way}
 use Rattle.kr_mounts.specs.Sources.{Source, root_source_by, root_source_of, source_by}
-use Rattle.kr_mounts.specs.Standing.{IsSettledIn, SettledMountsStand, behind, led, next_by_name}
+use Rattle.kr_mounts.specs.Standing.{IsPointTold, IsSettledIn, IsSourceTold, SettledMountsStand, behind, led, next_by_name, texts_of}
 use Rattle.kr_mounts.specs.Texts.{last_name}
 use Rattle.kr_mounts.specs.declared.fault.BindWhy.{BindWhy}
 use Rattle.kr_mounts.specs.declared.fault.BindWhy.TheVariants.{LinkOnTheWay, NoPoint, RootNotDir}
 use Rattle.kr_mounts.proofs.BeforeLemmas.{grown_trees_have_all_before}
 use Rattle.kr_mounts.proofs.BoundLemmas.{ApartBy, AreRows, IsApart, ok_is, own_at, points_ok, points_rows, settled_apart, then_ok}
-use Rattle.kr_mounts.proofs.GrowthLemmas.{along_grows}
+use Rattle.kr_mounts.proofs.GrowthLemmas.{along_grows, settling_makes_names_alone}
+use Rattle.kr_mounts.proofs.HostLemmas.{follows}
 use Rattle.kr_mounts.proofs.OrderLemmas.{bindings_are_in_order, counting_each, ordered_each}
+use Rattle.kr_mounts.proofs.ReachLemmas.{IsReachedSource, sources_reached}
 use Rattle.kr_mounts.proofs.SourceLemmas.{IsSource, sources_are}
 use Rattle.kr_mounts.proofs.StandLemmas.{HasSource, IsNamed, Stands, StandsAt, get_any, located_at, named_where, stands_more, stands_still}
-use Rattle.kr_mounts.proofs.StayLemmas.{entry_stays, is_a_directory, kind_stays, led_stays, lists, named_stays, new_there, takes_stays}
+use Rattle.kr_mounts.proofs.StayLemmas.{entry_stays, is_a_directory, kind_stays, led_stays, lists, named_stays, new_there, reached_stays, takes_stays}
 
 -- ---- ways
 
@@ -199,29 +202,30 @@ told_source : (index : ℕ) (o : Option Source) (s : Source) → told index (as_
 told_source index None s h = absurd cc
 told_source index (Some x) s h = ap Some (ok_is x s h)
 
-module _ (t : Tree) (user : User) (sound : IsSound t) (inodes : HasItsInodes t) where
-  sources_stand : (binds : List Bind) (ss : List Sourced) → sources t user binds ≡ Ok ss → AllByRecursion (λ (s : Sourced). SourceStands t s.source) ss
-  sources_stand [] ss is = subst (λ ss. AllByRecursion (λ (s : Sourced). SourceStands t s.source) ss) (ok_is [] ss is) tt
+-- what holds of each source that is found holds of those of bindings
+module _ (t : Tree) (user : User) (P : Source → Type 0) (found : (path : List ℕ) (s : Source) → source_by t user path ≡ Some s → P s) where
+  sources_stand : (binds : List Bind) (ss : List Sourced) → sources t user binds ≡ Ok ss → AllByRecursion (λ (s : Sourced). P s.source) ss
+  sources_stand [] ss is = subst (λ ss. AllByRecursion (λ (s : Sourced). P s.source) ss) (ok_is [] ss is) tt
   sources_stand (bind ∷ binds) ss is =
       let go : Source → Result Sourced Refusal = λ source. Ok (record { bind = bind; source = source }) in
       let one = then_ok (sourced t user bind) (λ one. and_then (sources t user binds) (λ more. Ok (one ∷ more))) ss is in
       let more = then_ok (sources t user binds) (λ more. Ok (one.0 ∷ more)) ss one.2 in
       let s = then_ok (told bind.index (as_source (source_by t user bind.host))) go one.0 one.1 in
       let made_of : Sourced = record { bind = bind; source = s.0 } in
-      let own : SourceStands t s.0 = source_stands t sound inodes s.0 (sources_are t user sound bind.host s.0 (told_source bind.index (source_by t user bind.host) s.0 s.1)) in
-      let P : Sourced → Type 0 = λ s. SourceStands t s.source in
-      subst (λ ss. AllByRecursion P ss) (ok_is (one.0 ∷ more.0) ss more.2) (subst P (ok_is made_of one.0 s.2) own, sources_stand binds more.0 more.1)
+      let own : P s.0 = found bind.host s.0 (told_source bind.index (source_by t user bind.host) s.0 s.1) in
+      let Q : Sourced → Type 0 = λ s. P s.source in
+      subst (λ ss. AllByRecursion Q ss) (ok_is (one.0 ∷ more.0) ss more.2) (subst Q (ok_is made_of one.0 s.2) own, sources_stand binds more.0 more.1)
 
-  locations_stand : (root : ℕ) (ss : List Sourced) → AllByRecursion (λ (s : Sourced). SourceStands t s.source) ss → (all : List Located) → locations t user root ss ≡ Ok all → AllByRecursion (λ (one : Located). SourceStands t one.source) all
-  locations_stand root [] h all is = subst (λ all. AllByRecursion (λ (one : Located). SourceStands t one.source) all) (ok_is [] all is) tt
+  locations_stand : (root : ℕ) (ss : List Sourced) → AllByRecursion (λ (s : Sourced). P s.source) ss → (all : List Located) → locations t user root ss ≡ Ok all → AllByRecursion (λ (one : Located). P one.source) all
+  locations_stand root [] h all is = subst (λ all. AllByRecursion (λ (one : Located). P one.source) all) (ok_is [] all is) tt
   locations_stand root (s ∷ ss) h all is =
       let go : Text → Result Located Refusal = λ location. Ok (record { index = s.bind.index; keep = s.bind.keep; source = s.source; location = location }) in
       let one = then_ok (located t user root s) (λ one. and_then (locations t user root ss) (λ rest. Ok (one ∷ rest))) all is in
       let more = then_ok (locations t user root ss) (λ rest. Ok (one.0 ∷ rest)) all one.2 in
       let l = then_ok (told s.bind.index (location_by t user root s.bind.keep s.bind.guest)) go one.0 one.1 in
       let made_of : Located = record { index = s.bind.index; keep = s.bind.keep; source = s.source; location = l.0 } in
-      let P : Located → Type 0 = λ one. SourceStands t one.source in
-      subst (λ all. AllByRecursion P all) (ok_is (one.0 ∷ more.0) all more.2) (subst P (ok_is made_of one.0 l.2) h.0, locations_stand root ss h.1 more.0 more.1)
+      let Q : Located → Type 0 = λ one. P one.source in
+      subst (λ all. AllByRecursion Q all) (ok_is (one.0 ∷ more.0) all more.2) (subst Q (ok_is made_of one.0 l.2) h.0, locations_stand root ss h.1 more.0 more.1)
 
 -- ---- mounts, one after the other
 
@@ -341,19 +345,20 @@ root_ready t s (one ∷ all) h some = (record { source = h.0; is_last = last }, 
 
 -- ---- the whole
 
-located_stand : (t : Tree) (user : User) → IsSound t → HasItsInodes t → (root : List ℕ) (binds : List Bind) (all : Row × List Located) → located_all t user root binds ≡ Ok all
-    → (source : Source) × (all.0 ≡ root_row source) × SourceStands t source × (source.is_dir ≡ true) × AllByRecursion (λ (one : Located). SourceStands t one.source) all.1
-located_stand t user sound inodes root binds all is =
+located_each : (t : Tree) (user : User) → IsSound t → (P : Source → Type 0) → ((path : List ℕ) (s : Source) → source_by t user path ≡ Some s → P s)
+    → (root : List ℕ) (binds : List Bind) (all : Row × List Located) → located_all t user root binds ≡ Ok all
+    → (source : Source) × (all.0 ≡ root_row source) × P source × (source.is_dir ≡ true) × AllByRecursion (λ (one : Located). P one.source) all.1
+located_each t user sound P found root binds all is =
     let source = then_ok (told 0 (root_source_by t user root)) (λ source. and_then (sources t user binds) (λ more. and_then (locations t user source.inode more) (λ all. Ok (root_row source, all)))) all is in
     let more = then_ok (sources t user binds) (λ more. and_then (locations t user source.0.inode more) (λ all. Ok (root_row source.0, all))) all source.2 in
     let rest = then_ok (locations t user source.0.inode more.0) (λ all. Ok (root_row source.0, all)) all more.2 in
     let pair : Row × List Located = (root_row source.0, rest.0) in
     let same : pair ≡ all = ok_is pair all rest.2 in
-    let found = root_told t (source_by t user root) source.0 source.1 in
-    let own = sources_are t user sound root source.0 found.0 in
-    let each = locations_stand t user sound inodes source.0.inode more.0 (sources_stand t user sound inodes binds more.0 more.1) rest.0 rest.1 in
-    let P : Row × List Located → Type 0 = λ all. AllByRecursion (λ (one : Located). SourceStands t one.source) all.1 in
-    (source.0, ap (λ (p : Row × List Located). p.0) (sym same), source_stands t sound inodes source.0 own, sym own.kind ∙ is_a_directory t source.0.inode found.1, subst P same each)
+    let there = root_told t (source_by t user root) source.0 source.1 in
+    let own = sources_are t user sound root source.0 there.0 in
+    let each = locations_stand t user P found source.0.inode more.0 (sources_stand t user P found binds more.0 more.1) rest.0 rest.1 in
+    let Q : Row × List Located → Type 0 = λ all. AllByRecursion (λ (one : Located). P one.source) all.1 in
+    (source.0, ap (λ (p : Row × List Located). p.0) (sym same), found root source.0 there.0, sym own.kind ∙ is_a_directory t source.0.inode there.1, subst Q same each)
 
 rows_some : (all : List Located) (rows : List Row) → AreRows all rows → AllByRecursion (λ (one : Located). one.location ≢ []) all
 rows_some [] [] h = tt
@@ -364,7 +369,7 @@ rows_some (one ∷ all) (r ∷ rows) h = (h.2, rows_some all rows h.3)
 table_stands : (t : Tree) (user : User) (root : List ℕ) (binds : List Bind) (table : List Row) → IsSound t → IsCounted t → HasItsInodes t → (settling t user root binds).answer ≡ Ok table → Stands (settling t user root binds).tree table
 table_stands t user root binds table sound counted inodes is =
     let all = points_ok t user table (located_all t user root binds) is in
-    let from = located_stand t user sound inodes root binds all.0 all.1 in
+    let from = located_each t user sound (SourceStands t) (λ path s h. source_stands t sound inodes s (sources_are t user sound path s h)) root binds all.0 all.1 in
     let listed = all.0.1 in
     let ordered = in_order (counting listed) in
     let order = bindings_are_in_order listed in
@@ -377,6 +382,73 @@ table_stands t user root binds table sound counted inodes is =
     let whole : (points user ordered t (root_row from.0 ∷ [])).tree ≡ (settling t user root binds).tree =
     ap (λ (r : Row). (points user ordered t (r ∷ [])).tree) (sym first) ∙ sym (ap (λ r. (points_of t user r).tree) all.1) in
     subst (λ u. Stands u table) whole stands
+
+-- ---- sources by their texts
+
+-- a source by its text, which consists of names
+record IsToldSource (t : Tree) (user : User) (s : Source) : Type 0 where
+  pub reach : IsReachedSource t user s
+  pub names : AreNames s.text
+
+told_still : (t v : Tree) (user : User) → HasAllBefore t v → (s : Source) → IsToldSource t user s → IsToldSource v user s
+told_still t v user before s h = record {
+  reach = record {
+    way = reached_stays t v before user s.text s.inode h.reach.way;
+    above = λ no. let e = h.reach.above no in (e.0, e.1, e.2, reached_stays t v before user e.1 s.dir e.3);
+  };
+  names = h.names;
+}
+
+told_row : (t : Tree) (user : User) (s : Source) → IsToldSource t user s → (r : Row) → r.text.source ≡ s.text → r.source ≡ s.inode → r.is_dir ≡ s.is_dir → r.source_dir ≡ dir_of s s.text → r.source_name ≡ last_name s.text → IsSourceTold t user r
+told_row t user s h r text inode is_dir dir name = record {
+  way = ap (reached t user) text ∙ h.reach.way ∙ ap Some (sym inode);
+  names = subst AreNames (sym text) h.names;
+  above = λ no.
+      let e = h.reach.above (sym is_dir ∙ no) in
+      let dir_is : r.source_dir ≡ s.dir = dir ∙ ap (dir_of s) e.2 in
+      let name_is : r.source_name ≡ e.0 = name ∙ ap last_name e.2 in
+      (e.1, text ∙ e.2 ∙ ap (λ n. n ∷ e.1) (sym name_is), e.3 ∙ ap Some (sym dir_is));
+}
+
+-- what holds of each row holds of the rows of a whole table
+module _ (user : User) (full : List Row) (Q : Row → Type 0) where
+  abbrev Each : List Row → Type 0
+  Each table = (k : ℕ) (r : Row) → row table k ≡ Some r → Q r
+
+  after_each : (table : List Row) (one : Located) (u : Tree) (answer : Result Point BindWhy) (go : Tree → List Row → Settling) → Each table → ((v : Tree) (p : Point) → Q (point_row v one p))
+      → ((v : Tree) (more : List Row) → Each more → (go v more).answer ≡ Ok full → Each full) → (after_way table one u answer go).answer ≡ Ok full → Each full
+  after_each table one u (Ok p) go each own next h =
+      next u (table ++ point_row u one p ∷ []) (λ k r e. elim (get_any table (point_row u one p) k r e) [ inl f ↦ each k r f | inr f ↦ subst Q (sym f.1) (own u p) ]) h
+  after_each table one u (Err why) go each own next h = absurd cc
+
+  points_each : (all : List Located) (t : Tree) (table : List Row) → AllByRecursion (λ (one : Located). (v : Tree) (p : Point) → Q (point_row v one p)) all → Each table → (points user all t table).answer ≡ Ok full → Each full
+  points_each [] t table own each h = subst Each (ok_is table full h) each
+  points_each (one ∷ all) t table own each h =
+      let left = way_along user table one t (reverse one.location) in
+      after_each table one left.tree left.answer (points user all) each own.0 (λ v more e k. points_each all v more own.1 e k) h
+
+each_told : (v : Tree) (user : User) (t : Tree) → HasAllBefore t v → (all : List Located) → AllByRecursion (λ (one : Located). IsToldSource t user one.source) all
+    → AllByRecursion (λ (one : Located). (u : Tree) (p : Point) → IsSourceTold v user (point_row u one p)) all
+each_told v user t before [] h = tt
+each_told v user t before (one ∷ all) h = ((λ u p. told_row v user one.source (told_still t v user before one.source h.0) (point_row u one p) refl refl refl refl refl), each_told v user t before all h.1)
+
+table_told : (t : Tree) (user : User) (root : List ℕ) (binds : List Bind) (table : List Row) → IsSound t → IsCounted t → (settling t user root binds).answer ≡ Ok table
+    → (k : ℕ) (r : Row) → row table k ≡ Some r → IsSourceTold (settling t user root binds).tree user r
+table_told t user root binds table sound counted is =
+    let v = (settling t user root binds).tree in
+    let before = grown_trees_have_all_before user t v sound counted (settling_makes_names_alone t user root binds) in
+    let all = points_ok t user table (located_all t user root binds) is in
+    let P : Source → Type 0 = IsToldSource t user in
+    let from = located_each t user sound P (λ path s h. record { reach = sources_reached t user sound path s h; names = (sources_are t user sound path s h).names }) root binds all.0 all.1 in
+    let ordered = in_order (counting all.0.1) in
+    let Q : Located → Type 0 = λ one. IsToldSource t user one.source in
+    let each : AllByRecursion Q ordered = ordered_each Q (counting all.0.1) (counting_each Q all.0.1 from.4) in
+    let first : IsSourceTold v user all.0.0 = subst (IsSourceTold v user) (sym from.1) (told_row v user from.0 (told_still t v user before from.0 from.2) (root_row from.0) refl refl refl refl refl) in
+    points_each user table (IsSourceTold v user) ordered t (all.0.0 ∷ []) (each_told v user t before ordered each) (only v all.0.0 first) all.2
+  where
+    only : (v : Tree) (first : Row) → IsSourceTold v user first → (k : ℕ) (r : Row) → row (first ∷ []) k ≡ Some r → IsSourceTold v user r
+    only v first own zero r h = subst (IsSourceTold v user) (some_is first r h) own
+    only v first own (suc k) r h = absurd cc
 
 module _ (u : Tree) (table : List Row) (s : Stands u table) where
   guest_is : (r : Row) → row table 0 ≡ Some r → s.guest ≡ r
@@ -404,8 +476,15 @@ module _ (u : Tree) (table : List Row) (s : Stands u table) where
       let y = located_at u table s k r p.mount p.dir p.name x.up two also x.is_named in
       s.own_location j k q r one two (x.located ∙ sym y.0)
 
-  settled_in : IsApart table → IsSettledIn u table
-  settled_in apart =
+  point_told : (k : ℕ) (r : Row) (p : Point) → row table k ≡ Some r → r.point ≡ Some p → IsPointTold u table r p
+  point_told k r p h e =
+      let x = at_point k r p h e in
+      let f = follows u table s x.up (node_in p.mount p.dir) x.is_led in
+      let same : x.above ≡ host_of (texts_of table) x.up = named_once u s.sound x.above (host_of (texts_of table) x.up) p.dir x.leads f.1 (is_a_directory u p.dir x.stands.listed) in
+      record { up = x.up; location = x.located; way = x.is_led; mount = sym f.0; dir = f.1; text = x.told ∙ ap (λ text. Some (p.name ∷ text)) same }
+
+  settled_in : (user : User) → IsApart table → ((k : ℕ) (r : Row) → row table k ≡ Some r → IsSourceTold u user r) → IsSettledIn u user table
+  settled_in user apart told_sources =
       let P : List Row → Type 0 = ApartBy (λ (r : Row). r.text.index) in
       record {
         stands = record {
@@ -425,10 +504,10 @@ module _ (u : Tree) (table : List Row) (s : Stands u table) where
         };
         as_settled = record { named = λ k r h no. (s.sources k r h).called no; entered = λ k r h no. (s.sources k r h).entered no };
         leads = s.are_led;
-        told = λ k r h. record { source = (s.sources k r h).leads; point = λ p e. let x = at_point k r p h e in (x.above, x.told, x.leads) };
-        located = λ k r p h e. let x = at_point k r p h e in (x.up, x.located, x.is_led);
+        sources = told_sources;
+        points = point_told;
       }
 
 pub settled_mounts_stand : SettledMountsStand
 settled_mounts_stand t user root binds table sound counted inodes numbered is =
-    settled_in (settling t user root binds).tree table (table_stands t user root binds table sound counted inodes is) (settled_apart t user root binds numbered table is)
+    settled_in (settling t user root binds).tree table (table_stands t user root binds table sound counted inodes is) user (settled_apart t user root binds numbered table is) (table_told t user root binds table sound counted is)

@@ -2,12 +2,14 @@ pub mod BeforeLemmas
 pub mod BoundLemmas
 pub mod CutLemmas
 pub mod GrowthLemmas
+pub mod HostLemmas
 pub mod IndexLemmas
 pub mod LeadLemmas
 pub mod LocationLemmas
 pub mod MountLemmas
 pub mod OrderLemmas
 pub mod PassLemmas
+pub mod ReachLemmas
 pub mod Rows
 pub mod SightLemmas
 pub mod SourceLemmas

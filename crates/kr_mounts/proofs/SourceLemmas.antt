@@ -16,6 +16,7 @@ use Rattle.pr_base.proofs.PathLemmas.{name_is_part, names_are_parts}
 use Rattle.pt_bind.specs.Binding.{IsWritten, names_of}
 use Rattle.pt_bind.proofs.ByteLemmas.{names_written}
 use Rattle.kr_inode.specs.declared.standing.Standing.{Standing}
+use Rattle.kr_inode.specs.declared.user.Right.TheVariants.{Search}
 use Rattle.kr_inode.specs.declared.user.User.{User}
 use Rattle.kr_inode.specs.Stored.{kind_of}
 use Rattle.kr_inode.specs.declared.node.Kind.{Kind}
@@ -23,6 +24,7 @@ use Rattle.kr_inode.specs.declared.node.Kind.TheVariants as kind
 use Rattle.kr_inode.proofs.BodyLemmas.{listed-is_directory}
 use Rattle.kr_tree.specs.Lawful.{IsSound}
 use Rattle.kr_tree.specs.Names.{host_name}
+use Rattle.kr_tree.specs.Rights.{may}
 use Rattle.kr_tree.specs.Tree.{Tree, Inode, Body, Directory, RegularFile, SymbolicLink, ProcessDirectory, above as node_above, body, body_is, entry, inode, is_directory, is_listed, root, standing}
 use Rattle.kr_tree.specs.declared.place.Host.{Host}
 use Rattle.kr_tree.specs.declared.place.Host.TheVariants.{Node, Proc}
@@ -41,7 +43,7 @@ use Rattle.kr_mounts.specs.Found.{source_told}
 use Rattle.kr_mounts.specs.Sources.{Source, around_table, directory_source, entry_source, source_at, source_by, source_of}
 
 -- a place that is found by a component of another: the entry of a directory
-pub record IsEntryOf (t : Tree) (p : Place ℕ) (c : Component) (f : Place ℕ) : Type 0 where
+pub record IsEntryOf (t : Tree) (user : User) (p : Place ℕ) (c : Component) (f : Place ℕ) : Type 0 where
   pub dir : ℕ
   pub inode : ℕ
   pub name : List ℕ
@@ -49,6 +51,7 @@ pub record IsEntryOf (t : Tree) (p : Place ℕ) (c : Component) (f : Place ℕ) 
   pub called : c ≡ Name name
   pub found : f.host ≡ Node inode
   pub there : entry t dir name ≡ Some inode
+  pub search : may t user dir Search ≡ true
 
 module _ (t : Tree) (sound : IsSound t) where
   test_of : (test : Body → Bool) (b : Bool) (o : Option Inode) → option_map_or (λ x. test x.node.body) o false ≡ true → (x : Inode) × (o ≡ Some x) × (test x.node.body ≡ true)
@@ -82,7 +85,7 @@ module _ (t : Tree) (user : User) (sound : IsSound t) where
   IsDir p = is_directory_at t p.host ≡ true
 
   abbrev IsGood : Place ℕ → Component → Place ℕ → Type 0
-  IsGood p c f = IsDir f ⊎ IsEntryOf t p c f
+  IsGood p c f = IsDir f ⊎ IsEntryOf t user p c f
 
   abbrev IsSeenWell : Place ℕ → Component → SeenPlace → Type 0
   IsSeenWell p c (Fails e) = Unit {0}
@@ -126,34 +129,38 @@ module _ (t : Tree) (user : User) (sound : IsSound t) where
   body_seen p q c (Some (SymbolicLink text)) good = good
   body_seen p q c (Some (ProcessDirectory standing)) good = good
 
-  entry_seen : (p : Place ℕ) (mount i : ℕ) (name : List ℕ) (o : Option ℕ) → p.host ≡ Node i → entry t i name ≡ o → IsSeenWell p (Name name) (seen_entry around mount o)
-  entry_seen p mount i name None at is = tt
-  entry_seen p mount i name (Some j) at is =
-      body_seen p (node_in mount j) (Name name) (body t j) (inr (record { dir = i; inode = j; name = name; within = at; called = refl; found = refl; there = is }))
+  entry_seen : (p : Place ℕ) (mount i : ℕ) (name : List ℕ) (o : Option ℕ) → p.host ≡ Node i → may t user i Search ≡ true → entry t i name ≡ o → IsSeenWell p (Name name) (seen_entry around mount o)
+  entry_seen p mount i name None at search is = tt
+  entry_seen p mount i name (Some j) at search is =
+      body_seen p (node_in mount j) (Name name) (body t j) (inr (record { dir = i; inode = j; name = name; within = at; called = refl; found = refl; there = is; search = search }))
 
-  node_seen : (p : Place ℕ) (mount i : ℕ) (name : List ℕ) → p.host ≡ Node i → IsSeenWell p (Name name) (in_node around mount i name)
-  node_seen p mount i name at =
+  node_seen : (p : Place ℕ) (mount i : ℕ) (name : List ℕ) → p.host ≡ Node i → may t user i Search ≡ true → IsSeenWell p (Name name) (in_node around mount i name)
+  node_seen p mount i name at search =
       elim (body_is is_processes t i) as (λ b. IsSeenWell p (Name name) (if b then seen_in_processes around mount i None else seen_entry around mount (entry t i name))) [
         | true ↦ tt
-        | false ↦ entry_seen p mount i name (entry t i name) at refl
+        | false ↦ entry_seen p mount i name (entry t i name) at search refl
       ]
 
-  name_seen : (p : Place ℕ) (name : List ℕ) (h : Host) → p.host ≡ h → IsSeenWell p (Name name) (named_in around p.mount h name)
-  name_seen p name (Node i) at = node_seen p p.mount i name at
-  name_seen p name (Proc i at) e = tt
+  name_seen : (p : Place ℕ) (name : List ℕ) (h : Host) → p.host ≡ h → may_search t user h ≡ true → IsSeenWell p (Name name) (named_in around p.mount h name)
+  name_seen p name (Node i) at search = node_seen p p.mount i name at search
+  name_seen p name (Proc i at) e search = tt
 
-  inside_seen : (p : Place ℕ) (c : Component) → IsDir p → IsSeenWell p c (inside around p c)
-  inside_seen p Dot dir = inl dir
-  inside_seen p DotDot dir =
+  inside_seen : (p : Place ℕ) (c : Component) → IsDir p → may_search t user p.host ≡ true → IsSeenWell p c (inside around p c)
+  inside_seen p Dot dir search = inl dir
+  inside_seen p DotDot dir search =
       elim (is_root_place plain p) as (λ b. IsSeenWell p DotDot (if b then shows_directory p else above_host around.space p.mount p.host)) [ true ↦ inl dir | false ↦ above_any p DotDot p.mount p.host ]
-  inside_seen p (Name name) dir =
-      elim (too_long name) as (λ b. IsSeenWell p (Name name) (if b then Fails ENAMETOOLONG else named_in around p.mount p.host name)) [ true ↦ tt | false ↦ name_seen p name p.host refl ]
+  inside_seen p (Name name) dir search =
+      elim (too_long name) as (λ b. IsSeenWell p (Name name) (if b then Fails ENAMETOOLONG else named_in around p.mount p.host name)) [ true ↦ tt | false ↦ name_seen p name p.host refl search ]
 
   seen : (p : Place ℕ) (c : Component) → IsSeenWell p c (look_up around p c)
   seen p c = of (is_directory_at t p.host) refl
     where
       of : (b : Bool) → is_directory_at t p.host ≡ b → IsSeenWell p c (if b then (if may_search t user p.host then inside around p c else Fails EACCES) else Fails ENOTDIR)
-      of true dir = elim (may_search t user p.host) as (λ b. IsSeenWell p c (if b then inside around p c else Fails EACCES)) [ true ↦ inside_seen p c dir | false ↦ tt ]
+      of true dir = by (may_search t user p.host) refl
+        where
+          by : (b : Bool) → may_search t user p.host ≡ b → IsSeenWell p c (if b then inside around p c else Fails EACCES)
+          by true search = inside_seen p c dir search
+          by false search = tt
       of false dir = tt
 
   shown_good : (p : Place ℕ) (c : Component) (s : SeenPlace) (f : Place ℕ) → IsSeenWell p c s → Shows s (Some f) → IsGood p c f
@@ -165,8 +172,8 @@ module _ (t : Tree) (user : User) (sound : IsSound t) where
 
   -- ---- what a walk found
 
-  abbrev IsFoundWell : PlaceTarget → Type 0
-  IsFoundWell target = (f : Place ℕ) → target.found ≡ Some f → IsDir f ⊎ ((dir : ℕ) × (i : ℕ) × (target.dir.host ≡ Node dir) × (f.host ≡ Node i) × (entry t dir target.name ≡ Some i))
+  abbrev pub IsFoundWell : PlaceTarget → Type 0
+  IsFoundWell target = (f : Place ℕ) → target.found ≡ Some f → IsDir f ⊎ ((dir : ℕ) × (i : ℕ) × (target.dir.host ≡ Node dir) × (f.host ≡ Node i) × (entry t dir target.name ≡ Some i) × (may t user dir Search ≡ true))
 
   root_is_dir : IsDir (root_place plain)
   root_is_dir = root_directory t sound
@@ -181,7 +188,7 @@ module _ (t : Tree) (user : User) (sound : IsSound t) where
       of true dir h = dir
       of false dir h = absurd cc
 
-  found_well : (path : List ℕ) → EndsSo (looking around) IsFoundWell (place_walk around Look (root_place plain) path)
+  pub found_well : (path : List ℕ) → EndsSo (looking around) IsFoundWell (place_walk around Look (root_place plain) path)
   found_well path =
       walk_ends (looking around) IsFoundWell IsDir
       (λ s slash begins f is. inl (subst IsDir (some_is s f is) begins))
@@ -190,9 +197,9 @@ module _ (t : Tree) (user : User) (sound : IsSound t) where
       (λ s c f text looked. begins_well s text (looked_in s c f text looked))
       Look most_links (begins_at (looking around) (root_place plain) path) (components_of path) (has_slash path) (λ none. begins_well (root_place plain) path root_is_dir)
     where
-      at_component : (s : Place ℕ) (c : Component) (f : Place ℕ) → IsGood s c f → IsDir f ⊎ ((dir : ℕ) × (i : ℕ) × (s.host ≡ Node dir) × (f.host ≡ Node i) × (entry t dir (name_of c) ≡ Some i))
+      at_component : (s : Place ℕ) (c : Component) (f : Place ℕ) → IsGood s c f → IsDir f ⊎ ((dir : ℕ) × (i : ℕ) × (s.host ≡ Node dir) × (f.host ≡ Node i) × (entry t dir (name_of c) ≡ Some i) × (may t user dir Search ≡ true))
       at_component s c f (inl dir) = inl dir
-      at_component s c f (inr e) = inr (e.dir, e.inode, e.within, e.found, ap (λ c. entry t e.dir (name_of c)) e.called ∙ e.there)
+      at_component s c f (inr e) = inr (e.dir, e.inode, e.within, e.found, ap (λ c. entry t e.dir (name_of c)) e.called ∙ e.there, e.search)
 
 -- ---- sources
 

@@ -68,7 +68,7 @@ point_itself p =
     λ i. mount i && (dir i && called i)
 
 -- the first mount that stands at a point
-point_found : (table : List Row) (m d : ℕ) (name : List ℕ) (k : ℕ) → position (stands_at (is_point m d name)) table ≡ Some k → (r : Row) × (row table k ≡ Some r) × (r.point ≡ Some (point_at m d name))
+pub point_found : (table : List Row) (m d : ℕ) (name : List ℕ) (k : ℕ) → position (stands_at (is_point m d name)) table ≡ Some k → (r : Row) × (row table k ≡ Some r) × (r.point ≡ Some (point_at m d name))
 point_found table m d name k h =
     let first = first_passes (stands_at (is_point m d name)) table k h in
     let p = point_there (is_point m d name) first.0 first.2 in
@@ -174,10 +174,10 @@ module _ (t v : Tree) (before : HasAllBefore t v) where
 -- ---- where names lead
 
 module _ (t : Tree) (table : List Row) (s : Stands t table) where
-  root_there : row table 0 ≡ Some s.guest
+  pub root_there : row table 0 ≡ Some s.guest
   root_there = ap (λ rows. row rows 0) s.first
 
-  root_source_is : root_source table ≡ s.guest.source
+  pub root_source_is : root_source table ≡ s.guest.source
   root_source_is = ap root_source s.first
 
   -- a directory has one text in a mount

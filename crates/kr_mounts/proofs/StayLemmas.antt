@@ -6,15 +6,18 @@ use Rattle.std.proofs.lemmas.Slice.Eq.{bytes_eq-Decides}
 use Rattle.std.specs.Str.{bytes_eq}
 use Rattle.pr_base.proofs.MapLemmas.{get-insert_other, get-changed_same}
 use Rattle.pr_base.specs.Texts.{Text}
+use Rattle.kr_inode.specs.Inode.{Node as NodeData}
+use Rattle.kr_inode.specs.declared.user.Right.TheVariants.{Search}
 use Rattle.kr_inode.specs.declared.user.User.{User}
 use Rattle.kr_tree.specs.declared.place.Host.{Host}
 use Rattle.kr_tree.specs.declared.place.Host.TheVariants.{Node, Proc}
 use Rattle.kr_tree.specs.declared.place.Place.{Place}
 use Rattle.kr_tree.specs.Changes.{fresh, next_standing, with_entries, with_entry, with_inode, with_standing}
 use Rattle.kr_tree.specs.Lawful.{IsSound}
-use Rattle.kr_tree.specs.Names.{named}
+use Rattle.kr_tree.specs.Names.{named, reached}
+use Rattle.kr_tree.specs.Rights.{allows, may}
 use Rattle.kr_tree.specs.Tree.{Tree, Inode, Entry, Body, Directory, RegularFile, SymbolicLink, ProcessDirectory, body, body_is, entries_of, entry, entry_named, inode, is_directory, is_listed, takes_names}
-use Rattle.kr_tree.proofs.EntryLemmas.{filled_body}
+use Rattle.kr_tree.proofs.EntryLemmas.{filled_body, last_step, step_more}
 use Rattle.kr_tree.proofs.NameLemmas.{map_some, then_some}
 use Rattle.kr_view.specs.View.{Row, down, node_in}
 use Rattle.kr_mounts.specs.Growth.{HasAllBefore}
@@ -34,6 +37,10 @@ found_last p (x ∷ es) e h is =
 pub test_there : (test : Body → Bool) (o : Option Inode) → option_map_or (λ x. test x.node.body) o false ≡ true → (x : Inode) × (o ≡ Some x) × (test x.node.body ≡ true)
 test_there test None h = absurd cc
 test_there test (Some x) h = (x, refl, h)
+
+allowed_there : (user : User) (o : Option Inode) → option_map_or (λ (n : NodeData). allows user n Search) (option_map (λ (x : Inode). x.node) o) false ≡ true → (x : Inode) × (o ≡ Some x) × (allows user x.node Search ≡ true)
+allowed_there user None h = absurd cc
+allowed_there user (Some x) h = (x, refl, h)
 
 listed_same : (f : List Entry → List Entry) (b : Body) → is_listed (with_entries f b) ≡ is_listed b
 listed_same f (Directory entries standing) = refl
@@ -114,6 +121,19 @@ module _ (t v : Tree) (before : HasAllBefore t v) where
   named_stays (name ∷ text) i h =
       let up = then_some (λ dir. entry t dir name) (named t text) i h in
       ap (option_and_then (λ dir. entry v dir name)) (named_stays text up.0 up.1) ∙ entry_stays up.0 name i up.2
+
+  search_stays : (user : User) (i : ℕ) → may t user i Search ≡ true → may v user i Search ≡ true
+  search_stays user i h =
+      let x = allowed_there user (inode t i) h in
+      let y = before.inodes i x.0 x.1 in
+      ap (λ o. option_map_or (λ (n : NodeData). allows user n Search) (option_map (λ (x : Inode). x.node) o) false) y.1
+      ∙ (λ j. allows user (record { mode = y.2.mode j; uid = y.2.uid j; gid = y.2.gid j; body = y.0.node.body }) Search) ∙ x.2
+
+  pub reached_stays : (user : User) (text : Text) (i : ℕ) → reached t user text ≡ Some i → reached v user text ≡ Some i
+  reached_stays user [] i h = h
+  reached_stays user (name ∷ text) i h =
+      let s = last_step t user text name i h in
+      step_more v user text name s.dir i (reached_stays user text s.dir s.way) (search_stays user s.dir s.search) (entry_stays s.dir name i s.there)
 
   behind_stays : (mount dir : ℕ) (name : List ℕ) (o : Option (Place ℕ)) (q : Place ℕ) → behind mount (entry t dir name) o ≡ Some q → behind mount (entry v dir name) o ≡ Some q
   behind_stays mount dir name (Some p) q h = h

@@ -20,7 +20,8 @@ pub fn grown_trees_have_all_before()
 {}
 
 /// Settled mounts stand in the tree that is left, as they were settled, where bindings have their numbers as indices. The
-/// names of each location lead to its mount's source, and host texts lead to sources and to the directories of points.
+/// names of each location lead to its mount's source. The user reaches sources by their host texts, and each mount point
+/// has its name below the host text of its directory, as the texts of the table give it.
 pub fn settled_mounts_stand()
     ensures { SettledMountsStand }
 {}

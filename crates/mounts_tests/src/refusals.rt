@@ -1,4 +1,5 @@
 //! Bindings that are refused.
+ghost use Rattle.std.specs.Prelude.{◌<◌, length};
 
 use crate::asked::{Ask, at, data, fault, kept, settled};
 use kr_mounts::{BindFault, BindWhy};
