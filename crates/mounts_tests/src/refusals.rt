@@ -27,6 +27,8 @@ fn refused(
 fn one_binding_that_is_refused(rt: HostRuntime) -> Result<(), Fail> {
     let alloc = rt.alloc();
     refused(&rt, alloc, &[at(b"/none", b"/mnt")], 1, BindWhy::NoSource)?;
+    let link = [at(b"/data/abs", b"/mnt")];
+    refused(&rt, alloc, &link, 1, BindWhy::NoSource)?;
     refused(&rt, alloc, &[at(b"/data", b"/f")], 1, BindWhy::Kind)?;
     refused(&rt, alloc, &[at(b"/new", b"/mnt")], 1, BindWhy::Kind)?;
     refused(&rt, alloc, &[at(b"/data", b"/")], 1, BindWhy::AtRoot)?;

@@ -2,4 +2,4 @@ use Rattle.mounts_tests.proofs.Drawn.{numbers_left}
 use Rattle.mounts_tests.proofs.asked.data.Goals as goal
 
 pub returns : goal.returns
-returns c = ?
+returns c = numbers_left c.in_ok-tree.tree c.trees_are_kept.ensures.kept.sound c.in_ok-tree.ensures.drawn
