@@ -1,0 +1,3 @@
+pub mod PerformLemmas
+pub mod DescriptorLemmas
+pub mod ProcessLemmas
