@@ -51,30 +51,36 @@ fn long_location(alloc: Global, length: u32) -> Result<Bytes, NoMemory> {
     Ok(location)
 }
 
+/// `/other` at a location alone.
+fn other_alone(alloc: Global, location: &[u8]) -> Result<Vec<Bind>, NoMemory> {
+    let mut binds = Vec::new(alloc);
+    binds.push(other_at(alloc, 1, location)?)?;
+    Ok(binds)
+}
+
 #[test]
-fn a_name_that_is_made_has_at_most_255_bytes(rt: HostRuntime) -> Result<(), Fail> {
+fn a_name_of_255_bytes_is_made(rt: HostRuntime) -> Result<(), Fail> {
     let alloc = rt.alloc();
     let (mut tree, user) = data(alloc)?;
-    let mut binds = Vec::new(alloc);
     let location = long_location(alloc, 255)?;
-    binds.push(other_at(alloc, 1, location.as_slice())?)?;
+    let binds = other_alone(alloc, location.as_slice())?;
     let settled = settle(alloc, &mut tree, user, b"/g", binds.as_slice())?;
     let view = Mounted::build(alloc, &settled, &tree)?;
-    assert_eq!(rt;
-        found(alloc, &view, &tree, user, location.as_slice()),
-        Some(6)
-    );
+    let made = found(alloc, &view, &tree, user, location.as_slice());
+    assert_eq!(rt; made, Some(6));
+    Ok(())
+}
+
+#[test]
+fn a_name_of_256_bytes_is_not_made(rt: HostRuntime) -> Result<(), Fail> {
+    let alloc = rt.alloc();
     let (mut tree, user) = data(alloc)?;
-    let mut binds = Vec::new(alloc);
-    binds.push(other_at(alloc, 1, long_location(alloc, 256)?.as_slice())?)?;
+    let location = long_location(alloc, 256)?;
+    let binds = other_alone(alloc, location.as_slice())?;
     let answer = fault(settle(alloc, &mut tree, user, b"/g", binds.as_slice()));
-    assert_eq!(rt;
-        answer,
-        Some(BindFault::Bad {
-            index: 1,
-            why: BindWhy::NoPoint
-        })
-    );
+    let index = 1;
+    let why = BindWhy::NoPoint;
+    assert_eq!(rt; answer, Some(BindFault::Bad { index, why }));
     Ok(())
 }
 
