@@ -40,7 +40,14 @@ pub(crate) fn kept(host: &'static [u8], guest: &'static [u8]) -> Ask {
 pub(crate) fn data(alloc: Global) -> Result<(Tree, User), Fail>
     ensures { IfOk result (λ read. HasNumbers read.0) }
 {
-    let (tree, user) = kr_text::read(alloc, DATA, Some(b"\x7fELF"))?;
+    read_with(alloc, DATA, b"\x7fELF")
+}
+
+/// The tree of a listing with these bytes for its program, and its user.
+pub(crate) fn read_with(alloc: Global, listing: &[u8], program: &[u8]) -> Result<(Tree, User), Fail>
+    ensures { IfOk result (λ read. HasNumbers read.0) }
+{
+    let (tree, user) = kr_text::read(alloc, listing, Some(program))?;
     trees_are_kept(&tree);
     Ok((tree, user))
 }

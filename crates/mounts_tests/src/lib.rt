@@ -8,6 +8,8 @@ mod long;
 #[cfg(test)]
 mod made;
 #[cfg(test)]
+mod programs;
+#[cfg(test)]
 mod refusals;
 #[cfg(test)]
 mod walks;
