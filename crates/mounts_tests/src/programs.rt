@@ -66,3 +66,40 @@ fn a_bound_program_remembers_where_it_was_settled(rt: HostRuntime) -> Result<(),
     }
     Ok(())
 }
+
+/// A guest below `/g`, whose program is node 4, in node 3.
+const HOME: &[u8] = b"user 1000 1000
+d 755 0 0 /
+d 755 1000 1000 /g
+d 755 1000 1000 /g/bin
+x 755 1000 1000 /g/bin/hello
+f 755 1000 1000 /g/bin/greet 23212f62696e2f68656c6c6f0a
+l 1000 1000 /g/bin/hi greet
+d 755 1000 1000 /g/usr
+d 755 1000 1000 /g/usr/bin
+l 1000 1000 /g/usr/bin/hey ../../bin/hello
+";
+
+// Links and interpreters are found in the guest's root.
+#[test]
+fn programs_are_found_in_the_root_of_the_guest(rt: HostRuntime) -> Result<(), Fail> {
+    let alloc = rt.alloc();
+    let (mut tree, user) = read_with(alloc, HOME, &HELLO)?;
+    let settled = settled(alloc, &mut tree, user, &[])?;
+    let view = Mounted::build(alloc, &settled, &tree)?;
+    let program = Some((4, 3, 5));
+    let table = [
+        (b"/usr/bin/hey".as_slice(), program),
+        (b"/bin/hello", program),
+        (b"bin/hello", program),
+        (b"/bin/greet", program),
+        (b"/bin/hi", program),
+        (b"/g/bin/hello", None),
+        (b"/bin/hello/", None),
+        (b"/bin", None),
+    ];
+    for (path, want) in table {
+        assert_eq!(rt; planned(alloc, &view, &tree, user, path)?, want);
+    }
+    Ok(())
+}
