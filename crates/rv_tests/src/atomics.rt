@@ -145,6 +145,54 @@ fn a_load_reserves_what_it_reads(rt: HostRuntime) -> Result<(), Fail> {
     Ok(())
 }
 
+// The register that is written may be the one with the address, or register 0.
+#[test]
+fn a_load_reads_its_address_first(rt: HostRuntime) -> Result<(), Fail> {
+    let rows = [
+        ("lr.d a0,(a0)", 0x1005352f, 40),
+        ("lr.d zero,(a0)", 0x1005302f, CELL),
+    ];
+    for (name, word, a0) in rows {
+        let mut mem = code(rt.alloc(), &[word])?;
+        mem.write(CELL, &40u64.to_le_bytes())?;
+        let mut regs = regs(CELL, 0);
+        let mut held = None;
+        assert_eq!(rt;
+            step(&mut regs, &mut mem, &mut held),
+            Ok(Event::Next),
+            "{name}"
+        );
+        assert_eq!(rt; regs.x[10], a0, "{name}");
+        assert_eq!(rt;
+            held,
+            Some(Held {
+                at: CELL,
+                wide: true
+            }),
+            "{name}"
+        );
+    }
+    Ok(())
+}
+
+// A store, after lr.d a3,(a0), whose register may be one that it reads, or register 0.
+#[test]
+fn a_store_reads_its_registers_first(rt: HostRuntime) -> Result<(), Fail> {
+    let rows = [
+        ("sc.d a0,a1,(a0)", 0x18b5352f, 0, 7),
+        ("sc.d a1,a1,(a0)", 0x18b535af, CELL, 0),
+        ("sc.d zero,a1,(a0)", 0x18b5302f, CELL, 7),
+    ];
+    for (name, word, a0, a1) in rows {
+        let mut mem = code(rt.alloc(), &[0x100536af, word])?;
+        let mut regs = regs(CELL, 7);
+        assert_eq!(rt; run(&mut regs, &mut mem, 2), Ok((Event::Next, 2)), "{name}");
+        assert_eq!(rt; cell(&mut mem)?, 7, "{name}");
+        assert_eq!(rt; (regs.x[10], regs.x[11]), (a0, a1), "{name}");
+    }
+    Ok(())
+}
+
 // When a store that ends these instructions is made: whether it failed, and the doubleword after it.
 #[test]
 fn a_store_asks_for_the_last_reservation(rt: HostRuntime) -> Result<(), Fail> {
@@ -285,6 +333,20 @@ fn what_kills_leaves_all_as_it_was(rt: HostRuntime) -> Result<(), Fail> {
         );
         assert_eq!(rt; after, before, "{name} at {a0:x}");
         assert!(rt; !mem.mark_was_read(), "{name} at {a0:x}");
+    }
+    Ok(())
+}
+
+// A load reserves also what may only be read, and reads it.
+#[test]
+fn a_load_asks_for_no_right_to_write(rt: HostRuntime) -> Result<(), Fail> {
+    for (word, wide) in [(0x1005262f, false), (0x1005362f, true)] {
+        let mut mem = pages(rt.alloc(), word)?;
+        let mut regs = regs(0x2000, 1);
+        let mut held = None;
+        assert_eq!(rt; step(&mut regs, &mut mem, &mut held), Ok(Event::Next));
+        assert_eq!(rt; held, Some(Held { at: 0x2000, wide }));
+        assert!(rt; mem.mark_was_read());
     }
     Ok(())
 }

@@ -1,3 +1,5 @@
+ghost use Rattle.std.specs.Prelude.{◌≡◌};
+
 use rv_mem::{BadAddress, MapFault, Rights, Room, Space, StoreFault, TextFault, Use};
 use std::process::Abort;
 use std::test::Fail;
@@ -150,10 +152,60 @@ fn assert_text<const M: u8>(
     space: &mut Space<M>,
     at: u64,
     text: &[u8; 4],
-) -> Result<(), Fail> {
+) -> Result<(), Fail>
+    ensures pages { space.new.pages ≡ space.old.pages }
+{
     let mut four = [0; 4];
     space.read(at, &mut four, Use::Read)?;
     assert_eq!(rt; four.as_slice(), text.as_slice());
+    Ok(())
+}
+
+// A page that three spaces share, and the one behind it, written over their common end in each.
+#[test]
+fn shared_pages_are_written_apart(rt: HostRuntime) -> Result<(), Fail> {
+    let mut room = Room::new();
+    let mut first: Space<0> = Space::new(rt.alloc());
+    first.map(&mut room, 0x1000, 2, WRITE)?;
+    first.write(0x1ffe, b"abcd")?;
+    let mut second = first.fork(&mut room)?;
+    let mut third = second.fork(&mut room)?;
+    second.write(0x1fff, b"BC")?;
+    third.write(0x1ffe, b"x")?;
+    first.write(0x2001, b"y")?;
+    assert_text(&rt, &mut first, 0x1ffe, b"abcy")?;
+    assert_text(&rt, &mut second, 0x1ffe, b"aBCd")?;
+    assert_text(&rt, &mut third, 0x1ffe, b"xbcd")?;
+    first.unmap(&mut room, 0x1000, 2);
+    assert_text(&rt, &mut second, 0x1ffe, b"aBCd")?;
+    assert_eq!(rt; room.free(), 262_144 - 4);
+    Ok(())
+}
+
+// A write over three shared pages takes its copies before it moves a byte: where memory is wanting for one of
+// them, also for the last, none has moved. With ample memory all have.
+#[test]
+fn a_write_that_finds_no_memory_moves_nothing(rt: HostRuntime) -> Result<(), Fail> {
+    let mut room = Room::new();
+    let mut space: Space<0> = Space::new(rt.alloc());
+    space.map(&mut room, 0x1000, 3, WRITE)?;
+    space.write(0x1000, &[1])?;
+    space.write(0x2000, &[1])?;
+    space.write(0x3000, &[1])?;
+    let mut child = space.fork(&mut room)?;
+    let written = child.write(0x1ffc, &[2; 4104]);
+    let byte = match written {
+        Ok(()) => 2,
+        Err(fault) => {
+            assert_eq!(rt; fault, StoreFault::NoMemory);
+            0
+        }
+    };
+    for at in [0x1ffc, 0x2ffc, 0x3000] {
+        let first = if byte == 0 && at == 0x3000 { 1 } else { byte };
+        assert_text(&rt, &mut child, at, &[first, byte, byte, byte])?;
+    }
+    assert_text(&rt, &mut space, 0x1ffc, &[0; 4])?;
     Ok(())
 }
 
@@ -179,6 +231,29 @@ fn rights_and_marks_are_not_shared(rt: HostRuntime) -> Result<(), Fail> {
     assert_text(&rt, &mut space, 0x2ffd, &[1; 4])?;
     assert_text(&rt, &mut space, 0x1000, &[0; 4])?;
     assert!(rt; space.mark_was_read());
+    Ok(())
+}
+
+// What was found once isn't believed after a change.
+#[test]
+fn pages_change_between_two_uses(rt: HostRuntime) -> Result<(), Fail> {
+    let mut room = Room::new();
+    let mut space: Space<0> = Space::new(rt.alloc());
+    space.map(&mut room, 0x1000, 2, WRITE)?;
+    space.write(0x1000, b"abcd")?;
+    space.write(0x2000, b"efgh")?;
+    assert_text(&rt, &mut space, 0x1000, b"abcd")?;
+    space.unmap(&mut room, 0x1000, 1);
+    assert!(rt; !space.can(0x1000, 1, Use::Read));
+    assert_text(&rt, &mut space, 0x2000, b"efgh")?;
+    space.map(&mut room, 0x1000, 1, WRITE)?;
+    assert_text(&rt, &mut space, 0x1000, &[0; 4])?;
+    let mut child = space.fork(&mut room)?;
+    space.write(0x1000, b"ijkl")?;
+    assert_text(&rt, &mut child, 0x1000, &[0; 4])?;
+    space.protect(0x1000, 1, READ)?;
+    assert_eq!(rt; space.write(0x1000, b"m"), Err(StoreFault::BadAddress));
+    assert_text(&rt, &mut space, 0x1000, b"ijkl")?;
     Ok(())
 }
 
