@@ -81,16 +81,20 @@ module _ {M : Type 0} (number : M → ℕ) (table : List Row) where
         seen None = refl
         seen (Some q) = refl
 
-    pub open-in-keeps : (fd : ℕ) → fd < 1024 → map.get p.descs fd ≡ None → (cloexec : Bool) (o : Opened (Unit {0})) (m : M) → IsOpenIn number s.tree table (in_mount m o) → is_there o.place ≡ true → IsLawful number table (open_in pid fd cloexec o m s)
-    open-in-keeps fd small free cloexec o m is there =
+    -- what has a place is no second reader or writer of a pipe
+    placed-lone : (m : M) (o : Opened (Unit {0})) → IsOpenIn number s.tree table (in_mount m o) → is_there o.place ≡ true → IsLone s.files (in_mount m o)
+    placed-lone m o is there = record {
+      reads = λ q end. absurd (placed-no-end m o is there (PipeRead q) refl refl end);
+      writes = λ q end. absurd (placed-no-end m o is there (PipeWrite q) refl refl end);
+      one_reader = λ q n h at end own. placed-no-end m o is there (PipeRead q) refl refl own;
+      one_writer = λ q n h at end own. placed-no-end m o is there (PipeWrite q) refl refl own;
+    }
+
+    pub open-in-keeps : (fd : ℕ) → fd < 1024 → map.get p.descs fd ≡ None → (cloexec : Bool) (o : Opened (Unit {0})) (m : M) → IsOpenIn number s.tree table (in_mount m o) → IsLone s.files (in_mount m o)
+        → IsLawful number table (open_in pid fd cloexec o m s)
+    open-in-keeps fd small free cloexec o m is lone =
         let new : Named = record { number = s.files.last_file + 1; cloexec = cloexec } in
         let f : Meanings → Meanings = λ d. map.insert d fd new in
-        let lone : IsLone s.files (in_mount m o) = record {
-          reads = λ q end. absurd (placed-no-end m o is there (PipeRead q) refl refl end);
-          writes = λ q end. absurd (placed-no-end m o is there (PipeWrite q) refl refl end);
-          one_reader = λ q n h at end own. placed-no-end m o is there (PipeRead q) refl refl own;
-          one_writer = λ q n h at end own. placed-no-end m o is there (PipeWrite q) refl refl own;
-        } in
         let opened = opened-counts (start number table pid s l) (in_mount m o) (held_at o.place s.tree)
         (λ i. held-uses s.tree o.place (mount-there m o.place (place-there s.tree (in_mount m o) is (in_mount m o).place refl)) i ∙ ap (λ n. holds_at s.tree i + n) (sym (same-place m i o.place)))
         (let none = unnamed-next number table pid s l (s.files.last_file + 1) (omega arith) in omega arith) in
@@ -295,7 +299,7 @@ module _ {M : Type 0} (number : M → ℕ) (table : List Row) where
     open-keeps fd cloexec from o s l lives can =
         let p = some-of (process pid s) lives in
         subst (λ m. IsLawful number table (option_map_or (λ m. open_in pid fd cloexec o m s) m s)) (sym can.taken)
-        (open-in-keeps pid s l p.0 p.1 fd can.free.small (sym (named-as pid fd s p.0 p.1) ∙ can.free.free) cloexec o can.mount can.opens can.placed)
+        (open-in-keeps pid s l p.0 p.1 fd can.free.small (sym (named-as pid fd s p.0 p.1) ∙ can.free.free) cloexec o can.mount can.opens (placed-lone pid s l p.0 p.1 can.mount o can.opens can.placed))
 
     pub copy-keeps : (fd to : ℕ) (cloexec : Bool) → KeepsLawful number table mounts pid (CopyDescriptor fd to cloexec)
     copy-keeps fd to cloexec s l lives can =

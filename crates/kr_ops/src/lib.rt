@@ -18,8 +18,6 @@ mod opening;
 mod paging;
 mod pipes;
 mod state;
-#[cfg(test)]
-mod tests;
 
 pub use asking::Meant;
 pub use state::{EndedProcess, Process, State};

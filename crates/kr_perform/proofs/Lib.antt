@@ -1,3 +1,2 @@
-pub mod PerformLemmas
-pub mod DescriptorLemmas
-pub mod ProcessLemmas
+pub mod OperatingLemmas
+pub mod LawfulLemmas

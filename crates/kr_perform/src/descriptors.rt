@@ -1,54 +1,63 @@
-//! Calls on descriptors.
-ghost use Rattle.std.specs.Prelude.{◌≡◌, ◌≢◌, IsSome};
-ghost use Rattle.kr_model.specs.DescriptorRows.{close_row, dup_row, dup3_row, ioctl_row};
+//! Calls without a path: those on what is open under a descriptor here, and the others where they stand.
+ghost use Rattle.std.specs.Prelude.{◌≢◌, ◌+◌, ◌<◌, ◌^◌, IfSome, IsSome};
 ghost use Rattle.kr_model.specs.State.{process};
 ghost use Rattle.kr_model.specs.declared.outcome.Outcome.TheVariants.{NoMemory as WantOfMemory};
+ghost use Rattle.kr_allowed.specs.Calls.{IsGivable};
 ghost use Rattle.kr_ops.specs.Meaning.{meaning};
-ghost use Rattle.kr_ops.specs.Sound.{IsServed, IsSound};
-ghost use Rattle.kr_perform.specs.Performing.{Performs};
+ghost use Rattle.kr_ops.specs.Sound.{IsOfView, IsServed};
+ghost use Rattle.kr_perform.specs.Operating.{HasNumbers, IsAlone, OperatesAlone};
 
-use crate::answer::{number, open_number, refused};
-use kr_files::FilesRefusal;
+use crate::processes;
+use kr_attributes::directories::fchdir;
+use kr_attributes::modes::fchmod;
+use kr_attributes::owners::fchown;
+use kr_attributes::stats::fstat;
+use kr_calls::Request;
 use kr_model::Outcome;
 use kr_ops::State;
-use pr_base::Errno;
+use kr_ops::laws::lawful_states_are_sound;
+use kr_rows::descriptors::{close, dup, dup3, ioctl, pipe2};
+use kr_rows::fcntl::fcntl;
+use kr_rows::seeking::lseek;
+use kr_transfer::entries::getdents64;
+use kr_transfer::reading::{read, readv};
+use kr_transfer::sizes::ftruncate;
+use kr_transfer::writing::{write, writev};
 
-/// dup(2): EBADF of a descriptor that isn't open, EMFILE where none is free; the lowest free one.
-pub fn dup<T: Copy, const M: u8>(state: &mut State<T, M>, pid: u32, fd: i32) -> Outcome
-    requires { IsSound state.old }
-    ensures performs { Performs pid (λ k. dup_row k fd) state.old state.new result }
+/// Carries out a call without a path.
+pub fn perform<T: Copy, const M: u8>(
+    state: &mut State<T, M>,
+    pid: u32,
+    request: &Request,
+) -> Outcome
+    requires kind { IsAlone request.now }
+    requires given { IsGivable request.now }
+    requires view { IsOfView state.old }
+    requires lives { IsSome (process pid (meaning state.old)) }
+    requires behind { IfSome (process pid (meaning state.old)) (λ p. p.image.regs.pc + 4 < 2 ^ 64) }
+    requires numbers { HasNumbers state.old }
+    ensures performs { OperatesAlone pid request.now state.old state.new result }
     ensures served { result ≢ WantOfMemory → IsServed state.new }
 {
-    let Some(fd) = open_number(state, pid, fd) else {
-        return refused(Errno::EBADF);
-    };
-    match state.copy(pid, fd, 0, false) {
-        Ok(to) => number(to),
-        Err(FilesRefusal::Full) => refused(Errno::EMFILE),
-        Err(FilesRefusal::NoMemory) => Outcome::NoMemory,
-    }
-}
-
-/// close(2): EBADF of a descriptor that isn't open.
-pub fn close<T: Copy, const M: u8>(state: &mut State<T, M>, pid: u32, fd: i32) -> Outcome
-    requires { IsSound state.old }
-    ensures performs { Performs pid (λ k. close_row k fd) state.old state.new result }
-    ensures served { IsServed state.new }
-{
-    let Some(fd) = open_number(state, pid, fd) else {
-        return refused(Errno::EBADF);
-    };
-    state.close(pid, fd);
-    number(0)
-}
-
-/// ioctl(2): EBADF of a descriptor that isn't open, ENOTTY of every other.
-pub fn ioctl<T: Copy, const M: u8>(state: &State<T, M>, pid: u32, fd: i32) -> Outcome
-    requires { IsSound state.now }
-    ensures { Performs pid (λ k. ioctl_row k fd) state.now state.now result }
-{
-    match open_number(state, pid, fd) {
-        Some(_fd) => refused(Errno::ENOTTY),
-        None => refused(Errno::EBADF),
+    lawful_states_are_sound::<T, M>();
+    match *request {
+        Request::Dup { fd } => dup(state, pid, fd),
+        Request::Dup3 { old, new, flags } => dup3(state, pid, old, new, flags),
+        Request::Fcntl { fd, cmd, arg } => fcntl(state, pid, fd, cmd, arg),
+        Request::Ioctl { fd } => ioctl(state, pid, fd),
+        Request::Close { fd } => close(state, pid, fd),
+        Request::Pipe2 { buf, flags } => pipe2(state, pid, buf, flags),
+        Request::Lseek { fd, off, whence } => lseek(state, pid, fd, off, whence),
+        Request::Read { fd, buf, n } => read(state, pid, fd, buf, n),
+        Request::Readv { fd, list, count } => readv(state, pid, fd, list, count),
+        Request::Write { fd, buf, n } => write(state, pid, fd, buf, n),
+        Request::Writev { fd, list, count } => writev(state, pid, fd, list, count),
+        Request::Ftruncate { fd, len } => ftruncate(state, pid, fd, len),
+        Request::Fchdir { fd } => fchdir(state, pid, fd),
+        Request::Fchmod { fd, mode } => fchmod(state, pid, fd, mode),
+        Request::Fchown { fd, uid, gid } => fchown(state, pid, fd, uid, gid),
+        Request::Fstat { fd, buf } => fstat(state, pid, fd, buf),
+        Request::Getdents64 { fd, buf, n } => getdents64(state, pid, fd, buf, n),
+        _ => processes::perform(state, pid, request),
     }
 }

@@ -1,6 +1,11 @@
-//! Calls of a guest, carried out on the state of a kernel.
+//! Calls of a guest, carried out: one function for any request but execve(2).
 #![tactic(auto)]
 
-mod answer;
+pub mod asking;
 pub mod descriptors;
+pub mod laws;
+pub mod naming;
+mod performing;
 pub mod processes;
+
+pub use performing::perform;

@@ -1,41 +1,75 @@
-//! Calls on processes.
-ghost use Rattle.std.specs.Prelude.{◌≡◌, IsSome};
-ghost use Rattle.kr_model.specs.ProcessRows.{getppid_row, umask_row};
+//! Calls on the caller, its pages and its user.
+ghost use Rattle.std.specs.Prelude.{◌≢◌, ◌+◌, ◌<◌, ◌^◌, IfSome, IsSome};
 ghost use Rattle.kr_model.specs.State.{process};
+ghost use Rattle.kr_model.specs.declared.outcome.Outcome.TheVariants.{NoMemory as WantOfMemory};
 ghost use Rattle.kr_ops.specs.Meaning.{meaning};
-ghost use Rattle.kr_ops.specs.Sound.{IsServed, IsSound};
-ghost use Rattle.kr_perform.specs.Performing.{Performs};
+ghost use Rattle.kr_ops.specs.Sound.{IsOfView, IsServed};
+ghost use Rattle.kr_perform.specs.Operating.{HasNumbers, IsOfProcess, OperatesAlone};
 
-use crate::answer::number;
+use kr_calls::Request;
 use kr_model::Outcome;
 use kr_ops::State;
+use kr_ops::laws::lawful_states_are_sound;
+use kr_rows::{ending, forking, identity, memory, processes, system};
 
-/// So many masks are there, of nine bits.
-const MASKS: u32 = 512;
-
-/// getppid(2).
-pub fn getppid<T: Copy, const M: u8>(state: &State<T, M>, pid: u32) -> Outcome
-    requires sound { IsSound state.now }
-    requires lives { IsSome (process pid (meaning state.now)) }
-    ensures { Performs pid (λ k. getppid_row k) state.now state.now result }
-{
-    match state.index_of(pid) {
-        Some(k) => number(state.living[k].parent),
-        None => unreachable!(),
-    }
-}
-
-/// umask(2): the low nine bits are kept; the old mask.
-pub fn umask<T: Copy, const M: u8>(state: &mut State<T, M>, pid: u32, mask: u32) -> Outcome
-    requires sound { IsSound state.old }
+/// Carries out a call that names neither a path nor a descriptor.
+pub fn perform<T: Copy, const M: u8>(
+    state: &mut State<T, M>,
+    pid: u32,
+    request: &Request,
+) -> Outcome
+    requires kind { IsOfProcess request.now }
+    requires view { IsOfView state.old }
     requires lives { IsSome (process pid (meaning state.old)) }
-    ensures performs { Performs pid (λ k. umask_row k mask) state.old state.new result }
-    ensures served { IsServed state.new }
+    requires behind { IfSome (process pid (meaning state.old)) (λ p. p.image.regs.pc + 4 < 2 ^ 64) }
+    requires numbers { HasNumbers state.old }
+    ensures performs { OperatesAlone pid request.now state.old state.new result }
+    ensures served { result ≢ WantOfMemory → IsServed state.new }
 {
-    let Some(k) = state.index_of(pid) else {
-        unreachable!();
-    };
-    let old = state.living[k].umask;
-    state.set_umask(pid, (mask % MASKS) as u16);
-    number(u32::from(old))
+    lawful_states_are_sound::<T, M>();
+    match *request {
+        Request::Brk { a } => memory::brk(state, pid, a),
+        Request::Munmap { a, len } => memory::munmap(state, pid, a, len),
+        Request::Mmap {
+            a,
+            len,
+            prot,
+            flags,
+        } => memory::mmap(state, pid, a, len, prot, flags),
+        Request::Mprotect { a, len, prot } => memory::mprotect(state, pid, a, len, prot),
+        Request::Exit { code } | Request::ExitGroup { code } => ending::exit(state, pid, code),
+        Request::Clone { flags, sp, ctid } => forking::clone(state, pid, flags, sp, ctid),
+        Request::Wait4 {
+            pid: child,
+            status,
+            options,
+            usage,
+        } => ending::wait4(state, pid, child, status, options, usage),
+        Request::SetTidAddress | Request::Getpid | Request::Gettid => processes::getpid(state, pid),
+        Request::Getppid => processes::getppid(state, pid),
+        Request::RtSigaction | Request::RtSigprocmask => processes::signals(state, pid),
+        Request::Umask { m } => processes::umask(state, pid, m),
+        Request::Uname { buf } => system::uname(state, pid, buf),
+        Request::Getuid | Request::Geteuid => identity::getuid(state, pid),
+        Request::Getgid | Request::Getegid => identity::getgid(state, pid),
+        Request::Setuid { uid } => identity::setuid(state, pid, uid),
+        Request::Setgid { gid } => identity::setgid(state, pid, gid),
+        Request::Setreuid { ruid, euid } => identity::setreuid(state, pid, ruid, euid),
+        Request::Setregid { rgid, egid } => identity::setregid(state, pid, rgid, egid),
+        Request::Setresuid { ruid, euid, suid } => {
+            identity::setresuid(state, pid, ruid, euid, suid)
+        }
+        Request::Setresgid { rgid, egid, sgid } => {
+            identity::setresgid(state, pid, rgid, egid, sgid)
+        }
+        Request::Getresuid { ruid, euid, suid } => {
+            identity::getresuid(state, pid, ruid, euid, suid)
+        }
+        Request::Getresgid { rgid, egid, sgid } => {
+            identity::getresgid(state, pid, rgid, egid, sgid)
+        }
+        Request::Getgroups { size, list } => identity::getgroups(state, pid, size, list),
+        Request::Setgroups { size: _, list: _ } => identity::setgroups(state, pid),
+        _ => unreachable!(),
+    }
 }

@@ -33,11 +33,12 @@ use std::alloc::Global;
 use std::marker::Model;
 
 /// What the process directory shows of a lawful state, over the mounts of a view.
+#[derive(Drop)]
 pub struct ProcView<'a, P: Places, const M: u8> {
     alloc: Global,
     places: &'a P,
     state: &'a State<P::Mount, M>,
-    root: Place<P::Mount>,
+    root: &'a Place<P::Mount>,
 }
 
 impl<'a, P: Places, const M: u8> Model for ProcView<'a, P, M> {
@@ -58,24 +59,26 @@ impl<'a, P: Places, const M: u8> Model for ProcView<'a, P, M> {
 
     ghost coded = { Prim.hlevel (codes, tree_code, memory_code, descriptors_code, kept_code {M = P.Mount} (Prim.hlevel (codes, P.Mount.code)), P.Mount.code) };
 
-    ghost view = { λ v. record { table = P.mounts v.places.now; root = v.root; state = v.state.now } };
+    ghost view = { λ v. record { table = P.mounts v.places.now; root = v.root.now; state = v.state.now } };
 
-    ghost invariant = { λ v. IsLawful P.number (P.mounts v.places.now) (meaning v.state.now) × IsServed v.state.now × (numbered P.number v.root ≡ root_place (P.mounts v.places.now)) };
+    ghost invariant = { λ v. IsLawful P.number (P.mounts v.places.now) (meaning v.state.now) × IsServed v.state.now × (numbered P.number v.root.now ≡ root_place (P.mounts v.places.now)) };
 }
 
-/// The process directory over a state that is lawful for a view.
+/// The process directory over a state that is lawful for a view, in which absolute paths begin at `root`. It is handed in since a
+/// view's places may be of any size, and what is lent to a walk may not.
 pub fn procs<'a, P: Places, const M: u8>(
     alloc: Global,
     places: &'a P,
     state: &'a State<P::Mount, M>,
+    root: &'a Place<P::Mount>,
 ) -> ProcView<'a, P, M>
     requires lawful { IsLawful P.number (P.mounts places.now) (meaning state.now) }
     requires served { IsServed state.now }
+    requires rooted { numbered P.number root.now ≡ root_place (P.mounts places.now) }
     ensures table { result.table ≡ P.mounts places.now }
     ensures state { result.state ≡ state.now }
-    ensures root { numbered P.number result.root ≡ root_place (P.mounts places.now) }
+    ensures root { result.root ≡ root.now }
 {
-    let root = places.root();
     ProcView {
         alloc,
         places,
@@ -227,7 +230,7 @@ impl<'a, P: Places, const M: u8> ProcView<'a, P, M> {
         match at {
             ProcAt::SelfLink | ProcAt::Dir(_) | ProcAt::FdDir(_) => Target::Nothing,
             ProcAt::Cwd(pid) => cwd_of(self.state, pid),
-            ProcAt::Root(pid) => root_of(self.state, pid, self.root),
+            ProcAt::Root(pid) => root_of(self.state, pid, *self.root),
             ProcAt::Exe(pid) => exe_of(self.state, pid),
             ProcAt::Fd(pid, fd) => open_at(self.state, pid, fd),
         }

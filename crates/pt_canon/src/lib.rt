@@ -7,9 +7,10 @@ mod ending;
 mod guest;
 mod host;
 pub mod laws;
-mod link;
+pub mod link;
 mod sight;
 mod translation;
 mod walk;
 
 pub use canon::{Canon, WalkErr, Walker};
+pub use link::ProcessLink;

@@ -8,7 +8,7 @@ use crate::guest::{below_root, parted};
 
 /// A link of the process directory: what of which process it leads to.
 #[derive(Clone, Copy)]
-pub(crate) enum ProcessLink {
+pub enum ProcessLink {
     /// The working directory of a process.
     Cwd(u32),
     /// The executable of a process.

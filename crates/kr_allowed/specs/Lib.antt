@@ -1,0 +1,5 @@
+pub mod Allowed
+pub mod Laws
+pub mod Resting
+pub mod Calls
+pub mod Told

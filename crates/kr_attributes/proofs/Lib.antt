@@ -1,0 +1,4 @@
+pub mod FoundLemmas
+pub mod NodeLemmas
+pub mod RowLemmas
+pub mod TextLemmas

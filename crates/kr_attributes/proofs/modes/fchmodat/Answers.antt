@@ -1,0 +1,26 @@
+use Rattle.std.proofs.Common.{refl}
+use Rattle.pr_base.specs.declared.errno.Errno.TheVariants.{ENOENT}
+use Rattle.kr_model.specs.AttributeRows.{chmod_host, fchmodat_row}
+use Rattle.kr_model.specs.Known.{known}
+use Rattle.kr_model.specs.State.{image_layout}
+use Rattle.kr_ops.specs.Meaning.{meaning}
+use Rattle.kr_targets.specs.Placed.{target_mounts}
+use Rattle.kr_answers.proofs.CarryLemmas.{by-refusal}
+use Rattle.kr_attributes.proofs.FoundLemmas.{not-found, was-found}
+use Rattle.kr_attributes.proofs.RowLemmas.{at-mounts, by-row}
+use Rattle.kr_attributes.proofs.modes.fchmodat.Goals as goal
+
+pub returns-in-Some-clause-performs : goal.returns-in-Some-clause-performs
+returns-in-Some-clause-performs g c = λ n table pid some.
+    let k = known image_layout pid (meaning c.args.state.now) in
+    let mounts = target_mounts c.args.target.now in
+    let place = c.in-Some.place in
+    by-row pid _ c.args.state.now c.chmod.new.state c.chmod.result mounts (λ k. chmod_host k c.args.mode place.host)
+    (was-found n table pid c.args.state.now c.args.target.now (λ l. fchmodat_row k l c.args.mode) place c.in-Some.is)
+    (at-mounts pid _ c.args.state.now c.chmod.new.state c.chmod.result mounts (c.chmod.ensures.performs pid some))
+
+pub returns-in-None-clause-performs : goal.returns-in-None-clause-performs
+returns-in-None-clause-performs g c = λ n table pid some.
+    let k = known image_layout pid (meaning c.args.state.now) in
+    by-refusal (target_mounts c.args.target.now) pid _ c.args.state.now c.args.state.now c.refused.result c.requires.pids ENOENT
+    (not-found n table pid c.args.state.now c.args.target.now (λ l. fchmodat_row k l c.args.mode) c.in-None.is) c.refused.ensures refl

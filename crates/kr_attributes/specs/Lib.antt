@@ -1,0 +1,4 @@
+pub mod Facts
+pub mod Found
+pub mod Named
+pub mod Ruled

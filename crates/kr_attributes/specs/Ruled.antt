@@ -1,0 +1,12 @@
+-- What chown(2) answers by what the rule of owners says.
+use Rattle.std.specs.Prelude.{List, []}
+use Rattle.pr_base.specs.declared.errno.Errno.TheVariants.{EPERM}
+use Rattle.kr_model.specs.Change.{Change}
+use Rattle.kr_model.specs.Reply.{Replying, done, refuse}
+use Rattle.kr_attributes.specs.declared.owners.Ruling.{Ruling}
+use Rattle.kr_attributes.specs.declared.owners.Ruling.TheVariants.{Left, Given, Refused}
+
+abbrev pub ruled : Ruling → List Change → Replying
+ruled Left changes = done 0 []
+ruled Given changes = done 0 changes
+ruled Refused changes = refuse EPERM

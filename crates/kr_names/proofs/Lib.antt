@@ -1,0 +1,12 @@
+pub mod AboveLemmas
+pub mod CallerLemmas
+pub mod MadeLemmas
+pub mod MoveLemmas
+pub mod NodeLemmas
+pub mod RoomLemmas
+pub mod RowLemmas
+pub mod TakeLemmas
+pub mod OpenLemmas
+pub mod CreateLemmas
+pub mod OpeningLemmas
+pub mod LinkLemmas

@@ -1,0 +1,4 @@
+pub mod Adding
+pub mod Taking
+pub mod Moving
+pub mod Opening

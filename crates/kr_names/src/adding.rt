@@ -1,0 +1,73 @@
+//! New nodes under names of directories.
+ghost use Rattle.std.specs.Prelude.{◌≡◌, ◌≢◌, ◌+◌, ◌<◌, ◌^◌, ℕ, false, IsSome};
+ghost use Rattle.kr_inode.specs.Stored.{body_of_new};
+ghost use Rattle.kr_tree.specs.Changes.{is_too_big, next_serial};
+ghost use Rattle.kr_model.specs.Applied.{Mounts};
+ghost use Rattle.kr_model.specs.Asking.{unmasked, writable};
+ghost use Rattle.kr_model.specs.Known.{known};
+ghost use Rattle.kr_model.specs.State.{image_layout, inode_of as host_inode, process};
+ghost use Rattle.kr_model.specs.declared.outcome.Outcome.TheVariants.{NoMemory as WantOfMemory};
+ghost use Rattle.kr_ops.specs.Meaning.{meaning};
+ghost use Rattle.kr_ops.specs.Sound.{IsServed, IsSound};
+ghost use Rattle.kr_answers.specs.Carrying.{CarriesOut};
+ghost use Rattle.kr_names.specs.Adding.{adding, IsFreeName};
+
+use kr_answers::{number, refused};
+use kr_model::Outcome;
+use kr_ops::State;
+use kr_targets::writable;
+use kr_tree::{Host, Meta, Node, TreeRefusal};
+use pr_base::Errno;
+
+/// The bits of a mode that there are.
+const MODE_BITS: u16 = 0o7777;
+
+/// The bits of a mode that a living caller's mask lets through, of the twelve that there are.
+pub(crate) fn unmasked<T: Copy, const M: u8>(state: &State<T, M>, pid: u32, mode: u32) -> u16
+    requires sound { IsSound state.now }
+    requires lives { IsSome (process pid (meaning state.now)) }
+    ensures bits { result ≡ unmasked (known image_layout pid (meaning state.now)) mode }
+    ensures small { result < 4096 }
+{
+    let Some(k) = state.index_of(pid) else {
+        unreachable!();
+    };
+    let let_through = MODE_BITS.saturating_sub(state.living[k].umask);
+    (mode & u32::from(let_through)) as u16
+}
+
+/// Puts a new node of the user's under a name of a directory: ENOENT or EACCES of the directory, ENOSPC.
+pub(crate) fn add_named<T: Copy, const M: u8>(
+    state: &mut State<T, M>,
+    pid: u32,
+    dir: Host,
+    name: &[u8],
+    node: Node,
+    mode: u16,
+) -> Outcome
+    requires sound { IsSound state.old }
+    requires free { IsFreeName state.old.tree dir name.now }
+    requires small { is_too_big (body_of_new node) ≡ false }
+    requires numbers { state.old.tree.next + 1 < 2 ^ 32 }
+    requires serials { next_serial state.old.tree (host_inode dir) + 1 < 2 ^ 64 }
+    ensures performs { (mounts : Mounts T) → CarriesOut mounts pid (λ k. writable k dir (adding k name.now mode (body_of_new node))) state.old state.new result }
+    ensures served { result ≢ WantOfMemory → IsServed state.new }
+{
+    let ino = match writable(state, dir) {
+        Ok(ino) => ino,
+        Err(errno) => return refused(errno),
+    };
+    let meta = Meta {
+        mode,
+        uid: state.user.uid,
+        gid: state.user.gid,
+        names: 0,
+        size: 0,
+    };
+    match state.add_node(ino, name, node, meta) {
+        Ok(_ino) => number(0),
+        Err(TreeRefusal::Full) => refused(Errno::ENOSPC),
+        Err(TreeRefusal::TooBig) => unreachable!(),
+        Err(TreeRefusal::NoMemory) => Outcome::NoMemory,
+    }
+}

@@ -1,0 +1,20 @@
+use Rattle.std.proofs.Common.{sym, subst, w32}
+use Rattle.std.proofs.Math.Facts.{to_z-of_z}
+use Rattle.kr_calls.specs.declared.request.Request.TheVariants as call
+use Rattle.kr_rows.specs.Performing.{Performs}
+use Rattle.kr_model.specs.AttributeRows.{fchownat_here}
+use Rattle.kr_perform.specs.Operating.{OperatesAt}
+use Rattle.kr_perform.proofs.OperatingLemmas.{at-mounts, has-bytes, has-none}
+use Rattle.kr_perform.proofs.asking.fchownat.Goals as goal
+
+pub returns-then-is_empty-clause-performs : goal.returns-then-is_empty-clause-performs
+returns-then-is_empty-clause-performs g c = λ n table flags.
+    let dirfd = to_z-of_z {w = w32} {z = c.args.dirfd} c.ranges.dirfd in
+    let none = has-none c.args.path.now (sym c.if-is_empty.ensures) in
+    subst (λ path. OperatesAt n table c.args.pid (call.Fchownat c.args.dirfd path c.args.uid c.args.gid flags) c.args.targets.now.first c.args.targets.now.second c.args.state.now c.fchownat_here.new.state c.fchownat_here.result) (sym none)
+    (at-mounts (subst (λ z. Performs c.args.pid (λ k. fchownat_here k z c.args.uid c.args.gid) c.args.state.now c.fchownat_here.new.state c.fchownat_here.result) dirfd c.fchownat_here.ensures.performs))
+
+pub returns-else-is_empty-clause-performs : goal.returns-else-is_empty-clause-performs
+returns-else-is_empty-clause-performs g c = λ n table flags.
+    let some = has-bytes c.args.path.now (sym c.if-is_empty.ensures) in
+    subst (λ path. OperatesAt n table c.args.pid (call.Fchownat c.args.dirfd path c.args.uid c.args.gid flags) c.args.targets.now.first c.args.targets.now.second c.args.state.now c.fchownat_of_path.new.state c.fchownat_of_path.result) (sym some.2) (c.fchownat_of_path.ensures.performs n table c.args.dirfd some.0 some.1 flags)

@@ -1,0 +1,13 @@
+use Rattle.std.proofs.Common.{◌∷◌, refl, sym, subst, None}
+use Rattle.kr_calls.specs.declared.request.Request.TheVariants as call
+use Rattle.kr_perform.specs.Operating.{OperatesAt}
+use Rattle.kr_perform.proofs.OperatingLemmas.{nowhere}
+use Rattle.kr_perform.proofs.asking.fchownat_of_path.Goals as goal
+
+pub returns-in-Some-clause-performs : goal.returns-in-Some-clause-performs
+returns-in-Some-clause-performs g c = λ n table dirfd b path flags. subst (λ o. OperatesAt n table c.args.pid (call.Fchownat dirfd (b ∷ path) c.args.uid c.args.gid flags) o c.args.targets.now.second c.args.state.now c.fchownat.new.state c.fchownat.result) (sym c.in-Some.is) (c.fchownat.ensures.performs n table c.args.pid)
+
+pub returns-in-None-clause-performs : goal.returns-in-None-clause-performs
+returns-in-None-clause-performs g c = λ n table dirfd b path flags.
+    subst (λ o. OperatesAt n table c.args.pid (call.Fchownat dirfd (b ∷ path) c.args.uid c.args.gid flags) o c.args.targets.now.second c.args.state.now c.args.state.now c.refused.result) (sym c.in-None.is)
+    (nowhere n table c.args.pid (call.Fchownat dirfd (b ∷ path) c.args.uid c.args.gid flags) None c.args.targets.now.second c.args.state.now c.refused.result c.requires.sound.pids refl c.refused.ensures)

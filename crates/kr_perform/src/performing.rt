@@ -1,0 +1,78 @@
+//! Any call.
+ghost use Rattle.std.specs.Prelude.{◌≢◌, ◌+◌, ◌<◌, ◌^◌, IfSome, IsSome};
+ghost use Rattle.kr_model.specs.Lawful.{IsLawful};
+ghost use Rattle.kr_model.specs.State.{process};
+ghost use Rattle.kr_model.specs.declared.outcome.Outcome.TheVariants.{NoMemory as WantOfMemory};
+ghost use Rattle.kr_allowed.specs.Calls.{IsGivable};
+ghost use Rattle.kr_ops.specs.Meaning.{meaning};
+ghost use Rattle.kr_ops.specs.Sound.{IsServed};
+ghost use Rattle.kr_resolved.specs.Resolving.{AreResolved};
+ghost use Rattle.kr_perform.specs.Operating.{HasNumbers, IsNoExec, OperatesAt};
+
+use crate::{asking, descriptors, naming};
+use kr_attributes::names::getcwd;
+use kr_calls::Request;
+use kr_model::Outcome;
+use kr_ops::State;
+use kr_ops::laws::lawful_states_are_sound;
+use kr_paths::Targets;
+use kr_view::Places;
+use std::alloc::Global;
+
+/// Carries out a call that isn't execve(2), of the targets of its paths.
+pub fn perform<P: Places, const M: u8>(
+    alloc: Global,
+    places: &P,
+    state: &mut State<P::Mount, M>,
+    pid: u32,
+    request: &Request,
+    targets: &Targets<P::Mount>,
+) -> Outcome
+    requires kind { IsNoExec request.now }
+    requires given { IsGivable request.now }
+    requires lawful { IsLawful P.number (P.mounts places.now) (meaning state.old) }
+    requires served { IsServed state.old }
+    requires lives { IsSome (process pid (meaning state.old)) }
+    requires resolved { AreResolved state.old.tree (P.mounts places.now) request.now targets.now }
+    requires behind { IfSome (process pid (meaning state.old)) (λ p. p.image.regs.pc + 4 < 2 ^ 64) }
+    requires numbers { HasNumbers state.old }
+    ensures performs { OperatesAt P.number (P.mounts places.now) pid request.now targets.now.first targets.now.second state.old state.new result }
+    ensures served { result ≢ WantOfMemory → IsServed state.new }
+{
+    lawful_states_are_sound::<P::Mount, M>();
+    match request {
+        Request::Openat { flags, mode, .. } => {
+            naming::openat(alloc, state, places, pid, targets, *flags, *mode)
+        }
+        Request::Mkdirat { mode, .. } => naming::mkdirat(state, pid, targets, *mode),
+        Request::Unlinkat { flags, .. } => naming::unlinkat(state, places, pid, targets, *flags),
+        Request::Symlinkat { text, .. } => {
+            naming::symlinkat(alloc, state, pid, targets, text.as_slice())
+        }
+        Request::Linkat { .. } => naming::linkat(state, places, pid, targets),
+        Request::Renameat2 { .. } => naming::renameat2(state, places, pid, targets),
+        Request::Faccessat { mode, .. } => asking::faccessat(state, pid, targets, *mode),
+        Request::Fchmodat { mode, .. } => asking::fchmodat(state, pid, targets, *mode),
+        Request::Fchownat {
+            dirfd,
+            path,
+            uid,
+            gid,
+            ..
+        } => asking::fchownat(state, pid, targets, *dirfd, path.as_slice(), *uid, *gid),
+        Request::Newfstatat {
+            dirfd,
+            path,
+            buf,
+            ..
+        } => asking::newfstatat(state, pid, targets, *dirfd, path.as_slice(), *buf),
+        Request::Readlinkat { buf, size, .. } => {
+            asking::readlinkat(places, state, pid, targets, *buf, *size)
+        }
+        Request::Chdir { .. } => asking::chdir(state, pid, targets),
+        Request::Chroot { .. } => asking::chroot(state, pid, targets),
+        Request::Getcwd { buf, size } => getcwd(places, state, pid, *buf, *size),
+        Request::Execve { .. } => unreachable!(),
+        _ => descriptors::perform(state, pid, request),
+    }
+}

@@ -1,0 +1,4 @@
+//! What calls rest on of the targets of their paths.
+#![tactic(auto)]
+
+pub mod laws;

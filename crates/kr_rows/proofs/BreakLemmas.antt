@@ -1,0 +1,25 @@
+-- The break of a process in code, by its index.
+use Rattle.std.proofs.Common.{◌≡◌, ℕ, ◌≤◌, get_or, Option, IfSome, ap, subst}
+use Rattle.rv_mem.specs.Layout.{layout_of}
+use Rattle.kr_model.specs.Known.{Caller, known}
+use Rattle.kr_model.specs.State as model
+use Rattle.kr_ops.specs.declared.state.Process.{Process}
+use Rattle.kr_ops.specs.declared.state.State.{State}
+use Rattle.kr_ops.specs.Living.{HasPid}
+use Rattle.kr_ops.specs.Meaning.{meaning}
+use Rattle.kr_ops.specs.Sound.{IsSound}
+use Rattle.kr_ops.proofs.OpeningLemmas.{found}
+use Rattle.kr_rows.proofs.ProcessLemmas.{known-caller}
+
+module _ {T : Type 0} {M : ℕ} (s : State T M) (pid k : ℕ) (p : Process T M) (sound : IsSound s) (at : HasPid pid k s.living.items) (e : p ≡ get_or s.living.items k p) where
+  pub break-known : (known model.image_layout pid (meaning s)).caller.brk ≡ p.brk
+  break-known = ap (λ (c : Caller). c.brk) (known-caller s pid k p sound at e)
+
+  pub start-known : (known model.image_layout pid (meaning s)).caller.brk_start ≡ p.brk_start
+  start-known = ap (λ (c : Caller). c.brk_start) (known-caller s pid k p sound at e)
+
+  pub layout-at : (known model.image_layout pid (meaning s)).caller.layout ≡ layout_of p.mem.pages
+  layout-at = ap (λ (c : Caller). c.layout) (known-caller s pid k p sound at e)
+
+  pub break-bounded : IfSome (model.process pid (meaning s)) (λ q. q.brk ≤ 0x3ffffff000) → p.brk ≤ 0x3ffffff000
+  break-bounded holds = subst (λ (o : Option (model.Process T model.Image)). IfSome o (λ q. q.brk ≤ 0x3ffffff000)) (found s pid k p sound at e) holds

@@ -1,0 +1,11 @@
+pub mod PerformLemmas
+pub mod UsingLemmas
+pub mod PipeLemmas
+pub mod FcntlLemmas
+pub mod DescriptorLemmas
+pub mod ProcessLemmas
+pub mod WaitLemmas
+pub mod CloneLemmas
+pub mod PagingLemmas
+pub mod BreakLemmas
+pub mod LowestLemmas

@@ -1,0 +1,6 @@
+use Rattle.std.proofs.Common.{refl}
+use Rattle.kr_rows.proofs.PerformLemmas.{by-unchanged}
+use Rattle.kr_rows.proofs.identity.setresuid.Goals as goal
+
+pub returns : goal.returns
+returns g c = λ some. by-unchanged c.args.pid _ c.args.state.now c.args.state.now c.set_three.result c.requires.pids c.set_three.ensures refl

@@ -1,0 +1,4 @@
+pub mod PinLemmas
+pub mod StartLemmas
+pub mod ConsoleLemmas
+pub mod FirstLemmas

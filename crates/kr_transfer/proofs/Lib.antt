@@ -1,0 +1,13 @@
+pub mod ChannelLemmas
+pub mod SizeLemmas
+pub mod PieceLemmas
+pub mod MovingLemmas
+pub mod ViewLemmas
+pub mod ReadingLemmas
+pub mod WritingLemmas
+pub mod ListLemmas
+pub mod ListingLemmas
+pub mod DescriptorLemmas
+pub mod ShownLemmas
+pub mod RiseLemmas
+pub mod EntriesLemmas

@@ -1,0 +1,8 @@
+use Rattle.std.proofs.Common.{◌≡◌, ◌+◌, ◌<◌, ◌≤◌, ℕ, Some}
+use Rattle.kr_files.specs.Descriptors.{Named}
+use Rattle.kr_model.specs.State.{named}
+use Rattle.kr_ops.specs.Meaning.{meaning}
+use Rattle.kr_transfer.proofs.listing.descriptor_entry.Given as goal
+
+abbrev pub invariant-loop-fd : goal.invariant-loop-fd
+invariant-loop-fd g l = (q : ℕ) (x : Named) → named l.of q (meaning l.state) ≡ Some x → q < l.fd → 3 + q ≤ l.after

@@ -1,0 +1,17 @@
+use Rattle.std.proofs.Common.{◌≡◌, ◌≤◌, ◌-◌, true, drop, length}
+use Rattle.rv_mem.specs.declared.rights.Use.TheVariants.{Write}
+use Rattle.kr_model.specs.Pieces.{cut_to, laid_into, write_all}
+use Rattle.kr_model.specs.Reply.{Replying}
+use Rattle.kr_ops.specs.Meaning.{meaning}
+use Rattle.kr_rows.specs.Performing.{memory_of}
+use Rattle.kr_rows.specs.Using.{HasComeTo}
+use Rattle.kr_transfer.specs.Moving.{LeavesOthers, all_allowed, told}
+use Rattle.kr_transfer.proofs.moving.write_all.Given as goal
+
+abbrev pub invariant-loop-piece : goal.invariant-loop-piece
+invariant-loop-piece g l = record {
+  within : l.done ≤ length l.bytes;
+  leaves : LeavesOthers l.pid l.fn.state l.state;
+  allowed : all_allowed (memory_of l.pid (meaning l.state)).pages Write (cut_to (length l.bytes - l.done) (told (drop l.piece-index l.pieces))) ≡ true;
+  comes : (next : Replying) → HasComeTo l.pid (write_all (laid_into (cut_to (length l.bytes) (told l.pieces)) l.bytes) next) l.fn.state (write_all (laid_into (cut_to (length l.bytes - l.done) (told (drop l.piece-index l.pieces))) (drop l.done l.bytes)) next) l.state;
+}

@@ -1,0 +1,32 @@
+use Rattle.std.proofs.Common.{lit<, refl, sym, ap, ◌∙◌, w32}
+use Rattle.std.specs.Prelude.{not, if◌then◌else◌}
+use Rattle.std.proofs.Math.Facts.{to_z-of_z}
+use Rattle.pr_base.specs.declared.errno.Errno.TheVariants.{EBADF, EISDIR}
+use Rattle.kr_model.specs.FileRows.{is_dir, read_pieces}
+use Rattle.kr_model.specs.Known.{known}
+use Rattle.kr_model.specs.Pieces.{one_piece}
+use Rattle.kr_model.specs.Reply.{refuse}
+use Rattle.kr_model.specs.State as model
+use Rattle.kr_ops.specs.Meaning.{meaning}
+use Rattle.kr_transfer.specs.Channels.{channel_of}
+use Rattle.kr_transfer.proofs.ChannelLemmas.{by-closed, by-open, open-here}
+use Rattle.kr_transfer.proofs.reading.read.Goals as goal
+
+pub read_open-requires : goal.read_open-requires
+read_open-requires g c =
+    let k = known model.image_layout c.args.pid (meaning c.args.state.now) in
+    (lit< tt, (c.requires.view, (c.requires.lives, open-here c.args.pid c.args.state.now c.args.fd c.in-Some.channel (ap (channel_of k) (sym (to_z-of_z {w = w32} {z = c.args.fd} c.ranges.fd)) ∙ sym c.in-Some.ensures))))
+
+pub returns-in-Some-clause-performs : goal.returns-in-Some-clause-performs
+returns-in-Some-clause-performs g c = λ some.
+    let k = known model.image_layout c.args.pid (meaning c.args.state.now) in
+    by-open c.args.pid c.args.state.now c.read_open.new.state c.read_open.result c.args.fd
+    (λ k n o. if not o.read then refuse EBADF else if is_dir o.what then refuse EISDIR else read_pieces k n o (one_piece c.args.buf c.args.n)) c.in-Some.channel
+    (ap (channel_of k) (sym (to_z-of_z {w = w32} {z = c.args.fd} c.ranges.fd)) ∙ sym c.in-Some.ensures) (c.read_open.ensures.performs some)
+
+pub returns-in-None-clause-performs : goal.returns-in-None-clause-performs
+returns-in-None-clause-performs g c = λ some.
+    let k = known model.image_layout c.args.pid (meaning c.args.state.now) in
+    by-closed c.args.pid c.args.state.now c.args.state.now c.refused.result c.args.fd
+    (λ k n o. if not o.read then refuse EBADF else if is_dir o.what then refuse EISDIR else read_pieces k n o (one_piece c.args.buf c.args.n)) c.requires.view.lawful.pids
+    (ap (channel_of k) (sym (to_z-of_z {w = w32} {z = c.args.fd} c.ranges.fd)) ∙ sym c.in-None.ensures) c.refused.ensures refl

@@ -1,0 +1,78 @@
+use Rattle.std.proofs.Common.{List, refl, sym, ap, subst, ◌∙◌, lit<, Err}
+use Rattle.std.specs.Prelude.{not, if◌then◌else◌}
+use Rattle.pr_base.specs.declared.errno.Errno.TheVariants.{EBADF, EISDIR}
+use Rattle.kr_model.specs.FileRows.{is_dir, read_pieces}
+use Rattle.kr_model.specs.Known.{known}
+use Rattle.kr_model.specs.Pieces.{asked, with_list}
+use Rattle.kr_model.specs.Reply.{refuse}
+use Rattle.kr_model.specs.State as model
+use Rattle.kr_ops.specs.Meaning.{meaning}
+use Rattle.kr_rows.specs.Using.{HasComeTo}
+use Rattle.kr_rows.proofs.PerformLemmas.{by-refusal}
+use Rattle.kr_rows.proofs.UsingLemmas.{begins, refused-after}
+use Rattle.kr_transfer.specs.Moving.{told}
+use Rattle.kr_transfer.specs.declared.pieces.Piece.{Piece}
+use Rattle.kr_transfer.proofs.ListLemmas.{no-want, why}
+use Rattle.kr_transfer.proofs.MovingLemmas.{comes-then}
+use Rattle.kr_transfer.proofs.ReadingLemmas.{read-goes-on, read-refused}
+use Rattle.kr_transfer.proofs.SizeLemmas.{no-error}
+use Rattle.kr_transfer.proofs.ViewLemmas.{view-read}
+use Rattle.kr_transfer.proofs.WritingLemmas.{by-then, still-channel, still-open}
+use Rattle.kr_transfer.proofs.reading.readv_open.Goals as goal
+
+pub returns-in-Some-clause-performs : goal.returns-in-Some-clause-performs
+returns-in-Some-clause-performs g c = λ some o h.
+    let k = known model.image_layout c.args.pid (meaning c.args.state.now) in
+    by-refusal c.args.pid _ c.args.state.now c.args.state.now c.refused.result c.requires.view.lawful.pids c.in-Some.errno
+    (read-refused k c.args.channel o h (with_list c.args.list c.args.count (read_pieces k c.args.channel.fd o)) c.in-Some.errno c.in-Some.ensures) c.refused.ensures refl
+
+pub read_pieces-requires : goal.read_pieces-requires
+read_pieces-requires g c =
+    let reads = c.in-Ok.ensures.reads (λ e. no-error e) in (
+      lit< tt,
+      (
+        view-read c.args.state.now c.requires.view c.read_list.new.state c.args.pid reads,
+        (
+          reads.leaves.lives,
+          (
+            still-open c.args.pid c.args.channel c.args.state.now c.read_list.new.state reads.leaves.known c.requires.here,
+            (c.in-Ok.ensures.counted.0 ∙ ap (λ (ps : List Piece). asked (told ps)) (sym c.as_slice.ensures.value), c.in-Ok.ensures.counted.1),
+          ),
+        ),
+      ),
+    )
+
+pub returns-in-Ok-clause-performs : goal.returns-in-Ok-clause-performs
+returns-in-Ok-clause-performs g c = λ some o h.
+    let k = known model.image_layout c.args.pid (meaning c.args.state.now) in
+    let fd = c.args.channel.fd in
+    let old = c.args.state.now in
+    let mid = c.read_list.new.state in
+    let reads = c.in-Ok.ensures.reads (λ e. no-error e) in
+    by-then c.args.pid (λ k. if not o.read then refuse EBADF else if is_dir o.what then refuse EISDIR else with_list c.args.list c.args.count (read_pieces k fd o)) (λ k. read_pieces k fd o (told c.as_slice.result.now)) old mid c.read_pieces.new.state c.read_pieces.result
+    (comes-then c.args.pid _ _ _ old old mid
+    (begins c.args.pid (if not o.read then refuse EBADF else if is_dir o.what then refuse EISDIR else with_list c.args.list c.args.count (read_pieces k fd o)) old (with_list c.args.list c.args.count (read_pieces k fd o))
+    (read-goes-on k c.args.channel o h (with_list c.args.list c.args.count (read_pieces k fd o)) c.in_default.ensures))
+    (subst (λ (ps : List Piece). HasComeTo c.args.pid (with_list c.args.list c.args.count (read_pieces k fd o)) old (read_pieces k fd o (told ps)) mid) (sym c.as_slice.ensures.value) (c.in-Ok.ensures.ok (read_pieces k fd o))))
+    reads.leaves.known (c.read_pieces.ensures.performs some o (still-channel c.args.pid c.args.channel o old mid reads.leaves.known h))
+
+pub returns-in-Err-clause-performs : goal.returns-in-Err-clause-performs
+returns-in-Err-clause-performs g c = λ some o h.
+    let k = known model.image_layout c.args.pid (meaning c.args.state.now) in
+    let fd = c.args.channel.fd in
+    let old = c.args.state.now in
+    let mid = c.read_list.new.state in
+    why c.in-Err.fault
+    (λ e is.
+    let reads = c.in-Err.ensures.reads (no-want e c.in-Err.fault is) in
+    refused-after c.args.pid (λ k. if not o.read then refuse EBADF else if is_dir o.what then refuse EISDIR else with_list c.args.list c.args.count (read_pieces k fd o)) old mid mid c.answer_of.result e reads.leaves.sound.pids
+    (comes-then c.args.pid _ _ _ old old mid
+    (begins c.args.pid (if not o.read then refuse EBADF else if is_dir o.what then refuse EISDIR else with_list c.args.list c.args.count (read_pieces k fd o)) old (with_list c.args.list c.args.count (read_pieces k fd o))
+    (read-goes-on k c.args.channel o h (with_list c.args.list c.args.count (read_pieces k fd o)) c.in_default.ensures))
+    (c.in-Err.ensures.refused e (ap Err is) (read_pieces k fd o)))
+    (c.answer_of.ensures.refused e is) refl)
+    (λ want. absurd (some (c.answer_of.ensures.memory want)))
+
+pub returns-in-Err-clause-served : goal.returns-in-Err-clause-served
+returns-in-Err-clause-served g c = λ some.
+    why c.in-Err.fault (λ e is. (c.in-Err.ensures.reads (no-want e c.in-Err.fault is)).leaves.sound.served) (λ want. absurd (some (c.answer_of.ensures.memory want)))

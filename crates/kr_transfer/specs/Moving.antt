@@ -1,0 +1,35 @@
+-- Uses of all pieces of a list, and what they leave of a state.
+use Rattle.std.specs.Prelude.{◌≡◌, ℕ, Bool, true, ◌&&◌, List, [], ◌∷◌, map as map_list}
+use Rattle.std.specs.Option.{option_map_or}
+use Rattle.rv_mem.specs.Pages.{Pages, allows_all}
+use Rattle.rv_mem.specs.declared.rights.Use.{Use}
+use Rattle.kr_tree.specs.Tree.{Tree, Inode, inode, bytes_of}
+use Rattle.kr_model.specs.Pieces as model
+use Rattle.kr_ops.specs.declared.state.State.{State}
+use Rattle.kr_ops.specs.Meaning.{meaning}
+use Rattle.kr_rows.specs.Performing.{memory_of}
+use Rattle.kr_rows.specs.Using.{HasMemory}
+use Rattle.kr_transfer.specs.declared.pieces.Piece.{Piece}
+
+-- the pieces of the definition
+abbrev pub told : List Piece → List model.Piece
+told pieces = map_list (λ (p : Piece). record { at = p.at; count = p.count }) pieces
+
+-- whether all may be used so
+abbrev pub all_allowed : Pages → Use → List model.Piece → Bool
+all_allowed m what [] = true
+all_allowed m what (p ∷ pieces) = allows_all m p.at p.count what && all_allowed m what pieces
+
+-- the bytes of an inode
+abbrev pub bytes_at : Tree → ℕ → List ℕ
+bytes_at t i = option_map_or (λ (x : Inode). bytes_of x.node.body) (inode t i) []
+
+module _ {T : Type 0} {M : ℕ} where
+  -- at most the caller's memory changed
+  abbrev pub LeavesOthers : ℕ → State T M → State T M → Type 0
+  LeavesOthers pid old new = HasMemory pid (memory_of pid (meaning new)) old new
+
+  -- the caller's memory was read at most
+  pub record OnlyReads (pid : ℕ) (old new : State T M) : Type 0 where
+    pub leaves : LeavesOthers pid old new
+    pub pages : (memory_of pid (meaning new)).pages ≡ (memory_of pid (meaning old)).pages

@@ -1,0 +1,17 @@
+pub mod AgreeLemmas
+pub mod CanonLemmas
+pub mod FactLemmas
+pub mod HandedLemmas
+pub mod InUseLemmas
+pub mod LinkLemmas
+pub mod LookLemmas
+pub mod NamedLemmas
+pub mod PeekLemmas
+pub mod PlainLemmas
+pub mod PointLemmas
+pub mod StandingLemmas
+pub mod StartLemmas
+pub mod StateLemmas
+pub mod TableLemmas
+pub mod ToldLemmas
+pub mod UpLemmas

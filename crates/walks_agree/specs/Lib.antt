@@ -1,0 +1,11 @@
+pub mod Answers
+pub mod Facts
+pub mod Handed
+pub mod Laws
+pub mod Peeks
+pub mod Scene
+pub mod Settled
+pub mod Standing
+pub mod Start
+pub mod States
+pub mod Translation

@@ -1,0 +1,9 @@
+//! A walk of a tracer along guest texts and a walk of a kernel with mounts along places come to the same.
+#![tactic(auto)]
+
+pub mod facts;
+pub mod handed;
+pub mod laws;
+pub mod start;
+pub mod states;
+pub mod translation;
