@@ -1,5 +1,5 @@
 -- Calls on the attributes of a file are allowed.
-use Rattle.std.proofs.Common.{ℕ, ◌<◌, ◌^◌, true, false, not, ◌&&◌, ◌||◌, List, [], ◌∷◌, ap, arith, cond, Option, IsSome, ℤ}
+use Rattle.std.proofs.Common.{ℕ, ◌<◌, ◌^◌, true, false, not, ◌&&◌, ◌||◌, List, [], ◌∷◌, refl, ap, arith, cond, Option, IsSome, ℤ}
 use Rattle.std.specs.Prelude.{◌==◌, unsigned_abs}
 use Rattle.pr_base.specs.declared.errno.Errno.TheVariants.{EPERM, ENOENT, EBADF, EACCES, EFAULT, EINVAL}
 use Rattle.kr_inode.specs.declared.user.User.{User}
@@ -26,14 +26,15 @@ use Rattle.kr_allowed.specs.Laws.{AttributeRowsAreAllowed}
 use Rattle.kr_allowed.specs.Resting.{HasSmallNumbers}
 use Rattle.kr_allowed.proofs.KnownLemmas.{maybe, by-open}
 use Rattle.kr_allowed.proofs.NodeLemmas.{known-inode}
-use Rattle.kr_allowed.proofs.RowLemmas.{Allowed, unchanged, refuses, ended, tested, wrote, either, row-allowed}
+use Rattle.kr_lasting.specs.Lasting.{AreModest}
+use Rattle.kr_allowed.proofs.RowLemmas.{quietly, Allowed, unchanged, refuses, ended, tested, wrote, either, row-allowed}
 
 module _ {M : Type 0} (number : M → ℕ) (table : List Row) (mounts : Mounts M) (pid : ℕ) (s : State M Image) (lives : IsSome (process pid s)) where
   abbrev k : Known
   k = known image_layout pid s
 
   abbrev Can : List Change → Type 0
-  Can = CanAllBeMade number table mounts pid s
+  Can cs = CanAllBeMade number table mounts pid s cs × AreModest s.user cs
 
   faccessat : (l : Looked) (mode : ℕ) → Allowed Can false (faccessat_row k l mode)
   faccessat l mode = either (gives k l.host mode) (λ _. unchanged) (λ _. refuses EACCES)
@@ -45,7 +46,7 @@ module _ {M : Type 0} (number : M → ℕ) (table : List Row) (mounts : Mounts M
       maybe (known_node k i)
       (λ n e.
       let own = known-inode pid s i n e in
-      either (is_processes n.body || not (k.user.uid == n.uid)) (λ _. refuses EPERM) (λ _. ended (lives, (is-some _ own.0 own.1, omega arith), tt)))
+      either (is_processes n.body || not (k.user.uid == n.uid)) (λ _. refuses EPERM) (λ _. ended ((lives, (is-some _ own.0 own.1, omega arith), tt), quietly refl)))
       (refuses ENOENT)
   mode-host mode (host.Proc i at) = refuses EPERM
 
@@ -70,12 +71,12 @@ module _ {M : Type 0} (number : M → ℕ) (table : List Row) (mounts : Mounts M
         let uids = ap (λ (n : Node). n.uid) own.2 in
         let gids = ap (λ (n : Node). n.gid) own.2 in
         owner-by k.user (record { uid = n.uid; gid = n.gid }) uid gid (SetOwner i (or_old uid n.uid) (or_old gid n.gid) ∷ [])
-        (lives, (is-some _ own.0 own.1, one-of uid n.uid few_uids (omega arith), one-of gid n.gid few_gids (omega arith)), tt))
+        ((lives, (is-some _ own.0 own.1, one-of uid n.uid few_uids (omega arith), one-of gid n.gid few_gids (omega arith)), tt), quietly refl))
         (refuses ENOENT)
-    owner-host (host.Proc i at) = owner-by k.user k.user uid gid [] tt
+    owner-host (host.Proc i at) = owner-by k.user k.user uid gid [] (tt, quietly refl)
 
     owner-open : (o : Opened (Unit {0})) → Allowed Can false (chown_open k uid gid o)
-    owner-open o = maybe o.place (λ p _. owner-host p.host) (owner-by k.user k.user uid gid [] tt)
+    owner-open o = maybe o.place (λ p _. owner-host p.host) (owner-by k.user k.user uid gid [] (tt, quietly refl))
 
     fchown : (fd : ℤ) → Allowed Can false (fchown_row k fd uid gid)
     fchown fd = by-open pid s fd _ (λ n o e. owner-open (without_mount o))

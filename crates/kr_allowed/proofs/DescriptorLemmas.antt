@@ -20,20 +20,21 @@ use Rattle.kr_model.specs.State.{Image, image_layout, State, process, opened}
 use Rattle.kr_lawful.specs.Laws.{CanAllBeMade}
 use Rattle.kr_allowed.specs.Laws.{DescriptorRowsAreAllowed}
 use Rattle.kr_allowed.proofs.KnownLemmas.{is-less, not-most, maybe, open-named, at-number, by-open, free-lowest, free-apart, free-pair}
-use Rattle.kr_allowed.proofs.RowLemmas.{Allowed, unchanged, ended, tested, wrote, either, row-allowed}
+use Rattle.kr_lasting.specs.Lasting.{AreModest}
+use Rattle.kr_allowed.proofs.RowLemmas.{quietly, Allowed, unchanged, ended, tested, wrote, either, row-allowed}
 
 module _ {M : Type 0} (number : M → ℕ) (table : List Row) (mounts : Mounts M) (pid : ℕ) (s : State M Image) (lives : IsSome (process pid s)) where
   abbrev k : Known
   k = known image_layout pid s
 
   abbrev Can : List Change → Type 0
-  Can = CanAllBeMade number table mounts pid s
+  Can cs = CanAllBeMade number table mounts pid s cs × AreModest s.user cs
 
   copied : (fd : ℕ) → IsOpen pid fd s → (from : ℕ) (cloexec : Bool) (o : Option ℕ) → lowest_free k.caller.descs from ≡ o → Allowed Can false (copy_under fd cloexec o)
   copied fd is_open from cloexec None e = unchanged
   copied fd is_open from cloexec (Some to) e =
       let free = (free-lowest pid s lives from to e).0 in
-      ended (lives, record { old = is_open; small = free.small; apart = free-apart pid s lives fd to is_open free }, tt)
+      ended ((lives, record { old = is_open; small = free.small; apart = free-apart pid s lives fd to is_open free }, tt), quietly refl)
 
   dup : (fd : ℤ) → Allowed Can false (dup_row k fd)
   dup fd = by-open pid s fd _ (λ n o e. copied n (open-named pid s n o e) 0 false (lowest_free k.caller.descs 0) refl)
@@ -42,7 +43,7 @@ module _ {M : Type 0} (number : M → ℕ) (table : List Row) (mounts : Mounts M
   copied-to old is_open cloexec None apart = unchanged
   copied-to old is_open cloexec (Some new) apart =
       either (nat_lt new 1024)
-      (λ small. ended (lives, record { old = is_open; small = is-less new 1024 small; apart = λ same. apart (ap (λ n. Some n) same) }, tt))
+      (λ small. ended ((lives, record { old = is_open; small = is-less new 1024 small; apart = λ same. apart (ap (λ n. Some n) same) }, tt), quietly refl))
       (λ _. unchanged)
 
   dup3 : (old new : ℤ) (flags : ℕ) → old ≢ new → Allowed Can false (dup3_row k old new flags)
@@ -59,9 +60,9 @@ module _ {M : Type 0} (number : M → ℕ) (table : List Row) (mounts : Mounts M
       either (cmd == 0) (λ _. from-there is_open false)
       (λ _. either (cmd == 1030) (λ _. from-there is_open true)
       (λ _. either (cmd == 1) (λ _. unchanged)
-      (λ _. either (cmd == 2) (λ _. ended (lives, is_open, tt))
+      (λ _. either (cmd == 2) (λ _. ended ((lives, is_open, tt), quietly refl))
       (λ _. either (cmd == 3) (λ _. unchanged)
-      (λ _. either (cmd == 4) (λ _. ended (lives, is_open, tt))
+      (λ _. either (cmd == 4) (λ _. ended ((lives, is_open, tt), quietly refl))
       (λ _. unchanged))))))
     where
       from-there : IsOpen pid fd s → (cloexec : Bool) → Allowed Can false (copy_from k fd arg cloexec)
@@ -74,19 +75,19 @@ module _ {M : Type 0} (number : M → ℕ) (table : List Row) (mounts : Mounts M
   ioctl fd = by-open pid s fd _ (λ n o e. unchanged)
 
   close : (fd : ℤ) → Allowed Can false (close_row k fd)
-  close fd = by-open pid s fd _ (λ n o e. ended (lives, open-named pid s n o e, tt))
+  close fd = by-open pid s fd _ (λ n o e. ended ((lives, open-named pid s n o e, tt), quietly refl))
 
   piped : map.len s.files.pipes < most_pipes → (buf : ℕ) (cloexec : Bool) (o : Option (ℕ × ℕ)) → lowest_pair k.caller.descs ≡ o → Allowed Can false (pipe_under buf cloexec o)
   piped few buf cloexec None e = unchanged
   piped few buf cloexec (Some fds) e =
       let free = free-pair pid s lives fds e in
-      tested (λ b. either b (λ _. wrote (ended (lives, record { reader = free.0; writer = free.1; apart = free.2; few = few }, tt))) (λ _. unchanged))
+      tested (λ b. either b (λ _. wrote (ended ((lives, record { reader = free.0; writer = free.1; apart = free.2; few = few }, tt), quietly refl))) (λ _. unchanged))
 
   pipe2 : (buf flags : ℕ) → Allowed Can false (pipe2_row k buf flags)
   pipe2 buf flags = either (nat_le most_pipes k.pipes) (λ _. unchanged) (λ few. piped (not-most most_pipes k.pipes few) buf (has flags o_cloexec) (lowest_pair k.caller.descs) refl)
 
   sought : (fd : ℕ) → IsOpen pid fd s → (at : ℤ) → Allowed Can false (seek_to fd at)
-  sought fd is_open (pos at) = either (nat_lt at 0x8000000000000000) (λ small. ended (lives, (is_open, is-less at 0x8000000000000000 small), tt)) (λ _. unchanged)
+  sought fd is_open (pos at) = either (nat_lt at 0x8000000000000000) (λ small. ended ((lives, (is_open, is-less at 0x8000000000000000 small), tt), quietly refl)) (λ _. unchanged)
   sought fd is_open (negsuc m) = unchanged
 
   sought-file : (off whence : ℤ) (fd : ℕ) → IsOpen pid fd s → (o : Opened (Unit {0})) → Allowed Can false (seek_file k off whence fd o)

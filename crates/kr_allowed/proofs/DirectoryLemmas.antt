@@ -24,7 +24,8 @@ use Rattle.kr_allowed.specs.Resting.{HasSmallNumbers, IsLookedIn}
 use Rattle.kr_allowed.proofs.FileLemmas.{open-lawful}
 use Rattle.kr_allowed.proofs.KnownLemmas.{maybe, open-named, by-open}
 use Rattle.kr_allowed.proofs.NodeLemmas.{known-directory}
-use Rattle.kr_allowed.proofs.RowLemmas.{Allowed, unchanged, refuses, ended, tested, wrote, either, row-allowed}
+use Rattle.kr_lasting.specs.Lasting.{AreModest}
+use Rattle.kr_allowed.proofs.RowLemmas.{quietly, Allowed, unchanged, refuses, ended, tested, wrote, either, row-allowed}
 use Rattle.kr_allowed.proofs.SerialLemmas.{AreSmall, small-behind, small-fitting, small-last, small-shown}
 
 passed : (b : Bool) → not b ≡ false → b ≡ true
@@ -36,13 +37,13 @@ module _ {M : Type 0} (number : M → ℕ) (table : List Row) (mounts : Mounts M
   k = known image_layout pid s
 
   abbrev Can : List Change → Type 0
-  Can = CanAllBeMade number table mounts pid s
+  Can cs = CanAllBeMade number table mounts pid s cs × AreModest s.user cs
 
   -- ---- what a directory shows
 
   entries-told : (fd buf : ℕ) → IsOpen pid fd s → (entries : List Listed) → AreSmall entries → Allowed Can false (tell_entries fd buf entries)
   entries-told fd buf is_open [] small = refuses EINVAL
-  entries-told fd buf is_open (e ∷ entries) small = tested (λ b. either b (λ _. wrote (ended (lives, (is_open, small-last e entries small), tt))) (λ _. refuses EFAULT))
+  entries-told fd buf is_open (e ∷ entries) small = tested (λ b. either b (λ _. wrote (ended ((lives, (is_open, small-last e entries small), tt), quietly refl))) (λ _. refuses EFAULT))
 
   rest-listed : (fd buf n : ℕ) → IsOpen pid fd s → (entries : List Listed) → AreSmall entries → Allowed Can false (list_rest fd buf n entries)
   rest-listed fd buf n is_open [] small = unchanged
@@ -66,7 +67,7 @@ module _ {M : Type 0} (number : M → ℕ) (table : List Row) (mounts : Mounts M
   chdir : (looked : Looked) → IsLookedIn number table mounts s.tree looked → Allowed Can false (chdir_row k looked)
   chdir looked is =
       let found = is.found in
-      entered looked.host _ (λ directory. ended (lives, (record { mount = found.mount; taken = found.taken; stands = found.stands }, directory), tt))
+      entered looked.host _ (λ directory. ended ((lives, (record { mount = found.mount; taken = found.taken; stands = found.stands }, directory), tt), quietly refl))
 
   -- the place of an open file is one of the view
   stands-open : (fd : ℕ) (o : Opened M) → opened pid fd s ≡ Some o → (p : Place M) → o.place ≡ Some p → CanStand number table mounts pid (OfDescriptor fd) s p.host
@@ -82,7 +83,7 @@ module _ {M : Type 0} (number : M → ℕ) (table : List Row) (mounts : Mounts M
       by : (n : ℕ) (o : Opened M) → opened pid n s ≡ Some o → (q : Option (Place M)) → o.place ≡ q
           → Allowed Can false (option_map_or (λ (p : Place (Unit {0})). if_entered k p.host (done 0 (ChangeDirectory (OfDescriptor n) p.host ∷ []))) (option_map (λ (p : Place M). record { mount = tt; host = p.host }) q) (refuse ENOTDIR))
       by n o e None placed = refuses ENOTDIR
-      by n o e (Some p) placed = entered p.host _ (λ directory. ended (lives, (stands-open n o e p placed, directory), tt))
+      by n o e (Some p) placed = entered p.host _ (λ directory. ended ((lives, (stands-open n o e p placed, directory), tt), quietly refl))
 
   chroot : (looked : Looked) → Allowed Can false (chroot_row k looked)
   chroot looked = entered looked.host _ (λ directory. refuses EPERM)

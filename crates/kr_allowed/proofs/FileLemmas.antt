@@ -38,7 +38,8 @@ use Rattle.kr_lawful.specs.Laws.{CanAllBeMade}
 use Rattle.kr_allowed.specs.Laws.{FileRowsAreAllowed}
 use Rattle.kr_allowed.proofs.KnownLemmas.{not-less, not-most, open-named, by-open}
 use Rattle.kr_allowed.proofs.PieceLemmas.{asked-cut, usable, all-read, handed, listed}
-use Rattle.kr_allowed.proofs.RowLemmas.{Allowed, unchanged, refuses, ended, either, row-allowed}
+use Rattle.kr_lasting.specs.Lasting.{AreModest}
+use Rattle.kr_allowed.proofs.RowLemmas.{quietly, Allowed, unchanged, refuses, ended, either, row-allowed}
 
 -- a file has no more bytes than a file may
 file-limited : (b : Body) → is_file b ≡ true → (P : Body → Type 0) → P b → ((bytes : List ℕ) → P (RegularFile bytes) → length bytes ≤ tree.file_limit) → length (bytes_of b) ≤ tree.file_limit
@@ -63,7 +64,7 @@ module _ {M : Type 0} (number : M → ℕ) (table : List Row) (mounts : Mounts M
   k = known image_layout pid s
 
   abbrev Can : List Change → Type 0
-  Can = CanAllBeMade number table mounts pid s
+  Can cs = CanAllBeMade number table mounts pid s cs × AreModest s.user cs
 
   -- an open file is one of the tree, of as many bytes as the row knows
   record OpenFile (o : Opened M) : Type 0 where
@@ -116,7 +117,7 @@ module _ {M : Type 0} (number : M → ℕ) (table : List Row) (mounts : Mounts M
   pipe-read : (pipe : ℕ) (pieces : List Piece) (o : Option (List ℕ)) → map.get s.files.pipes pipe ≡ o → Allowed Can false (read_pipe k pipe pieces o)
   pipe-read pipe pieces None e = unchanged
   pipe-read pipe pieces (Some []) e = either (k.writer pipe) (λ _. unchanged) (λ _. unchanged)
-  pipe-read pipe pieces (Some (b ∷ bytes)) e = handed pieces _ _ (λ some. (lives, subst (λ (o : Option (List ℕ)). IsSome o) (sym e) refl, tt))
+  pipe-read pipe pieces (Some (b ∷ bytes)) e = handed pieces _ _ (λ some. ((lives, subst (λ (o : Option (List ℕ)). IsSome o) (sym e) refl, tt), quietly refl))
 
   -- where a read ends is in the file
   file-read : (fd : ℕ) → IsOpen pid fd s → (o : Opened M) → OpenFile o → (pieces : List Piece) → Allowed Can false (read_file k fd (without_mount o) pieces)
@@ -125,14 +126,14 @@ module _ {M : Type 0} (number : M → ℕ) (table : List Row) (mounts : Mounts M
       let limited = file.limited in
       let rest = length-drop o.at bytes in
       let taken = length-take (asked pieces) (drop o.at bytes) in
-      handed pieces _ _ (λ some. (lives, (is_open, omega arith), tt))
+      handed pieces _ _ (λ some. ((lives, (is_open, omega arith), tt), quietly refl))
 
   input-read : (pieces : List Piece) → Allowed Can false (read_input k pieces)
   input-read pieces =
       let rest = length-drop s.taken s.input in
       let taken = length-take (asked pieces) (drop s.taken s.input) in
       let before = l.input in
-      handed pieces _ _ (λ some. (lives, omega arith, tt))
+      handed pieces _ _ (λ some. ((lives, omega arith, tt), quietly refl))
 
   what-read : (fd : ℕ) → IsOpen pid fd s → (o : Opened M) → IsOpenIn number s.tree table o → (pieces : List Piece) (what : What) → o.what ≡ what → Allowed Can false (read_what k fd (without_mount o) pieces what)
   what-read fd is_open o is pieces File e = file-read fd is_open o (open-file o is (ap is_file_open e)) pieces
@@ -161,9 +162,9 @@ module _ {M : Type 0} (number : M → ℕ) (table : List Row) (mounts : Mounts M
   pipe-written : (pipe : ℕ) (pieces : List Piece) (o : Option (List ℕ)) → map.get s.files.pipes pipe ≡ o → Allowed Can false (write_pipe k pipe pieces o)
   pipe-written pipe pieces None e = unchanged
   pipe-written pipe pieces (Some held) e =
-      either (not (k.reader pipe)) (λ _. ended (lives, lives, tt))
+      either (not (k.reader pipe)) (λ _. ended ((lives, lives, tt), quietly refl))
       (λ _. either (nat_le pipe_limit (length held)) (λ _. unchanged)
-      (λ _. all-read (cut_to (pipe_limit - length held) pieces) (λ bytes count are. ended (lives, subst (λ (o : Option (List ℕ)). IsSome o) (sym e) refl, tt))))
+      (λ _. all-read (cut_to (pipe_limit - length held) pieces) (λ bytes count are. ended ((lives, subst (λ (o : Option (List ℕ)). IsSome o) (sym e) refl, tt), quietly refl))))
 
   put : (fd : ℕ) → IsOpen pid fd s → (o : Opened M) → OpenFile o → (at : ℕ) (bytes : List ℕ) → 0 < length bytes → at + length bytes ≤ tree.file_limit → AreBytes bytes → Allowed Can false (put_in_file k fd (without_mount o) at bytes)
   put fd is_open o file at bytes some small are =
@@ -175,7 +176,7 @@ module _ {M : Type 0} (number : M → ℕ) (table : List Row) (mounts : Mounts M
       let fits = not-less tree.byte_limit (s.tree.bytes - old + new) room in
       let within = written-within at (length bytes) old some in
       let sized = file.sized in
-      ended (lives, record { sized = record { file = file.file; small = small; room = has-room (s.tree.bytes - tree.size s.tree i + (at + length bytes)) (omega arith) }; are_bytes = are }, (lives, (is_open, omega arith), tt)))
+      ended ((lives, record { sized = record { file = file.file; small = small; room = has-room (s.tree.bytes - tree.size s.tree i + (at + length bytes)) (omega arith) }; are_bytes = are }, (lives, (is_open, omega arith), tt)), quietly refl))
     where
       has-room : (n : ℕ) → n ≤ tree.byte_limit → nat_lt tree.byte_limit n ≡ false
       has-room n few = grind (arith, nat_tests)
@@ -192,8 +193,8 @@ module _ {M : Type 0} (number : M → ℕ) (table : List Row) (mounts : Mounts M
   what-written fd is_open o is pieces some File e = file-written fd is_open o (open-file o is (ap is_file_open e)) pieces some (write_place k (without_mount o))
   what-written fd is_open o is pieces some Dir e = refuses EISDIR
   what-written fd is_open o is pieces some In e = refuses EBADF
-  what-written fd is_open o is pieces some Out e = all-read pieces (λ bytes count are. ended (lives, are, tt))
-  what-written fd is_open o is pieces some Err e = all-read pieces (λ bytes count are. ended (lives, are, tt))
+  what-written fd is_open o is pieces some Out e = all-read pieces (λ bytes count are. ended ((lives, are, tt), quietly refl))
+  what-written fd is_open o is pieces some Err e = all-read pieces (λ bytes count are. ended ((lives, are, tt), quietly refl))
   what-written fd is_open o is pieces some (PipeRead p) e = refuses EBADF
   what-written fd is_open o is pieces some (PipeWrite p) e = pipe-written p pieces (k.pipe p) refl
 
@@ -227,13 +228,16 @@ module _ {M : Type 0} (number : M → ℕ) (table : List Row) (mounts : Mounts M
       either (nat_lt tree.file_limit len) (λ _. refuses EFBIG)
       (λ small. either (has_no_room_for (length (open_bytes k (without_mount o))) len k) (λ _. refuses ENOSPC)
       (λ room. ended (
-        lives,
-        record {
-          file = file.file;
-          small = not-less tree.file_limit len small;
-          room = subst (λ n. nat_lt tree.byte_limit (s.tree.bytes - n + len) ≡ false) file.sized room;
-        },
-        tt,
+        (
+          lives,
+          record {
+            file = file.file;
+            small = not-less tree.file_limit len small;
+            room = subst (λ n. nat_lt tree.byte_limit (s.tree.bytes - n + len) ≡ false) file.sized room;
+          },
+          tt,
+        ),
+        quietly refl,
       ))))
 
   pub ftruncate-row : (fd : ℤ) (len : ℕ) → Allowed Can false (ftruncate_row k fd len)

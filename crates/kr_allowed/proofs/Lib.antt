@@ -18,3 +18,4 @@ pub mod DecodedLemmas
 pub mod StayingLemmas
 pub mod WalkLemmas
 pub mod TargetLemmas
+pub mod SourceLemmas

@@ -28,7 +28,8 @@ use Rattle.kr_lawful.proofs.OwnChangeLemmas.{neither}
 use Rattle.kr_lawful.proofs.ProcessChangeLemmas.{found}
 use Rattle.kr_allowed.specs.Laws.{MemoryRowsAreAllowed}
 use Rattle.kr_allowed.proofs.KnownLemmas.{is-less, not-less, maybe, caller-is}
-use Rattle.kr_allowed.proofs.RowLemmas.{Allowed, unchanged, refuses, ended, either, row-allowed}
+use Rattle.kr_lasting.specs.Lasting.{AreModest}
+use Rattle.kr_allowed.proofs.RowLemmas.{quietly, Allowed, unchanged, refuses, ended, either, row-allowed}
 
 -- ---- counts of pages
 
@@ -89,7 +90,7 @@ module _ {M : Type 0} (number : M → ℕ) (table : List Row) (mounts : Mounts M
   k = known image_layout pid s
 
   abbrev Can : List Change → Type 0
-  Can = CanAllBeMade number table mounts pid s
+  Can cs = CanAllBeMade number table mounts pid s cs × AreModest s.user cs
 
   abbrev CanChange : PageChange → Type 0
   CanChange c = CanBeMade number table mounts pid s (ChangePages c)
@@ -137,7 +138,7 @@ module _ {M : Type 0} (number : M → ℕ) (table : List Row) (mounts : Mounts M
       let after = found pid f (λ p. refl) pid s.living ∙ ap (option_map (at_pid pid f)) own.1 in
       let start = ap (λ (c : Caller). c.brk_start) (caller-is pid s p own.1) in
       let bounds : (b : Bool) → ((cond b (f p) p).brk_start ≤ a) × (a ≤ pages_end) = λ b. elim b as (λ b. ((cond b (f p) p).brk_start ≤ a) × (a ≤ pages_end)) [ true ↦ (omega arith, high) | false ↦ (omega arith, high) ] in
-      (lives, can, (subst (λ (o : Option (Process M Image)). IsSome o) (sym after) refl, subst (λ (o : Option (Process M Image)). IfSome o (λ p. (p.brk_start ≤ a) × (a ≤ pages_end))) (sym after) (bounds (p.pid == pid)), tt))
+      ((lives, can, (subst (λ (o : Option (Process M Image)). IsSome o) (sym after) refl, subst (λ (o : Option (Process M Image)). IfSome o (λ p. (p.brk_start ≤ a) × (a ≤ pages_end))) (sym after) (bounds (p.pid == pid)), tt)), quietly refl)
 
   grown : (a : ℕ) → k.caller.brk_start ≤ a → a ≤ pages_end → page_count k.caller.brk < page_count a → Allowed Can false (grow k a (page_count a - page_count k.caller.brk))
   grown a low high more =
@@ -168,13 +169,16 @@ module _ {M : Type 0} (number : M → ℕ) (table : List Row) (mounts : Mounts M
   mapped-at first count prot low =
       either (passes_limit k count (mapped_among k.caller.layout first count)) (λ _. refuses ENOMEM)
       (λ fits. ended (
-        lives,
-        can-map first count (mapped_among k.caller.layout first count) (rights_of prot) (omega arith) fits
-            (λ p e.
-            let all = mapped-count p.image.memory.pages first count (rights_of prot) in
-            let layout = ap (λ (c : Caller). mapped_among c.layout first count) (caller-is pid s p e) in
-            omega arith),
-        tt,
+        (
+          lives,
+          can-map first count (mapped_among k.caller.layout first count) (rights_of prot) (omega arith) fits
+              (λ p e.
+              let all = mapped-count p.image.memory.pages first count (rights_of prot) in
+              let layout = ap (λ (c : Caller). mapped_among c.layout first count) (caller-is pid s p e) in
+              omega arith),
+          tt,
+        ),
+        quietly refl,
       ))
 
   mmap : (a len prot flags : ℕ) → Allowed Can false (mmap_row k a len prot flags)
@@ -190,10 +194,10 @@ module _ {M : Type 0} (number : M → ℕ) (table : List Row) (mounts : Mounts M
           maybe (lowest_place k.caller.layout count) (λ first e. mapped-at first count prot (place-ends places_begin count (map_list (λ x. x.0) (map.entries k.caller.layout)) first e)) (refuses ENOMEM)
 
   munmap : (a len : ℕ) → Allowed Can false (munmap_row a len)
-  munmap a len = ended (lives, can-unmap (a / 4096) (page_count len), tt)
+  munmap a len = ended ((lives, can-unmap (a / 4096) (page_count len), tt), quietly refl)
 
   mprotect : (a len prot : ℕ) → Allowed Can false (mprotect_row k a len prot)
-  mprotect a len prot = either (not (mapped_among k.caller.layout (a / 4096) (page_count len) == page_count len)) (λ _. refuses ENOMEM) (λ _. ended (lives, can-protect (a / 4096) (page_count len) (rights_of prot), tt))
+  mprotect a len prot = either (not (mapped_among k.caller.layout (a / 4096) (page_count len) == page_count len)) (λ _. refuses ENOMEM) (λ _. ended ((lives, can-protect (a / 4096) (page_count len) (rights_of prot), tt), quietly refl))
 
 pub memory-rows : (M : Type 0) → MemoryRowsAreAllowed M
 memory-rows M number table mounts pid = record {

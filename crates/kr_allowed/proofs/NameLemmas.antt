@@ -31,7 +31,9 @@ use Rattle.kr_allowed.specs.Resting.{IsFreeIn, IsEntryIn, IsLookedIn, IsTakenIn,
 use Rattle.kr_allowed.proofs.AboveLemmas.{not-below}
 use Rattle.kr_allowed.proofs.KnownLemmas.{maybe}
 use Rattle.kr_allowed.proofs.NodeLemmas.{known-test, test-known, entry-name}
-use Rattle.kr_allowed.proofs.RowLemmas.{Allowed, unchanged, refuses, ended, either, row-allowed}
+use Rattle.kr_lasting.specs.Lasting.{AreModest}
+use Rattle.kr_lasting.specs.Texts.{IsText}
+use Rattle.kr_allowed.proofs.RowLemmas.{quietly, draws-once, Allowed, unchanged, refuses, ended, either, row-allowed}
 
 node-is : (i own : ℕ) → host.Node i ≡ host.Node own → i ≡ own
 node-is i own e = ap number e
@@ -71,7 +73,7 @@ module _ {M : Type 0} (number : M → ℕ) (table : List Row) (mounts : Mounts M
   k = known image_layout pid s
 
   abbrev Can : List Change → Type 0
-  Can = CanAllBeMade number table mounts pid s
+  Can cs = CanAllBeMade number table mounts pid s cs × AreModest s.user cs
 
   -- ---- directories to be changed
 
@@ -108,16 +110,16 @@ module _ {M : Type 0} (number : M → ℕ) (table : List Row) (mounts : Mounts M
   directory-made (Makes dir name slash) is mode =
       written-to dir (make_directory k mode name)
       (λ d n at takes. either (has_no_room 0 k) (λ _. refuses ENOSPC)
-      (λ room. ended (lives, record { named = free-name dir name is d at takes; small = small-mode (bit_and mode 0x3ff); new = refl; bytes = tt; room = room }, tt)))
+      (λ room. ended ((lives, record { named = free-name dir name is d at takes; small = small-mode (bit_and mode 0x3ff); new = refl; bytes = tt; room = room }, tt), record { users = ((refl, refl, tt), tt); drawn = draws-once _ refl })))
 
-  link-made : (m : Made) → IsMadeIn number table mounts s.tree m → (text : List ℕ) → AreBytes text → Allowed Can false (symlinkat_row k m text)
-  link-made (MakesNoName last) is text are = refuses EEXIST
-  link-made MakesOver is text are = refuses EEXIST
-  link-made (Makes dir name slash) is text are =
+  link-made : (m : Made) → IsMadeIn number table mounts s.tree m → (text : List ℕ) → AreBytes text → IsText text → Allowed Can false (symlinkat_row k m text)
+  link-made (MakesNoName last) is text are is_text = refuses EEXIST
+  link-made MakesOver is text are is_text = refuses EEXIST
+  link-made (Makes dir name slash) is text are is_text =
       either slash (λ _. refuses ENOENT)
       (λ _. written-to dir (make_link k text name)
       (λ d n at takes. either (has_no_room (length text) k) (λ _. refuses ENOSPC)
-      (λ room. ended (lives, record { named = free-name dir name is d at takes; small = omega arith; new = refl; bytes = are; room = room }, tt))))
+      (λ room. ended ((lives, record { named = free-name dir name is d at takes; small = omega arith; new = refl; bytes = are; room = room }, tt), record { users = ((refl, refl, is_text), tt); drawn = draws-once _ refl }))))
 
   -- what is in the tree and no directory may be linked
   may-link : (i : ℕ) → is_there (inode s.tree i) ≡ true → body_passes is_directory k i ≡ false → body_is may_be_linked s.tree i ≡ true
@@ -133,7 +135,7 @@ module _ {M : Type 0} (number : M → ℕ) (table : List Row) (mounts : Mounts M
       either (body_passes is_directory k i) (λ _. refuses EPERM)
       (λ none. written-to dir (link_node k i name)
       (λ d n at takes. either (has_no_name_left k) (λ _. refuses ENOSPC)
-      (λ room. ended (lives, record { named = free-name dir name free d at takes; linked = may-link i (there i refl) none; room = room }, tt))))
+      (λ room. ended ((lives, record { named = free-name dir name free d at takes; linked = may-link i (there i refl) none; room = room }, tt), quietly refl))))
 
   linkat : (old : Looked) → IsLookedIn number table mounts s.tree old → (m : Made) → IsMadeIn number table mounts s.tree m → (same_mount : Bool) → Allowed Can false (linkat_row k old m same_mount)
   linkat old found (MakesNoName last) is same_mount = refuses EEXIST
@@ -175,7 +177,7 @@ module _ {M : Type 0} (number : M → ℕ) (table : List Row) (mounts : Mounts M
       (λ none. either e.slash (λ _. refuses (cond (is_directory_host k found) EISDIR ENOTDIR))
       (λ _. entry-taken e found (remove_file k e.name)
       (λ d i x at takes same known. either (is_directory x.body) (λ _. refuses EISDIR)
-      (λ file. ended (lives, can-remove e is d i at takes (there ∙ ap (λ h. Some h) same) (test-known pid s is_filled i x known ∙ not-filled x.body file) (ap (is_processes_host k) (sym same) ∙ none), tt)))))
+      (λ file. ended ((lives, can-remove e is d i at takes (there ∙ ap (λ h. Some h) same) (test-known pid s is_filled i x known ∙ not-filled x.body file) (ap (is_processes_host k) (sym same) ∙ none), tt), quietly refl)))))
 
   unlinked : (t : Taken) → IsTakenIn number table mounts s.tree t → Allowed Can false (unlink_row k t)
   unlinked (TakesNoName last) is = refuses EISDIR
@@ -188,7 +190,7 @@ module _ {M : Type 0} (number : M → ℕ) (table : List Row) (mounts : Mounts M
       (λ none. entry-taken e found (remove_directory k e.name)
       (λ d i x at takes same known. either (not (is_directory x.body)) (λ _. refuses ENOTDIR)
       (λ _. either (is_filled x.body) (λ _. refuses ENOTEMPTY)
-      (λ empty. ended (lives, can-remove e is d i at takes (there ∙ ap (λ h. Some h) same) (test-known pid s is_filled i x known ∙ empty) (ap (is_processes_host k) (sym same) ∙ none), tt)))))
+      (λ empty. ended ((lives, can-remove e is d i at takes (there ∙ ap (λ h. Some h) same) (test-known pid s is_filled i x known ∙ empty) (ap (is_processes_host k) (sym same) ∙ none), tt), quietly refl)))))
 
   directories-removed : (t : Taken) → IsTakenIn number table mounts s.tree t → Allowed Can false (rmdir_row k t)
   directories-removed (TakesNoName last) is = refuses (ending_removed last)
@@ -246,11 +248,11 @@ module _ {M : Type 0} (number : M → ℕ) (table : List Row) (mounts : Mounts M
         (λ _. either (is_directory n.body && not (is_directory x.body)) (λ _. refuses ENOTDIR)
         (λ one. either (is_directory x.body && not (is_directory n.body)) (λ _. refuses EISDIR)
         (λ two. either (is_filled x.body) (λ _. refuses ENOTEMPTY)
-        (λ empty. ended (lives, over j n x there known_old known_new (same-kinds (is_directory n.body) (is_directory x.body) one two) empty, tt)))))
+        (λ empty. ended ((lives, over j n x there known_old known_new (same-kinds (is_directory n.body) (is_directory x.body) one two) empty, tt), quietly refl)))))
 
     moved-onto : (dn tn n : Node) → known_node k i ≡ Some n → (o : Option Host) → new.found ≡ o → Allowed Can false (move_onto k old new d to dn tn n o)
     moved-onto dn tn n known None there =
-        either (is_kept_by_sticky k.user dn n) (λ _. refuses EPERM) (λ _. either (can_move k d to n) (λ _. ended (lives, freely there, tt)) (λ _. refuses EACCES))
+        either (is_kept_by_sticky k.user dn n) (λ _. refuses EPERM) (λ _. either (can_move k d to n) (λ _. ended ((lives, freely there, tt), quietly refl)) (λ _. refuses EACCES))
     moved-onto dn tn n known (Some (host.Node j)) there =
         either (is_kept_by_sticky k.user dn n) (λ _. refuses EPERM)
         (λ _. maybe (known_node k j) (λ x known_new. either (is_kept_by_sticky k.user tn x) (λ _. refuses EPERM) (λ _. moved-over j n x there known known_new)) (refuses ENOENT))
@@ -290,7 +292,7 @@ pub name-rows : (M : Type 0) → NameRowsAreAllowed M
 name-rows M number table mounts pid = record {
   mkdirat = λ m mode. row-allowed number table mounts pid (λ t next. IsMadeIn number table mounts t m) (λ k. mkdirat_row k m mode) (λ s l lives rests. directory-made number table mounts pid s l lives m rests mode);
   unlinkat = λ taken flags. row-allowed number table mounts pid (λ t next. IsTakenIn number table mounts t taken) (λ k. unlinkat_row k taken flags) (λ s l lives rests. unlinkat number table mounts pid s l lives taken rests flags);
-  symlinkat = λ m text are. row-allowed number table mounts pid (λ t next. IsMadeIn number table mounts t m) (λ k. symlinkat_row k m text) (λ s l lives rests. link-made number table mounts pid s l lives m rests text are);
+  symlinkat = λ m text are is_text. row-allowed number table mounts pid (λ t next. IsMadeIn number table mounts t m) (λ k. symlinkat_row k m text) (λ s l lives rests. link-made number table mounts pid s l lives m rests text are is_text);
   linkat = λ old m same_mount.
       row-allowed number table mounts pid (λ t next. IsLookedIn number table mounts t old × IsMadeIn number table mounts t m) (λ k. linkat_row k old m same_mount)
       (λ s l lives rests. linkat number table mounts pid s l lives old rests.0 m rests.1 same_mount);

@@ -25,7 +25,7 @@ use Rattle.kr_files.specs.declared.opened.What.TheVariants.{File, Dir}
 use Rattle.kr_files.specs.Descriptors.{lowest_free}
 use Rattle.kr_model.specs.Applied.{Mounts, in_mount, open_in}
 use Rattle.kr_model.specs.Asking.{has_no_room, unmasked}
-use Rattle.kr_model.specs.Change.{Change, SetSize, OfFound}
+use Rattle.kr_model.specs.Change.{OpenFile, Change, SetSize, OfFound}
 use Rattle.kr_model.specs.DescriptorRows.{o_cloexec}
 use Rattle.kr_model.specs.FileRows.{is_dir, is_file_open, creates, excludes, truncates, wants_directory, wants_write, opens_as, open_under, open_directory, has_rights, cut_after, open_file, open_body, open_host, open_found, make_and_open, open_new, openat_row}
 use Rattle.kr_model.specs.Known.{Known, known, known_node}
@@ -39,7 +39,9 @@ use Rattle.kr_allowed.specs.Resting.{IsSeenIn, IsFreeIn, IsLookedIn, IsOpeningIn
 use Rattle.kr_allowed.proofs.KnownLemmas.{maybe, free-lowest}
 use Rattle.kr_allowed.proofs.NameLemmas.{written-to, free-name, small-mode}
 use Rattle.kr_allowed.proofs.NodeLemmas.{test-known}
-use Rattle.kr_allowed.proofs.RowLemmas.{Allowed, refuses, ended, either, row-allowed}
+use Rattle.kr_files.specs.declared.opened.Opened.{Opened}
+use Rattle.kr_lasting.specs.Lasting.{AreModest}
+use Rattle.kr_allowed.proofs.RowLemmas.{quietly, are_quiet, draws-once, Allowed, refuses, ended, either, row-allowed}
 
 -- a place of a kind in a tree is what is open there
 opens-in : {M : Type 0} (number : M → ℕ) (table : List Row) (t : Tree) (mount : M) (what : What) (at : Host) (dir : ℕ) (name : List ℕ) (flags : ℕ) → IsPlaceOf t table (numbered number (record { mount = mount; host = at }))
@@ -59,7 +61,7 @@ module _ {M : Type 0} (number : M → ℕ) (table : List Row) (mounts : Mounts M
   k = known image_layout pid s
 
   abbrev Can : List Change → Type 0
-  Can = CanAllBeMade number table mounts pid s
+  Can cs = CanAllBeMade number table mounts pid s cs × AreModest s.user cs
 
   -- ---- what is there
 
@@ -75,15 +77,18 @@ module _ {M : Type 0} (number : M → ℕ) (table : List Row) (mounts : Mounts M
       by None e = refuses EMFILE
       by (Some fd) e =
           ended (
-            lives,
-            record {
-              free = (free-lowest pid s lives 0 fd e).0;
-              mount = seen.mount;
-              taken = seen.taken;
-              placed = refl;
-              opens = opens-in number table s.tree seen.mount Dir at 0 [] flags seen.stands directory file (λ _. (refl, refl)) (λ _ no_dir. absurd cc) nameless;
-            },
-            tt,
+            (
+              lives,
+              record {
+                free = (free-lowest pid s lives 0 fd e).0;
+                mount = seen.mount;
+                taken = seen.taken;
+                placed = refl;
+                opens = opens-in number table s.tree seen.mount Dir at 0 [] flags seen.stands directory file (λ _. (refl, refl)) (λ _ no_dir. absurd cc) nameless;
+              },
+              tt,
+            ),
+            quietly refl,
           )
 
   -- ---- the cut of a file that was opened before it
@@ -117,6 +122,10 @@ module _ {M : Type 0} (number : M → ℕ) (table : List Row) (mounts : Mounts M
         by true = (still-lives, record { file = still-file; small = omega arith; room = room-left }, tt)
         by false = tt
 
+  quiet-cut : (fd : ℕ) (cloexec : Bool) (o : Opened (Unit {0})) (i : ℕ) (b : Bool) → are_quiet (OpenFile fd cloexec OfFound o ∷ cond b (SetSize i 0 ∷ []) []) ≡ true
+  quiet-cut fd cloexec o i true = refl
+  quiet-cut fd cloexec o i false = refl
+
   file-opened : (flags i : ℕ) → IsSeenIn number table s.tree mounts.found (host.Node i) → (n : Node) → known_node k i ≡ Some n → is_file n.body ≡ true → is_directory n.body ≡ false → (dir : ℕ) (name : List ℕ) → IsNameOrNone name
       → Allowed Can false (open_file k flags i n dir name)
   file-opened flags i seen n known file no_directory dir name named =
@@ -129,16 +138,19 @@ module _ {M : Type 0} (number : M → ℕ) (table : List Row) (mounts : Mounts M
       by None e = refuses EMFILE
       by (Some fd) e =
           ended (
-            lives,
-            record {
-              free = (free-lowest pid s lives 0 fd e).0;
-              mount = seen.mount;
-              taken = seen.taken;
-              placed = refl;
-              opens = opens-in number table s.tree seen.mount File (host.Node i) dir name flags seen.stands (test-known pid s is_directory i n known ∙ no_directory) is (λ no_dir. absurd cc) (λ no_file _. absurd cc) named;
-            },
-            subst (λ (o : Option M). CanAllBeMade number table mounts pid (option_map_or (λ (m : M). open_in pid fd (has flags o_cloexec) (opens_as File (host.Node i) dir name flags) m s) o s) (cut_after flags i)) (sym seen.taken)
-                (cut-behind seen.mount fd flags i dir name is),
+            (
+              lives,
+              record {
+                free = (free-lowest pid s lives 0 fd e).0;
+                mount = seen.mount;
+                taken = seen.taken;
+                placed = refl;
+                opens = opens-in number table s.tree seen.mount File (host.Node i) dir name flags seen.stands (test-known pid s is_directory i n known ∙ no_directory) is (λ no_dir. absurd cc) (λ no_file _. absurd cc) named;
+              },
+              subst (λ (o : Option M). CanAllBeMade number table mounts pid (option_map_or (λ (m : M). open_in pid fd (has flags o_cloexec) (opens_as File (host.Node i) dir name flags) m s) o s) (cut_after flags i)) (sym seen.taken)
+                  (cut-behind seen.mount fd flags i dir name is),
+            ),
+            quietly (quiet-cut fd (has flags o_cloexec) (opens_as File (host.Node i) dir name flags) i (truncates flags)),
           )
 
   remembered : (looked : Looked) → IsLookedIn number table mounts s.tree looked → IsNameOrNone (option_map_or (λ (e : ℕ × List ℕ). e.1) looked.entry [])
@@ -190,19 +202,22 @@ module _ {M : Type 0} (number : M → ℕ) (table : List Row) (mounts : Mounts M
           let unused = (free-lowest pid s lives 0 fd e).0 in
           either (has_no_room 0 k) (λ _. refuses ENOSPC)
           (λ room. ended (
-            lives,
-            record { named = named; small = small-mode number table mounts pid s l lives mode; new = refl; bytes = tt; room = room },
             (
               lives,
-              record {
-                free = record { small = unused.small; free = unused.free };
-                mount = seen.mount;
-                taken = seen.taken;
-                placed = refl;
-                opens = new-opens dir seen d name mode flags ((name_decides name).0 named.well_formed);
-              },
-              tt,
+              record { named = named; small = small-mode number table mounts pid s l lives mode; new = refl; bytes = tt; room = room },
+              (
+                lives,
+                record {
+                  free = record { small = unused.small; free = unused.free };
+                  mount = seen.mount;
+                  taken = seen.taken;
+                  placed = refl;
+                  opens = new-opens dir seen d name mode flags ((name_decides name).0 named.well_formed);
+                },
+                tt,
+              ),
             ),
+            record { users = ((refl, refl, tt), (tt, tt)); drawn = draws-once _ refl },
           ))
 
   pub openat : (o : Opening) → IsOpeningIn number table mounts s.tree o → (flags mode : ℕ) → Allowed Can false (openat_row k o flags mode)

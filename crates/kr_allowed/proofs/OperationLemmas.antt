@@ -179,7 +179,7 @@ module _ (M : Type 0) (number : M → ℕ) (table : List Row) (mounts : Mounts M
   each (call.Openat dirfd path flags mode) seen given = opened-allowed seen (λ k o. openat_row k o flags mode) (λ o s p lawful lives holds rests. opening-is-allowed M number table mounts pid o flags mode s p lawful lives holds rests.1)
   each (call.Mkdirat dirfd path mode) seen given = made-allowed seen (λ k m. mkdirat_row k m mode) (λ m s p lawful lives holds rests. names.mkdirat m mode s p lawful lives holds rests.1)
   each (call.Unlinkat dirfd path flags) seen given = taken-allowed seen (λ k t. unlinkat_row k t flags) (λ t s p lawful lives holds rests. names.unlinkat t flags s p lawful lives holds rests.1)
-  each (call.Symlinkat text dirfd path) seen given = made-allowed seen (λ k m. symlinkat_row k m text) (λ m s p lawful lives holds rests. names.symlinkat m text given s p lawful lives holds rests.1)
+  each (call.Symlinkat text dirfd path) seen given = made-allowed seen (λ k m. symlinkat_row k m text) (λ m s p lawful lives holds rests. names.symlinkat m text given.0 given.1 s p lawful lives holds rests.1)
   each (call.Linkat olddir old newdir new flags) seen given = linked-allowed seen
   each (call.Renameat2 olddir old newdir new) seen given = moved-allowed seen
   each (call.Faccessat dirfd path mode) seen given = looked-up-allowed seen (λ k l. faccessat_row k l mode) (λ l s p lawful lives holds rests. attributes.faccessat l mode s p lawful lives holds tt)

@@ -22,20 +22,21 @@ use Rattle.kr_lawful.specs.Laws.{CanAllBeMade}
 use Rattle.kr_lawful.proofs.AfterLemmas.{some-of}
 use Rattle.kr_allowed.specs.Laws.{ProcessRowsAreAllowed, IdentityRowsAreAllowed}
 use Rattle.kr_allowed.proofs.KnownLemmas.{not-less, not-most, caller-is}
-use Rattle.kr_allowed.proofs.RowLemmas.{Allowed, unchanged, refuses, ended, tested, wrote, either, row-allowed}
+use Rattle.kr_lasting.specs.Lasting.{AreModest}
+use Rattle.kr_allowed.proofs.RowLemmas.{quietly, Allowed, unchanged, refuses, ended, tested, wrote, either, row-allowed}
 
 module _ {M : Type 0} (number : M → ℕ) (table : List Row) (mounts : Mounts M) (pid : ℕ) (s : State M Image) (lives : IsSome (process pid s)) where
   abbrev k : Known
   k = known image_layout pid s
 
   abbrev Can : List Change → Type 0
-  Can = CanAllBeMade number table mounts pid s
+  Can cs = CanAllBeMade number table mounts pid s cs × AreModest s.user cs
 
   umask : (m : ℕ) → Allowed Can false (umask_row k m)
-  umask m = ended (lives, omega arith, tt)
+  umask m = ended ((lives, omega arith, tt), quietly refl)
 
   exit : (code : ℤ) → Allowed Can false (exit_row code)
-  exit code = ended (lives, lives, tt)
+  exit code = ended ((lives, lives, tt), quietly refl)
 
   -- ---- children
 
@@ -58,7 +59,7 @@ module _ {M : Type 0} (number : M → ℕ) (table : List Row) (mounts : Mounts M
       (λ room. told (not-most most_processes (length k.living + length k.ended) few) (not-less all_pages (k.pages + map.len k.caller.layout) room))))
     where
       told : length k.living + length k.ended < most_processes → k.pages + map.len k.caller.layout ≤ all_pages → Allowed Can false (told_born k flags sp ctid)
-      told few room = either (has flags set_tid) (λ _. tested (λ b. ended (lives, can-fork few room sp _, tt))) (λ _. ended (lives, can-fork few room sp None, tt))
+      told few room = either (has flags set_tid) (λ _. tested (λ b. ended ((lives, can-fork few room sp _, tt), quietly refl))) (λ _. ended ((lives, can-fork few room sp None, tt), quietly refl))
 
   null-tested : (at n : ℕ) {next : Bool → Replying} → ((b : Bool) → Allowed Can false (next b)) → Allowed Can false (null_or_writable at n next)
   null-tested at n allowed = either (at == 0) (λ _. allowed true) (λ _. tested allowed)
@@ -67,7 +68,7 @@ module _ {M : Type 0} (number : M → ℕ) (table : List Row) (mounts : Mounts M
   null-written {w} at bytes allowed = either (at == 0) (λ _. allowed w) (λ _. wrote (allowed true))
 
   usage-told : {w : Bool} (usage : ℕ) (e : Ended) → Allowed Can w (unless_null usage (replicate usage_size 0) (done e.pid (Reap e.pid ∷ [])))
-  usage-told usage e = null-written usage (replicate usage_size 0) (λ w. ended (lives, tt, tt))
+  usage-told usage e = null-written usage (replicate usage_size 0) (λ w. ended ((lives, tt, tt), quietly refl))
 
   end-told : (status usage : ℕ) (e : Ended) → Allowed Can false (tell_end status usage e)
   end-told status usage e = null-written status (to_le_bytes w32 e.status) (λ w. usage-told usage e)

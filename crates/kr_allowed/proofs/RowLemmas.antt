@@ -1,10 +1,11 @@
 -- How a row is gone through: its reads and writes keep what a lawful state says of the caller's memory, and its changes can
 -- be made where those of each of its ends can.
 use Rattle.std.specs.FinMap as map
-use Rattle.std.proofs.Common.{◌≡◌, subst, ℕ, zero, suc, ◌+◌, ◌<◌, Bool, true, false, List, [], ◌∷◌, length, refl, sym, ap, ◌∙◌, arith, cond, Some, None, Option, IsSome}
-use Rattle.std.specs.Prelude.{map as map_list, ◌==◌}
-use Rattle.std.specs.List.{find}
+use Rattle.std.proofs.Common.{◌≡◌, subst, ℕ, zero, suc, ◌+◌, ◌≤◌, ◌<◌, Bool, true, false, ◌&&◌, List, [], ◌∷◌, length, refl, sym, ap, ◌∙◌, arith, cond, Some, None, Option, IsSome}
+use Rattle.std.specs.Prelude.{map as map_list, ◌==◌, nat_le}
+use Rattle.std.specs.List.{AllByRecursion, find, list_all}
 use Rattle.std.specs.Option.{option_map}
+use Rattle.std.proofs.lemmas.Bool.Decides.{nat_tests}
 use Rattle.pr_base.specs.declared.errno.Errno.{Errno}
 use Rattle.rv_mem.specs.Actions.{Action, Done, MayUse, ReadBytes, WriteBytes, carried_out, allows_uses}
 use Rattle.rv_mem.specs.declared.rights.Use.{Use}
@@ -13,13 +14,15 @@ use Rattle.rv_mem.specs.Memory.{Memory, with_pages, after_read}
 use Rattle.rv_mem.specs.Pages.{Pages, bytes_from, written, IsWhole, IsPlaced}
 use Rattle.rv_mem.proofs.LayoutLemmas.{layouts_follow}
 use Rattle.rv_mem.proofs.SpaceLemmas.{IsWhole-written, IsPlaced-written}
+use Rattle.kr_inode.specs.declared.user.User.{User}
 use Rattle.kr_tree.specs.Lawful.{AreBytes}
 use Rattle.kr_tree.specs.Tree.{Tree}
 use Rattle.kr_tree.proofs.NameLemmas.{some_is}
 use Rattle.kr_view.specs.View.{Row}
-use Rattle.kr_model.specs.Applied.{Mounts, with_image}
+use Rattle.rv_mem.specs.declared.regs.Regs.{Regs}
+use Rattle.kr_model.specs.Applied.{Mounts, with_image, with_living}
 use Rattle.kr_model.specs.Bare.{bare, bare_process}
-use Rattle.kr_model.specs.Change.{Change}
+use Rattle.kr_model.specs.Change.{Change, AddNode}
 use Rattle.kr_model.specs.Known.{Known, known}
 use Rattle.kr_model.specs.Lawful.{IsLawful, RiseFrom}
 use Rattle.kr_model.specs.Reply.{Reply, Replying, refuse}
@@ -27,6 +30,8 @@ use Rattle.kr_model.specs.declared.outcome.Outcome.{Outcome}
 use Rattle.kr_model.specs.State.{Image, image_layout, Process, State, is_pid, process, with_process}
 use Rattle.kr_model.proofs.KnownLemmas.{known-bare}
 use Rattle.kr_lawful.specs.Laws.{CanAllBeMade}
+use Rattle.kr_lasting.specs.Drawing.{DrawsOnce, drawn_by, names_drawn, files_drawn, pids_drawn}
+use Rattle.kr_lasting.specs.Lasting.{AreModest, IsOfUser}
 use Rattle.kr_lawful.proofs.AfterLemmas.{is-some, parts-of}
 use Rattle.kr_lawful.proofs.ChangeLemmas.{all-changes-keep}
 use Rattle.kr_lawful.proofs.OwnChangeLemmas.{process-keeps}
@@ -88,6 +93,43 @@ reached none w action (wrote {at = at} {bytes = bytes} {next = next} allowed) m 
 reached none w action (either true {x = x} first second) m holds = reached none w x (first refl) m holds
 reached none w action (either false {y = y} first second) m holds = reached none w y (second refl) m holds
 
+-- ---- changes that make nothing
+
+abbrev is_quiet : Change → Bool
+is_quiet (AddNode dir name mode uid gid body) = false
+is_quiet _ = true
+
+-- whether changes draw no number twice, by the three counts
+abbrev draws_once : List Change → Bool
+draws_once cs = nat_le (drawn_by names_drawn cs) 1 && (nat_le (drawn_by files_drawn cs) 1 && nat_le (drawn_by pids_drawn cs) 1)
+
+abbrev pub are_quiet : List Change → Bool
+are_quiet cs = list_all is_quiet cs && draws_once cs
+
+both-true : (a b : Bool) → (a && b) ≡ true → (a ≡ true) × (b ≡ true)
+both-true true b e = (refl, e)
+both-true false b e = absurd cc
+
+quiet-users : (user : User) (cs : List Change) → list_all is_quiet cs ≡ true → AllByRecursion (IsOfUser user) cs
+quiet-users user [] e = tt
+quiet-users user (c ∷ cs) e = let both = both-true (is_quiet c) (list_all is_quiet cs) e in (by c both.0, quiet-users user cs both.1)
+  where
+    by : (c : Change) → is_quiet c ≡ true → IsOfUser user c
+    by (AddNode dir name mode uid gid body) e = absurd cc
+    by _ e = tt
+
+pub draws-once : (cs : List Change) → draws_once cs ≡ true → DrawsOnce cs
+draws-once cs e =
+    let names = both-true (nat_le (drawn_by names_drawn cs) 1) (nat_le (drawn_by files_drawn cs) 1 && nat_le (drawn_by pids_drawn cs) 1) e in
+    let others = both-true (nat_le (drawn_by files_drawn cs) 1) (nat_le (drawn_by pids_drawn cs) 1) names.1 in
+    record { names = few (drawn_by names_drawn cs) names.0; files = few (drawn_by files_drawn cs) others.0; pids = few (drawn_by pids_drawn cs) others.1 }
+  where
+    few : (n : ℕ) → nat_le n 1 ≡ true → n ≤ 1
+    few n e = grind (arith, nat_tests)
+
+pub quietly : {user : User} {cs : List Change} → are_quiet cs ≡ true → AreModest user cs
+quietly {user} {cs} e = let both = both-true (list_all is_quiet cs) (draws_once cs) e in record { users = quiet-users user cs both.0; drawn = draws-once cs both.1 }
+
 -- ---- states with another memory of the caller
 
 module _ {M : Type 0} (pid : ℕ) (memory : Memory) where
@@ -125,9 +167,6 @@ module _ {M : Type 0} (pid : ℕ) (memory : Memory) where
 
 module _ {M : Type 0} (number : M → ℕ) (table : List Row) where
   module _ (s : State M Image) (l : IsLawful number table s) (pid : ℕ) (p : Process M Image) (lives : process pid s ≡ Some p) (memory : Memory) (like : StaysLike p.image.memory.pages memory.pages) where
-    abbrev changed : Process M Image → Process M Image
-    changed = changed-memory pid memory
-
     -- what is known of it is the same
     known-same : known image_layout pid (with_memory pid memory s) ≡ known image_layout pid s
     known-same =
@@ -146,23 +185,28 @@ module _ {M : Type 0} (number : M → ℕ) (table : List Row) where
         let one : p ≡ q = some_is p q (sym lives ∙ e) in
         sym (layouts_follow.count memory.pages) ∙ ap (λ (m : Layout). map.len m) like.layout ∙ layouts_follow.count p.image.memory.pages ∙ ap (λ (q : Process M Image). map.len q.image.memory.pages) one
 
-    pub lawful-memory : IsLawful number table (with_memory pid memory s)
-    lawful-memory =
-        process-keeps number table s l pid changed (record { pids = λ p. refl; cwds = λ p. refl; exes = λ p. refl; counts = λ p n. refl })
+    -- whatever its registers are then
+    pub lawful-image : (regs : Regs → Regs) → IsLawful number table (with_living (with_process pid (with_image (λ (image : Image). record { regs = regs image.regs; memory = memory }))) s)
+    lawful-image regs =
+        let f : Process M Image → Process M Image = λ p. with_image (λ (image : Image). record { regs = regs image.regs; memory = memory }) p in
+        process-keeps number table s l pid f (record { pids = λ p. refl; cwds = λ p. refl; exes = λ p. refl; counts = λ p n. refl })
         (λ q e.
         let own = l.processes pid q e in
         let few = pages-few q e in
         let before = own.pages in
         record { cwd = own.cwd; exe = own.exe; exe_name = own.exe_name; breaks = own.breaks; whole = like.whole; paged = like.placed; pages = omega arith })
         (λ q e. let own = (parts-of number table s l).descriptors pid q e in record { each = own.each })
-        (let sums = sum-with pid changed (λ p. refl) (λ (q : Process M Image). map.len (image_layout q.image)) s.next_pid 2 s.living p l.pids.living lives in
+        (let sums = sum-with pid f (λ p. refl) (λ (q : Process M Image). map.len (image_layout q.image)) s.next_pid 2 s.living p l.pids.living lives in
         let same = ap (λ (m : Layout). map.len m) like.layout in
         let room = l.room in
         omega arith)
 
+    pub lawful-memory : IsLawful number table (with_memory pid memory s)
+    lawful-memory = lawful-image (λ regs. regs)
+
   -- a row is allowed, where in each state the changes at each of its ends can all be made
   pub row-allowed : (mounts : Mounts M) (pid : ℕ) (Rests : Tree → ℕ → Type 0) (row : Known → Replying)
-      → ((s : State M Image) → IsLawful number table s → IsSome (process pid s) → Rests s.tree s.next_pid → Allowed (CanAllBeMade number table mounts pid s) false (row (known image_layout pid s)))
+      → ((s : State M Image) → IsLawful number table s → IsSome (process pid s) → Rests s.tree s.next_pid → Allowed (λ cs. CanAllBeMade number table mounts pid s cs × AreModest s.user cs) false (row (known image_layout pid s)))
       → IsAllowedWhere number table mounts pid Rests row
   row-allowed mounts pid Rests row allowed s p l lives holds rests =
       let own = l.processes pid p lives in
@@ -171,9 +215,9 @@ module _ {M : Type 0} (number : M → ℕ) (table : List Row) where
       let t : State M Image = with_memory pid done.memory s in
       let lawful : IsLawful number table t = lawful-memory s l pid p lives done.memory like in
       let there : IsSome (process pid t) = subst (λ o. IsSome o) (sym (found pid (changed-memory pid done.memory) (λ p. refl) pid s.living)) (some-changed _ (process pid s) (is-some (process pid s) p lives)) in
-      let made = subst (λ k. Allowed (CanAllBeMade number table mounts pid t) false (row k)) (known-same s l pid p lives done.memory like) (allowed t lawful there rests) in
-      let can : CanAllBeMade number table mounts pid t done.reply.changes = reached tt false (row (known image_layout pid s)) made p.image.memory (λ first. holds) in
-      record { before = lawful; made = can; lawful = all-changes-keep M number table mounts pid done.reply.changes t lawful can }
+      let made = subst (λ k. Allowed (λ cs. CanAllBeMade number table mounts pid t cs × AreModest t.user cs) false (row k)) (known-same s l pid p lives done.memory like) (allowed t lawful there rests) in
+      let can : CanAllBeMade number table mounts pid t done.reply.changes × AreModest t.user done.reply.changes = reached (tt, quietly refl) false (row (known image_layout pid s)) made p.image.memory (λ first. holds) in
+      record { before = lawful; made = can.0; modest = can.1; lawful = all-changes-keep M number table mounts pid done.reply.changes t lawful can.0 }
     where
       some-changed : {A B : Type 0} (f : A → B) (o : Option A) → IsSome o → IsSome (option_map f o)
       some-changed f None there = absurd cc

@@ -3,7 +3,7 @@
 use Rattle.std.specs.Prelude.{ℕ, ◌≡◌, ◌<◌, List, Some}
 use Rattle.rv_mem.specs.Actions.{CarriedOut, carried_out}
 use Rattle.rv_mem.specs.Memory.{Memory}
-use Rattle.rv_mem.specs.Pages.{Pages, byte_at}
+pub use Rattle.rv_mem.specs.Pages.{HoldsBytes}
 use Rattle.kr_tree.specs.Tree.{Tree}
 use Rattle.kr_view.specs.View.{Row}
 use Rattle.kr_model.specs.Applied.{Mounts, all_applied, images, with_image, with_living}
@@ -12,20 +12,19 @@ use Rattle.kr_model.specs.Lawful.{IsLawful}
 use Rattle.kr_model.specs.Reply.{Reply, Replying}
 use Rattle.kr_model.specs.State.{Image, image_layout, Process, State, process, with_process}
 use Rattle.kr_lawful.specs.Laws.{CanAllBeMade}
+use Rattle.kr_lasting.specs.Lasting.{AreModest}
 
 -- the state with the caller's memory as a row left it
 abbrev pub with_memory : {M : Type 0} → ℕ → Memory → State M Image → State M Image
 with_memory pid memory s = with_living (with_process pid (with_image (λ image. record { regs = image.regs; memory = memory }))) s
-
--- what stands in a memory are bytes
-abbrev pub HoldsBytes : Pages → Type 0
-HoldsBytes m = (a : ℕ) → byte_at m a < 256
 
 -- what is left of a state by a reply and the memory behind it
 pub record LeavesLawful {M : Type 0} (number : M → ℕ) (table : List Row) (mounts : Mounts M) (pid : ℕ) (s : State M Image) (done : CarriedOut Reply) : Type 0 where
   -- the reads and writes alone leave a lawful state, in which the changes can all be made
   pub before : IsLawful number table (with_memory pid done.memory s)
   pub made : CanAllBeMade number table mounts pid (with_memory pid done.memory s) done.reply.changes
+  -- they make what belongs to the user, and draw no number twice
+  pub modest : AreModest s.user done.reply.changes
   pub lawful : IsLawful number table (all_applied images mounts pid done.reply.changes (with_memory pid done.memory s))
 
 -- a row of a caller over a view's mounts, by what it rests on of the tree and of the next process's number beside that

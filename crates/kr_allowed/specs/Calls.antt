@@ -1,9 +1,10 @@
 -- Every call is allowed, of what it is told of its paths and of arguments that decoding gives.
-use Rattle.std.specs.Prelude.{ℕ, ◌≡◌, ◌≢◌, ◌<◌, ◌^◌, List, Ok}
+use Rattle.std.specs.Prelude.{ℕ, ◌≡◌, ◌≢◌, ◌<◌, ◌^◌, List, Ok, Some}
 use Rattle.rv_mem.specs.Actions.{carried_out}
 use Rattle.rv_mem.specs.Memory.{Memory}
 use Rattle.rv_mem.specs.declared.regs.Regs.{Regs}
 use Rattle.kr_calls.specs.Decoding.{decoding}
+use Rattle.kr_calls.specs.PathTable.{PathUse, path_at}
 use Rattle.kr_calls.specs.declared.request.Request.{Request}
 use Rattle.kr_calls.specs.declared.request.Request.TheVariants as call
 use Rattle.kr_tree.specs.Lawful.{AreBytes}
@@ -12,15 +13,16 @@ use Rattle.kr_view.specs.View.{Row}
 use Rattle.kr_model.specs.Applied.{Mounts}
 use Rattle.kr_model.specs.Operation.{operation}
 use Rattle.kr_model.specs.Seen.{Seen, NoPath, WalkFails, LooksUp, ReadsLink, Opens, TakesEntry, MakesEntry, Links, Moves, NamesDirectory}
+use Rattle.kr_lasting.specs.Texts.{IsText}
 use Rattle.kr_allowed.specs.Allowed.{HoldsBytes, IsAllowedWhere}
 use Rattle.kr_allowed.specs.Resting.{HasSmallNumbers, IsLookedIn, IsTakenIn, IsMadeIn, IsOpeningIn}
 
--- what decoding gives of arguments: two descriptors of dup3(2) that aren't one, owners of 32 bits, and texts of bytes
+-- what decoding gives of arguments: two descriptors of dup3(2) that aren't one, owners of 32 bits, and texts of links
 abbrev pub IsGivable : Request → Type 0
 IsGivable (call.Dup3 old new flags) = old ≢ new
 IsGivable (call.Fchown fd uid gid) = (uid < 2 ^ 32) × (gid < 2 ^ 32)
 IsGivable (call.Fchownat dirfd path uid gid flags) = (uid < 2 ^ 32) × (gid < 2 ^ 32)
-IsGivable (call.Symlinkat text dirfd path) = AreBytes text
+IsGivable (call.Symlinkat text dirfd path) = AreBytes text × IsText text
 IsGivable _ = Unit {0}
 
 module _ {M : Type 0} (number : M → ℕ) (table : List Row) (mounts : Mounts M) where
@@ -46,6 +48,10 @@ OperationIsAllowed M =
     (number : M → ℕ) (table : List Row) (mounts : Mounts M) (pid : ℕ) (r : Request) (seen : Seen) → IsGivable r
     → IsAllowedWhere number table mounts pid (RestsOn number table mounts seen) (λ k. operation pid r seen k)
 
+-- and the paths that it gives are texts, of bytes
+abbrev pub HasTextPaths : Request → Type 0
+HasTextPaths r = (k : ℕ) (u : PathUse) → path_at r k ≡ Some u → IsText u.text × AreBytes u.text
+
 -- so decoding gives, of a memory that holds bytes
 abbrev pub DecodedAreGivable : Type 0
-DecodedAreGivable = (regs : Regs) (memory : Memory) (r : Request) → HoldsBytes memory.pages → (carried_out (decoding regs) memory).reply ≡ Ok r → IsGivable r
+DecodedAreGivable = (regs : Regs) (memory : Memory) (r : Request) → HoldsBytes memory.pages → (carried_out (decoding regs) memory).reply ≡ Ok r → IsGivable r × HasTextPaths r

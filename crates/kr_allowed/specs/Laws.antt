@@ -13,6 +13,7 @@ use Rattle.kr_model.specs.MemoryRows.{brk_row, mmap_row, munmap_row, mprotect_ro
 use Rattle.kr_model.specs.NameRows.{mkdirat_row, unlinkat_row, symlinkat_row, linkat_row, renameat2_row}
 use Rattle.kr_model.specs.ProcessRows.{pid_row, getppid_row, signals_row, umask_row, uname_row, exit_row, clone_row, wait4_row}
 use Rattle.kr_model.specs.Seen.{Looked, Made, Opening, Taken}
+use Rattle.kr_lasting.specs.Texts.{IsText}
 use Rattle.kr_allowed.specs.Allowed.{IsAllowed, IsAllowedWhere}
 use Rattle.kr_allowed.specs.Resting.{HasSmallNumbers, IsLookedIn, IsMadeIn, IsOpeningIn, IsTakenIn}
 
@@ -109,7 +110,7 @@ DirectoryRowsAreAllowed M = (number : M → ℕ) (table : List Row) (mounts : Mo
 pub record AreNameRowsAllowed {M : Type 0} (number : M → ℕ) (table : List Row) (mounts : Mounts M) (pid : ℕ) : Type 0 where
   pub mkdirat : (made : Made) (mode : ℕ) → IsAllowedWhere number table mounts pid (λ t next. IsMadeIn number table mounts t made) (λ k. mkdirat_row k made mode)
   pub unlinkat : (taken : Taken) (flags : ℕ) → IsAllowedWhere number table mounts pid (λ t next. IsTakenIn number table mounts t taken) (λ k. unlinkat_row k taken flags)
-  pub symlinkat : (made : Made) (text : List ℕ) → AreBytes text → IsAllowedWhere number table mounts pid (λ t next. IsMadeIn number table mounts t made) (λ k. symlinkat_row k made text)
+  pub symlinkat : (made : Made) (text : List ℕ) → AreBytes text → IsText text → IsAllowedWhere number table mounts pid (λ t next. IsMadeIn number table mounts t made) (λ k. symlinkat_row k made text)
   pub linkat : (old : Looked) (made : Made) (same_mount : Bool)
       → IsAllowedWhere number table mounts pid (λ t next. IsLookedIn number table mounts t old × IsMadeIn number table mounts t made) (λ k. linkat_row k old made same_mount)
   pub renameat2 : (old new : Taken) (same_mount : Bool)

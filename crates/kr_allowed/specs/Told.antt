@@ -10,7 +10,7 @@ use Rattle.kr_calls.specs.declared.request.Request.TheVariants as call
 use Rattle.kr_tree.specs.Tree.{Tree, entry, body_is, takes_names}
 use Rattle.kr_tree.specs.declared.place.Host.TheVariants.{Node}
 use Rattle.kr_tree.specs.declared.place.Place.{Place}
-use Rattle.kr_view.specs.View.{Row, covered, source}
+use Rattle.kr_view.specs.View.{Row, covered, source, IsAsSettled}
 use Rattle.kr_tree.specs.Lawful.{AreBytes}
 use Rattle.kr_tree.specs.Names.{is_name}
 use Rattle.kr_view.specs.Component.{Surroundings, is_directory_at}
@@ -59,6 +59,10 @@ pub record AreTargetsIn (t : Tree) (table : List Row) (r : Request) (targets : T
 -- the sources of mounts that are files were settled at well-formed names, or at none
 abbrev pub SourcesAreNamed : List Row → Type 0
 SourcesAreNamed table = (mount : ℕ) (e : ℕ × List ℕ) → source table mount ≡ Some e → IsNameOrNone e.1
+
+-- so they are in a table as it was settled
+abbrev pub SettledAreNamed : Type 0
+SettledAreNamed = (t : Tree) (table : List Row) → IsAsSettled t table → SourcesAreNamed table
 
 -- what is told of such targets is so, in the mounts that the changes may name
 abbrev pub TargetsAreTold : Type 0

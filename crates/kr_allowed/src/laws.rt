@@ -1,7 +1,7 @@
 //! Laws of rows that are allowed, each carried by a function that does nothing.
 ghost use Rattle.kr_allowed.specs.Calls.{DecodedAreGivable, OperationIsAllowed};
 ghost use Rattle.kr_allowed.specs.Laws.{AttributeRowsAreAllowed, DescriptorRowsAreAllowed, DirectoryRowsAreAllowed, FileRowsAreAllowed, IdentityRowsAreAllowed, MemoryRowsAreAllowed, NameRowsAreAllowed, OpeningIsAllowed, ProcessRowsAreAllowed};
-ghost use Rattle.kr_allowed.specs.Told.{CallsLeaveLawful, CallsWalkToTargets, TargetsAreTold, WalkedCallsLeaveLawful, WalksGiveTargets};
+ghost use Rattle.kr_allowed.specs.Told.{CallsLeaveLawful, CallsWalkToTargets, SettledAreNamed, TargetsAreTold, WalkedCallsLeaveLawful, WalksGiveTargets};
 
 /// Calls on descriptors leave a lawful state.
 pub fn descriptor_rows_are_allowed<T>()
@@ -66,6 +66,11 @@ pub fn walks_give_targets()
 /// So do all walks of a call over a lawful state, whose process links lead to places of the view.
 pub fn calls_walk_to_targets()
     ensures { CallsWalkToTargets }
+{}
+
+/// The sources of a table as it was settled have good names.
+pub fn settled_sources_are_named()
+    ensures { SettledAreNamed }
 {}
 
 /// What a call is told of such targets is so.

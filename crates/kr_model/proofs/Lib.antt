@@ -19,3 +19,4 @@ pub mod SlotLemmas
 pub mod OperationRows
 pub mod NameLemmas
 pub mod ProcessLemmas
+pub mod ToldLemmas

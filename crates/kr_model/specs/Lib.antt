@@ -20,6 +20,8 @@ pub mod IdentityRows
 pub mod Operation
 pub mod Uses
 pub mod ProcessDirectory
+pub mod HostView
+pub mod Peeks
 pub mod Walks
 pub mod Lawful
 pub mod Conditions

@@ -47,19 +47,20 @@ unplaced_text (PipeWrite p) = Some (pipe_text p)
 abbrev pub open_text : Namespace → Opened ℕ → Option (List ℕ)
 open_text space o = option_map_or (λ p. name_text space p o.dir o.name) o.place (unplaced_text o.what)
 
-module _ {X : Type 0} where
+module _ {M X : Type 0} where
   -- each living process shows a directory, and in its `fd` its open descriptors
-  abbrev pub living_of : State ℕ X → List Living
+  abbrev pub living_of : State M X → List Living
   living_of s = map_list (λ p. record { pid = p.pid; fds = map_list (λ e. e.0) (map.entries p.descs) }) s.living
 
-  abbrev pub space_of : List Row → State ℕ X → Namespace
+  abbrev pub space_of : List Row → State M X → Namespace
   space_of table s = record { table = table; tree = s.tree; user = s.user; finds = finds_among (living_of s) }
 
-  -- ---- where its links lead
-
   -- what a link of a living process leads to; there is none of another
-  abbrev pub of_living : ℕ → State ℕ X → (Process ℕ X → Lead ℕ) → Lead ℕ
+  abbrev pub of_living : ℕ → State M X → (Process M X → Lead ℕ) → Lead ℕ
   of_living pid s lead = option_map_or lead (process pid s) NoLink
+
+module _ {X : Type 0} where
+  -- ---- where its links lead
 
   -- `self` leads by its text, the caller's number; directories are no links
   abbrev pub leads_of : List Row → State ℕ X → ℕ → ProcAt → Lead ℕ

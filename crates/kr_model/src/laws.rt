@@ -2,6 +2,7 @@
 ghost use Rattle.kr_model.specs.Images.{ProcessesStayAlike};
 ghost use Rattle.kr_model.specs.Judged.{ChangesAreJudged, NamesStay};
 ghost use Rattle.kr_model.specs.Laws.{AllChangesAreBare, CallsAlike, ChangesAreBare, KnownIsBare, NoWalkAnswersEnosys, PagesStayAlike, RefusalsChangeNothing};
+ghost use Rattle.kr_model.specs.Peeks.{ToldNamesAreTexts};
 
 /// What calls ask of a state is asked of its bare part alone.
 pub fn known_is_bare<T>()
@@ -54,4 +55,9 @@ pub fn names_stay<T, X>()
 /// are alike by a relation which a child inherits.
 pub fn processes_stay_alike<T, U>()
     ensures { ProcessesStayAlike T U }
+{}
+
+/// Names that a tracer is told of a state are the bytes of texts.
+pub fn told_names_are_texts<T, X>()
+    ensures { ToldNamesAreTexts T X }
 {}

@@ -1,4 +1,4 @@
--- What is proved of the ways of locations in code. No public clause but that of settling cites this module.
+-- What is proved of the ways of locations in code. Of this module the public clauses cite what settling leaves, and `HasNumbers`, which it asks of a tree.
 use Rattle.std.specs.Prelude.{◌≡◌, ◌≤◌, ◌+◌, ◌*◌, ◌^◌, ℕ, Bool, true, false, List, [], ◌∷◌, Option, Some, None, Result, Ok, Err, if◌then◌else◌}
 use Rattle.kr_inode.specs.declared.user.User.{User}
 use Rattle.kr_tree.specs.Changes.{has_no_room, next_serial}

@@ -1,5 +1,5 @@
 -- What calls leave of lawful states.
-use Rattle.std.proofs.Common.{◌≡◌, ℕ, Option, sym, ap, subst, ◌∙◌}
+use Rattle.std.proofs.Common.{◌≡◌, ℕ, suc, Option, sym, ap, subst, ◌∙◌, arith}
 use Rattle.std.specs.Option.{option_map_or}
 use Rattle.rv_mem.specs.Actions.{carried_out}
 use Rattle.rv_mem.specs.Memory.{Memory}
@@ -9,19 +9,39 @@ use Rattle.kr_model.specs.Operation.{operation}
 use Rattle.kr_model.specs.Reply.{Replying}
 use Rattle.kr_model.specs.State as model
 use Rattle.kr_model.specs.Walks.{told}
+use Rattle.kr_lasting.specs.Lasting.{Lasts}
+use Rattle.kr_lasting.proofs.ChangeLemmas.{modest-last}
+use Rattle.kr_lasting.proofs.RoomLemmas.{lasting-room}
+use Rattle.kr_allowed.specs.Allowed.{with_memory}
+use Rattle.kr_allowed.specs.Resting.{HasSmallNumbers}
 use Rattle.kr_allowed.proofs.OperationLemmas.{operation-is-allowed}
 use Rattle.kr_answers.specs.Carrying.{after_row, memory_of, no_memory}
 use Rattle.kr_ops.specs.Meaning.{meaning}
 use Rattle.kr_procview.specs.Numbered.{state_numbered}
-use Rattle.kr_perform.specs.Lawful.{PerformedAreLawful}
+use Rattle.kr_perform.specs.Lawful.{LastsLawful, PerformedLast}
 use Rattle.kr_perform.specs.Operating.{mounts_at, placed_targets}
 
-pub performed-are-lawful : {T : Type 0} {M : ℕ} → PerformedAreLawful T M
-performed-are-lawful {T} {M} number table pid request first second old new result caller operates wanted lawful lives bytes givable rests =
+-- what lasts of a state rests on no memory
+with-memory : {T : Type 0} (calls pid : ℕ) (memory : Memory) (s : model.State T model.Image) → Lasts calls s → Lasts calls (with_memory pid memory s)
+with-memory calls pid memory s lasts = record {
+  texts = lasts.texts;
+  owners = lasts.owners;
+  user = lasts.user;
+  drawn = record { inodes = lasts.drawn.inodes; serials = lasts.drawn.serials; files = lasts.drawn.files; pipes = lasts.drawn.pipes; pids = lasts.drawn.pids };
+}
+
+pub performed-last : {T : Type 0} {M : ℕ} → PerformedLast T M
+performed-last {T} {M} number table calls pid request first second old new result caller operates wanted few before lives bytes givable is_told =
     let seen = told table pid (state_numbered number (meaning old)) request (placed_targets number first second) in
     let done = operates wanted in
-    let leaves = operation-is-allowed T number table (mounts_at first) pid request seen givable (meaning old) caller lawful lives bytes rests in
+    let room = lasting-room T model.Image calls (meaning old) few before.lawful.tree.sound before.lasts in
+    let pids = room.pids in
+    let small : HasSmallNumbers (meaning old).tree (meaning old).next_pid = record { owners = room.owners; serials = room.serials; pids = omega arith } in
+    let leaves = operation-is-allowed T number table (mounts_at first) pid request seen givable (meaning old) caller before.lawful lives bytes (small, is_told) in
     let row : Replying = operation pid request seen (known model.image_layout pid (meaning old)) in
+    let after = carried_out row caller.image.memory in
     let own : memory_of pid (meaning old) ≡ caller.image.memory = ap (λ (o : Option (model.Process T model.Image)). option_map_or (λ p. p.image.memory) o no_memory) lives in
-    let same : meaning new ≡ after_row (mounts_at first) pid (carried_out row caller.image.memory) (meaning old) = done.state ∙ ap (λ (m : Memory). after_row (mounts_at first) pid (carried_out row m) (meaning old)) own in
-    subst (IsLawful number table) (sym same) leaves.lawful
+    let same : meaning new ≡ after_row (mounts_at first) pid after (meaning old) = done.state ∙ ap (λ (m : Memory). after_row (mounts_at first) pid (carried_out row m) (meaning old)) own in
+    let lasts = modest-last T number table (mounts_at first) pid calls after.reply.changes (with_memory pid after.memory (meaning old)) leaves.before leaves.made leaves.modest
+    (with-memory calls pid after.memory (meaning old) before.lasts) in
+    subst (LastsLawful number table (suc calls)) (sym same) (record { lawful = leaves.lawful; lasts = lasts })

@@ -1,5 +1,6 @@
 -- What calls leave of lawful states.
-use Rattle.std.specs.Prelude.{◌≡◌, ◌≢◌, ℕ, List, Option, Some}
+use Rattle.std.specs.Prelude.{◌≡◌, ◌≢◌, ◌<◌, ◌^◌, ℕ, suc, List, Option, Some}
+use Rattle.kr_allowed.specs.Allowed.{HoldsBytes}
 use Rattle.kr_calls.specs.declared.request.Request.{Request}
 use Rattle.kr_view.specs.View.{Row}
 use Rattle.kr_view.specs.declared.target.Target.{Target}
@@ -8,19 +9,24 @@ use Rattle.kr_model.specs.State as model
 use Rattle.kr_model.specs.Walks.{told}
 use Rattle.kr_model.specs.declared.outcome.Outcome.{Outcome}
 use Rattle.kr_model.specs.declared.outcome.Outcome.TheVariants.{NoMemory}
-use Rattle.kr_allowed.specs.Allowed.{HoldsBytes}
-use Rattle.kr_allowed.specs.Calls.{IsGivable, RestsOn}
+use Rattle.kr_lasting.specs.Lasting.{Lasts}
+use Rattle.kr_allowed.specs.Calls.{IsGivable, IsToldIn}
 use Rattle.kr_ops.specs.declared.state.State.{State}
 use Rattle.kr_ops.specs.Meaning.{meaning}
 use Rattle.kr_procview.specs.Numbered.{state_numbered}
 use Rattle.kr_perform.specs.Operating.{OperatesAt, mounts_at, placed_targets}
 
--- a call that was carried out on a lawful state left one: of a caller whose memory holds bytes, a request that decoding can give,
--- and targets that are told as they are
-abbrev pub PerformedAreLawful : Type 0 → ℕ → Type 0
-PerformedAreLawful T M =
-    (number : T → ℕ) (table : List Row) (pid : ℕ) (request : Request) (first second : Option (Target T)) (old new : State T M) (result : Outcome) (caller : model.Process T model.Image)
-    → OperatesAt number table pid request first second old new result → result ≢ NoMemory → IsLawful number table (meaning old) → model.process pid (meaning old) ≡ Some caller
+-- a lawful state in which lasts what calls keep, after so many of them
+pub record LastsLawful {T : Type 0} (number : T → ℕ) (table : List Row) (calls : ℕ) (s : model.State T model.Image) : Type 0 where
+  pub lawful : IsLawful number table s
+  pub lasts : Lasts calls s
+
+-- a call that was carried out on such a state left one, a call later: of a caller whose memory holds bytes, a request that
+-- decoding can give, and targets that are told as they are
+abbrev pub PerformedLast : Type 0 → ℕ → Type 0
+PerformedLast T M =
+    (number : T → ℕ) (table : List Row) (calls pid : ℕ) (request : Request) (first second : Option (Target T)) (old new : State T M) (result : Outcome) (caller : model.Process T model.Image)
+    → OperatesAt number table pid request first second old new result → result ≢ NoMemory → calls < 2 ^ 31 → LastsLawful number table calls (meaning old) → model.process pid (meaning old) ≡ Some caller
     → HoldsBytes caller.image.memory.pages → IsGivable request
-    → RestsOn number table (mounts_at first) (told table pid (state_numbered number (meaning old)) request (placed_targets number first second)) (meaning old).tree (meaning old).next_pid
-    → IsLawful number table (meaning new)
+    → IsToldIn number table (mounts_at first) (meaning old).tree (told table pid (state_numbered number (meaning old)) request (placed_targets number first second))
+    → LastsLawful number table (suc calls) (meaning new)

@@ -22,8 +22,8 @@ use Rattle.kr_procfs.proofs.DecimalLemmas.{number_named-text, text-number_named}
 use Rattle.kr_files.specs.Descriptors.{Named}
 use Rattle.kr_files.proofs.KindLemmas.{same_bools, not_true}
 use Rattle.kr_model.specs.Lawful.{ArePids, RiseFrom}
+use Rattle.kr_model.specs.ProcessDirectory.{living_of}
 use Rattle.kr_model.specs.State.{Image, Process, State, process, named, is_pid}
-use Rattle.kr_procview.specs.Shown.{living_in}
 use Rattle.kr_procview.proofs.NumberedLemmas.{to_living}
 
 -- ---- names of numbers
@@ -94,17 +94,17 @@ module _ {T : Type 0} where
 
 module _ {T : Type 0} (s : State T Image) (name : List ℕ) where
   -- in the process directory
-  pub own-link : bytes_eq name (codes "self") ≡ true → finds_among (living_in s) None name ≡ Some SelfLink
-  own-link is = ap (λ b. if b then Some SelfLink else option_map (λ (l : Living). Dir l.pid) (first (λ (l : Living). names_number name l.pid) (living_in s))) is
+  pub own-link : bytes_eq name (codes "self") ≡ true → finds_among (living_of s) None name ≡ Some SelfLink
+  own-link is = ap (λ b. if b then Some SelfLink else option_map (λ (l : Living). Dir l.pid) (first (λ (l : Living). names_number name l.pid) (living_of s))) is
 
-  not-own : bytes_eq name (codes "self") ≡ false → finds_among (living_in s) None name ≡ option_map (λ (l : Living). Dir l.pid) (first (λ (l : Living). names_number name l.pid) (living_in s))
-  not-own no_link = ap (λ b. if b then Some SelfLink else option_map (λ (l : Living). Dir l.pid) (first (λ (l : Living). names_number name l.pid) (living_in s))) no_link
+  not-own : bytes_eq name (codes "self") ≡ false → finds_among (living_of s) None name ≡ option_map (λ (l : Living). Dir l.pid) (first (λ (l : Living). names_number name l.pid) (living_of s))
+  not-own no_link = ap (λ b. if b then Some SelfLink else option_map (λ (l : Living). Dir l.pid) (first (λ (l : Living). names_number name l.pid) (living_of s))) no_link
 
-  pub no-number : ArePids s → s.next_pid ≤ 2 ^ 32 → bytes_eq name (codes "self") ≡ false → number_named name ≡ None → finds_among (living_in s) None name ≡ None
+  pub no-number : ArePids s → s.next_pid ≤ 2 ^ 32 → bytes_eq name (codes "self") ≡ false → number_named name ≡ None → finds_among (living_of s) None name ≡ None
   no-number pids small no_link e = not-own no_link ∙ ap (option_map (λ (l : Living). Dir l.pid)) (no-process name 2 s.next_pid s.living e small pids.living)
 
   pub process-shown : ArePids s → s.next_pid ≤ 2 ^ 32 → bytes_eq name (codes "self") ≡ false → (n : ℕ) → number_named name ≡ Some n
-      → finds_among (living_in s) None name ≡ (if is_some (process n s) then Some (Dir n) else None)
+      → finds_among (living_of s) None name ≡ (if is_some (process n s) then Some (Dir n) else None)
   process-shown pids small no_link n e =
       not-own no_link
       ∙ ap (option_map (λ (l : Living). Dir l.pid)) (one-process name n 2 s.next_pid s.living e small pids.living)
@@ -115,7 +115,7 @@ module _ {T : Type 0} (s : State T Image) (name : List ℕ) where
       by (Some p) e = ap (λ pid. Some (Dir pid)) (found-pid n s.living p e)
 
   -- in the directory of a process
-  pub link-shown : (pid : ℕ) → finds_among (living_in s) (Some (Dir pid)) name ≡ (if is_some (process pid s) then in_directory pid name else None)
+  pub link-shown : (pid : ℕ) → finds_among (living_of s) (Some (Dir pid)) name ≡ (if is_some (process pid s) then in_directory pid name else None)
   link-shown pid = ap (option_and_then (λ (l : Living). in_directory pid name)) (living-process pid s.living) ∙ by (process pid s)
     where
       by : (o : Option (Process T Image)) → option_and_then (λ (l : Living). in_directory pid name) (option_map to_living o) ≡ (if is_some o then in_directory pid name else None)
@@ -123,7 +123,7 @@ module _ {T : Type 0} (s : State T Image) (name : List ℕ) where
       by (Some p) = refl
 
 -- a process is shown where it lives
-pub shown-lives : {T : Type 0} (s : State T Image) (pid : ℕ) → is_there (finds_among (living_in s) (Some (Dir pid)) (codes "cwd")) ≡ is_some (process pid s)
+pub shown-lives : {T : Type 0} (s : State T Image) (pid : ℕ) → is_there (finds_among (living_of s) (Some (Dir pid)) (codes "cwd")) ≡ is_some (process pid s)
 shown-lives s pid = ap is_there (link-shown s (codes "cwd") pid) ∙ by (is_some (process pid s))
   where
     by : (b : Bool) → is_there (if b then in_directory pid (codes "cwd") else None) ≡ b
@@ -195,14 +195,14 @@ module _ {T : Type 0} (s : State T Image) (small : (pid fd : ℕ) (x : Named) �
   within : (p : Process T Image) → process pid s ≡ Some p → (q : ℕ) (x : Named) → map.get p.descs q ≡ Some x → q < 1024
   within p e q x there = small pid q x (ap (option_and_then (λ (p : Process T Image). map.get p.descs q)) e ∙ there)
 
-  pub no-descriptor : number_named name ≡ None → finds_among (living_in s) (Some (FdDir pid)) name ≡ None
+  pub no-descriptor : number_named name ≡ None → finds_among (living_of s) (Some (FdDir pid)) name ≡ None
   no-descriptor e = ap (option_and_then (λ (l : Living). option_map (Fd pid) (first (names_number name) l.fds))) (living-process pid s.living) ∙ by (process pid s) refl
     where
       by : (o : Option (Process T Image)) → process pid s ≡ o → option_and_then (λ (l : Living). option_map (Fd pid) (first (names_number name) l.fds)) (option_map to_living o) ≡ None
       by None is = refl
       by (Some p) is = ap (option_map (Fd pid)) (no-key-found name e p.descs (within p is))
 
-  pub descriptor-shown : (fd : ℕ) → number_named name ≡ Some fd → finds_among (living_in s) (Some (FdDir pid)) name ≡ option_map (λ x. Fd pid fd) (named pid fd s)
+  pub descriptor-shown : (fd : ℕ) → number_named name ≡ Some fd → finds_among (living_of s) (Some (FdDir pid)) name ≡ option_map (λ x. Fd pid fd) (named pid fd s)
   descriptor-shown fd e = ap (option_and_then (λ (l : Living). option_map (Fd pid) (first (names_number name) l.fds))) (living-process pid s.living) ∙ by (process pid s) refl
     where
       twice : (o : Option Named) → option_map (Fd pid) (option_map (λ x. fd) o) ≡ option_map (λ x. Fd pid fd) o
@@ -214,14 +214,14 @@ module _ {T : Type 0} (s : State T Image) (small : (pid fd : ℕ) (x : Named) �
       by None is = refl
       by (Some p) is = ap (option_map (Fd pid)) (key-found name fd e p.descs (within p is)) ∙ twice (map.get p.descs fd)
 
-  pub open-shown : (fd : ℕ) → number_named name ≡ Some fd → (cloexec : Bool) → option_map (λ (x : Named). x.cloexec) (named pid fd s) ≡ Some cloexec → Some (Fd pid fd) ≡ finds_among (living_in s) (Some (FdDir pid)) name
+  pub open-shown : (fd : ℕ) → number_named name ≡ Some fd → (cloexec : Bool) → option_map (λ (x : Named). x.cloexec) (named pid fd s) ≡ Some cloexec → Some (Fd pid fd) ≡ finds_among (living_of s) (Some (FdDir pid)) name
   open-shown fd e cloexec is = sym (descriptor-shown fd e ∙ by (named pid fd s) is)
     where
       by : (o : Option Named) → option_map (λ (x : Named). x.cloexec) o ≡ Some cloexec → option_map (λ (x : Named). Fd pid fd) o ≡ Some (Fd pid fd)
       by None is = absurd (none-some cloexec is)
       by (Some x) is = refl
 
-  pub shut-shown : (fd : ℕ) → number_named name ≡ Some fd → option_map (λ (x : Named). x.cloexec) (named pid fd s) ≡ None → None ≡ finds_among (living_in s) (Some (FdDir pid)) name
+  pub shut-shown : (fd : ℕ) → number_named name ≡ Some fd → option_map (λ (x : Named). x.cloexec) (named pid fd s) ≡ None → None ≡ finds_among (living_of s) (Some (FdDir pid)) name
   shut-shown fd e is = sym (descriptor-shown fd e ∙ by (named pid fd s) is)
     where
       by : (o : Option Named) → option_map (λ (x : Named). x.cloexec) o ≡ None → option_map (λ (x : Named). Fd pid fd) o ≡ None

@@ -11,7 +11,7 @@ use Rattle.kr_files.specs.Files.{Counted, file_at}
 use Rattle.kr_model.specs.ProcessDirectory.{living_of, space_of}
 use Rattle.kr_model.specs.State.{Image, Process, State, process, named, opened, is_pid}
 use Rattle.kr_procview.specs.Numbered.{counted_numbered, opened_numbered, table_numbered, process_numbered, state_numbered}
-use Rattle.kr_procview.specs.Shown.{Shown, living_in, space_in}
+use Rattle.kr_procview.specs.Shown.{Shown, space_in}
 
 -- the first of changed ones that passes is the first one whose change does
 pub find-map : {A B : Type 0} (f : A → B) (test : B → Bool) (xs : List A) → find test (map_list f xs) ≡ option_map f (find (λ x. test (f x)) xs)
@@ -52,7 +52,7 @@ module _ {T : Type 0} (number : T → ℕ) (s : State T Image) where
       by None = refl
       by (Some x) = file-numbered x.number
 
-  living-numbered : living_in s ≡ living_of (state_numbered number s)
+  pub living-numbered : living_of s ≡ living_of (state_numbered number s)
   living-numbered = by s.living
     where
       by : (ps : List (Process T Image)) → map_list to_living ps ≡ map_list to_living (map_list (process_numbered number) ps)

@@ -1,3 +1,4 @@
+pub mod Carried
 pub mod Held
 pub mod Laws
 pub mod Numbered

@@ -1,7 +1,6 @@
 -- What the process directory shows of a state whose mounts a machine names in its own way. `number` says which row of the
 -- view's table a mount is.
-use Rattle.std.specs.FinMap as map
-use Rattle.std.specs.Prelude.{ℕ, List, [], map as map_list, Option, Some, None, if◌then◌else◌}
+use Rattle.std.specs.Prelude.{ℕ, List, [], Option, Some, None, if◌then◌else◌}
 use Rattle.std.specs.Fmt.{decimal}
 use Rattle.std.specs.Option.{option_map_or}
 use Rattle.kr_tree.specs.declared.place.Place.{Place}
@@ -12,11 +11,11 @@ use Rattle.kr_view.specs.declared.procs.Lead.TheVariants.{Text, Jump, Nameless, 
 use Rattle.kr_view.specs.View.{Row, is_there}
 use Rattle.kr_view.specs.Component.{Finds, Namespace}
 use Rattle.kr_view.specs.Leads.{numbered}
-use Rattle.kr_view.specs.Living.{Living, finds_among}
+use Rattle.kr_view.specs.Living.{finds_among}
 use Rattle.kr_view.specs.Names.{guest_name}
 use Rattle.kr_files.specs.declared.opened.Opened.{Opened}
 use Rattle.kr_files.specs.declared.opened.What.{What}
-use Rattle.kr_model.specs.ProcessDirectory.{remembered, name_text, unplaced_text}
+use Rattle.kr_model.specs.ProcessDirectory.{living_of, remembered, name_text, space_of, unplaced_text}
 use Rattle.kr_model.specs.State.{Image, Process, State, process, opened}
 
 -- a state, the mounts of a view, and where absolute paths begin
@@ -35,15 +34,11 @@ pub data Target (T : Type 0) : Type 0 where
 module _ {T : Type 0} where
   -- ---- names
 
-  -- each living process shows a directory, and in its `fd` its open descriptors
-  abbrev pub living_in : State T Image → List Living
-  living_in s = map_list (λ p. record { pid = p.pid; fds = map_list (λ e. e.0) (map.entries p.descs) }) s.living
-
   abbrev pub finds_in : Shown T → Finds
-  finds_in v = finds_among (living_in v.state)
+  finds_in v = finds_among (living_of v.state)
 
   abbrev pub space_in : Shown T → Namespace
-  space_in v = record { table = v.table; tree = v.state.tree; user = v.state.user; finds = finds_in v }
+  space_in v = space_of v.table v.state
 
   -- ---- links
 

@@ -1,14 +1,16 @@
--- Places that have guest names, and what a link leads to in a lawful state. No public clause of another crate cites this module.
-use Rattle.std.specs.Prelude.{◌≡◌, ℕ, Bool, true, false}
+-- Places that have guest names, and what a link leads to in a lawful state.
+use Rattle.std.specs.Prelude.{◌≡◌, ℕ, Bool, true, false, List}
 use Rattle.kr_tree.specs.declared.place.Host.{Host}
 use Rattle.kr_tree.specs.declared.place.Host.TheVariants.{Node, Proc}
 use Rattle.kr_tree.specs.declared.place.Place.{Place}
 use Rattle.kr_tree.specs.declared.place.ProcAt.{ProcAt}
 use Rattle.kr_tree.specs.declared.place.ProcAt.TheVariants.{SelfLink, Dir, Cwd, Root, Exe, FdDir, Fd}
+use Rattle.kr_tree.specs.Tree.{Tree}
 use Rattle.kr_view.specs.Component.{Namespace, is_process_directory, is_shown}
 use Rattle.kr_view.specs.InTree.{IsPlaceOf}
 use Rattle.kr_view.specs.Leads.{numbered}
-use Rattle.kr_procview.specs.Shown.{Shown, Target, Nothing, Unplaced, At}
+use Rattle.kr_view.specs.View.{Row}
+use Rattle.kr_procview.specs.Shown.{Target, Nothing, Unplaced, At}
 
 -- of what is in the process directory only directories have guest names
 abbrev pub MayBeNamed : Host → Type 0
@@ -24,13 +26,13 @@ is_shown_directory space (Root pid) = false
 is_shown_directory space (Exe pid) = false
 is_shown_directory space (Fd pid fd) = false
 
-module _ {T : Type 0} (number : T → ℕ) where
+module _ {T : Type 0} (number : T → ℕ) (t : Tree) (table : List Row) where
   -- a place of the view in the tree that may have a guest name
-  pub record IsNameable (v : Shown T) (p : Place T) : Type 0 where
-    pub place : IsPlaceOf v.state.tree v.table (numbered number p)
+  pub record IsNameable (p : Place T) : Type 0 where
+    pub place : IsPlaceOf t table (numbered number p)
     pub named : MayBeNamed p.host
 
-  abbrev pub IsStanding : Shown T → Target T → Type 0
-  IsStanding v Nothing = Unit {0}
-  IsStanding v (Unplaced what) = Unit {0}
-  IsStanding v (At p dir name) = IsNameable v p
+  abbrev pub IsStanding : Target T → Type 0
+  IsStanding Nothing = Unit {0}
+  IsStanding (Unplaced what) = Unit {0}
+  IsStanding (At p dir name) = IsNameable p

@@ -12,7 +12,7 @@ target_told (held.Unplaced what) = Unplaced what
 target_told (held.At place dir name) = At place dir name.now
 
 module _ {T : Type 0} where
-  abbrev pub process_target : (Process T Image → Target T) → ℕ → State T Image → Target T
+  abbrev pub process_target : {U : Type 0} → (Process T Image → Target U) → ℕ → State T Image → Target U
   process_target target pid s = option_map_or target (process pid s) Nothing
 
   abbrev pub opened_target_of : ℕ → ℕ → State T Image → Target T

@@ -2,9 +2,11 @@
 //! and their texts.
 #![tactic(auto)]
 
+pub mod find;
+pub mod guest;
 pub mod laws;
 mod name;
-mod target;
+pub mod target;
 mod view;
 
 pub use view::{ProcView, procs};

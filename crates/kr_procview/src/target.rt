@@ -12,7 +12,7 @@ use kr_tree::{Ino, Place};
 
 /// What a link of the process directory leads to.
 #[derive(Clone, Copy)]
-pub(crate) enum Target<'a, T> {
+pub enum Target<'a, T> {
     /// The process or descriptor isn't there.
     Nothing,
     /// A pipe or the console, which have no place.
@@ -22,7 +22,7 @@ pub(crate) enum Target<'a, T> {
 }
 
 /// Whether a process lives.
-pub(crate) fn lives<T: Copy, const M: u8>(state: &State<T, M>, pid: u32) -> bool
+pub fn lives<T: Copy, const M: u8>(state: &State<T, M>, pid: u32) -> bool
     requires { IsSound state.now }
     ensures { result ≡ is_some (process pid (meaning state.now)) }
 {
@@ -30,7 +30,7 @@ pub(crate) fn lives<T: Copy, const M: u8>(state: &State<T, M>, pid: u32) -> bool
 }
 
 /// What the working directory of a process is.
-pub(crate) fn cwd_of<T: Copy, const M: u8>(state: &State<T, M>, pid: u32) -> Target<'_, T>
+pub fn cwd_of<T: Copy, const M: u8>(state: &State<T, M>, pid: u32) -> Target<'_, T>
     requires { IsSound state.now }
     ensures { target_told result ≡ process_target cwd_target pid (meaning state.now) }
 {
@@ -40,12 +40,12 @@ pub(crate) fn cwd_of<T: Copy, const M: u8>(state: &State<T, M>, pid: u32) -> Tar
     }
 }
 
-/// Where absolute paths of a process begin.
-pub(crate) fn root_of<T: Copy, const M: u8>(
+/// Where absolute paths of a process begin, in the mounts of whatever view.
+pub fn root_of<T: Copy, U: Copy, const M: u8>(
     state: &State<T, M>,
     pid: u32,
-    root: Place<T>,
-) -> Target<'_, T>
+    root: Place<U>,
+) -> Target<'_, U>
     requires { IsSound state.now }
     ensures { target_told result ≡ process_target (λ p. At root 0 []) pid (meaning state.now) }
 {
@@ -57,7 +57,7 @@ pub(crate) fn root_of<T: Copy, const M: u8>(
 }
 
 /// What the executable of a process is.
-pub(crate) fn exe_of<T: Copy, const M: u8>(state: &State<T, M>, pid: u32) -> Target<'_, T>
+pub fn exe_of<T: Copy, const M: u8>(state: &State<T, M>, pid: u32) -> Target<'_, T>
     requires { IsSound state.now }
     ensures { target_told result ≡ process_target exe_target pid (meaning state.now) }
 {
@@ -71,7 +71,7 @@ pub(crate) fn exe_of<T: Copy, const M: u8>(state: &State<T, M>, pid: u32) -> Tar
 }
 
 /// What is open under a descriptor of a process.
-pub(crate) fn open_at<T: Copy, const M: u8>(state: &State<T, M>, pid: u32, fd: u32) -> Target<'_, T>
+pub fn open_at<T: Copy, const M: u8>(state: &State<T, M>, pid: u32, fd: u32) -> Target<'_, T>
     requires { IsSound state.now }
     ensures { target_told result ≡ opened_target_of pid fd (meaning state.now) }
 {

@@ -54,7 +54,7 @@ kind_known t i b kind = by (body t i) kind
     by (Some x) h = (x, refl)
 
 -- where a name is looked up it isn't too long
-looked_for : (a b c : Bool) (x : SeenPlace) (found : Option (Place ℕ)) → Shows (if a then (if b then (if c then Fails ENAMETOOLONG else x) else Fails EACCES) else Fails ENOTDIR) found → (c ≡ false) × Shows x found
+pub looked_for : (a b c : Bool) (x : SeenPlace) (found : Option (Place ℕ)) → Shows (if a then (if b then (if c then Fails ENAMETOOLONG else x) else Fails EACCES) else Fails ENOTDIR) found → (c ≡ false) × Shows x found
 looked_for true true true x found shows = absurd shows
 looked_for true true false x found shows = (refl, shows)
 looked_for true false c x found shows = absurd shows

@@ -1,6 +1,9 @@
 pub mod EndingLemmas
 pub mod TextLemmas
-pub mod LinkTextLemmas
+pub mod LinkLemmas
 pub mod EntryLemmas
+pub mod NumberedLemmas
 pub mod AroundLemmas
+pub mod ShownLemmas
 pub mod ResolveLemmas
+pub mod NamingLemmas

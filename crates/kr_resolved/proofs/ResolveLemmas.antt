@@ -1,17 +1,15 @@
 -- The targets of a call over a lawful state meet what rows rest on.
-use Rattle.std.proofs.Common.{◌≡◌, ℕ, ◌≤◌, Bool, true, false, List, [], ◌∷◌, length, Option, Some, None, refl, sym, ap, subst, ◌∙◌, arith}
-use Rattle.std.specs.Prelude.{Result, Ok, Err}
+use Rattle.std.proofs.Common.{◌≡◌, ◌≢◌, ℕ, Bool, true, false, List, Option, Some, None, refl, sym, ap, subst, ◌∙◌}
+use Rattle.std.specs.Prelude.{Ok}
 use Rattle.std.specs.Option.{option_map}
-use Rattle.std.proofs.lemmas.Bool.Decides.{nat_tests}
+use Rattle.std.proofs.lemmas.List.Elements.{All-weaker}
 use Rattle.std.proofs.lemmas.Option.{same_Some, none-some}
-use Rattle.pr_base.specs.Paths.{Component, Dot, DotDot, Name, kind_of}
-use Rattle.pr_base.specs.WalkFrame.{is_followed, may_be_free, name_of}
+use Rattle.pr_base.specs.Paths.{Name}
+use Rattle.pr_base.specs.WalkFrame.{is_followed, may_be_free}
 use Rattle.pr_base.specs.WalkLaws.{Shows}
-use Rattle.pr_base.specs.declared.errno.Errno.{Errno}
 use Rattle.pr_base.specs.declared.path.Last.TheVariants as last
 use Rattle.pr_base.specs.declared.path.WalkMode.{WalkMode}
 use Rattle.pr_base.specs.declared.path.WalkMode.TheVariants as modes
-use Rattle.pr_base.proofs.EndLemmas.{found_is_shown}
 use Rattle.kr_calls.specs.PathTable.{PathUse, path_at}
 use Rattle.kr_inode.proofs.NameLemmas.{name_decides}
 use Rattle.kr_tree.specs.declared.place.Host.TheVariants.{Node}
@@ -22,38 +20,27 @@ use Rattle.kr_tree.specs.Tree.{Tree, body_is, entry, takes_names}
 use Rattle.kr_view.specs.declared.procs.Lead.TheVariants.{Text}
 use Rattle.kr_view.specs.declared.target.Target.{Target}
 use Rattle.kr_view.specs.Answers.{told, target_numbered}
-use Rattle.kr_view.specs.Component.{Surroundings, look_up, too_long}
+use Rattle.kr_view.specs.Component.{Surroundings, look_up}
 use Rattle.kr_view.specs.InTree.{StandsAround}
 use Rattle.kr_view.specs.Leads.{numbered}
 use Rattle.kr_view.specs.View.{Row, covered, node_in}
 use Rattle.kr_view.specs.Walk.{PlaceTarget, looking, place_walk}
-use Rattle.kr_view.proofs.DirectoryLemmas.{jumped_to}
 use Rattle.kr_view.proofs.PlaceLemmas.{walks_keep_places}
 use Rattle.kr_model.specs.Lawful.{IsLawful}
-use Rattle.kr_model.specs.ProcessDirectory.{around_of}
+use Rattle.kr_model.specs.ProcessDirectory.{around_of, leads_of}
 use Rattle.kr_model.specs.State.{Image, State}
-use Rattle.kr_model.specs.Walks as walks
-use Rattle.kr_model.specs.Walks.{base_of, target_at, targets_of, walked}
+use Rattle.kr_model.specs.Walks.{target_at}
 use Rattle.kr_ops.specs.Meaning.{meaning}
 use Rattle.kr_procview.specs.Numbered.{state_numbered}
 use Rattle.kr_paths.specs.CallWalks.{IsTold}
 use Rattle.kr_resolved.specs.Resolving.{IsResolved, IsResolvedFor, IsText, LinksHaveTexts, WalksResolve}
-use Rattle.kr_resolved.proofs.AroundLemmas.{leads_texts, stands_around}
+use Rattle.kr_resolved.proofs.AroundLemmas.{both, leads_texts, of_walk}
 use Rattle.kr_resolved.proofs.EndingLemmas.{free_comes, never_jumped}
 use Rattle.kr_resolved.proofs.EntryLemmas.{free_name, named_entry}
-use Rattle.kr_resolved.proofs.LinkTextLemmas.{link_text}
-use Rattle.kr_resolved.proofs.TextLemmas.{IsTextPart, text_ends}
-
--- a component of the kind of a name is one
-a_name : (c : Component) (name : List ℕ) → kind_of c ≡ last.Name → name_of c ≡ name → c ≡ Name name
-a_name Dot name kind same = absurd cc
-a_name DotDot name kind same = absurd cc
-a_name (Name other) name kind same = ap Name same
-
-well_formed : (name : List ℕ) → IsTextPart (Name name) → too_long name ≡ false → is_name name ≡ true
-well_formed name part short =
-    let few : length name ≤ 255 = grind (arith, nat_tests) in
-    (name_decides name).1 (record { some = part.0.some; short = few; no_slash = part.0.no_slash; no_zero = part.1; not_dot = part.0.not_dot; not_dot_dot = part.0.not_dot_dot })
+use Rattle.kr_resolved.proofs.LinkLemmas.{link_text}
+use Rattle.kr_resolved.proofs.NumberedLemmas.{lawful_numbered}
+use Rattle.kr_resolved.proofs.ShownLemmas.{a_name, free_stays, shown_name, well_formed}
+use Rattle.kr_resolved.proofs.TextLemmas.{IsTextByte, IsTextPart, text_ends}
 
 -- where a last link is followed and its name may be free
 opens : (mode : WalkMode) (slash : Bool) → is_followed mode slash ≡ true → may_be_free mode ≡ true → mode ≡ modes.Open
@@ -68,30 +55,21 @@ module _ (around : Surroundings) (mode : WalkMode) (base : Place ℕ) (path : Li
   abbrev t : Tree
   t = around.space.tree
 
-  -- a name that isn't where a process link leads was looked up in its directory
+  -- in a directory of the tree
   looked : (dir : ℕ) → w.jumped ≡ false → w.last ≡ last.Name → w.dir.host ≡ Node dir → Shows (look_up around (node_in w.dir.mount dir) (Name w.name)) w.found
   looked dir jumped name at =
-      let shown = found_is_shown _ _ (looking around) mode base path w ends jumped (λ root. let clash : last.Name ≡ last.Root = sym name ∙ root in absurd cc) in
-      let is : shown.0 ≡ Name w.name = a_name shown.0 w.name (shown.1 ∙ name) shown.2 in
       let place : w.dir ≡ node_in w.dir.mount dir = λ j. record { mount = w.dir.mount; host = at j } in
-      subst (λ (p : Place ℕ). Shows (look_up around p (Name w.name)) w.found) place (subst (λ (c : Component). Shows (look_up around w.dir c) w.found) is shown.3)
-
-  free_stays : w.found ≡ None → w.jumped ≡ false
-  free_stays none = by w.jumped refl
-    where
-      by : (b : Bool) → w.jumped ≡ b → w.jumped ≡ false
-      by false is = is
-      by true is = let landed = jumped_to around mode base path w ends is in absurd (none-some landed.0 (sym none ∙ landed.1))
+      subst (λ (p : Place ℕ). Shows (look_up around p (Name w.name)) w.found) place (shown_name around mode base path w ends jumped name)
 
   -- a free name
   pub free_is : IsText path → (mode ≡ modes.Open → LinksHaveTexts around.space.tree) → ((at : ProcAt) (text : List ℕ) → around.leads at ≡ Text text → IsText text)
       → (dir : ℕ) → w.last ≡ last.Name → w.found ≡ None → w.dir.host ≡ Node dir → body_is takes_names around.space.tree dir ≡ true → (is_name w.name ≡ true) × (entry around.space.tree dir w.name ≡ None)
   free_is plain links texts dir name none at takes =
-      let shows = subst (λ found. Shows (look_up around (node_in w.dir.mount dir) (Name w.name)) found) none (looked dir (free_stays none) name at) in
+      let shows = subst (λ found. Shows (look_up around (node_in w.dir.mount dir) (Name w.name)) found) none (looked dir (free_stays around mode base path w ends none) name at) in
       let free = free_name around stands.inodes stands.mounts w.dir.mount dir w.name takes shows in
-      let comes = free_comes (looking around) mode base path IsTextPart (λ s c f text slash looked followed free. text_ends text (link_text around (links (opens mode slash followed free)) texts s c f text looked)) (λ free. text_ends path plain) w ends none in
+      let comes = free_comes (looking around) mode base path IsTextPart (λ s c f text slash looked followed free. text_ends text (link_text around IsText (links (opens mode slash followed free)) texts s c f text looked)) (λ free. text_ends path plain) w ends none in
       let is : comes.0 ≡ Name w.name = a_name comes.0 w.name (comes.2 ∙ name) comes.3 in
-      (well_formed w.name (subst IsTextPart is comes.1) free.0, free.1)
+      ((name_decides w.name).1 (well_formed w.name (subst IsTextPart is comes.1) free.0), free.1)
 
   -- a name that was found, where a last link isn't followed
   pub entry_is : mode ≡ modes.Name → (dir : ℕ) (p : Place ℕ) → w.last ≡ last.Name → w.found ≡ Some p → w.dir.host ≡ Node dir → body_is takes_names around.space.tree dir ≡ true
@@ -103,44 +81,31 @@ module _ (around : Surroundings) (mode : WalkMode) (base : Place ℕ) (path : Li
 
 -- ---- the targets of a call
 
-module _ {T : Type 0} (number : T → ℕ) (table : List Row) (pid : ℕ) (s : State T Image) (lawful : IsLawful number table s) where
+module _ {T : Type 0} (number : T → ℕ) (table : List Row) (pid : ℕ) (s : State T Image) (lawful : IsLawful (λ m. m) table (state_numbered number s)) where
   abbrev shown : State ℕ Image
   shown = state_numbered number s
 
-  module _ (u : PathUse) (links : u.mode ≡ modes.Open → LinksHaveTexts s.tree) where
-    -- a target as the code tells it
-    resolved : (path : List ℕ) → IsText path → (base : Place ℕ) → base_of table pid shown u ≡ Ok base → (w : PlaceTarget) → (place_walk (around_of table pid shown) u.mode base path).answer ≡ Ok w
-        → (target : Target T) → told w ≡ target_numbered number target → IsResolved s.tree table u.mode target
-    resolved path is_text base begins w ends target same =
-        let stands = stands_around number table s lawful pid u base begins in
-        let found_same : w.found ≡ option_map (numbered number) target.found = ap (λ (x : Target ℕ). x.found) same in
-        let last_same : w.last ≡ target.last = ap (λ (x : Target ℕ). x.last) same in
-        let name_same : w.name ≡ target.name = ap (λ (x : Target ℕ). x.name) same in
-        let dir_same : w.dir.host ≡ target.dir.host = ap (λ (x : Target ℕ). x.dir.host) same in
-        record {
-          found = λ p is. ((walks_keep_places (around_of table pid shown) u.mode base path w stands ends).found (numbered number p) (found_same ∙ ap (option_map (numbered number)) is)).object;
-          free = λ dir name none at takes.
-              let own = free_is (around_of table pid shown) u.mode base path w stands ends is_text links (leads_texts number table s lawful pid) dir (last_same ∙ name) (found_same ∙ ap (option_map (numbered number)) none) (dir_same ∙ at) takes in
-              subst (λ n. (is_name n ≡ true) × (entry s.tree dir n ≡ None)) name_same own;
-          entry = λ named dir p name is at takes open_name.
-              let own = entry_is (around_of table pid shown) u.mode base path w stands ends named dir (numbered number p) (last_same ∙ name) (found_same ∙ ap (option_map (numbered number)) is) (dir_same ∙ at) takes
-              (ap (covered table dir) name_same ∙ open_name) in
-              (own.0, own.1, ap (entry s.tree dir) (sym name_same) ∙ own.2);
-        }
+  leads_text : (at : ProcAt) (text : List ℕ) → leads_of table shown pid at ≡ Text text → IsText text
+  leads_text at text is = All-weaker IsTextByte (λ b. b ≢ 0) (λ b both. both.0) text (leads_texts table shown lawful pid at text is)
 
-    from_base : (b : ℕ) (rest : List ℕ) → IsText (b ∷ rest) → (r : Result (Place ℕ) Errno) → base_of table pid shown u ≡ r → (w : PlaceTarget)
-        → walks.and_then r (λ base. walks.and_then (place_walk (around_of table pid shown) u.mode base (b ∷ rest)).answer (λ target. Ok (Some target))) ≡ Ok (Some w)
-        → (target : Target T) → told w ≡ target_numbered number target → IsResolved s.tree table u.mode target
-    from_base b rest is_text (Err e) begins w is target same = absurd cc
-    from_base b rest is_text (Ok base) begins w is target same = by (place_walk (around_of table pid shown) u.mode base (b ∷ rest)).answer refl is
-      where
-        by : (a : Result PlaceTarget Errno) → (place_walk (around_of table pid shown) u.mode base (b ∷ rest)).answer ≡ a → walks.and_then a (λ target. Ok (Some target)) ≡ Ok (Some w) → IsResolved s.tree table u.mode target
-        by (Err e) ends is = absurd cc
-        by (Ok x) ends is = let one : x ≡ w = cc in resolved (b ∷ rest) is_text base begins w (ends ∙ ap Ok one) target same
-
-    along : (text : List ℕ) → IsText text → (w : PlaceTarget) → walked table pid shown u text ≡ Ok (Some w) → (target : Target T) → told w ≡ target_numbered number target → IsResolved s.tree table u.mode target
-    along [] is_text w is target same = absurd cc
-    along (b ∷ rest) is_text w is target same = from_base b rest is_text (base_of table pid shown u) refl w is target same
+  -- a target as the code tells it
+  resolved : (u : PathUse) (base : Place ℕ) (w : PlaceTarget) → StandsAround (around_of table pid shown) base → (place_walk (around_of table pid shown) u.mode base u.text).answer ≡ Ok w → IsText u.text
+      → (u.mode ≡ modes.Open → LinksHaveTexts s.tree) → (target : Target T) → told w ≡ target_numbered number target → IsResolved s.tree table u.mode target
+  resolved u base w stands ends is_text links target same =
+      let found_same : w.found ≡ option_map (numbered number) target.found = ap (λ (x : Target ℕ). x.found) same in
+      let last_same : w.last ≡ target.last = ap (λ (x : Target ℕ). x.last) same in
+      let name_same : w.name ≡ target.name = ap (λ (x : Target ℕ). x.name) same in
+      let dir_same : w.dir.host ≡ target.dir.host = ap (λ (x : Target ℕ). x.dir.host) same in
+      record {
+        found = λ p is. ((walks_keep_places (around_of table pid shown) u.mode base u.text w stands ends).found (numbered number p) (found_same ∙ ap (option_map (numbered number)) is)).object;
+        free = λ dir name none at takes.
+            let own = free_is (around_of table pid shown) u.mode base u.text w stands ends is_text links leads_text dir (last_same ∙ name) (found_same ∙ ap (option_map (numbered number)) none) (dir_same ∙ at) takes in
+            subst (λ n. (is_name n ≡ true) × (entry s.tree dir n ≡ None)) name_same own;
+        entry = λ named dir p name is at takes open_name.
+            let own = entry_is (around_of table pid shown) u.mode base u.text w stands ends named dir (numbered number p) (last_same ∙ name) (found_same ∙ ap (option_map (numbered number)) is) (dir_same ∙ at) takes
+            (ap (covered table dir) name_same ∙ open_name) in
+            (own.0, own.1, ap (entry s.tree dir) (sym name_same) ∙ own.2);
+      }
 
   path_resolved : (u : Option PathUse) → ((x : PathUse) → u ≡ Some x → IsText x.text × (x.mode ≡ modes.Open → LinksHaveTexts s.tree)) → (o : Option PlaceTarget) → target_at table pid shown u ≡ Ok o
       → (target : Option (Target T)) → IsTold number o target → IsResolvedFor s.tree table u target
@@ -148,20 +113,17 @@ module _ {T : Type 0} (number : T → ℕ) (table : List Row) (pid : ℕ) (s : S
   path_resolved (Some u) texts o is None same = tt
   path_resolved (Some u) texts None is (Some target) same = absurd (none-some (target_numbered number target) same)
   path_resolved (Some u) texts (Some w) is (Some target) same =
-      along u (texts u refl).1 u.text (texts u refl).0 w is target (same_Some (told w) (target_numbered number target) same)
-
-both : (a b : Result (Option PlaceTarget) Errno) (t : walks.Targets) → walks.and_then a (λ first. walks.and_then b (λ second. Ok (record { first = first; second = second }))) ≡ Ok t → (a ≡ Ok t.first) × (b ≡ Ok t.second)
-both (Err e) b t is = absurd cc
-both (Ok first) (Err e) t is = absurd cc
-both (Ok first) (Ok second) t is =
-    let one : record { first = first; second = second } ≡ t = cc in
-    (ap (λ (t : walks.Targets). Ok t.first) one, ap (λ (t : walks.Targets). Ok t.second) one)
+      let told_same : told w ≡ target_numbered number target = same_Some (told w) (target_numbered number target) same in
+      of_walk table shown lawful pid (λ w. told w ≡ target_numbered number target → IsResolved s.tree table u.mode target) w (Some u)
+      (λ x base one stands ends told. let own : x ≡ u = sym (same_Some u x one) in
+      subst (λ (x : PathUse). IsResolved s.tree table x.mode target) own (resolved x base w stands ends (texts x one).0 (texts x one).1 target told)) is told_same
 
 pub walks_resolve : {T : Type 0} {M : ℕ} (number : T → ℕ) (table : List Row) → WalksResolve M number table
 walks_resolve number table pid s request targets lawful served lives texts are =
     let shown = state_numbered number (meaning s) in
+    let numbered_lawful = lawful_numbered number table (meaning s) lawful in
     let each = both (target_at table pid shown (path_at request 0)) (target_at table pid shown (path_at request 1)) are.0 are.1 in
     record {
-      first = path_resolved number table pid (meaning s) lawful (path_at request 0) (λ u is. (texts.paths 0 u is, texts.links 0 u is)) are.0.first each.0 targets.first are.2;
-      second = path_resolved number table pid (meaning s) lawful (path_at request 1) (λ u is. (texts.paths 1 u is, texts.links 1 u is)) are.0.second each.1 targets.second are.3;
+      first = path_resolved number table pid (meaning s) numbered_lawful (path_at request 0) (λ u is. (texts.paths 0 u is, texts.links 0 u is)) are.0.first each.0 targets.first are.2;
+      second = path_resolved number table pid (meaning s) numbered_lawful (path_at request 1) (λ u is. (texts.paths 1 u is, texts.links 1 u is)) are.0.second each.1 targets.second are.3;
     }

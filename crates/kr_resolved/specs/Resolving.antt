@@ -1,11 +1,10 @@
 -- What calls rest on of the targets of their paths, and that walks over a lawful state give it.
-use Rattle.std.specs.Prelude.{ℕ, ◌≡◌, ◌≢◌, List, Option, Some, None, Ok, IsSome}
-use Rattle.std.specs.List.{All}
+use Rattle.std.specs.Prelude.{ℕ, ◌≡◌, List, Option, Some, None, Ok, IsSome}
 use Rattle.pr_base.specs.declared.path.WalkMode.{WalkMode}
 use Rattle.pr_base.specs.declared.path.WalkMode.TheVariants.{Name, Open}
 use Rattle.kr_calls.specs.PathTable.{PathUse, path_at}
 use Rattle.kr_calls.specs.declared.request.Request.{Request}
-use Rattle.kr_tree.specs.Tree.{Tree, SymbolicLink, body}
+use Rattle.kr_tree.specs.Tree.{Tree}
 use Rattle.kr_view.specs.View.{Row}
 use Rattle.kr_view.specs.declared.target.Target.{Target}
 use Rattle.kr_model.specs.Lawful.{IsLawful}
@@ -18,15 +17,9 @@ use Rattle.kr_procview.specs.Numbered.{state_numbered}
 use Rattle.kr_paths.specs.CallWalks.{AreTargets}
 use Rattle.kr_paths.specs.declared.walks.Targets.{Targets}
 use Rattle.kr_targets.specs.Resolved.{IsFoundIn, IsFreeIn, IsEntryIn}
+pub use Rattle.kr_lasting.specs.Texts.{IsText, LinksHaveTexts}
 
 -- ---- texts
-
--- no byte of a text is zero, since a text ends with its first one
-abbrev pub IsText : List ℕ → Type 0
-IsText bytes = All (λ b. b ≢ 0) bytes
-
-abbrev pub LinksHaveTexts : Tree → Type 0
-LinksHaveTexts t = (i : ℕ) (bytes : List ℕ) → body t i ≡ Some (SymbolicLink bytes) → IsText bytes
 
 -- the texts of which a call's free names are parts: its paths, and, where a file may be made behind a last link, the texts of
 -- links too

@@ -2,3 +2,4 @@ pub mod PinLemmas
 pub mod StartLemmas
 pub mod ConsoleLemmas
 pub mod FirstLemmas
+pub mod LastLemmas

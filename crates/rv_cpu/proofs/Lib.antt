@@ -1,3 +1,4 @@
 pub mod AlikeLemmas
+pub mod CallLemmas
 mod EdgeCases
 pub mod RunLemmas

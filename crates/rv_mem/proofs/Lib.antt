@@ -2,6 +2,7 @@ pub mod AccessLemmas
 pub mod ActionLemmas
 pub mod AddressLemmas
 pub mod AlikeLemmas
+pub mod ByteLemmas
 pub mod ChangeLemmas
 pub mod LayoutLemmas
 pub mod MapLemmas

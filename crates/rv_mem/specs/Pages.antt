@@ -2,6 +2,7 @@
 -- 4,096 in the page of its quotient.
 use Rattle.std.specs.FinMap as map
 use Rattle.std.specs.Prelude.{◌≡◌, ◌≤◌, ◌<◌, Some, None, length, ℕ, zero, suc, ◌+◌, ◌/◌, ◌%◌, Bool, false, true, ◌&&◌, ◌||◌, List, [], ◌∷◌, slice_index, slice_index_or, nat_eq}
+use Rattle.std.specs.List.{AllByRecursion}
 use Rattle.std.specs.Option.{option_map_or}
 use Rattle.std.specs.Ordering.{nat_cmp}
 use Rattle.std.specs.Coded.{Coded, coded_ℕ}
@@ -87,6 +88,14 @@ IsPlaced m = (k : ℕ) → map.contains_key m k ≡ true → k < 67108863
 -- every page has 4,096 bytes and as many marks
 abbrev pub IsWhole : Pages → Type 0
 IsWhole m = (k : ℕ) (p : PageState) → map.get m k ≡ Some p → (length p.bytes ≡ page_size) × (length p.marks ≡ page_size)
+
+-- what stands in a page are bytes
+abbrev pub IsOfBytes : Pages → Type 0
+IsOfBytes m = (k : ℕ) (p : PageState) → map.get m k ≡ Some p → AllByRecursion (λ b. b < 256) p.bytes
+
+-- so each address has a byte
+abbrev pub HoldsBytes : Pages → Type 0
+HoldsBytes m = (a : ℕ) → byte_at m a < 256
 
 -- ---- changes
 

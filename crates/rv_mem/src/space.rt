@@ -30,7 +30,7 @@ pub struct Space<const MARKED: u8> {
 impl<const MARKED: u8> Model for Space<MARKED> {
     ghost use Rattle.std.specs.Prelude.{◌≤◌};
     ghost use Rattle.std.specs.FinMap as map;
-    ghost use Rattle.rv_mem.specs.Pages.{IsPlaced, IsWhole};
+    ghost use Rattle.rv_mem.specs.Pages.{IsOfBytes, IsPlaced, IsWhole};
     ghost use Rattle.rv_mem.specs.Memory.{Memory, memory_code};
 
     ghost Value = { Memory };
@@ -39,11 +39,11 @@ impl<const MARKED: u8> Model for Space<MARKED> {
 
     ghost view = { λ s. record { pages = s.pages; read_marked = s.read_marked } };
 
-    ghost invariant = { λ s. IsPlaced s.pages × (map.len s.pages ≤ 16384) × IsWhole s.pages };
+    ghost invariant = { λ s. IsPlaced s.pages × (map.len s.pages ≤ 16384) × IsWhole s.pages × IsOfBytes s.pages };
 }
 
 impl<const MARKED: u8> Space<MARKED> {
-    ghost use Rattle.rv_mem.specs.Pages.{allows_all, bytes_from, written, mapped, unmapped, protected, has_pages, marked, IsPlaced, IsWhole};
+    ghost use Rattle.rv_mem.specs.Pages.{allows_all, bytes_from, written, mapped, unmapped, protected, has_pages, marked, HoldsBytes, IsPlaced, IsWhole};
     ghost use Rattle.rv_mem.specs.Layout.{layout_of, has_page, HasNoPlace, IsLowestPlace};
     ghost use Rattle.rv_mem.specs.Memory.{empty_memory, with_pages, after_read, passes_limit, room_after, page_count, size_of_text, text_of, text_reach};
 
@@ -80,6 +80,7 @@ impl<const MARKED: u8> Space<MARKED> {
         // What holds of every memory.
         ensures placed { IsPlaced self.now.pages }
         ensures whole { IsWhole self.now.pages }
+        ensures bytes { HoldsBytes self.now.pages }
     {
         self.pages.allows_all(at, n, what)
     }

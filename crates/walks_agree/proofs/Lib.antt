@@ -13,5 +13,4 @@ pub mod StandingLemmas
 pub mod StartLemmas
 pub mod StateLemmas
 pub mod TableLemmas
-pub mod ToldLemmas
 pub mod UpLemmas

@@ -1,9 +1,8 @@
 -- What settled bindings, trees without processes and living processes meet.
-use Rattle.std.proofs.Common.{◌≡◌, ℕ, Bool, true, false, List, [], ◌∷◌, Option, Some, None, nat_eq, bytes_eq, refl, sym, ap, subst, ◌∙◌}
+use Rattle.std.proofs.Common.{◌≡◌, ℕ, Bool, true, false, List, [], ◌∷◌, Option, Some, None, bytes_eq, refl, sym, ap, subst, ◌∙◌}
 use Rattle.std.specs.Prelude.{codes}
 use Rattle.std.specs.Bool.{if◌then◌else◌}
 use Rattle.std.specs.Option.{option_map}
-use Rattle.std.proofs.lemmas.Bool.{eqb-true}
 use Rattle.pr_base.specs.Texts.{Text}
 use Rattle.pt_canon.specs.declared.link.ProcessLink.{ProcessLink}
 use Rattle.pt_canon.specs.declared.link.ProcessLink.TheVariants as process_link
@@ -18,6 +17,7 @@ use Rattle.kr_view.specs.Living.{Each, HasSmallNumbers as IsSmallProcess, IsSmal
 use Rattle.kr_view.specs.Processes.{no_finds}
 use Rattle.kr_view.proofs.HostReachLemmas.{IsFoundIn, at_top, below_top, found_in, last_object}
 use Rattle.kr_view.proofs.ProcessLemmas.{no_processes}
+use Rattle.kr_model.proofs.ToldLemmas.{first_each, small_process}
 use Rattle.kr_mounts.specs.MountTable.{settling}
 use Rattle.kr_mounts.proofs.BeforeLemmas.{grown_trees_have_all_before}
 use Rattle.kr_mounts.proofs.GrowthLemmas.{settling_makes_names_alone}
@@ -73,14 +73,6 @@ first_scenes_are_matched table t user peeked tags set peeks =
 
 -- ---- living processes
 
-first_each : {A : Type 0} (P : A → Type 0) (test : A → Bool) (xs : List A) (x : A) → Each P xs → first test xs ≡ Some x → P x × (test x ≡ true)
-first_each P test [] x each h = absurd cc
-first_each P test (y ∷ xs) x each h = at (test y) refl h (first_each P test xs x each.1)
-  where
-    at : (b : Bool) → test y ≡ b → (if b then Some y else first test xs) ≡ Some x → (first test xs ≡ Some x → P x × (test x ≡ true)) → P x × (test x ≡ true)
-    at true is h rest = let Q : _ → Type 0 = λ z. P z × (test z ≡ true) in subst Q (some_is y x h) (each.0, is)
-    at false is h rest = rest h
-
 -- of what stands in the process directory, whatever it is
 abbrev IsSmallAt : ProcAt → Type 0
 IsSmallAt SelfLink = Unit {0}
@@ -92,11 +84,6 @@ IsSmallAt (FdDir pid) = IsSmall pid
 IsSmallAt (Fd pid fd) = IsSmall pid × IsSmall fd
 
 module _ (living : List Living) (each : Each IsSmallProcess living) where
-  pub small_process : (pid : ℕ) (l : Living) → process living pid ≡ Some l → IsSmallProcess l × IsSmall pid
-  small_process pid l is =
-      let f = first_each IsSmallProcess (λ (l : Living). nat_eq l.pid pid) living l each is in
-      (f.0, subst IsSmall (eqb-true l.pid pid f.1) f.0.0)
-
   in_process : (pid : ℕ) (name : List ℕ) (found : ProcAt) → IsSmall pid → in_directory pid name ≡ Some found → IsSmallAt found
   in_process pid name found small is = one (bytes_eq name (codes "cwd")) (bytes_eq name (codes "root")) (bytes_eq name (codes "exe")) (bytes_eq name (codes "fd")) is
     where
@@ -117,10 +104,10 @@ module _ (living : List Living) (each : Each IsSmallProcess living) where
           subst IsSmallAt l.2 (first_each IsSmallProcess (λ (l : Living). names_number name l.pid) living l.0 each l.1).0.0
   small_found (Some (Dir pid)) name found is =
       let l = then_some (λ (l : Living). in_directory pid name) (process living pid) found is in
-      in_process pid name found (small_process pid l.0 l.1).1 l.2
+      in_process pid name found (small_process living each pid l.0 l.1).1 l.2
   small_found (Some (FdDir pid)) name found is =
       let l = then_some (λ (l : Living). option_map (Fd pid) (first (names_number name) l.fds)) (process living pid) found is in
-      let small = small_process pid l.0 l.1 in
+      let small = small_process living each pid l.0 l.1 in
       let fd = map_some (Fd pid) (first (names_number name) l.0.fds) found l.2 in
       subst IsSmallAt fd.2 (small.1, (first_each IsSmall (names_number name) l.0.fds fd.0 small.0.1 fd.1).0)
   small_found (Some SelfLink) name found is = absurd cc

@@ -1,169 +1,38 @@
 -- A state of a kernel with mounts as a scene: what the plain kernel tells of the same state, all places of which it sees in its
 -- one mount.
-use Rattle.std.specs.Prelude.{◌||◌, ◌==◌, not, length, ◌≡◌, ℕ, Bool, true, false, List, [], take, Option, Some, None, Result, Ok, Err, if◌then◌else◌}
-use Rattle.std.specs.Fmt.{decimal}
-use Rattle.std.specs.Option.{option_map_or, option_and_then}
+use Rattle.std.specs.Prelude.{◌||◌, ◌==◌, not, length, ◌≡◌, ℕ, Bool, true, false, List, [], Some, None, if◌then◌else◌}
+use Rattle.std.specs.Option.{option_map_or}
 use Rattle.pr_base.specs.Paths.{text_of}
-use Rattle.pr_base.specs.Peeks.{Peeked, NamesAreTexts}
 use Rattle.pr_base.specs.Texts.{Text}
 use Rattle.pr_base.specs.WalkFrame.{Target, is_followed}
-use Rattle.pr_base.specs.declared.errno.Errno.{Errno}
-use Rattle.pr_base.specs.declared.errno.Errno.TheVariants.{EACCES, EINVAL, ENOENT}
 use Rattle.pr_base.specs.declared.path.WalkMode.{WalkMode}
-use Rattle.pr_base.specs.declared.path.WalkMode.TheVariants.{LookLink}
-use Rattle.pr_base.specs.declared.peeks.BaseKind.{BaseKind}
-use Rattle.pr_base.specs.declared.peeks.BaseKind.TheVariants as base_kind
 use Rattle.pt_bind.specs.Binding.{guest_of, index_of}
 use Rattle.pt_bind.specs.Tags.{TagTable, tag_of}
 use Rattle.pt_bind.specs.declared.slot.Slot.TheVariants as slot
-use Rattle.kr_inode.specs.declared.user.User.{User}
-use Rattle.kr_inode.specs.declared.user.Right.TheVariants.{Search}
-use Rattle.kr_tree.specs.declared.place.Host.{Host}
-use Rattle.kr_tree.specs.declared.place.Host.TheVariants.{Node, Proc}
+use Rattle.kr_tree.specs.declared.place.Host.TheVariants.{Node}
 use Rattle.kr_tree.specs.declared.place.Place.{Place}
-use Rattle.kr_tree.specs.declared.place.ProcAt.{ProcAt}
-use Rattle.kr_tree.specs.declared.place.ProcAt.TheVariants.{SelfLink, Dir, Cwd, Root, Exe, FdDir, Fd}
-use Rattle.kr_tree.specs.Rights.{may}
-use Rattle.kr_tree.specs.Tree.{Body, Directory, RegularFile, SymbolicLink, ProcessDirectory, Tree, body}
-use Rattle.kr_tree.specs.Lawful.{IsSound}
-use Rattle.kr_view.specs.declared.procs.Lead.{Lead}
-use Rattle.kr_view.specs.declared.procs.Lead.TheVariants as lead
-use Rattle.kr_view.specs.Component.{Namespace, Surroundings, is_directory_at}
+use Rattle.kr_tree.specs.Tree.{Tree}
+use Rattle.kr_view.specs.Component.{Namespace, is_directory_at}
 use Rattle.kr_view.specs.HostReach.{host_place}
 use Rattle.kr_view.specs.Living.{Each, HasSmallNumbers}
 use Rattle.kr_view.specs.Names.{guest_name}
-use Rattle.kr_view.specs.View.{Row, plain, root_place, row, source}
-use Rattle.kr_view.specs.Walk.{PlaceTarget, place_walk}
+use Rattle.kr_view.specs.View.{Row, row, source}
+use Rattle.kr_view.specs.Walk.{PlaceTarget}
 use Rattle.kr_files.specs.declared.opened.Opened.{Opened}
 use Rattle.kr_mounts.specs.Standing.{texts_of}
-use Rattle.kr_model.specs.FileRows.{is_dir}
-use Rattle.kr_model.specs.ProcessDirectory.{around_of, jump_to, living_of, name_text, of_living, space_of}
+pub use Rattle.kr_model.specs.HostView.{base_name, cwd_name, exe_name, host_around_of, host_leads, host_open, host_space, open_name}
+pub use Rattle.kr_model.specs.Peeks.{answer_along, body_text, link_text_at, peeked_of, read_at, read_of}
+use Rattle.kr_model.specs.ProcessDirectory.{around_of, living_of, name_text, space_of}
 use Rattle.kr_model.specs.State.{Process, State, inode_of, opened, process}
-use Rattle.kr_model.specs.Lawful.{IsNameOrNone}
 use Rattle.walks_agree.specs.Handed.{BothEnd}
-use Rattle.walks_agree.specs.Peeks.{ArePeeks, kind_along}
+use Rattle.walks_agree.specs.Peeks.{ArePeeks}
 use Rattle.walks_agree.specs.Scene.{IsMatched, Scene}
 use Rattle.walks_agree.specs.Settled.{IsSettled, host_text}
 use Rattle.walks_agree.specs.Standing.{IsEntryAt, StandsOn}
 
--- ---- what is read of an object
-
-abbrev pub body_text : Option Body → Result (List ℕ) Errno
-body_text (Some (SymbolicLink text)) = Ok text
-body_text (Some (Directory entries standing)) = Err EINVAL
-body_text (Some (RegularFile bytes)) = Err EINVAL
-body_text (Some (ProcessDirectory standing)) = Err EINVAL
-body_text None = Err EINVAL
-
--- the first bytes of a file that may be executed
-abbrev pub body_head : Bool → ℕ → Option Body → Result (List ℕ) Errno
-body_head may_execute n (Some (RegularFile bytes)) = if may_execute then Ok (take n bytes) else Err EACCES
-body_head may_execute n (Some (Directory entries standing)) = Err EACCES
-body_head may_execute n (Some (SymbolicLink text)) = Err EACCES
-body_head may_execute n (Some (ProcessDirectory standing)) = Err EACCES
-body_head may_execute n None = Err EACCES
-
-abbrev pub head_at : Tree → User → ℕ → Host → Result (List ℕ) Errno
-head_at t user n (Node i) = body_head (may t user i Search) n (body t i)
-head_at t user n (Proc i at) = Err EACCES
-
--- the host name of what a link leads to
-abbrev pub name_or_none : Option (List ℕ) → Result (List ℕ) Errno
-name_or_none (Some name) = Ok name
-name_or_none None = Err ENOENT
-
--- of what a walk found
-abbrev pub read_at : (Host → Result (List ℕ) Errno) → Option (Place ℕ) → Result (List ℕ) Errno
-read_at read (Some p) = read p.host
-read_at read None = Err ENOENT
-
-abbrev pub read_of : (Host → Result (List ℕ) Errno) → Result PlaceTarget Errno → Result (List ℕ) Errno
-read_of read (Ok target) = read_at read target.found
-read_of read (Err e) = Err e
-
--- ---- of a state
-
-module _ {X : Type 0} (s : State ℕ X) where
-  -- the host's own view of it
-  abbrev pub host_space : Namespace
-  host_space = space_of plain s
-
-  abbrev pub host_open : Opened ℕ → Lead ℕ
-  host_open o = option_map_or (λ p. jump_to host_space (host_place p.host) o.dir o.name) o.place lead.Nameless
-
-  -- where its links lead over that
-  abbrev pub host_leads : ℕ → ProcAt → Lead ℕ
-  host_leads caller SelfLink = lead.Text (decimal caller)
-  host_leads caller (Dir pid) = lead.NoLink
-  host_leads caller (Cwd pid) = of_living pid s (λ p. jump_to host_space (host_place p.cwd.host) 0 [])
-  host_leads caller (Root pid) = of_living pid s (λ p. jump_to host_space (root_place plain) 0 [])
-  host_leads caller (Exe pid) = of_living pid s (λ p. jump_to host_space (host_place p.exe.host) p.exe_dir p.exe_name)
-  host_leads caller (FdDir pid) = lead.NoLink
-  host_leads caller (Fd pid fd) = option_map_or host_open (opened pid fd s) lead.NoLink
-
-  abbrev pub host_around_of : ℕ → Surroundings
-  host_around_of caller = record { space = host_space; leads = host_leads caller }
-
-  -- ---- the host names of what processes have
-
-  abbrev pub open_name : Opened ℕ → Option (List ℕ)
-  open_name o = option_and_then (λ p. name_text host_space (host_place p.host) o.dir o.name) o.place
-
-  abbrev pub base_name : ℕ → ℕ → Option (List ℕ)
-  base_name pid fd = option_and_then open_name (opened pid fd s)
-
-  abbrev pub cwd_name : ℕ → Option (List ℕ)
-  cwd_name pid = option_and_then (λ p. name_text host_space (host_place p.cwd.host) 0 []) (process pid s)
-
-  abbrev pub exe_name : ℕ → Option (List ℕ)
-  exe_name pid = option_and_then (λ p. name_text host_space (host_place p.exe.host) p.exe_dir p.exe_name) (process pid s)
-
-  -- what a descriptor is
-  abbrev pub kind_of_base : Option (Opened ℕ) → BaseKind
-  kind_of_base (Some o) = if is_dir o.what then base_kind.Dir else base_kind.Other
-  kind_of_base None = base_kind.Closed
-
-  -- ---- what a tracer is told
-
-  abbrev pub link_text_at : ℕ → Host → Result (List ℕ) Errno
-  link_text_at caller (Node i) = body_text (body s.tree i)
-  link_text_at caller (Proc i SelfLink) = Ok (decimal caller)
-  link_text_at caller (Proc i (Dir pid)) = Err EINVAL
-  link_text_at caller (Proc i (Cwd pid)) = name_or_none (cwd_name pid)
-  link_text_at caller (Proc i (Root pid)) = name_or_none (name_text host_space (root_place plain) 0 [])
-  link_text_at caller (Proc i (Exe pid)) = name_or_none (exe_name pid)
-  link_text_at caller (Proc i (FdDir pid)) = Err EINVAL
-  link_text_at caller (Proc i (Fd pid fd)) = name_or_none (base_name pid fd)
-
-  -- where the plain kernel's walk along a host path ends, if a last link isn't followed
-  abbrev pub answer_along : ℕ → List ℕ → Result PlaceTarget Errno
-  answer_along caller path = (place_walk (host_around_of caller) LookLink (root_place plain) path).answer
-
-  abbrev pub peeked_of : ℕ → Peeked
-  peeked_of caller = record {
-    kind = λ path. kind_along (host_around_of caller) path;
-    link_text = λ path. read_of (link_text_at caller) (answer_along caller path);
-    head = λ path n. read_of (head_at s.tree s.user n) (answer_along caller path);
-    base_kind = λ pid fd. kind_of_base (opened pid fd s);
-    base_name = base_name;
-    cwd_name = cwd_name;
-    exe_name = exe_name;
-  }
-
 -- what peeks of a state tell is what walks over the host's own view of it find
 abbrev pub StatesArePeekedAt : Type 0 → Type 0
 StatesArePeekedAt X = (s : State ℕ X) (caller : ℕ) → ArePeeks (peeked_of s caller) (host_around_of s caller)
-
--- ---- names that are told
-
--- what is remembered of an executable and of what is open has a well-formed name, as in every lawful state
-pub record RemembersNames {X : Type 0} (s : State ℕ X) : Type 0 where
-  pub exe : (pid : ℕ) (p : Process ℕ X) → process pid s ≡ Some p → IsNameOrNone p.exe_name
-  pub open_files : (pid fd : ℕ) (o : Opened ℕ) → opened pid fd s ≡ Some o → IsNameOrNone o.name
-
--- then a tracer is told no name that isn't the bytes of a text
-abbrev pub ToldNamesAreTexts : Type 0 → Type 0
-ToldNamesAreTexts X = (s : State ℕ X) (caller : ℕ) → IsSound s.tree → Each HasSmallNumbers (living_of s) → RemembersNames s → NamesAreTexts (peeked_of s caller)
 
 -- ---- places in use
 

@@ -1,14 +1,9 @@
 //! Laws of states of a kernel with mounts, each carried by a function that does nothing.
-ghost use Rattle.walks_agree.specs.States.{FoundIsInUse, PlacesInUseAreTold, StatesAreMatched, StatesArePeekedAt, ToldNamesAreTexts};
+ghost use Rattle.walks_agree.specs.States.{FoundIsInUse, PlacesInUseAreTold, StatesAreMatched, StatesArePeekedAt};
 
 /// What a tracer is told of a state is what walks over the host's own view of it find.
 pub fn states_are_peeked_at<X>()
     ensures { StatesArePeekedAt X }
-{}
-
-/// Names that a tracer is told of a state are the bytes of texts.
-pub fn told_names_are_texts<X>()
-    ensures { ToldNamesAreTexts X }
 {}
 
 /// Where each working directory, executable and open file stands at a guest text with its tag, all that walks of a

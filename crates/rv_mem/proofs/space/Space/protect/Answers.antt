@@ -2,6 +2,7 @@ use Rattle.std.specs.FinMap as map
 use Rattle.std.proofs.Common.{◌/◌, arith, ◌∙◌, ap}
 use Rattle.rv_mem.proofs.ChangeLemmas.{len-protected}
 use Rattle.rv_mem.proofs.SpaceLemmas.{IsPlaced-protected, IsWhole-protected}
+use Rattle.rv_mem.proofs.ByteLemmas.{IsOfBytes-protected}
 use Rattle.rv_mem.proofs.space.Space.protect.Goals as goal
 
 pub invariant_of-self : goal.invariant_of-self
@@ -10,6 +11,7 @@ invariant_of-self g c =
       IsPlaced-protected c.self.inside.pages (c.args.at / 4096) _ c.args.rights c.self.invariant.0,
       omega (arith, c.self.invariant.1, len-protected c.self.inside.pages (c.args.at / 4096) c.from-count.result c.args.rights),
       IsWhole-protected c.self.inside.pages (c.args.at / 4096) c.from-count.result c.args.rights c.self.invariant.2,
+      IsOfBytes-protected c.self.inside.pages (c.args.at / 4096) c.from-count.result c.args.rights c.self.invariant.3,
     )
 
 pub returns-clause-count : goal.returns-clause-count

@@ -3,6 +3,7 @@ use Rattle.std.proofs.Common.{◌≡◌, ◌/◌, ap, arith}
 use Rattle.rv_mem.specs.Pages.{unmapped}
 use Rattle.rv_mem.proofs.ChangeLemmas.{len-unmapped-le}
 use Rattle.rv_mem.proofs.SpaceLemmas.{IsPlaced-unmapped, IsWhole-unmapped}
+use Rattle.rv_mem.proofs.ByteLemmas.{IsOfBytes-unmapped}
 use Rattle.rv_mem.proofs.space.Space.unmap.Goals as goal
 
 pub invariant_of-self : goal.invariant_of-self
@@ -11,6 +12,7 @@ invariant_of-self g c =
       IsPlaced-unmapped c.self.inside.pages (c.args.at / 4096) _ c.self.invariant.0,
       omega (arith, c.self.invariant.1, len-unmapped-le c.self.inside.pages (c.args.at / 4096) c.from.result),
       IsWhole-unmapped c.self.inside.pages (c.args.at / 4096) c.from.result c.self.invariant.2,
+      IsOfBytes-unmapped c.self.inside.pages (c.args.at / 4096) c.from.result c.self.invariant.3,
     )
 
 pub overflow_sub-before : goal.overflow_sub-before

@@ -1,0 +1,37 @@
+-- A call of which a walk fails.
+use Rattle.std.proofs.Common.{◌≡◌, ◌≢◌, ℕ, List, [], ◌∷◌, Option, Some, None, refl, ap, sym, ◌∙◌}
+use Rattle.std.specs.Prelude.{Result, Ok, Err, ℤ}
+use Rattle.pr_base.specs.declared.errno.Errno.{Errno}
+use Rattle.pr_base.specs.declared.path.WalkMode.{WalkMode}
+use Rattle.kr_calls.specs.declared.request.Request.{Request}
+use Rattle.kr_calls.specs.declared.request.Request.TheVariants as call
+use Rattle.kr_calls.specs.PathTable.{PathUse, path_at, look_mode, only}
+use Rattle.kr_view.specs.View.{Row}
+use Rattle.kr_view.specs.Walk.{PlaceTarget}
+use Rattle.kr_model.specs.Known.{Known}
+use Rattle.kr_model.specs.Operation.{operation}
+use Rattle.kr_model.specs.Reply.{refuse}
+use Rattle.kr_model.specs.Seen.{WalkFails}
+use Rattle.kr_model.specs.State.{State}
+use Rattle.kr_model.specs.Walks.{targets_of}
+
+module _ {X : Type 0} (table : List Row) (pid : ℕ) (s : State ℕ X) where
+  -- it answers the error of the walk
+  pub walk-refuses : (k : Known) (r : Request) (e : Errno) → targets_of table pid s r ≡ Err e → operation pid r (WalkFails e) k ≡ refuse e
+  walk-refuses k (call.Openat dirfd path flags mode) e fails = refl
+  walk-refuses k (call.Mkdirat dirfd path mode) e fails = refl
+  walk-refuses k (call.Unlinkat dirfd path flags) e fails = refl
+  walk-refuses k (call.Symlinkat text dirfd path) e fails = refl
+  walk-refuses k (call.Linkat olddir old newdir new flags) e fails = refl
+  walk-refuses k (call.Renameat2 olddir old newdir new) e fails = refl
+  walk-refuses k (call.Faccessat dirfd path mode) e fails = refl
+  walk-refuses k (call.Fchmodat dirfd path mode) e fails = refl
+  walk-refuses k (call.Fchownat dirfd [] uid gid flags) e fails = absurd cc
+  walk-refuses k (call.Fchownat dirfd (b ∷ path) uid gid flags) e fails = refl
+  walk-refuses k (call.Newfstatat dirfd [] buf flags) e fails = absurd cc
+  walk-refuses k (call.Newfstatat dirfd (b ∷ path) buf flags) e fails = refl
+  walk-refuses k (call.Readlinkat dirfd path buf size) e fails = refl
+  walk-refuses k (call.Chdir path) e fails = refl
+  walk-refuses k (call.Chroot path) e fails = refl
+  walk-refuses k (call.Execve path args env) e fails = refl
+  walk-refuses k _ e fails = absurd cc

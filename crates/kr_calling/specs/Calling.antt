@@ -1,0 +1,39 @@
+-- A call with its walks: what is asked of a state between calls, and what a call makes of it.
+use Rattle.std.specs.Prelude.{◌≡◌, ◌≢◌, ◌<◌, ◌^◌, ℕ, List}
+use Rattle.std.specs.Option.{option_map}
+use Rattle.kr_calls.specs.declared.request.Request.{Request}
+use Rattle.kr_view.specs.View.{Row}
+use Rattle.kr_model.specs.Applied.{Mounts}
+use Rattle.kr_model.specs.Operation.{operation}
+use Rattle.kr_model.specs.Walks.{targets_of, seen}
+use Rattle.kr_model.specs.declared.outcome.Outcome.{Outcome}
+use Rattle.kr_allowed.specs.Told.{mounts_walked}
+use Rattle.kr_ops.specs.declared.state.State.{State}
+use Rattle.kr_ops.specs.Meaning.{meaning}
+use Rattle.kr_ops.specs.Sound.{IsServed}
+use Rattle.kr_procview.specs.Numbered.{state_numbered}
+use Rattle.kr_answers.specs.Carrying.{IsCarriedOut}
+use Rattle.kr_perform.specs.Lawful.{LastsLawful}
+
+-- mounts by their numbers in a view
+abbrev pub mounts_numbered : {T : Type 0} → (T → ℕ) → Mounts T → Mounts ℕ
+mounts_numbered number mounts = record { found = option_map number mounts.found; directory = option_map number mounts.directory }
+
+module _ {T : Type 0} {M : ℕ} (number : T → ℕ) (table : List Row) where
+  -- a state after so many calls: lawful, with what lasts, and served by what the code keeps beside it
+  pub record Runs (calls : ℕ) (s : State T M) : Type 0 where
+    pub lasts : LastsLawful number table calls (meaning s)
+    pub served : IsServed s
+
+  -- one after which a call can be made: fewer than 2^31 were
+  pub record MayCall (s : State T M) : Type 0 where
+    pub calls : ℕ
+    pub few : calls < 2 ^ 31
+    pub runs : Runs calls s
+
+  -- the paths of a call were walked, and then its row was carried out, of what it is told of where they lead
+  pub record IsCalled (pid : ℕ) (request : Request) (old new : State T M) (result : Outcome) : Type 0 where
+    -- the mounts that the changes of the call name, those to which its first path led
+    pub mounts : Mounts T
+    pub walked : mounts_numbered number mounts ≡ mounts_walked (targets_of table pid (state_numbered number (meaning old)) request)
+    pub carried : IsCarriedOut mounts pid (operation pid request (seen table pid (state_numbered number (meaning old)) request)) old new result

@@ -1,0 +1,65 @@
+//! A call of a guest, from its paths to what it leaves.
+ghost use Rattle.std.specs.Prelude.{◌≡◌, ◌≢◌, ◌+◌, ◌<◌, ◌^◌, ℕ, suc, Some, IfSome, IsSome};
+ghost use Rattle.kr_allowed.specs.Allowed.{HoldsBytes};
+ghost use Rattle.kr_model.specs.State.{Image, Process, process};
+ghost use Rattle.kr_model.specs.declared.outcome.Outcome.TheVariants.{NoMemory as WantOfMemory};
+ghost use Rattle.kr_allowed.specs.Calls.{HasTextPaths, IsGivable};
+ghost use Rattle.kr_allowed.specs.Told.{SourcesAreNamed};
+ghost use Rattle.kr_ops.specs.Meaning.{meaning};
+ghost use Rattle.kr_ops.specs.Sound.{IsSound};
+ghost use Rattle.kr_procview.specs.Numbered.{state_numbered};
+ghost use Rattle.kr_paths.specs.CallWalks.{call_reach};
+ghost use Rattle.kr_perform.specs.Operating.{IsNoExec};
+ghost use Rattle.kr_calling.specs.Calling.{IsCalled, MayCall, Runs};
+
+use kr_answers::refused;
+use kr_calls::Request;
+use kr_model::Outcome;
+use kr_ops::State;
+use kr_ops::laws::lawful_states_are_sound;
+use kr_paths::walk_paths;
+use kr_perform::perform;
+use kr_view::{Places, Reach, WalkFault};
+use rv_mem::Use;
+use std::alloc::Global;
+
+/// Carries out a call of a living process that isn't execve(2): walks its paths, and then does what its row says of where they lead; a
+/// path that leads nowhere answers its error. What the walks reach is added to `reach`. After want of memory the state may only be
+/// dropped.
+pub fn carry_out<P: Places, const M: u8>(
+    alloc: Global,
+    places: &P,
+    state: &mut State<P::Mount, M>,
+    pid: u32,
+    request: &Request,
+    reach: &mut Reach,
+) -> Outcome
+    requires kind { IsNoExec request.now }
+    requires given { IsGivable request.now }
+    requires paths { HasTextPaths request.now }
+    requires named { SourcesAreNamed (P.mounts places.now) }
+    requires may { MayCall P.number (P.mounts places.now) state.old }
+    requires lives { IsSome (process pid (meaning state.old)) }
+    requires behind { IfSome (process pid (meaning state.old)) (λ p. p.image.regs.pc + 4 < 2 ^ 64) }
+    ensures called { result ≢ WantOfMemory → IsCalled P.number (P.mounts places.now) pid request.now state.old state.new result }
+    ensures reach { result ≢ WantOfMemory → reach.new ≡ call_reach (P.mounts places.now) pid (state_numbered P.number (meaning state.old)) request.now reach.old }
+    ensures runs { (calls : ℕ) → calls < 2 ^ 31 → Runs P.number (P.mounts places.now) calls state.old → result ≢ WantOfMemory → Runs P.number (P.mounts places.now) (suc calls) state.new }
+{
+    lawful_states_are_sound::<P::Mount, M>();
+    memory_holds_bytes(state, pid);
+    match walk_paths(alloc, places, state, pid, request, reach) {
+        Ok(targets) => perform(alloc, places, state, pid, request, &targets),
+        Err(WalkFault::Err(errno)) => refused(errno),
+        Err(WalkFault::NoMemory) => Outcome::NoMemory,
+    }
+}
+
+/// What stands in the memory of a process are bytes. It does nothing.
+fn memory_holds_bytes<T: Copy, const M: u8>(state: &State<T, M>, pid: u32)
+    requires { IsSound state.now }
+    ensures { (p : Process T Image) → process pid (meaning state.now) ≡ Some p → HoldsBytes p.image.memory.pages }
+{
+    if let Some(k) = state.index_of(pid) {
+        let _can = state.living[k].mem.can(0, 0, Use::Read);
+    }
+}

@@ -1,0 +1,11 @@
+pub mod AroundLemmas
+pub mod BeginningLemmas
+pub mod ExitLemmas
+pub mod LeftLemmas
+pub mod LimitLemmas
+pub mod LineLemmas
+pub mod LoadingLemmas
+pub mod PlannedLemmas
+pub mod PuttingLemmas
+pub mod ReadingLemmas
+pub mod StandingLemmas

@@ -1,0 +1,86 @@
+//! execve(2) as a whole.
+ghost use Rattle.std.specs.Prelude.{IsSome};
+ghost use Rattle.kr_allowed.specs.Told.{SourcesAreNamed};
+ghost use Rattle.kr_execve.specs.Executing.{told_of, Leaves};
+ghost use Rattle.kr_lasting.specs.Texts.{IsText, LinksHaveTexts};
+ghost use Rattle.kr_model.specs.Lawful.{IsLawful};
+ghost use Rattle.kr_model.specs.State.{process};
+ghost use Rattle.kr_ops.specs.Meaning.{meaning};
+ghost use Rattle.kr_ops.specs.Sound.{IsServed};
+ghost use Rattle.kr_tree.specs.Lawful.{AreBytes};
+
+use crate::finding::{cwd_of, find, plan};
+use crate::loading::put;
+use crate::reading::read;
+use kr_ops::State;
+use kr_ops::laws::lawful_states_are_sound;
+use kr_view::{Places, Reach, WalkFault};
+use pr_base::Errno;
+use std::alloc::Global;
+
+/// What became of an execve.
+#[derive(Clone, Copy, Debug, PartialEq, Eq)]
+pub enum Executed {
+    /// A new program is in place of the caller's.
+    Replaced,
+    /// Nothing was changed.
+    Refused(Errno),
+    NoMemory,
+}
+
+/// Carries out an execve of a living process, of a path and the addresses of two lists: finds the file, reads the lists, expands
+/// scripts, and puts the program in place of the caller's. What the walks reach is added to `reach`. What is read of the caller's memory
+/// is noted there, whatever is answered. After want of memory the state may only be dropped.
+pub fn execute<P: Places, const M: u8>(
+    alloc: Global,
+    places: &P,
+    state: &mut State<P::Mount, M>,
+    pid: u32,
+    path: &[u8],
+    args: u64,
+    env: u64,
+    reach: &mut Reach,
+) -> Executed
+    requires text { IsText path.now }
+    requires bytes { AreBytes path.now }
+    requires named { SourcesAreNamed (P.mounts places.now) }
+    requires lawful { IsLawful P.number (P.mounts places.now) (meaning state.old) }
+    requires links { LinksHaveTexts state.old.tree }
+    requires served { IsServed state.old }
+    requires lives { IsSome (process pid (meaning state.old)) }
+    ensures { Leaves P.number (P.mounts places.now) pid path.now args env state.old state.new reach.old reach.new result }
+{
+    match replace(alloc, places, state, pid, path, args, env, reach) {
+        Ok(()) => Executed::Replaced,
+        Err(WalkFault::Err(errno)) => Executed::Refused(errno),
+        Err(WalkFault::NoMemory) => Executed::NoMemory,
+    }
+}
+
+/// The same, with what is refused as an error.
+fn replace<P: Places, const M: u8>(
+    alloc: Global,
+    places: &P,
+    state: &mut State<P::Mount, M>,
+    pid: u32,
+    path: &[u8],
+    args: u64,
+    env: u64,
+    reach: &mut Reach,
+) -> Result<(), WalkFault>
+    requires text { IsText path.now }
+    requires bytes { AreBytes path.now }
+    requires named { SourcesAreNamed (P.mounts places.now) }
+    requires lawful { IsLawful P.number (P.mounts places.now) (meaning state.old) }
+    requires links { LinksHaveTexts state.old.tree }
+    requires served { IsServed state.old }
+    requires lives { IsSome (process pid (meaning state.old)) }
+    ensures { Leaves P.number (P.mounts places.now) pid path.now args env state.old state.new reach.old reach.new (told_of result) }
+{
+    lawful_states_are_sound::<P::Mount, M>();
+    let base = cwd_of(state, pid);
+    let found = find(alloc, places, state, pid, base, path, reach)?;
+    let lists = read(alloc, state, pid, args, env)?;
+    let plan = plan(alloc, places, state, pid, base, found, path, lists, reach)?;
+    put(alloc, state, pid, plan)
+}

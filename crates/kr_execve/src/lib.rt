@@ -1,0 +1,9 @@
+//! execve(2) in a running process: a program that is found by a path takes the place of the caller's.
+#![tactic(auto)]
+
+mod executing;
+mod finding;
+mod loading;
+mod reading;
+
+pub use executing::{Executed, execute};

@@ -1,0 +1,4 @@
+pub mod HostLemmas
+pub mod NumberLemmas
+pub mod LawLemmas
+pub mod WalkLemmas

@@ -1,0 +1,49 @@
+-- Walks of the host's own view in code, and what is read where they end.
+use Rattle.std.proofs.Common.{◌≡◌, ℕ, List, Option, Some, None, Result, Ok, Err, refl, sym, ap, subst, ◌∙◌}
+use Rattle.std.specs.Option.{option_map}
+use Rattle.pr_base.specs.declared.errno.Errno.{Errno}
+use Rattle.pr_base.specs.declared.errno.Errno.TheVariants.{ENOENT}
+use Rattle.pr_base.specs.declared.path.WalkMode.TheVariants.{LookLink}
+use Rattle.kr_tree.specs.declared.place.Host.{Host}
+use Rattle.kr_tree.specs.declared.place.Place.{Place}
+use Rattle.kr_view.specs.declared.target.Target.{Target}
+use Rattle.kr_view.specs.declared.target.WalkFault.{WalkFault}
+use Rattle.kr_view.specs.declared.view.HostMount.{HostMount}
+use Rattle.kr_view.specs.Answers.{IsAnswer}
+use Rattle.kr_view.specs.Leads.{numbered}
+use Rattle.kr_view.specs.Living.{finds_among}
+use Rattle.kr_view.specs.View.{plain, root_place}
+use Rattle.kr_view.specs.Walk.{PlaceTarget, place_walk, surroundings}
+use Rattle.kr_model.specs.HostView.{host_around_of, host_leads, host_space}
+use Rattle.kr_model.specs.Peeks.{answer_along, at_found, kind_of_answer, kind_seen}
+use Rattle.kr_model.specs.ProcessDirectory.{living_of}
+use Rattle.kr_model.specs.State.{Image, State}
+use Rattle.kr_ops.specs.declared.state.State.{State as Held}
+use Rattle.kr_ops.specs.Meaning.{meaning}
+use Rattle.kr_hostview.specs.OnHost.{lead_on_host, number}
+use Rattle.kr_hostview.specs.Peeking.{IsFound, kind_at}
+use Rattle.kr_hostview.proofs.LawLemmas.{told-same}
+
+module _ {T : Type 0} {M : ℕ} (state procs : Held T M) (same : procs ≡ state) (caller : ℕ) (base : Place ℕ) (rooted : base ≡ root_place plain) (path : List ℕ) (result : Result (Target HostMount) WalkFault) where
+  pub walked-on-host : IsAnswer number (place_walk (surroundings number plain state.tree state.user (finds_among (living_of (meaning procs))) (λ at. lead_on_host (host_leads (meaning procs) caller at))) LookLink base path).answer result
+      → IsAnswer number (answer_along (meaning state) caller path) result
+  walked-on-host h =
+      subst (λ leads. IsAnswer number (place_walk (record { space = host_space (meaning state); leads = leads }) LookLink (root_place plain) path).answer result) (λ j at. told-same (meaning state) caller at j)
+      (subst (λ base. IsAnswer number (place_walk (surroundings number plain state.tree state.user (finds_among (living_of (meaning state))) (λ at. lead_on_host (host_leads (meaning state) caller at))) LookLink base path).answer result) rooted
+      (subst
+      (λ (procs : Held T M).
+      IsAnswer number (place_walk (surroundings number plain state.tree state.user (finds_among (living_of (meaning procs))) (λ at. lead_on_host (host_leads (meaning procs) caller at))) LookLink base path).answer result)
+      same h))
+
+-- the object of what a walk found
+pub is-found : (answer : Result PlaceTarget Errno) (target : Target HostMount) (object : Option Host) → object ≡ option_map (λ (p : Place HostMount). p.host) target.found → IsAnswer number answer (Ok target) → IsFound answer (Ok object)
+is-found answer target object is h = subst (λ object. IsFound answer (Ok object)) (sym is) (h.0, h.1, ap (λ x. x.found) h.2 ∙ by target.found)
+  where
+    by : (o : Option (Place HostMount)) → option_map (numbered number) o ≡ option_map (λ x. record { mount = 0; host = x }) (option_map (λ (p : Place HostMount). p.host) o)
+    by None = refl
+    by (Some p) = refl
+
+module _ {T : Type 0} (s : State T Image) (caller : ℕ) where
+  -- its kind
+  pub kind-found : (answer : Result PlaceTarget Errno) (object : Host) → IsFound answer (Ok (Some object)) → kind_of_answer (host_around_of s caller) answer ≡ kind_at s caller object
+  kind-found answer object found = ap (kind_of_answer (host_around_of s caller)) found.1 ∙ ap (at_found (host_around_of s caller) (Err ENOENT) kind_seen) found.2

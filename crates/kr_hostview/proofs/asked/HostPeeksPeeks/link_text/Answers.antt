@@ -1,0 +1,9 @@
+use Rattle.std.proofs.Common.{subst}
+use Rattle.pr_base.specs.Peeks.{IsPeeked}
+use Rattle.kr_model.specs.Peeks.{peeked_of}
+use Rattle.kr_ops.specs.Meaning.{meaning}
+use Rattle.kr_hostview.specs.Asked.{Asked}
+use Rattle.kr_hostview.proofs.asked.HostPeeksPeeks.link_text.Goals as goal
+
+pub returns-clause-answer : goal.returns-clause-answer
+returns-clause-answer g c = subst (λ (v : Asked g.row.T.Denot g.row.M). IsPeeked ((peeked_of (meaning v.state) v.caller).link_text c.args.host.now) c.link_text.result) c.self.view_is c.link_text.ensures

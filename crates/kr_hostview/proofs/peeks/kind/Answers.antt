@@ -1,0 +1,15 @@
+use Rattle.std.proofs.Common.{sym, subst, Ok}
+use Rattle.pr_base.specs.Peeks.{IsPeeked}
+use Rattle.kr_model.specs.Peeks.{answer_along}
+use Rattle.kr_ops.specs.Meaning.{meaning}
+use Rattle.kr_hostview.specs.Peeking.{IsFound}
+use Rattle.kr_hostview.proofs.WalkLemmas.{kind-found}
+use Rattle.kr_hostview.proofs.peeks.kind.Goals as goal
+
+pub returns-in-Some : goal.returns-in-Some
+returns-in-Some g c =
+    subst (λ kind. IsPeeked kind c.kind_of.result)
+    (sym
+    (kind-found (meaning c.args.state.now) c.args.caller (answer_along (meaning c.args.state.now) c.args.caller c.args.host.now) c.in-Some.object
+    (subst (λ object. IsFound (answer_along (meaning c.args.state.now) c.args.caller c.args.host.now) (Ok object)) c.in-Some.is c.in_ok-object.ensures)))
+    (c.kind_of.ensures c.args.caller)

@@ -1,0 +1,4 @@
+pub mod TreeLemmas
+pub mod StateLemmas
+pub mod ChangeLemmas
+pub mod RoomLemmas

@@ -1,0 +1,3 @@
+pub mod Texts
+pub mod Drawing
+pub mod Lasting

@@ -1,0 +1,4 @@
+//! Laws of the trees that listings give: a run over them begins with what lasts.
+#![tactic(auto)]
+
+pub mod laws;

@@ -1,0 +1,19 @@
+-- The names of what the walks of a call lead to over a lawful state.
+use Rattle.std.specs.Prelude.{ℕ, ◌≡◌, List, Some, Ok}
+use Rattle.kr_calls.specs.PathTable.{PathUse, path_at}
+use Rattle.kr_calls.specs.declared.request.Request.{Request}
+use Rattle.kr_tree.specs.Lawful.{AreBytes}
+use Rattle.kr_view.specs.View.{Row}
+use Rattle.kr_model.specs.Lawful.{IsLawful}
+use Rattle.kr_model.specs.State as model
+use Rattle.kr_model.specs.State.{Image}
+use Rattle.kr_model.specs.Walks as walks
+use Rattle.kr_model.specs.Walks.{targets_of}
+use Rattle.kr_allowed.specs.Told.{AreGoodTargets}
+use Rattle.kr_lasting.specs.Texts.{IsText, LinksHaveTexts}
+
+-- along paths that are texts of bytes, where links have texts, a name that is free is well-formed, and so is that of a file
+abbrev pub WalksName : Type 0
+WalksName =
+    (table : List Row) (pid : ℕ) (s : model.State ℕ Image) (r : Request) (targets : walks.Targets) → IsLawful (λ m. m) table s → LinksHaveTexts s.tree
+    → ((k : ℕ) (u : PathUse) → path_at r k ≡ Some u → IsText u.text × AreBytes u.text) → targets_of table pid s r ≡ Ok targets → AreGoodTargets s.tree targets

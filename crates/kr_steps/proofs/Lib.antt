@@ -1,0 +1,3 @@
+pub mod ComputingLemmas
+pub mod KillLemmas
+pub mod PickLemmas

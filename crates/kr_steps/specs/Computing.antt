@@ -1,0 +1,36 @@
+-- Instructions of a process in a state, and the decoding of the call at which it comes to stand.
+use Rattle.std.specs.Prelude.{◌≡◌, ℕ, Some, Result}
+use Rattle.rv_mem.specs.Actions.{carried_out}
+use Rattle.rv_mem.specs.Memory.{Memory}
+use Rattle.rv_mem.specs.declared.regs.Regs.{Regs}
+use Rattle.rv_cpu.specs.Run.{ran}
+use Rattle.rv_cpu.specs.declared.event.Event.{Event}
+use Rattle.kr_calls.specs.Decodes.{Gives}
+use Rattle.kr_calls.specs.Decoding.{decoding}
+use Rattle.kr_calls.specs.declared.fault.CallFault.{CallFault}
+use Rattle.kr_calls.specs.declared.request.Request.{Request}
+use Rattle.kr_model.specs.Applied.{with_image, with_living}
+use Rattle.kr_model.specs.State as model
+use Rattle.kr_ops.specs.declared.state.State.{State}
+use Rattle.kr_ops.specs.Meaning.{meaning}
+
+-- a process with other registers and another memory
+abbrev pub computed : {T : Type 0} → ℕ → Regs → Memory → model.State T model.Image → model.State T model.Image
+computed pid regs memory s = with_living (model.with_process pid (with_image (λ (image : model.Image). record { regs = regs; memory = memory }))) s
+
+module _ {T : Type 0} {M : ℕ} where
+  -- a living process did so many instructions, or fewer where one of them is a call or kills it
+  pub record Computes (pid fuel : ℕ) (old new : State T M) (event : Event) (done : ℕ) : Type 0 where
+    pub process : model.Process T model.Image
+    pub lives : model.process pid (meaning old) ≡ Some process
+    pub ends : event ≡ (ran fuel process.image.regs process.image.memory).event
+    pub counts : done ≡ (ran fuel process.image.regs process.image.memory).done
+    pub leaves : meaning new ≡ computed pid (ran fuel process.image.regs process.image.memory).regs (ran fuel process.image.regs process.image.memory).memory (meaning old)
+
+  -- the request of a living process was decoded from its registers and its memory, or the error of that; what was read of the
+  -- memory is noted there
+  pub record Requests (pid : ℕ) (old new : State T M) (result : Result Request CallFault) : Type 0 where
+    pub process : model.Process T model.Image
+    pub lives : model.process pid (meaning old) ≡ Some process
+    pub gives : Gives result (carried_out (decoding process.image.regs) process.image.memory) (carried_out (decoding process.image.regs) process.image.memory).memory
+    pub leaves : meaning new ≡ computed pid process.image.regs (carried_out (decoding process.image.regs) process.image.memory).memory (meaning old)

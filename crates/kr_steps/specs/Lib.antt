@@ -1,0 +1,4 @@
+pub mod Computing
+pub mod Answering
+pub mod Settling
+pub mod Waiting

@@ -1,0 +1,27 @@
+//! A process that dies of an instruction.
+ghost use Rattle.std.specs.Prelude.{ℕ, suc, List, IsSome, OnOk};
+ghost use Rattle.kr_calling.specs.Calling.{Runs};
+ghost use Rattle.kr_model.specs.Change.{End};
+ghost use Rattle.kr_model.specs.State.{process};
+ghost use Rattle.kr_ops.specs.Making.{Makes};
+ghost use Rattle.kr_ops.specs.Meaning.{meaning};
+ghost use Rattle.kr_ops.specs.Sound.{IsOfView};
+ghost use Rattle.kr_view.specs.View.{Row};
+
+use kr_ops::State;
+use pr_base::NoMemory;
+
+/// Kills a living process by a signal, as signal(7) has it where the signal is the default's to end: its status, which wait4(2) tells its
+/// parent, is the signal's number. After want of memory the state may only be dropped.
+pub fn kill<T: Copy, const M: u8>(
+    state: &mut State<T, M>,
+    pid: u32,
+    signal: u8,
+) -> Result<(), NoMemory>
+    requires view { IsOfView state.old }
+    requires lives { IsSome (process pid (meaning state.old)) }
+    ensures ends { OnOk result (Makes pid (End signal) state.old state.new) }
+    ensures runs { OnOk result ((number : T → ℕ) (table : List Row) (calls : ℕ) → Runs number table calls state.old → Runs number table (suc calls) state.new) }
+{
+    state.end(pid, u32::from(signal))
+}

@@ -1,0 +1,16 @@
+//! The steps of a turn, each by itself.
+#![tactic(auto)]
+
+mod answering;
+mod calling;
+mod instructions;
+mod killing;
+mod picking;
+mod requesting;
+
+pub use answering::{answer, stay};
+pub use calling::{Called, call};
+pub use instructions::compute;
+pub use killing::kill;
+pub use picking::{picked, ready};
+pub use requesting::request;

@@ -1,0 +1,35 @@
+//! The request of a call.
+ghost use Rattle.std.specs.Prelude.{ℕ, List, IfOk, IsSome};
+ghost use Rattle.kr_allowed.specs.Calls.{HasTextPaths, IsGivable};
+ghost use Rattle.kr_calling.specs.Calling.{Runs};
+ghost use Rattle.kr_model.specs.State.{process};
+ghost use Rattle.kr_ops.specs.Meaning.{meaning};
+ghost use Rattle.kr_ops.specs.Sound.{IsSound};
+ghost use Rattle.kr_steps.specs.Computing.{Requests};
+ghost use Rattle.kr_view.specs.View.{Row};
+
+use kr_calls::{CallFault, Request, decode};
+use kr_ops::State;
+use rv_mem::Use;
+
+/// What a living process asks for by the call at which it stands, or the error that decoding it answers. What was read of its memory
+/// is noted there, whatever is answered.
+pub fn request<T: Copy, const M: u8>(
+    state: &mut State<T, M>,
+    pid: u32,
+) -> Result<Request, CallFault>
+    requires sound { IsSound state.old }
+    requires lives { IsSome (process pid (meaning state.old)) }
+    ensures requested { Requests pid state.old state.new result }
+    ensures given { IfOk result (λ r. IsGivable r) }
+    ensures paths { IfOk result (λ r. HasTextPaths r) }
+    ensures runs { (number : T → ℕ) (table : List Row) (calls : ℕ) → Runs number table calls state.old → Runs number table calls state.new }
+{
+    let Some(k) = state.index_of(pid) else {
+        unreachable!();
+    };
+    let process = &mut state.living[k];
+    // What is in a memory are bytes.
+    let _can = process.mem.can(0, 0, Use::Read);
+    decode(&process.regs, &mut process.mem)
+}

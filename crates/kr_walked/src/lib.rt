@@ -1,0 +1,4 @@
+//! What calls rest on, of what the walks of their paths lead to.
+#![tactic(auto)]
+
+pub mod laws;
