@@ -1,3 +1,4 @@
+pub mod Entering
 pub mod Facts
 pub mod Found
 pub mod Named

@@ -1,18 +1,16 @@
 //! Calls on the working directory and on the root.
-ghost use Rattle.std.specs.Prelude.{◌≡◌, ℕ, [], ◌∷◌, List, Some, IfErr, IsSome, OnOk};
+ghost use Rattle.std.specs.Prelude.{◌≡◌, ℕ, List, IfErr, IsSome, OnOk};
 ghost use Rattle.kr_tree.specs.Tree.{inode};
 ghost use Rattle.kr_view.specs.View.{Row};
-ghost use Rattle.kr_model.specs.Applied.{Mounts, mount_of};
-ghost use Rattle.kr_model.specs.Change.{ChangeDirectory, MountOf};
 ghost use Rattle.kr_model.specs.DirectoryRows.{chdir_row, chroot_row, fchdir_row, if_entered};
 ghost use Rattle.kr_model.specs.Known.{known};
 ghost use Rattle.kr_model.specs.Operation.{looked_up};
-ghost use Rattle.kr_model.specs.Reply.{Replying, done, refuse};
+ghost use Rattle.kr_model.specs.Reply.{Replying, refuse};
 ghost use Rattle.kr_model.specs.Seen.{LooksUp};
 ghost use Rattle.kr_model.specs.State.{image_layout, inode_of as host_inode, process};
 ghost use Rattle.kr_ops.specs.Meaning.{meaning};
 ghost use Rattle.kr_ops.specs.Sound.{IsServed, IsSound};
-ghost use Rattle.kr_answers.specs.Carrying.{CarriesOut};
+ghost use Rattle.kr_attributes.specs.Entering.{Enters};
 ghost use Rattle.kr_targets.specs.Performing.{PerformsAt, seen_found};
 ghost use Rattle.kr_targets.specs.Resolved.{IsFoundIn};
 ghost use Rattle.kr_rows.specs.Performing.{Performs};
@@ -92,7 +90,7 @@ fn enter<T: Copy, const M: u8>(state: &mut State<T, M>, pid: u32, place: Place<T
     requires sound { IsSound state.old }
     requires lives { IsSome (process pid (meaning state.old)) }
     requires there { IsSome (inode state.old.tree (host_inode place.host)) }
-    ensures performs { (mounts : Mounts T) (from : MountOf) → mount_of mounts pid (meaning state.old) from ≡ Some place.mount → CarriesOut mounts pid (λ k. if_entered k place.host (done 0 (ChangeDirectory from place.host ∷ []))) state.old state.new result }
+    ensures performs { Enters pid place state.old state.new result }
     ensures served { IsServed state.new }
 {
     match may_enter(state, place.host) {

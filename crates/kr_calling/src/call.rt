@@ -1,5 +1,5 @@
 //! A call of a guest, from its paths to what it leaves.
-ghost use Rattle.std.specs.Prelude.{◌≡◌, ◌≢◌, ◌+◌, ◌<◌, ◌^◌, ℕ, suc, Some, IfSome, IsSome};
+ghost use Rattle.std.specs.Prelude.{◌≡◌, ◌≢◌, ◌+◌, ◌<◌, ◌^◌, ℕ, suc, Ok, Some, IfSome, IsSome};
 ghost use Rattle.kr_allowed.specs.Allowed.{HoldsBytes};
 ghost use Rattle.kr_model.specs.State.{Image, Process, process};
 ghost use Rattle.kr_model.specs.declared.outcome.Outcome.TheVariants.{NoMemory as WantOfMemory};
@@ -8,7 +8,8 @@ ghost use Rattle.kr_allowed.specs.Told.{SourcesAreNamed};
 ghost use Rattle.kr_ops.specs.Meaning.{meaning};
 ghost use Rattle.kr_ops.specs.Sound.{IsSound};
 ghost use Rattle.kr_procview.specs.Numbered.{state_numbered};
-ghost use Rattle.kr_paths.specs.CallWalks.{call_reach};
+ghost use Rattle.kr_model.specs.Walks.{targets_of};
+ghost use Rattle.kr_paths.specs.CallWalks.{call_reach, AreTargets};
 ghost use Rattle.kr_perform.specs.Operating.{IsNoExec};
 ghost use Rattle.kr_calling.specs.Calling.{IsCalled, MayCall, Runs};
 
@@ -17,7 +18,7 @@ use kr_calls::Request;
 use kr_model::Outcome;
 use kr_ops::State;
 use kr_ops::laws::lawful_states_are_sound;
-use kr_paths::walk_paths;
+use kr_paths::{Targets, walk_paths};
 use kr_perform::perform;
 use kr_view::{Places, Reach, WalkFault};
 use rv_mem::Use;
@@ -45,13 +46,36 @@ pub fn carry_out<P: Places, const M: u8>(
     ensures reach { result ≢ WantOfMemory → reach.new ≡ call_reach (P.mounts places.now) pid (state_numbered P.number (meaning state.old)) request.now reach.old }
     ensures runs { (calls : ℕ) → calls < 2 ^ 31 → Runs P.number (P.mounts places.now) calls state.old → result ≢ WantOfMemory → Runs P.number (P.mounts places.now) (suc calls) state.new }
 {
-    lawful_states_are_sound::<P::Mount, M>();
-    memory_holds_bytes(state, pid);
     match walk_paths(alloc, places, state, pid, request, reach) {
-        Ok(targets) => perform(alloc, places, state, pid, request, &targets),
+        Ok(targets) => carry_out_along(alloc, places, state, pid, request, &targets),
         Err(WalkFault::Err(errno)) => refused(errno),
         Err(WalkFault::NoMemory) => Outcome::NoMemory,
     }
+}
+
+/// The same where its paths were walked: does what its row says of where they lead.
+pub fn carry_out_along<P: Places, const M: u8>(
+    alloc: Global,
+    places: &P,
+    state: &mut State<P::Mount, M>,
+    pid: u32,
+    request: &Request,
+    targets: &Targets<P::Mount>,
+) -> Outcome
+    requires kind { IsNoExec request.now }
+    requires given { IsGivable request.now }
+    requires paths { HasTextPaths request.now }
+    requires named { SourcesAreNamed (P.mounts places.now) }
+    requires may { MayCall P.number (P.mounts places.now) state.old }
+    requires lives { IsSome (process pid (meaning state.old)) }
+    requires behind { IfSome (process pid (meaning state.old)) (λ p. p.image.regs.pc + 4 < 2 ^ 64) }
+    requires along { AreTargets P.number (targets_of (P.mounts places.now) pid (state_numbered P.number (meaning state.old)) request.now) (Ok targets.now) }
+    ensures called { result ≢ WantOfMemory → IsCalled P.number (P.mounts places.now) pid request.now state.old state.new result }
+    ensures runs { (calls : ℕ) → calls < 2 ^ 31 → Runs P.number (P.mounts places.now) calls state.old → result ≢ WantOfMemory → Runs P.number (P.mounts places.now) (suc calls) state.new }
+{
+    lawful_states_are_sound::<P::Mount, M>();
+    memory_holds_bytes(state, pid);
+    perform(alloc, places, state, pid, request, targets)
 }
 
 /// What stands in the memory of a process are bytes. It does nothing.

@@ -3,4 +3,4 @@
 
 mod call;
 
-pub use call::carry_out;
+pub use call::{carry_out, carry_out_along};

@@ -1,21 +1,16 @@
 -- How an execve in code ends, by the step at which it ends.
 use Rattle.std.specs.FinMap as map
 use Rattle.std.proofs.Common.{◌≡◌, ℕ, Bool, true, false, cond, List, [], ◌∷◌, Option, Some, None, refl, sym, ap, subst, ◌∙◌}
-use Rattle.std.specs.Prelude.{Result, Ok, Err, IsSome, ◌&&◌, map as map_list, sum}
+use Rattle.std.specs.Prelude.{Result, Ok, Err, IsSome, map as map_list, sum}
 use Rattle.std.specs.Option.{option_map, option_map_or}
 use Rattle.std.proofs.lemmas.Option.{same_Some}
 use Rattle.pr_base.specs.declared.errno.Errno.{Errno}
 use Rattle.pr_base.specs.declared.errno.Errno.TheVariants.{ENOMEM}
 use Rattle.rv_mem.specs.Memory.{Memory}
 use Rattle.elf_load.specs.Image.{image_exceeds}
-use Rattle.kr_tree.specs.declared.place.Host.{Host}
-use Rattle.kr_tree.specs.declared.place.Host.TheVariants.{Node, Proc}
+use Rattle.kr_tree.specs.declared.place.Host.TheVariants.{Node}
 use Rattle.kr_tree.specs.declared.place.Place.{Place}
 use Rattle.kr_tree.specs.Lawful.{AreBytes}
-use Rattle.kr_tree.specs.Tree.{Tree, body_is, is_file}
-use Rattle.kr_tree.specs.Rights.{may}
-use Rattle.kr_inode.specs.declared.user.User.{User}
-use Rattle.kr_inode.specs.declared.user.Right.TheVariants.{Search}
 use Rattle.kr_view.specs.declared.target.Reach.{Reach}
 use Rattle.kr_view.specs.declared.target.Target.{Target}
 use Rattle.kr_view.specs.declared.target.WalkFault.{WalkFault}
@@ -63,16 +58,8 @@ use Rattle.kr_execve.proofs.AroundLemmas.{around-read}
 use Rattle.kr_execve.proofs.LeftLemmas.{is-left, not-found, not-found-reach, not-read, planned-is, read-reach}
 use Rattle.kr_execve.proofs.PlannedLemmas.{planned-of}
 use Rattle.kr_execve.proofs.PuttingLemmas.{can-all}
-use Rattle.kr_execve.proofs.StandingLemmas.{found-stands, IsStanding, plan-stands}
-
--- a program is a file
-program-file : (t : Tree) (user : User) (h : Host) → is_program t user h ≡ true → is_file_at t h ≡ true
-program-file t user (Proc i at) is = absurd cc
-program-file t user (Node i) is = by (body_is is_file t i) (may t user i Search) is
-  where
-    by : (a b : Bool) → (a && b) ≡ true → a ≡ true
-    by true b is = refl
-    by false b is = absurd cc
+use Rattle.kr_execve.proofs.ProgramLemmas.{program-file, IsStanding}
+use Rattle.kr_execve.proofs.StandingLemmas.{found-stands, plan-stands}
 
 maps-map : {A B C : Type 0} (f : B → C) (g : A → B) (xs : List A) → map_list f (map_list g xs) ≡ map_list (λ x. f (g x)) xs
 maps-map f g [] = refl

@@ -6,6 +6,7 @@ pub mod LimitLemmas
 pub mod LineLemmas
 pub mod LoadingLemmas
 pub mod PlannedLemmas
+pub mod ProgramLemmas
 pub mod PuttingLemmas
 pub mod ReadingLemmas
 pub mod StandingLemmas

@@ -1,5 +1,5 @@
 -- Calls on attributes that answer an error change nothing.
-use Rattle.std.proofs.Common.{ℕ, false, ◌&&◌, List, refl, Option, ℤ}
+use Rattle.std.proofs.Common.{◌≡◌, ℕ, true, false, ◌&&◌, List, refl, Option, ℤ}
 use Rattle.std.specs.Prelude.{◌==◌}
 use Rattle.pr_base.specs.declared.errno.Errno.TheVariants.{EPERM, ENOENT, EBADF, EACCES, EFAULT, EINVAL}
 use Rattle.kr_files.specs.declared.opened.What.{What}
@@ -11,47 +11,48 @@ use Rattle.kr_calls.specs.declared.stat.Stat.{Stat}
 use Rattle.kr_inode.specs.declared.user.User.{User}
 use Rattle.kr_model.specs.Change.{Change}
 use Rattle.kr_model.specs.Known.{Known, known_node}
+use Rattle.kr_model.specs.Laws.{ends_nobody}
 use Rattle.kr_model.specs.Seen.{Looked}
 use Rattle.kr_model.specs.AttributeRows.{unchanged, may_give, node_stat, process_stat, console_stat, pipe_stat, faccessat_row, chmod_host, fchmod_row, fchmodat_row, chown_by, chown_host, fchown_row, fchownat_row, fchownat_here, tell_stat, stat_host, stat_unplaced, fstat_row, newfstatat_row, newfstatat_here, tell_text, readlink_body, readlink_host, readlinkat_row}
-use Rattle.kr_model.proofs.RefusalLemmas.{IsClean, refused, answered, tested, wrote, either, maybe, by_open}
+use Rattle.kr_model.proofs.RefusalLemmas.{Bounds, IsClean, refused, answered, tested, wrote, either, maybe, by_open}
 
-pub faccessat_clean : (k : Known) (l : Looked) (mode : ℕ) → IsClean false (faccessat_row k l mode)
-faccessat_clean k l mode = either _ answered (refused EACCES refl)
+pub faccessat_clean : {may : Bounds} (k : Known) (l : Looked) (mode : ℕ) → IsClean may false (faccessat_row k l mode)
+faccessat_clean k l mode = either _ (answered refl) (refused EACCES refl)
 
-host_chmodded : (k : Known) (mode : ℕ) (at : Host) → IsClean false (chmod_host k mode at)
-host_chmodded k mode (host.Node i) = maybe (known_node k i) (λ n. either _ (refused EPERM refl) answered) (refused ENOENT refl)
+host_chmodded : {may : Bounds} (k : Known) (mode : ℕ) (at : Host) → IsClean may false (chmod_host k mode at)
+host_chmodded k mode (host.Node i) = maybe (known_node k i) (λ n. either _ (refused EPERM refl) (answered refl)) (refused ENOENT refl)
 host_chmodded k mode (host.Proc i at) = refused EPERM refl
 
-pub fchmod_clean : (k : Known) (fd : ℤ) (mode : ℕ) → IsClean false (fchmod_row k fd mode)
+pub fchmod_clean : {may : Bounds} (k : Known) (fd : ℤ) (mode : ℕ) → IsClean may false (fchmod_row k fd mode)
 fchmod_clean k fd mode = by_open k fd (λ n o. maybe o.place (λ p. host_chmodded k mode p.host) (refused EPERM refl))
 
-pub fchmodat_clean : (k : Known) (l : Looked) (mode : ℕ) → IsClean false (fchmodat_row k l mode)
+pub fchmodat_clean : {may : Bounds} (k : Known) (l : Looked) (mode : ℕ) → IsClean may false (fchmodat_row k l mode)
 fchmodat_clean k l mode = host_chmodded k mode l.host
 
-chowned : (user owner : User) (uid gid : ℕ) (changes : List Change) → IsClean false (chown_by user owner uid gid changes)
-chowned user owner uid gid changes = either (uid == unchanged && gid == unchanged) answered (either (may_give user owner uid gid) answered (refused EPERM refl))
+chowned : {may : Bounds} (user owner : User) (uid gid : ℕ) (changes : List Change) → ends_nobody changes ≡ true → IsClean may false (chown_by user owner uid gid changes)
+chowned user owner uid gid changes nobody = either (uid == unchanged && gid == unchanged) (answered refl) (either (may_give user owner uid gid) (answered nobody) (refused EPERM refl))
 
-host_chowned : (k : Known) (uid gid : ℕ) (at : Host) → IsClean false (chown_host k uid gid at)
-host_chowned k uid gid (host.Node i) = maybe (known_node k i) (λ n. chowned _ _ uid gid _) (refused ENOENT refl)
-host_chowned k uid gid (host.Proc i at) = chowned _ _ uid gid _
+host_chowned : {may : Bounds} (k : Known) (uid gid : ℕ) (at : Host) → IsClean may false (chown_host k uid gid at)
+host_chowned k uid gid (host.Node i) = maybe (known_node k i) (λ n. chowned _ _ uid gid _ refl) (refused ENOENT refl)
+host_chowned k uid gid (host.Proc i at) = chowned _ _ uid gid _ refl
 
-pub fchown_clean : (k : Known) (fd : ℤ) (uid gid : ℕ) → IsClean false (fchown_row k fd uid gid)
-fchown_clean k fd uid gid = by_open k fd (λ n o. maybe o.place (λ p. host_chowned k uid gid p.host) (chowned _ _ uid gid _))
+pub fchown_clean : {may : Bounds} (k : Known) (fd : ℤ) (uid gid : ℕ) → IsClean may false (fchown_row k fd uid gid)
+fchown_clean k fd uid gid = by_open k fd (λ n o. maybe o.place (λ p. host_chowned k uid gid p.host) (chowned _ _ uid gid _ refl))
 
-pub fchownat_clean : (k : Known) (l : Looked) (uid gid : ℕ) → IsClean false (fchownat_row k l uid gid)
+pub fchownat_clean : {may : Bounds} (k : Known) (l : Looked) (uid gid : ℕ) → IsClean may false (fchownat_row k l uid gid)
 fchownat_clean k l uid gid = host_chowned k uid gid l.host
 
-pub fchownat_here_clean : (k : Known) (fd : ℤ) (uid gid : ℕ) → IsClean false (fchownat_here k fd uid gid)
+pub fchownat_here_clean : {may : Bounds} (k : Known) (fd : ℤ) (uid gid : ℕ) → IsClean may false (fchownat_here k fd uid gid)
 fchownat_here_clean k fd uid gid = either _ (host_chowned k uid gid k.caller.cwd) (fchown_clean k fd uid gid)
 
-told : (buf : ℕ) (s : Stat) → IsClean false (tell_stat buf s)
-told buf s = tested (λ b. either b (wrote answered) (refused EFAULT refl))
+told : {may : Bounds} (buf : ℕ) (s : Stat) → IsClean may false (tell_stat buf s)
+told buf s = tested (λ b. either b (wrote (answered refl)) (refused EFAULT refl))
 
-host_stat : (k : Known) (buf : ℕ) (at : Host) → IsClean false (stat_host k buf at)
+host_stat : {may : Bounds} (k : Known) (buf : ℕ) (at : Host) → IsClean may false (stat_host k buf at)
 host_stat k buf (host.Node i) = maybe (k.fact i) (λ f. told buf (node_stat k i f)) (refused ENOENT refl)
 host_stat k buf (host.Proc i at) = told buf (process_stat k at)
 
-unplaced : (k : Known) (buf : ℕ) (what : What) → IsClean false (stat_unplaced k buf what)
+unplaced : {may : Bounds} (k : Known) (buf : ℕ) (what : What) → IsClean may false (stat_unplaced k buf what)
 unplaced k buf File = refused EBADF refl
 unplaced k buf DirOpen = refused EBADF refl
 unplaced k buf In = told buf (console_stat k)
@@ -60,27 +61,27 @@ unplaced k buf Err = told buf (console_stat k)
 unplaced k buf (PipeRead p) = told buf (pipe_stat k p)
 unplaced k buf (PipeWrite p) = told buf (pipe_stat k p)
 
-pub fstat_clean : (k : Known) (fd : ℤ) (buf : ℕ) → IsClean false (fstat_row k fd buf)
+pub fstat_clean : {may : Bounds} (k : Known) (fd : ℤ) (buf : ℕ) → IsClean may false (fstat_row k fd buf)
 fstat_clean k fd buf = by_open k fd (λ n o. maybe o.place (λ p. host_stat k buf p.host) (unplaced k buf o.what))
 
-pub newfstatat_clean : (k : Known) (l : Looked) (buf : ℕ) → IsClean false (newfstatat_row k l buf)
+pub newfstatat_clean : {may : Bounds} (k : Known) (l : Looked) (buf : ℕ) → IsClean may false (newfstatat_row k l buf)
 newfstatat_clean k l buf = host_stat k buf l.host
 
-pub newfstatat_here_clean : (k : Known) (fd : ℤ) (buf : ℕ) → IsClean false (newfstatat_here k fd buf)
+pub newfstatat_here_clean : {may : Bounds} (k : Known) (fd : ℤ) (buf : ℕ) → IsClean may false (newfstatat_here k fd buf)
 newfstatat_here_clean k fd buf = either _ (host_stat k buf k.caller.cwd) (fstat_clean k fd buf)
 
-text_told : (buf size : ℕ) (text : List ℕ) → IsClean false (tell_text buf size text)
-text_told buf size text = tested (λ b. either b (wrote answered) (refused EFAULT refl))
+text_told : {may : Bounds} (buf size : ℕ) (text : List ℕ) → IsClean may false (tell_text buf size text)
+text_told buf size text = tested (λ b. either b (wrote (answered refl)) (refused EFAULT refl))
 
-body_read : (buf size : ℕ) (body : Body) → IsClean false (readlink_body buf size body)
+body_read : {may : Bounds} (buf size : ℕ) (body : Body) → IsClean may false (readlink_body buf size body)
 body_read buf size (SymbolicLink text) = text_told buf size text
 body_read buf size (Directory entries standing) = refused EINVAL refl
 body_read buf size (RegularFile bytes) = refused EINVAL refl
 body_read buf size (ProcessDirectory standing) = refused EINVAL refl
 
-host_read : (k : Known) (at : Host) (text : Option (List ℕ)) (buf size : ℕ) → IsClean false (readlink_host k at text buf size)
+host_read : {may : Bounds} (k : Known) (at : Host) (text : Option (List ℕ)) (buf size : ℕ) → IsClean may false (readlink_host k at text buf size)
 host_read k (host.Node i) text buf size = maybe (known_node k i) (λ n. body_read buf size n.body) (refused ENOENT refl)
 host_read k (host.Proc i at) text buf size = either _ (refused EINVAL refl) (maybe text (text_told buf size) (refused ENOENT refl))
 
-pub readlinkat_clean : (k : Known) (l : Looked) (text : Option (List ℕ)) (buf : ℕ) (size : ℤ) → IsClean false (readlinkat_row k l text buf size)
+pub readlinkat_clean : {may : Bounds} (k : Known) (l : Looked) (text : Option (List ℕ)) (buf : ℕ) (size : ℤ) → IsClean may false (readlinkat_row k l text buf size)
 readlinkat_clean k l text buf size = host_read k l.host text buf _

@@ -14,89 +14,89 @@ use Rattle.kr_model.specs.Asking.{is_directory_host, is_processes_host}
 use Rattle.kr_model.specs.Seen.{Looked, Entered, Taken, TakesNoName, TakesCovered, Takes, Made, MakesNoName, MakesOver, Makes}
 use Rattle.kr_model.specs.NameRows.{is_one, is_at_or_above, is_above_old, mkdirat_row, symlinkat_row, link_host, linkat_row, remove_file, remove_directory, take_entry, unlink_found, unlink_row, ending_removed, rmdir_row, unlinkat_row, move_free, move_over, move_onto, move_entry, move_found, move_uncovered, move_taken, renameat2_row}
 use Rattle.kr_model.proofs.CleanPieces.{written_to}
-use Rattle.kr_model.proofs.RefusalLemmas.{IsClean, refused, answered, either, maybe}
+use Rattle.kr_model.proofs.RefusalLemmas.{Bounds, IsClean, refused, answered, either, maybe}
 
 -- ---- new names
 
-pub mkdirat_clean : (k : Known) (m : Made) (mode : ℕ) → IsClean false (mkdirat_row k m mode)
+pub mkdirat_clean : {may : Bounds} (k : Known) (m : Made) (mode : ℕ) → IsClean may false (mkdirat_row k m mode)
 mkdirat_clean k (MakesNoName last) mode = refused EEXIST refl
 mkdirat_clean k MakesOver mode = refused EEXIST refl
-mkdirat_clean k (Makes dir name slash) mode = written_to k dir (λ d n. either _ (refused ENOSPC refl) answered)
+mkdirat_clean k (Makes dir name slash) mode = written_to k dir (λ d n. either _ (refused ENOSPC refl) (answered refl))
 
-pub symlinkat_clean : (k : Known) (m : Made) (text : List ℕ) → IsClean false (symlinkat_row k m text)
+pub symlinkat_clean : {may : Bounds} (k : Known) (m : Made) (text : List ℕ) → IsClean may false (symlinkat_row k m text)
 symlinkat_clean k (MakesNoName last) text = refused EEXIST refl
 symlinkat_clean k MakesOver text = refused EEXIST refl
-symlinkat_clean k (Makes dir name slash) text = either slash (refused ENOENT refl) (written_to k dir (λ d n. either _ (refused ENOSPC refl) answered))
+symlinkat_clean k (Makes dir name slash) text = either slash (refused ENOENT refl) (written_to k dir (λ d n. either _ (refused ENOSPC refl) (answered refl)))
 
-host_linked : (k : Known) (old dir : Host) (name : List ℕ) → IsClean false (link_host k old dir name)
-host_linked k (host.Node i) dir name = either _ (refused EPERM refl) (written_to k dir (λ d n. either _ (refused ENOSPC refl) answered))
+host_linked : {may : Bounds} (k : Known) (old dir : Host) (name : List ℕ) → IsClean may false (link_host k old dir name)
+host_linked k (host.Node i) dir name = either _ (refused EPERM refl) (written_to k dir (λ d n. either _ (refused ENOSPC refl) (answered refl)))
 host_linked k (host.Proc i at) dir name = refused EPERM refl
 
-pub linkat_clean : (k : Known) (old : Looked) (m : Made) (same_mount : Bool) → IsClean false (linkat_row k old m same_mount)
+pub linkat_clean : {may : Bounds} (k : Known) (old : Looked) (m : Made) (same_mount : Bool) → IsClean may false (linkat_row k old m same_mount)
 linkat_clean k old (MakesNoName last) same_mount = refused EEXIST refl
 linkat_clean k old MakesOver same_mount = refused EEXIST refl
 linkat_clean k old (Makes dir name slash) same_mount = either slash (refused ENOENT refl) (either _ (refused EXDEV refl) (host_linked k old.host dir name))
 
 -- ---- names that go
 
-file_removed : (k : Known) (name : List ℕ) (d : ℕ) (n : Node) → IsClean false (remove_file k name d n)
-file_removed k name d n = either _ (refused EISDIR refl) answered
+file_removed : {may : Bounds} (k : Known) (name : List ℕ) (d : ℕ) (n : Node) → IsClean may false (remove_file k name d n)
+file_removed k name d n = either _ (refused EISDIR refl) (answered refl)
 
-directory_removed : (k : Known) (name : List ℕ) (d : ℕ) (n : Node) → IsClean false (remove_directory k name d n)
-directory_removed k name d n = either _ (refused ENOTDIR refl) (either _ (refused ENOTEMPTY refl) answered)
+directory_removed : {may : Bounds} (k : Known) (name : List ℕ) (d : ℕ) (n : Node) → IsClean may false (remove_directory k name d n)
+directory_removed k name d n = either _ (refused ENOTDIR refl) (either _ (refused ENOTEMPTY refl) (answered refl))
 
-entry_taken : (k : Known) (e : Entered) (found : Host) {next : ℕ → Node → Replying} → ((d : ℕ) (n : Node) → IsClean false (next d n)) → IsClean false (take_entry k e found next)
+entry_taken : {may : Bounds} (k : Known) (e : Entered) (found : Host) {next : ℕ → Node → Replying} → ((d : ℕ) (n : Node) → IsClean may false (next d n)) → IsClean may false (take_entry k e found next)
 entry_taken k e (host.Node i) clean = written_to k e.dir (λ d n. maybe (known_node k i) (λ x. either _ (refused EPERM refl) (clean d x)) (refused ENOENT refl))
 entry_taken k e (host.Proc i at) clean = written_to k e.dir (λ d n. refused EACCES refl)
 
-slashed : (b : Bool) → IsClean false (refuse (cond b EISDIR ENOTDIR))
+slashed : {may : Bounds} (b : Bool) → IsClean may false (refuse (cond b EISDIR ENOTDIR))
 slashed true = refused EISDIR refl
 slashed false = refused ENOTDIR refl
 
-found_unlinked : (k : Known) (e : Entered) (found : Host) → IsClean false (unlink_found k e found)
+found_unlinked : {may : Bounds} (k : Known) (e : Entered) (found : Host) → IsClean may false (unlink_found k e found)
 found_unlinked k e found = either _ (refused EBUSY refl) (either e.slash (slashed _) (entry_taken k e found (file_removed k e.name)))
 
-unlinked : (k : Known) (t : Taken) → IsClean false (unlink_row k t)
+unlinked : {may : Bounds} (k : Known) (t : Taken) → IsClean may false (unlink_row k t)
 unlinked k (TakesNoName last) = refused EISDIR refl
 unlinked k TakesCovered = refused EBUSY refl
 unlinked k (Takes e) = maybe e.found (found_unlinked k e) (refused ENOENT refl)
 
-ended : (l : Last) → IsClean false (refuse (ending_removed l))
+ended : {may : Bounds} (l : Last) → IsClean may false (refuse (ending_removed l))
 ended last.Name = refused ENOENT refl
 ended last.Dot = refused EINVAL refl
 ended last.DotDot = refused ENOTEMPTY refl
 ended last.Root = refused EBUSY refl
 
-directory_unlinked : (k : Known) (t : Taken) → IsClean false (rmdir_row k t)
+directory_unlinked : {may : Bounds} (k : Known) (t : Taken) → IsClean may false (rmdir_row k t)
 directory_unlinked k (TakesNoName last) = ended last
 directory_unlinked k TakesCovered = refused EBUSY refl
 directory_unlinked k (Takes e) = maybe e.found (λ found. either _ (refused EBUSY refl) (entry_taken k e found (directory_removed k e.name))) (refused ENOENT refl)
 
-pub unlinkat_clean : (k : Known) (t : Taken) (flags : ℕ) → IsClean false (unlinkat_row k t flags)
+pub unlinkat_clean : {may : Bounds} (k : Known) (t : Taken) (flags : ℕ) → IsClean may false (unlinkat_row k t flags)
 unlinkat_clean k t flags = either _ (directory_unlinked k t) (unlinked k t)
 
 -- ---- names that move
 
-freely : (k : Known) (old new : Entered) (d to : ℕ) (n : Node) → IsClean false (move_free k old new d to n)
-freely k old new d to n = either _ answered (refused EACCES refl)
+freely : {may : Bounds} (k : Known) (old new : Entered) (d to : ℕ) (n : Node) → IsClean may false (move_free k old new d to n)
+freely k old new d to n = either _ (answered refl) (refused EACCES refl)
 
-over : (k : Known) (old new : Entered) (d to : ℕ) (n x : Node) → IsClean false (move_over k old new d to n x)
-over k old new d to n x = either _ (refused EACCES refl) (either _ (refused ENOTDIR refl) (either _ (refused EISDIR refl) (either _ (refused ENOTEMPTY refl) answered)))
+over : {may : Bounds} (k : Known) (old new : Entered) (d to : ℕ) (n x : Node) → IsClean may false (move_over k old new d to n x)
+over k old new d to n x = either _ (refused EACCES refl) (either _ (refused ENOTDIR refl) (either _ (refused EISDIR refl) (either _ (refused ENOTEMPTY refl) (answered refl))))
 
-onto : (k : Known) (old new : Entered) (d to : ℕ) (dn tn n : Node) (o : Option Host) → IsClean false (move_onto k old new d to dn tn n o)
+onto : {may : Bounds} (k : Known) (old new : Entered) (d to : ℕ) (dn tn n : Node) (o : Option Host) → IsClean may false (move_onto k old new d to dn tn n o)
 onto k old new d to dn tn n None = either _ (refused EPERM refl) (freely k old new d to n)
 onto k old new d to dn tn n (Some (host.Node j)) = either _ (refused EPERM refl) (maybe (known_node k j) (λ x. either _ (refused EPERM refl) (over k old new d to n x)) (refused ENOENT refl))
 onto k old new d to dn tn n (Some (host.Proc j at)) = refused EACCES refl
 
-entry_moved : (k : Known) (old new : Entered) (found : Host) → IsClean false (move_entry k old new found)
+entry_moved : {may : Bounds} (k : Known) (old new : Entered) (found : Host) → IsClean may false (move_entry k old new found)
 entry_moved k old new (host.Node i) =
     written_to k old.dir (λ d dn. written_to k new.dir (λ to tn. maybe (known_node k i) (λ n. onto k old new d to dn tn n new.found) (refused ENOENT refl)))
 entry_moved k old new (host.Proc i at) = written_to k old.dir (λ d dn. refused EACCES refl)
 
-apart_moved : (k : Known) (old new : Entered) (found : Host) → IsClean false (if is_one found new.found then done 0 [] else move_entry k old new found)
-apart_moved k old new found = either (is_one found new.found) answered (entry_moved k old new found)
+apart_moved : {may : Bounds} (k : Known) (old new : Entered) (found : Host) → IsClean may false (if is_one found new.found then done 0 [] else move_entry k old new found)
+apart_moved k old new found = either (is_one found new.found) (answered refl) (entry_moved k old new found)
 
-found_moved : (k : Known) (old new : Entered) (found : Host) → IsClean false (move_found k old new found)
+found_moved : {may : Bounds} (k : Known) (old new : Entered) (found : Host) → IsClean may false (move_found k old new found)
 found_moved k old new found =
     either (is_processes_host k found) (refused EBUSY refl)
     (either (option_map_or (is_processes_host k) new.found false) (refused EBUSY refl)
@@ -104,15 +104,15 @@ found_moved k old new found =
     (either (is_at_or_above k found new.dir) (refused EINVAL refl)
     (either (is_above_old k old new.found) (refused ENOTEMPTY refl) (apart_moved k old new found)))))
 
-uncovered_moved : (k : Known) (old : Entered) (new : Taken) (found : Host) → IsClean false (move_uncovered k old new found)
+uncovered_moved : {may : Bounds} (k : Known) (old : Entered) (new : Taken) (found : Host) → IsClean may false (move_uncovered k old new found)
 uncovered_moved k old (TakesNoName last) found = refused EBUSY refl
 uncovered_moved k old TakesCovered found = refused EBUSY refl
 uncovered_moved k old (Takes new) found = found_moved k old new found
 
-taken_moved : (k : Known) (old new : Taken) → IsClean false (move_taken k old new)
+taken_moved : {may : Bounds} (k : Known) (old new : Taken) → IsClean may false (move_taken k old new)
 taken_moved k (TakesNoName last) new = refused EBUSY refl
 taken_moved k TakesCovered new = refused EBUSY refl
 taken_moved k (Takes old) new = maybe old.found (uncovered_moved k old new) (refused ENOENT refl)
 
-pub renameat2_clean : (k : Known) (old new : Taken) (same_mount : Bool) → IsClean false (renameat2_row k old new same_mount)
+pub renameat2_clean : {may : Bounds} (k : Known) (old new : Taken) (same_mount : Bool) → IsClean may false (renameat2_row k old new same_mount)
 renameat2_clean k old new same_mount = either _ (refused EXDEV refl) (either _ (refused EBUSY refl) (taken_moved k old new))

@@ -1,13 +1,17 @@
--- What two machines with equal bare states have in common.
-use Rattle.std.specs.Prelude.{◌≡◌, ◌≢◌, ℕ, true, false, List, [], ◌∷◌}
+-- What two machines with equal bare states have in common, and what calls come to.
+use Rattle.std.specs.Prelude.{◌≡◌, ◌≢◌, ℕ, ◌*◌, Bool, true, false, List, [], ◌∷◌, pos, unsigned_abs}
+use Rattle.std.specs.Int.{int_rem_euclid}
 use Rattle.pr_base.specs.declared.errno.Errno.TheVariants.{ENOSYS}
 use Rattle.rv_mem.specs.Memory.{Memory}
 use Rattle.rv_mem.specs.Pages.{Pages}
 use Rattle.rv_mem.specs.Actions.{carried_out, AreEqualUnmarked}
 use Rattle.kr_calls.specs.declared.request.Request.{Request}
+use Rattle.kr_calls.specs.declared.request.Request.TheVariants as call
+use Rattle.kr_model.specs.declared.outcome.Outcome.TheVariants.{Wait, Ended}
 use Rattle.kr_model.specs.State.{State, Image, image_layout}
-use Rattle.kr_model.specs.Change.{Change, PageChange, Birth}
+use Rattle.kr_model.specs.Change.{Change, End, PageChange, Birth}
 use Rattle.kr_model.specs.Applied.{Computing, Mounts, applied, all_applied, layouts, images, pages_after}
+use Rattle.kr_model.specs.FileRows.{sigpipe}
 use Rattle.kr_model.specs.Operation.{operation}
 use Rattle.kr_model.specs.Reply.{is_refusal, unbuilt}
 use Rattle.kr_model.specs.Seen.{Seen, WalkFails}
@@ -68,3 +72,62 @@ RefusalsChangeNothing =
 -- which it never is
 abbrev pub NoWalkAnswersEnosys : Type 0 → Type 0
 NoWalkAnswersEnosys X = (table : List Row) (pid : ℕ) (s : State ℕ X) (r : Request) → seen_of_paths table pid s r ≢ WalkFails ENOSYS
+
+-- ---- ends and waits
+
+-- the word by which a call ends its caller: an exit tells its code as wait4(2) does, and a write ends by SIGPIPE
+abbrev pub word_told : Request → ℕ
+word_told (call.Exit code) = unsigned_abs (int_rem_euclid code (pos 256)) * 256
+word_told (call.ExitGroup code) = unsigned_abs (int_rem_euclid code (pos 256)) * 256
+word_told _ = sigpipe
+
+-- a call that ends its caller changes nothing else
+abbrev pub EndsAsTold : Type 0
+EndsAsTold =
+    (pid : ℕ) (r : Request) (seen : Seen) (k : Known) (m : Memory)
+    → (carried_out (operation pid r seen k) m).reply.outcome ≡ Ended
+    → (carried_out (operation pid r seen k) m).reply.changes ≡ End (word_told r) ∷ []
+
+-- the calls that may end their caller: an exit, and a write into a pipe without readers
+abbrev pub may_end : Request → Bool
+may_end (call.Exit code) = true
+may_end (call.ExitGroup code) = true
+may_end (call.Write fd buf n) = true
+may_end (call.Writev fd list count) = true
+may_end _ = false
+
+-- no other call ends its caller
+abbrev pub OnlyEndersEnd : Type 0
+OnlyEndersEnd =
+    (pid : ℕ) (r : Request) (seen : Seen) (k : Known) (m : Memory)
+    → (carried_out (operation pid r seen k) m).reply.outcome ≡ Ended
+    → may_end r ≡ true
+
+-- the calls that may wait: on a pipe, and for a child
+abbrev pub may_wait : Request → Bool
+may_wait (call.Read fd buf n) = true
+may_wait (call.Readv fd list count) = true
+may_wait (call.Write fd buf n) = true
+may_wait (call.Writev fd list count) = true
+may_wait (call.Wait4 child status options usage) = true
+may_wait _ = false
+
+-- no other call waits
+abbrev pub WaitsAsTold : Type 0
+WaitsAsTold =
+    (pid : ℕ) (r : Request) (seen : Seen) (k : Known) (m : Memory)
+    → (carried_out (operation pid r seen k) m).reply.outcome ≡ Wait
+    → may_wait r ≡ true
+
+-- whether no end of a process is among some changes
+abbrev pub ends_nobody : List Change → Bool
+ends_nobody [] = true
+ends_nobody (End status ∷ cs) = false
+ends_nobody (c ∷ cs) = ends_nobody cs
+
+-- so the caller of any other call lives behind it
+abbrev pub AnswersEndNobody : Type 0
+AnswersEndNobody =
+    (pid : ℕ) (r : Request) (seen : Seen) (k : Known) (m : Memory)
+    → (carried_out (operation pid r seen k) m).reply.outcome ≢ Ended
+    → ends_nobody (carried_out (operation pid r seen k) m).reply.changes ≡ true

@@ -1,7 +1,7 @@
 //! Laws of the definitions, each carried by a function that does nothing.
 ghost use Rattle.kr_model.specs.Images.{ProcessesStayAlike};
 ghost use Rattle.kr_model.specs.Judged.{ChangesAreJudged, NamesStay};
-ghost use Rattle.kr_model.specs.Laws.{AllChangesAreBare, CallsAlike, ChangesAreBare, KnownIsBare, NoWalkAnswersEnosys, PagesStayAlike, RefusalsChangeNothing};
+ghost use Rattle.kr_model.specs.Laws.{AllChangesAreBare, AnswersEndNobody, CallsAlike, ChangesAreBare, EndsAsTold, KnownIsBare, NoWalkAnswersEnosys, OnlyEndersEnd, PagesStayAlike, RefusalsChangeNothing, WaitsAsTold};
 ghost use Rattle.kr_model.specs.Peeks.{ToldNamesAreTexts};
 
 /// What calls ask of a state is asked of its bare part alone.
@@ -60,4 +60,24 @@ pub fn processes_stay_alike<T, U>()
 /// Names that a tracer is told of a state are the bytes of texts.
 pub fn told_names_are_texts<T, X>()
     ensures { ToldNamesAreTexts T X }
+{}
+
+/// A call that ends its caller changes nothing else: an exit tells its code, and another one SIGPIPE.
+pub fn ends_are_told()
+    ensures { EndsAsTold }
+{}
+
+/// A call that ends its caller is an exit or a write.
+pub fn only_enders_end()
+    ensures { OnlyEndersEnd }
+{}
+
+/// A call that waits is a read, a write or a wait for a child.
+pub fn waits_are_told()
+    ensures { WaitsAsTold }
+{}
+
+/// A call that is answered, or waits, ends nobody.
+pub fn answers_end_nobody()
+    ensures { AnswersEndNobody }
 {}

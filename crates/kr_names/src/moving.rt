@@ -112,7 +112,8 @@ fn test_kinds<T: Copy, const M: u8>(
     entry: Moving,
     over: Ino,
 ) -> Result<(), Errno>
-    ensures row { (pid : ℕ) (node x : Node) → known_node (known image_layout pid (meaning state.now)) entry.ino ≡ Some node → known_node (known image_layout pid (meaning state.now)) over ≡ Some x → AnswersOver (known image_layout pid (meaning state.now)) entry node x result }
+    ensures row { (pid : ℕ) (node x : Node) → let k = known image_layout pid (meaning state.now) in
+        known_node k entry.ino ≡ Some node → known_node k over ≡ Some x → AnswersOver k entry node x result }
     ensures like { IfOk result (λ u. IsLike state.now.tree entry.ino (Some (AtNode over))) }
 {
     if !can_move(state, entry) {

@@ -38,3 +38,7 @@ answered pid value s = with_living (with_process pid (going (with_answer value) 
 -- a process whose call waits, at which it stays
 abbrev pub waiting : {T : Type 0} → ℕ → State T Image → State T Image
 waiting pid s = with_living (with_process pid (going (λ regs. regs) true)) s
+
+-- a process that stays at no call
+abbrev pub resumed : {T : Type 0} → ℕ → State T Image → State T Image
+resumed pid s = with_living (with_process pid (going (λ regs. regs) false)) s

@@ -3,7 +3,7 @@ ghost use Rattle.std.specs.Prelude.{◌≡◌, ℕ, List};
 ghost use Rattle.kr_calling.specs.Calling.{Runs};
 ghost use Rattle.kr_ops.specs.Meaning.{meaning};
 ghost use Rattle.kr_ops.specs.Sound.{IsSound};
-ghost use Rattle.kr_steps.specs.Answering.{answered, waiting};
+ghost use Rattle.kr_steps.specs.Answering.{answered, resumed, waiting};
 ghost use Rattle.kr_view.specs.View.{Row};
 
 use kr_ops::State;
@@ -37,5 +37,17 @@ pub fn stay<T: Copy, const M: u8>(state: &mut State<T, M>, pid: u32)
     if let Some(k) = state.index_of(pid) {
         let process = &mut state.living[k];
         process.waits = true;
+    }
+}
+
+/// Lets a process go on that stayed at a call.
+pub fn resume<T: Copy, const M: u8>(state: &mut State<T, M>, pid: u32)
+    requires { IsSound state.old }
+    ensures resumes { meaning state.new ≡ resumed pid (meaning state.old) }
+    ensures runs { (number : T → ℕ) (table : List Row) (calls : ℕ) → Runs number table calls state.old → Runs number table calls state.new }
+{
+    if let Some(k) = state.index_of(pid) {
+        let process = &mut state.living[k];
+        process.waits = false;
     }
 }

@@ -6,6 +6,7 @@ ghost use Rattle.kr_ops.specs.Sound.{IsSound};
 ghost use Rattle.kr_view.specs.View.{Row};
 ghost use Rattle.kr_calling.specs.Calling.{Runs};
 ghost use Rattle.kr_steps.specs.Computing.{Computes};
+ghost use Rattle.rv_cpu.specs.Step.{IsLowSignal};
 ghost use Rattle.rv_cpu.specs.declared.event.Event.TheVariants.{Call};
 
 use kr_ops::State;
@@ -25,6 +26,7 @@ pub fn compute<T: Copy, const M: u8>(
     requires lives { IsSome (process pid (meaning state.old)) }
     ensures computes { IfOk result (λ end. Computes pid fuel state.old state.new end.0 end.1) }
     ensures behind { IfOk result (λ end. end.0 ≡ Call → IfSome (process pid (meaning state.new)) (λ p. p.image.regs.pc + 4 < 2 ^ 64)) }
+    ensures signal { IfOk result (λ end. IsLowSignal end.0) }
     ensures runs { OnOk result ((number : T → ℕ) (table : List Row) (calls : ℕ) → Runs number table calls state.old → Runs number table calls state.new) }
 {
     let Some(k) = state.index_of(pid) else {

@@ -8,7 +8,7 @@ mod killing;
 mod picking;
 mod requesting;
 
-pub use answering::{answer, stay};
+pub use answering::{answer, resume, stay};
 pub use calling::{Called, call};
 pub use instructions::compute;
 pub use killing::kill;

@@ -7,7 +7,7 @@ use Rattle.std.proofs.lemmas.Fmt.{length-decimal-le}
 use Rattle.std.proofs.lemmas.Bool.{and_parts, leb-true, cases_order}
 use Rattle.std.proofs.lemmas.Bool.Decides.{nat_tests}
 use Rattle.pr_top.specs.Listing.{Listing, ids_of, is_lawful, is_name_byte, largest_id, listing_of, text_read}
-use Rattle.kr_core.specs.Start.{start_refusal}
+use Rattle.kr_single.specs.Start.{start_refusal}
 use Rattle.std.specs.Option.{option_map}
 use Rattle.std.specs.List.{list_all}
 use Rattle.pr_base.specs.declared.errno.Errno.{Errno}

@@ -5,8 +5,8 @@ use Rattle.std.specs.Io.KnownBytes.{Appends, Keeps}
 use Rattle.std.proofs.KnownBytes.{Appends-nil, Keeps-refl}
 use Rattle.std.proofs.lemmas.List.{take_all}
 use Rattle.pr_io.specs.Faults.{Rose}
-use Rattle.kr_core.specs.State.{State, plain_call}
-use Rattle.kr_core.specs.Run.{End, AllEnded, TurnsSpent, Outcome, run}
+use Rattle.kr_single.specs.State.{State, plain_call}
+use Rattle.kr_single.specs.Run.{End, AllEnded, TurnsSpent, Outcome, run}
 use Rattle.pr_top.specs.Listing.{Listing, text_left}
 use Rattle.pr_top.specs.Opening.{Start}
 use Rattle.pr_top.specs.Report.{first_state, slot_of, turn_limit, run_of, outs, errs, end_answer, answer_of, left_of}

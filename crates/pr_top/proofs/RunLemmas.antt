@@ -6,16 +6,16 @@ use Rattle.std.proofs.KnownBytes.{Appends-trans, Appends-kept}
 use Rattle.std.proofs.lemmas.List.{append-nil, take_at}
 use Rattle.pr_io.specs.Faults.{Rose}
 use Rattle.pr_io.specs.Moves.{AppendsPrefix}
-use Rattle.kr_core.specs.State.{State, living, cleared, status_of, ready, plain_call}
-use Rattle.kr_core.specs.Turn.{picked}
-use Rattle.kr_core.specs.Run.{End, Outcome, AllEnded, TurnsSpent, ends, run}
-use Rattle.kr_core.specs.declared.console.Console.{Console}
-use Rattle.kr_core.specs.declared.process.Running.{Running}
+use Rattle.kr_single.specs.State.{State, living, cleared, status_of, ready, plain_call}
+use Rattle.kr_single.specs.Turn.{picked}
+use Rattle.kr_single.specs.Run.{End, Outcome, AllEnded, TurnsSpent, ends, run}
+use Rattle.kr_single.specs.declared.console.Console.{Console}
+use Rattle.kr_single.specs.declared.process.Running.{Running}
 use Rattle.pr_top.specs.declared.answer.Which.{Which}
 use Rattle.pr_top.specs.declared.answer.Which.TheVariants.{Tree, Elf, Input, Out, Err as ErrSink, Left}
 use Rattle.pr_top.specs.declared.answer.Answer.{Answer}
 use Rattle.pr_top.specs.declared.answer.Answer.TheVariants.{Ended, Spent, NoStart, ReadFault, WriteFault, NoMemory, Unbuilt}
-use Rattle.kr_core.proofs.RunLemmas.{run-ended, run-spent, run-turn, turns-ran}
+use Rattle.kr_single.proofs.RunLemmas.{run-ended, run-spent, run-turn, turns-ran}
 use Rattle.pr_top.specs.Report.{slot_of, turn_limit, gathered, out_part, err_part, outs, errs, end_answer, by_living, state_answer}
 use Rattle.pr_top.specs.Promise.{StopsBetween}
 use Rattle.pr_top.specs.Puts.{after_turn, PutsTurn, FaultsTurn, PutsRun, FaultsRun}

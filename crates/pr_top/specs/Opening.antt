@@ -3,7 +3,7 @@ use Rattle.std.specs.Prelude.{ℕ, ◌==◌, nat_lt, bytes_eq, List, [], ◌∷�
 use Rattle.pr_base.specs.declared.errno.Errno.TheVariants.{ENOENT}
 use Rattle.pr_base.specs.declared.errno.Errno.{Errno}
 use Rattle.std.specs.Option.{option_map}
-use Rattle.kr_core.specs.Start.{start_refusal}
+use Rattle.kr_single.specs.Start.{start_refusal}
 use Rattle.pr_top.specs.Listing.{Listing, is_name, behind, listing_of, word_of, ids_of}
 use Rattle.pr_top.specs.declared.answer.Part.TheVariants.{Words, Tree, Elf, Input}
 use Rattle.pr_top.specs.declared.answer.Answer.{Answer}

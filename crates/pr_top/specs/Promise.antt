@@ -2,7 +2,7 @@
 use Rattle.std.specs.Prelude.{◌≡◌, ◌⊎◌, ℕ, ◌-◌, List, take, Option, Result, Ok, Err, ⊤, IfSome}
 use Rattle.std.specs.Io.KnownBytes.{Appends}
 use Rattle.pr_io.specs.Moves.{AppendsPrefix}
-use Rattle.kr_core.specs.declared.console.Console.{Console}
+use Rattle.kr_single.specs.declared.console.Console.{Console}
 use Rattle.pr_top.specs.Opening.{Start, Opening, told_reading, told_opening}
 use Rattle.pr_top.specs.Report.{outs, errs, answer_of, part_of}
 use Rattle.pr_top.specs.declared.answer.Which.{Which}

@@ -3,9 +3,9 @@ use Rattle.std.specs.Prelude.{◌≡◌, ◌⊎◌, ℕ, List, Option, Result, O
 use Rattle.std.specs.Io.KnownBytes.{Appends, Keeps}
 use Rattle.pr_io.specs.Faults.{Rose}
 use Rattle.pr_io.specs.Moves.{AppendsPrefix}
-use Rattle.kr_core.specs.State.{State, cleared, plain_call}
-use Rattle.kr_core.specs.Turn.{turned}
-use Rattle.kr_core.specs.Run.{Outcome}
+use Rattle.kr_single.specs.State.{State, cleared, plain_call}
+use Rattle.kr_single.specs.Turn.{turned}
+use Rattle.kr_single.specs.Run.{Outcome}
 use Rattle.pr_top.specs.Opening.{Start}
 use Rattle.pr_top.specs.Report.{slot_of, run_of, outs, errs, end_answer, answer_of, out_of, err_of, left_of}
 use Rattle.pr_top.specs.Promise.{StopsBetween}

@@ -1,9 +1,9 @@
 -- The report of a start: what its run puts to the sinks, and what is answered.
 use Rattle.std.specs.Prelude.{ℕ, List, [], ◌∷◌, ◌++◌, Ok, Err}
-use Rattle.kr_core.specs.State.{State, started, living, status_of, plain_call}
-use Rattle.kr_core.specs.Run.{Slot, End, AllEnded, TurnsSpent, Outcome, run}
-use Rattle.kr_core.specs.declared.process.Running.{Running}
-use Rattle.kr_core.specs.declared.console.Console.{Console}
+use Rattle.kr_single.specs.State.{State, started, living, status_of, plain_call}
+use Rattle.kr_single.specs.Run.{Slot, End, AllEnded, TurnsSpent, Outcome, run}
+use Rattle.kr_single.specs.declared.process.Running.{Running}
+use Rattle.kr_single.specs.declared.console.Console.{Console}
 use Rattle.pr_top.specs.Listing.{text_left, ids_of}
 use Rattle.pr_top.specs.Opening.{Start, Opening, args_of}
 use Rattle.pr_top.specs.declared.answer.Answer.{Answer}

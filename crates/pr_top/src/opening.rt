@@ -11,7 +11,7 @@ ghost use Rattle.pr_top.specs.Promise.{IfRead, IfTold, ComesTo, OpeningFault};
 
 use crate::answer::{Answer, Part, Which};
 use crate::listing::{Listing, behind, is_name};
-use kr_core::{Kernel, StartFault};
+use kr_single::{Kernel, StartFault};
 use pr_base::{Bytes, Errno};
 use pr_io::Source;
 use std::alloc::Global;

@@ -1,14 +1,14 @@
 //! The report: the guest runs turn after turn, what it writes is put to the sinks, and last the listing.
 ghost use Rattle.std.specs.Prelude.{◌≡◌, ◌≢◌, ◌<◌, ◌≤◌, ◌^◌, []};
 ghost use Rattle.pr_io.specs.Faults.{Rose};
-ghost use Rattle.kr_core.specs.State.{living, plain_call};
-ghost use Rattle.kr_core.specs.Run.{run};
+ghost use Rattle.kr_single.specs.State.{living, plain_call};
+ghost use Rattle.kr_single.specs.Run.{run};
 ghost use Rattle.pr_top.specs.Report.{first_state, slot_of, turn_limit, state_answer};
 ghost use Rattle.pr_top.specs.Puts.{PutsAs, PutsTurn, PutsRun, PutsReport};
 
 use crate::answer::{Answer, Which};
 use crate::opening::Opened;
-use kr_core::Kernel;
+use kr_single::Kernel;
 use pr_io::{PutFault, Sink};
 use std::alloc::Global;
 

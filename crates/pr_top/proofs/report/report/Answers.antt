@@ -1,6 +1,6 @@
 use Rattle.std.proofs.Common.{◌∙◌, subst}
-use Rattle.kr_core.specs.State.{plain_call}
-use Rattle.kr_core.specs.Run.{run}
+use Rattle.kr_single.specs.State.{plain_call}
+use Rattle.kr_single.specs.Run.{run}
 use Rattle.pr_top.specs.Report.{slot_of, turn_limit}
 use Rattle.pr_top.specs.Puts.{PutsAs}
 use Rattle.pr_top.specs.declared.answer.Which.TheVariants.{Left}

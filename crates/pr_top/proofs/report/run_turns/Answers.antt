@@ -1,7 +1,7 @@
 use Rattle.std.proofs.Common.{inl, inr, ◌+◌, drop, subst, sym, ◌∙◌, arith, rules}
 use Rattle.std.specs.Io.KnownBytes.{Appends}
-use Rattle.kr_core.specs.State.{plain_call}
-use Rattle.kr_core.specs.Run.{run}
+use Rattle.kr_single.specs.State.{plain_call}
+use Rattle.kr_single.specs.Run.{run}
 use Rattle.pr_top.specs.Report.{slot_of, turn_limit, out_part, err_part, outs, errs}
 use Rattle.pr_top.specs.Puts.{after_turn}
 use Rattle.pr_top.proofs.RunLemmas.{IsRest, over, next, appends_next, stops_in_turn, none_living, some_living}

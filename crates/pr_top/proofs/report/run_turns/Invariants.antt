@@ -1,7 +1,7 @@
 use Rattle.std.proofs.Common.{◌≤◌, take}
 use Rattle.std.specs.Io.KnownBytes.{Appends}
-use Rattle.kr_core.specs.State.{plain_call}
-use Rattle.kr_core.specs.Run.{run}
+use Rattle.kr_single.specs.State.{plain_call}
+use Rattle.kr_single.specs.Run.{run}
 use Rattle.pr_top.specs.Report.{slot_of, turn_limit, outs, errs}
 use Rattle.pr_top.proofs.RunLemmas.{IsRest}
 use Rattle.pr_top.proofs.report.run_turns.Given as goal

@@ -1,5 +1,5 @@
 use Rattle.std.proofs.Common.{◌∷◌, [], ap, subst, ◌∙◌, inl}
-use Rattle.kr_core.specs.Start.{start_refusal, IsCausedBy}
+use Rattle.kr_single.specs.Start.{start_refusal, IsCausedBy}
 use Rattle.pr_top.specs.Listing.{word_of, ids_of}
 use Rattle.pr_top.specs.Opening.{Start}
 use Rattle.pr_top.proofs.OpeningLemmas.{refused_start}

@@ -1,0 +1,68 @@
+-- Changes that break no rule.
+use Rattle.std.proofs.Common.{◌≡◌, ◌≢◌, ℕ, Bool, true, false, ◌&&◌, ◌||◌, List, [], ◌∷◌, refl, sym, ap, ◌∙◌, subst}
+use Rattle.pr_base.specs.declared.errno.Errno.TheVariants.{ENOSYS}
+use Rattle.rv_mem.specs.Actions.{Action, Done, MayUse, ReadBytes, WriteBytes, allows_uses, carried_out}
+use Rattle.rv_mem.specs.Memory.{Memory, after_read, with_pages}
+use Rattle.rv_mem.specs.Pages.{any_marked, bytes_from, written}
+use Rattle.kr_calls.specs.declared.request.Request.{Request}
+use Rattle.kr_tree.specs.Tree.{Tree}
+use Rattle.kr_view.specs.View.{Row}
+use Rattle.kr_model.specs.Applied.{Computing, Mounts, applied}
+use Rattle.kr_model.specs.Change.{Change, RemoveName, MoveName, SetMode, SetOwner, End}
+use Rattle.kr_model.specs.Judged.{are_quiet, is_quiet}
+use Rattle.kr_model.specs.Known.{Known}
+use Rattle.kr_model.specs.Operation.{operation}
+use Rattle.kr_model.specs.Reply.{is_refusal}
+use Rattle.kr_model.specs.Seen.{Seen, WalkFails}
+use Rattle.kr_model.specs.State.{State}
+use Rattle.kr_model.proofs.CleanCalls.{refusals}
+use Rattle.kr_calm.specs.Laws.{BreakNone}
+use Rattle.kr_calm.specs.Rules.{any_change, breaks_3, breaks_4, breaks_5}
+
+both : (a b : Bool) → (a && b) ≡ true → (a ≡ true) × (b ≡ true)
+both true b e = (refl, e)
+both false b e = absurd cc
+
+module _ {M X : Type 0} (computing : Computing X) (mounts : Mounts M) (pid : ℕ) (test : State M X → Change → State M X → Bool) where
+  -- a test that no quiet change passes
+  none-quiet : ((s : State M X) (c : Change) (after : State M X) → is_quiet c ≡ true → test s c after ≡ false) → (cs : List Change) (s : State M X) → are_quiet cs ≡ true → any_change computing mounts pid test cs s ≡ false
+  none-quiet fails [] s e = refl
+  none-quiet fails (c ∷ cs) s e =
+      let parts = both (is_quiet c) (are_quiet cs) e in
+      ap (λ b. b || any_change computing mounts pid test cs (applied computing mounts pid c s)) (fails s c (applied computing mounts pid c s) parts.0) ∙ none-quiet fails cs (applied computing mounts pid c s) parts.1
+
+quiet-third : (table : List Row) (t : Tree) (c : Change) → is_quiet c ≡ true → breaks_3 table t c ≡ false
+quiet-third table t (RemoveName dir name) e = absurd cc
+quiet-third table t (MoveName dir name to new) e = absurd cc
+quiet-third table t _ e = refl
+
+module _ {M X : Type 0} where
+  quiet-fourth : (pid : ℕ) (s : State M X) (c : Change) (after : State M X) → is_quiet c ≡ true → breaks_4 pid s c after ≡ false
+  quiet-fourth pid s (RemoveName dir name) after e = absurd cc
+  quiet-fourth pid s (MoveName dir name to new) after e = absurd cc
+  quiet-fourth pid s (End status) after e = absurd cc
+  quiet-fourth pid s _ after e = refl
+
+  quiet-fifth : (table : List Row) (s : State M X) (c : Change) (after : State M X) → is_quiet c ≡ true → breaks_5 table s c after ≡ false
+  quiet-fifth table s (SetMode i mode) after e = absurd cc
+  quiet-fifth table s (SetOwner i uid gid) after e = absurd cc
+  quiet-fifth table s _ after e = refl
+
+  pub quiet_changes_break_none : (computing : Computing X) (mounts : Mounts M) (pid : ℕ) (table : List Row) (cs : List Change) (s : State M X) → are_quiet cs ≡ true → BreakNone computing mounts pid table cs s
+  quiet_changes_break_none computing mounts pid table cs s e = record {
+    third = none-quiet computing mounts pid (λ s c after. breaks_3 table s.tree c) (λ s c after q. quiet-third table s.tree c q) cs s e;
+    fourth = none-quiet computing mounts pid (breaks_4 pid) (λ s c after q. quiet-fourth pid s c after q) cs s e;
+    fifth = none-quiet computing mounts pid (breaks_5 table) (λ s c after q. quiet-fifth table s c after q) cs s e;
+  }
+
+  pub refused_calls_break_none : (computing : Computing X) (mounts : Mounts M) (pid : ℕ) (table : List Row) (request : Request) (seen : Seen) (k : Known) (m : Memory) (s : State M X)
+      → seen ≢ WalkFails ENOSYS → is_refusal (carried_out (operation pid request seen k) m).reply.outcome ≡ true
+      → BreakNone computing mounts pid table (carried_out (operation pid request seen k) m).reply.changes s
+  refused_calls_break_none computing mounts pid table request seen k m s other refused =
+      subst (λ cs. BreakNone computing mounts pid table cs s) (sym (refusals pid request seen k m other refused).0) (quiet_changes_break_none computing mounts pid table [] s refl)
+
+pub marks_stay_read : {A : Type 0} (action : Action A) (m : Memory) → m.read_marked ≡ true → (carried_out action m).memory.read_marked ≡ true
+marks_stay_read (Done reply) m e = e
+marks_stay_read (MayUse at n uses next) m e = marks_stay_read (next (allows_uses m.pages at n uses)) m e
+marks_stay_read (ReadBytes at n next) m e = marks_stay_read (next (bytes_from m.pages at n)) (after_read m at n) (ap (λ b. b || any_marked m.pages at n) e)
+marks_stay_read (WriteBytes at bytes next) m e = marks_stay_read next (with_pages m (written m.pages at bytes)) e

@@ -1,0 +1,57 @@
+-- What a turn did, as far as calm asks, and the rule that it broke.
+use Rattle.std.specs.Prelude.{ℕ, Bool, false, List, Option, Some, None, nat_eq, Result, if◌then◌else◌}
+use Rattle.std.specs.Option.{option_map_or}
+use Rattle.pr_base.specs.declared.errno.Errno.{Errno}
+use Rattle.rv_mem.specs.Memory.{Memory}
+use Rattle.kr_calls.specs.declared.request.Request.{Request}
+use Rattle.kr_view.specs.declared.target.Reach.{Reach}
+use Rattle.kr_view.specs.View.{Row}
+use Rattle.kr_model.specs.Applied.{Mounts, images}
+use Rattle.kr_model.specs.Change.{Change}
+use Rattle.kr_model.specs.State.{Image, State}
+use Rattle.kr_model.specs.Walks.{Targets}
+use Rattle.kr_calm.specs.Rules.{breaks_1, breaks_2, breaks_6, changes_break_3, changes_break_4, changes_break_5}
+
+-- a call that was decoded, and where its paths lead
+pub record Asked : Type 0 where
+  pub request : Request
+  pub targets : Result Targets Errno
+
+-- a turn of a process: the state before the changes that it made, and the caller's memory then; whether it made a call with a path
+-- for which it had no shelf; its call, if one was decoded; its changes, and the mounts that they name; and what its walks reached
+pub record Course : Type 0 where
+  pub pid : ℕ
+  pub state : State ℕ Image
+  pub memory : Memory
+  pub no_shelf : Bool
+  pub asked : Option Asked
+  pub mounts : Mounts ℕ
+  pub changes : List Change
+  pub reach : Reach
+
+abbrev pub asked_breaks_2 : List Row → Course → Asked → Bool
+asked_breaks_2 table c a = breaks_2 table c.state.tree a.request a.targets
+
+-- the smallest rule that a turn broke
+abbrev pub broken_in : List Row → Course → Option ℕ
+broken_in table c =
+    if breaks_1 c.memory c.no_shelf then Some 1
+    else if option_map_or (asked_breaks_2 table c) c.asked false then Some 2
+    else if changes_break_3 images c.mounts c.pid table c.changes c.state then Some 3
+    else if changes_break_4 images c.mounts c.pid c.changes c.state then Some 4
+    else if changes_break_5 images c.mounts c.pid table c.changes c.state then Some 5
+    else if breaks_6 c.reach then Some 6
+    else None
+
+-- a kernel that keeps no marks judges nothing
+abbrev pub broken_by : ℕ → List Row → Course → Option ℕ
+broken_by marks table c = if nat_eq marks 0 then None else broken_in table c
+
+-- the walks of the start of a run are judged by the last rule alone, since no process makes a call yet
+abbrev pub broken_at_start : Reach → Option ℕ
+broken_at_start reach = if breaks_6 reach then Some 6 else None
+
+-- the rule that was broken first is kept
+abbrev pub kept : Option ℕ → Option ℕ → Option ℕ
+kept (Some rule) new = Some rule
+kept None new = new

@@ -1,0 +1,14 @@
+//! What stands above what.
+ghost use Rattle.std.specs.Prelude.{◌≡◌};
+ghost use Rattle.kr_calm.specs.Above.{is_at_or_below};
+
+use kr_tree::laws::trees_are_kept;
+use kr_tree::{Ino, Tree};
+
+/// Whether a directory is another or stands below it, by their host names.
+pub(crate) fn is_at_or_below(tree: &Tree, top: Ino, dir: Ino) -> bool
+    ensures { result ≡ is_at_or_below tree.now top dir }
+{
+    trees_are_kept(tree);
+    tree.is_below(top, dir)
+}

@@ -1,0 +1,15 @@
+-- Slashes lead to the root, which is a directory.
+use Rattle.std.proofs.Common.{◌≡◌, ℕ, Bool, true, cond, Some, None, ap, ◌∙◌}
+use Rattle.pr_base.specs.declared.path.WalkMode.TheVariants.{Look}
+use Rattle.kr_tree.specs.declared.place.Place.{Place}
+use Rattle.kr_view.specs.View.{root_place}
+use Rattle.kr_view.specs.Walk.{PlaceTrail}
+use Rattle.kr_view.proofs.DirectoryLemmas.{slashes_end}
+use Rattle.kr_first.specs.Laws.{RootsAreDirectories}
+use Rattle.kr_first.specs.Starting.{around, directory_found}
+use Rattle.kr_first.proofs.StandingLemmas.{root-stands}
+
+pub roots-are-directories : RootsAreDirectories
+roots-are-directories table tree user path stands some none =
+    ap (λ (trail : PlaceTrail). directory_found tree trail.answer) (slashes_end (around table tree user) Look (root_place table) path some none)
+    ∙ ap (λ b. cond b (Some (root_place table)) None) (root-stands tree table stands).1

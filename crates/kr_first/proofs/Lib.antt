@@ -1,0 +1,5 @@
+pub mod BeginLemmas
+pub mod DefinitionLemmas
+pub mod LawLemmas
+pub mod NumberLemmas
+pub mod StandingLemmas

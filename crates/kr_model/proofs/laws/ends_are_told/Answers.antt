@@ -1,0 +1,5 @@
+use Rattle.kr_model.proofs.CleanCalls.{ends_as_told}
+use Rattle.kr_model.proofs.laws.ends_are_told.Goals as goal
+
+pub returns : goal.returns
+returns c = ends_as_told

@@ -1,0 +1,4 @@
+pub mod TableLemmas
+pub mod LookLemmas
+pub mod ChangeLemmas
+pub mod StepLemmas

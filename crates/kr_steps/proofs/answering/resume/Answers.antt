@@ -1,0 +1,20 @@
+use Rattle.std.proofs.Common.{false}
+use Rattle.kr_ops.proofs.ChangeLemmas.{nobody-changed}
+use Rattle.kr_steps.specs.Answering.{going}
+use Rattle.kr_steps.proofs.ComputingLemmas.{going-means, going-runs}
+use Rattle.kr_steps.proofs.answering.resume.Goals as goal
+
+pub returns-in-Some-clause-resumes : goal.returns-in-Some-clause-resumes
+returns-in-Some-clause-resumes g c =
+    let s = c.args.state.now in
+    let p = c.index_mut-process.result.now in
+    going-means s c.args.pid c.in-Some.k p c.requires c.in-Some.ensures.some c.index_mut-process.ensures.value (λ regs. regs) false
+
+pub returns-in-Some-clause-runs : goal.returns-in-Some-clause-runs
+returns-in-Some-clause-runs g c =
+    let s = c.args.state.now in
+    let p = c.index_mut-process.result.now in
+    going-runs s c.args.pid c.in-Some.k p c.requires c.in-Some.ensures.some c.index_mut-process.ensures.value (λ regs. regs) false
+
+pub returns-in_default-clause-resumes : goal.returns-in_default-clause-resumes
+returns-in_default-clause-resumes g c = nobody-changed c.args.state.now c.args.pid (going (λ regs. regs) false) (c.index_of.ensures.none c.in_default.is)

@@ -1,0 +1,122 @@
+-- A turn in code is a turn of the state with the numbers of its mounts.
+use Rattle.std.proofs.Common.{◌≡◌, ℕ, ◌+◌, ◌<◌, ◌^◌, Bool, false, List, Option, Some, None, refl, sym, ap, subst, ◌∙◌}
+use Rattle.std.specs.Prelude.{IfSome, IsSome}
+use Rattle.std.specs.Option.{option_map, option_map_or}
+use Rattle.std.proofs.lemmas.Option.{same_Some}
+use Rattle.rv_cpu.specs.Run.{ran}
+use Rattle.rv_cpu.specs.declared.event.Event.{Event}
+use Rattle.kr_view.specs.View.{Row}
+use Rattle.kr_model.specs.Applied.{Mounts, images}
+use Rattle.kr_model.specs.Change.{End}
+use Rattle.kr_model.specs.State as model
+use Rattle.kr_model.specs.State.{Image, Process}
+use Rattle.kr_lawful.proofs.AfterLemmas.{some-of}
+use Rattle.kr_lawful.proofs.ProcessChangeLemmas.{found-passes}
+use Rattle.kr_lawful.proofs.SumLemmas.{passed-test}
+use Rattle.kr_ops.specs.declared.state.State.{State}
+use Rattle.kr_ops.specs.Making.{Makes}
+use Rattle.kr_ops.specs.Living.{HasPid}
+use Rattle.kr_ops.specs.Meaning.{meaning}
+use Rattle.kr_ops.specs.Sound.{IsSound}
+use Rattle.kr_ops.proofs.OpeningLemmas.{found}
+use Rattle.kr_procview.specs.Numbered.{process_numbered, state_numbered}
+use Rattle.kr_numbered.proofs.ChangeLemmas.{change-numbered}
+use Rattle.kr_numbered.proofs.LookLemmas.{process-numbered}
+use Rattle.kr_steps.specs.Computing.{Computes, computed}
+use Rattle.kr_turns.specs.Coming.{came_to}
+use Rattle.kr_turns.specs.Held.{stopped_in}
+use Rattle.kr_turns.specs.Making.{ComesOut, IsCallMade, IsLeft, machine_of, status_after}
+use Rattle.kr_turns.specs.PlainCall.{Came, plain_call}
+use Rattle.kr_turns.specs.Stopped.{IsEdited, Stopped, image_at, no_image}
+use Rattle.kr_turns.specs.Turn.{ExitsIfAny, IsAfterEvent, IsAfterPlain, IsBorn, IsTurnOf, Machine, killed}
+use Rattle.kr_turns.specs.Watching.{Watching}
+use Rattle.kr_turns.specs.declared.plain.Plain.{Plain}
+use Rattle.kr_turns.proofs.EditLemmas.{computed-lives}
+use Rattle.kr_turns.proofs.HereLemmas.{image-numbered}
+use Rattle.kr_turns.proofs.NumberLemmas.{computed-numbered}
+
+module _ {S T : Type 0} {M : ℕ} (w : Watching S) (number : T → ℕ) (pid : ℕ) (at_root : Bool) (old : State T M) (x : S) where
+  abbrev at-stop : Stopped
+  at-stop = stopped_in number old pid at_root
+
+  -- one that lives comes to the stop
+  pub comes-out : (new : State T M) (y : S) → IsSome (model.process pid (meaning old)) → w.exits x at-stop y (stopped_in number new pid at_root) → ComesOut w number pid at_root old x new y
+  comes-out new y lives exits = λ status.
+      let own = some-of (model.process pid (meaning old)) lives in
+      let found : model.process pid (state_numbered number (meaning old)) ≡ Some (process_numbered number own.0) = process-numbered number pid (meaning old) ∙ ap (option_map (process_numbered number)) own.1 in
+      subst (λ (o : Option (Process ℕ Image)). ExitsIfAny w at-stop x status (machine_of number new y status) o) (sym found)
+      (record { left = stopped_in number new pid at_root; exits = exits; state = refl; same = refl })
+
+  -- another doesn't
+  pub stays-out : model.process pid (meaning old) ≡ None → ComesOut w number pid at_root old x old x
+  stays-out none = λ status.
+      let found : model.process pid (state_numbered number (meaning old)) ≡ None = process-numbered number pid (meaning old) ∙ ap (option_map (process_numbered number)) none in
+      subst (λ (o : Option (Process ℕ Image)). ExitsIfAny w at-stop x status (machine_of number old x status) o) (sym found) refl
+
+-- ---- a call
+
+module _ {T : Type 0} {M : ℕ} (number : T → ℕ) (pid : ℕ) (old new : State T M) where
+  image-of : (s : State T M) (p : model.Process T Image) → model.process pid (meaning s) ≡ Some p → image_at (stopped_in number s pid false) ≡ p.image
+  image-of s p e = image-numbered number pid s ∙ ap (λ (o : Option (model.Process T Image)). option_map_or (λ q. q.image) o no_image) e
+
+  -- an edit leaves a process where it stands
+  pub behind-edited : IfSome (model.process pid (meaning old)) (λ p. p.image.regs.pc + 4 < 2 ^ 64) → IsSome (model.process pid (meaning old)) → IsSome (model.process pid (meaning new))
+      → IsEdited (stopped_in number old pid false) (stopped_in number new pid false) → IfSome (model.process pid (meaning new)) (λ p. p.image.regs.pc + 4 < 2 ^ 64)
+  behind-edited behind lives lives-now edits =
+      let p = some-of (model.process pid (meaning old)) lives in
+      let q = some-of (model.process pid (meaning new)) lives-now in
+      let same : q.0.image.regs.pc ≡ p.0.image.regs.pc = sym (ap (λ (i : Image). i.regs.pc) (image-of new q.0 q.1)) ∙ edits.behind ∙ ap (λ (i : Image). i.regs.pc) (image-of old p.0 p.1) in
+      subst (λ (o : Option (model.Process T Image)). IfSome o (λ r. r.image.regs.pc + 4 < 2 ^ 64)) (sym q.1)
+      (subst (λ pc. pc + 4 < 2 ^ 64) (sym same) (subst (λ (o : Option (model.Process T Image)). IfSome o (λ r. r.image.regs.pc + 4 < 2 ^ 64)) p.1 behind))
+
+module _ {S T : Type 0} {M : ℕ} (w : Watching S) (number : T → ℕ) (table : List Row) (pid : ℕ) where
+  -- the stops of a call around it
+  pub call-made : (old entered came new : State T M) (x entering bearing y : S) (plain : Plain) → w.enters x (stopped_in number old pid false) entering (stopped_in number entered pid false)
+      → came_to number came plain ≡ plain_call table pid (state_numbered number (meaning entered)) → IsBorn w pid plain.child entering bearing → (told : Option ℕ) → IsLeft w number pid plain came bearing new y told
+      → IsCallMade w number table pid old x new y told
+  call-made old entered came new x entering bearing y plain enters plainly born told left = λ status. record {
+    entering = entering;
+    entered = stopped_in number entered pid false;
+    enters = enters;
+    after = subst (λ (made : Came). IsAfterPlain w pid made entering status (machine_of number new y (status_after status told))) plainly (record { bearing = bearing; born = born; leaves = left status });
+  }
+
+  -- ---- instructions
+
+  pub turn-after : (fuel : ℕ) (old mid : State T M) (event : Event) (done : ℕ) → Computes pid fuel old mid event done → (p : Process ℕ Image) → model.process pid (state_numbered number (meaning old)) ≡ Some p
+      → (x : S) (status : ℕ) (new : Machine S) → IsAfterEvent w table pid event (machine_of number mid x status) new → IsTurnOf w table fuel p (machine_of number old x status) new
+  turn-after fuel old mid event done c p found x status new after =
+      subst (λ (q : Process ℕ Image). IsTurnOf w table fuel q (machine_of number old x status) new) same
+      (subst (λ n. IsAfterEvent w table n (ran fuel c.process.image.regs c.process.image.memory).event (record { state = computed n (ran fuel c.process.image.regs c.process.image.memory).regs (ran fuel c.process.image.regs c.process.image.memory).memory (state_numbered number (meaning old)); watcher = x; status = status }) new) (sym numbered-pid)
+      (subst (λ (t : model.State ℕ Image). IsAfterEvent w table pid (ran fuel c.process.image.regs c.process.image.memory).event (record { state = t; watcher = x; status = status }) new) leaves
+      (subst (λ e. IsAfterEvent w table pid e (machine_of number mid x status) new) c.ends after)))
+    where
+      same : process_numbered number c.process ≡ p
+      same = same_Some (process_numbered number c.process) p (sym (process-numbered number pid (meaning old) ∙ ap (option_map (process_numbered number)) c.lives) ∙ found)
+
+      numbered-pid : c.process.pid ≡ pid
+      numbered-pid = passed-test c.process.pid pid (found-passes (model.is_pid pid) (meaning old).living c.process c.lives)
+
+      leaves : state_numbered number (meaning mid) ≡ computed pid (ran fuel c.process.image.regs c.process.image.memory).regs (ran fuel c.process.image.regs c.process.image.memory).memory (state_numbered number (meaning old))
+      leaves = ap (state_numbered number) c.leaves ∙ computed-numbered number pid (ran fuel c.process.image.regs c.process.image.memory).regs (ran fuel c.process.image.regs c.process.image.memory).memory (meaning old)
+
+  -- by the event that it was
+  pub turn-by : (fuel : ℕ) (old mid : State T M) (event own : Event) (done : ℕ) → Computes pid fuel old mid event done → event ≡ own → (p : Process ℕ Image) → model.process pid (state_numbered number (meaning old)) ≡ Some p
+      → (x : S) (status : ℕ) (new : Machine S) → IsAfterEvent w table pid own (machine_of number mid x status) new → IsTurnOf w table fuel p (machine_of number old x status) new
+  turn-by fuel old mid event own done c is p found x status new after =
+      turn-after fuel old mid event done c p found x status new (subst (λ e. IsAfterEvent w table pid e (machine_of number mid x status) new) (sym is) after)
+
+  pub killed-now : (signal : ℕ) (mid new : State T M) → Makes pid (End signal) mid new → state_numbered number (meaning new) ≡ killed pid signal (state_numbered number (meaning mid))
+  killed-now signal mid new makes =
+      let none : Mounts T = record { found = None; directory = None } in
+      ap (state_numbered number) (makes none) ∙ change-numbered number images none pid (End signal) (meaning mid)
+
+-- it lives after its instructions
+pub computed-still : {T : Type 0} {M : ℕ} (pid fuel : ℕ) (old mid : State T M) (event : Event) (done : ℕ) → Computes pid fuel old mid event done → IsSome (model.process pid (meaning mid))
+computed-still {T = T} pid fuel old mid event done c =
+    subst (λ (t : model.State T Image). IsSome (model.process pid t)) (sym c.leaves)
+    (computed-lives pid (ran fuel c.process.image.regs c.process.image.memory).regs (ran fuel c.process.image.regs c.process.image.memory).memory (meaning old) (subst IsSome (sym c.lives) refl))
+
+-- a process at an index lives
+pub found-lives : {T : Type 0} {M : ℕ} (s : State T M) (pid k : ℕ) → IsSound s → HasPid pid k s.living.items → IsSome (model.process pid (meaning s))
+found-lives s pid k sound at = subst IsSome (sym (found s pid k at.process sound at at.there)) refl

@@ -1,0 +1,11 @@
+use Rattle.std.proofs.Common.{get_or, sym, ap}
+use Rattle.kr_model.specs.State.{Image}
+use Rattle.kr_ops.proofs.OpeningLemmas.{not-living}
+use Rattle.kr_turns.proofs.EditingLemmas.{image-here}
+use Rattle.kr_turns.proofs.editing.register.Goals as goal
+
+pub unreachable-requires : goal.unreachable-requires
+unreachable-requires g c = not-living c.args.state.now c.args.pid (c.index_of.ensures.none c.in-None.is) c.requires.lives
+
+pub returns : goal.returns
+returns g c = ap (λ (i : Image). get_or i.regs.x c.args.k 0) (sym (image-here c.args.state.now c.args.pid c.in-Some.at c.index.result.now c.requires.sound c.in-Some.ensures.some c.index.ensures))

@@ -1,0 +1,14 @@
+use Rattle.std.proofs.Common.{ap, sym, ◌∙◌}
+use Rattle.rv_mem.specs.Pages.{allows_all}
+use Rattle.kr_model.specs.State.{Image}
+use Rattle.kr_turns.specs.Editing.{memory_at}
+use Rattle.kr_turns.specs.Held.{Held, stopped_of}
+use Rattle.kr_turns.proofs.HereLemmas.{image-numbered}
+use Rattle.kr_turns.proofs.here.HereTracee.can.Goals as goal
+
+pub returns : goal.returns
+returns g c =
+    let number = g.P.Places.number in
+    c.can.ensures
+    ∙ ap (λ (i : Image). allows_all i.memory.pages c.args.at c.args.n c.args.what) (sym (image-numbered number c.self.inside.pid c.self.inside.state.now))
+    ∙ ap (λ (h : Held _ _ _). allows_all (memory_at (stopped_of number h)).pages c.args.at c.args.n c.args.what) c.self.view_is

@@ -1,0 +1,6 @@
+use Rattle.kr_turns.proofs.JoinLemmas.{turns-are-functions}
+use Rattle.kr_turns.specs.Making.{watching}
+use Rattle.kr_turns.proofs.laws.turns_are_functions.Goals as goal
+
+pub returns : goal.returns
+returns g c = turns-are-functions (watching g.S.Stops.enters g.S.Stops.exits g.S.Stops.bears g.S.Stops.forgets)

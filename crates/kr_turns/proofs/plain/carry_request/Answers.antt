@@ -1,0 +1,31 @@
+use Rattle.std.proofs.Common.{lit<, refl, sym, ap, subst, ◌∙◌}
+use Rattle.std.proofs.lemmas.Result.{on_ok_weaker}
+use Rattle.kr_allowed.specs.Calls.{HasTextPaths}
+use Rattle.kr_calls.specs.declared.request.Request.{Request}
+use Rattle.kr_calls.specs.declared.request.Request.TheVariants as call
+use Rattle.kr_lasting.specs.Texts.{IsText}
+use Rattle.kr_ops.specs.Meaning.{meaning}
+use Rattle.kr_procview.specs.Numbered.{state_numbered}
+use Rattle.kr_tree.specs.Lawful.{AreBytes}
+use Rattle.kr_turns.specs.PlainCall.{requested}
+use Rattle.kr_turns.proofs.PlainLemmas.{if-ok}
+use Rattle.kr_turns.proofs.plain.carry_request.Goals as goal
+
+pub replace-requires : goal.replace-requires
+replace-requires g c =
+    let texts = subst HasTextPaths c.in-Execve.is c.requires.paths 0 _ refl in
+    (lit< tt, (subst IsText (sym c.as_slice.ensures) texts.0, (subst AreBytes (sym c.as_slice.ensures) texts.1, (c.requires.named, (c.requires.may, c.requires.lives)))))
+
+pub returns-in-Execve-clause-came : goal.returns-in-Execve-clause-came
+returns-in-Execve-clause-came g c =
+    let table = g.P.Places.mounts c.args.places.now in
+    let s = state_numbered g.P.Places.number (meaning c.args.state.now) in
+    if-ok c.replace.result
+    (λ plain came.
+    came
+    ∙ ap (λ path. requested table c.args.pid (call.Execve path c.in-Execve.args c.in-Execve.env) s) c.as_slice.ensures
+    ∙ sym (ap (λ (r : Request). requested table c.args.pid r s) c.in-Execve.is))
+    c.replace.ensures.came
+
+pub returns-in-Execve-clause-runs : goal.returns-in-Execve-clause-runs
+returns-in-Execve-clause-runs g c = on_ok_weaker c.replace.result (λ runs calls few before. runs calls before) c.replace.ensures.runs

@@ -1,0 +1,63 @@
+use Rattle.std.proofs.Common.{lit<, Ok, Err, ap, subst, ◌∙◌}
+use Rattle.std.proofs.lemmas.Result.{on_ok_weaker}
+use Rattle.kr_calls.specs.declared.fault.CallFault.{CallFault}
+use Rattle.kr_ops.specs.Meaning.{meaning}
+use Rattle.kr_ops.proofs.UseLemmas.{sound-of}
+use Rattle.kr_procview.specs.Numbered.{state_numbered}
+use Rattle.kr_calling.specs.Calling.{MayCall}
+use Rattle.kr_calling.proofs.CallLemmas.{runs-later}
+use Rattle.kr_steps.specs.Computing.{Requests}
+use Rattle.kr_turns.specs.PlainCall.{refusal_told}
+use Rattle.kr_turns.proofs.PlainLemmas.{behind-mid, call-refused, carried-left, lives-mid, reach-carried, reach-refused}
+use Rattle.kr_turns.proofs.plain.plain_call.Goals as goal
+
+pub refuse-requires : goal.refuse-requires
+refuse-requires g c =
+    let runs = c.in-Err-Err.ensures.runs g.P.Places.number (g.P.Places.mounts c.args.places.now) c.requires.may.calls c.requires.may.runs in
+    (lit< tt, sound-of g.P.Places.number (g.P.Places.mounts c.args.places.now) c.request.new.state runs.lasts.lawful runs.served)
+
+pub returns-in-Err-Err-clause-came : goal.returns-in-Err-Err-clause-came
+returns-in-Err-Err-clause-came g c =
+    let number = g.P.Places.number in
+    let table = g.P.Places.mounts c.args.places.now in
+    let mid = c.request.new.state in
+    let requested = subst (λ (f : CallFault). Requests c.args.pid c.args.state.now mid (Err f)) c.in-Err-Err.field-0-is c.in-Err-Err.ensures.requested in
+    call-refused number table c.args.pid c.args.state.now mid _ requested c.in-Err-Err.errno requested.gives.0 _
+    (c.refuse.ensures.came number ∙ ap (λ e. refusal_told c.args.pid e (state_numbered number (meaning mid))) c.in-Err-Err.errno-is)
+
+pub returns-in-Err-Err-clause-reach : goal.returns-in-Err-Err-clause-reach
+returns-in-Err-Err-clause-reach g c =
+    let number = g.P.Places.number in
+    let table = g.P.Places.mounts c.args.places.now in
+    let mid = c.request.new.state in
+    let requested = subst (λ (f : CallFault). Requests c.args.pid c.args.state.now mid (Err f)) c.in-Err-Err.field-0-is c.in-Err-Err.ensures.requested in
+    reach-refused number table c.args.pid c.args.state.now mid _ requested c.in-Err-Err.errno requested.gives.0 c.args.reach.now
+
+pub returns-in-Err-Err-clause-runs : goal.returns-in-Err-Err-clause-runs
+returns-in-Err-Err-clause-runs g c = λ calls few runs. runs-later _ _ calls c.refuse.new.state (c.refuse.ensures.runs _ _ calls (c.in-Err-Err.ensures.runs _ _ calls runs))
+
+pub carry_request-requires : goal.carry_request-requires
+carry_request-requires g c =
+    let number = g.P.Places.number in
+    let table = g.P.Places.mounts c.args.places.now in
+    let mid = c.request.new.state in
+    let requested = c.in-Ok.ensures.requested in
+    let may : MayCall number table mid = record { calls = c.requires.may.calls; few = c.requires.may.few; runs = c.in-Ok.ensures.runs number table c.requires.may.calls c.requires.may.runs } in
+    (lit< tt, (c.in-Ok.ensures.given, (c.in-Ok.ensures.paths, (c.requires.named, (may, (lives-mid number table c.args.pid c.args.state.now mid _ requested, behind-mid number table c.args.pid c.args.state.now mid _ requested c.requires.behind))))))
+
+pub returns-clause-came : goal.returns-clause-came
+returns-clause-came g c =
+    let number = g.P.Places.number in
+    let table = g.P.Places.mounts c.args.places.now in
+    let requested = c.in-Ok.ensures.requested in
+    carried-left number table c.args.pid c.args.state.now c.request.new.state (Ok c.in-Ok.request) requested c.carry_request.new.state c.in-Ok.request requested.gives.0 c.carry_request.result c.carry_request.ensures.came
+
+pub returns-clause-reach : goal.returns-clause-reach
+returns-clause-reach g c =
+    let number = g.P.Places.number in
+    let table = g.P.Places.mounts c.args.places.now in
+    let requested = c.in-Ok.ensures.requested in
+    on_ok_weaker c.carry_request.result (λ reaches. reach-carried number table c.args.pid c.args.state.now c.request.new.state _ requested c.in-Ok.request requested.gives.0 c.args.reach.now c.carry_request.new.reach reaches) c.carry_request.ensures.reach
+
+pub returns-clause-runs : goal.returns-clause-runs
+returns-clause-runs g c = on_ok_weaker c.carry_request.result (λ h calls few runs. h calls few (c.in-Ok.ensures.runs _ _ calls runs)) c.carry_request.ensures.runs

@@ -1,0 +1,62 @@
+use Rattle.std.proofs.Common.{lit<, refl, sym, ap, ◌∙◌}
+use Rattle.kr_ops.specs.Meaning.{meaning}
+use Rattle.kr_ops.proofs.UseLemmas.{sound-of}
+use Rattle.kr_procview.specs.Numbered.{state_numbered}
+use Rattle.kr_execve.specs.Execution.{execution_reach}
+use Rattle.kr_turns.proofs.NumberLemmas.{memory-numbered}
+use Rattle.kr_turns.proofs.PlainLemmas.{execution-left, refused-now, replaced-now}
+use Rattle.kr_turns.proofs.plain.replace.Goals as goal
+
+pub resume-requires : goal.resume-requires
+resume-requires g c =
+    let may = c.requires.may in
+    let left = c.in-Replaced.ensures (λ e. absurd cc) in
+    (lit< tt, sound-of g.P.Places.number (g.P.Places.mounts c.args.places.now) c.execute.new.state (left.lasts may.calls may.runs.lasts).lawful left.served)
+
+pub refuse-requires : goal.refuse-requires
+refuse-requires g c =
+    let may = c.requires.may in
+    let left = c.in-Refused.ensures (λ e. absurd cc) in
+    (lit< tt, sound-of g.P.Places.number (g.P.Places.mounts c.args.places.now) c.execute.new.state (left.lasts may.calls may.runs.lasts).lawful left.served)
+
+pub returns-in-Replaced-clause-came : goal.returns-in-Replaced-clause-came
+returns-in-Replaced-clause-came g c =
+    let number = g.P.Places.number in
+    let table = g.P.Places.mounts c.args.places.now in
+    let left = c.in-Replaced.ensures (λ e. absurd cc) in
+    replaced-now number table c.args.pid c.args.path.now c.args.args c.args.env c.args.state.now c.execute.new.state left.executed.told.0 c.resume.new.state _
+    (execution-left number table c.args.pid c.args.path.now c.args.args c.args.env c.args.state.now c.execute.new.state _ left.executed) left.executed.told.1 c.resume.ensures.resumes refl refl refl
+
+pub returns-in-Replaced-clause-reach : goal.returns-in-Replaced-clause-reach
+returns-in-Replaced-clause-reach g c =
+    let number = g.P.Places.number in
+    let table = g.P.Places.mounts c.args.places.now in
+    let s = meaning c.args.state.now in
+    (c.in-Replaced.ensures (λ e. absurd cc)).reach
+    ∙ ap (λ m. execution_reach table c.args.pid (state_numbered number s) c.args.path.now c.args.args c.args.env m c.args.reach.now) (sym (memory-numbered number c.args.pid s))
+
+pub returns-in-Replaced-clause-runs : goal.returns-in-Replaced-clause-runs
+returns-in-Replaced-clause-runs g c = λ calls runs.
+    let left = c.in-Replaced.ensures (λ e. absurd cc) in
+    c.resume.ensures.runs _ _ _ (record { lasts = left.lasts calls runs.lasts; served = left.served })
+
+pub returns-in-Refused-clause-came : goal.returns-in-Refused-clause-came
+returns-in-Refused-clause-came g c =
+    let number = g.P.Places.number in
+    let table = g.P.Places.mounts c.args.places.now in
+    let left = c.in-Refused.ensures (λ e. absurd cc) in
+    refused-now number table c.args.pid c.args.path.now c.args.args c.args.env c.args.state.now c.execute.new.state c.in-Refused.errno _
+    (execution-left number table c.args.pid c.args.path.now c.args.args c.args.env c.args.state.now c.execute.new.state _ left.executed) left.executed.told (c.refuse.ensures.came number)
+
+pub returns-in-Refused-clause-reach : goal.returns-in-Refused-clause-reach
+returns-in-Refused-clause-reach g c =
+    let number = g.P.Places.number in
+    let table = g.P.Places.mounts c.args.places.now in
+    let s = meaning c.args.state.now in
+    (c.in-Refused.ensures (λ e. absurd cc)).reach
+    ∙ ap (λ m. execution_reach table c.args.pid (state_numbered number s) c.args.path.now c.args.args c.args.env m c.args.reach.now) (sym (memory-numbered number c.args.pid s))
+
+pub returns-in-Refused-clause-runs : goal.returns-in-Refused-clause-runs
+returns-in-Refused-clause-runs g c = λ calls runs.
+    let left = c.in-Refused.ensures (λ e. absurd cc) in
+    c.refuse.ensures.runs _ _ _ (record { lasts = left.lasts calls runs.lasts; served = left.served })

@@ -1,0 +1,11 @@
+-- What a call came to in code.
+use Rattle.std.specs.Prelude.{◌≡◌, ℕ}
+use Rattle.kr_ops.specs.declared.state.State.{State}
+use Rattle.kr_ops.specs.Meaning.{meaning}
+use Rattle.kr_procview.specs.Numbered.{state_numbered}
+use Rattle.kr_turns.specs.PlainCall.{Came}
+use Rattle.kr_turns.specs.declared.plain.Plain.{Plain}
+
+-- the code's value with the state that it left
+abbrev pub came_to : {T : Type 0} {M : ℕ} → (T → ℕ) → State T M → Plain → Came
+came_to number s plain = record { state = state_numbered number (meaning s); end = plain.end; child = plain.child; at_root = plain.at_root }

@@ -1,0 +1,53 @@
+-- A process that a kernel holds at a stop.
+use Rattle.std.specs.Prelude.{ℕ, ◌≤◌, ◌^◌, Bool, List, IsSome}
+use Rattle.pr_base.specs.Peeks.{NamesAreTexts}
+use Rattle.kr_view.specs.View.{Row}
+use Rattle.kr_model.specs.Peeks.{peeked_of}
+use Rattle.kr_model.specs.State.{process}
+use Rattle.kr_ops.specs.declared.state.State.{State}
+use Rattle.kr_ops.specs.Meaning.{meaning}
+use Rattle.kr_procview.specs.Numbered.{state_numbered}
+use Rattle.kr_calling.specs.Calling.{Runs}
+use Rattle.kr_turns.specs.Stopped.{Stopped}
+
+-- the process of a number in a state of the code
+abbrev pub stopped_in : {T : Type 0} {M : ℕ} → (T → ℕ) → State T M → (pid : ℕ) → Bool → Stopped
+stopped_in number s pid at_root = record { state = state_numbered number (meaning s); pid = pid; at_root = at_root }
+
+-- it lives, in a state that runs, and numbers of processes have 32 bits
+pub record Stands {T : Type 0} {M : ℕ} (number : T → ℕ) (table : List Row) (calls pid : ℕ) (s : State T M) : Type 0 where
+  pub runs : Runs number table calls s
+  pub lives : IsSome (process pid (meaning s))
+  pub small : (meaning s).next_pid ≤ 2 ^ 32
+
+-- what a kernel lends for a stop: its view, its state after so many calls, and which process stopped. Names that are told are texts
+pub record Held (P T : Type 0) (M : ℕ) : Type 0 where
+  pub places : P
+  pub state : State T M
+  pub pid : ℕ
+  pub at_root : Bool
+  pub calls : ℕ
+  -- which state was lent
+  pub lent : ℕ
+  pub texts : ∥ NamesAreTexts (peeked_of (meaning state) pid) ∥₁
+
+-- what a watcher leaves of it but for what is in the state
+pub record Around (P : Type 0) : Type 0 where
+  pub places : P
+  pub calls : ℕ
+  pub lent : ℕ
+
+-- and what a peek leaves
+pub record Left (P : Type 0) : Type 0 where
+  pub stopped : Stopped
+  pub around : Around P
+
+module _ {P T : Type 0} {M : ℕ} (number : T → ℕ) where
+  abbrev pub stopped_of : Held P T M → Stopped
+  stopped_of h = stopped_in number h.state h.pid h.at_root
+
+  abbrev pub around_of : Held P T M → Around P
+  around_of h = record { places = h.places; calls = h.calls; lent = h.lent }
+
+  abbrev pub left_of : Held P T M → Left P
+  left_of h = record { stopped = stopped_of h; around = around_of h }

@@ -1,0 +1,14 @@
+-- A turn whose watcher is a function is one.
+use Rattle.std.specs.Prelude.{◌≡◌, ℕ, List, Some, None}
+use Rattle.kr_view.specs.View.{Row}
+use Rattle.kr_model.specs.State.{Image, Process}
+use Rattle.kr_steps.specs.Waiting.{picked_process}
+use Rattle.kr_turns.specs.Turn.{IsTurnOf, Machine, turn}
+use Rattle.kr_turns.specs.Watching.{IsGraph, Watcher, Watching}
+
+-- where the relations of a watcher are the graphs of functions, a turn by the relations is the turn by the functions; and where no
+-- process is ready nothing changes
+pub record TurnsAreFunctions {S : Type 0} (w : Watching S) : Type 0 where
+  pub turns : (f : Watcher S) (table : List Row) (pick fuel : ℕ) (p : Process ℕ Image) (old new : Machine S) → IsGraph w f
+      → picked_process old.state pick ≡ Some p → IsTurnOf w table fuel p old new → new ≡ turn f table pick fuel old
+  pub rests : (f : Watcher S) (table : List Row) (pick fuel : ℕ) (m : Machine S) → picked_process m.state pick ≡ None → turn f table pick fuel m ≡ m

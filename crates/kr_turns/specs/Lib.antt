@@ -1,0 +1,11 @@
+pub mod Stopped
+pub mod Editing
+pub mod Held
+pub mod HeldLaws
+pub mod Watching
+pub mod PlainCall
+pub mod Coming
+pub mod Turn
+pub mod Making
+pub mod Run
+pub mod Laws

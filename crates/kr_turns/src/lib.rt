@@ -1,0 +1,15 @@
+//! A turn: what a watcher of calls may do at their stops, and a call as the kernel carries it out.
+#![tactic(auto)]
+
+mod editing;
+mod here;
+pub mod laws;
+mod plain;
+mod stops;
+mod tracee;
+mod turn;
+
+pub use plain::{CallEnd, Plain, plain_call};
+pub use stops::{Stops, Unwatched};
+pub use tracee::Tracee;
+pub use turn::make_turn;

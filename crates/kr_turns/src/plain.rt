@@ -1,0 +1,279 @@
+//! A call as the kernel carries it out.
+ghost use Rattle.std.specs.Prelude.{◌≡◌, ◌≢◌, ◌+◌, ◌<◌, ◌^◌, ℕ, suc, List, false, Ok, IfOk, IfSome, IsSome, OnOk};
+ghost use Rattle.kr_allowed.specs.Calls.{HasTextPaths, IsGivable};
+ghost use Rattle.kr_allowed.specs.Told.{SourcesAreNamed};
+ghost use Rattle.kr_calling.specs.Calling.{MayCall, Runs};
+ghost use Rattle.kr_lasting.specs.Texts.{IsText};
+ghost use Rattle.kr_model.specs.State.{process};
+ghost use Rattle.kr_model.specs.Walks.{targets_of};
+ghost use Rattle.kr_model.specs.declared.outcome.Outcome.TheVariants.{NoMemory as WantOfMemory};
+ghost use Rattle.kr_ops.specs.Meaning.{meaning};
+ghost use Rattle.kr_ops.specs.Sound.{IsSound};
+ghost use Rattle.kr_paths.specs.CallWalks.{AreTargets};
+ghost use Rattle.kr_perform.specs.Operating.{IsNoExec};
+ghost use Rattle.kr_procview.specs.Numbered.{state_numbered};
+ghost use Rattle.kr_tree.specs.Lawful.{AreBytes};
+ghost use Rattle.kr_steps.specs.Settling.{settled};
+ghost use Rattle.kr_turns.specs.Coming.{came_to};
+ghost use Rattle.std.specs.Option.{option_map, option_map_or};
+ghost use Rattle.kr_view.specs.Leads.{numbered};
+ghost use Rattle.kr_view.specs.View.{Row, is_root_place};
+ghost use Rattle.kr_turns.specs.PlainCall.{child_of, end_of, executed, leads_to_root, plain_call, plain_reach, refusal_told, request_reach, requested, status_told};
+ghost use Rattle.kr_calls.specs.declared.request.Request.TheVariants.{Execve as ExecveRequest};
+
+use kr_calling::carry_out_along;
+use kr_calls::{CallFault, Request};
+use kr_execve::{Executed, execute};
+use kr_model::Outcome;
+use kr_ops::State;
+use kr_ops::laws::lawful_states_are_sound;
+use kr_paths::{Targets, walk_paths};
+use kr_steps::{answer, request, resume, stay};
+use kr_tree::Place;
+use kr_view::{Places, Reach, WalkFault};
+use pr_base::{Errno, NoMemory};
+use std::alloc::Global;
+
+/// The signal that kills a process which writes into a pipe that nobody reads.
+const SIGPIPE: u8 = 13;
+
+/// What became of the caller of a call.
+#[derive(Clone, Copy, Debug, PartialEq, Eq)]
+pub enum CallEnd {
+    /// It was told an answer, and goes on behind the call.
+    Answered,
+    /// It begins a new program.
+    Replaced,
+    /// It stays at the call, which waits.
+    Waits,
+    /// It ended, with this status: its exit code, or 128 and the number of the signal that killed it.
+    Ended(u8),
+}
+
+/// What a call came to.
+#[derive(Clone, Copy)]
+pub struct Plain {
+    pub end: CallEnd,
+    /// The number of the child that it made, if one.
+    pub child: Option<u32>,
+    /// Whether its first path led to the root of the view. That of execve(2) isn't told.
+    pub at_root: bool,
+}
+
+/// Carries out the call at which a living process stands: what it asks for is decoded from its registers and its memory, its paths are
+/// walked, its row is carried out or the new program is put in place, and the caller is told the answer where it goes on. What the
+/// walks reach is added to `reach`. After want of memory the state may only be dropped.
+pub fn plain_call<P: Places, const M: u8>(
+    alloc: Global,
+    places: &P,
+    state: &mut State<P::Mount, M>,
+    pid: u32,
+    reach: &mut Reach,
+) -> Result<Plain, NoMemory>
+    requires named { SourcesAreNamed (P.mounts places.now) }
+    requires may { MayCall P.number (P.mounts places.now) state.old }
+    requires lives { IsSome (process pid (meaning state.old)) }
+    requires behind { IfSome (process pid (meaning state.old)) (λ p. p.image.regs.pc + 4 < 2 ^ 64) }
+    ensures came { IfOk result (λ plain. came_to P.number state.new plain ≡ plain_call (P.mounts places.now) pid (state_numbered P.number (meaning state.old))) }
+    ensures reach { OnOk result (reach.new ≡ plain_reach (P.mounts places.now) pid (state_numbered P.number (meaning state.old)) reach.old) }
+    ensures runs { OnOk result ((calls : ℕ) → calls < 2 ^ 31 → Runs P.number (P.mounts places.now) calls state.old → Runs P.number (P.mounts places.now) (suc calls) state.new) }
+{
+    lawful_states_are_sound::<P::Mount, M>();
+    let request = match request(state, pid) {
+        Ok(request) => request,
+        Err(CallFault::Err(errno)) => return Ok(refuse(state, pid, errno)),
+        Err(CallFault::NoMemory) => return Err(NoMemory),
+    };
+    carry_request(alloc, places, state, pid, &request, reach)
+}
+
+/// Carries out what a living process asks for.
+fn carry_request<P: Places, const M: u8>(
+    alloc: Global,
+    places: &P,
+    state: &mut State<P::Mount, M>,
+    pid: u32,
+    request: &Request,
+    reach: &mut Reach,
+) -> Result<Plain, NoMemory>
+    requires given { IsGivable request.now }
+    requires paths { HasTextPaths request.now }
+    requires named { SourcesAreNamed (P.mounts places.now) }
+    requires may { MayCall P.number (P.mounts places.now) state.old }
+    requires lives { IsSome (process pid (meaning state.old)) }
+    requires behind { IfSome (process pid (meaning state.old)) (λ p. p.image.regs.pc + 4 < 2 ^ 64) }
+    ensures came { IfOk result (λ plain. came_to P.number state.new plain ≡ requested (P.mounts places.now) pid request.now (state_numbered P.number (meaning state.old))) }
+    ensures reach { OnOk result (reach.new ≡ request_reach (P.mounts places.now) pid request.now (state_numbered P.number (meaning state.old)) reach.old) }
+    ensures runs { OnOk result ((calls : ℕ) → calls < 2 ^ 31 → Runs P.number (P.mounts places.now) calls state.old → Runs P.number (P.mounts places.now) (suc calls) state.new) }
+{
+    match request {
+        Request::Execve { path, args, env } => {
+            replace(
+                alloc,
+                places,
+                state,
+                pid,
+                path.as_slice(),
+                *args,
+                *env,
+                reach,
+            )
+        }
+        _ => operate(alloc, places, state, pid, request, reach),
+    }
+}
+
+/// Carries out an execve of a living process.
+fn replace<P: Places, const M: u8>(
+    alloc: Global,
+    places: &P,
+    state: &mut State<P::Mount, M>,
+    pid: u32,
+    path: &[u8],
+    args: u64,
+    env: u64,
+    reach: &mut Reach,
+) -> Result<Plain, NoMemory>
+    requires text { IsText path.now }
+    requires bytes { AreBytes path.now }
+    requires named { SourcesAreNamed (P.mounts places.now) }
+    requires may { MayCall P.number (P.mounts places.now) state.old }
+    requires lives { IsSome (process pid (meaning state.old)) }
+    ensures came { IfOk result (λ plain. came_to P.number state.new plain ≡ executed (P.mounts places.now) pid path.now args env (state_numbered P.number (meaning state.old))) }
+    ensures reach { OnOk result (reach.new ≡ request_reach (P.mounts places.now) pid (ExecveRequest path.now args env) (state_numbered P.number (meaning state.old)) reach.old) }
+    ensures runs { OnOk result ((calls : ℕ) → Runs P.number (P.mounts places.now) calls state.old → Runs P.number (P.mounts places.now) (suc calls) state.new) }
+{
+    match execute(alloc, places, state, pid, path, args, env, reach) {
+        Executed::Replaced => {
+            resume(state, pid);
+            Ok(Plain {
+                end: CallEnd::Replaced,
+                child: None,
+                at_root: false,
+            })
+        }
+        Executed::Refused(errno) => Ok(refuse(state, pid, errno)),
+        Executed::NoMemory => Err(NoMemory),
+    }
+}
+
+/// Carries out another call of a living process.
+fn operate<P: Places, const M: u8>(
+    alloc: Global,
+    places: &P,
+    state: &mut State<P::Mount, M>,
+    pid: u32,
+    request: &Request,
+    reach: &mut Reach,
+) -> Result<Plain, NoMemory>
+    requires kind { IsNoExec request.now }
+    requires given { IsGivable request.now }
+    requires paths { HasTextPaths request.now }
+    requires named { SourcesAreNamed (P.mounts places.now) }
+    requires may { MayCall P.number (P.mounts places.now) state.old }
+    requires lives { IsSome (process pid (meaning state.old)) }
+    requires behind { IfSome (process pid (meaning state.old)) (λ p. p.image.regs.pc + 4 < 2 ^ 64) }
+    ensures came { IfOk result (λ plain. came_to P.number state.new plain ≡ requested (P.mounts places.now) pid request.now (state_numbered P.number (meaning state.old))) }
+    ensures reach { OnOk result (reach.new ≡ request_reach (P.mounts places.now) pid request.now (state_numbered P.number (meaning state.old)) reach.old) }
+    ensures runs { OnOk result ((calls : ℕ) → calls < 2 ^ 31 → Runs P.number (P.mounts places.now) calls state.old → Runs P.number (P.mounts places.now) (suc calls) state.new) }
+{
+    let targets = match walk_paths(alloc, places, state, pid, request, reach) {
+        Ok(targets) => targets,
+        Err(WalkFault::Err(errno)) => return Ok(refuse(state, pid, errno)),
+        Err(WalkFault::NoMemory) => return Err(NoMemory),
+    };
+    let at_root = leads_to_root(places, &targets);
+    let next = state.next_pid;
+    let outcome = carry_out_along(alloc, places, state, pid, request, &targets);
+    let child = child_of(next, request, outcome);
+    let end = settle(state, pid, request, outcome)?;
+    Ok(Plain {
+        end,
+        child,
+        at_root,
+    })
+}
+
+/// Tells a process that its call is refused.
+fn refuse<T: Copy, const M: u8>(state: &mut State<T, M>, pid: u32, errno: Errno) -> Plain
+    requires { IsSound state.old }
+    ensures came { (number : T → ℕ) → came_to number state.new result ≡ refusal_told pid errno (state_numbered number (meaning state.old)) }
+    ensures runs { (number : T → ℕ) (table : List Row) (calls : ℕ) → Runs number table calls state.old → Runs number table calls state.new }
+{
+    answer(state, pid, -i64::from(errno.number()));
+    Plain {
+        end: CallEnd::Answered,
+        child: None,
+        at_root: false,
+    }
+}
+
+/// Settles the caller of a call by its outcome.
+fn settle<T: Copy, const M: u8>(
+    state: &mut State<T, M>,
+    pid: u32,
+    request: &Request,
+    outcome: Outcome,
+) -> Result<CallEnd, NoMemory>
+    requires { outcome ≢ WantOfMemory → IsSound state.old }
+    ensures settles { OnOk result (meaning state.new ≡ settled pid outcome (meaning state.old)) }
+    ensures end { IfOk result (λ end. end ≡ end_of request.now outcome) }
+    ensures want { OnOk result (outcome ≢ WantOfMemory) }
+    ensures runs { OnOk result ((number : T → ℕ) (table : List Row) (calls : ℕ) → Runs number table calls state.old → Runs number table calls state.new) }
+{
+    match outcome {
+        Outcome::Answer(value) => {
+            answer(state, pid, value);
+            Ok(CallEnd::Answered)
+        }
+        Outcome::Wait => {
+            stay(state, pid);
+            Ok(CallEnd::Waits)
+        }
+        Outcome::Ended => Ok(CallEnd::Ended(status_told(request))),
+        Outcome::NoMemory => Err(NoMemory),
+    }
+}
+
+/// The status of a process whose call ended it.
+fn status_told(request: &Request) -> u8
+    ensures { result ≡ status_told request.now }
+{
+    match request {
+        Request::Exit { code } | Request::ExitGroup { code } => code.rem_euclid(256) as u8,
+        _ => 128 + SIGPIPE,
+    }
+}
+
+/// The number of the child that a call made, if one; `next` is the next process's.
+fn child_of(next: u32, request: &Request, outcome: Outcome) -> Option<u32>
+    ensures { result ≡ child_of next request.now outcome }
+{
+    match (request, outcome) {
+        (Request::Clone { .. }, Outcome::Answer(value)) if 0 <= value => Some(next),
+        _ => None,
+    }
+}
+
+/// Whether the first path of a call led to the root of the view.
+fn leads_to_root<P: Places>(places: &P, targets: &Targets<P::Mount>) -> bool
+    ensures { (answer : _) → AreTargets P.number answer (Ok targets.now) → result ≡ leads_to_root (P.mounts places.now) answer }
+{
+    match &targets.first {
+        Some(target) => is_root_found(places, target.found),
+        None => false,
+    }
+}
+
+/// Whether what was found is the root.
+fn is_root_found<P: Places>(places: &P, found: Option<Place<P::Mount>>) -> bool
+    ensures { result ≡ option_map_or (is_root_place (P.mounts places.now)) (option_map (numbered P.number) found) false }
+{
+    match found {
+        Some(place) => {
+            let root = places.root();
+            places.same(place.mount, root.mount) && place.host == root.host
+        }
+        None => false,
+    }
+}

@@ -1,0 +1,180 @@
+//! A turn of a process.
+ghost use Rattle.std.specs.Prelude.{◌<◌, ◌^◌, ◌+◌, ℕ, suc, false, IfOk, IfSome, IsSome, OnOk};
+ghost use Rattle.kr_allowed.specs.Told.{SourcesAreNamed};
+ghost use Rattle.kr_calling.specs.Calling.{Runs};
+ghost use Rattle.kr_model.specs.State.{process};
+ghost use Rattle.kr_ops.specs.Meaning.{meaning};
+ghost use Rattle.kr_turns.specs.Making.{ComesOut, IsCallMade, IsLeft, IsTurnMade, watching};
+ghost use Rattle.kr_turns.specs.Held.{Stands, stopped_in};
+ghost use Rattle.kr_turns.specs.Stopped.{IsEdited};
+ghost use Rattle.kr_turns.specs.Turn.{IsBorn};
+
+use crate::here::Here;
+use crate::plain::{CallEnd, Plain, plain_call};
+use crate::stops::Stops;
+use kr_ops::State;
+use kr_ops::laws::lawful_states_are_sound;
+use kr_steps::{compute, kill};
+use kr_view::{Places, Reach};
+use pr_base::NoMemory;
+use rv_cpu::Event;
+use std::alloc::Global;
+
+/// Makes a turn of a living process, of so many instructions at most. Tells the status of a process that ended. After want of memory
+/// the state and the watcher may only be dropped.
+pub fn make_turn<P: Places, S: Stops, const M: u8>(
+    alloc: Global,
+    places: &P,
+    stops: &mut S,
+    state: &mut State<P::Mount, M>,
+    calls: u32,
+    pid: u32,
+    fuel: u32,
+    reach: &mut Reach,
+) -> Result<Option<u8>, NoMemory>
+    requires named { SourcesAreNamed (P.mounts places.now) }
+    requires runs { Runs P.number (P.mounts places.now) calls state.old }
+    requires few { calls < 2 ^ 31 }
+    requires lives { IsSome (process pid (meaning state.old)) }
+    ensures turn { IfOk result (λ told. IsTurnMade (watching S.enters S.exits S.bears S.forgets) P.number (P.mounts places.now) fuel pid state.old stops.old state.new stops.new told) }
+    ensures runs { OnOk result (Runs P.number (P.mounts places.now) (suc calls) state.new) }
+{
+    lawful_states_are_sound::<P::Mount, M>();
+    let (event, _done) = compute(state, pid, fuel)?;
+    match event {
+        Event::Next => Ok(None),
+        Event::Call => make_call(alloc, places, stops, state, calls, pid, reach),
+        Event::Killed(signal) => {
+            kill(state, pid, signal)?;
+            stops.gone(pid);
+            Ok(Some(128 + signal))
+        }
+    }
+}
+
+/// Makes the call at which a process stands, with its stops.
+fn make_call<P: Places, S: Stops, const M: u8>(
+    alloc: Global,
+    places: &P,
+    stops: &mut S,
+    state: &mut State<P::Mount, M>,
+    calls: u32,
+    pid: u32,
+    reach: &mut Reach,
+) -> Result<Option<u8>, NoMemory>
+    requires named { SourcesAreNamed (P.mounts places.now) }
+    requires runs { Runs P.number (P.mounts places.now) calls state.old }
+    requires few { calls < 2 ^ 31 }
+    requires lives { IsSome (process pid (meaning state.old)) }
+    requires behind { IfSome (process pid (meaning state.old)) (λ p. p.image.regs.pc + 4 < 2 ^ 64) }
+    ensures call { IfOk result (λ told. IsCallMade (watching S.enters S.exits S.bears S.forgets) P.number (P.mounts places.now) pid state.old stops.old state.new stops.new told) }
+    ensures runs { OnOk result (Runs P.number (P.mounts places.now) (suc calls) state.new) }
+{
+    enter(alloc, places, stops, state, calls, pid)?;
+    let plain = plain_call(alloc, places, state, pid, reach)?;
+    bear(stops, pid, plain.child)?;
+    leave(alloc, places, stops, state, calls + 1, pid, plain)
+}
+
+/// Tells the watcher of a child, if one was made.
+fn bear<S: Stops>(stops: &mut S, pid: u32, child: Option<u32>) -> Result<(), NoMemory>
+    ensures { OnOk result (IsBorn (watching S.enters S.exits S.bears S.forgets) pid child stops.old stops.new) }
+{
+    match child {
+        Some(child) => stops.born(pid, child),
+        None => Ok(()),
+    }
+}
+
+/// The first stop of a call.
+fn enter<P: Places, S: Stops, const M: u8>(
+    alloc: Global,
+    places: &P,
+    stops: &mut S,
+    state: &mut State<P::Mount, M>,
+    calls: u32,
+    pid: u32,
+) -> Result<(), NoMemory>
+    requires runs { Runs P.number (P.mounts places.now) calls state.old }
+    requires lives { IsSome (process pid (meaning state.old)) }
+    ensures enters { OnOk result (S.enters stops.old (stopped_in P.number state.old pid false) stops.new (stopped_in P.number state.new pid false)) }
+    ensures edits { IsEdited (stopped_in P.number state.old pid false) (stopped_in P.number state.new pid false) }
+    ensures stands { Stands P.number (P.mounts places.now) calls pid state.new }
+{
+    let mut here = Here::new(alloc, places, state, pid, false, calls);
+    let entered = stops.entry(&mut here);
+    let _state = here.into_state();
+    entered
+}
+
+/// The second one.
+fn exit<P: Places, S: Stops, const M: u8>(
+    alloc: Global,
+    places: &P,
+    stops: &mut S,
+    state: &mut State<P::Mount, M>,
+    calls: u32,
+    pid: u32,
+    at_root: bool,
+) -> Result<(), NoMemory>
+    requires runs { Runs P.number (P.mounts places.now) calls state.old }
+    requires lives { IsSome (process pid (meaning state.old)) }
+    ensures exits { OnOk result (S.exits stops.old (stopped_in P.number state.old pid at_root) stops.new (stopped_in P.number state.new pid at_root)) }
+    ensures stands { Stands P.number (P.mounts places.now) calls pid state.new }
+{
+    let mut here = Here::new(alloc, places, state, pid, at_root, calls);
+    let exited = stops.exit(&mut here);
+    let _state = here.into_state();
+    exited
+}
+
+/// The second stop, if the process lives.
+fn come_out<P: Places, S: Stops, const M: u8>(
+    alloc: Global,
+    places: &P,
+    stops: &mut S,
+    state: &mut State<P::Mount, M>,
+    calls: u32,
+    pid: u32,
+    at_root: bool,
+) -> Result<(), NoMemory>
+    requires runs { Runs P.number (P.mounts places.now) calls state.old }
+    ensures out { OnOk result (ComesOut (watching S.enters S.exits S.bears S.forgets) P.number pid at_root state.old stops.old state.new stops.new) }
+    ensures runs { OnOk result (Runs P.number (P.mounts places.now) calls state.new) }
+{
+    match state.index_of(pid) {
+        Some(_) => exit(alloc, places, stops, state, calls, pid, at_root),
+        None => Ok(()),
+    }
+}
+
+/// What follows a call: the second stop where its caller goes on, nothing where the call waits, and the end of a process that ended.
+fn leave<P: Places, S: Stops, const M: u8>(
+    alloc: Global,
+    places: &P,
+    stops: &mut S,
+    state: &mut State<P::Mount, M>,
+    calls: u32,
+    pid: u32,
+    plain: Plain,
+) -> Result<Option<u8>, NoMemory>
+    requires runs { Runs P.number (P.mounts places.now) calls state.old }
+    ensures left { IfOk result (λ told. IsLeft (watching S.enters S.exits S.bears S.forgets) P.number pid plain state.old stops.old state.new stops.new told) }
+    ensures runs { OnOk result (Runs P.number (P.mounts places.now) calls state.new) }
+{
+    match plain.end {
+        CallEnd::Answered => {
+            come_out(alloc, places, stops, state, calls, pid, plain.at_root)?;
+            Ok(None)
+        }
+        CallEnd::Replaced => {
+            come_out(alloc, places, stops, state, calls, pid, plain.at_root)?;
+            Ok(None)
+        }
+        CallEnd::Waits => Ok(None),
+        CallEnd::Ended(status) => {
+            stops.gone(pid);
+            Ok(Some(status))
+        }
+    }
+}

@@ -1,0 +1,4 @@
+pub mod DecodedLemmas
+pub mod PieceLemmas
+pub mod RowLemmas
+pub mod WaitLemmas
