@@ -1,23 +1,30 @@
 -- What calls change of names and modes where they answer 0.
-use Rattle.std.proofs.Common.{◌≡◌, ℕ, Bool, true, false, ◌&&◌, ◌||◌, not, List, [], ◌∷◌, Option, Some, None, refl, sym, ap, pos, negsuc}
+use Rattle.std.proofs.Common.{◌≡◌, ℕ, Bool, true, false, ◌&&◌, ◌||◌, not, List, [], ◌∷◌, Option, Some, None, refl, sym, ap, ℤ, pos, negsuc}
 use Rattle.std.specs.Prelude.{◌==◌, if◌then◌else◌}
-use Rattle.std.specs.Option.{option_map_or}
+use Rattle.std.specs.Option.{option_and_then, option_map_or}
 use Rattle.pr_base.specs.declared.errno.Errno.{Errno}
-use Rattle.pr_base.specs.declared.errno.Errno.TheVariants.{ENOENT, EACCES, EBUSY, EPERM, EXDEV, EISDIR, ENOTDIR, ENOTEMPTY, EINVAL}
+use Rattle.pr_base.specs.declared.errno.Errno.TheVariants.{ENOENT, EACCES, EBADF, EBUSY, EPERM, EXDEV, EISDIR, ENOTDIR, ENOTEMPTY, EINVAL}
 use Rattle.pr_base.specs.declared.path.Last.TheVariants as last
 use Rattle.kr_tree.specs.Tree.{Body, Directory, Node as TreeNode, ProcessDirectory, RegularFile, SymbolicLink, is_directory, is_filled}
 use Rattle.kr_tree.specs.Rights.{is_kept_by_sticky}
 use Rattle.kr_tree.specs.declared.place.Host.{Host}
 use Rattle.kr_tree.specs.declared.place.Host.TheVariants.{Node, Proc}
-use Rattle.kr_model.specs.Asking.{is_directory_host, is_over, is_processes, is_processes_host, writable, writable_body, writable_node}
-use Rattle.kr_model.specs.AttributeRows.{chmod_host}
-use Rattle.kr_model.specs.Change.{Change, MoveName, RemoveName}
+use Rattle.kr_tree.specs.declared.place.Place.{Place}
+use Rattle.kr_files.specs.declared.opened.Opened.{Opened}
+use Rattle.kr_calls.specs.declared.request.Request.{Request}
+use Rattle.kr_calls.specs.declared.request.Request.TheVariants as call
+use Rattle.kr_model.specs.Asking.{descriptor_number, of_number, or_closed, is_directory_host, is_over, is_processes, is_processes_host, writable, writable_body, writable_node}
+use Rattle.kr_model.specs.AttributeRows.{chmod_host, fchmod_row, fchmodat_row}
+use Rattle.kr_model.specs.Change.{Change, MoveName, RemoveName, SetMode}
 use Rattle.kr_model.specs.Known.{Known, known_node}
-use Rattle.kr_model.specs.NameRows.{can_move, ends_in_name, is_above_old, is_at_or_above, is_one, move_entry, move_found, move_free, move_onto, move_over, move_taken, move_uncovered, renameat2_row, remove_directory, remove_file, removes_directory, rmdir_row, take_entry, unlink_row}
+use Rattle.kr_model.specs.NameRows.{can_move, ends_in_name, is_above_old, is_at_or_above, is_one, move_entry, move_found, move_free, move_onto, move_over, move_taken, move_uncovered, renameat2_row, remove_directory, remove_file, removes_directory, rmdir_row, take_entry, unlink_row, unlinkat_row}
+use Rattle.kr_model.specs.Operation.{looked_up, moved, taken}
 use Rattle.kr_model.specs.Reply.{Replying, done, is_refusal, refusal, refuse}
-use Rattle.kr_model.specs.Seen.{Entered, Taken, Takes, TakesCovered, TakesNoName}
+use Rattle.kr_model.specs.Seen.{Entered, LooksUp, Moves, Seen, Taken, Takes, TakesCovered, TakesEntry, TakesNoName, WalkFails}
 use Rattle.kr_model.specs.declared.outcome.Outcome.{Outcome}
 use Rattle.kr_model.specs.declared.outcome.Outcome.TheVariants.{Answer, Ended, NoMemory, Wait}
+use Rattle.kr_calm.specs.Foreseen.{is_foreseen, mode_found, mode_opened, moved_away, prospect, taken_away}
+use Rattle.kr_calm.specs.Laws.{ForeseenCallsMakeIt}
 use Rattle.kr_calm.specs.Prospects.{MakesAtZero, RowsMakeAtZero, answers_zero, mode_set, move, move_made, removal, renameat2_made, unlinkat_made}
 
 -- an error isn't 0
@@ -179,3 +186,124 @@ rows_make_at_zero = record {
         if-there (mode_set (Node i) mode) (known_node k i) (λ n. either (mode_set (Node i) mode) (is_processes n.body || not (k.user.uid == n.uid)) (refused (mode_set (Node i) mode) EPERM refl) (made-so (mode_set (Node i) mode)))
         (refused (mode_set (Node i) mode) ENOENT refl)
     modes k mode (Proc i at) = refused [] EPERM refl
+
+-- ---- calls
+
+unchanged : (e : Errno) → MakesAtZero [] (refuse e)
+unchanged e = record { changes = λ m. by (answers_zero (refusal e).outcome) }
+  where
+    none : List Change
+    none = []
+
+    by : (b : Bool) → [] ≡ (if b then none else none)
+    by true = refl
+    by false = refl
+
+entry-taken : (k : Known) (flags : ℕ) (seen : Seen) → MakesAtZero (taken_away seen) (taken seen (λ t. unlinkat_row k t flags))
+entry-taken k flags (TakesEntry t) = rows_make_at_zero.unlinkat k t flags
+entry-taken k flags (WalkFails e) = unchanged e
+entry-taken k flags _ = unchanged ENOENT
+
+entries-moved : (k : Known) (seen : Seen) → MakesAtZero (moved_away seen) (moved seen k)
+entries-moved k (Moves old new same_mount) = rows_make_at_zero.renameat2 k old new same_mount
+entries-moved k (WalkFails e) = unchanged e
+entries-moved k _ = unchanged ENOENT
+
+found-chmodded : (k : Known) (mode : ℕ) (seen : Seen) → MakesAtZero (mode_found mode seen) (looked_up seen (λ l. fchmodat_row k l mode))
+found-chmodded k mode (LooksUp l) = rows_make_at_zero.chmod k mode l.host
+found-chmodded k mode (WalkFails e) = unchanged e
+found-chmodded k mode _ = unchanged ENOENT
+
+open-chmodded : (k : Known) (fd : ℤ) (mode : ℕ) → MakesAtZero (mode_opened mode (option_and_then k.opened (descriptor_number fd))) (fchmod_row k fd mode)
+open-chmodded k fd mode = by-number (descriptor_number fd)
+  where
+    by-place : (p : Option (Place (Unit {0}))) → MakesAtZero (option_map_or (λ p. mode_set p.host mode) p []) (option_map_or (λ p. chmod_host k mode p.host) p (refuse EPERM))
+    by-place None = unchanged EPERM
+    by-place (Some p) = rows_make_at_zero.chmod k mode p.host
+
+    by-open : (o : Option (Opened (Unit {0}))) → MakesAtZero (mode_opened mode o) (or_closed o (λ o. option_map_or (λ p. chmod_host k mode p.host) o.place (refuse EPERM)))
+    by-open None = unchanged EBADF
+    by-open (Some o) = by-place o.place
+
+    by-number : (n : Option ℕ) → MakesAtZero (mode_opened mode (option_and_then k.opened n)) (of_number k n (λ n o. option_map_or (λ p. chmod_host k mode p.host) o.place (refuse EPERM)))
+    by-number None = unchanged EBADF
+    by-number (Some n) = by-open (k.opened n)
+
+pub foreseen_calls_make_it : ForeseenCallsMakeIt
+foreseen_calls_make_it pid (call.Unlinkat dirfd path flags) seen k is = entry-taken k flags seen
+foreseen_calls_make_it pid (call.Renameat2 olddir old newdir new) seen k is = entries-moved k seen
+foreseen_calls_make_it pid (call.Fchmod fd mode) seen k is = open-chmodded k fd mode
+foreseen_calls_make_it pid (call.Fchmodat dirfd path mode) seen k is = found-chmodded k mode seen
+foreseen_calls_make_it pid _ seen k is = absurd cc
+
+-- ---- what may be foreseen: one name or mode, or nothing
+
+pub data IsForeseeable : List Change → Type 0 where
+  nothing_goes : IsForeseeable []
+  removes : {dir : ℕ} {name : List ℕ} → IsForeseeable (RemoveName dir name ∷ [])
+  moves_one : {dir : ℕ} {name : List ℕ} {to : ℕ} {new : List ℕ} → IsForeseeable (MoveName dir name to new ∷ [])
+  sets_mode : {i mode : ℕ} → IsForeseeable (SetMode i mode ∷ [])
+
+removal-foreseen : (dir : Host) (name : List ℕ) → IsForeseeable (removal dir name)
+removal-foreseen (Node d) name = removes
+removal-foreseen (Proc i at) name = nothing_goes
+
+taken-foreseen : (seen : Seen) → IsForeseeable (taken_away seen)
+taken-foreseen (TakesEntry (Takes e)) = removal-foreseen e.dir e.name
+taken-foreseen (TakesEntry (TakesNoName last)) = nothing_goes
+taken-foreseen (TakesEntry TakesCovered) = nothing_goes
+taken-foreseen _ = nothing_goes
+
+move-foreseen : (dir : Host) (name : List ℕ) (to : Host) (new : List ℕ) → IsForeseeable (move dir name to new)
+move-foreseen (Node d) name (Node t) new = moves_one
+move-foreseen (Node d) name (Proc i at) new = nothing_goes
+move-foreseen (Proc i at) name to new = nothing_goes
+
+moved-foreseen : (old new : Taken) → IsForeseeable (renameat2_made old new)
+moved-foreseen (Takes old) (Takes new) = by old.found
+  where
+    by-one : (b : Bool) → IsForeseeable (if b then [] else move old.dir old.name new.dir new.name)
+    by-one true = nothing_goes
+    by-one false = move-foreseen old.dir old.name new.dir new.name
+
+    by : (o : Option Host) → IsForeseeable (option_map_or (move_made old new) o [])
+    by None = nothing_goes
+    by (Some found) = by-one (is_one found new.found)
+moved-foreseen (Takes old) (TakesNoName last) = nothing_goes
+moved-foreseen (Takes old) TakesCovered = nothing_goes
+moved-foreseen (TakesNoName last) new = nothing_goes
+moved-foreseen TakesCovered new = nothing_goes
+
+moves-foreseen : (seen : Seen) → IsForeseeable (moved_away seen)
+moves-foreseen (Moves old new same_mount) = moved-foreseen old new
+moves-foreseen _ = nothing_goes
+
+mode-foreseen : (host : Host) (mode : ℕ) → IsForeseeable (mode_set host mode)
+mode-foreseen (Node i) mode = sets_mode
+mode-foreseen (Proc i at) mode = nothing_goes
+
+found-foreseen : (mode : ℕ) (seen : Seen) → IsForeseeable (mode_found mode seen)
+found-foreseen mode (LooksUp l) = mode-foreseen l.host mode
+found-foreseen mode _ = nothing_goes
+
+open-foreseen : (mode : ℕ) (o : Option (Opened (Unit {0}))) → IsForeseeable (mode_opened mode o)
+open-foreseen mode None = nothing_goes
+open-foreseen mode (Some o) = by o.place
+  where
+    by : (p : Option (Place (Unit {0}))) → IsForeseeable (option_map_or (λ p. mode_set p.host mode) p [])
+    by None = nothing_goes
+    by (Some p) = mode-foreseen p.host mode
+
+pub foreseeable : (request : Request) (seen : Seen) (k : Known) → IsForeseeable (prospect request seen k)
+foreseeable (call.Unlinkat dirfd path flags) seen k = taken-foreseen seen
+foreseeable (call.Renameat2 olddir old newdir new) seen k = moves-foreseen seen
+foreseeable (call.Fchmod fd mode) seen k = open-foreseen mode (option_and_then k.opened (descriptor_number fd))
+foreseeable (call.Fchmodat dirfd path mode) seen k = found-foreseen mode seen
+foreseeable _ seen k = nothing_goes
+
+pub none-foreseen : (request : Request) (seen : Seen) (k : Known) → is_foreseen request ≡ false → prospect request seen k ≡ []
+none-foreseen (call.Unlinkat dirfd path flags) seen k e = absurd cc
+none-foreseen (call.Renameat2 olddir old newdir new) seen k e = absurd cc
+none-foreseen (call.Fchmod fd mode) seen k e = absurd cc
+none-foreseen (call.Fchmodat dirfd path mode) seen k e = absurd cc
+none-foreseen _ seen k e = refl

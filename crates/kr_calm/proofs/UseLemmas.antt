@@ -16,7 +16,7 @@ module _ {M : Type 0} (test : Opened M → Bool) where
     unfolding any_opened_below
     none-below = refl
 
-    one-below : (n : ℕ) → any_opened_below (suc n) test files d ≡ (any_opened_below n test files d || passes_at test files d n)
+    pub one-below : (n : ℕ) → any_opened_below (suc n) test files d ≡ (any_opened_below n test files d || passes_at test files d n)
     unfolding any_opened_below
     one-below n = refl
 

@@ -32,6 +32,14 @@ pub record Course : Type 0 where
 abbrev pub asked_breaks_2 : List Row → Course → Asked → Bool
 asked_breaks_2 table c a = breaks_2 table c.state.tree a.request a.targets
 
+-- the smallest of the rules on changes that is broken
+abbrev pub smallest : (third fourth fifth : Bool) → Option ℕ
+smallest third fourth fifth = if third then Some 3 else if fourth then Some 4 else if fifth then Some 5 else None
+
+abbrev pub broken_by_changes : {M : Type 0} → List Row → Mounts M → ℕ → List Change → State M Image → Option ℕ
+broken_by_changes table mounts pid cs s =
+    smallest (changes_break_3 images mounts pid table cs s) (changes_break_4 images mounts pid cs s) (changes_break_5 images mounts pid table cs s)
+
 -- the smallest rule that a turn broke
 abbrev pub broken_in : List Row → Course → Option ℕ
 broken_in table c =

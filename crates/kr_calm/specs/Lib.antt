@@ -5,4 +5,6 @@ pub mod Rules
 pub mod Calm
 pub mod Questions
 pub mod Prospects
+pub mod Foreseen
+pub mod Noted
 pub mod Laws

@@ -109,13 +109,17 @@ module _ {M X : Type 0} where
   abbrev pub is_above_use : State M X → ℕ → Bool
   is_above_use s i = is_in_use (λ host. is_at_or_below s.tree i (inode_of host)) s
 
+  -- whether a name goes that leads to a directory in use, or to one above it
+  abbrev pub takes_in_use : State M X → Change → Bool
+  takes_in_use s (RemoveName dir name) = of_entry s.tree dir name (is_above_use s)
+  takes_in_use s (MoveName dir name to new) = of_entry s.tree dir name (is_above_use s) || of_entry s.tree to new (is_above_use s)
+  takes_in_use s _ = false
+
   -- the second state is that after the change. A process that ends removes its own directories in the process directory; it is
   -- judged when it uses none itself any more
   abbrev pub breaks_4 : ℕ → State M X → Change → State M X → Bool
-  breaks_4 pid s (RemoveName dir name) after = of_entry s.tree dir name (is_above_use s)
-  breaks_4 pid s (MoveName dir name to new) after = of_entry s.tree dir name (is_above_use s) || of_entry s.tree to new (is_above_use s)
   breaks_4 pid s (End status) after = is_in_use (is_directory_of pid) after
-  breaks_4 pid s _ after = false
+  breaks_4 pid s c after = takes_in_use s c
 
 -- ---- rule 5: no directory loses search that is in use or bound, or that stands above such a one or above a binding's source
 

@@ -1,14 +1,13 @@
 //! What changes of names and modes break.
-ghost use Rattle.std.specs.Prelude.{◌≡◌, ◌<◌, ◌^◌, ◌&&◌, ℕ, List, length};
-ghost use Rattle.kr_inode.specs.declared.user.Right.TheVariants.{Search as ToSearch};
-ghost use Rattle.kr_tree.specs.Rights.{may};
-ghost use Rattle.kr_view.specs.View.{Row};
-ghost use Rattle.kr_model.specs.Change.{End, MoveName, RemoveName};
-ghost use Rattle.kr_model.specs.State as model;
+ghost use Rattle.std.specs.Prelude.{◌≡◌, ◌<◌, ◌^◌, ℕ, length};
+ghost use Rattle.kr_model.specs.Change.{MoveName, RemoveName};
 ghost use Rattle.kr_ops.specs.Meaning.{meaning};
 ghost use Rattle.kr_ops.specs.Sound.{IsServed};
+ghost use Rattle.kr_procview.specs.Numbered.{state_numbered};
+ghost use Rattle.kr_calm.specs.Foreseen.{guarded};
+ghost use Rattle.kr_calm.specs.InUse.{is_directory_of, is_in_use};
 ghost use Rattle.kr_calm.specs.Questions.{HaveRealPoints};
-ghost use Rattle.kr_calm.specs.Rules.{breaks_3, breaks_4, is_above_rows, is_above_use, names_source, of_entry, serves, shuts};
+ghost use Rattle.kr_calm.specs.Rules.{breaks_3, is_above_rows, is_above_use, names_source, of_entry, serves, takes_in_use};
 
 use crate::rows::{RowQuestion, any_row};
 use crate::uses::{UseQuestion, any_use};
@@ -59,7 +58,7 @@ fn names_source<P: Places, const M: u8>(
 }
 
 /// Whether a removal takes a source away (rule 3).
-pub fn removal_takes_source<P: Places, const M: u8>(
+pub(crate) fn removal_takes_source<P: Places, const M: u8>(
     places: &P,
     state: &State<P::Mount, M>,
     dir: Ino,
@@ -73,7 +72,7 @@ pub fn removal_takes_source<P: Places, const M: u8>(
 }
 
 /// Whether a rename takes a source away, or moves what stands above a source or a mount point (rule 3).
-pub fn rename_takes_source<P: Places, const M: u8>(
+pub(crate) fn rename_takes_source<P: Places, const M: u8>(
     places: &P,
     state: &State<P::Mount, M>,
     dir: Ino,
@@ -91,15 +90,19 @@ pub fn rename_takes_source<P: Places, const M: u8>(
 }
 
 /// Whether a removal takes a directory in use away (rule 4).
-pub fn removal_takes_used<T: Copy, const M: u8>(state: &State<T, M>, dir: Ino, name: &[u8]) -> bool
+pub(crate) fn removal_takes_used<T: Copy, const M: u8>(
+    state: &State<T, M>,
+    dir: Ino,
+    name: &[u8],
+) -> bool
     requires { IsServed state.now }
-    ensures { (pid : ℕ) (after : model.State T model.Image) → result ≡ breaks_4 pid (meaning state.now) (RemoveName dir name.now) after }
+    ensures { result ≡ takes_in_use (meaning state.now) (RemoveName dir name.now) }
 {
     is_entry_used(state, dir, name)
 }
 
 /// Whether a rename moves a directory in use or one above it, or takes one away (rule 4).
-pub fn rename_takes_used<T: Copy, const M: u8>(
+pub(crate) fn rename_takes_used<T: Copy, const M: u8>(
     state: &State<T, M>,
     dir: Ino,
     name: &[u8],
@@ -107,7 +110,7 @@ pub fn rename_takes_used<T: Copy, const M: u8>(
     new: &[u8],
 ) -> bool
     requires { IsServed state.now }
-    ensures { (pid : ℕ) (after : model.State T model.Image) → result ≡ breaks_4 pid (meaning state.now) (MoveName dir name.now to new.now) after }
+    ensures { result ≡ takes_in_use (meaning state.now) (MoveName dir name.now to new.now) }
 {
     is_entry_used(state, dir, name) || is_entry_used(state, to, new)
 }
@@ -115,7 +118,8 @@ pub fn rename_takes_used<T: Copy, const M: u8>(
 /// Whether a directory is used of a process that ended, in the state that is left (rule 4).
 pub fn end_takes_used<T: Copy, const M: u8>(state: &State<T, M>, pid: u32) -> bool
     requires { IsServed state.now }
-    ensures { (status : ℕ) (before : model.State T model.Image) → result ≡ breaks_4 pid before (End status) (meaning state.now) }
+    ensures own { result ≡ is_in_use (is_directory_of pid) (meaning state.now) }
+    ensures numbered { (number : T → ℕ) → result ≡ is_in_use (is_directory_of pid) (state_numbered number (meaning state.now)) }
 {
     any_use(state, UseQuestion::Of(pid))
 }
@@ -133,23 +137,20 @@ fn serves<P: Places, const M: u8>(places: &P, state: &State<P::Mount, M>, ino: I
             || any_use(state, UseQuestion::Remembered(ino)))
 }
 
-/// Whether an inode gives search that a calm call leaves to it (rule 5): judged before the call.
-pub fn may_not_be_shut<P: Places, const M: u8>(
+/// The inode, where it gives search that a calm call leaves to it (rule 5): judged before the call.
+pub(crate) fn guarded<P: Places, const M: u8>(
     places: &P,
     state: &State<P::Mount, M>,
     ino: Ino,
-) -> bool
+) -> Option<Ino>
     requires points { HaveRealPoints (P.mounts places.now) }
     requires few { length (P.mounts places.now) < 2 ^ 32 }
     requires served { IsServed state.now }
-    ensures { result ≡ (may state.now.tree state.now.user ino ToSearch && serves (P.mounts places.now) (meaning state.now) ino) }
+    ensures { result ≡ guarded (P.mounts places.now) (meaning state.now) ino }
 {
-    state.tree.may(state.user, ino, Right::Search) && serves(places, state, ino)
-}
-
-/// Whether a call shut what it may not have shut (rule 5), by the state that it left.
-pub fn was_shut<T: Copy, const M: u8>(state: &State<T, M>, ino: Ino, may_not_be_shut: bool) -> bool
-    ensures { (table : List Row) (before : model.State T model.Image) → before.user ≡ state.now.user → may_not_be_shut ≡ (may before.tree before.user ino ToSearch && serves table before ino) → result ≡ shuts table before ino (meaning state.now) }
-{
-    may_not_be_shut && !state.tree.may(state.user, ino, Right::Search)
+    if state.tree.may(state.user, ino, Right::Search) && serves(places, state, ino) {
+        Some(ino)
+    } else {
+        None
+    }
 }

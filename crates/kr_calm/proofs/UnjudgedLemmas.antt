@@ -1,0 +1,63 @@
+-- Calls that make no change at which a rule looks.
+use Rattle.std.proofs.Common.{◌≡◌, ◌≢◌, ℕ, Bool, true, false, ◌&&◌, not, List, [], ◌∷◌, refl, ap, ◌∙◌}
+use Rattle.std.specs.List.{list_all}
+use Rattle.rv_mem.specs.Actions.{carried_out}
+use Rattle.rv_mem.specs.Memory.{Memory}
+use Rattle.kr_calls.specs.declared.request.Request.{Request}
+use Rattle.kr_model.specs.Change.{Change, End, MoveName, RemoveName, ReplaceImage, SetMode, SetOwner}
+use Rattle.kr_model.specs.Known.{Known}
+use Rattle.kr_model.specs.Laws.{ends_nobody}
+use Rattle.kr_model.specs.Operation.{operation}
+use Rattle.kr_model.specs.Seen.{Seen}
+use Rattle.kr_model.specs.declared.outcome.Outcome.TheVariants.{Ended}
+use Rattle.kr_model.proofs.CleanCalls.{answers_end_nobody, ends_as_told}
+use Rattle.kr_calm.specs.Foreseen.{are_unjudged, gives_owner, is_foreseen, is_judged}
+use Rattle.kr_calm.specs.Laws.{OtherCallsAreUnjudged, leaves_mark}
+use Rattle.kr_calm.proofs.ChangeLemmas.{both}
+use Rattle.kr_calm.proofs.MildCalls.{operation_mild}
+use Rattle.kr_calm.proofs.MildLemmas.{are_mild, is_mild, mildly}
+
+-- a change that ends nobody, and those behind it
+goes-on : (c : Change) (cs : List Change) → ends_nobody (c ∷ cs) ≡ true → (ends_nobody (c ∷ []) ≡ true) × (ends_nobody cs ≡ true)
+goes-on (End status) cs e = absurd cc
+goes-on _ cs e = (refl, e)
+
+one-unjudged : (c : Change) → is_mild c ≡ true → ends_nobody (c ∷ []) ≡ true → not (is_judged c) ≡ true
+one-unjudged (RemoveName dir name) mild on = absurd cc
+one-unjudged (MoveName dir name to new) mild on = absurd cc
+one-unjudged (SetMode i mode) mild on = absurd cc
+one-unjudged (SetOwner i uid gid) mild on = absurd cc
+one-unjudged (End status) mild on = absurd cc
+one-unjudged _ mild on = refl
+
+one-leaves : (c : Change) → is_mild c ≡ true → ends_nobody (c ∷ []) ≡ true → leaves_mark c ≡ true
+one-leaves (ReplaceImage image brk) mild on = absurd cc
+one-leaves (End status) mild on = absurd cc
+one-leaves _ mild on = refl
+
+module _ (test : Change → Bool) (one : (c : Change) → is_mild c ≡ true → ends_nobody (c ∷ []) ≡ true → test c ≡ true) where
+  all-pass : (cs : List Change) → are_mild cs ≡ true → ends_nobody cs ≡ true → list_all test cs ≡ true
+  all-pass [] mild on = refl
+  all-pass (c ∷ cs) mild on =
+      let parts = both (is_mild c) (are_mild cs) mild in
+      let goes = goes-on c cs on in
+      ap (λ b. b && list_all test cs) (one c parts.0 goes.0) ∙ all-pass cs parts.1 goes.1
+
+module _ (pid : ℕ) (request : Request) (seen : Seen) (k : Known) (m : Memory) (foreseen : is_foreseen request ≡ false) (owner : gives_owner request ≡ false) where
+  abbrev changes : List Change
+  changes = (carried_out (operation pid request seen k) m).reply.changes
+
+  are-mild : are_mild changes ≡ true
+  are-mild = mildly (operation pid request seen k) (operation_mild pid request seen k foreseen owner) m
+
+  pub others-unjudged : (carried_out (operation pid request seen k) m).reply.outcome ≢ Ended → are_unjudged changes ≡ true
+  others-unjudged goes = all-pass (λ c. not (is_judged c)) one-unjudged changes are-mild (answers_end_nobody pid request seen k m goes)
+
+  pub others-leave : (carried_out (operation pid request seen k) m).reply.outcome ≢ Ended → list_all leaves_mark changes ≡ true
+  others-leave goes = all-pass leaves_mark one-leaves changes are-mild (answers_end_nobody pid request seen k m goes)
+
+pub other_calls_are_unjudged : OtherCallsAreUnjudged
+other_calls_are_unjudged pid request seen k m foreseen owner = record {
+  going_on = others-unjudged pid request seen k m foreseen owner;
+  ending = ends_as_told pid request seen k m;
+}
