@@ -44,6 +44,7 @@ use Rattle.kr_procview.proofs.NumberedLemmas.{process-numbered}
 use Rattle.kr_resolved.proofs.NumberedLemmas.{lawful_numbered}
 use Rattle.kr_resolved.proofs.TextLemmas.{text_bytes}
 use Rattle.kr_rows.specs.Using.{HasMemory}
+use Rattle.kr_rows.proofs.UsingLemmas.{memory-is}
 use Rattle.kr_exec.specs.Answers.{Answers, Reaches, plan_numbered}
 use Rattle.kr_exec.specs.Exec.{are_too_big, exec_plan, exec_reach}
 use Rattle.kr_exec.specs.Finding.{is_program, program_at, program_walk}
@@ -88,7 +89,7 @@ module _ {T : Type 0} {M : ℕ} (number : T → ℕ) (table : List Row) (pid : �
   -- ---- nothing was found
 
   pub exit-find : (A : Type 0) (before after : Reach) (f : WalkFault) → IsAnswer {M = T} number (program_at around at path) (Err f) → IsReached {T = A} around (program_walk around at path) before after (Err f)
-      → Leaves number table pid path args env old old before after (told_of {A = Unit {0}} (Err f))
+      → Leaves number table pid path args env old old before after (told_of (Err f))
   exit-find A before after fault.NoMemory answer reach = λ wanted. absurd (wanted refl)
   exit-find A before after (fault.Err e) answer reach = λ wanted.
       is-left number table pid path args env old old before after lives none (Err e) (memory_of pid s) (Refused e) (not-found number table pid path args env s base cwd e answer) (sym (own-memory pid s lawful.pids)) refl refl tt served
@@ -97,7 +98,7 @@ module _ {T : Type 0} {M : ℕ} (number : T → ℕ) (table : List Row) (pid : �
   module _ (w : PlaceTarget) (found : program_at around at path ≡ Ok w) (before walked : Reach) (walk : walked ≡ reach_after around (program_walk around at path) before) (mid : State T M) where
     -- ---- the lists weren't read
 
-    pub exit-read : (f : WalkFault) → ReadsLists pid args env old mid (Err f) → Leaves number table pid path args env old mid before walked (told_of {A = Unit {0}} (Err f))
+    pub exit-read : (f : WalkFault) → ReadsLists pid args env old mid (Err f) → Leaves number table pid path args env old mid before walked (told_of (Err f))
     exit-read fault.NoMemory reads = λ wanted. absurd (wanted refl)
     exit-read (fault.Err e) reads = λ wanted.
         is-left number table pid path args env old mid before walked lives none (Err e) memory (Refused e) (not-read number table pid path args env s base cwd w found e reads.0) reads.1.means refl refl tt reads.1.sound.served
@@ -126,7 +127,7 @@ module _ {T : Type 0} {M : ℕ} (number : T → ℕ) (table : List Row) (pid : �
       -- ---- nothing was planned
 
       pub exit-plan : (A : Type 0) (after : Reach) (f : WalkFault) → Answers {A = ExecPlan T} (plan_numbered number) plan_mid (Err f) → Reaches {T = A} reach_mid walked after (Err f)
-          → Leaves number table pid path args env old mid before after (told_of {A = Unit {0}} (Err f))
+          → Leaves number table pid path args env old mid before after (told_of (Err f))
       exit-plan A after fault.NoMemory answer reach = λ wanted. absurd (wanted refl)
       exit-plan A after (fault.Err e) answer reach = λ wanted.
           is-left number table pid path args env old mid before after lives none (Err e) memory (Refused e)
@@ -198,15 +199,23 @@ module _ {T : Type 0} {M : ℕ} (number : T → ℕ) (table : List Row) (pid : �
             ∙ ap (λ (r : Result (ExecPlan ℕ) Errno). record { reply = results.and_then r (loaded shown); memory = memory }) (sym plan-same ∙ answer)
             ∙ ap (λ b. record { reply = cond b (Err ENOMEM) (Ok (program_of s.tree s.user (plan_numbered number plan))); memory = memory }) (exceeds-same ∙ is)
 
-        pub exit-put : (after : Reach) (new : State T M) (result : Result (Unit {0}) WalkFault) → after ≡ reach_mid → Puts pid plan mid new result → Leaves number table pid path args env old new before after (told_of result)
-        exit-put after new (Err fault.NoMemory) reached puts = λ wanted. absurd (wanted refl)
-        exit-put after new (Err (fault.Err e)) reached puts = λ wanted.
-            is-left number table pid path args env old new before after lives none (Err ENOMEM) memory (Refused e) (whole-is true puts.1) (puts.2 ∙ has.means) refl (ap (λ (e : Errno). Err e) (sym puts.0)) tt puts.3
-            (reach-same after reached)
-        exit-put after new (Ok x) reached puts = λ wanted.
-            let mounts : Mounts T = record { found = Some plan.place.mount; directory = None } in
-            let there = subst (λ (u : model.State T model.Image). IsPlaceOf u.tree table (numbered number plan.place)) (sym has.means) stands-there.0 in
-            let can = can-all number table pid (meaning mid) plan read-lawful has.lives puts.1 there (program-file mid.tree mid.user plan.place.host program) stands-there.1 mounts refl in
-            is-left number table pid path args env old new before after lives mounts (Ok (program_of s.tree s.user (plan_numbered number plan))) memory Replaced (whole-is false puts.0)
-            (puts.2 mounts refl ∙ ap (λ (u : model.State T model.Image). all_applied images mounts pid (program_changes u plan) u) has.means) refl (program_of s.tree s.user (plan_numbered number plan), refl)
-            (subst (λ (u : model.State T model.Image). CanAllBeMade number table mounts pid u (program_changes u plan)) has.means can) puts.3 (reach-same after reached)
+        module _ (after : Reach) (new : State T M) (reached : after ≡ reach_mid) where
+          pub exit-refused : (f : WalkFault) → Puts pid plan mid new (Err f) → Leaves number table pid path args env old new before after (told_of (Err f))
+          exit-refused fault.NoMemory puts = λ wanted. absurd (wanted refl)
+          exit-refused (fault.Err e) puts = λ wanted.
+              is-left number table pid path args env old new before after lives none (Err ENOMEM) memory (Refused e) (whole-is true puts.1) (puts.2 ∙ has.means) refl (ap (λ (e : Errno). Err e) (sym puts.0)) tt puts.3
+              (reach-same after reached)
+
+          -- what was read of the memory that is gone
+          marks-mid : (memory_of pid (meaning mid)).read_marked ≡ memory.read_marked
+          marks-mid = ap (λ (u : model.State T model.Image). (memory_of pid u).read_marked) has.means ∙ ap (λ (m : Memory). m.read_marked) (memory-is pid memory s lives)
+
+          pub exit-put : (marks_read : Bool) → marks_read ≡ (memory_of pid (meaning mid)).read_marked → Puts pid plan mid new (Ok tt) → Leaves number table pid path args env old new before after (told_of (Ok marks_read))
+          exit-put marks_read marks puts = λ wanted.
+              let mounts : Mounts T = record { found = Some plan.place.mount; directory = None } in
+              let there = subst (λ (u : model.State T model.Image). IsPlaceOf u.tree table (numbered number plan.place)) (sym has.means) stands-there.0 in
+              let can = can-all number table pid (meaning mid) plan read-lawful has.lives puts.1 there (program-file mid.tree mid.user plan.place.host program) stands-there.1 mounts refl in
+              is-left number table pid path args env old new before after lives mounts (Ok (program_of s.tree s.user (plan_numbered number plan))) memory (Replaced marks_read) (whole-is false puts.0)
+              (puts.2 mounts refl ∙ ap (λ (u : model.State T model.Image). all_applied images mounts pid (program_changes u plan) u) has.means) refl
+              (program_of s.tree s.user (plan_numbered number plan), refl, marks ∙ marks-mid)
+              (subst (λ (u : model.State T model.Image). CanAllBeMade number table mounts pid u (program_changes u plan)) has.means can) puts.3 (reach-same after reached)

@@ -84,7 +84,7 @@ module _ {T : Type 0} (number : T → ℕ) (table : List Row) (pid : ℕ) (path 
 
   module _ {M : ℕ} (old new : State T M) (old_reach new_reach : Reach) (lives : IsSome (process pid (meaning old))) where
     pub is-left : (mounts : Mounts T) (r : Result Program Errno) (m : Memory) (result : Executed) → done number table pid path args env (meaning old) ≡ record { reply = r; memory = m }
-        → meaning new ≡ after_execution mounts pid (record { reply = r; memory = m }) (meaning old) → option_map number mounts.found ≡ mount_of r → IsTold r result
+        → meaning new ≡ after_execution mounts pid (record { reply = r; memory = m }) (meaning old) → option_map number mounts.found ≡ mount_of r → IsTold (record { reply = r; memory = m }) result
         → CanAllBeMade number table mounts pid (with_memory_of pid m (meaning old)) (changes_of r) → IsServed new
         → new_reach ≡ execution_reach table pid (state_numbered number (meaning old)) path args env (memory_of pid (meaning old)) old_reach
         → IsLeft number table pid path args env old new old_reach new_reach result
@@ -96,7 +96,7 @@ module _ {T : Type 0} (number : T → ℕ) (table : List Row) (pid : ℕ) (path 
           executed = record {
             mounts = mounts;
             placed = placed ∙ ap (λ (d : CarriedOut (Result Program Errno)). mount_of d.reply) (sym is);
-            told = subst (λ (d : CarriedOut (Result Program Errno)). IsTold d.reply result) (sym is) told;
+            told = subst (λ (d : CarriedOut (Result Program Errno)). IsTold d result) (sym is) told;
             state = state_is;
           };
           reach = reach;

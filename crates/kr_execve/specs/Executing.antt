@@ -1,5 +1,5 @@
 -- What the code leaves of a state where a process called execve(2), and what its steps leave.
-use Rattle.std.specs.Prelude.{◌≡◌, ◌≢◌, ◌+◌, ℕ, suc, true, false, List, [], ◌∷◌, Some, None, Result, Ok, Err, IsSome}
+use Rattle.std.specs.Prelude.{◌≡◌, ◌≢◌, ◌+◌, ℕ, suc, Bool, true, false, List, [], ◌∷◌, Some, None, Result, Ok, Err, IsSome}
 use Rattle.std.specs.Option.{option_map}
 use Rattle.pr_base.specs.declared.errno.Errno.{Errno}
 use Rattle.pr_base.specs.declared.errno.Errno.TheVariants.{ENOMEM}
@@ -43,14 +43,15 @@ use Rattle.kr_execve.specs.declared.executing.Executed.TheVariants.{Replaced, Re
 
 -- ---- a whole call
 
-abbrev pub IsTold : Result Program Errno → Executed → Type 0
-IsTold answer Replaced = (p : Program) × (answer ≡ Ok p)
-IsTold answer (Refused e) = answer ≡ Err e
-IsTold answer NoMemory = ⊥
+-- the answer; and, of a memory that is gone, whether a marked byte of it was read
+abbrev pub IsTold : CarriedOut (Result Program Errno) → Executed → Type 0
+IsTold d (Replaced marks_read) = (p : Program) × (d.reply ≡ Ok p) × (marks_read ≡ d.memory.read_marked)
+IsTold d (Refused e) = d.reply ≡ Err e
+IsTold d NoMemory = ⊥
 
 -- what is told of a step that failed, or of the last one
-abbrev pub told_of : {A : Type 0} → Result A WalkFault → Executed
-told_of (Ok x) = Replaced
+abbrev pub told_of : Result Bool WalkFault → Executed
+told_of (Ok marks_read) = Replaced marks_read
 told_of (Err (fault.Err e)) = Refused e
 told_of (Err fault.NoMemory) = NoMemory
 
@@ -63,7 +64,7 @@ module _ {T : Type 0} (number : T → ℕ) (table : List Row) (pid : ℕ) (path 
   pub record IsExecuted {M : ℕ} (old new : State T M) (result : Executed) : Type 0 where
     pub mounts : Mounts T
     pub placed : option_map number mounts.found ≡ mount_of (done (meaning old)).reply
-    pub told : IsTold (done (meaning old)).reply result
+    pub told : IsTold (done (meaning old)) result
     pub state : meaning new ≡ after_execution mounts pid (done (meaning old)) (meaning old)
 
   -- with what its walks reached; what lasts of a lawful state lasts, with a call more

@@ -11,6 +11,7 @@ ghost use Rattle.kr_tree.specs.Lawful.{AreBytes};
 
 use crate::finding::{cwd_of, find, plan};
 use crate::loading::put;
+use crate::marks::marks_read;
 use crate::reading::read;
 use kr_ops::State;
 use kr_ops::laws::lawful_states_are_sound;
@@ -21,8 +22,8 @@ use std::alloc::Global;
 /// What became of an execve.
 #[derive(Clone, Copy, Debug, PartialEq, Eq)]
 pub enum Executed {
-    /// A new program is in place of the caller's.
-    Replaced,
+    /// A new program is in place of the caller's. Whether a marked byte of the old memory was read before it went.
+    Replaced { marks_read: bool },
     /// Nothing was changed.
     Refused(Errno),
     NoMemory,
@@ -51,13 +52,13 @@ pub fn execute<P: Places, const M: u8>(
     ensures { Leaves P.number (P.mounts places.now) pid path.now args env state.old state.new reach.old reach.new result }
 {
     match replace(alloc, places, state, pid, path, args, env, reach) {
-        Ok(()) => Executed::Replaced,
+        Ok(marks_read) => Executed::Replaced { marks_read },
         Err(WalkFault::Err(errno)) => Executed::Refused(errno),
         Err(WalkFault::NoMemory) => Executed::NoMemory,
     }
 }
 
-/// The same, with what is refused as an error.
+/// The same, with what is refused as an error; and whether a marked byte of the old memory was read.
 fn replace<P: Places, const M: u8>(
     alloc: Global,
     places: &P,
@@ -67,7 +68,7 @@ fn replace<P: Places, const M: u8>(
     args: u64,
     env: u64,
     reach: &mut Reach,
-) -> Result<(), WalkFault>
+) -> Result<bool, WalkFault>
     requires text { IsText path.now }
     requires bytes { AreBytes path.now }
     requires named { SourcesAreNamed (P.mounts places.now) }
@@ -82,5 +83,9 @@ fn replace<P: Places, const M: u8>(
     let found = find(alloc, places, state, pid, base, path, reach)?;
     let lists = read(alloc, state, pid, args, env)?;
     let plan = plan(alloc, places, state, pid, base, found, path, lists, reach)?;
-    put(alloc, state, pid, plan)
+    let read = marks_read(state, pid);
+    match put(alloc, state, pid, plan) {
+        Ok(()) => Ok(read),
+        Err(fault) => Err(fault),
+    }
 }

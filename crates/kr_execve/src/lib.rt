@@ -4,6 +4,8 @@
 mod executing;
 mod finding;
 mod loading;
+mod marks;
 mod reading;
 
 pub use executing::{Executed, execute};
+pub use marks::marks_read;

@@ -4,7 +4,7 @@ use Rattle.kr_view.specs.declared.target.Target.{Target}
 use Rattle.kr_exec.specs.Finding.{is_program_found}
 use Rattle.kr_exec.specs.declared.plan.ExecPlan.{ExecPlan}
 use Rattle.kr_model.specs.State as model
-use Rattle.kr_execve.proofs.ExitLemmas.{exit-find, exit-plan, exit-put, exit-read, read-lawful, ready}
+use Rattle.kr_execve.proofs.ExitLemmas.{exit-find, exit-plan, exit-put, exit-read, exit-refused, read-lawful, ready}
 use Rattle.kr_execve.proofs.executing.replace.Goals as goal
 
 pub returns-in_err-found : goal.returns-in_err-found
@@ -53,10 +53,25 @@ put-requires g c =
           plan c.in_ok-plan.ensures.answer c.requires.text c.requires.bytes c.requires.links c.requires.named c.in_ok-plan.ensures.program c.in_ok-plan.ensures.file c.in_ok-plan.ensures.fit,
     )
 
-pub returns : goal.returns
-returns g c =
+pub marks_read-read-requires : goal.marks_read-read-requires
+marks_read-read-requires g c =
+    let has = c.in_ok-lists.ensures.1 in
+    (omega arith, has.sound)
+
+pub returns-in-Ok : goal.returns-in-Ok
+returns-in-Ok g c =
     let w = c.in_ok-found.ensures.answer in
     let plan = c.in_ok-plan.plan in
     exit-put g.P.Places.number (g.P.Places.mounts c.args.places.now) c.args.pid c.args.path.now c.args.args c.args.env c.args.state.now c.requires.lawful c.requires.served c.requires.lives c.cwd_of-base.result c.cwd_of-base.ensures
     w.0 w.1 c.args.reach.now c.find.new.reach c.in_ok-found.ensures.reach c.read.new.state c.in_ok-lists.lists c.in_ok-lists.ensures.0 c.in_ok-lists.ensures.1 c.in_ok-found.found w.2
-    plan c.in_ok-plan.ensures.answer c.requires.text c.requires.bytes c.requires.links c.requires.named c.in_ok-plan.ensures.program c.plan.new.reach c.put.new.state c.put.result c.in_ok-plan.ensures.reach c.put.ensures
+    plan c.in_ok-plan.ensures.answer c.requires.text c.requires.bytes c.requires.links c.requires.named c.in_ok-plan.ensures.program c.plan.new.reach c.put.new.state c.in_ok-plan.ensures.reach
+    c.marks_read-read.result c.marks_read-read.ensures c.in-Ok.ensures
+
+pub returns-in-Err : goal.returns-in-Err
+returns-in-Err g c =
+    let w = c.in_ok-found.ensures.answer in
+    let plan = c.in_ok-plan.plan in
+    exit-refused g.P.Places.number (g.P.Places.mounts c.args.places.now) c.args.pid c.args.path.now c.args.args c.args.env c.args.state.now c.requires.lawful c.requires.served c.requires.lives c.cwd_of-base.result c.cwd_of-base.ensures
+    w.0 w.1 c.args.reach.now c.find.new.reach c.in_ok-found.ensures.reach c.read.new.state c.in_ok-lists.lists c.in_ok-lists.ensures.0 c.in_ok-lists.ensures.1 c.in_ok-found.found w.2
+    plan c.in_ok-plan.ensures.answer c.requires.text c.requires.bytes c.requires.links c.requires.named c.in_ok-plan.ensures.program c.plan.new.reach c.put.new.state c.in_ok-plan.ensures.reach
+    c.in-Err.fault c.in-Err.ensures

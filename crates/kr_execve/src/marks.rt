@@ -1,0 +1,18 @@
+//! Marked bytes that were read.
+ghost use Rattle.std.specs.Prelude.{◌≡◌};
+ghost use Rattle.kr_answers.specs.Carrying.{memory_of};
+ghost use Rattle.kr_ops.specs.Meaning.{meaning};
+ghost use Rattle.kr_ops.specs.Sound.{IsSound};
+
+use kr_ops::State;
+
+/// Whether a marked byte of the memory of a process was read so far; none was of one that doesn't live.
+pub fn marks_read<T: Copy, const M: u8>(state: &State<T, M>, pid: u32) -> bool
+    requires { IsSound state.now }
+    ensures { result ≡ (memory_of pid (meaning state.now)).read_marked }
+{
+    match state.index_of(pid) {
+        Some(k) => state.living[k].mem.mark_was_read(),
+        None => false,
+    }
+}
