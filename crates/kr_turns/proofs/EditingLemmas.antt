@@ -1,5 +1,5 @@
 -- What is left where a process at an index is given other registers or another memory.
-use Rattle.std.proofs.Common.{◌≡◌, ℕ, List, get_or, slice_set, refl, sym, ap, subst, ◌∙◌}
+use Rattle.std.proofs.Common.{◌≡◌, ℕ, List, get_or, refl, sym, ap, subst, ◌∙◌}
 use Rattle.std.specs.Prelude.{Result, Ok, Err, OnOk, OnErr}
 use Rattle.std.specs.Option.{option_map_or}
 use Rattle.rv_mem.specs.Actions.{WriteBytes, Done}

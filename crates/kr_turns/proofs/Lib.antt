@@ -4,4 +4,8 @@ pub mod EditLemmas
 pub mod NumberLemmas
 pub mod PlainLemmas
 pub mod JoinLemmas
+pub mod BreakLemmas
+pub mod JudgeLemmas
+pub mod NotedLemmas
+pub mod ShelfLemmas
 pub mod TurnLemmas

@@ -1,16 +1,14 @@
 -- What the steps of a turn leave is told of a state with the numbers of its mounts.
-use Rattle.std.proofs.Common.{◌≡◌, ℕ, Bool, true, false, not, ◌&&◌, List, Option, Some, None, ℤ, refl, sym, ap, subst, ◌∙◌, ◌+◌, ◌≤◌, length}
-use Rattle.std.specs.Prelude.{Result, Ok, Err, IsSome}
-use Rattle.std.specs.Option.{option_map, option_map_or}
+use Rattle.std.proofs.Common.{◌≡◌, ℕ, Bool, true, false, not, ◌&&◌, Option, Some, None, ℤ, refl, sym, ap, subst, ◌∙◌, ◌+◌, ◌≤◌, length}
+use Rattle.std.specs.Prelude.{Result, IsSome}
+use Rattle.std.specs.Option.{option_map}
 use Rattle.std.proofs.lemmas.List.{length-map}
 use mathlib.Core.List.{map-map}
 use Rattle.pr_base.specs.declared.errno.Errno.{Errno}
 use Rattle.rv_mem.specs.Actions.{CarriedOut, carried_out}
 use Rattle.rv_mem.specs.Memory.{Memory}
 use Rattle.rv_mem.specs.declared.regs.Regs.{Regs}
-use Rattle.kr_model.specs.Applied.{Mounts, all_applied, images, with_image, with_living}
-use Rattle.kr_model.specs.Change.{Change, End}
-use Rattle.kr_model.specs.Known.{known}
+use Rattle.kr_model.specs.Applied.{Mounts, images, with_living}
 use Rattle.kr_model.specs.Lawful.{ArePids, RiseFrom}
 use Rattle.kr_model.specs.ProcessRows.{most_processes}
 use Rattle.kr_model.specs.Reply.{Reply, Replying}
@@ -20,15 +18,15 @@ use Rattle.kr_model.specs.declared.outcome.Outcome.{Outcome}
 use Rattle.kr_model.specs.declared.outcome.Outcome.TheVariants.{Answer, Wait, Ended, NoMemory}
 use Rattle.kr_procview.specs.Numbered.{process_numbered, state_numbered}
 use Rattle.kr_numbered.specs.Mounts.{mounts_numbered}
-use Rattle.kr_numbered.proofs.ChangeLemmas.{changes-numbered, living-numbered}
+use Rattle.kr_numbered.proofs.ChangeLemmas.{living-numbered}
 use Rattle.kr_numbered.proofs.LookLemmas.{asked-numbered, known-numbered, process-numbered}
-use Rattle.kr_numbered.proofs.StepLemmas.{image-numbered, passing-numbered, picked-numbered, then-changes-numbered}
+use Rattle.kr_numbered.proofs.StepLemmas.{image-numbered, picked-numbered, then-changes-numbered}
 use Rattle.kr_answers.specs.Carrying.{after_row, carried, memory_of, no_memory, with_memory, with_memory_of}
 use Rattle.kr_execve.specs.Execution.{Program, after_execution, changes_of}
-use Rattle.kr_steps.specs.Answering.{answered, going, resumed, waiting, with_answer}
+use Rattle.kr_steps.specs.Answering.{answered, going, resumed, with_answer}
 use Rattle.kr_steps.specs.Computing.{computed}
 use Rattle.kr_steps.specs.Settling.{settled}
-use Rattle.kr_steps.specs.Waiting.{goes_on, picked_process, ready_processes, still_waits}
+use Rattle.kr_steps.specs.Waiting.{goes_on, picked_process, still_waits}
 
 some-of-map : {A B : Type 0} (f : A → B) (o : Option A) → IsSome (option_map f o) → IsSome o
 some-of-map f None h = h

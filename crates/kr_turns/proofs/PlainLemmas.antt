@@ -1,5 +1,5 @@
 -- What the code leaves of a call is what the definition says of the state with the numbers of its mounts.
-use Rattle.std.proofs.Common.{◌≡◌, ◌≢◌, ℕ, ◌+◌, ◌<◌, ◌^◌, Bool, true, false, cond, List, Option, Some, None, ℤ, refl, sym, ap, subst, ◌∙◌}
+use Rattle.std.proofs.Common.{◌≡◌, ℕ, ◌+◌, ◌<◌, ◌^◌, Bool, true, false, cond, ◌||◌, List, Option, Some, None, refl, sym, ap, subst, ◌∙◌}
 use Rattle.std.specs.Prelude.{Result, Ok, Err, IfOk, IfSome, IsSome, ◌==◌, pos, neg_ℤ}
 use Rattle.std.specs.Option.{option_map, option_map_or}
 use Rattle.pr_base.specs.declared.errno.Errno.{Errno}
@@ -13,36 +13,37 @@ use Rattle.kr_calls.specs.declared.request.Request.{Request}
 use Rattle.kr_calls.specs.declared.request.Request.TheVariants as call
 use Rattle.kr_view.specs.View.{Row}
 use Rattle.kr_view.specs.declared.target.Reach.{Reach}
-use Rattle.kr_model.specs.Applied.{Mounts, with_image}
+use Rattle.kr_model.specs.Applied.{Mounts, all_applied, images, with_image}
 use Rattle.kr_model.specs.Known.{Known, known}
 use Rattle.kr_model.specs.Lawful.{ArePids}
 use Rattle.kr_model.specs.Operation.{operation}
-use Rattle.kr_model.specs.Reply.{Reply, Replying, refusal}
+use Rattle.kr_model.specs.Reply.{Reply, refusal}
 use Rattle.kr_model.specs.State as model
 use Rattle.kr_model.specs.State.{Image, image_layout}
-use Rattle.kr_model.specs.Walks.{Targets, seen, targets_of}
+use Rattle.kr_model.specs.Walks.{seen, targets_of}
 use Rattle.kr_model.specs.declared.outcome.Outcome.{Outcome}
-use Rattle.kr_model.specs.declared.outcome.Outcome.TheVariants.{Answer}
 use Rattle.kr_lawful.proofs.ProcessChangeLemmas.{found as found-changed}
 use Rattle.kr_allowed.specs.Told.{mounts_walked}
 use Rattle.kr_ops.specs.declared.state.State.{State}
 use Rattle.kr_ops.specs.Meaning.{meaning}
 use Rattle.kr_procview.specs.Numbered.{process_numbered, state_numbered}
-use Rattle.kr_answers.specs.Carrying.{after_row, carried, memory_of}
+use Rattle.kr_answers.specs.Carrying.{after_row, carried, memory_of, with_memory_of}
 use Rattle.kr_paths.specs.CallWalks.{call_reach}
 use Rattle.kr_perform.specs.Operating.{IsNoExec}
 use Rattle.kr_calling.specs.Calling.{IsCalled}
 use Rattle.kr_calling.proofs.CallLemmas.{refused-call}
-use Rattle.kr_execve.specs.Execution.{Program, after_execution, execution, mount_of}
+use Rattle.kr_execve.specs.Execution.{Program, after_execution, changes_of, execution, execution_reach, mount_of}
 use Rattle.kr_execve.specs.Executing.{IsExecuted, done}
 use Rattle.kr_steps.specs.Answering.{answered, resumed}
 use Rattle.kr_steps.specs.Computing.{Requests, computed}
 use Rattle.kr_steps.specs.Settling.{settled}
+use Rattle.kr_rows.proofs.UsingLemmas.{memory-is}
+use Rattle.kr_turns.specs.Breaking.{decoded_rule, executed_rule, nothing_reached, operated_rule, plain_rule, plain_rule_of, requested_rule, rule_told}
 use Rattle.kr_turns.specs.Coming.{came_to}
 use Rattle.kr_turns.specs.PlainCall.{Came, after_decoding, child_if_made, child_of, decoded_reach, end_of, executed, leads_to_root, operated, plain_call, plain_call_of, plain_reach, plain_reach_of, refusal_told, replaced, request_reach, requested, row_on}
-use Rattle.kr_turns.specs.declared.plain.CallEnd.{CallEnd}
 use Rattle.kr_turns.specs.declared.plain.CallEnd.TheVariants as end
 use Rattle.kr_turns.specs.declared.plain.Plain.{Plain}
+use Rattle.kr_turns.proofs.BreakLemmas.{exec-told, idle-here}
 use Rattle.kr_turns.proofs.EditLemmas.{computed-lives}
 use Rattle.kr_turns.proofs.NumberLemmas.{answered-numbered, computed-numbered, execution-numbered, memory-numbered, resumed-numbered, row-numbered, settled-numbered}
 use Rattle.kr_numbered.proofs.LookLemmas.{known-numbered, process-numbered}
@@ -91,9 +92,16 @@ found-alone pid d s m found e = by d.reply
     by (Ok p) = ap (λ (f : Option ℕ). after_execution (record { found = f; directory = None }) pid (record { reply = Ok p; memory = d.memory }) s) e
     by (Err e) = refl
 
+map-some : {A B : Type 0} (f : A → B) (o : Option A) → IsSome o → IsSome (option_map f o)
+map-some f None h = h
+map-some f (Some x) h = refl
+
 module _ {T : Type 0} {M : ℕ} (number : T → ℕ) where
   abbrev shown : State T M → model.State ℕ Image
   shown s = state_numbered number (meaning s)
+
+  pub lives-shown : (pid : ℕ) (s : State T M) → IsSome (model.process pid (meaning s)) → IsSome (model.process pid (shown s))
+  lives-shown pid s lives = subst IsSome (sym (process-numbered number pid (meaning s))) (map-some (process_numbered number) (model.process pid (meaning s)) lives)
 
   -- ---- a refusal
 
@@ -118,7 +126,7 @@ module _ {T : Type 0} {M : ℕ} (number : T → ℕ) where
     pub outcome-told : outcome ≡ (row_on table pid r (shown old)).reply.outcome
     outcome-told = is.carried.outcome ∙ ap (λ (d : CarriedOut Reply). d.reply.outcome) same-row
 
-    row-left : shown after ≡ after_row (mounts_walked (targets_of table pid (shown old) r)) pid (row_on table pid r (shown old)) (shown old)
+    pub row-left : shown after ≡ after_row (mounts_walked (targets_of table pid (shown old) r)) pid (row_on table pid r (shown old)) (shown old)
     row-left =
         ap (state_numbered number) is.carried.state
         ∙ row-numbered number is.mounts pid own (meaning old)
@@ -182,6 +190,35 @@ module _ {T : Type 0} {M : ℕ} (number : T → ℕ) where
     refused-now e came-now is told refuses =
         refuses ∙ ap (refusal_told pid e) is ∙ ap (λ (reply : Result Program Errno). replaced pid reply left) (sym told ∙ ap (λ (d : CarriedOut (Result Program Errno)). d.reply) same-done)
 
+    -- ---- the rule that it breaks
+
+    pub replaced-rule : (no_shelf marks_read : Bool) (reach : Reach) → marks_read ≡ (done number table pid path args env (meaning old)).memory.read_marked
+        → reach ≡ execution_reach table pid (shown old) path args env (memory_of pid (shown old)) nothing_reached
+        → rule_told M (marks_read || no_shelf) false None reach ≡ executed_rule M table pid no_shelf (call.Execve path args env) path args env (shown old)
+    replaced-rule no_shelf marks_read reach marks reaches =
+        let marks-now : marks_read ≡ came.memory.read_marked = marks ∙ ap (λ (d : CarriedOut (Result Program Errno)). d.memory.read_marked) same-done in
+        (λ i. rule_told M (marks-now i || no_shelf) false None (reaches i))
+        ∙ sym
+        (exec-told M table pid no_shelf (with_memory_of pid came.memory (shown old)) (shown old) came.memory path args env (record { found = mount_of came.reply; directory = None }) came.reply
+        (execution_reach table pid (shown old) path args env (memory_of pid (shown old)) nothing_reached))
+
+    -- one that is refused changes nothing but what was read of its memory
+    module _ (e : Errno) (is : shown after ≡ left) (told : (done number table pid path args env (meaning old)).reply ≡ Err e) (lives : IsSome (model.process pid (meaning old))) where
+      refused-left : shown after ≡ with_memory_of pid came.memory (shown old)
+      refused-left =
+          is
+          ∙ ap (λ (r : Result Program Errno). all_applied images (record { found = mount_of came.reply; directory = None }) pid (changes_of r) (with_memory_of pid came.memory (shown old)))
+          (sym (ap (λ (d : CarriedOut (Result Program Errno)). d.reply) same-done) ∙ told)
+
+      pub refused-memory : memory_of pid (meaning after) ≡ came.memory
+      refused-memory = sym (memory-numbered number pid (meaning after)) ∙ ap (memory_of pid) refused-left ∙ memory-is pid came.memory (shown old) (lives-shown pid old lives)
+
+      pub refused-rule : (no_shelf : Bool) (reach : Reach) → reach ≡ execution_reach table pid (shown old) path args env (memory_of pid (shown old)) nothing_reached
+          → rule_told M ((memory_of pid (meaning after)).read_marked || no_shelf) false None reach ≡ executed_rule M table pid no_shelf (call.Execve path args env) path args env (shown old)
+      refused-rule no_shelf reach reaches =
+          replaced-rule no_shelf (memory_of pid (meaning after)).read_marked reach
+          (ap (λ (m : Memory). m.read_marked) refused-memory ∙ sym (ap (λ (d : CarriedOut (Result Program Errno)). d.memory.read_marked) same-done)) reaches
+
     pub execution-left : (told : _) → IsExecuted number table pid path args env old after told → shown after ≡ left
     execution-left told is = state-left is.mounts is.placed is.state
 
@@ -199,6 +236,15 @@ no-exec-reach table pid s reach _ kind = refl
 pub if-ok : {A E : Type 0} (r : Result A E) {P Q : A → Type 0} → ((x : A) → P x → Q x) → IfOk r P → IfOk r Q
 if-ok (Ok x) f h = f x h
 if-ok (Err x) f h = h
+
+pub no-exec-rule : (marks : ℕ) (table : List Row) (pid : ℕ) (no_shelf : Bool) (s : model.State ℕ Image) (r : Request) → IsNoExec r → operated_rule marks table pid no_shelf r s ≡ requested_rule marks table pid no_shelf r s
+no-exec-rule marks table pid no_shelf s (call.Execve path args env) kind = absurd kind
+no-exec-rule marks table pid no_shelf s _ kind = refl
+
+-- what is told of a request is told of one that is the same
+pub same-rule : (marks : ℕ) (table : List Row) (pid : ℕ) (no_shelf : Bool) (s : model.State ℕ Image) {E : Type 0} (r q : Request) → r ≡ q → (result : Result Plain E)
+    → IfOk result (λ plain. plain.broken ≡ requested_rule marks table pid no_shelf r s) → IfOk result (λ plain. plain.broken ≡ requested_rule marks table pid no_shelf q s)
+same-rule marks table pid no_shelf s r q same result told = subst (λ (r : Request). IfOk result (λ plain. plain.broken ≡ requested_rule marks table pid no_shelf r s)) same told
 
 -- ---- the request
 
@@ -224,6 +270,20 @@ module _ {T : Type 0} {M : ℕ} (number : T → ℕ) (table : List Row) (pid : �
   reach-is reach =
       ap (λ (o : Option (model.Process ℕ Image)). option_map_or (plain_reach_of table pid (shown number s) reach) o reach) found
       ∙ ap (λ t. decoded_reach table pid decoded.reply t reach) (sym shown-mid)
+
+  module _ (no_shelf : Bool) where
+    rule-is : plain_rule M table pid no_shelf (shown number s) ≡ decoded_rule M table pid no_shelf decoded.reply (shown number mid)
+    rule-is =
+        ap (λ (o : Option (model.Process ℕ Image)). option_map_or (plain_rule_of M table pid no_shelf (shown number s)) o None) found
+        ∙ ap (decoded_rule M table pid no_shelf decoded.reply) (sym shown-mid)
+
+    pub rule-refused : (e : Errno) → decoded.reply ≡ Err e → rule_told M ((memory_of pid (meaning mid)).read_marked || no_shelf) false None nothing_reached ≡ plain_rule M table pid no_shelf (shown number s)
+    rule-refused e told =
+        idle-here number table pid no_shelf mid
+        ∙ ap (λ reply. decoded_rule M table pid no_shelf reply (shown number mid)) (sym told) ∙ sym rule-is
+
+    pub rule-carried : (q : Request) → decoded.reply ≡ Ok q → (rule : Option ℕ) → rule ≡ requested_rule M table pid no_shelf q (shown number mid) → rule ≡ plain_rule M table pid no_shelf (shown number s)
+    rule-carried q told rule is = is ∙ ap (λ reply. decoded_rule M table pid no_shelf reply (shown number mid)) (sym told) ∙ sym rule-is
 
   pub call-refused : (e : Errno) → decoded.reply ≡ Err e → (made : Came) → made ≡ refusal_told pid e (shown number mid) → made ≡ plain_call table pid (shown number s)
   call-refused e told made refuses = refuses ∙ ap (λ reply. after_decoding table pid reply (shown number mid)) (sym told) ∙ sym call-is

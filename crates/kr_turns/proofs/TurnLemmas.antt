@@ -25,10 +25,12 @@ use Rattle.kr_numbered.proofs.LookLemmas.{process-numbered}
 use Rattle.kr_steps.specs.Computing.{Computes, computed}
 use Rattle.kr_turns.specs.Coming.{came_to}
 use Rattle.kr_turns.specs.Held.{stopped_in}
-use Rattle.kr_turns.specs.Making.{ComesOut, IsCallMade, IsLeft, machine_of, status_after}
+use Rattle.kr_turns.specs.Making.{ComesOut, IsCallMade, IsLeft, ended_with, machine_of}
+use Rattle.kr_turns.specs.Breaking.{plain_rule}
 use Rattle.kr_turns.specs.PlainCall.{Came, plain_call}
+use Rattle.kr_turns.specs.Shelving.{lacks_in, shelved_in}
 use Rattle.kr_turns.specs.Stopped.{IsEdited, Stopped, image_at, no_image}
-use Rattle.kr_turns.specs.Turn.{ExitsIfAny, IsAfterEvent, IsAfterPlain, IsBorn, IsTurnOf, Machine, killed}
+use Rattle.kr_turns.specs.Turn.{ExitsIfAny, IsAfterEvent, IsAfterPlain, IsBorn, IsTurnOf, Machine, Tally, killed, with_broken}
 use Rattle.kr_turns.specs.Watching.{Watching}
 use Rattle.kr_turns.specs.declared.plain.Plain.{Plain}
 use Rattle.kr_turns.proofs.EditLemmas.{computed-lives}
@@ -41,17 +43,17 @@ module _ {S T : Type 0} {M : ℕ} (w : Watching S) (number : T → ℕ) (pid : �
 
   -- one that lives comes to the stop
   pub comes-out : (new : State T M) (y : S) → IsSome (model.process pid (meaning old)) → w.exits x at-stop y (stopped_in number new pid at_root) → ComesOut w number pid at_root old x new y
-  comes-out new y lives exits = λ status.
+  comes-out new y lives exits = λ tally.
       let own = some-of (model.process pid (meaning old)) lives in
       let found : model.process pid (state_numbered number (meaning old)) ≡ Some (process_numbered number own.0) = process-numbered number pid (meaning old) ∙ ap (option_map (process_numbered number)) own.1 in
-      subst (λ (o : Option (Process ℕ Image)). ExitsIfAny w at-stop x status (machine_of number new y status) o) (sym found)
+      subst (λ (o : Option (Process ℕ Image)). ExitsIfAny w at-stop x tally (machine_of number new y tally) o) (sym found)
       (record { left = stopped_in number new pid at_root; exits = exits; state = refl; same = refl })
 
   -- another doesn't
   pub stays-out : model.process pid (meaning old) ≡ None → ComesOut w number pid at_root old x old x
-  stays-out none = λ status.
+  stays-out none = λ tally.
       let found : model.process pid (state_numbered number (meaning old)) ≡ None = process-numbered number pid (meaning old) ∙ ap (option_map (process_numbered number)) none in
-      subst (λ (o : Option (Process ℕ Image)). ExitsIfAny w at-stop x status (machine_of number old x status) o) (sym found) refl
+      subst (λ (o : Option (Process ℕ Image)). ExitsIfAny w at-stop x tally (machine_of number old x tally) o) (sym found) refl
 
 -- ---- a call
 
@@ -71,25 +73,31 @@ module _ {T : Type 0} {M : ℕ} (number : T → ℕ) (pid : ℕ) (old new : Stat
 
 module _ {S T : Type 0} {M : ℕ} (w : Watching S) (number : T → ℕ) (table : List Row) (pid : ℕ) where
   -- the stops of a call around it
-  pub call-made : (old entered came new : State T M) (x entering bearing y : S) (plain : Plain) → w.enters x (stopped_in number old pid false) entering (stopped_in number entered pid false)
-      → came_to number came plain ≡ plain_call table pid (state_numbered number (meaning entered)) → IsBorn w pid plain.child entering bearing → (told : Option ℕ) → IsLeft w number pid plain came bearing new y told
-      → IsCallMade w number table pid old x new y told
-  call-made old entered came new x entering bearing y plain enters plainly born told left = λ status. record {
+  pub call-made : (old shelved entered came new : State T M) (x entering bearing y : S) (plain : Plain) → state_numbered number (meaning shelved) ≡ shelved_in M pid (state_numbered number (meaning old))
+      → w.enters x (stopped_in number shelved pid false) entering (stopped_in number entered pid false)
+      → came_to number came plain ≡ plain_call table pid (state_numbered number (meaning entered)) → IsBorn w pid plain.child entering bearing
+      → plain.broken ≡ plain_rule M table pid (lacks_in M pid (state_numbered number (meaning old))) (state_numbered number (meaning entered))
+      → (told : Option ℕ) → IsLeft w number pid plain came bearing new y told
+      → IsCallMade w number table pid old x new y (record { status = told; broken = plain.broken })
+  call-made old shelved entered came new x entering bearing y plain marks enters plainly born rule told left = λ tally. record {
     entering = entering;
     entered = stopped_in number entered pid false;
-    enters = enters;
-    after = subst (λ (made : Came). IsAfterPlain w pid made entering status (machine_of number new y (status_after status told))) plainly (record { bearing = bearing; born = born; leaves = left status });
+    enters = subst (λ (s : model.State ℕ Image). w.enters x (record { state = s; pid = pid; at_root = false }) entering (stopped_in number entered pid false)) marks enters;
+    after =
+        subst (λ (broken : Option ℕ). IsAfterPlain w pid (plain_call table pid (state_numbered number (meaning entered))) entering (with_broken broken tally) (machine_of number new y (ended_with told (with_broken plain.broken tally)))) rule
+        (subst (λ (made : Came). IsAfterPlain w pid made entering (with_broken plain.broken tally) (machine_of number new y (ended_with told (with_broken plain.broken tally)))) plainly
+        (record { bearing = bearing; born = born; leaves = left (with_broken plain.broken tally) }));
   }
 
   -- ---- instructions
 
   pub turn-after : (fuel : ℕ) (old mid : State T M) (event : Event) (done : ℕ) → Computes pid fuel old mid event done → (p : Process ℕ Image) → model.process pid (state_numbered number (meaning old)) ≡ Some p
-      → (x : S) (status : ℕ) (new : Machine S) → IsAfterEvent w table pid event (machine_of number mid x status) new → IsTurnOf w table fuel p (machine_of number old x status) new
-  turn-after fuel old mid event done c p found x status new after =
-      subst (λ (q : Process ℕ Image). IsTurnOf w table fuel q (machine_of number old x status) new) same
-      (subst (λ n. IsAfterEvent w table n (ran fuel c.process.image.regs c.process.image.memory).event (record { state = computed n (ran fuel c.process.image.regs c.process.image.memory).regs (ran fuel c.process.image.regs c.process.image.memory).memory (state_numbered number (meaning old)); watcher = x; status = status }) new) (sym numbered-pid)
-      (subst (λ (t : model.State ℕ Image). IsAfterEvent w table pid (ran fuel c.process.image.regs c.process.image.memory).event (record { state = t; watcher = x; status = status }) new) leaves
-      (subst (λ e. IsAfterEvent w table pid e (machine_of number mid x status) new) c.ends after)))
+      → (x : S) (tally : Tally) (new : Machine S) → IsAfterEvent w M table pid event (machine_of number mid x tally) new → IsTurnOf w M table fuel p (machine_of number old x tally) new
+  turn-after fuel old mid event done c p found x tally new after =
+      subst (λ (q : Process ℕ Image). IsTurnOf w M table fuel q (machine_of number old x tally) new) same
+      (subst (λ n. IsAfterEvent w M table n (ran fuel c.process.image.regs c.process.image.memory).event (record { state = computed n (ran fuel c.process.image.regs c.process.image.memory).regs (ran fuel c.process.image.regs c.process.image.memory).memory (state_numbered number (meaning old)); watcher = x; tally = tally }) new) (sym numbered-pid)
+      (subst (λ (t : model.State ℕ Image). IsAfterEvent w M table pid (ran fuel c.process.image.regs c.process.image.memory).event (record { state = t; watcher = x; tally = tally }) new) leaves
+      (subst (λ e. IsAfterEvent w M table pid e (machine_of number mid x tally) new) c.ends after)))
     where
       same : process_numbered number c.process ≡ p
       same = same_Some (process_numbered number c.process) p (sym (process-numbered number pid (meaning old) ∙ ap (option_map (process_numbered number)) c.lives) ∙ found)
@@ -102,9 +110,9 @@ module _ {S T : Type 0} {M : ℕ} (w : Watching S) (number : T → ℕ) (table :
 
   -- by the event that it was
   pub turn-by : (fuel : ℕ) (old mid : State T M) (event own : Event) (done : ℕ) → Computes pid fuel old mid event done → event ≡ own → (p : Process ℕ Image) → model.process pid (state_numbered number (meaning old)) ≡ Some p
-      → (x : S) (status : ℕ) (new : Machine S) → IsAfterEvent w table pid own (machine_of number mid x status) new → IsTurnOf w table fuel p (machine_of number old x status) new
-  turn-by fuel old mid event own done c is p found x status new after =
-      turn-after fuel old mid event done c p found x status new (subst (λ e. IsAfterEvent w table pid e (machine_of number mid x status) new) (sym is) after)
+      → (x : S) (tally : Tally) (new : Machine S) → IsAfterEvent w M table pid own (machine_of number mid x tally) new → IsTurnOf w M table fuel p (machine_of number old x tally) new
+  turn-by fuel old mid event own done c is p found x tally new after =
+      turn-after fuel old mid event done c p found x tally new (subst (λ e. IsAfterEvent w M table pid e (machine_of number mid x tally) new) (sym is) after)
 
   pub killed-now : (signal : ℕ) (mid new : State T M) → Makes pid (End signal) mid new → state_numbered number (meaning new) ≡ killed pid signal (state_numbered number (meaning mid))
   killed-now signal mid new makes =

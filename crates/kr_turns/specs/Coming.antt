@@ -1,5 +1,5 @@
 -- What a call came to in code.
-use Rattle.std.specs.Prelude.{◌≡◌, ℕ}
+use Rattle.std.specs.Prelude.{ℕ}
 use Rattle.kr_ops.specs.declared.state.State.{State}
 use Rattle.kr_ops.specs.Meaning.{meaning}
 use Rattle.kr_procview.specs.Numbered.{state_numbered}

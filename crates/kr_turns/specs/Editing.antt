@@ -3,7 +3,6 @@ use Rattle.std.specs.Prelude.{ℕ, List, Result, get_or, slice_set}
 use Rattle.rv_mem.specs.Actions.{CarriedOut, carried_out}
 use Rattle.rv_mem.specs.Memory.{Memory, after_read, with_pages}
 use Rattle.rv_mem.specs.Pages.{written}
-use Rattle.rv_mem.specs.declared.regs.Regs.{Regs}
 use Rattle.kr_calls.specs.Decodes.{Gives}
 use Rattle.kr_calls.specs.Decoding.{Decoded, decoding}
 use Rattle.kr_calls.specs.declared.fault.CallFault.{CallFault}

@@ -1,5 +1,5 @@
 -- What a watcher may be told of a process that is held at a stop. No clause cites this module.
-use Rattle.std.proofs.Common.{◌≡◌, ℕ, Bool, sym, ap, subst}
+use Rattle.std.proofs.Common.{◌≡◌, ℕ, sym, ap, subst}
 use Rattle.pr_base.specs.Peeks.{NamesAreTexts}
 use Rattle.kr_model.specs.Peeks.{peeked_of}
 use Rattle.kr_ops.specs.Meaning.{meaning}

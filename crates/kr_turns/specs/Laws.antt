@@ -9,6 +9,6 @@ use Rattle.kr_turns.specs.Watching.{IsGraph, Watcher, Watching}
 -- where the relations of a watcher are the graphs of functions, a turn by the relations is the turn by the functions; and where no
 -- process is ready nothing changes
 pub record TurnsAreFunctions {S : Type 0} (w : Watching S) : Type 0 where
-  pub turns : (f : Watcher S) (table : List Row) (pick fuel : ℕ) (p : Process ℕ Image) (old new : Machine S) → IsGraph w f
-      → picked_process old.state pick ≡ Some p → IsTurnOf w table fuel p old new → new ≡ turn f table pick fuel old
-  pub rests : (f : Watcher S) (table : List Row) (pick fuel : ℕ) (m : Machine S) → picked_process m.state pick ≡ None → turn f table pick fuel m ≡ m
+  pub turns : (f : Watcher S) (marks : ℕ) (table : List Row) (pick fuel : ℕ) (p : Process ℕ Image) (old new : Machine S) → IsGraph w f
+      → picked_process old.state pick ≡ Some p → IsTurnOf w marks table fuel p old new → new ≡ turn f marks table pick fuel old
+  pub rests : (f : Watcher S) (marks : ℕ) (table : List Row) (pick fuel : ℕ) (m : Machine S) → picked_process m.state pick ≡ None → turn f marks table pick fuel m ≡ m

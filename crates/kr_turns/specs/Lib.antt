@@ -3,7 +3,11 @@ pub mod Editing
 pub mod Held
 pub mod HeldLaws
 pub mod Watching
+pub mod Shelving
 pub mod PlainCall
+pub mod Breaking
+pub mod Looking
+pub mod Noting
 pub mod Coming
 pub mod Turn
 pub mod Making

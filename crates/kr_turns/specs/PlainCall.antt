@@ -9,7 +9,6 @@ use Rattle.rv_mem.specs.Actions.{CarriedOut, carried_out}
 use Rattle.kr_calls.specs.Decoding.{decoding}
 use Rattle.kr_calls.specs.declared.request.Request.{Request}
 use Rattle.kr_calls.specs.declared.request.Request.TheVariants as call
-use Rattle.kr_tree.specs.declared.place.Place.{Place}
 use Rattle.kr_view.specs.View.{Row, is_root_place}
 use Rattle.kr_view.specs.Walk.{PlaceTarget}
 use Rattle.kr_view.specs.declared.target.Reach.{Reach}

@@ -2,7 +2,7 @@
 use Rattle.std.specs.Prelude.{ℕ, zero, suc, ◌%◌, List, [], ◌∷◌, length, Option, Some, None, get_or}
 use Rattle.std.specs.Option.{option_map_or}
 use Rattle.kr_view.specs.View.{Row}
-use Rattle.kr_model.specs.State.{Image, Process, State}
+use Rattle.kr_model.specs.State.{Image, State}
 use Rattle.kr_steps.specs.Waiting.{ready_processes}
 use Rattle.kr_turns.specs.Turn.{Machine, turn}
 use Rattle.kr_turns.specs.Watching.{Watcher}
@@ -22,7 +22,8 @@ pub record Put : Type 0 where
   pub out : List ℕ
   pub err : List ℕ
 
--- what became of a run: the bytes of each turn, how it ended, and the machine that it left, with the status and the tree
+-- what became of a run: the bytes of each turn, how it ended, and the machine that it left, with the status, the calm rule that was
+-- broken first, and the tree
 pub record Ran (S : Type 0) : Type 0 where
   pub puts : List Put
   pub ending : Ending
@@ -56,7 +57,7 @@ module _ {S : Type 0} where
   put_by m = record { out = m.state.out; err = m.state.err }
 
   abbrev pub after_put : Machine S → Machine S
-  after_put m = record { state = cleared m.state; watcher = m.watcher; status = m.status }
+  after_put m = record { state = cleared m.state; watcher = m.watcher; tally = m.tally }
 
   -- whether it can't go on: no process lives, or one lives and none is ready, tested in this order
   abbrev pub ending_of : Machine S → Option Ending
@@ -65,9 +66,9 @@ module _ {S : Type 0} where
   abbrev pub ended : Machine S → Ending → Ran S
   ended m ending = record { puts = []; ending = ending; machine = m }
 
-module _ {S : Type 0} (watcher : Watcher S) (table : List Row) (slots : ℕ → Slot) where
+module _ {S : Type 0} (watcher : Watcher S) (marks : ℕ) (table : List Row) (slots : ℕ → Slot) where
   abbrev pub turned : ℕ → Machine S → Machine S
-  turned made m = turn watcher table (slots made).pick (slots made).fuel m
+  turned made m = turn watcher marks table (slots made).pick (slots made).fuel m
 
   -- at most so many turns, after so many; that they were made is tested last
   unfoldable pub run_from : (left made : ℕ) → Machine S → Ran S

@@ -1,37 +1,49 @@
 -- A turn of a machine: the process that is picked runs until its instructions are used up, or it is killed, or it has called; what a
 -- watcher does at the stops of the call is part of it.
 use Rattle.std.specs.Prelude.{◌≡◌, ℕ, ◌+◌, false, List, Option, Some, None}
-use Rattle.rv_cpu.specs.Run.{Ran, ran}
+use Rattle.rv_cpu.specs.Run.{ran}
 use Rattle.rv_cpu.specs.declared.event.Event.{Event}
 use Rattle.rv_cpu.specs.declared.event.Event.TheVariants.{Next, Call, Killed}
 use Rattle.kr_view.specs.View.{Row}
-use Rattle.kr_model.specs.Applied.{Mounts, applied, images}
+use Rattle.kr_model.specs.Applied.{applied, images}
 use Rattle.kr_model.specs.Change.{End}
 use Rattle.kr_model.specs.State.{Image, Process, State, process}
 use Rattle.kr_steps.specs.Computing.{computed}
 use Rattle.kr_steps.specs.Waiting.{picked_process}
+use Rattle.kr_calm.specs.Calm.{kept}
+use Rattle.kr_turns.specs.Breaking.{idle_rule, killed_rule, no_mounts, plain_rule}
 use Rattle.kr_turns.specs.PlainCall.{Came, plain_call}
+use Rattle.kr_turns.specs.Shelving.{lacks_in, shelved_in}
 use Rattle.kr_turns.specs.Stopped.{Stopped}
 use Rattle.kr_turns.specs.Watching.{Watcher, Watching}
 use Rattle.kr_turns.specs.declared.plain.CallEnd.{CallEnd}
 use Rattle.kr_turns.specs.declared.plain.CallEnd.TheVariants as end
 
--- a machine between turns: its kernel's state, what the watcher keeps, and the status of the process that ended last
+-- what is told of the turns so far: the status of the process that ended last, and the calm rule that was broken first
+pub record Tally : Type 0 where
+  pub status : ℕ
+  pub broken : Option ℕ
+
+abbrev pub with_status : ℕ → Tally → Tally
+with_status status t = record { status = status; broken = t.broken }
+
+-- the first that is broken counts
+abbrev pub with_broken : Option ℕ → Tally → Tally
+with_broken rule t = record { status = t.status; broken = kept t.broken rule }
+
+-- a machine between turns: its kernel's state, what the watcher keeps, and what is told of its turns
 pub record Machine (S : Type 0) : Type 0 where
   pub state : State ℕ Image
   pub watcher : S
-  pub status : ℕ
-
-abbrev pub no_mounts : Mounts ℕ
-no_mounts = record { found = None; directory = None }
+  pub tally : Tally
 
 -- a process that dies of a signal
 abbrev pub killed : ℕ → ℕ → State ℕ Image → State ℕ Image
 killed pid signal s = applied images no_mounts pid (End signal) s
 
--- a process that comes to a call, before its first stop
-abbrev pub calling : ℕ → State ℕ Image → Stopped
-calling pid s = record { state = s; pid = pid; at_root = false }
+-- a process that comes to a call, before its first stop: its shelf is marked
+abbrev pub calling : (marks pid : ℕ) → State ℕ Image → Stopped
+calling marks pid s = record { state = shelved_in marks pid s; pid = pid; at_root = false }
 
 -- and behind it, at the second one
 abbrev pub called : ℕ → Came → Stopped
@@ -45,35 +57,40 @@ module _ {S : Type 0} (watcher : Watcher S) where
   after_born pid (Some child) x = watcher.born x pid child
 
   -- a process that lives comes to the second stop where its call was answered, or it begins a new program; one whose call waits doesn't
-  abbrev pub after_exit : Stopped → S → ℕ → Option (Process ℕ Image) → Machine S
-  after_exit t x status None = record { state = t.state; watcher = x; status = status }
-  after_exit t x status (Some p) = let left = watcher.exit x t in record { state = left.1.state; watcher = left.0; status = status }
+  abbrev pub after_exit : Stopped → S → Tally → Option (Process ℕ Image) → Machine S
+  after_exit t x tally None = record { state = t.state; watcher = x; tally = tally }
+  after_exit t x tally (Some p) = let left = watcher.exit x t in record { state = left.1.state; watcher = left.0; tally = tally }
 
-  abbrev pub after_end : ℕ → CallEnd → Stopped → S → ℕ → Machine S
-  after_end pid end.Answered t x status = after_exit t x status (process pid t.state)
-  after_end pid end.Replaced t x status = after_exit t x status (process pid t.state)
-  after_end pid end.Waits t x status = record { state = t.state; watcher = x; status = status }
-  after_end pid (end.Ended told) t x status = record { state = t.state; watcher = watcher.gone x pid; status = told }
+  abbrev pub after_end : ℕ → CallEnd → Stopped → S → Tally → Machine S
+  after_end pid end.Answered t x tally = after_exit t x tally (process pid t.state)
+  after_end pid end.Replaced t x tally = after_exit t x tally (process pid t.state)
+  after_end pid end.Waits t x tally = record { state = t.state; watcher = x; tally = tally }
+  after_end pid (end.Ended told) t x tally = record { state = t.state; watcher = watcher.gone x pid; tally = with_status told tally }
 
-  abbrev pub after_plain : ℕ → Came → S → ℕ → Machine S
-  after_plain pid came x status = after_end pid came.end (called pid came) (after_born pid came.child x) status
+  abbrev pub after_plain : ℕ → Came → S → Tally → Machine S
+  after_plain pid came x tally = after_end pid came.end (called pid came) (after_born pid came.child x) tally
 
-module _ {S : Type 0} (watcher : Watcher S) (table : List Row) where
+module _ {S : Type 0} (watcher : Watcher S) (marks : ℕ) (table : List Row) where
   -- a call with its stops
   abbrev pub watched_call : ℕ → Machine S → Machine S
   watched_call pid m =
-      let entered = watcher.entry m.watcher (calling pid m.state) in
-      after_plain watcher pid (plain_call table pid entered.1.state) entered.0 m.status
+      let entered = watcher.entry m.watcher (calling marks pid m.state) in
+      after_plain watcher pid (plain_call table pid entered.1.state) entered.0
+      (with_broken (plain_rule marks table pid (lacks_in marks pid m.state) entered.1.state) m.tally)
 
   abbrev pub after_event : ℕ → Event → Machine S → Machine S
-  after_event pid Next m = m
+  after_event pid Next m = record { state = m.state; watcher = m.watcher; tally = with_broken (idle_rule marks table pid false m.state) m.tally }
   after_event pid Call m = watched_call pid m
-  after_event pid (Killed signal) m = record { state = killed pid signal m.state; watcher = watcher.gone m.watcher pid; status = 128 + signal }
+  after_event pid (Killed signal) m = record {
+    state = killed pid signal m.state;
+    watcher = watcher.gone m.watcher pid;
+    tally = with_status (128 + signal) (with_broken (killed_rule marks table pid signal m.state) m.tally);
+  }
 
   abbrev pub turn_of : ℕ → Process ℕ Image → Machine S → Machine S
   turn_of fuel p m =
       let end = ran fuel p.image.regs p.image.memory in
-      after_event p.pid end.event (record { state = computed p.pid end.regs end.memory m.state; watcher = m.watcher; status = m.status })
+      after_event p.pid end.event (record { state = computed p.pid end.regs end.memory m.state; watcher = m.watcher; tally = m.tally })
 
   -- where none is ready nothing changes
   abbrev pub by_pick : ℕ → Option (Process ℕ Image) → Machine S → Machine S
@@ -90,41 +107,44 @@ module _ {S : Type 0} (watching : Watching S) where
   IsBorn pid None x y = y ≡ x
   IsBorn pid (Some child) x y = watching.bears x pid child y
 
-  pub record Exits (t : Stopped) (x : S) (status : ℕ) (m : Machine S) : Type 0 where
+  pub record Exits (t : Stopped) (x : S) (tally : Tally) (m : Machine S) : Type 0 where
     pub left : Stopped
     pub exits : watching.exits x t m.watcher left
     pub state : m.state ≡ left.state
-    pub same : m.status ≡ status
+    pub same : m.tally ≡ tally
 
-  abbrev pub ExitsIfAny : Stopped → S → ℕ → Machine S → Option (Process ℕ Image) → Type 0
-  ExitsIfAny t x status m None = m ≡ record { state = t.state; watcher = x; status = status }
-  ExitsIfAny t x status m (Some p) = Exits t x status m
+  abbrev pub ExitsIfAny : Stopped → S → Tally → Machine S → Option (Process ℕ Image) → Type 0
+  ExitsIfAny t x tally m None = m ≡ record { state = t.state; watcher = x; tally = tally }
+  ExitsIfAny t x tally m (Some p) = Exits t x tally m
 
-  abbrev pub Leaves : ℕ → CallEnd → Stopped → S → ℕ → Machine S → Type 0
-  Leaves pid end.Answered t x status m = ExitsIfAny t x status m (process pid t.state)
-  Leaves pid end.Replaced t x status m = ExitsIfAny t x status m (process pid t.state)
-  Leaves pid end.Waits t x status m = m ≡ record { state = t.state; watcher = x; status = status }
-  Leaves pid (end.Ended told) t x status m = (m.state ≡ t.state) × watching.forgets x pid m.watcher × (m.status ≡ told)
+  abbrev pub Leaves : ℕ → CallEnd → Stopped → S → Tally → Machine S → Type 0
+  Leaves pid end.Answered t x tally m = ExitsIfAny t x tally m (process pid t.state)
+  Leaves pid end.Replaced t x tally m = ExitsIfAny t x tally m (process pid t.state)
+  Leaves pid end.Waits t x tally m = m ≡ record { state = t.state; watcher = x; tally = tally }
+  Leaves pid (end.Ended told) t x tally m = (m.state ≡ t.state) × watching.forgets x pid m.watcher × (m.tally ≡ with_status told tally)
 
   -- behind the first stop
-  pub record IsAfterPlain (pid : ℕ) (came : Came) (x : S) (status : ℕ) (m : Machine S) : Type 0 where
+  pub record IsAfterPlain (pid : ℕ) (came : Came) (x : S) (tally : Tally) (m : Machine S) : Type 0 where
     pub bearing : S
     pub born : IsBorn pid came.child x bearing
-    pub leaves : Leaves pid came.end (called pid came) bearing status m
+    pub leaves : Leaves pid came.end (called pid came) bearing tally m
 
-module _ {S : Type 0} (watching : Watching S) (table : List Row) where
+module _ {S : Type 0} (watching : Watching S) (marks : ℕ) (table : List Row) where
   pub record IsWatchedCall (pid : ℕ) (old new : Machine S) : Type 0 where
     pub entering : S
     pub entered : Stopped
-    pub enters : watching.enters old.watcher (calling pid old.state) entering entered
-    pub after : IsAfterPlain watching pid (plain_call table pid entered.state) entering old.status new
+    pub enters : watching.enters old.watcher (calling marks pid old.state) entering entered
+    pub after : IsAfterPlain watching pid (plain_call table pid entered.state) entering
+        (with_broken (plain_rule marks table pid (lacks_in marks pid old.state) entered.state) old.tally) new
 
   abbrev pub IsAfterEvent : ℕ → Event → Machine S → Machine S → Type 0
-  IsAfterEvent pid Next old new = new ≡ old
+  IsAfterEvent pid Next old new = new ≡ record { state = old.state; watcher = old.watcher; tally = with_broken (idle_rule marks table pid false old.state) old.tally }
   IsAfterEvent pid Call old new = IsWatchedCall pid old new
-  IsAfterEvent pid (Killed signal) old new = (new.state ≡ killed pid signal old.state) × watching.forgets old.watcher pid new.watcher × (new.status ≡ 128 + signal)
+  IsAfterEvent pid (Killed signal) old new =
+      (new.state ≡ killed pid signal old.state) × watching.forgets old.watcher pid new.watcher
+      × (new.tally ≡ with_status (128 + signal) (with_broken (killed_rule marks table pid signal old.state) old.tally))
 
   abbrev pub IsTurnOf : ℕ → Process ℕ Image → Machine S → Machine S → Type 0
   IsTurnOf fuel p old new =
       let end = ran fuel p.image.regs p.image.memory in
-      IsAfterEvent p.pid end.event (record { state = computed p.pid end.regs end.memory old.state; watcher = old.watcher; status = old.status }) new
+      IsAfterEvent p.pid end.event (record { state = computed p.pid end.regs end.memory old.state; watcher = old.watcher; tally = old.tally }) new

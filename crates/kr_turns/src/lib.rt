@@ -3,8 +3,10 @@
 
 mod editing;
 mod here;
+mod judging;
 pub mod laws;
 mod plain;
+mod shelving;
 mod stops;
 mod tracee;
 mod turn;
@@ -12,4 +14,4 @@ mod turn;
 pub use plain::{CallEnd, Plain, plain_call};
 pub use stops::{Stops, Unwatched};
 pub use tracee::Tracee;
-pub use turn::make_turn;
+pub use turn::{Made, make_turn};

@@ -1,7 +1,9 @@
 //! A call as the kernel carries it out.
-ghost use Rattle.std.specs.Prelude.{◌≡◌, ◌≢◌, ◌+◌, ◌<◌, ◌^◌, ℕ, suc, List, false, Ok, IfOk, IfSome, IsSome, OnOk};
+ghost use Rattle.std.specs.Prelude.{◌≡◌, ◌≢◌, ◌+◌, ◌<◌, ◌^◌, ◌||◌, ℕ, suc, List, length, false, Ok, IfOk, IfSome, IsSome, OnOk};
 ghost use Rattle.kr_allowed.specs.Calls.{HasTextPaths, IsGivable};
 ghost use Rattle.kr_allowed.specs.Told.{SourcesAreNamed};
+ghost use Rattle.kr_answers.specs.Carrying.{memory_of};
+ghost use Rattle.kr_turns.specs.Breaking.{nothing_reached, plain_rule, requested_rule, rule_told};
 ghost use Rattle.kr_calling.specs.Calling.{MayCall, Runs};
 ghost use Rattle.kr_lasting.specs.Texts.{IsText};
 ghost use Rattle.kr_model.specs.State.{process};
@@ -21,6 +23,7 @@ ghost use Rattle.kr_view.specs.View.{Row, is_root_place};
 ghost use Rattle.kr_turns.specs.PlainCall.{child_of, end_of, executed, leads_to_root, plain_call, plain_reach, refusal_told, request_reach, requested, status_told};
 ghost use Rattle.kr_calls.specs.declared.request.Request.TheVariants.{Execve as ExecveRequest};
 
+use crate::judging::{NOTHING, idle_rule, judge_call, look_ahead, rule_of};
 use kr_calling::carry_out_along;
 use kr_calls::{CallFault, Request};
 use kr_execve::{Executed, execute};
@@ -58,33 +61,39 @@ pub struct Plain {
     pub child: Option<u32>,
     /// Whether its first path led to the root of the view. That of execve(2) isn't told.
     pub at_root: bool,
+    /// What its walks reached.
+    pub reach: Reach,
+    /// The smallest calm rule that it broke. Where marks aren't kept none is.
+    pub broken: Option<u8>,
 }
 
 /// Carries out the call at which a living process stands: what it asks for is decoded from its registers and its memory, its paths are
-/// walked, its row is carried out or the new program is put in place, and the caller is told the answer where it goes on. What the
-/// walks reach is added to `reach`. After want of memory the state may only be dropped.
+/// walked, its row is carried out or the new program is put in place, and the caller is told the answer where it goes on. `no_shelf`
+/// tells that it has a path and no shelf. After want of memory the state may only be dropped.
 pub fn plain_call<P: Places, const M: u8>(
     alloc: Global,
     places: &P,
     state: &mut State<P::Mount, M>,
     pid: u32,
-    reach: &mut Reach,
+    no_shelf: bool,
 ) -> Result<Plain, NoMemory>
     requires named { SourcesAreNamed (P.mounts places.now) }
+    requires few_rows { length (P.mounts places.now) < 2 ^ 32 }
     requires may { MayCall P.number (P.mounts places.now) state.old }
     requires lives { IsSome (process pid (meaning state.old)) }
     requires behind { IfSome (process pid (meaning state.old)) (λ p. p.image.regs.pc + 4 < 2 ^ 64) }
     ensures came { IfOk result (λ plain. came_to P.number state.new plain ≡ plain_call (P.mounts places.now) pid (state_numbered P.number (meaning state.old))) }
-    ensures reach { OnOk result (reach.new ≡ plain_reach (P.mounts places.now) pid (state_numbered P.number (meaning state.old)) reach.old) }
+    ensures reach { IfOk result (λ plain. plain.reach ≡ plain_reach (P.mounts places.now) pid (state_numbered P.number (meaning state.old)) nothing_reached) }
+    ensures rule { IfOk result (λ plain. plain.broken ≡ plain_rule M (P.mounts places.now) pid no_shelf (state_numbered P.number (meaning state.old))) }
     ensures runs { OnOk result ((calls : ℕ) → calls < 2 ^ 31 → Runs P.number (P.mounts places.now) calls state.old → Runs P.number (P.mounts places.now) (suc calls) state.new) }
 {
     lawful_states_are_sound::<P::Mount, M>();
     let request = match request(state, pid) {
         Ok(request) => request,
-        Err(CallFault::Err(errno)) => return Ok(refuse(state, pid, errno)),
+        Err(CallFault::Err(errno)) => return Ok(refuse(state, pid, errno, no_shelf, NOTHING)),
         Err(CallFault::NoMemory) => return Err(NoMemory),
     };
-    carry_request(alloc, places, state, pid, &request, reach)
+    carry_request(alloc, places, state, pid, &request, no_shelf)
 }
 
 /// Carries out what a living process asks for.
@@ -94,16 +103,18 @@ fn carry_request<P: Places, const M: u8>(
     state: &mut State<P::Mount, M>,
     pid: u32,
     request: &Request,
-    reach: &mut Reach,
+    no_shelf: bool,
 ) -> Result<Plain, NoMemory>
     requires given { IsGivable request.now }
     requires paths { HasTextPaths request.now }
     requires named { SourcesAreNamed (P.mounts places.now) }
+    requires few_rows { length (P.mounts places.now) < 2 ^ 32 }
     requires may { MayCall P.number (P.mounts places.now) state.old }
     requires lives { IsSome (process pid (meaning state.old)) }
     requires behind { IfSome (process pid (meaning state.old)) (λ p. p.image.regs.pc + 4 < 2 ^ 64) }
     ensures came { IfOk result (λ plain. came_to P.number state.new plain ≡ requested (P.mounts places.now) pid request.now (state_numbered P.number (meaning state.old))) }
-    ensures reach { OnOk result (reach.new ≡ request_reach (P.mounts places.now) pid request.now (state_numbered P.number (meaning state.old)) reach.old) }
+    ensures reach { IfOk result (λ plain. plain.reach ≡ request_reach (P.mounts places.now) pid request.now (state_numbered P.number (meaning state.old)) nothing_reached) }
+    ensures rule { IfOk result (λ plain. plain.broken ≡ requested_rule M (P.mounts places.now) pid no_shelf request.now (state_numbered P.number (meaning state.old))) }
     ensures runs { OnOk result ((calls : ℕ) → calls < 2 ^ 31 → Runs P.number (P.mounts places.now) calls state.old → Runs P.number (P.mounts places.now) (suc calls) state.new) }
 {
     match request {
@@ -116,10 +127,10 @@ fn carry_request<P: Places, const M: u8>(
                 path.as_slice(),
                 *args,
                 *env,
-                reach,
+                no_shelf,
             )
         }
-        _ => operate(alloc, places, state, pid, request, reach),
+        _ => operate(alloc, places, state, pid, request, no_shelf),
     }
 }
 
@@ -132,27 +143,32 @@ fn replace<P: Places, const M: u8>(
     path: &[u8],
     args: u64,
     env: u64,
-    reach: &mut Reach,
+    no_shelf: bool,
 ) -> Result<Plain, NoMemory>
     requires text { IsText path.now }
     requires bytes { AreBytes path.now }
     requires named { SourcesAreNamed (P.mounts places.now) }
+    requires few_rows { length (P.mounts places.now) < 2 ^ 32 }
     requires may { MayCall P.number (P.mounts places.now) state.old }
     requires lives { IsSome (process pid (meaning state.old)) }
     ensures came { IfOk result (λ plain. came_to P.number state.new plain ≡ executed (P.mounts places.now) pid path.now args env (state_numbered P.number (meaning state.old))) }
-    ensures reach { OnOk result (reach.new ≡ request_reach (P.mounts places.now) pid (ExecveRequest path.now args env) (state_numbered P.number (meaning state.old)) reach.old) }
+    ensures reach { IfOk result (λ plain. plain.reach ≡ request_reach (P.mounts places.now) pid (ExecveRequest path.now args env) (state_numbered P.number (meaning state.old)) nothing_reached) }
+    ensures rule { IfOk result (λ plain. plain.broken ≡ requested_rule M (P.mounts places.now) pid no_shelf (ExecveRequest path.now args env) (state_numbered P.number (meaning state.old))) }
     ensures runs { OnOk result ((calls : ℕ) → Runs P.number (P.mounts places.now) calls state.old → Runs P.number (P.mounts places.now) (suc calls) state.new) }
 {
-    match execute(alloc, places, state, pid, path, args, env, reach) {
-        Executed::Replaced => {
+    let mut reach = NOTHING;
+    match execute(alloc, places, state, pid, path, args, env, &mut reach) {
+        Executed::Replaced { marks_read } => {
             resume(state, pid);
             Ok(Plain {
                 end: CallEnd::Replaced,
                 child: None,
                 at_root: false,
+                reach,
+                broken: rule_of::<M>(marks_read, no_shelf, false, None, &reach),
             })
         }
-        Executed::Refused(errno) => Ok(refuse(state, pid, errno)),
+        Executed::Refused(errno) => Ok(refuse(state, pid, errno, no_shelf, reach)),
         Executed::NoMemory => Err(NoMemory),
     }
 }
@@ -164,47 +180,65 @@ fn operate<P: Places, const M: u8>(
     state: &mut State<P::Mount, M>,
     pid: u32,
     request: &Request,
-    reach: &mut Reach,
+    no_shelf: bool,
 ) -> Result<Plain, NoMemory>
     requires kind { IsNoExec request.now }
     requires given { IsGivable request.now }
     requires paths { HasTextPaths request.now }
     requires named { SourcesAreNamed (P.mounts places.now) }
+    requires few_rows { length (P.mounts places.now) < 2 ^ 32 }
     requires may { MayCall P.number (P.mounts places.now) state.old }
     requires lives { IsSome (process pid (meaning state.old)) }
     requires behind { IfSome (process pid (meaning state.old)) (λ p. p.image.regs.pc + 4 < 2 ^ 64) }
     ensures came { IfOk result (λ plain. came_to P.number state.new plain ≡ requested (P.mounts places.now) pid request.now (state_numbered P.number (meaning state.old))) }
-    ensures reach { OnOk result (reach.new ≡ request_reach (P.mounts places.now) pid request.now (state_numbered P.number (meaning state.old)) reach.old) }
+    ensures reach { IfOk result (λ plain. plain.reach ≡ request_reach (P.mounts places.now) pid request.now (state_numbered P.number (meaning state.old)) nothing_reached) }
+    ensures rule { IfOk result (λ plain. plain.broken ≡ requested_rule M (P.mounts places.now) pid no_shelf request.now (state_numbered P.number (meaning state.old))) }
     ensures runs { OnOk result ((calls : ℕ) → calls < 2 ^ 31 → Runs P.number (P.mounts places.now) calls state.old → Runs P.number (P.mounts places.now) (suc calls) state.new) }
 {
-    let targets = match walk_paths(alloc, places, state, pid, request, reach) {
+    let mut reach = NOTHING;
+    let targets = match walk_paths(alloc, places, state, pid, request, &mut reach) {
         Ok(targets) => targets,
-        Err(WalkFault::Err(errno)) => return Ok(refuse(state, pid, errno)),
+        Err(WalkFault::Err(errno)) => return Ok(refuse(state, pid, errno, no_shelf, reach)),
         Err(WalkFault::NoMemory) => return Err(NoMemory),
     };
     let at_root = leads_to_root(places, &targets);
     let next = state.next_pid;
+    let ahead = look_ahead(places, state, pid, request, &targets);
     let outcome = carry_out_along(alloc, places, state, pid, request, &targets);
     let child = child_of(next, request, outcome);
+    let broken = judge_call(state, pid, ahead, no_shelf, &reach, outcome);
     let end = settle(state, pid, request, outcome)?;
     Ok(Plain {
         end,
         child,
         at_root,
+        reach,
+        broken,
     })
 }
 
-/// Tells a process that its call is refused.
-fn refuse<T: Copy, const M: u8>(state: &mut State<T, M>, pid: u32, errno: Errno) -> Plain
+/// Tells a living process that its call is refused, whose walks reached so much.
+fn refuse<T: Copy, const M: u8>(
+    state: &mut State<T, M>,
+    pid: u32,
+    errno: Errno,
+    no_shelf: bool,
+    reach: Reach,
+) -> Plain
     requires { IsSound state.old }
+    ensures reach { result.reach ≡ reach }
+    ensures rule { result.broken ≡ rule_told M ((memory_of pid (meaning state.old)).read_marked || no_shelf) false None reach }
     ensures came { (number : T → ℕ) → came_to number state.new result ≡ refusal_told pid errno (state_numbered number (meaning state.old)) }
     ensures runs { (number : T → ℕ) (table : List Row) (calls : ℕ) → Runs number table calls state.old → Runs number table calls state.new }
 {
+    let broken = idle_rule(state, pid, no_shelf, &reach);
     answer(state, pid, -i64::from(errno.number()));
     Plain {
         end: CallEnd::Answered,
         child: None,
         at_root: false,
+        reach,
+        broken,
     }
 }
 

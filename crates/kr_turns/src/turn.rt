@@ -1,5 +1,5 @@
 //! A turn of a process.
-ghost use Rattle.std.specs.Prelude.{◌<◌, ◌^◌, ◌+◌, ℕ, suc, false, IfOk, IfSome, IsSome, OnOk};
+ghost use Rattle.std.specs.Prelude.{◌<◌, ◌^◌, ◌+◌, ℕ, suc, false, length, IfOk, IfSome, IsSome, OnOk};
 ghost use Rattle.kr_allowed.specs.Told.{SourcesAreNamed};
 ghost use Rattle.kr_calling.specs.Calling.{Runs};
 ghost use Rattle.kr_model.specs.State.{process};
@@ -10,18 +10,30 @@ ghost use Rattle.kr_turns.specs.Stopped.{IsEdited};
 ghost use Rattle.kr_turns.specs.Turn.{IsBorn};
 
 use crate::here::Here;
+use crate::judging::{NOTHING, idle_rule, killed_rule};
 use crate::plain::{CallEnd, Plain, plain_call};
+use crate::shelving::shelve;
 use crate::stops::Stops;
+use kr_execve::marks_read;
 use kr_ops::State;
 use kr_ops::laws::lawful_states_are_sound;
 use kr_steps::{compute, kill};
-use kr_view::{Places, Reach};
+use kr_view::Places;
 use pr_base::NoMemory;
 use rv_cpu::Event;
 use std::alloc::Global;
 
-/// Makes a turn of a living process, of so many instructions at most. Tells the status of a process that ended. After want of memory
-/// the state and the watcher may only be dropped.
+/// What a turn told.
+#[derive(Clone, Copy)]
+pub struct Made {
+    /// The status of a process that ended: its exit code, or 128 and the number of the signal that killed it.
+    pub status: Option<u8>,
+    /// The smallest calm rule that the turn broke. Where marks aren't kept none is.
+    pub broken: Option<u8>,
+}
+
+/// Makes a turn of a living process, of so many instructions at most. After want of memory the state and the watcher may only be
+/// dropped.
 pub fn make_turn<P: Places, S: Stops, const M: u8>(
     alloc: Global,
     places: &P,
@@ -30,24 +42,31 @@ pub fn make_turn<P: Places, S: Stops, const M: u8>(
     calls: u32,
     pid: u32,
     fuel: u32,
-    reach: &mut Reach,
-) -> Result<Option<u8>, NoMemory>
+) -> Result<Made, NoMemory>
     requires named { SourcesAreNamed (P.mounts places.now) }
+    requires few_rows { length (P.mounts places.now) < 2 ^ 32 }
     requires runs { Runs P.number (P.mounts places.now) calls state.old }
     requires few { calls < 2 ^ 31 }
     requires lives { IsSome (process pid (meaning state.old)) }
-    ensures turn { IfOk result (λ told. IsTurnMade (watching S.enters S.exits S.bears S.forgets) P.number (P.mounts places.now) fuel pid state.old stops.old state.new stops.new told) }
+    ensures turn { IfOk result (λ made. IsTurnMade (watching S.enters S.exits S.bears S.forgets) P.number (P.mounts places.now) fuel pid state.old stops.old state.new stops.new made) }
     ensures runs { OnOk result (Runs P.number (P.mounts places.now) (suc calls) state.new) }
 {
     lawful_states_are_sound::<P::Mount, M>();
     let (event, _done) = compute(state, pid, fuel)?;
     match event {
-        Event::Next => Ok(None),
-        Event::Call => make_call(alloc, places, stops, state, calls, pid, reach),
+        Event::Next => Ok(Made {
+            status: None,
+            broken: idle_rule(state, pid, false, &NOTHING),
+        }),
+        Event::Call => make_call(alloc, places, stops, state, calls, pid),
         Event::Killed(signal) => {
+            let read = marks_read(state, pid);
             kill(state, pid, signal)?;
             stops.gone(pid);
-            Ok(Some(128 + signal))
+            Ok(Made {
+                status: Some(128 + signal),
+                broken: killed_rule(state, pid, read),
+            })
         }
     }
 }
@@ -60,20 +79,26 @@ fn make_call<P: Places, S: Stops, const M: u8>(
     state: &mut State<P::Mount, M>,
     calls: u32,
     pid: u32,
-    reach: &mut Reach,
-) -> Result<Option<u8>, NoMemory>
+) -> Result<Made, NoMemory>
     requires named { SourcesAreNamed (P.mounts places.now) }
+    requires few_rows { length (P.mounts places.now) < 2 ^ 32 }
     requires runs { Runs P.number (P.mounts places.now) calls state.old }
     requires few { calls < 2 ^ 31 }
     requires lives { IsSome (process pid (meaning state.old)) }
     requires behind { IfSome (process pid (meaning state.old)) (λ p. p.image.regs.pc + 4 < 2 ^ 64) }
-    ensures call { IfOk result (λ told. IsCallMade (watching S.enters S.exits S.bears S.forgets) P.number (P.mounts places.now) pid state.old stops.old state.new stops.new told) }
+    ensures call { IfOk result (λ made. IsCallMade (watching S.enters S.exits S.bears S.forgets) P.number (P.mounts places.now) pid state.old stops.old state.new stops.new made) }
     ensures runs { OnOk result (Runs P.number (P.mounts places.now) (suc calls) state.new) }
 {
+    lawful_states_are_sound::<P::Mount, M>();
+    let no_shelf = shelve(state, pid);
     enter(alloc, places, stops, state, calls, pid)?;
-    let plain = plain_call(alloc, places, state, pid, reach)?;
+    let plain = plain_call(alloc, places, state, pid, no_shelf)?;
     bear(stops, pid, plain.child)?;
-    leave(alloc, places, stops, state, calls + 1, pid, plain)
+    let status = leave(alloc, places, stops, state, calls + 1, pid, plain)?;
+    Ok(Made {
+        status,
+        broken: plain.broken,
+    })
 }
 
 /// Tells the watcher of a child, if one was made.

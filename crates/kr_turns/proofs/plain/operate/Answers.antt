@@ -1,14 +1,28 @@
-use Rattle.std.proofs.Common.{lit<, Err, ap, subst, ◌∙◌}
+use Rattle.std.proofs.Common.{lit<, Err, sym, ap, subst, false, None, ◌||◌, ◌∙◌}
+use Rattle.rv_mem.specs.Memory.{Memory}
+use Rattle.kr_view.specs.declared.target.Reach.{Reach}
 use Rattle.kr_view.specs.declared.target.WalkFault.{WalkFault}
 use Rattle.kr_model.specs.Walks.{targets_of}
 use Rattle.kr_ops.specs.Meaning.{meaning}
 use Rattle.kr_ops.proofs.UseLemmas.{sound-of}
 use Rattle.kr_procview.specs.Numbered.{state_numbered}
-use Rattle.kr_paths.specs.CallWalks.{AreTargets}
+use Rattle.kr_paths.specs.CallWalks.{AreTargets, IsReachedTo, call_reach}
+use Rattle.kr_paths.specs.declared.walks.Targets.{Targets}
+use Rattle.kr_calling.specs.Calling.{MayCall}
 use Rattle.kr_calling.proofs.CallLemmas.{runs-later}
+use Rattle.kr_turns.specs.Breaking.{nothing_reached, rule_told}
+use Rattle.kr_turns.specs.Looking.{judged}
 use Rattle.kr_turns.specs.PlainCall.{refusal_told}
-use Rattle.kr_turns.proofs.PlainLemmas.{came-refused, no-exec-reach, no-exec-requested, operated-now}
+use Rattle.kr_turns.proofs.BreakLemmas.{real-points, refused-told}
+use Rattle.kr_turns.proofs.NotedLemmas.{along-kept, behind-kept, called-kept, lives-kept, runs-kept}
+use Rattle.kr_turns.proofs.NumberLemmas.{memory-numbered}
+use Rattle.kr_turns.proofs.PlainLemmas.{came-refused, lives-shown, no-exec-reach, no-exec-requested, no-exec-rule, operated-now, outcome-told, row-left}
 use Rattle.kr_turns.proofs.plain.operate.Goals as goal
+
+pub refuse-requires : goal.refuse-requires
+refuse-requires g c =
+    let runs = c.requires.may.runs in
+    (lit< tt, sound-of g.P.Places.number (g.P.Places.mounts c.args.places.now) c.args.state.now runs.lasts.lawful runs.served)
 
 pub returns-in-Err-Err-clause-came : goal.returns-in-Err-Err-clause-came
 returns-in-Err-Err-clause-came g c =
@@ -20,31 +34,138 @@ returns-in-Err-Err-clause-came g c =
     (c.refuse.ensures.came number ∙ ap (λ e. refusal_told c.args.pid e (state_numbered number (meaning s))) c.in-Err-Err.errno-is)
     ∙ no-exec-requested table c.args.pid (state_numbered number (meaning s)) c.args.request.now c.requires.kind
 
+pub returns-in-Err-Err-clause-reach : goal.returns-in-Err-Err-clause-reach
+returns-in-Err-Err-clause-reach g c =
+    let number = g.P.Places.number in
+    let table = g.P.Places.mounts c.args.places.now in
+    let s = state_numbered number (meaning c.args.state.now) in
+    c.refuse.ensures.reach
+    ∙ subst (λ (f : WalkFault). IsReachedTo {T = Targets g.row.P-Mount.Denot} (call_reach table c.args.pid s c.args.request.now nothing_reached) nothing_reached c.walk_paths.new.reach (Err f)) c.in-Err-Err.field-0-is c.in-Err-Err.ensures.reach
+    ∙ no-exec-reach table c.args.pid s nothing_reached c.args.request.now c.requires.kind
+
+pub returns-in-Err-Err-clause-rule : goal.returns-in-Err-Err-clause-rule
+returns-in-Err-Err-clause-rule g c =
+    let number = g.P.Places.number in
+    let table = g.P.Places.mounts c.args.places.now in
+    let s = state_numbered number (meaning c.args.state.now) in
+    let fails = subst (λ (f : WalkFault). AreTargets number (targets_of table c.args.pid s c.args.request.now) (Err f)) c.in-Err-Err.field-0-is c.in-Err-Err.ensures.answer in
+    let reaches =
+    subst (λ (f : WalkFault). IsReachedTo {T = Targets g.row.P-Mount.Denot} (call_reach table c.args.pid s c.args.request.now nothing_reached) nothing_reached c.walk_paths.new.reach (Err f)) c.in-Err-Err.field-0-is c.in-Err-Err.ensures.reach
+    in
+    c.refuse.ensures.rule
+    ∙ ap (λ (m : Memory). rule_told g.row.M (m.read_marked || c.args.no_shelf) false None c.walk_paths.new.reach) (sym (memory-numbered number c.args.pid (meaning c.args.state.now)))
+    ∙ refused-told g.row.M table c.args.pid c.args.no_shelf s c.args.request.now c.in-Err-Err.errno fails c.walk_paths.new.reach reaches
+    ∙ no-exec-rule g.row.M table c.args.pid c.args.no_shelf s c.args.request.now c.requires.kind
+
 pub returns-in-Err-Err-clause-runs : goal.returns-in-Err-Err-clause-runs
 returns-in-Err-Err-clause-runs g c = λ calls few runs. runs-later _ _ calls c.refuse.new.state (c.refuse.ensures.runs _ _ calls runs)
 
-pub settle-requires : goal.settle-requires
-settle-requires g c =
-    let may = c.requires.may in (
+pub look_ahead-ahead-requires : goal.look_ahead-ahead-requires
+look_ahead-ahead-requires g c =
+    let number = g.P.Places.number in
+    let table = g.P.Places.mounts c.args.places.now in
+    let runs = c.requires.may.runs in
+    let lawful = runs.lasts.lawful in (
+      lit< tt,
+      (real-points c.args.state.now.tree table lawful.tree lawful.mounts, (c.requires.few_rows, (sound-of number table c.args.state.now lawful runs.served, (c.requires.lives, c.in-Ok.ensures.answer)))),
+    )
+
+pub carry_out_along-outcome-requires : goal.carry_out_along-outcome-requires
+carry_out_along-outcome-requires g c =
+    let number = g.P.Places.number in
+    let table = g.P.Places.mounts c.args.places.now in
+    let old = c.args.state.now in
+    let mid = c.look_ahead-ahead.new.state in
+    let r = c.args.request.now in
+    let noted = c.look_ahead-ahead.ensures.noted in
+    let before = c.requires.may in
+    let pids = before.runs.lasts.lawful.pids in
+    let may : MayCall number table mid = record { calls = before.calls; few = before.few; runs = runs-kept number table c.args.pid old mid r noted c.requires.lives before.calls before.runs } in (
+      lit< tt,
+      (
+        c.requires.kind,
+        (
+          c.requires.given,
+          (
+            c.requires.paths,
+            (
+              c.requires.named,
+              (
+                may,
+                (
+                  lives-kept number table c.args.pid old mid r noted c.requires.lives,
+                  (
+                    behind-kept number table c.args.pid old mid r pids noted c.requires.behind,
+                    along-kept number table c.args.pid old mid r pids noted c.in-Ok.targets c.in-Ok.ensures.answer,
+                  ),
+                ),
+              ),
+            ),
+          ),
+        ),
+      ),
+    )
+
+pub judge_call-broken-requires : goal.judge_call-broken-requires
+judge_call-broken-requires g c =
+    let number = g.P.Places.number in
+    let table = g.P.Places.mounts c.args.places.now in
+    let may = c.requires.may in
+    let mid-runs = runs-kept number table c.args.pid c.args.state.now c.look_ahead-ahead.new.state c.args.request.now c.look_ahead-ahead.ensures.noted c.requires.lives may.calls may.runs in (
       lit< tt,
       λ wanted.
-          let runs = c.carry_out_along-outcome.ensures.runs may.calls may.few may.runs wanted in
-          sound-of g.P.Places.number (g.P.Places.mounts c.args.places.now) c.carry_out_along-outcome.new.state runs.lasts.lawful runs.served,
+          let runs = c.carry_out_along-outcome.ensures.runs may.calls may.few mid-runs wanted in
+          sound-of number table c.carry_out_along-outcome.new.state runs.lasts.lawful runs.served,
+    )
+
+pub settle-requires : goal.settle-requires
+settle-requires g c =
+    let number = g.P.Places.number in
+    let table = g.P.Places.mounts c.args.places.now in
+    let may = c.requires.may in
+    let mid-runs = runs-kept number table c.args.pid c.args.state.now c.look_ahead-ahead.new.state c.args.request.now c.look_ahead-ahead.ensures.noted c.requires.lives may.calls may.runs in (
+      lit< tt,
+      λ wanted.
+          let runs = c.carry_out_along-outcome.ensures.runs may.calls may.few mid-runs wanted in
+          sound-of number table c.carry_out_along-outcome.new.state runs.lasts.lawful runs.served,
     )
 
 pub returns-clause-came : goal.returns-clause-came
 returns-clause-came g c =
     let number = g.P.Places.number in
     let table = g.P.Places.mounts c.args.places.now in
-    operated-now number table c.args.pid c.args.request.now c.args.state.now c.carry_out_along-outcome.new.state c.carry_out_along-outcome.result
-    (c.carry_out_along-outcome.ensures.called c.in_ok-end.ensures.want) c.settle.new.state _ c.in_ok-end.ensures.settles c.in_ok-end.ensures.end c.child_of-child.ensures
+    let old = c.args.state.now in
+    let after = c.carry_out_along-outcome.new.state in
+    let called = called-kept number table c.args.pid old c.look_ahead-ahead.new.state c.args.request.now c.requires.may.runs.lasts.lawful.pids c.look_ahead-ahead.ensures.noted after c.carry_out_along-outcome.result (c.carry_out_along-outcome.ensures.called c.in_ok-end.ensures.want) in
+    operated-now number table c.args.pid c.args.request.now old after c.carry_out_along-outcome.result called c.settle.new.state
+    (record { end = c.in_ok-end.end; child = c.child_of-child.result; at_root = c.leads_to_root-at_root.result; reach = c.walk_paths.new.reach; broken = c.judge_call-broken.result })
+    c.in_ok-end.ensures.settles c.in_ok-end.ensures.end c.child_of-child.ensures
     (c.leads_to_root-at_root.ensures _ c.in-Ok.ensures.answer)
-    ∙ no-exec-requested table c.args.pid (state_numbered number (meaning c.args.state.now)) c.args.request.now c.requires.kind
+    ∙ no-exec-requested table c.args.pid (state_numbered number (meaning old)) c.args.request.now c.requires.kind
 
 pub returns-clause-reach : goal.returns-clause-reach
 returns-clause-reach g c =
     c.in-Ok.ensures.reach
-    ∙ no-exec-reach (g.P.Places.mounts c.args.places.now) c.args.pid (state_numbered g.P.Places.number (meaning c.args.state.now)) c.args.reach.now c.args.request.now c.requires.kind
+    ∙ no-exec-reach (g.P.Places.mounts c.args.places.now) c.args.pid (state_numbered g.P.Places.number (meaning c.args.state.now)) nothing_reached c.args.request.now c.requires.kind
+
+pub returns-clause-rule : goal.returns-clause-rule
+returns-clause-rule g c =
+    let number = g.P.Places.number in
+    let table = g.P.Places.mounts c.args.places.now in
+    let old = c.args.state.now in
+    let s = state_numbered number (meaning old) in
+    let r = c.args.request.now in
+    let after = c.carry_out_along-outcome.new.state in
+    let wanted = c.in_ok-end.ensures.want in
+    let called = called-kept number table c.args.pid old c.look_ahead-ahead.new.state r c.requires.may.runs.lasts.lawful.pids c.look_ahead-ahead.ensures.noted after c.carry_out_along-outcome.result (c.carry_out_along-outcome.ensures.called wanted) in
+    c.judge_call-broken.ensures wanted number table r s c.look_ahead-ahead.ensures.ahead (lives-shown number c.args.pid old c.requires.lives) (outcome-told number table c.args.pid r old after c.carry_out_along-outcome.result called)
+    (row-left number table c.args.pid r old after c.carry_out_along-outcome.result called)
+    ∙ ap (λ (reach : Reach). judged g.row.M table c.args.pid r s c.args.no_shelf reach) c.in-Ok.ensures.reach
+    ∙ no-exec-rule g.row.M table c.args.pid c.args.no_shelf s r c.requires.kind
 
 pub returns-clause-runs : goal.returns-clause-runs
-returns-clause-runs g c = λ calls few runs. c.in_ok-end.ensures.runs _ _ _ (c.carry_out_along-outcome.ensures.runs calls few runs c.in_ok-end.ensures.want)
+returns-clause-runs g c = λ calls few runs.
+    let number = g.P.Places.number in
+    let table = g.P.Places.mounts c.args.places.now in
+    c.in_ok-end.ensures.runs _ _ _
+    (c.carry_out_along-outcome.ensures.runs calls few (runs-kept number table c.args.pid c.args.state.now c.look_ahead-ahead.new.state c.args.request.now c.look_ahead-ahead.ensures.noted c.requires.lives calls runs) c.in_ok-end.ensures.want)

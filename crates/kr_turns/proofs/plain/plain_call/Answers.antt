@@ -7,8 +7,9 @@ use Rattle.kr_procview.specs.Numbered.{state_numbered}
 use Rattle.kr_calling.specs.Calling.{MayCall}
 use Rattle.kr_calling.proofs.CallLemmas.{runs-later}
 use Rattle.kr_steps.specs.Computing.{Requests}
+use Rattle.kr_turns.specs.Breaking.{nothing_reached}
 use Rattle.kr_turns.specs.PlainCall.{refusal_told}
-use Rattle.kr_turns.proofs.PlainLemmas.{behind-mid, call-refused, carried-left, lives-mid, reach-carried, reach-refused}
+use Rattle.kr_turns.proofs.PlainLemmas.{behind-mid, call-refused, carried-left, if-ok, lives-mid, reach-carried, reach-refused, rule-carried, rule-refused}
 use Rattle.kr_turns.proofs.plain.plain_call.Goals as goal
 
 pub refuse-requires : goal.refuse-requires
@@ -31,7 +32,15 @@ returns-in-Err-Err-clause-reach g c =
     let table = g.P.Places.mounts c.args.places.now in
     let mid = c.request.new.state in
     let requested = subst (λ (f : CallFault). Requests c.args.pid c.args.state.now mid (Err f)) c.in-Err-Err.field-0-is c.in-Err-Err.ensures.requested in
-    reach-refused number table c.args.pid c.args.state.now mid _ requested c.in-Err-Err.errno requested.gives.0 c.args.reach.now
+    c.refuse.ensures.reach ∙ reach-refused number table c.args.pid c.args.state.now mid _ requested c.in-Err-Err.errno requested.gives.0 nothing_reached
+
+pub returns-in-Err-Err-clause-rule : goal.returns-in-Err-Err-clause-rule
+returns-in-Err-Err-clause-rule g c =
+    let number = g.P.Places.number in
+    let table = g.P.Places.mounts c.args.places.now in
+    let mid = c.request.new.state in
+    let requested = subst (λ (f : CallFault). Requests c.args.pid c.args.state.now mid (Err f)) c.in-Err-Err.field-0-is c.in-Err-Err.ensures.requested in
+    c.refuse.ensures.rule ∙ rule-refused number table c.args.pid c.args.state.now mid _ requested c.args.no_shelf c.in-Err-Err.errno requested.gives.0
 
 pub returns-in-Err-Err-clause-runs : goal.returns-in-Err-Err-clause-runs
 returns-in-Err-Err-clause-runs g c = λ calls few runs. runs-later _ _ calls c.refuse.new.state (c.refuse.ensures.runs _ _ calls (c.in-Err-Err.ensures.runs _ _ calls runs))
@@ -43,7 +52,7 @@ carry_request-requires g c =
     let mid = c.request.new.state in
     let requested = c.in-Ok.ensures.requested in
     let may : MayCall number table mid = record { calls = c.requires.may.calls; few = c.requires.may.few; runs = c.in-Ok.ensures.runs number table c.requires.may.calls c.requires.may.runs } in
-    (lit< tt, (c.in-Ok.ensures.given, (c.in-Ok.ensures.paths, (c.requires.named, (may, (lives-mid number table c.args.pid c.args.state.now mid _ requested, behind-mid number table c.args.pid c.args.state.now mid _ requested c.requires.behind))))))
+    (lit< tt, (c.in-Ok.ensures.given, (c.in-Ok.ensures.paths, (c.requires.named, (c.requires.few_rows, (may, (lives-mid number table c.args.pid c.args.state.now mid _ requested, behind-mid number table c.args.pid c.args.state.now mid _ requested c.requires.behind)))))))
 
 pub returns-clause-came : goal.returns-clause-came
 returns-clause-came g c =
@@ -57,7 +66,14 @@ returns-clause-reach g c =
     let number = g.P.Places.number in
     let table = g.P.Places.mounts c.args.places.now in
     let requested = c.in-Ok.ensures.requested in
-    on_ok_weaker c.carry_request.result (λ reaches. reach-carried number table c.args.pid c.args.state.now c.request.new.state _ requested c.in-Ok.request requested.gives.0 c.args.reach.now c.carry_request.new.reach reaches) c.carry_request.ensures.reach
+    if-ok c.carry_request.result (λ plain reaches. reach-carried number table c.args.pid c.args.state.now c.request.new.state _ requested c.in-Ok.request requested.gives.0 nothing_reached plain.reach reaches) c.carry_request.ensures.reach
+
+pub returns-clause-rule : goal.returns-clause-rule
+returns-clause-rule g c =
+    let number = g.P.Places.number in
+    let table = g.P.Places.mounts c.args.places.now in
+    let requested = c.in-Ok.ensures.requested in
+    if-ok c.carry_request.result (λ plain rule. rule-carried number table c.args.pid c.args.state.now c.request.new.state _ requested c.args.no_shelf c.in-Ok.request requested.gives.0 plain.broken rule) c.carry_request.ensures.rule
 
 pub returns-clause-runs : goal.returns-clause-runs
 returns-clause-runs g c = on_ok_weaker c.carry_request.result (λ h calls few runs. h calls few (c.in-Ok.ensures.runs _ _ calls runs)) c.carry_request.ensures.runs

@@ -1,10 +1,12 @@
-use Rattle.std.proofs.Common.{lit<, refl, sym, ap, ◌∙◌}
+use Rattle.std.proofs.Common.{None, false, lit<, refl, sym, ap, ◌∙◌}
 use Rattle.kr_ops.specs.Meaning.{meaning}
 use Rattle.kr_ops.proofs.UseLemmas.{sound-of}
 use Rattle.kr_procview.specs.Numbered.{state_numbered}
 use Rattle.kr_execve.specs.Execution.{execution_reach}
+use Rattle.kr_turns.specs.Breaking.{nothing_reached}
+use Rattle.kr_turns.specs.declared.plain.CallEnd.TheVariants as end
 use Rattle.kr_turns.proofs.NumberLemmas.{memory-numbered}
-use Rattle.kr_turns.proofs.PlainLemmas.{execution-left, refused-now, replaced-now}
+use Rattle.kr_turns.proofs.PlainLemmas.{execution-left, refused-now, refused-rule, replaced-now, replaced-rule}
 use Rattle.kr_turns.proofs.plain.replace.Goals as goal
 
 pub resume-requires : goal.resume-requires
@@ -24,7 +26,8 @@ returns-in-Replaced-clause-came g c =
     let number = g.P.Places.number in
     let table = g.P.Places.mounts c.args.places.now in
     let left = c.in-Replaced.ensures (λ e. absurd cc) in
-    replaced-now number table c.args.pid c.args.path.now c.args.args c.args.env c.args.state.now c.execute.new.state left.executed.told.0 c.resume.new.state _
+    replaced-now number table c.args.pid c.args.path.now c.args.args c.args.env c.args.state.now c.execute.new.state left.executed.told.0 c.resume.new.state
+    (record { end = end.Replaced; child = None; at_root = false; reach = c.execute.new.reach; broken = c.rule_of.result })
     (execution-left number table c.args.pid c.args.path.now c.args.args c.args.env c.args.state.now c.execute.new.state _ left.executed) left.executed.told.1 c.resume.ensures.resumes refl refl refl
 
 pub returns-in-Replaced-clause-reach : goal.returns-in-Replaced-clause-reach
@@ -33,7 +36,17 @@ returns-in-Replaced-clause-reach g c =
     let table = g.P.Places.mounts c.args.places.now in
     let s = meaning c.args.state.now in
     (c.in-Replaced.ensures (λ e. absurd cc)).reach
-    ∙ ap (λ m. execution_reach table c.args.pid (state_numbered number s) c.args.path.now c.args.args c.args.env m c.args.reach.now) (sym (memory-numbered number c.args.pid s))
+    ∙ ap (λ m. execution_reach table c.args.pid (state_numbered number s) c.args.path.now c.args.args c.args.env m nothing_reached) (sym (memory-numbered number c.args.pid s))
+
+pub returns-in-Replaced-clause-rule : goal.returns-in-Replaced-clause-rule
+returns-in-Replaced-clause-rule g c =
+    let number = g.P.Places.number in
+    let table = g.P.Places.mounts c.args.places.now in
+    let s = meaning c.args.state.now in
+    let left = c.in-Replaced.ensures (λ e. absurd cc) in
+    c.rule_of.ensures
+    ∙ replaced-rule number table c.args.pid c.args.path.now c.args.args c.args.env c.args.state.now c.execute.new.state c.args.no_shelf c.in-Replaced.marks_read c.execute.new.reach left.executed.told.2
+    (left.reach ∙ ap (λ m. execution_reach table c.args.pid (state_numbered number s) c.args.path.now c.args.args c.args.env m nothing_reached) (sym (memory-numbered number c.args.pid s)))
 
 pub returns-in-Replaced-clause-runs : goal.returns-in-Replaced-clause-runs
 returns-in-Replaced-clause-runs g c = λ calls runs.
@@ -53,8 +66,20 @@ returns-in-Refused-clause-reach g c =
     let number = g.P.Places.number in
     let table = g.P.Places.mounts c.args.places.now in
     let s = meaning c.args.state.now in
-    (c.in-Refused.ensures (λ e. absurd cc)).reach
-    ∙ ap (λ m. execution_reach table c.args.pid (state_numbered number s) c.args.path.now c.args.args c.args.env m c.args.reach.now) (sym (memory-numbered number c.args.pid s))
+    c.refuse.ensures.reach
+    ∙ (c.in-Refused.ensures (λ e. absurd cc)).reach
+    ∙ ap (λ m. execution_reach table c.args.pid (state_numbered number s) c.args.path.now c.args.args c.args.env m nothing_reached) (sym (memory-numbered number c.args.pid s))
+
+pub returns-in-Refused-clause-rule : goal.returns-in-Refused-clause-rule
+returns-in-Refused-clause-rule g c =
+    let number = g.P.Places.number in
+    let table = g.P.Places.mounts c.args.places.now in
+    let s = meaning c.args.state.now in
+    let left = c.in-Refused.ensures (λ e. absurd cc) in
+    c.refuse.ensures.rule
+    ∙ refused-rule number table c.args.pid c.args.path.now c.args.args c.args.env c.args.state.now c.execute.new.state c.in-Refused.errno
+    (execution-left number table c.args.pid c.args.path.now c.args.args c.args.env c.args.state.now c.execute.new.state _ left.executed) left.executed.told c.requires.lives c.args.no_shelf c.execute.new.reach
+    (left.reach ∙ ap (λ m. execution_reach table c.args.pid (state_numbered number s) c.args.path.now c.args.args c.args.env m nothing_reached) (sym (memory-numbered number c.args.pid s)))
 
 pub returns-in-Refused-clause-runs : goal.returns-in-Refused-clause-runs
 returns-in-Refused-clause-runs g c = λ calls runs.

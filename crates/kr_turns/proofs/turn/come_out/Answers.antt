@@ -1,8 +1,5 @@
-use Rattle.std.proofs.Common.{lit<, ap, subst}
-use Rattle.std.specs.Prelude.{IsSome}
+use Rattle.std.proofs.Common.{lit<}
 use Rattle.std.proofs.lemmas.Result.{on_ok_weaker}
-use Rattle.kr_model.specs.State as model
-use Rattle.kr_ops.specs.Meaning.{meaning}
 use Rattle.kr_ops.proofs.ListLemmas.{none-found}
 use Rattle.kr_ops.proofs.UseLemmas.{sound-of}
 use Rattle.kr_turns.specs.Making.{watching}

@@ -1,17 +1,43 @@
-use Rattle.std.proofs.Common.{◌≡◌, ◌+◌, suc, lit<, subst, arith}
+use Rattle.std.proofs.Common.{◌≡◌, ◌+◌, suc, lit<, ap, subst, arith, ◌∙◌}
 use Rattle.kr_calling.specs.Calling.{MayCall, Runs}
+use Rattle.kr_ops.specs.Meaning.{meaning}
+use Rattle.kr_procview.specs.Numbered.{state_numbered}
+use Rattle.kr_turns.specs.Breaking.{plain_rule}
 use Rattle.kr_turns.specs.Making.{watching}
-use Rattle.kr_turns.proofs.PlainLemmas.{if-ok}
+use Rattle.kr_turns.proofs.ShelfLemmas.{lacks-numbered, shelved-behind, shelved-lives, shelved-numbered}
 use Rattle.kr_turns.proofs.TurnLemmas.{behind-edited, call-made}
 use Rattle.kr_turns.proofs.turn.make_call.Goals as goal
+
+pub enter-requires : goal.enter-requires
+enter-requires g c =
+    let number = g.P.Places.number in
+    let table = g.P.Places.mounts c.args.places.now in
+    (lit< tt, (c.shelve-no_shelf.ensures.runs number table c.args.calls c.requires.runs, shelved-lives c.args.pid c.args.state.now c.shelve-no_shelf.new.state c.shelve-no_shelf.ensures.marks c.requires.lives))
 
 pub plain_call-requires : goal.plain_call-requires
 plain_call-requires g c =
     let number = g.P.Places.number in
     let table = g.P.Places.mounts c.args.places.now in
+    let shelved = c.shelve-no_shelf.new.state in
+    let marks = c.shelve-no_shelf.ensures.marks in
     let stands = c.enter.ensures.stands in
-    let may : MayCall number table c.enter.new.state = record { calls = c.args.calls; few = c.requires.few; runs = stands.runs } in
-    (lit< tt, (c.requires.named, (may, (stands.lives, behind-edited number c.args.pid c.args.state.now c.enter.new.state c.requires.behind c.requires.lives stands.lives c.in_ok-enter.ensures.edits))))
+    let may : MayCall number table c.enter.new.state = record { calls = c.args.calls; few = c.requires.few; runs = stands.runs } in (
+      lit< tt,
+      (
+        c.requires.named,
+        (
+          c.requires.few_rows,
+          (
+            may,
+            (
+              stands.lives,
+              behind-edited number c.args.pid shelved c.enter.new.state (shelved-behind c.args.pid c.args.state.now shelved marks c.requires.behind) (shelved-lives c.args.pid c.args.state.now shelved marks c.requires.lives) stands.lives
+                  c.in_ok-enter.ensures.edits,
+            ),
+          ),
+        ),
+      ),
+    )
 
 pub leave-requires : goal.leave-requires
 leave-requires g c =
@@ -20,8 +46,13 @@ leave-requires g c =
 
 pub returns-clause-call : goal.returns-clause-call
 returns-clause-call g c =
-    if-ok c.leave.result
-    (λ told left.
-    call-made (watching g.S.Stops.enters g.S.Stops.exits g.S.Stops.bears g.S.Stops.forgets) g.P.Places.number (g.P.Places.mounts c.args.places.now) c.args.pid c.args.state.now c.enter.new.state c.plain_call.new.state c.leave.new.state c.args.stops.now c.enter.new.stops c.bear.new.stops c.leave.new.stops c.in_ok-plain.plain
-    c.in_ok-enter.ensures.enters c.in_ok-plain.ensures.came c.in_ok-bear.ensures told left)
-    c.leave.ensures.left
+    let number = g.P.Places.number in
+    let table = g.P.Places.mounts c.args.places.now in
+    let old = c.args.state.now in
+    let shelved = c.shelve-no_shelf.new.state in
+    let entered = c.enter.new.state in
+    call-made (watching g.S.Stops.enters g.S.Stops.exits g.S.Stops.bears g.S.Stops.forgets) number table c.args.pid old shelved entered c.plain_call.new.state c.leave.new.state c.args.stops.now c.enter.new.stops c.bear.new.stops c.leave.new.stops c.in_ok-plain.plain
+    (shelved-numbered c.args.pid old shelved c.shelve-no_shelf.ensures.marks number) c.in_ok-enter.ensures.enters c.in_ok-plain.ensures.came c.in_ok-bear.ensures
+    (c.in_ok-plain.ensures.rule
+    ∙ ap (λ lacks. plain_rule g.row.M table c.args.pid lacks (state_numbered number (meaning entered))) (lacks-numbered c.args.pid old shelved c.shelve-no_shelf.ensures.marks number c.shelve-no_shelf.result c.shelve-no_shelf.ensures.lacks))
+    c.in_ok-status.status c.in_ok-status.ensures.left

@@ -1,4 +1,4 @@
-use Rattle.std.proofs.Common.{lit<, ap, subst, sym, ◌∙◌}
+use Rattle.std.proofs.Common.{ap, subst, sym, ◌∙◌}
 use Rattle.rv_mem.specs.Actions.{carried_out}
 use Rattle.kr_calls.specs.Decodes.{Gives}
 use Rattle.kr_calls.specs.Decoding.{decoding}

@@ -2,7 +2,7 @@ use Rattle.std.proofs.Common.{slice_set, ap, ◌∙◌}
 use Rattle.kr_model.specs.State.{Image}
 use Rattle.kr_ops.specs.Meaning.{meaning}
 use Rattle.kr_turns.specs.Editing.{with_register}
-use Rattle.kr_turns.specs.Held.{Held, Stands, stopped_of}
+use Rattle.kr_turns.specs.Held.{Held, stopped_of}
 use Rattle.kr_turns.specs.Stopped.{image_in}
 use Rattle.kr_turns.proofs.HereLemmas.{edits, held-now, stands-after}
 use Rattle.kr_turns.proofs.here.HereTracee.set_reg.Goals as goal

@@ -1,0 +1,148 @@
+-- What is left where what a call reads was noted before it.
+use Rattle.std.proofs.Common.{◌≡◌, ℕ, ◌+◌, ◌<◌, ◌^◌, ◌*◌, ◌&&◌, Bool, true, false, cond, List, Option, Some, None, refl, sym, ap, subst, ◌∙◌, inl, inr}
+use Rattle.std.specs.Prelude.{◌==◌, Ok, Result, IfSome, IsSome}
+use Rattle.std.specs.Option.{option_map, option_map_or}
+use Rattle.pr_base.specs.declared.errno.Errno.{Errno}
+use Rattle.rv_mem.specs.Actions.{CarriedOut}
+use Rattle.rv_mem.specs.Memory.{Memory, after_read}
+use Rattle.kr_calls.specs.declared.request.Request.{Request}
+use Rattle.kr_calls.specs.declared.request.Request.TheVariants as call
+use Rattle.kr_view.specs.View.{Row}
+use Rattle.kr_model.specs.Applied.{with_image}
+use Rattle.kr_model.specs.Known.{Known, known}
+use Rattle.kr_model.specs.Lawful.{ArePids, IsLawful}
+use Rattle.kr_model.specs.Operation.{operation}
+use Rattle.kr_model.specs.Reply.{Reply}
+use Rattle.kr_model.specs.Seen.{Seen}
+use Rattle.kr_model.specs.State as model
+use Rattle.kr_model.specs.State.{Image, image_layout}
+use Rattle.kr_model.specs.Walks.{Targets, seen, targets_of}
+use Rattle.kr_model.specs.declared.outcome.Outcome.{Outcome}
+use Rattle.kr_lasting.specs.Lasting.{Lasts}
+use Rattle.kr_lawful.proofs.AfterLemmas.{some-of}
+use Rattle.kr_lawful.proofs.ProcessChangeLemmas.{found as found-changed}
+use Rattle.kr_allowed.specs.Told.{mounts_walked}
+use Rattle.kr_allowed.proofs.RowLemmas.{StaysLike, lawful-memory}
+use Rattle.kr_ops.specs.declared.state.State.{State}
+use Rattle.kr_ops.specs.Meaning.{meaning}
+use Rattle.kr_procview.specs.Numbered.{state_numbered}
+use Rattle.kr_answers.specs.Carrying.{after_row, carried, memory_of, no_memory, with_memory, with_memory_of}
+use Rattle.kr_answers.proofs.CarryLemmas.{own-memory}
+use Rattle.kr_paths.specs.CallWalks.{AreTargets}
+use Rattle.kr_paths.specs.declared.walks.Targets.{Targets as Told}
+use Rattle.kr_perform.specs.Lawful.{LastsLawful}
+use Rattle.kr_calling.specs.Calling.{IsCalled, Runs}
+use Rattle.kr_calm.specs.Noted.{IsNoted, is_read, kills, noted}
+use Rattle.kr_turns.specs.Noting.{IsNotedOrSame}
+
+-- it is on the same pages
+noted-pages : (k : Known) (r : Request) (m : Memory) → (noted k r m).pages ≡ m.pages
+noted-pages k (call.Writev fd list count) m = by (kills k fd && is_read list count m)
+  where
+    by : (b : Bool) → (cond b (after_read m list (16 * count)) m).pages ≡ m.pages
+    by true = refl
+    by false = refl
+noted-pages k _ m = refl
+
+-- a process with another memory stands where it stood
+behind-with : {T : Type 0} (pid : ℕ) (m : Memory) (s : model.State T Image) → IfSome (model.process pid s) (λ p. p.image.regs.pc + 4 < 2 ^ 64)
+    → IfSome (model.process pid (with_memory_of pid m s)) (λ p. p.image.regs.pc + 4 < 2 ^ 64)
+behind-with {T = T} pid m s h =
+    subst (λ (o : Option (model.Process T Image)). IfSome o (λ p. p.image.regs.pc + 4 < 2 ^ 64)) (sym (found-changed pid (with_image (with_memory m)) (λ p. refl) pid s.living)) (by (model.process pid s) h)
+  where
+    at : (p : model.Process T Image) (b : Bool) → p.image.regs.pc + 4 < 2 ^ 64 → IfSome (Some (cond b (with_image (with_memory m) p) p)) (λ q. q.image.regs.pc + 4 < 2 ^ 64)
+    at p true h = h
+    at p false h = h
+
+    by : (o : Option (model.Process T Image)) → IfSome o (λ p. p.image.regs.pc + 4 < 2 ^ 64) → IfSome (option_map (model.at_pid pid (with_image (with_memory m))) o) (λ p. p.image.regs.pc + 4 < 2 ^ 64)
+    by None h = h
+    by (Some p) h = at p (p.pid == pid) h
+
+module _ {T : Type 0} {M : ℕ} (number : T → ℕ) (table : List Row) (pid : ℕ) (old mid : State T M) where
+  abbrev shown : State T M → model.State ℕ Image
+  shown s = state_numbered number (meaning s)
+
+  -- a call that reads so has no path, and of another nothing is noted
+  seen-noted : ArePids (meaning old) → (r : Request) → IsNoted pid r old mid → (targets_of table pid (shown mid) r ≡ targets_of table pid (shown old) r) × (seen table pid (shown mid) r ≡ seen table pid (shown old) r)
+  seen-noted pids (call.Writev fd list count) is = (refl, refl)
+  seen-noted pids r is =
+      let same : meaning mid ≡ meaning old = is.leaves.means ∙ own-memory pid (meaning old) pids in
+      (ap (λ (t : model.State T Image). targets_of table pid (state_numbered number t) r) same, ap (λ (t : model.State T Image). seen table pid (state_numbered number t) r) same)
+
+  module _ (pids : ArePids (meaning old)) (r : Request) (is : IsNoted pid r old mid) where
+    pub targets-noted : targets_of table pid (shown mid) r ≡ targets_of table pid (shown old) r
+    targets-noted = (seen-noted pids r is).0
+
+    abbrev row : State T M → CarriedOut Reply
+    row s = carried pid (operation pid r (seen table pid (shown s) r) (known image_layout pid (meaning s))) (meaning s)
+
+    rows-same : row mid ≡ row old
+    rows-same =
+        ap (λ (facts : Seen). carried pid (operation pid r facts (known image_layout pid (meaning mid))) (meaning mid)) (seen-noted pids r is).1 ∙ is.alike (seen table pid (shown old) r)
+
+    -- a call that was carried out then was carried out on the state before
+    pub called-noted : (after : State T M) (outcome : Outcome) → IsCalled number table pid r mid after outcome → IsCalled number table pid r old after outcome
+    called-noted after outcome called = record {
+      mounts = called.mounts;
+      walked = called.walked ∙ ap mounts_walked targets-noted;
+      carried = record {
+        outcome = called.carried.outcome ∙ ap (λ (d : CarriedOut Reply). d.reply.outcome) rows-same;
+        state = called.carried.state ∙ ap (λ (d : CarriedOut Reply). after_row called.mounts pid d (meaning mid)) rows-same ∙ is.after called.mounts (row old);
+      };
+    }
+
+    pub behind-noted : IfSome (model.process pid (meaning old)) (λ p. p.image.regs.pc + 4 < 2 ^ 64) → IfSome (model.process pid (meaning mid)) (λ p. p.image.regs.pc + 4 < 2 ^ 64)
+    behind-noted h =
+        subst (λ (t : model.State T Image). IfSome (model.process pid t) (λ p. p.image.regs.pc + 4 < 2 ^ 64)) (sym is.leaves.means)
+        (behind-with pid (noted (known image_layout pid (meaning old)) r (memory_of pid (meaning old))) (meaning old) h)
+
+  -- what lasts of the state lasts
+  pub runs-noted : (r : Request) (calls : ℕ) → IsNoted pid r old mid → IsSome (model.process pid (meaning old)) → Runs number table calls old → Runs number table calls mid
+  runs-noted r calls is lives runs = record { lasts = subst (LastsLawful number table calls) (sym is.leaves.means) (record { lawful = lawful; lasts = lasts }); served = is.leaves.sound.served }
+    where
+      lawful : IsLawful number table (with_memory_of pid (noted (known image_layout pid (meaning old)) r (memory_of pid (meaning old))) (meaning old))
+      lawful =
+          let l = runs.lasts.lawful in
+          let p = some-of (model.process pid (meaning old)) lives in
+          let own = l.processes pid p.0 p.1 in
+          let k = known image_layout pid (meaning old) in
+          let same : memory_of pid (meaning old) ≡ p.0.image.memory = ap (λ (o : Option (model.Process T Image)). option_map_or (λ (q : model.Process T Image). q.image.memory) o no_memory) p.1 in
+          let pages : p.0.image.memory.pages ≡ (noted k r (memory_of pid (meaning old))).pages = ap (λ (m : Memory). m.pages) (sym same) ∙ sym (noted-pages k r (memory_of pid (meaning old))) in
+          lawful-memory number table (meaning old) l pid p.0 p.1 (noted k r (memory_of pid (meaning old)))
+          (subst (StaysLike p.0.image.memory.pages) pages (record { whole = own.whole; placed = own.paged; layout = refl }))
+
+      lasts : Lasts calls (with_memory_of pid (noted (known image_layout pid (meaning old)) r (memory_of pid (meaning old))) (meaning old))
+      lasts =
+          let own = runs.lasts.lasts in
+          record {
+            texts = own.texts;
+            owners = own.owners;
+            user = own.user;
+            drawn = record { inodes = own.drawn.inodes; serials = own.drawn.serials; files = own.drawn.files; pipes = own.drawn.pipes; pids = own.drawn.pids };
+          }
+
+  -- ---- where it was noted, or nothing was
+
+  module _ (r : Request) where
+    pub targets-kept : ArePids (meaning old) → IsNotedOrSame pid r old mid → targets_of table pid (shown mid) r ≡ targets_of table pid (shown old) r
+    targets-kept pids (inl is) = targets-noted pids r is
+    targets-kept pids (inr same) = ap (λ (s : State T M). targets_of table pid (shown s) r) same
+
+    pub called-kept : ArePids (meaning old) → IsNotedOrSame pid r old mid → (after : State T M) (outcome : Outcome) → IsCalled number table pid r mid after outcome → IsCalled number table pid r old after outcome
+    called-kept pids (inl is) after outcome called = called-noted pids r is after outcome called
+    called-kept pids (inr same) after outcome called = subst (λ (s : State T M). IsCalled number table pid r s after outcome) same called
+
+    pub along-kept : ArePids (meaning old) → IsNotedOrSame pid r old mid → (targets : Told T) → AreTargets number (targets_of table pid (shown old) r) (Ok targets) → AreTargets number (targets_of table pid (shown mid) r) (Ok targets)
+    along-kept pids noted targets are = subst (λ (answer : Result Targets Errno). AreTargets number answer (Ok targets)) (sym (targets-kept pids noted)) are
+
+    pub lives-kept : IsNotedOrSame pid r old mid → IsSome (model.process pid (meaning old)) → IsSome (model.process pid (meaning mid))
+    lives-kept (inl is) lives = is.leaves.lives
+    lives-kept (inr same) lives = subst (λ (s : State T M). IsSome (model.process pid (meaning s))) (sym same) lives
+
+    pub behind-kept : ArePids (meaning old) → IsNotedOrSame pid r old mid → IfSome (model.process pid (meaning old)) (λ p. p.image.regs.pc + 4 < 2 ^ 64) → IfSome (model.process pid (meaning mid)) (λ p. p.image.regs.pc + 4 < 2 ^ 64)
+    behind-kept pids (inl is) h = behind-noted pids r is h
+    behind-kept pids (inr same) h = subst (λ (s : State T M). IfSome (model.process pid (meaning s)) (λ p. p.image.regs.pc + 4 < 2 ^ 64)) (sym same) h
+
+    pub runs-kept : IsNotedOrSame pid r old mid → IsSome (model.process pid (meaning old)) → (calls : ℕ) → Runs number table calls old → Runs number table calls mid
+    runs-kept (inl is) lives calls runs = runs-noted r calls is lives runs
+    runs-kept (inr same) lives calls runs = subst (Runs number table calls) (sym same) runs

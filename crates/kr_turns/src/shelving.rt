@@ -1,0 +1,31 @@
+//! The shelf of a call, in the state of its kernel.
+ghost use Rattle.std.specs.Prelude.{◌≡◌, ℕ, List, IsSome};
+ghost use Rattle.kr_calling.specs.Calling.{Runs};
+ghost use Rattle.kr_model.specs.State.{process};
+ghost use Rattle.kr_ops.specs.Meaning.{meaning};
+ghost use Rattle.kr_ops.specs.Sound.{IsSound};
+ghost use Rattle.kr_turns.specs.Shelving.{lacks_in, shelved_in};
+ghost use Rattle.kr_view.specs.View.{Row};
+
+use kr_calm::mark_shelf;
+use kr_ops::State;
+use rv_mem::Use;
+
+/// Marks the shelf of a living process that stands at a call with a path. Whether such a call has no shelf. Where marks aren't kept it
+/// does nothing.
+pub(crate) fn shelve<T: Copy, const M: u8>(state: &mut State<T, M>, pid: u32) -> bool
+    requires sound { IsSound state.old }
+    requires lives { IsSome (process pid (meaning state.old)) }
+    ensures marks { meaning state.new ≡ shelved_in M pid (meaning state.old) }
+    ensures lacks { result ≡ lacks_in M pid (meaning state.old) }
+    ensures runs { (number : T → ℕ) (table : List Row) (calls : ℕ) → Runs number table calls state.old → Runs number table calls state.new }
+{
+    let Some(k) = state.index_of(pid) else {
+        unreachable!();
+    };
+    let process = &mut state.living[k];
+    let lacks = mark_shelf(&process.regs, &mut process.mem);
+    // Its pages are whole and lie where a memory can have pages.
+    let _can = process.mem.can(0, 0, Use::Read);
+    lacks
+}
