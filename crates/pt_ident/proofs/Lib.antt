@@ -1,0 +1,3 @@
+mod ByteLemmas
+mod NumberLemmas
+mod TableLemmas

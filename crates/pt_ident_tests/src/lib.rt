@@ -1,0 +1,7 @@
+//! Tests of the identity of a process, with ample memory.
+#![tactic(auto)]
+
+#[cfg(test)]
+mod numbers;
+#[cfg(test)]
+mod others;
