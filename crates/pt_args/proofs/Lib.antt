@@ -1,0 +1,5 @@
+mod BackLemmas
+mod EditRows
+mod NamedLemmas
+mod PartedLemmas
+mod ShelfLemmas

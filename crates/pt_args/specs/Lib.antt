@@ -1,0 +1,9 @@
+pub mod Bases
+pub mod Edits
+pub mod Laws
+pub mod Parting
+pub mod Plans
+pub mod Points
+pub mod Purposes
+pub mod Shelving
+pub mod Walks

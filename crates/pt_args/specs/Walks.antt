@@ -1,0 +1,39 @@
+-- Where a path of a call leads, by the tracer's walk over guest texts.
+use Rattle.std.specs.Prelude.{ℕ, Bool, IsTrue, List, [], ◌∷◌, Option, Some, None, Result, Ok, Err}
+use Rattle.pr_base.specs.Paths.{is_absolute}
+use Rattle.pr_base.specs.declared.errno.Errno.{Errno}
+use Rattle.pt_bind.specs.Binding.{IsWritten, names_of}
+use Rattle.pt_canon.specs.Canon.{canon_of}
+use Rattle.pt_canon.specs.TextWalk.{TextSurroundings}
+use Rattle.pt_canon.specs.declared.canon.Canon.{Canon}
+use Rattle.kr_calls.specs.PathTable.{PathUse}
+use Rattle.pt_args.specs.Bases.{base_of}
+use Rattle.pt_args.specs.Purposes.{purpose_of}
+use Rattle.pt_args.specs.declared.reached.Reached.{Reached}
+
+-- what comes of a value, or its error
+abbrev pub and_then : {A B : Type 0} → Result A Errno → (A → Result B Errno) → Result B Errno
+and_then (Ok x) next = next x
+and_then (Err e) next = Err e
+
+abbrev pub reached_at : PathUse → Bool → Canon → Reached
+reached_at u opening canon = record { register = u.register; purpose = purpose_of opening u.mode; canon = canon }
+
+-- from a base; without one the path stays as it is
+abbrev pub walked_from : TextSurroundings → Bool → PathUse → Option (List ℕ) → Result (Option Reached) Errno
+walked_from texts opening u None = Ok None
+walked_from texts opening u (Some base) =
+    and_then (canon_of texts u.mode (names_of base) u.text) (λ canon. Ok (Some (reached_at u opening canon)))
+
+-- an empty path stands for a descriptor, and stays as it is too
+abbrev pub walked_along : TextSurroundings → ℕ → Bool → PathUse → List ℕ → Result (Option Reached) Errno
+walked_along texts pid opening u [] = Ok None
+walked_along texts pid opening u (b ∷ path) = and_then (base_of texts pid u) (walked_from texts opening u)
+
+abbrev pub walked : TextSurroundings → ℕ → Bool → PathUse → Result (Option Reached) Errno
+walked texts pid opening u = walked_along texts pid opening u u.text
+
+-- a guest text was reached, and a host text
+pub record IsReached (reached : Reached) : Type 0 where
+  pub guest : IsWritten reached.canon.guest
+  pub host : IsTrue (is_absolute reached.canon.host)

@@ -1,0 +1,141 @@
+//! Which texts take the places of a call's paths, before they are put anywhere.
+ghost use Rattle.std.specs.Prelude.{◌≡◌};
+ghost use Rattle.kr_calls.specs.PathTable.{path_use};
+ghost use Rattle.pt_bind.specs.Binding.{rows_of};
+ghost use Rattle.pt_canon.specs.Canon.{IsAnswer, texts_by};
+ghost use Rattle.pt_args.specs.Plans.{plan_both, plan_first, plan_of, plan_one, plan_second, swap_of};
+ghost use Rattle.pt_args.specs.Walks.{IsReached};
+
+use crate::point::{both_are_busy, one_is_busy};
+use crate::purpose::{opens, text_for};
+use crate::reached::{Reached, walk_path};
+use kr_calls::{Request, path_of};
+use pr_base::{Bytes, Errno, Peeks};
+use pt_bind::{Table, Tags};
+use pt_canon::{WalkErr, Walker};
+use std::alloc::Global;
+
+/// A text in place of a path, and the number of the register that holds the path's address.
+#[derive(Drop)]
+pub(crate) struct Swapped {
+    pub(crate) register: u8,
+    pub(crate) text: Bytes,
+}
+
+/// What becomes of the paths of a call.
+#[derive(Drop)]
+pub(crate) enum Plan {
+    /// They stay as they are, or there is none.
+    Passes,
+    /// The first one is swapped, and the second one if there is one that doesn't stay.
+    Swaps(Swapped, Option<Swapped>),
+}
+
+/// What becomes of the paths of a call, or the error that cancels it. The first path is taken before the second, which
+/// stays as it is where the first one does.
+pub(crate) fn plan_of<K: Peeks>(
+    alloc: Global,
+    kernel: &mut K,
+    walker: &mut Walker,
+    tags: &Tags,
+    pid: u32,
+    request: &Request,
+) -> Result<Plan, WalkErr>
+    ensures answer { IsAnswer (plan_of (texts_by walker.old (K.peeked kernel.old) tags.now) pid request.now) result }
+    ensures walker { walker.new ≡ walker.old }
+    ensures same { K.peeked kernel.new ≡ K.peeked kernel.old }
+    ensures rest { K.kept kernel.new ≡ K.kept kernel.old }
+{
+    let Some(path) = path_of(request, 0) else {
+        return Ok(Plan::Passes);
+    };
+    match walk_path(alloc, kernel, walker, tags, pid, opens(request), path)? {
+        Some(first) => plan_second(alloc, kernel, walker, tags, pid, request, &first),
+        None => Ok(Plan::Passes),
+    }
+}
+
+/// The same, once the first path was walked.
+fn plan_second<K: Peeks>(
+    alloc: Global,
+    kernel: &mut K,
+    walker: &mut Walker,
+    tags: &Tags,
+    pid: u32,
+    request: &Request,
+    first: &Reached,
+) -> Result<Plan, WalkErr>
+    requires { IsReached first.now }
+    ensures answer { IsAnswer (plan_second (texts_by walker.old (K.peeked kernel.old) tags.now) pid request.now first.now) result }
+    ensures walker { walker.new ≡ walker.old }
+    ensures same { K.peeked kernel.new ≡ K.peeked kernel.old }
+    ensures rest { K.kept kernel.new ≡ K.kept kernel.old }
+{
+    let Some(path) = path_of(request, 1) else {
+        return plan_one(alloc, walker.table(), request, first);
+    };
+    match walk_path(alloc, kernel, walker, tags, pid, opens(request), path)? {
+        Some(second) => plan_both(alloc, walker.table(), request, first, &second),
+        None => plan_first(alloc, walker.table(), first),
+    }
+}
+
+/// The only path of a call.
+fn plan_one(
+    alloc: Global,
+    table: &Table,
+    request: &Request,
+    only: &Reached,
+) -> Result<Plan, WalkErr>
+    requires { IsReached only.now }
+    ensures { IsAnswer (plan_one (rows_of table.now) request.now only.now) result }
+{
+    let swapped = swap_of(alloc, table, only)?;
+    let busy = one_is_busy(table, request, &only.canon)?;
+    if busy {
+        return Err(WalkErr::Err(Errno::EBUSY));
+    }
+    Ok(Plan::Swaps(swapped, None))
+}
+
+/// The first path alone, where the second one stays as it is: the plain kernel refuses the call.
+fn plan_first(alloc: Global, table: &Table, first: &Reached) -> Result<Plan, WalkErr>
+    requires { IsReached first.now }
+    ensures { IsAnswer (plan_first (rows_of table.now) first.now) result }
+{
+    let swapped = swap_of(alloc, table, first)?;
+    Ok(Plan::Swaps(swapped, None))
+}
+
+/// Both paths of a call.
+fn plan_both(
+    alloc: Global,
+    table: &Table,
+    request: &Request,
+    old: &Reached,
+    new: &Reached,
+) -> Result<Plan, WalkErr>
+    requires old { IsReached old.now }
+    requires new { IsReached new.now }
+    ensures { IsAnswer (plan_both (rows_of table.now) request.now old.now new.now) result }
+{
+    let first = swap_of(alloc, table, old)?;
+    let second = swap_of(alloc, table, new)?;
+    let busy = both_are_busy(table, request, &old.canon, &new.canon)?;
+    if busy {
+        return Err(WalkErr::Err(Errno::EBUSY));
+    }
+    Ok(Plan::Swaps(first, Some(second)))
+}
+
+/// What a path is swapped for.
+fn swap_of(alloc: Global, table: &Table, reached: &Reached) -> Result<Swapped, WalkErr>
+    requires { IsReached reached.now }
+    ensures { IsAnswer (swap_of (rows_of table.now) reached.now) result }
+{
+    let text = text_for(alloc, table, reached.purpose, &reached.canon)?;
+    Ok(Swapped {
+        register: reached.register,
+        text,
+    })
+}

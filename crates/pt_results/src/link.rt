@@ -1,0 +1,142 @@
+//! The answer of readlinkat(2) for a link of the process directory.
+ghost use Rattle.std.specs.Prelude.{◌≡◌, IsTrue, IfOk};
+ghost use Rattle.pr_base.specs.Paths.{is_absolute};
+ghost use Rattle.pt_bind.specs.Binding.{IsWritten, names_of};
+ghost use Rattle.pt_canon.specs.Canon.{texts_by};
+ghost use Rattle.pt_results.specs.Answers.{jump_answer, lead_answer, link_answer, nowhere_answer, read_answer};
+
+use crate::numbers::count_of;
+use kr_calls::{Request, path_of};
+use pr_base::{Bytes, Errno, NoMemory, PeekFault, PeekKind, Peeks, WalkMode, components};
+use pt_args::{Edit, Pokes, parted, walk_path};
+use pt_bind::Tags;
+use pt_canon::{Canon, WalkErr, Walker};
+use std::alloc::Global;
+
+/// Where the bytes of a text are put, and how many at most.
+#[derive(Clone, Copy)]
+pub(crate) struct Room {
+    buf: u64,
+    count: u32,
+}
+
+/// The answer of readlinkat(2) in guest terms for a link of the process directory other than `self`: the first bytes of the guest
+/// text to which it leads, and how many they are; ENOENT where it leads to none. `None` exactly where the path leads to no such
+/// link, or to that of a pipe or of the console: the plain kernel answers. Whether the bytes may be written isn't asked here.
+pub fn link_answer<K: Peeks>(
+    alloc: Global,
+    kernel: &mut K,
+    walker: &mut Walker,
+    tags: &Tags,
+    pid: u32,
+    request: &Request,
+) -> Result<Option<Edit>, NoMemory>
+    ensures answer { IfOk result (λ edit. edit ≡ link_answer (texts_by walker.old (K.peeked kernel.old) tags.now) pid request.now) }
+    ensures walker { walker.new ≡ walker.old }
+    ensures same { K.peeked kernel.new ≡ K.peeked kernel.old }
+    ensures rest { K.kept kernel.new ≡ K.kept kernel.old }
+{
+    let Request::Readlinkat { buf, size, .. } = request else {
+        return Ok(None);
+    };
+    let Some(path) = path_of(request, 0) else {
+        return Ok(None);
+    };
+    match walk_path(alloc, kernel, walker, tags, pid, false, path) {
+        Ok(Some(reached)) => {
+            let room = Room {
+                buf: *buf,
+                count: count_of(*size),
+            };
+            read_answer(alloc, kernel, walker, tags, &reached.canon, room)
+        }
+        Ok(None) | Err(WalkErr::Err(_)) => Ok(None),
+        Err(WalkErr::NoMemory) => Err(NoMemory),
+    }
+}
+
+/// The answer by where the path leads.
+fn read_answer<K: Peeks>(
+    alloc: Global,
+    kernel: &mut K,
+    walker: &mut Walker,
+    tags: &Tags,
+    canon: &Canon,
+    room: Room,
+) -> Result<Option<Edit>, NoMemory>
+    requires guest { IsWritten canon.now.guest }
+    requires host { IsTrue (is_absolute canon.now.host) }
+    ensures answer { IfOk result (λ edit. edit ≡ read_answer (texts_by walker.old (K.peeked kernel.old) tags.now) canon.now room) }
+    ensures walker { walker.new ≡ walker.old }
+    ensures same { K.peeked kernel.new ≡ K.peeked kernel.old }
+    ensures rest { K.kept kernel.new ≡ K.kept kernel.old }
+{
+    match kernel.kind(canon.host.as_slice()) {
+        Ok(PeekKind::Jump) => jump_answer(alloc, kernel, walker, tags, canon, room),
+        Ok(PeekKind::Dir | PeekKind::File | PeekKind::Link) | Err(PeekFault::Err(_)) => Ok(None),
+        Err(PeekFault::NoMemory) => Err(NoMemory),
+    }
+}
+
+/// The answer for a link of the process directory, by where it leads from its directory.
+fn jump_answer<K: Peeks>(
+    alloc: Global,
+    kernel: &mut K,
+    walker: &mut Walker,
+    tags: &Tags,
+    canon: &Canon,
+    room: Room,
+) -> Result<Option<Edit>, NoMemory>
+    requires guest { IsWritten canon.now.guest }
+    requires host { IsTrue (is_absolute canon.now.host) }
+    ensures answer { IfOk result (λ edit. edit ≡ jump_answer (texts_by walker.old (K.peeked kernel.old) tags.now) canon.now room (names_of canon.now.guest)) }
+    ensures walker { walker.new ≡ walker.old }
+    ensures same { K.peeked kernel.new ≡ K.peeked kernel.old }
+    ensures rest { K.kept kernel.new ≡ K.kept kernel.old }
+{
+    let Some((dir, name)) = parted(canon.guest.as_slice()) else {
+        return Ok(None);
+    };
+    match walker.canon(kernel, tags, dir, name, WalkMode::Look) {
+        Ok(led) => {
+            let edit = lead_answer(alloc, led.guest.as_slice(), room)?;
+            Ok(Some(edit))
+        }
+        Err(WalkErr::Err(_)) => nowhere_answer(kernel, canon.host.as_slice()),
+        Err(WalkErr::NoMemory) => Err(NoMemory),
+    }
+}
+
+/// The first bytes of a text.
+fn lead_answer(alloc: Global, text: &[u8], room: Room) -> Result<Edit, NoMemory>
+    ensures { IfOk result (λ edit. edit ≡ lead_answer text.now room) }
+{
+    let count = text.len().min(room.count as usize);
+    let bytes = Bytes::copy(alloc, &text[..count])?;
+    let mut pokes = Pokes::new(alloc);
+    pokes.push(room.buf, bytes)?;
+    Ok(Edit::Emulate {
+        pokes,
+        answer: count as i64,
+    })
+}
+
+/// The answer for a link that leads to no guest text, by its own text: that of a pipe's link and of the console's is no path.
+fn nowhere_answer<K: Peeks>(kernel: &mut K, host: &[u8]) -> Result<Option<Edit>, NoMemory>
+    requires { IsTrue (is_absolute host.now) }
+    ensures answer { IfOk result (λ edit. edit ≡ nowhere_answer ((K.peeked kernel.old).link_text host.now)) }
+    ensures same { K.peeked kernel.new ≡ K.peeked kernel.old }
+    ensures rest { K.kept kernel.new ≡ K.kept kernel.old }
+{
+    match kernel.link_text(host) {
+        Ok(text) => {
+            if components(text.as_slice()).absolute() {
+                Ok(Some(Edit::Cancel(Errno::ENOENT)))
+            } else {
+                Ok(None)
+            }
+        }
+        Err(PeekFault::Err(_)) => Ok(Some(Edit::Cancel(Errno::ENOENT))),
+        Err(PeekFault::NoMemory) => Err(NoMemory),
+    }
+}
