@@ -24,6 +24,8 @@ fn kind_of(fd: u32) -> BaseKind
 }
 
 impl Peeks for Asked {
+    ghost use Rattle.canon_tests.specs.ToldNames.{base_text, data_text, n_text};
+
     ghost peeked = { λ a. record (⟦<Told as Peeks>⟧.peeked a.told) { base_kind = λ pid fd. kind_told fd } };
 
     ghost Kept = { Unit {0} };
@@ -58,5 +60,5 @@ impl Peeks for Asked {
         self.told.exe_name(pid)
     }
 
-    ghost names_are_texts = { λ a. record { base = (⟦<Told as Peeks>⟧.names_are_texts a.told).base; cwd = (⟦<Told as Peeks>⟧.names_are_texts a.told).cwd; exe = (⟦<Told as Peeks>⟧.names_are_texts a.told).exe } };
+    ghost names_are_texts = { λ a. record { base = λ pid fd. base_text fd; cwd = λ pid. data_text; exe = λ pid. n_text } };
 }

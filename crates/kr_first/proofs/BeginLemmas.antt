@@ -7,7 +7,6 @@ use Rattle.kr_tree.specs.Lawful.{AreBytes, IsKept}
 use Rattle.kr_tree.specs.Tree.{Tree}
 use Rattle.kr_view.specs.Leads.{numbered}
 use Rattle.kr_view.specs.View.{Row, StandsIn}
-use Rattle.elf_load.specs.Image.{program_break}
 use Rattle.elf_load.specs.declared.image.Image as loaded
 use Rattle.kr_lasting.specs.Lasting.{Lasts}
 use Rattle.kr_lasting.specs.Texts.{IsText}

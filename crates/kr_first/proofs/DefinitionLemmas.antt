@@ -14,7 +14,6 @@ use Rattle.kr_view.specs.Answers.{told}
 use Rattle.kr_view.specs.Reach.{reach_after}
 use Rattle.kr_view.specs.View.{Row}
 use Rattle.kr_view.specs.Walk.{PlaceTarget}
-use Rattle.kr_model.specs.State.{Image, State}
 use Rattle.kr_model.specs.Walks.{and_then}
 use Rattle.kr_exec.specs.Answers.{Reaches}
 use Rattle.kr_exec.specs.Exec.{exec_plan, exec_reach}

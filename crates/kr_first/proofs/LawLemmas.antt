@@ -1,7 +1,6 @@
 -- Slashes lead to the root, which is a directory.
-use Rattle.std.proofs.Common.{◌≡◌, ℕ, Bool, true, cond, Some, None, ap, ◌∙◌}
+use Rattle.std.proofs.Common.{cond, Some, None, ap, ◌∙◌}
 use Rattle.pr_base.specs.declared.path.WalkMode.TheVariants.{Look}
-use Rattle.kr_tree.specs.declared.place.Place.{Place}
 use Rattle.kr_view.specs.View.{root_place}
 use Rattle.kr_view.specs.Walk.{PlaceTrail}
 use Rattle.kr_view.proofs.DirectoryLemmas.{slashes_end}

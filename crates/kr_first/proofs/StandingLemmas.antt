@@ -21,7 +21,7 @@ use Rattle.kr_view.specs.Component.{is_directory_at}
 use Rattle.kr_view.specs.InTree.{IsPlaceOf, StandsAround}
 use Rattle.kr_view.specs.Processes.{no_leads}
 use Rattle.kr_view.specs.View.{Row, StandsIn, is_there, root_place, root_source}
-use Rattle.kr_view.specs.Walk.{PlaceTarget, place_walk}
+use Rattle.kr_view.specs.Walk.{PlaceTarget}
 use Rattle.kr_view.proofs.PlaceLemmas.{walks_keep_places}
 use Rattle.kr_view.proofs.ProcessLemmas.{no_processes}
 use Rattle.kr_view.proofs.TableLemmas.{laws_of_places}

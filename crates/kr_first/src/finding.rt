@@ -34,7 +34,7 @@ pub fn directory_at<P: Places>(
     ensures place { IfOk result (λ place. option_map (numbered P.number) place ≡ directory_at (P.mounts places.now) tree.now user path.now) }
     ensures reach { OnOk result (reach.new ≡ reach_after (around (P.mounts places.now) tree.now user) (directory_walk (P.mounts places.now) tree.now user path.now) reach.old) }
 {
-    let answer = resolve(
+    match resolve(
         alloc,
         places,
         &NoProcs::new(),
@@ -45,8 +45,7 @@ pub fn directory_at<P: Places>(
         path,
         WalkMode::Look,
         reach,
-    );
-    match answer {
+    ) {
         Ok(target) => Ok(directory_found(tree, target.found)),
         Err(WalkFault::Err(_)) => Ok(None),
         Err(WalkFault::NoMemory) => Err(NoMemory),

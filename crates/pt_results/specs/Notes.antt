@@ -6,7 +6,8 @@ use Rattle.pt_bind.specs.declared.slot.Slot.{Slot}
 use Rattle.pt_bind.specs.declared.slot.Slot.TheVariants.{Cwd, Exe, Fd}
 use Rattle.kr_calls.specs.declared.request.Request.{Request}
 use Rattle.kr_calls.specs.declared.request.Request.TheVariants as call
-use Rattle.pt_results.specs.Numbers.{descriptor_number, made_number}
+use Rattle.pt_args.specs.Bases.{descriptor_number}
+use Rattle.pt_results.specs.Numbers.{made_number}
 use Rattle.pt_results.specs.declared.note.Note.{Note}
 use Rattle.pt_results.specs.declared.note.Note.TheVariants.{Nothing, Sets, Copies}
 

@@ -1,11 +1,6 @@
 -- Numbers among arguments and answers that have a sign.
 use Rattle.std.specs.Prelude.{ℕ, ◌^◌, nat_lt, ℤ, pos, negsuc, Option, Some, None, if◌then◌else◌}
 
--- a negative number is no descriptor
-abbrev pub descriptor_number : ℤ → Option ℕ
-descriptor_number (pos n) = Some n
-descriptor_number (negsuc n) = None
-
 -- a negative answer is an error. No call answers a descriptor of more than 32 bits
 abbrev pub made_number : ℤ → Option ℕ
 made_number (pos n) = if nat_lt n (2 ^ 32) then Some n else None

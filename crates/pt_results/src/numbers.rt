@@ -1,6 +1,7 @@
 //! Numbers of descriptors and of bytes among arguments and answers.
 ghost use Rattle.std.specs.Prelude.{◌≡◌, ◌<◌, ◌^◌};
-ghost use Rattle.pt_results.specs.Numbers.{count_of, descriptor_number, made_number};
+ghost use Rattle.pt_args.specs.Bases.{descriptor_number};
+ghost use Rattle.pt_results.specs.Numbers.{count_of, made_number};
 
 /// The number of a descriptor, `None` exactly where it is negative.
 pub(crate) fn descriptor_number(fd: i32) -> Option<u32>

@@ -1,6 +1,5 @@
 use Rattle.std.proofs.Common.{ℕ, Err, sym, ap, subst, ◌∙◌}
 use Rattle.std.specs.Option.{option_and_then}
-use Rattle.std.specs.Prelude.{Result}
 use Rattle.pr_base.specs.declared.path.WalkMode.TheVariants.{Look}
 use Rattle.kr_tree.specs.declared.place.Place.{Place}
 use Rattle.kr_view.specs.declared.target.Target.{Target}
@@ -30,6 +29,5 @@ pub returns-in-Err-Err-clause-reach : goal.returns-in-Err-Err-clause-reach
 returns-in-Err-Err-clause-reach g c =
     let through = around (g.P.Places.mounts c.args.places.now) c.args.tree.now c.args.user in
     let begins = numbered g.P.Places.number c.root.result in
-    let failed = c.in-Err-Err.is ∙ ap Err c.in-Err-Err.field-0-is in
-    subst (λ (r : Result (Target g.row.P-Mount.Denot) WalkFault). IsReached through (place_walk through Look begins c.args.path.now) c.args.reach.now c.resolve-answer.new.reach r) failed c.resolve-answer.ensures.reach
+    subst (λ (f : WalkFault). IsReached {T = Target g.row.P-Mount.Denot} through (place_walk through Look begins c.args.path.now) c.args.reach.now c.resolve.new.reach (Err f)) c.in-Err-Err.field-0-is c.in-Err-Err.ensures.reach
     ∙ ap (λ (base : Place ℕ). reach_after through (place_walk through Look base c.args.path.now) c.args.reach.now) c.root.ensures
