@@ -1,0 +1,91 @@
+-- A kernel as its callers see it, its start, and its turns.
+use Rattle.std.specs.Prelude.{◌≡◌, ◌≢◌, ◌<◌, ◌^◌, ℕ, suc, Bool, true, List, [], length, Option, Some, None, nat_eq, Result, Ok, Err, if◌then◌else◌}
+use Rattle.pr_base.specs.declared.errno.Errno.{Errno}
+use Rattle.kr_view.specs.declared.target.Reach.{Reach}
+use Rattle.kr_view.specs.View.{Row}
+use Rattle.kr_model.specs.State as model
+use Rattle.kr_model.specs.State.{Image, Process}
+use Rattle.kr_allowed.specs.Told.{SourcesAreNamed}
+use Rattle.kr_ops.specs.declared.state.State.{State}
+use Rattle.kr_calling.specs.Calling.{Runs}
+use Rattle.kr_calm.specs.Calm.{broken_at_start}
+use Rattle.kr_steps.specs.Waiting.{picked_process}
+use Rattle.kr_first.specs.declared.starting.StartFault.{StartFault}
+use Rattle.kr_first.specs.declared.starting.StartFault.TheVariants as fault
+use Rattle.kr_turns.specs.Making.{machine_of}
+use Rattle.kr_turns.specs.Run.{cleared}
+use Rattle.kr_turns.specs.Turn.{IsTurnOf, Machine}
+use Rattle.kr_turns.specs.Watching.{Watching}
+use Rattle.kr_core.specs.declared.kernel.Turned.{Turned}
+use Rattle.kr_core.specs.declared.kernel.Turned.TheVariants.{Ran, Deadlock, Over}
+
+-- a kernel: its view, its watcher, its state, the status of the process that ended last, the calm rule that was broken first, and how
+-- many turns it made. It isn't whole after want of memory
+pub record Kernel (P S T : Type 0) (M : ℕ) : Type 0 where
+  pub places : P
+  pub stops : S
+  pub state : State T M
+  pub status : ℕ
+  pub broken : Option ℕ
+  pub turns : ℕ
+  pub whole : Bool
+
+-- the rule that the walks of a start break, where marks are kept
+abbrev pub first_rule : ℕ → Reach → Option ℕ
+first_rule marks reach = if nat_eq marks 0 then None else broken_at_start reach
+
+module _ {P S T : Type 0} {M : ℕ} (number : T → ℕ) where
+  abbrev pub machine : Kernel P S T M → Machine S
+  machine k = machine_of number k.state k.stops (record { status = k.status; broken = k.broken })
+
+  -- what holds of every kernel
+  pub record Stands (mounts : P → List Row) (k : Kernel P S T M) : Type 0 where
+    pub named : SourcesAreNamed (mounts k.places)
+    pub few : length (mounts k.places) < 2 ^ 32
+    pub runs : k.whole ≡ true → Runs number (mounts k.places) k.turns k.state
+
+  -- ---- a start
+
+  -- a kernel of this state, before its first turn
+  pub record Begins (places : P) (stops : S) (reach : Reach) (k : Kernel P S T M) : Type 0 where
+    pub places_are : k.places ≡ places
+    pub stops_are : k.stops ≡ stops
+    pub status : k.status ≡ 0
+    pub broken : k.broken ≡ first_rule M reach
+    pub turns : k.turns ≡ 0
+    pub whole : k.whole ≡ true
+
+  -- the answer is the definition's, but for want of memory
+  abbrev pub Starts : P → S → Reach → Result (model.State ℕ Image) Errno → Result (Kernel P S T M) StartFault → Type 0
+  Starts places stops reach answer (Ok k) = (answer ≡ Ok (machine k).state) × Begins places stops reach k
+  Starts places stops reach answer (Err (fault.Err e)) = answer ≡ Err e
+  Starts places stops reach answer (Err fault.NoMemory) = Unit {0}
+
+  -- ---- turns
+
+  module _ (w : Watching S) (table : List Row) where
+    -- the process that is picked made a turn
+    pub record HasRun (pick fuel : ℕ) (old new : Kernel P S T M) : Type 0 where
+      pub process : Process ℕ Image
+      pub picked : picked_process (machine old).state pick ≡ Some process
+      pub turn : IsTurnOf w M table fuel process (machine old) (machine new)
+      pub turns : new.turns ≡ suc old.turns
+      pub places : new.places ≡ old.places
+
+    -- or none lives, or one lives and none is ready, and then nothing changes
+    abbrev pub Turns : (pick fuel : ℕ) → Kernel P S T M → Kernel P S T M → Turned → Type 0
+    Turns pick fuel old new Ran = HasRun pick fuel old new
+    Turns pick fuel old new Deadlock = ((machine old).state.living ≢ []) × (picked_process (machine old).state pick ≡ None) × (new ≡ old)
+    Turns pick fuel old new Over = ((machine old).state.living ≡ []) × (new ≡ old)
+
+  -- ---- the bytes that were put out
+
+  -- they are forgotten, and nothing else
+  pub record Clears (old new : Kernel P S T M) : Type 0 where
+    pub state : (machine new).state ≡ cleared (machine old).state
+    pub places : new.places ≡ old.places
+    pub stops : new.stops ≡ old.stops
+    pub status : new.status ≡ old.status
+    pub broken : new.broken ≡ old.broken
+    pub turns : new.turns ≡ old.turns
+    pub whole : new.whole ≡ old.whole

@@ -1,0 +1,3 @@
+mod DecodingLemmas
+mod FakingLemmas
+mod StopLemmas
