@@ -1,0 +1,15 @@
+-- What a kernel asks of the tree, the user and the mounts over which it begins.
+use Rattle.std.specs.Prelude.{◌<◌, ◌^◌, List, length}
+use Rattle.kr_inode.specs.declared.user.User.{User}
+use Rattle.kr_tree.specs.Tree.{Tree}
+use Rattle.kr_view.specs.View.{Row, StandsIn}
+use Rattle.kr_allowed.specs.Told.{SourcesAreNamed}
+use Rattle.kr_listed.specs.Beginning.{CanLast}
+use Rattle.kr_start.specs.Start.{HasNoHolds}
+
+pub record IsReady (t : Tree) (user : User) (table : List Row) : Type 0 where
+  pub stands : StandsIn t table
+  pub few : length table < 2 ^ 32
+  pub free : HasNoHolds t
+  pub lasts : CanLast t user
+  pub named : SourcesAreNamed table

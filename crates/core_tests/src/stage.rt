@@ -1,0 +1,19 @@
+//! Trees over which kernels begin.
+ghost use Rattle.std.specs.Prelude.{IfOk};
+ghost use Rattle.kr_view.specs.View.{plain};
+ghost use Rattle.core_tests.specs.Ready.{IsReady};
+
+use kr_text::read;
+use kr_tree::laws::trees_are_kept;
+use kr_tree::{Tree, User};
+use std::alloc::Global;
+use std::test::Fail;
+
+/// The tree of a listing, with the ELF file for its program, and its user.
+pub fn listed(alloc: Global, listing: &[u8], elf: &[u8]) -> Result<(Tree, User), Fail>
+    ensures { IfOk result (λ read. IsReady read.0 read.1 plain) }
+{
+    let (tree, user) = read(alloc, listing, Some(elf))?;
+    trees_are_kept(&tree);
+    Ok((tree, user))
+}
