@@ -1,0 +1,60 @@
+-- Trees in which bindings were settled are ready for a kernel.
+use Rattle.std.proofs.Common.{◌≡◌, ◌≤◌, ◌<◌, ◌^◌, ℕ, List, length, map, Option, Some, None, refl, ap, subst, arith}
+use Rattle.std.specs.Prelude.{Ok}
+use Rattle.std.specs.Option.{option_map_or}
+use Rattle.std.proofs.lemmas.List.{length-map}
+use Rattle.pr_base.specs.declared.bind.Bind.{Bind}
+use Rattle.pr_base.specs.declared.bind.Bound.{Bound}
+use Rattle.kr_inode.specs.declared.user.User.{User}
+use Rattle.kr_tree.specs.Lawful.{HasItsInodes, IsKept}
+use Rattle.kr_tree.specs.Tree.{Tree, Inode, inode}
+use Rattle.kr_text.specs.Drawn.{IsDrawn}
+use Rattle.kr_view.specs.View.{Row}
+use Rattle.kr_mounts.specs.Bounds.{AreNumbered}
+use Rattle.kr_mounts.specs.Growth.{IsGrown}
+use Rattle.kr_mounts.specs.MountTable.{settling}
+use Rattle.kr_mounts.specs.Standing.{IsSettledIn}
+use Rattle.kr_mounts.specs.Stored.{row_of_mount, table_of}
+use Rattle.kr_mounts.specs.Ways.{HasNumbers}
+use Rattle.kr_mounts.specs.declared.mount.Mount.{Mount}
+use Rattle.kr_mounts.proofs.BeforeLemmas.{grown_trees_have_all_before}
+use Rattle.kr_mounts.proofs.LeadLemmas.{settled_mounts_stand}
+use Rattle.kr_allowed.proofs.SourceLemmas.{settled-are-named}
+use Rattle.kr_listed.proofs.GrownLemmas.{grown-last}
+use Rattle.kr_listed.proofs.ReadLemmas.{read-last}
+use Rattle.kr_start.specs.Start.{HasNoHolds}
+use Rattle.kr_stage.specs.Ready.{IsOfListing, IsReady}
+
+-- in a tree that was read nothing is held
+has-no-holds : (t : Tree) → ((i : ℕ) (x : Inode) → inode t i ≡ Some x → x.holds ≡ 0) → HasNoHolds t
+has-no-holds t unheld i = by (inode t i) refl
+  where
+    by : (o : Option Inode) → inode t i ≡ o → option_map_or (λ (x : Inode). x.holds) o 0 ≡ 0
+    by None e = refl
+    by (Some x) e = unheld i x e
+
+-- and numbers are left for settling
+pub has-numbers : (t : Tree) (user : User) → IsOfListing t user → IsKept t → HasNumbers t
+has-numbers t user of kept = (read-last of.elf of.bytes t user of.listing of.drawn kept.sound).1
+
+pub settled-ready : (t u : Tree) (user : User) (root : List ℕ) (binds : List Bind) (table : List Row) → IsOfListing t user → IsKept t → HasItsInodes t → AreNumbered binds
+    → IsGrown user t u → (settling t user root binds).tree ≡ u → (settling t user root binds).answer ≡ Ok table → length table < 2 ^ 32 → IsReady u user table
+settled-ready t u user root binds table of kept inodes numbered grown left answer few =
+    let begun = read-last of.elf of.bytes t user of.listing of.drawn kept.sound in
+    let settled : IsSettledIn u user table = subst (λ (v : Tree). IsSettledIn v user table) left (settled_mounts_stand t user root binds table kept.sound kept.counted inodes numbered answer) in
+    let before = grown_trees_have_all_before user t u kept.sound kept.counted grown in
+    record {
+      stands = settled.stands;
+      few = few;
+      free = before.no_holds (has-no-holds t of.drawn.unheld);
+      lasts = grown-last user t u kept.sound kept.counted begun.1 grown begun.0;
+      named = settled-are-named u table settled.as_settled;
+    }
+
+-- a table has a row for each text of its mounts
+pub few-rows : (mounts : List Mount) (bounds : List Bound) → bounds ≡ map (λ (m : Mount). m.text) mounts → length bounds ≤ 4294967295 → length (table_of mounts) < 2 ^ 32
+few-rows mounts bounds are short =
+    let rows : length (table_of mounts) ≡ length mounts = length-map mounts row_of_mount in
+    let texts : length bounds ≡ length (map (λ (m : Mount). m.text) mounts) = ap length are in
+    let each : length (map (λ (m : Mount). m.text) mounts) ≡ length mounts = length-map mounts (λ (m : Mount). m.text) in
+    omega arith

@@ -1,0 +1,20 @@
+use Rattle.std.proofs.Common.{◌≤◌, List, length, sym, subst, arith}
+use Rattle.std.proofs.lemmas.Bool.Decides.{nat_tests}
+use Rattle.kr_mounts.specs.Stored.{table_of}
+use Rattle.kr_mounts.specs.declared.mount.Mount.{Mount}
+use Rattle.kr_stage.specs.Ready.{IsReady}
+use Rattle.kr_stage.proofs.ReadyLemmas.{few-rows, has-numbers, settled-ready}
+use Rattle.kr_stage.proofs.stage.settled.Goals as goal
+
+pub settle-requires : goal.settle-requires
+settle-requires c = has-numbers c.args.tree c.args.user c.requires.listing c.trees_are_kept.ensures.kept
+
+pub returns-clause-ready : goal.returns-clause-ready
+returns-clause-ready c =
+    let u = c.settle.new.tree in
+    let mounts = c.in_ok-settled.settled in
+    let told = c.in_ok-settled.ensures.settled in
+    let short : length c.bounds.result.now ≤ 4294967295 = grind (arith, nat_tests) in
+    let ready = settled-ready c.args.tree u c.args.user c.args.root.now c.args.binds.now (table_of mounts) c.requires.listing c.trees_are_kept.ensures.kept c.trees_are_kept.ensures.there c.requires.numbered c.settle.ensures.grown told.0 told.1
+        (few-rows mounts c.bounds.result.now c.bounds.ensures short) in
+    subst (λ (m : List Mount). IsReady u c.args.user (table_of m)) (sym c.in_ok-places.ensures) ready

@@ -1,0 +1,49 @@
+//! A tree with its user, and the mounts that stand in it.
+ghost use Rattle.std.specs.Prelude.{IfOk};
+ghost use Rattle.kr_mounts.specs.Bounds.{AreNumbered};
+ghost use Rattle.kr_mounts.specs.MountTable.{settling};
+ghost use Rattle.kr_mounts.specs.Stored.{table_of};
+ghost use Rattle.kr_stage.specs.Ready.{IsOfListing, IsReady, IsStaged};
+
+use kr_listed::laws::read_trees_last;
+use kr_mounts::{BindFault, Mounted, settle};
+use kr_tree::laws::trees_are_kept;
+use kr_tree::{Tree, User};
+use pr_base::Bind;
+use std::alloc::Global;
+
+/// More mounts than this have no numbers in a kernel.
+const MOST_MOUNTS: usize = 0xffff_ffff;
+
+/// A tree with its user, and the mounts that stand in it.
+#[derive(Drop)]
+pub struct Stage {
+    pub tree: Tree,
+    pub user: User,
+    pub places: Mounted,
+}
+
+/// The tree of a listing in which a root and bindings are settled, with the view that enters their mounts: what a kernel can begin on. The
+/// first binding that is refused is told by its index, the root's is 0. More than 2^32 - 1 mounts are answered as want of memory.
+pub fn settled(
+    alloc: Global,
+    tree: Tree,
+    user: User,
+    root: &[u8],
+    binds: &[Bind],
+) -> Result<Stage, BindFault>
+    requires listing { IsOfListing tree user }
+    requires numbered { AreNumbered binds.now }
+    ensures staged { IsStaged user (settling tree user root.now binds.now) result }
+    ensures ready { IfOk result (λ stage. IsReady stage.tree stage.user (table_of stage.places)) }
+{
+    trees_are_kept(&tree);
+    read_trees_last();
+    let mut tree = tree;
+    let settled = settle(alloc, &mut tree, user, root, binds)?;
+    if settled.bounds().len() > MOST_MOUNTS {
+        return Err(BindFault::NoMemory);
+    }
+    let places = Mounted::build(alloc, &settled, &tree)?;
+    Ok(Stage { tree, user, places })
+}

@@ -1,0 +1,67 @@
+-- The report of a run: what its turns put out, whether it was calm, the listing of the tree that it left, and the answer.
+use Rattle.std.specs.Prelude.{ℕ, Bool, List, [], ◌∷◌, ◌++◌, codes, Option, Some, None, if◌then◌else◌}
+use Rattle.std.specs.Option.{option_map_or}
+use Rattle.std.specs.Fmt.{decimal}
+use Rattle.kr_inode.specs.declared.user.User.{User}
+use Rattle.kr_text.specs.Canonical.{canonical}
+use Rattle.kr_turns.specs.Run.{Deadlock, Ending, Over, Put, Ran, Spent, ending_of}
+use Rattle.kr_turns.specs.Turn.{Machine}
+use Rattle.pr_answer.specs.declared.answer.Answer.{Answer}
+use Rattle.pr_answer.specs.declared.answer.Answer.TheVariants as answer
+use Rattle.pr_run.specs.declared.plan.Plan.{Plan}
+
+-- ---- bytes
+
+-- a part of what each turn put out, one after the other
+abbrev pub gathered : (Put → List ℕ) → List Put → List ℕ
+gathered part [] = []
+gathered part (put ∷ puts) = part put ++ gathered part puts
+
+abbrev pub out_part : Put → List ℕ
+out_part put = put.out
+
+abbrev pub err_part : Put → List ℕ
+err_part put = put.err
+
+abbrev pub outs : List Put → List ℕ
+outs puts = gathered out_part puts
+
+abbrev pub errs : List Put → List ℕ
+errs puts = gathered err_part puts
+
+-- ---- calm
+
+-- by the rule that was broken first
+abbrev pub calm_line : Option ℕ → List ℕ
+calm_line None = codes "calm: yes" ++ 10 ∷ []
+calm_line (Some rule) = codes "calm: rule " ++ decimal rule ++ 10 ∷ []
+
+-- told where it is asked for
+abbrev pub calm_part : Bool → Option ℕ → List ℕ
+calm_part asked broken = if asked then calm_line broken else []
+
+-- ---- the whole
+
+-- an ended run has the status of the process that ended last
+abbrev pub answer_of : Ending → ℕ → Answer
+answer_of Over status = answer.Ended status
+answer_of Deadlock status = answer.Deadlock
+answer_of Spent status = answer.Spent
+
+-- how a run ends whose turns were made
+abbrev pub last_ending : {S : Type 0} → Machine S → Ending
+last_ending m = option_map_or (λ ending. ending) (ending_of m) Spent
+
+pub record Report : Type 0 where
+  pub puts : List Put
+  pub calm : List ℕ
+  pub left : List ℕ
+  pub answer : Answer
+
+abbrev pub report_of : {S : Type 0} → Plan → Ran S → Report
+report_of plan ran = record {
+  puts = ran.puts;
+  calm = calm_part plan.calm ran.machine.tally.broken;
+  left = canonical ran.machine.state.tree plan.user;
+  answer = answer_of ran.ending ran.machine.tally.status;
+}

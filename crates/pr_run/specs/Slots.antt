@@ -1,0 +1,18 @@
+-- The slots of the turns of a run, and what a plan of one keeps.
+use Rattle.std.specs.Prelude.{ℕ, ◌≤◌, ◌<◌, ◌^◌, List, [], ◌∷◌, map}
+use Rattle.std.specs.List.{All}
+use Rattle.kr_turns.specs.Run.{Slot, cycle}
+use Rattle.pr_words.specs.declared.options.Slot.{Slot as SlotOfWords}
+use Rattle.pr_run.specs.declared.plan.Plan.{Plan}
+
+abbrev pub slot_told : SlotOfWords → Slot
+slot_told s = record { pick = s.pick; fuel = s.fuel }
+
+-- those of a schedule are used in a cycle; without one turn t picks t and makes 1,000 instructions at most
+abbrev pub slot_of : List SlotOfWords → ℕ → Slot
+slot_of [] made = record { pick = made; fuel = 1000 }
+slot_of (s ∷ slots) made = cycle (slot_told s) (map slot_told slots) made
+
+pub record IsPlan (plan : Plan) : Type 0 where
+  pub turns : plan.turns < 2 ^ 31
+  pub schedule : All (λ s. 1 ≤ s.fuel) plan.schedule

@@ -1,0 +1,13 @@
+use Rattle.std.proofs.Common.{◌≤◌, ◌-◌, length}
+use Rattle.std.specs.Io.KnownBytes.{Consumes}
+use Rattle.pr_sources.proofs.within.read_until.Given as goal
+
+abbrev pub invariant-loop-which : goal.invariant-loop-which
+invariant-loop-which g l = record {
+  taken : Consumes (g.S.Source.left l.fn.source) (g.S.Source.left l.source) l.bytes;
+  short : length l.bytes ≤ l.limit;
+  count : g.S.Source.faults l.fn.source ≤ g.S.Source.faults l.source;
+}
+
+abbrev pub decreases-loop-which : goal.decreases-loop-which
+decreases-loop-which g l = l.limit - length l.bytes

@@ -1,0 +1,46 @@
+-- What the words ask for.
+use Rattle.std.specs.Prelude.{◌≡◌, ℕ, Bool, true, false, ◌||◌, not, bytes_eq, List, [], ◌∷◌, codes, is_some, Result, Ok, Err, if◌then◌else◌}
+use Rattle.pr_base.specs.declared.bind.Bind.{Bind}
+use Rattle.pr_words.specs.declared.options.Options.{Options}
+use Rattle.pr_words.specs.declared.fault.WordsFault.{WordsFault}
+use Rattle.pr_words.specs.declared.fault.WordsFault.TheVariants as fault
+use Rattle.pr_words.specs.Reading.{reading_of}
+use Rattle.pr_answer.specs.declared.answer.Answer.{Answer}
+use Rattle.pr_answer.specs.declared.answer.Answer.TheVariants.{NoMemory, Unbuilt, Usage}
+use Rattle.pr_answer.specs.declared.answer.Part.TheVariants.{Words}
+
+abbrev pub some_binds : List Bind → Bool
+some_binds [] = false
+some_binds (b ∷ binds) = true
+
+-- a root or a binding that isn't mounted
+abbrev pub needs_tracer : Options → Bool
+needs_tracer o = if o.native then false else if not (bytes_eq o.root (codes "/")) then true else some_binds o.binds
+
+-- a generated case, an identity, or a tracer
+abbrev pub is_unbuilt : Options → Bool
+is_unbuilt o = if is_some o.case then true else if is_some o.ids then true else needs_tracer o
+
+abbrev pub unless_unbuilt : Options → Result Options Answer
+unless_unbuilt o = if is_unbuilt o then Err (Unbuilt Words) else Ok o
+
+abbrev pub as_answer : WordsFault → Answer
+as_answer (fault.Usage word why) = Usage word why
+as_answer fault.NoMemory = NoMemory
+
+abbrev pub asked_of : Result Options WordsFault → Result Options Answer
+asked_of (Ok o) = unless_unbuilt o
+asked_of (Err e) = Err (as_answer e)
+
+-- the options in the words, or the first word that breaks a rule, or what isn't built yet
+abbrev pub asked : List (List ℕ) → Result Options Answer
+asked words = asked_of (reading_of words)
+
+-- an answer is the expected one, but for want of memory
+abbrev pub IsRefused : {A : Type 0} → Result A Answer → Answer → Type 0
+IsRefused expected NoMemory = Unit {0}
+IsRefused expected answer = expected ≡ Err answer
+
+abbrev pub IsUnlessNoMemory : {A : Type 0} → Result A Answer → Result A Answer → Type 0
+IsUnlessNoMemory expected (Ok x) = expected ≡ Ok x
+IsUnlessNoMemory expected (Err answer) = IsRefused expected answer

@@ -1,0 +1,58 @@
+//! A source, read to its end within a limit.
+ghost use Rattle.std.specs.Prelude.{◌≤◌, ◌<◌, ◌^◌, IfOk, OnOk, IfErr};
+ghost use Rattle.std.specs.Io.KnownBytes.{IsAtEnd};
+ghost use Rattle.pr_sources.specs.Within.{Comes, IsReadRefusal, ReadsWithin, told_within};
+
+use pr_answer::{Answer, Which};
+use pr_base::Bytes;
+use pr_io::Source;
+use std::alloc::Global;
+
+/// Reads a source to its end, or until so many bytes were read.
+fn read_until<S: Source>(
+    alloc: Global,
+    source: &mut S,
+    limit: usize,
+    which: Which,
+) -> Result<Bytes, Answer>
+    ensures read { IfOk result (ReadsWithin limit (S.left source.old) (S.left source.new)) }
+    ensures refused { IfErr result (IsReadRefusal which (S.faults source.old) (S.faults source.new)) }
+    ensures count { S.faults source.old ≤ S.faults source.new }
+{
+    let mut bytes = Bytes::new(alloc);
+    let mut buffer = [0; 4096];
+    while bytes.len() < limit {
+        let room = (limit - bytes.len()).min(buffer.len());
+        let part = &mut buffer[..room];
+        let Ok(taken) = source.take(part) else {
+            return Err(Answer::ReadFault { which });
+        };
+        if taken == 0 {
+            return Ok(bytes);
+        }
+        if bytes.append(&part[..taken]).is_err() {
+            return Err(Answer::NoMemory);
+        }
+    }
+    Ok(bytes)
+}
+
+/// Reads a source to its end. One that has more bytes than its limit is read up to one byte more, and refused.
+pub(crate) fn read_within<S: Source>(
+    alloc: Global,
+    source: &mut S,
+    limit: usize,
+    which: Which,
+) -> Result<Bytes, Answer>
+    requires { limit < 2 ^ 32 }
+    ensures told { Comes (told_within limit which (S.left source.old)) result }
+    ensures refused { IfErr result (IsReadRefusal which (S.faults source.old) (S.faults source.new)) }
+    ensures end { OnOk result (IsAtEnd (S.left source.new)) }
+    ensures count { S.faults source.old ≤ S.faults source.new }
+{
+    let bytes = read_until(alloc, source, limit + 1, which)?;
+    if limit < bytes.len() {
+        return Err(Answer::TooLong { which });
+    }
+    Ok(bytes)
+}

@@ -1,0 +1,61 @@
+-- The start of a run over mounts: the working directory, the command, and then the first process, which is that of execve(2).
+use Rattle.std.specs.Prelude.{◌≡◌, ℕ, true, false, List, [], ◌∷◌, Option, Some, None, Result, Ok, Err}
+use Rattle.pr_base.specs.declared.errno.Errno.{Errno}
+use Rattle.pr_base.specs.declared.errno.Errno.TheVariants.{ENOENT}
+use Rattle.kr_inode.specs.declared.user.User.{User}
+use Rattle.kr_tree.specs.Tree.{Tree}
+use Rattle.kr_view.specs.declared.target.Reach.{Reach}
+use Rattle.kr_view.specs.View.{Row}
+use Rattle.kr_model.specs.State.{Image, State}
+use Rattle.kr_model.specs.Walks.{and_then}
+use Rattle.kr_first.specs.declared.starting.First.{First}
+use Rattle.kr_first.specs.declared.starting.StartFault.{StartFault}
+use Rattle.kr_first.specs.declared.starting.StartFault.TheVariants as fault
+use Rattle.kr_first.specs.Starting.{start_of, start_reach}
+use Rattle.kr_turns.specs.Turn.{Machine}
+use Rattle.kr_turns.specs.declared.stops.Unwatched.{Unwatched}
+use Rattle.kr_core.specs.Kernel as kernel
+use Rattle.kr_core.specs.Kernel.{first_rule, machine}
+use Rattle.kr_mounts.specs.declared.mount.Mount.{Mount}
+use Rattle.kr_mounts.specs.declared.mounted.MountNumber.{MountNumber}
+use Rattle.pr_start.specs.Directory.{At, directory_reach, working_directory}
+use Rattle.pr_start.specs.Command.{Chosen, arguments, chosen, word_of}
+use Rattle.pr_start.specs.Numbers.{number_of}
+use Rattle.pr_start.specs.declared.start.Launch.{Launch}
+
+-- nothing is reached before the first walk
+abbrev pub nowhere : Reach
+nowhere = record { longest = 0; met_proc = false }
+
+-- the real and the effective user and group
+abbrev pub ids_of : User → List ℕ
+ids_of user = user.uid ∷ user.uid ∷ user.gid ∷ user.gid ∷ []
+
+-- a state before its first turn, with the calm rule that the walks of the start broke
+abbrev pub fresh : Reach → State ℕ Image → Machine Unwatched
+fresh reach s = record { state = s; watcher = record {}; tally = record { status = 0; broken = first_rule 1 reach } }
+
+module _ (table : List Row) (tree : Tree) (user : User) where
+  abbrev pub first_of : Launch → At → List ℕ → Reach → First
+  first_of launch at path reach = record { path = path; args = arguments launch.command; env = launch.env; cwd = at.path; ids = ids_of user; reach = reach }
+
+  abbrev pub begun : First → List ℕ → Result (Machine Unwatched) Errno
+  begun first input = and_then (start_of table tree user input first) (λ s. Ok (fresh (start_reach table tree user first) s))
+
+  abbrev pub begun_at : Launch → List ℕ → At → Reach → Option (List ℕ) → Result (Machine Unwatched) Errno
+  begun_at launch input at reach None = Err ENOENT
+  begun_at launch input at reach (Some path) = begun (first_of launch at path reach) input
+
+  abbrev pub begun_in : Launch → List ℕ → At → Reach → Result (Machine Unwatched) Errno
+  begun_in launch input at reach =
+      let found = chosen table tree user at.place launch.env (word_of launch.command) reach in
+      begun_at launch input at found.reach found.path
+
+  abbrev pub beginning : Launch → List ℕ → Result (Machine Unwatched) Errno
+  beginning launch input = begun_in launch input (working_directory table tree user launch.cwd) (directory_reach table tree user launch.cwd nowhere)
+
+-- a kernel begins as the definition says, before its first turn, or its error is answered, but for want of memory
+abbrev pub Begins : Result (Machine Unwatched) Errno → Result (kernel.Kernel (List Mount) Unwatched MountNumber 1) StartFault → Type 0
+Begins answer (Ok k) = (answer ≡ Ok (machine number_of k)) × (k.turns ≡ 0) × (k.whole ≡ true)
+Begins answer (Err (fault.Err e)) = answer ≡ Err e
+Begins answer (Err fault.NoMemory) = Unit {0}

@@ -1,0 +1,4 @@
+pub mod Directory
+pub mod Command
+pub mod Beginning
+pub mod Numbers

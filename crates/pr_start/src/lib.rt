@@ -1,0 +1,8 @@
+//! The start of a run: its working directory and its command are looked for, and its first process begins.
+#![tactic(auto)]
+
+mod command;
+mod directory;
+mod start;
+
+pub use start::{Launch, start};

@@ -1,0 +1,83 @@
+//! The start.
+ghost use Rattle.std.specs.Prelude.{◌≡◌, ◌≢◌, IfOk};
+ghost use Rattle.std.specs.List.{All};
+ghost use Rattle.kr_lasting.specs.Texts.{IsText};
+ghost use Rattle.kr_mounts.specs.Stored.{table_of};
+ghost use Rattle.kr_stage.specs.Ready.{IsReady};
+ghost use Rattle.pr_start.specs.Beginning.{Begins, beginning};
+
+use crate::command::{arguments, choose, word_of};
+use crate::directory::working_directory;
+use kr_core::Kernel;
+use kr_first::laws::roots_are_directories;
+use kr_first::{First, StartFault};
+use kr_mounts::Mounted;
+use kr_stage::Stage;
+use kr_turns::Unwatched;
+use kr_view::Reach;
+use pr_base::{Bytes, Errno, Texts};
+use std::alloc::Global;
+
+/// What is started.
+#[derive(Drop)]
+pub struct Launch {
+    /// The command and its arguments. Without any it is `/bin/sh`.
+    pub command: Texts,
+    pub env: Texts,
+    /// The path of the first working directory; what isn't a directory that the user may search becomes the root.
+    pub cwd: Bytes,
+}
+
+/// Nothing was reached yet.
+const NOWHERE: Reach = Reach {
+    longest: 0,
+    met_proc: false,
+};
+
+/// Starts a command over mounts, in the name of their tree's user. A command without a slash is the first program of that name in the directories
+/// of PATH, ENOENT where there is none; else the errors are those of execve(2). All walks of the start count for the calm rules.
+pub fn start(
+    alloc: Global,
+    stage: Stage,
+    launch: Launch,
+    input: Bytes,
+) -> Result<Kernel<Mounted, Unwatched, 1>, StartFault>
+    requires ready { IsReady stage.tree stage.user (table_of stage.places) }
+    requires command { All IsText launch.command }
+    requires env { All IsText launch.env }
+    ensures begins { Begins (beginning (table_of stage.places) stage.tree stage.user launch input) result }
+    ensures places { IfOk result (λ kernel. kernel.places ≡ stage.places) }
+{
+    let Launch { command, env, cwd } = launch;
+    let mut reach = NOWHERE;
+    roots_are_directories();
+    let Ok(directory) = working_directory(alloc, &stage, cwd, &mut reach) else {
+        return Err(StartFault::NoMemory);
+    };
+    let path = match choose(
+        alloc,
+        &stage,
+        directory.place,
+        &env,
+        word_of(&command),
+        &mut reach,
+    ) {
+        Ok(Some(path)) => path,
+        Ok(None) => return Err(StartFault::Err(Errno::ENOENT)),
+        Err(_no_memory) => return Err(StartFault::NoMemory),
+    };
+    let Ok(args) = arguments(alloc, command) else {
+        return Err(StartFault::NoMemory);
+    };
+    let user = stage.user;
+    let first = First {
+        path,
+        args,
+        env,
+        cwd: directory.path,
+        ids: [user.uid, user.uid, user.gid, user.gid],
+        reach,
+    };
+    let Stage { tree, places, .. } = stage;
+    Kernel::start(alloc, places, Unwatched, tree, user, input, first)
+}
