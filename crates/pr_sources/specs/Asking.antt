@@ -1,5 +1,5 @@
 -- What the words ask for.
-use Rattle.std.specs.Prelude.{◌≡◌, ℕ, Bool, true, false, ◌||◌, not, bytes_eq, List, [], ◌∷◌, codes, is_some, Result, Ok, Err, if◌then◌else◌}
+use Rattle.std.specs.Prelude.{◌≡◌, ℕ, Bool, true, false, not, bytes_eq, List, [], ◌∷◌, codes, is_some, Result, Ok, Err, if◌then◌else◌}
 use Rattle.pr_base.specs.declared.bind.Bind.{Bind}
 use Rattle.pr_words.specs.declared.options.Options.{Options}
 use Rattle.pr_words.specs.declared.fault.WordsFault.{WordsFault}

@@ -5,7 +5,7 @@ use Rattle.std.specs.Io.KnownBytes.{Consumes, IsAtEnd}
 use Rattle.pr_io.specs.Faults.{Rose}
 use Rattle.pr_answer.specs.declared.answer.Which.{Which}
 use Rattle.pr_answer.specs.declared.answer.Answer.{Answer}
-use Rattle.pr_answer.specs.declared.answer.Answer.TheVariants.{Ended, Deadlock, Spent, Usage, TooLong, TreeBad, BadBind, NoStart, ReadFault, WriteFault, NoMemory, Unbuilt}
+use Rattle.pr_answer.specs.declared.answer.Answer.TheVariants.{NoMemory, ReadFault, TooLong}
 
 -- the bytes of a source, where they are no more than its limit
 abbrev pub within : ℕ → Which → List ℕ → Result (List ℕ) Answer
@@ -42,20 +42,16 @@ Comes told answer = IfSome told (λ expected. ComesTo expected answer)
 
 -- ---- a source
 
--- reading this source is refused since it is too long, by want of memory, or by a fault that it counted
+-- reading this source ends early, by want of memory, or by a fault that it counted
+abbrev pub IsReadEnd : Which → ℕ → ℕ → Answer → Type 0
+IsReadEnd which before now NoMemory = Unit {0}
+IsReadEnd which before now (ReadFault w) = (w ≡ which) × Rose before now
+IsReadEnd which before now answer = ⊥
+
+-- or it is refused, since it is too long
 abbrev pub IsReadRefusal : Which → ℕ → ℕ → Answer → Type 0
-IsReadRefusal which before now NoMemory = Unit {0}
-IsReadRefusal which before now (ReadFault w) = (w ≡ which) × Rose before now
 IsReadRefusal which before now (TooLong w) = w ≡ which
-IsReadRefusal which before now (WriteFault w) = ⊥
-IsReadRefusal which before now (Ended status) = ⊥
-IsReadRefusal which before now Deadlock = ⊥
-IsReadRefusal which before now Spent = ⊥
-IsReadRefusal which before now (Usage word why) = ⊥
-IsReadRefusal which before now (TreeBad line why) = ⊥
-IsReadRefusal which before now (BadBind index why) = ⊥
-IsReadRefusal which before now (NoStart errno) = ⊥
-IsReadRefusal which before now (Unbuilt part) = ⊥
+IsReadRefusal which before now answer = IsReadEnd which before now answer
 
 -- the source gave these bytes, all that it had where they are fewer than asked for
 pub record ReadsWithin (most : ℕ) (old new : Option (List ℕ)) (bytes : List ℕ) : Type 0 where

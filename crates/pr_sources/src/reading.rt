@@ -41,7 +41,7 @@ pub struct Asked {
 fn read_file<E: Source>(alloc: Global, elf: &mut E, listing: &[u8]) -> Result<Option<Bytes>, Answer>
     ensures told { IfOk result (λ file. Comes (told_file (E.left elf.old) listing.now) (Ok (unwrap_or file []))) }
     ensures given { IfOk result (λ file. IsTrue (wants_elf listing.now) → IsSome file) }
-    ensures refused { IfErr result (λ answer. Comes {List ℕ} (told_file (E.left elf.old) listing.now) (Err answer)) }
+    ensures refused { IfErr result (λ answer. Comes {A = List ℕ} (told_file (E.left elf.old) listing.now) (Err answer)) }
     ensures wanted { IfErr result (λ answer. IsTrue (wants_elf listing.now) × IsReadRefusal Elf (E.faults elf.old) (E.faults elf.new) answer) }
     ensures untouched { wants_elf listing.now ≡ false → elf.new ≡ elf.old }
     ensures end { IsTrue (wants_elf listing.now) → OnOk result (IsAtEnd (E.left elf.new)) }
@@ -55,7 +55,7 @@ fn read_file<E: Source>(alloc: Global, elf: &mut E, listing: &[u8]) -> Result<Op
 
 /// The tree and the user of a listing, or its first bad line.
 fn list(alloc: Global, listing: &[u8], file: Option<&[u8]>) -> Result<(Tree, User), Answer>
-    requires { IsTrue (wants_elf listing.now) → IsSome file.entry }
+    requires { IsTrue (wants_elf listing.now) → IsSome file }
     ensures listing { IsUnlessNoMemory (listed (unwrap_or (option_copied file.entry) []) listing.now) result }
     ensures read { IfOk result (λ read. IsOfListing read.0 read.1) }
 {

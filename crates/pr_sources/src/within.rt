@@ -1,7 +1,7 @@
 //! A source, read to its end within a limit.
 ghost use Rattle.std.specs.Prelude.{◌≤◌, ◌<◌, ◌^◌, IfOk, OnOk, IfErr};
 ghost use Rattle.std.specs.Io.KnownBytes.{IsAtEnd};
-ghost use Rattle.pr_sources.specs.Within.{Comes, IsReadRefusal, ReadsWithin, told_within};
+ghost use Rattle.pr_sources.specs.Within.{Comes, IsReadEnd, IsReadRefusal, ReadsWithin, told_within};
 
 use pr_answer::{Answer, Which};
 use pr_base::Bytes;
@@ -16,7 +16,7 @@ fn read_until<S: Source>(
     which: Which,
 ) -> Result<Bytes, Answer>
     ensures read { IfOk result (ReadsWithin limit (S.left source.old) (S.left source.new)) }
-    ensures refused { IfErr result (IsReadRefusal which (S.faults source.old) (S.faults source.new)) }
+    ensures refused { IfErr result (IsReadEnd which (S.faults source.old) (S.faults source.new)) }
     ensures count { S.faults source.old ≤ S.faults source.new }
 {
     let mut bytes = Bytes::new(alloc);

@@ -15,7 +15,7 @@ fn needs_tracer(options: &Options) -> bool
     if options.native {
         return false;
     }
-    if options.root.as_slice() != b"/" {
+    if options.root.as_slice() != b"/".as_slice() {
         return true;
     }
     !options.binds.is_empty()
