@@ -1,6 +1,6 @@
 -- The command: a word with a slash is a path. Another one is searched in the directories of PATH, or in `/bin` and `/usr/bin`; the first
 -- candidate that is a regular file which the user may execute is taken.
-use Rattle.std.specs.Prelude.{ℕ, nat_eq, Bool, true, false, List, [], ◌∷◌, ◌++◌, length, drop, codes, Option, Some, None, Result, Ok, Err, if◌then◌else◌}
+use Rattle.std.specs.Prelude.{ℕ, nat_eq, ◌==◌, Bool, true, false, List, [], ◌∷◌, ◌++◌, length, drop, codes, Option, Some, None, Result, Ok, Err, if◌then◌else◌}
 use Rattle.std.specs.List.{list_any, slice_split, starts_with}
 use Rattle.pr_base.specs.declared.errno.Errno.{Errno}
 use Rattle.kr_inode.specs.declared.user.User.{User}
@@ -47,7 +47,7 @@ path_of (variable ∷ env) = or_later (path_text variable) (path_of env)
 -- those of PATH stand between colons
 abbrev pub directories : Option (List ℕ) → List (List ℕ)
 directories None = codes "/bin" ∷ codes "/usr/bin" ∷ []
-directories (Some text) = slice_split (λ b. nat_eq b 58) text
+directories (Some text) = slice_split (λ b. b == 58) text
 
 -- an empty directory is the working directory
 abbrev pub candidate : List ℕ → List ℕ → List ℕ

@@ -1,5 +1,6 @@
 //! The command, searched in the directories of PATH where its word has no slash.
-ghost use Rattle.std.specs.Prelude.{◌≡◌, IfOk, OnOk, map, is_ok};
+ghost use Rattle.std.specs.Prelude.{◌≡◌, ◌==◌, IfOk, OnOk, map};
+ghost use Rattle.std.specs.List.{slice_split};
 ghost use Rattle.std.specs.Option.{option_copied};
 ghost use Rattle.kr_mounts.specs.Stored.{table_of};
 ghost use Rattle.kr_view.specs.Leads.{numbered};
@@ -13,7 +14,7 @@ use kr_stage::Stage;
 use kr_tree::Place;
 use kr_view::{NoProcs, Reach, WalkFault};
 use pr_base::{Bytes, NoMemory, Texts};
-use std::alloc::Global;
+use std::alloc::{AllocError, Global};
 
 /// The number of the first process, in whose name its walks are made.
 const FIRST: u32 = 2;
@@ -41,12 +42,19 @@ fn path_of(env: &Texts) -> Option<&[u8]>
     None
 }
 
+/// The directories between the colons of a text.
+fn split_at_colons(alloc: Global, text: &[u8]) -> Result<Vec<&[u8]>, AllocError>
+    ensures { IfOk result (λ dirs. map (λ dir. dir.now) dirs.items ≡ slice_split (λ b. b == 58) text.now) }
+{
+    text.split(|byte| *byte == b':').collect(alloc)
+}
+
 /// The directories in which a command is searched: those of PATH, and without it `/bin` and `/usr/bin`.
 fn directories(alloc: Global, path: Option<&[u8]>) -> Result<Vec<&[u8]>, NoMemory>
     ensures { IfOk result (λ dirs. map (λ dir. dir.now) dirs.items ≡ directories (option_copied path.entry)) }
 {
     match path {
-        Some(text) => Ok(text.split(|byte| *byte == b':').collect(alloc)?),
+        Some(text) => Ok(split_at_colons(alloc, text)?),
         None => {
             let mut dirs = Vec::new(alloc);
             dirs.push(b"/bin".as_slice())?;
@@ -101,6 +109,7 @@ fn is_there(
 }
 
 /// The first candidate in some directories that is a program.
+#[tactic(auto, unfolding(crate::specs::Command::searched))]
 fn search(
     alloc: Global,
     stage: &Stage,

@@ -1,78 +1,86 @@
--- The opening: what the words and the bytes of the three sources come to, a start or the first refusal.
-use Rattle.std.specs.Prelude.{ℕ, ◌==◌, nat_lt, bytes_eq, List, [], ◌∷◌, length, codes, Option, Some, None, Result, Ok, Err, if◌then◌else◌}
-use Rattle.pr_base.specs.declared.errno.Errno.TheVariants.{ENOENT}
+-- The opening: the first refusal in the order of the words, the sources, the bindings and the start, or a run that begins. It is known where
+-- the sources that it needs tell their bytes.
+use Rattle.std.specs.Prelude.{◌≡◌, ◌⊎◌, ℕ, true, List, Option, Some, IfSome, Result, Ok, Err}
 use Rattle.pr_base.specs.declared.errno.Errno.{Errno}
-use Rattle.std.specs.Option.{option_map}
-use Rattle.kr_single.specs.Start.{start_refusal}
-use Rattle.pr_top.specs.Listing.{Listing, is_name, behind, listing_of, word_of, ids_of}
-use Rattle.pr_top.specs.declared.answer.Part.TheVariants.{Words, Tree, Elf, Input}
-use Rattle.pr_top.specs.declared.answer.Answer.{Answer}
-use Rattle.pr_top.specs.declared.answer.Answer.TheVariants.{NoStart, Unbuilt}
+use Rattle.kr_tree.specs.Tree.{Tree}
+use Rattle.kr_view.specs.View.{Row}
+use Rattle.kr_mounts.specs.MountTable.{Refusal, Settling, settling}
+use Rattle.kr_mounts.specs.Stored.{table_of}
+use Rattle.kr_core.specs.Kernel.{machine}
+use Rattle.kr_turns.specs.Turn.{Machine}
+use Rattle.kr_turns.specs.Run.{Ran, run}
+use Rattle.kr_turns.specs.Watching.{unwatched}
+use Rattle.kr_turns.specs.declared.stops.Unwatched.{Unwatched}
+use Rattle.pr_answer.specs.declared.answer.Answer.{Answer}
+use Rattle.pr_answer.specs.declared.answer.Answer.TheVariants.{BadBind, NoStart}
+use Rattle.pr_sources.specs.Within.{IsEarly, Stage, and_then}
+use Rattle.pr_sources.specs.Reading.{told_asked}
+use Rattle.pr_sources.specs.declared.reading.Asked.{Asked}
+use Rattle.pr_start.specs.Beginning.{beginning}
+use Rattle.pr_start.specs.Numbers.{number_of}
+use Rattle.pr_start.specs.declared.start.Launch.{Launch}
+use Rattle.pr_run.specs.Report.{Report, report_of}
+use Rattle.pr_run.specs.Slots.{IsPlan, slot_of}
+use Rattle.pr_run.specs.declared.plan.Plan.{Plan}
+use Rattle.pr_top.specs.declared.opening.Opened.{Opened}
 
--- what runs: the listing that was read, and the bytes of its program
-pub record Start : Type 0 where
-  pub listing : Listing
-  pub file : List ℕ
+-- ---- a run that begins
 
-abbrev pub Opening : Type 0
-Opening = Result Start Answer
+-- by what it is made, the mounts that stand, and the machine before the first turn
+pub record Begun : Type 0 where
+  pub plan : Plan
+  pub table : List Row
+  pub machine : Machine Unwatched
 
--- the name in a path of one name
-abbrev pub if_name : Option (List ℕ) → Option (List ℕ)
-if_name None = None
-if_name (Some name) = if is_name name then Some name else None
+-- the run on the kernel with mounts
+abbrev pub run_of : Begun → Ran Unwatched
+run_of b = run unwatched 1 b.table (slot_of b.plan.schedule) b.plan.turns b.machine
 
--- the name in the one word `/NAME`
-abbrev pub command_name : List (List ℕ) → Option (List ℕ)
-command_name (word ∷ []) = if_name (behind (codes "/") word)
-command_name [] = None
-command_name (word ∷ more ∷ words) = None
+abbrev pub report : Begun → Report
+report b = report_of b.plan (run_of b)
 
--- ENOENT where the program is another one
-abbrev pub found : List ℕ → Start → Opening
-found name start = if bytes_eq name start.listing.name then Ok start else Err (NoStart ENOENT)
+-- ---- bindings and the start
 
-abbrev pub with_input : List ℕ → Start → List ℕ → Opening
-with_input name start input = if length input == 0 then found name start else Err (Unbuilt Input)
+abbrev pub plan_of : Asked → Plan
+plan_of a = record { turns = a.options.turns; schedule = a.options.schedule; calm = a.options.calm; user = a.user }
 
--- a file may have 65,536 bytes
-abbrev pub with_elf : List ℕ → Listing → List ℕ → List ℕ → Opening
-with_elf name listing elf input = if nat_lt 65536 (length elf) then Err (Unbuilt Elf) else with_input name (record { listing = listing; file = elf }) input
+abbrev pub launch_of : Asked → Launch
+launch_of a = record { command = a.options.command; env = a.options.env; cwd = a.options.cwd }
 
-abbrev pub with_tree : List ℕ → Option Listing → List ℕ → List ℕ → Opening
-with_tree name None elf input = Err (Unbuilt Tree)
-with_tree name (Some listing) elf input = with_elf name listing elf input
+abbrev pub started : Asked → List Row → Result (Machine Unwatched) Errno → Result Begun Answer
+started a table (Ok m) = Ok (record { plan = plan_of a; table = table; machine = m })
+started a table (Err e) = Err (NoStart e)
 
-abbrev pub with_name : Option (List ℕ) → List ℕ → List ℕ → List ℕ → Opening
-with_name None tree elf input = Err (Unbuilt Words)
-with_name (Some name) tree elf input = with_tree name (listing_of tree) elf input
+abbrev pub over : Asked → Tree → Result (List Row) Refusal → Result Begun Answer
+over a tree (Ok table) = started a table (beginning table tree a.user (launch_of a) a.input)
+over a tree (Err refusal) = Err (BadBind refusal.index refusal.why)
 
--- the words, the listing, the file, the input and the name are looked at in this order
-abbrev pub reading : List (List ℕ) → List ℕ → List ℕ → List ℕ → Opening
-reading words tree elf input = with_name (command_name words) tree elf input
+abbrev pub on_settled : Asked → Settling → Result Begun Answer
+on_settled a s = over a s.tree s.answer
 
--- the program's one argument is the word that named it
-abbrev pub args_of : Start → List (List ℕ)
-args_of start = word_of start.listing ∷ []
+-- the bindings are settled over the tree that was read, and the command is started over them
+abbrev pub begun : Asked → Result Begun Answer
+begun a = on_settled a (settling a.tree a.user a.options.root a.options.binds)
 
-abbrev pub or_no_start : Start → Option Errno → Opening
-or_no_start start None = Ok start
-or_no_start start (Some errno) = Err (NoStart errno)
+-- ---- the whole
 
--- last the error of execve(2), where the program can't be started
-abbrev pub startable : Opening → Opening
-startable (Ok start) = or_no_start start (start_refusal start.file (args_of start) (ids_of start.listing))
-startable (Err refusal) = Err refusal
+abbrev pub opening : List (List ℕ) → Option (List ℕ) → Option (List ℕ) → Option (List ℕ) → Stage Begun
+opening words tree elf input = and_then (told_asked words tree elf input) (λ asked. Some (begun asked))
 
-abbrev pub opening : List (List ℕ) → List ℕ → List ℕ → List ℕ → Opening
-opening words tree elf input = startable (reading words tree elf input)
+-- ---- what the opening's code answers
 
--- the same of sources that tell what they have left
-abbrev pub told_reading : List (List ℕ) → Option (List ℕ) → Option (List ℕ) → Option (List ℕ) → Option Opening
-told_reading words (Some tree) (Some elf) (Some input) = Some (reading words tree elf input)
-told_reading words (Some tree) (Some elf) None = None
-told_reading words (Some tree) None input = None
-told_reading words None elf input = None
+abbrev pub begun_told : Opened → Begun
+begun_told o = record { plan = o.plan; table = table_of o.kernel.places; machine = machine number_of o.kernel }
 
-abbrev pub told_opening : List (List ℕ) → Option (List ℕ) → Option (List ℕ) → Option (List ℕ) → Option Opening
-told_opening words tree elf input = option_map startable (told_reading words tree elf input)
+pub record IsReadyToRun (o : Opened) : Type 0 where
+  pub whole : o.kernel.whole ≡ true
+  pub first : o.kernel.turns ≡ 0
+  pub plan : IsPlan o.plan
+
+-- a begun run or a refusal is answered as it is expected, or an early end
+abbrev pub OpensFrom : Result Begun Answer → Result Opened Answer → Type 0
+OpensFrom expected (Ok opened) = expected ≡ Ok (begun_told opened)
+OpensFrom expected (Err answer) = (expected ≡ Err answer) ⊎ IsEarly answer
+
+abbrev pub Opens : Stage Begun → Result Opened Answer → Type 0
+Opens told answer = IfSome told (λ expected. OpensFrom expected answer)

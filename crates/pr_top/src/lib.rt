@@ -1,13 +1,8 @@
-//! The top call: a listing and a file are read, the guest runs, and what it wrote and the listing
-//! of the tree that it leaves are put to the sinks.
+//! The top call: words, a listing, an ELF file and an input make a run, and its report is put to three sinks.
 #![tactic(auto)]
 
-pub mod answer;
-pub mod laws;
-mod listing;
 mod opening;
-mod report;
-pub mod top;
+mod top;
 
-pub use answer::{Answer, Part, Which};
+pub use pr_answer::{Answer, Part, Which};
 pub use top::proot;

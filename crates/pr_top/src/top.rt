@@ -1,26 +1,29 @@
 //! The top call.
-ghost use Rattle.std.specs.Prelude.{◌≡◌, ◌⊎◌, ◌↔◌, None, map, IfOk};
+ghost use Rattle.std.specs.Prelude.{◌≡◌, ◌≢◌, ◌⊎◌, ◌<◌, ◌^◌, ◌++◌, ◌↔◌, Err, IfSome, IfOk, length, map};
 ghost use Rattle.std.specs.String.{string_bytes};
 ghost use Rattle.std.specs.Io.KnownBytes.{Appends, Keeps, IsAtEnd};
 ghost use Rattle.pr_io.specs.Faults.{Rose};
-ghost use Rattle.pr_top.specs.declared.answer.Part.TheVariants.{Words};
-ghost use Rattle.pr_top.specs.declared.answer.Which.TheVariants.{Tree, Elf, Input, Out, Err as ErrSink, Left};
-ghost use Rattle.pr_top.specs.Opening.{command_name};
-ghost use Rattle.pr_top.specs.Report.{run_of, answer_of, out_of, err_of, left_of, part_of};
-ghost use Rattle.pr_top.specs.Promise.{IfTold, NamesItsObject, TellsRun, ComesBeforeRun, IsRefusal, AnswersOpening, GotPrefix, StopsBetween};
+ghost use Rattle.pr_io.specs.Moves.{AppendsPrefix};
+ghost use Rattle.pr_answer.specs.declared.answer.Which.TheVariants.{Tree, Elf, Input, Out, Err as ErrSink, Left};
+ghost use Rattle.pr_sources.specs.Asking.{asked};
+ghost use Rattle.pr_sources.specs.Reading.{EndsBeforeElf, EndsBeforeInput, HasCause, IsOfWords, IsRefusal, IsUnwanted, IsWanted, told_listing, told_tree};
+ghost use Rattle.pr_run.specs.Report.{errs, outs};
+ghost use Rattle.pr_run.specs.Puts.{PutsTurns, StopsInCalm, StopsInErr, StopsInOut};
+ghost use Rattle.pr_top.specs.Opening.{opening, report};
+ghost use Rattle.pr_top.specs.Promise.{AnswersOpening, ComesBeforeRun, EndsEarly, IfKnown, Refuses, StopsForMemory, TellsRun};
 
-use crate::answer::Answer;
-use crate::opening::open;
-use crate::report::report;
+use crate::opening::{Opened, open};
+use pr_answer::Answer;
 use pr_io::{Sink, Source};
+use pr_run::report;
 use std::alloc::Global;
 
-/// Reads a listing, an ELF file and an input, runs the guest of the one word `/NAME`, and puts its
-/// output, its error and the listing of the tree that it leaves.
+/// Reads the words, a listing of the host's tree, an ELF file where the listing names it, and an input; settles the bindings that the words
+/// ask for, starts the command over them, and runs it, turn after turn. What each turn puts out goes to `out` and `err`, with `--calm` a last
+/// line on `err` tells if the run was calm, and last the canonical listing of the tree that is left goes to `left`.
 ///
-/// The opening, the report and the run are definitions of their own. A clause on the opening holds
-/// where all three sources tell what they have left, and a clause on a sink where that sink tells
-/// what it got; its bytes are those that were appended in this call.
+/// The opening, the run and the report are definitions of their own. A clause that cites the opening holds where the sources that it needs
+/// tell what they have left, and a clause on a sink where that sink tells what it got; its bytes are those that were appended in this call.
 pub fn proot<T: Source, E: Source, I: Source, O: Sink, R: Sink, L: Sink>(
     alloc: Global,
     words: &[String],
@@ -31,52 +34,64 @@ pub fn proot<T: Source, E: Source, I: Source, O: Sink, R: Sink, L: Sink>(
     err: &mut R,
     left: &mut L,
 ) -> Answer
-    // The words need no source to tell anything.
-    ensures words { (result ≡ Answer.Unbuilt Words) ↔ (command_name (map string_bytes words.now) ≡ None) }
+    requires { length words.now < 2 ^ 32 }
 
-    // What is answered: the opening's refusal or the end of its run, want of memory, or a fault.
-    ensures opening { IfTold (map string_bytes words.now) (T.left tree.old) (E.left elf.old) (I.left input.old) (λ opening. AnswersOpening opening result) }
-    ensures refusal { IfTold (map string_bytes words.now) (T.left tree.old) (E.left elf.old) (I.left input.old) (λ opening. IsRefusal result → opening ≡ Err result) }
-
-    // Whatever is answered, each sink got a prefix of its part: nothing where the opening refuses.
-    ensures out_prefix { IfTold (map string_bytes words.now) (T.left tree.old) (E.left elf.old) (I.left input.old) (λ opening. GotPrefix out_of opening (O.got out.old) (O.got out.new)) }
-    ensures err_prefix { IfTold (map string_bytes words.now) (T.left tree.old) (E.left elf.old) (I.left input.old) (λ opening. GotPrefix err_of opening (R.got err.old) (R.got err.new)) }
-    ensures left_prefix { IfTold (map string_bytes words.now) (T.left tree.old) (E.left elf.old) (I.left input.old) (λ opening. GotPrefix left_of opening (L.got left.old) (L.got left.new)) }
+    // What is answered: the opening's refusal, or the answer of its run's report; want of memory or a fault may come instead.
+    ensures opening { IfSome (opening (map string_bytes words.now) (T.left tree.old) (E.left elf.old) (I.left input.old)) (λ o. AnswersOpening o result) }
+    ensures refusal { Refuses result → IfSome (opening (map string_bytes words.now) (T.left tree.old) (E.left elf.old) (I.left input.old)) (λ o. o ≡ Err result) }
+    ensures words { IsOfWords result → asked (map string_bytes words.now) ≡ Err result }
 
     // Nothing is put before the run.
     ensures out_untouched { ComesBeforeRun result → Keeps (O.got out.old) (O.got out.new) }
     ensures err_untouched { ComesBeforeRun result → Keeps (R.got err.old) (R.got err.new) }
     ensures left_untouched { ComesBeforeRun result → Keeps (L.got left.old) (L.got left.new) }
 
-    // Where a run is told, each sink got its whole part, and the sources have nothing left.
-    ensures out_whole { IfTold (map string_bytes words.now) (T.left tree.old) (E.left elf.old) (I.left input.old) (λ opening. TellsRun result → Appends (O.got out.old) (O.got out.new) (part_of out_of opening)) }
-    ensures err_whole { IfTold (map string_bytes words.now) (T.left tree.old) (E.left elf.old) (I.left input.old) (λ opening. TellsRun result → Appends (R.got err.old) (R.got err.new) (part_of err_of opening)) }
-    ensures left_whole { IfTold (map string_bytes words.now) (T.left tree.old) (E.left elf.old) (I.left input.old) (λ opening. TellsRun result → Appends (L.got left.old) (L.got left.new) (part_of left_of opening)) }
-    ensures tree_read { TellsRun result → IsAtEnd (T.left tree.new) }
-    ensures elf_read { TellsRun result → IsAtEnd (E.left elf.new) }
-    ensures input_read { TellsRun result → IsAtEnd (I.left input.new) }
+    // Where a run is told, its report was put, whole.
+    ensures told { TellsRun result → IfKnown (opening (map string_bytes words.now) (T.left tree.old) (E.left elf.old) (I.left input.old)) (λ b. result ≡ (report b).answer) }
+    ensures turns { TellsRun result → IfKnown (opening (map string_bytes words.now) (T.left tree.old) (E.left elf.old) (I.left input.old)) (λ b. PutsTurns (report b) (O.got out.old) (O.got out.new) (R.got err.old) (R.got err.new)) }
+    ensures listing { TellsRun result → IfKnown (opening (map string_bytes words.now) (T.left tree.old) (E.left elf.old) (I.left input.old)) (λ b. Appends (L.got left.old) (L.got left.new) (report b).left) }
 
-    // A fault names the object whose count rose, a source as read from and a sink as written to.
-    ensures names { NamesItsObject result }
-    ensures tree_fault { result ≡ Answer.ReadFault Tree → Rose (T.faults tree.old) (T.faults tree.new) }
-    ensures elf_fault { result ≡ Answer.ReadFault Elf → Rose (E.faults elf.old) (E.faults elf.new) }
-    ensures input_fault { result ≡ Answer.ReadFault Input → Rose (I.faults input.old) (I.faults input.new) }
+    // A fault of a sink, with its cause and what stands after it.
     ensures out_fault { result ≡ Answer.WriteFault Out → Rose (O.faults out.old) (O.faults out.new) }
+    ensures out_stops { result ≡ Answer.WriteFault Out → IfKnown (opening (map string_bytes words.now) (T.left tree.old) (E.left elf.old) (I.left input.old)) (λ b. StopsInOut (report b).puts (O.got out.old) (O.got out.new) (R.got err.old) (R.got err.new)) }
+    ensures out_leaves { result ≡ Answer.WriteFault Out → Keeps (L.got left.old) (L.got left.new) }
     ensures err_fault { result ≡ Answer.WriteFault ErrSink → Rose (R.faults err.old) (R.faults err.new) }
+    ensures err_stops { result ≡ Answer.WriteFault ErrSink → IfKnown (opening (map string_bytes words.now) (T.left tree.old) (E.left elf.old) (I.left input.old)) (λ b. StopsInErr (report b).puts (O.got out.old) (O.got out.new) (R.got err.old) (R.got err.new) ⊎ StopsInCalm (report b) (O.got out.old) (O.got out.new) (R.got err.old) (R.got err.new)) }
+    ensures err_leaves { result ≡ Answer.WriteFault ErrSink → Keeps (L.got left.old) (L.got left.new) }
     ensures left_fault { result ≡ Answer.WriteFault Left → Rose (L.faults left.old) (L.faults left.new) }
+    ensures left_stops { result ≡ Answer.WriteFault Left → IfKnown (opening (map string_bytes words.now) (T.left tree.old) (E.left elf.old) (I.left input.old)) (λ b. PutsTurns (report b) (O.got out.old) (O.got out.new) (R.got err.old) (R.got err.new) × AppendsPrefix (L.got left.old) (L.got left.new) (report b).left) }
+    ensures sinks { (result ≡ Answer.WriteFault Tree → ⊥) × (result ≡ Answer.WriteFault Elf → ⊥) × (result ≡ Answer.WriteFault Input → ⊥) }
 
-    // Want of memory comes between two turns, and leaves no listing.
-    ensures no_memory { IfTold (map string_bytes words.now) (T.left tree.old) (E.left elf.old) (I.left input.old) (λ opening. IfOk opening (λ start. result ≡ Answer.NoMemory → StopsBetween (run_of start).turns (O.got out.old) (O.got out.new) (R.got err.old) (R.got err.new))) }
+    // Want of memory comes between turns, and leaves no listing.
+    ensures no_memory { result ≡ Answer.NoMemory → IfSome (opening (map string_bytes words.now) (T.left tree.old) (E.left elf.old) (I.left input.old)) (StopsForMemory (O.got out.old) (O.got out.new) (R.got err.old) (R.got err.new)) }
     ensures no_memory_left { result ≡ Answer.NoMemory → Keeps (L.got left.old) (L.got left.new) }
 
-    // Without a fault a start is run to its end, want of memory aside.
-    ensures complete { IfTold (map string_bytes words.now) (T.left tree.old) (E.left elf.old) (I.left input.old) (λ opening. IfOk opening (λ start.
-        ¬ Rose (T.faults tree.old) (T.faults tree.new) → ¬ Rose (E.faults elf.old) (E.faults elf.new) → ¬ Rose (I.faults input.old) (I.faults input.new) →
-        ¬ Rose (O.faults out.old) (O.faults out.new) → ¬ Rose (R.faults err.old) (R.faults err.new) → ¬ Rose (L.faults left.old) (L.faults left.new) →
-        (result ≡ answer_of start) ⊎ (result ≡ Answer.NoMemory))) }
+    // A fault of a source: its count rose, and what comes before it was read.
+    ensures causes { HasCause (asked (map string_bytes words.now)) (told_tree (T.left tree.old)) (told_listing (T.left tree.old) (E.left elf.old)) (Rose (T.faults tree.old) (T.faults tree.new)) (Rose (E.faults elf.old) (E.faults elf.new)) (Rose (I.faults input.old) (I.faults input.new)) result }
+
+    // A source that isn't come to isn't touched.
+    ensures before_tree { IsRefusal (asked (map string_bytes words.now)) → tree.new ≡ tree.old }
+    ensures before_elf { EndsBeforeElf result → elf.new ≡ elf.old }
+    ensures unwanted { IfSome (told_tree (T.left tree.old)) (λ listing. IsUnwanted listing → elf.new ≡ elf.old) }
+    ensures before_input { EndsBeforeInput result → input.new ≡ input.old }
+    ensures unlisted { IfSome (told_listing (T.left tree.old) (E.left elf.old)) (λ listing. IsRefusal listing → input.new ≡ input.old) }
+
+    // Where a run is told, the sources were read to their ends, the ELF file where the listing names it.
+    ensures tree_end { TellsRun result → IsAtEnd (T.left tree.new) }
+    ensures elf_end { TellsRun result → IfSome (told_tree (T.left tree.old)) (λ listing. IsWanted listing → IsAtEnd (E.left elf.new)) }
+    ensures input_end { TellsRun result → IsAtEnd (I.left input.new) }
+
+    // Without a fault a run that begins is told, want of memory aside.
+    ensures complete { IfSome (opening (map string_bytes words.now) (T.left tree.old) (E.left elf.old) (I.left input.old)) (λ o. IfOk o (λ b.
+        (Rose (T.faults tree.old) (T.faults tree.new) → ⊥) → (Rose (E.faults elf.old) (E.faults elf.new) → ⊥) → (Rose (I.faults input.old) (I.faults input.new) → ⊥) →
+        (Rose (O.faults out.old) (O.faults out.new) → ⊥) → (Rose (R.faults err.old) (R.faults err.new) → ⊥) → (Rose (L.faults left.old) (L.faults left.new) → ⊥) →
+        (result ≡ (report b).answer) ⊎ (result ≡ Answer.NoMemory))) }
 {
     match open(alloc, words, tree, elf, input) {
-        Ok(mut opened) => report(alloc, &mut opened, out, err, left),
+        Ok(mut opened) => {
+            let Opened { kernel, plan } = &mut opened;
+            report(alloc, kernel, plan, out, err, left)
+        }
         Err(answer) => answer,
     }
 }

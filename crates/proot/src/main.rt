@@ -8,6 +8,9 @@ use std::fs::File;
 use std::io::{self, ErrorKind, Write};
 use std::process::ExitCode;
 
+/// How many words may stand behind the first three: places of words are numbers of 32 bits.
+const MOST_WORDS: usize = 0xffff_ffff;
+
 const USAGE: &str = "proot: usage: proot TREE ELF LEFT [option] ... [command]";
 
 /// The words behind the program's name.
@@ -42,6 +45,9 @@ fn main(rt: HostRuntime) -> ExitCode {
     let [tree, elf, left, command @ ..] = words.as_slice() else {
         return usage(&rt);
     };
+    if command.len() > MOST_WORDS {
+        return usage(&rt);
+    }
     let answer = proot(
         rt.alloc(),
         command,
