@@ -1,0 +1,4 @@
+pub mod BytesLemmas
+pub mod RunLemmas
+pub mod TurnLemmas
+pub mod ReportLemmas

@@ -1,5 +1,5 @@
 -- What is put of a run: all of it, or what stands where a sink failed or memory ran out.
-use Rattle.std.specs.Prelude.{◌≡◌, ◌≢◌, ◌⊎◌, ℕ, suc, ◌-◌, true, List, [], ◌++◌, length, take, slice_get, Option, Some, None, Result, Ok, Err}
+use Rattle.std.specs.Prelude.{◌≡◌, ◌≢◌, ◌⊎◌, ℕ, suc, ◌-◌, true, List, [], ◌++◌, take, slice_get, Option, Some, None, Result, Ok, Err}
 use Rattle.std.specs.Io.KnownBytes.{Appends, Keeps}
 use Rattle.pr_io.specs.Moves.{AppendsPrefix}
 use Rattle.kr_view.specs.View.{Row}

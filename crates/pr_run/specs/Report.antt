@@ -2,7 +2,6 @@
 use Rattle.std.specs.Prelude.{ℕ, Bool, List, [], ◌∷◌, ◌++◌, codes, Option, Some, None, if◌then◌else◌}
 use Rattle.std.specs.Option.{option_map_or}
 use Rattle.std.specs.Fmt.{decimal}
-use Rattle.kr_inode.specs.declared.user.User.{User}
 use Rattle.kr_text.specs.Canonical.{canonical}
 use Rattle.kr_turns.specs.Run.{Deadlock, Ending, Over, Put, Ran, Spent, ending_of}
 use Rattle.kr_turns.specs.Turn.{Machine}

@@ -3,9 +3,9 @@
 
 mod graphed;
 mod plan;
-mod report;
+mod reporting;
 mod turns;
 
 pub use graphed::Graphed;
 pub use plan::Plan;
-pub use report::report;
+pub use reporting::report;

@@ -74,7 +74,6 @@ SourceEndsBeforeInput TreeSource = Unit {0}
 SourceEndsBeforeInput Elf = Unit {0}
 SourceEndsBeforeInput which = ⊥
 
-
 -- a stage is come to
 abbrev pub IsPast : {A : Type 0} → Result A Answer → Type 0
 IsPast (Ok x) = Unit {0}

@@ -19,9 +19,9 @@ use Rattle.kr_core.specs.Kernel.{first_rule, machine}
 use Rattle.kr_mounts.specs.declared.mount.Mount.{Mount}
 use Rattle.kr_mounts.specs.declared.mounted.MountNumber.{MountNumber}
 use Rattle.pr_start.specs.Directory.{At, directory_reach, working_directory}
-use Rattle.pr_start.specs.Command.{Chosen, arguments, chosen, word_of}
+use Rattle.pr_start.specs.Command.{arguments, chosen, word_of}
 use Rattle.pr_start.specs.Numbers.{number_of}
-use Rattle.pr_start.specs.declared.start.Launch.{Launch}
+use Rattle.pr_start.specs.declared.starting.Launch.{Launch}
 
 -- nothing is reached before the first walk
 abbrev pub nowhere : Reach

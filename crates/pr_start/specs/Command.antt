@@ -1,6 +1,6 @@
 -- The command: a word with a slash is a path. Another one is searched in the directories of PATH, or in `/bin` and `/usr/bin`; the first
 -- candidate that is a regular file which the user may execute is taken.
-use Rattle.std.specs.Prelude.{ℕ, nat_eq, ◌==◌, Bool, true, false, List, [], ◌∷◌, ◌++◌, length, drop, codes, Option, Some, None, Result, Ok, Err, if◌then◌else◌}
+use Rattle.std.specs.Prelude.{ℕ, nat_eq, ◌==◌, Bool, true, false, List, [], ◌∷◌, ◌++◌, drop, codes, Option, Some, None, Result, Ok, Err, if◌then◌else◌}
 use Rattle.std.specs.List.{list_any, slice_split, starts_with}
 use Rattle.pr_base.specs.declared.errno.Errno.{Errno}
 use Rattle.kr_inode.specs.declared.user.User.{User}

@@ -1,5 +1,5 @@
 -- The first working directory: what a path leads to from the root, if the user may search it, and else the root.
-use Rattle.std.specs.Prelude.{ℕ, Bool, List, codes, Option, Some, None, if◌then◌else◌}
+use Rattle.std.specs.Prelude.{ℕ, List, codes, Option, Some, None, if◌then◌else◌}
 use Rattle.std.specs.Option.{option_and_then}
 use Rattle.kr_inode.specs.declared.user.User.{User}
 use Rattle.kr_tree.specs.declared.place.Place.{Place}

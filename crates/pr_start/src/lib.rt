@@ -3,6 +3,6 @@
 
 mod command;
 mod directory;
-mod start;
+mod starting;
 
-pub use start::{Launch, start};
+pub use starting::{Launch, start};

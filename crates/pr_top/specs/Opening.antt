@@ -18,7 +18,7 @@ use Rattle.pr_sources.specs.Reading.{told_asked}
 use Rattle.pr_sources.specs.declared.reading.Asked.{Asked}
 use Rattle.pr_start.specs.Beginning.{beginning}
 use Rattle.pr_start.specs.Numbers.{number_of}
-use Rattle.pr_start.specs.declared.start.Launch.{Launch}
+use Rattle.pr_start.specs.declared.starting.Launch.{Launch}
 use Rattle.pr_run.specs.Report.{Report, report_of}
 use Rattle.pr_run.specs.Slots.{IsPlan, slot_of}
 use Rattle.pr_run.specs.declared.plan.Plan.{Plan}

@@ -16,5 +16,5 @@ returns-clause-ready c =
     let told = c.in_ok-settled.ensures.settled in
     let short : length c.bounds.result.now ≤ 4294967295 = grind (arith, nat_tests) in
     let ready = settled-ready c.args.tree u c.args.user c.args.root.now c.args.binds.now (table_of mounts) c.requires.listing c.trees_are_kept.ensures.kept c.trees_are_kept.ensures.there c.requires.numbered c.settle.ensures.grown told.0 told.1
-        (few-rows mounts c.bounds.result.now c.bounds.ensures short) in
+    (few-rows mounts c.bounds.result.now c.bounds.ensures short) in
     subst (λ (m : List Mount). IsReady u c.args.user (table_of m)) (sym c.in_ok-places.ensures) ready
