@@ -9,3 +9,4 @@ mod turns;
 pub use graphed::Graphed;
 pub use plan::Plan;
 pub use reporting::report;
+pub use turns::Stop;

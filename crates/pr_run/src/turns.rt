@@ -19,7 +19,7 @@ use pr_words::Slot;
 
 /// Why a report stopped early: a sink failed, or memory ran out.
 #[derive(Clone, Copy)]
-pub(crate) enum Stop {
+pub enum Stop {
     Out,
     Err,
     Left,
@@ -30,7 +30,8 @@ impl Stop {
     ghost use Rattle.std.specs.Prelude.{◌≡◌};
     ghost use Rattle.pr_run.specs.Puts.{stop_answer};
 
-    pub(crate) fn answer(self) -> Answer
+    /// The answer that tells it.
+    pub fn answer(self) -> Answer
         ensures { result ≡ stop_answer self }
     {
         match self {

@@ -66,6 +66,16 @@ IsOfWords (Usage word why) = Unit {0}
 IsOfWords (Unbuilt part) = Unit {0}
 IsOfWords answer = ⊥
 
+-- answers of what reads the words and the sources
+abbrev pub IsOfSources : Answer → Type 0
+IsOfSources (Usage word why) = Unit {0}
+IsOfSources (Unbuilt part) = Unit {0}
+IsOfSources (TooLong which) = Unit {0}
+IsOfSources (TreeBad line why) = Unit {0}
+IsOfSources (ReadFault which) = Unit {0}
+IsOfSources NoMemory = Unit {0}
+IsOfSources answer = ⊥
+
 -- ---- where faults come
 
 -- sources that are read before the input

@@ -9,7 +9,7 @@ ghost use Rattle.kr_text.specs.Reading.{wants_elf};
 ghost use Rattle.kr_stage.specs.Ready.{IsOfListing};
 ghost use Rattle.pr_sources.specs.Asking.{IsUnlessNoMemory, asked};
 ghost use Rattle.pr_answer.specs.declared.answer.Which.TheVariants.{Elf};
-ghost use Rattle.pr_sources.specs.Reading.{EndsBeforeElf, EndsBeforeInput, HasCause, IsOfWords, IsRefusal, IsUnwanted, IsWanted, ListingEnds, listed, told_asked, told_file, told_listing, told_tree};
+ghost use Rattle.pr_sources.specs.Reading.{EndsBeforeElf, EndsBeforeInput, HasCause, IsOfSources, IsOfWords, IsRefusal, IsUnwanted, IsWanted, ListingEnds, listed, told_asked, told_file, told_listing, told_tree};
 ghost use Rattle.pr_sources.specs.Within.{Comes, IsReadRefusal};
 
 use crate::within::read_within;
@@ -101,6 +101,7 @@ pub fn read<T: Source, E: Source, I: Source>(
     requires { length words.now < 2 ^ 32 }
     ensures told { Comes (told_asked (map string_bytes words.now) (T.left tree.old) (E.left elf.old) (I.left input.old)) result }
     ensures words { IfErr result (λ answer. IsOfWords answer → asked (map string_bytes words.now) ≡ Err answer) }
+    ensures kinds { IfErr result IsOfSources }
     ensures causes { IfErr result (HasCause (asked (map string_bytes words.now)) (told_tree (T.left tree.old)) (told_listing (T.left tree.old) (E.left elf.old)) (Rose (T.faults tree.old) (T.faults tree.new)) (Rose (E.faults elf.old) (E.faults elf.new)) (Rose (I.faults input.old) (I.faults input.new))) }
     ensures sound { IfOk result (λ asked. AreSound asked.options) }
     ensures listing { IfOk result (λ asked. IsOfListing asked.tree asked.user) }

@@ -12,7 +12,7 @@ use Rattle.kr_turns.specs.Run.{Ran, run}
 use Rattle.kr_turns.specs.Watching.{unwatched}
 use Rattle.kr_turns.specs.declared.stops.Unwatched.{Unwatched}
 use Rattle.pr_answer.specs.declared.answer.Answer.{Answer}
-use Rattle.pr_answer.specs.declared.answer.Answer.TheVariants.{BadBind, NoStart}
+use Rattle.pr_answer.specs.declared.answer.Answer.TheVariants.{BadBind, NoMemory, NoStart, ReadFault, TooLong, TreeBad, Unbuilt, Usage}
 use Rattle.pr_sources.specs.Within.{IsEarly, Stage, and_then}
 use Rattle.pr_sources.specs.Reading.{told_asked}
 use Rattle.pr_sources.specs.declared.reading.Asked.{Asked}
@@ -84,3 +84,22 @@ OpensFrom expected (Err answer) = (expected ≡ Err answer) ⊎ IsEarly answer
 
 abbrev pub Opens : Stage Begun → Result Opened Answer → Type 0
 Opens told answer = IfSome told (λ expected. OpensFrom expected answer)
+
+-- answers of the bindings and the start
+abbrev pub IsOfStart : Answer → Type 0
+IsOfStart (BadBind index why) = Unit {0}
+IsOfStart (NoStart errno) = Unit {0}
+IsOfStart NoMemory = Unit {0}
+IsOfStart answer = ⊥
+
+-- and of the whole opening
+abbrev pub IsOfOpening : Answer → Type 0
+IsOfOpening (Usage word why) = Unit {0}
+IsOfOpening (Unbuilt part) = Unit {0}
+IsOfOpening (TooLong which) = Unit {0}
+IsOfOpening (TreeBad line why) = Unit {0}
+IsOfOpening (BadBind index why) = Unit {0}
+IsOfOpening (NoStart errno) = Unit {0}
+IsOfOpening (ReadFault which) = Unit {0}
+IsOfOpening NoMemory = Unit {0}
+IsOfOpening answer = ⊥

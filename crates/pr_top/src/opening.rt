@@ -7,7 +7,7 @@ ghost use Rattle.pr_words.specs.Sound.{AreSound};
 ghost use Rattle.kr_stage.specs.Ready.{IsOfListing};
 ghost use Rattle.pr_sources.specs.Asking.{asked};
 ghost use Rattle.pr_sources.specs.Reading.{EndsBeforeElf, EndsBeforeInput, HasCause, IsOfWords, IsRefusal, IsUnwanted, IsWanted, told_listing, told_tree};
-ghost use Rattle.pr_top.specs.Opening.{IsReadyToRun, Opens, OpensFrom, begun, opening};
+ghost use Rattle.pr_top.specs.Opening.{IsOfOpening, IsOfStart, IsReadyToRun, Opens, OpensFrom, begun, opening};
 
 use kr_core::Kernel;
 use kr_first::StartFault;
@@ -33,6 +33,7 @@ fn begin(alloc: Global, asked: Asked) -> Result<Opened, Answer>
     requires sound { AreSound asked.options }
     requires listing { IsOfListing asked.tree asked.user }
     ensures begun { OpensFrom (begun asked) result }
+    ensures kinds { IfErr result IsOfStart }
     ensures ready { IfOk result (λ opened. IsReadyToRun opened) }
 {
     let Asked {
@@ -81,6 +82,7 @@ pub(crate) fn open<T: Source, E: Source, I: Source>(
     requires { length words.now < 2 ^ 32 }
     ensures opens { Opens (opening (map string_bytes words.now) (T.left tree.old) (E.left elf.old) (I.left input.old)) result }
     ensures ready { IfOk result (λ opened. IsReadyToRun opened) }
+    ensures kinds { IfErr result IsOfOpening }
     ensures words { IfErr result (λ answer. IsOfWords answer → asked (map string_bytes words.now) ≡ Err answer) }
     ensures causes { IfErr result (HasCause (asked (map string_bytes words.now)) (told_tree (T.left tree.old)) (told_listing (T.left tree.old) (E.left elf.old)) (Rose (T.faults tree.old) (T.faults tree.new)) (Rose (E.faults elf.old) (E.faults elf.new)) (Rose (I.faults input.old) (I.faults input.new))) }
     ensures before_tree { IsRefusal (asked (map string_bytes words.now)) → tree.new ≡ tree.old }

@@ -1,0 +1,148 @@
+use Rattle.std.proofs.Common.{map}
+use Rattle.std.specs.String.{string_bytes}
+use Rattle.pr_io.specs.Faults.{Rose}
+use Rattle.pr_answer.specs.declared.answer.Which.TheVariants.{Tree as TreeSource, Elf, Input, Out, Err as ErrSink, Left}
+use Rattle.pr_sources.specs.Asking.{asked}
+use Rattle.pr_sources.specs.Reading.{told_listing, told_tree}
+use Rattle.pr_top.specs.Opening.{opening}
+use Rattle.pr_top.proofs.TopLemmas.{answered, complete, complete-refused, listing-put, no-write, not-told, nothing, refusal, refused, turns-put}
+use Rattle.pr_top.proofs.top.proot.Goals as goal
+
+pub returns-in-Ok-clause-opening : goal.returns-in-Ok-clause-opening
+returns-in-Ok-clause-opening g c =
+    let told = opening (map string_bytes c.args.words.now) (g.T.Source.left c.args.tree.now) (g.E.Source.left c.args.elf.now) (g.I.Source.left c.args.input.now) in
+    let words = asked (map string_bytes c.args.words.now) in
+    let tree = told_tree (g.T.Source.left c.args.tree.now) in
+    let listing = told_listing (g.T.Source.left c.args.tree.now) (g.E.Source.left c.args.elf.now) in
+    let rose_tree = Rose (g.T.Source.faults c.args.tree.now) (g.T.Source.faults c.open.new.tree) in
+    let rose_elf = Rose (g.E.Source.faults c.args.elf.now) (g.E.Source.faults c.open.new.elf) in
+    let rose_input = Rose (g.I.Source.faults c.args.input.now) (g.I.Source.faults c.open.new.input) in
+    let rose_out = Rose (g.O.Sink.faults c.args.out.now) (g.O.Sink.faults c.report.new.out) in
+    let rose_err = Rose (g.R.Sink.faults c.args.err.now) (g.R.Sink.faults c.report.new.err) in
+    let rose_left = Rose (g.L.Sink.faults c.args.left.now) (g.L.Sink.faults c.report.new.left) in
+    answered words tree listing rose_tree rose_elf rose_input rose_out rose_err rose_left c.in-Ok.opened
+    (g.O.Sink.got c.args.out.now) (g.O.Sink.got c.report.new.out) (g.R.Sink.got c.args.err.now) (g.R.Sink.got c.report.new.err) (g.L.Sink.got c.args.left.now) (g.L.Sink.got c.report.new.left) c.report.result c.report.ensures told c.in-Ok.ensures.opens
+
+pub returns-in-Ok-clause-turns : goal.returns-in-Ok-clause-turns
+returns-in-Ok-clause-turns g c =
+    let told = opening (map string_bytes c.args.words.now) (g.T.Source.left c.args.tree.now) (g.E.Source.left c.args.elf.now) (g.I.Source.left c.args.input.now) in
+    let words = asked (map string_bytes c.args.words.now) in
+    let tree = told_tree (g.T.Source.left c.args.tree.now) in
+    let listing = told_listing (g.T.Source.left c.args.tree.now) (g.E.Source.left c.args.elf.now) in
+    let rose_tree = Rose (g.T.Source.faults c.args.tree.now) (g.T.Source.faults c.open.new.tree) in
+    let rose_elf = Rose (g.E.Source.faults c.args.elf.now) (g.E.Source.faults c.open.new.elf) in
+    let rose_input = Rose (g.I.Source.faults c.args.input.now) (g.I.Source.faults c.open.new.input) in
+    let rose_out = Rose (g.O.Sink.faults c.args.out.now) (g.O.Sink.faults c.report.new.out) in
+    let rose_err = Rose (g.R.Sink.faults c.args.err.now) (g.R.Sink.faults c.report.new.err) in
+    let rose_left = Rose (g.L.Sink.faults c.args.left.now) (g.L.Sink.faults c.report.new.left) in
+    turns-put words tree listing rose_tree rose_elf rose_input rose_out rose_err rose_left c.in-Ok.opened
+    (g.O.Sink.got c.args.out.now) (g.O.Sink.got c.report.new.out) (g.R.Sink.got c.args.err.now) (g.R.Sink.got c.report.new.err) (g.L.Sink.got c.args.left.now) (g.L.Sink.got c.report.new.left) c.report.result c.report.ensures told c.in-Ok.ensures.opens
+
+pub returns-in-Ok-clause-listing : goal.returns-in-Ok-clause-listing
+returns-in-Ok-clause-listing g c =
+    let told = opening (map string_bytes c.args.words.now) (g.T.Source.left c.args.tree.now) (g.E.Source.left c.args.elf.now) (g.I.Source.left c.args.input.now) in
+    let words = asked (map string_bytes c.args.words.now) in
+    let tree = told_tree (g.T.Source.left c.args.tree.now) in
+    let listing = told_listing (g.T.Source.left c.args.tree.now) (g.E.Source.left c.args.elf.now) in
+    let rose_tree = Rose (g.T.Source.faults c.args.tree.now) (g.T.Source.faults c.open.new.tree) in
+    let rose_elf = Rose (g.E.Source.faults c.args.elf.now) (g.E.Source.faults c.open.new.elf) in
+    let rose_input = Rose (g.I.Source.faults c.args.input.now) (g.I.Source.faults c.open.new.input) in
+    let rose_out = Rose (g.O.Sink.faults c.args.out.now) (g.O.Sink.faults c.report.new.out) in
+    let rose_err = Rose (g.R.Sink.faults c.args.err.now) (g.R.Sink.faults c.report.new.err) in
+    let rose_left = Rose (g.L.Sink.faults c.args.left.now) (g.L.Sink.faults c.report.new.left) in
+    listing-put words tree listing rose_tree rose_elf rose_input rose_out rose_err rose_left c.in-Ok.opened
+    (g.O.Sink.got c.args.out.now) (g.O.Sink.got c.report.new.out) (g.R.Sink.got c.args.err.now) (g.R.Sink.got c.report.new.err) (g.L.Sink.got c.args.left.now) (g.L.Sink.got c.report.new.left) c.report.result c.report.ensures told c.in-Ok.ensures.opens
+
+pub returns-in-Ok-clause-complete : goal.returns-in-Ok-clause-complete
+returns-in-Ok-clause-complete g c =
+    let told = opening (map string_bytes c.args.words.now) (g.T.Source.left c.args.tree.now) (g.E.Source.left c.args.elf.now) (g.I.Source.left c.args.input.now) in
+    let words = asked (map string_bytes c.args.words.now) in
+    let tree = told_tree (g.T.Source.left c.args.tree.now) in
+    let listing = told_listing (g.T.Source.left c.args.tree.now) (g.E.Source.left c.args.elf.now) in
+    let rose_tree = Rose (g.T.Source.faults c.args.tree.now) (g.T.Source.faults c.open.new.tree) in
+    let rose_elf = Rose (g.E.Source.faults c.args.elf.now) (g.E.Source.faults c.open.new.elf) in
+    let rose_input = Rose (g.I.Source.faults c.args.input.now) (g.I.Source.faults c.open.new.input) in
+    let rose_out = Rose (g.O.Sink.faults c.args.out.now) (g.O.Sink.faults c.report.new.out) in
+    let rose_err = Rose (g.R.Sink.faults c.args.err.now) (g.R.Sink.faults c.report.new.err) in
+    let rose_left = Rose (g.L.Sink.faults c.args.left.now) (g.L.Sink.faults c.report.new.left) in
+    complete words tree listing rose_tree rose_elf rose_input rose_out rose_err rose_left c.in-Ok.opened
+    (g.O.Sink.got c.args.out.now) (g.O.Sink.got c.report.new.out) (g.R.Sink.got c.args.err.now) (g.R.Sink.got c.report.new.err) (g.L.Sink.got c.args.left.now) (g.L.Sink.got c.report.new.left) c.report.result c.report.ensures told c.in-Ok.ensures.opens
+
+pub returns-in-Err-clause-opening : goal.returns-in-Err-clause-opening
+returns-in-Err-clause-opening g c =
+    let told = opening (map string_bytes c.args.words.now) (g.T.Source.left c.args.tree.now) (g.E.Source.left c.args.elf.now) (g.I.Source.left c.args.input.now) in
+    refused c.in-Err.answer told c.in-Err.ensures.opens
+
+pub returns-in-Err-clause-refusal : goal.returns-in-Err-clause-refusal
+returns-in-Err-clause-refusal g c =
+    let told = opening (map string_bytes c.args.words.now) (g.T.Source.left c.args.tree.now) (g.E.Source.left c.args.elf.now) (g.I.Source.left c.args.input.now) in
+    λ refuses. refusal c.in-Err.answer told refuses c.in-Err.ensures.opens
+
+pub returns-in-Err-clause-told : goal.returns-in-Err-clause-told
+returns-in-Err-clause-told g c =
+    λ tells. absurd (not-told c.in-Err.answer c.in-Err.ensures.kinds tells)
+
+pub returns-in-Err-clause-turns : goal.returns-in-Err-clause-turns
+returns-in-Err-clause-turns g c =
+    λ tells. absurd (not-told c.in-Err.answer c.in-Err.ensures.kinds tells)
+
+pub returns-in-Err-clause-listing : goal.returns-in-Err-clause-listing
+returns-in-Err-clause-listing g c =
+    λ tells. absurd (not-told c.in-Err.answer c.in-Err.ensures.kinds tells)
+
+pub returns-in-Err-clause-tree_end : goal.returns-in-Err-clause-tree_end
+returns-in-Err-clause-tree_end g c =
+    λ tells. absurd (not-told c.in-Err.answer c.in-Err.ensures.kinds tells)
+
+pub returns-in-Err-clause-elf_end : goal.returns-in-Err-clause-elf_end
+returns-in-Err-clause-elf_end g c =
+    λ tells. absurd (not-told c.in-Err.answer c.in-Err.ensures.kinds tells)
+
+pub returns-in-Err-clause-input_end : goal.returns-in-Err-clause-input_end
+returns-in-Err-clause-input_end g c =
+    λ tells. absurd (not-told c.in-Err.answer c.in-Err.ensures.kinds tells)
+
+pub returns-in-Err-clause-out_fault : goal.returns-in-Err-clause-out_fault
+returns-in-Err-clause-out_fault g c =
+    λ e. absurd (no-write c.in-Err.answer Out c.in-Err.ensures.kinds e)
+
+pub returns-in-Err-clause-out_stops : goal.returns-in-Err-clause-out_stops
+returns-in-Err-clause-out_stops g c =
+    λ e. absurd (no-write c.in-Err.answer Out c.in-Err.ensures.kinds e)
+
+pub returns-in-Err-clause-err_fault : goal.returns-in-Err-clause-err_fault
+returns-in-Err-clause-err_fault g c =
+    λ e. absurd (no-write c.in-Err.answer ErrSink c.in-Err.ensures.kinds e)
+
+pub returns-in-Err-clause-err_stops : goal.returns-in-Err-clause-err_stops
+returns-in-Err-clause-err_stops g c =
+    λ e. absurd (no-write c.in-Err.answer ErrSink c.in-Err.ensures.kinds e)
+
+pub returns-in-Err-clause-left_fault : goal.returns-in-Err-clause-left_fault
+returns-in-Err-clause-left_fault g c =
+    λ e. absurd (no-write c.in-Err.answer Left c.in-Err.ensures.kinds e)
+
+pub returns-in-Err-clause-left_stops : goal.returns-in-Err-clause-left_stops
+returns-in-Err-clause-left_stops g c =
+    λ e. absurd (no-write c.in-Err.answer Left c.in-Err.ensures.kinds e)
+
+pub returns-in-Err-clause-sinks : goal.returns-in-Err-clause-sinks
+returns-in-Err-clause-sinks g c =
+    (no-write c.in-Err.answer TreeSource c.in-Err.ensures.kinds, no-write c.in-Err.answer Elf c.in-Err.ensures.kinds, no-write c.in-Err.answer Input c.in-Err.ensures.kinds)
+
+pub returns-in-Err-clause-no_memory : goal.returns-in-Err-clause-no_memory
+returns-in-Err-clause-no_memory g c =
+    let told = opening (map string_bytes c.args.words.now) (g.T.Source.left c.args.tree.now) (g.E.Source.left c.args.elf.now) (g.I.Source.left c.args.input.now) in
+    λ e. nothing (g.O.Sink.got c.args.out.now) (g.R.Sink.got c.args.err.now) told
+
+pub returns-in-Err-clause-complete : goal.returns-in-Err-clause-complete
+returns-in-Err-clause-complete g c =
+    let told = opening (map string_bytes c.args.words.now) (g.T.Source.left c.args.tree.now) (g.E.Source.left c.args.elf.now) (g.I.Source.left c.args.input.now) in
+    let words = asked (map string_bytes c.args.words.now) in
+    let tree = told_tree (g.T.Source.left c.args.tree.now) in
+    let listing = told_listing (g.T.Source.left c.args.tree.now) (g.E.Source.left c.args.elf.now) in
+    let rose_tree = Rose (g.T.Source.faults c.args.tree.now) (g.T.Source.faults c.open.new.tree) in
+    let rose_elf = Rose (g.E.Source.faults c.args.elf.now) (g.E.Source.faults c.open.new.elf) in
+    let rose_input = Rose (g.I.Source.faults c.args.input.now) (g.I.Source.faults c.open.new.input) in
+    complete-refused words tree listing rose_tree rose_elf rose_input (Rose (g.O.Sink.faults c.args.out.now) (g.O.Sink.faults c.args.out.now)) (Rose (g.R.Sink.faults c.args.err.now) (g.R.Sink.faults c.args.err.now)) (Rose (g.L.Sink.faults c.args.left.now) (g.L.Sink.faults c.args.left.now))
+    c.in-Err.answer told c.in-Err.ensures.causes c.in-Err.ensures.opens
