@@ -1,5 +1,15 @@
-//! Tests of the top call: whole runs, their refusals and their faults.
+//! Tests of the top call: whole runs on the kernel with mounts, their refusals and their faults.
 #![tactic(auto)]
 
 #[cfg(test)]
-mod rows;
+mod call;
+#[cfg(test)]
+mod faults;
+#[cfg(test)]
+mod guest;
+#[cfg(test)]
+mod programs;
+#[cfg(test)]
+mod refusals;
+#[cfg(test)]
+mod roots;

@@ -1,0 +1,6 @@
+mod ArgumentLemmas
+mod ChainLemmas
+mod GuestTextLemmas
+mod ListLemmas
+mod ProgramRows
+mod RunLemmas

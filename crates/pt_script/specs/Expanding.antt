@@ -1,0 +1,47 @@
+-- What execve(2) runs in the end, in guest terms: the scripts of a path, over finding programs as a tracer does.
+use Rattle.std.specs.Prelude.{ℕ, List, Option, Some, None, Result, Ok, Err, if◌then◌else◌}
+use Rattle.pr_base.specs.declared.errno.Errno.{Errno}
+use Rattle.pr_base.specs.declared.errno.Errno.TheVariants.{E2BIG, ENOEXEC}
+use Rattle.pt_canon.specs.TextWalk.{TextSurroundings}
+use Rattle.kr_calls.specs.Expansion.{expanded, is_too_big, most_scripts, new_args}
+use Rattle.kr_calls.specs.Expansion.{Expanded as Ended}
+use Rattle.kr_calls.specs.Scripts.{script_of}
+use Rattle.pt_args.specs.Walks.{and_then}
+use Rattle.pt_script.specs.Programs.{program_at, programs}
+use Rattle.pt_script.specs.declared.command.Command.{Command}
+use Rattle.pt_script.specs.declared.expansion.Expanded.{Expanded}
+use Rattle.pt_script.specs.declared.program.Program.{Program}
+
+-- what the plain kernel is shown of the program that runs in the end
+abbrev pub shown : Ended Program → Expanded
+shown ended = record { host = ended.file.host; index = ended.file.index; args = ended.args; scripts = ended.scripts }
+
+abbrev pub shown_result : Result (Ended Program) Errno → Result Expanded Errno
+shown_result (Ok ended) = Ok (shown ended)
+shown_result (Err e) = Err e
+
+-- of a command, where so many scripts may still be expanded
+abbrev pub ends_of : TextSurroundings → ℕ → ℕ → ℕ → Command → Result (Ended Program) Errno
+ends_of texts pid env_bytes left c = expanded (programs texts pid) env_bytes left c.program c.path c.args
+
+abbrev pub command_of : List ℕ → List (List ℕ) → Program → Command
+command_of path args program = record { program = program; path = path; args = args }
+
+-- of a path and its arguments
+abbrev pub expanded_at : TextSurroundings → ℕ → ℕ → List ℕ → List (List ℕ) → Result Expanded Errno
+expanded_at texts pid env_bytes path args =
+    and_then (program_at texts pid path) (λ program. shown_result (ends_of texts pid env_bytes most_scripts (command_of path args program)))
+
+-- ---- one script by itself
+
+abbrev pub if_args_fit : ℕ → List ℕ → List (List ℕ) → Program → Result Command Errno
+if_args_fit env_bytes interpreter args program = if is_too_big env_bytes args then Err E2BIG else Ok (command_of interpreter args program)
+
+abbrev pub interpreted_by : TextSurroundings → ℕ → ℕ → Command → Option (List ℕ × List ℕ) → Result Command Errno
+interpreted_by texts pid env_bytes script None = Err ENOEXEC
+interpreted_by texts pid env_bytes script (Some line) =
+    and_then (program_at texts pid line.0) (if_args_fit env_bytes line.0 (new_args line.0 line.1 script.path script.args))
+
+-- the interpreter of a script, with its arguments
+abbrev pub interpreted : TextSurroundings → ℕ → ℕ → Command → Result Command Errno
+interpreted texts pid env_bytes script = interpreted_by texts pid env_bytes script (script_of script.program.head)

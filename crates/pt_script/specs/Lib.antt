@@ -1,0 +1,4 @@
+pub mod Chains
+pub mod Expanding
+pub mod Laws
+pub mod Programs

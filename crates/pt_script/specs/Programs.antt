@@ -1,0 +1,44 @@
+-- Programs as a tracer finds them: their guest texts by its walk, and their first bytes by peeks at the host texts of these.
+use Rattle.std.specs.Prelude.{ℕ, List, [], ◌∷◌, take, Option, Some, None, Result, Ok, Err, if◌then◌else◌}
+use Rattle.pr_base.specs.Paths.{slash, is_absolute}
+use Rattle.pr_base.specs.Peeks.{Peeked}
+use Rattle.pr_base.specs.declared.errno.Errno.{Errno}
+use Rattle.pr_base.specs.declared.errno.Errno.TheVariants.{ENOENT}
+use Rattle.pr_base.specs.declared.path.WalkMode.TheVariants.{Look}
+use Rattle.pt_bind.specs.Binding.{names_of}
+use Rattle.pt_canon.specs.Canon.{canon_of}
+use Rattle.pt_canon.specs.TextWalk.{TextSurroundings}
+use Rattle.pt_canon.specs.declared.canon.Canon.{Canon}
+use Rattle.kr_calls.specs.Expansion.{Finding}
+use Rattle.pt_args.specs.Bases.{working_text}
+use Rattle.pt_args.specs.Walks.{and_then}
+use Rattle.pt_script.specs.declared.program.Program.{Program}
+
+-- ENOENT for a working directory without a guest text
+abbrev pub or_lost : Option (List ℕ) → Result (List ℕ) Errno
+or_lost (Some text) = Ok text
+or_lost None = Err ENOENT
+
+-- an interpreter is found as the program of a call is: from the root, or from the caller's working directory
+abbrev pub base_of : TextSurroundings → ℕ → List ℕ → Result (List ℕ) Errno
+base_of texts pid path = if is_absolute path then Ok (slash ∷ []) else or_lost (working_text texts pid)
+
+-- a last link is followed
+abbrev pub canon_from : TextSurroundings → List ℕ → List ℕ → Result Canon Errno
+canon_from texts path base = canon_of texts Look (names_of base) path
+
+-- as many bytes as tell the line of a script
+abbrev pub head_size : ℕ
+head_size = 256
+
+-- what stands at a host text: the kernel gives the first bytes of a regular file that the user may execute, and else EACCES
+abbrev pub program_in : Peeked → List ℕ → ℕ → Result Program Errno
+program_in peeked host index = and_then (peeked.head host head_size) (λ head. Ok (record { host = host; index = index; head = take head_size head }))
+
+abbrev pub program_at : TextSurroundings → ℕ → List ℕ → Result Program Errno
+program_at texts pid path =
+    and_then (and_then (base_of texts pid path) (canon_from texts path)) (λ canon. program_in texts.peeked canon.host canon.index)
+
+-- the programs of a process's tracer, by their guest paths
+abbrev pub programs : TextSurroundings → ℕ → Finding Program
+programs texts pid = record { find = program_at texts pid; head = λ program. program.head }

@@ -1,0 +1,12 @@
+//! Files that are to be run.
+
+use crate::program::Program;
+use pr_base::{Bytes, Texts};
+
+/// A program, the path by which it was found, and its arguments.
+#[derive(Drop)]
+pub(crate) struct Command {
+    pub(crate) program: Program,
+    pub(crate) path: Bytes,
+    pub(crate) args: Texts,
+}

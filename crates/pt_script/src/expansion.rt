@@ -1,0 +1,144 @@
+//! Scripts: files whose first line names the program that runs them.
+ghost use Rattle.std.specs.Prelude.{◌≡◌, ◌≤◌, length, IfOk};
+ghost use Rattle.pt_canon.specs.Canon.{IsAnswer, texts_by};
+ghost use Rattle.kr_calls.specs.Expansion.{most_scripts};
+ghost use Rattle.kr_calls.specs.Scripts.{BeginsScript};
+ghost use Rattle.pt_script.specs.Expanding.{ends_of, expanded_at, interpreted, shown_result};
+
+use crate::arguments::{is_too_big, new_args};
+use crate::command::Command;
+use crate::program::{is_script, program_at};
+use kr_calls::script_line;
+use pr_base::{Bytes, Errno, Peeks, Texts};
+use pt_bind::Tags;
+use pt_canon::{WalkErr, Walker};
+use std::alloc::Global;
+
+/// The most scripts that are expanded, one after the other.
+const MOST_SCRIPTS: u8 = 5;
+
+/// The program that runs in the end, in place of a path that a guest passed to execve(2).
+#[derive(Debug, Drop)]
+pub struct Expanded {
+    /// Its host text.
+    pub host: Bytes,
+    /// The index of the binding to which its guest text belongs.
+    pub index: u32,
+    /// Its arguments.
+    pub args: Texts,
+    /// How many scripts led to it.
+    pub scripts: u8,
+}
+
+/// The program that execve(2) runs in the end for a guest path, with its arguments: the file itself, or the interpreter in
+/// place of a script, which is found as a guest path too. The errors come in this order: those of finding the file (ENOENT of a
+/// working directory without a guest text, the errors of the walk, EACCES of what is no regular file that the user may
+/// execute), then for each script in turn ELOOP where five were expanded before it, ENOEXEC where its line is refused, the
+/// errors of finding its interpreter, and E2BIG where the new arguments are more than 4,096, or have with their ends and
+/// the `env_bytes` of the environment more than 131,072 bytes.
+pub fn expand<K: Peeks>(
+    alloc: Global,
+    kernel: &mut K,
+    walker: &mut Walker,
+    tags: &Tags,
+    pid: u32,
+    path: &[u8],
+    args: Texts,
+    env_bytes: u32,
+) -> Result<Expanded, WalkErr>
+    ensures answer { IsAnswer (expanded_at (texts_by walker.old (K.peeked kernel.old) tags.now) pid env_bytes path.now args) result }
+    ensures walker { walker.new ≡ walker.old }
+    ensures same { K.peeked kernel.new ≡ K.peeked kernel.old }
+    ensures rest { K.kept kernel.new ≡ K.kept kernel.old }
+{
+    let program = program_at(alloc, kernel, walker, tags, pid, path)?;
+    let path = Bytes::copy(alloc, path)?;
+    let command = Command {
+        program,
+        path,
+        args,
+    };
+    end_of(alloc, kernel, walker, tags, pid, command, env_bytes)
+}
+
+/// What a command comes to.
+fn end_of<K: Peeks>(
+    alloc: Global,
+    kernel: &mut K,
+    walker: &mut Walker,
+    tags: &Tags,
+    pid: u32,
+    command: Command,
+    env_bytes: u32,
+) -> Result<Expanded, WalkErr>
+    requires { length command.program.head ≤ 256 }
+    ensures answer { IsAnswer (shown_result (ends_of (texts_by walker.old (K.peeked kernel.old) tags.now) pid env_bytes most_scripts command)) result }
+    ensures walker { walker.new ≡ walker.old }
+    ensures same { K.peeked kernel.new ≡ K.peeked kernel.old }
+    ensures rest { K.kept kernel.new ≡ K.kept kernel.old }
+{
+    let mut command = command;
+    let mut scripts = 0;
+    'scripts: loop {
+        if !is_script(command.program.head.as_slice()) {
+            return Ok(ended(command, scripts));
+        }
+        if scripts == MOST_SCRIPTS {
+            return Err(WalkErr::Err(Errno::ELOOP));
+        }
+        command = interpreted(alloc, kernel, walker, tags, pid, command, env_bytes)?;
+        scripts += 1;
+    }
+}
+
+/// A command that runs as it is, once so many scripts led to it.
+fn ended(command: Command, scripts: u8) -> Expanded
+    ensures { result ≡ record { host = command.program.host; index = command.program.index; args = command.args; scripts = scripts } }
+{
+    let Command { program, args, .. } = command;
+    Expanded {
+        host: program.host,
+        index: program.index,
+        args,
+        scripts,
+    }
+}
+
+/// The interpreter that a script's line names, with its arguments.
+fn interpreted<K: Peeks>(
+    alloc: Global,
+    kernel: &mut K,
+    walker: &mut Walker,
+    tags: &Tags,
+    pid: u32,
+    script: Command,
+    env_bytes: u32,
+) -> Result<Command, WalkErr>
+    requires short { length script.program.head ≤ 256 }
+    requires script { BeginsScript script.program.head }
+    ensures answer { IsAnswer (interpreted (texts_by walker.old (K.peeked kernel.old) tags.now) pid env_bytes script) result }
+    ensures short { IfOk result (λ next. length next.program.head ≤ 256) }
+    ensures walker { walker.new ≡ walker.old }
+    ensures same { K.peeked kernel.new ≡ K.peeked kernel.old }
+    ensures rest { K.kept kernel.new ≡ K.kept kernel.old }
+{
+    let Command {
+        program: file,
+        path,
+        args,
+    } = script;
+    let Some((interpreter, argument)) = script_line(file.head.as_slice()) else {
+        return Err(WalkErr::Err(Errno::ENOEXEC));
+    };
+    let program = program_at(alloc, kernel, walker, tags, pid, interpreter)?;
+    let args = new_args(alloc, interpreter, argument, path, args)?;
+    if is_too_big(&args, env_bytes) {
+        return Err(WalkErr::Err(Errno::E2BIG));
+    }
+    let path = Bytes::copy(alloc, interpreter)?;
+    Ok(Command {
+        program,
+        path,
+        args,
+    })
+}

@@ -1,0 +1,132 @@
+//! Programs as a tracer finds them.
+ghost use Rattle.std.specs.Prelude.{◌≡◌, ◌≤◌, take, length, IsTrue, IfOk};
+ghost use Rattle.pr_base.specs.Paths.{is_absolute};
+ghost use Rattle.pt_bind.specs.Binding.{IsWritten, names_of};
+ghost use Rattle.pt_canon.specs.Canon.{IsAnswer, canon_of, texts_by};
+ghost use Rattle.kr_calls.specs.Expansion.{is_script};
+ghost use Rattle.kr_calls.specs.Scripts.{BeginsScript};
+ghost use Rattle.pt_script.specs.Programs.{base_of, canon_from, program_at, program_in};
+
+use pr_base::{Bytes, Errno, Peeks, WalkMode, components};
+use pt_args::working_text;
+use pt_bind::{Table, Tags};
+use pt_canon::laws::answers_are_of_their_texts;
+use pt_canon::{Canon, WalkErr, Walker};
+use std::alloc::Global;
+
+/// How many bytes of a file tell a script's line.
+const HEAD_SIZE: u32 = 256;
+
+/// What a script begins with.
+const SCRIPT_MARK: &[u8] = b"#!";
+
+/// A regular file that the user may execute.
+#[derive(Drop)]
+pub(crate) struct Program {
+    /// Its host text.
+    pub(crate) host: Bytes,
+    /// The index of the binding to which its guest text belongs.
+    pub(crate) index: u32,
+    /// As many of its first bytes as tell a script's line.
+    pub(crate) head: Bytes,
+}
+
+/// The program at a guest path, a last link followed: ENOENT where the path is relative and the working directory has no
+/// guest text, then the errors of the walk, and EACCES where it leads to no regular file that the user may execute.
+pub(crate) fn program_at<K: Peeks>(
+    alloc: Global,
+    kernel: &mut K,
+    walker: &mut Walker,
+    tags: &Tags,
+    pid: u32,
+    path: &[u8],
+) -> Result<Program, WalkErr>
+    ensures answer { IsAnswer (program_at (texts_by walker.old (K.peeked kernel.old) tags.now) pid path.now) result }
+    ensures short { IfOk result (λ program. length program.head ≤ 256) }
+    ensures walker { walker.new ≡ walker.old }
+    ensures same { K.peeked kernel.new ≡ K.peeked kernel.old }
+    ensures rest { K.kept kernel.new ≡ K.kept kernel.old }
+{
+    let base = base_of(alloc, kernel, walker.table(), tags, pid, path)?;
+    let Canon { host, index, .. } = canon_from(kernel, walker, tags, path, base.as_slice())?;
+    program_in(kernel, host, index)
+}
+
+/// The guest text from which a path is taken: the root, or the working directory.
+fn base_of<K: Peeks>(
+    alloc: Global,
+    kernel: &mut K,
+    table: &Table,
+    tags: &Tags,
+    pid: u32,
+    path: &[u8],
+) -> Result<Bytes, WalkErr>
+    ensures answer { IsAnswer (base_of (texts_by table.now (K.peeked kernel.old) tags.now) pid path.now) result }
+    ensures written { IfOk result IsWritten }
+    ensures same { K.peeked kernel.new ≡ K.peeked kernel.old }
+    ensures rest { K.kept kernel.new ≡ K.kept kernel.old }
+{
+    if components(path).absolute() {
+        let root = Bytes::copy(alloc, b"/")?;
+        return Ok(root);
+    }
+    match working_text(kernel, table, tags, pid)? {
+        Some(text) => Ok(text),
+        None => Err(WalkErr::Err(Errno::ENOENT)),
+    }
+}
+
+/// Where a path leads from a guest text.
+fn canon_from<K: Peeks>(
+    kernel: &mut K,
+    walker: &mut Walker,
+    tags: &Tags,
+    path: &[u8],
+    base: &[u8],
+) -> Result<Canon, WalkErr>
+    requires { IsWritten base.now }
+    ensures answer { IsAnswer (canon_from (texts_by walker.old (K.peeked kernel.old) tags.now) path.now base.now) result }
+    ensures host { IfOk result (λ canon. IsTrue (is_absolute canon.host)) }
+    ensures walker { walker.new ≡ walker.old }
+    ensures same { K.peeked kernel.new ≡ K.peeked kernel.old }
+    ensures rest { K.kept kernel.new ≡ K.kept kernel.old }
+{
+    answers_are_of_their_texts();
+    let canon = walker.canon(kernel, tags, base, path, WalkMode::Look)?;
+    Ok(canon)
+}
+
+/// The program that stands at a host text, which belongs to the binding of this index.
+pub(crate) fn program_in<K: Peeks>(
+    kernel: &mut K,
+    host: Bytes,
+    index: u32,
+) -> Result<Program, WalkErr>
+    requires { IsTrue (is_absolute host) }
+    ensures answer { IsAnswer (program_in (K.peeked kernel.old) host index) result }
+    ensures short { IfOk result (λ program. length program.head ≤ 256) }
+    ensures same { K.peeked kernel.new ≡ K.peeked kernel.old }
+    ensures rest { K.kept kernel.new ≡ K.kept kernel.old }
+{
+    let head = kernel.head(host.as_slice(), HEAD_SIZE)?;
+    let head = cut(head);
+    Ok(Program { host, index, head })
+}
+
+/// No more bytes than tell a script's line.
+fn cut(bytes: Bytes) -> Bytes
+    ensures first { result ≡ take 256 bytes }
+    ensures short { length result ≤ 256 }
+{
+    let mut bytes = bytes.into_vec();
+    bytes.truncate(HEAD_SIZE as usize);
+    Bytes::from(bytes)
+}
+
+/// Whether a file that begins so is a script.
+pub(crate) fn is_script(head: &[u8]) -> bool
+    ensures test { result ≡ is_script head.now }
+    ensures begins { IsTrue result → BeginsScript head.now }
+{
+    head.starts_with(SCRIPT_MARK)
+}
