@@ -37,8 +37,7 @@ fn source(alloc: Global, bytes: &[u8]) -> Result<MemSource, Fail> {
 }
 
 // Writes of a text, of nothing, to a descriptor that isn't open and from an address that isn't mapped; a
-// call of no number; two calls that are decoded and not built, one with a path that isn't readable and one with
-// arguments that are refused; and a write of three bytes of the buffer, which is still all zeros.
+// call of no number; a call with a path that isn't readable, and one with arguments that are refused; and a write of three bytes of the buffer, which is still all zeros.
 fn writes(alloc: Global) -> Result<[ProbeStep; 8], Fail> {
     let numbered = |number, args| call(number, args, Show::Number);
     Ok([
@@ -79,7 +78,7 @@ fn writes_answer_what_they_moved(rt: HostRuntime) -> Result<(), Fail> {
     assert_eq!(rt; answer, Answer::Ended { status: 0 });
     assert_eq!(rt;
         out.got(),
-        b"hello\n6\n0\n-9\n-14\n-38\n-38\n-38\n\0\0\0\n".as_slice()
+        b"hello\n6\n0\n-9\n-14\n-38\n-14\n-22\n\0\0\0\n".as_slice()
     );
     assert_eq!(rt; err.got(), b"\0\0\0".as_slice());
     Ok(())

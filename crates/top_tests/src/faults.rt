@@ -17,57 +17,129 @@ struct Row {
     left: bool,
 }
 
-const fn read(which: Which, call: u32) -> Row {
+/// A source's call fails.
+const UNPUT: Row = Row {
+    which: Which::Tree,
+    call: 0,
+    answer: Answer::ReadFault { which: Which::Tree },
+    out: "",
+    err: "",
+    left: false,
+};
+
+/// A call that isn't made.
+const WHOLE: Row = Row {
+    which: Which::Tree,
+    call: 0,
+    answer: Answer::Ended { status: 0 },
+    out: "1000\n1000\n",
+    err: "calm: yes\n",
+    left: true,
+};
+
+const ROWS: [Row; 16] = [
     Row {
-        which,
-        call,
-        answer: Answer::ReadFault { which },
+        which: Which::Tree,
+        call: 0,
+        answer: Answer::ReadFault { which: Which::Tree },
+        ..UNPUT
+    },
+    Row {
+        which: Which::Tree,
+        call: 1,
+        answer: Answer::ReadFault { which: Which::Tree },
+        ..UNPUT
+    },
+    Row {
+        which: Which::Tree,
+        call: 2,
+        ..WHOLE
+    },
+    Row {
+        which: Which::Elf,
+        call: 0,
+        answer: Answer::ReadFault { which: Which::Elf },
+        ..UNPUT
+    },
+    Row {
+        which: Which::Elf,
+        call: 1,
+        answer: Answer::ReadFault { which: Which::Elf },
+        ..UNPUT
+    },
+    Row {
+        which: Which::Elf,
+        call: 9,
+        ..WHOLE
+    },
+    Row {
+        which: Which::Input,
+        call: 0,
+        answer: Answer::ReadFault {
+            which: Which::Input,
+        },
+        ..UNPUT
+    },
+    Row {
+        which: Which::Input,
+        call: 1,
+        answer: Answer::ReadFault {
+            which: Which::Input,
+        },
+        ..UNPUT
+    },
+    Row {
+        which: Which::Input,
+        call: 2,
+        ..WHOLE
+    },
+    Row {
+        which: Which::Out,
+        call: 0,
+        answer: Answer::WriteFault { which: Which::Out },
         out: "",
         err: "",
         left: false,
-    }
-}
-
-const fn write(which: Which, call: u32, out: &'static str, err: &'static str) -> Row {
+    },
     Row {
-        which,
-        call,
-        answer: Answer::WriteFault { which },
-        out,
-        err,
+        which: Which::Out,
+        call: 1,
+        answer: Answer::WriteFault { which: Which::Out },
+        out: "1000\n",
+        err: "",
         left: false,
-    }
-}
-
-/// A call that isn't made.
-const fn none(which: Which, call: u32) -> Row {
+    },
     Row {
-        which,
-        call,
-        answer: Answer::Ended { status: 0 },
+        which: Which::Out,
+        call: 2,
+        ..WHOLE
+    },
+    Row {
+        which: Which::Err,
+        call: 0,
+        answer: Answer::WriteFault { which: Which::Err },
+        out: "1000\n1000\n",
+        err: "",
+        left: false,
+    },
+    Row {
+        which: Which::Err,
+        call: 1,
+        ..WHOLE
+    },
+    Row {
+        which: Which::Left,
+        call: 0,
+        answer: Answer::WriteFault { which: Which::Left },
         out: "1000\n1000\n",
         err: "calm: yes\n",
-        left: true,
-    }
-}
-
-const ROWS: [Row; 16] = [
-    read(Which::Tree, 0),
-    read(Which::Tree, 1),
-    none(Which::Tree, 2),
-    read(Which::Elf, 0),
-    read(Which::Elf, 1),
-    none(Which::Elf, 2),
-    read(Which::Input, 0),
-    read(Which::Input, 1),
-    none(Which::Input, 2),
-    write(Which::Out, 0, "", ""),
-    write(Which::Out, 1, "1000\n", ""),
-    none(Which::Out, 2),
-    write(Which::Err, 0, "1000\n1000\n", ""),
-    none(Which::Err, 1),
-    write(Which::Left, 0, "1000\n1000\n", "calm: yes\n"),
-    none(Which::Left, 1),
+        left: false,
+    },
+    Row {
+        which: Which::Left,
+        call: 1,
+        ..WHOLE
+    },
 ];
 
 #[test]

@@ -60,7 +60,7 @@ fn on_path(alloc: Global, row: u16, base: u64, path: &str, third: u64) -> Result
     ))
 }
 
-fn step(alloc: Global, step: Step) -> Result<ProbeStep, Fail> {
+fn probe_step(alloc: Global, step: Step) -> Result<ProbeStep, Fail> {
     match step {
         Step::Open(path) => on_path(alloc, 56, HERE, path, 0),
         Step::OpenFrom(fd, path) => on_path(alloc, 56, fd, path, 0),
@@ -119,7 +119,7 @@ fn step(alloc: Global, step: Step) -> Result<ProbeStep, Fail> {
 pub fn guest(alloc: Global, steps: &[Step]) -> Result<Bytes, Fail> {
     let mut probes = Vec::new(alloc);
     for one in steps {
-        probes.push(step(alloc, *one)?)?;
+        probes.push(probe_step(alloc, *one)?)?;
     }
     if !is_probe(probes.as_slice()) {
         return Err(Fail::from("no probe"));

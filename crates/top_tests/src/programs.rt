@@ -78,10 +78,6 @@ struct Row {
 
 const ENDED: Answer = Answer::Ended { status: 0 };
 
-const fn refused(errno: Errno) -> Answer {
-    Answer::NoStart { errno }
-}
-
 const ROWS: [Row; 21] = [
     Row {
         words: "/hello",
@@ -92,13 +88,17 @@ const ROWS: [Row; 21] = [
     Row {
         words: "hello",
         program: Program::Hello,
-        answer: refused(Errno::ENOENT),
+        answer: Answer::NoStart {
+            errno: Errno::ENOENT,
+        },
         out: "",
     },
     Row {
         words: "",
         program: Program::Hello,
-        answer: refused(Errno::ENOENT),
+        answer: Answer::NoStart {
+            errno: Errno::ENOENT,
+        },
         out: "",
     },
     Row {
@@ -110,7 +110,9 @@ const ROWS: [Row; 21] = [
     Row {
         words: "dir",
         program: Program::Hello,
-        answer: refused(Errno::ENOENT),
+        answer: Answer::NoStart {
+            errno: Errno::ENOENT,
+        },
         out: "",
     },
     Row {
@@ -122,7 +124,9 @@ const ROWS: [Row; 21] = [
     Row {
         words: "--env=PATH=/one:/two greet",
         program: Program::Hello,
-        answer: refused(Errno::ENOENT),
+        answer: Answer::NoStart {
+            errno: Errno::ENOENT,
+        },
         out: "",
     },
     Row {
@@ -134,7 +138,9 @@ const ROWS: [Row; 21] = [
     Row {
         words: "/one/greet",
         program: Program::Hello,
-        answer: refused(Errno::EACCES),
+        answer: Answer::NoStart {
+            errno: Errno::EACCES,
+        },
         out: "",
     },
     Row {
@@ -146,19 +152,25 @@ const ROWS: [Row; 21] = [
     Row {
         words: "/s6",
         program: Program::Hello,
-        answer: refused(Errno::ELOOP),
+        answer: Answer::NoStart {
+            errno: Errno::ELOOP,
+        },
         out: "",
     },
     Row {
         words: "/bad",
         program: Program::Hello,
-        answer: refused(Errno::ENOEXEC),
+        answer: Answer::NoStart {
+            errno: Errno::ENOEXEC,
+        },
         out: "",
     },
     Row {
         words: "/hello",
         program: Program::Cut { length: 63 },
-        answer: refused(Errno::ENOEXEC),
+        answer: Answer::NoStart {
+            errno: Errno::ENOEXEC,
+        },
         out: "",
     },
     Row {
@@ -170,7 +182,9 @@ const ROWS: [Row; 21] = [
     Row {
         words: "/hello",
         program: Program::Changed { at: 18, to: &[0] },
-        answer: refused(Errno::ENOEXEC),
+        answer: Answer::NoStart {
+            errno: Errno::ENOEXEC,
+        },
         out: "",
     },
     Row {
@@ -179,7 +193,9 @@ const ROWS: [Row; 21] = [
             at: 104,
             to: &[0, 0x10, 0xf0, 0x03],
         },
-        answer: refused(Errno::ENOMEM),
+        answer: Answer::NoStart {
+            errno: Errno::ENOMEM,
+        },
         out: "",
     },
     Row {

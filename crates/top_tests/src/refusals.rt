@@ -16,33 +16,30 @@ struct Row {
 
 const UNBUILT: Answer = Answer::Unbuilt { part: Part::Words };
 
-const fn usage(word: u32, why: Why) -> Answer {
-    Answer::Usage { word, why }
-}
-
-const fn bind(index: u32, why: BindWhy) -> Answer {
-    Answer::BadBind { index, why }
-}
-
-const fn line(line: u32, why: TreeWhy) -> Answer {
-    Answer::TreeBad { line, why }
-}
-
 const ROWS: [Row; 18] = [
     Row {
         words: "-b",
         tree: b"",
-        answer: usage(1, Why::NoValue),
+        answer: Answer::Usage {
+            word: 1,
+            why: Why::NoValue,
+        },
     },
     Row {
         words: "-w / -w /",
         tree: b"",
-        answer: usage(3, Why::Twice),
+        answer: Answer::Usage {
+            word: 3,
+            why: Why::Twice,
+        },
     },
     Row {
         words: "--calm /p",
         tree: b"",
-        answer: usage(1, Why::CalmAlone),
+        answer: Answer::Usage {
+            word: 1,
+            why: Why::CalmAlone,
+        },
     },
     Row {
         words: "--case=1",
@@ -67,57 +64,90 @@ const ROWS: [Row; 18] = [
     Row {
         words: "/p",
         tree: b"",
-        answer: line(1, TreeWhy::NoRoot),
+        answer: Answer::TreeBad {
+            line: 1,
+            why: TreeWhy::NoRoot,
+        },
     },
     Row {
         words: "/p",
         tree: b"user 1000 1000\nd 755 0 0 /\nd 755 0 0 /a",
-        answer: line(3, TreeWhy::Form),
+        answer: Answer::TreeBad {
+            line: 3,
+            why: TreeWhy::Form,
+        },
     },
     Row {
         words: "/p",
         tree: b"user 0 0\nd 755 0 0 /\n",
-        answer: line(1, TreeWhy::RootUser),
+        answer: Answer::TreeBad {
+            line: 1,
+            why: TreeWhy::RootUser,
+        },
     },
     Row {
         words: "/p",
         tree: b"d 755 0 0 /\n",
-        answer: line(2, TreeWhy::NoUser),
+        answer: Answer::TreeBad {
+            line: 2,
+            why: TreeWhy::NoUser,
+        },
     },
     Row {
         words: "--native -r /g -b /none:/mnt /p",
         tree: DATA,
-        answer: bind(1, BindWhy::NoSource),
+        answer: Answer::BadBind {
+            index: 1,
+            why: BindWhy::NoSource,
+        },
     },
     Row {
         words: "--native -r /g -b /data:/f /p",
         tree: DATA,
-        answer: bind(1, BindWhy::Kind),
+        answer: Answer::BadBind {
+            index: 1,
+            why: BindWhy::Kind,
+        },
     },
     Row {
         words: "--native -r /g -b /data:/ /p",
         tree: DATA,
-        answer: bind(1, BindWhy::AtRoot),
+        answer: Answer::BadBind {
+            index: 1,
+            why: BindWhy::AtRoot,
+        },
     },
     Row {
         words: "--native -r /g -b /data:/mnt -b /new:/mnt/abs /p",
         tree: DATA,
-        answer: bind(2, BindWhy::LinkOnTheWay),
+        answer: Answer::BadBind {
+            index: 2,
+            why: BindWhy::LinkOnTheWay,
+        },
     },
     Row {
         words: "--native -r /new /p",
         tree: DATA,
-        answer: bind(0, BindWhy::RootNotDir),
+        answer: Answer::BadBind {
+            index: 0,
+            why: BindWhy::RootNotDir,
+        },
     },
     Row {
         words: "--native -r /none /p",
         tree: DATA,
-        answer: bind(0, BindWhy::NoSource),
+        answer: Answer::BadBind {
+            index: 0,
+            why: BindWhy::NoSource,
+        },
     },
     Row {
         words: "--native -r /g -b /data:/f -b /none:/mnt /p",
         tree: DATA,
-        answer: bind(2, BindWhy::NoSource),
+        answer: Answer::BadBind {
+            index: 2,
+            why: BindWhy::NoSource,
+        },
     },
 ];
 
