@@ -1,16 +1,15 @@
 -- From what was read to the opening.
 use Rattle.std.proofs.Common.{◌≡◌, inl, inr, ℕ, List, Some, None, sym, ap, subst}
-use Rattle.std.specs.Prelude.{Option, Result, Ok, Err, IfErr}
+use Rattle.std.specs.Prelude.{Result, Ok, Err, IfErr}
 use Rattle.kr_inode.specs.declared.user.User.{User}
 use Rattle.kr_tree.specs.Tree.{Tree}
 use Rattle.pr_words.specs.declared.options.Options.{Options}
 use Rattle.pr_answer.specs.declared.answer.Answer.{Answer}
 use Rattle.pr_answer.specs.declared.answer.Answer.TheVariants.{Ended, Deadlock, Spent, Usage, TooLong, TreeBad, BadBind, NoStart, ReadFault, WriteFault, NoMemory, Unbuilt}
-use Rattle.pr_sources.specs.Asking.{asked}
 use Rattle.pr_sources.specs.Reading.{EndsBeforeElf, EndsBeforeInput, HasCause, IsOfWords}
-use Rattle.pr_sources.specs.Within.{Comes, IsEarly, Stage, and_then}
+use Rattle.pr_sources.specs.Within.{Comes, Stage, and_then}
 use Rattle.pr_sources.specs.declared.reading.Asked.{Asked}
-use Rattle.pr_top.specs.Opening.{Begun, IsOfStart, Opens, OpensFrom, begun}
+use Rattle.pr_top.specs.Opening.{IsOfStart, Opens, OpensFrom, begun}
 use Rattle.pr_top.specs.declared.opening.Opened.{Opened}
 
 same-ok : (x y : Asked) → ◌≡◌ {A = Result Asked Answer} (Ok x) (Ok y) → x ≡ y

@@ -1,7 +1,7 @@
 -- What the answer of an opening, and that of a report, say in the words of the top call.
-use Rattle.std.proofs.Common.{◌≡◌, ◌⊎◌, inl, inr, ℕ, List, [], Some, None, refl, sym, ap, subst, ◌∙◌, IfSome}
-use Rattle.std.specs.Prelude.{Option, Result, Ok, Err, IfOk}
-use Rattle.std.specs.Io.KnownBytes.{Appends, Keeps}
+use Rattle.std.proofs.Common.{◌≡◌, ◌⊎◌, inl, inr, ℕ, List, Some, None, refl, sym, subst, ◌∙◌, IfSome}
+use Rattle.std.specs.Prelude.{Result, Ok, Err, IfOk}
+use Rattle.std.specs.Io.KnownBytes.{Appends}
 use Rattle.std.proofs.KnownBytes.{Appends-nil, Keeps-refl}
 use Rattle.kr_inode.specs.declared.user.User.{User}
 use Rattle.kr_tree.specs.Tree.{Tree}
@@ -13,7 +13,7 @@ use Rattle.pr_answer.specs.declared.answer.Which.TheVariants.{Tree as TreeSource
 use Rattle.pr_sources.specs.Reading.{HasCause}
 use Rattle.pr_sources.specs.Within.{IsEarly, Stage}
 use Rattle.pr_run.specs.Report.{Report}
-use Rattle.pr_run.specs.Puts.{AnswersReport, Got, PutsReport, PutsTurns, StopsReport, answer_told, stop_answer}
+use Rattle.pr_run.specs.Puts.{AnswersReport, Got, PutsReport, PutsTurns, answer_told, stop_answer}
 use Rattle.pr_run.specs.declared.turns.Stop.{Stop}
 use Rattle.pr_run.specs.declared.turns.Stop.TheVariants as stop
 use Rattle.pr_top.specs.Opening.{Begun, IsOfOpening, Opens, OpensFrom, begun_told, report}
