@@ -10,7 +10,7 @@ use Rattle.kr_turns.specs.Editing.{after_request, decoded_at, register_at}
 use Rattle.kr_turns.specs.Stopped.{Stopped}
 use Rattle.pt_ident.specs.Identity.{Effect, Identity, effect, starting}
 use Rattle.pt_ident.specs.IdentityTable.{IdentityTable, identity_at, with_identity}
-use Rattle.pt_tracer.specs.Faking.{Faking, after_decoding, after_due, after_effect, answer_register, begin_program, due_of, keeping, with_due, without_due}
+use Rattle.pt_tracer.specs.Faking.{Faking, after_decoding, after_due, after_effect, answer_register, begin_program, due_of, is_root, keeping, with_due, without_due}
 use Rattle.pt_tracer.specs.FakingLaws.{ComeAndGo, EntriesForget, ExitsFollowEntries, OthersStay}
 use Rattle.pt_tracer.specs.declared.due.Due.{Due}
 use Rattle.pt_tracer.specs.declared.due.Due.TheVariants.{Tells, ForgivesOwner, ForgivesRoot, ShowsOwner, BeginsProgram}
@@ -18,7 +18,7 @@ use Rattle.pt_tracer.specs.declared.due.Due.TheVariants.{Tells, ForgivesOwner, F
 -- ---- maps
 
 module _ {X : Type 0} (m : map.FinMap nat_cmp X) (k : ℕ) where
-  insert-remove : (x : X) → map.insert (map.remove m k) k x ≡ map.insert m k x
+  pub insert-remove : (x : X) → map.insert (map.remove m k) k x ≡ map.insert m k x
   insert-remove x =
       same_values _ _ (by_key (λ q. map.get (map.insert (map.remove m k) k x) q ≡ map.get (map.insert m k x) q) k
       (get-insert_same (map.remove m k) k x ∙ sym (get-insert_same m k x))
@@ -57,7 +57,7 @@ exits_follow_entries = record {
 }
 
 effect_again : (f : Faking) (r : Request) (t : Stopped) (e : Option Effect) → after_effect (without_due t.pid f) r t e ≡ after_effect f r t e
-effect_again f r t None = ap (λ g. (g, t)) (due_again t.pid (due_of f r) (keeping t.pid (identity_at f.identities t.pid) f))
+effect_again f r t None = ap (λ g. (g, t)) (due_again t.pid (due_of (is_root f) r) (keeping t.pid (identity_at f.identities t.pid) f))
 effect_again f r t (Some e) =
     let left = after_effect f r t (Some e) in
     ap (λ d. (record { user = left.0.user; identities = left.0.identities; dues = d }, left.1)) (insert-remove f.dues t.pid _)
@@ -80,7 +80,7 @@ due_keeps pid (Some due) f = refl
 
 other_entered : (f : Faking) (r : Request) (t : Stopped) (e : Option Effect) (q : ℕ) → q ≢ t.pid → identity_at (after_effect f r t e).0.identities q ≡ identity_at f.identities q
 other_entered f r t None q other =
-    ap (λ table. identity_at table q) (due_keeps t.pid (due_of f r) (keeping t.pid (identity_at f.identities t.pid) f))
+    ap (λ table. identity_at table q) (due_keeps t.pid (due_of (is_root f) r) (keeping t.pid (identity_at f.identities t.pid) f))
     ∙ identity_elsewhere f.identities t.pid q _ other
 other_entered f r t (Some e) q other = identity_elsewhere f.identities t.pid q _ other
 

@@ -1,3 +1,6 @@
+mod AnswerLemmas
+mod AuxiliaryLemmas
 mod DecodingLemmas
+mod FakerLemmas
 mod FakingLemmas
 mod StopLemmas

@@ -19,9 +19,9 @@ use Rattle.kr_turns.proofs.EditLemmas.{edited-by, edited-same, edited-twice, ima
 use Rattle.pr_base.specs.declared.errno.Errno.TheVariants.{EFAULT}
 use Rattle.pt_ident.specs.Identity.{Answered, Identity, Numbers, answered, numbers_in, refusal, tell_numbers}
 use Rattle.pt_ident.specs.Showing.{shown_stat}
-use Rattle.pt_tracer.specs.Carrying.{CarriesOut}
+use Rattle.pt_tracer.specs.Carrying.{CarriesOut, on_its_memory}
 use Rattle.pt_tracer.proofs.DecodingLemmas.{decoding-keeps}
-use Rattle.pt_tracer.specs.Faking.{on_its_memory, show_owner}
+use Rattle.pt_tracer.specs.Faking.{show_owner}
 
 -- ---- answers
 
@@ -69,7 +69,7 @@ module _ (t : Stopped) (there : IsThere t) where
   pub memory-given : (m : Memory) → memory_at (with_memory m t) ≡ m
   memory-given m = ap (λ (i : Image). i.memory) (image-edited (image_at t).regs m t there.lives)
 
-  registers-stay : (m : Memory) → (image_at (with_memory m t)).regs ≡ (image_at t).regs
+  pub registers-stay : (m : Memory) → (image_at (with_memory m t)).regs ≡ (image_at t).regs
   registers-stay m = ap (λ (i : Image). i.regs) (image-edited (image_at t).regs m t there.lives)
 
   -- the second memory counts

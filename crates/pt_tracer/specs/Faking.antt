@@ -19,6 +19,7 @@ use Rattle.kr_turns.specs.Watching.{Watcher}
 use Rattle.pt_ident.specs.Identity.{Effect, Identity, after_exec, effect, on_memory, refusal}
 use Rattle.pt_ident.specs.IdentityTable.{IdentityTable, after_birth, after_end, identity_at, starting_table, with_identity}
 use Rattle.pt_ident.specs.Showing.{auxiliary_values, shown_stat}
+use Rattle.pt_tracer.specs.Carrying.{on_its_memory}
 use Rattle.pt_tracer.specs.declared.due.Due.{Due}
 use Rattle.pt_tracer.specs.declared.due.Due.TheVariants.{Tells, ForgivesOwner, ForgivesRoot, ShowsOwner, BeginsProgram}
 
@@ -67,31 +68,42 @@ no_call = 0xffff_ffff_ffff_ffff
 abbrev pub word_of : ℤ → ℕ
 word_of z = cast_unsigned w64 z
 
+-- the number of its call is taken away
+abbrev pub no_longer_called : Stopped → Stopped
+no_longer_called t = with_register number_register no_call t
+
+-- it is given back, and an answer is told
+abbrev pub told : (number : ℕ) (answer : ℤ) → Stopped → Stopped
+told number answer t = with_register answer_register (word_of answer) (with_register number_register number t)
+
+abbrev pub has_answered_zero : Stopped → Bool
+has_answered_zero t = register_at t answer_register == 0
+
 -- ---- the first stop
 
 abbrev pub is_root : Faking → Bool
 is_root f = f.identities.uid == 0
 
-abbrev pub if_root : Faking → Due → Option Due
-if_root f due = if is_root f then Some due else None
+abbrev pub if_root : Bool → Due → Option Due
+if_root root due = if root then Some due else None
 
--- what is due of a call that the kernel carries out
-abbrev pub due_of : Faking → Request → Option Due
-due_of f (call.Fchown fd uid gid) = if_root f ForgivesOwner
-due_of f (call.Fchownat dirfd path uid gid flags) = if_root f ForgivesOwner
-due_of f (call.Chroot path) = if_root f ForgivesRoot
-due_of f (call.Fstat fd buf) = Some (ShowsOwner buf)
-due_of f (call.Newfstatat dirfd path buf flags) = Some (ShowsOwner buf)
-due_of f (call.Execve path args env) = Some BeginsProgram
-due_of f _ = None
+-- what is due of a call that the kernel carries out, by whether processes start as root
+abbrev pub due_of : Bool → Request → Option Due
+due_of root (call.Fchown fd uid gid) = if_root root ForgivesOwner
+due_of root (call.Fchownat dirfd path uid gid flags) = if_root root ForgivesOwner
+due_of root (call.Chroot path) = if_root root ForgivesRoot
+due_of root (call.Fstat fd buf) = Some (ShowsOwner buf)
+due_of root (call.Newfstatat dirfd path buf flags) = Some (ShowsOwner buf)
+due_of root (call.Execve path args env) = Some BeginsProgram
+due_of root _ = None
 
 -- a call on users and groups is carried out here, and the kernel finds no call; what it is told is due
 abbrev pub after_effect : Faking → Request → Stopped → Option Effect → Faking × Stopped
-after_effect f r t None = (with_due t.pid (due_of f r) (keeping t.pid (identity_at f.identities t.pid) f), t)
+after_effect f r t None = (with_due t.pid (due_of (is_root f) r) (keeping t.pid (identity_at f.identities t.pid) f), t)
 after_effect f r t (Some e) =
     let done = carried_out (on_memory (identity_at f.identities t.pid) e) (memory_at t) in (
       with_due t.pid (Some (Tells (register_at t number_register) done.reply.answer)) (keeping t.pid done.reply.identity f),
-      with_register number_register no_call (with_memory done.memory t),
+      no_longer_called (with_memory done.memory t),
     )
 
 -- a call that can't be read is left to the kernel
@@ -104,9 +116,6 @@ entered f t = after_decoding f (after_request t) (decoded_at t).reply
 
 -- ---- the second stop
 
-abbrev pub on_its_memory : Action (Unit {0}) → Stopped → Stopped
-on_its_memory action t = with_memory (carried_out action (memory_at t)).memory t
-
 -- the bytes that the call has just written are read with the right to write
 abbrev pub show_owner : User → (uid gid at : ℕ) → Action (Unit {0})
 show_owner user uid gid at = read_if_allowed at 128 (Write ∷ []) (Done tt) (λ bytes. WriteBytes at (shown_stat user uid gid bytes) (Done tt))
@@ -114,12 +123,14 @@ show_owner user uid gid at = read_if_allowed at 128 (Write ∷ []) (Done tt) (λ
 abbrev pub next_word : ℕ → ℕ
 next_word at = (at + 8) % 2 ^ 64
 
+-- the word at an address, if it can be read
+abbrev pub word_at : (at : ℕ) → (ℕ → Action (Unit {0})) → Action (Unit {0})
+word_at at next = read_if_allowed at 8 (Read ∷ []) (Done tt) (λ bytes. next (little_endian bytes))
+
 -- what stands behind a list of words, its last one 0, of at most so many
 unfoldable pub behind_list : (most at : ℕ) → (ℕ → Action (Unit {0})) → Action (Unit {0})
 behind_list zero at next = Done tt
-behind_list (suc most) at next =
-    read_if_allowed at 8 (Read ∷ []) (Done tt)
-    (λ bytes. if little_endian bytes == 0 then next (next_word at) else behind_list most (next_word at) next)
+behind_list (suc most) at next = word_at at (λ word. if word == 0 then next (next_word at) else behind_list most (next_word at) next)
 
 -- the values of pairs that stand one behind the other
 abbrev pub put_values : (at : ℕ) → List ℕ → Action (Unit {0})
@@ -142,7 +153,7 @@ forgiven may t = if may && (register_at t answer_register == word_of (refusal EP
 
 -- what is done only where the call answered 0. A new program begins with 0 in each register but the stack pointer
 abbrev pub if_done : {A : Type 0} → Stopped → A → A → A
-if_done t done failed = if register_at t answer_register == 0 then done else failed
+if_done t done failed = if has_answered_zero t then done else failed
 
 abbrev pub begin_program : Faking → Stopped → Faking × Stopped
 begin_program f t =
@@ -151,7 +162,7 @@ begin_program f t =
 
 abbrev pub after_due : Faking → Stopped → Option Due → Faking × Stopped
 after_due f t None = (f, t)
-after_due f t (Some (Tells number answer)) = (f, with_register answer_register (word_of answer) (with_register number_register number t))
+after_due f t (Some (Tells number answer)) = (f, told number answer t)
 after_due f t (Some ForgivesOwner) = (f, forgiven true t)
 after_due f t (Some ForgivesRoot) = (f, forgiven t.at_root t)
 after_due f t (Some (ShowsOwner at)) = (f, if_done t (on_its_memory (show_owner f.user f.identities.uid f.identities.gid at) t) t)

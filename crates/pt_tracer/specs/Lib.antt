@@ -1,3 +1,4 @@
 pub mod Carrying
+pub mod Asking
 pub mod Faking
 pub mod FakingLaws

@@ -1,11 +1,17 @@
 //! Watchers of calls.
 #![tactic(auto)]
 
+mod answering;
+mod asking;
+mod auxiliary;
 mod due;
 mod dues;
 mod faker;
 pub mod laws;
 pub mod memory;
+mod registers;
 
+pub use answering::answer_call;
+pub use auxiliary::show_identity;
 pub use due::Due;
 pub use faker::Faker;

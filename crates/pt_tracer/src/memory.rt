@@ -4,8 +4,8 @@ ghost use Rattle.rv_mem.specs.Pages.{allows_all};
 ghost use Rattle.kr_turns.specs.Editing.{after_poke, memory_at};
 ghost use Rattle.kr_turns.specs.Stopped.{IsEdited};
 ghost use Rattle.pt_ident.specs.Identity.{Identity, TakesGroups, TellsGroups, most_groups, numbers_of, on_memory, refusal, tell_numbers};
-ghost use Rattle.pt_tracer.specs.Carrying.{CarriesOut};
-ghost use Rattle.pt_tracer.specs.Faking.{on_its_memory, show_owner};
+ghost use Rattle.pt_tracer.specs.Carrying.{CarriesOut, on_its_memory};
+ghost use Rattle.pt_tracer.specs.Faking.{show_owner};
 
 use kr_inode::User;
 use kr_turns::Tracee;
@@ -15,7 +15,7 @@ use rv_mem::Use;
 use std::alloc::Global;
 
 /// Writes bytes, all of which may be written. After want of memory the process may only be dropped.
-fn write<T: Tracee>(t: &mut T, at: u64, bytes: &[u8]) -> Result<(), NoMemory>
+pub(crate) fn write<T: Tracee>(t: &mut T, at: u64, bytes: &[u8]) -> Result<(), NoMemory>
     requires may { IsTrue (allows_all (memory_at (T.stopped t.old)).pages at (length bytes.now) Use.Write) }
     ensures after { OnOk result (T.stopped t.new ≡ after_poke at bytes.now (T.stopped t.old)) }
     ensures edits { IsEdited (T.stopped t.old) (T.stopped t.new) }
@@ -51,7 +51,7 @@ pub fn show_owner<T: Tracee>(
 }
 
 /// The negated number of an error.
-fn refused(errno: Errno) -> i64
+pub(crate) fn refused(errno: Errno) -> i64
     ensures { result ≡ refusal errno }
 {
     -i64::from(errno.number())
