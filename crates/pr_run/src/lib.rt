@@ -1,12 +1,10 @@
 //! The run of a kernel, turn after turn, and the report that is put of it.
 #![tactic(auto)]
 
-mod graphed;
 mod plan;
 mod reporting;
 mod turns;
 
-pub use graphed::Graphed;
 pub use plan::Plan;
 pub use reporting::report;
 pub use turns::Stop;

@@ -8,7 +8,6 @@ ghost use Rattle.pr_run.specs.Report.{answer_of, calm_line, calm_part, report_of
 ghost use Rattle.pr_run.specs.Puts.{AnswersReport, PutsCalm, PutsListing, PutsReport, end_told};
 ghost use Rattle.pr_run.specs.Slots.{IsPlan, slot_of};
 
-use crate::graphed::Graphed;
 use crate::plan::Plan;
 use crate::turns::{End, Stop, put_some, run_turns};
 use kr_core::Kernel;
@@ -17,6 +16,7 @@ use kr_view::Places;
 use pr_answer::Answer;
 use pr_base::{Bytes, NoMemory};
 use pr_io::{PutFault, Sink};
+use pr_watch::Graphed;
 use std::alloc::Global;
 
 /// The line that tells whether a run was calm, by the rule that it broke first.

@@ -8,13 +8,13 @@ ghost use Rattle.pr_run.specs.Puts.{GoesOn, MakesTurn, PutsRun, PutsTurn, end_to
 ghost use Rattle.pr_run.specs.Report.{last_ending};
 ghost use Rattle.pr_run.specs.Slots.{IsPlan, slot_of};
 
-use crate::graphed::Graphed;
 use crate::plan::Plan;
 use kr_core::{Kernel, Turned};
 use kr_turns::laws::turns_are_functions;
 use kr_view::Places;
 use pr_answer::{Answer, Which};
 use pr_io::{PutFault, Sink};
+use pr_watch::Graphed;
 use pr_words::Slot;
 
 /// Why a report stopped early: a sink failed, or memory ran out.

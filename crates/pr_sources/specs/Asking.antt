@@ -17,9 +17,9 @@ some_binds (b ∷ binds) = true
 abbrev pub needs_tracer : Options → Bool
 needs_tracer o = if o.native then false else if not (bytes_eq o.root (codes "/")) then true else some_binds o.binds
 
--- a generated case, an identity, or a tracer
+-- a generated case, or a tracer
 abbrev pub is_unbuilt : Options → Bool
-is_unbuilt o = if is_some o.case then true else if is_some o.ids then true else needs_tracer o
+is_unbuilt o = if is_some o.case then true else needs_tracer o
 
 abbrev pub unless_unbuilt : Options → Result Options Answer
 unless_unbuilt o = if is_unbuilt o then Err (Unbuilt Words) else Ok o

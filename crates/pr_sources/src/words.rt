@@ -21,14 +21,11 @@ fn needs_tracer(options: &Options) -> bool
     !options.binds.is_empty()
 }
 
-/// Whether options ask for what isn't built yet: a generated case, an identity, or a tracer.
+/// Whether options ask for what isn't built yet: a generated case, or a tracer.
 fn is_unbuilt(options: &Options) -> bool
     ensures { result ≡ is_unbuilt options.now }
 {
     if options.case.is_some() {
-        return true;
-    }
-    if options.ids.is_some() {
         return true;
     }
     needs_tracer(options)

@@ -11,7 +11,7 @@ use Rattle.kr_model.specs.Walks.{and_then}
 use Rattle.kr_first.specs.declared.starting.StartFault.{StartFault}
 use Rattle.kr_first.specs.declared.starting.StartFault.TheVariants as fault
 use Rattle.kr_turns.specs.Turn.{Machine}
-use Rattle.kr_turns.specs.declared.stops.Unwatched.{Unwatched}
+use Rattle.pr_watch.specs.declared.watch.Watch.{Watch}
 use Rattle.kr_core.specs.Kernel.{Kernel, Starts, machine}
 use Rattle.kr_mounts.specs.declared.mount.Mount.{Mount}
 use Rattle.kr_mounts.specs.declared.mounted.MountNumber.{MountNumber}
@@ -21,28 +21,28 @@ use Rattle.pr_start.specs.Numbers.{number_of}
 use Rattle.pr_start.specs.Beginning.{Begins, beginning, begun, begun_at, begun_in, fresh, ids_of, nowhere}
 use Rattle.pr_start.specs.declared.starting.Launch.{Launch}
 
-module _ (table : List Row) (tree : Tree) (user : User) (launch : Launch) (input : List ℕ) where
+module _ (table : List Row) (tree : Tree) (user : User) (watch : Watch) (launch : Launch) (input : List ℕ) where
   -- what was found step by step is what begins
   pub begins-as : (at : At) (reach : Reach) (found : Chosen) (path : List ℕ) (args : List (List ℕ)) → at ≡ working_directory table tree user launch.cwd → reach ≡ directory_reach table tree user launch.cwd nowhere
       → found ≡ chosen table tree user at.place launch.env (word_of launch.command) reach → found.path ≡ Some path → args ≡ arguments launch.command
-      → beginning table tree user launch input ≡ begun table tree user (record { path = path; args = args; env = launch.env; cwd = at.path; ids = ids_of user; reach = found.reach }) input
+      → beginning table tree user watch launch input ≡ begun table tree user watch (record { path = path; args = args; env = launch.env; cwd = at.path; ids = ids_of launch.ids; reach = found.reach }) input
   begins-as at reach found path args at-is reach-is found-is path-is args-is =
-      ap (λ (d : At). begun_in table tree user launch input d (directory_reach table tree user launch.cwd nowhere)) (sym at-is)
-      ∙ ap (λ (r : Reach). begun_in table tree user launch input at r) (sym reach-is)
-      ∙ ap (λ (x : Chosen). begun_at table tree user launch input at x.reach x.path) (sym found-is)
-      ∙ ap (λ (o : Option (List ℕ)). begun_at table tree user launch input at found.reach o) path-is
-      ∙ ap (λ (words : List (List ℕ)). begun table tree user (record { path = path; args = words; env = launch.env; cwd = at.path; ids = ids_of user; reach = found.reach }) input) (sym args-is)
+      ap (λ (d : At). begun_in table tree user watch launch input d (directory_reach table tree user launch.cwd nowhere)) (sym at-is)
+      ∙ ap (λ (r : Reach). begun_in table tree user watch launch input at r) (sym reach-is)
+      ∙ ap (λ (x : Chosen). begun_at table tree user watch launch input at x.reach x.path) (sym found-is)
+      ∙ ap (λ (o : Option (List ℕ)). begun_at table tree user watch launch input at found.reach o) path-is
+      ∙ ap (λ (words : List (List ℕ)). begun table tree user watch (record { path = path; args = words; env = launch.env; cwd = at.path; ids = ids_of launch.ids; reach = found.reach }) input) (sym args-is)
 
 -- a kernel that starts begins with its start's state
-pub begins-from : (places : List Mount) (stops : Unwatched) (reach : Reach) (answer : Result (State ℕ Image) Errno) (result : Result (Kernel (List Mount) Unwatched MountNumber 1) StartFault)
-    → Starts {M = 1} number_of places stops reach answer result → Begins (and_then answer (λ s. Ok (fresh reach s))) result
-begins-from places stops reach answer (Ok k) starts =
+pub begins-from : (places : List Mount) (watch : Watch) (reach : Reach) (answer : Result (State ℕ Image) Errno) (result : Result (Kernel (List Mount) Watch MountNumber 1) StartFault)
+    → Starts {M = 1} number_of places watch reach answer result → Begins (and_then answer (λ s. Ok (fresh watch reach s))) result
+begins-from places watch reach answer (Ok k) starts =
     let b = starts.1 in
-    let same : fresh reach (machine number_of k).state ≡ machine number_of k = λ i. record {
+    let same : fresh watch reach (machine number_of k).state ≡ machine number_of k = λ i. record {
       state = (machine number_of k).state;
-      watcher = record {};
+      watcher = sym b.stops_are i;
       tally = record { status = sym b.status i; broken = sym b.broken i };
     } in
-    (ap (λ (a : Result (State ℕ Image) Errno). and_then a (λ s. Ok (fresh reach s))) starts.0 ∙ ap (λ (m : Machine Unwatched). Ok m) same, b.turns, b.whole)
-begins-from places stops reach answer (Err (fault.Err e)) starts = ap (λ (a : Result (State ℕ Image) Errno). and_then a (λ s. Ok (fresh reach s))) starts
-begins-from places stops reach answer (Err fault.NoMemory) starts = tt
+    (ap (λ (a : Result (State ℕ Image) Errno). and_then a (λ s. Ok (fresh watch reach s))) starts.0 ∙ ap (λ (m : Machine Watch). Ok m) same, b.turns, b.whole)
+begins-from places watch reach answer (Err (fault.Err e)) starts = ap (λ (a : Result (State ℕ Image) Errno). and_then a (λ s. Ok (fresh watch reach s))) starts
+begins-from places watch reach answer (Err fault.NoMemory) starts = tt

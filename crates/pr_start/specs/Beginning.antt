@@ -13,11 +13,11 @@ use Rattle.kr_first.specs.declared.starting.StartFault.{StartFault}
 use Rattle.kr_first.specs.declared.starting.StartFault.TheVariants as fault
 use Rattle.kr_first.specs.Starting.{start_of, start_reach}
 use Rattle.kr_turns.specs.Turn.{Machine}
-use Rattle.kr_turns.specs.declared.stops.Unwatched.{Unwatched}
 use Rattle.kr_core.specs.Kernel as kernel
 use Rattle.kr_core.specs.Kernel.{first_rule, machine}
 use Rattle.kr_mounts.specs.declared.mount.Mount.{Mount}
 use Rattle.kr_mounts.specs.declared.mounted.MountNumber.{MountNumber}
+use Rattle.pr_watch.specs.declared.watch.Watch.{Watch}
 use Rattle.pr_start.specs.Directory.{At, directory_reach, working_directory}
 use Rattle.pr_start.specs.Command.{arguments, chosen, word_of}
 use Rattle.pr_start.specs.Numbers.{number_of}
@@ -28,34 +28,34 @@ abbrev pub nowhere : Reach
 nowhere = record { longest = 0; met_proc = false }
 
 -- the real and the effective user and group
-abbrev pub ids_of : User → List ℕ
-ids_of user = user.uid ∷ user.uid ∷ user.gid ∷ user.gid ∷ []
+abbrev pub ids_of : ℕ × ℕ → List ℕ
+ids_of ids = ids.0 ∷ ids.0 ∷ ids.1 ∷ ids.1 ∷ []
 
 -- a state before its first turn, with the calm rule that the walks of the start broke
-abbrev pub fresh : Reach → State ℕ Image → Machine Unwatched
-fresh reach s = record { state = s; watcher = record {}; tally = record { status = 0; broken = first_rule 1 reach } }
+abbrev pub fresh : Watch → Reach → State ℕ Image → Machine Watch
+fresh watch reach s = record { state = s; watcher = watch; tally = record { status = 0; broken = first_rule 1 reach } }
 
-module _ (table : List Row) (tree : Tree) (user : User) where
+module _ (table : List Row) (tree : Tree) (user : User) (watch : Watch) where
   abbrev pub first_of : Launch → At → List ℕ → Reach → First
-  first_of launch at path reach = record { path = path; args = arguments launch.command; env = launch.env; cwd = at.path; ids = ids_of user; reach = reach }
+  first_of launch at path reach = record { path = path; args = arguments launch.command; env = launch.env; cwd = at.path; ids = ids_of launch.ids; reach = reach }
 
-  abbrev pub begun : First → List ℕ → Result (Machine Unwatched) Errno
-  begun first input = and_then (start_of table tree user input first) (λ s. Ok (fresh (start_reach table tree user first) s))
+  abbrev pub begun : First → List ℕ → Result (Machine Watch) Errno
+  begun first input = and_then (start_of table tree user input first) (λ s. Ok (fresh watch (start_reach table tree user first) s))
 
-  abbrev pub begun_at : Launch → List ℕ → At → Reach → Option (List ℕ) → Result (Machine Unwatched) Errno
+  abbrev pub begun_at : Launch → List ℕ → At → Reach → Option (List ℕ) → Result (Machine Watch) Errno
   begun_at launch input at reach None = Err ENOENT
   begun_at launch input at reach (Some path) = begun (first_of launch at path reach) input
 
-  abbrev pub begun_in : Launch → List ℕ → At → Reach → Result (Machine Unwatched) Errno
+  abbrev pub begun_in : Launch → List ℕ → At → Reach → Result (Machine Watch) Errno
   begun_in launch input at reach =
       let found = chosen table tree user at.place launch.env (word_of launch.command) reach in
       begun_at launch input at found.reach found.path
 
-  abbrev pub beginning : Launch → List ℕ → Result (Machine Unwatched) Errno
+  abbrev pub beginning : Launch → List ℕ → Result (Machine Watch) Errno
   beginning launch input = begun_in launch input (working_directory table tree user launch.cwd) (directory_reach table tree user launch.cwd nowhere)
 
 -- a kernel begins as the definition says, before its first turn, or its error is answered, but for want of memory
-abbrev pub Begins : Result (Machine Unwatched) Errno → Result (kernel.Kernel (List Mount) Unwatched MountNumber 1) StartFault → Type 0
+abbrev pub Begins : Result (Machine Watch) Errno → Result (kernel.Kernel (List Mount) Watch MountNumber 1) StartFault → Type 0
 Begins answer (Ok k) = (answer ≡ Ok (machine number_of k)) × (k.turns ≡ 0) × (k.whole ≡ true)
 Begins answer (Err (fault.Err e)) = answer ≡ Err e
 Begins answer (Err fault.NoMemory) = Unit {0}

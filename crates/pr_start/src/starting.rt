@@ -13,9 +13,9 @@ use kr_first::laws::roots_are_directories;
 use kr_first::{First, StartFault};
 use kr_mounts::Mounted;
 use kr_stage::Stage;
-use kr_turns::Unwatched;
 use kr_view::Reach;
 use pr_base::{Bytes, Errno, Texts};
+use pr_watch::Watch;
 use std::alloc::Global;
 
 /// What is started.
@@ -26,6 +26,8 @@ pub struct Launch {
     pub env: Texts,
     /// The path of the first working directory; what isn't a directory that the user may search becomes the root.
     pub cwd: Bytes,
+    /// The user and the group as which the program is told that it runs.
+    pub ids: (u32, u32),
 }
 
 /// Nothing was reached yet.
@@ -34,21 +36,28 @@ const NOWHERE: Reach = Reach {
     met_proc: false,
 };
 
-/// Starts a command over mounts, in the name of their tree's user. A command without a slash is the first program of that name in the directories
+/// Starts a command over mounts, in the name of their tree's user, with its watcher. A command without a slash is the first program of that name in the directories
 /// of PATH, ENOENT where there is none; else the errors are those of execve(2). All walks of the start count for the calm rules.
 pub fn start(
     alloc: Global,
     stage: Stage,
     launch: Launch,
     input: Bytes,
-) -> Result<Kernel<Mounted, Unwatched, 1>, StartFault>
+    watch: Watch,
+) -> Result<Kernel<Mounted, Watch, 1>, StartFault>
     requires ready { IsReady stage.tree stage.user (table_of stage.places) }
     requires command { All IsText launch.command }
     requires env { All IsText launch.env }
-    ensures begins { Begins (beginning (table_of stage.places) stage.tree stage.user launch input) result }
+    ensures begins { Begins (beginning (table_of stage.places) stage.tree stage.user watch launch input) result }
     ensures places { IfOk result (λ kernel. kernel.places ≡ stage.places) }
 {
-    let Launch { command, env, cwd } = launch;
+    let Launch {
+        command,
+        env,
+        cwd,
+        ids,
+    } = launch;
+    let (uid, gid) = ids;
     let mut reach = NOWHERE;
     roots_are_directories();
     let Ok(directory) = working_directory(alloc, &stage, cwd, &mut reach) else {
@@ -75,9 +84,9 @@ pub fn start(
         args,
         env,
         cwd: directory.path,
-        ids: [user.uid, user.uid, user.gid, user.gid],
+        ids: [uid, uid, gid, gid],
         reach,
     };
     let Stage { tree, places, .. } = stage;
-    Kernel::start(alloc, places, Unwatched, tree, user, input, first)
+    Kernel::start(alloc, places, watch, tree, user, input, first)
 }

@@ -1,6 +1,6 @@
 -- The opening: the first refusal in the order of the words, the sources, the bindings and the start, or a run that begins. It is known where
 -- the sources that it needs tell their bytes.
-use Rattle.std.specs.Prelude.{◌≡◌, ◌⊎◌, ℕ, true, List, Option, Some, IfSome, Result, Ok, Err}
+use Rattle.std.specs.Prelude.{◌≡◌, ◌⊎◌, ℕ, true, List, Option, Some, None, IfSome, Result, Ok, Err}
 use Rattle.pr_base.specs.declared.errno.Errno.{Errno}
 use Rattle.kr_tree.specs.Tree.{Tree}
 use Rattle.kr_view.specs.View.{Row}
@@ -9,8 +9,11 @@ use Rattle.kr_mounts.specs.Stored.{table_of}
 use Rattle.kr_core.specs.Kernel.{machine}
 use Rattle.kr_turns.specs.Turn.{Machine}
 use Rattle.kr_turns.specs.Run.{Ran, run}
-use Rattle.kr_turns.specs.Watching.{unwatched}
-use Rattle.kr_turns.specs.declared.stops.Unwatched.{Unwatched}
+use Rattle.pt_tracer.specs.Faking.{starting_faking}
+use Rattle.pr_watch.specs.Watches.{watch}
+use Rattle.pr_watch.specs.declared.watch.Watch.{Watch}
+use Rattle.pr_watch.specs.declared.watch.Watch.TheVariants.{Faked, Nobody}
+use Rattle.kr_inode.specs.declared.user.User.{User}
 use Rattle.pr_answer.specs.declared.answer.Answer.{Answer}
 use Rattle.pr_answer.specs.declared.answer.Answer.TheVariants.{BadBind, NoMemory, NoStart, ReadFault, TooLong, TreeBad, Unbuilt, Usage}
 use Rattle.pr_sources.specs.Within.{IsEarly, Stage, and_then}
@@ -30,11 +33,11 @@ use Rattle.pr_top.specs.declared.opening.Opened.{Opened}
 pub record Begun : Type 0 where
   pub plan : Plan
   pub table : List Row
-  pub machine : Machine Unwatched
+  pub machine : Machine Watch
 
 -- the run on the kernel with mounts
-abbrev pub run_of : Begun → Ran Unwatched
-run_of b = run unwatched 1 b.table (slot_of b.plan.schedule) b.plan.turns b.machine
+abbrev pub run_of : Begun → Ran Watch
+run_of b = run watch 1 b.table (slot_of b.plan.schedule) b.plan.turns b.machine
 
 abbrev pub report : Begun → Report
 report b = report_of b.plan (run_of b)
@@ -44,15 +47,25 @@ report b = report_of b.plan (run_of b)
 abbrev pub plan_of : Asked → Plan
 plan_of a = record { turns = a.options.turns; schedule = a.options.schedule; calm = a.options.calm; user = a.user }
 
-abbrev pub launch_of : Asked → Launch
-launch_of a = record { command = a.options.command; env = a.options.env; cwd = a.options.cwd }
+-- who a program is told that it runs as: the host's user, or whom an identity option names
+abbrev pub ids_for : User → Option (ℕ × ℕ) → ℕ × ℕ
+ids_for user None = (user.uid, user.gid)
+ids_for user (Some ids) = ids
 
-abbrev pub started : Asked → List Row → Result (Machine Unwatched) Errno → Result Begun Answer
+-- and who watches its calls
+abbrev pub watch_for : User → Option (ℕ × ℕ) → Watch
+watch_for user None = Nobody
+watch_for user (Some ids) = Faked (starting_faking user ids.0 ids.1)
+
+abbrev pub launch_of : Asked → Launch
+launch_of a = record { command = a.options.command; env = a.options.env; cwd = a.options.cwd; ids = ids_for a.user a.options.ids }
+
+abbrev pub started : Asked → List Row → Result (Machine Watch) Errno → Result Begun Answer
 started a table (Ok m) = Ok (record { plan = plan_of a; table = table; machine = m })
 started a table (Err e) = Err (NoStart e)
 
 abbrev pub over : Asked → Tree → Result (List Row) Refusal → Result Begun Answer
-over a tree (Ok table) = started a table (beginning table tree a.user (launch_of a) a.input)
+over a tree (Ok table) = started a table (beginning table tree a.user (watch_for a.user a.options.ids) (launch_of a) a.input)
 over a tree (Err refusal) = Err (BadBind refusal.index refusal.why)
 
 abbrev pub on_settled : Asked → Settling → Result Begun Answer

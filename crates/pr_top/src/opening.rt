@@ -7,25 +7,47 @@ ghost use Rattle.pr_words.specs.Sound.{AreSound};
 ghost use Rattle.kr_stage.specs.Ready.{IsOfListing};
 ghost use Rattle.pr_sources.specs.Asking.{asked};
 ghost use Rattle.pr_sources.specs.Reading.{EndsBeforeElf, EndsBeforeInput, HasCause, IsOfWords, IsRefusal, IsUnwanted, IsWanted, told_listing, told_tree};
-ghost use Rattle.pr_top.specs.Opening.{IsOfOpening, IsOfStart, IsReadyToRun, Opens, OpensFrom, begun, opening};
+ghost use Rattle.pr_top.specs.Opening.{IsOfOpening, IsOfStart, IsReadyToRun, Opens, OpensFrom, begun, ids_for, opening, watch_for};
 
 use kr_core::Kernel;
 use kr_first::StartFault;
 use kr_mounts::{BindFault, Mounted};
 use kr_stage::settled;
-use kr_turns::Unwatched;
+use kr_tree::User;
 use pr_answer::Answer;
 use pr_io::Source;
 use pr_run::Plan;
 use pr_sources::{Asked, read};
 use pr_start::{Launch, start};
+use pr_watch::Watch;
+use pt_tracer::Faker;
 use std::alloc::Global;
 
 /// A run that has begun: its kernel, and what it is made by.
 #[derive(Drop)]
 pub(crate) struct Opened {
-    pub(crate) kernel: Kernel<Mounted, Unwatched, 1>,
+    pub(crate) kernel: Kernel<Mounted, Watch, 1>,
     pub(crate) plan: Plan,
+}
+
+/// Who a program is told that it runs as: the host's user, or whom an identity option names.
+fn ids_for(user: User, ids: Option<(u32, u32)>) -> (u32, u32)
+    ensures { result ≡ ids_for user ids }
+{
+    match ids {
+        Some(ids) => ids,
+        None => (user.uid, user.gid),
+    }
+}
+
+/// Who watches its calls.
+fn watch_for(alloc: Global, user: User, ids: Option<(u32, u32)>) -> Watch
+    ensures { result ≡ watch_for user ids }
+{
+    match ids {
+        Some(ids) => Watch::Faked(Faker::new(alloc, user, ids)),
+        None => Watch::Nobody,
+    }
 }
 
 /// Settles the bindings that are asked for, and starts the command over them.
@@ -52,7 +74,9 @@ fn begin(alloc: Global, asked: Asked) -> Result<Opened, Answer>
         command: options.command,
         env: options.env,
         cwd: options.cwd,
+        ids: ids_for(user, options.ids),
     };
+    let watch = watch_for(alloc, user, options.ids);
     let stage = match settled(
         alloc,
         tree,
@@ -64,7 +88,7 @@ fn begin(alloc: Global, asked: Asked) -> Result<Opened, Answer>
         Err(BindFault::Bad { index, why }) => return Err(Answer::BadBind { index, why }),
         Err(BindFault::NoMemory) => return Err(Answer::NoMemory),
     };
-    match start(alloc, stage, launch, input) {
+    match start(alloc, stage, launch, input, watch) {
         Ok(kernel) => Ok(Opened { kernel, plan }),
         Err(StartFault::Err(errno)) => Err(Answer::NoStart { errno }),
         Err(StartFault::NoMemory) => Err(Answer::NoMemory),

@@ -2,7 +2,7 @@ use Rattle.std.proofs.Common.{◌≡◌, Some, refl, sym, ap, subst, ◌∙◌, 
 use Rattle.std.specs.Prelude.{IsSome, Result}
 use Rattle.pr_base.specs.declared.errno.Errno.{Errno}
 use Rattle.kr_turns.specs.Turn.{Machine}
-use Rattle.kr_turns.specs.declared.stops.Unwatched.{Unwatched}
+use Rattle.pr_watch.specs.declared.watch.Watch.{Watch}
 use Rattle.pr_start.specs.Beginning.{Begins}
 use Rattle.pr_start.proofs.BeginLemmas.{begins-as, begins-from}
 use Rattle.kr_first.specs.Starting.{directory_at}
@@ -38,5 +38,5 @@ returns-clause-begins c =
     let found : Chosen = record { path = c.in-Ok-Some.field-0; reach = c.choose.new.reach } in
     let found-is : found ≡ chosen table tree user at.place launch.env (word_of launch.command) c.working_directory.new.reach =
     c.in-Ok-Some.ensures ∙ ap (λ w. chosen table tree user at.place launch.env w c.working_directory.new.reach) c.word_of.ensures in
-    let steps = begins-as table tree user launch c.args.input at c.working_directory.new.reach found c.in-Ok-Some.path c.in-Ok-arguments.args c.in-Ok.ensures.directory c.in-Ok.ensures.reach found-is c.in-Ok-Some.field-0-is c.in-Ok-arguments.ensures in
-    subst (λ (answer : Result (Machine Unwatched) Errno). Begins answer c.start.result) (sym steps) (begins-from c.args.stage.places (record {}) _ _ c.start.result c.start.ensures)
+    let steps = begins-as table tree user c.args.watch launch c.args.input at c.working_directory.new.reach found c.in-Ok-Some.path c.in-Ok-arguments.args c.in-Ok.ensures.directory c.in-Ok.ensures.reach found-is c.in-Ok-Some.field-0-is c.in-Ok-arguments.ensures in
+    subst (λ (answer : Result (Machine Watch) Errno). Begins answer c.start.result) (sym steps) (begins-from c.args.stage.places c.args.watch _ _ c.start.result c.start.ensures)

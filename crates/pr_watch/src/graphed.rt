@@ -1,6 +1,6 @@
 //! Watchers whose stops are functions.
 
-use kr_turns::{Stops, Unwatched};
+use kr_turns::Stops;
 
 /// A watcher whose stops are functions of what it keeps and of the stopped process.
 pub trait Graphed: Stops {
@@ -13,12 +13,4 @@ pub trait Graphed: Stops {
     /// The relations of its stops are their graphs.
     fn is_graph()
         ensures { IsGraph (watching Self.enters Self.exits Self.bears Self.forgets) does };
-}
-
-impl Graphed for Unwatched {
-    ghost use Rattle.kr_turns.specs.Watching.{unwatched};
-
-    ghost does = { unwatched };
-
-    fn is_graph() {}
 }

@@ -1,0 +1,8 @@
+//! Who watches the calls of a run: watchers whose stops are functions.
+#![tactic(auto)]
+
+mod graphed;
+mod watch;
+
+pub use graphed::Graphed;
+pub use watch::Watch;
