@@ -28,6 +28,9 @@ pub enum Step {
     /// Of a link so many bytes, which are shown.
     ReadLink(&'static str, u64),
     Pipe,
+    /// A path with a new user and group, both of this number.
+    ChangeOwner(&'static str, u64),
+    ChangeRoot(&'static str),
     User,
     StackPointer(u64),
 }
@@ -100,6 +103,21 @@ fn probe_step(alloc: Global, step: Step) -> Result<ProbeStep, Fail> {
             78,
             [number(HERE), text(alloc, path)?, Arg::Buf, number(size)],
             Show::Content,
+        )),
+        Step::ChangeOwner(path, owner) => Ok(call(
+            54,
+            [
+                number(HERE),
+                text(alloc, path)?,
+                number(owner),
+                number(owner),
+            ],
+            Show::Number,
+        )),
+        Step::ChangeRoot(path) => Ok(call(
+            51,
+            [text(alloc, path)?, number(0), number(0), number(0)],
+            Show::Number,
         )),
         Step::Pipe => Ok(call(
             59,

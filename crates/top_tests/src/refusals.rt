@@ -16,7 +16,7 @@ struct Row {
 
 const UNBUILT: Answer = Answer::Unbuilt { part: Part::Words };
 
-const ROWS: [Row; 18] = [
+const ROWS: [Row; 17] = [
     Row {
         words: "-b",
         tree: b"",
@@ -43,11 +43,6 @@ const ROWS: [Row; 18] = [
     },
     Row {
         words: "--case=1",
-        tree: b"",
-        answer: UNBUILT,
-    },
-    Row {
-        words: "--native -0 /p",
         tree: b"",
         answer: UNBUILT,
     },

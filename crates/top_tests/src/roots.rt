@@ -18,7 +18,16 @@ struct Row {
 
 const ENDED: Answer = Answer::Ended { status: 0 };
 
-const ROWS: [Row; 15] = [
+/// Calls that only root may make, or that tell who it is.
+const AS_ROOT: &[Step] = &[
+    Step::User,
+    Step::ChangeOwner("/for", 5),
+    Step::ChangeOwner("/none", 5),
+    Step::ChangeRoot("/"),
+    Step::ChangeRoot("/a"),
+];
+
+const ROWS: [Row; 18] = [
     Row {
         name: "a binding in a binding",
         words: "--calm -r /g -b /data:/mnt/x -b /other:/mnt",
@@ -147,6 +156,30 @@ const ROWS: [Row; 15] = [
         steps: &[Step::ReadLink("/proc/self/cwd", 3)],
         answer: ENDED,
         out: "/a/\n",
+        err: "",
+    },
+    Row {
+        name: "what only root may do, as the host's user",
+        words: "-r /g",
+        steps: AS_ROOT,
+        answer: ENDED,
+        out: "1000\n-1\n-2\n-1\n-1\n",
+        err: "",
+    },
+    Row {
+        name: "and as root",
+        words: "-0 -r /g",
+        steps: AS_ROOT,
+        answer: ENDED,
+        out: "0\n0\n-2\n0\n-1\n",
+        err: "",
+    },
+    Row {
+        name: "and as somebody else",
+        words: "-i 7:8 -r /g",
+        steps: AS_ROOT,
+        answer: ENDED,
+        out: "7\n-1\n-2\n-1\n-1\n",
         err: "",
     },
     Row {
