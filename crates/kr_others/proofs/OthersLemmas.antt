@@ -67,10 +67,10 @@ module _ {M X : Type 0} where
   stays : (q : ℕ) (s t : State M X) → process q t ≡ process q s → LivesOn q s t
   stays q s t same p lives = (p, same ∙ lives, refl)
 
-  unchanged : (q : ℕ) (s : State M X) → LivesOn q s s
+  pub unchanged : (q : ℕ) (s : State M X) → LivesOn q s s
   unchanged q s = stays q s s refl
 
-  lives_on : (q : ℕ) (s t u : State M X) → LivesOn q s t → LivesOn q t u → LivesOn q s u
+  pub lives_on : (q : ℕ) (s t u : State M X) → LivesOn q s t → LivesOn q t u → LivesOn q s u
   lives_on q s t u first second p lives =
       let one = first p lives in
       let two = second one.0 one.1 in
@@ -81,7 +81,7 @@ module _ {M X : Type 0} where
   mapped q g owns s p lives = (g p, found-mapped g (is_pid q) (is_pid q) (λ x. ap (λ o. o.pid == q) (owns x)) s.living ∙ ap (option_map g) lives, owns p)
 
   -- another one changed alone
-  one_changed : (pid q : ℕ) → q ≢ pid → (f : Process M X → Process M X) → ((p : Process M X) → (f p).pid ≡ p.pid) → (s : State M X) → LivesOn q s (with_living (with_process pid f) s)
+  pub one_changed : (pid q : ℕ) → q ≢ pid → (f : Process M X → Process M X) → ((p : Process M X) → (f p).pid ≡ p.pid) → (s : State M X) → LivesOn q s (with_living (with_process pid f) s)
   one_changed pid q other f pids s = stays q s (with_living (with_process pid f) s) (others_found pid q other f pids s.living)
 
   -- ---- names that executables remember

@@ -1,19 +1,21 @@
 -- Trees in which bindings were settled are ready for a kernel.
-use Rattle.std.proofs.Common.{◌≡◌, ◌≤◌, ◌<◌, ◌^◌, ℕ, List, length, map, Option, Some, None, refl, ap, subst, arith}
+use Rattle.std.proofs.Common.{◌≡◌, ◌≤◌, ◌<◌, ◌^◌, ℕ, List, [], ◌∷◌, length, map, Option, Some, None, refl, ap, subst, arith}
 use Rattle.std.specs.Prelude.{Ok}
 use Rattle.std.specs.Option.{option_map_or}
 use Rattle.std.proofs.lemmas.List.{length-map}
 use Rattle.pr_base.specs.declared.bind.Bind.{Bind}
 use Rattle.pr_base.specs.declared.bind.Bound.{Bound}
+use Rattle.pt_bind.specs.Binding.{row_of, rows_of}
 use Rattle.kr_inode.specs.declared.user.User.{User}
 use Rattle.kr_tree.specs.Lawful.{HasItsInodes, IsKept}
 use Rattle.kr_tree.specs.Tree.{Tree, Inode, inode}
 use Rattle.kr_text.specs.Drawn.{IsDrawn}
+use Rattle.kr_view.specs.Processes.{no_finds}
 use Rattle.kr_view.specs.View.{Row}
 use Rattle.kr_mounts.specs.Bounds.{AreNumbered}
 use Rattle.kr_mounts.specs.Growth.{IsGrown}
 use Rattle.kr_mounts.specs.MountTable.{settling}
-use Rattle.kr_mounts.specs.Standing.{IsSettledIn}
+use Rattle.kr_mounts.specs.Standing.{IsSettledIn, texts_of}
 use Rattle.kr_mounts.specs.Stored.{row_of_mount, table_of}
 use Rattle.kr_mounts.specs.Ways.{HasNumbers}
 use Rattle.kr_mounts.specs.declared.mount.Mount.{Mount}
@@ -23,6 +25,8 @@ use Rattle.kr_allowed.proofs.SourceLemmas.{settled-are-named}
 use Rattle.kr_listed.proofs.GrownLemmas.{grown-last}
 use Rattle.kr_listed.proofs.ReadLemmas.{read-last}
 use Rattle.kr_start.specs.Start.{HasNoHolds}
+use Rattle.walks_agree.specs.Settled.{IsSettled}
+use Rattle.walks_agree.specs.Start.{SettledBindingsAreSettled}
 use Rattle.kr_stage.specs.Ready.{IsOfListing, IsReady}
 
 -- in a tree that was read nothing is held
@@ -38,8 +42,8 @@ pub has-numbers : (t : Tree) (user : User) → IsOfListing t user → IsKept t �
 has-numbers t user of kept = (read-last of.elf of.bytes t user of.listing of.drawn kept.sound).1
 
 pub settled-ready : (t u : Tree) (user : User) (root : List ℕ) (binds : List Bind) (table : List Row) → IsOfListing t user → IsKept t → HasItsInodes t → AreNumbered binds
-    → IsGrown user t u → (settling t user root binds).tree ≡ u → (settling t user root binds).answer ≡ Ok table → length table < 2 ^ 32 → IsReady u user table
-settled-ready t u user root binds table of kept inodes numbered grown left answer few =
+    → IsGrown user t u → (settling t user root binds).tree ≡ u → (settling t user root binds).answer ≡ Ok table → length table < 2 ^ 32 → SettledBindingsAreSettled → IsReady u user table
+settled-ready t u user root binds table of kept inodes numbered grown left answer few law =
     let begun = read-last of.elf of.bytes t user of.listing of.drawn kept.sound in
     let settled : IsSettledIn u user table = subst (λ (v : Tree). IsSettledIn v user table) left (settled_mounts_stand t user root binds table kept.sound kept.counted inodes numbered answer) in
     let before = grown_trees_have_all_before user t u kept.sound kept.counted grown in
@@ -49,6 +53,7 @@ settled-ready t u user root binds table of kept inodes numbered grown left answe
       free = before.no_holds (has-no-holds t of.drawn.unheld);
       lasts = grown-last user t u kept.sound kept.counted begun.1 grown begun.0;
       named = settled-are-named u table settled.as_settled;
+      settled = subst (λ (v : Tree). IsSettled (record { table = table; tree = v; user = user; finds = no_finds })) left (law t user root binds table no_finds kept.sound kept.counted numbered answer);
     }
 
 -- a table has a row for each text of its mounts
@@ -58,3 +63,8 @@ few-rows mounts bounds are short =
     let texts : length bounds ≡ length (map (λ (m : Mount). m.text) mounts) = ap length are in
     let each : length (map (λ (m : Mount). m.text) mounts) ≡ length mounts = length-map mounts (λ (m : Mount). m.text) in
     omega arith
+
+-- a tracer's rows are the texts of the mounts' rows
+pub rows-texts : (mounts : List Mount) → rows_of (map (λ (m : Mount). m.text) mounts) ≡ texts_of (table_of mounts)
+rows-texts [] = refl
+rows-texts (m ∷ mounts) = ap (λ rows. row_of m.text ∷ rows) (rows-texts mounts)

@@ -4,6 +4,7 @@ use Rattle.kr_inode.specs.declared.user.User.{User}
 use Rattle.kr_tree.specs.Tree.{Tree}
 use Rattle.kr_text.specs.Drawn.{IsDrawn}
 use Rattle.kr_text.specs.Reading.{listing_of}
+use Rattle.kr_view.specs.Processes.{no_finds}
 use Rattle.kr_view.specs.View.{Row, StandsIn}
 use Rattle.kr_mounts.specs.MountTable.{Settling}
 use Rattle.kr_mounts.specs.Stored.{table_of}
@@ -12,6 +13,7 @@ use Rattle.kr_mounts.specs.declared.fault.BindFault.TheVariants.{Bad, NoMemory}
 use Rattle.kr_allowed.specs.Told.{SourcesAreNamed}
 use Rattle.kr_listed.specs.Beginning.{CanLast}
 use Rattle.kr_start.specs.Start.{HasNoHolds}
+use Rattle.walks_agree.specs.Settled.{IsSettled}
 use Rattle.kr_stage.specs.declared.stage.Stage.{Stage}
 
 -- a tree with its user, as a listing was read with the bytes of an ELF file
@@ -27,6 +29,8 @@ pub record IsReady (t : Tree) (user : User) (table : List Row) : Type 0 where
   pub free : HasNoHolds t
   pub lasts : CanLast t user
   pub named : SourcesAreNamed table
+  -- texts and inodes of the mounts belong together
+  pub settled : IsSettled (record { table = table; tree = t; user = user; finds = no_finds })
 
 -- what settling comes to is told, and its tree is left, but for want of memory
 abbrev pub IsStaged : User → Settling → Result Stage BindFault → Type 0

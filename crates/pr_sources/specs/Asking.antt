@@ -1,6 +1,5 @@
 -- What the words ask for.
-use Rattle.std.specs.Prelude.{◌≡◌, ℕ, Bool, true, false, not, bytes_eq, List, [], ◌∷◌, codes, is_some, Result, Ok, Err, if◌then◌else◌}
-use Rattle.pr_base.specs.declared.bind.Bind.{Bind}
+use Rattle.std.specs.Prelude.{◌≡◌, ℕ, Bool, List, is_some, Result, Ok, Err, if◌then◌else◌}
 use Rattle.pr_words.specs.declared.options.Options.{Options}
 use Rattle.pr_words.specs.declared.fault.WordsFault.{WordsFault}
 use Rattle.pr_words.specs.declared.fault.WordsFault.TheVariants as fault
@@ -9,17 +8,9 @@ use Rattle.pr_answer.specs.declared.answer.Answer.{Answer}
 use Rattle.pr_answer.specs.declared.answer.Answer.TheVariants.{NoMemory, Unbuilt, Usage}
 use Rattle.pr_answer.specs.declared.answer.Part.TheVariants.{Words}
 
-abbrev pub some_binds : List Bind → Bool
-some_binds [] = false
-some_binds (b ∷ binds) = true
-
--- a root or a binding that isn't mounted
-abbrev pub needs_tracer : Options → Bool
-needs_tracer o = if o.native then false else if not (bytes_eq o.root (codes "/")) then true else some_binds o.binds
-
--- a generated case, or a tracer
+-- a generated case
 abbrev pub is_unbuilt : Options → Bool
-is_unbuilt o = if is_some o.case then true else needs_tracer o
+is_unbuilt o = is_some o.case
 
 abbrev pub unless_unbuilt : Options → Result Options Answer
 unless_unbuilt o = if is_unbuilt o then Err (Unbuilt Words) else Ok o

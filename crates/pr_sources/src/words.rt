@@ -2,33 +2,17 @@
 ghost use Rattle.std.specs.Prelude.{◌≡◌, ◌<◌, ◌^◌, length, map, IfOk};
 ghost use Rattle.std.specs.String.{string_bytes};
 ghost use Rattle.pr_words.specs.Sound.{AreSound};
-ghost use Rattle.pr_sources.specs.Asking.{IsUnlessNoMemory, asked, is_unbuilt, needs_tracer};
+ghost use Rattle.pr_sources.specs.Asking.{IsUnlessNoMemory, asked, is_unbuilt};
 
 use pr_answer::{Answer, Part};
 use pr_words::{Options, WordsFault, read};
 use std::alloc::Global;
 
-/// Whether a root or a binding is to be rewritten by a tracer.
-fn needs_tracer(options: &Options) -> bool
-    ensures { result ≡ needs_tracer options.now }
-{
-    if options.native {
-        return false;
-    }
-    if options.root.as_slice() != b"/".as_slice() {
-        return true;
-    }
-    !options.binds.is_empty()
-}
-
-/// Whether options ask for what isn't built yet: a generated case, or a tracer.
+/// Whether options ask for what isn't built yet: a generated case.
 fn is_unbuilt(options: &Options) -> bool
     ensures { result ≡ is_unbuilt options.now }
 {
-    if options.case.is_some() {
-        return true;
-    }
-    needs_tracer(options)
+    options.case.is_some()
 }
 
 /// The options in the words, or the first word that breaks a rule, or what isn't built yet.

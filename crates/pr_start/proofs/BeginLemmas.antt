@@ -16,10 +16,11 @@ use Rattle.kr_core.specs.Kernel.{Kernel, Starts, machine}
 use Rattle.kr_mounts.specs.declared.mount.Mount.{Mount}
 use Rattle.kr_mounts.specs.declared.mounted.MountNumber.{MountNumber}
 use Rattle.pr_start.specs.Directory.{At, directory_reach, working_directory}
-use Rattle.pr_start.specs.Command.{Chosen, arguments, chosen, word_of}
+use Rattle.pr_command.specs.Command.{arguments, ids_of, word_of}
+use Rattle.pr_start.specs.Command.{Chosen, chosen}
 use Rattle.pr_start.specs.Numbers.{number_of}
-use Rattle.pr_start.specs.Beginning.{Begins, beginning, begun, begun_at, begun_in, fresh, ids_of, nowhere}
-use Rattle.pr_start.specs.declared.starting.Launch.{Launch}
+use Rattle.pr_start.specs.Beginning.{Begins, beginning, begun, begun_at, begun_in, fresh, nowhere}
+use Rattle.pr_command.specs.declared.launch.Launch.{Launch}
 
 module _ (table : List Row) (tree : Tree) (user : User) (watch : Watch) (launch : Launch) (input : List ℕ) where
   -- what was found step by step is what begins

@@ -19,17 +19,14 @@ use Rattle.kr_mounts.specs.declared.mount.Mount.{Mount}
 use Rattle.kr_mounts.specs.declared.mounted.MountNumber.{MountNumber}
 use Rattle.pr_watch.specs.declared.watch.Watch.{Watch}
 use Rattle.pr_start.specs.Directory.{At, directory_reach, working_directory}
-use Rattle.pr_start.specs.Command.{arguments, chosen, word_of}
+use Rattle.pr_command.specs.Command.{arguments, ids_of, word_of}
+use Rattle.pr_start.specs.Command.{chosen}
 use Rattle.pr_start.specs.Numbers.{number_of}
-use Rattle.pr_start.specs.declared.starting.Launch.{Launch}
+use Rattle.pr_command.specs.declared.launch.Launch.{Launch}
 
 -- nothing is reached before the first walk
 abbrev pub nowhere : Reach
 nowhere = record { longest = 0; met_proc = false }
-
--- the real and the effective user and group
-abbrev pub ids_of : ℕ × ℕ → List ℕ
-ids_of ids = ids.0 ∷ ids.0 ∷ ids.1 ∷ ids.1 ∷ []
 
 -- a state before its first turn, with the calm rule that the walks of the start broke
 abbrev pub fresh : Watch → Reach → State ℕ Image → Machine Watch

@@ -5,4 +5,4 @@ mod command;
 mod directory;
 mod starting;
 
-pub use starting::{Launch, start};
+pub use starting::start;

@@ -6,7 +6,7 @@ ghost use Rattle.kr_mounts.specs.Stored.{table_of};
 ghost use Rattle.kr_stage.specs.Ready.{IsReady};
 ghost use Rattle.pr_start.specs.Beginning.{Begins, beginning};
 
-use crate::command::{arguments, choose, word_of};
+use crate::command::choose;
 use crate::directory::working_directory;
 use kr_core::Kernel;
 use kr_first::laws::roots_are_directories;
@@ -14,21 +14,10 @@ use kr_first::{First, StartFault};
 use kr_mounts::Mounted;
 use kr_stage::Stage;
 use kr_view::Reach;
-use pr_base::{Bytes, Errno, Texts};
+use pr_base::{Bytes, Errno};
+use pr_command::{Launch, arguments, word_of};
 use pr_watch::Watch;
 use std::alloc::Global;
-
-/// What is started.
-#[derive(Drop)]
-pub struct Launch {
-    /// The command and its arguments. Without any it is `/bin/sh`.
-    pub command: Texts,
-    pub env: Texts,
-    /// The path of the first working directory; what isn't a directory that the user may search becomes the root.
-    pub cwd: Bytes,
-    /// The user and the group as which the program is told that it runs.
-    pub ids: (u32, u32),
-}
 
 /// Nothing was reached yet.
 const NOWHERE: Reach = Reach {

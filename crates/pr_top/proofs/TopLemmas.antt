@@ -17,8 +17,9 @@ use Rattle.pr_run.specs.Puts.{AnswersReport, Got, PutsReport, PutsTurns, answer_
 use Rattle.pr_run.specs.declared.turns.Stop.{Stop}
 use Rattle.pr_run.specs.declared.turns.Stop.TheVariants as stop
 use Rattle.pr_top.specs.Opening.{Begun, IsOfOpening, Opens, OpensFrom, begun_told, report}
-use Rattle.pr_top.specs.Promise.{AnswersOpening, EndsEarly, IfKnown, IsBegunWith, Refuses, StopsForMemory, TellsRun}
+use Rattle.pr_top.specs.Promise.{AnswersOpening, EndsEarly, IfKnown, Refuses, StopsForMemory, TellsRun}
 use Rattle.pr_top.specs.declared.opening.Opened.{Opened}
+use Rattle.pr_top.proofs.ReportLemmas.{known}
 
 -- ---- kinds of answers
 
@@ -147,11 +148,6 @@ module _ (words : Result Options Answer) (tree : Stage (List ℕ)) (listing : St
     stop-tells stop.Left tells = tells
     stop-tells stop.NoMemory tells = tells
 
-    -- of the opening that began it
-    of-begun : (P : Begun → Type 0) (told : Stage Begun) → Opens told (Ok opened) → P (begun_told opened) → IfKnown told P
-    of-begun P None opens p = tt
-    of-begun P (Some expected) opens p = subst (IsBegunWith P) (sym opens) p
-
     answered-as : (t : Result Answer Stop) → PutsReport own rose_out rose_err rose_left out out' err err' left left' t → a ≡ answer_told t → (a ≡ own.answer) ⊎ EndsEarly a
     answered-as (Ok answer) puts e = inl (e ∙ puts.0)
     answered-as (Err s) puts e = inr (subst EndsEarly (sym e) (stop-ends s))
@@ -165,10 +161,10 @@ module _ (words : Result Options Answer) (tree : Stage (List ℕ)) (listing : St
     turns-as (Err s) puts e tells = absurd (stop-tells s (subst TellsRun e tells))
 
     pub turns-put : (told : Stage Begun) → Opens told (Ok opened) → TellsRun a → IfKnown told (λ b. PutsTurns (report b) out out' err err')
-    turns-put told opens tells = of-begun (λ b. PutsTurns (report b) out out' err err') told opens (turns-as answers.told answers.puts answers.answer_is tells).0
+    turns-put told opens tells = known opened (λ b. PutsTurns (report b) out out' err err') told opens (turns-as answers.told answers.puts answers.answer_is tells).0
 
     pub listing-put : (told : Stage Begun) → Opens told (Ok opened) → TellsRun a → IfKnown told (λ b. Appends left left' (report b).left)
-    listing-put told opens tells = of-begun (λ b. Appends left left' (report b).left) told opens (turns-as answers.told answers.puts answers.answer_is tells).1
+    listing-put told opens tells = known opened (λ b. Appends left left' (report b).left) told opens (turns-as answers.told answers.puts answers.answer_is tells).1
 
     complete-begun : (t : Result Answer Stop) → PutsReport own rose_out rose_err rose_left out out' err err' left left' t → a ≡ answer_told t → Complete a (begun_told opened)
     complete-begun (Ok answer) puts e = λ t f i o r l. inl (e ∙ puts.0)

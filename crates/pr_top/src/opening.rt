@@ -4,30 +4,69 @@ ghost use Rattle.std.specs.String.{string_bytes};
 ghost use Rattle.std.specs.Io.KnownBytes.{IsAtEnd};
 ghost use Rattle.pr_io.specs.Faults.{Rose};
 ghost use Rattle.pr_words.specs.Sound.{AreSound};
-ghost use Rattle.kr_stage.specs.Ready.{IsOfListing};
+ghost use Rattle.std.specs.List.{All};
+ghost use Rattle.kr_lasting.specs.Texts.{IsText};
+ghost use Rattle.kr_mounts.specs.Standing.{texts_of};
+ghost use Rattle.kr_mounts.specs.Stored.{table_of};
+ghost use Rattle.kr_stage.specs.Ready.{IsOfListing, IsReady};
+ghost use Rattle.pt_bind.specs.Binding.{rows_of};
 ghost use Rattle.pr_sources.specs.Asking.{asked};
 ghost use Rattle.pr_sources.specs.Reading.{EndsBeforeElf, EndsBeforeInput, HasCause, IsOfWords, IsRefusal, IsUnwanted, IsWanted, told_listing, told_tree};
-ghost use Rattle.pr_top.specs.Opening.{IsOfOpening, IsOfStart, IsReadyToRun, Opens, OpensFrom, begun, ids_for, opening, watch_for};
+ghost use Rattle.pr_top.specs.Opening.{IsFresh, IsOfOpening, IsOfStart, IsReadyToRun, Opens, OpensFrom, StartsAs, begun, ids_for, opening, started_on, watch_for};
 
 use kr_core::Kernel;
 use kr_first::StartFault;
 use kr_mounts::{BindFault, Mounted};
-use kr_stage::settled;
+use kr_stage::{Stage, settled};
 use kr_tree::User;
+use kr_view::Plain;
 use pr_answer::Answer;
-use pr_io::Source;
-use pr_run::Plan;
+use pr_base::Bytes;
+use pr_command::Launch;
+use pr_io::{Sink, Source};
+use pr_run::{Plan, report};
 use pr_sources::{Asked, read};
-use pr_start::{Launch, start};
+use pr_start::start;
+use pr_traced::start_traced;
 use pr_watch::Watch;
 use pt_tracer::Faker;
+use pt_watched::Tracer;
 use std::alloc::Global;
 
-/// A run that has begun: its kernel, and what it is made by.
+/// A machine: a kernel over mounts, whose shelves are marked so that it tells whether a run is calm; or a plain kernel with its tracer.
+#[derive(Drop)]
+pub(crate) enum Kind {
+    Mounts(Kernel<Mounted, Watch, 1>),
+    Traced(Kernel<Plain, Tracer, 0>),
+}
+
+/// A run that has begun: its machine, and what it is made by.
 #[derive(Drop)]
 pub(crate) struct Opened {
-    pub(crate) kernel: Kernel<Mounted, Watch, 1>,
+    pub(crate) kind: Kind,
     pub(crate) plan: Plan,
+}
+
+impl Opened {
+    ghost use Rattle.pr_run.specs.Puts.{AnswersReport};
+    ghost use Rattle.pr_top.specs.Opening.{IsReadyToRun, begun_told, report};
+
+    /// Runs it, and puts its report.
+    pub(crate) fn report<O: Sink, R: Sink, L: Sink>(
+        &mut self,
+        alloc: Global,
+        out: &mut O,
+        err: &mut R,
+        left: &mut L,
+    ) -> Answer
+        requires { IsReadyToRun self.old }
+        ensures { AnswersReport (report (begun_told self.old)) (Rose (O.faults out.old) (O.faults out.new)) (Rose (R.faults err.old) (R.faults err.new)) (Rose (L.faults left.old) (L.faults left.new)) (O.got out.old) (O.got out.new) (R.got err.old) (R.got err.new) (L.got left.old) (L.got left.new) result }
+    {
+        match &mut self.kind {
+            Kind::Mounts(kernel) => report(alloc, kernel, &self.plan, out, err, left),
+            Kind::Traced(kernel) => report(alloc, kernel, &self.plan, out, err, left),
+        }
+    }
 }
 
 /// Who a program is told that it runs as: the host's user, or whom an identity option names.
@@ -47,6 +86,36 @@ fn watch_for(alloc: Global, user: User, ids: Option<(u32, u32)>) -> Watch
     match ids {
         Some(ids) => Watch::Faked(Faker::new(alloc, user, ids)),
         None => Watch::Nobody,
+    }
+}
+
+/// Starts the command over mounts, or on a plain kernel with a tracer.
+fn start_on(
+    alloc: Global,
+    native: bool,
+    stage: Stage,
+    launch: Launch,
+    input: Bytes,
+    ids: Option<(u32, u32)>,
+) -> Result<Kind, StartFault>
+    requires ready { IsReady stage.tree stage.user (table_of stage.places) }
+    requires texts { rows_of stage.texts ≡ texts_of (table_of stage.places) }
+    requires command { All IsText launch.command }
+    requires env { All IsText launch.env }
+    ensures begins { StartsAs (started_on native (table_of stage.places) stage.tree stage.user ids launch input) result }
+    ensures fresh { IfOk result IsFresh }
+{
+    if native {
+        let watch = watch_for(alloc, stage.user, ids);
+        match start(alloc, stage, launch, input, watch) {
+            Ok(kernel) => Ok(Kind::Mounts(kernel)),
+            Err(fault) => Err(fault),
+        }
+    } else {
+        match start_traced(alloc, stage, launch, input, ids) {
+            Ok(kernel) => Ok(Kind::Traced(kernel)),
+            Err(fault) => Err(fault),
+        }
     }
 }
 
@@ -76,7 +145,6 @@ fn begin(alloc: Global, asked: Asked) -> Result<Opened, Answer>
         cwd: options.cwd,
         ids: ids_for(user, options.ids),
     };
-    let watch = watch_for(alloc, user, options.ids);
     let stage = match settled(
         alloc,
         tree,
@@ -88,8 +156,8 @@ fn begin(alloc: Global, asked: Asked) -> Result<Opened, Answer>
         Err(BindFault::Bad { index, why }) => return Err(Answer::BadBind { index, why }),
         Err(BindFault::NoMemory) => return Err(Answer::NoMemory),
     };
-    match start(alloc, stage, launch, input, watch) {
-        Ok(kernel) => Ok(Opened { kernel, plan }),
+    match start_on(alloc, options.native, stage, launch, input, options.ids) {
+        Ok(kind) => Ok(Opened { kind, plan }),
         Err(StartFault::Err(errno)) => Err(Answer::NoStart { errno }),
         Err(StartFault::NoMemory) => Err(Answer::NoMemory),
     }

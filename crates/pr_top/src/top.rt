@@ -12,10 +12,9 @@ ghost use Rattle.pr_run.specs.Puts.{PutsTurns, StopsInCalm, StopsInErr, StopsInO
 ghost use Rattle.pr_top.specs.Opening.{opening, report};
 ghost use Rattle.pr_top.specs.Promise.{AnswersOpening, ComesBeforeRun, EndsEarly, IfKnown, Refuses, StopsForMemory, TellsRun};
 
-use crate::opening::{Opened, open};
+use crate::opening::open;
 use pr_answer::Answer;
 use pr_io::{Sink, Source};
-use pr_run::report;
 use std::alloc::Global;
 
 /// Reads the words, a listing of the host's tree, an ELF file where the listing names it, and an input; settles the bindings that the words
@@ -88,10 +87,7 @@ pub fn proot<T: Source, E: Source, I: Source, O: Sink, R: Sink, L: Sink>(
         (result ≡ (report b).answer) ⊎ (result ≡ Answer.NoMemory))) }
 {
     match open(alloc, words, tree, elf, input) {
-        Ok(mut opened) => {
-            let Opened { kernel, plan } = &mut opened;
-            report(alloc, kernel, plan, out, err, left)
-        }
+        Ok(mut opened) => opened.report(alloc, out, err, left),
         Err(answer) => answer,
     }
 }

@@ -5,6 +5,8 @@ use kr_turns::{Stops, Tracee};
 use pr_base::NoMemory;
 use pt_tracer::Faker;
 use pt_tracer::laws::faker_is_its_definition;
+use pt_watched::Tracer;
+use pt_watched::laws::tracer_is_its_definition;
 
 /// Who watches the calls of a run on the kernel with mounts.
 #[derive(Drop)]
@@ -65,5 +67,15 @@ impl Graphed for Watch {
 
     fn is_graph() {
         faker_is_its_definition();
+    }
+}
+
+impl Graphed for Tracer {
+    ghost use Rattle.pt_watched.specs.Watched.{tracer};
+
+    ghost does = { tracer };
+
+    fn is_graph() {
+        tracer_is_its_definition();
     }
 }

@@ -1,5 +1,5 @@
 -- Programs are found by guest texts.
-use Rattle.std.proofs.Common.{◌≡◌, ℕ, List, Result, Ok, Err, refl, sym, ap, ◌∙◌}
+use Rattle.std.proofs.Common.{◌≡◌, ℕ, List, Option, Result, Ok, Err, refl, sym, ap, ◌∙◌}
 use Rattle.std.specs.Prelude.{take}
 use Rattle.pr_base.specs.Paths.{text_of}
 use Rattle.pr_base.specs.Texts.{Text}
@@ -11,13 +11,13 @@ use Rattle.pt_canon.specs.TextWalk.{TextSurroundings}
 use Rattle.pt_canon.specs.declared.canon.Canon.{Canon}
 use Rattle.pt_args.specs.Walks.{and_then}
 use Rattle.pt_script.specs.Laws.{ProgramsAreOfGuestTexts}
-use Rattle.pt_script.specs.Programs.{base_of, canon_from, head_size, program_in}
+use Rattle.pt_script.specs.Programs.{base_from, canon_from, head_size, program_in}
 use Rattle.pt_script.specs.declared.program.Program.{Program}
 
 abbrev with_head : Canon → List ℕ → Program
 with_head canon head = record { host = canon.host; index = canon.index; head = take head_size head }
 
-module _ (own : AnswersAreOfTheirTexts) (texts : TextSurroundings) (pid : ℕ) (path : List ℕ) (program : Program) where
+module _ (own : AnswersAreOfTheirTexts) (texts : TextSurroundings) (working : Option (List ℕ)) (path : List ℕ) (program : Program) where
   abbrev OfGuestText : Type 0
   OfGuestText = (t : Text) × (program.host ≡ text_of (host_of texts.bindings t)) × (program.index ≡ index_of texts.bindings t)
 
@@ -39,4 +39,4 @@ module _ (own : AnswersAreOfTheirTexts) (texts : TextSurroundings) (pid : ℕ) (
   by_base (Err why) is = absurd cc
 
 pub programs_are_of_guest_texts : AnswersAreOfTheirTexts → ProgramsAreOfGuestTexts
-programs_are_of_guest_texts own texts pid path program is = by_base own texts pid path program (base_of texts pid path) is
+programs_are_of_guest_texts own texts working path program is = by_base own texts working path program (base_from working path) is

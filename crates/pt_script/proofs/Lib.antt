@@ -3,4 +3,4 @@ mod ChainLemmas
 mod GuestTextLemmas
 mod ListLemmas
 mod ProgramRows
-mod RunLemmas
+pub mod RunLemmas

@@ -19,9 +19,9 @@ use Rattle.pt_bind.specs.Tags.{tag_at, tag_of, untagged as unset}
 use Rattle.pt_bind.specs.declared.slot.Slot.TheVariants.{Cwd}
 use Rattle.pt_canon.specs.TextWalk.{TextSurroundings, look_text, seen_text}
 use Rattle.kr_calls.specs.Expansion.{expanded}
-use Rattle.pt_args.specs.Bases.{tagged_text}
+use Rattle.pt_args.specs.Bases.{tagged_text, working_text}
 use Rattle.pt_script.specs.Expanding.{expanded_at}
-use Rattle.pt_script.specs.Programs.{base_of, or_lost}
+use Rattle.pt_script.specs.Programs.{base_from, or_lost}
 use Rattle.pt_script.specs.declared.expansion.Expanded.{Expanded}
 
 abbrev bytes_at : List ℕ → Result (List ℕ) Errno
@@ -98,7 +98,7 @@ an_interpreter_of_the_host_alone = refl
 untagged : tag_of guest.tags 2 Cwd ≡ 0
 untagged = ap (λ t. tag_at (unwrap_or t unset) Cwd) (map.get-empty nat_cmp 2)
 
-a_path_from_the_working_directory : base_of guest 2 (codes "run") ≡ Ok (codes "/")
+a_path_from_the_working_directory : base_from (working_text guest 2) (codes "run") ≡ Ok (codes "/")
 unfolding names_of
 a_path_from_the_working_directory = ap (λ tag. or_lost (tagged_text guest.bindings tag (Some (codes "/g")))) untagged
 

@@ -6,8 +6,9 @@ use Rattle.pt_canon.specs.TextWalk.{TextSurroundings}
 use Rattle.kr_calls.specs.Expansion.{expanded, is_too_big, most_scripts, new_args}
 use Rattle.kr_calls.specs.Expansion.{Expanded as Ended}
 use Rattle.kr_calls.specs.Scripts.{script_of}
+use Rattle.pt_args.specs.Bases.{working_text}
 use Rattle.pt_args.specs.Walks.{and_then}
-use Rattle.pt_script.specs.Programs.{program_at, programs}
+use Rattle.pt_script.specs.Programs.{program_from, programs}
 use Rattle.pt_script.specs.declared.command.Command.{Command}
 use Rattle.pt_script.specs.declared.expansion.Expanded.{Expanded}
 use Rattle.pt_script.specs.declared.program.Program.{Program}
@@ -21,27 +22,31 @@ shown_result (Ok ended) = Ok (shown ended)
 shown_result (Err e) = Err e
 
 -- of a command, where so many scripts may still be expanded
-abbrev pub ends_of : TextSurroundings → ℕ → ℕ → ℕ → Command → Result (Ended Program) Errno
-ends_of texts pid env_bytes left c = expanded (programs texts pid) env_bytes left c.program c.path c.args
+abbrev pub ends_of : TextSurroundings → Option (List ℕ) → ℕ → ℕ → Command → Result (Ended Program) Errno
+ends_of texts working env_bytes left c = expanded (programs texts working) env_bytes left c.program c.path c.args
 
 abbrev pub command_of : List ℕ → List (List ℕ) → Program → Command
 command_of path args program = record { program = program; path = path; args = args }
 
--- of a path and its arguments
+-- of a path and its arguments, from a working directory
+abbrev pub expanded_from : TextSurroundings → Option (List ℕ) → ℕ → List ℕ → List (List ℕ) → Result Expanded Errno
+expanded_from texts working env_bytes path args =
+    and_then (program_from texts working path) (λ program. shown_result (ends_of texts working env_bytes most_scripts (command_of path args program)))
+
+-- of a process
 abbrev pub expanded_at : TextSurroundings → ℕ → ℕ → List ℕ → List (List ℕ) → Result Expanded Errno
-expanded_at texts pid env_bytes path args =
-    and_then (program_at texts pid path) (λ program. shown_result (ends_of texts pid env_bytes most_scripts (command_of path args program)))
+expanded_at texts pid env_bytes path args = expanded_from texts (working_text texts pid) env_bytes path args
 
 -- ---- one script by itself
 
 abbrev pub if_args_fit : ℕ → List ℕ → List (List ℕ) → Program → Result Command Errno
 if_args_fit env_bytes interpreter args program = if is_too_big env_bytes args then Err E2BIG else Ok (command_of interpreter args program)
 
-abbrev pub interpreted_by : TextSurroundings → ℕ → ℕ → Command → Option (List ℕ × List ℕ) → Result Command Errno
-interpreted_by texts pid env_bytes script None = Err ENOEXEC
-interpreted_by texts pid env_bytes script (Some line) =
-    and_then (program_at texts pid line.0) (if_args_fit env_bytes line.0 (new_args line.0 line.1 script.path script.args))
+abbrev pub interpreted_by : TextSurroundings → Option (List ℕ) → ℕ → Command → Option (List ℕ × List ℕ) → Result Command Errno
+interpreted_by texts working env_bytes script None = Err ENOEXEC
+interpreted_by texts working env_bytes script (Some line) =
+    and_then (program_from texts working line.0) (if_args_fit env_bytes line.0 (new_args line.0 line.1 script.path script.args))
 
 -- the interpreter of a script, with its arguments
-abbrev pub interpreted : TextSurroundings → ℕ → ℕ → Command → Result Command Errno
-interpreted texts pid env_bytes script = interpreted_by texts pid env_bytes script (script_of script.program.head)
+abbrev pub interpreted : TextSurroundings → Option (List ℕ) → ℕ → Command → Result Command Errno
+interpreted texts working env_bytes script = interpreted_by texts working env_bytes script (script_of script.program.head)

@@ -10,7 +10,6 @@ use Rattle.pt_canon.specs.Canon.{canon_of}
 use Rattle.pt_canon.specs.TextWalk.{TextSurroundings}
 use Rattle.pt_canon.specs.declared.canon.Canon.{Canon}
 use Rattle.kr_calls.specs.Expansion.{Finding}
-use Rattle.pt_args.specs.Bases.{working_text}
 use Rattle.pt_args.specs.Walks.{and_then}
 use Rattle.pt_script.specs.declared.program.Program.{Program}
 
@@ -19,9 +18,9 @@ abbrev pub or_lost : Option (List ℕ) → Result (List ℕ) Errno
 or_lost (Some text) = Ok text
 or_lost None = Err ENOENT
 
--- an interpreter is found as the program of a call is: from the root, or from the caller's working directory
-abbrev pub base_of : TextSurroundings → ℕ → List ℕ → Result (List ℕ) Errno
-base_of texts pid path = if is_absolute path then Ok (slash ∷ []) else or_lost (working_text texts pid)
+-- from the root, or from a working directory by its guest text
+abbrev pub base_from : Option (List ℕ) → List ℕ → Result (List ℕ) Errno
+base_from working path = if is_absolute path then Ok (slash ∷ []) else or_lost working
 
 -- a last link is followed
 abbrev pub canon_from : TextSurroundings → List ℕ → List ℕ → Result Canon Errno
@@ -35,10 +34,10 @@ head_size = 256
 abbrev pub program_in : Peeked → List ℕ → ℕ → Result Program Errno
 program_in peeked host index = and_then (peeked.head host head_size) (λ head. Ok (record { host = host; index = index; head = take head_size head }))
 
-abbrev pub program_at : TextSurroundings → ℕ → List ℕ → Result Program Errno
-program_at texts pid path =
-    and_then (and_then (base_of texts pid path) (canon_from texts path)) (λ canon. program_in texts.peeked canon.host canon.index)
+abbrev pub program_from : TextSurroundings → Option (List ℕ) → List ℕ → Result Program Errno
+program_from texts working path =
+    and_then (and_then (base_from working path) (canon_from texts path)) (λ canon. program_in texts.peeked canon.host canon.index)
 
--- the programs of a process's tracer, by their guest paths
-abbrev pub programs : TextSurroundings → ℕ → Finding Program
-programs texts pid = record { find = program_at texts pid; head = λ program. program.head }
+-- programs by their guest paths. An interpreter is found as the program of a call is
+abbrev pub programs : TextSurroundings → Option (List ℕ) → Finding Program
+programs texts working = record { find = program_from texts working; head = λ program. program.head }

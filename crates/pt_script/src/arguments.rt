@@ -1,4 +1,4 @@
-//! The arguments of interpreters.
+//! The arguments of interpreters, and how much a program may be given.
 ghost use Rattle.std.specs.Prelude.{◌≡◌, ◌+◌, ◌≤◌, ◌<◌, ◌∷◌, drop, length, IfOk};
 ghost use Rattle.std.specs.Option.{SomeIff};
 ghost use Rattle.kr_calls.specs.Expansion.{bytes_with_ends, is_too_big, new_args};
@@ -38,7 +38,7 @@ pub(crate) fn new_args(
 }
 
 /// Whether there are more arguments than a program may be given, or more bytes, `env_bytes` of the environment among them.
-pub(crate) fn is_too_big(args: &Texts, env_bytes: u32) -> bool
+pub fn is_too_big(args: &Texts, env_bytes: u32) -> bool
     ensures { result ≡ is_too_big env_bytes args.now }
 {
     if args.len() > MOST_TEXTS {
@@ -51,7 +51,7 @@ pub(crate) fn is_too_big(args: &Texts, env_bytes: u32) -> bool
 }
 
 /// How many bytes texts have with their ends, `None` where that is more than `most`.
-fn bytes_within(texts: &Texts, most: usize) -> Option<usize>
+pub fn bytes_within(texts: &Texts, most: usize) -> Option<usize>
     ensures { SomeIff result (bytes_with_ends texts.now ≤ most) (bytes_with_ends texts.now) }
 {
     let mut left = most;

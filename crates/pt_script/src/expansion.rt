@@ -1,15 +1,18 @@
 //! Scripts: files whose first line names the program that runs them.
-ghost use Rattle.std.specs.Prelude.{◌≡◌, ◌≤◌, length, IfOk};
+ghost use Rattle.std.specs.Prelude.{◌≡◌, ◌≤◌, length, IfOk, IfSome};
+ghost use Rattle.std.specs.Option.{option_copied};
+ghost use Rattle.pt_bind.specs.Binding.{IsWritten};
 ghost use Rattle.pt_canon.specs.Canon.{IsAnswer, texts_by};
 ghost use Rattle.kr_calls.specs.Expansion.{most_scripts};
 ghost use Rattle.kr_calls.specs.Scripts.{BeginsScript};
-ghost use Rattle.pt_script.specs.Expanding.{ends_of, expanded_at, interpreted, shown_result};
+ghost use Rattle.pt_script.specs.Expanding.{ends_of, expanded_at, expanded_from, interpreted, shown_result};
 
 use crate::arguments::{is_too_big, new_args};
 use crate::command::Command;
-use crate::program::{is_script, program_at};
+use crate::program::{is_script, program_from};
 use kr_calls::script_line;
 use pr_base::{Bytes, Errno, Peeks, Texts};
+use pt_args::working_text;
 use pt_bind::Tags;
 use pt_canon::{WalkErr, Walker};
 use std::alloc::Global;
@@ -51,14 +54,46 @@ pub fn expand<K: Peeks>(
     ensures same { K.peeked kernel.new ≡ K.peeked kernel.old }
     ensures rest { K.kept kernel.new ≡ K.kept kernel.old }
 {
-    let program = program_at(alloc, kernel, walker, tags, pid, path)?;
+    let working = working_text(kernel, walker.table(), tags, pid)?;
+    let working = bytes_of(&working);
+    expand_from(alloc, kernel, walker, tags, working, path, args, env_bytes)
+}
+
+/// The bytes of a text, if there is one.
+fn bytes_of(text: &Option<Bytes>) -> Option<&[u8]>
+    ensures { option_copied result ≡ text.now }
+{
+    match text {
+        Some(text) => Some(text.as_slice()),
+        None => None,
+    }
+}
+
+/// The same from a working directory, by its guest text if it has one.
+pub fn expand_from<K: Peeks>(
+    alloc: Global,
+    kernel: &mut K,
+    walker: &mut Walker,
+    tags: &Tags,
+    working: Option<&[u8]>,
+    path: &[u8],
+    args: Texts,
+    env_bytes: u32,
+) -> Result<Expanded, WalkErr>
+    requires { IfSome (option_copied working) IsWritten }
+    ensures answer { IsAnswer (expanded_from (texts_by walker.old (K.peeked kernel.old) tags.now) (option_copied working.entry) env_bytes path.now args) result }
+    ensures walker { walker.new ≡ walker.old }
+    ensures same { K.peeked kernel.new ≡ K.peeked kernel.old }
+    ensures rest { K.kept kernel.new ≡ K.kept kernel.old }
+{
+    let program = program_from(alloc, kernel, walker, tags, working, path)?;
     let path = Bytes::copy(alloc, path)?;
     let command = Command {
         program,
         path,
         args,
     };
-    end_of(alloc, kernel, walker, tags, pid, command, env_bytes)
+    end_of(alloc, kernel, walker, tags, working, command, env_bytes)
 }
 
 /// What a command comes to.
@@ -67,12 +102,13 @@ fn end_of<K: Peeks>(
     kernel: &mut K,
     walker: &mut Walker,
     tags: &Tags,
-    pid: u32,
+    working: Option<&[u8]>,
     command: Command,
     env_bytes: u32,
 ) -> Result<Expanded, WalkErr>
-    requires { length command.program.head ≤ 256 }
-    ensures answer { IsAnswer (shown_result (ends_of (texts_by walker.old (K.peeked kernel.old) tags.now) pid env_bytes most_scripts command)) result }
+    requires working { IfSome (option_copied working) IsWritten }
+    requires short { length command.program.head ≤ 256 }
+    ensures answer { IsAnswer (shown_result (ends_of (texts_by walker.old (K.peeked kernel.old) tags.now) (option_copied working.entry) env_bytes most_scripts command)) result }
     ensures walker { walker.new ≡ walker.old }
     ensures same { K.peeked kernel.new ≡ K.peeked kernel.old }
     ensures rest { K.kept kernel.new ≡ K.kept kernel.old }
@@ -86,7 +122,7 @@ fn end_of<K: Peeks>(
         if scripts == MOST_SCRIPTS {
             return Err(WalkErr::Err(Errno::ELOOP));
         }
-        command = interpreted(alloc, kernel, walker, tags, pid, command, env_bytes)?;
+        command = interpreted(alloc, kernel, walker, tags, working, command, env_bytes)?;
         scripts += 1;
     }
 }
@@ -110,13 +146,14 @@ fn interpreted<K: Peeks>(
     kernel: &mut K,
     walker: &mut Walker,
     tags: &Tags,
-    pid: u32,
+    working: Option<&[u8]>,
     script: Command,
     env_bytes: u32,
 ) -> Result<Command, WalkErr>
+    requires working { IfSome (option_copied working) IsWritten }
     requires short { length script.program.head ≤ 256 }
     requires script { BeginsScript script.program.head }
-    ensures answer { IsAnswer (interpreted (texts_by walker.old (K.peeked kernel.old) tags.now) pid env_bytes script) result }
+    ensures answer { IsAnswer (interpreted (texts_by walker.old (K.peeked kernel.old) tags.now) (option_copied working.entry) env_bytes script) result }
     ensures short { IfOk result (λ next. length next.program.head ≤ 256) }
     ensures walker { walker.new ≡ walker.old }
     ensures same { K.peeked kernel.new ≡ K.peeked kernel.old }
@@ -130,7 +167,7 @@ fn interpreted<K: Peeks>(
     let Some((interpreter, argument)) = script_line(file.head.as_slice()) else {
         return Err(WalkErr::Err(Errno::ENOEXEC));
     };
-    let program = program_at(alloc, kernel, walker, tags, pid, interpreter)?;
+    let program = program_from(alloc, kernel, walker, tags, working, interpreter)?;
     let args = new_args(alloc, interpreter, argument, path, args)?;
     if is_too_big(&args, env_bytes) {
         return Err(WalkErr::Err(Errno::E2BIG));

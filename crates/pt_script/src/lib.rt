@@ -1,10 +1,12 @@
 //! Scripts in guest terms: the program that execve(2) runs in the end, as a tracer finds it.
 #![tactic(auto)]
 
-mod arguments;
+pub mod arguments;
 mod command;
 pub mod expansion;
 pub mod laws;
-mod program;
+pub mod program;
 
-pub use expansion::{Expanded, expand};
+pub use arguments::{bytes_within, is_too_big};
+pub use expansion::{Expanded, expand, expand_from};
+pub use program::{Program, program_from};

@@ -1,15 +1,15 @@
 //! Programs as a tracer finds them.
-ghost use Rattle.std.specs.Prelude.{◌≡◌, ◌≤◌, take, length, IsTrue, IfOk};
+ghost use Rattle.std.specs.Prelude.{◌≡◌, ◌≤◌, take, length, IsTrue, IfOk, IfSome};
+ghost use Rattle.std.specs.Option.{option_copied};
 ghost use Rattle.pr_base.specs.Paths.{is_absolute};
 ghost use Rattle.pt_bind.specs.Binding.{IsWritten, names_of};
 ghost use Rattle.pt_canon.specs.Canon.{IsAnswer, canon_of, texts_by};
 ghost use Rattle.kr_calls.specs.Expansion.{is_script};
 ghost use Rattle.kr_calls.specs.Scripts.{BeginsScript};
-ghost use Rattle.pt_script.specs.Programs.{base_of, canon_from, program_at, program_in};
+ghost use Rattle.pt_script.specs.Programs.{base_from, canon_from, program_from, program_in};
 
 use pr_base::{Bytes, Errno, Peeks, WalkMode, components};
-use pt_args::working_text;
-use pt_bind::{Table, Tags};
+use pt_bind::Tags;
 use pt_canon::laws::answers_are_of_their_texts;
 use pt_canon::{Canon, WalkErr, Walker};
 use std::alloc::Global;
@@ -21,57 +21,53 @@ const HEAD_SIZE: u32 = 256;
 const SCRIPT_MARK: &[u8] = b"#!";
 
 /// A regular file that the user may execute.
-#[derive(Drop)]
-pub(crate) struct Program {
+#[derive(Debug, Drop)]
+pub struct Program {
     /// Its host text.
-    pub(crate) host: Bytes,
+    pub host: Bytes,
     /// The index of the binding to which its guest text belongs.
-    pub(crate) index: u32,
+    pub index: u32,
     /// As many of its first bytes as tell a script's line.
-    pub(crate) head: Bytes,
+    pub head: Bytes,
 }
 
-/// The program at a guest path, a last link followed: ENOENT where the path is relative and the working directory has no
-/// guest text, then the errors of the walk, and EACCES where it leads to no regular file that the user may execute.
-pub(crate) fn program_at<K: Peeks>(
+/// The program at a guest path, a last link followed: ENOENT where the path is relative and there is no working directory
+/// with a guest text, then the errors of the walk, and EACCES where it leads to no regular file that the user may execute.
+pub fn program_from<K: Peeks>(
     alloc: Global,
     kernel: &mut K,
     walker: &mut Walker,
     tags: &Tags,
-    pid: u32,
+    working: Option<&[u8]>,
     path: &[u8],
 ) -> Result<Program, WalkErr>
-    ensures answer { IsAnswer (program_at (texts_by walker.old (K.peeked kernel.old) tags.now) pid path.now) result }
+    requires { IfSome (option_copied working) IsWritten }
+    ensures answer { IsAnswer (program_from (texts_by walker.old (K.peeked kernel.old) tags.now) (option_copied working.entry) path.now) result }
     ensures short { IfOk result (λ program. length program.head ≤ 256) }
     ensures walker { walker.new ≡ walker.old }
     ensures same { K.peeked kernel.new ≡ K.peeked kernel.old }
     ensures rest { K.kept kernel.new ≡ K.kept kernel.old }
 {
-    let base = base_of(alloc, kernel, walker.table(), tags, pid, path)?;
+    let base = base_from(alloc, working, path)?;
     let Canon { host, index, .. } = canon_from(kernel, walker, tags, path, base.as_slice())?;
     program_in(kernel, host, index)
 }
 
 /// The guest text from which a path is taken: the root, or the working directory.
-fn base_of<K: Peeks>(
-    alloc: Global,
-    kernel: &mut K,
-    table: &Table,
-    tags: &Tags,
-    pid: u32,
-    path: &[u8],
-) -> Result<Bytes, WalkErr>
-    ensures answer { IsAnswer (base_of (texts_by table.now (K.peeked kernel.old) tags.now) pid path.now) result }
+fn base_from(alloc: Global, working: Option<&[u8]>, path: &[u8]) -> Result<Bytes, WalkErr>
+    requires { IfSome (option_copied working) IsWritten }
+    ensures answer { IsAnswer (base_from (option_copied working.entry) path.now) result }
     ensures written { IfOk result IsWritten }
-    ensures same { K.peeked kernel.new ≡ K.peeked kernel.old }
-    ensures rest { K.kept kernel.new ≡ K.kept kernel.old }
 {
     if components(path).absolute() {
         let root = Bytes::copy(alloc, b"/")?;
         return Ok(root);
     }
-    match working_text(kernel, table, tags, pid)? {
-        Some(text) => Ok(text),
+    match working {
+        Some(text) => {
+            let text = Bytes::copy(alloc, text)?;
+            Ok(text)
+        }
         None => Err(WalkErr::Err(Errno::ENOENT)),
     }
 }

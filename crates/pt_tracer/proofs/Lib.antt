@@ -1,6 +1,6 @@
 mod AnswerLemmas
-mod AuxiliaryLemmas
+pub mod AuxiliaryLemmas
 mod DecodingLemmas
-mod FakerLemmas
+pub mod FakerLemmas
 mod FakingLemmas
-mod StopLemmas
+pub mod StopLemmas

@@ -151,7 +151,7 @@ impl Faker {
 }
 
 /// What is due of a call that the kernel carries out, by whether processes start as root.
-fn due_of(root: bool, request: &Request) -> Option<Due>
+pub fn due_of(root: bool, request: &Request) -> Option<Due>
     ensures { result ≡ due_of root request.now }
 {
     match *request {

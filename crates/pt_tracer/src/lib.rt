@@ -9,9 +9,9 @@ mod dues;
 mod faker;
 pub mod laws;
 pub mod memory;
-mod registers;
+pub mod registers;
 
 pub use answering::answer_call;
 pub use auxiliary::show_identity;
 pub use due::Due;
-pub use faker::Faker;
+pub use faker::{Faker, due_of};

@@ -15,7 +15,7 @@ use rv_mem::Use;
 use std::alloc::Global;
 
 /// Writes bytes, all of which may be written. After want of memory the process may only be dropped.
-pub(crate) fn write<T: Tracee>(t: &mut T, at: u64, bytes: &[u8]) -> Result<(), NoMemory>
+pub fn write<T: Tracee>(t: &mut T, at: u64, bytes: &[u8]) -> Result<(), NoMemory>
     requires may { IsTrue (allows_all (memory_at (T.stopped t.old)).pages at (length bytes.now) Use.Write) }
     ensures after { OnOk result (T.stopped t.new ≡ after_poke at bytes.now (T.stopped t.old)) }
     ensures edits { IsEdited (T.stopped t.old) (T.stopped t.new) }
@@ -51,7 +51,7 @@ pub fn show_owner<T: Tracee>(
 }
 
 /// The negated number of an error.
-pub(crate) fn refused(errno: Errno) -> i64
+pub fn refused(errno: Errno) -> i64
     ensures { result ≡ refusal errno }
 {
     -i64::from(errno.number())

@@ -17,13 +17,13 @@ const NUMBER: u8 = 17;
 const ANSWER: u8 = 10;
 
 /// The stack pointer.
-pub(crate) const STACK: u8 = 2;
+pub const STACK: u8 = 2;
 
 /// No call has the number of all ones.
 const NO_CALL: u64 = 0xffff_ffff_ffff_ffff;
 
 /// Takes the number of a call away, so that the kernel finds none, and gives it.
-pub(crate) fn take_number<T: Tracee>(t: &mut T) -> u64
+pub fn take_number<T: Tracee>(t: &mut T) -> u64
     ensures number { result ≡ register_at (T.stopped t.old) 17 }
     ensures taken { T.stopped t.new ≡ no_longer_called (T.stopped t.old) }
     ensures edits { IsEdited (T.stopped t.old) (T.stopped t.new) }
@@ -36,7 +36,7 @@ pub(crate) fn take_number<T: Tracee>(t: &mut T) -> u64
 }
 
 /// Gives the number of a call back, and tells an answer.
-pub(crate) fn tell<T: Tracee>(t: &mut T, number: u64, answer: i64)
+pub fn tell<T: Tracee>(t: &mut T, number: u64, answer: i64)
     ensures tells { T.stopped t.new ≡ told number answer (T.stopped t.old) }
     ensures edits { IsEdited (T.stopped t.old) (T.stopped t.new) }
     ensures rest { T.around t.new ≡ T.around t.old }
@@ -47,7 +47,7 @@ pub(crate) fn tell<T: Tracee>(t: &mut T, number: u64, answer: i64)
 }
 
 /// An answer that is an error of permission becomes 0, where it may.
-pub(crate) fn forgive<T: Tracee>(t: &mut T, may: bool)
+pub fn forgive<T: Tracee>(t: &mut T, may: bool)
     ensures forgives { T.stopped t.new ≡ forgiven may (T.stopped t.old) }
     ensures edits { IsEdited (T.stopped t.old) (T.stopped t.new) }
     ensures rest { T.around t.new ≡ T.around t.old }
@@ -66,7 +66,7 @@ fn is_forgiven(may: bool, answer: u64) -> bool
 }
 
 /// Whether the answer is 0.
-pub(crate) fn has_answered_zero<T: Tracee>(t: &T) -> bool
+pub fn has_answered_zero<T: Tracee>(t: &T) -> bool
     ensures { result ≡ has_answered_zero (T.stopped t.now) }
 {
     t.reg(ANSWER) == 0

@@ -16,7 +16,7 @@ struct Row {
 
 const UNBUILT: Answer = Answer::Unbuilt { part: Part::Words };
 
-const ROWS: [Row; 17] = [
+const ROWS: [Row; 15] = [
     Row {
         words: "-b",
         tree: b"",
@@ -43,16 +43,6 @@ const ROWS: [Row; 17] = [
     },
     Row {
         words: "--case=1",
-        tree: b"",
-        answer: UNBUILT,
-    },
-    Row {
-        words: "-r /g /p",
-        tree: b"",
-        answer: UNBUILT,
-    },
-    Row {
-        words: "-b /data /p",
         tree: b"",
         answer: UNBUILT,
     },

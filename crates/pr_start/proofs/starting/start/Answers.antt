@@ -8,7 +8,8 @@ use Rattle.pr_start.proofs.BeginLemmas.{begins-as, begins-from}
 use Rattle.kr_first.specs.Starting.{directory_at}
 use Rattle.kr_mounts.specs.Stored.{table_of}
 use Rattle.kr_view.specs.Leads.{numbered}
-use Rattle.pr_start.specs.Command.{Chosen, chosen, word_of}
+use Rattle.pr_command.specs.Command.{word_of}
+use Rattle.pr_start.specs.Command.{Chosen, chosen}
 use Rattle.pr_start.specs.Directory.{At}
 use Rattle.pr_start.specs.Numbers.{directory_told, number_of}
 use Rattle.pr_start.proofs.SearchLemmas.{directory-leads, text-chosen}

@@ -5,6 +5,7 @@ use Rattle.pr_answer.specs.declared.answer.Which.TheVariants.{Tree as TreeSource
 use Rattle.pr_sources.specs.Asking.{asked}
 use Rattle.pr_sources.specs.Reading.{told_listing, told_tree}
 use Rattle.pr_top.specs.Opening.{opening}
+use Rattle.pr_top.proofs.ReportLemmas.{answer-told, comes-after, read-input, refuses-not, stops-for-memory, stops-in-err, stops-in-left}
 use Rattle.pr_top.proofs.TopLemmas.{answered, complete, complete-refused, listing-put, no-write, not-told, nothing, refusal, refused, turns-put}
 use Rattle.pr_top.proofs.top.proot.Goals as goal
 
@@ -67,6 +68,37 @@ returns-in-Ok-clause-complete g c =
     let rose_left = Rose (g.L.Sink.faults c.args.left.now) (g.L.Sink.faults c.report.new.left) in
     complete words tree listing rose_tree rose_elf rose_input rose_out rose_err rose_left c.in-Ok.opened
     (g.O.Sink.got c.args.out.now) (g.O.Sink.got c.report.new.out) (g.R.Sink.got c.args.err.now) (g.R.Sink.got c.report.new.err) (g.L.Sink.got c.args.left.now) (g.L.Sink.got c.report.new.left) c.report.result c.report.ensures told c.in-Ok.ensures.opens
+
+pub returns-in-Ok-clause-refusal : goal.returns-in-Ok-clause-refusal
+returns-in-Ok-clause-refusal g c = λ p. absurd (refuses-not c.in-Ok.opened c.report.ensures p)
+
+pub returns-in-Ok-clause-out_untouched : goal.returns-in-Ok-clause-out_untouched
+returns-in-Ok-clause-out_untouched g c = λ p. absurd (comes-after c.in-Ok.opened c.report.ensures p)
+
+pub returns-in-Ok-clause-err_untouched : goal.returns-in-Ok-clause-err_untouched
+returns-in-Ok-clause-err_untouched g c = λ p. absurd (comes-after c.in-Ok.opened c.report.ensures p)
+
+pub returns-in-Ok-clause-left_untouched : goal.returns-in-Ok-clause-left_untouched
+returns-in-Ok-clause-left_untouched g c = λ p. absurd (comes-after c.in-Ok.opened c.report.ensures p)
+
+pub returns-in-Ok-clause-before_input : goal.returns-in-Ok-clause-before_input
+returns-in-Ok-clause-before_input g c = λ p. absurd (read-input c.in-Ok.opened c.report.ensures p)
+
+pub returns-in-Ok-clause-told : goal.returns-in-Ok-clause-told
+returns-in-Ok-clause-told g c =
+    answer-told c.in-Ok.opened c.report.ensures (opening (map string_bytes c.args.words.now) (g.T.Source.left c.args.tree.now) (g.E.Source.left c.args.elf.now) (g.I.Source.left c.args.input.now)) c.in-Ok.ensures.opens
+
+pub returns-in-Ok-clause-err_stops : goal.returns-in-Ok-clause-err_stops
+returns-in-Ok-clause-err_stops g c =
+    stops-in-err c.in-Ok.opened c.report.ensures (opening (map string_bytes c.args.words.now) (g.T.Source.left c.args.tree.now) (g.E.Source.left c.args.elf.now) (g.I.Source.left c.args.input.now)) c.in-Ok.ensures.opens
+
+pub returns-in-Ok-clause-left_stops : goal.returns-in-Ok-clause-left_stops
+returns-in-Ok-clause-left_stops g c =
+    stops-in-left c.in-Ok.opened c.report.ensures (opening (map string_bytes c.args.words.now) (g.T.Source.left c.args.tree.now) (g.E.Source.left c.args.elf.now) (g.I.Source.left c.args.input.now)) c.in-Ok.ensures.opens
+
+pub returns-in-Ok-clause-no_memory : goal.returns-in-Ok-clause-no_memory
+returns-in-Ok-clause-no_memory g c =
+    stops-for-memory c.in-Ok.opened c.report.ensures (opening (map string_bytes c.args.words.now) (g.T.Source.left c.args.tree.now) (g.E.Source.left c.args.elf.now) (g.I.Source.left c.args.input.now)) c.in-Ok.ensures.opens
 
 pub returns-in-Err-clause-opening : goal.returns-in-Err-clause-opening
 returns-in-Err-clause-opening g c =

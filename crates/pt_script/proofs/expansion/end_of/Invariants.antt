@@ -1,11 +1,12 @@
 use Rattle.std.proofs.Common.{◌≡◌, ◌-◌, ◌≤◌, length}
+use Rattle.std.specs.Option.{option_copied}
 use Rattle.pt_canon.specs.Canon.{texts_by}
 use Rattle.pt_script.proofs.ChainLemmas.{IsLeft}
 use Rattle.pt_script.proofs.expansion.end_of.Given as goal
 
 abbrev pub invariant-scripts : goal.invariant-scripts
 invariant-scripts g l = record {
-  left : IsLeft (texts_by l.fn.walker (g.K.Peeks.peeked l.fn.kernel) l.tags) l.pid l.env_bytes l.fn.command l.scripts l.command;
+  left : IsLeft (texts_by l.fn.walker (g.K.Peeks.peeked l.fn.kernel) l.tags) (option_copied l.working) l.env_bytes l.fn.command l.scripts l.command;
   short : length l.command.program.head ≤ 256;
   walker : l.walker ≡ l.fn.walker;
   same : g.K.Peeks.peeked l.kernel ≡ g.K.Peeks.peeked l.fn.kernel;

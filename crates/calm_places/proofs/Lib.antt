@@ -1,0 +1,3 @@
+pub mod InUseLemmas
+pub mod KeepLemmas
+pub mod SearchLemmas

@@ -1,0 +1,15 @@
+pub mod ChangeLemmas
+pub mod EndLemmas
+pub mod FollowLemmas
+pub mod KeptLemmas
+pub mod MatchLemmas
+pub mod MoveLemmas
+pub mod RemoveLemmas
+pub mod RightLemmas
+pub mod ShownLemmas
+pub mod SlotLemmas
+pub mod SourceLemmas
+pub mod SpaceLemmas
+pub mod TagLemmas
+pub mod TreeLemmas
+pub mod WayLemmas

@@ -1,0 +1,9 @@
+pub mod Changes
+pub mod Following
+pub mod Losses
+pub mod Matching
+pub mod Moving
+pub mod Standing
+pub mod Tagging
+pub mod Taking
+pub mod Uses

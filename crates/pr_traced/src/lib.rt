@@ -1,0 +1,7 @@
+//! The start of a run that a tracer watches: the first process is found in guest terms, and begins on a kernel that knows of no root and
+//! no binding.
+#![tactic(auto)]
+
+mod starting;
+
+pub use starting::start_traced;

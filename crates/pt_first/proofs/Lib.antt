@@ -1,0 +1,4 @@
+mod GuestRows
+pub mod PeekLemmas
+pub mod StandingLemmas
+pub mod StartLemmas

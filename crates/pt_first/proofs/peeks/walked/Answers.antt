@@ -1,0 +1,12 @@
+use Rattle.std.proofs.Common.{ℕ, subst}
+use Rattle.pr_base.specs.declared.path.WalkMode.TheVariants.{LookLink}
+use Rattle.kr_tree.specs.declared.place.Place.{Place}
+use Rattle.kr_view.specs.Answers.{IsAnswer}
+use Rattle.kr_view.specs.View.{plain}
+use Rattle.kr_view.specs.Walk.{place_walk}
+use Rattle.kr_first.specs.Starting.{around}
+use Rattle.kr_hostview.specs.OnHost.{number}
+use Rattle.pt_first.proofs.peeks.walked.Goals as goal
+
+pub returns : goal.returns
+returns c = subst (λ (base : Place ℕ). IsAnswer number (place_walk (around plain c.args.tree.now c.args.user) LookLink base c.args.host.now).answer c.resolve.result) c.root.ensures c.resolve.ensures.answer

@@ -1,0 +1,137 @@
+-- The start of a run in guest terms: the first working directory, the command, and the program that runs in the end, each found as a
+-- tracer finds it before a process lives, and handed to the plain kernel by its host text.
+use Rattle.std.specs.Prelude.{◌≡◌, ℕ, nat_lt, Bool, true, false, List, [], ◌∷◌, length, Option, Some, None, Result, Ok, Err, if◌then◌else◌}
+use Rattle.pr_base.specs.MountText.{MountText}
+use Rattle.pr_base.specs.Paths.{slash, dot, is_absolute, text_of}
+use Rattle.pr_base.specs.declared.errno.Errno.{Errno}
+use Rattle.pr_base.specs.declared.errno.Errno.TheVariants.{E2BIG, ENAMETOOLONG, ENOENT}
+use Rattle.pr_command.specs.Command.{arguments, candidate, directories, has_slash, ids_of, path_of, word_of}
+use Rattle.pt_bind.specs.Binding.{host_of, index_of, names_of}
+use Rattle.pt_bind.specs.Tags.{TagTable, with_tag}
+use Rattle.pt_bind.specs.declared.slot.Slot.TheVariants as slot
+use Rattle.pt_canon.specs.TextWalk.{TextSurroundings}
+use Rattle.pt_canon.specs.declared.canon.Canon.{Canon}
+use Rattle.pt_args.specs.Walks.{and_then}
+use Rattle.pt_script.specs.Expanding.{expanded_from}
+use Rattle.pt_script.specs.Programs.{canon_from, program_from}
+use Rattle.pt_script.specs.declared.expansion.Expanded.{Expanded}
+use Rattle.pt_script.specs.declared.program.Program.{Program}
+use Rattle.kr_calls.specs.Expansion.{bytes_with_ends}
+use Rattle.kr_exec.specs.Exec.{are_too_big}
+use Rattle.kr_first.specs.Starting.{is_walked, path_errno}
+use Rattle.kr_first.specs.declared.starting.First.{First}
+use Rattle.kr_first.specs.declared.starting.StartFault.{StartFault}
+use Rattle.kr_first.specs.declared.starting.StartFault.TheVariants as fault
+use Rattle.pt_first.specs.declared.begun.Begun.{Begun}
+use Rattle.pr_command.specs.declared.launch.Launch.{Launch}
+
+-- ---- what begins
+
+-- the number of the first process
+abbrev pub first_pid : ℕ
+first_pid = 2
+
+-- its tags
+abbrev pub tagged : TagTable → Begun → TagTable
+tagged tags begun = with_tag (with_tag tags first_pid slot.Cwd begun.cwd) first_pid slot.Exe begun.exe
+
+-- a working directory is told by its guest text; nothing is reached before the kernel's own walks
+abbrev pub begun : List MountText → List (List ℕ) → ℕ × ℕ → List ℕ → Expanded → Begun
+begun bindings env ids working program = record {
+  first = record {
+    path = program.host;
+    args = program.args;
+    env = env;
+    cwd = text_of (host_of bindings (names_of working));
+    ids = ids_of ids;
+    reach = record { longest = 0; met_proc = false };
+  };
+  cwd = index_of bindings (names_of working);
+  exe = program.index;
+}
+
+-- ---- what is looked for
+
+abbrev pub root_text : List ℕ
+root_text = slash ∷ []
+
+abbrev pub text_or_root : Result Canon Errno → List ℕ
+text_or_root (Ok canon) = canon.guest
+text_or_root (Err e) = root_text
+
+abbrev pub is_found : Result Program Errno → Bool
+is_found (Ok program) = true
+is_found (Err e) = false
+
+-- a path has at most 4,095 bytes, so a longer host text can't be handed to the kernel
+abbrev pub if_short : Canon → Result Canon Errno
+if_short canon = if nat_lt 4095 (length canon.host) then Err ENAMETOOLONG else Ok canon
+
+abbrev pub base_of : List ℕ → List ℕ → List ℕ
+base_of working path = if is_absolute path then root_text else working
+
+module _ (texts : TextSurroundings) where
+  -- ---- the working directory
+
+  -- the directory to which a path leads from the root, if it is one that may be searched: it is found in itself
+  abbrev pub directory_at : List ℕ → Result Canon Errno
+  directory_at path = and_then (canon_from texts path root_text) (λ canon. canon_from texts dot canon.guest)
+
+  -- else it is the root. An empty path leads nowhere, nor does one that is too long
+  abbrev pub working_directory : List ℕ → List ℕ
+  working_directory path = if is_walked path then text_or_root (directory_at path) else root_text
+
+  module _ (working : List ℕ) where
+    -- ---- the command
+
+    abbrev pub found_from : List ℕ → Result Program Errno
+    found_from path = if is_walked path then program_from texts (Some working) path else Err (path_errno path)
+
+    abbrev pub is_there : List ℕ → Bool
+    is_there path = is_found (found_from path)
+
+    -- the first candidate that is a program
+    unfoldable pub searched : List ℕ → List (List ℕ) → Option (List ℕ)
+    searched word [] = None
+    searched word (dir ∷ dirs) = if is_there (candidate dir word) then Some (candidate dir word) else searched word dirs
+
+    -- a word with a slash is a path
+    abbrev pub chosen : List (List ℕ) → List ℕ → Option (List ℕ)
+    chosen env word = if has_slash word then Some word else searched word (directories (path_of env))
+
+    -- ---- the program
+
+    -- the path's own host text comes first
+    abbrev pub handed : List ℕ → Result Canon Errno
+    handed path = and_then (canon_from texts path (base_of working path)) if_short
+
+    -- then the lists, which the program is given
+    abbrev pub run_with : List (List ℕ) → List (List ℕ) → List ℕ → Result Expanded Errno
+    run_with args env path =
+        if are_too_big args env then and_then (program_from texts (Some working) path) (λ program. Err E2BIG)
+        else expanded_from texts (Some working) (bytes_with_ends env) path args
+
+    -- as execve(2) of a process there comes to a program
+    abbrev pub run_from : List (List ℕ) → List (List ℕ) → List ℕ → Result Expanded Errno
+    run_from args env path = if is_walked path then and_then (handed path) (λ canon. run_with args env path) else Err (path_errno path)
+
+    -- no candidate was there: ENOENT
+    abbrev pub started_at : Launch → Option (List ℕ) → Result Begun Errno
+    started_at launch None = Err ENOENT
+    started_at launch (Some path) = and_then (run_from (arguments launch.command) launch.env path) (λ program. Ok (begun texts.bindings launch.env launch.ids working program))
+
+    abbrev pub started_in : Launch → Result Begun Errno
+    started_in launch = started_at launch (chosen launch.env (word_of launch.command))
+
+  -- ---- the start
+
+  abbrev pub guest_start : Launch → Result Begun Errno
+  guest_start launch = started_in (working_directory launch.cwd) launch
+
+-- ---- what the code answers
+
+-- a start is this one, and its process has its tags; for want of memory it may have some of them
+abbrev pub IsBegun : Result Begun Errno → TagTable → TagTable → Result First StartFault → Type 0
+IsBegun answer old new (Ok first) = (b : Begun) × (answer ≡ Ok b) × (first ≡ b.first) × (new ≡ tagged old b)
+IsBegun answer old new (Err (fault.Err e)) = (answer ≡ Err e) × (new ≡ old)
+IsBegun answer old new (Err fault.NoMemory) = Unit {0}

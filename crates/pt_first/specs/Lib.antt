@@ -1,0 +1,3 @@
+pub mod GuestStart
+pub mod FirstPeeks
+pub mod Laws

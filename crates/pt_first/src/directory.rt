@@ -1,0 +1,85 @@
+//! The first working directory.
+ghost use Rattle.std.specs.Prelude.{◌≡◌, IfOk};
+ghost use Rattle.kr_first.specs.Starting.{is_walked};
+ghost use Rattle.pt_bind.specs.Binding.{IsWritten};
+ghost use Rattle.pt_canon.specs.Canon.{IsAnswer, texts_by};
+ghost use Rattle.pt_script.specs.Programs.{canon_from};
+ghost use Rattle.pt_first.specs.GuestStart.{directory_at, working_directory};
+
+use pr_base::{Bytes, NoMemory, Peeks, WalkMode};
+use pt_bind::Tags;
+use pt_canon::{Canon, WalkErr, Walker};
+use std::alloc::Global;
+
+/// The root's guest text.
+pub(crate) const ROOT: &[u8] = b"/";
+
+/// How many bytes a path has at most, with its zero.
+const TEXT_LIMIT: usize = 4096;
+
+/// Whether a path is walked: an empty one isn't, nor one that is too long.
+pub(crate) fn is_walked(path: &[u8]) -> bool
+    ensures { result ≡ is_walked path.now }
+{
+    !path.is_empty() && path.len() < TEXT_LIMIT
+}
+
+/// Where a path leads from a guest text, a last link followed.
+pub(crate) fn canon_from<K: Peeks>(
+    kernel: &mut K,
+    walker: &mut Walker,
+    tags: &Tags,
+    path: &[u8],
+    base: &[u8],
+) -> Result<Canon, WalkErr>
+    requires { IsWritten base.now }
+    ensures answer { IsAnswer (canon_from (texts_by walker.old (K.peeked kernel.old) tags.now) path.now base.now) result }
+    ensures written { IfOk result (λ canon. IsWritten canon.guest) }
+    ensures walker { walker.new ≡ walker.old }
+    ensures same { K.peeked kernel.new ≡ K.peeked kernel.old }
+    ensures rest { K.kept kernel.new ≡ K.kept kernel.old }
+{
+    walker.canon(kernel, tags, base, path, WalkMode::Look)
+}
+
+/// The directory to which a path leads from the root, if the user may search it: who may finds the directory in itself.
+fn directory_at<K: Peeks>(
+    kernel: &mut K,
+    walker: &mut Walker,
+    tags: &Tags,
+    path: &[u8],
+) -> Result<Canon, WalkErr>
+    ensures answer { IsAnswer (directory_at (texts_by walker.old (K.peeked kernel.old) tags.now) path.now) result }
+    ensures written { IfOk result (λ canon. IsWritten canon.guest) }
+    ensures walker { walker.new ≡ walker.old }
+    ensures same { K.peeked kernel.new ≡ K.peeked kernel.old }
+    ensures rest { K.kept kernel.new ≡ K.kept kernel.old }
+{
+    let found = canon_from(kernel, walker, tags, path, ROOT)?;
+    canon_from(kernel, walker, tags, b".", found.guest.as_slice())
+}
+
+/// The guest text of the first working directory: that of a path, if it leads to a directory that the user may search, and else
+/// the root.
+pub(crate) fn working_directory<K: Peeks>(
+    alloc: Global,
+    kernel: &mut K,
+    walker: &mut Walker,
+    tags: &Tags,
+    path: &[u8],
+) -> Result<Bytes, NoMemory>
+    ensures text { IfOk result (λ text. text ≡ working_directory (texts_by walker.old (K.peeked kernel.old) tags.now) path.now) }
+    ensures written { IfOk result IsWritten }
+    ensures walker { walker.new ≡ walker.old }
+    ensures same { K.peeked kernel.new ≡ K.peeked kernel.old }
+    ensures rest { K.kept kernel.new ≡ K.kept kernel.old }
+{
+    if !is_walked(path) {
+        return Bytes::copy(alloc, ROOT);
+    }
+    match directory_at(kernel, walker, tags, path) {
+        Ok(found) => Ok(found.guest),
+        Err(WalkErr::Err(_)) => Bytes::copy(alloc, ROOT),
+        Err(WalkErr::NoMemory) => Err(NoMemory),
+    }
+}

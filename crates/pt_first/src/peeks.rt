@@ -1,0 +1,244 @@
+//! What a tracer is told before a process lives.
+ghost use Rattle.std.specs.Prelude.{◌≡◌, ℕ, take};
+ghost use Rattle.std.specs.Option.{option_map};
+ghost use Rattle.pr_base.specs.Peeks.{IsPeeked};
+ghost use Rattle.kr_tree.specs.declared.place.Host.TheVariants.{Node};
+ghost use Rattle.kr_view.specs.Answers.{IsAnswer};
+ghost use Rattle.kr_view.specs.declared.view.HostMount.{HostMount};
+ghost use Rattle.kr_model.specs.Peeks.{head_at};
+ghost use Rattle.kr_hostview.specs.OnHost.{number};
+ghost use Rattle.kr_hostview.specs.Peeking.{IsFound};
+ghost use Rattle.pt_first.specs.FirstPeeks.{answer_along, first_peeked, kind_at, link_text_at};
+
+use kr_tree::{Host, Ino, Kind, ProcAt, Right, Tree, User};
+use kr_view::{HostMount, NoProcs, Places, Plain, Reach, Target, WalkFault, resolve};
+use pr_base::{BaseKind, Bytes, Errno, NoMemory, PeekFault, PeekKind, Peeks, WalkMode};
+use std::alloc::Global;
+use std::marker::Model;
+
+/// The number of the first process, in whose name its walks are made.
+const FIRST: u32 = 2;
+
+/// What a tracer may ask of a tree before a process lives, in the name of a user: what the walks of the host's own view find. The process
+/// directory has no names yet.
+#[derive(Drop)]
+pub struct FirstPeeks<'a> {
+    alloc: Global,
+    tree: &'a Tree,
+    user: User,
+}
+
+impl<'a> Model for FirstPeeks<'a> {
+    ghost use Rattle.std.specs.Coded.{codes};
+    ghost use Rattle.kr_tree.specs.Tree.{tree_code};
+    ghost use Rattle.pt_first.specs.FirstPeeks.{Asked};
+
+    ghost Value = { Asked };
+
+    ghost coded = { Prim.hlevel (codes, tree_code) };
+
+    ghost view = { λ p. record { tree = p.tree.now; user = p.user } };
+}
+
+impl<'a> FirstPeeks<'a> {
+    pub fn new(alloc: Global, tree: &'a Tree, user: User) -> FirstPeeks<'a>
+        ensures tree { result.tree ≡ tree.now }
+        ensures user { result.user ≡ user }
+    {
+        FirstPeeks { alloc, tree, user }
+    }
+}
+
+impl<'a> Peeks for FirstPeeks<'a> {
+    ghost use Rattle.std.specs.Prelude.{refl};
+    ghost use Rattle.pt_first.specs.FirstPeeks.{Asked, first_peeked};
+
+    ghost peeked = { λ p. first_peeked p.tree p.user };
+
+    ghost Kept = { Asked };
+
+    ghost kept = { λ p. p };
+
+    fn kind(&mut self, host: &[u8]) -> Result<PeekKind, PeekFault> {
+        kind(self.alloc, self.tree, self.user, host)
+    }
+
+    fn link_text(&mut self, host: &[u8]) -> Result<Bytes, PeekFault> {
+        link_text(self.alloc, self.tree, self.user, host)
+    }
+
+    fn head(&mut self, host: &[u8], n: u32) -> Result<Bytes, PeekFault> {
+        head(self.alloc, self.tree, self.user, host, n)
+    }
+
+    fn base_kind(&mut self, _pid: u32, _fd: u32) -> BaseKind {
+        BaseKind::Closed
+    }
+
+    fn base_name(&mut self, _pid: u32, _fd: u32) -> Result<Option<Bytes>, NoMemory> {
+        Ok(None)
+    }
+
+    fn cwd_name(&mut self, _pid: u32) -> Result<Option<Bytes>, NoMemory> {
+        Ok(None)
+    }
+
+    fn exe_name(&mut self, _pid: u32) -> Result<Option<Bytes>, NoMemory> {
+        Ok(None)
+    }
+
+    ghost names_are_texts = { λ p. record { base = λ pid fd. tt; cwd = λ pid. tt; exe = λ pid. tt } };
+}
+
+/// The kind of what a host path leads to. It fails as the walk there does.
+fn kind(alloc: Global, tree: &Tree, user: User, host: &[u8]) -> Result<PeekKind, PeekFault>
+    ensures { IsPeeked ((first_peeked tree.now user).kind host.now) result }
+{
+    match find(alloc, tree, user, host)? {
+        Some(object) => kind_of(tree, object),
+        None => Err(PeekFault::Err(Errno::ENOENT)),
+    }
+}
+
+/// The text of the link to which a host path leads.
+fn link_text(alloc: Global, tree: &Tree, user: User, host: &[u8]) -> Result<Bytes, PeekFault>
+    ensures { IsPeeked ((first_peeked tree.now user).link_text host.now) result }
+{
+    match find(alloc, tree, user, host)? {
+        Some(object) => text_of(alloc, tree, object),
+        None => Err(PeekFault::Err(Errno::ENOENT)),
+    }
+}
+
+/// The first bytes of the file to which a host path leads.
+fn head(alloc: Global, tree: &Tree, user: User, host: &[u8], n: u32) -> Result<Bytes, PeekFault>
+    ensures { IsPeeked ((first_peeked tree.now user).head host.now n) result }
+{
+    match find(alloc, tree, user, host)? {
+        Some(object) => head_of(alloc, tree, user, object, n),
+        None => Err(PeekFault::Err(Errno::ENOENT)),
+    }
+}
+
+/// What a host path leads to, where a last link isn't followed.
+fn find(alloc: Global, tree: &Tree, user: User, host: &[u8]) -> Result<Option<Host>, PeekFault>
+    ensures { IsFound (answer_along tree.now user host.now) result }
+{
+    match walked(alloc, tree, user, host) {
+        Ok(target) => Ok(found_in(target)),
+        Err(fault) => Err(fault_of(fault)),
+    }
+}
+
+/// The object that a walk found.
+fn found_in(target: Target<HostMount>) -> Option<Host>
+    ensures { result ≡ option_map (λ p. p.host) target.found }
+{
+    match target.found {
+        Some(place) => Some(place.host),
+        None => None,
+    }
+}
+
+/// Where the walk along a host path ends, if a last link isn't followed. What it meets isn't told.
+fn walked(
+    alloc: Global,
+    tree: &Tree,
+    user: User,
+    host: &[u8],
+) -> Result<Target<HostMount>, WalkFault>
+    ensures { IsAnswer number (answer_along tree.now user host.now) result }
+{
+    let places = Plain::new();
+    let procs = NoProcs::new();
+    let mut reach = Reach {
+        longest: 0,
+        met_proc: false,
+    };
+    resolve(
+        alloc,
+        &places,
+        &procs,
+        tree,
+        user,
+        FIRST,
+        places.root(),
+        host,
+        WalkMode::LookLink,
+        &mut reach,
+    )
+}
+
+/// Why a walk gives no target, as a tracer is told it.
+fn fault_of(fault: WalkFault) -> PeekFault
+    ensures { (answer : _) → IsAnswer {M = HostMount} number answer (Err fault) → IsFound answer (Err result) }
+{
+    match fault {
+        WalkFault::Err(errno) => PeekFault::Err(errno),
+        WalkFault::NoMemory => PeekFault::NoMemory,
+    }
+}
+
+/// The kind of an object.
+fn kind_of(tree: &Tree, object: Host) -> Result<PeekKind, PeekFault>
+    ensures { (user : User) → IsPeeked (kind_at tree.now user object) result }
+{
+    match object {
+        Host::Node(ino) => match tree.kind(ino) {
+            Some(Kind::Dir) | Some(Kind::Proc) => Ok(PeekKind::Dir),
+            Some(Kind::File) => Ok(PeekKind::File),
+            Some(Kind::Link) => Ok(PeekKind::Link),
+            None => Err(PeekFault::Err(Errno::ENOENT)),
+        },
+        Host::Proc(_, ProcAt::Dir(_) | ProcAt::FdDir(_)) => Ok(PeekKind::Dir),
+        Host::Proc(_, _) => Ok(PeekKind::Jump),
+    }
+}
+
+/// The text of a link.
+fn text_of(alloc: Global, tree: &Tree, object: Host) -> Result<Bytes, PeekFault>
+    ensures { IsPeeked (link_text_at tree.now object) result }
+{
+    match object {
+        Host::Node(ino) => match tree.link_text(ino) {
+            Some(text) => {
+                let copy = Bytes::copy(alloc, text)?;
+                Ok(copy)
+            }
+            None => Err(PeekFault::Err(Errno::EINVAL)),
+        },
+        Host::Proc(_, _) => Err(PeekFault::Err(Errno::EINVAL)),
+    }
+}
+
+/// The first bytes of a file that the user may execute.
+fn head_of(alloc: Global, tree: &Tree, user: User, object: Host, n: u32) -> Result<Bytes, PeekFault>
+    ensures { IsPeeked (head_at tree.now user n object) result }
+{
+    match object {
+        Host::Node(ino) => file_head(alloc, tree, user, ino, n),
+        Host::Proc(_, _) => Err(PeekFault::Err(Errno::EACCES)),
+    }
+}
+
+/// The first bytes of an inode that is a file which the user may execute.
+fn file_head(alloc: Global, tree: &Tree, user: User, ino: Ino, n: u32) -> Result<Bytes, PeekFault>
+    ensures { IsPeeked (head_at tree.now user n (Node ino)) result }
+{
+    let Some(bytes) = tree.file(ino) else {
+        return Err(PeekFault::Err(Errno::EACCES));
+    };
+    if !tree.may(user, ino, Right::Search) {
+        return Err(PeekFault::Err(Errno::EACCES));
+    }
+    let copy = Bytes::copy(alloc, front(bytes, n))?;
+    Ok(copy)
+}
+
+/// So many bytes at the front, or all of fewer.
+fn front(bytes: &[u8], n: u32) -> &[u8]
+    ensures { result.now ≡ take n bytes.now }
+{
+    let end = bytes.len().min(n as usize);
+    &bytes[..end]
+}

@@ -1,0 +1,145 @@
+//! The program that runs in the end.
+ghost use Rattle.std.specs.Prelude.{◌≡◌, ◌≤◌, ◌<◌, length, false, true, IfOk, MatchOption};
+ghost use Rattle.pt_bind.specs.Binding.{IsWritten};
+ghost use Rattle.pt_canon.specs.Canon.{IsAnswer, texts_by};
+ghost use Rattle.kr_calls.specs.Expansion.{bytes_with_ends};
+ghost use Rattle.kr_exec.specs.Exec.{are_too_big};
+ghost use Rattle.kr_first.specs.Starting.{path_errno};
+ghost use Rattle.pt_first.specs.GuestStart.{base_of, handed, if_short, run_from, run_with};
+
+use crate::directory::{ROOT, canon_from, is_walked};
+use pr_base::{Bytes, Errno, Peeks, Texts, components};
+use pt_bind::Tags;
+use pt_canon::{Canon, WalkErr, Walker};
+use pt_script::{Expanded, bytes_within, expand_from, is_too_big, program_from};
+use std::alloc::Global;
+
+/// How many bytes a path has at most.
+const MOST_BYTES_OF_PATHS: usize = 4095;
+
+/// The most texts of an environment.
+const MOST_TEXTS: usize = 4096;
+
+/// The most bytes of the arguments and of the environment, with an end for each text.
+const MOST_BYTES: usize = 131_072;
+
+/// Why a path isn't walked: ENOENT of an empty one, and ENAMETOOLONG of another.
+fn path_errno(path: &[u8]) -> Errno
+    ensures { result ≡ path_errno path.now }
+{
+    if path.is_empty() {
+        Errno::ENOENT
+    } else {
+        Errno::ENAMETOOLONG
+    }
+}
+
+/// The guest text from which a path is taken.
+fn base_of<'a>(working: &'a [u8], path: &[u8]) -> &'a [u8]
+    requires { IsWritten working.now }
+    ensures base { result.now ≡ base_of working.now path.now }
+    ensures written { IsWritten result.now }
+{
+    if components(path).absolute() {
+        ROOT
+    } else {
+        working
+    }
+}
+
+/// Where a path leads, if its host text isn't longer than a path may be.
+fn handed<K: Peeks>(
+    kernel: &mut K,
+    walker: &mut Walker,
+    tags: &Tags,
+    working: &[u8],
+    path: &[u8],
+) -> Result<Canon, WalkErr>
+    requires { IsWritten working.now }
+    ensures answer { IsAnswer (handed (texts_by walker.old (K.peeked kernel.old) tags.now) working.now path.now) result }
+    ensures walker { walker.new ≡ walker.old }
+    ensures same { K.peeked kernel.new ≡ K.peeked kernel.old }
+    ensures rest { K.kept kernel.new ≡ K.kept kernel.old }
+{
+    let canon = canon_from(kernel, walker, tags, path, base_of(working, path))?;
+    if canon.host.len() > MOST_BYTES_OF_PATHS {
+        return Err(WalkErr::Err(Errno::ENAMETOOLONG));
+    }
+    Ok(canon)
+}
+
+/// How many bytes an environment has with its ends; `None` exactly where it and the arguments are more than a program may be given.
+fn env_bytes(args: &Texts, env: &Texts) -> Option<u32>
+    ensures { MatchOption result (are_too_big args.now env.now ≡ true) (λ n. (n ≡ bytes_with_ends env.now) × (are_too_big args.now env.now ≡ false)) }
+{
+    if env.len() > MOST_TEXTS {
+        return None;
+    }
+    let bytes = bytes_within(env, MOST_BYTES)? as u32;
+    if is_too_big(args, bytes) {
+        None
+    } else {
+        Some(bytes)
+    }
+}
+
+/// The program that runs in the end for a path that is walked, with its arguments.
+fn run_with<K: Peeks>(
+    alloc: Global,
+    kernel: &mut K,
+    walker: &mut Walker,
+    tags: &Tags,
+    working: &[u8],
+    args: Texts,
+    env: &Texts,
+    path: &[u8],
+) -> Result<Expanded, WalkErr>
+    requires { IsWritten working.now }
+    ensures answer { IsAnswer (run_with (texts_by walker.old (K.peeked kernel.old) tags.now) working.now args env.now path.now) result }
+    ensures walker { walker.new ≡ walker.old }
+    ensures same { K.peeked kernel.new ≡ K.peeked kernel.old }
+    ensures rest { K.kept kernel.new ≡ K.kept kernel.old }
+{
+    match env_bytes(&args, env) {
+        Some(env_bytes) => expand_from(
+            alloc,
+            kernel,
+            walker,
+            tags,
+            Some(working),
+            path,
+            args,
+            env_bytes,
+        ),
+        None => {
+            let _program = program_from(alloc, kernel, walker, tags, Some(working), path)?;
+            Err(WalkErr::Err(Errno::E2BIG))
+        }
+    }
+}
+
+/// The program that runs in the end for a path, with its arguments. The errors come in this order: ENOENT of an empty path and
+/// ENAMETOOLONG of one with more than 4,095 bytes, those of its walk, ENAMETOOLONG of a host text that is longer, EACCES where no
+/// file stands there that the user may execute, E2BIG of the lists, and those of scripts.
+pub(crate) fn run_from<K: Peeks>(
+    alloc: Global,
+    kernel: &mut K,
+    walker: &mut Walker,
+    tags: &Tags,
+    working: &[u8],
+    args: Texts,
+    env: &Texts,
+    path: &[u8],
+) -> Result<Expanded, WalkErr>
+    requires { IsWritten working.now }
+    ensures answer { IsAnswer (run_from (texts_by walker.old (K.peeked kernel.old) tags.now) working.now args env.now path.now) result }
+    ensures walker { walker.new ≡ walker.old }
+    ensures same { K.peeked kernel.new ≡ K.peeked kernel.old }
+    ensures rest { K.kept kernel.new ≡ K.kept kernel.old }
+{
+    if !is_walked(path) {
+        return Err(WalkErr::Err(path_errno(path)));
+    }
+    let _canon = handed(kernel, walker, tags, working, path)?;
+    run_with(alloc, kernel, walker, tags, working, args, env, path)
+}

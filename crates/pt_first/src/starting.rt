@@ -1,0 +1,156 @@
+//! The start.
+ghost use Rattle.std.specs.Prelude.{◌≡◌, IfOk, OnOk};
+ghost use Rattle.pt_bind.specs.Binding.{IsWritten, rows_of};
+ghost use Rattle.pt_canon.specs.Canon.{IsAnswer, texts_by};
+ghost use Rattle.pt_first.specs.FirstPeeks.{first_peeked};
+ghost use Rattle.pt_first.specs.GuestStart.{IsBegun, begun, guest_start, tagged};
+
+use crate::begun::Begun;
+use crate::command::choose;
+use crate::directory::working_directory;
+use crate::peeks::FirstPeeks;
+use crate::program::run_from;
+use kr_first::{First, StartFault};
+use kr_tree::{Tree, User};
+use kr_view::Reach;
+use pr_base::{Errno, NoMemory, Peeks, Texts};
+use pr_command::{Launch, arguments, word_of};
+use pt_bind::{Table, Tags};
+use pt_canon::{WalkErr, Walker};
+use pt_script::Expanded;
+use std::alloc::Global;
+
+/// The number of the first process.
+const FIRST: u32 = 2;
+
+/// Nothing was reached yet.
+const NOWHERE: Reach = Reach {
+    longest: 0,
+    met_proc: false,
+};
+
+/// The first process of a launch, by what a kernel tells before a process lives, and its tags. A command without a slash is the first program
+/// of that name in the directories of PATH, ENOENT where there is none; else the errors are those of execve(2) of a process in the
+/// working directory, and no tag is set.
+pub fn first_by<K: Peeks>(
+    alloc: Global,
+    kernel: &mut K,
+    walker: &mut Walker,
+    tags: &mut Tags,
+    launch: Launch,
+) -> Result<First, StartFault>
+    ensures begins { IsBegun (guest_start (texts_by walker.old (K.peeked kernel.old) tags.old) launch) tags.old tags.new result }
+    ensures walker { walker.new ≡ walker.old }
+    ensures same { K.peeked kernel.new ≡ K.peeked kernel.old }
+    ensures rest { K.kept kernel.new ≡ K.kept kernel.old }
+{
+    match begin(alloc, kernel, walker, tags, launch) {
+        Ok(begun) => match note(tags, &begun) {
+            Ok(()) => Ok(begun.first),
+            Err(_no_memory) => Err(StartFault::NoMemory),
+        },
+        Err(WalkErr::Err(errno)) => Err(StartFault::Err(errno)),
+        Err(WalkErr::NoMemory) => Err(StartFault::NoMemory),
+    }
+}
+
+/// The first process of a launch over a tree in which no process lives, in the name of a user, and its tags. The errors are those of
+/// `first_by`.
+pub fn first(
+    alloc: Global,
+    walker: &mut Walker,
+    tags: &mut Tags,
+    tree: &Tree,
+    user: User,
+    launch: Launch,
+) -> Result<First, StartFault>
+    ensures begins { IsBegun (guest_start (texts_by walker.old (first_peeked tree.now user) tags.old) launch) tags.old tags.new result }
+    ensures walker { walker.new ≡ walker.old }
+{
+    let mut kernel = FirstPeeks::new(alloc, tree, user);
+    first_by(alloc, &mut kernel, walker, tags, launch)
+}
+
+/// Sets the tags of the first process. Where memory is wanting a part of them may be set.
+fn note(tags: &mut Tags, begun: &Begun) -> Result<(), NoMemory>
+    ensures { OnOk result (tags.new ≡ tagged tags.old begun.now) }
+{
+    tags.set_cwd(FIRST, begun.cwd)?;
+    tags.set_exe(FIRST, begun.exe)
+}
+
+/// What begins.
+fn begin<K: Peeks>(
+    alloc: Global,
+    kernel: &mut K,
+    walker: &mut Walker,
+    tags: &Tags,
+    launch: Launch,
+) -> Result<Begun, WalkErr>
+    ensures answer { IsAnswer (guest_start (texts_by walker.old (K.peeked kernel.old) tags.now) launch) result }
+    ensures walker { walker.new ≡ walker.old }
+    ensures same { K.peeked kernel.new ≡ K.peeked kernel.old }
+    ensures rest { K.kept kernel.new ≡ K.kept kernel.old }
+{
+    let Launch {
+        command,
+        env,
+        cwd,
+        ids,
+    } = launch;
+    let working = working_directory(alloc, kernel, walker, tags, cwd.as_slice())?;
+    let working = working.as_slice();
+    let Some(path) = choose(
+        alloc,
+        kernel,
+        walker,
+        tags,
+        working,
+        &env,
+        word_of(&command),
+    )?
+    else {
+        return Err(WalkErr::Err(Errno::ENOENT));
+    };
+    let args = arguments(alloc, command)?;
+    let program = run_from(
+        alloc,
+        kernel,
+        walker,
+        tags,
+        working,
+        args,
+        &env,
+        path.as_slice(),
+    )?;
+    let begun = begun(walker.table(), env, ids, working, program)?;
+    Ok(begun)
+}
+
+/// What begins with a program in a working directory.
+fn begun(
+    table: &Table,
+    env: Texts,
+    ids: (u32, u32),
+    working: &[u8],
+    program: Expanded,
+) -> Result<Begun, NoMemory>
+    requires { IsWritten working.now }
+    ensures { IfOk result (λ b. b ≡ begun (rows_of table.now) env ids working.now program) }
+{
+    let cwd = table.host_of(working)?;
+    let (uid, gid) = ids;
+    let first = First {
+        path: program.host,
+        args: program.args,
+        env,
+        cwd,
+        ids: [uid, uid, gid, gid],
+        reach: NOWHERE,
+    };
+    Ok(Begun {
+        first,
+        cwd: table.index_of(working),
+        exe: program.index,
+    })
+}

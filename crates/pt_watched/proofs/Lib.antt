@@ -1,0 +1,5 @@
+mod EntryLemmas
+mod PlanLemmas
+mod PokeLemmas
+mod ShelfLemmas
+mod WatchedLemmas

@@ -1,0 +1,6 @@
+pub mod Answering
+pub mod Planning
+pub mod Poking
+pub mod Registers
+pub mod ScriptEdit
+pub mod Watched
