@@ -2,7 +2,7 @@
 #ifndef CALLS_H
 #define CALLS_H
 
-enum { HERE = -100, READ_ONLY = 0, WRITE_NEW = 01101, CHILD_ENDED = 17 };
+enum { HERE = -100, READ_ONLY = 0, WRITE_NEW = 01101, A_DIRECTORY = 0200000, CHILD_ENDED = 17 };
 
 static inline long call(long number, long a, long b, long c, long d, long e)
 {
@@ -18,11 +18,15 @@ static inline long call(long number, long a, long b, long c, long d, long e)
 
 static inline long dup3(int old, int new, int flags) { return call(24, old, new, flags, 0, 0); }
 static inline long chdir(const char *path) { return call(49, (long)path, 0, 0, 0, 0); }
+static inline long chmod(const char *path, int mode) { return call(53, HERE, (long)path, mode, 0, 0); }
+static inline long chown(const char *path, int user, int group) { return call(54, HERE, (long)path, user, group, 0); }
 static inline long open(const char *path, int flags, int mode) { return call(56, HERE, (long)path, flags, mode, 0); }
 static inline long close(int fd) { return call(57, fd, 0, 0, 0, 0); }
 static inline long pipe2(int *ends, int flags) { return call(59, (long)ends, flags, 0, 0, 0); }
+static inline long getdents64(int fd, void *bytes, long n) { return call(61, fd, (long)bytes, n, 0, 0); }
 static inline long read(int fd, void *bytes, long n) { return call(63, fd, (long)bytes, n, 0, 0); }
 static inline long write(int fd, const void *bytes, long n) { return call(64, fd, (long)bytes, n, 0, 0); }
+static inline long getuid(void) { return call(174, 0, 0, 0, 0, 0); }
 static inline long fork(void) { return call(220, CHILD_ENDED, 0, 0, 0, 0); }
 static inline long execve(const char *path, char **words, char **env) { return call(221, (long)path, (long)words, (long)env, 0, 0); }
 static inline long wait4(int pid, int *status, int flags) { return call(260, pid, (long)status, flags, 0, 0); }
