@@ -26,9 +26,7 @@ use Rattle.kr_paths.specs.CallWalks.{AreTargets}
 use Rattle.kr_paths.specs.declared.walks.Targets.{Targets}
 use Rattle.kr_answers.specs.Carrying.{IsCarriedOut}
 use Rattle.kr_answers.proofs.CarryLemmas.{by-refusal}
-use Rattle.kr_resolved.specs.Resolving.{AreTexts}
-use Rattle.kr_perform.specs.Operating.{HasNumbers, OperatesAt, mounts_at, placed_targets}
-use Rattle.kr_perform.specs.Lawful.{LastsLawful}
+use Rattle.kr_walked.specs.Operated.{AreTexts, HasNumbers, OperatesAt, mounts_at, placed_targets, LastsLawful}
 use Rattle.kr_calling.specs.Calling.{IsCalled, MayCall, Runs}
 use Rattle.kr_calling.proofs.RefusedLemmas.{walk-refuses}
 use Rattle.kr_calling.proofs.ToldLemmas.{mounts-told, told-placed}

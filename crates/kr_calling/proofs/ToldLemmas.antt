@@ -15,8 +15,7 @@ use Rattle.kr_model.specs.Seen.{Seen, NoPath}
 use Rattle.kr_model.specs.State.{State}
 use Rattle.kr_model.specs.Walks.{Targets, told, mounts_of, opened_at}
 use Rattle.kr_paths.specs.CallWalks.{IsTold}
-use Rattle.kr_targets.specs.Placed.{placed}
-use Rattle.kr_perform.specs.Operating.{mounts_at, placed_targets}
+use Rattle.kr_walked.specs.Operated.{placed, mounts_at, placed_targets}
 use Rattle.kr_calling.specs.Calling.{mounts_numbered}
 
 -- without whether it was jumped to, which no call is told

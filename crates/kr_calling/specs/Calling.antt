@@ -13,7 +13,7 @@ use Rattle.kr_ops.specs.Meaning.{meaning}
 use Rattle.kr_ops.specs.Sound.{IsServed}
 use Rattle.kr_procview.specs.Numbered.{state_numbered}
 use Rattle.kr_answers.specs.Carrying.{IsCarriedOut}
-use Rattle.kr_perform.specs.Lawful.{LastsLawful}
+use Rattle.kr_walked.specs.Operated.{LastsLawful}
 
 -- mounts by their numbers in a view
 abbrev pub mounts_numbered : {T : Type 0} → (T → ℕ) → Mounts T → Mounts ℕ

@@ -10,7 +10,7 @@ ghost use Rattle.kr_ops.specs.Sound.{IsSound};
 ghost use Rattle.kr_procview.specs.Numbered.{state_numbered};
 ghost use Rattle.kr_model.specs.Walks.{targets_of};
 ghost use Rattle.kr_paths.specs.CallWalks.{call_reach, AreTargets};
-ghost use Rattle.kr_perform.specs.Operating.{IsNoExec};
+ghost use Rattle.kr_walked.specs.Operated.{IsNoExec};
 ghost use Rattle.kr_calling.specs.Calling.{IsCalled, MayCall, Runs};
 
 use kr_answers::refused;
@@ -19,8 +19,8 @@ use kr_model::Outcome;
 use kr_ops::State;
 use kr_ops::laws::lawful_states_are_sound;
 use kr_paths::{Targets, walk_paths};
-use kr_perform::perform;
 use kr_view::{Places, Reach, WalkFault};
+use kr_walked::perform;
 use rv_mem::Use;
 use std::alloc::Global;
 

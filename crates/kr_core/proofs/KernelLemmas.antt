@@ -14,8 +14,7 @@ use Rattle.kr_ops.specs.Meaning.{meaning}
 use Rattle.kr_procview.specs.Numbered.{process_numbered, state_numbered}
 use Rattle.kr_numbered.proofs.LookLemmas.{known-numbered, process-numbered}
 use Rattle.kr_numbered.proofs.StepLemmas.{passing-numbered}
-use Rattle.kr_calling.specs.Calling.{Runs}
-use Rattle.kr_steps.specs.Waiting.{goes_on, picked_process, ready_processes, still_waits}
+use Rattle.kr_turns.specs.Steps.{Runs, goes_on, picked_process, ready_processes, still_waits}
 use Rattle.kr_turns.proofs.NumberLemmas.{picked-process-numbered}
 
 -- ---- the process that is picked

@@ -7,9 +7,8 @@ use Rattle.kr_model.specs.State as model
 use Rattle.kr_model.specs.State.{Image, Process}
 use Rattle.kr_allowed.specs.Told.{SourcesAreNamed}
 use Rattle.kr_ops.specs.declared.state.State.{State}
-use Rattle.kr_calling.specs.Calling.{Runs}
+use Rattle.kr_turns.specs.Steps.{Runs, picked_process}
 use Rattle.kr_calm.specs.Calm.{broken_at_start}
-use Rattle.kr_steps.specs.Waiting.{picked_process}
 use Rattle.kr_first.specs.declared.starting.StartFault.{StartFault}
 use Rattle.kr_first.specs.declared.starting.StartFault.TheVariants as fault
 use Rattle.kr_turns.specs.Making.{machine_of}

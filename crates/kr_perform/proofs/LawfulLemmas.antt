@@ -1,4 +1,8 @@
 -- What calls leave of lawful states.
+pub use Rattle.kr_resolved.proofs.AroundLemmas.{lead_to_places}
+pub use Rattle.kr_resolved.proofs.NamingLemmas.{walks_name}
+pub use Rattle.kr_resolved.proofs.NumberedLemmas.{lawful_numbered}
+pub use Rattle.kr_resolved.proofs.ResolveLemmas.{walks_resolve}
 use Rattle.std.proofs.Common.{◌≡◌, ℕ, suc, Option, sym, ap, subst, ◌∙◌, arith}
 use Rattle.std.specs.Option.{option_map_or}
 use Rattle.rv_mem.specs.Actions.{carried_out}

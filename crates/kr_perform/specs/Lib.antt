@@ -1,2 +1,3 @@
 pub mod Operating
 pub mod Lawful
+pub mod Resolved

@@ -1,4 +1,6 @@
 -- What instructions of a process leave of a state.
+pub use Rattle.kr_calling.proofs.CallLemmas.{refused-call, runs-later}
+pub use Rattle.kr_calling.proofs.RefusedLemmas.{walk-refuses}
 use Rattle.std.specs.FinMap as map
 use Rattle.std.proofs.Common.{◌≡◌, ◌+◌, ◌<◌, ◌^◌, ℕ, zero, suc, Bool, cond, List, get_or, Some, None, Option, refl, sym, ap, subst, ◌∙◌, arith}
 use Rattle.std.specs.Prelude.{Result, Ok, Err, IfOk, IfSome, OnOk}
@@ -40,7 +42,7 @@ use Rattle.kr_ops.specs.Sound.{IsServed, IsSound}
 use Rattle.kr_ops.proofs.ChangeLemmas.{one-changed}
 use Rattle.kr_ops.proofs.OpeningLemmas.{found}
 use Rattle.kr_ops.proofs.ServeLemmas.{kept-names, room-set}
-use Rattle.kr_perform.specs.Lawful.{LastsLawful}
+use Rattle.kr_calling.specs.Operated.{LastsLawful}
 use Rattle.kr_calling.specs.Calling.{Runs}
 use Rattle.kr_steps.specs.Answering.{going}
 use Rattle.kr_steps.specs.Computing.{Computes, Requests, computed}

@@ -13,7 +13,7 @@ use Rattle.kr_ops.specs.Making.{Makes}
 use Rattle.kr_ops.specs.Meaning.{meaning}
 use Rattle.kr_ops.specs.Sound.{IsServed}
 use Rattle.kr_ops.specs.declared.state.State.{State}
-use Rattle.kr_perform.specs.Lawful.{LastsLawful}
+use Rattle.kr_calling.specs.Operated.{LastsLawful}
 use Rattle.kr_calling.specs.Calling.{Runs}
 
 pub ended-runs : {T : Type 0} {M : ℕ} (number : T → ℕ) (table : List Row) (pid status calls : ℕ) (old new : State T M) → IsSome (process pid (meaning old)) → Makes pid (End status) old new → IsServed new

@@ -35,7 +35,7 @@ use Rattle.kr_numbered.proofs.TableLemmas.{file-numbered}
 use Rattle.kr_answers.specs.Carrying.{memory_of, with_memory_of}
 use Rattle.kr_allowed.specs.Told.{mounts_walked}
 use Rattle.kr_paths.specs.CallWalks.{call_reach}
-use Rattle.kr_calling.proofs.RefusedLemmas.{walk-refuses}
+use Rattle.kr_steps.proofs.ComputingLemmas.{walk-refuses}
 use Rattle.kr_calm.specs.Calm.{Asked, Course, asked_breaks_2, broken_by, kept}
 use Rattle.kr_calm.specs.InUse.{any_opened_below, is_directory_of, is_in_use, open_directory, passes_at, process_uses}
 use Rattle.kr_calm.specs.Questions.{HaveRealPoints}

@@ -16,7 +16,7 @@ use Rattle.kr_ops.specs.declared.state.State.{State}
 use Rattle.kr_ops.specs.Living.{HasPid}
 use Rattle.kr_ops.specs.Meaning.{meaning, process_meaning}
 use Rattle.kr_ops.specs.Sound.{IsSound}
-use Rattle.kr_calling.specs.Calling.{Runs}
+use Rattle.kr_steps.specs.Calls.{Runs}
 use Rattle.kr_steps.specs.Computing.{computed}
 use Rattle.kr_steps.proofs.ComputingLemmas.{changed_at, image-means, image-runs, lives-at}
 use Rattle.kr_turns.specs.Stopped.{image_in, no_image}

@@ -30,8 +30,7 @@ use Rattle.kr_answers.specs.Carrying.{after_row, carried, memory_of, no_memory, 
 use Rattle.kr_answers.proofs.CarryLemmas.{own-memory}
 use Rattle.kr_paths.specs.CallWalks.{AreTargets}
 use Rattle.kr_paths.specs.declared.walks.Targets.{Targets as Told}
-use Rattle.kr_perform.specs.Lawful.{LastsLawful}
-use Rattle.kr_calling.specs.Calling.{IsCalled, Runs}
+use Rattle.kr_steps.specs.Calls.{LastsLawful, IsCalled, Runs}
 use Rattle.kr_calm.specs.Noted.{IsNoted, is_read, kills, noted}
 use Rattle.kr_turns.specs.Noting.{IsNotedOrSame}
 

@@ -29,9 +29,8 @@ use Rattle.kr_ops.specs.Meaning.{meaning}
 use Rattle.kr_procview.specs.Numbered.{process_numbered, state_numbered}
 use Rattle.kr_answers.specs.Carrying.{after_row, carried, memory_of, with_memory_of}
 use Rattle.kr_paths.specs.CallWalks.{call_reach}
-use Rattle.kr_perform.specs.Operating.{IsNoExec}
-use Rattle.kr_calling.specs.Calling.{IsCalled}
-use Rattle.kr_calling.proofs.CallLemmas.{refused-call}
+use Rattle.kr_steps.specs.Calls.{IsNoExec, IsCalled}
+use Rattle.kr_steps.proofs.ComputingLemmas.{refused-call}
 use Rattle.kr_execve.specs.Execution.{Program, after_execution, changes_of, execution, execution_reach, mount_of}
 use Rattle.kr_execve.specs.Executing.{IsExecuted, done}
 use Rattle.kr_steps.specs.Answering.{answered, resumed}

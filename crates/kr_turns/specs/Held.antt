@@ -7,7 +7,7 @@ use Rattle.kr_model.specs.State.{process}
 use Rattle.kr_ops.specs.declared.state.State.{State}
 use Rattle.kr_ops.specs.Meaning.{meaning}
 use Rattle.kr_procview.specs.Numbered.{state_numbered}
-use Rattle.kr_calling.specs.Calling.{Runs}
+use Rattle.kr_steps.specs.Calls.{Runs}
 use Rattle.kr_turns.specs.Stopped.{Stopped}
 
 -- the process of a number in a state of the code

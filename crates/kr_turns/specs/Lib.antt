@@ -13,3 +13,4 @@ pub mod Turn
 pub mod Making
 pub mod Run
 pub mod Laws
+pub mod Steps

@@ -2,7 +2,7 @@
 ghost use Rattle.std.specs.Prelude.{◌≡◌, ◌<◌, ◌↔◌, ℕ, List, IsErrOf, IsOk, IsSome, IsTrue, length, OnErr, OnOk, false, get_or, slice_set};
 ghost use Rattle.rv_mem.specs.Memory.{after_read, with_pages};
 ghost use Rattle.rv_mem.specs.Pages.{allows_all, bytes_from, written};
-ghost use Rattle.kr_calling.specs.Calling.{Runs};
+ghost use Rattle.kr_steps.specs.Calls.{Runs};
 ghost use Rattle.kr_model.specs.State.{process};
 ghost use Rattle.kr_ops.specs.Meaning.{meaning};
 ghost use Rattle.kr_ops.specs.Sound.{IsSound};

@@ -1,7 +1,7 @@
 //! A process at a stop, in the state of its kernel.
 ghost use Rattle.std.specs.Prelude.{◌≡◌, ◌≤◌, ◌^◌, IsSome, refl};
 ghost use Rattle.pr_base.specs.Peeks.{NamesAreTexts};
-ghost use Rattle.kr_calling.specs.Calling.{Runs};
+ghost use Rattle.kr_steps.specs.Calls.{Runs};
 ghost use Rattle.kr_model.specs.Peeks.{peeked_of};
 ghost use Rattle.kr_model.specs.State.{process};
 ghost use Rattle.kr_ops.specs.Meaning.{meaning};

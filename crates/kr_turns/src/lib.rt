@@ -11,6 +11,7 @@ mod stops;
 mod tracee;
 mod turn;
 
+pub use kr_steps::{picked, ready};
 pub use plain::{CallEnd, Plain, plain_call};
 pub use stops::{Stops, Unwatched};
 pub use tracee::Tracee;

@@ -4,7 +4,7 @@ ghost use Rattle.kr_allowed.specs.Calls.{HasTextPaths, IsGivable};
 ghost use Rattle.kr_allowed.specs.Told.{SourcesAreNamed};
 ghost use Rattle.kr_answers.specs.Carrying.{memory_of};
 ghost use Rattle.kr_turns.specs.Breaking.{nothing_reached, plain_rule, requested_rule, rule_told};
-ghost use Rattle.kr_calling.specs.Calling.{MayCall, Runs};
+ghost use Rattle.kr_steps.specs.Calls.{MayCall, Runs, IsNoExec};
 ghost use Rattle.kr_lasting.specs.Texts.{IsText};
 ghost use Rattle.kr_model.specs.State.{process};
 ghost use Rattle.kr_model.specs.Walks.{targets_of};
@@ -12,7 +12,6 @@ ghost use Rattle.kr_model.specs.declared.outcome.Outcome.TheVariants.{NoMemory a
 ghost use Rattle.kr_ops.specs.Meaning.{meaning};
 ghost use Rattle.kr_ops.specs.Sound.{IsSound};
 ghost use Rattle.kr_paths.specs.CallWalks.{AreTargets};
-ghost use Rattle.kr_perform.specs.Operating.{IsNoExec};
 ghost use Rattle.kr_procview.specs.Numbered.{state_numbered};
 ghost use Rattle.kr_tree.specs.Lawful.{AreBytes};
 ghost use Rattle.kr_steps.specs.Settling.{settled};
@@ -24,14 +23,13 @@ ghost use Rattle.kr_turns.specs.PlainCall.{child_of, end_of, executed, leads_to_
 ghost use Rattle.kr_calls.specs.declared.request.Request.TheVariants.{Execve as ExecveRequest};
 
 use crate::judging::{NOTHING, idle_rule, judge_call, look_ahead, rule_of};
-use kr_calling::carry_out_along;
 use kr_calls::{CallFault, Request};
 use kr_execve::{Executed, execute};
 use kr_model::Outcome;
 use kr_ops::State;
 use kr_ops::laws::lawful_states_are_sound;
 use kr_paths::{Targets, walk_paths};
-use kr_steps::{answer, request, resume, stay};
+use kr_steps::{answer, carry_out_along, request, resume, stay};
 use kr_tree::Place;
 use kr_view::{Places, Reach, WalkFault};
 use pr_base::{Errno, NoMemory};

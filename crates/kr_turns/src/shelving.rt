@@ -1,6 +1,6 @@
 //! The shelf of a call, in the state of its kernel.
 ghost use Rattle.std.specs.Prelude.{◌≡◌, ℕ, List, IsSome};
-ghost use Rattle.kr_calling.specs.Calling.{Runs};
+ghost use Rattle.kr_steps.specs.Calls.{Runs};
 ghost use Rattle.kr_model.specs.State.{process};
 ghost use Rattle.kr_ops.specs.Meaning.{meaning};
 ghost use Rattle.kr_ops.specs.Sound.{IsSound};

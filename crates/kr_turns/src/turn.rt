@@ -1,7 +1,7 @@
 //! A turn of a process.
 ghost use Rattle.std.specs.Prelude.{◌<◌, ◌^◌, ◌+◌, ℕ, suc, false, length, IfOk, IfSome, IsSome, OnOk};
 ghost use Rattle.kr_allowed.specs.Told.{SourcesAreNamed};
-ghost use Rattle.kr_calling.specs.Calling.{Runs};
+ghost use Rattle.kr_steps.specs.Calls.{Runs};
 ghost use Rattle.kr_model.specs.State.{process};
 ghost use Rattle.kr_ops.specs.Meaning.{meaning};
 ghost use Rattle.kr_turns.specs.Making.{ComesOut, IsCallMade, IsLeft, IsTurnMade, watching};

@@ -1,4 +1,5 @@
 -- What a call is told of the targets to which its walks lead over a lawful state is so.
+pub use Rattle.kr_perform.proofs.LawfulLemmas.{performed-last, walks_resolve}
 use Rattle.std.proofs.Common.{◌≡◌, ℕ, List, Option, Some, ap, subst, ◌∙◌}
 use Rattle.std.specs.Option.{option_map}
 use Rattle.kr_calls.specs.declared.request.Request.{Request}
@@ -18,9 +19,7 @@ use Rattle.kr_ops.specs.Meaning.{meaning}
 use Rattle.kr_procview.specs.Numbered.{state_numbered}
 use Rattle.kr_paths.specs.CallWalks.{IsTold}
 use Rattle.kr_targets.specs.Placed.{placed, placed_in}
-use Rattle.kr_resolved.proofs.AroundLemmas.{lead_to_places}
-use Rattle.kr_resolved.proofs.NamingLemmas.{walks_name}
-use Rattle.kr_resolved.proofs.NumberedLemmas.{lawful_numbered}
+use Rattle.kr_perform.proofs.LawfulLemmas.{lawful_numbered, lead_to_places, walks_name}
 use Rattle.kr_perform.specs.Operating.{mounts_at, placed_targets}
 use Rattle.kr_walked.specs.Walked.{ResolvedAreTold}
 use Rattle.kr_walked.proofs.MountLemmas.{directory_mount, found_mount, told_in}

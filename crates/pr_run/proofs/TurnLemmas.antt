@@ -2,7 +2,7 @@
 use Rattle.std.proofs.Common.{◌≡◌, inr, ℕ, Bool, List, [], ◌∷◌, Option, Some, None, refl, subst, slice_get}
 use Rattle.std.specs.List.{filter}
 use Rattle.kr_model.specs.State.{Image, Process}
-use Rattle.kr_steps.specs.Waiting.{goes_on, picked_process}
+use Rattle.kr_turns.specs.Steps.{goes_on, picked_process}
 use Rattle.kr_core.specs.Kernel.{Clears, Kernel, machine}
 use Rattle.kr_turns.specs.Run.{Deadlock, Ending, Over, Put, after_put, ending_of, if_any}
 use Rattle.kr_turns.specs.Turn.{Machine}

@@ -3,7 +3,8 @@ use Rattle.std.specs.Prelude.{ℕ, Bool, List, [], ◌∷◌, ◌++◌, codes, O
 use Rattle.std.specs.Option.{option_map_or}
 use Rattle.std.specs.Fmt.{decimal}
 use Rattle.kr_text.specs.Canonical.{canonical}
-use Rattle.kr_turns.specs.Run.{Deadlock, Ending, Over, Put, Ran, Spent, ending_of}
+pub use Rattle.kr_turns.specs.Run.{Deadlock, Ending, Over, Spent}
+use Rattle.kr_turns.specs.Run.{Put, Ran, ending_of}
 use Rattle.kr_turns.specs.Turn.{Machine}
 use Rattle.pr_answer.specs.declared.answer.Answer.{Answer}
 use Rattle.pr_answer.specs.declared.answer.Answer.TheVariants as answer

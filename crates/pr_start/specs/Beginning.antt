@@ -12,7 +12,7 @@ use Rattle.kr_first.specs.declared.starting.First.{First}
 use Rattle.kr_first.specs.declared.starting.StartFault.{StartFault}
 use Rattle.kr_first.specs.declared.starting.StartFault.TheVariants as fault
 use Rattle.kr_first.specs.Starting.{start_of, start_reach}
-use Rattle.kr_turns.specs.Turn.{Machine}
+use Rattle.kr_core.specs.Runs.{Machine}
 use Rattle.kr_core.specs.Kernel as kernel
 use Rattle.kr_core.specs.Kernel.{first_rule, machine}
 use Rattle.kr_mounts.specs.declared.mount.Mount.{Mount}

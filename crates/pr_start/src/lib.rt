@@ -5,4 +5,6 @@ mod command;
 mod directory;
 mod starting;
 
+pub use kr_core::Kernel;
+pub use pr_watch::{Faker, Watch};
 pub use starting::start;

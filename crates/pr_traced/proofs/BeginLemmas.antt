@@ -12,7 +12,7 @@ use Rattle.kr_model.specs.State.{Image, State}
 use Rattle.kr_model.specs.Walks.{and_then}
 use Rattle.kr_first.specs.declared.starting.StartFault.{StartFault}
 use Rattle.kr_first.specs.declared.starting.StartFault.TheVariants as fault
-use Rattle.kr_turns.specs.Turn.{Machine}
+use Rattle.kr_core.specs.Runs.{Machine}
 use Rattle.kr_core.specs.Kernel.{Kernel, Starts, machine}
 use Rattle.pt_watched.specs.Watched.{Tracing}
 use Rattle.pt_watched.specs.declared.tracer.Tracer.{Tracer}

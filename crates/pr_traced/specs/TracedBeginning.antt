@@ -14,7 +14,7 @@ use Rattle.kr_model.specs.Walks.{and_then}
 use Rattle.kr_first.specs.Starting.{start_of}
 use Rattle.kr_first.specs.declared.starting.StartFault.{StartFault}
 use Rattle.kr_first.specs.declared.starting.StartFault.TheVariants as fault
-use Rattle.kr_turns.specs.Turn.{Machine}
+use Rattle.kr_core.specs.Runs.{Machine}
 use Rattle.kr_core.specs.Kernel as kernel
 use Rattle.kr_core.specs.Kernel.{machine}
 use Rattle.pt_canon.specs.TextWalk.{TextSurroundings}
@@ -22,7 +22,8 @@ use Rattle.pt_first.specs.FirstPeeks.{first_peeked}
 use Rattle.pt_first.specs.GuestStart.{guest_start, tagged}
 use Rattle.pt_first.specs.declared.begun.Begun.{Begun}
 use Rattle.pr_command.specs.declared.launch.Launch.{Launch}
-use Rattle.pt_watched.specs.Watched.{Tracing, starting_tracing}
+use Rattle.pt_watched.specs.Watched.{starting_tracing}
+pub use Rattle.pt_watched.specs.Watched.{Tracing, tracer}
 
 -- the one mount of a plain kernel
 abbrev pub host_number : HostMount → ℕ

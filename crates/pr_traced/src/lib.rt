@@ -4,4 +4,5 @@
 
 mod starting;
 
+pub use pt_watched::Tracer;
 pub use starting::start_traced;

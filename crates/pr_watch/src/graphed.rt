@@ -1,11 +1,10 @@
 //! Watchers whose stops are functions.
 
-use kr_turns::Stops;
+use pt_tracer::Stops;
 
 /// A watcher whose stops are functions of what it keeps and of the stopped process.
 pub trait Graphed: Stops {
-    ghost use Rattle.kr_turns.specs.Making.{watching};
-    ghost use Rattle.kr_turns.specs.Watching.{IsGraph, Watcher};
+    ghost use Rattle.pt_tracer.specs.Stopping.{IsGraph, Watcher, watching};
 
     /// These functions.
     ghost does: { Watcher Self };

@@ -5,4 +5,5 @@ mod graphed;
 mod watch;
 
 pub use graphed::Graphed;
+pub use pt_tracer::Faker;
 pub use watch::Watch;

@@ -1,10 +1,9 @@
 //! Who watches on the kernel with mounts.
 
 use crate::graphed::Graphed;
-use kr_turns::{Stops, Tracee};
 use pr_base::NoMemory;
-use pt_tracer::Faker;
 use pt_tracer::laws::faker_is_its_definition;
+use pt_tracer::{Faker, Stops, Tracee};
 use pt_watched::Tracer;
 use pt_watched::laws::tracer_is_its_definition;
 

@@ -14,8 +14,7 @@ use Rattle.kr_calls.specs.declared.fault.CallFault.{CallFault}
 use Rattle.kr_calls.specs.declared.fault.CallFault.TheVariants as call
 use Rattle.kr_exec.specs.Lists.{Trying, address_at, and_then, at_least_one, if_it_fits, most_bytes, next_address}
 use Rattle.kr_exec.proofs.ListLemmas.{and_then_is, is_less, not_zero, on_reply}
-use Rattle.kr_turns.specs.Editing.{after_peek, memory_at, with_memory}
-use Rattle.kr_turns.specs.Stopped.{IsThere, Stopped}
+use Rattle.pt_tracer.specs.Stopping.{after_peek, IsThere, memory_at, Stopped, with_memory}
 use Rattle.pt_tracer.specs.Carrying.{CarriesOut}
 use Rattle.pt_tracer.proofs.AuxiliaryLemmas.{word-of}
 use Rattle.pt_tracer.proofs.StopLemmas.{memory-given, memory-twice}

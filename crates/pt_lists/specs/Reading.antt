@@ -9,7 +9,7 @@ use Rattle.kr_calls.specs.Expansion.{bytes_with_ends}
 use Rattle.kr_calls.specs.declared.fault.CallFault.{CallFault}
 use Rattle.kr_calls.specs.declared.fault.CallFault.TheVariants as call
 use Rattle.kr_exec.specs.Lists.{Trying, address_at, and_then, at_least_one, if_it_fits, most_bytes, most_texts, next_address}
-use Rattle.kr_turns.specs.Stopped.{Stopped}
+use Rattle.pt_tracer.specs.Stopping.{Stopped}
 use Rattle.pt_lists.specs.declared.lists.Handed.{Handed}
 use Rattle.pt_lists.specs.declared.lists.List.{List as ListRead}
 use Rattle.pt_tracer.specs.Carrying.{CarriesOut}

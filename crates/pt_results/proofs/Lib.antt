@@ -1,3 +1,3 @@
 mod AnswerRows
 mod LeadLemmas
-mod NoteLemmas
+pub mod NoteLemmas

@@ -71,8 +71,15 @@ entries_forget f t = decoding_again f (after_request t) (decoded_at t).reply
 
 -- ---- others
 
-identity_elsewhere : (table : IdentityTable) (pid q : ℕ) (i : Identity) → q ≢ pid → identity_at (with_identity pid i table) q ≡ identity_at table q
-identity_elsewhere table pid q i other = ap (λ o. option_map_or (λ i. i) o (starting table.uid table.gid)) (get-insert_other table.kept pid i q other)
+-- the identity that was kept, if there was one
+abbrev pub identity_or : IdentityTable → Option Identity → Identity
+identity_or table o = option_map_or (λ i. i) o (starting table.uid table.gid)
+
+pub identity_elsewhere : (table : IdentityTable) (pid q : ℕ) (i : Identity) → q ≢ pid → identity_at (with_identity pid i table) q ≡ identity_at table q
+identity_elsewhere table pid q i other = ap (identity_or table) (get-insert_other table.kept pid i q other)
+
+pub own_identity : (table : IdentityTable) (pid : ℕ) (i : Identity) → identity_at (with_identity pid i table) pid ≡ i
+own_identity table pid i = ap (identity_or table) (get-insert_same table.kept pid i)
 
 due_keeps : (pid : ℕ) (due : Option Due) (f : Faking) → (with_due pid due f).identities ≡ f.identities
 due_keeps pid None f = refl
@@ -108,6 +115,6 @@ others_stay = record {
 
 pub come_and_go : ComeAndGo
 come_and_go = record {
-  comes = λ f parent child. ap (λ o. option_map_or (λ i. i) o (starting f.identities.uid f.identities.gid)) (get-insert_same f.identities.kept child (identity_at f.identities parent));
-  goes = λ f pid. ap (λ o. option_map_or (λ i. i) o (starting f.identities.uid f.identities.gid)) (get-remove_same f.identities.kept pid);
+  comes = λ f parent child. own_identity f.identities child (identity_at f.identities parent);
+  goes = λ f pid. ap (identity_or f.identities) (get-remove_same f.identities.kept pid);
 }

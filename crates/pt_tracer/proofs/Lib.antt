@@ -2,5 +2,5 @@ mod AnswerLemmas
 pub mod AuxiliaryLemmas
 mod DecodingLemmas
 pub mod FakerLemmas
-mod FakingLemmas
+pub mod FakingLemmas
 pub mod StopLemmas

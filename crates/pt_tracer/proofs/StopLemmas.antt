@@ -1,4 +1,5 @@
 -- Edits of a stopped process, one after the other.
+pub use Rattle.kr_turns.proofs.EditLemmas.{edited-then}
 use Rattle.std.proofs.Common.{◌≡◌, ◌∙◌, ◌+◌, ◌*◌, ◌≤◌, ◌&&◌, ℕ, zero, suc, pos, Bool, true, false, List, [], ◌∷◌, length, arith, w32, Result, Ok, Err, if◌then◌else◌, refl, sym, ap, subst}
 use Rattle.std.specs.Int.{to_le_bytes}
 use Rattle.std.specs.Prelude.{IsTrue, OnOk, slice_set}

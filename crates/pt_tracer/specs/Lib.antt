@@ -2,3 +2,4 @@ pub mod Carrying
 pub mod Asking
 pub mod Faking
 pub mod FakingLaws
+pub mod Stopping

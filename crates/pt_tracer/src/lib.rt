@@ -15,3 +15,4 @@ pub use answering::answer_call;
 pub use auxiliary::show_identity;
 pub use due::Due;
 pub use faker::{Faker, due_of};
+pub use kr_turns::{Stops, Tracee};

@@ -5,8 +5,7 @@ use Rattle.std.specs.Ordering.{nat_cmp}
 use Rattle.rv_mem.specs.Actions.{carried_out}
 use Rattle.pt_bind.specs.Tags.{TagTable}
 use Rattle.kr_calls.specs.declared.request.Request.{Request}
-use Rattle.kr_turns.specs.Editing.{memory_at, with_memory}
-use Rattle.kr_turns.specs.Stopped.{Stopped}
+use Rattle.pt_tracer.specs.Stopping.{memory_at, Stopped, with_memory}
 use Rattle.pt_ident.specs.Identity.{Answered, Effect, Identity, effect, on_memory}
 use Rattle.pt_ident.specs.IdentityTable.{IdentityTable, identity_at, with_identity}
 use Rattle.pt_tracer.specs.Carrying.{AnswersAny}

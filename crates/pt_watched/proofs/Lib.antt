@@ -2,4 +2,5 @@ mod EntryLemmas
 mod PlanLemmas
 mod PokeLemmas
 mod ShelfLemmas
+mod TracerLemmas
 mod WatchedLemmas

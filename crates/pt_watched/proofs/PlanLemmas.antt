@@ -7,8 +7,7 @@ use Rattle.rv_mem.specs.Actions.{Action, carried_out}
 use Rattle.rv_mem.specs.declared.regs.Regs.{Regs}
 use Rattle.pt_bind.specs.Tags.{TagTable}
 use Rattle.kr_calls.specs.declared.request.Request.{Request}
-use Rattle.kr_turns.specs.Editing.{memory_at, with_memory}
-use Rattle.kr_turns.specs.Stopped.{IsThere, Stopped}
+use Rattle.pt_tracer.specs.Stopping.{IsThere, memory_at, Stopped, with_memory}
 use Rattle.pt_args.specs.declared.edit.Edit.{Edit}
 use Rattle.pt_lists.specs.Reading.{lists_at}
 use Rattle.pt_lists.specs.declared.lists.Handed.{Handed}

@@ -4,8 +4,7 @@ use Rattle.pr_base.specs.declared.errno.Errno.TheVariants.{EFAULT}
 use Rattle.rv_mem.specs.Memory.{Memory, with_pages}
 use Rattle.rv_mem.specs.Pages.{allows_all, written}
 use Rattle.rv_mem.specs.declared.rights.Use.TheVariants.{Write}
-use Rattle.kr_turns.specs.Editing.{after_poke, memory_at}
-use Rattle.kr_turns.specs.Stopped.{IsThere, Stopped}
+use Rattle.pt_tracer.specs.Stopping.{after_poke, IsThere, memory_at, Stopped}
 use Rattle.pt_args.specs.declared.edit.Edit.{Edit}
 use Rattle.pt_args.specs.declared.edit.Edit.TheVariants.{Emulate}
 use Rattle.pt_tracer.specs.Faking.{no_longer_called}

@@ -1,8 +1,7 @@
 -- Identities that were taken out and kept again, and what else the code does beside the definition.
 use Rattle.std.proofs.Common.{◌≡◌, ◌∙◌, ℕ, ℤ, Option, sym, ap, subst}
 use Rattle.kr_calls.specs.declared.request.Request.{Request}
-use Rattle.kr_turns.specs.Editing.{register_at}
-use Rattle.kr_turns.specs.Stopped.{Stopped}
+use Rattle.pt_tracer.specs.Stopping.{register_at, Stopped}
 use Rattle.pt_ident.specs.Identity.{Identity, after_exec, effect}
 use Rattle.pt_ident.specs.IdentityTable.{IdentityTable, after_end, identity_at, with_identity}
 use Rattle.pt_tracer.specs.Carrying.{AnswersAny, on_its_memory}

@@ -2,8 +2,7 @@
 use Rattle.std.specs.Prelude.{◌≡◌, ℕ, ℤ, Option, Some, None}
 use Rattle.std.specs.Option.{option_map}
 use Rattle.kr_calls.specs.declared.request.Request.{Request}
-use Rattle.kr_turns.specs.Editing.{register_at}
-use Rattle.kr_turns.specs.Stopped.{Stopped}
+use Rattle.pt_tracer.specs.Stopping.{register_at, Stopped}
 use Rattle.pt_ident.specs.Identity.{Identity, after_exec, effect}
 use Rattle.pt_ident.specs.IdentityTable.{IdentityTable, identity_at, starting_table, with_identity}
 use Rattle.pt_tracer.specs.Carrying.{AnswersAny, on_its_memory}

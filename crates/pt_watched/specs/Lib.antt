@@ -3,4 +3,5 @@ pub mod Planning
 pub mod Poking
 pub mod Registers
 pub mod ScriptEdit
+pub mod TracerLaws
 pub mod Watched

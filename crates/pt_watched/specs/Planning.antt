@@ -13,8 +13,7 @@ use Rattle.kr_calls.specs.PathTable.{PathUse, path_at}
 use Rattle.kr_calls.specs.declared.request.Request.{Request}
 use Rattle.kr_calls.specs.declared.request.Request.TheVariants as call
 use Rattle.kr_model.specs.Peeks.{peeked_of}
-use Rattle.kr_turns.specs.Editing.{memory_at, register_at, with_memory}
-use Rattle.kr_turns.specs.Stopped.{Stopped}
+use Rattle.pt_tracer.specs.Stopping.{memory_at, register_at, Stopped, with_memory}
 use Rattle.pt_args.specs.Edits.{edit_of}
 use Rattle.pt_args.specs.Purposes.{opens}
 use Rattle.pt_args.specs.Walks.{walked}

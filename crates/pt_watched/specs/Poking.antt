@@ -2,8 +2,7 @@
 use Rattle.std.specs.Prelude.{ℕ, ◌&&◌, Bool, true, List, [], ◌∷◌, length}
 use Rattle.rv_mem.specs.Pages.{allows_all}
 use Rattle.rv_mem.specs.declared.rights.Use.TheVariants.{Write}
-use Rattle.kr_turns.specs.Editing.{after_poke, memory_at}
-use Rattle.kr_turns.specs.Stopped.{Stopped}
+use Rattle.pt_tracer.specs.Stopping.{after_poke, memory_at, Stopped}
 
 abbrev pub may_poke : List (ℕ × List ℕ) → Stopped → Bool
 may_poke [] t = true

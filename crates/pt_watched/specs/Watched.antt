@@ -13,9 +13,7 @@ use Rattle.rv_mem.specs.Actions.{carried_out}
 use Rattle.kr_inode.specs.declared.user.User.{User}
 use Rattle.kr_calls.specs.declared.request.Request.{Request}
 use Rattle.kr_calls.specs.declared.request.Request.TheVariants as call
-use Rattle.kr_turns.specs.Editing.{after_request, decoded_at, memory_at, register_at, with_memory, with_register}
-use Rattle.kr_turns.specs.Stopped.{Stopped}
-use Rattle.kr_turns.specs.Watching.{Watcher}
+use Rattle.pt_tracer.specs.Stopping.{after_request, decoded_at, memory_at, register_at, Stopped, Watcher, with_memory, with_register}
 use Rattle.pt_bind.specs.Tags.{TagTable, dropped, forked, with_tag}
 use Rattle.pt_bind.specs.declared.slot.Slot.TheVariants.{Exe}
 use Rattle.pt_ident.specs.Identity.{Effect, Identity, after_exec, effect, on_memory, refusal}

@@ -1,13 +1,13 @@
 //! What a plan does to the process.
 ghost use Rattle.std.specs.Prelude.{◌≡◌, IfOk, Some};
-ghost use Rattle.kr_turns.specs.Stopped.{IsEdited};
+ghost use Rattle.pt_tracer.specs.Stopping.{IsEdited};
 ghost use Rattle.pt_watched.specs.Watched.{applied, refused};
 
 use crate::pokes::{may_poke, poke_all};
 use crate::registers::set_all;
-use kr_turns::Tracee;
 use pr_base::{Errno, NoMemory};
 use pt_args::Edit;
+use pt_tracer::Tracee;
 use pt_tracer::memory::refused as number_of;
 use pt_tracer::registers::take_number;
 

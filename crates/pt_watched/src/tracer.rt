@@ -1,6 +1,6 @@
 //! The tracer.
 ghost use Rattle.std.specs.Prelude.{◌≡◌, OnOk, Some};
-ghost use Rattle.kr_turns.specs.Stopped.{IsEdited};
+ghost use Rattle.pt_tracer.specs.Stopping.{IsEdited};
 ghost use Rattle.pt_watched.specs.Answering.{starting_identities};
 
 use crate::answering::answer_faked;
@@ -12,12 +12,12 @@ use crate::registers::Arguments;
 use crate::settling::{begin, give_back, has_begun};
 use kr_calls::{CallFault, Request};
 use kr_inode::User;
-use kr_turns::{Stops, Tracee};
 use pr_base::NoMemory;
 use pt_bind::Tags;
 use pt_canon::Walker;
 use pt_ident::Identities;
 use pt_tracer::registers::take_number;
+use pt_tracer::{Stops, Tracee};
 use std::alloc::Global;
 use std::marker::Model;
 

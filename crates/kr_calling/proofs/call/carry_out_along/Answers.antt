@@ -2,9 +2,7 @@ use Rattle.std.proofs.Common.{lit<}
 use Rattle.kr_model.specs.State as model
 use Rattle.kr_lawful.proofs.AfterLemmas.{some-of}
 use Rattle.kr_ops.specs.Meaning.{meaning}
-use Rattle.kr_perform.proofs.LawfulLemmas.{performed-last}
-use Rattle.kr_resolved.proofs.ResolveLemmas.{walks_resolve}
-use Rattle.kr_walked.proofs.WalkedLemmas.{resolved_are_told}
+use Rattle.kr_walked.proofs.WalkedLemmas.{performed-last, walks_resolve, resolved_are_told}
 use Rattle.kr_calling.proofs.CallLemmas.{are-texts, called, has-numbers}
 use Rattle.kr_calling.proofs.call.carry_out_along.Goals as goal
 

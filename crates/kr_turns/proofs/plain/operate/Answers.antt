@@ -8,8 +8,8 @@ use Rattle.kr_ops.proofs.UseLemmas.{sound-of}
 use Rattle.kr_procview.specs.Numbered.{state_numbered}
 use Rattle.kr_paths.specs.CallWalks.{AreTargets, IsReachedTo, call_reach}
 use Rattle.kr_paths.specs.declared.walks.Targets.{Targets}
-use Rattle.kr_calling.specs.Calling.{MayCall}
-use Rattle.kr_calling.proofs.CallLemmas.{runs-later}
+use Rattle.kr_steps.specs.Calls.{MayCall}
+use Rattle.kr_steps.proofs.ComputingLemmas.{runs-later}
 use Rattle.kr_turns.specs.Breaking.{nothing_reached, rule_told}
 use Rattle.kr_turns.specs.Looking.{judged}
 use Rattle.kr_turns.specs.PlainCall.{refusal_told}

@@ -4,8 +4,8 @@ use Rattle.kr_calls.specs.declared.fault.CallFault.{CallFault}
 use Rattle.kr_ops.specs.Meaning.{meaning}
 use Rattle.kr_ops.proofs.UseLemmas.{sound-of}
 use Rattle.kr_procview.specs.Numbered.{state_numbered}
-use Rattle.kr_calling.specs.Calling.{MayCall}
-use Rattle.kr_calling.proofs.CallLemmas.{runs-later}
+use Rattle.kr_steps.specs.Calls.{MayCall}
+use Rattle.kr_steps.proofs.ComputingLemmas.{runs-later}
 use Rattle.kr_steps.specs.Computing.{Requests}
 use Rattle.kr_turns.specs.Breaking.{nothing_reached}
 use Rattle.kr_turns.specs.PlainCall.{refusal_told}

@@ -1,5 +1,5 @@
 use Rattle.std.proofs.Common.{◌≡◌, ◌+◌, suc, lit<, ap, subst, arith, ◌∙◌}
-use Rattle.kr_calling.specs.Calling.{MayCall, Runs}
+use Rattle.kr_steps.specs.Calls.{MayCall, Runs}
 use Rattle.kr_ops.specs.Meaning.{meaning}
 use Rattle.kr_procview.specs.Numbered.{state_numbered}
 use Rattle.kr_turns.specs.Breaking.{plain_rule}

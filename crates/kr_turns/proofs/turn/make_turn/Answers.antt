@@ -1,6 +1,6 @@
 use Rattle.std.proofs.Common.{◌+◌, lit<, ap, ◌∙◌, Option, ℕ}
 use Rattle.rv_cpu.specs.declared.event.Event.TheVariants.{Call, Killed, Next}
-use Rattle.kr_calling.proofs.CallLemmas.{runs-later}
+use Rattle.kr_steps.proofs.ComputingLemmas.{runs-later}
 use Rattle.kr_ops.specs.Sound.{IsOfView}
 use Rattle.kr_ops.proofs.UseLemmas.{sound-of}
 use Rattle.kr_turns.specs.Making.{machine_of, tally_after, watching}

@@ -1,7 +1,7 @@
 use Rattle.std.proofs.Common.{◌≡◌, ◌+◌, ◌-◌, arith}
 use Rattle.kr_calls.specs.Expansion.{bytes_with_ends}
 use Rattle.kr_exec.specs.Lists.{most_bytes}
-use Rattle.kr_turns.proofs.EditLemmas.{edited-then}
+use Rattle.pt_tracer.proofs.StopLemmas.{edited-then}
 use Rattle.pt_tracer.proofs.AuxiliaryLemmas.{there-still}
 use Rattle.pt_lists.proofs.ReadLemmas.{lists-break, lists-read, lists-stop}
 use Rattle.pt_lists.proofs.lists.read_lists.Goals as goal

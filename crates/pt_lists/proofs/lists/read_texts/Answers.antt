@@ -3,7 +3,7 @@ use Rattle.kr_calls.specs.Expansion.{bytes_with_ends}
 use Rattle.kr_exec.specs.Lists.{most_texts}
 use Rattle.std.proofs.SliceLists.{length_more}
 use Rattle.kr_exec.proofs.ListLemmas.{bytes_more}
-use Rattle.kr_turns.proofs.EditLemmas.{edited-then}
+use Rattle.pt_tracer.proofs.StopLemmas.{edited-then}
 use Rattle.pt_tracer.proofs.AuxiliaryLemmas.{there-still}
 use Rattle.pt_lists.specs.Reading.{texts_from, texts_read}
 use Rattle.pt_lists.proofs.ReadLemmas.{list-breaks, list-fails, list-goes, list-reads, list-stops}

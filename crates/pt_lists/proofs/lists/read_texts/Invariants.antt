@@ -1,7 +1,7 @@
 use Rattle.std.proofs.Common.{◌≡◌, ◌+◌, ◌-◌, [], length}
 use Rattle.kr_calls.specs.Expansion.{bytes_with_ends}
 use Rattle.kr_exec.specs.Lists.{most_texts}
-use Rattle.kr_turns.specs.Stopped.{IsEdited}
+use Rattle.pt_tracer.specs.Stopping.{IsEdited}
 use Rattle.pt_lists.specs.Reading.{texts_from}
 use Rattle.pt_lists.proofs.ReadLemmas.{IsLeft}
 use Rattle.pt_lists.proofs.lists.read_texts.Given as goal

@@ -1,6 +1,6 @@
 use Rattle.std.proofs.Common.{◌≡◌, ◌+◌, ◌-◌, ◌∙◌, suc, refl, arith}
 use Rattle.kr_exec.specs.Lists.{most_bytes}
-use Rattle.kr_turns.proofs.EditLemmas.{edited-then}
+use Rattle.pt_tracer.proofs.StopLemmas.{edited-then}
 use Rattle.pt_tracer.proofs.AuxiliaryLemmas.{there-still}
 use Rattle.pt_lists.specs.Reading.{text_at}
 use Rattle.pt_lists.proofs.ReadLemmas.{text-ends, text-fails, text-goes, text-is-long}

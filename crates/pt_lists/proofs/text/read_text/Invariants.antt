@@ -1,6 +1,6 @@
 use Rattle.std.proofs.Common.{◌≡◌, ◌-◌}
 use Rattle.kr_exec.specs.Lists.{most_bytes}
-use Rattle.kr_turns.specs.Stopped.{IsEdited}
+use Rattle.pt_tracer.specs.Stopping.{IsEdited}
 use Rattle.pt_lists.specs.Reading.{text_at, text_from}
 use Rattle.pt_lists.proofs.ReadLemmas.{IsLeft}
 use Rattle.pt_lists.proofs.text.read_text.Given as goal

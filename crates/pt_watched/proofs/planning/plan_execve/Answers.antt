@@ -2,8 +2,8 @@ use Rattle.std.proofs.Common.{◌≡◌, ◌∙◌, ◌≤◌, Ok, true, sym, ap
 use Rattle.pr_base.specs.declared.bind.Bound.{Bound}
 use Rattle.std.specs.Prelude.{List}
 use Rattle.pt_bind.specs.Binding.{rows_of}
-use Rattle.kr_turns.specs.Stopped.{IsEdited, Stopped}
-use Rattle.kr_turns.proofs.EditLemmas.{edited-then}
+use Rattle.pt_tracer.specs.Stopping.{IsEdited, Stopped}
+use Rattle.pt_tracer.proofs.StopLemmas.{edited-then}
 use Rattle.pt_lists.specs.Reading.{lists_at}
 use Rattle.pt_tracer.specs.Carrying.{CarriesOut}
 use Rattle.pt_watched.specs.Planning.{expand_with, is_swap, stack_at}

@@ -1,4 +1,4 @@
-use Rattle.kr_turns.proofs.EditLemmas.{edited-then}
+use Rattle.pt_tracer.proofs.StopLemmas.{edited-then}
 use Rattle.pt_watched.proofs.pokes.+poke_all.Goals as goal
 
 pub returns-clause-edits : goal.returns-clause-edits

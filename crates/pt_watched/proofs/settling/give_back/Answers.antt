@@ -1,4 +1,4 @@
-use Rattle.kr_turns.proofs.EditLemmas.{edited-then}
+use Rattle.pt_tracer.proofs.StopLemmas.{edited-then}
 use Rattle.pt_watched.proofs.settling.give_back.Goals as goal
 
 pub returns-in-Some-clause-edits : goal.returns-in-Some-clause-edits

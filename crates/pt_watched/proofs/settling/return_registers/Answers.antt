@@ -1,7 +1,7 @@
 use Rattle.std.proofs.Common.{◌∙◌, SFits, Some, ap, rules, sym, w64}
 use Rattle.std.proofs.Math.Facts.{to_z-of_z}
-use Rattle.kr_turns.specs.Editing.{with_register}
-use Rattle.kr_turns.proofs.EditLemmas.{edited-then}
+use Rattle.pt_tracer.specs.Stopping.{with_register}
+use Rattle.pt_tracer.proofs.StopLemmas.{edited-then}
 use Rattle.pt_tracer.specs.Faking.{word_of}
 use Rattle.pt_watched.specs.Registers.{given_back}
 use Rattle.pt_watched.specs.Watched.{if_answered}

@@ -3,8 +3,7 @@ use Rattle.std.specs.Prelude.{IsSome, ◌^◌, ◌==◌}
 use Rattle.kr_ops.proofs.UseLemmas.{sound-of}
 use Rattle.kr_ops.specs.Meaning.{process_meaning}
 use Rattle.kr_procview.specs.Numbered.{process_numbered}
-use Rattle.kr_calling.specs.Calling.{Runs}
-use Rattle.kr_steps.specs.Waiting.{picked_process}
+use Rattle.kr_turns.specs.Steps.{Runs, picked_process}
 use Rattle.kr_turns.specs.Making.{machine_of, watching}
 use Rattle.kr_turns.specs.Turn.{IsTurnOf, Tally}
 use Rattle.kr_core.specs.Kernel.{HasRun, Kernel, machine}

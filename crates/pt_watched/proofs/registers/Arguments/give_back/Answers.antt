@@ -1,6 +1,6 @@
 use Rattle.std.proofs.Common.{◌∙◌, ap}
-use Rattle.kr_turns.specs.Editing.{with_register}
-use Rattle.kr_turns.proofs.EditLemmas.{edited-then}
+use Rattle.pt_tracer.specs.Stopping.{with_register}
+use Rattle.pt_tracer.proofs.StopLemmas.{edited-then}
 use Rattle.pt_watched.proofs.registers.Arguments.give_back.Goals as goal
 
 pub returns-clause-back : goal.returns-clause-back

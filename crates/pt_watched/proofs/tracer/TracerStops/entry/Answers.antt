@@ -1,5 +1,4 @@
-use Rattle.kr_turns.proofs.EditLemmas.{edited-then}
-use Rattle.pt_tracer.proofs.StopLemmas.{request-edits}
+use Rattle.pt_tracer.proofs.StopLemmas.{edited-then, request-edits}
 use Rattle.pt_watched.proofs.tracer.TracerStops.entry.Goals as goal
 
 pub returns-in-Ok-clause-edits : goal.returns-in-Ok-clause-edits

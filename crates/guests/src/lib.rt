@@ -1,0 +1,6 @@
+//! Guests for tests, written as texts of calls or as words of code.
+#![tactic(auto)]
+
+mod text;
+
+pub use text::{coded, guest};
