@@ -41,6 +41,8 @@ impl Source for CleanSource {
 
     ghost faults = { λ _. 0 };
 
+    ghost takes = { λ _. 0 };
+
     fn take(&mut self, buf: &mut [u8]) -> Result<usize, Failed>
         ensures bound { ReadsAtMost result buf.new }
         ensures bytes { ReadConsumes (Some self.old) (Some self.new) result buf.new }
@@ -51,7 +53,8 @@ impl Source for CleanSource {
         ensures taken { IfOk result (λ n. self.new ≡ drop n self.old) }
         ensures buffer { IfOk result (λ n. buf.new ≡ take n self.old ++ drop n buf.old) }
     {
-        Ok(self.unread.read(buf))
+        let room = buf.len();
+        Ok(self.unread.read(buf, room))
     }
 }
 

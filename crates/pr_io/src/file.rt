@@ -62,6 +62,8 @@ impl<R: Read> Source for FileSource<R> {
 
     ghost faults = { λ s. s.faults };
 
+    ghost takes = { λ _. 0 };
+
     fn take(&mut self, buf: &mut [u8]) -> Result<usize, Failed>
         ensures bound { ReadsAtMost result buf.new }
         ensures cause { OnErr result (Rose self.old.faults self.new.faults) }

@@ -1,9 +1,9 @@
 //! Sources and sinks in memory that fail at listed calls.
-ghost use Rattle.std.specs.Prelude.{◌≡◌, ℕ, ◌≤◌, ◌+◌, ◌++◌, ◌↔◌, Some, [], length, min, take, drop, Contains, IsErr, IsErrOf, OnErr, IfOk, OnOk};
+ghost use Rattle.std.specs.Prelude.{◌≡◌, ℕ, ◌≤◌, ◌+◌, ◌++◌, ◌↔◌, Some, None, [], length, min, take, drop, Contains, IsErr, IsErrOf, OnErr, IfOk, OnOk};
 ghost use Rattle.std.specs.Io.{ReadsAtMost};
 ghost use Rattle.std.specs.Io.KnownBytes.{ReadConsumes};
 ghost use Rattle.pr_io.specs.Faults.{Rose};
-ghost use Rattle.pr_io.specs.Memory.{after_take, failed_take, after_put, failed_put};
+ghost use Rattle.pr_io.specs.Memory.{after_take, failed_take, after_put, failed_put, room_within};
 ghost use Rattle.pr_io.specs.Moves.{ZeroExactlyAtEnd, Puts};
 
 use crate::calls::Calls;
@@ -16,30 +16,56 @@ use std::alloc::Global;
 use std::marker::Model;
 
 /// A source of the bytes that it was made of. It fails at the calls whose numbers, from 0, are
-/// listed, and gives as many bytes as fit at the others.
+/// listed, and gives as many bytes at the others as fit, or at most a step's.
 #[derive(Debug, Drop)]
 pub struct MemSource {
     unread: Unread,
     calls: Calls,
+    step: Option<u32>,
 }
 
 impl Model for MemSource {
-    ghost use Rattle.pr_io.specs.Memory.{SourceState};
+    ghost use Rattle.pr_io.specs.Memory.{GoesOn, SourceState};
 
     ghost Value = { SourceState };
 
-    ghost view = { λ s. record { left = s.unread; failing = s.calls.failing.items; calls = s.calls.made; faults = s.calls.failed } };
+    ghost view = { λ s. record { left = s.unread; failing = s.calls.failing.items; calls = s.calls.made; faults = s.calls.failed; step = s.step } };
+
+    ghost invariant = { λ s. GoesOn s.step };
 }
 
 impl MemSource {
     /// The bytes, and the numbers of the calls that fail.
     pub fn new(bytes: Bytes, fail: Vec<u32>) -> MemSource
-        ensures { result ≡ record { left = bytes; failing = fail.items; calls = 0; faults = 0 } }
+        ensures { result ≡ record { left = bytes; failing = fail.items; calls = 0; faults = 0; step = None } }
     {
         MemSource {
             unread: Unread::new(bytes),
             calls: Calls::new(fail),
+            step: None,
         }
+    }
+
+    /// The same, where a call gives at most `step` bytes.
+    pub fn slow(bytes: Bytes, step: u32, fail: Vec<u32>) -> MemSource
+        requires { 1 ≤ step }
+        ensures { result ≡ record { left = bytes; failing = fail.items; calls = 0; faults = 0; step = Some step } }
+    {
+        MemSource {
+            unread: Unread::new(bytes),
+            calls: Calls::new(fail),
+            step: Some(step),
+        }
+    }
+}
+
+// How many bytes a call gives at most, into so much room.
+fn room_within(step: Option<u32>, room: usize) -> usize
+    ensures { result ≡ room_within step room }
+{
+    match step {
+        None => room,
+        Some(step) => room.min(step as usize),
     }
 }
 
@@ -48,20 +74,23 @@ impl Source for MemSource {
 
     ghost faults = { λ s. s.faults };
 
+    ghost takes = { λ s. s.calls };
+
     fn take(&mut self, buf: &mut [u8]) -> Result<usize, Failed>
         ensures bound { ReadsAtMost result buf.new }
         ensures bytes { ReadConsumes (Some self.old.left) (Some self.new.left) result buf.new }
         ensures end { ZeroExactlyAtEnd (Some self.old.left) result buf.new }
         ensures cause { OnErr result (Rose self.old.faults self.new.faults) }
         ensures count { self.old.faults ≤ self.new.faults }
+        ensures once { self.new.calls ≤ self.old.calls + 1 }
 
         // It fails exactly at the listed calls.
         ensures fails { IsErr result ↔ Contains self.old.failing self.old.calls }
         ensures failed { OnErr result (self.new ≡ failed_take self.old) }
         ensures failed_buffer { OnErr result (buf.new ≡ buf.old) }
 
-        // It gives as many bytes as fit, and the rest of the buffer stays.
-        ensures most { IfOk result (λ n. n ≡ min (length buf.old) (length self.old.left)) }
+        // It gives as many bytes as fit, or a step's, and the rest of the buffer stays.
+        ensures most { IfOk result (λ n. n ≡ min (room_within self.old.step (length buf.old)) (length self.old.left)) }
         ensures taken { IfOk result (λ n. self.new ≡ after_take self.old n) }
         ensures buffer { IfOk result (λ n. buf.new ≡ take n self.old.left ++ drop n buf.old) }
     {
@@ -70,16 +99,18 @@ impl Source for MemSource {
             return Err(Failed);
         }
         self.calls.pass();
-        Ok(self.unread.read(buf))
+        let room = room_within(self.step, buf.len());
+        Ok(self.unread.read(buf, room))
     }
 }
 
 /// A sink that keeps the bytes that it got. It fails at the calls whose numbers, from 0, are
-/// listed, and appends nothing there. A call that finds no memory is not counted.
+/// listed, and appends nothing there, or only the first bytes. A call that finds no memory is not counted.
 #[derive(Debug, Drop)]
 pub struct MemSink {
     bytes: Bytes,
     calls: Calls,
+    keep: u32,
 }
 
 impl Model for MemSink {
@@ -87,17 +118,29 @@ impl Model for MemSink {
 
     ghost Value = { SinkState };
 
-    ghost view = { λ s. record { got = s.bytes; failing = s.calls.failing.items; calls = s.calls.made; faults = s.calls.failed } };
+    ghost view = { λ s. record { got = s.bytes; failing = s.calls.failing.items; calls = s.calls.made; faults = s.calls.failed; keep = s.keep } };
 }
 
 impl MemSink {
     /// No bytes yet, and the numbers of the calls that fail.
     pub fn new(alloc: Global, fail: Vec<u32>) -> MemSink
-        ensures { result ≡ record { got = []; failing = fail.items; calls = 0; faults = 0 } }
+        ensures { result ≡ record { got = []; failing = fail.items; calls = 0; faults = 0; keep = 0 } }
     {
         MemSink {
             bytes: Bytes::new(alloc),
             calls: Calls::new(fail),
+            keep: 0,
+        }
+    }
+
+    /// The same, where a call that fails appends the first `keep` bytes, or all where there are fewer.
+    pub fn torn(alloc: Global, fail: Vec<u32>, keep: u32) -> MemSink
+        ensures { result ≡ record { got = []; failing = fail.items; calls = 0; faults = 0; keep = keep } }
+    {
+        MemSink {
+            bytes: Bytes::new(alloc),
+            calls: Calls::new(fail),
+            keep,
         }
     }
 
@@ -106,6 +149,23 @@ impl MemSink {
         ensures { result.now ≡ self.now.got }
     {
         self.bytes.as_slice()
+    }
+}
+
+impl MemSink {
+    // A call that fails, or finds no memory for the bytes that it keeps.
+    fn tear(&mut self, b: &[u8]) -> PutFault
+        ensures failed { result ≡ PutFault.Failed → self.new ≡ failed_put self.old b.now }
+        ensures no_memory { result ≡ PutFault.NoMemory → self.new ≡ self.old }
+        ensures whole { self.old.keep ≡ 0 → result ≡ PutFault.Failed }
+        ensures count { self.old.faults ≤ self.new.faults }
+    {
+        let kept = &b[..b.len().min(self.keep as usize)];
+        if self.keep > 0 && self.bytes.append(kept).is_err() {
+            return PutFault::NoMemory;
+        }
+        self.calls.fail();
+        PutFault::Failed
     }
 }
 
@@ -119,16 +179,17 @@ impl Sink for MemSink {
         ensures cause { IsErrOf result PutFault.Failed → Rose self.old.faults self.new.faults }
         ensures count { self.old.faults ≤ self.new.faults }
 
-        // It fails exactly at the listed calls, and appends nothing there.
-        ensures fails { IsErrOf result PutFault.Failed ↔ Contains self.old.failing self.old.calls }
-        ensures failed { IsErrOf result PutFault.Failed → self.new ≡ failed_put self.old }
+        // It fails exactly at the listed calls, and appends as many bytes there as it keeps; only for these memory may be wanting there.
+        ensures fails { IsErrOf result PutFault.Failed → Contains self.old.failing self.old.calls }
+        ensures listed { Contains self.old.failing self.old.calls → IsErr result }
+        ensures whole { self.old.keep ≡ 0 → Contains self.old.failing self.old.calls → IsErrOf result PutFault.Failed }
+        ensures failed { IsErrOf result PutFault.Failed → self.new ≡ failed_put self.old b.now }
 
         ensures no_memory { IsErrOf result PutFault.NoMemory → self.new ≡ self.old }
         ensures taken { OnOk result (self.new ≡ after_put self.old b.now) }
     {
         if self.calls.next_fails() {
-            self.calls.fail();
-            return Err(PutFault::Failed);
+            return Err(self.tear(b));
         }
         if self.bytes.append(b).is_err() {
             return Err(PutFault::NoMemory);

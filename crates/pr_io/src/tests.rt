@@ -56,6 +56,35 @@ fn a_sink_in_memory_fails_at_the_listed_calls(rt: HostRuntime) -> Result<(), Fai
 }
 
 #[test]
+fn a_slow_source_gives_a_step_at_a_call(rt: HostRuntime) -> Result<(), Fail> {
+    let alloc = rt.alloc();
+    for (step, want) in [
+        (1, b"a|!|b|c|d||".as_slice()),
+        (3, b"abc|!|d||||"),
+        (9, b"abcd|!|||||"),
+    ] {
+        let bytes = Bytes::copy(alloc, b"abcd")?;
+        let mut source = MemSource::slow(bytes, step.max(1), vec![in alloc; 1]?);
+        let given = answers(alloc, &mut source, 6)?;
+        assert_eq!(rt; given.as_slice(), want, "{step}");
+    }
+    Ok(())
+}
+
+#[test]
+fn a_torn_sink_keeps_the_first_bytes(rt: HostRuntime) -> Result<(), Fail> {
+    let alloc = rt.alloc();
+    let parts: [&[u8]; 4] = [b"ab", b"cde", b"f", b"gh"];
+    for (keep, want) in [(0, b"abgh".as_slice()), (1, b"abcfgh"), (9, b"abcdefgh")] {
+        let mut sink = MemSink::torn(alloc, vec![in alloc; 1, 2]?, keep);
+        let given = put_all(alloc, &mut sink, &parts)?;
+        assert_eq!(rt; given.as_slice(), b".!!.".as_slice());
+        assert_eq!(rt; sink.got(), want, "{keep}");
+    }
+    Ok(())
+}
+
+#[test]
 fn the_clean_forms_move_all_bytes(rt: HostRuntime) -> Result<(), Fail> {
     let mut source = CleanSource::new(Bytes::copy(rt.alloc(), b"abcdefg")?);
     let given = answers(rt.alloc(), &mut source, 3)?;

@@ -1,5 +1,5 @@
 -- Stages of an opening, and what reading a source within a limit gives.
-use Rattle.std.specs.Prelude.{◌≡◌, ◌⊎◌, ℕ, ◌<◌, ◌≤◌, nat_lt, List, length, Option, Some, None, IfSome, Result, Ok, Err, if◌then◌else◌}
+use Rattle.std.specs.Prelude.{◌≡◌, ◌⊎◌, ℕ, ◌+◌, ◌<◌, ◌≤◌, nat_lt, List, length, Option, Some, None, IfSome, Result, Ok, Err, if◌then◌else◌}
 use Rattle.std.specs.Option.{option_map}
 use Rattle.std.specs.Io.KnownBytes.{Consumes, IsAtEnd}
 use Rattle.pr_io.specs.Faults.{Rose}
@@ -52,6 +52,11 @@ IsReadEnd which before now answer = ⊥
 abbrev pub IsReadRefusal : Which → ℕ → ℕ → Answer → Type 0
 IsReadRefusal which before now (TooLong w) = w ≡ which
 IsReadRefusal which before now answer = IsReadEnd which before now answer
+
+-- a source that is read within a limit is asked so often at most: each call but the last one gives a byte, and no call is made behind the
+-- first byte that is too many
+abbrev pub IsAskedWithin : ℕ → ℕ → ℕ → Type 0
+IsAskedWithin limit before now = now ≤ before + (limit + 1)
 
 -- the source gave these bytes, all that it had where they are fewer than asked for
 pub record ReadsWithin (most : ℕ) (old new : Option (List ℕ)) (bytes : List ℕ) : Type 0 where

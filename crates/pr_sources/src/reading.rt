@@ -10,7 +10,7 @@ ghost use Rattle.kr_stage.specs.Ready.{IsOfListing};
 ghost use Rattle.pr_sources.specs.Asking.{IsUnlessNoMemory, asked};
 ghost use Rattle.pr_answer.specs.declared.answer.Which.TheVariants.{Elf};
 ghost use Rattle.pr_sources.specs.Reading.{EndsBeforeElf, EndsBeforeInput, HasCause, IsOfSources, IsOfWords, IsRefusal, IsUnwanted, IsWanted, ListingEnds, listed, told_asked, told_file, told_listing, told_tree};
-ghost use Rattle.pr_sources.specs.Within.{Comes, IsReadRefusal};
+ghost use Rattle.pr_sources.specs.Within.{Comes, IsAskedWithin, IsReadRefusal};
 
 use crate::within::read_within;
 use crate::words::ask;
@@ -45,6 +45,7 @@ fn read_file<E: Source>(alloc: Global, elf: &mut E, listing: &[u8]) -> Result<Op
     ensures wanted { IfErr result (λ answer. IsTrue (wants_elf listing.now) × IsReadRefusal Elf (E.faults elf.old) (E.faults elf.new) answer) }
     ensures untouched { wants_elf listing.now ≡ false → elf.new ≡ elf.old }
     ensures end { IsTrue (wants_elf listing.now) → OnOk result (IsAtEnd (E.left elf.new)) }
+    ensures takes { IsAskedWithin (2 ^ 24) (E.takes elf.old) (E.takes elf.new) }
 {
     if !wants_elf(listing) {
         return Ok(None);
@@ -79,6 +80,8 @@ fn read_listing<T: Source, E: Source>(
     ensures before_elf { IfErr result (λ answer. EndsBeforeElf answer → elf.new ≡ elf.old) }
     ensures tree_end { OnOk result (IsAtEnd (T.left tree.new)) }
     ensures elf_end { OnOk result (IfSome (told_tree (T.left tree.old)) (λ listing. IsWanted listing → IsAtEnd (E.left elf.new))) }
+    ensures tree_takes { IsAskedWithin (2 ^ 26) (T.takes tree.old) (T.takes tree.new) }
+    ensures elf_takes { IsAskedWithin (2 ^ 24) (E.takes elf.old) (E.takes elf.new) }
 {
     let listing = read_within(alloc, tree, TREE_LIMIT, Which::Tree)?;
     let file = read_file(alloc, elf, listing.as_slice())?;
@@ -113,6 +116,9 @@ pub fn read<T: Source, E: Source, I: Source>(
     ensures tree_end { OnOk result (IsAtEnd (T.left tree.new)) }
     ensures elf_end { OnOk result (IfSome (told_tree (T.left tree.old)) (λ listing. IsWanted listing → IsAtEnd (E.left elf.new))) }
     ensures input_end { OnOk result (IsAtEnd (I.left input.new)) }
+    ensures tree_takes { IsAskedWithin (2 ^ 26) (T.takes tree.old) (T.takes tree.new) }
+    ensures elf_takes { IsAskedWithin (2 ^ 24) (E.takes elf.old) (E.takes elf.new) }
+    ensures input_takes { IsAskedWithin (2 ^ 24) (I.takes input.old) (I.takes input.new) }
 {
     let options = ask(alloc, words)?;
     let (tree, user) = read_listing(alloc, tree, elf)?;

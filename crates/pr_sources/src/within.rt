@@ -1,7 +1,7 @@
 //! A source, read to its end within a limit.
-ghost use Rattle.std.specs.Prelude.{◌≤◌, ◌<◌, ◌^◌, IfOk, OnOk, IfErr};
+ghost use Rattle.std.specs.Prelude.{◌+◌, ◌≤◌, ◌<◌, ◌^◌, IfOk, OnOk, IfErr};
 ghost use Rattle.std.specs.Io.KnownBytes.{IsAtEnd};
-ghost use Rattle.pr_sources.specs.Within.{Comes, IsReadEnd, IsReadRefusal, ReadsWithin, told_within};
+ghost use Rattle.pr_sources.specs.Within.{Comes, IsAskedWithin, IsReadEnd, IsReadRefusal, ReadsWithin, told_within};
 
 use pr_answer::{Answer, Which};
 use pr_base::Bytes;
@@ -18,6 +18,7 @@ fn read_until<S: Source>(
     ensures read { IfOk result (ReadsWithin limit (S.left source.old) (S.left source.new)) }
     ensures refused { IfErr result (IsReadEnd which (S.faults source.old) (S.faults source.new)) }
     ensures count { S.faults source.old ≤ S.faults source.new }
+    ensures takes { S.takes source.new ≤ S.takes source.old + limit }
 {
     let mut bytes = Bytes::new(alloc);
     let mut buffer = [0; 4096];
@@ -49,6 +50,7 @@ pub(crate) fn read_within<S: Source>(
     ensures refused { IfErr result (IsReadRefusal which (S.faults source.old) (S.faults source.new)) }
     ensures end { OnOk result (IsAtEnd (S.left source.new)) }
     ensures count { S.faults source.old ≤ S.faults source.new }
+    ensures takes { IsAskedWithin limit (S.takes source.old) (S.takes source.new) }
 {
     let bytes = read_until(alloc, source, limit + 1, which)?;
     if limit < bytes.len() {

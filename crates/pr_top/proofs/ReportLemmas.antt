@@ -5,11 +5,9 @@ use Rattle.pr_io.specs.Moves.{AppendsPrefix}
 use Rattle.pr_answer.specs.declared.answer.Answer.{Answer}
 use Rattle.pr_answer.specs.declared.answer.Answer.TheVariants.{Ended, Deadlock, Spent, Usage, TooLong, TreeBad, BadBind, NoStart, ReadFault, WriteFault, NoMemory, Unbuilt}
 use Rattle.pr_answer.specs.declared.answer.Which.TheVariants.{Err as ErrSink, Left}
-use Rattle.kr_turns.specs.Run.{Ending}
-use Rattle.kr_turns.specs.Run as ending
 use Rattle.pr_sources.specs.Reading.{EndsBeforeInput}
 use Rattle.pr_sources.specs.Within.{Stage}
-use Rattle.pr_run.specs.Report.{Report, answer_of}
+use Rattle.pr_run.specs.Report.{Deadlock as AllWait, Ending, Over, Report, Spent as NoTurnIsLeft, answer_of}
 use Rattle.pr_run.specs.Puts.{AnswersReport, Got, PutsReport, PutsTurns, StopsInCalm, StopsInErr, answer_told, stop_answer}
 use Rattle.pr_run.specs.declared.plan.Plan.{Plan}
 use Rattle.pr_run.specs.declared.turns.Stop.{Stop}
@@ -20,9 +18,9 @@ use Rattle.pr_top.specs.declared.opening.Opened.{Opened}
 
 -- a report's own answer tells a run, on both machines
 answer-tells : (e : Ending) (status : ℕ) → TellsRun (answer_of e status)
-answer-tells ending.Over status = tt
-answer-tells ending.Deadlock status = tt
-answer-tells ending.Spent status = tt
+answer-tells Over status = tt
+answer-tells AllWait status = tt
+answer-tells NoTurnIsLeft status = tt
 
 report-tells : (plan : Plan) (s : Started) → TellsRun (report_on plan s).answer
 report-tells plan (Mounts table m) = answer-tells (mounted_run plan table m).ending (mounted_run plan table m).machine.tally.status

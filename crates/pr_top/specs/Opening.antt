@@ -9,14 +9,6 @@ use Rattle.kr_mounts.specs.Standing.{texts_of}
 use Rattle.kr_mounts.specs.Stored.{table_of}
 use Rattle.kr_first.specs.declared.starting.StartFault.{StartFault}
 use Rattle.kr_first.specs.declared.starting.StartFault.TheVariants as fault
-use Rattle.kr_core.specs.Kernel.{machine}
-use Rattle.kr_turns.specs.Turn.{Machine}
-use Rattle.kr_turns.specs.Run.{Ran, run}
-use Rattle.pt_tracer.specs.Faking.{starting_faking}
-use Rattle.pt_watched.specs.Watched.{Tracing, tracer}
-use Rattle.pr_watch.specs.Watches.{watch}
-use Rattle.pr_watch.specs.declared.watch.Watch.{Watch}
-use Rattle.pr_watch.specs.declared.watch.Watch.TheVariants.{Faked, Nobody}
 use Rattle.kr_inode.specs.declared.user.User.{User}
 use Rattle.pr_answer.specs.declared.answer.Answer.{Answer}
 use Rattle.pr_answer.specs.declared.answer.Answer.TheVariants.{BadBind, NoMemory, NoStart, ReadFault, TooLong, TreeBad, Unbuilt, Usage}
@@ -24,7 +16,8 @@ use Rattle.pr_sources.specs.Within.{IsEarly, Stage, and_then}
 use Rattle.pr_sources.specs.Reading.{told_asked}
 use Rattle.pr_sources.specs.declared.reading.Asked.{Asked}
 use Rattle.pr_start.specs.Beginning.{beginning}
-use Rattle.pr_traced.specs.TracedBeginning.{host_number, traced_beginning}
+use Rattle.pr_start.specs.Machines.{Faked, Machine, Nobody, Ran, Watch, machine, run, starting_faking, watch}
+use Rattle.pr_traced.specs.TracedBeginning.{Tracing, host_number, traced_beginning, tracer}
 use Rattle.pr_start.specs.Numbers.{number_of}
 use Rattle.pr_command.specs.declared.launch.Launch.{Launch}
 use Rattle.pr_run.specs.Report.{Report, report_of}

@@ -12,9 +12,9 @@ ghost use Rattle.kr_stage.specs.Ready.{IsOfListing, IsReady};
 ghost use Rattle.pt_bind.specs.Binding.{rows_of};
 ghost use Rattle.pr_sources.specs.Asking.{asked};
 ghost use Rattle.pr_sources.specs.Reading.{EndsBeforeElf, EndsBeforeInput, HasCause, IsOfWords, IsRefusal, IsUnwanted, IsWanted, told_listing, told_tree};
+ghost use Rattle.pr_sources.specs.Within.{IsAskedWithin};
 ghost use Rattle.pr_top.specs.Opening.{IsFresh, IsOfOpening, IsOfStart, IsReadyToRun, Opens, OpensFrom, StartsAs, begun, ids_for, opening, started_on, watch_for};
 
-use kr_core::Kernel;
 use kr_first::StartFault;
 use kr_mounts::{BindFault, Mounted};
 use kr_stage::{Stage, settled};
@@ -26,11 +26,8 @@ use pr_command::Launch;
 use pr_io::{Sink, Source};
 use pr_run::{Plan, report};
 use pr_sources::{Asked, read};
-use pr_start::start;
-use pr_traced::start_traced;
-use pr_watch::Watch;
-use pt_tracer::Faker;
-use pt_watched::Tracer;
+use pr_start::{Faker, Kernel, Watch, start};
+use pr_traced::{Tracer, start_traced};
 use std::alloc::Global;
 
 /// A machine: a kernel over mounts, whose shelves are marked so that it tells whether a run is calm; or a plain kernel with its tracer.
@@ -185,6 +182,9 @@ pub(crate) fn open<T: Source, E: Source, I: Source>(
     ensures tree_end { OnOk result (IsAtEnd (T.left tree.new)) }
     ensures elf_end { OnOk result (IfSome (told_tree (T.left tree.old)) (λ listing. IsWanted listing → IsAtEnd (E.left elf.new))) }
     ensures input_end { OnOk result (IsAtEnd (I.left input.new)) }
+    ensures tree_takes { IsAskedWithin (2 ^ 26) (T.takes tree.old) (T.takes tree.new) }
+    ensures elf_takes { IsAskedWithin (2 ^ 24) (E.takes elf.old) (E.takes elf.new) }
+    ensures input_takes { IsAskedWithin (2 ^ 24) (I.takes input.old) (I.takes input.new) }
 {
     let asked = read(alloc, words, tree, elf, input)?;
     begin(alloc, asked)

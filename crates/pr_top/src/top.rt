@@ -7,6 +7,7 @@ ghost use Rattle.pr_io.specs.Moves.{AppendsPrefix};
 ghost use Rattle.pr_answer.specs.declared.answer.Which.TheVariants.{Tree, Elf, Input, Out, Err as ErrSink, Left};
 ghost use Rattle.pr_sources.specs.Asking.{asked};
 ghost use Rattle.pr_sources.specs.Reading.{EndsBeforeElf, EndsBeforeInput, HasCause, IsOfWords, IsRefusal, IsUnwanted, IsWanted, told_listing, told_tree};
+ghost use Rattle.pr_sources.specs.Within.{IsAskedWithin};
 ghost use Rattle.pr_run.specs.Report.{errs, outs};
 ghost use Rattle.pr_run.specs.Puts.{PutsTurns, StopsInCalm, StopsInErr, StopsInOut};
 ghost use Rattle.pr_top.specs.Opening.{opening, report};
@@ -79,6 +80,11 @@ pub fn proot<T: Source, E: Source, I: Source, O: Sink, R: Sink, L: Sink>(
     ensures tree_end { TellsRun result → IsAtEnd (T.left tree.new) }
     ensures elf_end { TellsRun result → IfSome (told_tree (T.left tree.old)) (λ listing. IsWanted listing → IsAtEnd (E.left elf.new)) }
     ensures input_end { TellsRun result → IsAtEnd (I.left input.new) }
+
+    // However it ends, no source was asked more often than its limit has bytes, and once more.
+    ensures tree_takes { IsAskedWithin (2 ^ 26) (T.takes tree.old) (T.takes tree.new) }
+    ensures elf_takes { IsAskedWithin (2 ^ 24) (E.takes elf.old) (E.takes elf.new) }
+    ensures input_takes { IsAskedWithin (2 ^ 24) (I.takes input.old) (I.takes input.new) }
 
     // Without a fault a run that begins is told, want of memory aside.
     ensures complete { IfSome (opening (map string_bytes words.now) (T.left tree.old) (E.left elf.old) (I.left input.old)) (λ o. IfOk o (λ b.

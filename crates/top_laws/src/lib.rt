@@ -1,0 +1,4 @@
+//! Laws of the top call.
+#![tactic(auto)]
+
+pub mod laws;
