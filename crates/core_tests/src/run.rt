@@ -28,7 +28,8 @@ fn ended(alloc: Global, seen: Bytes, how: &str, status: u8) -> Result<Bytes, NoM
     Ok(all)
 }
 
-/// Makes turns of a new kernel until none can be made, or so many were: what it put out, how it ended, and its status.
+/// Makes turns of a new kernel until none can be made, or so many were, each of the first process that is ready: what it put out, how it
+/// ended, and its status.
 pub fn run<P: Places, S: Stops, const M: u8>(
     alloc: Global,
     kernel: &mut Kernel<P, S, M>,
@@ -40,7 +41,7 @@ pub fn run<P: Places, S: Stops, const M: u8>(
 {
     let mut seen = Bytes::new(alloc);
     for turn in 0..turns {
-        match kernel.turn(turn, 1000)? {
+        match kernel.turn(0, 1000)? {
             Turned::Ran => note(kernel, &mut seen)?,
             Turned::Deadlock => return ended(alloc, seen, "deadlock", kernel.status()),
             Turned::Over => return ended(alloc, seen, "over", kernel.status()),

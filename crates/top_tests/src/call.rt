@@ -7,14 +7,27 @@ use std::alloc::Global;
 use std::process::Abort;
 use std::test::Fail;
 
-/// What is handed to the top call. The words stand between blanks. `fails` is the object of which a call fails, with its number, counted from 0.
+/// How the objects move bytes.
+#[derive(Clone, Copy)]
+pub enum Moving {
+    /// As many as there are.
+    Whole,
+    /// Each source gives one byte at a call.
+    ByteByByte,
+    /// A call of one object fails, with its number, counted from 0.
+    Failing(Which, u32),
+    /// A call of the out sink fails, and keeps as many bytes.
+    Torn(u32, u32),
+}
+
+/// What is handed to the top call. The words stand between blanks.
 #[derive(Clone, Copy)]
 pub struct Asked<'a> {
     pub words: &'a str,
     pub tree: &'a [u8],
     pub elf: &'a [u8],
     pub input: &'a [u8],
-    pub fails: Option<(Which, u32)>,
+    pub moving: Moving,
 }
 
 /// What came of it.
@@ -38,18 +51,39 @@ fn words_of(alloc: Global, text: &str) -> Result<Vec<String>, Fail> {
 }
 
 /// The calls of an object that fail.
-fn failing(alloc: Global, which: Which, fails: Option<(Which, u32)>) -> Result<Vec<u32>, Fail> {
+fn failing(alloc: Global, which: Which, moving: Moving) -> Result<Vec<u32>, Fail> {
     let mut calls = Vec::new(alloc);
-    if let Some((object, call)) = fails {
-        if object == which {
-            calls.push(call)?;
+    match moving {
+        Moving::Failing(object, call) => {
+            if object == which {
+                calls.push(call)?;
+            }
         }
+        Moving::Torn(call, _keep) => {
+            if which == Which::Out {
+                calls.push(call)?;
+            }
+        }
+        Moving::Whole | Moving::ByteByByte => {}
     }
     Ok(calls)
 }
 
-fn source(alloc: Global, bytes: &[u8], fails: Vec<u32>) -> Result<MemSource, Fail> {
-    Ok(MemSource::new(Bytes::copy(alloc, bytes)?, fails))
+fn source(alloc: Global, which: Which, bytes: &[u8], moving: Moving) -> Result<MemSource, Fail> {
+    let bytes = Bytes::copy(alloc, bytes)?;
+    let fails = failing(alloc, which, moving)?;
+    match moving {
+        Moving::ByteByByte => Ok(MemSource::slow(bytes, 1, fails)),
+        _ => Ok(MemSource::new(bytes, fails)),
+    }
+}
+
+fn sink(alloc: Global, which: Which, moving: Moving) -> Result<MemSink, Fail> {
+    let fails = failing(alloc, which, moving)?;
+    match moving {
+        Moving::Torn(_call, keep) => Ok(MemSink::torn(alloc, fails, keep)),
+        _ => Ok(MemSink::new(alloc, fails)),
+    }
 }
 
 /// Makes the call.
@@ -58,13 +92,13 @@ pub fn call(alloc: Global, asked: Asked) -> Result<Told, Fail> {
     if words.len() > 1000 {
         return Err(Fail::from("too many words"));
     }
-    let fails = asked.fails;
-    let mut tree = source(alloc, asked.tree, failing(alloc, Which::Tree, fails)?)?;
-    let mut elf = source(alloc, asked.elf, failing(alloc, Which::Elf, fails)?)?;
-    let mut input = source(alloc, asked.input, failing(alloc, Which::Input, fails)?)?;
-    let mut out = MemSink::new(alloc, failing(alloc, Which::Out, fails)?);
-    let mut err = MemSink::new(alloc, failing(alloc, Which::Err, fails)?);
-    let mut left = MemSink::new(alloc, failing(alloc, Which::Left, fails)?);
+    let moving = asked.moving;
+    let mut tree = source(alloc, Which::Tree, asked.tree, moving)?;
+    let mut elf = source(alloc, Which::Elf, asked.elf, moving)?;
+    let mut input = source(alloc, Which::Input, asked.input, moving)?;
+    let mut out = sink(alloc, Which::Out, moving)?;
+    let mut err = sink(alloc, Which::Err, moving)?;
+    let mut left = sink(alloc, Which::Left, moving)?;
     let answer = proot(
         alloc,
         words.as_slice(),

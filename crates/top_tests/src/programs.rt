@@ -1,6 +1,6 @@
 //! Which program a run starts, and how it ends.
 
-use crate::call::{Asked, call, compare};
+use crate::call::{Asked, Moving, call, compare};
 use fixtures::HELLO;
 use pr_base::{Bytes, Errno, NoMemory};
 use pr_top::Answer;
@@ -78,7 +78,7 @@ struct Row {
 
 const ENDED: Answer = Answer::Ended { status: 0 };
 
-const ROWS: [Row; 21] = [
+const ROWS: [Row; 20] = [
     Row {
         words: "/hello",
         program: Program::Hello,
@@ -228,12 +228,6 @@ const ROWS: [Row; 21] = [
         answer: ENDED,
         out: "pc",
     },
-    Row {
-        words: "--native --schedule=1*5,0*5 /hello",
-        program: Program::Two,
-        answer: ENDED,
-        out: "pc",
-    },
 ];
 
 #[test]
@@ -241,17 +235,28 @@ fn programs_are_found_and_end_as_they_have_to(rt: HostRuntime) -> Result<(), Fai
     let alloc = rt.alloc();
     for row in &ROWS {
         let elf = row.program.file(alloc)?;
-        let told = call(
-            alloc,
-            Asked {
-                words: row.words,
-                tree: TREE,
-                elf: elf.as_slice(),
-                input: b"",
-                fails: None,
-            },
-        )?;
-        compare(&rt, &told, row.words, row.answer, row.out.as_bytes(), b"");
+        for machine in &["", "--native "] {
+            let words = row.words;
+            let words = format!(in alloc; "{machine}{words}")?;
+            let told = call(
+                alloc,
+                Asked {
+                    words: words.as_str(),
+                    tree: TREE,
+                    elf: elf.as_slice(),
+                    input: b"",
+                    moving: Moving::Whole,
+                },
+            )?;
+            compare(
+                &rt,
+                &told,
+                words.as_str(),
+                row.answer,
+                row.out.as_bytes(),
+                b"",
+            );
+        }
     }
     Ok(())
 }

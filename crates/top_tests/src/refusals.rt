@@ -1,11 +1,13 @@
 //! What is refused before a run.
 
-use crate::call::{Asked, call, compare};
+use crate::call::{Asked, Moving, call, compare};
 use fixtures::{DATA, HELLO};
 use kr_mounts::BindWhy;
 use kr_text::TreeWhy;
 use pr_top::{Answer, Part, Which};
 use pr_words::Why;
+use std::alloc::Global;
+use std::process::Abort;
 use std::test::Fail;
 
 struct Row {
@@ -16,7 +18,8 @@ struct Row {
 
 const UNBUILT: Answer = Answer::Unbuilt { part: Part::Words };
 
-const ROWS: [Row; 15] = [
+/// Words that are refused, or that ask for what isn't built.
+const WORDS: [Row; 4] = [
     Row {
         words: "-b",
         tree: b"",
@@ -46,6 +49,10 @@ const ROWS: [Row; 15] = [
         tree: b"",
         answer: UNBUILT,
     },
+];
+
+/// Listings and bindings that are refused on each machine.
+const SOURCES: [Row; 14] = [
     Row {
         words: "/p",
         tree: b"",
@@ -79,7 +86,7 @@ const ROWS: [Row; 15] = [
         },
     },
     Row {
-        words: "--native -r /g -b /none:/mnt /p",
+        words: "-r /g -b /none:/mnt /p",
         tree: DATA,
         answer: Answer::BadBind {
             index: 1,
@@ -87,7 +94,7 @@ const ROWS: [Row; 15] = [
         },
     },
     Row {
-        words: "--native -r /g -b /data:/f /p",
+        words: "-r /g -b /data:/f /p",
         tree: DATA,
         answer: Answer::BadBind {
             index: 1,
@@ -95,7 +102,7 @@ const ROWS: [Row; 15] = [
         },
     },
     Row {
-        words: "--native -r /g -b /data:/ /p",
+        words: "-r /g -b /data:/ /p",
         tree: DATA,
         answer: Answer::BadBind {
             index: 1,
@@ -103,7 +110,7 @@ const ROWS: [Row; 15] = [
         },
     },
     Row {
-        words: "--native -r /g -b /data:/mnt -b /new:/mnt/abs /p",
+        words: "-r /g -b /data:/mnt -b /new:/mnt/abs /p",
         tree: DATA,
         answer: Answer::BadBind {
             index: 2,
@@ -111,7 +118,7 @@ const ROWS: [Row; 15] = [
         },
     },
     Row {
-        words: "--native -r /new /p",
+        words: "-r /new /p",
         tree: DATA,
         answer: Answer::BadBind {
             index: 0,
@@ -119,7 +126,7 @@ const ROWS: [Row; 15] = [
         },
     },
     Row {
-        words: "--native -r /none /p",
+        words: "-r /none /p",
         tree: DATA,
         answer: Answer::BadBind {
             index: 0,
@@ -127,31 +134,67 @@ const ROWS: [Row; 15] = [
         },
     },
     Row {
-        words: "--native -r /g -b /data:/f -b /none:/mnt /p",
+        words: "-r /g -b /data:/f -b /none:/mnt /p",
         tree: DATA,
         answer: Answer::BadBind {
             index: 2,
             why: BindWhy::NoSource,
         },
     },
+    // The host's root isn't the user's to write in; a name can't be made below a file, nor in the process directory.
+    Row {
+        words: "-b /data:/zz /g/p",
+        tree: DATA,
+        answer: Answer::BadBind {
+            index: 1,
+            why: BindWhy::NoPoint,
+        },
+    },
+    Row {
+        words: "-r /g -b /data:/f/x /p",
+        tree: DATA,
+        answer: Answer::BadBind {
+            index: 1,
+            why: BindWhy::NoPoint,
+        },
+    },
+    Row {
+        words: "-r /g -b /proc -b /data:/proc/zz /p",
+        tree: DATA,
+        answer: Answer::BadBind {
+            index: 2,
+            why: BindWhy::NoPoint,
+        },
+    },
 ];
+
+/// Compares what comes of words and a listing with what a row says, and that nothing was put.
+fn refuse<R: Abort>(rt: &R, alloc: Global, words: &str, row: &Row) -> Result<(), Fail> {
+    let asked = Asked {
+        words,
+        tree: row.tree,
+        elf: &HELLO,
+        input: b"",
+        moving: Moving::Whole,
+    };
+    let told = call(alloc, asked)?;
+    compare(rt, &told, words, row.answer, b"", b"");
+    assert!(rt; told.left.got().is_empty());
+    Ok(())
+}
 
 #[test]
 fn what_cannot_be_run_is_refused_and_nothing_is_put(rt: HostRuntime) -> Result<(), Fail> {
     let alloc = rt.alloc();
-    for row in &ROWS {
-        let told = call(
-            alloc,
-            Asked {
-                words: row.words,
-                tree: row.tree,
-                elf: &HELLO,
-                input: b"",
-                fails: None,
-            },
-        )?;
-        compare(&rt, &told, row.words, row.answer, b"", b"");
-        assert!(rt; told.left.got().is_empty());
+    for row in &WORDS {
+        refuse(&rt, alloc, row.words, row)?;
+    }
+    for row in &SOURCES {
+        for machine in &["", "--native "] {
+            let words = row.words;
+            let words = format!(in alloc; "{machine}{words}")?;
+            refuse(&rt, alloc, words.as_str(), row)?;
+        }
     }
     Ok(())
 }
@@ -167,7 +210,7 @@ fn an_input_that_is_too_long_is_refused(rt: HostRuntime) -> Result<(), Fail> {
             tree: DATA,
             elf: &HELLO,
             input: input.as_slice(),
-            fails: None,
+            moving: Moving::Whole,
         },
     )?;
     let answer = Answer::TooLong {
