@@ -14,9 +14,9 @@ use Rattle.kr_view.specs.Living.{finds_among}
 use Rattle.kr_view.specs.View.{plain, root_place}
 use Rattle.kr_view.specs.Walk.{place_walk}
 use Rattle.kr_files.specs.declared.opened.Opened.{Opened}
-use Rattle.kr_model.specs.HostView.{base_name, cwd_name, exe_name, host_around_of, host_leads, host_open, host_space, open_name}
+use Rattle.kr_model.specs.HostView.{base_name, base_text, cwd_name, exe_name, host_around_of, host_leads, host_open, host_space, linked_text, open_name}
 use Rattle.kr_model.specs.Peeks.{head_at, kind_along, kind_of_base, link_text_at, name_or_none, peeked_of, read_of}
-use Rattle.kr_model.specs.ProcessDirectory.{jump_to, name_text}
+use Rattle.kr_model.specs.ProcessDirectory.{jump_to, name_text, unplaced_text}
 use Rattle.kr_model.specs.State.{Image, Process, State, opened, process}
 use Rattle.kr_procview.specs.Numbered.{opened_numbered, process_numbered, state_numbered}
 use Rattle.kr_procview.proofs.NumberedLemmas.{living-numbered, opened-numbered, process-numbered}
@@ -98,6 +98,19 @@ module _ {T : Type 0} (by : T → ℕ) (s : State T Image) where
       each None = refl
       each (Some o) = placed o o.place
 
+  base-linked : (pid fd : ℕ) → base_text told pid fd ≡ base_text s pid fd
+  base-linked pid fd = ap (option_and_then (linked_text told)) (opened-numbered by s pid fd) ∙ each (opened pid fd s)
+    where
+      placed : (o : Opened T) (p : Option (Place T))
+          → option_map_or (λ (p : Place ℕ). name_text (host_space told) (host_place p.host) o.dir o.name) (option_map (numbered by) p) (unplaced_text o.what)
+          ≡ option_map_or (λ (p : Place T). name_text (host_space s) (host_place p.host) o.dir o.name) p (unplaced_text o.what)
+      placed o None = refl
+      placed o (Some p) = ap (λ space. name_text space (host_place p.host) o.dir o.name) space-told
+
+      each : (o : Option (Opened T)) → option_and_then (linked_text told) (option_map (opened_numbered by) o) ≡ option_and_then (linked_text s) o
+      each None = refl
+      each (Some o) = placed o o.place
+
   -- ---- what a tracer is told
 
   kind-told : (pid fd : ℕ) → kind_of_base (opened pid fd told) ≡ kind_of_base (opened pid fd s)
@@ -115,7 +128,7 @@ module _ {T : Type 0} (by : T → ℕ) (s : State T Image) where
   text-told caller (Proc i (Root pid)) = ap (λ space. name_or_none (name_text space (root_place plain) 0 [])) space-told
   text-told caller (Proc i (Exe pid)) = ap name_or_none (exe-named pid)
   text-told caller (Proc i (FdDir pid)) = refl
-  text-told caller (Proc i (Fd pid fd)) = ap name_or_none (base-named pid fd)
+  text-told caller (Proc i (Fd pid fd)) = ap name_or_none (base-linked pid fd)
 
   pub peeked-told : (caller : ℕ) → peeked_of told caller ≡ peeked_of s caller
   peeked-told caller j = record {

@@ -5,7 +5,7 @@ ghost use Rattle.pr_base.specs.Peeks.{IsPeeked, NamesAreTexts};
 ghost use Rattle.kr_view.specs.Answers.{IsAnswer};
 ghost use Rattle.kr_view.specs.View.{plain, root_place};
 ghost use Rattle.kr_view.specs.declared.view.HostMount.{HostMount};
-ghost use Rattle.kr_model.specs.HostView.{base_name, cwd_name, exe_name, host_space};
+ghost use Rattle.kr_model.specs.HostView.{base_name, base_text, cwd_name, exe_name, host_space};
 ghost use Rattle.kr_model.specs.Peeks.{answer_along, head_at, kind_of_base, link_text_at, name_or_none, peeked_of};
 ghost use Rattle.kr_model.specs.ProcessDirectory.{name_text};
 ghost use Rattle.kr_model.specs.State.{opened};
@@ -22,7 +22,7 @@ use crate::view::host_procs;
 use kr_files::What;
 use kr_ops::State;
 use kr_procfs::proc_name;
-use kr_procview::guest::guest_text;
+use kr_procview::guest::{guest_text, text_to};
 use kr_procview::target::Target as Led;
 use kr_tree::{Host, Ino, Kind, ProcAt, Right};
 use kr_view::{HostMount, Places, Plain, Reach, Target, WalkFault, resolve};
@@ -249,7 +249,8 @@ fn text_of<T: Copy, const M: u8>(
     }
 }
 
-/// The text of a link of the process directory: of `self` its own, of others the host name of their object.
+/// The text of a link of the process directory: of `self` its own, of others the host name of their object, or the kernel's text of a pipe
+/// or of the console.
 fn process_text<T: Copy, const M: u8>(
     alloc: Global,
     state: &State<T, M>,
@@ -268,11 +269,31 @@ fn process_text<T: Copy, const M: u8>(
         ProcAt::Cwd(pid) => named(cwd_name(alloc, state, pid)?),
         ProcAt::Root(_) => named(root_name(alloc, state)?),
         ProcAt::Exe(pid) => named(exe_name(alloc, state, pid)?),
-        ProcAt::Fd(pid, fd) => named(base_name(alloc, state, pid, fd)?),
+        ProcAt::Fd(pid, fd) => named(base_text(alloc, state, pid, fd)?),
     }
 }
 
-/// The host name of what a link leads to, which a nameless object hasn't.
+/// The text of a descriptor's link, if what it is open for has one.
+fn base_text<T: Copy, const M: u8>(
+    alloc: Global,
+    state: &State<T, M>,
+    pid: u32,
+    fd: u32,
+) -> Result<Option<Bytes>, NoMemory>
+    requires { IsOfView state.now }
+    ensures { IfOk result (λ text. text ≡ base_text (meaning state.now) pid fd) }
+{
+    carries_one_mount(state);
+    let places = Plain::new();
+    text_to(
+        alloc,
+        &places,
+        state,
+        standing_target(state, ProcAt::Fd(pid, fd)),
+    )
+}
+
+/// The text of what a link leads to, which an object that lost its name hasn't.
 fn named(name: Option<Bytes>) -> Result<Bytes, PeekFault>
     ensures { IsPeeked (name_or_none name) result }
 {
@@ -349,7 +370,7 @@ fn file_head<T: Copy, const M: u8>(
     Ok(copy)
 }
 
-/// So many bytes at the front, or all of fewer.
+/// The first `n` bytes, or all where there are fewer.
 fn front(bytes: &[u8], n: u32) -> &[u8]
     ensures { result.now ≡ take n bytes.now }
 {

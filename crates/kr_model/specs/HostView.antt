@@ -11,7 +11,7 @@ use Rattle.kr_view.specs.Component.{Namespace, Surroundings}
 use Rattle.kr_view.specs.HostReach.{host_place}
 use Rattle.kr_view.specs.View.{plain, root_place}
 use Rattle.kr_files.specs.declared.opened.Opened.{Opened}
-use Rattle.kr_model.specs.ProcessDirectory.{jump_to, name_text, of_living, space_of}
+use Rattle.kr_model.specs.ProcessDirectory.{jump_to, name_text, of_living, space_of, unplaced_text}
 use Rattle.kr_model.specs.State.{State, opened, process}
 
 module _ {M X : Type 0} (s : State M X) where
@@ -41,6 +41,13 @@ module _ {M X : Type 0} (s : State M X) where
 
   abbrev pub base_name : ℕ → ℕ → Option (List ℕ)
   base_name pid fd = option_and_then open_name (opened pid fd s)
+
+  -- the text of a descriptor's link: a host name, and of a pipe and the console, which have no place, the kernel's own
+  abbrev pub linked_text : Opened M → Option (List ℕ)
+  linked_text o = option_map_or (λ p. name_text host_space (host_place p.host) o.dir o.name) o.place (unplaced_text o.what)
+
+  abbrev pub base_text : ℕ → ℕ → Option (List ℕ)
+  base_text pid fd = option_and_then linked_text (opened pid fd s)
 
   abbrev pub cwd_name : ℕ → Option (List ℕ)
   cwd_name pid = option_and_then (λ p. name_text host_space (host_place p.cwd.host) 0 []) (process pid s)

@@ -26,7 +26,7 @@ use Rattle.kr_view.specs.View.{plain, root_place}
 use Rattle.kr_view.specs.Walk.{PlaceTarget, place_walk}
 use Rattle.kr_files.specs.declared.opened.Opened.{Opened}
 use Rattle.kr_model.specs.FileRows.{is_dir}
-use Rattle.kr_model.specs.HostView.{base_name, cwd_name, exe_name, host_around_of, host_space}
+use Rattle.kr_model.specs.HostView.{base_name, base_text, cwd_name, exe_name, host_around_of, host_space}
 use Rattle.kr_model.specs.Lawful.{IsNameOrNone}
 use Rattle.kr_model.specs.ProcessDirectory.{living_of, name_text}
 use Rattle.kr_model.specs.State.{Process, State, opened, process}
@@ -104,7 +104,7 @@ module _ {M X : Type 0} (s : State M X) where
   link_text_at caller (Proc i (Root pid)) = name_or_none (name_text (host_space s) (root_place plain) 0 [])
   link_text_at caller (Proc i (Exe pid)) = name_or_none (exe_name s pid)
   link_text_at caller (Proc i (FdDir pid)) = Err EINVAL
-  link_text_at caller (Proc i (Fd pid fd)) = name_or_none (base_name s pid fd)
+  link_text_at caller (Proc i (Fd pid fd)) = name_or_none (base_text s pid fd)
 
   -- where the plain kernel's walk along a host path ends, if a last link isn't followed
   abbrev pub answer_along : ℕ → List ℕ → Result PlaceTarget Errno

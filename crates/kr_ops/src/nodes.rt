@@ -44,6 +44,7 @@ impl<T: Copy, const M: u8> State<T, M> {
         requires serials { next_serial self.old.tree dir + 1 < 2 ^ 64 }
         requires file { body_is may_be_linked self.old.tree ino ≡ true }
         ensures full { IsErrOf result TreeRefusal.Full ↔ IsTrue (has_no_name_left self.old.tree) }
+        ensures never_too_big { ¬ IsErrOf result TreeRefusal.TooBig }
         ensures ok { (pid : ℕ) → OnOk result (Makes pid (LinkNode dir name.now ino) self.old self.new) }
         ensures served { IsServed self.old → IsServed self.new }
         ensures err { OnErr result (meaning self.new ≡ meaning self.old) }

@@ -1,5 +1,5 @@
 -- Answers and notes worked out by hand.
-use Rattle.std.proofs.Common.{◌≡◌, [], ◌∷◌, ◌++◌, None, Some, Ok, negsuc, pos, refl}
+use Rattle.std.proofs.Common.{◌≡◌, [], ◌∷◌, ◌++◌, None, Some, Ok, Err, negsuc, pos, refl}
 use Rattle.std.specs.Prelude.{codes}
 use Rattle.pr_base.specs.declared.errno.Errno.TheVariants.{ENOENT, ERANGE}
 use Rattle.pt_bind.specs.declared.slot.Slot.TheVariants.{Cwd, Exe, Fd}
@@ -36,6 +36,9 @@ console = refl
 
 beside_its_binding : nowhere_answer (Ok (codes "/data")) ≡ Some (Cancel ENOENT)
 beside_its_binding = refl
+
+no_name_left : nowhere_answer (Err ENOENT) ≡ Some (Cancel ENOENT)
+no_name_left = refl
 
 -- ---- notes
 

@@ -44,11 +44,10 @@ cwd_answer texts pid size buf = directory_answer (working_text texts pid) size b
 abbrev pub lead_answer : List ℕ → Room → Edit
 lead_answer text room = Emulate ((room.buf, take (min (length text) room.count) text) ∷ []) (pos (min (length text) room.count))
 
--- one that leads to none: there is none where its object has a host name. The link of a pipe, of the console or of what has no name is
--- left to the kernel
+-- one that leads to none: there is none, but the link of a pipe or of the console, whose text is no path, is left to the kernel
 abbrev pub nowhere_answer : Result (List ℕ) Errno → Option Edit
 nowhere_answer (Ok text) = if is_absolute text then Some (Cancel ENOENT) else None
-nowhere_answer (Err e) = None
+nowhere_answer (Err e) = Some (Cancel ENOENT)
 
 abbrev pub led_answer : Result (List ℕ) Errno → Room → Result Canon Errno → Option Edit
 led_answer own room (Ok led) = Some (lead_answer led.guest room)

@@ -21,9 +21,9 @@ pub(crate) struct Room {
 }
 
 /// The answer of readlinkat(2) in guest terms for a link of the process directory other than `self`: the first bytes of the guest
-/// text to which it leads, and how many they are; ENOENT where its object has a host name, but no guest text. `None` exactly where the
-/// path leads to no such link, or to that of what has no host name: a pipe, the console, or a removed object, of which the plain kernel
-/// tells its own text, or ENOENT. Whether the bytes may be written isn't asked here.
+/// text to which it leads, and how many they are; ENOENT where its object has no guest text. `None` exactly where the path leads to no such
+/// link, or to that of a pipe or of the console, of which the plain kernel tells its own text. Whether the bytes may be written isn't
+/// asked here.
 pub fn link_answer<K: Peeks>(
     alloc: Global,
     kernel: &mut K,
@@ -122,8 +122,8 @@ fn lead_answer(alloc: Global, text: &[u8], room: Room) -> Result<Edit, NoMemory>
     })
 }
 
-/// The answer for a link that leads to no guest text. Where its object has a host name there is none; else the plain kernel answers: a
-/// pipe's link and the console's have texts of their own, and any other object without a name gives ENOENT there.
+/// The answer for a link that leads to no guest text: ENOENT, but of a pipe and of the console the plain kernel tells texts of its own,
+/// which are no paths.
 fn nowhere_answer<K: Peeks>(kernel: &mut K, host: &[u8]) -> Result<Option<Edit>, NoMemory>
     requires { IsTrue (is_absolute host.now) }
     ensures answer { IfOk result (λ edit. edit ≡ nowhere_answer ((K.peeked kernel.old).link_text host.now)) }
@@ -138,7 +138,7 @@ fn nowhere_answer<K: Peeks>(kernel: &mut K, host: &[u8]) -> Result<Option<Edit>,
                 Ok(None)
             }
         }
-        Err(PeekFault::Err(_)) => Ok(None),
+        Err(PeekFault::Err(_)) => Ok(Some(Edit::Cancel(Errno::ENOENT))),
         Err(PeekFault::NoMemory) => Err(NoMemory),
     }
 }

@@ -189,7 +189,7 @@ fn others() -> [Row; 11] {
     [
         Row(HERE, b"/proc/1/fd/4", 64, Want::Left),
         Row(HERE, b"/proc/1/fd/5", 64, lost),
-        Row(HERE, b"/proc/1/fd/8", 64, Want::Left),
+        Row(HERE, b"/proc/1/fd/8", 64, lost),
         Row(HERE, b"/proc/self", 64, Want::Left),
         Row(HERE, b"/proc/1/cwd/", 64, Want::Left),
         Row(HERE, b"/proc/1/fd", 64, Want::Left),

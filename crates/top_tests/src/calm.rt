@@ -310,14 +310,14 @@ fn marks_are_read_by_instructions(rt: HostRuntime) -> Result<(), Fail> {
     Ok(())
 }
 
-/// A name of so many bytes.
+/// A name of `length` bytes.
 fn long(alloc: Global, length: usize) -> Result<String, Fail> {
     let letters = vec![in alloc; b'a'; length]?;
     Ok(String::from_utf8_lossy(alloc, letters.as_slice())?)
 }
 
 /// A guest that makes fifteen directories with names of 255 bytes, each in the one before, and in the last one a file with a name of
-/// so many. Below `/g` that one's host name has 3,843 bytes more.
+/// `length` bytes. Below `/g` that one's host name has 3,843 bytes more.
 fn deep(alloc: Global, length: usize) -> Result<String, Fail> {
     let name = long(alloc, 255)?;
     let last = long(alloc, length)?;

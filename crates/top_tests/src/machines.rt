@@ -100,6 +100,21 @@ const ON_DATA: &[Row] = &[
         out: "0\npipe:[1]\n",
         ..NONE
     },
+    // What has lost its name has no text, and no room is needed to tell that.
+    Row {
+        words: "-r /g -b /proc /p",
+        steps: "quiet openat at /k 0x42 0x180;quiet unlinkat at /k 0;sp 0x1000;\
+                bytes readlinkat at /proc/self/fd/3 buf 64",
+        out: "-2\n",
+        ..NONE
+    },
+    Row {
+        words: "-r /g -b /proc /p",
+        steps: "quiet mkdirat at /k 0x1ff;quiet chdir /k;quiet unlinkat at /k 0x200;sp 0x1000;\
+                bytes readlinkat at /proc/self/cwd buf 64",
+        out: "-2\n",
+        ..NONE
+    },
     // A file is bound over one of two names.
     Row {
         words: "-r /g -b /new:/f /p",
@@ -551,7 +566,7 @@ fn forty_links_are_followed(rt: HostRuntime) -> Result<(), Fail> {
     Ok(())
 }
 
-/// So many bytes of the same letter.
+/// The same letter, `count` times.
 fn many(alloc: Global, letter: u8, count: usize) -> Result<String, Fail> {
     let letters = vec![in alloc; letter; count]?;
     Ok(String::from_utf8_lossy(alloc, letters.as_slice())?)
