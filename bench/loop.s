@@ -1,4 +1,4 @@
-# Arithmetic on what is loaded from the program's own page, so many times, and then exit(2) with the
+# Arithmetic on what is loaded from the program's own page, 5,001,216 times, and then exit(2) with the
 # low 7 bits of what was counted.
         lui     s0, 16
         lui     t0, 1221            # 5,001,216 rounds

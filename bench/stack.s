@@ -1,4 +1,4 @@
-# Stores to the program's stack and loads from it, so many times, and then exit(2) with the low 7 bits of
+# Stores to the program's stack and loads from it, 5,001,216 times, and then exit(2) with the low 7 bits of
 # what came out.
         lui     t0, 1221            # 5,001,216 rounds
 loop:

@@ -10,7 +10,7 @@ static int is_dots(const char *name)
     return name[0] == '.' && (!name[1] || (name[1] == '.' && !name[2]));
 }
 
-/* Puts a name behind the path, which has so many bytes, and returns how many it has then, or 0 where that is too many. */
+/* Puts a name behind the path, which has n bytes, and returns how many it has then, or 0 where that is too many. */
 static long put_name(long n, const char *name)
 {
     long more = length(name);

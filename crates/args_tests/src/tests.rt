@@ -338,7 +338,7 @@ fn names_below_the_root_of_the_host(rt: HostRuntime) -> Result<(), Fail> {
     Ok(())
 }
 
-/// A call whose host text has so many bytes.
+/// A call whose host text has `bytes` bytes.
 fn with_long_text(alloc: Global, bytes: u32) -> Result<Request, NoMemory> {
     let mut path = Bytes::copy(alloc, b"/")?;
     for _byte in 3..bytes {
@@ -391,7 +391,7 @@ fn a_shelf_is_asked_for_where_a_path_is_swapped(rt: HostRuntime) -> Result<(), F
     Ok(())
 }
 
-/// Puts an item of so many bytes on a shelf.
+/// Puts an item of these bytes on a shelf.
 fn put(alloc: Global, shelf: &mut Shelf, bytes: &[u8]) -> Result<Option<u64>, NoMemory> {
     if bytes.len() as u64 > shelf.top {
         return Ok(None);

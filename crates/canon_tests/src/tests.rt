@@ -308,7 +308,7 @@ fn chained(alloc: Global, links: u32, slashes: u32) -> Result<Told, NoMemory> {
     Ok(told)
 }
 
-/// Pieces of a path, so many times, and its end.
+/// A piece of a path, `times` times, and its end.
 fn repeated(alloc: Global, piece: &[u8], times: u32, end: &[u8]) -> Result<Bytes, NoMemory> {
     let mut path = Bytes::new(alloc);
     for _piece in 0..times {

@@ -25,7 +25,7 @@ pub struct Row {
 }
 
 /// A kernel of one process, whose working directory is `/data`, its executable `/data/n`, its descriptor 4 a pipe and
-/// each other one open for `/data`. It finds memory for so many calls.
+/// each other one open for `/data`. It finds memory for `calls` calls.
 #[derive(Drop)]
 pub struct Told {
     rows: Vec<Row>,

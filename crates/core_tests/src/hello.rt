@@ -22,7 +22,7 @@ struct Shown {
     broken: Option<u8>,
 }
 
-/// A run of at most so many turns, where the walks before the start reached a host name of so many bytes.
+/// A run of at most `turns` turns, where the walks before the start reached a host name of `longest` bytes.
 fn observe<const M: u8>(alloc: Global, longest: u64, turns: u32) -> Result<Shown, Fail> {
     if turns > 1000 {
         return Err(Fail::from("too many turns"));

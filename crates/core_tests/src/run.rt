@@ -28,8 +28,8 @@ fn ended(alloc: Global, seen: Bytes, how: &str, status: u8) -> Result<Bytes, NoM
     Ok(all)
 }
 
-/// Makes turns of a new kernel until none can be made, or so many were, each of the first process that is ready: what it put out, how it
-/// ended, and its status.
+/// Makes turns of a new kernel until none can be made, or `turns` turns were, each of the first process that is ready: what it put out,
+/// how it ended, and its status.
 pub fn run<P: Places, S: Stops, const M: u8>(
     alloc: Global,
     kernel: &mut Kernel<P, S, M>,

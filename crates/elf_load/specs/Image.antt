@@ -78,11 +78,11 @@ image_memory file plan args env ids = with_pages empty_memory (image_pages file 
 abbrev pub first_regs : Plan → List (List ℕ) → List (List ℕ) → Regs
 first_regs plan args env = record { x = slice_set (replicate 32 0) 2 (stack_pointer args env); pc = plan.entry }
 
--- so many pages pass the limit of a process, or, beside those of others, the limit of all processes
+-- `pages` pages pass the limit of a process, or, beside those of others, the limit of all processes
 abbrev pub exceeds_pages : ℕ → ℕ → Bool
 exceeds_pages others pages = nat_lt 16384 pages || nat_lt 262144 (others + pages)
 
--- whether an image may not be loaded beside so many pages of others
+-- whether an image may not be loaded beside `others` pages of others
 abbrev pub image_exceeds : ℕ → List ℕ → Plan → List (List ℕ) → List (List ℕ) → List ℕ → Bool
 image_exceeds others file plan args env ids =
     exceeds_pages others (page_count (image_pages file plan args env ids))

@@ -278,7 +278,7 @@ fn two_segments_have_their_pages_and_rights(rt: HostRuntime) -> Result<(), Fail>
     Ok(())
 }
 
-/// A segment of one page, and one of so many.
+/// A segment of one page, and one of `pages` pages.
 fn with_pages(pages: u64) -> [u8; 8192] {
     let one = Part {
         flags: 5,

@@ -48,7 +48,7 @@ fn put(memory: &mut Space<0>, at: u64, addresses: &[u64]) -> Result<(), Fail> {
     Ok(())
 }
 
-/// Puts the same address into a list so many times, with the address 0 behind.
+/// Puts the same address into a list `count` times, with the address 0 behind.
 fn repeat(memory: &mut Space<0>, at: u64, address: u64, count: u64) -> Result<(), Fail> {
     for k in 0..count {
         memory.write(
@@ -60,7 +60,7 @@ fn repeat(memory: &mut Space<0>, at: u64, address: u64, count: u64) -> Result<()
     Ok(())
 }
 
-/// Puts a text of so many bytes at the start of the texts.
+/// Puts a text of `bytes` bytes at the start of the texts.
 fn long_text(alloc: Global, memory: &mut Space<0>, bytes: usize) -> Result<(), Fail> {
     let text = vec![in alloc; b't'; bytes]?;
     memory.write(TEXTS, &text)?;

@@ -1,8 +1,8 @@
 //! Guests as texts of calls, and as words of code.
 //!
 //! In a text, steps are parted by `;` and the words of a step by blanks. A step may begin with who makes it, `child` or `parent`, where
-//! not each process does, and with what is shown of its answer where that isn't its number: `quiet` for nothing, `bytes` for so many
-//! bytes of the buffer. Then come the name of the call and its arguments: `buf` for the buffer, `at` for the working directory in place
+//! not each process does, and with what is shown of its answer where that isn't its number: `quiet` for nothing, `bytes` for as many
+//! bytes of the buffer as it says. Then come the name of the call and its arguments: `buf` for the buffer, `at` for the working directory in place
 //! of a descriptor, `@k` for the answer of the step at the place `k`, counted from 0, `[a,b]` for a list of texts and `[]` for an empty one,
 //! a path that begins with `/` or `.`, any other text behind `'`, and numbers. The step `sp` sets the stack pointer to a number.
 
@@ -136,7 +136,7 @@ fn argument(alloc: Global, word: &str) -> Result<Arg, Fail> {
     }
 }
 
-/// The argument that stands behind so many words; 0 where there is none.
+/// The argument that stands behind `place` words; 0 where there is none.
 fn argument_at(alloc: Global, words: &[&str], place: usize) -> Result<Arg, Fail> {
     match words.get(place) {
         Some(word) => argument(alloc, word),

@@ -15,7 +15,7 @@ bits_by File = s_regular
 bits_by Link = s_link
 bits_by Proc = s_directory
 
--- a file or a link has so many bytes
+-- a file or a link has `bytes` bytes
 abbrev pub size_by : Kind → ℕ → ℕ
 size_by Dir bytes = directory_size
 size_by File bytes = bytes

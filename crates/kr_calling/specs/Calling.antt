@@ -20,7 +20,7 @@ abbrev pub mounts_numbered : {T : Type 0} → (T → ℕ) → Mounts T → Mount
 mounts_numbered number mounts = record { found = option_map number mounts.found; directory = option_map number mounts.directory }
 
 module _ {T : Type 0} {M : ℕ} (number : T → ℕ) (table : List Row) where
-  -- a state after so many calls: lawful, with what lasts, and served by what the code keeps beside it
+  -- a state after `calls` calls: lawful, with what lasts, and served by what the code keeps beside it
   pub record Runs (calls : ℕ) (s : State T M) : Type 0 where
     pub lasts : LastsLawful number table calls (meaning s)
     pub served : IsServed s

@@ -48,7 +48,7 @@ read_on m at k =
     ap (λ b. let s : Memory = record { pages = m.pages; read_marked = b } in s)
     (or-assoc m.read_marked (any_marked m.pages at 1) (any_marked m.pages (at + 1) k) ∙ ap (λ b. m.read_marked || b) (sym (any_marked-add m.pages at 1 k)))
 
--- reading the text is reading so many bytes and going on by what the text is
+-- reading the text is reading as many bytes as `text_reach` tells and going on by what the text is
 pub read_text_is : {A : Type 0} (max at : ℕ) (refused too_long : Action A) (next : List ℕ → Action A) (m : Memory)
     → carried_out (read_text max at refused too_long next) m ≡ carried_out (chosen refused too_long next (text_of m.pages at max)) (after_read m at (text_reach m.pages at max))
 unfolding read_text text_of text_reach allows_all bytes_from

@@ -37,7 +37,7 @@ argument_of (b ∷ bs) = (b ∷ bs) ∷ []
 abbrev pub new_args : List ℕ → List ℕ → List ℕ → List (List ℕ) → List (List ℕ)
 new_args interpreter argument path args = interpreter ∷ (argument_of argument ++ path ∷ drop 1 args)
 
--- at most so many scripts are expanded
+-- how many scripts are expanded at most
 abbrev pub most_scripts : ℕ
 most_scripts = 5
 
@@ -59,11 +59,11 @@ by_line finding again env_bytes path args None = Err ENOEXEC
 by_line finding again env_bytes path args (Some line) =
     by_interpreter again env_bytes line.0 (new_args line.0 line.1 path args) (finding.find line.0)
 
--- the file itself, with so many scripts left to be expanded
+-- the file itself, where `left` scripts may still be expanded
 abbrev pub runs : {F : Type 0} → ℕ → F → List (List ℕ) → Result (Expanded F) Errno
 runs left file args = Ok (record { file = file; args = args; scripts = most_scripts - left })
 
--- a file, with so many scripts left: ELOOP where there is one too many
+-- a file, where `left` scripts may still be expanded: ELOOP if there is one too many
 unfoldable pub expanded : {F : Type 0} → Finding F → ℕ → ℕ → Onward F
 expanded finding env_bytes zero file path args = if is_script (finding.head file) then Err ELOOP else runs zero file args
 expanded finding env_bytes (suc left) file path args =

@@ -4,7 +4,7 @@ use Rattle.rv_mem.specs.Actions.{Action, read_if_allowed}
 use Rattle.rv_mem.specs.declared.rights.Use.TheVariants.{Read}
 
 -- the text at an address, whose zero is among the first `max` bytes: a byte that may not be read refuses it,
--- and so many bytes without a zero are too long
+-- and `max` bytes without a zero are too long
 unfoldable pub read_text : {A : Type 0} → (max at : ℕ) → Action A → Action A → (List ℕ → Action A) → Action A
 read_text zero at refused too_long next = too_long
 read_text (suc max) at refused too_long next =

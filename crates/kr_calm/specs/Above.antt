@@ -4,7 +4,7 @@ use Rattle.std.specs.Prelude.{ℕ, zero, suc, Bool, false, ◌||◌, nat_eq, Opt
 use Rattle.std.specs.Option.{option_map_or}
 use Rattle.kr_tree.specs.Tree.{Tree, above}
 
--- in fewer than so many steps, each to the inode above
+-- in fewer than n steps, each to the inode above
 unfoldable pub is_within : ℕ → (ℕ → Option ℕ) → ℕ → ℕ → Bool
 is_within zero up top dir = false
 is_within (suc n) up top dir = nat_eq top dir || option_map_or (is_within n up top) (up dir) false

@@ -60,7 +60,7 @@ fn kills<T: Copy, const M: u8>(state: &State<T, M>, pid: u32, fd: i32) -> bool
     }
 }
 
-/// Reads so many bytes of a process into the front of a buffer, if they can be read.
+/// Reads `n` bytes of a process into the front of a buffer, if they can be read.
 fn read_front<T: Copy, const M: u8>(
     state: &mut State<T, M>,
     pid: u32,

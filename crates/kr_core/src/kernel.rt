@@ -126,8 +126,8 @@ impl<P: Places, S: Stops, const MARKED: u8> Kernel<P, S, MARKED> {
         self.state.living.len()
     }
 
-    /// A turn: of the ready processes in order of their numbers, that at the place `pick`, modulo their number, runs until it did so
-    /// many instructions, it called, or it died. After want of memory the kernel may only be dropped.
+    /// A turn: of the ready processes in order of their numbers, that at the place `pick`, modulo their number, runs until it did
+    /// `fuel` instructions, it called, or it died. After want of memory the kernel may only be dropped.
     pub fn turn(&mut self, pick: u32, fuel: u32) -> Result<Turned, NoMemory>
         requires whole { self.old.whole ≡ true }
         requires fuel { 1 ≤ fuel }

@@ -76,7 +76,7 @@ abbrev pub paths_by_line : {F : Type 0} → Finding F → Paths F → ℕ → Li
 paths_by_line finding again env_bytes path args None = []
 paths_by_line finding again env_bytes path args (Some line) = line.0 ∷ paths_behind again (interpreted finding env_bytes path args (Some line))
 
--- the paths of a file's interpreters, where so many scripts may still be expanded
+-- the paths of a file's interpreters, where `left` scripts may still be expanded
 unfoldable pub interpreters : {F : Type 0} → Finding F → ℕ → ℕ → Paths F
 interpreters finding env_bytes zero file path args = []
 interpreters finding env_bytes (suc left) file path args =

@@ -60,7 +60,7 @@ unless_ended next address = if nat_eq address 0 then Done (Ok []) else next
 abbrev pub behind : List ℕ → List (List ℕ) → Trying (List (List ℕ))
 behind text rest = Done (Ok (text ∷ rest))
 
--- the texts from an address in a list on, where so many texts and bytes may still come
+-- the texts from an address in a list on, where `left` texts and `room` bytes may still come
 unfoldable pub texts_from : (left at room : ℕ) → Trying (List (List ℕ))
 texts_from zero at room = and_then (address_at at) (unless_ended (Done (Err E2BIG)))
 texts_from (suc left) at room =

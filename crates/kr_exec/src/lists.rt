@@ -72,7 +72,7 @@ fn or_one_empty(alloc: Global, list: List) -> Result<List, CallFault>
     })
 }
 
-/// The list at an address, whose texts may have so many bytes with their ends.
+/// The list at an address, whose texts may have `room` bytes with their ends.
 fn read_list<const M: u8>(
     alloc: Global,
     mem: &mut Space<M>,

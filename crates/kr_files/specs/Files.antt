@@ -31,7 +31,7 @@ pub record Table (M : Type 0) : Type 0 where
   pub last_pipe : ℕ
 
 module _ {M : Type 0} where
-  -- with so many more descriptors
+  -- with n more descriptors
   abbrev pub counted_more : ℕ → Counted M → Counted M
   counted_more n h = record h { count = h.count + n }
 

@@ -68,7 +68,7 @@ impl<M: Copy> OpenFiles<M> {
         let _ = &self.slab;
     }
 
-    /// Makes room for so many more files.
+    /// Makes room for `count` more files.
     pub(crate) fn reserve(&mut self, count: usize) -> Result<(), NoMemory>
         ensures room { OnOk result (count ≤ self.new.room) }
         ensures same { SameFiles self.old self.new }

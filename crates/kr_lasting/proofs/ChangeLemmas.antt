@@ -22,7 +22,7 @@ use Rattle.kr_lasting.specs.Lasting.{HasText, Lasts, IsOfUser, ModestChangesLast
 use Rattle.kr_lasting.proofs.TreeLemmas.{TreeLasts, added-lasts, linked-lasts, removed-lasts, renamed-lasts, mode_set-lasts, owner_set-lasts, bytes_set-lasts}
 use Rattle.kr_lasting.proofs.StateLemmas.{Drawn, StateLasts, state-later, read-last, write-last, open-lasts, close-lasts, copy_over-lasts, moved_to-lasts, executed-lasts, forked-lasts, close_on_exec-lasts, end-lasts}
 
--- so many more, computed step by step
+-- the sum of `more` and n, computed step by step
 abbrev further : ℕ → ℕ → ℕ
 further zero n = n
 further (suc more) n = suc (further more n)
@@ -43,7 +43,7 @@ module _ {M : Type 0} (number : M → ℕ) (table : List Row) (mounts : Mounts M
   -- ---- one change
 
   module _ (d : Drawn) (s : State M Image) (lasts : StateLasts user d s) where
-    -- another tree, which drew so many names
+    -- another tree, which drew `names` names
     on-tree : (names : ℕ) (f : Tree → Tree) → TreeLasts names (f s.tree) → StateLasts user (record { names = names; files = d.files; pids = d.pids }) (with_tree f s)
     on-tree names f last = record { user = lasts.user; tree = last; files = lasts.files; pids = lasts.pids }
 
@@ -142,7 +142,7 @@ module _ {M : Type 0} (number : M → ℕ) (table : List Row) (mounts : Mounts M
 
 -- ---- a call
 
--- so often of each kind
+-- `calls` draws of each kind
 abbrev each_so_often : ℕ → Drawn
 each_so_often calls = record { names = calls; files = calls; pids = calls }
 

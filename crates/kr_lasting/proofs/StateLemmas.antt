@@ -17,7 +17,7 @@ use Rattle.kr_lasting.proofs.TreeLemmas.{TreeLasts, tree-later, held-lasts, rele
 
 -- ---- open files and pipes
 
--- what lasts of a table that drew so often: two open files each time at most, or a pipe
+-- what lasts of a table that drew `drawn` times: two open files each time at most, or a pipe
 pub record FilesLast {M : Type 0} (drawn : ℕ) (t : Table M) : Type 0 where
   pub files : t.last_file < 2 ^ 31 + 2 * drawn
   pub pipes : t.last_pipe < 2 ^ 31 + drawn
@@ -78,7 +78,7 @@ pub record IsNoLess (d e : Drawn) : Type 0 where
   pub files : d.files ≤ e.files
   pub pids : d.pids ≤ e.pids
 
--- what lasts of the state of a user that drew so often
+-- what lasts of the state of a user that drew as often as `drawn` says
 pub record StateLasts {M X : Type 0} (owner : User) (drawn : Drawn) (s : State M X) : Type 0 where
   pub user : s.user ≡ owner
   pub tree : TreeLasts drawn.names s.tree

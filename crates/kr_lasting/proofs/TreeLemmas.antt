@@ -32,7 +32,7 @@ text-with_bytes f (ProcessDirectory standing) is = is
 
 -- ---- one inode
 
--- what lasts of an inode of a tree that drew so many names
+-- what lasts of an inode of a tree that drew `names` names
 pub record InodeLasts (names : ℕ) (x : Inode) : Type 0 where
   pub text : HasText x.node.body
   pub owners : (x.node.uid < 2 ^ 32) × (x.node.gid < 2 ^ 32)
@@ -112,7 +112,7 @@ inodes-dropped names m i last = by (is_unused_at i m)
 
 -- ---- the tree
 
--- what lasts of a tree that drew so many names
+-- what lasts of a tree that drew `names` names
 pub record TreeLasts (names : ℕ) (t : Tree) : Type 0 where
   pub next : t.next < 2 ^ 31 + names
   pub inodes : InodesLast names t.inodes

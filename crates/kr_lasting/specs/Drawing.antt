@@ -35,7 +35,7 @@ pub record DrawsOnce (cs : List Change) : Type 0 where
 
 -- ---- what was drawn
 
--- after so many calls, each of which draws once, from a start at which fewer than 2^31 numbers of each kind were drawn, and of
+-- after `calls` calls, each of which draws once, from a start at which fewer than 2^31 numbers of each kind were drawn, and of
 -- each directory's serials 2^63 - 2^31 at most
 pub record HasDrawn {M X : Type 0} (calls : ℕ) (s : State M X) : Type 0 where
   pub inodes : s.tree.next < 2 ^ 31 + calls

@@ -128,7 +128,7 @@ writable k (host.Proc i at) next = if is_over k at then refuse ENOENT else refus
 
 -- ---- room in the tree
 
--- no room for one inode more, with a name and so many bytes
+-- no room for one inode more, with a name and `size` bytes
 abbrev pub has_no_room : ℕ → Known → Bool
 has_no_room size k = nat_le count_limit k.sizes.inodes || nat_le count_limit k.sizes.names || nat_lt byte_limit (k.sizes.bytes + size)
 
@@ -136,7 +136,7 @@ has_no_room size k = nat_le count_limit k.sizes.inodes || nat_le count_limit k.s
 abbrev pub has_no_name_left : Known → Bool
 has_no_name_left k = nat_le count_limit k.sizes.names
 
--- no room for a file of so many bytes in place of those that it has
+-- no room for a file of `new` bytes in place of those that it has
 abbrev pub has_no_room_for : (old new : ℕ) → Known → Bool
 has_no_room_for old new k = nat_lt byte_limit (k.sizes.bytes - old + new)
 

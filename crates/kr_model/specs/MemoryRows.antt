@@ -16,7 +16,7 @@ use Rattle.kr_model.specs.State.{Layout}
 abbrev pub pages_end : ℕ
 pages_end = 0x3ffffff000
 
--- how many pages hold so many bytes
+-- how many pages hold n bytes
 abbrev pub page_count : ℕ → ℕ
 page_count n = div_ceil n 4096
 
@@ -40,7 +40,7 @@ process_pages = 16384
 abbrev pub all_pages : ℕ
 all_pages = 262144
 
--- whether so many pages more, of which some are mapped now, pass a limit
+-- whether `more` further pages, of which `there` are mapped now, pass a limit
 abbrev pub passes_limit : Known → ℕ → ℕ → Bool
 passes_limit k more there =
     nat_lt process_pages (map.len k.caller.layout + more - there) || nat_lt all_pages (k.pages + more - there)
@@ -75,7 +75,7 @@ places_end = 0x3f00000
 abbrev pub lowest_page : ℕ
 lowest_page = 0x10
 
--- a place from a page on for so many
+-- a place from a page on for `count` pages
 abbrev pub place_here : ℕ → ℕ → Option ℕ
 place_here from count = if nat_le (from + count) places_end then Some from else None
 

@@ -139,7 +139,7 @@ host_above k (host.Proc i (Dir pid)) = Some (host.Node i)
 host_above k (host.Proc i (FdDir pid)) = Some (host.Proc i (Dir pid))
 host_above k (host.Proc i _) = None
 
--- whether a directory stands at another or so many steps below it
+-- whether a directory stands fewer than n steps below another, where it stands 0 steps below itself
 unfoldable pub is_within : ℕ → Known → Host → Host → Bool
 is_within zero k top dir = false
 is_within (suc n) k top dir = same_host top dir || option_map_or (is_within n k top) (host_above k dir) false

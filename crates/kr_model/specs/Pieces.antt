@@ -9,7 +9,7 @@ use Rattle.rv_mem.specs.declared.rights.Use.TheVariants.{Read, Write}
 use Rattle.kr_model.specs.Change.{Change}
 use Rattle.kr_model.specs.Reply.{Replying, done, refuse}
 
--- so many bytes at an address
+-- `count` bytes at the address `at`
 pub record Piece : Type 0 where
   pub at : ℕ
   pub count : ℕ
@@ -66,7 +66,7 @@ hand pieces (b ∷ bytes) changes =
 abbrev pub move_limit : ℕ
 move_limit = 0x7ffff000
 
--- so many entries of a list, each an address and a length of 8 bytes
+-- n entries of a list, each an address and a length of 8 bytes
 abbrev pub pieces_of : ℕ → List ℕ → List Piece
 pieces_of zero bytes = []
 pieces_of (suc n) bytes =

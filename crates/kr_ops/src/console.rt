@@ -18,7 +18,7 @@ impl<T: Copy, const M: u8> State<T, M> {
         self.input.len() as u64 - self.taken
     }
 
-    /// Takes so many bytes of the input that is left.
+    /// Takes `count` bytes of the input that is left.
     pub fn take_input(&mut self, count: u64)
         requires { self.old.taken + count ≤ length self.old.input }
         ensures makes { (pid : ℕ) → Makes pid (TakeInput count) self.old self.new }

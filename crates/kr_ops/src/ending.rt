@@ -15,7 +15,7 @@ use pr_base::NoMemory;
 /// The process that has the children of those that ended. It isn't among the living.
 const FIRST_PROCESS: u32 = 1;
 
-/// So many pages has a memory's range of addresses.
+/// How many pages a memory's range of addresses has.
 const ALL_PAGES: u32 = 67_108_863;
 
 /// The parent of a process after another ended.

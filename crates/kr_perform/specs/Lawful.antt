@@ -16,7 +16,7 @@ use Rattle.kr_ops.specs.Meaning.{meaning}
 use Rattle.kr_procview.specs.Numbered.{state_numbered}
 use Rattle.kr_perform.specs.Operating.{OperatesAt, mounts_at, placed_targets}
 
--- a lawful state in which lasts what calls keep, after so many of them
+-- a lawful state in which lasts what calls keep, after `calls` of them
 pub record LastsLawful {T : Type 0} (number : T → ℕ) (table : List Row) (calls : ℕ) (s : model.State T model.Image) : Type 0 where
   pub lawful : IsLawful number table s
   pub lasts : Lasts calls s

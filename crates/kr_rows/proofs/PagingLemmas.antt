@@ -61,7 +61,7 @@ mapped_among-most l first (suc n) =
     let most = one-at-most (map.contains_key l (first + n)) in
     omega arith
 
--- all are mapped where so many are
+-- all of n + 1 pages are mapped where n + 1 of them are
 one-more : (a n x : ℕ) (b c : Bool) → b ≡ (a == n) → a ≤ n → x ≡ a + one c → (b && c) ≡ (x == suc n)
 one-more a n x true true is most more = let same : a ≡ n = passed-test a n (sym is) in sym (same-test x (suc n) (omega arith))
 one-more a n x false true is most more = sym (apart-test x (suc n) (λ e. let same : a ≡ n = omega arith in let none : false ≡ true = is ∙ same-test a n same in cc))

@@ -41,7 +41,7 @@ const BREAK_RIGHTS: Rights = Rights {
     x: false,
 };
 
-/// How many pages hold so many bytes.
+/// How many pages hold `bytes` bytes.
 fn page_count(bytes: u64) -> u64
     ensures { result ≡ page_count bytes }
 {

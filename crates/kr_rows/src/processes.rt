@@ -10,7 +10,7 @@ use crate::answer::number;
 use kr_model::Outcome;
 use kr_ops::State;
 
-/// So many masks are there, of nine bits.
+/// How many masks of nine bits there are.
 const MASKS: u32 = 512;
 
 /// getpid(2), gettid(2) and set_tid_address(2), of which nothing is kept.

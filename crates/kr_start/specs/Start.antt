@@ -179,7 +179,7 @@ module _ {T : Type 0} {M : ℕ} where
     pub idle : IsIdle (meaning s)
     pub begins : CanBegin number table s.tree first
 
-  -- so many parts of the console are open, and nothing else
+  -- n parts of the console are open, and nothing else
   pub record IsOpenTo (n : ℕ) (s : code.State T M) : Type 0 where
     pub view : IsOfView s
     pub lives : IsSome (process first_pid (meaning s))

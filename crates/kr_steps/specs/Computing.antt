@@ -19,7 +19,7 @@ abbrev pub computed : {T : Type 0} → ℕ → Regs → Memory → model.State T
 computed pid regs memory s = with_living (model.with_process pid (with_image (λ (image : model.Image). record { regs = regs; memory = memory }))) s
 
 module _ {T : Type 0} {M : ℕ} where
-  -- a living process did so many instructions, or fewer where one of them is a call or kills it
+  -- a living process did `fuel` instructions, or fewer where one of them is a call or kills it
   pub record Computes (pid fuel : ℕ) (old new : State T M) (event : Event) (done : ℕ) : Type 0 where
     pub process : model.Process T model.Image
     pub lives : model.process pid (meaning old) ≡ Some process

@@ -14,7 +14,7 @@ use pr_base::NoMemory;
 use rv_cpu::{Event, run};
 use rv_mem::Use;
 
-/// Does so many instructions of a living process, or fewer where one of them is a call or kills it, which is the last. Tells how
+/// Does `fuel` instructions of a living process, or fewer where one of them is a call or kills it, which is the last. Tells how
 /// it ended, and how many were done. Behind a call that it ended with there is another address. After `NoMemory` the state may only
 /// be dropped.
 pub fn compute<T: Copy, const M: u8>(

@@ -5,7 +5,7 @@ use Rattle.kr_tree.specs.Tree.{Entry}
 use Rattle.kr_tree.specs.Names.{is_name}
 use Rattle.kr_text.specs.declared.order.Item.{Item}
 
--- so many of the first bytes of a name, with zeros behind a shorter one
+-- the first n bytes of a name, with zeros behind a shorter one
 abbrev pub head : ℕ → List ℕ → List ℕ
 head zero name = []
 head (suc n) [] = 0 ∷ head n []

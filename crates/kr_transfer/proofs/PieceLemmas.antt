@@ -23,7 +23,7 @@ next-told pieces i d within =
     let later : drop (suc i) pieces ≡ drop (i + 1) pieces = rw add-one refl in
     ap told (drop-cons pieces i d within ∙ ap (λ ps. get_or pieces i d ∷ ps) later)
 
--- so many bytes of it, and those of the others
+-- `count` bytes of it, and those of the others
 pub next-cut : (pieces : List Piece) (i : ℕ) (d : Piece) (left count : ℕ) → count ≡ min left (get_or pieces i d).count → i < length pieces
     → cut_to left (told (drop i pieces)) ≡ record { at = (get_or pieces i d).at; count = count } ∷ cut_to (left - count) (told (drop (i + 1) pieces))
 next-cut pieces i d left count counted within =

@@ -64,7 +64,7 @@ still-channel pid c o old mid same h = subst (λ k. IsChannelOf k c o) (sym same
 
 -- ---- what is asked
 
--- a test of so many bytes as are asked in all is one of all
+-- a test of as many bytes as are asked in all is one of all
 pub whole-allowed : (m : Pages) (what : Use) (count : ℕ) (pieces : List model_pieces.Piece) (b : Bool) → count ≡ asked pieces → b ≡ all_allowed m what (cut_to count pieces) → all_allowed m what pieces ≡ b
 whole-allowed m what count pieces b counted is = let within : asked pieces ≤ count = omega arith in sym (ap (all_allowed m what) (uncut count pieces within)) ∙ sym is
 

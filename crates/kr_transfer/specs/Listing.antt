@@ -29,7 +29,7 @@ abbrev pub last_from : ℕ → List model.Listed → ℕ
 last_from at [] = at
 last_from at (e ∷ entries) = last_from e.serial entries
 
--- what comes next of the entries behind a place that fit so many bytes
+-- what comes next of the entries behind a place that fit into `left` bytes
 abbrev pub IsNextFitting : List model.Listed → ℕ → ℕ → Option Listed → Type 0
 IsNextFitting entries at left None = fitting left (behind at entries) ≡ []
 IsNextFitting entries at left (Some e) =

@@ -47,7 +47,7 @@ fn is_directory_host<T: Copy, const M: u8>(state: &State<T, M>, pid: u32, host: 
     }
 }
 
-/// The first entry behind a place, if it fits so many bytes.
+/// The first entry behind a place, if it fits into `left` bytes.
 fn next_fitting<T: Copy, const M: u8>(
     state: &State<T, M>,
     pid: u32,

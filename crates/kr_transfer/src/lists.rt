@@ -91,7 +91,7 @@ fn cut(alloc: Global, pieces: &[Piece], n: u64) -> Result<Vec<Piece>, NoMemory>
     Ok(cut)
 }
 
-/// The pieces of a list of so many entries, cut at the most bytes that one call moves: EINVAL of more than 1,024 entries,
+/// The pieces of a list of `count` entries, cut at the most bytes that one call moves: EINVAL of more than 1,024 entries,
 /// EFAULT where the list can't be read, EINVAL where the lengths sum to more than a signed number of 64 bits holds.
 pub(crate) fn read_list<T: Copy, const M: u8>(
     state: &mut State<T, M>,

@@ -3,7 +3,7 @@ ghost use Rattle.std.specs.Prelude.{◌≡◌, ◌≤◌, ◌<◌, ◌^◌, IfNo
 ghost use Rattle.kr_model.specs.Pieces.{asked};
 ghost use Rattle.kr_transfer.specs.Moving.{told};
 
-/// So many bytes at an address.
+/// `count` bytes at the address `at`.
 #[derive(Clone, Copy, Debug, PartialEq, Eq)]
 pub struct Piece {
     pub at: u64,

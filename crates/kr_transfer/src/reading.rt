@@ -84,7 +84,7 @@ fn read_open<T: Copy, const M: u8>(
     read_pieces(state, pid, channel, &pieces, count)
 }
 
-/// Reads what is open into pieces that ask for so many bytes.
+/// Reads what is open into pieces that ask for `count` bytes.
 fn read_pieces<T: Copy, const M: u8>(
     state: &mut State<T, M>,
     pid: u32,

@@ -96,7 +96,7 @@ fn write_open<T: Copy, const M: u8>(
     write_pieces(state, pid, channel, &pieces, count)
 }
 
-/// Writes pieces that have so many bytes to what is open.
+/// Writes pieces that have `count` bytes to what is open.
 fn write_pieces<T: Copy, const M: u8>(
     state: &mut State<T, M>,
     pid: u32,

@@ -23,7 +23,7 @@ pub not_below_removed : (t : Tree) (top at : ℕ) → at ≢ top → above t at 
 not_below_removed t top at away none Here = away refl
 not_below_removed t top at away none (Below {up = u} n a r) = let no : None ≡ Some u = sym none ∙ a in absurd cc
 
--- after so many steps up from a directory: its host name is found in the steps that are left, unless
+-- after k steps up from a directory: its host name is found in the steps that are left, unless
 -- no step was taken
 abbrev pub HasSteps : Tree → ℕ → ℕ → Type 0
 HasSteps t k at = (k ≡ 0) ⊎ ((text : List (List ℕ)) × (host_name_within (t.next - k) t at ≡ Some text))

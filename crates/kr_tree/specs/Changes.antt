@@ -141,7 +141,7 @@ count_limit = 1048576
 abbrev pub passes_limit : Tree → Bool
 passes_limit t = nat_lt count_limit (map.len t.inodes) || nat_lt count_limit t.names || nat_lt byte_limit t.bytes
 
--- whether there is no room for one inode more, with a name and so many bytes
+-- whether there is no room for one inode more, with a name and `size` bytes
 abbrev pub has_no_room : ℕ → Tree → Bool
 has_no_room size t = nat_le count_limit (map.len t.inodes) || nat_le count_limit t.names || nat_lt byte_limit (t.bytes + size)
 
@@ -149,10 +149,10 @@ has_no_room size t = nat_le count_limit (map.len t.inodes) || nat_le count_limit
 abbrev pub has_no_name_left : Tree → Bool
 has_no_name_left t = nat_le count_limit t.names
 
--- whether a file may not have so many bytes
+-- whether a file may not have `new` bytes
 abbrev pub is_past_file : ℕ → Bool
 is_past_file new = nat_lt file_limit new
 
--- whether there is no room for a file with so many bytes in place of those that it has
+-- whether there is no room for a file with `new` bytes in place of those that it has
 abbrev pub has_no_room_for : ℕ → ℕ → Tree → Bool
 has_no_room_for file new t = nat_lt byte_limit (t.bytes - size t file + new)

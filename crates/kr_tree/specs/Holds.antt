@@ -40,11 +40,11 @@ pub record HoldsAreCounted : Type 0 where
 
 -- ---- fewer holds
 
--- an inode with so many holds fewer
+-- an inode with n fewer holds
 abbrev pub fewer : ℕ → Inode → Inode
 fewer n x = with_holds (λ holds. holds - n) x
 
--- the tree with so many holds fewer on each inode
+-- the tree with `less i` fewer holds on each inode i
 abbrev pub with_fewer : (ℕ → ℕ) → Tree → Tree
 with_fewer less t = record { inodes = mapped (λ i. fewer (less i)) t.inodes; next = t.next; names = t.names; bytes = t.bytes }
 

@@ -36,7 +36,7 @@ reached t user (name ∷ text) = option_and_then (entry_searched t user name) (r
 abbrev pub step_up : Tree → ℕ → Option (List ℕ × ℕ)
 step_up t dir = option_and_then (λ s. option_map (λ e. (e.name, s.inode)) (entry_at s.serial (entries t s.inode))) (standing t dir)
 
--- the host name of a directory that stands less than so many steps below the root
+-- the host name of a directory that stands fewer than n steps below the root
 unfoldable pub host_name_within : ℕ → Tree → ℕ → Option (List (List ℕ))
 host_name_within zero t dir = None
 host_name_within (suc n) t dir =

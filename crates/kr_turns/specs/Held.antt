@@ -20,7 +20,7 @@ pub record Stands {T : Type 0} {M : ℕ} (number : T → ℕ) (table : List Row)
   pub lives : IsSome (process pid (meaning s))
   pub small : (meaning s).next_pid ≤ 2 ^ 32
 
--- what a kernel lends for a stop: its view, its state after so many calls, and which process stopped. Names that are told are texts
+-- what a kernel lends for a stop: its view, its state after `calls` calls, and which process stopped. Names that are told are texts
 pub record Held (P T : Type 0) (M : ℕ) : Type 0 where
   pub places : P
   pub state : State T M

@@ -1,4 +1,4 @@
--- A run: turns one after the other, until no process lives, none is ready, or so many were made.
+-- A run: turns one after the other, until no process lives, none is ready, or the given number of turns was made.
 use Rattle.std.specs.Prelude.{ℕ, zero, suc, ◌%◌, List, [], ◌∷◌, length, Option, Some, None, get_or}
 use Rattle.std.specs.Option.{option_map_or}
 use Rattle.kr_view.specs.View.{Row}
@@ -70,7 +70,7 @@ module _ {S : Type 0} (watcher : Watcher S) (marks : ℕ) (table : List Row) (sl
   abbrev pub turned : ℕ → Machine S → Machine S
   turned made m = turn watcher marks table (slots made).pick (slots made).fuel m
 
-  -- at most so many turns, after so many; that they were made is tested last
+  -- at most `left` turns, after `made` turns; that none is left is tested last
   unfoldable pub run_from : (left made : ℕ) → Machine S → Ran S
   run_from zero made m = ended m (option_map_or (λ ending. ending) (ending_of m) Spent)
   run_from (suc left) made m = option_map_or (ended m) (ending_of m) (with_put (put_by (turned made m)) (run_from left (suc made) (after_put (turned made m))))

@@ -52,7 +52,7 @@ impl<'a, P: Places, const M: u8> Model for Here<'a, P, M> {
 }
 
 impl<'a, P: Places, const M: u8> Here<'a, P, M> {
-    /// A living process in a state after so many calls.
+    /// A living process in a state after `calls` calls.
     pub(crate) fn new(
         alloc: Global,
         places: &'a P,

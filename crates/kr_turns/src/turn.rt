@@ -32,7 +32,7 @@ pub struct Made {
     pub broken: Option<u8>,
 }
 
-/// Makes a turn of a living process, of so many instructions at most. After want of memory the state and the watcher may only be
+/// Makes a turn of a living process, of `fuel` instructions at most. After want of memory the state and the watcher may only be
 /// dropped.
 pub fn make_turn<P: Places, S: Stops, const M: u8>(
     alloc: Global,

@@ -25,7 +25,7 @@ pub(crate) fn bytes_of(name: &Option<Bytes>) -> Option<u64>
     }
 }
 
-/// The length of a host name that has so many bytes below the root. The root's is 1.
+/// The length of a host name that has `bytes` bytes below the root. The root's is 1.
 pub(crate) fn length_of(bytes: Option<u64>) -> Option<u64>
     ensures { (text : Option (List (List ℕ))) → bytes ≡ option_map bytes_below text → result ≡ option_map text_length text }
 {
@@ -35,7 +35,7 @@ pub(crate) fn length_of(bytes: Option<u64>) -> Option<u64>
     }
 }
 
-/// The length of the host name of an entry, in a directory whose own has so many bytes below the root.
+/// The length of the host name of an entry, in a directory whose own has `bytes` bytes below the root.
 pub(crate) fn entry_length(bytes: Option<u64>, name: &[u8]) -> Option<u64>
     requires { IfSome bytes (λ n. n + 1 + length name.now < 2 ^ 64) }
     ensures { (text : Option (List (List ℕ))) → bytes ≡ option_map bytes_below text → result ≡ option_map text_length (below name.now text) }

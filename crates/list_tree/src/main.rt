@@ -1,5 +1,5 @@
 //! A listing, read from the standard input, is written in its canonical form. With a number as its
-//! word the program adds, looks up and removes so many names of one directory instead.
+//! word the program adds, looks up and removes that many names of one directory instead.
 #![tactic(auto)]
 
 ghost use Rattle.list_tree.specs.Rewritten.{IsRewritten};
@@ -43,7 +43,7 @@ fn rewrite(rt: &HostRuntime) -> Result<(), Fault> {
         .map_err(|_| Fault::Output)
 }
 
-/// Adds, looks up and removes so many names, and tells how often each was done.
+/// Adds, looks up and removes as many names as `word` says, and tells how often each was done.
 fn count(rt: &HostRuntime, word: &str) -> Result<(), Fault> {
     let Ok(number) = word.parse::<u32>() else {
         return Err(Fault::Word);

@@ -72,7 +72,7 @@ fn count_left(tree: &Tree) -> u32 {
     left
 }
 
-/// Adds so many names to the root of a new tree, looks each up, and removes each.
+/// Adds `number` names to the root of a new tree, looks each up, and removes each.
 pub(crate) fn exercise(alloc: Global, number: u32) -> Result<Counts, Fault> {
     let mut tree = Tree::new(alloc, META)?;
     let mut counts = Counts {

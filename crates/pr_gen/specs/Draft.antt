@@ -13,7 +13,7 @@ pub record IsKept (p : Program) (size : ℕ) : Type 0 where
   pub counted : size ≡ total p.items
   pub straight : All IsNoBranch p.items
 
--- with so many bytes more
+-- longer by `more` bytes
 abbrev pub longer : ℕ → Draft → Draft
 longer more d = record { size = d.size + more; places = d.places }
 

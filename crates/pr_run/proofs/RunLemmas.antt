@@ -44,7 +44,7 @@ module _ {S : Type 0} (does : Watcher S) (marks : ℕ) (table : List Row) (slots
   abbrev behind : ℕ → Ran S → Ran S
   behind made whole = record { puts = drop made whole.puts; ending = whole.ending; machine = whole.machine }
 
-  -- so many turns of a whole run were made, and what is left is the run of this machine
+  -- `made` turns of a whole run were made, and what is left is the run of this machine
   pub record IsRest (whole : Ran S) (limit made : ℕ) (m : Machine S) : Type 0 where
     pub rest : rest-of (limit - made) made m ≡ behind made whole
 

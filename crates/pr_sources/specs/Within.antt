@@ -53,7 +53,7 @@ abbrev pub IsReadRefusal : Which → ℕ → ℕ → Answer → Type 0
 IsReadRefusal which before now (TooLong w) = w ≡ which
 IsReadRefusal which before now answer = IsReadEnd which before now answer
 
--- a source that is read within a limit is asked so often at most: each call but the last one gives a byte, and no call is made behind the
+-- a source that is read within a limit is asked limit + 1 times at most: each call but the last one gives a byte, and no call is made behind the
 -- first byte that is too many
 abbrev pub IsAskedWithin : ℕ → ℕ → ℕ → Type 0
 IsAskedWithin limit before now = now ≤ before + (limit + 1)

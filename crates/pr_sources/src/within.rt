@@ -8,7 +8,7 @@ use pr_base::Bytes;
 use pr_io::Source;
 use std::alloc::Global;
 
-/// Reads a source to its end, or until so many bytes were read.
+/// Reads a source to its end, or until `limit` bytes were read.
 fn read_until<S: Source>(
     alloc: Global,
     source: &mut S,

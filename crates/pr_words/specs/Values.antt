@@ -9,7 +9,7 @@ use Rattle.pr_words.specs.Spelling.{cut_at}
 abbrev pub is_digit : ℕ → Bool
 is_digit c = nat_le 48 c && nat_le c 57
 
--- one digit or more, but not more than so many; zeros may lead
+-- one digit or more, but not more than `digits` of them; zeros may lead
 abbrev pub is_numeral : ℕ → List ℕ → Bool
 is_numeral digits text = nat_le 1 (length text) && (nat_le (length text) digits && list_all is_digit text)
 

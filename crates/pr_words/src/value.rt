@@ -33,7 +33,7 @@ fn are_digits(text: &[u8]) -> bool
     text.iter().all(|byte| is_digit(*byte))
 }
 
-/// Whether this is one decimal digit or more, but no more than so many.
+/// Whether this is one decimal digit or more, but no more than `digits` of them.
 fn is_numeral(text: &[u8], digits: usize) -> bool
     ensures { result ≡ is_numeral digits text.now }
 {

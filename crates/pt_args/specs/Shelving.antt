@@ -2,7 +2,7 @@
 use Rattle.std.specs.Prelude.{ℕ, ◌-◌, ◌*◌, ◌/◌, List, [], ◌∷◌, ◌++◌, length}
 use Rattle.pt_args.specs.declared.shelf.Shelf.{Shelf}
 
--- the highest such address for so many bytes
+-- the highest such address for `size` bytes
 abbrev pub address_below : ℕ → ℕ → ℕ
 address_below top size = (top - size) / 8 * 8
 

@@ -13,7 +13,7 @@ use pt_bind::Tags;
 use pt_canon::{WalkErr, Walker};
 use std::alloc::Global;
 
-/// A text has at most so many bytes without its zero.
+/// How many bytes a text has at most, without its zero.
 const LONGEST: usize = 4095;
 
 /// What becomes of a process's call at its entry. Each of its paths is a guest path: it is walked over guest texts and swapped

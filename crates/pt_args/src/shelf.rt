@@ -62,7 +62,7 @@ impl Shelf {
     }
 }
 
-/// The highest address for so many bytes that end at most at `top`.
+/// The highest address for `size` bytes that end at most at `top`.
 fn address_below(top: u64, size: usize) -> u64
     requires { size ≤ top }
     ensures { result ≡ address_below top size }

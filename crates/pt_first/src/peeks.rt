@@ -235,7 +235,7 @@ fn file_head(alloc: Global, tree: &Tree, user: User, ino: Ino, n: u32) -> Result
     Ok(copy)
 }
 
-/// So many bytes at the front, or all of fewer.
+/// The first `n` bytes, or all where there are fewer.
 fn front(bytes: &[u8], n: u32) -> &[u8]
     ensures { result.now ≡ take n bytes.now }
 {

@@ -245,7 +245,7 @@ module _ (whole : Trying (List ℕ)) (old now : Stopped) (there : IsThere old) (
   pub text-is-long : left ≡ 0 → CarriesOut whole (Err E2BIG) old now
   text-is-long none = left-done (Err E2BIG) whole now old (left-as _ _ whole now old (ap (λ m. text_from m at read) none ∙ text-unended at read) rest)
 
--- ---- a list, of which so many texts were read
+-- ---- a list, of which some texts were read
 
 module _ (whole : Trying (List (List ℕ))) (old now : Stopped) (there : IsThere old) (still : IsThere now) (left n at room : ℕ) (read : List (List ℕ)) (rest : IsLeft (texts_from left at room read) whole now old) where
   list-next : left ≡ suc n → IsLeft (and_then (address_at at) (on_address n at room read)) whole now old

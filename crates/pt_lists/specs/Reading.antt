@@ -23,7 +23,7 @@ byte_at at = read_if_allowed at 1 (Read ∷ []) (Done (Err EFAULT)) (λ bytes. D
 abbrev pub next_byte : ℕ → ℕ
 next_byte at = (at + 1) % 2 ^ 64
 
--- the rest of a text behind what was read of it: E2BIG where none of so many bytes is its end
+-- the rest of a text behind what was read of it: E2BIG where none of `most` bytes is its end
 unfoldable pub text_from : (most at : ℕ) → List ℕ → Trying (List ℕ)
 text_from zero at read = Done (Err E2BIG)
 text_from (suc most) at read =
@@ -38,7 +38,7 @@ text_within room at = and_then (text_at at) (if_it_fits room)
 
 -- ---- lists
 
--- the rest of a list behind the texts that were read of it, where so many texts and bytes may still come
+-- the rest of a list behind the texts that were read of it, where `left` texts and `room` bytes may still come
 unfoldable pub texts_from : (left at room : ℕ) → List (List ℕ) → Trying (List (List ℕ))
 texts_from zero at room read = and_then (address_at at) (λ address. if nat_eq address 0 then Done (Ok read) else Done (Err E2BIG))
 texts_from (suc left) at room read =
@@ -58,7 +58,7 @@ env_at env args = and_then (list_at env (most_bytes - bytes_with_ends args)) (λ
 abbrev pub lists_at : (args env : ℕ) → Trying Handed
 lists_at args env = and_then (list_at args most_bytes) (λ texts. env_at env (at_least_one texts))
 
--- the addresses of so many texts of a list, but for its first: eight bytes each
+-- the addresses of `count` texts of a list, but for its first: eight bytes each
 abbrev pub addresses_behind : (at count : ℕ) → Trying (List ℕ)
 addresses_behind at count = read_if_allowed (next_address at) (8 * count) (Read ∷ []) (Done (Err EFAULT)) (λ bytes. Done (Ok bytes))
 

@@ -84,7 +84,7 @@ fn or_one_empty(alloc: Global, list: List) -> Result<List, NoMemory>
     })
 }
 
-/// The list at an address, whose texts may have so many bytes with their ends.
+/// The list at an address, whose texts may have `room` bytes with their ends.
 fn read_list<T: Tracee>(alloc: Global, t: &mut T, at: u64, room: usize) -> Result<List, CallFault>
     ensures read { Reads (texts_read result) (list_at at room) (T.stopped t.old) (T.stopped t.new) }
     ensures room { IfOk result (λ list. list.room + bytes_with_ends list.texts ≡ room) }
@@ -151,7 +151,7 @@ fn end_of<T: Tracee>(t: &mut T, at: u64, texts: Texts, room: usize) -> Result<Li
     }
 }
 
-/// The addresses of so many texts of a list, but for its first, eight bytes each, the lowest first: EFAULT where one of them can't be
+/// The addresses of `count` texts of a list, but for its first, eight bytes each, the lowest first: EFAULT where one of them can't be
 /// read. After want of memory the process may only be dropped.
 pub fn addresses_behind<T: Tracee>(
     alloc: Global,
@@ -178,7 +178,7 @@ pub fn addresses_behind<T: Tracee>(
     }
 }
 
-/// As many bytes as so many addresses take.
+/// As many bytes as `count` addresses take.
 fn zeros(alloc: Global, count: usize) -> Result<Vec<u8>, NoMemory>
     requires { count ≤ 4096 }
     ensures { IfOk result (λ bytes. length bytes.items ≡ 8 * count) }

@@ -17,7 +17,7 @@ use Rattle.pt_script.specs.declared.expansion.Expanded.{Expanded}
 use Rattle.pt_script.specs.declared.program.Program.{Program}
 
 module _ (texts : TextSurroundings) (working : Option (List ℕ)) (env_bytes : ℕ) where
-  -- with so many scripts left
+  -- where `left` scripts may still be expanded
   record ByChain (left : ℕ) (c : Command) (e : Ended Program) : Type 0 where
     n : ℕ
     few : n ≤ left

@@ -10,7 +10,7 @@ pub record LeadsTo (texts : TextSurroundings) (working : Option (List ℕ)) (env
   pub marked : is_script script.program.head ≡ true
   pub gives : interpreted texts working env_bytes script ≡ Ok next
 
--- so many scripts lead from one command to another
+-- n scripts lead from one command to another
 abbrev pub Chain : TextSurroundings → Option (List ℕ) → ℕ → ℕ → Command → Command → Type 0
 Chain texts working env_bytes zero first last = first ≡ last
 Chain texts working env_bytes (suc n) first last = (next : Command) × LeadsTo texts working env_bytes first next × Chain texts working env_bytes n next last

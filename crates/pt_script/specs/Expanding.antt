@@ -21,7 +21,7 @@ abbrev pub shown_result : Result (Ended Program) Errno → Result Expanded Errno
 shown_result (Ok ended) = Ok (shown ended)
 shown_result (Err e) = Err e
 
--- of a command, where so many scripts may still be expanded
+-- of a command, where `left` scripts may still be expanded
 abbrev pub ends_of : TextSurroundings → Option (List ℕ) → ℕ → ℕ → Command → Result (Ended Program) Errno
 ends_of texts working env_bytes left c = expanded (programs texts working) env_bytes left c.program c.path c.args
 

@@ -127,7 +127,7 @@ fn end_of<K: Peeks>(
     }
 }
 
-/// A command that runs as it is, once so many scripts led to it.
+/// A command that runs as it is, once `scripts` scripts led to it.
 fn ended(command: Command, scripts: u8) -> Expanded
     ensures { result ≡ record { host = command.program.host; index = command.program.index; args = command.args; scripts = scripts } }
 {

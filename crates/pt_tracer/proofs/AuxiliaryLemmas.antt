@@ -102,7 +102,7 @@ module _ (m at : ℕ) (next : ℕ → Action (Unit {0})) where
       sym (ap (λ b. on_its_memory (if b then next (next_word at) else behind_list m (next_word at) next) u) is)
       ∙ read (λ word. if word == 0 then next (next_word at) else behind_list m (next_word at) next)
 
--- there were more than so many
+-- there were more words than may be read
 pub list-unended : (at : ℕ) (next : ℕ → Action (Unit {0})) (t : Stopped) → IsThere t → t ≡ on_its_memory (behind_list 0 at next) t
 unfolding behind_list
 list-unended at next t there = sym there.one

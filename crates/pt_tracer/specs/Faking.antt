@@ -127,7 +127,7 @@ next_word at = (at + 8) % 2 ^ 64
 abbrev pub word_at : (at : ℕ) → (ℕ → Action (Unit {0})) → Action (Unit {0})
 word_at at next = read_if_allowed at 8 (Read ∷ []) (Done tt) (λ bytes. next (little_endian bytes))
 
--- what stands behind a list of words, its last one 0, of at most so many
+-- what stands behind a list of at most `most` words, its last one 0
 unfoldable pub behind_list : (most at : ℕ) → (ℕ → Action (Unit {0})) → Action (Unit {0})
 behind_list zero at next = Done tt
 behind_list (suc most) at next = word_at at (λ word. if word == 0 then next (next_word at) else behind_list most (next_word at) next)

@@ -4,7 +4,7 @@ ghost use Rattle.pt_tracer.specs.Asking.{group_list, number_places, sized_list};
 
 use kr_calls::Request;
 
-/// So many groups, four bytes each, from an address on.
+/// `count` groups, four bytes each, from the address `at` on.
 #[derive(Clone, Copy)]
 pub(crate) struct GroupList {
     pub(crate) count: u32,

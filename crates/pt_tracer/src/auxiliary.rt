@@ -35,7 +35,7 @@ fn read_word<T: Tracee>(t: &mut T, at: u64) -> Option<u64>
     }
 }
 
-/// The address behind a list of words, its last one 0; `None` where one can't be read, or there are more than so many.
+/// The address behind a list of words, its last one 0; `None` where one can't be read, or there are more than `most`.
 fn behind_list<T: Tracee>(t: &mut T, most: u32, at: u64) -> Option<u64>
     ensures behind { GoesOn (behind_list most at) result (T.stopped t.old) (T.stopped t.new) }
     ensures edits { IsEdited (T.stopped t.old) (T.stopped t.new) }

@@ -114,7 +114,7 @@ abbrev pub after_addresses : Stopped → Expanded → ℕ → Result (List ℕ) 
 after_addresses t e kept (Ok addresses) = record { edit = script_edit (stack_at t) e.host (put_texts kept e.args) addresses; led = led_in e.index }
 after_addresses t e kept (Err errno) = cancelled errno
 
--- of a script, whose arguments but the first so many of the old list are kept
+-- of a script, where `kept` arguments of the old list are kept, those behind the first
 abbrev pub script_plan : Stopped → ℕ → ℕ → Expanded → Plan × Stopped
 script_plan t args kept e =
     let done = carried_out (addresses_behind args kept) (memory_at t) in

@@ -321,7 +321,7 @@ fn cancelled(errno: Errno) -> Plan
     }
 }
 
-/// What becomes of a script, of whose caller's arguments so many are kept.
+/// What becomes of a script, where `kept` of its caller's arguments are kept.
 fn plan_script<T: Tracee>(
     alloc: Global,
     t: &mut T,

@@ -7,7 +7,7 @@ use pr_base::{Bytes, Errno, NoMemory, Texts};
 use pt_args::{Edit, Shelf, Swaps};
 use std::alloc::Global;
 
-/// A host text has at most so many bytes without its zero.
+/// How many bytes a host text has at most, without its zero.
 const LONGEST: usize = 4095;
 
 /// How many bytes below the stack pointer are the shelf's.

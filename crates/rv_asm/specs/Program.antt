@@ -58,7 +58,7 @@ IsBranch (Bltu rs1 rs2 imm) = (rs1 < 32) × (rs2 < 32)
 IsBranch (Bgeu rs1 rs2 imm) = (rs1 < 32) × (rs2 < 32)
 IsBranch _ = ⊥
 
--- an item of a program with so many labels
+-- an item of a program with `labels` labels
 abbrev pub IsProper : ℕ → Item → Type 0
 IsProper labels (Plain i) = IsValid i
 IsProper labels (Jump rd to) = (rd < 32) × (to < labels)
@@ -66,7 +66,7 @@ IsProper labels (Branch i to) = IsBranch i × (to < labels)
 IsProper labels (Address rd of) = (rd < 32) × (of < labels)
 IsProper labels (Data bytes) = length bytes % 4 ≡ 0
 
--- a label that is bound stands between words of a code of so many bytes
+-- a label that is bound stands between words of a code of `size` bytes
 abbrev pub IsInside : ℕ → Option ℕ → Type 0
 IsInside size None = Unit {0}
 IsInside size (Some place) = (place % 4 ≡ 0) × (place ≤ size)

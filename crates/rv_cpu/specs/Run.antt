@@ -22,11 +22,11 @@ at_rest s m = record { event = Next; regs = s; memory = m; done = 0 }
 abbrev pub after_one : CarriedOut Stepped → Ran
 after_one first = record { event = first.reply.event; regs = first.reply.regs; memory = first.memory; done = 1 }
 
--- the same with so many instructions before it
+-- the same behind `before` instructions
 abbrev pub counted : ℕ → Ran → Ran
 counted before r = record { event = r.event; regs = r.regs; memory = r.memory; done = before + r.done }
 
--- so many instructions, or fewer where one of them is a call or kills, which is the last that counts;
+-- `fuel` instructions, or fewer where one of them is a call or kills, which is the last that counts;
 -- from a reservation on
 unfoldable pub ran_holding : ℕ → Option Held → Regs → Memory → Ran
 ran_holding zero held s m = at_rest s m

@@ -9,7 +9,7 @@ use crate::execution::step;
 use pr_base::NoMemory;
 use rv_mem::{Regs, Space};
 
-/// Does so many instructions, or fewer where one of them is a call or kills, which is the last. Tells
+/// Does `fuel` instructions, or fewer where one of them is a call or kills, which is the last. Tells
 /// how it ended, and how many were done, in which that last one counts. Nothing is reserved at first. After `NoMemory` registers and
 /// memory may only be dropped.
 pub fn run<const M: u8>(

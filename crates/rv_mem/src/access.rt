@@ -140,7 +140,7 @@ impl<const MARKED: u8> Table<MARKED> {
     }
 }
 
-/// Whether so many bytes from an address on are some, and lie in one page: then one look-up is enough.
+/// Whether `count` isn't 0, and `count` bytes from the address `at` on lie in one page: then one look-up is enough.
 fn lie_in_a_page(at: u64, count: usize) -> bool
     ensures { IsTrue result ↔ ((0 < count) × (at % page_size + count ≤ page_size)) }
 {

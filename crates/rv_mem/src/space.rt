@@ -218,7 +218,7 @@ impl<const MARKED: u8> Space<MARKED> {
         self.pages.has_any(at / PAGE_SIZE, u64::from(pages))
     }
 
-    /// The lowest address from `from` on at which so many pages have a place: none of them is mapped, and they
+    /// The lowest address from `from` on at which `pages` pages have a place: none of them is mapped, and they
     /// end by `end`.
     pub fn lowest_place(&self, from: u64, end: u64, pages: u32) -> Option<u64>
         requires aligned { (from % page_size ≡ 0) × (end % page_size ≡ 0) }

@@ -213,7 +213,7 @@ fn a_lost_working_directory_has_no_programs(rt: HostRuntime) -> Result<(), Fail>
     Ok(())
 }
 
-/// So many empty arguments.
+/// `number` empty arguments.
 fn empty_args(alloc: Global, number: usize) -> Result<Texts, NoMemory> {
     let mut args = Texts::new(alloc);
     for _k in 0..number {
@@ -269,7 +269,7 @@ fn new_arguments_have_limits(rt: HostRuntime) -> Result<(), Fail> {
     Ok(())
 }
 
-/// A script whose first line has so many bytes, and no newline.
+/// A script whose first line has `bytes` bytes, and no newline.
 fn long_script(alloc: Global, bytes: u32) -> Result<Bytes, NoMemory> {
     let mut script = Bytes::copy(alloc, b"#!/hello ")?;
     for _byte in 9..bytes {

@@ -314,7 +314,7 @@ fn words_that_are_accepted(rt: HostRuntime) -> Result<(), Fail> {
     Ok(())
 }
 
-/// How many slots are read of a schedule of so many.
+/// How many slots are read of a schedule of `count` slots.
 fn slots_read(alloc: Global, count: usize) -> Result<Option<usize>, NoMemory> {
     let mut word = String::from_str(alloc, "--schedule=0*1")?;
     for _more in 1..count {
