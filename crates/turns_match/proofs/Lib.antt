@@ -1,0 +1,4 @@
+pub mod ImageLemmas
+pub mod MatchLemmas
+pub mod PickLemmas
+pub mod RunLemmas

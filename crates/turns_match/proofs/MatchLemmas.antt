@@ -1,0 +1,88 @@
+-- Two states that match, and the process of a number in both: what becomes of the match where both are given other images.
+use Rattle.std.proofs.Common.{◌≡◌, ℕ, Bool, true, false, cond, List, [], ◌∷◌, Option, Some, None, refl, sym, ap, subst, ◌∙◌}
+use Rattle.std.specs.Prelude.{map as map_list, ◌==◌}
+use Rattle.std.specs.Option.{option_map}
+use Rattle.rv_mem.specs.Actions.{AreEqualUnmarked}
+use Rattle.rv_mem.specs.Layout.{layout_of}
+use Rattle.rv_mem.specs.Memory.{Memory}
+use Rattle.rv_mem.specs.declared.regs.Regs.{Regs}
+use Rattle.pt_bind.specs.Tags.{TagTable}
+use Rattle.kr_view.specs.View.{Row, plain}
+use Rattle.kr_model.specs.Bare.{bare_process, pins_of}
+use Rattle.kr_model.specs.Lawful.{RiseFrom}
+use Rattle.kr_model.specs.State.{Image, Process, State, at_pid, image_layout, process}
+use Rattle.kr_allowed.proofs.RowLemmas.{StaysLike}
+use Rattle.kr_lawful.proofs.ProcessChangeLemmas.{found}
+use Rattle.kr_steps.specs.Computing.{computed}
+use Rattle.places_stay.specs.Matching.{AreImagesAlike, IsMatch}
+use Rattle.places_stay.proofs.FollowLemmas.{from_process, told_at}
+use Rattle.places_stay.proofs.TagLemmas.{found_is}
+use Rattle.turns_match.proofs.ImageLemmas.{bare_computed, given, places_computed, tags_computed}
+
+abbrev pub pids_in : List (Process ℕ Image) → List ℕ
+pids_in ps = map_list (λ p. p.pid) ps
+
+bare_pids : (ps : List (Process ℕ Image)) → map_list (λ p. p.pid) (map_list (bare_process image_layout) ps) ≡ pids_in ps
+bare_pids [] = refl
+bare_pids (p ∷ ps) = ap (λ rest. p.pid ∷ rest) (bare_pids ps)
+
+module _ (table : List Row) (tags : TagTable) (s w : State ℕ Image) (m : IsMatch table tags s w) where
+  pub same_pids : pids_in s.living ≡ pids_in w.living
+  same_pids = sym (bare_pids s.living) ∙ ap (λ b. map_list (λ p. p.pid) b.living) m.bares ∙ bare_pids w.living
+
+  module _ (pid : ℕ) (p q : Process ℕ Image) (lives : process pid s ≡ Some p) (also : process pid w ≡ Some q) (regs : Regs) (one other : Memory) (alike : AreEqualUnmarked one.pages other.pages) where
+    after : (k : ℕ) → (b : Bool) → (k == pid) ≡ b → (x y : Option (Process ℕ Image)) → process k s ≡ x → process k w ≡ y → option_map (λ p. p.image.regs) x ≡ option_map (λ p. p.image.regs) y
+        → option_map (λ p. p.image.regs) (option_map (at_pid pid (given pid regs one)) x) ≡ option_map (λ p. p.image.regs) (option_map (at_pid pid (given pid regs other)) y)
+    after k b is None None at_x at_y e = refl
+    after k b is None (Some y) at_x at_y e = absurd (never e)
+      where
+        never : {A : Type 0} {a : A} → None ≡ Some a → ⊥
+        never e = cc
+    after k b is (Some x) None at_x at_y e = absurd (never e)
+      where
+        never : {A : Type 0} {a : A} → Some a ≡ None → ⊥
+        never e = cc
+    after k true is (Some x) (Some y) at_x at_y e =
+        let at_pid_x : (x.pid == pid) ≡ true = ap (λ n. n == pid) (found_is k s.living x at_x) ∙ is in
+        let at_pid_y : (y.pid == pid) ≡ true = ap (λ n. n == pid) (found_is k w.living y at_y) ∙ is in
+        ap (λ t. Some (cond t (given pid regs one x) x).image.regs) at_pid_x ∙ sym (ap (λ t. Some (cond t (given pid regs other y) y).image.regs) at_pid_y)
+    after k false is (Some x) (Some y) at_x at_y e =
+        let at_pid_x : (x.pid == pid) ≡ false = ap (λ n. n == pid) (found_is k s.living x at_x) ∙ is in
+        let at_pid_y : (y.pid == pid) ≡ false = ap (λ n. n == pid) (found_is k w.living y at_y) ∙ is in
+        ap (λ t. Some (cond t (given pid regs one x) x).image.regs) at_pid_x ∙ e ∙ sym (ap (λ t. Some (cond t (given pid regs other y) y).image.regs) at_pid_y)
+
+    memories : (k : ℕ) (b : Bool) → (k == pid) ≡ b → (x y : Process ℕ Image) → process k s ≡ Some x → process k w ≡ Some y → AreEqualUnmarked (at_pid pid (given pid regs one) x).image.memory.pages (at_pid pid (given pid regs other) y).image.memory.pages
+    memories k true is x y at_x at_y =
+        let at_pid_x : (x.pid == pid) ≡ true = ap (λ n. n == pid) (found_is k s.living x at_x) ∙ is in
+        let at_pid_y : (y.pid == pid) ≡ true = ap (λ n. n == pid) (found_is k w.living y at_y) ∙ is in
+        subst (λ t. AreEqualUnmarked (cond t (given pid regs one x) x).image.memory.pages (at_pid pid (given pid regs other) y).image.memory.pages) (sym at_pid_x)
+        (subst (λ t. AreEqualUnmarked one.pages (cond t (given pid regs other y) y).image.memory.pages) (sym at_pid_y) alike)
+    memories k false is x y at_x at_y =
+        let at_pid_x : (x.pid == pid) ≡ false = ap (λ n. n == pid) (found_is k s.living x at_x) ∙ is in
+        let at_pid_y : (y.pid == pid) ≡ false = ap (λ n. n == pid) (found_is k w.living y at_y) ∙ is in
+        subst (λ t. AreEqualUnmarked (cond t (given pid regs one x) x).image.memory.pages (at_pid pid (given pid regs other) y).image.memory.pages) (sym at_pid_x)
+        (subst (λ t. AreEqualUnmarked x.image.memory.pages (cond t (given pid regs other y) y).image.memory.pages) (sym at_pid_y) (m.images.memories k x y at_x at_y))
+
+    images : AreImagesAlike (computed pid regs one s) (computed pid regs other w)
+    images = record {
+      registers = λ k.
+          ap (option_map (λ p. p.image.regs)) (found pid (given pid regs one) (λ p. refl) k s.living)
+          ∙ after k (k == pid) refl (process k s) (process k w) refl refl (m.images.registers k)
+          ∙ sym (ap (option_map (λ p. p.image.regs)) (found pid (given pid regs other) (λ p. refl) k w.living));
+      memories = λ k x y at_x at_y.
+          let a = from_process (at_pid pid (given pid regs one)) (told_at (λ p. p.pid) pid (given pid regs one) (λ p. refl)) k s.living x at_x in
+          let b = from_process (at_pid pid (given pid regs other)) (told_at (λ p. p.pid) pid (given pid regs other) (λ p. refl)) k w.living y at_y in
+          subst (λ (z : Process ℕ Image). AreEqualUnmarked z.image.memory.pages y.image.memory.pages) a.2
+          (subst (λ (z : Process ℕ Image). AreEqualUnmarked (at_pid pid (given pid regs one) a.0).image.memory.pages z.image.memory.pages) b.2 (memories k (k == pid) refl a.0 b.0 a.1 b.1));
+    }
+
+    pub match_computed : StaysLike p.image.memory.pages one.pages → layout_of other.pages ≡ layout_of q.image.memory.pages → IsMatch table tags (computed pid regs one s) (computed pid regs other w)
+    match_computed like same = record {
+      bares =
+          bare_computed pid regs one (pins_of table) s.next_pid s p m.placed.lawful.pids.living lives like.layout
+          ∙ m.bares
+          ∙ sym (bare_computed pid regs other (pins_of plain) s.next_pid w q (subst (RiseFrom 2 s.next_pid) same_pids m.placed.lawful.pids.living) also same);
+      images = images;
+      tagged = tags_computed pid regs one table s p lives tags m.tagged;
+      placed = places_computed pid regs one table s p lives m.placed like;
+    }

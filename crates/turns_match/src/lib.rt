@@ -1,0 +1,4 @@
+//! What two states that match do alike in a turn: laws, and no code.
+#![tactic(auto)]
+
+pub mod turning;

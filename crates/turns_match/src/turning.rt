@@ -1,0 +1,17 @@
+//! Laws of the turns of states that match, each carried by a function that does nothing.
+ghost use Rattle.turns_match.specs.Turning.{InstructionsKeepMatches, MatchesGoOnAlike, ShelvesKeepMatches};
+
+/// In states that match the same process runs at each pick, and where none can run the end is the same.
+pub fn matches_go_on_alike<S, T>()
+    ensures { MatchesGoOnAlike S T }
+{}
+
+/// Instructions of the process of a number end alike in states that match, and leave states that match, where no marked byte is read.
+pub fn instructions_keep_matches()
+    ensures { InstructionsKeepMatches }
+{}
+
+/// So does a shelf that the kernel with mounts marks.
+pub fn shelves_keep_matches()
+    ensures { ShelvesKeepMatches }
+{}
