@@ -1,4 +1,6 @@
+pub mod AlikeLemmas
 pub mod ImageLemmas
+pub mod KeepLemmas
 pub mod MatchLemmas
 pub mod PickLemmas
 pub mod RunLemmas

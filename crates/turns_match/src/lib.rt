@@ -1,4 +1,5 @@
 //! What two states that match do alike in a turn: laws, and no code.
 #![tactic(auto)]
 
+pub mod changing;
 pub mod turning;

@@ -1,0 +1,28 @@
+-- The changes of a call that are made in two states that match.
+use Rattle.std.specs.Prelude.{◌≡◌, ℕ, true, List, [], ◌∷◌}
+use Rattle.pt_bind.specs.Tags.{TagTable}
+use Rattle.kr_view.specs.View.{Row, plain}
+use Rattle.kr_calm.specs.Laws.{BreakNone}
+use Rattle.kr_lawful.specs.Laws.{CanAllBeMade}
+use Rattle.kr_model.specs.Applied.{Mounts, all_applied, applied, images}
+use Rattle.kr_model.specs.Bare.{bare_mounts}
+use Rattle.kr_model.specs.Change.{Change}
+use Rattle.kr_model.specs.Lawful.{IsLawful}
+use Rattle.kr_model.specs.State.{Image, State}
+use Rattle.places_stay.specs.Changes.{NewPlacesStand}
+use Rattle.places_stay.specs.Matching.{IsMatch}
+use Rattle.places_stay.specs.Tagging.{tags_made}
+use Rattle.calm_places.specs.Keeping.{move_nothing}
+
+-- the tags after each change of a call in its turn
+abbrev pub all_tags_made : List Row → Mounts ℕ → ℕ → State ℕ Image → List Change → TagTable → TagTable
+all_tags_made table mounts pid s [] tags = tags
+all_tags_made table mounts pid s (c ∷ cs) tags = all_tags_made table mounts pid (applied images mounts pid c s) cs (tags_made table mounts pid s c tags)
+
+-- where changes break none of the calm rules on changes, move no name, and can all be made in both states, and each new place stands
+-- before it comes into use, the same changes keep the match; the mounts that they name are each machine's own
+abbrev pub ChangesKeepMatches : Type 0
+ChangesKeepMatches =
+    (table : List Row) (mounts others : Mounts ℕ) (pid : ℕ) (cs : List Change) (s w : State ℕ Image) (tags : TagTable) → bare_mounts mounts ≡ bare_mounts others
+    → move_nothing cs ≡ true → BreakNone images mounts pid table cs s → NewPlacesStand table mounts pid s cs → CanAllBeMade (λ m. m) table mounts pid s cs → CanAllBeMade (λ m. m) plain others pid w cs
+    → IsLawful (λ m. m) plain w → IsMatch table tags s w → IsMatch table (all_tags_made table mounts pid s cs tags) (all_applied images mounts pid cs s) (all_applied images others pid cs w)

@@ -1,0 +1,7 @@
+//! Laws of the changes of calls in states that match, each carried by a function that does nothing.
+ghost use Rattle.turns_match.specs.Changing.{ChangesKeepMatches};
+
+/// The changes of a calm call keep a match, where they move no name and each new place stands before it comes into use.
+pub fn changes_keep_matches()
+    ensures { ChangesKeepMatches }
+{}
