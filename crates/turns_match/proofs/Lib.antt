@@ -1,4 +1,5 @@
 pub mod AlikeLemmas
+pub mod DeathLemmas
 pub mod ImageLemmas
 pub mod KeepLemmas
 pub mod MatchLemmas

@@ -1,6 +1,6 @@
 -- The changes of a call that are made in two states that match.
-use Rattle.std.specs.Prelude.{◌≡◌, ℕ, true, List, [], ◌∷◌}
-use Rattle.pt_bind.specs.Tags.{TagTable}
+use Rattle.std.specs.Prelude.{◌≡◌, ℕ, true, IsSome, List, [], ◌∷◌, None}
+use Rattle.pt_bind.specs.Tags.{TagTable, dropped}
 use Rattle.kr_view.specs.View.{Row, plain}
 use Rattle.kr_calm.specs.Laws.{BreakNone}
 use Rattle.kr_lawful.specs.Laws.{CanAllBeMade}
@@ -8,7 +8,9 @@ use Rattle.kr_model.specs.Applied.{Mounts, all_applied, applied, images}
 use Rattle.kr_model.specs.Bare.{bare_mounts}
 use Rattle.kr_model.specs.Change.{Change}
 use Rattle.kr_model.specs.Lawful.{IsLawful}
-use Rattle.kr_model.specs.State.{Image, State}
+use Rattle.kr_model.specs.State.{Image, State, process}
+use Rattle.kr_turns.specs.Breaking.{killed_rule}
+use Rattle.kr_turns.specs.Turn.{killed}
 use Rattle.places_stay.specs.Changes.{NewPlacesStand}
 use Rattle.places_stay.specs.Matching.{IsMatch}
 use Rattle.places_stay.specs.Tagging.{tags_made}
@@ -26,3 +28,9 @@ ChangesKeepMatches =
     (table : List Row) (mounts others : Mounts ℕ) (pid : ℕ) (cs : List Change) (s w : State ℕ Image) (tags : TagTable) → bare_mounts mounts ≡ bare_mounts others
     → move_nothing cs ≡ true → BreakNone images mounts pid table cs s → NewPlacesStand table mounts pid s cs → CanAllBeMade (λ m. m) table mounts pid s cs → CanAllBeMade (λ m. m) plain others pid w cs
     → IsLawful (λ m. m) plain w → IsMatch table tags s w → IsMatch table (all_tags_made table mounts pid s cs tags) (all_applied images mounts pid cs s) (all_applied images others pid cs w)
+
+-- a process that dies of a signal, without breaking a calm rule
+abbrev pub DeathsKeepMatches : Type 0
+DeathsKeepMatches =
+    (table : List Row) (pid signal : ℕ) (s w : State ℕ Image) (tags : TagTable) → IsSome (process pid s) → killed_rule 1 table pid signal s ≡ None → IsLawful (λ m. m) plain w → IsMatch table tags s w
+    → IsMatch table (dropped tags pid) (killed pid signal s) (killed pid signal w)

@@ -1,7 +1,12 @@
 //! Laws of the changes of calls in states that match, each carried by a function that does nothing.
-ghost use Rattle.turns_match.specs.Changing.{ChangesKeepMatches};
+ghost use Rattle.turns_match.specs.Changing.{ChangesKeepMatches, DeathsKeepMatches};
 
 /// The changes of a calm call keep a match, where they move no name and each new place stands before it comes into use.
 pub fn changes_keep_matches()
     ensures { ChangesKeepMatches }
+{}
+
+/// So does the death of a process by a signal, where it breaks no calm rule.
+pub fn deaths_keep_matches()
+    ensures { DeathsKeepMatches }
 {}
