@@ -8,9 +8,9 @@ use Rattle.rv_mem.specs.declared.regs.Regs.{Regs}
 use Rattle.pt_bind.specs.Tags.{TagTable}
 use Rattle.kr_tree.proofs.NameLemmas.{some_is}
 use Rattle.kr_view.specs.View.{Row}
-use Rattle.kr_model.specs.Applied.{with_image}
+use Rattle.kr_model.specs.Applied.{with_image, with_living}
 use Rattle.kr_model.specs.Bare.{bare, bare_process}
-use Rattle.kr_model.specs.Lawful.{RiseFrom}
+use Rattle.kr_model.specs.Lawful.{IsLawful, RiseFrom}
 use Rattle.kr_model.specs.ProcessDirectory.{space_of}
 use Rattle.kr_model.specs.State.{Image, Process, State, image_layout, is_pid, process, with_process}
 use Rattle.kr_allowed.proofs.RowLemmas.{StaysLike, lawful-image}
@@ -21,10 +21,31 @@ use Rattle.places_stay.specs.Following.{Follows, StoodAndStays}
 use Rattle.places_stay.specs.Matching.{AreTagged}
 use Rattle.places_stay.specs.Standing.{PlacesStand}
 use Rattle.places_stay.specs.Uses.{IsUse, Use, cwd_use, exe_use, is_cwd, is_exe, is_open}
-use Rattle.places_stay.proofs.FollowLemmas.{follows_idle, follows_itself}
+use Rattle.places_stay.proofs.FollowLemmas.{IsIdle, follows_idle, follows_itself}
 use Rattle.places_stay.proofs.KeptLemmas.{stood_kept, table_kept}
 use Rattle.places_stay.proofs.SpaceLemmas.{places_follow}
-use Rattle.places_stay.proofs.TagLemmas.{TagIs, slots_at, slots_of_tags, tags_of_slots}
+use Rattle.places_stay.proofs.TagLemmas.{Own, TagIs, slots_at, slots_of_tags, tags_of_slots}
+
+-- ---- one process that is changed, but not where it stands
+
+module _ (table : List Row) (pid : ℕ) (f : Process ℕ Image → Process ℕ Image) (s : State ℕ Image) where
+  pub places_idle : IsIdle f → PlacesStand table s → IsLawful (λ m. m) table (with_living (with_process pid f) s) → PlacesStand table (with_living (with_process pid f) s)
+  places_idle idle stand lawful = places_follow nothing table s (with_living (with_process pid f) s) stand (table_kept (space_of table s)) lawful (follows_idle nothing P s pid f s idle start)
+    where
+      P : Use → Type 0
+      P = StoodAndStays nothing table s
+
+      of : (x : Use) → IsUse s x → P x
+      of x is = stood_kept table s x (stand.uses x is)
+
+      start : Follows nothing P s s
+      start = follows_itself nothing P s (λ k p at. (of (cwd_use p) (is_cwd k p at), of (exe_use p) (is_exe k p at))) (λ n o q at there. of _ (is_open n o q at there))
+
+  pub tags_idle : (tags : TagTable) → ((p : Process ℕ Image) → (f p).pid ≡ p.pid) → ((p : Process ℕ Image) → Own (TagIs table tags) s.files pid p → Own (TagIs table tags) s.files pid (f p)) → AreTagged table s tags
+      → AreTagged table (with_living (with_process pid f) s) tags
+  tags_idle tags stays own tagged =
+      tags_of_slots table tags (with_living (with_process pid f) s)
+      (slots_at (TagIs table tags) (TagIs table tags) s s.files pid f stays (λ k p away at own. own) (λ p at. own p) (slots_of_tags table tags s tagged))
 
 module _ (pid : ℕ) (regs : Regs) (memory : Memory) where
   abbrev pub given : Process ℕ Image → Process ℕ Image
@@ -65,21 +86,7 @@ module _ (pid : ℕ) (regs : Regs) (memory : Memory) where
 
   module _ (table : List Row) (s : State ℕ Image) (p : Process ℕ Image) (lives : process pid s ≡ Some p) where
     pub places_computed : PlacesStand table s → StaysLike p.image.memory.pages memory.pages → PlacesStand table (computed pid regs memory s)
-    places_computed stand like =
-        places_follow nothing table s (computed pid regs memory s) stand (table_kept (space_of table s))
-        (lawful-image (λ m. m) table s stand.lawful pid p lives memory like (λ _. regs))
-        (follows_idle nothing P s pid given s (record { pid = λ p. refl; cwd = λ p. refl; exe = λ p. refl }) start)
-      where
-        P : Use → Type 0
-        P = StoodAndStays nothing table s
-
-        of : (x : Use) → IsUse s x → P x
-        of x is = stood_kept table s x (stand.uses x is)
-
-        start : Follows nothing P s s
-        start = follows_itself nothing P s (λ k p at. (of (cwd_use p) (is_cwd k p at), of (exe_use p) (is_exe k p at))) (λ n o q at there. of _ (is_open n o q at there))
+    places_computed stand like = places_idle table pid given s (record { pid = λ p. refl; cwd = λ p. refl; exe = λ p. refl }) stand (lawful-image (λ m. m) table s stand.lawful pid p lives memory like (λ _. regs))
 
     pub tags_computed : (tags : TagTable) → AreTagged table s tags → AreTagged table (computed pid regs memory s) tags
-    tags_computed tags tagged =
-        tags_of_slots table tags (computed pid regs memory s)
-        (slots_at (TagIs table tags) (TagIs table tags) s s.files pid given (λ p. refl) (λ k p away at own. own) (λ p at own. record { cwd = own.cwd; exe = own.exe; fds = own.fds }) (slots_of_tags table tags s tagged))
+    tags_computed tags tagged = tags_idle table pid given s tags (λ p. refl) (λ p own. record { cwd = own.cwd; exe = own.exe; fds = own.fds }) tagged

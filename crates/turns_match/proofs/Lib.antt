@@ -3,5 +3,7 @@ pub mod DeathLemmas
 pub mod ImageLemmas
 pub mod KeepLemmas
 pub mod MatchLemmas
+pub mod OperateLemmas
 pub mod PickLemmas
 pub mod RunLemmas
+pub mod SettleLemmas

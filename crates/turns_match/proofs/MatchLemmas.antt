@@ -2,15 +2,17 @@
 use Rattle.std.proofs.Common.{◌≡◌, ℕ, Bool, true, false, cond, List, [], ◌∷◌, Option, Some, None, refl, sym, ap, subst, ◌∙◌}
 use Rattle.std.specs.Prelude.{map as map_list, ◌==◌}
 use Rattle.std.specs.Option.{option_map}
+use Rattle.std.proofs.lemmas.Bool.{eqb-true}
 use Rattle.rv_mem.specs.Actions.{AreEqualUnmarked}
 use Rattle.rv_mem.specs.Layout.{layout_of}
 use Rattle.rv_mem.specs.Memory.{Memory}
 use Rattle.rv_mem.specs.declared.regs.Regs.{Regs}
 use Rattle.pt_bind.specs.Tags.{TagTable}
 use Rattle.kr_view.specs.View.{Row, plain}
+use Rattle.kr_model.specs.Applied.{with_living}
 use Rattle.kr_model.specs.Bare.{bare_process, pins_of}
 use Rattle.kr_model.specs.Lawful.{RiseFrom}
-use Rattle.kr_model.specs.State.{Image, Process, State, at_pid, image_layout, process}
+use Rattle.kr_model.specs.State.{Image, Process, State, at_pid, image_layout, process, with_process}
 use Rattle.kr_allowed.proofs.RowLemmas.{StaysLike}
 use Rattle.kr_lawful.proofs.ProcessChangeLemmas.{found}
 use Rattle.kr_steps.specs.Computing.{computed}
@@ -30,9 +32,14 @@ module _ (table : List Row) (tags : TagTable) (s w : State ℕ Image) (m : IsMat
   pub same_pids : pids_in s.living ≡ pids_in w.living
   same_pids = sym (bare_pids s.living) ∙ ap (λ b. map_list (λ p. p.pid) b.living) m.bares ∙ bare_pids w.living
 
-  module _ (pid : ℕ) (p q : Process ℕ Image) (lives : process pid s ≡ Some p) (also : process pid w ≡ Some q) (regs : Regs) (one other : Memory) (alike : AreEqualUnmarked one.pages other.pages) where
+  -- ---- the process of a number is changed in both
+
+  abbrev pub AreLeftAlike : ℕ → (Process ℕ Image → Process ℕ Image) → (Process ℕ Image → Process ℕ Image) → Type 0
+  AreLeftAlike pid f g = (x y : Process ℕ Image) → process pid s ≡ Some x → process pid w ≡ Some y → ((f x).image.regs ≡ (g y).image.regs) × AreEqualUnmarked (f x).image.memory.pages (g y).image.memory.pages
+
+  module _ (pid : ℕ) (f g : Process ℕ Image → Process ℕ Image) (f_stays : (p : Process ℕ Image) → (f p).pid ≡ p.pid) (g_stays : (p : Process ℕ Image) → (g p).pid ≡ p.pid) (left : AreLeftAlike pid f g) where
     after : (k : ℕ) → (b : Bool) → (k == pid) ≡ b → (x y : Option (Process ℕ Image)) → process k s ≡ x → process k w ≡ y → option_map (λ p. p.image.regs) x ≡ option_map (λ p. p.image.regs) y
-        → option_map (λ p. p.image.regs) (option_map (at_pid pid (given pid regs one)) x) ≡ option_map (λ p. p.image.regs) (option_map (at_pid pid (given pid regs other)) y)
+        → option_map (λ p. p.image.regs) (option_map (at_pid pid f) x) ≡ option_map (λ p. p.image.regs) (option_map (at_pid pid g) y)
     after k b is None None at_x at_y e = refl
     after k b is None (Some y) at_x at_y e = absurd (never e)
       where
@@ -43,46 +50,53 @@ module _ (table : List Row) (tags : TagTable) (s w : State ℕ Image) (m : IsMat
         never : {A : Type 0} {a : A} → Some a ≡ None → ⊥
         never e = cc
     after k true is (Some x) (Some y) at_x at_y e =
+        let k_is : k ≡ pid = eqb-true k pid is in
         let at_pid_x : (x.pid == pid) ≡ true = ap (λ n. n == pid) (found_is k s.living x at_x) ∙ is in
         let at_pid_y : (y.pid == pid) ≡ true = ap (λ n. n == pid) (found_is k w.living y at_y) ∙ is in
-        ap (λ t. Some (cond t (given pid regs one x) x).image.regs) at_pid_x ∙ sym (ap (λ t. Some (cond t (given pid regs other y) y).image.regs) at_pid_y)
+        ap (λ t. Some (cond t (f x) x).image.regs) at_pid_x
+        ∙ ap Some (left x y (subst (λ n. process n s ≡ Some x) k_is at_x) (subst (λ n. process n w ≡ Some y) k_is at_y)).0
+        ∙ sym (ap (λ t. Some (cond t (g y) y).image.regs) at_pid_y)
     after k false is (Some x) (Some y) at_x at_y e =
         let at_pid_x : (x.pid == pid) ≡ false = ap (λ n. n == pid) (found_is k s.living x at_x) ∙ is in
         let at_pid_y : (y.pid == pid) ≡ false = ap (λ n. n == pid) (found_is k w.living y at_y) ∙ is in
-        ap (λ t. Some (cond t (given pid regs one x) x).image.regs) at_pid_x ∙ e ∙ sym (ap (λ t. Some (cond t (given pid regs other y) y).image.regs) at_pid_y)
+        ap (λ t. Some (cond t (f x) x).image.regs) at_pid_x ∙ e ∙ sym (ap (λ t. Some (cond t (g y) y).image.regs) at_pid_y)
 
-    memories : (k : ℕ) (b : Bool) → (k == pid) ≡ b → (x y : Process ℕ Image) → process k s ≡ Some x → process k w ≡ Some y → AreEqualUnmarked (at_pid pid (given pid regs one) x).image.memory.pages (at_pid pid (given pid regs other) y).image.memory.pages
+    memories : (k : ℕ) (b : Bool) → (k == pid) ≡ b → (x y : Process ℕ Image) → process k s ≡ Some x → process k w ≡ Some y → AreEqualUnmarked (at_pid pid f x).image.memory.pages (at_pid pid g y).image.memory.pages
     memories k true is x y at_x at_y =
+        let k_is : k ≡ pid = eqb-true k pid is in
         let at_pid_x : (x.pid == pid) ≡ true = ap (λ n. n == pid) (found_is k s.living x at_x) ∙ is in
         let at_pid_y : (y.pid == pid) ≡ true = ap (λ n. n == pid) (found_is k w.living y at_y) ∙ is in
-        subst (λ t. AreEqualUnmarked (cond t (given pid regs one x) x).image.memory.pages (at_pid pid (given pid regs other) y).image.memory.pages) (sym at_pid_x)
-        (subst (λ t. AreEqualUnmarked one.pages (cond t (given pid regs other y) y).image.memory.pages) (sym at_pid_y) alike)
+        subst (λ t. AreEqualUnmarked (cond t (f x) x).image.memory.pages (at_pid pid g y).image.memory.pages) (sym at_pid_x)
+        (subst (λ t. AreEqualUnmarked (f x).image.memory.pages (cond t (g y) y).image.memory.pages) (sym at_pid_y) (left x y (subst (λ n. process n s ≡ Some x) k_is at_x) (subst (λ n. process n w ≡ Some y) k_is at_y)).1)
     memories k false is x y at_x at_y =
         let at_pid_x : (x.pid == pid) ≡ false = ap (λ n. n == pid) (found_is k s.living x at_x) ∙ is in
         let at_pid_y : (y.pid == pid) ≡ false = ap (λ n. n == pid) (found_is k w.living y at_y) ∙ is in
-        subst (λ t. AreEqualUnmarked (cond t (given pid regs one x) x).image.memory.pages (at_pid pid (given pid regs other) y).image.memory.pages) (sym at_pid_x)
-        (subst (λ t. AreEqualUnmarked x.image.memory.pages (cond t (given pid regs other y) y).image.memory.pages) (sym at_pid_y) (m.images.memories k x y at_x at_y))
+        subst (λ t. AreEqualUnmarked (cond t (f x) x).image.memory.pages (at_pid pid g y).image.memory.pages) (sym at_pid_x)
+        (subst (λ t. AreEqualUnmarked x.image.memory.pages (cond t (g y) y).image.memory.pages) (sym at_pid_y) (m.images.memories k x y at_x at_y))
 
-    images : AreImagesAlike (computed pid regs one s) (computed pid regs other w)
+    pub images : AreImagesAlike (with_living (with_process pid f) s) (with_living (with_process pid g) w)
     images = record {
       registers = λ k.
-          ap (option_map (λ p. p.image.regs)) (found pid (given pid regs one) (λ p. refl) k s.living)
+          ap (option_map (λ p. p.image.regs)) (found pid f f_stays k s.living)
           ∙ after k (k == pid) refl (process k s) (process k w) refl refl (m.images.registers k)
-          ∙ sym (ap (option_map (λ p. p.image.regs)) (found pid (given pid regs other) (λ p. refl) k w.living));
+          ∙ sym (ap (option_map (λ p. p.image.regs)) (found pid g g_stays k w.living));
       memories = λ k x y at_x at_y.
-          let a = from_process (at_pid pid (given pid regs one)) (told_at (λ p. p.pid) pid (given pid regs one) (λ p. refl)) k s.living x at_x in
-          let b = from_process (at_pid pid (given pid regs other)) (told_at (λ p. p.pid) pid (given pid regs other) (λ p. refl)) k w.living y at_y in
+          let a = from_process (at_pid pid f) (told_at (λ p. p.pid) pid f f_stays) k s.living x at_x in
+          let b = from_process (at_pid pid g) (told_at (λ p. p.pid) pid g g_stays) k w.living y at_y in
           subst (λ (z : Process ℕ Image). AreEqualUnmarked z.image.memory.pages y.image.memory.pages) a.2
-          (subst (λ (z : Process ℕ Image). AreEqualUnmarked (at_pid pid (given pid regs one) a.0).image.memory.pages z.image.memory.pages) b.2 (memories k (k == pid) refl a.0 b.0 a.1 b.1));
+          (subst (λ (z : Process ℕ Image). AreEqualUnmarked (at_pid pid f a.0).image.memory.pages z.image.memory.pages) b.2 (memories k (k == pid) refl a.0 b.0 a.1 b.1));
     }
 
+  -- ---- other registers and another memory
+
+  module _ (pid : ℕ) (p q : Process ℕ Image) (lives : process pid s ≡ Some p) (also : process pid w ≡ Some q) (regs : Regs) (one other : Memory) (alike : AreEqualUnmarked one.pages other.pages) where
     pub match_computed : StaysLike p.image.memory.pages one.pages → layout_of other.pages ≡ layout_of q.image.memory.pages → IsMatch table tags (computed pid regs one s) (computed pid regs other w)
     match_computed like same = record {
       bares =
           bare_computed pid regs one (pins_of table) s.next_pid s p m.placed.lawful.pids.living lives like.layout
           ∙ m.bares
           ∙ sym (bare_computed pid regs other (pins_of plain) s.next_pid w q (subst (RiseFrom 2 s.next_pid) same_pids m.placed.lawful.pids.living) also same);
-      images = images;
+      images = images pid (given pid regs one) (given pid regs other) (λ p. refl) (λ p. refl) (λ x y at_x at_y. (refl, alike));
       tagged = tags_computed pid regs one table s p lives tags m.tagged;
       placed = places_computed pid regs one table s p lives m.placed like;
     }

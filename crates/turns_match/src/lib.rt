@@ -2,4 +2,5 @@
 #![tactic(auto)]
 
 pub mod changing;
+pub mod operating;
 pub mod turning;
