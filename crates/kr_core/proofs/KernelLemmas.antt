@@ -21,7 +21,7 @@ use Rattle.kr_turns.proofs.NumberLemmas.{picked-process-numbered}
 
 module _ {T : Type 0} (next : ℕ) (test : Process T Image → Bool) where
   -- a process of a list that passes is found there by its number
-  found-of : (low : ℕ) (ps : List (Process T Image)) (k : ℕ) (q : Process T Image) → RiseFrom low next (map_list (λ p. p.pid) ps) → slice_get (filter test ps) k ≡ Some q
+  pub found-of : (low : ℕ) (ps : List (Process T Image)) (k : ℕ) (q : Process T Image) → RiseFrom low next (map_list (λ p. p.pid) ps) → slice_get (filter test ps) k ≡ Some q
       → (low ≤ q.pid) × (find (is_pid q.pid) ps ≡ Some q)
   found-of low [] k q rise e = absurd cc
   found-of low (p ∷ ps) k q rise e = by (λ k e. found-of (suc p.pid) ps k q rise.2 e) (test p) k e

@@ -11,9 +11,9 @@ use Rattle.turns_match.proofs.KeepLemmas.{changes_keep_matches}
 use Rattle.turns_match.proofs.RunLemmas.{lives_too}
 
 -- of the rules in their order none is broken
-none_broken : (first third fourth fifth sixth : Bool)
-    → cond {A = Option ℕ} first (Some 1) (cond third (Some 3) (cond fourth (Some 4) (cond fifth (Some 5) (cond sixth (Some 6) None)))) ≡ None → (third ≡ false) × (fourth ≡ false) × (fifth ≡ false)
-none_broken false false false false sixth e = (refl, refl, refl)
+pub none_broken : (first third fourth fifth sixth : Bool)
+    → cond {A = Option ℕ} first (Some 1) (cond third (Some 3) (cond fourth (Some 4) (cond fifth (Some 5) (cond sixth (Some 6) None)))) ≡ None → (first ≡ false) × (third ≡ false) × (fourth ≡ false) × (fifth ≡ false)
+none_broken false false false false sixth e = (refl, refl, refl, refl)
 none_broken true third fourth fifth sixth e = absurd (never e)
   where
     never : {A : Type 0} {a : A} → Some a ≡ None → ⊥
@@ -34,7 +34,7 @@ none_broken false false false true sixth e = absurd (never e)
 pub deaths_keep_matches : DeathsKeepMatches
 deaths_keep_matches table pid signal s w tags lives calm lawful m =
     let none = none_broken _ (changes_break_3 images no_mounts pid table (End signal ∷ []) s) (changes_break_4 images no_mounts pid (End signal ∷ []) s) (changes_break_5 images no_mounts pid table (End signal ∷ []) s) (breaks_6 nothing_reached) calm in
-    changes_keep_matches table no_mounts no_mounts pid (End signal ∷ []) s w tags refl refl (record { third = none.0; fourth = none.1; fifth = none.2 }) (tt, tt) (lives, lives, tt) (also, also, tt) lawful m
+    changes_keep_matches table no_mounts no_mounts pid (End signal ∷ []) s w tags refl refl (record { third = none.1; fourth = none.2; fifth = none.3 }) (tt, tt) (lives, lives, tt) (also, also, tt) lawful m
   where
     also : IsSome (process pid w)
     also = by (process pid s) refl lives

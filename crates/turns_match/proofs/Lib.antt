@@ -5,5 +5,6 @@ pub mod KeepLemmas
 pub mod MatchLemmas
 pub mod OperateLemmas
 pub mod PickLemmas
+pub mod QuietLemmas
 pub mod RunLemmas
 pub mod SettleLemmas

@@ -1,4 +1,5 @@
 //! Laws of the turns of states that match, each carried by a function that does nothing.
+ghost use Rattle.turns_match.specs.Quiet.{QuietTurnsKeepMatches};
 ghost use Rattle.turns_match.specs.Turning.{InstructionsKeepMatches, MatchesGoOnAlike, ShelvesKeepMatches};
 
 /// In states that match the same process runs at each pick, and where none can run the end is the same.
@@ -14,4 +15,9 @@ pub fn instructions_keep_matches()
 /// So does a shelf that the kernel with mounts marks.
 pub fn shelves_keep_matches()
     ensures { ShelvesKeepMatches }
+{}
+
+/// And so does a turn in which no call is made.
+pub fn quiet_turns_keep_matches<S, T>()
+    ensures { QuietTurnsKeepMatches S T }
 {}
