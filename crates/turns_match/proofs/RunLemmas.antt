@@ -4,12 +4,13 @@ use Rattle.std.proofs.Common.{◌≡◌, ◌≢◌, ◌+◌, ◌-◌, ◌/◌, �
 use Rattle.std.specs.Prelude.{List, ◌%◌, is_some, nat_le, nat_lt, slice_index_or}
 use Rattle.std.specs.Option.{option_map, option_map_or}
 use Rattle.std.proofs.lemmas.Bool.{leb-false, leb-true, ltb-false, ltb-true}
-use Rattle.rv_mem.specs.Actions.{AreEqualUnmarked}
+use Rattle.rv_mem.specs.Actions.{AreEqualUnmarked, carried_out}
 use Rattle.rv_mem.specs.Layout.{layout_of}
 use Rattle.rv_mem.specs.Memory.{Memory}
 use Rattle.rv_mem.specs.Pages.{IsPlaced, IsWhole, Pages, is_marked, marked}
 use Rattle.rv_mem.specs.Page.{PageState}
 use Rattle.rv_mem.specs.declared.regs.Regs.{Regs}
+use Rattle.rv_mem.proofs.ActionLemmas.{reads_alike}
 use Rattle.rv_mem.proofs.AddressLemmas.{byte_at-marked, is_marked-marked_in, is_marked-marked_other}
 use Rattle.rv_mem.proofs.LayoutLemmas.{layout_alike, layouts_follow}
 use Rattle.rv_mem.proofs.SpaceLemmas.{IsPlaced-marked, IsWhole-marked}
@@ -19,15 +20,16 @@ use Rattle.rv_cpu.proofs.AlikeLemmas.{runs-alike}
 use Rattle.pt_bind.specs.Tags.{TagTable}
 use Rattle.kr_view.specs.View.{Row}
 use Rattle.kr_calls.specs.Arguments.{number}
+use Rattle.kr_calls.specs.Decoding.{decoding}
 use Rattle.kr_calm.specs.Shelf.{has_path, is_usable, shelf_size, shelf_start, shelved_by, stack_pointer, with_shelf_marked}
 use Rattle.kr_model.specs.State.{Image, Process, State, process}
-use Rattle.kr_allowed.proofs.RowLemmas.{StaysLike}
+use Rattle.kr_allowed.proofs.RowLemmas.{StaysLike, stays-like}
 use Rattle.kr_steps.specs.Computing.{computed}
 use Rattle.kr_steps.proofs.ComputingLemmas.{ran-stays-like}
 use Rattle.kr_turns.specs.Shelving.{shelved_in}
 use Rattle.kr_turns.specs.Stopped.{image_in, no_image}
 use Rattle.places_stay.specs.Matching.{IsMatch}
-use Rattle.turns_match.specs.Turning.{ComputeAlike, InstructionsKeepMatches, ShelvesKeepMatches}
+use Rattle.turns_match.specs.Turning.{ComputeAlike, DecodeAlike, DecodingsKeepMatches, InstructionsKeepMatches, ShelvesKeepMatches}
 use Rattle.turns_match.proofs.MatchLemmas.{match_computed}
 
 -- ---- the process of a number in both
@@ -57,6 +59,25 @@ module _ (table : List Row) (tags : TagTable) (pid : ℕ) (s w : State ℕ Image
         matches =
             subst (λ regs. IsMatch table tags (computed pid (ran fuel p.image.regs p.image.memory).regs (ran fuel p.image.regs p.image.memory).memory s) (computed pid regs (ran fuel q.image.regs q.image.memory).memory w)) end.regs
             (match_computed table tags s w m pid p q lives also (ran fuel p.image.regs p.image.memory).regs (ran fuel p.image.regs p.image.memory).memory (ran fuel q.image.regs q.image.memory).memory end.memory like laid);
+      }
+
+  -- ---- calls
+
+  pub decoded_alike : (carried_out (decoding p.image.regs) p.image.memory).memory.read_marked ≡ false → DecodeAlike table tags pid s w p q
+  decoded_alike unread =
+      let own = m.placed.lawful.processes pid p lives in
+      let one = (carried_out (decoding p.image.regs) p.image.memory).memory in
+      let other = (carried_out (decoding q.image.regs) q.image.memory).memory in
+      let like = stays-like (decoding p.image.regs) p.image.memory own.whole own.paged in
+      let both : ((carried_out (decoding p.image.regs) p.image.memory).reply ≡ (carried_out (decoding q.image.regs) q.image.memory).reply) × AreEqualUnmarked one.pages other.pages =
+      subst (λ regs. ((carried_out (decoding p.image.regs) p.image.memory).reply ≡ (carried_out (decoding regs) q.image.memory).reply) × AreEqualUnmarked one.pages (carried_out (decoding regs) q.image.memory).memory.pages) same_regs
+      (reads_alike (decoding p.image.regs) p.image.memory q.image.memory alike unread) in
+      let laid : layout_of other.pages ≡ layout_of q.image.memory.pages = sym (layout_alike one.pages other.pages both.1) ∙ like.layout ∙ layout_alike p.image.memory.pages q.image.memory.pages alike in
+      record {
+        requests = both.0;
+        matches =
+            subst (λ regs. IsMatch table tags (computed pid p.image.regs one s) (computed pid regs other w)) same_regs
+            (match_computed table tags s w m pid p q lives also p.image.regs one other both.1 like laid);
       }
 
   -- ---- shelves
@@ -127,6 +148,9 @@ module _ (table : List Row) (tags : TagTable) (pid : ℕ) (s w : State ℕ Image
 
 pub instructions_keep_matches : InstructionsKeepMatches
 instructions_keep_matches table tags pid fuel s w p q m lives also unread = instructions_alike table tags pid s w p q m lives also fuel unread
+
+pub decodings_keep_matches : DecodingsKeepMatches
+decodings_keep_matches table tags pid s w p q m lives also unread = decoded_alike table tags pid s w p q m lives also unread
 
 -- where a process lives in one it lives in the other
 pub lives_too : (table : List Row) (tags : TagTable) (pid : ℕ) (s w : State ℕ Image) (p : Process ℕ Image) → IsMatch table tags s w → process pid s ≡ Some p → (q : Process ℕ Image) × (process pid w ≡ Some q)

@@ -1,10 +1,12 @@
 -- What two states that match do alike in a turn: the process that is picked is the same, and its instructions are.
 use Rattle.std.specs.Prelude.{◌≡◌, ℕ, false, List, Some}
 use Rattle.std.specs.Option.{option_map}
+use Rattle.rv_mem.specs.Actions.{carried_out}
 use Rattle.rv_cpu.specs.Laws.{EndAlike}
 use Rattle.rv_cpu.specs.Run.{ran}
 use Rattle.pt_bind.specs.Tags.{TagTable}
 use Rattle.kr_view.specs.View.{Row}
+use Rattle.kr_calls.specs.Decoding.{decoding}
 use Rattle.kr_model.specs.State.{Image, Process, State, process}
 use Rattle.kr_steps.specs.Computing.{computed}
 use Rattle.kr_steps.specs.Waiting.{picked_process}
@@ -33,6 +35,19 @@ abbrev pub InstructionsKeepMatches : Type 0
 InstructionsKeepMatches =
     (table : List Row) (tags : TagTable) (pid fuel : ℕ) (s w : State ℕ Image) (p q : Process ℕ Image) → IsMatch table tags s w → process pid s ≡ Some p → process pid w ≡ Some q
     → (ran fuel p.image.regs p.image.memory).memory.read_marked ≡ false → ComputeAlike table tags pid fuel s w p q
+
+-- a call is decoded alike, which notes what is read in each memory, and leaves a match
+pub record DecodeAlike (table : List Row) (tags : TagTable) (pid : ℕ) (s w : State ℕ Image) (p q : Process ℕ Image) : Type 0 where
+  pub requests : (carried_out (decoding p.image.regs) p.image.memory).reply ≡ (carried_out (decoding q.image.regs) q.image.memory).reply
+  pub matches : IsMatch table tags
+      (computed pid p.image.regs (carried_out (decoding p.image.regs) p.image.memory).memory s)
+      (computed pid q.image.regs (carried_out (decoding q.image.regs) q.image.memory).memory w)
+
+-- where no marked byte is read
+abbrev pub DecodingsKeepMatches : Type 0
+DecodingsKeepMatches =
+    (table : List Row) (tags : TagTable) (pid : ℕ) (s w : State ℕ Image) (p q : Process ℕ Image) → IsMatch table tags s w → process pid s ≡ Some p → process pid w ≡ Some q
+    → (carried_out (decoding p.image.regs) p.image.memory).memory.read_marked ≡ false → DecodeAlike table tags pid s w p q
 
 -- a shelf that is marked with mounts, and isn't under a tracer, leaves a match
 abbrev pub ShelvesKeepMatches : Type 0

@@ -1,6 +1,6 @@
 //! Laws of the turns of states that match, each carried by a function that does nothing.
 ghost use Rattle.turns_match.specs.Quiet.{QuietTurnsKeepMatches};
-ghost use Rattle.turns_match.specs.Turning.{InstructionsKeepMatches, MatchesGoOnAlike, ShelvesKeepMatches};
+ghost use Rattle.turns_match.specs.Turning.{DecodingsKeepMatches, InstructionsKeepMatches, MatchesGoOnAlike, ShelvesKeepMatches};
 
 /// In states that match the same process runs at each pick, and where none can run the end is the same.
 pub fn matches_go_on_alike<S, T>()
@@ -10,6 +10,11 @@ pub fn matches_go_on_alike<S, T>()
 /// Instructions of the process of a number end alike in states that match, and leave states that match, where no marked byte is read.
 pub fn instructions_keep_matches()
     ensures { InstructionsKeepMatches }
+{}
+
+/// The call at which it stands is decoded alike, which leaves states that match, where no marked byte is read.
+pub fn decodings_keep_matches()
+    ensures { DecodingsKeepMatches }
 {}
 
 /// So does a shelf that the kernel with mounts marks.
