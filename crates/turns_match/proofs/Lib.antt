@@ -1,4 +1,6 @@
 pub mod AlikeLemmas
+pub mod ClearLemmas
+pub mod ComeLemmas
 pub mod DeathLemmas
 pub mod ImageLemmas
 pub mod KeepLemmas

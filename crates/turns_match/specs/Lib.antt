@@ -1,4 +1,5 @@
 pub mod Changing
 pub mod Operating
 pub mod Quiet
+pub mod Runs
 pub mod Turning

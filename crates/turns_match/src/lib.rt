@@ -3,4 +3,5 @@
 
 pub mod changing;
 pub mod operating;
+pub mod running;
 pub mod turning;

@@ -1,0 +1,37 @@
+-- Runs of machines that match.
+use Rattle.std.specs.Prelude.{◌≡◌, ◌<◌, ◌≤◌, ◌^◌, ℕ, suc, List, None}
+use Rattle.pt_bind.specs.Tags.{TagTable}
+use Rattle.kr_tree.specs.Tree.{nodes}
+use Rattle.kr_view.specs.View.{Row, plain}
+use Rattle.kr_steps.specs.Calls.{LastsLawful}
+use Rattle.kr_turns.specs.Run.{Ran, Slot, ending_of, run, turned}
+use Rattle.kr_turns.specs.Turn.{Machine}
+use Rattle.kr_turns.specs.Watching.{Watcher}
+use Rattle.turns_match.specs.Quiet.{MachinesMatch}
+
+-- machines that match after as many turns, of which both are lawful, with what lasts
+pub record GoTogether {S T : Type 0} (tags_in : T → TagTable) (table : List Row) (made : ℕ) (m : Machine S) (n : Machine T) : Type 0 where
+  pub matches : MachinesMatch tags_in table m n
+  pub lasts : LastsLawful (λ k. k) table made m.state
+  pub also_lasts : LastsLawful (λ k. k) plain made n.state
+
+-- what became of two runs is the same: the bytes of each turn, the end, the status, and the nodes of the tree
+pub record ComeAlike {S T : Type 0} (one : Ran S) (other : Ran T) : Type 0 where
+  pub puts : one.puts ≡ other.puts
+  pub endings : one.ending ≡ other.ending
+  pub statuses : one.machine.tally.status ≡ other.machine.tally.status
+  pub trees : nodes one.machine.state.tree ≡ nodes other.machine.state.tree
+
+module _ {S T : Type 0} (watcher : Watcher S) (tracer : Watcher T) (tags_in : T → TagTable) (table : List Row) (slots : ℕ → Slot) where
+  -- each turn that is made and breaks no calm rule
+  abbrev pub TurnsGoTogether : Type 0
+  TurnsGoTogether =
+      (made : ℕ) (m : Machine S) (n : Machine T) → made < 2 ^ 31 → GoTogether tags_in table made m n → ending_of m ≡ None → (turned watcher 1 table slots made m).tally.broken ≡ None
+      → GoTogether tags_in table (suc made) (turned watcher 1 table slots made m) (turned tracer 0 plain slots made n)
+
+-- where they do, a calm run and that of the plain machine come to the same
+abbrev pub RunsComeAlike : (S T : Type 0) → Type 0
+RunsComeAlike S T =
+    (watcher : Watcher S) (tracer : Watcher T) (tags_in : T → TagTable) (table : List Row) (slots : ℕ → Slot) → TurnsGoTogether watcher tracer tags_in table slots
+    → (turns : ℕ) (m : Machine S) (n : Machine T) → turns ≤ 2 ^ 31 → GoTogether tags_in table 0 m n → (run watcher 1 table slots turns m).machine.tally.broken ≡ None
+    → ComeAlike (run watcher 1 table slots turns m) (run tracer 0 plain slots turns n)
