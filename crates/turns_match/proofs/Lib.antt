@@ -4,6 +4,7 @@ pub mod ComeLemmas
 pub mod DeathLemmas
 pub mod ImageLemmas
 pub mod KeepLemmas
+pub mod LastLemmas
 pub mod MatchLemmas
 pub mod OperateLemmas
 pub mod PickLemmas

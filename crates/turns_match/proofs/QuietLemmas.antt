@@ -60,7 +60,7 @@ neither true b e = absurd (differ e)
 
 -- ---- the process that runs
 
-picked_lives : (next : ℕ) (s : State ℕ Image) (pick : ℕ) (p : Process ℕ Image) → RiseFrom 2 next (pids_in s.living) → picked_process s pick ≡ Some p → process p.pid s ≡ Some p
+pub picked_lives : (next : ℕ) (s : State ℕ Image) (pick : ℕ) (p : Process ℕ Image) → RiseFrom 2 next (pids_in s.living) → picked_process s pick ≡ Some p → process p.pid s ≡ Some p
 picked_lives next s pick p rise is = (found-of next (goes_on s) 2 s.living (pick % length (ready_processes s)) p rise is).1
 
 memory_computed : (pid : ℕ) (regs : Regs) (memory : Memory) (s : State ℕ Image) (p : Process ℕ Image) → process pid s ≡ Some p → memory_of pid (computed pid regs memory s) ≡ memory
@@ -102,24 +102,39 @@ module _ {S T : Type 0} (watcher : Watcher S) (tracer : Watcher T) (tags_in : T 
     abbrev other_run : Machine T
     other_run = record { state = computed p.pid other_ends.regs other_ends.memory n.state; watcher = n.watcher; tally = n.tally }
 
+    pub computes_alike : ends.event ≢ Call → (after_event watcher 1 table p.pid ends.event run).tally.broken ≡ None → ComputeAlike table (tags_in n.watcher) p.pid fuel m.state n.state p q
+    computes_alike quiet calm =
+        let clean : ends.memory.read_marked ≡ false = ap (λ (x : Memory). x.read_marked) (sym (memory_computed p.pid ends.regs ends.memory m.state p lives)) ∙ unread p.pid run other_run ends.event quiet calm in
+        instructions_alike table (tags_in n.watcher) p.pid m.state n.state p q match.states lives also fuel clean
+
     turned_alike : ends.event ≢ Call → (after_event watcher 1 table p.pid ends.event run).tally.broken ≡ None → MachinesMatch tags_in table (after_event watcher 1 table p.pid ends.event run) (after_event tracer 0 plain p.pid other_ends.event other_run)
     turned_alike quiet calm =
-        let clean : ends.memory.read_marked ≡ false = ap (λ (x : Memory). x.read_marked) (sym (memory_computed p.pid ends.regs ends.memory m.state p lives)) ∙ unread p.pid run other_run ends.event quiet calm in
-        let alike : ComputeAlike table (tags_in n.watcher) p.pid fuel m.state n.state p q = instructions_alike table (tags_in n.watcher) p.pid m.state n.state p q match.states lives also fuel clean in
+        let alike = computes_alike quiet calm in
         let own = lawful.processes p.pid q also in
         let like = ran-stays-like fuel None q.image.regs q.image.memory own.whole own.paged in
         let there : IsSome (process p.pid run.state) = subst IsSome (sym (found p.pid (given p.pid ends.regs ends.memory) (λ p. refl) p.pid m.state.living ∙ ap (option_map (at_pid p.pid (given p.pid ends.regs ends.memory))) lives)) refl in
         subst (λ e. MachinesMatch tags_in table (after_event watcher 1 table p.pid ends.event run) (after_event tracer 0 plain p.pid e other_run)) alike.ends.event
         (ends_alike p.pid run other_run ends.event quiet calm there (lawful-image (λ m. m) plain n.state lawful p.pid q also other_ends.memory like (λ _. other_ends.regs)) (record { states = alike.matches; statuses = match.statuses }))
 
-pub quiet_turns_keep_matches : (S T : Type 0) → QuietTurnsKeepMatches S T
-quiet_turns_keep_matches S T watcher tracer tags_in table pick fuel m n drops quiet calm lawful match = by (picked_process m.state pick) refl (picked_process n.state pick) refl ((matches_go_on_alike table (tags_in n.watcher) m n match.states).picks pick) quiet calm
+-- ---- a turn of whoever is picked
+
+-- the plain machine makes no call either
+pub record AreQuietAlike {S T : Type 0} (watcher : Watcher S) (tracer : Watcher T) (tags_in : T → TagTable) (table : List Row) (pick fuel : ℕ) (m : Machine S) (n : Machine T) : Type 0 where
+  pub matches : MachinesMatch tags_in table (turn watcher 1 table pick fuel m) (turn tracer 0 plain pick fuel n)
+  pub quiet : MakesNoCall fuel (picked_process n.state pick)
+
+pub quiet_alike : {S T : Type 0} (watcher : Watcher S) (tracer : Watcher T) (tags_in : T → TagTable) (table : List Row) (pick fuel : ℕ) (m : Machine S) (n : Machine T) → DropsTags tracer tags_in → MakesNoCall fuel (picked_process m.state pick)
+    → (turn watcher 1 table pick fuel m).tally.broken ≡ None → IsLawful (λ m. m) plain n.state → MachinesMatch tags_in table m n → AreQuietAlike watcher tracer tags_in table pick fuel m n
+quiet_alike {S} {T} watcher tracer tags_in table pick fuel m n drops quiet calm lawful match = by (picked_process m.state pick) refl (picked_process n.state pick) refl ((matches_go_on_alike table (tags_in n.watcher) m n match.states).picks pick) quiet calm
   where
     by : (x : Option (Process ℕ Image)) → picked_process m.state pick ≡ x → (y : Option (Process ℕ Image)) → picked_process n.state pick ≡ y → option_map (λ p. p.pid) (picked_process m.state pick) ≡ option_map (λ p. p.pid) (picked_process n.state pick)
-        → MakesNoCall fuel (picked_process m.state pick) → (turn watcher 1 table pick fuel m).tally.broken ≡ None → MachinesMatch tags_in table (turn watcher 1 table pick fuel m) (turn tracer 0 plain pick fuel n)
-    by None x None y same quiet calm =
-        subst (λ o. MachinesMatch tags_in table (by_pick watcher 1 table fuel o m) (turn tracer 0 plain pick fuel n)) (sym x)
-        (subst (λ o. MachinesMatch tags_in table m (by_pick tracer 0 plain fuel o n)) (sym y) match)
+        → MakesNoCall fuel (picked_process m.state pick) → (turn watcher 1 table pick fuel m).tally.broken ≡ None → AreQuietAlike watcher tracer tags_in table pick fuel m n
+    by None x None y same quiet calm = record {
+      matches =
+          subst (λ o. MachinesMatch tags_in table (by_pick watcher 1 table fuel o m) (turn tracer 0 plain pick fuel n)) (sym x)
+          (subst (λ o. MachinesMatch tags_in table m (by_pick tracer 0 plain fuel o n)) (sym y) match);
+      quiet = subst (MakesNoCall fuel) (sym y) tt;
+    }
     by None x (Some q) y same quiet calm = absurd (never (sym (ap (option_map (λ p. p.pid)) x) ∙ same ∙ ap (option_map (λ p. p.pid)) y))
       where
         never : {A : Type 0} {a : A} → None ≡ Some a → ⊥
@@ -135,9 +150,17 @@ quiet_turns_keep_matches S T watcher tracer tags_in table pick fuel m n drops qu
         let also = picked_lives m.state.next_pid n.state pick q (subst (RiseFrom 2 m.state.next_pid) (same_pids table (tags_in n.watcher) m.state n.state match.states) rise) y in
         let calmly : (turn_of watcher 1 table fuel p m).tally.broken ≡ None = ap (λ o. (by_pick watcher 1 table fuel o m).tally.broken) (sym x) ∙ calm in
         let quietly : MakesNoCall fuel (Some p) = subst (MakesNoCall fuel) x quiet in
-        subst (λ o. MachinesMatch tags_in table (by_pick watcher 1 table fuel o m) (turn tracer 0 plain pick fuel n)) (sym x)
-        (subst (λ o. MachinesMatch tags_in table (turn_of watcher 1 table fuel p m) (by_pick tracer 0 plain fuel o n)) (sym y)
-        (subst
-        (λ k. MachinesMatch tags_in table (turn_of watcher 1 table fuel p m)
-        (after_event tracer 0 plain k (ran fuel q.image.regs q.image.memory).event (record { state = computed k (ran fuel q.image.regs q.image.memory).regs (ran fuel q.image.regs q.image.memory).memory n.state; watcher = n.watcher; tally = n.tally })))
-        pid (turned_alike watcher tracer tags_in drops table fuel m n p q lives (subst (λ k. process k n.state ≡ Some q) (sym pid) also) lawful match quietly calmly)))
+        let also_here : process p.pid n.state ≡ Some q = subst (λ k. process k n.state ≡ Some q) (sym pid) also in
+        let alike = computes_alike watcher tracer tags_in drops table fuel m n p q lives also_here lawful match quietly calmly in
+        record {
+          matches = subst (λ o. MachinesMatch tags_in table (by_pick watcher 1 table fuel o m) (turn tracer 0 plain pick fuel n)) (sym x)
+              (subst (λ o. MachinesMatch tags_in table (turn_of watcher 1 table fuel p m) (by_pick tracer 0 plain fuel o n)) (sym y)
+              (subst
+              (λ k. MachinesMatch tags_in table (turn_of watcher 1 table fuel p m)
+              (after_event tracer 0 plain k (ran fuel q.image.regs q.image.memory).event (record { state = computed k (ran fuel q.image.regs q.image.memory).regs (ran fuel q.image.regs q.image.memory).memory n.state; watcher = n.watcher; tally = n.tally })))
+              pid (turned_alike watcher tracer tags_in drops table fuel m n p q lives also_here lawful match quietly calmly)));
+          quiet = subst (MakesNoCall fuel) (sym y) (λ e. quietly (alike.ends.event ∙ e));
+        }
+
+pub quiet_turns_keep_matches : (S T : Type 0) → QuietTurnsKeepMatches S T
+quiet_turns_keep_matches S T watcher tracer tags_in table pick fuel m n drops quiet calm lawful match = (quiet_alike watcher tracer tags_in table pick fuel m n drops quiet calm lawful match).matches

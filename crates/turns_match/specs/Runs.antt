@@ -4,10 +4,11 @@ use Rattle.pt_bind.specs.Tags.{TagTable}
 use Rattle.kr_tree.specs.Tree.{nodes}
 use Rattle.kr_view.specs.View.{Row, plain}
 use Rattle.kr_steps.specs.Calls.{LastsLawful}
+use Rattle.kr_steps.specs.Waiting.{picked_process}
 use Rattle.kr_turns.specs.Run.{Ran, Slot, ending_of, run, turned}
-use Rattle.kr_turns.specs.Turn.{Machine}
+use Rattle.kr_turns.specs.Turn.{Machine, turn}
 use Rattle.kr_turns.specs.Watching.{Watcher}
-use Rattle.turns_match.specs.Quiet.{MachinesMatch}
+use Rattle.turns_match.specs.Quiet.{DropsTags, MachinesMatch, MakesNoCall}
 
 -- machines that match after as many turns, of which both are lawful, with what lasts
 pub record GoTogether {S T : Type 0} (tags_in : T → TagTable) (table : List Row) (made : ℕ) (m : Machine S) (n : Machine T) : Type 0 where
@@ -29,7 +30,13 @@ module _ {S T : Type 0} (watcher : Watcher S) (tracer : Watcher T) (tags_in : T 
       (made : ℕ) (m : Machine S) (n : Machine T) → made < 2 ^ 31 → GoTogether tags_in table made m n → ending_of m ≡ None → (turned watcher 1 table slots made m).tally.broken ≡ None
       → GoTogether tags_in table (suc made) (turned watcher 1 table slots made m) (turned tracer 0 plain slots made n)
 
--- where they do, a calm run and that of the plain machine come to the same
+-- a turn in which no call is made does, where it breaks no calm rule
+abbrev pub QuietTurnsGoTogether : (S T : Type 0) → Type 0
+QuietTurnsGoTogether S T =
+    (watcher : Watcher S) (tracer : Watcher T) (tags_in : T → TagTable) (table : List Row) (pick fuel made : ℕ) (m : Machine S) (n : Machine T) → DropsTags tracer tags_in → MakesNoCall fuel (picked_process m.state pick)
+    → (turn watcher 1 table pick fuel m).tally.broken ≡ None → GoTogether tags_in table made m n → GoTogether tags_in table (suc made) (turn watcher 1 table pick fuel m) (turn tracer 0 plain pick fuel n)
+
+-- where all do, a calm run and that of the plain machine come to the same
 abbrev pub RunsComeAlike : (S T : Type 0) → Type 0
 RunsComeAlike S T =
     (watcher : Watcher S) (tracer : Watcher T) (tags_in : T → TagTable) (table : List Row) (slots : ℕ → Slot) → TurnsGoTogether watcher tracer tags_in table slots

@@ -1,7 +1,12 @@
 //! Laws of the runs of machines that match, each carried by a function that does nothing.
-ghost use Rattle.turns_match.specs.Runs.{RunsComeAlike};
+ghost use Rattle.turns_match.specs.Runs.{QuietTurnsGoTogether, RunsComeAlike};
 
-/// Where each turn that breaks no calm rule keeps a match of lawful states, a calm run and that of the plain machine come to the same.
+/// A turn in which no call is made, and that breaks no calm rule, keeps a match of lawful states.
+pub fn quiet_turns_go_together<S, T>()
+    ensures { QuietTurnsGoTogether S T }
+{}
+
+/// Where each turn that breaks no calm rule keeps such a match, a calm run and that of the plain machine come to the same.
 pub fn runs_come_alike<S, T>()
     ensures { RunsComeAlike S T }
 {}
