@@ -1,4 +1,5 @@
 pub mod AlikeLemmas
+pub mod CallLemmas
 pub mod ClearLemmas
 pub mod ComeLemmas
 pub mod DeathLemmas

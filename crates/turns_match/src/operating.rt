@@ -1,7 +1,18 @@
 //! Laws of the calls of states that match, each carried by a function that does nothing.
+ghost use Rattle.turns_match.specs.Calls.{CallsComeAlike, RefusedCallsComeAlike};
 ghost use Rattle.turns_match.specs.Operating.{CallsKeepMatches};
 
 /// A call on equal requests and on what is told alike of its paths is answered alike, and keeps a match, where it is calm and moves no name.
 pub fn calls_keep_matches()
     ensures { CallsKeepMatches }
+{}
+
+/// A call that isn't decoded is refused alike, and keeps a match.
+pub fn refused_calls_come_alike()
+    ensures { RefusedCallsComeAlike }
+{}
+
+/// Behind its first stop a call other than execve(2) comes to the same in states that match, where the same is told of its paths.
+pub fn calls_come_alike()
+    ensures { CallsComeAlike }
 {}
