@@ -1,3 +1,6 @@
 pub mod Slots
 pub mod Report
 pub mod Puts
+pub mod Alike
+pub mod Case
+pub mod Keeping

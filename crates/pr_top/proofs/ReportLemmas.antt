@@ -3,7 +3,7 @@ use Rattle.std.proofs.Common.{◌≡◌, ◌⊎◌, ℕ, Some, None, sym, subst,
 use Rattle.std.specs.Prelude.{Result, Ok, Err}
 use Rattle.pr_io.specs.Moves.{AppendsPrefix}
 use Rattle.pr_answer.specs.declared.answer.Answer.{Answer}
-use Rattle.pr_answer.specs.declared.answer.Answer.TheVariants.{Ended, Deadlock, Spent, Usage, TooLong, TreeBad, BadBind, NoStart, ReadFault, WriteFault, NoMemory, Unbuilt}
+use Rattle.pr_answer.specs.declared.answer.Answer.TheVariants.{Ended, Deadlock, Spent, Usage, TooLong, TreeBad, BadBind, NoStart, ReadFault, WriteFault, NoMemory}
 use Rattle.pr_answer.specs.declared.answer.Which.TheVariants.{Err as ErrSink, Left}
 use Rattle.pr_sources.specs.Reading.{EndsBeforeInput}
 use Rattle.pr_sources.specs.Within.{Stage}
@@ -12,7 +12,7 @@ use Rattle.pr_run.specs.Puts.{AnswersReport, Got, PutsReport, PutsTurns, StopsIn
 use Rattle.pr_run.specs.declared.plan.Plan.{Plan}
 use Rattle.pr_run.specs.declared.turns.Stop.{Stop}
 use Rattle.pr_run.specs.declared.turns.Stop.TheVariants as stop
-use Rattle.pr_top.specs.Opening.{Begun, Mounts, Opens, Started, Traced, begun_told, mounted_run, report, report_on, started_told, traced_run}
+use Rattle.pr_top.specs.Opening.{Begun, Both, Mounts, Opens, Started, Traced, begun_told, mounted_run, report, report_on, started_told, traced_run}
 use Rattle.pr_top.specs.Promise.{ComesBeforeRun, IfKnown, IsBegunWith, Refuses, StopsForMemory, TellsRun}
 use Rattle.pr_top.specs.declared.opening.Opened.{Opened}
 
@@ -25,6 +25,7 @@ answer-tells NoTurnIsLeft status = tt
 report-tells : (plan : Plan) (s : Started) → TellsRun (report_on plan s).answer
 report-tells plan (Mounts table m) = answer-tells (mounted_run plan table m).ending (mounted_run plan table m).machine.tally.status
 report-tells plan (Traced m) = answer-tells (traced_run plan m).ending (traced_run plan m).machine.tally.status
+report-tells plan (Both n m table k) = tt
 
 of-told : (P : Answer → Type 0) → ((status : ℕ) → P (Ended status)) → P Deadlock → P Spent → (a : Answer) → TellsRun a → P a
 of-told P ended deadlock spent (Ended status) tells = ended status
@@ -38,7 +39,6 @@ of-told P ended deadlock spent (NoStart errno) tells = absurd tells
 of-told P ended deadlock spent (ReadFault which) tells = absurd tells
 of-told P ended deadlock spent (WriteFault which) tells = absurd tells
 of-told P ended deadlock spent NoMemory tells = absurd tells
-of-told P ended deadlock spent (Unbuilt part) tells = absurd tells
 
 -- it is none of these, nor is the answer of a stop
 abbrev IsNone : (Answer → Type 0) → Answer → Type 0
