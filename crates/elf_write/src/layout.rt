@@ -94,6 +94,7 @@ fn lay_out(alloc: Global, code: &[u8], init: &[u8], bss: u32) -> Result<Bytes, N
 pub fn write(alloc: Global, code: &[u8], init: &[u8], bss: u32) -> Result<Bytes, NoMemory>
     requires some_code { 0 < length code.now }
     requires within { length code.now + length init.now + bss ≤ 8388608 }
+    ensures whole { IfOk result (λ file. file ≡ written code.now init.now bss) }
     ensures accepted { IfOk result (λ file. first_broken file ≡ None) }
     ensures entry { IfOk result (λ file. (plan_of file).entry ≡ 65536) }
     ensures table { IfOk result (λ file. (plan_of file).phdr ≡ 0) }

@@ -1,5 +1,5 @@
 -- A generated case: two runs, whether their outcomes are equal, and what is put of them.
-use Rattle.std.specs.Prelude.{◌≡◌, ℕ, zero, suc, ◌-◌, ◌==◌, Bool, count_by, List, [], ◌∷◌, ◌++◌, length, codes, Unit, ◌⊎◌, refl, if◌then◌else◌}
+use Rattle.std.specs.Prelude.{◌≡◌, ℕ, zero, suc, ◌-◌, ◌==◌, Bool, count_by, List, [], ◌∷◌, ◌++◌, length, codes, refl, if◌then◌else◌}
 use Rattle.std.specs.FinMap as map
 use Rattle.std.specs.Coded.{Coded, code_by, coded×, coded_ℕ, coded_list}
 use Rattle.std.specs.Fmt.{decimal}

@@ -1,5 +1,5 @@
 -- What is kept of a run: the bytes of each turn, how it ended, and the status. The tree stays in its kernel.
-use Rattle.std.specs.Prelude.{◌≡◌, List, [], ◌∷◌, ◌++◌, map, Option, Some, None}
+use Rattle.std.specs.Prelude.{◌≡◌, ℕ, List, [], ◌∷◌, ◌++◌, map, Some, None}
 use Rattle.kr_tree.specs.Tree.{Tree, nodes}
 use Rattle.kr_view.specs.View.{Row}
 use Rattle.kr_core.specs.declared.kernel.Turned.{Turned}

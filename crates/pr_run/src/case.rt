@@ -1,10 +1,11 @@
 //! A generated case: both machines run it, and their outcomes are compared.
 ghost use Rattle.std.specs.Prelude.{◌≡◌, true, IfOk};
+ghost use Rattle.std.specs.String.{string_bytes};
 ghost use Rattle.pr_io.specs.Faults.{Rose};
 ghost use Rattle.kr_core.specs.Kernel.{machine};
 ghost use Rattle.kr_text.specs.Canonical.{canonical};
 ghost use Rattle.kr_turns.specs.Run.{run};
-ghost use Rattle.pr_run.specs.Case.{agree, case_report_of, end_words, lines, summary, told_of};
+ghost use Rattle.pr_run.specs.Case.{agree, case_report_of, end_words, lines, status_by, summary, told_of, yes_or_no};
 ghost use Rattle.pr_run.specs.Keeping.{kept_told, puts_told, report_told};
 ghost use Rattle.pr_run.specs.Puts.{AnswersReport, Got, PutsReport, end_told};
 ghost use Rattle.pr_run.specs.Slots.{IsPlan, slot_of};
@@ -33,15 +34,15 @@ pub struct CaseTold {
 }
 
 /// How a run ended, in the summary's words.
-fn end_words(alloc: Global, end: End, status: u8) -> Result<Bytes, NoMemory>
-    ensures { IfOk result (λ words. words ≡ end_words (end_told end) status) }
+fn end_words(alloc: Global, end: End, status: u8) -> Result<String, NoMemory>
+    ensures { IfOk result (λ words. string_bytes words ≡ end_words (end_told end) status) }
 {
     let words = match end {
         End::Over => format!(in alloc; "ended {status}")?,
         End::Deadlock => String::from_str(alloc, "deadlock")?,
         End::Spent => String::from_str(alloc, "spent")?,
     };
-    Ok(Bytes::from(words.into_bytes()))
+    Ok(words)
 }
 
 /// How many lines a text has.
@@ -49,6 +50,19 @@ fn lines(text: &[u8]) -> usize
     ensures { result ≡ lines text.now }
 {
     text.iter().filter(|byte| **byte == b'\n').count()
+}
+
+fn yes_or_no(same: bool) -> &'static str
+    ensures { result.now ≡ yes_or_no same }
+{
+    if same { "yes" } else { "no" }
+}
+
+/// The status that tells whether both runs came to the same outcome.
+fn status_by(same: bool) -> u8
+    ensures { result ≡ status_by same }
+{
+    if same { 0 } else { 1 }
 }
 
 /// The summary of a case: its number, and how the watched run ended, how many turns it made, how many names its tree has, how many bytes it
@@ -66,7 +80,7 @@ fn summary(
     let turns = watched.puts.len();
     let names = lines(listing).saturating_sub(1);
     let out = output(watched.puts.as_slice());
-    let agree = if same { "yes" } else { "no" };
+    let agree = yes_or_no(same);
     let text = format!(in alloc; "case {case}\nend {end}\nturns {turns}\nnames {names}\nout {out}\nagree {agree}\n")?;
     Ok(Bytes::from(text.into_bytes()))
 }
@@ -86,7 +100,7 @@ pub fn tell(
     let listing = write(alloc, watched_tree, user)?;
     let same = same(watched, watched_tree, mounted, mounted_tree);
     let summary = summary(alloc, case, watched, listing.as_slice(), same)?;
-    let status = if same { 0 } else { 1 };
+    let status = status_by(same);
     Ok(CaseTold {
         summary,
         listing,

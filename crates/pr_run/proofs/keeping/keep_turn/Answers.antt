@@ -19,6 +19,6 @@ returns-clause-keeps g c =
     let turned : machine number c.turn.new.self ≡ after_slot g.S.Graphed.does g.row.M (g.P.Places.mounts c.args.kernel.now.places) c.args.slot m =
     c.turns_are_functions.ensures.turns g.S.Graphed.does g.row.M (g.P.Places.mounts c.args.kernel.now.places) c.args.slot.pick c.args.slot.fuel made.process m (machine number c.turn.new.self) c.is_graph.ensures made.picked made.turn in (
       goes m c.args.slot.pick made.process made.picked,
-      forgotten number c.turn.new.self c.take_bytes-written.new.kernel c.in_ok-written.ensures.cleared ∙ ap after_put turned,
-      ap puts_told c.in_ok-push.ensures ∙ told-push c.args.puts.now.items c.in_ok-written.written (put_by (after_slot g.S.Graphed.does g.row.M (g.P.Places.mounts c.args.kernel.now.places) c.args.slot m)) (c.in_ok-written.ensures.bytes ∙ ap put_by turned),
+      forgotten number c.turn.new.self c.take_bytes.new.kernel c.in_ok-written.ensures.cleared ∙ ap after_put turned,
+      ap puts_told c.in_ok-push.ensures.items ∙ told-push c.args.puts.now.items c.in_ok-written.written (put_by (after_slot g.S.Graphed.does g.row.M (g.P.Places.mounts c.args.kernel.now.places) c.args.slot m)) (c.in_ok-written.ensures.bytes ∙ ap put_by turned),
     )

@@ -1,0 +1,5 @@
+//! Tests of generated cases.
+#![tactic(auto)]
+
+#[cfg(test)]
+mod cases;

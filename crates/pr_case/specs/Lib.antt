@@ -1,0 +1,4 @@
+pub mod Case
+pub mod Draws
+pub mod Guest
+pub mod Listing
