@@ -1,5 +1,5 @@
 -- Outcomes are told apart, and a case whose report is put.
-use Rattle.std.proofs.Common.{◌≡◌, ◌≢◌, ◌==◌, ◌&&◌, ℕ, Bool, true, false, List, [], ◌∷◌, inl, refl, ap, subst, ◌∙◌, IsTrue, Decides}
+use Rattle.std.proofs.Common.{◌≡◌, ◌≢◌, ◌&&◌, ℕ, Bool, true, false, List, [], ◌∷◌, inl, refl, ap, subst, ◌∙◌, IsTrue, Decides}
 use Rattle.std.proofs.lemmas.Bool.Decides.{Decides-eqb, same_from_decides}
 use Rattle.std.specs.Prelude.{◌↔◌, Result, Err}
 use Rattle.std.proofs.KnownBytes.{Appends-nil, Keeps-refl}

@@ -1,5 +1,5 @@
 -- Whether two values are the same, by their codes.
-use Rattle.std.specs.Prelude.{ℕ, Bool, true, false, ◌&&◌, ◌==◌}
+use Rattle.std.specs.Prelude.{Bool, true, false, ◌&&◌, ◌==◌}
 use base.Stored.{Coded, Gv, gnil, gnum, gcons}
 
 unfoldable pub same_codes : Gv → Gv → Bool

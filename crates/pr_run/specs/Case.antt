@@ -78,15 +78,18 @@ lines text = count_by (λ b. b == 10) text
 abbrev pub yes_or_no : Bool → List ℕ
 yes_or_no same = if same then codes "yes" else codes "no"
 
+abbrev pub summary_lines : (case : ℕ) (end : List ℕ) (turns names out : ℕ) (agree : List ℕ) → List ℕ
+summary_lines case end turns names out agree =
+    line (codes "case ") (decimal case)
+    (line (codes "end ") end
+    (line (codes "turns ") (decimal turns)
+    (line (codes "names ") (decimal names)
+    (line (codes "out ") (decimal out)
+    (line (codes "agree ") agree [])))))
+
 -- that of the case of a number, by what its watched run put out, how it ended, and the listing that it left, whose first line has no name
 abbrev pub summary : ℕ → List Put → Ending → ℕ → List ℕ → Bool → List ℕ
-summary n puts ending status listing same =
-    line (codes "case ") (decimal n)
-    (line (codes "end ") (end_words ending status)
-    (line (codes "turns ") (decimal (length puts))
-    (line (codes "names ") (decimal (lines listing - 1))
-    (line (codes "out ") (decimal (length (outs puts)))
-    (line (codes "agree ") (yes_or_no same) [])))))
+summary n puts ending status listing same = summary_lines n (end_words ending status) (length puts) (lines listing - 1) (length (outs puts)) (yes_or_no same)
 
 -- ---- the report
 

@@ -4,3 +4,4 @@ pub mod Puts
 pub mod Alike
 pub mod Case
 pub mod Keeping
+pub mod Laws

@@ -5,7 +5,7 @@ ghost use Rattle.pr_io.specs.Faults.{Rose};
 ghost use Rattle.kr_core.specs.Kernel.{machine};
 ghost use Rattle.kr_text.specs.Canonical.{canonical};
 ghost use Rattle.kr_turns.specs.Run.{run};
-ghost use Rattle.pr_run.specs.Case.{agree, case_report_of, end_words, lines, status_by, summary, told_of, yes_or_no};
+ghost use Rattle.pr_run.specs.Case.{agree, case_report_of, end_words, lines, status_by, summary, summary_lines, told_of, yes_or_no};
 ghost use Rattle.pr_run.specs.Keeping.{kept_told, puts_told, report_told};
 ghost use Rattle.pr_run.specs.Puts.{AnswersReport, Got, PutsReport, end_told};
 ghost use Rattle.pr_run.specs.Slots.{IsPlan, slot_of};
@@ -65,6 +65,22 @@ fn status_by(same: bool) -> u8
     if same { 0 } else { 1 }
 }
 
+/// The lines of the summary, with their values.
+fn summary_lines(
+    alloc: Global,
+    case: u32,
+    end: &str,
+    turns: usize,
+    names: usize,
+    out: u128,
+    agree: &str,
+) -> Result<Bytes, NoMemory>
+    ensures { IfOk result (λ text. text ≡ summary_lines case end.now turns names out agree.now) }
+{
+    let text = format!(in alloc; "case {case}\nend {end}\nturns {turns}\nnames {names}\nout {out}\nagree {agree}\n")?;
+    Ok(Bytes::from(text.into_bytes()))
+}
+
 /// The summary of a case: its number, and how the watched run ended, how many turns it made, how many names its tree has, how many bytes it
 /// put out, and whether the other run came to the same outcome.
 fn summary(
@@ -80,9 +96,15 @@ fn summary(
     let turns = watched.puts.len();
     let names = lines(listing).saturating_sub(1);
     let out = output(watched.puts.as_slice());
-    let agree = yes_or_no(same);
-    let text = format!(in alloc; "case {case}\nend {end}\nturns {turns}\nnames {names}\nout {out}\nagree {agree}\n")?;
-    Ok(Bytes::from(text.into_bytes()))
+    summary_lines(
+        alloc,
+        case,
+        end.as_str(),
+        turns,
+        names,
+        out,
+        yes_or_no(same),
+    )
 }
 
 /// Compares the outcomes of two runs, and tells the case by the first, the watched one.

@@ -3,6 +3,7 @@
 
 mod case;
 mod keeping;
+pub mod laws;
 mod plan;
 mod reporting;
 mod turns;

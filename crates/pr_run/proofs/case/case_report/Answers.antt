@@ -1,11 +1,6 @@
-use Rattle.std.proofs.Common.{◌≡◌, refl}
+use Rattle.std.proofs.Common.{refl}
 use Rattle.std.specs.Prelude.{Ok, Err}
-use Rattle.pr_io.specs.Faults.{Rose}
-use Rattle.kr_core.specs.Kernel.{machine}
-use Rattle.kr_turns.specs.Run.{run}
-use Rattle.pr_run.specs.Case.{case_report_of}
 use Rattle.pr_run.specs.Keeping.{report_told}
-use Rattle.pr_run.specs.Slots.{slot_of}
 use Rattle.pr_run.proofs.CaseLemmas.{nothing-told, reported}
 use Rattle.pr_run.proofs.case.case_report.Goals as goal
 

@@ -1,4 +1,4 @@
-use Rattle.std.proofs.Common.{◌≡◌, ap, ◌∙◌}
+use Rattle.std.proofs.Common.{ap, ◌∙◌}
 use Rattle.kr_text.specs.Canonical.{canonical}
 use Rattle.pr_run.specs.Case.{agree, summary}
 use Rattle.pr_run.specs.Keeping.{kept_told}

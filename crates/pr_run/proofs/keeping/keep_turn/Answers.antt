@@ -1,4 +1,4 @@
-use Rattle.std.proofs.Common.{◌≡◌, ◌++◌, ◌∷◌, [], sym, ap, subst, ◌∙◌}
+use Rattle.std.proofs.Common.{◌≡◌, ap, subst, ◌∙◌}
 use Rattle.kr_core.specs.Kernel.{HasRun, Turns, machine}
 use Rattle.kr_core.specs.declared.kernel.Turned.{Turned}
 use Rattle.kr_turns.specs.Making.{watching}

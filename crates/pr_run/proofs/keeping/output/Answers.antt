@@ -1,4 +1,4 @@
-use Rattle.std.proofs.Common.{◌≡◌, ◌+◌, take, length, sym, ap, ◌∙◌, arith}
+use Rattle.std.proofs.Common.{◌+◌, take, length, sym, ap, ◌∙◌, arith}
 use Rattle.pr_run.specs.Keeping.{puts_told}
 use Rattle.pr_run.specs.Report.{outs}
 use Rattle.pr_run.proofs.KeepLemmas.{output-more}

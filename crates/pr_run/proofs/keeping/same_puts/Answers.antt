@@ -1,4 +1,4 @@
-use Rattle.std.proofs.Common.{◌≡◌, sym, ◌∙◌, arith}
+use Rattle.std.proofs.Common.{sym, ◌∙◌, arith}
 use Rattle.pr_run.proofs.KeepLemmas.{same-at}
 use Rattle.pr_run.proofs.keeping.same_puts.Goals as goal
 
