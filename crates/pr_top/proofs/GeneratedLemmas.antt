@@ -1,5 +1,5 @@
 -- A generated case begins on both machines.
-use Rattle.std.proofs.Common.{◌≡◌, ◌⊎◌, ◌+◌, inl, inr, ℕ, zero, suc, List, [], Some, None, refl, sym, ap, subst, ◌∙◌, slice_get, codes, arith}
+use Rattle.std.proofs.Common.{◌≡◌, ◌⊎◌, inl, inr, ℕ, zero, suc, List, [], None, sym, ap, subst, ◌∙◌, codes, arith}
 use Rattle.std.specs.Prelude.{Result, Ok, Err}
 use Rattle.std.specs.List.{All}
 use Rattle.pr_base.specs.declared.bind.Bind.{Bind}

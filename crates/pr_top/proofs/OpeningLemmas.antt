@@ -1,5 +1,5 @@
 -- From what was read to the opening.
-use Rattle.std.proofs.Common.{◌≡◌, inl, inr, ℕ, Bool, false, List, Some, None, refl, sym, ap, subst}
+use Rattle.std.proofs.Common.{◌≡◌, inl, inr, ℕ, false, List, Some, None, refl, sym, ap, subst}
 use Rattle.std.specs.Prelude.{Option, Result, Ok, Err, IfErr, IsSome, is_some}
 use Rattle.kr_inode.specs.declared.user.User.{User}
 use Rattle.kr_tree.specs.Tree.{Tree}
@@ -83,17 +83,17 @@ module _ (words : Result Options Answer) (o : Options) (worded : words ≡ Ok o)
 
 -- the cause of a fault, behind words that ask for sources
 pub has-cause : (words : Result Options Answer) (tree : Stage (List ℕ)) (listing : Stage (Tree × User)) (rose_tree rose_elf rose_input : Type 0) → ReadsSources words → (a : Answer) → ReadHasCause tree listing rose_tree rose_elf rose_input a → HasCause words tree listing rose_tree rose_elf rose_input a
-has-cause words tree listing rose_tree rose_elf rose_input reads (ReadFault which) cause = (reads, cause)
-has-cause words tree listing rose_tree rose_elf rose_input reads (Usage word why) cause = tt
-has-cause words tree listing rose_tree rose_elf rose_input reads NoMemory cause = tt
-has-cause words tree listing rose_tree rose_elf rose_input reads (Ended status) cause = tt
-has-cause words tree listing rose_tree rose_elf rose_input reads Deadlock cause = tt
-has-cause words tree listing rose_tree rose_elf rose_input reads Spent cause = tt
-has-cause words tree listing rose_tree rose_elf rose_input reads (TooLong which) cause = tt
-has-cause words tree listing rose_tree rose_elf rose_input reads (TreeBad line why) cause = tt
-has-cause words tree listing rose_tree rose_elf rose_input reads (BadBind index why) cause = tt
-has-cause words tree listing rose_tree rose_elf rose_input reads (NoStart errno) cause = tt
-has-cause words tree listing rose_tree rose_elf rose_input reads (WriteFault which) cause = tt
+has-cause words tree listing rose_tree rose_elf rose_input asks (ReadFault which) cause = (asks, cause)
+has-cause words tree listing rose_tree rose_elf rose_input asks (Usage word why) cause = tt
+has-cause words tree listing rose_tree rose_elf rose_input asks NoMemory cause = tt
+has-cause words tree listing rose_tree rose_elf rose_input asks (Ended status) cause = tt
+has-cause words tree listing rose_tree rose_elf rose_input asks Deadlock cause = tt
+has-cause words tree listing rose_tree rose_elf rose_input asks Spent cause = tt
+has-cause words tree listing rose_tree rose_elf rose_input asks (TooLong which) cause = tt
+has-cause words tree listing rose_tree rose_elf rose_input asks (TreeBad line why) cause = tt
+has-cause words tree listing rose_tree rose_elf rose_input asks (BadBind index why) cause = tt
+has-cause words tree listing rose_tree rose_elf rose_input asks (NoStart errno) cause = tt
+has-cause words tree listing rose_tree rose_elf rose_input asks (WriteFault which) cause = tt
 
 pub err-then : {A : Type 0} (P Q : Answer → Type 0) (answer : Result A Answer) → ((a : Answer) → P a → Q a) → IfErr answer P → IfErr answer Q
 err-then P Q (Ok x) f is = tt

@@ -99,8 +99,8 @@ module _ (words : Result Options Answer) (tree : Stage (List ℕ)) (listing : St
   no-fault-left : (a : Answer) (P : Type 0) → IsEarly a → HasCause words tree listing rose_tree rose_elf rose_input a → (rose_tree → ⊥) → (rose_elf → ⊥) → (rose_input → ⊥) → P ⊎ (a ≡ NoMemory)
   no-fault-left NoMemory P early cause t e i = inr refl
   no-fault-left (ReadFault TreeSource) P early cause t e i = absurd (t cause.1)
-  no-fault-left (ReadFault Elf) P early cause t e i = absurd (e cause.2)
-  no-fault-left (ReadFault Input) P early cause t e i = absurd (i cause.2)
+  no-fault-left (ReadFault Elf) P early cause t e i = absurd (e cause.1.1)
+  no-fault-left (ReadFault Input) P early cause t e i = absurd (i cause.1.1)
   no-fault-left (ReadFault Out) P early cause t e i = absurd cause.1
   no-fault-left (ReadFault ErrSink) P early cause t e i = absurd cause.1
   no-fault-left (ReadFault Left) P early cause t e i = absurd cause.1

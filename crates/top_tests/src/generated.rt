@@ -77,6 +77,7 @@ fn both_machines_run_a_case_and_agree(rt: HostRuntime) -> Result<(), Fail> {
 }
 
 /// How objects move bytes in a run of 100 turns, and what it comes to. Its output has so many bytes of the summary, all where none are told.
+#[derive(Clone, Copy)]
 struct Row {
     moving: Moving,
     answer: Answer,
@@ -85,7 +86,7 @@ struct Row {
 }
 
 /// A source that would fail is not read.
-const fn unread(which: Which) -> Row {
+fn unread(which: Which) -> Row {
     Row {
         moving: Moving::Failing(which, 0),
         answer: AGREED,
@@ -94,31 +95,15 @@ const fn unread(which: Which) -> Row {
     }
 }
 
-const ROWS: [Row; 7] = [
-    unread(Which::Tree),
-    unread(Which::Elf),
-    unread(Which::Input),
-    // Nothing is put to it.
-    unread(Which::Err),
+/// A sink fails, where so many bytes of the summary were put.
+fn unput(which: Which, moving: Moving, out: Option<usize>) -> Row {
     Row {
-        moving: Moving::Failing(Which::Out, 0),
-        answer: Answer::WriteFault { which: Which::Out },
-        out: Some(0),
+        moving,
+        answer: Answer::WriteFault { which },
+        out,
         left: false,
-    },
-    Row {
-        moving: Moving::Torn(0, 5),
-        answer: Answer::WriteFault { which: Which::Out },
-        out: Some(5),
-        left: false,
-    },
-    Row {
-        moving: Moving::Failing(Which::Left, 0),
-        answer: Answer::WriteFault { which: Which::Left },
-        out: None,
-        left: false,
-    },
-];
+    }
+}
 
 #[test]
 fn a_case_reads_no_source_and_puts_no_errors(rt: HostRuntime) -> Result<(), Fail> {
@@ -128,7 +113,17 @@ fn a_case_reads_no_source_and_puts_no_errors(rt: HostRuntime) -> Result<(), Fail
     let summary = whole.out.got();
     assert!(rt; summary.starts_with(b"case 1\nend spent\nturns 100\nnames 4375\nout "));
     assert!(rt; summary.ends_with(b"\nagree yes\n"));
-    for (k, row) in ROWS.iter().enumerate() {
+    let rows = [
+        unread(Which::Tree),
+        unread(Which::Elf),
+        unread(Which::Input),
+        // Nothing is put to it.
+        unread(Which::Err),
+        unput(Which::Out, Moving::Failing(Which::Out, 0), Some(0)),
+        unput(Which::Out, Moving::Torn(0, 5), Some(5)),
+        unput(Which::Left, Moving::Failing(Which::Left, 0), None),
+    ];
+    for (k, row) in rows.iter().enumerate() {
         let told = generate(alloc, words, row.moving)?;
         let put = row.out.unwrap_or(summary.len()).min(summary.len());
         assert_eq!(rt; told.answer, row.answer, "row {k}");
@@ -140,6 +135,7 @@ fn a_case_reads_no_source_and_puts_no_errors(rt: HostRuntime) -> Result<(), Fail
 }
 
 /// What became of a run: the output and the error bytes of its two turns, its end, its status, and the tree that it left.
+#[derive(Clone, Copy)]
 struct Outcome {
     puts: [(&'static [u8], &'static [u8]); 2],
     end: End,
@@ -152,7 +148,7 @@ const TREE: &[u8] = b"user 1000 1000\nd 755 0 0 /\nf 644 1000 1000 /a 61\n";
 
 const PUTS: [(&[u8], &[u8]); 2] = [(b"ab", b""), (b"c", b"e")];
 
-const fn outcome(
+fn outcome(
     puts: [(&'static [u8], &'static [u8]); 2],
     end: End,
     status: u8,
@@ -166,20 +162,8 @@ const fn outcome(
     }
 }
 
-const WATCHED: Outcome = outcome(PUTS, End::Over, 3, TREE);
-
-/// Outcomes that aren't that one.
-const OTHERS: [Outcome; 8] = [
-    outcome([(b"ax", b""), (b"c", b"e")], End::Over, 3, TREE),
-    outcome([(b"ab", b""), (b"c", b"f")], End::Over, 3, TREE),
-    // The same bytes in other turns, and on the other sink.
-    outcome([(b"a", b""), (b"bc", b"e")], End::Over, 3, TREE),
-    outcome([(b"ab", b""), (b"", b"ce")], End::Over, 3, TREE),
-    outcome(PUTS, End::Deadlock, 3, TREE),
-    outcome(PUTS, End::Spent, 3, TREE),
-    outcome(PUTS, End::Over, 4, TREE),
-    outcome(PUTS, End::Over, 3, b"user 1000 1000\nd 755 0 0 /\nf 644 1000 1000 /a 62\n"),
-];
+/// The same with other bytes in the file.
+const OTHER_TREE: &[u8] = b"user 1000 1000\nd 755 0 0 /\nf 644 1000 1000 /a 62\n";
 
 fn kept(alloc: Global, outcome: &Outcome) -> Result<(Kept, Tree, User), Fail> {
     let mut puts = Vec::new(alloc);
@@ -230,13 +214,27 @@ fn outcomes_agree_where_nothing_differs(rt: HostRuntime) -> Result<(), Fail> {
     let alloc = rt.alloc();
     let yes = "case 7\nend ended 3\nturns 2\nnames 2\nout 3\nagree yes\n";
     let no = "case 7\nend ended 3\nturns 2\nnames 2\nout 3\nagree no\n";
-    compare(&rt, alloc, &WATCHED, &WATCHED, yes, 0)?;
-    for other in &OTHERS {
-        compare(&rt, alloc, &WATCHED, other, no, 1)?;
+    let watched = outcome(PUTS, End::Over, 3, TREE);
+    let others = [
+        outcome([(b"ax", b""), (b"c", b"e")], End::Over, 3, TREE),
+        outcome([(b"ab", b""), (b"c", b"f")], End::Over, 3, TREE),
+        // The same bytes in other turns, and on the other sink.
+        outcome([(b"a", b""), (b"bc", b"e")], End::Over, 3, TREE),
+        outcome([(b"ab", b""), (b"", b"ce")], End::Over, 3, TREE),
+        outcome(PUTS, End::Deadlock, 3, TREE),
+        outcome(PUTS, End::Spent, 3, TREE),
+        outcome(PUTS, End::Over, 4, TREE),
+        outcome(PUTS, End::Over, 3, OTHER_TREE),
+    ];
+    compare(&rt, alloc, &watched, &watched, yes, 0)?;
+    for other in &others {
+        compare(&rt, alloc, &watched, other, no, 1)?;
     }
+    let waiting = outcome(PUTS, End::Deadlock, 3, TREE);
     let deadlock = "case 7\nend deadlock\nturns 2\nnames 2\nout 3\nagree no\n";
-    compare(&rt, alloc, &OTHERS[4], &WATCHED, deadlock, 1)?;
+    compare(&rt, alloc, &waiting, &watched, deadlock, 1)?;
+    let unended = outcome(PUTS, End::Spent, 3, TREE);
     let spent = "case 7\nend spent\nturns 2\nnames 2\nout 3\nagree yes\n";
-    compare(&rt, alloc, &OTHERS[5], &OTHERS[5], spent, 0)?;
+    compare(&rt, alloc, &unended, &unended, spent, 0)?;
     Ok(())
 }

@@ -5,7 +5,7 @@ use Rattle.pr_io.specs.Faults.{Rose}
 use Rattle.pr_sources.specs.Asking.{asked}
 use Rattle.pr_sources.specs.Reading.{HasCause, IsOfWords, ReadHasCause, told_listing, told_tree}
 use Rattle.pr_top.specs.Opening.{opened_for}
-use Rattle.pr_top.proofs.OpeningLemmas.{asks-not, err-then, has-cause, if-err, no-fault, not-of-words, opens-case, opens-refused, opens-sources, reads, reads-not, refused-not}
+use Rattle.pr_top.proofs.OpeningLemmas.{err-then, has-cause, if-err, no-fault, not-of-words, opens-case, opens-refused, opens-sources, reads}
 use Rattle.pr_top.proofs.opening.open.Goals as goal
 
 pub returns-in_err-options-clause-opens : goal.returns-in_err-options-clause-opens
