@@ -77,7 +77,9 @@ fn summary_lines(
 ) -> Result<Bytes, NoMemory>
     ensures { IfOk result (λ text. text ≡ summary_lines case end.now turns names out agree.now) }
 {
-    let text = format!(in alloc; "case {case}\nend {end}\nturns {turns}\nnames {names}\nout {out}\nagree {agree}\n")?;
+    let text = format!(in alloc;
+        "case {case}\nend {end}\nturns {turns}\nnames {names}\nout {out}\nagree {agree}\n"
+    )?;
     Ok(Bytes::from(text.into_bytes()))
 }
 
@@ -159,11 +161,7 @@ fn run_case<P: Places, S: Graphed, Q: Places, T: Graphed, const M: u8, const N: 
 }
 
 /// Puts the summary, and then the listing.
-fn put_case<O: Sink, L: Sink>(
-    told: &CaseTold,
-    out: &mut O,
-    left: &mut L,
-) -> Result<Answer, Stop>
+fn put_case<O: Sink, L: Sink>(told: &CaseTold, out: &mut O, left: &mut L) -> Result<Answer, Stop>
     ensures { (err : Got) → PutsReport (report_told told.now) (Rose (O.faults out.old) (O.faults out.new)) ⊥ (Rose (L.faults left.old) (L.faults left.new)) (O.got out.old) (O.got out.new) err err (L.got left.old) (L.got left.new) result }
 {
     match put_some(out, told.summary.as_slice()) {
@@ -183,7 +181,16 @@ fn put_case<O: Sink, L: Sink>(
 
 /// Runs both machines on a case whose kernels have begun, and puts its report: the summary of the watched run, and the canonical listing of
 /// the tree that this run left. It ends early only where a sink fails or memory runs out, and puts nothing before both runs are made.
-pub fn case_report<P: Places, S: Graphed, Q: Places, T: Graphed, O: Sink, L: Sink, const M: u8, const N: u8>(
+pub fn case_report<
+    P: Places,
+    S: Graphed,
+    Q: Places,
+    T: Graphed,
+    O: Sink,
+    L: Sink,
+    const M: u8,
+    const N: u8,
+>(
     alloc: Global,
     case: u32,
     watched: &mut Kernel<P, S, M>,

@@ -4,11 +4,9 @@ use Rattle.std.specs.Prelude.{Result, Ok, Err}
 use Rattle.std.proofs.lemmas.Bool.Decides.{nat_tests}
 use Rattle.pr_words.specs.declared.options.Options.{Options}
 use Rattle.kr_inode.specs.declared.user.User.{User}
-use Rattle.kr_tree.specs.Lawful.{IsKept}
 use Rattle.kr_tree.specs.Tree.{Tree}
 use Rattle.kr_text.specs.Canonical.{canonical}
 use Rattle.kr_text.specs.Reading.{listing_of}
-use Rattle.kr_text.specs.Same.{CanBeListed, IsSame}
 use Rattle.kr_text.specs.declared.fault.ListFault.{ListFault}
 use Rattle.kr_text.proofs.ReadAll.{listings_read}
 use Rattle.pr_answer.specs.declared.answer.Answer.{Answer}

@@ -43,7 +43,9 @@ fn generate(alloc: Global, words: &str, moving: Moving) -> Result<Told, Fail> {
 
 /// How many times a text has a word.
 fn times(text: &[u8], word: &[u8]) -> usize {
-    text.windows(word.len().max(1)).filter(|part| *part == word).count()
+    text.windows(word.len().max(1))
+        .filter(|part| *part == word)
+        .count()
 }
 
 /// Fails unless each process left the new name of its first round once, in one of its four directories.
@@ -148,7 +150,7 @@ const TREE: &[u8] = b"user 1000 1000\nd 755 0 0 /\nf 644 1000 1000 /a 61\n";
 
 const PUTS: [(&[u8], &[u8]); 2] = [(b"ab", b""), (b"c", b"e")];
 
-fn outcome(
+fn make(
     puts: [(&'static [u8], &'static [u8]); 2],
     end: End,
     status: u8,
@@ -165,20 +167,20 @@ fn outcome(
 /// The same with other bytes in the file.
 const OTHER_TREE: &[u8] = b"user 1000 1000\nd 755 0 0 /\nf 644 1000 1000 /a 62\n";
 
-fn kept(alloc: Global, outcome: &Outcome) -> Result<(Kept, Tree, User), Fail> {
+fn kept(alloc: Global, from: &Outcome) -> Result<(Kept, Tree, User), Fail> {
     let mut puts = Vec::new(alloc);
-    for (out, err) in &outcome.puts {
+    for (out, err) in &from.puts {
         let out = Bytes::copy(alloc, out)?;
         let err = Bytes::copy(alloc, err)?;
         puts.push(Written { out, err })?;
     }
-    let Ok((tree, user)) = read(alloc, outcome.tree, None) else {
+    let Ok((tree, user)) = read(alloc, from.tree, None) else {
         return Err(Fail::from("no listing"));
     };
     let kept = Kept {
         puts,
-        end: outcome.end,
-        status: outcome.status,
+        end: from.end,
+        status: from.status,
     };
     Ok((kept, tree, user))
 }
@@ -214,26 +216,26 @@ fn outcomes_agree_where_nothing_differs(rt: HostRuntime) -> Result<(), Fail> {
     let alloc = rt.alloc();
     let yes = "case 7\nend ended 3\nturns 2\nnames 2\nout 3\nagree yes\n";
     let no = "case 7\nend ended 3\nturns 2\nnames 2\nout 3\nagree no\n";
-    let watched = outcome(PUTS, End::Over, 3, TREE);
+    let watched = make(PUTS, End::Over, 3, TREE);
     let others = [
-        outcome([(b"ax", b""), (b"c", b"e")], End::Over, 3, TREE),
-        outcome([(b"ab", b""), (b"c", b"f")], End::Over, 3, TREE),
+        make([(b"ax", b""), (b"c", b"e")], End::Over, 3, TREE),
+        make([(b"ab", b""), (b"c", b"f")], End::Over, 3, TREE),
         // The same bytes in other turns, and on the other sink.
-        outcome([(b"a", b""), (b"bc", b"e")], End::Over, 3, TREE),
-        outcome([(b"ab", b""), (b"", b"ce")], End::Over, 3, TREE),
-        outcome(PUTS, End::Deadlock, 3, TREE),
-        outcome(PUTS, End::Spent, 3, TREE),
-        outcome(PUTS, End::Over, 4, TREE),
-        outcome(PUTS, End::Over, 3, OTHER_TREE),
+        make([(b"a", b""), (b"bc", b"e")], End::Over, 3, TREE),
+        make([(b"ab", b""), (b"", b"ce")], End::Over, 3, TREE),
+        make(PUTS, End::Deadlock, 3, TREE),
+        make(PUTS, End::Spent, 3, TREE),
+        make(PUTS, End::Over, 4, TREE),
+        make(PUTS, End::Over, 3, OTHER_TREE),
     ];
     compare(&rt, alloc, &watched, &watched, yes, 0)?;
     for other in &others {
         compare(&rt, alloc, &watched, other, no, 1)?;
     }
-    let waiting = outcome(PUTS, End::Deadlock, 3, TREE);
+    let waiting = make(PUTS, End::Deadlock, 3, TREE);
     let deadlock = "case 7\nend deadlock\nturns 2\nnames 2\nout 3\nagree no\n";
     compare(&rt, alloc, &waiting, &watched, deadlock, 1)?;
-    let unended = outcome(PUTS, End::Spent, 3, TREE);
+    let unended = make(PUTS, End::Spent, 3, TREE);
     let spent = "case 7\nend spent\nturns 2\nnames 2\nout 3\nagree yes\n";
     compare(&rt, alloc, &unended, &unended, spent, 0)?;
     Ok(())
