@@ -1,6 +1,7 @@
 //! Generated cases, which both machines run, and how their outcomes are compared.
 
 use crate::call::{Asked, Moving, Told, call};
+use fixtures::HELLO;
 use kr_text::read;
 use kr_tree::{Tree, User};
 use pr_base::Bytes;
@@ -174,7 +175,8 @@ fn kept(alloc: Global, from: &Outcome) -> Result<(Kept, Tree, User), Fail> {
         let err = Bytes::copy(alloc, err)?;
         puts.push(Written { out, err })?;
     }
-    let Ok((tree, user)) = read(alloc, from.tree, None) else {
+    let elf: &[u8] = &HELLO;
+    let Ok((tree, user)) = read(alloc, from.tree, Some(elf)) else {
         return Err(Fail::from("no listing"));
     };
     let kept = Kept {
