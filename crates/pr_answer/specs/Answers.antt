@@ -2,9 +2,9 @@
 use Rattle.std.specs.Prelude.{ℕ, List, [], ◌∷◌, ◌++◌, codes}
 use Rattle.std.specs.Fmt.{decimal}
 use Rattle.pr_base.specs.Errno.{errno_number}
-use Rattle.pr_answer.specs.Names.{bind_rule, part_name, tree_rule, which_name, word_rule}
+use Rattle.pr_answer.specs.Names.{bind_rule, tree_rule, which_name, word_rule}
 use Rattle.pr_answer.specs.declared.answer.Answer.{Answer}
-use Rattle.pr_answer.specs.declared.answer.Answer.TheVariants.{Ended, Deadlock, Spent, Usage, TooLong, TreeBad, BadBind, NoStart, ReadFault, WriteFault, NoMemory, Unbuilt}
+use Rattle.pr_answer.specs.declared.answer.Answer.TheVariants.{Ended, Deadlock, Spent, Usage, TooLong, TreeBad, BadBind, NoStart, ReadFault, WriteFault, NoMemory}
 
 abbrev pub status_of : Answer → ℕ
 status_of (Ended status) = status
@@ -18,7 +18,6 @@ status_of (NoStart errno) = 125
 status_of (ReadFault which) = 122
 status_of (WriteFault which) = 122
 status_of NoMemory = 121
-status_of (Unbuilt part) = 125
 
 -- the line of the program, with its newline
 abbrev pub line : List ℕ → List ℕ
@@ -41,4 +40,3 @@ line_of (NoStart errno) = line (codes "start: errno " ++ decimal (errno_number e
 line_of (ReadFault which) = line (codes "read fault: " ++ which_name which)
 line_of (WriteFault which) = line (codes "write fault: " ++ which_name which)
 line_of NoMemory = line (codes "no memory")
-line_of (Unbuilt part) = line (codes "unbuilt: " ++ part_name part)

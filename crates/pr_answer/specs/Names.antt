@@ -8,8 +8,6 @@ use Rattle.pr_words.specs.declared.fault.Why.{Why}
 use Rattle.pr_words.specs.declared.fault.Why.TheVariants.{Unknown, NoValue, BadNumber, BadSchedule, BadBind, BadEnv, Twice, CalmAlone, CaseAlone, ZeroByte, BadId}
 use Rattle.pr_answer.specs.declared.answer.Which.{Which}
 use Rattle.pr_answer.specs.declared.answer.Which.TheVariants.{Tree, Elf, Input, Out, Err, Left}
-use Rattle.pr_answer.specs.declared.answer.Part.{Part}
-use Rattle.pr_answer.specs.declared.answer.Part.TheVariants.{Words}
 
 abbrev pub which_name : Which → List ℕ
 which_name Tree = codes "Tree"
@@ -18,9 +16,6 @@ which_name Input = codes "Input"
 which_name Out = codes "Out"
 which_name Err = codes "Err"
 which_name Left = codes "Left"
-
-abbrev pub part_name : Part → List ℕ
-part_name Words = codes "Words"
 
 abbrev pub word_rule : Why → List ℕ
 word_rule Unknown = codes "Unknown"

@@ -2,7 +2,7 @@
 ghost use Rattle.std.specs.Prelude.{Some, ◌≡◌, IfOk};
 ghost use Rattle.std.specs.String.{string_bytes};
 ghost use Rattle.pr_answer.specs.Answers.{line_of};
-ghost use Rattle.pr_answer.specs.Names.{which_name, part_name};
+ghost use Rattle.pr_answer.specs.Names.{which_name};
 
 use crate::why::{BindRule, TreeRule, WordRule};
 use kr_mounts::BindWhy;
@@ -38,26 +38,11 @@ impl fmt::Display for Which {
     }
 }
 
-/// What has a form that isn't built yet.
-#[derive(Clone, Copy, Debug, PartialEq, Eq)]
-pub enum Part {
-    Words,
-}
-
-impl fmt::Display for Part {
-    ghost output = { λ part. Some (part_name part) };
-
-    fn fmt<W: fmt::Write>(&self, f: &mut fmt::Formatter<W>) -> fmt::Result {
-        f.write_str(match self {
-            Part::Words => "Words",
-        })
-    }
-}
-
 /// How the top call ended.
 #[derive(Clone, Copy, Debug, PartialEq, Eq)]
 pub enum Answer {
-    /// No process lives; the status is that of the process that ended last: its exit code, or 128 and the signal that killed it.
+    /// No process lives; the status is that of the process that ended last: its exit code, or 128 and the signal that killed it. Of a generated
+    /// case it is 0 where both machines came to the same outcome, and else 1.
     Ended { status: u8 },
     /// A process lives, and none is ready.
     Deadlock,
@@ -79,8 +64,6 @@ pub enum Answer {
     WriteFault { which: Which },
     /// Memory ran out.
     NoMemory,
-    /// A form that isn't built yet.
-    Unbuilt { part: Part },
 }
 
 impl Answer {
@@ -96,7 +79,7 @@ impl Answer {
             Answer::Deadlock => 123,
             Answer::Spent => 124,
             Answer::Usage { .. } | Answer::TooLong { .. } | Answer::TreeBad { .. } => 125,
-            Answer::BadBind { .. } | Answer::NoStart { .. } | Answer::Unbuilt { .. } => 125,
+            Answer::BadBind { .. } | Answer::NoStart { .. } => 125,
             Answer::ReadFault { .. } | Answer::WriteFault { .. } => 122,
             Answer::NoMemory => 121,
         }
@@ -118,7 +101,6 @@ impl Answer {
             Answer::ReadFault { which } => format!(in alloc; "proot: read fault: {which}\n")?,
             Answer::WriteFault { which } => format!(in alloc; "proot: write fault: {which}\n")?,
             Answer::NoMemory => String::from_str(alloc, "proot: no memory\n")?,
-            Answer::Unbuilt { part } => format!(in alloc; "proot: unbuilt: {part}\n")?,
         };
         Ok(Bytes::from(line.into_bytes()))
     }

@@ -4,4 +4,4 @@
 mod answer;
 mod why;
 
-pub use answer::{Answer, Part, Which};
+pub use answer::{Answer, Which};

@@ -11,7 +11,7 @@ use Rattle.pr_run.specs.Puts.{AppendsPast, Got}
 
 -- ---- lists of turns
 
-cons-parts : {A : Type 0} (x y : A) (xs ys : List A) → x ∷ xs ≡ y ∷ ys → (x ≡ y) × (xs ≡ ys)
+pub cons-parts : {A : Type 0} (x y : A) (xs ys : List A) → x ∷ xs ≡ y ∷ ys → (x ≡ y) × (xs ≡ ys)
 cons-parts x y xs ys e = (cc, cc)
 
 -- where a list goes on with an element, that is the next one, one more is taken, and one more is left away
@@ -28,7 +28,7 @@ goes-on (suc n) (x ∷ xs) y ys e = let p = goes-on n xs y ys e in record { got 
 
 -- ---- bytes of turns
 
-gathered-append : (part : Put → List ℕ) (xs ys : List Put) → gathered part (xs ++ ys) ≡ gathered part xs ++ gathered part ys
+pub gathered-append : (part : Put → List ℕ) (xs ys : List Put) → gathered part (xs ++ ys) ≡ gathered part xs ++ gathered part ys
 gathered-append part [] ys = refl
 gathered-append part (x ∷ xs) ys = ap (λ l. part x ++ l) (gathered-append part xs ys) ∙ sym (append_assoc (part x) (gathered part xs) (gathered part ys))
 

@@ -44,8 +44,8 @@ impl Stop {
 }
 
 /// How a run ended.
-#[derive(Clone, Copy)]
-pub(crate) enum End {
+#[derive(Clone, Copy, Debug, PartialEq, Eq)]
+pub enum End {
     /// No process lives.
     Over,
     /// One lives, and none is ready.
@@ -119,7 +119,7 @@ fn make_turn<P: Places, S: Graphed, O: Sink, R: Sink, const M: u8>(
 }
 
 /// How a run ends whose turns were made.
-fn end_after<P: Places, S: Graphed, const M: u8>(kernel: &Kernel<P, S, M>) -> End
+pub(crate) fn end_after<P: Places, S: Graphed, const M: u8>(kernel: &Kernel<P, S, M>) -> End
     requires { kernel.now.whole ≡ true }
     ensures { end_told result ≡ last_ending (machine P.number kernel.now) }
 {

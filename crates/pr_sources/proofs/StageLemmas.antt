@@ -2,7 +2,7 @@
 use Rattle.std.proofs.Common.{inr, ℕ, List, Some, None}
 use Rattle.std.specs.Prelude.{Option, Err}
 use Rattle.pr_answer.specs.declared.answer.Answer.{Answer}
-use Rattle.pr_answer.specs.declared.answer.Answer.TheVariants.{Ended, Deadlock, Spent, Usage, TooLong, TreeBad, BadBind, NoStart, ReadFault, WriteFault, NoMemory, Unbuilt}
+use Rattle.pr_answer.specs.declared.answer.Answer.TheVariants.{Ended, Deadlock, Spent, Usage, TooLong, TreeBad, BadBind, NoStart, ReadFault, WriteFault, NoMemory}
 use Rattle.pr_answer.specs.declared.answer.Which.{Which}
 use Rattle.pr_sources.specs.Within.{Comes, IsEarly, IsReadEnd, Stage, told_within}
 
@@ -23,4 +23,3 @@ read-early limit which told before now (TreeBad line why) end = absurd end
 read-early limit which told before now (BadBind index why) end = absurd end
 read-early limit which told before now (NoStart errno) end = absurd end
 read-early limit which told before now (WriteFault w) end = absurd end
-read-early limit which told before now (Unbuilt part) end = absurd end

@@ -1,6 +1,7 @@
--- What the words and the sources come to, read in this order: the words; the listing; the ELF file, where the listing names it; the
--- listing is checked; the input. Each stage asks for no more than it needs, and is known where the sources that it needs tell their bytes.
-use Rattle.std.specs.Prelude.{◌≡◌, ℕ, false, IsTrue, List, [], Option, Some, IfSome, Result, Ok, Err, if◌then◌else◌}
+-- What the sources come to, read in this order behind the words: the listing; the ELF file, where the listing names it; the listing is
+-- checked; the input. Each stage asks for no more than it needs, and is known where the sources that it needs tell their bytes.
+-- Words that ask for a generated case read none of them.
+use Rattle.std.specs.Prelude.{◌≡◌, ℕ, false, IsTrue, IsSome, List, [], Option, Some, None, IfSome, Result, Ok, Err, if◌then◌else◌}
 use Rattle.pr_words.specs.declared.options.Options.{Options}
 use Rattle.kr_inode.specs.declared.user.User.{User}
 use Rattle.kr_tree.specs.Tree.{Tree}
@@ -10,8 +11,7 @@ use Rattle.kr_text.specs.declared.fault.ListFault.TheVariants as fault
 use Rattle.pr_answer.specs.declared.answer.Which.{Which}
 use Rattle.pr_answer.specs.declared.answer.Which.TheVariants.{Tree as TreeSource, Elf, Input, Out, Err as ErrSink, Left}
 use Rattle.pr_answer.specs.declared.answer.Answer.{Answer}
-use Rattle.pr_answer.specs.declared.answer.Answer.TheVariants.{NoMemory, ReadFault, TooLong, TreeBad, Unbuilt, Usage}
-use Rattle.pr_sources.specs.Asking.{asked}
+use Rattle.pr_answer.specs.declared.answer.Answer.TheVariants.{NoMemory, ReadFault, TooLong, TreeBad, Usage}
 use Rattle.pr_sources.specs.Within.{Stage, and_then, told_within}
 use Rattle.pr_sources.specs.declared.reading.Asked.{Asked}
 
@@ -55,21 +55,30 @@ asks options read input = record { options = options; tree = read.0; user = read
 abbrev pub with_input : Options → Tree × User → Option (List ℕ) → Stage Asked
 with_input options read input = and_then (told_input input) (λ bytes. Some (Ok (asks options read bytes)))
 
-abbrev pub told_asked : List (List ℕ) → Option (List ℕ) → Option (List ℕ) → Option (List ℕ) → Stage Asked
-told_asked words tree elf input = and_then (Some (asked words)) (λ options. and_then (told_listing tree elf) (λ read. with_input options read input))
+abbrev pub told_asked : Options → Option (List ℕ) → Option (List ℕ) → Option (List ℕ) → Stage Asked
+told_asked options tree elf input = and_then (told_listing tree elf) (λ read. with_input options read input)
+
+-- ---- whether sources are read
+
+-- the words are accepted, and ask for no case
+abbrev pub ReadsSources : Result Options Answer → Type 0
+ReadsSources (Ok options) = options.case ≡ None
+ReadsSources (Err answer) = ⊥
+
+-- they are accepted, and ask for one
+abbrev pub AsksCase : Result Options Answer → Type 0
+AsksCase (Ok options) = IsSome options.case
+AsksCase (Err answer) = ⊥
 
 -- ---- what is answered
 
 -- answers that speak of the words
 abbrev pub IsOfWords : Answer → Type 0
 IsOfWords (Usage word why) = Unit {0}
-IsOfWords (Unbuilt part) = Unit {0}
 IsOfWords answer = ⊥
 
--- answers of what reads the words and the sources
+-- answers of what reads the sources
 abbrev pub IsOfSources : Answer → Type 0
-IsOfSources (Usage word why) = Unit {0}
-IsOfSources (Unbuilt part) = Unit {0}
 IsOfSources (TooLong which) = Unit {0}
 IsOfSources (TreeBad line why) = Unit {0}
 IsOfSources (ReadFault which) = Unit {0}
@@ -108,16 +117,22 @@ ListingEnds tree rose_tree rose_elf NoMemory = Unit {0}
 ListingEnds tree rose_tree rose_elf answer = ⊥
 
 -- a source was read from, since what comes before it was read, and its count of faults rose
-abbrev pub FaultHasCause : (words : Result Options Answer) → Stage (List ℕ) → Stage (Tree × User) → (rose_tree rose_elf rose_input : Type 0) → Which → Type 0
-FaultHasCause words tree listing rose_tree rose_elf rose_input TreeSource = IsPast words × rose_tree
-FaultHasCause words tree listing rose_tree rose_elf rose_input Elf = IsPast words × IfSome tree IsWanted × rose_elf
-FaultHasCause words tree listing rose_tree rose_elf rose_input Input = IsPast words × IfSome listing IsPast × rose_input
-FaultHasCause words tree listing rose_tree rose_elf rose_input Out = ⊥
-FaultHasCause words tree listing rose_tree rose_elf rose_input ErrSink = ⊥
-FaultHasCause words tree listing rose_tree rose_elf rose_input Left = ⊥
+abbrev pub FaultHasCause : Stage (List ℕ) → Stage (Tree × User) → (rose_tree rose_elf rose_input : Type 0) → Which → Type 0
+FaultHasCause tree listing rose_tree rose_elf rose_input TreeSource = rose_tree
+FaultHasCause tree listing rose_tree rose_elf rose_input Elf = IfSome tree IsWanted × rose_elf
+FaultHasCause tree listing rose_tree rose_elf rose_input Input = IfSome listing IsPast × rose_input
+FaultHasCause tree listing rose_tree rose_elf rose_input Out = ⊥
+FaultHasCause tree listing rose_tree rose_elf rose_input ErrSink = ⊥
+FaultHasCause tree listing rose_tree rose_elf rose_input Left = ⊥
 
+-- where the sources are read
+abbrev pub ReadHasCause : Stage (List ℕ) → Stage (Tree × User) → (rose_tree rose_elf rose_input : Type 0) → Answer → Type 0
+ReadHasCause tree listing rose_tree rose_elf rose_input (ReadFault which) = FaultHasCause tree listing rose_tree rose_elf rose_input which
+ReadHasCause tree listing rose_tree rose_elf rose_input answer = Unit {0}
+
+-- and behind the words
 abbrev pub HasCause : (words : Result Options Answer) → Stage (List ℕ) → Stage (Tree × User) → (rose_tree rose_elf rose_input : Type 0) → Answer → Type 0
-HasCause words tree listing rose_tree rose_elf rose_input (ReadFault which) = FaultHasCause words tree listing rose_tree rose_elf rose_input which
+HasCause words tree listing rose_tree rose_elf rose_input (ReadFault which) = ReadsSources words × FaultHasCause tree listing rose_tree rose_elf rose_input which
 HasCause words tree listing rose_tree rose_elf rose_input answer = Unit {0}
 
 -- ---- what isn't touched
@@ -138,7 +153,6 @@ SourceEndsBeforeElf which = ⊥
 
 abbrev pub EndsBeforeElf : Answer → Type 0
 EndsBeforeElf (Usage word why) = Unit {0}
-EndsBeforeElf (Unbuilt part) = Unit {0}
 EndsBeforeElf (TooLong which) = SourceEndsBeforeElf which
 EndsBeforeElf (ReadFault which) = SourceEndsBeforeElf which
 EndsBeforeElf answer = ⊥
@@ -146,7 +160,6 @@ EndsBeforeElf answer = ⊥
 -- answers before the input is read
 abbrev pub EndsBeforeInput : Answer → Type 0
 EndsBeforeInput (Usage word why) = Unit {0}
-EndsBeforeInput (Unbuilt part) = Unit {0}
 EndsBeforeInput (TooLong which) = SourceEndsBeforeInput which
 EndsBeforeInput (ReadFault which) = SourceEndsBeforeInput which
 EndsBeforeInput (TreeBad line why) = Unit {0}

@@ -1,4 +1,4 @@
-//! What the words and the sources ask for, read one after the other.
+//! What the words ask for, and then the sources, read one after the other.
 #![tactic(auto)]
 
 mod reading;
@@ -6,3 +6,4 @@ mod within;
 mod words;
 
 pub use reading::{Asked, read};
+pub use words::ask;

@@ -1,19 +1,17 @@
-//! The words and the sources, read in their order.
-ghost use Rattle.std.specs.Prelude.{◌≡◌, ◌<◌, ◌^◌, ℕ, List, false, IsTrue, IsSome, length, map, IfErr, IfOk, IfSome, OnOk, [], Ok, Err};
+//! The sources, read in their order.
+ghost use Rattle.std.specs.Prelude.{◌≡◌, ◌^◌, ℕ, List, false, IsTrue, IsSome, IfErr, IfOk, IfSome, OnOk, [], Ok, Err};
 ghost use Rattle.std.specs.Option.{option_copied, unwrap_or};
-ghost use Rattle.std.specs.String.{string_bytes};
 ghost use Rattle.std.specs.Io.KnownBytes.{IsAtEnd};
 ghost use Rattle.pr_io.specs.Faults.{Rose};
 ghost use Rattle.pr_words.specs.Sound.{AreSound};
 ghost use Rattle.kr_text.specs.Reading.{wants_elf};
 ghost use Rattle.kr_stage.specs.Ready.{IsOfListing};
-ghost use Rattle.pr_sources.specs.Asking.{IsUnlessNoMemory, asked};
+ghost use Rattle.pr_sources.specs.Asking.{IsUnlessNoMemory};
 ghost use Rattle.pr_answer.specs.declared.answer.Which.TheVariants.{Elf};
-ghost use Rattle.pr_sources.specs.Reading.{EndsBeforeElf, EndsBeforeInput, HasCause, IsOfSources, IsOfWords, IsRefusal, IsUnwanted, IsWanted, ListingEnds, listed, told_asked, told_file, told_listing, told_tree};
+ghost use Rattle.pr_sources.specs.Reading.{EndsBeforeElf, EndsBeforeInput, IsOfSources, IsRefusal, IsUnwanted, IsWanted, ListingEnds, ReadHasCause, listed, told_asked, told_file, told_listing, told_tree};
 ghost use Rattle.pr_sources.specs.Within.{Comes, IsAskedWithin, IsReadRefusal};
 
 use crate::within::read_within;
-use crate::words::ask;
 use kr_text::{ListFault, wants_elf};
 use kr_tree::{Tree, User};
 use pr_answer::{Answer, Which};
@@ -91,24 +89,21 @@ fn read_listing<T: Source, E: Source>(
     }
 }
 
-/// Reads the words, the listing, the ELF file where the listing names it, and the input, in this order and each to its end. The first that is
-/// refused is answered: words that break a rule or ask for what isn't built yet, a source that is too long, and the listing's first bad
-/// line. What isn't come to isn't touched.
+/// Reads the listing, the ELF file where the listing names it, and the input, in this order and each to its end. The first that is refused is
+/// answered: a source that is too long, or the listing's first bad line. What isn't come to isn't touched.
 pub fn read<T: Source, E: Source, I: Source>(
     alloc: Global,
-    words: &[String],
+    options: Options,
     tree: &mut T,
     elf: &mut E,
     input: &mut I,
 ) -> Result<Asked, Answer>
-    requires { length words.now < 2 ^ 32 }
-    ensures told { Comes (told_asked (map string_bytes words.now) (T.left tree.old) (E.left elf.old) (I.left input.old)) result }
-    ensures words { IfErr result (λ answer. IsOfWords answer → asked (map string_bytes words.now) ≡ Err answer) }
+    requires { AreSound options }
+    ensures told { Comes (told_asked options (T.left tree.old) (E.left elf.old) (I.left input.old)) result }
     ensures kinds { IfErr result IsOfSources }
-    ensures causes { IfErr result (HasCause (asked (map string_bytes words.now)) (told_tree (T.left tree.old)) (told_listing (T.left tree.old) (E.left elf.old)) (Rose (T.faults tree.old) (T.faults tree.new)) (Rose (E.faults elf.old) (E.faults elf.new)) (Rose (I.faults input.old) (I.faults input.new))) }
+    ensures causes { IfErr result (ReadHasCause (told_tree (T.left tree.old)) (told_listing (T.left tree.old) (E.left elf.old)) (Rose (T.faults tree.old) (T.faults tree.new)) (Rose (E.faults elf.old) (E.faults elf.new)) (Rose (I.faults input.old) (I.faults input.new))) }
     ensures sound { IfOk result (λ asked. AreSound asked.options) }
     ensures listing { IfOk result (λ asked. IsOfListing asked.tree asked.user) }
-    ensures before_tree { IsRefusal (asked (map string_bytes words.now)) → tree.new ≡ tree.old }
     ensures before_elf { IfErr result (λ answer. EndsBeforeElf answer → elf.new ≡ elf.old) }
     ensures unwanted { IfSome (told_tree (T.left tree.old)) (λ listing. IsUnwanted listing → elf.new ≡ elf.old) }
     ensures before_input { IfErr result (λ answer. EndsBeforeInput answer → input.new ≡ input.old) }
@@ -120,7 +115,6 @@ pub fn read<T: Source, E: Source, I: Source>(
     ensures elf_takes { IsAskedWithin (2 ^ 24) (E.takes elf.old) (E.takes elf.new) }
     ensures input_takes { IsAskedWithin (2 ^ 24) (I.takes input.old) (I.takes input.new) }
 {
-    let options = ask(alloc, words)?;
     let (tree, user) = read_listing(alloc, tree, elf)?;
     let input = read_within(alloc, input, FILE_LIMIT, Which::Input)?;
     Ok(Asked {

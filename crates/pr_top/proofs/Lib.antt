@@ -1,3 +1,4 @@
 pub mod OpeningLemmas
+pub mod GeneratedLemmas
 pub mod ReportLemmas
 pub mod TopLemmas

@@ -3,8 +3,9 @@ use Rattle.std.proofs.Common.{◌≡◌, ◌⊎◌, ℕ, Some, None, sym, subst,
 use Rattle.std.specs.Prelude.{Result, Ok, Err}
 use Rattle.pr_io.specs.Moves.{AppendsPrefix}
 use Rattle.pr_answer.specs.declared.answer.Answer.{Answer}
-use Rattle.pr_answer.specs.declared.answer.Answer.TheVariants.{Ended, Deadlock, Spent, Usage, TooLong, TreeBad, BadBind, NoStart, ReadFault, WriteFault, NoMemory, Unbuilt}
-use Rattle.pr_answer.specs.declared.answer.Which.TheVariants.{Err as ErrSink, Left}
+use Rattle.pr_answer.specs.declared.answer.Answer.TheVariants.{Ended, Deadlock, Spent, Usage, TooLong, TreeBad, BadBind, NoStart, ReadFault, WriteFault, NoMemory}
+use Rattle.pr_answer.specs.declared.answer.Which.{Which}
+use Rattle.pr_answer.specs.declared.answer.Which.TheVariants.{Tree as TreeSource, Elf, Input, Err as ErrSink, Left}
 use Rattle.pr_sources.specs.Reading.{EndsBeforeInput}
 use Rattle.pr_sources.specs.Within.{Stage}
 use Rattle.pr_run.specs.Report.{Deadlock as AllWait, Ending, Over, Report, Spent as NoTurnIsLeft, answer_of}
@@ -12,7 +13,7 @@ use Rattle.pr_run.specs.Puts.{AnswersReport, Got, PutsReport, PutsTurns, StopsIn
 use Rattle.pr_run.specs.declared.plan.Plan.{Plan}
 use Rattle.pr_run.specs.declared.turns.Stop.{Stop}
 use Rattle.pr_run.specs.declared.turns.Stop.TheVariants as stop
-use Rattle.pr_top.specs.Opening.{Begun, Mounts, Opens, Started, Traced, begun_told, mounted_run, report, report_on, started_told, traced_run}
+use Rattle.pr_top.specs.Opening.{Begun, Both, Mounts, Opens, Started, Traced, begun_told, mounted_run, report, report_on, started_told, traced_run}
 use Rattle.pr_top.specs.Promise.{ComesBeforeRun, IfKnown, IsBegunWith, Refuses, StopsForMemory, TellsRun}
 use Rattle.pr_top.specs.declared.opening.Opened.{Opened}
 
@@ -25,6 +26,7 @@ answer-tells NoTurnIsLeft status = tt
 report-tells : (plan : Plan) (s : Started) → TellsRun (report_on plan s).answer
 report-tells plan (Mounts table m) = answer-tells (mounted_run plan table m).ending (mounted_run plan table m).machine.tally.status
 report-tells plan (Traced m) = answer-tells (traced_run plan m).ending (traced_run plan m).machine.tally.status
+report-tells plan (Both n m table k) = tt
 
 of-told : (P : Answer → Type 0) → ((status : ℕ) → P (Ended status)) → P Deadlock → P Spent → (a : Answer) → TellsRun a → P a
 of-told P ended deadlock spent (Ended status) tells = ended status
@@ -38,7 +40,6 @@ of-told P ended deadlock spent (NoStart errno) tells = absurd tells
 of-told P ended deadlock spent (ReadFault which) tells = absurd tells
 of-told P ended deadlock spent (WriteFault which) tells = absurd tells
 of-told P ended deadlock spent NoMemory tells = absurd tells
-of-told P ended deadlock spent (Unbuilt part) tells = absurd tells
 
 -- it is none of these, nor is the answer of a stop
 abbrev IsNone : (Answer → Type 0) → Answer → Type 0
@@ -71,6 +72,34 @@ no-stop-early stop.Err p = p
 no-stop-early stop.Left p = p
 no-stop-early stop.NoMemory p = p
 
+no-stop-tree : NoStop (λ a. a ≡ WriteFault TreeSource)
+no-stop-tree stop.Out e = absurd cc
+no-stop-tree stop.Err e = absurd cc
+no-stop-tree stop.Left e = absurd cc
+no-stop-tree stop.NoMemory e = absurd cc
+
+no-stop-elf : NoStop (λ a. a ≡ WriteFault Elf)
+no-stop-elf stop.Out e = absurd cc
+no-stop-elf stop.Err e = absurd cc
+no-stop-elf stop.Left e = absurd cc
+no-stop-elf stop.NoMemory e = absurd cc
+
+no-stop-input : NoStop (λ a. a ≡ WriteFault Input)
+no-stop-input stop.Out e = absurd cc
+no-stop-input stop.Err e = absurd cc
+no-stop-input stop.Left e = absurd cc
+no-stop-input stop.NoMemory e = absurd cc
+
+-- a report that can't blame the error sink
+pub unblamed : (r : Report) (rose_out rose_err rose_left : Type 0) (out out' err left left' : Got) (a : Answer) → AnswersReport r rose_out ⊥ rose_left out out' err err left left' a → AnswersReport r rose_out rose_err rose_left out out' err err left left' a
+unblamed r rose_out rose_err rose_left out out' err left left' a answers = record { told = answers.told; puts = blames answers.told answers.puts; answer_is = answers.answer_is } where
+  blames : (t : Result Answer Stop) → PutsReport r rose_out ⊥ rose_left out out' err err left left' t → PutsReport r rose_out rose_err rose_left out out' err err left left' t
+  blames (Ok answer) p = p
+  blames (Err stop.Out) p = p
+  blames (Err stop.Err) p = absurd p.0
+  blames (Err stop.Left) p = p
+  blames (Err stop.NoMemory) p = p
+
 -- what holds of a run that began holds of the opening that began it
 pub known : (opened : Opened) (P : Begun → Type 0) (told : Stage Begun) → Opens told (Ok opened) → P (begun_told opened) → IfKnown told P
 known opened P None opens p = tt
@@ -98,6 +127,14 @@ module _ {rose_out rose_err rose_left : Type 0} (opened : Opened) {out out' err 
 
   pub read-input : EndsBeforeInput a → ⊥
   read-input = none-of EndsBeforeInput (of-told (IsNone EndsBeforeInput) (λ status p. p) (λ p. p) (λ p. p) own.answer own-tells) no-stop-early answers.told answers.puts answers.answer_is
+
+  no-write-fault : (which : Which) → NoStop (λ b. b ≡ WriteFault which) → a ≡ WriteFault which → ⊥
+  no-write-fault which no-stop =
+      none-of (λ b. b ≡ WriteFault which) (of-told (IsNone (λ b. b ≡ WriteFault which)) (λ status e. absurd cc) (λ e. absurd cc) (λ e. absurd cc) own.answer own-tells) no-stop answers.told answers.puts answers.answer_is
+
+  -- a source is no sink
+  pub no-source-named : (a ≡ WriteFault TreeSource → ⊥) × (a ≡ WriteFault Elf → ⊥) × (a ≡ WriteFault Input → ⊥)
+  no-source-named = (no-write-fault TreeSource no-stop-tree, no-write-fault Elf no-stop-elf, no-write-fault Input no-stop-input)
 
   told-as : (t : Result Answer Stop) → Puts t → a ≡ answer_told t → TellsRun a → a ≡ own.answer
   told-as (Ok answer) puts e tells = e ∙ puts.0

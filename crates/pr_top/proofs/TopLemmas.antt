@@ -7,7 +7,7 @@ use Rattle.kr_inode.specs.declared.user.User.{User}
 use Rattle.kr_tree.specs.Tree.{Tree}
 use Rattle.pr_words.specs.declared.options.Options.{Options}
 use Rattle.pr_answer.specs.declared.answer.Answer.{Answer}
-use Rattle.pr_answer.specs.declared.answer.Answer.TheVariants.{Ended, Deadlock, Spent, Usage, TooLong, TreeBad, BadBind, NoStart, ReadFault, WriteFault, NoMemory, Unbuilt}
+use Rattle.pr_answer.specs.declared.answer.Answer.TheVariants.{Ended, Deadlock, Spent, Usage, TooLong, TreeBad, BadBind, NoStart, ReadFault, WriteFault, NoMemory}
 use Rattle.pr_answer.specs.declared.answer.Which.{Which}
 use Rattle.pr_answer.specs.declared.answer.Which.TheVariants.{Tree as TreeSource, Elf, Input, Out, Err as ErrSink, Left}
 use Rattle.pr_sources.specs.Reading.{HasCause}
@@ -35,7 +35,6 @@ early-ends (TreeBad line why) early = absurd early
 early-ends (BadBind index why) early = absurd early
 early-ends (NoStart errno) early = absurd early
 early-ends (WriteFault which) early = absurd early
-early-ends (Unbuilt part) early = absurd early
 
 -- what tells a run comes from no opening
 pub not-told : (a : Answer) → IsOfOpening a → TellsRun a → ⊥
@@ -50,7 +49,6 @@ not-told (NoStart errno) is tells = tells
 not-told (ReadFault which) is tells = tells
 not-told (WriteFault which) is tells = tells
 not-told NoMemory is tells = tells
-not-told (Unbuilt part) is tells = tells
 
 not-early : (a : Answer) → Refuses a → IsEarly a → ⊥
 not-early NoMemory refuses early = refuses
@@ -64,7 +62,6 @@ not-early (TreeBad line why) refuses early = early
 not-early (BadBind index why) refuses early = early
 not-early (NoStart errno) refuses early = early
 not-early (WriteFault which) refuses early = early
-not-early (Unbuilt part) refuses early = early
 
 pub no-write : (a : Answer) (which : Which) → IsOfOpening a → a ≡ WriteFault which → ⊥
 no-write a which is e = subst IsOfOpening e is
@@ -102,11 +99,11 @@ module _ (words : Result Options Answer) (tree : Stage (List ℕ)) (listing : St
   no-fault-left : (a : Answer) (P : Type 0) → IsEarly a → HasCause words tree listing rose_tree rose_elf rose_input a → (rose_tree → ⊥) → (rose_elf → ⊥) → (rose_input → ⊥) → P ⊎ (a ≡ NoMemory)
   no-fault-left NoMemory P early cause t e i = inr refl
   no-fault-left (ReadFault TreeSource) P early cause t e i = absurd (t cause.1)
-  no-fault-left (ReadFault Elf) P early cause t e i = absurd (e cause.2)
-  no-fault-left (ReadFault Input) P early cause t e i = absurd (i cause.2)
-  no-fault-left (ReadFault Out) P early cause t e i = absurd cause
-  no-fault-left (ReadFault ErrSink) P early cause t e i = absurd cause
-  no-fault-left (ReadFault Left) P early cause t e i = absurd cause
+  no-fault-left (ReadFault Elf) P early cause t e i = absurd (e cause.1.1)
+  no-fault-left (ReadFault Input) P early cause t e i = absurd (i cause.1.1)
+  no-fault-left (ReadFault Out) P early cause t e i = absurd cause.1
+  no-fault-left (ReadFault ErrSink) P early cause t e i = absurd cause.1
+  no-fault-left (ReadFault Left) P early cause t e i = absurd cause.1
   no-fault-left (Ended status) P early cause t e i = absurd early
   no-fault-left Deadlock P early cause t e i = absurd early
   no-fault-left Spent P early cause t e i = absurd early
@@ -116,7 +113,6 @@ module _ (words : Result Options Answer) (tree : Stage (List ℕ)) (listing : St
   no-fault-left (BadBind index why) P early cause t e i = absurd early
   no-fault-left (NoStart errno) P early cause t e i = absurd early
   no-fault-left (WriteFault which) P early cause t e i = absurd early
-  no-fault-left (Unbuilt part) P early cause t e i = absurd early
 
   abbrev Complete : Answer → Begun → Type 0
   Complete a b = (rose_tree → ⊥) → (rose_elf → ⊥) → (rose_input → ⊥) → (rose_out → ⊥) → (rose_err → ⊥) → (rose_left → ⊥) → (a ≡ (report b).answer) ⊎ (a ≡ NoMemory)

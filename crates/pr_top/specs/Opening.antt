@@ -1,9 +1,15 @@
 -- The opening: the first refusal in the order of the words, the sources, the bindings and the start, or a run that begins. It is known where
--- the sources that it needs tell their bytes.
-use Rattle.std.specs.Prelude.{◌≡◌, ◌⊎◌, ℕ, Bool, true, List, Option, Some, None, IfSome, Result, Ok, Err, if◌then◌else◌}
+-- the sources that it needs tell their bytes; a generated case needs none.
+use Rattle.std.specs.Prelude.{◌≡◌, ◌⊎◌, ℕ, Bool, true, false, List, [], codes, Option, Some, None, IfSome, Result, Ok, Err, if◌then◌else◌}
 use Rattle.pr_base.specs.declared.errno.Errno.{Errno}
 use Rattle.kr_tree.specs.Tree.{Tree}
 use Rattle.kr_view.specs.View.{Row, plain}
+use Rattle.kr_view.specs.declared.view.Plain.{Plain}
+use Rattle.kr_view.specs.declared.view.HostMount.{HostMount}
+use Rattle.kr_core.specs.Kernel as kernel
+use Rattle.kr_mounts.specs.declared.mount.Mount.{Mount}
+use Rattle.kr_mounts.specs.declared.mounted.MountNumber.{MountNumber}
+use Rattle.kr_stage.specs.declared.stage.Stage.{Stage as StageOfCode}
 use Rattle.kr_mounts.specs.MountTable.{Refusal, Settling, settling}
 use Rattle.kr_mounts.specs.Standing.{texts_of}
 use Rattle.kr_mounts.specs.Stored.{table_of}
@@ -11,15 +17,21 @@ use Rattle.kr_first.specs.declared.starting.StartFault.{StartFault}
 use Rattle.kr_first.specs.declared.starting.StartFault.TheVariants as fault
 use Rattle.kr_inode.specs.declared.user.User.{User}
 use Rattle.pr_answer.specs.declared.answer.Answer.{Answer}
-use Rattle.pr_answer.specs.declared.answer.Answer.TheVariants.{BadBind, NoMemory, NoStart, ReadFault, TooLong, TreeBad, Unbuilt, Usage}
+use Rattle.pr_answer.specs.declared.answer.Answer.TheVariants.{BadBind, NoMemory, NoStart, ReadFault, TooLong, TreeBad, Usage}
 use Rattle.pr_sources.specs.Within.{IsEarly, Stage, and_then}
-use Rattle.pr_sources.specs.Reading.{told_asked}
+use Rattle.pr_sources.specs.Asking.{asked}
+use Rattle.pr_sources.specs.Reading.{listed, told_asked}
 use Rattle.pr_sources.specs.declared.reading.Asked.{Asked}
 use Rattle.pr_start.specs.Beginning.{beginning}
 use Rattle.pr_start.specs.Machines.{Faked, Machine, Nobody, Ran, Watch, machine, run, starting_faking, watch}
 use Rattle.pr_traced.specs.TracedBeginning.{Tracing, host_number, traced_beginning, tracer}
 use Rattle.pr_start.specs.Numbers.{number_of}
 use Rattle.pr_command.specs.declared.launch.Launch.{Launch}
+use Rattle.pr_case.specs.Case.{case_binds, case_command, case_root}
+use Rattle.pr_case.specs.Guest.{guest}
+use Rattle.pr_case.specs.Listing.{case_listing}
+use Rattle.pr_words.specs.declared.options.Options.{Options}
+use Rattle.pr_run.specs.Case.{case_report_of}
 use Rattle.pr_run.specs.Report.{Report, report_of}
 use Rattle.pr_run.specs.Slots.{IsPlan, slot_of}
 use Rattle.pr_run.specs.declared.plan.Plan.{Plan}
@@ -29,10 +41,12 @@ use Rattle.pr_top.specs.declared.opening.Opened.{Opened}
 
 -- ---- a run that begins
 
--- the machine before its first turn: a kernel over mounts, with those that stand; or a plain kernel with its tracer
+-- the machine before its first turn: a kernel over mounts, with those that stand; or a plain kernel with its tracer; or both, for the
+-- generated case of a number
 pub data Started : Type 0 where
   Mounts : List Row → Machine Watch → Started
   Traced : Machine Tracing → Started
+  Both : ℕ → Machine Tracing → List Row → Machine Watch → Started
 
 -- with what the run is made by
 pub record Begun : Type 0 where
@@ -50,6 +64,7 @@ traced_run plan m = run tracer 0 plain (slot_of plan.schedule) plan.turns m
 abbrev pub report_on : Plan → Started → Report
 report_on plan (Mounts table m) = report_of plan (mounted_run plan table m)
 report_on plan (Traced m) = report_of plan (traced_run plan m)
+report_on plan (Both n m table k) = case_report_of n plan.user (traced_run plan m) (mounted_run plan table k)
 
 abbrev pub report : Begun → Report
 report b = report_on b.plan b.started
@@ -97,16 +112,78 @@ on_settled a s = over a s.tree s.answer
 abbrev pub begun : Asked → Result Begun Answer
 begun a = on_settled a (settling a.tree a.user a.options.root a.options.binds)
 
+-- ---- a generated case
+
+-- what both of its machines begin on: the tree in which its bindings are settled, its user, and the mounts that stand
+pub record Staged : Type 0 where
+  pub tree : Tree
+  pub user : User
+  pub table : List Row
+
+abbrev pub staged_over : User → Tree → Result (List Row) Refusal → Result Staged Answer
+staged_over user tree (Ok table) = Ok (record { tree = tree; user = user; table = table })
+staged_over user tree (Err refusal) = Err (BadBind refusal.index refusal.why)
+
+abbrev pub staged_on : User → Settling → Result Staged Answer
+staged_on user s = staged_over user s.tree s.answer
+
+-- its bindings are settled over the tree of its listing
+abbrev pub staged_of : Result (Tree × User) Answer → Result Staged Answer
+staged_of (Ok read) = staged_on read.1 (settling read.0 read.1 case_root case_binds)
+staged_of (Err answer) = Err answer
+
+abbrev pub case_staged : ℕ → Result Staged Answer
+case_staged n = staged_of (listed (guest n) (case_listing n))
+
+-- its command is started in the root, with no environment and no input, as the tree's user
+abbrev pub case_launch : User → Launch
+case_launch user = record { command = case_command; env = []; cwd = codes "/"; ids = (user.uid, user.gid) }
+
+abbrev pub watched_start : Staged → Result (Machine Tracing) Errno
+watched_start s = traced_beginning (texts_of s.table) s.tree s.user None (case_launch s.user) []
+
+abbrev pub mounted_start : Staged → Result (Machine Watch) Errno
+mounted_start s = beginning s.table s.tree s.user Nobody (case_launch s.user) []
+
+-- both machines begin, the watched one first
+abbrev pub started_both : ℕ → List Row → Result (Machine Tracing) Errno → Result (Machine Watch) Errno → Result Started Errno
+started_both n table (Ok m) (Ok k) = Ok (Both n m table k)
+started_both n table (Ok m) (Err e) = Err e
+started_both n table (Err e) k = Err e
+
+-- as many turns and by the same slots as the words say
+abbrev pub case_plan : Options → User → Plan
+case_plan o user = record { turns = o.turns; schedule = o.schedule; calm = false; user = user }
+
+abbrev pub begun_both : ℕ → Options → Result Staged Answer → Result Begun Answer
+begun_both n o (Ok s) = begun_as (case_plan o s.user) (started_both n s.table (watched_start s) (mounted_start s))
+begun_both n o (Err answer) = Err answer
+
+abbrev pub case_begun : ℕ → Options → Result Begun Answer
+case_begun n o = begun_both n o (case_staged n)
+
 -- ---- the whole
 
+-- no source is read for a generated case
+abbrev pub opened_for : Option ℕ → Options → Option (List ℕ) → Option (List ℕ) → Option (List ℕ) → Stage Begun
+opened_for (Some n) options tree elf input = Some (case_begun n options)
+opened_for None options tree elf input = and_then (told_asked options tree elf input) (λ asked. Some (begun asked))
+
 abbrev pub opening : List (List ℕ) → Option (List ℕ) → Option (List ℕ) → Option (List ℕ) → Stage Begun
-opening words tree elf input = and_then (told_asked words tree elf input) (λ asked. Some (begun asked))
+opening words tree elf input = and_then (Some (asked words)) (λ options. opened_for options.case options tree elf input)
 
 -- ---- what the opening's code answers
+
+abbrev pub MountedKernel : Type 0
+MountedKernel = kernel.Kernel (List Mount) Watch MountNumber 1
+
+abbrev pub TracedKernel : Type 0
+TracedKernel = kernel.Kernel Plain Tracing HostMount 0
 
 abbrev pub started_told : Kind → Started
 started_told (kind.Mounts k) = Mounts (table_of k.places) (machine number_of k)
 started_told (kind.Traced k) = Traced (machine host_number k)
+started_told (kind.Both n watched mounted) = Both n (machine host_number watched) (table_of mounted.places) (machine number_of mounted)
 
 abbrev pub begun_told : Opened → Begun
 begun_told o = record { plan = o.plan; started = started_told o.kind }
@@ -121,6 +198,7 @@ StartsAs expected (Err fault.NoMemory) = Unit {0}
 abbrev pub IsFresh : Kind → Type 0
 IsFresh (kind.Mounts k) = (k.whole ≡ true) × (k.turns ≡ 0)
 IsFresh (kind.Traced k) = (k.whole ≡ true) × (k.turns ≡ 0)
+IsFresh (kind.Both n watched mounted) = (watched.whole ≡ true) × (watched.turns ≡ 0) × (mounted.whole ≡ true) × (mounted.turns ≡ 0)
 
 pub record IsReadyToRun (o : Opened) : Type 0 where
   pub fresh : IsFresh o.kind
@@ -134,6 +212,35 @@ OpensFrom expected (Err answer) = (expected ≡ Err answer) ⊎ IsEarly answer
 abbrev pub Opens : Stage Begun → Result Opened Answer → Type 0
 Opens told answer = IfSome told (λ expected. OpensFrom expected answer)
 
+-- and so are the parts of a generated case
+abbrev pub staged_told : StageOfCode → Staged
+staged_told s = record { tree = s.tree; user = s.user; table = table_of s.places }
+
+abbrev pub StagesAs : Result Staged Answer → Result (StageOfCode × Launch) Answer → Type 0
+StagesAs expected (Ok r) = (expected ≡ Ok (staged_told r.0)) × (r.1 ≡ case_launch r.0.user)
+StagesAs expected (Err answer) = (expected ≡ Err answer) ⊎ IsEarly answer
+
+-- a machine that is begun on such parts, with the user of its tree
+abbrev pub begun_with : {S X : Type 0} → X → Result (Machine S) Errno → Result (X × Machine S) Answer
+begun_with x (Ok m) = Ok (x, m)
+begun_with x (Err e) = Err (NoStart e)
+
+abbrev pub watched_by : Result Staged Answer → Result (User × Machine Tracing) Answer
+watched_by (Ok s) = begun_with s.user (watched_start s)
+watched_by (Err answer) = Err answer
+
+abbrev pub mounted_by : Result Staged Answer → Result (List Row × Machine Watch) Answer
+mounted_by (Ok s) = begun_with s.table (mounted_start s)
+mounted_by (Err answer) = Err answer
+
+abbrev pub WatchesAs : Result (User × Machine Tracing) Answer → Result (User × TracedKernel) Answer → Type 0
+WatchesAs expected (Ok r) = (expected ≡ Ok (r.0, machine host_number r.1)) × (r.1.whole ≡ true) × (r.1.turns ≡ 0)
+WatchesAs expected (Err answer) = (expected ≡ Err answer) ⊎ IsEarly answer
+
+abbrev pub MountsAs : Result (List Row × Machine Watch) Answer → Result MountedKernel Answer → Type 0
+MountsAs expected (Ok k) = (expected ≡ Ok (table_of k.places, machine number_of k)) × (k.whole ≡ true) × (k.turns ≡ 0)
+MountsAs expected (Err answer) = (expected ≡ Err answer) ⊎ IsEarly answer
+
 -- answers of the bindings and the start
 abbrev pub IsOfStart : Answer → Type 0
 IsOfStart (BadBind index why) = Unit {0}
@@ -144,7 +251,6 @@ IsOfStart answer = ⊥
 -- and of the whole opening
 abbrev pub IsOfOpening : Answer → Type 0
 IsOfOpening (Usage word why) = Unit {0}
-IsOfOpening (Unbuilt part) = Unit {0}
 IsOfOpening (TooLong which) = Unit {0}
 IsOfOpening (TreeBad line why) = Unit {0}
 IsOfOpening (BadBind index why) = Unit {0}

@@ -2,7 +2,7 @@
 use Rattle.std.specs.Prelude.{◌≡◌, ◌⊎◌, IfSome, Result, Ok, Err}
 use Rattle.std.specs.Io.KnownBytes.{Keeps}
 use Rattle.pr_answer.specs.declared.answer.Answer.{Answer}
-use Rattle.pr_answer.specs.declared.answer.Answer.TheVariants.{Ended, Deadlock, Spent, Usage, TooLong, TreeBad, BadBind, NoStart, ReadFault, WriteFault, NoMemory, Unbuilt}
+use Rattle.pr_answer.specs.declared.answer.Answer.TheVariants.{Ended, Deadlock, Spent, Usage, TooLong, TreeBad, BadBind, NoStart, ReadFault, WriteFault, NoMemory}
 use Rattle.pr_sources.specs.Within.{IsEarly, Stage}
 use Rattle.pr_run.specs.Puts.{Got, PutsTurns, StopsBetween}
 use Rattle.pr_top.specs.Opening.{Begun, report}
@@ -21,7 +21,6 @@ Refuses (TooLong which) = Unit {0}
 Refuses (TreeBad line why) = Unit {0}
 Refuses (BadBind index why) = Unit {0}
 Refuses (NoStart errno) = Unit {0}
-Refuses (Unbuilt part) = Unit {0}
 Refuses answer = ⊥
 
 -- answers that come before the run: a refusal, or a fault of a source
@@ -31,7 +30,6 @@ ComesBeforeRun (TooLong which) = Unit {0}
 ComesBeforeRun (TreeBad line why) = Unit {0}
 ComesBeforeRun (BadBind index why) = Unit {0}
 ComesBeforeRun (NoStart errno) = Unit {0}
-ComesBeforeRun (Unbuilt part) = Unit {0}
 ComesBeforeRun (ReadFault which) = Unit {0}
 ComesBeforeRun answer = ⊥
 

@@ -1,5 +1,6 @@
-//! The opening: the words and the sources are read, bindings are settled, and the first process begins.
-ghost use Rattle.std.specs.Prelude.{◌≡◌, ◌<◌, ◌^◌, Err, IfErr, IfOk, IfSome, OnOk, length, map};
+//! The opening: the words and the sources are read, bindings are settled, and the first process begins. Of a generated case both machines
+//! begin, and no source is read.
+ghost use Rattle.std.specs.Prelude.{◌≡◌, ◌<◌, ◌^◌, Some, Err, IfErr, IfOk, IfSome, OnOk, length, map};
 ghost use Rattle.std.specs.String.{string_bytes};
 ghost use Rattle.std.specs.Io.KnownBytes.{IsAtEnd};
 ghost use Rattle.pr_io.specs.Faults.{Rose};
@@ -11,10 +12,11 @@ ghost use Rattle.kr_mounts.specs.Stored.{table_of};
 ghost use Rattle.kr_stage.specs.Ready.{IsOfListing, IsReady};
 ghost use Rattle.pt_bind.specs.Binding.{rows_of};
 ghost use Rattle.pr_sources.specs.Asking.{asked};
-ghost use Rattle.pr_sources.specs.Reading.{EndsBeforeElf, EndsBeforeInput, HasCause, IsOfWords, IsRefusal, IsUnwanted, IsWanted, told_listing, told_tree};
-ghost use Rattle.pr_sources.specs.Within.{IsAskedWithin};
+ghost use Rattle.pr_sources.specs.Reading.{AsksCase, EndsBeforeElf, EndsBeforeInput, HasCause, IsOfWords, IsRefusal, IsUnwanted, IsWanted, ReadHasCause, ReadsSources, told_asked, told_listing, told_tree};
+ghost use Rattle.pr_sources.specs.Within.{IsAskedWithin, and_then};
 ghost use Rattle.pr_top.specs.Opening.{IsFresh, IsOfOpening, IsOfStart, IsReadyToRun, Opens, OpensFrom, StartsAs, begun, ids_for, opening, started_on, watch_for};
 
+use crate::generated::begin_case;
 use kr_first::StartFault;
 use kr_mounts::{BindFault, Mounted};
 use kr_stage::{Stage, settled};
@@ -24,17 +26,24 @@ use pr_answer::Answer;
 use pr_base::Bytes;
 use pr_command::Launch;
 use pr_io::{Sink, Source};
-use pr_run::{Plan, report};
-use pr_sources::{Asked, read};
+use pr_run::{Plan, case_report, report};
+use pr_sources::{Asked, ask, read};
 use pr_start::{Faker, Kernel, Watch, start};
 use pr_traced::{Tracer, start_traced};
+use pr_words::Options;
 use std::alloc::Global;
 
-/// A machine: a kernel over mounts, whose shelves are marked so that it tells whether a run is calm; or a plain kernel with its tracer.
+/// A machine: a kernel over mounts, whose shelves are marked so that it tells whether a run is calm; or a plain kernel with its tracer; or
+/// both, for a generated case.
 #[derive(Drop)]
 pub(crate) enum Kind {
     Mounts(Kernel<Mounted, Watch, 1>),
     Traced(Kernel<Plain, Tracer, 0>),
+    Both {
+        case: u32,
+        watched: Kernel<Plain, Tracer, 0>,
+        mounted: Kernel<Mounted, Watch, 1>,
+    },
 }
 
 /// A run that has begun: its machine, and what it is made by.
@@ -62,6 +71,11 @@ impl Opened {
         match &mut self.kind {
             Kind::Mounts(kernel) => report(alloc, kernel, &self.plan, out, err, left),
             Kind::Traced(kernel) => report(alloc, kernel, &self.plan, out, err, left),
+            Kind::Both {
+                case,
+                watched,
+                mounted,
+            } => case_report(alloc, *case, watched, mounted, &self.plan, out, left),
         }
     }
 }
@@ -160,7 +174,36 @@ fn begin(alloc: Global, asked: Asked) -> Result<Opened, Answer>
     }
 }
 
-/// Reads and looks at all that is asked, in the order of `pr_sources::read`, then settles the bindings, and starts the command.
+/// Reads the sources, in the order of `pr_sources::read`, then settles the bindings, and starts the command.
+fn open_sources<T: Source, E: Source, I: Source>(
+    alloc: Global,
+    options: Options,
+    tree: &mut T,
+    elf: &mut E,
+    input: &mut I,
+) -> Result<Opened, Answer>
+    requires { AreSound options }
+    ensures opens { Opens (and_then (told_asked options (T.left tree.old) (E.left elf.old) (I.left input.old)) (λ asked. Some (begun asked))) result }
+    ensures ready { IfOk result (λ opened. IsReadyToRun opened) }
+    ensures kinds { IfErr result IsOfOpening }
+    ensures words { IfErr result (λ answer. IsOfWords answer → ⊥) }
+    ensures causes { IfErr result (ReadHasCause (told_tree (T.left tree.old)) (told_listing (T.left tree.old) (E.left elf.old)) (Rose (T.faults tree.old) (T.faults tree.new)) (Rose (E.faults elf.old) (E.faults elf.new)) (Rose (I.faults input.old) (I.faults input.new))) }
+    ensures before_elf { IfErr result (λ answer. EndsBeforeElf answer → elf.new ≡ elf.old) }
+    ensures unwanted { IfSome (told_tree (T.left tree.old)) (λ listing. IsUnwanted listing → elf.new ≡ elf.old) }
+    ensures before_input { IfErr result (λ answer. EndsBeforeInput answer → input.new ≡ input.old) }
+    ensures unlisted { IfSome (told_listing (T.left tree.old) (E.left elf.old)) (λ listing. IsRefusal listing → input.new ≡ input.old) }
+    ensures tree_end { OnOk result (IsAtEnd (T.left tree.new)) }
+    ensures elf_end { OnOk result (IfSome (told_tree (T.left tree.old)) (λ listing. IsWanted listing → IsAtEnd (E.left elf.new))) }
+    ensures input_end { OnOk result (IsAtEnd (I.left input.new)) }
+    ensures tree_takes { IsAskedWithin (2 ^ 26) (T.takes tree.old) (T.takes tree.new) }
+    ensures elf_takes { IsAskedWithin (2 ^ 24) (E.takes elf.old) (E.takes elf.new) }
+    ensures input_takes { IsAskedWithin (2 ^ 24) (I.takes input.old) (I.takes input.new) }
+{
+    let asked = read(alloc, options, tree, elf, input)?;
+    begin(alloc, asked)
+}
+
+/// Reads the words, and then what they ask for: the sources of a run, or none where they ask for a generated case.
 pub(crate) fn open<T: Source, E: Source, I: Source>(
     alloc: Global,
     words: &[String],
@@ -175,17 +218,21 @@ pub(crate) fn open<T: Source, E: Source, I: Source>(
     ensures words { IfErr result (λ answer. IsOfWords answer → asked (map string_bytes words.now) ≡ Err answer) }
     ensures causes { IfErr result (HasCause (asked (map string_bytes words.now)) (told_tree (T.left tree.old)) (told_listing (T.left tree.old) (E.left elf.old)) (Rose (T.faults tree.old) (T.faults tree.new)) (Rose (E.faults elf.old) (E.faults elf.new)) (Rose (I.faults input.old) (I.faults input.new))) }
     ensures before_tree { IsRefusal (asked (map string_bytes words.now)) → tree.new ≡ tree.old }
+    ensures case_sources { AsksCase (asked (map string_bytes words.now)) → (tree.new ≡ tree.old) × (elf.new ≡ elf.old) × (input.new ≡ input.old) }
     ensures before_elf { IfErr result (λ answer. EndsBeforeElf answer → elf.new ≡ elf.old) }
     ensures unwanted { IfSome (told_tree (T.left tree.old)) (λ listing. IsUnwanted listing → elf.new ≡ elf.old) }
     ensures before_input { IfErr result (λ answer. EndsBeforeInput answer → input.new ≡ input.old) }
     ensures unlisted { IfSome (told_listing (T.left tree.old) (E.left elf.old)) (λ listing. IsRefusal listing → input.new ≡ input.old) }
-    ensures tree_end { OnOk result (IsAtEnd (T.left tree.new)) }
-    ensures elf_end { OnOk result (IfSome (told_tree (T.left tree.old)) (λ listing. IsWanted listing → IsAtEnd (E.left elf.new))) }
-    ensures input_end { OnOk result (IsAtEnd (I.left input.new)) }
+    ensures tree_end { OnOk result (ReadsSources (asked (map string_bytes words.now)) → IsAtEnd (T.left tree.new)) }
+    ensures elf_end { OnOk result (ReadsSources (asked (map string_bytes words.now)) → IfSome (told_tree (T.left tree.old)) (λ listing. IsWanted listing → IsAtEnd (E.left elf.new))) }
+    ensures input_end { OnOk result (ReadsSources (asked (map string_bytes words.now)) → IsAtEnd (I.left input.new)) }
     ensures tree_takes { IsAskedWithin (2 ^ 26) (T.takes tree.old) (T.takes tree.new) }
     ensures elf_takes { IsAskedWithin (2 ^ 24) (E.takes elf.old) (E.takes elf.new) }
     ensures input_takes { IsAskedWithin (2 ^ 24) (I.takes input.old) (I.takes input.new) }
 {
-    let asked = read(alloc, words, tree, elf, input)?;
-    begin(alloc, asked)
+    let options = ask(alloc, words)?;
+    match options.case {
+        Some(number) => begin_case(alloc, number, options),
+        None => open_sources(alloc, options, tree, elf, input),
+    }
 }

@@ -6,7 +6,7 @@ ghost use Rattle.pr_io.specs.Faults.{Rose};
 ghost use Rattle.pr_io.specs.Moves.{AppendsPrefix};
 ghost use Rattle.pr_answer.specs.declared.answer.Which.TheVariants.{Tree, Elf, Input, Out, Err as ErrSink, Left};
 ghost use Rattle.pr_sources.specs.Asking.{asked};
-ghost use Rattle.pr_sources.specs.Reading.{EndsBeforeElf, EndsBeforeInput, HasCause, IsOfWords, IsRefusal, IsUnwanted, IsWanted, told_listing, told_tree};
+ghost use Rattle.pr_sources.specs.Reading.{AsksCase, EndsBeforeElf, EndsBeforeInput, HasCause, IsOfWords, IsRefusal, IsUnwanted, IsWanted, ReadsSources, told_listing, told_tree};
 ghost use Rattle.pr_sources.specs.Within.{IsAskedWithin};
 ghost use Rattle.pr_run.specs.Report.{errs, outs};
 ghost use Rattle.pr_run.specs.Puts.{PutsTurns, StopsInCalm, StopsInErr, StopsInOut};
@@ -21,6 +21,9 @@ use std::alloc::Global;
 /// Reads the words, a listing of the host's tree, an ELF file where the listing names it, and an input; settles the bindings that the words
 /// ask for, starts the command over them, and runs it, turn after turn. What each turn puts out goes to `out` and `err`, with `--calm` a last
 /// line on `err` tells if the run was calm, and last the canonical listing of the tree that is left goes to `left`.
+///
+/// With `--case` it reads no source, and runs both machines on the generated case of that number. It puts a summary of the watched run to
+/// `out`, the listing of the tree that this run left to `left`, and answers with status 0 exactly where both outcomes are equal, else 1.
 ///
 /// The opening, the run and the report are definitions of their own. A clause that cites the opening holds where the sources that it needs
 /// tell what they have left, and a clause on a sink where that sink tells what it got; its bytes are those that were appended in this call.
@@ -66,20 +69,21 @@ pub fn proot<T: Source, E: Source, I: Source, O: Sink, R: Sink, L: Sink>(
     ensures no_memory { result ≡ Answer.NoMemory → IfSome (opening (map string_bytes words.now) (T.left tree.old) (E.left elf.old) (I.left input.old)) (StopsForMemory (O.got out.old) (O.got out.new) (R.got err.old) (R.got err.new)) }
     ensures no_memory_left { result ≡ Answer.NoMemory → Keeps (L.got left.old) (L.got left.new) }
 
-    // A fault of a source: its count rose, and what comes before it was read.
+    // A fault of a source: its count rose, and what comes before it was read; a case is not asked for.
     ensures causes { HasCause (asked (map string_bytes words.now)) (told_tree (T.left tree.old)) (told_listing (T.left tree.old) (E.left elf.old)) (Rose (T.faults tree.old) (T.faults tree.new)) (Rose (E.faults elf.old) (E.faults elf.new)) (Rose (I.faults input.old) (I.faults input.new)) result }
 
-    // A source that isn't come to isn't touched.
+    // A source that isn't come to isn't touched, and none is for a generated case.
     ensures before_tree { IsRefusal (asked (map string_bytes words.now)) → tree.new ≡ tree.old }
+    ensures case_sources { AsksCase (asked (map string_bytes words.now)) → (tree.new ≡ tree.old) × (elf.new ≡ elf.old) × (input.new ≡ input.old) }
     ensures before_elf { EndsBeforeElf result → elf.new ≡ elf.old }
     ensures unwanted { IfSome (told_tree (T.left tree.old)) (λ listing. IsUnwanted listing → elf.new ≡ elf.old) }
     ensures before_input { EndsBeforeInput result → input.new ≡ input.old }
     ensures unlisted { IfSome (told_listing (T.left tree.old) (E.left elf.old)) (λ listing. IsRefusal listing → input.new ≡ input.old) }
 
-    // Where a run is told, the sources were read to their ends, the ELF file where the listing names it.
-    ensures tree_end { TellsRun result → IsAtEnd (T.left tree.new) }
-    ensures elf_end { TellsRun result → IfSome (told_tree (T.left tree.old)) (λ listing. IsWanted listing → IsAtEnd (E.left elf.new)) }
-    ensures input_end { TellsRun result → IsAtEnd (I.left input.new) }
+    // Where a run is told and no case was asked for, the sources were read to their ends, the ELF file where the listing names it.
+    ensures tree_end { TellsRun result → ReadsSources (asked (map string_bytes words.now)) → IsAtEnd (T.left tree.new) }
+    ensures elf_end { TellsRun result → ReadsSources (asked (map string_bytes words.now)) → IfSome (told_tree (T.left tree.old)) (λ listing. IsWanted listing → IsAtEnd (E.left elf.new)) }
+    ensures input_end { TellsRun result → ReadsSources (asked (map string_bytes words.now)) → IsAtEnd (I.left input.new) }
 
     // However it ends, no source was asked more often than its limit has bytes, and once more.
     ensures tree_takes { IsAskedWithin (2 ^ 26) (T.takes tree.old) (T.takes tree.new) }

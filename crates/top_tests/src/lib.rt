@@ -10,6 +10,8 @@ mod cut;
 #[cfg(test)]
 mod faults;
 #[cfg(test)]
+mod generated;
+#[cfg(test)]
 mod home;
 #[cfg(test)]
 mod identities;

@@ -4,7 +4,7 @@ use crate::call::{Asked, Moving, call, compare};
 use fixtures::{DATA, HELLO};
 use kr_mounts::BindWhy;
 use kr_text::TreeWhy;
-use pr_top::{Answer, Part, Which};
+use pr_top::{Answer, Which};
 use pr_words::Why;
 use std::alloc::Global;
 use std::process::Abort;
@@ -16,10 +16,8 @@ struct Row {
     answer: Answer,
 }
 
-const UNBUILT: Answer = Answer::Unbuilt { part: Part::Words };
-
-/// Words that are refused, or that ask for what isn't built.
-const WORDS: [Row; 4] = [
+/// Words that are refused.
+const WORDS: [Row; 5] = [
     Row {
         words: "-b",
         tree: b"",
@@ -44,10 +42,22 @@ const WORDS: [Row; 4] = [
             why: Why::CalmAlone,
         },
     },
+    // A case has a tree, bindings and a command of its own.
     Row {
-        words: "--case=1",
+        words: "--case=1 --native",
         tree: b"",
-        answer: UNBUILT,
+        answer: Answer::Usage {
+            word: 2,
+            why: Why::CaseAlone,
+        },
+    },
+    Row {
+        words: "--case=1 /p",
+        tree: b"",
+        answer: Answer::Usage {
+            word: 2,
+            why: Why::CaseAlone,
+        },
     },
 ];
 

@@ -3,37 +3,52 @@ use Rattle.std.specs.Prelude.{Err}
 use Rattle.std.specs.String.{string_bytes}
 use Rattle.pr_io.specs.Faults.{Rose}
 use Rattle.pr_sources.specs.Asking.{asked}
-use Rattle.pr_sources.specs.Reading.{EndsBeforeElf, EndsBeforeInput, HasCause, IsOfWords, told_asked, told_listing, told_tree}
-use Rattle.pr_top.proofs.OpeningLemmas.{if-err, no-fault, not-before-elf, not-before-input, not-of-words, opens-stop, opens-then}
+use Rattle.pr_sources.specs.Reading.{HasCause, IsOfWords, ReadHasCause, told_listing, told_tree}
+use Rattle.pr_top.specs.Opening.{opened_for}
+use Rattle.pr_top.proofs.OpeningLemmas.{err-then, has-cause, if-err, no-fault, not-of-words, opens-case, opens-refused, opens-sources, reads}
 use Rattle.pr_top.proofs.opening.open.Goals as goal
 
-pub returns-in_err-asked-clause-opens : goal.returns-in_err-asked-clause-opens
-returns-in_err-asked-clause-opens g c =
-    let told = told_asked (map string_bytes c.args.words.now) (g.T.Source.left c.args.tree.now) (g.E.Source.left c.args.elf.now) (g.I.Source.left c.args.input.now) in
-    let stopped = opens-stop told c.in_err-asked.field-0.0 c.in_err-asked.ensures.told in
+pub returns-in_err-options-clause-opens : goal.returns-in_err-options-clause-opens
+returns-in_err-options-clause-opens g c =
+    let words = asked (map string_bytes c.args.words.now) in
+    let stopped = opens-refused words (λ o. opened_for o.case o (g.T.Source.left c.args.tree.now) (g.E.Source.left c.args.elf.now) (g.I.Source.left c.args.input.now)) c.in_err-options.field-0.0 c.in_err-options.ensures.kinds c.in_err-options.ensures.answer in
     let h = c.from_residual.ensures in search (rules, stopped)
 
-pub returns-clause-opens : goal.returns-clause-opens
-returns-clause-opens g c =
-    opens-then (told_asked (map string_bytes c.args.words.now) (g.T.Source.left c.args.tree.now) (g.E.Source.left c.args.elf.now) (g.I.Source.left c.args.input.now))
-    c.in_ok-asked.asked c.begin.result c.in_ok-asked.ensures.told c.begin.ensures.begun
+pub returns-in-Some-clause-opens : goal.returns-in-Some-clause-opens
+returns-in-Some-clause-opens g c =
+    opens-case (asked (map string_bytes c.args.words.now)) c.in_ok-options.options c.in_ok-options.ensures.answer c.in-Some.number c.in-Some.is
+    (g.T.Source.left c.args.tree.now) (g.E.Source.left c.args.elf.now) (g.I.Source.left c.args.input.now) c.begin_case.result c.begin_case.ensures.begun
 
-pub returns-clause-words : goal.returns-clause-words
-returns-clause-words g c =
-    if-err (λ answer. IsOfWords answer → asked (map string_bytes c.args.words.now) ≡ Err answer) c.begin.result (not-of-words (λ answer. asked (map string_bytes c.args.words.now) ≡ Err answer)) c.begin.ensures.kinds
+pub returns-in-Some-clause-words : goal.returns-in-Some-clause-words
+returns-in-Some-clause-words g c =
+    if-err (λ answer. IsOfWords answer → asked (map string_bytes c.args.words.now) ≡ Err answer) c.begin_case.result (not-of-words (λ answer. asked (map string_bytes c.args.words.now) ≡ Err answer)) c.begin_case.ensures.kinds
 
-pub returns-clause-causes : goal.returns-clause-causes
-returns-clause-causes g c =
+pub returns-in-Some-clause-causes : goal.returns-in-Some-clause-causes
+returns-in-Some-clause-causes g c =
     let words = asked (map string_bytes c.args.words.now) in
     let tree = told_tree (g.T.Source.left c.args.tree.now) in
     let listing = told_listing (g.T.Source.left c.args.tree.now) (g.E.Source.left c.args.elf.now) in
-    let rose_tree = Rose (g.T.Source.faults c.args.tree.now) (g.T.Source.faults c.read.new.tree) in
-    let rose_elf = Rose (g.E.Source.faults c.args.elf.now) (g.E.Source.faults c.read.new.elf) in
-    let rose_input = Rose (g.I.Source.faults c.args.input.now) (g.I.Source.faults c.read.new.input) in
-    if-err (HasCause words tree listing rose_tree rose_elf rose_input) c.begin.result (no-fault words tree listing rose_tree rose_elf rose_input) c.begin.ensures.kinds
+    let rose_tree = Rose (g.T.Source.faults c.args.tree.now) (g.T.Source.faults c.args.tree.now) in
+    let rose_elf = Rose (g.E.Source.faults c.args.elf.now) (g.E.Source.faults c.args.elf.now) in
+    let rose_input = Rose (g.I.Source.faults c.args.input.now) (g.I.Source.faults c.args.input.now) in
+    if-err (HasCause words tree listing rose_tree rose_elf rose_input) c.begin_case.result (no-fault words tree listing rose_tree rose_elf rose_input) c.begin_case.ensures.kinds
 
-pub returns-clause-before_elf : goal.returns-clause-before_elf
-returns-clause-before_elf g c = if-err (λ answer. EndsBeforeElf answer → c.read.new.elf ≡ c.args.elf.now) c.begin.result (not-before-elf (c.read.new.elf ≡ c.args.elf.now)) c.begin.ensures.kinds
+pub returns-in-None-clause-opens : goal.returns-in-None-clause-opens
+returns-in-None-clause-opens g c =
+    opens-sources (asked (map string_bytes c.args.words.now)) c.in_ok-options.options c.in_ok-options.ensures.answer c.in-None.is
+    (g.T.Source.left c.args.tree.now) (g.E.Source.left c.args.elf.now) (g.I.Source.left c.args.input.now) c.open_sources.result c.open_sources.ensures.opens
 
-pub returns-clause-before_input : goal.returns-clause-before_input
-returns-clause-before_input g c = if-err (λ answer. EndsBeforeInput answer → c.read.new.input ≡ c.args.input.now) c.begin.result (not-before-input (c.read.new.input ≡ c.args.input.now)) c.begin.ensures.kinds
+pub returns-in-None-clause-words : goal.returns-in-None-clause-words
+returns-in-None-clause-words g c =
+    err-then (λ answer. IsOfWords answer → ⊥) (λ answer. IsOfWords answer → asked (map string_bytes c.args.words.now) ≡ Err answer) c.open_sources.result (λ answer none words. absurd (none words)) c.open_sources.ensures.words
+
+pub returns-in-None-clause-causes : goal.returns-in-None-clause-causes
+returns-in-None-clause-causes g c =
+    let words = asked (map string_bytes c.args.words.now) in
+    let tree = told_tree (g.T.Source.left c.args.tree.now) in
+    let listing = told_listing (g.T.Source.left c.args.tree.now) (g.E.Source.left c.args.elf.now) in
+    let rose_tree = Rose (g.T.Source.faults c.args.tree.now) (g.T.Source.faults c.open_sources.new.tree) in
+    let rose_elf = Rose (g.E.Source.faults c.args.elf.now) (g.E.Source.faults c.open_sources.new.elf) in
+    let rose_input = Rose (g.I.Source.faults c.args.input.now) (g.I.Source.faults c.open_sources.new.input) in
+    err-then (ReadHasCause tree listing rose_tree rose_elf rose_input) (HasCause words tree listing rose_tree rose_elf rose_input) c.open_sources.result
+    (has-cause words tree listing rose_tree rose_elf rose_input (reads words c.in_ok-options.options c.in_ok-options.ensures.answer c.in-None.is)) c.open_sources.ensures.causes

@@ -5,7 +5,7 @@ use Rattle.pr_answer.specs.declared.answer.Which.TheVariants.{Tree as TreeSource
 use Rattle.pr_sources.specs.Asking.{asked}
 use Rattle.pr_sources.specs.Reading.{told_listing, told_tree}
 use Rattle.pr_top.specs.Opening.{opening}
-use Rattle.pr_top.proofs.ReportLemmas.{answer-told, comes-after, read-input, refuses-not, stops-for-memory, stops-in-err, stops-in-left}
+use Rattle.pr_top.proofs.ReportLemmas.{answer-told, comes-after, no-source-named, read-input, refuses-not, stops-for-memory, stops-in-err, stops-in-left}
 use Rattle.pr_top.proofs.TopLemmas.{answered, complete, complete-refused, listing-put, no-write, not-told, nothing, refusal, refused, turns-put}
 use Rattle.pr_top.proofs.top.proot.Goals as goal
 
@@ -83,6 +83,9 @@ returns-in-Ok-clause-left_untouched g c = λ p. absurd (comes-after c.in-Ok.open
 
 pub returns-in-Ok-clause-before_input : goal.returns-in-Ok-clause-before_input
 returns-in-Ok-clause-before_input g c = λ p. absurd (read-input c.in-Ok.opened c.report.ensures p)
+
+pub returns-in-Ok-clause-sinks : goal.returns-in-Ok-clause-sinks
+returns-in-Ok-clause-sinks g c = no-source-named c.in-Ok.opened c.report.ensures
 
 pub returns-in-Ok-clause-told : goal.returns-in-Ok-clause-told
 returns-in-Ok-clause-told g c =

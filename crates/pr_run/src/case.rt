@@ -1,0 +1,216 @@
+//! A generated case: both machines run it, and their outcomes are compared.
+ghost use Rattle.std.specs.Prelude.{◌≡◌, true, IfOk};
+ghost use Rattle.std.specs.String.{string_bytes};
+ghost use Rattle.pr_io.specs.Faults.{Rose};
+ghost use Rattle.kr_core.specs.Kernel.{machine};
+ghost use Rattle.kr_text.specs.Canonical.{canonical};
+ghost use Rattle.kr_turns.specs.Run.{run};
+ghost use Rattle.pr_run.specs.Case.{agree, case_report_of, end_words, lines, status_by, summary, summary_lines, told_of, yes_or_no};
+ghost use Rattle.pr_run.specs.Keeping.{kept_told, puts_told, report_told};
+ghost use Rattle.pr_run.specs.Puts.{AnswersReport, Got, PutsReport, end_told};
+ghost use Rattle.pr_run.specs.Slots.{IsPlan, slot_of};
+
+use crate::keeping::{Kept, keep, output, same};
+use crate::plan::Plan;
+use crate::turns::{End, Stop, put_some};
+use kr_core::Kernel;
+use kr_text::write;
+use kr_tree::{Tree, User};
+use kr_view::Places;
+use pr_answer::Answer;
+use pr_base::{Bytes, NoMemory};
+use pr_io::{PutFault, Sink};
+use pr_watch::Graphed;
+use std::alloc::Global;
+
+/// What is told of a case.
+#[derive(Drop)]
+pub struct CaseTold {
+    pub summary: Bytes,
+    /// The canonical listing of the tree that the watched run left.
+    pub listing: Bytes,
+    /// 0 where both runs came to the same outcome, and else 1.
+    pub status: u8,
+}
+
+/// How a run ended, in the summary's words.
+fn end_words(alloc: Global, end: End, status: u8) -> Result<String, NoMemory>
+    ensures { IfOk result (λ words. string_bytes words ≡ end_words (end_told end) status) }
+{
+    let words = match end {
+        End::Over => format!(in alloc; "ended {status}")?,
+        End::Deadlock => String::from_str(alloc, "deadlock")?,
+        End::Spent => String::from_str(alloc, "spent")?,
+    };
+    Ok(words)
+}
+
+/// How many lines a text has.
+fn lines(text: &[u8]) -> usize
+    ensures { result ≡ lines text.now }
+{
+    text.iter().filter(|byte| **byte == b'\n').count()
+}
+
+fn yes_or_no(same: bool) -> &'static str
+    ensures { result.now ≡ yes_or_no same }
+{
+    if same { "yes" } else { "no" }
+}
+
+/// The status that tells whether both runs came to the same outcome.
+fn status_by(same: bool) -> u8
+    ensures { result ≡ status_by same }
+{
+    if same { 0 } else { 1 }
+}
+
+/// The lines of the summary, with their values.
+fn summary_lines(
+    alloc: Global,
+    case: u32,
+    end: &str,
+    turns: usize,
+    names: usize,
+    out: u128,
+    agree: &str,
+) -> Result<Bytes, NoMemory>
+    ensures { IfOk result (λ text. text ≡ summary_lines case end.now turns names out agree.now) }
+{
+    let text = format!(in alloc;
+        "case {case}\nend {end}\nturns {turns}\nnames {names}\nout {out}\nagree {agree}\n"
+    )?;
+    Ok(Bytes::from(text.into_bytes()))
+}
+
+/// The summary of a case: its number, and how the watched run ended, how many turns it made, how many names its tree has, how many bytes it
+/// put out, and whether the other run came to the same outcome.
+fn summary(
+    alloc: Global,
+    case: u32,
+    watched: &Kept,
+    listing: &[u8],
+    same: bool,
+) -> Result<Bytes, NoMemory>
+    ensures { IfOk result (λ text. text ≡ summary case (puts_told watched.now.puts.items) (end_told watched.now.end) watched.now.status listing.now same) }
+{
+    let end = end_words(alloc, watched.end, watched.status)?;
+    let turns = watched.puts.len();
+    let names = lines(listing).saturating_sub(1);
+    let out = output(watched.puts.as_slice());
+    summary_lines(
+        alloc,
+        case,
+        end.as_str(),
+        turns,
+        names,
+        out,
+        yes_or_no(same),
+    )
+}
+
+/// Compares the outcomes of two runs, and tells the case by the first, the watched one.
+pub fn tell(
+    alloc: Global,
+    case: u32,
+    user: User,
+    watched: &Kept,
+    watched_tree: &Tree,
+    mounted: &Kept,
+    mounted_tree: &Tree,
+) -> Result<CaseTold, NoMemory>
+    ensures { IfOk result (λ told. report_told told ≡ told_of case (kept_told watched.now watched_tree.now) (canonical watched_tree.now user) (agree (kept_told watched.now watched_tree.now) (kept_told mounted.now mounted_tree.now))) }
+{
+    let listing = write(alloc, watched_tree, user)?;
+    let same = same(watched, watched_tree, mounted, mounted_tree);
+    let summary = summary(alloc, case, watched, listing.as_slice(), same)?;
+    let status = status_by(same);
+    Ok(CaseTold {
+        summary,
+        listing,
+        status,
+    })
+}
+
+/// Runs both machines on a case, the watched one first, and tells it.
+fn run_case<P: Places, S: Graphed, Q: Places, T: Graphed, const M: u8, const N: u8>(
+    alloc: Global,
+    case: u32,
+    watched: &mut Kernel<P, S, M>,
+    mounted: &mut Kernel<Q, T, N>,
+    plan: &Plan,
+) -> Result<CaseTold, NoMemory>
+    requires watched_whole { watched.old.whole ≡ true }
+    requires watched_first { watched.old.turns ≡ 0 }
+    requires mounted_whole { mounted.old.whole ≡ true }
+    requires mounted_first { mounted.old.turns ≡ 0 }
+    requires plan { IsPlan plan.now }
+    ensures { IfOk result (λ told. report_told told ≡ case_report_of case plan.now.user (run S.does M (P.mounts watched.old.places) (slot_of plan.now.schedule) plan.now.turns (machine P.number watched.old)) (run T.does N (Q.mounts mounted.old.places) (slot_of plan.now.schedule) plan.now.turns (machine Q.number mounted.old))) }
+{
+    let kept = keep(alloc, watched, plan)?;
+    let other = keep(alloc, mounted, plan)?;
+    tell(
+        alloc,
+        case,
+        plan.user,
+        &kept,
+        watched.tree(),
+        &other,
+        mounted.tree(),
+    )
+}
+
+/// Puts the summary, and then the listing.
+fn put_case<O: Sink, L: Sink>(told: &CaseTold, out: &mut O, left: &mut L) -> Result<Answer, Stop>
+    ensures { (err : Got) → PutsReport (report_told told.now) (Rose (O.faults out.old) (O.faults out.new)) ⊥ (Rose (L.faults left.old) (L.faults left.new)) (O.got out.old) (O.got out.new) err err (L.got left.old) (L.got left.new) result }
+{
+    match put_some(out, told.summary.as_slice()) {
+        Ok(()) => {}
+        Err(PutFault::Failed) => return Err(Stop::Out),
+        Err(PutFault::NoMemory) => return Err(Stop::NoMemory),
+    }
+    match put_some(left, told.listing.as_slice()) {
+        Ok(()) => {}
+        Err(PutFault::Failed) => return Err(Stop::Left),
+        Err(PutFault::NoMemory) => return Err(Stop::NoMemory),
+    }
+    Ok(Answer::Ended {
+        status: told.status,
+    })
+}
+
+/// Runs both machines on a case whose kernels have begun, and puts its report: the summary of the watched run, and the canonical listing of
+/// the tree that this run left. It ends early only where a sink fails or memory runs out, and puts nothing before both runs are made.
+pub fn case_report<
+    P: Places,
+    S: Graphed,
+    Q: Places,
+    T: Graphed,
+    O: Sink,
+    L: Sink,
+    const M: u8,
+    const N: u8,
+>(
+    alloc: Global,
+    case: u32,
+    watched: &mut Kernel<P, S, M>,
+    mounted: &mut Kernel<Q, T, N>,
+    plan: &Plan,
+    out: &mut O,
+    left: &mut L,
+) -> Answer
+    requires watched_whole { watched.old.whole ≡ true }
+    requires watched_first { watched.old.turns ≡ 0 }
+    requires mounted_whole { mounted.old.whole ≡ true }
+    requires mounted_first { mounted.old.turns ≡ 0 }
+    requires plan { IsPlan plan.now }
+    ensures { (err : Got) → AnswersReport (case_report_of case plan.now.user (run S.does M (P.mounts watched.old.places) (slot_of plan.now.schedule) plan.now.turns (machine P.number watched.old)) (run T.does N (Q.mounts mounted.old.places) (slot_of plan.now.schedule) plan.now.turns (machine Q.number mounted.old))) (Rose (O.faults out.old) (O.faults out.new)) ⊥ (Rose (L.faults left.old) (L.faults left.new)) (O.got out.old) (O.got out.new) err err (L.got left.old) (L.got left.new) result }
+{
+    let Ok(told) = run_case(alloc, case, watched, mounted, plan) else {
+        return Answer::NoMemory;
+    };
+    match put_case(&told, out, left) {
+        Ok(answer) => answer,
+        Err(stop) => stop.answer(),
+    }
+}
