@@ -1,10 +1,10 @@
 -- Calls on descriptors, files, directories, memory, processes and identity change no name, mode or owner that is there.
-use Rattle.std.proofs.Common.{◌≡◌, ℕ, Bool, true, false, ◌&&◌, List, [], ◌∷◌, refl, Option, Some, None, ◌+ℤ◌, zero, suc, length, ℤ, pos, negsuc, cond, ◌||◌, nat_lt, replicate, ◌-◌}
+use Rattle.std.proofs.Common.{◌≡◌, ℕ, Bool, true, false, ◌&&◌, List, [], ◌∷◌, refl, ap, Option, Some, None, ◌+ℤ◌, zero, suc, length, ℤ, pos, negsuc, cond, ◌||◌, nat_lt, replicate, ◌-◌}
 use Rattle.pr_base.specs.declared.errno.Errno.TheVariants.{ENOENT, EACCES, EFAULT, EINVAL, ENOTDIR, EBADF, EMFILE, ENOTTY, ESPIPE, EEXIST, EISDIR, EFBIG, ENOSPC, ELOOP, EPERM, ECHILD, EAGAIN, ENOMEM, ERANGE}
 use Rattle.kr_tree.specs.Tree.{Node, Body, Directory, RegularFile, SymbolicLink, ProcessDirectory}
 use Rattle.kr_tree.specs.declared.place.Host.{Host}
 use Rattle.kr_tree.specs.declared.place.Host.TheVariants as host
-use Rattle.kr_model.specs.Change.{Change, SetSize, MountOf, Reap}
+use Rattle.kr_model.specs.Change.{Change, ChangeDirectory, SetSize, OfDescriptor, OfFound, Reap}
 use Rattle.kr_model.specs.Known.{Known, known_node}
 use Rattle.kr_model.specs.Reply.{Replying, refuse, done}
 use Rattle.kr_model.specs.Asking.{descriptor_number}
@@ -22,7 +22,7 @@ use Rattle.kr_model.specs.DirectoryRows.{Listed, tell_entries, list_rest, list_h
 use Rattle.kr_model.specs.MemoryRows.{pages_end, page_count, passes_limit, has_page, grow, brk_row, map_at, mmap_row, munmap_row, mprotect_row, lowest_place}
 use Rattle.kr_model.specs.ProcessRows.{usage_size, uname_row, exit_row, clone_row, null_or_writable, unless_null, tell_end, reap, wait_for, wait4_row}
 use Rattle.kr_model.specs.IdentityRows.{set_row, set_two_row, set_three_row, get_three_row, getgroups_row}
-use Rattle.kr_calm.proofs.MildLemmas.{are_mild, IsMild, refused, answered, waiting, ending, tested, wrote, either, maybe, by_open, all_read, usable, handed, listed, written_to}
+use Rattle.kr_calm.proofs.MildLemmas.{are_mild, ComesTo, IsMild, refused, answered, waiting, ending, tested, wrote, either, maybe, by_open, all_read, usable, handed, listed, written_to}
 
 -- ---- descriptors
 
@@ -123,7 +123,7 @@ readv_mild k fd list count = readable k fd (λ number o. listed list count (λ p
 
 pipe_written : (k : Known) (pipe : ℕ) (pieces : List Piece) (o : Option (List ℕ)) → IsMild (write_pipe k pipe pieces o)
 pipe_written k pipe pieces None = answered refl
-pipe_written k pipe pieces (Some held) = either _ ending (either _ waiting (all_read _ (λ bytes. answered refl)))
+pipe_written k pipe pieces (Some held) = either _ (ending refl) (either _ waiting (all_read _ (λ bytes. answered refl)))
 
 put : (k : Known) (fd : ℕ) (o : Opened (Unit {0})) (at : ℕ) (bytes : List ℕ) → IsMild (put_in_file k fd o at bytes)
 put k fd o at bytes = either _ (refused ENOSPC) (answered refl)
@@ -157,12 +157,12 @@ ftruncate_mild k fd len = by_open k fd (λ n o. either _ (refused EINVAL) (eithe
 
 -- ---- opening
 
-under : (flags : ℕ) (mount : MountOf) (o : Opened (Unit {0})) (after : List Change) (fd : Option ℕ) → are_mild after ≡ true → IsMild (open_under flags mount o after fd)
-under flags mount o after None kept = refused EMFILE
-under flags mount o after (Some fd) kept = answered kept
+under : (flags : ℕ) (o : Opened (Unit {0})) (after : List Change) (fd : Option ℕ) → are_mild after ≡ true → IsMild (open_under flags OfFound o after fd)
+under flags o after None kept = refused EMFILE
+under flags o after (Some fd) kept = answered kept
 
 directory_opened : (k : Known) (flags : ℕ) (at : Host) (readable : Bool) → IsMild (open_directory k flags at readable)
-directory_opened k flags at readable = either _ (refused EISDIR) (either _ (refused EACCES) (under flags _ _ _ _ refl))
+directory_opened k flags at readable = either _ (refused EISDIR) (either _ (refused EACCES) (under flags _ _ _ refl))
 
 -- a cut ends kept
 cutting_are_mild : (b : Bool) (i : ℕ) → are_mild (cond b (SetSize i 0 ∷ []) []) ≡ true
@@ -170,7 +170,7 @@ cutting_are_mild true i = refl
 cutting_are_mild false i = refl
 
 file_opened : (k : Known) (flags i : ℕ) (n : Node) (dir : ℕ) (name : List ℕ) → IsMild (open_file k flags i n dir name)
-file_opened k flags i n dir name = either _ (refused ENOTDIR) (either _ (refused EACCES) (under flags _ _ _ _ (cutting_are_mild (truncates flags) i)))
+file_opened k flags i n dir name = either _ (refused ENOTDIR) (either _ (refused EACCES) (under flags _ _ _ (cutting_are_mild (truncates flags) i)))
 
 body_opened : (k : Known) (flags : ℕ) (l : Looked) (i : ℕ) (n : Node) (body : Body) → IsMild (open_body k flags l i n body)
 body_opened k flags l i n (Directory entries standing) = directory_opened k flags (host.Node i) _
@@ -218,14 +218,15 @@ host_listed k fd at buf n h = either _ (refused ENOTDIR) (maybe (shown_by k h) (
 pub getdents64_mild : (k : Known) (fd : ℤ) (buf : ℕ) (n : ℤ) → IsMild (getdents64_row k fd buf n)
 getdents64_mild k fd buf n = by_open k fd (λ number o. maybe o.place (λ p. host_listed k number o.at buf _ p.host) (refused ENOTDIR))
 
-entered : (k : Known) (h : Host) {next : Replying} → IsMild next → IsMild (if_entered k h next)
+entered : {passes : Change → Bool} (k : Known) (h : Host) {next : Replying} → ComesTo passes next → ComesTo passes (if_entered k h next)
 entered k h mild = either _ (refused ENOTDIR) (either _ (refused EACCES) mild)
 
 pub chdir_mild : (k : Known) (l : Looked) → IsMild (chdir_row k l)
 chdir_mild k l = entered k l.host (answered refl)
 
-pub fchdir_mild : (k : Known) (fd : ℤ) → IsMild (fchdir_row k fd)
-fchdir_mild k fd = by_open k fd (λ n o. maybe o.place (λ p. entered k p.host (answered refl)) (refused ENOTDIR))
+-- the one call that takes a mount from a descriptor
+pub fchdir_comes : {passes : Change → Bool} → ((n : ℕ) (at : Host) → passes (ChangeDirectory (OfDescriptor n) at) ≡ true) → (k : Known) (fd : ℤ) → ComesTo passes (fchdir_row k fd)
+fchdir_comes passing k fd = by_open k fd (λ n o. maybe o.place (λ p. entered k p.host (answered (ap (λ b. b && true) (passing n p.host)))) (refused ENOTDIR))
 
 pub chroot_mild : (k : Known) (l : Looked) → IsMild (chroot_row k l)
 chroot_mild k l = entered k l.host (refused EPERM)
@@ -264,7 +265,7 @@ pub uname_mild : (buf : ℕ) → IsMild (uname_row buf)
 uname_mild buf = tested (λ b. either b (wrote (answered refl)) (refused EFAULT))
 
 pub exit_mild : (code : ℤ) → IsMild (exit_row code)
-exit_mild code = ending
+exit_mild code = ending refl
 
 pub clone_mild : (k : Known) (flags sp ctid : ℕ) → IsMild (clone_row k flags sp ctid)
 clone_mild k flags sp ctid =

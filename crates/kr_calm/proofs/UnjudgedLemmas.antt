@@ -1,10 +1,13 @@
 -- Calls that make no change at which a rule looks.
-use Rattle.std.proofs.Common.{◌≡◌, ◌≢◌, ℕ, Bool, true, false, ◌&&◌, not, List, [], ◌∷◌, refl, ap, ◌∙◌}
+use Rattle.std.proofs.Common.{◌≡◌, ◌≢◌, ℕ, Bool, true, false, ◌&&◌, not, List, [], ◌∷◌, refl, sym, ap, subst, ◌∙◌, ℤ}
 use Rattle.std.specs.List.{list_all}
 use Rattle.rv_mem.specs.Actions.{carried_out}
 use Rattle.rv_mem.specs.Memory.{Memory}
 use Rattle.kr_calls.specs.declared.request.Request.{Request}
-use Rattle.kr_model.specs.Change.{Change, End, MoveName, RemoveName, ReplaceImage, SetMode, SetOwner}
+use Rattle.kr_calls.specs.declared.request.Request.TheVariants as call
+use Rattle.kr_tree.specs.declared.place.Host.{Host}
+use Rattle.kr_model.specs.Change.{Change, ChangeDirectory, End, MoveName, OfDescriptor, RemoveName, ReplaceImage, SetMode, SetOwner}
+use Rattle.kr_model.specs.DirectoryRows.{fchdir_row}
 use Rattle.kr_model.specs.Known.{Known}
 use Rattle.kr_model.specs.Laws.{ends_nobody}
 use Rattle.kr_model.specs.Operation.{operation}
@@ -14,8 +17,9 @@ use Rattle.kr_model.proofs.CleanCalls.{answers_end_nobody, ends_as_told}
 use Rattle.kr_calm.specs.Foreseen.{are_unjudged, gives_owner, is_foreseen, is_judged}
 use Rattle.kr_calm.specs.Laws.{OtherCallsAreUnjudged, leaves_mark}
 use Rattle.kr_calm.proofs.ChangeLemmas.{both}
-use Rattle.kr_calm.proofs.MildCalls.{operation_mild}
-use Rattle.kr_calm.proofs.MildLemmas.{are_mild, is_mild, mildly}
+use Rattle.kr_calm.proofs.MildCalls.{enters_open, operation_mild}
+use Rattle.kr_calm.proofs.MildLemmas.{are_mild, comes_to, is_mild, mildly}
+use Rattle.kr_calm.proofs.MildRows.{fchdir_comes}
 
 -- a change that ends nobody, and those behind it
 goes-on : (c : Change) (cs : List Change) → ends_nobody (c ∷ cs) ≡ true → (ends_nobody (c ∷ []) ≡ true) × (ends_nobody cs ≡ true)
@@ -43,18 +47,30 @@ module _ (test : Change → Bool) (one : (c : Change) → is_mild c ≡ true →
       let goes = goes-on c cs on in
       ap (λ b. b && list_all test cs) (one c parts.0 goes.0) ∙ all-pass cs parts.1 goes.1
 
+entering : (r : Request) → enters_open r ≡ true → (fd : ℤ) × (r ≡ call.Fchdir fd)
+entering (call.Fchdir fd) e = (fd, refl)
+entering _ e = absurd cc
+
 module _ (pid : ℕ) (request : Request) (seen : Seen) (k : Known) (m : Memory) (foreseen : is_foreseen request ≡ false) (owner : gives_owner request ≡ false) where
   abbrev changes : List Change
   changes = (carried_out (operation pid request seen k) m).reply.changes
 
-  are-mild : are_mild changes ≡ true
-  are-mild = mildly (operation pid request seen k) (operation_mild pid request seen k foreseen owner) m
+  -- a test that mild changes pass, and that of a directory which is entered
+  module _ (test : Change → Bool) (one : (c : Change) → is_mild c ≡ true → ends_nobody (c ∷ []) ≡ true → test c ≡ true) (enters : (n : ℕ) (at : Host) → test (ChangeDirectory (OfDescriptor n) at) ≡ true) where
+    pass : (carried_out (operation pid request seen k) m).reply.outcome ≢ Ended → list_all test changes ≡ true
+    pass goes = by (enters_open request) refl
+      where
+        by : (b : Bool) → enters_open request ≡ b → list_all test changes ≡ true
+        by true is =
+            let fd = entering request is in
+            subst (λ r. list_all test (carried_out (operation pid r seen k) m).reply.changes ≡ true) (sym fd.1) (comes_to (fchdir_row k fd.0) (fchdir_comes enters k fd.0) m)
+        by false is = all-pass test one changes (mildly (operation pid request seen k) (operation_mild pid request seen k foreseen owner is) m) (answers_end_nobody pid request seen k m goes)
 
   pub others-unjudged : (carried_out (operation pid request seen k) m).reply.outcome ≢ Ended → are_unjudged changes ≡ true
-  others-unjudged goes = all-pass (λ c. not (is_judged c)) one-unjudged changes are-mild (answers_end_nobody pid request seen k m goes)
+  others-unjudged goes = pass (λ c. not (is_judged c)) one-unjudged (λ n at. refl) goes
 
   pub others-leave : (carried_out (operation pid request seen k) m).reply.outcome ≢ Ended → list_all leaves_mark changes ≡ true
-  others-leave goes = all-pass leaves_mark one-leaves changes are-mild (answers_end_nobody pid request seen k m goes)
+  others-leave goes = pass leaves_mark one-leaves (λ n at. refl) goes
 
 pub other_calls_are_unjudged : OtherCallsAreUnjudged
 other_calls_are_unjudged pid request seen k m foreseen owner = record {
