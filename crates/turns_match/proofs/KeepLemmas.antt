@@ -25,7 +25,7 @@ use Rattle.calm_places.proofs.KeepLemmas.{calm_changes_keep_places}
 use Rattle.turns_match.specs.Changing.{ChangesKeepMatches}
 use Rattle.turns_match.proofs.AlikeLemmas.{AreSame, alike_all, images_alike, pinned_root, pinned_sources, same_inherited}
 
-both : (a b : Bool) → (a && b) ≡ true → (a ≡ true) × (b ≡ true)
+pub both : (a b : Bool) → (a && b) ≡ true → (a ≡ true) × (b ≡ true)
 both true b e = (refl, e)
 both false b e = absurd (differ e)
   where

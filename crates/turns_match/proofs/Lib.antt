@@ -8,6 +8,7 @@ pub mod KeepLemmas
 pub mod LastLemmas
 pub mod MatchLemmas
 pub mod OperateLemmas
+pub mod PathlessLemmas
 pub mod PickLemmas
 pub mod QuietLemmas
 pub mod RunLemmas

@@ -51,7 +51,7 @@ first_unbroken true other e = absurd (never e)
     never : {A : Type 0} {a : A} → Some a ≡ None → ⊥
     never e = cc
 
-neither : (a b : Bool) → (a || b) ≡ false → a ≡ false
+pub neither : (a b : Bool) → (a || b) ≡ false → a ≡ false
 neither false b e = refl
 neither true b e = absurd (differ e)
   where
@@ -63,7 +63,7 @@ neither true b e = absurd (differ e)
 pub picked_lives : (next : ℕ) (s : State ℕ Image) (pick : ℕ) (p : Process ℕ Image) → RiseFrom 2 next (pids_in s.living) → picked_process s pick ≡ Some p → process p.pid s ≡ Some p
 picked_lives next s pick p rise is = (found-of next (goes_on s) 2 s.living (pick % length (ready_processes s)) p rise is).1
 
-memory_computed : (pid : ℕ) (regs : Regs) (memory : Memory) (s : State ℕ Image) (p : Process ℕ Image) → process pid s ≡ Some p → memory_of pid (computed pid regs memory s) ≡ memory
+pub memory_computed : (pid : ℕ) (regs : Regs) (memory : Memory) (s : State ℕ Image) (p : Process ℕ Image) → process pid s ≡ Some p → memory_of pid (computed pid regs memory s) ≡ memory
 memory_computed pid regs memory s p lives = ap (λ (o : Option (Process ℕ Image)). option_map_or (λ p. p.image.memory) o no_memory) (found pid (given pid regs memory) (λ p. refl) pid s.living ∙ ap (option_map (at_pid pid (given pid regs memory))) lives ∙ own)
   where
     own : option_map (at_pid pid (given pid regs memory)) (Some p) ≡ Some (given pid regs memory p)

@@ -1,6 +1,7 @@
 pub mod Calls
 pub mod Changing
 pub mod Operating
+pub mod Pathless
 pub mod Quiet
 pub mod Runs
 pub mod Turning

@@ -1,6 +1,7 @@
 //! Laws of the calls of states that match, each carried by a function that does nothing.
 ghost use Rattle.turns_match.specs.Calls.{CallsComeAlike, RefusedCallsComeAlike};
 ghost use Rattle.turns_match.specs.Operating.{CallsKeepMatches};
+ghost use Rattle.turns_match.specs.Pathless.{PathlessCallsComeAlike};
 
 /// A call on equal requests and on what is told alike of its paths is answered alike, and keeps a match, where it is calm and moves no name.
 pub fn calls_keep_matches()
@@ -15,4 +16,9 @@ pub fn refused_calls_come_alike()
 /// Behind its first stop a call other than execve(2) comes to the same in states that match, where the same is told of its paths.
 pub fn calls_come_alike()
     ensures { CallsComeAlike }
+{}
+
+/// So does a calm call without a path, but for those that change a mode or an owner, or enter what a descriptor is open for.
+pub fn pathless_calls_come_alike()
+    ensures { PathlessCallsComeAlike }
 {}

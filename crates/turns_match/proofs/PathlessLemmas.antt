@@ -1,0 +1,253 @@
+-- Calls without a path, in two states that match.
+use Rattle.std.proofs.Common.{◌≡◌, ℕ, Bool, true, false, cond, List, [], ◌∷◌, Option, Some, None, Ok, refl, sym, ap, subst, ◌∙◌, eq-eqb}
+use Rattle.std.specs.Prelude.{◌&&◌, ◌||◌, IsSome}
+use Rattle.std.specs.Option.{option_map, option_map_or}
+use Rattle.rv_mem.specs.Actions.{carried_out}
+use Rattle.rv_mem.specs.Memory.{Memory}
+use Rattle.pt_bind.specs.Tags.{TagTable}
+use Rattle.kr_view.specs.View.{Row, plain}
+use Rattle.kr_calls.specs.Decoding.{decoding}
+use Rattle.kr_calls.specs.declared.request.Request.{Request}
+use Rattle.kr_calls.specs.declared.request.Request.TheVariants as call
+use Rattle.kr_model.specs.Applied.{Mounts, applied, images}
+use Rattle.kr_model.specs.Bare.{bare_mounts}
+use Rattle.kr_model.specs.Change.{Change, ChangeDirectory, MoveName, OfDescriptor, OfDirectory, OfFound, OpenFile, ReplaceExecutable}
+use Rattle.kr_model.specs.Known.{known}
+use Rattle.kr_model.specs.Lawful.{IsLawful}
+use Rattle.kr_model.specs.Operation.{operation}
+use Rattle.kr_model.specs.Seen.{NoPath, Seen}
+use Rattle.kr_model.specs.State.{Image, Process, State, at_pid, image_layout, process}
+use Rattle.kr_model.specs.Walks.{seen, targets_of}
+use Rattle.kr_lawful.proofs.ProcessChangeLemmas.{found}
+use Rattle.kr_allowed.specs.Allowed.{LeavesLawful}
+use Rattle.kr_allowed.specs.Calls.{IsToldIn}
+use Rattle.kr_allowed.specs.Told.{mounts_walked}
+use Rattle.kr_allowed.proofs.DecodedLemmas.{decoded-are-givable}
+use Rattle.kr_allowed.proofs.OperationLemmas.{operation-is-allowed}
+use Rattle.kr_allowed.proofs.RowLemmas.{lawful-image, stays-like}
+use Rattle.kr_answers.specs.Carrying.{memory_of}
+use Rattle.kr_calm.specs.Foreseen.{gives_owner, is_foreseen}
+use Rattle.kr_calm.specs.Rules.{changes_break_3, changes_break_4, changes_break_5}
+use Rattle.kr_calm.proofs.ChangeLemmas.{marks_stay_read}
+use Rattle.kr_calm.proofs.MildCalls.{enters_open, operation_mild}
+use Rattle.kr_calm.proofs.MildLemmas.{are_mild, is_mild, mildly}
+use Rattle.kr_steps.specs.Calls.{IsNoExec}
+use Rattle.kr_turns.specs.Breaking.{decoded_rule, operated_rule, plain_rule, plain_rule_of}
+use Rattle.kr_turns.specs.PlainCall.{plain_call}
+use Rattle.kr_turns.proofs.PlainLemmas.{no-exec-rule}
+use Rattle.places_stay.specs.Changes.{NewPlaceStands, NewPlacesStand}
+use Rattle.places_stay.specs.Matching.{IsMatch}
+use Rattle.places_stay.proofs.TagLemmas.{found_is}
+use Rattle.calm_places.specs.Keeping.{move_nothing, moves_nothing}
+use Rattle.turns_match.specs.Calls.{CameAlike, decoded_by, decoded_in, tags_behind}
+use Rattle.turns_match.specs.Operating.{IsCalmCall, done_in, written_in}
+use Rattle.turns_match.specs.Pathless.{CanBeCalled, IsPathless, PathlessCallsComeAlike}
+use Rattle.turns_match.proofs.CallLemmas.{calls_come_alike}
+use Rattle.turns_match.proofs.ImageLemmas.{given}
+use Rattle.turns_match.proofs.KeepLemmas.{both}
+use Rattle.turns_match.proofs.QuietLemmas.{memory_computed, neither}
+use Rattle.turns_match.proofs.RunLemmas.{decoded_alike}
+
+-- ---- what such a call is
+
+no_exec : (r : Request) → IsPathless r → IsNoExec r
+no_exec (call.Execve path args env) kind = absurd kind
+no_exec _ kind = tt
+
+not_foreseen : (r : Request) → IsPathless r → is_foreseen r ≡ false
+not_foreseen (call.Unlinkat dirfd path flags) kind = absurd kind
+not_foreseen (call.Renameat2 olddir old newdir new) kind = absurd kind
+not_foreseen (call.Fchmod fd mode) kind = absurd kind
+not_foreseen (call.Fchmodat dirfd path mode) kind = absurd kind
+not_foreseen _ kind = refl
+
+gives_none : (r : Request) → IsPathless r → gives_owner r ≡ false
+gives_none (call.Fchown fd uid gid) kind = absurd kind
+gives_none (call.Fchownat dirfd path uid gid flags) kind = absurd kind
+gives_none _ kind = refl
+
+enters_none : (r : Request) → IsPathless r → enters_open r ≡ false
+enters_none (call.Fchdir fd) kind = absurd kind
+enters_none _ kind = refl
+
+-- it has no targets, and is told of none
+module _ (rows : List Row) (pid : ℕ) (s : State ℕ Image) where
+  no_targets : (r : Request) → IsPathless r → targets_of rows pid s r ≡ Ok (record { first = None; second = None })
+  no_targets (call.Openat dirfd path flags mode) kind = absurd kind
+  no_targets (call.Mkdirat dirfd path mode) kind = absurd kind
+  no_targets (call.Unlinkat dirfd path flags) kind = absurd kind
+  no_targets (call.Symlinkat text dirfd path) kind = absurd kind
+  no_targets (call.Linkat olddir old newdir new flags) kind = absurd kind
+  no_targets (call.Renameat2 olddir old newdir new) kind = absurd kind
+  no_targets (call.Faccessat dirfd path mode) kind = absurd kind
+  no_targets (call.Fchmodat dirfd path mode) kind = absurd kind
+  no_targets (call.Fchownat dirfd path uid gid flags) kind = absurd kind
+  no_targets (call.Newfstatat dirfd path buf flags) kind = absurd kind
+  no_targets (call.Readlinkat dirfd path buf size) kind = absurd kind
+  no_targets (call.Chdir path) kind = absurd kind
+  no_targets (call.Chroot path) kind = absurd kind
+  no_targets (call.Execve path args env) kind = absurd kind
+  no_targets _ kind = refl
+
+  told_none : (r : Request) → IsPathless r → seen rows pid s r ≡ NoPath
+  told_none (call.Openat dirfd path flags mode) kind = absurd kind
+  told_none (call.Mkdirat dirfd path mode) kind = absurd kind
+  told_none (call.Unlinkat dirfd path flags) kind = absurd kind
+  told_none (call.Symlinkat text dirfd path) kind = absurd kind
+  told_none (call.Linkat olddir old newdir new flags) kind = absurd kind
+  told_none (call.Renameat2 olddir old newdir new) kind = absurd kind
+  told_none (call.Faccessat dirfd path mode) kind = absurd kind
+  told_none (call.Fchmodat dirfd path mode) kind = absurd kind
+  told_none (call.Fchownat dirfd path uid gid flags) kind = absurd kind
+  told_none (call.Newfstatat dirfd path buf flags) kind = absurd kind
+  told_none (call.Readlinkat dirfd path buf size) kind = absurd kind
+  told_none (call.Chdir path) kind = absurd kind
+  told_none (call.Chroot path) kind = absurd kind
+  told_none (call.Getcwd buf size) kind = absurd kind
+  told_none (call.Execve path args env) kind = absurd kind
+  told_none _ kind = refl
+
+-- ---- mild changes
+
+still_one : (c : Change) → is_mild c ≡ true → moves_nothing c ≡ true
+still_one (MoveName dir name to new) mild = absurd cc
+still_one _ mild = refl
+
+still_all : (cs : List Change) → are_mild cs ≡ true → move_nothing cs ≡ true
+still_all [] mild = refl
+still_all (c ∷ cs) mild = let parts = both (is_mild c) (are_mild cs) mild in ap (λ b. b && move_nothing cs) (still_one c parts.0) ∙ still_all cs parts.1
+
+-- where no mount is found, none of their new places is in one
+module _ (table : List Row) (pid : ℕ) (mounts : Mounts ℕ) (nothing_found : mounts.found ≡ None) (no_directory : mounts.directory ≡ None) where
+  never : {A B : Type 0} {o : Option A} {a : A} → o ≡ None → o ≡ Some a → B
+  never none some = absurd (clash (sym none ∙ some))
+    where
+      clash : {A : Type 0} {a : A} → None ≡ Some a → ⊥
+      clash e = cc
+
+  new_one : (c : Change) (s : State ℕ Image) → is_mild c ≡ true → NewPlaceStands table mounts pid s c
+  new_one (OpenFile fd cloexec OfFound o) s mild = λ m p e there. never nothing_found e
+  new_one (OpenFile fd cloexec OfDirectory o) s mild = λ m p e there. never no_directory e
+  new_one (OpenFile fd cloexec (OfDescriptor n) o) s mild = absurd cc
+  new_one (ChangeDirectory OfFound host) s mild = λ m e. never nothing_found e
+  new_one (ChangeDirectory OfDirectory host) s mild = λ m e. never no_directory e
+  new_one (ChangeDirectory (OfDescriptor n) host) s mild = absurd cc
+  new_one (ReplaceExecutable OfFound host dir name) s mild = λ m e. never nothing_found e
+  new_one (ReplaceExecutable OfDirectory host dir name) s mild = λ m e. never no_directory e
+  new_one (ReplaceExecutable (OfDescriptor n) host dir name) s mild = absurd cc
+  new_one _ s mild = tt
+
+  new_all : (cs : List Change) (s : State ℕ Image) → are_mild cs ≡ true → NewPlacesStand table mounts pid s cs
+  new_all [] s mild = tt
+  new_all (c ∷ cs) s mild = let parts = both (is_mild c) (are_mild cs) mild in (new_one c s parts.0, new_all cs (applied images mounts pid c s) parts.1)
+
+-- ---- the calm rules, of which none is broken
+
+none_of_all : (first second third fourth fifth sixth : Bool)
+    → cond {A = Option ℕ} first (Some 1) (cond second (Some 2) (cond third (Some 3) (cond fourth (Some 4) (cond fifth (Some 5) (cond sixth (Some 6) None))))) ≡ None → (first ≡ false) × (third ≡ false) × (fourth ≡ false) × (fifth ≡ false)
+none_of_all false false false false false false e = (refl, refl, refl, refl)
+none_of_all false false false false false true e = absurd cc
+none_of_all true second third fourth fifth sixth e = absurd cc
+none_of_all false true third fourth fifth sixth e = absurd cc
+none_of_all false false true fourth fifth sixth e = absurd cc
+none_of_all false false false true fifth sixth e = absurd cc
+none_of_all false false false false true sixth e = absurd cc
+
+-- ---- such a call can be carried out
+
+module _ (rows : List Row) (pid : ℕ) (s : State ℕ Image) (p : Process ℕ Image) (can : CanBeCalled rows pid s p) where
+  abbrev decoded_process : Process ℕ Image
+  decoded_process = given pid p.image.regs (decoded_by p).memory p
+
+  decoded_lives : process pid (decoded_in pid p s) ≡ Some decoded_process
+  decoded_lives =
+      found pid (given pid p.image.regs (decoded_by p).memory) (λ p. refl) pid s.living
+      ∙ ap (option_map (at_pid pid (given pid p.image.regs (decoded_by p).memory))) can.lives
+      ∙ ap (λ b. Some (cond b decoded_process p)) (eq-eqb p.pid pid (found_is pid s.living p can.lives))
+
+  decoded_memory : memory_of pid (decoded_in pid p s) ≡ (decoded_by p).memory
+  decoded_memory = memory_computed pid p.image.regs (decoded_by p).memory s p can.lives
+
+  decoded_lawful : IsLawful (λ m. m) rows (decoded_in pid p s)
+  decoded_lawful =
+      let own = can.lawful.processes pid p can.lives in
+      lawful-image (λ m. m) rows s can.lawful pid p can.lives (decoded_by p).memory (stays-like (decoding p.image.regs) p.image.memory own.whole own.paged) (λ _. p.image.regs)
+
+  module _ (r : Request) (is : (decoded_by p).reply ≡ Ok r) (told : Seen) (none : told ≡ NoPath) (mounts : Mounts ℕ) where
+    told_in : IsToldIn (λ m. m) rows mounts s.tree told
+    told_in = subst (IsToldIn (λ m. m) rows mounts s.tree) (sym none) tt
+
+    is_allowed : LeavesLawful (λ m. m) rows mounts pid (decoded_in pid p s) (done_in pid r told (decoded_in pid p s))
+    is_allowed =
+        subst (λ (memory : Memory). LeavesLawful (λ m. m) rows mounts pid (decoded_in pid p s) (carried_out (operation pid r told (known image_layout pid (decoded_in pid p s))) memory)) (sym decoded_memory)
+        (operation-is-allowed ℕ (λ m. m) rows mounts pid r told (decoded-are-givable p.image.regs p.image.memory r can.holds is).0 (decoded_in pid p s) decoded_process decoded_lawful decoded_lives can.still_holds (can.small, told_in))
+
+-- ---- in both
+
+module _ (table : List Row) (pid : ℕ) (no_shelf : Bool) (s w : State ℕ Image) (p q : Process ℕ Image) (tags : TagTable) (r : Request) (m : IsMatch table tags s w) (can : CanBeCalled table pid s p) (also : CanBeCalled plain pid w q)
+    (is : (decoded_by p).reply ≡ Ok r) (kind : IsPathless r) (calm : plain_rule 1 table pid no_shelf s ≡ None) where
+  abbrev at : State ℕ Image
+  at = decoded_in pid p s
+
+  abbrev other_at : State ℕ Image
+  other_at = decoded_in pid q w
+
+  abbrev told : Seen
+  told = seen table pid at r
+
+  abbrev mounts : Mounts ℕ
+  mounts = mounts_walked (targets_of table pid at r)
+
+  abbrev changes : List Change
+  changes = (done_in pid r told at).reply.changes
+
+  calm_row : operated_rule 1 table pid no_shelf r at ≡ None
+  calm_row =
+      no-exec-rule 1 table pid no_shelf at r (no_exec r kind)
+      ∙ sym (ap (λ o. option_map_or (plain_rule_of 1 table pid no_shelf s) o None) can.lives ∙ ap (λ reply. decoded_rule 1 table pid no_shelf reply at) is)
+      ∙ calm
+
+  rules : ((done_in pid r told at).memory.read_marked || no_shelf ≡ false) × (changes_break_3 images mounts pid table changes (written_in pid r told at) ≡ false)
+      × (changes_break_4 images mounts pid changes (written_in pid r told at) ≡ false) × (changes_break_5 images mounts pid table changes (written_in pid r told at) ≡ false)
+  rules = none_of_all _ _ _ _ _ _ calm_row
+
+  row_unread : (done_in pid r told at).memory.read_marked ≡ false
+  row_unread = neither _ no_shelf rules.0
+
+  decoded_unread : (decoded_by p).memory.read_marked ≡ false
+  decoded_unread = by (decoded_by p).memory.read_marked refl
+    where
+      by : (b : Bool) → (decoded_by p).memory.read_marked ≡ b → b ≡ false
+      by false is = refl
+      by true is =
+          let later = marks_stay_read (operation pid r told (known image_layout pid at)) (memory_of pid at) (ap (λ (x : Memory). x.read_marked) (decoded_memory table pid s p can) ∙ is) in
+          absurd (differ (sym later ∙ row_unread))
+        where
+          differ : true ≡ false → ⊥
+          differ e = cc
+
+  mild : are_mild changes ≡ true
+  mild = mildly (operation pid r told (known image_layout pid at)) (operation_mild pid r told (known image_layout pid at) (not_foreseen r kind) (gives_none r kind) (enters_none r kind)) (memory_of pid at)
+
+  is_calm : IsCalmCall pid r told table mounts (mounts_walked (targets_of plain pid other_at r)) at other_at
+  is_calm = record {
+    lives = subst IsSome (sym (decoded_lives table pid s p can)) refl;
+    same = ap (λ t. bare_mounts (mounts_walked t)) (no_targets table pid at r kind ∙ sym (no_targets plain pid other_at r kind));
+    unread = row_unread;
+    still = still_all changes mild;
+    calm = record { third = rules.1; fourth = rules.2; fifth = rules.3 };
+    new = new_all table pid mounts (ap (λ t. (mounts_walked t).found) (no_targets table pid at r kind)) (ap (λ t. (mounts_walked t).directory) (no_targets table pid at r kind)) changes (written_in pid r told at) mild;
+    allowed = is_allowed table pid s p can r is told (told_none table pid at r kind) mounts;
+    also_allowed = is_allowed plain pid w q also r (sym requests ∙ is) told (told_none table pid at r kind) (mounts_walked (targets_of plain pid other_at r));
+  }
+    where
+      requests : (decoded_by p).reply ≡ (decoded_by q).reply
+      requests = (decoded_alike table tags pid s w p q m can.lives also.lives decoded_unread).requests
+
+  came_alike : CameAlike table (tags_behind table pid s w p q tags r) (plain_call table pid s) (plain_call plain pid w)
+  came_alike =
+      calls_come_alike table pid s w p q tags r (record { matches = m; lives = can.lives; also = also.lives; unread = decoded_unread }) is (no_exec r kind)
+      (record { told = told_none table pid at r kind ∙ sym (told_none plain pid other_at r kind); calm = is_calm })
+
+pub pathless_calls_come_alike : PathlessCallsComeAlike
+pathless_calls_come_alike table pid no_shelf s w p q tags r m can also is kind calm = came_alike table pid no_shelf s w p q tags r m can also is kind calm

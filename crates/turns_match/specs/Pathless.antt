@@ -1,0 +1,51 @@
+-- Calls without a path, which on both kernels go by descriptors, memory and processes alone.
+use Rattle.std.specs.Prelude.{◌≡◌, ℕ, Bool, List, None, Some, Ok}
+use Rattle.pt_bind.specs.Tags.{TagTable}
+use Rattle.kr_view.specs.View.{Row, plain}
+use Rattle.kr_calls.specs.declared.request.Request.{Request}
+use Rattle.kr_calls.specs.declared.request.Request.TheVariants as call
+use Rattle.kr_model.specs.Lawful.{IsLawful}
+use Rattle.kr_model.specs.State.{Image, Process, State, process}
+use Rattle.kr_allowed.specs.Allowed.{HoldsBytes}
+use Rattle.kr_allowed.specs.Resting.{HasSmallNumbers}
+use Rattle.kr_turns.specs.Breaking.{plain_rule}
+use Rattle.kr_turns.specs.PlainCall.{plain_call}
+use Rattle.places_stay.specs.Matching.{IsMatch}
+use Rattle.turns_match.specs.Calls.{CameAlike, decoded_by, tags_behind}
+
+-- calls that are told of no path, but for those that change a mode or an owner, or enter what a descriptor is open for
+abbrev pub IsPathless : Request → Type 0
+IsPathless (call.Openat dirfd path flags mode) = ⊥
+IsPathless (call.Mkdirat dirfd path mode) = ⊥
+IsPathless (call.Unlinkat dirfd path flags) = ⊥
+IsPathless (call.Symlinkat text dirfd path) = ⊥
+IsPathless (call.Linkat olddir old newdir new flags) = ⊥
+IsPathless (call.Renameat2 olddir old newdir new) = ⊥
+IsPathless (call.Faccessat dirfd path mode) = ⊥
+IsPathless (call.Fchmod fd mode) = ⊥
+IsPathless (call.Fchmodat dirfd path mode) = ⊥
+IsPathless (call.Fchown fd uid gid) = ⊥
+IsPathless (call.Fchownat dirfd path uid gid flags) = ⊥
+IsPathless (call.Newfstatat dirfd path buf flags) = ⊥
+IsPathless (call.Readlinkat dirfd path buf size) = ⊥
+IsPathless (call.Chdir path) = ⊥
+IsPathless (call.Fchdir fd) = ⊥
+IsPathless (call.Chroot path) = ⊥
+IsPathless (call.Getcwd buf size) = ⊥
+IsPathless (call.Execve path args env) = ⊥
+IsPathless _ = Unit {0}
+
+-- what carrying out a call rests on: the state is lawful, with numbers of their sizes, and the caller's memory holds bytes, also once its
+-- call is decoded
+pub record CanBeCalled (table : List Row) (pid : ℕ) (s : State ℕ Image) (p : Process ℕ Image) : Type 0 where
+  pub lives : process pid s ≡ Some p
+  pub lawful : IsLawful (λ m. m) table s
+  pub holds : HoldsBytes p.image.memory.pages
+  pub still_holds : HoldsBytes (decoded_by p).memory.pages
+  pub small : HasSmallNumbers s.tree s.next_pid
+
+-- a calm one comes to the same on both kernels, and keeps a match
+abbrev pub PathlessCallsComeAlike : Type 0
+PathlessCallsComeAlike =
+    (table : List Row) (pid : ℕ) (no_shelf : Bool) (s w : State ℕ Image) (p q : Process ℕ Image) (tags : TagTable) (r : Request) → IsMatch table tags s w → CanBeCalled table pid s p → CanBeCalled plain pid w q
+    → (decoded_by p).reply ≡ Ok r → IsPathless r → plain_rule 1 table pid no_shelf s ≡ None → CameAlike table (tags_behind table pid s w p q tags r) (plain_call table pid s) (plain_call plain pid w)
