@@ -24,7 +24,7 @@ const WHOLE: [&str; 4] = [
 /// The first lines of its summary. How many turns it takes is the guest's own.
 const FIRST: &[u8] = b"case 1\nend ended 0\nturns ";
 
-/// The last ones: the names are those of 16 times 256 files, of 256 empty ones, of 23 directories but the root, and of the program. The bytes
+/// The last ones: the names are those of 16 times 256 files, of 256 empty ones, of 22 directories, and of the program. The bytes
 /// are those of the files that the draws open under a name that they still have.
 const LAST: &[u8] = b"\nnames 4375\nout 7982\nagree yes\n";
 
