@@ -1,10 +1,15 @@
 -- Calls without a path, in two states that match.
-use Rattle.std.proofs.Common.{◌≡◌, ℕ, Bool, true, false, cond, List, [], ◌∷◌, Option, Some, None, Ok, refl, sym, ap, subst, ◌∙◌, eq-eqb}
-use Rattle.std.specs.Prelude.{◌&&◌, ◌||◌, IsSome}
+use Rattle.std.proofs.Common.{◌≡◌, ℕ, Bool, true, false, cond, List, [], ◌∷◌, Option, Some, None, Ok, refl, sym, ap, subst, ◌∙◌, eq-eqb, inl, inr}
+use Rattle.std.specs.Prelude.{◌&&◌, ◌||◌, ◌==◌, ◌⊎◌, IsSome, ℤ}
+use Rattle.std.specs.List.{list_all}
 use Rattle.std.specs.Option.{option_map, option_map_or}
 use Rattle.rv_mem.specs.Actions.{carried_out}
 use Rattle.rv_mem.specs.Memory.{Memory}
 use Rattle.pt_bind.specs.Tags.{TagTable}
+use Rattle.pr_base.specs.declared.errno.Errno.TheVariants.{ENOENT, EPERM}
+use Rattle.kr_inode.specs.declared.user.User.{User}
+use Rattle.kr_tree.specs.declared.place.Host.{Host}
+use Rattle.kr_tree.specs.declared.place.Host.TheVariants as host
 use Rattle.kr_view.specs.View.{Row, plain}
 use Rattle.kr_calls.specs.Decoding.{decoding}
 use Rattle.kr_calls.specs.declared.request.Request.{Request}
@@ -12,7 +17,8 @@ use Rattle.kr_calls.specs.declared.request.Request.TheVariants as call
 use Rattle.kr_model.specs.Applied.{Mounts, applied, images}
 use Rattle.kr_model.specs.Bare.{bare_mounts}
 use Rattle.kr_model.specs.Change.{Change, ChangeDirectory, MoveName, OfDescriptor, OfDirectory, OfFound, OpenFile, ReplaceExecutable}
-use Rattle.kr_model.specs.Known.{known}
+use Rattle.kr_model.specs.AttributeRows.{chmod_host, chown_by, chown_host, fchmod_row, fchown_row, may_give, unchanged}
+use Rattle.kr_model.specs.Known.{Known, known, known_node}
 use Rattle.kr_model.specs.Lawful.{IsLawful}
 use Rattle.kr_model.specs.Operation.{operation}
 use Rattle.kr_model.specs.Seen.{NoPath, Seen}
@@ -30,7 +36,7 @@ use Rattle.kr_calm.specs.Foreseen.{gives_owner, is_foreseen}
 use Rattle.kr_calm.specs.Rules.{changes_break_3, changes_break_4, changes_break_5}
 use Rattle.kr_calm.proofs.ChangeLemmas.{marks_stay_read}
 use Rattle.kr_calm.proofs.MildCalls.{enters_open, operation_mild}
-use Rattle.kr_calm.proofs.MildLemmas.{are_mild, is_mild, mildly}
+use Rattle.kr_calm.proofs.MildLemmas.{ComesTo, answered, are_mild, by_open, comes_to, either, is_mild, maybe, mildly, refused}
 use Rattle.kr_steps.specs.Calls.{IsNoExec}
 use Rattle.kr_turns.specs.Breaking.{decoded_rule, operated_rule, plain_rule, plain_rule_of}
 use Rattle.kr_turns.specs.PlainCall.{plain_call}
@@ -53,18 +59,6 @@ use Rattle.turns_match.proofs.RunLemmas.{decoded_alike}
 no_exec : (r : Request) → IsPathless r → IsNoExec r
 no_exec (call.Execve path args env) kind = absurd kind
 no_exec _ kind = tt
-
-not_foreseen : (r : Request) → IsPathless r → is_foreseen r ≡ false
-not_foreseen (call.Unlinkat dirfd path flags) kind = absurd kind
-not_foreseen (call.Renameat2 olddir old newdir new) kind = absurd kind
-not_foreseen (call.Fchmod fd mode) kind = absurd kind
-not_foreseen (call.Fchmodat dirfd path mode) kind = absurd kind
-not_foreseen _ kind = refl
-
-gives_none : (r : Request) → IsPathless r → gives_owner r ≡ false
-gives_none (call.Fchown fd uid gid) kind = absurd kind
-gives_none (call.Fchownat dirfd path uid gid flags) kind = absurd kind
-gives_none _ kind = refl
 
 enters_none : (r : Request) → IsPathless r → enters_open r ≡ false
 enters_none (call.Fchdir fd) kind = absurd kind
@@ -107,15 +101,73 @@ module _ (rows : List Row) (pid : ℕ) (s : State ℕ Image) where
   told_none (call.Execve path args env) kind = absurd kind
   told_none _ kind = refl
 
--- ---- mild changes
+-- ---- changes that move no name and take no mount from a descriptor
 
-still_one : (c : Change) → is_mild c ≡ true → moves_nothing c ≡ true
-still_one (MoveName dir name to new) mild = absurd cc
-still_one _ mild = refl
+abbrev brings_nothing : Change → Bool
+brings_nothing (MoveName dir name to new) = false
+brings_nothing (OpenFile fd cloexec (OfDescriptor n) o) = false
+brings_nothing (ChangeDirectory (OfDescriptor n) host) = false
+brings_nothing (ReplaceExecutable (OfDescriptor n) host dir name) = false
+brings_nothing _ = true
 
-still_all : (cs : List Change) → are_mild cs ≡ true → move_nothing cs ≡ true
-still_all [] mild = refl
-still_all (c ∷ cs) mild = let parts = both (is_mild c) (are_mild cs) mild in ap (λ b. b && move_nothing cs) (still_one c parts.0) ∙ still_all cs parts.1
+abbrev bring_nothing : List Change → Bool
+bring_nothing cs = list_all brings_nothing cs
+
+mild_one : (c : Change) → is_mild c ≡ true → brings_nothing c ≡ true
+mild_one (MoveName dir name to new) mild = absurd cc
+mild_one (OpenFile fd cloexec (OfDescriptor n) o) mild = absurd cc
+mild_one (ChangeDirectory (OfDescriptor n) host) mild = absurd cc
+mild_one (ReplaceExecutable (OfDescriptor n) host dir name) mild = absurd cc
+mild_one _ mild = refl
+
+mild_all : (cs : List Change) → are_mild cs ≡ true → bring_nothing cs ≡ true
+mild_all [] mild = refl
+mild_all (c ∷ cs) mild = let parts = both (is_mild c) (are_mild cs) mild in ap (λ b. b && bring_nothing cs) (mild_one c parts.0) ∙ mild_all cs parts.1
+
+still_one : (c : Change) → brings_nothing c ≡ true → moves_nothing c ≡ true
+still_one (MoveName dir name to new) brings = absurd cc
+still_one _ brings = refl
+
+still_all : (cs : List Change) → bring_nothing cs ≡ true → move_nothing cs ≡ true
+still_all [] brings = refl
+still_all (c ∷ cs) brings = let parts = both (brings_nothing c) (bring_nothing cs) brings in ap (λ b. b && move_nothing cs) (still_one c parts.0) ∙ still_all cs parts.1
+
+-- modes and owners behind descriptors
+module _ (k : Known) where
+  chmod_brings : (mode : ℕ) (at : Host) → ComesTo brings_nothing (chmod_host k mode at)
+  chmod_brings mode (host.Node i) = maybe (known_node k i) (λ n. either _ (refused EPERM) (answered refl)) (refused ENOENT)
+  chmod_brings mode (host.Proc i at) = refused EPERM
+
+  given_brings : (user owner : User) (uid gid : ℕ) (changes : List Change) → bring_nothing changes ≡ true → ComesTo brings_nothing (chown_by user owner uid gid changes)
+  given_brings user owner uid gid changes brings =
+      either (uid == unchanged && gid == unchanged) (answered {n = 0} {changes = []} refl) (either (may_give user owner uid gid) (answered {n = 0} {changes = changes} brings) (refused EPERM))
+
+  chown_brings : (uid gid : ℕ) (at : Host) → ComesTo brings_nothing (chown_host k uid gid at)
+  chown_brings uid gid (host.Node i) = maybe (known_node k i) (λ n. given_brings _ _ uid gid _ refl) (refused ENOENT)
+  chown_brings uid gid (host.Proc i at) = given_brings _ _ uid gid [] refl
+
+  fchmod_brings : (fd : ℤ) (mode : ℕ) → ComesTo brings_nothing (fchmod_row k fd mode)
+  fchmod_brings fd mode = by_open k fd (λ n o. maybe o.place (λ p. chmod_brings mode p.host) (refused EPERM))
+
+  fchown_brings : (fd : ℤ) (uid gid : ℕ) → ComesTo brings_nothing (fchown_row k fd uid gid)
+  fchown_brings fd uid gid = by_open k fd (λ n o. maybe o.place (λ p. chown_brings uid gid p.host) (given_brings _ _ uid gid [] refl))
+
+  -- every other such call is mild
+  by_kind : (pid : ℕ) (r : Request) (told : Seen) → IsPathless r → ComesTo brings_nothing (operation pid r told k) ⊎ ((is_foreseen r ≡ false) × (gives_owner r ≡ false))
+  by_kind pid (call.Fchmod fd mode) told kind = inl (fchmod_brings fd mode)
+  by_kind pid (call.Fchown fd uid gid) told kind = inl (fchown_brings fd uid gid)
+  by_kind pid (call.Unlinkat dirfd path flags) told kind = absurd kind
+  by_kind pid (call.Renameat2 olddir old newdir new) told kind = absurd kind
+  by_kind pid (call.Fchmodat dirfd path mode) told kind = absurd kind
+  by_kind pid (call.Fchownat dirfd path uid gid flags) told kind = absurd kind
+  by_kind pid _ told kind = inr (refl, refl)
+
+  all_bring : (pid : ℕ) (r : Request) (told : Seen) (memory : Memory) → IsPathless r → bring_nothing (carried_out (operation pid r told k) memory).reply.changes ≡ true
+  all_bring pid r told memory kind = by (by_kind pid r told kind)
+    where
+      by : ComesTo brings_nothing (operation pid r told k) ⊎ ((is_foreseen r ≡ false) × (gives_owner r ≡ false)) → bring_nothing (carried_out (operation pid r told k) memory).reply.changes ≡ true
+      by (inl comes) = comes_to (operation pid r told k) comes memory
+      by (inr none) = mild_all (carried_out (operation pid r told k) memory).reply.changes (mildly (operation pid r told k) (operation_mild pid r told k none.0 none.1 (enters_none r kind)) memory)
 
 -- where no mount is found, none of their new places is in one
 module _ (table : List Row) (pid : ℕ) (mounts : Mounts ℕ) (nothing_found : mounts.found ≡ None) (no_directory : mounts.directory ≡ None) where
@@ -125,21 +177,21 @@ module _ (table : List Row) (pid : ℕ) (mounts : Mounts ℕ) (nothing_found : m
       clash : {A : Type 0} {a : A} → None ≡ Some a → ⊥
       clash e = cc
 
-  new_one : (c : Change) (s : State ℕ Image) → is_mild c ≡ true → NewPlaceStands table mounts pid s c
-  new_one (OpenFile fd cloexec OfFound o) s mild = λ m p e there. never nothing_found e
-  new_one (OpenFile fd cloexec OfDirectory o) s mild = λ m p e there. never no_directory e
-  new_one (OpenFile fd cloexec (OfDescriptor n) o) s mild = absurd cc
-  new_one (ChangeDirectory OfFound host) s mild = λ m e. never nothing_found e
-  new_one (ChangeDirectory OfDirectory host) s mild = λ m e. never no_directory e
-  new_one (ChangeDirectory (OfDescriptor n) host) s mild = absurd cc
-  new_one (ReplaceExecutable OfFound host dir name) s mild = λ m e. never nothing_found e
-  new_one (ReplaceExecutable OfDirectory host dir name) s mild = λ m e. never no_directory e
-  new_one (ReplaceExecutable (OfDescriptor n) host dir name) s mild = absurd cc
-  new_one _ s mild = tt
+  new_one : (c : Change) (s : State ℕ Image) → brings_nothing c ≡ true → NewPlaceStands table mounts pid s c
+  new_one (OpenFile fd cloexec OfFound o) s brings = λ m p e there. never nothing_found e
+  new_one (OpenFile fd cloexec OfDirectory o) s brings = λ m p e there. never no_directory e
+  new_one (OpenFile fd cloexec (OfDescriptor n) o) s brings = absurd cc
+  new_one (ChangeDirectory OfFound host) s brings = λ m e. never nothing_found e
+  new_one (ChangeDirectory OfDirectory host) s brings = λ m e. never no_directory e
+  new_one (ChangeDirectory (OfDescriptor n) host) s brings = absurd cc
+  new_one (ReplaceExecutable OfFound host dir name) s brings = λ m e. never nothing_found e
+  new_one (ReplaceExecutable OfDirectory host dir name) s brings = λ m e. never no_directory e
+  new_one (ReplaceExecutable (OfDescriptor n) host dir name) s brings = absurd cc
+  new_one _ s brings = tt
 
-  new_all : (cs : List Change) (s : State ℕ Image) → are_mild cs ≡ true → NewPlacesStand table mounts pid s cs
-  new_all [] s mild = tt
-  new_all (c ∷ cs) s mild = let parts = both (is_mild c) (are_mild cs) mild in (new_one c s parts.0, new_all cs (applied images mounts pid c s) parts.1)
+  new_all : (cs : List Change) (s : State ℕ Image) → bring_nothing cs ≡ true → NewPlacesStand table mounts pid s cs
+  new_all [] s brings = tt
+  new_all (c ∷ cs) s brings = let parts = both (brings_nothing c) (bring_nothing cs) brings in (new_one c s parts.0, new_all cs (applied images mounts pid c s) parts.1)
 
 -- ---- the calm rules, of which none is broken
 
@@ -226,17 +278,17 @@ module _ (table : List Row) (pid : ℕ) (no_shelf : Bool) (s w : State ℕ Image
           differ : true ≡ false → ⊥
           differ e = cc
 
-  mild : are_mild changes ≡ true
-  mild = mildly (operation pid r told (known image_layout pid at)) (operation_mild pid r told (known image_layout pid at) (not_foreseen r kind) (gives_none r kind) (enters_none r kind)) (memory_of pid at)
+  brings : bring_nothing changes ≡ true
+  brings = all_bring (known image_layout pid at) pid r told (memory_of pid at) kind
 
   is_calm : IsCalmCall pid r told table mounts (mounts_walked (targets_of plain pid other_at r)) at other_at
   is_calm = record {
     lives = subst IsSome (sym (decoded_lives table pid s p can)) refl;
     same = ap (λ t. bare_mounts (mounts_walked t)) (no_targets table pid at r kind ∙ sym (no_targets plain pid other_at r kind));
     unread = row_unread;
-    still = still_all changes mild;
+    still = still_all changes brings;
     calm = record { third = rules.1; fourth = rules.2; fifth = rules.3 };
-    new = new_all table pid mounts (ap (λ t. (mounts_walked t).found) (no_targets table pid at r kind)) (ap (λ t. (mounts_walked t).directory) (no_targets table pid at r kind)) changes (written_in pid r told at) mild;
+    new = new_all table pid mounts (ap (λ t. (mounts_walked t).found) (no_targets table pid at r kind)) (ap (λ t. (mounts_walked t).directory) (no_targets table pid at r kind)) changes (written_in pid r told at) brings;
     allowed = is_allowed table pid s p can r is told (told_none table pid at r kind) mounts;
     also_allowed = is_allowed plain pid w q also r (sym requests ∙ is) told (told_none table pid at r kind) (mounts_walked (targets_of plain pid other_at r));
   }

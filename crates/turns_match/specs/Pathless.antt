@@ -13,7 +13,7 @@ use Rattle.kr_turns.specs.PlainCall.{plain_call}
 use Rattle.places_stay.specs.Matching.{IsMatch}
 use Rattle.turns_match.specs.Calls.{CameAlike, decoded_by, tags_behind}
 
--- calls that are told of no path, but for those that change a mode or an owner, or enter what a descriptor is open for
+-- calls that are told of no path, but for the one that enters what a descriptor is open for
 abbrev pub IsPathless : Request → Type 0
 IsPathless (call.Openat dirfd path flags mode) = ⊥
 IsPathless (call.Mkdirat dirfd path mode) = ⊥
@@ -22,9 +22,7 @@ IsPathless (call.Symlinkat text dirfd path) = ⊥
 IsPathless (call.Linkat olddir old newdir new flags) = ⊥
 IsPathless (call.Renameat2 olddir old newdir new) = ⊥
 IsPathless (call.Faccessat dirfd path mode) = ⊥
-IsPathless (call.Fchmod fd mode) = ⊥
 IsPathless (call.Fchmodat dirfd path mode) = ⊥
-IsPathless (call.Fchown fd uid gid) = ⊥
 IsPathless (call.Fchownat dirfd path uid gid flags) = ⊥
 IsPathless (call.Newfstatat dirfd path buf flags) = ⊥
 IsPathless (call.Readlinkat dirfd path buf size) = ⊥

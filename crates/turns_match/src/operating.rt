@@ -18,7 +18,7 @@ pub fn calls_come_alike()
     ensures { CallsComeAlike }
 {}
 
-/// So does a calm call without a path, but for those that change a mode or an owner, or enter what a descriptor is open for.
+/// So does a calm call without a path, but for fchdir(2).
 pub fn pathless_calls_come_alike()
     ensures { PathlessCallsComeAlike }
 {}
