@@ -1,9 +1,10 @@
 -- The changes of a call keep a match, one after the other.
-use Rattle.std.proofs.Common.{◌≡◌, ℕ, Bool, true, false, List, [], ◌∷◌, Option, Some, None, refl, sym, ap, ◌∙◌}
+use Rattle.std.proofs.Common.{◌≡◌, ℕ, true, false, List, [], ◌∷◌, Option, Some, None, sym, ap, ◌∙◌}
 use Rattle.std.specs.Prelude.{◌&&◌, ◌||◌, IfSome, IsSome}
 use Rattle.rv_mem.specs.Pages.{IsWhole}
 use Rattle.pt_bind.specs.Tags.{TagTable}
 use Rattle.kr_view.specs.View.{Row, plain}
+use Rattle.kr_calm.proofs.ChangeLemmas.{both}
 use Rattle.kr_calm.specs.Rules.{breaks_3, breaks_4, breaks_5, changes_break_3, changes_break_4, changes_break_5}
 use Rattle.kr_lawful.proofs.ChangeLemmas.{every-change-keeps}
 use Rattle.kr_model.specs.Applied.{Mounts, applied, images, layouts}
@@ -24,13 +25,6 @@ use Rattle.calm_places.proofs.InUseLemmas.{neither}
 use Rattle.calm_places.proofs.KeepLemmas.{calm_changes_keep_places}
 use Rattle.turns_match.specs.Changing.{ChangesKeepMatches}
 use Rattle.turns_match.proofs.AlikeLemmas.{AreSame, alike_all, images_alike, pinned_root, pinned_sources, same_inherited}
-
-pub both : (a b : Bool) → (a && b) ≡ true → (a ≡ true) × (b ≡ true)
-both true b e = (refl, e)
-both false b e = absurd (differ e)
-  where
-    differ : false ≡ true → ⊥
-    differ e = cc
 
 -- a program that can be loaded is whole
 module _ (table : List Row) (mounts : Mounts ℕ) (pid : ℕ) (s : State ℕ Image) where

@@ -3,6 +3,7 @@ pub mod CallLemmas
 pub mod ClearLemmas
 pub mod ComeLemmas
 pub mod DeathLemmas
+pub mod EnterLemmas
 pub mod ImageLemmas
 pub mod KeepLemmas
 pub mod LastLemmas

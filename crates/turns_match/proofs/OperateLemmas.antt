@@ -39,7 +39,7 @@ some_same : {A : Type 0} {a b : A} → Some a ≡ Some b → a ≡ b
 some_same e = cc
 
 -- another memory alone is another memory beside the caller's own registers
-with_own_registers : (pid : ℕ) (memory : Memory) (next : ℕ) (s : State ℕ Image) (p : Process ℕ Image) → RiseFrom 2 next (pids_in s.living) → process pid s ≡ Some p → with_memory_of pid memory s ≡ computed pid p.image.regs memory s
+pub with_own_registers : (pid : ℕ) (memory : Memory) (next : ℕ) (s : State ℕ Image) (p : Process ℕ Image) → RiseFrom 2 next (pids_in s.living) → process pid s ≡ Some p → with_memory_of pid memory s ≡ computed pid p.image.regs memory s
 with_own_registers pid memory next s p rise lives = ap (λ ps. with_living (λ _. ps) s) (agree pid (with_image (with_memory memory)) (given pid p.image.regs memory) 2 next s.living rise same)
   where
     same : (q : Process ℕ Image) → find (is_pid pid) s.living ≡ Some q → with_image (with_memory memory) q ≡ given pid p.image.regs memory q

@@ -5,6 +5,7 @@ use Rattle.std.specs.List.{list_all}
 use Rattle.std.specs.Option.{option_map, option_map_or}
 use Rattle.rv_mem.specs.Actions.{carried_out}
 use Rattle.rv_mem.specs.Memory.{Memory}
+use Rattle.rv_mem.specs.Pages.{HoldsBytes, IsPlaced, IsWhole}
 use Rattle.pt_bind.specs.Tags.{TagTable}
 use Rattle.pr_base.specs.declared.errno.Errno.TheVariants.{ENOENT, EPERM}
 use Rattle.kr_inode.specs.declared.user.User.{User}
@@ -18,7 +19,9 @@ use Rattle.kr_model.specs.Applied.{Mounts, applied, images}
 use Rattle.kr_model.specs.Bare.{bare_mounts}
 use Rattle.kr_model.specs.Change.{Change, ChangeDirectory, MoveName, OfDescriptor, OfDirectory, OfFound, OpenFile, ReplaceExecutable}
 use Rattle.kr_model.specs.AttributeRows.{chmod_host, chown_by, chown_host, fchmod_row, fchown_row, may_give, unchanged}
+use Rattle.kr_model.specs.DirectoryRows.{fchdir_row}
 use Rattle.kr_model.specs.Known.{Known, known, known_node}
+use Rattle.kr_model.proofs.KnownLemmas.{known-bare}
 use Rattle.kr_model.specs.Lawful.{IsLawful}
 use Rattle.kr_model.specs.Operation.{operation}
 use Rattle.kr_model.specs.Seen.{NoPath, Seen}
@@ -30,28 +33,32 @@ use Rattle.kr_allowed.specs.Calls.{IsToldIn}
 use Rattle.kr_allowed.specs.Told.{mounts_walked}
 use Rattle.kr_allowed.proofs.DecodedLemmas.{decoded-are-givable}
 use Rattle.kr_allowed.proofs.OperationLemmas.{operation-is-allowed}
-use Rattle.kr_allowed.proofs.RowLemmas.{lawful-image, stays-like}
+use Rattle.kr_allowed.proofs.RowLemmas.{StaysLike, lawful-image, stays-like}
 use Rattle.kr_answers.specs.Carrying.{memory_of}
 use Rattle.kr_calm.specs.Foreseen.{gives_owner, is_foreseen}
 use Rattle.kr_calm.specs.Rules.{changes_break_3, changes_break_4, changes_break_5}
-use Rattle.kr_calm.proofs.ChangeLemmas.{marks_stay_read}
+use Rattle.kr_calm.proofs.ChangeLemmas.{both, marks_stay_read}
 use Rattle.kr_calm.proofs.MildCalls.{enters_open, operation_mild}
 use Rattle.kr_calm.proofs.MildLemmas.{ComesTo, answered, are_mild, by_open, comes_to, either, is_mild, maybe, mildly, refused}
 use Rattle.kr_steps.specs.Calls.{IsNoExec}
+use Rattle.kr_steps.specs.Computing.{computed}
 use Rattle.kr_turns.specs.Breaking.{decoded_rule, operated_rule, plain_rule, plain_rule_of}
 use Rattle.kr_turns.specs.PlainCall.{plain_call}
 use Rattle.kr_turns.proofs.PlainLemmas.{no-exec-rule}
 use Rattle.places_stay.specs.Changes.{NewPlaceStands, NewPlacesStand}
 use Rattle.places_stay.specs.Matching.{IsMatch}
+use Rattle.places_stay.specs.Standing.{PlacesStand}
 use Rattle.places_stay.proofs.TagLemmas.{found_is}
+use Rattle.calm_places.proofs.InUseLemmas.{neither}
 use Rattle.calm_places.specs.Keeping.{move_nothing, moves_nothing}
 use Rattle.turns_match.specs.Calls.{CameAlike, decoded_by, decoded_in, tags_behind}
 use Rattle.turns_match.specs.Operating.{IsCalmCall, done_in, written_in}
 use Rattle.turns_match.specs.Pathless.{CanBeCalled, IsPathless, PathlessCallsComeAlike}
 use Rattle.turns_match.proofs.CallLemmas.{calls_come_alike}
-use Rattle.turns_match.proofs.ImageLemmas.{given}
-use Rattle.turns_match.proofs.KeepLemmas.{both}
-use Rattle.turns_match.proofs.QuietLemmas.{memory_computed, neither}
+use Rattle.turns_match.proofs.EnterLemmas.{fchdir_enters}
+use Rattle.turns_match.proofs.ImageLemmas.{bare_computed, given, places_computed}
+use Rattle.turns_match.proofs.OperateLemmas.{with_own_registers}
+use Rattle.turns_match.proofs.QuietLemmas.{memory_computed}
 use Rattle.turns_match.proofs.RunLemmas.{decoded_alike}
 
 -- ---- what such a call is
@@ -60,9 +67,9 @@ no_exec : (r : Request) → IsPathless r → IsNoExec r
 no_exec (call.Execve path args env) kind = absurd kind
 no_exec _ kind = tt
 
-enters_none : (r : Request) → IsPathless r → enters_open r ≡ false
-enters_none (call.Fchdir fd) kind = absurd kind
-enters_none _ kind = refl
+entering : (r : Request) → enters_open r ≡ true → (fd : ℤ) × (r ≡ call.Fchdir fd)
+entering (call.Fchdir fd) e = (fd, refl)
+entering _ e = absurd cc
 
 -- it has no targets, and is told of none
 module _ (rows : List Row) (pid : ℕ) (s : State ℕ Image) where
@@ -162,12 +169,12 @@ module _ (k : Known) where
   by_kind pid (call.Fchownat dirfd path uid gid flags) told kind = absurd kind
   by_kind pid _ told kind = inr (refl, refl)
 
-  all_bring : (pid : ℕ) (r : Request) (told : Seen) (memory : Memory) → IsPathless r → bring_nothing (carried_out (operation pid r told k) memory).reply.changes ≡ true
-  all_bring pid r told memory kind = by (by_kind pid r told kind)
+  all_bring : (pid : ℕ) (r : Request) (told : Seen) (memory : Memory) → IsPathless r → enters_open r ≡ false → bring_nothing (carried_out (operation pid r told k) memory).reply.changes ≡ true
+  all_bring pid r told memory kind enters = by (by_kind pid r told kind)
     where
       by : ComesTo brings_nothing (operation pid r told k) ⊎ ((is_foreseen r ≡ false) × (gives_owner r ≡ false)) → bring_nothing (carried_out (operation pid r told k) memory).reply.changes ≡ true
       by (inl comes) = comes_to (operation pid r told k) comes memory
-      by (inr none) = mild_all (carried_out (operation pid r told k) memory).reply.changes (mildly (operation pid r told k) (operation_mild pid r told k none.0 none.1 (enters_none r kind)) memory)
+      by (inr none) = mild_all (carried_out (operation pid r told k) memory).reply.changes (mildly (operation pid r told k) (operation_mild pid r told k none.0 none.1 enters) memory)
 
 -- where no mount is found, none of their new places is in one
 module _ (table : List Row) (pid : ℕ) (mounts : Mounts ℕ) (nothing_found : mounts.found ≡ None) (no_directory : mounts.directory ≡ None) where
@@ -264,7 +271,7 @@ module _ (table : List Row) (pid : ℕ) (no_shelf : Bool) (s w : State ℕ Image
   rules = none_of_all _ _ _ _ _ _ calm_row
 
   row_unread : (done_in pid r told at).memory.read_marked ≡ false
-  row_unread = neither _ no_shelf rules.0
+  row_unread = (neither (done_in pid r told at).memory.read_marked no_shelf rules.0).0
 
   decoded_unread : (decoded_by p).memory.read_marked ≡ false
   decoded_unread = by (decoded_by p).memory.read_marked refl
@@ -278,17 +285,55 @@ module _ (table : List Row) (pid : ℕ) (no_shelf : Bool) (s w : State ℕ Image
           differ : true ≡ false → ⊥
           differ e = cc
 
-  brings : bring_nothing changes ≡ true
-  brings = all_bring (known image_layout pid at) pid r told (memory_of pid at) kind
+  abbrev written : State ℕ Image
+  written = written_in pid r told at
+
+  row_stays : StaysLike (decoded_by p).memory.pages (done_in pid r told at).memory.pages
+  row_stays =
+      let x = (decoded_lawful table pid s p can).processes pid (decoded_process table pid s p can) (decoded_lives table pid s p can) in
+      subst (λ (memory : Memory). StaysLike memory.pages (done_in pid r told at).memory.pages) (decoded_memory table pid s p can)
+      (stays-like (operation pid r told (known image_layout pid at)) (memory_of pid at) (subst (λ (y : Memory). IsWhole y.pages) (sym (decoded_memory table pid s p can)) x.whole) (subst (λ (y : Memory). IsPlaced y.pages) (sym (decoded_memory table pid s p can)) x.paged))
+
+  -- and what is known there is the same
+  known_written : known image_layout pid written ≡ known image_layout pid at
+  known_written =
+      let none : ℕ → ℕ = λ i. 0 in
+      let own = decoded_lawful table pid s p can in
+      ap (known image_layout pid) (with_own_registers pid (done_in pid r told at).memory at.next_pid at (decoded_process table pid s p can) own.pids.living (decoded_lives table pid s p can))
+      ∙ known-bare ℕ none pid (computed pid p.image.regs (done_in pid r told at).memory at)
+      ∙ ap (known (λ m. m) pid) (bare_computed pid p.image.regs (done_in pid r told at).memory none at.next_pid at (decoded_process table pid s p can) own.pids.living (decoded_lives table pid s p can) row_stays.layout)
+      ∙ sym (known-bare ℕ none pid at)
+
+  -- all places stand where the row has read and written
+  written_stands : PlacesStand table written
+  written_stands =
+      let d = decoded_alike table tags pid s w p q m can.lives also.lives decoded_unread in
+      let own = decoded_lawful table pid s p can in
+      subst (PlacesStand table) (sym (with_own_registers pid (done_in pid r told at).memory at.next_pid at (decoded_process table pid s p can) own.pids.living (decoded_lives table pid s p can)))
+      (places_computed pid p.image.regs (done_in pid r told at).memory table at (decoded_process table pid s p can) (decoded_lives table pid s p can) d.matches.placed row_stays)
+
+  -- nothing is brought into use but what stands
+  brings : (move_nothing changes ≡ true) × NewPlacesStand table mounts pid written changes
+  brings = by (enters_open r) refl
+    where
+      by : (b : Bool) → enters_open r ≡ b → (move_nothing changes ≡ true) × NewPlacesStand table mounts pid written changes
+      by false enters =
+          let bring = all_bring (known image_layout pid at) pid r told (memory_of pid at) kind enters in
+          (still_all changes bring, new_all table pid mounts (ap (λ t. (mounts_walked t).found) (no_targets table pid at r kind)) (ap (λ t. (mounts_walked t).directory) (no_targets table pid at r kind)) changes written bring)
+      by true enters =
+          let fd = entering r enters in
+          subst (λ (cs : List Change). (move_nothing cs ≡ true) × NewPlacesStand table mounts pid written cs)
+          (ap (λ k. (carried_out (fchdir_row k fd.0) (memory_of pid at)).reply.changes) known_written ∙ sym (ap (λ r. (carried_out (operation pid r told (known image_layout pid at)) (memory_of pid at)).reply.changes) fd.1))
+          (fchdir_enters table mounts pid written written_stands fd.0 (memory_of pid at) (subst (λ (x : Memory). HoldsBytes x.pages) (sym (decoded_memory table pid s p can)) can.still_holds))
 
   is_calm : IsCalmCall pid r told table mounts (mounts_walked (targets_of plain pid other_at r)) at other_at
   is_calm = record {
     lives = subst IsSome (sym (decoded_lives table pid s p can)) refl;
     same = ap (λ t. bare_mounts (mounts_walked t)) (no_targets table pid at r kind ∙ sym (no_targets plain pid other_at r kind));
     unread = row_unread;
-    still = still_all changes brings;
+    still = brings.0;
     calm = record { third = rules.1; fourth = rules.2; fifth = rules.3 };
-    new = new_all table pid mounts (ap (λ t. (mounts_walked t).found) (no_targets table pid at r kind)) (ap (λ t. (mounts_walked t).directory) (no_targets table pid at r kind)) changes (written_in pid r told at) brings;
+    new = brings.1;
     allowed = is_allowed table pid s p can r is told (told_none table pid at r kind) mounts;
     also_allowed = is_allowed plain pid w q also r (sym requests ∙ is) told (told_none table pid at r kind) (mounts_walked (targets_of plain pid other_at r));
   }

@@ -22,6 +22,7 @@ use Rattle.kr_steps.proofs.ComputingLemmas.{ran-stays-like}
 use Rattle.kr_turns.specs.Breaking.{idle_rule, killed_rule}
 use Rattle.kr_turns.specs.Turn.{Machine, after_event, by_pick, turn, turn_of}
 use Rattle.kr_turns.specs.Watching.{Watcher}
+use Rattle.calm_places.proofs.InUseLemmas.{neither}
 use Rattle.places_stay.specs.Matching.{IsMatch}
 use Rattle.places_stay.proofs.TagLemmas.{found_is}
 use Rattle.turns_match.specs.Quiet.{DropsTags, MachinesMatch, MakesNoCall, QuietTurnsKeepMatches}
@@ -51,13 +52,6 @@ first_unbroken true other e = absurd (never e)
     never : {A : Type 0} {a : A} → Some a ≡ None → ⊥
     never e = cc
 
-pub neither : (a b : Bool) → (a || b) ≡ false → a ≡ false
-neither false b e = refl
-neither true b e = absurd (differ e)
-  where
-    differ : true ≡ false → ⊥
-    differ e = cc
-
 -- ---- the process that runs
 
 pub picked_lives : (next : ℕ) (s : State ℕ Image) (pick : ℕ) (p : Process ℕ Image) → RiseFrom 2 next (pids_in s.living) → picked_process s pick ≡ Some p → process p.pid s ≡ Some p
@@ -74,8 +68,8 @@ memory_computed pid regs memory s p lives = ap (λ (o : Option (Process ℕ Imag
 module _ {S T : Type 0} (watcher : Watcher S) (tracer : Watcher T) (tags_in : T → TagTable) (drops : DropsTags tracer tags_in) (table : List Row) where
   module _ (pid : ℕ) (m : Machine S) (n : Machine T) where
     unread : (e : Event) → e ≢ Call → (after_event watcher 1 table pid e m).tally.broken ≡ None → (memory_of pid m.state).read_marked ≡ false
-    unread Next quiet calm = neither _ false (first_unbroken ((memory_of pid m.state).read_marked || false) _ (kept_none m.tally.broken (idle_rule 1 table pid false m.state) calm))
-    unread (Killed signal) quiet calm = neither _ false (first_unbroken ((memory_of pid m.state).read_marked || false) _ (kept_none m.tally.broken (killed_rule 1 table pid signal m.state) calm))
+    unread Next quiet calm = (neither (memory_of pid m.state).read_marked false (first_unbroken ((memory_of pid m.state).read_marked || false) _ (kept_none m.tally.broken (idle_rule 1 table pid false m.state) calm))).0
+    unread (Killed signal) quiet calm = (neither (memory_of pid m.state).read_marked false (first_unbroken ((memory_of pid m.state).read_marked || false) _ (kept_none m.tally.broken (killed_rule 1 table pid signal m.state) calm))).0
     unread Call quiet calm = absurd (quiet refl)
 
     ends_alike : (e : Event) → e ≢ Call → (after_event watcher 1 table pid e m).tally.broken ≡ None → IsSome (process pid m.state) → IsLawful (λ m. m) plain n.state → MachinesMatch tags_in table m n

@@ -13,7 +13,7 @@ use Rattle.kr_turns.specs.PlainCall.{plain_call}
 use Rattle.places_stay.specs.Matching.{IsMatch}
 use Rattle.turns_match.specs.Calls.{CameAlike, decoded_by, tags_behind}
 
--- calls that are told of no path, but for the one that enters what a descriptor is open for
+-- calls that are told of no path
 abbrev pub IsPathless : Request → Type 0
 IsPathless (call.Openat dirfd path flags mode) = ⊥
 IsPathless (call.Mkdirat dirfd path mode) = ⊥
@@ -27,7 +27,6 @@ IsPathless (call.Fchownat dirfd path uid gid flags) = ⊥
 IsPathless (call.Newfstatat dirfd path buf flags) = ⊥
 IsPathless (call.Readlinkat dirfd path buf size) = ⊥
 IsPathless (call.Chdir path) = ⊥
-IsPathless (call.Fchdir fd) = ⊥
 IsPathless (call.Chroot path) = ⊥
 IsPathless (call.Getcwd buf size) = ⊥
 IsPathless (call.Execve path args env) = ⊥

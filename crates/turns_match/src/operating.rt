@@ -18,7 +18,7 @@ pub fn calls_come_alike()
     ensures { CallsComeAlike }
 {}
 
-/// So does a calm call without a path, but for fchdir(2).
+/// So does a calm call without a path.
 pub fn pathless_calls_come_alike()
     ensures { PathlessCallsComeAlike }
 {}
