@@ -12,5 +12,6 @@ pub mod OperateLemmas
 pub mod PathlessLemmas
 pub mod PickLemmas
 pub mod QuietLemmas
+pub mod RegisterLemmas
 pub mod RunLemmas
 pub mod SettleLemmas

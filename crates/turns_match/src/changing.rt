@@ -1,5 +1,6 @@
 //! Laws of the changes of calls in states that match, each carried by a function that does nothing.
 ghost use Rattle.turns_match.specs.Changing.{ChangesKeepMatches, DeathsKeepMatches};
+ghost use Rattle.turns_match.specs.Registers.{ChangesKeepRegisters};
 
 /// The changes of a calm call keep a match, where they move no name and each new place stands before it comes into use.
 pub fn changes_keep_matches()
@@ -9,4 +10,9 @@ pub fn changes_keep_matches()
 /// So does the death of a process by a signal, where it breaks no calm rule.
 pub fn deaths_keep_matches()
     ensures { DeathsKeepMatches }
+{}
+
+/// Changes that end nobody and give no caller another program leave the registers of whoever lives.
+pub fn changes_keep_registers()
+    ensures { ChangesKeepRegisters }
 {}

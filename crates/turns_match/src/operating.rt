@@ -2,6 +2,7 @@
 ghost use Rattle.turns_match.specs.Calls.{CallsComeAlike, RefusedCallsComeAlike};
 ghost use Rattle.turns_match.specs.Operating.{CallsKeepMatches};
 ghost use Rattle.turns_match.specs.Pathless.{PathlessCallsComeAlike};
+ghost use Rattle.turns_match.specs.Registers.{CallsKeepRegisters};
 
 /// A call on equal requests and on what is told alike of its paths is answered alike, and keeps a match, where it is calm and moves no name.
 pub fn calls_keep_matches()
@@ -21,4 +22,9 @@ pub fn calls_come_alike()
 /// So does a calm call without a path.
 pub fn pathless_calls_come_alike()
     ensures { PathlessCallsComeAlike }
+{}
+
+/// A call that ends nobody and begins no program leaves the registers of its caller, but for its answer and where it goes on.
+pub fn calls_keep_registers()
+    ensures { CallsKeepRegisters }
 {}
