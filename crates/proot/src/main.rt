@@ -48,6 +48,7 @@ fn main(rt: HostRuntime) -> ExitCode {
     if command.len() > MOST_WORDS {
         return usage(&rt);
     }
+    // The call takes all objects open, so LEFT is emptied here, before anything is read: a TREE of the same name would be lost.
     let answer = proot(
         rt.alloc(),
         command,
