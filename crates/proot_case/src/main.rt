@@ -1,0 +1,9 @@
+//! The program once more: its stored run is a generated case.
+#![tactic(auto)]
+
+use pr_main::run;
+use std::process::ExitCode;
+
+fn main(rt: HostRuntime) -> ExitCode {
+    run(&rt)
+}
