@@ -1,9 +1,8 @@
 -- Each change of a calm call keeps all places standing.
-use Rattle.std.proofs.Common.{◌≡◌, ℕ, Bool, true, false, not, List, [], ◌∷◌, bytes_eq, refl, sym, ap, ◌∙◌}
+use Rattle.std.proofs.Common.{◌≡◌, ℕ, Bool, true, false, not, List, [], ◌∷◌, refl, sym, ap, ◌∙◌}
 use Rattle.std.specs.Prelude.{◌&&◌, IsSome}
 use Rattle.std.specs.Option.{option_map_or}
 use Rattle.std.proofs.lemmas.Bool.{eq-eqb}
-use Rattle.std.proofs.lemmas.Slice.Eq.{bytes_eq-Decides}
 use Rattle.kr_inode.specs.declared.user.Right.TheVariants.{Search}
 use Rattle.kr_tree.specs.declared.place.Host.TheVariants.{Proc}
 use Rattle.kr_tree.specs.declared.place.ProcAt.{ProcAt}
@@ -14,7 +13,7 @@ use Rattle.kr_view.specs.Component.{is_directory_at, is_process_directory}
 use Rattle.kr_view.specs.View.{Row, is_there}
 use Rattle.kr_calm.specs.Above.{is_at_or_below}
 use Rattle.kr_calm.specs.InUse.{is_directory_of, is_in_use}
-use Rattle.kr_calm.specs.Rules.{breaks_3, breaks_4, breaks_5, changes_break_3, changes_break_4, changes_break_5, is_above_use, is_named, names_source, serves, shuts}
+use Rattle.kr_calm.specs.Rules.{breaks_3, breaks_4, breaks_5, changes_break_3, changes_break_4, changes_break_5, is_above_use, serves, shuts}
 use Rattle.kr_calm.proofs.AboveLemmas.{steps_are_enough}
 use Rattle.kr_lawful.proofs.ChangeLemmas.{every-change-keeps}
 use Rattle.kr_model.specs.Applied.{Mounts, applied, images}
@@ -26,29 +25,24 @@ use Rattle.kr_model.specs.State.{Image, State, inode_of, process}
 use Rattle.places_stay.specs.Changes.{NewPlaceStands}
 use Rattle.places_stay.specs.Losses.{pid_of}
 use Rattle.places_stay.specs.Standing.{PlacesStand}
-use Rattle.places_stay.specs.Taking.{SparesDirectories, SparesLostSearch, SparesProcess, SparesSources}
+use Rattle.places_stay.specs.Taking.{SparesDirectories, SparesLostSearch, SparesProcess}
 use Rattle.places_stay.specs.Uses.{IsUse, Use, is_cwd, is_exe, is_open}
 use Rattle.places_stay.proofs.ChangeLemmas.{change_keeps}
 use Rattle.places_stay.proofs.EndLemmas.{ends_keep_places}
+use Rattle.places_stay.proofs.MoveKeepLemmas.{moves_keep_places}
 use Rattle.places_stay.proofs.RemoveLemmas.{removals_keep_places}
 use Rattle.places_stay.proofs.RightLemmas.{rights_keep_places}
-use Rattle.calm_places.specs.Keeping.{CalmChangesKeepPlaces, move_nothing, moves_nothing}
+use Rattle.calm_places.specs.Keeping.{CalmChangesKeepPlaces, CalmMovesKeepPlaces, MoveStaysInside, MovesStayInside, move_nothing, moves_nothing}
 use Rattle.calm_places.proofs.InUseLemmas.{directory_fails, neither}
-use Rattle.calm_places.proofs.SearchLemmas.{row_fails, spares_search}
+use Rattle.calm_places.proofs.RenameLemmas.{lie_alike, spares_move}
+use Rattle.calm_places.proofs.SearchLemmas.{spares_search}
+use Rattle.calm_places.proofs.SourceLemmas.{spares_sources}
 
 both : (a b : Bool) → (a && b) ≡ true → (a ≡ true) × (b ≡ true)
 both true b e = (refl, e)
 both false b e = absurd cc
 
 -- ---- names
-
--- a name that is none of a source's
-spares_sources : (table : List Row) (dir : ℕ) (name : List ℕ) → names_source table dir name ≡ false → SparesSources table dir name
-spares_sources table dir name none k r there dirs names =
-    let fails : is_named dir name r ≡ false = row_fails (is_named dir name) table k r none there in
-    let is : is_named dir name r ≡ true = ap (λ b. b && bytes_eq r.source_name name) (eq-eqb r.source_dir dir dirs) ∙ (bytes_eq-Decides r.source_name name).1 names in
-    let clash : false ≡ true = sym fails ∙ is in
-    cc
 
 -- an inode at or below which nothing is in use isn't in use itself
 spares_directories : (table : List Row) (s : State ℕ Image) → PlacesStand table s → (i : ℕ) → is_above_use s i ≡ false → SparesDirectories s i
@@ -110,12 +104,13 @@ module _ (table : List Row) (mounts : Mounts ℕ) (pid : ℕ) (s : State ℕ Ima
   lawful_after : (c : Change) → CanBeMade (λ m. m) table mounts pid s c → IsLawful (λ m. m) table (after c)
   lawful_after c can = every-change-keeps ℕ (λ m. m) table mounts pid c s stand.lawful lives can
 
-  calm_change : (c : Change) → moves_nothing c ≡ true → breaks_3 table s.tree c ≡ false → breaks_4 pid s c (after c) ≡ false → breaks_5 table s c (after c) ≡ false → CanBeMade (λ m. m) table mounts pid s c → NewPlaceStands table mounts pid s c
+  calm_change : (c : Change) → MoveStaysInside table s c → breaks_3 table s.tree c ≡ false → breaks_4 pid s c (after c) ≡ false → breaks_5 table s c (after c) ≡ false → CanBeMade (λ m. m) table mounts pid s c → NewPlaceStands table mounts pid s c
       → PlacesStand table (after c)
   calm_change (AddNode dir name mode uid gid body) still third fourth fifth can new = change_keeps table mounts pid s stand (AddNode dir name mode uid gid body) refl new (lawful_after (AddNode dir name mode uid gid body) can)
   calm_change (LinkNode dir name inode) still third fourth fifth can new = change_keeps table mounts pid s stand (LinkNode dir name inode) refl new (lawful_after (LinkNode dir name inode) can)
   calm_change (RemoveName dir name) still third fourth fifth can new = removals_keep_places table mounts pid dir name s stand lives can (spares_sources table dir name third) (λ i there. spares_directories table s stand i (ap (λ o. option_map_or (is_above_use s) o false) (sym there) ∙ fourth))
-  calm_change (MoveName dir name to other) still third fourth fifth can new = absurd cc
+  calm_change (MoveName dir name to other) still third fourth fifth can new =
+      moves_keep_places table mounts pid dir name to other s stand lives can (spares_move table s stand dir name to other third fourth) (lie_alike table s stand dir to still.together) still.come_to
   calm_change (SetMode inode mode) still third fourth fifth can new = (rights_keep_places).modes table mounts pid inode mode s stand lives can (spares_lost table mounts pid inode (SetMode inode mode) s stand fifth)
   calm_change (SetOwner inode uid gid) still third fourth fifth can new = (rights_keep_places).owners table mounts pid inode uid gid s stand lives can (spares_lost table mounts pid inode (SetOwner inode uid gid) s stand fifth)
   calm_change (SetSize inode size) still third fourth fifth can new = change_keeps table mounts pid s stand (SetSize inode size) refl new (lawful_after (SetSize inode size) can)
@@ -145,13 +140,26 @@ module _ (table : List Row) (mounts : Mounts ℕ) (pid : ℕ) (s : State ℕ Ima
 
 -- ---- changes in their order
 
-pub calm_changes_keep_places : CalmChangesKeepPlaces
-calm_changes_keep_places table mounts pid [] s still calm can new stand = stand
-calm_changes_keep_places table mounts pid (c ∷ cs) s still calm can new stand =
-    let here = both (moves_nothing c) (move_nothing cs) still in
+pub calm_moves_keep_places : CalmMovesKeepPlaces
+calm_moves_keep_places table mounts pid [] s inside calm can new stand = stand
+calm_moves_keep_places table mounts pid (c ∷ cs) s inside calm can new stand =
     let next = applied images mounts pid c s in
     let third = neither (breaks_3 table s.tree c) (changes_break_3 images mounts pid table cs next) calm.third in
     let fourth = neither (breaks_4 pid s c next) (changes_break_4 images mounts pid cs next) calm.fourth in
     let fifth = neither (breaks_5 table s c next) (changes_break_5 images mounts pid table cs next) calm.fifth in
-    calm_changes_keep_places table mounts pid cs next here.1 (record { third = third.1; fourth = fourth.1; fifth = fifth.1 }) can.2 new.1
-    (calm_change table mounts pid s stand can.0 c here.0 third.0 fourth.0 fifth.0 can.1 new.0)
+    calm_moves_keep_places table mounts pid cs next inside.1 (record { third = third.1; fourth = fourth.1; fifth = fifth.1 }) can.2 new.1
+    (calm_change table mounts pid s stand can.0 c inside.0 third.0 fourth.0 fifth.0 can.1 new.0)
+
+-- what moves nothing stays inside
+stays_inside : (table : List Row) (s : State ℕ Image) (c : Change) → moves_nothing c ≡ true → MoveStaysInside table s c
+stays_inside table s (MoveName dir name to new) still = absurd cc
+stays_inside table s _ still = tt
+
+pub stay_inside : (table : List Row) (mounts : Mounts ℕ) (pid : ℕ) (cs : List Change) (s : State ℕ Image) → move_nothing cs ≡ true → MovesStayInside table mounts pid s cs
+stay_inside table mounts pid [] s still = tt
+stay_inside table mounts pid (c ∷ cs) s still =
+    let here = both (moves_nothing c) (move_nothing cs) still in
+    (stays_inside table s c here.0, stay_inside table mounts pid cs (applied images mounts pid c s) here.1)
+
+pub calm_changes_keep_places : CalmChangesKeepPlaces
+calm_changes_keep_places table mounts pid cs s still calm can new stand = calm_moves_keep_places table mounts pid cs s (stay_inside table mounts pid cs s still) calm can new stand

@@ -66,7 +66,7 @@ module _ (table : List Row) (s : State ℕ Image) (stand : PlacesStand table s) 
   names_kept [] = tt
   names_kept (name ∷ h) = (λ d n. refl, names_kept h)
 
-  not_below : (d : ℕ) → is_at_or_below t i d ≡ false → ¬ IsBelow t i d
+  pub not_below : (d : ℕ) → is_at_or_below t i d ≡ false → ¬ IsBelow t i d
   not_below d e below = let clash : false ≡ true = sym e ∙ (steps_are_enough t i d stand.lawful.tree.sound).1 below in cc
 
   -- ---- what isn't below the inode

@@ -47,6 +47,16 @@ reached action (read {at = at} {n = n} {next = next} given) m holds r e =
 reached action (either true {x = x} first second) m holds r e = reached x (first refl) m holds r e
 reached action (either false {y = y} first second) m holds r e = reached y (second refl) m holds r e
 
+-- it writes nothing
+pages-left : (action : Action Decoded) → Given action → (m : Memory) → HoldsBytes m.pages → (carried_out action m).memory.pages ≡ m.pages
+pages-left action refused m holds = refl
+pages-left action (accepted is paths) m holds = refl
+pages-left action (tested {at = at} {n = n} {uses = uses} {next = next} given) m holds = pages-left (next (allows_uses m.pages at n uses)) (given (allows_uses m.pages at n uses)) m holds
+pages-left action (read {at = at} {n = n} {next = next} given) m holds =
+    pages-left (next (bytes_from m.pages at n)) (given (bytes_from m.pages at n) (read-count m.pages n at) (read-bytes m.pages holds n at)) (after_read m at n) holds
+pages-left action (either true {x = x} first second) m holds = pages-left x (first refl) m holds
+pages-left action (either false {y = y} first second) m holds = pages-left y (second refl) m holds
+
 unless-passes : (b : Bool) {next : Action Decoded} → Given next → Given (unless b next)
 unless-passes b given = either b (λ _. refused) (λ _. given)
 
@@ -346,3 +356,6 @@ decoding-given regs =
 
 pub decoded-are-givable : DecodedAreGivable
 decoded-are-givable regs memory r holds e = reached (decoding regs) (decoding-given regs) memory holds r e
+
+pub decoding-leaves-pages : (regs : Regs) (memory : Memory) → HoldsBytes memory.pages → (carried_out (decoding regs) memory).memory.pages ≡ memory.pages
+decoding-leaves-pages regs memory holds = pages-left (decoding regs) (decoding-given regs) memory holds

@@ -1,11 +1,11 @@
 -- Rows that come to changes that pass a test, as those that change no name, mode or owner that is there: their parts.
-use Rattle.std.proofs.Common.{◌≡◌, ℕ, Bool, true, false, ◌&&◌, List, [], ◌∷◌, refl, ap, Option, Some, None, ℤ, cond}
+use Rattle.std.proofs.Common.{◌≡◌, ℕ, Bool, true, false, ◌&&◌, List, [], ◌∷◌, refl, ap, ◌∙◌, Option, Some, None, ℤ, cond}
 use Rattle.pr_base.specs.declared.errno.Errno.TheVariants.{ENOENT, EACCES, EFAULT, EINVAL, ENOTDIR, EBADF}
 use Rattle.kr_tree.specs.Tree.{Node, Body, Directory, RegularFile, SymbolicLink, ProcessDirectory}
 use Rattle.kr_tree.specs.declared.place.Host.{Host}
 use Rattle.kr_tree.specs.declared.place.Host.TheVariants as host
 use Rattle.rv_mem.specs.declared.rights.Use.{Use}
-use Rattle.kr_model.specs.Change.{Change, ChangeDirectory, End, MoveName, OfDescriptor, OpenFile, RemoveName, ReplaceExecutable, ReplaceImage, SetMode, SetOwner}
+use Rattle.kr_model.specs.Change.{Change, ChangeDirectory, CopyDescriptor, End, Fork, MoveName, OfDescriptor, OpenFile, RemoveName, ReplaceExecutable, ReplaceImage, SetMode, SetOwner}
 use Rattle.kr_model.specs.Known.{Known, known_node}
 use Rattle.kr_model.specs.Reply.{Replying, refuse, done, waits, ends}
 use Rattle.kr_model.specs.Asking.{writable_body, writable_node, writable, is_over, descriptor_number, or_closed, of_number, or_badf}
@@ -17,6 +17,7 @@ use Rattle.rv_mem.specs.Actions.{carried_out, MayUse, ReadBytes, WriteBytes, all
 use Rattle.rv_mem.specs.Memory.{Memory, with_pages, after_read}
 use Rattle.rv_mem.specs.Pages.{written, bytes_from}
 use Rattle.std.specs.List.{list_all}
+use Rattle.kr_calm.proofs.ChangeLemmas.{both}
 
 -- whether a change leaves each name, mode and owner that is there as it is, and the program of its caller, and takes no mount from a
 -- descriptor
@@ -33,6 +34,15 @@ is_mild _ = true
 
 abbrev pub are_mild : List Change → Bool
 are_mild cs = list_all is_mild cs
+
+-- and whether it hands nothing on beside: it copies no descriptor, and makes no child
+abbrev pub hands_nothing : Change → Bool
+hands_nothing (CopyDescriptor fd to cloexec) = false
+hands_nothing (Fork birth) = false
+hands_nothing c = is_mild c
+
+abbrev pub hand_nothing : List Change → Bool
+hand_nothing cs = list_all hands_nothing cs
 
 -- an action that comes to changes alone that pass a test, or that ends its caller
 pub data ComesTo (passes : Change → Bool) : Replying → Type 0 where
@@ -56,11 +66,38 @@ comes_to action (wrote {at = at} {bytes = bytes} {next = next} mild) m = comes_t
 comes_to action (either true {x = x} first second) m = comes_to x first m
 comes_to action (either false {y = y} first second) m = comes_to y second m
 
+-- what comes to changes that pass a test comes to such that pass a weaker one
+module _ {strong weak : Change → Bool} (weaker : (c : Change) → strong c ≡ true → weak c ≡ true) where
+  pass_weaker : (cs : List Change) → list_all strong cs ≡ true → list_all weak cs ≡ true
+  pass_weaker [] pass = refl
+  pass_weaker (c ∷ cs) pass = let parts = both (strong c) (list_all strong cs) pass in ap (λ b. b && list_all weak cs) (weaker c parts.0) ∙ pass_weaker cs parts.1
+
+  pub weakened : {action : Replying} → ComesTo strong action → ComesTo weak action
+  weakened (refused e) = refused e
+  weakened (answered {n = n} {changes = changes} pass) = answered (pass_weaker changes pass)
+  weakened waiting = waiting
+  weakened (ending {status = status} pass) = ending (weaker (End status) pass)
+  weakened (tested comes) = tested (λ b. weakened (comes b))
+  weakened (read comes) = read (λ bytes. weakened (comes bytes))
+  weakened (wrote comes) = wrote (weakened comes)
+  weakened (either b first second) = either b (weakened first) (weakened second)
+
 abbrev pub IsMild : Replying → Type 0
 IsMild action = ComesTo is_mild action
 
 pub mildly : (action : Replying) → IsMild action → (m : Memory) → are_mild (carried_out action m).reply.changes ≡ true
 mildly action mild m = comes_to action mild m
+
+abbrev pub HandsNothing : Replying → Type 0
+HandsNothing action = ComesTo hands_nothing action
+
+mild_one : (c : Change) → hands_nothing c ≡ true → is_mild c ≡ true
+mild_one (CopyDescriptor fd to cloexec) nothing = absurd cc
+mild_one (Fork birth) nothing = absurd cc
+mild_one _ nothing = nothing
+
+pub nothing_is_mild : {action : Replying} → HandsNothing action → IsMild action
+nothing_is_mild comes = weakened mild_one comes
 
 -- ---- parts of rows
 

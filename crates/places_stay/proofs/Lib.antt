@@ -1,9 +1,14 @@
+pub mod BelowLemmas
 pub mod ChangeLemmas
 pub mod EndLemmas
 pub mod FollowLemmas
 pub mod KeptLemmas
 pub mod MatchLemmas
+pub mod MoveKeepLemmas
 pub mod MoveLemmas
+pub mod MovedEntryLemmas
+pub mod MovedLemmas
+pub mod RememberLemmas
 pub mod RemoveLemmas
 pub mod RightLemmas
 pub mod ShownLemmas

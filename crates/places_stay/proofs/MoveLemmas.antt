@@ -2,7 +2,7 @@
 use Rattle.std.proofs.Common.{◌≡◌, ◌≢◌, ℕ, Bool, true, false, not, List, [], ◌∷◌, Option, Some, None, bytes_eq, nat_eq, refl, sym, ap, subst, ◌∙◌, inl, inr, ◌⊎◌}
 use Rattle.std.specs.Prelude.{◌==◌, ◌&&◌, ◌||◌}
 use Rattle.std.specs.Bool.{if◌then◌else◌}
-use Rattle.std.specs.Option.{option_map, option_map_or}
+use Rattle.std.specs.Option.{option_map_or}
 use Rattle.std.proofs.lemmas.Bool.{cases_eq, eq-eqb, eqb-true}
 use Rattle.std.proofs.lemmas.Slice.Eq.{bytes_eq-Decides}
 use Rattle.pr_base.specs.MountText.{MountText}
@@ -15,9 +15,9 @@ use Rattle.kr_tree.specs.declared.place.Host.{Host}
 use Rattle.kr_tree.specs.declared.place.Host.TheVariants.{Node, Proc}
 use Rattle.kr_tree.specs.Lawful.{Below, Here, IsBelow, IsIn}
 use Rattle.kr_tree.specs.Names.{named}
-use Rattle.kr_tree.specs.Tree.{Body, Directory, RegularFile, SymbolicLink, ProcessDirectory, Entry, Inode, Inodes, Tree, above, body, body_is, entries, entries_of, entry, inode, is_directory, is_filled, root, standing, takes_names}
+use Rattle.kr_tree.specs.Tree.{Body, Directory, RegularFile, SymbolicLink, ProcessDirectory, Entry, Inode, Inodes, Tree, body, body_is, entries, entries_of, entry, inode, is_directory, is_filled, standing, takes_names}
 use Rattle.kr_tree.specs.declared.place.ProcAt.{ProcAt}
-use Rattle.kr_tree.proofs.EntryLemmas.{body_test, entry_stands, filled_body}
+use Rattle.kr_tree.proofs.EntryLemmas.{body_test, filled_body}
 use Rattle.kr_tree.proofs.NameLemmas.{map_some, some_is, then_some}
 use Rattle.kr_view.specs.Component.{Finds, Namespace, is_directory_at, is_processes}
 use Rattle.kr_view.specs.HostReach.{is_link_at, object_in, reaches}
@@ -33,6 +33,7 @@ use Rattle.places_stay.specs.Losses.{InodesStay, KeepsAbove, KeepsNames, KeepsTa
 use Rattle.places_stay.specs.Moving.{MovesLeaveMost, SparesMove, names_of_move}
 use Rattle.places_stay.specs.Standing.{PlacesStand}
 use Rattle.places_stay.specs.Uses.{IsUse, Use}
+use Rattle.places_stay.proofs.BelowLemmas.{above_within}
 use Rattle.places_stay.proofs.KeptLemmas.{host_lasts}
 use Rattle.places_stay.proofs.RemoveLemmas.{some_entry, unfilled}
 use Rattle.places_stay.proofs.SourceLemmas.{point_at}
@@ -77,7 +78,7 @@ module _ (table : List Row) (s : State ℕ Image) (stand : PlacesStand table s) 
   reach h = reaches t s.user finds h
 
   -- an entry that is neither of the two
-  not_gone : (d : ℕ) (n : List ℕ) → ¬ ((d ≡ dir) × (n ≡ name)) → ¬ ((d ≡ to) × (n ≡ new)) → lost.gone d n ≡ false
+  pub not_gone : (d : ℕ) (n : List ℕ) → ¬ ((d ≡ dir) × (n ≡ name)) → ¬ ((d ≡ to) × (n ≡ new)) → lost.gone d n ≡ false
   not_gone d n one two = by (d == dir && bytes_eq n name) (d == to && bytes_eq n new) refl refl
     where
       both : (a : ℕ) (b : List ℕ) → (d == a && bytes_eq n b) ≡ true → (d ≡ a) × (n ≡ b)
@@ -95,28 +96,11 @@ module _ (table : List Row) (s : State ℕ Image) (stand : PlacesStand table s) 
   -- ---- what isn't below what moves
 
   -- below neither of the two
-  abbrev IsFar : ℕ → Type 0
+  abbrev pub IsFar : ℕ → Type 0
   IsFar d = (¬ IsBelow t own d) × ((old : ℕ) → entry t to new ≡ Some old → ¬ IsBelow t old d)
 
-  above_within : (i : ℕ) (n : List ℕ) (d x : Host) → is_directory_at t x ≡ true → object_in t finds n d ≡ Some x → IsBelow t i (inode_of d) → IsBelow t i (inode_of x)
-  above_within i n d (Node j) is_dir e below =
-      let at = entry_in t finds n d j e in
-      let up : above t j ≡ Some at.ino = entry_stands t stand.lawful.tree.sound at.ino n j at.there is_dir in
-      let high : IsBelow t i at.ino = subst (λ x. IsBelow t i (inode_of x)) at.is below in
-      elim (cases_eq j root) [
-        | inl is ↦
-            let rooted : above t j ≡ Some root = ap (above t) is ∙ ap (option_map (λ (s : Standing). s.inode)) stand.lawful.tree.sound.rooted in
-            subst (IsBelow t i) (some_is at.ino root (sym up ∙ rooted) ∙ sym is) high
-        | inr away ↦ Below away up high
-      ]
-  above_within i n d (Proc j at) is_dir e below = by d (found_in t finds n d j at e) below
-    where
-      by : (d : Host) → IsFoundIn t finds n j at d → IsBelow t i (inode_of d) → IsBelow t i j
-      by _ (at_top is found) below = below
-      by _ (below_top up found) below = below
-
   far_up : (n : List ℕ) (d x : Host) → is_directory_at t x ≡ true → object_in t finds n d ≡ Some x → IsFar (inode_of x) → IsFar (inode_of d)
-  far_up n d x is_dir e far = (λ below. far.0 (above_within own n d x is_dir e below), λ old at below. far.1 old at (above_within old n d x is_dir e below))
+  far_up n d x is_dir e far = (λ below. far.0 (above_within t stand.lawful.tree.sound s.user finds own n d x is_dir e below), λ old at below. far.1 old at (above_within t stand.lawful.tree.sound s.user finds old n d x is_dir e below))
 
   node_is : (a b : ℕ) → Node a ≡ Node b → a ≡ b
   node_is a b e = cc
@@ -153,7 +137,7 @@ module _ (table : List Row) (s : State ℕ Image) (stand : PlacesStand table s) 
           processes n d _ j at y_is (at_top is found) same = no_processes (sym (body_test is_processes t to) ∙ ap (body_is is_processes t) (sym same.0 ∙ sym (node_is j d y_is)) ∙ is)
           processes n d _ j at y_is (below_top up found) same = absurd cc
 
-  way_far : (h : Text) (x : Host) → reach h ≡ Some x → is_directory_at t x ≡ true → IsFar (inode_of x) → KeepsWay lost t h
+  pub way_far : (h : Text) (x : Host) → reach h ≡ Some x → is_directory_at t x ≡ true → IsFar (inode_of x) → KeepsWay lost t h
   way_far [] x way is_dir far = tt
   way_far (n ∷ h) x way is_dir far =
       let l = last_object t s.user finds h n x way in
@@ -210,7 +194,7 @@ module _ (table : List Row) (s : State ℕ Image) (stand : PlacesStand table s) 
       unfilled_in (Some x) empty e in_ = of x.node.body empty e in_
 
   -- a directory with an entry isn't below what is replaced, if it isn't below what moves
-  far_filled : (d : ℕ) (n : List ℕ) (j : ℕ) → entry t d n ≡ Some j → ¬ IsBelow t own d → IsFar d
+  pub far_filled : (d : ℕ) (n : List ℕ) (j : ℕ) → entry t d n ≡ Some j → ¬ IsBelow t own d → IsFar d
   far_filled d n j e away = (away, λ old at below. by old at below (cases_eq old own))
     where
       by : (old : ℕ) → entry t to new ≡ Some old → IsBelow t old d → (old ≡ own) ⊎ (old ≢ own) → ⊥
@@ -298,10 +282,10 @@ module _ (table : List Row) (s : State ℕ Image) (stand : PlacesStand table s) 
 
 -- ---- what a move leaves
 
-gone_one : (dir : ℕ) (name : List ℕ) (to : ℕ) (new n : List ℕ) → n ≡ name → (names_of_move dir name to new).gone dir n ≡ true
+pub gone_one : (dir : ℕ) (name : List ℕ) (to : ℕ) (new n : List ℕ) → n ≡ name → (names_of_move dir name to new).gone dir n ≡ true
 gone_one dir name to new n e = ap (λ b. b || (dir == to && bytes_eq n new)) (ap (λ b. b && bytes_eq n name) (eq-eqb dir dir refl) ∙ (bytes_eq-Decides n name).1 e)
 
-gone_two : (dir : ℕ) (name : List ℕ) (to : ℕ) (new n : List ℕ) → n ≡ new → (names_of_move dir name to new).gone to n ≡ true
+pub gone_two : (dir : ℕ) (name : List ℕ) (to : ℕ) (new n : List ℕ) → n ≡ new → (names_of_move dir name to new).gone to n ≡ true
 gone_two dir name to new n e = right (to == dir && bytes_eq n name) (ap (λ b. b && bytes_eq n new) (eq-eqb to to refl) ∙ (bytes_eq-Decides n new).1 e)
   where
     right : (a : Bool) {b : Bool} → b ≡ true → (a || b) ≡ true

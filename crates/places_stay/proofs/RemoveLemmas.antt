@@ -1,14 +1,13 @@
 -- All places stand after a name is taken away that is neither a source's nor leads to a directory in use.
 use Rattle.std.specs.FinMap as map
-use Rattle.std.proofs.Common.{◌≡◌, ◌≢◌, ℕ, Bool, true, false, not, List, [], ◌∷◌, length, Option, Some, None, bytes_eq, refl, sym, ap, subst, ◌∙◌, arith, map as map_list}
+use Rattle.std.proofs.Common.{◌≡◌, ◌≢◌, ℕ, Bool, true, false, List, [], ◌∷◌, Option, Some, None, bytes_eq, refl, sym, ap, subst, ◌∙◌, map as map_list}
 use Rattle.std.specs.Prelude.{◌==◌, ◌&&◌, ◌||◌}
 use Rattle.std.specs.Bool.{if◌then◌else◌}
 use Rattle.std.specs.Option.{option_map, option_map_or}
-use Rattle.std.proofs.lemmas.Bool.{eq-eqb, eqb-true, false_from_ne_true, ne_eqb}
+use Rattle.std.proofs.lemmas.Bool.{eq-eqb, eqb-true, false_from_ne_true}
 use Rattle.std.proofs.lemmas.Slice.Eq.{bytes_eq-Decides}
 use Rattle.pr_base.proofs.MapLemmas.{get-mapped}
 use Rattle.pr_base.specs.MountText.{MountText}
-use Rattle.pr_base.specs.Paths.{IsName}
 use Rattle.pr_base.specs.Texts.{Text}
 use Rattle.pt_bind.specs.Binding.{host_of, located}
 use Rattle.kr_tree.specs.Changes.{removed}
@@ -39,10 +38,11 @@ use Rattle.places_stay.specs.Following.{Follows, StoodAndStays, pids_of}
 use Rattle.places_stay.specs.Losses.{KeepsAbove, KeepsGuest, KeepsNames, KeepsTable, KeepsUse, KeepsWay, Losses, name_of}
 use Rattle.places_stay.specs.Standing.{PlacesStand, StandsAs}
 use Rattle.places_stay.specs.Taking.{RemovalsKeepPlaces, SparesDirectories, SparesSources}
-use Rattle.places_stay.specs.Uses.{IsUse, Use, cwd_use, exe_use, has_name, is_cwd, is_exe, is_open, is_source_place, open_use}
+use Rattle.places_stay.specs.Uses.{IsUse, Use, cwd_use, exe_use, has_name, is_cwd, is_exe, is_open, open_use}
 use Rattle.places_stay.proofs.FollowLemmas.{from_process, opens_fine, pids_mapped, pids_same}
 use Rattle.places_stay.proofs.KeptLemmas.{host_lasts}
-use Rattle.places_stay.proofs.SourceLemmas.{point_at, source_of_place, source_remembered}
+use Rattle.places_stay.proofs.RememberLemmas.{has_name_by, other_remembered, remembering}
+use Rattle.places_stay.proofs.SourceLemmas.{point_at, spared_is_no_source}
 use Rattle.places_stay.proofs.SpaceLemmas.{places_follow}
 use Rattle.places_stay.proofs.TreeLemmas.{removed_stays, stay_all}
 
@@ -222,67 +222,32 @@ module _ (table : List Row) (s : State ℕ Image) (stand : PlacesStand table s) 
             };
           }
       by false e = record {
-        stood = record { called = λ as_called. absurd (uncalled as_called); nameless = λ unset. unsourced (is_source_place table x.place) refl };
+        stood = record { called = λ as_called. absurd (uncalled as_called); nameless = λ unset. spared_is_no_source space stand.settled x at.0 at.1 e (λ k r there at_dir at_name. sources k r there (at_dir ∙ dirs) (at_name ∙ names)) };
         keeps = record { host = λ as_called. absurd (uncalled as_called); guest = λ as_called. absurd (uncalled as_called) };
       }
         where
           uncalled : (x.is_directory || false) ≡ true → ⊥
           uncalled as_called = let clash : false ≡ true = sym (ap (λ b. b || false) e) ∙ as_called in cc
 
-          unsourced : (b : Bool) → is_source_place table x.place ≡ b → b ≡ false
-          unsourced false is = refl
-          unsourced true is =
-              let own = source_of_place table x.place is in
-              let r = source_remembered space stand.settled x.place at.0 x.dir x.name at.1.on.stands own (at.1.entry e) in
-              absurd (sources x.place.mount own.mount own.there (r.0 ∙ dirs) (r.1 ∙ names))
-
   -- ---- the change
 
-  -- the name isn't empty, so what has it remembers it
-  remembered : (d : ℕ) (n : List ℕ) → d ≡ dir → n ≡ name → (not (length n == 0) && (d == dir && bytes_eq n name)) ≡ true
-  remembered d n at_dir at_name = filled n (λ e. part.some (sym at_name ∙ e)) (eq-eqb d dir at_dir) ((bytes_eq-Decides n name).1 at_name)
-    where
-      part : IsName name
-      part = entry_named_well t stand.lawful.tree.sound dir name can.own can.there
-
-      filled : (n : List ℕ) → n ≢ [] → (d == dir) ≡ true → bytes_eq n name ≡ true → (not (length n == 0) && (d == dir && bytes_eq n name)) ≡ true
-      filled [] some a b = absurd (some refl)
-      filled (c ∷ cs) some a b =
-          ap (λ z. not z && (d == dir && bytes_eq (c ∷ cs) name)) (ne_eqb (length (c ∷ cs)) 0 (λ e. omega (arith, e)))
-          ∙ ap (λ x. x && bytes_eq (c ∷ cs) name) a ∙ b
-
-  -- and what is remembered is the entry, and isn't empty
-  remembering : (d : ℕ) (n : List ℕ) → (not (length n == 0) && (d == dir && bytes_eq n name)) ≡ true → (not (length n == 0) ≡ true) × (d ≡ dir) × (n ≡ name)
-  remembering d n e =
-      let a = both (not (length n == 0)) (d == dir && bytes_eq n name) e in
-      let b = both (d == dir) (bytes_eq n name) a.1 in
-      (a.0, eqb-true d dir b.0, (bytes_eq-Decides n name).0 b.1)
-    where
-      both : (a b : Bool) → (a && b) ≡ true → (a ≡ true) × (b ≡ true)
-      both true b e = (refl, e)
-      both false b e = absurd cc
-
-  has_name_by : (d : Bool) (n : List ℕ) → not (length n == 0) ≡ true → (d || not (length n == 0)) ≡ true
-  has_name_by true n e = refl
-  has_name_by false n e = e
-
-  other_remembered : (d : ℕ) (n : List ℕ) → (not (length n == 0) && (d == dir && bytes_eq n name)) ≡ false → ¬ ((d ≡ dir) × (n ≡ name))
-  other_remembered d n e same = let clash : false ≡ true = sym e ∙ remembered d n same.0 same.1 in absurd cc
+  some_name : name ≢ []
+  some_name = (entry_named_well t stand.lawful.tree.sound dir name can.own can.there).some
 
   -- an open file remembers the entry no more
   opened_still : (n : ℕ) (o : Opened ℕ) (q : Place ℕ) → file_at s.files n ≡ Some o → (after_removal dir name o).place ≡ Some q → P (open_use (after_removal dir name o) q)
   opened_still n o q at = by (remembers dir name o) refl
     where
       by : (b : Bool) → remembers dir name o ≡ b → (if b then nameless o else o).place ≡ Some q → P (open_use (if b then nameless o else o) q)
-      by true e there = let r = remembering o.dir o.name e in forgotten (open_use o q) (is_open n o q at there) r.1 r.2 (has_name_by (open_use o q).is_directory o.name r.0)
-      by false e there = kept (open_use o q) (is_open n o q at there) (λ file. other_remembered o.dir o.name e)
+      by true e there = let r = remembering dir name o.dir o.name e in forgotten (open_use o q) (is_open n o q at there) r.1 r.2 (has_name_by (open_use o q).is_directory o.name r.0)
+      by false e there = kept (open_use o q) (is_open n o q at there) (λ file. other_remembered dir name some_name o.dir o.name e)
 
   exe_still : (pid : ℕ) (p : Process ℕ Image) → process pid s ≡ Some p → P (exe_use (exe_after_removal dir name p))
   exe_still pid p at = by (exe_remembers dir name p) refl
     where
       by : (b : Bool) → exe_remembers dir name p ≡ b → P (exe_use (if b then with_exe_name 0 [] p else p))
-      by true e = let r = remembering p.exe_dir p.exe_name e in forgotten (exe_use p) (is_exe pid p at) r.1 r.2 (has_name_by false p.exe_name r.0)
-      by false e = kept (exe_use p) (is_exe pid p at) (λ file. other_remembered p.exe_dir p.exe_name e)
+      by true e = let r = remembering dir name p.exe_dir p.exe_name e in forgotten (exe_use p) (is_exe pid p at) r.1 r.2 (has_name_by false p.exe_name r.0)
+      by false e = kept (exe_use p) (is_exe pid p at) (λ file. other_remembered dir name some_name p.exe_dir p.exe_name e)
 
   cwd_still : (pid : ℕ) (p : Process ℕ Image) → process pid s ≡ Some p → P (cwd_use p)
   cwd_still pid p at = kept (cwd_use p) (is_cwd pid p at) (λ unset. let clash : true ≡ false = unset in absurd cc)

@@ -1,21 +1,29 @@
 -- What is a mount's source and no directory remembers the entry at which it was settled.
 use Rattle.std.proofs.Common.{◌≡◌, ℕ, zero, suc, Bool, true, false, List, [], ◌∷◌, ◌++◌, Option, Some, None, nat_eq, refl, sym, ap, ◌∙◌}
 use Rattle.std.specs.Bool.{if◌then◌else◌}
+use Rattle.std.specs.Option.{option_and_then, option_map}
 use Rattle.std.proofs.lemmas.Bool.{eqb-true}
 use Rattle.pr_base.specs.Texts.{Text}
+use Rattle.pt_bind.specs.Binding.{located}
 use Rattle.kr_tree.specs.declared.place.Host.{Host}
 use Rattle.kr_tree.specs.declared.place.Host.TheVariants.{Node, Proc}
 use Rattle.kr_tree.specs.declared.place.Place.{Place}
 use Rattle.kr_tree.specs.Names.{named}
+use Rattle.kr_tree.specs.Tree.{body_is, is_directory, is_listed}
 use Rattle.kr_tree.proofs.NameLemmas.{some_is}
 use Rattle.kr_view.specs.Component.{Namespace}
-use Rattle.kr_view.specs.View.{Point, Row, row}
+use Rattle.kr_view.specs.View.{Point, Row, covered, down, is_there, node_in, row, source_place}
 use Rattle.kr_view.proofs.HostReachLemmas.{inode_reached, last_object}
-use Rattle.walks_agree.specs.Settled.{IsSettled, host_text}
+use Rattle.kr_view.proofs.TableLemmas.{laws_of_places}
+use Rattle.kr_mounts.specs.Standing.{texts_of}
+use Rattle.kr_mounts.proofs.StayLemmas.{is_a_directory}
+use Rattle.walks_agree.specs.Settled.{IsPointNamed, IsSettled, host_text}
 use Rattle.walks_agree.specs.Standing.{IsEntryAt, Stands, reached_in}
 use Rattle.walks_agree.proofs.StandingLemmas.{above_directory, kind_of_source, source_reached}
-use Rattle.walks_agree.proofs.TableLemmas.{owned}
-use Rattle.places_stay.specs.Uses.{is_source_object, is_source_place}
+use Rattle.walks_agree.proofs.TableLemmas.{down_is_located, located_none, located_some, owned}
+use Rattle.places_stay.specs.Standing.{StandsAs}
+use Rattle.places_stay.specs.Taking.{SparesSources}
+use Rattle.places_stay.specs.Uses.{Use, is_source_object, is_source_place}
 
 -- the row of a place that is its mount's source and no directory
 pub record IsSourceOf (table : List Row) (p : Place ℕ) : Type 0 where
@@ -66,6 +74,17 @@ module _ (space : Namespace) (set : IsSettled space) where
       let dirs : s.mount.source_dir ≡ dir = cc in
       (dirs, names)
 
+  -- so what remembers an entry that is no source's is none
+  pub spared_is_no_source : (x : Use) (guest : Text) → StandsAs space x guest → x.is_directory ≡ false → SparesSources space.table x.dir x.name → is_source_place space.table x.place ≡ false
+  spared_is_no_source x guest at file spared = by (is_source_place space.table x.place) refl
+    where
+      by : (b : Bool) → is_source_place space.table x.place ≡ b → b ≡ false
+      by false is = refl
+      by true is =
+          let own = source_of_place space.table x.place is in
+          let r = source_remembered x.place guest x.dir x.name at.on.stands own (at.entry file) in
+          absurd (spared x.place.mount own.mount own.there r.0 r.1)
+
   -- the point at which a mount stands, by its location
   pub record IsPointAt (name : List ℕ) (up : Text) (k : ℕ) (r : Row) : Type 0 where
     pub point : Point
@@ -82,3 +101,18 @@ module _ (space : Namespace) (set : IsSettled space) where
       let same : s.up ≡ up = cc in
       let called : p.0.name ≡ name = cc in
       record { point = p.0; stands = p.1; called = called; dir = ap (λ u. named space.tree (host_text space u)) (sym same) ∙ s.dir }
+
+  -- the name of a point is covered
+  pub point_covers : (k : ℕ) (r : Row) (p : Point) → row space.table k ≡ Some r → r.point ≡ Some p → covered space.table p.dir p.name ≡ true
+  point_covers k r p there at = by (set.points k r p there at) (set.mounts.points k r p there at).listed
+    where
+      enters : (s : IsPointNamed space r p) → body_is is_directory space.tree p.dir ≡ true → (o : Option ℕ) → located (texts_of space.table) (p.name ∷ s.up) ≡ o → covered space.table p.dir p.name ≡ true
+      enters s is_dir None e = absurd (located_none space.table (p.name ∷ s.up) e k r there s.location)
+      enters s is_dir (Some j) e =
+          let l = located_some space.table (p.name ∷ s.up) j e in
+          let goes : down space.table p.mount p.dir p.name ≡ Some (node_in j l.mount.source) =
+          down_is_located space set p.mount p.dir s.up s.mount s.dir is_dir p.name ∙ ap (option_and_then (source_place space.table)) e ∙ ap (option_map (λ (r : Row). node_in j r.source)) l.there in
+          (laws_of_places space.tree space.table set.mounts).down_covered p.mount p.dir p.name (ap is_there goes)
+
+      by : (s : IsPointNamed space r p) → body_is is_listed space.tree p.dir ≡ true → covered space.table p.dir p.name ≡ true
+      by s listed = enters s (is_a_directory space.tree p.dir listed) (located (texts_of space.table) (p.name ∷ s.up)) refl

@@ -34,7 +34,7 @@ pub record NodeStays (user : User) (lost : Losses) (t u : Tree) (i : ℕ) : Type
   pub search : lost.shut i ≡ false → may t user i Search ≡ true → may u user i Search ≡ true
   pub entries : (name : List ℕ) (j : ℕ) → entry t i name ≡ Some j → lost.gone i name ≡ false → entry u i name ≡ Some j
 
-node_of_inodes : (user : User) (lost : Losses) (t u : Tree) (i : ℕ) (x y : Inode) → inode t i ≡ Some x → inode u i ≡ Some y → InodeStays user lost i x y → NodeStays user lost t u i
+pub node_of_inodes : (user : User) (lost : Losses) (t u : Tree) (i : ℕ) (x y : Inode) → inode t i ≡ Some x → inode u i ≡ Some y → InodeStays user lost i x y → NodeStays user lost t u i
 node_of_inodes user lost t u i x y at_x at_y s = record {
   directory = told is_directory s.directory;
   processes = told is_processes s.processes;

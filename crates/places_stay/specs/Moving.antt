@@ -1,13 +1,19 @@
 -- A name that is moved: what calm asks of the move, and what the move leaves. What is open below a moved directory stands at another
--- guest text then.
-use Rattle.std.specs.Prelude.{◌≡◌, ◌==◌, ◌&&◌, ◌||◌, ℕ, true, false, List, Some, bytes_eq}
+-- guest text then, in the same mount.
+use Rattle.std.specs.Prelude.{◌≡◌, ◌==◌, ◌&&◌, ◌||◌, ℕ, true, false, List, Some, IsSome, bytes_eq}
+use Rattle.pr_base.specs.Texts.{Text}
 use Rattle.kr_tree.specs.Changes.{renamed}
 use Rattle.kr_tree.specs.Lawful.{IsBelow}
-use Rattle.kr_tree.specs.Tree.{entry}
+use Rattle.kr_tree.specs.Tree.{Tree, entry}
+use Rattle.kr_tree.specs.declared.place.Host.TheVariants.{Node}
+use Rattle.kr_view.specs.Component.{Namespace, may_search}
 use Rattle.kr_view.specs.View.{Point, Row, row}
-use Rattle.kr_model.specs.Conditions.{CanMove}
+use Rattle.kr_model.specs.Applied.{Mounts, applied, images}
+use Rattle.kr_model.specs.Change.{MoveName}
+use Rattle.kr_model.specs.Conditions.{CanBeMade, CanMove}
 use Rattle.kr_model.specs.ProcessDirectory.{space_of}
-use Rattle.kr_model.specs.State.{Image, State, inode_of}
+use Rattle.kr_model.specs.State.{Image, State, inode_of, process}
+use Rattle.walks_agree.specs.Standing.{reached_in}
 use Rattle.places_stay.specs.Losses.{InodesStay, KeepsTable, KeepsUse, Losses}
 use Rattle.places_stay.specs.Standing.{PlacesStand}
 use Rattle.places_stay.specs.Taking.{SparesSources}
@@ -45,3 +51,23 @@ abbrev pub MovesLeaveMost : Type 0
 MovesLeaveMost =
     (table : List Row) (s : State ℕ Image) (dir : ℕ) (name : List ℕ) (to : ℕ) (new : List ℕ) (own : ℕ) → PlacesStand table s → entry s.tree dir name ≡ Some own → CanMove table s.tree dir name to new → SparesMove table s dir name to new
     → MoveLeaves table s dir name to new own
+
+-- ---- all places
+
+-- whatever source of a table the directory of the old name lies below, that of the new one does; and whatever covered entry that of the
+-- new one lies below, that of the old one does
+pub record LieAlike (table : List Row) (t : Tree) (dir to : ℕ) : Type 0 where
+  pub sources : (k : ℕ) (r : Row) → row table k ≡ Some r → IsBelow t r.source dir → IsBelow t r.source to
+  pub points : (k : ℕ) (r : Row) (p : Point) (i : ℕ) → row table k ≡ Some r → r.point ≡ Some p → entry t p.dir p.name ≡ Some i → IsBelow t i to → IsBelow t i dir
+
+-- the user comes to a directory by its host text, and may search it
+pub record IsComeTo (space : Namespace) (dir : ℕ) : Type 0 where
+  pub host : Text
+  pub way : reached_in space host ≡ Some (Node dir)
+  pub search : may_search space.tree space.user (Node dir) ≡ true
+
+-- all places stand after a move between such directories that spares sources, mount points and directories in use
+abbrev pub MovesKeepPlaces : Type 0
+MovesKeepPlaces =
+    (table : List Row) (mounts : Mounts ℕ) (pid dir : ℕ) (name : List ℕ) (to : ℕ) (new : List ℕ) (s : State ℕ Image) → PlacesStand table s → IsSome (process pid s) → CanBeMade (λ m. m) table mounts pid s (MoveName dir name to new)
+    → SparesMove table s dir name to new → LieAlike table s.tree dir to → IsComeTo (space_of table s) to → PlacesStand table (applied images mounts pid (MoveName dir name to new) s)

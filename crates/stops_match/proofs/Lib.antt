@@ -1,1 +1,9 @@
+pub mod AnsweredLemmas
+pub mod CallLemmas
+pub mod CarryLemmas
+pub mod EmulateLemmas
+pub mod NoteLemmas
 pub mod PassLemmas
+pub mod RegisterLemmas
+pub mod SwapLemmas
+pub mod TogetherLemmas

@@ -73,16 +73,16 @@ module _ (t : Stopped) (there : IsThere t) where
       ∙ a7
 
 -- it begins no program
-begins_none : (r : Request) → IsPathless r → is_execve r ≡ false
+pub begins_none : (r : Request) → IsPathless r → is_execve r ≡ false
 begins_none (call.Execve path args env) kind = absurd kind
 begins_none _ kind = refl
 
-module _ (x : Tracing) (t : Stopped) (p : Pending) (none : x.identities ≡ None) (kind : IsPathless p.request) (answer : p.answer ≡ None) (same : p.passed ≡ arguments_at t) (there : IsThere t) where
+module _ (x : Tracing) (t : Stopped) (p : Pending) (none : x.identities ≡ None) (kind : is_execve p.request ≡ false) (answer : p.answer ≡ None) (same : p.passed ≡ arguments_at t) (there : IsThere t) where
   abbrev y : Tracing
   y = without_pending t.pid x
 
   begins : after_pending y t (Some p) ≡ give_back y p t
-  begins = ap (λ b. cond (b && is_none p.answer && has_answered_zero t) (begin_program y p t) (give_back y p t)) (begins_none p.request kind)
+  begins = ap (λ b. cond (b && is_none p.answer && has_answered_zero t) (begin_program y p t) (give_back y p t)) kind
 
   back : returned p t ≡ t
   back = ap (λ a. if_answered a (given_back p.passed t)) answer ∙ arguments_back t there p.passed same

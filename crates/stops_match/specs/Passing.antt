@@ -1,12 +1,12 @@
 -- The tracer at the stops of a call without a path, where no identity is told: it lets the process be.
 use Rattle.std.specs.FinMap as map
-use Rattle.std.specs.Prelude.{◌≡◌, None, Some, Ok}
+use Rattle.std.specs.Prelude.{◌≡◌, false, None, Some, Ok}
 use Rattle.kr_calls.specs.declared.request.Request.{Request}
 use Rattle.pt_results.specs.Notes.{noted, tags_after}
 use Rattle.pt_tracer.specs.Stopping.{IsThere, Stopped, after_request, decoded_at}
 use Rattle.pt_watched.specs.Planning.{nowhere}
 use Rattle.pt_watched.specs.Registers.{arguments_at}
-use Rattle.pt_watched.specs.Watched.{Tracing, answer_at, awaiting, entered, exited, with_pending, with_tags, without_pending}
+use Rattle.pt_watched.specs.Watched.{Tracing, answer_at, awaiting, entered, exited, is_execve, with_pending, with_tags, without_pending}
 use Rattle.pt_watched.specs.declared.pending.Pending.{Pending}
 use Rattle.turns_match.specs.Pathless.{IsPathless}
 
@@ -16,8 +16,8 @@ EntriesPass =
     (x : Tracing) (t : Stopped) (r : Request) → x.identities ≡ None → (decoded_at t).reply ≡ Ok r → IsPathless r
     → entered x t ≡ (with_pending (map.insert x.pending t.pid (awaiting (arguments_at (after_request t)) r nowhere None)) x, after_request t)
 
--- at the second one the process is left as it is, where its arguments are as they were, and tags are set as its answer says
+-- at the second one, of a call that begins no program, the process is left as it is, where its arguments are as they were, and tags are set as its answer says
 abbrev pub ExitsPass : Type 0
 ExitsPass =
-    (x : Tracing) (t : Stopped) (p : Pending) → x.identities ≡ None → map.get x.pending t.pid ≡ Some p → IsPathless p.request → p.answer ≡ None → p.passed ≡ arguments_at t → IsThere t
+    (x : Tracing) (t : Stopped) (p : Pending) → x.identities ≡ None → map.get x.pending t.pid ≡ Some p → is_execve p.request ≡ false → p.answer ≡ None → p.passed ≡ arguments_at t → IsThere t
     → exited x t ≡ (with_tags (tags_after x.tags t.pid (noted p.request p.led.index (answer_at t))) (without_pending t.pid x), t)

@@ -2,3 +2,4 @@
 #![tactic(auto)]
 
 pub mod passing;
+pub mod together;

@@ -28,7 +28,7 @@ use Rattle.turns_match.proofs.SettleLemmas.{match_settled}
 
 module _ (table : List Row) (pid : ℕ) where
   -- a call of a process that lives is what its request comes to
-  by_request : (rows : List Row) (s : State ℕ Image) (p : Process ℕ Image) (reply : Decoded) → process pid s ≡ Some p → (decoded_by p).reply ≡ reply → plain_call rows pid s ≡ after_decoding rows pid reply (decoded_in pid p s)
+  pub by_request : (rows : List Row) (s : State ℕ Image) (p : Process ℕ Image) (reply : Decoded) → process pid s ≡ Some p → (decoded_by p).reply ≡ reply → plain_call rows pid s ≡ after_decoding rows pid reply (decoded_in pid p s)
   by_request rows s p reply lives is =
       ap (λ o. option_map_or (plain_call_of rows pid s) o (record { state = s; end = end.Waits; child = None; at_root = false })) lives
       ∙ ap (λ reply. after_decoding rows pid reply (decoded_in pid p s)) is

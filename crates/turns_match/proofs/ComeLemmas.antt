@@ -9,10 +9,11 @@ use Rattle.kr_tree.specs.Tree.{nodes}
 use Rattle.kr_tree.proofs.HoldLemmas.{trees_look_alike_with_fewer_holds}
 use Rattle.kr_view.specs.View.{Row, plain}
 use Rattle.kr_model.specs.Bare.{pins_of}
-use Rattle.kr_model.specs.State.{Image, Process, process}
+use Rattle.kr_model.specs.State.{Image, Process, State, process}
+use Rattle.kr_bytes.specs.Bytes.{HasBytes}
 use Rattle.kr_calm.specs.Calm.{kept}
 use Rattle.kr_steps.specs.Waiting.{picked_process}
-use Rattle.kr_turns.specs.Run.{Ending, Spent, Slot, after_put, ended, ending_of, put_by, run_from, turned, with_put}
+use Rattle.kr_turns.specs.Run.{Ending, Spent, Slot, after_put, cleared, ended, ending_of, put_by, run_from, turned, with_put}
 use Rattle.kr_turns.specs.Stopped.{Stopped}
 use Rattle.kr_turns.specs.Breaking.{plain_rule}
 use Rattle.kr_turns.specs.PlainCall.{plain_call}
@@ -22,7 +23,7 @@ use Rattle.kr_turns.specs.Watching.{Watcher}
 use Rattle.kr_turns.specs.declared.plain.CallEnd.{CallEnd}
 use Rattle.kr_turns.specs.declared.plain.CallEnd.TheVariants as end
 use Rattle.turns_match.specs.Quiet.{MachinesMatch}
-use Rattle.turns_match.specs.Runs.{ComeAlike, GoTogether, RunsComeAlike, TurnsGoTogether}
+use Rattle.turns_match.specs.Runs.{ComeAlike, GoTogether, KeepOn, RunsComeAlike, TurnsGoTogether}
 use Rattle.turns_match.proofs.ClearLemmas.{go_cleared}
 use Rattle.turns_match.proofs.PickLemmas.{matches_go_on_alike}
 
@@ -38,7 +39,7 @@ module _ {S : Type 0} (watcher : Watcher S) (table : List Row) where
   after_exit_broken t x tally None = refl
   after_exit_broken t x tally (Some p) = refl
 
-  after_end_broken : (pid : ℕ) (e : CallEnd) (t : Stopped) (x : S) (tally : Tally) → (after_end watcher pid e t x tally).tally.broken ≡ tally.broken
+  pub after_end_broken : (pid : ℕ) (e : CallEnd) (t : Stopped) (x : S) (tally : Tally) → (after_end watcher pid e t x tally).tally.broken ≡ tally.broken
   after_end_broken pid end.Answered t x tally = after_exit_broken t x tally (process pid t.state)
   after_end_broken pid end.Replaced t x tally = after_exit_broken t x tally (process pid t.state)
   after_end_broken pid end.Waits t x tally = refl
@@ -87,21 +88,28 @@ module _ {S T : Type 0} (tags_in : T → TagTable) (table : List Row) (m : Machi
   end_alike : (e : Ending) → ComeAlike (ended m e) (ended n e)
   end_alike e = record { puts = refl; endings = refl; statuses = match.statuses; trees = same_nodes }
 
+bytes_cleared : (s : State ℕ Image) → HasBytes s → HasBytes (cleared s)
+bytes_cleared s has = record { tree = has.tree; processes = has.processes; files = has.files; input = has.input }
+
 -- ---- turn by turn
 
-module _ {S T : Type 0} (watcher : Watcher S) (tracer : Watcher T) (tags_in : T → TagTable) (table : List Row) (slots : ℕ → Slot) (turns : TurnsGoTogether watcher tracer tags_in table slots) where
+module _ {S T V : Type 0} (watcher : Watcher S) (tracer : Watcher T) (tags_in : T → TagTable) (mine : S → V) (yours : T → V) (table : List Row) (slots : ℕ → Slot) (turns : TurnsGoTogether watcher tracer tags_in mine yours table slots) where
+  -- the bytes that were put out are none of it
+  keep_cleared : (m : Machine S) (n : Machine T) → KeepOn mine yours m n → KeepOn mine yours (after_put m) (after_put n)
+  keep_cleared m n keeps = record { bytes = bytes_cleared m.state keeps.bytes; also_bytes = bytes_cleared n.state keeps.also_bytes; agree = keeps.agree }
+
   ends_at_once : (m : Machine S) (n : Machine T) → MachinesMatch tags_in table m n → ending_of m ≡ ending_of n
   ends_at_once m n match = (matches_go_on_alike table (tags_in n.watcher) m n match.states).ends
 
-  come_alike : (left made : ℕ) (m : Machine S) (n : Machine T) → made + left ≤ 2 ^ 31 → GoTogether tags_in table made m n → (run_from watcher 1 table slots left made m).machine.tally.broken ≡ None
+  come_alike : (left made : ℕ) (m : Machine S) (n : Machine T) → made + left ≤ 2 ^ 31 → GoTogether tags_in table made m n → KeepOn mine yours m n → (run_from watcher 1 table slots left made m).machine.tally.broken ≡ None
       → ComeAlike (run_from watcher 1 table slots left made m) (run_from tracer 0 plain slots left made n)
   unfolding run_from
-  come_alike zero made m n few both calm =
+  come_alike zero made m n few both keeps calm =
       subst (λ o. ComeAlike (ended m (option_map_or (λ e. e) (ending_of m) Spent)) (ended n (option_map_or (λ e. e) o Spent))) (ends_at_once m n both.matches)
       (end_alike tags_in table m n both.matches (option_map_or (λ e. e) (ending_of m) Spent))
-  come_alike (suc left) made m n few both calm =
+  come_alike (suc left) made m n few both keeps calm =
       by (ending_of m) refl (ending_of n) (ends_at_once m n both.matches)
-      (λ next. come_alike left (suc made) (after_put (turned watcher 1 table slots made m)) (after_put (turned tracer 0 plain slots made n)) (omega (arith, few)) next) calm
+      (λ next kept. come_alike left (suc made) (after_put (turned watcher 1 table slots made m)) (after_put (turned tracer 0 plain slots made n)) (omega (arith, few)) next kept) calm
     where
       one : Machine S
       one = turned watcher 1 table slots made m
@@ -111,15 +119,15 @@ module _ {S T : Type 0} (watcher : Watcher S) (tracer : Watcher T) (tags_in : T 
 
       Later : Type 0
       Later =
-          GoTogether tags_in table (suc made) (after_put one) (after_put other) → (run_from watcher 1 table slots left (suc made) (after_put one)).machine.tally.broken ≡ None
+          GoTogether tags_in table (suc made) (after_put one) (after_put other) → KeepOn mine yours (after_put one) (after_put other) → (run_from watcher 1 table slots left (suc made) (after_put one)).machine.tally.broken ≡ None
           → ComeAlike (run_from watcher 1 table slots left (suc made) (after_put one)) (run_from tracer 0 plain slots left (suc made) (after_put other))
 
       by : (o : Option Ending) → ending_of m ≡ o → (x : Option Ending) → ending_of m ≡ x → Later → (option_map_or (ended m) o (with_put (put_by one) (run_from watcher 1 table slots left (suc made) (after_put one)))).machine.tally.broken ≡ None
           → ComeAlike (option_map_or (ended m) o (with_put (put_by one) (run_from watcher 1 table slots left (suc made) (after_put one)))) (option_map_or (ended n) x (with_put (put_by other) (run_from tracer 0 plain slots left (suc made) (after_put other))))
       by None is None also later calm =
           let turn_calm = run_unbroken watcher table slots left (suc made) (after_put one) calm in
-          let after = turns made m n (omega (arith, few)) both is turn_calm in
-          let rest = later (go_cleared tags_in table (suc made) one other after) calm in
+          let after = turns.together made m n (omega (arith, few)) both keeps is turn_calm in
+          let rest = later (go_cleared tags_in table (suc made) one other after) (keep_cleared one other (turns.keeps made m n (omega (arith, few)) both keeps is turn_calm)) calm in
           record { puts = λ i. same_put tags_in table one other after.matches i ∷ rest.puts i; endings = rest.endings; statuses = rest.statuses; trees = rest.trees }
       by (Some e) is (Some x) also later calm = subst (λ y. ComeAlike (ended m e) (ended n y)) (some_same (sym is ∙ also)) (end_alike tags_in table m n both.matches e)
         where
@@ -134,5 +142,5 @@ module _ {S T : Type 0} (watcher : Watcher S) (tracer : Watcher T) (tags_in : T 
           never : {A : Type 0} {a : A} → Some a ≡ None → ⊥
           never e = cc
 
-pub runs_come_alike : (S T : Type 0) → RunsComeAlike S T
-runs_come_alike S T watcher tracer tags_in table slots together turns m n few both calm = come_alike watcher tracer tags_in table slots together turns 0 m n (omega (arith, few)) both calm
+pub runs_come_alike : (S T V : Type 0) → RunsComeAlike S T V
+runs_come_alike S T V watcher tracer tags_in mine yours table slots together turns m n few both keeps calm = come_alike watcher tracer tags_in mine yours table slots together turns 0 m n (omega (arith, few)) both keeps calm

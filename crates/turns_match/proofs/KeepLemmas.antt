@@ -1,10 +1,9 @@
 -- The changes of a call keep a match, one after the other.
 use Rattle.std.proofs.Common.{◌≡◌, ℕ, true, false, List, [], ◌∷◌, Option, Some, None, sym, ap, ◌∙◌}
-use Rattle.std.specs.Prelude.{◌&&◌, ◌||◌, IfSome, IsSome}
+use Rattle.std.specs.Prelude.{◌||◌, IfSome, IsSome}
 use Rattle.rv_mem.specs.Pages.{IsWhole}
 use Rattle.pt_bind.specs.Tags.{TagTable}
 use Rattle.kr_view.specs.View.{Row, plain}
-use Rattle.kr_calm.proofs.ChangeLemmas.{both}
 use Rattle.kr_calm.specs.Rules.{breaks_3, breaks_4, breaks_5, changes_break_3, changes_break_4, changes_break_5}
 use Rattle.kr_lawful.proofs.ChangeLemmas.{every-change-keeps}
 use Rattle.kr_model.specs.Applied.{Mounts, applied, images, layouts}
@@ -20,10 +19,9 @@ use Rattle.places_stay.specs.Matching.{IsMatch}
 use Rattle.places_stay.specs.Standing.{PlacesStand}
 use Rattle.places_stay.specs.Tagging.{tags_made}
 use Rattle.places_stay.proofs.SlotLemmas.{tags_follow}
-use Rattle.calm_places.specs.Keeping.{move_nothing, moves_nothing}
 use Rattle.calm_places.proofs.InUseLemmas.{neither}
-use Rattle.calm_places.proofs.KeepLemmas.{calm_changes_keep_places}
-use Rattle.turns_match.specs.Changing.{ChangesKeepMatches}
+use Rattle.calm_places.proofs.KeepLemmas.{calm_moves_keep_places, stay_inside}
+use Rattle.turns_match.specs.Changing.{ChangesKeepMatches, MovesKeepMatches}
 use Rattle.turns_match.proofs.AlikeLemmas.{AreSame, alike_all, images_alike, pinned_root, pinned_sources, same_inherited}
 
 -- a program that can be loaded is whole
@@ -88,16 +86,18 @@ module _ (table : List Row) (mounts others : Mounts ℕ) (same : bare_mounts mou
 
 -- ---- changes in their order
 
-pub changes_keep_matches : ChangesKeepMatches
-changes_keep_matches table mounts others pid [] s w tags same still calm new can also lawful m = m
-changes_keep_matches table mounts others pid (c ∷ cs) s w tags same still calm new can also lawful m =
-    let here = both (moves_nothing c) (move_nothing cs) still in
+pub moves_keep_matches : MovesKeepMatches
+moves_keep_matches table mounts others pid [] s w tags same inside calm new can also lawful m = m
+moves_keep_matches table mounts others pid (c ∷ cs) s w tags same inside calm new can also lawful m =
     let next = applied images mounts pid c s in
     let third = neither (breaks_3 table s.tree c) (changes_break_3 images mounts pid table cs next) calm.third in
     let fourth = neither (breaks_4 pid s c next) (changes_break_4 images mounts pid cs next) calm.fourth in
     let fifth = neither (breaks_5 table s c next) (changes_break_5 images mounts pid table cs next) calm.fifth in
-    let placed = calm_changes_keep_places table mounts pid (c ∷ []) s (ap (λ b. b && true) here.0)
-    (record { third = ap (λ b. b || false) third.0; fourth = ap (λ b. b || false) fourth.0; fifth = ap (λ b. b || false) fifth.0 }) (can.0, can.1, tt) (new.0, tt) m.placed in
+    let placed = calm_moves_keep_places table mounts pid (c ∷ []) s (inside.0, tt) (record { third = ap (λ b. b || false) third.0; fourth = ap (λ b. b || false) fourth.0; fifth = ap (λ b. b || false) fifth.0 }) (can.0, can.1, tt) (new.0, tt) m.placed in
     let other_lawful = every-change-keeps ℕ (λ m. m) plain others pid c w lawful also.0 also.1 in
-    changes_keep_matches table mounts others pid cs next (applied images others pid c w) (tags_made table mounts pid s c tags) same here.1 (record { third = third.1; fourth = fourth.1; fifth = fifth.1 }) new.1 can.2 also.2 other_lawful
+    moves_keep_matches table mounts others pid cs next (applied images others pid c w) (tags_made table mounts pid s c tags) same inside.1 (record { third = third.1; fourth = fourth.1; fifth = fifth.1 }) new.1 can.2 also.2 other_lawful
     (one_change table mounts others same pid c s w tags can.0 can.1 lawful other_lawful placed m)
+
+pub changes_keep_matches : ChangesKeepMatches
+changes_keep_matches table mounts others pid cs s w tags same still calm new can also lawful m =
+    moves_keep_matches table mounts others pid cs s w tags same (stay_inside table mounts pid cs s still) calm new can also lawful m

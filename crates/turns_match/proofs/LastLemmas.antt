@@ -45,7 +45,7 @@ module _ (table : List Row) (made : ℕ) where
   ended_lasts pid status s lives l = changed_lasts pid (End status ∷ []) s (lives, lives, tt) (record { users = (tt, tt); drawn = record { names = omega arith; files = omega arith; pids = omega arith } }) l
 
   -- instructions draw nothing
-  run_lasts : (fuel : ℕ) (s : State ℕ Image) (p : Process ℕ Image) → process p.pid s ≡ Some p → LastsHere made s → LastsHere made (computed p.pid (ran fuel p.image.regs p.image.memory).regs (ran fuel p.image.regs p.image.memory).memory s)
+  pub run_lasts : (fuel : ℕ) (s : State ℕ Image) (p : Process ℕ Image) → process p.pid s ≡ Some p → LastsHere made s → LastsHere made (computed p.pid (ran fuel p.image.regs p.image.memory).regs (ran fuel p.image.regs p.image.memory).memory s)
   run_lasts fuel s p lives l =
       let own = l.lawful.processes p.pid p lives in
       let like = ran-stays-like fuel None p.image.regs p.image.memory own.whole own.paged in

@@ -1,9 +1,11 @@
 pub mod AlikeLemmas
 pub mod CallLemmas
+pub mod CalledLemmas
 pub mod ClearLemmas
 pub mod ComeLemmas
 pub mod DeathLemmas
 pub mod EnterLemmas
+pub mod GrantLemmas
 pub mod ImageLemmas
 pub mod KeepLemmas
 pub mod LastLemmas
@@ -15,3 +17,4 @@ pub mod QuietLemmas
 pub mod RegisterLemmas
 pub mod RunLemmas
 pub mod SettleLemmas
+pub mod UnreadLemmas

@@ -30,7 +30,7 @@ use Rattle.places_stay.specs.Matching.{IsMatch}
 use Rattle.turns_match.specs.Changing.{all_tags_made}
 use Rattle.turns_match.specs.Operating.{CallsKeepMatches, IsCalmCall, IsCarriedAlike, behind, done_in, written_in}
 use Rattle.turns_match.proofs.ImageLemmas.{given}
-use Rattle.turns_match.proofs.KeepLemmas.{changes_keep_matches}
+use Rattle.turns_match.proofs.KeepLemmas.{moves_keep_matches}
 use Rattle.turns_match.proofs.MatchLemmas.{match_computed, pids_in, same_pids}
 use Rattle.turns_match.proofs.RunLemmas.{lives_too}
 use Rattle.turns_match.proofs.SettleLemmas.{match_settled}
@@ -88,7 +88,7 @@ module _ (pid : ℕ) (r : Request) (seen : Seen) (table : List Row) (mounts othe
     matches =
         subst (λ (reply : Reply). IsMatch table made (behind pid r seen mounts s) (settled pid reply.outcome (all_applied images others pid reply.changes (written_in pid r seen w)))) answered_alike.0
         (match_settled table made pid (done_in pid r seen s).reply.outcome (after_row mounts pid (done_in pid r seen s) s) (all_applied images others pid (done_in pid r seen s).reply.changes (written_in pid r seen w))
-        (changes_keep_matches table mounts others pid (done_in pid r seen s).reply.changes (written_in pid r seen s) (written_in pid r seen w) tags c.same c.still c.calm c.new c.allowed.made
+        (moves_keep_matches table mounts others pid (done_in pid r seen s).reply.changes (written_in pid r seen s) (written_in pid r seen w) tags c.same c.inside c.calm c.new c.allowed.made
         (subst (λ (reply : Reply). CanAllBeMade (λ m. m) plain others pid (written_in pid r seen w) reply.changes) (sym answered_alike.0) c.also_allowed.made) c.also_allowed.before written));
   }
     where

@@ -1,69 +1,65 @@
 -- Calls without a path, in two states that match.
-use Rattle.std.proofs.Common.{◌≡◌, ℕ, Bool, true, false, cond, List, [], ◌∷◌, Option, Some, None, Ok, refl, sym, ap, subst, ◌∙◌, eq-eqb, inl, inr}
-use Rattle.std.specs.Prelude.{◌&&◌, ◌||◌, ◌==◌, ◌⊎◌, IsSome, ℤ}
+use Rattle.std.proofs.Common.{◌≡◌, ◌≢◌, ℕ, Bool, true, false, cond, List, [], ◌∷◌, Option, Some, None, Ok, refl, sym, ap, subst, ◌∙◌, inl, inr}
+use Rattle.std.specs.Prelude.{◌&&◌, ◌||◌, ◌⊎◌, IsSome, ℤ}
 use Rattle.std.specs.List.{list_all}
-use Rattle.std.specs.Option.{option_map, option_map_or}
+use Rattle.std.specs.Option.{option_map_or}
 use Rattle.rv_mem.specs.Actions.{carried_out}
 use Rattle.rv_mem.specs.Memory.{Memory}
 use Rattle.rv_mem.specs.Pages.{HoldsBytes, IsPlaced, IsWhole}
 use Rattle.pt_bind.specs.Tags.{TagTable}
-use Rattle.pr_base.specs.declared.errno.Errno.TheVariants.{ENOENT, EPERM}
-use Rattle.kr_inode.specs.declared.user.User.{User}
-use Rattle.kr_tree.specs.declared.place.Host.{Host}
-use Rattle.kr_tree.specs.declared.place.Host.TheVariants as host
 use Rattle.kr_view.specs.View.{Row, plain}
-use Rattle.kr_calls.specs.Decoding.{decoding}
 use Rattle.kr_calls.specs.declared.request.Request.{Request}
 use Rattle.kr_calls.specs.declared.request.Request.TheVariants as call
 use Rattle.kr_model.specs.Applied.{Mounts, applied, images}
 use Rattle.kr_model.specs.Bare.{bare_mounts}
 use Rattle.kr_model.specs.Change.{Change, ChangeDirectory, MoveName, OfDescriptor, OfDirectory, OfFound, OpenFile, ReplaceExecutable}
-use Rattle.kr_model.specs.AttributeRows.{chmod_host, chown_by, chown_host, fchmod_row, fchown_row, may_give, unchanged}
+use Rattle.kr_model.specs.AttributeRows.{fchmod_row, fchown_row}
 use Rattle.kr_model.specs.DirectoryRows.{fchdir_row}
-use Rattle.kr_model.specs.Known.{Known, known, known_node}
+use Rattle.kr_model.specs.Known.{Known, known}
 use Rattle.kr_model.proofs.KnownLemmas.{known-bare}
-use Rattle.kr_model.specs.Lawful.{IsLawful}
 use Rattle.kr_model.specs.Operation.{operation}
 use Rattle.kr_model.specs.Seen.{NoPath, Seen}
-use Rattle.kr_model.specs.State.{Image, Process, State, at_pid, image_layout, process}
+use Rattle.kr_model.specs.State.{Image, Process, State, image_layout}
 use Rattle.kr_model.specs.Walks.{seen, targets_of}
-use Rattle.kr_lawful.proofs.ProcessChangeLemmas.{found}
+use Rattle.kr_model.specs.declared.outcome.Outcome.TheVariants.{Ended}
 use Rattle.kr_allowed.specs.Allowed.{LeavesLawful}
-use Rattle.kr_allowed.specs.Calls.{IsToldIn}
 use Rattle.kr_allowed.specs.Told.{mounts_walked}
-use Rattle.kr_allowed.proofs.DecodedLemmas.{decoded-are-givable}
-use Rattle.kr_allowed.proofs.OperationLemmas.{operation-is-allowed}
-use Rattle.kr_allowed.proofs.RowLemmas.{StaysLike, lawful-image, stays-like}
+use Rattle.kr_allowed.proofs.RowLemmas.{StaysLike, stays-like}
 use Rattle.kr_answers.specs.Carrying.{memory_of}
 use Rattle.kr_calm.specs.Foreseen.{gives_owner, is_foreseen}
 use Rattle.kr_calm.specs.Rules.{changes_break_3, changes_break_4, changes_break_5}
-use Rattle.kr_calm.proofs.ChangeLemmas.{both, marks_stay_read}
+use Rattle.kr_calm.specs.Laws.{leaves_mark}
+use Rattle.kr_calm.proofs.ChangeLemmas.{both}
 use Rattle.kr_calm.proofs.MildCalls.{enters_open, operation_mild}
-use Rattle.kr_calm.proofs.MildLemmas.{ComesTo, answered, are_mild, by_open, comes_to, either, is_mild, maybe, mildly, refused}
+use Rattle.kr_calm.proofs.MildLemmas.{ComesTo, are_mild, comes_to, is_mild, mildly}
+use Rattle.kr_calm.proofs.UnjudgedLemmas.{others-leave}
 use Rattle.kr_steps.specs.Calls.{IsNoExec}
 use Rattle.kr_steps.specs.Computing.{computed}
 use Rattle.kr_turns.specs.Breaking.{decoded_rule, operated_rule, plain_rule, plain_rule_of}
 use Rattle.kr_turns.specs.PlainCall.{plain_call}
 use Rattle.kr_turns.proofs.PlainLemmas.{no-exec-rule}
 use Rattle.places_stay.specs.Changes.{NewPlaceStands, NewPlacesStand}
-use Rattle.places_stay.specs.Matching.{IsMatch}
+use Rattle.places_stay.specs.Matching.{AreTagged, IsMatch}
 use Rattle.places_stay.specs.Standing.{PlacesStand}
-use Rattle.places_stay.proofs.TagLemmas.{found_is}
 use Rattle.calm_places.proofs.InUseLemmas.{neither}
 use Rattle.calm_places.specs.Keeping.{move_nothing, moves_nothing}
+use Rattle.calm_places.proofs.KeepLemmas.{stay_inside}
 use Rattle.turns_match.specs.Calls.{CameAlike, decoded_by, decoded_in, tags_behind}
 use Rattle.turns_match.specs.Operating.{IsCalmCall, done_in, written_in}
-use Rattle.turns_match.specs.Pathless.{CanBeCalled, IsPathless, PathlessCallsComeAlike}
+use Rattle.turns_match.specs.Lasting.{CanBeCalled}
+use Rattle.turns_match.specs.Pathless.{IsPathless, PathlessCallsComeAlike}
 use Rattle.turns_match.proofs.CallLemmas.{calls_come_alike}
+use Rattle.turns_match.proofs.CalledLemmas.{decoded_holds, decoded_lasts, decoded_lives, decoded_memory, decoded_process, is_allowed}
 use Rattle.turns_match.proofs.EnterLemmas.{fchdir_enters}
-use Rattle.turns_match.proofs.ImageLemmas.{bare_computed, given, places_computed}
+use Rattle.turns_match.proofs.GrantLemmas.{fchmod_comes, fchown_comes}
+use Rattle.turns_match.proofs.ImageLemmas.{bare_computed, places_computed, tags_computed}
 use Rattle.turns_match.proofs.OperateLemmas.{with_own_registers}
-use Rattle.turns_match.proofs.QuietLemmas.{memory_computed}
 use Rattle.turns_match.proofs.RunLemmas.{decoded_alike}
+use Rattle.turns_match.proofs.UnreadLemmas.{calm_unread}
 
 -- ---- what such a call is
 
-no_exec : (r : Request) → IsPathless r → IsNoExec r
+pub no_exec : (r : Request) → IsPathless r → IsNoExec r
 no_exec (call.Execve path args env) kind = absurd kind
 no_exec _ kind = tt
 
@@ -73,7 +69,7 @@ entering _ e = absurd cc
 
 -- it has no targets, and is told of none
 module _ (rows : List Row) (pid : ℕ) (s : State ℕ Image) where
-  no_targets : (r : Request) → IsPathless r → targets_of rows pid s r ≡ Ok (record { first = None; second = None })
+  pub no_targets : (r : Request) → IsPathless r → targets_of rows pid s r ≡ Ok (record { first = None; second = None })
   no_targets (call.Openat dirfd path flags mode) kind = absurd kind
   no_targets (call.Mkdirat dirfd path mode) kind = absurd kind
   no_targets (call.Unlinkat dirfd path flags) kind = absurd kind
@@ -90,7 +86,7 @@ module _ (rows : List Row) (pid : ℕ) (s : State ℕ Image) where
   no_targets (call.Execve path args env) kind = absurd kind
   no_targets _ kind = refl
 
-  told_none : (r : Request) → IsPathless r → seen rows pid s r ≡ NoPath
+  pub told_none : (r : Request) → IsPathless r → seen rows pid s r ≡ NoPath
   told_none (call.Openat dirfd path flags mode) kind = absurd kind
   told_none (call.Mkdirat dirfd path mode) kind = absurd kind
   told_none (call.Unlinkat dirfd path flags) kind = absurd kind
@@ -139,30 +135,11 @@ still_all : (cs : List Change) → bring_nothing cs ≡ true → move_nothing cs
 still_all [] brings = refl
 still_all (c ∷ cs) brings = let parts = both (brings_nothing c) (bring_nothing cs) brings in ap (λ b. b && move_nothing cs) (still_one c parts.0) ∙ still_all cs parts.1
 
--- modes and owners behind descriptors
 module _ (k : Known) where
-  chmod_brings : (mode : ℕ) (at : Host) → ComesTo brings_nothing (chmod_host k mode at)
-  chmod_brings mode (host.Node i) = maybe (known_node k i) (λ n. either _ (refused EPERM) (answered refl)) (refused ENOENT)
-  chmod_brings mode (host.Proc i at) = refused EPERM
-
-  given_brings : (user owner : User) (uid gid : ℕ) (changes : List Change) → bring_nothing changes ≡ true → ComesTo brings_nothing (chown_by user owner uid gid changes)
-  given_brings user owner uid gid changes brings =
-      either (uid == unchanged && gid == unchanged) (answered {n = 0} {changes = []} refl) (either (may_give user owner uid gid) (answered {n = 0} {changes = changes} brings) (refused EPERM))
-
-  chown_brings : (uid gid : ℕ) (at : Host) → ComesTo brings_nothing (chown_host k uid gid at)
-  chown_brings uid gid (host.Node i) = maybe (known_node k i) (λ n. given_brings _ _ uid gid _ refl) (refused ENOENT)
-  chown_brings uid gid (host.Proc i at) = given_brings _ _ uid gid [] refl
-
-  fchmod_brings : (fd : ℤ) (mode : ℕ) → ComesTo brings_nothing (fchmod_row k fd mode)
-  fchmod_brings fd mode = by_open k fd (λ n o. maybe o.place (λ p. chmod_brings mode p.host) (refused EPERM))
-
-  fchown_brings : (fd : ℤ) (uid gid : ℕ) → ComesTo brings_nothing (fchown_row k fd uid gid)
-  fchown_brings fd uid gid = by_open k fd (λ n o. maybe o.place (λ p. chown_brings uid gid p.host) (given_brings _ _ uid gid [] refl))
-
   -- every other such call is mild
   by_kind : (pid : ℕ) (r : Request) (told : Seen) → IsPathless r → ComesTo brings_nothing (operation pid r told k) ⊎ ((is_foreseen r ≡ false) × (gives_owner r ≡ false))
-  by_kind pid (call.Fchmod fd mode) told kind = inl (fchmod_brings fd mode)
-  by_kind pid (call.Fchown fd uid gid) told kind = inl (fchown_brings fd uid gid)
+  by_kind pid (call.Fchmod fd mode) told kind = inl (fchmod_comes k (λ i mode. refl) fd mode)
+  by_kind pid (call.Fchown fd uid gid) told kind = inl (fchown_comes k (λ i uid gid. refl) fd uid gid)
   by_kind pid (call.Unlinkat dirfd path flags) told kind = absurd kind
   by_kind pid (call.Renameat2 olddir old newdir new) told kind = absurd kind
   by_kind pid (call.Fchmodat dirfd path mode) told kind = absurd kind
@@ -175,6 +152,16 @@ module _ (k : Known) where
       by : ComesTo brings_nothing (operation pid r told k) ⊎ ((is_foreseen r ≡ false) × (gives_owner r ≡ false)) → bring_nothing (carried_out (operation pid r told k) memory).reply.changes ≡ true
       by (inl comes) = comes_to (operation pid r told k) comes memory
       by (inr none) = mild_all (carried_out (operation pid r told k) memory).reply.changes (mildly (operation pid r told k) (operation_mild pid r told k none.0 none.1 enters) memory)
+
+  -- none gives its caller another program
+  pub pathless_leave : (pid : ℕ) (r : Request) (told : Seen) (memory : Memory) → IsPathless r → (carried_out (operation pid r told k) memory).reply.outcome ≢ Ended → list_all leaves_mark (carried_out (operation pid r told k) memory).reply.changes ≡ true
+  pathless_leave pid (call.Fchmod fd mode) told memory kind goes = comes_to (fchmod_row k fd mode) (fchmod_comes k (λ i mode. refl) fd mode) memory
+  pathless_leave pid (call.Fchown fd uid gid) told memory kind goes = comes_to (fchown_row k fd uid gid) (fchown_comes k (λ i uid gid. refl) fd uid gid) memory
+  pathless_leave pid (call.Unlinkat dirfd path flags) told memory kind goes = absurd kind
+  pathless_leave pid (call.Renameat2 olddir old newdir new) told memory kind goes = absurd kind
+  pathless_leave pid (call.Fchmodat dirfd path mode) told memory kind goes = absurd kind
+  pathless_leave pid (call.Fchownat dirfd path uid gid flags) told memory kind goes = absurd kind
+  pathless_leave pid r told memory kind goes = others-leave pid r told k memory refl refl goes
 
 -- where no mount is found, none of their new places is in one
 module _ (table : List Row) (pid : ℕ) (mounts : Mounts ℕ) (nothing_found : mounts.found ≡ None) (no_directory : mounts.directory ≡ None) where
@@ -202,7 +189,7 @@ module _ (table : List Row) (pid : ℕ) (mounts : Mounts ℕ) (nothing_found : m
 
 -- ---- the calm rules, of which none is broken
 
-none_of_all : (first second third fourth fifth sixth : Bool)
+pub none_of_all : (first second third fourth fifth sixth : Bool)
     → cond {A = Option ℕ} first (Some 1) (cond second (Some 2) (cond third (Some 3) (cond fourth (Some 4) (cond fifth (Some 5) (cond sixth (Some 6) None))))) ≡ None → (first ≡ false) × (third ≡ false) × (fourth ≡ false) × (fifth ≡ false)
 none_of_all false false false false false false e = (refl, refl, refl, refl)
 none_of_all false false false false false true e = absurd cc
@@ -212,38 +199,9 @@ none_of_all false false true fourth fifth sixth e = absurd cc
 none_of_all false false false true fifth sixth e = absurd cc
 none_of_all false false false false true sixth e = absurd cc
 
--- ---- such a call can be carried out
-
-module _ (rows : List Row) (pid : ℕ) (s : State ℕ Image) (p : Process ℕ Image) (can : CanBeCalled rows pid s p) where
-  abbrev decoded_process : Process ℕ Image
-  decoded_process = given pid p.image.regs (decoded_by p).memory p
-
-  decoded_lives : process pid (decoded_in pid p s) ≡ Some decoded_process
-  decoded_lives =
-      found pid (given pid p.image.regs (decoded_by p).memory) (λ p. refl) pid s.living
-      ∙ ap (option_map (at_pid pid (given pid p.image.regs (decoded_by p).memory))) can.lives
-      ∙ ap (λ b. Some (cond b decoded_process p)) (eq-eqb p.pid pid (found_is pid s.living p can.lives))
-
-  decoded_memory : memory_of pid (decoded_in pid p s) ≡ (decoded_by p).memory
-  decoded_memory = memory_computed pid p.image.regs (decoded_by p).memory s p can.lives
-
-  decoded_lawful : IsLawful (λ m. m) rows (decoded_in pid p s)
-  decoded_lawful =
-      let own = can.lawful.processes pid p can.lives in
-      lawful-image (λ m. m) rows s can.lawful pid p can.lives (decoded_by p).memory (stays-like (decoding p.image.regs) p.image.memory own.whole own.paged) (λ _. p.image.regs)
-
-  module _ (r : Request) (is : (decoded_by p).reply ≡ Ok r) (told : Seen) (none : told ≡ NoPath) (mounts : Mounts ℕ) where
-    told_in : IsToldIn (λ m. m) rows mounts s.tree told
-    told_in = subst (IsToldIn (λ m. m) rows mounts s.tree) (sym none) tt
-
-    is_allowed : LeavesLawful (λ m. m) rows mounts pid (decoded_in pid p s) (done_in pid r told (decoded_in pid p s))
-    is_allowed =
-        subst (λ (memory : Memory). LeavesLawful (λ m. m) rows mounts pid (decoded_in pid p s) (carried_out (operation pid r told (known image_layout pid (decoded_in pid p s))) memory)) (sym decoded_memory)
-        (operation-is-allowed ℕ (λ m. m) rows mounts pid r told (decoded-are-givable p.image.regs p.image.memory r can.holds is).0 (decoded_in pid p s) decoded_process decoded_lawful decoded_lives can.still_holds (can.small, told_in))
-
 -- ---- in both
 
-module _ (table : List Row) (pid : ℕ) (no_shelf : Bool) (s w : State ℕ Image) (p q : Process ℕ Image) (tags : TagTable) (r : Request) (m : IsMatch table tags s w) (can : CanBeCalled table pid s p) (also : CanBeCalled plain pid w q)
+module _ (table : List Row) (made pid : ℕ) (no_shelf : Bool) (s w : State ℕ Image) (p q : Process ℕ Image) (tags : TagTable) (r : Request) (m : IsMatch table tags s w) (can : CanBeCalled table made pid s p) (also : CanBeCalled plain made pid w q)
     (is : (decoded_by p).reply ≡ Ok r) (kind : IsPathless r) (calm : plain_rule 1 table pid no_shelf s ≡ None) where
   abbrev at : State ℕ Image
   at = decoded_in pid p s
@@ -274,43 +232,42 @@ module _ (table : List Row) (pid : ℕ) (no_shelf : Bool) (s w : State ℕ Image
   row_unread = (neither (done_in pid r told at).memory.read_marked no_shelf rules.0).0
 
   decoded_unread : (decoded_by p).memory.read_marked ≡ false
-  decoded_unread = by (decoded_by p).memory.read_marked refl
-    where
-      by : (b : Bool) → (decoded_by p).memory.read_marked ≡ b → b ≡ false
-      by false is = refl
-      by true is =
-          let later = marks_stay_read (operation pid r told (known image_layout pid at)) (memory_of pid at) (ap (λ (x : Memory). x.read_marked) (decoded_memory table pid s p can) ∙ is) in
-          absurd (differ (sym later ∙ row_unread))
-        where
-          differ : true ≡ false → ⊥
-          differ e = cc
+  decoded_unread = calm_unread table pid no_shelf s p can.lives calm
 
   abbrev written : State ℕ Image
   written = written_in pid r told at
 
   row_stays : StaysLike (decoded_by p).memory.pages (done_in pid r told at).memory.pages
   row_stays =
-      let x = (decoded_lawful table pid s p can).processes pid (decoded_process table pid s p can) (decoded_lives table pid s p can) in
-      subst (λ (memory : Memory). StaysLike memory.pages (done_in pid r told at).memory.pages) (decoded_memory table pid s p can)
-      (stays-like (operation pid r told (known image_layout pid at)) (memory_of pid at) (subst (λ (y : Memory). IsWhole y.pages) (sym (decoded_memory table pid s p can)) x.whole) (subst (λ (y : Memory). IsPlaced y.pages) (sym (decoded_memory table pid s p can)) x.paged))
+      let x = (decoded_lasts table made pid s p can).lawful.processes pid (decoded_process table made pid s p can) (decoded_lives table made pid s p can) in
+      subst (λ (memory : Memory). StaysLike memory.pages (done_in pid r told at).memory.pages) (decoded_memory table made pid s p can)
+      (stays-like (operation pid r told (known image_layout pid at)) (memory_of pid at) (subst (λ (y : Memory). IsWhole y.pages) (sym (decoded_memory table made pid s p can)) x.whole) (subst (λ (y : Memory). IsPlaced y.pages) (sym (decoded_memory table made pid s p can)) x.paged))
 
   -- and what is known there is the same
-  known_written : known image_layout pid written ≡ known image_layout pid at
+  pub known_written : known image_layout pid written ≡ known image_layout pid at
   known_written =
       let none : ℕ → ℕ = λ i. 0 in
-      let own = decoded_lawful table pid s p can in
-      ap (known image_layout pid) (with_own_registers pid (done_in pid r told at).memory at.next_pid at (decoded_process table pid s p can) own.pids.living (decoded_lives table pid s p can))
+      let own = (decoded_lasts table made pid s p can).lawful in
+      ap (known image_layout pid) (with_own_registers pid (done_in pid r told at).memory at.next_pid at (decoded_process table made pid s p can) own.pids.living (decoded_lives table made pid s p can))
       ∙ known-bare ℕ none pid (computed pid p.image.regs (done_in pid r told at).memory at)
-      ∙ ap (known (λ m. m) pid) (bare_computed pid p.image.regs (done_in pid r told at).memory none at.next_pid at (decoded_process table pid s p can) own.pids.living (decoded_lives table pid s p can) row_stays.layout)
+      ∙ ap (known (λ m. m) pid) (bare_computed pid p.image.regs (done_in pid r told at).memory none at.next_pid at (decoded_process table made pid s p can) own.pids.living (decoded_lives table made pid s p can) row_stays.layout)
       ∙ sym (known-bare ℕ none pid at)
 
   -- all places stand where the row has read and written
   written_stands : PlacesStand table written
   written_stands =
       let d = decoded_alike table tags pid s w p q m can.lives also.lives decoded_unread in
-      let own = decoded_lawful table pid s p can in
-      subst (PlacesStand table) (sym (with_own_registers pid (done_in pid r told at).memory at.next_pid at (decoded_process table pid s p can) own.pids.living (decoded_lives table pid s p can)))
-      (places_computed pid p.image.regs (done_in pid r told at).memory table at (decoded_process table pid s p can) (decoded_lives table pid s p can) d.matches.placed row_stays)
+      let own = (decoded_lasts table made pid s p can).lawful in
+      subst (PlacesStand table) (sym (with_own_registers pid (done_in pid r told at).memory at.next_pid at (decoded_process table made pid s p can) own.pids.living (decoded_lives table made pid s p can)))
+      (places_computed pid p.image.regs (done_in pid r told at).memory table at (decoded_process table made pid s p can) (decoded_lives table made pid s p can) d.matches.placed row_stays)
+
+  -- and each slot's tag is the index of its mount
+  pub written_tagged : AreTagged table written tags
+  written_tagged =
+      let d = decoded_alike table tags pid s w p q m can.lives also.lives decoded_unread in
+      let own = (decoded_lasts table made pid s p can).lawful in
+      subst (λ t. AreTagged table t tags) (sym (with_own_registers pid (done_in pid r told at).memory at.next_pid at (decoded_process table made pid s p can) own.pids.living (decoded_lives table made pid s p can)))
+      (tags_computed pid p.image.regs (done_in pid r told at).memory table at (decoded_process table made pid s p can) (decoded_lives table made pid s p can) tags d.matches.tagged)
 
   -- nothing is brought into use but what stands
   brings : (move_nothing changes ≡ true) × NewPlacesStand table mounts pid written changes
@@ -324,18 +281,20 @@ module _ (table : List Row) (pid : ℕ) (no_shelf : Bool) (s w : State ℕ Image
           let fd = entering r enters in
           subst (λ (cs : List Change). (move_nothing cs ≡ true) × NewPlacesStand table mounts pid written cs)
           (ap (λ k. (carried_out (fchdir_row k fd.0) (memory_of pid at)).reply.changes) known_written ∙ sym (ap (λ r. (carried_out (operation pid r told (known image_layout pid at)) (memory_of pid at)).reply.changes) fd.1))
-          (fchdir_enters table mounts pid written written_stands fd.0 (memory_of pid at) (subst (λ (x : Memory). HoldsBytes x.pages) (sym (decoded_memory table pid s p can)) can.still_holds))
+          (fchdir_enters table mounts pid written written_stands fd.0 (memory_of pid at) (subst (λ (x : Memory). HoldsBytes x.pages) (sym (decoded_memory table made pid s p can)) (decoded_holds table made pid s p can)))
 
   is_calm : IsCalmCall pid r told table mounts (mounts_walked (targets_of plain pid other_at r)) at other_at
   is_calm = record {
-    lives = subst IsSome (sym (decoded_lives table pid s p can)) refl;
+    lives = subst IsSome (sym (decoded_lives table made pid s p can)) refl;
     same = ap (λ t. bare_mounts (mounts_walked t)) (no_targets table pid at r kind ∙ sym (no_targets plain pid other_at r kind));
     unread = row_unread;
-    still = brings.0;
+    inside = stay_inside table mounts pid changes written brings.0;
     calm = record { third = rules.1; fourth = rules.2; fifth = rules.3 };
     new = brings.1;
-    allowed = is_allowed table pid s p can r is told (told_none table pid at r kind) mounts;
-    also_allowed = is_allowed plain pid w q also r (sym requests ∙ is) told (told_none table pid at r kind) (mounts_walked (targets_of plain pid other_at r));
+    allowed = is_allowed table made pid s p can r is;
+    also_allowed =
+        subst (λ (x : Seen). LeavesLawful (λ m. m) plain (mounts_walked (targets_of plain pid other_at r)) pid other_at (done_in pid r x other_at)) (told_none plain pid other_at r kind ∙ sym (told_none table pid at r kind))
+        (is_allowed plain made pid w q also r (sym requests ∙ is));
   }
     where
       requests : (decoded_by p).reply ≡ (decoded_by q).reply
@@ -347,4 +306,4 @@ module _ (table : List Row) (pid : ℕ) (no_shelf : Bool) (s w : State ℕ Image
       (record { told = told_none table pid at r kind ∙ sym (told_none plain pid other_at r kind); calm = is_calm })
 
 pub pathless_calls_come_alike : PathlessCallsComeAlike
-pathless_calls_come_alike table pid no_shelf s w p q tags r m can also is kind calm = came_alike table pid no_shelf s w p q tags r m can also is kind calm
+pathless_calls_come_alike table made pid no_shelf s w p q tags r m can also is kind calm = came_alike table made pid no_shelf s w p q tags r m can also is kind calm

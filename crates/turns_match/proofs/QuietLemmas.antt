@@ -38,14 +38,14 @@ some_same e = cc
 
 -- ---- the calm rules
 
-kept_none : (before now : Option ℕ) → kept before now ≡ None → now ≡ None
+pub kept_none : (before now : Option ℕ) → kept before now ≡ None → now ≡ None
 kept_none None now e = e
 kept_none (Some rule) now e = absurd (never e)
   where
     never : {A : Type 0} {a : A} → Some a ≡ None → ⊥
     never e = cc
 
-first_unbroken : (first : Bool) (other : Option ℕ) → cond first (Some 1) other ≡ None → first ≡ false
+pub first_unbroken : (first : Bool) (other : Option ℕ) → cond first (Some 1) other ≡ None → first ≡ false
 first_unbroken false other e = refl
 first_unbroken true other e = absurd (never e)
   where

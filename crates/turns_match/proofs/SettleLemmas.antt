@@ -41,7 +41,7 @@ module _ (pid : ℕ) (regs : Regs → Regs) (waits : Bool) where
   bare_gone : (pins : ℕ → ℕ) (s : State ℕ Image) → bare image_layout pins (gone_on s) ≡ with_living (with_process pid stood) (bare image_layout pins s)
   bare_gone pins s = ap (λ living. record (bare image_layout pins s) { living = living }) (bare_each s.living)
 
-  lawful_gone : (table : List Row) (s : State ℕ Image) → IsLawful (λ m. m) table s → IsLawful (λ m. m) table (gone_on s)
+  pub lawful_gone : (table : List Row) (s : State ℕ Image) → IsLawful (λ m. m) table s → IsLawful (λ m. m) table (gone_on s)
   lawful_gone table s l =
       process-keeps (λ m. m) table s l pid (going regs waits) (record { pids = λ p. refl; cwds = λ p. refl; exes = λ p. refl; counts = λ p n. refl })
       (λ p e. let own = l.processes pid p e in record { cwd = own.cwd; exe = own.exe; exe_name = own.exe_name; breaks = own.breaks; whole = own.whole; paged = own.paged; pages = own.pages })

@@ -14,15 +14,22 @@ use Rattle.kr_turns.specs.Turn.{killed}
 use Rattle.places_stay.specs.Changes.{NewPlacesStand}
 use Rattle.places_stay.specs.Matching.{IsMatch}
 use Rattle.places_stay.specs.Tagging.{tags_made}
-use Rattle.calm_places.specs.Keeping.{move_nothing}
+use Rattle.calm_places.specs.Keeping.{MovesStayInside, move_nothing}
 
 -- the tags after each change of a call in its turn
 abbrev pub all_tags_made : List Row → Mounts ℕ → ℕ → State ℕ Image → List Change → TagTable → TagTable
 all_tags_made table mounts pid s [] tags = tags
 all_tags_made table mounts pid s (c ∷ cs) tags = all_tags_made table mounts pid (applied images mounts pid c s) cs (tags_made table mounts pid s c tags)
 
--- where changes break none of the calm rules on changes, move no name, and can all be made in both states, and each new place stands
--- before it comes into use, the same changes keep the match; the mounts that they name are each machine's own
+-- where changes break none of the calm rules on changes, and can all be made in both states, each new place stands before it comes into
+-- use, and each name that moves stays inside, the same changes keep the match; the mounts that they name are each machine's own
+abbrev pub MovesKeepMatches : Type 0
+MovesKeepMatches =
+    (table : List Row) (mounts others : Mounts ℕ) (pid : ℕ) (cs : List Change) (s w : State ℕ Image) (tags : TagTable) → bare_mounts mounts ≡ bare_mounts others
+    → MovesStayInside table mounts pid s cs → BreakNone images mounts pid table cs s → NewPlacesStand table mounts pid s cs → CanAllBeMade (λ m. m) table mounts pid s cs → CanAllBeMade (λ m. m) plain others pid w cs
+    → IsLawful (λ m. m) plain w → IsMatch table tags s w → IsMatch table (all_tags_made table mounts pid s cs tags) (all_applied images mounts pid cs s) (all_applied images others pid cs w)
+
+-- so do those that move no name
 abbrev pub ChangesKeepMatches : Type 0
 ChangesKeepMatches =
     (table : List Row) (mounts others : Mounts ℕ) (pid : ℕ) (cs : List Change) (s w : State ℕ Image) (tags : TagTable) → bare_mounts mounts ≡ bare_mounts others

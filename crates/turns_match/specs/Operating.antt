@@ -1,5 +1,5 @@
 -- A call that is carried out in two states that match: on equal requests, and on what is told alike of its paths.
-use Rattle.std.specs.Prelude.{◌≡◌, ℕ, true, false, IsSome, List}
+use Rattle.std.specs.Prelude.{◌≡◌, ℕ, false, IsSome, List}
 use Rattle.rv_mem.specs.Actions.{CarriedOut}
 use Rattle.pt_bind.specs.Tags.{TagTable}
 use Rattle.kr_answers.specs.Carrying.{after_row, carried, with_memory_of}
@@ -17,7 +17,7 @@ use Rattle.kr_steps.specs.Settling.{settled}
 use Rattle.kr_view.specs.View.{Row, plain}
 use Rattle.places_stay.specs.Changes.{NewPlacesStand}
 use Rattle.places_stay.specs.Matching.{IsMatch}
-use Rattle.calm_places.specs.Keeping.{move_nothing}
+use Rattle.calm_places.specs.Keeping.{MovesStayInside}
 use Rattle.turns_match.specs.Changing.{all_tags_made}
 
 module _ (pid : ℕ) (r : Request) (seen : Seen) where
@@ -34,13 +34,13 @@ module _ (pid : ℕ) (r : Request) (seen : Seen) where
   behind mounts s = settled pid (done_in s).reply.outcome (after_row mounts pid (done_in s) s)
 
   module _ (table : List Row) (mounts others : Mounts ℕ) (s w : State ℕ Image) where
-    -- what is so of a call that is allowed on both kernels, breaks no calm rule and moves no name. `others` are the mounts that it names
-    -- on the plain kernel
+    -- what is so of a call that is allowed on both kernels, breaks no calm rule and moves names inside alone. `others` are the mounts that
+    -- it names on the plain kernel
     pub record IsCalmCall : Type 0 where
       pub lives : IsSome (process pid s)
       pub same : bare_mounts mounts ≡ bare_mounts others
       pub unread : (done_in s).memory.read_marked ≡ false
-      pub still : move_nothing (done_in s).reply.changes ≡ true
+      pub inside : MovesStayInside table mounts pid (written_in s) (done_in s).reply.changes
       pub calm : BreakNone images mounts pid table (done_in s).reply.changes (written_in s)
       pub new : NewPlacesStand table mounts pid (written_in s) (done_in s).reply.changes
       pub allowed : LeavesLawful (λ m. m) table mounts pid s (done_in s)

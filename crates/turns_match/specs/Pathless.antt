@@ -1,17 +1,15 @@
 -- Calls without a path, which on both kernels go by descriptors, memory and processes alone.
-use Rattle.std.specs.Prelude.{◌≡◌, ℕ, Bool, List, None, Some, Ok}
+use Rattle.std.specs.Prelude.{◌≡◌, ℕ, Bool, List, None, Ok}
 use Rattle.pt_bind.specs.Tags.{TagTable}
 use Rattle.kr_view.specs.View.{Row, plain}
 use Rattle.kr_calls.specs.declared.request.Request.{Request}
 use Rattle.kr_calls.specs.declared.request.Request.TheVariants as call
-use Rattle.kr_model.specs.Lawful.{IsLawful}
-use Rattle.kr_model.specs.State.{Image, Process, State, process}
-use Rattle.kr_allowed.specs.Allowed.{HoldsBytes}
-use Rattle.kr_allowed.specs.Resting.{HasSmallNumbers}
+use Rattle.kr_model.specs.State.{Image, Process, State}
 use Rattle.kr_turns.specs.Breaking.{plain_rule}
 use Rattle.kr_turns.specs.PlainCall.{plain_call}
 use Rattle.places_stay.specs.Matching.{IsMatch}
 use Rattle.turns_match.specs.Calls.{CameAlike, decoded_by, tags_behind}
+use Rattle.turns_match.specs.Lasting.{CanBeCalled}
 
 -- calls that are told of no path
 abbrev pub IsPathless : Request → Type 0
@@ -32,17 +30,8 @@ IsPathless (call.Getcwd buf size) = ⊥
 IsPathless (call.Execve path args env) = ⊥
 IsPathless _ = Unit {0}
 
--- what carrying out a call rests on: the state is lawful, with numbers of their sizes, and the caller's memory holds bytes, also once its
--- call is decoded
-pub record CanBeCalled (table : List Row) (pid : ℕ) (s : State ℕ Image) (p : Process ℕ Image) : Type 0 where
-  pub lives : process pid s ≡ Some p
-  pub lawful : IsLawful (λ m. m) table s
-  pub holds : HoldsBytes p.image.memory.pages
-  pub still_holds : HoldsBytes (decoded_by p).memory.pages
-  pub small : HasSmallNumbers s.tree s.next_pid
-
 -- a calm one comes to the same on both kernels, and keeps a match
 abbrev pub PathlessCallsComeAlike : Type 0
 PathlessCallsComeAlike =
-    (table : List Row) (pid : ℕ) (no_shelf : Bool) (s w : State ℕ Image) (p q : Process ℕ Image) (tags : TagTable) (r : Request) → IsMatch table tags s w → CanBeCalled table pid s p → CanBeCalled plain pid w q
+    (table : List Row) (made pid : ℕ) (no_shelf : Bool) (s w : State ℕ Image) (p q : Process ℕ Image) (tags : TagTable) (r : Request) → IsMatch table tags s w → CanBeCalled table made pid s p → CanBeCalled plain made pid w q
     → (decoded_by p).reply ≡ Ok r → IsPathless r → plain_rule 1 table pid no_shelf s ≡ None → CameAlike table (tags_behind table pid s w p q tags r) (plain_call table pid s) (plain_call plain pid w)

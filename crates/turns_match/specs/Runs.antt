@@ -3,6 +3,7 @@ use Rattle.std.specs.Prelude.{◌≡◌, ◌<◌, ◌≤◌, ◌^◌, ℕ, suc, 
 use Rattle.pt_bind.specs.Tags.{TagTable}
 use Rattle.kr_tree.specs.Tree.{nodes}
 use Rattle.kr_view.specs.View.{Row, plain}
+use Rattle.kr_bytes.specs.Bytes.{HasBytes}
 use Rattle.kr_steps.specs.Calls.{LastsLawful}
 use Rattle.kr_steps.specs.Waiting.{picked_process}
 use Rattle.kr_turns.specs.Run.{Ran, Slot, ending_of, run, turned}
@@ -23,12 +24,19 @@ pub record ComeAlike {S T : Type 0} (one : Ran S) (other : Ran T) : Type 0 where
   pub statuses : one.machine.tally.status ≡ other.machine.tally.status
   pub trees : nodes one.machine.state.tree ≡ nodes other.machine.state.tree
 
-module _ {S T : Type 0} (watcher : Watcher S) (tracer : Watcher T) (tags_in : T → TagTable) (table : List Row) (slots : ℕ → Slot) where
+-- and what else they keep from turn to turn: bytes and registers by their sizes, and what both watchers go by
+pub record KeepOn {S T V : Type 0} (mine : S → V) (yours : T → V) (m : Machine S) (n : Machine T) : Type 0 where
+  pub bytes : HasBytes m.state
+  pub also_bytes : HasBytes n.state
+  pub agree : mine m.watcher ≡ yours n.watcher
+
+module _ {S T V : Type 0} (watcher : Watcher S) (tracer : Watcher T) (tags_in : T → TagTable) (mine : S → V) (yours : T → V) (table : List Row) (slots : ℕ → Slot) where
   -- each turn that is made and breaks no calm rule
-  abbrev pub TurnsGoTogether : Type 0
-  TurnsGoTogether =
-      (made : ℕ) (m : Machine S) (n : Machine T) → made < 2 ^ 31 → GoTogether tags_in table made m n → ending_of m ≡ None → (turned watcher 1 table slots made m).tally.broken ≡ None
-      → GoTogether tags_in table (suc made) (turned watcher 1 table slots made m) (turned tracer 0 plain slots made n)
+  pub record TurnsGoTogether : Type 0 where
+    pub together : (made : ℕ) (m : Machine S) (n : Machine T) → made < 2 ^ 31 → GoTogether tags_in table made m n → KeepOn mine yours m n → ending_of m ≡ None → (turned watcher 1 table slots made m).tally.broken ≡ None
+        → GoTogether tags_in table (suc made) (turned watcher 1 table slots made m) (turned tracer 0 plain slots made n)
+    pub keeps : (made : ℕ) (m : Machine S) (n : Machine T) → made < 2 ^ 31 → GoTogether tags_in table made m n → KeepOn mine yours m n → ending_of m ≡ None → (turned watcher 1 table slots made m).tally.broken ≡ None
+        → KeepOn mine yours (turned watcher 1 table slots made m) (turned tracer 0 plain slots made n)
 
 -- a turn in which no call is made does, where it breaks no calm rule
 abbrev pub QuietTurnsGoTogether : (S T : Type 0) → Type 0
@@ -37,8 +45,8 @@ QuietTurnsGoTogether S T =
     → (turn watcher 1 table pick fuel m).tally.broken ≡ None → GoTogether tags_in table made m n → GoTogether tags_in table (suc made) (turn watcher 1 table pick fuel m) (turn tracer 0 plain pick fuel n)
 
 -- where all do, a calm run and that of the plain machine come to the same
-abbrev pub RunsComeAlike : (S T : Type 0) → Type 0
-RunsComeAlike S T =
-    (watcher : Watcher S) (tracer : Watcher T) (tags_in : T → TagTable) (table : List Row) (slots : ℕ → Slot) → TurnsGoTogether watcher tracer tags_in table slots
-    → (turns : ℕ) (m : Machine S) (n : Machine T) → turns ≤ 2 ^ 31 → GoTogether tags_in table 0 m n → (run watcher 1 table slots turns m).machine.tally.broken ≡ None
+abbrev pub RunsComeAlike : (S T V : Type 0) → Type 0
+RunsComeAlike S T V =
+    (watcher : Watcher S) (tracer : Watcher T) (tags_in : T → TagTable) (mine : S → V) (yours : T → V) (table : List Row) (slots : ℕ → Slot) → TurnsGoTogether watcher tracer tags_in mine yours table slots
+    → (turns : ℕ) (m : Machine S) (n : Machine T) → turns ≤ 2 ^ 31 → GoTogether tags_in table 0 m n → KeepOn mine yours m n → (run watcher 1 table slots turns m).machine.tally.broken ≡ None
     → ComeAlike (run watcher 1 table slots turns m) (run tracer 0 plain slots turns n)

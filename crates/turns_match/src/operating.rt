@@ -1,10 +1,11 @@
 //! Laws of the calls of states that match, each carried by a function that does nothing.
 ghost use Rattle.turns_match.specs.Calls.{CallsComeAlike, RefusedCallsComeAlike};
+ghost use Rattle.turns_match.specs.Lasting.{CallsLast, RefusedCallsLast};
 ghost use Rattle.turns_match.specs.Operating.{CallsKeepMatches};
 ghost use Rattle.turns_match.specs.Pathless.{PathlessCallsComeAlike};
 ghost use Rattle.turns_match.specs.Registers.{CallsKeepRegisters};
 
-/// A call on equal requests and on what is told alike of its paths is answered alike, and keeps a match, where it is calm and moves no name.
+/// A call on equal requests and on what is told alike of its paths is answered alike, and keeps a match, where it is calm and names that it moves stay inside.
 pub fn calls_keep_matches()
     ensures { CallsKeepMatches }
 {}
@@ -27,4 +28,14 @@ pub fn pathless_calls_come_alike()
 /// A call that ends nobody and begins no program leaves the registers of its caller, but for its answer and where it goes on.
 pub fn calls_keep_registers()
     ensures { CallsKeepRegisters }
+{}
+
+/// A call that is decoded, other than execve(2), leaves a lawful state with what lasts, on either kernel.
+pub fn calls_last()
+    ensures { CallsLast }
+{}
+
+/// So does one that isn't decoded.
+pub fn refused_calls_last()
+    ensures { RefusedCallsLast }
 {}

@@ -7,6 +7,6 @@ pub fn quiet_turns_go_together<S, T>()
 {}
 
 /// Where each turn that breaks no calm rule keeps such a match, a calm run and that of the plain machine come to the same.
-pub fn runs_come_alike<S, T>()
-    ensures { RunsComeAlike S T }
+pub fn runs_come_alike<S, T, V>()
+    ensures { RunsComeAlike S T V }
 {}

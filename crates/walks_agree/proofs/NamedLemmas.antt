@@ -31,7 +31,7 @@ use Rattle.kr_view.proofs.DirectoryLemmas.{slashes_end}
 use Rattle.kr_view.proofs.HostReachLemmas.{named_alone, object_more, object_of_entry, reached_there}
 use Rattle.kr_view.proofs.TableLemmas.{there_is}
 use Rattle.kr_mounts.specs.Standing.{texts_of}
-use Rattle.walks_agree.specs.Handed.{BothEnd, LastsAreHandedOver, LeadsToLast, LeadsToName, NamesAreHandedOver, handed_path}
+use Rattle.walks_agree.specs.Handed.{BothEnd, DirectoriesOfNamesAreSearched, LastsAreHandedOver, LeadsToLast, LeadsToName, NamesAreHandedOver, handed_path}
 use Rattle.walks_agree.specs.Scene.{Scene, host_around, space_of}
 use Rattle.walks_agree.specs.Settled.{IsSettled}
 use Rattle.walks_agree.specs.Standing.{StandsOn, place_in}
@@ -245,3 +245,6 @@ names_are_handed_over scene mode base t path a b other e free jumped is = leads_
 
 pub lasts_are_handed_over : LastsAreHandedOver
 lasts_are_handed_over scene mode base t path a b other e jumped = leads_to_last scene mode base t path a b e jumped other
+
+pub directories_of_names_are_searched : DirectoriesOfNamesAreSearched
+directories_of_names_are_searched scene mode base t path a b e jumped is = record { on = on scene mode base t path a b e jumped; search = (shown scene mode base t path a b e jumped is).1 }

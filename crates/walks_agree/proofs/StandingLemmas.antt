@@ -308,7 +308,7 @@ module _ (space : Namespace) (set : IsSettled space) where
   append_one (x ∷ front) name more = ap (λ l. x ∷ l) (append_one front name more)
 
   -- so does what is below it, where its mount doesn't cover a name on the way
-  below_location : (k : ℕ) (r : Row) → row table k ≡ Some r → (rest front : Text) → IsUncovered space k (front ++ (rest ++ r.text.source))
+  pub below_location : (k : ℕ) (r : Row) → row table k ≡ Some r → (rest front : Text) → IsUncovered space k (front ++ (rest ++ r.text.source))
       → (owner bindings (rest ++ r.text.location) ≡ k) × (host_of bindings (rest ++ r.text.location) ≡ rest ++ r.text.source)
   below_location k r there [] front free = at_location k r there
   below_location k r there (name ∷ rest) front free =

@@ -14,7 +14,7 @@ use Rattle.kr_tree.specs.declared.place.Host.TheVariants.{Node, Proc}
 use Rattle.kr_tree.specs.declared.place.Place.{Place}
 use Rattle.kr_tree.specs.declared.place.ProcAt.{ProcAt}
 use Rattle.kr_tree.specs.Tree.{body_is, is_directory}
-use Rattle.kr_view.specs.Component.{Namespace, is_directory_at}
+use Rattle.kr_view.specs.Component.{Namespace, is_directory_at, may_search}
 use Rattle.kr_view.specs.HostReach.{host_place}
 use Rattle.kr_view.specs.ReachLaws.{name_target, slashed}
 use Rattle.kr_view.specs.View.{covered, source}
@@ -99,3 +99,14 @@ pub record CoveredNamesArePoints : Type 0 where
   pub inode : (space : Namespace) (t : Text) (i : ℕ) (name : List ℕ) → IsSettled space → reached_in space (host_text space t) ≡ Some (Node i) → body_is is_directory space.tree i ≡ true
       → covered space.table i name ≡ is_point (texts_of space.table) (name ∷ host_text space t)
   pub process : (space : Namespace) (t : Text) (i : ℕ) (at : ProcAt) (name : List ℕ) → IsSettled space → reached_in space (host_text space t) ≡ Some (Proc i at) → is_point (texts_of space.table) (name ∷ host_text space t) ≡ false
+
+-- ---- the directories of names
+
+-- a walk that ends at a name, and not behind a link of the process directory, searched the directory, which stands at its guest text
+pub record IsNamedIn (scene : Scene) (a : PlaceTarget) (b : Target Text Text) : Type 0 where
+  pub on : StandsOn (space_of scene) a.dir b.dir
+  pub search : may_search (space_of scene).tree (space_of scene).user a.dir.host ≡ true
+
+abbrev pub DirectoriesOfNamesAreSearched : Type 0
+DirectoriesOfNamesAreSearched =
+    (scene : Scene) (mode : WalkMode) (base : Place ℕ) (t : Text) (path : List ℕ) (a : PlaceTarget) (b : Target Text Text) → BothEnd scene mode base t path a b → a.jumped ≡ false → a.last ≡ last.Name → IsNamedIn scene a b

@@ -1,6 +1,6 @@
 //! Laws of what is handed to the plain kernel, each carried by a function that does nothing.
 ghost use Rattle.walks_agree.specs.Answers.{AnswersTellTargets};
-ghost use Rattle.walks_agree.specs.Handed.{CoveredNamesArePoints, FoundIsHandedOver, LastsAreHandedOver, NamedTextsAreFound, NamesAreHandedOver};
+ghost use Rattle.walks_agree.specs.Handed.{CoveredNamesArePoints, DirectoriesOfNamesAreSearched, FoundIsHandedOver, LastsAreHandedOver, NamedTextsAreFound, NamesAreHandedOver};
 
 /// The plain kernel finds the same object by the host text of what was found, and of what is no directory the entry
 /// that an opening remembers.
@@ -32,4 +32,9 @@ pub fn covered_names_are_points()
 /// name, or the directory.
 pub fn answers_tell_targets()
     ensures { AnswersTellTargets }
+{}
+
+/// The directory in which both walks end at a name stands at its guest text, and may be searched.
+pub fn directories_of_names_are_searched()
+    ensures { DirectoriesOfNamesAreSearched }
 {}

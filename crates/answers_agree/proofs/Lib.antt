@@ -1,0 +1,10 @@
+mod AnswerLemmas
+mod CountLemmas
+mod CwdLemmas
+mod LandingLemmas
+mod LinkLemmas
+mod NamedLemmas
+mod NumberLemmas
+mod ShelfLemmas
+mod ShortLemmas
+mod SwapLemmas

@@ -1,0 +1,47 @@
+-- How long the texts are that a tracer hands to the plain kernel: what the walk of the kernel with mounts reaches bounds them.
+use Rattle.std.specs.Prelude.{◌≡◌, ◌≤◌, ℕ, Bool, false, List, ◌∷◌, length, Some, None, Ok}
+use Rattle.pr_base.specs.Paths.{text_of}
+use Rattle.pr_base.specs.Texts.{Text}
+use Rattle.pr_base.specs.WalkFrame.{Target}
+use Rattle.pr_base.specs.declared.path.Last.TheVariants as last
+use Rattle.pr_base.specs.declared.path.WalkMode.{WalkMode}
+use Rattle.pt_args.specs.Purposes.{purpose_of, swap_for}
+use Rattle.pt_args.specs.declared.purpose.Purpose.TheVariants.{NamesEntry}
+use Rattle.pt_bind.specs.Binding.{located}
+use Rattle.pt_canon.specs.Canon.{canon_of}
+use Rattle.pt_canon.specs.declared.canon.Canon.{Canon}
+use Rattle.kr_tree.specs.declared.place.Place.{Place}
+use Rattle.kr_view.specs.declared.target.Reach.{Reach}
+use Rattle.kr_view.specs.Reach.{reach_after}
+use Rattle.kr_view.specs.Walk.{PlaceTarget, place_walk}
+use Rattle.walks_agree.specs.Handed.{BothEnd}
+use Rattle.walks_agree.specs.Scene.{Scene, space_of, texts_in}
+use Rattle.walks_agree.specs.Settled.{host_text}
+
+pub record AreShort (scene : Scene) (n : ℕ) (a : PlaceTarget) (b : Target Text Text) : Type 0 where
+  -- the host text of what was found
+  pub found : (p : Place ℕ) (u : Text) → a.found ≡ Some p → b.found ≡ Some u → length (text_of (host_text (space_of scene) u)) ≤ n
+  -- that of the directory
+  pub dir : a.jumped ≡ false → length (text_of (host_text (space_of scene) b.dir)) ≤ n
+  -- that of a free name in it
+  pub free : a.jumped ≡ false → a.found ≡ None → length (text_of (a.name ∷ host_text (space_of scene) b.dir)) ≤ n
+  -- and that of a name at which no mount stands. A mount's own point isn't reached
+  pub entry : a.jumped ≡ false → a.last ≡ last.Name → located (texts_in scene).bindings (a.name ∷ b.dir) ≡ None → length (text_of (a.name ∷ host_text (space_of scene) b.dir)) ≤ n
+
+abbrev pub ReachedTextsAreShort : Type 0
+ReachedTextsAreShort =
+    (scene : Scene) (mode : WalkMode) (base : Place ℕ) (t : Text) (path : List ℕ) (a : PlaceTarget) (b : Target Text Text) (r : Reach) → BothEnd scene mode base t path a b
+    → AreShort scene (reach_after scene.around (place_walk scene.around mode base path) r).longest a b
+
+-- an entry that a call names is no mount's own point. Where it is one, and the host text of its directory is long, the text of its name
+-- may have more than 4,095 bytes, though the walk reached none of that length
+abbrev pub NamesNoPoint : Scene → WalkMode → Bool → PlaceTarget → Target Text Text → Type 0
+NamesNoPoint scene mode opening a b =
+    purpose_of opening mode ≡ NamesEntry → (a.jumped ≡ false) × (a.last ≡ last.Name → located (texts_in scene).bindings (a.name ∷ b.dir) ≡ None)
+
+-- then a text in place of a path has at most 4,095 bytes, where the walk reaches no host name of more than 4,000
+abbrev pub SwapsAreShort : Type 0
+SwapsAreShort =
+    (scene : Scene) (mode : WalkMode) (base : Place ℕ) (t : Text) (path : List ℕ) (a : PlaceTarget) (b : Target Text Text) (r : Reach) (opening : Bool) (canon : Canon) (text : List ℕ) → BothEnd scene mode base t path a b
+    → (reach_after scene.around (place_walk scene.around mode base path) r).longest ≤ 4000 → canon_of (texts_in scene) mode t path ≡ Ok canon → swap_for (texts_in scene).bindings (purpose_of opening mode) canon ≡ Ok text → NamesNoPoint scene mode opening a b
+    → length text ≤ 4095

@@ -1,0 +1,4 @@
+pub mod ApartLemmas
+pub mod CallLemmas
+pub mod GivenLemmas
+pub mod RowLemmas

@@ -1,0 +1,35 @@
+-- Calls leave a state that has bytes.
+use Rattle.std.specs.Prelude.{ℕ, List}
+use Rattle.rv_mem.specs.Actions.{CarriedOut}
+use Rattle.rv_mem.specs.Pages.{HoldsBytes}
+use Rattle.kr_calls.specs.declared.request.Request.{Request}
+use Rattle.kr_tree.specs.Lawful.{AreBytes}
+use Rattle.kr_view.specs.View.{Row}
+use Rattle.kr_model.specs.Applied.{Mounts}
+use Rattle.kr_model.specs.Reply.{Reply}
+use Rattle.kr_model.specs.State.{Image, State}
+use Rattle.kr_model.specs.Walks.{targets_of}
+use Rattle.kr_allowed.specs.Told.{mounts_walked}
+use Rattle.kr_answers.specs.Carrying.{after_row}
+use Rattle.kr_turns.specs.PlainCall.{executed, operated, plain_call, row_on}
+use Rattle.kr_bytes.specs.Bringing.{BringBytes}
+use Rattle.kr_bytes.specs.Bytes.{GivesBytes, HasBytes, TableHasBytes}
+
+-- the memory behind a row, what its changes bring, and the state behind them
+pub record LeavesBytes (mounts : Mounts ℕ) (pid : ℕ) (s : State ℕ Image) (done : CarriedOut Reply) : Type 0 where
+  pub memory : HoldsBytes done.memory.pages
+  pub changes : BringBytes done.reply.changes
+  pub state : HasBytes (after_row mounts pid done s)
+
+-- any call but execve, whatever its walks come to
+pub record CallsKeepBytes : Type 0 where
+  pub row : (table : List Row) (pid : ℕ) (r : Request) (s : State ℕ Image) → TableHasBytes table → GivesBytes r → HasBytes s → LeavesBytes (mounts_walked (targets_of table pid s r)) pid s (row_on table pid r s)
+  pub call : (table : List Row) (pid : ℕ) (r : Request) (s : State ℕ Image) → TableHasBytes table → GivesBytes r → HasBytes s → HasBytes (operated table pid r s).state
+
+-- a new program, or the error in place of one
+abbrev pub ExecutionsKeepBytes : Type 0
+ExecutionsKeepBytes = (table : List Row) (pid : ℕ) (path : List ℕ) (args env : ℕ) (s : State ℕ Image) → TableHasBytes table → AreBytes path → HasBytes s → HasBytes (executed table pid path args env s).state
+
+-- a call from its decoding on
+abbrev pub PlainCallsKeepBytes : Type 0
+PlainCallsKeepBytes = (table : List Row) (pid : ℕ) (s : State ℕ Image) → TableHasBytes table → HasBytes s → HasBytes (plain_call table pid s).state

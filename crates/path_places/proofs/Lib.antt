@@ -1,0 +1,13 @@
+pub mod BringLemmas
+pub mod CalmLemmas
+pub mod FoundLemmas
+pub mod IndexLemmas
+pub mod MadeLemmas
+pub mod MoveLemmas
+pub mod NoteLemmas
+pub mod OpenLemmas
+pub mod RowLemmas
+pub mod RuleLemmas
+pub mod SettingLemmas
+pub mod UsesLemmas
+pub mod WalkedLemmas

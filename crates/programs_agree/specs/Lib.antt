@@ -1,0 +1,5 @@
+pub mod Executing
+pub mod Expanding
+pub mod Finding
+pub mod Planning
+pub mod Working

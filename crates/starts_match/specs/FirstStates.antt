@@ -1,0 +1,75 @@
+-- The states in which the first process begins: on a kernel with mounts, and on the plain kernel at the same objects of the host.
+use Rattle.std.specs.FinMap as map
+use Rattle.std.specs.Prelude.{ℕ, List}
+use Rattle.pr_base.specs.Texts.{Text}
+use Rattle.pt_bind.specs.Binding.{index_of}
+use Rattle.pt_bind.specs.Tags.{TagTable, with_tag}
+use Rattle.pt_bind.specs.declared.slot.Slot.TheVariants as slot
+use Rattle.kr_inode.specs.declared.user.User.{User}
+use Rattle.kr_tree.specs.Lawful.{IsKept}
+use Rattle.kr_tree.specs.Tree.{Tree}
+use Rattle.kr_tree.specs.declared.place.Host.TheVariants.{Node}
+use Rattle.kr_view.specs.HostReach.{host_place}
+use Rattle.kr_view.specs.View.{Row, plain}
+use Rattle.kr_mounts.specs.Standing.{texts_of}
+use Rattle.kr_model.specs.State.{Image, State}
+use Rattle.kr_perform.specs.Lawful.{LastsLawful}
+use Rattle.kr_start.specs.Start.{CanBegin, First, first_pid, pinned, started, without_processes}
+use Rattle.kr_stage.specs.Ready.{IsReady}
+use Rattle.walks_agree.specs.Settled.{host_text}
+use Rattle.walks_agree.specs.Standing.{IsEntryAt, StandsOn}
+use Rattle.places_stay.specs.Matching.{IsMatch}
+use Rattle.places_stay.specs.Standing.{AreSourcesNamed}
+use Rattle.starts_match.specs.Images.{IsImage}
+use Rattle.starts_match.specs.Spaces.{first_space}
+
+-- a tree that is kept, with mounts on which a kernel can begin. Each source is the entry at which it was settled
+pub record IsOpening (tree : Tree) (user : User) (table : List Row) : Type 0 where
+  pub kept : IsKept tree
+  pub ready : IsReady tree user table
+  pub sources : AreSourcesNamed table tree
+
+-- a first process that begins at the guest texts of its working directory and of its program
+pub record BeginsAt (table : List Row) (tree : Tree) (user : User) (first : First ℕ) (working program : Text) : Type 0 where
+  pub begins : CanBegin (λ m. m) table tree first
+  pub image : IsImage first.image
+  pub cwd : StandsOn (first_space table tree user) first.cwd working
+  pub exe : StandsOn (first_space table tree user) first.exe program
+  pub entry : IsEntryAt (first_space table tree user) (host_text (first_space table tree user) program) (Node first.exe_dir) first.exe_name
+
+-- the same process, on the host alone
+abbrev pub on_host : First ℕ → First ℕ
+on_host first = record {
+  image = first.image;
+  brk = first.brk;
+  cwd = host_place first.cwd.host;
+  exe = host_place first.exe.host;
+  exe_dir = first.exe_dir;
+  exe_name = first.exe_name;
+}
+
+-- the tags of the first process: the indices of its two guest texts
+abbrev pub first_tags : List Row → Text → Text → TagTable
+first_tags table working program =
+    let tags : TagTable = with_tag map.empty first_pid slot.Cwd (index_of (texts_of table) working) in
+    with_tag tags first_pid slot.Exe (index_of (texts_of table) program)
+
+-- the state in which it begins
+abbrev pub first_state : List Row → Tree → User → List ℕ → First ℕ → State ℕ Image
+first_state table tree user input first = started first (without_processes (pinned table tree) user input)
+
+-- ---- laws
+
+abbrev pub FirstStatesMatch : Type 0
+FirstStatesMatch =
+    (table : List Row) (tree : Tree) (user : User) (input : List ℕ) (first : First ℕ) (working program : Text) → IsOpening tree user table → BeginsAt table tree user first working program
+    → IsMatch table (first_tags table working program) (first_state table tree user input first) (first_state plain tree user input (on_host first))
+
+pub record BothLast (table : List Row) (one other : State ℕ Image) : Type 0 where
+  pub lasts : LastsLawful (λ m. m) table 0 one
+  pub also_lasts : LastsLawful (λ m. m) plain 0 other
+
+abbrev pub FirstStatesLast : Type 0
+FirstStatesLast =
+    (table : List Row) (tree : Tree) (user : User) (input : List ℕ) (first : First ℕ) → IsOpening tree user table → CanBegin (λ m. m) table tree first → IsImage first.image
+    → BothLast table (first_state table tree user input first) (first_state plain tree user input (on_host first))

@@ -1,0 +1,11 @@
+pub mod Commands
+pub mod FirstStates
+pub mod Images
+pub mod Openings
+pub mod Plans
+pub mod Programs
+pub mod Running
+pub mod Scripts
+pub mod Spaces
+pub mod Starts
+pub mod Working

@@ -1,0 +1,52 @@
+-- The program that runs in the end, with its arguments, behind the tests of execve(2) in their order: on both machines the same one.
+use Rattle.std.specs.Prelude.{◌≡◌, ◌≢◌, ◌≤◌, ◌<◌, ℕ, false, List, [], Result, Err, if◌then◌else◌}
+use Rattle.pr_base.specs.declared.errno.Errno.{Errno}
+use Rattle.pr_base.specs.declared.errno.Errno.TheVariants.{E2BIG}
+use Rattle.pt_bind.specs.Tags.{TagTable}
+use Rattle.pt_script.specs.declared.expansion.Expanded.{Expanded as Shown}
+use Rattle.pt_script.specs.declared.program.Program.{Program}
+use Rattle.kr_calls.specs.Expansion.{Expanded, bytes_with_ends, expanded, is_script, most_scripts}
+use Rattle.kr_exec.specs.Exec.{are_too_big}
+use Rattle.kr_exec.specs.Interpreters.{programs}
+use Rattle.kr_first.specs.Starting.{around, found_from, plan_reach}
+use Rattle.kr_inode.specs.declared.user.User.{User}
+use Rattle.kr_model.specs.Walks.{and_then}
+use Rattle.kr_tree.specs.Tree.{Tree}
+use Rattle.kr_tree.specs.declared.place.Place.{Place}
+use Rattle.kr_view.specs.Answers.{told}
+use Rattle.kr_view.specs.View.{Row}
+use Rattle.kr_view.specs.declared.target.Reach.{Reach}
+use Rattle.kr_view.specs.declared.target.Target.{Target}
+use Rattle.pt_first.specs.GuestStart.{run_from}
+use Rattle.pt_first.specs.Laws.{first_texts}
+use Rattle.walks_agree.specs.Settled.{IsSettled}
+use Rattle.starts_match.specs.Programs.{IsSameProgram, ResultsAlike}
+use Rattle.starts_match.specs.Spaces.{first_space}
+use Rattle.starts_match.specs.Working.{StandsAt}
+
+module _ (table : List Row) (tree : Tree) (user : User) where
+  -- of a program that was found
+  abbrev pub run_at : Place ℕ → List ℕ → List (List ℕ) → List (List ℕ) → Target ℕ → Result (Expanded (Target ℕ)) Errno
+  run_at base path args env target =
+      if are_too_big args env then Err E2BIG else expanded (programs (around table tree user) base) (bytes_with_ends env) most_scripts target path args
+
+  -- of a path from a directory, on a kernel with mounts
+  abbrev pub run_of : Place ℕ → List ℕ → List (List ℕ) → List (List ℕ) → Result (Expanded (Target ℕ)) Errno
+  run_of base path args env = and_then (found_from table tree user base path) (λ target. run_at base path args env (told target))
+
+  -- what a tracer shows the plain kernel is that program, which is no script, with those arguments, which fit
+  pub record IsSameRun (most : ℕ) (env : List (List ℕ)) (x : Expanded (Target ℕ)) (e : Shown) : Type 0 where
+    pub program : Program
+    pub same : IsSameProgram table tree user most x.file program
+    pub host : e.host ≡ program.host
+    pub index : e.index ≡ program.index
+    pub args : e.args ≡ x.args
+    pub plain : is_script program.head ≡ false
+    pub fit : are_too_big x.args env ≡ false
+    pub some : x.args ≢ []
+
+abbrev pub RunsAgree : Type 0
+RunsAgree =
+    (table : List Row) (tree : Tree) (user : User) (tags : TagTable) (base : Place ℕ) (working path : List ℕ) (args env : List (List ℕ)) (most : ℕ) (r : Reach) → IsSettled (first_space table tree user) → StandsAt table tree user base working
+    → most < 4096 → args ≢ [] → (plan_reach table tree user base path args env r).longest ≤ most
+    → ResultsAlike (IsSameRun table tree user most env) (run_of table tree user base path args env) (run_from (first_texts table tree user tags) working args env path)

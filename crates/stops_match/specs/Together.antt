@@ -1,0 +1,43 @@
+-- Runs of a machine with mounts that nobody watches, and of a plain one with the tracer, without an identity: where each call keeps both
+-- machines together, so does a run.
+use Rattle.std.specs.Prelude.{◌≡◌, ◌≤◌, ◌^◌, ℕ, Bool, true, List, Option, None}
+use Rattle.pr_base.specs.MountText.{MountText}
+use Rattle.pt_ident.specs.IdentityTable.{IdentityTable}
+use Rattle.kr_view.specs.View.{Row, plain}
+use Rattle.kr_mounts.specs.Standing.{texts_of}
+use Rattle.kr_allowed.specs.Told.{SourcesAreNamed}
+use Rattle.kr_bytes.specs.Bytes.{TableHasBytes}
+use Rattle.kr_bytes.specs.Turns.{WatchesBytes}
+use Rattle.kr_turns.specs.Run.{Slot, run}
+use Rattle.kr_turns.specs.Turn.{Machine, watched_call}
+use Rattle.kr_turns.specs.Watching.{unwatched}
+use Rattle.pt_watched.specs.Watched.{Tracing, tracer}
+use Rattle.turns_match.specs.Runs.{ComeAlike, GoTogether, KeepOn}
+use Rattle.stops_match.specs.Turning.{ComeFromCall, ComeToCall, tags_kept}
+
+-- each call of a calm run keeps the machines together, with its stops
+abbrev pub CallsGoTogether : Type 0 → List Row → Type 0
+CallsGoTogether S table =
+    (made pid : ℕ) (m : Machine S) (n : Machine Tracing) → ComeToCall table made pid m n → (watched_call unwatched 1 table pid m).tally.broken ≡ None
+    → ComeFromCall table made (watched_call unwatched 1 table pid m) (watched_call tracer 0 plain pid n)
+
+-- what the tracer goes by from turn to turn: the texts of the mounts, no identity, and what is sound by a test
+abbrev pub gone_by : {S : Type 0} → List Row → S → List MountText × Option IdentityTable × Bool
+gone_by table x = (texts_of table, None, true)
+
+abbrev pub goes_by : (Tracing → Bool) → Tracing → List MountText × Option IdentityTable × Bool
+goes_by sound x = (x.bindings, x.identities, sound x)
+
+-- what a run rests on: sources of mounts that are files have names, the table is made of bytes, and what the tracer puts into memory is,
+-- as long as it is sound
+pub record CanRun (sound : Tracing → Bool) (table : List Row) : Type 0 where
+  pub named : SourcesAreNamed table
+  pub bytes : TableHasBytes table
+  pub watches : WatchesBytes (λ x. sound x ≡ true) tracer
+
+-- so a calm run and the watched one come to the same bytes, the same end, the same status and the same tree
+abbrev pub TracedRunsComeAlike : Type 0 → Type 0
+TracedRunsComeAlike S =
+    (sound : Tracing → Bool) (table : List Row) (slots : ℕ → Slot) → CallsGoTogether S table → CanRun sound table
+    → (turns : ℕ) (m : Machine S) (n : Machine Tracing) → turns ≤ 2 ^ 31 → GoTogether tags_kept table 0 m n → KeepOn (gone_by table) (goes_by sound) m n → (run unwatched 1 table slots turns m).machine.tally.broken ≡ None
+    → ComeAlike (run unwatched 1 table slots turns m) (run tracer 0 plain slots turns n)

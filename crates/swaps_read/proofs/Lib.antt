@@ -1,0 +1,16 @@
+pub mod AnsweredLemmas
+pub mod DecodeLemmas
+pub mod ExitLemmas
+pub mod KeepLemmas
+pub mod MarkLemmas
+pub mod NoCallLemmas
+pub mod OperationLemmas
+pub mod RangeLemmas
+pub mod RegisterLemmas
+pub mod RewritingLemmas
+pub mod RowLemmas
+pub mod ShelfLemmas
+pub mod StopLemmas
+pub mod SwapLemmas
+pub mod TableLemmas
+pub mod TextLemmas

@@ -1,0 +1,19 @@
+-- The number of no call is refused.
+use Rattle.std.proofs.Common.{◌≡◌, Err, ap}
+use Rattle.std.proofs.lemmas.List.{get_or-set_same}
+use Rattle.pr_base.specs.declared.errno.Errno.TheVariants.{ENOSYS}
+use Rattle.rv_mem.specs.Actions.{carried_out}
+use Rattle.rv_mem.specs.Memory.{Memory}
+use Rattle.rv_mem.specs.declared.regs.Regs.{Regs}
+use Rattle.kr_calls.specs.Arguments.{number}
+use Rattle.kr_calls.specs.Decoding.{decoding}
+use Rattle.swaps_read.specs.NoCalls.{NoCallsAreDecoded, without_call}
+use Rattle.swaps_read.proofs.ShelfLemmas.{has_number}
+use Rattle.swaps_read.proofs.TableLemmas.{decoding_of}
+
+-- registers that have it
+pub refused_at : (regs : Regs) (w : Memory) → number regs ≡ 0xffff_ffff_ffff_ffff → carried_out (decoding regs) w ≡ record { reply = Err ENOSYS; memory = w }
+refused_at regs w is = ap (λ n. carried_out (decoding_of n regs) w) is
+
+pub no_calls_are_decoded : NoCallsAreDecoded
+no_calls_are_decoded regs m w r is = refused_at (without_call regs) w (get_or-set_same regs.x 17 0xffff_ffff_ffff_ffff 0 (has_number regs m r is))
