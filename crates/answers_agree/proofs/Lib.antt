@@ -1,10 +1,10 @@
-mod AnswerLemmas
+pub mod AnswerLemmas
 mod CountLemmas
-mod CwdLemmas
-mod LandingLemmas
-mod LinkLemmas
+pub mod CwdLemmas
+pub mod LandingLemmas
+pub mod LinkLemmas
 mod NamedLemmas
-mod NumberLemmas
-mod ShelfLemmas
+pub mod NumberLemmas
+pub mod ShelfLemmas
 mod ShortLemmas
-mod SwapLemmas
+pub mod SwapLemmas

@@ -48,7 +48,7 @@ use Rattle.walks_agree.proofs.InUseLemmas.{laws}
 use Rattle.walks_agree.proofs.StandingLemmas.{standing_places_are_called}
 use Rattle.plans_agree.specs.Begins.{LeadsBoth, StandTogether, told_texts}
 use Rattle.plans_agree.specs.OnePath.{EndsPlain, IsNewText, LooksUpSame, MakesSame, TakesSame}
-use Rattle.plans_agree.specs.Operations.{with_path}
+use Rattle.swaps_read.specs.Operations.{with_path}
 
 ok_is : {A : Type 0} (x y : A) → ◌≡◌ {A = Result A Errno} (Ok x) (Ok y) → x ≡ y
 ok_is x y h = cc

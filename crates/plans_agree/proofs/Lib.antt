@@ -13,7 +13,6 @@ pub mod PlanLemmas
 pub mod ReadLemmas
 pub mod RequestLemmas
 pub mod StayLemmas
-pub mod SwapLemmas
 pub mod TakeLemmas
 pub mod TextLemmas
 pub mod TwoLemmas

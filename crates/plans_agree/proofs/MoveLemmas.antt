@@ -32,7 +32,7 @@ use Rattle.kr_model.specs.Walks.{entered, if_found, if_name, is_covered, made_at
 use Rattle.kr_calm.specs.Rules.{are_parted, breaks_2}
 use Rattle.plans_agree.specs.Begins.{LeadsBoth}
 use Rattle.plans_agree.specs.OnePath.{EndsPlain, IsEntry, IsLookedUp, MakesSame, TakesSame}
-use Rattle.plans_agree.specs.Operations.{with_path}
+use Rattle.swaps_read.specs.Operations.{with_path}
 use Rattle.plans_agree.specs.Plans.{IsPlanned, PlanAgrees}
 use Rattle.plans_agree.proofs.FoundLemmas.{looked_both, same_mounts, taken_there}
 use Rattle.plans_agree.proofs.OneLemmas.{swaps_agree}

@@ -29,10 +29,10 @@ use Rattle.kr_model.specs.Walks.{Targets, and_then, mounts_of, seen, seen_of, ta
 use Rattle.kr_allowed.specs.Told.{mounts_walked}
 use Rattle.plans_agree.specs.Begins.{LeadsBoth, told_texts}
 use Rattle.plans_agree.specs.OnePath.{IsNewText}
-use Rattle.plans_agree.specs.Operations.{with_path, with_path_if_any}
+use Rattle.swaps_read.specs.Operations.{with_path, with_path_if_any}
 use Rattle.plans_agree.specs.Plans.{Cancelling, IsEdit, PlanAgrees, Swapping, shelved_texts}
-use Rattle.plans_agree.specs.Requests.{NewText, with_first}
-use Rattle.plans_agree.proofs.SwapLemmas.{paths_are_swapped}
+use Rattle.swaps_read.specs.Requests.{NewText, with_first}
+use Rattle.swaps_read.proofs.OperationLemmas.{paths_are_swapped}
 
 -- ---- targets
 

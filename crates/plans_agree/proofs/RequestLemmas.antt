@@ -31,7 +31,7 @@ use Rattle.kr_model.specs.Walks.{if_found, made_at, mounts_of, taken_at, told}
 use Rattle.plans_agree.specs.Begins.{LeadsBoth}
 use Rattle.plans_agree.specs.OnePath.{EndsPlain, IsEntry, IsLookedUp, TakesSame}
 use Rattle.plans_agree.specs.Plans.{IsPlanned, PlanAgrees}
-use Rattle.plans_agree.specs.Requests.{with_first}
+use Rattle.swaps_read.specs.Requests.{with_first}
 use Rattle.plans_agree.proofs.FoundLemmas.{looked_both, made_free, same_mounts, taken_there}
 use Rattle.plans_agree.proofs.OneLemmas.{swaps_agree}
 use Rattle.plans_agree.proofs.PlanLemmas.{one_busy, one_swapped, only}

@@ -35,13 +35,13 @@ use Rattle.kr_allowed.proofs.StayingLemmas.{names-stay}
 use Rattle.kr_resolved.proofs.AroundLemmas.{of_walk}
 use Rattle.plans_agree.specs.Begins.{Fails, FailsSo, IsEmpty, Leads, LeadsBoth, PathAgrees, Stays, StaysSo, told_texts}
 use Rattle.plans_agree.specs.OnePath.{IsNewText}
-use Rattle.plans_agree.specs.Operations.{with_path, with_path_if_any}
+use Rattle.swaps_read.specs.Operations.{with_path, with_path_if_any}
 use Rattle.plans_agree.specs.Plans.{Cancelling, IsEdit, IsPlanned, PlanAgrees, Swapping, shelved_texts}
-use Rattle.plans_agree.specs.Requests.{NewText, with_swaps}
+use Rattle.swaps_read.specs.Requests.{NewText, with_swaps}
 use Rattle.plans_agree.proofs.PathLemmas.{paths_agree}
 use Rattle.plans_agree.proofs.PlanLemmas.{edit_is, targets_then}
 use Rattle.plans_agree.proofs.StayLemmas.{walk_refused}
-use Rattle.plans_agree.proofs.SwapLemmas.{paths_are_swapped}
+use Rattle.swaps_read.proofs.OperationLemmas.{paths_are_swapped}
 
 -- ---- the mounts of what the plain kernel's walks come to
 

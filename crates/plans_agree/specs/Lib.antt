@@ -1,5 +1,3 @@
 pub mod Begins
 pub mod OnePath
-pub mod Operations
 pub mod Plans
-pub mod Requests

@@ -22,7 +22,7 @@ use Rattle.kr_model.specs.State.{Image, State}
 use Rattle.kr_model.specs.Walks.{created_at, if_found, made_at, taken_at, walked}
 use Rattle.kr_allowed.specs.Told.{HasGoodName}
 use Rattle.plans_agree.specs.Begins.{LeadsBoth, StandTogether}
-use Rattle.plans_agree.specs.Operations.{with_path}
+use Rattle.swaps_read.specs.Operations.{with_path}
 
 -- a text that can be put in place of a path
 pub record IsNewText (text : List ℕ) : Type 0 where

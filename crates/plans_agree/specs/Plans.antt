@@ -22,7 +22,7 @@ use Rattle.kr_allowed.specs.Told.{mounts_walked}
 use Rattle.kr_calm.specs.Rules.{breaks_2}
 use Rattle.plans_agree.specs.Begins.{StandTogether, told_texts}
 use Rattle.plans_agree.specs.OnePath.{IsNewText}
-use Rattle.plans_agree.specs.Requests.{AreOfPaths, NewText, with_swaps}
+use Rattle.swaps_read.specs.Requests.{AreOfPaths, NewText, with_swaps}
 
 -- ---- when plans are made
 

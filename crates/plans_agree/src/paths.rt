@@ -1,7 +1,6 @@
 //! Laws of single paths of a call, each carried by a function that does nothing.
 ghost use Rattle.plans_agree.specs.Begins.{BasesAgree, PathsAgree};
 ghost use Rattle.plans_agree.specs.OnePath.{SwapsAgree};
-ghost use Rattle.plans_agree.specs.Operations.{PathsAreSwapped};
 
 /// A path begins nowhere for the tracer and both kernels, or at a place and at a guest text at which it stands.
 pub fn bases_agree()
@@ -12,11 +11,6 @@ pub fn bases_agree()
 /// mounts, or it leads somewhere for both.
 pub fn paths_agree()
     ensures { PathsAgree }
-{}
-
-/// The paths of a request with other texts have these, and are walked as before.
-pub fn paths_are_swapped()
-    ensures { PathsAreSwapped }
 {}
 
 /// Along the text that takes the place of a path the plain kernel is told the same as the kernel with mounts is along the

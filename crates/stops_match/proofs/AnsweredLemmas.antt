@@ -115,7 +115,7 @@ silent_refusal tags pid (call.Fcntl fd cmd arg) index = refl
 silent_refusal tags pid _ index = refl
 
 -- and makes no number
-none_made : (e : Errno) → made_number (cast_signed w64 (word_of (refusal e))) ≡ None
+pub none_made : (e : Errno) → made_number (cast_signed w64 (word_of (refusal e))) ≡ None
 none_made ENOSYS = refl
 none_made _ = refl
 
@@ -352,9 +352,7 @@ module _ {S : Type 0} (table : List Row) (made pid : ℕ) (m : Machine S) (n : M
 
   -- the other machine, behind decoding
   at_is : (at_call pid m).state ≡ decoding_at
-  at_is =
-      ap (λ t. (after_request (record { state = t; pid = pid; at_root = false })).state) (before.shelf table made pid m n c p q lives also)
-      ∙ ap (λ (image : Image). computed pid image.regs (carried_out (decoding image.regs) image.memory).memory mounted) (own_image pid mounted caller mine.lives)
+  at_is = before.at_call_is table made pid m n c p q lives also
 
   refuses_here : operation pid r (seen table pid decoding_at r) (known image_layout pid decoding_at) ≡ refuse e
   refuses_here = subst (λ t. operation pid r (seen table pid t r) (known image_layout pid t) ≡ refuse e) at_is both.refuses

@@ -284,6 +284,11 @@ module _ {S : Type 0} (table : List Row) (made pid : ℕ) (m : Machine S) (n : M
       ap (λ t. (decoded_at (record { state = t; pid = pid; at_root = false })).reply) shelf
       ∙ ap (λ (image : Image). (carried_out (decoding image.regs) image.memory).reply) (own_image pid s1 p1 lives1)
 
+  pub at_call_is : (after_request (calling 1 pid s)).state ≡ decoded_in pid p1 s1
+  at_call_is =
+      ap (λ t. (after_request (record { state = t; pid = pid; at_root = false })).state) shelf
+      ∙ ap (λ (image : Image). computed pid image.regs (carried_out (decoding image.regs) image.memory).memory s1) (own_image pid s1 p1 lives1)
+
   -- ---- what the watchers make of it
 
   abbrev pub lacks : Bool

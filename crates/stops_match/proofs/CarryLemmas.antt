@@ -1,10 +1,11 @@
 -- A call along paths that the plain kernel carries out, with its stops.
 use Rattle.std.specs.FinMap as map
-use Rattle.std.proofs.Common.{◌≡◌, ℕ, suc, true, false, List, [], ◌∷◌, Option, Some, None, Ok, refl, sym, ap, subst, ◌∙◌, ℤ, arith}
+use Rattle.std.proofs.Common.{◌≡◌, ◌⊎◌, inl, inr, ℕ, suc, true, false, List, [], ◌∷◌, Option, Some, None, Ok, refl, sym, ap, subst, ◌∙◌, ℤ, arith}
 use Rattle.std.specs.Prelude.{◌&&◌, IsSome, slice_set}
 use Rattle.std.specs.Int.{cast_unsigned, w64}
 use Rattle.std.specs.List.{list_all}
 use Rattle.std.specs.Option.{option_map, option_map_or}
+use Rattle.pr_base.specs.declared.errno.Errno.{Errno}
 use Rattle.rv_mem.specs.Actions.{AreEqualUnmarked, CarriedOut, carried_out}
 use Rattle.rv_mem.specs.Memory.{Memory}
 use Rattle.rv_mem.specs.Pages.{HoldsBytes, Pages}
@@ -16,7 +17,7 @@ use Rattle.kr_calls.specs.Decoding.{decoding}
 use Rattle.kr_calls.specs.PathTable.{path_at}
 use Rattle.kr_calls.specs.declared.request.Request.{Request}
 use Rattle.kr_calls.specs.declared.request.Request.TheVariants as call
-use Rattle.kr_allowed.specs.Allowed.{LeavesLawful}
+use Rattle.kr_allowed.specs.Allowed.{LeavesLawful, with_memory}
 use Rattle.kr_allowed.specs.Resting.{HasSmallNumbers}
 use Rattle.kr_allowed.specs.Told.{mounts_walked}
 use Rattle.kr_allowed.proofs.DecodedLemmas.{decoded-are-givable, decoding-leaves-pages}
@@ -26,12 +27,14 @@ use Rattle.kr_answers.specs.Carrying.{memory_of, with_memory_of}
 use Rattle.kr_calm.specs.Laws.{BreakNone, leaves_mark}
 use Rattle.kr_calm.proofs.ChangeLemmas.{both}
 use Rattle.kr_lasting.proofs.RoomLemmas.{lasting-room}
+use Rattle.kr_lawful.specs.Laws.{CanAllBeMade}
+use Rattle.kr_model.specs.Lawful.{IsLawful}
 use Rattle.kr_model.specs.Applied.{Mounts, all_applied, images}
 use Rattle.kr_model.specs.Bare.{bare, bare_mounts, pins_of}
 use Rattle.kr_model.specs.Change.{Change, End, ReplaceImage}
 use Rattle.kr_model.specs.Known.{known}
 use Rattle.kr_model.specs.Operation.{operation}
-use Rattle.kr_model.specs.Reply.{Reply}
+use Rattle.kr_model.specs.Reply.{Reply, Replying, refuse}
 use Rattle.kr_model.specs.Seen.{Seen}
 use Rattle.kr_model.specs.State.{Image, Process, State, image_layout, process, with_process}
 use Rattle.kr_model.specs.Walks.{seen, targets_of}
@@ -73,7 +76,7 @@ use Rattle.walks_bare.proofs.OneMountLemmas.{lawful_states_are_in_one_mount}
 use Rattle.walks_bare.proofs.SightLemmas.{plain_sight_is_bare}
 use Rattle.turns_match.specs.Calls.{decoded_by, decoded_in}
 use Rattle.turns_match.specs.Changing.{all_tags_made}
-use Rattle.turns_match.specs.Lasting.{CanBeCalled}
+use Rattle.turns_match.specs.Lasting.{CanBeCalled, LeavesLasting}
 use Rattle.turns_match.specs.Operating.{IsCalmCall, IsCarriedAlike, behind, done_in, written_in}
 use Rattle.turns_match.specs.Registers.{registers_in}
 use Rattle.turns_match.proofs.CallLemmas.{by_request}
@@ -90,6 +93,7 @@ use Rattle.stops_match.specs.Swapping.{IsToldAlong, at_entry}
 use Rattle.stops_match.specs.Turning.{ComeFromCall, ComeToCall}
 use Rattle.stops_match.proofs.AnsweredLemmas.{computed_twice, lives_changed}
 use Rattle.stops_match.proofs.CallLemmas as before
+use Rattle.stops_match.proofs.EnterLemmas as enter
 use Rattle.stops_match.proofs.CallLemmas.{exit_status, own_image, plain_named, unwatched_exit}
 
 some_same : {A : Type 0} {a b : A} → Some a ≡ Some b → a ≡ b
@@ -206,17 +210,8 @@ module _ {S : Type 0} (table : List Row) (made pid : ℕ) (m : Machine S) (n : M
     left_is : (applied edit (after_request stop)).stopped ≡ left
     left_is = entry.stopped
 
-    at_entry_is : at_entry pid n r ≡ left
-    at_entry_is = ap (λ t. (applied (edit_for (texts_at x.bindings x.tags (after_request t)) (after_request t) r) (after_request t)).stopped) (before.calling_is table made pid m n c p q lives also) ∙ left_is
-
-    image_left : image_at left ≡ record { regs = regs3; memory = memory3 }
-    image_left = image-edited regs3 memory3 stop (subst IsSome (sym also) refl)
-
     told2 : is_told_of_paths r2 ≡ true
     told2 = entry.kind
-
-    lives3 : process pid w3 ≡ Some q3
-    lives3 = lives_changed pid (given pid regs3 memory3) (λ p. refl) w q also
 
     like3 : StaysLike q.image.memory.pages memory3.pages
     like3 = entry.like
@@ -224,14 +219,11 @@ module _ {S : Type 0} (table : List Row) (made pid : ℕ) (m : Machine S) (n : M
     bytes3 : HoldsBytes memory3.pages
     bytes3 = entry.bytes
 
+    lives3 : process pid w3 ≡ Some q3
+    lives3 = enter.lives_with table made pid m n c q also regs3 memory3 like3
+
     can3 : CanBeCalled plain made pid w3 q3
-    can3 = record {
-      lives = lives3;
-      lasts = record { lawful = lawful-image (λ k. k) plain w c.also_lasts.lawful pid q also memory3 like3 (λ _. regs3); lasts = lasts_living made (with_process pid (given pid regs3 memory3)) w c.also_lasts.lasts };
-      few = c.few;
-      holds = bytes3;
-      named = plain_named;
-    }
+    can3 = enter.can_with table made pid m n c q also regs3 memory3 like3 bytes3
 
     reads3 : (decoded_by q3).reply ≡ Ok r2
     reads3 = entry.reads
@@ -240,16 +232,16 @@ module _ {S : Type 0} (table : List Row) (made pid : ℕ) (m : Machine S) (n : M
     memory4 = (decoded_by q3).memory
 
     pages4 : memory4.pages ≡ memory3.pages
-    pages4 = decoding-leaves-pages regs3 memory3 bytes3
+    pages4 = enter.pages_with table made pid m n c q also regs3 memory3 like3 bytes3
 
     abbrev w4 : State ℕ Image
     w4 = decoded_in pid q3 w3
 
     w4_is : w4 ≡ computed pid regs3 memory4 w
-    w4_is = computed_twice pid regs3 regs3 memory3 memory4 w
+    w4_is = enter.decoded_is table made pid m n c q also regs3 memory3 like3 bytes3
 
     there_is : (after_request (at_entry pid n r)).state ≡ w4
-    there_is = ap (λ t. (after_request t).state) at_entry_is ∙ ap (λ (image : Image). computed pid image.regs (carried_out (decoding image.regs) image.memory).memory w3) image_left
+    there_is = enter.there_is table made pid m n c q also regs3 memory3 like3 bytes3 p lives r left_is
 
     -- ---- the plain kernel, if its caller had kept its own registers
 
@@ -259,23 +251,20 @@ module _ {S : Type 0} (table : List Row) (made pid : ℕ) (m : Machine S) (n : M
     abbrev own_q : Process ℕ Image
     own_q = given pid q.image.regs memory4 q
 
-    own_lives : process pid own ≡ Some own_q
-    own_lives = lives_changed pid (given pid q.image.regs memory4) (λ p. refl) w q also
-
     like4 : StaysLike q.image.memory.pages memory4.pages
-    like4 = subst (StaysLike q.image.memory.pages) (sym pages4) like3
+    like4 = enter.like_decoded table made pid m n c q also regs3 memory3 like3 bytes3
+
+    own_lives : process pid own ≡ Some own_q
+    own_lives = enter.lives_with table made pid m n c q also q.image.regs memory4 like4
 
     own_lasts : LastsLawful (λ k. k) plain made own
-    own_lasts = record { lawful = lawful-image (λ k. k) plain w c.also_lasts.lawful pid q also memory4 like4 (λ _. q.image.regs); lasts = lasts_living made (with_process pid (given pid q.image.regs memory4)) w c.also_lasts.lasts }
+    own_lasts = enter.lasts_with table made pid m n c q also q.image.regs memory4 like4
 
     bare_alike : bare image_layout (pins_of plain) own ≡ bare image_layout (pins_of plain) w4
-    bare_alike =
-        let rise = c.also_lasts.lawful.pids.living in
-        bare_computed pid q.image.regs memory4 (pins_of plain) w.next_pid w q rise also like4.layout ∙ sym (ap (bare image_layout (pins_of plain)) w4_is ∙ bare_computed pid regs3 memory4 (pins_of plain) w.next_pid w q rise also like4.layout)
+    bare_alike = enter.bares_with table made pid m n c q also q.image.regs regs3 memory4 memory4 like4 like4 ∙ sym (ap (bare image_layout (pins_of plain)) w4_is)
 
     sights : AreSeenAlike pid own w4 r2
-    sights =
-        plain_sight_is_bare (pins_of plain) (pins_of plain) own w4 pid r2 bare_alike (lawful_states_are_in_one_mount own own_lasts.lawful) (lawful_states_are_in_one_mount w4 (decoded_lasts plain made pid w3 q3 can3).lawful)
+    sights = subst (λ t. AreSeenAlike pid own t r2) (sym w4_is) (enter.sights_with table made pid m n c q also q.image.regs regs3 memory4 memory4 like4 like4 r2)
 
     abbrev sight : Seen
     sight = seen plain pid w4 r2
@@ -311,19 +300,18 @@ module _ {S : Type 0} (table : List Row) (made pid : ℕ) (m : Machine S) (n : M
     -- ---- what holds of the call, at the mounted machine's state behind decoding
 
     at_is : (at_call pid m).state ≡ at
-    at_is =
-        ap (λ t. (after_request (record { state = t; pid = pid; at_root = false })).state) (before.shelf table made pid m n c p q lives also)
-        ∙ ap (λ (image : Image). computed pid image.regs (carried_out (decoding image.regs) image.memory).memory s1) (own_image pid s1 p1 mine.lives)
+    at_is = before.at_call_is table made pid m n c p q lives also
 
     acts : operation pid r told (known image_layout pid at) ≡ operation pid r2 sight (known image_layout pid at)
     acts =
         subst (λ t. operation pid r (seen table pid t r) (known image_layout pid t) ≡ operation pid r2 sight (known image_layout pid t)) at_is
         (subst (λ t. operation pid r (seen table pid (at_call pid m).state r) (known image_layout pid (at_call pid m).state) ≡ operation pid r2 (seen plain pid t r2) (known image_layout pid (at_call pid m).state)) there_is alike.acts)
 
-    same : bare_mounts mounts ≡ bare_mounts others
+    same : (bare_mounts mounts ≡ bare_mounts others) ⊎ ((e : Errno) × (operation pid r told (known image_layout pid at) ≡ refuse e))
     same =
-        subst (λ t. bare_mounts (mounts_walked (targets_of table pid t r)) ≡ bare_mounts others) at_is
-        (subst (λ t. bare_mounts (mounts_walked (targets_of table pid (at_call pid m).state r)) ≡ bare_mounts (mounts_walked (targets_of plain pid t r2))) there_is alike.mounts)
+        subst (λ t. (bare_mounts (mounts_walked (targets_of table pid t r)) ≡ bare_mounts others) ⊎ ((e : Errno) × (operation pid r (seen table pid t r) (known image_layout pid t) ≡ refuse e))) at_is
+        (subst (λ t. (bare_mounts (mounts_walked (targets_of table pid (at_call pid m).state r)) ≡ bare_mounts (mounts_walked (targets_of plain pid t r2))) ⊎ ((e : Errno) × (operation pid r (seen table pid (at_call pid m).state r) (known image_layout pid (at_call pid m).state) ≡ refuse e)))
+        there_is alike.mounts)
 
     abbrev done : CarriedOut Reply
     done = done_in pid r told at
@@ -352,23 +340,63 @@ module _ {S : Type 0} (table : List Row) (made pid : ℕ) (m : Machine S) (n : M
         ∙ sym (ap (λ o. option_map_or (plain_rule_of 1 table pid lacks s1) o None) mine.lives ∙ ap (λ reply. decoded_rule 1 table pid lacks reply at) reads)
         ∙ before.calm_call table made pid m n c p q lives also calm
 
-    calm_call : IsCalmCall pid r2 sight table mounts others at own
+    -- mounts that serve for those that the call names, and are named alike by the plain kernel
+    record ServeFor (named : Mounts ℕ) : Type 0 where
+      pub same : bare_mounts named ≡ bare_mounts others
+      pub inside : MovesStayInside table named pid (with_memory_of pid done.memory at) done.reply.changes
+      pub rules : BreakNone images named pid table done.reply.changes (with_memory_of pid done.memory at)
+      pub new : NewPlacesStand table named pid (with_memory_of pid done.memory at) done.reply.changes
+      pub allowed : LeavesLawful (λ k. k) table named pid at done
+      pub tags : all_tags_made table named pid (with_memory_of pid done.memory at) done.reply.changes x.tags ≡ all_tags_made table mounts pid (with_memory_of pid done.memory at) done.reply.changes x.tags
+      pub leave : all_applied images mounts pid done.reply.changes (with_memory_of pid done.memory at) ≡ all_applied images named pid done.reply.changes (with_memory_of pid done.memory at)
+
+    lasting : LeavesLasting table made pid s1 p1 r
+    lasting = calls_last table made pid s1 p1 r mine reads (no_exec_told r alike.kind)
+
+    -- its own do; and where it is refused, it changes nothing, so that those of the plain kernel do
+    served : (named : Mounts ℕ) × ServeFor named
+    served = by same
+      where
+        by : (bare_mounts mounts ≡ bare_mounts others) ⊎ ((e : Errno) × (operation pid r told (known image_layout pid at) ≡ refuse e)) → (named : Mounts ℕ) × ServeFor named
+        by (inl equal) =
+            let rules = none_of_all _ _ _ _ _ _ calm_row in
+            (mounts, record { same = equal; inside = inside; rules = record { third = rules.1; fourth = rules.2; fifth = rules.3 }; new = new; allowed = lasting.allowed; tags = refl; leave = refl })
+        by (inr (e, refuses)) =
+            let none : done.reply.changes ≡ [] = ap (λ (action : Replying). (carried_out action (memory_of pid at)).reply.changes) refuses in
+            (others, record {
+              same = refl;
+              inside = subst (λ cs. MovesStayInside table others pid (with_memory_of pid done.memory at) cs) (sym none) tt;
+              rules = subst (λ cs. BreakNone images others pid table cs (with_memory_of pid done.memory at)) (sym none) (record { third = refl; fourth = refl; fifth = refl });
+              new = subst (λ cs. NewPlacesStand table others pid (with_memory_of pid done.memory at) cs) (sym none) tt;
+              allowed = record {
+                before = lasting.allowed.before;
+                made = subst (λ cs. CanAllBeMade (λ k. k) table others pid (with_memory pid done.memory at) cs) (sym none) tt;
+                modest = lasting.allowed.modest;
+                lawful = subst (λ cs. IsLawful (λ k. k) table (all_applied images others pid cs (with_memory pid done.memory at))) (sym none) lasting.allowed.before;
+              };
+              tags = subst (λ cs. all_tags_made table others pid (with_memory_of pid done.memory at) cs x.tags ≡ all_tags_made table mounts pid (with_memory_of pid done.memory at) cs x.tags) (sym none) refl;
+              leave = subst (λ cs. all_applied images mounts pid cs (with_memory_of pid done.memory at) ≡ all_applied images others pid cs (with_memory_of pid done.memory at)) (sym none) refl;
+            })
+
+    abbrev named : Mounts ℕ
+    named = served.0
+
+    calm_call : IsCalmCall pid r2 sight table named others at own
     calm_call =
         let rules = none_of_all _ _ _ _ _ _ calm_row in
-        let lasting = calls_last table made pid s1 p1 r mine reads (no_exec_told r alike.kind) in
         record {
           lives = subst IsSome (sym (decoded_lives table made pid s1 p1 mine)) refl;
-          same = same;
+          same = served.1.same;
           unread = subst (λ (d : CarriedOut Reply). d.memory.read_marked ≡ false) done_same (neither done.memory.read_marked (before.lacks table made pid m n c p q lives also) rules.0).0;
-          inside = subst (λ (d : CarriedOut Reply). MovesStayInside table mounts pid (with_memory_of pid d.memory at) d.reply.changes) done_same inside;
-          calm = subst (λ (d : CarriedOut Reply). BreakNone images mounts pid table d.reply.changes (with_memory_of pid d.memory at)) done_same (record { third = rules.1; fourth = rules.2; fifth = rules.3 });
-          new = subst (λ (d : CarriedOut Reply). NewPlacesStand table mounts pid (with_memory_of pid d.memory at) d.reply.changes) done_same new;
-          allowed = subst (LeavesLawful (λ k. k) table mounts pid at) done_same lasting.allowed;
+          inside = subst (λ (d : CarriedOut Reply). MovesStayInside table named pid (with_memory_of pid d.memory at) d.reply.changes) done_same served.1.inside;
+          calm = subst (λ (d : CarriedOut Reply). BreakNone images named pid table d.reply.changes (with_memory_of pid d.memory at)) done_same served.1.rules;
+          new = subst (λ (d : CarriedOut Reply). NewPlacesStand table named pid (with_memory_of pid d.memory at) d.reply.changes) done_same served.1.new;
+          allowed = subst (LeavesLawful (λ k. k) table named pid at) done_same served.1.allowed;
           also_allowed = also_allowed;
         }
 
-    both_done : IsCarriedAlike pid r2 sight table mounts others at own x.tags
-    both_done = calls_keep_matches pid r2 sight table mounts others at own x.tags calm_call match_own
+    both_done : IsCarriedAlike pid r2 sight table named others at own x.tags
+    both_done = calls_keep_matches pid r2 sight table named others at own x.tags calm_call match_own
 
     -- ---- the answer
 
@@ -523,13 +551,15 @@ module _ {S : Type 0} (table : List Row) (made pid : ℕ) (m : Machine S) (n : M
         ∙ ap (λ came. after_plain unwatched pid came m.watcher judged) came_is
         ∙ ap (λ o. after_end unwatched pid (end_of r o) (called pid came) (after_born unwatched pid came.child m.watcher) judged) answers.1
 
-    came_state : came.state ≡ behind pid r2 sight mounts at
-    came_state = ap (λ (d : CarriedOut Reply). settled pid d.reply.outcome (all_applied images mounts pid d.reply.changes (with_memory_of pid d.memory at))) done_same
+    came_state : came.state ≡ behind pid r2 sight named at
+    came_state =
+        ap (settled pid done.reply.outcome) served.1.leave
+        ∙ ap (λ (d : CarriedOut Reply). settled pid d.reply.outcome (all_applied images named pid d.reply.changes (with_memory_of pid d.memory at))) done_same
 
     match_final : IsMatch table (tags_after x.tags pid (noted r led.index (told_answer value))) came.state final
     match_final =
-        let tags = sym (ap (λ (d : CarriedOut Reply). all_tags_made table mounts pid (with_memory_of pid d.memory at) d.reply.changes x.tags) done_same) ∙ tags_are value answers.1 in
-        subst (λ tags. IsMatch table tags came.state final) tags (subst (λ t. IsMatch table (all_tags_made table mounts pid (written_in pid r2 sight at) (done_in pid r2 sight at).reply.changes x.tags) t final) (sym came_state) both_done.matches)
+        let tags = sym (ap (λ (d : CarriedOut Reply). all_tags_made table named pid (with_memory_of pid d.memory at) d.reply.changes x.tags) done_same) ∙ served.1.tags ∙ tags_are value answers.1 in
+        subst (λ tags. IsMatch table tags came.state final) tags (subst (λ t. IsMatch table (all_tags_made table named pid (written_in pid r2 sight at) (done_in pid r2 sight at).reply.changes x.tags) t final) (sym came_state) both_done.matches)
 
     final_lasts : LastsLawful (λ k. k) plain (suc made) final
     final_lasts =

@@ -2,6 +2,7 @@ pub mod AnsweredLemmas
 pub mod CallLemmas
 pub mod CarryLemmas
 pub mod EmulateLemmas
+pub mod EnterLemmas
 pub mod NoteLemmas
 pub mod PassLemmas
 pub mod RegisterLemmas

@@ -14,6 +14,9 @@ use Rattle.pt_args.specs.declared.edit.Edit.TheVariants.{Pass}
 use Rattle.pt_results.specs.Notes.{noted, tags_after}
 use Rattle.kr_view.specs.View.{Row, plain}
 use Rattle.kr_calls.specs.Decoding.{decoding}
+use Rattle.kr_bytes.specs.Bytes.{HasBytes}
+use Rattle.kr_bytes.proofs.LivingLemmas.{process-bytes}
+use Rattle.kr_calls.specs.PathTable.{path_at}
 use Rattle.kr_calls.specs.declared.request.Request.{Request}
 use Rattle.kr_calls.specs.declared.request.Request.TheVariants as call
 use Rattle.kr_allowed.proofs.RowLemmas.{StaysLike, stays-like}
@@ -24,9 +27,9 @@ use Rattle.kr_turns.specs.Turn.{Machine, called, calling, watched_call}
 use Rattle.kr_turns.specs.Watching.{unwatched}
 use Rattle.kr_turns.proofs.EditLemmas.{image-edited, there as is_there}
 use Rattle.pt_tracer.specs.Stopping.{after_request, decoded_at, memory_at}
-use Rattle.pt_watched.specs.Planning.{edit_for, led_of, stack_at, texts_at}
+use Rattle.pt_watched.specs.Planning.{edit_for, led_of, planned_by, stack_at, texts_at}
 use Rattle.pt_watched.specs.Registers.{arguments_at}
-use Rattle.pt_watched.specs.Watched.{Applied, Tracing, answer_at, applied, awaiting, exited, tracer, with_pending, with_tags, without_pending}
+use Rattle.pt_watched.specs.Watched.{Applied, Tracing, after_decoding, after_plan, answer_at, applied, awaiting, by_identities, entered, exited, tracer, with_pending, with_tags, without_pending}
 use Rattle.pt_watched.specs.declared.pending.Pending.{Pending}
 use Rattle.pt_watched.specs.declared.plan.Led.{Led}
 use Rattle.pt_watched.specs.declared.registers.Arguments.{Arguments}
@@ -34,9 +37,12 @@ use Rattle.images_apart.specs.Paths.{is_told_of_paths}
 use Rattle.swaps_read.specs.Exits.{left_with}
 use Rattle.turns_match.specs.Calls.{decoded_by}
 use Rattle.turns_match.proofs.CalledLemmas.{decoded_holds}
+use Rattle.turns_match.proofs.ImageLemmas.{given}
 use Rattle.turns_match.proofs.RunLemmas.{lives_too}
-use Rattle.stops_match.specs.Swapping.{IsPassedAlike, IsSwappedAlike, PassedCallsGoTogether, SwappedCallsGoTogether, at_entry}
+use Rattle.stops_match.specs.Cancelling.{at_first_stop}
+use Rattle.stops_match.specs.Swapping.{IsPassedAlike, IsSwappedAlike, PassedCallsGoTogether, SwappedCallsGoTogether}
 use Rattle.stops_match.specs.Turning.{ComeFromCall, ComeToCall}
+use Rattle.stops_match.proofs.AnsweredLemmas.{lives_changed}
 use Rattle.stops_match.proofs.CallLemmas as before
 use Rattle.stops_match.proofs.CallLemmas.{exit_status, own_image, plain_named, unwatched_exit}
 use Rattle.swaps_read.specs.Requests.{NewText, with_first, with_second, with_swaps}
@@ -44,7 +50,7 @@ use Rattle.swaps_read.specs.Shelves.{items_at, memory_behind, new_texts, registe
 use Rattle.swaps_read.specs.Stops.{CanBeSwapped, IsSwapped}
 use Rattle.swaps_read.proofs.ExitLemmas.{exits_behind_swaps}
 use Rattle.swaps_read.proofs.SwapLemmas.{swapped_here}
-use Rattle.stops_match.proofs.CarryLemmas.{IsEntered, carried_together, runs_none}
+use Rattle.stops_match.proofs.CarryLemmas.{IsEntered, carried_together, lists_none, runs_none}
 use Rattle.stops_match.proofs.PassLemmas.{exits_pass}
 use Rattle.stops_match.proofs.RegisterLemmas.{put_beside, put_there}
 
@@ -81,7 +87,9 @@ then_stays first second = record { whole = second.whole; placed = second.placed;
 -- ---- swapped paths
 
 module _ {S : Type 0} (back : TextsAreReadBack) (shelves : ShelvesHoldTheirItems) (table : List Row) (made pid : ℕ) (m : Machine S) (n : Machine Tracing) (r : Request) (first : NewText) (second : Option NewText) (c : ComeToCall table made pid m n)
-    (alike : IsSwappedAlike table pid m n r first second) (p q : Process ℕ Image) (lives : process pid m.state ≡ Some p) (also : process pid n.state ≡ Some q) (calm : (watched_call unwatched 1 table pid m).tally.broken ≡ None) where
+    (can : CanBeSwapped (calling 0 pid n.state) (memory_at (calling 1 pid m.state)) r first second)
+    (swap : edit_for (texts_at n.watcher.bindings n.watcher.tags (at_first_stop pid n)) (at_first_stop pid n) r ≡ swap_edit (stack_at (at_first_stop pid n)) first second) (p q : Process ℕ Image) (lives : process pid m.state ≡ Some p)
+    (also : process pid n.state ≡ Some q) where
   abbrev x : Tracing
   x = n.watcher
 
@@ -97,64 +105,78 @@ module _ {S : Type 0} (back : TextsAreReadBack) (shelves : ShelvesHoldTheirItems
   abbrev sp : ℕ
   sp = stack_at (after_request stop)
 
-  abbrev regs3 : Regs
+  abbrev pub regs3 : Regs
   regs3 = registers_behind sp first second q.image.regs
 
-  abbrev memory3 : Memory
+  abbrev pub memory3 : Memory
   memory3 = memory_behind sp first second (decoded_by q).memory
 
   abbrev left : Stopped
   left = edited regs3 memory3 stop
 
-  reads : (decoded_by p1).reply ≡ Ok r
-  reads = sym (before.decoded_here table made pid m n c p q lives also) ∙ alike.told.decoded
-
-  reads_there : (decoded_at stop).reply ≡ Ok r
-  reads_there = before.decoded_there table made pid m n c p q lives also ∙ sym (before.requests table made pid m n c p q lives also calm) ∙ reads
-
   can_here : CanBeSwapped stop p1.image.memory r first second
   can_here =
       subst (λ t. CanBeSwapped t p1.image.memory r first second) (before.calling_is table made pid m n c p q lives also)
       (subst (λ memory. CanBeSwapped (calling 0 pid n.state) memory r first second)
-      (ap (λ t. memory_at (record { state = t; pid = pid; at_root = false })) (before.shelf table made pid m n c p q lives also) ∙ ap (λ (image : Image). image.memory) (own_image pid s1 p1 (before.lives1 table made pid m n c p q lives also))) alike.can)
+      (ap (λ t. memory_at (record { state = t; pid = pid; at_root = false })) (before.shelf table made pid m n c p q lives also) ∙ ap (λ (image : Image). image.memory) (own_image pid s1 p1 (before.lives1 table made pid m n c p q lives also))) can)
 
-  abbrev swap : Applied
-  swap = applied (swap_edit sp first second) (after_request stop)
+  abbrev made_of : Applied
+  made_of = applied (swap_edit sp first second) (after_request stop)
 
-  swapped : IsSwapped stop p1.image.memory r first second swap
+  swapped : IsSwapped stop p1.image.memory r first second made_of
   swapped = swapped_here back shelves stop p1.image.memory r first second can_here
 
-  left_is : swap.stopped ≡ left
-  left_is = swapped.stopped ∙ ap (λ (image : Image). edited (registers_behind sp first second image.regs) (memory_behind sp first second (carried_out (decoding image.regs) image.memory).memory) stop) (own_image pid n.state q also)
+  made_is : made_of.stopped ≡ left
+  made_is = swapped.stopped ∙ ap (λ (image : Image). edited (registers_behind sp first second image.regs) (memory_behind sp first second (carried_out (decoding image.regs) image.memory).memory) stop) (own_image pid n.state q also)
 
   swaps : edit_for (texts_at x.bindings x.tags (after_request stop)) (after_request stop) r ≡ swap_edit sp first second
-  swaps = subst (λ t. edit_for (texts_at x.bindings x.tags (after_request t)) (after_request t) r ≡ swap_edit (stack_at (after_request t)) first second) (before.calling_is table made pid m n c p q lives also) alike.swaps
+  swaps = subst (λ t. edit_for (texts_at x.bindings x.tags (after_request t)) (after_request t) r ≡ swap_edit (stack_at (after_request t)) first second) (before.calling_is table made pid m n c p q lives also) swap
+
+  -- what it leaves
+  pub swap_left : (applied (edit_for (texts_at x.bindings x.tags (after_request stop)) (after_request stop) r) (after_request stop)).stopped ≡ left
+  swap_left = ap (λ edit. (applied edit (after_request stop)).stopped) swaps ∙ made_is
 
   image_left : image_at left ≡ record { regs = regs3; memory = memory3 }
   image_left = image-edited regs3 memory3 stop (subst IsSome (sym also) refl)
 
-  entry_is : at_entry pid n r ≡ left
-  entry_is =
-      ap (λ t. (applied (edit_for (texts_at x.bindings x.tags (after_request t)) (after_request t) r) (after_request t)).stopped) (before.calling_is table made pid m n c p q lives also)
-      ∙ ap (λ edit. (applied edit (after_request stop)).stopped) swaps ∙ left_is
-
-  swap_entered : IsEntered table made pid m n r (with_swaps first second r) c alike.told p q lives also calm regs3.x memory3
-  swap_entered =
+  pub swap_stays : StaysLike q.image.memory.pages memory3.pages
+  swap_stays =
       let own = c.also_lasts.lawful.processes pid q also in
       let read = stays-like (decoding q.image.regs) q.image.memory own.whole own.paged in
-      record {
-        answer = ap (λ edit. (applied edit (after_request stop)).answer) swaps ∙ swapped.answer;
-        stopped = ap (λ edit. (applied edit (after_request stop)).stopped) swaps ∙ left_is;
-        like = then_stays read (poked_stays (items_at sp (new_texts first second)) (decoded_by q).memory read.whole read.placed);
-        bytes = subst (λ (memory : Memory). HoldsBytes memory.pages) (ap memory_at entry_is ∙ ap (λ (image : Image). image.memory) image_left) alike.bytes;
-        unmarked = subst (AreEqualUnmarked p1.image.memory.pages) (ap (λ t. (memory_at t).pages) left_is ∙ ap (λ (image : Image). image.memory.pages) image_left) swapped.alike;
-        reads = sym (ap (λ t. (decoded_at t).reply) left_is ∙ ap (λ (image : Image). (carried_out (decoding image.regs) image.memory).reply) image_left) ∙ swapped.decodes;
-        kind = told_swapped first second r ∙ alike.told.kind;
-        exits = λ came word there regs.
-            exits_behind_swaps (with_pending (map.insert x.pending pid (awaiting (arguments_at (after_request stop)) r (led_of (texts_at x.bindings x.tags (after_request stop)) pid r) None)) x) stop (called pid came) r first second
-            (led_of (texts_at x.bindings x.tags (after_request stop)) pid r) word c.traces.identities (get-insert_same x.pending pid _) (runs_none r alike.told.kind) reads_there can_here.named (is_there n.state pid false q c.also_lasts.lawful.pids also) there
-            (regs ∙ ap (λ (image : Image). slice_set (registers_behind sp first second image.regs).x 10 word) (sym (own_image pid n.state q also)));
-      }
+      then_stays read (poked_stays (items_at sp (new_texts first second)) (decoded_by q).memory read.whole read.placed)
+
+  -- which holds bytes, as all does that it leaves
+  entered_there : is_told_of_paths r ≡ true → (entered x stop).1 ≡ (applied (edit_for (texts_at x.bindings x.tags (after_request stop)) (after_request stop) r) (after_request stop)).stopped
+  entered_there kind =
+      ap (λ (e : Tracing × Stopped). e.1)
+      (ap (after_decoding x (after_request stop)) can_here.decoded ∙ ap (by_identities x r (after_request stop)) c.traces.identities
+      ∙ ap (λ lists. after_plan x (after_request stop) r (planned_by x.bindings x.tags (after_request stop) r lists (path_at r 0))) (lists_none r kind))
+
+  pub swap_bytes : is_told_of_paths r ≡ true → HoldsBytes memory3.pages
+  swap_bytes kind =
+      let has = subst (λ t. HasBytes (entered x t).1.state) (before.calling_is table made pid m n c p q lives also) c.watched in
+      (process-bytes pid left.state (subst (λ (t : Stopped). HasBytes t.state) (entered_there kind ∙ swap_left) has) (given pid regs3 memory3 q) (lives_changed pid (given pid regs3 memory3) (λ p. refl) n.state q also)).memory
+
+  -- ---- told alike
+
+  module _ (alike : IsSwappedAlike table pid m n r first second) (calm : (watched_call unwatched 1 table pid m).tally.broken ≡ None) where
+    swap_entered : IsEntered table made pid m n r (with_swaps first second r) c alike.told p q lives also calm regs3.x memory3
+    swap_entered = record {
+      answer = ap (λ edit. (applied edit (after_request stop)).answer) swaps ∙ swapped.answer;
+      stopped = swap_left;
+      like = swap_stays;
+      bytes = swap_bytes alike.told.kind;
+      unmarked = subst (AreEqualUnmarked p1.image.memory.pages) (ap (λ t. (memory_at t).pages) made_is ∙ ap (λ (image : Image). image.memory.pages) image_left) swapped.alike;
+      reads = sym (ap (λ t. (decoded_at t).reply) made_is ∙ ap (λ (image : Image). (carried_out (decoding image.regs) image.memory).reply) image_left) ∙ swapped.decodes;
+      kind = told_swapped first second r ∙ alike.told.kind;
+      exits = λ came word there regs.
+          exits_behind_swaps (with_pending (map.insert x.pending pid (awaiting (arguments_at (after_request stop)) r (led_of (texts_at x.bindings x.tags (after_request stop)) pid r) None)) x) stop (called pid came) r first second
+          (led_of (texts_at x.bindings x.tags (after_request stop)) pid r) word c.traces.identities (get-insert_same x.pending pid _) (runs_none r alike.told.kind) can_here.decoded can_here.named (is_there n.state pid false q c.also_lasts.lawful.pids also) there
+          (regs ∙ ap (λ (image : Image). slice_set (registers_behind sp first second image.regs).x 10 word) (sym (own_image pid n.state q also)));
+    }
+
+    pub swapped_together : ComeFromCall table made (watched_call unwatched 1 table pid m) (watched_call tracer 0 plain pid n)
+    swapped_together = carried_together table made pid m n r (with_swaps first second r) c alike.told p q lives also calm _ _ swap_entered
 
 pub swapped_calls_go_together : TextsAreReadBack → ShelvesHoldTheirItems → (S : Type 0) → SwappedCallsGoTogether S
 swapped_calls_go_together back shelves S table made pid m n r first second c alike calm = by (process pid m.state) refl c.lives
@@ -163,7 +185,7 @@ swapped_calls_go_together back shelves S table made pid m n r first second c ali
     by None none some = absurd cc
     by (Some p) lives some =
         let q = lives_too table n.watcher.tags pid m.state n.state p c.matches.states lives in
-        carried_together table made pid m n r (with_swaps first second r) c alike.told p q.0 lives q.1 calm _ _ (swap_entered back shelves table made pid m n r first second c alike p q.0 lives q.1 calm)
+        swapped_together back shelves table made pid m n r first second c alike.can alike.swaps p q.0 lives q.1 alike calm
 
 -- ---- paths that are left as they are
 

@@ -1,16 +1,17 @@
 -- A call along paths that the plain kernel carries out: the tracer swaps its paths, or lets it pass, and the plain kernel is told of the
 -- paths what the kernel with mounts is told of the old ones.
-use Rattle.std.specs.Prelude.{◌≡◌, ℕ, ℤ, true, List, Option, None, Ok}
+use Rattle.std.specs.Prelude.{◌≡◌, ◌⊎◌, ℕ, ℤ, true, List, Option, None, Ok}
+use Rattle.pr_base.specs.declared.errno.Errno.{Errno}
 use Rattle.pt_args.specs.declared.edit.Edit.TheVariants.{Pass}
 use Rattle.pt_results.specs.Notes.{noted, tags_after}
 use Rattle.kr_view.specs.View.{Row, plain}
 use Rattle.kr_calls.specs.declared.request.Request.{Request}
-use Rattle.kr_allowed.specs.Allowed.{HoldsBytes}
 use Rattle.kr_allowed.specs.Told.{mounts_walked}
 use Rattle.kr_model.specs.Applied.{Mounts}
 use Rattle.kr_model.specs.Bare.{bare_mounts}
 use Rattle.kr_model.specs.Known.{known}
 use Rattle.kr_model.specs.Operation.{operation}
+use Rattle.kr_model.specs.Reply.{refuse}
 use Rattle.kr_model.specs.Seen.{Seen}
 use Rattle.kr_model.specs.State.{Image, State, image_layout}
 use Rattle.kr_model.specs.Walks.{seen, targets_of}
@@ -54,9 +55,9 @@ module _ {S : Type 0} (table : List Row) (pid : ℕ) (m : Machine S) (n : Machin
   pub record IsToldAlong (other : Request) : Type 0 where
     pub decoded : (decoded_at (calling 1 pid m.state)).reply ≡ Ok r
     pub kind : is_told_of_paths r ≡ true
-    -- its row is the same of what the plain kernel is told, and names mounts alike
+    -- its row is the same of what the plain kernel is told, and names mounts alike, or none, since the call is refused
     pub acts : operation pid r told_here (known image_layout pid here) ≡ operation pid other (seen plain pid there other) (known image_layout pid here)
-    pub mounts : bare_mounts mounts_here ≡ bare_mounts (mounts_walked (targets_of plain pid there other))
+    pub mounts : (bare_mounts mounts_here ≡ bare_mounts (mounts_walked (targets_of plain pid there other))) ⊎ ((e : Errno) × (operation pid r told_here (known image_layout pid here) ≡ refuse e))
     -- what it changes keeps places standing, and the tracer notes what becomes of the tags
     pub inside : MovesStayInside table mounts_here pid (written_in pid r told_here here) (done_in pid r told_here here).reply.changes
     pub new : NewPlacesStand table mounts_here pid (written_in pid r told_here here) (done_in pid r told_here here).reply.changes
@@ -69,7 +70,6 @@ module _ {S : Type 0} (table : List Row) (pid : ℕ) (m : Machine S) (n : Machin
     pub told : IsToldAlong (with_swaps first second r)
     pub swaps : edit_for (texts_at n.watcher.bindings n.watcher.tags (at_first_stop pid n)) (at_first_stop pid n) r ≡ swap_edit (stack_at (at_first_stop pid n)) first second
     pub can : CanBeSwapped (calling 0 pid n.state) (memory_at (calling 1 pid m.state)) r first second
-    pub bytes : HoldsBytes (memory_at (at_entry pid n r)).pages
 
   -- or it leaves them as they are
   pub record IsPassedAlike : Type 0 where

@@ -1,25 +1,50 @@
 -- Runs of a machine with mounts that nobody watches, and of a plain one with the tracer, without an identity: where each call keeps both
 -- machines together, so does a run.
 use Rattle.std.specs.Prelude.{◌≡◌, ◌≤◌, ◌^◌, ℕ, Bool, true, List, Option, None}
+use Rattle.std.specs.Option.{option_map_or}
 use Rattle.pr_base.specs.MountText.{MountText}
+use Rattle.rv_cpu.specs.Run.{ran}
+use Rattle.rv_cpu.specs.declared.event.Event.{Event}
+use Rattle.rv_cpu.specs.declared.event.Event.TheVariants.{Call, Killed, Next}
 use Rattle.pt_ident.specs.IdentityTable.{IdentityTable}
 use Rattle.kr_view.specs.View.{Row, plain}
 use Rattle.kr_mounts.specs.Standing.{texts_of}
+use Rattle.kr_calls.specs.Decoding.{Decoded}
+use Rattle.kr_model.specs.State.{Image, Process}
 use Rattle.kr_allowed.specs.Told.{SourcesAreNamed}
 use Rattle.kr_bytes.specs.Bytes.{TableHasBytes}
 use Rattle.kr_bytes.specs.Turns.{WatchesBytes}
+use Rattle.kr_steps.specs.Computing.{computed}
+use Rattle.kr_steps.specs.Waiting.{picked_process}
 use Rattle.kr_turns.specs.Run.{Slot, run}
-use Rattle.kr_turns.specs.Turn.{Machine, watched_call}
+use Rattle.kr_turns.specs.Turn.{Machine, calling, watched_call}
 use Rattle.kr_turns.specs.Watching.{unwatched}
+use Rattle.pt_tracer.specs.Stopping.{decoded_at}
 use Rattle.pt_watched.specs.Watched.{Tracing, tracer}
-use Rattle.turns_match.specs.Runs.{ComeAlike, GoTogether, KeepOn}
+use Rattle.swaps_read.specs.Points.{PointsAreShort}
+use Rattle.turns_match.specs.Runs.{ComeAlike, EachTurn, GoTogether, KeepOn}
 use Rattle.stops_match.specs.Turning.{ComeFromCall, ComeToCall, tags_kept}
 
--- each call of a calm run keeps the machines together, with its stops
-abbrev pub CallsGoTogether : Type 0 → List Row → Type 0
-CallsGoTogether S table =
-    (made pid : ℕ) (m : Machine S) (n : Machine Tracing) → ComeToCall table made pid m n → (watched_call unwatched 1 table pid m).tally.broken ≡ None
+-- each call of a calm run of whose decoding a test holds keeps the machines together, with its stops
+abbrev pub CallsGoTogether : Type 0 → (Decoded → Bool) → List Row → Type 0
+CallsGoTogether S allows table =
+    (made pid : ℕ) (m : Machine S) (n : Machine Tracing) → ComeToCall table made pid m n → allows (decoded_at (calling 1 pid m.state)).reply ≡ true → (watched_call unwatched 1 table pid m).tally.broken ≡ None
     → ComeFromCall table made (watched_call unwatched 1 table pid m) (watched_call tracer 0 plain pid n)
+
+-- where instructions end in a call
+abbrev pub if_called : Event → Bool → Bool
+if_called Call allowed = allowed
+if_called Next allowed = true
+if_called (Killed signal) allowed = true
+
+-- the test holds of the call to which a process comes in a turn, if it comes to one
+abbrev pub allowed_of : {S : Type 0} → (Decoded → Bool) → ℕ → Machine S → Process ℕ Image → Bool
+allowed_of allows fuel m p =
+    let end = ran fuel p.image.regs p.image.memory in
+    if_called end.event (allows (decoded_at (calling 1 p.pid (computed p.pid end.regs end.memory m.state))).reply)
+
+abbrev pub makes_allowed : {S : Type 0} → (Decoded → Bool) → Slot → Machine S → Bool
+makes_allowed allows slot m = option_map_or (allowed_of allows slot.fuel m) (picked_process m.state slot.pick) true
 
 -- what the tracer goes by from turn to turn: the texts of the mounts, no identity, and what is sound by a test
 abbrev pub gone_by : {S : Type 0} → List Row → S → List MountText × Option IdentityTable × Bool
@@ -28,16 +53,18 @@ gone_by table x = (texts_of table, None, true)
 abbrev pub goes_by : (Tracing → Bool) → Tracing → List MountText × Option IdentityTable × Bool
 goes_by sound x = (x.bindings, x.identities, sound x)
 
--- what a run rests on: sources of mounts that are files have names, the table is made of bytes, and what the tracer puts into memory is,
--- as long as it is sound
+-- what a run rests on: sources of mounts that are files have names, host names of mount points are short, the table is made of bytes, and
+-- what the tracer puts into memory is, as long as it is sound
 pub record CanRun (sound : Tracing → Bool) (table : List Row) : Type 0 where
   pub named : SourcesAreNamed table
+  pub short : PointsAreShort table
   pub bytes : TableHasBytes table
   pub watches : WatchesBytes (λ x. sound x ≡ true) tracer
 
--- so a calm run and the watched one come to the same bytes, the same end, the same status and the same tree
+-- so a calm run of such calls and the watched one come to the same bytes, the same end, the same status and the same tree
 abbrev pub TracedRunsComeAlike : Type 0 → Type 0
 TracedRunsComeAlike S =
-    (sound : Tracing → Bool) (table : List Row) (slots : ℕ → Slot) → CallsGoTogether S table → CanRun sound table
-    → (turns : ℕ) (m : Machine S) (n : Machine Tracing) → turns ≤ 2 ^ 31 → GoTogether tags_kept table 0 m n → KeepOn (gone_by table) (goes_by sound) m n → (run unwatched 1 table slots turns m).machine.tally.broken ≡ None
+    (allows : Decoded → Bool) (sound : Tracing → Bool) (table : List Row) (slots : ℕ → Slot) → CallsGoTogether S allows table → CanRun sound table
+    → (turns : ℕ) (m : Machine S) (n : Machine Tracing) → turns ≤ 2 ^ 31 → GoTogether tags_kept table 0 m n → KeepOn (gone_by table) (goes_by sound) m n
+    → EachTurn unwatched table slots (λ made. makes_allowed allows (slots made)) turns 0 m → (run unwatched 1 table slots turns m).machine.tally.broken ≡ None
     → ComeAlike (run unwatched 1 table slots turns m) (run tracer 0 plain slots turns n)

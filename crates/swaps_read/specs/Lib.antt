@@ -4,6 +4,7 @@ pub mod Laws
 pub mod Marking
 pub mod NoCalls
 pub mod Operations
+pub mod Points
 pub mod Requests
 pub mod Rewriting
 pub mod Shelves

@@ -1,0 +1,105 @@
+-- A call along paths that the tracer answers itself, where the kernel with mounts answers and writes the same.
+use Rattle.std.proofs.Common.{◌≡◌, ℕ, true, false, List, [], Option, Some, None, Ok, refl, sym, ap, subst, ◌∙◌, ℤ}
+use Rattle.std.specs.Option.{unwrap_or}
+use Rattle.rv_mem.specs.Actions.{AreEqualUnmarked, CarriedOut, carried_out}
+use Rattle.rv_mem.specs.Memory.{Memory}
+use Rattle.pt_args.specs.declared.edit.Edit.{Edit}
+use Rattle.pt_results.specs.Notes.{noted, tags_after}
+use Rattle.kr_view.specs.View.{Row, plain}
+use Rattle.kr_calls.specs.declared.request.Request.{Request}
+use Rattle.kr_answers.specs.Carrying.{memory_of}
+use Rattle.kr_model.specs.Reply.{Reply}
+use Rattle.kr_model.specs.State.{Image, Process, State, process}
+use Rattle.kr_model.specs.Walks.{seen}
+use Rattle.kr_model.specs.declared.outcome.Outcome.TheVariants.{Answer}
+use Rattle.kr_turns.specs.Stopped.{IsThere, Stopped}
+use Rattle.kr_turns.specs.Turn.{Machine, calling, watched_call}
+use Rattle.kr_turns.specs.Watching.{unwatched}
+use Rattle.kr_turns.proofs.EditLemmas.{there as is_there}
+use Rattle.pt_tracer.specs.Stopping.{decoded_at, memory_at}
+use Rattle.pt_watched.specs.Planning.{answered, edit_for, led_of, rewritten, texts_at}
+use Rattle.pt_watched.specs.Watched.{Tracing, applied, tracer}
+use Rattle.places_stay.proofs.MatchLemmas.{tagged_places_are_placed}
+use Rattle.turns_match.specs.Operating.{done_in}
+use Rattle.turns_match.proofs.CalledLemmas.{decoded_lives, decoded_memory, decoded_process}
+use Rattle.path_places.specs.PathCalls.{HasPath}
+use Rattle.answers_agree.specs.Answers.{AreAnsweredAlike, CanBeTold, IsIn}
+use Rattle.stops_match.specs.Answering.{IsAnsweredAlike}
+use Rattle.stops_match.specs.Cancelling.{at_first_stop}
+use Rattle.stops_match.specs.Noting.{told_answer}
+use Rattle.stops_match.specs.Turning.{ComeFromCall, ComeToCall}
+use Rattle.stops_match.proofs.EmulateLemmas.{answered_calls_go_together}
+use Rattle.stops_match.proofs.CallLemmas as before
+use Rattle.stops_match.proofs.CallLemmas.{own_image}
+use Rattle.paths_together.proofs.HereLemmas as here
+use Rattle.paths_together.proofs.ToldLemmas.{is_told}
+
+module _ {S : Type 0} (table : List Row) (made pid : ℕ) (m : Machine S) (n : Machine Tracing) (r : Request) (c : ComeToCall table made pid m n) (p q : Process ℕ Image) (lives : process pid m.state ≡ Some p) (also : process pid n.state ≡ Some q)
+    (calm : (watched_call unwatched 1 table pid m).tally.broken ≡ None) (reads : (decoded_at (calling 1 pid m.state)).reply ≡ Ok r) (kind : HasPath r) where
+  abbrev at : State ℕ Image
+  at = here.at table made pid m n r c p q lives also calm reads kind
+
+  abbrev x : Tracing
+  x = n.watcher
+
+  abbrev then_stop : Stopped
+  then_stop = before.then_stop table made pid m n c p q lives also
+
+  -- ---- what such answers rest on
+
+  pub told : CanBeTold table at x.tags
+  told =
+      let both = here.match_at table made pid m n r c p q lives also calm reads kind in
+      record { settled = both.placed.settled; small = (here.together table made pid m n r c p q lives also calm reads kind).small; placed = tagged_places_are_placed table at x.tags both.placed both.tagged }
+
+  abbrev pub caller : Process ℕ Image
+  caller = decoded_process table made pid (before.s1 table made pid m n c p q lives also) (before.p1 table made pid m n c p q lives also) (here.mine table made pid m n r c p q lives also calm reads kind)
+
+  pub in_directory : IsIn at pid caller
+  in_directory =
+      let lives_at = decoded_lives table made pid (before.s1 table made pid m n c p q lives also) (before.p1 table made pid m n c p q lives also) (here.mine table made pid m n r c p q lives also calm reads kind) in
+      record { lives = lives_at; directory = ((here.match_at table made pid m n r c p q lives also calm reads kind).placed.lawful.processes pid caller lives_at).cwd.1 }
+
+  abbrev q2 : Process ℕ Image
+  q2 = before.q2 table made pid m n c p q lives also
+
+  also_then : process pid then_stop.state ≡ Some q2
+  also_then = (before.can_then table made pid m n c p q lives also).lives
+
+  pub stop_there : IsThere then_stop
+  stop_there = is_there then_stop.state pid false q2 (before.can_then table made pid m n c p q lives also).lasts.lawful.pids also_then
+
+  pub memories : AreEqualUnmarked (memory_of pid at).pages (memory_at then_stop).pages
+  memories =
+      let one = decoded_memory table made pid (before.s1 table made pid m n c p q lives also) (before.p1 table made pid m n c p q lives also) (here.mine table made pid m n r c p q lives also calm reads kind) in
+      subst (λ (memory : Memory). AreEqualUnmarked memory.pages (memory_at then_stop).pages) (sym one)
+      (subst (λ (image : Image). AreEqualUnmarked caller.image.memory.pages image.memory.pages) (sym (own_image pid then_stop.state q2 also_then))
+      ((here.match_at table made pid m n r c p q lives also calm reads kind).images.memories pid caller q2 in_directory.lives also_then))
+
+  -- ---- so the call is answered on both
+
+  module _ (edit : Edit) (is : answered (here.texts table made pid m n r c p q lives also calm reads kind) then_stop r ≡ Some edit) (alike : AreAnsweredAlike (done_in pid r (seen table pid at r) at) (applied edit then_stop))
+      (silent : (index : ℕ) (value : ℤ) → tags_after x.tags pid (noted r index (told_answer value)) ≡ x.tags) where
+    edit_is : edit_for (texts_at x.bindings x.tags (at_first_stop pid n)) (at_first_stop pid n) r ≡ edit
+    edit_is =
+        let texts = here.texts table made pid m n r c p q lives also calm reads kind in
+        here.edit_is table made pid m n r c p q lives also calm reads kind ∙ ap (λ o. unwrap_or o (rewritten texts then_stop r)) is
+
+    kept_is : applied (edit_for (texts_at x.bindings x.tags (at_first_stop pid n)) (at_first_stop pid n) r) (at_first_stop pid n) ≡ applied edit then_stop
+    kept_is = ap (λ edit. applied edit (at_first_stop pid n)) edit_is ∙ ap (applied edit) (here.stop_is table made pid m n r c p q lives also calm reads kind)
+
+    answered_alike : IsAnsweredAlike table pid m n r alike.answer
+    answered_alike =
+        let here_is = sym (before.at_call_is table made pid m n c p q lives also) in
+        record {
+          decoded = reads;
+          kind = is_told r kind;
+          answers = ap (λ kept. kept.answer) kept_is ∙ alike.told;
+          replies = subst (λ t. (done_in pid r (seen table pid t r) t).reply ≡ record { outcome = Answer alike.answer; changes = [] }) here_is alike.carried;
+          alike = subst (λ t. AreEqualUnmarked (done_in pid r (seen table pid t r) t).memory.pages (memory_at (applied (edit_for (texts_at x.bindings x.tags (at_first_stop pid n)) (at_first_stop pid n) r) (at_first_stop pid n)).stopped).pages) here_is
+              (subst (λ kept. AreEqualUnmarked (done_in pid r (seen table pid at r) at).memory.pages (memory_at kept.stopped).pages) (sym kept_is) alike.memories);
+          silent = silent (led_of (texts_at x.bindings x.tags (at_first_stop pid n)) pid r).index alike.answer;
+        }
+
+    pub answered_together : ComeFromCall table made (watched_call unwatched 1 table pid m) (watched_call tracer 0 plain pid n)
+    answered_together = answered_calls_go_together S table made pid m n r alike.answer c answered_alike calm

@@ -1,0 +1,117 @@
+-- Calls along paths, whatever the tracer makes of them.
+use Rattle.std.proofs.Common.{◌≡◌, ◌≤◌, ℕ, List, length, Option, Some, None, Ok, refl, ap, ◌∙◌, ℤ, pos, arith}
+use Rattle.std.specs.Prelude.{IsSome}
+use Rattle.pr_base.specs.declared.path.WalkMode.TheVariants.{LookLink}
+use Rattle.pt_args.specs.Laws.{ShelvesHoldTheirItems, TextsAreReadBack}
+use Rattle.pt_args.specs.declared.edit.Edit.{Edit}
+use Rattle.pt_results.specs.Answers.{cwd_answer, link_answer}
+use Rattle.kr_view.specs.View.{Row, plain}
+use Rattle.kr_calls.specs.PathTable.{PathUse, path_at}
+use Rattle.kr_calls.specs.declared.request.Request.{Request}
+use Rattle.kr_calls.specs.declared.request.Request.TheVariants as call
+use Rattle.kr_answers.specs.Carrying.{memory_of}
+use Rattle.kr_model.specs.State.{Image, Process, process}
+use Rattle.kr_turns.specs.Turn.{Machine, calling, watched_call}
+use Rattle.kr_turns.specs.Watching.{unwatched}
+use Rattle.pt_tracer.specs.Stopping.{decoded_at}
+use Rattle.pt_watched.specs.Planning.{answered}
+use Rattle.pt_watched.specs.Watched.{Tracing, tracer}
+use Rattle.turns_match.proofs.RunLemmas.{lives_too}
+use Rattle.path_places.specs.PathCalls.{HasPath}
+use Rattle.answers_agree.proofs.CwdLemmas.{cwds_are_answered_alike}
+use Rattle.stops_match.specs.Turning.{ComeFromCall, ComeToCall}
+use Rattle.paths_together.specs.Calls.{PathCallsGoTogether}
+use Rattle.paths_together.proofs.AnswerLemmas.{answered_together, in_directory, memories, stop_there, told}
+use Rattle.paths_together.proofs.AnswerLemmas as answer
+use Rattle.paths_together.proofs.HereLemmas as here
+use Rattle.paths_together.proofs.PlanLemmas.{is_planned, planned_together, then_stop}
+use Rattle.swaps_read.specs.Points.{PointsAreShort}
+use Rattle.plans_short.specs.Short.{PointsFit}
+use Rattle.plans_short.proofs.DecodedLemmas.{counts_are_decoded, first_of_two_is_decoded}
+use Rattle.plans_short.proofs.LinkLemmas.{links_are_answered_alike}
+use Rattle.plans_short.proofs.EditLemmas.{plans_are_short}
+
+-- a slash fits behind the host name of each mount point
+points_fit : (table : List Row) → PointsAreShort table → (r : Request) → PointsFit table r
+points_fit table short r = record { points = λ k row point is at. (let few = short k row point is at in omega (arith, few)); slashed = λ k u path behind. short }
+
+module _ {S : Type 0} (back : TextsAreReadBack) (shelves : ShelvesHoldTheirItems) (table : List Row) (made pid : ℕ) (m : Machine S) (n : Machine Tracing) (c : ComeToCall table made pid m n) (p q : Process ℕ Image) (lives : process pid m.state ≡ Some p)
+    (also : process pid n.state ≡ Some q) (calm : (watched_call unwatched 1 table pid m).tally.broken ≡ None) where
+  abbrev Together : Type 0
+  Together = ComeFromCall table made (watched_call unwatched 1 table pid m) (watched_call tracer 0 plain pid n)
+
+  abbrev Reads : Request → Type 0
+  Reads r = (decoded_at (calling 1 pid m.state)).reply ≡ Ok r
+
+  -- ---- by the plan of its paths
+
+  along : (r : Request) (reads : Reads r) (kind : HasPath r) (u : PathUse) → path_at r 0 ≡ Some u → link_answer (here.texts table made pid m n r c p q lives also calm reads kind) pid r ≡ None
+      → answered (here.texts table made pid m n r c p q lives also calm reads kind) (then_stop table made pid m n r c p q lives also calm reads kind) r ≡ None → Together
+  along r reads kind u path unlinked unanswered =
+      let p1 = here.p1 table made pid m n r c p q lives also calm reads kind in
+      let first = first_of_two_is_decoded p1.image.regs p1.image.memory r (here.reads_by table made pid m n r c p q lives also calm reads kind) in
+      let short =
+      plans_are_short table n.watcher.tags (here.at table made pid m n r c p q lives also calm reads kind) (here.w2 table made pid m n r c p q lives also calm reads kind) pid r u
+      (is_planned table made pid m n r c p q lives also calm reads kind u path first unlinked unanswered) path (here.short table made pid m n r c p q lives also calm reads kind) (points_fit table c.short r) in
+      planned_together table made pid m n r c p q lives also calm reads kind u path first unlinked unanswered back shelves short.0 short.1
+
+  -- ---- answered by the tracer
+
+  getcwd : (buf size : ℕ) → Reads (call.Getcwd buf size) → Together
+  getcwd buf size reads =
+      let r = call.Getcwd buf size in
+      let at = here.at table made pid m n r c p q lives also calm reads tt in
+      let stop = then_stop table made pid m n r c p q lives also calm reads tt in
+      answered_together table made pid m n r c p q lives also calm reads tt (cwd_answer (here.texts table made pid m n r c p q lives also calm reads tt) pid size buf) refl
+      (cwds_are_answered_alike table at n.watcher.tags pid (answer.caller table made pid m n r c p q lives also calm reads tt) (memory_of pid at) stop buf size (told table made pid m n r c p q lives also calm reads tt)
+      (in_directory table made pid m n r c p q lives also calm reads tt) (stop_there table made pid m n r c p q lives also calm reads tt) (memories table made pid m n r c p q lives also calm reads tt)) (λ index value. refl)
+
+  link_read : (dirfd : ℤ) (path : List ℕ) (buf count : ℕ) → Reads (call.Readlinkat dirfd path buf (pos count)) → Together
+  link_read dirfd path buf count reads =
+      let r = call.Readlinkat dirfd path buf (pos count) in
+      by (link_answer (here.texts table made pid m n r c p q lives also calm reads tt) pid r) refl
+    where
+      by : (o : Option Edit) → link_answer (here.texts table made pid m n (call.Readlinkat dirfd path buf (pos count)) c p q lives also calm reads tt) pid (call.Readlinkat dirfd path buf (pos count)) ≡ o → Together
+      by None is = along (call.Readlinkat dirfd path buf (pos count)) reads tt (record { dirfd = dirfd; text = path; mode = LookLink; register = 11 }) refl is is
+      by (Some edit) is =
+          let r = call.Readlinkat dirfd path buf (pos count) in
+          let at = here.at table made pid m n r c p q lives also calm reads tt in
+          answered_together table made pid m n r c p q lives also calm reads tt edit is
+          (links_are_answered_alike table n.watcher.tags at _ pid (memory_of pid at) (then_stop table made pid m n r c p q lives also calm reads tt) dirfd path buf count edit (here.together table made pid m n r c p q lives also calm reads tt)
+          (stop_there table made pid m n r c p q lives also calm reads tt) (memories table made pid m n r c p q lives also calm reads tt) is) (λ index value. refl)
+
+  -- its size is a positive number, as decoding gives it
+  readlinkat : (dirfd : ℤ) (path : List ℕ) (buf : ℕ) (size : ℤ) → Reads (call.Readlinkat dirfd path buf size) → Together
+  readlinkat dirfd path buf size reads =
+      let r = call.Readlinkat dirfd path buf size in
+      let p1 = here.p1 table made pid m n r c p q lives also calm reads tt in
+      let count = counts_are_decoded p1.image.regs p1.image.memory r (here.reads_by table made pid m n r c p q lives also calm reads tt) in
+      link_read dirfd path buf count.0 (reads ∙ ap (λ size. Ok (call.Readlinkat dirfd path buf size)) count.1)
+
+  -- ---- each call
+
+  each : (r : Request) → Reads r → HasPath r → Together
+  each (call.Openat dirfd path flags mode) reads kind = along (call.Openat dirfd path flags mode) reads kind _ refl refl refl
+  each (call.Mkdirat dirfd path mode) reads kind = along (call.Mkdirat dirfd path mode) reads kind _ refl refl refl
+  each (call.Unlinkat dirfd path flags) reads kind = along (call.Unlinkat dirfd path flags) reads kind _ refl refl refl
+  each (call.Symlinkat text dirfd path) reads kind = along (call.Symlinkat text dirfd path) reads kind _ refl refl refl
+  each (call.Linkat olddir old newdir new flags) reads kind = along (call.Linkat olddir old newdir new flags) reads kind _ refl refl refl
+  each (call.Renameat2 olddir old newdir new) reads kind = along (call.Renameat2 olddir old newdir new) reads kind _ refl refl refl
+  each (call.Faccessat dirfd path mode) reads kind = along (call.Faccessat dirfd path mode) reads kind _ refl refl refl
+  each (call.Fchmodat dirfd path mode) reads kind = along (call.Fchmodat dirfd path mode) reads kind _ refl refl refl
+  each (call.Fchownat dirfd path uid gid flags) reads kind = along (call.Fchownat dirfd path uid gid flags) reads kind _ refl refl refl
+  each (call.Newfstatat dirfd path buf flags) reads kind = along (call.Newfstatat dirfd path buf flags) reads kind _ refl refl refl
+  each (call.Readlinkat dirfd path buf size) reads kind = readlinkat dirfd path buf size reads
+  each (call.Chdir path) reads kind = along (call.Chdir path) reads kind _ refl refl refl
+  each (call.Chroot path) reads kind = along (call.Chroot path) reads kind _ refl refl refl
+  each (call.Getcwd buf size) reads kind = getcwd buf size reads
+  each _ reads kind = absurd kind
+
+pub path_calls_go_together : TextsAreReadBack → ShelvesHoldTheirItems → (S : Type 0) → PathCallsGoTogether S
+path_calls_go_together back shelves S table made pid m n r c reads kind calm = by (process pid m.state) refl c.lives
+  where
+    by : (o : Option (Process ℕ Image)) → process pid m.state ≡ o → IsSome o → ComeFromCall table made (watched_call unwatched 1 table pid m) (watched_call tracer 0 plain pid n)
+    by None none some = absurd cc
+    by (Some p) lives some =
+        let q = lives_too table n.watcher.tags pid m.state n.state p c.matches.states lives in
+        each back shelves table made pid m n c p q.0 lives q.1 calm r reads kind

@@ -1,0 +1,9 @@
+pub mod AnswerLemmas
+pub mod HereLemmas
+pub mod IndexLemmas
+pub mod JoinLemmas
+pub mod NoteLemmas
+pub mod OtherLemmas
+pub mod PlanLemmas
+pub mod ShelfLemmas
+pub mod ToldLemmas

@@ -1,0 +1,33 @@
+-- Calls along paths, other than execve(2), with their stops.
+use Rattle.std.specs.Prelude.{◌≡◌, ℕ, Bool, true, false, not, List, None, Ok, Err}
+use Rattle.kr_view.specs.View.{Row, plain}
+use Rattle.kr_calls.specs.Decoding.{Decoded}
+use Rattle.kr_calls.specs.declared.request.Request.{Request}
+use Rattle.kr_calls.specs.declared.request.Request.TheVariants as call
+use Rattle.kr_turns.specs.Turn.{Machine, calling, watched_call}
+use Rattle.kr_turns.specs.Watching.{unwatched}
+use Rattle.pt_tracer.specs.Stopping.{decoded_at}
+use Rattle.pt_watched.specs.Watched.{Tracing, tracer}
+use Rattle.path_places.specs.PathCalls.{HasPath}
+use Rattle.stops_match.specs.Together.{CallsGoTogether}
+use Rattle.stops_match.specs.Turning.{ComeFromCall, ComeToCall}
+
+-- where it breaks no calm rule, such a call and its stops keep the match
+abbrev pub PathCallsGoTogether : Type 0 → Type 0
+PathCallsGoTogether S =
+    (table : List Row) (made pid : ℕ) (m : Machine S) (n : Machine Tracing) (r : Request) → ComeToCall table made pid m n → (decoded_at (calling 1 pid m.state)).reply ≡ Ok r → HasPath r → (watched_call unwatched 1 table pid m).tally.broken ≡ None
+    → ComeFromCall table made (watched_call unwatched 1 table pid m) (watched_call tracer 0 plain pid n)
+
+-- a call that is decoded is execve(2)
+abbrev pub is_execve : Request → Bool
+is_execve (call.Execve path args env) = true
+is_execve _ = false
+
+-- what was decoded isn't, if anything was
+abbrev pub executes_nothing : Decoded → Bool
+executes_nothing (Ok r) = not (is_execve r)
+executes_nothing (Err e) = true
+
+-- and so does each other call but execve(2)
+abbrev pub OtherCallsGoTogether : Type 0 → Type 0
+OtherCallsGoTogether S = (table : List Row) → CallsGoTogether S executes_nothing table

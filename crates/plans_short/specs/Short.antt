@@ -1,0 +1,73 @@
+-- What a tracer puts in place of the paths of a calm call is no longer than the plain kernel takes.
+use Rattle.std.specs.Prelude.{◌≡◌, ◌≤◌, ◌⊎◌, ℕ, true, List, length, Option, Some, None}
+use Rattle.pr_base.specs.Paths.{has_slash, text_of}
+use Rattle.pr_base.specs.Texts.{Text}
+use Rattle.pr_base.specs.declared.errno.Errno.TheVariants.{ENAMETOOLONG}
+use Rattle.pt_args.specs.declared.edit.Edit.TheVariants.{Cancel}
+use Rattle.pt_bind.specs.Tags.{TagTable}
+use Rattle.kr_calls.specs.PathTable.{PathUse, path_at}
+use Rattle.kr_calls.specs.declared.request.Request.{Request}
+use Rattle.kr_view.specs.View.{Row, row}
+use Rattle.kr_model.specs.Known.{known}
+use Rattle.kr_model.specs.Operation.{operation}
+use Rattle.kr_model.specs.Reply.{refuse}
+use Rattle.kr_model.specs.State.{Image, State, image_layout}
+use Rattle.kr_model.specs.Walks.{seen}
+use Rattle.kr_paths.specs.CallWalks.{call_reach}
+use Rattle.kr_turns.specs.Breaking.{nothing_reached}
+use Rattle.plans_agree.specs.Plans.{Cancelling, IsEdit, IsPlanned, Passing, PlanAgrees, Swapping, shelved_texts}
+use Rattle.swaps_read.specs.Requests.{NewText}
+
+-- ---- mount points
+
+-- the names at which mounts stand have so many bytes on the host
+abbrev pub PointsHaveAtMost : ℕ → List Row → Type 0
+PointsHaveAtMost n table = (k : ℕ) (r : Row) (point : Text) → row table k ≡ Some r → r.text.point ≡ Some point → length (text_of point) ≤ n
+
+abbrev pub PointsAreShort : List Row → Type 0
+PointsAreShort table = PointsHaveAtMost 4095 table
+
+-- a slash behind a path is put behind the text in its place, too: where a path has one, there is room for it behind each point
+pub record PointsFit (table : List Row) (r : Request) : Type 0 where
+  pub points : PointsAreShort table
+  pub slashed : (k : ℕ) (u : PathUse) → path_at r k ≡ Some u → has_slash u.text ≡ true → PointsHaveAtMost 4094 table
+
+-- ---- texts
+
+abbrev pub IsShort : NewText → Type 0
+IsShort n = length n.text ≤ 4095
+
+abbrev pub IsShortIfAny : Option NewText → Type 0
+IsShortIfAny None = Unit {0}
+IsShortIfAny (Some n) = IsShort n
+
+module _ (table : List Row) (tags : TagTable) (s w : State ℕ Image) (pid : ℕ) (r : Request) where
+  -- a call of which no path leads to a host name of more than 4,000 bytes
+  abbrev pub ReachesNoLongName : Type 0
+  ReachesNoLongName = (call_reach table pid s r nothing_reached).longest ≤ 4000
+
+  -- the call is cancelled since a name is too long, and so the kernel with mounts refuses it
+  pub record IsTooLong : Type 0 where
+    pub edit : IsEdit table tags s w pid r (λ sp usable. Cancel ENAMETOOLONG)
+    pub refused : operation pid r (seen table pid s r) (known image_layout pid s) ≡ refuse ENAMETOOLONG
+
+  -- the texts that a plan puts in place of paths are short
+  abbrev pub IsShortPlan : PlanAgrees table tags s w pid r → Type 0
+  IsShortPlan (Passing edit passed) = Unit {0}
+  IsShortPlan (Swapping first second edit swapped) = IsShort first × IsShortIfAny second
+  IsShortPlan (Cancelling e edit refused) = Unit {0}
+
+-- ---- laws
+
+-- texts that are shelved in place of paths are short. An edit that is a cancellation with ENAMETOOLONG looks like one of longer texts
+abbrev pub ShelvedTextsAreShort : Type 0
+ShelvedTextsAreShort =
+    (table : List Row) (tags : TagTable) (s w : State ℕ Image) (pid : ℕ) (r : Request) (u : PathUse) (first : NewText) (second : Option NewText) → IsPlanned table tags s w pid r → path_at r 0 ≡ Some u
+    → ReachesNoLongName table tags s w pid r → PointsFit table r → IsEdit table tags s w pid r (shelved_texts table tags s w pid r first second)
+    → (IsShort first × IsShortIfAny second) ⊎ IsTooLong table tags s w pid r
+
+-- so there is a plan that agrees, with short texts
+abbrev pub PlansAreShort : Type 0
+PlansAreShort =
+    (table : List Row) (tags : TagTable) (s w : State ℕ Image) (pid : ℕ) (r : Request) (u : PathUse) → IsPlanned table tags s w pid r → path_at r 0 ≡ Some u
+    → ReachesNoLongName table tags s w pid r → PointsFit table r → (plan : PlanAgrees table tags s w pid r) × IsShortPlan table tags s w pid r plan
