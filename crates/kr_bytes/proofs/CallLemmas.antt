@@ -111,7 +111,7 @@ executions-keep-bytes table pid path args env s named are has =
 
 -- ---- from the decoding on
 
-given-bytes : (r : Request) → IsGivable r → HasTextPaths r → GivesBytes r
+pub given-bytes : (r : Request) → IsGivable r → HasTextPaths r → GivesBytes r
 given-bytes r givable paths = record { paths = λ k u is. (paths k u is).1; text = by r givable }
   where
     by : (r : Request) → IsGivable r → HasByteText r

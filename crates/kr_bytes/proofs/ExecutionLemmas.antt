@@ -46,10 +46,10 @@ use Rattle.kr_bytes.proofs.WalkLemmas.{LeadsByBytes, target-bytes}
 -- ---- actions that give something
 
 -- an action that writes bytes, and gives what is good if anything
-abbrev Gives : {A : Type 0} → (A → Type 0) → Trying A → Type 0
+abbrev pub Gives : {A : Type 0} → (A → Type 0) → Trying A → Type 0
 Gives P action = PutsBytes (λ r. IfOk r P) action
 
-gives-then : {A B : Type 0} (P : A → Type 0) (Q : B → Type 0) (next : A → Trying B) (action : Trying A) → Gives P action → ((x : A) → P x → Gives Q (next x)) → Gives Q (and_then action next)
+pub gives-then : {A B : Type 0} (P : A → Type 0) (Q : B → Type 0) (next : A → Trying B) (action : Trying A) → Gives P action → ((x : A) → P x → Gives Q (next x)) → Gives Q (and_then action next)
 gives-then P Q next action (told {reply = Ok x} good) each = each x good
 gives-then P Q next action (told {reply = Err e} good) each = told tt
 gives-then P Q next action (tested {next = go} gives) each = tested (λ b. gives-then P Q next (go b) (gives b) each)
@@ -60,7 +60,7 @@ gives-then P Q next action (either_way false {y = y} first second) each = gives-
 
 -- ---- texts
 
-first-byte : (bytes : List ℕ) → AreBytes bytes → slice_index bytes 0 < 256
+pub first-byte : (bytes : List ℕ) → AreBytes bytes → slice_index bytes 0 < 256
 first-byte [] are = omega arith
 first-byte (b ∷ bytes) are = are.0
 
@@ -76,16 +76,16 @@ text-read (suc max) at one two next first second each =
 text-at-gives : (at : ℕ) → Gives AreBytes (text_at at)
 text-at-gives at = text-read most_bytes at (Done (Err EFAULT)) (Done (Err E2BIG)) (λ text. Done (Ok text)) (told tt) (told tt) (λ text are. told are)
 
-fitting-gives : (room : ℕ) (text : List ℕ) → AreBytes text → Gives AreBytes (if_it_fits room text)
+pub fitting-gives : (room : ℕ) (text : List ℕ) → AreBytes text → Gives AreBytes (if_it_fits room text)
 fitting-gives room text are = either_way _ (told are) (told tt)
 
 within-gives : (room at : ℕ) → Gives AreBytes (text_within room at)
 within-gives room at = gives-then AreBytes AreBytes (if_it_fits room) (text_at at) (text-at-gives at) (λ text are. fitting-gives room text are)
 
-abbrev Any : ℕ → Type 0
+abbrev pub Any : ℕ → Type 0
 Any n = Unit {0}
 
-address-gives : (at : ℕ) → Gives Any (address_at at)
+pub address-gives : (at : ℕ) → Gives Any (address_at at)
 address-gives at = tested (λ b. either_way b (read (λ bytes are. told tt)) (told tt))
 
 unless-ended-gives : (next : Trying (List (List ℕ))) (address : ℕ) → Gives AreAllBytes next → Gives AreAllBytes (unless_ended next address)
@@ -107,7 +107,7 @@ record ListsHaveBytes (lists : Lists) : Type 0 where
   args : AreAllBytes lists.args
   env : AreAllBytes lists.env
 
-one-at-least : (texts : List (List ℕ)) → AreAllBytes texts → AreAllBytes (at_least_one texts)
+pub one-at-least : (texts : List (List ℕ)) → AreAllBytes texts → AreAllBytes (at_least_one texts)
 one-at-least [] are = (tt, tt)
 one-at-least (text ∷ texts) are = are
 

@@ -75,7 +75,7 @@ argument-bytes : (argument : List ℕ) → AreBytes argument → AreAllBytes (ar
 argument-bytes [] are = tt
 argument-bytes (b ∷ bytes) are = (are, tt)
 
-new-args-bytes : (line : List ℕ × List ℕ) (path : List ℕ) (args : List (List ℕ)) → IsByteLine line → AreBytes path → AreAllBytes args → AreAllBytes (new_args line.0 line.1 path args)
+pub new-args-bytes : (line : List ℕ × List ℕ) (path : List ℕ) (args : List (List ℕ)) → IsByteLine line → AreBytes path → AreAllBytes args → AreAllBytes (new_args line.0 line.1 path args)
 new-args-bytes line path args line_are path_are are =
     (line_are.0, all-append AreBytes (argument_of line.1) (path ∷ drop 1 args) (argument-bytes line.1 line_are.1) (path_are, all-drop AreBytes 1 args are))
 

@@ -90,7 +90,7 @@ module _ (table : List Row) (are : TableHasBytes table) (pid : ℕ) (s : State �
       by (Some p) is = each p is
 
   -- what is open remembers a name of bytes
-  opened-name : (q fd : ℕ) (o : Opened ℕ) → opened q fd s ≡ Some o → AreBytes o.name
+  pub opened-name : (q fd : ℕ) (o : Opened ℕ) → opened q fd s ≡ Some o → AreBytes o.name
   opened-name q fd o is = by (named q fd s) is
     where
       by : (x : Option Named) → option_and_then (λ (x : Named). file_at s.files x.number) x ≡ Some o → AreBytes o.name
@@ -119,13 +119,13 @@ module _ (table : List Row) (are : TableHasBytes table) (pid : ℕ) (s : State �
 
   -- ---- the texts of its links
 
-  name-bytes : (p : Place ℕ) (dir : ℕ) (name : List ℕ) → AreBytes name → IfSome (name_text (space_of table s) p dir name) AreBytes
+  pub name-bytes : (p : Place ℕ) (dir : ℕ) (name : List ℕ) → AreBytes name → IfSome (name_text (space_of table s) p dir name) AreBytes
   name-bytes p dir name own = name-text-bytes (space_of table s) has.tree are p dir name own
 
   pipe-text-bytes : (n : ℕ) → AreBytes (pipe_text n)
   pipe-text-bytes n = joined (codes "pipe:[") (decimal n ++ codes "]") (bytes-tested (codes "pipe:[") refl) (joined (decimal n) (codes "]") (decimal-bytes n) (bytes-tested (codes "]") refl))
 
-  unplaced-bytes : (what : What) → IfSome (unplaced_text what) AreBytes
+  pub unplaced-bytes : (what : What) → IfSome (unplaced_text what) AreBytes
   unplaced-bytes File = tt
   unplaced-bytes DirOpen = tt
   unplaced-bytes In = bytes-tested (codes "console") refl
@@ -141,7 +141,7 @@ module _ (table : List Row) (are : TableHasBytes table) (pid : ℕ) (s : State �
       by None = unplaced-bytes o.what
       by (Some p) = name-bytes p o.dir o.name own
 
-  living-text : (q : ℕ) (text : Process ℕ Image → Option (List ℕ)) → ((p : Process ℕ Image) → process q s ≡ Some p → IfSome (text p) AreBytes) → IfSome (option_and_then text (process q s)) AreBytes
+  pub living-text : (q : ℕ) (text : Process ℕ Image → Option (List ℕ)) → ((p : Process ℕ Image) → process q s ≡ Some p → IfSome (text p) AreBytes) → IfSome (option_and_then text (process q s)) AreBytes
   living-text q text each = by (process q s) refl
     where
       by : (o : Option (Process ℕ Image)) → process q s ≡ o → IfSome (option_and_then text o) AreBytes

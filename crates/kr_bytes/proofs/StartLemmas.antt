@@ -107,7 +107,7 @@ plain-bytes = record { locations = at; sources = kind }
     kind (suc k) r e file = absurd cc
 
 -- the name of an entry that is there
-entry-named : (t : Tree) (dir : ℕ) (name : List ℕ) (i : ℕ) → TreeHasBytes t → entry t dir name ≡ Some i → AreBytes name
+pub entry-named : (t : Tree) (dir : ℕ) (name : List ℕ) (i : ℕ) → TreeHasBytes t → entry t dir name ≡ Some i → AreBytes name
 entry-named t dir name i has is = by (entry_named name (entries t dir)) refl is
   where
     by : (o : Option Entry) → entry_named name (entries t dir) ≡ o → option_map (λ (e : Entry). e.inode) o ≡ Some i → AreBytes name

@@ -153,10 +153,10 @@ pub nobody-watches-bytes : (S : Type 0) → NobodyWatchesBytes S
 nobody-watches-bytes S sound = record { entry = λ x t own has. (own, has); exit = λ x t own has. (own, has); born = λ x parent child own. own; gone = λ x pid own. own }
 
 -- the memory of the process at a stop
-at-stop : (t : Stopped) → HasBytes t.state → HoldsBytes (memory_at t).pages
+pub at-stop : (t : Stopped) → HasBytes t.state → HoldsBytes (memory_at t).pages
 at-stop t has = image-holds t.pid t.state has
 
-edit-keeps : (regs : Regs) (memory : Memory) (t : Stopped) → HoldsBytes memory.pages → length regs.x ≡ length (image_at t).regs.x → HasBytes t.state → HasBytes (edited regs memory t).state
+pub edit-keeps : (regs : Regs) (memory : Memory) (t : Stopped) → HoldsBytes memory.pages → length regs.x ≡ length (image_at t).regs.x → HasBytes t.state → HasBytes (edited regs memory t).state
 edit-keeps regs memory t holds same has = computing-there t.pid regs memory t.state holds (λ p lives. same ∙ registers-there t.pid t.state p lives) has
 
 pub edits-keep-bytes : EditsKeepBytes

@@ -1,0 +1,9 @@
+pub mod FakerLemmas
+pub mod LookLemmas
+pub mod PeekLemmas
+pub mod PlanLemmas
+pub mod ProgramLemmas
+pub mod StopLemmas
+pub mod TextLemmas
+pub mod TracerLemmas
+pub mod WalkLemmas

@@ -1,0 +1,4 @@
+//! Watchers leave a state that has bytes: laws, and no code.
+#![tactic(auto)]
+
+pub mod laws;

@@ -1,0 +1,4 @@
+pub mod EntryLemmas
+pub mod LengthLemmas
+pub mod LineLemmas
+pub mod PointLemmas

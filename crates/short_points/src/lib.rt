@@ -1,0 +1,4 @@
+//! Mount points have short paths: laws, and no code.
+#![tactic(auto)]
+
+pub mod laws;

@@ -1,0 +1,4 @@
+pub mod BeginLemmas
+pub mod GuestLemmas
+pub mod TableLemmas
+pub mod WordLemmas
