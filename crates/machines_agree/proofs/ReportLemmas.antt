@@ -1,12 +1,13 @@
 -- Listings tell the nodes of trees, and reports what runs came to.
 use Rattle.std.specs.FinMap as map
-use Rattle.std.proofs.Common.{◌≡◌, ℕ, zero, suc, false, List, [], ◌∷◌, ◌++◌, Option, Some, None, refl, sym, ap, ◌∙◌, map as map_list}
+use Rattle.std.proofs.Common.{◌≡◌, ℕ, zero, suc, Bool, true, List, [], ◌∷◌, ◌++◌, Option, Some, None, refl, sym, ap, ◌∙◌, map as map_list}
 use Rattle.std.specs.List.{flat_map}
 use Rattle.std.specs.Option.{option_map, option_map_or}
 use Rattle.std.specs.Ordering.{nat_cmp}
 use Rattle.kr_inode.specs.declared.user.User.{User}
 use Rattle.kr_text.specs.Canonical.{all_names, below, body_line, canonical, first_name, line_at, lines_after, names_under, owner_of, put_in_order, root_name, user_line}
 use Rattle.kr_tree.specs.Tree.{Inode, Node, Tree, entries, entries_of, inode, node, nodes}
+use Rattle.pr_base.specs.Maps.{mapped}
 use Rattle.pr_base.proofs.MapLemmas.{get-mapped, len-mapped, same_values}
 use Rattle.kr_tree.proofs.NodesLemmas.{get-with_values}
 use Rattle.kr_turns.specs.Run.{Ran}
@@ -33,18 +34,18 @@ module _ (t v : Tree) (same : nodes t ≡ nodes v) where
 
   -- ---- as many inodes
 
-  abbrev marks : Tree → map.FinMap nat_cmp (Unit {0})
-  marks u = mapped (λ i (x : Inode). tt) u.inodes
+  abbrev marks : Tree → map.FinMap nat_cmp Bool
+  marks u = mapped (λ i (x : Inode). true) u.inodes
 
-  marked : (u : Tree) (i : ℕ) → map.get (marks u) i ≡ option_map (λ (n : Node). tt) (node u i)
-  marked u i = get-mapped (λ i (x : Inode). tt) u.inodes i ∙ by (map.get u.inodes i)
+  marked : (u : Tree) (i : ℕ) → map.get (marks u) i ≡ option_map (λ (n : Node). true) (node u i)
+  marked u i = get-mapped (λ i (x : Inode). true) u.inodes i ∙ by (map.get u.inodes i)
     where
-      by : (o : Option Inode) → option_map (λ (x : Inode). tt) o ≡ option_map (λ (n : Node). tt) (option_map (λ (x : Inode). x.node) o)
+      by : (o : Option Inode) → option_map (λ (x : Inode). true) o ≡ option_map (λ (n : Node). true) (option_map (λ (x : Inode). x.node) o)
       by None = refl
       by (Some x) = refl
 
   len_same : map.len t.inodes ≡ map.len v.inodes
-  len_same = sym (len-mapped (λ i (x : Inode). tt) t.inodes) ∙ ap map.len (same_values (marks t) (marks v) (λ i. marked t i ∙ ap (option_map (λ (n : Node). tt)) (node_same i) ∙ sym (marked v i))) ∙ len-mapped (λ i (x : Inode). tt) v.inodes
+  len_same = sym (len-mapped (λ i (x : Inode). true) t.inodes) ∙ ap map.len (same_values (marks t) (marks v) (λ i. marked t i ∙ ap (option_map (λ (n : Node). true)) (node_same i) ∙ sym (marked v i))) ∙ len-mapped (λ i (x : Inode). true) v.inodes
 
   -- ---- names and lines
 
