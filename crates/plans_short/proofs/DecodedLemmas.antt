@@ -1,5 +1,5 @@
 -- The first of two paths, and the size of readlinkat(2), as decoding gives them.
-use Rattle.std.proofs.Common.{◌≡◌, ◌≢◌, ◌<◌, ◌≤◌, ◌^◌, ℕ, zero, suc, ◌+◌, Bool, true, false, cond, nat_eq, List, [], ◌∷◌, slice_index, Option, Some, None, Ok, Err, refl, sym, ap, subst, ◌∙◌, arith, pos}
+use Rattle.std.proofs.Common.{◌≡◌, ◌≢◌, ◌<◌, ◌^◌, ℕ, zero, suc, ◌+◌, Bool, true, false, cond, nat_eq, List, [], ◌∷◌, slice_index, Some, None, Ok, Err, refl, sym, ap, subst, ◌∙◌, arith, pos}
 use Rattle.std.specs.Prelude.{◌==◌, ◌||◌, nat_le}
 use Rattle.std.specs.Int.{w32}
 use Rattle.std.specs.Option.{option_map_or}
@@ -7,7 +7,7 @@ use Rattle.std.proofs.lemmas.Bool.Decides.{nat_tests}
 use Rattle.std.proofs.lemmas.Int.{to_z_pos}
 use Rattle.pr_base.specs.declared.errno.Errno.{Errno}
 use Rattle.pr_base.specs.declared.errno.Errno.TheVariants.{EFAULT, EINVAL, ENAMETOOLONG, ENOENT, ENOSYS}
-use Rattle.rv_mem.specs.Actions.{Action, Done, MayUse, ReadBytes, allows_uses, carried_out}
+use Rattle.rv_mem.specs.Actions.{Action, MayUse, ReadBytes, allows_uses, carried_out}
 use Rattle.rv_mem.specs.Memory.{Memory, after_read}
 use Rattle.rv_mem.specs.Pages.{bytes_from}
 use Rattle.rv_mem.specs.declared.regs.Regs.{Regs}

@@ -1,5 +1,5 @@
 -- What a tracer makes of the paths of a calm call: texts that take their place are short.
-use Rattle.std.proofs.Common.{◌≡◌, ◌≢◌, ◌≤◌, ◌⊎◌, inl, inr, ℕ, Bool, true, false, List, [], ◌∷◌, length, Option, Some, None, Result, Ok, Err, refl, sym, ap, subst, ◌∙◌, arith}
+use Rattle.std.proofs.Common.{◌≡◌, ◌≢◌, ◌≤◌, ◌⊎◌, inl, inr, ℕ, Bool, true, false, List, [], length, Option, Some, None, Result, Ok, Err, refl, sym, ap, ◌∙◌, arith}
 use Rattle.std.specs.Bool.{if◌then◌else◌}
 use Rattle.std.specs.List.{list_any}
 use Rattle.std.specs.Option.{option_map}
@@ -7,7 +7,7 @@ use Rattle.std.specs.Prelude.{◌||◌, nat_lt}
 use Rattle.std.proofs.lemmas.Bool.{ltb-false, ltb-true}
 use Rattle.pr_base.specs.MountText.{MountText}
 use Rattle.pr_base.specs.declared.errno.Errno.{Errno}
-use Rattle.pr_base.specs.declared.errno.Errno.TheVariants.{EBUSY, EFAULT, EISDIR, ENAMETOOLONG}
+use Rattle.pr_base.specs.declared.errno.Errno.TheVariants.{EBUSY, EISDIR, ENAMETOOLONG}
 use Rattle.pr_base.specs.declared.path.Last.{Last}
 use Rattle.pr_base.specs.declared.path.Last.TheVariants as last
 use Rattle.pt_args.specs.Edits.{both, edit_by, edit_of, is_long, put_edit}
@@ -17,7 +17,7 @@ use Rattle.pt_args.specs.Purposes.{entry_swap, made_swap, opens, purpose_of, swa
 use Rattle.pt_args.specs.Walks as traced
 use Rattle.pt_args.specs.Walks.{reached_at}
 use Rattle.pt_args.specs.declared.edit.Edit.{Edit}
-use Rattle.pt_args.specs.declared.edit.Edit.TheVariants.{Cancel, Pass, Swap}
+use Rattle.pt_args.specs.declared.edit.Edit.TheVariants.{Cancel, Pass}
 use Rattle.pt_args.specs.declared.purpose.Purpose.{Purpose}
 use Rattle.pt_args.specs.declared.purpose.Purpose.TheVariants as purposes
 use Rattle.pt_args.specs.declared.reached.Reached.{Reached}
@@ -33,7 +33,7 @@ use Rattle.kr_model.specs.Known.{Known, known}
 use Rattle.kr_model.specs.Operation.{operation}
 use Rattle.kr_model.specs.Reply.{refuse}
 use Rattle.kr_model.specs.State.{Image, State, image_layout}
-use Rattle.kr_model.specs.Walks.{Targets, and_then, seen, seen_of, target_at, targets_of, walked}
+use Rattle.kr_model.specs.Walks.{and_then, seen, seen_of, target_at, targets_of, walked}
 use Rattle.plans_agree.specs.Begins.{Fails, Leads, LeadsBoth, PathAgrees, Stays, told_texts}
 use Rattle.plans_agree.specs.Plans.{Cancelling, IsEdit, IsPlanned, Passing, PlanAgrees, Swapping, shelved_texts}
 use Rattle.swaps_read.specs.Requests.{NewText}

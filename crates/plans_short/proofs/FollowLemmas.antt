@@ -1,5 +1,5 @@
 -- Where a tracer's walk leads along the name of a link of the process directory, from the directory in which the link stands.
-use Rattle.std.proofs.Common.{◌≡◌, ℕ, Bool, true, false, List, [], ◌∷◌, Option, Some, None, Result, Ok, Err, refl, sym, ap, ◌∙◌}
+use Rattle.std.proofs.Common.{◌≡◌, ℕ, true, false, List, [], ◌∷◌, Option, Some, None, Result, Ok, Err, refl, sym, ap, ◌∙◌}
 use Rattle.std.specs.Bool.{if◌then◌else◌}
 use Rattle.std.proofs.lemmas.List.Elements.{All-head}
 use Rattle.pr_base.specs.MountText.{MountText}
@@ -14,7 +14,7 @@ use Rattle.pr_base.specs.declared.peeks.PeekKind.TheVariants as kind
 use Rattle.pr_base.proofs.PathLemmas.{name_is_part, part_components, part_no_slash, part_relative}
 use Rattle.pr_base.proofs.WalkLemmas.{walk-last}
 use Rattle.pt_args.specs.declared.edit.Edit.{Edit}
-use Rattle.pt_bind.specs.Binding.{host_of, located}
+use Rattle.pt_bind.specs.Binding.{host_of}
 use Rattle.pt_canon.specs.Canon.{canon_of, canon_result}
 use Rattle.pt_canon.specs.ProcessLinks.{landing_of}
 use Rattle.pt_canon.specs.TextWalk.{TextSurroundings, in_directory, itself_in, look_text, looking_texts, seen_kind, seen_text, text_walk, where_found}

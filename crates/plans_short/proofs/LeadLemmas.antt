@@ -1,6 +1,6 @@
 -- A link of the process directory leads a tracer to the guest text that the kernel with mounts tells of it, or nowhere where that kernel
 -- tells none.
-use Rattle.std.proofs.Common.{◌≡◌, ℕ, Bool, true, false, not, length, List, [], Option, Some, None, Result, Ok, Err, refl, sym, ap, subst, ◌∙◌}
+use Rattle.std.proofs.Common.{◌≡◌, ℕ, Bool, true, false, not, length, List, [], Option, Some, None, Result, Ok, refl, sym, ap, subst, ◌∙◌}
 use Rattle.std.specs.Prelude.{◌==◌, ◌||◌}
 use Rattle.std.specs.Bool.{if◌then◌else◌}
 use Rattle.std.specs.Option.{option_and_then, option_map, option_map_or}
@@ -27,7 +27,7 @@ use Rattle.kr_view.specs.Component.{Namespace, is_directory_at}
 use Rattle.kr_view.specs.HostReach.{host_place}
 use Rattle.kr_view.specs.Living.{Each, HasSmallNumbers}
 use Rattle.kr_view.specs.Names.{directory_name, guest_name}
-use Rattle.kr_view.specs.View.{Row, plain, root_place}
+use Rattle.kr_view.specs.View.{Row, root_place}
 use Rattle.kr_view.proofs.GuestNameLemmas.{plain_view}
 use Rattle.kr_files.specs.declared.opened.Opened.{Opened}
 use Rattle.kr_files.specs.declared.opened.What.{What}

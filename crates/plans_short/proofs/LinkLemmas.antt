@@ -10,7 +10,6 @@ use Rattle.pr_base.specs.declared.errno.Errno.TheVariants.{ENOENT}
 use Rattle.pr_base.specs.declared.path.WalkMode.TheVariants as modes
 use Rattle.pr_base.specs.declared.peeks.PeekKind.TheVariants as kind
 use Rattle.pr_base.proofs.PathLemmas.{names_are_parts}
-use Rattle.pt_args.specs.Walks as traced
 use Rattle.pt_args.specs.declared.edit.Edit.{Edit}
 use Rattle.pt_args.specs.declared.edit.Edit.TheVariants.{Cancel}
 use Rattle.pt_bind.specs.Binding.{names_of}
@@ -38,13 +37,13 @@ use Rattle.kr_view.specs.declared.procs.Lead.{Lead}
 use Rattle.kr_view.specs.declared.procs.Lead.TheVariants as ways
 use Rattle.kr_view.specs.Component.{is_process_directory, seen_at, seen_body, seen_link, shows_directory}
 use Rattle.kr_view.specs.HostReach.{host_place}
-use Rattle.kr_view.specs.View.{Row, plain, root_place, root_source}
+use Rattle.kr_view.specs.View.{Row, plain, root_place}
 use Rattle.kr_view.proofs.ArrivalLemmas.{text_found}
 use Rattle.kr_mounts.specs.Standing.{texts_of}
 use Rattle.kr_model.specs.AttributeRows.{readlink_host, readlinkat_row, tell_text}
 use Rattle.kr_model.specs.HostView.{host_around_of, host_leads, host_space}
 use Rattle.kr_model.specs.Known.{Known, known}
-use Rattle.kr_model.specs.Operation.{link_read, operation}
+use Rattle.kr_model.specs.Operation.{link_read}
 use Rattle.kr_model.specs.Peeks.{kind_seen, link_text_at, read_at, read_of}
 use Rattle.kr_model.specs.ProcessDirectory.{link_text, space_of}
 use Rattle.kr_model.specs.Reply.{Replying, refuse}
@@ -59,7 +58,6 @@ use Rattle.walks_agree.specs.Standing.{Stands, reached_in}
 use Rattle.walks_agree.specs.States.{ArePlaced, scene_of}
 use Rattle.walks_agree.proofs.InUseLemmas.{host_laws}
 use Rattle.walks_agree.proofs.PeekLemmas.{kind_reached, reached_by}
-use Rattle.walks_agree.proofs.StandingLemmas.{root_reached}
 use Rattle.places_stay.proofs.MatchLemmas.{tagged_places_are_placed}
 use Rattle.plans_agree.specs.Begins.{Fails, Leads, LeadsBoth, PathAgrees, StandTogether, Stays, told_texts}
 use Rattle.plans_agree.proofs.FoundLemmas.{looked_is}

@@ -1,15 +1,15 @@
 -- The text in place of a name at which a mount stands: it is the host text of the mount's point, with the slash of the path.
-use Rattle.std.proofs.Common.{◌≡◌, ◌≢◌, ◌≤◌, ◌+◌, ℕ, Bool, true, false, List, [], ◌∷◌, ◌++◌, length, Option, Some, None, Ok, refl, sym, ap, subst, ◌∙◌, arith, length-append}
+use Rattle.std.proofs.Common.{◌≡◌, ◌≤◌, ◌+◌, ℕ, Bool, true, false, List, [], ◌∷◌, ◌++◌, length, Some, refl, sym, subst, ◌∙◌, arith, length-append}
 use Rattle.std.proofs.lemmas.List.Elements.{All-head}
 use Rattle.pr_base.specs.Paths.{AreNames, IsName, below_root, slash, text_of}
 use Rattle.pr_base.specs.Texts.{Text}
-use Rattle.pt_bind.specs.Binding.{host_of, located}
+use Rattle.pt_bind.specs.Binding.{located}
 use Rattle.kr_mounts.specs.Standing.{texts_of}
 use Rattle.kr_view.specs.Component.{Namespace}
 use Rattle.kr_view.specs.ReachLaws.{slashed}
 use Rattle.walks_agree.specs.Settled.{IsSettled, host_text}
 use Rattle.walks_agree.proofs.TableLemmas.{mount_below}
-use Rattle.plans_short.specs.Short.{PointsHaveAtMost}
+use Rattle.swaps_read.specs.Points.{PointsHaveAtMost}
 
 -- a mount that is located at a name of a directory has its point below the host text of that
 pub record IsPointOf (space : Namespace) (name : List ℕ) (t : Text) : Type 0 where

@@ -1,5 +1,5 @@
 -- What the walk of each path of a call reaches is part of what the call reaches.
-use Rattle.std.proofs.Common.{◌≡◌, ◌≢◌, ◌≤◌, ℕ, List, [], ◌∷◌, Option, Some, None, Result, Ok, Err, refl, sym, ap, subst, ◌∙◌, arith}
+use Rattle.std.proofs.Common.{◌≡◌, ◌≢◌, ◌≤◌, ℕ, List, [], ◌∷◌, Option, Some, None, Result, Ok, Err, refl, ap, subst, ◌∙◌, arith}
 use Rattle.pr_base.specs.declared.errno.Errno.{Errno}
 use Rattle.kr_calls.specs.PathTable.{PathUse, path_at}
 use Rattle.kr_calls.specs.declared.request.Request.{Request}

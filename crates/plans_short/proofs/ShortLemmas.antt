@@ -1,7 +1,6 @@
 -- Each text that takes the place of a path of a calm call is short.
-use Rattle.std.proofs.Common.{◌≡◌, ◌≢◌, ◌≤◌, ℕ, Bool, true, false, List, [], ◌∷◌, length, Option, Some, None, Result, Ok, Err, refl, sym, ap, subst, ◌∙◌}
-use Rattle.std.specs.Option.{option_map_or}
-use Rattle.pr_base.specs.Paths.{has_slash, slash, text_of}
+use Rattle.std.proofs.Common.{◌≡◌, ◌≤◌, ℕ, Bool, true, false, List, [], ◌∷◌, length, Option, Some, None, Result, Ok, Err, refl, sym, ap, subst, ◌∙◌}
+use Rattle.pr_base.specs.Paths.{has_slash}
 use Rattle.pr_base.specs.Texts.{Text}
 use Rattle.pr_base.specs.WalkFrame.{Target, may_be_free}
 use Rattle.pr_base.specs.declared.errno.Errno.{Errno}
@@ -16,13 +15,12 @@ use Rattle.pt_args.specs.Walks.{reached_at, walked_along, walked_from}
 use Rattle.pt_args.specs.declared.purpose.Purpose.{Purpose}
 use Rattle.pt_args.specs.declared.purpose.Purpose.TheVariants as purposes
 use Rattle.pt_args.specs.declared.reached.Reached.{Reached}
-use Rattle.pt_bind.specs.Binding.{located, names_of}
+use Rattle.pt_bind.specs.Binding.{located}
 use Rattle.pt_bind.specs.Tags.{TagTable}
 use Rattle.pt_canon.specs.Canon.{canon_at, canon_of, canon_result, ending_of}
 use Rattle.pt_canon.specs.TextWalk.{TextSurroundings, text_walk}
 use Rattle.pt_canon.specs.declared.canon.Canon.{Canon}
-use Rattle.kr_calls.specs.PathTable.{PathUse, path_at}
-use Rattle.kr_calls.specs.declared.request.Request.{Request}
+use Rattle.kr_calls.specs.PathTable.{PathUse}
 use Rattle.kr_tree.specs.declared.place.Place.{Place}
 use Rattle.kr_view.specs.Reach.{reach_after}
 use Rattle.kr_view.specs.View.{Row}
@@ -33,18 +31,16 @@ use Rattle.kr_model.specs.ProcessDirectory.{around_of, space_of}
 use Rattle.kr_model.specs.State.{Image, State}
 use Rattle.kr_model.specs.Walks.{and_then, base_of, walked}
 use Rattle.kr_allowed.proofs.StayingLemmas.{names-stay}
-use Rattle.walks_agree.specs.Handed.{BothEnd}
 use Rattle.walks_agree.specs.Scene.{Scene}
 use Rattle.walks_agree.specs.Settled.{host_text}
 use Rattle.walks_agree.specs.Standing.{StandsOn}
 use Rattle.walks_agree.specs.States.{scene_of}
-use Rattle.places_stay.proofs.MatchLemmas.{matches_are_matched}
 use Rattle.plans_agree.specs.Begins.{BaseAgrees, BaseOn, LeadsBoth, LostBase, NoBase, StandTogether, told_texts}
 use Rattle.plans_agree.proofs.BaseLemmas.{bases_agree}
 use Rattle.plans_agree.proofs.EntryLemmas.{named_last, named_swap}
 use Rattle.answers_agree.specs.Short.{NamesNoPoint}
 use Rattle.answers_agree.proofs.SwapLemmas.{swaps_are_short}
-use Rattle.plans_short.specs.Short.{PointsFit, PointsHaveAtMost}
+use Rattle.swaps_read.specs.Points.{PointsHaveAtMost}
 use Rattle.plans_short.proofs.PointLemmas.{IsPointOf, named_short, point_of}
 use Rattle.plans_short.proofs.SlashLemmas.{slash_kept}
 
@@ -126,7 +122,7 @@ module _ (table : List Row) (tags : TagTable) (s w : State ℕ Image) (pid : ℕ
     by_base (BaseOn p t begins begun on read) =
         rooted_by p t begun on (place_walk (around_of table pid s) u.mode p u.text).answer (text_walk texts u.mode t u.text).answer refl refl
         (sym (place_is ∙ ap (λ b. and_then b (λ base. and_then (place_walk (around_of table pid s) u.mode base u.text).answer (λ target. Ok (Some target)))) begun) ∙ lead.target)
-        (sym (text_is ∙ ap (λ b. traced.and_then b (walked_from texts opening u)) begins ∙ ap (λ x. reach p t begun on (canon_of texts u.mode x u.text)) read) ∙ lead.reached)
+        (sym (text_is ∙ ap (λ b. traced.and_then b (walked_from texts opening u)) begins ∙ ap (λ names. traced.and_then (canon_of texts u.mode names u.text) (λ canon. Ok (Some (reached_at u opening canon)))) read) ∙ lead.reached)
 
   pub rooted : IsRooted
   rooted = by u.text refl

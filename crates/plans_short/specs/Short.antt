@@ -16,20 +16,14 @@ use Rattle.kr_model.specs.Walks.{seen}
 use Rattle.kr_paths.specs.CallWalks.{call_reach}
 use Rattle.kr_turns.specs.Breaking.{nothing_reached}
 use Rattle.plans_agree.specs.Plans.{Cancelling, IsEdit, IsPlanned, Passing, PlanAgrees, Swapping, shelved_texts}
+use Rattle.swaps_read.specs.Points.{PointsHaveAtMost}
 use Rattle.swaps_read.specs.Requests.{NewText}
 
 -- ---- mount points
 
--- the names at which mounts stand have so many bytes on the host
-abbrev pub PointsHaveAtMost : ℕ → List Row → Type 0
-PointsHaveAtMost n table = (k : ℕ) (r : Row) (point : Text) → row table k ≡ Some r → r.text.point ≡ Some point → length (text_of point) ≤ n
-
-abbrev pub PointsAreShort : List Row → Type 0
-PointsAreShort table = PointsHaveAtMost 4095 table
-
 -- a slash behind a path is put behind the text in its place, too: where a path has one, there is room for it behind each point
 pub record PointsFit (table : List Row) (r : Request) : Type 0 where
-  pub points : PointsAreShort table
+  pub points : PointsHaveAtMost 4095 table
   pub slashed : (k : ℕ) (u : PathUse) → path_at r k ≡ Some u → has_slash u.text ≡ true → PointsHaveAtMost 4094 table
 
 -- ---- texts

@@ -114,7 +114,7 @@ module _ {X : Type 0} (table : List Row) (s : State ℕ X) (caller : ℕ) (tags 
     read = names_written at (names_are_parts at (standing_places_are_called space scene.around.leads base at m.settled m.processes works.stands.stands).1)
 
     -- a tracer walks from the guest text at which the working directory stands
-    begins : and_then (base_from working path) (canon_from texts path) ≡ canon_of texts Look at path
+    pub begins : and_then (base_from working path) (canon_from texts path) ≡ canon_of texts Look at path
     begins = by (is_absolute path)
       where
         from : Text → Result Canon Errno

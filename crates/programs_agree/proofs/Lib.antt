@@ -6,3 +6,6 @@ pub mod LookLemmas
 pub mod PlanLemmas
 pub mod ShownLemmas
 pub mod WorkLemmas
+pub mod PlainLemmas
+pub mod RefuseLemmas
+pub mod ShowLemmas

@@ -31,7 +31,7 @@ module _ {A B : Type 0} (a : Trying A) (next : A → Trying B) (m : Memory) (y :
     pub first : (carried_out a m).reply ≡ Ok value
     pub rest : (carried_out (next value) after).reply ≡ Ok y
 
-  comes : (carried_out (and_then a next) m).reply ≡ Ok y → Comes
+  pub comes : (carried_out (and_then a next) m).reply ≡ Ok y → Comes
   comes e = by (carried_out a m).reply refl (sym (ap (λ (d : CarriedOut (Result B Errno)). d.reply) (and_then_is a next m)) ∙ e)
     where
       by : (r : Result A Errno) → (carried_out a m).reply ≡ r → (on_reply next r (carried_out a m).memory).reply ≡ Ok y → Comes

@@ -39,7 +39,7 @@ module _ (s w : State ℕ Image) (caller : ℕ) (shown : IsShownAlike s w caller
   if-same (Err e) = refl
   if-same (Ok target) = ap (λ b. if b then Ok target else Err EACCES) (found-program target.found)
 
-  program-same : (base : Place ℕ) (path : List ℕ) → program_at own base path ≡ program_at host base path
+  pub program-same : (base : Place ℕ) (path : List ℕ) → program_at own base path ≡ program_at host base path
   program-same base path = ap (if_program w.tree w.user) (shown.walks base path) ∙ if-same (place_walk host Look base path).answer
 
   head-same : (o : Option (Place ℕ)) → head_of w.tree o ≡ head_of s.tree o

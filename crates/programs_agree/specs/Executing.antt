@@ -2,7 +2,7 @@
 use Rattle.std.specs.Prelude.{◌≡◌, ℕ, false, List, Option, Some, Result, Ok, Err}
 use Rattle.pr_base.specs.declared.errno.Errno.{Errno}
 use Rattle.pr_base.specs.declared.path.WalkMode.TheVariants.{Look}
-use Rattle.rv_mem.specs.Actions.{CarriedOut, carried_out}
+use Rattle.rv_mem.specs.Actions.{AreEqualUnmarked, CarriedOut, carried_out}
 use Rattle.rv_mem.specs.Memory.{Memory}
 use Rattle.pt_bind.specs.Tags.{TagTable}
 use Rattle.pt_script.specs.Expanding.{expanded_from}
@@ -97,3 +97,12 @@ RefusedExecutionsAgree =
     (table : List Row) (s w : State ℕ Image) (pid : ℕ) (tags : TagTable) (path : List ℕ) (args env : ℕ) (m : Memory) (working : Option (List ℕ)) (lists : Lists) (e : Errno)
     → IsCalled table s w pid tags path args env m working lists → ended_by_tracer table s w pid tags path args env m working lists ≡ Err e
     → (done_with_mounts table s w pid tags path args env m).reply ≡ Err e
+
+-- of a program that is no script, which is handed the call's own lists, from a memory that is equal but for marked bytes, none of which is
+-- read
+abbrev pub PlainExecutionsAgree : Type 0
+PlainExecutionsAgree =
+    (table : List Row) (s w : State ℕ Image) (pid : ℕ) (tags : TagTable) (path : List ℕ) (args env : ℕ) (m : Memory) (working : Option (List ℕ)) (lists : Lists) (x : Expanded) (n : Memory)
+    → IsCalled table s w pid tags path args env m working lists → ended_by_tracer table s w pid tags path args env m working lists ≡ Ok x → x.scripts ≡ 0
+    → AreEqualUnmarked m.pages n.pages → (read_by_kernel args env m).memory.read_marked ≡ false
+    → LoadedAlike table s pid tags x.index (done_with_mounts table s w pid tags path args env m).reply (carried_out (execution plain pid w x.host args env) n).reply

@@ -1,5 +1,6 @@
 //! Laws of execve(2) on both kernels, each carried by a function that does nothing.
-ghost use Rattle.programs_agree.specs.Executing.{ExecutionsAgree, ListsFit, RefusedExecutionsAgree};
+ghost use Rattle.programs_agree.specs.Executing.{ExecutionsAgree, ListsFit, PlainExecutionsAgree, RefusedExecutionsAgree};
+ghost use Rattle.programs_agree.specs.Showing.{StatesAreShownAlike};
 
 /// The lists that are read of a memory are within the limits of a program's lists.
 pub fn lists_fit()
@@ -14,4 +15,14 @@ pub fn executions_agree()
 /// Where a tracer finds an error in place of a program, it is the error of a kernel with mounts.
 pub fn refused_executions_agree()
     ensures { RefusedExecutionsAgree }
+{}
+
+/// So it does of a program that is no script where it is handed the call's own lists.
+pub fn plain_executions_agree()
+    ensures { PlainExecutionsAgree }
+{}
+
+/// Of two states that are equal but for mounts, the second of a plain kernel, what these premises ask is shown alike.
+pub fn states_are_shown_alike()
+    ensures { StatesAreShownAlike }
 {}

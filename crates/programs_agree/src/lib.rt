@@ -3,3 +3,4 @@
 
 pub mod agreeing;
 pub mod executing;
+pub mod refusing;

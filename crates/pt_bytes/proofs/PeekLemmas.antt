@@ -1,11 +1,9 @@
 -- What a kernel tells a tracer of a state that has bytes is bytes.
-use Rattle.std.proofs.Common.{◌≡◌, ℕ, Bool, true, false, List, [], take, cond, Option, Some, None, refl}
+use Rattle.std.proofs.Common.{◌≡◌, ℕ, Bool, true, false, List, [], Option, Some, None, refl}
 use Rattle.std.specs.Prelude.{Err, IfOk, IfSome, Ok, Result}
-use Rattle.std.specs.Fmt.{decimal}
 use Rattle.std.specs.Option.{option_and_then, option_map, option_map_or}
 use Rattle.pr_base.specs.Peeks.{Peeked}
 use Rattle.pr_base.specs.declared.errno.Errno.{Errno}
-use Rattle.pr_base.specs.declared.errno.Errno.TheVariants.{EACCES}
 use Rattle.kr_inode.specs.declared.user.User.{User}
 use Rattle.kr_inode.specs.declared.user.Right.TheVariants.{Search}
 use Rattle.kr_tree.specs.Lawful.{AreBytes, HasBytes as TreeHasBytes, IsOfBytes}
@@ -22,7 +20,7 @@ use Rattle.kr_files.specs.declared.opened.Opened.{Opened}
 use Rattle.kr_model.specs.HostView.{base_name, base_text, cwd_name, exe_name, host_space, linked_text, open_name}
 use Rattle.kr_model.specs.Peeks.{answer_along, body_head, body_text, head_at, link_text_at, name_or_none, peeked_of, read_at, read_of}
 use Rattle.kr_model.specs.ProcessDirectory.{name_text, unplaced_text}
-use Rattle.kr_model.specs.State.{Image, Process, State, opened, process}
+use Rattle.kr_model.specs.State.{Image, State, opened}
 use Rattle.kr_bytes.specs.Bytes.{HasBytes, TableHasBytes}
 use Rattle.kr_bytes.proofs.ListLemmas.{decimal-bytes, first-of}
 use Rattle.kr_bytes.proofs.LivingLemmas.{process-bytes}

@@ -1,8 +1,8 @@
 -- What a tracer puts in place of paths, and what it answers itself, are bytes.
-use Rattle.std.proofs.Common.{◌≡◌, refl, ℕ, Bool, true, false, List, [], ◌∷◌, ◌++◌, ◌+◌, cond, length, take, arith, Option, Some, None}
+use Rattle.std.proofs.Common.{◌≡◌, refl, ℕ, Bool, true, false, List, [], ◌∷◌, ◌++◌, ◌+◌, cond, length, arith, Option, Some, None}
 use Rattle.std.specs.Prelude.{Err, IfOk, IfSome, Ok, Result, map, min, nat_lt, pos}
 use Rattle.std.specs.List.{AllByRecursion, list_any}
-use Rattle.std.specs.Option.{option_and_then, option_map, unwrap_or}
+use Rattle.std.specs.Option.{option_map, unwrap_or}
 use Rattle.pr_base.specs.MountText.{MountText}
 use Rattle.pr_base.specs.Paths.{dot, dot_dot, is_absolute, slash, text_of}
 use Rattle.pr_base.specs.Texts.{Text}
@@ -37,7 +37,7 @@ use Rattle.pt_args.specs.declared.edit.Edit.TheVariants.{Cancel, Emulate, Pass, 
 use Rattle.pt_args.specs.declared.purpose.Purpose.{Purpose}
 use Rattle.pt_args.specs.declared.purpose.Purpose.TheVariants.{LooksUp, MayMake, NamesEntry}
 use Rattle.pt_args.specs.declared.reached.Reached.{Reached}
-use Rattle.pt_results.specs.Answers.{cwd_answer, directory_answer, jump_answer, kind_answer, lead_answer, led_answer, link_answer, nowhere_answer, path_answer, read_answer, text_answer, walked_answer}
+use Rattle.pt_results.specs.Answers.{cwd_answer, directory_answer, jump_answer, kind_answer, led_answer, nowhere_answer, path_answer, walked_answer}
 use Rattle.pt_results.specs.Numbers.{count_of}
 use Rattle.pt_watched.specs.Planning.{answered, edit_for, has_shelf, rewritten, stack_at}
 use Rattle.pt_tracer.specs.Stopping.{Stopped}

@@ -1,10 +1,10 @@
 -- What a tracer shows of the program that execve(2) runs in the end is bytes, and so is what it reads for that.
-use Rattle.std.proofs.Common.{◌≡◌, ℕ, zero, suc, ◌+◌, ◌-◌, ◌<◌, Bool, true, false, List, [], ◌∷◌, ◌++◌, cond, length, nat_eq, take, arith, refl, Option, Some, None}
+use Rattle.std.proofs.Common.{◌≡◌, ℕ, zero, suc, ◌+◌, ◌-◌, ◌<◌, List, [], ◌∷◌, ◌++◌, cond, length, nat_eq, take, arith, refl, Option, Some, None}
 use Rattle.std.specs.Prelude.{Err, IfOk, IfSome, Ok, Result, nat_lt}
 use Rattle.std.specs.Int.{to_le_bytes, w64}
 use Rattle.pr_base.specs.Paths.{is_absolute, slash}
 use Rattle.pr_base.specs.declared.errno.Errno.{Errno}
-use Rattle.pr_base.specs.declared.errno.Errno.TheVariants.{E2BIG, EFAULT, ELOOP, ENAMETOOLONG}
+use Rattle.pr_base.specs.declared.errno.Errno.TheVariants.{E2BIG, ELOOP, ENAMETOOLONG}
 use Rattle.pr_base.specs.declared.path.WalkMode.TheVariants.{Look}
 use Rattle.rv_mem.specs.Actions.{Done}
 use Rattle.kr_calls.specs.Expansion.{Expanded as Ended, Onward, bytes_with_ends, by_interpreter, by_line, expanded, is_script, is_too_big, most_scripts, new_args, runs}
@@ -17,7 +17,6 @@ use Rattle.pt_bind.specs.Binding.{names_of}
 use Rattle.pt_canon.specs.TextWalk.{TextSurroundings}
 use Rattle.pt_args.specs.Shelving.{address_below, with_item, with_zero}
 use Rattle.pt_args.specs.Walks.{and_then}
-use Rattle.pt_args.specs.declared.edit.Edit.{Edit}
 use Rattle.pt_args.specs.declared.edit.Edit.TheVariants.{Cancel}
 use Rattle.pt_args.specs.declared.shelf.Shelf.{Shelf}
 use Rattle.pt_script.specs.Expanding.{command_of, ends_of, expanded_from, shown_result}

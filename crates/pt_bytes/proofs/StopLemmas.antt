@@ -1,5 +1,5 @@
 -- What watchers do at stops leaves bytes.
-use Rattle.std.proofs.Common.{ℕ, zero, suc, Bool, true, false, ◌&&◌, ◌+◌, ◌%◌, ◌^◌, List, [], ◌∷◌, ◌++◌, cond, refl, take, drop}
+use Rattle.std.proofs.Common.{ℕ, zero, suc, Bool, true, false, ◌&&◌, ◌+◌, ◌%◌, ◌^◌, List, [], ◌∷◌, cond, refl, take, drop}
 use Rattle.std.specs.Prelude.{◌==◌}
 use Rattle.std.specs.Int.{to_le_bytes, w32, w64}
 use Rattle.std.proofs.Math.Seq.{sets}
@@ -8,9 +8,9 @@ use Rattle.rv_mem.specs.Actions.{Action, carried_out}
 use Rattle.kr_inode.specs.declared.user.User.{User}
 use Rattle.kr_tree.specs.Lawful.{AreBytes}
 use Rattle.kr_turns.specs.Stopped.{Stopped, image_at}
-use Rattle.pt_tracer.specs.Stopping.{after_request, memory_at, register_at, with_memory, with_register}
-use Rattle.pt_ident.specs.Identity.{Answered, Answers, Effect, Identity, TakesGroups, TellsGroups, TellsNumbers, number_bytes, on_memory}
-use Rattle.pt_ident.specs.Showing.{auxiliary_values, shown_at, shown_stat}
+use Rattle.pt_tracer.specs.Stopping.{after_request, memory_at, with_memory, with_register}
+use Rattle.pt_ident.specs.Identity.{Answers, Effect, Identity, TakesGroups, TellsGroups, TellsNumbers, number_bytes, on_memory}
+use Rattle.pt_ident.specs.Showing.{auxiliary_values, shown_at}
 use Rattle.pt_tracer.specs.Carrying.{on_its_memory}
 use Rattle.pt_tracer.specs.Faking.{behind_list, forgiven, has_answered_zero, if_done, most_words, next_word, no_call, no_longer_called, number_register, put_values, show_identity, show_owner}
 use Rattle.kr_bytes.specs.Bytes.{HasBytes}

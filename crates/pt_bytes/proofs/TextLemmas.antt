@@ -2,7 +2,7 @@
 use Rattle.std.proofs.Common.{◌≡◌, ℕ, Bool, true, false, List, [], ◌∷◌, ◌++◌, ◌<◌, reverse, cond, Option, Some, None, refl, sym, subst, arith, ◌&&◌}
 use Rattle.std.specs.Prelude.{IfSome, map, nat_eq, slice_get}
 use Rattle.std.specs.List.{AllByRecursion, find, list_all, onto_first, slice_split}
-use Rattle.std.specs.Option.{option_and_then, option_map, option_map_or}
+use Rattle.std.specs.Option.{option_and_then, option_map_or}
 use Rattle.std.specs.Str.{bytes_eq}
 use Rattle.std.proofs.lemmas.Bool.Decides.{nat_tests}
 use Rattle.std.proofs.lemmas.List.{reverse-append}
@@ -14,7 +14,7 @@ use Rattle.pt_bind.specs.Binding.{guest_in, guest_of, host_at, host_of, located,
 use Rattle.kr_tree.specs.Lawful.{AreBytes}
 use Rattle.kr_bytes.specs.Bytes.{AreAllBytes}
 use Rattle.kr_bytes.proofs.ListLemmas.{all-at, all-found, bytes-tested}
-use Rattle.kr_bytes.proofs.NameLemmas.{if-mapped, if-then, names-below-bytes, names-joined}
+use Rattle.kr_bytes.proofs.NameLemmas.{if-mapped, names-below-bytes, names-joined}
 use Rattle.pt_bytes.specs.Watchers.{is_byte_row, is_byte_text, is_byte}
 
 -- ---- what is tested

@@ -1,7 +1,7 @@
 -- The tracer leaves bytes.
 use Rattle.std.specs.FinMap as map
 use Rattle.std.proofs.Common.{◌≡◌, ℕ, ◌-◌, Bool, true, false, List, [], ◌∷◌, cond, length, Option, Some, None, ℤ, refl}
-use Rattle.std.specs.Prelude.{◌==◌, ◌&&◌, Err, IfOk, Ok, Result}
+use Rattle.std.specs.Prelude.{◌==◌, Err, IfOk, Ok, Result}
 use Rattle.std.specs.List.{AllByRecursion}
 use Rattle.pr_base.specs.MountText.{MountText}
 use Rattle.pr_base.specs.declared.errno.Errno.{Errno}
@@ -10,7 +10,6 @@ use Rattle.rv_mem.specs.Actions.{carried_out}
 use Rattle.kr_inode.specs.declared.user.User.{User}
 use Rattle.kr_calls.specs.PathTable.{PathUse, path_at}
 use Rattle.kr_calls.specs.declared.request.Request.{Request}
-use Rattle.kr_calls.specs.declared.request.Request.TheVariants as call
 use Rattle.kr_tree.specs.Lawful.{AreBytes}
 use Rattle.kr_allowed.proofs.DecodedLemmas.{decoded-are-givable}
 use Rattle.kr_turns.specs.Stopped.{Stopped, image_at}
@@ -29,7 +28,7 @@ use Rattle.pt_tracer.specs.Faking.{due_of, no_longer_called, show_identity, stac
 use Rattle.pt_tracer.specs.Stopping.{after_poke, after_request, decoded_at, memory_at, register_at, with_memory, with_register}
 use Rattle.pt_tracer.specs.declared.due.Due.{Due}
 use Rattle.pt_tracer.specs.declared.due.Due.TheVariants as due
-use Rattle.pt_watched.specs.Planning.{after_addresses, after_expansion, after_lists, after_path, cancelled, edit_for, expand_with, is_swap, led_in, led_of, list_addresses, nowhere, planned, planned_by, rewritten, script_plan, stack_at, texts_at, has_shelf}
+use Rattle.pt_watched.specs.Planning.{after_addresses, after_expansion, after_lists, after_path, edit_for, is_swap, led_in, led_of, list_addresses, nowhere, planned, planned_by, rewritten, script_plan, stack_at, texts_at, has_shelf}
 use Rattle.pt_watched.specs.Poking.{may_poke, poked}
 use Rattle.pt_watched.specs.Registers.{given_back, is_register, with_argument, with_arguments}
 use Rattle.pt_watched.specs.ScriptEdit.{put_texts}
@@ -38,7 +37,7 @@ use Rattle.pt_watched.specs.declared.pending.Pending.{Pending}
 use Rattle.pt_watched.specs.declared.plan.Led.{Led}
 use Rattle.pt_watched.specs.declared.plan.Plan.{Plan}
 use Rattle.pt_watched.specs.declared.registers.Arguments.{Arguments}
-use Rattle.kr_bytes.specs.Bytes.{AreAllBytes, GivesBytes, HasBytes}
+use Rattle.kr_bytes.specs.Bytes.{GivesBytes, HasBytes}
 use Rattle.kr_bytes.proofs.CallLemmas.{given-bytes}
 use Rattle.kr_bytes.proofs.TurnLemmas.{at-stop, edits-keep-bytes}
 use Rattle.pt_bytes.specs.Watchers.{TracersWatchBytes, goes_by_bytes}
@@ -82,6 +81,13 @@ applied-keeps (Emulate pokes answer) t are has = by (may_poke pokes t)
 
 -- ---- plans
 
+-- where a call has its lists: pt_watched gives its record no name for others
+abbrev FoundIn : {A B : Type 0} → (A → Option B) → Type 0
+FoundIn {B = B} f = B
+
+abbrev Addresses : Type 0
+Addresses = FoundIn list_addresses
+
 -- what is planned puts bytes, and so is left what was read for that
 abbrev PlansByBytes : Plan × Stopped → Type 0
 PlansByBytes p = EditsByBytes p.0.edit × HasBytes p.1.state
@@ -114,21 +120,26 @@ module _ (bindings : List MountText) (rows : AllByRecursion IsByteRow bindings) 
       (expansions-show-bytes texts (of-bytes t has) (working_text texts t.pid) (working-bytes texts (of-bytes t has) t.pid) handed.env_bytes path handed.args path_are hands) has
   lists-plan edit led path args (Err errno) t are path_are hands has = (are, has)
 
-  path-plan : (t : Stopped) (r : Request) (path : List ℕ) (args env : ℕ) (edit : Edit) → EditsByBytes edit → AreBytes path → HasBytes t.state → PlansByBytes (after_path bindings tags t r path (record { args = args; env = env }) edit)
-  path-plan t r path args env edit are path_are has =
-      let action = lists_at args env in
-      let done = carried-keeps (λ (r : Result Handed Errno). IfOk r HandsBytes) action (lists-give args env) t has in
+  path-plan : (t : Stopped) (r : Request) (path : List ℕ) (lists : Addresses) (edit : Edit) → EditsByBytes edit → AreBytes path → HasBytes t.state → PlansByBytes (after_path bindings tags t r path lists edit)
+  path-plan t r path lists edit are path_are has =
+      let action = lists_at lists.args lists.env in
+      let done = carried-keeps (λ (r : Result Handed Errno). IfOk r HandsBytes) action (lists-give lists.args lists.env) t has in
       let read = carried_out action (memory_at t) in
       let led = led_of (texts_at bindings tags t) t.pid r in
-      either-plan (is_swap edit) (after_lists bindings tags edit led path args read.reply (with_memory read.memory t)) (record { edit = edit; led = nowhere }, t)
-      (lists-plan edit led path args read.reply (with_memory read.memory t) are path_are done.0 done.1) (are, has)
+      either-plan (is_swap edit) (after_lists bindings tags edit led path lists.args read.reply (with_memory read.memory t)) (record { edit = edit; led = nowhere }, t)
+      (lists-plan edit led path lists.args read.reply (with_memory read.memory t) are path_are done.0 done.1) (are, has)
 
-  -- execve(2) alone has lists
   plans-are-bytes : (t : Stopped) (r : Request) → GivesBytes r → HasBytes t.state → PlansByBytes (planned bindings tags t r)
-  plans-are-bytes t (call.Execve path args env) gives has =
-      let r = call.Execve path args env in
-      path-plan t r path args env (rewritten (texts_at bindings tags t) t r) (edits-are-bytes (texts_at bindings tags t) (of-bytes t has) t.pid r gives (stack_at t) (has_shelf t)) (gives.paths 0 _ refl) has
-  plans-are-bytes t _ gives has = (edits-for-are-bytes (texts_at bindings tags t) (of-bytes t has) t _ gives, has)
+  plans-are-bytes t r gives has = by (list_addresses r) (path_at r 0) (gives.paths 0)
+    where
+      own : EditsByBytes (edit_for (texts_at bindings tags t) t r)
+      own = edits-for-are-bytes (texts_at bindings tags t) (of-bytes t has) t r gives
+
+      by : (o : Option Addresses) (u : Option PathUse) → ((v : PathUse) → u ≡ Some v → AreBytes v.text) → PlansByBytes (planned_by bindings tags t r o u)
+      by None u each = (own, has)
+      by (Some lists) None each = (own, has)
+      by (Some lists) (Some v) each =
+          path-plan t r v.text lists (rewritten (texts_at bindings tags t) t r) (edits-are-bytes (texts_at bindings tags t) (of-bytes t has) t.pid r gives (stack_at t) (has_shelf t)) (each v refl) has
 
 -- ---- the first stop
 

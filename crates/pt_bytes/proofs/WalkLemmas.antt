@@ -1,11 +1,10 @@
 -- Walks over guest texts end at texts of bytes.
 use Rattle.std.proofs.Common.{ℕ, zero, suc, Bool, true, false, ◌||◌, List, [], ◌∷◌, ◌++◌, cond, Option, Some, None}
 use Rattle.std.specs.Prelude.{Err, IfOk, IfSome, Ok, Result}
-use Rattle.std.specs.List.{AllByRecursion}
 use Rattle.std.specs.Option.{unwrap_or}
-use Rattle.pr_base.specs.Paths.{Component, components_of, has_slash, is_absolute, text_of}
+use Rattle.pr_base.specs.Paths.{Component, components_of, has_slash, is_absolute}
 use Rattle.pr_base.specs.Texts.{Text}
-use Rattle.pr_base.specs.WalkFrame.{Fails, Jumps, Landing, Leads, Links, Missing, Onward, Seen, Target, Trail, along, at_last, begins_at, ends, ends_found, ends_landed, fails, in_middle, is_followed, jumps_on, landed, loops, may_be_free, most_links, target_at, walk_on, wants_directory}
+use Rattle.pr_base.specs.WalkFrame.{Fails, Jumps, Landing, Leads, Links, Missing, Onward, Target, Trail, along, at_last, begins_at, ends, ends_found, ends_landed, fails, in_middle, is_followed, jumps_on, landed, loops, may_be_free, most_links, target_at, walk_on, wants_directory}
 use Rattle.pr_base.specs.declared.errno.Errno.{Errno}
 use Rattle.pr_base.specs.declared.errno.Errno.TheVariants.{ENOENT, ENOTDIR}
 use Rattle.pr_base.specs.declared.path.Last.{Last}

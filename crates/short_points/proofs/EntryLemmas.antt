@@ -1,18 +1,17 @@
 -- Trees whose entries have short paths, and what they are with one more.
 use Rattle.std.specs.FinMap as map
-use Rattle.std.proofs.Common.{◌≡◌, ◌≢◌, ◌≤◌, ◌<◌, ◌+◌, ℕ, Bool, true, false, cond, List, [], ◌∷◌, ◌++◌, length, inl, inr, ◌⊎◌, refl, sym, ap, subst, ◌∙◌, arith, Option, Some, None}
+use Rattle.std.proofs.Common.{◌≡◌, ◌≢◌, ◌<◌, ◌+◌, ℕ, Bool, true, false, cond, List, [], ◌∷◌, ◌++◌, inl, inr, ◌⊎◌, refl, sym, ap, subst, ◌∙◌, arith, Option, Some, None}
 use Rattle.std.specs.Prelude.{bytes_eq}
 use Rattle.std.specs.Option.{option_and_then, option_map, option_map_or}
 use Rattle.std.specs.Ordering.{nat_cmp}
-use Rattle.std.proofs.lemmas.Option.{none-some, same_Some}
+use Rattle.std.proofs.lemmas.Option.{none-some}
 use Rattle.std.proofs.lemmas.Slice.Eq.{bytes_eq-Decides}
-use Rattle.pr_base.specs.Paths.{text_of}
 use Rattle.pr_base.specs.Texts.{Text}
 use Rattle.pr_base.proofs.MapLemmas.{by_key, get-changed_other, get-changed_same, get-insert_other, get-insert_same}
 use Rattle.kr_inode.proofs.BodyLemmas.{entries-with_entries, entries-with_standing, takes-is_listed}
 use Rattle.kr_tree.specs.Changes.{added, fresh, linked, new_tree, next_standing, with_entry, with_inode, with_names, with_standing}
 use Rattle.kr_tree.specs.Names.{named}
-use Rattle.kr_tree.specs.Tree.{Body, Directory, Entry, Inode, Inodes, Tree, body_is, entries, entries_of, entry, entry_named, inode, is_directory, root, takes_names}
+use Rattle.kr_tree.specs.Tree.{Body, Directory, Entry, Inode, Inodes, Tree, body_is, entries_of, entry, entry_named, inode, is_directory, root, takes_names}
 use Rattle.kr_tree.proofs.AddLemmas.{passing}
 use Rattle.short_points.proofs.LengthLemmas.{IsShort}
 

@@ -1,5 +1,5 @@
 -- How long the paths are that a listing's lines give.
-use Rattle.std.proofs.Common.{◌≡◌, ◌≤◌, ◌<◌, ◌+◌, ℕ, zero, suc, Bool, true, false, cond, List, [], ◌∷◌, ◌++◌, length, reverse, refl, sym, ap, ◌∙◌, arith, Option, Some, None, Result, Ok, Err}
+use Rattle.std.proofs.Common.{◌≡◌, ◌≤◌, ◌+◌, ℕ, suc, Bool, true, false, cond, List, [], ◌∷◌, ◌++◌, length, reverse, refl, ap, arith, Option, Some, None, Ok, Err}
 use Rattle.std.specs.Prelude.{◌&&◌, ◌||◌, IfOk, nat_le}
 use Rattle.std.specs.Bool.{if◌then◌else◌}
 use Rattle.std.specs.List.{list_all, onto_first, slice_split}
@@ -11,7 +11,6 @@ use Rattle.pr_base.specs.Paths.{below_root, is_slash, not_empty, parts_of, slash
 use Rattle.pr_base.specs.Texts.{Text}
 use Rattle.kr_tree.specs.Names.{is_name}
 use Rattle.kr_text.specs.Fields.{◌>>=◌, is_empty, is_path, names_of, path_limit, path_of, unescaped}
-use Rattle.kr_text.specs.declared.fault.TreeWhy.{TreeWhy}
 use Rattle.kr_text.specs.declared.fault.TreeWhy.TheVariants.{Name}
 
 -- the bytes of some names, with a slash for each

@@ -1,8 +1,8 @@
 -- What a line adds to a tree whose entries have short paths.
-use Rattle.std.proofs.Common.{◌≡◌, ℕ, Bool, true, false, cond, List, [], ◌∷◌, length, refl, Option, Some, None, Result, Ok, Err, nat_eq}
+use Rattle.std.proofs.Common.{◌≡◌, ℕ, Bool, true, false, List, [], ◌∷◌, length, refl, Option, Some, None, Result, Ok, Err, nat_eq}
 use Rattle.std.specs.Prelude.{◌||◌, IfOk, IfSome, bytes_eq, codes, is_some}
 use Rattle.std.specs.Bool.{if◌then◌else◌}
-use Rattle.std.specs.Option.{ok_or, option_and_then}
+use Rattle.std.specs.Option.{ok_or}
 use Rattle.pr_base.specs.Texts.{Text}
 use Rattle.kr_inode.specs.declared.user.User.{User}
 use Rattle.kr_tree.specs.Changes.{added, has_no_name_left, has_no_room, is_too_big, linked, new_tree}

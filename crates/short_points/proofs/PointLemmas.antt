@@ -1,20 +1,16 @@
 -- What stands in a tree that was read has a short path, and so have points that stand there.
-use Rattle.std.proofs.Common.{◌≡◌, ◌≤◌, ℕ, true, List, [], ◌∷◌, Option, Some, None, Ok, refl, sym, ap, subst, ◌∙◌, arith}
+use Rattle.std.proofs.Common.{◌≡◌, true, [], ◌∷◌, Option, Some, None, refl, sym, ap, subst, ◌∙◌, arith}
 use Rattle.std.specs.Prelude.{IfOk}
 use Rattle.std.specs.Option.{option_and_then}
 use Rattle.pr_base.specs.Texts.{Text}
 use Rattle.pt_bind.specs.Binding.{host_of}
-use Rattle.kr_inode.specs.declared.user.User.{User}
 use Rattle.kr_tree.specs.Lawful.{IsKept}
 use Rattle.kr_tree.specs.Names.{named}
-use Rattle.kr_tree.specs.Tree.{Tree, body_is, entry, is_directory}
+use Rattle.kr_tree.specs.Tree.{Tree, entry}
 use Rattle.kr_text.proofs.DepthLemmas.{entry_in, has_entries}
 use Rattle.kr_text.proofs.Growth.{one_text}
-use Rattle.kr_text.specs.Reading.{listing_of}
-use Rattle.kr_view.specs.Component.{Namespace}
-use Rattle.kr_view.specs.View.{Point, Row, is_there, row}
+use Rattle.kr_view.specs.View.{Point, is_there}
 use Rattle.kr_mounts.specs.Standing.{texts_of}
-use Rattle.walks_agree.specs.Settled.{IsSettled}
 use Rattle.short_points.specs.Points.{PathsAreShort, ReadPathsAreShort, ReadPointsAreShort, SettledPointsAreShort}
 use Rattle.short_points.proofs.EntryLemmas.{HasShortEntries, named-above}
 use Rattle.short_points.proofs.LengthLemmas.{IsShort}

@@ -8,11 +8,8 @@ use Rattle.kr_tree.specs.Names.{named}
 use Rattle.kr_tree.specs.Tree.{Tree}
 use Rattle.kr_text.specs.Reading.{listing_of}
 use Rattle.kr_view.specs.Component.{Namespace}
-use Rattle.kr_view.specs.View.{Row, row}
+use Rattle.swaps_read.specs.Points.{PointsHaveAtMost}
 use Rattle.walks_agree.specs.Settled.{IsSettled}
-
-abbrev pub PointsAreShort : List Row → Type 0
-PointsAreShort table = (k : ℕ) (r : Row) (point : Text) → row table k ≡ Some r → r.text.point ≡ Some point → length (text_of point) ≤ 4095
 
 -- whatever stands in a tree has a short path
 abbrev pub PathsAreShort : Tree → Type 0
@@ -25,8 +22,8 @@ ReadPathsAreShort = (elf bytes : List ℕ) (t : Tree) (user : User) → listing_
 -- mounts stand at entries of the tree in which they are settled. This is asked of the tree that settling leaves: it makes the names of points
 -- that are missing, below sources that may have the longest paths themselves
 abbrev pub SettledPointsAreShort : Type 0
-SettledPointsAreShort = (space : Namespace) → IsSettled space → PathsAreShort space.tree → PointsAreShort space.table
+SettledPointsAreShort = (space : Namespace) → IsSettled space → PathsAreShort space.tree → PointsHaveAtMost 4095 space.table
 
 -- where it makes none, that is the tree that was read
 abbrev pub ReadPointsAreShort : Type 0
-ReadPointsAreShort = (elf bytes : List ℕ) (user : User) (space : Namespace) → listing_of elf bytes ≡ Ok (space.tree, user) → IsKept space.tree → IsSettled space → PointsAreShort space.table
+ReadPointsAreShort = (elf bytes : List ℕ) (user : User) (space : Namespace) → listing_of elf bytes ≡ Ok (space.tree, user) → IsKept space.tree → IsSettled space → PointsHaveAtMost 4095 space.table

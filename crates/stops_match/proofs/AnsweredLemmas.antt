@@ -95,7 +95,7 @@ module _ (pid : ℕ) where
   pub computed_twice : (regs more : Regs) (memory much : Memory) (s : State ℕ Image) → computed pid more much (computed pid regs memory s) ≡ computed pid more much s
   computed_twice regs more memory much s = ap (λ ps. with_living (λ _. ps) s) (each_twice (given pid more much) (given pid regs memory) (λ p. refl) s.living)
 
-  told_again : (old left : Regs) (memory : Memory) (first last : ℤ) (s : State ℕ Image) → left ≡ with_answer last old → (regs : Regs) → computed pid left memory (answered pid first (computed pid regs memory s)) ≡ answered pid last (computed pid old memory s)
+  pub told_again : (old left : Regs) (memory : Memory) (first last : ℤ) (s : State ℕ Image) → left ≡ with_answer last old → (regs : Regs) → computed pid left memory (answered pid first (computed pid regs memory s)) ≡ answered pid last (computed pid old memory s)
   told_again old left memory first last s is regs =
       ap (λ ps. with_living (λ _. ps) s)
       (ap (with_process pid (given pid left memory)) (each_twice (going (with_answer first) false) (given pid regs memory) (λ p. refl) s.living)

@@ -53,7 +53,7 @@ use Rattle.kr_turns.specs.PlainCall.{Came, child_of, end_of, operated, plain_cal
 use Rattle.kr_turns.specs.Stopped.{IsThere, Stopped, edited, image_at}
 use Rattle.kr_turns.specs.Turn.{Machine, Tally, after_born, after_end, after_exit, after_plain, called, watched_call}
 use Rattle.kr_turns.specs.Watching.{unwatched}
-use Rattle.kr_turns.proofs.EditLemmas.{image-edited, there as is_there}
+use Rattle.kr_turns.proofs.EditLemmas.{there as is_there}
 use Rattle.kr_turns.proofs.PlainLemmas.{no-exec-requested, no-exec-rule}
 use Rattle.pt_tracer.specs.Stopping.{after_request, decoded_at}
 use Rattle.pt_watched.specs.Planning.{edit_for, led_of, list_addresses, planned_by, texts_at}
@@ -72,8 +72,6 @@ use Rattle.calm_places.proofs.InUseLemmas.{neither}
 use Rattle.calm_places.specs.Keeping.{MovesStayInside}
 use Rattle.swaps_read.specs.Exits.{left_with}
 use Rattle.walks_bare.specs.Facts.{AreSeenAlike}
-use Rattle.walks_bare.proofs.OneMountLemmas.{lawful_states_are_in_one_mount}
-use Rattle.walks_bare.proofs.SightLemmas.{plain_sight_is_bare}
 use Rattle.turns_match.specs.Calls.{decoded_by, decoded_in}
 use Rattle.turns_match.specs.Changing.{all_tags_made}
 use Rattle.turns_match.specs.Lasting.{CanBeCalled, LeavesLasting}
@@ -81,7 +79,7 @@ use Rattle.turns_match.specs.Operating.{IsCalmCall, IsCarriedAlike, behind, done
 use Rattle.turns_match.specs.Registers.{registers_in}
 use Rattle.turns_match.proofs.CallLemmas.{by_request}
 use Rattle.turns_match.proofs.CalledLemmas.{calls_last, decoded_lasts, decoded_lives, decoded_memory, decoded_process, lasts_living}
-use Rattle.turns_match.proofs.ImageLemmas.{bare_computed, given}
+use Rattle.turns_match.proofs.ImageLemmas.{given}
 use Rattle.turns_match.proofs.MatchLemmas.{match_computed}
 use Rattle.turns_match.proofs.OperateLemmas.{calls_keep_matches, with_own_registers}
 use Rattle.turns_match.proofs.PathlessLemmas.{none_of_all}
@@ -362,21 +360,23 @@ module _ {S : Type 0} (table : List Row) (made pid : ℕ) (m : Machine S) (n : M
             let rules = none_of_all _ _ _ _ _ _ calm_row in
             (mounts, record { same = equal; inside = inside; rules = record { third = rules.1; fourth = rules.2; fifth = rules.3 }; new = new; allowed = lasting.allowed; tags = refl; leave = refl })
         by (inr (e, refuses)) =
-            let none : done.reply.changes ≡ [] = ap (λ (action : Replying). (carried_out action (memory_of pid at)).reply.changes) refuses in
-            (others, record {
-              same = refl;
-              inside = subst (λ cs. MovesStayInside table others pid (with_memory_of pid done.memory at) cs) (sym none) tt;
-              rules = subst (λ cs. BreakNone images others pid table cs (with_memory_of pid done.memory at)) (sym none) (record { third = refl; fourth = refl; fifth = refl });
-              new = subst (λ cs. NewPlacesStand table others pid (with_memory_of pid done.memory at) cs) (sym none) tt;
-              allowed = record {
-                before = lasting.allowed.before;
-                made = subst (λ cs. CanAllBeMade (λ k. k) table others pid (with_memory pid done.memory at) cs) (sym none) tt;
-                modest = lasting.allowed.modest;
-                lawful = subst (λ cs. IsLawful (λ k. k) table (all_applied images others pid cs (with_memory pid done.memory at))) (sym none) lasting.allowed.before;
-              };
-              tags = subst (λ cs. all_tags_made table others pid (with_memory_of pid done.memory at) cs x.tags ≡ all_tags_made table mounts pid (with_memory_of pid done.memory at) cs x.tags) (sym none) refl;
-              leave = subst (λ cs. all_applied images mounts pid cs (with_memory_of pid done.memory at) ≡ all_applied images others pid cs (with_memory_of pid done.memory at)) (sym none) refl;
-            })
+            let none : done.reply.changes ≡ [] = ap (λ (action : Replying). (carried_out action (memory_of pid at)).reply.changes) refuses in (
+              others,
+              record {
+                same = refl;
+                inside = subst (λ cs. MovesStayInside table others pid (with_memory_of pid done.memory at) cs) (sym none) tt;
+                rules = subst (λ cs. BreakNone images others pid table cs (with_memory_of pid done.memory at)) (sym none) (record { third = refl; fourth = refl; fifth = refl });
+                new = subst (λ cs. NewPlacesStand table others pid (with_memory_of pid done.memory at) cs) (sym none) tt;
+                allowed = record {
+                  before = lasting.allowed.before;
+                  made = subst (λ cs. CanAllBeMade (λ k. k) table others pid (with_memory pid done.memory at) cs) (sym none) tt;
+                  modest = lasting.allowed.modest;
+                  lawful = subst (λ cs. IsLawful (λ k. k) table (all_applied images others pid cs (with_memory pid done.memory at))) (sym none) lasting.allowed.before;
+                };
+                tags = subst (λ cs. all_tags_made table others pid (with_memory_of pid done.memory at) cs x.tags ≡ all_tags_made table mounts pid (with_memory_of pid done.memory at) cs x.tags) (sym none) refl;
+                leave = subst (λ cs. all_applied images mounts pid cs (with_memory_of pid done.memory at) ≡ all_applied images others pid cs (with_memory_of pid done.memory at)) (sym none) refl;
+              },
+            )
 
     abbrev named : Mounts ℕ
     named = served.0

@@ -25,7 +25,7 @@ use Rattle.walks_bare.proofs.OneMountLemmas.{lawful_states_are_in_one_mount}
 use Rattle.walks_bare.proofs.SightLemmas.{plain_sight_is_bare}
 use Rattle.turns_match.specs.Calls.{decoded_by, decoded_in}
 use Rattle.turns_match.specs.Lasting.{CanBeCalled}
-use Rattle.turns_match.proofs.CalledLemmas.{decoded_lasts, lasts_living}
+use Rattle.turns_match.proofs.CalledLemmas.{lasts_living}
 use Rattle.turns_match.proofs.ImageLemmas.{bare_computed, given}
 use Rattle.stops_match.specs.Swapping.{at_entry}
 use Rattle.stops_match.specs.Turning.{ComeToCall}

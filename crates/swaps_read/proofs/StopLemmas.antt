@@ -1,10 +1,9 @@
 -- A stopped process by its registers and its memory: what a tracer does to it is done to these.
-use Rattle.std.proofs.Common.{◌≡◌, ℕ, ◌+◌, ◌≤◌, true, cond, ◌&&◌, List, [], ◌∷◌, length, arith, refl, sym, ap, ◌∙◌}
-use Rattle.std.specs.Prelude.{◌-◌, slice_set}
+use Rattle.std.proofs.Common.{◌≡◌, ℕ, ◌+◌, ◌≤◌, true, cond, ◌&&◌, List, [], ◌∷◌, length, arith, refl, ap, ◌∙◌}
+use Rattle.std.specs.Prelude.{slice_set}
 use Rattle.rv_mem.specs.Memory.{Memory, with_pages}
-use Rattle.rv_mem.specs.Pages.{Pages, allows, allows_all, written}
+use Rattle.rv_mem.specs.Pages.{Pages, allows_all, written}
 use Rattle.rv_mem.specs.declared.regs.Regs.{Regs}
-use Rattle.rv_mem.specs.declared.rights.Use.{Use}
 use Rattle.rv_mem.specs.declared.rights.Use.TheVariants.{Write}
 use Rattle.kr_model.specs.State.{Image}
 use Rattle.pt_tracer.specs.Stopping.{after_poke, memory_at, with_register}

@@ -1,0 +1,9 @@
+pub mod ReadyLemmas
+pub mod TwiceLemmas
+pub mod ReplaceLemmas
+pub mod ReadingLemmas
+pub mod RefusedLemmas
+pub mod LoadedLemmas
+pub mod EnteredLemmas
+pub mod GoLemmas
+pub mod RewriteLemmas

@@ -1,0 +1,3 @@
+pub mod Going
+pub mod Replacing
+pub mod Rewriting

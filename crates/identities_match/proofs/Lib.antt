@@ -1,0 +1,10 @@
+pub mod AlongLemmas
+pub mod EditLemmas
+pub mod EntryLemmas
+pub mod GoingLemmas
+pub mod IdentityLemmas
+pub mod KernelLemmas
+pub mod PathlessLemmas
+pub mod ReadLemmas
+pub mod RunLemmas
+pub mod TakenLemmas

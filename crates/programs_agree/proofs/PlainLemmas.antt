@@ -1,0 +1,103 @@
+-- A program that is no script is loaded with the lists of the call itself.
+use Rattle.std.proofs.Common.{◌≡◌, ◌≤◌, ℕ, zero, suc, ◌-◌, Bool, true, false, cond, List, Option, Some, None, Result, Ok, Err, arith, sym, ap, subst, ◌∙◌, refl}
+use Rattle.pr_base.specs.declared.errno.Errno.{Errno}
+use Rattle.pr_base.specs.declared.errno.Errno.TheVariants.{E2BIG, ENOEXEC, ELOOP}
+use Rattle.rv_mem.proofs.ActionLemmas.{reads_alike}
+use Rattle.pt_args.specs.Walks as texts
+use Rattle.pt_canon.specs.TextWalk.{TextSurroundings}
+use Rattle.pt_script.specs.Expanding.{expanded_from, shown_result}
+use Rattle.pt_script.specs.Programs.{program_from, programs}
+use Rattle.pt_script.specs.declared.expansion.Expanded.{Expanded as Shown}
+use Rattle.pt_script.specs.declared.program.Program.{Program}
+use Rattle.kr_calls.specs.Expansion.{Expanded, Finding, Onward, by_interpreter, by_line, bytes_with_ends, expanded, is_script, is_too_big, most_scripts, new_args, runs}
+use Rattle.kr_calls.specs.Scripts.{script_of}
+use Rattle.kr_exec.specs.Lists.{lists_at}
+use Rattle.kr_exec.specs.declared.lists.Lists.{Lists}
+use Rattle.programs_agree.specs.Executing.{PlainExecutionsAgree}
+use Rattle.programs_agree.specs.Finding.{texts_here}
+use Rattle.programs_agree.proofs.ExecuteLemmas.{executions_agree}
+
+-- ---- how many scripts led to what runs in the end
+
+module _ {F : Type 0} (one : Finding F) (env_bytes : ℕ) where
+  -- at least so many
+  abbrev Counts : ℕ → Result (Expanded F) Errno → Type 0
+  Counts n r = (x : Expanded F) → r ≡ Ok x → n ≤ x.scripts
+
+  refused-counts : (n : ℕ) (e : Errno) → Counts n (Err e)
+  refused-counts n e x is = absurd cc
+
+  runs-counts : (left : ℕ) (f : F) (args : List (List ℕ)) → Counts (most_scripts - left) (runs left f args)
+  runs-counts left f args x is = let same : record { file = f; args = args; scripts = most_scripts - left } ≡ x = cc in subst (λ (x : Expanded F). most_scripts - left ≤ x.scripts) same (omega arith)
+
+  module _ (again : Onward F) (n : ℕ) (later : (f : F) (path : List ℕ) (args : List (List ℕ)) → Counts n (again f path args)) where
+    with-counts : (path : List ℕ) (args : List (List ℕ)) (f : F) (b : Bool) → Counts n (cond b (Err E2BIG) (again f path args))
+    with-counts path args f true = refused-counts n E2BIG
+    with-counts path args f false = later f path args
+
+    interpreter-counts : (path : List ℕ) (args : List (List ℕ)) (r : Result F Errno) → Counts n (by_interpreter again env_bytes path args r)
+    interpreter-counts path args (Err e) = refused-counts n e
+    interpreter-counts path args (Ok f) = with-counts path args f (is_too_big env_bytes args)
+
+    line-counts : (path : List ℕ) (args : List (List ℕ)) (line : Option (List ℕ × List ℕ)) → Counts n (by_line one again env_bytes path args line)
+    line-counts path args None = refused-counts n ENOEXEC
+    line-counts path args (Some line) = interpreter-counts line.0 (new_args line.0 line.1 path args) (one.find line.0)
+
+  fewer-count : (n k : ℕ) (r : Result (Expanded F) Errno) → k ≤ n → Counts n r → Counts k r
+  fewer-count n k r few counts x is = let more = counts x is in omega arith
+
+  counts : (left : ℕ) (f : F) (path : List ℕ) (args : List (List ℕ)) → Counts (most_scripts - left) (expanded one env_bytes left f path args)
+  unfolding expanded
+  counts zero f path args = by (is_script (one.head f))
+    where
+      by : (b : Bool) → Counts (most_scripts - 0) (cond b (Err ELOOP) (runs zero f args))
+      by true = refused-counts (most_scripts - 0) ELOOP
+      by false = runs-counts zero f args
+  counts (suc left) f path args = by (is_script (one.head f)) (line-counts (expanded one env_bytes left) (most_scripts - left) (counts left) path args (script_of (one.head f)))
+    where
+      by : (b : Bool) → Counts (most_scripts - left) (by_line one (expanded one env_bytes left) env_bytes path args (script_of (one.head f)))
+          → Counts (most_scripts - suc left) (cond b (by_line one (expanded one env_bytes left) env_bytes path args (script_of (one.head f))) (runs (suc left) f args))
+      by true later = fewer-count (most_scripts - left) (most_scripts - suc left) (by_line one (expanded one env_bytes left) env_bytes path args (script_of (one.head f))) (omega arith) later
+      by false later = runs-counts (suc left) f args
+
+  -- behind no script the arguments are as they were
+  abbrev Keeps : ℕ → List (List ℕ) → Result (Expanded F) Errno → Type 0
+  Keeps n args r = (x : Expanded F) → r ≡ Ok x → x.scripts ≡ n → x.args ≡ args
+
+  runs-keep : (n left : ℕ) (f : F) (args : List (List ℕ)) → Keeps n args (runs left f args)
+  runs-keep n left f args x is none = let same : record { file = f; args = args; scripts = most_scripts - left } ≡ x = cc in subst (λ (x : Expanded F). x.args ≡ args) same refl
+
+  more-scripts : (n : ℕ) (args : List (List ℕ)) (r : Result (Expanded F) Errno) → Counts (suc n) r → Keeps n args r
+  more-scripts n args r counts x is none = let more = counts x is in absurd (omega arith)
+
+  args-kept : (left : ℕ) (f : F) (path : List ℕ) (args : List (List ℕ)) → suc left ≤ most_scripts → Keeps (most_scripts - suc left) args (expanded one env_bytes (suc left) f path args)
+  unfolding expanded
+  args-kept left f path args few = by (is_script (one.head f)) (line-counts (expanded one env_bytes left) (most_scripts - left) (counts left) path args (script_of (one.head f)))
+    where
+      by : (b : Bool) → Counts (most_scripts - left) (by_line one (expanded one env_bytes left) env_bytes path args (script_of (one.head f)))
+          → Keeps (most_scripts - suc left) args (cond b (by_line one (expanded one env_bytes left) env_bytes path args (script_of (one.head f))) (runs (suc left) f args))
+      by true later = more-scripts (most_scripts - suc left) args (by_line one (expanded one env_bytes left) env_bytes path args (script_of (one.head f)))
+          (fewer-count (most_scripts - left) (suc (most_scripts - suc left)) (by_line one (expanded one env_bytes left) env_bytes path args (script_of (one.head f))) (omega arith) later)
+      by false later = runs-keep (most_scripts - suc left) (suc left) f args
+
+-- ---- a tracer's
+
+module _ (around : TextSurroundings) (working : Option (List ℕ)) (env_bytes : ℕ) (path : List ℕ) (args : List (List ℕ)) (x : Shown) (none : x.scripts ≡ 0) where
+  ended-keeps : (r : Result (Expanded Program) Errno) → Keeps (programs around working) env_bytes 0 args r → shown_result r ≡ Ok x → x.args ≡ args
+  ended-keeps (Err e) keeps is = absurd cc
+  ended-keeps (Ok ended) keeps is =
+      let same : record { host = ended.file.host; index = ended.file.index; args = ended.args; scripts = ended.scripts } ≡ x = cc in
+      sym (ap (λ (e : Shown). e.args) same) ∙ keeps ended refl (ap (λ (e : Shown). e.scripts) same ∙ none)
+
+  found-keeps : (r : Result Program Errno) → texts.and_then r (λ program. shown_result (expanded (programs around working) env_bytes most_scripts program path args)) ≡ Ok x → x.args ≡ args
+  found-keeps (Err e) is = absurd cc
+  found-keeps (Ok program) is = ended-keeps (expanded (programs around working) env_bytes most_scripts program path args) (args-kept (programs around working) env_bytes 4 program path args (omega arith)) is
+
+  same-args : expanded_from around working env_bytes path args ≡ Ok x → x.args ≡ args
+  same-args is = found-keeps (program_from around working path) is
+
+pub plain_executions_agree : PlainExecutionsAgree
+plain_executions_agree table s w pid tags path args env m working lists x n is ended none alike unread =
+    let same = same-args (texts_here table s pid tags) working (bytes_with_ends lists.env) path lists.args x none ended in
+    let read = sym (reads_alike (lists_at args env) m n alike unread).0 ∙ is.read in
+    executions_agree table s w pid tags path args env m working lists x args n is ended (read ∙ ap (λ (own : List (List ℕ)). Ok (let l : Lists = record { args = own; env = lists.env } in l)) (sym same))
