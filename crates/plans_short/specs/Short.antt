@@ -1,13 +1,12 @@
 -- What a tracer puts in place of the paths of a calm call is no longer than the plain kernel takes.
 use Rattle.std.specs.Prelude.{◌≡◌, ◌≤◌, ◌⊎◌, ℕ, true, List, length, Option, Some, None}
-use Rattle.pr_base.specs.Paths.{has_slash, text_of}
-use Rattle.pr_base.specs.Texts.{Text}
+use Rattle.pr_base.specs.Paths.{has_slash}
 use Rattle.pr_base.specs.declared.errno.Errno.TheVariants.{ENAMETOOLONG}
 use Rattle.pt_args.specs.declared.edit.Edit.TheVariants.{Cancel}
 use Rattle.pt_bind.specs.Tags.{TagTable}
 use Rattle.kr_calls.specs.PathTable.{PathUse, path_at}
 use Rattle.kr_calls.specs.declared.request.Request.{Request}
-use Rattle.kr_view.specs.View.{Row, row}
+use Rattle.kr_view.specs.View.{Row}
 use Rattle.kr_model.specs.Known.{known}
 use Rattle.kr_model.specs.Operation.{operation}
 use Rattle.kr_model.specs.Reply.{refuse}

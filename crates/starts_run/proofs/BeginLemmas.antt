@@ -1,14 +1,11 @@
 -- Machines that begin have all that runs rest on.
-use Rattle.std.proofs.Common.{◌≡◌, ◌≤◌, ◌^◌, ℕ, Bool, true, false, ◌∷◌, [], List, cond, Option, Some, None, refl, sym, ap, subst, ◌∙◌}
-use Rattle.std.specs.FinMap as map
+use Rattle.std.proofs.Common.{◌≡◌, ℕ, Bool, true, false, ◌∷◌, [], List, cond, Option, Some, None, refl, sym, ap, subst, ◌∙◌}
 use Rattle.std.specs.Prelude.{Err, IfOk, IfSome, Ok, Result}
 use Rattle.std.specs.List.{list_all}
 use Rattle.pr_base.specs.MountText.{MountText}
 use Rattle.pr_base.specs.declared.errno.Errno.{Errno}
-use Rattle.pr_command.specs.Command.{arguments, candidate, directories, has_slash, path_of, word_of}
+use Rattle.pr_command.specs.Command.{candidate, directories, has_slash, path_of, word_of}
 use Rattle.pr_command.specs.declared.launch.Launch.{Launch}
-use Rattle.pt_ident.specs.IdentityTable.{IdentityTable}
-use Rattle.kr_calm.specs.Calm.{broken_at_start}
 use Rattle.kr_first.specs.Starting.{start_of, start_reach}
 use Rattle.kr_first.specs.declared.starting.First.{First}
 use Rattle.kr_inode.specs.declared.user.User.{User}
@@ -32,18 +29,17 @@ use Rattle.pt_first.specs.GuestStart.{guest_start}
 use Rattle.pt_first.specs.declared.begun.Begun.{Begun}
 use Rattle.kr_bytes.specs.Bytes.{AreAllBytes, HasBytes, TableHasBytes}
 use Rattle.kr_bytes.proofs.StartLemmas.{beginnings-have-bytes, tables-have-bytes}
-use Rattle.pt_bytes.specs.Watchers.{goes_by_bytes, is_byte_row}
+use Rattle.pt_bytes.specs.Watchers.{is_byte_row}
 use Rattle.pt_bytes.proofs.LookLemmas.{AreOfBytes}
 use Rattle.pt_bytes.proofs.TextLemmas.{rows-tested}
 use Rattle.pt_bytes.proofs.TracerLemmas.{tracers-watch-bytes}
 use Rattle.pt_watched.specs.Watched.{Tracing}
 use Rattle.swaps_read.specs.Points.{PointsAreShort}
 use Rattle.starts_match.specs.FirstStates.{IsOpening}
-use Rattle.starts_match.specs.Starts.{ComeTogether, beginning_reach}
+use Rattle.starts_match.specs.Starts.{ComeTogether}
 use Rattle.starts_match.proofs.StartLemmas.{starts-go-together}
-use Rattle.stops_match.specs.Together.{CanRun, goes_by, gone_by}
 use Rattle.stops_match.specs.Turning.{tags_kept}
-use Rattle.turns_match.specs.Runs.{GoTogether, KeepOn}
+use Rattle.turns_match.specs.Runs.{GoTogether}
 use Rattle.starts_run.specs.Starts.{BeginToRun, CanComeAlike, IsOfByteWords, StartsCanRun}
 use Rattle.starts_run.specs.Tables.{IsMadeOfBytes}
 use Rattle.starts_run.proofs.GuestLemmas.{BeginsByBytes, first-peeks-tell-bytes, guests-begin-by-bytes}

@@ -1,10 +1,9 @@
 -- What a tracer finds before a process lives, and hands to the plain kernel, is made of bytes.
-use Rattle.std.proofs.Common.{◌≡◌, ℕ, Bool, true, false, ◌∷◌, [], List, arith, cond, length, Option, Some, None}
-use Rattle.std.specs.Prelude.{Err, IfOk, IfSome, Ok, Result, nat_lt}
-use Rattle.std.specs.List.{AllByRecursion}
+use Rattle.std.proofs.Common.{ℕ, Bool, true, false, ◌∷◌, [], List, arith, cond, Option, Some, None}
+use Rattle.std.specs.Prelude.{Err, IfOk, IfSome, Ok, Result}
 use Rattle.pr_base.specs.Paths.{dot}
 use Rattle.pr_base.specs.declared.errno.Errno.{Errno}
-use Rattle.pr_base.specs.declared.errno.Errno.TheVariants.{E2BIG, EINVAL, ENOENT}
+use Rattle.pr_base.specs.declared.errno.Errno.TheVariants.{E2BIG}
 use Rattle.pr_base.specs.declared.path.WalkMode.TheVariants.{Look}
 use Rattle.pr_command.specs.Command.{arguments, candidate, directories, has_slash, path_of, word_of}
 use Rattle.pr_command.specs.declared.launch.Launch.{Launch}
@@ -19,7 +18,6 @@ use Rattle.pt_script.specs.declared.program.Program.{Program}
 use Rattle.kr_calls.specs.Expansion.{bytes_with_ends}
 use Rattle.kr_exec.specs.Exec.{are_too_big}
 use Rattle.kr_first.specs.Starting.{is_walked, path_errno}
-use Rattle.kr_first.specs.declared.starting.First.{First}
 use Rattle.kr_inode.specs.declared.user.User.{User}
 use Rattle.kr_model.specs.Peeks.{head_at}
 use Rattle.kr_tree.specs.Lawful.{AreBytes, HasBytes as TreeHasBytes}

@@ -1,11 +1,10 @@
 -- Mounts that stand in a tree of bytes are made of bytes, and their points are entries of the tree.
-use Rattle.std.proofs.Common.{◌≡◌, ◌≤◌, ℕ, zero, suc, false, true, List, [], ◌∷◌, length, Option, Some, None, refl, sym, ap, subst, ◌∙◌}
+use Rattle.std.proofs.Common.{◌≡◌, ℕ, zero, suc, false, true, List, [], ◌∷◌, Option, Some, None, refl, sym, ap, subst, ◌∙◌}
 use Rattle.std.specs.List.{AllByRecursion}
 use Rattle.std.specs.Option.{option_and_then}
 use Rattle.pr_base.specs.MountText.{MountText}
 use Rattle.pr_base.specs.Texts.{Text}
 use Rattle.pt_bind.specs.Binding.{host_of, located}
-use Rattle.kr_inode.specs.declared.user.User.{User}
 use Rattle.kr_tree.specs.Lawful.{AreBytes, HasBytes as TreeHasBytes}
 use Rattle.kr_tree.specs.Names.{named}
 use Rattle.kr_tree.specs.Tree.{Tree, entry}
@@ -17,9 +16,8 @@ use Rattle.walks_agree.proofs.TableLemmas.{host_none, mount_below, source_named}
 use Rattle.kr_bytes.specs.Bytes.{AreAllBytes, TableHasBytes}
 use Rattle.kr_bytes.proofs.StartLemmas.{entry-named}
 use Rattle.pt_bytes.proofs.TextLemmas.{IsByteRow, rows-pass}
-use Rattle.starts_match.specs.FirstStates.{IsOpening}
 use Rattle.starts_match.specs.Spaces.{first_space}
-use Rattle.starts_run.specs.Tables.{IsMadeOfBytes, OpeningsAreMadeOfBytes}
+use Rattle.starts_run.specs.Tables.{OpeningsAreMadeOfBytes}
 
 -- ---- names of a tree
 

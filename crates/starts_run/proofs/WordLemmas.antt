@@ -1,7 +1,7 @@
 -- The command's path is made of bytes, where the words are, and so are its arguments.
-use Rattle.std.proofs.Common.{◌≡◌, ℕ, Bool, true, false, ◌∷◌, [], ◌++◌, List, arith, cond, drop, Option, Some, None, nat_eq, refl}
+use Rattle.std.proofs.Common.{ℕ, Bool, true, false, ◌∷◌, [], List, arith, cond, drop, Option, Some, None, nat_eq, refl}
 use Rattle.std.specs.Prelude.{codes, IfSome, ◌==◌}
-use Rattle.std.specs.List.{slice_split, starts_with}
+use Rattle.std.specs.List.{starts_with}
 use Rattle.kr_tree.specs.Lawful.{AreBytes}
 use Rattle.pr_command.specs.Command.{arguments, candidate, directories, or_later, path_of, path_text, shell, word_of}
 use Rattle.kr_bytes.specs.Bytes.{AreAllBytes}
