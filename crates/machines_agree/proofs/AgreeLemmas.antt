@@ -1,5 +1,5 @@
 -- What is put of a calm run of one program over mounts is put of the run that a tracer watches.
-use Rattle.std.proofs.Common.{◌≡◌, ℕ, List, Option, Some, None, refl, sym, ap, subst, ◌∙◌}
+use Rattle.std.proofs.Common.{◌≡◌, ℕ, List, Option, Some, None, refl, sym, ap, ◌∙◌}
 use Rattle.std.specs.Prelude.{Result, Ok, Err}
 use Rattle.pr_base.specs.declared.errno.Errno.{Errno}
 use Rattle.pr_command.specs.declared.launch.Launch.{Launch}
@@ -30,7 +30,6 @@ use Rattle.pr_watch.specs.declared.watch.Watch.{Watch}
 use Rattle.pr_watch.specs.declared.watch.Watch.TheVariants.{Nobody}
 use Rattle.pt_bytes.specs.Watchers.{goes_by_bytes}
 use Rattle.pt_watched.specs.Watched.{Tracing}
-use Rattle.turns_match.specs.Runs.{ComeAlike}
 use Rattle.turns_match.proofs.ComeLemmas.{run_unbroken}
 use Rattle.stops_match.proofs.TogetherLemmas.{traced_runs_come_alike}
 use Rattle.paths_together.specs.Calls.{executes_nothing}

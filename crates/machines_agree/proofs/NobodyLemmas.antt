@@ -10,7 +10,7 @@ use Rattle.kr_steps.specs.Computing.{computed}
 use Rattle.kr_steps.specs.Waiting.{picked_process}
 use Rattle.kr_turns.specs.Breaking.{plain_rule}
 use Rattle.kr_turns.specs.PlainCall.{Came, plain_call}
-use Rattle.kr_turns.specs.Run.{Ending, Ran, Slot, after_put, ended, ending_of, put_by, run_from, turned, with_put}
+use Rattle.kr_turns.specs.Run.{Slot, after_put, ended, ending_of, put_by, run_from, turned, with_put}
 use Rattle.kr_turns.specs.Shelving.{lacks_in, shelved_in}
 use Rattle.kr_turns.specs.Stopped.{Stopped}
 use Rattle.kr_turns.specs.Turn.{Machine, Tally, after_born, after_end, after_event, after_exit, by_pick, called, with_broken}
@@ -51,9 +51,10 @@ module _ (marks : ℕ) (table : List Row) where
   calls_alone : (pid : ℕ) (came : Came) (tally : Tally) → AreAlone (after_end watch pid came.end (called pid came) (after_born watch pid came.child Nobody) tally) (after_end unwatched pid came.end (called pid came) (after_born unwatched pid came.child Nobody) tally)
   calls_alone pid came tally =
       let bears = bears_alone pid came.child in
-      let ends = ends_alone pid came.end (called pid came) tally in
-      (ap (λ x. after_end watch pid came.end (called pid came) x tally) bears.0 ∙ ends.0 ∙ sym (ap (λ x. after_end unwatched pid came.end (called pid came) x tally) bears.1),
-      ap (λ x. (after_end unwatched pid came.end (called pid came) x tally).watcher) bears.1 ∙ ends.1)
+      let ends = ends_alone pid came.end (called pid came) tally in (
+        ap (λ x. after_end watch pid came.end (called pid came) x tally) bears.0 ∙ ends.0 ∙ sym (ap (λ x. after_end unwatched pid came.end (called pid came) x tally) bears.1),
+        ap (λ x. (after_end unwatched pid came.end (called pid came) x tally).watcher) bears.1 ∙ ends.1,
+      )
 
   events_alone : (pid : ℕ) (e : Event) (state : State ℕ Image) (tally : Tally) → AreAlone (after_event watch marks table pid e (alone state tally)) (after_event unwatched marks table pid e (alone state tally))
   events_alone pid Next state tally = (refl, refl)

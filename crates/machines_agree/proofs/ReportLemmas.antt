@@ -5,15 +5,12 @@ use Rattle.std.specs.List.{flat_map}
 use Rattle.std.specs.Option.{option_map, option_map_or}
 use Rattle.std.specs.Ordering.{nat_cmp}
 use Rattle.kr_inode.specs.declared.user.User.{User}
-use Rattle.kr_text.specs.Canonical.{all_names, below, body_line, canonical, first_name, line_at, lines_after, names_under, owner_of, put_in_order, root_name, user_line}
+use Rattle.kr_text.specs.Canonical.{all_names, below, body_line, canonical, first_name, lines_after, names_under, owner_of, put_in_order, root_name, user_line}
 use Rattle.kr_tree.specs.Tree.{Inode, Node, Tree, entries, entries_of, inode, node, nodes}
 use Rattle.pr_base.specs.Maps.{mapped}
 use Rattle.pr_base.proofs.MapLemmas.{get-mapped, len-mapped, same_values}
 use Rattle.kr_tree.proofs.NodesLemmas.{get-with_values}
-use Rattle.kr_turns.specs.Run.{Ran}
-use Rattle.pr_run.specs.Report.{Report, answer_of, calm_part, report_of}
-use Rattle.pr_run.specs.declared.plan.Plan.{Plan}
-use Rattle.turns_match.specs.Runs.{ComeAlike}
+use Rattle.pr_run.specs.Report.{answer_of, calm_part}
 use Rattle.machines_agree.specs.Reports.{ListingsTellNodes, ReportsAreAlike}
 
 module _ (t v : Tree) (same : nodes t ≡ nodes v) where

@@ -1,14 +1,13 @@
 -- A call along paths that the tracer answers itself, where the kernel with mounts answers and writes the same.
-use Rattle.std.proofs.Common.{◌≡◌, ℕ, true, false, List, [], Option, Some, None, Ok, refl, sym, ap, subst, ◌∙◌, ℤ}
+use Rattle.std.proofs.Common.{◌≡◌, ℕ, false, List, [], Some, None, Ok, sym, ap, subst, ◌∙◌, ℤ}
 use Rattle.std.specs.Option.{unwrap_or}
-use Rattle.rv_mem.specs.Actions.{AreEqualUnmarked, CarriedOut, carried_out}
+use Rattle.rv_mem.specs.Actions.{AreEqualUnmarked}
 use Rattle.rv_mem.specs.Memory.{Memory}
 use Rattle.pt_args.specs.declared.edit.Edit.{Edit}
 use Rattle.pt_results.specs.Notes.{noted, tags_after}
 use Rattle.kr_view.specs.View.{Row, plain}
 use Rattle.kr_calls.specs.declared.request.Request.{Request}
 use Rattle.kr_answers.specs.Carrying.{memory_of}
-use Rattle.kr_model.specs.Reply.{Reply}
 use Rattle.kr_model.specs.State.{Image, Process, State, process}
 use Rattle.kr_model.specs.Walks.{seen}
 use Rattle.kr_model.specs.declared.outcome.Outcome.TheVariants.{Answer}

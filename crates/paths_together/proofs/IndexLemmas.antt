@@ -1,37 +1,30 @@
 -- The index that a tracer notes of an answer is that of the mount to which the first path leads, or the answer is an error.
-use Rattle.std.proofs.Common.{◌≡◌, ◌⊎◌, inl, inr, ℕ, Bool, true, false, cond, List, [], ◌∷◌, Option, Some, None, Result, Ok, Err, refl, sym, ap, ◌∙◌, ℤ}
+use Rattle.std.proofs.Common.{◌≡◌, ◌⊎◌, inl, inr, ℕ, Bool, true, false, List, ◌∷◌, Option, Some, None, Result, Ok, Err, refl, sym, ap, ◌∙◌}
 use Rattle.std.specs.Option.{option_map_or, unwrap_or}
 use Rattle.pr_base.specs.MountText.{MountText}
 use Rattle.pr_base.specs.WalkFrame.{may_be_free}
 use Rattle.pr_base.specs.declared.errno.Errno.{Errno}
-use Rattle.pr_base.specs.declared.errno.Errno.TheVariants.{EEXIST, EISDIR}
 use Rattle.pr_base.specs.declared.path.Last.{Last}
 use Rattle.pr_base.specs.declared.path.Last.TheVariants as last
 use Rattle.pt_bind.specs.Binding.{index_of}
 use Rattle.pt_bind.specs.Tags.{TagTable}
-use Rattle.pt_canon.specs.Canon.{canon_at, canon_result, ending_of, entry_text, guest_text}
+use Rattle.pt_canon.specs.Canon.{canon_result, entry_text, guest_text}
 use Rattle.pt_canon.specs.declared.canon.Canon.{Canon}
-use Rattle.pt_results.specs.Notes.{noted, noted_of}
-use Rattle.pt_results.specs.Numbers.{made_number}
-use Rattle.kr_calls.specs.Arguments.{has}
-use Rattle.kr_calls.specs.PathTable.{PathUse, make_mode, open_mode, path_at}
+use Rattle.kr_calls.specs.PathTable.{PathUse, path_at}
 use Rattle.kr_calls.specs.declared.request.Request.{Request}
-use Rattle.kr_calls.specs.declared.request.Request.TheVariants as call
 use Rattle.kr_view.specs.View.{Row}
 use Rattle.kr_view.specs.Walk.{PlaceTarget}
 use Rattle.kr_mounts.specs.Standing.{texts_of}
 use Rattle.kr_tree.specs.declared.place.Place.{Place}
-use Rattle.kr_model.specs.FileRows.{excludes, openat_row}
 use Rattle.kr_model.specs.Known.{Known}
-use Rattle.kr_model.specs.Operation.{opened, operation}
+use Rattle.kr_model.specs.Operation.{operation}
 use Rattle.kr_model.specs.Reply.{refuse}
-use Rattle.kr_model.specs.Seen.{Opens}
 use Rattle.kr_model.specs.State.{Image, State}
-use Rattle.kr_model.specs.Walks.{Targets, and_then, created_at, if_found, opened_at, seen, seen_of, targets_of, walked}
-use Rattle.pt_watched.specs.Planning.{led_along, led_by, led_of}
+use Rattle.kr_model.specs.Walks.{Targets, and_then, seen, targets_of, walked}
+use Rattle.pt_watched.specs.Planning.{led_along, led_by}
 use Rattle.walks_agree.specs.Standing.{FoundStands}
 use Rattle.places_stay.specs.Matching.{index_at}
-use Rattle.path_places.specs.PathCalls.{HasIndexWalked, HasPath, IsIndexWalked, mount_come_to}
+use Rattle.path_places.specs.PathCalls.{HasIndexWalked, IsIndexWalked, mount_come_to}
 use Rattle.path_places.proofs.IndexLemmas.{texts_have_indices}
 use Rattle.plans_agree.specs.Begins.{Fails, FailsSo, IsEmpty, Leads, LeadsBoth, PathAgrees, StandTogether, Stays, told_texts}
 use Rattle.plans_agree.proofs.CreateLemmas.{none_alike}

@@ -1,5 +1,5 @@
 -- Calls along paths, whatever the tracer makes of them.
-use Rattle.std.proofs.Common.{◌≡◌, ◌≤◌, ℕ, List, length, Option, Some, None, Ok, refl, ap, ◌∙◌, ℤ, pos, arith}
+use Rattle.std.proofs.Common.{◌≡◌, ℕ, List, Option, Some, None, Ok, refl, ap, ◌∙◌, ℤ, pos, arith}
 use Rattle.std.specs.Prelude.{IsSome}
 use Rattle.pr_base.specs.declared.path.WalkMode.TheVariants.{LookLink}
 use Rattle.pt_args.specs.Laws.{ShelvesHoldTheirItems, TextsAreReadBack}

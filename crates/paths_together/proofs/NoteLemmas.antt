@@ -1,5 +1,5 @@
 -- What a tracer notes of the answer of a call along paths is what it would note by the mount to which the first path leads.
-use Rattle.std.proofs.Common.{◌≡◌, ◌⊎◌, inl, inr, ℕ, Bool, true, false, cond, List, Option, Some, None, Ok, refl, sym, ap, ◌∙◌, ℤ}
+use Rattle.std.proofs.Common.{◌≡◌, ◌⊎◌, inl, inr, ℕ, Bool, true, false, cond, List, Option, None, Ok, refl, sym, ap, ◌∙◌, ℤ}
 use Rattle.std.specs.Int.{cast_signed, w64}
 use Rattle.std.specs.Option.{option_map_or}
 use Rattle.pr_base.specs.WalkFrame.{may_be_free}

@@ -1,15 +1,15 @@
 -- Every call but execve(2) is told of a path, or of none.
-use Rattle.std.proofs.Common.{◌≡◌, ◌⊎◌, inl, inr, ℕ, true, List, None, Ok, Err, refl, sym, subst}
+use Rattle.std.proofs.Common.{◌≡◌, ◌⊎◌, inl, inr, true, Ok, Err, refl, sym, subst}
 use Rattle.std.specs.Prelude.{not}
 use Rattle.pt_args.specs.Laws.{ShelvesHoldTheirItems, TextsAreReadBack}
-use Rattle.kr_view.specs.View.{Row, plain}
+use Rattle.kr_view.specs.View.{plain}
 use Rattle.kr_calls.specs.Decoding.{Decoded}
 use Rattle.kr_calls.specs.declared.request.Request.{Request}
 use Rattle.kr_calls.specs.declared.request.Request.TheVariants as call
-use Rattle.kr_turns.specs.Turn.{Machine, calling, watched_call}
+use Rattle.kr_turns.specs.Turn.{calling, watched_call}
 use Rattle.kr_turns.specs.Watching.{unwatched}
 use Rattle.pt_tracer.specs.Stopping.{decoded_at}
-use Rattle.pt_watched.specs.Watched.{Tracing, tracer}
+use Rattle.pt_watched.specs.Watched.{tracer}
 use Rattle.turns_match.specs.Pathless.{IsPathless}
 use Rattle.path_places.specs.PathCalls.{HasPath}
 use Rattle.stops_match.specs.Turning.{ComeFromCall, HasNoPath}

@@ -1,9 +1,8 @@
 -- A call along paths of which the tracer makes what its plan says: it is passed, swapped or cancelled as the kernel with mounts has it.
-use Rattle.std.proofs.Common.{◌≡◌, ◌≢◌, ◌≤◌, inl, ℕ, Bool, true, List, [], length, Option, Some, None, Ok, refl, sym, ap, subst, ◌∙◌}
+use Rattle.std.proofs.Common.{◌≡◌, inl, ℕ, Bool, true, List, Option, Some, None, Ok, sym, ap, subst, ◌∙◌}
 use Rattle.std.specs.Option.{unwrap_or}
-use Rattle.pr_base.specs.declared.errno.Errno.{Errno}
 use Rattle.rv_mem.specs.Actions.{carried_out}
-use Rattle.pt_args.specs.Edits.{edit_of, shelve}
+use Rattle.pt_args.specs.Edits.{edit_of}
 use Rattle.pt_args.specs.Laws.{ShelvesHoldTheirItems, TextsAreReadBack}
 use Rattle.pt_args.specs.Purposes.{opens}
 use Rattle.pt_args.specs.Walks.{walked_along}
@@ -24,7 +23,7 @@ use Rattle.kr_turns.specs.Stopped.{Stopped, edited}
 use Rattle.kr_turns.specs.Turn.{Machine, calling, watched_call}
 use Rattle.kr_turns.specs.Watching.{unwatched}
 use Rattle.pt_tracer.specs.Stopping.{after_request, decoded_at, memory_at}
-use Rattle.pt_watched.specs.Planning.{answered, edit_for, has_shelf, rewritten, stack_at, texts_at}
+use Rattle.pt_watched.specs.Planning.{answered, edit_for, rewritten, stack_at, texts_at}
 use Rattle.pt_watched.specs.Watched.{Tracing, applied, tracer}
 use Rattle.swaps_read.specs.Operations.{HasFirst}
 use Rattle.swaps_read.specs.Requests.{NewText, with_swaps}
@@ -35,11 +34,10 @@ use Rattle.turns_match.specs.Calls.{decoded_by}
 use Rattle.turns_match.proofs.CalledLemmas.{decoded_holds}
 use Rattle.path_places.specs.PathCalls.{HasPath}
 use Rattle.path_places.proofs.RuleLemmas.{no_exec}
-use Rattle.plans_agree.specs.OnePath.{IsNewText}
 use Rattle.plans_agree.specs.Plans.{Cancelling, HasFirstOfTwo, IsEdit, IsNewIfAny, IsPassed, IsPlanned, IsSwapped, Passing, PlanAgrees, Swapping, shelved_texts}
 use Rattle.plans_agree.proofs.PlanLemmas as planning
 use Rattle.plans_short.specs.Short.{IsShort, IsShortIfAny, IsShortPlan}
-use Rattle.stops_match.specs.Cancelling.{IsCancelledAlike, at_first_stop}
+use Rattle.stops_match.specs.Cancelling.{at_first_stop}
 use Rattle.stops_match.specs.Swapping.{IsPassedAlike, IsSwappedAlike}
 use Rattle.stops_match.specs.Turning.{ComeFromCall, ComeToCall}
 use Rattle.stops_match.proofs.AnsweredLemmas.{cancelled_calls_go_together}
@@ -77,7 +75,7 @@ module _ {S : Type 0} (table : List Row) (made pid : ℕ) (m : Machine S) (n : M
 
   module _ (u : PathUse) (path : path_at r 0 ≡ Some u) (first_of_two : HasFirstOfTwo r) (unlinked : link_answer (here.texts table made pid m n r c p q lives also calm reads kind) pid r ≡ None)
       (unanswered : answered (here.texts table made pid m n r c p q lives also calm reads kind) then_stop r ≡ None) where
-    pub     is_planned : IsPlanned table x.tags at w2 pid r
+    pub is_planned : IsPlanned table x.tags at w2 pid r
     is_planned = record {
       together = here.together table made pid m n r c p q lives also calm reads kind;
       links = here.have_texts table made pid m n r c p q lives also calm reads kind;

@@ -1,12 +1,10 @@
 -- The shelf of a calm call along a path: the tracer may use it, and on the machine with mounts it is marked.
-use Rattle.std.proofs.Common.{◌≡◌, ◌≢◌, ◌<◌, ◌≤◌, ℕ, Bool, true, false, cond, List, [], ◌∷◌, length, Option, Some, None, Ok, refl, sym, ap, subst, ◌∙◌, arith}
+use Rattle.std.proofs.Common.{◌≡◌, ◌≤◌, ℕ, true, false, cond, List, length, Option, Some, None, Ok, sym, ap, subst, ◌∙◌, arith}
 use Rattle.std.specs.Prelude.{◌||◌, nat_lt}
-use Rattle.std.specs.List.{list_any}
 use Rattle.std.proofs.lemmas.Bool.Decides.{nat_tests}
 use Rattle.pr_base.specs.Paths.{is_absolute}
 use Rattle.pr_base.specs.declared.errno.Errno.TheVariants.{ENAMETOOLONG}
 use Rattle.rv_mem.specs.Actions.{AreEqualUnmarked}
-use Rattle.rv_mem.specs.Memory.{Memory}
 use Rattle.rv_mem.specs.declared.regs.Regs.{Regs}
 use Rattle.pt_args.specs.Edits.{shelve}
 use Rattle.pt_args.specs.declared.edit.Edit.TheVariants.{Cancel}
@@ -15,13 +13,13 @@ use Rattle.kr_calls.specs.Arguments.{number}
 use Rattle.kr_calls.specs.PathTable.{PathUse, path_at}
 use Rattle.kr_calls.specs.declared.request.Request.{Request}
 use Rattle.kr_calm.specs.Shelf.{has_path, is_usable, stack_pointer}
-use Rattle.kr_model.specs.State.{Image, Process, State, process}
+use Rattle.kr_model.specs.State.{Image, Process, process}
 use Rattle.kr_turns.specs.Breaking.{plain_rule}
 use Rattle.kr_turns.specs.Stopped.{Stopped, image_at}
 use Rattle.kr_turns.specs.Turn.{Machine, calling, watched_call}
 use Rattle.kr_turns.specs.Watching.{unwatched}
 use Rattle.kr_turns.proofs.EditLemmas.{there as is_there}
-use Rattle.pt_tracer.specs.Stopping.{after_request, decoded_at, memory_at}
+use Rattle.pt_tracer.specs.Stopping.{decoded_at, memory_at}
 use Rattle.pt_watched.specs.Planning.{has_shelf, stack_at}
 use Rattle.pt_watched.specs.Watched.{Tracing}
 use Rattle.path_places.specs.PathCalls.{HasPath}

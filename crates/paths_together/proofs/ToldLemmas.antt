@@ -1,6 +1,6 @@
 -- What the plain kernel is told along the paths that the tracer leaves is what it is told at the first stop of the same paths; so a call
 -- of which that is what the kernel with mounts is told is told along.
-use Rattle.std.proofs.Common.{◌≡◌, ◌⊎◌, inl, inr, ℕ, true, List, Option, Some, None, Ok, refl, sym, ap, subst, ◌∙◌, ℤ}
+use Rattle.std.proofs.Common.{◌≡◌, ◌⊎◌, ℕ, true, List, Some, None, Ok, refl, sym, ap, subst, ◌∙◌, ℤ}
 use Rattle.pr_base.specs.declared.errno.Errno.{Errno}
 use Rattle.rv_mem.specs.Memory.{Memory}
 use Rattle.rv_mem.specs.Pages.{HoldsBytes}
@@ -17,10 +17,8 @@ use Rattle.kr_model.specs.Bare.{bare_mounts}
 use Rattle.kr_model.specs.Known.{known}
 use Rattle.kr_model.specs.Operation.{operation}
 use Rattle.kr_model.specs.Reply.{refuse}
-use Rattle.kr_model.specs.Seen.{Seen}
 use Rattle.kr_model.specs.State.{Image, Process, State, image_layout, process}
-use Rattle.kr_model.specs.Walks.{Targets, seen, targets_of}
-use Rattle.kr_model.specs.declared.outcome.Outcome.{Outcome}
+use Rattle.kr_model.specs.Walks.{seen, targets_of}
 use Rattle.kr_model.specs.declared.outcome.Outcome.TheVariants.{Answer}
 use Rattle.kr_turns.specs.Turn.{Machine, calling, watched_call}
 use Rattle.kr_turns.specs.Watching.{unwatched}
@@ -33,7 +31,7 @@ use Rattle.calm_places.specs.Keeping.{MovesStayInside}
 use Rattle.walks_bare.specs.Facts.{AreSeenAlike}
 use Rattle.turns_match.specs.Changing.{all_tags_made}
 use Rattle.turns_match.specs.Operating.{done_in, written_in}
-use Rattle.path_places.specs.PathCalls.{HasPath, changes_at, mounts_at, outcome_at, tags_noted, told_at, written_at}
+use Rattle.path_places.specs.PathCalls.{HasPath, tags_noted}
 use Rattle.path_places.proofs.BringLemmas.{path_calls_bring_standing}
 use Rattle.path_places.proofs.MoveLemmas.{path_calls_move_inside}
 use Rattle.path_places.proofs.NoteLemmas.{path_calls_are_noted}
