@@ -34,7 +34,7 @@ use Rattle.pt_tracer.specs.Stopping.{after_request, decoded_at, memory_at, with_
 use Rattle.pt_tracer.specs.declared.due.Due.TheVariants as due
 use Rattle.pt_watched.specs.Planning.{nowhere}
 use Rattle.pt_watched.specs.Registers.{arguments_at}
-use Rattle.pt_watched.specs.Watched.{Tracing, after_decoding, after_effect, awaiting, by_identities, entered, exited, is_execve, returned, shown_due, tracer, with_identities, with_pending}
+use Rattle.pt_watched.specs.Watched.{Tracing, after_decoding, after_effect, awaiting, by_identities, entered, exited, has_begun, is_execve, returned, shown_due, tracer, with_identities, with_pending}
 use Rattle.pt_watched.specs.declared.pending.Pending.{Pending}
 use Rattle.swaps_read.specs.Exits.{left_with}
 use Rattle.swaps_read.specs.NoCalls.{without_call}
@@ -53,7 +53,7 @@ use Rattle.identities_match.specs.Editing.{stop_in}
 use Rattle.identities_match.specs.Going.{ComeFromFakedCall, ComeToFakedCall, StandAlike, untold}
 use Rattle.identities_match.proofs.EditLemmas.{both_edited}
 use Rattle.identities_match.proofs.EntryLemmas as entry
-use Rattle.identities_match.proofs.KernelLemmas.{left, told_exit, untold_exit}
+use Rattle.identities_match.proofs.KernelLemmas.{left, not_begun, told_exit, untold_exit}
 use Rattle.identities_match.proofs.TakenLemmas as taken
 
 -- ---- requests on users and groups
@@ -284,8 +284,11 @@ module _ (table : List Row) (made pid : ℕ) (m : Machine Faking) (n : Machine T
   pending_there : map.get y.pending pid ≡ Some pending
   pending_there = get-insert_same x.pending pid pending
 
+  none_begun : has_begun pending (called pid came2) ≡ false
+  none_begun = not_begun pending (called pid came2) answers.runs
+
   abbrev traced : Tracing
-  traced = left pending y (called pid came2) pending_there answers.runs
+  traced = left pending y (called pid came2) pending_there
 
   abbrev answered2 : State ℕ Image
   answered2 = answered pid also_done.reply.answer (computed pid q.image.regs also_done.memory w)
@@ -300,7 +303,7 @@ module _ (table : List Row) (made pid : ℕ) (m : Machine Faking) (n : Machine T
   returned_is : returned pending (called pid came2) ≡ untold_left.1
   returned_is =
       ap (λ (e : Tracing × Stopped). e.1)
-      (sym (untold_exit pending y (called pid came2) pending_there answers.runs)
+      (sym (untold_exit pending y (called pid came2) pending_there none_begun)
       ∙ exits_behind_answers (with_identities None y) stop (called pid came2) (decoded_at stop).memory r nowhere also_done.reply.answer (word_of (refusal ENOSYS)) refl pending_there reads_there there_stop there_came2
       (ap (λ (image : Image). image.regs.x) (own_image pid came2.state (taken.refused_caller pid w q also also_done.memory) (taken.refused_lives pid w q also also_done.memory))
       ∙ ap (λ (image : Image). slice_set (without_call image.regs).x 10 (word_of (refusal ENOSYS))) (sym (own_image pid w q also))))
@@ -315,7 +318,7 @@ module _ (table : List Row) (made pid : ℕ) (m : Machine Faking) (n : Machine T
 
   exits_there : exited y (called pid came2) ≡ (traced, returned pending (called pid came2))
   exits_there =
-      told_exit pending y (called pid came2) pending_there answers.runs (with_identity pid also_done.reply.identity f.identities) refl
+      told_exit pending y (called pid came2) pending_there none_begun (with_identity pid also_done.reply.identity f.identities) refl
       ∙ ap (λ d. (traced, shown_due y.user (with_identity pid also_done.reply.identity f.identities) false d (returned pending (called pid came2)))) answers.due
 
   traced_is : watched_call tracer 0 plain pid n ≡ record { state = answered2; watcher = traced; tally = other }

@@ -4,7 +4,10 @@ pub mod EntryLemmas
 pub mod GoingLemmas
 pub mod IdentityLemmas
 pub mod KernelLemmas
+pub mod KindLemmas
 pub mod PathlessLemmas
+pub mod ProgramLemmas
 pub mod ReadLemmas
 pub mod RunLemmas
 pub mod TakenLemmas
+pub mod WholeLemmas

@@ -125,7 +125,7 @@ stat_length : (s : Stat) → length (stat_layout s) ≡ 128
 stat_length s = laid_length (replicate 128 0) (stat_fields s) ∙ length-replicate {A = ℕ} 128 0
 
 -- an error is no 0
-nonzero : (e : Errno) → (word_of (refusal e) == 0) ≡ false
+pub nonzero : (e : Errno) → (word_of (refusal e) == 0) ≡ false
 nonzero ENOSYS = refl
 nonzero _ = refl
 
@@ -134,7 +134,7 @@ record IsTold (at : ℕ) (left : CarriedOut Reply) : Type 0 where
   replies : left.reply ≡ record { outcome = Answer value; changes = [] }
   unmarked : (word_of value == 0) ≡ true → any_marked left.memory.pages at 128 ≡ false
 
-differ : {A : Type 0} (b : Bool) → b ≡ false → b ≡ true → A
+pub differ : {A : Type 0} (b : Bool) → b ≡ false → b ≡ true → A
 differ b none some = absurd (let never : false ≡ true = sym none ∙ some in cc)
 
 refused_told : (at : ℕ) (e : Errno) (m : Memory) → IsTold at (carried_out (refuse e) m)

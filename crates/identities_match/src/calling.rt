@@ -1,7 +1,6 @@
 //! Laws of calls with their stops, each carried by a function that does nothing.
-ghost use Rattle.identities_match.specs.Along.{PathCallsGoTogether, PathCallsJustAnswer};
+ghost use Rattle.identities_match.specs.Beginning.{ProgramsGoTogether, ProgramsReadNoMark};
 ghost use Rattle.identities_match.specs.Calls.{FakedCallsGoTogether, IdentityCallsGoTogether, KernelsCallsGoTogether};
-ghost use Rattle.identities_match.specs.Runs.{FakedRunsComeAlike};
 
 /// A call that the kernels carry out keeps both machines together, where it does so without an identity and its answer is edited alike.
 pub fn kernels_calls_go_together()
@@ -18,18 +17,12 @@ pub fn faked_calls_go_together()
     ensures { FakedCallsGoTogether }
 {}
 
-/// Each kernel answers a call along paths, or one that isn't decoded, and makes no child of it.
-pub fn path_calls_just_answer()
-    ensures { PathCallsJustAnswer }
+/// And an execve(2), where a new program begins on both machines or on none: it is told who it is on both.
+pub fn programs_go_together()
+    ensures { ProgramsGoTogether }
 {}
 
-/// So a call along paths keeps both machines together, where it does so without an identity.
-pub fn path_calls_go_together()
-    ensures { PathCallsGoTogether }
-{}
-
-/// Where each call keeps both machines together, a calm run and the watched one come to the same bytes, the same end, the same status and
-/// the same tree.
-pub fn faked_runs_come_alike()
-    ensures { FakedRunsComeAlike }
+/// No marked byte is read for that.
+pub fn programs_read_no_mark()
+    ensures { ProgramsReadNoMark }
 {}

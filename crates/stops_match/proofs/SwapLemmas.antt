@@ -160,7 +160,7 @@ module _ {S : Type 0} (back : TextsAreReadBack) (shelves : ShelvesHoldTheirItems
   -- ---- told alike
 
   module _ (alike : IsSwappedAlike table pid m n r first second) (calm : (watched_call unwatched 1 table pid m).tally.broken ≡ None) where
-    swap_entered : IsEntered table made pid m n r (with_swaps first second r) c alike.told p q lives also calm regs3.x memory3
+    pub swap_entered : IsEntered table made pid m n r (with_swaps first second r) c alike.told p q lives also calm regs3.x memory3
     swap_entered = record {
       answer = ap (λ edit. (applied edit (after_request stop)).answer) swaps ∙ swapped.answer;
       stopped = swap_left;
@@ -244,7 +244,7 @@ module _ {S : Type 0} (table : List Row) (made pid : ℕ) (m : Machine S) (n : M
         ∙ ap (λ t. (with_tags (tags_after y.tags pid (noted r led.index (cast_signed w64 word))) (without_pending pid y), t))
         (sym (ap (λ xs. edited (record { x = xs; pc = (image_at v).regs.pc }) (memory_at v) v) (ap (λ xs. slice_set xs 10 word) old_is ∙ sym regs) ∙ there.one))
 
-  pass_entered : IsEntered table made pid m n r r c alike.told p q lives also calm q.image.regs.x (decoded_by q).memory
+  pub pass_entered : IsEntered table made pid m n r r c alike.told p q lives also calm q.image.regs.x (decoded_by q).memory
   pass_entered =
       let own = c.also_lasts.lawful.processes pid q also in
       record {

@@ -1,0 +1,4 @@
+//! Memories of new programs have no mark: laws, and no code.
+#![tactic(auto)]
+
+pub mod laws;
