@@ -1,6 +1,7 @@
 -- Calls along paths by what the tracer makes of them, where an identity is told.
 use Rattle.std.proofs.Common.{◌≡◌, ℕ, true, false, List, Option, Some, None, Ok, refl, sym, ap, subst, ◌∙◌, ℤ}
 use Rattle.std.specs.Prelude.{IsSome}
+use Rattle.pr_base.specs.declared.errno.Errno.{Errno}
 use Rattle.rv_mem.specs.Memory.{Memory}
 use Rattle.rv_mem.specs.declared.regs.Regs.{Regs}
 use Rattle.kr_view.specs.View.{Row, plain}
@@ -21,13 +22,15 @@ use Rattle.pt_tracer.specs.Stopping.{after_request, decoded_at}
 use Rattle.pt_watched.specs.Planning.{edit_for, planned_by, texts_at}
 use Rattle.pt_watched.specs.Watched.{Tracing, after_decoding, after_plan, applied, entered, tracer}
 use Rattle.swaps_read.specs.Answered.{StandsAtNoCall}
-use Rattle.swaps_read.specs.Requests.{with_swaps}
+use Rattle.swaps_read.specs.Requests.{NewText, with_swaps}
 use Rattle.swaps_read.proofs.AnsweredLemmas.{answered_calls_are_none}
 use Rattle.turns_match.proofs.CalledLemmas.{lives_computed}
 use Rattle.turns_match.proofs.ImageLemmas.{given}
 use Rattle.turns_match.proofs.RunLemmas.{lives_too}
-use Rattle.stops_match.specs.Swapping.{IsToldAlong}
-use Rattle.stops_match.specs.Turning.{ComeFromCall}
+use Rattle.stops_match.specs.Answering.{IsAnsweredAlike}
+use Rattle.stops_match.specs.Cancelling.{IsCancelledAlike}
+use Rattle.stops_match.specs.Swapping.{IsPassedAlike, IsSwappedAlike, IsToldAlong}
+use Rattle.stops_match.specs.Turning.{ComeFromCall, ComeToCall}
 use Rattle.stops_match.proofs.AnsweredLemmas.{cancelled_calls_go_together}
 use Rattle.stops_match.proofs.CallLemmas as before
 use Rattle.stops_match.proofs.CarryLemmas.{IsEntered, lists_none}
@@ -101,46 +104,60 @@ module _ (table : List Row) (made pid : ℕ) (m : Machine Faking) (n : Machine T
             path_calls_go_together table made pid m n r c decoded told
             (λ unwatched_calm. let both = untold_goes p q.0 lives q.1 unwatched_calm in record { answers = both.0; root = root; together = both.1 }) calm
 
+-- ---- what each kind comes to without an identity: the plain kernel answers it, too, and it keeps both machines together
+
+module _ (table : List Row) (made pid : ℕ) (m : Machine Faking) (n : Machine Tracing) (r : Request) (c : ComeToFakedCall table made pid m n) (p q : Process ℕ Image) (lives : process pid m.state ≡ Some p) (also : process pid n.state ≡ Some q)
+    (calm : (watched_call unwatched 1 table pid m).tally.broken ≡ None) where
+  abbrev comes : ComeToCall table made pid m (untold n)
+  comes = entry.comes table made pid m n c p q lives also
+
+  abbrev pub UntoldGoes : Type 0
+  UntoldGoes = JustAnswers (came_there table pid m n r) × ComeFromCall table made (watched_call unwatched 1 table pid m) (watched_call tracer 0 plain pid (untold n))
+
+  pub swaps_untold : TextsAreReadBack → ShelvesHoldTheirItems → (first : NewText) (second : Option NewText) → IsSwappedAlike table pid m (untold n) r first second → UntoldGoes
+  swaps_untold back shelves first second alike = (
+    finds_request table made pid m n r c alike.told.decoded alike.told.kind p q lives also calm (with_swaps first second r) alike.told _ _ (swap_entered back shelves table made pid m (untold n) r first second comes alike.can alike.swaps p q lives also alike calm),
+    swapped_calls_go_together back shelves Faking table made pid m (untold n) r first second comes alike calm,
+  )
+
+  pub passes_untold : IsPassedAlike table pid m (untold n) r → UntoldGoes
+  passes_untold alike = (
+    finds_request table made pid m n r c alike.told.decoded alike.told.kind p q lives also calm r alike.told _ _ (pass_entered table made pid m (untold n) r comes alike p q lives also calm),
+    passed_calls_go_together Faking table made pid m (untold n) r comes alike calm,
+  )
+
+  pub answers_untold : (answer : ℤ) → IsAnsweredAlike table pid m (untold n) r answer → UntoldGoes
+  answers_untold answer alike =
+      let x = (untold n).watcher in
+      let stop_is = before.calling_is table made pid m (untold n) comes p q lives also in (
+        finds_none table made pid m n r c alike.decoded alike.kind p q lives also calm answer
+            (ap (λ t. (applied (edit_for (texts_at x.bindings x.tags (after_request t)) (after_request t) r) (after_request t)).answer) (sym stop_is) ∙ alike.answers),
+        answered_calls_go_together Faking table made pid m (untold n) r answer comes alike calm,
+      )
+
+  pub errors_untold : is_told_of_paths r ≡ true → (e : Errno) → IsCancelledAlike table pid m (untold n) r e → UntoldGoes
+  errors_untold told e alike =
+      let x = (untold n).watcher in
+      let stop = before.stop table made pid m (untold n) comes p q lives also in
+      let stop_is = before.calling_is table made pid m (untold n) comes p q lives also in (
+        finds_none table made pid m n r c alike.decoded told p q lives also calm (refusal e)
+            (ap (λ edit. (applied edit (after_request stop)).answer)
+            (ap (λ t. edit_for (texts_at x.bindings x.tags (after_request t)) (after_request t) r) (sym stop_is) ∙ alike.cancels)),
+        cancelled_calls_go_together Faking table made pid m (untold n) r e comes alike calm,
+      )
+
 pub faked_swaps_go_together : TextsAreReadBack → ShelvesHoldTheirItems → FakedSwapsGoTogether
 faked_swaps_go_together back shelves table made pid m n r first second c alike root =
-    together table made pid m n r c alike.told.decoded alike.told.kind root
-    (λ p q lives also calm.
-    let comes = entry.comes table made pid m n c p q lives also in (
-      finds_request table made pid m n r c alike.told.decoded alike.told.kind p q lives also calm (with_swaps first second r) alike.told _ _ (swap_entered back shelves table made pid m (untold n) r first second comes alike.can alike.swaps p q lives also alike calm),
-      swapped_calls_go_together back shelves Faking table made pid m (untold n) r first second comes alike calm,
-    ))
+    together table made pid m n r c alike.told.decoded alike.told.kind root (λ p q lives also calm. swaps_untold table made pid m n r c p q lives also calm back shelves first second alike)
 
 pub faked_passes_go_together : FakedPassesGoTogether
 faked_passes_go_together table made pid m n r c alike root =
-    together table made pid m n r c alike.told.decoded alike.told.kind root
-    (λ p q lives also calm.
-    let comes = entry.comes table made pid m n c p q lives also in (
-      finds_request table made pid m n r c alike.told.decoded alike.told.kind p q lives also calm r alike.told _ _ (pass_entered table made pid m (untold n) r comes alike p q lives also calm),
-      passed_calls_go_together Faking table made pid m (untold n) r comes alike calm,
-    ))
+    together table made pid m n r c alike.told.decoded alike.told.kind root (λ p q lives also calm. passes_untold table made pid m n r c p q lives also calm alike)
 
 pub faked_answers_go_together : FakedAnswersGoTogether
 faked_answers_go_together table made pid m n r answer c alike root =
-    together table made pid m n r c alike.decoded alike.kind root
-    (λ p q lives also calm.
-    let comes = entry.comes table made pid m n c p q lives also in
-    let x = (untold n).watcher in
-    let stop_is = before.calling_is table made pid m (untold n) comes p q lives also in (
-      finds_none table made pid m n r c alike.decoded alike.kind p q lives also calm answer
-          (ap (λ t. (applied (edit_for (texts_at x.bindings x.tags (after_request t)) (after_request t) r) (after_request t)).answer) (sym stop_is) ∙ alike.answers),
-      answered_calls_go_together Faking table made pid m (untold n) r answer comes alike calm,
-    ))
+    together table made pid m n r c alike.decoded alike.kind root (λ p q lives also calm. answers_untold table made pid m n r c p q lives also calm answer alike)
 
 pub faked_errors_go_together : FakedErrorsGoTogether
 faked_errors_go_together table made pid m n r e c alike told root =
-    together table made pid m n r c alike.decoded told root
-    (λ p q lives also calm.
-    let comes = entry.comes table made pid m n c p q lives also in
-    let x = (untold n).watcher in
-    let stop = before.stop table made pid m (untold n) comes p q lives also in
-    let stop_is = before.calling_is table made pid m (untold n) comes p q lives also in (
-      finds_none table made pid m n r c alike.decoded told p q lives also calm (refusal e)
-          (ap (λ edit. (applied edit (after_request stop)).answer)
-          (ap (λ t. edit_for (texts_at x.bindings x.tags (after_request t)) (after_request t) r) (sym stop_is) ∙ alike.cancels)),
-      cancelled_calls_go_together Faking table made pid m (untold n) r e comes alike calm,
-    ))
+    together table made pid m n r c alike.decoded told root (λ p q lives also calm. errors_untold table made pid m n r c p q lives also calm told e alike)

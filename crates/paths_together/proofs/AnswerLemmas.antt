@@ -87,7 +87,7 @@ module _ {S : Type 0} (table : List Row) (made pid : ℕ) (m : Machine S) (n : M
     kept_is : applied (edit_for (texts_at x.bindings x.tags (at_first_stop pid n)) (at_first_stop pid n) r) (at_first_stop pid n) ≡ applied edit then_stop
     kept_is = ap (λ edit. applied edit (at_first_stop pid n)) edit_is ∙ ap (applied edit) (here.stop_is table made pid m n r c p q lives also calm reads kind)
 
-    answered_alike : IsAnsweredAlike table pid m n r alike.answer
+    pub answered_alike : IsAnsweredAlike table pid m n r alike.answer
     answered_alike =
         let here_is = sym (before.at_call_is table made pid m n c p q lives also) in
         record {
@@ -99,6 +99,3 @@ module _ {S : Type 0} (table : List Row) (made pid : ℕ) (m : Machine S) (n : M
               (subst (λ kept. AreEqualUnmarked (done_in pid r (seen table pid at r) at).memory.pages (memory_at kept.stopped).pages) (sym kept_is) alike.memories);
           silent = silent (led_of (texts_at x.bindings x.tags (at_first_stop pid n)) pid r).index alike.answer;
         }
-
-    pub answered_together : ComeFromCall table made (watched_call unwatched 1 table pid m) (watched_call tracer 0 plain pid n)
-    answered_together = answered_calls_go_together S table made pid m n r alike.answer c answered_alike calm

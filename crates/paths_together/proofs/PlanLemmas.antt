@@ -45,6 +45,7 @@ use Rattle.stops_match.proofs.CallLemmas as before
 use Rattle.stops_match.proofs.CallLemmas.{own_image}
 use Rattle.stops_match.proofs.SwapLemmas as swap
 use Rattle.stops_match.proofs.SwapLemmas.{passed_calls_go_together, swapped_calls_go_together}
+use Rattle.paths_together.specs.Calls.{Cancelled, MadeAlike, Passed, Swapped}
 use Rattle.paths_together.proofs.HereLemmas as here
 use Rattle.paths_together.proofs.ShelfLemmas.{both_shelved, can_be_path, can_swap, one_shelved, shelf_then}
 use Rattle.paths_together.proofs.ToldLemmas.{is_told, told_along}
@@ -155,14 +156,14 @@ module _ {S : Type 0} (table : List Row) (made pid : ℕ) (m : Machine S) (n : M
 
     -- ---- whatever the plan is
 
-    pub planned_together : TextsAreReadBack → ShelvesHoldTheirItems → (plan : PlanAgrees table x.tags at w2 pid r) → IsShortPlan table x.tags at w2 pid r plan → ComeFromCall table made (watched_call unwatched 1 table pid m) (watched_call tracer 0 plain pid n)
-    planned_together back shelves (Passing edit passed) short = passed_calls_go_together S table made pid m n r c (passed_alike edit passed) calm
-    planned_together back shelves (Swapping first second edit swapped) short = swapped_calls_go_together back shelves S table made pid m n r first second c (swapped_alike back shelves first second edit swapped short) calm
-    planned_together back shelves (Cancelling e edit refuses) short =
-        cancelled_calls_go_together S table made pid m n r e c
+    pub planned_alike : TextsAreReadBack → ShelvesHoldTheirItems → (plan : PlanAgrees table x.tags at w2 pid r) → IsShortPlan table x.tags at w2 pid r plan → MadeAlike table pid m n r
+    planned_alike back shelves (Passing edit passed) short = Passed (passed_alike edit passed)
+    planned_alike back shelves (Swapping first second edit swapped) short = Swapped first second (swapped_alike back shelves first second edit swapped short)
+    planned_alike back shelves (Cancelling e edit refuses) short =
+        Cancelled e
         (record {
           decoded = reads;
           kind = no_exec r kind;
           cancels = edit_at (λ sp usable. Cancel e) edit;
           refuses = subst (λ t. operation pid r (seen table pid t r) (known image_layout pid t) ≡ refuse e) (sym (before.at_call_is table made pid m n c p q lives also)) refuses;
-        }) calm
+        })

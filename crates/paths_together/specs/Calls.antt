@@ -1,5 +1,6 @@
 -- Calls along paths, other than execve(2), with their stops.
-use Rattle.std.specs.Prelude.{◌≡◌, ℕ, Bool, true, false, not, List, None, Ok, Err}
+use Rattle.std.specs.Prelude.{◌≡◌, ℕ, ℤ, Bool, true, false, not, List, Option, None, Ok, Err}
+use Rattle.pr_base.specs.declared.errno.Errno.{Errno}
 use Rattle.kr_view.specs.View.{Row, plain}
 use Rattle.kr_calls.specs.Decoding.{Decoded}
 use Rattle.kr_calls.specs.declared.request.Request.{Request}
@@ -9,8 +10,24 @@ use Rattle.kr_turns.specs.Watching.{unwatched}
 use Rattle.pt_tracer.specs.Stopping.{decoded_at}
 use Rattle.pt_watched.specs.Watched.{Tracing, tracer}
 use Rattle.path_places.specs.PathCalls.{HasPath}
+use Rattle.swaps_read.specs.Requests.{NewText}
+use Rattle.stops_match.specs.Answering.{IsAnsweredAlike}
+use Rattle.stops_match.specs.Cancelling.{IsCancelledAlike}
+use Rattle.stops_match.specs.Swapping.{IsPassedAlike, IsSwappedAlike}
 use Rattle.stops_match.specs.Together.{CallsGoTogether}
 use Rattle.stops_match.specs.Turning.{ComeFromCall, ComeToCall}
+
+-- what the tracer makes of such a call: it leaves it as it is, swaps its paths, cancels it or answers it, as the kernel with mounts has it
+pub data MadeAlike {S : Type 0} (table : List Row) (pid : ℕ) (m : Machine S) (n : Machine Tracing) (r : Request) : Type 0 where
+  Passed : IsPassedAlike table pid m n r → MadeAlike table pid m n r
+  Swapped : (first : NewText) (second : Option NewText) → IsSwappedAlike table pid m n r first second → MadeAlike table pid m n r
+  Cancelled : (e : Errno) → IsCancelledAlike table pid m n r e → MadeAlike table pid m n r
+  Answered : (answer : ℤ) → IsAnsweredAlike table pid m n r answer → MadeAlike table pid m n r
+
+abbrev pub PathCallsAreMadeAlike : Type 0 → Type 0
+PathCallsAreMadeAlike S =
+    (table : List Row) (made pid : ℕ) (m : Machine S) (n : Machine Tracing) (r : Request) → ComeToCall table made pid m n → (decoded_at (calling 1 pid m.state)).reply ≡ Ok r → HasPath r → (watched_call unwatched 1 table pid m).tally.broken ≡ None
+    → MadeAlike table pid m n r
 
 -- where it breaks no calm rule, such a call and its stops keep the match
 abbrev pub PathCallsGoTogether : Type 0 → Type 0

@@ -1,0 +1,8 @@
+-- Each call but execve(2), where an identity is told.
+use Rattle.std.specs.Prelude.{List}
+use Rattle.kr_view.specs.View.{Row}
+use Rattle.identities_match.specs.Runs.{EachCallGoesTogether}
+use Rattle.paths_together.specs.Calls.{executes_nothing}
+
+abbrev pub FakedOtherCallsGoTogether : Type 0
+FakedOtherCallsGoTogether = (table : List Row) → EachCallGoesTogether executes_nothing table
