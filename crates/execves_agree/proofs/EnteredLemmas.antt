@@ -14,7 +14,6 @@ use Rattle.pt_bind.specs.Tags.{TagTable, with_tag}
 use Rattle.pt_bind.specs.declared.slot.Slot.TheVariants.{Exe}
 use Rattle.pt_ident.specs.Identity.{refusal}
 use Rattle.pt_results.specs.Notes.{noted, noted_of, tags_after}
-use Rattle.pt_results.specs.Numbers.{made_number}
 use Rattle.kr_view.specs.View.{Row, plain}
 use Rattle.kr_calls.specs.Decoding.{decoding}
 use Rattle.kr_calls.specs.declared.request.Request.{Request}
@@ -54,7 +53,7 @@ use Rattle.turns_match.proofs.CalledLemmas.{decoded_lasts, decoded_lives, decode
 use Rattle.turns_match.proofs.ImageLemmas.{given}
 use Rattle.turns_match.proofs.OperateLemmas.{with_own_registers}
 use Rattle.stops_match.specs.Turning.{ComeFromCall, ComeToCall}
-use Rattle.stops_match.proofs.AnsweredLemmas.{computed_twice, lives_changed}
+use Rattle.stops_match.proofs.AnsweredLemmas.{computed_twice, lives_changed, none_made, silent_refusal, told_again}
 use Rattle.stops_match.proofs.CallLemmas as before
 use Rattle.stops_match.proofs.CallLemmas.{own_image, plain_named}
 use Rattle.execves_agree.specs.Replacing.{ArePutAlike, gone_on_with, mounts_of}
@@ -63,15 +62,11 @@ use Rattle.execves_agree.proofs.LoadedLemmas.{program-lasts}
 use Rattle.execves_agree.proofs.ReadingLemmas.{execution-keeps}
 use Rattle.execves_agree.proofs.RefusedLemmas as refused
 use Rattle.execves_agree.proofs.RefusedLemmas.{told_of}
-use Rattle.execves_agree.proofs.TwiceLemmas.{Behind, behind, forgotten, told-again}
+use Rattle.execves_agree.proofs.BehindLemmas.{Behind, behind, forgotten}
 
 -- an error is noted of no execve
-none-made : (e : Errno) → made_number (cast_signed w64 (word_of (told_of e))) ≡ None
-none-made ENOSYS = refl
-none-made _ = refl
-
 silent : (tags : TagTable) (pid : ℕ) (path : List ℕ) (args env index : ℕ) (e : Errno) → tags_after tags pid (noted (call.Execve path args env) index (cast_signed w64 (word_of (told_of e)))) ≡ tags
-silent tags pid path args env index e = ap (λ number. tags_after tags pid (noted_of (call.Execve path args env) index number)) (none-made e)
+silent tags pid path args env index e = ap (λ number. tags_after tags pid (noted_of (call.Execve path args env) index number)) (none_made e) ∙ silent_refusal tags pid (call.Execve path args env) index
 
 module _ {S : Type 0} (table : List Row) (made pid : ℕ) (m : Machine S) (n : Machine Tracing) (c : ComeToCall table made pid m n) (p q : Process ℕ Image) (lives : process pid m.state ≡ Some p) (also : process pid n.state ≡ Some q)
     (calm : (watched_call unwatched 1 table pid m).tally.broken ≡ None) (path : List ℕ) (args env : ℕ) where
@@ -147,7 +142,7 @@ module _ {S : Type 0} (table : List Row) (made pid : ℕ) (m : Machine S) (n : M
     back_state =
         ap (λ (image : Image). computed pid (record { x = slice_set (image_at stop).regs.x 10 (word_of (refusal e)); pc = image.regs.pc }) image.memory none.state) (own_image pid none.state q3 lives3)
         ∙ ap (λ (image : Image). computed pid (record { x = slice_set image.regs.x 10 (word_of (refusal e)); pc = q3.image.regs.pc }) left none.state) (own_image pid w q also)
-        ∙ told-again pid q.image.regs (record { x = slice_set q.image.regs.x 10 (word_of (refusal e)); pc = q3.image.regs.pc }) left (refusal ENOSYS) (told_of e) w refl (without_call q.image.regs)
+        ∙ told_again pid q.image.regs (record { x = slice_set q.image.regs.x 10 (word_of (refusal e)); pc = q3.image.regs.pc }) left (refusal ENOSYS) (told_of e) w refl (without_call q.image.regs)
 
     abbrev tally : Tally
     tally = before.unjudged table made pid m n c p q lives also v
@@ -277,7 +272,7 @@ module _ {S : Type 0} (table : List Row) (made pid : ℕ) (m : Machine S) (n : M
           ap (λ (image : Image). computed pid (record { x = slice_set (image_at stop).regs.x 10 (word_of (told_of e)); pc = image.regs.pc }) image.memory came5.state) (own_image pid came5.state q5 lives5)
           ∙ ap (λ (image : Image). computed pid (record { x = slice_set image.regs.x 10 (word_of (told_of e)); pc = q5.image.regs.pc }) done4.memory came5.state) (own_image pid w q also)
           ∙ ap (computed pid (record { x = slice_set q.image.regs.x 10 (word_of (told_of e)); pc = q5.image.regs.pc }) done4.memory) state5_is
-          ∙ told-again pid q.image.regs (record { x = slice_set q.image.regs.x 10 (word_of (told_of e)); pc = q5.image.regs.pc }) done4.memory (told_of e) (told_of e) w refl regs3
+          ∙ told_again pid q.image.regs (record { x = slice_set q.image.regs.x 10 (word_of (told_of e)); pc = q5.image.regs.pc }) done4.memory (told_of e) (told_of e) w refl regs3
 
       traced5_is : watched_call tracer 0 plain pid n ≡ record { state = answered pid (told_of e) (computed pid q.image.regs done4.memory w); watcher = back5.0; tally = tally3 }
       traced5_is =

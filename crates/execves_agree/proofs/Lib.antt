@@ -1,5 +1,5 @@
 pub mod ReadyLemmas
-pub mod TwiceLemmas
+pub mod BehindLemmas
 pub mod ReplaceLemmas
 pub mod ReadingLemmas
 pub mod RefusedLemmas

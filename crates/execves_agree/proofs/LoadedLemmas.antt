@@ -35,7 +35,7 @@ use Rattle.stops_match.proofs.CallLemmas.{exit_status, unwatched_exit}
 use Rattle.execves_agree.specs.Replacing.{ArePutAlike, gone_on_with, mounts_of}
 use Rattle.execves_agree.proofs.RefusedLemmas as refused
 use Rattle.execves_agree.proofs.ReplaceLemmas.{programs_keep_matches}
-use Rattle.execves_agree.proofs.TwiceLemmas.{forgotten}
+use Rattle.execves_agree.proofs.BehindLemmas.{forgotten}
 
 -- ---- what lasts
 

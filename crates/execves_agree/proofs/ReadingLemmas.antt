@@ -51,19 +51,19 @@ text-keeps {A} (suc most) at refused too_long next one other each m =
         either-keeps (nat_eq b 0) (next []) (read_text most (at + 1) refused too_long (λ text. next (b ∷ text))) (each []) (later b) (after_read m at 1)
     by false later = one m
 
-address-keeps : (at : ℕ) → Keeps (address_at at)
+pub address-keeps : (at : ℕ) → Keeps (address_at at)
 address-keeps at m = by (allows_uses m.pages at 8 (Read ∷ []))
   where
     by : (b : Bool) → (carried_out (cond b (ReadBytes at 8 (λ bytes. Done (Ok (little_endian bytes)))) (Done (Err EFAULT))) m).memory.pages ≡ m.pages
     by true = refl
     by false = refl
 
-within-keeps : (room at : ℕ) → Keeps (text_within room at)
+pub within-keeps : (room at : ℕ) → Keeps (text_within room at)
 within-keeps room at =
     keeps-then (text_at at) (if_it_fits room) (text-keeps most_bytes at (Done (Err EFAULT)) (Done (Err E2BIG)) (λ text. Done (Ok text)) (λ m. refl) (λ m. refl) (λ text m. refl))
     (λ text. either-keeps (nat_lt (length text) room) (Done (Ok text)) (Done (Err E2BIG)) (λ m. refl) (λ m. refl))
 
-texts-keep : (left at room : ℕ) → Keeps (texts_from left at room)
+pub texts-keep : (left at room : ℕ) → Keeps (texts_from left at room)
 unfolding texts_from
 texts-keep zero at room =
     keeps-then (address_at at) (unless_ended (Done (Err E2BIG))) (address-keeps at) (λ address. either-keeps (nat_eq address 0) (Done (Ok [])) (Done (Err E2BIG)) (λ m. refl) (λ m. refl))
@@ -79,7 +79,7 @@ texts-keep (suc left) at room = by (λ text. texts-keep left (next_address at) (
         (keeps-then (text_within room address) (λ text. and_then (texts_from left (next_address at) (room - (length text + 1))) (behind text)) (within-keeps room address)
         (λ text. keeps-then (texts_from left (next_address at) (room - (length text + 1))) (behind text) (later text) (λ rest m. refl))))
 
-list-keeps : (at room : ℕ) → Keeps (list_at at room)
+pub list-keeps : (at room : ℕ) → Keeps (list_at at room)
 list-keeps at room = either-keeps (nat_eq at 0) (Done (Ok [])) (texts_from most_texts at room) (λ m. refl) (texts-keep most_texts at room)
 
 pub lists-keep : (args env : ℕ) → Keeps (lists_at args env)

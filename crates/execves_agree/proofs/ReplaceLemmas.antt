@@ -30,9 +30,8 @@ use Rattle.places_stay.specs.Standing.{UseStands}
 use Rattle.places_stay.proofs.FollowLemmas.{told_at}
 use Rattle.path_places.proofs.FoundLemmas.{file_use}
 use Rattle.turns_match.proofs.KeepLemmas.{changes_keep_matches}
-use Rattle.turns_match.proofs.RunLemmas.{lives_too}
-use Rattle.execves_agree.specs.Replacing.{ArePutAlike, ProgramsKeepMatches, gone_on_with, mounts_of}
-use Rattle.execves_agree.proofs.TwiceLemmas.{behind, match-resumed}
+use Rattle.turns_match.proofs.SettleLemmas.{match_gone}
+use Rattle.execves_agree.specs.Replacing.{ArePutAlike, ProgramsKeepMatches, mounts_of}
 
 -- a file is no directory
 no-directory : (t : Tree) (h : Host) → is_file_at t h ≡ true → is_directory_at t h ≡ false
@@ -120,12 +119,7 @@ module _ (table : List Row) (pid : ℕ) (s w : State ℕ Image) (tags : TagTable
       subst (λ k. IsMatch table (with_tag tags pid Exe k) (all_applied images (mounts_of program) pid (changes_of (Ok program)) s) (all_applied images (mounts_of other) pid (changes_of (Ok other)) w)) tagged
       (subst (λ cs. IsMatch table (with_tag tags pid Exe (index_at table program.exe.mount)) (all_applied images (mounts_of program) pid (changes_of (Ok program)) s) (all_applied images (mounts_of other) pid cs w)) (sym same_changes) kept)
 
-  -- the caller lives on
-  pub gone-on : IsMatch table (with_tag tags pid Exe index) (gone_on_with pid program s) (gone_on_with pid other w)
-  gone-on =
-      let one = behind pid (mounts_of program) program s alike.lives in
-      let two = lives_too table (with_tag tags pid Exe index) pid (all_applied images (mounts_of program) pid (changes_of (Ok program)) s) (all_applied images (mounts_of other) pid (changes_of (Ok other)) w) one.process_there put one.lives in
-      match-resumed pid table (with_tag tags pid Exe index) (all_applied images (mounts_of program) pid (changes_of (Ok program)) s) (all_applied images (mounts_of other) pid (changes_of (Ok other)) w) put one.process_there two.0 one.lives two.1
-
 pub programs_keep_matches : ProgramsKeepMatches
-programs_keep_matches table pid s w tags program other index m matched alike = gone-on table pid s w tags program other index m matched alike
+programs_keep_matches table pid s w tags program other index m matched alike =
+    match_gone pid (λ regs. regs) false table (with_tag tags pid Exe index) (all_applied images (mounts_of program) pid (changes_of (Ok program)) s) (all_applied images (mounts_of other) pid (changes_of (Ok other)) w)
+    (put table pid s w tags program other index m matched alike)

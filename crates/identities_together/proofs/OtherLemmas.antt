@@ -36,7 +36,7 @@ use Rattle.identities_match.proofs.AlongLemmas.{path_calls_go_together}
 use Rattle.identities_match.proofs.EntryLemmas as entry
 use Rattle.identities_match.proofs.KindLemmas.{UntoldGoes, answers_untold, errors_untold, passes_untold, swaps_untold}
 use Rattle.identities_match.proofs.WholeLemmas.{all_calls_go_together}
-use Rattle.identities_together.specs.Calls.{FakedOtherCallsGoTogether}
+use Rattle.identities_together.specs.Calls.{OtherFakedCallsGoTogether}
 use Rattle.identities_together.proofs.RootLemmas.{root_known}
 
 has_path : (r : Request) → is_told_of_paths r ≡ true → HasPath r
@@ -109,8 +109,8 @@ no_program : (r : Request) → watched.is_execve r ≡ true → executes_nothing
 no_program (call.Execve path args env) runs allowed = cc
 no_program _ runs allowed = cc
 
-pub faked_other_calls_go_together : TextsAreReadBack → ShelvesHoldTheirItems → FakedOtherCallsGoTogether
-faked_other_calls_go_together back shelves table =
+pub other_faked_calls_go_together : TextsAreReadBack → ShelvesHoldTheirItems → OtherFakedCallsGoTogether
+other_faked_calls_go_together back shelves table =
     all_calls_go_together executes_nothing table
     (record {
       along = λ made pid m n r c decoded told allowed. along back shelves table made pid m n c r decoded told;

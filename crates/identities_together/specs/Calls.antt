@@ -4,5 +4,5 @@ use Rattle.kr_view.specs.View.{Row}
 use Rattle.identities_match.specs.Runs.{EachCallGoesTogether}
 use Rattle.paths_together.specs.Calls.{executes_nothing}
 
-abbrev pub FakedOtherCallsGoTogether : Type 0
-FakedOtherCallsGoTogether = (table : List Row) → EachCallGoesTogether executes_nothing table
+abbrev pub OtherFakedCallsGoTogether : Type 0
+OtherFakedCallsGoTogether = (table : List Row) → EachCallGoesTogether executes_nothing table

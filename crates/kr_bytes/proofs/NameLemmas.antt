@@ -109,7 +109,7 @@ module _ (t : Tree) (has : TreeHasBytes t) where
       (λ high own. if-then AreAllBytes AreAllBytes (names_below high) (host_name t dir) (λ text are. names-below-bytes high text are) (host-name-bytes dir)) (host-name-bytes top)
 
 -- the names of what stands in the process directory
-process-names-bytes : (at : ProcAt) → AreAllBytes (process_names at)
+pub process-names-bytes : (at : ProcAt) → AreAllBytes (process_names at)
 process-names-bytes SelfLink = (bytes-tested (codes "self") refl, tt)
 process-names-bytes (Dir pid) = (decimal-bytes pid, tt)
 process-names-bytes (Cwd pid) = (bytes-tested (codes "cwd") refl, (decimal-bytes pid, tt))

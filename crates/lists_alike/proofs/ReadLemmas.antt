@@ -37,14 +37,14 @@ both-first : (a b : Bool) → (a && b) ≡ true → a ≡ true
 both-first true b e = refl
 both-first false b e = absurd cc
 
-page-there : (m : Pages) (k : ℕ) (what : Use) → page_allows m k what ≡ true → map.contains_key m k ≡ true
+pub page-there : (m : Pages) (k : ℕ) (what : Use) → page_allows m k what ≡ true → map.contains_key m k ≡ true
 page-there m k what e = by (map.get m k) e
   where
     by : (o : Option PageState) → option_map_or (λ p. grants p.rights what) o false ≡ true → is_some o ≡ true
     by None e = absurd cc
     by (Some p) e = refl
 
-one-allowed : (m : Pages) (at : ℕ) → allows_uses m at 1 (Read ∷ []) ≡ true → page_allows m (at / 4096) Read ≡ true
+pub one-allowed : (m : Pages) (at : ℕ) → allows_uses m at 1 (Read ∷ []) ≡ true → page_allows m (at / 4096) Read ≡ true
 unfolding allows_all
 one-allowed m at e = both-first (page_allows m (at / 4096) Read) true e
 

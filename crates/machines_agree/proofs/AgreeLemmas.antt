@@ -1,29 +1,21 @@
 -- What is put of a calm run of one program over mounts is put of the run that a tracer watches.
-use Rattle.std.proofs.Common.{◌≡◌, ℕ, List, Option, Some, None, refl, sym, ap, ◌∙◌}
+use Rattle.std.proofs.Common.{◌≡◌, ℕ, List, None, refl, sym, ap, ◌∙◌}
 use Rattle.std.specs.Prelude.{Result, Ok, Err}
 use Rattle.pr_base.specs.declared.errno.Errno.{Errno}
 use Rattle.pr_command.specs.declared.launch.Launch.{Launch}
-use Rattle.pr_command.specs.Command.{word_of}
 use Rattle.pt_args.specs.Laws.{ShelvesHoldTheirItems, TextsAreReadBack}
 use Rattle.kr_calm.specs.Calm.{broken_at_start}
-use Rattle.kr_first.specs.Starting.{start_of, start_reach}
-use Rattle.kr_first.specs.declared.starting.First.{First}
 use Rattle.kr_inode.specs.declared.user.User.{User}
 use Rattle.kr_mounts.specs.Standing.{texts_of}
-use Rattle.kr_model.specs.State.{Image, State}
-use Rattle.kr_model.specs.Walks.{and_then}
 use Rattle.kr_tree.specs.Tree.{Tree}
 use Rattle.kr_turns.specs.Run.{Ran, run}
 use Rattle.kr_turns.specs.Turn.{Machine}
 use Rattle.kr_turns.specs.Watching.{unwatched}
 use Rattle.kr_view.specs.View.{Row}
-use Rattle.kr_view.specs.declared.target.Reach.{Reach}
 use Rattle.pr_run.specs.Report.{report_of}
 use Rattle.pr_run.specs.Slots.{slot_of}
 use Rattle.pr_run.specs.declared.plan.Plan.{Plan}
-use Rattle.pr_start.specs.Beginning.{beginning, begun, begun_at, first_of, fresh, nowhere}
-use Rattle.pr_start.specs.Command.{chosen}
-use Rattle.pr_start.specs.Directory.{At, directory_reach, working_directory}
+use Rattle.pr_start.specs.Beginning.{beginning}
 use Rattle.pr_traced.specs.TracedBeginning.{traced_beginning}
 use Rattle.pr_watch.specs.Watches.{watch}
 use Rattle.pr_watch.specs.declared.watch.Watch.{Watch}
@@ -38,31 +30,10 @@ use Rattle.starts_match.specs.Starts.{beginning_reach}
 use Rattle.starts_match.proofs.StartLemmas.{beginnings-are-judged}
 use Rattle.starts_run.specs.Starts.{BeginToRun, CanComeAlike}
 use Rattle.starts_run.proofs.BeginLemmas.{starts-can-run}
+use Rattle.starts_run.proofs.WatchedLemmas.{beginning_watched}
 use Rattle.machines_agree.specs.Agreeing.{CanBeTold, IsCalm, IsToldToo, MachinesAgree, RunsOneProgram, mounted, traced}
 use Rattle.machines_agree.proofs.NobodyLemmas.{nobody_watches}
 use Rattle.machines_agree.proofs.ReportLemmas.{reports_are_alike}
-
--- ---- who watches where a machine begins
-
-module _ (table : List Row) (tree : Tree) (user : User) (watcher : Watch) (launch : Launch) (input : List ℕ) (m : Machine Watch) where
-  begun_watched : (first : First) → begun table tree user watcher first input ≡ Ok m → m.watcher ≡ watcher
-  begun_watched first e = by (start_of table tree user input first) e
-    where
-      by : (r : Result (State ℕ Image) Errno) → and_then r (λ s. Ok (fresh watcher (start_reach table tree user first) s)) ≡ Ok m → m.watcher ≡ watcher
-      by (Err why) e = absurd cc
-      by (Ok s) e = let same : fresh watcher (start_reach table tree user first) s ≡ m = cc in ap (λ (m : Machine Watch). m.watcher) (sym same)
-
-  at_watched : (at : At) (reach : Reach) (o : Option (List ℕ)) → begun_at table tree user watcher launch input at reach o ≡ Ok m → m.watcher ≡ watcher
-  at_watched at reach None e = absurd cc
-  at_watched at reach (Some path) e = begun_watched (first_of table tree user watcher launch at path reach) e
-
-  pub beginning_watched : beginning table tree user watcher launch input ≡ Ok m → m.watcher ≡ watcher
-  beginning_watched e =
-      let at = working_directory table tree user launch.cwd in
-      let found = chosen table tree user at.place launch.env (word_of launch.command) (directory_reach table tree user launch.cwd nowhere) in
-      at_watched at found.reach found.path e
-
--- ---- runs
 
 module _ (back : TextsAreReadBack) (shelves : ShelvesHoldTheirItems) (plan : Plan) (table : List Row) (tree : Tree) (user : User) (launch : Launch) (input : List ℕ) (can : CanBeTold plan table tree user launch input) where
   calm_start : (m : Machine Watch) → beginning table tree user Nobody launch input ≡ Ok m → IsCalm plan table m → broken_at_start (beginning_reach table tree user Nobody launch) ≡ None

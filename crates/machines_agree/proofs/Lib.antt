@@ -1,3 +1,5 @@
 pub mod AgreeLemmas
+pub mod FakedAgreeLemmas
+pub mod FakedLemmas
 pub mod NobodyLemmas
 pub mod ReportLemmas

@@ -1,3 +1,4 @@
 pub mod Agreeing
+pub mod FakedAgreeing
 pub mod Reports
 pub mod Watching

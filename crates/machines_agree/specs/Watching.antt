@@ -1,13 +1,28 @@
--- Runs that nobody watches, where a watcher of identities could.
+-- Runs that nobody watches, where a watcher of identities could, and runs that it watches.
 use Rattle.std.specs.Prelude.{◌≡◌, ℕ, List}
 use Rattle.kr_view.specs.View.{Row}
-use Rattle.kr_turns.specs.Run.{Slot, run}
+use Rattle.kr_turns.specs.Run.{Ran, Slot, run}
 use Rattle.kr_turns.specs.Turn.{Machine}
 use Rattle.kr_turns.specs.Watching.{unwatched}
 use Rattle.pr_watch.specs.Watches.{watch}
 use Rattle.pr_watch.specs.declared.watch.Watch.{Watch}
-use Rattle.pr_watch.specs.declared.watch.Watch.TheVariants.{Nobody}
+use Rattle.pr_watch.specs.declared.watch.Watch.TheVariants.{Faked, Nobody}
+use Rattle.pt_tracer.specs.Faking.{Faking, faker}
+use Rattle.starts_run.specs.FakedStarts.{with_faking}
 
 -- without one it is the run that is watched by none
 abbrev pub NobodyWatches : Type 0
 NobodyWatches = (marks : ℕ) (table : List Row) (slots : ℕ → Slot) (turns : ℕ) (m : Machine Watch) → m.watcher ≡ Nobody → run watch marks table slots turns m ≡ run unwatched marks table slots turns m
+
+-- a machine, and what became of a run, with the watcher of identities as whoever watches
+abbrev pub as_faked : Machine Faking → Machine Watch
+as_faked m = record { state = m.state; watcher = Faked m.watcher; tally = m.tally }
+
+abbrev pub ran_faked : Ran Faking → Ran Watch
+ran_faked ran = record { puts = ran.puts; ending = ran.ending; machine = as_faked ran.machine }
+
+-- with one it is the run that is watched by that one
+abbrev pub FakersWatch : Type 0
+FakersWatch =
+    (marks : ℕ) (table : List Row) (slots : ℕ → Slot) (turns : ℕ) (m : Machine Watch) (f : Faking) → m.watcher ≡ Faked f
+    → run watch marks table slots turns m ≡ ran_faked (run faker marks table slots turns (with_faking f m))

@@ -1,12 +1,14 @@
 -- A program that is no script is loaded with the lists of the call itself.
+use Rattle.std.specs.Prelude.{take}
 use Rattle.std.proofs.Common.{◌≡◌, ◌≤◌, ℕ, zero, suc, ◌-◌, Bool, true, false, cond, List, Option, Some, None, Result, Ok, Err, arith, sym, ap, subst, ◌∙◌, refl}
 use Rattle.pr_base.specs.declared.errno.Errno.{Errno}
 use Rattle.pr_base.specs.declared.errno.Errno.TheVariants.{E2BIG, ENOEXEC, ELOOP}
 use Rattle.rv_mem.proofs.ActionLemmas.{reads_alike}
 use Rattle.pt_args.specs.Walks as texts
 use Rattle.pt_canon.specs.TextWalk.{TextSurroundings}
+use Rattle.pt_canon.specs.declared.canon.Canon.{Canon}
 use Rattle.pt_script.specs.Expanding.{expanded_from, shown_result}
-use Rattle.pt_script.specs.Programs.{program_from, programs}
+use Rattle.pt_script.specs.Programs.{head_size, program_from, program_in, programs}
 use Rattle.pt_script.specs.declared.expansion.Expanded.{Expanded as Shown}
 use Rattle.pt_script.specs.declared.program.Program.{Program}
 use Rattle.kr_calls.specs.Expansion.{Expanded, Finding, Onward, by_interpreter, by_line, bytes_with_ends, expanded, is_script, is_too_big, most_scripts, new_args, runs}
@@ -15,6 +17,7 @@ use Rattle.kr_exec.specs.Lists.{lists_at}
 use Rattle.kr_exec.specs.declared.lists.Lists.{Lists}
 use Rattle.programs_agree.specs.Executing.{PlainExecutionsAgree}
 use Rattle.programs_agree.specs.Finding.{texts_here}
+use Rattle.programs_agree.specs.Refusing.{canon_along}
 use Rattle.programs_agree.proofs.ExecuteLemmas.{executions_agree}
 
 -- ---- how many scripts led to what runs in the end
@@ -60,41 +63,60 @@ module _ {F : Type 0} (one : Finding F) (env_bytes : ℕ) where
       by true later = fewer-count (most_scripts - left) (most_scripts - suc left) (by_line one (expanded one env_bytes left) env_bytes path args (script_of (one.head f))) (omega arith) later
       by false later = runs-counts (suc left) f args
 
-  -- behind no script the arguments are as they were
-  abbrev Keeps : ℕ → List (List ℕ) → Result (Expanded F) Errno → Type 0
-  Keeps n args r = (x : Expanded F) → r ≡ Ok x → x.scripts ≡ n → x.args ≡ args
+  -- behind no script the file and the arguments are as they were
+  abbrev Keeps : ℕ → F → List (List ℕ) → Result (Expanded F) Errno → Type 0
+  Keeps n f args r = (x : Expanded F) → r ≡ Ok x → x.scripts ≡ n → (x.args ≡ args) × (x.file ≡ f)
 
-  runs-keep : (n left : ℕ) (f : F) (args : List (List ℕ)) → Keeps n args (runs left f args)
-  runs-keep n left f args x is none = let same : record { file = f; args = args; scripts = most_scripts - left } ≡ x = cc in subst (λ (x : Expanded F). x.args ≡ args) same refl
+  runs-keep : (n left : ℕ) (f : F) (args : List (List ℕ)) → Keeps n f args (runs left f args)
+  runs-keep n left f args x is none = let same : record { file = f; args = args; scripts = most_scripts - left } ≡ x = cc in subst (λ (x : Expanded F). (x.args ≡ args) × (x.file ≡ f)) same (refl, refl)
 
-  more-scripts : (n : ℕ) (args : List (List ℕ)) (r : Result (Expanded F) Errno) → Counts (suc n) r → Keeps n args r
-  more-scripts n args r counts x is none = let more = counts x is in absurd (omega arith)
+  more-scripts : (n : ℕ) (f : F) (args : List (List ℕ)) (r : Result (Expanded F) Errno) → Counts (suc n) r → Keeps n f args r
+  more-scripts n f args r counts x is none = let more = counts x is in absurd (omega arith)
 
-  args-kept : (left : ℕ) (f : F) (path : List ℕ) (args : List (List ℕ)) → suc left ≤ most_scripts → Keeps (most_scripts - suc left) args (expanded one env_bytes (suc left) f path args)
+  args-kept : (left : ℕ) (f : F) (path : List ℕ) (args : List (List ℕ)) → suc left ≤ most_scripts → Keeps (most_scripts - suc left) f args (expanded one env_bytes (suc left) f path args)
   unfolding expanded
   args-kept left f path args few = by (is_script (one.head f)) (line-counts (expanded one env_bytes left) (most_scripts - left) (counts left) path args (script_of (one.head f)))
     where
       by : (b : Bool) → Counts (most_scripts - left) (by_line one (expanded one env_bytes left) env_bytes path args (script_of (one.head f)))
-          → Keeps (most_scripts - suc left) args (cond b (by_line one (expanded one env_bytes left) env_bytes path args (script_of (one.head f))) (runs (suc left) f args))
-      by true later = more-scripts (most_scripts - suc left) args (by_line one (expanded one env_bytes left) env_bytes path args (script_of (one.head f)))
+          → Keeps (most_scripts - suc left) f args (cond b (by_line one (expanded one env_bytes left) env_bytes path args (script_of (one.head f))) (runs (suc left) f args))
+      by true later = more-scripts (most_scripts - suc left) f args (by_line one (expanded one env_bytes left) env_bytes path args (script_of (one.head f)))
           (fewer-count (most_scripts - left) (suc (most_scripts - suc left)) (by_line one (expanded one env_bytes left) env_bytes path args (script_of (one.head f))) (omega arith) later)
       by false later = runs-keep (most_scripts - suc left) (suc left) f args
 
 -- ---- a tracer's
 
 module _ (around : TextSurroundings) (working : Option (List ℕ)) (env_bytes : ℕ) (path : List ℕ) (args : List (List ℕ)) (x : Shown) (none : x.scripts ≡ 0) where
-  ended-keeps : (r : Result (Expanded Program) Errno) → Keeps (programs around working) env_bytes 0 args r → shown_result r ≡ Ok x → x.args ≡ args
-  ended-keeps (Err e) keeps is = absurd cc
-  ended-keeps (Ok ended) keeps is =
-      let same : record { host = ended.file.host; index = ended.file.index; args = ended.args; scripts = ended.scripts } ≡ x = cc in
-      sym (ap (λ (e : Shown). e.args) same) ∙ keeps ended refl (ap (λ (e : Shown). e.scripts) same ∙ none)
+  -- the program that was found along the path itself
+  abbrev IsOf : Program → Type 0
+  IsOf program = (x.args ≡ args) × (x.host ≡ program.host)
 
-  found-keeps : (r : Result Program Errno) → texts.and_then r (λ program. shown_result (expanded (programs around working) env_bytes most_scripts program path args)) ≡ Ok x → x.args ≡ args
+  ended-keeps : (program : Program) (r : Result (Expanded Program) Errno) → Keeps (programs around working) env_bytes 0 program args r → shown_result r ≡ Ok x → IsOf program
+  ended-keeps program (Err e) keeps is = absurd cc
+  ended-keeps program (Ok ended) keeps is =
+      let same : record { host = ended.file.host; index = ended.file.index; args = ended.args; scripts = ended.scripts } ≡ x = cc in
+      let kept = keeps ended refl (ap (λ (e : Shown). e.scripts) same ∙ none) in
+      (sym (ap (λ (e : Shown). e.args) same) ∙ kept.0, sym (ap (λ (e : Shown). e.host) same) ∙ ap (λ (program : Program). program.host) kept.1)
+
+  found-keeps : (r : Result Program Errno) → texts.and_then r (λ program. shown_result (expanded (programs around working) env_bytes most_scripts program path args)) ≡ Ok x → (program : Program) × (r ≡ Ok program) × IsOf program
   found-keeps (Err e) is = absurd cc
-  found-keeps (Ok program) is = ended-keeps (expanded (programs around working) env_bytes most_scripts program path args) (args-kept (programs around working) env_bytes 4 program path args (omega arith)) is
+  found-keeps (Ok program) is = (program, refl, ended-keeps program (expanded (programs around working) env_bytes most_scripts program path args) (args-kept (programs around working) env_bytes 4 program path args (omega arith)) is)
+
+  own-program : expanded_from around working env_bytes path args ≡ Ok x → (program : Program) × (program_from around working path ≡ Ok program) × IsOf program
+  own-program is = found-keeps (program_from around working path) is
 
   same-args : expanded_from around working env_bytes path args ≡ Ok x → x.args ≡ args
-  same-args is = found-keeps (program_from around working path) is
+  same-args is = (own-program is).2.0
+
+  -- it stands where the path leads
+  pub same-host : (canon : Canon) → canon_along around working path ≡ Ok canon → expanded_from around working env_bytes path args ≡ Ok x → x.host ≡ canon.host
+  same-host canon leads is =
+      let own = own-program is in
+      own.2.1 ∙ at-host (around.peeked.head canon.host head_size) own.0 (sym (ap (λ r. texts.and_then r (λ canon. program_in around.peeked canon.host canon.index)) leads) ∙ own.1)
+    where
+      at-host : (r : Result (List ℕ) Errno) (program : Program) → texts.and_then r (λ head. Ok (let own : Program = record { host = canon.host; index = canon.index; head = take head_size head } in own)) ≡ Ok program → program.host ≡ canon.host
+      at-host (Err e) program is = absurd cc
+      at-host (Ok head) program is =
+          let same : record { host = canon.host; index = canon.index; head = take head_size head } ≡ program = cc in sym (ap (λ (program : Program). program.host) same)
 
 pub plain_executions_agree : PlainExecutionsAgree
 plain_executions_agree table s w pid tags path args env m working lists x n is ended none alike unread =

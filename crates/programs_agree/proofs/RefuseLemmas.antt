@@ -59,7 +59,7 @@ module _ {X : Type 0} (table : List Row) (s : State ℕ X) (caller : ℕ) (tags 
   around = around_of table caller s
 
   abbrev Led : Result PlaceTarget Errno → Result Canon Errno → Type 0
-  Led = LedAlike table s caller tags path
+  Led = LedAlike table s caller tags path base
 
   along : canon_along texts working path ≡ canon_result texts.bindings Look (text_walk texts Look works.text path).answer
   along = begins table s caller tags m base working works path
@@ -78,7 +78,7 @@ module _ {X : Type 0} (table : List Row) (s : State ℕ X) (caller : ℕ) (tags 
           subst (λ x. Led x (canon_along texts working path)) (sym place)
           (subst (λ y. Led (Ok a) y) (sym (begins table s caller tags m base working works path ∙ (answers_tell_targets texts Look works.text path b text).looked f.0 refl f.1))
           (one_lead (record {
-            walked = λ some. record { base = base; start = works.text; target_text = b; both = record { matched = m; stands = works.stands; some = some; place = place; text = text }; found = f.1 };
+            walked = λ some. record { start = works.text; target_text = b; both = record { matched = m; stands = works.stands; some = some; place = place; text = text }; found = f.1 };
             place = p;
             text = f.0;
             found = ea;
@@ -133,17 +133,17 @@ module _ (table : List Row) (s w : State ℕ Image) (pid : ℕ) (tags : TagTable
   abbrev walked : Result PlaceTarget Errno
   walked = (place_walk mounted Look is.base path).answer
 
-  both-led : LedAlike table s pid tags path walked (canon_along (texts_here table s pid tags) working path)
+  both-led : LedAlike table s pid tags path is.base walked (canon_along (texts_here table s pid tags) working path)
   both-led = paths_lead_alike Image table s pid tags is.base working path is.matched is.works
 
   lost : (e : Errno) → canon_along (texts_here table s pid tags) working path ≡ Err e → (done_with_mounts table s w pid tags path args env m).reply ≡ Err e
   lost e none = not-found table pid s path args env m is.base is.at e (by walked (canon_along (texts_here table s pid tags) working path) none both-led)
     where
-      by : (x : Result PlaceTarget Errno) (y : Result Canon Errno) → y ≡ Err e → LedAlike table s pid tags path x y → if_program s.tree s.user x ≡ Err e
+      by : (x : Result PlaceTarget Errno) (y : Result Canon Errno) → y ≡ Err e → LedAlike table s pid tags path is.base x y → if_program s.tree s.user x ≡ Err e
       by _ _ none (no_lead e) = let same : e ≡ _ = cc in ap Err same
       by _ _ none (one_lead l) = absurd cc
 
-  module _ (canon : Canon) (some : path ≢ []) (target : PlaceTarget) (is-target : walked ≡ Ok target) (lead : IsLedTo table s pid tags path target canon) where
+  module _ (canon : Canon) (some : path ≢ []) (target : PlaceTarget) (is-target : walked ≡ Ok target) (lead : IsLedTo table s pid tags path is.base target canon) where
     onward : LeadsToFound (scene_here table s pid tags) Look is.other target lead.place lead.text
     onward = lead.handed some is.other
 
@@ -195,13 +195,13 @@ module _ (table : List Row) (s w : State ℕ Image) (pid : ℕ) (tags : TagTable
               (EACCES, not-found table pid s path args env m is.base is.at EACCES (no-program-here none), not-found plain pid w canon.host put env n is.other is.also_at EACCES (no-program-there none))
 
   -- by where the path leads
-  module _ (canon : Canon) (leads : canon_along (texts_here table s pid tags) working path ≡ Ok canon) (Goal : Type 0) (goal : (target : PlaceTarget) → walked ≡ Ok target → IsLedTo table s pid tags path target canon → Goal) where
+  module _ (canon : Canon) (leads : canon_along (texts_here table s pid tags) working path ≡ Ok canon) (Goal : Type 0) (goal : (target : PlaceTarget) → walked ≡ Ok target → IsLedTo table s pid tags path is.base target canon → Goal) where
     by-lead : Goal
     by-lead = by walked (canon_along (texts_here table s pid tags) working path) refl leads both-led
       where
-        by : (x : Result PlaceTarget Errno) (y : Result Canon Errno) → walked ≡ x → y ≡ Ok canon → LedAlike table s pid tags path x y → Goal
+        by : (x : Result PlaceTarget Errno) (y : Result Canon Errno) → walked ≡ x → y ≡ Ok canon → LedAlike table s pid tags path is.base x y → Goal
         by _ _ at leads (no_lead e) = absurd cc
-        by _ _ at leads (one_lead {target} {canon = c} l) = let same : c ≡ canon = cc in goal target at (subst (IsLedTo table s pid tags path target) same l)
+        by _ _ at leads (one_lead {target} {canon = c} l) = let same : c ≡ canon = cc in goal target at (subst (IsLedTo table s pid tags path is.base target) same l)
 
   -- a program that a tracer doesn't find isn't there
   not-there : (e : Errno) → program_from (texts_here table s pid tags) working path ≡ Err e → program_at mounted is.base path ≡ Err e

@@ -36,33 +36,32 @@ abbrev pub canon_along : TextSurroundings → Option (List ℕ) → List ℕ →
 canon_along texts working path = and_then (base_from working path) (canon_from texts path)
 
 module _ {X : Type 0} (table : List Row) (s : State ℕ X) (caller : ℕ) (tags : TagTable) (path : List ℕ) where
-  -- both walks end there
-  pub record IsWalkedTo (target : PlaceTarget) (text : Text) : Type 0 where
-    pub base : Place ℕ
+  -- both walks end there, the kernel's from a base
+  pub record IsWalkedTo (base : Place ℕ) (target : PlaceTarget) (text : Text) : Type 0 where
     pub start : Text
     pub target_text : Target Text Text
     pub both : BothEnd (scene_here table s caller tags) Look base start path target target_text
     pub found : target_text.found ≡ Some text
 
   -- what was found stands at a guest text, by whose host text and index the tracer knows it
-  pub record IsLedTo (target : PlaceTarget) (canon : Canon) : Type 0 where
+  pub record IsLedTo (base : Place ℕ) (target : PlaceTarget) (canon : Canon) : Type 0 where
     pub place : Place ℕ
     pub text : Text
     pub found : target.found ≡ Some place
     pub host : canon.host ≡ text_of (host_text (space_here table s caller tags) text)
     pub index : canon.index ≡ index_of (texts_of table) text
-    pub walked : path ≢ [] → IsWalkedTo target text
+    pub walked : path ≢ [] → IsWalkedTo base target text
     -- a path that isn't empty can be swapped: the plain kernel's walk along the host text comes to the same
     pub handed : path ≢ [] → (other : Place ℕ) → LeadsToFound (scene_here table s caller tags) Look other target place text
 
-  pub data LedAlike : Result PlaceTarget Errno → Result Canon Errno → Type 0 where
-    no_lead : (e : Errno) → LedAlike (Err e) (Err e)
-    one_lead : {target : PlaceTarget} {canon : Canon} → IsLedTo target canon → LedAlike (Ok target) (Ok canon)
+  pub data LedAlike (base : Place ℕ) : Result PlaceTarget Errno → Result Canon Errno → Type 0 where
+    no_lead : (e : Errno) → LedAlike base (Err e) (Err e)
+    one_lead : {target : PlaceTarget} {canon : Canon} → IsLedTo base target canon → LedAlike base (Ok target) (Ok canon)
 
 abbrev pub PathsLeadAlike : Type 0 → Type 0
 PathsLeadAlike X =
     (table : List Row) (s : State ℕ X) (caller : ℕ) (tags : TagTable) (base : Place ℕ) (working : Option (List ℕ)) (path : List ℕ) → IsMatched (scene_here table s caller tags) → WorksAt table s caller tags base working
-    → LedAlike table s caller tags path (place_walk (around_of table caller s) Look base path).answer (canon_along (texts_here table s caller tags) working path)
+    → LedAlike table s caller tags path base (place_walk (around_of table caller s) Look base path).answer (canon_along (texts_here table s caller tags) working path)
 
 -- ---- the call
 

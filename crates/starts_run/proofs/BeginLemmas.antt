@@ -33,6 +33,7 @@ use Rattle.pt_bytes.specs.Watchers.{is_byte_row}
 use Rattle.pt_bytes.proofs.LookLemmas.{AreOfBytes}
 use Rattle.pt_bytes.proofs.TextLemmas.{rows-tested}
 use Rattle.pt_bytes.proofs.TracerLemmas.{tracers-watch-bytes}
+use Rattle.pt_watched.specs.Answering.{starting_identities}
 use Rattle.pt_watched.specs.Watched.{Tracing}
 use Rattle.swaps_read.specs.Points.{PointsAreShort}
 use Rattle.starts_match.specs.FirstStates.{IsOpening}
@@ -47,10 +48,15 @@ use Rattle.starts_run.proofs.TableLemmas.{openings-are-made-of-bytes}
 use Rattle.starts_run.proofs.WordLemmas.{arguments-bytes, candidate-bytes, directories-bytes, word-bytes}
 
 -- what a tracer goes by, and the state in which it begins
-record TracesBytes (table : List Row) (n : Machine Tracing) : Type 0 where
-  bytes : HasBytes n.state
-  bindings : n.watcher.bindings ≡ texts_of table
-  identities : n.watcher.identities ≡ None
+pub record TracesBytes (table : List Row) (host : User) (ids : Option (ℕ × ℕ)) (n : Machine Tracing) : Type 0 where
+  pub bytes : HasBytes n.state
+  pub bindings : n.watcher.bindings ≡ texts_of table
+  pub user : n.watcher.user ≡ host
+  pub identities : n.watcher.identities ≡ starting_identities ids
+
+-- texts of bytes, by any equal ones
+pub rows-of-bytes : {bindings : List MountText} → (table : List Row) → list_all is_byte_row (texts_of table) ≡ true → bindings ≡ texts_of table → list_all is_byte_row bindings ≡ true
+rows-of-bytes table own same = ap (list_all is_byte_row) same ∙ own
 
 -- a path that is taken, and what was reached on the way
 abbrev taken : List ℕ → Reach → Chosen
@@ -93,7 +99,7 @@ module _ (table : List Row) (tree : Tree) (user : User) (launch : Launch) (input
     at-bytes at reach None own m e = absurd cc
     at-bytes at reach (Some path) own m e = begun-bytes (first_of table tree user watch launch at path reach) own (arguments-bytes launch.command words.command) words.env m e
 
-    mounted-bytes : (m : Machine Watch) → beginning table tree user watch launch input ≡ Ok m → HasBytes m.state
+    pub mounted-bytes : (m : Machine Watch) → beginning table tree user watch launch input ≡ Ok m → HasBytes m.state
     mounted-bytes m e =
         let at = working_directory table tree user launch.cwd in
         let reach = directory_reach table tree user launch.cwd nowhere in
@@ -109,22 +115,23 @@ module _ (table : List Row) (tree : Tree) (user : User) (launch : Launch) (input
     of-bytes : AreOfBytes texts
     of-bytes = record { rows = rows-tested (texts_of table) texts_are; tells = first-peeks-tell-bytes tree user has }
 
-    started-traces : (b : Begun) → BeginsByBytes b → (n : Machine Tracing) → begun_as (texts_of table) tree user None input b ≡ Ok n → TracesBytes table n
-    started-traces b own n e = by (start_of plain tree user input b.first) refl e
-      where
-        by : (r : Result (State ℕ Image) Errno) → start_of plain tree user input b.first ≡ r → and_then r (λ s. Ok (traced.fresh (tracing_of (texts_of table) tree user None b) s)) ≡ Ok n → TracesBytes table n
-        by (Err why) is e = absurd cc
-        by (Ok s) is e =
-            let same : traced.fresh (tracing_of (texts_of table) tree user None b) s ≡ n = cc in
-            let bytes : HasBytes s = beginnings-have-bytes plain tree user input b.first s tables-have-bytes.plain_view has are own.path own.args own.env is in
-            subst (λ (n : Machine Tracing). TracesBytes table n) same (record { bytes = bytes; bindings = refl; identities = refl })
+    module _ (ids : Option (ℕ × ℕ)) where
+      started-traces : (b : Begun) → BeginsByBytes b → (n : Machine Tracing) → begun_as (texts_of table) tree user ids input b ≡ Ok n → TracesBytes table user ids n
+      started-traces b own n e = by (start_of plain tree user input b.first) refl e
+        where
+          by : (r : Result (State ℕ Image) Errno) → start_of plain tree user input b.first ≡ r → and_then r (λ s. Ok (traced.fresh (tracing_of (texts_of table) tree user ids b) s)) ≡ Ok n → TracesBytes table user ids n
+          by (Err why) is e = absurd cc
+          by (Ok s) is e =
+              let same : traced.fresh (tracing_of (texts_of table) tree user ids b) s ≡ n = cc in
+              let bytes : HasBytes s = beginnings-have-bytes plain tree user input b.first s tables-have-bytes.plain_view has are own.path own.args own.env is in
+              subst (λ (n : Machine Tracing). TracesBytes table user ids n) same (record { bytes = bytes; bindings = refl; user = refl; identities = refl })
 
-    traces-bytes : (n : Machine Tracing) → traced_beginning (texts_of table) tree user None launch input ≡ Ok n → TracesBytes table n
-    traces-bytes n e = by (guest_start texts launch) (guests-begin-by-bytes texts of-bytes launch words) e
-      where
-        by : (r : Result Begun Errno) → IfOk r BeginsByBytes → and_then r (begun_as (texts_of table) tree user None input) ≡ Ok n → TracesBytes table n
-        by (Err why) own e = absurd cc
-        by (Ok b) own e = started-traces b own n e
+      pub traces-bytes : (n : Machine Tracing) → traced_beginning (texts_of table) tree user ids launch input ≡ Ok n → TracesBytes table user ids n
+      traces-bytes n e = by (guest_start texts launch) (guests-begin-by-bytes texts of-bytes launch words) e
+        where
+          by : (r : Result Begun Errno) → IfOk r BeginsByBytes → and_then r (begun_as (texts_of table) tree user ids input) ≡ Ok n → TracesBytes table user ids n
+          by (Err why) own e = absurd cc
+          by (Ok b) own e = started-traces b own n e
 
   -- ---- both
 
@@ -132,19 +139,16 @@ module _ (table : List Row) (tree : Tree) (user : User) (launch : Launch) (input
       → GoTogether tags_kept table 0 m n → CanComeAlike table m n
   go-on watch opening short m n is also together =
       let made : IsMadeOfBytes table = openings-are-made-of-bytes table tree user opening in
-      let traces : TracesBytes table n = traces-bytes made.texts n also in
+      let traces : TracesBytes table user None n = traces-bytes made.texts None n also in
       record {
         together = together;
         can = record { named = opening.ready.named; short = short; bytes = made.rows; watches = tracers-watch-bytes };
         keeps = record {
           bytes = mounted-bytes watch made.rows m is;
           also_bytes = traces.bytes;
-          agree = sym (λ j. (traces.bindings j, traces.identities j, tested made.texts traces.bindings j));
+          agree = sym (λ j. (traces.bindings j, traces.identities j, rows-of-bytes table made.texts traces.bindings j));
         };
       }
-    where
-      tested : {bindings : List MountText} → list_all is_byte_row (texts_of table) ≡ true → bindings ≡ texts_of table → list_all is_byte_row bindings ≡ true
-      tested own same = ap (list_all is_byte_row) same ∙ own
 
 pub starts-can-run : StartsCanRun
 starts-can-run table tree user watch launch input opening short calm words are =

@@ -1,2 +1,3 @@
+pub mod FakedStarts
 pub mod Starts
 pub mod Tables

@@ -1,4 +1,5 @@
 //! Laws of starts, each carried by a function that does nothing.
+ghost use Rattle.starts_run.specs.FakedStarts.{FakedStartsCanRun};
 ghost use Rattle.starts_run.specs.Starts.{StartsCanRun};
 ghost use Rattle.starts_run.specs.Tables.{OpeningsAreMadeOfBytes};
 
@@ -10,4 +11,9 @@ pub fn openings_are_made_of_bytes()
 /// Where a start breaks no calm rule, both machines begin with all that runs rest on, or are refused with the same error.
 pub fn starts_can_run()
     ensures { StartsCanRun }
+{}
+
+/// So they do where processes are told an identity.
+pub fn faked_starts_can_run()
+    ensures { FakedStartsCanRun }
 {}

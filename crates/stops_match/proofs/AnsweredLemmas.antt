@@ -83,7 +83,7 @@ module _ (pid : ℕ) where
       by true is = ap (λ k. cond (k == pid) (f (g p)) (g p)) (keeps p) ∙ ap (λ b. cond b (f (g p)) (g p)) is
       by false is = ap (λ b. cond b (f p) p) is
 
-  each_twice : (f g : Process ℕ Image → Process ℕ Image) → ((p : Process ℕ Image) → (g p).pid ≡ p.pid) → (ps : List (Process ℕ Image)) → with_process pid f (with_process pid g ps) ≡ with_process pid (λ p. f (g p)) ps
+  pub each_twice : (f g : Process ℕ Image → Process ℕ Image) → ((p : Process ℕ Image) → (g p).pid ≡ p.pid) → (ps : List (Process ℕ Image)) → with_process pid f (with_process pid g ps) ≡ with_process pid (λ p. f (g p)) ps
   each_twice f g keeps [] = refl
   each_twice f g keeps (p ∷ ps) = ap (λ q. q ∷ with_process pid f (with_process pid g ps)) (one_twice f g keeps p) ∙ ap (λ qs. at_pid pid (λ p. f (g p)) p ∷ qs) (each_twice f g keeps ps)
 
@@ -104,7 +104,7 @@ module _ (pid : ℕ) where
       ∙ sym (each_twice (going (with_answer last) false) (given pid old memory) (λ p. refl) s.living))
 
 -- an error is noted of no call
-silent_refusal : (tags : TagTable) (pid : ℕ) (r : Request) (index : ℕ) → tags_after tags pid (noted_of r index None) ≡ tags
+pub silent_refusal : (tags : TagTable) (pid : ℕ) (r : Request) (index : ℕ) → tags_after tags pid (noted_of r index None) ≡ tags
 silent_refusal tags pid (call.Openat dirfd path flags mode) index = refl
 silent_refusal tags pid (call.Chdir path) index = refl
 silent_refusal tags pid (call.Execve path args env) index = refl

@@ -57,7 +57,7 @@ module _ (t : Stopped) (there : IsThere t) where
       ∙ ap (λ (xs : List ℕ). edited (record { x = xs; pc = (image_at t).regs.pc }) (image_at t).memory t) (set_own (image_at t).regs.x k)
       ∙ there.one
 
-  arguments_back : (passed : Arguments) → passed ≡ arguments_at t → given_back passed t ≡ t
+  pub arguments_back : (passed : Arguments) → passed ≡ arguments_at t → given_back passed t ≡ t
   arguments_back passed same =
       let a1 = register_back 11 passed.a1 (ap (λ (a : Arguments). a.a1) same) in
       let a2 = register_back 12 passed.a2 (ap (λ (a : Arguments). a.a2) same) in

@@ -21,7 +21,7 @@ use Rattle.turns_match.proofs.ImageLemmas.{places_idle, tags_idle}
 use Rattle.turns_match.proofs.MatchLemmas.{images}
 
 module _ (pid : ℕ) (regs : Regs → Regs) (waits : Bool) where
-  abbrev gone_on : State ℕ Image → State ℕ Image
+  abbrev pub gone_on : State ℕ Image → State ℕ Image
   gone_on s = with_living (with_process pid (going regs waits)) s
 
   -- a process without a memory, that waits or doesn't
@@ -48,7 +48,7 @@ module _ (pid : ℕ) (regs : Regs → Regs) (waits : Bool) where
       (λ p e. let own = (parts-of (λ m. m) table s l).descriptors pid p e in record { each = own.each })
       (let same = pages-same pid (going regs waits) (λ p. refl) s.living in let room = l.room in omega (arith, same, room))
 
-  match_gone : (table : List Row) (tags : TagTable) (s w : State ℕ Image) → IsMatch table tags s w → IsMatch table tags (gone_on s) (gone_on w)
+  pub match_gone : (table : List Row) (tags : TagTable) (s w : State ℕ Image) → IsMatch table tags s w → IsMatch table tags (gone_on s) (gone_on w)
   match_gone table tags s w m = record {
     bares = bare_gone (pins_of table) s ∙ ap (λ b. with_living (with_process pid stood) b) m.bares ∙ sym (bare_gone (pins_of plain) w);
     images = images table tags s w m pid (going regs waits) (going regs waits) (λ p. refl) (λ p. refl) (λ x y at_x at_y. (ap regs (regs_alike x y at_x at_y), m.images.memories pid x y at_x at_y));

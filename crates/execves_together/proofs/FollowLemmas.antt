@@ -1,0 +1,498 @@
+-- Execve(2) of programs that are no scripts keeps both machines together.
+use Rattle.std.proofs.Common.{◌≡◌, ◌≢◌, ◌≤◌, ℕ, true, false, cond, ◌||◌, List, [], ◌∷◌, length, nat_lt, Option, Some, None, Result, Ok, Err, refl, sym, ap, subst, ◌∙◌, arith, ◌-◌}
+use Rattle.std.specs.Prelude.{IsSome, ◌==◌}
+use Rattle.std.specs.Option.{option_map_or}
+use Rattle.std.proofs.lemmas.Bool.Decides.{nat_tests}
+use Rattle.pr_base.specs.Paths.{is_absolute, text_of}
+use Rattle.pr_base.specs.Texts.{Text}
+use Rattle.pr_base.proofs.PathLemmas.{text_absolute}
+use Rattle.pr_base.specs.declared.errno.Errno.{Errno}
+use Rattle.pr_base.specs.declared.errno.Errno.TheVariants.{EACCES, ENAMETOOLONG, ENOENT}
+use Rattle.pr_base.specs.declared.path.WalkMode.TheVariants.{Look}
+use Rattle.rv_mem.specs.Actions.{AreEqualUnmarked, CarriedOut, Done, carried_out}
+use Rattle.rv_mem.specs.Memory.{Memory}
+use Rattle.rv_mem.specs.Pages.{IsPlaced, Pages}
+use Rattle.rv_mem.specs.declared.regs.Regs.{Regs}
+use Rattle.rv_mem.proofs.ActionLemmas.{reads_alike}
+use Rattle.pt_args.specs.Bases.{working_text}
+use Rattle.pt_args.specs.Walks as traced_walks
+use Rattle.pt_args.specs.Laws.{ShelvesHoldTheirItems, TextsAreReadBack}
+use Rattle.pt_args.specs.declared.edit.Edit.{Edit}
+use Rattle.pt_args.specs.declared.edit.Edit.TheVariants.{Cancel, Pass}
+use Rattle.pt_canon.specs.TextWalk.{TextSurroundings}
+use Rattle.pt_canon.specs.declared.canon.Canon.{Canon}
+use Rattle.pt_lists.specs.declared.lists.Handed.{Handed}
+use Rattle.pt_script.specs.Expanding.{command_of, ends_of, expanded_at, shown_result}
+use Rattle.pt_script.specs.Programs.{program_from}
+use Rattle.pt_script.specs.declared.expansion.Expanded.{Expanded}
+use Rattle.pt_script.specs.declared.program.Program.{Program as TracedProgram}
+use Rattle.plans_agree.proofs.TextLemmas.{names_text}
+use Rattle.kr_tree.specs.Lawful.{AreBytes}
+use Rattle.kr_tree.specs.declared.place.Place.{Place}
+use Rattle.kr_view.specs.View.{Row, plain}
+use Rattle.kr_view.specs.Walk.{PlaceTarget}
+use Rattle.kr_view.specs.Component.{Surroundings}
+use Rattle.kr_view.specs.Reach.{reach_after}
+use Rattle.kr_view.specs.Answers.{told}
+use Rattle.kr_view.specs.declared.target.Reach.{Reach}
+use Rattle.kr_view.proofs.HostReachLemmas.{reached_names}
+use Rattle.kr_calls.specs.Expansion.{bytes_with_ends, most_scripts}
+use Rattle.kr_calls.specs.declared.request.Request.{Request}
+use Rattle.kr_calls.specs.declared.request.Request.TheVariants as call
+use Rattle.kr_allowed.proofs.DecodedLemmas.{decoding-leaves-pages}
+use Rattle.kr_allowed.proofs.RowLemmas.{StaysLike}
+use Rattle.kr_answers.specs.Carrying.{memory_of}
+use Rattle.kr_exec.specs.Finding.{program_at, program_walk}
+use Rattle.kr_exec.specs.Lists.{and_then, lists_at}
+use Rattle.kr_exec.specs.declared.lists.Lists.{Lists}
+use Rattle.kr_exec.proofs.ListLemmas.{and_then_is, on_reply}
+use Rattle.kr_exec.proofs.PlanLemmas.{covers_exec}
+use Rattle.kr_execve.specs.Execution.{Program, execution, execution_from, execution_reach, found_reach, planned_reach, reach_from}
+use Rattle.kr_bytes.proofs.NameLemmas.{text-bytes}
+use Rattle.kr_lasting.specs.Texts.{IsText}
+use Rattle.kr_model.specs.Applied.{cwd_of}
+use Rattle.kr_model.specs.ProcessDirectory.{around_of, space_of}
+use Rattle.kr_model.specs.State.{Image, Process, State, process}
+use Rattle.kr_steps.specs.Computing.{computed}
+use Rattle.kr_turns.specs.Breaking.{nothing_reached}
+use Rattle.kr_turns.specs.Stopped.{Stopped, edited}
+use Rattle.kr_turns.specs.Turn.{Machine, calling, watched_call}
+use Rattle.kr_turns.specs.Watching.{unwatched}
+use Rattle.pt_tracer.specs.Stopping.{after_request, decoded_at, memory_at, with_memory}
+use Rattle.pt_watched.specs.Planning.{after_expansion, after_lists, after_path, has_shelf, led_in, led_of, nowhere, planned, rewritten, script_plan, stack_at, texts_at}
+use Rattle.pt_watched.specs.Watched.{Tracing, after_decoding, after_plan, by_identities, entered, tracer}
+use Rattle.pt_watched.specs.declared.plan.Led.{Led}
+use Rattle.pt_watched.specs.declared.plan.Plan.{Plan}
+use Rattle.walks_agree.specs.Settled.{host_text}
+use Rattle.walks_agree.specs.States.{scene_of}
+use Rattle.walks_agree.proofs.HandedLemmas.{found_stands}
+use Rattle.answers_agree.proofs.ShortLemmas.{reached_texts_are_short}
+use Rattle.lists_alike.specs.Reading.{handed_or, read_by_tracer}
+use Rattle.lists_alike.proofs.ReadLemmas.{lists_are_read_alike, shown_lists_are_read_alike}
+use Rattle.turns_match.specs.Calls.{decoded_by}
+use Rattle.turns_match.proofs.CalledLemmas.{decoded_memory}
+use Rattle.turns_match.proofs.RunLemmas.{lives_too}
+use Rattle.stops_match.specs.Turning.{ComeFromCall, ComeToCall}
+use Rattle.stops_match.proofs.CallLemmas as before
+use Rattle.programs_agree.specs.Executing.{IsCalled, LoadedAlike, none_loaded, read_by_kernel}
+use Rattle.programs_agree.specs.Finding.{ProgramsAlike, no_program, one_program, texts_here}
+use Rattle.programs_agree.specs.Refusing.{IsBegun, IsLedTo, LedAlike, canon_along, no_lead, one_lead}
+use Rattle.programs_agree.proofs.ExecuteLemmas.{refused_executions_agree}
+use Rattle.programs_agree.proofs.FindLemmas.{programs_are_found_alike}
+use Rattle.programs_agree.proofs.PlainLemmas.{plain_executions_agree, same-host}
+use Rattle.programs_agree.proofs.RefuseLemmas.{empty_executions_agree, lost_executions_agree, missing_executions_agree, next, paths_lead_alike, unread_executions_agree}
+use Rattle.execves_agree.proofs.EnteredLemmas as goes
+use Rattle.execves_agree.proofs.GoLemmas as go
+use Rattle.execves_agree.proofs.ReadingLemmas.{lists-keep}
+use Rattle.execves_agree.proofs.RewriteLemmas.{execves_are_rewritten}
+use Rattle.execves_agree.specs.Rewriting.{edit_along}
+use Rattle.execves_together.specs.Following.{ExecvesGoTogether}
+use Rattle.execves_together.proofs.ByteLemmas.{reached-bytes}
+use Rattle.execves_together.proofs.RuleLemmas as rules
+use Rattle.execves_together.proofs.SceneLemmas as scene
+use Rattle.execves_together.proofs.ShelveLemmas as shelf
+
+ok_same : {A : Type 0} {a b : A} → ◌≡◌ {A = Result A Errno} (Ok a) (Ok b) → a ≡ b
+ok_same e = cc
+
+err_ok : {A : Type 0} {e : Errno} {a : A} → ◌≡◌ {A = Result A Errno} (Err e) (Ok a) → ⊥
+err_ok e = cc
+
+-- ---- the memory behind an execution, and what it reaches
+
+module _ (table : List Row) (pid : ℕ) (s : State ℕ Image) (path : List ℕ) (args env : ℕ) (m : Memory) where
+  abbrev around : Surroundings
+  around = around_of table pid s
+
+  -- where a program is found, that of the lists
+  lists-memory : (base : Place ℕ) (target : PlaceTarget) → cwd_of pid s ≡ Some base → program_at around base path ≡ Ok target → (carried_out (execution table pid s path args env) m).memory ≡ (read_by_kernel args env m).memory
+  lists-memory base target at found =
+      ap (λ o. (carried_out (option_map_or (execution_from table pid s path args env) o (Done (Err ENOENT))) m).memory) at
+      ∙ ap (λ (r : Result PlaceTarget Errno). (carried_out (and_then (Done r) (λ target. and_then (lists_at args env) (next table pid s path args env m base at target))) m).memory) found
+      ∙ ap (λ (d : CarriedOut (Result Program Errno)). d.memory) (and_then_is (lists_at args env) (next table pid s path args env m base at target) m)
+      ∙ by (read_by_kernel args env m).reply
+    where
+      by : (r : Result Lists Errno) → (on_reply (next table pid s path args env m base at target) r (read_by_kernel args env m).memory).memory ≡ (read_by_kernel args env m).memory
+      by (Ok lists) = refl
+      by (Err e) = refl
+
+  -- at least the walk along the path
+  reach-least : (base : Place ℕ) → cwd_of pid s ≡ Some base → (r : Reach) → (reach_after around (program_walk around base path) r).longest ≤ (execution_reach table pid s path args env m r).longest
+  reach-least base at r =
+      subst (λ (o : Option (Place ℕ)). walked.longest ≤ (option_map_or (reach_from table pid s path args env m r) o r).longest) (sym at) (by (program_at around base path))
+    where
+      walked : Reach
+      walked = reach_after around (program_walk around base path) r
+
+      with-lists : (target : PlaceTarget) (l : Result Lists Errno) → walked.longest ≤ (planned_reach table pid s path args env base target l walked).longest
+      with-lists target (Ok lists) = (covers_exec around base (told target) path lists.args lists.env walked).longest
+      with-lists target (Err e) = omega arith
+
+      by : (a : Result PlaceTarget Errno) → walked.longest ≤ (found_reach table pid s path args env m base a walked).longest
+      by (Ok target) = with-lists target (read_by_kernel args env m).reply
+      by (Err e) = omega arith
+
+module _ {S : Type 0} (back : TextsAreReadBack) (hold : ShelvesHoldTheirItems) (table : List Row) (made pid : ℕ) (m : Machine S) (n : Machine Tracing) (c : ComeToCall table made pid m n) (p q : Process ℕ Image) (lives : process pid m.state ≡ Some p) (also : process pid n.state ≡ Some q)
+    (calm : (watched_call unwatched 1 table pid m).tally.broken ≡ None) (path : List ℕ) (args env : ℕ) (decoded : (decoded_at (calling 1 pid m.state)).reply ≡ Ok (call.Execve path args env)) where
+  abbrev r : Request
+  r = call.Execve path args env
+
+  abbrev x : Tracing
+  x = n.watcher
+
+  abbrev w : State ℕ Image
+  w = n.state
+
+  abbrev stop : Stopped
+  stop = go.stop table made pid m n c p q lives also calm path args env decoded
+
+  abbrev t : Stopped
+  t = after_request stop
+
+  abbrev at : State ℕ Image
+  at = go.at table made pid m n c p q lives also calm path args env decoded
+
+  abbrev s1 : State ℕ Image
+  s1 = go.s1 table made pid m n c p q lives also calm path args env decoded
+
+  abbrev p1 : Process ℕ Image
+  p1 = go.p1 table made pid m n c p q lives also calm path args env decoded
+
+  abbrev here : Memory
+  here = memory_of pid at
+
+  abbrev Together : Type 0
+  Together = ComeFromCall table made (watched_call unwatched 1 table pid m) (watched_call tracer 0 plain pid n)
+
+  abbrev done : Result Program Errno
+  done = (go.done table made pid m n c p q lives also calm path args env decoded).reply
+
+  -- what the tracer goes by
+  abbrev texts : TextSurroundings
+  texts = texts_here table at pid x.tags
+
+  abbrev working : Option (List ℕ)
+  working = working_text texts pid
+
+  abbrev dec : Memory
+  dec = (decoded_by q).memory
+
+  pages_left : dec.pages ≡ q.image.memory.pages
+  pages_left = before.pages_left table made pid m n c p q lives also
+
+  like-of : (memory : Memory) → memory.pages ≡ q.image.memory.pages → StaysLike q.image.memory.pages memory.pages
+  like-of memory pages =
+      let own = c.also_lasts.lawful.processes pid q also in
+      subst (StaysLike q.image.memory.pages) (sym pages) (record { whole = own.whole; placed = own.paged; layout = refl })
+
+  begun-left : (regs : Regs) (memory : Memory) → StaysLike q.image.memory.pages memory.pages → IsBegun table at (computed pid regs memory w) pid x.tags working
+  begun-left = scene.begun table made pid m n c p q lives also calm path args env decoded
+
+  texts-at : (memory : Memory) → memory.pages ≡ q.image.memory.pages → texts_at x.bindings x.tags (edited q.image.regs memory stop) ≡ texts
+  texts-at memory pages = scene.texts table made pid m n c p q lives also calm path args env decoded q.image.regs memory (like-of memory pages) false
+
+  texts-first : texts_at x.bindings x.tags t ≡ texts
+  texts-first = ap (texts_at x.bindings x.tags) (go.after_is table made pid m n c p q lives also calm path args env decoded) ∙ texts-at dec pages_left
+
+  -- ---- memories
+
+  first-pages : (memory_at t).pages ≡ q.image.memory.pages
+  first-pages = ap (λ (image : Image). image.memory.pages) (go.after_image table made pid m n c p q lives also calm path args env decoded) ∙ pages_left
+
+  first-placed : IsPlaced (memory_at t).pages
+  first-placed = (like-of (memory_at t) first-pages).placed
+
+  here-pages : here.pages ≡ p1.image.memory.pages
+  here-pages =
+      let mine = go.mine table made pid m n c p q lives also calm path args env decoded in
+      ap (λ (m : Memory). m.pages) (decoded_memory table made pid s1 p1 mine) ∙ decoding-leaves-pages p1.image.regs p1.image.memory mine.holds
+
+  here-alike : (other : Pages) → AreEqualUnmarked p1.image.memory.pages other → AreEqualUnmarked here.pages other
+  here-alike other alike = subst (λ pages. AreEqualUnmarked pages other) (sym here-pages) alike
+
+  first-alike : AreEqualUnmarked here.pages (memory_at t).pages
+  first-alike = here-alike (memory_at t).pages (subst (AreEqualUnmarked p1.image.memory.pages) (sym first-pages) (go.memories table made pid m n c p q lives also calm path args env decoded))
+
+  -- what the tracer has read of the lists
+  abbrev read : CarriedOut (Result Handed Errno)
+  read = read_by_tracer args env (memory_at t)
+
+  read-pages : read.memory.pages ≡ q.image.memory.pages
+  read-pages = ap (λ (d : CarriedOut (Result Handed Errno)). d.memory.pages) (lists_are_read_alike args env (memory_at t) first-placed) ∙ lists-keep args env (memory_at t) ∙ first-pages
+
+  -- ---- behind the first stop
+
+  module _ (registers : List ℕ) (memory3 : Memory) (led : Led) (host : List ℕ) (entry : goes.IsEntered table made pid m n c p q lives also calm path args env registers memory3 led host args) where
+    abbrev w4 : State ℕ Image
+    w4 = goes.w4 table made pid m n c p q lives also calm path args env registers memory3 led host args entry
+
+    abbrev there : Memory
+    there = memory_of pid w4
+
+    abbrev done4 : Result Program Errno
+    done4 = (goes.done4 table made pid m n c p q lives also calm path args env registers memory3 led host args entry).reply
+
+    begun4 : IsBegun table at w4 pid x.tags working
+    begun4 =
+        let decoding = decoding-leaves-pages (record { x = registers; pc = q.image.regs.pc }) memory3 entry.bytes in
+        subst (λ t. IsBegun table at t pid x.tags working) (sym (goes.w4_is table made pid m n c p q lives also calm path args env registers memory3 led host args entry))
+        (begun-left (record { x = registers; pc = q.image.regs.pc }) _ (subst (StaysLike q.image.memory.pages) (sym decoding) entry.like))
+
+    there-alike : AreEqualUnmarked here.pages there.pages
+    there-alike = here-alike there.pages (subst (AreEqualUnmarked p1.image.memory.pages) (sym (goes.memory4_is table made pid m n c p q lives also calm path args env registers memory3 led host args entry)) entry.unmarked)
+
+    abbrev Alike : Result Program Errno → Result Program Errno → Type 0
+    Alike = LoadedAlike table at pid x.tags led.index
+
+    goes-on : Alike done done4 → Together
+    goes-on = go.replies_together table made pid m n c p q lives also calm path args env decoded registers memory3 led host args entry
+
+    refuse-both : (e : Errno) → done ≡ Err e → done4 ≡ Err e → Together
+    refuse-both e one two = goes-on (subst (λ a. Alike a done4) (sym one) (subst (Alike (Err e)) (sym two) (none_loaded e)))
+
+  -- ---- an empty path
+
+  empty : path ≡ [] → Together
+  empty none =
+      refuse-both q.image.regs.x dec nowhere path entry EACCES (subst (λ path. (carried_out (execution table pid at path args env) here).reply ≡ Err EACCES) (sym none) both.0)
+      (subst (λ given. (carried_out (execution plain pid (w4 q.image.regs.x dec nowhere path entry) given args env) (there q.image.regs.x dec nowhere path entry)).reply ≡ Err EACCES) (sym none) both.1)
+    where
+      plans : planned x.bindings x.tags t r ≡ (record { edit = Pass; led = nowhere }, t)
+      plans =
+          ap (after_path x.bindings x.tags t r path (record { args = args; env = env }))
+          (ap (λ path. rewritten (texts_at x.bindings x.tags t) t (call.Execve path args env)) none ∙ execves_are_rewritten.none (texts_at x.bindings x.tags t) pid (stack_at t) (has_shelf t) args env)
+
+      entry : goes.IsEntered table made pid m n c p q lives also calm path args env q.image.regs.x dec nowhere path args
+      entry = shelf.passed table made pid m n c p q lives also calm path args env decoded nowhere plans
+
+      both : ((carried_out (execution table pid at [] args env) here).reply ≡ Err EACCES) × ((carried_out (execution plain pid (w4 q.image.regs.x dec nowhere path entry) [] args env) (there q.image.regs.x dec nowhere path entry)).reply ≡ Err EACCES)
+      both = empty_executions_agree table at (w4 q.image.regs.x dec nowhere path entry) pid x.tags args env here working (there q.image.regs.x dec nowhere path entry) (begun4 q.image.regs.x dec nowhere path entry)
+
+  -- ---- a path that leads somewhere, or fails
+
+  module _ (some : path ≢ []) (noscript : (lists : Lists) (y : Expanded) → (read_by_kernel args env here).reply ≡ Ok lists → expanded_at texts pid (bytes_with_ends lists.env) path lists.args ≡ Ok y → y.scripts ≡ 0) where
+    abbrev sp : ℕ
+    sp = stack_at t
+
+    -- as the plain kernel's state is before it is told of anything
+    abbrev first : State ℕ Image
+    first = computed pid q.image.regs dec w
+
+    first-begun : IsBegun table at first pid x.tags working
+    first-begun = begun-left q.image.regs dec (like-of dec pages_left)
+
+    edit-is : rewritten (texts_at x.bindings x.tags t) t r ≡ edit_along sp true (canon_along texts working path)
+    edit-is =
+        execves_are_rewritten.some (texts_at x.bindings x.tags t) pid sp (has_shelf t) path args env some
+        ∙ ap (λ usable. edit_along sp usable (canon_along (texts_at x.bindings x.tags t) (working_text (texts_at x.bindings x.tags t) pid) path))
+        (ap has_shelf (go.after_is table made pid m n c p q lives also calm path args env decoded) ∙ rules.shelf table made pid m n c p q lives also calm path args env decoded dec pages_left)
+        ∙ ap (λ texts. edit_along sp true (canon_along texts (working_text texts pid) path)) texts-first
+
+    entered-by : (plan : Plan × Stopped) → planned x.bindings x.tags t r ≡ plan → entered x stop ≡ after_plan x t r plan
+    entered-by plan plans =
+        ap (after_decoding x t) (go.reads_there table made pid m n c p q lives also calm path args env decoded)
+        ∙ ap (by_identities x r t) c.traces.identities
+        ∙ ap (after_plan x t r) plans
+
+    -- ---- its walk fails
+
+    lost : (e : Errno) → canon_along texts working path ≡ Err e → Together
+    lost e leads =
+        go.cancelled table made pid m n c p q lives also calm path args env decoded e (lost_executions_agree table at first pid x.tags path args env here working e first-begun leads) nowhere dec pages_left
+        (entered-by (record { edit = Cancel e; led = nowhere }, t) (ap (after_path x.bindings x.tags t r path (record { args = args; env = env })) (edit-is ∙ ap (edit_along sp true) leads))
+        ∙ ap (λ (u : Stopped). after_plan x t r (record { edit = Cancel e; led = nowhere }, u)) (go.after_is table made pid m n c p q lives also calm path args env decoded ∙ sym (go.with_is table made pid m n c p q lives also calm path args env decoded dec)))
+
+    -- ---- it leads somewhere
+
+    module _ (canon : Canon) (leads : canon_along texts working path ≡ Ok canon) where
+      abbrev Fits : List ℕ → Type 0
+      Fits host = IsText host × (host ≢ []) × (length host ≤ 4095) × AreBytes host
+
+      fits-led : (target : PlaceTarget) (k : Canon) → IsLedTo table at pid x.tags path first-begun.base target k → Fits k.host
+      fits-led target k l =
+          let walk = l.walked some in
+          let h = host_text (space_of table at) l.text in
+          let way = (found_stands (scene_of table at pid x.tags) Look first-begun.base walk.start path target walk.target_text walk.both l.place l.text l.found walk.found).stands.way in
+          let names = reached_names at.tree at.user (space_of table at).finds _ h l.place.host first-begun.matched.settled.sound first-begun.matched.processes way in
+          let reached = (reached_texts_are_short (scene_of table at pid x.tags) Look first-begun.base walk.start path target walk.target_text nothing_reached walk.both).found l.place l.text l.found walk.found in
+          let least = reach-least table pid at path args env here first-begun.base first-begun.at nothing_reached in
+          let most = rules.short table made pid m n c p q lives also calm path args env decoded in
+          subst Fits (sym l.host) (
+            names_text h names,
+            not-empty h,
+            at-most reached least most,
+            text-bytes h (reached-bytes at.tree at.user (space_of table at).finds _ (go.mine table made pid m n c p q lives also calm path args env decoded).lasts.lawful.tree.bytes first-begun.matched.processes h l.place.host way),
+          )
+        where
+          not-empty : (h : Text) → text_of h ≢ []
+          not-empty h none = absurd (differ (sym (text_absolute h) ∙ ap is_absolute none))
+            where
+              differ : true ≡ false → ⊥
+              differ e = cc
+
+          at-most : {a b d : ℕ} → a ≤ b → b ≤ d → d ≤ 4000 → a ≤ 4095
+          at-most one two three = omega (arith, one, two, three)
+
+      fits : Fits canon.host
+      fits = by _ (canon_along texts working path) leads (paths_lead_alike Image table at pid x.tags first-begun.base working path first-begun.matched first-begun.works)
+        where
+          by : (a : Result PlaceTarget Errno) (y : Result Canon Errno) → y ≡ Ok canon → LedAlike table at pid x.tags path first-begun.base a y → Fits canon.host
+          by _ _ is (no_lead e) = absurd (err_ok is)
+          by _ _ is (one_lead {target} {canon = k} l) = subst (λ (k : Canon). Fits k.host) (ok_same is) (fits-led target k l)
+
+      abbrev after : Memory
+      after = read.memory
+
+      abbrev t2 : Stopped
+      t2 = with_memory after t
+
+      abbrev swap : Edit
+      swap = shelf.swap table made pid m n c p q lives also calm path args env decoded back hold canon.host fits.0 fits.1 fits.2 after read-pages
+
+      not-long : (k : ℕ) → k ≤ 4095 → nat_lt 4095 k ≡ false
+      not-long k small = grind (arith, nat_tests)
+
+      swaps : rewritten (texts_at x.bindings x.tags t) t r ≡ swap
+      swaps = edit-is ∙ ap (edit_along sp true) leads ∙ ap (λ b. cond (b || false) (Cancel ENAMETOOLONG) swap) (not-long (length canon.host) fits.2)
+
+      abbrev first-led : Led
+      first-led = led_of (texts_at x.bindings x.tags t) pid r
+
+      plan-lists : planned x.bindings x.tags t r ≡ after_lists x.bindings x.tags swap first-led path args read.reply t2
+      plan-lists = ap (after_path x.bindings x.tags t r path (record { args = args; env = env })) swaps
+
+      abbrev Enters : Led → Type 0
+      Enters led = goes.IsEntered table made pid m n c p q lives also calm path args env
+          (shelf.registers3 table made pid m n c p q lives also calm path args env decoded back hold canon.host fits.0 fits.1 fits.2 after read-pages)
+          (shelf.memory3 table made pid m n c p q lives also calm path args env decoded back hold canon.host fits.0 fits.1 fits.2 after read-pages) led canon.host args
+
+      entry-with : (led : Led) → planned x.bindings x.tags t r ≡ (record { edit = swap; led = led }, t2) → Enters led
+      entry-with led plans =
+          shelf.shelved table made pid m n c p q lives also calm path args env decoded back hold canon.host fits.0 fits.1 fits.2 after read-pages led plans fits.3
+
+      -- lists that the tracer can't read
+      unread-plan : (e : Errno) → read.reply ≡ Err e → planned x.bindings x.tags t r ≡ (record { edit = swap; led = first-led }, t2)
+      unread-plan e reply = plan-lists ∙ ap (λ a. after_lists x.bindings x.tags swap first-led path args a t2) reply
+
+      -- lists that it has read
+      module _ (h : Handed) (reply : read.reply ≡ Ok h) where
+        abbrev ended : Result Expanded Errno
+        ended = expanded_at texts pid h.env_bytes path h.args
+
+        plan-handed : planned x.bindings x.tags t r ≡ after_expansion x.bindings x.tags swap args (length h.args - 1) t2 ended
+        plan-handed =
+            plan-lists ∙ ap (λ a. after_lists x.bindings x.tags swap first-led path args a t2) reply
+            ∙ ap (λ texts. after_expansion x.bindings x.tags swap args (length h.args - 1) t2 (expanded_at texts pid h.env_bytes path h.args))
+            (ap (texts_at x.bindings x.tags) (go.with_is table made pid m n c p q lives also calm path args env decoded after) ∙ texts-at after read-pages)
+
+        cancel : (e : Errno) → ended ≡ Err e → done ≡ Err e → Together
+        cancel e is refuses =
+            go.cancelled table made pid m n c p q lives also calm path args env decoded e refuses nowhere after read-pages
+            (entered-by (record { edit = Cancel e; led = nowhere }, t2) (plan-handed ∙ ap (after_expansion x.bindings x.tags swap args (length h.args - 1) t2) is))
+
+        plain-plan : (y : Expanded) → ended ≡ Ok y → y.scripts ≡ 0 → planned x.bindings x.tags t r ≡ (record { edit = swap; led = led_in y.index }, t2)
+        plain-plan y is none =
+            plan-handed ∙ ap (after_expansion x.bindings x.tags swap args (length h.args - 1) t2) is
+            ∙ ap (λ k. cond (k == 0) (let own : Plan × Stopped = (record { edit = swap; led = led_in y.index }, t2) in own) (script_plan t2 args (length h.args - 1) y)) none
+
+      -- ---- no program stands there
+
+      missing : (e : Errno) → program_from texts working path ≡ Err e → Together
+      missing e none = by read.reply refl
+        where
+          by : (a : Result Handed Errno) → read.reply ≡ a → Together
+          by (Err why) reply =
+              let entry = entry-with first-led (unread-plan why reply) in
+              let both = missing_executions_agree table at (w4 _ _ first-led canon.host entry) pid x.tags path args env here working canon e args (there _ _ first-led canon.host entry) (begun4 _ _ first-led canon.host entry) some leads none in
+              refuse-both _ _ first-led canon.host entry e both.0 both.1
+          by (Ok h) reply =
+              cancel h reply e (ap (λ (a : Result TracedProgram Errno). traced_walks.and_then a (λ program. shown_result (ends_of texts working h.env_bytes most_scripts (command_of path h.args program)))) none)
+              (missing_executions_agree table at first pid x.tags path args env here working canon e args here first-begun some leads none).0
+
+      -- ---- a program does
+
+      module _ (target : PlaceTarget) (found : program_at (around_of table pid at) first-begun.base path ≡ Ok target) where
+        unread : (read_by_kernel args env here).memory.read_marked ≡ false
+        unread = ap (λ (m : Memory). m.read_marked) (sym (lists-memory table pid at path args env here first-begun.base target first-begun.at found)) ∙ rules.unread table made pid m n c p q lives also calm path args env decoded
+
+        here-placed : IsPlaced here.pages
+        here-placed =
+            let mine = go.mine table made pid m n c p q lives also calm path args env decoded in
+            subst (λ pages. IsPlaced pages) (sym here-pages) (mine.lasts.lawful.processes pid p1 mine.lives).paged
+
+        read-alike : read.reply ≡ handed_or (read_by_kernel args env here).reply
+        read-alike = (shown_lists_are_read_alike args env here (memory_at t) here-placed first-alike unread).0
+
+        called-in : (w' : State ℕ Image) → IsBegun table at w' pid x.tags working → (lists : Lists) → (read_by_kernel args env here).reply ≡ Ok lists → IsCalled table at w' pid x.tags path args env here working lists
+        called-in w' b lists is = record { matched = b.matched; shown = b.shown; base = b.base; at = b.at; works = b.works; other = b.other; also_at = b.also_at; read = is }
+
+        unread-lists : (e : Errno) → (read_by_kernel args env here).reply ≡ Err e → Together
+        unread-lists e is =
+            let entry = entry-with first-led (unread-plan e (read-alike ∙ ap handed_or is)) in
+            let theirs = sym (reads_alike (lists_at args env) here (there _ _ first-led canon.host entry) (there-alike _ _ first-led canon.host entry) unread).0 ∙ is in
+            let both =
+            unread_executions_agree table at (w4 _ _ first-led canon.host entry) pid x.tags path args env here working canon e args (there _ _ first-led canon.host entry) (begun4 _ _ first-led canon.host entry) some leads is theirs in
+            refuse-both _ _ first-led canon.host entry both.0 both.1 both.2
+
+        with-lists : (lists : Lists) → (read_by_kernel args env here).reply ≡ Ok lists → Together
+        with-lists lists is = by (expanded_at texts pid (bytes_with_ends lists.env) path lists.args) refl
+          where
+            reply : read.reply ≡ Ok (record { args = lists.args; env_bytes = bytes_with_ends lists.env })
+            reply = read-alike ∙ ap handed_or is
+
+            by : (a : Result Expanded Errno) → expanded_at texts pid (bytes_with_ends lists.env) path lists.args ≡ a → Together
+            by (Err e) ends = cancel (record { args = lists.args; env_bytes = bytes_with_ends lists.env }) reply e ends (refused_executions_agree table at first pid x.tags path args env here working lists e (called-in first first-begun lists is) ends)
+            by (Ok y) ends =
+                let none = noscript lists y is ends in
+                let led = led_in y.index in
+                let entry = entry-with led (plain-plan (record { args = lists.args; env_bytes = bytes_with_ends lists.env }) reply y ends none) in
+                let own = w4 _ _ led canon.host entry in
+                let alike =
+                plain_executions_agree table at own pid x.tags path args env here working lists y (there _ _ led canon.host entry) (called-in own (begun4 _ _ led canon.host entry) lists is) ends none (there-alike _ _ led canon.host entry) unread in
+                goes-on _ _ led canon.host entry
+                (subst (λ host. LoadedAlike table at pid x.tags y.index done (carried_out (execution plain pid own host args env) (there _ _ led canon.host entry)).reply) (same-host texts working (bytes_with_ends lists.env) path lists.args y none canon leads ends) alike)
+
+        present : Together
+        present = by (read_by_kernel args env here).reply refl
+          where
+            by : (a : Result Lists Errno) → (read_by_kernel args env here).reply ≡ a → Together
+            by (Err e) is = unread-lists e is
+            by (Ok lists) is = with-lists lists is
+
+      somewhere : Together
+      somewhere = by _ (program_from texts working path) refl refl (programs_are_found_alike Image table at pid x.tags first-begun.base working path first-begun.matched first-begun.works)
+        where
+          by : (a : Result PlaceTarget Errno) (y : Result TracedProgram Errno) → program_at (around_of table pid at) first-begun.base path ≡ a → program_from texts working path ≡ y → ProgramsAlike table at pid x.tags a y → Together
+          by _ _ one two (no_program e) = missing e two
+          by _ _ one two (one_program {target} same) = present target one
+
+    along : Together
+    along = by (canon_along texts working path) refl
+      where
+        by : (a : Result Canon Errno) → canon_along texts working path ≡ a → Together
+        by (Err e) leads = lost e leads
+        by (Ok canon) leads = somewhere canon leads
+
+  -- ---- any path
+
+  either : ((lists : Lists) (y : Expanded) → (read_by_kernel args env here).reply ≡ Ok lists → expanded_at texts pid (bytes_with_ends lists.env) path lists.args ≡ Ok y → y.scripts ≡ 0) → Together
+  either noscript = by path refl
+    where
+      by : (given : List ℕ) → path ≡ given → Together
+      by [] is = empty is
+      by (b ∷ rest) is = along (λ none. absurd (differ (sym is ∙ none))) noscript
+        where
+          differ : b ∷ rest ≡ [] → ⊥
+          differ e = cc
+
+pub execves_go_together : TextsAreReadBack → ShelvesHoldTheirItems → (S : Type 0) → ExecvesGoTogether S
+execves_go_together back hold S table made pid m n path args env c decoded noscript calm = by (process pid m.state) refl c.lives
+  where
+    by : (o : Option (Process ℕ Image)) → process pid m.state ≡ o → IsSome o → ComeFromCall table made (watched_call unwatched 1 table pid m) (watched_call tracer 0 plain pid n)
+    by None none some = absurd cc
+    by (Some p) lives some =
+        let q = lives_too table n.watcher.tags pid m.state n.state p c.matches.states lives in
+        either back hold table made pid m n c p q.0 lives q.1 calm path args env decoded
+        (subst
+        (λ t. (lists : Lists) (y : Expanded) → (read_by_kernel args env (memory_of pid t)).reply ≡ Ok lists → expanded_at (texts_here table t pid n.watcher.tags) pid (bytes_with_ends lists.env) path lists.args ≡ Ok y → y.scripts ≡ 0)
+        (go.at_is table made pid m n c p q.0 lives q.1 calm path args env decoded) noscript)

@@ -1,0 +1,6 @@
+pub mod SceneLemmas
+pub mod RuleLemmas
+pub mod ByteLemmas
+pub mod ShelveLemmas
+pub mod FollowLemmas
+pub mod AddressLemmas

@@ -1,0 +1,3 @@
+pub mod Addresses
+pub mod Beginning
+pub mod Following
