@@ -6,5 +6,5 @@ pub mod LinkLemmas
 mod NamedLemmas
 pub mod NumberLemmas
 pub mod ShelfLemmas
-mod ShortLemmas
+pub mod ShortLemmas
 pub mod SwapLemmas
