@@ -3,4 +3,5 @@ pub mod RuleLemmas
 pub mod ByteLemmas
 pub mod ShelveLemmas
 pub mod FollowLemmas
+pub mod ScriptLemmas
 pub mod AddressLemmas

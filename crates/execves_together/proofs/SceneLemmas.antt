@@ -69,7 +69,7 @@ module _ {S : Type 0} (table : List Row) (made pid : ℕ) (m : Machine S) (n : M
   abbrev pub at : State ℕ Image
   at = go.at table made pid m n c p q lives also calm path args env decoded
 
-  mine : CanBeCalled table made pid s1 p1
+  pub mine : CanBeCalled table made pid s1 p1
   mine = go.mine table made pid m n c p q lives also calm path args env decoded
 
   memories : AreEqualUnmarked p1.image.memory.pages q.image.memory.pages
@@ -99,10 +99,10 @@ module _ {S : Type 0} (table : List Row) (made pid : ℕ) (m : Machine S) (n : M
   match_at : IsMatch table x.tags at other_at
   match_at = match_computed table x.tags s1 w (before.match1 table made pid m n c p q lives also) pid p1 q mine.lives also p1.image.regs (decoded_by p1).memory (decoded_by q).memory decoded_alike stays other_layout
 
-  abbrev p2 : Process ℕ Image
+  abbrev pub p2 : Process ℕ Image
   p2 = decoded_process table made pid s1 p1 mine
 
-  lives2 : process pid at ≡ Some p2
+  pub lives2 : process pid at ≡ Some p2
   lives2 = decoded_lives table made pid s1 p1 mine
 
   small : Each HasSmallNumbers (living_of at)
@@ -111,10 +111,10 @@ module _ {S : Type 0} (table : List Row) (made pid : ℕ) (m : Machine S) (n : M
       let few = (lasting-room ℕ Image made at c.few lasts.lawful.tree.sound lasts.lasts).pids in
       living-small at lasts.lawful.pids (λ pid fd x there. (lasts.lawful.descriptors pid fd x there).0) (omega (arith, few))
 
-  matched : IsMatched (scene_of table at pid x.tags)
+  pub matched : IsMatched (scene_of table at pid x.tags)
   matched = matches_are_matched table x.tags at other_at pid match_at small
 
-  works : WorksAt table at pid x.tags p2.cwd (working_text (texts_here table at pid x.tags) pid)
+  pub works : WorksAt table at pid x.tags p2.cwd (working_text (texts_here table at pid x.tags) pid)
   works =
       working_directories_are_known Image table at pid x.tags p2 matched small (tagged_places_are_placed table at x.tags match_at.placed match_at.tagged) lives2 (match_at.placed.lawful.processes pid p2 lives2).cwd.1
 

@@ -1,3 +1,4 @@
 pub mod Addresses
 pub mod Beginning
 pub mod Following
+pub mod Scripts

@@ -1,5 +1,6 @@
-//! The law of execve(2) with its stops, carried by a function that does nothing.
+//! The laws of execve(2) with its stops, each carried by a function that does nothing.
 ghost use Rattle.execves_together.specs.Following.{ExecvesGoTogether};
+ghost use Rattle.execves_together.specs.Scripts.{ScriptsAreFound};
 
 use pt_args::laws;
 
@@ -11,3 +12,8 @@ pub fn execves_go_together<S>()
     laws::texts_are_read_back();
     laws::shelves_hold_their_items();
 }
+
+/// Where a kernel with mounts finds no script along a path, a tracer expands none.
+pub fn scripts_are_found<S>()
+    ensures { ScriptsAreFound S }
+{}

@@ -175,7 +175,7 @@ record GoOn (table : List Row) (made : ℕ) (m : Machine Faking) (n : Machine Tr
   together : GoTogether tags_kept table made m n
   goes : GoBySame table m.watcher n.watcher
 
-module _ (allows : Decoded → Bool) (safe : Faking → Bool) (sound : Tracing → Bool) (table : List Row) (calls : EachCallGoesTogether allows table) (can : CanRunFaked safe sound table) (made : ℕ) (few : made < 2 ^ 31) (m : Machine Faking) (n : Machine Tracing) (both : GoTogether tags_kept table made m n)
+module _ (allows : Stopped → Bool) (safe : Faking → Bool) (sound : Tracing → Bool) (table : List Row) (calls : EachCallGoesTogether allows table) (can : CanRunFaked safe sound table) (made : ℕ) (few : made < 2 ^ 31) (m : Machine Faking) (n : Machine Tracing) (both : GoTogether tags_kept table made m n)
     (keep : KeepOn (faked_by safe table) (traced_by sound) m n) where
   go : GoBySame table m.watcher n.watcher
   go = record { bindings = sym (ap (λ v. v.0) keep.agree); user = sym (ap (λ v. v.1) keep.agree); identities = sym (ap (λ v. v.2) keep.agree) }
@@ -277,8 +277,8 @@ module _ (allows : Decoded → Bool) (safe : Faking → Bool) (sound : Tracing �
           lives = subst IsSome (sym (lives_computed pid end.regs end.memory m.state p lives)) refl;
         }
 
-        allowed_call : allows (decoded_at (calling 1 pid m1.state)).reply ≡ true
-        allowed_call = sym (ap (λ e. if_called e (allows (decoded_at (calling 1 pid m1.state)).reply)) event) ∙ sym (ap (λ o. option_map_or (allowed_of allows fuel m) o true) is) ∙ allowed
+        allowed_call : allows (calling 1 pid m1.state) ≡ true
+        allowed_call = sym (ap (λ e. if_called e (allows (calling 1 pid m1.state))) event) ∙ sym (ap (λ o. option_map_or (allowed_of allows fuel m) o true) is) ∙ allowed
 
         by_call : Turned
         by_call =

@@ -1,9 +1,10 @@
 -- All calls where an identity is told.
-use Rattle.std.proofs.Common.{◌≡◌, ℕ, Bool, true, false, List, None, Ok, Err, refl, sym, ap, subst, ◌∙◌}
+use Rattle.std.proofs.Common.{◌≡◌, ℕ, Bool, true, false, List, None, Ok, Err, refl, sym, subst}
 use Rattle.kr_view.specs.View.{Row, plain}
 use Rattle.kr_calls.specs.Decoding.{Decoded}
 use Rattle.kr_calls.specs.declared.request.Request.{Request}
 use Rattle.kr_calls.specs.declared.request.Request.TheVariants as call
+use Rattle.kr_turns.specs.Stopped.{Stopped}
 use Rattle.kr_turns.specs.Turn.{Machine, calling, watched_call}
 use Rattle.images_apart.specs.Paths.{is_told_of_paths}
 use Rattle.pt_tracer.specs.Faking.{Faking, faker}
@@ -34,7 +35,7 @@ has_none (call.Getcwd buf size) told runs = absurd cc
 has_none (call.Execve path args env) told runs = absurd cc
 has_none _ told runs = tt
 
-module _ (allows : Decoded → Bool) (table : List Row) (kinds : KindsGoTogether allows table) (made pid : ℕ) (m : Machine Faking) (n : Machine Tracing) (c : ComeToFakedCall table made pid m n) (allowed : allows (decoded_at (calling 1 pid m.state)).reply ≡ true) (calm : (watched_call faker 1 table pid m).tally.broken ≡ None) where
+module _ (allows : Stopped → Bool) (table : List Row) (kinds : KindsGoTogether allows table) (made pid : ℕ) (m : Machine Faking) (n : Machine Tracing) (c : ComeToFakedCall table made pid m n) (allowed : allows (calling 1 pid m.state) ≡ true) (calm : (watched_call faker 1 table pid m).tally.broken ≡ None) where
   abbrev Together : Type 0
   Together = ComeFromFakedCall table made (watched_call faker 1 table pid m) (watched_call tracer 0 plain pid n)
 
@@ -42,8 +43,8 @@ module _ (allows : Decoded → Bool) (table : List Row) (kinds : KindsGoTogether
   without_path reply is kind = faked_calls_go_together table made pid m n c (subst HasNoPath (sym is) kind) calm
 
   by_kind : (r : Request) → (decoded_at (calling 1 pid m.state)).reply ≡ Ok r → (told runs : Bool) → is_told_of_paths r ≡ told → is_execve r ≡ runs → Together
-  by_kind r is true runs told execs = kinds.along made pid m n r c is told (sym (ap allows is) ∙ allowed) calm
-  by_kind r is false true told execs = kinds.programs made pid m n r c is execs (sym (ap allows is) ∙ allowed) calm
+  by_kind r is true runs told execs = kinds.along made pid m n r c is told allowed calm
+  by_kind r is false true told execs = kinds.programs made pid m n r c is execs allowed calm
   by_kind r is false false told execs = without_path (Ok r) is (has_none r told execs)
 
   by_reply : (reply : Decoded) → (decoded_at (calling 1 pid m.state)).reply ≡ reply → Together

@@ -3,16 +3,15 @@ use Rattle.std.specs.Prelude.{◌≡◌, ◌≤◌, ◌^◌, ℕ, Bool, true, Li
 use Rattle.pr_base.specs.MountText.{MountText}
 use Rattle.pt_ident.specs.IdentityTable.{IdentityTable}
 use Rattle.kr_inode.specs.declared.user.User.{User}
-use Rattle.kr_calls.specs.Decoding.{Decoded}
 use Rattle.kr_view.specs.View.{Row, plain}
 use Rattle.kr_mounts.specs.Standing.{texts_of}
 use Rattle.kr_allowed.specs.Told.{SourcesAreNamed}
 use Rattle.kr_bytes.specs.Bytes.{TableHasBytes}
 use Rattle.kr_bytes.specs.Turns.{WatchesBytes}
 use Rattle.kr_turns.specs.Run.{Slot, run}
+use Rattle.kr_turns.specs.Stopped.{Stopped}
 use Rattle.kr_turns.specs.Turn.{Machine, calling, watched_call}
 use Rattle.pt_tracer.specs.Faking.{Faking, faker}
-use Rattle.pt_tracer.specs.Stopping.{decoded_at}
 use Rattle.pt_watched.specs.Watched.{Tracing, tracer, with_identities}
 use Rattle.swaps_read.specs.Points.{PointsAreShort}
 use Rattle.turns_match.specs.Runs.{ComeAlike, EachTurn, GoTogether, KeepOn}
@@ -20,10 +19,10 @@ use Rattle.stops_match.specs.Together.{makes_allowed}
 use Rattle.stops_match.specs.Turning.{tags_kept}
 use Rattle.identities_match.specs.Going.{ComeFromFakedCall, ComeToFakedCall}
 
--- each call of a calm run of whose decoding a test holds keeps the machines together, with its stops
-abbrev pub EachCallGoesTogether : (Decoded → Bool) → List Row → Type 0
+-- each call of a calm run of which a test holds keeps the machines together, with its stops
+abbrev pub EachCallGoesTogether : (Stopped → Bool) → List Row → Type 0
 EachCallGoesTogether allows table =
-    (made pid : ℕ) (m : Machine Faking) (n : Machine Tracing) → ComeToFakedCall table made pid m n → allows (decoded_at (calling 1 pid m.state)).reply ≡ true → (watched_call faker 1 table pid m).tally.broken ≡ None
+    (made pid : ℕ) (m : Machine Faking) (n : Machine Tracing) → ComeToFakedCall table made pid m n → allows (calling 1 pid m.state) ≡ true → (watched_call faker 1 table pid m).tally.broken ≡ None
     → ComeFromFakedCall table made (watched_call faker 1 table pid m) (watched_call tracer 0 plain pid n)
 
 -- what both watchers go by from turn to turn: the texts of the mounts, the host user, the identities, and what is sound by a test of each
@@ -49,7 +48,7 @@ pub record CanRunFaked (safe : Faking → Bool) (sound : Tracing → Bool) (tabl
 -- so a calm run of such calls and the watched one come to the same bytes, the same end, the same status and the same tree
 abbrev pub FakedRunsComeAlike : Type 0
 FakedRunsComeAlike =
-    (allows : Decoded → Bool) (safe : Faking → Bool) (sound : Tracing → Bool) (table : List Row) (slots : ℕ → Slot) → EachCallGoesTogether allows table → CanRunFaked safe sound table
+    (allows : Stopped → Bool) (safe : Faking → Bool) (sound : Tracing → Bool) (table : List Row) (slots : ℕ → Slot) → EachCallGoesTogether allows table → CanRunFaked safe sound table
     → (turns : ℕ) (m : Machine Faking) (n : Machine Tracing) → turns ≤ 2 ^ 31 → GoTogether tags_kept table 0 m n → KeepOn (faked_by safe table) (traced_by sound) m n
     → EachTurn faker table slots (λ made. makes_allowed allows (slots made)) turns 0 m → (run faker 1 table slots turns m).machine.tally.broken ≡ None
     → ComeAlike (run faker 1 table slots turns m) (run tracer 0 plain slots turns n)

@@ -3,8 +3,8 @@ use Rattle.std.specs.Prelude.{◌≡◌, ℕ, Bool, true, List, Some, Ok}
 use Rattle.kr_inode.specs.declared.user.User.{User}
 use Rattle.kr_view.specs.View.{Row}
 use Rattle.kr_mounts.specs.Standing.{texts_of}
-use Rattle.kr_calls.specs.Decoding.{Decoded}
 use Rattle.kr_calls.specs.declared.request.Request.{Request}
+use Rattle.kr_turns.specs.Stopped.{Stopped}
 use Rattle.kr_turns.specs.Turn.{Machine, calling}
 use Rattle.images_apart.specs.Paths.{is_told_of_paths}
 use Rattle.pt_bind.specs.Tags.{TagTable}
@@ -15,14 +15,14 @@ use Rattle.identities_match.specs.Going.{ComeToFakedCall, GoBySame}
 use Rattle.identities_match.specs.Kinds.{GoesTogether}
 use Rattle.identities_match.specs.Runs.{EachCallGoesTogether}
 
--- calls along paths and those of new programs, of whose decoding a test holds, keep both machines together, where they break no calm rule
-pub record KindsGoTogether (allows : Decoded → Bool) (table : List Row) : Type 0 where
-  pub along : (made pid : ℕ) (m : Machine Faking) (n : Machine Tracing) (r : Request) → ComeToFakedCall table made pid m n → (decoded_at (calling 1 pid m.state)).reply ≡ Ok r → is_told_of_paths r ≡ true → allows (Ok r) ≡ true → GoesTogether table made pid m n
-  pub programs : (made pid : ℕ) (m : Machine Faking) (n : Machine Tracing) (r : Request) → ComeToFakedCall table made pid m n → (decoded_at (calling 1 pid m.state)).reply ≡ Ok r → is_execve r ≡ true → allows (Ok r) ≡ true → GoesTogether table made pid m n
+-- calls along paths and those of new programs, of which a test holds, keep both machines together, where they break no calm rule
+pub record KindsGoTogether (allows : Stopped → Bool) (table : List Row) : Type 0 where
+  pub along : (made pid : ℕ) (m : Machine Faking) (n : Machine Tracing) (r : Request) → ComeToFakedCall table made pid m n → (decoded_at (calling 1 pid m.state)).reply ≡ Ok r → is_told_of_paths r ≡ true → allows (calling 1 pid m.state) ≡ true → GoesTogether table made pid m n
+  pub programs : (made pid : ℕ) (m : Machine Faking) (n : Machine Tracing) (r : Request) → ComeToFakedCall table made pid m n → (decoded_at (calling 1 pid m.state)).reply ≡ Ok r → is_execve r ≡ true → allows (calling 1 pid m.state) ≡ true → GoesTogether table made pid m n
 
--- then all calls do of whose decoding it holds
+-- then all calls do of which it holds
 abbrev pub AllCallsGoTogether : Type 0
-AllCallsGoTogether = (allows : Decoded → Bool) (table : List Row) → KindsGoTogether allows table → EachCallGoesTogether allows table
+AllCallsGoTogether = (allows : Stopped → Bool) (table : List Row) → KindsGoTogether allows table → EachCallGoesTogether allows table
 
 -- both watchers start with the same identities
 abbrev pub WatchersStartAlike : Type 0

@@ -1,21 +1,19 @@
 -- Calls along paths where an identity is told are those without one, and so each call but execve(2) keeps both machines together.
-use Rattle.std.proofs.Common.{◌≡◌, ℕ, Bool, true, false, List, Option, Some, None, Ok, refl, sym, ap, subst, ◌∙◌}
-use Rattle.std.specs.Prelude.{IsSome, not}
+use Rattle.std.proofs.Common.{◌≡◌, ℕ, true, false, List, Option, Some, None, Ok, refl, sym, ap, ◌∙◌}
+use Rattle.std.specs.Prelude.{IsSome}
 use Rattle.pr_base.specs.declared.path.WalkMode.TheVariants.{Look}
 use Rattle.pt_args.specs.Laws.{ShelvesHoldTheirItems, TextsAreReadBack}
 use Rattle.kr_view.specs.View.{Row, plain}
 use Rattle.kr_calls.specs.PathTable.{PathUse, working_directory}
 use Rattle.kr_calls.specs.declared.request.Request.{Request}
 use Rattle.kr_calls.specs.declared.request.Request.TheVariants as call
-use Rattle.kr_model.specs.State.{Image, Process, State, process}
-use Rattle.kr_model.specs.Walks.{targets_of}
-use Rattle.kr_turns.specs.PlainCall.{Came, leads_to_root, operated, plain_call}
-use Rattle.kr_turns.specs.Stopped.{Stopped}
+use Rattle.kr_model.specs.State.{Image, Process, process}
+use Rattle.kr_turns.specs.PlainCall.{Came, operated, plain_call}
 use Rattle.kr_turns.specs.Turn.{Machine, calling, watched_call}
 use Rattle.kr_turns.specs.Watching.{unwatched}
 use Rattle.kr_turns.proofs.PlainLemmas.{no-exec-requested}
 use Rattle.pt_tracer.specs.Faking.{Faking, faker}
-use Rattle.pt_tracer.specs.Stopping.{after_request, decoded_at}
+use Rattle.pt_tracer.specs.Stopping.{decoded_at}
 use Rattle.pt_watched.specs.Planning.{led_of, texts_at}
 use Rattle.pt_watched.specs.Watched.{Tracing, tracer}
 use Rattle.pt_watched.specs.Watched as watched
@@ -25,13 +23,12 @@ use Rattle.turns_match.proofs.RunLemmas.{lives_too}
 use Rattle.path_places.specs.PathCalls.{HasPath}
 use Rattle.path_places.proofs.RuleLemmas.{no_exec}
 use Rattle.stops_match.proofs.CallLemmas as before
-use Rattle.paths_together.specs.Calls.{Answered, Cancelled, MadeAlike, Passed, Swapped, executes_nothing}
+use Rattle.paths_together.specs.Calls.{Answered, Cancelled, MadeAlike, Passed, Swapped, asks_no_execve, executes_nothing}
 use Rattle.paths_together.proofs.HereLemmas as here
 use Rattle.paths_together.proofs.JoinLemmas.{path_calls_are_made_alike}
 use Rattle.identities_match.specs.Along.{GoesAlongUntold}
 use Rattle.identities_match.specs.Going.{ComeFromFakedCall, ComeToFakedCall, untold}
 use Rattle.identities_match.specs.Kinds.{GoesTogether, RootIsKnownAt}
-use Rattle.identities_match.specs.Whole.{KindsGoTogether}
 use Rattle.identities_match.proofs.AlongLemmas.{path_calls_go_together}
 use Rattle.identities_match.proofs.EntryLemmas as entry
 use Rattle.identities_match.proofs.KindLemmas.{UntoldGoes, answers_untold, errors_untold, passes_untold, swaps_untold}
@@ -111,8 +108,8 @@ no_program _ runs allowed = cc
 
 pub other_faked_calls_go_together : TextsAreReadBack → ShelvesHoldTheirItems → OtherFakedCallsGoTogether
 other_faked_calls_go_together back shelves table =
-    all_calls_go_together executes_nothing table
+    all_calls_go_together asks_no_execve table
     (record {
       along = λ made pid m n r c decoded told allowed. along back shelves table made pid m n c r decoded told;
-      programs = λ made pid m n r c decoded runs allowed. absurd (no_program r runs allowed);
+      programs = λ made pid m n r c decoded runs allowed. absurd (no_program r runs (ap executes_nothing (sym decoded) ∙ allowed));
     })

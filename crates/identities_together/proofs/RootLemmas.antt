@@ -19,7 +19,6 @@ use Rattle.kr_calls.specs.declared.request.Request.{Request}
 use Rattle.kr_tree.specs.declared.place.Host.{Host}
 use Rattle.kr_tree.specs.declared.place.Host.TheVariants.{Node, Proc}
 use Rattle.kr_tree.specs.declared.place.Place.{Place}
-use Rattle.kr_view.specs.Component.{Namespace}
 use Rattle.kr_view.specs.View.{Row, is_root_place, root_place, root_source}
 use Rattle.kr_view.specs.Walk.{PlaceTarget}
 use Rattle.kr_mounts.specs.Standing.{texts_of}
@@ -34,7 +33,7 @@ use Rattle.walks_agree.proofs.InUseLemmas.{laws}
 use Rattle.walks_agree.proofs.StandingLemmas.{directories_stand_once, roots_stand}
 use Rattle.walks_agree.proofs.TableLemmas.{root_directory}
 use Rattle.plans_agree.specs.Begins.{Fails, FailsSo, IsEmpty, Leads, LeadsBoth, PathAgrees, StandTogether, Stays, told_texts}
-use Rattle.plans_agree.proofs.LeadLemmas.{found_text, found_there, guest_names, same_canon, space}
+use Rattle.plans_agree.proofs.LeadLemmas.{found_text, found_there, guest_names, same_canon}
 use Rattle.plans_agree.proofs.PathLemmas.{paths_agree}
 use Rattle.plans_agree.proofs.PlanLemmas.{only, targets_only}
 

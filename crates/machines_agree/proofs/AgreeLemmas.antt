@@ -24,14 +24,14 @@ use Rattle.pt_bytes.specs.Watchers.{goes_by_bytes}
 use Rattle.pt_watched.specs.Watched.{Tracing}
 use Rattle.turns_match.proofs.ComeLemmas.{run_unbroken}
 use Rattle.stops_match.proofs.TogetherLemmas.{traced_runs_come_alike}
-use Rattle.paths_together.specs.Calls.{executes_nothing}
-use Rattle.paths_together.proofs.OtherLemmas.{other_calls_go_together}
+use Rattle.execves_together.specs.Scripts.{asks_no_script}
+use Rattle.machines_agree.proofs.CallLemmas.{calls_go_together}
 use Rattle.starts_match.specs.Starts.{beginning_reach}
 use Rattle.starts_match.proofs.StartLemmas.{beginnings-are-judged}
 use Rattle.starts_run.specs.Starts.{BeginToRun, CanComeAlike}
 use Rattle.starts_run.proofs.BeginLemmas.{starts-can-run}
 use Rattle.starts_run.proofs.WatchedLemmas.{beginning_watched}
-use Rattle.machines_agree.specs.Agreeing.{CanBeTold, IsCalm, IsToldToo, MachinesAgree, RunsOneProgram, mounted, traced}
+use Rattle.machines_agree.specs.Agreeing.{CanBeTold, IsCalm, IsToldToo, MachinesAgree, RunsNoScripts, mounted, traced}
 use Rattle.machines_agree.proofs.NobodyLemmas.{nobody_watches}
 use Rattle.machines_agree.proofs.ReportLemmas.{reports_are_alike}
 
@@ -39,11 +39,11 @@ module _ (back : TextsAreReadBack) (shelves : ShelvesHoldTheirItems) (plan : Pla
   calm_start : (m : Machine Watch) → beginning table tree user Nobody launch input ≡ Ok m → IsCalm plan table m → broken_at_start (beginning_reach table tree user Nobody launch) ≡ None
   calm_start m is calm = sym (beginnings-are-judged table tree user Nobody launch input m is) ∙ run_unbroken watch table (slot_of plan.schedule) plan.turns 0 m calm
 
-  runs_agree : (m : Machine Watch) (n : Machine Tracing) → m.watcher ≡ Nobody → CanComeAlike table m n → RunsOneProgram plan table m → IsCalm plan table m → report_of plan (mounted plan table m) ≡ report_of plan (traced plan n)
+  runs_agree : (m : Machine Watch) (n : Machine Tracing) → m.watcher ≡ Nobody → CanComeAlike table m n → RunsNoScripts plan table m → IsCalm plan table m → report_of plan (mounted plan table m) ≡ report_of plan (traced plan n)
   runs_agree m n alone both one calm =
       let same : mounted plan table m ≡ run unwatched 1 table (slot_of plan.schedule) plan.turns m = nobody_watches 1 table (slot_of plan.schedule) plan.turns m alone in
       let come =
-      traced_runs_come_alike Watch executes_nothing goes_by_bytes table (slot_of plan.schedule) (other_calls_go_together back shelves Watch table) both.can plan.turns m n can.few both.together both.keeps one
+      traced_runs_come_alike Watch (asks_no_script table) goes_by_bytes table (slot_of plan.schedule) (calls_go_together back shelves Watch table) both.can plan.turns m n can.few both.together both.keeps one
       (sym (ap (λ (ran : Ran Watch). ran.machine.tally.broken) same) ∙ calm) in
       ap (report_of plan) same ∙ reports_are_alike Watch Tracing plan (run unwatched 1 table (slot_of plan.schedule) plan.turns m) (traced plan n) can.quiet come
 

@@ -22,11 +22,11 @@ use Rattle.pr_watch.specs.declared.watch.Watch.TheVariants.{Faked}
 use Rattle.pt_bytes.specs.Watchers.{anything, goes_by_bytes}
 use Rattle.pt_tracer.specs.Faking.{Faking, faker, starting_faking}
 use Rattle.pt_watched.specs.Watched.{Tracing}
-use Rattle.kr_calls.specs.Decoding.{Decoded}
+use Rattle.kr_turns.specs.Stopped.{Stopped}
 use Rattle.turns_match.specs.Runs.{EachTurn}
 use Rattle.turns_match.proofs.ComeLemmas.{run_unbroken}
 use Rattle.stops_match.specs.Together.{makes_allowed}
-use Rattle.paths_together.specs.Calls.{executes_nothing}
+use Rattle.paths_together.specs.Calls.{asks_no_execve}
 use Rattle.identities_match.proofs.RunLemmas.{faked_runs_come_alike}
 use Rattle.identities_together.proofs.OtherLemmas.{other_faked_calls_go_together}
 use Rattle.starts_match.specs.Starts.{beginning_reach}
@@ -41,7 +41,7 @@ use Rattle.machines_agree.proofs.ReportLemmas.{reports_are_alike}
 
 -- ---- turns
 
-module _ (allows : Decoded → Bool) (table : List Row) (slots : ℕ → Slot) where
+module _ (allows : Stopped → Bool) (table : List Row) (slots : ℕ → Slot) where
   each_faked : (left made : ℕ) (m : Machine Faking) → EachTurn watch table slots (λ made. makes_allowed allows (slots made)) left made (as_faked m) → EachTurn faker table slots (λ made. makes_allowed allows (slots made)) left made m
   unfolding EachTurn
   each_faked zero made m each = tt
@@ -67,8 +67,8 @@ module _ (back : TextsAreReadBack) (shelves : ShelvesHoldTheirItems) (plan : Pla
       let same : mounted plan table m ≡ ran_faked ran = fakers_watch 1 table slots plan.turns m f watched in
       let is : m ≡ as_faked (with_faking f m) = λ i. record { state = m.state; watcher = watched i; tally = m.tally } in
       let come =
-      faked_runs_come_alike executes_nothing anything goes_by_bytes table slots (other_faked_calls_go_together back shelves table) both.can plan.turns (with_faking f m) n can.few both.together both.keeps
-      (each_faked executes_nothing table slots plan.turns 0 (with_faking f m) (subst (λ m. RunsWatchedProgram plan table m) is one)) (sym (ap (λ (ran : Ran Watch). ran.machine.tally.broken) same) ∙ calm) in
+      faked_runs_come_alike asks_no_execve anything goes_by_bytes table slots (other_faked_calls_go_together back shelves table) both.can plan.turns (with_faking f m) n can.few both.together both.keeps
+      (each_faked asks_no_execve table slots plan.turns 0 (with_faking f m) (subst (λ m. RunsWatchedProgram plan table m) is one)) (sym (ap (λ (ran : Ran Watch). ran.machine.tally.broken) same) ∙ calm) in
       ap (report_of plan) same ∙ reports_are_alike Watch Tracing plan (ran_faked ran) (traced plan n) can.quiet (record { puts = come.puts; endings = come.endings; statuses = come.statuses; trees = come.trees })
 
   by_beginnings : (r : Result (Machine Watch) Errno) → beginning table tree user who launch input ≡ r → (q : Result (Machine Tracing) Errno) → traced_beginning (texts_of table) tree user (Some (uid, gid)) launch input ≡ q

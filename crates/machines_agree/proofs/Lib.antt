@@ -1,4 +1,5 @@
 pub mod AgreeLemmas
+pub mod CallLemmas
 pub mod FakedAgreeLemmas
 pub mod FakedLemmas
 pub mod NobodyLemmas

@@ -23,7 +23,7 @@ use Rattle.pt_watched.specs.Watched.{Tracing, tracer}
 use Rattle.swaps_read.specs.Points.{PointsAreShort}
 use Rattle.turns_match.specs.Runs.{EachTurn}
 use Rattle.stops_match.specs.Together.{makes_allowed}
-use Rattle.paths_together.specs.Calls.{executes_nothing}
+use Rattle.execves_together.specs.Scripts.{asks_no_script}
 use Rattle.starts_match.specs.FirstStates.{IsOpening}
 use Rattle.starts_match.specs.Starts.{beginning_reach}
 use Rattle.starts_run.specs.Starts.{IsOfByteWords}
@@ -40,9 +40,9 @@ traced plan n = run tracer 0 plain (slot_of plan.schedule) plan.turns n
 abbrev pub IsCalm : Plan → List Row → Machine Watch → Type 0
 IsCalm plan table m = (mounted plan table m).machine.tally.broken ≡ None
 
--- and one in which no turn executes a program
-abbrev pub RunsOneProgram : Plan → List Row → Machine Watch → Type 0
-RunsOneProgram plan table m = EachTurn unwatched table (slot_of plan.schedule) (λ made. makes_allowed executes_nothing (slot_of plan.schedule made)) plan.turns 0 m
+-- and one in which no turn executes a script
+abbrev pub RunsNoScripts : Plan → List Row → Machine Watch → Type 0
+RunsNoScripts plan table m = EachTurn unwatched table (slot_of plan.schedule) (λ made. makes_allowed (asks_no_script table) (slot_of plan.schedule made)) plan.turns 0 m
 
 -- ---- both
 
@@ -50,9 +50,9 @@ module _ (plan : Plan) (table : List Row) (tree : Tree) (user : User) (launch : 
   abbrev pub watched_start : Result (Machine Tracing) Errno
   watched_start = traced_beginning (texts_of table) tree user None launch input
 
-  -- a calm run of one program is told, or the error of a start whose walks are calm
+  -- a calm run without scripts is told, or the error of a start whose walks are calm
   abbrev pub IsToldToo : Result (Machine Watch) Errno → Type 0
-  IsToldToo (Ok m) = RunsOneProgram plan table m → IsCalm plan table m → (n : Machine Tracing) × (watched_start ≡ Ok n) × (report_of plan (mounted plan table m) ≡ report_of plan (traced plan n))
+  IsToldToo (Ok m) = RunsNoScripts plan table m → IsCalm plan table m → (n : Machine Tracing) × (watched_start ≡ Ok n) × (report_of plan (mounted plan table m) ≡ report_of plan (traced plan n))
   IsToldToo (Err e) = broken_at_start (beginning_reach table tree user Nobody launch) ≡ None → watched_start ≡ Err e
 
 -- what a run and its words rest on

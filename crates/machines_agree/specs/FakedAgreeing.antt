@@ -21,13 +21,13 @@ use Rattle.pt_tracer.specs.Faking.{starting_faking}
 use Rattle.pt_watched.specs.Watched.{Tracing}
 use Rattle.turns_match.specs.Runs.{EachTurn}
 use Rattle.stops_match.specs.Together.{makes_allowed}
-use Rattle.paths_together.specs.Calls.{executes_nothing}
+use Rattle.paths_together.specs.Calls.{asks_no_execve}
 use Rattle.starts_match.specs.Starts.{beginning_reach}
 use Rattle.machines_agree.specs.Agreeing.{CanBeTold, IsCalm, mounted, traced}
 
 -- a run over mounts in which no turn executes a program, whoever watches
 abbrev pub RunsWatchedProgram : Plan → List Row → Machine Watch → Type 0
-RunsWatchedProgram plan table m = EachTurn watch table (slot_of plan.schedule) (λ made. makes_allowed executes_nothing (slot_of plan.schedule made)) plan.turns 0 m
+RunsWatchedProgram plan table m = EachTurn watch table (slot_of plan.schedule) (λ made. makes_allowed asks_no_execve (slot_of plan.schedule made)) plan.turns 0 m
 
 -- ---- both
 

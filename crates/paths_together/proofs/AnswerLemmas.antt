@@ -5,7 +5,7 @@ use Rattle.rv_mem.specs.Actions.{AreEqualUnmarked}
 use Rattle.rv_mem.specs.Memory.{Memory}
 use Rattle.pt_args.specs.declared.edit.Edit.{Edit}
 use Rattle.pt_results.specs.Notes.{noted, tags_after}
-use Rattle.kr_view.specs.View.{Row, plain}
+use Rattle.kr_view.specs.View.{Row}
 use Rattle.kr_calls.specs.declared.request.Request.{Request}
 use Rattle.kr_answers.specs.Carrying.{memory_of}
 use Rattle.kr_model.specs.State.{Image, Process, State, process}
@@ -17,7 +17,7 @@ use Rattle.kr_turns.specs.Watching.{unwatched}
 use Rattle.kr_turns.proofs.EditLemmas.{there as is_there}
 use Rattle.pt_tracer.specs.Stopping.{decoded_at, memory_at}
 use Rattle.pt_watched.specs.Planning.{answered, edit_for, led_of, rewritten, texts_at}
-use Rattle.pt_watched.specs.Watched.{Tracing, applied, tracer}
+use Rattle.pt_watched.specs.Watched.{Tracing, applied}
 use Rattle.places_stay.proofs.MatchLemmas.{tagged_places_are_placed}
 use Rattle.turns_match.specs.Operating.{done_in}
 use Rattle.turns_match.proofs.CalledLemmas.{decoded_lives, decoded_memory, decoded_process}
@@ -26,8 +26,7 @@ use Rattle.answers_agree.specs.Answers.{AreAnsweredAlike, CanBeTold, IsIn}
 use Rattle.stops_match.specs.Answering.{IsAnsweredAlike}
 use Rattle.stops_match.specs.Cancelling.{at_first_stop}
 use Rattle.stops_match.specs.Noting.{told_answer}
-use Rattle.stops_match.specs.Turning.{ComeFromCall, ComeToCall}
-use Rattle.stops_match.proofs.EmulateLemmas.{answered_calls_go_together}
+use Rattle.stops_match.specs.Turning.{ComeToCall}
 use Rattle.stops_match.proofs.CallLemmas as before
 use Rattle.stops_match.proofs.CallLemmas.{own_image}
 use Rattle.paths_together.proofs.HereLemmas as here

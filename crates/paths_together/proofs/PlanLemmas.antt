@@ -24,7 +24,7 @@ use Rattle.kr_turns.specs.Turn.{Machine, calling, watched_call}
 use Rattle.kr_turns.specs.Watching.{unwatched}
 use Rattle.pt_tracer.specs.Stopping.{after_request, decoded_at, memory_at}
 use Rattle.pt_watched.specs.Planning.{answered, edit_for, rewritten, stack_at, texts_at}
-use Rattle.pt_watched.specs.Watched.{Tracing, applied, tracer}
+use Rattle.pt_watched.specs.Watched.{Tracing, applied}
 use Rattle.swaps_read.specs.Operations.{HasFirst}
 use Rattle.swaps_read.specs.Requests.{NewText, with_swaps}
 use Rattle.swaps_read.specs.Shelves.{CanSecondBePath, swap_edit}
@@ -39,8 +39,7 @@ use Rattle.plans_agree.proofs.PlanLemmas as planning
 use Rattle.plans_short.specs.Short.{IsShort, IsShortIfAny, IsShortPlan}
 use Rattle.stops_match.specs.Cancelling.{at_first_stop}
 use Rattle.stops_match.specs.Swapping.{IsPassedAlike, IsSwappedAlike}
-use Rattle.stops_match.specs.Turning.{ComeFromCall, ComeToCall}
-use Rattle.stops_match.proofs.AnsweredLemmas.{cancelled_calls_go_together}
+use Rattle.stops_match.specs.Turning.{ComeToCall}
 use Rattle.stops_match.proofs.CallLemmas as before
 use Rattle.stops_match.proofs.CallLemmas.{own_image}
 use Rattle.stops_match.proofs.SwapLemmas as swap

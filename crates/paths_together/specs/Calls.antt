@@ -5,6 +5,7 @@ use Rattle.kr_view.specs.View.{Row, plain}
 use Rattle.kr_calls.specs.Decoding.{Decoded}
 use Rattle.kr_calls.specs.declared.request.Request.{Request}
 use Rattle.kr_calls.specs.declared.request.Request.TheVariants as call
+use Rattle.kr_turns.specs.Stopped.{Stopped}
 use Rattle.kr_turns.specs.Turn.{Machine, calling, watched_call}
 use Rattle.kr_turns.specs.Watching.{unwatched}
 use Rattle.pt_tracer.specs.Stopping.{decoded_at}
@@ -45,6 +46,10 @@ abbrev pub executes_nothing : Decoded → Bool
 executes_nothing (Ok r) = not (is_execve r)
 executes_nothing (Err e) = true
 
+-- nor is what a process asks for
+abbrev pub asks_no_execve : Stopped → Bool
+asks_no_execve t = executes_nothing (decoded_at t).reply
+
 -- and so does each other call but execve(2)
 abbrev pub OtherCallsGoTogether : Type 0 → Type 0
-OtherCallsGoTogether S = (table : List Row) → CallsGoTogether S executes_nothing table
+OtherCallsGoTogether S = (table : List Row) → CallsGoTogether S asks_no_execve table

@@ -122,7 +122,7 @@ module _ {S : Type 0} (table : List Row) (pid : ℕ) (m : Machine S) (p : Proces
       let decoded = calm_unread table pid (lacks_in 1 pid m.state) shelved (given pid own.regs (shelved_by 1 own.regs own.memory) p) there unbroken in
       ap (λ (i : Image). i.memory.read_marked) (sym (own_image pid m.state p lives)) ∙ sym (unread_shelf own.regs own.memory) ∙ unread_before (decoding own.regs) (shelved_by 1 own.regs own.memory) decoded
 
-module _ {S : Type 0} (allows : Decoded → Bool) (sound : Tracing → Bool) (table : List Row) (calls : CallsGoTogether S allows table) (can : CanRun sound table) (made : ℕ) (few : made < 2 ^ 31) (m : Machine S) (n : Machine Tracing) (both : GoTogether tags_kept table made m n)
+module _ {S : Type 0} (allows : Stopped → Bool) (sound : Tracing → Bool) (table : List Row) (calls : CallsGoTogether S allows table) (can : CanRun sound table) (made : ℕ) (few : made < 2 ^ 31) (m : Machine S) (n : Machine Tracing) (both : GoTogether tags_kept table made m n)
     (keep : KeepOn (gone_by table) (goes_by sound) m n) where
   traces : Traces table n.watcher
   traces = record { bindings = sym (ap (λ v. v.0) keep.agree); identities = sym (ap (λ v. v.1) keep.agree) }
@@ -198,8 +198,8 @@ module _ {S : Type 0} (allows : Decoded → Bool) (sound : Tracing → Bool) (ta
         lives = subst IsSome (sym (lives_computed pid end.regs end.memory m.state p lives)) refl;
       }
 
-      allowed_call : allows (decoded_at (calling 1 pid m1.state)).reply ≡ true
-      allowed_call = sym (ap (λ e. if_called e (allows (decoded_at (calling 1 pid m1.state)).reply)) event) ∙ sym (ap (λ o. option_map_or (allowed_of allows fuel m) o true) is) ∙ allowed
+      allowed_call : allows (calling 1 pid m1.state) ≡ true
+      allowed_call = sym (ap (λ e. if_called e (allows (calling 1 pid m1.state))) event) ∙ sym (ap (λ o. option_map_or (allowed_of allows fuel m) o true) is) ∙ allowed
 
       by_call : GoTogether tags_kept table (suc made) (turn unwatched 1 table pick fuel m) (turn tracer 0 plain pick fuel n)
       by_call =

@@ -9,7 +9,6 @@ use Rattle.rv_cpu.specs.declared.event.Event.TheVariants.{Call, Killed, Next}
 use Rattle.pt_ident.specs.IdentityTable.{IdentityTable}
 use Rattle.kr_view.specs.View.{Row, plain}
 use Rattle.kr_mounts.specs.Standing.{texts_of}
-use Rattle.kr_calls.specs.Decoding.{Decoded}
 use Rattle.kr_model.specs.State.{Image, Process}
 use Rattle.kr_allowed.specs.Told.{SourcesAreNamed}
 use Rattle.kr_bytes.specs.Bytes.{TableHasBytes}
@@ -17,18 +16,18 @@ use Rattle.kr_bytes.specs.Turns.{WatchesBytes}
 use Rattle.kr_steps.specs.Computing.{computed}
 use Rattle.kr_steps.specs.Waiting.{picked_process}
 use Rattle.kr_turns.specs.Run.{Slot, run}
+use Rattle.kr_turns.specs.Stopped.{Stopped}
 use Rattle.kr_turns.specs.Turn.{Machine, calling, watched_call}
 use Rattle.kr_turns.specs.Watching.{unwatched}
-use Rattle.pt_tracer.specs.Stopping.{decoded_at}
 use Rattle.pt_watched.specs.Watched.{Tracing, tracer}
 use Rattle.swaps_read.specs.Points.{PointsAreShort}
 use Rattle.turns_match.specs.Runs.{ComeAlike, EachTurn, GoTogether, KeepOn}
 use Rattle.stops_match.specs.Turning.{ComeFromCall, ComeToCall, tags_kept}
 
--- each call of a calm run of whose decoding a test holds keeps the machines together, with its stops
-abbrev pub CallsGoTogether : Type 0 → (Decoded → Bool) → List Row → Type 0
+-- each call of a calm run of which a test holds, as the kernel with mounts is asked for it, keeps the machines together, with its stops
+abbrev pub CallsGoTogether : Type 0 → (Stopped → Bool) → List Row → Type 0
 CallsGoTogether S allows table =
-    (made pid : ℕ) (m : Machine S) (n : Machine Tracing) → ComeToCall table made pid m n → allows (decoded_at (calling 1 pid m.state)).reply ≡ true → (watched_call unwatched 1 table pid m).tally.broken ≡ None
+    (made pid : ℕ) (m : Machine S) (n : Machine Tracing) → ComeToCall table made pid m n → allows (calling 1 pid m.state) ≡ true → (watched_call unwatched 1 table pid m).tally.broken ≡ None
     → ComeFromCall table made (watched_call unwatched 1 table pid m) (watched_call tracer 0 plain pid n)
 
 -- where instructions end in a call
@@ -38,12 +37,12 @@ if_called Next allowed = true
 if_called (Killed signal) allowed = true
 
 -- the test holds of the call to which a process comes in a turn, if it comes to one
-abbrev pub allowed_of : {S : Type 0} → (Decoded → Bool) → ℕ → Machine S → Process ℕ Image → Bool
+abbrev pub allowed_of : {S : Type 0} → (Stopped → Bool) → ℕ → Machine S → Process ℕ Image → Bool
 allowed_of allows fuel m p =
     let end = ran fuel p.image.regs p.image.memory in
-    if_called end.event (allows (decoded_at (calling 1 p.pid (computed p.pid end.regs end.memory m.state))).reply)
+    if_called end.event (allows (calling 1 p.pid (computed p.pid end.regs end.memory m.state)))
 
-abbrev pub makes_allowed : {S : Type 0} → (Decoded → Bool) → Slot → Machine S → Bool
+abbrev pub makes_allowed : {S : Type 0} → (Stopped → Bool) → Slot → Machine S → Bool
 makes_allowed allows slot m = option_map_or (allowed_of allows slot.fuel m) (picked_process m.state slot.pick) true
 
 -- what the tracer goes by from turn to turn: the texts of the mounts, no identity, and what is sound by a test
@@ -64,7 +63,7 @@ pub record CanRun (sound : Tracing → Bool) (table : List Row) : Type 0 where
 -- so a calm run of such calls and the watched one come to the same bytes, the same end, the same status and the same tree
 abbrev pub TracedRunsComeAlike : Type 0 → Type 0
 TracedRunsComeAlike S =
-    (allows : Decoded → Bool) (sound : Tracing → Bool) (table : List Row) (slots : ℕ → Slot) → CallsGoTogether S allows table → CanRun sound table
+    (allows : Stopped → Bool) (sound : Tracing → Bool) (table : List Row) (slots : ℕ → Slot) → CallsGoTogether S allows table → CanRun sound table
     → (turns : ℕ) (m : Machine S) (n : Machine Tracing) → turns ≤ 2 ^ 31 → GoTogether tags_kept table 0 m n → KeepOn (gone_by table) (goes_by sound) m n
     → EachTurn unwatched table slots (λ made. makes_allowed allows (slots made)) turns 0 m → (run unwatched 1 table slots turns m).machine.tally.broken ≡ None
     → ComeAlike (run unwatched 1 table slots turns m) (run tracer 0 plain slots turns n)

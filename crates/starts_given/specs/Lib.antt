@@ -1,0 +1,4 @@
+pub mod Asking
+pub mod Given
+pub mod Listings
+pub mod Openings
