@@ -1,6 +1,6 @@
 -- The stops of execve(2): behind the first one the plain kernel carries it out, or finds no call.
 use Rattle.std.specs.FinMap as map
-use Rattle.std.proofs.Common.{◌≡◌, ℕ, false, cond, List, Option, Some, None, Result, Ok, Err, refl, sym, ap, subst, ◌∙◌, get_or, ℤ}
+use Rattle.std.proofs.Common.{◌≡◌, ℕ, Bool, false, true, cond, List, Option, Some, None, Result, Ok, Err, refl, sym, ap, subst, ◌∙◌, get_or, ℤ}
 use Rattle.std.specs.Prelude.{IsSome, ◌==◌, slice_set}
 use Rattle.std.specs.Int.{cast_signed, w64}
 use Rattle.pr_base.proofs.MapLemmas.{get-insert_same}
@@ -30,14 +30,14 @@ use Rattle.kr_steps.specs.Calls.{LastsLawful}
 use Rattle.kr_steps.specs.Computing.{computed}
 use Rattle.kr_turns.specs.PlainCall.{Came, executed, plain_call, refusal_told, replaced}
 use Rattle.kr_turns.specs.Stopped.{IsThere, Stopped, edited, image_at}
-use Rattle.kr_turns.specs.Turn.{Machine, Tally, after_exit, after_plain, called, watched_call}
+use Rattle.kr_turns.specs.Turn.{Machine, Tally, after_exit, after_plain, called, calling, watched_call}
 use Rattle.kr_turns.specs.Watching.{unwatched}
 use Rattle.kr_turns.specs.declared.plain.CallEnd.TheVariants as end
 use Rattle.kr_turns.proofs.EditLemmas.{there as is_there}
-use Rattle.pt_tracer.specs.Faking.{word_of}
+use Rattle.pt_tracer.specs.Faking.{has_answered_zero, word_of}
 use Rattle.pt_tracer.specs.Stopping.{after_request, decoded_at, register_at}
 use Rattle.pt_watched.specs.Registers.{arguments_at}
-use Rattle.pt_watched.specs.Watched.{Tracing, after_pending, awaiting, begin_as, begin_program, entered, exited, give_back, tracer, with_pending, with_tags, without_pending}
+use Rattle.pt_watched.specs.Watched.{Tracing, after_pending, awaiting, begin_as, begin_program, entered, exited, give_back, has_begun, tracer, with_pending, with_tags, without_pending}
 use Rattle.pt_watched.specs.declared.pending.Pending.{Pending}
 use Rattle.pt_watched.specs.declared.plan.Led.{Led}
 use Rattle.swaps_read.specs.Answered.{StandsAtNoCall}
@@ -56,7 +56,9 @@ use Rattle.stops_match.specs.Turning.{ComeFromCall, ComeToCall}
 use Rattle.stops_match.proofs.AnsweredLemmas.{computed_twice, lives_changed, none_made, silent_refusal, told_again}
 use Rattle.stops_match.proofs.CallLemmas as before
 use Rattle.stops_match.proofs.CallLemmas.{own_image, plain_named}
+use Rattle.execves_agree.specs.Going.{GoesOn, came_here, came_there}
 use Rattle.execves_agree.specs.Replacing.{ArePutAlike, gone_on_with, mounts_of}
+use Rattle.execves_agree.proofs.BegunLemmas.{has_answer, told_no_zero}
 use Rattle.execves_agree.proofs.LoadedLemmas as loaded
 use Rattle.execves_agree.proofs.LoadedLemmas.{program-lasts}
 use Rattle.execves_agree.proofs.ReadingLemmas.{execution-keeps}
@@ -97,6 +99,31 @@ module _ {S : Type 0} (table : List Row) (made pid : ℕ) (m : Machine S) (n : M
 
   abbrev pub kept : Pending → Tracing
   kept k = with_pending (map.insert x.pending pid k) x
+
+  -- ---- what is so of both kernels, whatever the tracer keeps and leaves
+
+  module _ (k : Pending) (v : Stopped) (entered_is : entered x stop ≡ (kept k, v)) (mine theirs : Came) (mine_is : plain_call table pid s1 ≡ mine) (theirs_is : plain_call plain pid v.state ≡ theirs) where
+    here_is : came_here table pid m n ≡ mine
+    here_is = ap (plain_call table pid) (before.shelf table made pid m n c p q lives also) ∙ mine_is
+
+    enters_is : entered x (calling 0 pid w) ≡ (kept k, v)
+    enters_is = ap (entered x) (before.calling_is table made pid m n c p q lives also) ∙ entered_is
+
+    there_is : came_there table pid m n ≡ theirs
+    there_is = ap (λ (e : Tracing × Stopped). plain_call plain pid e.1.state) enters_is ∙ theirs_is
+
+    goes_on : (begun : Bool) → mine.end ≡ theirs.end → mine.child ≡ theirs.child → has_answered_zero (called pid mine) ≡ begun → has_begun k (called pid theirs) ≡ begun
+        → ComeFromCall table made (watched_call unwatched 1 table pid m) (watched_call tracer 0 plain pid n) → GoesOn table pid m n made
+    goes_on begun ends children begins also_begins together = record {
+      together = together;
+      ends = ap (λ (came : Came). came.end) here_is ∙ ends ∙ sym (ap (λ (came : Came). came.end) there_is);
+      children = ap (λ (came : Came). came.child) here_is ∙ children ∙ sym (ap (λ (came : Came). came.child) there_is);
+      pending = k;
+      kept = ap (λ (e : Tracing × Stopped). map.get e.0.pending pid) enters_is ∙ get-insert_same x.pending pid k;
+      begun = begun;
+      begins = ap (λ came. has_answered_zero (called pid came)) here_is ∙ begins;
+      also_begins = ap (λ came. has_begun k (called pid came)) there_is ∙ also_begins;
+    }
 
   -- ---- the tracer cancels it
 
@@ -155,10 +182,16 @@ module _ {S : Type 0} (table : List Row) (made pid : ℕ) (m : Machine S) (n : M
         ∙ ap (λ (e : Tracing × Stopped). record { state = e.1.state; watcher = e.0; tally = tally }) exits
         ∙ ap (λ t. record { state = t; watcher = back.0; tally = tally }) back_state
 
-    pub cancelled_together : ComeFromCall table made (watched_call unwatched 1 table pid m) (watched_call tracer 0 plain pid n)
+    cancelled_together : ComeFromCall table made (watched_call unwatched 1 table pid m) (watched_call tracer 0 plain pid n)
     cancelled_together =
         refused.refused_together table made pid m n c p q lives also calm path args env reads e refuses left like unmarked back.0 tally (silent x.tags pid path args env led.index e)
         (record { bindings = c.traces.bindings; identities = c.traces.identities }) refl traced_is
+
+    pub cancelled_on : GoesOn table pid m n made
+    cancelled_on =
+        goes_on (pending led (Some (refusal e))) v entered_is (refused.came table made pid m n c p q lives also calm path args env reads e refuses) none
+        (refused.refused_is table made pid m n c p q lives also calm path args env reads e refuses) came_is false refl refl
+        (refused.none_begins table made pid m n c p q lives also calm path args env reads e refuses) refl cancelled_together
 
   -- ---- the plain kernel carries it out
 
@@ -282,10 +315,21 @@ module _ {S : Type 0} (table : List Row) (made pid : ℕ) (m : Machine S) (n : M
           ∙ ap (λ (e : Tracing × Stopped). record { state = e.1.state; watcher = e.0; tally = tally3 }) exits5
           ∙ ap (λ t. record { state = t; watcher = back5.0; tally = tally3 }) back5_state
 
-      pub refused_together : ComeFromCall table made (watched_call unwatched 1 table pid m) (watched_call tracer 0 plain pid n)
+      refused_together : ComeFromCall table made (watched_call unwatched 1 table pid m) (watched_call tracer 0 plain pid n)
       refused_together =
           refused.refused_together table made pid m n c p q lives also calm path args env reads e refuses done4.memory stays5 (subst (λ (pages : Pages). AreEqualUnmarked p1.image.memory.pages pages) (sym done4_pages) entry.unmarked)
           back5.0 tally3 (silent x.tags pid path args env led.index e) (record { bindings = c.traces.bindings; identities = c.traces.identities }) refl traced5_is
+
+      none_begins : has_answered_zero (called pid came5) ≡ false
+      none_begins =
+          ap (λ (image : Image). get_or image.regs.x 10 0 == 0) (own_image pid came5.state q5 lives5)
+          ∙ told_no_zero registers e (has_answer regs3 memory3 host put env entry.reads)
+
+      pub refused_on : GoesOn table pid m n made
+      refused_on =
+          goes_on (pending led None) left3 entry.entered_is (refused.came table made pid m n c p q lives also calm path args env reads e refuses) came5
+          (refused.refused_is table made pid m n c p q lives also calm path args env reads e refuses) came5_is false refl refl
+          (refused.none_begins table made pid m n c p q lives also calm path args env reads e refuses) none_begins refused_together
 
     -- ---- or puts a program in its place
 
@@ -336,7 +380,14 @@ module _ {S : Type 0} (table : List Row) (made pid : ℕ) (m : Machine S) (n : M
           ∙ ap (λ (e : Tracing × Stopped). record { state = e.1.state; watcher = e.0; tally = tally3 }) exits6
           ∙ ap (λ t. record { state = t; watcher = back6; tally = tally3 }) state6_is
 
-      pub loaded_together : ComeFromCall table made (watched_call unwatched 1 table pid m) (watched_call tracer 0 plain pid n)
+      loaded_together : ComeFromCall table made (watched_call unwatched 1 table pid m) (watched_call tracer 0 plain pid n)
       loaded_together =
           loaded.loaded_together table made pid m n c p q lives also calm path args env reads program other led.index loads matched alike back6 tally3 refl
           (record { bindings = c.traces.bindings; identities = c.traces.identities }) refl traced6_is
+
+      pub loaded_on : GoesOn table pid m n made
+      loaded_on =
+          goes_on (pending led None) left3 entry.entered_is (loaded.came table made pid m n c p q lives also calm path args env reads program other led.index loads matched alike) came6
+          (loaded.loaded_is table made pid m n c p q lives also calm path args env reads program other led.index loads matched alike) came6_is true refl refl
+          (loaded.one_begins table made pid m n c p q lives also calm path args env reads program other led.index loads matched alike (ap (λ (image : Image). get_or image.regs.x 10 0) alike.same.image ∙ zero))
+          (ap (λ word. word == 0) answers_zero) loaded_together

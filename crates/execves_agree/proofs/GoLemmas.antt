@@ -33,7 +33,7 @@ use Rattle.kr_turns.proofs.EditLemmas.{edited-twice, image-edited, there as is_t
 use Rattle.pt_tracer.specs.Faking.{no_longer_called, word_of}
 use Rattle.pt_tracer.specs.Stopping.{after_request, decoded_at, memory_at, with_memory}
 use Rattle.pt_watched.specs.Registers.{arguments_at}
-use Rattle.pt_watched.specs.Watched.{Tracing, awaiting, entered, exited, tracer, with_pending}
+use Rattle.pt_watched.specs.Watched.{Tracing, awaiting, entered, exited, with_pending}
 use Rattle.pt_watched.specs.declared.plan.Led.{Led}
 use Rattle.swaps_read.specs.Answered.{StandsAtNoCall}
 use Rattle.swaps_read.specs.Exits.{left_with}
@@ -49,12 +49,12 @@ use Rattle.turns_match.proofs.CalledLemmas.{decoded_lasts, decoded_lives, decode
 use Rattle.turns_match.proofs.ImageLemmas.{bare_computed, given}
 use Rattle.turns_match.proofs.RunLemmas.{lives_too}
 use Rattle.stops_match.specs.Cancelling.{at_call}
-use Rattle.stops_match.specs.Turning.{ComeFromCall, ComeToCall}
+use Rattle.stops_match.specs.Turning.{ComeToCall}
 use Rattle.stops_match.proofs.CallLemmas as before
 use Rattle.stops_match.proofs.CallLemmas.{own_image, plain_named}
 use Rattle.programs_agree.specs.Executing.{IsSameLoaded, LoadedAlike, none_loaded, one_loaded}
 use Rattle.programs_agree.proofs.ShowLemmas.{same-pages}
-use Rattle.execves_agree.specs.Going.{CancelledExecvesGoTogether, EnteredExecvesGoTogether, IsExecveCancelled, IsExecveEntered, done_here, done_there}
+use Rattle.execves_agree.specs.Going.{CancelledExecvesGoTogether, EnteredExecvesGoTogether, GoesOn, IsExecveCancelled, IsExecveEntered, done_here, done_there, here}
 use Rattle.execves_agree.specs.Replacing.{ArePutAlike, IsReady, IsReadyIn}
 use Rattle.execves_agree.proofs.EnteredLemmas as goes
 use Rattle.execves_agree.proofs.ReadyLemmas.{loaded_programs_are_ready, ready_programs_can_be_put}
@@ -154,9 +154,9 @@ module _ {S : Type 0} (table : List Row) (made pid : ℕ) (m : Machine S) (n : M
         (answered_calls_are_none stop read r (Cancel e) (refusal e) there_stop reads_there refl)
 
     pub cancelled : entered x stop ≡ (with_pending (map.insert x.pending pid (awaiting (arguments_at (after_request stop)) r led (Some (refusal e)))) x, no_longer_called (with_memory read (after_request stop)))
-        → ComeFromCall table made (watched_call unwatched 1 table pid m) (watched_call tracer 0 plain pid n)
+        → GoesOn table pid m n made
     cancelled enters =
-        goes.cancelled_together table made pid m n c p q lives also calm path args env reads reads_there e refuses read led like (subst (AreEqualUnmarked p1.image.memory.pages) (sym pages) memories) v v_is stands enters
+        goes.cancelled_on table made pid m n c p q lives also calm path args env reads reads_there e refuses read led like (subst (AreEqualUnmarked p1.image.memory.pages) (sym pages) memories) v v_is stands enters
 
   module _ (e : Errno) (alike : IsExecveCancelled table pid m n path args env e) where
     same_pages : alike.read.pages ≡ q.image.memory.pages
@@ -164,7 +164,7 @@ module _ {S : Type 0} (table : List Row) (made pid : ℕ) (m : Machine S) (n : M
         alike.pages ∙ ap (λ t. (memory_at (after_request t)).pages) calling_is
         ∙ ap (λ (image : Image). image.memory.pages) after_image ∙ before.pages_left table made pid m n c p q lives also
 
-    cancelled_alike : ComeFromCall table made (watched_call unwatched 1 table pid m) (watched_call tracer 0 plain pid n)
+    cancelled_alike : GoesOn table pid m n made
     cancelled_alike =
         cancelled e (sym done_is ∙ alike.refuses) alike.led alike.read same_pages
         (subst (λ t. entered x t ≡ (with_pending (map.insert x.pending pid (awaiting (arguments_at (after_request t)) r alike.led (Some (refusal e)))) x, no_longer_called (with_memory alike.read (after_request t)))) calling_is alike.enters)
@@ -252,15 +252,15 @@ module _ {S : Type 0} (table : List Row) (made pid : ℕ) (m : Machine S) (n : M
       zero : get_or other.image.regs.x 10 0 ≡ 0
       zero = ap (λ (x : Program). get_or x.image.regs.x 10 0) ready_there.is
 
-      loaded : ComeFromCall table made (watched_call unwatched 1 table pid m) (watched_call tracer 0 plain pid n)
-      loaded = goes.loaded_together table made pid m n c p q lives also calm path args env registers memory led host put entry reads program other loads loads4 matched put_alike zero
+      loaded : GoesOn table pid m n made
+      loaded = goes.loaded_on table made pid m n c p q lives also calm path args env registers memory led host put entry reads program other loads loads4 matched put_alike zero
 
     -- what both kernels came to
-    pub replies_together : LoadedAlike table at pid x.tags led.index done.reply done4.reply → ComeFromCall table made (watched_call unwatched 1 table pid m) (watched_call tracer 0 plain pid n)
+    pub replies_together : LoadedAlike table at pid x.tags led.index done.reply done4.reply → GoesOn table pid m n made
     replies_together replies = by done.reply done4.reply refl refl replies
       where
-        by : (a b : Result Program Errno) → done.reply ≡ a → done4.reply ≡ b → LoadedAlike table at pid x.tags led.index a b → ComeFromCall table made (watched_call unwatched 1 table pid m) (watched_call tracer 0 plain pid n)
-        by _ _ one two (none_loaded e) = goes.refused_together table made pid m n c p q lives also calm path args env registers memory led host put entry reads e one two
+        by : (a b : Result Program Errno) → done.reply ≡ a → done4.reply ≡ b → LoadedAlike table at pid x.tags led.index a b → GoesOn table pid m n made
+        by _ _ one two (none_loaded e) = goes.refused_on table made pid m n c p q lives also calm path args env registers memory led host put entry reads e one two
         by _ _ one two (one_loaded {p = program} {q = other} same used) = loaded program other one two same used
 
   module _ (registers : List ℕ) (memory : Memory) (led : Led) (host : List ℕ) (put : ℕ) (alike : IsExecveEntered table pid m n path args env registers memory led host put) where
@@ -300,26 +300,39 @@ module _ {S : Type 0} (table : List Row) (made pid : ℕ) (m : Machine S) (n : M
     done4_is = ap (λ t. (carried_out (execution plain pid t host put env) (memory_of pid t)).reply) there_is
 
     entered_together : LoadedAlike table (at_call pid m).state pid x.tags led.index (done_here table pid m n path args env).reply (done_there table pid m n path args env registers memory host put).reply
-        → ComeFromCall table made (watched_call unwatched 1 table pid m) (watched_call tracer 0 plain pid n)
+        → GoesOn table pid m n made
     entered_together replies =
         replies_together registers memory led host put entry
         (subst (λ t. LoadedAlike table t pid x.tags led.index done.reply (done4 registers memory led host put entry).reply) at_is
         (subst (λ a. LoadedAlike table (at_call pid m).state pid x.tags led.index a (done4 registers memory led host put entry).reply) done_is
         (subst (LoadedAlike table (at_call pid m).state pid x.tags led.index (done_here table pid m n path args env).reply) done4_is replies)))
 
-pub cancelled_execves_go_together : (S : Type 0) → CancelledExecvesGoTogether S
-cancelled_execves_go_together S table made pid m n path args env e c alike calm = by (process pid m.state) refl c.lives
+-- ---- any process
+
+pub cancelled_execves_go_on : {S : Type 0} (table : List Row) (made pid : ℕ) (m : Machine S) (n : Machine Tracing) (path : List ℕ) (args env : ℕ) (e : Errno) → ComeToCall table made pid m n
+    → IsExecveCancelled table pid m n path args env e → (watched_call unwatched 1 table pid m).tally.broken ≡ None → GoesOn table pid m n made
+cancelled_execves_go_on table made pid m n path args env e c alike calm = by (process pid m.state) refl c.lives
   where
-    by : (o : Option (Process ℕ Image)) → process pid m.state ≡ o → IsSome o → ComeFromCall table made (watched_call unwatched 1 table pid m) (watched_call tracer 0 plain pid n)
+    by : (o : Option (Process ℕ Image)) → process pid m.state ≡ o → IsSome o → GoesOn table pid m n made
     by None none some = absurd cc
     by (Some p) lives some =
         let q = lives_too table n.watcher.tags pid m.state n.state p c.matches.states lives in cancelled_alike table made pid m n c p q.0 lives q.1 calm path args env alike.decoded e alike
 
-pub entered_execves_go_together : (S : Type 0) → EnteredExecvesGoTogether S
-entered_execves_go_together S table made pid m n path args env registers memory led host put c alike replies calm = by (process pid m.state) refl c.lives
+pub cancelled_execves_go_together : (S : Type 0) → CancelledExecvesGoTogether S
+cancelled_execves_go_together S table made pid m n path args env e c alike calm = (cancelled_execves_go_on table made pid m n path args env e c alike calm).together
+
+pub entered_execves_go_on : {S : Type 0} (table : List Row) (made pid : ℕ) (m : Machine S) (n : Machine Tracing) (path : List ℕ) (args env : ℕ) (registers : List ℕ) (memory : Memory) (led : Led) (host : List ℕ) (put : ℕ)
+    → ComeToCall table made pid m n → IsExecveEntered table pid m n path args env registers memory led host put
+    → LoadedAlike table (here table pid m n path args env) pid n.watcher.tags led.index (done_here table pid m n path args env).reply (done_there table pid m n path args env registers memory host put).reply
+    → (watched_call unwatched 1 table pid m).tally.broken ≡ None → GoesOn table pid m n made
+entered_execves_go_on table made pid m n path args env registers memory led host put c alike replies calm = by (process pid m.state) refl c.lives
   where
-    by : (o : Option (Process ℕ Image)) → process pid m.state ≡ o → IsSome o → ComeFromCall table made (watched_call unwatched 1 table pid m) (watched_call tracer 0 plain pid n)
+    by : (o : Option (Process ℕ Image)) → process pid m.state ≡ o → IsSome o → GoesOn table pid m n made
     by None none some = absurd cc
     by (Some p) lives some =
         let q = lives_too table n.watcher.tags pid m.state n.state p c.matches.states lives in
         entered_together table made pid m n c p q.0 lives q.1 calm path args env alike.decoded registers memory led host put alike replies
+
+pub entered_execves_go_together : (S : Type 0) → EnteredExecvesGoTogether S
+entered_execves_go_together S table made pid m n path args env registers memory led host put c alike replies calm =
+    (entered_execves_go_on table made pid m n path args env registers memory led host put c alike replies calm).together

@@ -2,6 +2,7 @@ pub mod ReadyLemmas
 pub mod BehindLemmas
 pub mod ReplaceLemmas
 pub mod ReadingLemmas
+pub mod BegunLemmas
 pub mod RefusedLemmas
 pub mod LoadedLemmas
 pub mod EnteredLemmas

@@ -1,7 +1,9 @@
 -- Execve(2) that both kernels carry out: what is left of both machines.
-use Rattle.std.proofs.Common.{◌≡◌, ℕ, suc, false, List, Some, None, Ok, sym, ap, subst, ◌∙◌, arith}
+use Rattle.std.proofs.Common.{◌≡◌, ℕ, suc, false, true, List, Some, None, Ok, get_or, refl, sym, ap, subst, ◌∙◌, arith}
+use Rattle.std.specs.Prelude.{IsSome, ◌==◌}
 use Rattle.rv_mem.specs.Actions.{carried_out}
 use Rattle.rv_mem.specs.Memory.{Memory}
+use Rattle.rv_mem.specs.declared.regs.Regs.{Regs}
 use Rattle.pt_bind.specs.Tags.{TagTable, with_tag}
 use Rattle.pt_bind.specs.declared.slot.Slot.TheVariants.{Exe}
 use Rattle.kr_inode.specs.declared.user.User.{User}
@@ -18,9 +20,11 @@ use Rattle.kr_model.specs.State.{Image, Process, State, process, with_process}
 use Rattle.kr_steps.specs.Answering.{going, resumed}
 use Rattle.kr_steps.specs.Calls.{LastsLawful}
 use Rattle.kr_turns.specs.PlainCall.{Came, plain_call, replaced}
+use Rattle.kr_turns.specs.Stopped.{image_in}
 use Rattle.kr_turns.specs.Turn.{Machine, Tally, after_exit, after_plain, called, watched_call}
 use Rattle.kr_turns.specs.Watching.{unwatched}
 use Rattle.kr_turns.specs.declared.plain.CallEnd.TheVariants as end
+use Rattle.pt_tracer.specs.Faking.{has_answered_zero}
 use Rattle.pt_watched.specs.Watched.{Tracing, tracer}
 use Rattle.places_stay.specs.Matching.{IsMatch}
 use Rattle.walks_agree.specs.Scene.{IsMatched}
@@ -30,12 +34,13 @@ use Rattle.turns_match.specs.Lasting.{CanBeCalled}
 use Rattle.turns_match.proofs.CalledLemmas.{lasts_living}
 use Rattle.turns_match.proofs.SettleLemmas.{lawful_gone}
 use Rattle.stops_match.specs.Turning.{ComeFromCall, ComeToCall, Traces}
+use Rattle.stops_match.proofs.AnsweredLemmas.{lives_changed}
 use Rattle.stops_match.proofs.CallLemmas as before
-use Rattle.stops_match.proofs.CallLemmas.{exit_status, unwatched_exit}
+use Rattle.stops_match.proofs.CallLemmas.{exit_status, own_image, unwatched_exit}
 use Rattle.execves_agree.specs.Replacing.{ArePutAlike, gone_on_with, mounts_of}
 use Rattle.execves_agree.proofs.RefusedLemmas as refused
 use Rattle.execves_agree.proofs.ReplaceLemmas.{programs_keep_matches}
-use Rattle.execves_agree.proofs.BehindLemmas.{forgotten}
+use Rattle.execves_agree.proofs.BehindLemmas.{Behind, behind, forgotten}
 
 -- ---- what lasts
 
@@ -79,10 +84,10 @@ module _ {S : Type 0} (table : List Row) (made pid : ℕ) (m : Machine S) (n : M
 
   module _ (reads : (decoded_by p1).reply ≡ Ok (call.Execve path args env)) (program other : Program) (index : ℕ) (loads : (carried_out (execution table pid at path args env) (memory_of pid at)).reply ≡ Ok program)
       (matched : IsMatched (scene_of table s1 pid x.tags)) (alike : ArePutAlike table pid s1 w program other index) where
-    abbrev came : Came
+    abbrev pub came : Came
     came = record { state = resumed pid (all_applied images (mounts_of program) pid (changes_of (Ok program)) (with_memory_of pid memory at)); end = end.Replaced; child = None; at_root = false }
 
-    loaded_is : plain_call table pid s1 ≡ came
+    pub loaded_is : plain_call table pid s1 ≡ came
     loaded_is =
         refused.came_is table made pid m n c p q lives also calm path args env reads
         ∙ ap (λ r. replaced pid r (all_applied images (record { found = mount_of r; directory = None }) pid (changes_of r) (with_memory_of pid memory at))) loads
@@ -92,6 +97,19 @@ module _ {S : Type 0} (table : List Row) (made pid : ℕ) (m : Machine S) (n : M
         ap (resumed pid)
         (forgotten pid (mounts_of program) program (with_memory memory) at
         ∙ forgotten pid (mounts_of program) program (λ _. record { regs = p1.image.regs; memory = (decoded_by p1).memory }) s1)
+
+    -- the program begins with the registers it was loaded with
+    behind_here : Behind pid (mounts_of program) program s1
+    behind_here = behind pid (mounts_of program) program s1 (subst IsSome (sym mine.lives) refl)
+
+    pub one_begins : get_or program.image.regs.x 10 0 ≡ 0 → has_answered_zero (called pid came) ≡ true
+    one_begins zero =
+        ap (λ t. get_or (image_in pid t).regs.x 10 0 == 0) came_state
+        ∙ ap (λ (image : Image). get_or image.regs.x 10 0 == 0)
+        (own_image pid (gone_on_with pid program s1) (going (λ regs. regs) false behind_here.process_there)
+        (lives_changed pid (going (λ regs. regs) false) (λ p. refl) (all_applied images (mounts_of program) pid (changes_of (Ok program)) s1) behind_here.process_there behind_here.lives))
+        ∙ ap (λ (regs : Regs). get_or regs.x 10 0 == 0) behind_here.registers
+        ∙ ap (λ word. word == 0) zero
 
     abbrev judged : Tally
     judged = before.judged table made pid m n c p q lives also

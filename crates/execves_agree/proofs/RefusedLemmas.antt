@@ -1,6 +1,6 @@
 -- Execve(2) that both kernels refuse, or that a tracer cancels: what is left of both machines.
-use Rattle.std.proofs.Common.{◌≡◌, ℕ, suc, List, Some, None, Result, Ok, Err, refl, sym, ap, subst, ◌∙◌, ℤ}
-use Rattle.std.specs.Prelude.{neg_ℤ, pos}
+use Rattle.std.proofs.Common.{◌≡◌, ℕ, suc, false, List, Some, None, Result, Ok, Err, get_or, refl, sym, ap, subst, ◌∙◌, ℤ}
+use Rattle.std.specs.Prelude.{neg_ℤ, pos, ◌==◌}
 use Rattle.pr_base.specs.Errno.{errno_number}
 use Rattle.pr_base.specs.declared.errno.Errno.{Errno}
 use Rattle.rv_mem.specs.Actions.{AreEqualUnmarked, CarriedOut, carried_out}
@@ -16,12 +16,14 @@ use Rattle.kr_execve.specs.Execution.{Program, changes_of, execution, mount_of}
 use Rattle.kr_model.specs.Applied.{all_applied, images}
 use Rattle.kr_model.specs.State.{Image, Process, State, process, with_process}
 use Rattle.kr_model.specs.declared.outcome.Outcome.TheVariants.{Answer}
-use Rattle.kr_steps.specs.Answering.{answered}
+use Rattle.kr_steps.specs.Answering.{answered, going, with_answer}
 use Rattle.kr_steps.specs.Calls.{LastsLawful}
 use Rattle.kr_steps.specs.Computing.{computed}
 use Rattle.kr_turns.specs.PlainCall.{Came, executed, plain_call, refusal_told, replaced}
+use Rattle.kr_turns.specs.Stopped.{image_in}
 use Rattle.kr_turns.specs.Turn.{Machine, Tally, after_exit, after_plain, called, watched_call}
 use Rattle.kr_turns.specs.Watching.{unwatched}
+use Rattle.pt_tracer.specs.Faking.{has_answered_zero}
 use Rattle.pt_watched.specs.Watched.{Tracing, tracer}
 use Rattle.places_stay.specs.Matching.{IsMatch}
 use Rattle.turns_match.specs.Calls.{decoded_by, decoded_in}
@@ -33,9 +35,10 @@ use Rattle.turns_match.proofs.MatchLemmas.{match_computed}
 use Rattle.turns_match.proofs.OperateLemmas.{with_own_registers}
 use Rattle.turns_match.proofs.SettleLemmas.{match_settled}
 use Rattle.stops_match.specs.Turning.{ComeFromCall, ComeToCall, Traces}
-use Rattle.stops_match.proofs.AnsweredLemmas.{computed_twice}
+use Rattle.stops_match.proofs.AnsweredLemmas.{computed_twice, lives_changed}
 use Rattle.stops_match.proofs.CallLemmas as before
-use Rattle.stops_match.proofs.CallLemmas.{exit_status, unwatched_exit}
+use Rattle.stops_match.proofs.CallLemmas.{exit_status, own_image, unwatched_exit}
+use Rattle.execves_agree.proofs.BegunLemmas.{has_answer, told_no_zero}
 use Rattle.execves_agree.proofs.ReadingLemmas.{execution-keeps}
 
 -- what a refusal tells
@@ -78,10 +81,10 @@ module _ {S : Type 0} (table : List Row) (made pid : ℕ) (m : Machine S) (n : M
   -- ---- a refusal
 
   module _ (reads : (decoded_by p1).reply ≡ Ok (call.Execve path args env)) (e : Errno) (refuses : done.reply ≡ Err e) where
-    abbrev came : Came
+    abbrev pub came : Came
     came = refusal_told pid e (with_memory_of pid done.memory at)
 
-    refused_is : plain_call table pid s1 ≡ came
+    pub refused_is : plain_call table pid s1 ≡ came
     refused_is = came_is reads ∙ ap (λ r. replaced pid r (all_applied images (record { found = mount_of r; directory = None }) pid (changes_of r) (with_memory_of pid done.memory at))) refuses
 
     abbrev told : State ℕ Image
@@ -92,6 +95,18 @@ module _ {S : Type 0} (table : List Row) (made pid : ℕ) (m : Machine S) (n : M
         ap (answered pid (told_of e))
         (with_own_registers pid done.memory at.next_pid at (decoded_process table made pid s1 p1 mine) (decoded_lasts table made pid s1 p1 mine).lawful.pids.living (decoded_lives table made pid s1 p1 mine)
         ∙ computed_twice pid p1.image.regs p1.image.regs (decoded_by p1).memory done.memory s1)
+
+    -- so the caller reads no 0
+    told_lives : process pid told ≡ Some (going (with_answer (told_of e)) false (given pid p1.image.regs done.memory p1))
+    told_lives =
+        lives_changed pid (going (with_answer (told_of e)) false) (λ p. refl) (computed pid p1.image.regs done.memory s1) (given pid p1.image.regs done.memory p1)
+        (lives_changed pid (given pid p1.image.regs done.memory) (λ p. refl) s1 p1 mine.lives)
+
+    pub none_begins : has_answered_zero (called pid came) ≡ false
+    none_begins =
+        ap (λ t. get_or (image_in pid t).regs.x 10 0 == 0) came_state
+        ∙ ap (λ (image : Image). get_or image.regs.x 10 0 == 0) (own_image pid told (going (with_answer (told_of e)) false (given pid p1.image.regs done.memory p1)) told_lives)
+        ∙ told_no_zero p1.image.regs.x e (has_answer p1.image.regs p1.image.memory path args env reads)
 
     like : StaysLike p1.image.memory.pages done.memory.pages
     like =

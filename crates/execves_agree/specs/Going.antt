@@ -1,6 +1,6 @@
 -- Execve(2) with its stops, by what the tracer leaves at the first one: it cancels the call, or the plain kernel finds another execve.
 use Rattle.std.specs.FinMap as map
-use Rattle.std.specs.Prelude.{◌≡◌, ℕ, ℤ, List, Option, None, Some, Result, Ok, Err, slice_set}
+use Rattle.std.specs.Prelude.{◌≡◌, ℕ, ℤ, Bool, List, Option, None, Some, Result, Ok, Err, slice_set}
 use Rattle.pr_base.specs.declared.errno.Errno.{Errno}
 use Rattle.rv_mem.specs.Actions.{AreEqualUnmarked, CarriedOut, carried_out}
 use Rattle.rv_mem.specs.Layout.{layout_of}
@@ -14,15 +14,16 @@ use Rattle.kr_calls.specs.declared.request.Request.TheVariants as call
 use Rattle.kr_answers.specs.Carrying.{memory_of}
 use Rattle.kr_execve.specs.Execution.{Program, execution}
 use Rattle.kr_model.specs.State.{Image, State}
-use Rattle.kr_turns.specs.PlainCall.{Came}
+use Rattle.kr_turns.specs.PlainCall.{Came, plain_call}
 use Rattle.kr_turns.specs.Stopped.{IsThere, Stopped, edited, image_at}
 use Rattle.kr_turns.specs.Turn.{Machine, called, calling, watched_call}
 use Rattle.kr_turns.specs.Watching.{unwatched}
 use Rattle.pt_ident.specs.Identity.{refusal}
-use Rattle.pt_tracer.specs.Faking.{no_longer_called, word_of}
+use Rattle.pt_tracer.specs.Faking.{has_answered_zero, no_longer_called, word_of}
 use Rattle.pt_tracer.specs.Stopping.{after_request, decoded_at, memory_at, with_memory}
 use Rattle.pt_watched.specs.Registers.{arguments_at}
-use Rattle.pt_watched.specs.Watched.{Tracing, awaiting, entered, exited, tracer, with_pending}
+use Rattle.pt_watched.specs.Watched.{Tracing, awaiting, entered, exited, has_begun, tracer, with_pending}
+use Rattle.pt_watched.specs.declared.pending.Pending.{Pending}
 use Rattle.pt_watched.specs.declared.plan.Led.{Led}
 use Rattle.swaps_read.specs.Exits.{left_with}
 use Rattle.stops_match.specs.Cancelling.{at_call, at_first_stop}
@@ -83,6 +84,27 @@ module _ {S : Type 0} (table : List Row) (pid : ℕ) (m : Machine S) (n : Machin
       pub finds : (carried_out (decoding new_regs) memory).reply ≡ Ok (call.Execve host put env)
       pub exits : (came : Came) (e : Errno) → IsThere (called pid came) → (image_at (called pid came)).regs.x ≡ slice_set registers 10 (word_of (refusal e))
           → exited (kept_for led None) (called pid came) ≡ left_with (kept_for led None) (called pid came) own led (word_of (refusal e)) (image_at begins).regs.x
+
+-- ---- behind such a call
+
+module _ {S : Type 0} (table : List Row) (pid : ℕ) (m : Machine S) (n : Machine Tracing) where
+  -- what it comes to on each kernel
+  abbrev pub came_here : Came
+  came_here = plain_call table pid (calling 1 pid m.state).state
+
+  abbrev pub came_there : Came
+  came_there = plain_call plain pid (entered n.watcher (calling 0 pid n.state)).1.state
+
+  -- it keeps the match and ends alike on both kernels, and a new program begins on both or on none
+  pub record GoesOn (made : ℕ) : Type 0 where
+    pub together : ComeFromCall table made (watched_call unwatched 1 table pid m) (watched_call tracer 0 plain pid n)
+    pub ends : came_here.end ≡ came_there.end
+    pub children : came_here.child ≡ came_there.child
+    pub pending : Pending
+    pub kept : map.get (entered n.watcher (calling 0 pid n.state)).0.pending pid ≡ Some pending
+    pub begun : Bool
+    pub begins : has_answered_zero (called pid came_here) ≡ begun
+    pub also_begins : has_begun pending (called pid came_there) ≡ begun
 
 -- such calls and their stops keep the match, where they break no calm rule
 abbrev pub CancelledExecvesGoTogether : Type 0 → Type 0

@@ -60,7 +60,7 @@ use Rattle.kr_turns.specs.Turn.{Machine, calling, watched_call}
 use Rattle.kr_turns.specs.Watching.{unwatched}
 use Rattle.pt_tracer.specs.Stopping.{after_request, decoded_at, memory_at, with_memory}
 use Rattle.pt_watched.specs.Planning.{after_expansion, after_lists, after_path, has_shelf, led_in, led_of, nowhere, planned, rewritten, script_plan, stack_at, texts_at}
-use Rattle.pt_watched.specs.Watched.{Tracing, after_decoding, after_plan, by_identities, entered, tracer}
+use Rattle.pt_watched.specs.Watched.{Tracing, after_decoding, after_plan, by_identities, entered}
 use Rattle.pt_watched.specs.declared.plan.Led.{Led}
 use Rattle.pt_watched.specs.declared.plan.Plan.{Plan}
 use Rattle.walks_agree.specs.Settled.{host_text}
@@ -72,7 +72,7 @@ use Rattle.lists_alike.proofs.ReadLemmas.{lists_are_read_alike, shown_lists_are_
 use Rattle.turns_match.specs.Calls.{decoded_by}
 use Rattle.turns_match.proofs.CalledLemmas.{decoded_memory}
 use Rattle.turns_match.proofs.RunLemmas.{lives_too}
-use Rattle.stops_match.specs.Turning.{ComeFromCall, ComeToCall}
+use Rattle.stops_match.specs.Turning.{ComeToCall}
 use Rattle.stops_match.proofs.CallLemmas as before
 use Rattle.programs_agree.specs.Executing.{IsCalled, LoadedAlike, none_loaded, read_by_kernel}
 use Rattle.programs_agree.specs.Finding.{ProgramsAlike, no_program, one_program, texts_here}
@@ -85,8 +85,9 @@ use Rattle.execves_agree.proofs.EnteredLemmas as goes
 use Rattle.execves_agree.proofs.GoLemmas as go
 use Rattle.execves_agree.proofs.ReadingLemmas.{lists-keep}
 use Rattle.execves_agree.proofs.RewriteLemmas.{execves_are_rewritten}
+use Rattle.execves_agree.specs.Going.{GoesOn}
 use Rattle.execves_agree.specs.Rewriting.{edit_along}
-use Rattle.execves_together.specs.Following.{ExecvesGoTogether}
+use Rattle.execves_together.specs.Following.{ExecvesGoTogether, RunsNoScript}
 use Rattle.execves_together.proofs.ByteLemmas.{reached-bytes}
 use Rattle.execves_together.proofs.RuleLemmas as rules
 use Rattle.execves_together.proofs.SceneLemmas as scene
@@ -161,8 +162,9 @@ module _ {S : Type 0} (back : TextsAreReadBack) (hold : ShelvesHoldTheirItems) (
   abbrev here : Memory
   here = memory_of pid at
 
+  -- it keeps both machines together, with what is so of both kernels behind it
   abbrev Together : Type 0
-  Together = ComeFromCall table made (watched_call unwatched 1 table pid m) (watched_call tracer 0 plain pid n)
+  Together = GoesOn table pid m n made
 
   abbrev done : Result Program Errno
   done = (go.done table made pid m n c p q lives also calm path args env decoded).reply
@@ -485,10 +487,11 @@ module _ {S : Type 0} (back : TextsAreReadBack) (hold : ShelvesHoldTheirItems) (
           differ : b ∷ rest ≡ [] → ⊥
           differ e = cc
 
-pub execves_go_together : TextsAreReadBack → ShelvesHoldTheirItems → (S : Type 0) → ExecvesGoTogether S
-execves_go_together back hold S table made pid m n path args env c decoded noscript calm = by (process pid m.state) refl c.lives
+pub execves_go_on : TextsAreReadBack → ShelvesHoldTheirItems → {S : Type 0} (table : List Row) (made pid : ℕ) (m : Machine S) (n : Machine Tracing) (path : List ℕ) (args env : ℕ) → ComeToCall table made pid m n
+    → (decoded_at (calling 1 pid m.state)).reply ≡ Ok (call.Execve path args env) → RunsNoScript table pid m n path args env → (watched_call unwatched 1 table pid m).tally.broken ≡ None → GoesOn table pid m n made
+execves_go_on back hold table made pid m n path args env c decoded noscript calm = by (process pid m.state) refl c.lives
   where
-    by : (o : Option (Process ℕ Image)) → process pid m.state ≡ o → IsSome o → ComeFromCall table made (watched_call unwatched 1 table pid m) (watched_call tracer 0 plain pid n)
+    by : (o : Option (Process ℕ Image)) → process pid m.state ≡ o → IsSome o → GoesOn table pid m n made
     by None none some = absurd cc
     by (Some p) lives some =
         let q = lives_too table n.watcher.tags pid m.state n.state p c.matches.states lives in
@@ -496,3 +499,6 @@ execves_go_together back hold S table made pid m n path args env c decoded noscr
         (subst
         (λ t. (lists : Lists) (y : Expanded) → (read_by_kernel args env (memory_of pid t)).reply ≡ Ok lists → expanded_at (texts_here table t pid n.watcher.tags) pid (bytes_with_ends lists.env) path lists.args ≡ Ok y → y.scripts ≡ 0)
         (go.at_is table made pid m n c p q.0 lives q.1 calm path args env decoded) noscript)
+
+pub execves_go_together : TextsAreReadBack → ShelvesHoldTheirItems → (S : Type 0) → ExecvesGoTogether S
+execves_go_together back hold S table made pid m n path args env c decoded noscript calm = (execves_go_on back hold table made pid m n path args env c decoded noscript calm).together

@@ -7,7 +7,7 @@ use Rattle.std.proofs.lemmas.Bool.Decides.{nat_tests}
 use Rattle.std.proofs.lemmas.List.{length-set}
 use Rattle.pr_base.proofs.MapLemmas.{get-insert_same}
 use Rattle.pr_base.specs.declared.errno.Errno.{Errno}
-use Rattle.pr_base.specs.declared.errno.Errno.TheVariants.{EFAULT, ENOSYS}
+use Rattle.pr_base.specs.declared.errno.Errno.TheVariants.{EFAULT}
 use Rattle.rv_mem.specs.Actions.{Action, AreEqualUnmarked, Done, MayUse, ReadBytes, WriteBytes, allows_uses, carried_out}
 use Rattle.rv_mem.specs.Memory.{Memory, after_read, with_pages}
 use Rattle.rv_mem.specs.Pages.{HoldsBytes, Pages, allows_all, bytes_from, written}
@@ -58,6 +58,7 @@ use Rattle.stops_match.proofs.CallLemmas.{own_image}
 use Rattle.stops_match.proofs.PassLemmas.{arguments_back}
 use Rattle.stops_match.proofs.RegisterLemmas.{put_beside, put_there}
 use Rattle.stops_match.proofs.SwapLemmas.{poked_stays}
+use Rattle.execves_agree.proofs.BegunLemmas.{nonzero}
 use Rattle.execves_agree.proofs.EnteredLemmas as goes
 use Rattle.execves_agree.proofs.GoLemmas as go
 use Rattle.execves_together.proofs.RuleLemmas as rules
@@ -68,11 +69,6 @@ set-set : (xs : List ℕ) (k a b : ℕ) → slice_set (slice_set xs k a) k b ≡
 set-set [] k a b = refl
 set-set (x ∷ xs) zero a b = refl
 set-set (x ∷ xs) (suc k) a b = ap (λ rest. x ∷ rest) (set-set xs k a b)
-
--- the answer of a refused call isn't 0
-nonzero : (e : Errno) → word_of (refusal e) == 0 ≡ false
-nonzero ENOSYS = refl
-nonzero _ = refl
 
 -- what is told goes by the pages alone
 same-reply : {A : Type 0} (a : Action A) (m w : Memory) → m.pages ≡ w.pages → (carried_out a m).reply ≡ (carried_out a w).reply
