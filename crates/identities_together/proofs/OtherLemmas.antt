@@ -92,7 +92,7 @@ module _ (back : TextsAreReadBack) (shelves : ShelvesHoldTheirItems) (table : Li
     goes : (r : Request) → (decoded_at (calling 1 pid m.state)).reply ≡ Ok r → is_told_of_paths r ≡ true → GoesAlongUntold table made pid m n r
     goes r decoded told = let both = untold_goes r decoded told in record { answers = both.0; root = known r decoded; together = both.1 }
 
-  along : (r : Request) → (decoded_at (calling 1 pid m.state)).reply ≡ Ok r → is_told_of_paths r ≡ true → GoesTogether table made pid m n
+  pub along : (r : Request) → (decoded_at (calling 1 pid m.state)).reply ≡ Ok r → is_told_of_paths r ≡ true → GoesTogether table made pid m n
   along r decoded told = by (process pid m.state) refl c.lives
     where
       by : (o : Option (Process ℕ Image)) → process pid m.state ≡ o → IsSome o → (watched_call faker 1 table pid m).tally.broken ≡ None → ComeFromFakedCall table made (watched_call faker 1 table pid m) (watched_call tracer 0 plain pid n)

@@ -1,4 +1,4 @@
--- What is put of a calm run of one program over mounts is put of the run that a tracer watches.
+-- What is put of a calm run without scripts over mounts is put of the run that a tracer watches.
 use Rattle.std.proofs.Common.{◌≡◌, ℕ, List, None, refl, sym, ap, ◌∙◌}
 use Rattle.std.specs.Prelude.{Result, Ok, Err}
 use Rattle.pr_base.specs.declared.errno.Errno.{Errno}

@@ -1,4 +1,4 @@
--- What is put of a calm run of one program over mounts, whose watcher tells an identity, is put of the run that a tracer watches.
+-- What is put of a calm run without scripts over mounts, whose watcher tells an identity, is put of the run that a tracer watches.
 use Rattle.std.proofs.Common.{◌≡◌, ℕ, zero, suc, List, Some, None, refl, sym, ap, subst, ◌∙◌}
 use Rattle.std.specs.Prelude.{Bool, Result, Ok, Err}
 use Rattle.pr_base.specs.declared.errno.Errno.{Errno}
@@ -26,15 +26,15 @@ use Rattle.kr_turns.specs.Stopped.{Stopped}
 use Rattle.turns_match.specs.Runs.{EachTurn}
 use Rattle.turns_match.proofs.ComeLemmas.{run_unbroken}
 use Rattle.stops_match.specs.Together.{makes_allowed}
-use Rattle.paths_together.specs.Calls.{asks_no_execve}
+use Rattle.execves_together.specs.Scripts.{asks_no_script}
 use Rattle.identities_match.proofs.RunLemmas.{faked_runs_come_alike}
-use Rattle.identities_together.proofs.OtherLemmas.{other_faked_calls_go_together}
+use Rattle.machines_agree.proofs.FakedCallLemmas.{faked_calls_go_together}
 use Rattle.starts_match.specs.Starts.{beginning_reach}
 use Rattle.starts_match.proofs.StartLemmas.{beginnings-are-judged}
 use Rattle.starts_run.specs.FakedStarts.{BeginToRunFaked, CanComeAlikeFaked, with_faking}
 use Rattle.starts_run.proofs.FakedLemmas.{faked-starts-can-run}
 use Rattle.machines_agree.specs.Agreeing.{CanBeTold, IsCalm, mounted, traced}
-use Rattle.machines_agree.specs.FakedAgreeing.{FakedMachinesAgree, IsToldFaked, RunsWatchedProgram}
+use Rattle.machines_agree.specs.FakedAgreeing.{FakedMachinesAgree, IsToldFaked, RunsNoScriptsWatched}
 use Rattle.machines_agree.specs.Watching.{as_faked, ran_faked}
 use Rattle.machines_agree.proofs.FakedLemmas.{fakers_watch, turns_faked}
 use Rattle.machines_agree.proofs.ReportLemmas.{reports_are_alike}
@@ -60,15 +60,15 @@ module _ (back : TextsAreReadBack) (shelves : ShelvesHoldTheirItems) (plan : Pla
   calm_start : (m : Machine Watch) → beginning table tree user who launch input ≡ Ok m → IsCalm plan table m → broken_at_start (beginning_reach table tree user who launch) ≡ None
   calm_start m is calm = sym (beginnings-are-judged table tree user who launch input m is) ∙ run_unbroken watch table (slot_of plan.schedule) plan.turns 0 m calm
 
-  runs_agree : (m : Machine Watch) (n : Machine Tracing) (f : Faking) → m.watcher ≡ Faked f → CanComeAlikeFaked table (with_faking f m) n → RunsWatchedProgram plan table m → IsCalm plan table m → report_of plan (mounted plan table m) ≡ report_of plan (traced plan n)
+  runs_agree : (m : Machine Watch) (n : Machine Tracing) (f : Faking) → m.watcher ≡ Faked f → CanComeAlikeFaked table (with_faking f m) n → RunsNoScriptsWatched plan table m → IsCalm plan table m → report_of plan (mounted plan table m) ≡ report_of plan (traced plan n)
   runs_agree m n f watched both one calm =
       let slots = slot_of plan.schedule in
       let ran = run faker 1 table slots plan.turns (with_faking f m) in
       let same : mounted plan table m ≡ ran_faked ran = fakers_watch 1 table slots plan.turns m f watched in
       let is : m ≡ as_faked (with_faking f m) = λ i. record { state = m.state; watcher = watched i; tally = m.tally } in
       let come =
-      faked_runs_come_alike asks_no_execve anything goes_by_bytes table slots (other_faked_calls_go_together back shelves table) both.can plan.turns (with_faking f m) n can.few both.together both.keeps
-      (each_faked asks_no_execve table slots plan.turns 0 (with_faking f m) (subst (λ m. RunsWatchedProgram plan table m) is one)) (sym (ap (λ (ran : Ran Watch). ran.machine.tally.broken) same) ∙ calm) in
+      faked_runs_come_alike (asks_no_script table) anything goes_by_bytes table slots (faked_calls_go_together back shelves table) both.can plan.turns (with_faking f m) n can.few both.together both.keeps
+      (each_faked (asks_no_script table) table slots plan.turns 0 (with_faking f m) (subst (λ m. RunsNoScriptsWatched plan table m) is one)) (sym (ap (λ (ran : Ran Watch). ran.machine.tally.broken) same) ∙ calm) in
       ap (report_of plan) same ∙ reports_are_alike Watch Tracing plan (ran_faked ran) (traced plan n) can.quiet (record { puts = come.puts; endings = come.endings; statuses = come.statuses; trees = come.trees })
 
   by_beginnings : (r : Result (Machine Watch) Errno) → beginning table tree user who launch input ≡ r → (q : Result (Machine Tracing) Errno) → traced_beginning (texts_of table) tree user (Some (uid, gid)) launch input ≡ q

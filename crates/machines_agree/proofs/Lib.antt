@@ -1,5 +1,6 @@
 pub mod AgreeLemmas
 pub mod CallLemmas
+pub mod FakedCallLemmas
 pub mod FakedAgreeLemmas
 pub mod FakedLemmas
 pub mod NobodyLemmas

@@ -21,13 +21,13 @@ use Rattle.pt_tracer.specs.Faking.{starting_faking}
 use Rattle.pt_watched.specs.Watched.{Tracing}
 use Rattle.turns_match.specs.Runs.{EachTurn}
 use Rattle.stops_match.specs.Together.{makes_allowed}
-use Rattle.paths_together.specs.Calls.{asks_no_execve}
+use Rattle.execves_together.specs.Scripts.{asks_no_script}
 use Rattle.starts_match.specs.Starts.{beginning_reach}
 use Rattle.machines_agree.specs.Agreeing.{CanBeTold, IsCalm, mounted, traced}
 
--- a run over mounts in which no turn executes a program, whoever watches
-abbrev pub RunsWatchedProgram : Plan → List Row → Machine Watch → Type 0
-RunsWatchedProgram plan table m = EachTurn watch table (slot_of plan.schedule) (λ made. makes_allowed asks_no_execve (slot_of plan.schedule made)) plan.turns 0 m
+-- a run over mounts in which no turn executes a script, whoever watches
+abbrev pub RunsNoScriptsWatched : Plan → List Row → Machine Watch → Type 0
+RunsNoScriptsWatched plan table m = EachTurn watch table (slot_of plan.schedule) (λ made. makes_allowed (asks_no_script table) (slot_of plan.schedule made)) plan.turns 0 m
 
 -- ---- both
 
@@ -39,9 +39,9 @@ module _ (plan : Plan) (table : List Row) (tree : Tree) (user : User) (uid gid :
   abbrev pub faked_start : Result (Machine Tracing) Errno
   faked_start = traced_beginning (texts_of table) tree user (Some (uid, gid)) launch input
 
-  -- a calm run of one program is told, or the error of a start whose walks are calm
+  -- a calm run without scripts is told, or the error of a start whose walks are calm
   abbrev pub IsToldFaked : Result (Machine Watch) Errno → Type 0
-  IsToldFaked (Ok m) = RunsWatchedProgram plan table m → IsCalm plan table m → (n : Machine Tracing) × (faked_start ≡ Ok n) × (report_of plan (mounted plan table m) ≡ report_of plan (traced plan n))
+  IsToldFaked (Ok m) = RunsNoScriptsWatched plan table m → IsCalm plan table m → (n : Machine Tracing) × (faked_start ≡ Ok n) × (report_of plan (mounted plan table m) ≡ report_of plan (traced plan n))
   IsToldFaked (Err e) = broken_at_start (beginning_reach table tree user faker_of launch) ≡ None → faked_start ≡ Err e
 
 -- so what a tracer does with an identity is what mounts and a watcher of identities do
