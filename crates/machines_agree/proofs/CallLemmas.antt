@@ -1,6 +1,5 @@
 -- Every call of a calm run without scripts keeps both machines together.
-use Rattle.std.proofs.Common.{◌≡◌, ℕ, true, List, None, Result, Ok, Err, refl, ap, ◌∙◌}
-use Rattle.pr_base.specs.declared.errno.Errno.{Errno}
+use Rattle.std.proofs.Common.{◌≡◌, ℕ, true, List, None, Ok, Err, refl, ap, ◌∙◌}
 use Rattle.pt_args.specs.Laws.{ShelvesHoldTheirItems, TextsAreReadBack}
 use Rattle.kr_calls.specs.Decoding.{Decoded}
 use Rattle.kr_calls.specs.declared.request.Request.{Request}
