@@ -23,6 +23,7 @@ use Rattle.pr_watch.specs.declared.watch.Watch.TheVariants.{Nobody}
 use Rattle.pt_bytes.specs.Watchers.{goes_by_bytes}
 use Rattle.pt_watched.specs.Watched.{Tracing}
 use Rattle.turns_match.proofs.ComeLemmas.{run_unbroken}
+use Rattle.stops_match.specs.Together.{makes_allowed}
 use Rattle.stops_match.proofs.TogetherLemmas.{traced_runs_come_alike}
 use Rattle.execves_together.specs.Scripts.{asks_no_script}
 use Rattle.machines_agree.proofs.CallLemmas.{calls_go_together}
@@ -32,7 +33,7 @@ use Rattle.starts_run.specs.Starts.{BeginToRun, CanComeAlike}
 use Rattle.starts_run.proofs.BeginLemmas.{starts-can-run}
 use Rattle.starts_run.proofs.WatchedLemmas.{beginning_watched}
 use Rattle.machines_agree.specs.Agreeing.{CanBeTold, IsCalm, IsToldToo, MachinesAgree, RunsNoScripts, mounted, traced}
-use Rattle.machines_agree.proofs.NobodyLemmas.{nobody_watches}
+use Rattle.machines_agree.proofs.NobodyLemmas.{each_alone, nobody_watches}
 use Rattle.machines_agree.proofs.ReportLemmas.{reports_are_alike}
 
 module _ (back : TextsAreReadBack) (shelves : ShelvesHoldTheirItems) (plan : Plan) (table : List Row) (tree : Tree) (user : User) (launch : Launch) (input : List ℕ) (can : CanBeTold plan table tree user launch input) where
@@ -43,7 +44,7 @@ module _ (back : TextsAreReadBack) (shelves : ShelvesHoldTheirItems) (plan : Pla
   runs_agree m n alone both one calm =
       let same : mounted plan table m ≡ run unwatched 1 table (slot_of plan.schedule) plan.turns m = nobody_watches 1 table (slot_of plan.schedule) plan.turns m alone in
       let come =
-      traced_runs_come_alike Watch (asks_no_script table) goes_by_bytes table (slot_of plan.schedule) (calls_go_together back shelves Watch table) both.can plan.turns m n can.few both.together both.keeps one
+      traced_runs_come_alike Watch (asks_no_script table) goes_by_bytes table (slot_of plan.schedule) (calls_go_together back shelves Watch table) both.can plan.turns m n can.few both.together both.keeps (each_alone table (slot_of plan.schedule) (λ made. makes_allowed (asks_no_script table) (slot_of plan.schedule made)) plan.turns 0 m alone one)
       (sym (ap (λ (ran : Ran Watch). ran.machine.tally.broken) same) ∙ calm) in
       ap (report_of plan) same ∙ reports_are_alike Watch Tracing plan (run unwatched 1 table (slot_of plan.schedule) plan.turns m) (traced plan n) can.quiet come
 

@@ -33,8 +33,8 @@ use Rattle.starts_match.specs.Starts.{beginning_reach}
 use Rattle.starts_match.proofs.StartLemmas.{beginnings-are-judged}
 use Rattle.starts_run.specs.FakedStarts.{BeginToRunFaked, CanComeAlikeFaked, with_faking}
 use Rattle.starts_run.proofs.FakedLemmas.{faked-starts-can-run}
-use Rattle.machines_agree.specs.Agreeing.{CanBeTold, IsCalm, mounted, traced}
-use Rattle.machines_agree.specs.FakedAgreeing.{FakedMachinesAgree, IsToldFaked, RunsNoScriptsWatched}
+use Rattle.machines_agree.specs.Agreeing.{CanBeTold, IsCalm, RunsNoScripts, mounted, traced}
+use Rattle.machines_agree.specs.FakedAgreeing.{FakedMachinesAgree, IsToldFaked}
 use Rattle.machines_agree.specs.Watching.{as_faked, ran_faked}
 use Rattle.machines_agree.proofs.FakedLemmas.{fakers_watch, turns_faked}
 use Rattle.machines_agree.proofs.ReportLemmas.{reports_are_alike}
@@ -60,7 +60,7 @@ module _ (back : TextsAreReadBack) (shelves : ShelvesHoldTheirItems) (plan : Pla
   calm_start : (m : Machine Watch) → beginning table tree user who launch input ≡ Ok m → IsCalm plan table m → broken_at_start (beginning_reach table tree user who launch) ≡ None
   calm_start m is calm = sym (beginnings-are-judged table tree user who launch input m is) ∙ run_unbroken watch table (slot_of plan.schedule) plan.turns 0 m calm
 
-  runs_agree : (m : Machine Watch) (n : Machine Tracing) (f : Faking) → m.watcher ≡ Faked f → CanComeAlikeFaked table (with_faking f m) n → RunsNoScriptsWatched plan table m → IsCalm plan table m → report_of plan (mounted plan table m) ≡ report_of plan (traced plan n)
+  runs_agree : (m : Machine Watch) (n : Machine Tracing) (f : Faking) → m.watcher ≡ Faked f → CanComeAlikeFaked table (with_faking f m) n → RunsNoScripts plan table m → IsCalm plan table m → report_of plan (mounted plan table m) ≡ report_of plan (traced plan n)
   runs_agree m n f watched both one calm =
       let slots = slot_of plan.schedule in
       let ran = run faker 1 table slots plan.turns (with_faking f m) in
@@ -68,7 +68,7 @@ module _ (back : TextsAreReadBack) (shelves : ShelvesHoldTheirItems) (plan : Pla
       let is : m ≡ as_faked (with_faking f m) = λ i. record { state = m.state; watcher = watched i; tally = m.tally } in
       let come =
       faked_runs_come_alike (asks_no_script table) anything goes_by_bytes table slots (faked_calls_go_together back shelves table) both.can plan.turns (with_faking f m) n can.few both.together both.keeps
-      (each_faked (asks_no_script table) table slots plan.turns 0 (with_faking f m) (subst (λ m. RunsNoScriptsWatched plan table m) is one)) (sym (ap (λ (ran : Ran Watch). ran.machine.tally.broken) same) ∙ calm) in
+      (each_faked (asks_no_script table) table slots plan.turns 0 (with_faking f m) (subst (λ m. RunsNoScripts plan table m) is one)) (sym (ap (λ (ran : Ran Watch). ran.machine.tally.broken) same) ∙ calm) in
       ap (report_of plan) same ∙ reports_are_alike Watch Tracing plan (ran_faked ran) (traced plan n) can.quiet (record { puts = come.puts; endings = come.endings; statuses = come.statuses; trees = come.trees })
 
   by_beginnings : (r : Result (Machine Watch) Errno) → beginning table tree user who launch input ≡ r → (q : Result (Machine Tracing) Errno) → traced_beginning (texts_of table) tree user (Some (uid, gid)) launch input ≡ q

@@ -9,7 +9,6 @@ use Rattle.kr_tree.specs.Lawful.{AreBytes}
 use Rattle.kr_tree.specs.Tree.{Tree}
 use Rattle.kr_turns.specs.Run.{Ran, run}
 use Rattle.kr_turns.specs.Turn.{Machine}
-use Rattle.kr_turns.specs.Watching.{unwatched}
 use Rattle.kr_view.specs.View.{Row, plain}
 use Rattle.pr_run.specs.Report.{report_of}
 use Rattle.pr_run.specs.Slots.{slot_of}
@@ -42,7 +41,7 @@ IsCalm plan table m = (mounted plan table m).machine.tally.broken ≡ None
 
 -- and one in which no turn executes a script
 abbrev pub RunsNoScripts : Plan → List Row → Machine Watch → Type 0
-RunsNoScripts plan table m = EachTurn unwatched table (slot_of plan.schedule) (λ made. makes_allowed (asks_no_script table) (slot_of plan.schedule made)) plan.turns 0 m
+RunsNoScripts plan table m = EachTurn watch table (slot_of plan.schedule) (λ made. makes_allowed (asks_no_script table) (slot_of plan.schedule made)) plan.turns 0 m
 
 -- ---- both
 

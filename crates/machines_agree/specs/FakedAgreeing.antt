@@ -10,24 +10,15 @@ use Rattle.kr_tree.specs.Tree.{Tree}
 use Rattle.kr_turns.specs.Turn.{Machine}
 use Rattle.kr_view.specs.View.{Row}
 use Rattle.pr_run.specs.Report.{report_of}
-use Rattle.pr_run.specs.Slots.{slot_of}
 use Rattle.pr_run.specs.declared.plan.Plan.{Plan}
 use Rattle.pr_start.specs.Beginning.{beginning}
 use Rattle.pr_traced.specs.TracedBeginning.{traced_beginning}
-use Rattle.pr_watch.specs.Watches.{watch}
 use Rattle.pr_watch.specs.declared.watch.Watch.{Watch}
 use Rattle.pr_watch.specs.declared.watch.Watch.TheVariants.{Faked}
 use Rattle.pt_tracer.specs.Faking.{starting_faking}
 use Rattle.pt_watched.specs.Watched.{Tracing}
-use Rattle.turns_match.specs.Runs.{EachTurn}
-use Rattle.stops_match.specs.Together.{makes_allowed}
-use Rattle.execves_together.specs.Scripts.{asks_no_script}
 use Rattle.starts_match.specs.Starts.{beginning_reach}
-use Rattle.machines_agree.specs.Agreeing.{CanBeTold, IsCalm, mounted, traced}
-
--- a run over mounts in which no turn executes a script, whoever watches
-abbrev pub RunsNoScriptsWatched : Plan → List Row → Machine Watch → Type 0
-RunsNoScriptsWatched plan table m = EachTurn watch table (slot_of plan.schedule) (λ made. makes_allowed (asks_no_script table) (slot_of plan.schedule made)) plan.turns 0 m
+use Rattle.machines_agree.specs.Agreeing.{CanBeTold, IsCalm, RunsNoScripts, mounted, traced}
 
 -- ---- both
 
@@ -41,7 +32,7 @@ module _ (plan : Plan) (table : List Row) (tree : Tree) (user : User) (uid gid :
 
   -- a calm run without scripts is told, or the error of a start whose walks are calm
   abbrev pub IsToldFaked : Result (Machine Watch) Errno → Type 0
-  IsToldFaked (Ok m) = RunsNoScriptsWatched plan table m → IsCalm plan table m → (n : Machine Tracing) × (faked_start ≡ Ok n) × (report_of plan (mounted plan table m) ≡ report_of plan (traced plan n))
+  IsToldFaked (Ok m) = RunsNoScripts plan table m → IsCalm plan table m → (n : Machine Tracing) × (faked_start ≡ Ok n) × (report_of plan (mounted plan table m) ≡ report_of plan (traced plan n))
   IsToldFaked (Err e) = broken_at_start (beginning_reach table tree user faker_of launch) ≡ None → faked_start ≡ Err e
 
 -- so what a tracer does with an identity is what mounts and a watcher of identities do

@@ -1,0 +1,73 @@
+-- What is begun over mounts and with a tracer is what both machines agree on.
+use Rattle.std.proofs.Common.{◌≡◌, ◌≤◌, ◌^◌, ℕ, true, false, List, Option, Some, None, Result, Ok, Err, refl, sym, ap, subst, ◌∙◌}
+use Rattle.pr_base.specs.declared.errno.Errno.{Errno}
+use Rattle.kr_calm.specs.Calm.{broken_at_start}
+use Rattle.kr_mounts.specs.Standing.{texts_of}
+use Rattle.kr_view.specs.View.{Row}
+use Rattle.kr_turns.specs.Turn.{Machine}
+use Rattle.pr_answer.specs.declared.answer.Answer.{Answer}
+use Rattle.pr_sources.specs.declared.reading.Asked.{Asked}
+use Rattle.pr_start.specs.Beginning.{beginning}
+use Rattle.pr_traced.specs.TracedBeginning.{traced_beginning}
+use Rattle.pr_watch.specs.declared.watch.Watch.{Watch}
+use Rattle.pt_watched.specs.Watched.{Tracing}
+use Rattle.swaps_read.specs.Points.{PointsAreShort}
+use Rattle.starts_match.specs.Starts.{beginning_reach}
+use Rattle.starts_given.specs.Given.{CanBegin, settled_in}
+use Rattle.starts_given.proofs.GivenLemmas.{given-is-opening}
+use Rattle.machines_agree.specs.Agreeing.{CanBeTold, IsToldToo, MachinesAgree}
+use Rattle.machines_agree.specs.FakedAgreeing.{FakedMachinesAgree, IsToldFaked}
+use Rattle.pr_top.specs.Opening.{Begun, Mounts, Traced, begun_as, launch_of, over, plan_of, started_as, watch_for}
+use Rattle.openings_agree.specs.Openings.{IsCalmStart, IsToldAlike, OpeningsAgree, RefusalsAgree, asked_on, over_mounts, with_tracer}
+
+pub refusals_agree : RefusalsAgree
+refusals_agree a refusal refused = ap (over (asked_on false a) (settled_in a).tree) refused ∙ sym (ap (over (asked_on true a) (settled_in a).tree) refused)
+
+module _ (machines : MachinesAgree) (faked : FakedMachinesAgree) (a : Asked) (table : List Row) (can : CanBegin a table) (short : PointsAreShort table) (few : a.options.turns ≤ 2 ^ 31) (quiet : a.options.calm ≡ false) where
+  told : CanBeTold (plan_of a) table (settled_in a).tree a.user (launch_of a) a.input
+  told = record {
+    opening = can.opening;
+    short = short;
+    words = record { command = can.words.command; env = can.words.env; cwd = can.words.cwd };
+    input_bytes = can.input;
+    few = few;
+    quiet = quiet;
+  }
+
+  -- the walks of a start, whoever watches
+  calm_as : (ids : Option (ℕ × ℕ)) → a.options.ids ≡ ids → IsCalmStart a table → broken_at_start (beginning_reach table (settled_in a).tree a.user (watch_for a.user ids) (launch_of a)) ≡ None
+  calm_as ids is calm = subst (λ ids. broken_at_start (beginning_reach table (settled_in a).tree a.user (watch_for a.user ids) (launch_of a)) ≡ None) is calm
+
+  abbrev mounted_start : Option (ℕ × ℕ) → Result (Machine Watch) Errno
+  mounted_start ids = beginning table (settled_in a).tree a.user (watch_for a.user ids) (launch_of a) a.input
+
+  abbrev watched_start : Option (ℕ × ℕ) → Result (Machine Tracing) Errno
+  watched_start ids = traced_beginning (texts_of table) (settled_in a).tree a.user ids (launch_of a) a.input
+
+  abbrev traced : Result (Machine Tracing) Errno → Result Begun Answer
+  traced r = begun_as (plan_of a) (started_as Traced r)
+
+  -- without an identity
+  nobody : a.options.ids ≡ None → (r : Result (Machine Watch) Errno) → IsToldToo (plan_of a) table (settled_in a).tree a.user (launch_of a) a.input r → IsToldAlike a table (begun_as (plan_of a) (started_as (Mounts table) r)) (traced (watched_start None))
+  nobody is (Ok m) agrees = λ calm. let both = agrees calm.0 calm.1 in (record { plan = plan_of a; started = Traced both.0 }, ap traced both.1, both.2)
+  nobody is (Err e) agrees = λ calm. ap traced (agrees (calm_as None is calm))
+
+  -- and with one
+  somebody : (ids : ℕ × ℕ) → a.options.ids ≡ Some ids → (r : Result (Machine Watch) Errno) → IsToldFaked (plan_of a) table (settled_in a).tree a.user ids.0 ids.1 (launch_of a) a.input r
+      → IsToldAlike a table (begun_as (plan_of a) (started_as (Mounts table) r)) (traced (watched_start (Some ids)))
+  somebody ids is (Ok m) agrees = λ calm. let both = agrees calm.0 calm.1 in (record { plan = plan_of a; started = Traced both.0 }, ap traced both.1, both.2)
+  somebody ids is (Err e) agrees = λ calm. ap traced (agrees (calm_as (Some ids) is calm))
+
+  either : (ids : Option (ℕ × ℕ)) → a.options.ids ≡ ids → IsToldAlike a table (begun_as (plan_of a) (started_as (Mounts table) (mounted_start ids))) (traced (watched_start ids))
+  either None is = nobody is (mounted_start None) (machines (plan_of a) table (settled_in a).tree a.user (launch_of a) a.input told)
+  either (Some ids) is = somebody ids is (mounted_start (Some ids)) (faked (plan_of a) table (settled_in a).tree a.user ids.0 ids.1 (launch_of a) a.input told)
+
+  begun_alike : (settled_in a).answer ≡ Ok table → IsToldAlike a table (over_mounts a) (with_tracer a)
+  begun_alike settles =
+      let mounts : over_mounts a ≡ begun_as (plan_of a) (started_as (Mounts table) (mounted_start a.options.ids)) = ap (over (asked_on true a) (settled_in a).tree) settles in
+      let traces : with_tracer a ≡ traced (watched_start a.options.ids) = ap (over (asked_on false a) (settled_in a).tree) settles in
+      subst (λ one. IsToldAlike a table one (with_tracer a)) (sym mounts)
+      (subst (λ other. IsToldAlike a table (begun_as (plan_of a) (started_as (Mounts table) (mounted_start a.options.ids))) other) (sym traces) (either a.options.ids refl))
+
+pub openings_agree : MachinesAgree → FakedMachinesAgree → OpeningsAgree
+openings_agree machines faked words tree elf input o a table given short few quiet = begun_alike machines faked a table (given-is-opening words tree elf input o a table given) short few quiet given.settles
