@@ -1,5 +1,5 @@
 -- What is begun over mounts and with a tracer is what both machines agree on.
-use Rattle.std.proofs.Common.{◌≡◌, ◌≤◌, ◌^◌, ℕ, true, false, List, Option, Some, None, Result, Ok, Err, refl, sym, ap, subst, ◌∙◌}
+use Rattle.std.proofs.Common.{arith, ◌≡◌, ◌≤◌, ◌^◌, ℕ, true, false, List, Option, Some, None, Result, Ok, Err, refl, sym, ap, subst, ◌∙◌}
 use Rattle.pr_base.specs.declared.errno.Errno.{Errno}
 use Rattle.kr_calm.specs.Calm.{broken_at_start}
 use Rattle.kr_mounts.specs.Standing.{texts_of}
@@ -7,6 +7,8 @@ use Rattle.kr_view.specs.View.{Row}
 use Rattle.kr_turns.specs.Turn.{Machine}
 use Rattle.pr_answer.specs.declared.answer.Answer.{Answer}
 use Rattle.pr_sources.specs.declared.reading.Asked.{Asked}
+use Rattle.pr_sources.specs.Within.{Stage, and_then}
+use Rattle.pr_words.specs.declared.options.Options.{Options}
 use Rattle.pr_start.specs.Beginning.{beginning}
 use Rattle.pr_traced.specs.TracedBeginning.{traced_beginning}
 use Rattle.pr_watch.specs.declared.watch.Watch.{Watch}
@@ -14,23 +16,59 @@ use Rattle.pt_watched.specs.Watched.{Tracing}
 use Rattle.swaps_read.specs.Points.{PointsAreShort}
 use Rattle.starts_match.specs.Starts.{beginning_reach}
 use Rattle.starts_given.specs.Given.{CanBegin, settled_in}
+use Rattle.starts_given.proofs.SourceLemmas.{told-asked-is-of-listing}
 use Rattle.starts_given.proofs.GivenLemmas.{given-is-opening}
 use Rattle.machines_agree.specs.Agreeing.{CanBeTold, IsToldToo, MachinesAgree}
 use Rattle.machines_agree.specs.FakedAgreeing.{FakedMachinesAgree, IsToldFaked}
-use Rattle.pr_top.specs.Opening.{Begun, Mounts, Traced, begun_as, launch_of, over, plan_of, started_as, watch_for}
-use Rattle.openings_agree.specs.Openings.{IsCalmStart, IsToldAlike, OpeningsAgree, RefusalsAgree, asked_on, over_mounts, with_tracer}
+use Rattle.pr_top.specs.Opening.{Begun, Mounts, Traced, begun, begun_as, launch_of, opened_for, over, plan_of, started_as, watch_for}
+use Rattle.openings_agree.specs.Openings.{IsCalmStart, IsToldAlike, OpeningsAgree, RefusalsAgree, WordsBeginTraced, asked_on, over_mounts, with_tracer}
 
 pub refusals_agree : RefusalsAgree
 refusals_agree a refusal refused = ap (over (asked_on false a) (settled_in a).tree) refused ∙ sym (ap (over (asked_on true a) (settled_in a).tree) refused)
 
-module _ (machines : MachinesAgree) (faked : FakedMachinesAgree) (a : Asked) (table : List Row) (can : CanBegin a table) (short : PointsAreShort table) (few : a.options.turns ≤ 2 ^ 31) (quiet : a.options.calm ≡ false) where
+-- ---- the opening of words
+
+same_asked : (a : Asked) → a.options.native ≡ false → asked_on false a ≡ a
+same_asked a traced = λ i. record {
+  options = record {
+    root = a.options.root;
+    binds = a.options.binds;
+    cwd = a.options.cwd;
+    ids = a.options.ids;
+    env = a.options.env;
+    turns = a.options.turns;
+    schedule = a.options.schedule;
+    native = sym traced i;
+    calm = a.options.calm;
+    case = a.options.case;
+    command = a.options.command;
+  };
+  tree = a.tree;
+  user = a.user;
+  input = a.input;
+}
+
+pub words_begin_traced : WordsBeginTraced
+words_begin_traced words tree elf input o a table given alone plainly =
+    let told = told-asked-is-of-listing o tree elf input a given.elf_bytes given.input_bytes given.tells in
+    ap (λ (r : Result Options Answer). and_then (Some r) (λ options. opened_for options.case options tree elf input)) given.asks
+    ∙ ap (λ case. opened_for case o tree elf input) alone
+    ∙ ap (λ (stage : Stage Asked). and_then stage (λ asked. Some (begun asked))) given.tells
+    ∙ ap (λ a. Some (begun a)) (sym (same_asked a (ap (λ (o : Options). o.native) told.asked ∙ plainly)))
+
+-- ---- both machines
+
+few_turns : (turns : ℕ) → turns ≤ 10000000 → turns ≤ 2 ^ 31
+few_turns turns few = omega (arith, few)
+
+module _ (machines : MachinesAgree) (faked : FakedMachinesAgree) (a : Asked) (table : List Row) (can : CanBegin a table) (short : PointsAreShort table) (quiet : a.options.calm ≡ false) where
   told : CanBeTold (plan_of a) table (settled_in a).tree a.user (launch_of a) a.input
   told = record {
     opening = can.opening;
     short = short;
     words = record { command = can.words.command; env = can.words.env; cwd = can.words.cwd };
     input_bytes = can.input;
-    few = few;
+    few = few_turns a.options.turns can.sound.turns;
     quiet = quiet;
   }
 
@@ -70,4 +108,4 @@ module _ (machines : MachinesAgree) (faked : FakedMachinesAgree) (a : Asked) (ta
       (subst (λ other. IsToldAlike a table (begun_as (plan_of a) (started_as (Mounts table) (mounted_start a.options.ids))) other) (sym traces) (either a.options.ids refl))
 
 pub openings_agree : MachinesAgree → FakedMachinesAgree → OpeningsAgree
-openings_agree machines faked words tree elf input o a table given short few quiet = begun_alike machines faked a table (given-is-opening words tree elf input o a table given) short few quiet given.settles
+openings_agree machines faked words tree elf input o a table given short quiet = begun_alike machines faked a table (given-is-opening words tree elf input o a table given) short quiet given.settles

@@ -1,5 +1,5 @@
 -- The same words and sources on both machines: what they begin with a tracer is told as what they begin over mounts.
-use Rattle.std.specs.Prelude.{◌≡◌, ◌≤◌, ◌^◌, ℕ, Bool, true, false, List, Option, None, Result, Ok, Err}
+use Rattle.std.specs.Prelude.{◌≡◌, ℕ, Bool, true, false, List, Option, Some, None, Result, Ok, Err}
 use Rattle.kr_calm.specs.Calm.{broken_at_start}
 use Rattle.kr_mounts.specs.MountTable.{Refusal}
 use Rattle.kr_view.specs.View.{Row}
@@ -11,7 +11,7 @@ use Rattle.swaps_read.specs.Points.{PointsAreShort}
 use Rattle.starts_match.specs.Starts.{beginning_reach}
 use Rattle.starts_given.specs.Given.{AreGiven, settled_in}
 use Rattle.machines_agree.specs.Agreeing.{IsCalm, RunsNoScripts}
-use Rattle.pr_top.specs.Opening.{Begun, Both, Mounts, Started, Traced, begun, launch_of, report, watch_for}
+use Rattle.pr_top.specs.Opening.{Begun, Both, Mounts, Started, Traced, begun, launch_of, opening, report, watch_for}
 
 -- ---- the same on either machine
 
@@ -40,6 +40,12 @@ over_mounts a = begun (asked_on true a)
 abbrev pub with_tracer : Asked → Result Begun Answer
 with_tracer a = begun (asked_on false a)
 
+-- words that ask for no generated case, and not for mounts, begin with a tracer
+abbrev pub WordsBeginTraced : Type 0
+WordsBeginTraced =
+    (words : List (List ℕ)) (tree elf input : Option (List ℕ)) (o : Options) (a : Asked) (table : List Row) → AreGiven words tree elf input o a table → o.case ≡ None → o.native ≡ false
+    → opening words tree elf input ≡ Some (with_tracer a)
+
 -- ---- what is told of them
 
 -- a run over mounts that breaks no calm rule and executes no script
@@ -65,5 +71,5 @@ RefusalsAgree = (a : Asked) (refusal : Refusal) → (settled_in a).answer ≡ Er
 -- whether the run was calm
 abbrev pub OpeningsAgree : Type 0
 OpeningsAgree =
-    (words : List (List ℕ)) (tree elf input : Option (List ℕ)) (o : Options) (a : Asked) (table : List Row) → AreGiven words tree elf input o a table → PointsAreShort table → a.options.turns ≤ 2 ^ 31 → a.options.calm ≡ false
+    (words : List (List ℕ)) (tree elf input : Option (List ℕ)) (o : Options) (a : Asked) (table : List Row) → AreGiven words tree elf input o a table → PointsAreShort table → a.options.calm ≡ false
     → IsToldAlike a table (over_mounts a) (with_tracer a)

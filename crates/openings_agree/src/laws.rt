@@ -1,7 +1,12 @@
 //! Laws of what a call begins, each carried by a function that does nothing.
-ghost use Rattle.openings_agree.specs.Openings.{OpeningsAgree, RefusalsAgree};
+ghost use Rattle.openings_agree.specs.Openings.{OpeningsAgree, RefusalsAgree, WordsBeginTraced};
 
 use machines_agree::laws;
+
+/// Words that ask for no generated case, and not for mounts, begin a run on a plain kernel with a tracer.
+pub fn words_begin_traced()
+    ensures { WordsBeginTraced }
+{}
 
 /// Bindings that don't settle are refused with the same answer on both machines.
 pub fn refusals_agree()

@@ -22,7 +22,7 @@ use Rattle.kr_bytes.proofs.ListLemmas.{all-drop, bytes-tested, first-of, rest-of
 use Rattle.kr_allowed.proofs.PieceLemmas.{all-append}
 use Rattle.kr_listed.proofs.FieldLemmas.{FirstOf}
 use Rattle.pr_sources.specs.Asking.{asked_of}
-use Rattle.starts_given.specs.Asking.{AreOfBytes, AskedAreNumbered, AskedAreOfBytes, IsOfByteParts}
+use Rattle.starts_given.specs.Asking.{AreOfBytes, AskedAreSound, AskedAreOfBytes, IsOfByteParts}
 
 -- ---- values
 
@@ -268,5 +268,5 @@ asked-are-of-bytes words o are e =
     let all = reached-are (length words) words (so_far_of []) 1 line (omega arith) are none-broken (reached_first words) in
     subst IsRead (read-of (reading_of words) o e) (unbroken (option_map (λ at. at + 1) (position has_zero words)) ZeroByte line all)
 
-pub asked-are-numbered : AskedAreNumbered
-asked-are-numbered words o e = (answer_is_sound words (Ok o) (read-of (reading_of words) o e)).indices
+pub asked-are-sound : AskedAreSound
+asked-are-sound words o e = answer_is_sound words (Ok o) (read-of (reading_of words) o e)

@@ -3,8 +3,8 @@ use Rattle.std.specs.Prelude.{◌≡◌, ℕ, List, Ok}
 use Rattle.std.specs.List.{AllByRecursion}
 use Rattle.pr_base.specs.declared.bind.Bind.{Bind}
 use Rattle.kr_tree.specs.Lawful.{AreBytes}
-use Rattle.kr_mounts.specs.Bounds.{AreNumbered}
 use Rattle.kr_bytes.specs.Bytes.{AreAllBytes}
+use Rattle.pr_words.specs.Sound.{AreSound}
 use Rattle.pr_words.specs.declared.options.Options.{Options}
 use Rattle.pr_sources.specs.Asking.{asked}
 
@@ -23,6 +23,6 @@ pub record AreOfBytes (o : Options) : Type 0 where
 abbrev pub AskedAreOfBytes : Type 0
 AskedAreOfBytes = (words : List (List ℕ)) (o : Options) → AreAllBytes words → asked words ≡ Ok o → AreOfBytes o
 
--- bindings have their numbers
-abbrev pub AskedAreNumbered : Type 0
-AskedAreNumbered = (words : List (List ℕ)) (o : Options) → asked words ≡ Ok o → AreNumbered o.binds
+-- and they are within their limits
+abbrev pub AskedAreSound : Type 0
+AskedAreSound = (words : List (List ℕ)) (o : Options) → asked words ≡ Ok o → AreSound o

@@ -4,6 +4,7 @@ use Rattle.kr_tree.specs.Lawful.{AreBytes}
 use Rattle.kr_view.specs.View.{Row}
 use Rattle.kr_mounts.specs.MountTable.{Settling, settling}
 use Rattle.kr_bytes.specs.Bytes.{AreAllBytes}
+use Rattle.pr_words.specs.Sound.{AreSound}
 use Rattle.pr_words.specs.declared.options.Options.{Options}
 use Rattle.pr_sources.specs.Asking.{asked}
 use Rattle.pr_sources.specs.Reading.{told_asked}
@@ -18,6 +19,7 @@ settled_in a = settling a.tree a.user a.options.root a.options.binds
 pub record CanBegin (a : Asked) (table : List Row) : Type 0 where
   pub opening : IsOpening (settled_in a).tree a.user table
   pub words : AreOfBytes a.options
+  pub sound : AreSound a.options
   pub input : AreBytes a.input
 
 -- words and sources of bytes. More mounts than this have no numbers in a kernel

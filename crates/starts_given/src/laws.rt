@@ -1,5 +1,5 @@
 //! Laws of what runs begin on, each carried by a function that does nothing.
-ghost use Rattle.starts_given.specs.Asking.{AskedAreNumbered, AskedAreOfBytes};
+ghost use Rattle.starts_given.specs.Asking.{AskedAreSound, AskedAreOfBytes};
 ghost use Rattle.starts_given.specs.Given.{GivenIsOpening};
 ghost use Rattle.starts_given.specs.Listings.{ReadTreesAreKept, ToldAskedIsOfListing};
 ghost use Rattle.starts_given.specs.Openings.{SettledIsOpening, SettledTreesHaveBytes};
@@ -24,9 +24,9 @@ pub fn asked_are_of_bytes()
     ensures { AskedAreOfBytes }
 {}
 
-/// Bindings that words ask for have their numbers as indices.
-pub fn asked_are_numbered()
-    ensures { AskedAreNumbered }
+/// Words ask for options that are within their limits.
+pub fn asked_are_sound()
+    ensures { AskedAreSound }
 {}
 
 /// Settling bindings of bytes leaves a tree of bytes.
