@@ -1,0 +1,3 @@
+pub mod ReadLemmas
+pub mod CopyLemmas
+pub mod BareLemmas
