@@ -12,7 +12,7 @@ use Rattle.pr_base.proofs.EndLemmas.{same_target}
 use Rattle.kr_tree.specs.declared.place.Place.{Place}
 use Rattle.kr_view.specs.declared.target.Reach.{Reach}
 use Rattle.kr_view.specs.Component.{SeenPlace, Surroundings, look_up}
-use Rattle.kr_view.specs.Names.{component_name, directory_name, landing_name}
+use Rattle.kr_view.specs.Names.{component_name, directory_name, entry_name, landing_name}
 use Rattle.kr_view.specs.Reach.{beginning_name, end_reach, free_target_name, landings_reach, look_reach, looks_reach, raised, reach_after, reached_landing, seen_name, text_length}
 use Rattle.kr_view.specs.Walk.{PlaceTarget, PlaceTrail, looking, place_walk}
 use Rattle.kr_view.proofs.ReachLemmas.{behind_jump, covers_after, raised_more}
@@ -33,7 +33,9 @@ raised_has (Some own) n = record { go = λ t is. let same : own ≡ t = cc in su
 module _ (around : Surroundings) where
   -- what was counted of a target that a component showed
   abbrev pub CountedShown : ℕ → PlaceTarget → Type 0
-  CountedShown n t = (c : Component) × (kind_of c ≡ t.last) × (name_of c ≡ t.name) × IsWithin n (seen_name (component_name around.space t.dir c) (look_up around t.dir c))
+  CountedShown n t =
+      (c : Component) × (kind_of c ≡ t.last) × (name_of c ≡ t.name) × IsWithin n (seen_name (component_name around.space t.dir c) (look_up around t.dir c))
+      × IsWithin n (seen_name (entry_name around.space t.dir.host c) (look_up around t.dir c))
 
   -- and of one to which a process link led
   abbrev pub CountedLanding : ℕ → PlaceTarget → Type 0
@@ -48,7 +50,7 @@ module _ (around : Surroundings) where
   counted_more : (n m : ℕ) (t : PlaceTarget) → n ≤ m → IsCounted n t → IsCounted m t
   counted_more n m t more counted = record {
     dir = λ jumped root. within_more n m _ more (counted.dir jumped root);
-    shown = λ jumped root. let own = counted.shown jumped root in (own.0, own.1, own.2, within_more n m _ more own.3);
+    shown = λ jumped root. let own = counted.shown jumped root in (own.0, own.1, own.2, within_more n m _ more own.3, within_more n m _ more own.4);
     landing = λ jumped. let own = counted.landing jumped in (own.0, own.1, own.2, own.3, own.4, own.5, within_more n m _ more own.6);
   }
 
@@ -78,15 +80,25 @@ module _ (around : Surroundings) where
   record IsLooked (s : Place ℕ) (c : Component) (n : ℕ) : Type 0 where
     dir : IsWithin n (directory_name around.space s.host)
     shown : IsWithin n (seen_name (component_name around.space s c) (look_up around s c))
+    entry : IsWithin n (seen_name (entry_name around.space s.host c) (look_up around s c))
 
   looked : (s : Place ℕ) (c : Component) (is_last : Bool) (r : Reach) → IsLooked s c (look_reach around (record { place = s; component = c; is_last = is_last }) r).longest
   looked s c is_last r =
       let dir = directory_name around.space s.host in
       let name = seen_name (component_name around.space s c) (look_up around s c) in
-      record { dir = within_more (raised dir r.longest) _ dir (raised_more name (raised dir r.longest)) (raised_has dir r.longest); shown = raised_has name (raised dir r.longest) }
+      let entry = seen_name (entry_name around.space s.host c) (look_up around s c) in
+      let own = raised dir r.longest in
+      let both = raised name own in
+      let last = raised_more entry both in
+      let more = raised_more name own in
+      record {
+        dir = within_more own (raised entry both) dir (omega (arith, last, more)) (raised_has dir r.longest);
+        shown = within_more both (raised entry both) name last (raised_has name own);
+        entry = raised_has entry both;
+      }
 
   at_component : (s : Place ℕ) (c : Component) (slash : Bool) (found : Option (Place ℕ)) (n : ℕ) → IsLooked s c n → IsCounted n (target_at s c slash found)
-  at_component s c slash found n look = record { dir = λ _ _. look.dir; shown = λ _ _. (c, refl, refl, look.shown); landing = λ jumped. absurd cc }
+  at_component s c slash found n look = record { dir = λ _ _. look.dir; shown = λ _ _. (c, refl, refl, look.shown, look.entry); landing = λ jumped. absurd cc }
 
   at_beginning : (s : Place ℕ) (slash : Bool) (n : ℕ) → IsCounted n (here (looking around) s slash)
   at_beginning s slash n = record { dir = λ _ root. absurd (root refl); shown = λ _ root. absurd (root refl); landing = λ jumped. absurd cc }

@@ -16,7 +16,7 @@ use Rattle.kr_model.specs.Known.{known}
 use Rattle.kr_model.specs.Operation.{operation}
 use Rattle.kr_model.specs.State.{Image, Process, State, image_layout, process}
 use Rattle.kr_model.specs.Walks.{seen}
-use Rattle.kr_answers.specs.Carrying.{memory_of}
+use Rattle.kr_seen.specs.Carrying.{memory_of}
 use Rattle.kr_calm.specs.Shelf.{has_path, is_usable, lacks_shelf_by, shelf_size, shelved_by, stack_pointer}
 use Rattle.kr_execve.specs.Execution.{execution}
 use Rattle.kr_steps.specs.Computing.{computed}

@@ -9,7 +9,6 @@ use Rattle.pr_base.specs.declared.path.Last.{Last}
 use Rattle.pr_base.specs.declared.path.Last.TheVariants as last
 use Rattle.pr_base.specs.declared.path.WalkMode.{WalkMode}
 use Rattle.pr_base.proofs.AlikeLemmas.{alike_some}
-use Rattle.pt_bind.specs.Binding.{located}
 use Rattle.kr_tree.specs.Names.{host_name}
 use Rattle.kr_tree.specs.Tree.{Tree, body_is, is_directory}
 use Rattle.kr_tree.specs.declared.place.Host.TheVariants.{Node}
@@ -17,7 +16,7 @@ use Rattle.kr_tree.specs.declared.place.Place.{Place}
 use Rattle.kr_tree.proofs.NameLemmas.{some_is}
 use Rattle.kr_view.specs.declared.target.Reach.{Reach}
 use Rattle.kr_view.specs.Component.{Namespace, SeenPlace, is_directory_at, landing, look_up}
-use Rattle.kr_view.specs.Names.{below, component_name, directory_name, landing_name, led_to_name}
+use Rattle.kr_view.specs.Names.{below, component_name, directory_name, entry_name, landing_name, led_to_name}
 use Rattle.kr_view.specs.Reach.{beginning_name, free_target_name, reach_after, seen_name, text_length}
 use Rattle.kr_view.specs.View.{node_in}
 use Rattle.kr_view.specs.Walk.{PlaceTarget, looking, place_walk}
@@ -31,7 +30,6 @@ use Rattle.walks_agree.specs.Settled.{IsSettled, host_text}
 use Rattle.walks_agree.specs.Standing.{FoundStands, Stands, reached_in}
 use Rattle.walks_agree.proofs.HandedLemmas.{alike, directory_on, found_stands, last_dot, last_dot_dot, last_name, shows_inside, text_target_named}
 use Rattle.walks_agree.proofs.StandingLemmas.{host_called, standing_places_are_called}
-use Rattle.walks_agree.proofs.TableLemmas.{host_none}
 use Rattle.walks_agree.proofs.UpLemmas.{goes_up}
 use Rattle.answers_agree.specs.Short.{ReachedTextsAreShort}
 use Rattle.answers_agree.proofs.CountLemmas.{IsCounted, IsWithin, beginning_counted, free_counted, target_counted}
@@ -196,22 +194,32 @@ module _ (scene : Scene) (mode : WalkMode) (base : Place ℕ) (t : Text) (path :
   free_short : a.jumped ≡ false → a.found ≡ None → text_length (a.name ∷ h b.dir) ≤ n
   free_short jumped free = (free_counted scene.around mode base path r a e.place).go (a.name ∷ h b.dir) (ap (free_target_name space a) free ∙ ap (below a.name) (dir_called jumped))
 
-  entry_short : a.jumped ≡ false → a.last ≡ last.Name → located (texts_in scene).bindings (a.name ∷ b.dir) ≡ None → text_length (a.name ∷ h b.dir) ≤ n
-  entry_short jumped is none = by a.found refl
+  -- an entry that is there is reached itself, whatever is shown in its place
+  entry_short : a.jumped ≡ false → a.last ≡ last.Name → text_length (a.name ∷ h b.dir) ≤ n
+  entry_short jumped is = by a.found refl
     where
+      away : a.last ≢ last.Root
+      away root = let clash : last.Name ≡ last.Root = sym is ∙ root in absurd cc
+
+      only : (d : Component) → kind_of d ≡ a.last → name_of d ≡ a.name → d ≡ Name a.name
+      only d kind name = last_name d a.name (kind ∙ is) name
+
+      within : IsWithin n (seen_name (entry_name space a.dir.host (Name a.name)) (look_up scene.around a.dir (Name a.name)))
+      within =
+          let own = counted.shown jumped away in
+          subst (λ d. IsWithin n (seen_name (entry_name space a.dir.host d) (look_up scene.around a.dir d))) (only own.0 own.1 own.2) own.4
+
       by : (o : Option (Place ℕ)) → a.found ≡ o → text_length (a.name ∷ h b.dir) ≤ n
       by None free = free_short jumped free
       by (Some p) found =
-          let k = alike scene mode base t path a b e in
-          let u = alike_some (FoundStands space mode) a.found b.found p k.found found in
-          let text : u.0 ≡ b.name ∷ b.dir = text_target_named (texts_in scene) mode t path b u.0 e.text (sym k.jumped ∙ jumped) (sym k.last ∙ is) u.1 in
-          let whole : h u.0 ≡ a.name ∷ h b.dir = ap h (text ∙ ap (λ name. name ∷ b.dir) (sym k.name)) ∙ host_none (texts_in scene).bindings a.name b.dir none in
-          subst (λ t. text_length t ≤ n) whole (found_short p u.0 found u.1)
+          let u = alike_some (FoundStands space mode) a.found b.found p ((alike scene mode base t path a b e).found) found in
+          within.go (a.name ∷ h b.dir)
+          (shown_name (entry_name space a.dir.host (Name a.name)) (look_up scene.around a.dir (Name a.name)) p (shows p u.0 found u.1 jumped (Name a.name) only away) ∙ ap (below a.name) (dir_called jumped))
 
 pub reached_texts_are_short : ReachedTextsAreShort
 reached_texts_are_short scene mode base t path a b r e = record {
   found = λ p u ea eb. found_short scene mode base t path a b r e p u ea eb;
   dir = λ jumped. dir_short scene mode base t path a b r e jumped;
   free = λ jumped free. free_short scene mode base t path a b r e jumped free;
-  entry = λ jumped is none. entry_short scene mode base t path a b r e jumped is none;
+  entry = λ jumped is. entry_short scene mode base t path a b r e jumped is;
 }

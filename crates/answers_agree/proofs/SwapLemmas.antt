@@ -18,8 +18,7 @@ use Rattle.pr_base.specs.declared.path.WalkMode.TheVariants as modes
 use Rattle.pr_base.proofs.EndLemmas.{jump_is_shown}
 use Rattle.pr_base.proofs.PathLemmas.{names_are_parts}
 use Rattle.pt_args.specs.Purposes.{entry_swap, made_swap, named_path, own_path, purpose_of, swap_for}
-use Rattle.pt_args.specs.declared.purpose.Purpose.TheVariants.{NamesEntry}
-use Rattle.pt_bind.specs.Binding.{host_of, located, names_of}
+use Rattle.pt_bind.specs.Binding.{host_of, names_of}
 use Rattle.pt_bind.proofs.ByteLemmas.{names_written}
 use Rattle.pt_canon.specs.Canon.{canon_at, canon_result, ending_of, entry_text, found_entry}
 use Rattle.pt_canon.specs.TextWalk.{looking_texts}
@@ -29,6 +28,7 @@ use Rattle.kr_tree.specs.declared.place.Place.{Place}
 use Rattle.kr_view.specs.declared.target.Reach.{Reach}
 use Rattle.kr_view.specs.Reach.{reach_after}
 use Rattle.kr_view.specs.Walk.{PlaceTarget, looking, place_walk}
+use Rattle.kr_view.proofs.StayingLemmas.{names-stay}
 use Rattle.walks_agree.specs.Handed.{BothEnd}
 use Rattle.walks_agree.specs.Scene.{Scene, space_of, texts_in}
 use Rattle.walks_agree.specs.Standing.{FoundStands, likeness}
@@ -190,25 +190,26 @@ module _ (scene : Scene) (mode : WalkMode) (base : Place ℕ) (t : Text) (path :
         by None eb = refl
         by (Some u) eb = text_target_named (texts_in scene) mode t path b u e.text (sym k.jumped ∙ jumped) (sym k.last ∙ is) eb
 
-    entry_short : (l : Last) → a.last ≡ l → a.jumped ≡ false → (a.last ≡ last.Name → located bindings (a.name ∷ b.dir) ≡ None) → ◌≡◌ {A = Result (List ℕ) Errno} (Ok (entry_swap bindings (end_at l) l)) (Ok text) → length text ≤ 4095
-    entry_short last.Name is jumped away swap =
+    entry_short : (l : Last) → a.last ≡ l → a.jumped ≡ false → ◌≡◌ {A = Result (List ℕ) Errno} (Ok (entry_swap bindings (end_at l) l)) (Ok text) → length text ≤ 4095
+    entry_short last.Name is jumped swap =
         so (own_path bindings (names_of (text_of (unwrap_or b.found (b.name ∷ b.dir)))) b.slash) swap
         (subst (λ guest. length (own_path bindings (names_of (text_of guest)) b.slash) ≤ 4095) (sym (entry_named jumped is))
-        (name_short jumped is (let long = short.entry jumped is (away is) in omega (arith, long, calm)) b.slash))
-    entry_short last.Dot is jumped away swap = so (named_path bindings (names_of (text_of b.dir)) dot b.slash) swap (part_short jumped dot (omega arith) b.slash)
-    entry_short last.DotDot is jumped away swap = so (named_path bindings (names_of (text_of b.dir)) dot_dot b.slash) swap (part_short jumped dot_dot (omega arith) b.slash)
-    entry_short last.Root is jumped away swap = so (slash ∷ []) swap (omega arith)
+        (name_short jumped is (let long = short.entry jumped is in omega (arith, long, calm)) b.slash))
+    entry_short last.Dot is jumped swap = so (named_path bindings (names_of (text_of b.dir)) dot b.slash) swap (part_short jumped dot (omega arith) b.slash)
+    entry_short last.DotDot is jumped swap = so (named_path bindings (names_of (text_of b.dir)) dot_dot b.slash) swap (part_short jumped dot_dot (omega arith) b.slash)
+    entry_short last.Root is jumped swap = so (slash ∷ []) swap (omega arith)
 
     -- by the mode of the walk
-    by_mode : (opening : Bool) (m : WalkMode) → (purpose_of opening m ≡ NamesEntry → (a.jumped ≡ false) × (a.last ≡ last.Name → located bindings (a.name ∷ b.dir) ≡ None)) → swap_for bindings (purpose_of opening m) (canon_at bindings (ending_of m b)) ≡ Ok text
-        → length text ≤ 4095
-    by_mode opening modes.Look away swap = so (text_of (h (unwrap_or b.found b.dir))) swap (looked_short b.found refl)
-    by_mode opening modes.LookLink away swap = so (text_of (h (unwrap_or b.found b.dir))) swap (looked_short b.found refl)
-    by_mode true modes.Name away swap = made_short b.last k.last swap
-    by_mode false modes.Name away swap = let own = away refl in entry_short b.last k.last own.0 own.1 swap
-    by_mode opening modes.Open away swap = made_short b.last k.last swap
+    by_mode : (opening : Bool) (m : WalkMode) → mode ≡ m → swap_for bindings (purpose_of opening m) (canon_at bindings (ending_of m b)) ≡ Ok text → length text ≤ 4095
+    by_mode opening modes.Look is swap = so (text_of (h (unwrap_or b.found b.dir))) swap (looked_short b.found refl)
+    by_mode opening modes.LookLink is swap = so (text_of (h (unwrap_or b.found b.dir))) swap (looked_short b.found refl)
+    by_mode true modes.Name is swap = made_short b.last k.last swap
+    by_mode false modes.Name is swap =
+        let stays = names-stay (looking scene.around) base path a (ap (λ m. (place_walk scene.around m base path).answer) (sym is) ∙ e.place) in
+        entry_short b.last k.last stays swap
+    by_mode opening modes.Open is swap = made_short b.last k.last swap
 
 pub swaps_are_short : SwapsAreShort
-swaps_are_short scene mode base t path a b r opening canon text e calm answer swap away =
+swaps_are_short scene mode base t path a b r opening canon text e calm answer swap =
     let own = same_canon (canon_at (texts_in scene).bindings (ending_of mode b)) canon (sym (ap (canon_result (texts_in scene).bindings mode) e.text) ∙ answer) in
-    by_mode scene mode base t path a b r e calm text opening mode away (ap (swap_for (texts_in scene).bindings (purpose_of opening mode)) own ∙ swap)
+    by_mode scene mode base t path a b r e calm text opening mode refl (ap (swap_for (texts_in scene).bindings (purpose_of opening mode)) own ∙ swap)

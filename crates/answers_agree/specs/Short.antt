@@ -6,8 +6,6 @@ use Rattle.pr_base.specs.WalkFrame.{Target}
 use Rattle.pr_base.specs.declared.path.Last.TheVariants as last
 use Rattle.pr_base.specs.declared.path.WalkMode.{WalkMode}
 use Rattle.pt_args.specs.Purposes.{purpose_of, swap_for}
-use Rattle.pt_args.specs.declared.purpose.Purpose.TheVariants.{NamesEntry}
-use Rattle.pt_bind.specs.Binding.{located}
 use Rattle.pt_canon.specs.Canon.{canon_of}
 use Rattle.pt_canon.specs.declared.canon.Canon.{Canon}
 use Rattle.kr_tree.specs.declared.place.Place.{Place}
@@ -25,23 +23,16 @@ pub record AreShort (scene : Scene) (n : ℕ) (a : PlaceTarget) (b : Target Text
   pub dir : a.jumped ≡ false → length (text_of (host_text (space_of scene) b.dir)) ≤ n
   -- that of a free name in it
   pub free : a.jumped ≡ false → a.found ≡ None → length (text_of (a.name ∷ host_text (space_of scene) b.dir)) ≤ n
-  -- and that of a name at which no mount stands. A mount's own point isn't reached
-  pub entry : a.jumped ≡ false → a.last ≡ last.Name → located (texts_in scene).bindings (a.name ∷ b.dir) ≡ None → length (text_of (a.name ∷ host_text (space_of scene) b.dir)) ≤ n
+  -- and that of any name in it, at which a mount may stand
+  pub entry : a.jumped ≡ false → a.last ≡ last.Name → length (text_of (a.name ∷ host_text (space_of scene) b.dir)) ≤ n
 
 abbrev pub ReachedTextsAreShort : Type 0
 ReachedTextsAreShort =
     (scene : Scene) (mode : WalkMode) (base : Place ℕ) (t : Text) (path : List ℕ) (a : PlaceTarget) (b : Target Text Text) (r : Reach) → BothEnd scene mode base t path a b
     → AreShort scene (reach_after scene.around (place_walk scene.around mode base path) r).longest a b
 
--- an entry that a call names is no mount's own point. Where it is one, and the host text of its directory is long, the text of its name
--- may have more than 4,095 bytes, though the walk reached none of that length
-abbrev pub NamesNoPoint : Scene → WalkMode → Bool → PlaceTarget → Target Text Text → Type 0
-NamesNoPoint scene mode opening a b =
-    purpose_of opening mode ≡ NamesEntry → (a.jumped ≡ false) × (a.last ≡ last.Name → located (texts_in scene).bindings (a.name ∷ b.dir) ≡ None)
-
--- then a text in place of a path has at most 4,095 bytes, where the walk reaches no host name of more than 4,000
+-- so a text in place of a path has at most 4,095 bytes, where the walk reaches no host name of more than 4,000
 abbrev pub SwapsAreShort : Type 0
 SwapsAreShort =
     (scene : Scene) (mode : WalkMode) (base : Place ℕ) (t : Text) (path : List ℕ) (a : PlaceTarget) (b : Target Text Text) (r : Reach) (opening : Bool) (canon : Canon) (text : List ℕ) → BothEnd scene mode base t path a b
-    → (reach_after scene.around (place_walk scene.around mode base path) r).longest ≤ 4000 → canon_of (texts_in scene) mode t path ≡ Ok canon → swap_for (texts_in scene).bindings (purpose_of opening mode) canon ≡ Ok text → NamesNoPoint scene mode opening a b
-    → length text ≤ 4095
+    → (reach_after scene.around (place_walk scene.around mode base path) r).longest ≤ 4000 → canon_of (texts_in scene) mode t path ≡ Ok canon → swap_for (texts_in scene).bindings (purpose_of opening mode) canon ≡ Ok text → length text ≤ 4095

@@ -2,7 +2,7 @@
 use Rattle.std.specs.Prelude.{ℕ, List}
 use Rattle.kr_calls.specs.declared.request.Request.{Request}
 use Rattle.kr_tree.specs.Lawful.{AreBytes}
-use Rattle.kr_lasting.specs.Texts.{IsText}
+use Rattle.kr_allowed.specs.Texts.{IsText}
 use Rattle.kr_allowed.specs.Calls.{HasTextPaths, IsGivable}
 use Rattle.kr_perform.specs.Operating.{IsNoExec}
 

@@ -1,7 +1,7 @@
 //! Kernels over listings, at the host's own view.
 ghost use Rattle.std.specs.Prelude.{◌≡◌, true, IfOk};
 ghost use Rattle.kr_first.specs.Started.{LeadsToDirectory};
-ghost use Rattle.kr_lasting.specs.Texts.{IsText};
+ghost use Rattle.kr_allowed.specs.Texts.{IsText};
 ghost use Rattle.kr_view.specs.View.{plain};
 
 use crate::stage::listed;

@@ -16,7 +16,7 @@ use Rattle.kr_exec.specs.declared.lists.Lists.{Lists}
 use Rattle.kr_exec.proofs.ListLemmas.{and_then_is, at_address, by_address, entry, on_reply}
 use Rattle.swaps_read.proofs.RangeLemmas.{part_allowed}
 use Rattle.lists_alike.proofs.ReadLemmas.{one-allowed, page-there}
-use Rattle.execves_agree.proofs.ReadingLemmas.{address-keeps, within-keeps}
+use Rattle.lists_alike.proofs.KeepLemmas.{address-keeps, within-keeps}
 use Rattle.execves_together.specs.Addresses.{KeptAddressesAreRead}
 
 abbrev Texts : Type 0

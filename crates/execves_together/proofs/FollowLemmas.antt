@@ -1,14 +1,10 @@
--- Execve(2) of programs that are no scripts keeps both machines together.
-use Rattle.std.proofs.Common.{◌≡◌, ◌≢◌, ◌≤◌, ℕ, true, false, cond, ◌||◌, List, [], ◌∷◌, length, nat_lt, Option, Some, None, Result, Ok, Err, refl, sym, ap, subst, ◌∙◌, arith, ◌-◌}
+-- Execve(2) keeps both machines together.
+use Rattle.std.proofs.Common.{◌≡◌, ◌≢◌, ◌≤◌, ℕ, Bool, true, false, cond, ◌||◌, List, [], ◌∷◌, length, nat_lt, Option, Some, None, Result, Ok, Err, refl, sym, ap, subst, ◌∙◌, arith, ◌-◌, get_or}
 use Rattle.std.specs.Prelude.{IsSome, ◌==◌}
 use Rattle.std.specs.Option.{option_map_or}
 use Rattle.std.proofs.lemmas.Bool.Decides.{nat_tests}
-use Rattle.pr_base.specs.Paths.{is_absolute, text_of}
-use Rattle.pr_base.specs.Texts.{Text}
-use Rattle.pr_base.proofs.PathLemmas.{text_absolute}
 use Rattle.pr_base.specs.declared.errno.Errno.{Errno}
 use Rattle.pr_base.specs.declared.errno.Errno.TheVariants.{EACCES, ENAMETOOLONG, ENOENT}
-use Rattle.pr_base.specs.declared.path.WalkMode.TheVariants.{Look}
 use Rattle.rv_mem.specs.Actions.{AreEqualUnmarked, CarriedOut, Done, carried_out}
 use Rattle.rv_mem.specs.Memory.{Memory}
 use Rattle.rv_mem.specs.Pages.{IsPlaced, Pages}
@@ -16,18 +12,18 @@ use Rattle.rv_mem.specs.declared.regs.Regs.{Regs}
 use Rattle.rv_mem.proofs.ActionLemmas.{reads_alike}
 use Rattle.pt_args.specs.Bases.{working_text}
 use Rattle.pt_args.specs.Walks as traced_walks
-use Rattle.pt_args.specs.Laws.{ShelvesHoldTheirItems, TextsAreReadBack}
+use Rattle.pt_args.specs.Laws.{IsPathText, ShelvesHoldTheirItems, TextsAreReadBack, poked}
 use Rattle.pt_args.specs.declared.edit.Edit.{Edit}
 use Rattle.pt_args.specs.declared.edit.Edit.TheVariants.{Cancel, Pass}
 use Rattle.pt_canon.specs.TextWalk.{TextSurroundings}
 use Rattle.pt_canon.specs.declared.canon.Canon.{Canon}
+use Rattle.pt_lists.specs.Reading.{addresses_behind}
 use Rattle.pt_lists.specs.declared.lists.Handed.{Handed}
 use Rattle.pt_script.specs.Expanding.{command_of, ends_of, expanded_at, shown_result}
 use Rattle.pt_script.specs.Programs.{program_from}
 use Rattle.pt_script.specs.declared.expansion.Expanded.{Expanded}
 use Rattle.pt_script.specs.declared.program.Program.{Program as TracedProgram}
-use Rattle.plans_agree.proofs.TextLemmas.{names_text}
-use Rattle.kr_tree.specs.Lawful.{AreBytes}
+use Rattle.kr_tree.specs.Lawful.{HasBytes}
 use Rattle.kr_tree.specs.declared.place.Place.{Place}
 use Rattle.kr_view.specs.View.{Row, plain}
 use Rattle.kr_view.specs.Walk.{PlaceTarget}
@@ -35,62 +31,65 @@ use Rattle.kr_view.specs.Component.{Surroundings}
 use Rattle.kr_view.specs.Reach.{reach_after}
 use Rattle.kr_view.specs.Answers.{told}
 use Rattle.kr_view.specs.declared.target.Reach.{Reach}
-use Rattle.kr_view.proofs.HostReachLemmas.{reached_names}
 use Rattle.kr_calls.specs.Expansion.{bytes_with_ends, most_scripts}
 use Rattle.kr_calls.specs.declared.request.Request.{Request}
 use Rattle.kr_calls.specs.declared.request.Request.TheVariants as call
 use Rattle.kr_allowed.proofs.DecodedLemmas.{decoding-leaves-pages}
 use Rattle.kr_allowed.proofs.RowLemmas.{StaysLike}
-use Rattle.kr_answers.specs.Carrying.{memory_of}
+use Rattle.kr_seen.specs.Carrying.{memory_of}
 use Rattle.kr_exec.specs.Finding.{program_at, program_walk}
 use Rattle.kr_exec.specs.Lists.{and_then, lists_at}
 use Rattle.kr_exec.specs.declared.lists.Lists.{Lists}
 use Rattle.kr_exec.proofs.ListLemmas.{and_then_is, on_reply}
 use Rattle.kr_exec.proofs.PlanLemmas.{covers_exec}
 use Rattle.kr_execve.specs.Execution.{Program, execution, execution_from, execution_reach, found_reach, planned_reach, reach_from}
-use Rattle.kr_bytes.proofs.NameLemmas.{text-bytes}
-use Rattle.kr_lasting.specs.Texts.{IsText}
 use Rattle.kr_model.specs.Applied.{cwd_of}
-use Rattle.kr_model.specs.ProcessDirectory.{around_of, space_of}
+use Rattle.kr_model.specs.ProcessDirectory.{around_of}
 use Rattle.kr_model.specs.State.{Image, Process, State, process}
 use Rattle.kr_steps.specs.Computing.{computed}
 use Rattle.kr_turns.specs.Breaking.{nothing_reached}
-use Rattle.kr_turns.specs.Stopped.{Stopped, edited}
+use Rattle.kr_turns.specs.Stopped.{Stopped, edited, image_at}
 use Rattle.kr_turns.specs.Turn.{Machine, calling, watched_call}
 use Rattle.kr_turns.specs.Watching.{unwatched}
+use Rattle.kr_turns.proofs.EditLemmas.{edited-twice, image-edited}
 use Rattle.pt_tracer.specs.Stopping.{after_request, decoded_at, memory_at, with_memory}
 use Rattle.pt_watched.specs.Planning.{after_expansion, after_lists, after_path, has_shelf, led_in, led_of, nowhere, planned, rewritten, script_plan, stack_at, texts_at}
+use Rattle.pt_watched.specs.ScriptEdit.{put_texts, script_room, shelved_script}
 use Rattle.pt_watched.specs.Watched.{Tracing, after_decoding, after_plan, by_identities, entered}
 use Rattle.pt_watched.specs.declared.plan.Led.{Led}
 use Rattle.pt_watched.specs.declared.plan.Plan.{Plan}
-use Rattle.walks_agree.specs.Settled.{host_text}
-use Rattle.walks_agree.specs.States.{scene_of}
-use Rattle.walks_agree.proofs.HandedLemmas.{found_stands}
-use Rattle.answers_agree.proofs.ShortLemmas.{reached_texts_are_short}
 use Rattle.lists_alike.specs.Reading.{handed_or, read_by_tracer}
 use Rattle.lists_alike.proofs.ReadLemmas.{lists_are_read_alike, shown_lists_are_read_alike}
-use Rattle.turns_match.specs.Calls.{decoded_by}
-use Rattle.turns_match.proofs.CalledLemmas.{decoded_memory}
-use Rattle.turns_match.proofs.RunLemmas.{lives_too}
+use Rattle.stops_match.specs.turns_match.Calls.{decoded_by}
+use Rattle.stops_match.proofs.turns_match.CalledLemmas.{decoded_memory}
+use Rattle.stops_match.proofs.turns_match.RunLemmas.{lives_too}
 use Rattle.stops_match.specs.Turning.{ComeToCall}
 use Rattle.stops_match.proofs.CallLemmas as before
 use Rattle.programs_agree.specs.Executing.{IsCalled, LoadedAlike, none_loaded, read_by_kernel}
 use Rattle.programs_agree.specs.Finding.{ProgramsAlike, no_program, one_program, texts_here}
-use Rattle.programs_agree.specs.Refusing.{IsBegun, IsLedTo, LedAlike, canon_along, no_lead, one_lead}
-use Rattle.programs_agree.proofs.ExecuteLemmas.{refused_executions_agree}
+use Rattle.programs_agree.specs.Refusing.{IsBegun, canon_along}
+use Rattle.programs_agree.proofs.ExecuteLemmas.{executions_agree, refused_executions_agree}
 use Rattle.programs_agree.proofs.FindLemmas.{programs_are_found_alike}
 use Rattle.programs_agree.proofs.PlainLemmas.{plain_executions_agree, same-host}
-use Rattle.programs_agree.proofs.RefuseLemmas.{empty_executions_agree, lost_executions_agree, missing_executions_agree, next, paths_lead_alike, unread_executions_agree}
-use Rattle.execves_agree.proofs.EnteredLemmas as goes
-use Rattle.execves_agree.proofs.GoLemmas as go
-use Rattle.execves_agree.proofs.ReadingLemmas.{lists-keep}
-use Rattle.execves_agree.proofs.RewriteLemmas.{execves_are_rewritten}
-use Rattle.execves_agree.specs.Going.{GoesOn}
-use Rattle.execves_agree.specs.Rewriting.{edit_along}
-use Rattle.execves_together.specs.Following.{ExecvesGoTogether, RunsNoScript}
-use Rattle.execves_together.proofs.ByteLemmas.{reached-bytes}
+use Rattle.programs_agree.proofs.RefuseLemmas.{empty_executions_agree, lost_executions_agree, missing_executions_agree, next, unread_executions_agree}
+use Rattle.execves_together.proofs.EnteredLemmas as goes
+use Rattle.execves_together.proofs.GoLemmas as go
+use Rattle.lists_alike.proofs.KeepLemmas.{addresses-keep, lists-keep}
+use Rattle.scripts_read.specs.Reading.{IsShelved}
+use Rattle.scripts_read.specs.Shelves.{script_shelf}
+use Rattle.scripts_read.proofs.ReadLemmas.{script_lists_are_read}
+use Rattle.scripts_read.proofs.RoomLemmas.{addresses-long, scripts_are_shelved, scripts_have_room}
+use Rattle.execves_together.proofs.RewriteLemmas.{execves_are_rewritten}
+use Rattle.execves_together.specs.Going.{GoesOn}
+use Rattle.execves_together.specs.Rewriting.{edit_along}
+use Rattle.execves_together.specs.Following.{ExecvesGoTogether}
+use Rattle.execves_together.proofs.AddressLemmas.{kept_addresses_are_read}
+use Rattle.execves_together.proofs.HostTextLemmas as hosts
+use Rattle.execves_together.proofs.HostTextLemmas.{Fits}
+use Rattle.execves_together.proofs.PathTextLemmas.{decoded_paths_are_path_texts}
 use Rattle.execves_together.proofs.RuleLemmas as rules
 use Rattle.execves_together.proofs.SceneLemmas as scene
+use Rattle.execves_together.proofs.ScriptShelveLemmas as shelving
 use Rattle.execves_together.proofs.ShelveLemmas as shelf
 
 ok_same : {A : Type 0} {a b : A} → ◌≡◌ {A = Result A Errno} (Ok a) (Ok b) → a ≡ b
@@ -224,30 +223,30 @@ module _ {S : Type 0} (back : TextsAreReadBack) (hold : ShelvesHoldTheirItems) (
 
   -- ---- behind the first stop
 
-  module _ (registers : List ℕ) (memory3 : Memory) (led : Led) (host : List ℕ) (entry : goes.IsEntered table made pid m n c p q lives also calm path args env registers memory3 led host args) where
+  module _ (registers : List ℕ) (memory3 : Memory) (led : Led) (host : List ℕ) (put : ℕ) (entry : goes.IsEntered table made pid m n c p q lives also calm path args env registers memory3 led host put) where
     abbrev w4 : State ℕ Image
-    w4 = goes.w4 table made pid m n c p q lives also calm path args env registers memory3 led host args entry
+    w4 = goes.w4 table made pid m n c p q lives also calm path args env registers memory3 led host put entry
 
     abbrev there : Memory
     there = memory_of pid w4
 
     abbrev done4 : Result Program Errno
-    done4 = (goes.done4 table made pid m n c p q lives also calm path args env registers memory3 led host args entry).reply
+    done4 = (goes.done4 table made pid m n c p q lives also calm path args env registers memory3 led host put entry).reply
 
     begun4 : IsBegun table at w4 pid x.tags working
     begun4 =
         let decoding = decoding-leaves-pages (record { x = registers; pc = q.image.regs.pc }) memory3 entry.bytes in
-        subst (λ t. IsBegun table at t pid x.tags working) (sym (goes.w4_is table made pid m n c p q lives also calm path args env registers memory3 led host args entry))
+        subst (λ t. IsBegun table at t pid x.tags working) (sym (goes.w4_is table made pid m n c p q lives also calm path args env registers memory3 led host put entry))
         (begun-left (record { x = registers; pc = q.image.regs.pc }) _ (subst (StaysLike q.image.memory.pages) (sym decoding) entry.like))
 
     there-alike : AreEqualUnmarked here.pages there.pages
-    there-alike = here-alike there.pages (subst (AreEqualUnmarked p1.image.memory.pages) (sym (goes.memory4_is table made pid m n c p q lives also calm path args env registers memory3 led host args entry)) entry.unmarked)
+    there-alike = here-alike there.pages (subst (AreEqualUnmarked p1.image.memory.pages) (sym (goes.memory4_is table made pid m n c p q lives also calm path args env registers memory3 led host put entry)) entry.unmarked)
 
     abbrev Alike : Result Program Errno → Result Program Errno → Type 0
     Alike = LoadedAlike table at pid x.tags led.index
 
     goes-on : Alike done done4 → Together
-    goes-on = go.replies_together table made pid m n c p q lives also calm path args env decoded registers memory3 led host args entry
+    goes-on = go.replies_together table made pid m n c p q lives also calm path args env decoded registers memory3 led host put entry
 
     refuse-both : (e : Errno) → done ≡ Err e → done4 ≡ Err e → Together
     refuse-both e one two = goes-on (subst (λ a. Alike a done4) (sym one) (subst (Alike (Err e)) (sym two) (none_loaded e)))
@@ -256,8 +255,8 @@ module _ {S : Type 0} (back : TextsAreReadBack) (hold : ShelvesHoldTheirItems) (
 
   empty : path ≡ [] → Together
   empty none =
-      refuse-both q.image.regs.x dec nowhere path entry EACCES (subst (λ path. (carried_out (execution table pid at path args env) here).reply ≡ Err EACCES) (sym none) both.0)
-      (subst (λ given. (carried_out (execution plain pid (w4 q.image.regs.x dec nowhere path entry) given args env) (there q.image.regs.x dec nowhere path entry)).reply ≡ Err EACCES) (sym none) both.1)
+      refuse-both q.image.regs.x dec nowhere path args entry EACCES (subst (λ path. (carried_out (execution table pid at path args env) here).reply ≡ Err EACCES) (sym none) both.0)
+      (subst (λ given. (carried_out (execution plain pid (w4 q.image.regs.x dec nowhere path args entry) given args env) (there q.image.regs.x dec nowhere path args entry)).reply ≡ Err EACCES) (sym none) both.1)
     where
       plans : planned x.bindings x.tags t r ≡ (record { edit = Pass; led = nowhere }, t)
       plans =
@@ -267,12 +266,12 @@ module _ {S : Type 0} (back : TextsAreReadBack) (hold : ShelvesHoldTheirItems) (
       entry : goes.IsEntered table made pid m n c p q lives also calm path args env q.image.regs.x dec nowhere path args
       entry = shelf.passed table made pid m n c p q lives also calm path args env decoded nowhere plans
 
-      both : ((carried_out (execution table pid at [] args env) here).reply ≡ Err EACCES) × ((carried_out (execution plain pid (w4 q.image.regs.x dec nowhere path entry) [] args env) (there q.image.regs.x dec nowhere path entry)).reply ≡ Err EACCES)
-      both = empty_executions_agree table at (w4 q.image.regs.x dec nowhere path entry) pid x.tags args env here working (there q.image.regs.x dec nowhere path entry) (begun4 q.image.regs.x dec nowhere path entry)
+      both : ((carried_out (execution table pid at [] args env) here).reply ≡ Err EACCES) × ((carried_out (execution plain pid (w4 q.image.regs.x dec nowhere path args entry) [] args env) (there q.image.regs.x dec nowhere path args entry)).reply ≡ Err EACCES)
+      both = empty_executions_agree table at (w4 q.image.regs.x dec nowhere path args entry) pid x.tags args env here working (there q.image.regs.x dec nowhere path args entry) (begun4 q.image.regs.x dec nowhere path args entry)
 
   -- ---- a path that leads somewhere, or fails
 
-  module _ (some : path ≢ []) (noscript : (lists : Lists) (y : Expanded) → (read_by_kernel args env here).reply ≡ Ok lists → expanded_at texts pid (bytes_with_ends lists.env) path lists.args ≡ Ok y → y.scripts ≡ 0) where
+  module _ (some : path ≢ []) where
     abbrev sp : ℕ
     sp = stack_at t
 
@@ -306,41 +305,18 @@ module _ {S : Type 0} (back : TextsAreReadBack) (hold : ShelvesHoldTheirItems) (
 
     -- ---- it leads somewhere
 
+    tree-bytes : HasBytes at.tree
+    tree-bytes = (go.mine table made pid m n c p q lives also calm path args env decoded).lasts.lawful.tree.bytes
+
+    at-most : {a b d : ℕ} → a ≤ b → b ≤ d → a ≤ d
+    at-most one two = omega (arith, one, two)
+
     module _ (canon : Canon) (leads : canon_along texts working path ≡ Ok canon) where
-      abbrev Fits : List ℕ → Type 0
-      Fits host = IsText host × (host ≢ []) × (length host ≤ 4095) × AreBytes host
-
-      fits-led : (target : PlaceTarget) (k : Canon) → IsLedTo table at pid x.tags path first-begun.base target k → Fits k.host
-      fits-led target k l =
-          let walk = l.walked some in
-          let h = host_text (space_of table at) l.text in
-          let way = (found_stands (scene_of table at pid x.tags) Look first-begun.base walk.start path target walk.target_text walk.both l.place l.text l.found walk.found).stands.way in
-          let names = reached_names at.tree at.user (space_of table at).finds _ h l.place.host first-begun.matched.settled.sound first-begun.matched.processes way in
-          let reached = (reached_texts_are_short (scene_of table at pid x.tags) Look first-begun.base walk.start path target walk.target_text nothing_reached walk.both).found l.place l.text l.found walk.found in
-          let least = reach-least table pid at path args env here first-begun.base first-begun.at nothing_reached in
-          let most = rules.short table made pid m n c p q lives also calm path args env decoded in
-          subst Fits (sym l.host) (
-            names_text h names,
-            not-empty h,
-            at-most reached least most,
-            text-bytes h (reached-bytes at.tree at.user (space_of table at).finds _ (go.mine table made pid m n c p q lives also calm path args env decoded).lasts.lawful.tree.bytes first-begun.matched.processes h l.place.host way),
-          )
-        where
-          not-empty : (h : Text) → text_of h ≢ []
-          not-empty h none = absurd (differ (sym (text_absolute h) ∙ ap is_absolute none))
-            where
-              differ : true ≡ false → ⊥
-              differ e = cc
-
-          at-most : {a b d : ℕ} → a ≤ b → b ≤ d → d ≤ 4000 → a ≤ 4095
-          at-most one two three = omega (arith, one, two, three)
+      short-path : (reach_after (around_of table pid at) (program_walk (around_of table pid at) first-begun.base path) nothing_reached).longest ≤ 4000
+      short-path = at-most (reach-least table pid at path args env here first-begun.base first-begun.at nothing_reached) (rules.short table made pid m n c p q lives also calm path args env decoded)
 
       fits : Fits canon.host
-      fits = by _ (canon_along texts working path) leads (paths_lead_alike Image table at pid x.tags first-begun.base working path first-begun.matched first-begun.works)
-        where
-          by : (a : Result PlaceTarget Errno) (y : Result Canon Errno) → y ≡ Ok canon → LedAlike table at pid x.tags path first-begun.base a y → Fits canon.host
-          by _ _ is (no_lead e) = absurd (err_ok is)
-          by _ _ is (one_lead {target} {canon = k} l) = subst (λ (k : Canon). Fits k.host) (ok_same is) (fits-led target k l)
+      fits = hosts.fits_canon table at pid x.tags first-begun.base working first-begun.matched first-begun.works tree-bytes path nothing_reached short-path some canon leads
 
       abbrev after : Memory
       after = read.memory
@@ -405,8 +381,8 @@ module _ {S : Type 0} (back : TextsAreReadBack) (hold : ShelvesHoldTheirItems) (
           by : (a : Result Handed Errno) → read.reply ≡ a → Together
           by (Err why) reply =
               let entry = entry-with first-led (unread-plan why reply) in
-              let both = missing_executions_agree table at (w4 _ _ first-led canon.host entry) pid x.tags path args env here working canon e args (there _ _ first-led canon.host entry) (begun4 _ _ first-led canon.host entry) some leads none in
-              refuse-both _ _ first-led canon.host entry e both.0 both.1
+              let both = missing_executions_agree table at (w4 _ _ first-led canon.host args entry) pid x.tags path args env here working canon e args (there _ _ first-led canon.host args entry) (begun4 _ _ first-led canon.host args entry) some leads none in
+              refuse-both _ _ first-led canon.host args entry e both.0 both.1
           by (Ok h) reply =
               cancel h reply e (ap (λ (a : Result TracedProgram Errno). traced_walks.and_then a (λ program. shown_result (ends_of texts working h.env_bytes most_scripts (command_of path h.args program)))) none)
               (missing_executions_agree table at first pid x.tags path args env here working canon e args here first-begun some leads none).0
@@ -431,28 +407,161 @@ module _ {S : Type 0} (back : TextsAreReadBack) (hold : ShelvesHoldTheirItems) (
         unread-lists : (e : Errno) → (read_by_kernel args env here).reply ≡ Err e → Together
         unread-lists e is =
             let entry = entry-with first-led (unread-plan e (read-alike ∙ ap handed_or is)) in
-            let theirs = sym (reads_alike (lists_at args env) here (there _ _ first-led canon.host entry) (there-alike _ _ first-led canon.host entry) unread).0 ∙ is in
+            let theirs = sym (reads_alike (lists_at args env) here (there _ _ first-led canon.host args entry) (there-alike _ _ first-led canon.host args entry) unread).0 ∙ is in
             let both =
-            unread_executions_agree table at (w4 _ _ first-led canon.host entry) pid x.tags path args env here working canon e args (there _ _ first-led canon.host entry) (begun4 _ _ first-led canon.host entry) some leads is theirs in
-            refuse-both _ _ first-led canon.host entry both.0 both.1 both.2
+            unread_executions_agree table at (w4 _ _ first-led canon.host args entry) pid x.tags path args env here working canon e args (there _ _ first-led canon.host args entry) (begun4 _ _ first-led canon.host args entry) some leads is theirs in
+            refuse-both _ _ first-led canon.host args entry both.0 both.1 both.2
 
-        with-lists : (lists : Lists) → (read_by_kernel args env here).reply ≡ Ok lists → Together
-        with-lists lists is = by (expanded_at texts pid (bytes_with_ends lists.env) path lists.args) refl
-          where
-            reply : read.reply ≡ Ok (record { args = lists.args; env_bytes = bytes_with_ends lists.env })
-            reply = read-alike ∙ ap handed_or is
+        -- both kernels read the lists of the call
+        module _ (lists : Lists) (is : (read_by_kernel args env here).reply ≡ Ok lists) where
+          abbrev handed : Handed
+          handed = record { args = lists.args; env_bytes = bytes_with_ends lists.env }
 
-            by : (a : Result Expanded Errno) → expanded_at texts pid (bytes_with_ends lists.env) path lists.args ≡ a → Together
-            by (Err e) ends = cancel (record { args = lists.args; env_bytes = bytes_with_ends lists.env }) reply e ends (refused_executions_agree table at first pid x.tags path args env here working lists e (called-in first first-begun lists is) ends)
-            by (Ok y) ends =
-                let none = noscript lists y is ends in
-                let led = led_in y.index in
-                let entry = entry-with led (plain-plan (record { args = lists.args; env_bytes = bytes_with_ends lists.env }) reply y ends none) in
-                let own = w4 _ _ led canon.host entry in
+          abbrev count : ℕ
+          count = length lists.args - 1
+
+          reply : read.reply ≡ Ok handed
+          reply = read-alike ∙ ap handed_or is
+
+          module _ (y : Expanded) (ends : expanded_at texts pid (bytes_with_ends lists.env) path lists.args ≡ Ok y) where
+            abbrev led : Led
+            led = led_in y.index
+
+            -- a program that is no script
+            plainly : y.scripts ≡ 0 → Together
+            plainly none =
+                let entry = entry-with led (plain-plan handed reply y ends none) in
+                let own = w4 _ _ led canon.host args entry in
                 let alike =
-                plain_executions_agree table at own pid x.tags path args env here working lists y (there _ _ led canon.host entry) (called-in own (begun4 _ _ led canon.host entry) lists is) ends none (there-alike _ _ led canon.host entry) unread in
-                goes-on _ _ led canon.host entry
-                (subst (λ host. LoadedAlike table at pid x.tags y.index done (carried_out (execution plain pid own host args env) (there _ _ led canon.host entry)).reply) (same-host texts working (bytes_with_ends lists.env) path lists.args y none canon leads ends) alike)
+                plain_executions_agree table at own pid x.tags path args env here working lists y (there _ _ led canon.host args entry) (called-in own (begun4 _ _ led canon.host args entry) lists is) ends none (there-alike _ _ led canon.host args entry) unread in
+                goes-on _ _ led canon.host args entry
+                (subst (λ host. LoadedAlike table at pid x.tags y.index done (carried_out (execution plain pid own host args env) (there _ _ led canon.host args entry)).reply) (same-host texts working (bytes_with_ends lists.env) path lists.args y none canon leads ends) alike)
+
+            -- a script: its host text, its texts and its list stand on the shelf, and the plain kernel reads them there
+            module _ (script : y.scripts ≢ 0) where
+              path-is : IsPathText path
+              path-is = decoded_paths_are_path_texts p1.image.regs p1.image.memory path args env (go.mine table made pid m n c p q lives also calm path args env decoded).holds (go.reads table made pid m n c p q lives also calm path args env decoded)
+
+              short-scripts : (hosts.scripted table pid at path args env here first-begun.base first-begun.at target found lists is nothing_reached).longest ≤ 4000
+              short-scripts =
+                  subst (λ (reach : Reach). reach.longest ≤ 4000) (hosts.scripts_are_reached table pid at path args env here first-begun.base first-begun.at target found lists is nothing_reached)
+                  (rules.short table made pid m n c p q lives also calm path args env decoded)
+
+              host-fits : Fits y.host
+              host-fits =
+                  hosts.fits_ended table at pid x.tags first-begun.base working first-begun.matched first-begun.works tree-bytes (bytes_with_ends lists.env) path lists.args target found nothing_reached short-scripts short-path y ends
+
+              host-is : IsPathText y.host
+              host-is = let short = host-fits.2 in record { short = omega (arith, short); no_zero = host-fits.0 }
+
+              -- ---- the tracer reads the addresses of the arguments that are kept
+
+              abbrev shown : Memory
+              shown = memory_at t2
+
+              t2-is : t2 ≡ edited q.image.regs after stop
+              t2-is = go.with_is table made pid m n c p q lives also calm path args env decoded after
+
+              t2-image : image_at t2 ≡ record { regs = q.image.regs; memory = after }
+              t2-image = ap image_at t2-is ∙ image-edited q.image.regs after stop (subst IsSome (sym also) refl)
+
+              shown-pages : shown.pages ≡ q.image.memory.pages
+              shown-pages = ap (λ (image : Image). image.memory.pages) t2-image ∙ read-pages
+
+              same-stack : stack_at t2 ≡ sp
+              same-stack = ap (λ (image : Image). get_or image.regs.x 2 0) t2-image ∙ sym (ap (λ (image : Image). get_or image.regs.x 2 0) (go.after_image table made pid m n c p q lives also calm path args env decoded))
+
+              kept-read : (kept : List ℕ) × ((carried_out (addresses_behind args count) shown).reply ≡ Ok kept)
+              kept-read =
+                  kept_addresses_are_read args env (memory_at t) shown lists first-placed (sym (reads_alike (lists_at args env) here (memory_at t) first-alike unread).0 ∙ is) (shown-pages ∙ sym first-pages)
+
+              abbrev kept : List ℕ
+              kept = kept-read.0
+
+              abbrev behind : Memory
+              behind = (carried_out (addresses_behind args count) shown).memory
+
+              behind-pages : behind.pages ≡ shown.pages
+              behind-pages = addresses-keep args count shown
+
+              left-pages : behind.pages ≡ q.image.memory.pages
+              left-pages = behind-pages ∙ shown-pages
+
+              abbrev put : List (List ℕ)
+              put = put_texts count y.args
+
+              with-twice : with_memory behind t2 ≡ with_memory behind t
+              with-twice =
+                  ap (λ (image : Image). edited image.regs behind t2) t2-image
+                  ∙ ap (edited q.image.regs behind) t2-is
+                  ∙ edited-twice q.image.regs q.image.regs after behind stop
+                  ∙ sym (go.with_is table made pid m n c p q lives also calm path args env decoded behind)
+
+              some-script : (k : ℕ) → k ≢ 0 → (k == 0) ≡ false
+              some-script k some = grind (arith, nat_tests)
+
+              plans : planned x.bindings x.tags t r ≡ (record { edit = shelved_script sp y.host put kept; led = led }, with_memory behind t)
+              plans =
+                  plan-handed handed reply ∙ ap (after_expansion x.bindings x.tags swap args count t2) ends
+                  ∙ ap (λ b. cond b (let own : Plan × Stopped = (record { edit = swap; led = led }, t2) in own) (script_plan t2 args count y)) (some-script y.scripts script)
+                  ∙ scripts_are_shelved texts pid (bytes_with_ends lists.env) args path lists.args y t2 kept path-is host-fits.2 ends script kept-read.1
+                  ∙ (λ i. (record { edit = shelved_script (same-stack i) y.host put kept; led = led }, with-twice i))
+
+              -- ---- what it leaves
+
+              abbrev top : ℕ
+              top = (script_shelf sp y.host put kept).top
+
+              room : script_room y.host put kept ≤ 65536
+              room =
+                  let small = scripts_have_room texts pid (bytes_with_ends lists.env) path lists.args y kept path-is host-fits.2 ends script (addresses-long args count shown kept kept-read.1) in
+                  omega (arith, small)
+
+              entry : goes.IsEntered table made pid m n c p q lives also calm path args env (shelving.registers3 table made pid m n c p q lives also calm path args env decoded hold y.host host-is host-fits.1 put kept room behind left-pages) (shelving.memory3 table made pid m n c p q lives also calm path args env decoded hold y.host host-is host-fits.1 put kept room behind left-pages) led y.host top
+              entry = shelving.script_shelved table made pid m n c p q lives also calm path args env decoded hold y.host host-is host-fits.1 put kept room behind left-pages led plans
+
+              abbrev own : State ℕ Image
+              own = w4 _ _ led y.host top entry
+
+              stays : StaysLike q.image.memory.pages shown.pages
+              stays = like-of shown shown-pages
+
+              shelved : IsShelved args env sp here shown (there _ _ led y.host top entry) lists y kept
+              shelved = record {
+                placed = here-placed;
+                reads = is;
+                unread = unread;
+                first = subst (AreEqualUnmarked here.pages) (sym (shown-pages ∙ sym first-pages)) first-alike;
+                second = there-alike _ _ led y.host top entry;
+                addresses = kept-read.1;
+                whole = stays.whole;
+                first_placed = stays.placed;
+                high = shelving.high table made pid m n c p q lives also calm path args env decoded;
+                may = shelving.may table made pid m n c p q lives also calm path args env decoded shown shown-pages;
+                shelf = goes.memory4_is table made pid m n c p q lives also calm path args env _ _ led y.host top entry ∙ ap (λ pages. poked pages (script_shelf sp y.host put kept).items) behind-pages;
+              }
+
+              read-back : (read_by_kernel top env (there _ _ led y.host top entry)).reply ≡ Ok (record { args = y.args; env = lists.env })
+              read-back = script_lists_are_read hold texts pid args env sp path here shown (there _ _ led y.host top entry) lists y kept shelved path-is host-is ends script
+
+              scripted : Together
+              scripted =
+                  goes-on _ _ led y.host top entry
+                  (executions_agree table at own pid x.tags path args env here working lists y top (there _ _ led y.host top entry) (called-in own (begun4 _ _ led y.host top entry) lists is) ends read-back)
+
+            either-way : (b : Bool) → (y.scripts == 0) ≡ b → Together
+            either-way true none = plainly (is-zero y.scripts none)
+              where
+                is-zero : (k : ℕ) → (k == 0) ≡ true → k ≡ 0
+                is-zero k e = grind (arith, nat_tests)
+            either-way false some = scripted (λ none. absurd (let never : false ≡ true = sym some ∙ ap (λ k. k == 0) none in cc))
+
+          with-lists : Together
+          with-lists = by (expanded_at texts pid (bytes_with_ends lists.env) path lists.args) refl
+            where
+              by : (a : Result Expanded Errno) → expanded_at texts pid (bytes_with_ends lists.env) path lists.args ≡ a → Together
+              by (Err e) ends = cancel handed reply e ends (refused_executions_agree table at first pid x.tags path args env here working lists e (called-in first first-begun lists is) ends)
+              by (Ok y) ends = either-way y ends (y.scripts == 0) refl
 
         present : Together
         present = by (read_by_kernel args env here).reply refl
@@ -477,28 +586,24 @@ module _ {S : Type 0} (back : TextsAreReadBack) (hold : ShelvesHoldTheirItems) (
 
   -- ---- any path
 
-  either : ((lists : Lists) (y : Expanded) → (read_by_kernel args env here).reply ≡ Ok lists → expanded_at texts pid (bytes_with_ends lists.env) path lists.args ≡ Ok y → y.scripts ≡ 0) → Together
-  either noscript = by path refl
+  either : Together
+  either = by path refl
     where
       by : (given : List ℕ) → path ≡ given → Together
       by [] is = empty is
-      by (b ∷ rest) is = along (λ none. absurd (differ (sym is ∙ none))) noscript
+      by (b ∷ rest) is = along (λ none. absurd (differ (sym is ∙ none)))
         where
           differ : b ∷ rest ≡ [] → ⊥
           differ e = cc
 
 pub execves_go_on : TextsAreReadBack → ShelvesHoldTheirItems → {S : Type 0} (table : List Row) (made pid : ℕ) (m : Machine S) (n : Machine Tracing) (path : List ℕ) (args env : ℕ) → ComeToCall table made pid m n
-    → (decoded_at (calling 1 pid m.state)).reply ≡ Ok (call.Execve path args env) → RunsNoScript table pid m n path args env → (watched_call unwatched 1 table pid m).tally.broken ≡ None → GoesOn table pid m n made
-execves_go_on back hold table made pid m n path args env c decoded noscript calm = by (process pid m.state) refl c.lives
+    → (decoded_at (calling 1 pid m.state)).reply ≡ Ok (call.Execve path args env) → (watched_call unwatched 1 table pid m).tally.broken ≡ None → GoesOn table pid m n made
+execves_go_on back hold table made pid m n path args env c decoded calm = by (process pid m.state) refl c.lives
   where
     by : (o : Option (Process ℕ Image)) → process pid m.state ≡ o → IsSome o → GoesOn table pid m n made
     by None none some = absurd cc
     by (Some p) lives some =
-        let q = lives_too table n.watcher.tags pid m.state n.state p c.matches.states lives in
-        either back hold table made pid m n c p q.0 lives q.1 calm path args env decoded
-        (subst
-        (λ t. (lists : Lists) (y : Expanded) → (read_by_kernel args env (memory_of pid t)).reply ≡ Ok lists → expanded_at (texts_here table t pid n.watcher.tags) pid (bytes_with_ends lists.env) path lists.args ≡ Ok y → y.scripts ≡ 0)
-        (go.at_is table made pid m n c p q.0 lives q.1 calm path args env decoded) noscript)
+        let q = lives_too table n.watcher.tags pid m.state n.state p c.matches.states lives in either back hold table made pid m n c p q.0 lives q.1 calm path args env decoded
 
 pub execves_go_together : TextsAreReadBack → ShelvesHoldTheirItems → (S : Type 0) → ExecvesGoTogether S
-execves_go_together back hold S table made pid m n path args env c decoded noscript calm = (execves_go_on back hold table made pid m n path args env c decoded noscript calm).together
+execves_go_together back hold S table made pid m n path args env c decoded calm = (execves_go_on back hold table made pid m n path args env c decoded calm).together

@@ -1,7 +1,22 @@
+pub use Rattle.stops_match.proofs as stops_match
+pub mod ReadyLemmas
+pub mod BehindLemmas
+pub mod ReplaceLemmas
+pub mod ReadingLemmas
+pub mod BegunLemmas
+pub mod RefusedLemmas
+pub mod LoadedLemmas
+pub mod EnteredLemmas
+pub mod GoLemmas
+pub mod RewriteLemmas
 pub mod SceneLemmas
 pub mod RuleLemmas
 pub mod ByteLemmas
 pub mod ShelveLemmas
+pub mod ScriptRegisterLemmas
+pub mod ScriptShelveLemmas
+pub mod HostTextLemmas
+pub mod PathTextLemmas
 pub mod FollowLemmas
-pub mod ScriptLemmas
 pub mod AddressLemmas
+pub mod ToldLemmas

@@ -8,7 +8,7 @@ use Rattle.rv_mem.specs.Memory.{Memory}
 use Rattle.kr_view.specs.View.{Row}
 use Rattle.kr_calls.specs.Arguments.{number}
 use Rattle.kr_calls.specs.declared.request.Request.TheVariants as call
-use Rattle.kr_answers.specs.Carrying.{memory_of}
+use Rattle.kr_seen.specs.Carrying.{memory_of}
 use Rattle.kr_calm.specs.Shelf.{has_path, is_usable, stack_pointer}
 use Rattle.kr_execve.specs.Execution.{execution, execution_reach}
 use Rattle.kr_model.specs.State.{Image, Process, State, process}
@@ -29,7 +29,7 @@ use Rattle.calm_places.proofs.InUseLemmas.{neither}
 use Rattle.stops_match.specs.Turning.{ComeToCall}
 use Rattle.stops_match.proofs.CallLemmas as before
 use Rattle.stops_match.proofs.CallLemmas.{own_image}
-use Rattle.execves_agree.proofs.GoLemmas as go
+use Rattle.execves_together.proofs.GoLemmas as go
 
 -- none of six rules
 none_of_six : (first second third fourth fifth sixth : Bool)

@@ -12,12 +12,12 @@ use Rattle.kr_view.specs.View.{Row, plain}
 use Rattle.kr_calls.specs.declared.request.Request.TheVariants as call
 use Rattle.kr_allowed.proofs.DecodedLemmas.{decoding-leaves-pages}
 use Rattle.kr_allowed.proofs.RowLemmas.{StaysLike, lawful-image}
-use Rattle.kr_lasting.proofs.RoomLemmas.{lasting-room}
+use Rattle.kr_allowed.proofs.RoomLemmas.{lasting-room}
 use Rattle.kr_model.specs.Bare.{bare_process, pins_of}
 use Rattle.kr_model.specs.ProcessDirectory.{living_of}
 use Rattle.kr_model.specs.State.{Image, Process, State, image_layout, process}
 use Rattle.kr_model.proofs.BareLemmas.{process-bare}
-use Rattle.kr_procview.proofs.StandingLemmas.{living-small}
+use Rattle.kr_seen.proofs.StandingLemmas.{living-small}
 use Rattle.kr_steps.specs.Computing.{computed}
 use Rattle.kr_turns.specs.Turn.{Machine, calling, watched_call}
 use Rattle.kr_turns.specs.Watching.{unwatched}
@@ -31,12 +31,12 @@ use Rattle.walks_bare.proofs.OneMountLemmas.{lawful_states_are_in_one_mount}
 use Rattle.walks_bare.proofs.StateLemmas.{peeks_are_bare}
 use Rattle.places_stay.specs.Matching.{IsMatch}
 use Rattle.places_stay.proofs.MatchLemmas.{matches_are_matched, tagged_places_are_placed}
-use Rattle.turns_match.specs.Calls.{decoded_by}
-use Rattle.turns_match.specs.Lasting.{CanBeCalled}
-use Rattle.turns_match.proofs.CalledLemmas.{decoded_lasts, decoded_lives, decoded_process}
-use Rattle.turns_match.proofs.ImageLemmas.{bare_computed, given}
-use Rattle.turns_match.proofs.MatchLemmas.{match_computed}
-use Rattle.turns_match.proofs.RunLemmas.{lives_too}
+use Rattle.stops_match.specs.turns_match.Calls.{decoded_by}
+use Rattle.stops_match.specs.turns_match.Lasting.{CanBeCalled}
+use Rattle.stops_match.proofs.turns_match.CalledLemmas.{decoded_lasts, decoded_lives, decoded_process}
+use Rattle.stops_match.proofs.turns_match.ImageLemmas.{bare_computed, given}
+use Rattle.stops_match.proofs.turns_match.MatchLemmas.{match_computed}
+use Rattle.stops_match.proofs.turns_match.RunLemmas.{lives_too}
 use Rattle.stops_match.specs.Turning.{ComeToCall}
 use Rattle.stops_match.proofs.AnsweredLemmas.{lives_changed}
 use Rattle.stops_match.proofs.CallLemmas as before
@@ -45,8 +45,8 @@ use Rattle.programs_agree.specs.Finding.{WorksAt, texts_here}
 use Rattle.programs_agree.specs.Refusing.{IsBegun}
 use Rattle.programs_agree.proofs.ShowLemmas.{states_are_shown_alike}
 use Rattle.programs_agree.proofs.WorkLemmas.{working_directories_are_known}
-use Rattle.execves_agree.proofs.GoLemmas as go
-use Rattle.execves_agree.proofs.GoLemmas.{decoded_layout}
+use Rattle.execves_together.proofs.GoLemmas as go
+use Rattle.execves_together.proofs.GoLemmas.{decoded_layout}
 use Rattle.execves_together.specs.Beginning.{BeginsTogether, ExecvesBeginTogether}
 
 some_same : {A : Type 0} {a b : A} → Some a ≡ Some b → a ≡ b

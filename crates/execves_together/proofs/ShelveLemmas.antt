@@ -26,7 +26,7 @@ use Rattle.kr_allowed.proofs.RowLemmas.{StaysLike}
 use Rattle.kr_calm.specs.Shelf.{stack_pointer}
 use Rattle.kr_bytes.proofs.ListLemmas.{joined}
 use Rattle.kr_bytes.proofs.PageLemmas.{holds-written}
-use Rattle.kr_lasting.specs.Texts.{IsText}
+use Rattle.kr_allowed.specs.Texts.{IsText}
 use Rattle.kr_tree.specs.Lawful.{AreBytes}
 use Rattle.kr_model.specs.State.{Image, Process, process}
 use Rattle.kr_turns.specs.PlainCall.{Came}
@@ -51,16 +51,16 @@ use Rattle.swaps_read.specs.Swapped.{AreMarkedFrom}
 use Rattle.swaps_read.proofs.ExitLemmas.{gives_back}
 use Rattle.swaps_read.proofs.StopLemmas.{items_put, words_put}
 use Rattle.swaps_read.proofs.SwapLemmas.{swapped_here}
-use Rattle.turns_match.specs.Calls.{decoded_by}
+use Rattle.stops_match.specs.turns_match.Calls.{decoded_by}
 use Rattle.stops_match.specs.Turning.{ComeToCall}
 use Rattle.stops_match.proofs.CallLemmas as before
 use Rattle.stops_match.proofs.CallLemmas.{own_image}
 use Rattle.stops_match.proofs.PassLemmas.{arguments_back}
 use Rattle.stops_match.proofs.RegisterLemmas.{put_beside, put_there}
 use Rattle.stops_match.proofs.SwapLemmas.{poked_stays}
-use Rattle.execves_agree.proofs.BegunLemmas.{nonzero}
-use Rattle.execves_agree.proofs.EnteredLemmas as goes
-use Rattle.execves_agree.proofs.GoLemmas as go
+use Rattle.execves_together.proofs.BegunLemmas.{nonzero}
+use Rattle.execves_together.proofs.EnteredLemmas as goes
+use Rattle.execves_together.proofs.GoLemmas as go
 use Rattle.execves_together.proofs.RuleLemmas as rules
 
 -- ---- small facts

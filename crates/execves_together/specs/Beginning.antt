@@ -17,7 +17,7 @@ use Rattle.stops_match.specs.Cancelling.{at_first_stop}
 use Rattle.stops_match.specs.Turning.{ComeToCall}
 use Rattle.programs_agree.specs.Finding.{texts_here}
 use Rattle.programs_agree.specs.Refusing.{IsBegun}
-use Rattle.execves_agree.specs.Going.{here}
+use Rattle.execves_together.specs.Going.{here}
 
 -- what the tracer goes by at the first stop is what it would be told of the state of the kernel with mounts; and both kernels begin
 -- together, whatever registers and whatever memory of the same layout the tracer leaves

@@ -1,4 +1,8 @@
+pub use Rattle.stops_match.specs as stops_match
+pub mod Going
+pub mod Replacing
+pub mod Rewriting
 pub mod Addresses
 pub mod Beginning
 pub mod Following
-pub mod Scripts
+pub mod Told

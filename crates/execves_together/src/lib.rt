@@ -1,6 +1,9 @@
-//! Execve(2) of programs that are no scripts keeps both machines together: laws, and no code.
+//! Execve(2) keeps both machines together, with its stops, with an identity and without one: laws, and no code.
 #![tactic(auto)]
 
 pub mod addresses;
 pub mod beginning;
 pub mod following;
+pub mod going;
+pub mod replacing;
+pub mod told;

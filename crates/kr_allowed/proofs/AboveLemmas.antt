@@ -8,10 +8,10 @@ use Rattle.kr_tree.specs.Tree.{Inode, Node, root, inode, above, standing_of}
 use Rattle.kr_tree.specs.declared.place.Host.{Host}
 use Rattle.kr_tree.specs.declared.place.Host.TheVariants as host
 use Rattle.kr_tree.proofs.BelowLemmas.{HasSteps, steps_left, steps_end}
-use Rattle.kr_model.specs.Asking.{same_host}
-use Rattle.kr_model.specs.Known.{Known, Fact, known}
-use Rattle.kr_model.specs.NameRows.{host_above, is_within, is_at_or_above}
-use Rattle.kr_model.specs.State.{Image, image_layout, State}
+use Rattle.kr_lawful.specs.kr_model.Asking.{same_host}
+use Rattle.kr_lawful.specs.kr_model.Known.{Known, Fact, known}
+use Rattle.kr_lawful.specs.kr_model.NameRows.{host_above, is_within, is_at_or_above}
+use Rattle.kr_lawful.specs.kr_model.State.{Image, image_layout, State}
 use Rattle.kr_lawful.proofs.SumLemmas.{same-test, other-test}
 
 module _ {M : Type 0} (pid : ℕ) (s : State M Image) (sound : IsSound s.tree) where

@@ -13,20 +13,20 @@ use Rattle.kr_files.specs.declared.opened.What.{What}
 use Rattle.kr_files.specs.declared.opened.What.TheVariants.{File, Dir as DirOpen, In, Out, Err, PipeRead, PipeWrite}
 use Rattle.kr_files.specs.WithoutMounts.{without_mount}
 use Rattle.kr_calls.specs.declared.stat.Stat.{Stat}
-use Rattle.kr_model.specs.Applied.{Mounts}
-use Rattle.kr_model.specs.Asking.{is_processes, is_working_directory}
-use Rattle.kr_model.specs.AttributeRows.{gives, faccessat_row, chmod_host, fchmod_row, fchmodat_row, unchanged as all_ones, or_old, may_give, chown_by, chown_host, chown_open, fchown_row, fchownat_row, fchownat_here, node_stat, process_stat, console_stat, pipe_stat, tell_stat, stat_host, stat_unplaced, fstat_row, newfstatat_row, newfstatat_here, tell_text, readlink_body, readlink_host, readlinkat_row}
-use Rattle.kr_model.specs.Change.{Change, SetOwner}
-use Rattle.kr_model.specs.Known.{Known, known, known_node}
-use Rattle.kr_model.specs.Seen.{Looked}
-use Rattle.kr_model.specs.State.{Image, image_layout, State, process}
+use Rattle.kr_lawful.specs.kr_model.Applied.{Mounts}
+use Rattle.kr_lawful.specs.kr_model.Asking.{is_processes, is_working_directory}
+use Rattle.kr_lawful.specs.kr_model.AttributeRows.{gives, faccessat_row, chmod_host, fchmod_row, fchmodat_row, unchanged as all_ones, or_old, may_give, chown_by, chown_host, chown_open, fchown_row, fchownat_row, fchownat_here, node_stat, process_stat, console_stat, pipe_stat, tell_stat, stat_host, stat_unplaced, fstat_row, newfstatat_row, newfstatat_here, tell_text, readlink_body, readlink_host, readlinkat_row}
+use Rattle.kr_lawful.specs.kr_model.Change.{Change, SetOwner}
+use Rattle.kr_lawful.specs.kr_model.Known.{Known, known, known_node}
+use Rattle.kr_lawful.specs.kr_model.Seen.{Looked}
+use Rattle.kr_lawful.specs.kr_model.State.{Image, image_layout, State, process}
 use Rattle.kr_lawful.specs.Laws.{CanAllBeMade}
 use Rattle.kr_lawful.proofs.AfterLemmas.{is-some}
 use Rattle.kr_allowed.specs.Laws.{AttributeRowsAreAllowed}
 use Rattle.kr_allowed.specs.Resting.{HasSmallNumbers}
 use Rattle.kr_allowed.proofs.KnownLemmas.{maybe, by-open}
 use Rattle.kr_allowed.proofs.NodeLemmas.{known-inode}
-use Rattle.kr_lasting.specs.Lasting.{AreModest}
+use Rattle.kr_allowed.specs.Lasting.{AreModest}
 use Rattle.kr_allowed.proofs.RowLemmas.{quietly, Allowed, unchanged, refuses, ended, tested, wrote, either, row-allowed}
 
 module _ {M : Type 0} (number : M → ℕ) (table : List Row) (mounts : Mounts M) (pid : ℕ) (s : State M Image) (lives : IsSome (process pid s)) where

@@ -22,7 +22,7 @@ use Rattle.pr_base.specs.declared.path.WalkMode.{WalkMode}
 use Rattle.pr_base.specs.declared.path.WalkMode.TheVariants.{Name as NameMode}
 use Rattle.kr_tree.specs.Lawful.{AreBytes}
 use Rattle.kr_allowed.specs.Allowed.{HoldsBytes}
-use Rattle.kr_lasting.specs.Texts.{IsText}
+use Rattle.kr_allowed.specs.Texts.{IsText}
 use Rattle.kr_allowed.specs.Calls.{IsGivable, HasTextPaths, DecodedAreGivable}
 use Rattle.kr_tree.proofs.NameLemmas.{some_is}
 use Rattle.kr_allowed.proofs.RowLemmas.{read-bytes, read-count}

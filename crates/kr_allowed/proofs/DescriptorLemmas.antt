@@ -10,17 +10,17 @@ use Rattle.kr_files.specs.declared.opened.What.{What}
 use Rattle.kr_files.specs.declared.opened.What.TheVariants.{File, Dir, In, Out, Err, PipeRead, PipeWrite}
 use Rattle.kr_files.specs.Descriptors.{lowest_free, lowest_pair}
 use Rattle.kr_files.specs.WithoutMounts.{without_mount}
-use Rattle.kr_model.specs.Applied.{Mounts}
-use Rattle.kr_model.specs.Asking.{descriptor_number}
-use Rattle.kr_model.specs.Change.{Change}
-use Rattle.kr_model.specs.Conditions.{IsOpen}
-use Rattle.kr_model.specs.DescriptorRows.{o_cloexec, most_pipes, open_bytes, copy_under, copy_to, dup_row, dup3_row, copy_from, fcntl_by, fcntl_row, ioctl_row, close_row, pipe_under, pipe2_row, seek_to, seek_file, seek_directory, seek_what, lseek_row}
-use Rattle.kr_model.specs.Known.{Known, known}
-use Rattle.kr_model.specs.State.{Image, image_layout, State, process, opened}
+use Rattle.kr_lawful.specs.kr_model.Applied.{Mounts}
+use Rattle.kr_lawful.specs.kr_model.Asking.{descriptor_number}
+use Rattle.kr_lawful.specs.kr_model.Change.{Change}
+use Rattle.kr_lawful.specs.kr_model.Conditions.{IsOpen}
+use Rattle.kr_lawful.specs.kr_model.DescriptorRows.{o_cloexec, most_pipes, open_bytes, copy_under, copy_to, dup_row, dup3_row, copy_from, fcntl_by, fcntl_row, ioctl_row, close_row, pipe_under, pipe2_row, seek_to, seek_file, seek_directory, seek_what, lseek_row}
+use Rattle.kr_lawful.specs.kr_model.Known.{Known, known}
+use Rattle.kr_lawful.specs.kr_model.State.{Image, image_layout, State, process, opened}
 use Rattle.kr_lawful.specs.Laws.{CanAllBeMade}
 use Rattle.kr_allowed.specs.Laws.{DescriptorRowsAreAllowed}
 use Rattle.kr_allowed.proofs.KnownLemmas.{is-less, not-most, maybe, open-named, at-number, by-open, free-lowest, free-apart, free-pair}
-use Rattle.kr_lasting.specs.Lasting.{AreModest}
+use Rattle.kr_allowed.specs.Lasting.{AreModest}
 use Rattle.kr_allowed.proofs.RowLemmas.{quietly, Allowed, unchanged, ended, tested, wrote, either, row-allowed}
 
 module _ {M : Type 0} (number : M → ℕ) (table : List Row) (mounts : Mounts M) (pid : ℕ) (s : State M Image) (lives : IsSome (process pid s)) where

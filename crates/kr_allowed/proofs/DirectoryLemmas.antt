@@ -8,23 +8,23 @@ use Rattle.kr_view.specs.View.{Row}
 use Rattle.kr_view.specs.Component.{is_directory_at}
 use Rattle.kr_files.specs.declared.opened.Opened.{Opened}
 use Rattle.kr_files.specs.WithoutMounts.{without_mount}
-use Rattle.kr_model.specs.Applied.{Mounts}
-use Rattle.kr_model.specs.Asking.{is_directory_host, is_searched}
-use Rattle.kr_model.specs.Change.{Change, OfDescriptor, ChangeDirectory}
-use Rattle.kr_model.specs.Conditions.{IsOpen, CanStand}
-use Rattle.kr_model.specs.DirectoryRows.{Listed, tell_entries, list_rest, list_host, or_zero, getdents64_row, if_entered, chdir_row, fchdir_row, chroot_row, tell_directory, getcwd_row, shown_by, behind, fitting}
-use Rattle.kr_model.specs.Known.{Known, known}
-use Rattle.kr_model.specs.Lawful.{IsLawful}
-use Rattle.kr_model.specs.Reply.{Replying, done, refuse}
-use Rattle.kr_model.specs.Seen.{Looked}
-use Rattle.kr_model.specs.State.{Image, image_layout, State, process, opened}
+use Rattle.kr_lawful.specs.kr_model.Applied.{Mounts}
+use Rattle.kr_lawful.specs.kr_model.Asking.{is_directory_host, is_searched}
+use Rattle.kr_lawful.specs.kr_model.Change.{Change, OfDescriptor, ChangeDirectory}
+use Rattle.kr_lawful.specs.kr_model.Conditions.{IsOpen, CanStand}
+use Rattle.kr_lawful.specs.kr_model.DirectoryRows.{Listed, tell_entries, list_rest, list_host, or_zero, getdents64_row, if_entered, chdir_row, fchdir_row, chroot_row, tell_directory, getcwd_row, shown_by, behind, fitting}
+use Rattle.kr_lawful.specs.kr_model.Known.{Known, known}
+use Rattle.kr_lawful.specs.kr_model.Lawful.{IsLawful}
+use Rattle.kr_lawful.specs.kr_model.Reply.{Replying, done, refuse}
+use Rattle.kr_lawful.specs.kr_model.Seen.{Looked}
+use Rattle.kr_lawful.specs.kr_model.State.{Image, image_layout, State, process, opened}
 use Rattle.kr_lawful.specs.Laws.{CanAllBeMade}
 use Rattle.kr_allowed.specs.Laws.{DirectoryRowsAreAllowed}
 use Rattle.kr_allowed.specs.Resting.{HasSmallNumbers, IsLookedIn}
 use Rattle.kr_allowed.proofs.FileLemmas.{open-lawful}
 use Rattle.kr_allowed.proofs.KnownLemmas.{maybe, open-named, by-open}
 use Rattle.kr_allowed.proofs.NodeLemmas.{known-directory}
-use Rattle.kr_lasting.specs.Lasting.{AreModest}
+use Rattle.kr_allowed.specs.Lasting.{AreModest}
 use Rattle.kr_allowed.proofs.RowLemmas.{quietly, Allowed, unchanged, refuses, ended, tested, wrote, either, row-allowed}
 use Rattle.kr_allowed.proofs.SerialLemmas.{AreSmall, small-behind, small-fitting, small-last, small-shown}
 

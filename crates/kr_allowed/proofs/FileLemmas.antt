@@ -23,22 +23,22 @@ use Rattle.kr_files.specs.declared.opened.What.TheVariants.{File, Dir, In, Out, 
 use Rattle.kr_files.specs.Descriptors.{Named}
 use Rattle.kr_files.specs.Files.{file_at}
 use Rattle.kr_files.specs.WithoutMounts.{without_mount}
-use Rattle.kr_model.specs.Applied.{Mounts}
-use Rattle.kr_model.specs.Asking.{has_no_room_for}
-use Rattle.kr_model.specs.Change.{Change}
-use Rattle.kr_model.specs.Conditions.{IsOpen}
-use Rattle.kr_model.specs.DescriptorRows.{open_bytes}
-use Rattle.kr_model.specs.FileRows.{is_dir, is_file_open, inode_of_open, read_pipe, read_file, read_input, read_what, read_pieces, if_readable, read_row, readv_row, pipe_limit, write_pipe, write_place, put_in_file, write_file, write_what, write_pieces, if_writable, write_row, writev_row, cut_file, ftruncate_row}
-use Rattle.kr_model.specs.Known.{Known, Fact, known}
-use Rattle.kr_model.specs.Lawful.{IsLawful, IsOpenIn, is_file_at}
-use Rattle.kr_model.specs.Pieces.{Piece, asked, cut_to, one_piece}
-use Rattle.kr_model.specs.Reply.{Replying}
-use Rattle.kr_model.specs.State.{Image, image_layout, State, process, named, opened}
+use Rattle.kr_lawful.specs.kr_model.Applied.{Mounts}
+use Rattle.kr_lawful.specs.kr_model.Asking.{has_no_room_for}
+use Rattle.kr_lawful.specs.kr_model.Change.{Change}
+use Rattle.kr_lawful.specs.kr_model.Conditions.{IsOpen}
+use Rattle.kr_lawful.specs.kr_model.DescriptorRows.{open_bytes}
+use Rattle.kr_lawful.specs.kr_model.FileRows.{is_dir, is_file_open, inode_of_open, read_pipe, read_file, read_input, read_what, read_pieces, if_readable, read_row, readv_row, pipe_limit, write_pipe, write_place, put_in_file, write_file, write_what, write_pieces, if_writable, write_row, writev_row, cut_file, ftruncate_row}
+use Rattle.kr_lawful.specs.kr_model.Known.{Known, Fact, known}
+use Rattle.kr_lawful.specs.kr_model.Lawful.{IsLawful, IsOpenIn, is_file_at}
+use Rattle.kr_lawful.specs.kr_model.Pieces.{Piece, asked, cut_to, one_piece}
+use Rattle.kr_lawful.specs.kr_model.Reply.{Replying}
+use Rattle.kr_lawful.specs.kr_model.State.{Image, image_layout, State, process, named, opened}
 use Rattle.kr_lawful.specs.Laws.{CanAllBeMade}
 use Rattle.kr_allowed.specs.Laws.{FileRowsAreAllowed}
 use Rattle.kr_allowed.proofs.KnownLemmas.{not-less, not-most, open-named, by-open}
 use Rattle.kr_allowed.proofs.PieceLemmas.{asked-cut, usable, all-read, handed, listed}
-use Rattle.kr_lasting.specs.Lasting.{AreModest}
+use Rattle.kr_allowed.specs.Lasting.{AreModest}
 use Rattle.kr_allowed.proofs.RowLemmas.{quietly, Allowed, unchanged, refuses, ended, either, row-allowed}
 
 -- a file has no more bytes than a file may

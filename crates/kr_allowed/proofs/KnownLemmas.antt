@@ -10,12 +10,12 @@ use Rattle.kr_files.specs.Descriptors.{Named, lowest_free, lowest_pair}
 use Rattle.kr_files.specs.Files.{file_at}
 use Rattle.kr_files.specs.WithoutMounts.{without_mount}
 use Rattle.kr_files.proofs.DescriptorLemmas.{lowest_free-some}
-use Rattle.kr_model.specs.Asking.{or_closed, of_number, or_badf, descriptor_number}
-use Rattle.kr_model.specs.Change.{Change}
-use Rattle.kr_model.specs.Conditions.{IsFreeDescriptor, IsOpen}
-use Rattle.kr_model.specs.Known.{Known, Caller, known, caller_of, no_caller}
-use Rattle.kr_model.specs.Reply.{Replying}
-use Rattle.kr_model.specs.State.{Image, image_layout, Process, State, process, named, opened}
+use Rattle.kr_lawful.specs.kr_model.Asking.{or_closed, of_number, or_badf, descriptor_number}
+use Rattle.kr_lawful.specs.kr_model.Change.{Change}
+use Rattle.kr_lawful.specs.kr_model.Conditions.{IsFreeDescriptor, IsOpen}
+use Rattle.kr_lawful.specs.kr_model.Known.{Known, Caller, known, caller_of, no_caller}
+use Rattle.kr_lawful.specs.kr_model.Reply.{Replying}
+use Rattle.kr_lawful.specs.kr_model.State.{Image, image_layout, Process, State, process, named, opened}
 use Rattle.kr_lawful.proofs.AfterLemmas.{some-of, is-some}
 use Rattle.kr_allowed.proofs.RowLemmas.{Allowed, unchanged}
 

@@ -1,3 +1,7 @@
+pub mod TreeLemmas
+pub mod StateLemmas
+pub mod ChangeLemmas
+pub mod RoomLemmas
 pub mod RowLemmas
 pub mod KnownLemmas
 pub mod DescriptorLemmas
@@ -15,7 +19,6 @@ pub mod OpeningLemmas
 pub mod OperationLemmas
 pub mod ToldLemmas
 pub mod DecodedLemmas
-pub mod StayingLemmas
 pub mod WalkLemmas
 pub mod TargetLemmas
 pub mod SourceLemmas

@@ -15,20 +15,20 @@ use Rattle.rv_mem.proofs.SpaceLemmas.{IsPlaced-mapped, IsPlaced-unmapped, IsPlac
 use Rattle.kr_tree.proofs.NameLemmas.{some_is}
 use Rattle.kr_view.specs.View.{Row}
 use Rattle.kr_calls.specs.Arguments.{has}
-use Rattle.kr_model.specs.Applied.{Mounts, images, with_image}
-use Rattle.kr_model.specs.Change.{Change, PageChange, MapPages, UnmapPages, ProtectPages, ChangePages, SetBreak}
-use Rattle.kr_model.specs.Conditions.{CanPage, CanBeMade}
-use Rattle.kr_model.specs.Known.{Known, Caller, known}
-use Rattle.kr_model.specs.Lawful.{IsLawful}
-use Rattle.kr_model.specs.MemoryRows.{pages_end, page_count, rights_of, has_page, mapped_among, passes_limit, process_pages, all_pages, grow, shrink, brk_row, places_begin, places_end, lowest_page, place_here, place_among, lowest_place, map_at, map_fixed, map_free, mmap_row, munmap_row, mprotect_row}
-use Rattle.kr_model.specs.State.{Image, image_layout, Process, State, at_pid, process}
+use Rattle.kr_lawful.specs.kr_model.Applied.{Mounts, images, with_image}
+use Rattle.kr_lawful.specs.kr_model.Change.{Change, PageChange, MapPages, UnmapPages, ProtectPages, ChangePages, SetBreak}
+use Rattle.kr_lawful.specs.kr_model.Conditions.{CanPage, CanBeMade}
+use Rattle.kr_lawful.specs.kr_model.Known.{Known, Caller, known}
+use Rattle.kr_lawful.specs.kr_model.Lawful.{IsLawful}
+use Rattle.kr_lawful.specs.kr_model.MemoryRows.{pages_end, page_count, rights_of, has_page, mapped_among, passes_limit, process_pages, all_pages, grow, shrink, brk_row, places_begin, places_end, lowest_page, place_here, place_among, lowest_place, map_at, map_fixed, map_free, mmap_row, munmap_row, mprotect_row}
+use Rattle.kr_lawful.specs.kr_model.State.{Image, image_layout, Process, State, at_pid, process}
 use Rattle.kr_lawful.specs.Laws.{CanAllBeMade}
 use Rattle.kr_lawful.proofs.AfterLemmas.{some-of}
 use Rattle.kr_lawful.proofs.OwnChangeLemmas.{neither}
 use Rattle.kr_lawful.proofs.ProcessChangeLemmas.{found}
 use Rattle.kr_allowed.specs.Laws.{MemoryRowsAreAllowed}
 use Rattle.kr_allowed.proofs.KnownLemmas.{is-less, not-less, maybe, caller-is}
-use Rattle.kr_lasting.specs.Lasting.{AreModest}
+use Rattle.kr_allowed.specs.Lasting.{AreModest}
 use Rattle.kr_allowed.proofs.RowLemmas.{quietly, Allowed, unchanged, refuses, ended, either, row-allowed}
 
 -- ---- counts of pages

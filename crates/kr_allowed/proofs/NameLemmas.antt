@@ -15,24 +15,24 @@ use Rattle.kr_inode.specs.declared.user.Right.TheVariants.{Write, Search}
 use Rattle.kr_view.specs.Component.{is_processes as is_processes_body}
 use Rattle.kr_view.specs.InTree.{IsObjectOf}
 use Rattle.kr_view.specs.View.{Row, is_there}
-use Rattle.kr_model.specs.Applied.{Mounts}
-use Rattle.kr_model.specs.Asking.{body_passes, is_processes, is_processes_host, is_directory_host, is_over, writable_body, writable_node, writable, has_no_room, has_no_name_left, unmasked}
-use Rattle.kr_model.specs.Change.{Change}
-use Rattle.kr_model.specs.Conditions.{IsFreeName, CanRemove, CanMove}
-use Rattle.kr_model.specs.Known.{Known, known, known_node}
-use Rattle.kr_model.specs.Lawful.{IsLawful}
-use Rattle.kr_model.specs.NameRows.{make_directory, mkdirat_row, make_link, symlinkat_row, link_node, link_host, linkat_row, remove_file, remove_directory, take_entry, unlink_found, unlink_row, ending_removed, rmdir_found, rmdir_row, removes_directory, unlinkat_row, is_at_or_above, can_move, move_over, move_onto, move_entry, is_one, is_above_old, move_found, move_uncovered, ends_in_name, move_taken, renameat2_row}
-use Rattle.kr_model.specs.Reply.{Replying, refuse}
-use Rattle.kr_model.specs.Seen.{Looked, Entered, Taken, TakesNoName, TakesCovered, Takes, Made, MakesNoName, MakesOver, Makes}
-use Rattle.kr_model.specs.State.{Image, image_layout, State, process}
+use Rattle.kr_lawful.specs.kr_model.Applied.{Mounts}
+use Rattle.kr_lawful.specs.kr_model.Asking.{body_passes, is_processes, is_processes_host, is_directory_host, is_over, writable_body, writable_node, writable, has_no_room, has_no_name_left, unmasked}
+use Rattle.kr_lawful.specs.kr_model.Change.{Change}
+use Rattle.kr_lawful.specs.kr_model.Conditions.{IsFreeName, CanRemove, CanMove}
+use Rattle.kr_lawful.specs.kr_model.Known.{Known, known, known_node}
+use Rattle.kr_lawful.specs.kr_model.Lawful.{IsLawful}
+use Rattle.kr_lawful.specs.kr_model.NameRows.{make_directory, mkdirat_row, make_link, symlinkat_row, link_node, link_host, linkat_row, remove_file, remove_directory, take_entry, unlink_found, unlink_row, ending_removed, rmdir_found, rmdir_row, removes_directory, unlinkat_row, is_at_or_above, can_move, move_over, move_onto, move_entry, is_one, is_above_old, move_found, move_uncovered, ends_in_name, move_taken, renameat2_row}
+use Rattle.kr_lawful.specs.kr_model.Reply.{Replying, refuse}
+use Rattle.kr_lawful.specs.kr_model.Seen.{Looked, Entered, Taken, TakesNoName, TakesCovered, Takes, Made, MakesNoName, MakesOver, Makes}
+use Rattle.kr_lawful.specs.kr_model.State.{Image, image_layout, State, process}
 use Rattle.kr_lawful.specs.Laws.{CanAllBeMade}
 use Rattle.kr_allowed.specs.Laws.{NameRowsAreAllowed}
 use Rattle.kr_allowed.specs.Resting.{IsFreeIn, IsEntryIn, IsLookedIn, IsTakenIn, IsMadeIn}
 use Rattle.kr_allowed.proofs.AboveLemmas.{not-below}
 use Rattle.kr_allowed.proofs.KnownLemmas.{maybe}
 use Rattle.kr_allowed.proofs.NodeLemmas.{known-test, test-known, entry-name}
-use Rattle.kr_lasting.specs.Lasting.{AreModest}
-use Rattle.kr_lasting.specs.Texts.{IsText}
+use Rattle.kr_allowed.specs.Lasting.{AreModest}
+use Rattle.kr_allowed.specs.Texts.{IsText}
 use Rattle.kr_allowed.proofs.RowLemmas.{quietly, draws-once, Allowed, unchanged, refuses, ended, either, row-allowed}
 
 node-is : (i own : ℕ) → host.Node i ≡ host.Node own → i ≡ own

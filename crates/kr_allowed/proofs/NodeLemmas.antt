@@ -11,9 +11,9 @@ use Rattle.kr_inode.proofs.NameLemmas.{name_decides}
 use Rattle.kr_tree.proofs.EntryLemmas.{entered, entry_named_well}
 use Rattle.kr_tree.proofs.NameLemmas.{some_is}
 use Rattle.kr_view.specs.Component.{is_directory_at}
-use Rattle.kr_model.specs.Asking.{body_passes, is_directory_host}
-use Rattle.kr_model.specs.Known.{Known, Fact, known, known_node}
-use Rattle.kr_model.specs.State.{Image, image_layout, State}
+use Rattle.kr_lawful.specs.kr_model.Asking.{body_passes, is_directory_host}
+use Rattle.kr_lawful.specs.kr_model.Known.{Known, Fact, known, known_node}
+use Rattle.kr_lawful.specs.kr_model.State.{Image, image_layout, State}
 
 module _ {M : Type 0} (pid : ℕ) (s : State M Image) where
   abbrev k : Known

@@ -23,15 +23,15 @@ use Rattle.kr_calls.specs.Arguments.{has}
 use Rattle.kr_files.specs.declared.opened.What.{What}
 use Rattle.kr_files.specs.declared.opened.What.TheVariants.{File, Dir}
 use Rattle.kr_files.specs.Descriptors.{lowest_free}
-use Rattle.kr_model.specs.Applied.{Mounts, in_mount, open_in}
-use Rattle.kr_model.specs.Asking.{has_no_room, unmasked}
-use Rattle.kr_model.specs.Change.{OpenFile, Change, SetSize, OfFound}
-use Rattle.kr_model.specs.DescriptorRows.{o_cloexec}
-use Rattle.kr_model.specs.FileRows.{is_dir, is_file_open, creates, excludes, truncates, wants_directory, wants_write, opens_as, open_under, open_directory, has_rights, cut_after, open_file, open_body, open_host, open_found, make_and_open, open_new, openat_row}
-use Rattle.kr_model.specs.Known.{Known, known, known_node}
-use Rattle.kr_model.specs.Lawful.{IsLawful, IsOpenIn, IsNameOrNone, is_file_at}
-use Rattle.kr_model.specs.Seen.{Looked, Opening, OpensNoName, OpensSlashed, OpensFound, OpensNew}
-use Rattle.kr_model.specs.State.{Image, image_layout, Process, State, process, with_descs}
+use Rattle.kr_lawful.specs.kr_model.Applied.{Mounts, in_mount, open_in}
+use Rattle.kr_lawful.specs.kr_model.Asking.{has_no_room, unmasked}
+use Rattle.kr_lawful.specs.kr_model.Change.{OpenFile, Change, SetSize, OfFound}
+use Rattle.kr_lawful.specs.kr_model.DescriptorRows.{o_cloexec}
+use Rattle.kr_lawful.specs.kr_model.FileRows.{is_dir, is_file_open, creates, excludes, truncates, wants_directory, wants_write, opens_as, open_under, open_directory, has_rights, cut_after, open_file, open_body, open_host, open_found, make_and_open, open_new, openat_row}
+use Rattle.kr_lawful.specs.kr_model.Known.{Known, known, known_node}
+use Rattle.kr_lawful.specs.kr_model.Lawful.{IsLawful, IsOpenIn, IsNameOrNone, is_file_at}
+use Rattle.kr_lawful.specs.kr_model.Seen.{Looked, Opening, OpensNoName, OpensSlashed, OpensFound, OpensNew}
+use Rattle.kr_lawful.specs.kr_model.State.{Image, image_layout, Process, State, process, with_descs}
 use Rattle.kr_lawful.specs.Laws.{CanAllBeMade}
 use Rattle.kr_lawful.proofs.ProcessChangeLemmas.{found}
 use Rattle.kr_allowed.specs.Laws.{OpeningIsAllowed}
@@ -40,7 +40,7 @@ use Rattle.kr_allowed.proofs.KnownLemmas.{maybe, free-lowest}
 use Rattle.kr_allowed.proofs.NameLemmas.{written-to, free-name, small-mode}
 use Rattle.kr_allowed.proofs.NodeLemmas.{test-known}
 use Rattle.kr_files.specs.declared.opened.Opened.{Opened}
-use Rattle.kr_lasting.specs.Lasting.{AreModest}
+use Rattle.kr_allowed.specs.Lasting.{AreModest}
 use Rattle.kr_allowed.proofs.RowLemmas.{quietly, are_quiet, draws-once, Allowed, refuses, ended, either, row-allowed}
 
 -- a place of a kind in a tree is what is open there

@@ -5,15 +5,15 @@ use Rattle.pr_base.specs.declared.errno.Errno.TheVariants.{ENOENT, ENOEXEC}
 use Rattle.kr_calls.specs.declared.request.Request.{Request}
 use Rattle.kr_calls.specs.declared.request.Request.TheVariants as call
 use Rattle.kr_view.specs.View.{Row}
-use Rattle.kr_model.specs.Applied.{Mounts}
-use Rattle.kr_model.specs.AttributeRows.{faccessat_row, fchmodat_row, fchownat_row, fchownat_here, newfstatat_row, newfstatat_here, readlinkat_row}
-use Rattle.kr_model.specs.DirectoryRows.{chdir_row, chroot_row, getcwd_row}
-use Rattle.kr_model.specs.FileRows.{openat_row}
-use Rattle.kr_model.specs.Known.{Known}
-use Rattle.kr_model.specs.NameRows.{mkdirat_row, unlinkat_row, symlinkat_row}
-use Rattle.kr_model.specs.Operation.{looked_up, link_read, opened, taken, made, linked, moved, directory_named, by_path, operation}
-use Rattle.kr_model.specs.Reply.{Replying, refuse}
-use Rattle.kr_model.specs.Seen.{Seen, Looked, Opening, Taken, Made, NoPath, WalkFails, LooksUp, ReadsLink, Opens, TakesEntry, MakesEntry, Links, Moves, NamesDirectory}
+use Rattle.kr_lawful.specs.kr_model.Applied.{Mounts}
+use Rattle.kr_lawful.specs.kr_model.AttributeRows.{faccessat_row, fchmodat_row, fchownat_row, fchownat_here, newfstatat_row, newfstatat_here, readlinkat_row}
+use Rattle.kr_lawful.specs.kr_model.DirectoryRows.{chdir_row, chroot_row, getcwd_row}
+use Rattle.kr_lawful.specs.kr_model.FileRows.{openat_row}
+use Rattle.kr_lawful.specs.kr_model.Known.{Known}
+use Rattle.kr_lawful.specs.kr_model.NameRows.{mkdirat_row, unlinkat_row, symlinkat_row}
+use Rattle.kr_lawful.specs.kr_model.Operation.{looked_up, link_read, opened, taken, made, linked, moved, directory_named, by_path, operation}
+use Rattle.kr_lawful.specs.kr_model.Reply.{Replying, refuse}
+use Rattle.kr_lawful.specs.kr_model.Seen.{Seen, Looked, Opening, Taken, Made, NoPath, WalkFails, LooksUp, ReadsLink, Opens, TakesEntry, MakesEntry, Links, Moves, NamesDirectory}
 use Rattle.kr_allowed.specs.Allowed.{IsAllowedWhere}
 use Rattle.kr_allowed.specs.Calls.{IsGivable, RestsOn, OperationIsAllowed}
 use Rattle.kr_allowed.specs.Laws.{AreDescriptorRowsAllowed, AreProcessRowsAllowed, AreIdentityRowsAllowed, AreMemoryRowsAllowed, AreFileRowsAllowed, AreAttributeRowsAllowed, AreDirectoryRowsAllowed, AreNameRowsAllowed}

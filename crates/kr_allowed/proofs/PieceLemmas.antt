@@ -6,9 +6,9 @@ use Rattle.pr_base.specs.declared.errno.Errno.TheVariants.{EFAULT, EINVAL}
 use Rattle.rv_mem.specs.declared.rights.Use.{Use}
 use Rattle.rv_mem.specs.declared.rights.Use.TheVariants.{Write}
 use Rattle.kr_tree.specs.Lawful.{AreBytes}
-use Rattle.kr_model.specs.Change.{Change}
-use Rattle.kr_model.specs.Pieces.{Piece, Part, asked, cut_to, move_limit, may_use_all, read_all, write_all, if_usable, hand, if_summed, with_list, pieces_of}
-use Rattle.kr_model.specs.Reply.{Replying}
+use Rattle.kr_lawful.specs.kr_model.Change.{Change}
+use Rattle.kr_lawful.specs.kr_model.Pieces.{Piece, Part, asked, cut_to, move_limit, may_use_all, read_all, write_all, if_usable, hand, if_summed, with_list, pieces_of}
+use Rattle.kr_lawful.specs.kr_model.Reply.{Replying}
 use Rattle.kr_lawful.proofs.SumLemmas.{sum-cons}
 use Rattle.kr_allowed.proofs.RowLemmas.{Allowed, unchanged, refuses, ended, tested, read, wrote, either}
 

@@ -9,20 +9,20 @@ use Rattle.pr_base.specs.declared.errno.Errno.TheVariants.{EFAULT}
 use Rattle.rv_mem.proofs.LayoutLemmas.{layouts_follow}
 use Rattle.kr_view.specs.View.{Row}
 use Rattle.kr_calls.specs.Arguments.{has}
-use Rattle.kr_model.specs.Applied.{Mounts}
-use Rattle.kr_model.specs.Change.{Change, Reap}
-use Rattle.kr_model.specs.Conditions.{CanFork}
-use Rattle.kr_model.specs.IdentityRows.{is_kept, no_number, get_row, set_row, set_two_row, set_three_row, get_three_row, getgroups_row, setgroups_row}
-use Rattle.kr_model.specs.Known.{Known, Caller, known, family_of}
-use Rattle.kr_model.specs.MemoryRows.{all_pages}
-use Rattle.kr_model.specs.ProcessRows.{usage_size, most_processes, is_fork, set_tid, told_born, clone_row, null_or_writable, unless_null, tell_end, reap, wait_for, wait4_row, pid_row, getppid_row, signals_row, umask_row, uname_row, exit_row}
-use Rattle.kr_model.specs.Reply.{Replying, done}
-use Rattle.kr_model.specs.State.{Image, image_layout, Process, Ended, State, process}
+use Rattle.kr_lawful.specs.kr_model.Applied.{Mounts}
+use Rattle.kr_lawful.specs.kr_model.Change.{Change, Reap}
+use Rattle.kr_lawful.specs.kr_model.Conditions.{CanFork}
+use Rattle.kr_lawful.specs.kr_model.IdentityRows.{is_kept, no_number, get_row, set_row, set_two_row, set_three_row, get_three_row, getgroups_row, setgroups_row}
+use Rattle.kr_lawful.specs.kr_model.Known.{Known, Caller, known, family_of}
+use Rattle.kr_lawful.specs.kr_model.MemoryRows.{all_pages}
+use Rattle.kr_lawful.specs.kr_model.ProcessRows.{usage_size, most_processes, is_fork, set_tid, told_born, clone_row, null_or_writable, unless_null, tell_end, reap, wait_for, wait4_row, pid_row, getppid_row, signals_row, umask_row, uname_row, exit_row}
+use Rattle.kr_lawful.specs.kr_model.Reply.{Replying, done}
+use Rattle.kr_lawful.specs.kr_model.State.{Image, image_layout, Process, Ended, State, process}
 use Rattle.kr_lawful.specs.Laws.{CanAllBeMade}
 use Rattle.kr_lawful.proofs.AfterLemmas.{some-of}
 use Rattle.kr_allowed.specs.Laws.{ProcessRowsAreAllowed, IdentityRowsAreAllowed}
 use Rattle.kr_allowed.proofs.KnownLemmas.{not-less, not-most, caller-is}
-use Rattle.kr_lasting.specs.Lasting.{AreModest}
+use Rattle.kr_allowed.specs.Lasting.{AreModest}
 use Rattle.kr_allowed.proofs.RowLemmas.{quietly, Allowed, unchanged, refuses, ended, tested, wrote, either, row-allowed}
 
 module _ {M : Type 0} (number : M → ℕ) (table : List Row) (mounts : Mounts M) (pid : ℕ) (s : State M Image) (lives : IsSome (process pid s)) where

@@ -20,18 +20,18 @@ use Rattle.kr_tree.specs.Tree.{Tree}
 use Rattle.kr_tree.proofs.NameLemmas.{some_is}
 use Rattle.kr_view.specs.View.{Row}
 use Rattle.rv_mem.specs.declared.regs.Regs.{Regs}
-use Rattle.kr_model.specs.Applied.{Mounts, with_image, with_living}
-use Rattle.kr_model.specs.Bare.{bare, bare_process}
-use Rattle.kr_model.specs.Change.{Change, AddNode}
-use Rattle.kr_model.specs.Known.{Known, known}
-use Rattle.kr_model.specs.Lawful.{IsLawful, RiseFrom}
-use Rattle.kr_model.specs.Reply.{Reply, Replying, refuse}
-use Rattle.kr_model.specs.declared.outcome.Outcome.{Outcome}
-use Rattle.kr_model.specs.State.{Image, image_layout, Process, State, is_pid, process, with_process}
-use Rattle.kr_model.proofs.KnownLemmas.{known-bare}
+use Rattle.kr_lawful.specs.kr_model.Applied.{Mounts, with_image, with_living}
+use Rattle.kr_lawful.specs.kr_model.Bare.{bare, bare_process}
+use Rattle.kr_lawful.specs.kr_model.Change.{Change, AddNode}
+use Rattle.kr_lawful.specs.kr_model.Known.{Known, known}
+use Rattle.kr_lawful.specs.kr_model.Lawful.{IsLawful, RiseFrom}
+use Rattle.kr_lawful.specs.kr_model.Reply.{Reply, Replying, refuse}
+use Rattle.kr_lawful.specs.kr_model.declared.outcome.Outcome.{Outcome}
+use Rattle.kr_lawful.specs.kr_model.State.{Image, image_layout, Process, State, is_pid, process, with_process}
+use Rattle.kr_lawful.proofs.kr_model.KnownLemmas.{known-bare}
 use Rattle.kr_lawful.specs.Laws.{CanAllBeMade}
-use Rattle.kr_lasting.specs.Drawing.{DrawsOnce, drawn_by, names_drawn, files_drawn, pids_drawn}
-use Rattle.kr_lasting.specs.Lasting.{AreModest, IsOfUser}
+use Rattle.kr_allowed.specs.Drawing.{DrawsOnce, drawn_by, names_drawn, files_drawn, pids_drawn}
+use Rattle.kr_allowed.specs.Lasting.{AreModest, IsOfUser}
 use Rattle.kr_lawful.proofs.AfterLemmas.{is-some, parts-of}
 use Rattle.kr_lawful.proofs.ChangeLemmas.{all-changes-keep}
 use Rattle.kr_lawful.proofs.OwnChangeLemmas.{process-keeps}

@@ -21,12 +21,12 @@ use Rattle.kr_tree.specs.declared.place.ProcAt.TheVariants.{SelfLink, Dir, Cwd, 
 use Rattle.kr_tree.proofs.NameLemmas.{some_is}
 use Rattle.kr_procfs.specs.Objects.{inode_number}
 use Rattle.kr_view.specs.View.{Row}
-use Rattle.kr_model.specs.Asking.{is_over}
-use Rattle.kr_model.specs.DirectoryRows.{Listed, listed_entry, listed_process, with_dots, of_processes, of_process, of_descriptors, shown_by_body, shown_by_process, shown_by, fitting, last_serial, behind}
-use Rattle.kr_model.specs.Known.{Known, Family, known, family_of, known_node}
-use Rattle.kr_model.specs.Lawful.{IsLawful, RiseFrom}
-use Rattle.kr_model.specs.State.{Image, image_layout, Process, State, is_pid, process}
-use Rattle.kr_model.proofs.BareLemmas.{found-mapped}
+use Rattle.kr_lawful.specs.kr_model.Asking.{is_over}
+use Rattle.kr_lawful.specs.kr_model.DirectoryRows.{Listed, listed_entry, listed_process, with_dots, of_processes, of_process, of_descriptors, shown_by_body, shown_by_process, shown_by, fitting, last_serial, behind}
+use Rattle.kr_lawful.specs.kr_model.Known.{Known, Family, known, family_of, known_node}
+use Rattle.kr_lawful.specs.kr_model.Lawful.{IsLawful, RiseFrom}
+use Rattle.kr_lawful.specs.kr_model.State.{Image, image_layout, Process, State, is_pid, process}
+use Rattle.kr_lawful.proofs.kr_model.BareLemmas.{found-mapped}
 use Rattle.kr_allowed.specs.Resting.{HasSmallNumbers}
 use Rattle.kr_allowed.proofs.NodeLemmas.{known-inode}
 

@@ -3,7 +3,7 @@ use Rattle.std.proofs.Common.{◌≡◌, ℕ, Bool, true, false, List, refl, sub
 use Rattle.std.specs.Option.{option_and_then}
 use Rattle.kr_tree.proofs.NameLemmas.{some_is}
 use Rattle.kr_view.specs.View.{Row, row, source_entry}
-use Rattle.kr_model.specs.Lawful.{IsNameOrNone}
+use Rattle.kr_lawful.specs.kr_model.Lawful.{IsNameOrNone}
 use Rattle.kr_allowed.specs.Told.{SettledAreNamed}
 
 pub settled-are-named : SettledAreNamed

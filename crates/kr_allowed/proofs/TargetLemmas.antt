@@ -21,18 +21,18 @@ use Rattle.kr_view.proofs.TableLemmas.{laws_of_places}
 use Rattle.kr_files.specs.declared.opened.Opened.{Opened}
 use Rattle.kr_files.specs.Descriptors.{Named}
 use Rattle.kr_files.specs.Files.{file_at}
-use Rattle.kr_model.specs.Applied.{cwd_of}
-use Rattle.kr_model.specs.Asking.{descriptor_number, is_working_directory}
-use Rattle.kr_model.specs.FileRows.{is_dir}
-use Rattle.kr_model.specs.Known.{known}
-use Rattle.kr_model.specs.Operation.{operation}
-use Rattle.kr_model.specs.Seen.{WalkFails}
+use Rattle.kr_lawful.specs.kr_model.Applied.{cwd_of}
+use Rattle.kr_lawful.specs.kr_model.Asking.{descriptor_number, is_working_directory}
+use Rattle.kr_lawful.specs.kr_model.FileRows.{is_dir}
+use Rattle.kr_lawful.specs.kr_model.Known.{known}
+use Rattle.kr_lawful.specs.kr_model.Operation.{operation}
+use Rattle.kr_lawful.specs.kr_model.Seen.{WalkFails}
 use Rattle.rv_mem.specs.Actions.{carried_out}
 use Rattle.kr_allowed.specs.Allowed.{LeavesLawful}
-use Rattle.kr_model.specs.Lawful.{IsLawful, IsOpenIn}
-use Rattle.kr_model.specs.ProcessDirectory.{around_of, leads_of}
-use Rattle.kr_model.specs.State.{Image, Process, State, process, named, opened, image_layout}
-use Rattle.kr_model.specs.Walks.{Targets, place_of_open, and_then, place_of_descriptor, base_of, walked, target_at, targets_of, seen_of}
+use Rattle.kr_lawful.specs.kr_model.Lawful.{IsLawful, IsOpenIn}
+use Rattle.kr_lawful.specs.kr_model.ProcessDirectory.{around_of, leads_of}
+use Rattle.kr_lawful.specs.kr_model.State.{Image, Process, State, process, named, opened, image_layout}
+use Rattle.kr_lawful.specs.kr_model.Walks.{Targets, place_of_open, and_then, place_of_descriptor, base_of, walked, target_at, targets_of, seen_of}
 use Rattle.kr_allowed.specs.Told.{IsTargetIn, IsEntryOf, HasGoodName, AreGoodTargets, AreTargetsIn, CallsWalkToTargets, WalkedCallsLeaveLawful, mounts_walked, takes_entries}
 use Rattle.kr_allowed.proofs.OperationLemmas.{operation-is-allowed}
 use Rattle.kr_allowed.proofs.ToldLemmas.{calls-leave-lawful}

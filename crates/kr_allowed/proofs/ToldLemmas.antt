@@ -12,11 +12,11 @@ use Rattle.kr_tree.proofs.NameLemmas.{map_some, some_is}
 use Rattle.kr_view.specs.View.{Row, source, is_there}
 use Rattle.kr_view.specs.Component.{is_directory_at}
 use Rattle.kr_view.specs.Walk.{PlaceTarget}
-use Rattle.kr_model.specs.FileRows.{creates}
-use Rattle.kr_model.specs.Lawful.{IsNameOrNone}
-use Rattle.kr_model.specs.Seen.{Seen, Looked, OpensSlashed, OpensFound, OpensNew, OpensNoName, TakesCovered, Takes, TakesNoName, Makes, MakesOver, MakesNoName, NoPath, WalkFails, LooksUp, ReadsLink, Opens, Links}
-use Rattle.kr_model.specs.State.{Image, State, inode_of}
-use Rattle.kr_model.specs.Walks.{Targets, mounts_of, told, is_covered, entered, if_name, of_one, of_two, mount_found, entry_of, looked_at, if_found, taken_at, made_at, created_at, opened_at, text_at}
+use Rattle.kr_lawful.specs.kr_model.FileRows.{creates}
+use Rattle.kr_lawful.specs.kr_model.Lawful.{IsNameOrNone}
+use Rattle.kr_lawful.specs.kr_model.Seen.{Seen, Looked, OpensSlashed, OpensFound, OpensNew, OpensNoName, TakesCovered, Takes, TakesNoName, Makes, MakesOver, MakesNoName, NoPath, WalkFails, LooksUp, ReadsLink, Opens, Links}
+use Rattle.kr_lawful.specs.kr_model.State.{Image, State, inode_of}
+use Rattle.kr_lawful.specs.kr_model.Walks.{Targets, mounts_of, told, is_covered, entered, if_name, of_one, of_two, mount_found, entry_of, looked_at, if_found, taken_at, made_at, created_at, opened_at, text_at}
 use Rattle.kr_allowed.specs.Calls.{IsToldIn}
 use Rattle.kr_allowed.specs.Resting.{IsSeenIn, IsEntryIn, IsLookedIn, IsTakenIn, IsMadeIn, IsOpeningIn}
 use Rattle.kr_allowed.specs.Told.{IsTargetIn, IsEntryOf, AreTargetsIn, SourcesAreNamed, TargetsAreTold, CallsLeaveLawful}

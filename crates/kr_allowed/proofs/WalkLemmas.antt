@@ -24,7 +24,7 @@ use Rattle.kr_view.specs.Walk.{PlaceTarget, looking, place_walk}
 use Rattle.kr_view.proofs.PlaceLemmas.{walks_keep_places}
 use Rattle.kr_view.proofs.TableLemmas.{laws_of_places}
 use Rattle.kr_allowed.specs.Told.{IsTargetIn, IsEntryOf, HasGoodName, WalksGiveTargets}
-use Rattle.kr_allowed.proofs.StayingLemmas.{names-stay}
+use Rattle.kr_view.proofs.StayingLemmas.{names-stay}
 
 abbrev IsLastName : Last → Type 0
 IsLastName last.Name = Unit {0}

@@ -6,13 +6,13 @@ use Rattle.rv_mem.specs.Memory.{Memory}
 pub use Rattle.rv_mem.specs.Pages.{HoldsBytes}
 use Rattle.kr_tree.specs.Tree.{Tree}
 use Rattle.kr_view.specs.View.{Row}
-use Rattle.kr_model.specs.Applied.{Mounts, all_applied, images, with_image, with_living}
-use Rattle.kr_model.specs.Known.{Known, known}
-use Rattle.kr_model.specs.Lawful.{IsLawful}
-use Rattle.kr_model.specs.Reply.{Reply, Replying}
-use Rattle.kr_model.specs.State.{Image, image_layout, Process, State, process, with_process}
+use Rattle.kr_lawful.specs.kr_model.Applied.{Mounts, all_applied, images, with_image, with_living}
+use Rattle.kr_lawful.specs.kr_model.Known.{Known, known}
+use Rattle.kr_lawful.specs.kr_model.Lawful.{IsLawful}
+use Rattle.kr_lawful.specs.kr_model.Reply.{Reply, Replying}
+use Rattle.kr_lawful.specs.kr_model.State.{Image, image_layout, Process, State, process, with_process}
 use Rattle.kr_lawful.specs.Laws.{CanAllBeMade}
-use Rattle.kr_lasting.specs.Lasting.{AreModest}
+use Rattle.kr_allowed.specs.Lasting.{AreModest}
 
 -- the state with the caller's memory as a row left it
 abbrev pub with_memory : {M : Type 0} → ℕ → Memory → State M Image → State M Image

@@ -10,10 +10,10 @@ use Rattle.kr_calls.specs.declared.request.Request.TheVariants as call
 use Rattle.kr_tree.specs.Lawful.{AreBytes}
 use Rattle.kr_tree.specs.Tree.{Tree}
 use Rattle.kr_view.specs.View.{Row}
-use Rattle.kr_model.specs.Applied.{Mounts}
-use Rattle.kr_model.specs.Operation.{operation}
-use Rattle.kr_model.specs.Seen.{Seen, NoPath, WalkFails, LooksUp, ReadsLink, Opens, TakesEntry, MakesEntry, Links, Moves, NamesDirectory}
-use Rattle.kr_lasting.specs.Texts.{IsText}
+use Rattle.kr_lawful.specs.kr_model.Applied.{Mounts}
+use Rattle.kr_lawful.specs.kr_model.Operation.{operation}
+use Rattle.kr_lawful.specs.kr_model.Seen.{Seen, NoPath, WalkFails, LooksUp, ReadsLink, Opens, TakesEntry, MakesEntry, Links, Moves, NamesDirectory}
+use Rattle.kr_allowed.specs.Texts.{IsText}
 use Rattle.kr_allowed.specs.Allowed.{HoldsBytes, IsAllowedWhere}
 use Rattle.kr_allowed.specs.Resting.{HasSmallNumbers, IsLookedIn, IsTakenIn, IsMadeIn, IsOpeningIn}
 

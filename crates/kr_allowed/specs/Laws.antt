@@ -2,18 +2,18 @@
 use Rattle.std.specs.Prelude.{ℕ, ◌≢◌, ◌<◌, ◌^◌, Bool, List, Option, ℤ}
 use Rattle.kr_tree.specs.Lawful.{AreBytes}
 use Rattle.kr_view.specs.View.{Row}
-use Rattle.kr_model.specs.Applied.{Mounts}
-use Rattle.kr_model.specs.AttributeRows.{faccessat_row, fchmod_row, fchmodat_row, fchown_row, fchownat_row, fchownat_here as chown_here, fstat_row, newfstatat_row, newfstatat_here as stat_here, readlinkat_row}
-use Rattle.kr_model.specs.DescriptorRows.{dup_row, dup3_row, fcntl_row, ioctl_row, close_row, pipe2_row, lseek_row}
-use Rattle.kr_model.specs.DirectoryRows.{getdents64_row, chdir_row, fchdir_row, chroot_row, getcwd_row}
-use Rattle.kr_model.specs.FileRows.{read_row, readv_row, write_row, writev_row, ftruncate_row, openat_row}
-use Rattle.kr_model.specs.IdentityRows.{get_row, set_row, set_two_row, set_three_row, get_three_row, getgroups_row, setgroups_row}
-use Rattle.kr_model.specs.Known.{Known}
-use Rattle.kr_model.specs.MemoryRows.{brk_row, mmap_row, munmap_row, mprotect_row}
-use Rattle.kr_model.specs.NameRows.{mkdirat_row, unlinkat_row, symlinkat_row, linkat_row, renameat2_row}
-use Rattle.kr_model.specs.ProcessRows.{pid_row, getppid_row, signals_row, umask_row, uname_row, exit_row, clone_row, wait4_row}
-use Rattle.kr_model.specs.Seen.{Looked, Made, Opening, Taken}
-use Rattle.kr_lasting.specs.Texts.{IsText}
+use Rattle.kr_lawful.specs.kr_model.Applied.{Mounts}
+use Rattle.kr_lawful.specs.kr_model.AttributeRows.{faccessat_row, fchmod_row, fchmodat_row, fchown_row, fchownat_row, fchownat_here as chown_here, fstat_row, newfstatat_row, newfstatat_here as stat_here, readlinkat_row}
+use Rattle.kr_lawful.specs.kr_model.DescriptorRows.{dup_row, dup3_row, fcntl_row, ioctl_row, close_row, pipe2_row, lseek_row}
+use Rattle.kr_lawful.specs.kr_model.DirectoryRows.{getdents64_row, chdir_row, fchdir_row, chroot_row, getcwd_row}
+use Rattle.kr_lawful.specs.kr_model.FileRows.{read_row, readv_row, write_row, writev_row, ftruncate_row, openat_row}
+use Rattle.kr_lawful.specs.kr_model.IdentityRows.{get_row, set_row, set_two_row, set_three_row, get_three_row, getgroups_row, setgroups_row}
+use Rattle.kr_lawful.specs.kr_model.Known.{Known}
+use Rattle.kr_lawful.specs.kr_model.MemoryRows.{brk_row, mmap_row, munmap_row, mprotect_row}
+use Rattle.kr_lawful.specs.kr_model.NameRows.{mkdirat_row, unlinkat_row, symlinkat_row, linkat_row, renameat2_row}
+use Rattle.kr_lawful.specs.kr_model.ProcessRows.{pid_row, getppid_row, signals_row, umask_row, uname_row, exit_row, clone_row, wait4_row}
+use Rattle.kr_lawful.specs.kr_model.Seen.{Looked, Made, Opening, Taken}
+use Rattle.kr_allowed.specs.Texts.{IsText}
 use Rattle.kr_allowed.specs.Allowed.{IsAllowed, IsAllowedWhere}
 use Rattle.kr_allowed.specs.Resting.{HasSmallNumbers, IsLookedIn, IsMadeIn, IsOpeningIn, IsTakenIn}
 

@@ -1,3 +1,6 @@
+pub mod Texts
+pub mod Drawing
+pub mod Lasting
 pub mod Allowed
 pub mod Laws
 pub mod Resting

@@ -8,9 +8,9 @@ use Rattle.kr_tree.specs.declared.place.Host.TheVariants.{Node}
 use Rattle.kr_view.specs.View.{Row, covered}
 use Rattle.kr_view.specs.InTree.{IsPlaceOf}
 use Rattle.kr_view.specs.Leads.{numbered}
-use Rattle.kr_model.specs.Applied.{Mounts}
-use Rattle.kr_model.specs.Lawful.{IsNameOrNone}
-use Rattle.kr_model.specs.Seen.{Looked, Entered, Taken, TakesNoName, TakesCovered, Takes, Made, MakesNoName, MakesOver, Makes, Opening, OpensNoName, OpensSlashed, OpensFound, OpensNew}
+use Rattle.kr_lawful.specs.kr_model.Applied.{Mounts}
+use Rattle.kr_lawful.specs.kr_model.Lawful.{IsNameOrNone}
+use Rattle.kr_lawful.specs.kr_model.Seen.{Looked, Entered, Taken, TakesNoName, TakesCovered, Takes, Made, MakesNoName, MakesOver, Makes, Opening, OpensNoName, OpensSlashed, OpensFound, OpensNew}
 
 -- owners and processes have numbers of 32 bits, and serials of entries have 63
 pub record HasSmallNumbers (t : Tree) (next : ℕ) : Type 0 where

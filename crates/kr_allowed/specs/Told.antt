@@ -16,13 +16,13 @@ use Rattle.kr_tree.specs.Names.{is_name}
 use Rattle.kr_view.specs.Component.{Surroundings, is_directory_at}
 use Rattle.kr_view.specs.InTree.{IsPlaceOf, LeadToPlaces, StandsAround}
 use Rattle.kr_view.specs.Walk.{PlaceTarget, place_walk}
-use Rattle.kr_model.specs.Applied.{Mounts}
-use Rattle.kr_model.specs.Known.{known}
-use Rattle.kr_model.specs.Lawful.{IsLawful, IsNameOrNone}
-use Rattle.kr_model.specs.Operation.{operation}
-use Rattle.kr_model.specs.ProcessDirectory.{leads_of}
-use Rattle.kr_model.specs.State.{Image, image_layout, Process, State, process}
-use Rattle.kr_model.specs.Walks.{Targets, mounts_of, targets_of, told, seen}
+use Rattle.kr_lawful.specs.kr_model.Applied.{Mounts}
+use Rattle.kr_lawful.specs.kr_model.Known.{known}
+use Rattle.kr_lawful.specs.kr_model.Lawful.{IsLawful, IsNameOrNone}
+use Rattle.kr_lawful.specs.kr_model.Operation.{operation}
+use Rattle.kr_lawful.specs.kr_model.ProcessDirectory.{leads_of}
+use Rattle.kr_lawful.specs.kr_model.State.{Image, image_layout, Process, State, process}
+use Rattle.kr_lawful.specs.kr_model.Walks.{Targets, mounts_of, targets_of, told, seen}
 use Rattle.kr_allowed.specs.Allowed.{HoldsBytes, LeavesLawful}
 use Rattle.kr_allowed.specs.Calls.{IsGivable, IsToldIn}
 use Rattle.kr_allowed.specs.Resting.{HasSmallNumbers, IsFreeIn}

@@ -1,4 +1,6 @@
-//! Laws of calls: the changes that each of them replies can all be made, and so it leaves a lawful state.
+//! Laws of calls: the changes that each of them replies can all be made, and so it leaves a lawful state; and laws of what lasts from call
+//! to call beside that.
 #![tactic(auto)]
 
+pub mod lasting;
 pub mod laws;

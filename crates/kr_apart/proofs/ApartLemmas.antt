@@ -24,7 +24,7 @@ use Rattle.kr_model.specs.Walks.{targets_of}
 use Rattle.kr_model.specs.declared.outcome.Outcome.{Outcome}
 use Rattle.kr_model.specs.declared.outcome.Outcome.TheVariants.{Answer, Wait, Ended, NoMemory}
 use Rattle.kr_allowed.specs.Told.{mounts_walked}
-use Rattle.kr_answers.specs.Carrying.{memory_of, with_memory, with_memory_of}
+use Rattle.kr_seen.specs.Carrying.{memory_of, with_memory, with_memory_of}
 use Rattle.kr_calm.specs.Shelf.{shelved_by}
 use Rattle.kr_execve.specs.Execution.{Program, changes_of, execution, mount_of}
 use Rattle.kr_others.specs.Others.{LivesOn}

@@ -29,7 +29,7 @@ use Rattle.kr_ops.specs.Meaning.{meaning, process_meaning}
 use Rattle.kr_ops.specs.Sound.{IsSound}
 use Rattle.kr_ops.proofs.OpeningLemmas.{found, is-there}
 use Rattle.kr_ops.proofs.UseLemmas.{open-held}
-use Rattle.kr_procview.specs.Numbered.{state_numbered}
+use Rattle.kr_seen.specs.Numbered.{state_numbered}
 use Rattle.kr_targets.specs.Performing.{seen_found}
 use Rattle.kr_targets.specs.Placed.{placed_in}
 use Rattle.kr_attributes.specs.Found.{IsOpenAs}

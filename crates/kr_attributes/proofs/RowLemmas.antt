@@ -7,7 +7,7 @@ use Rattle.kr_model.specs.State as model
 use Rattle.kr_model.specs.declared.outcome.Outcome.{Outcome}
 use Rattle.kr_ops.specs.declared.state.State.{State}
 use Rattle.kr_ops.specs.Meaning.{meaning}
-use Rattle.kr_answers.specs.Carrying.{IsCarriedOut, after_row, carried}
+use Rattle.kr_seen.specs.Carrying.{IsCarriedOut, after_row, carried}
 use Rattle.kr_rows.specs.Performing.{IsPerformed}
 
 module _ {T : Type 0} {M : ℕ} (pid : ℕ) (row : Known → Replying) (old new : State T M) (result : Outcome) where

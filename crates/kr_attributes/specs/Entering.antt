@@ -8,7 +8,7 @@ use Rattle.kr_model.specs.Reply.{done}
 use Rattle.kr_model.specs.declared.outcome.Outcome.{Outcome}
 use Rattle.kr_ops.specs.declared.state.State.{State}
 use Rattle.kr_ops.specs.Meaning.{meaning}
-use Rattle.kr_answers.specs.Carrying.{CarriesOut}
+use Rattle.kr_seen.specs.Carrying.{CarriesOut}
 
 -- the change that names the place's mount was carried out, or the directory may not be entered
 abbrev pub Enters : {T : Type 0} {M : ℕ} → ℕ → Place T → State T M → State T M → Outcome → Type 0

@@ -13,7 +13,7 @@ use Rattle.kr_model.specs.Seen.{NamesDirectory, ReadsLink, Seen}
 use Rattle.kr_model.specs.Walks.{text_at}
 use Rattle.kr_ops.specs.declared.state.State.{State}
 use Rattle.kr_ops.specs.Meaning.{meaning}
-use Rattle.kr_procview.specs.Numbered.{state_numbered}
+use Rattle.kr_seen.specs.Numbered.{state_numbered}
 use Rattle.kr_targets.specs.Performing.{seen_found}
 use Rattle.kr_attributes.specs.declared.links.TextFault.{TextFault}
 use Rattle.kr_attributes.specs.declared.links.TextFault.TheVariants.{Refused, NoMemory}

@@ -16,9 +16,9 @@ ghost use Rattle.kr_targets.specs.Resolved.{IsFoundIn};
 ghost use Rattle.kr_rows.specs.Performing.{Performs};
 
 use crate::found::natural;
-use kr_answers::{number, refused};
 use kr_model::Outcome;
 use kr_ops::State;
+use kr_seen::{number, refused};
 use kr_targets::{is_directory_host, is_searched};
 use kr_tree::{Host, Place};
 use kr_view::Target;

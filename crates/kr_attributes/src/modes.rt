@@ -10,9 +10,9 @@ ghost use Rattle.kr_rows.specs.Performing.{Performs};
 ghost use Rattle.kr_tree.specs.declared.place.Host.TheVariants.{Node};
 
 use crate::found::open_object;
-use kr_answers::{number, refused};
 use kr_model::Outcome;
 use kr_ops::State;
+use kr_seen::{number, refused};
 use kr_targets::is_processes_host;
 use kr_tree::{Host, Ino, User};
 use kr_view::Target;

@@ -14,11 +14,11 @@ ghost use Rattle.kr_rows.specs.Performing.{Performs};
 ghost use Rattle.kr_attributes.specs.Named.{seen_directory};
 
 use crate::links::shown_text;
-use kr_answers::refused;
 use kr_model::Outcome;
 use kr_ops::State;
 use kr_ops::laws::lawful_states_are_sound;
 use kr_rows::caller;
+use kr_seen::refused;
 use kr_tree::ProcAt;
 use kr_view::Places;
 use pr_base::{Bytes, Errno, NoMemory};

@@ -14,9 +14,9 @@ ghost use Rattle.kr_rows.specs.Performing.{Performs};
 ghost use Rattle.kr_attributes.specs.Ruled.{ruled};
 
 use crate::found::{is_working_directory, open_object, working_directory};
-use kr_answers::{number, refused};
 use kr_model::Outcome;
 use kr_ops::State;
+use kr_seen::{number, refused};
 use kr_tree::{Host, Ino, User};
 use kr_view::Target;
 use pr_base::Errno;

@@ -12,9 +12,9 @@ ghost use Rattle.kr_ops.specs.Sound.{IsSound};
 ghost use Rattle.kr_targets.specs.Performing.{PerformsAt, seen_found};
 
 use crate::found::is_process_directory;
-use kr_answers::{number, refused};
 use kr_model::Outcome;
 use kr_ops::State;
+use kr_seen::{number, refused};
 use kr_tree::{Host, ProcAt, Right};
 use kr_view::Target;
 use pr_base::Errno;

@@ -19,13 +19,13 @@ ghost use Rattle.kr_rows.specs.Performing.{Performs};
 ghost use Rattle.kr_attributes.specs.Facts.{bits_by, links_by, size_by};
 
 use crate::found::{is_process_directory, is_working_directory, open_object, working_directory};
-use kr_answers::refused;
 use kr_calls::{Stat, stat_bytes};
 use kr_files::What;
 use kr_model::Outcome;
 use kr_ops::State;
 use kr_procfs::proc_inode;
 use kr_rows::caller;
+use kr_seen::refused;
 use kr_tree::laws::trees_are_kept;
 use kr_tree::{Host, Ino, Kind, Meta, ProcAt, User};
 use kr_view::Target;

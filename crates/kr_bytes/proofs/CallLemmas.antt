@@ -25,7 +25,7 @@ use Rattle.kr_model.specs.declared.outcome.Outcome.TheVariants.{Answer, Ended, N
 use Rattle.kr_allowed.specs.Calls.{HasTextPaths, IsGivable}
 use Rattle.kr_allowed.specs.Told.{mounts_walked}
 use Rattle.kr_allowed.proofs.DecodedLemmas.{decoded-are-givable, decoding-leaves-pages}
-use Rattle.kr_answers.specs.Carrying.{after_row, memory_of, no_memory, with_memory, with_memory_of}
+use Rattle.kr_seen.specs.Carrying.{after_row, memory_of, no_memory, with_memory, with_memory_of}
 use Rattle.kr_execve.specs.Execution.{Program, after_execution, changes_of, execution, mount_of}
 use Rattle.kr_steps.specs.Answering.{going, with_answer}
 use Rattle.kr_steps.specs.Computing.{computed}

@@ -1,3 +1,4 @@
+pub use Rattle.kr_turns.proofs as kr_turns
 pub mod ActionLemmas
 pub mod CallLemmas
 pub mod ChangeLemmas

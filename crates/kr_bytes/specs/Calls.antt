@@ -10,7 +10,7 @@ use Rattle.kr_model.specs.Reply.{Reply}
 use Rattle.kr_model.specs.State.{Image, State}
 use Rattle.kr_model.specs.Walks.{targets_of}
 use Rattle.kr_allowed.specs.Told.{mounts_walked}
-use Rattle.kr_answers.specs.Carrying.{after_row}
+use Rattle.kr_seen.specs.Carrying.{after_row}
 use Rattle.kr_turns.specs.PlainCall.{executed, operated, plain_call, row_on}
 use Rattle.kr_bytes.specs.Bringing.{BringBytes}
 use Rattle.kr_bytes.specs.Bytes.{GivesBytes, HasBytes, TableHasBytes}

@@ -1,3 +1,4 @@
+pub use Rattle.kr_turns.specs as kr_turns
 pub mod Bringing
 pub mod Bytes
 pub mod Calls

@@ -15,17 +15,17 @@ use Rattle.kr_model.specs.State as model
 use Rattle.kr_model.specs.Walks.{seen, seen_of, targets_of, told}
 use Rattle.kr_model.specs.declared.outcome.Outcome.{Outcome}
 use Rattle.kr_model.specs.declared.outcome.Outcome.TheVariants.{NoMemory}
-use Rattle.kr_lasting.specs.Lasting.{Lasts}
-use Rattle.kr_lasting.proofs.RoomLemmas.{lasting-room}
+use Rattle.kr_allowed.specs.Lasting.{Lasts}
+use Rattle.kr_allowed.proofs.RoomLemmas.{lasting-room}
 use Rattle.kr_allowed.specs.Calls.{HasTextPaths}
 use Rattle.kr_allowed.specs.Told.{mounts_walked}
 use Rattle.kr_ops.specs.declared.state.State.{State}
 use Rattle.kr_ops.specs.Meaning.{meaning}
-use Rattle.kr_procview.specs.Numbered.{state_numbered}
-use Rattle.kr_paths.specs.CallWalks.{AreTargets}
-use Rattle.kr_paths.specs.declared.walks.Targets.{Targets}
-use Rattle.kr_answers.specs.Carrying.{IsCarriedOut}
-use Rattle.kr_answers.proofs.CarryLemmas.{by-refusal}
+use Rattle.kr_seen.specs.Numbered.{state_numbered}
+use Rattle.kr_seen.specs.CallWalks.{AreTargets}
+use Rattle.kr_seen.specs.declared.walks.Targets.{Targets}
+use Rattle.kr_seen.specs.Carrying.{IsCarriedOut}
+use Rattle.kr_seen.proofs.CarryLemmas.{by-refusal}
 use Rattle.kr_walked.specs.Operated.{AreTexts, HasNumbers, OperatesAt, mounts_at, placed_targets, LastsLawful}
 use Rattle.kr_calling.specs.Calling.{IsCalled, MayCall, Runs}
 use Rattle.kr_calling.proofs.RefusedLemmas.{walk-refuses}

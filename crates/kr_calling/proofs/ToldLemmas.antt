@@ -14,7 +14,7 @@ use Rattle.kr_view.specs.Walk.{PlaceTarget}
 use Rattle.kr_model.specs.Seen.{Seen, NoPath}
 use Rattle.kr_model.specs.State.{State}
 use Rattle.kr_model.specs.Walks.{Targets, told, mounts_of, opened_at}
-use Rattle.kr_paths.specs.CallWalks.{IsTold}
+use Rattle.kr_seen.specs.CallWalks.{IsTold}
 use Rattle.kr_walked.specs.Operated.{placed, mounts_at, placed_targets}
 use Rattle.kr_calling.specs.Calling.{mounts_numbered}
 

@@ -11,8 +11,8 @@ use Rattle.kr_allowed.specs.Told.{mounts_walked}
 use Rattle.kr_ops.specs.declared.state.State.{State}
 use Rattle.kr_ops.specs.Meaning.{meaning}
 use Rattle.kr_ops.specs.Sound.{IsServed}
-use Rattle.kr_procview.specs.Numbered.{state_numbered}
-use Rattle.kr_answers.specs.Carrying.{IsCarriedOut}
+use Rattle.kr_seen.specs.Numbered.{state_numbered}
+use Rattle.kr_seen.specs.Carrying.{IsCarriedOut}
 use Rattle.kr_walked.specs.Operated.{LastsLawful}
 
 -- mounts by their numbers in a view

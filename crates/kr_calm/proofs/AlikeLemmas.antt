@@ -20,9 +20,9 @@ use Rattle.kr_model.specs.Applied.{with_image}
 use Rattle.kr_model.specs.Change.{Change, MoveName, RemoveName, SetMode}
 use Rattle.kr_model.specs.FileRows.{is_dir}
 use Rattle.kr_model.specs.State.{Image, Process, State, at_pid, inode_of}
-use Rattle.kr_procview.specs.Numbered.{opened_numbered, process_numbered, state_numbered, table_numbered}
+use Rattle.kr_seen.specs.Numbered.{opened_numbered, process_numbered, state_numbered, table_numbered}
 use Rattle.kr_numbered.proofs.TableLemmas.{file-numbered}
-use Rattle.kr_answers.specs.Carrying.{with_memory, with_memory_of}
+use Rattle.kr_seen.specs.Carrying.{with_memory, with_memory_of}
 use Rattle.kr_calm.specs.Above.{is_at_or_below}
 use Rattle.kr_calm.specs.Foreseen.{foreseen_of, guarded, may_shut}
 use Rattle.kr_calm.specs.InUse.{any_opened_below, is_in_use, is_remembered, open_directory, passes_at, process_remembers, process_uses, remembered_directory}

@@ -18,8 +18,8 @@ use Rattle.kr_model.specs.Walks.{seen}
 use Rattle.kr_model.specs.declared.outcome.Outcome.{Outcome}
 use Rattle.kr_model.specs.declared.outcome.Outcome.TheVariants.{Answer, Ended, NoMemory, Wait}
 use Rattle.kr_model.proofs.CleanCalls.{ends_as_told}
-use Rattle.kr_procview.specs.Numbered.{state_numbered}
-use Rattle.kr_answers.specs.Carrying.{after_row, memory_of, with_memory_of}
+use Rattle.kr_seen.specs.Numbered.{state_numbered}
+use Rattle.kr_seen.specs.Carrying.{after_row, memory_of, with_memory_of}
 use Rattle.kr_calm.specs.Calm.{broken_by_changes, smallest}
 use Rattle.kr_calm.specs.Foreseen.{broken_as_foreseen, call_done, call_foreseen, foreseen_of, gives_owner, is_foreseen, prospect}
 use Rattle.kr_calm.specs.InUse.{is_directory_of, is_in_use}

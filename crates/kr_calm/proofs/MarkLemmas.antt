@@ -20,7 +20,7 @@ use Rattle.kr_model.specs.Seen.{Seen}
 use Rattle.kr_model.specs.declared.outcome.Outcome.{Outcome}
 use Rattle.kr_model.specs.declared.outcome.Outcome.TheVariants.{Ended}
 use Rattle.kr_model.proofs.BareLemmas.{found-mapped}
-use Rattle.kr_answers.specs.Carrying.{after_row, carried, memory_of, no_memory, with_memory, with_memory_of}
+use Rattle.kr_seen.specs.Carrying.{after_row, carried, memory_of, no_memory, with_memory, with_memory_of}
 use Rattle.kr_calm.specs.Foreseen.{gives_owner, is_foreseen, prospect}
 use Rattle.kr_calm.specs.Laws.{MarksAreKept, leaves_mark}
 use Rattle.kr_calm.specs.Prospects.{answers_zero}

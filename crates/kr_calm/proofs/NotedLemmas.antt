@@ -34,8 +34,8 @@ use Rattle.kr_ops.specs.declared.state.State.{State as Code}
 use Rattle.kr_ops.specs.Making.{IsAsBefore}
 use Rattle.kr_ops.specs.Meaning.{meaning}
 use Rattle.kr_ops.specs.Sound.{IsSound}
-use Rattle.kr_answers.specs.Carrying.{memory_of, with_memory_of}
-use Rattle.kr_answers.proofs.CarryLemmas.{own-memory}
+use Rattle.kr_seen.specs.Carrying.{memory_of, with_memory_of}
+use Rattle.kr_seen.proofs.CarryLemmas.{own-memory}
 use Rattle.kr_rows.specs.Using.{HasMemory, Reads}
 use Rattle.kr_rows.proofs.UsingLemmas.{has-memory, memory-is, twice}
 use Rattle.kr_calm.specs.Noted.{IsNoted, ListsAreNoted, is_read, is_unread, kills, noted}

@@ -29,7 +29,7 @@ use Rattle.kr_model.specs.Operation.{by_path, looked_up, operation}
 use Rattle.kr_model.specs.Reply.{Replying, done, refuse}
 use Rattle.kr_model.specs.Seen.{LooksUp, Seen}
 use Rattle.kr_model.specs.State.{Image, State, image_layout}
-use Rattle.kr_answers.specs.Carrying.{with_memory_of}
+use Rattle.kr_seen.specs.Carrying.{with_memory_of}
 use Rattle.kr_calm.specs.Foreseen.{gives_owner}
 use Rattle.kr_calm.specs.Laws.{BreakNone, OwnersBreakNone}
 use Rattle.kr_calm.specs.Rules.{serves}

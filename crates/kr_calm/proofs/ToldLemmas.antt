@@ -20,9 +20,9 @@ use Rattle.kr_model.specs.Known.{Known, known}
 use Rattle.kr_model.specs.Seen.{LooksUp, Moves, NoPath, Taken, TakesEntry, WalkFails}
 use Rattle.kr_model.specs.State.{Image, State, image_layout, opened}
 use Rattle.kr_model.specs.Walks.{Targets, if_found, looked_at, seen_of, taken_at, targets_of, told}
-use Rattle.kr_procview.specs.Numbered.{state_numbered}
+use Rattle.kr_seen.specs.Numbered.{state_numbered}
 use Rattle.kr_numbered.proofs.LookLemmas.{known-numbered}
-use Rattle.kr_paths.specs.CallWalks.{IsTold}
+use Rattle.kr_seen.specs.CallWalks.{IsTold}
 use Rattle.kr_targets.specs.Placed.{placed, placed_in}
 use Rattle.kr_calm.specs.Foreseen.{call_foreseen, foreseen_of, mode_found, mode_opened, moved_away, prospect, taken_away}
 use Rattle.kr_calm.specs.Prospects.{mode_set, renameat2_made, unlinkat_made}

@@ -20,7 +20,7 @@ use Rattle.kr_model.specs.Reply.{Reply}
 use Rattle.kr_model.specs.Seen.{LooksUp, Moves, Seen, TakesEntry}
 use Rattle.kr_model.specs.State.{Image, State, image_layout}
 use Rattle.kr_model.specs.Walks.{seen}
-use Rattle.kr_answers.specs.Carrying.{carried}
+use Rattle.kr_seen.specs.Carrying.{carried}
 use Rattle.kr_calm.specs.Calm.{smallest}
 use Rattle.kr_calm.specs.Prospects.{mode_set, renameat2_made, unlinkat_made}
 use Rattle.kr_calm.specs.Rules.{breaks_3, serves, takes_in_use}

@@ -21,7 +21,7 @@ use Rattle.kr_model.specs.Reply.{is_refusal}
 use Rattle.kr_model.specs.Seen.{Seen, WalkFails}
 use Rattle.kr_model.specs.State.{Image, State, image_layout, inode_of, process}
 use Rattle.kr_model.specs.declared.outcome.Outcome.TheVariants.{Ended}
-use Rattle.kr_answers.specs.Carrying.{after_row, carried, memory_of, with_memory_of}
+use Rattle.kr_seen.specs.Carrying.{after_row, carried, memory_of, with_memory_of}
 use Rattle.kr_calm.specs.Above.{is_at_or_below}
 use Rattle.kr_calm.specs.Foreseen.{are_unjudged, gives_owner, is_foreseen, prospect}
 use Rattle.kr_calm.specs.InUse.{is_directory_of, is_in_use}

@@ -20,7 +20,7 @@ use Rattle.kr_model.specs.State.{image_layout}
 use Rattle.kr_model.specs.declared.outcome.Outcome.TheVariants.{Ended}
 use Rattle.kr_ops.specs.declared.state.State.{State}
 use Rattle.kr_ops.specs.Meaning.{meaning}
-use Rattle.kr_answers.specs.Carrying.{after_row, carried, memory_of}
+use Rattle.kr_seen.specs.Carrying.{after_row, carried, memory_of}
 use Rattle.kr_rows.specs.Using.{HasMemory}
 
 -- an end for writing of a pipe that nobody reads

@@ -7,8 +7,8 @@ ghost use Rattle.kr_model.specs.State as model;
 ghost use Rattle.kr_model.specs.declared.outcome.Outcome.TheVariants.{NoMemory as WantOfMemory};
 ghost use Rattle.kr_ops.specs.Meaning.{meaning};
 ghost use Rattle.kr_ops.specs.Sound.{IsServed};
-ghost use Rattle.kr_procview.specs.Numbered.{state_numbered};
-ghost use Rattle.kr_answers.specs.Carrying.{after_row, with_memory_of};
+ghost use Rattle.kr_seen.specs.Numbered.{state_numbered};
+ghost use Rattle.kr_seen.specs.Carrying.{after_row, with_memory_of};
 ghost use Rattle.kr_calm.specs.Calm.{broken_by_changes};
 ghost use Rattle.kr_calm.specs.Foreseen.{broken_as_foreseen, call_done, call_foreseen};
 

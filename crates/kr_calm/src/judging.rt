@@ -3,7 +3,7 @@ ghost use Rattle.std.specs.Prelude.{◌≡◌, ◌<◌, ◌^◌, ℕ, length};
 ghost use Rattle.kr_model.specs.Change.{MoveName, RemoveName};
 ghost use Rattle.kr_ops.specs.Meaning.{meaning};
 ghost use Rattle.kr_ops.specs.Sound.{IsServed};
-ghost use Rattle.kr_procview.specs.Numbered.{state_numbered};
+ghost use Rattle.kr_seen.specs.Numbered.{state_numbered};
 ghost use Rattle.kr_calm.specs.Foreseen.{guarded};
 ghost use Rattle.kr_calm.specs.InUse.{is_directory_of, is_in_use};
 ghost use Rattle.kr_calm.specs.Questions.{HaveRealPoints};

@@ -7,7 +7,7 @@ ghost use Rattle.kr_model.specs.Known.{known};
 ghost use Rattle.kr_model.specs.State.{image_layout, process};
 ghost use Rattle.kr_ops.specs.Meaning.{meaning};
 ghost use Rattle.kr_ops.specs.Sound.{IsSound};
-ghost use Rattle.kr_answers.specs.Carrying.{memory_of};
+ghost use Rattle.kr_seen.specs.Carrying.{memory_of};
 ghost use Rattle.kr_rows.specs.Using.{HasMemory};
 ghost use Rattle.kr_calm.specs.Noted.{IsNoted, is_read, is_unread, kills};
 

@@ -11,7 +11,7 @@ use Rattle.kr_model.specs.State.{Image, Process, image_layout, is_pid, process}
 use Rattle.kr_lawful.proofs.SumLemmas.{other-test}
 use Rattle.kr_ops.specs.declared.state.State.{State}
 use Rattle.kr_ops.specs.Meaning.{meaning}
-use Rattle.kr_procview.specs.Numbered.{process_numbered, state_numbered}
+use Rattle.kr_seen.specs.Numbered.{process_numbered, state_numbered}
 use Rattle.kr_numbered.proofs.LookLemmas.{known-numbered, process-numbered}
 use Rattle.kr_numbered.proofs.StepLemmas.{passing-numbered}
 use Rattle.kr_turns.specs.Steps.{Runs, goes_on, picked_process, ready_processes, still_waits}

@@ -6,7 +6,7 @@ ghost use Rattle.kr_calm.specs.Calm.{kept};
 ghost use Rattle.kr_core.specs.Kernel.{Clears, Starts, Turns, first_rule, machine};
 ghost use Rattle.kr_first.specs.Started.{HasSizedProcesses, LeadsToDirectory};
 ghost use Rattle.kr_first.specs.Starting.{start_of, start_reach};
-ghost use Rattle.kr_lasting.specs.Texts.{IsText};
+ghost use Rattle.kr_allowed.specs.Texts.{IsText};
 ghost use Rattle.kr_listed.specs.Beginning.{CanLast};
 ghost use Rattle.kr_start.specs.Start.{HasNoHolds};
 ghost use Rattle.kr_turns.specs.Steps.{ready_processes};

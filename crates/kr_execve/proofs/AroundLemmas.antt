@@ -17,8 +17,8 @@ use Rattle.kr_model.specs.Applied.{with_image, with_living}
 use Rattle.kr_model.specs.ProcessDirectory.{around_of, jump_to, lead_of_open, leads_of, space_of}
 use Rattle.kr_model.specs.State.{Image, Process, State, at_pid, opened, process}
 use Rattle.kr_lawful.proofs.ProcessChangeLemmas.{found, same-mapped}
-use Rattle.kr_procview.specs.Numbered.{process_numbered, state_numbered}
-use Rattle.kr_answers.specs.Carrying.{with_memory, with_memory_of}
+use Rattle.kr_seen.specs.Numbered.{process_numbered, state_numbered}
+use Rattle.kr_seen.specs.Carrying.{with_memory, with_memory_of}
 
 module _ (pid : ℕ) (memory : Memory) where
   abbrev own : {T : Type 0} → Process T Image → Process T Image

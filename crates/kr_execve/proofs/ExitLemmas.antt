@@ -22,7 +22,7 @@ use Rattle.kr_view.specs.Leads.{numbered}
 use Rattle.kr_view.specs.Reach.{reach_after}
 use Rattle.kr_view.specs.View.{Row}
 use Rattle.kr_view.specs.Walk.{PlaceTarget}
-use Rattle.kr_lasting.specs.Texts.{IsText, LinksHaveTexts}
+use Rattle.kr_allowed.specs.Texts.{IsText, LinksHaveTexts}
 use Rattle.kr_lawful.specs.Laws.{CanAllBeMade}
 use Rattle.kr_lawful.proofs.AfterLemmas.{some-of}
 use Rattle.kr_model.specs.Applied.{Mounts, all_applied, cwd_of, images}
@@ -37,14 +37,14 @@ use Rattle.kr_allowed.proofs.RowLemmas.{lawful-memory, stays-like}
 use Rattle.kr_ops.specs.declared.state.State.{State}
 use Rattle.kr_ops.specs.Meaning.{meaning}
 use Rattle.kr_ops.specs.Sound.{IsServed}
-use Rattle.kr_answers.specs.Carrying.{memory_of, no_memory, with_memory_of}
-use Rattle.kr_answers.proofs.CarryLemmas.{own-memory}
-use Rattle.kr_procview.specs.Numbered.{process_numbered, state_numbered}
-use Rattle.kr_procview.proofs.NumberedLemmas.{process-numbered}
-use Rattle.kr_resolved.proofs.NumberedLemmas.{lawful_numbered}
-use Rattle.kr_resolved.proofs.TextLemmas.{text_bytes}
-use Rattle.kr_rows.specs.Using.{HasMemory}
-use Rattle.kr_rows.proofs.UsingLemmas.{memory-is}
+use Rattle.kr_seen.specs.Carrying.{memory_of, no_memory, with_memory_of}
+use Rattle.kr_seen.proofs.CarryLemmas.{own-memory}
+use Rattle.kr_seen.specs.Numbered.{process_numbered, state_numbered}
+use Rattle.kr_seen.proofs.NumberedLemmas.{process-numbered}
+use Rattle.kr_perform.proofs.kr_resolved.NumberedLemmas.{lawful_numbered}
+use Rattle.kr_perform.proofs.kr_resolved.TextLemmas.{text_bytes}
+use Rattle.kr_perform.specs.kr_rows.Using.{HasMemory}
+use Rattle.kr_perform.proofs.kr_rows.UsingLemmas.{memory-is}
 use Rattle.kr_exec.specs.Answers.{Answers, Reaches, plan_numbered}
 use Rattle.kr_exec.specs.Exec.{are_too_big, exec_plan, exec_reach}
 use Rattle.kr_exec.specs.Finding.{is_program, program_at, program_walk}

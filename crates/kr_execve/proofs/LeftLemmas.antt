@@ -17,8 +17,8 @@ use Rattle.kr_view.specs.Walk.{PlaceTarget}
 use Rattle.kr_lawful.specs.Laws.{CanAllBeMade}
 use Rattle.kr_lawful.proofs.AfterLemmas.{some-of}
 use Rattle.kr_lawful.proofs.ChangeLemmas.{all-changes-keep}
-use Rattle.kr_lasting.specs.Lasting.{AreModest, Lasts}
-use Rattle.kr_lasting.proofs.ChangeLemmas.{modest-last}
+use Rattle.kr_allowed.specs.Lasting.{AreModest, Lasts}
+use Rattle.kr_allowed.proofs.ChangeLemmas.{modest-last}
 use Rattle.kr_model.specs.Applied.{Mounts, cwd_of}
 use Rattle.kr_model.specs.Lawful.{IsLawful}
 use Rattle.kr_model.specs.ProcessDirectory.{around_of}
@@ -29,10 +29,10 @@ use Rattle.kr_allowed.proofs.RowLemmas.{lawful-memory, stays-like}
 use Rattle.kr_ops.specs.declared.state.State.{State}
 use Rattle.kr_ops.specs.Meaning.{meaning}
 use Rattle.kr_ops.specs.Sound.{IsServed}
-use Rattle.kr_answers.specs.Carrying.{memory_of, no_memory, with_memory_of}
+use Rattle.kr_seen.specs.Carrying.{memory_of, no_memory, with_memory_of}
 use Rattle.kr_perform.specs.Lawful.{LastsLawful}
-use Rattle.kr_procview.specs.Numbered.{process_numbered, state_numbered}
-use Rattle.kr_procview.proofs.NumberedLemmas.{process-numbered}
+use Rattle.kr_seen.specs.Numbered.{process_numbered, state_numbered}
+use Rattle.kr_seen.proofs.NumberedLemmas.{process-numbered}
 use Rattle.kr_exec.specs.Finding.{program_walk}
 use Rattle.kr_exec.specs.Lists.{Trying, and_then, lists_at}
 use Rattle.kr_exec.specs.declared.lists.Lists.{Lists}

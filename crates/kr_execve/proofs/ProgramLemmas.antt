@@ -26,11 +26,11 @@ use Rattle.kr_view.specs.InTree.{IsPlaceOf, StandsAround}
 use Rattle.kr_view.specs.View.{Row, source}
 use Rattle.kr_view.specs.Walk.{PlaceTarget, place_walk}
 use Rattle.kr_view.proofs.PlaceLemmas.{walks_keep_places}
-use Rattle.kr_lasting.specs.Texts.{LinksHaveTexts}
+use Rattle.kr_allowed.specs.Texts.{LinksHaveTexts}
 use Rattle.kr_model.specs.Lawful.{IsNameOrNone, is_file_at}
 use Rattle.kr_allowed.specs.Told.{SourcesAreNamed}
-use Rattle.kr_resolved.proofs.NamingLemmas.{good_name}
-use Rattle.kr_resolved.proofs.TextLemmas.{IsTextByte, text_bytes}
+use Rattle.kr_perform.proofs.kr_resolved.NamingLemmas.{good_name}
+use Rattle.kr_perform.proofs.kr_resolved.TextLemmas.{IsTextByte, text_bytes}
 use Rattle.kr_exec.specs.Exec.{entry_of, exec_plan, inode_at}
 use Rattle.kr_exec.specs.Finding.{if_program, is_program, is_program_found, program_at, program_walk}
 use Rattle.kr_exec.specs.Interpreters.{told_program}

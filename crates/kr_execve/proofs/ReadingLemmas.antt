@@ -14,9 +14,9 @@ use Rattle.kr_ops.specs.Living.{HasPid}
 use Rattle.kr_ops.specs.Meaning.{meaning}
 use Rattle.kr_ops.specs.Sound.{IsSound}
 use Rattle.kr_ops.proofs.PageLemmas.{with_mem}
-use Rattle.kr_answers.specs.Carrying.{memory_of}
-use Rattle.kr_rows.specs.Using.{HasMemory}
-use Rattle.kr_rows.proofs.UsingLemmas.{has-now, memory-at}
+use Rattle.kr_seen.specs.Carrying.{memory_of}
+use Rattle.kr_perform.specs.kr_rows.Using.{HasMemory}
+use Rattle.kr_perform.proofs.kr_rows.UsingLemmas.{has-now, memory-at}
 use Rattle.kr_exec.specs.Lists.{Reads}
 use Rattle.kr_exec.specs.declared.lists.Lists.{Lists}
 use Rattle.kr_execve.specs.Executing.{ReadsLists, lists_in}

@@ -8,13 +8,13 @@ use Rattle.kr_view.specs.Answers.{told}
 use Rattle.kr_view.specs.InTree.{IsPlaceOf, StandsAround}
 use Rattle.kr_view.specs.View.{Row}
 use Rattle.kr_view.specs.Walk.{PlaceTarget}
-use Rattle.kr_lasting.specs.Texts.{LinksHaveTexts}
+use Rattle.kr_allowed.specs.Texts.{LinksHaveTexts}
 use Rattle.kr_model.specs.Lawful.{IsLawful, IsNameOrNone, is_file_at}
 use Rattle.kr_model.specs.ProcessDirectory.{around_of}
 use Rattle.kr_model.specs.State.{Image, Process, State, process}
 use Rattle.kr_allowed.specs.Told.{SourcesAreNamed}
-use Rattle.kr_resolved.proofs.AroundLemmas.{lead_to_places, leads_texts}
-use Rattle.kr_resolved.proofs.TextLemmas.{IsTextByte}
+use Rattle.kr_perform.proofs.kr_resolved.AroundLemmas.{lead_to_places, leads_texts}
+use Rattle.kr_perform.proofs.kr_resolved.TextLemmas.{IsTextByte}
 use Rattle.kr_exec.specs.Exec.{exec_plan}
 use Rattle.kr_exec.specs.Finding.{program_at}
 use Rattle.kr_exec.specs.declared.plan.ExecPlan.{ExecPlan}

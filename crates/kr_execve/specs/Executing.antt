@@ -28,10 +28,10 @@ use Rattle.kr_ops.specs.declared.state.State.{State}
 use Rattle.kr_ops.specs.Making.{Makes}
 use Rattle.kr_ops.specs.Meaning.{meaning}
 use Rattle.kr_ops.specs.Sound.{IsServed}
-use Rattle.kr_answers.specs.Carrying.{memory_of}
+use Rattle.kr_seen.specs.Carrying.{memory_of}
 use Rattle.kr_perform.specs.Lawful.{LastsLawful}
-use Rattle.kr_rows.specs.Using.{HasMemory}
-use Rattle.kr_procview.specs.Numbered.{state_numbered}
+use Rattle.kr_perform.specs.kr_rows.Using.{HasMemory}
+use Rattle.kr_seen.specs.Numbered.{state_numbered}
 use Rattle.kr_exec.specs.Exec.{are_too_big}
 use Rattle.kr_exec.specs.Interpreters.{bytes_at}
 use Rattle.kr_exec.specs.Lists.{lists_at}

@@ -21,7 +21,7 @@ use Rattle.kr_model.specs.Known.{pages_in_all}
 use Rattle.kr_model.specs.ProcessDirectory.{around_of}
 use Rattle.kr_model.specs.State.{Image, State, image_layout}
 use Rattle.kr_model.specs.Walks as results
-use Rattle.kr_answers.specs.Carrying.{with_memory_of}
+use Rattle.kr_seen.specs.Carrying.{with_memory_of}
 use Rattle.kr_exec.specs.Exec.{exec_plan, exec_reach}
 use Rattle.kr_exec.specs.Finding.{program_at, program_walk}
 use Rattle.kr_exec.specs.Interpreters.{bytes_at}

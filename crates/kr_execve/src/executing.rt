@@ -2,7 +2,7 @@
 ghost use Rattle.std.specs.Prelude.{IsSome};
 ghost use Rattle.kr_allowed.specs.Told.{SourcesAreNamed};
 ghost use Rattle.kr_execve.specs.Executing.{told_of, Leaves};
-ghost use Rattle.kr_lasting.specs.Texts.{IsText, LinksHaveTexts};
+ghost use Rattle.kr_allowed.specs.Texts.{IsText, LinksHaveTexts};
 ghost use Rattle.kr_model.specs.Lawful.{IsLawful};
 ghost use Rattle.kr_model.specs.State.{process};
 ghost use Rattle.kr_ops.specs.Meaning.{meaning};

@@ -9,14 +9,14 @@ ghost use Rattle.kr_model.specs.ProcessDirectory.{around_of};
 ghost use Rattle.kr_model.specs.State.{process};
 ghost use Rattle.kr_ops.specs.Meaning.{meaning};
 ghost use Rattle.kr_ops.specs.Sound.{IsServed, IsSound};
-ghost use Rattle.kr_procview.specs.Numbered.{state_numbered};
+ghost use Rattle.kr_seen.specs.Numbered.{state_numbered};
 ghost use Rattle.kr_tree.specs.declared.place.Host.TheVariants.{Node};
 ghost use Rattle.kr_view.specs.Answers.{target_numbered, IsAnswer, IsReached};
 ghost use Rattle.kr_view.specs.Leads.{numbered};
 
 use kr_exec::{ExecPlan, Lists, find_exec, plan_exec};
 use kr_ops::State;
-use kr_procview::procs;
+use kr_seen::procs;
 use kr_tree::Place;
 use kr_view::{Places, Reach, Target, WalkFault};
 use std::alloc::Global;

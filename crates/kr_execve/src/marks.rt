@@ -1,6 +1,6 @@
 //! Marked bytes that were read.
 ghost use Rattle.std.specs.Prelude.{◌≡◌};
-ghost use Rattle.kr_answers.specs.Carrying.{memory_of};
+ghost use Rattle.kr_seen.specs.Carrying.{memory_of};
 ghost use Rattle.kr_ops.specs.Meaning.{meaning};
 ghost use Rattle.kr_ops.specs.Sound.{IsSound};
 

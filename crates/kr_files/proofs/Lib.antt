@@ -1,3 +1,4 @@
+pub use Rattle.kr_tree.proofs as kr_tree
 pub mod AnswerLemmas
 pub mod ClaimLemmas
 pub mod CloseLemmas

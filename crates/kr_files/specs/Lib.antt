@@ -1,3 +1,4 @@
+pub use Rattle.kr_tree.specs as kr_tree
 -- what the calls promise
 pub mod Descriptors
 pub mod Files

@@ -8,8 +8,8 @@ use Rattle.kr_tree.specs.Tree.{Tree}
 use Rattle.kr_view.specs.Leads.{numbered}
 use Rattle.kr_view.specs.View.{Row, StandsIn}
 use Rattle.elf_load.specs.declared.image.Image as loaded
-use Rattle.kr_lasting.specs.Lasting.{Lasts}
-use Rattle.kr_lasting.specs.Texts.{IsText}
+use Rattle.kr_allowed.specs.Lasting.{Lasts}
+use Rattle.kr_allowed.specs.Texts.{IsText}
 use Rattle.kr_listed.specs.Beginning.{CanLast}
 use Rattle.kr_allowed.specs.Told.{SourcesAreNamed}
 use Rattle.kr_resolved.proofs.TextLemmas.{text_bytes}
@@ -19,7 +19,7 @@ use Rattle.kr_model.specs.State as model
 use Rattle.kr_ops.specs.declared.state.State.{State}
 use Rattle.kr_ops.specs.Meaning.{meaning}
 use Rattle.kr_ops.specs.Sound.{IsServed}
-use Rattle.kr_procview.specs.Numbered.{state_numbered}
+use Rattle.kr_seen.specs.Numbered.{state_numbered}
 use Rattle.kr_exec.specs.Answers.{plan_numbered}
 use Rattle.kr_exec.specs.Finding.{is_program}
 use Rattle.kr_exec.specs.Lists.{at_least_one}

@@ -10,7 +10,7 @@ use Rattle.kr_files.specs.declared.opened.What.{What}
 use Rattle.kr_files.specs.declared.opened.What.TheVariants.{In, Out, Err}
 use Rattle.kr_files.specs.Files.{Counted, Table, empty_table, with_file}
 use Rattle.kr_model.specs.Applied.{in_mount, with_files}
-use Rattle.kr_procview.specs.Numbered.{counted_numbered, state_numbered, table_numbered}
+use Rattle.kr_seen.specs.Numbered.{counted_numbered, state_numbered, table_numbered}
 use Rattle.kr_start.specs.Start.{console, started, without_processes, First}
 
 -- with one more part of the console, and with all three

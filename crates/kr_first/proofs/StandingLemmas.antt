@@ -25,7 +25,7 @@ use Rattle.kr_view.specs.Walk.{PlaceTarget}
 use Rattle.kr_view.proofs.PlaceLemmas.{walks_keep_places}
 use Rattle.kr_view.proofs.ProcessLemmas.{no_processes}
 use Rattle.kr_view.proofs.TableLemmas.{laws_of_places}
-use Rattle.kr_lasting.specs.Texts.{LinksHaveTexts}
+use Rattle.kr_allowed.specs.Texts.{LinksHaveTexts}
 use Rattle.kr_model.specs.Lawful.{IsNameOrNone, is_file_at}
 use Rattle.kr_model.specs.Walks.{and_then}
 use Rattle.kr_allowed.specs.Told.{SourcesAreNamed}

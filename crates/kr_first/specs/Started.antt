@@ -15,7 +15,7 @@ use Rattle.kr_view.specs.View.{Row}
 use Rattle.kr_model.specs.State as model
 use Rattle.kr_ops.specs.contracts.state.Process.{the_row}
 use Rattle.kr_ops.specs.Meaning.{meaning}
-use Rattle.kr_procview.specs.Numbered.{state_numbered}
+use Rattle.kr_seen.specs.Numbered.{state_numbered}
 use Rattle.kr_exec.specs.declared.plan.ExecPlan.{ExecPlan}
 use Rattle.kr_first.specs.declared.starting.Started.{Started}
 use Rattle.kr_first.specs.declared.starting.StartFault.{StartFault}

@@ -6,7 +6,7 @@ ghost use Rattle.kr_exec.specs.Answers.{Answers};
 ghost use Rattle.kr_exec.specs.Lists.{at_least_one};
 ghost use Rattle.kr_first.specs.Started.{state_of, HasSizedProcesses, IsStarted, LeadsToDirectory};
 ghost use Rattle.kr_first.specs.Starting.{start_of, start_reach};
-ghost use Rattle.kr_lasting.specs.Texts.{IsText};
+ghost use Rattle.kr_allowed.specs.Texts.{IsText};
 ghost use Rattle.kr_listed.specs.Beginning.{CanLast};
 ghost use Rattle.kr_start.specs.Start.{HasNoHolds};
 ghost use Rattle.kr_tree.specs.Lawful.{AreBytes};

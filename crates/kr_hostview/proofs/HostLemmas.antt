@@ -19,9 +19,9 @@ use Rattle.kr_model.specs.HostView.{host_leads, host_open, host_space}
 use Rattle.kr_model.specs.Lawful.{IsLawful}
 use Rattle.kr_model.specs.ProcessDirectory.{jump_to, remembered}
 use Rattle.kr_model.specs.State.{Image, Process, State, opened, process}
-use Rattle.kr_procview.specs.Shown.{Target, Nothing, Unplaced, At, cwd_target, exe_target, lead_to, opened_target}
-use Rattle.kr_procview.specs.Standing.{IsStanding}
-use Rattle.kr_procview.proofs.StandingLemmas.{IsLed, cwd-led, exe-led, led-stands, open-led, root-led}
+use Rattle.kr_seen.specs.Shown.{Target, Nothing, Unplaced, At, cwd_target, exe_target, lead_to, opened_target}
+use Rattle.kr_seen.specs.Standing.{IsStanding}
+use Rattle.kr_seen.proofs.StandingLemmas.{IsLed, cwd-led, exe-led, led-stands, open-led, root-led}
 use Rattle.kr_hostview.specs.OnHost.{host_target, lead_on_host, number, place_on_host, target_on_host}
 
 -- ---- where they lead

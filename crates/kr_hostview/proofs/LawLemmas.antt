@@ -24,10 +24,10 @@ use Rattle.kr_model.specs.Peeks.{peeked_of}
 use Rattle.kr_model.specs.ProcessDirectory.{jump_to, lead_of_open, leads_of, living_of, remembered, space_of}
 use Rattle.kr_model.specs.State.{Image, Process, State, opened, process}
 use Rattle.kr_model.proofs.ToldLemmas.{told_names_are_texts}
-use Rattle.kr_procview.specs.Numbered.{opened_numbered, process_numbered, state_numbered}
-use Rattle.kr_procview.specs.Shown.{lead_to}
-use Rattle.kr_procview.proofs.NumberedLemmas.{living-numbered, opened-numbered, process-numbered}
-use Rattle.kr_procview.proofs.StandingLemmas.{IsFollowed, followed-to, is-open, living-small, no-text-to}
+use Rattle.kr_seen.specs.Numbered.{opened_numbered, process_numbered, state_numbered}
+use Rattle.kr_seen.specs.Shown.{lead_to}
+use Rattle.kr_seen.proofs.NumberedLemmas.{living-numbered, opened-numbered, process-numbered}
+use Rattle.kr_seen.proofs.StandingLemmas.{IsFollowed, followed-to, is-open, living-small, no-text-to}
 use Rattle.kr_hostview.specs.Laws.{IsHostView, LawfulOnHost}
 use Rattle.kr_hostview.specs.OnHost.{host_target, lead_on_host, number}
 use Rattle.kr_hostview.proofs.HostLemmas.{cwd-leads, exe-leads, led, on-host, open-leads, plain-mounts, root-leads}

@@ -18,8 +18,8 @@ use Rattle.kr_model.specs.HostView.{base_name, base_text, cwd_name, exe_name, ho
 use Rattle.kr_model.specs.Peeks.{head_at, kind_along, kind_of_base, link_text_at, name_or_none, peeked_of, read_of}
 use Rattle.kr_model.specs.ProcessDirectory.{jump_to, name_text, unplaced_text}
 use Rattle.kr_model.specs.State.{Image, Process, State, opened, process}
-use Rattle.kr_procview.specs.Numbered.{opened_numbered, process_numbered, state_numbered}
-use Rattle.kr_procview.proofs.NumberedLemmas.{living-numbered, opened-numbered, process-numbered}
+use Rattle.kr_seen.specs.Numbered.{opened_numbered, process_numbered, state_numbered}
+use Rattle.kr_seen.proofs.NumberedLemmas.{living-numbered, opened-numbered, process-numbered}
 
 module _ {T : Type 0} (by : T → ℕ) (s : State T Image) where
   abbrev told : State ℕ Image

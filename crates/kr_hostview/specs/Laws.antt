@@ -14,7 +14,7 @@ use Rattle.kr_model.specs.Lawful.{IsLawful}
 use Rattle.kr_model.specs.Peeks.{peeked_of}
 use Rattle.kr_model.specs.ProcessDirectory.{leads_of, space_of}
 use Rattle.kr_model.specs.State.{Image, State}
-use Rattle.kr_procview.specs.Numbered.{state_numbered}
+use Rattle.kr_seen.specs.Numbered.{state_numbered}
 use Rattle.kr_hostview.specs.OnHost.{lead_on_host, number}
 
 -- links lead where those of the kernel's own view do over the state with every mount 0; and in code the one mount is told by

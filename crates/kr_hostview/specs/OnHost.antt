@@ -8,8 +8,8 @@ use Rattle.kr_view.specs.declared.procs.Lead.TheVariants.{Text, Jump, Nameless, 
 use Rattle.kr_view.specs.declared.view.HostMount.{HostMount}
 use Rattle.kr_view.specs.View.{plain, root_place}
 use Rattle.kr_model.specs.State.{Image, State}
-use Rattle.kr_procview.specs.Shown.{Target, Nothing, Unplaced, At, cwd_target, exe_target}
-use Rattle.kr_procview.specs.Targets.{opened_target_of, process_target}
+use Rattle.kr_seen.specs.Shown.{Target, Nothing, Unplaced, At, cwd_target, exe_target}
+use Rattle.kr_seen.specs.Targets.{opened_target_of, process_target}
 
 -- the one mount's number
 abbrev pub number : HostMount → ℕ

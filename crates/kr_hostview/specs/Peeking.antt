@@ -15,7 +15,7 @@ use Rattle.kr_model.specs.HostView.{host_around_of}
 use Rattle.kr_model.specs.Peeks.{kind_seen}
 use Rattle.kr_model.specs.ProcessDirectory.{name_text}
 use Rattle.kr_model.specs.State.{Image, State}
-use Rattle.kr_procview.specs.Shown.{Target, Nothing, Unplaced, At}
+use Rattle.kr_seen.specs.Shown.{Target, Nothing, Unplaced, At}
 use Rattle.kr_hostview.specs.OnHost.{number}
 
 -- the object that a walk found is this one, but for want of memory

@@ -3,14 +3,14 @@ ghost use Rattle.std.specs.Prelude.{◌≡◌, IfOk};
 ghost use Rattle.kr_model.specs.HostView.{host_space};
 ghost use Rattle.kr_ops.specs.Meaning.{meaning};
 ghost use Rattle.kr_ops.specs.Sound.{IsOfView};
-ghost use Rattle.kr_procview.specs.Shown.{lead_to};
+ghost use Rattle.kr_seen.specs.Shown.{lead_to};
 ghost use Rattle.kr_hostview.specs.OnHost.{host_target, number};
 
 use crate::target::{carries_one_mount, standing_target};
 use kr_ops::State;
 use kr_procfs::proc_name;
-use kr_procview::find::find;
-use kr_procview::guest::lead_to;
+use kr_seen::find::find;
+use kr_seen::guest::lead_to;
 use kr_tree::ProcAt;
 use kr_view::{HostMount, Lead, Plain, Procs};
 use pr_base::NoMemory;

@@ -8,12 +8,12 @@ use Rattle.std.proofs.lemmas.Bool.Decides.{nat_tests}
 use Rattle.std.proofs.lemmas.Option.{none-some}
 use Rattle.pr_base.specs.Maps.{changed}
 use Rattle.pr_base.proofs.MapLemmas.{by_key, get-insert_same, get-insert_other, get-remove_same, get-remove_other, get-changed_same, get-changed_other}
-use Rattle.kr_tree.specs.Tree.{Tree, inode}
-use Rattle.kr_tree.specs.Holds.{holds_at}
-use Rattle.kr_tree.specs.declared.place.Place.{Place}
-use Rattle.kr_tree.proofs.NameLemmas.{some_is}
-use Rattle.kr_files.specs.declared.opened.Opened.{Opened}
-use Rattle.kr_files.specs.Files.{Table, Counted, counted_more, with_file, with_copy, closed, without_file}
+use Rattle.kr_view.specs.kr_tree.Tree.{Tree, inode}
+use Rattle.kr_view.specs.kr_tree.Holds.{holds_at}
+use Rattle.kr_view.specs.kr_tree.declared.place.Place.{Place}
+use Rattle.kr_view.proofs.kr_tree.NameLemmas.{some_is}
+use Rattle.kr_model.specs.kr_files.declared.opened.Opened.{Opened}
+use Rattle.kr_model.specs.kr_files.Files.{Table, Counted, counted_more, with_file, with_copy, closed, without_file}
 use Rattle.kr_model.specs.Applied.{held_at, released_at}
 use Rattle.kr_model.specs.State.{Process, State, inode_of, place_of}
 use Rattle.kr_model.specs.Uses.{sum_to, at_inode, uses_of, file_uses, process_uses, names_of_file, AreUses}

@@ -6,14 +6,14 @@ use Rattle.std.specs.Ordering.{nat_cmp}
 use Rattle.std.specs.Option.{option_map_or, option_and_then}
 use Rattle.std.proofs.lemmas.Option.{none-some}
 use Rattle.pr_base.proofs.MapLemmas.{by_key, get-insert_same, get-insert_other, get-remove_same, get-remove_other, some-insert}
-use Rattle.kr_tree.specs.Tree.{Tree}
-use Rattle.kr_tree.specs.Lawful.{IsKept}
-use Rattle.kr_tree.specs.declared.place.Place.{Place}
-use Rattle.kr_tree.proofs.NameLemmas.{some_is}
+use Rattle.kr_view.specs.kr_tree.Tree.{Tree}
+use Rattle.kr_view.specs.kr_tree.Lawful.{IsKept}
+use Rattle.kr_view.specs.kr_tree.declared.place.Place.{Place}
+use Rattle.kr_view.proofs.kr_tree.NameLemmas.{some_is}
 use Rattle.kr_view.specs.View.{Row}
-use Rattle.kr_files.specs.declared.opened.Opened.{Opened}
-use Rattle.kr_files.specs.Descriptors.{Meanings, Named, named_count}
-use Rattle.kr_files.specs.Files.{Table, Counted, with_file, closed}
+use Rattle.kr_model.specs.kr_files.declared.opened.Opened.{Opened}
+use Rattle.kr_model.specs.kr_files.Descriptors.{Meanings, Named, named_count}
+use Rattle.kr_model.specs.kr_files.Files.{Table, Counted, with_file, closed}
 use Rattle.kr_model.specs.Applied.{held_at, released_at, close_named, close, is_closed_on_exec, close_below, close_on_exec_below}
 use Rattle.kr_model.specs.Bare.{pins_of}
 use Rattle.kr_model.specs.Lawful.{IsLawful, IsProcessIn, IsOpenIn, HasPipes}

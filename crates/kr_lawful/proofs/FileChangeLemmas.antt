@@ -7,14 +7,14 @@ use Rattle.std.proofs.lemmas.Bool.{lt-ltb}
 use Rattle.std.proofs.lemmas.Option.{none-some}
 use Rattle.pr_base.specs.Maps.{changed, mapped}
 use Rattle.pr_base.proofs.MapLemmas.{by_key, get-insert_same, get-insert_other, get-remove_same, get-remove_other, get-changed_same, get-changed_other, get-mapped, some-insert, stays-changed as told-changed}
-use Rattle.kr_tree.specs.Tree.{Tree}
-use Rattle.kr_tree.proofs.NameLemmas.{some_is}
-use Rattle.kr_files.specs.declared.opened.Opened.{Opened}
-use Rattle.kr_files.specs.declared.opened.What.{What}
-use Rattle.kr_files.specs.declared.opened.What.TheVariants.{File, Dir, In, Out, Err, PipeRead, PipeWrite}
-use Rattle.kr_files.specs.Files.{Table, Counted, has_kind, with_file, closed, without_file, pipes_left}
-use Rattle.kr_files.specs.Opened.{is_reader, is_writer}
-use Rattle.kr_files.proofs.KindLemmas.{kind_some}
+use Rattle.kr_view.specs.kr_tree.Tree.{Tree}
+use Rattle.kr_view.proofs.kr_tree.NameLemmas.{some_is}
+use Rattle.kr_model.specs.kr_files.declared.opened.Opened.{Opened}
+use Rattle.kr_model.specs.kr_files.declared.opened.What.{What}
+use Rattle.kr_model.specs.kr_files.declared.opened.What.TheVariants.{File, Dir, In, Out, Err, PipeRead, PipeWrite}
+use Rattle.kr_model.specs.kr_files.Files.{Table, Counted, has_kind, with_file, closed, without_file, pipes_left}
+use Rattle.kr_model.specs.kr_files.Opened.{is_reader, is_writer}
+use Rattle.kr_model.proofs.kr_files.KindLemmas.{kind_some}
 use Rattle.kr_model.specs.Lawful.{HasPipes}
 use Rattle.kr_model.specs.State.{Process}
 use Rattle.kr_model.specs.Uses.{names_of_file}

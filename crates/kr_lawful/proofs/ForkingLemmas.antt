@@ -10,15 +10,15 @@ use Rattle.pr_base.proofs.MapLemmas.{same_values, by_key, get-changed_same, get-
 use Rattle.rv_mem.specs.Pages.{Pages, IsWhole, IsPlaced}
 use Rattle.rv_mem.proofs.LayoutLemmas.{layouts_follow}
 use Rattle.rv_mem.proofs.SpaceLemmas.{IsWhole-written, IsPlaced-written}
-use Rattle.kr_tree.specs.Tree.{Tree, inode}
-use Rattle.kr_tree.specs.Lawful.{IsKept}
-use Rattle.kr_tree.specs.Holds.{holds_at}
-use Rattle.kr_tree.specs.declared.place.Place.{Place}
-use Rattle.kr_tree.proofs.NameLemmas.{some_is}
+use Rattle.kr_view.specs.kr_tree.Tree.{Tree, inode}
+use Rattle.kr_view.specs.kr_tree.Lawful.{IsKept}
+use Rattle.kr_view.specs.kr_tree.Holds.{holds_at}
+use Rattle.kr_view.specs.kr_tree.declared.place.Place.{Place}
+use Rattle.kr_view.proofs.kr_tree.NameLemmas.{some_is}
 use Rattle.kr_view.specs.View.{Row}
-use Rattle.kr_files.specs.declared.opened.Opened.{Opened}
-use Rattle.kr_files.specs.Descriptors.{Meanings, Named, named_below, named_count}
-use Rattle.kr_files.specs.Files.{Table, Counted, counted_more, with_copy, with_copies}
+use Rattle.kr_model.specs.kr_files.declared.opened.Opened.{Opened}
+use Rattle.kr_model.specs.kr_files.Descriptors.{Meanings, Named, named_below, named_count}
+use Rattle.kr_model.specs.kr_files.Files.{Table, Counted, counted_more, with_copy, with_copies}
 use Rattle.kr_model.specs.Applied.{Mounts, images, told, held_at, held_for, child_of, forked_from}
 use Rattle.kr_model.specs.Bare.{pins_of}
 use Rattle.kr_model.specs.Change.{Birth, Fork}

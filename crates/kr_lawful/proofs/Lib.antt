@@ -1,3 +1,4 @@
+pub use Rattle.kr_model.proofs as kr_model
 pub mod SumLemmas
 pub mod HoldingLemmas
 pub mod StandingLemmas

@@ -8,16 +8,16 @@ use Rattle.pr_base.specs.Maps.{mapped}
 use Rattle.pr_base.specs.Paths.{IsName}
 use Rattle.pr_base.proofs.MapLemmas.{get-mapped}
 use Rattle.kr_inode.proofs.NameLemmas.{name_decides}
-use Rattle.kr_tree.specs.Tree.{Tree, inode}
-use Rattle.kr_tree.specs.Changes as tree
-use Rattle.kr_tree.specs.declared.place.Host.{Host}
-use Rattle.kr_tree.specs.declared.place.Place.{Place}
-use Rattle.kr_tree.proofs.NameLemmas.{some_is}
+use Rattle.kr_view.specs.kr_tree.Tree.{Tree, inode}
+use Rattle.kr_view.specs.kr_tree.Changes as tree
+use Rattle.kr_view.specs.kr_tree.declared.place.Host.{Host}
+use Rattle.kr_view.specs.kr_tree.declared.place.Place.{Place}
+use Rattle.kr_view.proofs.kr_tree.NameLemmas.{some_is}
 use Rattle.kr_view.specs.View.{Row}
-use Rattle.kr_files.specs.declared.opened.Opened.{Opened}
-use Rattle.kr_files.specs.Descriptors.{Named, named_count}
-use Rattle.kr_files.specs.Files.{Counted, on_opened, with_all_opened}
-use Rattle.kr_files.specs.Opened.{remembers, nameless, named_at, after_removal, after_rename}
+use Rattle.kr_model.specs.kr_files.declared.opened.Opened.{Opened}
+use Rattle.kr_model.specs.kr_files.Descriptors.{Named, named_count}
+use Rattle.kr_model.specs.kr_files.Files.{Counted, on_opened, with_all_opened}
+use Rattle.kr_model.specs.kr_files.Opened.{remembers, nameless, named_at, after_removal, after_rename}
 use Rattle.kr_model.specs.Applied.{Mounts, released_at, with_tree, with_files, with_living, with_cwd, with_exe, moved_to, executed, exe_remembers, with_exe_name, exe_after_removal, exe_after_rename}
 use Rattle.kr_model.specs.Change.{RemoveName, MoveName, ChangeDirectory, ReplaceExecutable, MountOf}
 use Rattle.kr_model.specs.Conditions.{KeepsLawful}

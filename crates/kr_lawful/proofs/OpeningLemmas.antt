@@ -4,17 +4,17 @@ use Rattle.std.proofs.Common.{◌≡◌, ◌≢◌, ℕ, ◌+◌, ◌<◌, Bool,
 use Rattle.std.specs.Prelude.{IfSome}
 use Rattle.std.specs.Option.{option_map, option_map_or, option_and_then}
 use Rattle.pr_base.proofs.MapLemmas.{by_key, get-insert_same, get-insert_other}
-use Rattle.kr_tree.specs.Tree.{Tree, inode}
-use Rattle.kr_tree.specs.Holds.{holds_at}
-use Rattle.kr_tree.specs.declared.place.Place.{Place}
-use Rattle.kr_tree.proofs.NameLemmas.{some_is}
+use Rattle.kr_view.specs.kr_tree.Tree.{Tree, inode}
+use Rattle.kr_view.specs.kr_tree.Holds.{holds_at}
+use Rattle.kr_view.specs.kr_tree.declared.place.Place.{Place}
+use Rattle.kr_view.proofs.kr_tree.NameLemmas.{some_is}
 use Rattle.kr_view.specs.View.{Row, is_there}
-use Rattle.kr_files.specs.declared.opened.Opened.{Opened}
-use Rattle.kr_files.specs.declared.opened.What.{What}
-use Rattle.kr_files.specs.declared.opened.What.TheVariants.{File, Dir, In, Out, Err, PipeRead, PipeWrite}
-use Rattle.kr_files.specs.Descriptors.{Meanings, Named, named_count}
-use Rattle.kr_files.specs.Files.{Table, Counted, counted_more, with_file, with_copy, closed}
-use Rattle.kr_files.specs.Opened.{pipe_end}
+use Rattle.kr_model.specs.kr_files.declared.opened.Opened.{Opened}
+use Rattle.kr_model.specs.kr_files.declared.opened.What.{What}
+use Rattle.kr_model.specs.kr_files.declared.opened.What.TheVariants.{File, Dir, In, Out, Err, PipeRead, PipeWrite}
+use Rattle.kr_model.specs.kr_files.Descriptors.{Meanings, Named, named_count}
+use Rattle.kr_model.specs.kr_files.Files.{Table, Counted, counted_more, with_file, with_copy, closed}
+use Rattle.kr_model.specs.kr_files.Opened.{pipe_end}
 use Rattle.kr_model.specs.Applied.{Mounts, held_at, released_at, in_mount, open_in, copy_over, pipe_made}
 use Rattle.kr_model.specs.Bare.{pins_of}
 use Rattle.kr_model.specs.Change.{OpenFile, CopyDescriptor, MakePipe, MountOf}

@@ -10,12 +10,12 @@ use Rattle.pr_base.proofs.MapLemmas.{by_key, get-changed_same, get-changed_other
 use Rattle.rv_mem.specs.Pages.{Pages, IsWhole}
 use Rattle.rv_mem.proofs.LayoutLemmas.{layouts_follow}
 use Rattle.rv_mem.proofs.SpaceLemmas.{IsWhole-mapped, IsWhole-unmapped, IsWhole-protected}
-use Rattle.kr_tree.proofs.NameLemmas.{some_is}
+use Rattle.kr_view.proofs.kr_tree.NameLemmas.{some_is}
 use Rattle.kr_view.specs.View.{Row}
-use Rattle.kr_files.specs.declared.opened.Opened.{Opened}
-use Rattle.kr_files.specs.Descriptors.{Named, named_count}
-use Rattle.kr_files.specs.Files.{Counted, on_opened, with_opened, with_bytes, at_offset, with_append, has_reader}
-use Rattle.kr_files.specs.Pipes.{after_write}
+use Rattle.kr_model.specs.kr_files.declared.opened.Opened.{Opened}
+use Rattle.kr_model.specs.kr_files.Descriptors.{Named, named_count}
+use Rattle.kr_model.specs.kr_files.Files.{Counted, on_opened, with_opened, with_bytes, at_offset, with_append, has_reader}
+use Rattle.kr_model.specs.kr_files.Pipes.{after_write}
 use Rattle.kr_model.specs.Applied.{Mounts, images, with_files, with_living, with_image, with_program, with_brk, with_umask, on_opened_of, reaped, pages_after}
 use Rattle.kr_model.specs.Change.{SetCloexec, Seek, SetAppend, TakeFromPipe, PutIntoPipe, ChangePages, SetBreak, SetUmask, TakeInput, WriteOut, WriteErr, Reap, ReplaceImage, PageChange, MapPages, UnmapPages, ProtectPages}
 use Rattle.kr_model.specs.Conditions.{KeepsLawful, CanPage, CanLoad}

@@ -10,14 +10,14 @@ use Rattle.std.proofs.lemmas.Bool.Decides.{nat_tests}
 use Rattle.std.proofs.lemmas.Slice.Eq.{bytes_eq-Decides}
 use Rattle.pr_base.proofs.MapLemmas.{by_key, get-changed_same, get-changed_other, get-remove_same}
 use Rattle.kr_inode.specs.declared.standing.Standing.{Standing}
-use Rattle.kr_tree.specs.Tree.{Tree, Inode, Inodes, Entry, Body, Directory, RegularFile, SymbolicLink, ProcessDirectory, inode, body, body_is, entry, is_directory, is_file, is_listed}
-use Rattle.kr_tree.specs.Changes.{with_inode, without_unused, is_unused_at, with_entries, with_standing, with_bytes, counted}
-use Rattle.kr_tree.specs.Holds.{holds_at}
-use Rattle.kr_tree.specs.declared.place.Host.{Host}
-use Rattle.kr_tree.specs.declared.place.Host.TheVariants.{Node, Proc}
-use Rattle.kr_tree.specs.declared.place.Place.{Place}
-use Rattle.kr_tree.proofs.InodesLemmas.{get-unused_other}
-use Rattle.kr_tree.proofs.NameLemmas.{some_is}
+use Rattle.kr_view.specs.kr_tree.Tree.{Tree, Inode, Inodes, Entry, Body, Directory, RegularFile, SymbolicLink, ProcessDirectory, inode, body, body_is, entry, is_directory, is_file, is_listed}
+use Rattle.kr_view.specs.kr_tree.Changes.{with_inode, without_unused, is_unused_at, with_entries, with_standing, with_bytes, counted}
+use Rattle.kr_view.specs.kr_tree.Holds.{holds_at}
+use Rattle.kr_view.specs.kr_tree.declared.place.Host.{Host}
+use Rattle.kr_view.specs.kr_tree.declared.place.Host.TheVariants.{Node, Proc}
+use Rattle.kr_view.specs.kr_tree.declared.place.Place.{Place}
+use Rattle.kr_view.proofs.kr_tree.InodesLemmas.{get-unused_other}
+use Rattle.kr_view.proofs.kr_tree.NameLemmas.{some_is}
 use Rattle.kr_view.specs.View.{Row, Point, row, is_there, covered, is_name_at, stands_at, StandsIn}
 use Rattle.kr_view.specs.Component.{is_processes, is_directory_at}
 use Rattle.kr_view.specs.InTree.{IsObjectOf, IsPlaceOf}

@@ -15,7 +15,7 @@ use Rattle.kr_text.specs.declared.fault.TreeWhy.TheVariants.{Number, Name}
 use Rattle.kr_text.specs.Fields.{◌>>=◌, is_numeral, numeral, largest_id, id_of, mode_of, percent, is_plain, plain, not_zero, byte_of, onto, unescaped, behind_percent, behind_digit, path_limit, link_text, text_of}
 use Rattle.kr_text.specs.Lines.{owner_of}
 use Rattle.kr_text.specs.Reading.{put}
-use Rattle.kr_lasting.specs.Texts.{IsText}
+use Rattle.kr_allowed.specs.Texts.{IsText}
 
 -- ---- one step behind the other
 

@@ -9,8 +9,8 @@ use Rattle.kr_mounts.specs.MountTable.{settling}
 use Rattle.kr_mounts.specs.Points.{new_body, new_mode}
 use Rattle.kr_mounts.proofs.BeforeLemmas.{grown_trees_have_all_before}
 use Rattle.kr_mounts.proofs.GrowthLemmas.{settling_makes_names_alone}
-use Rattle.kr_lasting.specs.Lasting.{HasText}
-use Rattle.kr_lasting.proofs.TreeLemmas.{added-lasts}
+use Rattle.kr_allowed.specs.Lasting.{HasText}
+use Rattle.kr_allowed.proofs.TreeLemmas.{added-lasts}
 use Rattle.kr_listed.specs.Laws.{GrownTreesLast, SettledTreesLast}
 use Rattle.kr_listed.proofs.TreeLemmas.{IsFit, lasts-of, can-last}
 

@@ -16,7 +16,7 @@ use Rattle.kr_text.specs.Fields.{id_of, path_of, text_of, bytes_of}
 use Rattle.kr_text.specs.Lines.{user_line, owner_of, dir_line, file_line, elf_line, link_line, name_line, proc_line, line_of_fields, fields_of, line_of}
 use Rattle.kr_text.specs.Reading.{line_read, line_added, pieces_of, nothing_read, counted, finished, then_on, read_from, listing_of}
 use Rattle.kr_mounts.specs.Ways.{HasNumbers}
-use Rattle.kr_lasting.specs.Texts.{IsText}
+use Rattle.kr_allowed.specs.Texts.{IsText}
 use Rattle.kr_listed.specs.Laws.{ReadTreesLast}
 use Rattle.kr_listed.proofs.FieldLemmas.{step, any-step, or-fault, FirstOf, IsSmall, IsSmallOwner, id-small, owner-small, read-text}
 use Rattle.kr_listed.proofs.TreeLemmas.{IsFit, can-last}

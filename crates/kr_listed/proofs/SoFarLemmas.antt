@@ -7,8 +7,8 @@ use Rattle.kr_tree.specs.Changes.{added, linked, new_tree, is_too_big, has_no_ro
 use Rattle.kr_tree.specs.Tree.{Tree, Body, Directory, RegularFile, ProcessDirectory, bytes_of}
 use Rattle.kr_text.specs.declared.fault.TreeWhy.TheVariants.{Twice, TwoElf, TooBig, NoParent}
 use Rattle.kr_text.specs.Reading.{Place, place_below, tree_of, put, node_put, node_read, root_read, dir_read, user_read, elf_put, elf_read, proc_owner, proc_put, proc_read, file_at, link_put, name_put, name_read, with_tree}
-use Rattle.kr_lasting.specs.Lasting.{HasText}
-use Rattle.kr_lasting.proofs.TreeLemmas.{added-lasts, linked-lasts}
+use Rattle.kr_allowed.specs.Lasting.{HasText}
+use Rattle.kr_allowed.proofs.TreeLemmas.{added-lasts, linked-lasts}
 use Rattle.kr_listed.proofs.FieldLemmas.{step, any-step, or-fault, FirstOf, Owner, IsSmall, IsSmallOwner}
 use Rattle.kr_listed.proofs.TreeLemmas.{IsFit, fit-new}
 

@@ -8,9 +8,9 @@ use Rattle.pr_base.proofs.MapLemmas.{by_key, get-insert_same, get-insert_other}
 use Rattle.kr_inode.specs.declared.user.User.{User}
 use Rattle.kr_tree.specs.Changes.{new_tree, fresh}
 use Rattle.kr_tree.specs.Tree.{Tree, Inode, Body, Directory, RegularFile, SymbolicLink, ProcessDirectory, inode, root}
-use Rattle.kr_lasting.specs.Lasting.{HasText}
-use Rattle.kr_lasting.specs.Texts.{IsText, LinksHaveTexts}
-use Rattle.kr_lasting.proofs.TreeLemmas.{InodeLasts, TreeLasts}
+use Rattle.kr_allowed.specs.Lasting.{HasText}
+use Rattle.kr_allowed.specs.Texts.{IsText, LinksHaveTexts}
+use Rattle.kr_allowed.proofs.TreeLemmas.{InodeLasts, TreeLasts}
 use Rattle.kr_listed.specs.Beginning.{CanLast}
 
 -- what lasts of a tree, whatever was drawn

@@ -2,8 +2,8 @@
 use Rattle.std.specs.Prelude.{◌≡◌, ℕ, ◌+◌, ◌≤◌, ◌<◌, ◌^◌, Some}
 use Rattle.kr_inode.specs.declared.user.User.{User}
 use Rattle.kr_tree.specs.Tree.{Tree, Inode, inode}
-use Rattle.kr_lasting.specs.Lasting.{HaveOwners}
-use Rattle.kr_lasting.specs.Texts.{LinksHaveTexts}
+use Rattle.kr_allowed.specs.Lasting.{HaveOwners}
+use Rattle.kr_allowed.specs.Texts.{LinksHaveTexts}
 
 pub record CanLast (t : Tree) (of : User) : Type 0 where
   pub texts : LinksHaveTexts t

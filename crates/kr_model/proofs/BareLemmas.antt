@@ -4,10 +4,10 @@ use Rattle.std.proofs.Common.{◌≡◌, ℕ, zero, suc, ◌+◌, ◌≤◌, ◌
 use Rattle.std.specs.Prelude.{map as map_list, ◌==◌}
 use Rattle.std.specs.List.{find, filter}
 use Rattle.std.specs.Option.{option_map, option_map_or, option_and_then}
-use Rattle.kr_tree.specs.Tree.{Tree}
-use Rattle.kr_tree.specs.Changes as tree
-use Rattle.kr_tree.specs.declared.place.Host.{Host}
-use Rattle.kr_tree.specs.declared.place.Place.{Place}
+use Rattle.kr_files.specs.kr_tree.Tree.{Tree}
+use Rattle.kr_files.specs.kr_tree.Changes as tree
+use Rattle.kr_files.specs.kr_tree.declared.place.Host.{Host}
+use Rattle.kr_files.specs.kr_tree.declared.place.Place.{Place}
 use Rattle.kr_files.specs.declared.opened.Opened.{Opened}
 use Rattle.kr_files.specs.Descriptors.{Meanings, Named}
 use Rattle.kr_files.specs.Files.{Table, file_at, with_file, at_offset, with_append, with_opened}
@@ -19,8 +19,8 @@ use Rattle.kr_model.specs.Change.{Change, AddNode, LinkNode, RemoveName, MoveNam
 use Rattle.kr_model.specs.Applied.{Mounts, images, layouts, applied, held_at, released_at, held_for, mount_of, in_mount, open_in, let_go, close_named, close, copy_named, copy_over, with_image, with_brk, with_umask, with_cwd, with_parent, cwd_of, exe_of, with_program, with_exe, executed, is_closed_on_exec, close_on_exec_below, moved_to, child_of, forked_from, close_below, orphaned, ended_with, gone, end, exe_remembers, with_exe_name, exe_after_removal, exe_after_rename, with_tree, with_files, with_living}
 use Rattle.kr_model.specs.Bare.{host_only, bare_process, bare, bare_mounts, ArePinned}
 use Rattle.kr_model.proofs.LayoutLemmas.{layout-changed, layout-told}
-use Rattle.kr_tree.specs.Holds.{names_at, holds_at, with_fewer, ChangesWithFewerHolds}
-use Rattle.kr_tree.proofs.HoldLemmas.{changes_are_alike_with_fewer_holds}
+use Rattle.kr_files.specs.kr_tree.Holds.{names_at, holds_at, with_fewer, ChangesWithFewerHolds}
+use Rattle.kr_files.proofs.kr_tree.HoldLemmas.{changes_are_alike_with_fewer_holds}
 use Rattle.kr_model.proofs.TreeLemmas.{names-released, holds-held}
 
 -- ---- lists

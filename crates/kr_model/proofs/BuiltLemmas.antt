@@ -10,17 +10,17 @@ use Rattle.pr_base.specs.declared.path.WalkMode.{WalkMode}
 use Rattle.kr_calls.specs.PathTable.{PathUse, path_at}
 use Rattle.kr_calls.specs.declared.request.Request.{Request}
 use Rattle.kr_calls.specs.declared.request.Request.TheVariants as call
-use Rattle.kr_tree.specs.Tree.{Body, Directory, RegularFile, SymbolicLink, ProcessDirectory, body, body_is, entry, above as node_above}
-use Rattle.kr_tree.specs.declared.place.Host.{Host}
-use Rattle.kr_tree.specs.declared.place.Host.TheVariants.{Node, Proc}
-use Rattle.kr_tree.specs.declared.place.Place.{Place}
-use Rattle.kr_tree.specs.declared.place.ProcAt.{ProcAt}
-use Rattle.kr_tree.specs.declared.place.ProcAt.TheVariants.{SelfLink, Dir, Cwd, Root, Exe, FdDir, Fd}
-use Rattle.kr_view.specs.declared.procs.Lead.{Lead}
-use Rattle.kr_view.specs.declared.procs.Lead.TheVariants.{Text, Jump, Nameless, NoLink}
-use Rattle.kr_view.specs.View.{Row, down, up, is_root_place}
-use Rattle.kr_view.specs.Component.{Surroundings, SeenPlace, is_process_directory, is_directory_at, may_search, is_processes, is_shown, too_long, seen_body, seen_link, seen_at, above_body, above_node, above_process, above_host, seen_in_processes, seen_entry, through_point, named_in, inside, look_up}
-use Rattle.kr_view.specs.Walk.{PlaceTarget, looking, place_walk}
+use Rattle.kr_files.specs.kr_tree.Tree.{Body, Directory, RegularFile, SymbolicLink, ProcessDirectory, body, body_is, entry, above as node_above}
+use Rattle.kr_files.specs.kr_tree.declared.place.Host.{Host}
+use Rattle.kr_files.specs.kr_tree.declared.place.Host.TheVariants.{Node, Proc}
+use Rattle.kr_files.specs.kr_tree.declared.place.Place.{Place}
+use Rattle.kr_files.specs.kr_tree.declared.place.ProcAt.{ProcAt}
+use Rattle.kr_files.specs.kr_tree.declared.place.ProcAt.TheVariants.{SelfLink, Dir, Cwd, Root, Exe, FdDir, Fd}
+use Rattle.kr_procfs.specs.kr_view.declared.procs.Lead.{Lead}
+use Rattle.kr_procfs.specs.kr_view.declared.procs.Lead.TheVariants.{Text, Jump, Nameless, NoLink}
+use Rattle.kr_procfs.specs.kr_view.View.{Row, down, up, is_root_place}
+use Rattle.kr_procfs.specs.kr_view.Component.{Surroundings, SeenPlace, is_process_directory, is_directory_at, may_search, is_processes, is_shown, too_long, seen_body, seen_link, seen_at, above_body, above_node, above_process, above_host, seen_in_processes, seen_entry, through_point, named_in, inside, look_up}
+use Rattle.kr_procfs.specs.kr_view.Walk.{PlaceTarget, looking, place_walk}
 use Rattle.kr_files.specs.declared.opened.Opened.{Opened}
 use Rattle.kr_model.specs.Applied.{cwd_of}
 use Rattle.kr_model.specs.Asking.{descriptor_number, is_working_directory}

@@ -3,9 +3,9 @@ use Rattle.std.proofs.Common.{cond, not, ◌||◌, ℕ, Bool, true, false, ◌&&
 use Rattle.pr_base.specs.declared.errno.Errno.TheVariants.{EPERM, ENOENT, EACCES, EBUSY, EEXIST, EXDEV, ENOTDIR, EISDIR, EINVAL, ENOSPC, ENOTEMPTY}
 use Rattle.std.specs.Bool.{if◌then◌else◌}
 use Rattle.std.specs.Option.{option_map_or}
-use Rattle.kr_tree.specs.Tree.{Node}
-use Rattle.kr_tree.specs.declared.place.Host.{Host}
-use Rattle.kr_tree.specs.declared.place.Host.TheVariants as host
+use Rattle.kr_files.specs.kr_tree.Tree.{Node}
+use Rattle.kr_files.specs.kr_tree.declared.place.Host.{Host}
+use Rattle.kr_files.specs.kr_tree.declared.place.Host.TheVariants as host
 use Rattle.pr_base.specs.declared.path.Last.{Last}
 use Rattle.pr_base.specs.declared.path.Last.TheVariants as last
 use Rattle.kr_model.specs.Known.{Known, known_node}

@@ -3,13 +3,13 @@ use Rattle.std.specs.FinMap as map
 use Rattle.std.proofs.Common.{◌≡◌, ℕ, List, [], ◌∷◌, refl, sym, ap, ◌∙◌, Option, Some, None}
 use Rattle.std.specs.Prelude.{map as map_list, sum, drop}
 use Rattle.std.specs.Option.{option_map, option_map_or}
-use Rattle.kr_tree.specs.Tree.{Inode}
-use Rattle.kr_tree.specs.Holds.{fewer, with_fewer}
-use Rattle.kr_tree.proofs.HoldLemmas.{trees_look_alike_with_fewer_holds}
+use Rattle.kr_files.specs.kr_tree.Tree.{Inode}
+use Rattle.kr_files.specs.kr_tree.Holds.{fewer, with_fewer}
+use Rattle.kr_files.proofs.kr_tree.HoldLemmas.{trees_look_alike_with_fewer_holds}
 use Rattle.kr_files.specs.Opened.{is_reader, is_writer}
 use Rattle.kr_files.specs.WithoutMounts.{without_mount}
 use Rattle.kr_files.specs.declared.opened.Opened.{Opened}
-use Rattle.kr_tree.specs.declared.place.Place.{Place}
+use Rattle.kr_files.specs.kr_tree.declared.place.Place.{Place}
 use Rattle.kr_model.specs.Bare.{host_only}
 use Rattle.pr_base.proofs.MapLemmas.{len-mapped}
 use Rattle.kr_files.proofs.MountLemmas.{has_kind-without_mounts}

@@ -1,3 +1,4 @@
+pub use Rattle.kr_files.proofs as kr_files
 pub mod TreeLemmas
 pub mod LayoutLemmas
 pub mod BareLemmas

@@ -3,10 +3,10 @@ use Rattle.std.specs.FinMap as map
 use Rattle.std.proofs.Common.{◌≡◌, ℕ, ◌+◌, ◌<◌, false, List, refl, ap, arith, Option, Some, None}
 use Rattle.std.specs.Option.{option_map, option_map_or}
 use Rattle.pr_base.proofs.MapLemmas.{by_key, get-insert_same, get-insert_other, get-changed_same, get-changed_other}
-use Rattle.kr_tree.specs.Tree.{Tree, Inode, Inodes, Node, Body, is_directory}
-use Rattle.kr_tree.specs.Changes as tree
-use Rattle.kr_tree.specs.Holds.{names_at}
-use Rattle.kr_tree.proofs.InodesLemmas.{stays-names}
+use Rattle.kr_files.specs.kr_tree.Tree.{Tree, Inode, Inodes, Node, Body, is_directory}
+use Rattle.kr_files.specs.kr_tree.Changes as tree
+use Rattle.kr_files.specs.kr_tree.Holds.{names_at}
+use Rattle.kr_files.proofs.kr_tree.InodesLemmas.{stays-names}
 use Rattle.kr_model.specs.State.{State}
 use Rattle.kr_model.specs.Change.{Change, AddNode, LinkNode, RemoveName, MoveName, SetMode, SetOwner, SetSize, WriteFile, OpenFile, CopyDescriptor, CloseDescriptor, SetCloexec, Seek, SetAppend, MakePipe, TakeFromPipe, PutIntoPipe, TakeInput, WriteOut, WriteErr, ChangePages, SetBreak, SetUmask, ChangeDirectory, Fork, End, Reap, ReplaceImage, ReplaceExecutable, CloseOnExec}
 use Rattle.kr_model.specs.Applied.{Computing, Mounts, applied}

@@ -9,9 +9,9 @@ use Rattle.rv_mem.specs.Actions.{Done, MayUse, ReadBytes, WriteBytes}
 use Rattle.kr_calls.specs.declared.request.Request.{Request}
 use Rattle.kr_calls.specs.declared.request.Request.TheVariants as call
 use Rattle.kr_inode.specs.declared.standing.Standing.{Standing}
-use Rattle.kr_tree.specs.Tree.{Body, Directory, RegularFile, SymbolicLink, ProcessDirectory}
-use Rattle.kr_tree.specs.declared.place.Host.TheVariants as host
-use Rattle.kr_tree.specs.declared.place.ProcAt.TheVariants.{Cwd}
+use Rattle.kr_files.specs.kr_tree.Tree.{Body, Directory, RegularFile, SymbolicLink, ProcessDirectory}
+use Rattle.kr_files.specs.kr_tree.declared.place.Host.TheVariants as host
+use Rattle.kr_files.specs.kr_tree.declared.place.ProcAt.TheVariants.{Cwd}
 use Rattle.kr_files.specs.declared.opened.Opened.{Opened}
 use Rattle.kr_files.specs.declared.opened.What.{What}
 use Rattle.kr_files.specs.declared.opened.What.TheVariants.{File, Dir, In, Out, PipeRead, PipeWrite}

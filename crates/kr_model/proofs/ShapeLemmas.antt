@@ -1,12 +1,12 @@
 -- What is reached from the root stays where what has a name does.
 use Rattle.std.proofs.Common.{◌≡◌, ℕ, ◌<◌, Bool, true, false, List, [], ◌∷◌, refl, sym, ap, ◌∙◌, subst, arith, Option, Some, None}
 use Rattle.std.specs.Option.{option_map, option_map_or, option_and_then}
-use Rattle.kr_tree.specs.Tree.{Tree, Inode, Node, Entry, Body, Directory, RegularFile, SymbolicLink, ProcessDirectory, root, inode, entry, entries, entries_of, entry_named, body_without_bytes}
-use Rattle.kr_tree.specs.Changes as tree
-use Rattle.kr_tree.specs.Lawful.{IsKept, count_in, names_of}
-use Rattle.kr_tree.specs.Names.{named}
-use Rattle.kr_tree.proofs.CountLemmas.{sum-at, in-counted, entries_there}
-use Rattle.kr_tree.proofs.EntryLemmas.{entered}
+use Rattle.kr_files.specs.kr_tree.Tree.{Tree, Inode, Node, Entry, Body, Directory, RegularFile, SymbolicLink, ProcessDirectory, root, inode, entry, entries, entries_of, entry_named, body_without_bytes}
+use Rattle.kr_files.specs.kr_tree.Changes as tree
+use Rattle.kr_files.specs.kr_tree.Lawful.{IsKept, count_in, names_of}
+use Rattle.kr_files.specs.kr_tree.Names.{named}
+use Rattle.kr_files.proofs.kr_tree.CountLemmas.{sum-at, in-counted, entries_there}
+use Rattle.kr_files.proofs.kr_tree.EntryLemmas.{entered}
 use Rattle.kr_files.specs.Descriptors.{Named}
 use Rattle.kr_model.specs.State.{Process, State, process, named as descriptor}
 use Rattle.kr_model.specs.Change.{Change, AddNode, LinkNode, RemoveName, MoveName, SetMode, SetOwner, SetSize, WriteFile, OpenFile, CopyDescriptor, CloseDescriptor, SetCloexec, Seek, SetAppend, MakePipe, TakeFromPipe, PutIntoPipe, TakeInput, WriteOut, WriteErr, ChangePages, SetBreak, SetUmask, ChangeDirectory, Fork, End, Reap, ReplaceImage, ReplaceExecutable, CloseOnExec}

@@ -4,11 +4,11 @@ use Rattle.std.proofs.Common.{◌≡◌, ℕ, zero, suc, ◌+◌, ◌-◌, ◌<�
 use Rattle.std.specs.Option.{option_map, option_map_or, option_and_then}
 use Rattle.std.proofs.lemmas.Bool.Decides.{nat_tests}
 use Rattle.pr_base.proofs.MapLemmas.{by_key, get-changed_same, get-changed_other}
-use Rattle.kr_tree.specs.Tree.{Tree, Inode, Inodes, Node}
-use Rattle.kr_tree.specs.Changes as tree
-use Rattle.kr_tree.proofs.InodesLemmas.{get-unused_other}
-use Rattle.kr_tree.specs.declared.place.Host.{Host}
-use Rattle.kr_tree.specs.declared.place.Place.{Place}
+use Rattle.kr_files.specs.kr_tree.Tree.{Tree, Inode, Inodes, Node}
+use Rattle.kr_files.specs.kr_tree.Changes as tree
+use Rattle.kr_files.proofs.kr_tree.InodesLemmas.{get-unused_other}
+use Rattle.kr_files.specs.kr_tree.declared.place.Host.{Host}
+use Rattle.kr_files.specs.kr_tree.declared.place.Place.{Place}
 use Rattle.kr_files.specs.declared.opened.Opened.{Opened}
 use Rattle.kr_files.specs.Descriptors.{Meanings, Named}
 use Rattle.kr_files.specs.Files.{Table}

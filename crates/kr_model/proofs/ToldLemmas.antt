@@ -10,23 +10,23 @@ use Rattle.std.proofs.lemmas.Slice.Eq.{bytes_eq-Decides}
 use Rattle.pr_base.specs.Paths.{AreNames, IsName, text_of}
 use Rattle.pr_base.specs.Peeks.{NamesAreTexts}
 use Rattle.pr_base.specs.Texts.{IsText, Text}
-use Rattle.kr_tree.specs.declared.place.Host.{Host}
-use Rattle.kr_tree.specs.declared.place.Host.TheVariants.{Node, Proc}
-use Rattle.kr_tree.specs.declared.place.ProcAt.{ProcAt}
-use Rattle.kr_tree.specs.declared.place.ProcAt.TheVariants.{SelfLink, Dir, Cwd, Root, Exe, FdDir, Fd}
-use Rattle.kr_tree.specs.Names.{host_name, process_names}
-use Rattle.kr_tree.specs.Lawful.{IsSound}
-use Rattle.kr_tree.specs.Tree.{body_is, is_directory}
-use Rattle.kr_tree.proofs.NameLemmas.{host_names-lead, some_is}
-use Rattle.kr_view.specs.Component.{Namespace, is_shown}
-use Rattle.kr_view.specs.HostReach.{host_place}
-use Rattle.kr_view.specs.Living.{Each, HasSmallNumbers as IsSmallProcess, IsSmall, Living, finds_among, first, in_directory, process as living_process}
-use Rattle.kr_view.specs.Names.{guest_name, host_entry, object_name, process_name}
-use Rattle.kr_view.specs.Processes.{LawsOfProcesses, no_leads}
-use Rattle.kr_view.specs.View.{is_there}
-use Rattle.kr_view.proofs.GuestNameLemmas.{plain_view}
-use Rattle.kr_view.proofs.LivingLemmas.{living_processes}
-use Rattle.kr_view.proofs.ProcessNameLemmas.{found_under_name}
+use Rattle.kr_files.specs.kr_tree.declared.place.Host.{Host}
+use Rattle.kr_files.specs.kr_tree.declared.place.Host.TheVariants.{Node, Proc}
+use Rattle.kr_files.specs.kr_tree.declared.place.ProcAt.{ProcAt}
+use Rattle.kr_files.specs.kr_tree.declared.place.ProcAt.TheVariants.{SelfLink, Dir, Cwd, Root, Exe, FdDir, Fd}
+use Rattle.kr_files.specs.kr_tree.Names.{host_name, process_names}
+use Rattle.kr_files.specs.kr_tree.Lawful.{IsSound}
+use Rattle.kr_files.specs.kr_tree.Tree.{body_is, is_directory}
+use Rattle.kr_files.proofs.kr_tree.NameLemmas.{host_names-lead, some_is}
+use Rattle.kr_procfs.specs.kr_view.Component.{Namespace, is_shown}
+use Rattle.kr_procfs.specs.kr_view.HostReach.{host_place}
+use Rattle.kr_procfs.specs.kr_view.Living.{Each, HasSmallNumbers as IsSmallProcess, IsSmall, Living, finds_among, first, in_directory, process as living_process}
+use Rattle.kr_procfs.specs.kr_view.Names.{guest_name, host_entry, object_name, process_name}
+use Rattle.kr_procfs.specs.kr_view.Processes.{LawsOfProcesses, no_leads}
+use Rattle.kr_procfs.specs.kr_view.View.{is_there}
+use Rattle.kr_procfs.proofs.kr_view.GuestNameLemmas.{plain_view}
+use Rattle.kr_procfs.proofs.kr_view.LivingLemmas.{living_processes}
+use Rattle.kr_procfs.proofs.kr_view.ProcessNameLemmas.{found_under_name}
 use Rattle.kr_model.specs.HostView.{host_space, open_name}
 use Rattle.kr_model.specs.Lawful.{IsNameOrNone}
 use Rattle.kr_model.specs.Peeks.{RemembersNames, ToldNamesAreTexts, peeked_of}

@@ -3,10 +3,10 @@ use Rattle.std.specs.FinMap as map
 use Rattle.std.proofs.Common.{◌≡◌, subst, ℕ, ◌+◌, ◌-◌, ◌≤◌, Bool, true, false, sym, ap, refl, arith, cond, Option, Some, None}
 use Rattle.std.specs.Option.{option_map, option_map_or}
 use Rattle.pr_base.proofs.MapLemmas.{by_key, get-changed_same, get-changed_other, get-remove_same, get-remove_other}
-use Rattle.kr_tree.specs.Tree.{Tree, Inode}
-use Rattle.kr_tree.specs.Changes.{with_inode, with_inodes, with_holds, is_unused_at, dropped_if_unused, held, released}
-use Rattle.kr_tree.specs.Holds.{names_at, holds_at}
-use Rattle.kr_tree.proofs.InodesLemmas.{stays-names}
+use Rattle.kr_files.specs.kr_tree.Tree.{Tree, Inode}
+use Rattle.kr_files.specs.kr_tree.Changes.{with_inode, with_inodes, with_holds, is_unused_at, dropped_if_unused, held, released}
+use Rattle.kr_files.specs.kr_tree.Holds.{names_at, holds_at}
+use Rattle.kr_files.proofs.kr_tree.InodesLemmas.{stays-names}
 
 -- what is dropped had no name
 pub names-dropped : (i : ℕ) (t : Tree) (q : ℕ) → names_at (dropped_if_unused i t) q ≤ names_at t q

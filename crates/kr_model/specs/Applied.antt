@@ -10,10 +10,10 @@ use Rattle.rv_mem.specs.declared.regs.Regs.{Regs}
 use Rattle.rv_mem.specs.Memory as memory
 use Rattle.rv_mem.specs.Pages as pages
 use Rattle.rv_mem.specs.Layout.{laid}
-use Rattle.kr_tree.specs.Tree.{Tree}
-use Rattle.kr_tree.specs.Changes as tree
-use Rattle.kr_tree.specs.declared.place.Host.{Host}
-use Rattle.kr_tree.specs.declared.place.Place.{Place}
+use Rattle.kr_files.specs.kr_tree.Tree.{Tree}
+use Rattle.kr_files.specs.kr_tree.Changes as tree
+use Rattle.kr_files.specs.kr_tree.declared.place.Host.{Host}
+use Rattle.kr_files.specs.kr_tree.declared.place.Place.{Place}
 use Rattle.kr_files.specs.declared.opened.Opened.{Opened}
 use Rattle.kr_files.specs.Descriptors.{Meanings, Named}
 use Rattle.kr_files.specs.Files.{Table, with_file, with_copy, with_copies, closed, with_pipe, with_opened, with_all_opened, at_offset, with_append, pipe_after_read, pipe_after_write}

@@ -5,14 +5,14 @@ use Rattle.std.specs.List.{list_any}
 use Rattle.std.specs.Option.{option_map_or}
 use Rattle.pr_base.specs.declared.errno.Errno.TheVariants.{ENOENT, EBADF, EACCES, ENOTDIR}
 use Rattle.kr_inode.specs.declared.user.Right.TheVariants.{Write, Search}
-use Rattle.kr_tree.specs.Tree.{Node, Body, Directory, RegularFile, SymbolicLink, ProcessDirectory, is_directory}
-use Rattle.kr_tree.specs.Rights.{allows}
-use Rattle.kr_tree.specs.Changes.{byte_limit, count_limit}
-use Rattle.kr_tree.specs.declared.place.Host.{Host}
-use Rattle.kr_tree.specs.declared.place.Host.TheVariants as host
-use Rattle.kr_tree.specs.declared.place.ProcAt.{ProcAt}
-use Rattle.kr_tree.specs.declared.place.ProcAt.TheVariants.{SelfLink, Dir, Cwd, Root, Exe, FdDir, Fd}
-use Rattle.kr_view.specs.Component.{is_process_directory}
+use Rattle.kr_files.specs.kr_tree.Tree.{Node, Body, Directory, RegularFile, SymbolicLink, ProcessDirectory, is_directory}
+use Rattle.kr_files.specs.kr_tree.Rights.{allows}
+use Rattle.kr_files.specs.kr_tree.Changes.{byte_limit, count_limit}
+use Rattle.kr_files.specs.kr_tree.declared.place.Host.{Host}
+use Rattle.kr_files.specs.kr_tree.declared.place.Host.TheVariants as host
+use Rattle.kr_files.specs.kr_tree.declared.place.ProcAt.{ProcAt}
+use Rattle.kr_files.specs.kr_tree.declared.place.ProcAt.TheVariants.{SelfLink, Dir, Cwd, Root, Exe, FdDir, Fd}
+use Rattle.kr_procfs.specs.kr_view.Component.{is_process_directory}
 use Rattle.kr_files.specs.declared.opened.Opened.{Opened}
 use Rattle.kr_model.specs.Known.{Known, known_node}
 use Rattle.kr_model.specs.Reply.{Replying, refuse}

@@ -11,13 +11,13 @@ use Rattle.kr_calls.specs.declared.stat.Stat.{Stat}
 use Rattle.kr_inode.specs.declared.user.User.{User}
 use Rattle.kr_inode.specs.declared.user.Right.{Right}
 use Rattle.kr_inode.specs.declared.user.Right.TheVariants.{Read, Write, Search}
-use Rattle.kr_tree.specs.Tree.{Node, Body, Directory, RegularFile, SymbolicLink, ProcessDirectory}
-use Rattle.kr_tree.specs.Rights.{allows}
-use Rattle.kr_tree.specs.declared.place.Host.{Host}
-use Rattle.kr_tree.specs.declared.place.Host.TheVariants as host
-use Rattle.kr_tree.specs.declared.place.ProcAt.{ProcAt}
-use Rattle.kr_tree.specs.declared.place.ProcAt.TheVariants.{Dir, FdDir}
-use Rattle.kr_view.specs.Component.{is_process_directory}
+use Rattle.kr_files.specs.kr_tree.Tree.{Node, Body, Directory, RegularFile, SymbolicLink, ProcessDirectory}
+use Rattle.kr_files.specs.kr_tree.Rights.{allows}
+use Rattle.kr_files.specs.kr_tree.declared.place.Host.{Host}
+use Rattle.kr_files.specs.kr_tree.declared.place.Host.TheVariants as host
+use Rattle.kr_files.specs.kr_tree.declared.place.ProcAt.{ProcAt}
+use Rattle.kr_files.specs.kr_tree.declared.place.ProcAt.TheVariants.{Dir, FdDir}
+use Rattle.kr_procfs.specs.kr_view.Component.{is_process_directory}
 use Rattle.kr_procfs.specs.Objects.{inode_number}
 use Rattle.kr_files.specs.declared.opened.Opened.{Opened}
 use Rattle.kr_files.specs.declared.opened.What.{What}

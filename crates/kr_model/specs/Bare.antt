@@ -3,12 +3,12 @@
 use Rattle.std.specs.Prelude.{ℕ, ◌<◌, ◌≤◌, List, nat_eq, map as map_list}
 use Rattle.std.specs.List.{list_any}
 use Rattle.std.specs.Option.{option_map}
-use Rattle.kr_tree.specs.Tree.{Tree}
-use Rattle.kr_tree.specs.Changes.{counted}
-use Rattle.kr_tree.specs.Holds.{with_fewer, names_at, holds_at}
-use Rattle.kr_tree.specs.declared.place.Place.{Place}
+use Rattle.kr_files.specs.kr_tree.Tree.{Tree}
+use Rattle.kr_files.specs.kr_tree.Changes.{counted}
+use Rattle.kr_files.specs.kr_tree.Holds.{with_fewer, names_at, holds_at}
+use Rattle.kr_files.specs.kr_tree.declared.place.Place.{Place}
 use Rattle.kr_files.specs.WithoutMounts.{without_mounts}
-use Rattle.kr_view.specs.View.{Row}
+use Rattle.kr_procfs.specs.kr_view.View.{Row}
 use Rattle.kr_model.specs.State.{Process, State, Layout}
 use Rattle.kr_model.specs.Applied.{Mounts}
 

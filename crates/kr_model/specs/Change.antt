@@ -2,8 +2,8 @@
 -- mount: it says of what the mount is to be taken.
 use Rattle.std.specs.Prelude.{ℕ, Bool, List, Option}
 use Rattle.rv_mem.specs.declared.rights.Rights.{Rights}
-use Rattle.kr_tree.specs.declared.place.Host.{Host}
-use Rattle.kr_tree.specs.Tree.{Body}
+use Rattle.kr_files.specs.kr_tree.declared.place.Host.{Host}
+use Rattle.kr_files.specs.kr_tree.Tree.{Body}
 use Rattle.kr_files.specs.declared.opened.Opened.{Opened}
 use Rattle.kr_model.specs.State.{Image}
 

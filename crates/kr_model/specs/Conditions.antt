@@ -4,15 +4,15 @@ use Rattle.std.specs.FinMap as map
 use Rattle.std.specs.Prelude.{◌≡◌, ◌≢◌, ℕ, ◌+◌, ◌≤◌, ◌<◌, ◌^◌, Bool, true, false, List, [], length, Some, None, IsSome}
 use Rattle.std.specs.Option.{IfSome}
 use Rattle.rv_mem.specs.Pages.{IsWhole, IsPlaced}
-use Rattle.kr_tree.specs.Tree.{Tree, Body, Directory, RegularFile, SymbolicLink, inode, entry, body_is, takes_names, is_file, is_filled, may_be_linked, bytes_of}
-use Rattle.kr_tree.specs.Changes.{file_limit, has_no_room, has_no_name_left, has_no_room_for}
-use Rattle.kr_tree.specs.Lawful.{AreBytes, IsOfBytes, IsLawfulMove}
-use Rattle.kr_tree.specs.Names.{is_name}
-use Rattle.kr_tree.specs.declared.place.Host.{Host}
-use Rattle.kr_view.specs.View.{Row, covered, is_there}
-use Rattle.kr_view.specs.Component.{is_processes, is_directory_at}
-use Rattle.kr_view.specs.InTree.{IsPlaceOf}
-use Rattle.kr_view.specs.Leads.{numbered}
+use Rattle.kr_files.specs.kr_tree.Tree.{Tree, Body, Directory, RegularFile, SymbolicLink, inode, entry, body_is, takes_names, is_file, is_filled, may_be_linked, bytes_of}
+use Rattle.kr_files.specs.kr_tree.Changes.{file_limit, has_no_room, has_no_name_left, has_no_room_for}
+use Rattle.kr_files.specs.kr_tree.Lawful.{AreBytes, IsOfBytes, IsLawfulMove}
+use Rattle.kr_files.specs.kr_tree.Names.{is_name}
+use Rattle.kr_files.specs.kr_tree.declared.place.Host.{Host}
+use Rattle.kr_procfs.specs.kr_view.View.{Row, covered, is_there}
+use Rattle.kr_procfs.specs.kr_view.Component.{is_processes, is_directory_at}
+use Rattle.kr_procfs.specs.kr_view.InTree.{IsPlaceOf}
+use Rattle.kr_procfs.specs.kr_view.Leads.{numbered}
 use Rattle.kr_files.specs.declared.opened.Opened.{Opened}
 use Rattle.kr_model.specs.Applied.{Mounts, applied, images, in_mount, mount_of, pages_after}
 use Rattle.kr_model.specs.Change.{Change, AddNode, LinkNode, RemoveName, MoveName, SetMode, SetOwner, SetSize, WriteFile, OpenFile, CopyDescriptor, CloseDescriptor, SetCloexec, Seek, SetAppend, MakePipe, TakeFromPipe, PutIntoPipe, TakeInput, WriteOut, WriteErr, ChangePages, SetBreak, SetUmask, ChangeDirectory, Fork, End, Reap, ReplaceImage, ReplaceExecutable, CloseOnExec, MountOf, Birth, PageChange}

@@ -6,12 +6,12 @@ use Rattle.std.specs.Option.{option_map_or}
 use Rattle.pr_base.specs.declared.errno.Errno.TheVariants.{EPERM, ENOENT, EACCES, EFAULT, ENOTDIR, EINVAL, ERANGE}
 use Rattle.rv_mem.specs.Actions.{write_if_allowed}
 use Rattle.kr_calls.specs.DirectoryEntries.{record_length, entry_bytes}
-use Rattle.kr_tree.specs.Tree.{Entry, Body, Directory, RegularFile, SymbolicLink, ProcessDirectory}
-use Rattle.kr_tree.specs.declared.place.Host.{Host}
-use Rattle.kr_tree.specs.declared.place.Host.TheVariants.{Node, Proc}
-use Rattle.kr_tree.specs.declared.place.ProcAt.{ProcAt}
-use Rattle.kr_tree.specs.declared.place.ProcAt.TheVariants.{SelfLink, Dir, Cwd, Root, Exe, FdDir, Fd}
-use Rattle.kr_view.specs.Component.{is_process_directory}
+use Rattle.kr_files.specs.kr_tree.Tree.{Entry, Body, Directory, RegularFile, SymbolicLink, ProcessDirectory}
+use Rattle.kr_files.specs.kr_tree.declared.place.Host.{Host}
+use Rattle.kr_files.specs.kr_tree.declared.place.Host.TheVariants.{Node, Proc}
+use Rattle.kr_files.specs.kr_tree.declared.place.ProcAt.{ProcAt}
+use Rattle.kr_files.specs.kr_tree.declared.place.ProcAt.TheVariants.{SelfLink, Dir, Cwd, Root, Exe, FdDir, Fd}
+use Rattle.kr_procfs.specs.kr_view.Component.{is_process_directory}
 use Rattle.kr_procfs.specs.Objects.{own_name, inode_number, serial}
 use Rattle.kr_model.specs.Asking.{or_badf, is_directory_host, is_searched, is_over}
 use Rattle.kr_model.specs.Change.{OfFound, OfDescriptor, ChangeDirectory, Seek}

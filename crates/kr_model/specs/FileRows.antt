@@ -6,12 +6,12 @@ use Rattle.pr_base.specs.declared.errno.Errno.TheVariants.{ENOENT, EBADF, EACCES
 use Rattle.rv_mem.specs.declared.rights.Use.TheVariants.{Read}
 use Rattle.kr_calls.specs.Arguments.{has}
 use Rattle.kr_inode.specs.declared.user.Right.TheVariants.{Read as ReadRight, Write as WriteRight}
-use Rattle.kr_tree.specs.Tree.{Node, Body, Directory, RegularFile, SymbolicLink, ProcessDirectory}
-use Rattle.kr_tree.specs.Rights.{allows}
-use Rattle.kr_tree.specs.Changes.{file_limit, size_written}
-use Rattle.kr_tree.specs.declared.place.Host.{Host}
-use Rattle.kr_tree.specs.declared.place.Host.TheVariants as host
-use Rattle.kr_view.specs.Component.{is_process_directory}
+use Rattle.kr_files.specs.kr_tree.Tree.{Node, Body, Directory, RegularFile, SymbolicLink, ProcessDirectory}
+use Rattle.kr_files.specs.kr_tree.Rights.{allows}
+use Rattle.kr_files.specs.kr_tree.Changes.{file_limit, size_written}
+use Rattle.kr_files.specs.kr_tree.declared.place.Host.{Host}
+use Rattle.kr_files.specs.kr_tree.declared.place.Host.TheVariants as host
+use Rattle.kr_procfs.specs.kr_view.Component.{is_process_directory}
 use Rattle.kr_files.specs.declared.opened.Opened.{Opened}
 use Rattle.kr_files.specs.declared.opened.What.{What}
 use Rattle.kr_files.specs.declared.opened.What.TheVariants.{File, Dir, In, Out, Err, PipeRead, PipeWrite}

@@ -3,13 +3,13 @@
 use Rattle.std.specs.Prelude.{ℕ, List, [], Option}
 use Rattle.std.specs.Fmt.{decimal}
 use Rattle.std.specs.Option.{option_map_or, option_and_then}
-use Rattle.kr_tree.specs.declared.place.ProcAt.{ProcAt}
-use Rattle.kr_tree.specs.declared.place.ProcAt.TheVariants.{SelfLink, Dir, Cwd, Root, Exe, FdDir, Fd}
-use Rattle.kr_view.specs.declared.procs.Lead.{Lead}
-use Rattle.kr_view.specs.declared.procs.Lead.TheVariants as lead
-use Rattle.kr_view.specs.Component.{Namespace, Surroundings}
-use Rattle.kr_view.specs.HostReach.{host_place}
-use Rattle.kr_view.specs.View.{plain, root_place}
+use Rattle.kr_files.specs.kr_tree.declared.place.ProcAt.{ProcAt}
+use Rattle.kr_files.specs.kr_tree.declared.place.ProcAt.TheVariants.{SelfLink, Dir, Cwd, Root, Exe, FdDir, Fd}
+use Rattle.kr_procfs.specs.kr_view.declared.procs.Lead.{Lead}
+use Rattle.kr_procfs.specs.kr_view.declared.procs.Lead.TheVariants as lead
+use Rattle.kr_procfs.specs.kr_view.Component.{Namespace, Surroundings}
+use Rattle.kr_procfs.specs.kr_view.HostReach.{host_place}
+use Rattle.kr_procfs.specs.kr_view.View.{plain, root_place}
 use Rattle.kr_files.specs.declared.opened.Opened.{Opened}
 use Rattle.kr_model.specs.ProcessDirectory.{jump_to, name_text, of_living, space_of, unplaced_text}
 use Rattle.kr_model.specs.State.{State, opened, process}

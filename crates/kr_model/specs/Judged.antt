@@ -2,10 +2,10 @@
 use Rattle.std.specs.Prelude.{◌≡◌, ◌<◌, ℕ, Bool, true, false, not, List, Some}
 use Rattle.std.specs.List.{list_all}
 use Rattle.std.specs.Option.{option_map}
-use Rattle.kr_tree.specs.Tree.{Tree, Node, node, body_without_bytes}
-use Rattle.kr_tree.specs.Holds.{names_at}
-use Rattle.kr_tree.specs.Lawful.{IsKept}
-use Rattle.kr_tree.specs.Names.{named}
+use Rattle.kr_files.specs.kr_tree.Tree.{Tree, Node, node, body_without_bytes}
+use Rattle.kr_files.specs.kr_tree.Holds.{names_at}
+use Rattle.kr_files.specs.kr_tree.Lawful.{IsKept}
+use Rattle.kr_files.specs.kr_tree.Names.{named}
 use Rattle.kr_model.specs.Applied.{Computing, Mounts, applied, cwd_of, exe_of}
 use Rattle.kr_model.specs.Change.{Change, AddNode, LinkNode, RemoveName, MoveName, SetMode, SetOwner, SetSize, WriteFile, OpenFile, CopyDescriptor, CloseDescriptor, MakePipe, ChangeDirectory, Fork, End, ReplaceExecutable, CloseOnExec}
 use Rattle.kr_model.specs.State.{State, named as descriptor}

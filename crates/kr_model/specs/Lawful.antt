@@ -5,15 +5,15 @@ use Rattle.std.specs.Prelude.{◌≡◌, ◌≢◌, ℕ, suc, ◌+◌, ◌≤◌
 use Rattle.std.specs.List.{list_any}
 use Rattle.pr_base.specs.Paths.{IsName}
 use Rattle.rv_mem.specs.Pages.{IsWhole, IsPlaced}
-use Rattle.kr_tree.specs.Tree.{Tree, body_is, is_file}
-use Rattle.kr_tree.specs.Lawful.{IsKept}
-use Rattle.kr_tree.specs.declared.place.Host.{Host}
-use Rattle.kr_tree.specs.declared.place.Host.TheVariants.{Node, Proc}
-use Rattle.kr_tree.specs.declared.place.Place.{Place}
-use Rattle.kr_view.specs.View.{Row, is_there, StandsIn}
-use Rattle.kr_view.specs.Component.{is_directory_at}
-use Rattle.kr_view.specs.InTree.{IsPlaceOf}
-use Rattle.kr_view.specs.Leads.{numbered}
+use Rattle.kr_files.specs.kr_tree.Tree.{Tree, body_is, is_file}
+use Rattle.kr_files.specs.kr_tree.Lawful.{IsKept}
+use Rattle.kr_files.specs.kr_tree.declared.place.Host.{Host}
+use Rattle.kr_files.specs.kr_tree.declared.place.Host.TheVariants.{Node, Proc}
+use Rattle.kr_files.specs.kr_tree.declared.place.Place.{Place}
+use Rattle.kr_procfs.specs.kr_view.View.{Row, is_there, StandsIn}
+use Rattle.kr_procfs.specs.kr_view.Component.{is_directory_at}
+use Rattle.kr_procfs.specs.kr_view.InTree.{IsPlaceOf}
+use Rattle.kr_procfs.specs.kr_view.Leads.{numbered}
 use Rattle.kr_files.specs.declared.opened.Opened.{Opened}
 use Rattle.kr_files.specs.declared.opened.What.TheVariants.{PipeRead, PipeWrite}
 use Rattle.kr_files.specs.Descriptors.{Named}

@@ -16,7 +16,7 @@ use Rattle.kr_model.specs.Operation.{operation}
 use Rattle.kr_model.specs.Reply.{is_refusal, unbuilt}
 use Rattle.kr_model.specs.Seen.{Seen, WalkFails}
 use Rattle.kr_model.specs.Walks.{seen as seen_of_paths}
-use Rattle.kr_view.specs.View.{Row}
+use Rattle.kr_procfs.specs.kr_view.View.{Row}
 use Rattle.kr_model.specs.Bare.{bare, bare_mounts, ArePinned}
 use Rattle.kr_model.specs.Known.{Known, known}
 

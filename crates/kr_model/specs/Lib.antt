@@ -1,3 +1,4 @@
+pub use Rattle.kr_files.specs as kr_files
 pub mod State
 pub mod Change
 pub mod Applied

@@ -8,11 +8,11 @@ use Rattle.pr_base.specs.declared.path.Last.{Last}
 use Rattle.pr_base.specs.declared.path.Last.TheVariants as last
 use Rattle.kr_calls.specs.Arguments.{has}
 use Rattle.kr_inode.specs.declared.user.Right.TheVariants.{Write}
-use Rattle.kr_tree.specs.Tree.{Node, Directory, SymbolicLink, root, is_directory, is_filled, standing_of}
-use Rattle.kr_tree.specs.Rights.{allows, is_kept_by_sticky}
-use Rattle.kr_tree.specs.declared.place.Host.{Host}
-use Rattle.kr_tree.specs.declared.place.Host.TheVariants as host
-use Rattle.kr_tree.specs.declared.place.ProcAt.TheVariants.{Dir, FdDir}
+use Rattle.kr_files.specs.kr_tree.Tree.{Node, Directory, SymbolicLink, root, is_directory, is_filled, standing_of}
+use Rattle.kr_files.specs.kr_tree.Rights.{allows, is_kept_by_sticky}
+use Rattle.kr_files.specs.kr_tree.declared.place.Host.{Host}
+use Rattle.kr_files.specs.kr_tree.declared.place.Host.TheVariants as host
+use Rattle.kr_files.specs.kr_tree.declared.place.ProcAt.TheVariants.{Dir, FdDir}
 use Rattle.kr_model.specs.Asking.{same_host, body_passes, is_directory_host, is_processes_host, writable, has_no_room, has_no_name_left, unmasked}
 use Rattle.kr_model.specs.Change.{AddNode, LinkNode, RemoveName, MoveName}
 use Rattle.kr_model.specs.Known.{Known, known_node}

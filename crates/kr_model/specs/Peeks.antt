@@ -13,17 +13,17 @@ use Rattle.pr_base.specs.declared.peeks.PeekKind.{PeekKind}
 use Rattle.pr_base.specs.declared.peeks.PeekKind.TheVariants as kind
 use Rattle.kr_inode.specs.declared.user.User.{User}
 use Rattle.kr_inode.specs.declared.user.Right.TheVariants.{Search}
-use Rattle.kr_tree.specs.declared.place.Host.{Host}
-use Rattle.kr_tree.specs.declared.place.Host.TheVariants.{Node, Proc}
-use Rattle.kr_tree.specs.declared.place.Place.{Place}
-use Rattle.kr_tree.specs.declared.place.ProcAt.TheVariants.{SelfLink, Dir, Cwd, Root, Exe, FdDir, Fd}
-use Rattle.kr_tree.specs.Lawful.{IsSound}
-use Rattle.kr_tree.specs.Rights.{may}
-use Rattle.kr_tree.specs.Tree.{Body, Directory, RegularFile, SymbolicLink, ProcessDirectory, Tree, body}
-use Rattle.kr_view.specs.Component.{SeenPlace, Surroundings, seen_at}
-use Rattle.kr_view.specs.Living.{Each, HasSmallNumbers}
-use Rattle.kr_view.specs.View.{plain, root_place}
-use Rattle.kr_view.specs.Walk.{PlaceTarget, place_walk}
+use Rattle.kr_files.specs.kr_tree.declared.place.Host.{Host}
+use Rattle.kr_files.specs.kr_tree.declared.place.Host.TheVariants.{Node, Proc}
+use Rattle.kr_files.specs.kr_tree.declared.place.Place.{Place}
+use Rattle.kr_files.specs.kr_tree.declared.place.ProcAt.TheVariants.{SelfLink, Dir, Cwd, Root, Exe, FdDir, Fd}
+use Rattle.kr_files.specs.kr_tree.Lawful.{IsSound}
+use Rattle.kr_files.specs.kr_tree.Rights.{may}
+use Rattle.kr_files.specs.kr_tree.Tree.{Body, Directory, RegularFile, SymbolicLink, ProcessDirectory, Tree, body}
+use Rattle.kr_procfs.specs.kr_view.Component.{SeenPlace, Surroundings, seen_at}
+use Rattle.kr_procfs.specs.kr_view.Living.{Each, HasSmallNumbers}
+use Rattle.kr_procfs.specs.kr_view.View.{plain, root_place}
+use Rattle.kr_procfs.specs.kr_view.Walk.{PlaceTarget, place_walk}
 use Rattle.kr_files.specs.declared.opened.Opened.{Opened}
 use Rattle.kr_model.specs.FileRows.{is_dir}
 use Rattle.kr_model.specs.HostView.{base_name, base_text, cwd_name, exe_name, host_around_of, host_space}

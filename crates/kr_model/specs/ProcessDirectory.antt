@@ -4,15 +4,15 @@ use Rattle.std.specs.Prelude.{ℕ, ◌==◌, List, [], map as map_list, length, 
 use Rattle.std.specs.Fmt.{decimal}
 use Rattle.std.specs.Option.{option_map, option_map_or, option_and_then}
 use Rattle.pr_base.specs.Paths.{text_of}
-use Rattle.kr_tree.specs.declared.place.Place.{Place}
-use Rattle.kr_tree.specs.declared.place.ProcAt.{ProcAt}
-use Rattle.kr_tree.specs.declared.place.ProcAt.TheVariants.{SelfLink, Dir, Cwd, Root, Exe, FdDir, Fd}
-use Rattle.kr_view.specs.declared.procs.Lead.{Lead}
-use Rattle.kr_view.specs.declared.procs.Lead.TheVariants.{Text, Jump, Nameless, NoLink}
-use Rattle.kr_view.specs.View.{Row, root_place, is_there}
-use Rattle.kr_view.specs.Component.{Namespace, Surroundings}
-use Rattle.kr_view.specs.Living.{Living, finds_among}
-use Rattle.kr_view.specs.Names.{Remembered, guest_name}
+use Rattle.kr_files.specs.kr_tree.declared.place.Place.{Place}
+use Rattle.kr_files.specs.kr_tree.declared.place.ProcAt.{ProcAt}
+use Rattle.kr_files.specs.kr_tree.declared.place.ProcAt.TheVariants.{SelfLink, Dir, Cwd, Root, Exe, FdDir, Fd}
+use Rattle.kr_procfs.specs.kr_view.declared.procs.Lead.{Lead}
+use Rattle.kr_procfs.specs.kr_view.declared.procs.Lead.TheVariants.{Text, Jump, Nameless, NoLink}
+use Rattle.kr_procfs.specs.kr_view.View.{Row, root_place, is_there}
+use Rattle.kr_procfs.specs.kr_view.Component.{Namespace, Surroundings}
+use Rattle.kr_procfs.specs.kr_view.Living.{Living, finds_among}
+use Rattle.kr_procfs.specs.kr_view.Names.{Remembered, guest_name}
 use Rattle.kr_procfs.specs.Objects.{pipe_text, console_text}
 use Rattle.kr_files.specs.declared.opened.Opened.{Opened}
 use Rattle.kr_files.specs.declared.opened.What.{What}

@@ -3,7 +3,7 @@
 use Rattle.std.specs.Prelude.{ℕ, Bool, List, Option}
 use Rattle.pr_base.specs.declared.errno.Errno.{Errno}
 use Rattle.pr_base.specs.declared.path.Last.{Last}
-use Rattle.kr_tree.specs.declared.place.Host.{Host}
+use Rattle.kr_files.specs.kr_tree.declared.place.Host.{Host}
 
 -- a path that is looked up: what was found, and of what is no directory the entry that an opening remembers, which
 -- for the source of a mount is the one at which it was settled

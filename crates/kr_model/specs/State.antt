@@ -8,10 +8,10 @@ use Rattle.rv_mem.specs.declared.regs.Regs.{Regs}
 use Rattle.rv_mem.specs.Memory.{Memory}
 pub use Rattle.rv_mem.specs.Layout.{Layout, layout_of}
 use Rattle.kr_inode.specs.declared.user.User.{User}
-use Rattle.kr_tree.specs.Tree.{Tree}
-use Rattle.kr_tree.specs.declared.place.Host.{Host}
-use Rattle.kr_tree.specs.declared.place.Host.TheVariants.{Node, Proc}
-use Rattle.kr_tree.specs.declared.place.Place.{Place}
+use Rattle.kr_files.specs.kr_tree.Tree.{Tree}
+use Rattle.kr_files.specs.kr_tree.declared.place.Host.{Host}
+use Rattle.kr_files.specs.kr_tree.declared.place.Host.TheVariants.{Node, Proc}
+use Rattle.kr_files.specs.kr_tree.declared.place.Place.{Place}
 use Rattle.kr_files.specs.declared.opened.Opened.{Opened}
 use Rattle.kr_files.specs.Descriptors.{Meanings, Named}
 use Rattle.kr_files.specs.Files.{Table, file_at}

@@ -4,8 +4,8 @@ use Rattle.std.specs.FinMap as map
 use Rattle.std.specs.Prelude.{◌≡◌, ℕ, zero, suc, ◌+◌, ◌≤◌, ◌==◌, List, map as map_list, sum, Option, Some, if◌then◌else◌}
 use Rattle.std.specs.Option.{option_map_or}
 use Rattle.std.specs.Ordering.{nat_cmp}
-use Rattle.kr_tree.specs.Holds.{holds_at}
-use Rattle.kr_tree.specs.declared.place.Place.{Place}
+use Rattle.kr_files.specs.kr_tree.Holds.{holds_at}
+use Rattle.kr_files.specs.kr_tree.declared.place.Place.{Place}
 use Rattle.kr_files.specs.Descriptors.{named_count}
 use Rattle.kr_files.specs.Files.{Table, Counted}
 use Rattle.kr_model.specs.State.{Process, State, inode_of}

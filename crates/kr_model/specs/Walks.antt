@@ -10,12 +10,12 @@ use Rattle.pr_base.specs.declared.path.Last.TheVariants as last
 use Rattle.kr_calls.specs.PathTable.{PathUse, path_at}
 use Rattle.kr_calls.specs.declared.request.Request.{Request}
 use Rattle.kr_calls.specs.declared.request.Request.TheVariants as call
-use Rattle.kr_tree.specs.declared.place.Host.{Host}
-use Rattle.kr_tree.specs.declared.place.Host.TheVariants.{Node, Proc}
-use Rattle.kr_tree.specs.declared.place.Place.{Place}
-use Rattle.kr_view.specs.View.{Row, root_place, covered, source, is_there}
-use Rattle.kr_view.specs.Component.{is_directory_at}
-use Rattle.kr_view.specs.Walk.{PlaceTarget, place_walk}
+use Rattle.kr_files.specs.kr_tree.declared.place.Host.{Host}
+use Rattle.kr_files.specs.kr_tree.declared.place.Host.TheVariants.{Node, Proc}
+use Rattle.kr_files.specs.kr_tree.declared.place.Place.{Place}
+use Rattle.kr_procfs.specs.kr_view.View.{Row, root_place, covered, source, is_there}
+use Rattle.kr_procfs.specs.kr_view.Component.{is_directory_at}
+use Rattle.kr_procfs.specs.kr_view.Walk.{PlaceTarget, place_walk}
 use Rattle.kr_files.specs.declared.opened.Opened.{Opened}
 use Rattle.kr_model.specs.Applied.{Mounts, cwd_of}
 use Rattle.kr_model.specs.Asking.{descriptor_number, is_working_directory}

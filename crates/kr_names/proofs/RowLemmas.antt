@@ -7,7 +7,7 @@ use Rattle.kr_model.specs.State as model
 use Rattle.kr_model.specs.declared.outcome.Outcome.{Outcome}
 use Rattle.kr_ops.specs.declared.state.State.{State}
 use Rattle.kr_ops.specs.Meaning.{meaning}
-use Rattle.kr_answers.specs.Carrying.{IsCarriedOut, after_row, carried}
+use Rattle.kr_seen.specs.Carrying.{IsCarriedOut, after_row, carried}
 
 pub by-row : {T : Type 0} {M : ℕ} (mounts : Mounts T) (pid : ℕ) (row other : Known → Replying) (old new : State T M) (result : Outcome)
     → row (known model.image_layout pid (meaning old)) ≡ other (known model.image_layout pid (meaning old)) → IsCarriedOut mounts pid other old new result → IsCarriedOut mounts pid row old new result

@@ -9,12 +9,12 @@ ghost use Rattle.kr_model.specs.State.{image_layout, inode_of as host_inode, pro
 ghost use Rattle.kr_model.specs.declared.outcome.Outcome.TheVariants.{NoMemory as WantOfMemory};
 ghost use Rattle.kr_ops.specs.Meaning.{meaning};
 ghost use Rattle.kr_ops.specs.Sound.{IsServed, IsSound};
-ghost use Rattle.kr_answers.specs.Carrying.{CarriesOut};
+ghost use Rattle.kr_seen.specs.Carrying.{CarriesOut};
 ghost use Rattle.kr_names.specs.Adding.{adding, IsFreeName};
 
-use kr_answers::{number, refused};
 use kr_model::Outcome;
 use kr_ops::State;
+use kr_seen::{number, refused};
 use kr_targets::writable;
 use kr_tree::{Host, Meta, Node, TreeRefusal};
 use pr_base::Errno;

@@ -8,16 +8,16 @@ ghost use Rattle.kr_model.specs.State.{inode_of as host_inode, process};
 ghost use Rattle.kr_model.specs.declared.outcome.Outcome.TheVariants.{NoMemory as WantOfMemory};
 ghost use Rattle.kr_ops.specs.Meaning.{meaning};
 ghost use Rattle.kr_ops.specs.Sound.{IsOfView, IsServed, IsSound};
-ghost use Rattle.kr_answers.specs.Carrying.{CarriesOut};
+ghost use Rattle.kr_seen.specs.Carrying.{CarriesOut};
 ghost use Rattle.kr_names.specs.Adding.{IsFreeName};
 
 use crate::adding::unmasked;
 use crate::flags::closes_on_exec;
 use crate::found::opened_as;
-use kr_answers::{number, refused};
 use kr_files::{FilesRefusal, What};
 use kr_model::Outcome;
 use kr_ops::State;
+use kr_seen::{number, refused};
 use kr_targets::writable;
 use kr_tree::{Host, Meta, Node, Place, TreeRefusal};
 use pr_base::{Bytes, Errno, NoMemory};

@@ -16,7 +16,7 @@ ghost use Rattle.kr_model.specs.State.{image_layout, inode_of as host_inode, pro
 ghost use Rattle.kr_model.specs.declared.outcome.Outcome.TheVariants.{NoMemory as WantOfMemory};
 ghost use Rattle.kr_ops.specs.Meaning.{meaning};
 ghost use Rattle.kr_ops.specs.Sound.{IsServed, IsSound};
-ghost use Rattle.kr_answers.specs.Carrying.{CarriesOut};
+ghost use Rattle.kr_seen.specs.Carrying.{CarriesOut};
 ghost use Rattle.kr_targets.specs.Told.{entry_told, looked_told};
 ghost use Rattle.kr_names.specs.Opening.{entry_dir, entry_name, HasRoomLeft};
 
@@ -24,10 +24,10 @@ use crate::flags::{
     appends, changes, closes_on_exec, makes_anew, truncates, wants_directory, wants_read,
     wants_write,
 };
-use kr_answers::{number, refused};
 use kr_files::{FilesRefusal, Opened, What};
 use kr_model::Outcome;
 use kr_ops::State;
+use kr_seen::{number, refused};
 use kr_targets::{Entry, Looked};
 use kr_tree::{Host, Ino, Kind, Place, ProcAt, Right, TreeRefusal};
 use pr_base::{Bytes, Errno, NoMemory};

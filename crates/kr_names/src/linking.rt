@@ -13,14 +13,14 @@ ghost use Rattle.kr_model.specs.State.{inode_of as host_inode};
 ghost use Rattle.kr_model.specs.declared.outcome.Outcome.TheVariants.{NoMemory as WantOfMemory};
 ghost use Rattle.kr_ops.specs.Meaning.{meaning};
 ghost use Rattle.kr_ops.specs.Sound.{IsServed, IsSound};
-ghost use Rattle.kr_answers.specs.Carrying.{CarriesOut};
+ghost use Rattle.kr_seen.specs.Carrying.{CarriesOut};
 ghost use Rattle.kr_targets.specs.Performing.{PerformsAt, seen_linked};
 ghost use Rattle.kr_targets.specs.Resolved.{IsFoundIn, IsFreeIn};
 ghost use Rattle.kr_names.specs.Adding.{IsFreeName};
 
-use kr_answers::{number, refused};
 use kr_model::Outcome;
 use kr_ops::State;
+use kr_seen::{number, refused};
 use kr_targets::{Made, linked, writable};
 use kr_tree::{Host, Ino, TreeRefusal};
 use kr_view::{Places, Target};

@@ -11,9 +11,9 @@ ghost use Rattle.kr_targets.specs.Performing.{PerformsAt, seen_made};
 ghost use Rattle.kr_targets.specs.Resolved.{IsFreeIn};
 
 use crate::adding::{add_named, unmasked};
-use kr_answers::refused;
 use kr_model::Outcome;
 use kr_ops::State;
+use kr_seen::refused;
 use kr_targets::{Made, made};
 use kr_tree::Node;
 use kr_view::Target;

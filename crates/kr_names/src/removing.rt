@@ -11,16 +11,16 @@ ghost use Rattle.kr_model.specs.State.{image_layout};
 ghost use Rattle.kr_model.specs.declared.outcome.Outcome.TheVariants.{NoMemory as WantOfMemory};
 ghost use Rattle.kr_ops.specs.Meaning.{meaning};
 ghost use Rattle.kr_ops.specs.Sound.{IsServed, IsSound};
-ghost use Rattle.kr_answers.specs.Carrying.{CarriesOut};
+ghost use Rattle.kr_seen.specs.Carrying.{CarriesOut};
 ghost use Rattle.kr_targets.specs.Performing.{PerformsAt, seen_taken};
 ghost use Rattle.kr_targets.specs.Resolved.{IsEntryIn};
 ghost use Rattle.kr_targets.specs.Told.{entered_told};
 ghost use Rattle.kr_names.specs.Taking.{AnswersTakable, IsEntryOf};
 
 use bitflags::Flags;
-use kr_answers::{number, refused};
 use kr_model::Outcome;
 use kr_ops::State;
+use kr_seen::{number, refused};
 use kr_targets::{Entered, Taken, is_directory_host, is_processes_host, taken, writable};
 use kr_tree::{Host, Ino, Meta, User};
 use kr_view::{Places, Target};

@@ -19,7 +19,7 @@ use Rattle.kr_model.specs.State.{Process, State, inode_of, process, named, opene
 use Rattle.kr_model.specs.Change.{Change, AddNode, LinkNode, RemoveName, MoveName, SetMode, SetOwner, SetSize, WriteFile, OpenFile, CopyDescriptor, CloseDescriptor, SetCloexec, Seek, SetAppend, MakePipe, TakeFromPipe, PutIntoPipe, TakeInput, WriteOut, WriteErr, ChangePages, SetBreak, SetUmask, ChangeDirectory, Fork, End, Reap, ReplaceImage, ReplaceExecutable, CloseOnExec, MountOf, OfFound, OfDirectory, OfDescriptor, Birth}
 use Rattle.kr_model.specs.Applied.{Computing, Mounts, applied, all_applied, held_at, released_at, held_for, mount_of, in_mount, open_in, let_go, close_named, close, copy_named, copy_over, on_opened_of, pipe_made, with_image, with_brk, with_umask, with_cwd, with_parent, cwd_of, exe_of, with_program, with_exe, executed, is_closed_on_exec, close_on_exec_below, moved_to, child_of, forked_from, close_below, orphaned, gone, end, exe_remembers, with_exe_name, exe_after_removal, exe_after_rename, with_files, with_living}
 use Rattle.kr_model.proofs.BareLemmas.{maps, kept-mapped}
-use Rattle.kr_procview.specs.Numbered.{opened_numbered, process_numbered, state_numbered, table_numbered}
+use Rattle.kr_seen.specs.Numbered.{opened_numbered, process_numbered, state_numbered, table_numbered}
 use Rattle.kr_numbered.specs.Laws.{ChangesAreNumbered}
 use Rattle.kr_numbered.specs.Mounts.{mounts_numbered}
 use Rattle.kr_numbered.proofs.TableLemmas.{place-numbered, with_file-numbered, with_pipe-numbered, with_copy-numbered, with_copies-numbered, closed-numbered, opened_with-numbered, all_opened-numbered, removal-opened, rename-opened, read-numbered, write-numbered}

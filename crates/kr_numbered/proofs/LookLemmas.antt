@@ -15,8 +15,8 @@ use Rattle.kr_model.specs.Applied.{cwd_of, exe_of}
 use Rattle.kr_model.specs.Bare.{host_only}
 use Rattle.kr_model.specs.Known.{caller_of, fact_at, family_of, known, no_caller, pages_in_all}
 use Rattle.kr_model.specs.State.{Layout, Process, State, is_pid, named, opened, process}
-use Rattle.kr_procview.specs.Numbered.{opened_numbered, process_numbered, state_numbered, table_numbered}
-use Rattle.kr_procview.proofs.NumberedLemmas.{find-map}
+use Rattle.kr_seen.specs.Numbered.{opened_numbered, process_numbered, state_numbered, table_numbered}
+use Rattle.kr_seen.proofs.NumberedLemmas.{find-map}
 use Rattle.kr_numbered.proofs.TableLemmas.{file-numbered, kind-numbered, place-numbered}
 use Rattle.kr_numbered.specs.Laws.{KnownIsNumbered, LooksAreNumbered, ProcessesAreAsked}
 

@@ -9,7 +9,7 @@ use Rattle.kr_model.specs.Applied.{Computing, Mounts, all_applied, with_image, w
 use Rattle.kr_model.specs.Change.{Change}
 use Rattle.kr_model.specs.State.{Process, State, with_process}
 use Rattle.kr_model.proofs.BareLemmas.{kept-mapped}
-use Rattle.kr_procview.specs.Numbered.{process_numbered, state_numbered}
+use Rattle.kr_seen.specs.Numbered.{process_numbered, state_numbered}
 use Rattle.kr_numbered.specs.Laws.{ChoicesAreNumbered, StepsAreNumbered, picked}
 use Rattle.kr_numbered.specs.Mounts.{mounts_numbered}
 use Rattle.kr_numbered.proofs.ChangeLemmas.{changes-numbered, living-numbered}

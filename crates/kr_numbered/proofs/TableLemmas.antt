@@ -17,7 +17,7 @@ use Rattle.kr_files.specs.Opened.{is_reader, is_writer, pipe_end, remembers, nam
 use Rattle.kr_files.specs.Pipes.{after_write}
 use Rattle.kr_files.proofs.MountLemmas.{mapped-changed, mapped-mapped}
 use Rattle.kr_model.specs.State.{place_of}
-use Rattle.kr_procview.specs.Numbered.{opened_numbered, counted_numbered, table_numbered}
+use Rattle.kr_seen.specs.Numbered.{opened_numbered, counted_numbered, table_numbered}
 
 -- a table with one descriptor less of a file that is there
 abbrev with_less : {M : Type 0} → ℕ → Table M → Counted M → Table M

@@ -9,7 +9,7 @@ use Rattle.kr_model.specs.Applied.{Computing, Mounts, all_applied, applied, cwd_
 use Rattle.kr_model.specs.Change.{Change}
 use Rattle.kr_model.specs.Known.{known, pages_in_all}
 use Rattle.kr_model.specs.State.{Layout, Process, State, named, opened, place_of, process, with_process}
-use Rattle.kr_procview.specs.Numbered.{opened_numbered, process_numbered, state_numbered, table_numbered}
+use Rattle.kr_seen.specs.Numbered.{opened_numbered, process_numbered, state_numbered, table_numbered}
 use Rattle.kr_numbered.specs.Mounts.{mounts_numbered}
 
 -- ---- what is asked of a state

@@ -7,7 +7,7 @@ use Rattle.std.specs.Option.{option_map, option_and_then}
 use Rattle.kr_files.specs.declared.descs.Descriptor.{Descriptor}
 use Rattle.kr_files.specs.Descriptors.{Named, cloexec_of}
 use Rattle.kr_files.specs.Files.{file_at, opened_at}
-use Rattle.kr_model.specs.State as model
+use Rattle.kr_lawful.specs.kr_model.State as model
 use Rattle.kr_ops.specs.declared.state.Process.{Process}
 use Rattle.kr_ops.specs.declared.state.State.{State}
 use Rattle.kr_ops.specs.Living.{HasPid}

@@ -10,9 +10,9 @@ use Rattle.kr_files.specs.Files.{Kept, by_descriptor, on_table, with_opened}
 use Rattle.kr_files.proofs.MountLemmas.{mapped-changed}
 use Rattle.pr_base.specs.Maps.{changed}
 use Rattle.pr_base.proofs.MapLemmas.{get-mapped, changed-none}
-use Rattle.kr_model.specs.Applied.{on_opened_of, with_files, with_living}
-use Rattle.kr_model.specs.Lawful.{ArePids}
-use Rattle.kr_model.specs.State as model
+use Rattle.kr_lawful.specs.kr_model.Applied.{on_opened_of, with_files, with_living}
+use Rattle.kr_lawful.specs.kr_model.Lawful.{ArePids}
+use Rattle.kr_lawful.specs.kr_model.State as model
 use Rattle.kr_ops.specs.declared.state.Process.{Process}
 use Rattle.kr_ops.specs.declared.state.State.{State}
 use Rattle.kr_ops.specs.Living.{HaveOthers, HasPid}

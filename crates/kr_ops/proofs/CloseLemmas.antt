@@ -12,9 +12,9 @@ use Rattle.kr_files.specs.declared.opened.Opened.{Opened}
 use Rattle.kr_files.specs.Descriptors.{Descriptors, Meanings, Named, cloexec_of}
 use Rattle.kr_files.specs.Files.{Kept, Table, by_descriptor, released, closed, opened_at, file_at}
 use Rattle.pr_base.proofs.MapLemmas.{mapped-remove}
-use Rattle.kr_model.specs.State as model
-use Rattle.kr_model.specs.State.{inode_of, place_of}
-use Rattle.kr_model.specs.Applied.{released_at, close, close_named}
+use Rattle.kr_lawful.specs.kr_model.State as model
+use Rattle.kr_lawful.specs.kr_model.State.{inode_of, place_of}
+use Rattle.kr_lawful.specs.kr_model.Applied.{released_at, close, close_named}
 use Rattle.kr_ops.specs.declared.state.State.{State}
 use Rattle.kr_ops.specs.declared.state.Process.{Process}
 use Rattle.kr_ops.specs.Living.{HasPid}

@@ -13,10 +13,10 @@ use Rattle.rv_mem.specs.Pages.{IsPlaced, Pages, unmapped}
 use Rattle.rv_mem.proofs.ChangeLemmas.{get-unmapped_in, get-unmapped_out}
 use Rattle.kr_tree.specs.Tree.{Tree}
 use Rattle.kr_files.specs.Files.{NamesOpenFiles}
-use Rattle.kr_model.specs.Applied.{close_below, end, ended_with, gone, orphaned, put_in, released_at, stays, with_parent}
-use Rattle.kr_model.specs.Known.{pages_in_all}
-use Rattle.kr_model.specs.State as model
-use Rattle.kr_model.specs.State.{image_layout}
+use Rattle.kr_lawful.specs.kr_model.Applied.{close_below, end, ended_with, gone, orphaned, put_in, released_at, stays, with_parent}
+use Rattle.kr_lawful.specs.kr_model.Known.{pages_in_all}
+use Rattle.kr_lawful.specs.kr_model.State as model
+use Rattle.kr_lawful.specs.kr_model.State.{image_layout}
 use Rattle.kr_lawful.proofs.SumLemmas.{sum-cons}
 use Rattle.kr_ops.specs.declared.state.EndedProcess.{EndedProcess}
 use Rattle.kr_ops.specs.declared.state.Process.{Process}

@@ -15,12 +15,12 @@ use Rattle.kr_files.specs.declared.opened.Opened.{Opened}
 use Rattle.kr_files.specs.Descriptors.{Descriptors, Named, meanings}
 use Rattle.kr_files.specs.Files.{Kept, Table, FitsCopies, NamesOpenFiles, file_at, on_table, with_copies}
 use Rattle.kr_files.proofs.CountLemmas.{below_small}
-use Rattle.kr_model.specs.Applied.{Mounts, images, applied, child_of, child_regs, forked_from, held_at, held_for, told}
-use Rattle.kr_model.specs.Change.{Birth, Fork}
-use Rattle.kr_model.specs.Known.{pages_in_all}
-use Rattle.kr_model.specs.State as model
-use Rattle.kr_model.specs.State.{image_layout, inode_of, place_of}
-use Rattle.kr_model.proofs.BareLemmas.{mapped-append}
+use Rattle.kr_lawful.specs.kr_model.Applied.{Mounts, images, applied, child_of, child_regs, forked_from, held_at, held_for, told}
+use Rattle.kr_lawful.specs.kr_model.Change.{Birth, Fork}
+use Rattle.kr_lawful.specs.kr_model.Known.{pages_in_all}
+use Rattle.kr_lawful.specs.kr_model.State as model
+use Rattle.kr_lawful.specs.kr_model.State.{image_layout, inode_of, place_of}
+use Rattle.kr_lawful.proofs.kr_model.BareLemmas.{mapped-append}
 use Rattle.kr_lawful.proofs.SumLemmas.{sum-end}
 use Rattle.kr_ops.specs.declared.state.Process.{Process}
 use Rattle.kr_ops.specs.declared.state.State.{State}

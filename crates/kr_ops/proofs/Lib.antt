@@ -1,3 +1,4 @@
+pub use Rattle.kr_lawful.proofs as kr_lawful
 pub mod ListLemmas
 pub mod ChangeLemmas
 pub mod ServeLemmas

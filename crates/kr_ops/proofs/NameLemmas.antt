@@ -8,11 +8,11 @@ use Rattle.kr_tree.specs.Tree.{Tree}
 use Rattle.kr_tree.specs.Changes.{removed, renamed}
 use Rattle.kr_files.specs.Files.{Kept, NamesOpenFiles, on_table, with_all_opened}
 use Rattle.kr_files.specs.Opened.{after_removal, after_rename}
-use Rattle.kr_model.specs.Applied.{Mounts, applied, images, exe_remembers, with_exe_name, exe_after_removal, exe_after_rename}
-use Rattle.kr_model.specs.Change.{MoveName, RemoveName}
-use Rattle.kr_model.specs.Known.{pages_in_all}
-use Rattle.kr_model.specs.State as model
-use Rattle.kr_model.specs.State.{image_layout, layout_of}
+use Rattle.kr_lawful.specs.kr_model.Applied.{Mounts, applied, images, exe_remembers, with_exe_name, exe_after_removal, exe_after_rename}
+use Rattle.kr_lawful.specs.kr_model.Change.{MoveName, RemoveName}
+use Rattle.kr_lawful.specs.kr_model.Known.{pages_in_all}
+use Rattle.kr_lawful.specs.kr_model.State as model
+use Rattle.kr_lawful.specs.kr_model.State.{image_layout, layout_of}
 use Rattle.kr_lawful.proofs.SumLemmas.{sum-cons}
 use Rattle.kr_ops.specs.declared.state.Process.{Process}
 use Rattle.kr_ops.specs.declared.state.State.{State}

@@ -12,10 +12,10 @@ use Rattle.kr_files.specs.declared.opened.Opened.{Opened}
 use Rattle.kr_files.specs.Descriptors.{Descriptors, Meanings, Named, lowest_free, lowest_pair, with_copy_at, with_cloexec}
 use Rattle.kr_files.specs.Files.{Kept, Counted, with_file, with_copy, with_pipe, takes_pipe, closed, copied, released, by_descriptor, counted_more, count_at, file_at, Gives, GivesPair}
 use Rattle.kr_files.proofs.DescriptorLemmas.{lowest_free-meanings, lowest_pair-meanings}
-use Rattle.kr_model.specs.Applied.{Mounts, images, applied, held_at, released_at, in_mount, mount_of, open_in, copy_over}
-use Rattle.kr_model.specs.Change.{CopyDescriptor, MakePipe, MountOf, OpenFile}
-use Rattle.kr_model.specs.State as model
-use Rattle.kr_model.specs.State.{inode_of, place_of}
+use Rattle.kr_lawful.specs.kr_model.Applied.{Mounts, images, applied, held_at, released_at, in_mount, mount_of, open_in, copy_over}
+use Rattle.kr_lawful.specs.kr_model.Change.{CopyDescriptor, MakePipe, MountOf, OpenFile}
+use Rattle.kr_lawful.specs.kr_model.State as model
+use Rattle.kr_lawful.specs.kr_model.State.{inode_of, place_of}
 use Rattle.kr_ops.specs.declared.state.Process.{Process}
 use Rattle.kr_ops.specs.declared.state.State.{State}
 use Rattle.kr_ops.specs.Living.{HaveOthers, HasPid}

@@ -4,11 +4,11 @@ use Rattle.std.specs.Prelude.{map as map_list, slice_set, sum, IfSome, Result, O
 use Rattle.rv_mem.specs.Memory.{Memory, with_pages, room_after, page_count}
 use Rattle.rv_mem.specs.Pages.{Pages}
 use Rattle.rv_mem.proofs.LayoutLemmas.{layouts_follow}
-use Rattle.kr_model.specs.Applied.{images, pages_after, with_image, with_living}
-use Rattle.kr_model.specs.Change.{PageChange}
-use Rattle.kr_model.specs.Known.{pages_in_all}
-use Rattle.kr_model.specs.State as model
-use Rattle.kr_model.specs.State.{image_layout}
+use Rattle.kr_lawful.specs.kr_model.Applied.{images, pages_after, with_image, with_living}
+use Rattle.kr_lawful.specs.kr_model.Change.{PageChange}
+use Rattle.kr_lawful.specs.kr_model.Known.{pages_in_all}
+use Rattle.kr_lawful.specs.kr_model.State as model
+use Rattle.kr_lawful.specs.kr_model.State.{image_layout}
 use Rattle.kr_lawful.proofs.SumLemmas.{sum-cons}
 use Rattle.kr_ops.specs.declared.state.Process.{Process}
 use Rattle.kr_ops.specs.declared.state.State.{State}

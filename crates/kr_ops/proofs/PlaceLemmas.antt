@@ -5,11 +5,11 @@ use Rattle.std.specs.Option.{option_map, option_map_or}
 use Rattle.kr_tree.specs.Tree.{Tree}
 use Rattle.kr_tree.specs.Holds.{holds_at}
 use Rattle.kr_tree.specs.declared.place.Place.{Place}
-use Rattle.kr_model.specs.Applied.{Mounts, images, applied, held_at, released_at, mount_of, moved_to, executed, with_cwd, with_exe}
-use Rattle.kr_model.specs.Change.{MountOf, ChangeDirectory, ReplaceExecutable}
-use Rattle.kr_model.specs.Uses.{at_inode}
-use Rattle.kr_model.specs.State as model
-use Rattle.kr_model.specs.State.{inode_of}
+use Rattle.kr_lawful.specs.kr_model.Applied.{Mounts, images, applied, held_at, released_at, mount_of, moved_to, executed, with_cwd, with_exe}
+use Rattle.kr_lawful.specs.kr_model.Change.{MountOf, ChangeDirectory, ReplaceExecutable}
+use Rattle.kr_lawful.specs.kr_model.Uses.{at_inode}
+use Rattle.kr_lawful.specs.kr_model.State as model
+use Rattle.kr_lawful.specs.kr_model.State.{inode_of}
 use Rattle.kr_lawful.proofs.CountLemmas.{released-uses}
 use Rattle.kr_ops.specs.declared.state.Process.{Process}
 use Rattle.kr_ops.specs.declared.state.State.{State}

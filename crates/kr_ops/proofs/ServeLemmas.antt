@@ -14,14 +14,14 @@ use Rattle.kr_files.specs.Files.{Counted, GivesPair, Kept, NamesOpenFiles, by_de
 use Rattle.kr_files.specs.Serves.{Serves}
 use Rattle.kr_files.proofs.ServedLemmas.{served-close, served-dup_to, served-others}
 use Rattle.kr_files.proofs.ServesLemmas.{one_at, serves-raise}
-use Rattle.kr_model.specs.Known.{pages_in_all}
-use Rattle.kr_model.specs.State as model
-use Rattle.kr_model.specs.State.{image_layout, layout_of}
-use Rattle.kr_model.specs.Uses.{names_of_file}
+use Rattle.kr_lawful.specs.kr_model.Known.{pages_in_all}
+use Rattle.kr_lawful.specs.kr_model.State as model
+use Rattle.kr_lawful.specs.kr_model.State.{image_layout, layout_of}
+use Rattle.kr_lawful.specs.kr_model.Uses.{names_of_file}
 use Rattle.kr_lawful.proofs.SumLemmas.{sum-cons}
 use Rattle.kr_ops.specs.declared.state.Process.{Process}
 use Rattle.kr_ops.specs.declared.state.State.{State}
-use Rattle.kr_model.specs.Applied.{with_files}
+use Rattle.kr_lawful.specs.kr_model.Applied.{with_files}
 use Rattle.kr_ops.specs.Making.{IsAsBefore}
 use Rattle.kr_ops.specs.Meaning.{process_meaning, meaning}
 use Rattle.kr_ops.specs.Sound.{IsServed, IsSound}

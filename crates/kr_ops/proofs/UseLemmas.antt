@@ -8,14 +8,14 @@ use Rattle.kr_tree.specs.Changes.{held, with_holds}
 use Rattle.kr_tree.specs.Holds.{holds_at}
 use Rattle.kr_tree.specs.declared.place.Place.{Place}
 use Rattle.kr_files.specs.Files.{Counted}
-use Rattle.kr_view.specs.View.{Row}
-use Rattle.kr_model.specs.Applied.{held_at}
-use Rattle.kr_model.specs.Bare.{pins_of}
-use Rattle.kr_model.specs.Lawful.{IsLawful}
-use Rattle.kr_model.specs.State as model
-use Rattle.kr_model.specs.State.{place_of, inode_of}
-use Rattle.kr_model.specs.Uses.{process_use}
-use Rattle.kr_model.proofs.TreeLemmas.{holds-held}
+use Rattle.kr_lawful.specs.kr_view.View.{Row}
+use Rattle.kr_lawful.specs.kr_model.Applied.{held_at}
+use Rattle.kr_lawful.specs.kr_model.Bare.{pins_of}
+use Rattle.kr_lawful.specs.kr_model.Lawful.{IsLawful}
+use Rattle.kr_lawful.specs.kr_model.State as model
+use Rattle.kr_lawful.specs.kr_model.State.{place_of, inode_of}
+use Rattle.kr_lawful.specs.kr_model.Uses.{process_use}
+use Rattle.kr_lawful.proofs.kr_model.TreeLemmas.{holds-held}
 use Rattle.kr_lawful.proofs.HoldingLemmas.{holds_fit, pins-few, used_is_held}
 use Rattle.kr_ops.specs.declared.state.State.{State}
 use Rattle.kr_ops.specs.Meaning.{meaning}

@@ -2,7 +2,7 @@
 -- that is the sum of the pages.
 use Rattle.std.specs.Prelude.{ℕ, map as map_list}
 use Rattle.kr_files.specs.Descriptors.{meanings}
-use Rattle.kr_model.specs.State as model
+use Rattle.kr_lawful.specs.kr_model.State as model
 use Rattle.kr_ops.specs.declared.state.State.{State}
 use Rattle.kr_ops.specs.declared.state.Process.{Process}
 use Rattle.kr_ops.specs.declared.state.EndedProcess.{EndedProcess}

@@ -5,9 +5,9 @@ use Rattle.kr_tree.specs.declared.place.Place.{Place}
 use Rattle.kr_files.specs.Descriptors.{lowest_free, lowest_pair}
 use Rattle.kr_files.specs.Files.{takes_pipe}
 use Rattle.kr_files.specs.declared.opened.Opened.{Opened}
-use Rattle.kr_model.specs.Applied.{Mounts, applied, images, in_mount, mount_of}
-use Rattle.kr_model.specs.Change.{MountOf, OpenFile, ChangeDirectory, ReplaceExecutable}
-use Rattle.kr_model.specs.State as model
+use Rattle.kr_lawful.specs.kr_model.Applied.{Mounts, applied, images, in_mount, mount_of}
+use Rattle.kr_lawful.specs.kr_model.Change.{MountOf, OpenFile, ChangeDirectory, ReplaceExecutable}
+use Rattle.kr_lawful.specs.kr_model.State as model
 use Rattle.kr_ops.specs.declared.state.State.{State}
 use Rattle.kr_ops.specs.Meaning.{meaning}
 

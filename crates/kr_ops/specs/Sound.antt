@@ -3,11 +3,11 @@ use Rattle.std.specs.Prelude.{◌≡◌, ◌≤◌, ◌<◌, ℕ, List, Some, Is
 use Rattle.std.specs.List.{AllByRecursion}
 use Rattle.kr_files.specs.Descriptors.{Named}
 use Rattle.kr_files.specs.Files.{NamesOpenFiles, file_at}
-use Rattle.kr_view.specs.View.{Row}
-use Rattle.kr_model.specs.Known.{pages_in_all}
-use Rattle.kr_model.specs.Lawful.{ArePids, IsLawful}
-use Rattle.kr_model.specs.State.{image_layout, named}
-use Rattle.kr_model.specs.Uses.{AreUses}
+use Rattle.kr_lawful.specs.kr_view.View.{Row}
+use Rattle.kr_lawful.specs.kr_model.Known.{pages_in_all}
+use Rattle.kr_lawful.specs.kr_model.Lawful.{ArePids, IsLawful}
+use Rattle.kr_lawful.specs.kr_model.State.{image_layout, named}
+use Rattle.kr_lawful.specs.kr_model.Uses.{AreUses}
 use Rattle.kr_ops.specs.declared.state.State.{State}
 use Rattle.kr_ops.specs.declared.state.Process.{Process}
 use Rattle.kr_ops.specs.Meaning.{meaning}

@@ -1,9 +1,9 @@
 //! Changes of a process itself.
 ghost use Rattle.std.specs.Prelude.{◌≡◌, ℕ, IsSome};
 ghost use Rattle.kr_tree.specs.Tree.{inode};
-ghost use Rattle.kr_model.specs.Change.{SetBreak, SetUmask};
-ghost use Rattle.kr_model.specs.Lawful.{ArePids};
-ghost use Rattle.kr_model.specs.State.{inode_of as host_inode, process};
+ghost use Rattle.kr_lawful.specs.kr_model.Change.{SetBreak, SetUmask};
+ghost use Rattle.kr_lawful.specs.kr_model.Lawful.{ArePids};
+ghost use Rattle.kr_lawful.specs.kr_model.State.{inode_of as host_inode, process};
 ghost use Rattle.kr_ops.specs.Meaning.{meaning};
 ghost use Rattle.kr_ops.specs.Making.{Makes};
 ghost use Rattle.kr_ops.specs.Opening.{MovesTo};

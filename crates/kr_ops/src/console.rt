@@ -1,6 +1,6 @@
 //! Changes of the console: input that is taken, output that is written.
 ghost use Rattle.std.specs.Prelude.{◌≡◌, ℕ, ◌+◌, ◌<◌, ◌≤◌, ◌^◌, length, OnOk, OnErr};
-ghost use Rattle.kr_model.specs.Change.{TakeInput, WriteErr, WriteOut};
+ghost use Rattle.kr_lawful.specs.kr_model.Change.{TakeInput, WriteErr, WriteOut};
 ghost use Rattle.kr_ops.specs.Meaning.{meaning};
 ghost use Rattle.kr_ops.specs.Making.{Makes};
 ghost use Rattle.kr_ops.specs.Sound.{IsServed};

@@ -2,7 +2,7 @@
 ghost use Rattle.std.specs.Prelude.{◌≡◌, ◌<◌, ℕ, length, slice_index_or as get_or};
 ghost use Rattle.std.specs.Option.{option_and_then};
 ghost use Rattle.kr_files.specs.Files.{opened_at};
-ghost use Rattle.kr_model.specs.Change.{CloseDescriptor, Seek, SetAppend, SetCloexec};
+ghost use Rattle.kr_lawful.specs.kr_model.Change.{CloseDescriptor, Seek, SetAppend, SetCloexec};
 ghost use Rattle.kr_ops.specs.declared.state.Process.{Process};
 ghost use Rattle.kr_ops.specs.Making.{Makes};
 ghost use Rattle.kr_ops.specs.Sound.{IsServed, IsSound};

@@ -3,10 +3,10 @@ ghost use Rattle.std.specs.Prelude.{◌≡◌, ◌+◌, ◌<◌, ◌≤◌, ◌^
 ghost use Rattle.rv_mem.specs.Memory.{page_count};
 ghost use Rattle.rv_mem.specs.Pages.{allows_all};
 ghost use Rattle.rv_mem.specs.declared.rights.Use.TheVariants.{Write};
-ghost use Rattle.kr_model.specs.Applied.{child_regs, told};
-ghost use Rattle.kr_model.specs.Change.{Fork};
-ghost use Rattle.kr_model.specs.MemoryRows.{all_pages};
-ghost use Rattle.kr_model.specs.State.{process};
+ghost use Rattle.kr_lawful.specs.kr_model.Applied.{child_regs, told};
+ghost use Rattle.kr_lawful.specs.kr_model.Change.{Fork};
+ghost use Rattle.kr_lawful.specs.kr_model.MemoryRows.{all_pages};
+ghost use Rattle.kr_lawful.specs.kr_model.State.{process};
 ghost use Rattle.kr_ops.specs.Meaning.{meaning};
 ghost use Rattle.kr_ops.specs.Making.{Makes};
 ghost use Rattle.kr_ops.specs.Sound.{IsServed, IsSound};

@@ -5,8 +5,8 @@ ghost use Rattle.kr_tree.specs.Tree.{inode};
 ghost use Rattle.kr_tree.specs.Holds.{holds_at};
 ghost use Rattle.kr_files.specs.Descriptors.{meanings};
 ghost use Rattle.kr_files.specs.Files.{opened_at, NamesOpenFiles};
-ghost use Rattle.kr_model.specs.State.{inode_of as host_inode};
-ghost use Rattle.kr_model.specs.Applied.{held_at, held_for, released_at};
+ghost use Rattle.kr_lawful.specs.kr_model.State.{inode_of as host_inode};
+ghost use Rattle.kr_lawful.specs.kr_model.Applied.{held_at, held_for, released_at};
 
 use kr_files::{Descs, Files};
 use kr_tree::{Host, Ino, Place, Tree};

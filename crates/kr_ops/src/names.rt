@@ -3,7 +3,7 @@ ghost use Rattle.std.specs.Prelude.{◌≡◌, ◌+◌, ◌<◌, ◌^◌, ℕ, [
 ghost use Rattle.kr_tree.specs.Tree.{entry, body_is, is_filled};
 ghost use Rattle.kr_tree.specs.Changes.{next_serial};
 ghost use Rattle.kr_tree.specs.Lawful.{IsLawfulMove};
-ghost use Rattle.kr_model.specs.Change.{MoveName, RemoveName};
+ghost use Rattle.kr_lawful.specs.kr_model.Change.{MoveName, RemoveName};
 ghost use Rattle.kr_ops.specs.Making.{Makes};
 ghost use Rattle.kr_ops.specs.Remembering.{followed, forgotten, is_entry};
 ghost use Rattle.kr_ops.specs.Sound.{IsServed};

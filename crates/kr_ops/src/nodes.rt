@@ -4,7 +4,7 @@ ghost use Rattle.kr_inode.specs.Stored.{body_of_new};
 ghost use Rattle.kr_tree.specs.Tree.{inode, entry, body_is, takes_names, may_be_linked, is_file, bytes_of};
 ghost use Rattle.kr_tree.specs.Names.{is_name};
 ghost use Rattle.kr_tree.specs.Changes.{has_no_name_left, has_no_room, has_no_room_for, is_past_file, is_too_big, next_serial, size, size_written};
-ghost use Rattle.kr_model.specs.Change.{AddNode, LinkNode, SetMode, SetOwner, SetSize, WriteFile};
+ghost use Rattle.kr_lawful.specs.kr_model.Change.{AddNode, LinkNode, SetMode, SetOwner, SetSize, WriteFile};
 ghost use Rattle.kr_ops.specs.Meaning.{meaning};
 ghost use Rattle.kr_ops.specs.Making.{Makes};
 ghost use Rattle.kr_ops.specs.Sound.{IsServed};

@@ -2,8 +2,8 @@
 ghost use Rattle.std.specs.Prelude.{◌≡◌, ◌≢◌, ◌↔◌, ◌+◌, ◌<◌, ◌^◌, ℕ, Some, None, Err, false, IsSome, IsTrue, IfSome, IfOk, OnErr, OnOk};
 ghost use Rattle.kr_tree.specs.Tree.{inode};
 ghost use Rattle.kr_files.specs.Opened.{is_no_end};
-ghost use Rattle.kr_model.specs.Change.{CopyDescriptor, MakePipe};
-ghost use Rattle.kr_model.specs.State.{inode_of as host_inode, named, process};
+ghost use Rattle.kr_lawful.specs.kr_model.Change.{CopyDescriptor, MakePipe};
+ghost use Rattle.kr_lawful.specs.kr_model.State.{inode_of as host_inode, named, process};
 ghost use Rattle.kr_ops.specs.Meaning.{meaning};
 ghost use Rattle.kr_ops.specs.Making.{IsAsBefore, Makes};
 ghost use Rattle.kr_ops.specs.Opening.{lowest_of, pair_of, takes_pipe_of, Opens};

@@ -2,7 +2,7 @@
 ghost use Rattle.std.specs.FinMap as map;
 ghost use Rattle.std.specs.Prelude.{◌≡◌, ◌↔◌, ◌<◌, ℕ, length, false, Some, Ok, IsSome, IsTrue, IfOk, OnOk, OnErr};
 ghost use Rattle.kr_files.specs.Files.{has_reader, read_answer, reads_wait, write_answer, writes_wait};
-ghost use Rattle.kr_model.specs.Change.{PutIntoPipe, TakeFromPipe};
+ghost use Rattle.kr_lawful.specs.kr_model.Change.{PutIntoPipe, TakeFromPipe};
 ghost use Rattle.kr_ops.specs.Meaning.{meaning};
 ghost use Rattle.kr_ops.specs.Making.{Makes};
 ghost use Rattle.kr_ops.specs.Sound.{IsServed};

@@ -13,15 +13,15 @@ use Rattle.kr_model.specs.Operation.{operation}
 use Rattle.kr_model.specs.Reply.{Replying}
 use Rattle.kr_model.specs.State as model
 use Rattle.kr_model.specs.Walks.{told}
-use Rattle.kr_lasting.specs.Lasting.{Lasts}
-use Rattle.kr_lasting.proofs.ChangeLemmas.{modest-last}
-use Rattle.kr_lasting.proofs.RoomLemmas.{lasting-room}
+use Rattle.kr_allowed.specs.Lasting.{Lasts}
+use Rattle.kr_allowed.proofs.ChangeLemmas.{modest-last}
+use Rattle.kr_allowed.proofs.RoomLemmas.{lasting-room}
 use Rattle.kr_allowed.specs.Allowed.{with_memory}
 use Rattle.kr_allowed.specs.Resting.{HasSmallNumbers}
 use Rattle.kr_allowed.proofs.OperationLemmas.{operation-is-allowed}
-use Rattle.kr_answers.specs.Carrying.{after_row, memory_of, no_memory}
+use Rattle.kr_seen.specs.Carrying.{after_row, memory_of, no_memory}
 use Rattle.kr_ops.specs.Meaning.{meaning}
-use Rattle.kr_procview.specs.Numbered.{state_numbered}
+use Rattle.kr_seen.specs.Numbered.{state_numbered}
 use Rattle.kr_perform.specs.Lawful.{LastsLawful, PerformedLast}
 use Rattle.kr_perform.specs.Operating.{mounts_at, placed_targets}
 

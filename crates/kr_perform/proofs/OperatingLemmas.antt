@@ -16,9 +16,9 @@ use Rattle.kr_model.specs.Walks.{told}
 use Rattle.kr_model.specs.declared.outcome.Outcome.{Outcome}
 use Rattle.kr_ops.specs.declared.state.State.{State}
 use Rattle.kr_ops.specs.Meaning.{meaning}
-use Rattle.kr_procview.specs.Numbered.{state_numbered}
-use Rattle.kr_answers.specs.Carrying.{CarriesOut}
-use Rattle.kr_answers.proofs.CarryLemmas.{by-refusal}
+use Rattle.kr_seen.specs.Numbered.{state_numbered}
+use Rattle.kr_seen.specs.Carrying.{CarriesOut}
+use Rattle.kr_seen.proofs.CarryLemmas.{by-refusal}
 use Rattle.kr_rows.specs.Performing.{Performs}
 use Rattle.kr_model.specs.Applied.{Mounts}
 use Rattle.kr_perform.specs.Operating.{OperatesAlone, OperatesAt, mounts_at, placed_targets}

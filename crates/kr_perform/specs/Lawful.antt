@@ -9,11 +9,11 @@ use Rattle.kr_model.specs.State as model
 use Rattle.kr_model.specs.Walks.{told}
 use Rattle.kr_model.specs.declared.outcome.Outcome.{Outcome}
 use Rattle.kr_model.specs.declared.outcome.Outcome.TheVariants.{NoMemory}
-use Rattle.kr_lasting.specs.Lasting.{Lasts}
+use Rattle.kr_allowed.specs.Lasting.{Lasts}
 use Rattle.kr_allowed.specs.Calls.{IsGivable, IsToldIn}
 use Rattle.kr_ops.specs.declared.state.State.{State}
 use Rattle.kr_ops.specs.Meaning.{meaning}
-use Rattle.kr_procview.specs.Numbered.{state_numbered}
+use Rattle.kr_seen.specs.Numbered.{state_numbered}
 use Rattle.kr_perform.specs.Operating.{OperatesAt, mounts_at, placed_targets}
 
 -- a lawful state in which lasts what calls keep, after `calls` of them

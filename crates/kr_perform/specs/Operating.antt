@@ -14,9 +14,9 @@ use Rattle.kr_model.specs.Walks.{Targets, told}
 use Rattle.kr_model.specs.declared.outcome.Outcome.{Outcome}
 use Rattle.kr_ops.specs.declared.state.State.{State}
 use Rattle.kr_ops.specs.Meaning.{meaning}
-use Rattle.kr_procview.specs.Numbered.{state_numbered}
-use Rattle.kr_answers.specs.Carrying.{CarriesOut}
-use Rattle.kr_targets.specs.Placed.{placed_in}
+use Rattle.kr_seen.specs.Numbered.{state_numbered}
+use Rattle.kr_seen.specs.Carrying.{CarriesOut}
+use Rattle.kr_resolved.specs.kr_targets.Placed.{placed_in}
 use Rattle.kr_rows.specs.Performing.{Performs}
 
 -- ---- kinds of requests

@@ -7,15 +7,14 @@ ghost use Rattle.kr_model.specs.State.{process};
 ghost use Rattle.kr_model.specs.declared.outcome.Outcome.TheVariants.{NoMemory as WantOfMemory};
 ghost use Rattle.kr_ops.specs.Meaning.{meaning};
 ghost use Rattle.kr_ops.specs.Sound.{IsServed, IsSound};
-ghost use Rattle.kr_targets.specs.Resolved.{IsFoundIn};
+ghost use Rattle.kr_resolved.specs.kr_targets.Resolved.{IsFoundIn};
 ghost use Rattle.kr_perform.specs.Operating.{OperatesAt};
 
-use kr_answers::refused;
 use kr_attributes::{directories, links, modes, owners, rights, stats};
 use kr_model::Outcome;
 use kr_ops::State;
 use kr_ops::laws::lawful_states_are_sound;
-use kr_paths::Targets;
+use kr_seen::{Targets, refused};
 use kr_view::Places;
 use pr_base::Errno;
 

@@ -15,7 +15,7 @@ use kr_calls::Request;
 use kr_model::Outcome;
 use kr_ops::State;
 use kr_ops::laws::lawful_states_are_sound;
-use kr_paths::Targets;
+use kr_seen::Targets;
 use kr_view::Places;
 use std::alloc::Global;
 

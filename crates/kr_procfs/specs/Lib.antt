@@ -1,2 +1,3 @@
+pub use Rattle.kr_view.specs as kr_view
 pub mod Decimals
 pub mod Objects

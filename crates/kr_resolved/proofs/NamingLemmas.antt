@@ -27,7 +27,7 @@ use Rattle.kr_model.specs.ProcessDirectory.{around_of}
 use Rattle.kr_model.specs.State.{Image, State}
 use Rattle.kr_model.specs.Walks.{target_at}
 use Rattle.kr_allowed.specs.Told.{HasGoodName}
-use Rattle.kr_lasting.specs.Texts.{IsText, LinksHaveTexts}
+use Rattle.kr_allowed.specs.Texts.{IsText, LinksHaveTexts}
 use Rattle.kr_resolved.specs.Naming.{WalksName}
 use Rattle.kr_resolved.proofs.AroundLemmas.{both, leads_texts, of_walk}
 use Rattle.kr_resolved.proofs.EndingLemmas.{Comes, all_come}

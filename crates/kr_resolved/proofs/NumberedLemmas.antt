@@ -22,8 +22,8 @@ use Rattle.kr_model.specs.ProcessRows.{most_processes}
 use Rattle.kr_model.specs.State.{Image, Process, State, image_layout, process}
 use Rattle.kr_model.specs.Uses.{AreUses, at_inode, file_uses, names_of_file, process_use, process_uses, sum_to, uses_of}
 use Rattle.kr_files.specs.Descriptors.{named_count}
-use Rattle.kr_procview.specs.Numbered.{counted_numbered, opened_numbered, process_numbered, state_numbered, table_numbered}
-use Rattle.kr_procview.proofs.NumberedLemmas.{named-numbered, process-numbered}
+use Rattle.kr_targets.specs.kr_seen.Numbered.{counted_numbered, opened_numbered, process_numbered, state_numbered, table_numbered}
+use Rattle.kr_targets.proofs.kr_seen.NumberedLemmas.{named-numbered, process-numbered}
 
 map-map : {A B C : Type 0} (f : A → B) (g : B → C) (xs : List A) → map_list g (map_list f xs) ≡ map_list (λ x. g (f x)) xs
 map-map f g [] = refl

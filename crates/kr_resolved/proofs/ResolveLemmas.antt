@@ -31,8 +31,8 @@ use Rattle.kr_model.specs.ProcessDirectory.{around_of, leads_of}
 use Rattle.kr_model.specs.State.{Image, State}
 use Rattle.kr_model.specs.Walks.{target_at}
 use Rattle.kr_ops.specs.Meaning.{meaning}
-use Rattle.kr_procview.specs.Numbered.{state_numbered}
-use Rattle.kr_paths.specs.CallWalks.{IsTold}
+use Rattle.kr_targets.specs.kr_seen.Numbered.{state_numbered}
+use Rattle.kr_targets.specs.kr_seen.CallWalks.{IsTold}
 use Rattle.kr_resolved.specs.Resolving.{IsResolved, IsResolvedFor, IsText, LinksHaveTexts, WalksResolve}
 use Rattle.kr_resolved.proofs.AroundLemmas.{both, leads_texts, of_walk}
 use Rattle.kr_resolved.proofs.EndingLemmas.{free_comes, never_jumped}

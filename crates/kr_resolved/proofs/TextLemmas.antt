@@ -10,7 +10,7 @@ use Rattle.pr_base.specs.Paths.{Component, Dot, DotDot, Name, IsComponent, compo
 use Rattle.pr_base.specs.WalkFrame.{name_of}
 use Rattle.pr_base.proofs.PathLemmas.{paths_have_components}
 use Rattle.kr_tree.specs.Lawful.{AreBytes}
-use Rattle.kr_lasting.specs.Texts.{IsText}
+use Rattle.kr_allowed.specs.Texts.{IsText}
 use Rattle.kr_resolved.proofs.EndingLemmas.{HasLast}
 
 -- ---- components

@@ -1,2 +1,3 @@
+pub use Rattle.kr_targets.specs as kr_targets
 pub mod Naming
 pub mod Resolving

@@ -10,7 +10,7 @@ use Rattle.kr_model.specs.State.{Image}
 use Rattle.kr_model.specs.Walks as walks
 use Rattle.kr_model.specs.Walks.{targets_of}
 use Rattle.kr_allowed.specs.Told.{AreGoodTargets}
-use Rattle.kr_lasting.specs.Texts.{IsText, LinksHaveTexts}
+use Rattle.kr_allowed.specs.Texts.{IsText, LinksHaveTexts}
 
 -- along paths that are texts of bytes, where links have texts, a name that is free is well-formed, and so is that of a file
 abbrev pub WalksName : Type 0

@@ -13,11 +13,11 @@ use Rattle.kr_model.specs.Walks.{targets_of}
 use Rattle.kr_ops.specs.declared.state.State.{State}
 use Rattle.kr_ops.specs.Meaning.{meaning}
 use Rattle.kr_ops.specs.Sound.{IsServed}
-use Rattle.kr_procview.specs.Numbered.{state_numbered}
-use Rattle.kr_paths.specs.CallWalks.{AreTargets}
-use Rattle.kr_paths.specs.declared.walks.Targets.{Targets}
+use Rattle.kr_targets.specs.kr_seen.Numbered.{state_numbered}
+use Rattle.kr_targets.specs.kr_seen.CallWalks.{AreTargets}
+use Rattle.kr_targets.specs.kr_seen.declared.walks.Targets.{Targets}
 use Rattle.kr_targets.specs.Resolved.{IsFoundIn, IsFreeIn, IsEntryIn}
-pub use Rattle.kr_lasting.specs.Texts.{IsText, LinksHaveTexts}
+pub use Rattle.kr_allowed.specs.Texts.{IsText, LinksHaveTexts}
 
 -- ---- texts
 

@@ -12,9 +12,9 @@ use Rattle.rv_mem.proofs.ChangeLemmas.{get-unmapped_out, len-mapped_more}
 use Rattle.rv_mem.proofs.LayoutLemmas.{contains_layout, layouts_follow}
 use Rattle.rv_mem.proofs.TableLemmas.{has_pages-zero, has_pages_refused, mapped-zero}
 use Rattle.pr_base.proofs.MapLemmas.{remove-none}
-use Rattle.kr_lawful.proofs.SumLemmas.{passed-test}
-use Rattle.kr_lawful.proofs.OwnChangeLemmas.{neither}
-use Rattle.kr_lawful.proofs.AfterLemmas.{pids-with, some-of}
+use Rattle.kr_ops.proofs.kr_lawful.SumLemmas.{passed-test}
+use Rattle.kr_ops.proofs.kr_lawful.OwnChangeLemmas.{neither}
+use Rattle.kr_ops.proofs.kr_lawful.AfterLemmas.{pids-with, some-of}
 use Rattle.kr_model.specs.Applied.{Mounts, applied, images, with_image, with_living}
 use Rattle.kr_model.specs.Change.{ChangePages, MapPages, PageChange, SetBreak}
 use Rattle.kr_model.specs.Known.{Known, caller_of, known, no_caller, pages_in_all}

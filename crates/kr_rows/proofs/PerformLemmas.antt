@@ -10,7 +10,7 @@ use Rattle.kr_model.specs.declared.outcome.Outcome.{Outcome}
 use Rattle.pr_base.specs.declared.errno.Errno.{Errno}
 use Rattle.kr_ops.specs.declared.state.State.{State}
 use Rattle.kr_ops.specs.Meaning.{meaning}
-pub use Rattle.kr_answers.proofs.CarryLemmas.{own-memory, pages-alike}
+pub use Rattle.kr_seen.proofs.CarryLemmas.{own-memory, pages-alike}
 use Rattle.kr_rows.specs.Performing.{IsPerformed, after_row, carried, unchanged}
 
 module _ {T : Type 0} {M : ℕ} (pid : ℕ) (row : Known → Replying) (old new : State T M) (result : Outcome) (pids : ArePids (meaning old)) where

@@ -11,7 +11,7 @@ use Rattle.kr_calls.specs.Arguments.{has}
 use Rattle.kr_files.specs.Descriptors.{lowest_free, lowest_pair}
 use Rattle.kr_files.specs.Files.{takes_pipe}
 use Rattle.kr_files.proofs.DescriptorLemmas.{lowest_free-some}
-use Rattle.kr_lawful.proofs.AfterLemmas.{some-of}
+use Rattle.kr_ops.proofs.kr_lawful.AfterLemmas.{some-of}
 use Rattle.kr_model.specs.Change.{MakePipe}
 use Rattle.kr_model.specs.DescriptorRows.{o_cloexec, pipe2_row, pipe_numbers, pipe_under}
 use Rattle.kr_model.specs.Known.{Known, caller_of, known, no_caller}

@@ -23,8 +23,8 @@ use Rattle.kr_model.specs.ProcessRows.{null_or_writable, unless_null}
 use Rattle.kr_model.specs.State as model
 use Rattle.kr_model.specs.Uses.{AreUses, file_uses, process_use}
 use Rattle.kr_model.specs.declared.outcome.Outcome.{Outcome}
-use Rattle.kr_lawful.proofs.AfterLemmas.{some-of, pids-with}
-use Rattle.kr_lawful.proofs.ProcessChangeLemmas.{found as found-with, found-passes, same-mapped, sum-with}
+use Rattle.kr_ops.proofs.kr_lawful.AfterLemmas.{some-of, pids-with}
+use Rattle.kr_ops.proofs.kr_lawful.ProcessChangeLemmas.{found as found-with, found-passes, same-mapped, sum-with}
 use Rattle.kr_ops.specs.declared.state.Process.{Process}
 use Rattle.kr_ops.specs.declared.state.State.{State}
 use Rattle.kr_ops.specs.Living.{HasPid}

@@ -11,7 +11,7 @@ use Rattle.kr_model.specs.declared.outcome.Outcome.{Outcome}
 use Rattle.kr_model.specs.declared.outcome.Outcome.TheVariants.{NoMemory}
 use Rattle.kr_ops.specs.declared.state.State.{State}
 use Rattle.kr_ops.specs.Meaning.{meaning}
-pub use Rattle.kr_answers.specs.Carrying.{no_memory, with_memory, memory_of, with_memory_of, carried, after_row}
+pub use Rattle.kr_seen.specs.Carrying.{no_memory, with_memory, memory_of, with_memory_of, carried, after_row}
 
 -- a reply that changes nothing
 abbrev pub unchanged : Outcome → Replying

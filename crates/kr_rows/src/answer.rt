@@ -8,8 +8,8 @@ ghost use Rattle.kr_ops.specs.Meaning.{meaning};
 ghost use Rattle.kr_ops.specs.Sound.{IsSound};
 ghost use Rattle.kr_rows.specs.Performing.{open_number};
 
-pub use kr_answers::{number, refused};
 use kr_ops::State;
+pub use kr_seen::{number, refused};
 
 /// Whether flags have all of these bits.
 pub(crate) fn has(flags: u32, bits: u32) -> bool

@@ -27,7 +27,7 @@ use Rattle.kr_listed.proofs.ReadLemmas.{read-last}
 use Rattle.kr_start.specs.Start.{HasNoHolds}
 use Rattle.walks_agree.specs.Settled.{IsSettled}
 use Rattle.walks_agree.specs.Start.{SettledBindingsAreSettled}
-use Rattle.kr_stage.specs.Ready.{IsOfListing, IsReady}
+use Rattle.kr_stage.specs.Ready.{IsOfListing, IsPrepared}
 
 -- in a tree that was read nothing is held
 has-no-holds : (t : Tree) → ((i : ℕ) (x : Inode) → inode t i ≡ Some x → x.holds ≡ 0) → HasNoHolds t
@@ -41,15 +41,14 @@ has-no-holds t unheld i = by (inode t i) refl
 pub has-numbers : (t : Tree) (user : User) → IsOfListing t user → IsKept t → HasNumbers t
 has-numbers t user of kept = (read-last of.elf of.bytes t user of.listing of.drawn kept.sound).1
 
-pub settled-ready : (t u : Tree) (user : User) (root : List ℕ) (binds : List Bind) (table : List Row) → IsOfListing t user → IsKept t → HasItsInodes t → AreNumbered binds
-    → IsGrown user t u → (settling t user root binds).tree ≡ u → (settling t user root binds).answer ≡ Ok table → length table < 2 ^ 32 → SettledBindingsAreSettled → IsReady u user table
-settled-ready t u user root binds table of kept inodes numbered grown left answer few law =
+pub settled-prepared : (t u : Tree) (user : User) (root : List ℕ) (binds : List Bind) (table : List Row) → IsOfListing t user → IsKept t → HasItsInodes t → AreNumbered binds
+    → IsGrown user t u → (settling t user root binds).tree ≡ u → (settling t user root binds).answer ≡ Ok table → SettledBindingsAreSettled → IsPrepared u user table
+settled-prepared t u user root binds table of kept inodes numbered grown left answer law =
     let begun = read-last of.elf of.bytes t user of.listing of.drawn kept.sound in
     let settled : IsSettledIn u user table = subst (λ (v : Tree). IsSettledIn v user table) left (settled_mounts_stand t user root binds table kept.sound kept.counted inodes numbered answer) in
     let before = grown_trees_have_all_before user t u kept.sound kept.counted grown in
     record {
       stands = settled.stands;
-      few = few;
       free = before.no_holds (has-no-holds t of.drawn.unheld);
       lasts = grown-last user t u kept.sound kept.counted begun.1 grown begun.0;
       named = settled-are-named u table settled.as_settled;

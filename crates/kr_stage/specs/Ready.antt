@@ -23,14 +23,19 @@ pub record IsOfListing (t : Tree) (user : User) : Type 0 where
   pub listing : listing_of elf bytes ≡ Ok (t, user)
   pub drawn : IsDrawn t
 
-pub record IsReady (t : Tree) (user : User) (table : List Row) : Type 0 where
+-- mounts that are settled, however many there are
+pub record IsPrepared (t : Tree) (user : User) (table : List Row) : Type 0 where
   pub stands : StandsIn t table
-  pub few : length table < 2 ^ 32
   pub free : HasNoHolds t
   pub lasts : CanLast t user
   pub named : SourcesAreNamed table
   -- texts and inodes of the mounts belong together
   pub settled : IsSettled (record { table = table; tree = t; user = user; finds = no_finds })
+
+-- and a kernel has numbers for them
+pub record IsReady (t : Tree) (user : User) (table : List Row) : Type 0 where
+  pub prepared : IsPrepared t user table
+  pub few : length table < 2 ^ 32
 
 -- what settling comes to is told, and its tree is left, but for want of memory
 abbrev pub IsStaged : User → Settling → Result Stage BindFault → Type 0

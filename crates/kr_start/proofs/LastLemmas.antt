@@ -8,8 +8,8 @@ use Rattle.kr_tree.specs.Tree.{Tree}
 use Rattle.kr_view.specs.View.{Row}
 use Rattle.kr_files.specs.Files.{Table}
 use Rattle.kr_model.specs.State.{Image, State, inode_of}
-use Rattle.kr_lasting.specs.Lasting.{Lasts}
-use Rattle.kr_lasting.proofs.TreeLemmas.{TreeLasts, held-lasts}
+use Rattle.kr_allowed.specs.Lasting.{Lasts}
+use Rattle.kr_allowed.proofs.TreeLemmas.{TreeLasts, held-lasts}
 use Rattle.kr_listed.specs.Beginning.{CanLast}
 use Rattle.kr_listed.proofs.TreeLemmas.{lasts-of, can-last}
 use Rattle.kr_start.specs.Laws.{StartsLast}

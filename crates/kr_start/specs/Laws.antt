@@ -6,7 +6,7 @@ use Rattle.kr_tree.specs.Holds.{holds_at}
 use Rattle.kr_view.specs.View.{Row, StandsIn}
 use Rattle.kr_model.specs.Bare.{pins_of}
 use Rattle.kr_model.specs.State.{Image, State}
-use Rattle.kr_lasting.specs.Lasting.{Lasts}
+use Rattle.kr_allowed.specs.Lasting.{Lasts}
 use Rattle.kr_listed.specs.Beginning.{CanLast}
 use Rattle.kr_start.specs.Start.{pinned, started, without_processes, First, HasNoHolds, IsIdle}
 

@@ -29,7 +29,7 @@ use Rattle.kr_model.specs.State as model
 use Rattle.kr_lawful.proofs.AfterLemmas.{parts-of}
 use Rattle.kr_lawful.proofs.OwnChangeLemmas.{process-keeps}
 use Rattle.kr_lawful.proofs.ProcessChangeLemmas.{found as found-changed, found-passes, sum-with}
-use Rattle.kr_lasting.specs.Lasting.{Lasts}
+use Rattle.kr_allowed.specs.Lasting.{Lasts}
 use Rattle.kr_allowed.specs.Allowed.{HoldsBytes}
 use Rattle.kr_allowed.specs.Calls.{HasTextPaths, IsGivable}
 use Rattle.kr_allowed.proofs.DecodedLemmas.{decoded-are-givable}

@@ -7,8 +7,8 @@ use Rattle.kr_model.specs.Change.{End}
 use Rattle.kr_model.specs.State.{process}
 use Rattle.kr_lawful.proofs.ChangeLemmas.{all-changes-keep}
 use Rattle.kr_lawful.specs.Laws.{CanAllBeMade}
-use Rattle.kr_lasting.specs.Lasting.{AreModest}
-use Rattle.kr_lasting.proofs.ChangeLemmas.{modest-last}
+use Rattle.kr_allowed.specs.Lasting.{AreModest}
+use Rattle.kr_allowed.proofs.ChangeLemmas.{modest-last}
 use Rattle.kr_ops.specs.Making.{Makes}
 use Rattle.kr_ops.specs.Meaning.{meaning}
 use Rattle.kr_ops.specs.Sound.{IsServed}

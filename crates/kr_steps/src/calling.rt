@@ -5,9 +5,9 @@ ghost use Rattle.kr_allowed.specs.Told.{SourcesAreNamed};
 ghost use Rattle.kr_calling.specs.Calling.{MayCall, Runs};
 ghost use Rattle.kr_model.specs.State.{process};
 ghost use Rattle.kr_ops.specs.Meaning.{meaning};
-ghost use Rattle.kr_paths.specs.CallWalks.{call_reach};
+ghost use Rattle.kr_seen.specs.CallWalks.{call_reach};
 ghost use Rattle.kr_calling.specs.Operated.{IsNoExec};
-ghost use Rattle.kr_procview.specs.Numbered.{state_numbered};
+ghost use Rattle.kr_seen.specs.Numbered.{state_numbered};
 ghost use Rattle.kr_steps.specs.Settling.{IsSettled};
 
 use crate::answering::{answer, stay};

@@ -4,9 +4,9 @@ use Rattle.std.specs.Prelude.{◌==◌, ◌||◌, map as map_list}
 use Rattle.std.specs.Bool.{if◌then◌else◌}
 use Rattle.std.specs.List.{find, list_any}
 use Rattle.std.specs.Option.{is_some}
-use Rattle.kr_model.specs.Asking.{lives}
-use Rattle.kr_model.specs.Known.{family_of, known}
-use Rattle.kr_model.specs.State.{Image, Process, State, image_layout, is_pid, process}
+use Rattle.kr_seen.specs.kr_model.Asking.{lives}
+use Rattle.kr_seen.specs.kr_model.Known.{family_of, known}
+use Rattle.kr_seen.specs.kr_model.State.{Image, Process, State, image_layout, is_pid, process}
 
 module _ {T : Type 0} (pid : ℕ) (s : State T Image) where
   -- whether a process lives, by the list of living ones

@@ -1,2 +1,3 @@
+pub use Rattle.kr_seen.proofs as kr_seen
 pub mod KnownLemmas
 pub mod TargetLemmas

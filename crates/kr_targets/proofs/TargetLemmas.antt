@@ -6,10 +6,10 @@ use Rattle.kr_tree.specs.declared.place.Place.{Place}
 use Rattle.kr_view.specs.Component.{is_directory_at}
 use Rattle.kr_view.specs.View.{Row}
 use Rattle.kr_view.specs.Walk.{PlaceTarget}
-use Rattle.kr_model.specs.FileRows.{creates}
-use Rattle.kr_model.specs.Seen.{Looked, Opens, OpensFound}
-use Rattle.kr_model.specs.State.{Image, State}
-use Rattle.kr_model.specs.Walks.{created_at, entry_of, if_found, looked_at, opened_at}
+use Rattle.kr_seen.specs.kr_model.FileRows.{creates}
+use Rattle.kr_seen.specs.kr_model.Seen.{Looked, Opens, OpensFound}
+use Rattle.kr_seen.specs.kr_model.State.{Image, State}
+use Rattle.kr_seen.specs.kr_model.Walks.{created_at, entry_of, if_found, looked_at, opened_at}
 
 abbrev pub looked_with : Host → Option (ℕ × List ℕ) → Looked
 looked_with h entry = record { host = h; entry = entry }

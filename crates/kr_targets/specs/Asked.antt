@@ -4,9 +4,9 @@ use Rattle.pr_base.specs.declared.errno.Errno.{Errno}
 use Rattle.kr_tree.specs.declared.place.Host.{Host}
 use Rattle.kr_tree.specs.declared.place.Host.TheVariants as host
 use Rattle.kr_tree.specs.Tree.{Node, takes_names}
-use Rattle.kr_model.specs.Asking.{writable}
-use Rattle.kr_model.specs.Known.{Known, known_node}
-use Rattle.kr_model.specs.Reply.{Replying, refuse}
+use Rattle.kr_seen.specs.kr_model.Asking.{writable}
+use Rattle.kr_seen.specs.kr_model.Known.{Known, known_node}
+use Rattle.kr_seen.specs.kr_model.Reply.{Replying, refuse}
 
 -- a directory of the tree that takes names: what follows is told its inode and its node
 pub record IsTaking (k : Known) (h : Host) (dir : ℕ) : Type 0 where

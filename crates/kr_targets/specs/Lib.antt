@@ -1,3 +1,4 @@
+pub use Rattle.kr_seen.specs as kr_seen
 pub mod Asked
 pub mod Placed
 pub mod Performing

@@ -2,15 +2,15 @@
 use Rattle.std.specs.Prelude.{ℕ, List}
 use Rattle.kr_view.specs.View.{Row}
 use Rattle.kr_view.specs.declared.target.Target.{Target}
-use Rattle.kr_model.specs.Known.{Known}
-use Rattle.kr_model.specs.Reply.{Replying}
-use Rattle.kr_model.specs.Seen.{Looked, Made, Seen, Taken}
-use Rattle.kr_model.specs.Walks.{if_found, linked_at, made_at, moved_at, opened_at, taken_at}
-use Rattle.kr_model.specs.declared.outcome.Outcome.{Outcome}
+use Rattle.kr_seen.specs.kr_model.Known.{Known}
+use Rattle.kr_seen.specs.kr_model.Reply.{Replying}
+use Rattle.kr_seen.specs.kr_model.Seen.{Looked, Made, Seen, Taken}
+use Rattle.kr_seen.specs.kr_model.Walks.{if_found, linked_at, made_at, moved_at, opened_at, taken_at}
+use Rattle.kr_seen.specs.kr_model.declared.outcome.Outcome.{Outcome}
 use Rattle.kr_ops.specs.declared.state.State.{State}
 use Rattle.kr_ops.specs.Meaning.{meaning}
-use Rattle.kr_procview.specs.Numbered.{state_numbered}
-use Rattle.kr_answers.specs.Carrying.{CarriesOut}
+use Rattle.kr_seen.specs.Numbered.{state_numbered}
+use Rattle.kr_seen.specs.Carrying.{CarriesOut}
 use Rattle.kr_targets.specs.Placed.{placed_in, target_mounts}
 
 -- what is told of targets in a view, by the numbers of its mounts, over a state of the code

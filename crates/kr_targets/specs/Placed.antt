@@ -4,7 +4,7 @@ use Rattle.std.specs.Option.{option_map}
 use Rattle.kr_view.specs.declared.target.Target.{Target}
 use Rattle.kr_view.specs.Answers.{target_numbered}
 use Rattle.kr_view.specs.Walk.{PlaceTarget}
-use Rattle.kr_model.specs.Applied.{Mounts}
+use Rattle.kr_seen.specs.kr_model.Applied.{Mounts}
 
 -- a walk also says whether a link of the process directory led to its target, which no call is told
 abbrev pub placed : Target ℕ → PlaceTarget

@@ -3,7 +3,7 @@ use Rattle.std.specs.Prelude.{ℕ, List, Option}
 use Rattle.std.specs.Option.{option_map}
 use Rattle.kr_tree.specs.declared.place.Host.{Host}
 use Rattle.kr_tree.specs.declared.place.Place.{Place}
-use Rattle.kr_model.specs.Seen as seen
+use Rattle.kr_seen.specs.kr_model.Seen as seen
 use Rattle.kr_targets.specs.declared.told.Entry.{Entry}
 use Rattle.kr_targets.specs.declared.told.Looked.{Looked}
 use Rattle.kr_targets.specs.declared.told.Entered.{Entered}

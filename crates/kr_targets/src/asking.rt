@@ -2,9 +2,9 @@
 ghost use Rattle.std.specs.Prelude.{◌≡◌, ℕ, true, IfOk};
 ghost use Rattle.kr_tree.specs.Tree.{body_is, takes_names};
 ghost use Rattle.kr_view.specs.Component.{is_directory_at};
-ghost use Rattle.kr_model.specs.Asking.{is_directory_host, is_over, is_processes_host, is_searched, lives, process_of};
-ghost use Rattle.kr_model.specs.Known.{known};
-ghost use Rattle.kr_model.specs.State.{image_layout};
+ghost use Rattle.kr_seen.specs.kr_model.Asking.{is_directory_host, is_over, is_processes_host, is_searched, lives, process_of};
+ghost use Rattle.kr_seen.specs.kr_model.Known.{known};
+ghost use Rattle.kr_seen.specs.kr_model.State.{image_layout};
 ghost use Rattle.kr_tree.specs.declared.place.Host.TheVariants.{Node};
 ghost use Rattle.kr_ops.specs.Meaning.{meaning};
 ghost use Rattle.kr_ops.specs.Sound.{IsSound};

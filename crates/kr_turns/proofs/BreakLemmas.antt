@@ -30,11 +30,11 @@ use Rattle.kr_model.specs.State.{Image, Process, State, image_layout}
 use Rattle.kr_model.specs.Walks.{Targets, seen_of, targets_of}
 use Rattle.kr_ops.specs.declared.state.State.{State as Kept}
 use Rattle.kr_ops.specs.Meaning.{meaning}
-use Rattle.kr_procview.specs.Numbered.{opened_numbered, process_numbered, state_numbered, table_numbered}
+use Rattle.kr_seen.specs.Numbered.{opened_numbered, process_numbered, state_numbered, table_numbered}
 use Rattle.kr_numbered.proofs.TableLemmas.{file-numbered}
-use Rattle.kr_answers.specs.Carrying.{memory_of, with_memory_of}
+use Rattle.kr_seen.specs.Carrying.{memory_of, with_memory_of}
 use Rattle.kr_allowed.specs.Told.{mounts_walked}
-use Rattle.kr_paths.specs.CallWalks.{call_reach}
+use Rattle.kr_seen.specs.CallWalks.{call_reach}
 use Rattle.kr_steps.proofs.ComputingLemmas.{walk-refuses}
 use Rattle.kr_calm.specs.Calm.{Asked, Course, asked_breaks_2, broken_by, kept}
 use Rattle.kr_calm.specs.InUse.{any_opened_below, is_directory_of, is_in_use, open_directory, passes_at, process_uses}

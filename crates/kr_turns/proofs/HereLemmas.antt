@@ -18,7 +18,7 @@ use Rattle.kr_lawful.proofs.AfterLemmas.{some-of}
 use Rattle.kr_ops.specs.declared.state.State.{State}
 use Rattle.kr_ops.specs.Meaning.{meaning}
 use Rattle.kr_ops.specs.Sound.{IsOfView}
-use Rattle.kr_procview.specs.Numbered.{process_numbered, state_numbered}
+use Rattle.kr_seen.specs.Numbered.{process_numbered, state_numbered}
 use Rattle.kr_steps.specs.Calls.{Runs}
 use Rattle.kr_hostview.specs.Asked.{Asked}
 use Rattle.kr_hostview.proofs.LawLemmas.{hosts-have-one-mount, lawful-on-host}

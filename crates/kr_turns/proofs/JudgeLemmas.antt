@@ -17,9 +17,9 @@ use Rattle.kr_model.specs.declared.outcome.Outcome.TheVariants.{Answer, Wait, En
 use Rattle.kr_allowed.specs.Told.{mounts_walked}
 use Rattle.kr_ops.specs.declared.state.State.{State}
 use Rattle.kr_ops.specs.Meaning.{meaning}
-use Rattle.kr_procview.specs.Numbered.{state_numbered}
+use Rattle.kr_seen.specs.Numbered.{state_numbered}
 use Rattle.kr_numbered.proofs.LookLemmas.{known-numbered}
-use Rattle.kr_answers.specs.Carrying.{after_row, carried, memory_of, with_memory_of}
+use Rattle.kr_seen.specs.Carrying.{after_row, carried, memory_of, with_memory_of}
 use Rattle.kr_calm.specs.Calm.{Course, broken_by}
 use Rattle.kr_calm.specs.Noted.{IsNoted}
 use Rattle.kr_calm.specs.Rules.{breaks_2}

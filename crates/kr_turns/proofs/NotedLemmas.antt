@@ -18,18 +18,18 @@ use Rattle.kr_model.specs.State as model
 use Rattle.kr_model.specs.State.{Image, image_layout}
 use Rattle.kr_model.specs.Walks.{Targets, seen, targets_of}
 use Rattle.kr_model.specs.declared.outcome.Outcome.{Outcome}
-use Rattle.kr_lasting.specs.Lasting.{Lasts}
+use Rattle.kr_allowed.specs.Lasting.{Lasts}
 use Rattle.kr_lawful.proofs.AfterLemmas.{some-of}
 use Rattle.kr_lawful.proofs.ProcessChangeLemmas.{found as found-changed}
 use Rattle.kr_allowed.specs.Told.{mounts_walked}
 use Rattle.kr_allowed.proofs.RowLemmas.{StaysLike, lawful-memory}
 use Rattle.kr_ops.specs.declared.state.State.{State}
 use Rattle.kr_ops.specs.Meaning.{meaning}
-use Rattle.kr_procview.specs.Numbered.{state_numbered}
-use Rattle.kr_answers.specs.Carrying.{after_row, carried, memory_of, no_memory, with_memory, with_memory_of}
-use Rattle.kr_answers.proofs.CarryLemmas.{own-memory}
-use Rattle.kr_paths.specs.CallWalks.{AreTargets}
-use Rattle.kr_paths.specs.declared.walks.Targets.{Targets as Told}
+use Rattle.kr_seen.specs.Numbered.{state_numbered}
+use Rattle.kr_seen.specs.Carrying.{after_row, carried, memory_of, no_memory, with_memory, with_memory_of}
+use Rattle.kr_seen.proofs.CarryLemmas.{own-memory}
+use Rattle.kr_seen.specs.CallWalks.{AreTargets}
+use Rattle.kr_seen.specs.declared.walks.Targets.{Targets as Told}
 use Rattle.kr_steps.specs.Calls.{LastsLawful, IsCalled, Runs}
 use Rattle.kr_calm.specs.Noted.{IsNoted, is_read, kills, noted}
 use Rattle.kr_turns.specs.Noting.{IsNotedOrSame}

@@ -16,12 +16,12 @@ use Rattle.kr_model.specs.State as model
 use Rattle.kr_model.specs.State.{Image, Process, State, image_layout, process, with_process}
 use Rattle.kr_model.specs.declared.outcome.Outcome.{Outcome}
 use Rattle.kr_model.specs.declared.outcome.Outcome.TheVariants.{Answer, Wait, Ended, NoMemory}
-use Rattle.kr_procview.specs.Numbered.{process_numbered, state_numbered}
+use Rattle.kr_seen.specs.Numbered.{process_numbered, state_numbered}
 use Rattle.kr_numbered.specs.Mounts.{mounts_numbered}
 use Rattle.kr_numbered.proofs.ChangeLemmas.{living-numbered}
 use Rattle.kr_numbered.proofs.LookLemmas.{asked-numbered, known-numbered, process-numbered}
 use Rattle.kr_numbered.proofs.StepLemmas.{image-numbered, picked-numbered, then-changes-numbered}
-use Rattle.kr_answers.specs.Carrying.{after_row, carried, memory_of, no_memory, with_memory, with_memory_of}
+use Rattle.kr_seen.specs.Carrying.{after_row, carried, memory_of, no_memory, with_memory, with_memory_of}
 use Rattle.kr_execve.specs.Execution.{Program, after_execution, changes_of}
 use Rattle.kr_steps.specs.Answering.{answered, going, resumed, with_answer}
 use Rattle.kr_steps.specs.Computing.{computed}

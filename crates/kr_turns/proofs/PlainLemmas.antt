@@ -26,9 +26,9 @@ use Rattle.kr_lawful.proofs.ProcessChangeLemmas.{found as found-changed}
 use Rattle.kr_allowed.specs.Told.{mounts_walked}
 use Rattle.kr_ops.specs.declared.state.State.{State}
 use Rattle.kr_ops.specs.Meaning.{meaning}
-use Rattle.kr_procview.specs.Numbered.{process_numbered, state_numbered}
-use Rattle.kr_answers.specs.Carrying.{after_row, carried, memory_of, with_memory_of}
-use Rattle.kr_paths.specs.CallWalks.{call_reach}
+use Rattle.kr_seen.specs.Numbered.{process_numbered, state_numbered}
+use Rattle.kr_seen.specs.Carrying.{after_row, carried, memory_of, with_memory_of}
+use Rattle.kr_seen.specs.CallWalks.{call_reach}
 use Rattle.kr_steps.specs.Calls.{IsNoExec, IsCalled}
 use Rattle.kr_steps.proofs.ComputingLemmas.{refused-call}
 use Rattle.kr_execve.specs.Execution.{Program, after_execution, changes_of, execution, execution_reach, mount_of}

@@ -14,7 +14,7 @@ use Rattle.kr_model.specs.State.{Image}
 use Rattle.kr_lawful.proofs.ProcessChangeLemmas.{found as found-changed}
 use Rattle.kr_ops.specs.declared.state.State.{State}
 use Rattle.kr_ops.specs.Meaning.{meaning}
-use Rattle.kr_procview.specs.Numbered.{state_numbered}
+use Rattle.kr_seen.specs.Numbered.{state_numbered}
 use Rattle.kr_steps.specs.Computing.{computed}
 use Rattle.kr_turns.specs.Shelving.{lacks_in, shelved_in}
 use Rattle.kr_turns.specs.Stopped.{image_in, no_image}

@@ -19,7 +19,7 @@ use Rattle.kr_ops.specs.Living.{HasPid}
 use Rattle.kr_ops.specs.Meaning.{meaning}
 use Rattle.kr_ops.specs.Sound.{IsSound}
 use Rattle.kr_ops.proofs.OpeningLemmas.{found}
-use Rattle.kr_procview.specs.Numbered.{process_numbered, state_numbered}
+use Rattle.kr_seen.specs.Numbered.{process_numbered, state_numbered}
 use Rattle.kr_numbered.proofs.ChangeLemmas.{change-numbered}
 use Rattle.kr_numbered.proofs.LookLemmas.{process-numbered}
 use Rattle.kr_steps.specs.Computing.{Computes, computed}

@@ -14,8 +14,8 @@ use Rattle.kr_model.specs.Change.{Change, End}
 use Rattle.kr_model.specs.State.{Image, Process, State, process}
 use Rattle.kr_model.specs.Walks.{targets_of}
 use Rattle.kr_allowed.specs.Told.{mounts_walked}
-use Rattle.kr_answers.specs.Carrying.{memory_of, with_memory_of}
-use Rattle.kr_paths.specs.CallWalks.{call_reach}
+use Rattle.kr_seen.specs.Carrying.{memory_of, with_memory_of}
+use Rattle.kr_seen.specs.CallWalks.{call_reach}
 use Rattle.kr_calm.specs.Calm.{Asked, Course, broken_by, broken_by_changes, kept}
 use Rattle.kr_calm.specs.InUse.{is_directory_of, is_in_use}
 use Rattle.kr_calm.specs.Rules.{breaks_6}

@@ -6,7 +6,7 @@ use Rattle.kr_model.specs.Peeks.{peeked_of}
 use Rattle.kr_model.specs.State.{process}
 use Rattle.kr_ops.specs.declared.state.State.{State}
 use Rattle.kr_ops.specs.Meaning.{meaning}
-use Rattle.kr_procview.specs.Numbered.{state_numbered}
+use Rattle.kr_seen.specs.Numbered.{state_numbered}
 use Rattle.kr_steps.specs.Calls.{Runs}
 use Rattle.kr_turns.specs.Stopped.{Stopped}
 

@@ -4,11 +4,11 @@ use Rattle.pr_base.specs.Peeks.{NamesAreTexts}
 use Rattle.kr_model.specs.Peeks.{peeked_of}
 use Rattle.kr_ops.specs.Meaning.{meaning}
 use Rattle.kr_hostview.specs.Texts.{texts-told}
-use Rattle.kr_hostview.proofs.LawLemmas.{hosts-have-one-mount}
+use Rattle.kr_hostview.proofs.NumberLemmas.{peeked-told}
 use Rattle.kr_turns.specs.Held.{Held, Left, stopped_of}
 
 pub held-texts : {P T : Type 0} {M : ℕ} (number : T → ℕ) (h : Held P T M) → NamesAreTexts (peeked_of (stopped_of number h).state h.pid)
-held-texts {T = T} number h = subst NamesAreTexts (sym ((hosts-have-one-mount {T = T}).peeked number (meaning h.state) h.pid)) (texts-told (peeked_of (meaning h.state) h.pid) h.texts)
+held-texts number h = subst NamesAreTexts (sym (peeked-told number (meaning h.state) h.pid)) (texts-told (peeked_of (meaning h.state) h.pid) h.texts)
 
 pub left-parts : {P : Type 0} (k l : Left P) → k ≡ l → (k.stopped ≡ l.stopped) × (k.around ≡ l.around)
 left-parts k l same = (ap (λ (j : Left _). j.stopped) same, ap (λ (j : Left _). j.around) same)

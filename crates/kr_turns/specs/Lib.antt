@@ -1,3 +1,4 @@
+pub use Rattle.kr_steps.specs as kr_steps
 pub mod Stopped
 pub mod Editing
 pub mod Held

@@ -8,7 +8,7 @@ use Rattle.kr_model.specs.Walks.{targets_of}
 use Rattle.kr_model.specs.declared.outcome.Outcome.{Outcome}
 use Rattle.kr_model.specs.declared.outcome.Outcome.TheVariants.{Answer, Wait, Ended, NoMemory}
 use Rattle.kr_allowed.specs.Told.{mounts_walked}
-use Rattle.kr_answers.specs.Carrying.{with_memory_of}
+use Rattle.kr_seen.specs.Carrying.{with_memory_of}
 use Rattle.kr_calm.specs.Foreseen.{call_foreseen}
 use Rattle.kr_calm.specs.Rules.{breaks_2}
 use Rattle.kr_turns.specs.Breaking.{asked_of, rule_of}

@@ -5,7 +5,7 @@ use Rattle.kr_view.specs.View.{Row}
 use Rattle.kr_model.specs.State.{Image, Process, process}
 use Rattle.kr_ops.specs.declared.state.State.{State}
 use Rattle.kr_ops.specs.Meaning.{meaning}
-use Rattle.kr_procview.specs.Numbered.{state_numbered}
+use Rattle.kr_seen.specs.Numbered.{state_numbered}
 use Rattle.kr_turns.specs.Held.{stopped_in}
 use Rattle.kr_turns.specs.Stopped.{Stopped}
 use Rattle.kr_turns.specs.Turn.{ExitsIfAny, IsTurnOf, IsWatchedCall, Leaves, Machine, Tally, called, with_broken, with_status}

@@ -21,8 +21,8 @@ use Rattle.kr_model.specs.Walks.{Targets, seen, targets_of}
 use Rattle.kr_model.specs.declared.outcome.Outcome.{Outcome}
 use Rattle.kr_model.specs.declared.outcome.Outcome.TheVariants.{Answer, Wait, Ended, NoMemory}
 use Rattle.kr_allowed.specs.Told.{mounts_walked}
-use Rattle.kr_answers.specs.Carrying.{after_row, carried, memory_of}
-use Rattle.kr_paths.specs.CallWalks.{call_reach}
+use Rattle.kr_seen.specs.Carrying.{after_row, carried, memory_of}
+use Rattle.kr_seen.specs.CallWalks.{call_reach}
 use Rattle.kr_execve.specs.Execution.{Program, after_execution, execution, execution_reach, mount_of}
 use Rattle.kr_steps.specs.Answering.{answered, resumed}
 use Rattle.kr_steps.specs.Computing.{computed}

@@ -4,7 +4,7 @@ use Rattle.std.specs.Option.{option_map_or}
 use Rattle.rv_mem.specs.Memory.{Memory}
 use Rattle.rv_mem.specs.declared.regs.Regs.{Regs}
 use Rattle.kr_model.specs.State.{Image, State, image_layout, process}
-use Rattle.kr_answers.specs.Carrying.{no_memory}
+use Rattle.kr_seen.specs.Carrying.{no_memory}
 use Rattle.kr_steps.specs.Computing.{computed}
 
 pub record Stopped : Type 0 where

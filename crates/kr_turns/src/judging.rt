@@ -3,13 +3,13 @@ ghost use Rattle.std.specs.Prelude.{◌≡◌, ◌≢◌, ◌<◌, ◌^◌, ◌|
 ghost use Rattle.kr_calm.specs.Questions.{HaveRealPoints};
 ghost use Rattle.kr_model.specs.declared.outcome.Outcome.TheVariants.{NoMemory as WantOfMemory};
 ghost use Rattle.kr_allowed.specs.Told.{mounts_walked};
-ghost use Rattle.kr_answers.specs.Carrying.{after_row, memory_of};
+ghost use Rattle.kr_seen.specs.Carrying.{after_row, memory_of};
 ghost use Rattle.kr_calls.specs.declared.request.Request.{Request as AnyRequest};
 ghost use Rattle.kr_model.specs.State as model;
 ghost use Rattle.kr_model.specs.State.{process};
 ghost use Rattle.kr_model.specs.Walks.{targets_of};
-ghost use Rattle.kr_paths.specs.CallWalks.{AreTargets};
-ghost use Rattle.kr_procview.specs.Numbered.{state_numbered};
+ghost use Rattle.kr_seen.specs.CallWalks.{AreTargets};
+ghost use Rattle.kr_seen.specs.Numbered.{state_numbered};
 ghost use Rattle.kr_turns.specs.Looking.{IsAhead, judged, read_told};
 ghost use Rattle.kr_turns.specs.Noting.{IsNotedOrSame};
 ghost use Rattle.kr_turns.specs.PlainCall.{row_on};
@@ -23,7 +23,7 @@ use kr_calm::{Foreseen, crosses, end_takes_used, foresee, judge, note_list, reac
 use kr_execve::marks_read;
 use kr_model::Outcome;
 use kr_ops::State;
-use kr_paths::Targets;
+use kr_seen::Targets;
 use kr_view::{Places, Reach};
 
 /// Nothing was reached.

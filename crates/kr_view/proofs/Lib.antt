@@ -1,3 +1,4 @@
+pub use Rattle.kr_tree.proofs as kr_tree
 pub mod ArrivalLemmas
 pub mod DirectoryLemmas
 pub mod GuestNameLemmas
@@ -19,6 +20,7 @@ pub mod ResolveLemmas
 pub mod RestLemmas
 pub mod SlashedLemmas
 pub mod StackLemmas
+pub mod StayingLemmas
 pub mod StepLemmas
 pub mod TableLemmas
 pub mod WayUpLemmas

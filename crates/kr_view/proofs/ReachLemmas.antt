@@ -8,7 +8,7 @@ use Rattle.pr_base.specs.declared.errno.Errno.{Errno}
 use Rattle.kr_tree.specs.declared.place.Place.{Place}
 use Rattle.kr_view.specs.declared.target.Reach.{Reach}
 use Rattle.kr_view.specs.Component.{Surroundings, look_up, meets_processes}
-use Rattle.kr_view.specs.Names.{Text, component_name, directory_name, landing_name}
+use Rattle.kr_view.specs.Names.{Text, component_name, directory_name, entry_name, landing_name}
 use Rattle.kr_view.specs.Walk.{PlaceTrail, PlaceTarget}
 use Rattle.kr_view.specs.Reach.{Covers, raised, raised_by_all, seen_name, look_names, end_names, look_reach, looks_reach, reached_landing, landings_reach, end_reach, reach_after}
 use Rattle.kr_view.specs.inside.Steps.{noted, HasReached}
@@ -37,7 +37,7 @@ either false b h = absurd cc
 pub covers_look : (around : Surroundings) (l : LookedAt (Place ℕ)) (r : Reach) → Covers (look_reach around l r) r
 covers_look around l r =
     record {
-      longest = all_more (look_names around.space l.place (look_up around l.place l.component) (component_name around.space l.place l.component)) r.longest;
+      longest = all_more (look_names around.space l.place l.component (look_up around l.place l.component)) r.longest;
       met_proc = λ h. either r.met_proc (meets_processes around.space l.place l.component) h;
     }
 
@@ -76,7 +76,7 @@ looks_swap : (around : Surroundings) (looks : List (LookedAt (Place ℕ))) (land
     → looks_reach around looks (reached_landing around.space landing r) ≡ reached_landing around.space landing (looks_reach around looks r)
 looks_swap around [] landing r = refl
 looks_swap around (l ∷ looks) landing r =
-    let names = look_names around.space l.place (look_up around l.place l.component) (component_name around.space l.place l.component) in
+    let names = look_names around.space l.place l.component (look_up around l.place l.component) in
     let met : Bool = r.met_proc || meets_processes around.space l.place l.component in
     let same : look_reach around l (reached_landing around.space landing r) ≡ reached_landing around.space landing (look_reach around l r) =
     ap (λ n. record { longest = n; met_proc = met }) (all_swap names (landing_name around.space landing) r.longest) in
@@ -100,8 +100,12 @@ noted_part around p c r m long met = (
   record { longest = let more = raised_more (directory_name around.space p.host) r.longest in omega arith; met_proc = λ h. met ∙ either r.met_proc (meets_processes around.space p c) h },
   record {
     longest =
-        let more = raised_more (seen_name (component_name around.space p c) (look_up around p c)) (raised (directory_name around.space p.host) r.longest) in
-        rw long more;
+        let seen = look_up around p c in
+        let shown = seen_name (component_name around.space p c) seen in
+        let own = raised (directory_name around.space p.host) r.longest in
+        let more = raised_more shown own in
+        let most = raised_more (seen_name (entry_name around.space p.host c) seen) (raised shown own) in
+        rw long (omega (arith, more, most));
     met_proc = λ h. sym met ∙ h;
   },
 )

@@ -1,3 +1,4 @@
+pub use Rattle.kr_tree.specs as kr_tree
 pub mod Answers
 pub mod Component
 pub mod GuestNames

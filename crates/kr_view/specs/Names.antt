@@ -93,6 +93,12 @@ component_name space p (Name name) = named_name space p.mount p.host name
 abbrev pub free_name : Namespace → Host → List ℕ → Option Text
 free_name space dir name = below name (directory_name space dir)
 
+-- an entry itself, whatever is shown in its place: a mount point has a name beside that of the source
+abbrev pub entry_name : Namespace → Host → Component → Option Text
+entry_name space dir Dot = None
+entry_name space dir DotDot = None
+entry_name space dir (Name name) = free_name space dir name
+
 -- what a process link leads to: a directory by the tree, a file as its object remembers it
 abbrev pub landing_name : Namespace → Landing (Place ℕ) (Place ℕ) → Option Text
 landing_name space landing =

@@ -2,7 +2,7 @@
 -- looks up a name in the process directory. A place without a name doesn't count.
 use Rattle.std.specs.Prelude.{ℕ, ◌≤◌, ◌≡◌, true, ◌||◌, List, [], ◌∷◌, length, max, Option, Some, None, Result, Ok, Err}
 use Rattle.std.specs.Option.{option_map}
-use Rattle.pr_base.specs.Paths.{text_of, below_root}
+use Rattle.pr_base.specs.Paths.{Component, text_of, below_root}
 use Rattle.pr_base.specs.WalkFrame.{Fails, Missing, Leads, Links, Jumps, Landing, LookedAt}
 use Rattle.pr_base.specs.declared.errno.Errno.{Errno}
 use Rattle.pr_base.specs.declared.path.Last.{Last}
@@ -11,7 +11,7 @@ use Rattle.kr_tree.specs.declared.place.Host.{Host}
 use Rattle.kr_tree.specs.declared.place.Place.{Place}
 use Rattle.kr_view.specs.declared.target.Reach.{Reach}
 use Rattle.kr_view.specs.Component.{Namespace, Surroundings, SeenPlace, look_up, meets_processes}
-use Rattle.kr_view.specs.Names.{Text, directory_name, component_name, free_name, landing_name}
+use Rattle.kr_view.specs.Names.{Text, directory_name, component_name, entry_name, free_name, landing_name}
 use Rattle.kr_view.specs.Walk.{PlaceTrail, PlaceTarget}
 
 -- ---- lengths
@@ -46,14 +46,15 @@ seen_name name (Leads is_dir p found) = name
 seen_name name (Links found text) = name
 seen_name name (Jumps found lead) = name
 
--- the names that a look-up reaches: its place, and what it shows
-abbrev pub look_names : Namespace → Place ℕ → SeenPlace → Option Text → List (Option Text)
-look_names space p seen name = directory_name space p.host ∷ seen_name name seen ∷ []
+-- the names that a look-up reaches: its place, what it shows, and the entry where it shows something, which at
+-- a mount point is another
+abbrev pub look_names : Namespace → Place ℕ → Component → SeenPlace → List (Option Text)
+look_names space p c seen = directory_name space p.host ∷ seen_name (component_name space p c) seen ∷ seen_name (entry_name space p.host c) seen ∷ []
 
 -- what was reached after a look-up
 abbrev pub look_reach : Surroundings → LookedAt (Place ℕ) → Reach → Reach
 look_reach around l r = record {
-  longest = raised_by_all (look_names around.space l.place (look_up around l.place l.component) (component_name around.space l.place l.component)) r.longest;
+  longest = raised_by_all (look_names around.space l.place l.component (look_up around l.place l.component)) r.longest;
   met_proc = r.met_proc || meets_processes around.space l.place l.component;
 }
 

@@ -12,7 +12,7 @@ ghost use Rattle.kr_view.specs.inside.Sights.{surroundings_of, sight_seen};
 ghost use Rattle.kr_view.specs.inside.Ways.{HasKind, IsSightWay};
 ghost use Rattle.kr_view.specs.inside.Positions.{IsNamed};
 ghost use Rattle.kr_view.specs.Component.{look_up, landing};
-ghost use Rattle.kr_view.specs.Names.{free_name, landing_name};
+ghost use Rattle.kr_view.specs.Names.{entry_name, free_name, landing_name};
 ghost use Rattle.kr_view.specs.Walk.{surroundings, place_walk, looking};
 ghost use Rattle.kr_view.specs.Reach.{text_length, end_reach, reached_landing};
 ghost use Rattle.kr_view.specs.Answers.{told, target_numbered, IsAnswer, IsReached};
@@ -221,6 +221,7 @@ impl<'a, P: Places, Q: Procs<Mount = P::Mount>> Surroundings<'a, P, Q> {
         reach.meet(self.meets_processes(place, component));
         if let Some(spot) = sight.spot() {
             reach.raise(self.shown_length(position, component, spot)?);
+            reach.raise(self.named_length(position, component));
         }
         Ok(())
     }
@@ -353,6 +354,19 @@ impl<'a, P: Places, Q: Procs<Mount = P::Mount>> Surroundings<'a, P, Q> {
             slash,
             found,
         })
+    }
+
+    /// The length of the host name of an entry itself, whatever is shown in its place.
+    fn named_length(&self, position: &Position<P::Mount>, component: &Component<'_>) -> Option<u64>
+        requires named { IsNamed self.now.tree.now position.now.place.host position.now.name }
+        requires short { length (name_of (component_data component.now)) ≤ 255 }
+        ensures { let around = surroundings_of P.number P.mounts Q.finds Q.leads self.now in
+            result ≡ option_map text_length (entry_name around.space position.now.place.host (component_data component.now)) }
+    {
+        match component {
+            Component::Dot | Component::DotDot => None,
+            Component::Name(_) => self.free_length(position, component),
+        }
     }
 
     /// The length of the host name of a free name.

@@ -16,8 +16,8 @@ use Rattle.kr_allowed.specs.Told.{AreTargetsIn, IsEntryOf, IsTargetIn}
 use Rattle.kr_allowed.proofs.TargetLemmas.{calls-walk-to-targets}
 use Rattle.kr_allowed.proofs.ToldLemmas.{targets-are-told}
 use Rattle.kr_ops.specs.Meaning.{meaning}
-use Rattle.kr_procview.specs.Numbered.{state_numbered}
-use Rattle.kr_paths.specs.CallWalks.{IsTold}
+use Rattle.kr_seen.specs.Numbered.{state_numbered}
+use Rattle.kr_seen.specs.CallWalks.{IsTold}
 use Rattle.kr_targets.specs.Placed.{placed, placed_in}
 use Rattle.kr_perform.proofs.LawfulLemmas.{lawful_numbered, lead_to_places, walks_name}
 use Rattle.kr_perform.specs.Operating.{mounts_at, placed_targets}

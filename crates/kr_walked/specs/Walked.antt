@@ -6,14 +6,14 @@ use Rattle.kr_tree.specs.Lawful.{AreBytes}
 use Rattle.kr_view.specs.View.{Row}
 use Rattle.kr_model.specs.Lawful.{IsLawful}
 use Rattle.kr_model.specs.Walks.{targets_of, told}
-use Rattle.kr_lasting.specs.Texts.{IsText, LinksHaveTexts}
+use Rattle.kr_allowed.specs.Texts.{IsText, LinksHaveTexts}
 use Rattle.kr_allowed.specs.Calls.{IsToldIn}
 use Rattle.kr_allowed.specs.Told.{SourcesAreNamed}
 use Rattle.kr_ops.specs.declared.state.State.{State}
 use Rattle.kr_ops.specs.Meaning.{meaning}
-use Rattle.kr_procview.specs.Numbered.{state_numbered}
-use Rattle.kr_paths.specs.CallWalks.{AreTargets}
-use Rattle.kr_paths.specs.declared.walks.Targets.{Targets}
+use Rattle.kr_seen.specs.Numbered.{state_numbered}
+use Rattle.kr_seen.specs.CallWalks.{AreTargets}
+use Rattle.kr_seen.specs.declared.walks.Targets.{Targets}
 use Rattle.kr_perform.specs.Operating.{mounts_at, placed_targets}
 
 -- what a call is told of the targets to which its paths were walked is so, in the mounts of the machine: where paths are texts of

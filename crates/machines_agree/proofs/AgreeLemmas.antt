@@ -1,4 +1,4 @@
--- What is put of a calm run without scripts over mounts is put of the run that a tracer watches.
+-- What is put of a calm run over mounts is put of the run that a tracer watches.
 use Rattle.std.proofs.Common.{◌≡◌, ℕ, List, None, refl, sym, ap, ◌∙◌}
 use Rattle.std.specs.Prelude.{Result, Ok, Err}
 use Rattle.pr_base.specs.declared.errno.Errno.{Errno}
@@ -12,50 +12,48 @@ use Rattle.kr_turns.specs.Run.{Ran, run}
 use Rattle.kr_turns.specs.Turn.{Machine}
 use Rattle.kr_turns.specs.Watching.{unwatched}
 use Rattle.kr_view.specs.View.{Row}
-use Rattle.pr_run.specs.Report.{report_of}
-use Rattle.pr_run.specs.Slots.{slot_of}
-use Rattle.pr_run.specs.declared.plan.Plan.{Plan}
-use Rattle.pr_start.specs.Beginning.{beginning}
-use Rattle.pr_traced.specs.TracedBeginning.{traced_beginning}
+use Rattle.pr_top.specs.pr_run.Report.{report_of}
+use Rattle.pr_top.specs.pr_run.Slots.{slot_of}
+use Rattle.pr_top.specs.pr_run.declared.plan.Plan.{Plan}
+use Rattle.pr_top.specs.pr_start.Beginning.{beginning}
+use Rattle.pr_top.specs.pr_traced.TracedBeginning.{traced_beginning}
 use Rattle.pr_watch.specs.Watches.{watch}
 use Rattle.pr_watch.specs.declared.watch.Watch.{Watch}
 use Rattle.pr_watch.specs.declared.watch.Watch.TheVariants.{Nobody}
 use Rattle.pt_bytes.specs.Watchers.{goes_by_bytes}
 use Rattle.pt_watched.specs.Watched.{Tracing}
-use Rattle.turns_match.proofs.ComeLemmas.{run_unbroken}
-use Rattle.stops_match.specs.Together.{makes_allowed}
-use Rattle.stops_match.proofs.TogetherLemmas.{traced_runs_come_alike}
-use Rattle.execves_together.specs.Scripts.{asks_no_script}
+use Rattle.starts_match.proofs.turns_match.ComeLemmas.{run_unbroken}
+use Rattle.execves_together.proofs.stops_match.TogetherLemmas.{traced_runs_come_alike}
 use Rattle.machines_agree.proofs.CallLemmas.{calls_go_together}
 use Rattle.starts_match.specs.Starts.{beginning_reach}
 use Rattle.starts_match.proofs.StartLemmas.{beginnings-are-judged}
-use Rattle.starts_run.specs.Starts.{BeginToRun, CanComeAlike}
-use Rattle.starts_run.proofs.BeginLemmas.{starts-can-run}
-use Rattle.starts_run.proofs.WatchedLemmas.{beginning_watched}
-use Rattle.machines_agree.specs.Agreeing.{CanBeTold, IsCalm, IsToldToo, MachinesAgree, RunsNoScripts, mounted, traced}
-use Rattle.machines_agree.proofs.NobodyLemmas.{each_alone, nobody_watches}
+use Rattle.machines_agree.specs.Starts.{BeginToRun, CanComeAlike}
+use Rattle.machines_agree.proofs.BeginLemmas.{starts-can-run}
+use Rattle.machines_agree.proofs.WatchedLemmas.{beginning_watched}
+use Rattle.machines_agree.specs.Agreeing.{CanBeTold, IsCalm, IsToldToo, MachinesAgree, mounted, traced}
+use Rattle.machines_agree.proofs.NobodyLemmas.{nobody_watches}
 use Rattle.machines_agree.proofs.ReportLemmas.{reports_are_alike}
 
 module _ (back : TextsAreReadBack) (shelves : ShelvesHoldTheirItems) (plan : Plan) (table : List Row) (tree : Tree) (user : User) (launch : Launch) (input : List ℕ) (can : CanBeTold plan table tree user launch input) where
   calm_start : (m : Machine Watch) → beginning table tree user Nobody launch input ≡ Ok m → IsCalm plan table m → broken_at_start (beginning_reach table tree user Nobody launch) ≡ None
   calm_start m is calm = sym (beginnings-are-judged table tree user Nobody launch input m is) ∙ run_unbroken watch table (slot_of plan.schedule) plan.turns 0 m calm
 
-  runs_agree : (m : Machine Watch) (n : Machine Tracing) → m.watcher ≡ Nobody → CanComeAlike table m n → RunsNoScripts plan table m → IsCalm plan table m → report_of plan (mounted plan table m) ≡ report_of plan (traced plan n)
-  runs_agree m n alone both one calm =
+  runs_agree : (m : Machine Watch) (n : Machine Tracing) → m.watcher ≡ Nobody → CanComeAlike table m n → IsCalm plan table m → report_of plan (mounted plan table m) ≡ report_of plan (traced plan n)
+  runs_agree m n alone both calm =
       let same : mounted plan table m ≡ run unwatched 1 table (slot_of plan.schedule) plan.turns m = nobody_watches 1 table (slot_of plan.schedule) plan.turns m alone in
       let come =
-      traced_runs_come_alike Watch (asks_no_script table) goes_by_bytes table (slot_of plan.schedule) (calls_go_together back shelves Watch table) both.can plan.turns m n can.few both.together both.keeps (each_alone table (slot_of plan.schedule) (λ made. makes_allowed (asks_no_script table) (slot_of plan.schedule made)) plan.turns 0 m alone one)
+      traced_runs_come_alike Watch goes_by_bytes table (slot_of plan.schedule) (calls_go_together back shelves Watch table) both.can plan.turns m n can.few both.together both.keeps
       (sym (ap (λ (ran : Ran Watch). ran.machine.tally.broken) same) ∙ calm) in
       ap (report_of plan) same ∙ reports_are_alike Watch Tracing plan (run unwatched 1 table (slot_of plan.schedule) plan.turns m) (traced plan n) can.quiet come
 
   by_beginnings : (r : Result (Machine Watch) Errno) → beginning table tree user Nobody launch input ≡ r → (q : Result (Machine Tracing) Errno) → traced_beginning (texts_of table) tree user None launch input ≡ q
       → (broken_at_start (beginning_reach table tree user Nobody launch) ≡ None → BeginToRun table r q) → IsToldToo plan table tree user launch input r
-  by_beginnings (Ok m) is (Ok n) also both = λ one calm. (n, also, runs_agree m n (beginning_watched table tree user Nobody launch input m is) (both (calm_start m is calm)) one calm)
-  by_beginnings (Ok m) is (Err f) also both = λ one calm. absurd (both (calm_start m is calm))
+  by_beginnings (Ok m) is (Ok n) also both = λ calm. (n, also, runs_agree m n (beginning_watched table tree user Nobody launch input m is) (both (calm_start m is calm)) calm)
+  by_beginnings (Ok m) is (Err f) also both = λ calm. absurd (both (calm_start m is calm))
   by_beginnings (Err e) is (Ok n) also both = λ calm. absurd (both calm)
   by_beginnings (Err e) is (Err f) also both = λ calm. also ∙ ap (λ e. Err e) (sym (both calm))
 
 pub machines_agree : TextsAreReadBack → ShelvesHoldTheirItems → MachinesAgree
 machines_agree back shelves plan table tree user launch input can =
     by_beginnings back shelves plan table tree user launch input can (beginning table tree user Nobody launch input) refl (traced_beginning (texts_of table) tree user None launch input) refl
-    (λ calm. starts-can-run table tree user Nobody launch input can.opening can.short calm can.words can.input_bytes)
+    (λ calm. starts-can-run table tree user Nobody launch input can.opening calm can.words can.input_bytes)

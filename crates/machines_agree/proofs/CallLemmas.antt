@@ -1,4 +1,4 @@
--- Every call of a calm run without scripts keeps both machines together.
+-- Every call of a calm run keeps both machines together.
 use Rattle.std.proofs.Common.{◌≡◌, ℕ, true, List, None, Ok, Err, refl, ap, ◌∙◌}
 use Rattle.pt_args.specs.Laws.{ShelvesHoldTheirItems, TextsAreReadBack}
 use Rattle.kr_calls.specs.Decoding.{Decoded}
@@ -9,16 +9,14 @@ use Rattle.kr_turns.specs.Turn.{Machine, calling, watched_call}
 use Rattle.kr_turns.specs.Watching.{unwatched}
 use Rattle.pt_tracer.specs.Stopping.{decoded_at}
 use Rattle.pt_watched.specs.Watched.{Tracing, tracer}
-use Rattle.stops_match.specs.Together.{CallsGoTogether}
-use Rattle.stops_match.specs.Turning.{ComeFromCall, ComeToCall}
+use Rattle.execves_together.specs.stops_match.Together.{CallsGoTogether, any_call}
+use Rattle.execves_together.specs.stops_match.Turning.{ComeFromCall, ComeToCall}
 use Rattle.paths_together.specs.Calls.{executes_nothing}
 use Rattle.paths_together.proofs.OtherLemmas.{other_calls_go_together}
-use Rattle.execves_together.specs.Scripts.{asks_no_script}
 use Rattle.execves_together.proofs.FollowLemmas.{execves_go_together}
-use Rattle.execves_together.proofs.ScriptLemmas.{scripts_are_found}
 
 module _ (back : TextsAreReadBack) (shelves : ShelvesHoldTheirItems) (S : Type 0) (table : List Row) (made pid : ℕ) (m : Machine S) (n : Machine Tracing) (c : ComeToCall table made pid m n)
-    (asks : asks_no_script table (calling 1 pid m.state) ≡ true) (calm : (watched_call unwatched 1 table pid m).tally.broken ≡ None) where
+    (calm : (watched_call unwatched 1 table pid m).tally.broken ≡ None) where
   abbrev Together : Type 0
   Together = ComeFromCall table made (watched_call unwatched 1 table pid m) (watched_call tracer 0 plain pid n)
 
@@ -26,12 +24,12 @@ module _ (back : TextsAreReadBack) (shelves : ShelvesHoldTheirItems) (S : Type 0
   other reply is none = other_calls_go_together back shelves S table made pid m n c (ap executes_nothing is ∙ none) calm
 
   request : (r : Request) → (decoded_at (calling 1 pid m.state)).reply ≡ Ok r → Together
-  request (call.Execve path args env) is = execves_go_together back shelves S table made pid m n path args env c is (scripts_are_found S table made pid m n path args env c is asks calm) calm
+  request (call.Execve path args env) is = execves_go_together back shelves S table made pid m n path args env c is calm
   request _ is = other _ is refl
 
   any : (reply : Decoded) → (decoded_at (calling 1 pid m.state)).reply ≡ reply → Together
   any (Ok r) is = request r is
   any (Err e) is = other (Err e) is refl
 
-pub calls_go_together : TextsAreReadBack → ShelvesHoldTheirItems → (S : Type 0) (table : List Row) → CallsGoTogether S (asks_no_script table) table
-calls_go_together back shelves S table made pid m n c asks calm = any back shelves S table made pid m n c asks calm (decoded_at (calling 1 pid m.state)).reply refl
+pub calls_go_together : TextsAreReadBack → ShelvesHoldTheirItems → (S : Type 0) (table : List Row) → CallsGoTogether S any_call table
+calls_go_together back shelves S table made pid m n c asked calm = any back shelves S table made pid m n c calm (decoded_at (calling 1 pid m.state)).reply refl

@@ -20,7 +20,7 @@ use Rattle.pr_watch.specs.Watches.{watch}
 use Rattle.pr_watch.specs.declared.watch.Watch.{Watch}
 use Rattle.pr_watch.specs.declared.watch.Watch.TheVariants.{Faked}
 use Rattle.pt_tracer.specs.Faking.{Faking, faker}
-use Rattle.starts_run.specs.FakedStarts.{with_faking}
+use Rattle.machines_agree.specs.FakedStarts.{with_faking}
 use Rattle.machines_agree.specs.Watching.{FakersWatch, as_faked, ran_faked}
 
 -- ---- a turn

@@ -1,3 +1,16 @@
+pub mod PieceLemmas
+pub mod GivenLemmas
+pub mod GrownLemmas
+pub mod LocationLemmas
+pub mod GivenOpeningLemmas
+pub mod SourceLemmas
+pub mod WordLemmas
+pub mod BeginLemmas
+pub mod FakedStartLemmas
+pub mod GuestLemmas
+pub mod TableLemmas
+pub mod WatchedLemmas
+pub mod LaunchLemmas
 pub mod AgreeLemmas
 pub mod CallLemmas
 pub mod FakedCallLemmas
@@ -5,3 +18,4 @@ pub mod FakedAgreeLemmas
 pub mod FakedLemmas
 pub mod NobodyLemmas
 pub mod ReportLemmas
+pub mod OpeningLemmas

@@ -1,5 +1,5 @@
 -- A watcher that is nobody leaves each turn as it is without one.
-use Rattle.std.proofs.Common.{◌≡◌, ℕ, Bool, subst, zero, suc, List, Option, Some, None, refl, sym, ap, ◌∙◌}
+use Rattle.std.proofs.Common.{◌≡◌, ℕ, zero, suc, List, Option, Some, None, refl, sym, ap, ◌∙◌}
 use Rattle.std.specs.Option.{option_map_or}
 use Rattle.rv_cpu.specs.Run.{ran}
 use Rattle.rv_cpu.specs.declared.event.Event.{Event}
@@ -20,7 +20,6 @@ use Rattle.kr_turns.specs.declared.plain.CallEnd.TheVariants as end
 use Rattle.pr_watch.specs.Watches.{watch}
 use Rattle.pr_watch.specs.declared.watch.Watch.{Watch}
 use Rattle.pr_watch.specs.declared.watch.Watch.TheVariants.{Nobody}
-use Rattle.turns_match.specs.Runs.{EachTurn}
 use Rattle.machines_agree.specs.Watching.{NobodyWatches}
 
 -- a machine that nobody watches
@@ -82,17 +81,6 @@ module _ (marks : ℕ) (table : List Row) where
         let same = turns_alone made m e in
         ap (λ n. option_map_or (ended m) (ending_of m) (with_put (put_by n) (run_from watch marks table slots left (suc made) (after_put n)))) same.0
         ∙ ap (λ rest. option_map_or (ended m) (ending_of m) (with_put (put_by (turned unwatched marks table slots made m)) rest)) (runs_alone left (suc made) (after_put (turned unwatched marks table slots made m)) same.1)
-
--- a test holds of its turns as they are watched by none
-pub each_alone : (table : List Row) (slots : ℕ → Slot) (holds : ℕ → Machine Watch → Bool) (left made : ℕ) (m : Machine Watch) → m.watcher ≡ Nobody → EachTurn watch table slots holds left made m → EachTurn unwatched table slots holds left made m
-unfolding EachTurn
-each_alone table slots holds zero made m e each = tt
-each_alone table slots holds (suc left) made m e each =
-    let same = turns_alone 1 table slots made m e in (
-      each.0,
-      each_alone table slots holds left (suc made) (after_put (turned unwatched 1 table slots made m)) same.1
-          (subst (λ n. EachTurn watch table slots holds left (suc made) (after_put n)) same.0 each.1),
-    )
 
 pub nobody_watches : NobodyWatches
 nobody_watches marks table slots turns m e = runs_alone marks table slots turns 0 m e

@@ -10,7 +10,7 @@ use Rattle.kr_tree.specs.Tree.{Inode, Node, Tree, entries, entries_of, inode, no
 use Rattle.pr_base.specs.Maps.{mapped}
 use Rattle.pr_base.proofs.MapLemmas.{get-mapped, len-mapped, same_values}
 use Rattle.kr_tree.proofs.NodesLemmas.{get-with_values}
-use Rattle.pr_run.specs.Report.{answer_of, calm_part}
+use Rattle.pr_top.specs.pr_run.Report.{answer_of, calm_part}
 use Rattle.machines_agree.specs.Reports.{ListingsTellNodes, ReportsAreAlike}
 
 module _ (t v : Tree) (same : nodes t ≡ nodes v) where

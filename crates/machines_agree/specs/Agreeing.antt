@@ -10,22 +10,18 @@ use Rattle.kr_tree.specs.Tree.{Tree}
 use Rattle.kr_turns.specs.Run.{Ran, run}
 use Rattle.kr_turns.specs.Turn.{Machine}
 use Rattle.kr_view.specs.View.{Row, plain}
-use Rattle.pr_run.specs.Report.{report_of}
-use Rattle.pr_run.specs.Slots.{slot_of}
-use Rattle.pr_run.specs.declared.plan.Plan.{Plan}
-use Rattle.pr_start.specs.Beginning.{beginning}
-use Rattle.pr_traced.specs.TracedBeginning.{traced_beginning}
+use Rattle.pr_top.specs.pr_run.Report.{report_of}
+use Rattle.pr_top.specs.pr_run.Slots.{slot_of}
+use Rattle.pr_top.specs.pr_run.declared.plan.Plan.{Plan}
+use Rattle.pr_top.specs.pr_start.Beginning.{beginning}
+use Rattle.pr_top.specs.pr_traced.TracedBeginning.{traced_beginning}
 use Rattle.pr_watch.specs.Watches.{watch}
 use Rattle.pr_watch.specs.declared.watch.Watch.{Watch}
 use Rattle.pr_watch.specs.declared.watch.Watch.TheVariants.{Nobody}
 use Rattle.pt_watched.specs.Watched.{Tracing, tracer}
-use Rattle.swaps_read.specs.Points.{PointsAreShort}
-use Rattle.turns_match.specs.Runs.{EachTurn}
-use Rattle.stops_match.specs.Together.{makes_allowed}
-use Rattle.execves_together.specs.Scripts.{asks_no_script}
 use Rattle.starts_match.specs.FirstStates.{IsOpening}
 use Rattle.starts_match.specs.Starts.{beginning_reach}
-use Rattle.starts_run.specs.Starts.{IsOfByteWords}
+use Rattle.machines_agree.specs.Starts.{IsOfByteWords}
 
 -- ---- runs over mounts
 
@@ -39,25 +35,20 @@ traced plan n = run tracer 0 plain (slot_of plan.schedule) plan.turns n
 abbrev pub IsCalm : Plan → List Row → Machine Watch → Type 0
 IsCalm plan table m = (mounted plan table m).machine.tally.broken ≡ None
 
--- and one in which no turn executes a script
-abbrev pub RunsNoScripts : Plan → List Row → Machine Watch → Type 0
-RunsNoScripts plan table m = EachTurn watch table (slot_of plan.schedule) (λ made. makes_allowed (asks_no_script table) (slot_of plan.schedule made)) plan.turns 0 m
-
 -- ---- both
 
 module _ (plan : Plan) (table : List Row) (tree : Tree) (user : User) (launch : Launch) (input : List ℕ) where
   abbrev pub watched_start : Result (Machine Tracing) Errno
   watched_start = traced_beginning (texts_of table) tree user None launch input
 
-  -- a calm run without scripts is told, or the error of a start whose walks are calm
+  -- a calm run is told, or the error of a start whose walks are calm
   abbrev pub IsToldToo : Result (Machine Watch) Errno → Type 0
-  IsToldToo (Ok m) = RunsNoScripts plan table m → IsCalm plan table m → (n : Machine Tracing) × (watched_start ≡ Ok n) × (report_of plan (mounted plan table m) ≡ report_of plan (traced plan n))
+  IsToldToo (Ok m) = IsCalm plan table m → (n : Machine Tracing) × (watched_start ≡ Ok n) × (report_of plan (mounted plan table m) ≡ report_of plan (traced plan n))
   IsToldToo (Err e) = broken_at_start (beginning_reach table tree user Nobody launch) ≡ None → watched_start ≡ Err e
 
 -- what a run and its words rest on
 pub record CanBeTold (plan : Plan) (table : List Row) (tree : Tree) (user : User) (launch : Launch) (input : List ℕ) : Type 0 where
   pub opening : IsOpening tree user table
-  pub short : PointsAreShort table
   pub words : IsOfByteWords launch
   pub input_bytes : AreBytes input
   pub few : plan.turns ≤ 2 ^ 31

@@ -9,16 +9,16 @@ use Rattle.kr_mounts.specs.Standing.{texts_of}
 use Rattle.kr_tree.specs.Tree.{Tree}
 use Rattle.kr_turns.specs.Turn.{Machine}
 use Rattle.kr_view.specs.View.{Row}
-use Rattle.pr_run.specs.Report.{report_of}
-use Rattle.pr_run.specs.declared.plan.Plan.{Plan}
-use Rattle.pr_start.specs.Beginning.{beginning}
-use Rattle.pr_traced.specs.TracedBeginning.{traced_beginning}
+use Rattle.pr_top.specs.pr_run.Report.{report_of}
+use Rattle.pr_top.specs.pr_run.declared.plan.Plan.{Plan}
+use Rattle.pr_top.specs.pr_start.Beginning.{beginning}
+use Rattle.pr_top.specs.pr_traced.TracedBeginning.{traced_beginning}
 use Rattle.pr_watch.specs.declared.watch.Watch.{Watch}
 use Rattle.pr_watch.specs.declared.watch.Watch.TheVariants.{Faked}
 use Rattle.pt_tracer.specs.Faking.{starting_faking}
 use Rattle.pt_watched.specs.Watched.{Tracing}
 use Rattle.starts_match.specs.Starts.{beginning_reach}
-use Rattle.machines_agree.specs.Agreeing.{CanBeTold, IsCalm, RunsNoScripts, mounted, traced}
+use Rattle.machines_agree.specs.Agreeing.{CanBeTold, IsCalm, mounted, traced}
 
 -- ---- both
 
@@ -30,9 +30,9 @@ module _ (plan : Plan) (table : List Row) (tree : Tree) (user : User) (uid gid :
   abbrev pub faked_start : Result (Machine Tracing) Errno
   faked_start = traced_beginning (texts_of table) tree user (Some (uid, gid)) launch input
 
-  -- a calm run without scripts is told, or the error of a start whose walks are calm
+  -- a calm run is told, or the error of a start whose walks are calm
   abbrev pub IsToldFaked : Result (Machine Watch) Errno → Type 0
-  IsToldFaked (Ok m) = RunsNoScripts plan table m → IsCalm plan table m → (n : Machine Tracing) × (faked_start ≡ Ok n) × (report_of plan (mounted plan table m) ≡ report_of plan (traced plan n))
+  IsToldFaked (Ok m) = IsCalm plan table m → (n : Machine Tracing) × (faked_start ≡ Ok n) × (report_of plan (mounted plan table m) ≡ report_of plan (traced plan n))
   IsToldFaked (Err e) = broken_at_start (beginning_reach table tree user faker_of launch) ≡ None → faked_start ≡ Err e
 
 -- so what a tracer does with an identity is what mounts and a watcher of identities do

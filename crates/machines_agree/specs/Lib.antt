@@ -1,4 +1,11 @@
+pub mod Asking
+pub mod Given
+pub mod GivenOpenings
+pub mod FakedStarts
+pub mod Starts
+pub mod Tables
 pub mod Agreeing
 pub mod FakedAgreeing
 pub mod Reports
 pub mod Watching
+pub mod Openings

@@ -4,9 +4,9 @@ use Rattle.kr_inode.specs.declared.user.User.{User}
 use Rattle.kr_text.specs.Canonical.{canonical}
 use Rattle.kr_tree.specs.Tree.{Tree, nodes}
 use Rattle.kr_turns.specs.Run.{Ran}
-use Rattle.pr_run.specs.Report.{report_of}
-use Rattle.pr_run.specs.declared.plan.Plan.{Plan}
-use Rattle.turns_match.specs.Runs.{ComeAlike}
+use Rattle.pr_top.specs.pr_run.Report.{report_of}
+use Rattle.pr_top.specs.pr_run.declared.plan.Plan.{Plan}
+use Rattle.starts_match.specs.turns_match.Runs.{ComeAlike}
 
 -- a listing tells the nodes of a tree alone
 abbrev pub ListingsTellNodes : Type 0

@@ -8,7 +8,7 @@ use Rattle.pr_watch.specs.Watches.{watch}
 use Rattle.pr_watch.specs.declared.watch.Watch.{Watch}
 use Rattle.pr_watch.specs.declared.watch.Watch.TheVariants.{Faked, Nobody}
 use Rattle.pt_tracer.specs.Faking.{Faking, faker}
-use Rattle.starts_run.specs.FakedStarts.{with_faking}
+use Rattle.machines_agree.specs.FakedStarts.{with_faking}
 
 -- without one it is the run that is watched by none
 abbrev pub NobodyWatches : Type 0

@@ -26,7 +26,7 @@ pub fn reports_are_alike<S, T>()
     ensures { ReportsAreAlike S T }
 {}
 
-/// Of a calm run without scripts on a kernel with mounts, without an identity, the same is put as of the run of a plain kernel with a tracer
+/// Of a calm run on a kernel with mounts, without an identity, the same is put as of the run of a plain kernel with a tracer
 /// on the same words; and where a start whose walks are calm is refused, so is the other one, with the same error.
 pub fn machines_agree()
     ensures { MachinesAgree }
@@ -35,7 +35,7 @@ pub fn machines_agree()
     shelves::shelves_hold_their_items();
 }
 
-/// The same where processes are told an identity: of a calm run without scripts on a kernel with mounts, with the watcher of identities, the
+/// The same where processes are told an identity: of a calm run on a kernel with mounts, with the watcher of identities, the
 /// same is put as of the run of a plain kernel with a tracer that tells the same one.
 pub fn faked_machines_agree()
     ensures { FakedMachinesAgree }

@@ -30,7 +30,7 @@ use Rattle.kr_model.specs.State.{Image, Process, State, image_layout}
 use Rattle.kr_model.specs.Walks.{Targets, created_at, entry_of, if_found, if_name, looked_at, mounts_of, opened_at, seen_of, targets_of}
 use Rattle.kr_allowed.specs.Told.{mounts_walked}
 use Rattle.kr_allowed.proofs.RowLemmas.{Allowed, reached}
-use Rattle.kr_answers.specs.Carrying.{memory_of}
+use Rattle.kr_seen.specs.Carrying.{memory_of}
 use Rattle.places_stay.specs.Changes.{NewPlacesStand}
 use Rattle.walks_agree.specs.Scene.{Scene}
 use Rattle.walks_agree.specs.Standing.{StandsOn, place_in}

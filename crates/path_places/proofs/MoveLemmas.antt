@@ -18,8 +18,8 @@ use Rattle.kr_tree.proofs.NameLemmas.{some_is}
 use Rattle.kr_view.specs.View.{Row}
 use Rattle.kr_view.specs.Component.{may_search}
 use Rattle.kr_view.specs.Walk.{PlaceTarget, looking, place_walk}
-use Rattle.kr_allowed.proofs.StayingLemmas.{names-stay}
-use Rattle.kr_answers.specs.Carrying.{memory_of}
+use Rattle.kr_view.proofs.StayingLemmas.{names-stay}
+use Rattle.kr_seen.specs.Carrying.{memory_of}
 use Rattle.kr_calm.specs.Foreseen.{moved_away, prospect}
 use Rattle.kr_calm.specs.Prospects.{answers_zero, move, move_made, renameat2_made}
 use Rattle.kr_calm.specs.Rules.{are_parted, breaks_2, rename_crosses}

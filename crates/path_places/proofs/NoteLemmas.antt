@@ -32,7 +32,7 @@ use Rattle.kr_view.specs.Walk.{PlaceTarget}
 use Rattle.kr_calls.specs.declared.request.Request.{Request}
 use Rattle.kr_calls.specs.declared.request.Request.TheVariants as call
 use Rattle.kr_allowed.specs.Told.{mounts_walked}
-use Rattle.kr_answers.specs.Carrying.{memory_of}
+use Rattle.kr_seen.specs.Carrying.{memory_of}
 use Rattle.kr_model.specs.Applied.{Mounts, mount_of}
 use Rattle.kr_model.specs.Asking.{has_no_room, is_directory_host, is_over, is_searched, writable_body, writable_node}
 use Rattle.kr_model.specs.Change.{Change, MountOf, OfDirectory, OfFound, OpenFile, SetSize}

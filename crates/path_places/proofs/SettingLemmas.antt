@@ -8,7 +8,7 @@ use Rattle.kr_view.specs.View.{Row}
 use Rattle.kr_calls.specs.Decoding.{decoding}
 use Rattle.kr_calls.specs.declared.request.Request.{Request}
 use Rattle.kr_lawful.specs.Laws.{CanAllBeMade}
-use Rattle.kr_lasting.proofs.RoomLemmas.{lasting-room}
+use Rattle.kr_allowed.proofs.RoomLemmas.{lasting-room}
 use Rattle.kr_model.specs.Applied.{with_image}
 use Rattle.kr_model.specs.Known.{known}
 use Rattle.kr_model.proofs.KnownLemmas.{known-bare}
@@ -16,8 +16,8 @@ use Rattle.kr_model.specs.Operation.{operation}
 use Rattle.kr_model.specs.ProcessDirectory.{living_of, space_of}
 use Rattle.kr_model.specs.State.{Image, Process, State, image_layout, with_process}
 use Rattle.kr_allowed.proofs.RowLemmas.{StaysLike, stays-like}
-use Rattle.kr_answers.specs.Carrying.{memory_of, with_memory}
-use Rattle.kr_procview.proofs.StandingLemmas.{living-small}
+use Rattle.kr_seen.specs.Carrying.{memory_of, with_memory}
+use Rattle.kr_seen.proofs.StandingLemmas.{living-small}
 use Rattle.kr_steps.specs.Computing.{computed}
 use Rattle.places_stay.specs.Matching.{AreTagged}
 use Rattle.places_stay.specs.Standing.{PlacesStand}

@@ -7,7 +7,7 @@ use Rattle.pt_args.specs.declared.edit.Edit.{Edit}
 use Rattle.pt_results.specs.Notes.{noted, tags_after}
 use Rattle.kr_view.specs.View.{Row}
 use Rattle.kr_calls.specs.declared.request.Request.{Request}
-use Rattle.kr_answers.specs.Carrying.{memory_of}
+use Rattle.kr_seen.specs.Carrying.{memory_of}
 use Rattle.kr_model.specs.State.{Image, Process, State, process}
 use Rattle.kr_model.specs.Walks.{seen}
 use Rattle.kr_model.specs.declared.outcome.Outcome.TheVariants.{Answer}
@@ -19,10 +19,10 @@ use Rattle.pt_tracer.specs.Stopping.{decoded_at, memory_at}
 use Rattle.pt_watched.specs.Planning.{answered, edit_for, led_of, rewritten, texts_at}
 use Rattle.pt_watched.specs.Watched.{Tracing, applied}
 use Rattle.places_stay.proofs.MatchLemmas.{tagged_places_are_placed}
-use Rattle.turns_match.specs.Operating.{done_in}
-use Rattle.turns_match.proofs.CalledLemmas.{decoded_lives, decoded_memory, decoded_process}
+use Rattle.stops_match.specs.turns_match.Operating.{done_in}
+use Rattle.stops_match.proofs.turns_match.CalledLemmas.{decoded_lives, decoded_memory, decoded_process}
 use Rattle.path_places.specs.PathCalls.{HasPath}
-use Rattle.answers_agree.specs.Answers.{AreAnsweredAlike, CanBeTold, IsIn}
+use Rattle.plans_short.specs.answers_agree.Answers.{AreAnsweredAlike, CanBeTold, IsIn}
 use Rattle.stops_match.specs.Answering.{IsAnsweredAlike}
 use Rattle.stops_match.specs.Cancelling.{at_first_stop}
 use Rattle.stops_match.specs.Noting.{told_answer}

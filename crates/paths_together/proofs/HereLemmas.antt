@@ -10,7 +10,7 @@ use Rattle.rv_mem.specs.Memory.{Memory}
 use Rattle.kr_view.specs.View.{Row, plain}
 use Rattle.kr_calls.specs.Decoding.{decoding}
 use Rattle.kr_calls.specs.declared.request.Request.{Request}
-use Rattle.kr_lasting.specs.Texts.{LinksHaveTexts}
+use Rattle.kr_allowed.specs.Texts.{LinksHaveTexts}
 use Rattle.kr_allowed.specs.Calls.{HasTextPaths}
 use Rattle.kr_allowed.proofs.DecodedLemmas.{decoded-are-givable, decoding-leaves-pages}
 use Rattle.kr_allowed.proofs.RowLemmas.{stays-like}
@@ -18,7 +18,7 @@ use Rattle.kr_calm.specs.Rules.{breaks_2}
 use Rattle.kr_model.specs.Bare.{pins_of}
 use Rattle.kr_model.specs.State.{Image, Process, State, process}
 use Rattle.kr_model.specs.Walks.{targets_of}
-use Rattle.kr_paths.specs.CallWalks.{call_reach}
+use Rattle.kr_seen.specs.CallWalks.{call_reach}
 use Rattle.kr_steps.specs.Computing.{computed}
 use Rattle.kr_turns.specs.Breaking.{decoded_rule, nothing_reached, operated_rule, plain_rule_of}
 use Rattle.kr_turns.specs.Stopped.{Stopped}
@@ -31,10 +31,10 @@ use Rattle.pt_watched.specs.Planning.{edit_for, texts_at}
 use Rattle.pt_watched.specs.Watched.{Tracing}
 use Rattle.walks_bare.proofs.StateLemmas.{peeks_are_bare}
 use Rattle.places_stay.specs.Matching.{IsMatch}
-use Rattle.turns_match.specs.Calls.{decoded_by, decoded_in}
-use Rattle.turns_match.specs.Lasting.{CanBeCalled}
-use Rattle.turns_match.proofs.CalledLemmas.{decoded_lasts}
-use Rattle.turns_match.proofs.MatchLemmas.{match_computed}
+use Rattle.stops_match.specs.turns_match.Calls.{decoded_by, decoded_in}
+use Rattle.stops_match.specs.turns_match.Lasting.{CanBeCalled}
+use Rattle.stops_match.proofs.turns_match.CalledLemmas.{decoded_lasts}
+use Rattle.stops_match.proofs.turns_match.MatchLemmas.{match_computed}
 use Rattle.path_places.specs.PathCalls.{CallsPath, HasPath}
 use Rattle.path_places.proofs.RuleLemmas.{no_exec}
 use Rattle.path_places.proofs.SettingLemmas.{at_small}

@@ -1,5 +1,5 @@
 -- Calls along paths, whatever the tracer makes of them.
-use Rattle.std.proofs.Common.{◌≡◌, ℕ, List, Option, Some, None, Ok, refl, sym, ap, subst, ◌∙◌, ℤ, pos, arith}
+use Rattle.std.proofs.Common.{◌≡◌, ℕ, List, Option, Some, None, Ok, refl, sym, ap, subst, ◌∙◌, ℤ, pos}
 use Rattle.std.specs.Prelude.{IsSome}
 use Rattle.pr_base.specs.declared.path.WalkMode.TheVariants.{LookLink}
 use Rattle.pt_args.specs.Laws.{ShelvesHoldTheirItems, TextsAreReadBack}
@@ -9,16 +9,16 @@ use Rattle.kr_view.specs.View.{Row, plain}
 use Rattle.kr_calls.specs.PathTable.{PathUse, path_at}
 use Rattle.kr_calls.specs.declared.request.Request.{Request}
 use Rattle.kr_calls.specs.declared.request.Request.TheVariants as call
-use Rattle.kr_answers.specs.Carrying.{memory_of}
+use Rattle.kr_seen.specs.Carrying.{memory_of}
 use Rattle.kr_model.specs.State.{Image, Process, process}
 use Rattle.kr_turns.specs.Turn.{Machine, calling, watched_call}
 use Rattle.kr_turns.specs.Watching.{unwatched}
 use Rattle.pt_tracer.specs.Stopping.{decoded_at}
 use Rattle.pt_watched.specs.Planning.{answered}
 use Rattle.pt_watched.specs.Watched.{Tracing, tracer}
-use Rattle.turns_match.proofs.RunLemmas.{lives_too}
+use Rattle.stops_match.proofs.turns_match.RunLemmas.{lives_too}
 use Rattle.path_places.specs.PathCalls.{HasPath}
-use Rattle.answers_agree.proofs.CwdLemmas.{cwds_are_answered_alike}
+use Rattle.plans_short.proofs.answers_agree.CwdLemmas.{cwds_are_answered_alike}
 use Rattle.stops_match.specs.Turning.{ComeFromCall, ComeToCall}
 use Rattle.stops_match.proofs.AnsweredLemmas.{cancelled_calls_go_together}
 use Rattle.stops_match.proofs.EmulateLemmas.{answered_calls_go_together}
@@ -28,15 +28,9 @@ use Rattle.paths_together.proofs.AnswerLemmas.{answered_alike, in_directory, mem
 use Rattle.paths_together.proofs.AnswerLemmas as answer
 use Rattle.paths_together.proofs.HereLemmas as here
 use Rattle.paths_together.proofs.PlanLemmas.{is_planned, planned_alike, then_stop}
-use Rattle.swaps_read.specs.Points.{PointsAreShort}
-use Rattle.plans_short.specs.Short.{PointsFit}
 use Rattle.plans_short.proofs.DecodedLemmas.{counts_are_decoded, first_of_two_is_decoded}
 use Rattle.plans_short.proofs.LinkLemmas.{links_are_answered_alike}
 use Rattle.plans_short.proofs.EditLemmas.{plans_are_short}
-
--- a slash fits behind the host name of each mount point
-points_fit : (table : List Row) → PointsAreShort table → (r : Request) → PointsFit table r
-points_fit table short r = record { points = λ k row point is at. (let few = short k row point is at in omega (arith, few)); slashed = λ k u path behind. short }
 
 module _ {S : Type 0} (back : TextsAreReadBack) (shelves : ShelvesHoldTheirItems) (table : List Row) (made pid : ℕ) (m : Machine S) (n : Machine Tracing) (c : ComeToCall table made pid m n) (p q : Process ℕ Image) (lives : process pid m.state ≡ Some p)
     (also : process pid n.state ≡ Some q) (calm : (watched_call unwatched 1 table pid m).tally.broken ≡ None) where
@@ -55,7 +49,7 @@ module _ {S : Type 0} (back : TextsAreReadBack) (shelves : ShelvesHoldTheirItems
       let first = first_of_two_is_decoded p1.image.regs p1.image.memory r (here.reads_by table made pid m n r c p q lives also calm reads kind) in
       let short =
       plans_are_short table n.watcher.tags (here.at table made pid m n r c p q lives also calm reads kind) (here.w2 table made pid m n r c p q lives also calm reads kind) pid r u
-      (is_planned table made pid m n r c p q lives also calm reads kind u path first unlinked unanswered) path (here.short table made pid m n r c p q lives also calm reads kind) (points_fit table c.short r) in
+      (is_planned table made pid m n r c p q lives also calm reads kind u path first unlinked unanswered) path (here.short table made pid m n r c p q lives also calm reads kind) in
       planned_alike table made pid m n r c p q lives also calm reads kind u path first unlinked unanswered back shelves short.0 short.1
 
   -- ---- answered by the tracer

@@ -7,3 +7,5 @@ pub mod OtherLemmas
 pub mod PlanLemmas
 pub mod ShelfLemmas
 pub mod ToldLemmas
+pub mod FakedOtherLemmas
+pub mod RootLemmas

@@ -10,7 +10,7 @@ use Rattle.kr_turns.specs.Turn.{calling, watched_call}
 use Rattle.kr_turns.specs.Watching.{unwatched}
 use Rattle.pt_tracer.specs.Stopping.{decoded_at}
 use Rattle.pt_watched.specs.Watched.{tracer}
-use Rattle.turns_match.specs.Pathless.{IsPathless}
+use Rattle.stops_match.specs.turns_match.Pathless.{IsPathless}
 use Rattle.path_places.specs.PathCalls.{HasPath}
 use Rattle.stops_match.specs.Turning.{ComeFromCall, HasNoPath}
 use Rattle.stops_match.proofs.CallLemmas.{pathless_calls_go_together}

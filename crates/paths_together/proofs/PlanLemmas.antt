@@ -30,8 +30,8 @@ use Rattle.swaps_read.specs.Requests.{NewText, with_swaps}
 use Rattle.swaps_read.specs.Shelves.{CanSecondBePath, swap_edit}
 use Rattle.swaps_read.specs.Stops.{CanBeSwapped}
 use Rattle.swaps_read.proofs.OperationLemmas.{operations_are_same}
-use Rattle.turns_match.specs.Calls.{decoded_by}
-use Rattle.turns_match.proofs.CalledLemmas.{decoded_holds}
+use Rattle.stops_match.specs.turns_match.Calls.{decoded_by}
+use Rattle.stops_match.proofs.turns_match.CalledLemmas.{decoded_holds}
 use Rattle.path_places.specs.PathCalls.{HasPath}
 use Rattle.path_places.proofs.RuleLemmas.{no_exec}
 use Rattle.plans_agree.specs.Plans.{Cancelling, HasFirstOfTwo, IsEdit, IsNewIfAny, IsPassed, IsPlanned, IsSwapped, Passing, PlanAgrees, Swapping, shelved_texts}

@@ -29,8 +29,8 @@ use Rattle.swaps_read.specs.Shelves.{CanBePath, CanSecondBePath, HasMarkedShelf,
 use Rattle.swaps_read.specs.Stops.{CanBeSwapped}
 use Rattle.swaps_read.specs.Swapped.{AreMarkedFrom, IsDecodedCalmly}
 use Rattle.swaps_read.proofs.MarkLemmas.{shelves_are_marked}
-use Rattle.answers_agree.proofs.NumberLemmas.{paths_have_numbers}
-use Rattle.answers_agree.proofs.ShelfLemmas.{calm_calls_have_shelves, shelves_are_seen}
+use Rattle.plans_short.proofs.answers_agree.NumberLemmas.{paths_have_numbers}
+use Rattle.plans_short.proofs.answers_agree.ShelfLemmas.{calm_calls_have_shelves, shelves_are_seen}
 use Rattle.stops_match.specs.Turning.{ComeToCall}
 use Rattle.stops_match.proofs.CallLemmas as before
 use Rattle.stops_match.proofs.CallLemmas.{own_image}

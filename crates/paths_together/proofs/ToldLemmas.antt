@@ -12,7 +12,7 @@ use Rattle.kr_calls.specs.declared.request.Request.{Request}
 use Rattle.kr_calls.specs.declared.request.Request.TheVariants as call
 use Rattle.kr_allowed.specs.Told.{mounts_walked}
 use Rattle.kr_allowed.proofs.RowLemmas.{StaysLike, stays-like}
-use Rattle.kr_answers.specs.Carrying.{memory_of}
+use Rattle.kr_seen.specs.Carrying.{memory_of}
 use Rattle.kr_model.specs.Bare.{bare_mounts}
 use Rattle.kr_model.specs.Known.{known}
 use Rattle.kr_model.specs.Operation.{operation}
@@ -29,8 +29,8 @@ use Rattle.images_apart.specs.Paths.{is_told_of_paths}
 use Rattle.places_stay.specs.Changes.{NewPlacesStand}
 use Rattle.calm_places.specs.Keeping.{MovesStayInside}
 use Rattle.walks_bare.specs.Facts.{AreSeenAlike}
-use Rattle.turns_match.specs.Changing.{all_tags_made}
-use Rattle.turns_match.specs.Operating.{done_in, written_in}
+use Rattle.stops_match.specs.turns_match.Changing.{all_tags_made}
+use Rattle.stops_match.specs.turns_match.Operating.{done_in, written_in}
 use Rattle.path_places.specs.PathCalls.{HasPath, tags_noted}
 use Rattle.path_places.proofs.BringLemmas.{path_calls_bring_standing}
 use Rattle.path_places.proofs.MoveLemmas.{path_calls_move_inside}

@@ -1,4 +1,5 @@
-//! Calls along paths, with their stops, on both machines: laws, and no code.
+//! Calls along paths, with their stops, on both machines, with an identity and without one: laws, and no code.
 #![tactic(auto)]
 
+pub mod faked;
 pub mod laws;

@@ -19,7 +19,7 @@ use Rattle.kr_inode.proofs.NameLemmas.{name_decides}
 use Rattle.kr_tree.specs.declared.place.Place.{Place}
 use Rattle.kr_view.specs.View.{Row, plain, root_place}
 use Rattle.kr_view.specs.Walk.{PlaceTarget}
-use Rattle.kr_lasting.specs.Texts.{IsText}
+use Rattle.kr_allowed.specs.Texts.{IsText}
 use Rattle.kr_model.specs.State.{Image, State}
 use Rattle.kr_allowed.specs.Told.{HasGoodName}
 use Rattle.walks_agree.specs.Answers.{canon_told}

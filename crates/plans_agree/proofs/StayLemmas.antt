@@ -12,7 +12,7 @@ use Rattle.kr_tree.specs.Tree.{Inode, SymbolicLink, body, inode}
 use Rattle.kr_tree.proofs.NameLemmas.{map_some}
 use Rattle.kr_view.specs.View.{Row, plain}
 use Rattle.kr_view.specs.Walk.{PlaceTarget}
-use Rattle.kr_lasting.specs.Texts.{LinksHaveTexts}
+use Rattle.kr_allowed.specs.Texts.{LinksHaveTexts}
 use Rattle.kr_model.specs.Bare.{bare_mounts}
 use Rattle.kr_model.specs.Known.{Known, known}
 use Rattle.kr_model.specs.Lawful.{IsLawful}

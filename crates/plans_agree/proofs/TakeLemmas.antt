@@ -19,7 +19,7 @@ use Rattle.kr_mounts.specs.Standing.{texts_of}
 use Rattle.kr_model.specs.ProcessDirectory.{space_of}
 use Rattle.kr_model.specs.State.{Image, State}
 use Rattle.kr_allowed.specs.Told.{HasGoodName}
-use Rattle.kr_allowed.proofs.StayingLemmas.{names-stay}
+use Rattle.kr_view.proofs.StayingLemmas.{names-stay}
 use Rattle.walks_agree.specs.Facts.{AlikeWithoutName, EndsOn, MakesAlike, TakesAlike}
 use Rattle.walks_agree.specs.Handed.{handed_path}
 use Rattle.plans_agree.specs.Begins.{LeadsBoth, StandTogether}

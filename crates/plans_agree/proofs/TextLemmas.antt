@@ -9,7 +9,7 @@ use Rattle.pr_base.specs.Texts.{Text}
 use Rattle.pr_base.proofs.PathLemmas.{text_absolute}
 use Rattle.pt_bind.specs.Binding.{host_of}
 use Rattle.pt_args.specs.Purposes.{named_path}
-use Rattle.kr_lasting.specs.Texts.{IsText}
+use Rattle.kr_allowed.specs.Texts.{IsText}
 use Rattle.kr_view.specs.ReachLaws.{slashed}
 use Rattle.plans_agree.specs.OnePath.{IsNewText}
 

@@ -31,7 +31,7 @@ use Rattle.kr_model.specs.Seen.{NoPath}
 use Rattle.kr_model.specs.State.{Image, State, image_layout}
 use Rattle.kr_model.specs.Walks.{Targets, and_then, mounts_of, seen, seen_of, target_at, targets_of, told, walked}
 use Rattle.kr_allowed.specs.Told.{mounts_walked}
-use Rattle.kr_allowed.proofs.StayingLemmas.{names-stay}
+use Rattle.kr_view.proofs.StayingLemmas.{names-stay}
 use Rattle.kr_resolved.proofs.AroundLemmas.{of_walk}
 use Rattle.plans_agree.specs.Begins.{Fails, FailsSo, IsEmpty, Leads, LeadsBoth, PathAgrees, Stays, StaysSo, told_texts}
 use Rattle.plans_agree.specs.OnePath.{IsNewText}

@@ -16,7 +16,7 @@ use Rattle.kr_tree.specs.declared.place.Host.TheVariants.{Node}
 use Rattle.kr_view.specs.View.{Row, is_there, plain}
 use Rattle.kr_view.specs.Walk.{PlaceTarget}
 use Rattle.kr_mounts.specs.Standing.{texts_of}
-use Rattle.kr_lasting.specs.Texts.{IsText}
+use Rattle.kr_allowed.specs.Texts.{IsText}
 use Rattle.kr_model.specs.Seen.{Looked, Opening, OpensFound, OpensNoName, OpensSlashed, Seen, TakesCovered}
 use Rattle.kr_model.specs.State.{Image, State}
 use Rattle.kr_model.specs.Walks.{created_at, if_found, made_at, taken_at, walked}

@@ -10,7 +10,7 @@ use Rattle.pt_results.specs.Answers.{link_answer}
 use Rattle.kr_calls.specs.PathTable.{PathUse, path_at}
 use Rattle.kr_calls.specs.declared.request.Request.{Request}
 use Rattle.kr_view.specs.View.{Row, plain}
-use Rattle.kr_lasting.specs.Texts.{LinksHaveTexts}
+use Rattle.kr_allowed.specs.Texts.{LinksHaveTexts}
 use Rattle.kr_model.specs.Bare.{bare_mounts}
 use Rattle.kr_model.specs.Known.{Known, known}
 use Rattle.kr_model.specs.Operation.{operation}

@@ -41,7 +41,7 @@ use Rattle.plans_agree.proofs.PathLemmas.{paths_agree}
 use Rattle.plans_agree.proofs.PlanLemmas.{edit_is, targets_then}
 use Rattle.plans_agree.proofs.StayLemmas.{walk_refused}
 use Rattle.plans_agree.proofs.WholeLemmas.{plans_agree}
-use Rattle.plans_short.specs.Short.{IsShort, IsShortIfAny, IsShortPlan, IsTooLong, PlansAreShort, PointsFit, ReachesNoLongName, ShelvedTextsAreShort}
+use Rattle.plans_short.specs.Short.{IsShort, IsShortIfAny, IsShortPlan, IsTooLong, PlansAreShort, ReachesNoLongName, ShelvedTextsAreShort}
 use Rattle.plans_short.proofs.ReachedLemmas.{first_calm, second_calm}
 use Rattle.plans_short.proofs.ShortLemmas.{lead_short, rooted}
 
@@ -98,7 +98,7 @@ busy_error e = absurd cc
 
 -- ---- the edit
 
-module _ (table : List Row) (tags : TagTable) (s w : State ℕ Image) (pid : ℕ) (r : Request) (planned : IsPlanned table tags s w pid r) (calm : ReachesNoLongName table tags s w pid r) (fit : PointsFit table r) where
+module _ (table : List Row) (tags : TagTable) (s w : State ℕ Image) (pid : ℕ) (r : Request) (planned : IsPlanned table tags s w pid r) (calm : ReachesNoLongName table tags s w pid r) where
   abbrev texts : TextSurroundings
   texts = told_texts table s pid tags
 
@@ -136,7 +136,7 @@ module _ (table : List Row) (tags : TagTable) (s w : State ℕ Image) (pid : ℕ
       one_short text takes =
           let own = rooted table tags s w pid u (opens r) planned.together lead in
           let reach = first_calm table pid s r u own.own.base own.begun own.own.both.some calm at in
-          lead_short table tags s w pid u (opens r) planned.together own.own fit.points (fit.slashed 0 u at) reach.0 reach.1 text (ap (swap_for (texts_of table) (purpose_of (opens r) u.mode)) own.same ∙ takes)
+          lead_short table tags s w pid u (opens r) planned.together own.own reach.0 reach.1 text (ap (swap_for (texts_of table) (purpose_of (opens r) u.mode)) own.same ∙ takes)
 
       edit_one : (sp : ℕ) (usable : Bool) (o : Option PathUse) → path_at r 1 ≡ o → edit_of texts pid sp usable r ≡ edit_by sp usable (second_walked texts pid r first o)
       edit_one sp usable o e = edit_is table tags s pid r u at sp usable (Ok (Some first)) lead.reached ∙ ap (λ o. edit_by sp usable (second_walked texts pid r first o)) e
@@ -171,7 +171,7 @@ module _ (table : List Row) (tags : TagTable) (s w : State ℕ Image) (pid : ℕ
           two_short text takes =
               let own = rooted table tags s w pid v (opens r) planned.together other in
               let reach = second_calm table pid s r v own.own.base own.begun own.own.both.some calm u (Some lead.place) at lead.target after in
-              lead_short table tags s w pid v (opens r) planned.together own.own fit.points (fit.slashed 1 v after) reach.0 reach.1 text (ap (swap_for (texts_of table) (purpose_of (opens r) v.mode)) own.same ∙ takes)
+              lead_short table tags s w pid v (opens r) planned.together own.own reach.0 reach.1 text (ap (swap_for (texts_of table) (purpose_of (opens r) v.mode)) own.same ∙ takes)
 
           abbrev second : Reached
           second = reached_at v (opens r) other.canon
@@ -261,15 +261,15 @@ module _ (table : List Row) (tags : TagTable) (s w : State ℕ Image) (pid : ℕ
     told_short (Cancels e is refuses) = cancelling e is refuses (are_long first second) refl
 
 pub shelved_texts_are_short : ShelvedTextsAreShort
-shelved_texts_are_short table tags s w pid r u first second planned at calm fit edit =
-    told_short table tags s w pid r planned calm fit first second edit (edit_told table tags s w pid r planned calm fit u at)
+shelved_texts_are_short table tags s w pid r u first second planned at calm edit =
+    told_short table tags s w pid r planned calm first second edit (edit_told table tags s w pid r planned calm u at)
 
 pub plans_are_short : PlansAreShort
-plans_are_short table tags s w pid r u planned at calm fit = by (plans_agree table tags s w pid r u planned at)
+plans_are_short table tags s w pid r u planned at calm = by (plans_agree table tags s w pid r u planned at)
   where
     by : PlanAgrees table tags s w pid r → (plan : PlanAgrees table tags s w pid r) × IsShortPlan table tags s w pid r plan
     by (Passing edit passed) = (Passing edit passed, tt)
-    by (Swapping first second edit swapped) = short (shelved_texts_are_short table tags s w pid r u first second planned at calm fit edit)
+    by (Swapping first second edit swapped) = short (shelved_texts_are_short table tags s w pid r u first second planned at calm edit)
       where
         short : (IsShort first × IsShortIfAny second) ⊎ IsTooLong table tags s w pid r → (plan : PlanAgrees table tags s w pid r) × IsShortPlan table tags s w pid r plan
         short (inl is) = (Swapping first second edit swapped, is)

@@ -1,9 +1,8 @@
+pub use Rattle.answers_agree.proofs as answers_agree
 pub mod DecodedLemmas
 pub mod EditLemmas
 mod FollowLemmas
 mod LeadLemmas
 pub mod LinkLemmas
-mod PointLemmas
 mod ReachedLemmas
 mod ShortLemmas
-mod SlashLemmas

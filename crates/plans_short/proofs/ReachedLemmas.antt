@@ -12,7 +12,7 @@ use Rattle.kr_view.proofs.ReachLemmas.{covers_after}
 use Rattle.kr_model.specs.ProcessDirectory.{around_of}
 use Rattle.kr_model.specs.State.{Image, State}
 use Rattle.kr_model.specs.Walks.{base_of, target_at, walked}
-use Rattle.kr_paths.specs.CallWalks.{call_reach, path_reach, second_reach, walk_reach}
+use Rattle.kr_seen.specs.CallWalks.{call_reach, path_reach, second_reach, walk_reach}
 use Rattle.kr_turns.specs.Breaking.{nothing_reached}
 
 module _ (table : List Row) (pid : ℕ) (s : State ℕ Image) where

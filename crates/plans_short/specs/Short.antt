@@ -1,6 +1,5 @@
 -- What a tracer puts in place of the paths of a calm call is no longer than the plain kernel takes.
-use Rattle.std.specs.Prelude.{◌≡◌, ◌≤◌, ◌⊎◌, ℕ, true, List, length, Option, Some, None}
-use Rattle.pr_base.specs.Paths.{has_slash}
+use Rattle.std.specs.Prelude.{◌≡◌, ◌≤◌, ◌⊎◌, ℕ, List, length, Option, Some, None}
 use Rattle.pr_base.specs.declared.errno.Errno.TheVariants.{ENAMETOOLONG}
 use Rattle.pt_args.specs.declared.edit.Edit.TheVariants.{Cancel}
 use Rattle.pt_bind.specs.Tags.{TagTable}
@@ -12,18 +11,10 @@ use Rattle.kr_model.specs.Operation.{operation}
 use Rattle.kr_model.specs.Reply.{refuse}
 use Rattle.kr_model.specs.State.{Image, State, image_layout}
 use Rattle.kr_model.specs.Walks.{seen}
-use Rattle.kr_paths.specs.CallWalks.{call_reach}
+use Rattle.kr_seen.specs.CallWalks.{call_reach}
 use Rattle.kr_turns.specs.Breaking.{nothing_reached}
 use Rattle.plans_agree.specs.Plans.{Cancelling, IsEdit, IsPlanned, Passing, PlanAgrees, Swapping, shelved_texts}
-use Rattle.swaps_read.specs.Points.{PointsHaveAtMost}
 use Rattle.swaps_read.specs.Requests.{NewText}
-
--- ---- mount points
-
--- a slash behind a path is put behind the text in its place, too: where a path has one, there is room for it behind each point
-pub record PointsFit (table : List Row) (r : Request) : Type 0 where
-  pub points : PointsHaveAtMost 4095 table
-  pub slashed : (k : ℕ) (u : PathUse) → path_at r k ≡ Some u → has_slash u.text ≡ true → PointsHaveAtMost 4094 table
 
 -- ---- texts
 
@@ -56,11 +47,11 @@ module _ (table : List Row) (tags : TagTable) (s w : State ℕ Image) (pid : ℕ
 abbrev pub ShelvedTextsAreShort : Type 0
 ShelvedTextsAreShort =
     (table : List Row) (tags : TagTable) (s w : State ℕ Image) (pid : ℕ) (r : Request) (u : PathUse) (first : NewText) (second : Option NewText) → IsPlanned table tags s w pid r → path_at r 0 ≡ Some u
-    → ReachesNoLongName table tags s w pid r → PointsFit table r → IsEdit table tags s w pid r (shelved_texts table tags s w pid r first second)
+    → ReachesNoLongName table tags s w pid r → IsEdit table tags s w pid r (shelved_texts table tags s w pid r first second)
     → (IsShort first × IsShortIfAny second) ⊎ IsTooLong table tags s w pid r
 
 -- so there is a plan that agrees, with short texts
 abbrev pub PlansAreShort : Type 0
 PlansAreShort =
     (table : List Row) (tags : TagTable) (s w : State ℕ Image) (pid : ℕ) (r : Request) (u : PathUse) → IsPlanned table tags s w pid r → path_at r 0 ≡ Some u
-    → ReachesNoLongName table tags s w pid r → PointsFit table r → (plan : PlanAgrees table tags s w pid r) × IsShortPlan table tags s w pid r plan
+    → ReachesNoLongName table tags s w pid r → (plan : PlanAgrees table tags s w pid r) × IsShortPlan table tags s w pid r plan

@@ -4,7 +4,9 @@
 use Rattle.std.specs.Prelude.{◌≡◌, ℕ, false, IsTrue, IsSome, List, [], Option, Some, None, IfSome, Result, Ok, Err, if◌then◌else◌}
 use Rattle.pr_words.specs.declared.options.Options.{Options}
 use Rattle.kr_inode.specs.declared.user.User.{User}
+use Rattle.kr_tree.specs.Lawful.{AreBytes, IsKept}
 use Rattle.kr_tree.specs.Tree.{Tree}
+use Rattle.kr_stage.specs.Ready.{IsOfListing}
 use Rattle.kr_text.specs.Reading.{listing_of, wants_elf}
 use Rattle.kr_text.specs.declared.fault.ListFault.{ListFault}
 use Rattle.kr_text.specs.declared.fault.ListFault.TheVariants as fault
@@ -57,6 +59,12 @@ with_input options read input = and_then (told_input input) (λ bytes. Some (Ok 
 
 abbrev pub told_asked : Options → Option (List ℕ) → Option (List ℕ) → Option (List ℕ) → Stage Asked
 told_asked options tree elf input = and_then (told_listing tree elf) (λ read. with_input options read input)
+
+-- what code reads is of bytes, by its types: a tree that is kept, of a listing, and an input
+pub record IsRead (a : Asked) : Type 0 where
+  pub listing : IsOfListing a.tree a.user
+  pub kept : IsKept a.tree
+  pub input : AreBytes a.input
 
 -- ---- whether sources are read
 

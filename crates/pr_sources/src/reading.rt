@@ -5,6 +5,7 @@ ghost use Rattle.std.specs.Io.KnownBytes.{IsAtEnd};
 ghost use Rattle.pr_io.specs.Faults.{Rose};
 ghost use Rattle.pr_words.specs.Sound.{AreSound};
 ghost use Rattle.kr_text.specs.Reading.{wants_elf};
+ghost use Rattle.kr_tree.specs.Lawful.{AreBytes, IsKept};
 ghost use Rattle.kr_stage.specs.Ready.{IsOfListing};
 ghost use Rattle.pr_sources.specs.Asking.{IsUnlessNoMemory};
 ghost use Rattle.pr_answer.specs.declared.answer.Which.TheVariants.{Elf};
@@ -13,6 +14,7 @@ ghost use Rattle.pr_sources.specs.Within.{Comes, IsAskedWithin, IsReadRefusal};
 
 use crate::within::read_within;
 use kr_text::{ListFault, wants_elf};
+use kr_tree::laws::trees_are_kept;
 use kr_tree::{Tree, User};
 use pr_answer::{Answer, Which};
 use pr_base::Bytes;
@@ -89,6 +91,11 @@ fn read_listing<T: Source, E: Source>(
     }
 }
 
+/// That bytes are below 256, which a proof is told of a slice alone.
+fn are_bytes(bytes: &[u8])
+    ensures { AreBytes bytes.now }
+{}
+
 /// Reads the listing, the ELF file where the listing names it, and the input, in this order and each to its end. The first that is refused is
 /// answered: a source that is too long, or the listing's first bad line. What isn't come to isn't touched.
 pub fn read<T: Source, E: Source, I: Source>(
@@ -104,6 +111,8 @@ pub fn read<T: Source, E: Source, I: Source>(
     ensures causes { IfErr result (ReadHasCause (told_tree (T.left tree.old)) (told_listing (T.left tree.old) (E.left elf.old)) (Rose (T.faults tree.old) (T.faults tree.new)) (Rose (E.faults elf.old) (E.faults elf.new)) (Rose (I.faults input.old) (I.faults input.new))) }
     ensures sound { IfOk result (λ asked. AreSound asked.options) }
     ensures listing { IfOk result (λ asked. IsOfListing asked.tree asked.user) }
+    ensures kept { IfOk result (λ asked. IsKept asked.tree) }
+    ensures bytes { IfOk result (λ asked. AreBytes asked.input) }
     ensures before_elf { IfErr result (λ answer. EndsBeforeElf answer → elf.new ≡ elf.old) }
     ensures unwanted { IfSome (told_tree (T.left tree.old)) (λ listing. IsUnwanted listing → elf.new ≡ elf.old) }
     ensures before_input { IfErr result (λ answer. EndsBeforeInput answer → input.new ≡ input.old) }
@@ -117,6 +126,8 @@ pub fn read<T: Source, E: Source, I: Source>(
 {
     let (tree, user) = read_listing(alloc, tree, elf)?;
     let input = read_within(alloc, input, FILE_LIMIT, Which::Input)?;
+    trees_are_kept(&tree);
+    are_bytes(input.as_slice());
     Ok(Asked {
         options,
         tree,

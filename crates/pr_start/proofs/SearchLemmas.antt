@@ -11,7 +11,7 @@ use Rattle.kr_tree.specs.Tree.{Tree}
 use Rattle.kr_view.specs.declared.target.Reach.{Reach}
 use Rattle.kr_view.specs.Component.{may_search}
 use Rattle.kr_view.specs.View.{Row, StandsIn}
-use Rattle.kr_lasting.specs.Texts.{IsText}
+use Rattle.kr_allowed.specs.Texts.{IsText}
 use Rattle.kr_first.specs.Laws.{RootsAreDirectories}
 use Rattle.kr_first.specs.Starting.{directory_at, is_walked}
 use Rattle.pr_start.specs.Directory.{if_searchable, or_root, searchable_at, working_directory}

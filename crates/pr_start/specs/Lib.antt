@@ -1,3 +1,4 @@
+pub use Rattle.kr_core.specs as kr_core
 pub mod Directory
 pub mod Command
 pub mod Beginning

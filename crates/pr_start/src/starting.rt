@@ -1,7 +1,7 @@
 //! The start.
 ghost use Rattle.std.specs.Prelude.{◌≡◌, ◌≢◌, IfOk};
 ghost use Rattle.std.specs.List.{All};
-ghost use Rattle.kr_lasting.specs.Texts.{IsText};
+ghost use Rattle.kr_allowed.specs.Texts.{IsText};
 ghost use Rattle.kr_mounts.specs.Stored.{table_of};
 ghost use Rattle.kr_stage.specs.Ready.{IsReady};
 ghost use Rattle.pr_start.specs.Beginning.{Begins, beginning};

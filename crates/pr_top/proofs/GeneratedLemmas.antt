@@ -5,7 +5,7 @@ use Rattle.std.specs.List.{All}
 use Rattle.pr_base.specs.declared.bind.Bind.{Bind}
 use Rattle.pr_base.specs.declared.errno.Errno.{Errno}
 use Rattle.kr_inode.specs.declared.user.User.{User}
-use Rattle.kr_lasting.specs.Texts.{IsText}
+use Rattle.kr_allowed.specs.Texts.{IsText}
 use Rattle.kr_mounts.specs.Bounds.{AreNumbered}
 use Rattle.kr_mounts.specs.Standing.{texts_of}
 use Rattle.kr_mounts.specs.Stored.{table_of}

@@ -1,4 +1,3 @@
 pub mod OpeningLemmas
 pub mod GeneratedLemmas
 pub mod ReportLemmas
-pub mod TopLemmas

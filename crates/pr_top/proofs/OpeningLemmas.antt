@@ -1,16 +1,16 @@
 -- From what was read to the opening.
-use Rattle.std.proofs.Common.{◌≡◌, inl, inr, ℕ, false, List, Some, None, refl, sym, ap, subst}
-use Rattle.std.specs.Prelude.{Option, Result, Ok, Err, IfErr, IsSome, is_some}
+use Rattle.std.proofs.Common.{◌≡◌, inl, inr, ℕ, false, List, Some, None, refl, sym, ap, subst, ◌∙◌}
+use Rattle.std.specs.Prelude.{Option, Result, Ok, Err, IfErr, IfOk, IsSome, is_some}
 use Rattle.kr_inode.specs.declared.user.User.{User}
 use Rattle.kr_tree.specs.Tree.{Tree}
 use Rattle.pr_words.specs.declared.options.Options.{Options}
 use Rattle.pr_answer.specs.declared.answer.Answer.{Answer}
 use Rattle.pr_answer.specs.declared.answer.Answer.TheVariants.{Ended, Deadlock, Spent, Usage, TooLong, TreeBad, BadBind, NoStart, ReadFault, WriteFault, NoMemory}
 use Rattle.pr_sources.specs.Asking.{IsOfAsking, IsRefused}
-use Rattle.pr_sources.specs.Reading.{AsksCase, EndsBeforeElf, EndsBeforeInput, HasCause, IsOfWords, IsRefusal, ReadHasCause, ReadsSources, told_asked}
+use Rattle.pr_sources.specs.Reading.{AsksCase, EndsBeforeElf, EndsBeforeInput, HasCause, IsOfWords, IsRead, IsRefusal, ReadHasCause, ReadsSources, told_asked}
 use Rattle.pr_sources.specs.Within.{Comes, IsEarly, Stage, and_then}
 use Rattle.pr_sources.specs.declared.reading.Asked.{Asked}
-use Rattle.pr_top.specs.Opening.{Begun, IsOfStart, Opens, OpensFrom, begun, case_begun, opened_for}
+use Rattle.pr_top.specs.Opening.{Begun, IsOfStart, Opens, OpensFrom, ReadsAs, WasRead, begun, case_begun, opened_for}
 use Rattle.pr_top.specs.declared.opening.Opened.{Opened}
 
 same-ok : (x y : Asked) → ◌≡◌ {A = Result Asked Answer} (Ok x) (Ok y) → x ≡ y
@@ -32,6 +32,45 @@ opens-stop (Some (Ok y)) a (inl e) = absurd cc
 opens-stop (Some (Ok y)) a (inr early) = inr early
 opens-stop (Some (Err b)) a (inl e) = inl (ap (λ (x : Answer). Err x) (same-err b a e))
 opens-stop (Some (Err b)) a (inr early) = inr early
+
+-- ---- what was read
+
+pub reads-stop : (told : Stage Asked) (a : Answer) → Comes told (Err a) → ReadsAs told (Err a)
+reads-stop None a stop = inl tt
+reads-stop (Some (Ok y)) a (inl e) = absurd cc
+reads-stop (Some (Ok y)) a (inr early) = inr early
+reads-stop (Some (Err b)) a stop = inl tt
+
+was-read : (told : Stage Asked) (x : Asked) → Comes told (Ok x) → IsRead x → WasRead told
+was-read None x comes read = tt
+was-read (Some (Ok y)) x comes read = subst IsRead (sym (same-ok y x comes)) read
+was-read (Some (Err a)) x comes read = absurd cc
+
+pub reads-then : (told : Stage Asked) (x : Asked) (answer : Result Opened Answer) → Comes told (Ok x) → IsRead x → ReadsAs told answer
+reads-then told x (Ok opened) comes read = was-read told x comes read
+reads-then told x (Err a) comes read = inl (was-read told x comes read)
+
+-- words that are refused, or want of memory
+pub reads-refused : (words : Result Options Answer) (told : Options → Stage Asked) (a : Answer) → IsOfAsking a → IsRefused words a → IfOk words (λ o. o.case ≡ None → ReadsAs (told o) (Err a))
+reads-refused (Err b) told a is e = tt
+reads-refused (Ok o) told (Usage word why) is e = absurd cc
+reads-refused (Ok o) told NoMemory is e = λ alone. inr tt
+reads-refused (Ok o) told (Ended status) is e = absurd is
+reads-refused (Ok o) told Deadlock is e = absurd is
+reads-refused (Ok o) told Spent is e = absurd is
+reads-refused (Ok o) told (TooLong which) is e = absurd is
+reads-refused (Ok o) told (TreeBad line why) is e = absurd is
+reads-refused (Ok o) told (BadBind index why) is e = absurd is
+reads-refused (Ok o) told (NoStart errno) is e = absurd is
+reads-refused (Ok o) told (ReadFault which) is e = absurd is
+reads-refused (Ok o) told (WriteFault which) is e = absurd is
+
+-- a generated case, or sources
+pub reads-case : (words : Result Options Answer) (o : Options) (P : Options → Type 0) (n : ℕ) → words ≡ Ok o → o.case ≡ Some n → IfOk words (λ o. o.case ≡ None → P o)
+reads-case words o P n worded is = subst (λ w. IfOk w (λ o. o.case ≡ None → P o)) (sym worded) (λ alone. absurd (let clash : Some n ≡ None = sym is ∙ alone in cc))
+
+pub reads-sources : (words : Result Options Answer) (o : Options) (P : Options → Type 0) → words ≡ Ok o → P o → IfOk words (λ o. o.case ≡ None → P o)
+reads-sources words o P worded is = subst (λ w. IfOk w (λ o. o.case ≡ None → P o)) (sym worded) (λ alone. is)
 
 -- ---- the words, and what they ask for
 

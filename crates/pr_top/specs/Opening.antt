@@ -1,12 +1,12 @@
 -- The opening: the first refusal in the order of the words, the sources, the bindings and the start, or a run that begins. It is known where
 -- the sources that it needs tell their bytes; a generated case needs none.
-use Rattle.std.specs.Prelude.{◌≡◌, ◌⊎◌, ℕ, Bool, true, false, List, [], codes, Option, Some, None, IfSome, Result, Ok, Err, if◌then◌else◌}
+use Rattle.std.specs.Prelude.{◌≡◌, ◌⊎◌, ℕ, Bool, true, false, List, [], codes, Option, Some, None, IfOk, IfSome, Result, Ok, Err, if◌then◌else◌}
 use Rattle.pr_base.specs.declared.errno.Errno.{Errno}
 use Rattle.kr_tree.specs.Tree.{Tree}
 use Rattle.kr_view.specs.View.{Row, plain}
 use Rattle.kr_view.specs.declared.view.Plain.{Plain}
 use Rattle.kr_view.specs.declared.view.HostMount.{HostMount}
-use Rattle.kr_core.specs.Kernel as kernel
+use Rattle.pr_start.specs.kr_core.Kernel as kernel
 use Rattle.kr_mounts.specs.declared.mount.Mount.{Mount}
 use Rattle.kr_mounts.specs.declared.mounted.MountNumber.{MountNumber}
 use Rattle.kr_stage.specs.declared.stage.Stage.{Stage as StageOfCode}
@@ -20,7 +20,7 @@ use Rattle.pr_answer.specs.declared.answer.Answer.{Answer}
 use Rattle.pr_answer.specs.declared.answer.Answer.TheVariants.{BadBind, NoMemory, NoStart, ReadFault, TooLong, TreeBad, Usage}
 use Rattle.pr_sources.specs.Within.{IsEarly, Stage, and_then}
 use Rattle.pr_sources.specs.Asking.{asked}
-use Rattle.pr_sources.specs.Reading.{listed, told_asked}
+use Rattle.pr_sources.specs.Reading.{IsRead, listed, told_asked}
 use Rattle.pr_sources.specs.declared.reading.Asked.{Asked}
 use Rattle.pr_start.specs.Beginning.{beginning}
 use Rattle.pr_start.specs.Machines.{Faked, Machine, Nobody, Ran, Watch, machine, run, starting_faking, watch}
@@ -211,6 +211,15 @@ OpensFrom expected (Err answer) = (expected ≡ Err answer) ⊎ IsEarly answer
 
 abbrev pub Opens : Stage Begun → Result Opened Answer → Type 0
 Opens told answer = IfSome told (λ expected. OpensFrom expected answer)
+
+-- what the words ask for of the sources, where that is told, was read
+abbrev pub WasRead : Stage Asked → Type 0
+WasRead told = IfSome told (λ a. IfOk a IsRead)
+
+-- but for an early end
+abbrev pub ReadsAs : Stage Asked → Result Opened Answer → Type 0
+ReadsAs told (Ok opened) = WasRead told
+ReadsAs told (Err answer) = WasRead told ⊎ IsEarly answer
 
 -- and so are the parts of a generated case
 abbrev pub staged_told : StageOfCode → Staged

@@ -1,12 +1,12 @@
 //! The opening: the words and the sources are read, bindings are settled, and the first process begins. Of a generated case both machines
 //! begin, and no source is read.
-ghost use Rattle.std.specs.Prelude.{◌≡◌, ◌<◌, ◌^◌, Some, Err, IfErr, IfOk, IfSome, OnOk, length, map};
+ghost use Rattle.std.specs.Prelude.{◌≡◌, ◌<◌, ◌^◌, None, Some, Err, IfErr, IfOk, IfSome, OnOk, length, map};
 ghost use Rattle.std.specs.String.{string_bytes};
 ghost use Rattle.std.specs.Io.KnownBytes.{IsAtEnd};
 ghost use Rattle.pr_io.specs.Faults.{Rose};
 ghost use Rattle.pr_words.specs.Sound.{AreSound};
 ghost use Rattle.std.specs.List.{All};
-ghost use Rattle.kr_lasting.specs.Texts.{IsText};
+ghost use Rattle.kr_allowed.specs.Texts.{IsText};
 ghost use Rattle.kr_mounts.specs.Standing.{texts_of};
 ghost use Rattle.kr_mounts.specs.Stored.{table_of};
 ghost use Rattle.kr_stage.specs.Ready.{IsOfListing, IsReady};
@@ -14,7 +14,7 @@ ghost use Rattle.pt_bind.specs.Binding.{rows_of};
 ghost use Rattle.pr_sources.specs.Asking.{asked};
 ghost use Rattle.pr_sources.specs.Reading.{AsksCase, EndsBeforeElf, EndsBeforeInput, HasCause, IsOfWords, IsRefusal, IsUnwanted, IsWanted, ReadHasCause, ReadsSources, told_asked, told_listing, told_tree};
 ghost use Rattle.pr_sources.specs.Within.{IsAskedWithin, and_then};
-ghost use Rattle.pr_top.specs.Opening.{IsFresh, IsOfOpening, IsOfStart, IsReadyToRun, Opens, OpensFrom, StartsAs, begun, ids_for, opening, started_on, watch_for};
+ghost use Rattle.pr_top.specs.Opening.{IsFresh, IsOfOpening, IsOfStart, IsReadyToRun, Opens, OpensFrom, ReadsAs, StartsAs, begun, ids_for, opening, started_on, watch_for};
 
 use crate::generated::begin_case;
 use kr_first::StartFault;
@@ -48,7 +48,7 @@ pub(crate) enum Kind {
 
 /// A run that has begun: its machine, and what it is made by.
 #[derive(Drop)]
-pub(crate) struct Opened {
+pub struct Opened {
     pub(crate) kind: Kind,
     pub(crate) plan: Plan,
 }
@@ -58,7 +58,7 @@ impl Opened {
     ghost use Rattle.pr_top.specs.Opening.{IsReadyToRun, begun_told, report};
 
     /// Runs it, and puts its report.
-    pub(crate) fn report<O: Sink, R: Sink, L: Sink>(
+    pub fn report<O: Sink, R: Sink, L: Sink>(
         &mut self,
         alloc: Global,
         out: &mut O,
@@ -184,6 +184,7 @@ fn open_sources<T: Source, E: Source, I: Source>(
 ) -> Result<Opened, Answer>
     requires { AreSound options }
     ensures opens { Opens (and_then (told_asked options (T.left tree.old) (E.left elf.old) (I.left input.old)) (λ asked. Some (begun asked))) result }
+    ensures read { ReadsAs (told_asked options (T.left tree.old) (E.left elf.old) (I.left input.old)) result }
     ensures ready { IfOk result (λ opened. IsReadyToRun opened) }
     ensures kinds { IfErr result IsOfOpening }
     ensures words { IfErr result (λ answer. IsOfWords answer → ⊥) }
@@ -204,7 +205,7 @@ fn open_sources<T: Source, E: Source, I: Source>(
 }
 
 /// Reads the words, and then what they ask for: the sources of a run, or none where they ask for a generated case.
-pub(crate) fn open<T: Source, E: Source, I: Source>(
+pub fn open<T: Source, E: Source, I: Source>(
     alloc: Global,
     words: &[String],
     tree: &mut T,
@@ -213,6 +214,7 @@ pub(crate) fn open<T: Source, E: Source, I: Source>(
 ) -> Result<Opened, Answer>
     requires { length words.now < 2 ^ 32 }
     ensures opens { Opens (opening (map string_bytes words.now) (T.left tree.old) (E.left elf.old) (I.left input.old)) result }
+    ensures read { IfOk (asked (map string_bytes words.now)) (λ options. options.case ≡ None → ReadsAs (told_asked options (T.left tree.old) (E.left elf.old) (I.left input.old)) result) }
     ensures ready { IfOk result (λ opened. IsReadyToRun opened) }
     ensures kinds { IfErr result IsOfOpening }
     ensures words { IfErr result (λ answer. IsOfWords answer → asked (map string_bytes words.now) ≡ Err answer) }

@@ -6,7 +6,7 @@ use Rattle.kr_tree.specs.Tree.{Tree}
 use Rattle.kr_view.specs.Processes.{no_finds}
 use Rattle.kr_view.specs.View.{Row, plain}
 use Rattle.kr_mounts.specs.Standing.{texts_of}
-use Rattle.kr_lasting.specs.Texts.{IsText}
+use Rattle.kr_allowed.specs.Texts.{IsText}
 use Rattle.kr_first.specs.Started.{LeadsToDirectory}
 use Rattle.kr_first.specs.declared.starting.First.{First}
 use Rattle.walks_agree.specs.Settled.{IsSettled}

@@ -9,3 +9,5 @@ pub mod WorkLemmas
 pub mod PlainLemmas
 pub mod RefuseLemmas
 pub mod ShowLemmas
+pub mod ImageLemmas
+pub mod EndLemmas

@@ -226,7 +226,7 @@ unread_executions_agree table s w pid tags path args env m working canon e put n
 -- ---- an empty path
 
 -- what it leads to is where it begins, which is no program
-empty-program : (around : Surroundings) (base : Place ℕ) → is_program around.space.tree around.space.user base.host ≡ false → program_at around base [] ≡ Err EACCES
+pub empty-program : (around : Surroundings) (base : Place ℕ) → is_program around.space.tree around.space.user base.host ≡ false → program_at around base [] ≡ Err EACCES
 empty-program around base none =
     ap (λ trail. if_program around.space.tree around.space.user trail.answer) (walk-none (looking around) Look most_links base false)
     ∙ ap (λ b. if b then Ok (here (looking around) base false) else Err EACCES) none

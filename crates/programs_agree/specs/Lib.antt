@@ -5,3 +5,5 @@ pub mod Planning
 pub mod Refusing
 pub mod Showing
 pub mod Working
+pub mod Images
+pub mod Ending

@@ -41,7 +41,7 @@ use Rattle.kr_view.specs.Walk.{PlaceTarget, place_walk}
 use Rattle.kr_view.proofs.ArrivalLemmas.{texts_are_found}
 use Rattle.kr_view.proofs.HostReachLemmas.{reached_names, reached_there}
 use Rattle.kr_view.proofs.ProcessLemmas.{no_processes}
-use Rattle.kr_lasting.specs.Texts.{IsText}
+use Rattle.kr_allowed.specs.Texts.{IsText}
 use Rattle.kr_model.specs.Peeks.{at_found, body_text, kind_of_answer, kind_seen, read_at, read_of}
 use Rattle.kr_first.specs.Started.{LeadsToDirectory}
 use Rattle.kr_first.specs.Starting.{around, directory_at, directory_found, if_directory}

@@ -19,7 +19,7 @@ use Rattle.kr_exec.specs.Exec.{are_too_big}
 use Rattle.kr_first.specs.Started.{LeadsToDirectory}
 use Rattle.kr_first.specs.Starting.{is_walked, path_errno}
 use Rattle.kr_inode.specs.declared.user.User.{User}
-use Rattle.kr_lasting.specs.Texts.{IsText}
+use Rattle.kr_allowed.specs.Texts.{IsText}
 use Rattle.kr_tree.specs.Tree.{Tree}
 use Rattle.kr_view.specs.View.{Row, plain}
 use Rattle.walks_agree.specs.Settled.{IsSettled}

@@ -1,3 +1,4 @@
+pub use Rattle.pt_tracer.specs as pt_tracer
 pub mod Answering
 pub mod Planning
 pub mod Poking

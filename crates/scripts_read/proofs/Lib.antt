@@ -1,1 +1,9 @@
+pub mod LineLemmas
+pub mod PutLemmas
+pub mod RoomLemmas
+pub mod ListLemmas
+pub mod CopyLemmas
+pub mod BareLemmas
+pub mod HeldLemmas
+pub mod StandLemmas
 pub mod ReadLemmas

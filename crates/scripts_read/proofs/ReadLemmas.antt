@@ -16,12 +16,12 @@ use Rattle.pt_watched.specs.ScriptEdit.{put_texts}
 use Rattle.kr_calls.specs.Expansion.{bytes_with_ends}
 use Rattle.kr_exec.specs.Lists.{at_least_one, lists_at, next_address}
 use Rattle.programs_agree.proofs.LimitLemmas.{lists_fit}
-use Rattle.lists_stand.specs.Standing.{AreEntries, IsList, IsListAt}
-use Rattle.lists_stand.proofs.BareLemmas.{kept_addresses_are_alike}
-use Rattle.lists_stand.proofs.ReadLemmas.{err_ok, ok_same, read_lists_stand, standing_lists_are_read}
-use Rattle.scripts_fit.proofs.RoomLemmas.{addresses-long, shown-put, script_texts_are_path_texts, scripts_have_room, scripts_keep_the_limits}
-use Rattle.scripts_stand.specs.Standing.{script_shelf}
-use Rattle.scripts_stand.proofs.StandLemmas.{shelved_scripts_stand}
+use Rattle.scripts_read.specs.Lists.{AreEntries, IsList, IsListAt}
+use Rattle.scripts_read.proofs.BareLemmas.{kept_addresses_are_alike}
+use Rattle.scripts_read.proofs.ListLemmas.{err_ok, ok_same, read_lists_stand, standing_lists_are_read}
+use Rattle.scripts_read.proofs.RoomLemmas.{addresses-long, shown-put, script_texts_are_path_texts, scripts_have_room, scripts_keep_the_limits}
+use Rattle.scripts_read.specs.Shelves.{script_shelf}
+use Rattle.scripts_read.proofs.StandLemmas.{shelved_scripts_stand}
 use Rattle.scripts_read.specs.Reading.{ScriptListsAreRead}
 
 abbrev Texts : Type 0

@@ -1,1 +1,4 @@
+pub mod Room
+pub mod Lists
+pub mod Shelves
 pub mod Reading

@@ -13,7 +13,7 @@ use Rattle.pt_watched.specs.ScriptEdit.{put_texts}
 use Rattle.kr_calls.specs.Expansion.{bytes_with_ends}
 use Rattle.kr_exec.specs.Lists.{lists_at}
 use Rattle.kr_exec.specs.declared.lists.Lists.{Lists}
-use Rattle.scripts_stand.specs.Standing.{script_shelf}
+use Rattle.scripts_read.specs.Shelves.{script_shelf}
 
 -- a memory from which the kernel with mounts reads both lists, and no marked byte; that of which the tracer reads; and the one that it
 -- leaves, with all of the script on the shelf

@@ -93,10 +93,10 @@ module _ (table : List Row) (tree : Tree) (user : User) (input : List ℕ) (open
   stay = pinned-stays user table tree.inodes tree (stay_all user nothing tree.inodes)
 
   lawful : IsLawful (λ m. m) table before
-  lawful = empty-lawful (λ m. m) table tree user input opening.kept opening.ready.stands opening.ready.free
+  lawful = empty-lawful (λ m. m) table tree user input opening.kept opening.prepared.stands opening.prepared.free
 
   settled : IsSettled here
-  settled = settled-later table tree user (finds_among []) opening.ready.settled
+  settled = settled-later table tree user (finds_among []) opening.prepared.settled
 
   -- what stands in the tree as it was settled
   pub use-before : (x : Use) → UseStands here x → UseStands (space_of table before) x

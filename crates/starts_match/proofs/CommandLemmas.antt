@@ -26,8 +26,9 @@ use Rattle.pt_first.specs.GuestStart.{searched as guest_searched}
 use Rattle.pt_first.specs.Laws.{first_texts}
 use Rattle.walks_agree.specs.Settled.{IsSettled}
 use Rattle.starts_match.specs.Commands.{CommandsAgree}
-use Rattle.starts_match.specs.Programs.{IsSameProgram, ResultsAlike}
-use Rattle.starts_match.specs.Programs as alike
+use Rattle.programs_agree.specs.Ending.{ResultsAlike}
+use Rattle.starts_match.specs.Programs.{IsSameProgram}
+use Rattle.programs_agree.specs.Ending as alike
 use Rattle.starts_match.specs.Spaces.{first_space}
 use Rattle.starts_match.specs.Working.{StandsAt}
 use Rattle.starts_match.proofs.ProgramLemmas.{programs-agree}

@@ -103,7 +103,7 @@ module _ (table : List Row) (tree : Tree) (user : User) (input : List ℕ) (firs
   stand : PlacesStand table s
   stand =
       places_follow nothing table base s (before-stands table tree user input opening) (table_kept (space_of table base))
-      (state-lawful table tree user input first opening.kept opening.ready.stands opening.ready.free at.begins at.image) follows
+      (state-lawful table tree user input first opening.kept opening.prepared.stands opening.prepared.free at.begins at.image) follows
 
   -- ---- bare parts
 
@@ -126,8 +126,8 @@ module _ (table : List Row) (tree : Tree) (user : User) (input : List ℕ) (firs
   bares =
       let c = inode_of first.cwd.host in
       let e = inode_of first.exe.host in
-      let one = held-fewer table tree opening.ready.stands opening.ready.free c e in
-      let other = held-fewer plain tree (plain_stands tree opening.kept.sound).0 opening.ready.free c e in
+      let one = held-fewer table tree opening.prepared.stands opening.prepared.free c e in
+      let other = held-fewer plain tree (plain_stands tree opening.kept.sound).0 opening.prepared.free c e in
       ap of_tree (one ∙ sym other)
 
   -- ---- images
@@ -152,7 +152,7 @@ module _ (table : List Row) (tree : Tree) (user : User) (input : List ℕ) (firs
   -- the index of a guest text is that of the mount of what stands there
   index-is : (p : Place ℕ) (t : Text) → StandsOn (first_space table tree user) p t → index_of (texts_of table) t ≡ index_at table p.mount
   index-is p t on =
-      let own = owned (first_space table tree user) opening.ready.settled t in
+      let own = owned (first_space table tree user) opening.prepared.settled t in
       own.index ∙ sym (ap (λ o. option_map_or (λ (r : Row). r.text.index) o 0) (ap (row table) on.stands.mount ∙ own.there))
 
   abbrev tags : TagTable

@@ -20,7 +20,7 @@ use Rattle.kr_start.proofs.ConsoleLemmas.{open-next, part-lawful, still-lives}
 use Rattle.kr_start.proofs.LastLemmas.{starts-last}
 use Rattle.kr_start.proofs.StartLemmas.{born-lawful, can-begin, empty-lawful}
 use Rattle.starts_match.specs.FirstStates.{FirstStatesLast, first_state, on_host}
-use Rattle.starts_match.specs.Images.{IsImage}
+use Rattle.programs_agree.specs.Images.{IsImage}
 
 module _ (table : List Row) (tree : Tree) (user : User) (input : List ℕ) (first : First ℕ) (kept : IsKept tree) (stands : StandsIn tree table) (free : HasNoHolds tree) (begins : CanBegin (λ m. m) table tree first) (image : IsImage first.image) where
   abbrev before : State ℕ Image
@@ -98,9 +98,9 @@ host-begins table tree first begins = record {
 
 pub first-states-last : FirstStatesLast
 first-states-last table tree user input first opening begins image =
-    let ready = opening.ready in
+    let prepared = opening.prepared in
     record {
-      lasts = state-lasts table tree user input first opening.kept ready.stands ready.free begins image ready.lasts;
+      lasts = state-lasts table tree user input first opening.kept prepared.stands prepared.free begins image prepared.lasts;
       also_lasts =
-          state-lasts plain tree user input (on_host first) opening.kept (plain_stands tree opening.kept.sound).0 ready.free (host-begins table tree first begins) image ready.lasts;
+          state-lasts plain tree user input (on_host first) opening.kept (plain_stands tree opening.kept.sound).0 prepared.free (host-begins table tree first begins) image prepared.lasts;
     }

@@ -1,8 +1,8 @@
+pub use Rattle.turns_match.proofs as turns_match
 pub mod BeforeLemmas
 pub mod CommandLemmas
 pub mod FirstLemmas
 pub mod HeldLemmas
-pub mod ImageLemmas
 pub mod JumpLemmas
 pub mod LaterLemmas
 pub mod LawfulLemmas

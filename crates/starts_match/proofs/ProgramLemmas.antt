@@ -52,8 +52,9 @@ use Rattle.walks_agree.specs.Standing.{FoundStands, IsEntryAt, StandsOn, likenes
 use Rattle.walks_agree.proofs.HandedLemmas.{entry_at, settled_at}
 use Rattle.places_stay.proofs.MatchLemmas.{file_apart}
 use Rattle.starts_match.specs.Spaces.{first_space}
-use Rattle.starts_match.specs.Programs.{IsSameProgram, ProgramsAgree, ResultsAlike}
-use Rattle.starts_match.specs.Programs as alike
+use Rattle.programs_agree.specs.Ending.{ResultsAlike}
+use Rattle.starts_match.specs.Programs.{IsSameProgram, ProgramsAgree}
+use Rattle.programs_agree.specs.Ending as alike
 use Rattle.starts_match.specs.Working.{StandsAt}
 use Rattle.starts_match.proofs.LaterLemmas.{nothing-reached}
 use Rattle.starts_match.proofs.LengthLemmas.{found-short}

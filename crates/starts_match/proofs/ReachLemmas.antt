@@ -6,11 +6,11 @@ use Rattle.pr_base.specs.WalkLaws.{Shows}
 use Rattle.kr_tree.specs.declared.place.Place.{Place}
 use Rattle.kr_view.specs.declared.target.Reach.{Reach}
 use Rattle.kr_view.specs.Component.{SeenPlace, Surroundings, look_up}
-use Rattle.kr_view.specs.Names.{Text, component_name, directory_name}
+use Rattle.kr_view.specs.Names.{Text, component_name, directory_name, entry_name}
 use Rattle.kr_view.specs.Reach.{beginning_name, end_names, free_target_name, landings_reach, look_reach, looks_reach, raised, raised_by_all, reach_after, reached_landing, seen_name, text_length}
 use Rattle.kr_view.specs.Walk.{PlaceTarget, PlaceTrail}
 use Rattle.kr_view.proofs.ReachLemmas.{covers_landing, covers_look, raised_more}
-use Rattle.starts_match.proofs.TrailLemmas.{Each}
+use Rattle.programs_agree.proofs.EndLemmas.{Each}
 
 -- a name that is told is no longer than the longest
 pub raised-has : (names : Text) (n : ℕ) → text_length names ≤ raised (Some names) n
@@ -79,7 +79,9 @@ module _ (around : Surroundings) (most : ℕ) where
   look-within p f c names within shows called =
       let n = raised (directory_name around.space p.host) within.0.longest in
       let own : seen_name (component_name around.space p c) (look_up around p c) ≡ Some names = seen-called (component_name around.space p c) (look_up around p c) f shows ∙ called in
-      let named : (look_reach around (record { place = p; component = c; is_last = true }) within.0).longest ≡ raised (Some names) n = ap (λ o. raised o n) own in
+      let entry = seen_name (entry_name around.space p.host c) (look_up around p c) in
+      let named : (look_reach around (record { place = p; component = c; is_last = true }) within.0).longest ≡ raised entry (raised (Some names) n) = ap (λ o. raised entry (raised o n)) own in
       let has = raised-has names n in
+      let more = raised_more entry (raised (Some names) n) in
       let le = within.1 in
       omega arith

@@ -43,17 +43,18 @@ use Rattle.pt_first.specs.GuestStart.{base_of, handed, if_short, root_text, run_
 use Rattle.pt_first.specs.Laws.{first_texts}
 use Rattle.walks_agree.specs.Settled.{IsSettled, host_text}
 use Rattle.walks_agree.specs.Standing.{FoundStands, likeness}
-use Rattle.starts_match.specs.Programs.{IsSameProgram, ResultsAlike}
-use Rattle.starts_match.specs.Programs as alike
+use Rattle.programs_agree.specs.Ending.{EndAlike, ResultsAlike}
+use Rattle.starts_match.specs.Programs.{IsSameProgram}
+use Rattle.programs_agree.specs.Ending as alike
 use Rattle.starts_match.specs.Running.{IsSameRun, RunsAgree, run_at}
-use Rattle.starts_match.specs.Scripts.{EndAlike}
 use Rattle.starts_match.specs.Spaces.{first_space}
 use Rattle.starts_match.specs.Working.{StandsAt}
 use Rattle.starts_match.proofs.WellLemmas.{Holds, runs-well}
 use Rattle.starts_match.proofs.LengthLemmas.{found-short}
 use Rattle.starts_match.proofs.ProgramLemmas.{absolute-walk, programs-agree}
 use Rattle.starts_match.proofs.SceneLemmas.{look-finds, spelled, walk-alike}
-use Rattle.starts_match.proofs.ScriptLemmas.{scripts-agree, walks-more}
+use Rattle.programs_agree.proofs.EndLemmas.{walks-more}
+use Rattle.starts_match.proofs.ScriptLemmas.{scripts-agree}
 
 -- both tests of what is given
 first-fits : (a b : Bool) → (a || b) ≡ false → a ≡ false

@@ -54,8 +54,9 @@ use Rattle.pt_first.specs.declared.begun.Begun.{Begun}
 use Rattle.walks_agree.specs.Settled.{IsSettled}
 use Rattle.starts_match.specs.FirstStates.{IsOpening, first_tags}
 use Rattle.starts_match.specs.Plans.{planned_on_host}
-use Rattle.starts_match.specs.Programs.{IsSameProgram, ResultsAlike}
-use Rattle.starts_match.specs.Programs as alike
+use Rattle.programs_agree.specs.Ending.{ResultsAlike}
+use Rattle.starts_match.specs.Programs.{IsSameProgram}
+use Rattle.programs_agree.specs.Ending as alike
 use Rattle.starts_match.specs.Running.{IsSameRun, run_at, run_of}
 use Rattle.starts_match.specs.Spaces.{first_space}
 use Rattle.starts_match.specs.Starts.{BeginningsAreJudged, ComeTogether, StartsGoTogether, beginning_reach, chosen_in}
@@ -99,7 +100,7 @@ module _ (table : List Row) (tree : Tree) (user : User) (base : Place ℕ) (path
 
 module _ (table : List Row) (tree : Tree) (user : User) (watch : Watch) (ids : Option (ℕ × ℕ)) (launch : Launch) (input : List ℕ) (opening : IsOpening tree user table) where
   abbrev space_set : IsSettled (first_space table tree user)
-  space_set = opening.ready.settled
+  space_set = opening.prepared.settled
 
   abbrev seen : TextSurroundings
   seen = first_texts table tree user map.empty
@@ -124,7 +125,7 @@ module _ (table : List Row) (tree : Tree) (user : User) (watch : Watch) (ids : O
 
   -- the path of the working directory leads to it
   leads : directory_at table tree user at.path ≡ Some base
-  leads = directory-leads table tree user launch.cwd roots-are-directories opening.ready.stands
+  leads = directory-leads table tree user launch.cwd roots-are-directories opening.prepared.stands
 
   args-are : at_least_one args ≡ args
   args-are = at-least args (given-some launch.command)

@@ -54,7 +54,7 @@ use Rattle.starts_match.specs.Spaces.{first_space}
 use Rattle.starts_match.specs.Starts.{ComeTogether, tags_in}
 use Rattle.starts_match.specs.Working.{StandsAt}
 use Rattle.starts_match.proofs.FirstLemmas.{first-states-match}
-use Rattle.starts_match.proofs.ImageLemmas.{image-is}
+use Rattle.programs_agree.proofs.ImageLemmas.{image-is}
 use Rattle.starts_match.proofs.LawfulLemmas.{first-states-last}
 
 -- a program is a file of the tree
@@ -76,7 +76,7 @@ module _ (table : List Row) (tree : Tree) (user : User) (input ids : List ℕ) (
   space = first_space table tree user
 
   abbrev set : IsSettled space
-  set = opening.ready.settled
+  set = opening.prepared.settled
 
   abbrev same : IsSameProgram table tree user most x.file run.program
   same = run.same

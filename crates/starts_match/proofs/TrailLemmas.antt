@@ -9,10 +9,7 @@ use Rattle.pr_base.specs.declared.errno.Errno.TheVariants.{ELOOP, ENOENT, ENOTDI
 use Rattle.pr_base.specs.declared.path.Last.TheVariants as last
 use Rattle.pr_base.specs.declared.path.WalkMode.{WalkMode}
 use Rattle.pr_base.proofs.EndLemmas.{same_target}
-
-abbrev pub Each : {A : Type 0} → (A → Type 0) → List A → Type 0
-Each Q [] = Unit {0}
-Each Q (x ∷ xs) = Q x × Each Q xs
+use Rattle.programs_agree.proofs.EndLemmas.{Each}
 
 -- `Q` is what holds of each look
 module _ {S F : Type 0} (looking : Looking S F) (mode : WalkMode) (Q : LookedAt S → Type 0) where

@@ -15,18 +15,18 @@ use Rattle.kr_mounts.specs.Standing.{texts_of}
 use Rattle.kr_model.specs.State.{Image, State}
 use Rattle.kr_perform.specs.Lawful.{LastsLawful}
 use Rattle.kr_start.specs.Start.{CanBegin, First, first_pid, pinned, started, without_processes}
-use Rattle.kr_stage.specs.Ready.{IsReady}
+use Rattle.kr_stage.specs.Ready.{IsPrepared}
 use Rattle.walks_agree.specs.Settled.{host_text}
 use Rattle.walks_agree.specs.Standing.{IsEntryAt, StandsOn}
 use Rattle.places_stay.specs.Matching.{IsMatch}
 use Rattle.places_stay.specs.Standing.{AreSourcesNamed}
-use Rattle.starts_match.specs.Images.{IsImage}
+use Rattle.programs_agree.specs.Images.{IsImage}
 use Rattle.starts_match.specs.Spaces.{first_space}
 
 -- a tree that is kept, with mounts on which a kernel can begin. Each source is the entry at which it was settled
 pub record IsOpening (tree : Tree) (user : User) (table : List Row) : Type 0 where
   pub kept : IsKept tree
-  pub ready : IsReady tree user table
+  pub prepared : IsPrepared tree user table
   pub sources : AreSourcesNamed table tree
 
 -- a first process that begins at the guest texts of its working directory and of its program

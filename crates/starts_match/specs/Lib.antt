@@ -1,6 +1,6 @@
+pub use Rattle.turns_match.specs as turns_match
 pub mod Commands
 pub mod FirstStates
-pub mod Images
 pub mod Openings
 pub mod Plans
 pub mod Programs

@@ -21,6 +21,7 @@ use Rattle.kr_view.specs.View.{Row}
 use Rattle.kr_view.specs.declared.target.Reach.{Reach}
 use Rattle.kr_view.specs.declared.target.Target.{Target}
 use Rattle.pt_first.specs.Laws.{first_texts}
+use Rattle.programs_agree.specs.Ending.{ResultsAlike}
 use Rattle.walks_agree.specs.Settled.{IsSettled, host_text}
 use Rattle.walks_agree.specs.Standing.{IsEntryAt, StandsOn}
 use Rattle.starts_match.specs.Spaces.{first_space}
@@ -39,11 +40,6 @@ pub record IsSameProgram (table : List Row) (tree : Tree) (user : User) (most : 
   pub host : program.host ≡ text_of (host_text (first_space table tree user) guest)
   pub index : program.index ≡ index_of (texts_of table) guest
   pub head : program.head ≡ head_of tree target.found
-
--- the same error, or values that are alike
-pub data ResultsAlike {A B : Type 0} (R : A → B → Type 0) : Result A Errno → Result B Errno → Type 0 where
-  errs : (e : Errno) → ResultsAlike R (Err e) (Err e)
-  oks : {a : A} {b : B} → R a b → ResultsAlike R (Ok a) (Ok b)
 
 -- along one path from the working directory
 abbrev pub ProgramsAgree : Type 0

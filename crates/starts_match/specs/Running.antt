@@ -20,7 +20,8 @@ use Rattle.kr_view.specs.declared.target.Target.{Target}
 use Rattle.pt_first.specs.GuestStart.{run_from}
 use Rattle.pt_first.specs.Laws.{first_texts}
 use Rattle.walks_agree.specs.Settled.{IsSettled}
-use Rattle.starts_match.specs.Programs.{IsSameProgram, ResultsAlike}
+use Rattle.programs_agree.specs.Ending.{ResultsAlike}
+use Rattle.starts_match.specs.Programs.{IsSameProgram}
 use Rattle.starts_match.specs.Spaces.{first_space}
 use Rattle.starts_match.specs.Working.{StandsAt}
 

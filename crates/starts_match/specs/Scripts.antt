@@ -3,7 +3,7 @@ use Rattle.std.specs.Prelude.{◌≡◌, ◌≤◌, ℕ, List, Some}
 use Rattle.pt_bind.specs.Tags.{TagTable}
 use Rattle.pt_script.specs.Programs as texts
 use Rattle.pt_script.specs.declared.program.Program.{Program}
-use Rattle.kr_calls.specs.Expansion.{Expanded, expanded, most_scripts}
+use Rattle.kr_calls.specs.Expansion.{expanded, most_scripts}
 use Rattle.kr_exec.specs.Interpreters.{interpreters, programs, walks_reach}
 use Rattle.kr_first.specs.Starting.{around}
 use Rattle.kr_inode.specs.declared.user.User.{User}
@@ -14,15 +14,10 @@ use Rattle.kr_view.specs.declared.target.Reach.{Reach}
 use Rattle.kr_view.specs.declared.target.Target.{Target}
 use Rattle.pt_first.specs.Laws.{first_texts}
 use Rattle.walks_agree.specs.Settled.{IsSettled}
-use Rattle.starts_match.specs.Programs.{IsSameProgram, ResultsAlike}
+use Rattle.programs_agree.specs.Ending.{EndAlike, ResultsAlike}
+use Rattle.starts_match.specs.Programs.{IsSameProgram}
 use Rattle.starts_match.specs.Spaces.{first_space}
 use Rattle.starts_match.specs.Working.{StandsAt}
-
--- two ways of finding programs come to files that are alike, with the same arguments
-pub record EndAlike {F G : Type 0} (R : F → G → Type 0) (one : Expanded F) (other : Expanded G) : Type 0 where
-  pub file : R one.file other.file
-  pub args : one.args ≡ other.args
-  pub scripts : one.scripts ≡ other.scripts
 
 -- where the walks to all interpreters stay within a length
 abbrev pub ScriptsAgree : Type 0

@@ -33,7 +33,7 @@ use Rattle.kr_model.specs.declared.outcome.Outcome.TheVariants.{Answer}
 use Rattle.kr_allowed.proofs.DecodedLemmas.{decoding-leaves-pages}
 use Rattle.kr_allowed.proofs.RowLemmas.{StaysLike, lawful-image, stays-like}
 use Rattle.kr_allowed.specs.Told.{mounts_walked}
-use Rattle.kr_answers.specs.Carrying.{memory_of, with_memory_of}
+use Rattle.kr_seen.specs.Carrying.{memory_of, with_memory_of}
 use Rattle.kr_steps.specs.Answering.{answered, going, with_answer}
 use Rattle.kr_steps.specs.Calls.{IsNoExec, LastsLawful}
 use Rattle.kr_steps.specs.Computing.{computed}
@@ -46,11 +46,11 @@ use Rattle.kr_turns.proofs.EditLemmas.{edited-twice, image-edited, there}
 use Rattle.kr_turns.proofs.PlainLemmas.{no-exec-requested}
 use Rattle.pt_tracer.specs.Stopping.{after_request, decoded_at}
 use Rattle.pt_tracer.specs.Faking.{no_longer_called, word_of}
-use Rattle.pt_watched.specs.Planning.{edit_for, led_of, list_addresses, planned_by, texts_at}
-use Rattle.pt_watched.specs.Registers.{arguments_at}
-use Rattle.pt_watched.specs.Watched.{Tracing, after_decoding, after_plan, applied, awaiting, by_identities, entered, exited, keeping, tracer, with_pending}
-use Rattle.pt_watched.specs.declared.pending.Pending.{Pending}
-use Rattle.pt_watched.specs.declared.plan.Led.{Led}
+use Rattle.swaps_read.specs.pt_watched.Planning.{edit_for, led_of, list_addresses, planned_by, texts_at}
+use Rattle.swaps_read.specs.pt_watched.Registers.{arguments_at}
+use Rattle.swaps_read.specs.pt_watched.Watched.{Tracing, after_decoding, after_plan, applied, awaiting, by_identities, entered, exited, keeping, tracer, with_pending}
+use Rattle.swaps_read.specs.pt_watched.declared.pending.Pending.{Pending}
+use Rattle.swaps_read.specs.pt_watched.declared.plan.Led.{Led}
 use Rattle.places_stay.specs.Matching.{IsMatch}
 use Rattle.places_stay.proofs.TagLemmas.{found_is}
 use Rattle.swaps_read.specs.Answered.{StandsAtNoCall}

@@ -32,7 +32,7 @@ use Rattle.kr_model.specs.declared.outcome.Outcome.TheVariants.{Answer, Wait, En
 use Rattle.kr_allowed.specs.Told.{SourcesAreNamed, mounts_walked}
 use Rattle.kr_allowed.proofs.DecodedLemmas.{decoding-leaves-pages}
 use Rattle.kr_allowed.proofs.RowLemmas.{StaysLike}
-use Rattle.kr_answers.specs.Carrying.{memory_of}
+use Rattle.kr_seen.specs.Carrying.{memory_of}
 use Rattle.kr_calm.specs.Shelf.{has_path, is_usable, shelf_size, shelf_start, shelved_by, stack_pointer, with_shelf_marked}
 use Rattle.kr_steps.specs.Answering.{with_answer}
 use Rattle.kr_steps.specs.Calls.{LastsLawful}
@@ -48,11 +48,11 @@ use Rattle.kr_turns.specs.declared.plain.CallEnd.TheVariants as end
 use Rattle.kr_turns.proofs.EditLemmas.{there}
 use Rattle.kr_turns.proofs.PlainLemmas.{no-exec-requested}
 use Rattle.pt_tracer.specs.Stopping.{after_request, decoded_at}
-use Rattle.pt_watched.specs.Planning.{nowhere}
-use Rattle.pt_watched.specs.Registers.{arguments_at}
-use Rattle.pt_watched.specs.Watched.{Tracing, after_decoding, after_pending, answer_at, awaiting, entered, exited, tracer, with_pending, with_tags, without_pending}
-use Rattle.pt_watched.specs.declared.pending.Pending.{Pending}
-use Rattle.pt_watched.specs.declared.registers.Arguments.{Arguments}
+use Rattle.swaps_read.specs.pt_watched.Planning.{nowhere}
+use Rattle.swaps_read.specs.pt_watched.Registers.{arguments_at}
+use Rattle.swaps_read.specs.pt_watched.Watched.{Tracing, after_decoding, after_pending, answer_at, awaiting, entered, exited, tracer, with_pending, with_tags, without_pending}
+use Rattle.swaps_read.specs.pt_watched.declared.pending.Pending.{Pending}
+use Rattle.swaps_read.specs.pt_watched.declared.registers.Arguments.{Arguments}
 use Rattle.places_stay.specs.Matching.{IsMatch}
 use Rattle.turns_match.specs.Calls.{CameAlike, decoded_by, decoded_in, tags_behind}
 use Rattle.turns_match.specs.Lasting.{CanBeCalled}

@@ -23,10 +23,10 @@ use Rattle.kr_allowed.specs.Told.{mounts_walked}
 use Rattle.kr_allowed.proofs.DecodedLemmas.{decoded-are-givable, decoding-leaves-pages}
 use Rattle.kr_allowed.proofs.RowLemmas.{StaysLike, lawful-image, stays-like}
 use Rattle.kr_allowed.proofs.TargetLemmas.{walked-calls-leave-lawful}
-use Rattle.kr_answers.specs.Carrying.{memory_of, with_memory_of}
+use Rattle.kr_seen.specs.Carrying.{memory_of, with_memory_of}
 use Rattle.kr_calm.specs.Laws.{BreakNone, leaves_mark}
 use Rattle.kr_calm.proofs.ChangeLemmas.{both}
-use Rattle.kr_lasting.proofs.RoomLemmas.{lasting-room}
+use Rattle.kr_allowed.proofs.RoomLemmas.{lasting-room}
 use Rattle.kr_lawful.specs.Laws.{CanAllBeMade}
 use Rattle.kr_model.specs.Lawful.{IsLawful}
 use Rattle.kr_model.specs.Applied.{Mounts, all_applied, images}
@@ -56,11 +56,11 @@ use Rattle.kr_turns.specs.Watching.{unwatched}
 use Rattle.kr_turns.proofs.EditLemmas.{there as is_there}
 use Rattle.kr_turns.proofs.PlainLemmas.{no-exec-requested, no-exec-rule}
 use Rattle.pt_tracer.specs.Stopping.{after_request, decoded_at}
-use Rattle.pt_watched.specs.Planning.{edit_for, led_of, list_addresses, planned_by, texts_at}
-use Rattle.pt_watched.specs.Registers.{arguments_at}
-use Rattle.pt_watched.specs.Watched.{Tracing, after_decoding, after_plan, applied, awaiting, by_identities, entered, exited, is_execve, tracer, with_pending}
-use Rattle.pt_watched.specs.declared.pending.Pending.{Pending}
-use Rattle.pt_watched.specs.declared.plan.Led.{Led}
+use Rattle.swaps_read.specs.pt_watched.Planning.{edit_for, led_of, list_addresses, planned_by, texts_at}
+use Rattle.swaps_read.specs.pt_watched.Registers.{arguments_at}
+use Rattle.swaps_read.specs.pt_watched.Watched.{Tracing, after_decoding, after_plan, applied, awaiting, by_identities, entered, exited, is_execve, tracer, with_pending}
+use Rattle.swaps_read.specs.pt_watched.declared.pending.Pending.{Pending}
+use Rattle.swaps_read.specs.pt_watched.declared.plan.Led.{Led}
 use Rattle.images_apart.specs.Apart.{leave_images, leaves_images}
 use Rattle.images_apart.specs.Paths.{is_told_of_paths}
 use Rattle.images_apart.proofs.ApartLemmas.{changes_stand_apart}

@@ -23,10 +23,10 @@ use Rattle.kr_turns.specs.Watching.{unwatched}
 use Rattle.kr_turns.proofs.EditLemmas.{image-edited, there}
 use Rattle.pt_tracer.specs.Stopping.{after_request, decoded_at, memory_at}
 use Rattle.pt_tracer.specs.Faking.{no_longer_called, word_of}
-use Rattle.pt_watched.specs.Planning.{edit_for, led_of, planned_by, texts_at}
-use Rattle.pt_watched.specs.Registers.{arguments_at}
-use Rattle.pt_watched.specs.Watched.{Tracing, after_decoding, after_plan, applied, awaiting, by_identities, entered, refused, tracer, with_pending}
-use Rattle.pt_watched.specs.declared.plan.Led.{Led}
+use Rattle.swaps_read.specs.pt_watched.Planning.{edit_for, led_of, planned_by, texts_at}
+use Rattle.swaps_read.specs.pt_watched.Registers.{arguments_at}
+use Rattle.swaps_read.specs.pt_watched.Watched.{Tracing, after_decoding, after_plan, applied, awaiting, by_identities, entered, refused, tracer, with_pending}
+use Rattle.swaps_read.specs.pt_watched.declared.plan.Led.{Led}
 use Rattle.swaps_read.specs.NoCalls.{without_call}
 use Rattle.swaps_read.proofs.AnsweredLemmas.{answered_calls_are_none}
 use Rattle.turns_match.specs.Calls.{decoded_by, decoded_in}
@@ -41,8 +41,8 @@ use Rattle.pt_args.specs.Laws.{poked as pages_poked}
 use Rattle.pt_args.specs.declared.edit.Edit.{Edit}
 use Rattle.pt_args.specs.declared.edit.Edit.TheVariants.{Emulate, Pass, Swap}
 use Rattle.rv_mem.specs.Memory.{with_pages}
-use Rattle.pt_watched.specs.Poking.{may_poke, poked}
-use Rattle.pt_watched.specs.Registers.{with_arguments}
+use Rattle.swaps_read.specs.pt_watched.Poking.{may_poke, poked}
+use Rattle.swaps_read.specs.pt_watched.Registers.{with_arguments}
 use Rattle.swaps_read.proofs.StopLemmas.{items_put, register_set}
 use Rattle.stops_match.specs.Answering.{AnsweredCallsGoTogether, IsAnsweredAlike}
 use Rattle.stops_match.proofs.AnsweredLemmas.{answered_together}

@@ -18,8 +18,8 @@ use Rattle.kr_turns.specs.Stopped.{Stopped, edited}
 use Rattle.kr_turns.specs.Turn.{Machine}
 use Rattle.kr_turns.proofs.EditLemmas.{image-edited}
 use Rattle.pt_tracer.specs.Stopping.{after_request}
-use Rattle.pt_watched.specs.Planning.{edit_for, texts_at}
-use Rattle.pt_watched.specs.Watched.{Tracing, applied}
+use Rattle.swaps_read.specs.pt_watched.Planning.{edit_for, texts_at}
+use Rattle.swaps_read.specs.pt_watched.Watched.{Tracing, applied}
 use Rattle.walks_bare.specs.Facts.{AreSeenAlike}
 use Rattle.walks_bare.proofs.OneMountLemmas.{lawful_states_are_in_one_mount}
 use Rattle.walks_bare.proofs.SightLemmas.{plain_sight_is_bare}

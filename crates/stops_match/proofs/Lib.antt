@@ -1,3 +1,4 @@
+pub use Rattle.turns_match.proofs as turns_match
 pub mod AnsweredLemmas
 pub mod CallLemmas
 pub mod CarryLemmas
@@ -8,3 +9,16 @@ pub mod PassLemmas
 pub mod RegisterLemmas
 pub mod SwapLemmas
 pub mod TogetherLemmas
+pub mod AlongLemmas
+pub mod EditLemmas
+pub mod EntryLemmas
+pub mod GoingLemmas
+pub mod IdentityLemmas
+pub mod KernelLemmas
+pub mod KindLemmas
+pub mod PathlessLemmas
+pub mod ProgramLemmas
+pub mod ReadLemmas
+pub mod RunLemmas
+pub mod TakenLemmas
+pub mod WholeLemmas

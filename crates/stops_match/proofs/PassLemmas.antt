@@ -8,11 +8,11 @@ use Rattle.pt_results.specs.Notes.{noted, tags_after}
 use Rattle.pt_tracer.specs.Faking.{has_answered_zero}
 use Rattle.pt_tracer.specs.Stopping.{IsThere, Stopped, after_request, register_at, with_register}
 use Rattle.kr_turns.specs.Stopped.{edited, image_at}
-use Rattle.pt_watched.specs.Planning.{nowhere, planned}
-use Rattle.pt_watched.specs.Registers.{arguments_at, given_back}
-use Rattle.pt_watched.specs.Watched.{Tracing, after_decoding, after_pending, after_plan, answer_at, awaiting, begin_program, by_identities, give_back, if_answered, is_execve, returned, shown_to, with_pending, with_tags, without_pending}
-use Rattle.pt_watched.specs.declared.pending.Pending.{Pending}
-use Rattle.pt_watched.specs.declared.registers.Arguments.{Arguments}
+use Rattle.swaps_read.specs.pt_watched.Planning.{nowhere, planned}
+use Rattle.swaps_read.specs.pt_watched.Registers.{arguments_at, given_back}
+use Rattle.swaps_read.specs.pt_watched.Watched.{Tracing, after_decoding, after_pending, after_plan, answer_at, awaiting, begin_program, by_identities, give_back, if_answered, is_execve, returned, shown_to, with_pending, with_tags, without_pending}
+use Rattle.swaps_read.specs.pt_watched.declared.pending.Pending.{Pending}
+use Rattle.swaps_read.specs.pt_watched.declared.registers.Arguments.{Arguments}
 use Rattle.turns_match.specs.Pathless.{IsPathless}
 use Rattle.stops_match.specs.Passing.{EntriesPass, ExitsPass}
 

@@ -14,8 +14,8 @@ use Rattle.pt_args.specs.declared.edit.Edit.TheVariants.{Pass}
 use Rattle.pt_results.specs.Notes.{noted, tags_after}
 use Rattle.kr_view.specs.View.{Row, plain}
 use Rattle.kr_calls.specs.Decoding.{decoding}
-use Rattle.kr_bytes.specs.Bytes.{HasBytes}
-use Rattle.kr_bytes.proofs.LivingLemmas.{process-bytes}
+use Rattle.turns_match.specs.kr_bytes.Bytes.{HasBytes}
+use Rattle.turns_match.proofs.kr_bytes.LivingLemmas.{process-bytes}
 use Rattle.kr_calls.specs.PathTable.{path_at}
 use Rattle.kr_calls.specs.declared.request.Request.{Request}
 use Rattle.kr_calls.specs.declared.request.Request.TheVariants as call
@@ -27,12 +27,12 @@ use Rattle.kr_turns.specs.Turn.{Machine, called, calling, watched_call}
 use Rattle.kr_turns.specs.Watching.{unwatched}
 use Rattle.kr_turns.proofs.EditLemmas.{image-edited, there as is_there}
 use Rattle.pt_tracer.specs.Stopping.{after_request, decoded_at, memory_at}
-use Rattle.pt_watched.specs.Planning.{edit_for, led_of, planned_by, stack_at, texts_at}
-use Rattle.pt_watched.specs.Registers.{arguments_at}
-use Rattle.pt_watched.specs.Watched.{Applied, Tracing, after_decoding, after_plan, answer_at, applied, awaiting, by_identities, entered, exited, tracer, with_pending, with_tags, without_pending}
-use Rattle.pt_watched.specs.declared.pending.Pending.{Pending}
-use Rattle.pt_watched.specs.declared.plan.Led.{Led}
-use Rattle.pt_watched.specs.declared.registers.Arguments.{Arguments}
+use Rattle.swaps_read.specs.pt_watched.Planning.{edit_for, led_of, planned_by, stack_at, texts_at}
+use Rattle.swaps_read.specs.pt_watched.Registers.{arguments_at}
+use Rattle.swaps_read.specs.pt_watched.Watched.{Applied, Tracing, after_decoding, after_plan, answer_at, applied, awaiting, by_identities, entered, exited, tracer, with_pending, with_tags, without_pending}
+use Rattle.swaps_read.specs.pt_watched.declared.pending.Pending.{Pending}
+use Rattle.swaps_read.specs.pt_watched.declared.plan.Led.{Led}
+use Rattle.swaps_read.specs.pt_watched.declared.registers.Arguments.{Arguments}
 use Rattle.images_apart.specs.Paths.{is_told_of_paths}
 use Rattle.swaps_read.specs.Exits.{left_with}
 use Rattle.turns_match.specs.Calls.{decoded_by}

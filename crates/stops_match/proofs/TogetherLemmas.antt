@@ -2,7 +2,7 @@
 use Rattle.std.specs.FinMap as map
 use Rattle.std.proofs.Common.{◌≡◌, ◌<◌, ◌^◌, ℕ, suc, Bool, true, false, cond, List, Option, Some, None, Ok, Err, refl, sym, ap, subst, ◌∙◌}
 use Rattle.std.specs.Prelude.{IsSome}
-use Rattle.std.specs.Option.{option_map, option_map_or}
+use Rattle.std.specs.Option.{option_map}
 use Rattle.pr_base.specs.MountText.{MountText}
 use Rattle.rv_cpu.specs.Run.{Ran, ran}
 use Rattle.rv_cpu.specs.declared.event.Event.{Event}
@@ -15,14 +15,14 @@ use Rattle.kr_calls.specs.Arguments.{number}
 use Rattle.kr_calls.specs.Decoding.{Decoded, decoding}
 use Rattle.kr_model.specs.Lawful.{RiseFrom}
 use Rattle.kr_model.specs.State.{Image, Process, State, process}
-use Rattle.kr_bytes.specs.Bytes.{HasBytes}
-use Rattle.kr_bytes.specs.Turns.{WatchesBytes}
-use Rattle.kr_bytes.proofs.ChangeLemmas.{computing-keeps-bytes}
-use Rattle.kr_bytes.proofs.InstructionLemmas.{instructions-keep-bytes}
-use Rattle.kr_bytes.proofs.LivingLemmas.{process-bytes}
-use Rattle.kr_bytes.proofs.RegisterLemmas.{instructions-keep-registers}
-use Rattle.kr_bytes.proofs.StartLemmas.{tables-have-bytes}
-use Rattle.kr_bytes.proofs.TurnLemmas.{shelf-keeps, turn-runs}
+use Rattle.turns_match.specs.kr_bytes.Bytes.{HasBytes}
+use Rattle.turns_match.specs.kr_bytes.Turns.{WatchesBytes}
+use Rattle.turns_match.proofs.kr_bytes.ChangeLemmas.{computing-keeps-bytes}
+use Rattle.turns_match.proofs.kr_bytes.InstructionLemmas.{instructions-keep-bytes}
+use Rattle.turns_match.proofs.kr_bytes.LivingLemmas.{process-bytes}
+use Rattle.turns_match.proofs.kr_bytes.RegisterLemmas.{instructions-keep-registers}
+use Rattle.turns_match.proofs.kr_bytes.StartLemmas.{tables-have-bytes}
+use Rattle.turns_match.proofs.kr_bytes.TurnLemmas.{shelf-keeps, turn-runs}
 use Rattle.kr_calm.specs.Shelf.{has_path, is_usable, shelved_by, stack_pointer, with_shelf_marked}
 use Rattle.kr_steps.specs.Calls.{LastsLawful}
 use Rattle.kr_steps.specs.Computing.{computed}
@@ -34,8 +34,8 @@ use Rattle.kr_turns.specs.Stopped.{Stopped, image_in}
 use Rattle.kr_turns.specs.Turn.{Machine, after_born, after_event, by_pick, called, calling, turn, watched_call, with_broken}
 use Rattle.kr_turns.specs.Watching.{unwatched}
 use Rattle.pt_tracer.specs.Stopping.{after_request, decoded_at}
-use Rattle.pt_watched.specs.Watched.{Tracing, after_decoding, after_pending, begin_as, begin_program, by_identities, entered, exited, give_back, has_begun, tracer, with_tags, without_pending}
-use Rattle.pt_watched.specs.declared.pending.Pending.{Pending}
+use Rattle.swaps_read.specs.pt_watched.Watched.{Tracing, after_decoding, after_pending, begin_as, begin_program, by_identities, entered, exited, give_back, has_begun, tracer, with_tags, without_pending}
+use Rattle.swaps_read.specs.pt_watched.declared.pending.Pending.{Pending}
 use Rattle.pt_bind.specs.Tags.{with_tag}
 use Rattle.pt_bind.specs.declared.slot.Slot.TheVariants.{Exe}
 use Rattle.turns_match.specs.Quiet.{DropsTags, MakesNoCall}
@@ -51,7 +51,7 @@ use Rattle.turns_match.proofs.PickLemmas.{matches_go_on_alike}
 use Rattle.turns_match.proofs.QuietLemmas.{kept_none, picked_lives}
 use Rattle.turns_match.proofs.RunLemmas.{instructions_keep_matches}
 use Rattle.turns_match.proofs.UnreadLemmas.{calm_unread, unread_before}
-use Rattle.stops_match.specs.Together.{CallsGoTogether, CanRun, TracedRunsComeAlike, allowed_of, goes_by, gone_by, if_called, makes_allowed}
+use Rattle.stops_match.specs.Together.{CallsGoTogether, CanRun, TracedRunsComeAlike, any_call, goes_by, gone_by}
 use Rattle.stops_match.specs.Turning.{ComeToCall, Traces, tags_kept}
 use Rattle.stops_match.proofs.CallLemmas.{own_image}
 
@@ -122,7 +122,7 @@ module _ {S : Type 0} (table : List Row) (pid : ℕ) (m : Machine S) (p : Proces
       let decoded = calm_unread table pid (lacks_in 1 pid m.state) shelved (given pid own.regs (shelved_by 1 own.regs own.memory) p) there unbroken in
       ap (λ (i : Image). i.memory.read_marked) (sym (own_image pid m.state p lives)) ∙ sym (unread_shelf own.regs own.memory) ∙ unread_before (decoding own.regs) (shelved_by 1 own.regs own.memory) decoded
 
-module _ {S : Type 0} (allows : Stopped → Bool) (sound : Tracing → Bool) (table : List Row) (calls : CallsGoTogether S allows table) (can : CanRun sound table) (made : ℕ) (few : made < 2 ^ 31) (m : Machine S) (n : Machine Tracing) (both : GoTogether tags_kept table made m n)
+module _ {S : Type 0} (sound : Tracing → Bool) (table : List Row) (calls : CallsGoTogether S any_call table) (can : CanRun sound table) (made : ℕ) (few : made < 2 ^ 31) (m : Machine S) (n : Machine Tracing) (both : GoTogether tags_kept table made m n)
     (keep : KeepOn (gone_by table) (goes_by sound) m n) where
   traces : Traces table n.watcher
   traces = record { bindings = sym (ap (λ v. v.0) keep.agree); identities = sym (ap (λ v. v.1) keep.agree) }
@@ -133,7 +133,7 @@ module _ {S : Type 0} (allows : Stopped → Bool) (sound : Tracing → Bool) (ta
   drops : DropsTags tracer tags_kept
   drops x pid = refl
 
-  module _ (pick fuel : ℕ) (allowed : makes_allowed allows (record { pick = pick; fuel = fuel }) m ≡ true) (calm : (turn unwatched 1 table pick fuel m).tally.broken ≡ None) where
+  module _ (pick fuel : ℕ) (calm : (turn unwatched 1 table pick fuel m).tally.broken ≡ None) where
     quietly : MakesNoCall fuel (picked_process m.state pick) → GoTogether tags_kept table (suc made) (turn unwatched 1 table pick fuel m) (turn tracer 0 plain pick fuel n)
     quietly quiet = quiet_turns_go_together S Tracing unwatched tracer tags_kept table pick fuel made m n drops quiet calm both
 
@@ -190,7 +190,6 @@ module _ {S : Type 0} (allows : Stopped → Bool) (sound : Tracing → Bool) (ta
         also_lasts = subst (λ k. LastsLawful (λ m. m) plain made (computed k other_end.regs other_end.memory n.state)) (sym same) (run_lasts plain made fuel n.state q (subst (λ k. process k n.state ≡ Some q) same lives_too) both.also_lasts);
         few = few;
         named = can.named;
-        short = can.short;
         sized = sized m1.state (bytes_after m.state p lives keep.bytes);
         also_sized = sized n1.state (bytes_after n.state q lives_too keep.also_bytes);
         traces = traces;
@@ -198,12 +197,9 @@ module _ {S : Type 0} (allows : Stopped → Bool) (sound : Tracing → Bool) (ta
         lives = subst IsSome (sym (lives_computed pid end.regs end.memory m.state p lives)) refl;
       }
 
-      allowed_call : allows (calling 1 pid m1.state) ≡ true
-      allowed_call = sym (ap (λ e. if_called e (allows (calling 1 pid m1.state))) event) ∙ sym (ap (λ o. option_map_or (allowed_of allows fuel m) o true) is) ∙ allowed
-
       by_call : GoTogether tags_kept table (suc made) (turn unwatched 1 table pick fuel m) (turn tracer 0 plain pick fuel n)
       by_call =
-          let from = calls made pid m1 n1 comes allowed_call calm_call in
+          let from = calls made pid m1 n1 comes refl calm_call in
           subst (λ x. GoTogether tags_kept table (suc made) x (turn tracer 0 plain pick fuel n)) (sym mounted_is)
           (subst (GoTogether tags_kept table (suc made) (watched_call unwatched 1 table pid m1)) (sym traced_is) (record { matches = from.matches; lasts = from.lasts; also_lasts = from.also_lasts }))
 
@@ -237,9 +233,9 @@ module _ {S : Type 0} (allows : Stopped → Bool) (sound : Tracing → Bool) (ta
         record { bytes = mine.state; also_bytes = yours.state; agree = λ i. (sym yours.watcher.1.bindings i, sym yours.watcher.1.identities i, sym yours.watcher.0 i) }
 
 pub traced_runs_come_alike : (S : Type 0) → TracedRunsComeAlike S
-traced_runs_come_alike S allows sound table slots calls can turns m n few both keep each calm =
-    runs_come_alike S Tracing (List MountText × Option IdentityTable × Bool) unwatched tracer tags_kept (gone_by table) (goes_by sound) table slots (λ made. makes_allowed allows (slots made))
+traced_runs_come_alike S sound table slots calls can turns m n few both keep calm =
+    runs_come_alike S Tracing (List MountText × Option IdentityTable × Bool) unwatched tracer tags_kept (gone_by table) (goes_by sound) table slots
     (record {
-      together = λ made m n few both keep going allowed calm. turn_together allows sound table calls can made few m n both keep (slots made).pick (slots made).fuel allowed calm;
-      keeps = λ made m n few both keep going allowed calm. turn_keeps allows sound table calls can made few m n both keep (slots made).pick (slots made).fuel allowed calm;
-    }) turns m n few both keep each calm
+      together = λ made m n few both keep going calm. turn_together sound table calls can made few m n both keep (slots made).pick (slots made).fuel calm;
+      keeps = λ made m n few both keep going calm. turn_keeps sound table calls can made few m n both keep (slots made).pick (slots made).fuel calm;
+    }) turns m n few both keep calm

@@ -8,8 +8,8 @@ use Rattle.kr_model.specs.declared.outcome.Outcome.TheVariants.{Answer}
 use Rattle.kr_turns.specs.Turn.{Machine, calling, watched_call}
 use Rattle.kr_turns.specs.Watching.{unwatched}
 use Rattle.pt_tracer.specs.Stopping.{decoded_at, memory_at}
-use Rattle.pt_watched.specs.Planning.{edit_for, led_of, texts_at}
-use Rattle.pt_watched.specs.Watched.{Tracing, applied, tracer}
+use Rattle.swaps_read.specs.pt_watched.Planning.{edit_for, led_of, texts_at}
+use Rattle.swaps_read.specs.pt_watched.Watched.{Tracing, applied, tracer}
 use Rattle.images_apart.specs.Paths.{is_told_of_paths}
 use Rattle.turns_match.specs.Operating.{done_in}
 use Rattle.stops_match.specs.Cancelling.{at_first_stop}

@@ -13,8 +13,8 @@ use Rattle.kr_turns.specs.Turn.{Machine, calling, watched_call}
 use Rattle.kr_turns.specs.Watching.{unwatched}
 use Rattle.pt_args.specs.declared.edit.Edit.TheVariants.{Cancel}
 use Rattle.pt_tracer.specs.Stopping.{Stopped, after_request, decoded_at}
-use Rattle.pt_watched.specs.Planning.{edit_for, texts_at}
-use Rattle.pt_watched.specs.Watched.{Tracing, tracer}
+use Rattle.swaps_read.specs.pt_watched.Planning.{edit_for, texts_at}
+use Rattle.swaps_read.specs.pt_watched.Watched.{Tracing, tracer}
 use Rattle.stops_match.specs.Turning.{ComeFromCall, ComeToCall}
 
 -- the mounted machine as its process is at the call, behind decoding; the plain one as the tracer has read the call

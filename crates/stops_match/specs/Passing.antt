@@ -4,10 +4,10 @@ use Rattle.std.specs.Prelude.{◌≡◌, false, None, Some, Ok}
 use Rattle.kr_calls.specs.declared.request.Request.{Request}
 use Rattle.pt_results.specs.Notes.{noted, tags_after}
 use Rattle.pt_tracer.specs.Stopping.{IsThere, Stopped, after_request, decoded_at}
-use Rattle.pt_watched.specs.Planning.{nowhere}
-use Rattle.pt_watched.specs.Registers.{arguments_at}
-use Rattle.pt_watched.specs.Watched.{Tracing, answer_at, awaiting, entered, exited, is_execve, with_pending, with_tags, without_pending}
-use Rattle.pt_watched.specs.declared.pending.Pending.{Pending}
+use Rattle.swaps_read.specs.pt_watched.Planning.{nowhere}
+use Rattle.swaps_read.specs.pt_watched.Registers.{arguments_at}
+use Rattle.swaps_read.specs.pt_watched.Watched.{Tracing, answer_at, awaiting, entered, exited, is_execve, with_pending, with_tags, without_pending}
+use Rattle.swaps_read.specs.pt_watched.declared.pending.Pending.{Pending}
 use Rattle.turns_match.specs.Pathless.{IsPathless}
 
 -- at the first stop only what decoding reads is noted; what stands in the arguments is kept for the second

@@ -19,8 +19,8 @@ use Rattle.kr_model.specs.declared.outcome.Outcome.TheVariants.{Answer}
 use Rattle.kr_turns.specs.Turn.{Machine, calling, watched_call}
 use Rattle.kr_turns.specs.Watching.{unwatched}
 use Rattle.pt_tracer.specs.Stopping.{Stopped, after_request, decoded_at, memory_at}
-use Rattle.pt_watched.specs.Planning.{edit_for, led_of, stack_at, texts_at}
-use Rattle.pt_watched.specs.Watched.{Tracing, applied, tracer}
+use Rattle.swaps_read.specs.pt_watched.Planning.{edit_for, led_of, stack_at, texts_at}
+use Rattle.swaps_read.specs.pt_watched.Watched.{Tracing, applied, tracer}
 use Rattle.images_apart.specs.Paths.{is_told_of_paths}
 use Rattle.places_stay.specs.Changes.{NewPlacesStand}
 use Rattle.calm_places.specs.Keeping.{MovesStayInside}

@@ -1,27 +1,19 @@
 -- Runs of a machine with mounts that nobody watches, and of a plain one with the tracer, without an identity: where each call keeps both
 -- machines together, so does a run.
 use Rattle.std.specs.Prelude.{◌≡◌, ◌≤◌, ◌^◌, ℕ, Bool, true, List, Option, None}
-use Rattle.std.specs.Option.{option_map_or}
 use Rattle.pr_base.specs.MountText.{MountText}
-use Rattle.rv_cpu.specs.Run.{ran}
-use Rattle.rv_cpu.specs.declared.event.Event.{Event}
-use Rattle.rv_cpu.specs.declared.event.Event.TheVariants.{Call, Killed, Next}
 use Rattle.pt_ident.specs.IdentityTable.{IdentityTable}
 use Rattle.kr_view.specs.View.{Row, plain}
 use Rattle.kr_mounts.specs.Standing.{texts_of}
-use Rattle.kr_model.specs.State.{Image, Process}
 use Rattle.kr_allowed.specs.Told.{SourcesAreNamed}
-use Rattle.kr_bytes.specs.Bytes.{TableHasBytes}
-use Rattle.kr_bytes.specs.Turns.{WatchesBytes}
-use Rattle.kr_steps.specs.Computing.{computed}
-use Rattle.kr_steps.specs.Waiting.{picked_process}
+use Rattle.turns_match.specs.kr_bytes.Bytes.{TableHasBytes}
+use Rattle.turns_match.specs.kr_bytes.Turns.{WatchesBytes}
 use Rattle.kr_turns.specs.Run.{Slot, run}
 use Rattle.kr_turns.specs.Stopped.{Stopped}
 use Rattle.kr_turns.specs.Turn.{Machine, calling, watched_call}
 use Rattle.kr_turns.specs.Watching.{unwatched}
-use Rattle.pt_watched.specs.Watched.{Tracing, tracer}
-use Rattle.swaps_read.specs.Points.{PointsAreShort}
-use Rattle.turns_match.specs.Runs.{ComeAlike, EachTurn, GoTogether, KeepOn}
+use Rattle.swaps_read.specs.pt_watched.Watched.{Tracing, tracer}
+use Rattle.turns_match.specs.Runs.{ComeAlike, GoTogether, KeepOn}
 use Rattle.stops_match.specs.Turning.{ComeFromCall, ComeToCall, tags_kept}
 
 -- each call of a calm run of which a test holds, as the kernel with mounts is asked for it, keeps the machines together, with its stops
@@ -30,20 +22,8 @@ CallsGoTogether S allows table =
     (made pid : ℕ) (m : Machine S) (n : Machine Tracing) → ComeToCall table made pid m n → allows (calling 1 pid m.state) ≡ true → (watched_call unwatched 1 table pid m).tally.broken ≡ None
     → ComeFromCall table made (watched_call unwatched 1 table pid m) (watched_call tracer 0 plain pid n)
 
--- where instructions end in a call
-abbrev pub if_called : Event → Bool → Bool
-if_called Call allowed = allowed
-if_called Next allowed = true
-if_called (Killed signal) allowed = true
-
--- the test holds of the call to which a process comes in a turn, if it comes to one
-abbrev pub allowed_of : {S : Type 0} → (Stopped → Bool) → ℕ → Machine S → Process ℕ Image → Bool
-allowed_of allows fuel m p =
-    let end = ran fuel p.image.regs p.image.memory in
-    if_called end.event (allows (calling 1 p.pid (computed p.pid end.regs end.memory m.state)))
-
-abbrev pub makes_allowed : {S : Type 0} → (Stopped → Bool) → Slot → Machine S → Bool
-makes_allowed allows slot m = option_map_or (allowed_of allows slot.fuel m) (picked_process m.state slot.pick) true
+abbrev pub any_call : Stopped → Bool
+any_call t = true
 
 -- what the tracer goes by from turn to turn: the texts of the mounts, no identity, and what is sound by a test
 abbrev pub gone_by : {S : Type 0} → List Row → S → List MountText × Option IdentityTable × Bool
@@ -52,18 +32,17 @@ gone_by table x = (texts_of table, None, true)
 abbrev pub goes_by : (Tracing → Bool) → Tracing → List MountText × Option IdentityTable × Bool
 goes_by sound x = (x.bindings, x.identities, sound x)
 
--- what a run rests on: sources of mounts that are files have names, host names of mount points are short, the table is made of bytes, and
--- what the tracer puts into memory is, as long as it is sound
+-- what a run rests on: sources of mounts that are files have names, the table is made of bytes, and what the tracer
+-- puts into memory is, as long as it is sound
 pub record CanRun (sound : Tracing → Bool) (table : List Row) : Type 0 where
   pub named : SourcesAreNamed table
-  pub short : PointsAreShort table
   pub bytes : TableHasBytes table
   pub watches : WatchesBytes (λ x. sound x ≡ true) tracer
 
--- so a calm run of such calls and the watched one come to the same bytes, the same end, the same status and the same tree
+-- so where every call does, a calm run and the watched one come to the same bytes, the same end, the same status and the same tree
 abbrev pub TracedRunsComeAlike : Type 0 → Type 0
 TracedRunsComeAlike S =
-    (allows : Stopped → Bool) (sound : Tracing → Bool) (table : List Row) (slots : ℕ → Slot) → CallsGoTogether S allows table → CanRun sound table
+    (sound : Tracing → Bool) (table : List Row) (slots : ℕ → Slot) → CallsGoTogether S any_call table → CanRun sound table
     → (turns : ℕ) (m : Machine S) (n : Machine Tracing) → turns ≤ 2 ^ 31 → GoTogether tags_kept table 0 m n → KeepOn (gone_by table) (goes_by sound) m n
-    → EachTurn unwatched table slots (λ made. makes_allowed allows (slots made)) turns 0 m → (run unwatched 1 table slots turns m).machine.tally.broken ≡ None
+    → (run unwatched 1 table slots turns m).machine.tally.broken ≡ None
     → ComeAlike (run unwatched 1 table slots turns m) (run tracer 0 plain slots turns n)

@@ -6,14 +6,13 @@ use Rattle.kr_mounts.specs.Standing.{texts_of}
 use Rattle.kr_calls.specs.declared.request.Request.{Request}
 use Rattle.kr_model.specs.State.{process}
 use Rattle.kr_allowed.specs.Told.{SourcesAreNamed}
-use Rattle.kr_bytes.specs.Bytes.{HasBytes}
+use Rattle.turns_match.specs.kr_bytes.Bytes.{HasBytes}
 use Rattle.kr_steps.specs.Calls.{LastsLawful}
 use Rattle.kr_turns.specs.Turn.{Machine, calling, watched_call}
 use Rattle.kr_turns.specs.Watching.{unwatched}
 use Rattle.pt_bind.specs.Tags.{TagTable}
 use Rattle.pt_tracer.specs.Stopping.{decoded_at}
-use Rattle.pt_watched.specs.Watched.{Tracing, tracer}
-use Rattle.swaps_read.specs.Points.{PointsAreShort}
+use Rattle.swaps_read.specs.pt_watched.Watched.{Tracing, tracer}
 use Rattle.turns_match.specs.Pathless.{IsPathless}
 use Rattle.turns_match.specs.Quiet.{MachinesMatch}
 use Rattle.turns_match.specs.Sizes.{AreSized}
@@ -34,7 +33,6 @@ module _ {S : Type 0} (table : List Row) (made : ℕ) where
     pub also_lasts : LastsLawful (λ k. k) plain made n.state
     pub few : made < 2 ^ 31
     pub named : SourcesAreNamed table
-    pub short : PointsAreShort table
     pub sized : AreSized m.state
     pub also_sized : AreSized n.state
     pub traces : Traces table n.watcher

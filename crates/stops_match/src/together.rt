@@ -1,8 +1,8 @@
 //! Laws of runs of both machines, each carried by a function that does nothing.
 ghost use Rattle.stops_match.specs.Together.{TracedRunsComeAlike};
 
-/// Where each call of whose decoding a test holds keeps both machines together, a calm run of such calls and the watched one come to the
-/// same bytes, the same end, the same status and the same tree.
+/// Where each call keeps both machines together, a calm run and the watched one come to the same bytes, the same end, the same status and
+/// the same tree.
 pub fn traced_runs_come_alike<S>()
     ensures { TracedRunsComeAlike S }
 {}

@@ -9,15 +9,15 @@ use Rattle.rv_mem.specs.Memory.{Memory, with_pages}
 use Rattle.rv_mem.specs.declared.regs.Regs.{Regs}
 use Rattle.kr_calls.specs.Decoding.{Decoded, decoding}
 use Rattle.kr_model.specs.State.{Image, Process, process}
-use Rattle.kr_steps.specs.Computing.{computed}
+use Rattle.kr_turns.specs.kr_steps.Computing.{computed}
 use Rattle.kr_turns.specs.PlainCall.{after_decoding, plain_call_of, refusal_told}
 use Rattle.kr_turns.specs.Stopped.{IsThere, Stopped, edited, image_at, no_image}
 use Rattle.kr_turns.specs.declared.plain.CallEnd.TheVariants as end
 use Rattle.pt_args.specs.Laws.{poked as pages_poked}
 use Rattle.pt_args.specs.declared.edit.Edit.{Edit}
 use Rattle.pt_args.specs.declared.edit.Edit.TheVariants.{Cancel, Emulate, Pass, Swap}
-use Rattle.pt_tracer.specs.Faking.{no_call, no_longer_called}
-use Rattle.pt_tracer.specs.Stopping.{after_request, decoded_at, memory_at, with_memory}
+use Rattle.pt_watched.specs.pt_tracer.Faking.{no_call, no_longer_called}
+use Rattle.pt_watched.specs.pt_tracer.Stopping.{after_request, decoded_at, memory_at, with_memory}
 use Rattle.pt_watched.specs.Poking.{may_poke, poked}
 use Rattle.pt_watched.specs.Registers.{with_arguments}
 use Rattle.pt_watched.specs.Watched.{applied, refused}

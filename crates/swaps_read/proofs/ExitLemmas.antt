@@ -11,8 +11,8 @@ use Rattle.kr_calls.specs.declared.request.Request.{Request}
 use Rattle.kr_model.specs.State.{Image}
 use Rattle.kr_turns.specs.Stopped.{IsThere, Stopped, edited, image_at}
 use Rattle.pt_results.specs.Notes.{noted, tags_after}
-use Rattle.pt_tracer.specs.Faking.{has_answered_zero, no_call, word_of}
-use Rattle.pt_tracer.specs.Stopping.{after_request, decoded_at, memory_at, with_memory, with_register}
+use Rattle.pt_watched.specs.pt_tracer.Faking.{has_answered_zero, no_call, word_of}
+use Rattle.pt_watched.specs.pt_tracer.Stopping.{after_request, decoded_at, memory_at, with_memory, with_register}
 use Rattle.pt_watched.specs.Planning.{stack_at}
 use Rattle.pt_watched.specs.Registers.{arguments_at, given_back}
 use Rattle.pt_watched.specs.Watched.{Tracing, after_pending, answer_at, awaiting, begin_program, exited, give_back, has_begun, is_execve, returned, shown_to, with_tags, without_pending}

@@ -6,7 +6,7 @@ use Rattle.rv_mem.specs.Pages.{Pages, allows_all, written}
 use Rattle.rv_mem.specs.declared.regs.Regs.{Regs}
 use Rattle.rv_mem.specs.declared.rights.Use.TheVariants.{Write}
 use Rattle.kr_model.specs.State.{Image}
-use Rattle.pt_tracer.specs.Stopping.{after_poke, memory_at, with_register}
+use Rattle.pt_watched.specs.pt_tracer.Stopping.{after_poke, memory_at, with_register}
 use Rattle.kr_turns.specs.Stopped.{IsThere, Stopped, edited, image_at}
 use Rattle.kr_turns.proofs.EditLemmas.{computed-lives, edited-twice, image-edited}
 use Rattle.pt_args.specs.Laws.{StandBetween, poked as pages_poked}

@@ -12,7 +12,7 @@ use Rattle.kr_calls.specs.Decoding.{decoding}
 use Rattle.kr_calls.specs.declared.request.Request.{Request}
 use Rattle.kr_model.specs.State.{Image}
 use Rattle.kr_turns.specs.Stopped.{Stopped, edited, image_at}
-use Rattle.pt_tracer.specs.Stopping.{after_request, decoded_at, memory_at}
+use Rattle.pt_watched.specs.pt_tracer.Stopping.{after_request, decoded_at, memory_at}
 use Rattle.pt_args.specs.Laws.{ShelvesHoldTheirItems, TextsAreReadBack}
 use Rattle.pt_watched.specs.Planning.{stack_at}
 use Rattle.pt_watched.specs.Poking.{may_poke, poked}

@@ -7,7 +7,7 @@ use Rattle.kr_view.specs.View.{Row}
 use Rattle.kr_turns.specs.PlainCall.{after_decoding, plain_call, refusal_told}
 use Rattle.kr_turns.specs.Stopped.{IsThere, Stopped, image_at}
 use Rattle.pt_args.specs.declared.edit.Edit.{Edit}
-use Rattle.pt_tracer.specs.Stopping.{after_request, decoded_at, memory_at, with_memory}
+use Rattle.pt_watched.specs.pt_tracer.Stopping.{after_request, decoded_at, memory_at, with_memory}
 use Rattle.pt_watched.specs.Watched.{applied}
 use Rattle.swaps_read.specs.NoCalls.{without_call}
 

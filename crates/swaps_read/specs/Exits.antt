@@ -6,8 +6,8 @@ use Rattle.rv_mem.specs.Memory.{Memory}
 use Rattle.kr_calls.specs.declared.request.Request.{Request}
 use Rattle.kr_turns.specs.Stopped.{IsThere, Stopped, edited, image_at}
 use Rattle.pt_results.specs.Notes.{noted, tags_after}
-use Rattle.pt_tracer.specs.Faking.{word_of}
-use Rattle.pt_tracer.specs.Stopping.{after_request, decoded_at, memory_at, with_memory}
+use Rattle.pt_watched.specs.pt_tracer.Faking.{word_of}
+use Rattle.pt_watched.specs.pt_tracer.Stopping.{after_request, decoded_at, memory_at, with_memory}
 use Rattle.pt_watched.specs.Planning.{stack_at}
 use Rattle.pt_watched.specs.Registers.{arguments_at}
 use Rattle.pt_watched.specs.Watched.{Tracing, awaiting, exited, is_execve, with_tags, without_pending}

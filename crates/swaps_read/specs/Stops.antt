@@ -4,7 +4,7 @@ use Rattle.rv_mem.specs.Actions.{AreEqualUnmarked}
 use Rattle.rv_mem.specs.Memory.{Memory}
 use Rattle.kr_calls.specs.declared.request.Request.{Request}
 use Rattle.kr_turns.specs.Stopped.{IsThere, Stopped, edited, image_at}
-use Rattle.pt_tracer.specs.Stopping.{after_request, decoded_at, memory_at}
+use Rattle.pt_watched.specs.pt_tracer.Stopping.{after_request, decoded_at, memory_at}
 use Rattle.pt_watched.specs.Planning.{has_shelf, stack_at}
 use Rattle.pt_watched.specs.Watched.{Applied, applied}
 use Rattle.swaps_read.specs.Requests.{AreOfPaths, NewText, with_swaps}

@@ -1,8 +1,8 @@
 //! A call of the top call, and what came of it.
 
 use pr_base::Bytes;
+use pr_call::{Answer, Which, proot};
 use pr_io::{MemSink, MemSource};
-use pr_top::{Answer, Which, proot};
 use std::alloc::Global;
 use std::process::Abort;
 use std::test::Fail;

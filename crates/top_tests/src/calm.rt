@@ -5,7 +5,7 @@ use crate::call::{Asked, Moving, Told, call, compare};
 use fixtures::DATA;
 use guests::{coded, guest};
 use pr_base::Bytes;
-use pr_top::Answer;
+use pr_call::Answer;
 use std::alloc::Global;
 use std::process::Abort;
 use std::test::Fail;

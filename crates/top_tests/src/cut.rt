@@ -6,7 +6,7 @@ use elf_read::{ElfFault, check};
 use fixtures::HELLO;
 use kr_text::TreeWhy;
 use pr_base::Errno;
-use pr_top::Answer;
+use pr_call::Answer;
 use std::test::Fail;
 
 // A listing that is cut inside a line breaks the form of that line: each line ends with a newline.

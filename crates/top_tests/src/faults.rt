@@ -3,7 +3,7 @@
 use crate::call::{Asked, Moving, call};
 use crate::home::{HOME, RUN, SHOWN, WORDS};
 use guests::guest;
-use pr_top::{Answer, Which};
+use pr_call::{Answer, Which};
 use std::alloc::Global;
 use std::process::Abort;
 use std::test::Fail;

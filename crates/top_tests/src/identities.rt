@@ -3,7 +3,7 @@
 use crate::call::{Asked, Moving, call};
 use guests::guest;
 use pr_base::Bytes;
-use pr_top::Answer;
+use pr_call::Answer;
 use std::alloc::Global;
 use std::process::Abort;
 use std::test::Fail;

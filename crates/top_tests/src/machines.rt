@@ -5,7 +5,7 @@ use crate::home::{HOME, RUN, SHOWN, WORDS};
 use fixtures::DATA;
 use guests::guest;
 use pr_base::{Bytes, Errno};
-use pr_top::Answer;
+use pr_call::Answer;
 use std::alloc::Global;
 use std::process::Abort;
 use std::test::Fail;

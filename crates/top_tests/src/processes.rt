@@ -3,7 +3,7 @@
 
 use crate::call::{Asked, Moving, call, compare};
 use guests::{coded, guest};
-use pr_top::Answer;
+use pr_call::Answer;
 use std::alloc::Global;
 use std::process::Abort;
 use std::test::Fail;

@@ -3,7 +3,7 @@
 use crate::call::{Asked, Moving, call, compare};
 use fixtures::HELLO;
 use pr_base::{Bytes, Errno, NoMemory};
-use pr_top::Answer;
+use pr_call::Answer;
 use std::alloc::Global;
 use std::test::Fail;
 

@@ -4,7 +4,7 @@ use crate::call::{Asked, Moving, call, compare};
 use fixtures::{DATA, HELLO};
 use kr_mounts::BindWhy;
 use kr_text::TreeWhy;
-use pr_top::{Answer, Which};
+use pr_call::{Answer, Which};
 use pr_words::Why;
 use std::alloc::Global;
 use std::process::Abort;

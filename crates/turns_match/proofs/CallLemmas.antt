@@ -15,9 +15,9 @@ use Rattle.kr_model.specs.Walks.{seen, targets_of}
 use Rattle.kr_model.specs.declared.outcome.Outcome.TheVariants.{Answer}
 use Rattle.kr_allowed.specs.Told.{mounts_walked}
 use Rattle.kr_steps.specs.Calls.{IsNoExec}
-use Rattle.kr_turns.specs.PlainCall.{Came, after_decoding, child_of, end_of, operated, plain_call, plain_call_of, refusal_told}
-use Rattle.kr_turns.specs.declared.plain.CallEnd.TheVariants as end
-use Rattle.kr_turns.proofs.PlainLemmas.{no-exec-requested}
+use Rattle.kr_bytes.specs.kr_turns.PlainCall.{Came, after_decoding, child_of, end_of, operated, plain_call, plain_call_of, refusal_told}
+use Rattle.kr_bytes.specs.kr_turns.declared.plain.CallEnd.TheVariants as end
+use Rattle.kr_bytes.proofs.kr_turns.PlainLemmas.{no-exec-requested}
 use Rattle.places_stay.specs.Matching.{IsMatch}
 use Rattle.turns_match.specs.Calls.{CallsComeAlike, CameAlike, IsToldAlike, RefusedCallsComeAlike, StandsAtCall, decoded_by, decoded_in, tags_behind}
 use Rattle.turns_match.specs.Operating.{behind, done_in}

@@ -11,9 +11,9 @@ use Rattle.rv_mem.specs.declared.regs.Regs.{Regs}
 use Rattle.kr_view.specs.View.{Row}
 use Rattle.kr_calls.specs.Decoding.{decoding}
 use Rattle.kr_calls.specs.declared.request.Request.{Request}
-use Rattle.kr_lasting.specs.Lasting.{Lasts}
-use Rattle.kr_lasting.proofs.ChangeLemmas.{modest-last}
-use Rattle.kr_lasting.proofs.RoomLemmas.{lasting-room}
+use Rattle.kr_allowed.specs.Lasting.{Lasts}
+use Rattle.kr_allowed.proofs.ChangeLemmas.{modest-last}
+use Rattle.kr_allowed.proofs.RoomLemmas.{lasting-room}
 use Rattle.kr_lawful.proofs.ProcessChangeLemmas.{found}
 use Rattle.kr_model.specs.Applied.{Mounts, with_image, with_living}
 use Rattle.kr_model.specs.Known.{known}
@@ -28,16 +28,16 @@ use Rattle.kr_allowed.specs.Told.{mounts_walked}
 use Rattle.kr_allowed.proofs.DecodedLemmas.{decoded-are-givable, decoding-leaves-pages}
 use Rattle.kr_allowed.proofs.RowLemmas.{lawful-image, stays-like}
 use Rattle.kr_allowed.proofs.TargetLemmas.{walked-calls-leave-lawful}
-use Rattle.kr_answers.specs.Carrying.{after_row, memory_of, with_memory, with_memory_of}
+use Rattle.kr_seen.specs.Carrying.{after_row, memory_of, with_memory, with_memory_of}
 use Rattle.kr_resolved.proofs.AroundLemmas.{lead_to_places}
 use Rattle.kr_resolved.proofs.NamingLemmas.{walks_name}
 use Rattle.kr_steps.specs.Answering.{going, with_answer}
 use Rattle.kr_steps.specs.Calls.{IsNoExec, LastsLawful}
 use Rattle.kr_steps.specs.Computing.{computed}
 use Rattle.kr_steps.specs.Settling.{settled}
-use Rattle.kr_turns.specs.Breaking.{no_mounts}
-use Rattle.kr_turns.specs.PlainCall.{Came, plain_call}
-use Rattle.kr_turns.proofs.PlainLemmas.{no-exec-requested}
+use Rattle.kr_bytes.specs.kr_turns.Breaking.{no_mounts}
+use Rattle.kr_bytes.specs.kr_turns.PlainCall.{Came, plain_call}
+use Rattle.kr_bytes.proofs.kr_turns.PlainLemmas.{no-exec-requested}
 use Rattle.places_stay.proofs.TagLemmas.{found_is}
 use Rattle.turns_match.specs.Calls.{decoded_by, decoded_in}
 use Rattle.turns_match.specs.Lasting.{CallsLast, CanBeCalled, LeavesLasting, RefusedCallsLast}

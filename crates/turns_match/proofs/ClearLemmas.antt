@@ -6,8 +6,8 @@ use Rattle.kr_view.specs.View.{Row, plain}
 use Rattle.kr_model.specs.Lawful.{IsLawful}
 use Rattle.kr_model.specs.State.{Image, State}
 use Rattle.kr_steps.specs.Calls.{LastsLawful}
-use Rattle.kr_turns.specs.Run.{after_put, cleared}
-use Rattle.kr_turns.specs.Turn.{Machine}
+use Rattle.kr_bytes.specs.kr_turns.Run.{after_put, cleared}
+use Rattle.kr_bytes.specs.kr_turns.Turn.{Machine}
 use Rattle.places_stay.specs.Matching.{IsMatch}
 use Rattle.places_stay.specs.Standing.{PlacesStand}
 use Rattle.places_stay.specs.Uses.{IsUse, Use, is_cwd, is_exe, is_open}

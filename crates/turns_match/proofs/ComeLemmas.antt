@@ -1,5 +1,5 @@
 -- Runs of machines that match, turn by turn.
-use Rattle.std.proofs.Common.{◌≡◌, ◌+◌, ◌≤◌, ◌^◌, ℕ, zero, suc, Bool, List, ◌∷◌, Option, Some, None, refl, sym, ap, subst, ◌∙◌, arith}
+use Rattle.std.proofs.Common.{◌≡◌, ◌+◌, ◌≤◌, ◌^◌, ℕ, zero, suc, List, ◌∷◌, Option, Some, None, refl, sym, ap, subst, ◌∙◌, arith}
 use Rattle.std.specs.Option.{option_map_or}
 use Rattle.pt_bind.specs.Tags.{TagTable}
 use Rattle.rv_cpu.specs.Run.{ran}
@@ -13,17 +13,17 @@ use Rattle.kr_model.specs.State.{Image, Process, State, process}
 use Rattle.kr_bytes.specs.Bytes.{HasBytes}
 use Rattle.kr_calm.specs.Calm.{kept}
 use Rattle.kr_steps.specs.Waiting.{picked_process}
-use Rattle.kr_turns.specs.Run.{Ending, Spent, Slot, after_put, cleared, ended, ending_of, put_by, run_from, turned, with_put}
-use Rattle.kr_turns.specs.Stopped.{Stopped}
-use Rattle.kr_turns.specs.Breaking.{plain_rule}
-use Rattle.kr_turns.specs.PlainCall.{plain_call}
-use Rattle.kr_turns.specs.Shelving.{lacks_in}
-use Rattle.kr_turns.specs.Turn.{Machine, Tally, after_born, after_end, after_event, after_exit, by_pick, called, calling, turn, with_broken}
-use Rattle.kr_turns.specs.Watching.{Watcher}
-use Rattle.kr_turns.specs.declared.plain.CallEnd.{CallEnd}
-use Rattle.kr_turns.specs.declared.plain.CallEnd.TheVariants as end
+use Rattle.kr_bytes.specs.kr_turns.Run.{Ending, Spent, Slot, after_put, cleared, ended, ending_of, put_by, run_from, turned, with_put}
+use Rattle.kr_bytes.specs.kr_turns.Stopped.{Stopped}
+use Rattle.kr_bytes.specs.kr_turns.Breaking.{plain_rule}
+use Rattle.kr_bytes.specs.kr_turns.PlainCall.{plain_call}
+use Rattle.kr_bytes.specs.kr_turns.Shelving.{lacks_in}
+use Rattle.kr_bytes.specs.kr_turns.Turn.{Machine, Tally, after_born, after_end, after_event, after_exit, by_pick, called, calling, turn, with_broken}
+use Rattle.kr_bytes.specs.kr_turns.Watching.{Watcher}
+use Rattle.kr_bytes.specs.kr_turns.declared.plain.CallEnd.{CallEnd}
+use Rattle.kr_bytes.specs.kr_turns.declared.plain.CallEnd.TheVariants as end
 use Rattle.turns_match.specs.Quiet.{MachinesMatch}
-use Rattle.turns_match.specs.Runs.{ComeAlike, EachTurn, GoTogether, KeepOn, RunsComeAlike, TurnsGoTogether}
+use Rattle.turns_match.specs.Runs.{ComeAlike, GoTogether, KeepOn, RunsComeAlike, TurnsGoTogether}
 use Rattle.turns_match.proofs.ClearLemmas.{go_cleared}
 use Rattle.turns_match.proofs.PickLemmas.{matches_go_on_alike}
 
@@ -93,7 +93,7 @@ bytes_cleared s has = record { tree = has.tree; processes = has.processes; files
 
 -- ---- turn by turn
 
-module _ {S T V : Type 0} (watcher : Watcher S) (tracer : Watcher T) (tags_in : T → TagTable) (mine : S → V) (yours : T → V) (table : List Row) (slots : ℕ → Slot) (holds : ℕ → Machine S → Bool) (turns : TurnsGoTogether watcher tracer tags_in mine yours table slots holds) where
+module _ {S T V : Type 0} (watcher : Watcher S) (tracer : Watcher T) (tags_in : T → TagTable) (mine : S → V) (yours : T → V) (table : List Row) (slots : ℕ → Slot) (turns : TurnsGoTogether watcher tracer tags_in mine yours table slots) where
   -- the bytes that were put out are none of it
   keep_cleared : (m : Machine S) (n : Machine T) → KeepOn mine yours m n → KeepOn mine yours (after_put m) (after_put n)
   keep_cleared m n keeps = record { bytes = bytes_cleared m.state keeps.bytes; also_bytes = bytes_cleared n.state keeps.also_bytes; agree = keeps.agree }
@@ -101,15 +101,15 @@ module _ {S T V : Type 0} (watcher : Watcher S) (tracer : Watcher T) (tags_in : 
   ends_at_once : (m : Machine S) (n : Machine T) → MachinesMatch tags_in table m n → ending_of m ≡ ending_of n
   ends_at_once m n match = (matches_go_on_alike table (tags_in n.watcher) m n match.states).ends
 
-  come_alike : (left made : ℕ) (m : Machine S) (n : Machine T) → made + left ≤ 2 ^ 31 → GoTogether tags_in table made m n → KeepOn mine yours m n → EachTurn watcher table slots holds left made m → (run_from watcher 1 table slots left made m).machine.tally.broken ≡ None
+  come_alike : (left made : ℕ) (m : Machine S) (n : Machine T) → made + left ≤ 2 ^ 31 → GoTogether tags_in table made m n → KeepOn mine yours m n → (run_from watcher 1 table slots left made m).machine.tally.broken ≡ None
       → ComeAlike (run_from watcher 1 table slots left made m) (run_from tracer 0 plain slots left made n)
-  unfolding run_from EachTurn
-  come_alike zero made m n few both keeps each calm =
+  unfolding run_from
+  come_alike zero made m n few both keeps calm =
       subst (λ o. ComeAlike (ended m (option_map_or (λ e. e) (ending_of m) Spent)) (ended n (option_map_or (λ e. e) o Spent))) (ends_at_once m n both.matches)
       (end_alike tags_in table m n both.matches (option_map_or (λ e. e) (ending_of m) Spent))
-  come_alike (suc left) made m n few both keeps each calm =
+  come_alike (suc left) made m n few both keeps calm =
       by (ending_of m) refl (ending_of n) (ends_at_once m n both.matches)
-      (λ next kept. come_alike left (suc made) (after_put (turned watcher 1 table slots made m)) (after_put (turned tracer 0 plain slots made n)) (omega (arith, few)) next kept each.1) calm
+      (λ next kept. come_alike left (suc made) (after_put (turned watcher 1 table slots made m)) (after_put (turned tracer 0 plain slots made n)) (omega (arith, few)) next kept) calm
     where
       one : Machine S
       one = turned watcher 1 table slots made m
@@ -126,8 +126,8 @@ module _ {S T V : Type 0} (watcher : Watcher S) (tracer : Watcher T) (tags_in : 
           → ComeAlike (option_map_or (ended m) o (with_put (put_by one) (run_from watcher 1 table slots left (suc made) (after_put one)))) (option_map_or (ended n) x (with_put (put_by other) (run_from tracer 0 plain slots left (suc made) (after_put other))))
       by None is None also later calm =
           let turn_calm = run_unbroken watcher table slots left (suc made) (after_put one) calm in
-          let after = turns.together made m n (omega (arith, few)) both keeps is (each.0 is) turn_calm in
-          let rest = later (go_cleared tags_in table (suc made) one other after) (keep_cleared one other (turns.keeps made m n (omega (arith, few)) both keeps is (each.0 is) turn_calm)) calm in
+          let after = turns.together made m n (omega (arith, few)) both keeps is turn_calm in
+          let rest = later (go_cleared tags_in table (suc made) one other after) (keep_cleared one other (turns.keeps made m n (omega (arith, few)) both keeps is turn_calm)) calm in
           record { puts = λ i. same_put tags_in table one other after.matches i ∷ rest.puts i; endings = rest.endings; statuses = rest.statuses; trees = rest.trees }
       by (Some e) is (Some x) also later calm = subst (λ y. ComeAlike (ended m e) (ended n y)) (some_same (sym is ∙ also)) (end_alike tags_in table m n both.matches e)
         where
@@ -143,4 +143,4 @@ module _ {S T V : Type 0} (watcher : Watcher S) (tracer : Watcher T) (tags_in : 
           never e = cc
 
 pub runs_come_alike : (S T V : Type 0) → RunsComeAlike S T V
-runs_come_alike S T V watcher tracer tags_in mine yours table slots holds together turns m n few both keeps each calm = come_alike watcher tracer tags_in mine yours table slots holds together turns 0 m n (omega (arith, few)) both keeps each calm
+runs_come_alike S T V watcher tracer tags_in mine yours table slots together turns m n few both keeps calm = come_alike watcher tracer tags_in mine yours table slots together turns 0 m n (omega (arith, few)) both keeps calm

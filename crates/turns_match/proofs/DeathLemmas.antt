@@ -5,7 +5,7 @@ use Rattle.kr_calm.specs.Rules.{breaks_6, changes_break_3, changes_break_4, chan
 use Rattle.kr_model.specs.Applied.{images}
 use Rattle.kr_model.specs.Change.{End}
 use Rattle.kr_model.specs.State.{Image, Process, process}
-use Rattle.kr_turns.specs.Breaking.{no_mounts, nothing_reached}
+use Rattle.kr_bytes.specs.kr_turns.Breaking.{no_mounts, nothing_reached}
 use Rattle.turns_match.specs.Changing.{DeathsKeepMatches}
 use Rattle.turns_match.proofs.KeepLemmas.{changes_keep_matches}
 use Rattle.turns_match.proofs.RunLemmas.{lives_too}

@@ -6,8 +6,8 @@ use Rattle.rv_cpu.specs.Run.{ran}
 use Rattle.rv_cpu.specs.declared.event.Event.{Event}
 use Rattle.rv_cpu.specs.declared.event.Event.TheVariants.{Next, Call, Killed}
 use Rattle.kr_view.specs.View.{Row, plain}
-use Rattle.kr_lasting.specs.Lasting.{AreModest}
-use Rattle.kr_lasting.proofs.ChangeLemmas.{modest-last}
+use Rattle.kr_allowed.specs.Lasting.{AreModest}
+use Rattle.kr_allowed.proofs.ChangeLemmas.{modest-last}
 use Rattle.kr_lawful.specs.Laws.{CanAllBeMade}
 use Rattle.kr_lawful.proofs.ChangeLemmas.{all-changes-keep}
 use Rattle.kr_lawful.proofs.ProcessChangeLemmas.{found}
@@ -19,9 +19,9 @@ use Rattle.kr_steps.specs.Calls.{LastsLawful}
 use Rattle.kr_steps.specs.Computing.{computed}
 use Rattle.kr_steps.specs.Waiting.{picked_process}
 use Rattle.kr_steps.proofs.ComputingLemmas.{ran-stays-like}
-use Rattle.kr_turns.specs.Breaking.{no_mounts}
-use Rattle.kr_turns.specs.Turn.{Machine, after_event, by_pick, turn}
-use Rattle.kr_turns.specs.Watching.{Watcher}
+use Rattle.kr_bytes.specs.kr_turns.Breaking.{no_mounts}
+use Rattle.kr_bytes.specs.kr_turns.Turn.{Machine, after_event, by_pick, turn}
+use Rattle.kr_bytes.specs.kr_turns.Watching.{Watcher}
 use Rattle.turns_match.specs.Quiet.{MakesNoCall}
 use Rattle.turns_match.specs.Runs.{QuietTurnsGoTogether}
 use Rattle.turns_match.proofs.ImageLemmas.{given}

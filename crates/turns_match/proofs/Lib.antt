@@ -1,3 +1,4 @@
+pub use Rattle.kr_bytes.proofs as kr_bytes
 pub mod AlikeLemmas
 pub mod CallLemmas
 pub mod CalledLemmas

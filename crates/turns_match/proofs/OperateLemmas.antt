@@ -22,8 +22,8 @@ use Rattle.kr_model.specs.State.{Image, Process, State, image_layout, is_pid, pr
 use Rattle.kr_model.proofs.CallLemmas.{calls-alike}
 use Rattle.kr_lawful.specs.Laws.{CanAllBeMade}
 use Rattle.kr_allowed.proofs.RowLemmas.{StaysLike, stays-like}
-use Rattle.kr_answers.specs.Carrying.{after_row, memory_of, no_memory, with_memory, with_memory_of}
-use Rattle.kr_answers.proofs.CarryLemmas.{agree}
+use Rattle.kr_seen.specs.Carrying.{after_row, memory_of, no_memory, with_memory, with_memory_of}
+use Rattle.kr_seen.proofs.CarryLemmas.{agree}
 use Rattle.kr_steps.specs.Computing.{computed}
 use Rattle.kr_steps.specs.Settling.{settled}
 use Rattle.places_stay.specs.Matching.{IsMatch}

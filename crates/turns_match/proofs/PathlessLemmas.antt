@@ -25,7 +25,7 @@ use Rattle.kr_model.specs.declared.outcome.Outcome.TheVariants.{Ended}
 use Rattle.kr_allowed.specs.Allowed.{LeavesLawful}
 use Rattle.kr_allowed.specs.Told.{mounts_walked}
 use Rattle.kr_allowed.proofs.RowLemmas.{StaysLike, stays-like}
-use Rattle.kr_answers.specs.Carrying.{memory_of}
+use Rattle.kr_seen.specs.Carrying.{memory_of}
 use Rattle.kr_calm.specs.Foreseen.{gives_owner, is_foreseen}
 use Rattle.kr_calm.specs.Rules.{changes_break_3, changes_break_4, changes_break_5}
 use Rattle.kr_calm.specs.Laws.{leaves_mark}
@@ -35,9 +35,9 @@ use Rattle.kr_calm.proofs.MildLemmas.{ComesTo, are_mild, comes_to, is_mild, mild
 use Rattle.kr_calm.proofs.UnjudgedLemmas.{others-leave}
 use Rattle.kr_steps.specs.Calls.{IsNoExec}
 use Rattle.kr_steps.specs.Computing.{computed}
-use Rattle.kr_turns.specs.Breaking.{decoded_rule, operated_rule, plain_rule, plain_rule_of}
-use Rattle.kr_turns.specs.PlainCall.{plain_call}
-use Rattle.kr_turns.proofs.PlainLemmas.{no-exec-rule}
+use Rattle.kr_bytes.specs.kr_turns.Breaking.{decoded_rule, operated_rule, plain_rule, plain_rule_of}
+use Rattle.kr_bytes.specs.kr_turns.PlainCall.{plain_call}
+use Rattle.kr_bytes.proofs.kr_turns.PlainLemmas.{no-exec-rule}
 use Rattle.places_stay.specs.Changes.{NewPlaceStands, NewPlacesStand}
 use Rattle.places_stay.specs.Matching.{AreTagged, IsMatch}
 use Rattle.places_stay.specs.Standing.{PlacesStand}

@@ -13,7 +13,7 @@ use Rattle.kr_model.specs.State.{Image, Process, State, image_layout, is_pid}
 use Rattle.kr_model.proofs.KnownLemmas.{known-bare}
 use Rattle.kr_lawful.proofs.SumLemmas.{other-test}
 use Rattle.kr_steps.specs.Waiting.{goes_on, ready_processes, still_waits}
-use Rattle.kr_turns.specs.Run.{Deadlock, Over, if_any}
+use Rattle.kr_bytes.specs.kr_turns.Run.{Deadlock, Over, if_any}
 use Rattle.places_stay.specs.Matching.{IsMatch}
 use Rattle.turns_match.specs.Turning.{MatchesGoOnAlike}
 use Rattle.turns_match.proofs.MatchLemmas.{pids_in, same_pids}

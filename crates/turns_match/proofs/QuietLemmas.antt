@@ -13,15 +13,15 @@ use Rattle.kr_lawful.proofs.ProcessChangeLemmas.{found}
 use Rattle.kr_model.specs.Lawful.{IsLawful, RiseFrom}
 use Rattle.kr_model.specs.State.{Image, Process, State, at_pid, process}
 use Rattle.kr_allowed.proofs.RowLemmas.{lawful-image}
-use Rattle.kr_answers.specs.Carrying.{memory_of, no_memory}
+use Rattle.kr_seen.specs.Carrying.{memory_of, no_memory}
 use Rattle.kr_calm.specs.Calm.{kept}
 use Rattle.kr_core.proofs.KernelLemmas.{found-of}
 use Rattle.kr_steps.specs.Computing.{computed}
 use Rattle.kr_steps.specs.Waiting.{goes_on, picked_process, ready_processes}
 use Rattle.kr_steps.proofs.ComputingLemmas.{ran-stays-like}
-use Rattle.kr_turns.specs.Breaking.{idle_rule, killed_rule}
-use Rattle.kr_turns.specs.Turn.{Machine, after_event, by_pick, turn, turn_of}
-use Rattle.kr_turns.specs.Watching.{Watcher}
+use Rattle.kr_bytes.specs.kr_turns.Breaking.{idle_rule, killed_rule}
+use Rattle.kr_bytes.specs.kr_turns.Turn.{Machine, after_event, by_pick, turn, turn_of}
+use Rattle.kr_bytes.specs.kr_turns.Watching.{Watcher}
 use Rattle.calm_places.proofs.InUseLemmas.{neither}
 use Rattle.places_stay.specs.Matching.{IsMatch}
 use Rattle.places_stay.proofs.TagLemmas.{found_is}

@@ -14,7 +14,7 @@ use Rattle.kr_model.specs.Change.{Change, AddNode, LinkNode, RemoveName, MoveNam
 use Rattle.kr_model.specs.State.{Image, Process, State, at_pid, is_pid, named, process, with_descs, with_process}
 use Rattle.kr_model.specs.declared.outcome.Outcome.{Outcome}
 use Rattle.kr_model.specs.declared.outcome.Outcome.TheVariants.{Answer, Wait, Ended, NoMemory}
-use Rattle.kr_answers.specs.Carrying.{with_memory, with_memory_of}
+use Rattle.kr_seen.specs.Carrying.{with_memory, with_memory_of}
 use Rattle.kr_lawful.proofs.ProcessChangeLemmas.{found}
 use Rattle.kr_steps.specs.Answering.{going, with_answer}
 use Rattle.kr_steps.specs.Settling.{settled}

@@ -26,8 +26,8 @@ use Rattle.kr_model.specs.State.{Image, Process, State, process}
 use Rattle.kr_allowed.proofs.RowLemmas.{StaysLike, stays-like}
 use Rattle.kr_steps.specs.Computing.{computed}
 use Rattle.kr_steps.proofs.ComputingLemmas.{ran-stays-like}
-use Rattle.kr_turns.specs.Shelving.{shelved_in}
-use Rattle.kr_turns.specs.Stopped.{image_in, no_image}
+use Rattle.kr_bytes.specs.kr_turns.Shelving.{shelved_in}
+use Rattle.kr_bytes.specs.kr_turns.Stopped.{image_in, no_image}
 use Rattle.places_stay.specs.Matching.{IsMatch}
 use Rattle.turns_match.specs.Turning.{ComputeAlike, DecodeAlike, DecodingsKeepMatches, InstructionsKeepMatches, ShelvesKeepMatches}
 use Rattle.turns_match.proofs.MatchLemmas.{match_computed}

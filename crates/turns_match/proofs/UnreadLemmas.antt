@@ -12,10 +12,10 @@ use Rattle.kr_model.specs.Known.{known}
 use Rattle.kr_model.specs.Operation.{operation}
 use Rattle.kr_model.specs.State.{Image, Process, State, image_layout, process}
 use Rattle.kr_model.specs.Walks.{seen}
-use Rattle.kr_answers.specs.Carrying.{memory_of}
+use Rattle.kr_seen.specs.Carrying.{memory_of}
 use Rattle.kr_calm.proofs.ChangeLemmas.{marks_stay_read}
 use Rattle.kr_execve.specs.Execution.{execution}
-use Rattle.kr_turns.specs.Breaking.{decoded_rule, plain_rule, plain_rule_of, requested_rule}
+use Rattle.kr_bytes.specs.kr_turns.Breaking.{decoded_rule, plain_rule, plain_rule_of, requested_rule}
 use Rattle.calm_places.proofs.InUseLemmas.{neither}
 use Rattle.turns_match.specs.Calls.{decoded_by, decoded_in}
 use Rattle.turns_match.proofs.QuietLemmas.{first_unbroken, memory_computed}

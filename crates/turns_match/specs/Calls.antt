@@ -11,7 +11,7 @@ use Rattle.kr_model.specs.Walks.{seen, targets_of}
 use Rattle.kr_allowed.specs.Told.{mounts_walked}
 use Rattle.kr_steps.specs.Calls.{IsNoExec}
 use Rattle.kr_steps.specs.Computing.{computed}
-use Rattle.kr_turns.specs.PlainCall.{Came, plain_call}
+use Rattle.kr_bytes.specs.kr_turns.PlainCall.{Came, plain_call}
 use Rattle.places_stay.specs.Matching.{IsMatch}
 use Rattle.turns_match.specs.Changing.{all_tags_made}
 use Rattle.turns_match.specs.Operating.{IsCalmCall, done_in, written_in}

@@ -9,8 +9,8 @@ use Rattle.kr_model.specs.Bare.{bare_mounts}
 use Rattle.kr_model.specs.Change.{Change}
 use Rattle.kr_model.specs.Lawful.{IsLawful}
 use Rattle.kr_model.specs.State.{Image, State, process}
-use Rattle.kr_turns.specs.Breaking.{killed_rule}
-use Rattle.kr_turns.specs.Turn.{killed}
+use Rattle.kr_bytes.specs.kr_turns.Breaking.{killed_rule}
+use Rattle.kr_bytes.specs.kr_turns.Turn.{killed}
 use Rattle.places_stay.specs.Changes.{NewPlacesStand}
 use Rattle.places_stay.specs.Matching.{IsMatch}
 use Rattle.places_stay.specs.Tagging.{tags_made}

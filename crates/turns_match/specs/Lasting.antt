@@ -8,7 +8,7 @@ use Rattle.kr_model.specs.Walks.{seen, targets_of}
 use Rattle.kr_allowed.specs.Allowed.{HoldsBytes, LeavesLawful}
 use Rattle.kr_allowed.specs.Told.{SourcesAreNamed, mounts_walked}
 use Rattle.kr_steps.specs.Calls.{IsNoExec, LastsLawful}
-use Rattle.kr_turns.specs.PlainCall.{plain_call}
+use Rattle.kr_bytes.specs.kr_turns.PlainCall.{plain_call}
 use Rattle.turns_match.specs.Calls.{decoded_by, decoded_in}
 use Rattle.turns_match.specs.Operating.{done_in}
 

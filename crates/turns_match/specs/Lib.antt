@@ -1,3 +1,4 @@
+pub use Rattle.kr_bytes.specs as kr_bytes
 pub mod Calls
 pub mod Changing
 pub mod Lasting

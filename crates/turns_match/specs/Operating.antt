@@ -2,7 +2,7 @@
 use Rattle.std.specs.Prelude.{◌≡◌, ℕ, false, IsSome, List}
 use Rattle.rv_mem.specs.Actions.{CarriedOut}
 use Rattle.pt_bind.specs.Tags.{TagTable}
-use Rattle.kr_answers.specs.Carrying.{after_row, carried, with_memory_of}
+use Rattle.kr_seen.specs.Carrying.{after_row, carried, with_memory_of}
 use Rattle.kr_allowed.specs.Allowed.{LeavesLawful}
 use Rattle.kr_calls.specs.declared.request.Request.{Request}
 use Rattle.kr_calm.specs.Laws.{BreakNone}

@@ -5,8 +5,8 @@ use Rattle.kr_view.specs.View.{Row, plain}
 use Rattle.kr_calls.specs.declared.request.Request.{Request}
 use Rattle.kr_calls.specs.declared.request.Request.TheVariants as call
 use Rattle.kr_model.specs.State.{Image, Process, State}
-use Rattle.kr_turns.specs.Breaking.{plain_rule}
-use Rattle.kr_turns.specs.PlainCall.{plain_call}
+use Rattle.kr_bytes.specs.kr_turns.Breaking.{plain_rule}
+use Rattle.kr_bytes.specs.kr_turns.PlainCall.{plain_call}
 use Rattle.places_stay.specs.Matching.{IsMatch}
 use Rattle.turns_match.specs.Calls.{CameAlike, decoded_by, tags_behind}
 use Rattle.turns_match.specs.Lasting.{CanBeCalled}

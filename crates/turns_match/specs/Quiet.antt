@@ -7,8 +7,8 @@ use Rattle.kr_view.specs.View.{Row, plain}
 use Rattle.kr_model.specs.Lawful.{IsLawful}
 use Rattle.kr_model.specs.State.{Image, Process}
 use Rattle.kr_steps.specs.Waiting.{picked_process}
-use Rattle.kr_turns.specs.Turn.{Machine, turn}
-use Rattle.kr_turns.specs.Watching.{Watcher}
+use Rattle.kr_bytes.specs.kr_turns.Turn.{Machine, turn}
+use Rattle.kr_bytes.specs.kr_turns.Watching.{Watcher}
 use Rattle.places_stay.specs.Matching.{IsMatch}
 
 -- a tracer forgets the tags of a process that is gone

@@ -1,14 +1,14 @@
 -- Runs of machines that match.
-use Rattle.std.specs.Prelude.{◌≡◌, ◌<◌, ◌≤◌, ◌^◌, ℕ, zero, suc, Bool, true, List, None}
+use Rattle.std.specs.Prelude.{◌≡◌, ◌<◌, ◌≤◌, ◌^◌, ℕ, suc, List, None}
 use Rattle.pt_bind.specs.Tags.{TagTable}
 use Rattle.kr_tree.specs.Tree.{nodes}
 use Rattle.kr_view.specs.View.{Row, plain}
 use Rattle.kr_bytes.specs.Bytes.{HasBytes}
 use Rattle.kr_steps.specs.Calls.{LastsLawful}
 use Rattle.kr_steps.specs.Waiting.{picked_process}
-use Rattle.kr_turns.specs.Run.{Ran, Slot, after_put, ending_of, run, turned}
-use Rattle.kr_turns.specs.Turn.{Machine, turn}
-use Rattle.kr_turns.specs.Watching.{Watcher}
+use Rattle.kr_bytes.specs.kr_turns.Run.{Ran, Slot, ending_of, run, turned}
+use Rattle.kr_bytes.specs.kr_turns.Turn.{Machine, turn}
+use Rattle.kr_bytes.specs.kr_turns.Watching.{Watcher}
 use Rattle.turns_match.specs.Quiet.{DropsTags, MachinesMatch, MakesNoCall}
 
 -- machines that match after as many turns, of which both are lawful, with what lasts
@@ -30,17 +30,12 @@ pub record KeepOn {S T V : Type 0} (mine : S → V) (yours : T → V) (m : Machi
   pub also_bytes : HasBytes n.state
   pub agree : mine m.watcher ≡ yours n.watcher
 
--- a test holds of each turn that is made, of as many as are left
-unfoldable pub EachTurn : {S : Type 0} → Watcher S → List Row → (ℕ → Slot) → (ℕ → Machine S → Bool) → (left made : ℕ) → Machine S → Type 0
-EachTurn watcher table slots holds zero made m = Unit {0}
-EachTurn watcher table slots holds (suc left) made m = (ending_of m ≡ None → holds made m ≡ true) × EachTurn watcher table slots holds left (suc made) (after_put (turned watcher 1 table slots made m))
-
-module _ {S T V : Type 0} (watcher : Watcher S) (tracer : Watcher T) (tags_in : T → TagTable) (mine : S → V) (yours : T → V) (table : List Row) (slots : ℕ → Slot) (holds : ℕ → Machine S → Bool) where
-  -- each turn that is made, breaks no calm rule, and of which the test holds
+module _ {S T V : Type 0} (watcher : Watcher S) (tracer : Watcher T) (tags_in : T → TagTable) (mine : S → V) (yours : T → V) (table : List Row) (slots : ℕ → Slot) where
+  -- each turn that is made and breaks no calm rule
   pub record TurnsGoTogether : Type 0 where
-    pub together : (made : ℕ) (m : Machine S) (n : Machine T) → made < 2 ^ 31 → GoTogether tags_in table made m n → KeepOn mine yours m n → ending_of m ≡ None → holds made m ≡ true → (turned watcher 1 table slots made m).tally.broken ≡ None
+    pub together : (made : ℕ) (m : Machine S) (n : Machine T) → made < 2 ^ 31 → GoTogether tags_in table made m n → KeepOn mine yours m n → ending_of m ≡ None → (turned watcher 1 table slots made m).tally.broken ≡ None
         → GoTogether tags_in table (suc made) (turned watcher 1 table slots made m) (turned tracer 0 plain slots made n)
-    pub keeps : (made : ℕ) (m : Machine S) (n : Machine T) → made < 2 ^ 31 → GoTogether tags_in table made m n → KeepOn mine yours m n → ending_of m ≡ None → holds made m ≡ true → (turned watcher 1 table slots made m).tally.broken ≡ None
+    pub keeps : (made : ℕ) (m : Machine S) (n : Machine T) → made < 2 ^ 31 → GoTogether tags_in table made m n → KeepOn mine yours m n → ending_of m ≡ None → (turned watcher 1 table slots made m).tally.broken ≡ None
         → KeepOn mine yours (turned watcher 1 table slots made m) (turned tracer 0 plain slots made n)
 
 -- a turn in which no call is made does, where it breaks no calm rule
@@ -49,9 +44,9 @@ QuietTurnsGoTogether S T =
     (watcher : Watcher S) (tracer : Watcher T) (tags_in : T → TagTable) (table : List Row) (pick fuel made : ℕ) (m : Machine S) (n : Machine T) → DropsTags tracer tags_in → MakesNoCall fuel (picked_process m.state pick)
     → (turn watcher 1 table pick fuel m).tally.broken ≡ None → GoTogether tags_in table made m n → GoTogether tags_in table (suc made) (turn watcher 1 table pick fuel m) (turn tracer 0 plain pick fuel n)
 
--- where all do of which it holds, a calm run in which it holds of each and that of the plain machine come to the same
+-- where all do, a calm run and that of the plain machine come to the same
 abbrev pub RunsComeAlike : (S T V : Type 0) → Type 0
 RunsComeAlike S T V =
-    (watcher : Watcher S) (tracer : Watcher T) (tags_in : T → TagTable) (mine : S → V) (yours : T → V) (table : List Row) (slots : ℕ → Slot) (holds : ℕ → Machine S → Bool) → TurnsGoTogether watcher tracer tags_in mine yours table slots holds
-    → (turns : ℕ) (m : Machine S) (n : Machine T) → turns ≤ 2 ^ 31 → GoTogether tags_in table 0 m n → KeepOn mine yours m n → EachTurn watcher table slots holds turns 0 m → (run watcher 1 table slots turns m).machine.tally.broken ≡ None
+    (watcher : Watcher S) (tracer : Watcher T) (tags_in : T → TagTable) (mine : S → V) (yours : T → V) (table : List Row) (slots : ℕ → Slot) → TurnsGoTogether watcher tracer tags_in mine yours table slots
+    → (turns : ℕ) (m : Machine S) (n : Machine T) → turns ≤ 2 ^ 31 → GoTogether tags_in table 0 m n → KeepOn mine yours m n → (run watcher 1 table slots turns m).machine.tally.broken ≡ None
     → ComeAlike (run watcher 1 table slots turns m) (run tracer 0 plain slots turns n)

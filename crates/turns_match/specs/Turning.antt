@@ -10,9 +10,9 @@ use Rattle.kr_calls.specs.Decoding.{decoding}
 use Rattle.kr_model.specs.State.{Image, Process, State, process}
 use Rattle.kr_steps.specs.Computing.{computed}
 use Rattle.kr_steps.specs.Waiting.{picked_process}
-use Rattle.kr_turns.specs.Run.{ending_of}
-use Rattle.kr_turns.specs.Shelving.{shelved_in}
-use Rattle.kr_turns.specs.Turn.{Machine}
+use Rattle.kr_bytes.specs.kr_turns.Run.{ending_of}
+use Rattle.kr_bytes.specs.kr_turns.Shelving.{shelved_in}
+use Rattle.kr_bytes.specs.kr_turns.Turn.{Machine}
 use Rattle.places_stay.specs.Matching.{IsMatch}
 
 -- the same process runs at each pick, and where none can, the end is the same

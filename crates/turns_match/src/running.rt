@@ -6,8 +6,7 @@ pub fn quiet_turns_go_together<S, T>()
     ensures { QuietTurnsGoTogether S T }
 {}
 
-/// Where each turn that breaks no calm rule, and of which a test holds, keeps such a match, a calm run in which it holds of each turn and
-/// that of the plain machine come to the same.
+/// Where each turn that breaks no calm rule keeps such a match, a calm run and that of the plain machine come to the same.
 pub fn runs_come_alike<S, T, V>()
     ensures { RunsComeAlike S T V }
 {}

@@ -3,7 +3,7 @@ use Rattle.kr_view.specs.View.{plain}
 use Rattle.kr_view.specs.declared.view.HostMount.{HostMount}
 use Rattle.kr_view.proofs.TableLemmas.{plain_stands}
 use Rattle.kr_model.specs.State as model
-use Rattle.kr_lasting.specs.Lasting.{Lasts}
+use Rattle.kr_allowed.specs.Lasting.{Lasts}
 use Rattle.kr_listed.proofs.ReadLemmas.{read-last}
 use Rattle.kr_start.specs.Start.{IsIdle}
 use Rattle.kr_start.proofs.LastLemmas.{starts-last}

@@ -1,5 +1,5 @@
 use Rattle.std.proofs.Common.{◌∙◌, refl, sym, subst, lit<, arith}
-use Rattle.kr_lasting.specs.Lasting.{Lasts}
+use Rattle.kr_allowed.specs.Lasting.{Lasts}
 use Rattle.kr_model.specs.State as model
 use Rattle.kr_ops.specs.Meaning.{meaning}
 use Rattle.kr_start.proofs.LastLemmas.{starts-last}

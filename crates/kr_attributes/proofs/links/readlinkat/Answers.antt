@@ -7,9 +7,9 @@ use Rattle.kr_model.specs.Known.{known}
 use Rattle.kr_model.specs.State.{image_layout}
 use Rattle.kr_model.specs.Walks.{text_at}
 use Rattle.kr_ops.specs.Meaning.{meaning}
-use Rattle.kr_procview.specs.Numbered.{state_numbered}
+use Rattle.kr_seen.specs.Numbered.{state_numbered}
 use Rattle.kr_targets.specs.Placed.{target_mounts}
-use Rattle.kr_answers.proofs.CarryLemmas.{by-refusal}
+use Rattle.kr_seen.proofs.CarryLemmas.{by-refusal}
 use Rattle.kr_attributes.specs.Named.{AnswersText}
 use Rattle.kr_attributes.specs.declared.links.TextFault.{TextFault}
 use Rattle.kr_attributes.proofs.FoundLemmas.{link-found, no-link-found}

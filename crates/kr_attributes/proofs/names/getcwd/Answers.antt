@@ -4,7 +4,7 @@ use Rattle.pr_base.specs.declared.errno.Errno.TheVariants.{ENOENT}
 use Rattle.kr_model.specs.DirectoryRows.{tell_directory}
 use Rattle.kr_model.specs.Reply.{refuse}
 use Rattle.kr_ops.specs.Meaning.{meaning}
-use Rattle.kr_procview.specs.Numbered.{state_numbered}
+use Rattle.kr_seen.specs.Numbered.{state_numbered}
 use Rattle.kr_rows.proofs.PerformLemmas.{by-refusal, by-row}
 use Rattle.kr_attributes.proofs.TextLemmas.{name-of-cwd}
 use Rattle.kr_attributes.proofs.names.getcwd.Goals as goal

@@ -2,7 +2,7 @@ use Rattle.std.proofs.Common.{refl}
 use Rattle.pr_base.specs.declared.errno.Errno.TheVariants.{ENOENT}
 use Rattle.kr_model.specs.AttributeRows.{chown_host, fchownat_row}
 use Rattle.kr_targets.specs.Placed.{target_mounts}
-use Rattle.kr_answers.proofs.CarryLemmas.{by-refusal}
+use Rattle.kr_seen.proofs.CarryLemmas.{by-refusal}
 use Rattle.kr_model.specs.Known.{known}
 use Rattle.kr_model.specs.State.{image_layout}
 use Rattle.kr_ops.specs.Meaning.{meaning}

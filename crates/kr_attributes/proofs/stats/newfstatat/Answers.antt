@@ -5,7 +5,7 @@ use Rattle.kr_model.specs.Known.{known}
 use Rattle.kr_model.specs.State.{image_layout}
 use Rattle.kr_ops.specs.Meaning.{meaning}
 use Rattle.kr_targets.specs.Placed.{target_mounts}
-use Rattle.kr_answers.proofs.CarryLemmas.{by-refusal}
+use Rattle.kr_seen.proofs.CarryLemmas.{by-refusal}
 use Rattle.kr_attributes.proofs.FoundLemmas.{not-found, was-found}
 use Rattle.kr_attributes.proofs.RowLemmas.{at-mounts, by-row}
 use Rattle.kr_attributes.proofs.stats.newfstatat.Goals as goal

@@ -3,8 +3,8 @@ use Rattle.kr_exec.specs.Finding.{program_at, program_walk}
 use Rattle.kr_view.specs.Answers.{IsAnswer, IsReached}
 use Rattle.kr_view.specs.Leads.{numbered}
 use Rattle.kr_ops.specs.Meaning.{meaning}
-use Rattle.kr_procview.specs.Held.{shown_of}
-use Rattle.kr_paths.proofs.TargetLemmas.{around-told, shown-as}
+use Rattle.kr_seen.specs.Held.{shown_of}
+use Rattle.kr_seen.proofs.TargetLemmas.{around-told, shown-as}
 use Rattle.kr_execve.proofs.finding.find.Goals as goal
 
 pub returns-clause-answer : goal.returns-clause-answer

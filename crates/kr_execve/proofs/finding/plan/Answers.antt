@@ -4,8 +4,8 @@ use Rattle.kr_exec.specs.Exec.{exec_plan, exec_reach}
 use Rattle.kr_view.specs.Answers.{target_numbered}
 use Rattle.kr_view.specs.Leads.{numbered}
 use Rattle.kr_ops.specs.Meaning.{meaning}
-use Rattle.kr_procview.specs.Held.{shown_of}
-use Rattle.kr_paths.proofs.TargetLemmas.{around-told, shown-as}
+use Rattle.kr_seen.specs.Held.{shown_of}
+use Rattle.kr_seen.proofs.TargetLemmas.{around-told, shown-as}
 use Rattle.kr_execve.proofs.finding.plan.Goals as goal
 
 pub returns-clause-answer : goal.returns-clause-answer

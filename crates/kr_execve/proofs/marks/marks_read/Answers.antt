@@ -3,8 +3,8 @@ use Rattle.std.specs.Option.{option_map_or}
 use Rattle.rv_mem.specs.Memory.{Memory}
 use Rattle.kr_model.specs.State as model
 use Rattle.kr_ops.proofs.ListLemmas.{none-found}
-use Rattle.kr_answers.specs.Carrying.{no_memory}
-use Rattle.kr_rows.proofs.UsingLemmas.{memory-at}
+use Rattle.kr_seen.specs.Carrying.{no_memory}
+use Rattle.kr_perform.proofs.kr_rows.UsingLemmas.{memory-at}
 use Rattle.kr_execve.proofs.marks.marks_read.Goals as goal
 
 pub returns-in-Some : goal.returns-in-Some

@@ -1,7 +1,7 @@
 use Rattle.std.proofs.Common.{subst, sym}
 use Rattle.kr_view.specs.View.{plain}
 use Rattle.kr_ops.specs.Meaning.{meaning}
-use Rattle.kr_procview.specs.Standing.{IsStanding}
+use Rattle.kr_seen.specs.Standing.{IsStanding}
 use Rattle.kr_hostview.specs.OnHost.{number}
 use Rattle.kr_hostview.proofs.HostLemmas.{standing}
 use Rattle.kr_hostview.proofs.target.standing_target.Goals as goal

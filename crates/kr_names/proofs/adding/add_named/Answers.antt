@@ -5,7 +5,7 @@ use Rattle.kr_inode.specs.Stored.{body_of_new}
 use Rattle.kr_model.specs.Change.{AddNode}
 use Rattle.kr_model.specs.Reply.{answers, done, refuse}
 use Rattle.kr_names.proofs.RoomLemmas.{is-full, has-room, ok-no-error}
-use Rattle.kr_answers.proofs.CarryLemmas.{by-refusal, by-reply}
+use Rattle.kr_seen.proofs.CarryLemmas.{by-refusal, by-reply}
 use Rattle.kr_names.proofs.adding.add_named.Goals as goal
 
 pub returns-in-Err-clause-performs : goal.returns-in-Err-clause-performs

@@ -17,7 +17,7 @@ use Rattle.kr_model.specs.Known.{known}
 use Rattle.kr_model.specs.Reply.{answers}
 use Rattle.kr_model.specs.State.{image_layout, inode_of}
 use Rattle.kr_ops.specs.Meaning.{meaning}
-use Rattle.kr_answers.proofs.CarryLemmas.{by-refusal, by-reply}
+use Rattle.kr_seen.proofs.CarryLemmas.{by-refusal, by-reply}
 use Rattle.kr_names.proofs.CreateLemmas.{made-files, made-lives, made-lowest, made-sound, made-there, new-crowded, new-full, new-opens}
 use Rattle.kr_names.proofs.OpenLemmas.{opened-makes}
 use Rattle.kr_names.proofs.RoomLemmas.{has-room, is-full, ok-no-error}

@@ -10,7 +10,7 @@ use Rattle.kr_model.specs.Known.{known}
 use Rattle.kr_model.specs.Reply.{answers}
 use Rattle.kr_model.specs.State.{image_layout}
 use Rattle.kr_ops.specs.Meaning.{meaning}
-use Rattle.kr_answers.proofs.CarryLemmas.{by-refusal, by-reply}
+use Rattle.kr_seen.proofs.CarryLemmas.{by-refusal, by-reply}
 use Rattle.kr_names.proofs.OpenLemmas.{directory-changed, directory-kept, directory-opens, opened-makes, under-full, under-goes}
 use Rattle.kr_names.proofs.found.open_directory.Goals as goal
 

@@ -15,7 +15,7 @@ use Rattle.kr_model.specs.Known.{known}
 use Rattle.kr_model.specs.Reply.{answers, done}
 use Rattle.kr_model.specs.State.{image_layout}
 use Rattle.kr_ops.specs.Meaning.{meaning}
-use Rattle.kr_answers.proofs.CarryLemmas.{by-refusal, by-reply}
+use Rattle.kr_seen.proofs.CarryLemmas.{by-refusal, by-reply}
 use Rattle.kr_targets.specs.Told.{entry_told}
 use Rattle.kr_names.specs.Opening.{entry_dir, entry_name}
 use Rattle.kr_names.proofs.OpenLemmas.{cut-fits, file-opens, file-refused, file-wanted, opened-body, opened-bytes, opened-makes, under-full, under-goes}

@@ -4,7 +4,7 @@ use Rattle.kr_model.specs.FileRows.{open_host}
 use Rattle.kr_model.specs.Known.{known}
 use Rattle.kr_model.specs.State.{image_layout}
 use Rattle.kr_ops.specs.Meaning.{meaning}
-use Rattle.kr_answers.proofs.CarryLemmas.{by-refusal}
+use Rattle.kr_seen.proofs.CarryLemmas.{by-refusal}
 use Rattle.kr_targets.specs.Told.{looked_told}
 use Rattle.kr_names.proofs.NodeLemmas.{if-false, if-true}
 use Rattle.kr_names.proofs.RowLemmas.{by-row}

@@ -8,7 +8,7 @@ use Rattle.kr_model.specs.FileRows.{open_directory, open_file}
 use Rattle.kr_model.specs.Known.{known}
 use Rattle.kr_model.specs.State.{image_layout}
 use Rattle.kr_ops.specs.Meaning.{meaning}
-use Rattle.kr_answers.proofs.CarryLemmas.{by-refusal}
+use Rattle.kr_seen.proofs.CarryLemmas.{by-refusal}
 use Rattle.kr_targets.specs.Told.{entry_told, looked_told}
 use Rattle.kr_names.specs.Opening.{entry_dir, entry_name}
 use Rattle.kr_names.proofs.NodeLemmas.{node-known, node-unknown}

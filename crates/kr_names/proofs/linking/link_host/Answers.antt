@@ -10,7 +10,7 @@ use Rattle.kr_model.specs.NameRows.{link_host}
 use Rattle.kr_model.specs.Reply.{answers}
 use Rattle.kr_model.specs.State.{image_layout, inode_of}
 use Rattle.kr_ops.specs.Meaning.{meaning}
-use Rattle.kr_answers.proofs.CarryLemmas.{by-refusal, by-reply}
+use Rattle.kr_seen.proofs.CarryLemmas.{by-refusal, by-reply}
 use Rattle.kr_names.proofs.LinkLemmas.{directory-unlinked, linkable, links-full, links-goes, links-in, whether}
 use Rattle.kr_names.proofs.NodeLemmas.{known-body}
 use Rattle.kr_names.proofs.RoomLemmas.{ok-no-error}

@@ -10,9 +10,9 @@ use Rattle.kr_model.specs.Reply.{refuse}
 use Rattle.std.specs.Bool.{if◌then◌else◌}
 use Rattle.kr_model.specs.State.{image_layout, inode_of}
 use Rattle.kr_ops.specs.Meaning.{meaning}
-use Rattle.kr_procview.specs.Numbered.{state_numbered}
+use Rattle.kr_seen.specs.Numbered.{state_numbered}
 use Rattle.kr_targets.specs.Placed.{target_mounts}
-use Rattle.kr_answers.proofs.CarryLemmas.{by-refusal}
+use Rattle.kr_seen.proofs.CarryLemmas.{by-refusal}
 use Rattle.kr_names.specs.Adding.{adding}
 use Rattle.kr_names.proofs.MadeLemmas.{made-dir, made-free}
 use Rattle.kr_names.proofs.RowLemmas.{by-row}

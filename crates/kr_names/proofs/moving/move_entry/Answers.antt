@@ -9,7 +9,7 @@ use Rattle.kr_model.specs.Reply.{answers}
 use Rattle.kr_model.specs.State.{image_layout, inode_of}
 use Rattle.kr_ops.specs.Meaning.{meaning}
 use Rattle.kr_targets.specs.Told.{entered_told}
-use Rattle.kr_answers.proofs.CarryLemmas.{by-refusal, by-reply}
+use Rattle.kr_seen.proofs.CarryLemmas.{by-refusal, by-reply}
 use Rattle.kr_names.specs.Moving.{HasNodes}
 use Rattle.kr_names.proofs.MoveLemmas.{lawful-move, not-below}
 use Rattle.kr_names.proofs.moving.move_entry.Goals as goal

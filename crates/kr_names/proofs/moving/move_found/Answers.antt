@@ -5,7 +5,7 @@ use Rattle.kr_model.specs.Reply.{answers}
 use Rattle.kr_model.specs.State.{image_layout}
 use Rattle.kr_ops.specs.Meaning.{meaning}
 use Rattle.kr_targets.specs.Told.{entered_told}
-use Rattle.kr_answers.proofs.CarryLemmas.{by-refusal, by-reply}
+use Rattle.kr_seen.proofs.CarryLemmas.{by-refusal, by-reply}
 use Rattle.kr_names.proofs.MoveLemmas.{found-by}
 use Rattle.kr_names.proofs.RowLemmas.{by-row}
 use Rattle.kr_model.specs.NameRows.{move_entry}

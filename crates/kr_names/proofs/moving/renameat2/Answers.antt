@@ -10,10 +10,10 @@ use Rattle.kr_model.specs.Reply.{refuse}
 use Rattle.kr_model.specs.Seen.{Takes, TakesCovered}
 use Rattle.kr_model.specs.State.{image_layout, inode_of}
 use Rattle.kr_ops.specs.Meaning.{meaning}
-use Rattle.kr_procview.specs.Numbered.{state_numbered}
+use Rattle.kr_seen.specs.Numbered.{state_numbered}
 use Rattle.kr_targets.specs.Placed.{target_mounts}
 use Rattle.kr_targets.specs.Told.{entered_told, taken_told}
-use Rattle.kr_answers.proofs.CarryLemmas.{by-refusal}
+use Rattle.kr_seen.proofs.CarryLemmas.{by-refusal}
 use Rattle.kr_names.proofs.MoveLemmas.{covered-busy, moved-both, no-name-busy, taken-free}
 use Rattle.kr_names.proofs.RowLemmas.{by-row}
 use Rattle.kr_names.proofs.TakeLemmas.{taken-dir, taken-entry}

@@ -12,10 +12,10 @@ use Rattle.kr_model.specs.Seen.{Opens, WalkFails}
 use Rattle.kr_model.specs.State.{image_layout, inode_of}
 use Rattle.kr_ops.specs.Meaning.{meaning}
 use Rattle.kr_ops.proofs.UseLemmas.{sound-of}
-use Rattle.kr_procview.specs.Numbered.{state_numbered}
+use Rattle.kr_seen.specs.Numbered.{state_numbered}
 use Rattle.kr_targets.specs.Placed.{target_mounts}
 use Rattle.kr_targets.specs.Told.{looked_told, opening_told}
-use Rattle.kr_answers.proofs.CarryLemmas.{by-refusal}
+use Rattle.kr_seen.proofs.CarryLemmas.{by-refusal}
 use Rattle.kr_names.proofs.OpeningLemmas.{new-dir, new-free, opened-object, opened-place}
 use Rattle.kr_names.proofs.RowLemmas.{by-row}
 use Rattle.kr_names.proofs.opening.openat.Goals as goal

@@ -6,10 +6,10 @@ use Rattle.kr_model.specs.NameRows.{ending_removed, rmdir_found, rmdir_row}
 use Rattle.kr_model.specs.Reply.{refusal, refuse}
 use Rattle.kr_model.specs.State.{image_layout}
 use Rattle.kr_ops.specs.Meaning.{meaning}
-use Rattle.kr_procview.specs.Numbered.{state_numbered}
+use Rattle.kr_seen.specs.Numbered.{state_numbered}
 use Rattle.kr_targets.specs.Placed.{target_mounts}
 use Rattle.kr_targets.specs.Told.{entered_told}
-use Rattle.kr_answers.proofs.CarryLemmas.{by-refusal}
+use Rattle.kr_seen.proofs.CarryLemmas.{by-refusal}
 use Rattle.kr_names.proofs.RowLemmas.{by-row}
 use Rattle.kr_names.proofs.TakeLemmas.{taken-entry}
 use Rattle.kr_names.proofs.removing.rmdir.Goals as goal

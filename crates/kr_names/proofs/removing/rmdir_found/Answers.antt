@@ -7,7 +7,7 @@ use Rattle.kr_model.specs.Reply.{answers}
 use Rattle.kr_model.specs.State.{image_layout}
 use Rattle.kr_ops.specs.Meaning.{meaning}
 use Rattle.kr_targets.specs.Told.{entered_told}
-use Rattle.kr_answers.proofs.CarryLemmas.{by-refusal, by-reply}
+use Rattle.kr_seen.proofs.CarryLemmas.{by-refusal, by-reply}
 use Rattle.kr_names.proofs.NodeLemmas.{known-tested}
 use Rattle.kr_names.proofs.TakeLemmas.{directory-goes, entry-empty, filled-kept, other-kept, rmdir-goes, rmdir-processes}
 use Rattle.kr_names.proofs.removing.rmdir_found.Goals as goal

@@ -3,8 +3,8 @@ use Rattle.std.specs.Prelude.{IfSome}
 use Rattle.kr_tree.specs.Holds.{holds_at}
 use Rattle.kr_tree.specs.declared.place.Place.{Place}
 use Rattle.kr_files.specs.Descriptors.{meanings}
-use Rattle.kr_model.specs.Applied.{held_for}
-use Rattle.kr_model.specs.State.{inode_of}
+use Rattle.kr_lawful.specs.kr_model.Applied.{held_for}
+use Rattle.kr_lawful.specs.kr_model.State.{inode_of}
 use Rattle.kr_ops.proofs.ForkLemmas.{none-held, next-held, there-for, fits-for}
 use Rattle.kr_ops.proofs.holding.hold_all.Goals as goal
 

@@ -1,6 +1,6 @@
 use Rattle.std.proofs.Common.{◌≡◌}
 use Rattle.kr_files.specs.Descriptors.{meanings}
-use Rattle.kr_model.specs.Applied.{held_for}
+use Rattle.kr_lawful.specs.kr_model.Applied.{held_for}
 use Rattle.kr_ops.proofs.holding.hold_all.Given as goal
 
 abbrev pub invariant-loop-fd : goal.invariant-loop-fd

@@ -1,6 +1,6 @@
 use Rattle.std.proofs.Common.{refl, sym, ap, ◌∙◌, [], ◌∷◌, Err}
 use Rattle.pr_base.specs.declared.errno.Errno.TheVariants.{EINVAL, EMFILE}
-use Rattle.kr_lawful.proofs.AfterLemmas.{some-of}
+use Rattle.kr_ops.proofs.kr_lawful.AfterLemmas.{some-of}
 use Rattle.kr_model.specs.Change.{CopyDescriptor}
 use Rattle.kr_model.specs.DescriptorRows.{copy_under}
 use Rattle.kr_model.specs.Known.{known}

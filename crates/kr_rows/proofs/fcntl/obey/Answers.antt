@@ -2,7 +2,7 @@ use Rattle.std.proofs.Common.{refl, sym, ap, ◌∙◌, [], ◌∷◌, ◌%◌, 
 use Rattle.std.specs.Option.{option_map}
 use Rattle.kr_calls.specs.Arguments.{has}
 use Rattle.kr_files.specs.WithoutMounts.{without_mount}
-use Rattle.kr_lawful.proofs.AfterLemmas.{some-of}
+use Rattle.kr_ops.proofs.kr_lawful.AfterLemmas.{some-of}
 use Rattle.kr_model.specs.Change.{SetAppend, SetCloexec}
 use Rattle.kr_model.specs.DescriptorRows.{cloexec_flag, copy_from, status_flags}
 use Rattle.kr_model.specs.Known.{known}

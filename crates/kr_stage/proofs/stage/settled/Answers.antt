@@ -5,7 +5,7 @@ use Rattle.kr_mounts.specs.Standing.{texts_of}
 use Rattle.kr_mounts.specs.Stored.{table_of}
 use Rattle.kr_mounts.specs.declared.mount.Mount.{Mount}
 use Rattle.kr_stage.specs.Ready.{IsReady}
-use Rattle.kr_stage.proofs.ReadyLemmas.{few-rows, has-numbers, rows-texts, settled-ready}
+use Rattle.kr_stage.proofs.ReadyLemmas.{few-rows, has-numbers, rows-texts, settled-prepared}
 use Rattle.kr_stage.proofs.stage.settled.Goals as goal
 
 pub settle-requires : goal.settle-requires
@@ -17,9 +17,8 @@ returns-clause-ready c =
     let mounts = c.in_ok-settled.settled in
     let told = c.in_ok-settled.ensures.settled in
     let short : length c.bounds.result.now ≤ 4294967295 = grind (arith, nat_tests) in
-    let ready = settled-ready c.args.tree u c.args.user c.args.root.now c.args.binds.now (table_of mounts) c.requires.listing c.trees_are_kept.ensures.kept c.trees_are_kept.ensures.there c.requires.numbered c.settle.ensures.grown told.0 told.1
-    (few-rows mounts c.bounds.result.now c.bounds.ensures short) c.settled_bindings_are_settled.ensures in
-    subst (λ (m : List Mount). IsReady u c.args.user (table_of m)) (sym c.in_ok-places.ensures) ready
+    let prepared = settled-prepared c.args.tree u c.args.user c.args.root.now c.args.binds.now (table_of mounts) c.requires.listing c.trees_are_kept.ensures.kept c.trees_are_kept.ensures.there c.requires.numbered c.settle.ensures.grown told.0 told.1 c.settled_bindings_are_settled.ensures in
+    subst (λ (m : List Mount). IsReady u c.args.user (table_of m)) (sym c.in_ok-places.ensures) (record { prepared = prepared; few = few-rows mounts c.bounds.result.now c.bounds.ensures short })
 
 pub returns-clause-texts : goal.returns-clause-texts
 returns-clause-texts c =

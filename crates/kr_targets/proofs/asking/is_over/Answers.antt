@@ -1,9 +1,9 @@
 use Rattle.std.proofs.Common.{sym, ap, ◌∙◌, false}
 use Rattle.std.specs.Prelude.{not}
 use Rattle.std.specs.Option.{option_map_or}
-use Rattle.kr_model.specs.Asking.{lives}
-use Rattle.kr_model.specs.Known.{known}
-use Rattle.kr_model.specs.State.{image_layout}
+use Rattle.kr_seen.specs.kr_model.Asking.{lives}
+use Rattle.kr_seen.specs.kr_model.Known.{known}
+use Rattle.kr_seen.specs.kr_model.State.{image_layout}
 use Rattle.kr_ops.specs.Meaning.{meaning}
 use Rattle.kr_targets.proofs.asking.is_over.Goals as goal
 

@@ -1,5 +1,5 @@
 use Rattle.std.proofs.Common.{ap}
-use Rattle.kr_model.specs.Seen.{OpensFound}
+use Rattle.kr_seen.specs.kr_model.Seen.{OpensFound}
 use Rattle.kr_targets.proofs.targets.created.Goals as goal
 
 pub returns-in-Some : goal.returns-in-Some

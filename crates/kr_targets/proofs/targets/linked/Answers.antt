@@ -1,5 +1,5 @@
 use Rattle.kr_ops.specs.Meaning.{meaning}
-use Rattle.kr_procview.specs.Numbered.{state_numbered}
+use Rattle.kr_seen.specs.Numbered.{state_numbered}
 use Rattle.kr_targets.proofs.targets.linked.Goals as goal
 
 pub returns-in-Some : goal.returns-in-Some

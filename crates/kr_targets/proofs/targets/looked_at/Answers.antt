@@ -1,6 +1,6 @@
 use Rattle.std.proofs.Common.{ap, sym, ◌∙◌, Some}
 use Rattle.kr_ops.specs.Meaning.{meaning}
-use Rattle.kr_procview.specs.Numbered.{state_numbered}
+use Rattle.kr_seen.specs.Numbered.{state_numbered}
 use Rattle.kr_view.specs.Leads.{numbered}
 use Rattle.kr_targets.specs.Placed.{placed_in}
 use Rattle.kr_targets.specs.Told.{entry_told}

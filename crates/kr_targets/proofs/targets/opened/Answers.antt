@@ -1,8 +1,8 @@
 use Rattle.std.proofs.Common.{sym, ap, ◌∙◌}
-use Rattle.kr_model.specs.Seen.{OpensFound, Opens, WalkFails}
-use Rattle.kr_model.specs.Walks.{looked_at}
+use Rattle.kr_seen.specs.kr_model.Seen.{OpensFound, Opens, WalkFails}
+use Rattle.kr_seen.specs.kr_model.Walks.{looked_at}
 use Rattle.kr_ops.specs.Meaning.{meaning}
-use Rattle.kr_procview.specs.Numbered.{state_numbered}
+use Rattle.kr_seen.specs.Numbered.{state_numbered}
 use Rattle.kr_view.specs.Leads.{numbered}
 use Rattle.pr_base.specs.declared.errno.Errno.TheVariants.{ENOENT}
 use Rattle.std.specs.Option.{option_map, option_map_or}

@@ -5,9 +5,9 @@ use Rattle.kr_view.specs.declared.target.WalkFault.{WalkFault}
 use Rattle.kr_model.specs.Walks.{targets_of}
 use Rattle.kr_ops.specs.Meaning.{meaning}
 use Rattle.kr_ops.proofs.UseLemmas.{sound-of}
-use Rattle.kr_procview.specs.Numbered.{state_numbered}
-use Rattle.kr_paths.specs.CallWalks.{AreTargets, IsReachedTo, call_reach}
-use Rattle.kr_paths.specs.declared.walks.Targets.{Targets}
+use Rattle.kr_seen.specs.Numbered.{state_numbered}
+use Rattle.kr_seen.specs.CallWalks.{AreTargets, IsReachedTo, call_reach}
+use Rattle.kr_seen.specs.declared.walks.Targets.{Targets}
 use Rattle.kr_steps.specs.Calls.{MayCall}
 use Rattle.kr_steps.proofs.ComputingLemmas.{runs-later}
 use Rattle.kr_turns.specs.Breaking.{nothing_reached, rule_told}

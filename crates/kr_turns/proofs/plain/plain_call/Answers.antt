@@ -3,7 +3,7 @@ use Rattle.std.proofs.lemmas.Result.{on_ok_weaker}
 use Rattle.kr_calls.specs.declared.fault.CallFault.{CallFault}
 use Rattle.kr_ops.specs.Meaning.{meaning}
 use Rattle.kr_ops.proofs.UseLemmas.{sound-of}
-use Rattle.kr_procview.specs.Numbered.{state_numbered}
+use Rattle.kr_seen.specs.Numbered.{state_numbered}
 use Rattle.kr_steps.specs.Calls.{MayCall}
 use Rattle.kr_steps.proofs.ComputingLemmas.{runs-later}
 use Rattle.kr_steps.specs.Computing.{Requests}

@@ -24,10 +24,10 @@ start-requires c =
     let found : (chosen table tree user base c.args.launch.env (word_of c.args.launch.command) c.working_directory.new.reach).path ≡ Some c.in-Ok-Some.path =
     ap (λ w. (chosen table tree user base c.args.launch.env w c.working_directory.new.reach).path) (sym c.word_of.ensures) ∙ sym (ap (λ (x : Chosen). x.path) c.in-Ok-Some.ensures) ∙ c.in-Ok-Some.field-0-is in
     let text = text-chosen table tree user base c.args.launch.env c.args.launch.command c.working_directory.new.reach c.in-Ok-Some.path c.requires.env c.requires.command found in
-    let leads = directory-leads table tree user c.args.launch.cwd c.roots_are_directories.ensures c.requires.ready.stands in
+    let leads = directory-leads table tree user c.args.launch.cwd c.roots_are_directories.ensures c.requires.ready.prepared.stands in
     let at : directory_at table tree user c.in-Ok.directory.path ≡ Some base =
     ap (λ (d : At). directory_at table tree user d.path) c.in-Ok.ensures.directory ∙ leads ∙ ap (λ (d : At). Some d.place) (sym c.in-Ok.ensures.directory) in
-    (lit< tt, (lit< tt, (c.requires.ready.stands, (c.requires.ready.few, (c.requires.ready.free, (c.requires.ready.lasts, (c.requires.ready.named, (text, subst IsSome (sym at) refl))))))))
+    (lit< tt, (lit< tt, (c.requires.ready.prepared.stands, (c.requires.ready.few, (c.requires.ready.prepared.free, (c.requires.ready.prepared.lasts, (c.requires.ready.prepared.named, (text, subst IsSome (sym at) refl))))))))
 
 pub returns-clause-begins : goal.returns-clause-begins
 returns-clause-begins c =

@@ -1,7 +1,7 @@
 use Rattle.std.proofs.Common.{◌≡◌, rules}
 use Rattle.pr_io.specs.Faults.{Rose}
 use Rattle.pr_sources.specs.Reading.{EndsBeforeElf, EndsBeforeInput, IsOfWords, ReadHasCause, told_asked, told_listing, told_tree}
-use Rattle.pr_top.proofs.OpeningLemmas.{if-err, no-read-fault, not-before-elf, not-before-input, not-of-words, opens-stop, opens-then}
+use Rattle.pr_top.proofs.OpeningLemmas.{if-err, no-read-fault, not-before-elf, not-before-input, not-of-words, opens-stop, opens-then, reads-stop, reads-then}
 use Rattle.pr_top.proofs.opening.open_sources.Goals as goal
 
 pub returns-in_err-asked-clause-opens : goal.returns-in_err-asked-clause-opens
@@ -32,3 +32,16 @@ returns-clause-before_elf g c = if-err (λ answer. EndsBeforeElf answer → c.re
 
 pub returns-clause-before_input : goal.returns-clause-before_input
 returns-clause-before_input g c = if-err (λ answer. EndsBeforeInput answer → c.read.new.input ≡ c.args.input.now) c.begin.result (not-before-input (c.read.new.input ≡ c.args.input.now)) c.begin.ensures.kinds
+
+-- ---- what was read
+
+pub returns-in_err-asked-clause-read : goal.returns-in_err-asked-clause-read
+returns-in_err-asked-clause-read g c =
+    let told = told_asked c.args.options (g.T.Source.left c.args.tree.now) (g.E.Source.left c.args.elf.now) (g.I.Source.left c.args.input.now) in
+    let stopped = reads-stop told c.in_err-asked.field-0.0 c.in_err-asked.ensures.told in
+    let h = c.from_residual.ensures in search (rules, stopped)
+
+pub returns-clause-read : goal.returns-clause-read
+returns-clause-read g c =
+    reads-then (told_asked c.args.options (g.T.Source.left c.args.tree.now) (g.E.Source.left c.args.elf.now) (g.I.Source.left c.args.input.now))
+    c.in_ok-asked.asked c.begin.result c.in_ok-asked.ensures.told (record { listing = c.in_ok-asked.ensures.listing; kept = c.in_ok-asked.ensures.kept; input = c.in_ok-asked.ensures.bytes })

@@ -10,7 +10,7 @@ use Rattle.pr_traced.proofs.starting.start_traced.Goals as goal
 pub start-requires : goal.start-requires
 start-requires c =
     let tree = c.args.stage.tree in
-    let ready = c.requires.ready in
+    let ready = c.requires.ready.prepared in
     let stands = plain_stands tree ready.settled.sound in
     let first = can-start c.firsts_can_start.ensures (table_of c.args.stage.places) tree c.args.stage.user (rows_of c.in-Ok.walker) c.new-tags.result c.first.new.tags c.args.launch c.in-Ok-first.first ready.settled (ap rows_of c.in-Ok.ensures ∙ c.requires.texts) c.in-Ok-first.ensures.begins in
     (lit< tt, (lit< tt, (stands.0, (lit< tt, (ready.free, (ready.lasts, (settled-are-named tree plain stands.1, first)))))))

@@ -2,7 +2,7 @@ use Rattle.std.proofs.Common.{◌≡◌, ◌≢◌, ◌<◌, ◌+◌, suc, true,
 use Rattle.std.specs.Prelude.{IsSome, ◌^◌, ◌==◌}
 use Rattle.kr_ops.proofs.UseLemmas.{sound-of}
 use Rattle.kr_ops.specs.Meaning.{process_meaning}
-use Rattle.kr_procview.specs.Numbered.{process_numbered}
+use Rattle.kr_seen.specs.Numbered.{process_numbered}
 use Rattle.kr_turns.specs.Steps.{Runs, picked_process}
 use Rattle.kr_turns.specs.Making.{machine_of, watching}
 use Rattle.kr_turns.specs.Turn.{IsTurnOf, Tally}

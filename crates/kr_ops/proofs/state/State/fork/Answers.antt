@@ -7,9 +7,9 @@ use Rattle.kr_tree.specs.Holds.{holds_at}
 use Rattle.kr_tree.specs.Tree.{Tree}
 use Rattle.kr_files.specs.Descriptors.{meanings}
 use Rattle.kr_files.specs.Files.{Kept, NamesOpenFiles}
-use Rattle.kr_model.specs.Applied.{told}
-use Rattle.kr_model.specs.MemoryRows.{all_pages}
-use Rattle.kr_model.specs.State.{Image, Process, inode_of}
+use Rattle.kr_lawful.specs.kr_model.Applied.{told}
+use Rattle.kr_lawful.specs.kr_model.MemoryRows.{all_pages}
+use Rattle.kr_lawful.specs.kr_model.State.{Image, Process, inode_of}
 use Rattle.kr_ops.specs.declared.state.Process.{Process as Kept_process}
 use Rattle.kr_ops.proofs.CloseLemmas.{held-there, same-at}
 use Rattle.kr_ops.proofs.ForkLemmas.{as-before, born-means, born-served, born_state, copies-fit, fits-for, list-before, pushed, room-for, still-for, there-for}

@@ -5,7 +5,7 @@ use Rattle.pr_base.specs.Page.{page_size}
 use Rattle.rv_mem.specs.Memory.{passes_limit, with_pages}
 use Rattle.rv_mem.specs.Pages.{mapped}
 use Rattle.rv_mem.specs.declared.fault.MapFault.TheVariants.{Full}
-use Rattle.kr_model.specs.Change.{MapPages}
+use Rattle.kr_lawful.specs.kr_model.Change.{MapPages}
 use Rattle.kr_ops.proofs.OpeningLemmas.{not-living}
 use Rattle.kr_ops.proofs.PageLemmas.{counted-in, of-process, paged-means, room-either}
 use Rattle.kr_ops.proofs.ServeLemmas.{kept-names}

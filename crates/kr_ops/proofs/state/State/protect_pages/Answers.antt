@@ -4,7 +4,7 @@ use Rattle.std.proofs.lemmas.Result.{on_ok_weaker}
 use Rattle.pr_base.specs.Page.{page_size}
 use Rattle.rv_mem.specs.Memory.{with_pages}
 use Rattle.rv_mem.specs.Pages.{has_pages, protected}
-use Rattle.kr_model.specs.Change.{ProtectPages}
+use Rattle.kr_lawful.specs.kr_model.Change.{ProtectPages}
 use Rattle.kr_ops.proofs.OpeningLemmas.{not-living}
 use Rattle.kr_ops.proofs.PageLemmas.{of-process, paged-means, room-changed}
 use Rattle.kr_ops.proofs.ServeLemmas.{kept-names}

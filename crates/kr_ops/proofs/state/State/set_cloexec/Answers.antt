@@ -3,7 +3,7 @@ use Rattle.std.specs.Option.{is_some}
 use Rattle.kr_files.specs.Descriptors.{Meanings, meanings}
 use Rattle.kr_files.specs.Files.{NamesOpenFiles}
 use Rattle.pr_base.specs.Maps.{changed}
-use Rattle.kr_model.specs.State.{with_descs}
+use Rattle.kr_lawful.specs.kr_model.State.{with_descs}
 use Rattle.kr_ops.specs.Meaning.{process_meaning}
 use Rattle.kr_ops.proofs.ChangeLemmas.{nobody-changed, one-changed, shut, flagged, flag-changed, flag-nowhere}
 use Rattle.kr_ops.proofs.ServeLemmas.{all-at, kept-names, kept-room, names-flag, names-set}

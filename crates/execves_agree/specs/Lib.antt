@@ -1,3 +1,0 @@
-pub mod Going
-pub mod Replacing
-pub mod Rewriting

@@ -1,0 +1,45 @@
+-- The path of execve(2) as a tracer rewrites it.
+use Rattle.std.proofs.Common.{◌≡◌, ◌≢◌, ℕ, Bool, true, false, List, [], ◌∷◌, Option, Some, None, Result, Ok, Err, refl}
+use Rattle.std.specs.Bool.{if◌then◌else◌}
+use Rattle.pr_base.specs.Paths.{is_absolute, slash}
+use Rattle.pr_base.specs.declared.errno.Errno.{Errno}
+use Rattle.pt_args.specs.Bases as bases
+use Rattle.pt_args.specs.Bases.{working_text}
+use Rattle.pt_args.specs.Edits.{edit_by, edit_of}
+use Rattle.pt_args.specs.Plans.{plan_from}
+use Rattle.pt_args.specs.Walks.{and_then, reached_at, walked_from}
+use Rattle.pt_canon.specs.TextWalk.{TextSurroundings}
+use Rattle.pt_canon.specs.declared.canon.Canon.{Canon}
+use Rattle.pt_script.specs.Programs as programs
+use Rattle.pt_script.specs.Programs.{canon_from}
+use Rattle.pr_base.specs.declared.path.WalkMode.TheVariants.{Look}
+use Rattle.kr_calls.specs.PathTable.{PathUse, working_directory}
+use Rattle.kr_calls.specs.declared.request.Request.{Request}
+use Rattle.kr_calls.specs.declared.request.Request.TheVariants as call
+use Rattle.programs_agree.specs.Refusing.{canon_along}
+use Rattle.execves_together.specs.Rewriting.{ExecvesAreRewritten, edit_along}
+
+module _ (texts : TextSurroundings) (pid sp : ℕ) (usable : Bool) (path : List ℕ) (args env : ℕ) where
+  abbrev r : Request
+  r = call.Execve path args env
+
+  abbrev u : PathUse
+  u = record { dirfd = working_directory; text = path; mode = Look; register = 10 }
+
+  by-canon : (x : Result Canon Errno) → edit_by sp usable (and_then (and_then x (λ canon. Ok (Some (reached_at u false canon)))) (plan_from texts pid r)) ≡ edit_along sp usable x
+  by-canon (Ok canon) = refl
+  by-canon (Err e) = refl
+
+  by-base : (absolute : Bool) (working : Option (List ℕ))
+      → edit_by sp usable (and_then (and_then (if absolute then Ok (Some (slash ∷ [])) else bases.or_lost working) (walked_from texts false u)) (plan_from texts pid r))
+      ≡ edit_along sp usable (and_then (if absolute then Ok (slash ∷ []) else programs.or_lost working) (canon_from texts path))
+  by-base true working = by-canon (canon_from texts path (slash ∷ []))
+  by-base false (Some text) = by-canon (canon_from texts path text)
+  by-base false None = refl
+
+rewritten : (texts : TextSurroundings) (pid sp : ℕ) (usable : Bool) (path : List ℕ) (args env : ℕ) → path ≢ [] → edit_of texts pid sp usable (call.Execve path args env) ≡ edit_along sp usable (canon_along texts (working_text texts pid) path)
+rewritten texts pid sp usable [] args env some = absurd (some refl)
+rewritten texts pid sp usable (b ∷ path) args env some = by-base texts pid sp usable (b ∷ path) args env (is_absolute (b ∷ path)) (working_text texts pid)
+
+pub execves_are_rewritten : ExecvesAreRewritten
+execves_are_rewritten = record { some = rewritten; none = λ texts pid sp usable args env. refl }

@@ -1,5 +1,0 @@
-use Rattle.identities_match.proofs.EditLemmas.{beginnings_keep_matches}
-use Rattle.identities_match.proofs.editing.beginnings_keep_matches.Goals as goal
-
-pub returns : goal.returns
-returns c = beginnings_keep_matches

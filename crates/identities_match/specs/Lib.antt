@@ -1,9 +1,0 @@
-pub mod Along
-pub mod Beginning
-pub mod Calls
-pub mod Editing
-pub mod Going
-pub mod Kinds
-pub mod Reading
-pub mod Runs
-pub mod Whole

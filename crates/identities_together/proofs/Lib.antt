@@ -1,2 +1,0 @@
-pub mod OtherLemmas
-pub mod RootLemmas

@@ -1,5 +1,0 @@
-use Rattle.identities_together.proofs.OtherLemmas.{other_faked_calls_go_together}
-use Rattle.identities_together.proofs.laws.other_faked_calls_go_together.Goals as goal
-
-pub returns : goal.returns
-returns c = other_faked_calls_go_together c.texts_are_read_back.ensures c.shelves_hold_their_items.ensures

@@ -1,4 +1,0 @@
-pub mod TreeLemmas
-pub mod StateLemmas
-pub mod ChangeLemmas
-pub mod RoomLemmas

@@ -1,3 +1,0 @@
-pub mod Texts
-pub mod Drawing
-pub mod Lasting

@@ -1,2 +1,0 @@
-pub mod BaseLemmas
-pub mod TargetLemmas

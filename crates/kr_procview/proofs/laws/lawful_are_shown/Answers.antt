@@ -1,5 +1,0 @@
-use Rattle.kr_procview.proofs.StandingLemmas.{lawful-are-shown}
-use Rattle.kr_procview.proofs.laws.lawful_are_shown.Goals as goal
-
-pub returns : goal.returns
-returns g c = lawful-are-shown

@@ -1,5 +1,0 @@
-use Rattle.kr_procview.proofs.DirectoryLemmas.{shows-the-directory}
-use Rattle.kr_procview.proofs.laws.shows_the_directory.Goals as goal
-
-pub returns : goal.returns
-returns g c = shows-the-directory

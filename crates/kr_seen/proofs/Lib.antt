@@ -1,0 +1,9 @@
+pub mod NumberedLemmas
+pub mod DirectoryLemmas
+pub mod FindLemmas
+pub mod LivingLemmas
+pub mod GuestLemmas
+pub mod StandingLemmas
+pub mod CarryLemmas
+pub mod BaseLemmas
+pub mod TargetLemmas

@@ -1,0 +1,47 @@
+-- What a start gives that is told on both machines, where processes are told an identity: all that such runs rest on.
+use Rattle.std.specs.Prelude.{◌≡◌, ℕ, List, None, Some, Result, Ok, Err}
+use Rattle.pr_base.specs.declared.errno.Errno.{Errno}
+use Rattle.pr_command.specs.declared.launch.Launch.{Launch}
+use Rattle.kr_calm.specs.Calm.{broken_at_start}
+use Rattle.kr_inode.specs.declared.user.User.{User}
+use Rattle.kr_mounts.specs.Standing.{texts_of}
+use Rattle.kr_tree.specs.Lawful.{AreBytes}
+use Rattle.kr_tree.specs.Tree.{Tree}
+use Rattle.kr_turns.specs.Turn.{Machine}
+use Rattle.kr_view.specs.View.{Row}
+use Rattle.pr_top.specs.pr_start.Beginning.{beginning}
+use Rattle.pr_top.specs.pr_traced.TracedBeginning.{traced_beginning}
+use Rattle.pr_watch.specs.declared.watch.Watch.{Watch}
+use Rattle.pr_watch.specs.declared.watch.Watch.TheVariants.{Faked}
+use Rattle.pt_bytes.specs.Watchers.{anything, goes_by_bytes}
+use Rattle.pt_tracer.specs.Faking.{Faking, starting_faking}
+use Rattle.pt_watched.specs.Watched.{Tracing}
+use Rattle.starts_match.specs.FirstStates.{IsOpening}
+use Rattle.starts_match.specs.Starts.{beginning_reach}
+use Rattle.execves_together.specs.stops_match.Turning.{tags_kept}
+use Rattle.starts_match.specs.turns_match.Runs.{GoTogether, KeepOn}
+use Rattle.execves_together.specs.stops_match.Runs.{CanRunFaked, faked_by, traced_by}
+use Rattle.machines_agree.specs.Starts.{IsOfByteWords}
+
+-- a machine with the watcher of identities alone in place of whoever watches
+abbrev pub with_faking : Faking → Machine Watch → Machine Faking
+with_faking f m = record { state = m.state; watcher = f; tally = m.tally }
+
+-- machines that begin, on which runs come to the same as long as calls do
+pub record CanComeAlikeFaked (table : List Row) (m : Machine Faking) (n : Machine Tracing) : Type 0 where
+  pub together : GoTogether tags_kept table 0 m n
+  pub can : CanRunFaked anything goes_by_bytes table
+  pub keeps : KeepOn (faked_by anything table) (traced_by goes_by_bytes) m n
+
+-- two beginnings: the same error, or such machines, of which the one is watched by the watcher of identities
+abbrev pub BeginToRunFaked : List Row → Result (Machine Watch) Errno → Result (Machine Tracing) Errno → Type 0
+BeginToRunFaked table (Ok m) (Ok n) = (f : Faking) × (m.watcher ≡ Faked f) × CanComeAlikeFaked table (with_faking f m) n
+BeginToRunFaked table (Err e) (Err f) = e ≡ f
+BeginToRunFaked table (Ok m) (Err f) = ⊥
+BeginToRunFaked table (Err e) (Ok n) = ⊥
+
+abbrev pub FakedStartsCanRun : Type 0
+FakedStartsCanRun =
+    (table : List Row) (tree : Tree) (user : User) (uid gid : ℕ) (launch : Launch) (input : List ℕ) → IsOpening tree user table
+    → broken_at_start (beginning_reach table tree user (Faked (starting_faking user uid gid)) launch) ≡ None → IsOfByteWords launch → AreBytes input
+    → BeginToRunFaked table (beginning table tree user (Faked (starting_faking user uid gid)) launch input) (traced_beginning (texts_of table) tree user (Some (uid, gid)) launch input)

@@ -1,0 +1,24 @@
+-- What both machines begin on, of a listing and of bindings.
+use Rattle.std.specs.Prelude.{◌≡◌, ℕ, List, Ok}
+use Rattle.std.specs.List.{AllByRecursion}
+use Rattle.pr_base.specs.declared.bind.Bind.{Bind}
+use Rattle.kr_inode.specs.declared.user.User.{User}
+use Rattle.kr_tree.specs.Lawful.{HasBytes, IsKept}
+use Rattle.kr_tree.specs.Tree.{Tree}
+use Rattle.kr_view.specs.View.{Row}
+use Rattle.kr_mounts.specs.Bounds.{AreNumbered}
+use Rattle.kr_mounts.specs.MountTable.{settling}
+use Rattle.kr_stage.specs.Ready.{IsOfListing}
+use Rattle.starts_match.specs.FirstStates.{IsOpening}
+use Rattle.machines_agree.specs.Asking.{IsOfByteParts}
+
+-- bindings that settle in a tree that was read give what both machines can begin on. The tree that settling leaves has to be of bytes: it makes
+-- the names of locations, which are lists of numbers here
+abbrev pub SettledIsOpening : Type 0
+SettledIsOpening =
+    (t : Tree) (user : User) (root : List ℕ) (binds : List Bind) (table : List Row) → IsOfListing t user → IsKept t → AreNumbered binds → (settling t user root binds).answer ≡ Ok table
+    → HasBytes (settling t user root binds).tree → IsOpening (settling t user root binds).tree user table
+
+-- it is, where the bindings' paths are bytes
+abbrev pub SettledTreesHaveBytes : Type 0
+SettledTreesHaveBytes = (t : Tree) (user : User) (root : List ℕ) (binds : List Bind) → HasBytes t → AllByRecursion IsOfByteParts binds → HasBytes (settling t user root binds).tree

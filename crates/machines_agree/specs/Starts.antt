@@ -1,0 +1,46 @@
+-- What a start gives that is told on both machines, without an identity: all that runs rest on which come to the same.
+use Rattle.std.specs.Prelude.{◌≡◌, ℕ, List, None, Result, Ok, Err}
+use Rattle.pr_base.specs.declared.errno.Errno.{Errno}
+use Rattle.pr_command.specs.declared.launch.Launch.{Launch}
+use Rattle.kr_bytes.specs.Bytes.{AreAllBytes}
+use Rattle.kr_calm.specs.Calm.{broken_at_start}
+use Rattle.kr_inode.specs.declared.user.User.{User}
+use Rattle.kr_mounts.specs.Standing.{texts_of}
+use Rattle.kr_tree.specs.Lawful.{AreBytes}
+use Rattle.kr_tree.specs.Tree.{Tree}
+use Rattle.kr_turns.specs.Turn.{Machine}
+use Rattle.kr_view.specs.View.{Row}
+use Rattle.pr_top.specs.pr_start.Beginning.{beginning}
+use Rattle.pr_top.specs.pr_traced.TracedBeginning.{traced_beginning}
+use Rattle.pr_watch.specs.declared.watch.Watch.{Watch}
+use Rattle.pt_bytes.specs.Watchers.{goes_by_bytes}
+use Rattle.pt_watched.specs.Watched.{Tracing}
+use Rattle.starts_match.specs.FirstStates.{IsOpening}
+use Rattle.starts_match.specs.Starts.{beginning_reach}
+use Rattle.execves_together.specs.stops_match.Together.{CanRun, goes_by, gone_by}
+use Rattle.execves_together.specs.stops_match.Turning.{tags_kept}
+use Rattle.starts_match.specs.turns_match.Runs.{GoTogether, KeepOn}
+
+-- the words of what is launched are bytes
+pub record IsOfByteWords (launch : Launch) : Type 0 where
+  pub command : AreAllBytes launch.command
+  pub env : AreAllBytes launch.env
+  pub cwd : AreBytes launch.cwd
+
+-- machines that begin, on which runs come to the same as long as calls do
+pub record CanComeAlike {S : Type 0} (table : List Row) (m : Machine S) (n : Machine Tracing) : Type 0 where
+  pub together : GoTogether tags_kept table 0 m n
+  pub can : CanRun goes_by_bytes table
+  pub keeps : KeepOn (gone_by table) (goes_by goes_by_bytes) m n
+
+-- two beginnings: the same error, or such machines
+abbrev pub BeginToRun : {S : Type 0} → List Row → Result (Machine S) Errno → Result (Machine Tracing) Errno → Type 0
+BeginToRun table (Ok m) (Ok n) = CanComeAlike table m n
+BeginToRun table (Err e) (Err f) = e ≡ f
+BeginToRun table (Ok m) (Err f) = ⊥
+BeginToRun table (Err e) (Ok n) = ⊥
+
+abbrev pub StartsCanRun : Type 0
+StartsCanRun =
+    (table : List Row) (tree : Tree) (user : User) (watch : Watch) (launch : Launch) (input : List ℕ) → IsOpening tree user table → broken_at_start (beginning_reach table tree user watch launch) ≡ None → IsOfByteWords launch → AreBytes input
+    → BeginToRun table (beginning table tree user watch launch input) (traced_beginning (texts_of table) tree user None launch input)

@@ -1,0 +1,5 @@
+pub mod ReportLemmas
+pub mod TopLemmas
+pub mod WordLemmas
+pub mod HeadlineLemmas
+mod Utf8Lemmas

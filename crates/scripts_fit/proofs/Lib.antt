@@ -1,3 +1,0 @@
-pub mod LineLemmas
-pub mod PutLemmas
-pub mod RoomLemmas

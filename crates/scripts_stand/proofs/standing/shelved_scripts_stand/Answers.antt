@@ -1,5 +1,0 @@
-use Rattle.scripts_stand.proofs.StandLemmas.{shelved_scripts_stand}
-use Rattle.scripts_stand.proofs.standing.shelved_scripts_stand.Goals as goal
-
-pub returns : goal.returns
-returns c = shelved_scripts_stand c.shelves_hold_their_items.ensures

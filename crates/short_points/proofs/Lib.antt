@@ -1,4 +1,0 @@
-pub mod EntryLemmas
-pub mod LengthLemmas
-pub mod LineLemmas
-pub mod PointLemmas

@@ -1,4 +1,0 @@
-pub mod Asking
-pub mod Given
-pub mod Listings
-pub mod Openings

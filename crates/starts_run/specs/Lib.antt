@@ -1,3 +1,0 @@
-pub mod FakedStarts
-pub mod Starts
-pub mod Tables

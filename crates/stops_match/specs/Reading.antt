@@ -1,0 +1,27 @@
+-- What is edited of an answer reads no marked byte, where the call broke no calm rule.
+use Rattle.std.specs.Prelude.{◌≡◌, ℕ, Bool, List, None, Ok}
+use Rattle.kr_view.specs.View.{Row}
+use Rattle.kr_calls.specs.declared.request.Request.{Request}
+use Rattle.kr_calls.specs.declared.request.Request.TheVariants as call
+use Rattle.kr_model.specs.State.{Image, Process, State}
+use Rattle.kr_steps.specs.Calls.{IsNoExec}
+use Rattle.kr_turns.specs.Breaking.{plain_rule}
+use Rattle.kr_turns.specs.PlainCall.{Came, plain_call}
+use Rattle.kr_turns.specs.Turn.{called}
+use Rattle.pt_tracer.specs.Faking.{Faking, due_of, is_root}
+use Rattle.turns_match.specs.Calls.{decoded_by}
+use Rattle.turns_match.specs.Lasting.{CanBeCalled}
+use Rattle.turns_match.specs.Sizes.{IsSized}
+use Rattle.stops_match.specs.Editing.{IsEditedAlike}
+
+-- both watchers know alike whether the path of a chroot(2) led to the root
+abbrev pub RootIsKnown : Request → Came → Bool → Type 0
+RootIsKnown (call.Chroot path) came at_root = came.at_root ≡ at_root
+RootIsKnown _ came at_root = Unit {0}
+
+-- the bytes of a stat(2) were just written, so none of them is marked
+abbrev pub EditsReadUnmarked : Type 0
+EditsReadUnmarked =
+    (table : List Row) (made pid : ℕ) (no_shelf at_root : Bool) (s : State ℕ Image) (p : Process ℕ Image) (f : Faking) (r : Request) → CanBeCalled table made pid s p → IsSized p.image → (decoded_by p).reply ≡ Ok r → IsNoExec r
+    → plain_rule 1 table pid no_shelf s ≡ None → RootIsKnown r (plain_call table pid s) at_root
+    → IsEditedAlike f (called pid (plain_call table pid s)) at_root (due_of (is_root f) r)
