@@ -11,16 +11,13 @@ use Rattle.pr_words.specs.declared.options.Options.{Options}
 use Rattle.pr_answer.specs.declared.answer.Answer.{Answer}
 use Rattle.pr_sources.specs.Asking.{asked}
 use Rattle.pr_sources.specs.Reading.{IsRead, told_asked}
-use Rattle.pr_sources.specs.Within.{IsEarly}
 use Rattle.pr_sources.specs.declared.reading.Asked.{Asked}
-use Rattle.pr_top.specs.pr_run.Report.{Report}
-use Rattle.pr_top.specs.pr_run.Puts.{Got, PutsTurns, StopsBetween}
+use Rattle.pr_top.specs.pr_run.Puts.{Got}
 use Rattle.pr_top.specs.Opening.{Begun, WasRead, opening, over, report}
 use Rattle.machines_agree.specs.Openings.{IsToldAlike, OpeningsAgree, asked_on, over_mounts, with_tracer}
 use Rattle.machines_agree.proofs.OpeningLemmas.{refusals_agree, words_begin_traced}
-use Rattle.pr_call.specs.Headline.{AsksTraced, IsRefusedCalmly, OfCalmRefusal, OfCalmRun, RunsCalmly}
-use Rattle.pr_call.specs.Promise.{AnswersOpening, EndsEarly, IfKnown, StopsForMemory}
-use Rattle.pr_call.proofs.TopLemmas.{early-ends}
+use Rattle.pr_call.specs.Headline.{AsksTraced, OfCalmOpening, OpensCalmly}
+use Rattle.pr_call.specs.Promise.{IsReported, TellsOpening}
 use Rattle.pr_call.proofs.WordLemmas.{watched_is_quiet}
 
 -- a run over mounts begins where the bindings settle
@@ -49,24 +46,24 @@ module _ (agree : OpeningsAgree) (words : List (List ℕ)) (tree elf input : Opt
     pub same : report b ≡ report run
 
   -- the run that is opened has the same report as the calm one over mounts
-  opened-calmly : (b : Begun) → (is : RunsCalmly words tree elf input b) → IsRead is.asked_for → OpensAs b
+  opened-calmly : (b : Begun) → (is : OpensCalmly words tree elf input (Ok b)) → IsRead is.asked_for → OpensAs b
   opened-calmly b is read =
-      let settled = settled-if-begun is.asked_for b is.begins in
-      let own : IsToldAlike is.asked_for settled.0 (Ok b) (with_tracer is.asked_for) = subst (λ one. IsToldAlike is.asked_for settled.0 one (with_tracer is.asked_for)) is.begins (alike is.asked_for settled.0 is.traced read settled.1) in
+      let settled = settled-if-begun is.asked_for b is.opens in
+      let own : IsToldAlike is.asked_for settled.0 (Ok b) (with_tracer is.asked_for) = subst (λ one. IsToldAlike is.asked_for settled.0 one (with_tracer is.asked_for)) is.opens (alike is.asked_for settled.0 is.traced read settled.1) in
       let other = own is.calm in
       record { run = other.0; opens = begins-traced is.asked_for is.traced ∙ ap (λ (r : Result Begun Answer). Some r) other.1; same = other.2 }
 
   -- and what is refused calmly is refused
-  refused-calmly : (refusal : Answer) → (is : IsRefusedCalmly words tree elf input refusal) → IsRead is.asked_for → opening words tree elf input ≡ Some (Err refusal)
+  refused-calmly : (refusal : Answer) → (is : OpensCalmly words tree elf input (Err refusal)) → IsRead is.asked_for → opening words tree elf input ≡ Some (Err refusal)
   refused-calmly refusal is read = begins-traced a is.traced ∙ ap (λ (r : Result Begun Answer). Some r) (by (settled_in a).answer refl)
     where
       a : Asked
       a = is.asked_for
 
       by : (r : Result (List Row) Refusal) → (settled_in a).answer ≡ r → with_tracer a ≡ Err refusal
-      by (Err other) unsettled = refusals_agree a other unsettled ∙ is.begins
+      by (Err other) unsettled = refusals_agree a other unsettled ∙ is.opens
       by (Ok table) settles =
-          let own : IsToldAlike a table (Err refusal) (with_tracer a) = subst (λ one. IsToldAlike a table one (with_tracer a)) is.begins (alike a table is.traced read settles) in
+          let own : IsToldAlike a table (Err refusal) (with_tracer a) = subst (λ one. IsToldAlike a table one (with_tracer a)) is.opens (alike a table is.traced read settles) in
           own (is.calm table settles)
 
   -- ---- what was read
@@ -89,44 +86,17 @@ module _ (agree : OpeningsAgree) (words : List (List ℕ)) (tree elf input : Opt
       by (Ok o) read = λ own. inl (read own)
       by (Err answer) read = tt
 
-  -- ---- the clauses
+  -- ---- the clause
 
-  module _ (E : Type 0) (was : WasReadOr E) where
-    -- what holds of the report of the opening's run holds of that of the calm run
-    pub of-known : (P : Report → Type 0) → (E → (b : Begun) → P (report b)) → IfKnown (opening words tree elf input) (λ c. P (report c)) → OfCalmRun words tree elf input (λ b. P (report b))
-    of-known P early known = λ b is. by b is (read-or E was is.asked_for is.traced)
-      where
-        by : (b : Begun) → (is : RunsCalmly words tree elf input b) → IsRead is.asked_for ⊎ E → P (report b)
-        by b is (inr e) = early e b
-        by b is (inl read) =
-            let opened = opened-calmly b is read in
-            let own : P (report opened.run) = subst (λ told. IfKnown told (λ c. P (report c))) opened.opens known in
-            subst P (sym opened.same) own
-
-    pub headline : (a : Answer) → (E → IsEarly a) → IfSome (opening words tree elf input) (λ o. AnswersOpening o a) → OfCalmRun words tree elf input (λ b. AnswersOpening (Ok b) a)
-    headline a early answers = λ b is. by b is (read-or E was is.asked_for is.traced)
-      where
-        by : (b : Begun) → (is : RunsCalmly words tree elf input b) → IsRead is.asked_for ⊎ E → AnswersOpening (Ok b) a
-        by b is (inr e) = inr (early-ends a (early e))
-        by b is (inl read) =
-            let opened = opened-calmly b is read in
-            let own : AnswersOpening (Ok opened.run) a = subst (λ told. IfSome told (λ o. AnswersOpening o a)) opened.opens answers in
-            subst (λ (r : Report). (a ≡ r.answer) ⊎ EndsEarly a) (sym opened.same) own
-
-    pub headline-memory : (out out' err err' : Got) → (E → (b : Begun) → StopsForMemory out out' err err' (Ok b)) → IfSome (opening words tree elf input) (StopsForMemory out out' err err')
-        → OfCalmRun words tree elf input (λ b. StopsForMemory out out' err err' (Ok b))
-    headline-memory out out' err err' early stops = λ b is. by b is (read-or E was is.asked_for is.traced)
-      where
-        by : (b : Begun) → (is : RunsCalmly words tree elf input b) → IsRead is.asked_for ⊎ E → StopsForMemory out out' err err' (Ok b)
-        by b is (inr e) = early e b
-        by b is (inl read) =
-            let opened = opened-calmly b is read in
-            let own : StopsForMemory out out' err err' (Ok opened.run) = subst (λ told. IfSome told (StopsForMemory out out' err err')) opened.opens stops in
-            subst (λ (r : Report). StopsBetween r.puts out out' err err' ⊎ PutsTurns r out out' err err') (sym opened.same) own
-
-    pub headline-refusal : (a : Answer) → (E → IsEarly a) → IfSome (opening words tree elf input) (λ o. AnswersOpening o a) → OfCalmRefusal words tree elf input (λ refusal. AnswersOpening (Err refusal) a)
-    headline-refusal a early answers = λ refusal is. by refusal is (read-or E was is.asked_for is.traced)
-      where
-        by : (refusal : Answer) → (is : IsRefusedCalmly words tree elf input refusal) → IsRead is.asked_for ⊎ E → AnswersOpening (Err refusal) a
-        by refusal is (inr e) = inr (early e)
-        by refusal is (inl read) = subst (λ told. IfSome told (λ o. AnswersOpening o a)) (refused-calmly refusal is read) answers
+  -- what is told of the opening is told of what is opened over mounts, where that is calm
+  pub headline : (E : Type 0) → WasReadOr E → {a : Answer} {out out' err err' left left' : Got} → (E → (o : Result Begun Answer) → TellsOpening o a out out' err err' left left')
+      → IfSome (opening words tree elf input) (λ o. TellsOpening o a out out' err err' left left') → OfCalmOpening words tree elf input (λ o. TellsOpening o a out out' err err' left left')
+  headline E was {a} {out} {out'} {err} {err'} {left} {left'} early tells = λ o is. by o is (read-or E was is.asked_for is.traced)
+    where
+      by : (o : Result Begun Answer) → (is : OpensCalmly words tree elf input o) → IsRead is.asked_for ⊎ E → TellsOpening o a out out' err err' left left'
+      by o is (inr e) = early e o
+      by (Ok b) is (inl read) =
+          let opened = opened-calmly b is read in
+          let own : IsReported (report opened.run) a out out' err err' left left' = subst (λ told. IfSome told (λ o. TellsOpening o a out out' err err' left left')) opened.opens tells in
+          subst (λ r. IsReported r a out out' err err' left left') (sym opened.same) own
+      by (Err refusal) is (inl read) = subst (λ told. IfSome told (λ o. TellsOpening o a out out' err err' left left')) (refused-calmly refusal is read) tells

@@ -1,6 +1,7 @@
 -- What an answer of a report says in the words of the top call.
-use Rattle.std.proofs.Common.{◌≡◌, ◌⊎◌, ℕ, Some, None, sym, subst, ◌∙◌, IfSome}
+use Rattle.std.proofs.Common.{◌≡◌, ◌⊎◌, inl, inr, ℕ, Some, None, sym, subst, ◌∙◌, IfSome}
 use Rattle.std.specs.Prelude.{Result, Ok, Err}
+use Rattle.std.specs.Io.KnownBytes.{Appends}
 use Rattle.pr_io.specs.Moves.{AppendsPrefix}
 use Rattle.pr_answer.specs.declared.answer.Answer.{Answer}
 use Rattle.pr_answer.specs.declared.answer.Answer.TheVariants.{Ended, Deadlock, Spent, Usage, TooLong, TreeBad, BadBind, NoStart, ReadFault, WriteFault, NoMemory}
@@ -9,12 +10,12 @@ use Rattle.pr_answer.specs.declared.answer.Which.TheVariants.{Tree as TreeSource
 use Rattle.pr_sources.specs.Reading.{EndsBeforeInput}
 use Rattle.pr_sources.specs.Within.{Stage}
 use Rattle.pr_top.specs.pr_run.Report.{Deadlock as AllWait, Ending, Over, Report, Spent as NoTurnIsLeft, answer_of}
-use Rattle.pr_top.specs.pr_run.Puts.{AnswersReport, Got, PutsReport, PutsTurns, StopsInCalm, StopsInErr, StopsInOut, answer_told, stop_answer}
+use Rattle.pr_top.specs.pr_run.Puts.{AnswersReport, Got, PutsReport, PutsTurns, StopsBetween, StopsInCalm, StopsInErr, StopsInOut, answer_told, stop_answer}
 use Rattle.pr_top.specs.pr_run.declared.plan.Plan.{Plan}
 use Rattle.pr_top.specs.pr_run.declared.turns.Stop.{Stop}
 use Rattle.pr_top.specs.pr_run.declared.turns.Stop.TheVariants as stop
 use Rattle.pr_top.specs.Opening.{Begun, Both, Mounts, Opens, Started, Traced, begun_told, mounted_run, report, report_on, started_told, traced_run}
-use Rattle.pr_call.specs.Promise.{ComesBeforeRun, IfKnown, IsBegunWith, Refuses, StopsForMemory, TellsRun}
+use Rattle.pr_call.specs.Promise.{ComesBeforeRun, EndsEarly, IsReported, Refuses, TellsOpening, TellsRun}
 use Rattle.pr_top.specs.declared.opening.Opened.{Opened}
 
 -- a report's own answer tells a run, on both machines
@@ -90,11 +91,6 @@ no-stop-input stop.Err e = absurd cc
 no-stop-input stop.Left e = absurd cc
 no-stop-input stop.NoMemory e = absurd cc
 
--- what holds of a run that began holds of the opening that began it
-pub known : (opened : Opened) (P : Begun → Type 0) (told : Stage Begun) → Opens told (Ok opened) → P (begun_told opened) → IfKnown told P
-known opened P None opens p = tt
-known opened P (Some expected) opens p = subst (IsBegunWith P) (sym opens) p
-
 module _ {rose_out rose_err rose_left : Type 0} (opened : Opened) {out out' err err' left left' : Got} {a : Answer} (answers : AnswersReport (report (begun_told opened)) rose_out rose_err rose_left out out' err err' left left' a) where
   abbrev own : Report
   own = report (begun_told opened)
@@ -126,12 +122,19 @@ module _ {rose_out rose_err rose_left : Type 0} (opened : Opened) {out out' err 
   pub no-source-named : (a ≡ WriteFault TreeSource → ⊥) × (a ≡ WriteFault Elf → ⊥) × (a ≡ WriteFault Input → ⊥)
   no-source-named = (no-write-fault TreeSource no-stop-tree, no-write-fault Elf no-stop-elf, no-write-fault Input no-stop-input)
 
-  told-as : (t : Result Answer Stop) → Puts t → a ≡ answer_told t → TellsRun a → a ≡ own.answer
-  told-as (Ok answer) puts e tells = e ∙ puts.0
-  told-as (Err s) puts e tells = absurd (no-stop-tells s (subst TellsRun e tells))
+  stop-ends : (s : Stop) → EndsEarly (stop_answer s)
+  stop-ends stop.Out = tt
+  stop-ends stop.Err = tt
+  stop-ends stop.Left = tt
+  stop-ends stop.NoMemory = tt
 
-  pub answer-told : (told : Stage Begun) → Opens told (Ok opened) → TellsRun a → IfKnown told (λ b. a ≡ (report b).answer)
-  answer-told told opens tells = known opened (λ b. a ≡ (report b).answer) told opens (told-as answers.told answers.puts answers.answer_is tells)
+  answered-as : (t : Result Answer Stop) → Puts t → a ≡ answer_told t → (a ≡ own.answer) ⊎ EndsEarly a
+  answered-as (Ok answer) puts e = inl (e ∙ puts.0)
+  answered-as (Err s) puts e = inr (subst EndsEarly (sym e) (stop-ends s))
+
+  put-as : (t : Result Answer Stop) → Puts t → a ≡ answer_told t → TellsRun a → PutsTurns own out out' err err' × Appends left left' own.left
+  put-as (Ok answer) puts e tells = (puts.1, puts.2)
+  put-as (Err s) puts e tells = absurd (no-stop-tells s (subst TellsRun e tells))
 
   -- a run that is told is no fault
   no-fault : (b : Answer) → (TellsRun b → ⊥) → (answer : Answer) → answer ≡ own.answer → a ≡ answer → a ≡ b → ⊥
@@ -144,18 +147,12 @@ module _ {rose_out rose_err rose_left : Type 0} (opened : Opened) {out out' err 
   in-out (Err stop.Left) puts e is = absurd cc
   in-out (Err stop.NoMemory) puts e is = absurd cc
 
-  pub stops-in-out : (told : Stage Begun) → Opens told (Ok opened) → a ≡ WriteFault Out → IfKnown told (λ b. StopsInOut (report b).puts out out' err err')
-  stops-in-out told opens is = known opened (λ b. StopsInOut (report b).puts out out' err err') told opens (in-out answers.told answers.puts answers.answer_is is)
-
   in-err : (t : Result Answer Stop) → Puts t → a ≡ answer_told t → a ≡ WriteFault ErrSink → StopsInErr own.puts out out' err err' ⊎ StopsInCalm own out out' err err'
   in-err (Ok answer) puts e is = absurd (no-fault (WriteFault ErrSink) (λ p. p) answer puts.0 e is)
   in-err (Err stop.Out) puts e is = absurd cc
   in-err (Err stop.Err) puts e is = puts.1
   in-err (Err stop.Left) puts e is = absurd cc
   in-err (Err stop.NoMemory) puts e is = absurd cc
-
-  pub stops-in-err : (told : Stage Begun) → Opens told (Ok opened) → a ≡ WriteFault ErrSink → IfKnown told (λ b. StopsInErr (report b).puts out out' err err' ⊎ StopsInCalm (report b) out out' err err')
-  stops-in-err told opens is = known opened (λ b. StopsInErr (report b).puts out out' err err' ⊎ StopsInCalm (report b) out out' err err') told opens (in-err answers.told answers.puts answers.answer_is is)
 
   in-left : (t : Result Answer Stop) → Puts t → a ≡ answer_told t → a ≡ WriteFault Left → PutsTurns own out out' err err' × AppendsPrefix left left' own.left
   in-left (Ok answer) puts e is = absurd (no-fault (WriteFault Left) (λ p. p) answer puts.0 e is)
@@ -164,16 +161,24 @@ module _ {rose_out rose_err rose_left : Type 0} (opened : Opened) {out out' err 
   in-left (Err stop.Left) puts e is = (puts.1, puts.2)
   in-left (Err stop.NoMemory) puts e is = absurd cc
 
-  pub stops-in-left : (told : Stage Begun) → Opens told (Ok opened) → a ≡ WriteFault Left → IfKnown told (λ b. PutsTurns (report b) out out' err err' × AppendsPrefix left left' (report b).left)
-  stops-in-left told opens is = known opened (λ b. PutsTurns (report b) out out' err err' × AppendsPrefix left left' (report b).left) told opens (in-left answers.told answers.puts answers.answer_is is)
-
-  for-memory : (t : Result Answer Stop) → Puts t → a ≡ answer_told t → a ≡ NoMemory → StopsForMemory out out' err err' (Ok (begun_told opened))
+  for-memory : (t : Result Answer Stop) → Puts t → a ≡ answer_told t → a ≡ NoMemory → StopsBetween own.puts out out' err err' ⊎ PutsTurns own out out' err err'
   for-memory (Ok answer) puts e is = absurd (no-fault NoMemory (λ p. p) answer puts.0 e is)
   for-memory (Err stop.Out) puts e is = absurd cc
   for-memory (Err stop.Err) puts e is = absurd cc
   for-memory (Err stop.Left) puts e is = absurd cc
   for-memory (Err stop.NoMemory) puts e is = puts.0
 
-  pub stops-for-memory : (told : Stage Begun) → Opens told (Ok opened) → a ≡ NoMemory → IfSome told (StopsForMemory out out' err err')
-  stops-for-memory None opens is = tt
-  stops-for-memory (Some expected) opens is = subst (StopsForMemory out out' err err') (sym opens) (for-memory answers.told answers.puts answers.answer_is is)
+  reported : IsReported own a out out' err err' left left'
+  reported = record {
+    answered = answered-as answers.told answers.puts answers.answer_is;
+    turns = λ tells. (put-as answers.told answers.puts answers.answer_is tells).0;
+    listing = λ tells. (put-as answers.told answers.puts answers.answer_is tells).1;
+    out_stops = in-out answers.told answers.puts answers.answer_is;
+    err_stops = in-err answers.told answers.puts answers.answer_is;
+    left_stops = in-left answers.told answers.puts answers.answer_is;
+    memory_stops = for-memory answers.told answers.puts answers.answer_is;
+  }
+
+  pub run-told : (told : Stage Begun) → Opens told (Ok opened) → IfSome told (λ o. TellsOpening o a out out' err err' left left')
+  run-told None opens = tt
+  run-told (Some expected) opens = subst (λ o. TellsOpening o a out out' err err' left left') (sym opens) reported

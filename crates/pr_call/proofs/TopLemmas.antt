@@ -1,7 +1,6 @@
 -- What the answer of an opening, and that of a report, say in the words of the top call.
 use Rattle.std.proofs.Common.{◌≡◌, ◌⊎◌, inl, inr, ℕ, List, Some, None, refl, sym, subst, ◌∙◌, IfSome}
 use Rattle.std.specs.Prelude.{Result, Ok, Err, IfOk}
-use Rattle.std.specs.Io.KnownBytes.{Appends}
 use Rattle.std.proofs.KnownBytes.{Appends-nil, Keeps-refl}
 use Rattle.kr_inode.specs.declared.user.User.{User}
 use Rattle.kr_tree.specs.Tree.{Tree}
@@ -13,13 +12,12 @@ use Rattle.pr_answer.specs.declared.answer.Which.TheVariants.{Tree as TreeSource
 use Rattle.pr_sources.specs.Reading.{HasCause}
 use Rattle.pr_sources.specs.Within.{IsEarly, Stage}
 use Rattle.pr_top.specs.pr_run.Report.{Report}
-use Rattle.pr_top.specs.pr_run.Puts.{AnswersReport, Got, PutsReport, PutsTurns, answer_told, stop_answer}
+use Rattle.pr_top.specs.pr_run.Puts.{AnswersReport, Got, PutsReport, answer_told}
 use Rattle.pr_top.specs.pr_run.declared.turns.Stop.{Stop}
 use Rattle.pr_top.specs.pr_run.declared.turns.Stop.TheVariants as stop
 use Rattle.pr_top.specs.Opening.{Begun, IsOfOpening, Opens, OpensFrom, begun_told, report}
-use Rattle.pr_call.specs.Promise.{AnswersOpening, EndsEarly, IfKnown, Refuses, StopsForMemory, TellsRun}
+use Rattle.pr_call.specs.Promise.{ComesBeforeRun, EndsEarly, IsRefused, IsReported, Refuses, TellsOpening, TellsRun}
 use Rattle.pr_top.specs.declared.opening.Opened.{Opened}
-use Rattle.pr_call.proofs.ReportLemmas.{known}
 
 -- ---- kinds of answers
 
@@ -50,6 +48,20 @@ not-told (ReadFault which) is tells = tells
 not-told (WriteFault which) is tells = tells
 not-told NoMemory is tells = tells
 
+-- what an opening answers comes before the run, or for want of memory
+of-opening : (a : Answer) → IsOfOpening a → ComesBeforeRun a ⊎ (a ≡ NoMemory)
+of-opening NoMemory is = inr refl
+of-opening (Usage word why) is = inl tt
+of-opening (TooLong which) is = inl tt
+of-opening (TreeBad line why) is = inl tt
+of-opening (BadBind index why) is = inl tt
+of-opening (NoStart errno) is = inl tt
+of-opening (ReadFault which) is = inl tt
+of-opening (Ended status) is = absurd is
+of-opening Deadlock is = absurd is
+of-opening Spent is = absurd is
+of-opening (WriteFault which) is = absurd is
+
 not-early : (a : Answer) → Refuses a → IsEarly a → ⊥
 not-early NoMemory refuses early = refuses
 not-early (ReadFault which) refuses early = refuses
@@ -68,15 +80,31 @@ no-write a which is e = subst IsOfOpening e is
 
 -- ---- an opening that is refused
 
-refused-as : (a : Answer) (expected : Result Begun Answer) → OpensFrom expected (Err a) → AnswersOpening expected a
-refused-as a (Ok b) (inl e) = absurd cc
-refused-as a (Ok b) (inr early) = inr (early-ends a early)
-refused-as a (Err r) (inl e) = inl (let same : r ≡ a = cc in sym same)
-refused-as a (Err r) (inr early) = inr early
+-- nothing is put then
+module _ (a : Answer) (is : IsOfOpening a) (out err left : Got) where
+  early-report : (told : Report) → IsEarly a → IsReported told a out out err err left left
+  early-report told early = record {
+    answered = inr (early-ends a early);
+    turns = λ tells. absurd (not-told a is tells);
+    listing = λ tells. absurd (not-told a is tells);
+    out_stops = λ e. absurd (no-write a Out is e);
+    err_stops = λ e. absurd (no-write a ErrSink is e);
+    left_stops = λ e. absurd (no-write a Left is e);
+    memory_stops = λ e. inl (record { made = 0; out_got = Appends-nil out; err_got = inl (Appends-nil err) });
+  }
 
-pub refused : (a : Answer) (told : Stage Begun) → Opens told (Err a) → IfSome told (λ o. AnswersOpening o a)
-refused a None opens = tt
-refused a (Some expected) opens = refused-as a expected opens
+  refused-as : (refusal : Answer) → (a ≡ refusal) ⊎ IsEarly a → IsRefused refusal a out out err err left left
+  refused-as refusal answered = record { answered = answered; kind = of-opening a is; out_kept = Keeps-refl out; err_kept = Keeps-refl err; left_kept = Keeps-refl left }
+
+  pub opening-told : (expected : Result Begun Answer) → OpensFrom expected (Err a) → TellsOpening expected a out out err err left left
+  opening-told (Ok b) (inl e) = absurd cc
+  opening-told (Ok b) (inr early) = early-report (report b) early
+  opening-told (Err r) (inl e) = refused-as r (inl (let same : r ≡ a = cc in sym same))
+  opening-told (Err r) (inr early) = refused-as r (inr early)
+
+  pub refusal-told : (told : Stage Begun) → Opens told (Err a) → IfSome told (λ o. TellsOpening o a out out err err left left)
+  refusal-told None opens = tt
+  refusal-told (Some expected) opens = opening-told expected opens
 
 is-refusal : (a : Answer) (expected : Result Begun Answer) → Refuses a → OpensFrom expected (Err a) → expected ≡ Err a
 is-refusal a expected refuses (inl e) = e
@@ -85,14 +113,6 @@ is-refusal a expected refuses (inr early) = absurd (not-early a refuses early)
 pub refusal : (a : Answer) (told : Stage Begun) → Refuses a → Opens told (Err a) → IfSome told (λ o. o ≡ Err a)
 refusal a None refuses opens = tt
 refusal a (Some expected) refuses opens = is-refusal a expected refuses opens
-
-pub nothing-put : (out err : Got) (o : Result Begun Answer) → StopsForMemory out out err err o
-nothing-put out err (Ok b) = inl (record { made = 0; out_got = Appends-nil out; err_got = inl (Appends-nil err) })
-nothing-put out err (Err r) = (Keeps-refl out, Keeps-refl err)
-
-pub nothing : (out err : Got) (told : Stage Begun) → IfSome told (StopsForMemory out out err err)
-nothing out err None = tt
-nothing out err (Some o) = nothing-put out err o
 
 -- without a fault only want of memory comes in place of a run
 module _ (words : Result Options Answer) (tree : Stage (List ℕ)) (listing : Stage (Tree × User)) (rose_tree rose_elf rose_input rose_out rose_err rose_left : Type 0) where
@@ -131,36 +151,6 @@ module _ (words : Result Options Answer) (tree : Stage (List ℕ)) (listing : St
   module _ (opened : Opened) (out out' err err' left left' : Got) (a : Answer) (answers : AnswersReport (report (begun_told opened)) rose_out rose_err rose_left out out' err err' left left' a) where
     abbrev own : Report
     own = report (begun_told opened)
-
-    stop-ends : (s : Stop) → EndsEarly (stop_answer s)
-    stop-ends stop.Out = tt
-    stop-ends stop.Err = tt
-    stop-ends stop.Left = tt
-    stop-ends stop.NoMemory = tt
-
-    stop-tells : (s : Stop) → TellsRun (stop_answer s) → ⊥
-    stop-tells stop.Out tells = tells
-    stop-tells stop.Err tells = tells
-    stop-tells stop.Left tells = tells
-    stop-tells stop.NoMemory tells = tells
-
-    answered-as : (t : Result Answer Stop) → PutsReport own rose_out rose_err rose_left out out' err err' left left' t → a ≡ answer_told t → (a ≡ own.answer) ⊎ EndsEarly a
-    answered-as (Ok answer) puts e = inl (e ∙ puts.0)
-    answered-as (Err s) puts e = inr (subst EndsEarly (sym e) (stop-ends s))
-
-    pub answered : (told : Stage Begun) → Opens told (Ok opened) → IfSome told (λ o. AnswersOpening o a)
-    answered None opens = tt
-    answered (Some expected) opens = subst (λ o. AnswersOpening o a) (sym opens) (answered-as answers.told answers.puts answers.answer_is)
-
-    turns-as : (t : Result Answer Stop) → PutsReport own rose_out rose_err rose_left out out' err err' left left' t → a ≡ answer_told t → TellsRun a → PutsTurns own out out' err err' × Appends left left' own.left
-    turns-as (Ok answer) puts e tells = (puts.1, puts.2)
-    turns-as (Err s) puts e tells = absurd (stop-tells s (subst TellsRun e tells))
-
-    pub turns-put : (told : Stage Begun) → Opens told (Ok opened) → TellsRun a → IfKnown told (λ b. PutsTurns (report b) out out' err err')
-    turns-put told opens tells = known opened (λ b. PutsTurns (report b) out out' err err') told opens (turns-as answers.told answers.puts answers.answer_is tells).0
-
-    pub listing-put : (told : Stage Begun) → Opens told (Ok opened) → TellsRun a → IfKnown told (λ b. Appends left left' (report b).left)
-    listing-put told opens tells = known opened (λ b. Appends left left' (report b).left) told opens (turns-as answers.told answers.puts answers.answer_is tells).1
 
     complete-begun : (t : Result Answer Stop) → PutsReport own rose_out rose_err rose_left out out' err err' left left' t → a ≡ answer_told t → Complete a (begun_told opened)
     complete-begun (Ok answer) puts e = λ t f i o r l. inl (e ∙ puts.0)

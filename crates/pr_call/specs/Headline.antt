@@ -1,5 +1,5 @@
--- The same words over mounts: what they begin there, where that is calm. Without `--native` the public call answers and puts what is told of it.
-use Rattle.std.specs.Prelude.{◌≡◌, ℕ, false, List, Option, Some, None, Ok, Err}
+-- The same words over mounts: what they open there, where that is calm. Without `--native` the public call answers and puts what is told of it.
+use Rattle.std.specs.Prelude.{◌≡◌, ℕ, false, List, Option, Some, None, Result, Ok, Err}
 use Rattle.kr_view.specs.View.{Row}
 use Rattle.machines_agree.specs.Given.{settled_in}
 use Rattle.pr_words.specs.declared.options.Options.{Options}
@@ -18,23 +18,18 @@ pub record AsksTraced (words : List (List ℕ)) (tree elf input : Option (List �
   pub own : options.case ≡ None
   pub watched : options.native ≡ false
 
--- of the same over mounts a run begins, and it is calm
-pub record RunsCalmly (words : List (List ℕ)) (tree elf input : Option (List ℕ)) (b : Begun) : Type 0 where
+-- a run that breaks no calm rule; or a refusal: of bindings that don't settle, or of a start whose walks break none
+abbrev pub IsCalmOpening : Asked → Result Begun Answer → Type 0
+IsCalmOpening a (Ok b) = IsCalmRun b.plan b.started
+IsCalmOpening a (Err refusal) = (table : List Row) → (settled_in a).answer ≡ Ok table → IsCalmStart a table
+
+-- of the same this is opened over mounts, calmly
+pub record OpensCalmly (words : List (List ℕ)) (tree elf input : Option (List ℕ)) (opened : Result Begun Answer) : Type 0 where
   pub asked_for : Asked
   pub traced : AsksTraced words tree elf input asked_for
-  pub begins : over_mounts asked_for ≡ Ok b
-  pub calm : IsCalmRun b.plan b.started
+  pub opens : over_mounts asked_for ≡ opened
+  pub calm : IsCalmOpening asked_for opened
 
--- it is refused over mounts: the bindings don't settle, or a start is refused whose walks are calm
-pub record IsRefusedCalmly (words : List (List ℕ)) (tree elf input : Option (List ℕ)) (refusal : Answer) : Type 0 where
-  pub asked_for : Asked
-  pub traced : AsksTraced words tree elf input asked_for
-  pub begins : over_mounts asked_for ≡ Err refusal
-  pub calm : (table : List Row) → (settled_in asked_for).answer ≡ Ok table → IsCalmStart asked_for table
-
--- this holds of each such run, and of each such refusal
-abbrev pub OfCalmRun : (words : List (List ℕ)) (tree elf input : Option (List ℕ)) → (Begun → Type 0) → Type 0
-OfCalmRun words tree elf input P = (b : Begun) → RunsCalmly words tree elf input b → P b
-
-abbrev pub OfCalmRefusal : (words : List (List ℕ)) (tree elf input : Option (List ℕ)) → (Answer → Type 0) → Type 0
-OfCalmRefusal words tree elf input P = (refusal : Answer) → IsRefusedCalmly words tree elf input refusal → P refusal
+-- this holds of what is opened so
+abbrev pub OfCalmOpening : (words : List (List ℕ)) (tree elf input : Option (List ℕ)) → (Result Begun Answer → Type 0) → Type 0
+OfCalmOpening words tree elf input P = (opened : Result Begun Answer) → OpensCalmly words tree elf input opened → P opened

@@ -1,10 +1,13 @@
 -- The words in which the top call says what it answers, and what the sinks got.
-use Rattle.std.specs.Prelude.{◌≡◌, ◌⊎◌, IfSome, Result, Ok, Err}
-use Rattle.std.specs.Io.KnownBytes.{Keeps}
+use Rattle.std.specs.Prelude.{◌≡◌, ◌⊎◌, Result, Ok, Err}
+use Rattle.std.specs.Io.KnownBytes.{Appends, Keeps}
+use Rattle.pr_io.specs.Moves.{AppendsPrefix}
 use Rattle.pr_answer.specs.declared.answer.Answer.{Answer}
 use Rattle.pr_answer.specs.declared.answer.Answer.TheVariants.{Ended, Deadlock, Spent, Usage, TooLong, TreeBad, BadBind, NoStart, ReadFault, WriteFault, NoMemory}
-use Rattle.pr_sources.specs.Within.{IsEarly, Stage}
-use Rattle.pr_top.specs.pr_run.Puts.{Got, PutsTurns, StopsBetween}
+use Rattle.pr_answer.specs.declared.answer.Which.TheVariants.{Out, Err as ErrSink, Left}
+use Rattle.pr_sources.specs.Within.{IsEarly}
+use Rattle.pr_top.specs.pr_run.Report.{Report}
+use Rattle.pr_top.specs.pr_run.Puts.{Got, PutsTurns, StopsBetween, StopsInCalm, StopsInErr, StopsInOut}
 use Rattle.pr_top.specs.Opening.{Begun, report}
 
 -- answers that tell a whole run
@@ -40,21 +43,27 @@ EndsEarly (ReadFault which) = Unit {0}
 EndsEarly (WriteFault which) = Unit {0}
 EndsEarly answer = ⊥
 
--- what is answered on an opening: the refusal, or the answer of the run's report. Want of memory or a fault may come instead
-abbrev pub AnswersOpening : Result Begun Answer → Answer → Type 0
-AnswersOpening (Ok b) answer = (answer ≡ (report b).answer) ⊎ EndsEarly answer
-AnswersOpening (Err refusal) answer = (answer ≡ refusal) ⊎ IsEarly answer
+-- ---- what is answered and what the sinks got, which had `out`, `err` and `left`, and have `out'`, `err'` and `left'`
 
--- the opening gives a run of which this holds
-abbrev pub IsBegunWith : (Begun → Type 0) → Result Begun Answer → Type 0
-IsBegunWith P (Ok b) = P b
-IsBegunWith P (Err refusal) = ⊥
+-- this report, whole; or want of memory or a fault, and what was put before it
+pub record IsReported (told : Report) (answer : Answer) (out out' err err' left left' : Got) : Type 0 where
+  pub answered : (answer ≡ told.answer) ⊎ EndsEarly answer
+  pub turns : TellsRun answer → PutsTurns told out out' err err'
+  pub listing : TellsRun answer → Appends left left' told.left
+  pub out_stops : answer ≡ WriteFault Out → StopsInOut told.puts out out' err err'
+  pub err_stops : answer ≡ WriteFault ErrSink → StopsInErr told.puts out out' err err' ⊎ StopsInCalm told out out' err err'
+  pub left_stops : answer ≡ WriteFault Left → PutsTurns told out out' err err' × AppendsPrefix left left' told.left
+  pub memory_stops : answer ≡ NoMemory → StopsBetween told.puts out out' err err' ⊎ PutsTurns told out out' err err'
 
--- where the opening is known, it gives a run of which this holds
-abbrev pub IfKnown : Stage Begun → (Begun → Type 0) → Type 0
-IfKnown told P = IfSome told (IsBegunWith P)
+-- this refusal, or a fault of a source or want of memory, and nothing is put
+pub record IsRefused (refusal : Answer) (answer : Answer) (out out' err err' left left' : Got) : Type 0 where
+  pub answered : (answer ≡ refusal) ⊎ IsEarly answer
+  pub kind : ComesBeforeRun answer ⊎ (answer ≡ NoMemory)
+  pub out_kept : Keeps out out'
+  pub err_kept : Keeps err err'
+  pub left_kept : Keeps left left'
 
--- what the sinks got after want of memory: whole turns, or nothing where no run begins
-abbrev pub StopsForMemory : (out out' err err' : Got) → Result Begun Answer → Type 0
-StopsForMemory out out' err err' (Ok b) = StopsBetween (report b).puts out out' err err' ⊎ PutsTurns (report b) out out' err err'
-StopsForMemory out out' err err' (Err refusal) = Keeps out out' × Keeps err err'
+-- what is opened is told: the report of the run that begins, or the refusal
+abbrev pub TellsOpening : Result Begun Answer → Answer → (out out' err err' left left' : Got) → Type 0
+TellsOpening (Ok b) answer out out' err err' left left' = IsReported (report b) answer out out' err err' left left'
+TellsOpening (Err refusal) answer out out' err err' left left' = IsRefused refusal answer out out' err err' left left'

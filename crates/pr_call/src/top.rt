@@ -1,18 +1,15 @@
 //! The top call.
-ghost use Rattle.std.specs.Prelude.{◌≡◌, ◌≢◌, ◌⊎◌, ◌<◌, ◌^◌, ◌++◌, ◌↔◌, Ok, Err, IfSome, IfOk, length, map};
+ghost use Rattle.std.specs.Prelude.{◌≡◌, ◌⊎◌, ◌<◌, ◌^◌, Err, IfSome, IfOk, length, map};
 ghost use Rattle.std.specs.String.{string_bytes};
-ghost use Rattle.std.specs.Io.KnownBytes.{Appends, Keeps, IsAtEnd};
+ghost use Rattle.std.specs.Io.KnownBytes.{Keeps, IsAtEnd};
 ghost use Rattle.pr_io.specs.Faults.{Rose};
-ghost use Rattle.pr_io.specs.Moves.{AppendsPrefix};
 ghost use Rattle.pr_answer.specs.declared.answer.Which.TheVariants.{Tree, Elf, Input, Out, Err as ErrSink, Left};
 ghost use Rattle.pr_sources.specs.Asking.{asked};
 ghost use Rattle.pr_sources.specs.Reading.{AsksCase, EndsBeforeElf, EndsBeforeInput, HasCause, IsOfWords, IsRefusal, IsUnwanted, IsWanted, ReadsSources, told_listing, told_tree};
 ghost use Rattle.pr_sources.specs.Within.{IsAskedWithin};
-ghost use Rattle.pr_top.specs.pr_run.Report.{errs, outs};
-ghost use Rattle.pr_top.specs.pr_run.Puts.{PutsTurns, StopsInCalm, StopsInErr, StopsInOut};
 ghost use Rattle.pr_top.specs.Opening.{opening, report};
-ghost use Rattle.pr_call.specs.Headline.{OfCalmRefusal, OfCalmRun};
-ghost use Rattle.pr_call.specs.Promise.{AnswersOpening, ComesBeforeRun, EndsEarly, IfKnown, Refuses, StopsForMemory, TellsRun};
+ghost use Rattle.pr_call.specs.Headline.{OfCalmOpening};
+ghost use Rattle.pr_call.specs.Promise.{ComesBeforeRun, Refuses, TellsOpening, TellsRun};
 
 use machines_agree::openings;
 use pr_answer::Answer;
@@ -41,8 +38,14 @@ pub fn proot<T: Source, E: Source, I: Source, O: Sink, R: Sink, L: Sink>(
 ) -> Answer
     requires { length words.now < 2 ^ 32 }
 
-    // What is answered: the opening's refusal, or the answer of its run's report; want of memory or a fault may come instead.
-    ensures opening { IfSome (opening (map string_bytes words.now) (T.left tree.old) (E.left elf.old) (I.left input.old)) (λ o. AnswersOpening o result) }
+    // The headline: without `--native`, what is answered and put is what is opened over mounts, where that is calm: the report of a run that
+    // breaks no calm rule, or a refusal, of bindings that don't settle or of a start whose walks break none.
+    ensures headline { OfCalmOpening (map string_bytes words.now) (T.left tree.old) (E.left elf.old) (I.left input.old) (λ o.
+        TellsOpening o result (O.got out.old) (O.got out.new) (R.got err.old) (R.got err.new) (L.got left.old) (L.got left.new)) }
+
+    // What is answered and put: the opening's refusal, or the report of its run; want of memory or a fault may end it earlier, after a part of it.
+    ensures opening { IfSome (opening (map string_bytes words.now) (T.left tree.old) (E.left elf.old) (I.left input.old)) (λ o.
+        TellsOpening o result (O.got out.old) (O.got out.new) (R.got err.old) (R.got err.new) (L.got left.old) (L.got left.new)) }
     ensures refusal { Refuses result → IfSome (opening (map string_bytes words.now) (T.left tree.old) (E.left elf.old) (I.left input.old)) (λ o. o ≡ Err result) }
     ensures words { IsOfWords result → asked (map string_bytes words.now) ≡ Err result }
 
@@ -51,24 +54,15 @@ pub fn proot<T: Source, E: Source, I: Source, O: Sink, R: Sink, L: Sink>(
     ensures err_untouched { ComesBeforeRun result → Keeps (R.got err.old) (R.got err.new) }
     ensures left_untouched { ComesBeforeRun result → Keeps (L.got left.old) (L.got left.new) }
 
-    // Where a run is told, its report was put, whole.
-    ensures told { TellsRun result → IfKnown (opening (map string_bytes words.now) (T.left tree.old) (E.left elf.old) (I.left input.old)) (λ b. result ≡ (report b).answer) }
-    ensures turns { TellsRun result → IfKnown (opening (map string_bytes words.now) (T.left tree.old) (E.left elf.old) (I.left input.old)) (λ b. PutsTurns (report b) (O.got out.old) (O.got out.new) (R.got err.old) (R.got err.new)) }
-    ensures listing { TellsRun result → IfKnown (opening (map string_bytes words.now) (T.left tree.old) (E.left elf.old) (I.left input.old)) (λ b. Appends (L.got left.old) (L.got left.new) (report b).left) }
-
-    // A fault of a sink, with its cause and what stands after it.
+    // A fault of a sink, with its cause, and the listing after it.
     ensures out_fault { result ≡ Answer.WriteFault Out → Rose (O.faults out.old) (O.faults out.new) }
-    ensures out_stops { result ≡ Answer.WriteFault Out → IfKnown (opening (map string_bytes words.now) (T.left tree.old) (E.left elf.old) (I.left input.old)) (λ b. StopsInOut (report b).puts (O.got out.old) (O.got out.new) (R.got err.old) (R.got err.new)) }
     ensures out_leaves { result ≡ Answer.WriteFault Out → Keeps (L.got left.old) (L.got left.new) }
     ensures err_fault { result ≡ Answer.WriteFault ErrSink → Rose (R.faults err.old) (R.faults err.new) }
-    ensures err_stops { result ≡ Answer.WriteFault ErrSink → IfKnown (opening (map string_bytes words.now) (T.left tree.old) (E.left elf.old) (I.left input.old)) (λ b. StopsInErr (report b).puts (O.got out.old) (O.got out.new) (R.got err.old) (R.got err.new) ⊎ StopsInCalm (report b) (O.got out.old) (O.got out.new) (R.got err.old) (R.got err.new)) }
     ensures err_leaves { result ≡ Answer.WriteFault ErrSink → Keeps (L.got left.old) (L.got left.new) }
     ensures left_fault { result ≡ Answer.WriteFault Left → Rose (L.faults left.old) (L.faults left.new) }
-    ensures left_stops { result ≡ Answer.WriteFault Left → IfKnown (opening (map string_bytes words.now) (T.left tree.old) (E.left elf.old) (I.left input.old)) (λ b. PutsTurns (report b) (O.got out.old) (O.got out.new) (R.got err.old) (R.got err.new) × AppendsPrefix (L.got left.old) (L.got left.new) (report b).left) }
     ensures sinks { (result ≡ Answer.WriteFault Tree → ⊥) × (result ≡ Answer.WriteFault Elf → ⊥) × (result ≡ Answer.WriteFault Input → ⊥) }
 
-    // Want of memory comes between turns, and leaves no listing.
-    ensures no_memory { result ≡ Answer.NoMemory → IfSome (opening (map string_bytes words.now) (T.left tree.old) (E.left elf.old) (I.left input.old)) (StopsForMemory (O.got out.old) (O.got out.new) (R.got err.old) (R.got err.new)) }
+    // Want of memory leaves no listing.
     ensures no_memory_left { result ≡ Answer.NoMemory → Keeps (L.got left.old) (L.got left.new) }
 
     // A fault of a source: its count rose, and what comes before it was read; a case is not asked for.
@@ -97,17 +91,6 @@ pub fn proot<T: Source, E: Source, I: Source, O: Sink, R: Sink, L: Sink>(
         (Rose (T.faults tree.old) (T.faults tree.new) → ⊥) → (Rose (E.faults elf.old) (E.faults elf.new) → ⊥) → (Rose (I.faults input.old) (I.faults input.new) → ⊥) →
         (Rose (O.faults out.old) (O.faults out.new) → ⊥) → (Rose (R.faults err.old) (R.faults err.new) → ⊥) → (Rose (L.faults left.old) (L.faults left.new) → ⊥) →
         (result ≡ (report b).answer) ⊎ (result ≡ Answer.NoMemory))) }
-
-    // The headline: without `--native`, what is answered and put is the report of the run over mounts, where that is calm; want of memory or
-    // a fault may come instead, after a part of it. And where a start over mounts is refused whose walks are calm, its refusal is answered.
-    ensures headline { OfCalmRun (map string_bytes words.now) (T.left tree.old) (E.left elf.old) (I.left input.old) (λ b. AnswersOpening (Ok b) result) }
-    ensures headline_turns { TellsRun result → OfCalmRun (map string_bytes words.now) (T.left tree.old) (E.left elf.old) (I.left input.old) (λ b. PutsTurns (report b) (O.got out.old) (O.got out.new) (R.got err.old) (R.got err.new)) }
-    ensures headline_listing { TellsRun result → OfCalmRun (map string_bytes words.now) (T.left tree.old) (E.left elf.old) (I.left input.old) (λ b. Appends (L.got left.old) (L.got left.new) (report b).left) }
-    ensures headline_out_stops { result ≡ Answer.WriteFault Out → OfCalmRun (map string_bytes words.now) (T.left tree.old) (E.left elf.old) (I.left input.old) (λ b. StopsInOut (report b).puts (O.got out.old) (O.got out.new) (R.got err.old) (R.got err.new)) }
-    ensures headline_err_stops { result ≡ Answer.WriteFault ErrSink → OfCalmRun (map string_bytes words.now) (T.left tree.old) (E.left elf.old) (I.left input.old) (λ b. StopsInErr (report b).puts (O.got out.old) (O.got out.new) (R.got err.old) (R.got err.new) ⊎ StopsInCalm (report b) (O.got out.old) (O.got out.new) (R.got err.old) (R.got err.new)) }
-    ensures headline_left_stops { result ≡ Answer.WriteFault Left → OfCalmRun (map string_bytes words.now) (T.left tree.old) (E.left elf.old) (I.left input.old) (λ b. PutsTurns (report b) (O.got out.old) (O.got out.new) (R.got err.old) (R.got err.new) × AppendsPrefix (L.got left.old) (L.got left.new) (report b).left) }
-    ensures headline_no_memory { result ≡ Answer.NoMemory → OfCalmRun (map string_bytes words.now) (T.left tree.old) (E.left elf.old) (I.left input.old) (λ b. StopsForMemory (O.got out.old) (O.got out.new) (R.got err.old) (R.got err.new) (Ok b)) }
-    ensures headline_refusal { OfCalmRefusal (map string_bytes words.now) (T.left tree.old) (E.left elf.old) (I.left input.old) (λ refusal. AnswersOpening (Err refusal) result) }
 {
     openings::openings_agree();
     match open(alloc, words, tree, elf, input) {
