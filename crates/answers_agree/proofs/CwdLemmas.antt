@@ -2,28 +2,28 @@
 use Rattle.std.proofs.Common.{◌≡◌, ℕ, ◌+◌, Bool, true, false, cond, List, [], ◌∷◌, ◌++◌, length, Option, Some, sym, ap, subst, ◌∙◌, pos}
 use Rattle.std.specs.Prelude.{nat_lt, ◌||◌}
 use Rattle.std.specs.Option.{option_and_then, option_map}
-use Rattle.pr_base.specs.Paths.{text_of}
-use Rattle.pr_base.specs.Texts.{Text}
-use Rattle.pr_base.specs.declared.errno.Errno.TheVariants.{EFAULT, ERANGE}
-use Rattle.rv_mem.specs.Actions.{AreEqualUnmarked, carried_out, write_if_allowed}
-use Rattle.rv_mem.specs.Memory.{Memory}
-use Rattle.kr_tree.specs.declared.place.Place.{Place}
-use Rattle.kr_view.specs.HostReach.{host_place}
-use Rattle.kr_view.specs.View.{Row}
-use Rattle.kr_mounts.specs.Standing.{texts_of}
-use Rattle.kr_model.specs.DirectoryRows.{getcwd_row, tell_directory}
-use Rattle.kr_model.specs.ProcessDirectory.{name_text, space_of}
-use Rattle.kr_model.specs.Reply.{done, refuse}
-use Rattle.kr_model.specs.State.{Image, Process, State}
-use Rattle.kr_turns.specs.Stopped.{IsThere, Stopped}
-use Rattle.pt_args.specs.Bases.{tagged_text}
-use Rattle.pt_args.specs.declared.edit.Edit.TheVariants.{Cancel, Emulate}
-use Rattle.pt_args.specs.Shelving.{with_zero}
-use Rattle.pt_bind.specs.Binding.{guest_of}
-use Rattle.pt_bind.specs.Tags.{TagTable, tag_of}
-use Rattle.pt_bind.specs.declared.slot.Slot.TheVariants as slot
-use Rattle.pt_results.specs.Answers.{directory_answer, text_answer}
-use Rattle.pt_tracer.specs.Stopping.{memory_at}
+use Rattle.pt_watched.specs.pr_base.Paths.{text_of}
+use Rattle.pt_watched.specs.pr_base.Texts.{Text}
+use Rattle.pt_watched.specs.pr_base.declared.errno.Errno.TheVariants.{EFAULT, ERANGE}
+use Rattle.pt_watched.specs.rv_mem.Actions.{AreEqualUnmarked, carried_out, write_if_allowed}
+use Rattle.pt_watched.specs.rv_mem.Memory.{Memory}
+use Rattle.walks_agree.specs.kr_tree.declared.place.Place.{Place}
+use Rattle.walks_agree.specs.kr_view.HostReach.{host_place}
+use Rattle.walks_agree.specs.kr_view.View.{Row}
+use Rattle.walks_agree.specs.kr_mounts.Standing.{texts_of}
+use Rattle.walks_agree.specs.kr_model.DirectoryRows.{getcwd_row, tell_directory}
+use Rattle.walks_agree.specs.kr_model.ProcessDirectory.{name_text, space_of}
+use Rattle.walks_agree.specs.kr_model.Reply.{done, refuse}
+use Rattle.walks_agree.specs.kr_model.State.{Image, Process, State}
+use Rattle.pt_watched.specs.kr_turns.Stopped.{IsThere, Stopped}
+use Rattle.pt_watched.specs.pt_args.Bases.{tagged_text}
+use Rattle.pt_watched.specs.pt_args.declared.edit.Edit.TheVariants.{Cancel, Emulate}
+use Rattle.pt_watched.specs.pt_args.Shelving.{with_zero}
+use Rattle.pt_watched.specs.pt_bind.Binding.{guest_of}
+use Rattle.pt_watched.specs.pt_bind.Tags.{TagTable, tag_of}
+use Rattle.pt_watched.specs.pt_bind.declared.slot.Slot.TheVariants as slot
+use Rattle.pt_watched.specs.pt_results.Answers.{directory_answer, text_answer}
+use Rattle.pt_watched.specs.pt_tracer.Stopping.{memory_at}
 use Rattle.pt_watched.specs.Watched.{applied}
 use Rattle.walks_agree.specs.Settled.{host_text}
 use Rattle.walks_agree.specs.States.{IsInUse, host_space}

@@ -2,9 +2,9 @@
 use Rattle.std.proofs.Common.{◌≡◌, ◌≤◌, ℕ, Bool, true, false, List, [], ◌∷◌, length, take, take_all, length-take, min, refl, sym, ap, subst, ◌∙◌, arith, pos}
 use Rattle.std.specs.Prelude.{nat_le}
 use Rattle.std.proofs.lemmas.Bool.{leb-false, leb-true}
-use Rattle.rv_mem.specs.Actions.{carried_out}
-use Rattle.kr_model.specs.AttributeRows.{tell_text}
-use Rattle.pt_args.specs.declared.edit.Edit.TheVariants.{Emulate}
+use Rattle.pt_watched.specs.rv_mem.Actions.{carried_out}
+use Rattle.walks_agree.specs.kr_model.AttributeRows.{tell_text}
+use Rattle.pt_watched.specs.pt_args.declared.edit.Edit.TheVariants.{Emulate}
 use Rattle.pt_watched.specs.Watched.{applied}
 use Rattle.answers_agree.specs.Answers.{AreAnsweredAlike, ErrorsAreToldAlike, LinkTextsAreToldAlike}
 use Rattle.answers_agree.proofs.AnswerLemmas.{put_alike, refused_alike}

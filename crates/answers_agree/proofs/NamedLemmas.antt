@@ -3,26 +3,26 @@ use Rattle.std.proofs.Common.{◌≡◌, ℕ, Bool, true, false, List, ◌∷◌
 use Rattle.std.specs.Bool.{if◌then◌else◌}
 use Rattle.std.specs.List.{position}
 use Rattle.std.specs.Option.{option_and_then, option_map, option_map_or}
-use Rattle.pr_base.specs.MountText.{MountText}
-use Rattle.pr_base.specs.Texts.{Text}
-use Rattle.pt_bind.specs.Binding.{host_of, located, owner}
-use Rattle.kr_tree.specs.Names.{host_name, process_names}
-use Rattle.kr_tree.specs.Tree.{Body, Tree, body, body_is, entry, is_directory}
-use Rattle.kr_tree.specs.declared.place.Host.{Host}
-use Rattle.kr_tree.specs.declared.place.Host.TheVariants.{Node, Proc}
-use Rattle.kr_tree.specs.declared.place.Place.{Place}
-use Rattle.kr_tree.specs.declared.place.ProcAt.{ProcAt}
-use Rattle.kr_tree.specs.declared.place.ProcAt.TheVariants.{SelfLink, Dir, Cwd, Root, Exe, FdDir, Fd}
-use Rattle.kr_tree.proofs.EntryLemmas.{body_test, reached-named}
-use Rattle.kr_tree.proofs.NameLemmas.{some_is}
-use Rattle.kr_view.specs.declared.procs.Lead.{Lead}
-use Rattle.kr_view.specs.Component.{Namespace, is_directory_at, is_processes}
-use Rattle.kr_view.specs.HostReach.{object_in}
-use Rattle.kr_view.specs.Names.{below, found_process_name, named_name, node_entry_name, point_name, process_name, process_object_name, row_at, source_entry_name, source_name}
-use Rattle.kr_view.specs.Processes.{LawsOfProcesses}
-use Rattle.kr_view.specs.View.{Row, is_point, node_in, row, source_place, stands_at}
-use Rattle.kr_view.proofs.HostReachLemmas.{inode_reached, last_object, named_alone, reached_process}
-use Rattle.kr_mounts.specs.Standing.{texts_of}
+use Rattle.pt_watched.specs.pr_base.MountText.{MountText}
+use Rattle.pt_watched.specs.pr_base.Texts.{Text}
+use Rattle.pt_watched.specs.pt_bind.Binding.{host_of, located, owner}
+use Rattle.walks_agree.specs.kr_tree.Names.{host_name, process_names}
+use Rattle.walks_agree.specs.kr_tree.Tree.{Body, Tree, body, body_is, entry, is_directory}
+use Rattle.walks_agree.specs.kr_tree.declared.place.Host.{Host}
+use Rattle.walks_agree.specs.kr_tree.declared.place.Host.TheVariants.{Node, Proc}
+use Rattle.walks_agree.specs.kr_tree.declared.place.Place.{Place}
+use Rattle.walks_agree.specs.kr_tree.declared.place.ProcAt.{ProcAt}
+use Rattle.walks_agree.specs.kr_tree.declared.place.ProcAt.TheVariants.{SelfLink, Dir, Cwd, Root, Exe, FdDir, Fd}
+use Rattle.walks_agree.proofs.kr_tree.EntryLemmas.{body_test, reached-named}
+use Rattle.walks_agree.proofs.kr_tree.NameLemmas.{some_is}
+use Rattle.walks_agree.specs.kr_view.declared.procs.Lead.{Lead}
+use Rattle.walks_agree.specs.kr_view.Component.{Namespace, is_directory_at, is_processes}
+use Rattle.walks_agree.specs.kr_view.HostReach.{object_in}
+use Rattle.walks_agree.specs.kr_view.Names.{below, found_process_name, named_name, node_entry_name, point_name, process_name, process_object_name, row_at, source_entry_name, source_name}
+use Rattle.walks_agree.specs.kr_view.Processes.{LawsOfProcesses}
+use Rattle.walks_agree.specs.kr_view.View.{Row, is_point, node_in, row, source_place, stands_at}
+use Rattle.walks_agree.proofs.kr_view.HostReachLemmas.{inode_reached, last_object, named_alone, reached_process}
+use Rattle.walks_agree.specs.kr_mounts.Standing.{texts_of}
 use Rattle.walks_agree.specs.Settled.{IsSettled}
 use Rattle.walks_agree.specs.Standing.{reached_in}
 use Rattle.walks_agree.proofs.StandingLemmas.{descriptors_shown, host_called, node_reached, process_holder, process_shown, source_reached}

@@ -1,17 +1,17 @@
 -- The numbers of requests with paths.
 use Rattle.std.proofs.Common.{◌≡◌, ℕ, Bool, true, false, cond, Some, None, Ok, Err, refl, sym, ap, subst, ◌∙◌}
 use Rattle.std.specs.Prelude.{◌==◌}
-use Rattle.pr_base.specs.declared.errno.Errno.{Errno}
-use Rattle.pr_base.specs.declared.errno.Errno.TheVariants.{ENOSYS}
-use Rattle.rv_mem.specs.Actions.{Action, carried_out}
-use Rattle.rv_mem.specs.Memory.{Memory}
-use Rattle.rv_mem.specs.declared.regs.Regs.{Regs}
-use Rattle.kr_calls.specs.Arguments.{number}
-use Rattle.kr_calls.specs.Decoding.{Decoded, accepts, by_descriptor, by_file, by_identity, by_memory, by_name, by_process, refuses, unless}
-use Rattle.kr_calls.specs.PathTable.{PathUse, path_at}
-use Rattle.kr_calls.specs.declared.request.Request.{Request}
-use Rattle.kr_calm.specs.Shelf.{has_path}
-use Rattle.kr_lawful.proofs.SumLemmas.{passed-test}
+use Rattle.pt_watched.specs.pr_base.declared.errno.Errno.{Errno}
+use Rattle.pt_watched.specs.pr_base.declared.errno.Errno.TheVariants.{ENOSYS}
+use Rattle.pt_watched.specs.rv_mem.Actions.{Action, carried_out}
+use Rattle.pt_watched.specs.rv_mem.Memory.{Memory}
+use Rattle.pt_watched.specs.rv_mem.declared.regs.Regs.{Regs}
+use Rattle.walks_agree.specs.kr_calls.Arguments.{number}
+use Rattle.walks_agree.specs.kr_calls.Decoding.{Decoded, accepts, by_descriptor, by_file, by_identity, by_memory, by_name, by_process, refuses, unless}
+use Rattle.walks_agree.specs.kr_calls.PathTable.{PathUse, path_at}
+use Rattle.walks_agree.specs.kr_calls.declared.request.Request.{Request}
+use Rattle.pt_watched.specs.kr_calm.Shelf.{has_path}
+use Rattle.pt_watched.proofs.kr_lawful.SumLemmas.{passed-test}
 use Rattle.answers_agree.specs.Shelves.{PathsHaveNumbers}
 
 -- whatever memory it is carried out on, what an action decodes with a path tells of a number that it is one of a call with a path

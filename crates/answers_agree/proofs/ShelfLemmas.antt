@@ -3,28 +3,28 @@ use Rattle.std.proofs.Common.{◌≡◌, ℕ, Bool, true, false, cond, Option, S
 use Rattle.std.specs.Prelude.{◌&&◌, ◌||◌, ◌-◌, not, nat_le, nat_lt, List, IsSome}
 use Rattle.std.specs.Option.{option_map_or}
 use Rattle.std.proofs.lemmas.Bool.Decides.{nat_tests}
-use Rattle.rv_mem.specs.Actions.{AreEqualUnmarked, carried_out}
-use Rattle.rv_mem.specs.Pages.{Pages, allows_all}
-use Rattle.rv_mem.specs.declared.regs.Regs.{Regs}
-use Rattle.rv_mem.specs.declared.rights.Use.TheVariants.{Read, Write}
-use Rattle.kr_view.specs.View.{Row}
-use Rattle.kr_calls.specs.Arguments.{number}
-use Rattle.kr_calls.specs.Decoding.{Decoded, decoding}
-use Rattle.kr_calls.specs.declared.request.Request.{Request}
-use Rattle.kr_calls.specs.declared.request.Request.TheVariants as call
-use Rattle.kr_model.specs.Known.{known}
-use Rattle.kr_model.specs.Operation.{operation}
-use Rattle.kr_model.specs.State.{Image, Process, State, image_layout, process}
-use Rattle.kr_model.specs.Walks.{seen}
-use Rattle.kr_seen.specs.Carrying.{memory_of}
-use Rattle.kr_calm.specs.Shelf.{has_path, is_usable, lacks_shelf_by, shelf_size, shelved_by, stack_pointer}
-use Rattle.kr_execve.specs.Execution.{execution}
-use Rattle.kr_steps.specs.Computing.{computed}
-use Rattle.kr_turns.specs.Breaking.{decoded_rule, plain_rule_of, requested_rule}
-use Rattle.kr_turns.specs.Shelving.{lacks_in, shelved_in}
-use Rattle.kr_turns.specs.Stopped.{image_at, image_in, no_image}
-use Rattle.kr_turns.proofs.EditLemmas.{computed-lives}
-use Rattle.pt_tracer.specs.Stopping.{memory_at}
+use Rattle.pt_watched.specs.rv_mem.Actions.{AreEqualUnmarked, carried_out}
+use Rattle.pt_watched.specs.rv_mem.Pages.{Pages, allows_all}
+use Rattle.pt_watched.specs.rv_mem.declared.regs.Regs.{Regs}
+use Rattle.pt_watched.specs.rv_mem.declared.rights.Use.TheVariants.{Read, Write}
+use Rattle.walks_agree.specs.kr_view.View.{Row}
+use Rattle.walks_agree.specs.kr_calls.Arguments.{number}
+use Rattle.walks_agree.specs.kr_calls.Decoding.{Decoded, decoding}
+use Rattle.walks_agree.specs.kr_calls.declared.request.Request.{Request}
+use Rattle.walks_agree.specs.kr_calls.declared.request.Request.TheVariants as call
+use Rattle.walks_agree.specs.kr_model.Known.{known}
+use Rattle.walks_agree.specs.kr_model.Operation.{operation}
+use Rattle.walks_agree.specs.kr_model.State.{Image, Process, State, image_layout, process}
+use Rattle.walks_agree.specs.kr_model.Walks.{seen}
+use Rattle.pt_watched.specs.kr_seen.Carrying.{memory_of}
+use Rattle.pt_watched.specs.kr_calm.Shelf.{has_path, is_usable, lacks_shelf_by, shelf_size, shelved_by, stack_pointer}
+use Rattle.pt_watched.specs.kr_execve.Execution.{execution}
+use Rattle.pt_watched.specs.kr_steps.Computing.{computed}
+use Rattle.pt_watched.specs.kr_turns.Breaking.{decoded_rule, plain_rule_of, requested_rule}
+use Rattle.pt_watched.specs.kr_turns.Shelving.{lacks_in, shelved_in}
+use Rattle.pt_watched.specs.kr_turns.Stopped.{image_at, image_in, no_image}
+use Rattle.pt_watched.proofs.kr_turns.EditLemmas.{computed-lives}
+use Rattle.pt_watched.specs.pt_tracer.Stopping.{memory_at}
 use Rattle.answers_agree.specs.Shelves.{CalmCallsHaveShelves, ShelvesAreSeen}
 use Rattle.answers_agree.proofs.AnswerLemmas.{allowed_alike}
 

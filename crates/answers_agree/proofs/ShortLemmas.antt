@@ -1,29 +1,30 @@
 -- The host texts to which a walk leads are at most as long as what it reached.
 use Rattle.std.proofs.Common.{◌≡◌, ◌≢◌, ◌≤◌, ℕ, Bool, true, false, List, [], ◌∷◌, Option, Some, None, refl, sym, ap, subst, ◌∙◌}
 use Rattle.std.specs.Bool.{if◌then◌else◌}
-use Rattle.pr_base.specs.Paths.{Component, Dot, DotDot, Name, kind_of}
-use Rattle.pr_base.specs.Texts.{Text}
-use Rattle.pr_base.specs.WalkFrame.{Fails, Missing, Leads, Links, Jumps, Landing, Target, landed, name_of}
-use Rattle.pr_base.specs.WalkLaws.{Shows}
-use Rattle.pr_base.specs.declared.path.Last.{Last}
-use Rattle.pr_base.specs.declared.path.Last.TheVariants as last
-use Rattle.pr_base.specs.declared.path.WalkMode.{WalkMode}
-use Rattle.pr_base.proofs.AlikeLemmas.{alike_some}
-use Rattle.kr_tree.specs.Names.{host_name}
-use Rattle.kr_tree.specs.Tree.{Tree, body_is, is_directory}
-use Rattle.kr_tree.specs.declared.place.Host.TheVariants.{Node}
-use Rattle.kr_tree.specs.declared.place.Place.{Place}
-use Rattle.kr_tree.proofs.NameLemmas.{some_is}
-use Rattle.kr_view.specs.declared.target.Reach.{Reach}
-use Rattle.kr_view.specs.Component.{Namespace, SeenPlace, is_directory_at, landing, look_up}
-use Rattle.kr_view.specs.Names.{below, component_name, directory_name, entry_name, landing_name, led_to_name}
-use Rattle.kr_view.specs.Reach.{beginning_name, free_target_name, reach_after, seen_name, text_length}
-use Rattle.kr_view.specs.View.{node_in}
-use Rattle.kr_view.specs.Walk.{PlaceTarget, looking, place_walk}
-use Rattle.kr_view.proofs.DirectoryLemmas.{found_itself, in_directory}
-use Rattle.kr_view.proofs.HostReachLemmas.{last_object}
-use Rattle.kr_view.proofs.LandingLemmas.{landing_of_file}
-use Rattle.pr_base.proofs.EndLemmas.{found_is_shown}
+use Rattle.pt_watched.specs.pr_base.Paths.{Component, Dot, DotDot, Name, kind_of}
+use Rattle.pt_watched.specs.pr_base.Texts.{Text}
+use Rattle.pt_watched.specs.pr_base.WalkFrame.{Fails, Missing, Leads, Links, Jumps, Landing, Target, landed, name_of}
+use Rattle.pt_watched.specs.pr_base.WalkLaws.{Shows}
+use Rattle.pt_watched.specs.pr_base.declared.path.Last.{Last}
+use Rattle.pt_watched.specs.pr_base.declared.path.Last.TheVariants as last
+use Rattle.pt_watched.specs.pr_base.declared.path.WalkMode.{WalkMode}
+use Rattle.pt_watched.specs.pr_base.declared.path.WalkMode.TheVariants as modes
+use Rattle.pt_watched.proofs.pr_base.AlikeLemmas.{alike_some}
+use Rattle.walks_agree.specs.kr_tree.Names.{host_name}
+use Rattle.walks_agree.specs.kr_tree.Tree.{Tree, body_is, is_directory}
+use Rattle.walks_agree.specs.kr_tree.declared.place.Host.TheVariants.{Node}
+use Rattle.walks_agree.specs.kr_tree.declared.place.Place.{Place}
+use Rattle.walks_agree.proofs.kr_tree.NameLemmas.{some_is}
+use Rattle.walks_agree.specs.kr_view.declared.target.Reach.{Reach}
+use Rattle.walks_agree.specs.kr_view.Component.{Namespace, SeenPlace, is_directory_at, landing, look_up}
+use Rattle.walks_agree.specs.kr_view.Names.{below, component_name, directory_name, entry_name, landing_name, led_to_name}
+use Rattle.walks_agree.specs.kr_view.Reach.{beginning_name, free_target_name, named_entry, names_entry, reach_after, seen_name, text_length}
+use Rattle.walks_agree.specs.kr_view.View.{node_in}
+use Rattle.walks_agree.specs.kr_view.Walk.{PlaceTarget, looking, place_walk}
+use Rattle.walks_agree.proofs.kr_view.DirectoryLemmas.{found_itself, in_directory}
+use Rattle.walks_agree.proofs.kr_view.HostReachLemmas.{last_object}
+use Rattle.walks_agree.proofs.kr_view.LandingLemmas.{landing_of_file}
+use Rattle.pt_watched.proofs.pr_base.EndLemmas.{found_is_shown}
 use Rattle.walks_agree.specs.Handed.{BothEnd}
 use Rattle.walks_agree.specs.Scene.{Scene, space_of, texts_in}
 use Rattle.walks_agree.specs.Settled.{IsSettled, host_text}
@@ -73,9 +74,9 @@ module _ (scene : Scene) (mode : WalkMode) (base : Place ℕ) (t : Text) (path :
   h u = host_text space u
 
   abbrev n : ℕ
-  n = (reach_after scene.around (place_walk scene.around mode base path) r).longest
+  n = (reach_after scene.around mode (place_walk scene.around mode base path) r).longest
 
-  counted : IsCounted scene.around n a
+  counted : IsCounted scene.around mode n a
   counted = target_counted scene.around mode base path r a e.place
 
   -- a directory is called by its host text
@@ -194,9 +195,9 @@ module _ (scene : Scene) (mode : WalkMode) (base : Place ℕ) (t : Text) (path :
   free_short : a.jumped ≡ false → a.found ≡ None → text_length (a.name ∷ h b.dir) ≤ n
   free_short jumped free = (free_counted scene.around mode base path r a e.place).go (a.name ∷ h b.dir) (ap (free_target_name space a) free ∙ ap (below a.name) (dir_called jumped))
 
-  -- an entry that is there is reached itself, whatever is shown in its place
-  entry_short : a.jumped ≡ false → a.last ≡ last.Name → text_length (a.name ∷ h b.dir) ≤ n
-  entry_short jumped is = by a.found refl
+  -- an entry that a path names is reached itself, whatever is shown in its place
+  entry_short : mode ≡ modes.Name → a.jumped ≡ false → a.last ≡ last.Name → text_length (a.name ∷ h b.dir) ≤ n
+  entry_short by_name jumped is = by a.found refl
     where
       away : a.last ≢ last.Root
       away root = let clash : last.Name ≡ last.Root = sym is ∙ root in absurd cc
@@ -207,7 +208,8 @@ module _ (scene : Scene) (mode : WalkMode) (base : Place ℕ) (t : Text) (path :
       within : IsWithin n (seen_name (entry_name space a.dir.host (Name a.name)) (look_up scene.around a.dir (Name a.name)))
       within =
           let own = counted.shown jumped away in
-          subst (λ d. IsWithin n (seen_name (entry_name space a.dir.host d) (look_up scene.around a.dir d))) (only own.0 own.1 own.2) own.4
+          subst (λ m. IsWithin n (seen_name (named_entry space (names_entry m true) a.dir.host (Name a.name)) (look_up scene.around a.dir (Name a.name)))) by_name
+          (subst (λ d. IsWithin n (seen_name (named_entry space (names_entry mode true) a.dir.host d) (look_up scene.around a.dir d))) (only own.0 own.1 own.2) own.4)
 
       by : (o : Option (Place ℕ)) → a.found ≡ o → text_length (a.name ∷ h b.dir) ≤ n
       by None free = free_short jumped free
@@ -221,5 +223,5 @@ reached_texts_are_short scene mode base t path a b r e = record {
   found = λ p u ea eb. found_short scene mode base t path a b r e p u ea eb;
   dir = λ jumped. dir_short scene mode base t path a b r e jumped;
   free = λ jumped free. free_short scene mode base t path a b r e jumped free;
-  entry = λ jumped is. entry_short scene mode base t path a b r e jumped is;
+  entry = λ by_name jumped is. entry_short scene mode base t path a b r e by_name jumped is;
 }

@@ -4,31 +4,31 @@ use Rattle.std.specs.Bool.{if◌then◌else◌}
 use Rattle.std.specs.Prelude.{is_some}
 use Rattle.std.specs.Option.{unwrap_or}
 use Rattle.std.proofs.lemmas.List.Elements.{All-cons}
-use Rattle.pr_base.specs.Alike.{OptionAlike, TargetAlike, both, neither}
-use Rattle.pr_base.specs.MountText.{MountText}
-use Rattle.pr_base.specs.Paths.{AreParts, IsComponent, IsPart, below_root, dot, dot_dot, slash, text_of}
-use Rattle.pr_base.specs.Texts.{Text}
-use Rattle.pr_base.specs.WalkFrame.{Target}
-use Rattle.pr_base.specs.declared.errno.Errno.{Errno}
-use Rattle.pr_base.specs.declared.errno.Errno.TheVariants.{EISDIR}
-use Rattle.pr_base.specs.declared.path.Last.{Last}
-use Rattle.pr_base.specs.declared.path.Last.TheVariants as last
-use Rattle.pr_base.specs.declared.path.WalkMode.{WalkMode}
-use Rattle.pr_base.specs.declared.path.WalkMode.TheVariants as modes
-use Rattle.pr_base.proofs.EndLemmas.{jump_is_shown}
-use Rattle.pr_base.proofs.PathLemmas.{names_are_parts}
-use Rattle.pt_args.specs.Purposes.{entry_swap, made_swap, named_path, own_path, purpose_of, swap_for}
-use Rattle.pt_bind.specs.Binding.{host_of, names_of}
-use Rattle.pt_bind.proofs.ByteLemmas.{names_written}
-use Rattle.pt_canon.specs.Canon.{canon_at, canon_result, ending_of, entry_text, found_entry}
-use Rattle.pt_canon.specs.TextWalk.{looking_texts}
-use Rattle.pt_canon.specs.declared.canon.Canon.{Canon}
-use Rattle.kr_tree.proofs.NameLemmas.{some_is}
-use Rattle.kr_tree.specs.declared.place.Place.{Place}
-use Rattle.kr_view.specs.declared.target.Reach.{Reach}
-use Rattle.kr_view.specs.Reach.{reach_after}
-use Rattle.kr_view.specs.Walk.{PlaceTarget, looking, place_walk}
-use Rattle.kr_view.proofs.StayingLemmas.{names-stay}
+use Rattle.pt_watched.specs.pr_base.Alike.{OptionAlike, TargetAlike, both, neither}
+use Rattle.pt_watched.specs.pr_base.MountText.{MountText}
+use Rattle.pt_watched.specs.pr_base.Paths.{AreParts, IsComponent, IsPart, below_root, dot, dot_dot, slash, text_of}
+use Rattle.pt_watched.specs.pr_base.Texts.{Text}
+use Rattle.pt_watched.specs.pr_base.WalkFrame.{Target}
+use Rattle.pt_watched.specs.pr_base.declared.errno.Errno.{Errno}
+use Rattle.pt_watched.specs.pr_base.declared.errno.Errno.TheVariants.{EISDIR}
+use Rattle.pt_watched.specs.pr_base.declared.path.Last.{Last}
+use Rattle.pt_watched.specs.pr_base.declared.path.Last.TheVariants as last
+use Rattle.pt_watched.specs.pr_base.declared.path.WalkMode.{WalkMode}
+use Rattle.pt_watched.specs.pr_base.declared.path.WalkMode.TheVariants as modes
+use Rattle.pt_watched.proofs.pr_base.EndLemmas.{jump_is_shown}
+use Rattle.pt_watched.proofs.pr_base.PathLemmas.{names_are_parts}
+use Rattle.pt_watched.specs.pt_args.Purposes.{entry_swap, made_swap, named_path, own_path, purpose_of, swap_for}
+use Rattle.pt_watched.specs.pt_bind.Binding.{host_of, names_of}
+use Rattle.pt_watched.proofs.pt_bind.ByteLemmas.{names_written}
+use Rattle.walks_agree.specs.pt_canon.Canon.{canon_at, canon_result, ending_of, entry_text, found_entry}
+use Rattle.walks_agree.specs.pt_canon.TextWalk.{looking_texts}
+use Rattle.walks_agree.specs.pt_canon.declared.canon.Canon.{Canon}
+use Rattle.walks_agree.proofs.kr_tree.NameLemmas.{some_is}
+use Rattle.walks_agree.specs.kr_tree.declared.place.Place.{Place}
+use Rattle.walks_agree.specs.kr_view.declared.target.Reach.{Reach}
+use Rattle.walks_agree.specs.kr_view.Reach.{reach_after}
+use Rattle.walks_agree.specs.kr_view.Walk.{PlaceTarget, looking, place_walk}
+use Rattle.walks_agree.proofs.kr_view.StayingLemmas.{names-stay}
 use Rattle.walks_agree.specs.Handed.{BothEnd}
 use Rattle.walks_agree.specs.Scene.{Scene, space_of, texts_in}
 use Rattle.walks_agree.specs.Standing.{FoundStands, likeness}
@@ -83,14 +83,14 @@ other_none Q _ _ neither h = refl
 other_none Q _ _ (both q) h = absurd cc
 
 module _ (scene : Scene) (mode : WalkMode) (base : Place ℕ) (t : Text) (path : List ℕ) (a : PlaceTarget) (b : Target Text Text) (r : Reach) (e : BothEnd scene mode base t path a b)
-    (calm : (reach_after scene.around (place_walk scene.around mode base path) r).longest ≤ 4000) where
+    (calm : (reach_after scene.around mode (place_walk scene.around mode base path) r).longest ≤ 4000) where
   abbrev bindings : List MountText
   bindings = (texts_in scene).bindings
 
   abbrev h : Text → Text
   h u = host_of bindings u
 
-  short : AreShort scene (reach_after scene.around (place_walk scene.around mode base path) r).longest a b
+  short : AreShort scene mode (reach_after scene.around mode (place_walk scene.around mode base path) r).longest a b
   short = reached_texts_are_short scene mode base t path a b r e
 
   k : TargetAlike (likeness (space_of scene) mode) a b
@@ -190,14 +190,14 @@ module _ (scene : Scene) (mode : WalkMode) (base : Place ℕ) (t : Text) (path :
         by None eb = refl
         by (Some u) eb = text_target_named (texts_in scene) mode t path b u e.text (sym k.jumped ∙ jumped) (sym k.last ∙ is) eb
 
-    entry_short : (l : Last) → a.last ≡ l → a.jumped ≡ false → ◌≡◌ {A = Result (List ℕ) Errno} (Ok (entry_swap bindings (end_at l) l)) (Ok text) → length text ≤ 4095
-    entry_short last.Name is jumped swap =
+    entry_short : mode ≡ modes.Name → (l : Last) → a.last ≡ l → a.jumped ≡ false → ◌≡◌ {A = Result (List ℕ) Errno} (Ok (entry_swap bindings (end_at l) l)) (Ok text) → length text ≤ 4095
+    entry_short by_name last.Name is jumped swap =
         so (own_path bindings (names_of (text_of (unwrap_or b.found (b.name ∷ b.dir)))) b.slash) swap
         (subst (λ guest. length (own_path bindings (names_of (text_of guest)) b.slash) ≤ 4095) (sym (entry_named jumped is))
-        (name_short jumped is (let long = short.entry jumped is in omega (arith, long, calm)) b.slash))
-    entry_short last.Dot is jumped swap = so (named_path bindings (names_of (text_of b.dir)) dot b.slash) swap (part_short jumped dot (omega arith) b.slash)
-    entry_short last.DotDot is jumped swap = so (named_path bindings (names_of (text_of b.dir)) dot_dot b.slash) swap (part_short jumped dot_dot (omega arith) b.slash)
-    entry_short last.Root is jumped swap = so (slash ∷ []) swap (omega arith)
+        (name_short jumped is (let long = short.entry by_name jumped is in omega (arith, long, calm)) b.slash))
+    entry_short by_name last.Dot is jumped swap = so (named_path bindings (names_of (text_of b.dir)) dot b.slash) swap (part_short jumped dot (omega arith) b.slash)
+    entry_short by_name last.DotDot is jumped swap = so (named_path bindings (names_of (text_of b.dir)) dot_dot b.slash) swap (part_short jumped dot_dot (omega arith) b.slash)
+    entry_short by_name last.Root is jumped swap = so (slash ∷ []) swap (omega arith)
 
     -- by the mode of the walk
     by_mode : (opening : Bool) (m : WalkMode) → mode ≡ m → swap_for bindings (purpose_of opening m) (canon_at bindings (ending_of m b)) ≡ Ok text → length text ≤ 4095
@@ -206,7 +206,7 @@ module _ (scene : Scene) (mode : WalkMode) (base : Place ℕ) (t : Text) (path :
     by_mode true modes.Name is swap = made_short b.last k.last swap
     by_mode false modes.Name is swap =
         let stays = names-stay (looking scene.around) base path a (ap (λ m. (place_walk scene.around m base path).answer) (sym is) ∙ e.place) in
-        entry_short b.last k.last stays swap
+        entry_short is b.last k.last stays swap
     by_mode opening modes.Open is swap = made_short b.last k.last swap
 
 pub swaps_are_short : SwapsAreShort

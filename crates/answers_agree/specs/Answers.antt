@@ -1,29 +1,29 @@
 -- Calls that a tracer answers itself: what it answers and writes is what the kernel with mounts answers and writes.
 use Rattle.std.specs.Prelude.{◌≡◌, ℕ, ℤ, true, List, [], Some}
 use Rattle.std.specs.Option.{option_and_then}
-use Rattle.pr_base.specs.declared.errno.Errno.{Errno}
-use Rattle.rv_mem.specs.Actions.{AreEqualUnmarked, CarriedOut, carried_out}
-use Rattle.rv_mem.specs.Memory.{Memory}
-use Rattle.kr_view.specs.Component.{is_directory_at}
-use Rattle.kr_view.specs.Living.{Each, HasSmallNumbers}
-use Rattle.kr_view.specs.View.{Row}
-use Rattle.kr_calls.specs.declared.request.Request.TheVariants as call
-use Rattle.kr_model.specs.Applied.{cwd_of}
-use Rattle.kr_model.specs.Known.{known}
-use Rattle.kr_model.specs.Operation.{operation}
-use Rattle.kr_model.specs.ProcessDirectory.{living_of, name_text, space_of}
-use Rattle.kr_model.specs.AttributeRows.{tell_text}
-use Rattle.kr_model.specs.Reply.{Reply, refuse}
-use Rattle.kr_model.specs.State.{Image, Process, State, image_layout, process}
-use Rattle.kr_model.specs.Walks.{seen}
-use Rattle.kr_model.specs.declared.outcome.Outcome.TheVariants.{Answer}
-use Rattle.kr_turns.specs.Stopped.{IsThere, Stopped}
-use Rattle.pt_args.specs.Bases.{working_text}
-use Rattle.pt_bind.specs.Tags.{TagTable}
-use Rattle.pt_canon.specs.TextWalk.{TextSurroundings}
-use Rattle.pt_args.specs.declared.edit.Edit.TheVariants.{Cancel}
-use Rattle.pt_results.specs.Answers.{cwd_answer, lead_answer}
-use Rattle.pt_tracer.specs.Stopping.{memory_at}
+use Rattle.pt_watched.specs.pr_base.declared.errno.Errno.{Errno}
+use Rattle.pt_watched.specs.rv_mem.Actions.{AreEqualUnmarked, CarriedOut, carried_out}
+use Rattle.pt_watched.specs.rv_mem.Memory.{Memory}
+use Rattle.walks_agree.specs.kr_view.Component.{is_directory_at}
+use Rattle.walks_agree.specs.kr_view.Living.{Each, HasSmallNumbers}
+use Rattle.walks_agree.specs.kr_view.View.{Row}
+use Rattle.walks_agree.specs.kr_calls.declared.request.Request.TheVariants as call
+use Rattle.walks_agree.specs.kr_model.Applied.{cwd_of}
+use Rattle.walks_agree.specs.kr_model.Known.{known}
+use Rattle.walks_agree.specs.kr_model.Operation.{operation}
+use Rattle.walks_agree.specs.kr_model.ProcessDirectory.{living_of, name_text, space_of}
+use Rattle.walks_agree.specs.kr_model.AttributeRows.{tell_text}
+use Rattle.walks_agree.specs.kr_model.Reply.{Reply, refuse}
+use Rattle.walks_agree.specs.kr_model.State.{Image, Process, State, image_layout, process}
+use Rattle.walks_agree.specs.kr_model.Walks.{seen}
+use Rattle.walks_agree.specs.kr_model.declared.outcome.Outcome.TheVariants.{Answer}
+use Rattle.pt_watched.specs.kr_turns.Stopped.{IsThere, Stopped}
+use Rattle.pt_watched.specs.pt_args.Bases.{working_text}
+use Rattle.pt_watched.specs.pt_bind.Tags.{TagTable}
+use Rattle.walks_agree.specs.pt_canon.TextWalk.{TextSurroundings}
+use Rattle.pt_watched.specs.pt_args.declared.edit.Edit.TheVariants.{Cancel}
+use Rattle.pt_watched.specs.pt_results.Answers.{cwd_answer, lead_answer}
+use Rattle.pt_watched.specs.pt_tracer.Stopping.{memory_at}
 use Rattle.pt_watched.specs.Watched.{Applied, applied}
 use Rattle.walks_agree.specs.Scene.{texts_in}
 use Rattle.walks_agree.specs.Settled.{IsSettled}

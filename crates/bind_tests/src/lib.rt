@@ -1,7 +1,9 @@
-//! Tests of tables of bindings, over tables that other tests share.
+//! Tests of tables of bindings, over tables that other tests share, and of tags.
 #![tactic(auto)]
 
 pub mod tables;
+#[cfg(test)]
+mod tags;
 #[cfg(test)]
 mod tests;
 pub mod texts;

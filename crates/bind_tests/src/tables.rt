@@ -44,25 +44,3 @@ pub fn bindings_in_bindings(alloc: Global) -> Result<Table, NoMemory> {
     ];
     Table::build(alloc, &bounds)
 }
-
-/// One source at two locations, a file over a file, and the process directory.
-pub fn a_file_and_directories(alloc: Global) -> Result<Table, NoMemory> {
-    let bounds = [
-        bound(alloc, 0, b"/", b"/g", b"")?,
-        bound(alloc, 1, b"/a/x", b"/data", b"/g/a/x")?,
-        bound(alloc, 2, b"/b", b"/data", b"/g/b")?,
-        bound(alloc, 3, b"/mnt", b"/other", b"/g/mnt")?,
-        bound(alloc, 4, b"/f", b"/new", b"/g/f")?,
-        bound(alloc, 5, b"/proc", b"/proc", b"/g/proc")?,
-    ];
-    Table::build(alloc, &bounds)
-}
-
-/// The host's own root with one directory bound over another.
-pub fn host_root(alloc: Global) -> Result<Table, NoMemory> {
-    let bounds = [
-        bound(alloc, 0, b"/", b"/", b"")?,
-        bound(alloc, 1, b"/a/b", b"/data", b"/a/b")?,
-    ];
-    Table::build(alloc, &bounds)
-}

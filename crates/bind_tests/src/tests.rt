@@ -8,12 +8,58 @@ use std::alloc::Global;
 use std::test::Fail;
 
 /// A guest text, its host text and its index.
-#[derive(Clone, Copy)]
-struct Host<'a>(&'a [u8], &'a [u8], u32);
+type Host = (&'static [u8], &'static [u8], u32);
 
 /// An index, a host text, and the guest text that they give.
-#[derive(Clone, Copy)]
-struct Guest<'a>(u32, &'a [u8], Option<&'a [u8]>);
+type Guest = (u32, &'static [u8], Option<&'static [u8]>);
+
+const HOSTS_OF_ONE: &[Host] = &[
+    (b"/mnt/n", b"/data/n", 1),
+    (b"/mntx", b"/g/mntx", 0),
+    (b"/mnt", b"/data", 1),
+    (b"/", b"/g", 0),
+    (b"/a/mnt", b"/g/a/mnt", 0),
+];
+
+const GUESTS_OF_ONE: &[Guest] = &[
+    (1, b"/data/n", Some(b"/mnt/n")),
+    (1, b"/g", None),
+    (1, b"/data", Some(b"/mnt")),
+    (1, b"/datax", None),
+    (0, b"/g", Some(b"/")),
+    (0, b"/data", None),
+    (2, b"/data", None),
+];
+
+// The longest location counts, whatever its place.
+const HOSTS_OF_NESTED: &[Host] = &[
+    (b"/mnt/x/n", b"/data/n", 4),
+    (b"/mnt/o", b"/other/o", 2),
+    (b"/mnt/xn", b"/other/xn", 2),
+    (b"/b/f", b"/data/f", 3),
+    (b"/f", b"/g/f", 0),
+    (b"/all", b"/", 1),
+    (b"/all/data/n", b"/data/n", 1),
+];
+
+const GUESTS_OF_NESTED: &[Guest] = &[
+    (4, b"/data", Some(b"/mnt/x")),
+    (3, b"/data", Some(b"/b")),
+    (1, b"/data", Some(b"/all/data")),
+    (1, b"/", Some(b"/all")),
+    (2, b"/data", None),
+    (5, b"/data", None),
+];
+
+/// Host texts, and whether they are those of mount points.
+const POINTS_OF_NESTED: &[(&[u8], bool)] = &[
+    (b"/g/mnt", true),
+    (b"/other/x", true),
+    (b"/g/mnt/x", false),
+    (b"/g", false),
+    (b"/", false),
+    (b"/data", false),
+];
 
 fn is_bytes(found: &Option<Bytes>, wanted: Option<&[u8]>) -> bool {
     match (found, wanted) {
@@ -24,133 +70,48 @@ fn is_bytes(found: &Option<Bytes>, wanted: Option<&[u8]>) -> bool {
 }
 
 /// The first row that the table doesn't meet, if there is one.
-fn unmet_host<'a>(
-    alloc: Global,
-    table: &Table,
-    rows: &[Host<'a>],
-) -> Result<Option<Host<'a>>, NoMemory> {
+fn unmet_host(alloc: Global, table: &Table, rows: &[Host]) -> Result<Option<Host>, NoMemory> {
     for row in rows {
-        if !is_text(alloc, row.0)? {
+        let (guest, wanted, index) = *row;
+        if !is_text(alloc, guest)? {
             return Ok(Some(*row));
         }
-        let host = table.host_of(row.0)?;
-        if host.as_slice() != row.1 || table.index_of(row.0) != row.2 {
+        let host = table.host_of(guest)?;
+        if host.as_slice() != wanted || table.index_of(guest) != index {
             return Ok(Some(*row));
         }
     }
     Ok(None)
 }
 
-fn unmet_guest<'a>(
-    alloc: Global,
-    table: &Table,
-    rows: &[Guest<'a>],
-) -> Result<Option<Guest<'a>>, NoMemory> {
+fn unmet_guest(alloc: Global, table: &Table, rows: &[Guest]) -> Result<Option<Guest>, NoMemory> {
     for row in rows {
-        if !is_text(alloc, row.1)? {
+        let (index, host, wanted) = *row;
+        if !is_text(alloc, host)? {
             return Ok(Some(*row));
         }
-        let guest = table.guest_of(row.0, row.1)?;
-        if !is_bytes(&guest, row.2) {
+        let guest = table.guest_of(index, host)?;
+        if !is_bytes(&guest, wanted) {
             return Ok(Some(*row));
         }
     }
     Ok(None)
 }
 
-/// Whether all these texts, or none of them, are those of mount points.
-fn are_points(
-    alloc: Global,
-    table: &Table,
-    hosts: &[&[u8]],
-    wanted: bool,
-) -> Result<bool, NoMemory> {
-    for host in hosts {
-        if !is_text(alloc, host)? || table.is_point(host) != wanted {
-            return Ok(false);
+#[test]
+fn tables_translate_both_ways(rt: HostRuntime) -> Result<(), Fail> {
+    let alloc = rt.alloc();
+    let table = tables::one_binding(alloc)?;
+    assert!(rt; unmet_host(alloc, &table, HOSTS_OF_ONE)?.is_none());
+    assert!(rt; unmet_guest(alloc, &table, GUESTS_OF_ONE)?.is_none());
+    let table = tables::bindings_in_bindings(alloc)?;
+    assert!(rt; unmet_host(alloc, &table, HOSTS_OF_NESTED)?.is_none());
+    assert!(rt; unmet_guest(alloc, &table, GUESTS_OF_NESTED)?.is_none());
+    for (host, wanted) in POINTS_OF_NESTED {
+        if !is_text(alloc, host)? {
+            return Err(Fail::from("no text"));
         }
+        assert!(rt; table.is_point(host) == *wanted);
     }
-    Ok(true)
-}
-
-#[test]
-fn one_binding_translates_both_ways(rt: HostRuntime) -> Result<(), Fail> {
-    let table = tables::one_binding(rt.alloc())?;
-    let hosts = [
-        Host(b"/mnt/n", b"/data/n", 1),
-        Host(b"/mntx", b"/g/mntx", 0),
-        Host(b"/mnt", b"/data", 1),
-        Host(b"/", b"/g", 0),
-        Host(b"/a/mnt", b"/g/a/mnt", 0),
-    ];
-    assert!(rt; unmet_host(rt.alloc(), &table, &hosts)?.is_none());
-    let guests = [
-        Guest(1, b"/data/n", Some(b"/mnt/n")),
-        Guest(1, b"/g", None),
-        Guest(1, b"/data", Some(b"/mnt")),
-        Guest(1, b"/datax", None),
-        Guest(0, b"/g", Some(b"/")),
-        Guest(0, b"/data", None),
-        Guest(2, b"/data", None),
-    ];
-    assert!(rt; unmet_guest(rt.alloc(), &table, &guests)?.is_none());
-    Ok(())
-}
-
-#[test]
-fn the_longest_location_counts_whatever_its_place(rt: HostRuntime) -> Result<(), Fail> {
-    let table = tables::bindings_in_bindings(rt.alloc())?;
-    let hosts = [
-        Host(b"/mnt/x/n", b"/data/n", 4),
-        Host(b"/mnt/o", b"/other/o", 2),
-        Host(b"/mnt/xn", b"/other/xn", 2),
-        Host(b"/b/f", b"/data/f", 3),
-        Host(b"/f", b"/g/f", 0),
-        Host(b"/all", b"/", 1),
-        Host(b"/all/data/n", b"/data/n", 1),
-    ];
-    assert!(rt; unmet_host(rt.alloc(), &table, &hosts)?.is_none());
-    let guests = [
-        Guest(4, b"/data", Some(b"/mnt/x")),
-        Guest(3, b"/data", Some(b"/b")),
-        Guest(1, b"/data", Some(b"/all/data")),
-        Guest(1, b"/", Some(b"/all")),
-        Guest(2, b"/data", None),
-        Guest(5, b"/data", None),
-    ];
-    assert!(rt; unmet_guest(rt.alloc(), &table, &guests)?.is_none());
-    Ok(())
-}
-
-#[test]
-fn a_root_may_be_the_hosts_own(rt: HostRuntime) -> Result<(), Fail> {
-    let table = tables::host_root(rt.alloc())?;
-    let hosts = [
-        Host(b"/", b"/", 0),
-        Host(b"/a", b"/a", 0),
-        Host(b"/a/b", b"/data", 1),
-        Host(b"/a/b/c", b"/data/c", 1),
-    ];
-    assert!(rt; unmet_host(rt.alloc(), &table, &hosts)?.is_none());
-    let guests = [
-        Guest(0, b"/data/c", Some(b"/data/c")),
-        Guest(1, b"/data/c", Some(b"/a/b/c")),
-    ];
-    assert!(rt; unmet_guest(rt.alloc(), &table, &guests)?.is_none());
-    Ok(())
-}
-
-#[test]
-fn mount_points_are_told_by_their_host_texts(rt: HostRuntime) -> Result<(), Fail> {
-    let table = tables::bindings_in_bindings(rt.alloc())?;
-    let points = [b"/g/mnt".as_slice(), b"/other/x".as_slice()];
-    assert!(rt; are_points(rt.alloc(), &table, &points, true)?);
-    let others = [
-        b"/g/mnt/x".as_slice(),
-        b"/g".as_slice(),
-        b"/".as_slice(),
-        b"/data".as_slice(),
-    ];
-    assert!(rt; are_points(rt.alloc(), &table, &others, false)?);
     Ok(())
 }

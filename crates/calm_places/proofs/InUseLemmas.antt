@@ -6,18 +6,18 @@ use Rattle.std.specs.Bool.{if◌then◌else◌}
 use Rattle.std.specs.List.{find, list_any}
 use Rattle.std.specs.Option.{option_and_then, option_map, option_map_or}
 use Rattle.std.proofs.lemmas.Bool.{eqb-true}
-use Rattle.kr_tree.specs.declared.place.Host.{Host}
-use Rattle.kr_tree.specs.declared.place.Place.{Place}
-use Rattle.kr_tree.proofs.NameLemmas.{map_some, some_is}
-use Rattle.kr_files.specs.declared.opened.Opened.{Opened}
-use Rattle.kr_files.specs.Descriptors.{Meanings, Named, named_below, named_count}
-use Rattle.kr_files.specs.Files.{Counted, file_at}
-use Rattle.kr_view.specs.View.{Row}
+use Rattle.places_stay.specs.kr_tree.declared.place.Host.{Host}
+use Rattle.places_stay.specs.kr_tree.declared.place.Place.{Place}
+use Rattle.places_stay.proofs.kr_tree.NameLemmas.{map_some, some_is}
+use Rattle.places_stay.specs.kr_files.declared.opened.Opened.{Opened}
+use Rattle.places_stay.specs.kr_files.Descriptors.{Meanings, Named, named_below, named_count}
+use Rattle.places_stay.specs.kr_files.Files.{Counted, file_at}
+use Rattle.places_stay.specs.kr_view.View.{Row}
 use Rattle.kr_calm.specs.InUse.{any_opened, is_in_use, is_remembered, open_directory, passes_at, process_remembers, process_uses, remembered_directory}
 use Rattle.kr_calm.proofs.UseLemmas.{found-below}
-use Rattle.kr_lawful.proofs.SumLemmas.{sum-cons}
-use Rattle.kr_model.specs.Lawful.{IsLawful}
-use Rattle.kr_model.specs.State.{Image, Process, State, is_pid}
+use Rattle.places_stay.proofs.kr_lawful.SumLemmas.{sum-cons}
+use Rattle.places_stay.specs.kr_model.Lawful.{IsLawful}
+use Rattle.places_stay.specs.kr_model.State.{Image, Process, State, is_pid}
 use Rattle.places_stay.specs.Uses.{IsUse, Use, is_cwd, is_exe, is_open}
 
 -- ---- tests

@@ -3,25 +3,25 @@ use Rattle.std.proofs.Common.{◌≡◌, ℕ, Bool, true, false, not, List, [], 
 use Rattle.std.specs.Prelude.{◌&&◌, IsSome}
 use Rattle.std.specs.Option.{option_map_or}
 use Rattle.std.proofs.lemmas.Bool.{eq-eqb}
-use Rattle.kr_inode.specs.declared.user.Right.TheVariants.{Search}
-use Rattle.kr_tree.specs.declared.place.Host.TheVariants.{Proc}
-use Rattle.kr_tree.specs.declared.place.ProcAt.{ProcAt}
-use Rattle.kr_tree.specs.declared.place.ProcAt.TheVariants.{SelfLink, Dir, Cwd, Root, Exe, FdDir, Fd}
-use Rattle.kr_tree.specs.Lawful.{Here}
-use Rattle.kr_tree.specs.Rights.{may}
-use Rattle.kr_view.specs.Component.{is_directory_at, is_process_directory}
-use Rattle.kr_view.specs.View.{Row, is_there}
+use Rattle.places_stay.specs.kr_inode.declared.user.Right.TheVariants.{Search}
+use Rattle.places_stay.specs.kr_tree.declared.place.Host.TheVariants.{Proc}
+use Rattle.places_stay.specs.kr_tree.declared.place.ProcAt.{ProcAt}
+use Rattle.places_stay.specs.kr_tree.declared.place.ProcAt.TheVariants.{SelfLink, Dir, Cwd, Root, Exe, FdDir, Fd}
+use Rattle.places_stay.specs.kr_tree.Lawful.{Here}
+use Rattle.places_stay.specs.kr_tree.Rights.{may}
+use Rattle.places_stay.specs.kr_view.Component.{is_directory_at, is_process_directory}
+use Rattle.places_stay.specs.kr_view.View.{Row, is_there}
 use Rattle.kr_calm.specs.Above.{is_at_or_below}
 use Rattle.kr_calm.specs.InUse.{is_directory_of, is_in_use}
 use Rattle.kr_calm.specs.Rules.{breaks_3, breaks_4, breaks_5, changes_break_3, changes_break_4, changes_break_5, is_above_use, serves, shuts}
 use Rattle.kr_calm.proofs.AboveLemmas.{steps_are_enough}
-use Rattle.kr_lawful.proofs.ChangeLemmas.{every-change-keeps}
-use Rattle.kr_model.specs.Applied.{Mounts, applied, images}
-use Rattle.kr_model.specs.Change.{Change, AddNode, LinkNode, RemoveName, MoveName, SetMode, SetOwner, SetSize, WriteFile, OpenFile, CopyDescriptor, CloseDescriptor, SetCloexec, Seek, SetAppend, MakePipe, TakeFromPipe, PutIntoPipe, TakeInput, WriteOut, WriteErr, ChangePages, SetBreak, SetUmask, ChangeDirectory, Fork, End, Reap, ReplaceImage, ReplaceExecutable, CloseOnExec}
-use Rattle.kr_model.specs.Conditions.{CanBeMade}
-use Rattle.kr_model.specs.FileRows.{is_dir, is_file_open}
-use Rattle.kr_model.specs.Lawful.{IsLawful, IsOpenIn, is_file_at}
-use Rattle.kr_model.specs.State.{Image, State, inode_of, process}
+use Rattle.places_stay.proofs.kr_lawful.ChangeLemmas.{every-change-keeps}
+use Rattle.places_stay.specs.kr_model.Applied.{Mounts, applied, images}
+use Rattle.places_stay.specs.kr_model.Change.{Change, AddNode, LinkNode, RemoveName, MoveName, SetMode, SetOwner, SetSize, WriteFile, OpenFile, CopyDescriptor, CloseDescriptor, SetCloexec, Seek, SetAppend, MakePipe, TakeFromPipe, PutIntoPipe, TakeInput, WriteOut, WriteErr, ChangePages, SetBreak, SetUmask, ChangeDirectory, Fork, End, Reap, ReplaceImage, ReplaceExecutable, CloseOnExec}
+use Rattle.places_stay.specs.kr_model.Conditions.{CanBeMade}
+use Rattle.places_stay.specs.kr_model.FileRows.{is_dir, is_file_open}
+use Rattle.places_stay.specs.kr_model.Lawful.{IsLawful, IsOpenIn, is_file_at}
+use Rattle.places_stay.specs.kr_model.State.{Image, State, inode_of, process}
 use Rattle.places_stay.specs.Changes.{NewPlaceStands}
 use Rattle.places_stay.specs.Losses.{pid_of}
 use Rattle.places_stay.specs.Standing.{PlacesStand}

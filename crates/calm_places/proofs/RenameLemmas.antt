@@ -3,14 +3,14 @@
 use Rattle.std.proofs.Common.{◌≡◌, ℕ, Bool, true, false, List, Some, refl, sym, ap, ◌∙◌}
 use Rattle.std.specs.Prelude.{◌||◌}
 use Rattle.std.specs.Option.{option_map_or}
-use Rattle.kr_tree.specs.declared.place.Host.TheVariants.{Node}
-use Rattle.kr_tree.specs.Tree.{Tree, entry}
-use Rattle.kr_view.specs.View.{Point, Row, row}
+use Rattle.places_stay.specs.kr_tree.declared.place.Host.TheVariants.{Node}
+use Rattle.places_stay.specs.kr_tree.Tree.{Tree, entry}
+use Rattle.places_stay.specs.kr_view.View.{Point, Row, row}
 use Rattle.kr_calm.specs.Above.{is_at_or_below}
 use Rattle.kr_calm.specs.Rules.{are_parted, breaks_3, differ, is_above_point, is_above_row, is_above_rows, is_above_use, is_below_entry, is_below_point, is_below_source, is_between, names_source, of_entry, takes_in_use}
 use Rattle.kr_calm.proofs.AboveLemmas.{steps_are_enough}
-use Rattle.kr_model.specs.Change.{MoveName}
-use Rattle.kr_model.specs.State.{Image, State, inode_of}
+use Rattle.places_stay.specs.kr_model.Change.{MoveName}
+use Rattle.places_stay.specs.kr_model.State.{Image, State, inode_of}
 use Rattle.places_stay.specs.Moving.{IsAboveNoRow, IsAboveNoUse, LieAlike, SparesMove}
 use Rattle.places_stay.specs.Standing.{PlacesStand}
 use Rattle.calm_places.proofs.InUseLemmas.{directory_fails, neither}

@@ -4,31 +4,31 @@ use Rattle.std.specs.Prelude.{◌==◌, ◌&&◌, ◌||◌}
 use Rattle.std.specs.List.{list_any}
 use Rattle.std.specs.Option.{option_map, option_map_or}
 use Rattle.std.proofs.lemmas.Bool.{eqb-true, false_from_ne_true}
-use Rattle.pr_base.specs.MountText.{MountText}
-use Rattle.pr_base.specs.Texts.{Text}
-use Rattle.pt_bind.specs.Binding.{host_of, located}
-use Rattle.kr_tree.specs.declared.place.Host.{Host}
-use Rattle.kr_tree.specs.declared.place.Host.TheVariants.{Node, Proc}
-use Rattle.kr_tree.specs.Lawful.{Below, Here, IsBelow}
-use Rattle.kr_tree.specs.Names.{named}
-use Rattle.kr_inode.specs.declared.standing.Standing.{Standing}
-use Rattle.kr_tree.specs.Tree.{Body, Tree, above, body, body_is, is_directory, root}
-use Rattle.kr_tree.proofs.EntryLemmas.{body_test, entry_stands}
-use Rattle.kr_tree.proofs.NameLemmas.{some_is}
-use Rattle.kr_view.specs.Component.{Finds, Namespace, is_directory_at}
-use Rattle.kr_view.specs.HostReach.{object_in, reaches}
-use Rattle.kr_view.specs.View.{Point, Row, row}
-use Rattle.kr_view.proofs.HostReachLemmas.{IsFoundIn, at_top, below_top, entry_in, found_in, inode_reached, last_object, named_alone}
-use Rattle.kr_mounts.specs.Standing.{texts_of}
+use Rattle.kr_calm.specs.pr_base.MountText.{MountText}
+use Rattle.kr_calm.specs.pr_base.Texts.{Text}
+use Rattle.places_stay.specs.pt_bind.Binding.{host_of, located}
+use Rattle.places_stay.specs.kr_tree.declared.place.Host.{Host}
+use Rattle.places_stay.specs.kr_tree.declared.place.Host.TheVariants.{Node, Proc}
+use Rattle.places_stay.specs.kr_tree.Lawful.{Below, Here, IsBelow}
+use Rattle.places_stay.specs.kr_tree.Names.{named}
+use Rattle.places_stay.specs.kr_inode.declared.standing.Standing.{Standing}
+use Rattle.places_stay.specs.kr_tree.Tree.{Body, Tree, above, body, body_is, is_directory, root}
+use Rattle.places_stay.proofs.kr_tree.EntryLemmas.{body_test, entry_stands}
+use Rattle.places_stay.proofs.kr_tree.NameLemmas.{some_is}
+use Rattle.places_stay.specs.kr_view.Component.{Finds, Namespace, is_directory_at}
+use Rattle.places_stay.specs.kr_view.HostReach.{object_in, reaches}
+use Rattle.places_stay.specs.kr_view.View.{Point, Row, row}
+use Rattle.places_stay.proofs.kr_view.HostReachLemmas.{IsFoundIn, at_top, below_top, entry_in, found_in, inode_reached, last_object, named_alone}
+use Rattle.places_stay.specs.kr_mounts.Standing.{texts_of}
 use Rattle.kr_calm.specs.Above.{is_at_or_below}
 use Rattle.kr_calm.specs.InUse.{is_remembered}
 use Rattle.kr_calm.specs.Rules.{is_above_point, is_above_source, is_above_use, serves, serves_row, serves_use}
 use Rattle.kr_calm.proofs.AboveLemmas.{equal-or-not, steps_are_enough}
 use Rattle.kr_calm.proofs.RowLemmas.{some-row}
-use Rattle.kr_model.specs.ProcessDirectory.{space_of}
-use Rattle.kr_model.specs.State.{Image, State, inode_of}
-use Rattle.walks_agree.specs.Standing.{IsOpen}
-use Rattle.walks_agree.proofs.TableLemmas.{host_none, host_some, mount_below, source_text}
+use Rattle.places_stay.specs.kr_model.ProcessDirectory.{space_of}
+use Rattle.places_stay.specs.kr_model.State.{Image, State, inode_of}
+use Rattle.places_stay.specs.walks_agree.Standing.{IsOpen}
+use Rattle.places_stay.proofs.walks_agree.TableLemmas.{host_none, host_some, mount_below, source_text}
 use Rattle.places_stay.specs.Losses.{KeepsAbove, KeepsGuest, KeepsNames, KeepsTable, KeepsUse, KeepsWay, Losses, search_of}
 use Rattle.places_stay.specs.Standing.{PlacesStand, StandsAs}
 use Rattle.places_stay.specs.Taking.{SparesSearch}

@@ -3,7 +3,7 @@ use Rattle.std.proofs.Common.{◌≡◌, ℕ, true, false, List, bytes_eq, sym, 
 use Rattle.std.specs.Prelude.{◌&&◌}
 use Rattle.std.proofs.lemmas.Bool.{eq-eqb}
 use Rattle.std.proofs.lemmas.Slice.Eq.{bytes_eq-Decides}
-use Rattle.kr_view.specs.View.{Row}
+use Rattle.places_stay.specs.kr_view.View.{Row}
 use Rattle.kr_calm.specs.Rules.{is_named, names_source}
 use Rattle.places_stay.specs.Taking.{SparesSources}
 use Rattle.calm_places.proofs.SearchLemmas.{row_fails}

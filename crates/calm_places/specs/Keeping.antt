@@ -3,13 +3,13 @@ use Rattle.std.specs.Prelude.{◌≡◌, ℕ, Bool, true, false, List, [], ◌�
 use Rattle.std.specs.List.{list_all}
 use Rattle.kr_calm.specs.Laws.{BreakNone}
 use Rattle.kr_calm.specs.Rules.{are_parted}
-use Rattle.kr_lawful.specs.Laws.{CanAllBeMade}
-use Rattle.kr_model.specs.Applied.{Mounts, all_applied, applied, images}
-use Rattle.kr_model.specs.Change.{Change, MoveName}
-use Rattle.kr_model.specs.ProcessDirectory.{space_of}
-use Rattle.kr_model.specs.State.{Image, State}
-use Rattle.kr_tree.specs.declared.place.Host.TheVariants.{Node}
-use Rattle.kr_view.specs.View.{Row}
+use Rattle.places_stay.specs.kr_lawful.Laws.{CanAllBeMade}
+use Rattle.places_stay.specs.kr_model.Applied.{Mounts, all_applied, applied, images}
+use Rattle.places_stay.specs.kr_model.Change.{Change, MoveName}
+use Rattle.places_stay.specs.kr_model.ProcessDirectory.{space_of}
+use Rattle.places_stay.specs.kr_model.State.{Image, State}
+use Rattle.places_stay.specs.kr_tree.declared.place.Host.TheVariants.{Node}
+use Rattle.places_stay.specs.kr_view.View.{Row}
 use Rattle.places_stay.specs.Changes.{NewPlacesStand}
 use Rattle.places_stay.specs.Moving.{IsComeTo}
 use Rattle.places_stay.specs.Standing.{PlacesStand}

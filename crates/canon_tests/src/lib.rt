@@ -1,4 +1,4 @@
-//! Tests of walks over guest texts, on a kernel in memory that tells what its rows say.
+//! Tests of walks over guest texts and of what stands on them, on a kernel in memory that tells what its rows say.
 #![tactic(auto)]
 
 #[cfg(test)]

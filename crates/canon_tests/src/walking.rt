@@ -2,9 +2,13 @@
 
 use crate::told::{Stands, Told};
 use bind_tests::texts::is_text;
-use pr_base::{Errno, Last, NoMemory, WalkMode};
+use kr_calls::Request;
+use pr_base::{Errno, Last, NoMemory, Texts, WalkMode};
+use pt_args::{Edit, rewrite};
 use pt_bind::{Table, Tags};
 use pt_canon::{Canon, WalkErr, Walker};
+use pt_results::{cwd_answer, link_answer};
+use pt_script::{Expanded, expand};
 use std::alloc::Global;
 
 /// How a path ends: what stands last, whether a slash stands behind it, and whether it is there.
@@ -18,62 +22,8 @@ pub enum Want {
     Refused(Errno),
 }
 
-/// A path in a mode from a guest text, and what the walk along it answers.
-#[derive(Clone, Copy, Debug)]
-pub struct Case {
-    base: &'static [u8],
-    path: &'static [u8],
-    mode: WalkMode,
-    want: Want,
-}
-
-impl Case {
-    fn from_root(path: &'static [u8], mode: WalkMode, want: Want) -> Case {
-        Case {
-            base: b"/",
-            path,
-            mode,
-            want,
-        }
-    }
-
-    /// The same from another guest text.
-    pub fn starting(self, base: &'static [u8]) -> Case {
-        Case {
-            base,
-            path: self.path,
-            mode: self.mode,
-            want: self.want,
-        }
-    }
-}
-
-pub fn refused(path: &'static [u8], mode: WalkMode, errno: Errno) -> Case {
-    Case::from_root(path, mode, Want::Refused(errno))
-}
-
-/// A path that leads to what is there by its name.
-pub fn found(
-    path: &'static [u8],
-    mode: WalkMode,
-    guest: &'static [u8],
-    host: &'static [u8],
-    index: u32,
-) -> Case {
-    ended(path, mode, guest, host, index, THERE)
-}
-
-/// A path that ends otherwise.
-pub fn ended(
-    path: &'static [u8],
-    mode: WalkMode,
-    guest: &'static [u8],
-    host: &'static [u8],
-    index: u32,
-    end: End,
-) -> Case {
-    Case::from_root(path, mode, Want::At(guest, host, index, end))
-}
+/// A guest text, a path and a mode, and what the walk along the path from there answers.
+pub type Case = (&'static [u8], &'static [u8], WalkMode, Want);
 
 pub const THERE: End = End(Last::Name, false, true);
 
@@ -125,8 +75,9 @@ impl Bench {
     /// The first of these walks that doesn't answer what it must, if there is one.
     pub fn unmet(&mut self, cases: &[Case]) -> Option<Case> {
         for case in cases {
-            let answer = self.walk(case.base, case.path, case.mode);
-            if !meets(&answer, case.want) {
+            let (base, path, mode, want) = *case;
+            let answer = self.walk(base, path, mode);
+            if !meets(&answer, want) {
                 return Some(*case);
             }
         }
@@ -150,12 +101,58 @@ impl Bench {
         None
     }
 
-    /// The index of a guest text by the walker's own table.
-    pub fn index(&self, guest: &[u8]) -> Result<Option<u32>, NoMemory> {
-        if !is_text(self.alloc, guest)? {
-            return Ok(None);
-        }
-        Ok(Some(self.walker.table().index_of(guest)))
+    /// The edit of a call.
+    pub fn edit(&mut self, request: &Request) -> Result<Edit, NoMemory> {
+        rewrite(
+            self.alloc,
+            &mut self.told,
+            &mut self.walker,
+            &self.tags,
+            1,
+            0x20_0001_0000,
+            true,
+            request,
+        )
+    }
+
+    /// The answer of getcwd(2).
+    pub fn directory(&mut self) -> Result<Edit, NoMemory> {
+        cwd_answer(
+            self.alloc,
+            &mut self.told,
+            &self.walker,
+            &self.tags,
+            1,
+            64,
+            0x3000,
+        )
+    }
+
+    /// The answer of readlinkat(2).
+    pub fn link(&mut self, request: &Request) -> Result<Option<Edit>, NoMemory> {
+        link_answer(
+            self.alloc,
+            &mut self.told,
+            &mut self.walker,
+            &self.tags,
+            1,
+            request,
+        )
+    }
+
+    /// What a program without arguments comes to.
+    pub fn program(&mut self, path: &[u8]) -> Result<Expanded, WalkErr> {
+        let args = Texts::new(self.alloc);
+        expand(
+            self.alloc,
+            &mut self.told,
+            &mut self.walker,
+            &self.tags,
+            1,
+            path,
+            args,
+            0,
+        )
     }
 }
 

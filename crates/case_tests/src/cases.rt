@@ -60,20 +60,6 @@ fn told(listing: &[u8], wanted: &[u8]) -> (u32, u32, bool) {
     (lines, sum, is_there)
 }
 
-#[test]
-fn a_case_has_the_files_that_are_drawn(rt: HostRuntime) -> Result<(), Fail> {
-    for row in &ROWS {
-        let parts = case(rt.alloc(), row.number)?;
-        let listing = write(rt.alloc(), &parts.tree, parts.user)?;
-        assert_eq!(rt; told(listing.as_slice(), row.line), (LINES, row.sum, true));
-        assert_eq!(rt; (parts.user.uid, parts.user.gid), (1000, 1000));
-        assert_eq!(rt; parts.root.as_slice(), b"/g".as_slice());
-        assert_eq!(rt; parts.command.at(0), Some(b"/p".as_slice()));
-        assert_eq!(rt; parts.binds.len(), 2);
-    }
-    Ok(())
-}
-
 // Written by the assembler of GNU binutils for the guest's program, whose labels it was given.
 const ASSEMBLED: [u32; 69] = [
     0x00011437, 0x000164b7, 0x80048493, 0x00001b37, 0x200b0b13, 0x00300a13, 0x01640433, 0x01100513,
@@ -113,7 +99,16 @@ fn guest_file(tree: &Tree) -> &[u8] {
 }
 
 #[test]
-fn the_guest_has_its_code_and_its_texts(rt: HostRuntime) -> Result<(), Fail> {
+fn a_case_has_the_files_and_the_guest_that_are_drawn(rt: HostRuntime) -> Result<(), Fail> {
+    for row in &ROWS {
+        let parts = case(rt.alloc(), row.number)?;
+        let listing = write(rt.alloc(), &parts.tree, parts.user)?;
+        assert_eq!(rt; told(listing.as_slice(), row.line), (LINES, row.sum, true));
+        assert_eq!(rt; (parts.user.uid, parts.user.gid), (1000, 1000));
+        assert_eq!(rt; parts.root.as_slice(), b"/g".as_slice());
+        assert_eq!(rt; parts.command.at(0), Some(b"/p".as_slice()));
+        assert_eq!(rt; parts.binds.len(), 2);
+    }
     let parts = case(rt.alloc(), 1)?;
     let file = guest_file(&parts.tree);
     for (k, word) in ASSEMBLED.iter().enumerate() {

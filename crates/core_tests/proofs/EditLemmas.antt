@@ -4,10 +4,10 @@ use Rattle.std.specs.Prelude.{IsSome, slice_set}
 use Rattle.rv_mem.specs.Memory.{after_read, with_pages}
 use Rattle.rv_mem.specs.Pages.{written}
 use Rattle.rv_mem.proofs.LayoutLemmas.{layouts_follow}
-use Rattle.kr_model.specs.State.{process}
-use Rattle.kr_turns.specs.Editing.{after_peek, after_poke, memory_at, with_register}
-use Rattle.kr_turns.specs.Stopped.{IsEdited, IsThere, Stopped, edited, image_at}
-use Rattle.kr_turns.proofs.EditLemmas.{computed-lives, edited-by, edited-same, edited-then, edited-twice}
+use Rattle.kr_core.specs.kr_model.State.{process}
+use Rattle.kr_core.specs.kr_turns.Editing.{after_peek, after_poke, memory_at, with_register}
+use Rattle.kr_core.specs.kr_turns.Stopped.{IsEdited, IsThere, Stopped, edited, image_at}
+use Rattle.kr_core.proofs.kr_turns.EditLemmas.{computed-lives, edited-by, edited-same, edited-then, edited-twice}
 
 pub unchanged : (t u : Stopped) → IsThere t → u ≡ t → IsEdited t u
 unchanged t u there same = subst (IsEdited t) (sym same) (edited-same t there)

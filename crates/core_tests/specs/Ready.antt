@@ -1,11 +1,11 @@
 -- What a kernel asks of the tree, the user and the mounts over which it begins.
 use Rattle.std.specs.Prelude.{◌<◌, ◌^◌, List, length}
-use Rattle.kr_inode.specs.declared.user.User.{User}
+use Rattle.kr_tree.specs.kr_inode.declared.user.User.{User}
 use Rattle.kr_tree.specs.Tree.{Tree}
 use Rattle.kr_view.specs.View.{Row, StandsIn}
-use Rattle.kr_allowed.specs.Told.{SourcesAreNamed}
-use Rattle.kr_listed.specs.Beginning.{CanLast}
-use Rattle.kr_start.specs.Start.{HasNoHolds}
+use Rattle.kr_core.specs.kr_allowed.Told.{SourcesAreNamed}
+use Rattle.kr_core.specs.kr_listed.Beginning.{CanLast}
+use Rattle.kr_core.specs.kr_start.Start.{HasNoHolds}
 
 pub record IsReady (t : Tree) (user : User) (table : List Row) : Type 0 where
   pub stands : StandsIn t table

@@ -1,8 +1,6 @@
-//! Tests of a kernel: what a guest shows that runs on it, and which stops a watcher of its calls has.
+//! Tests of a kernel: which stops a watcher of its calls has.
 #![tactic(auto)]
 
-#[cfg(test)]
-mod hello;
 #[cfg(test)]
 mod noting;
 #[cfg(test)]

@@ -1,8 +1,8 @@
 //! A watcher that notes what it is told, and changes a few calls.
 ghost use Rattle.std.specs.Prelude.{◌≡◌};
-ghost use Rattle.kr_turns.specs.Stopped.{IsEdited, IsThere};
+ghost use Rattle.kr_core.specs.kr_turns.Stopped.{IsEdited, IsThere};
 
-use kr_turns::{Stops, Tracee};
+use kr_core::below::{Stops, Tracee};
 use pr_base::{Bytes, NoMemory};
 use rv_mem::{StoreFault, Use};
 use std::alloc::Global;

@@ -1,8 +1,8 @@
 //! Runs, and what is seen of them.
 ghost use Rattle.std.specs.Prelude.{◌≡◌, ◌<◌, ◌^◌, true};
 
+use kr_core::below::Stops;
 use kr_core::{Kernel, Turned};
-use kr_turns::Stops;
 use kr_view::Places;
 use pr_base::{Bytes, NoMemory};
 use std::alloc::Global;

@@ -4,7 +4,7 @@ ghost use Rattle.std.specs.Prelude.{◌≡◌, true, IfOk};
 use crate::noting::Noting;
 use crate::run::run;
 use crate::stage::listed;
-use crate::start::{NOTHING, asked};
+use crate::start::asked;
 use guests::{coded, guest};
 use kr_core::Kernel;
 use kr_view::Plain;
@@ -86,7 +86,7 @@ fn noted<const M: u8>(alloc: Global, elf: &[u8]) -> Result<Kernel<Plain, Noting,
 {
     let (tree, user) = listed(alloc, HOST, elf)?;
     let places = Plain::new();
-    let first = asked(alloc, &places, &tree, user, NOTHING)?;
+    let first = asked(alloc, &places, &tree, user)?;
     let input = Bytes::copy(alloc, b"abcd")?;
     let noting = Noting::new(alloc);
     match Kernel::<Plain, Noting, M>::start(alloc, places, noting, tree, user, input, first) {

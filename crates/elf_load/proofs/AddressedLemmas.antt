@@ -8,7 +8,7 @@ use Rattle.std.proofs.lemmas.List.Elements.{All-nil, All-cons, All-head, All-tai
 use Rattle.rv_mem.specs.declared.rights.Rights.{Rights}
 use Rattle.rv_mem.specs.Page.{fresh_page, zero_bytes, grants, page_written}
 use Rattle.rv_mem.specs.Pages.{Pages, with_page, written, mapped, IsWhole}
-use Rattle.pr_base.proofs.MapLemmas.{get-changed_other}
+use Rattle.rv_mem.proofs.pr_base.MapLemmas.{get-changed_other}
 use Rattle.rv_mem.proofs.ChangeLemmas.{get-mapped_in, get-mapped_out}
 use Rattle.rv_mem.proofs.SpaceLemmas.{IsWhole-mapped, IsWhole-written, IsWhole-empty}
 use Rattle.rv_mem.proofs.AddressLemmas.{allows-written, byte_at-written_in, byte_at-written_other}

@@ -8,7 +8,7 @@ use Rattle.std.proofs.lemmas.List.Filters.{length-filter_both}
 use Rattle.rv_mem.specs.Page.{PageState}
 use Rattle.rv_mem.specs.Pages.{Pages, unmapped, IsPlaced}
 use Rattle.rv_mem.specs.Memory.{Memory, empty_memory, with_pages, page_count}
-use Rattle.pr_base.proofs.MapLemmas.{same_values}
+use Rattle.rv_mem.proofs.pr_base.MapLemmas.{same_values}
 use Rattle.rv_mem.proofs.ChangeLemmas.{get-unmapped_in}
 use Rattle.rv_mem.proofs.TableLemmas.{by_range}
 use Rattle.elf_read.specs.Plans.{IsInOrder, IsSound, plan_of, planned, segment_of, segments_of}

@@ -10,7 +10,7 @@ use Rattle.rv_mem.specs.declared.rights.Use.{Use}
 use Rattle.rv_mem.specs.Page.{PageState, grants, page_with_rights, page_written}
 use Rattle.rv_mem.specs.Pages.{Pages, with_page, written, mapped, protected, allows, allows_all, has_pages}
 use Rattle.rv_mem.specs.Memory.{Memory, with_pages, page_count, passes_limit}
-use Rattle.pr_base.proofs.MapLemmas.{same_values, get-changed_same, get-changed_other}
+use Rattle.rv_mem.proofs.pr_base.MapLemmas.{same_values, get-changed_same, get-changed_other}
 use Rattle.rv_mem.proofs.PagesLemmas.{with_page_twice, with_page_same}
 use Rattle.rv_mem.proofs.ChangeLemmas.{get-mapped_in, get-mapped_out, len-mapped-le, len-written, len-protected, contains-written}
 use Rattle.rv_mem.proofs.TableLemmas.{by_range, mapped-zero}

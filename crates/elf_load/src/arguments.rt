@@ -3,7 +3,7 @@ ghost use Rattle.std.specs.Prelude.{◌≡◌, ◌+◌, ◌-◌, ◌<◌, ◌≤
 ghost use Rattle.std.specs.Option.{SomeIff};
 ghost use Rattle.elf_load.specs.FirstStack.{exceeds_arguments, text_bytes, texts_size};
 
-use pr_base::Texts;
+use rv_mem::below::pr_base::Texts;
 
 /// The most arguments, and the most environment texts.
 const MOST_TEXTS: usize = 4096;

@@ -1,6 +1,6 @@
 //! Why a program isn't loaded.
 
-use pr_base::NoMemory;
+use rv_mem::below::pr_base::NoMemory;
 
 /// Why a program isn't loaded.
 #[derive(Clone, Copy, Debug, PartialEq, Eq)]

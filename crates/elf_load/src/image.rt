@@ -12,7 +12,7 @@ use crate::fault::LoadFault;
 use crate::segments::{exceed_limits, program_break, put_all};
 use crate::stack::FirstStack;
 use elf_read::{Plan, Segment};
-use pr_base::Texts;
+use rv_mem::below::pr_base::Texts;
 use rv_mem::{MapFault, Regs, Room, Space};
 use std::alloc::Global;
 

@@ -6,6 +6,7 @@
 #![tactic(auto)]
 
 mod arguments;
+pub mod below;
 mod fault;
 mod image;
 pub mod laws;

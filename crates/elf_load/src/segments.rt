@@ -8,7 +8,7 @@ ghost use Rattle.elf_load.specs.Image.{break_from, end_page, exceeds_pages, righ
 
 use crate::stack::{FirstStack, STACK_TOP};
 use elf_read::Segment;
-use pr_base::{PAGE_SIZE, bits};
+use rv_mem::below::pr_base::{PAGE_SIZE, bits};
 use rv_mem::{MapFault, PAGES_END, Rights, Room, SPACE_PAGES, Space, StoreFault, Use};
 
 /// Where the stack begins, and how many pages it has: 1 MiB.

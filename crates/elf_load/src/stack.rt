@@ -5,7 +5,7 @@ ghost use Rattle.elf_load.specs.FirstStack.{aligned, pair_words, pairs_of, stack
 
 use crate::arguments::text_at;
 use elf_read::Plan;
-use pr_base::{Bytes, NoMemory, PAGE_SIZE, Texts};
+use rv_mem::below::pr_base::{Bytes, NoMemory, PAGE_SIZE, Texts};
 use std::alloc::Global;
 
 /// Where the stack ends.

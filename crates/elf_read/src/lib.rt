@@ -3,6 +3,7 @@
 //! Which files are accepted, and where they are loaded, is the project's own rule.
 #![tactic(auto)]
 
+pub mod below;
 mod fault;
 mod file;
 mod headers;

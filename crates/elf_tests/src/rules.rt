@@ -70,8 +70,9 @@ fn header(kind: u32, offset: u64, address: u64, file: u64, memory: u64) -> Progr
     }
 }
 
+// The hello file, and then the same as a shared object, which is moved.
 #[test]
-fn the_hello_file_is_accepted(rt: HostRuntime) {
+fn the_hello_file_is_accepted_as_both_kinds(rt: HostRuntime) {
     let mut segments = [Segment::default(); 64];
     segments[0] = Segment {
         at: 0x10000,
@@ -88,10 +89,7 @@ fn the_hello_file_is_accepted(rt: HostRuntime) {
         segments,
     };
     assert!(rt; check(&HELLO) == Ok(plan));
-}
 
-#[test]
-fn a_shared_object_is_moved(rt: HostRuntime) {
     let mut file = HELLO;
     file[16] = 3;
     // The entry, which no rule tests, goes past the last address and on from 0.

@@ -2,10 +2,10 @@ use elf_read::check;
 use elf_write::write;
 use std::test::Fail;
 
+// A file of code and data; data on the next free page behind code of these sizes; and a file without data.
 #[test]
-fn a_written_file_is_accepted(rt: HostRuntime) -> Result<(), Fail> {
-    let code = [0x73, 0, 0, 0];
-    let file = write(rt.alloc(), &code, b"data", 5)?;
+fn written_files_have_their_segments(rt: HostRuntime) -> Result<(), Fail> {
+    let file = write(rt.alloc(), &[0x73, 0, 0, 0], b"data", 5)?;
     let plan = check(file.as_slice()).expect(&rt, "accepted");
     assert_eq!(rt; plan.entry, 0x10000);
     assert_eq!(rt; plan.count, 2);
@@ -18,11 +18,7 @@ fn a_written_file_is_accepted(rt: HostRuntime) -> Result<(), Fail> {
         (data.at, data.file, data.memory, data.flags),
         (0x11000, 4, 9, 6)
     );
-    Ok(())
-}
 
-#[test]
-fn data_stands_on_the_next_free_page(rt: HostRuntime) -> Result<(), Fail> {
     let code = [0x13; 4097];
     let table = [(1, 0x11000), (4096, 0x11000), (4097, 0x12000)];
     for (size, at) in table {
@@ -30,11 +26,7 @@ fn data_stands_on_the_next_free_page(rt: HostRuntime) -> Result<(), Fail> {
         let plan = check(file.as_slice()).expect(&rt, "accepted");
         assert_eq!(rt; plan.segments[1].at, at, "code of {size} bytes");
     }
-    Ok(())
-}
 
-#[test]
-fn without_data_there_is_one_segment(rt: HostRuntime) -> Result<(), Fail> {
     let file = write(rt.alloc(), &[1, 2, 3], b"", 0)?;
     let plan = check(file.as_slice()).expect(&rt, "accepted");
     assert_eq!(rt; plan.count, 1);

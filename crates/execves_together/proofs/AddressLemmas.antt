@@ -1,22 +1,22 @@
 -- Where a list was read, its addresses can be read.
 use Rattle.std.proofs.Common.{◌≡◌, ℕ, zero, suc, ◌+◌, ◌-◌, ◌*◌, ◌%◌, ◌/◌, ◌^◌, ◌<◌, Bool, true, false, cond, ◌&&◌, List, [], ◌∷◌, length, Result, Ok, Err, refl, sym, ap, subst, ◌∙◌, arith}
 use Rattle.std.specs.Prelude.{nat_eq}
-use Rattle.pr_base.specs.Fields.{little_endian}
-use Rattle.pr_base.specs.declared.errno.Errno.{Errno}
-use Rattle.pr_base.specs.declared.errno.Errno.TheVariants.{E2BIG, EFAULT}
-use Rattle.rv_mem.specs.Actions.{CarriedOut, Done, ReadBytes, allows_uses, carried_out}
-use Rattle.rv_mem.specs.Memory.{Memory}
-use Rattle.rv_mem.specs.Pages.{IsPlaced, Pages, allows_all}
-use Rattle.rv_mem.specs.declared.rights.Use.TheVariants.{Read}
-use Rattle.rv_mem.proofs.PagesLemmas.{allows_all-add}
-use Rattle.rv_mem.proofs.AccessLemmas.{allows_all-zero}
-use Rattle.kr_calls.specs.Expansion.{bytes_with_ends}
-use Rattle.kr_exec.specs.Lists.{Trying, address_at, and_then, at_least_one, behind, env_at, list_at, lists_at, most_bytes, most_texts, next_address, text_within, texts_from}
-use Rattle.kr_exec.specs.declared.lists.Lists.{Lists}
-use Rattle.kr_exec.proofs.ListLemmas.{and_then_is, at_address, by_address, entry, on_reply}
-use Rattle.swaps_read.proofs.RangeLemmas.{part_allowed}
-use Rattle.lists_alike.proofs.ReadLemmas.{one-allowed, page-there}
-use Rattle.lists_alike.proofs.KeepLemmas.{address-keeps, within-keeps}
+use Rattle.path_places.specs.pr_base.Fields.{little_endian}
+use Rattle.path_places.specs.pr_base.declared.errno.Errno.{Errno}
+use Rattle.path_places.specs.pr_base.declared.errno.Errno.TheVariants.{E2BIG, EFAULT}
+use Rattle.pt_args.specs.rv_mem.Actions.{CarriedOut, Done, ReadBytes, allows_uses, carried_out}
+use Rattle.pt_args.specs.rv_mem.Memory.{Memory}
+use Rattle.pt_args.specs.rv_mem.Pages.{IsPlaced, Pages, allows_all}
+use Rattle.pt_args.specs.rv_mem.declared.rights.Use.TheVariants.{Read}
+use Rattle.pt_args.proofs.rv_mem.PagesLemmas.{allows_all-add}
+use Rattle.pt_args.proofs.rv_mem.AccessLemmas.{allows_all-zero}
+use Rattle.pt_args.specs.kr_calls.Expansion.{bytes_with_ends}
+use Rattle.scripts_read.specs.kr_exec.Lists.{Trying, address_at, and_then, at_least_one, behind, env_at, list_at, lists_at, most_bytes, most_texts, next_address, text_within, texts_from}
+use Rattle.scripts_read.specs.kr_exec.declared.lists.Lists.{Lists}
+use Rattle.scripts_read.proofs.kr_exec.ListLemmas.{and_then_is, at_address, by_address, entry, on_reply}
+use Rattle.stops_match.proofs.swaps_read.RangeLemmas.{part_allowed}
+use Rattle.scripts_read.proofs.lists_alike.ReadLemmas.{one-allowed, page-there}
+use Rattle.scripts_read.proofs.lists_alike.KeepLemmas.{address-keeps, within-keeps}
 use Rattle.execves_together.specs.Addresses.{KeptAddressesAreRead}
 
 abbrev Texts : Type 0

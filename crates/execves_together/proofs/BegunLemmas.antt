@@ -2,17 +2,17 @@
 use Rattle.std.proofs.Common.{◌≡◌, ◌<◌, ◌≤◌, ℕ, zero, suc, Bool, true, false, List, [], ◌∷◌, length, nat_lt, get_or, refl, sym, ap, ◌∙◌, arith, Ok}
 use Rattle.std.specs.Prelude.{◌==◌, slice_set}
 use Rattle.std.proofs.lemmas.Bool.{ltb-false, ltb-true}
-use Rattle.pr_base.specs.declared.errno.Errno.{Errno}
-use Rattle.pr_base.specs.declared.errno.Errno.TheVariants.{ENOSYS}
-use Rattle.rv_mem.specs.Actions.{carried_out}
-use Rattle.rv_mem.specs.Memory.{Memory}
-use Rattle.rv_mem.specs.declared.regs.Regs.{Regs}
-use Rattle.kr_calls.specs.Arguments.{number}
-use Rattle.kr_calls.specs.Decoding.{decoding}
-use Rattle.kr_calls.specs.declared.request.Request.TheVariants as call
-use Rattle.kr_calm.specs.Shelf.{has_path}
-use Rattle.pt_ident.specs.Identity.{refusal}
-use Rattle.pt_tracer.specs.Faking.{word_of}
+use Rattle.path_places.specs.pr_base.declared.errno.Errno.{Errno}
+use Rattle.path_places.specs.pr_base.declared.errno.Errno.TheVariants.{ENOSYS}
+use Rattle.pt_args.specs.rv_mem.Actions.{carried_out}
+use Rattle.pt_args.specs.rv_mem.Memory.{Memory}
+use Rattle.pt_args.specs.rv_mem.declared.regs.Regs.{Regs}
+use Rattle.pt_args.specs.kr_calls.Arguments.{number}
+use Rattle.pt_args.specs.kr_calls.Decoding.{decoding}
+use Rattle.pt_args.specs.kr_calls.declared.request.Request.TheVariants as call
+use Rattle.stops_match.specs.kr_calm.Shelf.{has_path}
+use Rattle.stops_match.specs.pt_ident.Identity.{refusal}
+use Rattle.stops_match.specs.pt_tracer.Faking.{word_of}
 use Rattle.answers_agree.proofs.NumberLemmas.{paths_have_numbers}
 use Rattle.stops_match.proofs.RegisterLemmas.{put_there}
 

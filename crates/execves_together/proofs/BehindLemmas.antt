@@ -2,12 +2,12 @@
 use Rattle.std.proofs.Common.{◌≡◌, ℕ, [], ◌∷◌, Option, Some, None, Ok, refl, sym, ap, ◌∙◌}
 use Rattle.std.specs.Prelude.{IsSome}
 use Rattle.std.specs.Option.{option_map}
-use Rattle.kr_execve.specs.Execution.{Program, changes_of}
-use Rattle.kr_model.specs.Applied.{Mounts, all_applied, applied, images, with_image, with_living, with_program}
-use Rattle.kr_model.specs.Change.{CloseOnExec, OfFound, ReplaceExecutable, ReplaceImage}
-use Rattle.kr_model.specs.State.{Image, Process, State, process, with_process}
-use Rattle.stops_match.specs.turns_match.Registers.{registers_in}
-use Rattle.stops_match.proofs.turns_match.RegisterLemmas.{changes_keep_registers}
+use Rattle.scripts_read.specs.kr_execve.Execution.{Program, changes_of}
+use Rattle.stops_match.specs.kr_model.Applied.{Mounts, all_applied, applied, images, with_image, with_living, with_program}
+use Rattle.stops_match.specs.kr_model.Change.{CloseOnExec, OfFound, ReplaceExecutable, ReplaceImage}
+use Rattle.stops_match.specs.kr_model.State.{Image, Process, State, process, with_process}
+use Rattle.path_places.specs.turns_match.Registers.{registers_in}
+use Rattle.path_places.proofs.turns_match.RegisterLemmas.{changes_keep_registers}
 use Rattle.stops_match.proofs.AnsweredLemmas.{each_twice, lives_changed}
 
 some_same : {A : Type 0} {a b : A} → Some a ≡ Some b → a ≡ b

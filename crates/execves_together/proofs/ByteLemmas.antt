@@ -3,22 +3,22 @@ use Rattle.std.proofs.Common.{◌≡◌, ℕ, Bool, true, false, cond, List, [],
 use Rattle.std.specs.List.{AllByRecursion}
 use Rattle.std.specs.Prelude.{bytes_eq}
 use Rattle.std.proofs.lemmas.Slice.Eq.{bytes_eq-Decides}
-use Rattle.pr_base.specs.Texts.{Text}
-use Rattle.kr_inode.specs.declared.user.User.{User}
-use Rattle.kr_inode.specs.Inode.{Entry, entry_named}
-use Rattle.kr_tree.specs.Lawful.{AreBytes, HasBytes}
-use Rattle.kr_tree.specs.Tree.{Tree, entries}
-use Rattle.kr_tree.specs.declared.place.Host.{Host}
-use Rattle.kr_tree.specs.declared.place.Host.TheVariants.{Node, Proc}
-use Rattle.kr_tree.specs.declared.place.ProcAt.{ProcAt}
-use Rattle.kr_tree.proofs.NameLemmas.{map_some}
-use Rattle.kr_view.specs.HostReach.{object_in, reaches}
-use Rattle.kr_view.specs.Component.{Finds}
-use Rattle.kr_view.specs.Processes.{LawsOfProcesses}
-use Rattle.kr_view.specs.declared.procs.Lead.{Lead}
-use Rattle.kr_view.proofs.HostReachLemmas.{IsFoundIn, at_top, below_top, entry_in, found_in, last_object}
-use Rattle.kr_bytes.specs.Bytes.{AreAllBytes}
-use Rattle.kr_bytes.proofs.NameLemmas.{entries-bytes, process-names-bytes}
+use Rattle.path_places.specs.pr_base.Texts.{Text}
+use Rattle.stops_match.specs.kr_inode.declared.user.User.{User}
+use Rattle.stops_match.specs.kr_inode.Inode.{Entry, entry_named}
+use Rattle.stops_match.specs.kr_tree.Lawful.{AreBytes, HasBytes}
+use Rattle.stops_match.specs.kr_tree.Tree.{Tree, entries}
+use Rattle.stops_match.specs.kr_tree.declared.place.Host.{Host}
+use Rattle.stops_match.specs.kr_tree.declared.place.Host.TheVariants.{Node, Proc}
+use Rattle.stops_match.specs.kr_tree.declared.place.ProcAt.{ProcAt}
+use Rattle.stops_match.proofs.kr_tree.NameLemmas.{map_some}
+use Rattle.answers_agree.specs.kr_view.HostReach.{object_in, reaches}
+use Rattle.answers_agree.specs.kr_view.Component.{Finds}
+use Rattle.answers_agree.specs.kr_view.Processes.{LawsOfProcesses}
+use Rattle.answers_agree.specs.kr_view.declared.procs.Lead.{Lead}
+use Rattle.answers_agree.proofs.kr_view.HostReachLemmas.{IsFoundIn, at_top, below_top, entry_in, found_in, last_object}
+use Rattle.path_places.specs.kr_bytes.Bytes.{AreAllBytes}
+use Rattle.path_places.proofs.kr_bytes.NameLemmas.{entries-bytes, process-names-bytes}
 
 -- the name under which an entry is found is that of the entry
 named-bytes : (name : List ℕ) (es : List Entry) (e : Entry) → AllByRecursion (λ e. AreBytes e.name) es → entry_named name es ≡ Some e → AreBytes name

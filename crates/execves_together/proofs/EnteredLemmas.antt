@@ -3,55 +3,55 @@ use Rattle.std.specs.FinMap as map
 use Rattle.std.proofs.Common.{◌≡◌, ℕ, Bool, false, true, cond, List, Option, Some, None, Result, Ok, Err, refl, sym, ap, subst, ◌∙◌, get_or, ℤ}
 use Rattle.std.specs.Prelude.{IsSome, ◌==◌, slice_set}
 use Rattle.std.specs.Int.{cast_signed, w64}
-use Rattle.pr_base.proofs.MapLemmas.{get-insert_same}
-use Rattle.pr_base.specs.declared.errno.Errno.{Errno}
-use Rattle.pr_base.specs.declared.errno.Errno.TheVariants.{ENOSYS}
-use Rattle.rv_mem.specs.Actions.{AreEqualUnmarked, CarriedOut, carried_out}
-use Rattle.rv_mem.specs.Memory.{Memory}
-use Rattle.rv_mem.specs.Pages.{HoldsBytes, Pages}
-use Rattle.rv_mem.specs.declared.regs.Regs.{Regs}
-use Rattle.pt_bind.specs.Tags.{TagTable, with_tag}
-use Rattle.pt_bind.specs.declared.slot.Slot.TheVariants.{Exe}
-use Rattle.pt_ident.specs.Identity.{refusal}
-use Rattle.pt_results.specs.Notes.{noted, noted_of, tags_after}
-use Rattle.kr_view.specs.View.{Row, plain}
-use Rattle.kr_calls.specs.Decoding.{decoding}
-use Rattle.kr_calls.specs.declared.request.Request.{Request}
-use Rattle.kr_calls.specs.declared.request.Request.TheVariants as call
-use Rattle.kr_allowed.proofs.DecodedLemmas.{decoding-leaves-pages}
-use Rattle.kr_allowed.proofs.RowLemmas.{StaysLike, lawful-image}
-use Rattle.kr_seen.specs.Carrying.{memory_of, with_memory, with_memory_of}
-use Rattle.kr_execve.specs.Execution.{Program, changes_of, execution, mount_of}
-use Rattle.kr_model.specs.Applied.{all_applied, images}
-use Rattle.kr_model.specs.State.{Image, Process, State, process, with_process}
-use Rattle.kr_model.specs.declared.outcome.Outcome.TheVariants.{Answer}
-use Rattle.kr_steps.specs.Answering.{answered, going, resumed, with_answer}
-use Rattle.kr_steps.specs.Calls.{LastsLawful}
-use Rattle.kr_steps.specs.Computing.{computed}
-use Rattle.kr_turns.specs.PlainCall.{Came, executed, plain_call, refusal_told, replaced}
-use Rattle.kr_turns.specs.Stopped.{IsThere, Stopped, edited, image_at}
-use Rattle.kr_turns.specs.Turn.{Machine, Tally, after_exit, after_plain, called, calling, watched_call}
-use Rattle.kr_turns.specs.Watching.{unwatched}
-use Rattle.kr_turns.specs.declared.plain.CallEnd.TheVariants as end
-use Rattle.kr_turns.proofs.EditLemmas.{there as is_there}
-use Rattle.pt_tracer.specs.Faking.{has_answered_zero, word_of}
-use Rattle.pt_tracer.specs.Stopping.{after_request, decoded_at, register_at}
-use Rattle.pt_watched.specs.Registers.{arguments_at}
-use Rattle.pt_watched.specs.Watched.{Tracing, after_pending, awaiting, begin_as, begin_program, entered, exited, give_back, has_begun, tracer, with_pending, with_tags, without_pending}
-use Rattle.pt_watched.specs.declared.pending.Pending.{Pending}
-use Rattle.pt_watched.specs.declared.plan.Led.{Led}
-use Rattle.swaps_read.specs.Answered.{StandsAtNoCall}
-use Rattle.swaps_read.specs.Exits.{left_with}
-use Rattle.swaps_read.specs.NoCalls.{without_call}
-use Rattle.swaps_read.proofs.ExitLemmas.{exits_behind_answers}
-use Rattle.walks_agree.specs.Scene.{IsMatched}
-use Rattle.walks_agree.specs.States.{scene_of}
-use Rattle.stops_match.specs.turns_match.Calls.{decoded_by, decoded_in}
-use Rattle.stops_match.specs.turns_match.Lasting.{CanBeCalled}
-use Rattle.stops_match.proofs.turns_match.CallLemmas.{by_request}
-use Rattle.stops_match.proofs.turns_match.CalledLemmas.{decoded_lasts, decoded_lives, decoded_memory, decoded_process, lasts_living, settled_lasts}
-use Rattle.stops_match.proofs.turns_match.ImageLemmas.{given}
-use Rattle.stops_match.proofs.turns_match.OperateLemmas.{with_own_registers}
+use Rattle.path_places.proofs.pr_base.MapLemmas.{get-insert_same}
+use Rattle.path_places.specs.pr_base.declared.errno.Errno.{Errno}
+use Rattle.path_places.specs.pr_base.declared.errno.Errno.TheVariants.{ENOSYS}
+use Rattle.pt_args.specs.rv_mem.Actions.{AreEqualUnmarked, CarriedOut, carried_out}
+use Rattle.pt_args.specs.rv_mem.Memory.{Memory}
+use Rattle.pt_args.specs.rv_mem.Pages.{HoldsBytes, Pages}
+use Rattle.pt_args.specs.rv_mem.declared.regs.Regs.{Regs}
+use Rattle.pt_args.specs.pt_bind.Tags.{TagTable, with_tag}
+use Rattle.pt_args.specs.pt_bind.declared.slot.Slot.TheVariants.{Exe}
+use Rattle.stops_match.specs.pt_ident.Identity.{refusal}
+use Rattle.path_places.specs.pt_results.Notes.{noted, noted_of, tags_after}
+use Rattle.answers_agree.specs.kr_view.View.{Row, plain}
+use Rattle.pt_args.specs.kr_calls.Decoding.{decoding}
+use Rattle.pt_args.specs.kr_calls.declared.request.Request.{Request}
+use Rattle.pt_args.specs.kr_calls.declared.request.Request.TheVariants as call
+use Rattle.scripts_read.proofs.kr_allowed.DecodedLemmas.{decoding-leaves-pages}
+use Rattle.scripts_read.proofs.kr_allowed.RowLemmas.{StaysLike, lawful-image}
+use Rattle.stops_match.specs.kr_seen.Carrying.{memory_of, with_memory, with_memory_of}
+use Rattle.scripts_read.specs.kr_execve.Execution.{Program, changes_of, execution, mount_of}
+use Rattle.stops_match.specs.kr_model.Applied.{all_applied, images}
+use Rattle.stops_match.specs.kr_model.State.{Image, Process, State, process, with_process}
+use Rattle.stops_match.specs.kr_model.declared.outcome.Outcome.TheVariants.{Answer}
+use Rattle.stops_match.specs.kr_steps.Answering.{answered, going, resumed, with_answer}
+use Rattle.stops_match.specs.kr_steps.Calls.{LastsLawful}
+use Rattle.stops_match.specs.kr_steps.Computing.{computed}
+use Rattle.path_places.specs.kr_turns.PlainCall.{Came, executed, plain_call, refusal_told, replaced}
+use Rattle.path_places.specs.kr_turns.Stopped.{IsThere, Stopped, edited, image_at}
+use Rattle.path_places.specs.kr_turns.Turn.{Machine, Tally, after_exit, after_plain, called, calling, watched_call}
+use Rattle.path_places.specs.kr_turns.Watching.{unwatched}
+use Rattle.path_places.specs.kr_turns.declared.plain.CallEnd.TheVariants as end
+use Rattle.path_places.proofs.kr_turns.EditLemmas.{there as is_there}
+use Rattle.stops_match.specs.pt_tracer.Faking.{has_answered_zero, word_of}
+use Rattle.stops_match.specs.pt_tracer.Stopping.{after_request, decoded_at, register_at}
+use Rattle.answers_agree.specs.pt_watched.Registers.{arguments_at}
+use Rattle.answers_agree.specs.pt_watched.Watched.{Tracing, after_pending, awaiting, begin_as, begin_program, entered, exited, give_back, has_begun, tracer, with_pending, with_tags, without_pending}
+use Rattle.answers_agree.specs.pt_watched.declared.pending.Pending.{Pending}
+use Rattle.answers_agree.specs.pt_watched.declared.plan.Led.{Led}
+use Rattle.stops_match.specs.swaps_read.Answered.{StandsAtNoCall}
+use Rattle.stops_match.specs.swaps_read.Exits.{left_with}
+use Rattle.stops_match.specs.swaps_read.NoCalls.{without_call}
+use Rattle.stops_match.proofs.swaps_read.ExitLemmas.{exits_behind_answers}
+use Rattle.answers_agree.specs.walks_agree.Scene.{IsMatched}
+use Rattle.answers_agree.specs.walks_agree.States.{scene_of}
+use Rattle.path_places.specs.turns_match.Calls.{decoded_by, decoded_in}
+use Rattle.path_places.specs.turns_match.Lasting.{CanBeCalled}
+use Rattle.path_places.proofs.turns_match.CallLemmas.{by_request}
+use Rattle.path_places.proofs.turns_match.CalledLemmas.{decoded_lasts, decoded_lives, decoded_memory, decoded_process, lasts_living, settled_lasts}
+use Rattle.path_places.proofs.turns_match.ImageLemmas.{given}
+use Rattle.path_places.proofs.turns_match.OperateLemmas.{with_own_registers}
 use Rattle.stops_match.specs.Turning.{ComeFromCall, ComeToCall}
 use Rattle.stops_match.proofs.AnsweredLemmas.{computed_twice, lives_changed, none_made, silent_refusal, told_again}
 use Rattle.stops_match.proofs.CallLemmas as before

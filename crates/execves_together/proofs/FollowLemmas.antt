@@ -3,78 +3,79 @@ use Rattle.std.proofs.Common.{◌≡◌, ◌≢◌, ◌≤◌, ℕ, Bool, true, 
 use Rattle.std.specs.Prelude.{IsSome, ◌==◌}
 use Rattle.std.specs.Option.{option_map_or}
 use Rattle.std.proofs.lemmas.Bool.Decides.{nat_tests}
-use Rattle.pr_base.specs.declared.errno.Errno.{Errno}
-use Rattle.pr_base.specs.declared.errno.Errno.TheVariants.{EACCES, ENAMETOOLONG, ENOENT}
-use Rattle.rv_mem.specs.Actions.{AreEqualUnmarked, CarriedOut, Done, carried_out}
-use Rattle.rv_mem.specs.Memory.{Memory}
-use Rattle.rv_mem.specs.Pages.{IsPlaced, Pages}
-use Rattle.rv_mem.specs.declared.regs.Regs.{Regs}
-use Rattle.rv_mem.proofs.ActionLemmas.{reads_alike}
+use Rattle.path_places.specs.pr_base.declared.errno.Errno.{Errno}
+use Rattle.path_places.specs.pr_base.declared.errno.Errno.TheVariants.{EACCES, ENAMETOOLONG, ENOENT}
+use Rattle.path_places.specs.pr_base.declared.path.WalkMode.TheVariants.{Look}
+use Rattle.pt_args.specs.rv_mem.Actions.{AreEqualUnmarked, CarriedOut, Done, carried_out}
+use Rattle.pt_args.specs.rv_mem.Memory.{Memory}
+use Rattle.pt_args.specs.rv_mem.Pages.{IsPlaced, Pages}
+use Rattle.pt_args.specs.rv_mem.declared.regs.Regs.{Regs}
+use Rattle.pt_args.proofs.rv_mem.ActionLemmas.{reads_alike}
 use Rattle.pt_args.specs.Bases.{working_text}
 use Rattle.pt_args.specs.Walks as traced_walks
 use Rattle.pt_args.specs.Laws.{IsPathText, ShelvesHoldTheirItems, TextsAreReadBack, poked}
 use Rattle.pt_args.specs.declared.edit.Edit.{Edit}
 use Rattle.pt_args.specs.declared.edit.Edit.TheVariants.{Cancel, Pass}
-use Rattle.pt_canon.specs.TextWalk.{TextSurroundings}
-use Rattle.pt_canon.specs.declared.canon.Canon.{Canon}
-use Rattle.pt_lists.specs.Reading.{addresses_behind}
-use Rattle.pt_lists.specs.declared.lists.Handed.{Handed}
-use Rattle.pt_script.specs.Expanding.{command_of, ends_of, expanded_at, shown_result}
-use Rattle.pt_script.specs.Programs.{program_from}
-use Rattle.pt_script.specs.declared.expansion.Expanded.{Expanded}
-use Rattle.pt_script.specs.declared.program.Program.{Program as TracedProgram}
-use Rattle.kr_tree.specs.Lawful.{HasBytes}
-use Rattle.kr_tree.specs.declared.place.Place.{Place}
-use Rattle.kr_view.specs.View.{Row, plain}
-use Rattle.kr_view.specs.Walk.{PlaceTarget}
-use Rattle.kr_view.specs.Component.{Surroundings}
-use Rattle.kr_view.specs.Reach.{reach_after}
-use Rattle.kr_view.specs.Answers.{told}
-use Rattle.kr_view.specs.declared.target.Reach.{Reach}
-use Rattle.kr_calls.specs.Expansion.{bytes_with_ends, most_scripts}
-use Rattle.kr_calls.specs.declared.request.Request.{Request}
-use Rattle.kr_calls.specs.declared.request.Request.TheVariants as call
-use Rattle.kr_allowed.proofs.DecodedLemmas.{decoding-leaves-pages}
-use Rattle.kr_allowed.proofs.RowLemmas.{StaysLike}
-use Rattle.kr_seen.specs.Carrying.{memory_of}
-use Rattle.kr_exec.specs.Finding.{program_at, program_walk}
-use Rattle.kr_exec.specs.Lists.{and_then, lists_at}
-use Rattle.kr_exec.specs.declared.lists.Lists.{Lists}
-use Rattle.kr_exec.proofs.ListLemmas.{and_then_is, on_reply}
-use Rattle.kr_exec.proofs.PlanLemmas.{covers_exec}
-use Rattle.kr_execve.specs.Execution.{Program, execution, execution_from, execution_reach, found_reach, planned_reach, reach_from}
-use Rattle.kr_model.specs.Applied.{cwd_of}
-use Rattle.kr_model.specs.ProcessDirectory.{around_of}
-use Rattle.kr_model.specs.State.{Image, Process, State, process}
-use Rattle.kr_steps.specs.Computing.{computed}
-use Rattle.kr_turns.specs.Breaking.{nothing_reached}
-use Rattle.kr_turns.specs.Stopped.{Stopped, edited, image_at}
-use Rattle.kr_turns.specs.Turn.{Machine, calling, watched_call}
-use Rattle.kr_turns.specs.Watching.{unwatched}
-use Rattle.kr_turns.proofs.EditLemmas.{edited-twice, image-edited}
-use Rattle.pt_tracer.specs.Stopping.{after_request, decoded_at, memory_at, with_memory}
-use Rattle.pt_watched.specs.Planning.{after_expansion, after_lists, after_path, has_shelf, led_in, led_of, nowhere, planned, rewritten, script_plan, stack_at, texts_at}
-use Rattle.pt_watched.specs.ScriptEdit.{put_texts, script_room, shelved_script}
-use Rattle.pt_watched.specs.Watched.{Tracing, after_decoding, after_plan, by_identities, entered}
-use Rattle.pt_watched.specs.declared.plan.Led.{Led}
-use Rattle.pt_watched.specs.declared.plan.Plan.{Plan}
-use Rattle.lists_alike.specs.Reading.{handed_or, read_by_tracer}
-use Rattle.lists_alike.proofs.ReadLemmas.{lists_are_read_alike, shown_lists_are_read_alike}
-use Rattle.stops_match.specs.turns_match.Calls.{decoded_by}
-use Rattle.stops_match.proofs.turns_match.CalledLemmas.{decoded_memory}
-use Rattle.stops_match.proofs.turns_match.RunLemmas.{lives_too}
+use Rattle.pt_args.specs.pt_canon.TextWalk.{TextSurroundings}
+use Rattle.pt_args.specs.pt_canon.declared.canon.Canon.{Canon}
+use Rattle.answers_agree.specs.pt_lists.Reading.{addresses_behind}
+use Rattle.answers_agree.specs.pt_lists.declared.lists.Handed.{Handed}
+use Rattle.answers_agree.specs.pt_script.Expanding.{command_of, ends_of, expanded_at, shown_result}
+use Rattle.answers_agree.specs.pt_script.Programs.{program_from}
+use Rattle.answers_agree.specs.pt_script.declared.expansion.Expanded.{Expanded}
+use Rattle.answers_agree.specs.pt_script.declared.program.Program.{Program as TracedProgram}
+use Rattle.stops_match.specs.kr_tree.Lawful.{HasBytes}
+use Rattle.stops_match.specs.kr_tree.declared.place.Place.{Place}
+use Rattle.answers_agree.specs.kr_view.View.{Row, plain}
+use Rattle.answers_agree.specs.kr_view.Walk.{PlaceTarget}
+use Rattle.answers_agree.specs.kr_view.Component.{Surroundings}
+use Rattle.answers_agree.specs.kr_view.Reach.{reach_after}
+use Rattle.answers_agree.specs.kr_view.Answers.{told}
+use Rattle.answers_agree.specs.kr_view.declared.target.Reach.{Reach}
+use Rattle.pt_args.specs.kr_calls.Expansion.{bytes_with_ends, most_scripts}
+use Rattle.pt_args.specs.kr_calls.declared.request.Request.{Request}
+use Rattle.pt_args.specs.kr_calls.declared.request.Request.TheVariants as call
+use Rattle.scripts_read.proofs.kr_allowed.DecodedLemmas.{decoding-leaves-pages}
+use Rattle.scripts_read.proofs.kr_allowed.RowLemmas.{StaysLike}
+use Rattle.stops_match.specs.kr_seen.Carrying.{memory_of}
+use Rattle.scripts_read.specs.kr_exec.Finding.{program_at, program_walk}
+use Rattle.scripts_read.specs.kr_exec.Lists.{and_then, lists_at}
+use Rattle.scripts_read.specs.kr_exec.declared.lists.Lists.{Lists}
+use Rattle.scripts_read.proofs.kr_exec.ListLemmas.{and_then_is, on_reply}
+use Rattle.scripts_read.proofs.kr_exec.PlanLemmas.{covers_exec}
+use Rattle.scripts_read.specs.kr_execve.Execution.{Program, execution, execution_from, execution_reach, found_reach, planned_reach, reach_from}
+use Rattle.stops_match.specs.kr_model.Applied.{cwd_of}
+use Rattle.stops_match.specs.kr_model.ProcessDirectory.{around_of}
+use Rattle.stops_match.specs.kr_model.State.{Image, Process, State, process}
+use Rattle.stops_match.specs.kr_steps.Computing.{computed}
+use Rattle.path_places.specs.kr_turns.Breaking.{nothing_reached}
+use Rattle.path_places.specs.kr_turns.Stopped.{Stopped, edited, image_at}
+use Rattle.path_places.specs.kr_turns.Turn.{Machine, calling, watched_call}
+use Rattle.path_places.specs.kr_turns.Watching.{unwatched}
+use Rattle.path_places.proofs.kr_turns.EditLemmas.{edited-twice, image-edited}
+use Rattle.stops_match.specs.pt_tracer.Stopping.{after_request, decoded_at, memory_at, with_memory}
+use Rattle.answers_agree.specs.pt_watched.Planning.{after_expansion, after_lists, after_path, has_shelf, led_in, led_of, nowhere, planned, rewritten, script_plan, stack_at, texts_at}
+use Rattle.answers_agree.specs.pt_watched.ScriptEdit.{put_texts, script_room, shelved_script}
+use Rattle.answers_agree.specs.pt_watched.Watched.{Tracing, after_decoding, after_plan, by_identities, entered}
+use Rattle.answers_agree.specs.pt_watched.declared.plan.Led.{Led}
+use Rattle.answers_agree.specs.pt_watched.declared.plan.Plan.{Plan}
+use Rattle.scripts_read.specs.lists_alike.Reading.{handed_or, read_by_tracer}
+use Rattle.scripts_read.proofs.lists_alike.ReadLemmas.{lists_are_read_alike, shown_lists_are_read_alike}
+use Rattle.path_places.specs.turns_match.Calls.{decoded_by}
+use Rattle.path_places.proofs.turns_match.CalledLemmas.{decoded_memory}
+use Rattle.path_places.proofs.turns_match.RunLemmas.{lives_too}
 use Rattle.stops_match.specs.Turning.{ComeToCall}
 use Rattle.stops_match.proofs.CallLemmas as before
-use Rattle.programs_agree.specs.Executing.{IsCalled, LoadedAlike, none_loaded, read_by_kernel}
-use Rattle.programs_agree.specs.Finding.{ProgramsAlike, no_program, one_program, texts_here}
-use Rattle.programs_agree.specs.Refusing.{IsBegun, canon_along}
-use Rattle.programs_agree.proofs.ExecuteLemmas.{executions_agree, refused_executions_agree}
-use Rattle.programs_agree.proofs.FindLemmas.{programs_are_found_alike}
-use Rattle.programs_agree.proofs.PlainLemmas.{plain_executions_agree, same-host}
-use Rattle.programs_agree.proofs.RefuseLemmas.{empty_executions_agree, lost_executions_agree, missing_executions_agree, next, unread_executions_agree}
+use Rattle.scripts_read.specs.programs_agree.Executing.{IsCalled, LoadedAlike, none_loaded, read_by_kernel}
+use Rattle.scripts_read.specs.programs_agree.Finding.{ProgramsAlike, no_program, one_program, texts_here}
+use Rattle.scripts_read.specs.programs_agree.Refusing.{IsBegun, canon_along}
+use Rattle.scripts_read.proofs.programs_agree.ExecuteLemmas.{executions_agree, refused_executions_agree}
+use Rattle.scripts_read.proofs.programs_agree.FindLemmas.{programs_are_found_alike}
+use Rattle.scripts_read.proofs.programs_agree.PlainLemmas.{plain_executions_agree, same-host}
+use Rattle.scripts_read.proofs.programs_agree.RefuseLemmas.{empty_executions_agree, lost_executions_agree, missing_executions_agree, next, unread_executions_agree}
 use Rattle.execves_together.proofs.EnteredLemmas as goes
 use Rattle.execves_together.proofs.GoLemmas as go
-use Rattle.lists_alike.proofs.KeepLemmas.{addresses-keep, lists-keep}
+use Rattle.scripts_read.proofs.lists_alike.KeepLemmas.{addresses-keep, lists-keep}
 use Rattle.scripts_read.specs.Reading.{IsShelved}
 use Rattle.scripts_read.specs.Shelves.{script_shelf}
 use Rattle.scripts_read.proofs.ReadLemmas.{script_lists_are_read}
@@ -117,12 +118,12 @@ module _ (table : List Row) (pid : ℕ) (s : State ℕ Image) (path : List ℕ) 
       by (Err e) = refl
 
   -- at least the walk along the path
-  reach-least : (base : Place ℕ) → cwd_of pid s ≡ Some base → (r : Reach) → (reach_after around (program_walk around base path) r).longest ≤ (execution_reach table pid s path args env m r).longest
+  reach-least : (base : Place ℕ) → cwd_of pid s ≡ Some base → (r : Reach) → (reach_after around Look (program_walk around base path) r).longest ≤ (execution_reach table pid s path args env m r).longest
   reach-least base at r =
       subst (λ (o : Option (Place ℕ)). walked.longest ≤ (option_map_or (reach_from table pid s path args env m r) o r).longest) (sym at) (by (program_at around base path))
     where
       walked : Reach
-      walked = reach_after around (program_walk around base path) r
+      walked = reach_after around Look (program_walk around base path) r
 
       with-lists : (target : PlaceTarget) (l : Result Lists Errno) → walked.longest ≤ (planned_reach table pid s path args env base target l walked).longest
       with-lists target (Ok lists) = (covers_exec around base (told target) path lists.args lists.env walked).longest
@@ -312,7 +313,7 @@ module _ {S : Type 0} (back : TextsAreReadBack) (hold : ShelvesHoldTheirItems) (
     at-most one two = omega (arith, one, two)
 
     module _ (canon : Canon) (leads : canon_along texts working path ≡ Ok canon) where
-      short-path : (reach_after (around_of table pid at) (program_walk (around_of table pid at) first-begun.base path) nothing_reached).longest ≤ 4000
+      short-path : (reach_after (around_of table pid at) Look (program_walk (around_of table pid at) first-begun.base path) nothing_reached).longest ≤ 4000
       short-path = at-most (reach-least table pid at path args env here first-begun.base first-begun.at nothing_reached) (rules.short table made pid m n c p q lives also calm path args env decoded)
 
       fits : Fits canon.host

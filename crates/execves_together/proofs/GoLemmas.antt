@@ -2,58 +2,58 @@
 use Rattle.std.specs.FinMap as map
 use Rattle.std.proofs.Common.{◌≡◌, ℕ, false, List, Option, Some, None, Result, Ok, Err, refl, sym, ap, subst, ◌∙◌, arith, get_or}
 use Rattle.std.specs.Prelude.{IsSome}
-use Rattle.pr_base.specs.declared.errno.Errno.{Errno}
-use Rattle.rv_mem.specs.Actions.{AreEqualUnmarked, CarriedOut, carried_out}
-use Rattle.rv_mem.specs.Layout.{layout_of}
-use Rattle.rv_mem.specs.Memory.{Memory}
-use Rattle.rv_mem.specs.declared.regs.Regs.{Regs}
+use Rattle.path_places.specs.pr_base.declared.errno.Errno.{Errno}
+use Rattle.pt_args.specs.rv_mem.Actions.{AreEqualUnmarked, CarriedOut, carried_out}
+use Rattle.pt_args.specs.rv_mem.Layout.{layout_of}
+use Rattle.pt_args.specs.rv_mem.Memory.{Memory}
+use Rattle.pt_args.specs.rv_mem.declared.regs.Regs.{Regs}
 use Rattle.pt_args.specs.declared.edit.Edit.TheVariants.{Cancel}
-use Rattle.pt_ident.specs.Identity.{refusal}
-use Rattle.kr_view.specs.Living.{Each, HasSmallNumbers}
-use Rattle.kr_view.specs.View.{Row, plain}
-use Rattle.kr_calls.specs.Decoding.{decoding}
-use Rattle.kr_calls.specs.declared.request.Request.{Request}
-use Rattle.kr_calls.specs.declared.request.Request.TheVariants as call
-use Rattle.kr_allowed.proofs.DecodedLemmas.{decoded-are-givable, decoding-leaves-pages}
-use Rattle.kr_allowed.proofs.RowLemmas.{StaysLike}
-use Rattle.kr_seen.specs.Carrying.{memory_of}
-use Rattle.kr_execve.specs.Execution.{Program, execution}
-use Rattle.kr_allowed.proofs.RoomLemmas.{lasting-room}
-use Rattle.kr_model.specs.Applied.{with_image}
-use Rattle.kr_model.specs.Known.{pages_in_all}
-use Rattle.kr_model.specs.Lawful.{is_file_at}
-use Rattle.kr_model.specs.ProcessDirectory.{living_of, space_of}
-use Rattle.kr_model.specs.State.{Image, Process, State, image_layout, process}
-use Rattle.kr_seen.proofs.StandingLemmas.{living-small}
-use Rattle.kr_steps.specs.Computing.{computed}
-use Rattle.kr_turns.specs.Stopped.{IsThere, Stopped, edited, image_at}
-use Rattle.kr_turns.specs.Turn.{Machine, called, calling, watched_call}
-use Rattle.kr_turns.specs.Watching.{unwatched}
-use Rattle.kr_turns.proofs.EditLemmas.{edited-twice, image-edited, there as is_there}
-use Rattle.pt_tracer.specs.Faking.{no_longer_called, word_of}
-use Rattle.pt_tracer.specs.Stopping.{after_request, decoded_at, memory_at, with_memory}
-use Rattle.pt_watched.specs.Registers.{arguments_at}
-use Rattle.pt_watched.specs.Watched.{Tracing, awaiting, entered, exited, with_pending}
-use Rattle.pt_watched.specs.declared.plan.Led.{Led}
-use Rattle.swaps_read.specs.Answered.{StandsAtNoCall}
-use Rattle.swaps_read.specs.Exits.{left_with}
-use Rattle.swaps_read.specs.NoCalls.{without_call}
-use Rattle.swaps_read.proofs.AnsweredLemmas.{answered_calls_are_none}
-use Rattle.swaps_read.proofs.StopLemmas.{register_set}
-use Rattle.walks_agree.specs.Scene.{IsMatched}
-use Rattle.walks_agree.specs.States.{IsInUse, scene_of}
-use Rattle.places_stay.proofs.MatchLemmas.{matches_are_matched}
-use Rattle.stops_match.specs.turns_match.Calls.{decoded_by, decoded_in}
-use Rattle.stops_match.specs.turns_match.Lasting.{CanBeCalled}
-use Rattle.stops_match.proofs.turns_match.CalledLemmas.{decoded_lasts, decoded_lives, decoded_process}
-use Rattle.stops_match.proofs.turns_match.ImageLemmas.{bare_computed, given}
-use Rattle.stops_match.proofs.turns_match.RunLemmas.{lives_too}
+use Rattle.stops_match.specs.pt_ident.Identity.{refusal}
+use Rattle.answers_agree.specs.kr_view.Living.{Each, HasSmallNumbers}
+use Rattle.answers_agree.specs.kr_view.View.{Row, plain}
+use Rattle.pt_args.specs.kr_calls.Decoding.{decoding}
+use Rattle.pt_args.specs.kr_calls.declared.request.Request.{Request}
+use Rattle.pt_args.specs.kr_calls.declared.request.Request.TheVariants as call
+use Rattle.scripts_read.proofs.kr_allowed.DecodedLemmas.{decoded-are-givable, decoding-leaves-pages}
+use Rattle.scripts_read.proofs.kr_allowed.RowLemmas.{StaysLike}
+use Rattle.stops_match.specs.kr_seen.Carrying.{memory_of}
+use Rattle.scripts_read.specs.kr_execve.Execution.{Program, execution}
+use Rattle.scripts_read.proofs.kr_allowed.RoomLemmas.{lasting-room}
+use Rattle.stops_match.specs.kr_model.Applied.{with_image}
+use Rattle.stops_match.specs.kr_model.Known.{pages_in_all}
+use Rattle.stops_match.specs.kr_model.Lawful.{is_file_at}
+use Rattle.stops_match.specs.kr_model.ProcessDirectory.{living_of, space_of}
+use Rattle.stops_match.specs.kr_model.State.{Image, Process, State, image_layout, process}
+use Rattle.stops_match.proofs.kr_seen.StandingLemmas.{living-small}
+use Rattle.stops_match.specs.kr_steps.Computing.{computed}
+use Rattle.path_places.specs.kr_turns.Stopped.{IsThere, Stopped, edited, image_at}
+use Rattle.path_places.specs.kr_turns.Turn.{Machine, called, calling, watched_call}
+use Rattle.path_places.specs.kr_turns.Watching.{unwatched}
+use Rattle.path_places.proofs.kr_turns.EditLemmas.{edited-twice, image-edited, there as is_there}
+use Rattle.stops_match.specs.pt_tracer.Faking.{no_longer_called, word_of}
+use Rattle.stops_match.specs.pt_tracer.Stopping.{after_request, decoded_at, memory_at, with_memory}
+use Rattle.answers_agree.specs.pt_watched.Registers.{arguments_at}
+use Rattle.answers_agree.specs.pt_watched.Watched.{Tracing, awaiting, entered, exited, with_pending}
+use Rattle.answers_agree.specs.pt_watched.declared.plan.Led.{Led}
+use Rattle.stops_match.specs.swaps_read.Answered.{StandsAtNoCall}
+use Rattle.stops_match.specs.swaps_read.Exits.{left_with}
+use Rattle.stops_match.specs.swaps_read.NoCalls.{without_call}
+use Rattle.stops_match.proofs.swaps_read.AnsweredLemmas.{answered_calls_are_none}
+use Rattle.stops_match.proofs.swaps_read.StopLemmas.{register_set}
+use Rattle.answers_agree.specs.walks_agree.Scene.{IsMatched}
+use Rattle.answers_agree.specs.walks_agree.States.{IsInUse, scene_of}
+use Rattle.plans_agree.proofs.places_stay.MatchLemmas.{matches_are_matched}
+use Rattle.path_places.specs.turns_match.Calls.{decoded_by, decoded_in}
+use Rattle.path_places.specs.turns_match.Lasting.{CanBeCalled}
+use Rattle.path_places.proofs.turns_match.CalledLemmas.{decoded_lasts, decoded_lives, decoded_process}
+use Rattle.path_places.proofs.turns_match.ImageLemmas.{bare_computed, given}
+use Rattle.path_places.proofs.turns_match.RunLemmas.{lives_too}
 use Rattle.stops_match.specs.Cancelling.{at_call}
 use Rattle.stops_match.specs.Turning.{ComeToCall}
 use Rattle.stops_match.proofs.CallLemmas as before
 use Rattle.stops_match.proofs.CallLemmas.{own_image, plain_named}
-use Rattle.programs_agree.specs.Executing.{IsSameLoaded, LoadedAlike, none_loaded, one_loaded}
-use Rattle.programs_agree.proofs.ShowLemmas.{same-pages}
+use Rattle.scripts_read.specs.programs_agree.Executing.{IsSameLoaded, LoadedAlike, none_loaded, one_loaded}
+use Rattle.scripts_read.proofs.programs_agree.ShowLemmas.{same-pages}
 use Rattle.execves_together.specs.Going.{CancelledExecvesGoTogether, EnteredExecvesGoTogether, GoesOn, IsExecveCancelled, IsExecveEntered, done_here, done_there, here}
 use Rattle.execves_together.specs.Replacing.{ArePutAlike, IsReady, IsReadyIn}
 use Rattle.execves_together.proofs.EnteredLemmas as goes

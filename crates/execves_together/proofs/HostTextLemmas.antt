@@ -2,58 +2,58 @@
 -- what runs behind scripts.
 use Rattle.std.proofs.Common.{◌≡◌, ◌≢◌, ◌≤◌, ℕ, true, false, cond, List, [], length, take, Option, Some, Result, Ok, Err, refl, sym, ap, subst, ◌∙◌, arith}
 use Rattle.std.specs.Option.{option_map_or}
-use Rattle.pr_base.specs.Paths.{is_absolute, text_of}
-use Rattle.pr_base.specs.Texts.{Text}
-use Rattle.pr_base.proofs.PathLemmas.{text_absolute}
-use Rattle.pr_base.specs.declared.errno.Errno.{Errno}
-use Rattle.pr_base.specs.declared.path.WalkMode.TheVariants.{Look}
-use Rattle.rv_mem.specs.Memory.{Memory}
+use Rattle.path_places.specs.pr_base.Paths.{is_absolute, text_of}
+use Rattle.path_places.specs.pr_base.Texts.{Text}
+use Rattle.path_places.proofs.pr_base.PathLemmas.{text_absolute}
+use Rattle.path_places.specs.pr_base.declared.errno.Errno.{Errno}
+use Rattle.path_places.specs.pr_base.declared.path.WalkMode.TheVariants.{Look}
+use Rattle.pt_args.specs.rv_mem.Memory.{Memory}
 use Rattle.pt_args.specs.Walks as traced_walks
-use Rattle.pt_bind.specs.Tags.{TagTable}
-use Rattle.pt_canon.specs.TextWalk.{TextSurroundings}
-use Rattle.pt_canon.specs.declared.canon.Canon.{Canon}
-use Rattle.pt_script.specs.Expanding.{command_of, ends_of, expanded_from, shown_result}
-use Rattle.pt_script.specs.Programs as tracer
-use Rattle.pt_script.specs.declared.expansion.Expanded.{Expanded}
-use Rattle.pt_script.specs.declared.program.Program.{Program}
+use Rattle.pt_args.specs.pt_bind.Tags.{TagTable}
+use Rattle.pt_args.specs.pt_canon.TextWalk.{TextSurroundings}
+use Rattle.pt_args.specs.pt_canon.declared.canon.Canon.{Canon}
+use Rattle.answers_agree.specs.pt_script.Expanding.{command_of, ends_of, expanded_from, shown_result}
+use Rattle.answers_agree.specs.pt_script.Programs as tracer
+use Rattle.answers_agree.specs.pt_script.declared.expansion.Expanded.{Expanded}
+use Rattle.answers_agree.specs.pt_script.declared.program.Program.{Program}
 use Rattle.plans_agree.proofs.TextLemmas.{names_text}
-use Rattle.kr_tree.specs.Lawful.{AreBytes, HasBytes}
-use Rattle.kr_tree.specs.declared.place.Place.{Place}
-use Rattle.kr_view.specs.Answers.{told}
-use Rattle.kr_view.specs.Component.{Surroundings}
-use Rattle.kr_view.specs.Reach.{reach_after}
-use Rattle.kr_view.specs.View.{Row}
-use Rattle.kr_view.specs.Walk.{PlaceTarget}
-use Rattle.kr_view.specs.declared.target.Reach.{Reach}
-use Rattle.kr_view.specs.declared.target.Target.{Target}
-use Rattle.kr_view.proofs.HostReachLemmas.{reached_names}
-use Rattle.kr_calls.specs.Expansion.{bytes_with_ends, expanded, most_scripts}
-use Rattle.kr_calls.specs.Expansion.{Expanded as Ended}
-use Rattle.kr_allowed.specs.Texts.{IsText}
-use Rattle.kr_exec.specs.Finding.{program_at, program_walk}
-use Rattle.kr_exec.specs.Interpreters.{interpreters, walks_reach}
-use Rattle.kr_exec.specs.Interpreters as kernel
-use Rattle.kr_exec.specs.declared.lists.Lists.{Lists}
-use Rattle.kr_execve.specs.Execution.{execution_reach, found_reach, planned_reach, reach_from}
-use Rattle.kr_bytes.proofs.NameLemmas.{text-bytes}
-use Rattle.kr_model.specs.Applied.{cwd_of}
-use Rattle.kr_model.specs.ProcessDirectory.{around_of, space_of}
-use Rattle.kr_model.specs.State.{Image, State}
-use Rattle.walks_agree.specs.Scene.{IsMatched}
-use Rattle.walks_agree.specs.Settled.{host_text}
-use Rattle.walks_agree.specs.States.{scene_of}
-use Rattle.walks_agree.proofs.HandedLemmas.{found_stands}
+use Rattle.stops_match.specs.kr_tree.Lawful.{AreBytes, HasBytes}
+use Rattle.stops_match.specs.kr_tree.declared.place.Place.{Place}
+use Rattle.answers_agree.specs.kr_view.Answers.{told}
+use Rattle.answers_agree.specs.kr_view.Component.{Surroundings}
+use Rattle.answers_agree.specs.kr_view.Reach.{reach_after}
+use Rattle.answers_agree.specs.kr_view.View.{Row}
+use Rattle.answers_agree.specs.kr_view.Walk.{PlaceTarget}
+use Rattle.answers_agree.specs.kr_view.declared.target.Reach.{Reach}
+use Rattle.answers_agree.specs.kr_view.declared.target.Target.{Target}
+use Rattle.answers_agree.proofs.kr_view.HostReachLemmas.{reached_names}
+use Rattle.pt_args.specs.kr_calls.Expansion.{bytes_with_ends, expanded, most_scripts}
+use Rattle.pt_args.specs.kr_calls.Expansion.{Expanded as Ended}
+use Rattle.scripts_read.specs.kr_allowed.Texts.{IsText}
+use Rattle.scripts_read.specs.kr_exec.Finding.{program_at, program_walk}
+use Rattle.scripts_read.specs.kr_exec.Interpreters.{interpreters, walks_reach}
+use Rattle.scripts_read.specs.kr_exec.Interpreters as kernel
+use Rattle.scripts_read.specs.kr_exec.declared.lists.Lists.{Lists}
+use Rattle.scripts_read.specs.kr_execve.Execution.{execution_reach, found_reach, planned_reach, reach_from}
+use Rattle.path_places.proofs.kr_bytes.NameLemmas.{text-bytes}
+use Rattle.stops_match.specs.kr_model.Applied.{cwd_of}
+use Rattle.stops_match.specs.kr_model.ProcessDirectory.{around_of, space_of}
+use Rattle.stops_match.specs.kr_model.State.{Image, State}
+use Rattle.answers_agree.specs.walks_agree.Scene.{IsMatched}
+use Rattle.answers_agree.specs.walks_agree.Settled.{host_text}
+use Rattle.answers_agree.specs.walks_agree.States.{scene_of}
+use Rattle.answers_agree.proofs.walks_agree.HandedLemmas.{found_stands}
 use Rattle.answers_agree.proofs.ShortLemmas.{reached_texts_are_short}
-use Rattle.programs_agree.specs.Executing.{read_by_kernel}
-use Rattle.programs_agree.specs.Expanding.{IsSameTold}
-use Rattle.programs_agree.specs.Finding.{ProgramsAlike, WorksAt, no_program, one_program, scene_here, texts_here}
-use Rattle.programs_agree.specs.Refusing.{IsLedTo, LedAlike, canon_along, no_lead, one_lead}
-use Rattle.programs_agree.proofs.FindLemmas.{no-program, programs_are_found_alike}
-use Rattle.programs_agree.proofs.LimitLemmas.{lists_fit}
-use Rattle.programs_agree.proofs.RefuseLemmas.{empty-program, paths_lead_alike}
-use Rattle.programs_agree.specs.Ending as alike
-use Rattle.programs_agree.specs.Ending.{EndAlike, ResultsAlike}
-use Rattle.programs_agree.proofs.EndLemmas.{FindsAlike, IsShort, each-mapped, scripts-end, walks-short}
+use Rattle.scripts_read.specs.programs_agree.Executing.{read_by_kernel}
+use Rattle.scripts_read.specs.programs_agree.Expanding.{IsSameTold}
+use Rattle.scripts_read.specs.programs_agree.Finding.{ProgramsAlike, WorksAt, no_program, one_program, scene_here, texts_here}
+use Rattle.scripts_read.specs.programs_agree.Refusing.{IsLedTo, LedAlike, canon_along, no_lead, one_lead}
+use Rattle.scripts_read.proofs.programs_agree.FindLemmas.{no-program, programs_are_found_alike}
+use Rattle.scripts_read.proofs.programs_agree.LimitLemmas.{lists_fit}
+use Rattle.scripts_read.proofs.programs_agree.RefuseLemmas.{empty-program, paths_lead_alike}
+use Rattle.scripts_read.specs.programs_agree.Ending as alike
+use Rattle.scripts_read.specs.programs_agree.Ending.{EndAlike, ResultsAlike}
+use Rattle.scripts_read.proofs.programs_agree.EndLemmas.{FindsAlike, IsShort, each-mapped, scripts-end, walks-short}
 use Rattle.execves_together.proofs.ByteLemmas.{reached-bytes}
 
 ok_same : {A : Type 0} {a b : A} → ◌≡◌ {A = Result A Errno} (Ok a) (Ok b) → a ≡ b
@@ -73,7 +73,7 @@ module _ (table : List Row) (pid : ℕ) (s : State ℕ Image) (path : List ℕ) 
   along = around_of table pid s
 
   abbrev pub walked : Reach
-  walked = reach_after along (program_walk along base path) r
+  walked = reach_after along Look (program_walk along base path) r
 
   abbrev pub scripted : Reach
   scripted = walks_reach along base (interpreters (kernel.programs along base) (bytes_with_ends lists.env) most_scripts (told target) path lists.args) walked
@@ -94,7 +94,7 @@ module _ (table : List Row) (s : State ℕ Image) (pid : ℕ) (tags : TagTable) 
 
   -- ---- along one path
 
-  module _ (path : List ℕ) (r : Reach) (short : (reach_after around (program_walk around base path) r).longest ≤ 4000) where
+  module _ (path : List ℕ) (r : Reach) (short : (reach_after around Look (program_walk around base path) r).longest ≤ 4000) where
     fits_led : path ≢ [] → (target : PlaceTarget) (k : Canon) → IsLedTo table s pid tags path base target k → Fits k.host
     fits_led some target k l =
         let walk = l.walked some in
@@ -154,8 +154,8 @@ module _ (table : List Row) (s : State ℕ Image) (pid : ℕ) (tags : TagTable) 
   heads f g is = is.0.same.head ∙ ap (λ (f : Target ℕ). kernel.head_of s.tree f.found) (sym is.0.told)
 
   module _ (env_bytes : ℕ) (path : List ℕ) (given : List (List ℕ)) (target : PlaceTarget) (found : program_at around base path ≡ Ok target) (r : Reach)
-      (short : (walks_reach around base (interpreters (kernel.programs around base) env_bytes most_scripts (told target) path given) (reach_after around (program_walk around base path) r)).longest ≤ 4000)
-      (first : (reach_after around (program_walk around base path) r).longest ≤ 4000) where
+      (short : (walks_reach around base (interpreters (kernel.programs around base) env_bytes most_scripts (told target) path given) (reach_after around Look (program_walk around base path) r)).longest ≤ 4000)
+      (first : (reach_after around Look (program_walk around base path) r).longest ≤ 4000) where
     abbrev Ends : Result (Ended (Target ℕ)) Errno → Result (Ended Program) Errno → Type 0
     Ends = ResultsAlike (EndAlike IsFound)
 
@@ -165,7 +165,7 @@ module _ (table : List Row) (s : State ℕ Image) (pid : ℕ) (tags : TagTable) 
         scripts-end (kernel.programs around base) (tracer.programs texts working) IsFound heads env_bytes most_scripts (told target) program path given is
         (each-mapped (IsShort around base 4000) (FindsAlike (kernel.programs around base) (tracer.programs texts working) IsFound heads env_bytes) (λ path s. finds_fit path s.0 s.1)
         (interpreters (kernel.programs around base) env_bytes most_scripts (told target) path given)
-        (walks-short around base 4000 (interpreters (kernel.programs around base) env_bytes most_scripts (told target) path given) (reach_after around (program_walk around base path) r) short))
+        (walks-short around base 4000 (interpreters (kernel.programs around base) env_bytes most_scripts (told target) path given) (reach_after around Look (program_walk around base path) r) short))
 
     pub fits_ended : (y : Expanded) → expanded_from texts working env_bytes path given ≡ Ok y → Fits y.host
     fits_ended y ends = by _ _ refl refl (finds_fit path r first) ends

@@ -1,4 +1,3 @@
-pub use Rattle.stops_match.proofs as stops_match
 pub mod ReadyLemmas
 pub mod BehindLemmas
 pub mod ReplaceLemmas

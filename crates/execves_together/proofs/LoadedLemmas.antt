@@ -1,38 +1,38 @@
 -- Execve(2) that both kernels carry out: what is left of both machines.
 use Rattle.std.proofs.Common.{◌≡◌, ℕ, suc, false, true, List, Some, None, Ok, get_or, refl, sym, ap, subst, ◌∙◌, arith}
 use Rattle.std.specs.Prelude.{IsSome, ◌==◌}
-use Rattle.rv_mem.specs.Actions.{carried_out}
-use Rattle.rv_mem.specs.Memory.{Memory}
-use Rattle.rv_mem.specs.declared.regs.Regs.{Regs}
-use Rattle.pt_bind.specs.Tags.{TagTable, with_tag}
-use Rattle.pt_bind.specs.declared.slot.Slot.TheVariants.{Exe}
-use Rattle.kr_inode.specs.declared.user.User.{User}
-use Rattle.kr_view.specs.View.{Row, plain}
-use Rattle.kr_calls.specs.declared.request.Request.TheVariants as call
-use Rattle.kr_seen.specs.Carrying.{memory_of, with_memory, with_memory_of}
-use Rattle.kr_execve.specs.Execution.{Program, changes_of, execution, mount_of}
-use Rattle.kr_allowed.specs.Lasting.{AreModest}
-use Rattle.kr_allowed.proofs.ChangeLemmas.{modest-last}
-use Rattle.kr_lawful.specs.Laws.{CanAllBeMade}
-use Rattle.kr_lawful.proofs.ChangeLemmas.{all-changes-keep}
-use Rattle.kr_model.specs.Applied.{all_applied, images}
-use Rattle.kr_model.specs.State.{Image, Process, State, process, with_process}
-use Rattle.kr_steps.specs.Answering.{going, resumed}
-use Rattle.kr_steps.specs.Calls.{LastsLawful}
-use Rattle.kr_turns.specs.PlainCall.{Came, plain_call, replaced}
-use Rattle.kr_turns.specs.Stopped.{image_in}
-use Rattle.kr_turns.specs.Turn.{Machine, Tally, after_exit, after_plain, called, watched_call}
-use Rattle.kr_turns.specs.Watching.{unwatched}
-use Rattle.kr_turns.specs.declared.plain.CallEnd.TheVariants as end
-use Rattle.pt_tracer.specs.Faking.{has_answered_zero}
-use Rattle.pt_watched.specs.Watched.{Tracing, tracer}
-use Rattle.places_stay.specs.Matching.{IsMatch}
-use Rattle.walks_agree.specs.Scene.{IsMatched}
-use Rattle.walks_agree.specs.States.{scene_of}
-use Rattle.stops_match.specs.turns_match.Calls.{decoded_by, decoded_in}
-use Rattle.stops_match.specs.turns_match.Lasting.{CanBeCalled}
-use Rattle.stops_match.proofs.turns_match.CalledLemmas.{lasts_living}
-use Rattle.stops_match.proofs.turns_match.SettleLemmas.{lawful_gone}
+use Rattle.pt_args.specs.rv_mem.Actions.{carried_out}
+use Rattle.pt_args.specs.rv_mem.Memory.{Memory}
+use Rattle.pt_args.specs.rv_mem.declared.regs.Regs.{Regs}
+use Rattle.pt_args.specs.pt_bind.Tags.{TagTable, with_tag}
+use Rattle.pt_args.specs.pt_bind.declared.slot.Slot.TheVariants.{Exe}
+use Rattle.stops_match.specs.kr_inode.declared.user.User.{User}
+use Rattle.answers_agree.specs.kr_view.View.{Row, plain}
+use Rattle.pt_args.specs.kr_calls.declared.request.Request.TheVariants as call
+use Rattle.stops_match.specs.kr_seen.Carrying.{memory_of, with_memory, with_memory_of}
+use Rattle.scripts_read.specs.kr_execve.Execution.{Program, changes_of, execution, mount_of}
+use Rattle.scripts_read.specs.kr_allowed.Lasting.{AreModest}
+use Rattle.scripts_read.proofs.kr_allowed.ChangeLemmas.{modest-last}
+use Rattle.plans_agree.specs.kr_lawful.Laws.{CanAllBeMade}
+use Rattle.plans_agree.proofs.kr_lawful.ChangeLemmas.{all-changes-keep}
+use Rattle.stops_match.specs.kr_model.Applied.{all_applied, images}
+use Rattle.stops_match.specs.kr_model.State.{Image, Process, State, process, with_process}
+use Rattle.stops_match.specs.kr_steps.Answering.{going, resumed}
+use Rattle.stops_match.specs.kr_steps.Calls.{LastsLawful}
+use Rattle.path_places.specs.kr_turns.PlainCall.{Came, plain_call, replaced}
+use Rattle.path_places.specs.kr_turns.Stopped.{image_in}
+use Rattle.path_places.specs.kr_turns.Turn.{Machine, Tally, after_exit, after_plain, called, watched_call}
+use Rattle.path_places.specs.kr_turns.Watching.{unwatched}
+use Rattle.path_places.specs.kr_turns.declared.plain.CallEnd.TheVariants as end
+use Rattle.stops_match.specs.pt_tracer.Faking.{has_answered_zero}
+use Rattle.answers_agree.specs.pt_watched.Watched.{Tracing, tracer}
+use Rattle.plans_agree.specs.places_stay.Matching.{IsMatch}
+use Rattle.answers_agree.specs.walks_agree.Scene.{IsMatched}
+use Rattle.answers_agree.specs.walks_agree.States.{scene_of}
+use Rattle.path_places.specs.turns_match.Calls.{decoded_by, decoded_in}
+use Rattle.path_places.specs.turns_match.Lasting.{CanBeCalled}
+use Rattle.path_places.proofs.turns_match.CalledLemmas.{lasts_living}
+use Rattle.path_places.proofs.turns_match.SettleLemmas.{lawful_gone}
 use Rattle.stops_match.specs.Turning.{ComeFromCall, ComeToCall, Traces}
 use Rattle.stops_match.proofs.AnsweredLemmas.{lives_changed}
 use Rattle.stops_match.proofs.CallLemmas as before

@@ -1,21 +1,21 @@
 -- The path of execve(2), as decoding gives it, is a text that a path can be.
 use Rattle.std.proofs.Common.{◌≡◌, ◌<◌, ℕ, zero, suc, ◌+◌, Bool, true, false, cond, nat_eq, List, [], ◌∷◌, length, slice_index, None, Some, Ok, refl, sym, ap, ◌∙◌, arith}
-use Rattle.pr_base.specs.declared.errno.Errno.{Errno}
-use Rattle.pr_base.specs.declared.errno.Errno.TheVariants.{EFAULT, ENAMETOOLONG, ENOENT}
-use Rattle.rv_mem.specs.Actions.{Action, MayUse, ReadBytes, allows_uses, carried_out}
-use Rattle.rv_mem.specs.Memory.{Memory, after_read}
-use Rattle.rv_mem.specs.Pages.{HoldsBytes, bytes_from}
-use Rattle.rv_mem.specs.declared.regs.Regs.{Regs}
-use Rattle.rv_mem.specs.declared.rights.Use.{Use}
+use Rattle.path_places.specs.pr_base.declared.errno.Errno.{Errno}
+use Rattle.path_places.specs.pr_base.declared.errno.Errno.TheVariants.{EFAULT, ENAMETOOLONG, ENOENT}
+use Rattle.pt_args.specs.rv_mem.Actions.{Action, MayUse, ReadBytes, allows_uses, carried_out}
+use Rattle.pt_args.specs.rv_mem.Memory.{Memory, after_read}
+use Rattle.pt_args.specs.rv_mem.Pages.{HoldsBytes, bytes_from}
+use Rattle.pt_args.specs.rv_mem.declared.regs.Regs.{Regs}
+use Rattle.pt_args.specs.rv_mem.declared.rights.Use.{Use}
 use Rattle.pt_args.specs.Laws.{IsPathText}
-use Rattle.kr_calls.specs.Arguments.{has, long, number, word}
-use Rattle.kr_calls.specs.Decoding.{Decoded, accepts, decoding, execve_with, faccessat_with, fchmodat_with, fchownat_with, linkat_with, mkdirat_with, named, newfstatat_with, openat_with, readlinkat_with, refuses, renameat2_with, symlinkat_with, text_limit, unless, unlinkat_with, with_text, with_texts}
-use Rattle.kr_calls.specs.PathTable.{PathUse, path_at}
-use Rattle.kr_calls.specs.Texts.{read_text}
-use Rattle.kr_calls.specs.declared.request.Request.{Request}
-use Rattle.kr_calls.specs.declared.request.Request.TheVariants as call
-use Rattle.kr_allowed.proofs.DecodedLemmas.{decoded-are-givable}
-use Rattle.swaps_read.proofs.TableLemmas.{HoldsOfRows, holds}
+use Rattle.pt_args.specs.kr_calls.Arguments.{has, long, number, word}
+use Rattle.pt_args.specs.kr_calls.Decoding.{Decoded, accepts, decoding, execve_with, faccessat_with, fchmodat_with, fchownat_with, linkat_with, mkdirat_with, named, newfstatat_with, openat_with, readlinkat_with, refuses, renameat2_with, symlinkat_with, text_limit, unless, unlinkat_with, with_text, with_texts}
+use Rattle.pt_args.specs.kr_calls.PathTable.{PathUse, path_at}
+use Rattle.pt_args.specs.kr_calls.Texts.{read_text}
+use Rattle.pt_args.specs.kr_calls.declared.request.Request.{Request}
+use Rattle.pt_args.specs.kr_calls.declared.request.Request.TheVariants as call
+use Rattle.scripts_read.proofs.kr_allowed.DecodedLemmas.{decoded-are-givable}
+use Rattle.stops_match.proofs.swaps_read.TableLemmas.{HoldsOfRows, holds}
 
 -- whatever memory an action is carried out on, the path of an execve that it decodes is short
 record Gives (action : Action Decoded) : Type 0 where

@@ -1,16 +1,16 @@
 -- Execve(2) writes nothing into its caller's memory before it is replaced.
 use Rattle.std.proofs.Common.{ℕ, List, Option, Some, None, Err, refl}
 use Rattle.std.specs.Option.{option_map_or}
-use Rattle.pr_base.specs.declared.errno.Errno.TheVariants.{ENOENT}
-use Rattle.rv_mem.specs.Actions.{Done}
-use Rattle.kr_tree.specs.declared.place.Place.{Place}
-use Rattle.kr_view.specs.View.{Row}
-use Rattle.kr_exec.specs.Lists.{and_then, lists_at}
-use Rattle.kr_execve.specs.Execution.{execution, execution_from, found_from, loaded, planned_from}
-use Rattle.kr_model.specs.Applied.{cwd_of}
-use Rattle.kr_model.specs.State.{Image, State}
-use Rattle.kr_model.specs.Walks as results
-use Rattle.lists_alike.proofs.KeepLemmas.{Keeps, keeps-then, lists-keep}
+use Rattle.path_places.specs.pr_base.declared.errno.Errno.TheVariants.{ENOENT}
+use Rattle.pt_args.specs.rv_mem.Actions.{Done}
+use Rattle.stops_match.specs.kr_tree.declared.place.Place.{Place}
+use Rattle.answers_agree.specs.kr_view.View.{Row}
+use Rattle.scripts_read.specs.kr_exec.Lists.{and_then, lists_at}
+use Rattle.scripts_read.specs.kr_execve.Execution.{execution, execution_from, found_from, loaded, planned_from}
+use Rattle.stops_match.specs.kr_model.Applied.{cwd_of}
+use Rattle.stops_match.specs.kr_model.State.{Image, State}
+use Rattle.stops_match.specs.kr_model.Walks as results
+use Rattle.scripts_read.proofs.lists_alike.KeepLemmas.{Keeps, keeps-then, lists-keep}
 
 pub execution-keeps : (table : List Row) (pid : ℕ) (s : State ℕ Image) (path : List ℕ) (args env : ℕ) → Keeps (execution table pid s path args env)
 execution-keeps table pid s path args env = by (cwd_of pid s)

@@ -4,47 +4,47 @@ use Rattle.std.specs.Prelude.{IfSome, IsSome, nat_lt}
 use Rattle.std.specs.Bool.{if◌then◌else◌}
 use Rattle.std.specs.Option.{option_map}
 use Rattle.std.proofs.lemmas.Bool.Decides.{nat_tests}
-use Rattle.pr_base.specs.declared.errno.Errno.{Errno}
-use Rattle.pr_base.specs.declared.errno.Errno.TheVariants.{EACCES, ENOMEM}
-use Rattle.rv_mem.specs.Actions.{carried_out}
-use Rattle.rv_mem.specs.Memory.{Memory, page_count}
-use Rattle.elf_load.specs.Image.{image_pages, program_break}
-use Rattle.kr_tree.specs.Tree.{Tree}
-use Rattle.kr_tree.specs.Lawful.{AreBytes}
-use Rattle.kr_tree.specs.declared.place.Host.{Host}
-use Rattle.kr_tree.specs.declared.place.Host.TheVariants.{Node, Proc}
-use Rattle.kr_tree.specs.declared.place.Place.{Place}
-use Rattle.kr_view.specs.Answers.{told}
-use Rattle.kr_view.specs.Component.{Surroundings}
-use Rattle.kr_view.specs.View.{Row}
-use Rattle.kr_view.specs.Walk.{PlaceTarget}
-use Rattle.kr_view.specs.declared.target.Target.{Target}
-use Rattle.kr_exec.specs.Finding.{if_program, is_program_found, program_at, program_walk}
-use Rattle.kr_exec.specs.Interpreters.{bytes_at, told_program}
-use Rattle.kr_exec.specs.Lists.{and_then, lists_at}
-use Rattle.kr_exec.specs.declared.lists.Lists.{Lists}
-use Rattle.kr_exec.specs.declared.plan.ExecPlan.{ExecPlan}
-use Rattle.kr_execve.specs.Execution.{Program, changes_of, exceeds, execution, ids_of, image_of, loaded, planned_from, program_of}
-use Rattle.kr_execve.specs.Executing.{CanBeLoaded}
-use Rattle.kr_execve.proofs.LoadingLemmas.{break-within}
-use Rattle.kr_execve.proofs.PlannedLemmas.{IsPlannedOf, planned-of}
-use Rattle.kr_execve.proofs.ProgramLemmas.{program-file}
-use Rattle.kr_execve.proofs.PuttingLemmas.{can-all}
-use Rattle.kr_execve.proofs.StandingLemmas.{found-stands, plan-stands}
-use Rattle.kr_allowed.specs.Texts.{IsText, LinksHaveTexts}
-use Rattle.kr_lawful.specs.Laws.{CanAllBeMade}
-use Rattle.kr_allowed.specs.Told.{SourcesAreNamed}
-use Rattle.kr_model.specs.Applied.{cwd_of}
-use Rattle.kr_model.specs.Conditions.{CanLoad}
-use Rattle.kr_model.specs.Known.{pages_in_all}
-use Rattle.kr_model.specs.Lawful.{IsLawful, is_file_at}
-use Rattle.kr_model.specs.ProcessDirectory.{around_of}
-use Rattle.kr_model.specs.State.{Image, Process, State, image_layout, process}
-use Rattle.kr_model.specs.Walks as results
-use Rattle.kr_resolved.proofs.TextLemmas.{text_bytes}
-use Rattle.programs_agree.proofs.LimitLemmas.{comes}
-use Rattle.programs_agree.proofs.RefuseLemmas.{begun, next}
-use Rattle.programs_agree.proofs.ImageLemmas.{image-is}
+use Rattle.path_places.specs.pr_base.declared.errno.Errno.{Errno}
+use Rattle.path_places.specs.pr_base.declared.errno.Errno.TheVariants.{EACCES, ENOMEM}
+use Rattle.pt_args.specs.rv_mem.Actions.{carried_out}
+use Rattle.pt_args.specs.rv_mem.Memory.{Memory, page_count}
+use Rattle.scripts_read.specs.elf_load.Image.{image_pages, program_break}
+use Rattle.stops_match.specs.kr_tree.Tree.{Tree}
+use Rattle.stops_match.specs.kr_tree.Lawful.{AreBytes}
+use Rattle.stops_match.specs.kr_tree.declared.place.Host.{Host}
+use Rattle.stops_match.specs.kr_tree.declared.place.Host.TheVariants.{Node, Proc}
+use Rattle.stops_match.specs.kr_tree.declared.place.Place.{Place}
+use Rattle.answers_agree.specs.kr_view.Answers.{told}
+use Rattle.answers_agree.specs.kr_view.Component.{Surroundings}
+use Rattle.answers_agree.specs.kr_view.View.{Row}
+use Rattle.answers_agree.specs.kr_view.Walk.{PlaceTarget}
+use Rattle.answers_agree.specs.kr_view.declared.target.Target.{Target}
+use Rattle.scripts_read.specs.kr_exec.Finding.{if_program, is_program_found, program_at, program_walk}
+use Rattle.scripts_read.specs.kr_exec.Interpreters.{bytes_at, told_program}
+use Rattle.scripts_read.specs.kr_exec.Lists.{and_then, lists_at}
+use Rattle.scripts_read.specs.kr_exec.declared.lists.Lists.{Lists}
+use Rattle.scripts_read.specs.kr_exec.declared.plan.ExecPlan.{ExecPlan}
+use Rattle.scripts_read.specs.kr_execve.Execution.{Program, changes_of, exceeds, execution, ids_of, image_of, loaded, planned_from, program_of}
+use Rattle.scripts_read.specs.kr_execve.Executing.{CanBeLoaded}
+use Rattle.scripts_read.proofs.kr_execve.LoadingLemmas.{break-within}
+use Rattle.scripts_read.proofs.kr_execve.PlannedLemmas.{IsPlannedOf, planned-of}
+use Rattle.scripts_read.proofs.kr_execve.ProgramLemmas.{program-file}
+use Rattle.scripts_read.proofs.kr_execve.PuttingLemmas.{can-all}
+use Rattle.scripts_read.proofs.kr_execve.StandingLemmas.{found-stands, plan-stands}
+use Rattle.scripts_read.specs.kr_allowed.Texts.{IsText, LinksHaveTexts}
+use Rattle.plans_agree.specs.kr_lawful.Laws.{CanAllBeMade}
+use Rattle.scripts_read.specs.kr_allowed.Told.{SourcesAreNamed}
+use Rattle.stops_match.specs.kr_model.Applied.{cwd_of}
+use Rattle.stops_match.specs.kr_model.Conditions.{CanLoad}
+use Rattle.stops_match.specs.kr_model.Known.{pages_in_all}
+use Rattle.stops_match.specs.kr_model.Lawful.{IsLawful, is_file_at}
+use Rattle.stops_match.specs.kr_model.ProcessDirectory.{around_of}
+use Rattle.stops_match.specs.kr_model.State.{Image, Process, State, image_layout, process}
+use Rattle.stops_match.specs.kr_model.Walks as results
+use Rattle.scripts_read.proofs.kr_resolved.TextLemmas.{text_bytes}
+use Rattle.scripts_read.proofs.programs_agree.LimitLemmas.{comes}
+use Rattle.scripts_read.proofs.programs_agree.RefuseLemmas.{begun, next}
+use Rattle.scripts_read.proofs.programs_agree.ImageLemmas.{image-is}
 use Rattle.execves_together.specs.Replacing.{IsReadyIn, LoadedProgramsAreReady, ReadyProgramsCanBePut, mounts_of}
 
 ok_same : {A : Type 0} {a b : A} → ◌≡◌ {A = Result A Errno} (Ok a) (Ok b) → a ≡ b

@@ -1,39 +1,39 @@
 -- Execve(2) that both kernels refuse, or that a tracer cancels: what is left of both machines.
 use Rattle.std.proofs.Common.{◌≡◌, ℕ, suc, false, List, Some, None, Result, Ok, Err, get_or, refl, sym, ap, subst, ◌∙◌, ℤ}
 use Rattle.std.specs.Prelude.{neg_ℤ, pos, ◌==◌}
-use Rattle.pr_base.specs.Errno.{errno_number}
-use Rattle.pr_base.specs.declared.errno.Errno.{Errno}
-use Rattle.rv_mem.specs.Actions.{AreEqualUnmarked, CarriedOut, carried_out}
-use Rattle.rv_mem.specs.Memory.{Memory}
-use Rattle.rv_mem.specs.Pages.{Pages}
-use Rattle.rv_mem.specs.declared.regs.Regs.{Regs}
-use Rattle.kr_view.specs.View.{Row, plain}
-use Rattle.kr_calls.specs.declared.request.Request.TheVariants as call
-use Rattle.kr_allowed.proofs.DecodedLemmas.{decoding-leaves-pages}
-use Rattle.kr_allowed.proofs.RowLemmas.{StaysLike, lawful-image}
-use Rattle.kr_seen.specs.Carrying.{memory_of, with_memory_of}
-use Rattle.kr_execve.specs.Execution.{Program, changes_of, execution, mount_of}
-use Rattle.kr_model.specs.Applied.{all_applied, images}
-use Rattle.kr_model.specs.State.{Image, Process, State, process, with_process}
-use Rattle.kr_model.specs.declared.outcome.Outcome.TheVariants.{Answer}
-use Rattle.kr_steps.specs.Answering.{answered, going, with_answer}
-use Rattle.kr_steps.specs.Calls.{LastsLawful}
-use Rattle.kr_steps.specs.Computing.{computed}
-use Rattle.kr_turns.specs.PlainCall.{Came, executed, plain_call, refusal_told, replaced}
-use Rattle.kr_turns.specs.Stopped.{image_in}
-use Rattle.kr_turns.specs.Turn.{Machine, Tally, after_exit, after_plain, called, watched_call}
-use Rattle.kr_turns.specs.Watching.{unwatched}
-use Rattle.pt_tracer.specs.Faking.{has_answered_zero}
-use Rattle.pt_watched.specs.Watched.{Tracing, tracer}
-use Rattle.places_stay.specs.Matching.{IsMatch}
-use Rattle.stops_match.specs.turns_match.Calls.{decoded_by, decoded_in}
-use Rattle.stops_match.specs.turns_match.Lasting.{CanBeCalled}
-use Rattle.stops_match.proofs.turns_match.CallLemmas.{by_request}
-use Rattle.stops_match.proofs.turns_match.CalledLemmas.{decoded_lasts, decoded_lives, decoded_memory, decoded_process, lasts_living, longer_lasts, settled_lasts}
-use Rattle.stops_match.proofs.turns_match.ImageLemmas.{given}
-use Rattle.stops_match.proofs.turns_match.MatchLemmas.{match_computed}
-use Rattle.stops_match.proofs.turns_match.OperateLemmas.{with_own_registers}
-use Rattle.stops_match.proofs.turns_match.SettleLemmas.{match_settled}
+use Rattle.path_places.specs.pr_base.Errno.{errno_number}
+use Rattle.path_places.specs.pr_base.declared.errno.Errno.{Errno}
+use Rattle.pt_args.specs.rv_mem.Actions.{AreEqualUnmarked, CarriedOut, carried_out}
+use Rattle.pt_args.specs.rv_mem.Memory.{Memory}
+use Rattle.pt_args.specs.rv_mem.Pages.{Pages}
+use Rattle.pt_args.specs.rv_mem.declared.regs.Regs.{Regs}
+use Rattle.answers_agree.specs.kr_view.View.{Row, plain}
+use Rattle.pt_args.specs.kr_calls.declared.request.Request.TheVariants as call
+use Rattle.scripts_read.proofs.kr_allowed.DecodedLemmas.{decoding-leaves-pages}
+use Rattle.scripts_read.proofs.kr_allowed.RowLemmas.{StaysLike, lawful-image}
+use Rattle.stops_match.specs.kr_seen.Carrying.{memory_of, with_memory_of}
+use Rattle.scripts_read.specs.kr_execve.Execution.{Program, changes_of, execution, mount_of}
+use Rattle.stops_match.specs.kr_model.Applied.{all_applied, images}
+use Rattle.stops_match.specs.kr_model.State.{Image, Process, State, process, with_process}
+use Rattle.stops_match.specs.kr_model.declared.outcome.Outcome.TheVariants.{Answer}
+use Rattle.stops_match.specs.kr_steps.Answering.{answered, going, with_answer}
+use Rattle.stops_match.specs.kr_steps.Calls.{LastsLawful}
+use Rattle.stops_match.specs.kr_steps.Computing.{computed}
+use Rattle.path_places.specs.kr_turns.PlainCall.{Came, executed, plain_call, refusal_told, replaced}
+use Rattle.path_places.specs.kr_turns.Stopped.{image_in}
+use Rattle.path_places.specs.kr_turns.Turn.{Machine, Tally, after_exit, after_plain, called, watched_call}
+use Rattle.path_places.specs.kr_turns.Watching.{unwatched}
+use Rattle.stops_match.specs.pt_tracer.Faking.{has_answered_zero}
+use Rattle.answers_agree.specs.pt_watched.Watched.{Tracing, tracer}
+use Rattle.plans_agree.specs.places_stay.Matching.{IsMatch}
+use Rattle.path_places.specs.turns_match.Calls.{decoded_by, decoded_in}
+use Rattle.path_places.specs.turns_match.Lasting.{CanBeCalled}
+use Rattle.path_places.proofs.turns_match.CallLemmas.{by_request}
+use Rattle.path_places.proofs.turns_match.CalledLemmas.{decoded_lasts, decoded_lives, decoded_memory, decoded_process, lasts_living, longer_lasts, settled_lasts}
+use Rattle.path_places.proofs.turns_match.ImageLemmas.{given}
+use Rattle.path_places.proofs.turns_match.MatchLemmas.{match_computed}
+use Rattle.path_places.proofs.turns_match.OperateLemmas.{with_own_registers}
+use Rattle.path_places.proofs.turns_match.SettleLemmas.{match_settled}
 use Rattle.stops_match.specs.Turning.{ComeFromCall, ComeToCall, Traces}
 use Rattle.stops_match.proofs.AnsweredLemmas.{computed_twice, lives_changed}
 use Rattle.stops_match.proofs.CallLemmas as before

@@ -3,34 +3,34 @@ use Rattle.std.specs.FinMap as map
 use Rattle.std.proofs.Common.{◌≡◌, ◌≢◌, ℕ, true, false, List, [], ◌∷◌, Option, Some, None, Ok, refl, sym, ap, subst, ◌∙◌, map as map_list}
 use Rattle.std.specs.Option.{option_map_or}
 use Rattle.std.proofs.lemmas.List.Elements.{All-head}
-use Rattle.pr_base.specs.Paths.{AreNames, IsName}
-use Rattle.pt_bind.specs.Tags.{TagTable, with_tag}
-use Rattle.pt_bind.specs.declared.slot.Slot.TheVariants.{Exe}
-use Rattle.kr_tree.specs.Tree.{Body, Directory, Inode, ProcessDirectory, RegularFile, SymbolicLink, Tree, inode, is_directory, is_file}
-use Rattle.kr_tree.specs.declared.place.Host.{Host}
-use Rattle.kr_tree.specs.declared.place.Host.TheVariants.{Node, Proc}
-use Rattle.kr_view.specs.Component.{is_directory_at}
-use Rattle.kr_view.specs.Living.{Living, finds_among}
-use Rattle.kr_view.specs.View.{Row, plain}
-use Rattle.kr_view.proofs.HostReachLemmas.{reached_names}
-use Rattle.kr_calm.proofs.ChangeLemmas.{new_programs_break_none}
-use Rattle.kr_execve.specs.Execution.{Program, changes_of}
-use Rattle.kr_lawful.specs.Laws.{CanAllBeMade}
-use Rattle.kr_model.specs.Applied.{all_applied, applied, images, with_living, with_program}
-use Rattle.kr_model.specs.Change.{OfFound, ReplaceImage}
-use Rattle.kr_model.specs.Lawful.{is_file_at}
-use Rattle.kr_model.specs.ProcessDirectory.{space_of}
-use Rattle.kr_model.specs.State.{Image, Process, State, with_process}
-use Rattle.walks_agree.specs.Scene.{IsMatched}
-use Rattle.walks_agree.specs.Settled.{host_text}
-use Rattle.walks_agree.specs.States.{IsInUse, scene_of}
-use Rattle.places_stay.specs.Changes.{NewPlacesStand}
-use Rattle.places_stay.specs.Matching.{IsMatch, index_at}
-use Rattle.places_stay.specs.Standing.{UseStands}
-use Rattle.places_stay.proofs.FollowLemmas.{told_at}
+use Rattle.path_places.specs.pr_base.Paths.{AreNames, IsName}
+use Rattle.pt_args.specs.pt_bind.Tags.{TagTable, with_tag}
+use Rattle.pt_args.specs.pt_bind.declared.slot.Slot.TheVariants.{Exe}
+use Rattle.stops_match.specs.kr_tree.Tree.{Body, Directory, Inode, ProcessDirectory, RegularFile, SymbolicLink, Tree, inode, is_directory, is_file}
+use Rattle.stops_match.specs.kr_tree.declared.place.Host.{Host}
+use Rattle.stops_match.specs.kr_tree.declared.place.Host.TheVariants.{Node, Proc}
+use Rattle.answers_agree.specs.kr_view.Component.{is_directory_at}
+use Rattle.answers_agree.specs.kr_view.Living.{Living, finds_among}
+use Rattle.answers_agree.specs.kr_view.View.{Row, plain}
+use Rattle.answers_agree.proofs.kr_view.HostReachLemmas.{reached_names}
+use Rattle.stops_match.proofs.kr_calm.ChangeLemmas.{new_programs_break_none}
+use Rattle.scripts_read.specs.kr_execve.Execution.{Program, changes_of}
+use Rattle.plans_agree.specs.kr_lawful.Laws.{CanAllBeMade}
+use Rattle.stops_match.specs.kr_model.Applied.{all_applied, applied, images, with_living, with_program}
+use Rattle.stops_match.specs.kr_model.Change.{OfFound, ReplaceImage}
+use Rattle.stops_match.specs.kr_model.Lawful.{is_file_at}
+use Rattle.stops_match.specs.kr_model.ProcessDirectory.{space_of}
+use Rattle.stops_match.specs.kr_model.State.{Image, Process, State, with_process}
+use Rattle.answers_agree.specs.walks_agree.Scene.{IsMatched}
+use Rattle.answers_agree.specs.walks_agree.Settled.{host_text}
+use Rattle.answers_agree.specs.walks_agree.States.{IsInUse, scene_of}
+use Rattle.plans_agree.specs.places_stay.Changes.{NewPlacesStand}
+use Rattle.plans_agree.specs.places_stay.Matching.{IsMatch, index_at}
+use Rattle.plans_agree.specs.places_stay.Standing.{UseStands}
+use Rattle.plans_agree.proofs.places_stay.FollowLemmas.{told_at}
 use Rattle.path_places.proofs.FoundLemmas.{file_use}
-use Rattle.stops_match.proofs.turns_match.KeepLemmas.{changes_keep_matches}
-use Rattle.stops_match.proofs.turns_match.SettleLemmas.{match_gone}
+use Rattle.path_places.proofs.turns_match.KeepLemmas.{changes_keep_matches}
+use Rattle.path_places.proofs.turns_match.SettleLemmas.{match_gone}
 use Rattle.execves_together.specs.Replacing.{ArePutAlike, ProgramsKeepMatches, mounts_of}
 
 -- a file is no directory

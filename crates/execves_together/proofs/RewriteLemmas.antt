@@ -1,22 +1,22 @@
 -- The path of execve(2) as a tracer rewrites it.
 use Rattle.std.proofs.Common.{◌≡◌, ◌≢◌, ℕ, Bool, true, false, List, [], ◌∷◌, Option, Some, None, Result, Ok, Err, refl}
 use Rattle.std.specs.Bool.{if◌then◌else◌}
-use Rattle.pr_base.specs.Paths.{is_absolute, slash}
-use Rattle.pr_base.specs.declared.errno.Errno.{Errno}
+use Rattle.path_places.specs.pr_base.Paths.{is_absolute, slash}
+use Rattle.path_places.specs.pr_base.declared.errno.Errno.{Errno}
 use Rattle.pt_args.specs.Bases as bases
 use Rattle.pt_args.specs.Bases.{working_text}
 use Rattle.pt_args.specs.Edits.{edit_by, edit_of}
 use Rattle.pt_args.specs.Plans.{plan_from}
 use Rattle.pt_args.specs.Walks.{and_then, reached_at, walked_from}
-use Rattle.pt_canon.specs.TextWalk.{TextSurroundings}
-use Rattle.pt_canon.specs.declared.canon.Canon.{Canon}
-use Rattle.pt_script.specs.Programs as programs
-use Rattle.pt_script.specs.Programs.{canon_from}
-use Rattle.pr_base.specs.declared.path.WalkMode.TheVariants.{Look}
-use Rattle.kr_calls.specs.PathTable.{PathUse, working_directory}
-use Rattle.kr_calls.specs.declared.request.Request.{Request}
-use Rattle.kr_calls.specs.declared.request.Request.TheVariants as call
-use Rattle.programs_agree.specs.Refusing.{canon_along}
+use Rattle.pt_args.specs.pt_canon.TextWalk.{TextSurroundings}
+use Rattle.pt_args.specs.pt_canon.declared.canon.Canon.{Canon}
+use Rattle.answers_agree.specs.pt_script.Programs as programs
+use Rattle.answers_agree.specs.pt_script.Programs.{canon_from}
+use Rattle.path_places.specs.pr_base.declared.path.WalkMode.TheVariants.{Look}
+use Rattle.pt_args.specs.kr_calls.PathTable.{PathUse, working_directory}
+use Rattle.pt_args.specs.kr_calls.declared.request.Request.{Request}
+use Rattle.pt_args.specs.kr_calls.declared.request.Request.TheVariants as call
+use Rattle.scripts_read.specs.programs_agree.Refusing.{canon_along}
 use Rattle.execves_together.specs.Rewriting.{ExecvesAreRewritten, edit_along}
 
 module _ (texts : TextSurroundings) (pid sp : ℕ) (usable : Bool) (path : List ℕ) (args env : ℕ) where

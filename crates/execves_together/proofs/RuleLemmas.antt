@@ -3,29 +3,29 @@ use Rattle.std.proofs.Common.{◌≡◌, ◌≤◌, ℕ, Bool, true, false, cond
 use Rattle.std.specs.Option.{option_map_or}
 use Rattle.std.specs.Prelude.{IsSome}
 use Rattle.std.proofs.lemmas.Bool.{ltb-false}
-use Rattle.rv_mem.specs.Actions.{AreEqualUnmarked, carried_out}
-use Rattle.rv_mem.specs.Memory.{Memory}
-use Rattle.kr_view.specs.View.{Row}
-use Rattle.kr_calls.specs.Arguments.{number}
-use Rattle.kr_calls.specs.declared.request.Request.TheVariants as call
-use Rattle.kr_seen.specs.Carrying.{memory_of}
-use Rattle.kr_calm.specs.Shelf.{has_path, is_usable, stack_pointer}
-use Rattle.kr_execve.specs.Execution.{execution, execution_reach}
-use Rattle.kr_model.specs.State.{Image, Process, State, process}
-use Rattle.kr_turns.specs.Breaking.{decoded_rule, executed_rule, nothing_reached, plain_rule_of}
-use Rattle.kr_turns.specs.Stopped.{Stopped, edited}
-use Rattle.kr_turns.proofs.EditLemmas.{image-edited}
-use Rattle.kr_turns.specs.Turn.{Machine, calling, watched_call}
-use Rattle.kr_turns.specs.Watching.{unwatched}
-use Rattle.pt_tracer.specs.Stopping.{decoded_at}
-use Rattle.pt_watched.specs.Planning.{has_shelf}
-use Rattle.pt_watched.specs.Watched.{Tracing}
-use Rattle.swaps_read.specs.Shelves.{bottom_of}
-use Rattle.swaps_read.specs.Swapped.{AreMarkedFrom}
-use Rattle.swaps_read.proofs.MarkLemmas.{shelves_are_marked}
+use Rattle.pt_args.specs.rv_mem.Actions.{AreEqualUnmarked, carried_out}
+use Rattle.pt_args.specs.rv_mem.Memory.{Memory}
+use Rattle.answers_agree.specs.kr_view.View.{Row}
+use Rattle.pt_args.specs.kr_calls.Arguments.{number}
+use Rattle.pt_args.specs.kr_calls.declared.request.Request.TheVariants as call
+use Rattle.stops_match.specs.kr_seen.Carrying.{memory_of}
+use Rattle.stops_match.specs.kr_calm.Shelf.{has_path, is_usable, stack_pointer}
+use Rattle.scripts_read.specs.kr_execve.Execution.{execution, execution_reach}
+use Rattle.stops_match.specs.kr_model.State.{Image, Process, State, process}
+use Rattle.path_places.specs.kr_turns.Breaking.{decoded_rule, executed_rule, nothing_reached, plain_rule_of}
+use Rattle.path_places.specs.kr_turns.Stopped.{Stopped, edited}
+use Rattle.path_places.proofs.kr_turns.EditLemmas.{image-edited}
+use Rattle.path_places.specs.kr_turns.Turn.{Machine, calling, watched_call}
+use Rattle.path_places.specs.kr_turns.Watching.{unwatched}
+use Rattle.stops_match.specs.pt_tracer.Stopping.{decoded_at}
+use Rattle.answers_agree.specs.pt_watched.Planning.{has_shelf}
+use Rattle.answers_agree.specs.pt_watched.Watched.{Tracing}
+use Rattle.stops_match.specs.swaps_read.Shelves.{bottom_of}
+use Rattle.stops_match.specs.swaps_read.Swapped.{AreMarkedFrom}
+use Rattle.stops_match.proofs.swaps_read.MarkLemmas.{shelves_are_marked}
 use Rattle.answers_agree.proofs.NumberLemmas.{paths_have_numbers}
 use Rattle.answers_agree.proofs.ShelfLemmas.{calm_calls_have_shelves, shelves_are_seen}
-use Rattle.calm_places.proofs.InUseLemmas.{neither}
+use Rattle.path_places.proofs.calm_places.InUseLemmas.{neither}
 use Rattle.stops_match.specs.Turning.{ComeToCall}
 use Rattle.stops_match.proofs.CallLemmas as before
 use Rattle.stops_match.proofs.CallLemmas.{own_image}

@@ -2,49 +2,49 @@
 use Rattle.std.proofs.Common.{◌≡◌, ℕ, Bool, List, Option, Some, None, Ok, refl, sym, ap, subst, ◌∙◌, arith, false}
 use Rattle.std.specs.Prelude.{IsSome}
 use Rattle.std.specs.Option.{option_map}
-use Rattle.rv_mem.specs.Actions.{AreEqualUnmarked}
-use Rattle.rv_mem.specs.Layout.{layout_of}
-use Rattle.rv_mem.specs.Memory.{Memory}
-use Rattle.rv_mem.specs.declared.regs.Regs.{Regs}
+use Rattle.pt_args.specs.rv_mem.Actions.{AreEqualUnmarked}
+use Rattle.pt_args.specs.rv_mem.Layout.{layout_of}
+use Rattle.pt_args.specs.rv_mem.Memory.{Memory}
+use Rattle.pt_args.specs.rv_mem.declared.regs.Regs.{Regs}
 use Rattle.pt_args.specs.Bases.{working_text}
-use Rattle.kr_view.specs.Living.{Each, HasSmallNumbers}
-use Rattle.kr_view.specs.View.{Row, plain}
-use Rattle.kr_calls.specs.declared.request.Request.TheVariants as call
-use Rattle.kr_allowed.proofs.DecodedLemmas.{decoding-leaves-pages}
-use Rattle.kr_allowed.proofs.RowLemmas.{StaysLike, lawful-image}
-use Rattle.kr_allowed.proofs.RoomLemmas.{lasting-room}
-use Rattle.kr_model.specs.Bare.{bare_process, pins_of}
-use Rattle.kr_model.specs.ProcessDirectory.{living_of}
-use Rattle.kr_model.specs.State.{Image, Process, State, image_layout, process}
-use Rattle.kr_model.proofs.BareLemmas.{process-bare}
-use Rattle.kr_seen.proofs.StandingLemmas.{living-small}
-use Rattle.kr_steps.specs.Computing.{computed}
-use Rattle.kr_turns.specs.Turn.{Machine, calling, watched_call}
-use Rattle.kr_turns.specs.Watching.{unwatched}
-use Rattle.pt_tracer.specs.Stopping.{after_request, decoded_at, memory_at}
-use Rattle.pt_watched.specs.Planning.{texts_at}
-use Rattle.pt_watched.specs.Watched.{Tracing}
-use Rattle.walks_agree.specs.Scene.{IsMatched}
-use Rattle.walks_agree.specs.States.{scene_of}
-use Rattle.walks_bare.specs.Alike.{AreEqualButForMounts}
-use Rattle.walks_bare.proofs.OneMountLemmas.{lawful_states_are_in_one_mount}
-use Rattle.walks_bare.proofs.StateLemmas.{peeks_are_bare}
-use Rattle.places_stay.specs.Matching.{IsMatch}
-use Rattle.places_stay.proofs.MatchLemmas.{matches_are_matched, tagged_places_are_placed}
-use Rattle.stops_match.specs.turns_match.Calls.{decoded_by}
-use Rattle.stops_match.specs.turns_match.Lasting.{CanBeCalled}
-use Rattle.stops_match.proofs.turns_match.CalledLemmas.{decoded_lasts, decoded_lives, decoded_process}
-use Rattle.stops_match.proofs.turns_match.ImageLemmas.{bare_computed, given}
-use Rattle.stops_match.proofs.turns_match.MatchLemmas.{match_computed}
-use Rattle.stops_match.proofs.turns_match.RunLemmas.{lives_too}
+use Rattle.answers_agree.specs.kr_view.Living.{Each, HasSmallNumbers}
+use Rattle.answers_agree.specs.kr_view.View.{Row, plain}
+use Rattle.pt_args.specs.kr_calls.declared.request.Request.TheVariants as call
+use Rattle.scripts_read.proofs.kr_allowed.DecodedLemmas.{decoding-leaves-pages}
+use Rattle.scripts_read.proofs.kr_allowed.RowLemmas.{StaysLike, lawful-image}
+use Rattle.scripts_read.proofs.kr_allowed.RoomLemmas.{lasting-room}
+use Rattle.stops_match.specs.kr_model.Bare.{bare_process, pins_of}
+use Rattle.stops_match.specs.kr_model.ProcessDirectory.{living_of}
+use Rattle.stops_match.specs.kr_model.State.{Image, Process, State, image_layout, process}
+use Rattle.stops_match.proofs.kr_model.BareLemmas.{process-bare}
+use Rattle.stops_match.proofs.kr_seen.StandingLemmas.{living-small}
+use Rattle.stops_match.specs.kr_steps.Computing.{computed}
+use Rattle.path_places.specs.kr_turns.Turn.{Machine, calling, watched_call}
+use Rattle.path_places.specs.kr_turns.Watching.{unwatched}
+use Rattle.stops_match.specs.pt_tracer.Stopping.{after_request, decoded_at, memory_at}
+use Rattle.answers_agree.specs.pt_watched.Planning.{texts_at}
+use Rattle.answers_agree.specs.pt_watched.Watched.{Tracing}
+use Rattle.answers_agree.specs.walks_agree.Scene.{IsMatched}
+use Rattle.answers_agree.specs.walks_agree.States.{scene_of}
+use Rattle.stops_match.specs.walks_bare.Alike.{AreEqualButForMounts}
+use Rattle.stops_match.proofs.walks_bare.OneMountLemmas.{lawful_states_are_in_one_mount}
+use Rattle.stops_match.proofs.walks_bare.StateLemmas.{peeks_are_bare}
+use Rattle.plans_agree.specs.places_stay.Matching.{IsMatch}
+use Rattle.plans_agree.proofs.places_stay.MatchLemmas.{matches_are_matched, tagged_places_are_placed}
+use Rattle.path_places.specs.turns_match.Calls.{decoded_by}
+use Rattle.path_places.specs.turns_match.Lasting.{CanBeCalled}
+use Rattle.path_places.proofs.turns_match.CalledLemmas.{decoded_lasts, decoded_lives, decoded_process}
+use Rattle.path_places.proofs.turns_match.ImageLemmas.{bare_computed, given}
+use Rattle.path_places.proofs.turns_match.MatchLemmas.{match_computed}
+use Rattle.path_places.proofs.turns_match.RunLemmas.{lives_too}
 use Rattle.stops_match.specs.Turning.{ComeToCall}
 use Rattle.stops_match.proofs.AnsweredLemmas.{lives_changed}
 use Rattle.stops_match.proofs.CallLemmas as before
 use Rattle.stops_match.proofs.CallLemmas.{own_image}
-use Rattle.programs_agree.specs.Finding.{WorksAt, texts_here}
-use Rattle.programs_agree.specs.Refusing.{IsBegun}
-use Rattle.programs_agree.proofs.ShowLemmas.{states_are_shown_alike}
-use Rattle.programs_agree.proofs.WorkLemmas.{working_directories_are_known}
+use Rattle.scripts_read.specs.programs_agree.Finding.{WorksAt, texts_here}
+use Rattle.scripts_read.specs.programs_agree.Refusing.{IsBegun}
+use Rattle.scripts_read.proofs.programs_agree.ShowLemmas.{states_are_shown_alike}
+use Rattle.scripts_read.proofs.programs_agree.WorkLemmas.{working_directories_are_known}
 use Rattle.execves_together.proofs.GoLemmas as go
 use Rattle.execves_together.proofs.GoLemmas.{decoded_layout}
 use Rattle.execves_together.specs.Beginning.{BeginsTogether, ExecvesBeginTogether}

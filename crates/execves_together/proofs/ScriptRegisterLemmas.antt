@@ -6,34 +6,34 @@ use Rattle.std.specs.Prelude.{◌==◌, slice_set}
 use Rattle.std.specs.Int.{cast_signed, w64}
 use Rattle.std.specs.Option.{option_map}
 use Rattle.std.proofs.lemmas.List.{get_or-set_other, get_or-set_same, length-set}
-use Rattle.pr_base.specs.declared.errno.Errno.{Errno}
-use Rattle.rv_mem.specs.Actions.{Action, carried_out}
-use Rattle.rv_mem.specs.Memory.{Memory, text_of}
-use Rattle.rv_mem.specs.declared.regs.Regs.{Regs}
-use Rattle.kr_calls.specs.Arguments.{has, has_other, long, number, word}
-use Rattle.kr_calls.specs.Decoding.{Decoded, accepts, decoding, execve_row, execve_with, faccessat_row, faccessat_with, fchmodat_row, fchmodat_with, fchownat_row, fchownat_with, has_bad_open_flags, has_no_size, link_flags, linkat_row, linkat_with, mkdirat_row, mkdirat_with, chdir_row, chroot_row, newfstatat_row, newfstatat_with, openat_row, openat_with, readlinkat_row, readlinkat_with, remove_flags, renameat2_row, renameat2_with, stat_flags, symlinkat_row, symlinkat_with, text_limit, unless, unlinkat_row, unlinkat_with, with_text, with_texts}
-use Rattle.kr_calls.specs.PathTable.{path_at}
-use Rattle.kr_calls.specs.declared.request.Request.{Request}
-use Rattle.kr_calls.specs.declared.request.Request.TheVariants as call
-use Rattle.kr_model.specs.State.{Image}
-use Rattle.kr_turns.specs.Stopped.{IsThere, Stopped, edited, image_at}
-use Rattle.pt_results.specs.Notes.{noted, tags_after}
-use Rattle.pt_ident.specs.Identity.{refusal}
-use Rattle.pt_tracer.specs.Faking.{word_of}
-use Rattle.pt_tracer.specs.Stopping.{memory_at}
-use Rattle.pt_watched.specs.Registers.{given_back}
-use Rattle.pt_watched.specs.Watched.{Tracing, answer_at, awaiting, exited, has_begun, is_execve, with_tags, without_pending}
-use Rattle.pt_watched.specs.declared.plan.Led.{Led}
-use Rattle.pt_watched.specs.declared.registers.Arguments.{Arguments}
-use Rattle.swaps_read.specs.Exits.{left_with}
-use Rattle.swaps_read.specs.Requests.{path_register}
-use Rattle.swaps_read.specs.Shelves.{with_words}
-use Rattle.swaps_read.proofs.ExitLemmas.{gives_back, swapped_back}
-use Rattle.swaps_read.proofs.RowLemmas.{refused_is}
-use Rattle.swaps_read.proofs.ShelfLemmas.{differ}
-use Rattle.swaps_read.proofs.StopLemmas.{image_is, words_put}
-use Rattle.swaps_read.proofs.TableLemmas.{HoldsOfRows, decoding_of, holds}
-use Rattle.swaps_read.proofs.TextLemmas.{accepted_is, after_text, text_on, text_read_of}
+use Rattle.path_places.specs.pr_base.declared.errno.Errno.{Errno}
+use Rattle.pt_args.specs.rv_mem.Actions.{Action, carried_out}
+use Rattle.pt_args.specs.rv_mem.Memory.{Memory, text_of}
+use Rattle.pt_args.specs.rv_mem.declared.regs.Regs.{Regs}
+use Rattle.pt_args.specs.kr_calls.Arguments.{has, has_other, long, number, word}
+use Rattle.pt_args.specs.kr_calls.Decoding.{Decoded, accepts, decoding, execve_row, execve_with, faccessat_row, faccessat_with, fchmodat_row, fchmodat_with, fchownat_row, fchownat_with, has_bad_open_flags, has_no_size, link_flags, linkat_row, linkat_with, mkdirat_row, mkdirat_with, chdir_row, chroot_row, newfstatat_row, newfstatat_with, openat_row, openat_with, readlinkat_row, readlinkat_with, remove_flags, renameat2_row, renameat2_with, stat_flags, symlinkat_row, symlinkat_with, text_limit, unless, unlinkat_row, unlinkat_with, with_text, with_texts}
+use Rattle.pt_args.specs.kr_calls.PathTable.{path_at}
+use Rattle.pt_args.specs.kr_calls.declared.request.Request.{Request}
+use Rattle.pt_args.specs.kr_calls.declared.request.Request.TheVariants as call
+use Rattle.stops_match.specs.kr_model.State.{Image}
+use Rattle.path_places.specs.kr_turns.Stopped.{IsThere, Stopped, edited, image_at}
+use Rattle.path_places.specs.pt_results.Notes.{noted, tags_after}
+use Rattle.stops_match.specs.pt_ident.Identity.{refusal}
+use Rattle.stops_match.specs.pt_tracer.Faking.{word_of}
+use Rattle.stops_match.specs.pt_tracer.Stopping.{memory_at}
+use Rattle.answers_agree.specs.pt_watched.Registers.{given_back}
+use Rattle.answers_agree.specs.pt_watched.Watched.{Tracing, answer_at, awaiting, exited, has_begun, is_execve, with_tags, without_pending}
+use Rattle.answers_agree.specs.pt_watched.declared.plan.Led.{Led}
+use Rattle.answers_agree.specs.pt_watched.declared.registers.Arguments.{Arguments}
+use Rattle.stops_match.specs.swaps_read.Exits.{left_with}
+use Rattle.stops_match.specs.swaps_read.Requests.{path_register}
+use Rattle.stops_match.specs.swaps_read.Shelves.{with_words}
+use Rattle.stops_match.proofs.swaps_read.ExitLemmas.{gives_back, swapped_back}
+use Rattle.stops_match.proofs.swaps_read.RowLemmas.{refused_is}
+use Rattle.stops_match.proofs.swaps_read.ShelfLemmas.{differ}
+use Rattle.stops_match.proofs.swaps_read.StopLemmas.{image_is, words_put}
+use Rattle.stops_match.proofs.swaps_read.TableLemmas.{HoldsOfRows, decoding_of, holds}
+use Rattle.stops_match.proofs.swaps_read.TextLemmas.{accepted_is, after_text, text_on, text_read_of}
 use Rattle.execves_together.proofs.BegunLemmas.{told_no_zero}
 
 -- ---- the registers

@@ -4,51 +4,51 @@ use Rattle.std.specs.FinMap as map
 use Rattle.std.proofs.Common.{◌≡◌, ◌≢◌, ◌-◌, ◌≤◌, ◌<◌, ℕ, Bool, true, false, cond, ◌&&◌, ◌+◌, ◌*◌, List, [], ◌∷◌, length, get_or, nat_lt, Some, None, Ok, refl, sym, ap, subst, ◌∙◌, arith}
 use Rattle.std.specs.Prelude.{IsSome, not, slice_set}
 use Rattle.std.proofs.lemmas.Bool.{and_parts, ltb-false}
-use Rattle.pr_base.proofs.MapLemmas.{get-insert_same}
-use Rattle.pr_base.specs.declared.errno.Errno.{Errno}
-use Rattle.pr_base.specs.declared.errno.Errno.TheVariants.{EFAULT}
-use Rattle.rv_mem.specs.Actions.{AreEqualUnmarked, carried_out}
-use Rattle.rv_mem.specs.Memory.{Memory, text_of, with_pages}
-use Rattle.rv_mem.specs.Pages.{HoldsBytes, IsWhole, Pages, allows, allows_all}
-use Rattle.rv_mem.specs.declared.regs.Regs.{Regs}
-use Rattle.rv_mem.specs.declared.rights.Use.TheVariants.{Read, Write}
+use Rattle.path_places.proofs.pr_base.MapLemmas.{get-insert_same}
+use Rattle.path_places.specs.pr_base.declared.errno.Errno.{Errno}
+use Rattle.path_places.specs.pr_base.declared.errno.Errno.TheVariants.{EFAULT}
+use Rattle.pt_args.specs.rv_mem.Actions.{AreEqualUnmarked, carried_out}
+use Rattle.pt_args.specs.rv_mem.Memory.{Memory, text_of, with_pages}
+use Rattle.pt_args.specs.rv_mem.Pages.{HoldsBytes, IsWhole, Pages, allows, allows_all}
+use Rattle.pt_args.specs.rv_mem.declared.regs.Regs.{Regs}
+use Rattle.pt_args.specs.rv_mem.declared.rights.Use.TheVariants.{Read, Write}
 use Rattle.pt_args.specs.Laws.{IsPathText, ShelvesHoldTheirItems, StandBetween, poked as pages_poked, room_of}
 use Rattle.pt_args.specs.Shelving.{shelved, with_zero}
-use Rattle.kr_view.specs.View.{Row}
-use Rattle.kr_calls.specs.Decoding.{decoding}
-use Rattle.kr_calls.specs.declared.request.Request.{Request}
-use Rattle.kr_calls.specs.declared.request.Request.TheVariants as call
-use Rattle.kr_allowed.proofs.RowLemmas.{StaysLike}
-use Rattle.kr_calm.specs.Shelf.{stack_pointer}
-use Rattle.kr_bytes.specs.Bytes.{HasBytes}
-use Rattle.kr_bytes.proofs.LivingLemmas.{process-bytes}
-use Rattle.kr_model.specs.State.{Image, Process, process}
-use Rattle.kr_turns.specs.PlainCall.{Came}
-use Rattle.kr_turns.specs.Stopped.{IsThere, Stopped, edited, image_at}
-use Rattle.kr_turns.specs.Turn.{Machine, called, calling, watched_call}
-use Rattle.kr_turns.specs.Watching.{unwatched}
-use Rattle.kr_turns.proofs.EditLemmas.{image-edited}
-use Rattle.pt_tracer.specs.Faking.{word_of}
-use Rattle.pt_tracer.specs.Stopping.{after_request, decoded_at, memory_at, with_memory}
-use Rattle.pt_ident.specs.Identity.{refusal}
-use Rattle.pt_watched.specs.Planning.{has_shelf, planned, stack_at}
-use Rattle.pt_watched.specs.Poking.{may_poke, poked}
-use Rattle.pt_watched.specs.Registers.{arguments_at, with_arguments}
-use Rattle.pt_watched.specs.ScriptEdit.{list_item, script_room, shelved_script}
-use Rattle.pt_watched.specs.Watched.{Applied, Tracing, after_decoding, after_plan, applied, awaiting, by_identities, entered, exited, keeping, refused, with_pending}
-use Rattle.pt_watched.specs.declared.plan.Led.{Led}
-use Rattle.swaps_read.specs.Exits.{left_with}
-use Rattle.swaps_read.specs.Shelves.{bottom_of}
-use Rattle.swaps_read.specs.Swapped.{AreMarkedFrom}
-use Rattle.swaps_read.proofs.RangeLemmas.{byte_allowed}
-use Rattle.swaps_read.proofs.ShelfLemmas.{all_poked}
-use Rattle.swaps_read.proofs.StopLemmas.{items_put, may_between, words_put}
+use Rattle.answers_agree.specs.kr_view.View.{Row}
+use Rattle.pt_args.specs.kr_calls.Decoding.{decoding}
+use Rattle.pt_args.specs.kr_calls.declared.request.Request.{Request}
+use Rattle.pt_args.specs.kr_calls.declared.request.Request.TheVariants as call
+use Rattle.scripts_read.proofs.kr_allowed.RowLemmas.{StaysLike}
+use Rattle.stops_match.specs.kr_calm.Shelf.{stack_pointer}
+use Rattle.path_places.specs.kr_bytes.Bytes.{HasBytes}
+use Rattle.path_places.proofs.kr_bytes.LivingLemmas.{process-bytes}
+use Rattle.stops_match.specs.kr_model.State.{Image, Process, process}
+use Rattle.path_places.specs.kr_turns.PlainCall.{Came}
+use Rattle.path_places.specs.kr_turns.Stopped.{IsThere, Stopped, edited, image_at}
+use Rattle.path_places.specs.kr_turns.Turn.{Machine, called, calling, watched_call}
+use Rattle.path_places.specs.kr_turns.Watching.{unwatched}
+use Rattle.path_places.proofs.kr_turns.EditLemmas.{image-edited}
+use Rattle.stops_match.specs.pt_tracer.Faking.{word_of}
+use Rattle.stops_match.specs.pt_tracer.Stopping.{after_request, decoded_at, memory_at, with_memory}
+use Rattle.stops_match.specs.pt_ident.Identity.{refusal}
+use Rattle.answers_agree.specs.pt_watched.Planning.{has_shelf, planned, stack_at}
+use Rattle.answers_agree.specs.pt_watched.Poking.{may_poke, poked}
+use Rattle.answers_agree.specs.pt_watched.Registers.{arguments_at, with_arguments}
+use Rattle.answers_agree.specs.pt_watched.ScriptEdit.{list_item, script_room, shelved_script}
+use Rattle.answers_agree.specs.pt_watched.Watched.{Applied, Tracing, after_decoding, after_plan, applied, awaiting, by_identities, entered, exited, keeping, refused, with_pending}
+use Rattle.answers_agree.specs.pt_watched.declared.plan.Led.{Led}
+use Rattle.stops_match.specs.swaps_read.Exits.{left_with}
+use Rattle.stops_match.specs.swaps_read.Shelves.{bottom_of}
+use Rattle.stops_match.specs.swaps_read.Swapped.{AreMarkedFrom}
+use Rattle.stops_match.proofs.swaps_read.RangeLemmas.{byte_allowed}
+use Rattle.stops_match.proofs.swaps_read.ShelfLemmas.{all_poked}
+use Rattle.stops_match.proofs.swaps_read.StopLemmas.{items_put, may_between, words_put}
 use Rattle.scripts_read.specs.Shelves.{host_shelf, script_shelf}
 use Rattle.scripts_read.proofs.HeldLemmas.{AreHeld, items-held, read_of}
 use Rattle.scripts_read.proofs.StandLemmas.{items-room, items_of, list-long, long-zero, shelf-items}
-use Rattle.stops_match.specs.turns_match.Calls.{decoded_by}
+use Rattle.path_places.specs.turns_match.Calls.{decoded_by}
 use Rattle.stops_match.specs.Turning.{ComeToCall}
-use Rattle.stops_match.proofs.turns_match.ImageLemmas.{given}
+use Rattle.path_places.proofs.turns_match.ImageLemmas.{given}
 use Rattle.stops_match.proofs.AnsweredLemmas.{lives_changed}
 use Rattle.stops_match.proofs.CallLemmas as before
 use Rattle.stops_match.proofs.CallLemmas.{own_image}

@@ -5,53 +5,53 @@ use Rattle.std.specs.Prelude.{IsSome, ◌==◌, nat_eq, slice_set}
 use Rattle.std.specs.Int.{cast_signed, w64}
 use Rattle.std.proofs.lemmas.Bool.Decides.{nat_tests}
 use Rattle.std.proofs.lemmas.List.{length-set}
-use Rattle.pr_base.proofs.MapLemmas.{get-insert_same}
-use Rattle.pr_base.specs.declared.errno.Errno.{Errno}
-use Rattle.pr_base.specs.declared.errno.Errno.TheVariants.{EFAULT}
-use Rattle.rv_mem.specs.Actions.{Action, AreEqualUnmarked, Done, MayUse, ReadBytes, WriteBytes, allows_uses, carried_out}
-use Rattle.rv_mem.specs.Memory.{Memory, after_read, with_pages}
-use Rattle.rv_mem.specs.Pages.{HoldsBytes, Pages, allows_all, bytes_from, written}
-use Rattle.rv_mem.specs.declared.regs.Regs.{Regs}
-use Rattle.rv_mem.specs.declared.rights.Use.TheVariants.{Write}
+use Rattle.path_places.proofs.pr_base.MapLemmas.{get-insert_same}
+use Rattle.path_places.specs.pr_base.declared.errno.Errno.{Errno}
+use Rattle.path_places.specs.pr_base.declared.errno.Errno.TheVariants.{EFAULT}
+use Rattle.pt_args.specs.rv_mem.Actions.{Action, AreEqualUnmarked, Done, MayUse, ReadBytes, WriteBytes, allows_uses, carried_out}
+use Rattle.pt_args.specs.rv_mem.Memory.{Memory, after_read, with_pages}
+use Rattle.pt_args.specs.rv_mem.Pages.{HoldsBytes, Pages, allows_all, bytes_from, written}
+use Rattle.pt_args.specs.rv_mem.declared.regs.Regs.{Regs}
+use Rattle.pt_args.specs.rv_mem.declared.rights.Use.TheVariants.{Write}
 use Rattle.pt_args.specs.Laws.{ShelvesHoldTheirItems, TextsAreReadBack, poked as pages_poked}
 use Rattle.pt_args.specs.declared.edit.Edit.{Edit}
 use Rattle.pt_args.specs.declared.edit.Edit.TheVariants.{Pass}
-use Rattle.pt_ident.specs.Identity.{refusal}
-use Rattle.pt_results.specs.Notes.{noted, tags_after}
-use Rattle.kr_view.specs.View.{Row}
-use Rattle.kr_calls.specs.Decoding.{decoding}
-use Rattle.kr_calls.specs.declared.request.Request.{Request}
-use Rattle.kr_calls.specs.declared.request.Request.TheVariants as call
-use Rattle.kr_allowed.proofs.RowLemmas.{StaysLike}
-use Rattle.kr_calm.specs.Shelf.{stack_pointer}
-use Rattle.kr_bytes.proofs.ListLemmas.{joined}
-use Rattle.kr_bytes.proofs.PageLemmas.{holds-written}
-use Rattle.kr_allowed.specs.Texts.{IsText}
-use Rattle.kr_tree.specs.Lawful.{AreBytes}
-use Rattle.kr_model.specs.State.{Image, Process, process}
-use Rattle.kr_turns.specs.PlainCall.{Came}
-use Rattle.kr_turns.specs.Stopped.{IsThere, Stopped, edited, image_at}
-use Rattle.kr_turns.specs.Turn.{Machine, called, calling, watched_call}
-use Rattle.kr_turns.specs.Watching.{unwatched}
-use Rattle.kr_turns.proofs.EditLemmas.{image-edited}
-use Rattle.pt_tracer.specs.Faking.{word_of}
-use Rattle.pt_tracer.specs.Stopping.{after_request, decoded_at, memory_at, with_memory}
-use Rattle.pt_watched.specs.Planning.{has_shelf, planned, stack_at}
-use Rattle.pt_watched.specs.Poking.{may_poke, poked}
-use Rattle.pt_watched.specs.Registers.{arguments_at, with_arguments}
-use Rattle.pt_watched.specs.Watched.{Applied, Tracing, after_decoding, after_plan, answer_at, applied, awaiting, by_identities, entered, exited, keeping, refused, returned, with_pending, with_tags, without_pending}
-use Rattle.pt_watched.specs.declared.pending.Pending.{Pending}
-use Rattle.pt_watched.specs.declared.plan.Led.{Led}
-use Rattle.pt_watched.specs.declared.registers.Arguments.{Arguments}
-use Rattle.swaps_read.specs.Exits.{left_with}
-use Rattle.swaps_read.specs.Requests.{NewText}
-use Rattle.swaps_read.specs.Shelves.{addresses_at, bottom_of, items_at, memory_behind, new_texts, registers_behind, swap_edit}
-use Rattle.swaps_read.specs.Stops.{CanBeSwapped, IsSwapped}
-use Rattle.swaps_read.specs.Swapped.{AreMarkedFrom}
-use Rattle.swaps_read.proofs.ExitLemmas.{gives_back}
-use Rattle.swaps_read.proofs.StopLemmas.{items_put, words_put}
-use Rattle.swaps_read.proofs.SwapLemmas.{swapped_here}
-use Rattle.stops_match.specs.turns_match.Calls.{decoded_by}
+use Rattle.stops_match.specs.pt_ident.Identity.{refusal}
+use Rattle.path_places.specs.pt_results.Notes.{noted, tags_after}
+use Rattle.answers_agree.specs.kr_view.View.{Row}
+use Rattle.pt_args.specs.kr_calls.Decoding.{decoding}
+use Rattle.pt_args.specs.kr_calls.declared.request.Request.{Request}
+use Rattle.pt_args.specs.kr_calls.declared.request.Request.TheVariants as call
+use Rattle.scripts_read.proofs.kr_allowed.RowLemmas.{StaysLike}
+use Rattle.stops_match.specs.kr_calm.Shelf.{stack_pointer}
+use Rattle.path_places.proofs.kr_bytes.ListLemmas.{joined}
+use Rattle.path_places.proofs.kr_bytes.PageLemmas.{holds-written}
+use Rattle.scripts_read.specs.kr_allowed.Texts.{IsText}
+use Rattle.stops_match.specs.kr_tree.Lawful.{AreBytes}
+use Rattle.stops_match.specs.kr_model.State.{Image, Process, process}
+use Rattle.path_places.specs.kr_turns.PlainCall.{Came}
+use Rattle.path_places.specs.kr_turns.Stopped.{IsThere, Stopped, edited, image_at}
+use Rattle.path_places.specs.kr_turns.Turn.{Machine, called, calling, watched_call}
+use Rattle.path_places.specs.kr_turns.Watching.{unwatched}
+use Rattle.path_places.proofs.kr_turns.EditLemmas.{image-edited}
+use Rattle.stops_match.specs.pt_tracer.Faking.{word_of}
+use Rattle.stops_match.specs.pt_tracer.Stopping.{after_request, decoded_at, memory_at, with_memory}
+use Rattle.answers_agree.specs.pt_watched.Planning.{has_shelf, planned, stack_at}
+use Rattle.answers_agree.specs.pt_watched.Poking.{may_poke, poked}
+use Rattle.answers_agree.specs.pt_watched.Registers.{arguments_at, with_arguments}
+use Rattle.answers_agree.specs.pt_watched.Watched.{Applied, Tracing, after_decoding, after_plan, answer_at, applied, awaiting, by_identities, entered, exited, keeping, refused, returned, with_pending, with_tags, without_pending}
+use Rattle.answers_agree.specs.pt_watched.declared.pending.Pending.{Pending}
+use Rattle.answers_agree.specs.pt_watched.declared.plan.Led.{Led}
+use Rattle.answers_agree.specs.pt_watched.declared.registers.Arguments.{Arguments}
+use Rattle.stops_match.specs.swaps_read.Exits.{left_with}
+use Rattle.stops_match.specs.swaps_read.Requests.{NewText}
+use Rattle.stops_match.specs.swaps_read.Shelves.{addresses_at, bottom_of, items_at, memory_behind, new_texts, registers_behind, swap_edit}
+use Rattle.stops_match.specs.swaps_read.Stops.{CanBeSwapped, IsSwapped}
+use Rattle.stops_match.specs.swaps_read.Swapped.{AreMarkedFrom}
+use Rattle.stops_match.proofs.swaps_read.ExitLemmas.{gives_back}
+use Rattle.stops_match.proofs.swaps_read.StopLemmas.{items_put, words_put}
+use Rattle.stops_match.proofs.swaps_read.SwapLemmas.{swapped_here}
+use Rattle.path_places.specs.turns_match.Calls.{decoded_by}
 use Rattle.stops_match.specs.Turning.{ComeToCall}
 use Rattle.stops_match.proofs.CallLemmas as before
 use Rattle.stops_match.proofs.CallLemmas.{own_image}

@@ -2,14 +2,14 @@
 use Rattle.std.proofs.Common.{◌≡◌, ℕ, Option, Some, None, List, refl}
 use Rattle.std.specs.Prelude.{IsSome}
 use Rattle.pt_args.specs.Laws.{ShelvesHoldTheirItems, TextsAreReadBack}
-use Rattle.kr_view.specs.View.{Row}
-use Rattle.kr_calls.specs.declared.request.Request.{Request}
-use Rattle.kr_calls.specs.declared.request.Request.TheVariants as call
-use Rattle.kr_model.specs.State.{Image, Process, process}
-use Rattle.kr_turns.specs.Turn.{Machine}
-use Rattle.pt_tracer.specs.Faking.{Faking}
-use Rattle.pt_watched.specs.Watched.{Tracing}
-use Rattle.stops_match.proofs.turns_match.RunLemmas.{lives_too}
+use Rattle.answers_agree.specs.kr_view.View.{Row}
+use Rattle.pt_args.specs.kr_calls.declared.request.Request.{Request}
+use Rattle.pt_args.specs.kr_calls.declared.request.Request.TheVariants as call
+use Rattle.stops_match.specs.kr_model.State.{Image, Process, process}
+use Rattle.path_places.specs.kr_turns.Turn.{Machine}
+use Rattle.stops_match.specs.pt_tracer.Faking.{Faking}
+use Rattle.answers_agree.specs.pt_watched.Watched.{Tracing}
+use Rattle.path_places.proofs.turns_match.RunLemmas.{lives_too}
 use Rattle.stops_match.specs.Beginning.{GoesUntoldToProgram}
 use Rattle.stops_match.specs.Going.{untold}
 use Rattle.stops_match.proofs.EntryLemmas.{comes}

@@ -1,11 +1,11 @@
 -- The addresses of a script's arguments that a tracer keeps.
 use Rattle.std.specs.Prelude.{◌≡◌, ◌-◌, ℕ, List, length, Ok}
-use Rattle.rv_mem.specs.Actions.{carried_out}
-use Rattle.rv_mem.specs.Memory.{Memory}
-use Rattle.rv_mem.specs.Pages.{IsPlaced}
-use Rattle.kr_exec.specs.declared.lists.Lists.{Lists}
-use Rattle.pt_lists.specs.Reading.{addresses_behind}
-use Rattle.programs_agree.specs.Executing.{read_by_kernel}
+use Rattle.pt_args.specs.rv_mem.Actions.{carried_out}
+use Rattle.pt_args.specs.rv_mem.Memory.{Memory}
+use Rattle.pt_args.specs.rv_mem.Pages.{IsPlaced}
+use Rattle.scripts_read.specs.kr_exec.declared.lists.Lists.{Lists}
+use Rattle.answers_agree.specs.pt_lists.Reading.{addresses_behind}
+use Rattle.scripts_read.specs.programs_agree.Executing.{read_by_kernel}
 
 -- where both lists were read, the addresses of all arguments but the first can be read once more
 abbrev pub KeptAddressesAreRead : Type 0

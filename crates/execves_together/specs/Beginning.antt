@@ -1,22 +1,22 @@
 -- Execve(2) as it begins on both machines.
 use Rattle.std.specs.Prelude.{◌≡◌, ℕ, List, None, Ok}
-use Rattle.rv_mem.specs.Layout.{layout_of}
-use Rattle.rv_mem.specs.Memory.{Memory}
-use Rattle.rv_mem.specs.Pages.{IsPlaced, IsWhole}
-use Rattle.rv_mem.specs.declared.regs.Regs.{Regs}
+use Rattle.pt_args.specs.rv_mem.Layout.{layout_of}
+use Rattle.pt_args.specs.rv_mem.Memory.{Memory}
+use Rattle.pt_args.specs.rv_mem.Pages.{IsPlaced, IsWhole}
+use Rattle.pt_args.specs.rv_mem.declared.regs.Regs.{Regs}
 use Rattle.pt_args.specs.Bases.{working_text}
-use Rattle.kr_calls.specs.declared.request.Request.TheVariants as call
-use Rattle.kr_view.specs.View.{Row}
-use Rattle.kr_steps.specs.Computing.{computed}
-use Rattle.kr_turns.specs.Turn.{Machine, calling, watched_call}
-use Rattle.kr_turns.specs.Watching.{unwatched}
-use Rattle.pt_tracer.specs.Stopping.{decoded_at, memory_at}
-use Rattle.pt_watched.specs.Planning.{texts_at}
-use Rattle.pt_watched.specs.Watched.{Tracing}
+use Rattle.pt_args.specs.kr_calls.declared.request.Request.TheVariants as call
+use Rattle.answers_agree.specs.kr_view.View.{Row}
+use Rattle.stops_match.specs.kr_steps.Computing.{computed}
+use Rattle.path_places.specs.kr_turns.Turn.{Machine, calling, watched_call}
+use Rattle.path_places.specs.kr_turns.Watching.{unwatched}
+use Rattle.stops_match.specs.pt_tracer.Stopping.{decoded_at, memory_at}
+use Rattle.answers_agree.specs.pt_watched.Planning.{texts_at}
+use Rattle.answers_agree.specs.pt_watched.Watched.{Tracing}
 use Rattle.stops_match.specs.Cancelling.{at_first_stop}
 use Rattle.stops_match.specs.Turning.{ComeToCall}
-use Rattle.programs_agree.specs.Finding.{texts_here}
-use Rattle.programs_agree.specs.Refusing.{IsBegun}
+use Rattle.scripts_read.specs.programs_agree.Finding.{texts_here}
+use Rattle.scripts_read.specs.programs_agree.Refusing.{IsBegun}
 use Rattle.execves_together.specs.Going.{here}
 
 -- what the tracer goes by at the first stop is what it would be told of the state of the kernel with mounts; and both kernels begin

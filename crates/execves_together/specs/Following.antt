@@ -1,11 +1,11 @@
 -- Execve(2) with its stops.
 use Rattle.std.specs.Prelude.{◌≡◌, ℕ, List, None, Ok}
-use Rattle.kr_calls.specs.declared.request.Request.TheVariants as call
-use Rattle.kr_view.specs.View.{Row, plain}
-use Rattle.kr_turns.specs.Turn.{Machine, calling, watched_call}
-use Rattle.kr_turns.specs.Watching.{unwatched}
-use Rattle.pt_tracer.specs.Stopping.{decoded_at}
-use Rattle.pt_watched.specs.Watched.{Tracing, tracer}
+use Rattle.pt_args.specs.kr_calls.declared.request.Request.TheVariants as call
+use Rattle.answers_agree.specs.kr_view.View.{Row, plain}
+use Rattle.path_places.specs.kr_turns.Turn.{Machine, calling, watched_call}
+use Rattle.path_places.specs.kr_turns.Watching.{unwatched}
+use Rattle.stops_match.specs.pt_tracer.Stopping.{decoded_at}
+use Rattle.answers_agree.specs.pt_watched.Watched.{Tracing, tracer}
 use Rattle.stops_match.specs.Turning.{ComeFromCall, ComeToCall}
 
 -- such a call and its stops keep the match, where it breaks no calm rule

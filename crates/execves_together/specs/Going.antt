@@ -1,34 +1,34 @@
 -- Execve(2) with its stops, by what the tracer leaves at the first one: it cancels the call, or the plain kernel finds another execve.
 use Rattle.std.specs.FinMap as map
 use Rattle.std.specs.Prelude.{◌≡◌, ℕ, ℤ, Bool, List, Option, None, Some, Result, Ok, Err, slice_set}
-use Rattle.pr_base.specs.declared.errno.Errno.{Errno}
-use Rattle.rv_mem.specs.Actions.{AreEqualUnmarked, CarriedOut, carried_out}
-use Rattle.rv_mem.specs.Layout.{layout_of}
-use Rattle.rv_mem.specs.Memory.{Memory}
-use Rattle.rv_mem.specs.Pages.{HoldsBytes, IsPlaced, IsWhole}
-use Rattle.rv_mem.specs.declared.regs.Regs.{Regs}
-use Rattle.kr_view.specs.View.{Row, plain}
-use Rattle.kr_calls.specs.Decoding.{decoding}
-use Rattle.kr_calls.specs.declared.request.Request.{Request}
-use Rattle.kr_calls.specs.declared.request.Request.TheVariants as call
-use Rattle.kr_seen.specs.Carrying.{memory_of}
-use Rattle.kr_execve.specs.Execution.{Program, execution}
-use Rattle.kr_model.specs.State.{Image, State}
-use Rattle.kr_turns.specs.PlainCall.{Came, plain_call}
-use Rattle.kr_turns.specs.Stopped.{IsThere, Stopped, edited, image_at}
-use Rattle.kr_turns.specs.Turn.{Machine, called, calling, watched_call}
-use Rattle.kr_turns.specs.Watching.{unwatched}
-use Rattle.pt_ident.specs.Identity.{refusal}
-use Rattle.pt_tracer.specs.Faking.{has_answered_zero, no_longer_called, word_of}
-use Rattle.pt_tracer.specs.Stopping.{after_request, decoded_at, memory_at, with_memory}
-use Rattle.pt_watched.specs.Registers.{arguments_at}
-use Rattle.pt_watched.specs.Watched.{Tracing, awaiting, entered, exited, has_begun, tracer, with_pending}
-use Rattle.pt_watched.specs.declared.pending.Pending.{Pending}
-use Rattle.pt_watched.specs.declared.plan.Led.{Led}
-use Rattle.swaps_read.specs.Exits.{left_with}
+use Rattle.path_places.specs.pr_base.declared.errno.Errno.{Errno}
+use Rattle.pt_args.specs.rv_mem.Actions.{AreEqualUnmarked, CarriedOut, carried_out}
+use Rattle.pt_args.specs.rv_mem.Layout.{layout_of}
+use Rattle.pt_args.specs.rv_mem.Memory.{Memory}
+use Rattle.pt_args.specs.rv_mem.Pages.{HoldsBytes, IsPlaced, IsWhole}
+use Rattle.pt_args.specs.rv_mem.declared.regs.Regs.{Regs}
+use Rattle.answers_agree.specs.kr_view.View.{Row, plain}
+use Rattle.pt_args.specs.kr_calls.Decoding.{decoding}
+use Rattle.pt_args.specs.kr_calls.declared.request.Request.{Request}
+use Rattle.pt_args.specs.kr_calls.declared.request.Request.TheVariants as call
+use Rattle.stops_match.specs.kr_seen.Carrying.{memory_of}
+use Rattle.scripts_read.specs.kr_execve.Execution.{Program, execution}
+use Rattle.stops_match.specs.kr_model.State.{Image, State}
+use Rattle.path_places.specs.kr_turns.PlainCall.{Came, plain_call}
+use Rattle.path_places.specs.kr_turns.Stopped.{IsThere, Stopped, edited, image_at}
+use Rattle.path_places.specs.kr_turns.Turn.{Machine, called, calling, watched_call}
+use Rattle.path_places.specs.kr_turns.Watching.{unwatched}
+use Rattle.stops_match.specs.pt_ident.Identity.{refusal}
+use Rattle.stops_match.specs.pt_tracer.Faking.{has_answered_zero, no_longer_called, word_of}
+use Rattle.stops_match.specs.pt_tracer.Stopping.{after_request, decoded_at, memory_at, with_memory}
+use Rattle.answers_agree.specs.pt_watched.Registers.{arguments_at}
+use Rattle.answers_agree.specs.pt_watched.Watched.{Tracing, awaiting, entered, exited, has_begun, tracer, with_pending}
+use Rattle.answers_agree.specs.pt_watched.declared.pending.Pending.{Pending}
+use Rattle.answers_agree.specs.pt_watched.declared.plan.Led.{Led}
+use Rattle.stops_match.specs.swaps_read.Exits.{left_with}
 use Rattle.stops_match.specs.Cancelling.{at_call, at_first_stop}
 use Rattle.stops_match.specs.Turning.{ComeFromCall, ComeToCall}
-use Rattle.programs_agree.specs.Executing.{LoadedAlike}
+use Rattle.scripts_read.specs.programs_agree.Executing.{LoadedAlike}
 
 module _ {S : Type 0} (table : List Row) (pid : ℕ) (m : Machine S) (n : Machine Tracing) (path : List ℕ) (args env : ℕ) where
   abbrev pub own : Request

@@ -1,4 +1,3 @@
-pub use Rattle.stops_match.specs as stops_match
 pub mod Going
 pub mod Replacing
 pub mod Rewriting

@@ -1,33 +1,33 @@
 -- A program that execve(2) came to, and states in which it is put in place of a caller's.
 use Rattle.std.specs.Prelude.{◌≡◌, ℕ, true, false, IsSome, List, Some, None, Ok}
-use Rattle.kr_tree.specs.Lawful.{AreBytes}
-use Rattle.rv_mem.specs.Actions.{carried_out}
-use Rattle.rv_mem.specs.Memory.{Memory}
-use Rattle.elf_load.specs.Image.{image_exceeds}
-use Rattle.elf_read.specs.Plans.{plan_of}
-use Rattle.elf_read.specs.Rules.{first_broken}
-use Rattle.pt_bind.specs.Tags.{TagTable, with_tag}
-use Rattle.pt_bind.specs.declared.slot.Slot.TheVariants.{Exe}
-use Rattle.kr_inode.specs.declared.user.User.{User}
-use Rattle.kr_tree.specs.Tree.{Tree}
-use Rattle.kr_view.specs.InTree.{IsPlaceOf}
-use Rattle.kr_view.specs.View.{Row, plain}
-use Rattle.kr_exec.specs.Interpreters.{bytes_at}
-use Rattle.kr_exec.specs.declared.plan.ExecPlan.{ExecPlan}
-use Rattle.kr_execve.specs.Execution.{Program, changes_of, execution, ids_of, program_of}
-use Rattle.kr_allowed.specs.Texts.{IsText, LinksHaveTexts}
-use Rattle.kr_lawful.specs.Laws.{CanAllBeMade}
-use Rattle.kr_allowed.specs.Told.{SourcesAreNamed}
-use Rattle.kr_model.specs.Applied.{Mounts, all_applied, images}
-use Rattle.kr_model.specs.Known.{pages_in_all}
-use Rattle.kr_model.specs.Lawful.{IsLawful, IsNameOrNone, is_file_at}
-use Rattle.kr_model.specs.ProcessDirectory.{space_of}
-use Rattle.kr_model.specs.State.{Image, Process, State, image_layout, process}
-use Rattle.kr_steps.specs.Answering.{resumed}
-use Rattle.walks_agree.specs.Scene.{IsMatched}
-use Rattle.walks_agree.specs.States.{IsInUse, scene_of}
-use Rattle.places_stay.specs.Matching.{IsMatch}
-use Rattle.programs_agree.specs.Executing.{IsSameLoaded}
+use Rattle.stops_match.specs.kr_tree.Lawful.{AreBytes}
+use Rattle.pt_args.specs.rv_mem.Actions.{carried_out}
+use Rattle.pt_args.specs.rv_mem.Memory.{Memory}
+use Rattle.scripts_read.specs.elf_load.Image.{image_exceeds}
+use Rattle.scripts_read.specs.elf_read.Plans.{plan_of}
+use Rattle.scripts_read.specs.elf_read.Rules.{first_broken}
+use Rattle.pt_args.specs.pt_bind.Tags.{TagTable, with_tag}
+use Rattle.pt_args.specs.pt_bind.declared.slot.Slot.TheVariants.{Exe}
+use Rattle.stops_match.specs.kr_inode.declared.user.User.{User}
+use Rattle.stops_match.specs.kr_tree.Tree.{Tree}
+use Rattle.answers_agree.specs.kr_view.InTree.{IsPlaceOf}
+use Rattle.answers_agree.specs.kr_view.View.{Row, plain}
+use Rattle.scripts_read.specs.kr_exec.Interpreters.{bytes_at}
+use Rattle.scripts_read.specs.kr_exec.declared.plan.ExecPlan.{ExecPlan}
+use Rattle.scripts_read.specs.kr_execve.Execution.{Program, changes_of, execution, ids_of, program_of}
+use Rattle.scripts_read.specs.kr_allowed.Texts.{IsText, LinksHaveTexts}
+use Rattle.plans_agree.specs.kr_lawful.Laws.{CanAllBeMade}
+use Rattle.scripts_read.specs.kr_allowed.Told.{SourcesAreNamed}
+use Rattle.stops_match.specs.kr_model.Applied.{Mounts, all_applied, images}
+use Rattle.stops_match.specs.kr_model.Known.{pages_in_all}
+use Rattle.stops_match.specs.kr_model.Lawful.{IsLawful, IsNameOrNone, is_file_at}
+use Rattle.stops_match.specs.kr_model.ProcessDirectory.{space_of}
+use Rattle.stops_match.specs.kr_model.State.{Image, Process, State, image_layout, process}
+use Rattle.stops_match.specs.kr_steps.Answering.{resumed}
+use Rattle.answers_agree.specs.walks_agree.Scene.{IsMatched}
+use Rattle.answers_agree.specs.walks_agree.States.{IsInUse, scene_of}
+use Rattle.plans_agree.specs.places_stay.Matching.{IsMatch}
+use Rattle.scripts_read.specs.programs_agree.Executing.{IsSameLoaded}
 
 -- ---- programs
 

@@ -1,14 +1,14 @@
 -- What a tracer makes of the path of execve(2), before it reads the lists.
 use Rattle.std.specs.Prelude.{◌≡◌, ◌≢◌, ℕ, Bool, List, [], None, Result, Ok, Err}
-use Rattle.pr_base.specs.declared.errno.Errno.{Errno}
+use Rattle.path_places.specs.pr_base.declared.errno.Errno.{Errno}
 use Rattle.pt_args.specs.Bases.{working_text}
 use Rattle.pt_args.specs.Edits.{edit_of, shelve}
 use Rattle.pt_args.specs.declared.edit.Edit.{Edit}
 use Rattle.pt_args.specs.declared.edit.Edit.TheVariants.{Cancel, Pass}
-use Rattle.pt_canon.specs.TextWalk.{TextSurroundings}
-use Rattle.pt_canon.specs.declared.canon.Canon.{Canon}
-use Rattle.kr_calls.specs.declared.request.Request.TheVariants as call
-use Rattle.programs_agree.specs.Refusing.{canon_along}
+use Rattle.pt_args.specs.pt_canon.TextWalk.{TextSurroundings}
+use Rattle.pt_args.specs.pt_canon.declared.canon.Canon.{Canon}
+use Rattle.pt_args.specs.kr_calls.declared.request.Request.TheVariants as call
+use Rattle.scripts_read.specs.programs_agree.Refusing.{canon_along}
 
 -- the host text of where it leads takes its place, or the call is cancelled with the error of the walk
 abbrev pub edit_along : ℕ → Bool → Result Canon Errno → Edit

@@ -1,12 +1,12 @@
 -- Execve(2) with its stops, where processes are told an identity.
 use Rattle.std.specs.Prelude.{◌≡◌, ℕ, List, None, Ok}
-use Rattle.kr_view.specs.View.{Row}
-use Rattle.kr_calls.specs.declared.request.Request.TheVariants as call
-use Rattle.kr_turns.specs.Turn.{Machine, calling, watched_call}
-use Rattle.kr_turns.specs.Watching.{unwatched}
-use Rattle.pt_tracer.specs.Faking.{Faking}
-use Rattle.pt_tracer.specs.Stopping.{decoded_at}
-use Rattle.pt_watched.specs.Watched.{Tracing}
+use Rattle.answers_agree.specs.kr_view.View.{Row}
+use Rattle.pt_args.specs.kr_calls.declared.request.Request.TheVariants as call
+use Rattle.path_places.specs.kr_turns.Turn.{Machine, calling, watched_call}
+use Rattle.path_places.specs.kr_turns.Watching.{unwatched}
+use Rattle.stops_match.specs.pt_tracer.Faking.{Faking}
+use Rattle.stops_match.specs.pt_tracer.Stopping.{decoded_at}
+use Rattle.answers_agree.specs.pt_watched.Watched.{Tracing}
 use Rattle.stops_match.specs.Beginning.{GoesUntoldToProgram}
 use Rattle.stops_match.specs.Going.{ComeToFakedCall}
 use Rattle.stops_match.specs.Kinds.{GoesTogether}

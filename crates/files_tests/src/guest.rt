@@ -56,34 +56,12 @@ impl Guest {
         Some(self.files.dup_to(&mut self.descs, fd, to, false))
     }
 
-    pub fn close(&mut self, fd: u32) -> bool {
-        if self.descs.cloexec(fd).is_none() {
-            return false;
-        }
-        self.files.close(&mut self.descs, fd);
-        true
-    }
-
     pub fn seek(&mut self, fd: u32, at: u64) -> bool {
         if self.descs.cloexec(fd).is_none() {
             return false;
         }
         self.files.seek(&self.descs, fd, at);
         true
-    }
-
-    pub fn set_append(&mut self, fd: u32) -> bool {
-        if self.descs.cloexec(fd).is_none() {
-            return false;
-        }
-        self.files.set_append(&self.descs, fd, true);
-        true
-    }
-
-    /// Where the open file of a descriptor stands, and whether it appends.
-    pub fn state(&self, fd: u32) -> Option<(u64, bool)> {
-        let opened = self.files.get(&self.descs, fd)?;
-        Some((opened.at, opened.append))
     }
 
     /// The directory and name that the open file of a descriptor remembers.
@@ -96,10 +74,6 @@ impl Guest {
         self.files.renamed(dir, name, to, new)
     }
 
-    pub fn removed(&mut self, dir: Ino, name: &[u8]) {
-        self.files.removed(dir, name);
-    }
-
     pub fn pipe(&mut self) -> Result<(u32, u32), FilesRefusal> {
         if self.files.last_file() >= u64::MAX - 1 || self.files.last_pipe() == u32::MAX {
             return Err(FilesRefusal::NoMemory);
@@ -109,14 +83,6 @@ impl Guest {
 
     pub fn takes_pipe(&self) -> bool {
         self.files.takes_pipe(&self.descs)
-    }
-
-    pub fn lowest_free(&self, from: u32) -> Option<u32> {
-        self.descs.lowest_free(from)
-    }
-
-    pub fn pipe_is_there(&self, pipe: u32) -> bool {
-        self.files.pipe_state(pipe).is_some()
     }
 
     pub fn write(&mut self, pipe: u32, b: &[u8]) -> Option<Result<Wrote, NoMemory>> {

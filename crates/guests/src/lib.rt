@@ -3,4 +3,4 @@
 
 mod text;
 
-pub use text::{coded, guest};
+pub use text::{GuestFault, coded, guest};

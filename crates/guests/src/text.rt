@@ -7,10 +7,35 @@
 //! a path that begins with `/` or `.`, any other text behind `'`, and numbers. The step `sp` sets the stack pointer to a number.
 
 use fixtures::HELLO;
-use pr_base::{Bytes, Texts};
+use pr_base::{Bytes, NoMemory, Texts};
 use pr_gen::{Arg, ProbeStep, Show, Who, is_probe, probe};
-use std::alloc::Global;
-use std::test::Fail;
+use std::alloc::{AllocError, AllocFailed, Global};
+
+/// Why there is no guest.
+#[derive(Clone, Copy, Debug, PartialEq, Eq)]
+pub enum GuestFault {
+    /// The text is none of calls.
+    NoGuest,
+    NoMemory,
+}
+
+impl From<NoMemory> for GuestFault {
+    fn from(_error: NoMemory) -> GuestFault {
+        GuestFault::NoMemory
+    }
+}
+
+impl From<AllocError> for GuestFault {
+    fn from(_error: AllocError) -> GuestFault {
+        GuestFault::NoMemory
+    }
+}
+
+impl<T: Drop> From<AllocFailed<T>> for GuestFault {
+    fn from(_error: AllocFailed<T>) -> GuestFault {
+        GuestFault::NoMemory
+    }
+}
 
 /// AT_FDCWD, the working directory in place of a descriptor.
 const HERE: u64 = 0xffff_ff9c;
@@ -21,10 +46,12 @@ const CALLS: &[(&str, u16)] = &[
     ("dup", 23),
     ("dup3", 24),
     ("fcntl", 25),
+    ("ioctl", 29),
     ("mkdirat", 34),
     ("unlinkat", 35),
     ("symlinkat", 36),
     ("linkat", 37),
+    ("ftruncate", 46),
     ("faccessat", 48),
     ("chdir", 49),
     ("fchdir", 50),
@@ -37,12 +64,19 @@ const CALLS: &[(&str, u16)] = &[
     ("close", 57),
     ("pipe2", 59),
     ("getdents64", 61),
+    ("lseek", 62),
     ("read", 63),
     ("write", 64),
+    ("readv", 65),
+    ("writev", 66),
     ("readlinkat", 78),
     ("newfstatat", 79),
     ("fstat", 80),
     ("exit", 93),
+    ("exit_group", 94),
+    ("set_tid_address", 96),
+    ("rt_sigaction", 134),
+    ("rt_sigprocmask", 135),
     ("setregid", 143),
     ("setgid", 144),
     ("setreuid", 145),
@@ -53,12 +87,17 @@ const CALLS: &[(&str, u16)] = &[
     ("getresgid", 150),
     ("getgroups", 158),
     ("setgroups", 159),
+    ("uname", 160),
     ("umask", 166),
     ("getpid", 172),
     ("getppid", 173),
     ("getuid", 174),
     ("geteuid", 175),
+    ("getgid", 176),
     ("getegid", 177),
+    ("gettid", 178),
+    ("brk", 214),
+    ("munmap", 215),
     ("clone", 220),
     ("execve", 221),
     ("mmap", 222),
@@ -101,7 +140,7 @@ fn text_in(word: &str) -> Option<&str> {
 }
 
 /// A list of texts.
-fn list_of(alloc: Global, words: &str) -> Result<Arg, Fail> {
+fn list_of(alloc: Global, words: &str) -> Result<Arg, GuestFault> {
     let mut texts = Texts::new(alloc);
     if words.is_empty() {
         return Ok(Arg::List(texts));
@@ -113,7 +152,7 @@ fn list_of(alloc: Global, words: &str) -> Result<Arg, Fail> {
 }
 
 /// A number, or what stands for one.
-fn number_at(word: &str) -> Result<Arg, Fail> {
+fn number_at(word: &str) -> Result<Arg, GuestFault> {
     if word == "buf" {
         return Ok(Arg::Buf);
     }
@@ -121,12 +160,12 @@ fn number_at(word: &str) -> Result<Arg, Fail> {
         return Ok(Arg::Num(HERE));
     }
     match word.strip_prefix('@') {
-        Some(place) => Ok(Arg::Answer(place.parse::<u32>()?)),
-        None => Ok(Arg::Num(number(word).ok_or("no argument")?)),
+        Some(place) => Ok(Arg::Answer(place.parse::<u32>().ok().ok_or(GuestFault::NoGuest)?)),
+        None => Ok(Arg::Num(number(word).ok_or(GuestFault::NoGuest)?)),
     }
 }
 
-fn argument(alloc: Global, word: &str) -> Result<Arg, Fail> {
+fn argument(alloc: Global, word: &str) -> Result<Arg, GuestFault> {
     if let Some(words) = words_in(word) {
         return list_of(alloc, words);
     }
@@ -137,7 +176,7 @@ fn argument(alloc: Global, word: &str) -> Result<Arg, Fail> {
 }
 
 /// The argument that stands behind `place` words; 0 where there is none.
-fn argument_at(alloc: Global, words: &[&str], place: usize) -> Result<Arg, Fail> {
+fn argument_at(alloc: Global, words: &[&str], place: usize) -> Result<Arg, GuestFault> {
     match words.get(place) {
         Some(word) => argument(alloc, word),
         None => Ok(Arg::Num(0)),
@@ -145,7 +184,7 @@ fn argument_at(alloc: Global, words: &[&str], place: usize) -> Result<Arg, Fail>
 }
 
 /// The arguments of a call, behind its name.
-fn arguments(alloc: Global, words: &[&str]) -> Result<[Arg; 6], Fail> {
+fn arguments(alloc: Global, words: &[&str]) -> Result<[Arg; 6], GuestFault> {
     let a0 = argument_at(alloc, words, 1)?;
     let a1 = argument_at(alloc, words, 2)?;
     let a2 = argument_at(alloc, words, 3)?;
@@ -156,13 +195,13 @@ fn arguments(alloc: Global, words: &[&str]) -> Result<[Arg; 6], Fail> {
 }
 
 /// A step of these words, the first of which is its name.
-fn step_of(alloc: Global, words: &[&str], who: Who, show: Show) -> Result<ProbeStep, Fail> {
-    let name = *words.first().ok_or("no step")?;
+fn step_of(alloc: Global, words: &[&str], who: Who, show: Show) -> Result<ProbeStep, GuestFault> {
+    let name = *words.first().ok_or(GuestFault::NoGuest)?;
     if name == "sp" {
-        let sp = *words.get(1).ok_or("no stack pointer")?;
-        return Ok(ProbeStep::SetSp(number(sp).ok_or("no stack pointer")?));
+        let sp = *words.get(1).ok_or(GuestFault::NoGuest)?;
+        return Ok(ProbeStep::SetSp(number(sp).ok_or(GuestFault::NoGuest)?));
     }
-    let number = number_of(name).ok_or("no call")?;
+    let number = number_of(name).ok_or(GuestFault::NoGuest)?;
     let args = arguments(alloc, words)?;
     Ok(ProbeStep::Call {
         number,
@@ -172,7 +211,7 @@ fn step_of(alloc: Global, words: &[&str], who: Who, show: Show) -> Result<ProbeS
     })
 }
 
-fn step(alloc: Global, text: &str) -> Result<ProbeStep, Fail> {
+fn step(alloc: Global, text: &str) -> Result<ProbeStep, GuestFault> {
     let mut who = Who::All;
     let mut show = Show::Number;
     let mut words = Vec::new(alloc);
@@ -190,13 +229,13 @@ fn step(alloc: Global, text: &str) -> Result<ProbeStep, Fail> {
 }
 
 /// The file of a guest that is written as a text.
-pub fn guest(alloc: Global, text: &str) -> Result<Bytes, Fail> {
+pub fn guest(alloc: Global, text: &str) -> Result<Bytes, GuestFault> {
     let mut steps = Vec::new(alloc);
     for one in text.split(';') {
         steps.push(step(alloc, one)?)?;
     }
     if !is_probe(steps.as_slice()) {
-        return Err(Fail::from("no guest"));
+        return Err(GuestFault::NoGuest);
     }
     Ok(probe(alloc, steps.as_slice())?)
 }
@@ -205,7 +244,7 @@ pub fn guest(alloc: Global, text: &str) -> Result<Bytes, Fail> {
 const CODE: usize = 120;
 
 /// The hello file with other code: words, and bytes behind them.
-pub fn coded(alloc: Global, words: &[u32], behind: &[u8]) -> Result<Bytes, Fail> {
+pub fn coded(alloc: Global, words: &[u32], behind: &[u8]) -> Result<Bytes, NoMemory> {
     let mut code = Bytes::new(alloc);
     for word in words {
         code.append(&word.to_le_bytes())?;

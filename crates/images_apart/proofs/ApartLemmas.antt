@@ -4,19 +4,19 @@ use Rattle.std.proofs.Common.{◌≡◌, ℕ, zero, suc, ◌+◌, Bool, true, fa
 use Rattle.std.specs.Prelude.{map as map_list, not, ◌==◌}
 use Rattle.std.specs.List.{filter}
 use Rattle.std.specs.Option.{option_and_then, option_map, option_map_or}
-use Rattle.pr_base.specs.Maps.{changed}
-use Rattle.kr_tree.specs.Changes as tree
-use Rattle.kr_tree.specs.declared.place.Host.{Host}
-use Rattle.kr_tree.specs.declared.place.Place.{Place}
-use Rattle.kr_files.specs.Descriptors.{Meanings, Named}
-use Rattle.kr_files.specs.Files.{at_offset, file_at, with_all_opened, with_append, with_opened}
-use Rattle.kr_files.specs.Opened.{after_removal, after_rename}
-use Rattle.kr_files.specs.declared.opened.Opened.{Opened}
+use Rattle.kr_calm.specs.pr_base.Maps.{changed}
+use Rattle.kr_calm.specs.kr_tree.Changes as tree
+use Rattle.kr_calm.specs.kr_tree.declared.place.Host.{Host}
+use Rattle.kr_calm.specs.kr_tree.declared.place.Place.{Place}
+use Rattle.kr_calm.specs.kr_files.Descriptors.{Meanings, Named}
+use Rattle.kr_calm.specs.kr_files.Files.{at_offset, file_at, with_all_opened, with_append, with_opened}
+use Rattle.kr_calm.specs.kr_files.Opened.{after_removal, after_rename}
+use Rattle.kr_calm.specs.kr_files.declared.opened.Opened.{Opened}
 use Rattle.kr_calm.proofs.ChangeLemmas.{both}
-use Rattle.kr_lawful.proofs.ProcessChangeLemmas.{found as found_changed}
-use Rattle.kr_model.specs.Applied.{Computing, Mounts, all_applied, applied, close, close_below, close_named, close_on_exec_below, copy_named, copy_over, cwd_of, end, exe_after_removal, exe_after_rename, exe_of, exe_remembers, executed, gone, images, is_closed_on_exec, let_go, mount_of, moved_to, on_opened_of, open_in, orphaned, pipe_made, released_at, with_brk, with_cwd, with_exe, with_exe_name, with_files, with_image, with_living, with_parent, with_tree, with_umask}
-use Rattle.kr_model.specs.Change.{Change, AddNode, LinkNode, RemoveName, MoveName, SetMode, SetOwner, SetSize, WriteFile, OpenFile, CopyDescriptor, CloseDescriptor, SetCloexec, Seek, SetAppend, MakePipe, TakeFromPipe, PutIntoPipe, TakeInput, WriteOut, WriteErr, ChangePages, SetBreak, SetUmask, ChangeDirectory, Fork, End, Reap, ReplaceImage, ReplaceExecutable, CloseOnExec, MountOf, OfFound, OfDirectory, OfDescriptor}
-use Rattle.kr_model.specs.State.{Process, State, at_pid, inode_of, named, opened, process, with_descs, with_process}
+use Rattle.kr_calm.proofs.kr_lawful.ProcessChangeLemmas.{found as found_changed}
+use Rattle.kr_calm.specs.kr_model.Applied.{Computing, Mounts, all_applied, applied, close, close_below, close_named, close_on_exec_below, copy_named, copy_over, cwd_of, end, exe_after_removal, exe_after_rename, exe_of, exe_remembers, executed, gone, images, is_closed_on_exec, let_go, mount_of, moved_to, on_opened_of, open_in, orphaned, pipe_made, released_at, with_brk, with_cwd, with_exe, with_exe_name, with_files, with_image, with_living, with_parent, with_tree, with_umask}
+use Rattle.kr_calm.specs.kr_model.Change.{Change, AddNode, LinkNode, RemoveName, MoveName, SetMode, SetOwner, SetSize, WriteFile, OpenFile, CopyDescriptor, CloseDescriptor, SetCloexec, Seek, SetAppend, MakePipe, TakeFromPipe, PutIntoPipe, TakeInput, WriteOut, WriteErr, ChangePages, SetBreak, SetUmask, ChangeDirectory, Fork, End, Reap, ReplaceImage, ReplaceExecutable, CloseOnExec, MountOf, OfFound, OfDirectory, OfDescriptor}
+use Rattle.kr_calm.specs.kr_model.State.{Process, State, at_pid, inode_of, named, opened, process, with_descs, with_process}
 use Rattle.images_apart.specs.Apart.{ChangesStandApart, leave_images, leaves_images}
 
 module _ {M X : Type 0} (caller : ℕ) (g : X → X) where

@@ -1,20 +1,20 @@
 -- Calls that look along paths and start no program come to changes that leave images alone, and answer.
 use Rattle.std.proofs.Common.{◌≡◌, ◌≢◌, ℕ, Bool, true, false, List, [], ◌∷◌, Option, refl, ℤ}
-use Rattle.pr_base.specs.declared.errno.Errno.TheVariants.{ENOENT}
-use Rattle.rv_mem.specs.Actions.{allows_uses, carried_out}
-use Rattle.rv_mem.specs.Memory.{Memory, after_read, with_pages}
-use Rattle.rv_mem.specs.Pages.{bytes_from, written}
-use Rattle.kr_calls.specs.declared.request.Request.{Request}
-use Rattle.kr_calls.specs.declared.request.Request.TheVariants as call
-use Rattle.kr_model.specs.declared.outcome.Outcome.{Outcome}
-use Rattle.kr_model.specs.declared.outcome.Outcome.TheVariants.{Answer, Ended, NoMemory, Wait}
-use Rattle.kr_model.specs.Change.{Change}
-use Rattle.kr_model.specs.Known.{Known}
-use Rattle.kr_model.specs.Laws.{may_end, may_wait}
-use Rattle.kr_model.specs.Operation.{by_path, directory_named, link_read, linked, looked_up, made, moved, opened, operation, taken}
-use Rattle.kr_model.specs.Reply.{Replying}
-use Rattle.kr_model.specs.Seen.{Links, Looked, LooksUp, Made, MakesEntry, Moves, NamesDirectory, Opening, Opens, ReadsLink, Seen, Taken, TakesEntry, WalkFails}
-use Rattle.kr_model.proofs.CleanCalls.{only_enders, waits_as_told}
+use Rattle.kr_calm.specs.pr_base.declared.errno.Errno.TheVariants.{ENOENT}
+use Rattle.kr_steps.specs.rv_mem.Actions.{allows_uses, carried_out}
+use Rattle.kr_steps.specs.rv_mem.Memory.{Memory, after_read, with_pages}
+use Rattle.kr_steps.specs.rv_mem.Pages.{bytes_from, written}
+use Rattle.kr_calm.specs.kr_calls.declared.request.Request.{Request}
+use Rattle.kr_calm.specs.kr_calls.declared.request.Request.TheVariants as call
+use Rattle.kr_calm.specs.kr_model.declared.outcome.Outcome.{Outcome}
+use Rattle.kr_calm.specs.kr_model.declared.outcome.Outcome.TheVariants.{Answer, Ended, NoMemory, Wait}
+use Rattle.kr_calm.specs.kr_model.Change.{Change}
+use Rattle.kr_calm.specs.kr_model.Known.{Known}
+use Rattle.kr_calm.specs.kr_model.Laws.{may_end, may_wait}
+use Rattle.kr_calm.specs.kr_model.Operation.{by_path, directory_named, link_read, linked, looked_up, made, moved, opened, operation, taken}
+use Rattle.kr_calm.specs.kr_model.Reply.{Replying}
+use Rattle.kr_calm.specs.kr_model.Seen.{Links, Looked, LooksUp, Made, MakesEntry, Moves, NamesDirectory, Opening, Opens, ReadsLink, Seen, Taken, TakesEntry, WalkFails}
+use Rattle.kr_calm.proofs.kr_model.CleanCalls.{row_ended, row_tells}
 use Rattle.kr_calm.proofs.MildLemmas.{ComesTo, answered, comes_to, either, ending, read, refused, tested, waiting, wrote}
 use Rattle.images_apart.specs.Paths.{PathCallsAnswer, PathCallsLeaveImages, PathsAreTold, is_told_of_paths}
 use Rattle.images_apart.proofs.RowLemmas.{LeavesImages, chdir_leaves, chroot_leaves, faccessat_leaves, fchmodat_leaves, fchownat_here_leaves, fchownat_leaves, getcwd_leaves, linkat_leaves, mkdirat_leaves, newfstatat_here_leaves, newfstatat_leaves, openat_leaves, readlinkat_leaves, renameat2_leaves, symlinkat_leaves, unlinkat_leaves}
@@ -144,5 +144,5 @@ the_answer NoMemory waits ends wants = absurd (wants refl)
 
 pub path_calls_answer : PathCallsAnswer
 path_calls_answer pid r seen k m told =
-    the_answer (carried_out (operation pid r seen k) m).reply.outcome (λ is. never_waits r told (waits_as_told pid r seen k m is)) (λ is. never_ends r told (only_enders pid r seen k m is))
+    the_answer (carried_out (operation pid r seen k) m).reply.outcome (λ is. never_waits r told ((row_tells pid r seen k m).1 is)) (λ is. never_ends r told (row_ended pid r seen k m is).0)
     (enough (operation pid r seen k) (operation_leaves pid r seen k told) m)

@@ -1,10 +1,10 @@
 -- A caller that had other registers for the time of its call, and is given its old ones back behind it.
 use Rattle.std.proofs.Common.{◌≡◌, ℕ, Bool, true, false, List, [], ◌∷◌, cond, refl, sym, ap, ◌∙◌, ℤ}
 use Rattle.std.specs.Prelude.{◌==◌}
-use Rattle.rv_mem.specs.Memory.{Memory}
-use Rattle.rv_mem.specs.declared.regs.Regs.{Regs}
-use Rattle.kr_model.specs.Applied.{all_applied, images, with_image, with_living}
-use Rattle.kr_model.specs.State.{Image, Process, State, at_pid, with_process}
+use Rattle.kr_steps.specs.rv_mem.Memory.{Memory}
+use Rattle.kr_steps.specs.rv_mem.declared.regs.Regs.{Regs}
+use Rattle.kr_calm.specs.kr_model.Applied.{all_applied, images, with_image, with_living}
+use Rattle.kr_calm.specs.kr_model.State.{Image, Process, State, at_pid, with_process}
 use Rattle.kr_steps.specs.Answering.{answered, going, with_answer}
 use Rattle.kr_steps.specs.Computing.{computed}
 use Rattle.images_apart.specs.Apart.{RegistersGivenBack}

@@ -2,24 +2,24 @@
 use Rattle.std.proofs.Common.{ℕ, Bool, true, false, List, [], ◌∷◌, cond, refl, ◌≡◌, Option, Some, None, ℤ}
 use Rattle.std.specs.Prelude.{not, unsigned_abs, ◌&&◌, ◌||◌, ◌==◌}
 use Rattle.std.specs.Option.{option_map_or}
-use Rattle.pr_base.specs.declared.errno.Errno.TheVariants.{EPERM, ENOENT, EBADF, EACCES, EFAULT, EBUSY, EEXIST, EXDEV, ENOTDIR, EISDIR, EINVAL, EMFILE, ENOSPC, ERANGE, ENOTEMPTY, ELOOP}
-use Rattle.kr_calls.specs.declared.stat.Stat.{Stat}
-use Rattle.kr_inode.specs.declared.user.User.{User}
-use Rattle.kr_tree.specs.Tree.{Node, Body, Directory, RegularFile, SymbolicLink, ProcessDirectory}
-use Rattle.kr_tree.specs.declared.place.Host.{Host}
-use Rattle.kr_tree.specs.declared.place.Host.TheVariants as host
-use Rattle.kr_files.specs.declared.opened.Opened.{Opened}
-use Rattle.kr_files.specs.declared.opened.What.{What}
-use Rattle.kr_files.specs.declared.opened.What.TheVariants.{File, In, Out, Err, PipeRead, PipeWrite, Dir as DirOpen}
-use Rattle.kr_model.specs.Asking.{is_directory_host, is_processes_host}
-use Rattle.kr_model.specs.AttributeRows.{chmod_host, chown_by, chown_host, console_stat, faccessat_row, fchmodat_row, fchown_row, fchownat_here, fchownat_row, fstat_row, may_give, newfstatat_here, newfstatat_row, node_stat, pipe_stat, process_stat, readlink_body, readlink_host, readlinkat_row, stat_host, stat_unplaced, tell_stat, tell_text, unchanged}
-use Rattle.kr_model.specs.Change.{Change, OfFound, SetSize}
-use Rattle.kr_model.specs.DirectoryRows.{chdir_row, chroot_row, getcwd_row, if_entered, tell_directory}
-use Rattle.kr_model.specs.FileRows.{make_and_open, open_body, open_directory, open_file, open_found, open_host, open_new, open_under, openat_row, truncates}
-use Rattle.kr_model.specs.Known.{Known, known_node}
-use Rattle.kr_model.specs.NameRows.{is_above_old, is_at_or_above, is_one, link_host, linkat_row, mkdirat_row, move_entry, move_found, move_onto, move_over, move_taken, move_uncovered, renameat2_row, rmdir_row, symlinkat_row, take_entry, unlink_found, unlink_row, unlinkat_row}
-use Rattle.kr_model.specs.Reply.{Replying, refuse}
-use Rattle.kr_model.specs.Seen.{Entered, Looked, Made, Makes, MakesNoName, MakesOver, Opening, OpensFound, OpensNew, OpensNoName, OpensSlashed, Taken, Takes, TakesCovered, TakesNoName}
+use Rattle.kr_calm.specs.pr_base.declared.errno.Errno.TheVariants.{EPERM, ENOENT, EBADF, EACCES, EFAULT, EBUSY, EEXIST, EXDEV, ENOTDIR, EISDIR, EINVAL, EMFILE, ENOSPC, ERANGE, ENOTEMPTY, ELOOP}
+use Rattle.kr_calm.specs.kr_calls.declared.stat.Stat.{Stat}
+use Rattle.kr_steps.specs.kr_inode.declared.user.User.{User}
+use Rattle.kr_calm.specs.kr_tree.Tree.{Node, Body, Directory, RegularFile, SymbolicLink, ProcessDirectory}
+use Rattle.kr_calm.specs.kr_tree.declared.place.Host.{Host}
+use Rattle.kr_calm.specs.kr_tree.declared.place.Host.TheVariants as host
+use Rattle.kr_calm.specs.kr_files.declared.opened.Opened.{Opened}
+use Rattle.kr_calm.specs.kr_files.declared.opened.What.{What}
+use Rattle.kr_calm.specs.kr_files.declared.opened.What.TheVariants.{File, In, Out, Err, PipeRead, PipeWrite, Dir as DirOpen}
+use Rattle.kr_calm.specs.kr_model.Asking.{is_directory_host, is_processes_host}
+use Rattle.kr_calm.specs.kr_model.AttributeRows.{chmod_host, chown_by, chown_host, console_stat, faccessat_row, fchmodat_row, fchown_row, fchownat_here, fchownat_row, fstat_row, may_give, newfstatat_here, newfstatat_row, node_stat, pipe_stat, process_stat, readlink_body, readlink_host, readlinkat_row, stat_host, stat_unplaced, tell_stat, tell_text, unchanged}
+use Rattle.kr_calm.specs.kr_model.Change.{Change, OfFound, SetSize}
+use Rattle.kr_calm.specs.kr_model.DirectoryRows.{chdir_row, chroot_row, getcwd_row, if_entered, tell_directory}
+use Rattle.kr_calm.specs.kr_model.FileRows.{make_and_open, open_body, open_directory, open_file, open_found, open_host, open_new, open_under, openat_row, truncates}
+use Rattle.kr_calm.specs.kr_model.Known.{Known, known_node}
+use Rattle.kr_calm.specs.kr_model.NameRows.{is_above_old, is_at_or_above, is_one, link_host, linkat_row, mkdirat_row, move_entry, move_found, move_onto, move_over, move_taken, move_uncovered, renameat2_row, rmdir_row, symlinkat_row, take_entry, unlink_found, unlink_row, unlinkat_row}
+use Rattle.kr_calm.specs.kr_model.Reply.{Replying, refuse}
+use Rattle.kr_calm.specs.kr_model.Seen.{Entered, Looked, Made, Makes, MakesNoName, MakesOver, Opening, OpensFound, OpensNew, OpensNoName, OpensSlashed, Taken, Takes, TakesCovered, TakesNoName}
 use Rattle.kr_calm.proofs.MildLemmas.{ComesTo, answered, by_open, either, maybe, refused, tested, written_to, wrote}
 use Rattle.images_apart.specs.Apart.{leave_images, leaves_images}
 

@@ -1,11 +1,11 @@
 -- Changes that leave alone what processes compute on, and the registers of a caller beside them.
 use Rattle.std.specs.Prelude.{◌≡◌, ℕ, ℤ, Bool, true, false, List}
 use Rattle.std.specs.List.{list_all}
-use Rattle.rv_mem.specs.Memory.{Memory}
-use Rattle.rv_mem.specs.declared.regs.Regs.{Regs}
-use Rattle.kr_model.specs.Applied.{Mounts, all_applied, images}
-use Rattle.kr_model.specs.Change.{Change, ChangePages, Fork, ReplaceImage}
-use Rattle.kr_model.specs.State.{Image, State}
+use Rattle.kr_steps.specs.rv_mem.Memory.{Memory}
+use Rattle.kr_steps.specs.rv_mem.declared.regs.Regs.{Regs}
+use Rattle.kr_calm.specs.kr_model.Applied.{Mounts, all_applied, images}
+use Rattle.kr_calm.specs.kr_model.Change.{Change, ChangePages, Fork, ReplaceImage}
+use Rattle.kr_calm.specs.kr_model.State.{Image, State}
 use Rattle.kr_steps.specs.Answering.{answered, with_answer}
 use Rattle.kr_steps.specs.Computing.{computed}
 

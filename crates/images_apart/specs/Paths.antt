@@ -1,14 +1,14 @@
 -- Calls that look along paths and start no program: they leave alone what processes compute on, and answer.
 use Rattle.std.specs.Prelude.{◌≡◌, ℕ, ℤ, Bool, true, false, Some}
-use Rattle.rv_mem.specs.Actions.{carried_out}
-use Rattle.rv_mem.specs.Memory.{Memory}
-use Rattle.kr_calls.specs.PathTable.{PathUse, path_at}
-use Rattle.kr_calls.specs.declared.request.Request.{Request}
-use Rattle.kr_calls.specs.declared.request.Request.TheVariants as call
-use Rattle.kr_model.specs.declared.outcome.Outcome.TheVariants.{Answer}
-use Rattle.kr_model.specs.Known.{Known}
-use Rattle.kr_model.specs.Operation.{operation}
-use Rattle.kr_model.specs.Seen.{Seen}
+use Rattle.kr_steps.specs.rv_mem.Actions.{carried_out}
+use Rattle.kr_steps.specs.rv_mem.Memory.{Memory}
+use Rattle.kr_calm.specs.kr_calls.PathTable.{PathUse, path_at}
+use Rattle.kr_calm.specs.kr_calls.declared.request.Request.{Request}
+use Rattle.kr_calm.specs.kr_calls.declared.request.Request.TheVariants as call
+use Rattle.kr_calm.specs.kr_model.declared.outcome.Outcome.TheVariants.{Answer}
+use Rattle.kr_calm.specs.kr_model.Known.{Known}
+use Rattle.kr_calm.specs.kr_model.Operation.{operation}
+use Rattle.kr_calm.specs.kr_model.Seen.{Seen}
 use Rattle.images_apart.specs.Apart.{leave_images}
 
 -- the calls that are told of paths, but for execve(2): getcwd(2) is told of that of the working directory

@@ -1,17 +1,17 @@
 -- Memories in which no byte is marked, as those of new programs are: nothing that is read in them counts as read of a mark.
 use Rattle.std.specs.FinMap as map
 use Rattle.std.specs.Prelude.{◌≡◌, ℕ, false, List, Some, Ok}
-use Rattle.rv_mem.specs.Actions.{Action, carried_out}
-use Rattle.rv_mem.specs.Marks.{no_marks}
-use Rattle.rv_mem.specs.Memory.{Memory}
-use Rattle.rv_mem.specs.Page.{PageState}
-use Rattle.rv_mem.specs.Pages.{Pages}
-use Rattle.elf_load.specs.Image.{image_memory}
-use Rattle.elf_read.specs.declared.plan.Plan.{Plan}
-use Rattle.kr_execve.specs.Execution.{Program, execution}
-use Rattle.kr_model.specs.State.{Image, State}
-use Rattle.kr_view.specs.View.{Row}
-use Rattle.pt_ident.specs.Identity.{Identity}
+use Rattle.pt_tracer.specs.rv_mem.Actions.{Action, carried_out}
+use Rattle.pt_tracer.specs.rv_mem.Marks.{no_marks}
+use Rattle.pt_tracer.specs.rv_mem.Memory.{Memory}
+use Rattle.pt_tracer.specs.rv_mem.Page.{PageState}
+use Rattle.pt_tracer.specs.rv_mem.Pages.{Pages}
+use Rattle.pt_tracer.specs.elf_load.Image.{image_memory}
+use Rattle.pt_tracer.specs.elf_read.declared.plan.Plan.{Plan}
+use Rattle.pt_tracer.specs.kr_execve.Execution.{Program, execution}
+use Rattle.pt_tracer.specs.kr_model.State.{Image, State}
+use Rattle.pt_tracer.specs.kr_view.View.{Row}
+use Rattle.pt_tracer.specs.pt_ident.Identity.{Identity}
 use Rattle.pt_tracer.specs.Faking.{show_identity}
 
 abbrev pub HasNoMark : Pages → Type 0

@@ -1,13 +1,13 @@
 -- Going up from a directory as many steps as a row takes, one meets each directory at or above it.
 use Rattle.std.proofs.Common.{◌≡◌, ◌≢◌, inl, ℕ, zero, suc, ◌+◌, ◌≤◌, Bool, true, false, ◌||◌, refl, sym, ap, ◌∙◌, arith, cond, Some, None, Option}
 use Rattle.std.specs.Option.{option_map, option_map_or, option_and_then}
-use Rattle.rv_mem.proofs.TableLemmas.{below_or_not}
-use Rattle.kr_inode.specs.declared.standing.Standing.{Standing}
-use Rattle.kr_tree.specs.Lawful.{IsSound, IsBelow, Here, Below}
-use Rattle.kr_tree.specs.Tree.{Inode, Node, root, inode, above, standing_of}
-use Rattle.kr_tree.specs.declared.place.Host.{Host}
-use Rattle.kr_tree.specs.declared.place.Host.TheVariants as host
-use Rattle.kr_tree.proofs.BelowLemmas.{HasSteps, steps_left, steps_end}
+use Rattle.kr_lawful.proofs.rv_mem.TableLemmas.{below_or_not}
+use Rattle.kr_lawful.specs.kr_inode.declared.standing.Standing.{Standing}
+use Rattle.kr_lawful.specs.kr_tree.Lawful.{IsSound, IsBelow, Here, Below}
+use Rattle.kr_lawful.specs.kr_tree.Tree.{Inode, Node, root, inode, above, standing_of}
+use Rattle.kr_lawful.specs.kr_tree.declared.place.Host.{Host}
+use Rattle.kr_lawful.specs.kr_tree.declared.place.Host.TheVariants as host
+use Rattle.kr_lawful.proofs.kr_tree.BelowLemmas.{HasSteps, steps_left, steps_end}
 use Rattle.kr_lawful.specs.kr_model.Asking.{same_host}
 use Rattle.kr_lawful.specs.kr_model.Known.{Known, Fact, known}
 use Rattle.kr_lawful.specs.kr_model.NameRows.{host_above, is_within, is_at_or_above}

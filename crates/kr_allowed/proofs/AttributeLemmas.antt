@@ -1,18 +1,18 @@
 -- Calls on the attributes of a file are allowed.
 use Rattle.std.proofs.Common.{ℕ, ◌<◌, ◌^◌, true, false, not, ◌&&◌, ◌||◌, List, [], ◌∷◌, refl, ap, arith, cond, Option, IsSome, ℤ}
 use Rattle.std.specs.Prelude.{◌==◌, unsigned_abs}
-use Rattle.pr_base.specs.declared.errno.Errno.TheVariants.{EPERM, ENOENT, EBADF, EACCES, EFAULT, EINVAL}
-use Rattle.kr_inode.specs.declared.user.User.{User}
-use Rattle.kr_tree.specs.Tree.{Node, Body, Directory, RegularFile, SymbolicLink, ProcessDirectory}
-use Rattle.kr_tree.specs.declared.place.Host.{Host}
-use Rattle.kr_tree.specs.declared.place.Host.TheVariants as host
-use Rattle.kr_view.specs.Component.{is_process_directory}
-use Rattle.kr_view.specs.View.{Row}
-use Rattle.kr_files.specs.declared.opened.Opened.{Opened}
-use Rattle.kr_files.specs.declared.opened.What.{What}
-use Rattle.kr_files.specs.declared.opened.What.TheVariants.{File, Dir as DirOpen, In, Out, Err, PipeRead, PipeWrite}
-use Rattle.kr_files.specs.WithoutMounts.{without_mount}
-use Rattle.kr_calls.specs.declared.stat.Stat.{Stat}
+use Rattle.kr_lawful.specs.pr_base.declared.errno.Errno.TheVariants.{EPERM, ENOENT, EBADF, EACCES, EFAULT, EINVAL}
+use Rattle.kr_lawful.specs.kr_inode.declared.user.User.{User}
+use Rattle.kr_lawful.specs.kr_tree.Tree.{Node, Body, Directory, RegularFile, SymbolicLink, ProcessDirectory}
+use Rattle.kr_lawful.specs.kr_tree.declared.place.Host.{Host}
+use Rattle.kr_lawful.specs.kr_tree.declared.place.Host.TheVariants as host
+use Rattle.kr_lawful.specs.kr_view.Component.{is_process_directory}
+use Rattle.kr_lawful.specs.kr_view.View.{Row}
+use Rattle.kr_lawful.specs.kr_files.declared.opened.Opened.{Opened}
+use Rattle.kr_lawful.specs.kr_files.declared.opened.What.{What}
+use Rattle.kr_lawful.specs.kr_files.declared.opened.What.TheVariants.{File, Dir as DirOpen, In, Out, Err, PipeRead, PipeWrite}
+use Rattle.kr_lawful.specs.kr_files.WithoutMounts.{without_mount}
+use Rattle.kr_lawful.specs.kr_calls.declared.stat.Stat.{Stat}
 use Rattle.kr_lawful.specs.kr_model.Applied.{Mounts}
 use Rattle.kr_lawful.specs.kr_model.Asking.{is_processes, is_working_directory}
 use Rattle.kr_lawful.specs.kr_model.AttributeRows.{gives, faccessat_row, chmod_host, fchmod_row, fchmodat_row, unchanged as all_ones, or_old, may_give, chown_by, chown_host, chown_open, fchown_row, fchownat_row, fchownat_here, node_stat, process_stat, console_stat, pipe_stat, tell_stat, stat_host, stat_unplaced, fstat_row, newfstatat_row, newfstatat_here, tell_text, readlink_body, readlink_host, readlinkat_row}

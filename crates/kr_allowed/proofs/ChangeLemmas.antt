@@ -3,14 +3,14 @@ use Rattle.std.proofs.Common.{◌≡◌, ℕ, zero, suc, ◌+◌, ◌<◌, ◌^�
 use Rattle.std.specs.Prelude.{IfSome}
 use Rattle.std.specs.List.{AllByRecursion}
 use Rattle.std.specs.Option.{option_map, option_map_or}
-use Rattle.kr_inode.specs.declared.user.User.{User}
-use Rattle.kr_tree.specs.Tree.{Tree, Body, Directory, RegularFile, SymbolicLink, ProcessDirectory, Inode, inode}
-use Rattle.kr_tree.specs.Changes as tree
-use Rattle.kr_tree.proofs.NameLemmas.{some_is}
-use Rattle.kr_view.specs.View.{Row}
-use Rattle.kr_files.specs.Descriptors.{Named}
-use Rattle.kr_files.specs.Files.{with_opened}
-use Rattle.kr_files.specs.declared.opened.Opened.{Opened}
+use Rattle.kr_lawful.specs.kr_inode.declared.user.User.{User}
+use Rattle.kr_lawful.specs.kr_tree.Tree.{Tree, Body, Directory, RegularFile, SymbolicLink, ProcessDirectory, Inode, inode}
+use Rattle.kr_lawful.specs.kr_tree.Changes as tree
+use Rattle.kr_lawful.proofs.kr_tree.NameLemmas.{some_is}
+use Rattle.kr_lawful.specs.kr_view.View.{Row}
+use Rattle.kr_lawful.specs.kr_files.Descriptors.{Named}
+use Rattle.kr_lawful.specs.kr_files.Files.{with_opened}
+use Rattle.kr_lawful.specs.kr_files.declared.opened.Opened.{Opened}
 use Rattle.kr_lawful.specs.kr_model.State.{Image, Process, State, process, named}
 use Rattle.kr_lawful.specs.kr_model.Change.{Change, AddNode, LinkNode, RemoveName, MoveName, SetMode, SetOwner, SetSize, WriteFile, OpenFile, CopyDescriptor, CloseDescriptor, SetCloexec, Seek, SetAppend, MakePipe, TakeFromPipe, PutIntoPipe, TakeInput, WriteOut, WriteErr, ChangePages, SetBreak, SetUmask, ChangeDirectory, Fork, End, Reap, ReplaceImage, ReplaceExecutable, CloseOnExec}
 use Rattle.kr_lawful.specs.kr_model.Applied.{Mounts, applied, all_applied, images, mount_of, with_tree, with_files, on_opened_of, open_in, copy_over, moved_to, forked_from, executed}

@@ -5,26 +5,26 @@ use Rattle.std.specs.Int.{cast_unsigned, w32}
 use Rattle.std.proofs.lemmas.Bool.Decides.{nat_tests}
 use Rattle.std.proofs.lemmas.Int.{of_z-to_z}
 use Rattle.std.proofs.lemmas.List.Elements.{All-cons, All-nil}
-use Rattle.pr_base.specs.declared.errno.Errno.{Errno}
-use Rattle.pr_base.specs.declared.errno.Errno.TheVariants.{ENOENT}
-use Rattle.rv_mem.specs.declared.regs.Regs.{Regs}
-use Rattle.rv_mem.specs.declared.rights.Use.{Use}
-use Rattle.rv_mem.specs.Actions.{Action, Done, MayUse, ReadBytes, carried_out, allows_uses}
-use Rattle.rv_mem.specs.Memory.{Memory, after_read}
-use Rattle.rv_mem.specs.Pages.{bytes_from}
-use Rattle.kr_calls.specs.declared.request.Request.{Request}
-use Rattle.kr_calls.specs.Arguments.{number, long, signed_long, word, int, has, has_other, is_unaligned, is_negative}
-use Rattle.kr_calls.specs.declared.request.Request.TheVariants as call
-use Rattle.kr_calls.specs.Decoding.{Decoded, unless, text_limit, named, with_text, cloexec, dup3_row, by_descriptor, by_file, by_process, by_memory, by_name, by_identity, decoding, execve_with, faccessat_with, fchmodat_with, fchownat_with, has_bad_map_flags, has_bad_open_flags, has_no_size, link_flags, linkat_with, mkdirat_with, newfstatat_with, openat_with, pages_end, readlinkat_with, remove_flags, renameat2_with, stat_flags, symlinkat_with, unlinkat_with, wait_flags, brk_row, chdir_row, chroot_row, clone_row, close_row, dup_row, execve_row, exit_group_row, exit_row, faccessat_row, fchdir_row, fchmod_row, fchmodat_row, fchown_row, fchownat_row, fcntl_row, fstat_row, ftruncate_row, getcwd_row, getdents64_row, getresgid_row, getresuid_row, ioctl_row, linkat_row, lseek_row, mkdirat_row, mmap_row, mprotect_row, munmap_row, newfstatat_row, openat_row, pipe2_row, read_row, readlinkat_row, readv_row, renameat2_row, setresgid_row, setresuid_row, symlinkat_row, uname_row, unlinkat_row, wait4_row, write_row, writev_row}
-use Rattle.kr_calls.specs.Texts.{read_text}
-use Rattle.kr_calls.specs.PathTable.{PathUse, only_at, old_and_new}
-use Rattle.pr_base.specs.declared.path.WalkMode.{WalkMode}
-use Rattle.pr_base.specs.declared.path.WalkMode.TheVariants.{Name as NameMode}
-use Rattle.kr_tree.specs.Lawful.{AreBytes}
+use Rattle.kr_lawful.specs.pr_base.declared.errno.Errno.{Errno}
+use Rattle.kr_lawful.specs.pr_base.declared.errno.Errno.TheVariants.{ENOENT}
+use Rattle.kr_lawful.specs.rv_mem.declared.regs.Regs.{Regs}
+use Rattle.kr_lawful.specs.rv_mem.declared.rights.Use.{Use}
+use Rattle.kr_lawful.specs.rv_mem.Actions.{Action, Done, MayUse, ReadBytes, carried_out, allows_uses}
+use Rattle.kr_lawful.specs.rv_mem.Memory.{Memory, after_read}
+use Rattle.kr_lawful.specs.rv_mem.Pages.{bytes_from}
+use Rattle.kr_lawful.specs.kr_calls.declared.request.Request.{Request}
+use Rattle.kr_lawful.specs.kr_calls.Arguments.{number, long, signed_long, word, int, has, has_other, is_unaligned, is_negative}
+use Rattle.kr_lawful.specs.kr_calls.declared.request.Request.TheVariants as call
+use Rattle.kr_lawful.specs.kr_calls.Decoding.{Decoded, unless, text_limit, named, with_text, cloexec, dup3_row, by_descriptor, by_file, by_process, by_memory, by_name, by_identity, decoding, execve_with, faccessat_with, fchmodat_with, fchownat_with, has_bad_map_flags, has_bad_open_flags, has_no_size, link_flags, linkat_with, mkdirat_with, newfstatat_with, openat_with, pages_end, readlinkat_with, remove_flags, renameat2_with, stat_flags, symlinkat_with, unlinkat_with, wait_flags, brk_row, chdir_row, chroot_row, clone_row, close_row, dup_row, execve_row, exit_group_row, exit_row, faccessat_row, fchdir_row, fchmod_row, fchmodat_row, fchown_row, fchownat_row, fcntl_row, fstat_row, ftruncate_row, getcwd_row, getdents64_row, getresgid_row, getresuid_row, ioctl_row, linkat_row, lseek_row, mkdirat_row, mmap_row, mprotect_row, munmap_row, newfstatat_row, openat_row, pipe2_row, read_row, readlinkat_row, readv_row, renameat2_row, setresgid_row, setresuid_row, symlinkat_row, uname_row, unlinkat_row, wait4_row, write_row, writev_row}
+use Rattle.kr_lawful.specs.kr_calls.Texts.{read_text}
+use Rattle.kr_lawful.specs.kr_calls.PathTable.{PathUse, only_at, old_and_new}
+use Rattle.kr_lawful.specs.pr_base.declared.path.WalkMode.{WalkMode}
+use Rattle.kr_lawful.specs.pr_base.declared.path.WalkMode.TheVariants.{Name as NameMode}
+use Rattle.kr_lawful.specs.kr_tree.Lawful.{AreBytes}
 use Rattle.kr_allowed.specs.Allowed.{HoldsBytes}
 use Rattle.kr_allowed.specs.Texts.{IsText}
 use Rattle.kr_allowed.specs.Calls.{IsGivable, HasTextPaths, DecodedAreGivable}
-use Rattle.kr_tree.proofs.NameLemmas.{some_is}
+use Rattle.kr_lawful.proofs.kr_tree.NameLemmas.{some_is}
 use Rattle.kr_allowed.proofs.RowLemmas.{read-bytes, read-count}
 
 -- a decoding that accepts no request but such ones

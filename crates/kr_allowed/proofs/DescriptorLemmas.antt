@@ -2,14 +2,14 @@
 use Rattle.std.specs.FinMap as map
 use Rattle.std.proofs.Common.{◌≡◌, ◌≢◌, ◌+ℤ◌, ℕ, zero, suc, ◌<◌, Bool, true, false, nat_lt, List, length, refl, sym, ap, Some, None, Option, IsSome, ℤ, pos, negsuc}
 use Rattle.std.specs.Prelude.{◌==◌, nat_le}
-use Rattle.kr_tree.proofs.NameLemmas.{some_is}
-use Rattle.kr_view.specs.View.{Row}
-use Rattle.kr_calls.specs.Arguments.{has}
-use Rattle.kr_files.specs.declared.opened.Opened.{Opened}
-use Rattle.kr_files.specs.declared.opened.What.{What}
-use Rattle.kr_files.specs.declared.opened.What.TheVariants.{File, Dir, In, Out, Err, PipeRead, PipeWrite}
-use Rattle.kr_files.specs.Descriptors.{lowest_free, lowest_pair}
-use Rattle.kr_files.specs.WithoutMounts.{without_mount}
+use Rattle.kr_lawful.proofs.kr_tree.NameLemmas.{some_is}
+use Rattle.kr_lawful.specs.kr_view.View.{Row}
+use Rattle.kr_lawful.specs.kr_calls.Arguments.{has}
+use Rattle.kr_lawful.specs.kr_files.declared.opened.Opened.{Opened}
+use Rattle.kr_lawful.specs.kr_files.declared.opened.What.{What}
+use Rattle.kr_lawful.specs.kr_files.declared.opened.What.TheVariants.{File, Dir, In, Out, Err, PipeRead, PipeWrite}
+use Rattle.kr_lawful.specs.kr_files.Descriptors.{lowest_free, lowest_pair}
+use Rattle.kr_lawful.specs.kr_files.WithoutMounts.{without_mount}
 use Rattle.kr_lawful.specs.kr_model.Applied.{Mounts}
 use Rattle.kr_lawful.specs.kr_model.Asking.{descriptor_number}
 use Rattle.kr_lawful.specs.kr_model.Change.{Change}

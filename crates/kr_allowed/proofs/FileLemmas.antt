@@ -5,24 +5,24 @@ use Rattle.std.specs.Prelude.{◌==◌, nat_le}
 use Rattle.std.specs.Option.{option_map, option_map_or}
 use Rattle.std.proofs.lemmas.Bool.Decides.{nat_tests}
 use Rattle.std.proofs.lemmas.List.{length-take, length-drop}
-use Rattle.pr_base.specs.declared.errno.Errno.TheVariants.{EBADF, EISDIR, EINVAL, EFBIG, ENOSPC}
-use Rattle.rv_mem.specs.declared.rights.Use.TheVariants.{Read}
-use Rattle.kr_inode.specs.Changes.{size_written}
-use Rattle.kr_tree.specs.Changes as tree
-use Rattle.kr_tree.specs.Lawful.{AreBytes}
-use Rattle.kr_tree.specs.Tree.{Inode, Node, Body, Directory, RegularFile, SymbolicLink, ProcessDirectory, inode, body, body_is, is_file, bytes_of}
-use Rattle.kr_tree.specs.declared.place.Host.{Host}
-use Rattle.kr_tree.specs.declared.place.Host.TheVariants as host
-use Rattle.kr_tree.specs.declared.place.Place.{Place}
-use Rattle.kr_tree.proofs.AddLemmas.{passing}
-use Rattle.kr_tree.proofs.NameLemmas.{then_some}
-use Rattle.kr_view.specs.View.{Row, is_there}
-use Rattle.kr_files.specs.declared.opened.Opened.{Opened}
-use Rattle.kr_files.specs.declared.opened.What.{What}
-use Rattle.kr_files.specs.declared.opened.What.TheVariants.{File, Dir, In, Out, Err, PipeRead, PipeWrite}
-use Rattle.kr_files.specs.Descriptors.{Named}
-use Rattle.kr_files.specs.Files.{file_at}
-use Rattle.kr_files.specs.WithoutMounts.{without_mount}
+use Rattle.kr_lawful.specs.pr_base.declared.errno.Errno.TheVariants.{EBADF, EISDIR, EINVAL, EFBIG, ENOSPC}
+use Rattle.kr_lawful.specs.rv_mem.declared.rights.Use.TheVariants.{Read}
+use Rattle.kr_lawful.specs.kr_inode.Changes.{size_written}
+use Rattle.kr_lawful.specs.kr_tree.Changes as tree
+use Rattle.kr_lawful.specs.kr_tree.Lawful.{AreBytes}
+use Rattle.kr_lawful.specs.kr_tree.Tree.{Inode, Node, Body, Directory, RegularFile, SymbolicLink, ProcessDirectory, inode, body, body_is, is_file, bytes_of}
+use Rattle.kr_lawful.specs.kr_tree.declared.place.Host.{Host}
+use Rattle.kr_lawful.specs.kr_tree.declared.place.Host.TheVariants as host
+use Rattle.kr_lawful.specs.kr_tree.declared.place.Place.{Place}
+use Rattle.kr_lawful.proofs.kr_tree.AddLemmas.{passing}
+use Rattle.kr_lawful.proofs.kr_tree.NameLemmas.{then_some}
+use Rattle.kr_lawful.specs.kr_view.View.{Row, is_there}
+use Rattle.kr_lawful.specs.kr_files.declared.opened.Opened.{Opened}
+use Rattle.kr_lawful.specs.kr_files.declared.opened.What.{What}
+use Rattle.kr_lawful.specs.kr_files.declared.opened.What.TheVariants.{File, Dir, In, Out, Err, PipeRead, PipeWrite}
+use Rattle.kr_lawful.specs.kr_files.Descriptors.{Named}
+use Rattle.kr_lawful.specs.kr_files.Files.{file_at}
+use Rattle.kr_lawful.specs.kr_files.WithoutMounts.{without_mount}
 use Rattle.kr_lawful.specs.kr_model.Applied.{Mounts}
 use Rattle.kr_lawful.specs.kr_model.Asking.{has_no_room_for}
 use Rattle.kr_lawful.specs.kr_model.Change.{Change}

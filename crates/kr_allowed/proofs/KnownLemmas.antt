@@ -4,12 +4,12 @@ use Rattle.std.proofs.Common.{◌≡◌, ◌≢◌, subst, ℕ, ◌+◌, ◌≤�
 use Rattle.std.specs.Prelude.{nat_le}
 use Rattle.std.specs.Option.{option_map, option_map_or, option_and_then}
 use Rattle.std.proofs.lemmas.Bool.Decides.{nat_tests}
-use Rattle.kr_tree.proofs.NameLemmas.{then_some}
-use Rattle.kr_files.specs.declared.opened.Opened.{Opened}
-use Rattle.kr_files.specs.Descriptors.{Named, lowest_free, lowest_pair}
-use Rattle.kr_files.specs.Files.{file_at}
-use Rattle.kr_files.specs.WithoutMounts.{without_mount}
-use Rattle.kr_files.proofs.DescriptorLemmas.{lowest_free-some}
+use Rattle.kr_lawful.proofs.kr_tree.NameLemmas.{then_some}
+use Rattle.kr_lawful.specs.kr_files.declared.opened.Opened.{Opened}
+use Rattle.kr_lawful.specs.kr_files.Descriptors.{Named, lowest_free, lowest_pair}
+use Rattle.kr_lawful.specs.kr_files.Files.{file_at}
+use Rattle.kr_lawful.specs.kr_files.WithoutMounts.{without_mount}
+use Rattle.kr_lawful.proofs.kr_files.DescriptorLemmas.{lowest_free-some}
 use Rattle.kr_lawful.specs.kr_model.Asking.{or_closed, of_number, or_badf, descriptor_number}
 use Rattle.kr_lawful.specs.kr_model.Change.{Change}
 use Rattle.kr_lawful.specs.kr_model.Conditions.{IsFreeDescriptor, IsOpen}

@@ -1,3 +1,8 @@
+pub use Rattle.kr_lawful.proofs.kr_inode as kr_inode
+pub use Rattle.kr_lawful.proofs.kr_tree as kr_tree
+pub use Rattle.kr_lawful.proofs.kr_view as kr_view
+pub use Rattle.kr_lawful.proofs.kr_model as kr_model
+pub use Rattle.kr_lawful.proofs as kr_lawful
 pub mod TreeLemmas
 pub mod StateLemmas
 pub mod ChangeLemmas

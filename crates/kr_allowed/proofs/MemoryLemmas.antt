@@ -5,16 +5,16 @@ use Rattle.std.specs.Prelude.{◌==◌, nat_le, map as map_list}
 use Rattle.std.specs.Option.{IfSome, option_map}
 use Rattle.std.proofs.lemmas.Grind.{div_ceil_times}
 use Rattle.std.proofs.lemmas.Bool.Decides.{nat_tests}
-use Rattle.pr_base.specs.declared.errno.Errno.TheVariants.{ENOMEM}
-use Rattle.rv_mem.specs.declared.rights.Rights.{Rights}
-use Rattle.rv_mem.specs.Layout.{Layout, layout_of}
-use Rattle.rv_mem.specs.Pages.{Pages, mapped}
-use Rattle.rv_mem.proofs.ChangeLemmas.{len-mapped_more, len-unmapped-le, len-protected}
-use Rattle.rv_mem.proofs.LayoutLemmas.{contains_layout, layouts_follow}
-use Rattle.rv_mem.proofs.SpaceLemmas.{IsPlaced-mapped, IsPlaced-unmapped, IsPlaced-protected}
-use Rattle.kr_tree.proofs.NameLemmas.{some_is}
-use Rattle.kr_view.specs.View.{Row}
-use Rattle.kr_calls.specs.Arguments.{has}
+use Rattle.kr_lawful.specs.pr_base.declared.errno.Errno.TheVariants.{ENOMEM}
+use Rattle.kr_lawful.specs.rv_mem.declared.rights.Rights.{Rights}
+use Rattle.kr_lawful.specs.rv_mem.Layout.{Layout, layout_of}
+use Rattle.kr_lawful.specs.rv_mem.Pages.{Pages, mapped}
+use Rattle.kr_lawful.proofs.rv_mem.ChangeLemmas.{len-mapped_more, len-unmapped-le, len-protected}
+use Rattle.kr_lawful.proofs.rv_mem.LayoutLemmas.{contains_layout, layouts_follow}
+use Rattle.kr_lawful.proofs.rv_mem.SpaceLemmas.{IsPlaced-mapped, IsPlaced-unmapped, IsPlaced-protected}
+use Rattle.kr_lawful.proofs.kr_tree.NameLemmas.{some_is}
+use Rattle.kr_lawful.specs.kr_view.View.{Row}
+use Rattle.kr_lawful.specs.kr_calls.Arguments.{has}
 use Rattle.kr_lawful.specs.kr_model.Applied.{Mounts, images, with_image}
 use Rattle.kr_lawful.specs.kr_model.Change.{Change, PageChange, MapPages, UnmapPages, ProtectPages, ChangePages, SetBreak}
 use Rattle.kr_lawful.specs.kr_model.Conditions.{CanPage, CanBeMade}

@@ -3,18 +3,18 @@ use Rattle.std.proofs.Common.{◌≡◌, ◌≢◌, subst, ℕ, ◌-◌, ◌<◌
 use Rattle.std.specs.Int.RustNames.{bit_and}
 use Rattle.std.specs.Option.{option_map_or}
 use Rattle.std.proofs.lemmas.Nat.{and_le_r}
-use Rattle.pr_base.specs.declared.errno.Errno.TheVariants.{EPERM, ENOENT, EACCES, EBUSY, EEXIST, EXDEV, ENOTDIR, EISDIR, EINVAL, ENOSPC, ENOTEMPTY}
-use Rattle.kr_tree.specs.Lawful.{AreBytes}
-use Rattle.kr_tree.specs.Names.{is_name}
-use Rattle.kr_tree.specs.Rights.{allows, is_kept_by_sticky}
-use Rattle.kr_tree.specs.Tree.{Inode, Node, Body, Directory, RegularFile, SymbolicLink, ProcessDirectory, inode, entry, body_is, is_directory, is_filled, takes_names, may_be_linked}
-use Rattle.kr_tree.specs.declared.place.Host.{Host}
-use Rattle.kr_tree.specs.declared.place.Host.TheVariants as host
-use Rattle.kr_tree.proofs.NameLemmas.{some_is}
-use Rattle.kr_inode.specs.declared.user.Right.TheVariants.{Write, Search}
-use Rattle.kr_view.specs.Component.{is_processes as is_processes_body}
-use Rattle.kr_view.specs.InTree.{IsObjectOf}
-use Rattle.kr_view.specs.View.{Row, is_there}
+use Rattle.kr_lawful.specs.pr_base.declared.errno.Errno.TheVariants.{EPERM, ENOENT, EACCES, EBUSY, EEXIST, EXDEV, ENOTDIR, EISDIR, EINVAL, ENOSPC, ENOTEMPTY}
+use Rattle.kr_lawful.specs.kr_tree.Lawful.{AreBytes}
+use Rattle.kr_lawful.specs.kr_tree.Names.{is_name}
+use Rattle.kr_lawful.specs.kr_tree.Rights.{allows, is_kept_by_sticky}
+use Rattle.kr_lawful.specs.kr_tree.Tree.{Inode, Node, Body, Directory, RegularFile, SymbolicLink, ProcessDirectory, inode, entry, body_is, is_directory, is_filled, takes_names, may_be_linked}
+use Rattle.kr_lawful.specs.kr_tree.declared.place.Host.{Host}
+use Rattle.kr_lawful.specs.kr_tree.declared.place.Host.TheVariants as host
+use Rattle.kr_lawful.proofs.kr_tree.NameLemmas.{some_is}
+use Rattle.kr_lawful.specs.kr_inode.declared.user.Right.TheVariants.{Write, Search}
+use Rattle.kr_lawful.specs.kr_view.Component.{is_processes as is_processes_body}
+use Rattle.kr_lawful.specs.kr_view.InTree.{IsObjectOf}
+use Rattle.kr_lawful.specs.kr_view.View.{Row, is_there}
 use Rattle.kr_lawful.specs.kr_model.Applied.{Mounts}
 use Rattle.kr_lawful.specs.kr_model.Asking.{body_passes, is_processes, is_processes_host, is_directory_host, is_over, writable_body, writable_node, writable, has_no_room, has_no_name_left, unmasked}
 use Rattle.kr_lawful.specs.kr_model.Change.{Change}

@@ -2,15 +2,15 @@
 use Rattle.std.proofs.Common.{◌≡◌, true, inl, inr, subst, List, [], ◌∷◌, ℕ, Bool, false, refl, sym, ap, ◌∙◌, Some, None, Option}
 use Rattle.std.specs.List.{AllByRecursion}
 use Rattle.std.specs.Option.{option_map, option_map_or}
-use Rattle.kr_tree.specs.Lawful.{IsKept, IsIn, AreBytes, IsOfBytes}
-use Rattle.kr_tree.specs.Names.{is_name}
-use Rattle.kr_tree.specs.Tree.{Tree, Inode, Node, Entry, Body, Directory, RegularFile, SymbolicLink, ProcessDirectory, inode, entry, entries_of, body_is, is_directory}
-use Rattle.kr_tree.specs.declared.place.Host.{Host}
-use Rattle.kr_tree.specs.declared.place.Host.TheVariants as host
-use Rattle.kr_inode.proofs.NameLemmas.{name_decides}
-use Rattle.kr_tree.proofs.EntryLemmas.{entered, entry_named_well}
-use Rattle.kr_tree.proofs.NameLemmas.{some_is}
-use Rattle.kr_view.specs.Component.{is_directory_at}
+use Rattle.kr_lawful.specs.kr_tree.Lawful.{IsKept, IsIn, AreBytes, IsOfBytes}
+use Rattle.kr_lawful.specs.kr_tree.Names.{is_name}
+use Rattle.kr_lawful.specs.kr_tree.Tree.{Tree, Inode, Node, Entry, Body, Directory, RegularFile, SymbolicLink, ProcessDirectory, inode, entry, entries_of, body_is, is_directory}
+use Rattle.kr_lawful.specs.kr_tree.declared.place.Host.{Host}
+use Rattle.kr_lawful.specs.kr_tree.declared.place.Host.TheVariants as host
+use Rattle.kr_lawful.proofs.kr_inode.NameLemmas.{name_decides}
+use Rattle.kr_lawful.proofs.kr_tree.EntryLemmas.{entered, entry_named_well}
+use Rattle.kr_lawful.proofs.kr_tree.NameLemmas.{some_is}
+use Rattle.kr_lawful.specs.kr_view.Component.{is_directory_at}
 use Rattle.kr_lawful.specs.kr_model.Asking.{body_passes, is_directory_host}
 use Rattle.kr_lawful.specs.kr_model.Known.{Known, Fact, known, known_node}
 use Rattle.kr_lawful.specs.kr_model.State.{Image, image_layout, State}

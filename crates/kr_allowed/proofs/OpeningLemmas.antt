@@ -3,26 +3,26 @@ use Rattle.std.specs.FinMap as map
 use Rattle.std.proofs.Common.{◌≡◌, subst, ℕ, ◌+◌, ◌-◌, ◌≤◌, Bool, true, false, not, ◌&&◌, ◌||◌, nat_lt, List, [], ◌∷◌, refl, sym, ap, ◌∙◌, arith, cond, Some, None, Option, IsSome}
 use Rattle.std.specs.Option.{option_map, option_map_or}
 use Rattle.std.proofs.lemmas.Bool.Decides.{nat_tests}
-use Rattle.pr_base.specs.Paths.{IsName}
-use Rattle.pr_base.specs.declared.errno.Errno.TheVariants.{ENOENT, EACCES, EEXIST, ENOTDIR, EISDIR, EMFILE, ENOSPC, ELOOP}
-use Rattle.pr_base.proofs.MapLemmas.{get-insert_same, stays-changed}
-use Rattle.kr_inode.proofs.NameLemmas.{name_decides}
-use Rattle.kr_inode.specs.declared.user.Right.TheVariants.{Read as ReadRight}
-use Rattle.kr_tree.specs.Changes as tree
-use Rattle.kr_tree.specs.Rights.{allows}
-use Rattle.kr_tree.specs.Tree.{Tree, Inode, Node, Body, Directory, RegularFile, SymbolicLink, ProcessDirectory, inode, body_is, is_directory, is_file, takes_names}
-use Rattle.kr_tree.specs.declared.place.Host.{Host}
-use Rattle.kr_tree.specs.declared.place.Host.TheVariants as host
-use Rattle.kr_tree.specs.declared.place.Place.{Place}
-use Rattle.kr_tree.proofs.NameLemmas.{some_is}
-use Rattle.kr_view.specs.Component.{is_directory_at, is_process_directory}
-use Rattle.kr_view.specs.InTree.{IsPlaceOf}
-use Rattle.kr_view.specs.Leads.{numbered}
-use Rattle.kr_view.specs.View.{Row, is_there}
-use Rattle.kr_calls.specs.Arguments.{has}
-use Rattle.kr_files.specs.declared.opened.What.{What}
-use Rattle.kr_files.specs.declared.opened.What.TheVariants.{File, Dir}
-use Rattle.kr_files.specs.Descriptors.{lowest_free}
+use Rattle.kr_lawful.specs.pr_base.Paths.{IsName}
+use Rattle.kr_lawful.specs.pr_base.declared.errno.Errno.TheVariants.{ENOENT, EACCES, EEXIST, ENOTDIR, EISDIR, EMFILE, ENOSPC, ELOOP}
+use Rattle.kr_lawful.proofs.pr_base.MapLemmas.{get-insert_same, stays-changed}
+use Rattle.kr_lawful.proofs.kr_inode.NameLemmas.{name_decides}
+use Rattle.kr_lawful.specs.kr_inode.declared.user.Right.TheVariants.{Read as ReadRight}
+use Rattle.kr_lawful.specs.kr_tree.Changes as tree
+use Rattle.kr_lawful.specs.kr_tree.Rights.{allows}
+use Rattle.kr_lawful.specs.kr_tree.Tree.{Tree, Inode, Node, Body, Directory, RegularFile, SymbolicLink, ProcessDirectory, inode, body_is, is_directory, is_file, takes_names}
+use Rattle.kr_lawful.specs.kr_tree.declared.place.Host.{Host}
+use Rattle.kr_lawful.specs.kr_tree.declared.place.Host.TheVariants as host
+use Rattle.kr_lawful.specs.kr_tree.declared.place.Place.{Place}
+use Rattle.kr_lawful.proofs.kr_tree.NameLemmas.{some_is}
+use Rattle.kr_lawful.specs.kr_view.Component.{is_directory_at, is_process_directory}
+use Rattle.kr_lawful.specs.kr_view.InTree.{IsPlaceOf}
+use Rattle.kr_lawful.specs.kr_view.Leads.{numbered}
+use Rattle.kr_lawful.specs.kr_view.View.{Row, is_there}
+use Rattle.kr_lawful.specs.kr_calls.Arguments.{has}
+use Rattle.kr_lawful.specs.kr_files.declared.opened.What.{What}
+use Rattle.kr_lawful.specs.kr_files.declared.opened.What.TheVariants.{File, Dir}
+use Rattle.kr_lawful.specs.kr_files.Descriptors.{lowest_free}
 use Rattle.kr_lawful.specs.kr_model.Applied.{Mounts, in_mount, open_in}
 use Rattle.kr_lawful.specs.kr_model.Asking.{has_no_room, unmasked}
 use Rattle.kr_lawful.specs.kr_model.Change.{OpenFile, Change, SetSize, OfFound}
@@ -39,7 +39,7 @@ use Rattle.kr_allowed.specs.Resting.{IsSeenIn, IsFreeIn, IsLookedIn, IsOpeningIn
 use Rattle.kr_allowed.proofs.KnownLemmas.{maybe, free-lowest}
 use Rattle.kr_allowed.proofs.NameLemmas.{written-to, free-name, small-mode}
 use Rattle.kr_allowed.proofs.NodeLemmas.{test-known}
-use Rattle.kr_files.specs.declared.opened.Opened.{Opened}
+use Rattle.kr_lawful.specs.kr_files.declared.opened.Opened.{Opened}
 use Rattle.kr_allowed.specs.Lasting.{AreModest}
 use Rattle.kr_allowed.proofs.RowLemmas.{quietly, are_quiet, draws-once, Allowed, refuses, ended, either, row-allowed}
 

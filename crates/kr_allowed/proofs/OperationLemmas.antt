@@ -1,10 +1,10 @@
 -- Every call is allowed.
 use Rattle.std.proofs.Common.{ℕ, List, [], ◌∷◌, Option}
-use Rattle.pr_base.specs.declared.errno.Errno.{Errno}
-use Rattle.pr_base.specs.declared.errno.Errno.TheVariants.{ENOENT, ENOEXEC}
-use Rattle.kr_calls.specs.declared.request.Request.{Request}
-use Rattle.kr_calls.specs.declared.request.Request.TheVariants as call
-use Rattle.kr_view.specs.View.{Row}
+use Rattle.kr_lawful.specs.pr_base.declared.errno.Errno.{Errno}
+use Rattle.kr_lawful.specs.pr_base.declared.errno.Errno.TheVariants.{ENOENT, ENOEXEC}
+use Rattle.kr_lawful.specs.kr_calls.declared.request.Request.{Request}
+use Rattle.kr_lawful.specs.kr_calls.declared.request.Request.TheVariants as call
+use Rattle.kr_lawful.specs.kr_view.View.{Row}
 use Rattle.kr_lawful.specs.kr_model.Applied.{Mounts}
 use Rattle.kr_lawful.specs.kr_model.AttributeRows.{faccessat_row, fchmodat_row, fchownat_row, fchownat_here, newfstatat_row, newfstatat_here, readlinkat_row}
 use Rattle.kr_lawful.specs.kr_model.DirectoryRows.{chdir_row, chroot_row, getcwd_row}
@@ -228,4 +228,4 @@ module _ (M : Type 0) (number : M → ℕ) (table : List Row) (mounts : Mounts M
   each call.Getegid seen given = λ s p lawful lives holds rests. users.get (λ k. k.user.gid) s p lawful lives holds tt
 
 pub operation-is-allowed : (M : Type 0) → OperationIsAllowed M
-operation-is-allowed M number table mounts pid r seen given = each M number table mounts pid r seen given
+operation-is-allowed M number table mounts pid r seen kind given = each M number table mounts pid r seen given

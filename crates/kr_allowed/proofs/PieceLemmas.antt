@@ -2,10 +2,10 @@
 use Rattle.std.proofs.Common.{◌≡◌, ℕ, ◌+◌, ◌-◌, ◌<◌, ◌++◌, Bool, true, false, ◌&&◌, nat_lt, min, List, [], ◌∷◌, length, length-append, refl, arith}
 use Rattle.std.specs.List.{AllByRecursion}
 use Rattle.std.specs.Prelude.{map as map_list}
-use Rattle.pr_base.specs.declared.errno.Errno.TheVariants.{EFAULT, EINVAL}
-use Rattle.rv_mem.specs.declared.rights.Use.{Use}
-use Rattle.rv_mem.specs.declared.rights.Use.TheVariants.{Write}
-use Rattle.kr_tree.specs.Lawful.{AreBytes}
+use Rattle.kr_lawful.specs.pr_base.declared.errno.Errno.TheVariants.{EFAULT, EINVAL}
+use Rattle.kr_lawful.specs.rv_mem.declared.rights.Use.{Use}
+use Rattle.kr_lawful.specs.rv_mem.declared.rights.Use.TheVariants.{Write}
+use Rattle.kr_lawful.specs.kr_tree.Lawful.{AreBytes}
 use Rattle.kr_lawful.specs.kr_model.Change.{Change}
 use Rattle.kr_lawful.specs.kr_model.Pieces.{Piece, Part, asked, cut_to, move_limit, may_use_all, read_all, write_all, if_usable, hand, if_summed, with_list, pieces_of}
 use Rattle.kr_lawful.specs.kr_model.Reply.{Replying}

@@ -5,10 +5,10 @@ use Rattle.std.specs.Prelude.{◌==◌, nat_le}
 use Rattle.std.specs.Option.{IfSome}
 use Rattle.std.specs.Int.{to_le_bytes, w32}
 use Rattle.std.proofs.lemmas.List.{length-map}
-use Rattle.pr_base.specs.declared.errno.Errno.TheVariants.{EFAULT}
-use Rattle.rv_mem.proofs.LayoutLemmas.{layouts_follow}
-use Rattle.kr_view.specs.View.{Row}
-use Rattle.kr_calls.specs.Arguments.{has}
+use Rattle.kr_lawful.specs.pr_base.declared.errno.Errno.TheVariants.{EFAULT}
+use Rattle.kr_lawful.proofs.rv_mem.LayoutLemmas.{layouts_follow}
+use Rattle.kr_lawful.specs.kr_view.View.{Row}
+use Rattle.kr_lawful.specs.kr_calls.Arguments.{has}
 use Rattle.kr_lawful.specs.kr_model.Applied.{Mounts}
 use Rattle.kr_lawful.specs.kr_model.Change.{Change, Reap}
 use Rattle.kr_lawful.specs.kr_model.Conditions.{CanFork}

@@ -1,9 +1,9 @@
 -- What lasts leaves room for each number that is drawn next.
 use Rattle.std.proofs.Common.{◌≡◌, ℕ, ◌+◌, ◌<◌, ◌^◌, [], refl, arith, Option, Some, None}
 use Rattle.std.specs.Option.{option_map_or}
-use Rattle.kr_inode.proofs.EntryLemmas.{in_above}
-use Rattle.kr_tree.specs.Tree.{Inode, Entry, inode, entries_of}
-use Rattle.kr_tree.specs.Lawful.{IsIn}
+use Rattle.kr_lawful.proofs.kr_inode.EntryLemmas.{in_above}
+use Rattle.kr_lawful.specs.kr_tree.Tree.{Inode, Entry, inode, entries_of}
+use Rattle.kr_lawful.specs.kr_tree.Lawful.{IsIn}
 use Rattle.kr_allowed.specs.Lasting.{LastingHasRoom}
 
 pub lasting-room : (M X : Type 0) → LastingHasRoom M X

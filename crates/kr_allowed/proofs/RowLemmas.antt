@@ -6,20 +6,20 @@ use Rattle.std.specs.Prelude.{map as map_list, ◌==◌, nat_le}
 use Rattle.std.specs.List.{AllByRecursion, find, list_all}
 use Rattle.std.specs.Option.{option_map}
 use Rattle.std.proofs.lemmas.Bool.Decides.{nat_tests}
-use Rattle.pr_base.specs.declared.errno.Errno.{Errno}
-use Rattle.rv_mem.specs.Actions.{Action, Done, MayUse, ReadBytes, WriteBytes, carried_out, allows_uses}
-use Rattle.rv_mem.specs.declared.rights.Use.{Use}
-use Rattle.rv_mem.specs.Layout.{Layout, layout_of}
-use Rattle.rv_mem.specs.Memory.{Memory, with_pages, after_read}
-use Rattle.rv_mem.specs.Pages.{Pages, bytes_from, written, IsWhole, IsPlaced}
-use Rattle.rv_mem.proofs.LayoutLemmas.{layouts_follow}
-use Rattle.rv_mem.proofs.SpaceLemmas.{IsWhole-written, IsPlaced-written}
-use Rattle.kr_inode.specs.declared.user.User.{User}
-use Rattle.kr_tree.specs.Lawful.{AreBytes}
-use Rattle.kr_tree.specs.Tree.{Tree}
-use Rattle.kr_tree.proofs.NameLemmas.{some_is}
-use Rattle.kr_view.specs.View.{Row}
-use Rattle.rv_mem.specs.declared.regs.Regs.{Regs}
+use Rattle.kr_lawful.specs.pr_base.declared.errno.Errno.{Errno}
+use Rattle.kr_lawful.specs.rv_mem.Actions.{Action, Done, MayUse, ReadBytes, WriteBytes, carried_out, allows_uses}
+use Rattle.kr_lawful.specs.rv_mem.declared.rights.Use.{Use}
+use Rattle.kr_lawful.specs.rv_mem.Layout.{Layout, layout_of}
+use Rattle.kr_lawful.specs.rv_mem.Memory.{Memory, with_pages, after_read}
+use Rattle.kr_lawful.specs.rv_mem.Pages.{Pages, bytes_from, written, IsWhole, IsPlaced}
+use Rattle.kr_lawful.proofs.rv_mem.LayoutLemmas.{layouts_follow}
+use Rattle.kr_lawful.proofs.rv_mem.SpaceLemmas.{IsWhole-written, IsPlaced-written}
+use Rattle.kr_lawful.specs.kr_inode.declared.user.User.{User}
+use Rattle.kr_lawful.specs.kr_tree.Lawful.{AreBytes}
+use Rattle.kr_lawful.specs.kr_tree.Tree.{Tree}
+use Rattle.kr_lawful.proofs.kr_tree.NameLemmas.{some_is}
+use Rattle.kr_lawful.specs.kr_view.View.{Row}
+use Rattle.kr_lawful.specs.rv_mem.declared.regs.Regs.{Regs}
 use Rattle.kr_lawful.specs.kr_model.Applied.{Mounts, with_image, with_living}
 use Rattle.kr_lawful.specs.kr_model.Bare.{bare, bare_process}
 use Rattle.kr_lawful.specs.kr_model.Change.{Change, AddNode}

@@ -10,17 +10,17 @@ use Rattle.std.proofs.lemmas.Bool.{cases_eq}
 use Rattle.std.proofs.lemmas.Bool.Decides.{nat_tests}
 use Rattle.std.proofs.lemmas.Option.{none-some}
 use lib.Dec.{T}
-use Rattle.pr_base.proofs.MapLemmas.{ties-same, ties-other}
-use Rattle.kr_calls.specs.DirectoryEntries.{record_length}
-use Rattle.kr_tree.specs.Lawful.{IsIn}
-use Rattle.kr_tree.specs.Tree.{Inode, Node, Entry, Body, Directory, RegularFile, SymbolicLink, ProcessDirectory, entries, entries_of}
-use Rattle.kr_tree.specs.declared.place.Host.{Host}
-use Rattle.kr_tree.specs.declared.place.Host.TheVariants as host
-use Rattle.kr_tree.specs.declared.place.ProcAt.{ProcAt}
-use Rattle.kr_tree.specs.declared.place.ProcAt.TheVariants.{SelfLink, Dir, Cwd, Root, Exe, FdDir, Fd}
-use Rattle.kr_tree.proofs.NameLemmas.{some_is}
-use Rattle.kr_procfs.specs.Objects.{inode_number}
-use Rattle.kr_view.specs.View.{Row}
+use Rattle.kr_lawful.proofs.pr_base.MapLemmas.{ties-same, ties-other}
+use Rattle.kr_lawful.specs.kr_calls.DirectoryEntries.{record_length}
+use Rattle.kr_lawful.specs.kr_tree.Lawful.{IsIn}
+use Rattle.kr_lawful.specs.kr_tree.Tree.{Inode, Node, Entry, Body, Directory, RegularFile, SymbolicLink, ProcessDirectory, entries, entries_of}
+use Rattle.kr_lawful.specs.kr_tree.declared.place.Host.{Host}
+use Rattle.kr_lawful.specs.kr_tree.declared.place.Host.TheVariants as host
+use Rattle.kr_lawful.specs.kr_tree.declared.place.ProcAt.{ProcAt}
+use Rattle.kr_lawful.specs.kr_tree.declared.place.ProcAt.TheVariants.{SelfLink, Dir, Cwd, Root, Exe, FdDir, Fd}
+use Rattle.kr_lawful.proofs.kr_tree.NameLemmas.{some_is}
+use Rattle.kr_lawful.specs.kr_procfs.Objects.{inode_number}
+use Rattle.kr_lawful.specs.kr_view.View.{Row}
 use Rattle.kr_lawful.specs.kr_model.Asking.{is_over}
 use Rattle.kr_lawful.specs.kr_model.DirectoryRows.{Listed, listed_entry, listed_process, with_dots, of_processes, of_process, of_descriptors, shown_by_body, shown_by_process, shown_by, fitting, last_serial, behind}
 use Rattle.kr_lawful.specs.kr_model.Known.{Known, Family, known, family_of, known_node}

@@ -1,8 +1,8 @@
 -- The sources of mounts have good names.
 use Rattle.std.proofs.Common.{◌≡◌, ℕ, Bool, true, false, List, refl, subst, cond, Some, None, Option}
 use Rattle.std.specs.Option.{option_and_then}
-use Rattle.kr_tree.proofs.NameLemmas.{some_is}
-use Rattle.kr_view.specs.View.{Row, row, source_entry}
+use Rattle.kr_lawful.proofs.kr_tree.NameLemmas.{some_is}
+use Rattle.kr_lawful.specs.kr_view.View.{Row, row, source_entry}
 use Rattle.kr_lawful.specs.kr_model.Lawful.{IsNameOrNone}
 use Rattle.kr_allowed.specs.Told.{SettledAreNamed}
 

@@ -2,14 +2,14 @@
 use Rattle.std.specs.FinMap as map
 use Rattle.std.proofs.Common.{◌≡◌, ℕ, zero, suc, ◌+◌, ◌-◌, ◌*◌, ◌≤◌, ◌<◌, ◌^◌, Bool, true, false, List, arith, cond, nat_lt, Option, Some, None}
 use Rattle.std.specs.Option.{option_map_or, option_and_then}
-use Rattle.kr_inode.specs.declared.user.User.{User}
-use Rattle.kr_tree.specs.Tree.{Tree}
-use Rattle.kr_tree.specs.Changes as tree
-use Rattle.kr_tree.specs.declared.place.Host.{Host}
-use Rattle.kr_tree.specs.declared.place.Place.{Place}
-use Rattle.kr_files.specs.declared.opened.Opened.{Opened}
-use Rattle.kr_files.specs.Descriptors.{Meanings, Named}
-use Rattle.kr_files.specs.Files.{Table, Counted, without_file, closed, with_bytes, pipe_after_read, pipe_after_write}
+use Rattle.kr_lawful.specs.kr_inode.declared.user.User.{User}
+use Rattle.kr_lawful.specs.kr_tree.Tree.{Tree}
+use Rattle.kr_lawful.specs.kr_tree.Changes as tree
+use Rattle.kr_lawful.specs.kr_tree.declared.place.Host.{Host}
+use Rattle.kr_lawful.specs.kr_tree.declared.place.Place.{Place}
+use Rattle.kr_lawful.specs.kr_files.declared.opened.Opened.{Opened}
+use Rattle.kr_lawful.specs.kr_files.Descriptors.{Meanings, Named}
+use Rattle.kr_lawful.specs.kr_files.Files.{Table, Counted, without_file, closed, with_bytes, pipe_after_read, pipe_after_write}
 use Rattle.kr_lawful.specs.kr_model.State.{Process, State, inode_of, process, named, place_of}
 use Rattle.kr_lawful.specs.kr_model.Change.{Birth}
 use Rattle.kr_lawful.specs.kr_model.Applied.{Computing, held_at, released_at, held_for, open_in, let_go, close_named, close, copy_named, copy_over, cwd_of, exe_of, moved_to, forked_from, close_below, gone, end, executed, is_closed_on_exec, close_on_exec_below}

@@ -1,33 +1,33 @@
 -- The walks of a call over a lawful state give the targets on which it rests.
 use Rattle.std.proofs.Common.{◌≡◌, subst, ℕ, Bool, true, false, List, [], ◌∷◌, refl, sym, ap, ◌∙◌, cond, Some, None, Option, Ok, Err, Result}
 use Rattle.std.specs.Option.{option_map, option_map_or}
-use Rattle.pr_base.specs.Paths.{is_absolute}
-use Rattle.pr_base.specs.declared.errno.Errno.{Errno}
-use Rattle.pr_base.specs.declared.errno.Errno.TheVariants.{ENOENT, EBADF, ENOTDIR}
-use Rattle.kr_calls.specs.PathTable.{PathUse, path_at}
-use Rattle.kr_calls.specs.declared.request.Request.{Request}
-use Rattle.kr_calls.specs.declared.request.Request.TheVariants as call
-use Rattle.pr_base.specs.declared.path.WalkMode.TheVariants.{Name as NameMode}
+use Rattle.kr_lawful.specs.pr_base.Paths.{is_absolute}
+use Rattle.kr_lawful.specs.pr_base.declared.errno.Errno.{Errno}
+use Rattle.kr_lawful.specs.pr_base.declared.errno.Errno.TheVariants.{ENOENT, EBADF, ENOTDIR}
+use Rattle.kr_lawful.specs.kr_calls.PathTable.{PathUse, path_at}
+use Rattle.kr_lawful.specs.kr_calls.declared.request.Request.{Request}
+use Rattle.kr_lawful.specs.kr_calls.declared.request.Request.TheVariants as call
+use Rattle.kr_lawful.specs.pr_base.declared.path.WalkMode.TheVariants.{Name as NameMode}
 use Rattle.std.specs.Prelude.{◌==◌}
-use Rattle.kr_tree.specs.Tree.{Inode, inode, is_directory}
-use Rattle.kr_tree.specs.declared.place.Place.{Place}
-use Rattle.kr_tree.proofs.CountLemmas.{there}
-use Rattle.kr_tree.proofs.NameLemmas.{some_is, then_some}
-use Rattle.kr_view.specs.InTree.{IsObjectOf, IsPlaceOf, LeadToPlaces, StandsAround}
-use Rattle.kr_view.specs.Laws.{IsSettledSource}
-use Rattle.kr_view.specs.View.{Row, is_there, root_place}
-use Rattle.kr_view.specs.Walk.{PlaceTarget, place_walk}
-use Rattle.kr_view.proofs.TableLemmas.{laws_of_places}
-use Rattle.kr_files.specs.declared.opened.Opened.{Opened}
-use Rattle.kr_files.specs.Descriptors.{Named}
-use Rattle.kr_files.specs.Files.{file_at}
+use Rattle.kr_lawful.specs.kr_tree.Tree.{Inode, inode, is_directory}
+use Rattle.kr_lawful.specs.kr_tree.declared.place.Place.{Place}
+use Rattle.kr_lawful.proofs.kr_tree.CountLemmas.{there}
+use Rattle.kr_lawful.proofs.kr_tree.NameLemmas.{some_is, then_some}
+use Rattle.kr_lawful.specs.kr_view.InTree.{IsObjectOf, IsPlaceOf, LeadToPlaces, StandsAround}
+use Rattle.kr_lawful.specs.kr_view.Laws.{IsSettledSource}
+use Rattle.kr_lawful.specs.kr_view.View.{Row, is_there, root_place}
+use Rattle.kr_lawful.specs.kr_view.Walk.{PlaceTarget, place_walk}
+use Rattle.kr_lawful.proofs.kr_view.TableLemmas.{laws_of_places}
+use Rattle.kr_lawful.specs.kr_files.declared.opened.Opened.{Opened}
+use Rattle.kr_lawful.specs.kr_files.Descriptors.{Named}
+use Rattle.kr_lawful.specs.kr_files.Files.{file_at}
 use Rattle.kr_lawful.specs.kr_model.Applied.{cwd_of}
 use Rattle.kr_lawful.specs.kr_model.Asking.{descriptor_number, is_working_directory}
 use Rattle.kr_lawful.specs.kr_model.FileRows.{is_dir}
 use Rattle.kr_lawful.specs.kr_model.Known.{known}
 use Rattle.kr_lawful.specs.kr_model.Operation.{operation}
 use Rattle.kr_lawful.specs.kr_model.Seen.{WalkFails}
-use Rattle.rv_mem.specs.Actions.{carried_out}
+use Rattle.kr_lawful.specs.rv_mem.Actions.{carried_out}
 use Rattle.kr_allowed.specs.Allowed.{LeavesLawful}
 use Rattle.kr_lawful.specs.kr_model.Lawful.{IsLawful, IsOpenIn}
 use Rattle.kr_lawful.specs.kr_model.ProcessDirectory.{around_of, leads_of}
@@ -209,9 +209,9 @@ pub calls-walk-to-targets : CallsWalkToTargets
 calls-walk-to-targets table pid s r targets lawful leads e good = are-targets table pid s lawful leads r targets e good
 
 pub walked-calls-leave-lawful : WalkedCallsLeaveLawful
-walked-calls-leave-lawful table pid s p r lawful lives holds small given sources leads good = by (targets_of table pid s r) refl
+walked-calls-leave-lawful table pid s p r kind lawful lives holds small given sources leads good = by (targets_of table pid s r) refl
   where
     by : (walked : Result Targets Errno) → targets_of table pid s r ≡ walked
         → LeavesLawful (λ m. m) table (mounts_walked walked) pid s (carried_out (operation pid r (seen_of table pid s r walked) (known image_layout pid s)) p.image.memory)
-    by (Ok targets) e = calls-leave-lawful table pid s p r targets lawful lives holds small given sources (calls-walk-to-targets table pid s r targets lawful leads e (good targets e))
-    by (Err errno) e = operation-is-allowed ℕ (λ m. m) table (mounts_walked (Err errno)) pid r (WalkFails errno) given s p lawful lives holds (small, tt)
+    by (Ok targets) e = calls-leave-lawful table pid s p r targets kind lawful lives holds small given sources (calls-walk-to-targets table pid s r targets lawful leads e (good targets e))
+    by (Err errno) e = operation-is-allowed ℕ (λ m. m) table (mounts_walked (Err errno)) pid r (WalkFails errno) kind given s p lawful lives holds (small, tt)

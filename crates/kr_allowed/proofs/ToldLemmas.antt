@@ -2,16 +2,16 @@
 use Rattle.std.proofs.Common.{◌≡◌, subst, ℕ, Bool, true, false, List, refl, sym, ap, ◌∙◌, cond, Some, None, Option}
 use Rattle.std.specs.Prelude.{◌==◌}
 use Rattle.std.specs.Option.{option_map, option_map_or, option_and_then}
-use Rattle.pr_base.specs.declared.errno.Errno.TheVariants.{ENOENT}
-use Rattle.pr_base.specs.declared.path.Last.{Last}
-use Rattle.pr_base.specs.declared.path.Last.TheVariants as last
-use Rattle.kr_calls.specs.declared.request.Request.{Request}
-use Rattle.kr_calls.specs.declared.request.Request.TheVariants as call
-use Rattle.kr_tree.specs.declared.place.Place.{Place}
-use Rattle.kr_tree.proofs.NameLemmas.{map_some, some_is}
-use Rattle.kr_view.specs.View.{Row, source, is_there}
-use Rattle.kr_view.specs.Component.{is_directory_at}
-use Rattle.kr_view.specs.Walk.{PlaceTarget}
+use Rattle.kr_lawful.specs.pr_base.declared.errno.Errno.TheVariants.{ENOENT}
+use Rattle.kr_lawful.specs.pr_base.declared.path.Last.{Last}
+use Rattle.kr_lawful.specs.pr_base.declared.path.Last.TheVariants as last
+use Rattle.kr_lawful.specs.kr_calls.declared.request.Request.{Request}
+use Rattle.kr_lawful.specs.kr_calls.declared.request.Request.TheVariants as call
+use Rattle.kr_lawful.specs.kr_tree.declared.place.Place.{Place}
+use Rattle.kr_lawful.proofs.kr_tree.NameLemmas.{map_some, some_is}
+use Rattle.kr_lawful.specs.kr_view.View.{Row, source, is_there}
+use Rattle.kr_lawful.specs.kr_view.Component.{is_directory_at}
+use Rattle.kr_lawful.specs.kr_view.Walk.{PlaceTarget}
 use Rattle.kr_lawful.specs.kr_model.FileRows.{creates}
 use Rattle.kr_lawful.specs.kr_model.Lawful.{IsNameOrNone}
 use Rattle.kr_lawful.specs.kr_model.Seen.{Seen, Looked, OpensSlashed, OpensFound, OpensNew, OpensNoName, TakesCovered, Takes, TakesNoName, Makes, MakesOver, MakesNoName, NoPath, WalkFails, LooksUp, ReadsLink, Opens, Links}
@@ -232,5 +232,5 @@ pub targets-are-told : TargetsAreTold
 targets-are-told table pid s r targets sources are = so table sources pid s targets r are
 
 pub calls-leave-lawful : CallsLeaveLawful
-calls-leave-lawful table pid s p r targets lawful lives holds small given sources are =
-    operation-is-allowed ℕ (λ m. m) table (mounts_of targets) pid r (told table pid s r targets) given s p lawful lives holds (small, targets-are-told table pid s r targets sources are)
+calls-leave-lawful table pid s p r targets kind lawful lives holds small given sources are =
+    operation-is-allowed ℕ (λ m. m) table (mounts_of targets) pid r (told table pid s r targets) kind given s p lawful lives holds (small, targets-are-told table pid s r targets sources are)

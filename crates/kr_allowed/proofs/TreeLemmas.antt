@@ -2,11 +2,11 @@
 use Rattle.std.specs.FinMap as map
 use Rattle.std.proofs.Common.{◌≡◌, ℕ, suc, ◌+◌, ◌-◌, ◌≤◌, ◌<◌, ◌^◌, Bool, true, false, List, sym, subst, ◌∙◌, arith, cond, Option, Some, None, nat_eq}
 use Rattle.std.specs.Option.{option_map_or}
-use Rattle.kr_inode.specs.declared.standing.Standing.{Standing}
-use Rattle.pr_base.proofs.MapLemmas.{get-insert_same, get-insert_other, get-remove_same, get-remove_other, by_key, each-changed}
-use Rattle.kr_tree.proofs.NameLemmas.{some_is}
-use Rattle.kr_tree.specs.Tree.{Tree, Inodes, Inode, Entry, Body, Directory, RegularFile, SymbolicLink, ProcessDirectory, entry, body_is, is_directory}
-use Rattle.kr_tree.specs.Changes.{with_entries, with_standing, with_bytes, with_body, with_mode, with_owner, with_entry, without_entry, without_name, with_names, with_holds, unnamed, fresh, with_inode, next_standing, added, linked, is_unused_at, without_unused, unlinked, removed, moved, renamed_onto, renamed, held, released, mode_set, owner_set, bytes_set}
+use Rattle.kr_lawful.specs.kr_inode.declared.standing.Standing.{Standing}
+use Rattle.kr_lawful.proofs.pr_base.MapLemmas.{get-insert_same, get-insert_other, get-remove_same, get-remove_other, by_key, each-changed}
+use Rattle.kr_lawful.proofs.kr_tree.NameLemmas.{some_is}
+use Rattle.kr_lawful.specs.kr_tree.Tree.{Tree, Inodes, Inode, Entry, Body, Directory, RegularFile, SymbolicLink, ProcessDirectory, entry, body_is, is_directory}
+use Rattle.kr_lawful.specs.kr_tree.Changes.{with_entries, with_standing, with_bytes, with_body, with_mode, with_owner, with_entry, without_entry, without_name, with_names, with_holds, unnamed, fresh, with_inode, next_standing, added, linked, is_unused_at, without_unused, unlinked, removed, moved, renamed_onto, renamed, held, released, mode_set, owner_set, bytes_set}
 use Rattle.kr_allowed.specs.Lasting.{HasText}
 
 -- ---- one body

@@ -1,30 +1,30 @@
 -- What walks give of their targets.
 use Rattle.std.proofs.Common.{◌≡◌, ◌≢◌, subst, ℕ, Bool, true, false, List, refl, sym, ap, ◌∙◌, cond, Some, None, Option, IsSome, Ok}
 use Rattle.std.specs.Option.{option_map, option_map_or}
-use Rattle.pr_base.specs.Paths.{Dot, DotDot, Name}
-use Rattle.pr_base.specs.WalkFrame.{Landing, Fails}
-use Rattle.pr_base.specs.WalkLaws.{IsShown, Shows}
-use Rattle.pr_base.specs.declared.errno.Errno.TheVariants.{EACCES, ENAMETOOLONG, ENOTDIR}
-use Rattle.pr_base.specs.declared.path.Last.{Last}
-use Rattle.pr_base.specs.declared.path.Last.TheVariants as last
-use Rattle.pr_base.specs.declared.path.WalkMode.{WalkMode}
-use Rattle.pr_base.specs.declared.path.WalkMode.TheVariants.{Name as NameMode}
-use Rattle.pr_base.proofs.EndLemmas.{found_is_shown, jump_is_shown}
-use Rattle.kr_tree.specs.Lawful.{HasItsInodes}
-use Rattle.kr_tree.specs.Tree.{Tree, Inode, Body, Directory, RegularFile, SymbolicLink, ProcessDirectory, inode, body, entry, body_is, takes_names, is_directory}
-use Rattle.kr_tree.specs.declared.place.Host.TheVariants.{Node}
-use Rattle.kr_tree.specs.declared.place.Place.{Place}
-use Rattle.kr_tree.proofs.EntryLemmas.{entered}
-use Rattle.kr_tree.proofs.NameLemmas.{some_is}
-use Rattle.kr_view.specs.View.{covered, down, is_there, node_in}
-use Rattle.kr_view.specs.Component.{Surroundings, is_processes, is_directory_at, may_search, look_up, too_long, through_point, seen_in_processes, seen_entry, seen_body, seen_at, named_in}
-use Rattle.kr_view.specs.InTree.{StandsAround}
-use Rattle.kr_view.specs.Laws.{LawsOfPlaces, IsSettledSource}
-use Rattle.kr_view.specs.Walk.{PlaceTarget, looking, place_walk}
-use Rattle.kr_view.proofs.PlaceLemmas.{walks_keep_places}
-use Rattle.kr_view.proofs.TableLemmas.{laws_of_places}
+use Rattle.kr_lawful.specs.pr_base.Paths.{Dot, DotDot, Name}
+use Rattle.kr_lawful.specs.pr_base.WalkFrame.{Landing, Fails}
+use Rattle.kr_lawful.specs.pr_base.WalkLaws.{IsShown, Shows}
+use Rattle.kr_lawful.specs.pr_base.declared.errno.Errno.TheVariants.{EACCES, ENAMETOOLONG, ENOTDIR}
+use Rattle.kr_lawful.specs.pr_base.declared.path.Last.{Last}
+use Rattle.kr_lawful.specs.pr_base.declared.path.Last.TheVariants as last
+use Rattle.kr_lawful.specs.pr_base.declared.path.WalkMode.{WalkMode}
+use Rattle.kr_lawful.specs.pr_base.declared.path.WalkMode.TheVariants.{Name as NameMode}
+use Rattle.kr_lawful.proofs.pr_base.EndLemmas.{found_is_shown, jump_is_shown}
+use Rattle.kr_lawful.specs.kr_tree.Lawful.{HasItsInodes}
+use Rattle.kr_lawful.specs.kr_tree.Tree.{Tree, Inode, Body, Directory, RegularFile, SymbolicLink, ProcessDirectory, inode, body, entry, body_is, takes_names, is_directory}
+use Rattle.kr_lawful.specs.kr_tree.declared.place.Host.TheVariants.{Node}
+use Rattle.kr_lawful.specs.kr_tree.declared.place.Place.{Place}
+use Rattle.kr_lawful.proofs.kr_tree.EntryLemmas.{entered}
+use Rattle.kr_lawful.proofs.kr_tree.NameLemmas.{some_is}
+use Rattle.kr_lawful.specs.kr_view.View.{covered, down, is_there, node_in}
+use Rattle.kr_lawful.specs.kr_view.Component.{Surroundings, is_processes, is_directory_at, may_search, look_up, too_long, through_point, seen_in_processes, seen_entry, seen_body, seen_at, named_in}
+use Rattle.kr_lawful.specs.kr_view.InTree.{StandsAround}
+use Rattle.kr_lawful.specs.kr_view.Laws.{LawsOfPlaces, IsSettledSource}
+use Rattle.kr_lawful.specs.kr_view.Walk.{PlaceTarget, looking, place_walk}
+use Rattle.kr_lawful.proofs.kr_view.PlaceLemmas.{walks_keep_places}
+use Rattle.kr_lawful.proofs.kr_view.TableLemmas.{laws_of_places}
 use Rattle.kr_allowed.specs.Told.{IsTargetIn, IsEntryOf, HasGoodName, WalksGiveTargets}
-use Rattle.kr_view.proofs.StayingLemmas.{names-stay}
+use Rattle.kr_lawful.proofs.kr_view.StayingLemmas.{names-stay}
 
 abbrev IsLastName : Last → Type 0
 IsLastName last.Name = Unit {0}

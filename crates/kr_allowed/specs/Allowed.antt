@@ -1,11 +1,11 @@
 -- A row that is allowed: to a living caller in a lawful state it replies changes that can all be made, and so it leaves a
 -- lawful state.
 use Rattle.std.specs.Prelude.{ℕ, ◌≡◌, ◌<◌, List, Some}
-use Rattle.rv_mem.specs.Actions.{CarriedOut, carried_out}
-use Rattle.rv_mem.specs.Memory.{Memory}
-pub use Rattle.rv_mem.specs.Pages.{HoldsBytes}
-use Rattle.kr_tree.specs.Tree.{Tree}
-use Rattle.kr_view.specs.View.{Row}
+use Rattle.kr_lawful.specs.rv_mem.Actions.{CarriedOut, carried_out}
+use Rattle.kr_lawful.specs.rv_mem.Memory.{Memory}
+pub use Rattle.kr_lawful.specs.rv_mem.Pages.{HoldsBytes}
+use Rattle.kr_lawful.specs.kr_tree.Tree.{Tree}
+use Rattle.kr_lawful.specs.kr_view.View.{Row}
 use Rattle.kr_lawful.specs.kr_model.Applied.{Mounts, all_applied, images, with_image, with_living}
 use Rattle.kr_lawful.specs.kr_model.Known.{Known, known}
 use Rattle.kr_lawful.specs.kr_model.Lawful.{IsLawful}

@@ -1,17 +1,17 @@
--- Every call is allowed, of what it is told of its paths and of arguments that decoding gives.
+-- Every call but execve is allowed, of what it is told of its paths and of arguments that decoding gives.
 use Rattle.std.specs.Prelude.{ℕ, ◌≡◌, ◌≢◌, ◌<◌, ◌^◌, List, Ok, Some}
-use Rattle.rv_mem.specs.Actions.{carried_out}
-use Rattle.rv_mem.specs.Memory.{Memory}
-use Rattle.rv_mem.specs.declared.regs.Regs.{Regs}
-use Rattle.kr_calls.specs.Decoding.{decoding}
-use Rattle.kr_calls.specs.PathTable.{PathUse, path_at}
-use Rattle.kr_calls.specs.declared.request.Request.{Request}
-use Rattle.kr_calls.specs.declared.request.Request.TheVariants as call
-use Rattle.kr_tree.specs.Lawful.{AreBytes}
-use Rattle.kr_tree.specs.Tree.{Tree}
-use Rattle.kr_view.specs.View.{Row}
+use Rattle.kr_lawful.specs.rv_mem.Actions.{carried_out}
+use Rattle.kr_lawful.specs.rv_mem.Memory.{Memory}
+use Rattle.kr_lawful.specs.rv_mem.declared.regs.Regs.{Regs}
+use Rattle.kr_lawful.specs.kr_calls.Decoding.{decoding}
+use Rattle.kr_lawful.specs.kr_calls.PathTable.{PathUse, path_at}
+use Rattle.kr_lawful.specs.kr_calls.declared.request.Request.{Request}
+use Rattle.kr_lawful.specs.kr_calls.declared.request.Request.TheVariants as call
+use Rattle.kr_lawful.specs.kr_tree.Lawful.{AreBytes}
+use Rattle.kr_lawful.specs.kr_tree.Tree.{Tree}
+use Rattle.kr_lawful.specs.kr_view.View.{Row}
 use Rattle.kr_lawful.specs.kr_model.Applied.{Mounts}
-use Rattle.kr_lawful.specs.kr_model.Operation.{operation}
+use Rattle.kr_lawful.specs.kr_model.Operation.{IsNoExec, operation}
 use Rattle.kr_lawful.specs.kr_model.Seen.{Seen, NoPath, WalkFails, LooksUp, ReadsLink, Opens, TakesEntry, MakesEntry, Links, Moves, NamesDirectory}
 use Rattle.kr_allowed.specs.Texts.{IsText}
 use Rattle.kr_allowed.specs.Allowed.{HoldsBytes, IsAllowedWhere}
@@ -45,7 +45,7 @@ module _ {M : Type 0} (number : M → ℕ) (table : List Row) (mounts : Mounts M
 
 abbrev pub OperationIsAllowed : Type 0 → Type 0
 OperationIsAllowed M =
-    (number : M → ℕ) (table : List Row) (mounts : Mounts M) (pid : ℕ) (r : Request) (seen : Seen) → IsGivable r
+    (number : M → ℕ) (table : List Row) (mounts : Mounts M) (pid : ℕ) (r : Request) (seen : Seen) → IsNoExec r → IsGivable r
     → IsAllowedWhere number table mounts pid (RestsOn number table mounts seen) (λ k. operation pid r seen k)
 
 -- and the paths that it gives are texts, of bytes

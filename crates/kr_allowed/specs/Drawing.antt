@@ -1,6 +1,6 @@
 -- Numbers that are drawn in order, each once: those of inodes, of a directory's serials, of open files, of pipes and of processes.
 use Rattle.std.specs.Prelude.{◌≡◌, ℕ, ◌+◌, ◌*◌, ◌≤◌, ◌<◌, ◌^◌, List, [], ◌∷◌, Some}
-use Rattle.kr_tree.specs.Tree.{Inode, inode}
+use Rattle.kr_lawful.specs.kr_tree.Tree.{Inode, inode}
 use Rattle.kr_lawful.specs.kr_model.Change.{Change, AddNode, LinkNode, MoveName, OpenFile, MakePipe, Fork}
 use Rattle.kr_lawful.specs.kr_model.State.{State}
 

@@ -2,11 +2,11 @@
 -- numbers that are drawn.
 use Rattle.std.specs.Prelude.{◌≡◌, ℕ, suc, ◌+◌, ◌<◌, ◌^◌, List, Some}
 use Rattle.std.specs.List.{AllByRecursion}
-use Rattle.kr_inode.specs.declared.user.User.{User}
-use Rattle.kr_tree.specs.Changes.{next_serial}
-use Rattle.kr_tree.specs.Lawful.{IsSound, IsIn}
-use Rattle.kr_tree.specs.Tree.{Tree, Body, Directory, RegularFile, SymbolicLink, ProcessDirectory, Inode, Entry, inode, entries}
-use Rattle.kr_view.specs.View.{Row}
+use Rattle.kr_lawful.specs.kr_inode.declared.user.User.{User}
+use Rattle.kr_lawful.specs.kr_tree.Changes.{next_serial}
+use Rattle.kr_lawful.specs.kr_tree.Lawful.{IsSound, IsIn}
+use Rattle.kr_lawful.specs.kr_tree.Tree.{Tree, Body, Directory, RegularFile, SymbolicLink, ProcessDirectory, Inode, Entry, inode, entries}
+use Rattle.kr_lawful.specs.kr_view.View.{Row}
 use Rattle.kr_lawful.specs.kr_model.Applied.{Mounts, all_applied, images}
 use Rattle.kr_lawful.specs.kr_model.Change.{Change, AddNode}
 use Rattle.kr_lawful.specs.kr_model.Lawful.{IsLawful}

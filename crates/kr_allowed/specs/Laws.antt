@@ -1,7 +1,7 @@
 -- Which rows are allowed, of every machine.
 use Rattle.std.specs.Prelude.{ℕ, ◌≢◌, ◌<◌, ◌^◌, Bool, List, Option, ℤ}
-use Rattle.kr_tree.specs.Lawful.{AreBytes}
-use Rattle.kr_view.specs.View.{Row}
+use Rattle.kr_lawful.specs.kr_tree.Lawful.{AreBytes}
+use Rattle.kr_lawful.specs.kr_view.View.{Row}
 use Rattle.kr_lawful.specs.kr_model.Applied.{Mounts}
 use Rattle.kr_lawful.specs.kr_model.AttributeRows.{faccessat_row, fchmod_row, fchmodat_row, fchown_row, fchownat_row, fchownat_here as chown_here, fstat_row, newfstatat_row, newfstatat_here as stat_here, readlinkat_row}
 use Rattle.kr_lawful.specs.kr_model.DescriptorRows.{dup_row, dup3_row, fcntl_row, ioctl_row, close_row, pipe2_row, lseek_row}

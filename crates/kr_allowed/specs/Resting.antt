@@ -1,13 +1,13 @@
 -- What rows rest on beside a lawful state: the bounds of a machine's numbers, and what the walks of a call's paths give.
 use Rattle.std.specs.Prelude.{ℕ, ◌≡◌, ◌≤◌, ◌<◌, ◌^◌, true, false, List, Option, Some, None}
-use Rattle.kr_tree.specs.Lawful.{AreBytes, IsIn}
-use Rattle.kr_tree.specs.Names.{is_name}
-use Rattle.kr_tree.specs.Tree.{Tree, Inode, Entry, inode, entry, entries, body_is, takes_names}
-use Rattle.kr_tree.specs.declared.place.Host.{Host}
-use Rattle.kr_tree.specs.declared.place.Host.TheVariants.{Node}
-use Rattle.kr_view.specs.View.{Row, covered}
-use Rattle.kr_view.specs.InTree.{IsPlaceOf}
-use Rattle.kr_view.specs.Leads.{numbered}
+use Rattle.kr_lawful.specs.kr_tree.Lawful.{AreBytes, IsIn}
+use Rattle.kr_lawful.specs.kr_tree.Names.{is_name}
+use Rattle.kr_lawful.specs.kr_tree.Tree.{Tree, Inode, Entry, inode, entry, entries, body_is, takes_names}
+use Rattle.kr_lawful.specs.kr_tree.declared.place.Host.{Host}
+use Rattle.kr_lawful.specs.kr_tree.declared.place.Host.TheVariants.{Node}
+use Rattle.kr_lawful.specs.kr_view.View.{Row, covered}
+use Rattle.kr_lawful.specs.kr_view.InTree.{IsPlaceOf}
+use Rattle.kr_lawful.specs.kr_view.Leads.{numbered}
 use Rattle.kr_lawful.specs.kr_model.Applied.{Mounts}
 use Rattle.kr_lawful.specs.kr_model.Lawful.{IsNameOrNone}
 use Rattle.kr_lawful.specs.kr_model.Seen.{Looked, Entered, Taken, TakesNoName, TakesCovered, Takes, Made, MakesNoName, MakesOver, Makes, Opening, OpensNoName, OpensSlashed, OpensFound, OpensNew}

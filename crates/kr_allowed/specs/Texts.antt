@@ -1,7 +1,7 @@
 -- Texts, and the links that have them.
 use Rattle.std.specs.Prelude.{◌≡◌, ◌≢◌, ℕ, List, Some}
 use Rattle.std.specs.List.{All}
-use Rattle.kr_tree.specs.Tree.{Tree, SymbolicLink, body}
+use Rattle.kr_lawful.specs.kr_tree.Tree.{Tree, SymbolicLink, body}
 
 -- no byte of a text is zero, since a text ends with its first one
 abbrev pub IsText : List ℕ → Type 0

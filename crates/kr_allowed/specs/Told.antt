@@ -1,25 +1,25 @@
 -- Calls over a state of which the mounts are numbers, with the targets of their paths.
 use Rattle.std.specs.Prelude.{ℕ, ◌≡◌, Bool, true, false, List, Some, None, Result, Ok, Err}
-use Rattle.pr_base.specs.declared.errno.Errno.{Errno}
-use Rattle.pr_base.specs.declared.path.Last.TheVariants as last
-use Rattle.pr_base.specs.declared.path.WalkMode.{WalkMode}
-use Rattle.pr_base.specs.declared.path.WalkMode.TheVariants.{Name as NameMode}
-use Rattle.rv_mem.specs.Actions.{carried_out}
-use Rattle.kr_calls.specs.declared.request.Request.{Request}
-use Rattle.kr_calls.specs.declared.request.Request.TheVariants as call
-use Rattle.kr_tree.specs.Tree.{Tree, entry, body_is, takes_names}
-use Rattle.kr_tree.specs.declared.place.Host.TheVariants.{Node}
-use Rattle.kr_tree.specs.declared.place.Place.{Place}
-use Rattle.kr_view.specs.View.{Row, covered, source, IsAsSettled}
-use Rattle.kr_tree.specs.Lawful.{AreBytes}
-use Rattle.kr_tree.specs.Names.{is_name}
-use Rattle.kr_view.specs.Component.{Surroundings, is_directory_at}
-use Rattle.kr_view.specs.InTree.{IsPlaceOf, LeadToPlaces, StandsAround}
-use Rattle.kr_view.specs.Walk.{PlaceTarget, place_walk}
+use Rattle.kr_lawful.specs.pr_base.declared.errno.Errno.{Errno}
+use Rattle.kr_lawful.specs.pr_base.declared.path.Last.TheVariants as last
+use Rattle.kr_lawful.specs.pr_base.declared.path.WalkMode.{WalkMode}
+use Rattle.kr_lawful.specs.pr_base.declared.path.WalkMode.TheVariants.{Name as NameMode}
+use Rattle.kr_lawful.specs.rv_mem.Actions.{carried_out}
+use Rattle.kr_lawful.specs.kr_calls.declared.request.Request.{Request}
+use Rattle.kr_lawful.specs.kr_calls.declared.request.Request.TheVariants as call
+use Rattle.kr_lawful.specs.kr_tree.Tree.{Tree, entry, body_is, takes_names}
+use Rattle.kr_lawful.specs.kr_tree.declared.place.Host.TheVariants.{Node}
+use Rattle.kr_lawful.specs.kr_tree.declared.place.Place.{Place}
+use Rattle.kr_lawful.specs.kr_view.View.{Row, covered, source, IsAsSettled}
+use Rattle.kr_lawful.specs.kr_tree.Lawful.{AreBytes}
+use Rattle.kr_lawful.specs.kr_tree.Names.{is_name}
+use Rattle.kr_lawful.specs.kr_view.Component.{Surroundings, is_directory_at}
+use Rattle.kr_lawful.specs.kr_view.InTree.{IsPlaceOf, LeadToPlaces, StandsAround}
+use Rattle.kr_lawful.specs.kr_view.Walk.{PlaceTarget, place_walk}
 use Rattle.kr_lawful.specs.kr_model.Applied.{Mounts}
 use Rattle.kr_lawful.specs.kr_model.Known.{known}
 use Rattle.kr_lawful.specs.kr_model.Lawful.{IsLawful, IsNameOrNone}
-use Rattle.kr_lawful.specs.kr_model.Operation.{operation}
+use Rattle.kr_lawful.specs.kr_model.Operation.{IsNoExec, operation}
 use Rattle.kr_lawful.specs.kr_model.ProcessDirectory.{leads_of}
 use Rattle.kr_lawful.specs.kr_model.State.{Image, image_layout, Process, State, process}
 use Rattle.kr_lawful.specs.kr_model.Walks.{Targets, mounts_of, targets_of, told, seen}
@@ -70,10 +70,10 @@ TargetsAreTold =
     (table : List Row) (pid : ℕ) (s : State ℕ Image) (r : Request) (targets : Targets) → SourcesAreNamed table → AreTargetsIn s.tree table r targets
     → IsToldIn (λ m. m) table (mounts_of targets) s.tree (told table pid s r targets)
 
--- and so a call leaves a lawful state
+-- and so a call other than execve leaves a lawful state
 abbrev pub CallsLeaveLawful : Type 0
 CallsLeaveLawful =
-    (table : List Row) (pid : ℕ) (s : State ℕ Image) (p : Process ℕ Image) (r : Request) (targets : Targets)
+    (table : List Row) (pid : ℕ) (s : State ℕ Image) (p : Process ℕ Image) (r : Request) (targets : Targets) → IsNoExec r
     → IsLawful (λ m. m) table s → process pid s ≡ Some p → HoldsBytes p.image.memory.pages → HasSmallNumbers s.tree s.next_pid → IsGivable r
     → SourcesAreNamed table → AreTargetsIn s.tree table r targets
     → LeavesLawful (λ m. m) table (mounts_of targets) pid s (carried_out (operation pid r (told table pid s r targets) (known image_layout pid s)) p.image.memory)
@@ -111,10 +111,10 @@ abbrev pub mounts_walked : Result Targets Errno → Mounts ℕ
 mounts_walked (Ok targets) = mounts_of targets
 mounts_walked (Err e) = record { found = None; directory = None }
 
--- a call on a lawful state leaves one, whatever its walks come to
+-- a call other than execve on a lawful state leaves one, whatever its walks come to
 abbrev pub WalkedCallsLeaveLawful : Type 0
 WalkedCallsLeaveLawful =
-    (table : List Row) (pid : ℕ) (s : State ℕ Image) (p : Process ℕ Image) (r : Request)
+    (table : List Row) (pid : ℕ) (s : State ℕ Image) (p : Process ℕ Image) (r : Request) → IsNoExec r
     → IsLawful (λ m. m) table s → process pid s ≡ Some p → HoldsBytes p.image.memory.pages → HasSmallNumbers s.tree s.next_pid → IsGivable r
     → SourcesAreNamed table → LeadToPlaces s.tree table (leads_of table s pid) → ((targets : Targets) → targets_of table pid s r ≡ Ok targets → AreGoodTargets s.tree targets)
     → LeavesLawful (λ m. m) table (mounts_walked (targets_of table pid s r)) pid s (carried_out (operation pid r (seen table pid s r) (known image_layout pid s)) p.image.memory)

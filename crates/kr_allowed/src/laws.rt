@@ -48,7 +48,7 @@ pub fn opening_is_allowed<T>()
     ensures { OpeningIsAllowed T }
 {}
 
-/// And so does every call: the changes that it replies can all be made, one behind the other.
+/// And so does every call but execve(2): the changes that it replies can all be made, one behind the other.
 pub fn operation_is_allowed<T>()
     ensures { OperationIsAllowed T }
 {}
@@ -78,12 +78,12 @@ pub fn targets_are_told()
     ensures { TargetsAreTold }
 {}
 
-/// With such targets every call on a lawful state leaves one, and names the mounts of its first path's target.
+/// With such targets every call but execve(2) on a lawful state leaves one, and names the mounts of its first path's target.
 pub fn calls_leave_lawful()
     ensures { CallsLeaveLawful }
 {}
 
-/// And so does every call with its walks, whatever they come to.
+/// And so does every call but execve(2) with its walks, whatever they come to.
 pub fn walked_calls_leave_lawful()
     ensures { WalkedCallsLeaveLawful }
 {}

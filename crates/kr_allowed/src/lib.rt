@@ -2,5 +2,6 @@
 //! to call beside that.
 #![tactic(auto)]
 
+pub mod below;
 pub mod lasting;
 pub mod laws;

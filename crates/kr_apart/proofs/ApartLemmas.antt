@@ -3,36 +3,36 @@ use Rattle.std.proofs.Common.{◌≡◌, ◌≢◌, inl, inr, ◌<◌, ◌%◌, 
 use Rattle.std.specs.Prelude.{Result, Ok, Err, pos, neg_ℤ, slice_get, true, false}
 use Rattle.std.specs.List.{filter}
 use Rattle.std.specs.Option.{option_map_or}
-use Rattle.pr_base.specs.Errno.{errno_number}
-use Rattle.pr_base.specs.declared.errno.Errno.{Errno}
-use Rattle.rv_mem.specs.Actions.{CarriedOut, carried_out}
-use Rattle.rv_mem.specs.Memory.{Memory}
-use Rattle.rv_mem.specs.declared.regs.Regs.{Regs}
-use Rattle.rv_cpu.specs.Run.{Ran, after_one, counted, ran, ran_holding}
-use Rattle.rv_cpu.specs.Step.{Stepped, step}
-use Rattle.rv_cpu.specs.declared.event.Event.{Event}
-use Rattle.rv_cpu.specs.declared.event.Event.TheVariants.{Next, Call, Killed}
-use Rattle.rv_cpu.specs.declared.reservation.Held.{Held}
-use Rattle.kr_calls.specs.Decoding.{decoding}
-use Rattle.kr_calls.specs.declared.request.Request.{Request}
-use Rattle.kr_calls.specs.declared.request.Request.TheVariants as call
-use Rattle.kr_view.specs.View.{Row}
-use Rattle.kr_model.specs.Applied.{Mounts, all_applied, images, with_image, with_living}
-use Rattle.kr_model.specs.Change.{End}
-use Rattle.kr_model.specs.State.{Image, Process, State, process, with_process}
-use Rattle.kr_model.specs.Walks.{targets_of}
-use Rattle.kr_model.specs.declared.outcome.Outcome.{Outcome}
-use Rattle.kr_model.specs.declared.outcome.Outcome.TheVariants.{Answer, Wait, Ended, NoMemory}
-use Rattle.kr_allowed.specs.Told.{mounts_walked}
-use Rattle.kr_seen.specs.Carrying.{memory_of, with_memory, with_memory_of}
-use Rattle.kr_calm.specs.Shelf.{shelved_by}
-use Rattle.kr_execve.specs.Execution.{Program, changes_of, execution, mount_of}
+use Rattle.kr_turns.specs.pr_base.Errno.{errno_number}
+use Rattle.kr_turns.specs.pr_base.declared.errno.Errno.{Errno}
+use Rattle.kr_others.specs.rv_mem.Actions.{CarriedOut, carried_out}
+use Rattle.kr_others.specs.rv_mem.Memory.{Memory}
+use Rattle.kr_others.specs.rv_mem.declared.regs.Regs.{Regs}
+use Rattle.kr_turns.specs.rv_cpu.Run.{Ran, after_one, counted, ran, ran_holding}
+use Rattle.kr_turns.specs.rv_cpu.Step.{Stepped, step}
+use Rattle.kr_turns.specs.rv_cpu.declared.event.Event.{Event}
+use Rattle.kr_turns.specs.rv_cpu.declared.event.Event.TheVariants.{Next, Call, Killed}
+use Rattle.kr_turns.specs.rv_cpu.declared.reservation.Held.{Held}
+use Rattle.kr_others.specs.kr_calls.Decoding.{decoding}
+use Rattle.kr_others.specs.kr_calls.declared.request.Request.{Request}
+use Rattle.kr_others.specs.kr_calls.declared.request.Request.TheVariants as call
+use Rattle.kr_others.specs.kr_view.View.{Row}
+use Rattle.kr_others.specs.kr_model.Applied.{Mounts, all_applied, images, with_image, with_living}
+use Rattle.kr_others.specs.kr_model.Change.{End}
+use Rattle.kr_others.specs.kr_model.State.{Image, Process, State, process, with_process}
+use Rattle.kr_others.specs.kr_model.Walks.{targets_of}
+use Rattle.kr_others.specs.kr_model.declared.outcome.Outcome.{Outcome}
+use Rattle.kr_others.specs.kr_model.declared.outcome.Outcome.TheVariants.{Answer, Wait, Ended, NoMemory}
+use Rattle.kr_turns.specs.kr_allowed.Told.{mounts_walked}
+use Rattle.kr_turns.specs.kr_seen.Carrying.{memory_of, with_memory, with_memory_of}
+use Rattle.kr_turns.specs.kr_calm.Shelf.{shelved_by}
+use Rattle.kr_turns.specs.kr_execve.Execution.{Program, changes_of, execution, mount_of}
 use Rattle.kr_others.specs.Others.{LivesOn}
 use Rattle.kr_others.proofs.OthersLemmas.{all_others_live, lives_on, one_changed, others_live, unchanged}
-use Rattle.kr_steps.specs.Answering.{going, with_answer}
-use Rattle.kr_steps.specs.Computing.{computed}
-use Rattle.kr_steps.specs.Settling.{settled}
-use Rattle.kr_steps.specs.Waiting.{goes_on, ready_processes}
+use Rattle.kr_turns.specs.kr_steps.Answering.{going, with_answer}
+use Rattle.kr_turns.specs.kr_steps.Computing.{computed}
+use Rattle.kr_turns.specs.kr_steps.Settling.{settled}
+use Rattle.kr_turns.specs.kr_steps.Waiting.{goes_on, ready_processes}
 use Rattle.kr_turns.specs.Breaking.{no_mounts, plain_rule}
 use Rattle.kr_turns.specs.PlainCall.{Came, after_decoding, executed, operated, plain_call, plain_call_of, refusal_told, replaced, requested, row_on}
 use Rattle.kr_turns.specs.Shelving.{lacks_in, shelved_in}

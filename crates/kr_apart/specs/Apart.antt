@@ -1,13 +1,13 @@
 -- What a turn does, and what it leaves of the processes that don't run in it.
 use Rattle.std.specs.Prelude.{◌≡◌, ◌≢◌, ◌⊎◌, ℕ, ◌<◌, List, [], Some}
-use Rattle.rv_mem.specs.Memory.{Memory}
-use Rattle.rv_mem.specs.declared.regs.Regs.{Regs}
-use Rattle.rv_cpu.specs.Run.{ran}
-use Rattle.kr_view.specs.View.{Row}
-use Rattle.kr_model.specs.State.{Image, Process, State}
+use Rattle.kr_others.specs.rv_mem.Memory.{Memory}
+use Rattle.kr_others.specs.rv_mem.declared.regs.Regs.{Regs}
+use Rattle.kr_turns.specs.rv_cpu.Run.{ran}
+use Rattle.kr_others.specs.kr_view.View.{Row}
+use Rattle.kr_others.specs.kr_model.State.{Image, Process, State}
 use Rattle.kr_others.specs.Others.{LivesOn}
-use Rattle.kr_steps.specs.Computing.{computed}
-use Rattle.kr_steps.specs.Waiting.{picked_process, ready_processes}
+use Rattle.kr_turns.specs.kr_steps.Computing.{computed}
+use Rattle.kr_turns.specs.kr_steps.Waiting.{picked_process, ready_processes}
 use Rattle.kr_turns.specs.Stopped.{Stopped}
 use Rattle.kr_turns.specs.Turn.{Machine, turn}
 use Rattle.kr_turns.specs.Watching.{Watcher}

@@ -1,31 +1,27 @@
 //! readlinkat(2): the text of a link.
 ghost use Rattle.std.specs.Prelude.{◌≢◌, ◌≡◌, ℕ, List, Option, IfOk, IsSome};
-ghost use Rattle.kr_tree.specs.declared.place.Host.TheVariants.{Node, Proc};
-ghost use Rattle.kr_model.specs.AttributeRows.{readlinkat_row, tell_text};
-ghost use Rattle.kr_model.specs.Known.{known};
-ghost use Rattle.kr_model.specs.Lawful.{IsLawful};
-ghost use Rattle.kr_model.specs.Operation.{link_read};
-ghost use Rattle.kr_model.specs.ProcessDirectory.{link_text};
-ghost use Rattle.kr_model.specs.State.{image_layout, process};
-ghost use Rattle.kr_model.specs.Walks.{text_at};
-ghost use Rattle.kr_model.specs.declared.outcome.Outcome.TheVariants.{NoMemory as WantOfMemory};
-ghost use Rattle.kr_ops.specs.Meaning.{meaning};
-ghost use Rattle.kr_ops.specs.Sound.{IsServed, IsSound};
-ghost use Rattle.kr_seen.specs.Numbered.{state_numbered};
+ghost use Rattle.kr_targets.specs.kr_tree.declared.place.Host.TheVariants.{Node, Proc};
+ghost use Rattle.kr_targets.specs.kr_model.AttributeRows.{readlinkat_row, tell_text};
+ghost use Rattle.kr_targets.specs.kr_model.Known.{known};
+ghost use Rattle.kr_targets.specs.kr_model.Lawful.{IsLawful};
+ghost use Rattle.kr_targets.specs.kr_model.Operation.{link_read};
+ghost use Rattle.kr_targets.specs.kr_model.ProcessDirectory.{link_text};
+ghost use Rattle.kr_targets.specs.kr_model.State.{image_layout, process};
+ghost use Rattle.kr_targets.specs.kr_model.Walks.{text_at};
+ghost use Rattle.kr_targets.specs.kr_model.declared.outcome.Outcome.TheVariants.{NoMemory as WantOfMemory};
+ghost use Rattle.kr_targets.specs.kr_ops.Meaning.{meaning};
+ghost use Rattle.kr_targets.specs.kr_ops.Sound.{IsServed, IsSound};
+ghost use Rattle.kr_targets.specs.kr_seen.Numbered.{state_numbered};
 ghost use Rattle.kr_targets.specs.Performing.{PerformsAt};
 ghost use Rattle.kr_rows.specs.Performing.{Performs};
 ghost use Rattle.kr_attributes.specs.Named.{AnswersText, seen_link};
 
 use crate::found::is_process_directory;
-use kr_model::Outcome;
-use kr_ops::State;
-use kr_ops::laws::lawful_states_are_sound;
 use kr_rows::caller;
-use kr_seen::laws::shows_the_directory;
-use kr_seen::{procs, refused};
-use kr_tree::{Host, Ino, ProcAt};
-use kr_view::{Places, Target};
-use pr_base::{Bytes, Errno, NoMemory};
+use kr_targets::below::{
+    Bytes, Errno, Host, Ino, NoMemory, Outcome, Places, ProcAt, State, Target,
+    lawful_states_are_sound, procs, refused, shows_the_directory,
+};
 
 /// Why a link has no text to tell.
 pub(crate) enum TextFault {

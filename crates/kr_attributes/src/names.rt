@@ -1,28 +1,24 @@
 //! getcwd(2): the name of the working directory.
 ghost use Rattle.std.specs.Prelude.{◌≢◌, [], length, IsSome};
-ghost use Rattle.pr_base.specs.declared.errno.Errno.TheVariants.{EFAULT};
-ghost use Rattle.rv_mem.specs.Actions.{write_if_allowed};
-ghost use Rattle.kr_model.specs.DirectoryRows.{getcwd_row, tell_directory};
-ghost use Rattle.kr_model.specs.Lawful.{IsLawful};
-ghost use Rattle.kr_model.specs.Operation.{directory_named};
-ghost use Rattle.kr_model.specs.Reply.{done, refuse};
-ghost use Rattle.kr_model.specs.State.{process};
-ghost use Rattle.kr_model.specs.declared.outcome.Outcome.TheVariants.{NoMemory as WantOfMemory};
-ghost use Rattle.kr_ops.specs.Meaning.{meaning};
-ghost use Rattle.kr_ops.specs.Sound.{IsServed, IsSound};
+ghost use Rattle.kr_targets.specs.pr_base.declared.errno.Errno.TheVariants.{EFAULT};
+ghost use Rattle.kr_targets.specs.rv_mem.Actions.{write_if_allowed};
+ghost use Rattle.kr_targets.specs.kr_model.DirectoryRows.{getcwd_row, tell_directory};
+ghost use Rattle.kr_targets.specs.kr_model.Lawful.{IsLawful};
+ghost use Rattle.kr_targets.specs.kr_model.Operation.{directory_named};
+ghost use Rattle.kr_targets.specs.kr_model.Reply.{done, refuse};
+ghost use Rattle.kr_targets.specs.kr_model.State.{process};
+ghost use Rattle.kr_targets.specs.kr_model.declared.outcome.Outcome.TheVariants.{NoMemory as WantOfMemory};
+ghost use Rattle.kr_targets.specs.kr_ops.Meaning.{meaning};
+ghost use Rattle.kr_targets.specs.kr_ops.Sound.{IsServed, IsSound};
 ghost use Rattle.kr_rows.specs.Performing.{Performs};
 ghost use Rattle.kr_attributes.specs.Named.{seen_directory};
 
 use crate::links::shown_text;
-use kr_model::Outcome;
-use kr_ops::State;
-use kr_ops::laws::lawful_states_are_sound;
 use kr_rows::caller;
-use kr_seen::refused;
-use kr_tree::ProcAt;
-use kr_view::Places;
-use pr_base::{Bytes, Errno, NoMemory};
-use rv_mem::StoreFault;
+use kr_targets::below::{
+    Bytes, Errno, NoMemory, Outcome, Places, ProcAt, State, StoreFault, lawful_states_are_sound,
+    refused,
+};
 
 /// getcwd(2): ENOENT of what has no name, ERANGE where the name with its zero doesn't fit, EFAULT; its length with the zero.
 pub fn getcwd<P: Places, const M: u8>(

@@ -1,23 +1,18 @@
 //! faccessat(2): what the user may do.
 ghost use Rattle.std.specs.Prelude.{◌≡◌, ◌&&◌, ◌||◌, not, ℕ, List};
-ghost use Rattle.kr_view.specs.View.{Row};
-ghost use Rattle.kr_calls.specs.Arguments.{has};
-ghost use Rattle.kr_model.specs.AttributeRows.{faccessat_row, gives, host_allows, process_allows};
-ghost use Rattle.kr_model.specs.Known.{known};
-ghost use Rattle.kr_model.specs.Operation.{looked_up};
-ghost use Rattle.kr_model.specs.Seen.{LooksUp};
-ghost use Rattle.kr_model.specs.State.{image_layout};
-ghost use Rattle.kr_ops.specs.Meaning.{meaning};
-ghost use Rattle.kr_ops.specs.Sound.{IsSound};
+ghost use Rattle.kr_targets.specs.kr_view.View.{Row};
+ghost use Rattle.kr_targets.specs.kr_calls.Arguments.{has};
+ghost use Rattle.kr_targets.specs.kr_model.AttributeRows.{faccessat_row, gives, host_allows, process_allows};
+ghost use Rattle.kr_targets.specs.kr_model.Known.{known};
+ghost use Rattle.kr_targets.specs.kr_model.Operation.{looked_up};
+ghost use Rattle.kr_targets.specs.kr_model.Seen.{LooksUp};
+ghost use Rattle.kr_targets.specs.kr_model.State.{image_layout};
+ghost use Rattle.kr_targets.specs.kr_ops.Meaning.{meaning};
+ghost use Rattle.kr_targets.specs.kr_ops.Sound.{IsSound};
 ghost use Rattle.kr_targets.specs.Performing.{PerformsAt, seen_found};
 
 use crate::found::is_process_directory;
-use kr_model::Outcome;
-use kr_ops::State;
-use kr_seen::{number, refused};
-use kr_tree::{Host, ProcAt, Right};
-use kr_view::Target;
-use pr_base::Errno;
+use kr_targets::below::{Errno, Host, Outcome, ProcAt, Right, State, Target, number, refused};
 
 /// R_OK of faccessat(2).
 const READ: u32 = 4;

@@ -1,11 +1,11 @@
 -- Actions that write bytes alone leave a memory that holds bytes.
 use Rattle.std.proofs.Common.{ℕ, Bool, true, false, List, cond}
-use Rattle.rv_mem.specs.Actions.{Action, Done, MayUse, ReadBytes, WriteBytes, allows_uses, carried_out}
-use Rattle.rv_mem.specs.Memory.{Memory, after_read, with_pages}
-use Rattle.rv_mem.specs.Pages.{HoldsBytes, bytes_from, written}
-use Rattle.rv_mem.specs.declared.rights.Use.{Use}
-use Rattle.kr_tree.specs.Lawful.{AreBytes}
-use Rattle.kr_allowed.proofs.RowLemmas.{read-bytes}
+use Rattle.kr_first.specs.rv_mem.Actions.{Action, Done, MayUse, ReadBytes, WriteBytes, allows_uses, carried_out}
+use Rattle.kr_first.specs.rv_mem.Memory.{Memory, after_read, with_pages}
+use Rattle.kr_first.specs.rv_mem.Pages.{HoldsBytes, bytes_from, written}
+use Rattle.kr_first.specs.rv_mem.declared.rights.Use.{Use}
+use Rattle.kr_first.specs.kr_tree.Lawful.{AreBytes}
+use Rattle.kr_first.proofs.kr_allowed.RowLemmas.{read-bytes}
 use Rattle.kr_bytes.proofs.PageLemmas.{holds-written}
 
 -- an action that writes bytes and comes to a good reply, where what it reads are bytes

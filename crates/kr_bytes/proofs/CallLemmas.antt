@@ -3,33 +3,33 @@ use Rattle.std.proofs.Common.{◌≡◌, ℕ, Bool, true, false, List, Option, S
 use Rattle.std.specs.Prelude.{Err, IfOk, Ok, Result, neg_ℤ, pos}
 use Rattle.std.specs.Int.{cast_unsigned, w64}
 use Rattle.std.specs.Option.{option_map_or}
-use Rattle.pr_base.specs.Errno.{errno_number}
-use Rattle.pr_base.specs.declared.errno.Errno.{Errno}
-use Rattle.pr_base.specs.declared.path.WalkMode.TheVariants.{Look}
-use Rattle.rv_mem.specs.Actions.{carried_out}
-use Rattle.rv_mem.specs.Memory.{Memory}
-use Rattle.rv_mem.specs.Pages.{HoldsBytes}
-use Rattle.rv_mem.specs.declared.regs.Regs.{Regs}
-use Rattle.kr_calls.specs.Decoding.{decoding}
-use Rattle.kr_calls.specs.PathTable.{working_directory}
-use Rattle.kr_calls.specs.declared.request.Request.{Request}
-use Rattle.kr_calls.specs.declared.request.Request.TheVariants as call
-use Rattle.kr_view.specs.View.{Row}
-use Rattle.kr_model.specs.Applied.{Mounts, with_image, with_living}
-use Rattle.kr_model.specs.Known.{known}
-use Rattle.kr_model.specs.Operation.{operation}
-use Rattle.kr_model.specs.State.{Image, Process, State, image_layout, process, with_process}
-use Rattle.kr_model.specs.Walks.{seen, targets_of}
-use Rattle.kr_model.specs.declared.outcome.Outcome.{Outcome}
-use Rattle.kr_model.specs.declared.outcome.Outcome.TheVariants.{Answer, Ended, NoMemory, Wait}
-use Rattle.kr_allowed.specs.Calls.{HasTextPaths, IsGivable}
-use Rattle.kr_allowed.specs.Told.{mounts_walked}
-use Rattle.kr_allowed.proofs.DecodedLemmas.{decoded-are-givable, decoding-leaves-pages}
-use Rattle.kr_seen.specs.Carrying.{after_row, memory_of, no_memory, with_memory, with_memory_of}
-use Rattle.kr_execve.specs.Execution.{Program, after_execution, changes_of, execution, mount_of}
-use Rattle.kr_steps.specs.Answering.{going, with_answer}
-use Rattle.kr_steps.specs.Computing.{computed}
-use Rattle.kr_steps.specs.Settling.{settled}
+use Rattle.kr_first.specs.pr_base.Errno.{errno_number}
+use Rattle.kr_first.specs.pr_base.declared.errno.Errno.{Errno}
+use Rattle.kr_first.specs.pr_base.declared.path.WalkMode.TheVariants.{Look}
+use Rattle.kr_first.specs.rv_mem.Actions.{carried_out}
+use Rattle.kr_first.specs.rv_mem.Memory.{Memory}
+use Rattle.kr_first.specs.rv_mem.Pages.{HoldsBytes}
+use Rattle.kr_first.specs.rv_mem.declared.regs.Regs.{Regs}
+use Rattle.kr_first.specs.kr_calls.Decoding.{decoding}
+use Rattle.kr_first.specs.kr_calls.PathTable.{working_directory}
+use Rattle.kr_first.specs.kr_calls.declared.request.Request.{Request}
+use Rattle.kr_first.specs.kr_calls.declared.request.Request.TheVariants as call
+use Rattle.kr_first.specs.kr_view.View.{Row}
+use Rattle.kr_first.specs.kr_model.Applied.{Mounts, with_image, with_living}
+use Rattle.kr_first.specs.kr_model.Known.{known}
+use Rattle.kr_first.specs.kr_model.Operation.{operation}
+use Rattle.kr_first.specs.kr_model.State.{Image, Process, State, image_layout, process, with_process}
+use Rattle.kr_first.specs.kr_model.Walks.{seen, targets_of}
+use Rattle.kr_first.specs.kr_model.declared.outcome.Outcome.{Outcome}
+use Rattle.kr_first.specs.kr_model.declared.outcome.Outcome.TheVariants.{Answer, Ended, NoMemory, Wait}
+use Rattle.kr_first.specs.kr_allowed.Calls.{HasTextPaths, IsGivable}
+use Rattle.kr_first.specs.kr_allowed.Told.{mounts_walked}
+use Rattle.kr_first.proofs.kr_allowed.DecodedLemmas.{decoded-are-givable, decoding-leaves-pages}
+use Rattle.kr_turns.specs.kr_seen.Carrying.{after_row, memory_of, no_memory, with_memory, with_memory_of}
+use Rattle.kr_first.specs.kr_execve.Execution.{Program, after_execution, changes_of, execution, mount_of}
+use Rattle.kr_turns.specs.kr_steps.Answering.{going, with_answer}
+use Rattle.kr_turns.specs.kr_steps.Computing.{computed}
+use Rattle.kr_turns.specs.kr_steps.Settling.{settled}
 use Rattle.kr_turns.specs.PlainCall.{after_decoding, operated, plain_call, plain_call_of, refusal_told, replaced, requested, row_on}
 use Rattle.kr_turns.specs.declared.plain.CallEnd.TheVariants as end
 use Rattle.kr_bytes.specs.Bringing.{BringBytes}
@@ -90,7 +90,7 @@ module _ (table : List Row) (pid : ℕ) where
       settled-bytes pid done.reply.outcome (after_row (mounts_walked (targets_of table pid s r)) pid done s) (row-leaves r s named gives has).state
 
 pub calls-keep-bytes : CallsKeepBytes
-calls-keep-bytes = record { row = λ table pid r s named gives has. row-leaves table pid r s named gives has; call = λ table pid r s named gives has. call-leaves table pid r s named gives has }
+calls-keep-bytes = record { row = λ table pid r s kind named gives has. row-leaves table pid r s named gives has; call = λ table pid r s kind named gives has. call-leaves table pid r s named gives has }
 
 -- ---- execve
 

@@ -5,22 +5,22 @@ use Rattle.std.specs.FinMap as map
 use Rattle.std.specs.List.{filter}
 use Rattle.std.specs.Option.{option_map_or}
 use Rattle.std.specs.Int.{w32}
-use Rattle.pr_base.specs.Maps.{changed}
-use Rattle.rv_mem.specs.Memory.{Memory}
-use Rattle.rv_mem.specs.Pages.{HoldsBytes, Pages}
-use Rattle.rv_mem.specs.declared.regs.Regs.{Regs}
-use Rattle.kr_tree.specs.Changes as tree
-use Rattle.kr_tree.specs.Lawful.{AreBytes, HasBytes as TreeHasBytes}
-use Rattle.kr_tree.specs.Tree.{Tree}
-use Rattle.kr_tree.specs.declared.place.Host.{Host}
-use Rattle.kr_files.specs.Descriptors.{Meanings, Named}
-use Rattle.kr_files.specs.Files.{Table, at_offset, pipe_after_read, pipe_after_write, with_all_opened, with_append, with_opened}
-use Rattle.kr_files.specs.Opened.{after_removal, after_rename, named_at, nameless, remembers}
-use Rattle.kr_files.specs.declared.opened.Opened.{Opened}
-use Rattle.kr_model.specs.Applied.{Mounts, applied, child_of, close, close_below, close_named, close_on_exec_below, copy_named, copy_over, cwd_of, end, exe_after_removal, exe_after_rename, exe_of, exe_remembers, executed, forked_from, gone, held_at, held_for, images, in_mount, is_closed_on_exec, let_go, mount_of, moved_to, on_opened_of, open_in, orphaned, pages_after, pipe_made, released_at, told, with_brk, with_cwd, with_exe, with_exe_name, with_files, with_image, with_living, with_parent, with_program, with_tree, with_umask}
-use Rattle.kr_model.specs.Change.{AddNode, Birth, Change, ChangeDirectory, ChangePages, CloseDescriptor, CloseOnExec, CopyDescriptor, End, Fork, LinkNode, MakePipe, MapPages, MoveName, OpenFile, PageChange, ProtectPages, PutIntoPipe, Reap, RemoveName, ReplaceExecutable, ReplaceImage, Seek, SetAppend, SetBreak, SetCloexec, SetMode, SetOwner, SetSize, SetUmask, TakeFromPipe, TakeInput, UnmapPages, WriteErr, WriteFile, WriteOut}
-use Rattle.kr_model.specs.State.{Image, Process, State, inode_of, named, place_of, process, with_descs, with_process}
-use Rattle.kr_steps.specs.Computing.{computed}
+use Rattle.kr_first.specs.pr_base.Maps.{changed}
+use Rattle.kr_first.specs.rv_mem.Memory.{Memory}
+use Rattle.kr_first.specs.rv_mem.Pages.{HoldsBytes, Pages}
+use Rattle.kr_first.specs.rv_mem.declared.regs.Regs.{Regs}
+use Rattle.kr_first.specs.kr_tree.Changes as tree
+use Rattle.kr_first.specs.kr_tree.Lawful.{AreBytes, HasBytes as TreeHasBytes}
+use Rattle.kr_first.specs.kr_tree.Tree.{Tree}
+use Rattle.kr_first.specs.kr_tree.declared.place.Host.{Host}
+use Rattle.kr_first.specs.kr_files.Descriptors.{Meanings, Named}
+use Rattle.kr_first.specs.kr_files.Files.{Table, at_offset, pipe_after_read, pipe_after_write, with_all_opened, with_append, with_opened}
+use Rattle.kr_first.specs.kr_files.Opened.{after_removal, after_rename, named_at, nameless, remembers}
+use Rattle.kr_first.specs.kr_files.declared.opened.Opened.{Opened}
+use Rattle.kr_first.specs.kr_model.Applied.{Mounts, applied, child_of, close, close_below, close_named, close_on_exec_below, copy_named, copy_over, cwd_of, end, exe_after_removal, exe_after_rename, exe_of, exe_remembers, executed, forked_from, gone, held_at, held_for, images, in_mount, is_closed_on_exec, let_go, mount_of, moved_to, on_opened_of, open_in, orphaned, pages_after, pipe_made, released_at, told, with_brk, with_cwd, with_exe, with_exe_name, with_files, with_image, with_living, with_parent, with_program, with_tree, with_umask}
+use Rattle.kr_first.specs.kr_model.Change.{AddNode, Birth, Change, ChangeDirectory, ChangePages, CloseDescriptor, CloseOnExec, CopyDescriptor, End, Fork, LinkNode, MakePipe, MapPages, MoveName, OpenFile, PageChange, ProtectPages, PutIntoPipe, Reap, RemoveName, ReplaceExecutable, ReplaceImage, Seek, SetAppend, SetBreak, SetCloexec, SetMode, SetOwner, SetSize, SetUmask, TakeFromPipe, TakeInput, UnmapPages, WriteErr, WriteFile, WriteOut}
+use Rattle.kr_first.specs.kr_model.State.{Image, Process, State, inode_of, named, place_of, process, with_descs, with_process}
+use Rattle.kr_turns.specs.kr_steps.Computing.{computed}
 use Rattle.kr_bytes.specs.Bringing.{BringsBytes}
 use Rattle.kr_bytes.specs.Bytes.{FilesHaveBytes, HasBytes, ProcessIsSized}
 use Rattle.kr_bytes.specs.Laws.{ChangesKeepBytes, ComputingKeepsBytes}

@@ -2,39 +2,39 @@
 use Rattle.std.proofs.Common.{◌≡◌, ℕ, zero, suc, ◌+◌, ◌-◌, ◌<◌, Bool, true, false, cond, List, [], ◌∷◌, length, nat_eq, slice_index, refl, sym, ap, subst, ◌∙◌, arith, Option, Some, None}
 use Rattle.std.specs.Prelude.{Err, IfOk, Ok, Result}
 use Rattle.std.specs.Option.{option_and_then, option_map, option_map_or}
-use Rattle.pr_base.specs.declared.errno.Errno.{Errno}
-use Rattle.pr_base.specs.declared.errno.Errno.TheVariants.{E2BIG, EACCES, EFAULT, ENOENT, ENOMEM}
-use Rattle.pr_base.specs.declared.path.WalkMode.TheVariants.{Look}
-use Rattle.rv_mem.specs.Actions.{Action, Done}
-use Rattle.rv_mem.specs.Pages.{HoldsBytes}
-use Rattle.elf_read.specs.Rules.{first_broken}
-use Rattle.elf_read.specs.declared.fault.ElfFault.{ElfFault}
-use Rattle.kr_calls.specs.Expansion.{Expanded, bytes_with_ends, expanded, most_scripts}
-use Rattle.kr_calls.specs.Texts.{read_text}
-use Rattle.kr_inode.specs.declared.user.User.{User}
-use Rattle.kr_tree.specs.Lawful.{AreBytes, HasBytes as TreeHasBytes, IsOfBytes}
-use Rattle.kr_tree.specs.Tree.{Body, Directory, Inode, ProcessDirectory, RegularFile, SymbolicLink, Tree, file_of, inode}
-use Rattle.kr_tree.specs.declared.place.Host.{Host}
-use Rattle.kr_tree.specs.declared.place.Host.TheVariants.{Node, Proc}
-use Rattle.kr_tree.specs.declared.place.Place.{Place}
-use Rattle.kr_tree.specs.declared.place.ProcAt.{ProcAt}
-use Rattle.kr_view.specs.Answers.{told as told_target}
-use Rattle.kr_view.specs.Component.{Surroundings}
-use Rattle.kr_view.specs.View.{Row, source}
-use Rattle.kr_view.specs.Walk.{PlaceTarget, place_walk}
-use Rattle.kr_view.specs.declared.target.Target.{Target}
-use Rattle.kr_exec.specs.Exec.{after_scripts, are_too_big, entry_of, exec_plan, file_plan, inode_at, plan_at, target_plan, unless_broken}
-use Rattle.kr_exec.specs.Finding.{if_program, is_program_found, program_at, program_walk}
-use Rattle.kr_exec.specs.Interpreters.{bytes_at, found_bytes, head_of, programs, told_program}
-use Rattle.kr_exec.specs.Lists.{Trying, address_at, and_then, at_least_one, behind, env_at, if_it_fits, list_at, lists_at, most_bytes, most_texts, next_address, text_at, text_within, texts_from, unless_ended}
-use Rattle.kr_exec.specs.declared.lists.Lists.{Lists}
-use Rattle.kr_exec.specs.declared.plan.ExecPlan.{ExecPlan}
-use Rattle.kr_execve.specs.Execution.{Program, exceeds, execution, execution_from, found_from, ids_of, loaded, planned_from, program_of}
-use Rattle.kr_execve.proofs.PlannedLemmas.{planned-of}
-use Rattle.kr_model.specs.Applied.{cwd_of}
-use Rattle.kr_model.specs.ProcessDirectory.{around_of}
-use Rattle.kr_model.specs.State.{Image, State}
-use Rattle.kr_model.specs.Walks as results
+use Rattle.kr_first.specs.pr_base.declared.errno.Errno.{Errno}
+use Rattle.kr_first.specs.pr_base.declared.errno.Errno.TheVariants.{E2BIG, EACCES, EFAULT, ENOENT, ENOMEM}
+use Rattle.kr_first.specs.pr_base.declared.path.WalkMode.TheVariants.{Look}
+use Rattle.kr_first.specs.rv_mem.Actions.{Action, Done}
+use Rattle.kr_first.specs.rv_mem.Pages.{HoldsBytes}
+use Rattle.kr_first.specs.elf_read.Rules.{first_broken}
+use Rattle.kr_first.specs.elf_read.declared.fault.ElfFault.{ElfFault}
+use Rattle.kr_first.specs.kr_calls.Expansion.{Expanded, bytes_with_ends, expanded, most_scripts}
+use Rattle.kr_first.specs.kr_calls.Texts.{read_text}
+use Rattle.kr_first.specs.kr_inode.declared.user.User.{User}
+use Rattle.kr_first.specs.kr_tree.Lawful.{AreBytes, HasBytes as TreeHasBytes, IsOfBytes}
+use Rattle.kr_first.specs.kr_tree.Tree.{Body, Directory, Inode, ProcessDirectory, RegularFile, SymbolicLink, Tree, file_of, inode}
+use Rattle.kr_first.specs.kr_tree.declared.place.Host.{Host}
+use Rattle.kr_first.specs.kr_tree.declared.place.Host.TheVariants.{Node, Proc}
+use Rattle.kr_first.specs.kr_tree.declared.place.Place.{Place}
+use Rattle.kr_first.specs.kr_tree.declared.place.ProcAt.{ProcAt}
+use Rattle.kr_first.specs.kr_view.Answers.{told as told_target}
+use Rattle.kr_first.specs.kr_view.Component.{Surroundings}
+use Rattle.kr_first.specs.kr_view.View.{Row, source}
+use Rattle.kr_first.specs.kr_view.Walk.{PlaceTarget, place_walk}
+use Rattle.kr_first.specs.kr_view.declared.target.Target.{Target}
+use Rattle.kr_first.specs.kr_exec.Exec.{after_scripts, are_too_big, entry_of, exec_plan, file_plan, inode_at, plan_at, target_plan, unless_broken}
+use Rattle.kr_first.specs.kr_exec.Finding.{if_program, is_program_found, program_at, program_walk}
+use Rattle.kr_first.specs.kr_exec.Interpreters.{bytes_at, found_bytes, head_of, programs, told_program}
+use Rattle.kr_first.specs.kr_exec.Lists.{Trying, address_at, and_then, at_least_one, behind, env_at, if_it_fits, list_at, lists_at, most_bytes, most_texts, next_address, text_at, text_within, texts_from, unless_ended}
+use Rattle.kr_first.specs.kr_exec.declared.lists.Lists.{Lists}
+use Rattle.kr_first.specs.kr_exec.declared.plan.ExecPlan.{ExecPlan}
+use Rattle.kr_first.specs.kr_execve.Execution.{Program, exceeds, execution, execution_from, found_from, ids_of, loaded, planned_from, program_of}
+use Rattle.kr_first.proofs.kr_execve.PlannedLemmas.{planned-of}
+use Rattle.kr_first.specs.kr_model.Applied.{cwd_of}
+use Rattle.kr_first.specs.kr_model.ProcessDirectory.{around_of}
+use Rattle.kr_first.specs.kr_model.State.{Image, State}
+use Rattle.kr_first.specs.kr_model.Walks as results
 use Rattle.kr_bytes.specs.Bytes.{AreAllBytes, HasBytes, TableHasBytes}
 use Rattle.kr_bytes.proofs.ActionLemmas.{PutsBytes, either_way, read, tested, told, wrote}
 use Rattle.kr_bytes.proofs.ListLemmas.{first-of}

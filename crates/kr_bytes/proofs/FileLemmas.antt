@@ -4,17 +4,17 @@ use Rattle.std.proofs.Common.{◌≡◌, ℕ, ◌+◌, ◌-◌, Bool, true, fals
 use Rattle.std.specs.Prelude.{nat_lt}
 use Rattle.std.specs.Option.{option_map, option_map_or}
 use Rattle.std.specs.Ordering.{nat_cmp}
-use Rattle.pr_base.specs.Maps.{mapped}
-use Rattle.pr_base.proofs.MapLemmas.{by_key, each-changed, get-insert_other, get-insert_same, get-mapped, get-remove_other, get-remove_same}
-use Rattle.kr_tree.specs.Lawful.{AreBytes}
-use Rattle.kr_tree.proofs.NameLemmas.{some_is}
-use Rattle.kr_files.specs.Descriptors.{Meanings, named_count}
-use Rattle.kr_files.specs.Files.{Counted, Table, closed, counted_more, has_kind, has_reader, on_opened, pipe_after_read, pipe_after_write, pipes_left, with_all_opened, with_bytes, with_copies, with_copy, with_file, with_opened, with_pipe, without_file}
-use Rattle.kr_files.specs.Opened.{is_reader, is_writer, pipe_end}
-use Rattle.kr_files.specs.Pipes.{after_write}
-use Rattle.kr_files.specs.declared.opened.Opened.{Opened}
-use Rattle.kr_files.specs.declared.opened.What.{What}
-use Rattle.kr_files.specs.declared.opened.What.TheVariants.{Dir, Err, File, In, Out, PipeRead, PipeWrite}
+use Rattle.kr_first.specs.pr_base.Maps.{mapped}
+use Rattle.kr_first.proofs.pr_base.MapLemmas.{by_key, each-changed, get-insert_other, get-insert_same, get-mapped, get-remove_other, get-remove_same}
+use Rattle.kr_first.specs.kr_tree.Lawful.{AreBytes}
+use Rattle.kr_first.proofs.kr_tree.NameLemmas.{some_is}
+use Rattle.kr_first.specs.kr_files.Descriptors.{Meanings, named_count}
+use Rattle.kr_first.specs.kr_files.Files.{Counted, Table, closed, counted_more, has_kind, has_reader, on_opened, pipe_after_read, pipe_after_write, pipes_left, with_all_opened, with_bytes, with_copies, with_copy, with_file, with_opened, with_pipe, without_file}
+use Rattle.kr_first.specs.kr_files.Opened.{is_reader, is_writer, pipe_end}
+use Rattle.kr_first.specs.kr_files.Pipes.{after_write}
+use Rattle.kr_first.specs.kr_files.declared.opened.Opened.{Opened}
+use Rattle.kr_first.specs.kr_files.declared.opened.What.{What}
+use Rattle.kr_first.specs.kr_files.declared.opened.What.TheVariants.{Dir, Err, File, In, Out, PipeRead, PipeWrite}
 use Rattle.kr_bytes.specs.Bytes.{FilesHaveBytes}
 use Rattle.kr_bytes.proofs.ListLemmas.{first-of, joined, rest-of}
 

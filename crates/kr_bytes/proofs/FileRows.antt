@@ -2,22 +2,22 @@
 use Rattle.std.proofs.Common.{◌≡◌, ℕ, Bool, true, false, List, [], ◌∷◌, drop, refl, Option, Some, None, ℤ, cond}
 use Rattle.std.specs.Option.{option_map, option_map_or}
 use Rattle.std.specs.Prelude.{IfSome}
-use Rattle.pr_base.specs.declared.errno.Errno.TheVariants.{EACCES, EBADF, EEXIST, EFBIG, EINVAL, EISDIR, ELOOP, EMFILE, ENOENT, ENOSPC, ENOTDIR}
-use Rattle.kr_tree.specs.Lawful.{AreBytes, IsOfBytes}
-use Rattle.kr_tree.specs.Tree.{Body, Directory, Node, ProcessDirectory, RegularFile, SymbolicLink, bytes_of}
-use Rattle.kr_tree.specs.declared.place.Host.{Host}
-use Rattle.kr_tree.specs.declared.place.Host.TheVariants as host
-use Rattle.kr_tree.specs.declared.place.Place.{Place}
-use Rattle.kr_files.specs.declared.opened.Opened.{Opened}
-use Rattle.kr_files.specs.declared.opened.What.{What}
-use Rattle.kr_files.specs.declared.opened.What.TheVariants.{Dir, Err, File, In, Out, PipeRead, PipeWrite}
-use Rattle.kr_model.specs.Change.{Change, OfFound, SetSize}
-use Rattle.kr_model.specs.DescriptorRows.{file_bytes, open_bytes}
-use Rattle.kr_model.specs.FileRows.{ftruncate_row, if_readable, if_writable, make_and_open, open_body, open_directory, open_file, open_found, open_host, open_new, open_under, openat_row, put_in_file, read_pieces, read_pipe, read_row, read_what, readv_row, truncates, write_file, write_pieces, write_pipe, write_row, write_what, writev_row}
-use Rattle.kr_model.specs.Known.{Fact, Known, known_node}
-use Rattle.kr_model.specs.Pieces.{Piece, asked, one_piece}
-use Rattle.kr_model.specs.Reply.{Replying, refuse}
-use Rattle.kr_model.specs.Seen.{Looked, Opening, OpensFound, OpensNew, OpensNoName, OpensSlashed}
+use Rattle.kr_first.specs.pr_base.declared.errno.Errno.TheVariants.{EACCES, EBADF, EEXIST, EFBIG, EINVAL, EISDIR, ELOOP, EMFILE, ENOENT, ENOSPC, ENOTDIR}
+use Rattle.kr_first.specs.kr_tree.Lawful.{AreBytes, IsOfBytes}
+use Rattle.kr_first.specs.kr_tree.Tree.{Body, Directory, Node, ProcessDirectory, RegularFile, SymbolicLink, bytes_of}
+use Rattle.kr_first.specs.kr_tree.declared.place.Host.{Host}
+use Rattle.kr_first.specs.kr_tree.declared.place.Host.TheVariants as host
+use Rattle.kr_first.specs.kr_tree.declared.place.Place.{Place}
+use Rattle.kr_first.specs.kr_files.declared.opened.Opened.{Opened}
+use Rattle.kr_first.specs.kr_files.declared.opened.What.{What}
+use Rattle.kr_first.specs.kr_files.declared.opened.What.TheVariants.{Dir, Err, File, In, Out, PipeRead, PipeWrite}
+use Rattle.kr_first.specs.kr_model.Change.{Change, OfFound, SetSize}
+use Rattle.kr_first.specs.kr_model.DescriptorRows.{file_bytes, open_bytes}
+use Rattle.kr_first.specs.kr_model.FileRows.{ftruncate_row, if_readable, if_writable, make_and_open, open_body, open_directory, open_file, open_found, open_host, open_new, open_under, openat_row, put_in_file, read_pieces, read_pipe, read_row, read_what, readv_row, truncates, write_file, write_pieces, write_pipe, write_row, write_what, writev_row}
+use Rattle.kr_first.specs.kr_model.Known.{Fact, Known, known_node}
+use Rattle.kr_first.specs.kr_model.Pieces.{Piece, asked, one_piece}
+use Rattle.kr_first.specs.kr_model.Reply.{Replying, refuse}
+use Rattle.kr_first.specs.kr_model.Seen.{Looked, Opening, OpensFound, OpensNew, OpensNoName, OpensSlashed}
 use Rattle.kr_bytes.specs.Bringing.{BringBytes, KnowsBytes, LookedHasBytes, OpeningHasBytes}
 use Rattle.kr_bytes.proofs.ActionLemmas.{either_way}
 use Rattle.kr_bytes.proofs.ListLemmas.{first-of, rest-of}

@@ -1,18 +1,18 @@
 -- Instructions store bytes alone.
 use Rattle.std.proofs.Common.{ℕ, zero, suc, Bool, true, false, Option, Some, None}
-use Rattle.pr_base.specs.Fields.{little_endian}
-use Rattle.rv_table.specs.Rows.{decoded}
-use Rattle.rv_table.specs.declared.instr.Instr.{Instr}
-use Rattle.rv_table.specs.declared.instr.Instr.TheVariants.{Lb, Lh, Lw, Ld, Lbu, Lhu, Lwu, Sb, Sh, Sw, Sd, LrW, LrD, ScW, ScD, AmoswapW, AmoswapD, AmoaddW, AmoaddD, AmoxorW, AmoxorD, AmoandW, AmoandD, AmoorW, AmoorD, AmominW, AmominD, AmomaxW, AmomaxD, AmominuW, AmominuD, AmomaxuW, AmomaxuD}
-use Rattle.rv_mem.specs.Actions.{CarriedOut, carried_out}
-use Rattle.rv_mem.specs.Memory.{Memory}
-use Rattle.rv_mem.specs.Pages.{HoldsBytes}
-use Rattle.rv_mem.specs.declared.regs.Regs.{Regs}
-use Rattle.rv_cpu.specs.Run.{Ran, after_one, counted, ran_holding}
-use Rattle.rv_cpu.specs.Step.{Stepped, address, executed, executed_word, loads, lowest_bytes, register, replaces, reserves, step, stores, stores_if_held}
-use Rattle.rv_cpu.specs.Words.{both, either, exactly_one, greatest, greatest_unsigned, least, least_unsigned, sign_extended, sign_extended_byte, sign_extended_half, sum, word_greatest, word_greatest_unsigned, word_least, word_least_unsigned}
-use Rattle.rv_cpu.specs.declared.event.Event.TheVariants.{Call, Killed, Next}
-use Rattle.rv_cpu.specs.declared.reservation.Held.{Held}
+use Rattle.kr_first.specs.pr_base.Fields.{little_endian}
+use Rattle.kr_turns.specs.rv_table.Rows.{decoded}
+use Rattle.kr_turns.specs.rv_table.declared.instr.Instr.{Instr}
+use Rattle.kr_turns.specs.rv_table.declared.instr.Instr.TheVariants.{Lb, Lh, Lw, Ld, Lbu, Lhu, Lwu, Sb, Sh, Sw, Sd, LrW, LrD, ScW, ScD, AmoswapW, AmoswapD, AmoaddW, AmoaddD, AmoxorW, AmoxorD, AmoandW, AmoandD, AmoorW, AmoorD, AmominW, AmominD, AmomaxW, AmomaxD, AmominuW, AmominuD, AmomaxuW, AmomaxuD}
+use Rattle.kr_first.specs.rv_mem.Actions.{CarriedOut, carried_out}
+use Rattle.kr_first.specs.rv_mem.Memory.{Memory}
+use Rattle.kr_first.specs.rv_mem.Pages.{HoldsBytes}
+use Rattle.kr_first.specs.rv_mem.declared.regs.Regs.{Regs}
+use Rattle.kr_turns.specs.rv_cpu.Run.{Ran, after_one, counted, ran_holding}
+use Rattle.kr_turns.specs.rv_cpu.Step.{Stepped, address, executed, executed_word, loads, lowest_bytes, register, replaces, reserves, step, stores, stores_if_held}
+use Rattle.kr_turns.specs.rv_cpu.Words.{both, either, exactly_one, greatest, greatest_unsigned, least, least_unsigned, sign_extended, sign_extended_byte, sign_extended_half, sum, word_greatest, word_greatest_unsigned, word_least, word_least_unsigned}
+use Rattle.kr_turns.specs.rv_cpu.declared.event.Event.TheVariants.{Call, Killed, Next}
+use Rattle.kr_turns.specs.rv_cpu.declared.reservation.Held.{Held}
 use Rattle.kr_bytes.specs.Laws.{InstructionsKeepBytes}
 use Rattle.kr_bytes.proofs.ActionLemmas.{PutsBytes, either_way, puts, read, tested, told, wrote}
 use Rattle.kr_bytes.proofs.ListLemmas.{number-bytes}

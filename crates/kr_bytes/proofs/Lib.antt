@@ -1,4 +1,4 @@
-pub use Rattle.kr_turns.proofs as kr_turns
+pub use Rattle.kr_first.proofs.kr_allowed as kr_allowed
 pub mod ActionLemmas
 pub mod CallLemmas
 pub mod ChangeLemmas

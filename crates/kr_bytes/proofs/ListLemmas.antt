@@ -7,9 +7,9 @@ use Rattle.std.specs.List.{AllByRecursion, filter, find, list_all}
 use Rattle.std.proofs.Math.Seq.{sets}
 use Rattle.std.proofs.lemmas.Bool.Decides.{nat_tests}
 use Rattle.std.proofs.lemmas.List.Elements.{All-drop, All-from_recursion, All-take, recursion_from_All}
-use Rattle.kr_tree.specs.Lawful.{AreBytes}
-use Rattle.kr_allowed.proofs.PieceLemmas.{all-append}
-use Rattle.kr_resolved.proofs.TextLemmas.{bytes_of_text, decimal_text}
+use Rattle.kr_first.specs.kr_tree.Lawful.{AreBytes}
+use Rattle.kr_first.proofs.kr_allowed.PieceLemmas.{all-append}
+use Rattle.kr_first.proofs.kr_resolved.TextLemmas.{bytes_of_text, decimal_text}
 
 -- ---- what holds of each element
 

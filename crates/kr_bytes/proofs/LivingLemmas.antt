@@ -2,8 +2,8 @@
 use Rattle.std.proofs.Common.{◌≡◌, ℕ, Bool, true, false, not, List, [], ◌∷◌, ◌++◌, cond, Some, None}
 use Rattle.std.specs.Prelude.{map as map_list, ◌==◌}
 use Rattle.std.specs.List.{AllByRecursion, filter, find}
-use Rattle.kr_model.specs.State.{Image, Process, State, at_pid, is_pid, process, with_process}
-use Rattle.kr_allowed.proofs.PieceLemmas.{all-append}
+use Rattle.kr_first.specs.kr_model.State.{Image, Process, State, at_pid, is_pid, process, with_process}
+use Rattle.kr_first.proofs.kr_allowed.PieceLemmas.{all-append}
 use Rattle.kr_bytes.specs.Bytes.{HasBytes, ProcessIsSized}
 use Rattle.kr_bytes.proofs.ListLemmas.{all-found, all-passed}
 

@@ -1,16 +1,16 @@
 -- A program is loaded as bytes, of a file, of zeros, and of a stack of words and texts.
 use Rattle.std.proofs.Common.{ℕ, ◌+◌, ◌-◌, ◌*◌, ◌/◌, ◌≡◌, List, [], ◌∷◌, drop, length, length-set, refl, replicate, arith}
 use Rattle.std.specs.Int.{to_le_bytes, w64}
-use Rattle.rv_mem.specs.Memory.{empty_memory}
-use Rattle.rv_mem.specs.Pages.{HoldsBytes, Pages, mapped}
-use Rattle.elf_read.specs.Plans.{planned}
-use Rattle.elf_read.specs.Rules.{page_size}
-use Rattle.elf_read.specs.declared.plan.Plan.{Plan}
-use Rattle.elf_read.specs.declared.plan.Segment.{Segment}
-use Rattle.elf_load.specs.FirstStack.{pairs_of, random_at, random_bytes, stack_bytes, stack_pointer, stack_top, text_bytes, texts_at, texts_size, word_bytes, word_count, words_of, zeros}
-use Rattle.elf_load.specs.Image.{end_page, file_bytes, first_page, first_regs, image_pages, rights_in, stack_pages, stack_rights, with_segment, with_segments, with_stack}
-use Rattle.elf_load.specs.declared.stack.Pair.{Pair}
-use Rattle.kr_tree.specs.Lawful.{AreBytes}
+use Rattle.kr_first.specs.rv_mem.Memory.{empty_memory}
+use Rattle.kr_first.specs.rv_mem.Pages.{HoldsBytes, Pages, mapped}
+use Rattle.kr_first.specs.elf_read.Plans.{planned}
+use Rattle.kr_first.specs.elf_read.Rules.{page_size}
+use Rattle.kr_first.specs.elf_read.declared.plan.Plan.{Plan}
+use Rattle.kr_first.specs.elf_read.declared.plan.Segment.{Segment}
+use Rattle.kr_first.specs.elf_load.FirstStack.{pairs_of, random_at, random_bytes, stack_bytes, stack_pointer, stack_top, text_bytes, texts_at, texts_size, word_bytes, word_count, words_of, zeros}
+use Rattle.kr_first.specs.elf_load.Image.{end_page, file_bytes, first_page, first_regs, image_pages, rights_in, stack_pages, stack_rights, with_segment, with_segments, with_stack}
+use Rattle.kr_first.specs.elf_load.declared.stack.Pair.{Pair}
+use Rattle.kr_first.specs.kr_tree.Lawful.{AreBytes}
 use Rattle.kr_bytes.specs.Bytes.{AreAllBytes}
 use Rattle.kr_bytes.proofs.ListLemmas.{bytes-tested, first-of, joined, rest-of, six-joined, word-bytes, zeros as no-bytes}
 use Rattle.kr_bytes.proofs.PageLemmas.{holds-empty, holds-mapped, holds-written}

@@ -3,22 +3,22 @@ use Rattle.std.proofs.Common.{◌≡◌, ℕ, zero, suc, Bool, true, false, List
 use Rattle.std.specs.Prelude.{IfSome, codes, length, nat_eq, ◌==◌}
 use Rattle.std.specs.List.{AllByRecursion}
 use Rattle.std.specs.Option.{option_and_then, option_map, option_map_or}
-use Rattle.pr_base.specs.Paths.{below_root, slash, text_of}
-use Rattle.pr_base.specs.Texts.{Text, below, names_below, texts_eq}
-use Rattle.kr_inode.specs.declared.standing.Standing.{Standing}
-use Rattle.kr_tree.specs.Lawful.{AreBytes, HasBytes as TreeHasBytes, IsOfBytes}
-use Rattle.kr_tree.specs.Names.{host_name, host_name_within, process_names, step_up}
-use Rattle.kr_tree.specs.Tree.{Body, Directory, Entry, Inode, ProcessDirectory, RegularFile, SymbolicLink, Tree, body_is, entries, entries_of, entry_at, inode, is_directory, root, standing}
-use Rattle.kr_tree.specs.declared.place.Host.{Host}
-use Rattle.kr_tree.specs.declared.place.Host.TheVariants.{Node, Proc}
-use Rattle.kr_tree.specs.declared.place.Place.{Place}
-use Rattle.kr_tree.specs.declared.place.ProcAt.{ProcAt}
-use Rattle.kr_tree.specs.declared.place.ProcAt.TheVariants.{Cwd, Dir, Exe, Fd, FdDir, Root, SelfLink}
-use Rattle.kr_view.specs.Component.{Namespace, is_process_directory, is_shown}
-use Rattle.kr_view.specs.Names.{Remembered, guest_below, guest_directory, guest_entry, guest_name, guest_node, guest_object, guest_process, is_file_source, names_down, process_name, process_object_name, shown_process_name}
-use Rattle.kr_view.specs.View.{Row, row}
-use Rattle.kr_model.specs.ProcessDirectory.{name_text, remembered}
-use Rattle.kr_allowed.proofs.PieceLemmas.{all-append}
+use Rattle.kr_first.specs.pr_base.Paths.{below_root, slash, text_of}
+use Rattle.kr_first.specs.pr_base.Texts.{Text, below, names_below, texts_eq}
+use Rattle.kr_first.specs.kr_inode.declared.standing.Standing.{Standing}
+use Rattle.kr_first.specs.kr_tree.Lawful.{AreBytes, HasBytes as TreeHasBytes, IsOfBytes}
+use Rattle.kr_first.specs.kr_tree.Names.{host_name, host_name_within, process_names, step_up}
+use Rattle.kr_first.specs.kr_tree.Tree.{Body, Directory, Entry, Inode, ProcessDirectory, RegularFile, SymbolicLink, Tree, body_is, entries, entries_of, entry_at, inode, is_directory, root, standing}
+use Rattle.kr_first.specs.kr_tree.declared.place.Host.{Host}
+use Rattle.kr_first.specs.kr_tree.declared.place.Host.TheVariants.{Node, Proc}
+use Rattle.kr_first.specs.kr_tree.declared.place.Place.{Place}
+use Rattle.kr_first.specs.kr_tree.declared.place.ProcAt.{ProcAt}
+use Rattle.kr_first.specs.kr_tree.declared.place.ProcAt.TheVariants.{Cwd, Dir, Exe, Fd, FdDir, Root, SelfLink}
+use Rattle.kr_first.specs.kr_view.Component.{Namespace, is_process_directory, is_shown}
+use Rattle.kr_first.specs.kr_view.Names.{Remembered, guest_below, guest_directory, guest_entry, guest_name, guest_node, guest_object, guest_process, guest_source, is_file_source, names_down, process_name, process_object_name, shown_process_name}
+use Rattle.kr_first.specs.kr_view.View.{Row, row}
+use Rattle.kr_first.specs.kr_model.ProcessDirectory.{name_text, remembered}
+use Rattle.kr_first.proofs.kr_allowed.PieceLemmas.{all-append}
 use Rattle.kr_bytes.specs.Bytes.{AreAllBytes, TableHasBytes}
 use Rattle.kr_bytes.proofs.ListLemmas.{all-found, bytes-tested, decimal-bytes, joined}
 
@@ -170,10 +170,14 @@ module _ (space : Namespace) (has : TreeHasBytes space.tree) (table : TableHasBy
   below-source-bytes : (r : Option Row) (i : ℕ) (o : Remembered) → IsOfTable r → IsRemembered o → IsByteText (guest_below space.tree r i o)
   below-source-bytes r i o are own = either-text (body_is is_directory space.tree i) (guest_directory space.tree r i) (guest_entry space.tree r o) (directory-bytes r i are) (entry-bytes r o are own)
 
+  source-name-bytes : (r : Option Row) (o : Remembered) → IsOfTable r → IsByteText (guest_source r o)
+  source-name-bytes r None are = tt
+  source-name-bytes r (Some e) are = if-mapped (λ (r : Row). AreAllBytes r.text.location) AreAllBytes (λ r. r.text.location) r (λ r is. is) are
+
   node-name-bytes : (r : Option Row) (i : ℕ) (o : Remembered) → IsOfTable r → IsRemembered o → IsByteText (guest_node space.tree r i o)
   node-name-bytes r i o are own =
-      either-text (is_file_source r i) (option_map (λ r. r.text.location) r) (guest_below space.tree r i o)
-      (if-mapped (λ (r : Row). AreAllBytes r.text.location) AreAllBytes (λ r. r.text.location) r (λ r is. is) are) (below-source-bytes r i o are own)
+      either-text (is_file_source r i) (guest_source r o) (guest_below space.tree r i o)
+      (source-name-bytes r o are) (below-source-bytes r i o are own)
 
   process-guest-bytes : (r : Option Row) (i : ℕ) (at : ProcAt) (o : Remembered) → IsOfTable r → IsRemembered o → IsByteText (guest_process space r i at o)
   process-guest-bytes r i at o are own =

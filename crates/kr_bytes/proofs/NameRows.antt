@@ -2,19 +2,19 @@
 use Rattle.std.proofs.Common.{ℕ, Bool, true, false, List, [], refl, Option, Some, None, ℤ, cond}
 use Rattle.std.specs.Option.{option_map_or}
 use Rattle.std.specs.Prelude.{◌==◌, ◌&&◌, ◌||◌, not}
-use Rattle.pr_base.specs.declared.errno.Errno.TheVariants.{EACCES, EBUSY, EEXIST, EINVAL, EISDIR, ENOENT, ENOSPC, ENOTDIR, ENOTEMPTY, EPERM, EXDEV}
-use Rattle.kr_inode.specs.declared.user.User.{User}
-use Rattle.kr_tree.specs.Lawful.{AreBytes}
-use Rattle.kr_tree.specs.Tree.{Node}
-use Rattle.kr_tree.specs.declared.place.Host.{Host}
-use Rattle.kr_tree.specs.declared.place.Host.TheVariants as host
-use Rattle.kr_model.specs.AttributeRows.{chmod_host, chmod_node, chown_by, chown_host, chown_node, faccessat_row, fchmod_row, fchmodat_row, fchown_row, fchownat_here, fchownat_row, may_give, unchanged}
-use Rattle.kr_model.specs.Asking.{is_directory_host, is_processes_host}
-use Rattle.kr_model.specs.Change.{Change}
-use Rattle.kr_model.specs.Known.{Known, known_node}
-use Rattle.kr_model.specs.NameRows.{ending_removed, is_above_old, is_at_or_above, is_one, link_host, linkat_row, mkdirat_row, move_entry, move_found, move_free, move_onto, move_over, move_taken, move_uncovered, remove_directory, remove_file, renameat2_row, rmdir_found, rmdir_row, symlinkat_row, take_entry, unless_kept, unlink_found, unlink_row, unlinkat_row}
-use Rattle.kr_model.specs.Reply.{Replying, refuse}
-use Rattle.kr_model.specs.Seen.{Entered, Looked, Made, Makes, MakesNoName, MakesOver, Taken, Takes, TakesCovered, TakesNoName}
+use Rattle.kr_first.specs.pr_base.declared.errno.Errno.TheVariants.{EACCES, EBUSY, EEXIST, EINVAL, EISDIR, ENOENT, ENOSPC, ENOTDIR, ENOTEMPTY, EPERM, EXDEV}
+use Rattle.kr_first.specs.kr_inode.declared.user.User.{User}
+use Rattle.kr_first.specs.kr_tree.Lawful.{AreBytes}
+use Rattle.kr_first.specs.kr_tree.Tree.{Node}
+use Rattle.kr_first.specs.kr_tree.declared.place.Host.{Host}
+use Rattle.kr_first.specs.kr_tree.declared.place.Host.TheVariants as host
+use Rattle.kr_first.specs.kr_model.AttributeRows.{chmod_host, chmod_node, chown_by, chown_host, chown_node, faccessat_row, fchmod_row, fchmodat_row, fchown_row, fchownat_here, fchownat_row, may_give, unchanged}
+use Rattle.kr_first.specs.kr_model.Asking.{is_directory_host, is_processes_host}
+use Rattle.kr_first.specs.kr_model.Change.{Change}
+use Rattle.kr_first.specs.kr_model.Known.{Known, known_node}
+use Rattle.kr_first.specs.kr_model.NameRows.{ending_removed, is_above_old, is_at_or_above, is_one, link_host, linkat_row, mkdirat_row, move_entry, move_found, move_free, move_onto, move_over, move_taken, move_uncovered, remove_directory, remove_file, renameat2_row, rmdir_found, rmdir_row, symlinkat_row, take_entry, unless_kept, unlink_found, unlink_row, unlinkat_row}
+use Rattle.kr_first.specs.kr_model.Reply.{Replying, refuse}
+use Rattle.kr_first.specs.kr_model.Seen.{Entered, Looked, Made, Makes, MakesNoName, MakesOver, Taken, Takes, TakesCovered, TakesNoName}
 use Rattle.kr_bytes.specs.Bringing.{BringBytes, MadeHasBytes, TakenHasBytes}
 use Rattle.kr_bytes.proofs.ActionLemmas.{either_way}
 use Rattle.kr_bytes.proofs.RowLemmas.{Puts, answered, brought, by-open, maybe, refused, written-to}

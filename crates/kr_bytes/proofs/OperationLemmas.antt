@@ -1,14 +1,14 @@
 -- Every call writes bytes and brings bytes, of what it knows and is told.
 use Rattle.std.proofs.Common.{ℕ, List, [], ◌∷◌, refl, Option}
 use Rattle.std.specs.Prelude.{IfSome}
-use Rattle.pr_base.specs.declared.errno.Errno.TheVariants.{ENOENT, ENOEXEC, EPERM}
-use Rattle.kr_calls.specs.declared.request.Request.{Request}
-use Rattle.kr_calls.specs.declared.request.Request.TheVariants as call
-use Rattle.kr_tree.specs.Lawful.{AreBytes}
-use Rattle.kr_model.specs.Known.{Known}
-use Rattle.kr_model.specs.Operation.{by_path, directory_named, link_read, linked, looked_up, made, moved, opened, operation, taken}
-use Rattle.kr_model.specs.Reply.{Replying}
-use Rattle.kr_model.specs.Seen.{Links, Looked, LooksUp, Made, MakesEntry, Moves, NamesDirectory, Opening, Opens, ReadsLink, Seen, Taken, TakesEntry, WalkFails}
+use Rattle.kr_first.specs.pr_base.declared.errno.Errno.TheVariants.{ENOENT, ENOEXEC, EPERM}
+use Rattle.kr_first.specs.kr_calls.declared.request.Request.{Request}
+use Rattle.kr_first.specs.kr_calls.declared.request.Request.TheVariants as call
+use Rattle.kr_first.specs.kr_tree.Lawful.{AreBytes}
+use Rattle.kr_first.specs.kr_model.Known.{Known}
+use Rattle.kr_first.specs.kr_model.Operation.{by_path, directory_named, link_read, linked, looked_up, made, moved, opened, operation, taken}
+use Rattle.kr_first.specs.kr_model.Reply.{Replying}
+use Rattle.kr_first.specs.kr_model.Seen.{Links, Looked, LooksUp, Made, MakesEntry, Moves, NamesDirectory, Opening, Opens, ReadsLink, Seen, Taken, TakesEntry, WalkFails}
 use Rattle.kr_bytes.specs.Bringing.{KnowsBytes, MadeHasBytes, OpeningHasBytes, SeenHasBytes}
 use Rattle.kr_bytes.specs.Bytes.{HasByteText}
 use Rattle.kr_bytes.proofs.FileRows.{ftruncate-puts, openat-puts, read-puts, readv-puts, write-puts, writev-puts}

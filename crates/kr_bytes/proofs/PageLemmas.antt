@@ -5,12 +5,12 @@ use Rattle.std.specs.Prelude.{slice_set}
 use Rattle.std.specs.Option.{option_map, option_map_or}
 use Rattle.std.specs.Ordering.{nat_cmp}
 use Rattle.std.proofs.lemmas.Bool.{cases_eq}
-use Rattle.pr_base.proofs.MapLemmas.{get-changed_other, get-changed_same, get-insert_other, get-insert_same, get-remove_other, get-remove_same}
-use Rattle.rv_mem.specs.declared.rights.Rights.{Rights}
-use Rattle.rv_mem.specs.Page.{PageState, fresh_page, page_with_rights, page_written, zero_bytes}
-use Rattle.rv_mem.specs.Pages.{HoldsBytes, Pages, mapped, marked, protected, unmapped, with_page, written}
-use Rattle.rv_mem.proofs.AddressLemmas.{byte_at-marked}
-use Rattle.kr_tree.specs.Lawful.{AreBytes}
+use Rattle.kr_first.proofs.pr_base.MapLemmas.{get-changed_other, get-changed_same, get-insert_other, get-insert_same, get-remove_other, get-remove_same}
+use Rattle.kr_first.specs.rv_mem.declared.rights.Rights.{Rights}
+use Rattle.kr_first.specs.rv_mem.Page.{PageState, fresh_page, page_with_rights, page_written, zero_bytes}
+use Rattle.kr_first.specs.rv_mem.Pages.{HoldsBytes, Pages, mapped, marked, protected, unmapped, with_page, written}
+use Rattle.kr_first.proofs.rv_mem.AddressLemmas.{byte_at-marked}
+use Rattle.kr_first.specs.kr_tree.Lawful.{AreBytes}
 
 -- ---- one page
 

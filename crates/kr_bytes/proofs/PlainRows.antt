@@ -2,20 +2,20 @@
 use Rattle.std.proofs.Common.{ℕ, Bool, true, false, ◌&&◌, List, [], ◌∷◌, refl, Option, Some, None, ◌+ℤ◌, zero, suc, length, ℤ, pos, negsuc, ◌||◌, nat_lt, replicate, ◌-◌}
 use Rattle.std.specs.Prelude.{◌==◌, codes}
 use Rattle.std.specs.Int.{to_le_bytes, w32}
-use Rattle.pr_base.specs.declared.errno.Errno.TheVariants.{EAGAIN, EBADF, ECHILD, EFAULT, EINVAL, EMFILE, ENOMEM, ENOTTY, EPERM, ESPIPE}
-use Rattle.kr_tree.specs.Lawful.{AreBytes}
-use Rattle.kr_files.specs.declared.opened.Opened.{Opened}
-use Rattle.kr_files.specs.declared.opened.What.{What}
-use Rattle.kr_files.specs.declared.opened.What.TheVariants.{Dir, Err, File, In, Out, PipeRead, PipeWrite}
-use Rattle.kr_model.specs.Asking.{descriptor_number}
-use Rattle.kr_model.specs.Change.{Reap}
-use Rattle.kr_model.specs.DescriptorRows.{close_row, copy_from, copy_to, copy_under, dup3_row, dup_row, fcntl_by, fcntl_row, ioctl_row, lseek_row, open_bytes, pipe2_row, pipe_numbers, pipe_under, seek_directory, seek_file, seek_to, seek_what}
-use Rattle.kr_model.specs.IdentityRows.{get_three_row, getgroups_row, set_row, set_three_row, set_two_row}
-use Rattle.kr_model.specs.Known.{Known}
-use Rattle.kr_model.specs.MemoryRows.{brk_row, grow, has_page, lowest_place, map_at, mmap_row, mprotect_row, munmap_row, page_count, pages_end, passes_limit}
-use Rattle.kr_model.specs.ProcessRows.{clone_row, exit_row, null_or_writable, reap, tell_end, uname_bytes, uname_field, uname_row, unless_null, usage_size, wait4_row, wait_for}
-use Rattle.kr_model.specs.Reply.{Replying, done}
-use Rattle.kr_model.specs.State.{Ended}
+use Rattle.kr_first.specs.pr_base.declared.errno.Errno.TheVariants.{EAGAIN, EBADF, ECHILD, EFAULT, EINVAL, EMFILE, ENOMEM, ENOTTY, EPERM, ESPIPE}
+use Rattle.kr_first.specs.kr_tree.Lawful.{AreBytes}
+use Rattle.kr_first.specs.kr_files.declared.opened.Opened.{Opened}
+use Rattle.kr_first.specs.kr_files.declared.opened.What.{What}
+use Rattle.kr_first.specs.kr_files.declared.opened.What.TheVariants.{Dir, Err, File, In, Out, PipeRead, PipeWrite}
+use Rattle.kr_first.specs.kr_model.Asking.{descriptor_number}
+use Rattle.kr_first.specs.kr_model.Change.{Reap}
+use Rattle.kr_first.specs.kr_model.DescriptorRows.{close_row, copy_from, copy_to, copy_under, dup3_row, dup_row, fcntl_by, fcntl_row, ioctl_row, lseek_row, open_bytes, pipe2_row, pipe_numbers, pipe_under, seek_directory, seek_file, seek_to, seek_what}
+use Rattle.kr_first.specs.kr_model.IdentityRows.{get_three_row, getgroups_row, set_row, set_three_row, set_two_row}
+use Rattle.kr_first.specs.kr_model.Known.{Known}
+use Rattle.kr_first.specs.kr_model.MemoryRows.{brk_row, grow, has_page, lowest_place, map_at, mmap_row, mprotect_row, munmap_row, page_count, pages_end, passes_limit}
+use Rattle.kr_first.specs.kr_model.ProcessRows.{clone_row, exit_row, null_or_writable, reap, tell_end, uname_bytes, uname_field, uname_row, unless_null, usage_size, wait4_row, wait_for}
+use Rattle.kr_first.specs.kr_model.Reply.{Replying, done}
+use Rattle.kr_first.specs.kr_model.State.{Ended}
 use Rattle.kr_bytes.proofs.ActionLemmas.{either_way, tested, wrote}
 use Rattle.kr_bytes.proofs.ListLemmas.{bytes-tested, joined, six-joined, word-bytes, zeros}
 use Rattle.kr_bytes.proofs.RowLemmas.{Puts, answered, by-open, ending, maybe, refused, waiting, written}

@@ -1,21 +1,21 @@
 -- Instructions leave as many registers as there were, and so does a fork.
 use Rattle.std.proofs.Common.{◌≡◌, ℕ, zero, suc, Bool, true, false, cond, List, length, length-set, Option, Some, None, refl, ◌∙◌, ◌*◌, ◌/◌, ◌%◌, ℤ}
 use Rattle.std.specs.Prelude.{◌==◌, not, slice_set}
-use Rattle.pr_base.specs.Fields.{little_endian}
-use Rattle.rv_table.specs.Rows.{decoded}
-use Rattle.rv_table.specs.declared.instr.Instr.{Instr}
-use Rattle.rv_table.specs.declared.instr.Instr.TheVariants.{Lb, Lh, Lw, Ld, Lbu, Lhu, Lwu, Fence, Addi, Slti, Sltiu, Xori, Ori, Andi, Slli, Srli, Srai, Auipc, Addiw, Slliw, Srliw, Sraiw, Sb, Sh, Sw, Sd, Add, Sub, Sll, Slt, Sltu, Xor, Srl, Sra, Or, And, Mul, Mulh, Mulhsu, Mulhu, Div, Divu, Rem, Remu, Lui, Addw, Subw, Sllw, Srlw, Sraw, Mulw, Divw, Divuw, Remw, Remuw, Beq, Bne, Blt, Bge, Bltu, Bgeu, Jalr, Jal, Ecall, Ebreak, LrW, LrD, ScW, ScD, AmoswapW, AmoswapD, AmoaddW, AmoaddD, AmoxorW, AmoxorD, AmoandW, AmoandD, AmoorW, AmoorD, AmominW, AmominD, AmomaxW, AmomaxD, AmominuW, AmominuD, AmomaxuW, AmomaxuD}
-use Rattle.rv_mem.specs.Actions.{Action, CarriedOut, Done, MayUse, ReadBytes, WriteBytes, allows_uses, carried_out}
-use Rattle.rv_mem.specs.Memory.{Memory, after_read, with_pages}
-use Rattle.rv_mem.specs.Pages.{bytes_from, written}
-use Rattle.rv_mem.specs.declared.regs.Regs.{Regs}
-use Rattle.rv_mem.specs.declared.rights.Use.{Use}
-use Rattle.rv_cpu.specs.Run.{Ran, after_one, counted, ran_holding}
-use Rattle.rv_cpu.specs.Step.{Stepped, address, at_pc, branches, ends, executed, executed_word, holds, jumps, kills, loads, lowest_bytes, moved_on, register, replaces, reserves, step, stores, stores_if_held, with_register}
-use Rattle.rv_cpu.specs.Words.{both, either, exactly_one, greatest, greatest_unsigned, is_less, is_less_unsigned, least, least_unsigned, sign_extended, sign_extended_byte, sign_extended_half, sum, word_greatest, word_greatest_unsigned, word_least, word_least_unsigned, wrapped}
-use Rattle.rv_cpu.specs.declared.event.Event.TheVariants.{Call, Killed, Next}
-use Rattle.rv_cpu.specs.declared.reservation.Held.{Held}
-use Rattle.kr_model.specs.Applied.{child_regs}
+use Rattle.kr_first.specs.pr_base.Fields.{little_endian}
+use Rattle.kr_turns.specs.rv_table.Rows.{decoded}
+use Rattle.kr_turns.specs.rv_table.declared.instr.Instr.{Instr}
+use Rattle.kr_turns.specs.rv_table.declared.instr.Instr.TheVariants.{Lb, Lh, Lw, Ld, Lbu, Lhu, Lwu, Fence, Addi, Slti, Sltiu, Xori, Ori, Andi, Slli, Srli, Srai, Auipc, Addiw, Slliw, Srliw, Sraiw, Sb, Sh, Sw, Sd, Add, Sub, Sll, Slt, Sltu, Xor, Srl, Sra, Or, And, Mul, Mulh, Mulhsu, Mulhu, Div, Divu, Rem, Remu, Lui, Addw, Subw, Sllw, Srlw, Sraw, Mulw, Divw, Divuw, Remw, Remuw, Beq, Bne, Blt, Bge, Bltu, Bgeu, Jalr, Jal, Ecall, Ebreak, LrW, LrD, ScW, ScD, AmoswapW, AmoswapD, AmoaddW, AmoaddD, AmoxorW, AmoxorD, AmoandW, AmoandD, AmoorW, AmoorD, AmominW, AmominD, AmomaxW, AmomaxD, AmominuW, AmominuD, AmomaxuW, AmomaxuD}
+use Rattle.kr_first.specs.rv_mem.Actions.{Action, CarriedOut, Done, MayUse, ReadBytes, WriteBytes, allows_uses, carried_out}
+use Rattle.kr_first.specs.rv_mem.Memory.{Memory, after_read, with_pages}
+use Rattle.kr_first.specs.rv_mem.Pages.{bytes_from, written}
+use Rattle.kr_first.specs.rv_mem.declared.regs.Regs.{Regs}
+use Rattle.kr_first.specs.rv_mem.declared.rights.Use.{Use}
+use Rattle.kr_turns.specs.rv_cpu.Run.{Ran, after_one, counted, ran_holding}
+use Rattle.kr_turns.specs.rv_cpu.Step.{Stepped, address, at_pc, branches, ends, executed, executed_word, holds, jumps, kills, loads, lowest_bytes, moved_on, register, replaces, reserves, step, stores, stores_if_held, with_register}
+use Rattle.kr_turns.specs.rv_cpu.Words.{both, either, exactly_one, greatest, greatest_unsigned, is_less, is_less_unsigned, least, least_unsigned, sign_extended, sign_extended_byte, sign_extended_half, sum, word_greatest, word_greatest_unsigned, word_least, word_least_unsigned, wrapped}
+use Rattle.kr_turns.specs.rv_cpu.declared.event.Event.TheVariants.{Call, Killed, Next}
+use Rattle.kr_turns.specs.rv_cpu.declared.reservation.Held.{Held}
+use Rattle.kr_first.specs.kr_model.Applied.{child_regs}
 use Rattle.kr_bytes.specs.Laws.{InstructionsKeepRegisters}
 
 -- an action that comes to a good reply, whatever it reads

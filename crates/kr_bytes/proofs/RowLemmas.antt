@@ -2,21 +2,21 @@
 use Rattle.std.proofs.Common.{◌≡◌, ℕ, Bool, true, false, ◌&&◌, List, [], ◌∷◌, ◌++◌, length, drop, refl, Option, Some, None, ℤ}
 use Rattle.std.specs.List.{AllByRecursion, list_all}
 use Rattle.std.specs.Option.{option_map_or}
-use Rattle.pr_base.specs.declared.errno.Errno.{Errno}
-use Rattle.pr_base.specs.declared.errno.Errno.TheVariants.{EACCES, EBADF, EFAULT, EINVAL, ENOENT, ENOTDIR}
-use Rattle.rv_mem.specs.Actions.{write_if_allowed}
-use Rattle.rv_mem.specs.declared.rights.Use.{Use}
-use Rattle.rv_mem.specs.declared.rights.Use.TheVariants.{Write}
-use Rattle.kr_tree.specs.Lawful.{AreBytes}
-use Rattle.kr_tree.specs.Tree.{Body, Directory, Node, ProcessDirectory, RegularFile, SymbolicLink}
-use Rattle.kr_tree.specs.declared.place.Host.{Host}
-use Rattle.kr_tree.specs.declared.place.Host.TheVariants as host
-use Rattle.kr_files.specs.declared.opened.Opened.{Opened}
-use Rattle.kr_model.specs.Asking.{descriptor_number, is_over, of_number, or_badf, or_closed, writable, writable_body, writable_node}
-use Rattle.kr_model.specs.Change.{AddNode, Change, LinkNode, MoveName, OpenFile, PutIntoPipe, ReplaceExecutable, ReplaceImage, WriteFile}
-use Rattle.kr_model.specs.Known.{Known, known_node}
-use Rattle.kr_model.specs.Pieces.{Part, Piece, cut_to, hand, if_summed, if_usable, laid_into, may_use_all, pieces_of, read_all, with_list, write_all}
-use Rattle.kr_model.specs.Reply.{Reply, Replying, done, ends, refuse, waits}
+use Rattle.kr_first.specs.pr_base.declared.errno.Errno.{Errno}
+use Rattle.kr_first.specs.pr_base.declared.errno.Errno.TheVariants.{EACCES, EBADF, EFAULT, EINVAL, ENOENT, ENOTDIR}
+use Rattle.kr_first.specs.rv_mem.Actions.{write_if_allowed}
+use Rattle.kr_first.specs.rv_mem.declared.rights.Use.{Use}
+use Rattle.kr_first.specs.rv_mem.declared.rights.Use.TheVariants.{Write}
+use Rattle.kr_first.specs.kr_tree.Lawful.{AreBytes}
+use Rattle.kr_first.specs.kr_tree.Tree.{Body, Directory, Node, ProcessDirectory, RegularFile, SymbolicLink}
+use Rattle.kr_first.specs.kr_tree.declared.place.Host.{Host}
+use Rattle.kr_first.specs.kr_tree.declared.place.Host.TheVariants as host
+use Rattle.kr_first.specs.kr_files.declared.opened.Opened.{Opened}
+use Rattle.kr_first.specs.kr_model.Asking.{descriptor_number, is_over, of_number, or_badf, or_closed, writable, writable_body, writable_node}
+use Rattle.kr_first.specs.kr_model.Change.{AddNode, Change, LinkNode, MoveName, OpenFile, PutIntoPipe, ReplaceExecutable, ReplaceImage, WriteFile}
+use Rattle.kr_first.specs.kr_model.Known.{Known, known_node}
+use Rattle.kr_first.specs.kr_model.Pieces.{Part, Piece, cut_to, hand, if_summed, if_usable, laid_into, may_use_all, pieces_of, read_all, with_list, write_all}
+use Rattle.kr_first.specs.kr_model.Reply.{Reply, Replying, done, ends, refuse, waits}
 use Rattle.kr_bytes.specs.Bringing.{BringBytes, BringsBytes}
 use Rattle.kr_bytes.proofs.ActionLemmas.{PutsBytes, either_way, read, tested, told, wrote}
 use Rattle.kr_bytes.proofs.ListLemmas.{first-of, joined, rest-of}

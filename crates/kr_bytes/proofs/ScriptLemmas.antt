@@ -3,12 +3,12 @@ use Rattle.std.proofs.Common.{◌≡◌, ℕ, zero, suc, Bool, true, false, cond
 use Rattle.std.specs.Prelude.{◌==◌, Err, Ok, Result}
 use Rattle.std.specs.List.{list_any}
 use Rattle.std.proofs.lemmas.List.{reverse-append}
-use Rattle.pr_base.specs.declared.errno.Errno.{Errno}
-use Rattle.pr_base.specs.declared.errno.Errno.TheVariants.{E2BIG, ELOOP}
-use Rattle.kr_calls.specs.Expansion.{Expanded, Finding, Onward, argument_of, by_interpreter, by_line, expanded, is_script, is_too_big, new_args, runs}
-use Rattle.kr_calls.specs.Scripts.{before, from_blank, interpreter_of, is_blank, is_cut, is_newline, line_of, parted, script_of, without_leading_blanks, without_trailing_blanks}
-use Rattle.kr_tree.specs.Lawful.{AreBytes}
-use Rattle.kr_allowed.proofs.PieceLemmas.{all-append}
+use Rattle.kr_first.specs.pr_base.declared.errno.Errno.{Errno}
+use Rattle.kr_first.specs.pr_base.declared.errno.Errno.TheVariants.{E2BIG, ELOOP}
+use Rattle.kr_first.specs.kr_calls.Expansion.{Expanded, Finding, Onward, argument_of, by_interpreter, by_line, expanded, is_script, is_too_big, new_args, runs}
+use Rattle.kr_first.specs.kr_calls.Scripts.{before, from_blank, interpreter_of, is_blank, is_cut, is_newline, line_of, parted, script_of, without_leading_blanks, without_trailing_blanks}
+use Rattle.kr_first.specs.kr_tree.Lawful.{AreBytes}
+use Rattle.kr_first.proofs.kr_allowed.PieceLemmas.{all-append}
 use Rattle.kr_bytes.specs.Bytes.{AreAllBytes}
 use Rattle.kr_bytes.proofs.ListLemmas.{all-drop, joined, rest-of}
 

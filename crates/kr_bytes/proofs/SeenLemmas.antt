@@ -3,41 +3,41 @@ use Rattle.std.proofs.Common.{◌≡◌, ℕ, Bool, true, false, cond, List, [],
 use Rattle.std.specs.Prelude.{◌==◌, Err, IfSome, Ok, Result, codes}
 use Rattle.std.specs.Fmt.{decimal}
 use Rattle.std.specs.Option.{option_and_then, option_map, option_map_or}
-use Rattle.pr_base.specs.declared.errno.Errno.{Errno}
-use Rattle.pr_base.specs.declared.errno.Errno.TheVariants.{ENOENT}
-use Rattle.pr_base.specs.declared.path.Last.{Last}
-use Rattle.pr_base.specs.declared.path.Last.TheVariants as last
-use Rattle.kr_calls.specs.PathTable.{PathUse, path_at}
-use Rattle.kr_calls.specs.declared.request.Request.{Request}
-use Rattle.kr_calls.specs.declared.request.Request.TheVariants as call
-use Rattle.kr_tree.specs.Lawful.{AreBytes, IsOfBytes}
-use Rattle.kr_tree.specs.Tree.{Inode, inode}
-use Rattle.kr_tree.proofs.NameLemmas.{some_is}
-use Rattle.kr_tree.specs.declared.place.Host.{Host}
-use Rattle.kr_tree.specs.declared.place.Host.TheVariants.{Node, Proc}
-use Rattle.kr_tree.specs.declared.place.Place.{Place}
-use Rattle.kr_tree.specs.declared.place.ProcAt.{ProcAt}
-use Rattle.kr_tree.specs.declared.place.ProcAt.TheVariants.{Cwd, Dir, Exe, Fd, FdDir, Root, SelfLink}
-use Rattle.kr_view.specs.Component.{is_directory_at}
-use Rattle.kr_view.specs.Names.{guest_name}
-use Rattle.kr_view.specs.View.{Row, is_there, root_place, row, source, source_entry}
-use Rattle.kr_view.specs.Walk.{PlaceTarget, place_walk}
-use Rattle.kr_view.specs.declared.procs.Lead.{Lead}
-use Rattle.kr_view.specs.declared.procs.Lead.TheVariants.{Jump, NoLink, Nameless}
-use Rattle.kr_procfs.specs.Objects.{pipe_text}
-use Rattle.kr_files.specs.Descriptors.{Named}
-use Rattle.kr_files.specs.Files.{file_at}
-use Rattle.kr_files.specs.declared.opened.Opened.{Opened}
-use Rattle.kr_files.specs.declared.opened.What.{What}
-use Rattle.kr_files.specs.declared.opened.What.TheVariants.{Dir as DirOpen, Err as ErrOpen, File, In, Out, PipeRead, PipeWrite}
-use Rattle.kr_model.specs.Applied.{cwd_of}
-use Rattle.kr_model.specs.FileRows.{creates}
-use Rattle.kr_model.specs.Known.{Fact, known}
-use Rattle.kr_model.specs.ProcessDirectory.{around_of, jump_to, lead_of_open, leads_of, link_text, name_text, open_text, remembered, space_of, unplaced_text}
-use Rattle.kr_model.specs.Seen.{Links, Looked, LooksUp, Makes, MakesEntry, MakesNoName, MakesOver, NoPath, Opens, OpensFound, OpensNew, OpensNoName, OpensSlashed, ReadsLink, Seen, Takes, TakesCovered, TakesEntry, TakesNoName, WalkFails}
-use Rattle.kr_model.specs.State.{Image, Process, State, image_layout, inode_of, named, opened, process}
-use Rattle.kr_model.specs.Walks.{Targets, and_then, base_of, created_at, entered, entry_of, if_found, if_name, is_covered, linked_at, looked_at, looks_up, made_at, mount_found, moved_at, of_one, of_two, opened_at, seen, seen_of, taken_at, target_at, targets_of, text_at, told, walked}
-use Rattle.kr_resolved.proofs.AroundLemmas.{both}
+use Rattle.kr_first.specs.pr_base.declared.errno.Errno.{Errno}
+use Rattle.kr_first.specs.pr_base.declared.errno.Errno.TheVariants.{ENOENT}
+use Rattle.kr_first.specs.pr_base.declared.path.Last.{Last}
+use Rattle.kr_first.specs.pr_base.declared.path.Last.TheVariants as last
+use Rattle.kr_first.specs.kr_calls.PathTable.{PathUse, path_at}
+use Rattle.kr_first.specs.kr_calls.declared.request.Request.{Request}
+use Rattle.kr_first.specs.kr_calls.declared.request.Request.TheVariants as call
+use Rattle.kr_first.specs.kr_tree.Lawful.{AreBytes, IsOfBytes}
+use Rattle.kr_first.specs.kr_tree.Tree.{Inode, inode}
+use Rattle.kr_first.proofs.kr_tree.NameLemmas.{some_is}
+use Rattle.kr_first.specs.kr_tree.declared.place.Host.{Host}
+use Rattle.kr_first.specs.kr_tree.declared.place.Host.TheVariants.{Node, Proc}
+use Rattle.kr_first.specs.kr_tree.declared.place.Place.{Place}
+use Rattle.kr_first.specs.kr_tree.declared.place.ProcAt.{ProcAt}
+use Rattle.kr_first.specs.kr_tree.declared.place.ProcAt.TheVariants.{Cwd, Dir, Exe, Fd, FdDir, Root, SelfLink}
+use Rattle.kr_first.specs.kr_view.Component.{is_directory_at}
+use Rattle.kr_first.specs.kr_view.Names.{guest_name}
+use Rattle.kr_first.specs.kr_view.View.{Row, is_there, root_place, row, source, source_entry}
+use Rattle.kr_first.specs.kr_view.Walk.{PlaceTarget, place_walk}
+use Rattle.kr_first.specs.kr_view.declared.procs.Lead.{Lead}
+use Rattle.kr_first.specs.kr_view.declared.procs.Lead.TheVariants.{Jump, NoLink, Nameless}
+use Rattle.kr_first.specs.kr_procfs.Objects.{pipe_text}
+use Rattle.kr_first.specs.kr_files.Descriptors.{Named}
+use Rattle.kr_first.specs.kr_files.Files.{file_at}
+use Rattle.kr_first.specs.kr_files.declared.opened.Opened.{Opened}
+use Rattle.kr_first.specs.kr_files.declared.opened.What.{What}
+use Rattle.kr_first.specs.kr_files.declared.opened.What.TheVariants.{Dir as DirOpen, Err as ErrOpen, File, In, Out, PipeRead, PipeWrite}
+use Rattle.kr_first.specs.kr_model.Applied.{cwd_of}
+use Rattle.kr_first.specs.kr_model.FileRows.{creates}
+use Rattle.kr_first.specs.kr_model.Known.{Fact, known}
+use Rattle.kr_first.specs.kr_model.ProcessDirectory.{around_of, jump_to, lead_of_open, leads_of, link_text, name_text, open_text, remembered, space_of, unplaced_text}
+use Rattle.kr_first.specs.kr_model.Seen.{Links, Looked, LooksUp, Makes, MakesEntry, MakesNoName, MakesOver, NoPath, Opens, OpensFound, OpensNew, OpensNoName, OpensSlashed, ReadsLink, Seen, Takes, TakesCovered, TakesEntry, TakesNoName, WalkFails}
+use Rattle.kr_first.specs.kr_model.State.{Image, Process, State, image_layout, inode_of, named, opened, process}
+use Rattle.kr_first.specs.kr_model.Walks.{Targets, and_then, base_of, created_at, entered, entry_of, if_found, if_name, is_covered, linked_at, looked_at, looks_up, made_at, mount_found, moved_at, of_one, of_two, opened_at, seen, seen_of, taken_at, target_at, targets_of, text_at, told, walked}
+use Rattle.kr_first.proofs.kr_resolved.AroundLemmas.{both}
 use Rattle.kr_bytes.specs.Bringing.{KnowsBytes, LookedHasBytes, MadeHasBytes, OpeningHasBytes, SeenHasBytes, TakenHasBytes}
 use Rattle.kr_bytes.specs.Bytes.{GivesBytes, HasBytes, TableHasBytes}
 use Rattle.kr_bytes.proofs.ListLemmas.{bytes-tested, decimal-bytes, joined, rest-of}

@@ -8,36 +8,36 @@ use Rattle.std.specs.Ordering.{nat_cmp}
 use Rattle.std.proofs.lemmas.Bool.{false≢true}
 use Rattle.std.proofs.lemmas.Option.{none-some}
 use Rattle.std.proofs.lemmas.Slice.Eq.{bytes_eq-Decides}
-use Rattle.pr_base.specs.declared.errno.Errno.{Errno}
-use Rattle.pr_base.specs.declared.errno.Errno.TheVariants.{ENOENT, ENOMEM}
-use Rattle.rv_mem.specs.Pages.{HoldsBytes}
-use Rattle.kr_inode.specs.declared.user.User.{User}
-use Rattle.kr_tree.specs.Changes.{held}
-use Rattle.kr_tree.specs.Holds.{holds_at}
-use Rattle.kr_tree.specs.Lawful.{AreBytes, HasBytes as TreeHasBytes}
-use Rattle.kr_tree.specs.Tree.{Entry, Tree, entries, entry, entry_named}
-use Rattle.kr_tree.specs.declared.place.Host.{Host}
-use Rattle.kr_tree.specs.declared.place.Host.TheVariants.{Node, Proc}
-use Rattle.kr_tree.specs.declared.place.Place.{Place}
-use Rattle.kr_tree.specs.declared.place.ProcAt.{ProcAt}
-use Rattle.kr_view.specs.Answers.{told}
-use Rattle.kr_view.specs.Processes.{no_leads}
-use Rattle.kr_view.specs.View.{Point, Row, down, is_point, is_there, node_in, plain, plain_row, row, source, source_place, stands_at}
-use Rattle.kr_mounts.specs.Standing.{IsSettledIn, behind, led, next_by_name}
-use Rattle.kr_mounts.proofs.StandLemmas.{point_found}
-use Rattle.kr_view.specs.Walk.{PlaceTarget}
-use Rattle.kr_exec.specs.Exec.{exec_plan}
-use Rattle.kr_exec.specs.Finding.{program_at}
-use Rattle.kr_exec.specs.Interpreters.{bytes_at}
-use Rattle.kr_exec.specs.Lists.{at_least_one}
-use Rattle.kr_exec.specs.declared.plan.ExecPlan.{ExecPlan}
-use Rattle.kr_files.specs.Files.{Counted, empty_table}
-use Rattle.kr_files.specs.declared.opened.What.TheVariants.{Err as ErrOpen, In, Out}
-use Rattle.kr_lawful.proofs.ProcessChangeLemmas.{found-passes}
-use Rattle.kr_model.specs.Applied.{open_in}
-use Rattle.kr_model.specs.State.{Image, State, inode_of}
-use Rattle.kr_model.specs.Walks.{and_then}
-use Rattle.kr_start.specs.Start.{First, console, first_pid, held_once, pinned, started, with_first, without_processes}
+use Rattle.kr_first.specs.pr_base.declared.errno.Errno.{Errno}
+use Rattle.kr_first.specs.pr_base.declared.errno.Errno.TheVariants.{ENOENT, ENOMEM}
+use Rattle.kr_first.specs.rv_mem.Pages.{HoldsBytes}
+use Rattle.kr_first.specs.kr_inode.declared.user.User.{User}
+use Rattle.kr_first.specs.kr_tree.Changes.{held}
+use Rattle.kr_first.specs.kr_tree.Holds.{holds_at}
+use Rattle.kr_first.specs.kr_tree.Lawful.{AreBytes, HasBytes as TreeHasBytes}
+use Rattle.kr_first.specs.kr_tree.Tree.{Entry, Tree, entries, entry, entry_named}
+use Rattle.kr_first.specs.kr_tree.declared.place.Host.{Host}
+use Rattle.kr_first.specs.kr_tree.declared.place.Host.TheVariants.{Node, Proc}
+use Rattle.kr_first.specs.kr_tree.declared.place.Place.{Place}
+use Rattle.kr_first.specs.kr_tree.declared.place.ProcAt.{ProcAt}
+use Rattle.kr_first.specs.kr_view.Answers.{told}
+use Rattle.kr_first.specs.kr_view.Processes.{no_leads}
+use Rattle.kr_first.specs.kr_view.View.{Point, Row, down, is_point, is_there, node_in, plain, plain_row, row, source, source_place, stands_at}
+use Rattle.kr_first.specs.kr_mounts.Standing.{IsSettledIn, behind, led, next_by_name}
+use Rattle.kr_first.proofs.kr_mounts.StandLemmas.{point_found}
+use Rattle.kr_first.specs.kr_view.Walk.{PlaceTarget}
+use Rattle.kr_first.specs.kr_exec.Exec.{exec_plan}
+use Rattle.kr_first.specs.kr_exec.Finding.{program_at}
+use Rattle.kr_first.specs.kr_exec.Interpreters.{bytes_at}
+use Rattle.kr_first.specs.kr_exec.Lists.{at_least_one}
+use Rattle.kr_first.specs.kr_exec.declared.plan.ExecPlan.{ExecPlan}
+use Rattle.kr_first.specs.kr_files.Files.{Counted, empty_table}
+use Rattle.kr_first.specs.kr_files.declared.opened.What.TheVariants.{Err as ErrOpen, In, Out}
+use Rattle.kr_first.proofs.kr_lawful.ProcessChangeLemmas.{found-passes}
+use Rattle.kr_first.specs.kr_model.Applied.{open_in}
+use Rattle.kr_first.specs.kr_model.State.{Image, State, inode_of}
+use Rattle.kr_first.specs.kr_model.Walks.{and_then}
+use Rattle.kr_first.specs.kr_start.Start.{First, console, first_pid, held_once, pinned, started, with_first, without_processes}
 use Rattle.kr_first.specs.Starting.{around, directory_at, exceeds, found_from, idle_state, is_walked, path_errno, plan_of, process_of, start_from, start_of, started_with}
 use Rattle.kr_first.specs.declared.starting.First as asked
 use Rattle.kr_bytes.specs.Bytes.{AreAllBytes, FilesHaveBytes, HasBytes, TableHasBytes}

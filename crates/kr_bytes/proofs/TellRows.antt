@@ -4,26 +4,26 @@ use Rattle.std.specs.Prelude.{◌==◌, IfSome, codes, map as map_list, nat_le, 
 use Rattle.std.specs.Int.{to_le_bytes, w16, w32, w64}
 use Rattle.std.specs.List.{AllByRecursion, find}
 use Rattle.std.specs.Option.{option_map_or}
-use Rattle.pr_base.specs.declared.errno.Errno.TheVariants.{EACCES, EBADF, EFAULT, EINVAL, ENOENT, ENOTDIR, EPERM, ERANGE}
-use Rattle.kr_calls.specs.DirectoryEntries.{entry_bytes, head_size, record_length}
-use Rattle.kr_calls.specs.Stats.{laid, stat_fields, stat_layout}
-use Rattle.kr_calls.specs.declared.stat.Stat.{Stat}
-use Rattle.kr_tree.specs.Lawful.{AreBytes, IsOfBytes}
-use Rattle.kr_tree.specs.Tree.{Body, Directory, Entry, Node, ProcessDirectory, RegularFile, SymbolicLink}
-use Rattle.kr_tree.specs.declared.place.Host.{Host}
-use Rattle.kr_tree.specs.declared.place.Host.TheVariants as host
-use Rattle.kr_tree.specs.declared.place.ProcAt.{ProcAt}
-use Rattle.kr_tree.specs.declared.place.ProcAt.TheVariants.{Cwd, Dir, Exe, Fd, FdDir, Root, SelfLink}
-use Rattle.kr_view.specs.Component.{is_process_directory}
-use Rattle.kr_procfs.specs.Objects.{own_name}
-use Rattle.kr_files.specs.declared.opened.What.{What}
-use Rattle.kr_files.specs.declared.opened.What.TheVariants.{Dir as DirOpen, Err, File, In, Out, PipeRead, PipeWrite}
-use Rattle.kr_model.specs.Asking.{is_over}
-use Rattle.kr_model.specs.AttributeRows.{console_stat, fstat_row, newfstatat_here, newfstatat_row, node_stat, pipe_stat, process_stat, readlink_body, readlink_host, readlinkat_row, stat_host, stat_unplaced, tell_stat, tell_text}
-use Rattle.kr_model.specs.DirectoryRows.{Listed, behind, chdir_row, chroot_row, fchdir_row, fitting, getcwd_row, getdents64_row, if_entered, kind_of_body, list_host, list_rest, listed_bytes, listed_entry, listed_process, of_descriptors, of_process, of_processes, shown_by, shown_by_body, shown_by_process, tell_directory, tell_entries, with_dots}
-use Rattle.kr_model.specs.Known.{Family, Known, known_node}
-use Rattle.kr_model.specs.Reply.{Replying, refuse}
-use Rattle.kr_model.specs.Seen.{Looked}
+use Rattle.kr_first.specs.pr_base.declared.errno.Errno.TheVariants.{EACCES, EBADF, EFAULT, EINVAL, ENOENT, ENOTDIR, EPERM, ERANGE}
+use Rattle.kr_first.specs.kr_calls.DirectoryEntries.{entry_bytes, head_size, record_length}
+use Rattle.kr_first.specs.kr_calls.Stats.{laid, stat_fields, stat_layout}
+use Rattle.kr_first.specs.kr_calls.declared.stat.Stat.{Stat}
+use Rattle.kr_first.specs.kr_tree.Lawful.{AreBytes, IsOfBytes}
+use Rattle.kr_first.specs.kr_tree.Tree.{Body, Directory, Entry, Node, ProcessDirectory, RegularFile, SymbolicLink}
+use Rattle.kr_first.specs.kr_tree.declared.place.Host.{Host}
+use Rattle.kr_first.specs.kr_tree.declared.place.Host.TheVariants as host
+use Rattle.kr_first.specs.kr_tree.declared.place.ProcAt.{ProcAt}
+use Rattle.kr_first.specs.kr_tree.declared.place.ProcAt.TheVariants.{Cwd, Dir, Exe, Fd, FdDir, Root, SelfLink}
+use Rattle.kr_first.specs.kr_view.Component.{is_process_directory}
+use Rattle.kr_first.specs.kr_procfs.Objects.{own_name}
+use Rattle.kr_first.specs.kr_files.declared.opened.What.{What}
+use Rattle.kr_first.specs.kr_files.declared.opened.What.TheVariants.{Dir as DirOpen, Err, File, In, Out, PipeRead, PipeWrite}
+use Rattle.kr_first.specs.kr_model.Asking.{is_over}
+use Rattle.kr_first.specs.kr_model.AttributeRows.{console_stat, fstat_row, newfstatat_here, newfstatat_row, node_stat, pipe_stat, process_stat, readlink_body, readlink_host, readlinkat_row, stat_host, stat_unplaced, tell_stat, tell_text}
+use Rattle.kr_first.specs.kr_model.DirectoryRows.{Listed, behind, chdir_row, chroot_row, fchdir_row, fitting, getcwd_row, getdents64_row, if_entered, kind_of_body, list_host, list_rest, listed_bytes, listed_entry, listed_process, of_descriptors, of_process, of_processes, shown_by, shown_by_body, shown_by_process, tell_directory, tell_entries, with_dots}
+use Rattle.kr_first.specs.kr_model.Known.{Family, Known, known_node}
+use Rattle.kr_first.specs.kr_model.Reply.{Replying, refuse}
+use Rattle.kr_first.specs.kr_model.Seen.{Looked}
 use Rattle.kr_bytes.specs.Bringing.{KnowsBytes}
 use Rattle.kr_bytes.proofs.ActionLemmas.{either_way}
 use Rattle.kr_bytes.proofs.FileRows.{node-bytes}

@@ -3,15 +3,15 @@ use Rattle.std.specs.FinMap as map
 use Rattle.std.proofs.Common.{ℕ, zero, suc, ◌+◌, ◌-◌, Bool, true, false, List, cond, Option, Some, None}
 use Rattle.std.specs.Prelude.{nat_eq}
 use Rattle.std.specs.Option.{option_and_then, option_map_or}
-use Rattle.kr_tree.specs.Changes.{added, bytes_set, dropped_if_unused, held, is_unused_at, linked, mode_set, moved, overwritten, owner_set, released, removed, renamed, renamed_onto, sized, unlinked, with_body, with_bytes, with_holds, with_inode, with_mode, with_owner, without_entry, without_unused, unnamed}
-use Rattle.kr_tree.specs.Lawful.{AreBytes, HasBytes, IsOfBytes}
-use Rattle.kr_tree.specs.Tree.{Body, Inodes, Tree, body_is, entry, is_directory}
-use Rattle.kr_tree.specs.declared.place.Place.{Place}
-use Rattle.kr_tree.proofs.OfBytesLemmas.{AreOfBytes, of_bytes-added, of_bytes-linked, of_bytes-moved, of_bytes-overwritten, of_bytes-parted, of_bytes-removed, of_bytes-sized, of_bytes-with, of_bytes-with_bytes}
-use Rattle.kr_files.specs.Descriptors.{Meanings}
-use Rattle.kr_files.specs.Files.{Table}
-use Rattle.kr_model.specs.Applied.{held_at, held_for, released_at}
-use Rattle.kr_model.specs.State.{inode_of, place_of}
+use Rattle.kr_first.specs.kr_tree.Changes.{added, bytes_set, dropped_if_unused, held, is_unused_at, linked, mode_set, moved, overwritten, owner_set, released, removed, renamed, renamed_onto, sized, unlinked, with_body, with_bytes, with_holds, with_inode, with_mode, with_owner, without_entry, without_unused, unnamed}
+use Rattle.kr_first.specs.kr_tree.Lawful.{AreBytes, HasBytes, IsOfBytes}
+use Rattle.kr_first.specs.kr_tree.Tree.{Body, Inodes, Tree, body_is, entry, is_directory}
+use Rattle.kr_first.specs.kr_tree.declared.place.Place.{Place}
+use Rattle.kr_first.proofs.kr_tree.OfBytesLemmas.{AreOfBytes, of_bytes-added, of_bytes-linked, of_bytes-moved, of_bytes-overwritten, of_bytes-parted, of_bytes-removed, of_bytes-sized, of_bytes-with, of_bytes-with_bytes}
+use Rattle.kr_first.specs.kr_files.Descriptors.{Meanings}
+use Rattle.kr_first.specs.kr_files.Files.{Table}
+use Rattle.kr_first.specs.kr_model.Applied.{held_at, held_for, released_at}
+use Rattle.kr_first.specs.kr_model.State.{inode_of, place_of}
 
 -- ---- what is dropped
 

@@ -2,20 +2,20 @@
 use Rattle.std.proofs.Common.{◌≡◌, ℕ, zero, suc, ◌%◌, Bool, true, false, List, length, nat_eq, cond, Option, Some, None, length-set, refl, ap, ◌∙◌, subst, sym}
 use Rattle.std.specs.Option.{option_map_or}
 use Rattle.std.specs.Prelude.{slice_set}
-use Rattle.rv_cpu.specs.Run.{ran}
-use Rattle.rv_cpu.specs.declared.event.Event.{Event}
-use Rattle.rv_cpu.specs.declared.event.Event.TheVariants.{Call, Killed, Next}
-use Rattle.rv_mem.specs.Memory.{Memory, after_read, with_pages}
-use Rattle.rv_mem.specs.Pages.{HoldsBytes, written}
-use Rattle.rv_mem.specs.declared.regs.Regs.{Regs}
-use Rattle.kr_view.specs.View.{Row}
-use Rattle.kr_calls.specs.Arguments.{number}
-use Rattle.kr_calm.specs.Shelf.{has_path, is_usable, shelf_size, shelf_start, shelved, shelved_by, stack_pointer, with_shelf_marked}
-use Rattle.kr_model.specs.Change.{End}
-use Rattle.kr_model.specs.State.{Image, Process, State, process}
-use Rattle.kr_allowed.proofs.DecodedLemmas.{decoding-leaves-pages}
-use Rattle.kr_steps.specs.Computing.{computed}
-use Rattle.kr_steps.specs.Waiting.{goes_on, picked_process, ready_processes}
+use Rattle.kr_turns.specs.rv_cpu.Run.{ran}
+use Rattle.kr_turns.specs.rv_cpu.declared.event.Event.{Event}
+use Rattle.kr_turns.specs.rv_cpu.declared.event.Event.TheVariants.{Call, Killed, Next}
+use Rattle.kr_first.specs.rv_mem.Memory.{Memory, after_read, with_pages}
+use Rattle.kr_first.specs.rv_mem.Pages.{HoldsBytes, written}
+use Rattle.kr_first.specs.rv_mem.declared.regs.Regs.{Regs}
+use Rattle.kr_first.specs.kr_view.View.{Row}
+use Rattle.kr_first.specs.kr_calls.Arguments.{number}
+use Rattle.kr_turns.specs.kr_calm.Shelf.{has_path, is_usable, shelf_size, shelf_start, shelved, shelved_by, stack_pointer, with_shelf_marked}
+use Rattle.kr_first.specs.kr_model.Change.{End}
+use Rattle.kr_first.specs.kr_model.State.{Image, Process, State, process}
+use Rattle.kr_first.proofs.kr_allowed.DecodedLemmas.{decoding-leaves-pages}
+use Rattle.kr_turns.specs.kr_steps.Computing.{computed}
+use Rattle.kr_turns.specs.kr_steps.Waiting.{goes_on, picked_process, ready_processes}
 use Rattle.kr_turns.specs.Breaking.{no_mounts, plain_rule}
 use Rattle.kr_turns.specs.PlainCall.{Came, plain_call}
 use Rattle.kr_turns.specs.Editing.{decoded_at, memory_at}

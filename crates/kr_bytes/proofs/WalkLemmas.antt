@@ -3,23 +3,23 @@ use Rattle.std.proofs.Common.{◌≡◌, ◌⊎◌, inl, inr, ℕ, ◌<◌, Bool
 use Rattle.std.specs.Prelude.{Ok}
 use Rattle.std.specs.List.{All}
 use Rattle.std.proofs.lemmas.List.Elements.{All-from_recursion, recursion_from_All}
-use Rattle.pr_base.specs.WalkFrame.{Landing, name_of}
-use Rattle.pr_base.specs.declared.path.Last.TheVariants as last
-use Rattle.pr_base.specs.declared.path.WalkMode.{WalkMode}
-use Rattle.pr_base.proofs.EndLemmas.{jump_is_shown}
-use Rattle.kr_tree.specs.Lawful.{AreBytes, HasBytes as TreeHasBytes, IsOfBytes}
-use Rattle.kr_tree.specs.Tree.{Inode, SymbolicLink, body, inode}
-use Rattle.kr_tree.specs.declared.place.Place.{Place}
-use Rattle.kr_tree.specs.declared.place.ProcAt.{ProcAt}
-use Rattle.kr_tree.proofs.NameLemmas.{map_some}
-use Rattle.kr_view.specs.declared.procs.Lead.{Lead}
-use Rattle.kr_view.specs.declared.procs.Lead.TheVariants.{Jump, NoLink, Nameless, Text}
-use Rattle.kr_view.specs.Component.{Surroundings, is_directory_at, landing}
-use Rattle.kr_view.specs.View.{node_in}
-use Rattle.kr_view.specs.Walk.{PlaceTarget, looking, place_walk}
-use Rattle.kr_resolved.proofs.EndingLemmas.{Comes, all_come}
-use Rattle.kr_resolved.proofs.LinkLemmas.{LandsAt, link_lands, link_text}
-use Rattle.kr_resolved.proofs.TextLemmas.{IsPartWith, path_ends}
+use Rattle.kr_first.specs.pr_base.WalkFrame.{Landing, name_of}
+use Rattle.kr_first.specs.pr_base.declared.path.Last.TheVariants as last
+use Rattle.kr_first.specs.pr_base.declared.path.WalkMode.{WalkMode}
+use Rattle.kr_first.proofs.pr_base.EndLemmas.{jump_is_shown}
+use Rattle.kr_first.specs.kr_tree.Lawful.{AreBytes, HasBytes as TreeHasBytes, IsOfBytes}
+use Rattle.kr_first.specs.kr_tree.Tree.{Inode, SymbolicLink, body, inode}
+use Rattle.kr_first.specs.kr_tree.declared.place.Place.{Place}
+use Rattle.kr_first.specs.kr_tree.declared.place.ProcAt.{ProcAt}
+use Rattle.kr_first.proofs.kr_tree.NameLemmas.{map_some}
+use Rattle.kr_first.specs.kr_view.declared.procs.Lead.{Lead}
+use Rattle.kr_first.specs.kr_view.declared.procs.Lead.TheVariants.{Jump, NoLink, Nameless, Text}
+use Rattle.kr_first.specs.kr_view.Component.{Surroundings, is_directory_at, landing}
+use Rattle.kr_first.specs.kr_view.View.{node_in}
+use Rattle.kr_first.specs.kr_view.Walk.{PlaceTarget, looking, place_walk}
+use Rattle.kr_first.proofs.kr_resolved.EndingLemmas.{Comes, all_come}
+use Rattle.kr_first.proofs.kr_resolved.LinkLemmas.{LandsAt, link_lands, link_text}
+use Rattle.kr_first.proofs.kr_resolved.TextLemmas.{IsPartWith, path_ends}
 
 abbrev pub IsByte : ℕ → Type 0
 IsByte b = b < 256

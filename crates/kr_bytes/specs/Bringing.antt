@@ -2,11 +2,11 @@
 -- registers, too.
 use Rattle.std.specs.Prelude.{◌≡◌, ℕ, List, length, Some, IfSome}
 use Rattle.std.specs.List.{AllByRecursion}
-use Rattle.rv_mem.specs.Pages.{HoldsBytes}
-use Rattle.kr_tree.specs.Lawful.{AreBytes, IsOfBytes}
-use Rattle.kr_model.specs.Change.{Change, AddNode, LinkNode, MoveName, WriteFile, OpenFile, PutIntoPipe, ReplaceImage, ReplaceExecutable}
-use Rattle.kr_model.specs.Known.{Known, Fact}
-use Rattle.kr_model.specs.Seen.{Seen, Looked, Taken, TakesNoName, TakesCovered, Takes, Made, MakesNoName, MakesOver, Makes, Opening, OpensNoName, OpensSlashed, OpensFound, OpensNew, ReadsLink, Opens, MakesEntry, Links, Moves, NamesDirectory}
+use Rattle.kr_first.specs.rv_mem.Pages.{HoldsBytes}
+use Rattle.kr_first.specs.kr_tree.Lawful.{AreBytes, IsOfBytes}
+use Rattle.kr_first.specs.kr_model.Change.{Change, AddNode, LinkNode, MoveName, WriteFile, OpenFile, PutIntoPipe, ReplaceImage, ReplaceExecutable}
+use Rattle.kr_first.specs.kr_model.Known.{Known, Fact}
+use Rattle.kr_first.specs.kr_model.Seen.{Seen, Looked, Taken, TakesNoName, TakesCovered, Takes, Made, MakesNoName, MakesOver, Makes, Opening, OpensNoName, OpensSlashed, OpensFound, OpensNew, ReadsLink, Opens, MakesEntry, Links, Moves, NamesDirectory}
 
 -- ---- what is known
 

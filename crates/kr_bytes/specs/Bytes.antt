@@ -3,15 +3,15 @@
 use Rattle.std.specs.FinMap as map
 use Rattle.std.specs.Prelude.{◌≡◌, ℕ, false, List, length, Some}
 use Rattle.std.specs.List.{AllByRecursion}
-use Rattle.rv_mem.specs.Pages.{HoldsBytes}
-use Rattle.kr_calls.specs.PathTable.{PathUse, path_at}
-use Rattle.kr_calls.specs.declared.request.Request.{Request}
-use Rattle.kr_calls.specs.declared.request.Request.TheVariants as call
-use Rattle.kr_tree.specs.Lawful.{AreBytes, HasBytes as TreeHasBytes}
-use Rattle.kr_view.specs.View.{Row, row}
-use Rattle.kr_files.specs.declared.opened.Opened.{Opened}
-use Rattle.kr_files.specs.Files.{Table, file_at}
-use Rattle.kr_model.specs.State.{Image, Process, State}
+use Rattle.kr_first.specs.rv_mem.Pages.{HoldsBytes}
+use Rattle.kr_first.specs.kr_calls.PathTable.{PathUse, path_at}
+use Rattle.kr_first.specs.kr_calls.declared.request.Request.{Request}
+use Rattle.kr_first.specs.kr_calls.declared.request.Request.TheVariants as call
+use Rattle.kr_first.specs.kr_tree.Lawful.{AreBytes, HasBytes as TreeHasBytes}
+use Rattle.kr_first.specs.kr_view.View.{Row, row}
+use Rattle.kr_first.specs.kr_files.declared.opened.Opened.{Opened}
+use Rattle.kr_first.specs.kr_files.Files.{Table, file_at}
+use Rattle.kr_first.specs.kr_model.State.{Image, Process, State}
 
 -- names of bytes, as a text or a list of arguments has them
 abbrev pub AreAllBytes : List (List ℕ) → Type 0

@@ -1,16 +1,17 @@
 -- Calls leave a state that has bytes.
 use Rattle.std.specs.Prelude.{ℕ, List}
-use Rattle.rv_mem.specs.Actions.{CarriedOut}
-use Rattle.rv_mem.specs.Pages.{HoldsBytes}
-use Rattle.kr_calls.specs.declared.request.Request.{Request}
-use Rattle.kr_tree.specs.Lawful.{AreBytes}
-use Rattle.kr_view.specs.View.{Row}
-use Rattle.kr_model.specs.Applied.{Mounts}
-use Rattle.kr_model.specs.Reply.{Reply}
-use Rattle.kr_model.specs.State.{Image, State}
-use Rattle.kr_model.specs.Walks.{targets_of}
-use Rattle.kr_allowed.specs.Told.{mounts_walked}
-use Rattle.kr_seen.specs.Carrying.{after_row}
+use Rattle.kr_first.specs.rv_mem.Actions.{CarriedOut}
+use Rattle.kr_first.specs.rv_mem.Pages.{HoldsBytes}
+use Rattle.kr_first.specs.kr_calls.declared.request.Request.{Request}
+use Rattle.kr_first.specs.kr_tree.Lawful.{AreBytes}
+use Rattle.kr_first.specs.kr_view.View.{Row}
+use Rattle.kr_first.specs.kr_model.Applied.{Mounts}
+use Rattle.kr_first.specs.kr_model.Operation.{IsNoExec}
+use Rattle.kr_first.specs.kr_model.Reply.{Reply}
+use Rattle.kr_first.specs.kr_model.State.{Image, State}
+use Rattle.kr_first.specs.kr_model.Walks.{targets_of}
+use Rattle.kr_first.specs.kr_allowed.Told.{mounts_walked}
+use Rattle.kr_turns.specs.kr_seen.Carrying.{after_row}
 use Rattle.kr_turns.specs.PlainCall.{executed, operated, plain_call, row_on}
 use Rattle.kr_bytes.specs.Bringing.{BringBytes}
 use Rattle.kr_bytes.specs.Bytes.{GivesBytes, HasBytes, TableHasBytes}
@@ -23,8 +24,8 @@ pub record LeavesBytes (mounts : Mounts ℕ) (pid : ℕ) (s : State ℕ Image) (
 
 -- any call but execve, whatever its walks come to
 pub record CallsKeepBytes : Type 0 where
-  pub row : (table : List Row) (pid : ℕ) (r : Request) (s : State ℕ Image) → TableHasBytes table → GivesBytes r → HasBytes s → LeavesBytes (mounts_walked (targets_of table pid s r)) pid s (row_on table pid r s)
-  pub call : (table : List Row) (pid : ℕ) (r : Request) (s : State ℕ Image) → TableHasBytes table → GivesBytes r → HasBytes s → HasBytes (operated table pid r s).state
+  pub row : (table : List Row) (pid : ℕ) (r : Request) (s : State ℕ Image) → IsNoExec r → TableHasBytes table → GivesBytes r → HasBytes s → LeavesBytes (mounts_walked (targets_of table pid s r)) pid s (row_on table pid r s)
+  pub call : (table : List Row) (pid : ℕ) (r : Request) (s : State ℕ Image) → IsNoExec r → TableHasBytes table → GivesBytes r → HasBytes s → HasBytes (operated table pid r s).state
 
 -- a new program, or the error in place of one
 abbrev pub ExecutionsKeepBytes : Type 0

@@ -1,13 +1,13 @@
 -- That memory holds bytes, and that there are 32 registers, lasts behind instructions and behind changes.
 use Rattle.std.specs.Prelude.{◌≡◌, ℕ, List, length, Some}
-use Rattle.rv_cpu.specs.Run.{ran}
-use Rattle.rv_mem.specs.Memory.{Memory}
-use Rattle.rv_mem.specs.Pages.{HoldsBytes}
-use Rattle.rv_mem.specs.declared.regs.Regs.{Regs}
-use Rattle.kr_model.specs.Applied.{Mounts, all_applied, images}
-use Rattle.kr_model.specs.Change.{Change}
-use Rattle.kr_model.specs.State.{Image, Process, State, process}
-use Rattle.kr_steps.specs.Computing.{computed}
+use Rattle.kr_turns.specs.rv_cpu.Run.{ran}
+use Rattle.kr_first.specs.rv_mem.Memory.{Memory}
+use Rattle.kr_first.specs.rv_mem.Pages.{HoldsBytes}
+use Rattle.kr_first.specs.rv_mem.declared.regs.Regs.{Regs}
+use Rattle.kr_first.specs.kr_model.Applied.{Mounts, all_applied, images}
+use Rattle.kr_first.specs.kr_model.Change.{Change}
+use Rattle.kr_first.specs.kr_model.State.{Image, Process, State, process}
+use Rattle.kr_turns.specs.kr_steps.Computing.{computed}
 use Rattle.kr_bytes.specs.Bringing.{BringBytes}
 use Rattle.kr_bytes.specs.Bytes.{HasBytes, ProcessIsSized}
 

@@ -1,13 +1,13 @@
 -- Where bytes come from: a start has them, and so have tables of mounts.
 use Rattle.std.specs.Prelude.{◌≡◌, ℕ, List, length, Ok}
-use Rattle.rv_mem.specs.Pages.{HoldsBytes}
-use Rattle.kr_inode.specs.declared.user.User.{User}
-use Rattle.kr_tree.specs.Lawful.{AreBytes, HasBytes as TreeHasBytes}
-use Rattle.kr_tree.specs.Tree.{Tree}
-use Rattle.kr_view.specs.View.{Row, plain}
-use Rattle.kr_mounts.specs.Standing.{IsSettledIn}
-use Rattle.kr_model.specs.State.{Image, State}
-use Rattle.kr_start.specs.Start.{First, pinned, started, without_processes}
+use Rattle.kr_first.specs.rv_mem.Pages.{HoldsBytes}
+use Rattle.kr_first.specs.kr_inode.declared.user.User.{User}
+use Rattle.kr_first.specs.kr_tree.Lawful.{AreBytes, HasBytes as TreeHasBytes}
+use Rattle.kr_first.specs.kr_tree.Tree.{Tree}
+use Rattle.kr_first.specs.kr_view.View.{Row, plain}
+use Rattle.kr_first.specs.kr_mounts.Standing.{IsSettledIn}
+use Rattle.kr_first.specs.kr_model.State.{Image, State}
+use Rattle.kr_first.specs.kr_start.Start.{First, pinned, started, without_processes}
 use Rattle.kr_first.specs.Starting.{start_of}
 use Rattle.kr_first.specs.declared.starting.First as asked
 use Rattle.kr_bytes.specs.Bytes.{AreAllBytes, HasBytes, TableHasBytes}

@@ -1,8 +1,8 @@
 -- Turns leave a state that has bytes.
 use Rattle.std.specs.Prelude.{◌≡◌, ℕ, Bool, true, List}
-use Rattle.kr_tree.specs.Lawful.{AreBytes}
-use Rattle.kr_view.specs.View.{Row}
-use Rattle.kr_model.specs.State.{Image, State}
+use Rattle.kr_first.specs.kr_tree.Lawful.{AreBytes}
+use Rattle.kr_first.specs.kr_view.View.{Row}
+use Rattle.kr_first.specs.kr_model.State.{Image, State}
 use Rattle.kr_turns.specs.Editing.{after_peek, after_poke, after_request, with_register}
 use Rattle.kr_turns.specs.Run.{Slot, cleared, run}
 use Rattle.kr_turns.specs.Shelving.{shelved_in}

@@ -1,31 +1,31 @@
 -- What a call with its walks leaves of a state.
 use Rattle.std.proofs.Common.{◌≡◌, ◌≢◌, ℕ, suc, ◌<◌, ◌^◌, List, Option, Some, None, refl, sym, ap, subst, ◌∙◌, arith}
 use Rattle.std.specs.Prelude.{Ok, Err, IsSome}
-use Rattle.pr_base.specs.declared.errno.Errno.{Errno}
-use Rattle.kr_calls.specs.declared.request.Request.{Request}
-use Rattle.kr_tree.specs.Tree.{Inode}
-use Rattle.kr_view.specs.View.{Row}
-use Rattle.kr_model.specs.Applied.{Mounts}
-use Rattle.kr_model.specs.Known.{Known, known}
-use Rattle.kr_model.specs.Lawful.{ArePids}
-use Rattle.kr_model.specs.Operation.{operation}
-use Rattle.kr_model.specs.Reply.{refusal}
-use Rattle.kr_model.specs.Seen.{Seen}
-use Rattle.kr_model.specs.State as model
-use Rattle.kr_model.specs.Walks.{seen, seen_of, targets_of, told}
-use Rattle.kr_model.specs.declared.outcome.Outcome.{Outcome}
-use Rattle.kr_model.specs.declared.outcome.Outcome.TheVariants.{NoMemory}
-use Rattle.kr_allowed.specs.Lasting.{Lasts}
-use Rattle.kr_allowed.proofs.RoomLemmas.{lasting-room}
-use Rattle.kr_allowed.specs.Calls.{HasTextPaths}
-use Rattle.kr_allowed.specs.Told.{mounts_walked}
-use Rattle.kr_ops.specs.declared.state.State.{State}
-use Rattle.kr_ops.specs.Meaning.{meaning}
-use Rattle.kr_seen.specs.Numbered.{state_numbered}
-use Rattle.kr_seen.specs.CallWalks.{AreTargets}
-use Rattle.kr_seen.specs.declared.walks.Targets.{Targets}
-use Rattle.kr_seen.specs.Carrying.{IsCarriedOut}
-use Rattle.kr_seen.proofs.CarryLemmas.{by-refusal}
+use Rattle.kr_walked.specs.pr_base.declared.errno.Errno.{Errno}
+use Rattle.kr_walked.specs.kr_calls.declared.request.Request.{Request}
+use Rattle.kr_walked.specs.kr_tree.Tree.{Inode}
+use Rattle.kr_walked.specs.kr_view.View.{Row}
+use Rattle.kr_walked.specs.kr_model.Applied.{Mounts}
+use Rattle.kr_walked.specs.kr_model.Known.{Known, known}
+use Rattle.kr_walked.specs.kr_model.Lawful.{ArePids}
+use Rattle.kr_walked.specs.kr_model.Operation.{operation}
+use Rattle.kr_walked.specs.kr_model.Reply.{refusal}
+use Rattle.kr_walked.specs.kr_model.Seen.{Seen}
+use Rattle.kr_walked.specs.kr_model.State as model
+use Rattle.kr_walked.specs.kr_model.Walks.{seen, seen_of, targets_of, told}
+use Rattle.kr_walked.specs.kr_model.declared.outcome.Outcome.{Outcome}
+use Rattle.kr_walked.specs.kr_model.declared.outcome.Outcome.TheVariants.{NoMemory}
+use Rattle.kr_walked.specs.kr_allowed.Lasting.{Lasts}
+use Rattle.kr_walked.proofs.kr_allowed.RoomLemmas.{lasting-room}
+use Rattle.kr_walked.specs.kr_allowed.Calls.{HasTextPaths}
+use Rattle.kr_walked.specs.kr_allowed.Told.{mounts_walked}
+use Rattle.kr_walked.specs.kr_ops.declared.state.State.{State}
+use Rattle.kr_walked.specs.kr_ops.Meaning.{meaning}
+use Rattle.kr_walked.specs.kr_seen.Numbered.{state_numbered}
+use Rattle.kr_walked.specs.kr_seen.CallWalks.{AreTargets}
+use Rattle.kr_walked.specs.kr_seen.declared.walks.Targets.{Targets}
+use Rattle.kr_walked.specs.kr_seen.Carrying.{IsCarriedOut}
+use Rattle.kr_walked.proofs.kr_seen.CarryLemmas.{by-refusal}
 use Rattle.kr_walked.specs.Operated.{AreTexts, HasNumbers, OperatesAt, mounts_at, placed_targets, LastsLawful}
 use Rattle.kr_calling.specs.Calling.{IsCalled, MayCall, Runs}
 use Rattle.kr_calling.proofs.RefusedLemmas.{walk-refuses}

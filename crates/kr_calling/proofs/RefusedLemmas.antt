@@ -1,19 +1,19 @@
 -- A call of which a walk fails.
 use Rattle.std.proofs.Common.{◌≡◌, ◌≢◌, ℕ, List, [], ◌∷◌, Option, Some, None, refl, ap, sym, ◌∙◌}
 use Rattle.std.specs.Prelude.{Result, Ok, Err, ℤ}
-use Rattle.pr_base.specs.declared.errno.Errno.{Errno}
-use Rattle.pr_base.specs.declared.path.WalkMode.{WalkMode}
-use Rattle.kr_calls.specs.declared.request.Request.{Request}
-use Rattle.kr_calls.specs.declared.request.Request.TheVariants as call
-use Rattle.kr_calls.specs.PathTable.{PathUse, path_at, look_mode, only}
-use Rattle.kr_view.specs.View.{Row}
-use Rattle.kr_view.specs.Walk.{PlaceTarget}
-use Rattle.kr_model.specs.Known.{Known}
-use Rattle.kr_model.specs.Operation.{operation}
-use Rattle.kr_model.specs.Reply.{refuse}
-use Rattle.kr_model.specs.Seen.{WalkFails}
-use Rattle.kr_model.specs.State.{State}
-use Rattle.kr_model.specs.Walks.{targets_of}
+use Rattle.kr_walked.specs.pr_base.declared.errno.Errno.{Errno}
+use Rattle.kr_walked.specs.pr_base.declared.path.WalkMode.{WalkMode}
+use Rattle.kr_walked.specs.kr_calls.declared.request.Request.{Request}
+use Rattle.kr_walked.specs.kr_calls.declared.request.Request.TheVariants as call
+use Rattle.kr_walked.specs.kr_calls.PathTable.{PathUse, path_at, look_mode, only}
+use Rattle.kr_walked.specs.kr_view.View.{Row}
+use Rattle.kr_walked.specs.kr_view.Walk.{PlaceTarget}
+use Rattle.kr_walked.specs.kr_model.Known.{Known}
+use Rattle.kr_walked.specs.kr_model.Operation.{operation}
+use Rattle.kr_walked.specs.kr_model.Reply.{refuse}
+use Rattle.kr_walked.specs.kr_model.Seen.{WalkFails}
+use Rattle.kr_walked.specs.kr_model.State.{State}
+use Rattle.kr_walked.specs.kr_model.Walks.{targets_of}
 
 module _ {X : Type 0} (table : List Row) (pid : ℕ) (s : State ℕ X) where
   -- it answers the error of the walk

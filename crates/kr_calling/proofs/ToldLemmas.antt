@@ -2,19 +2,19 @@
 use Rattle.std.proofs.Common.{◌≡◌, ℕ, List, Option, Some, None, refl, ap, sym, ◌∙◌}
 use Rattle.std.specs.Option.{option_map, option_map_or}
 use Rattle.std.proofs.lemmas.Option.{same_Some}
-use Rattle.kr_calls.specs.declared.request.Request.{Request}
-use Rattle.kr_calls.specs.declared.request.Request.TheVariants as call
-use Rattle.kr_tree.specs.declared.place.Place.{Place}
-use Rattle.kr_view.specs.View.{Row}
-use Rattle.kr_view.specs.declared.target.Target.{Target}
-use Rattle.kr_view.specs.Answers as answers
-use Rattle.kr_view.specs.Answers.{target_numbered}
-use Rattle.kr_view.specs.Leads.{numbered}
-use Rattle.kr_view.specs.Walk.{PlaceTarget}
-use Rattle.kr_model.specs.Seen.{Seen, NoPath}
-use Rattle.kr_model.specs.State.{State}
-use Rattle.kr_model.specs.Walks.{Targets, told, mounts_of, opened_at}
-use Rattle.kr_seen.specs.CallWalks.{IsTold}
+use Rattle.kr_walked.specs.kr_calls.declared.request.Request.{Request}
+use Rattle.kr_walked.specs.kr_calls.declared.request.Request.TheVariants as call
+use Rattle.kr_walked.specs.kr_tree.declared.place.Place.{Place}
+use Rattle.kr_walked.specs.kr_view.View.{Row}
+use Rattle.kr_walked.specs.kr_view.declared.target.Target.{Target}
+use Rattle.kr_walked.specs.kr_view.Answers as answers
+use Rattle.kr_walked.specs.kr_view.Answers.{target_numbered}
+use Rattle.kr_walked.specs.kr_view.Leads.{numbered}
+use Rattle.kr_walked.specs.kr_view.Walk.{PlaceTarget}
+use Rattle.kr_walked.specs.kr_model.Seen.{Seen, NoPath}
+use Rattle.kr_walked.specs.kr_model.State.{State}
+use Rattle.kr_walked.specs.kr_model.Walks.{Targets, told, mounts_of, opened_at}
+use Rattle.kr_walked.specs.kr_seen.CallWalks.{IsTold}
 use Rattle.kr_walked.specs.Operated.{placed, mounts_at, placed_targets}
 use Rattle.kr_calling.specs.Calling.{mounts_numbered}
 

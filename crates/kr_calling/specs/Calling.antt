@@ -1,18 +1,18 @@
 -- A call with its walks: what is asked of a state between calls, and what a call makes of it.
 use Rattle.std.specs.Prelude.{◌≡◌, ◌≢◌, ◌<◌, ◌^◌, ℕ, List}
 use Rattle.std.specs.Option.{option_map}
-use Rattle.kr_calls.specs.declared.request.Request.{Request}
-use Rattle.kr_view.specs.View.{Row}
-use Rattle.kr_model.specs.Applied.{Mounts}
-use Rattle.kr_model.specs.Operation.{operation}
-use Rattle.kr_model.specs.Walks.{targets_of, seen}
-use Rattle.kr_model.specs.declared.outcome.Outcome.{Outcome}
-use Rattle.kr_allowed.specs.Told.{mounts_walked}
-use Rattle.kr_ops.specs.declared.state.State.{State}
-use Rattle.kr_ops.specs.Meaning.{meaning}
-use Rattle.kr_ops.specs.Sound.{IsServed}
-use Rattle.kr_seen.specs.Numbered.{state_numbered}
-use Rattle.kr_seen.specs.Carrying.{IsCarriedOut}
+use Rattle.kr_walked.specs.kr_calls.declared.request.Request.{Request}
+use Rattle.kr_walked.specs.kr_view.View.{Row}
+use Rattle.kr_walked.specs.kr_model.Applied.{Mounts}
+use Rattle.kr_walked.specs.kr_model.Operation.{operation}
+use Rattle.kr_walked.specs.kr_model.Walks.{targets_of, seen}
+use Rattle.kr_walked.specs.kr_model.declared.outcome.Outcome.{Outcome}
+use Rattle.kr_walked.specs.kr_allowed.Told.{mounts_walked}
+use Rattle.kr_walked.specs.kr_ops.declared.state.State.{State}
+use Rattle.kr_walked.specs.kr_ops.Meaning.{meaning}
+use Rattle.kr_walked.specs.kr_ops.Sound.{IsServed}
+use Rattle.kr_walked.specs.kr_seen.Numbered.{state_numbered}
+use Rattle.kr_walked.specs.kr_seen.Carrying.{IsCarriedOut}
 use Rattle.kr_walked.specs.Operated.{LastsLawful}
 
 -- mounts by their numbers in a view

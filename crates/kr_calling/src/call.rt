@@ -1,26 +1,23 @@
 //! A call of a guest, from its paths to what it leaves.
-ghost use Rattle.std.specs.Prelude.{◌≡◌, ◌≢◌, ◌+◌, ◌<◌, ◌^◌, ℕ, suc, Ok, Some, IfSome, IsSome};
-ghost use Rattle.kr_allowed.specs.Allowed.{HoldsBytes};
-ghost use Rattle.kr_model.specs.State.{Image, Process, process};
-ghost use Rattle.kr_model.specs.declared.outcome.Outcome.TheVariants.{NoMemory as WantOfMemory};
-ghost use Rattle.kr_allowed.specs.Calls.{HasTextPaths, IsGivable};
-ghost use Rattle.kr_allowed.specs.Told.{SourcesAreNamed};
-ghost use Rattle.kr_ops.specs.Meaning.{meaning};
-ghost use Rattle.kr_ops.specs.Sound.{IsSound};
-ghost use Rattle.kr_seen.specs.Numbered.{state_numbered};
-ghost use Rattle.kr_model.specs.Walks.{targets_of};
-ghost use Rattle.kr_seen.specs.CallWalks.{call_reach, AreTargets};
+ghost use Rattle.std.specs.Prelude.{◌≡◌, ◌≢◌, ◌<◌, ◌^◌, ℕ, suc, Ok, Some, IsSome};
+ghost use Rattle.kr_walked.specs.kr_allowed.Allowed.{HoldsBytes};
+ghost use Rattle.kr_walked.specs.kr_model.State.{Image, Process, process};
+ghost use Rattle.kr_walked.specs.kr_model.declared.outcome.Outcome.TheVariants.{NoMemory as WantOfMemory};
+ghost use Rattle.kr_walked.specs.kr_allowed.Calls.{HasTextPaths, IsGivable};
+ghost use Rattle.kr_walked.specs.kr_allowed.Told.{SourcesAreNamed};
+ghost use Rattle.kr_walked.specs.kr_ops.Meaning.{meaning};
+ghost use Rattle.kr_walked.specs.kr_ops.Sound.{IsSound};
+ghost use Rattle.kr_walked.specs.kr_seen.Numbered.{state_numbered};
+ghost use Rattle.kr_walked.specs.kr_model.Walks.{targets_of};
+ghost use Rattle.kr_walked.specs.kr_seen.CallWalks.{call_reach, AreTargets};
 ghost use Rattle.kr_walked.specs.Operated.{IsNoExec};
 ghost use Rattle.kr_calling.specs.Calling.{IsCalled, MayCall, Runs};
 
-use kr_calls::Request;
-use kr_model::Outcome;
-use kr_ops::State;
-use kr_ops::laws::lawful_states_are_sound;
-use kr_seen::{Targets, refused, walk_paths};
-use kr_view::{Places, Reach, WalkFault};
+use kr_walked::below::{
+    Outcome, Places, Reach, Request, State, Targets, Use, WalkFault, lawful_states_are_sound,
+    refused, walk_paths,
+};
 use kr_walked::perform;
-use rv_mem::Use;
 use std::alloc::Global;
 
 /// Carries out a call of a living process that isn't execve(2): walks its paths, and then does what its row says of where they lead; a
@@ -40,7 +37,6 @@ pub fn carry_out<P: Places, const M: u8>(
     requires named { SourcesAreNamed (P.mounts places.now) }
     requires may { MayCall P.number (P.mounts places.now) state.old }
     requires lives { IsSome (process pid (meaning state.old)) }
-    requires behind { IfSome (process pid (meaning state.old)) (λ p. p.image.regs.pc + 4 < 2 ^ 64) }
     ensures called { result ≢ WantOfMemory → IsCalled P.number (P.mounts places.now) pid request.now state.old state.new result }
     ensures reach { result ≢ WantOfMemory → reach.new ≡ call_reach (P.mounts places.now) pid (state_numbered P.number (meaning state.old)) request.now reach.old }
     ensures runs { (calls : ℕ) → calls < 2 ^ 31 → Runs P.number (P.mounts places.now) calls state.old → result ≢ WantOfMemory → Runs P.number (P.mounts places.now) (suc calls) state.new }
@@ -52,7 +48,9 @@ pub fn carry_out<P: Places, const M: u8>(
     }
 }
 
-/// The same where its paths were walked: does what its row says of where they lead.
+/// The same where its paths were walked: does what its row says of where they lead. What `perform` leaves is lawful and lasts (`runs`), since
+/// all that the law of that asks for holds here (`performed_states_last`): a process's memory holds bytes, and what a call is told of
+/// targets to which its walks led over a lawful state is so.
 pub fn carry_out_along<P: Places, const M: u8>(
     alloc: Global,
     places: &P,
@@ -67,7 +65,6 @@ pub fn carry_out_along<P: Places, const M: u8>(
     requires named { SourcesAreNamed (P.mounts places.now) }
     requires may { MayCall P.number (P.mounts places.now) state.old }
     requires lives { IsSome (process pid (meaning state.old)) }
-    requires behind { IfSome (process pid (meaning state.old)) (λ p. p.image.regs.pc + 4 < 2 ^ 64) }
     requires along { AreTargets P.number (targets_of (P.mounts places.now) pid (state_numbered P.number (meaning state.old)) request.now) (Ok targets.now) }
     ensures called { result ≢ WantOfMemory → IsCalled P.number (P.mounts places.now) pid request.now state.old state.new result }
     ensures runs { (calls : ℕ) → calls < 2 ^ 31 → Runs P.number (P.mounts places.now) calls state.old → result ≢ WantOfMemory → Runs P.number (P.mounts places.now) (suc calls) state.new }

@@ -1,8 +1,8 @@
 -- Scripts worked out by hand: files that are known by their paths.
 use Rattle.std.proofs.Common.{◌≡◌, ℕ, List, [], ◌∷◌, Result, Ok, Err, refl}
 use Rattle.std.specs.Prelude.{codes, bytes_eq, if◌then◌else◌}
-use Rattle.pr_base.specs.declared.errno.Errno.{Errno}
-use Rattle.pr_base.specs.declared.errno.Errno.TheVariants.{EACCES, E2BIG, ENOEXEC, ELOOP}
+use Rattle.rv_mem.specs.pr_base.declared.errno.Errno.{Errno}
+use Rattle.rv_mem.specs.pr_base.declared.errno.Errno.TheVariants.{EACCES, E2BIG, ENOEXEC, ELOOP}
 use Rattle.kr_calls.specs.Expansion.{Finding, Expanded, expanded, most_scripts}
 
 -- /s6 leads to /s5 and so on down to /s1, which leads to a program; /refused has an empty line, /closed can't be run

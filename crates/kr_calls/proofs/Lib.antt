@@ -1,3 +1,5 @@
+pub use Rattle.rv_mem.proofs.pr_base as pr_base
+pub use Rattle.rv_mem.proofs as rv_mem
 pub mod TextLemmas
 pub mod ScriptLemmas
 pub mod ScriptRows

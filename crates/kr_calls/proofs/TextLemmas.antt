@@ -1,8 +1,8 @@
 -- A text read byte by byte is the text at its address.
 use Rattle.std.proofs.Common.{◌≡◌, ℕ, zero, suc, ◌+◌, Bool, true, false, ◌||◌, cond, List, [], ◌∷◌, Result, Ok, Err, inl, inr, ◌⊎◌, refl, sym, ap, ◌∙◌, subst}
 use Rattle.std.specs.Prelude.{nat_eq, ◌&&◌, slice_index}
-use Rattle.pr_base.specs.declared.errno.Errno.{Errno}
-use Rattle.pr_base.specs.declared.errno.Errno.TheVariants.{EFAULT, ENAMETOOLONG, ENOENT}
+use Rattle.rv_mem.specs.pr_base.declared.errno.Errno.{Errno}
+use Rattle.rv_mem.specs.pr_base.declared.errno.Errno.TheVariants.{EFAULT, ENAMETOOLONG, ENOENT}
 use Rattle.rv_mem.specs.Actions.{Action, Done, ReadBytes, CarriedOut, carried_out}
 use Rattle.rv_mem.specs.Memory.{Memory, after_read, text_of, text_after, text_reach}
 use Rattle.rv_mem.specs.Pages.{allows, allows_all, any_marked, byte_at, bytes_from}

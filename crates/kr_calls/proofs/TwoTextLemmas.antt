@@ -1,8 +1,8 @@
 -- Two texts that are looked for, and then read.
 use Rattle.std.proofs.Common.{◌≡◌, ◌≢◌, ℕ, zero, suc, ◌+◌, Bool, true, false, ◌||◌, cond, List, [], ◌∷◌, Result, Ok, Err, refl, sym, ap, ◌∙◌, subst}
 use Rattle.std.specs.Prelude.{nat_eq}
-use Rattle.pr_base.specs.declared.errno.Errno.{Errno}
-use Rattle.pr_base.specs.declared.errno.Errno.TheVariants.{EFAULT, ENAMETOOLONG, ENOENT}
+use Rattle.rv_mem.specs.pr_base.declared.errno.Errno.{Errno}
+use Rattle.rv_mem.specs.pr_base.declared.errno.Errno.TheVariants.{EFAULT, ENAMETOOLONG, ENOENT}
 use Rattle.rv_mem.specs.Actions.{Action, Done, CarriedOut, carried_out}
 use Rattle.rv_mem.specs.Memory.{Memory, after_read, size_of_text, text_after, text_of, text_reach}
 use Rattle.rv_mem.specs.Pages.{Pages, allows, any_marked, byte_at}

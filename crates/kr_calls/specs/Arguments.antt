@@ -2,7 +2,7 @@
 use Rattle.std.specs.Prelude.{ℕ, ◌+◌, ◌%◌, ◌^◌, ◌==◌, Bool, true, false, nat_lt, nat_le, ℤ, slice_index, if◌then◌else◌}
 use Rattle.std.specs.Int.{cast_signed, w32, w64}
 use Rattle.std.specs.Int.RustNames.{bit_and}
-use Rattle.pr_base.specs.Page.{page_size}
+use Rattle.rv_mem.specs.pr_base.Page.{page_size}
 use Rattle.rv_mem.specs.declared.regs.Regs.{Regs}
 
 -- the number is the whole of a7

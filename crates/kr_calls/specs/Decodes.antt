@@ -1,7 +1,7 @@
 -- What the code that reads a request does beside the definition of it.
 use Rattle.std.specs.Prelude.{◌≡◌, ℕ, Bool, true, false, IsTrue, List, [], ◌∷◌, Result, Ok, Err, if◌then◌else◌}
-use Rattle.pr_base.specs.declared.errno.Errno.{Errno}
-use Rattle.pr_base.specs.declared.errno.Errno.TheVariants.{EFAULT, ENAMETOOLONG, ENOENT}
+use Rattle.rv_mem.specs.pr_base.declared.errno.Errno.{Errno}
+use Rattle.rv_mem.specs.pr_base.declared.errno.Errno.TheVariants.{EFAULT, ENAMETOOLONG, ENOENT}
 use Rattle.rv_mem.specs.Actions.{Action, Done, MayUse, ReadBytes, WriteBytes, CarriedOut, carried_out}
 use Rattle.rv_mem.specs.Memory.{Memory}
 use Rattle.rv_mem.specs.declared.fault.TextFault.{TextFault}

@@ -2,8 +2,9 @@
 -- order of the tests. A text is read after them. (Section 2 of the manual; the order is our own.)
 use Rattle.std.specs.Prelude.{ℕ, ◌+◌, ◌==◌, ◌&&◌, ◌||◌, ◌^◌, Bool, true, false, nat_lt, nat_le, nat_eq, List, [], ◌∷◌, Result, Ok, Err, if◌then◌else◌}
 use Rattle.std.specs.Int.RustNames.{bit_and}
-use Rattle.pr_base.specs.declared.errno.Errno.{Errno}
-use Rattle.pr_base.specs.declared.errno.Errno.TheVariants.{EFAULT, EINVAL, ENAMETOOLONG, ENOENT, ENOSYS}
+use Rattle.rv_mem.specs.pr_base.declared.errno.Errno.{Errno}
+use Rattle.rv_mem.specs.pr_base.declared.errno.Errno.TheVariants.{EFAULT, EINVAL, ENAMETOOLONG, ENOENT, ENOSYS}
+pub use Rattle.rv_mem.specs.pr_base.Paths.{text_limit}
 use Rattle.rv_mem.specs.Actions.{Action, Done}
 use Rattle.rv_mem.specs.declared.regs.Regs.{Regs}
 use Rattle.kr_calls.specs.declared.request.Request.{Request}
@@ -23,10 +24,6 @@ refuses errno = Done (Err errno)
 -- EINVAL where a test fails, and else what follows
 abbrev pub unless : Bool → Action Decoded → Action Decoded
 unless broken next = if broken then refuses EINVAL else next
-
--- a path or text has at most 4,096 bytes with its zero
-abbrev pub text_limit : ℕ
-text_limit = 4096
 
 -- a text that was read: ENOENT where it is empty and may not be
 abbrev pub named : {A : Type 0} → Bool → Action A → (List ℕ → Action A) → List ℕ → Action A

@@ -1,8 +1,8 @@
 -- Scripts that execve(2) expands, one after the other. How a path is found, and how a found file begins, are left open,
 -- so that a kernel finds places and a tracer finds texts by the same rules.
 use Rattle.std.specs.Prelude.{ℕ, zero, suc, ◌+◌, ◌-◌, Bool, ◌||◌, nat_lt, bytes_eq, List, [], ◌∷◌, ◌++◌, length, take, drop, Option, Some, None, Result, Ok, Err, if◌then◌else◌}
-use Rattle.pr_base.specs.declared.errno.Errno.{Errno}
-use Rattle.pr_base.specs.declared.errno.Errno.TheVariants.{E2BIG, ENOEXEC, ELOOP}
+use Rattle.rv_mem.specs.pr_base.declared.errno.Errno.{Errno}
+use Rattle.rv_mem.specs.pr_base.declared.errno.Errno.TheVariants.{E2BIG, ENOEXEC, ELOOP}
 use Rattle.kr_calls.specs.Scripts.{script_of}
 
 -- how a path is found, to a regular file that the user may execute, and the first 256 bytes of what was found

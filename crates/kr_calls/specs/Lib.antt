@@ -1,3 +1,5 @@
+pub use Rattle.rv_mem.specs.pr_base as pr_base
+pub use Rattle.rv_mem.specs as rv_mem
 pub mod Arguments
 pub mod Decodes
 pub mod Decoding

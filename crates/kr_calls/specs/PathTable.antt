@@ -1,8 +1,8 @@
 -- The paths of the calls that have some: descriptor, text, what the walk is for, and the register that holds the text's
 -- address.
 use Rattle.std.specs.Prelude.{ℕ, ◌==◌, ◌||◌, ℤ, negsuc, List, Option, Some, None, if◌then◌else◌}
-use Rattle.pr_base.specs.declared.path.WalkMode.{WalkMode}
-use Rattle.pr_base.specs.declared.path.WalkMode.TheVariants as mode
+use Rattle.rv_mem.specs.pr_base.declared.path.WalkMode.{WalkMode}
+use Rattle.rv_mem.specs.pr_base.declared.path.WalkMode.TheVariants as mode
 use Rattle.kr_calls.specs.declared.paths.PathArg.{PathArg}
 use Rattle.kr_calls.specs.declared.request.Request.{Request}
 use Rattle.kr_calls.specs.declared.request.Request.TheVariants as call

@@ -4,8 +4,8 @@ ghost use Rattle.kr_calls.specs.Arguments.{long, signed_long, word, int, has, ha
 ghost use Rattle.kr_calls.specs.Decoding.{stat_flags};
 
 use bitflags::Flags;
-use pr_base::{AtFlags, PAGE_SIZE};
 use rv_mem::Regs;
+use rv_mem::below::pr_base::{AtFlags, PAGE_SIZE};
 
 /// The register of the first argument and of the answer.
 const A0: usize = 10;

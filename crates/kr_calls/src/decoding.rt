@@ -1,14 +1,14 @@
 //! The request in the registers and the memory of a process.
 ghost use Rattle.std.specs.Prelude.{◌≡◌};
 ghost use Rattle.kr_calls.specs.Decodes.{Decodes, WantsForTexts};
-ghost use Rattle.pr_base.specs.declared.errno.Errno.TheVariants.{ENOSYS};
+ghost use Rattle.rv_mem.specs.pr_base.declared.errno.Errno.TheVariants.{ENOSYS};
 ghost use Rattle.kr_calls.specs.Decoding.{by_name_or_user, decoding, refuses};
 
 use crate::arguments::{A7, word};
 use crate::fault::CallFault;
 use crate::request::Request;
 use crate::rows::{descriptors, files, identity, memory, names, processes};
-use pr_base::Errno;
+use rv_mem::below::pr_base::Errno;
 use rv_mem::{Regs, Space};
 
 /// The request of a call, or the error that its decoding answers: ENOSYS for what isn't the number of a call, then

@@ -2,7 +2,7 @@
 ghost use Rattle.std.specs.Prelude.{◌≡◌, ◌≤◌, length, IfOk};
 ghost use Rattle.kr_calls.specs.DirectoryEntries.{entry_bytes};
 
-use pr_base::{Bytes, NoMemory};
+use rv_mem::below::pr_base::{Bytes, NoMemory};
 use std::alloc::Global;
 
 /// The bytes of an entry before its name.

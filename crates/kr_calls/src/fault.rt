@@ -1,7 +1,7 @@
 //! Why no request was read.
 
-use pr_base::{Errno, NoMemory};
 use rv_mem::TextFault;
+use rv_mem::below::pr_base::{Errno, NoMemory};
 
 /// Why a call was not decoded.
 #[derive(Clone, Copy, Debug, PartialEq, Eq)]

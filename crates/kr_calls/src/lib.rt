@@ -2,6 +2,7 @@
 #![tactic(auto)]
 
 mod arguments;
+pub mod below;
 pub mod decoding;
 pub mod directory_entry;
 pub mod fault;

@@ -6,7 +6,7 @@ ghost use Rattle.kr_calls.specs.PathTable.{link_mode, look_mode, open_mode, path
 use crate::arguments::has;
 use crate::request::Request;
 use bitflags::Flags;
-use pr_base::{AtFlags, OpenFlags, WalkMode};
+use rv_mem::below::pr_base::{AtFlags, OpenFlags, WalkMode};
 
 /// AT_FDCWD, which stands for the working directory in place of a descriptor.
 const WORKING_DIRECTORY: i32 = -100;

@@ -1,22 +1,22 @@
 -- Changes that break no rule.
 use Rattle.std.proofs.Common.{◌≡◌, ◌≢◌, ℕ, Bool, true, false, ◌&&◌, ◌||◌, not, List, [], ◌∷◌, refl, sym, ap, ◌∙◌, subst}
-use Rattle.pr_base.specs.declared.errno.Errno.TheVariants.{ENOSYS}
-use Rattle.rv_mem.specs.Actions.{Action, Done, MayUse, ReadBytes, WriteBytes, allows_uses, carried_out}
-use Rattle.rv_mem.specs.Memory.{Memory, after_read, with_pages}
-use Rattle.rv_mem.specs.Pages.{any_marked, bytes_from, written}
-use Rattle.kr_calls.specs.declared.request.Request.{Request}
-use Rattle.kr_tree.specs.Tree.{Tree}
-use Rattle.kr_tree.specs.declared.place.Host.{Host}
-use Rattle.kr_view.specs.View.{Row}
-use Rattle.kr_model.specs.Applied.{Computing, Mounts, applied}
-use Rattle.kr_model.specs.Change.{Change, RemoveName, MoveName, SetMode, SetOwner, End, MountOf, ReplaceImage, ReplaceExecutable, CloseOnExec}
-use Rattle.kr_model.specs.Judged.{are_quiet, is_quiet}
-use Rattle.kr_model.specs.Known.{Known}
-use Rattle.kr_model.specs.Operation.{operation}
-use Rattle.kr_model.specs.Reply.{is_refusal}
-use Rattle.kr_model.specs.Seen.{Seen, WalkFails}
-use Rattle.kr_model.specs.State.{Image, State}
-use Rattle.kr_model.proofs.CleanCalls.{refusals}
+use Rattle.kr_numbered.specs.pr_base.declared.errno.Errno.TheVariants.{ENOSYS}
+use Rattle.kr_numbered.specs.rv_mem.Actions.{Action, Done, MayUse, ReadBytes, WriteBytes, allows_uses, carried_out}
+use Rattle.kr_numbered.specs.rv_mem.Memory.{Memory, after_read, with_pages}
+use Rattle.kr_numbered.specs.rv_mem.Pages.{any_marked, bytes_from, written}
+use Rattle.kr_numbered.specs.kr_calls.declared.request.Request.{Request}
+use Rattle.kr_numbered.specs.kr_tree.Tree.{Tree}
+use Rattle.kr_numbered.specs.kr_tree.declared.place.Host.{Host}
+use Rattle.kr_numbered.specs.kr_view.View.{Row}
+use Rattle.kr_numbered.specs.kr_model.Applied.{Computing, Mounts, applied}
+use Rattle.kr_numbered.specs.kr_model.Change.{Change, RemoveName, MoveName, SetMode, SetOwner, End, MountOf, ReplaceImage, ReplaceExecutable, CloseOnExec}
+use Rattle.kr_numbered.specs.kr_model.Judged.{are_quiet, is_quiet}
+use Rattle.kr_numbered.specs.kr_model.Known.{Known}
+use Rattle.kr_numbered.specs.kr_model.Operation.{IsNoExec, operation}
+use Rattle.kr_numbered.specs.kr_model.Reply.{is_refusal}
+use Rattle.kr_numbered.specs.kr_model.Seen.{Seen, WalkFails}
+use Rattle.kr_numbered.specs.kr_model.State.{Image, State}
+use Rattle.kr_numbered.proofs.kr_model.CleanCalls.{refusals}
 use Rattle.kr_calm.specs.Foreseen.{are_unjudged, is_judged}
 use Rattle.kr_calm.specs.InUse.{is_directory_of, is_in_use}
 use Rattle.kr_calm.specs.Laws.{BreakNone, EndBreaks}
@@ -93,10 +93,10 @@ module _ {M X : Type 0} where
   }
 
   pub refused_calls_break_none : (computing : Computing X) (mounts : Mounts M) (pid : ℕ) (table : List Row) (request : Request) (seen : Seen) (k : Known) (m : Memory) (s : State M X)
-      → seen ≢ WalkFails ENOSYS → is_refusal (carried_out (operation pid request seen k) m).reply.outcome ≡ true
+      → IsNoExec request → seen ≢ WalkFails ENOSYS → is_refusal (carried_out (operation pid request seen k) m).reply.outcome ≡ true
       → BreakNone computing mounts pid table (carried_out (operation pid request seen k) m).reply.changes s
-  refused_calls_break_none computing mounts pid table request seen k m s other refused =
-      subst (λ cs. BreakNone computing mounts pid table cs s) (sym (refusals pid request seen k m other refused).0) (quiet_changes_break_none computing mounts pid table [] s refl)
+  refused_calls_break_none computing mounts pid table request seen k m s kind other refused =
+      subst (λ cs. BreakNone computing mounts pid table cs s) (sym (refusals pid request seen k m kind other refused).0) (quiet_changes_break_none computing mounts pid table [] s refl)
 
 pub marks_stay_read : {A : Type 0} (action : Action A) (m : Memory) → m.read_marked ≡ true → (carried_out action m).memory.read_marked ≡ true
 marks_stay_read (Done reply) m e = e

@@ -3,23 +3,23 @@ use Rattle.std.proofs.Common.{◌≡◌, ◌≢◌, ◌⊎◌, inl, inr, ℕ, ze
 use Rattle.std.specs.Prelude.{if◌then◌else◌}
 use Rattle.std.specs.Option.{option_map_or}
 use Rattle.std.proofs.lemmas.Bool.Decides.{nat_tests}
-use Rattle.rv_mem.specs.Memory.{Memory}
-use Rattle.kr_inode.specs.declared.user.Right.TheVariants.{Search}
-use Rattle.kr_calls.specs.declared.request.Request.{Request}
-use Rattle.kr_tree.specs.Rights.{may}
-use Rattle.kr_view.specs.View.{Row}
-use Rattle.kr_model.specs.Applied.{Mounts, all_applied, images}
-use Rattle.kr_model.specs.Change.{Change, End, MoveName, RemoveName, SetMode}
-use Rattle.kr_model.specs.Known.{Known, known}
-use Rattle.kr_model.specs.Laws.{word_told}
-use Rattle.kr_model.specs.Seen.{Seen}
-use Rattle.kr_model.specs.State.{Image, State, image_layout}
-use Rattle.kr_model.specs.Walks.{seen}
-use Rattle.kr_model.specs.declared.outcome.Outcome.{Outcome}
-use Rattle.kr_model.specs.declared.outcome.Outcome.TheVariants.{Answer, Ended, NoMemory, Wait}
-use Rattle.kr_model.proofs.CleanCalls.{ends_as_told}
-use Rattle.kr_seen.specs.Numbered.{state_numbered}
-use Rattle.kr_seen.specs.Carrying.{after_row, memory_of, with_memory_of}
+use Rattle.kr_numbered.specs.rv_mem.Memory.{Memory}
+use Rattle.kr_numbered.specs.kr_inode.declared.user.Right.TheVariants.{Search}
+use Rattle.kr_numbered.specs.kr_calls.declared.request.Request.{Request}
+use Rattle.kr_numbered.specs.kr_tree.Rights.{may}
+use Rattle.kr_numbered.specs.kr_view.View.{Row}
+use Rattle.kr_numbered.specs.kr_model.Applied.{Mounts, all_applied, images}
+use Rattle.kr_numbered.specs.kr_model.Change.{Change, End, MoveName, RemoveName, SetMode}
+use Rattle.kr_numbered.specs.kr_model.Known.{Known, known}
+use Rattle.kr_numbered.specs.kr_model.Laws.{word_told}
+use Rattle.kr_numbered.specs.kr_model.Seen.{Seen}
+use Rattle.kr_numbered.specs.kr_model.State.{Image, State, image_layout}
+use Rattle.kr_numbered.specs.kr_model.Walks.{seen}
+use Rattle.kr_numbered.specs.kr_model.declared.outcome.Outcome.{Outcome}
+use Rattle.kr_numbered.specs.kr_model.declared.outcome.Outcome.TheVariants.{Answer, Ended, NoMemory, Wait}
+use Rattle.kr_numbered.proofs.kr_model.CleanCalls.{row_ended}
+use Rattle.kr_numbered.specs.kr_seen.Numbered.{state_numbered}
+use Rattle.kr_numbered.specs.kr_seen.Carrying.{after_row, memory_of, with_memory_of}
 use Rattle.kr_calm.specs.Calm.{broken_by_changes, smallest}
 use Rattle.kr_calm.specs.Foreseen.{broken_as_foreseen, call_done, call_foreseen, foreseen_of, gives_owner, is_foreseen, prospect}
 use Rattle.kr_calm.specs.InUse.{is_directory_of, is_in_use}
@@ -135,7 +135,7 @@ module _ (table : List Row) (mounts : Mounts ℕ) (pid : ℕ) (request : Request
       by false is = none-broken table mounts pid before changes (others-break-none is goes)
 
   pub judged-end : outcome ≡ Ended → broken_by_changes table mounts pid changes before ≡ smallest false (is_in_use (is_directory_of pid) after) false
-  judged-end is = end-broken table mounts pid before changes (word_told request) (ends_as_told pid request told k m is)
+  judged-end is = end-broken table mounts pid before changes (word_told request) (row_ended pid request told k m is).1
 
 -- ---- by the state that is left, as the code has it
 

@@ -1,3 +1,8 @@
+pub use Rattle.kr_numbered.proofs.kr_model as kr_model
+pub use Rattle.kr_numbered.proofs.kr_lawful as kr_lawful
+pub use Rattle.kr_numbered.proofs.kr_seen as kr_seen
+pub use Rattle.kr_numbered.proofs as kr_numbered
+pub use Rattle.kr_rows.proofs as kr_rows
 pub mod WorkedRules
 pub mod AboveLemmas
 pub mod MildLemmas

@@ -4,23 +4,23 @@ use Rattle.std.proofs.Common.{◌≡◌, ◌≢◌, ℕ, zero, suc, ◌+◌, Boo
 use Rattle.std.specs.Prelude.{map as map_list, ◌==◌, IsSome, if◌then◌else◌}
 use Rattle.std.specs.List.{find, list_all}
 use Rattle.std.specs.Option.{option_map, option_map_or}
-use Rattle.pr_base.specs.Maps.{changed}
-use Rattle.rv_mem.specs.Memory.{Memory}
-use Rattle.kr_calls.specs.declared.request.Request.{Request}
-use Rattle.kr_tree.specs.declared.place.Host.{Host}
-use Rattle.kr_files.specs.declared.opened.Opened.{Opened}
-use Rattle.kr_files.specs.Descriptors.{Named}
-use Rattle.kr_files.specs.Files.{with_opened, at_offset, with_append}
-use Rattle.kr_model.specs.State.{Image, Process, State, image_layout, process, named, is_pid, at_pid, with_process, with_descs}
-use Rattle.kr_model.specs.Change.{Change, AddNode, LinkNode, RemoveName, MoveName, SetMode, SetOwner, SetSize, WriteFile, OpenFile, CopyDescriptor, CloseDescriptor, SetCloexec, Seek, SetAppend, MakePipe, TakeFromPipe, PutIntoPipe, TakeInput, WriteOut, WriteErr, ChangePages, SetBreak, SetUmask, ChangeDirectory, Fork, End, Reap, ReplaceImage, ReplaceExecutable, CloseOnExec, Birth}
-use Rattle.kr_model.specs.Applied.{Mounts, applied, all_applied, images, mount_of, with_files, with_exe_name, exe_remembers, exe_after_removal, exe_after_rename, open_in, close_named, close, copy_named, copy_over, on_opened_of, pipe_made, with_image, with_brk, with_umask, with_cwd, moved_to, child_of, forked_from, with_exe, executed, is_closed_on_exec, close_on_exec_below}
-use Rattle.kr_model.specs.Known.{Known, known}
-use Rattle.kr_model.specs.Operation.{operation}
-use Rattle.kr_model.specs.Seen.{Seen}
-use Rattle.kr_model.specs.declared.outcome.Outcome.{Outcome}
-use Rattle.kr_model.specs.declared.outcome.Outcome.TheVariants.{Ended}
-use Rattle.kr_model.proofs.BareLemmas.{found-mapped}
-use Rattle.kr_seen.specs.Carrying.{after_row, carried, memory_of, no_memory, with_memory, with_memory_of}
+use Rattle.kr_numbered.specs.pr_base.Maps.{changed}
+use Rattle.kr_numbered.specs.rv_mem.Memory.{Memory}
+use Rattle.kr_numbered.specs.kr_calls.declared.request.Request.{Request}
+use Rattle.kr_numbered.specs.kr_tree.declared.place.Host.{Host}
+use Rattle.kr_numbered.specs.kr_files.declared.opened.Opened.{Opened}
+use Rattle.kr_numbered.specs.kr_files.Descriptors.{Named}
+use Rattle.kr_numbered.specs.kr_files.Files.{with_opened, at_offset, with_append}
+use Rattle.kr_numbered.specs.kr_model.State.{Image, Process, State, image_layout, process, named, is_pid, at_pid, with_process, with_descs}
+use Rattle.kr_numbered.specs.kr_model.Change.{Change, AddNode, LinkNode, RemoveName, MoveName, SetMode, SetOwner, SetSize, WriteFile, OpenFile, CopyDescriptor, CloseDescriptor, SetCloexec, Seek, SetAppend, MakePipe, TakeFromPipe, PutIntoPipe, TakeInput, WriteOut, WriteErr, ChangePages, SetBreak, SetUmask, ChangeDirectory, Fork, End, Reap, ReplaceImage, ReplaceExecutable, CloseOnExec, Birth}
+use Rattle.kr_numbered.specs.kr_model.Applied.{Mounts, applied, all_applied, images, mount_of, with_files, with_exe_name, exe_remembers, exe_after_removal, exe_after_rename, open_in, close_named, close, copy_named, copy_over, on_opened_of, pipe_made, with_image, with_brk, with_umask, with_cwd, moved_to, child_of, forked_from, with_exe, executed, is_closed_on_exec, close_on_exec_below}
+use Rattle.kr_numbered.specs.kr_model.Known.{Known, known}
+use Rattle.kr_numbered.specs.kr_model.Operation.{operation}
+use Rattle.kr_numbered.specs.kr_model.Seen.{Seen}
+use Rattle.kr_numbered.specs.kr_model.declared.outcome.Outcome.{Outcome}
+use Rattle.kr_numbered.specs.kr_model.declared.outcome.Outcome.TheVariants.{Ended}
+use Rattle.kr_numbered.proofs.kr_model.BareLemmas.{found-mapped}
+use Rattle.kr_numbered.specs.kr_seen.Carrying.{after_row, carried, memory_of, no_memory, with_memory, with_memory_of}
 use Rattle.kr_calm.specs.Foreseen.{gives_owner, is_foreseen, prospect}
 use Rattle.kr_calm.specs.Laws.{MarksAreKept, leaves_mark}
 use Rattle.kr_calm.specs.Prospects.{answers_zero}
@@ -242,11 +242,17 @@ module _ {M : Type 0} (pid : ℕ) (request : Request) (seen : Seen) (s : State M
       by-foreseen true is = ap (list_all leaves_mark) ((foreseen_calls_make_it pid request seen k is).changes (memory_of pid s)) ∙ by-zero (answers_zero outcome)
       by-foreseen false is = by-owner is (gives_owner request) refl
 
+-- whatever the request is
+pub rows_keep_marks : {M : Type 0} (mounts : Mounts M) (pid : ℕ) (request : Request) (seen : Seen) (s : State M Image)
+    → let done = carried pid (operation pid request seen (known image_layout pid s)) s in
+    IsSome (process pid s) → done.reply.outcome ≢ Ended → (memory_of pid (after_row mounts pid done s)).read_marked ≡ done.memory.read_marked
+rows_keep_marks mounts pid request seen s lives goes =
+    let done = carried pid (operation pid request seen (known image_layout pid s)) s in
+    flag-told pid (after_row mounts pid done s) ∙ all-keep pid mounts done.reply.changes (with_memory_of pid done.memory s) (calls-leave pid request seen s goes)
+    ∙ noted pid done.memory s.living lives
+
 pub marks_are_kept : {M : Type 0} → MarksAreKept M
 marks_are_kept = record {
   changes = λ mounts pid cs s leave. flag-told pid (all_applied images mounts pid cs s) ∙ all-keep pid mounts cs s leave ∙ sym (flag-told pid s);
-  calls = λ mounts pid request seen s lives goes.
-      let done = carried pid (operation pid request seen (known image_layout pid s)) s in
-      flag-told pid (after_row mounts pid done s) ∙ all-keep pid mounts done.reply.changes (with_memory_of pid done.memory s) (calls-leave pid request seen s goes)
-      ∙ noted pid done.memory s.living lives;
+  calls = λ mounts pid request seen s kind lives goes. rows_keep_marks mounts pid request seen s lives goes;
 }

@@ -1,19 +1,19 @@
 -- Calls that make no change at which a rule looks.
 use Rattle.std.proofs.Common.{◌≡◌, ◌≢◌, ℕ, Bool, true, false, ◌&&◌, not, List, [], ◌∷◌, refl, sym, ap, subst, ◌∙◌, ℤ}
 use Rattle.std.specs.List.{list_all}
-use Rattle.rv_mem.specs.Actions.{carried_out}
-use Rattle.rv_mem.specs.Memory.{Memory}
-use Rattle.kr_calls.specs.declared.request.Request.{Request}
-use Rattle.kr_calls.specs.declared.request.Request.TheVariants as call
-use Rattle.kr_tree.specs.declared.place.Host.{Host}
-use Rattle.kr_model.specs.Change.{Change, ChangeDirectory, End, MoveName, OfDescriptor, RemoveName, ReplaceImage, SetMode, SetOwner}
-use Rattle.kr_model.specs.DirectoryRows.{fchdir_row}
-use Rattle.kr_model.specs.Known.{Known}
-use Rattle.kr_model.specs.Laws.{ends_nobody}
-use Rattle.kr_model.specs.Operation.{operation}
-use Rattle.kr_model.specs.Seen.{Seen}
-use Rattle.kr_model.specs.declared.outcome.Outcome.TheVariants.{Ended}
-use Rattle.kr_model.proofs.CleanCalls.{answers_end_nobody, ends_as_told}
+use Rattle.kr_numbered.specs.rv_mem.Actions.{carried_out}
+use Rattle.kr_numbered.specs.rv_mem.Memory.{Memory}
+use Rattle.kr_numbered.specs.kr_calls.declared.request.Request.{Request}
+use Rattle.kr_numbered.specs.kr_calls.declared.request.Request.TheVariants as call
+use Rattle.kr_numbered.specs.kr_tree.declared.place.Host.{Host}
+use Rattle.kr_numbered.specs.kr_model.Change.{Change, ChangeDirectory, End, MoveName, OfDescriptor, RemoveName, ReplaceImage, SetMode, SetOwner}
+use Rattle.kr_numbered.specs.kr_model.DirectoryRows.{fchdir_row}
+use Rattle.kr_numbered.specs.kr_model.Known.{Known}
+use Rattle.kr_numbered.specs.kr_model.Laws.{ends_nobody}
+use Rattle.kr_numbered.specs.kr_model.Operation.{operation}
+use Rattle.kr_numbered.specs.kr_model.Seen.{Seen}
+use Rattle.kr_numbered.specs.kr_model.declared.outcome.Outcome.TheVariants.{Ended}
+use Rattle.kr_numbered.proofs.kr_model.CleanCalls.{ends_as_told, row_tells}
 use Rattle.kr_calm.specs.Foreseen.{are_unjudged, gives_owner, is_foreseen, is_judged}
 use Rattle.kr_calm.specs.Laws.{OtherCallsAreUnjudged, leaves_mark}
 use Rattle.kr_calm.proofs.ChangeLemmas.{both}
@@ -64,7 +64,7 @@ module _ (pid : ℕ) (request : Request) (seen : Seen) (k : Known) (m : Memory) 
         by true is =
             let fd = entering request is in
             subst (λ r. list_all test (carried_out (operation pid r seen k) m).reply.changes ≡ true) (sym fd.1) (comes_to (fchdir_row k fd.0) (fchdir_comes enters k fd.0) m)
-        by false is = all-pass test one changes (mildly (operation pid request seen k) (operation_mild pid request seen k foreseen owner is) m) (answers_end_nobody pid request seen k m goes)
+        by false is = all-pass test one changes (mildly (operation pid request seen k) (operation_mild pid request seen k foreseen owner is) m) ((row_tells pid request seen k m).2 goes)
 
   pub others-unjudged : (carried_out (operation pid request seen k) m).reply.outcome ≢ Ended → are_unjudged changes ≡ true
   others-unjudged goes = pass (λ c. not (is_judged c)) one-unjudged (λ n at. refl) goes
@@ -73,7 +73,7 @@ module _ (pid : ℕ) (request : Request) (seen : Seen) (k : Known) (m : Memory) 
   others-leave goes = pass leaves_mark one-leaves (λ n at. refl) goes
 
 pub other_calls_are_unjudged : OtherCallsAreUnjudged
-other_calls_are_unjudged pid request seen k m foreseen owner = record {
+other_calls_are_unjudged pid request seen k m kind foreseen owner = record {
   going_on = others-unjudged pid request seen k m foreseen owner;
-  ending = ends_as_told pid request seen k m;
+  ending = ends_as_told pid request seen k m kind;
 }

@@ -1,27 +1,27 @@
 -- What holds of the rules.
 use Rattle.std.specs.Prelude.{◌≡◌, ◌≢◌, ◌↔◌, ◌⊎◌, ℕ, Bool, true, false, IsSome, IsTrue, List, [], ◌∷◌}
 use Rattle.std.specs.List.{list_all, list_any}
-use Rattle.pr_base.specs.declared.errno.Errno.TheVariants.{ENOSYS}
-use Rattle.rv_mem.specs.Actions.{Action, carried_out}
-use Rattle.rv_mem.specs.Memory.{Memory}
-use Rattle.kr_calls.specs.declared.request.Request.{Request}
-use Rattle.kr_tree.specs.Lawful.{IsBelow, IsSound}
-use Rattle.kr_tree.specs.Tree.{Tree}
-use Rattle.kr_tree.specs.declared.place.Host.{Host}
-use Rattle.kr_tree.specs.declared.place.Place.{Place}
-use Rattle.kr_view.specs.Component.{Namespace, above, is_directory_at, shows_directory}
-use Rattle.kr_view.specs.View.{Row}
-use Rattle.kr_model.specs.Applied.{Computing, Mounts, all_applied, applied, images}
-use Rattle.kr_model.specs.Change.{Change, CloseOnExec, End, MountOf, ReplaceExecutable, ReplaceImage}
-use Rattle.kr_model.specs.Judged.{are_quiet}
-use Rattle.kr_model.specs.Known.{Known, known}
-use Rattle.kr_model.specs.Laws.{word_told}
-use Rattle.kr_model.specs.Operation.{operation}
-use Rattle.kr_model.specs.Reply.{is_refusal}
-use Rattle.kr_model.specs.Seen.{Seen, WalkFails}
-use Rattle.kr_model.specs.State.{Image, State, image_layout, inode_of, process}
-use Rattle.kr_model.specs.declared.outcome.Outcome.TheVariants.{Ended}
-use Rattle.kr_seen.specs.Carrying.{after_row, carried, memory_of, with_memory_of}
+use Rattle.kr_numbered.specs.pr_base.declared.errno.Errno.TheVariants.{ENOSYS}
+use Rattle.kr_numbered.specs.rv_mem.Actions.{Action, carried_out}
+use Rattle.kr_numbered.specs.rv_mem.Memory.{Memory}
+use Rattle.kr_numbered.specs.kr_calls.declared.request.Request.{Request}
+use Rattle.kr_numbered.specs.kr_tree.Lawful.{IsBelow, IsSound}
+use Rattle.kr_numbered.specs.kr_tree.Tree.{Tree}
+use Rattle.kr_numbered.specs.kr_tree.declared.place.Host.{Host}
+use Rattle.kr_numbered.specs.kr_tree.declared.place.Place.{Place}
+use Rattle.kr_numbered.specs.kr_view.Component.{Namespace, above, is_directory_at, shows_directory}
+use Rattle.kr_numbered.specs.kr_view.View.{Row}
+use Rattle.kr_numbered.specs.kr_model.Applied.{Computing, Mounts, all_applied, applied, images}
+use Rattle.kr_numbered.specs.kr_model.Change.{Change, CloseOnExec, End, MountOf, ReplaceExecutable, ReplaceImage}
+use Rattle.kr_numbered.specs.kr_model.Judged.{are_quiet}
+use Rattle.kr_numbered.specs.kr_model.Known.{Known, known}
+use Rattle.kr_numbered.specs.kr_model.Laws.{word_told}
+use Rattle.kr_numbered.specs.kr_model.Operation.{IsNoExec, operation}
+use Rattle.kr_numbered.specs.kr_model.Reply.{is_refusal}
+use Rattle.kr_numbered.specs.kr_model.Seen.{Seen, WalkFails}
+use Rattle.kr_numbered.specs.kr_model.State.{Image, State, image_layout, inode_of, process}
+use Rattle.kr_numbered.specs.kr_model.declared.outcome.Outcome.TheVariants.{Ended}
+use Rattle.kr_numbered.specs.kr_seen.Carrying.{after_row, carried, memory_of, with_memory_of}
 use Rattle.kr_calm.specs.Above.{is_at_or_below}
 use Rattle.kr_calm.specs.Foreseen.{are_unjudged, gives_owner, is_foreseen, prospect}
 use Rattle.kr_calm.specs.InUse.{is_directory_of, is_in_use}
@@ -46,11 +46,11 @@ QuietChangesBreakNone M X =
     (computing : Computing X) (mounts : Mounts M) (pid : ℕ) (table : List Row) (cs : List Change) (s : State M X)
     → are_quiet cs ≡ true → BreakNone computing mounts pid table cs s
 
--- those of a call that answers an error: there are none
+-- those of a call, other than execve, that answers an error: there are none
 abbrev pub RefusedCallsBreakNone : Type 0 → Type 0 → Type 0
 RefusedCallsBreakNone M X =
     (computing : Computing X) (mounts : Mounts M) (pid : ℕ) (table : List Row) (request : Request) (seen : Seen) (k : Known) (m : Memory) (s : State M X)
-    → seen ≢ WalkFails ENOSYS → is_refusal (carried_out (operation pid request seen k) m).reply.outcome ≡ true
+    → IsNoExec request → seen ≢ WalkFails ENOSYS → is_refusal (carried_out (operation pid request seen k) m).reply.outcome ≡ true
     → BreakNone computing mounts pid table (carried_out (operation pid request seen k) m).reply.changes s
 
 -- changes that no rule looks at
@@ -89,14 +89,14 @@ OwnersBreakNone M =
     (mounts : Mounts M) (pid : ℕ) (table : List Row) (request : Request) (seen : Seen) (s : State M Image) (m memory : Memory) → gives_owner request ≡ true
     → BreakNone images mounts pid table (carried_out (operation pid request seen (known image_layout pid s)) m).reply.changes (with_memory_of pid memory s)
 
--- any other call makes no change that a rule looks at, unless it ends its caller, which then is all that it does
+-- any other call but execve makes no change that a rule looks at, unless it ends its caller, which then is all that it does
 pub record OthersAreUnjudged (pid : ℕ) (request : Request) (seen : Seen) (k : Known) (m : Memory) : Type 0 where
   pub going_on : (carried_out (operation pid request seen k) m).reply.outcome ≢ Ended → are_unjudged (carried_out (operation pid request seen k) m).reply.changes ≡ true
   pub ending : (carried_out (operation pid request seen k) m).reply.outcome ≡ Ended → (carried_out (operation pid request seen k) m).reply.changes ≡ End (word_told request) ∷ []
 
 abbrev pub OtherCallsAreUnjudged : Type 0
 OtherCallsAreUnjudged =
-    (pid : ℕ) (request : Request) (seen : Seen) (k : Known) (m : Memory) → is_foreseen request ≡ false → gives_owner request ≡ false
+    (pid : ℕ) (request : Request) (seen : Seen) (k : Known) (m : Memory) → IsNoExec request → is_foreseen request ≡ false → gives_owner request ≡ false
     → OthersAreUnjudged pid request seen k m
 
 -- ---- memory
@@ -111,13 +111,13 @@ leaves_mark (End status) = false
 leaves_mark (ReplaceImage image brk) = false
 leaves_mark _ = true
 
--- so the flag in the memory of a caller that goes on is that of all that its call read
+-- so the flag in the memory of a caller that goes on is that of all that its call read, other than execve
 pub record MarksAreKept (M : Type 0) : Type 0 where
   pub changes : (mounts : Mounts M) (pid : ℕ) (cs : List Change) (s : State M Image) → list_all leaves_mark cs ≡ true
       → (memory_of pid (all_applied images mounts pid cs s)).read_marked ≡ (memory_of pid s).read_marked
   pub calls : (mounts : Mounts M) (pid : ℕ) (request : Request) (seen : Seen) (s : State M Image)
       → let done = carried pid (operation pid request seen (known image_layout pid s)) s in
-      IsSome (process pid s) → done.reply.outcome ≢ Ended → (memory_of pid (after_row mounts pid done s)).read_marked ≡ done.memory.read_marked
+      IsNoExec request → IsSome (process pid s) → done.reply.outcome ≢ Ended → (memory_of pid (after_row mounts pid done s)).read_marked ≡ done.memory.read_marked
 
 -- ---- guest names
 

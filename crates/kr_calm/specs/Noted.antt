@@ -2,25 +2,25 @@
 -- calls that end their caller nothing.
 use Rattle.std.specs.Prelude.{◌≡◌, ℕ, ◌*◌, ℤ, ◌&&◌, not, Bool, false, nat_lt, is_some, if◌then◌else◌}
 use Rattle.std.specs.Option.{option_and_then, option_map_or}
-use Rattle.rv_mem.specs.Actions.{CarriedOut, carried_out}
-use Rattle.rv_mem.specs.Memory.{Memory, after_read}
-use Rattle.rv_mem.specs.Pages.{allows_all}
-use Rattle.rv_mem.specs.declared.rights.Use.TheVariants.{Read}
-use Rattle.kr_calls.specs.declared.request.Request.{Request}
-use Rattle.kr_calls.specs.declared.request.Request.TheVariants as call
-use Rattle.kr_files.specs.declared.opened.What.{What}
-use Rattle.kr_files.specs.declared.opened.What.TheVariants.{PipeWrite}
-use Rattle.kr_model.specs.Applied.{Mounts}
-use Rattle.kr_model.specs.Asking.{descriptor_number}
-use Rattle.kr_model.specs.Known.{Known, known}
-use Rattle.kr_model.specs.Operation.{operation}
-use Rattle.kr_model.specs.Reply.{Reply}
-use Rattle.kr_model.specs.Seen.{Seen}
-use Rattle.kr_model.specs.State.{image_layout}
-use Rattle.kr_model.specs.declared.outcome.Outcome.TheVariants.{Ended}
-use Rattle.kr_ops.specs.declared.state.State.{State}
-use Rattle.kr_ops.specs.Meaning.{meaning}
-use Rattle.kr_seen.specs.Carrying.{after_row, carried, memory_of}
+use Rattle.kr_numbered.specs.rv_mem.Actions.{CarriedOut, carried_out}
+use Rattle.kr_numbered.specs.rv_mem.Memory.{Memory, after_read}
+use Rattle.kr_numbered.specs.rv_mem.Pages.{allows_all}
+use Rattle.kr_numbered.specs.rv_mem.declared.rights.Use.TheVariants.{Read}
+use Rattle.kr_numbered.specs.kr_calls.declared.request.Request.{Request}
+use Rattle.kr_numbered.specs.kr_calls.declared.request.Request.TheVariants as call
+use Rattle.kr_numbered.specs.kr_files.declared.opened.What.{What}
+use Rattle.kr_numbered.specs.kr_files.declared.opened.What.TheVariants.{PipeWrite}
+use Rattle.kr_numbered.specs.kr_model.Applied.{Mounts}
+use Rattle.kr_numbered.specs.kr_model.Asking.{descriptor_number}
+use Rattle.kr_numbered.specs.kr_model.Known.{Known, known}
+use Rattle.kr_numbered.specs.kr_model.Operation.{IsNoExec, operation}
+use Rattle.kr_numbered.specs.kr_model.Reply.{Reply}
+use Rattle.kr_numbered.specs.kr_model.Seen.{Seen}
+use Rattle.kr_numbered.specs.kr_model.State.{image_layout}
+use Rattle.kr_numbered.specs.kr_model.declared.outcome.Outcome.TheVariants.{Ended}
+use Rattle.kr_numbered.specs.kr_ops.declared.state.State.{State}
+use Rattle.kr_numbered.specs.kr_ops.Meaning.{meaning}
+use Rattle.kr_numbered.specs.kr_seen.Carrying.{after_row, carried, memory_of}
 use Rattle.kr_rows.specs.Using.{HasMemory}
 
 -- an end for writing of a pipe that nobody reads
@@ -41,18 +41,18 @@ abbrev pub noted : Known → Request → Memory → Memory
 noted k (call.Writev fd list count) m = if kills k fd && is_read list count m then after_read m list (16 * count) else m
 noted k _ m = m
 
--- the call comes to the same on it, and where it ends its caller, it reads nothing more
+-- the call, other than execve, comes to the same on it, and where it ends its caller, it reads nothing more
 pub record NotedAsRead (pid : ℕ) (request : Request) (seen : Seen) (k : Known) (m : Memory) : Type 0 where
   pub alike : carried_out (operation pid request seen k) (noted k request m) ≡ carried_out (operation pid request seen k) m
   pub ending : (carried_out (operation pid request seen k) m).reply.outcome ≡ Ended → (carried_out (operation pid request seen k) m).memory ≡ noted k request m
 
 abbrev pub ListsAreNoted : Type 0
-ListsAreNoted = (pid : ℕ) (request : Request) (seen : Seen) (k : Known) (m : Memory) → NotedAsRead pid request seen k m
+ListsAreNoted = (pid : ℕ) (request : Request) (seen : Seen) (k : Known) (m : Memory) → IsNoExec request → NotedAsRead pid request seen k m
 
 -- ---- a state in which it is noted
 
 module _ {T : Type 0} {M : ℕ} (pid : ℕ) (request : Request) (old new : State T M) where
-  -- the row of a call on a state
+  -- the row of a call on a state; for an execve, of which nothing is noted, that isn't its own
   abbrev pub row_on : Seen → State T M → CarriedOut Reply
   row_on seen s = carried pid (operation pid request seen (known image_layout pid (meaning s))) (meaning s)
 

@@ -2,11 +2,11 @@
 -- that it swaps, so a run on which the two machines agree reads none of these bytes. A kernel that keeps marks marks them.
 use Rattle.std.specs.Prelude.{ℕ, ◌-◌, ◌==◌, Bool, ◌&&◌, not, List, [], ◌∷◌, nat_eq, nat_le, slice_index, if◌then◌else◌}
 use Rattle.std.specs.List.{list_any}
-use Rattle.rv_mem.specs.declared.regs.Regs.{Regs}
-use Rattle.rv_mem.specs.declared.rights.Use.TheVariants.{Read, Write}
-use Rattle.rv_mem.specs.Memory.{Memory, with_pages}
-use Rattle.rv_mem.specs.Pages.{Pages, allows_all, marked}
-use Rattle.kr_calls.specs.Arguments.{number}
+use Rattle.kr_numbered.specs.rv_mem.declared.regs.Regs.{Regs}
+use Rattle.kr_numbered.specs.rv_mem.declared.rights.Use.TheVariants.{Read, Write}
+use Rattle.kr_numbered.specs.rv_mem.Memory.{Memory, with_pages}
+use Rattle.kr_numbered.specs.rv_mem.Pages.{Pages, allows_all, marked}
+use Rattle.kr_numbered.specs.kr_calls.Arguments.{number}
 
 -- ---- which calls have a path
 

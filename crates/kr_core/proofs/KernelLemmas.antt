@@ -4,16 +4,16 @@ use Rattle.std.specs.Prelude.{map as map_list, ◌%◌, length}
 use Rattle.std.specs.List.{filter, find}
 use Rattle.std.specs.Option.{option_map}
 use Rattle.std.proofs.lemmas.Option.{same_Some, slice_get-map}
-use Rattle.kr_view.specs.View.{Row}
-use Rattle.kr_model.specs.Lawful.{ArePids, RiseFrom}
-use Rattle.kr_model.specs.State as model
-use Rattle.kr_model.specs.State.{Image, Process, image_layout, is_pid, process}
-use Rattle.kr_lawful.proofs.SumLemmas.{other-test}
-use Rattle.kr_ops.specs.declared.state.State.{State}
-use Rattle.kr_ops.specs.Meaning.{meaning}
-use Rattle.kr_seen.specs.Numbered.{process_numbered, state_numbered}
-use Rattle.kr_numbered.proofs.LookLemmas.{known-numbered, process-numbered}
-use Rattle.kr_numbered.proofs.StepLemmas.{passing-numbered}
+use Rattle.kr_turns.specs.kr_view.View.{Row}
+use Rattle.kr_first.specs.kr_model.Lawful.{ArePids, RiseFrom}
+use Rattle.kr_first.specs.kr_model.State as model
+use Rattle.kr_first.specs.kr_model.State.{Image, Process, image_layout, is_pid, process}
+use Rattle.kr_first.proofs.kr_lawful.SumLemmas.{other-test}
+use Rattle.kr_first.specs.kr_ops.declared.state.State.{State}
+use Rattle.kr_first.specs.kr_ops.Meaning.{meaning}
+use Rattle.kr_turns.specs.kr_seen.Numbered.{process_numbered, state_numbered}
+use Rattle.kr_turns.proofs.kr_numbered.LookLemmas.{known-numbered, process-numbered}
+use Rattle.kr_turns.proofs.kr_numbered.StepLemmas.{passing-numbered}
 use Rattle.kr_turns.specs.Steps.{Runs, goes_on, picked_process, ready_processes, still_waits}
 use Rattle.kr_turns.proofs.NumberLemmas.{picked-process-numbered}
 

@@ -1,14 +1,14 @@
 -- A kernel as its callers see it, its start, and its turns.
 use Rattle.std.specs.Prelude.{◌≡◌, ◌≢◌, ◌<◌, ◌^◌, ℕ, suc, Bool, true, List, [], length, Option, Some, None, nat_eq, Result, Ok, Err, if◌then◌else◌}
 use Rattle.pr_base.specs.declared.errno.Errno.{Errno}
-use Rattle.kr_view.specs.declared.target.Reach.{Reach}
-use Rattle.kr_view.specs.View.{Row}
-use Rattle.kr_model.specs.State as model
-use Rattle.kr_model.specs.State.{Image, Process}
-use Rattle.kr_allowed.specs.Told.{SourcesAreNamed}
-use Rattle.kr_ops.specs.declared.state.State.{State}
+use Rattle.kr_turns.specs.kr_view.declared.target.Reach.{Reach}
+use Rattle.kr_turns.specs.kr_view.View.{Row}
+use Rattle.kr_first.specs.kr_model.State as model
+use Rattle.kr_first.specs.kr_model.State.{Image, Process}
+use Rattle.kr_first.specs.kr_allowed.Told.{SourcesAreNamed}
+use Rattle.kr_first.specs.kr_ops.declared.state.State.{State}
 use Rattle.kr_turns.specs.Steps.{Runs, picked_process}
-use Rattle.kr_calm.specs.Calm.{broken_at_start}
+use Rattle.kr_turns.specs.kr_calm.Calm.{broken_at_start}
 use Rattle.kr_first.specs.declared.starting.StartFault.{StartFault}
 use Rattle.kr_first.specs.declared.starting.StartFault.TheVariants as fault
 use Rattle.kr_turns.specs.Making.{machine_of}

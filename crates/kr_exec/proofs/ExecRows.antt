@@ -1,9 +1,9 @@
 -- Lists and walks worked out by hand: files that are known by their paths.
 use Rattle.std.proofs.Common.{◌≡◌, ℕ, false, List, [], ◌∷◌, Result, Ok, Err, refl}
 use Rattle.std.specs.Prelude.{codes, bytes_eq, if◌then◌else◌}
-use Rattle.pr_base.specs.declared.errno.Errno.{Errno}
-use Rattle.pr_base.specs.declared.errno.Errno.TheVariants.{EACCES, E2BIG, ENOEXEC}
-use Rattle.rv_mem.specs.Actions.{Done}
+use Rattle.elf_read.specs.pr_base.declared.errno.Errno.{Errno}
+use Rattle.elf_read.specs.pr_base.declared.errno.Errno.TheVariants.{EACCES, E2BIG, ENOEXEC}
+use Rattle.kr_calls.specs.rv_mem.Actions.{Done}
 use Rattle.kr_calls.specs.Expansion.{Finding, most_scripts}
 use Rattle.kr_calls.specs.Scripts.{script_of}
 use Rattle.kr_exec.specs.Exec.{are_too_big}

@@ -3,16 +3,16 @@ use Rattle.std.proofs.Common.{◌≡◌, ℕ, zero, suc, ◌+◌, ◌-◌, ◌<�
 use Rattle.std.specs.Prelude.{nat_eq, nat_lt}
 use Rattle.std.proofs.lemmas.Bool.{lt-ltb}
 use Rattle.std.proofs.lemmas.Bool.Decides.{nat_tests}
-use Rattle.pr_base.specs.Fields.{little_endian}
-use Rattle.pr_base.specs.declared.errno.Errno.{Errno}
-use Rattle.pr_base.specs.declared.errno.Errno.TheVariants.{EFAULT, E2BIG}
-use Rattle.rv_mem.specs.Actions.{Action, Done, MayUse, ReadBytes, WriteBytes, CarriedOut, carried_out, allows_uses}
-use Rattle.rv_mem.specs.Memory.{Memory, after_read, with_pages, text_of, text_reach}
-use Rattle.rv_mem.specs.Pages.{bytes_from, written, any_marked, allows_all}
-use Rattle.rv_mem.specs.declared.fault.TextFault.{TextFault}
-use Rattle.rv_mem.specs.declared.fault.TextFault.TheVariants as fault
-use Rattle.rv_mem.specs.declared.rights.Use.TheVariants.{Read}
-use Rattle.rv_mem.proofs.ActionLemmas.{flag_stays}
+use Rattle.elf_read.specs.pr_base.Fields.{little_endian}
+use Rattle.elf_read.specs.pr_base.declared.errno.Errno.{Errno}
+use Rattle.elf_read.specs.pr_base.declared.errno.Errno.TheVariants.{EFAULT, E2BIG}
+use Rattle.kr_calls.specs.rv_mem.Actions.{Action, Done, MayUse, ReadBytes, WriteBytes, CarriedOut, carried_out, allows_uses}
+use Rattle.kr_calls.specs.rv_mem.Memory.{Memory, after_read, with_pages, text_of, text_reach}
+use Rattle.kr_calls.specs.rv_mem.Pages.{bytes_from, written, any_marked, allows_all}
+use Rattle.kr_calls.specs.rv_mem.declared.fault.TextFault.{TextFault}
+use Rattle.kr_calls.specs.rv_mem.declared.fault.TextFault.TheVariants as fault
+use Rattle.kr_calls.specs.rv_mem.declared.rights.Use.TheVariants.{Read}
+use Rattle.kr_calls.proofs.rv_mem.ActionLemmas.{flag_stays}
 use Rattle.kr_calls.specs.Expansion.{bytes_with_ends}
 use Rattle.kr_calls.specs.declared.fault.CallFault.{CallFault}
 use Rattle.kr_calls.specs.declared.fault.CallFault.TheVariants as call

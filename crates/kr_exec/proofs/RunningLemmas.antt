@@ -1,10 +1,11 @@
 -- Scripts one by one: what their lines come to, and what the walks to their interpreters reach.
 use Rattle.std.proofs.Common.{◌≡◌, ℕ, zero, suc, ◌-◌, Bool, true, false, cond, List, [], ◌∷◌, Option, Some, None, Result, Ok, Err, refl, sym, ap, ◌∙◌, subst}
 use Rattle.std.specs.Option.{option_map}
-use Rattle.pr_base.specs.declared.errno.Errno.{Errno}
-use Rattle.pr_base.specs.declared.errno.Errno.TheVariants.{E2BIG, ELOOP}
-use Rattle.kr_tree.specs.declared.place.Place.{Place}
-use Rattle.kr_tree.specs.Tree.{Tree}
+use Rattle.elf_read.specs.pr_base.declared.errno.Errno.{Errno}
+use Rattle.elf_read.specs.pr_base.declared.errno.Errno.TheVariants.{E2BIG, ELOOP}
+use Rattle.elf_read.specs.pr_base.declared.path.WalkMode.TheVariants.{Look}
+use Rattle.kr_view.specs.kr_tree.declared.place.Place.{Place}
+use Rattle.kr_view.specs.kr_tree.Tree.{Tree}
 use Rattle.kr_view.specs.declared.target.Target.{Target}
 use Rattle.kr_view.specs.declared.target.WalkFault.{WalkFault}
 use Rattle.kr_view.specs.declared.target.WalkFault.TheVariants as fault
@@ -94,11 +95,11 @@ loop_paths f env_bytes (suc left) r none = absurd cc
 pub covers_walks : (around : Surroundings) (base : Place ℕ) (paths : List (List ℕ)) (r : Reach) → Covers (walks_reach around base paths r) r
 covers_walks around base [] r = covers_refl r
 covers_walks around base (path ∷ paths) r =
-    covers_trans _ (reach_after around (program_walk around base path) r) r (covers_walks around base paths _) (covers_after around (program_walk around base path) r)
+    covers_trans _ (reach_after around Look (program_walk around base path) r) r (covers_walks around base paths _) (covers_after around Look (program_walk around base path) r)
 
 pub covers_line : (around : Surroundings) (base : Place ℕ) (line : Line) (r : Reach) → Covers (line_reach around base line r) r
 covers_line around base None r = covers_refl r
-covers_line around base (Some line) r = covers_after around (program_walk around base line.0) r
+covers_line around base (Some line) r = covers_after around Look (program_walk around base line.0) r
 
 line_walks : {F : Type 0} (around : Surroundings) (base : Place ℕ) (f : Finding F) (again : Paths F) (env_bytes : ℕ) (path : List ℕ) (args : List (List ℕ)) (line : Line) (r : Reach)
     → walks_reach around base (paths_by_line f again env_bytes path args line) r ≡ walks_reach around base (paths_behind again (interpreted f env_bytes path args line)) (line_reach around base line r)
@@ -107,7 +108,7 @@ line_walks around base f again env_bytes path args (Some line) r = refl
 
 -- the walk that a line asks for was made
 pub line_reached : {T : Type 0} (around : Surroundings) (base : Place ℕ) (line : Line) (words : List ℕ × List ℕ) (old new : Reach) (result : Result T WalkFault)
-    → Some words ≡ line → IsReached around (program_walk around base words.0) old new result → Reaches (line_reach around base line old) old new result
+    → Some words ≡ line → IsReached around Look (program_walk around base words.0) old new result → Reaches (line_reach around base line old) old new result
 line_reached around base line words old new (Ok x) is h = h ∙ ap (λ l. line_reach around base l old) is
 line_reached around base line words old new (Err (fault.Err e)) is h = h ∙ ap (λ l. line_reach around base l old) is
 line_reached around base line words old new (Err fault.NoMemory) is h = (h.0, subst (λ l. Covers (line_reach around base l old) new) is h.1)

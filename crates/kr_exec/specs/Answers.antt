@@ -1,7 +1,7 @@
 -- What the code answers, over the mounts as a machine calls them.
 use Rattle.std.specs.Prelude.{ℕ, ◌≡◌, List, Option, Result, Ok, Err}
-use Rattle.pr_base.specs.declared.errno.Errno.{Errno}
-use Rattle.kr_tree.specs.declared.place.ProcAt.{ProcAt}
+use Rattle.elf_read.specs.pr_base.declared.errno.Errno.{Errno}
+use Rattle.kr_view.specs.kr_tree.declared.place.ProcAt.{ProcAt}
 use Rattle.kr_view.specs.declared.procs.Lead.{Lead}
 use Rattle.kr_view.specs.declared.target.Target.{Target}
 use Rattle.kr_view.specs.declared.target.WalkFault.{WalkFault}

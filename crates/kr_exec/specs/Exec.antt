@@ -2,15 +2,15 @@
 -- come from words.
 use Rattle.std.specs.Prelude.{ℕ, Bool, ◌||◌, nat_lt, List, length, Option, Some, None, Result, Ok, Err, if◌then◌else◌}
 use Rattle.std.specs.Option.{option_map_or}
-use Rattle.pr_base.specs.declared.errno.Errno.{Errno}
-use Rattle.pr_base.specs.declared.errno.Errno.TheVariants.{E2BIG, ENOEXEC}
+use Rattle.elf_read.specs.pr_base.declared.errno.Errno.{Errno}
+use Rattle.elf_read.specs.pr_base.declared.errno.Errno.TheVariants.{E2BIG, ENOEXEC}
 use Rattle.elf_read.specs.Plans.{plan_of}
 use Rattle.elf_read.specs.Rules.{first_broken}
 use Rattle.elf_read.specs.declared.fault.ElfFault.{ElfFault}
-use Rattle.kr_tree.specs.declared.place.Host.{Host}
-use Rattle.kr_tree.specs.declared.place.Host.TheVariants.{Node, Proc}
-use Rattle.kr_tree.specs.declared.place.Place.{Place}
-use Rattle.kr_tree.specs.Tree.{Tree}
+use Rattle.kr_view.specs.kr_tree.declared.place.Host.{Host}
+use Rattle.kr_view.specs.kr_tree.declared.place.Host.TheVariants.{Node, Proc}
+use Rattle.kr_view.specs.kr_tree.declared.place.Place.{Place}
+use Rattle.kr_view.specs.kr_tree.Tree.{Tree}
 use Rattle.kr_view.specs.declared.target.Target.{Target}
 use Rattle.kr_view.specs.declared.target.Reach.{Reach}
 use Rattle.kr_view.specs.Component.{Surroundings}

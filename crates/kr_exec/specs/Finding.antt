@@ -2,16 +2,16 @@
 -- one that the user may not execute.
 use Rattle.std.specs.Prelude.{ℕ, Bool, false, ◌&&◌, List, Option, Result, Ok, Err, if◌then◌else◌}
 use Rattle.std.specs.Option.{option_map, option_map_or}
-use Rattle.pr_base.specs.declared.errno.Errno.{Errno}
-use Rattle.pr_base.specs.declared.errno.Errno.TheVariants.{EACCES}
-use Rattle.pr_base.specs.declared.path.WalkMode.TheVariants.{Look}
-use Rattle.kr_inode.specs.declared.user.User.{User}
-use Rattle.kr_inode.specs.declared.user.Right.TheVariants.{Search}
-use Rattle.kr_tree.specs.declared.place.Host.{Host}
-use Rattle.kr_tree.specs.declared.place.Host.TheVariants.{Node, Proc}
-use Rattle.kr_tree.specs.declared.place.Place.{Place}
-use Rattle.kr_tree.specs.Tree.{Tree, body_is, is_file}
-use Rattle.kr_tree.specs.Rights.{may}
+use Rattle.elf_read.specs.pr_base.declared.errno.Errno.{Errno}
+use Rattle.elf_read.specs.pr_base.declared.errno.Errno.TheVariants.{EACCES}
+use Rattle.elf_read.specs.pr_base.declared.path.WalkMode.TheVariants.{Look}
+use Rattle.kr_view.specs.kr_inode.declared.user.User.{User}
+use Rattle.kr_view.specs.kr_inode.declared.user.Right.TheVariants.{Search}
+use Rattle.kr_view.specs.kr_tree.declared.place.Host.{Host}
+use Rattle.kr_view.specs.kr_tree.declared.place.Host.TheVariants.{Node, Proc}
+use Rattle.kr_view.specs.kr_tree.declared.place.Place.{Place}
+use Rattle.kr_view.specs.kr_tree.Tree.{Tree, body_is, is_file}
+use Rattle.kr_view.specs.kr_tree.Rights.{may}
 use Rattle.kr_view.specs.Component.{Surroundings}
 use Rattle.kr_view.specs.Walk.{PlaceTarget, PlaceTrail, place_walk}
 

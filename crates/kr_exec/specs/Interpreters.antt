@@ -2,12 +2,13 @@
 -- reach, and one script by itself.
 use Rattle.std.specs.Prelude.{ℕ, zero, suc, List, [], ◌∷◌, take, Option, Some, None, Result, Ok, Err, if◌then◌else◌}
 use Rattle.std.specs.Option.{option_and_then, option_map_or}
-use Rattle.pr_base.specs.declared.errno.Errno.{Errno}
-use Rattle.pr_base.specs.declared.errno.Errno.TheVariants.{E2BIG, ENOEXEC}
-use Rattle.kr_tree.specs.declared.place.Host.{Host}
-use Rattle.kr_tree.specs.declared.place.Host.TheVariants.{Node, Proc}
-use Rattle.kr_tree.specs.declared.place.Place.{Place}
-use Rattle.kr_tree.specs.Tree.{Tree, body, file_of}
+use Rattle.elf_read.specs.pr_base.declared.errno.Errno.{Errno}
+use Rattle.elf_read.specs.pr_base.declared.errno.Errno.TheVariants.{E2BIG, ENOEXEC}
+use Rattle.elf_read.specs.pr_base.declared.path.WalkMode.TheVariants.{Look}
+use Rattle.kr_view.specs.kr_tree.declared.place.Host.{Host}
+use Rattle.kr_view.specs.kr_tree.declared.place.Host.TheVariants.{Node, Proc}
+use Rattle.kr_view.specs.kr_tree.declared.place.Place.{Place}
+use Rattle.kr_view.specs.kr_tree.Tree.{Tree, body, file_of}
 use Rattle.kr_view.specs.declared.target.Target.{Target}
 use Rattle.kr_view.specs.declared.target.Reach.{Reach}
 use Rattle.kr_view.specs.Answers.{told}
@@ -93,9 +94,9 @@ paths_of finding env_bytes left r = interpreters finding env_bytes left r.file r
 -- what walks to programs reach
 abbrev pub walks_reach : Surroundings → Place ℕ → List (List ℕ) → Reach → Reach
 walks_reach around base [] r = r
-walks_reach around base (path ∷ paths) r = walks_reach around base paths (reach_after around (program_walk around base path) r)
+walks_reach around base (path ∷ paths) r = walks_reach around base paths (reach_after around Look (program_walk around base path) r)
 
 -- what the walk to the interpreter of a line reaches
 abbrev pub line_reach : Surroundings → Place ℕ → Option (List ℕ × List ℕ) → Reach → Reach
 line_reach around base None r = r
-line_reach around base (Some line) r = reach_after around (program_walk around base line.0) r
+line_reach around base (Some line) r = reach_after around Look (program_walk around base line.0) r

@@ -1,12 +1,12 @@
 -- The lists of texts that execve(2) reads, as a tree of memory actions: address by address and text by text up to the
 -- address 0, where the first test that fails counts. How many texts and bytes there may be is our own.
 use Rattle.std.specs.Prelude.{◌≡◌, ℕ, zero, suc, ◌+◌, ◌-◌, ◌%◌, ◌^◌, true, nat_eq, nat_lt, List, [], ◌∷◌, length, Result, Ok, Err, if◌then◌else◌}
-use Rattle.pr_base.specs.Fields.{little_endian}
-use Rattle.pr_base.specs.declared.errno.Errno.{Errno}
-use Rattle.pr_base.specs.declared.errno.Errno.TheVariants.{EFAULT, E2BIG}
-use Rattle.rv_mem.specs.Actions.{Action, Done, MayUse, ReadBytes, WriteBytes, CarriedOut, read_if_allowed}
-use Rattle.rv_mem.specs.Memory.{Memory}
-use Rattle.rv_mem.specs.declared.rights.Use.TheVariants.{Read}
+use Rattle.elf_read.specs.pr_base.Fields.{little_endian}
+use Rattle.elf_read.specs.pr_base.declared.errno.Errno.{Errno}
+use Rattle.elf_read.specs.pr_base.declared.errno.Errno.TheVariants.{EFAULT, E2BIG}
+use Rattle.kr_calls.specs.rv_mem.Actions.{Action, Done, MayUse, ReadBytes, WriteBytes, CarriedOut, read_if_allowed}
+use Rattle.kr_calls.specs.rv_mem.Memory.{Memory}
+use Rattle.kr_calls.specs.rv_mem.declared.rights.Use.TheVariants.{Read}
 use Rattle.kr_calls.specs.Texts.{read_text}
 use Rattle.kr_calls.specs.Expansion.{bytes_with_ends}
 use Rattle.kr_calls.specs.declared.fault.CallFault.{CallFault}

@@ -1,13 +1,14 @@
 //! Finding the file that execve(2) runs.
 ghost use Rattle.std.specs.Prelude.{◌≡◌, true, IfOk};
+ghost use Rattle.elf_read.specs.pr_base.declared.path.WalkMode.TheVariants.{Look};
 ghost use Rattle.kr_view.specs.Answers.{IsAnswer, IsReached};
 ghost use Rattle.kr_view.specs.Leads.{numbered};
 ghost use Rattle.kr_view.specs.Walk.{surroundings};
 ghost use Rattle.kr_exec.specs.Finding.{is_program, is_program_found, program_at, program_walk};
 
-use kr_tree::{Host, Place, Right, Tree, User};
+use elf_read::below::pr_base::{Errno, WalkMode};
+use kr_view::below::kr_tree::{Host, Place, Right, Tree, User};
 use kr_view::{Places, Procs, Reach, Target, WalkFault, resolve};
-use pr_base::{Errno, WalkMode};
 use std::alloc::Global;
 
 /// Where a path leads from a base, if that is a regular file that the user may execute, and else EACCES. A last link
@@ -28,7 +29,7 @@ pub fn find_exec<P: Places, Q: Procs<Mount = P::Mount>>(
         IsAnswer P.number (program_at around (numbered P.number base) path.now) result }
     ensures program { IfOk result (λ target. is_program_found tree.now user target.found ≡ true) }
     ensures reach { let around = surroundings P.number (P.mounts places.now) tree.now user (Q.finds procs.now caller) (Q.leads procs.now caller) in
-        IsReached around (program_walk around (numbered P.number base) path.now) reach.old reach.new result }
+        IsReached around Look (program_walk around (numbered P.number base) path.now) reach.old reach.new result }
 {
     let target = resolve(
         alloc,

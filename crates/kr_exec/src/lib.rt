@@ -1,6 +1,7 @@
 //! What execve(2) finds, reads and plans, before anything is changed.
 #![tactic(auto)]
 
+pub mod below;
 pub mod find;
 mod limits;
 pub mod lists;

@@ -3,7 +3,7 @@ ghost use Rattle.std.specs.Prelude.{◌≡◌, ◌≤◌, ◌<◌, ◌+◌, ◌�
 ghost use Rattle.std.specs.Option.{SomeIff};
 ghost use Rattle.kr_calls.specs.Expansion.{bytes_with_ends, is_too_big};
 
-use pr_base::Texts;
+use elf_read::below::pr_base::Texts;
 
 /// The most arguments, and the most environment texts.
 pub const MOST_TEXTS: usize = 4096;

@@ -1,17 +1,17 @@
 //! The lists of texts that execve(2) reads: the arguments of a program, and its environment.
 ghost use Rattle.std.specs.Prelude.{◌≡◌, ◌+◌, ◌<◌, ◌≤◌, ◌++◌, [], ◌∷◌, true, false, None, IfErr, IfOk, IfSome, OnOk, length};
-ghost use Rattle.pr_base.specs.Fields.{little_endian};
-ghost use Rattle.rv_mem.specs.Actions.{carried_out};
-ghost use Rattle.rv_mem.specs.Memory.{after_read};
-ghost use Rattle.rv_mem.specs.Pages.{allows_all, bytes_from};
+ghost use Rattle.elf_read.specs.pr_base.Fields.{little_endian};
+ghost use Rattle.kr_calls.specs.rv_mem.Actions.{carried_out};
+ghost use Rattle.kr_calls.specs.rv_mem.Memory.{after_read};
+ghost use Rattle.kr_calls.specs.rv_mem.Pages.{allows_all, bytes_from};
 ghost use Rattle.kr_calls.specs.Expansion.{bytes_with_ends};
 ghost use Rattle.kr_exec.specs.Exec.{are_too_big};
 ghost use Rattle.kr_exec.specs.Lists.{address_at, text_at, text_within, list_at, lists_at, texts_from, most_texts, at_least_one, Reads, texts_read};
 
 use crate::limits::{MOST_BYTES, MOST_TEXTS};
+use elf_read::below::pr_base::{Bytes, Errno, NoMemory, Texts};
 use kr_calls::CallFault;
-use pr_base::{Bytes, Errno, NoMemory, Texts};
-use rv_mem::{Space, TextFault, Use};
+use kr_calls::below::rv_mem::{Space, TextFault, Use};
 use std::alloc::Global;
 
 /// How far the addresses of a list lie apart.

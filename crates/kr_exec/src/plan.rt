@@ -1,7 +1,7 @@
 //! What a new program comes to before it is loaded.
 ghost use Rattle.std.specs.Prelude.{◌≡◌, false, true, IfOk, Some};
 ghost use Rattle.std.specs.Option.{option_map_or};
-ghost use Rattle.kr_tree.specs.declared.place.Host.TheVariants.{Node};
+ghost use Rattle.kr_view.specs.kr_tree.declared.place.Host.TheVariants.{Node};
 ghost use Rattle.kr_view.specs.Answers.{target_numbered};
 ghost use Rattle.kr_view.specs.Leads.{numbered};
 ghost use Rattle.kr_view.specs.View.{source};
@@ -13,10 +13,10 @@ ghost use Rattle.kr_exec.specs.Finding.{is_program, is_program_found};
 use crate::limits::{env_bytes, is_too_big};
 use crate::lists::Lists;
 use crate::scripts::{Command, Search, file_bytes};
+use elf_read::below::pr_base::{Bytes, Errno, NoMemory, Texts};
 use elf_read::{Plan, check};
-use kr_tree::{Host, Ino, Place, Tree, User};
+use kr_view::below::kr_tree::{Host, Ino, Place, Tree, User};
 use kr_view::{Places, Procs, Reach, Target, WalkFault};
-use pr_base::{Bytes, Errno, NoMemory, Texts};
 use std::alloc::Global;
 
 /// A program that can be loaded: its file with the place where it was found, the directory and name that the executable

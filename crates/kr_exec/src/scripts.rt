@@ -1,5 +1,6 @@
 //! Scripts: files whose first line names the program that runs them.
 ghost use Rattle.std.specs.Prelude.{◌≡◌, ◌≤◌, length, false, true, IfOk};
+ghost use Rattle.elf_read.specs.pr_base.declared.path.WalkMode.TheVariants.{Look};
 ghost use Rattle.kr_view.specs.Answers.{target_numbered, IsReached};
 ghost use Rattle.kr_view.specs.Leads.{numbered};
 ghost use Rattle.kr_calls.specs.Expansion.{is_script, is_too_big, most_scripts, new_args};
@@ -10,10 +11,10 @@ ghost use Rattle.kr_exec.specs.Interpreters.{bytes_at, ends_of, found_bytes, hea
 
 use crate::find::find_exec;
 use crate::limits::is_too_big;
+use elf_read::below::pr_base::{Bytes, Errno, NoMemory, Texts};
 use kr_calls::script_line;
-use kr_tree::{Host, Place, Tree, User};
+use kr_view::below::kr_tree::{Host, Place, Tree, User};
 use kr_view::{Places, Procs, Reach, Target, WalkFault};
-use pr_base::{Bytes, Errno, NoMemory, Texts};
 use std::alloc::Global;
 
 /// The most scripts that are expanded, one after the other.
@@ -187,7 +188,7 @@ impl<'a, P: Places, Q: Procs<Mount = P::Mount>> Search<'a, P, Q> {
             Answers (target_numbered P.number) (told_program (program_at around (numbered P.number base) path.now)) result }
         ensures program { IfOk result (λ target. is_program_found self.now.tree.now self.now.user target.found ≡ true) }
         ensures reach { let around = around_of P.number P.mounts Q.finds Q.leads self.now in
-            IsReached around (program_walk around (numbered P.number base) path.now) reach.old reach.new result }
+            IsReached around Look (program_walk around (numbered P.number base) path.now) reach.old reach.new result }
     {
         find_exec(
             self.alloc,

@@ -3,22 +3,22 @@ use Rattle.std.specs.FinMap as map
 use Rattle.std.proofs.Common.{◌≡◌, ℕ, Bool, true, false, cond, List, [], ◌∷◌, Option, Some, None, refl, ap, ◌∙◌}
 use Rattle.std.specs.Prelude.{◌==◌, map as map_list}
 use Rattle.std.specs.Option.{option_map, option_map_or, option_and_then}
-use Rattle.rv_mem.specs.Memory.{Memory}
-use Rattle.kr_tree.specs.declared.place.ProcAt.{ProcAt}
-use Rattle.kr_tree.specs.declared.place.ProcAt.TheVariants.{SelfLink, Dir, Cwd, Root, Exe, FdDir, Fd}
-use Rattle.kr_view.specs.declared.procs.Lead.{Lead}
-use Rattle.kr_view.specs.declared.procs.Lead.TheVariants.{NoLink}
-use Rattle.kr_view.specs.Component.{Namespace}
-use Rattle.kr_view.specs.Living.{Living, finds_among}
-use Rattle.kr_view.specs.View.{Row, root_place}
-use Rattle.kr_files.specs.Descriptors.{Named}
-use Rattle.kr_files.specs.Files.{file_at}
-use Rattle.kr_model.specs.Applied.{with_image, with_living}
-use Rattle.kr_model.specs.ProcessDirectory.{around_of, jump_to, lead_of_open, leads_of, space_of}
-use Rattle.kr_model.specs.State.{Image, Process, State, at_pid, opened, process}
-use Rattle.kr_lawful.proofs.ProcessChangeLemmas.{found, same-mapped}
-use Rattle.kr_seen.specs.Numbered.{process_numbered, state_numbered}
-use Rattle.kr_seen.specs.Carrying.{with_memory, with_memory_of}
+use Rattle.elf_load.specs.rv_mem.Memory.{Memory}
+use Rattle.kr_exec.specs.kr_tree.declared.place.ProcAt.{ProcAt}
+use Rattle.kr_exec.specs.kr_tree.declared.place.ProcAt.TheVariants.{SelfLink, Dir, Cwd, Root, Exe, FdDir, Fd}
+use Rattle.kr_exec.specs.kr_view.declared.procs.Lead.{Lead}
+use Rattle.kr_exec.specs.kr_view.declared.procs.Lead.TheVariants.{NoLink}
+use Rattle.kr_exec.specs.kr_view.Component.{Namespace}
+use Rattle.kr_exec.specs.kr_view.Living.{Living, finds_among}
+use Rattle.kr_exec.specs.kr_view.View.{Row, root_place}
+use Rattle.kr_perform.specs.kr_files.Descriptors.{Named}
+use Rattle.kr_perform.specs.kr_files.Files.{file_at}
+use Rattle.kr_perform.specs.kr_model.Applied.{with_image, with_living}
+use Rattle.kr_perform.specs.kr_model.ProcessDirectory.{around_of, jump_to, lead_of_open, leads_of, space_of}
+use Rattle.kr_perform.specs.kr_model.State.{Image, Process, State, at_pid, opened, process}
+use Rattle.kr_perform.proofs.kr_lawful.ProcessChangeLemmas.{found, same-mapped}
+use Rattle.kr_perform.specs.kr_seen.Numbered.{process_numbered, state_numbered}
+use Rattle.kr_perform.specs.kr_seen.Carrying.{with_memory, with_memory_of}
 
 module _ (pid : ℕ) (memory : Memory) where
   abbrev own : {T : Type 0} → Process T Image → Process T Image

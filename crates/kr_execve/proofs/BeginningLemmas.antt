@@ -1,16 +1,16 @@
 -- An execve's path is walked as the path of any call: an absolute one from the root, another from the working directory.
 use Rattle.std.proofs.Common.{◌≡◌, ℕ, Bool, true, false, cond, List, Some, refl}
 use Rattle.std.specs.Prelude.{negsuc}
-use Rattle.pr_base.specs.Paths.{components_of, has_slash, is_absolute}
-use Rattle.pr_base.specs.WalkFrame.{most_links, walk_on}
-use Rattle.pr_base.specs.declared.path.WalkMode.TheVariants.{Look}
-use Rattle.kr_tree.specs.declared.place.Place.{Place}
-use Rattle.kr_view.specs.View.{Row, root_place}
-use Rattle.kr_view.specs.Walk.{looking, place_walk}
-use Rattle.kr_calls.specs.PathTable.{path_at}
-use Rattle.kr_calls.specs.declared.request.Request.TheVariants as call
-use Rattle.kr_model.specs.ProcessDirectory.{around_of}
-use Rattle.kr_model.specs.State.{Image, State}
+use Rattle.elf_load.specs.pr_base.Paths.{components_of, has_slash, is_absolute}
+use Rattle.elf_load.specs.pr_base.WalkFrame.{most_links, walk_on}
+use Rattle.elf_load.specs.pr_base.declared.path.WalkMode.TheVariants.{Look}
+use Rattle.kr_exec.specs.kr_tree.declared.place.Place.{Place}
+use Rattle.kr_exec.specs.kr_view.View.{Row, root_place}
+use Rattle.kr_exec.specs.kr_view.Walk.{looking, place_walk}
+use Rattle.kr_exec.specs.kr_calls.PathTable.{path_at}
+use Rattle.kr_exec.specs.kr_calls.declared.request.Request.TheVariants as call
+use Rattle.kr_perform.specs.kr_model.ProcessDirectory.{around_of}
+use Rattle.kr_perform.specs.kr_model.State.{Image, State}
 
 module _ (table : List Row) (pid : ℕ) (s : State ℕ Image) (path : List ℕ) (args env : ℕ) (base : Place ℕ) where
   -- its descriptor is the working directory, and its last link is followed

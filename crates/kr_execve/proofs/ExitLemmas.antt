@@ -4,43 +4,44 @@ use Rattle.std.proofs.Common.{◌≡◌, ℕ, Bool, true, false, cond, List, [],
 use Rattle.std.specs.Prelude.{Result, Ok, Err, IsSome, map as map_list, sum}
 use Rattle.std.specs.Option.{option_map, option_map_or}
 use Rattle.std.proofs.lemmas.Option.{same_Some}
-use Rattle.pr_base.specs.declared.errno.Errno.{Errno}
-use Rattle.pr_base.specs.declared.errno.Errno.TheVariants.{ENOMEM}
-use Rattle.rv_mem.specs.Memory.{Memory}
+use Rattle.elf_load.specs.pr_base.declared.errno.Errno.{Errno}
+use Rattle.elf_load.specs.pr_base.declared.errno.Errno.TheVariants.{ENOMEM}
+use Rattle.elf_load.specs.pr_base.declared.path.WalkMode.TheVariants.{Look}
+use Rattle.elf_load.specs.rv_mem.Memory.{Memory}
 use Rattle.elf_load.specs.Image.{image_exceeds}
-use Rattle.kr_tree.specs.declared.place.Host.TheVariants.{Node}
-use Rattle.kr_tree.specs.declared.place.Place.{Place}
-use Rattle.kr_tree.specs.Lawful.{AreBytes}
-use Rattle.kr_view.specs.declared.target.Reach.{Reach}
-use Rattle.kr_view.specs.declared.target.Target.{Target}
-use Rattle.kr_view.specs.declared.target.WalkFault.{WalkFault}
-use Rattle.kr_view.specs.declared.target.WalkFault.TheVariants as fault
-use Rattle.kr_view.specs.Answers.{IsAnswer, IsReached, target_numbered, told}
-use Rattle.kr_view.specs.Component.{Surroundings}
-use Rattle.kr_view.specs.InTree.{IsPlaceOf}
-use Rattle.kr_view.specs.Leads.{numbered}
-use Rattle.kr_view.specs.Reach.{reach_after}
-use Rattle.kr_view.specs.View.{Row}
-use Rattle.kr_view.specs.Walk.{PlaceTarget}
-use Rattle.kr_allowed.specs.Texts.{IsText, LinksHaveTexts}
-use Rattle.kr_lawful.specs.Laws.{CanAllBeMade}
-use Rattle.kr_lawful.proofs.AfterLemmas.{some-of}
-use Rattle.kr_model.specs.Applied.{Mounts, all_applied, cwd_of, images}
-use Rattle.kr_model.specs.Known.{Known, pages_in_all}
-use Rattle.kr_model.specs.Lawful.{IsLawful, IsNameOrNone, is_file_at}
-use Rattle.kr_model.specs.ProcessDirectory.{around_of}
-use Rattle.kr_model.specs.State as model
-use Rattle.kr_model.specs.State.{image_layout, process}
-use Rattle.kr_model.specs.Walks as results
-use Rattle.kr_allowed.specs.Told.{SourcesAreNamed}
-use Rattle.kr_allowed.proofs.RowLemmas.{lawful-memory, stays-like}
-use Rattle.kr_ops.specs.declared.state.State.{State}
-use Rattle.kr_ops.specs.Meaning.{meaning}
-use Rattle.kr_ops.specs.Sound.{IsServed}
-use Rattle.kr_seen.specs.Carrying.{memory_of, no_memory, with_memory_of}
-use Rattle.kr_seen.proofs.CarryLemmas.{own-memory}
-use Rattle.kr_seen.specs.Numbered.{process_numbered, state_numbered}
-use Rattle.kr_seen.proofs.NumberedLemmas.{process-numbered}
+use Rattle.kr_exec.specs.kr_tree.declared.place.Host.TheVariants.{Node}
+use Rattle.kr_exec.specs.kr_tree.declared.place.Place.{Place}
+use Rattle.kr_exec.specs.kr_tree.Lawful.{AreBytes}
+use Rattle.kr_exec.specs.kr_view.declared.target.Reach.{Reach}
+use Rattle.kr_exec.specs.kr_view.declared.target.Target.{Target}
+use Rattle.kr_exec.specs.kr_view.declared.target.WalkFault.{WalkFault}
+use Rattle.kr_exec.specs.kr_view.declared.target.WalkFault.TheVariants as fault
+use Rattle.kr_exec.specs.kr_view.Answers.{IsAnswer, IsReached, target_numbered, told}
+use Rattle.kr_exec.specs.kr_view.Component.{Surroundings}
+use Rattle.kr_exec.specs.kr_view.InTree.{IsPlaceOf}
+use Rattle.kr_exec.specs.kr_view.Leads.{numbered}
+use Rattle.kr_exec.specs.kr_view.Reach.{reach_after}
+use Rattle.kr_exec.specs.kr_view.View.{Row}
+use Rattle.kr_exec.specs.kr_view.Walk.{PlaceTarget}
+use Rattle.kr_perform.specs.kr_allowed.Texts.{IsText, LinksHaveTexts}
+use Rattle.kr_perform.specs.kr_lawful.Laws.{CanAllBeMade}
+use Rattle.kr_perform.proofs.kr_lawful.AfterLemmas.{some-of}
+use Rattle.kr_perform.specs.kr_model.Applied.{Mounts, all_applied, cwd_of, images}
+use Rattle.kr_perform.specs.kr_model.Known.{Known, pages_in_all}
+use Rattle.kr_perform.specs.kr_model.Lawful.{IsLawful, IsNameOrNone, is_file_at}
+use Rattle.kr_perform.specs.kr_model.ProcessDirectory.{around_of}
+use Rattle.kr_perform.specs.kr_model.State as model
+use Rattle.kr_perform.specs.kr_model.State.{image_layout, process}
+use Rattle.kr_perform.specs.kr_model.Walks as results
+use Rattle.kr_perform.specs.kr_allowed.Told.{SourcesAreNamed}
+use Rattle.kr_perform.proofs.kr_allowed.RowLemmas.{lawful-memory, stays-like}
+use Rattle.kr_perform.specs.kr_ops.declared.state.State.{State}
+use Rattle.kr_perform.specs.kr_ops.Meaning.{meaning}
+use Rattle.kr_perform.specs.kr_ops.Sound.{IsServed}
+use Rattle.kr_perform.specs.kr_seen.Carrying.{memory_of, no_memory, with_memory_of}
+use Rattle.kr_perform.proofs.kr_seen.CarryLemmas.{own-memory}
+use Rattle.kr_perform.specs.kr_seen.Numbered.{process_numbered, state_numbered}
+use Rattle.kr_perform.proofs.kr_seen.NumberedLemmas.{process-numbered}
 use Rattle.kr_perform.proofs.kr_resolved.NumberedLemmas.{lawful_numbered}
 use Rattle.kr_perform.proofs.kr_resolved.TextLemmas.{text_bytes}
 use Rattle.kr_perform.specs.kr_rows.Using.{HasMemory}
@@ -88,14 +89,14 @@ module _ {T : Type 0} {M : ℕ} (number : T → ℕ) (table : List Row) (pid : �
 
   -- ---- nothing was found
 
-  pub exit-find : (A : Type 0) (before after : Reach) (f : WalkFault) → IsAnswer {M = T} number (program_at around at path) (Err f) → IsReached {T = A} around (program_walk around at path) before after (Err f)
+  pub exit-find : (A : Type 0) (before after : Reach) (f : WalkFault) → IsAnswer {M = T} number (program_at around at path) (Err f) → IsReached {T = A} around Look (program_walk around at path) before after (Err f)
       → Leaves number table pid path args env old old before after (told_of (Err f))
   exit-find A before after fault.NoMemory answer reach = λ wanted. absurd (wanted refl)
   exit-find A before after (fault.Err e) answer reach = λ wanted.
       is-left number table pid path args env old old before after lives none (Err e) (memory_of pid s) (Refused e) (not-found number table pid path args env s base cwd e answer) (sym (own-memory pid s lawful.pids)) refl refl tt served
       (reach ∙ sym (not-found-reach number table pid path args env s base cwd before e answer))
 
-  module _ (w : PlaceTarget) (found : program_at around at path ≡ Ok w) (before walked : Reach) (walk : walked ≡ reach_after around (program_walk around at path) before) (mid : State T M) where
+  module _ (w : PlaceTarget) (found : program_at around at path ≡ Ok w) (before walked : Reach) (walk : walked ≡ reach_after around Look (program_walk around at path) before) (mid : State T M) where
     -- ---- the lists weren't read
 
     pub exit-read : (f : WalkFault) → ReadsLists pid args env old mid (Err f) → Leaves number table pid path args env old mid before walked (told_of (Err f))

@@ -3,36 +3,37 @@ use Rattle.std.proofs.Common.{◌≡◌, ℕ, suc, List, Option, Some, None, sym
 use Rattle.std.specs.Prelude.{Result, Ok, Err, IsSome}
 use Rattle.std.specs.Option.{option_map, option_map_or}
 use Rattle.std.proofs.lemmas.Option.{none-some, same_Some}
-use Rattle.pr_base.specs.declared.errno.Errno.{Errno}
-use Rattle.pr_base.specs.declared.errno.Errno.TheVariants.{ENOENT}
-use Rattle.rv_mem.specs.Actions.{CarriedOut, Done, carried_out}
-use Rattle.rv_mem.specs.Memory.{Memory}
-use Rattle.kr_inode.specs.declared.user.User.{User}
-use Rattle.kr_tree.specs.declared.place.Place.{Place}
-use Rattle.kr_view.specs.declared.target.Reach.{Reach}
-use Rattle.kr_view.specs.Leads.{numbered}
-use Rattle.kr_view.specs.Reach.{reach_after}
-use Rattle.kr_view.specs.View.{Row}
-use Rattle.kr_view.specs.Walk.{PlaceTarget}
-use Rattle.kr_lawful.specs.Laws.{CanAllBeMade}
-use Rattle.kr_lawful.proofs.AfterLemmas.{some-of}
-use Rattle.kr_lawful.proofs.ChangeLemmas.{all-changes-keep}
-use Rattle.kr_allowed.specs.Lasting.{AreModest, Lasts}
-use Rattle.kr_allowed.proofs.ChangeLemmas.{modest-last}
-use Rattle.kr_model.specs.Applied.{Mounts, cwd_of}
-use Rattle.kr_model.specs.Lawful.{IsLawful}
-use Rattle.kr_model.specs.ProcessDirectory.{around_of}
-use Rattle.kr_model.specs.State as model
-use Rattle.kr_model.specs.State.{process}
-use Rattle.kr_model.specs.Walks as results
-use Rattle.kr_allowed.proofs.RowLemmas.{lawful-memory, stays-like}
-use Rattle.kr_ops.specs.declared.state.State.{State}
-use Rattle.kr_ops.specs.Meaning.{meaning}
-use Rattle.kr_ops.specs.Sound.{IsServed}
-use Rattle.kr_seen.specs.Carrying.{memory_of, no_memory, with_memory_of}
+use Rattle.elf_load.specs.pr_base.declared.errno.Errno.{Errno}
+use Rattle.elf_load.specs.pr_base.declared.errno.Errno.TheVariants.{ENOENT}
+use Rattle.elf_load.specs.pr_base.declared.path.WalkMode.TheVariants.{Look}
+use Rattle.elf_load.specs.rv_mem.Actions.{CarriedOut, Done, carried_out}
+use Rattle.elf_load.specs.rv_mem.Memory.{Memory}
+use Rattle.kr_perform.specs.kr_inode.declared.user.User.{User}
+use Rattle.kr_exec.specs.kr_tree.declared.place.Place.{Place}
+use Rattle.kr_exec.specs.kr_view.declared.target.Reach.{Reach}
+use Rattle.kr_exec.specs.kr_view.Leads.{numbered}
+use Rattle.kr_exec.specs.kr_view.Reach.{reach_after}
+use Rattle.kr_exec.specs.kr_view.View.{Row}
+use Rattle.kr_exec.specs.kr_view.Walk.{PlaceTarget}
+use Rattle.kr_perform.specs.kr_lawful.Laws.{CanAllBeMade}
+use Rattle.kr_perform.proofs.kr_lawful.AfterLemmas.{some-of}
+use Rattle.kr_perform.proofs.kr_lawful.ChangeLemmas.{all-changes-keep}
+use Rattle.kr_perform.specs.kr_allowed.Lasting.{AreModest, Lasts}
+use Rattle.kr_perform.proofs.kr_allowed.ChangeLemmas.{modest-last}
+use Rattle.kr_perform.specs.kr_model.Applied.{Mounts, cwd_of}
+use Rattle.kr_perform.specs.kr_model.Lawful.{IsLawful}
+use Rattle.kr_perform.specs.kr_model.ProcessDirectory.{around_of}
+use Rattle.kr_perform.specs.kr_model.State as model
+use Rattle.kr_perform.specs.kr_model.State.{process}
+use Rattle.kr_perform.specs.kr_model.Walks as results
+use Rattle.kr_perform.proofs.kr_allowed.RowLemmas.{lawful-memory, stays-like}
+use Rattle.kr_perform.specs.kr_ops.declared.state.State.{State}
+use Rattle.kr_perform.specs.kr_ops.Meaning.{meaning}
+use Rattle.kr_perform.specs.kr_ops.Sound.{IsServed}
+use Rattle.kr_perform.specs.kr_seen.Carrying.{memory_of, no_memory, with_memory_of}
 use Rattle.kr_perform.specs.Lawful.{LastsLawful}
-use Rattle.kr_seen.specs.Numbered.{process_numbered, state_numbered}
-use Rattle.kr_seen.proofs.NumberedLemmas.{process-numbered}
+use Rattle.kr_perform.specs.kr_seen.Numbered.{process_numbered, state_numbered}
+use Rattle.kr_perform.proofs.kr_seen.NumberedLemmas.{process-numbered}
 use Rattle.kr_exec.specs.Finding.{program_walk}
 use Rattle.kr_exec.specs.Lists.{Trying, and_then, lists_at}
 use Rattle.kr_exec.specs.declared.lists.Lists.{Lists}
@@ -147,7 +148,7 @@ module _ {T : Type 0} (number : T → ℕ) (table : List Row) (pid : ℕ) (path 
 
     module _ (r : Reach) where
       abbrev walked : Reach
-      walked = reach_after (around_of table pid shown) (program_walk (around_of table pid shown) at path) r
+      walked = reach_after (around_of table pid shown) Look (program_walk (around_of table pid shown) at path) r
 
       from : execution_reach table pid shown path args env (memory_of pid s) r ≡ found_reach table pid shown path args env (memory_of pid s) at (found_from table pid shown path args env at) walked
       from = ap (λ (o : Option (Place ℕ)). option_map_or (reach_from table pid shown path args env (memory_of pid s) r) o r) cwd-numbered

@@ -2,7 +2,7 @@
 use Rattle.std.proofs.Common.{◌≡◌, ℕ, ◌+◌, Bool, true, false, ◌||◌, List, [], ◌∷◌, length, length-append, refl, ap, ◌∙◌, arith}
 use Rattle.std.specs.Prelude.{nat_lt}
 use Rattle.elf_load.specs.FirstStack.{exceeds_arguments, text_bytes, texts_size}
-use Rattle.kr_calls.specs.Expansion.{bytes_with_ends}
+use Rattle.kr_exec.specs.kr_calls.Expansion.{bytes_with_ends}
 use Rattle.kr_exec.specs.Exec.{are_too_big}
 
 bytes-of-texts : (ts : List (List ℕ)) → bytes_with_ends ts ≡ length (text_bytes ts)

@@ -5,12 +5,12 @@ use Rattle.std.specs.List.{All, AllByRecursion, list_any}
 use Rattle.std.specs.Option.{option_and_then, option_map, option_map_or}
 use Rattle.std.proofs.lemmas.List.{reverse-append}
 use Rattle.std.proofs.lemmas.List.Elements.{All-cons, All-nil}
-use Rattle.kr_calls.specs.Scripts.{before, from_blank, interpreter_of, is_blank, is_cut, is_newline, line_of, parted, script_of, without_leading_blanks, without_trailing_blanks}
-use Rattle.kr_tree.specs.Lawful.{AreBytes, HasBytes, IsOfBytes}
-use Rattle.kr_tree.specs.Tree.{Body, Directory, Inode, ProcessDirectory, RegularFile, SymbolicLink, Tree, file_of, inode}
-use Rattle.kr_tree.specs.declared.place.Host.{Host}
-use Rattle.kr_tree.specs.declared.place.Host.TheVariants.{Node, Proc}
-use Rattle.kr_tree.specs.declared.place.Place.{Place}
+use Rattle.kr_exec.specs.kr_calls.Scripts.{before, from_blank, interpreter_of, is_blank, is_cut, is_newline, line_of, parted, script_of, without_leading_blanks, without_trailing_blanks}
+use Rattle.kr_exec.specs.kr_tree.Lawful.{AreBytes, HasBytes, IsOfBytes}
+use Rattle.kr_exec.specs.kr_tree.Tree.{Body, Directory, Inode, ProcessDirectory, RegularFile, SymbolicLink, Tree, file_of, inode}
+use Rattle.kr_exec.specs.kr_tree.declared.place.Host.{Host}
+use Rattle.kr_exec.specs.kr_tree.declared.place.Host.TheVariants.{Node, Proc}
+use Rattle.kr_exec.specs.kr_tree.declared.place.Place.{Place}
 use Rattle.kr_exec.specs.Interpreters.{bytes_at, found_bytes, head_of}
 use Rattle.kr_perform.proofs.kr_resolved.TextLemmas.{IsTextByte}
 

@@ -4,27 +4,27 @@ use Rattle.std.specs.Prelude.{All, IfSome, nat_lt}
 use Rattle.std.specs.Vec.{with_item}
 use Rattle.std.proofs.lemmas.Bool.Decides.{nat_tests}
 use Rattle.std.proofs.lemmas.List.Elements.{All-head, All-tail}
-use Rattle.rv_mem.specs.Memory.{Memory, page_count}
-use Rattle.rv_mem.specs.Pages.{Pages, IsPlaced, IsWhole}
-use Rattle.rv_mem.specs.declared.regs.Regs.{Regs}
-use Rattle.elf_read.specs.Plans.{IsSound as IsSoundSegment, planned}
-use Rattle.elf_read.specs.declared.plan.Segment.{Segment}
+use Rattle.elf_load.specs.rv_mem.Memory.{Memory, page_count}
+use Rattle.elf_load.specs.rv_mem.Pages.{Pages, IsPlaced, IsWhole}
+use Rattle.elf_load.specs.rv_mem.declared.regs.Regs.{Regs}
+use Rattle.elf_load.specs.elf_read.Plans.{IsSound as IsSoundSegment, planned}
+use Rattle.elf_load.specs.elf_read.declared.plan.Segment.{Segment}
 use Rattle.elf_load.specs.Image.{break_from, end_page, image_exceeds, program_break}
 use Rattle.elf_load.proofs.ImageLemmas.{sound_plan}
-use Rattle.kr_tree.specs.Tree.{Tree}
-use Rattle.kr_model.specs.Applied.{with_living, with_program}
-use Rattle.kr_model.specs.Conditions.{CanLoad}
-use Rattle.kr_model.specs.State as model
-use Rattle.kr_ops.specs.declared.state.Process.{Process}
-use Rattle.kr_ops.specs.declared.state.State.{State}
-use Rattle.kr_ops.specs.Living.{HasPid}
-use Rattle.kr_ops.specs.Making.{Makes}
-use Rattle.kr_ops.specs.Meaning.{meaning}
-use Rattle.kr_ops.specs.Sound.{IsServed, IsSound}
-use Rattle.kr_ops.proofs.ChangeLemmas.{one-changed}
-use Rattle.kr_ops.proofs.OpeningLemmas.{found}
-use Rattle.kr_ops.proofs.PageLemmas.{counted-in, room-changed}
-use Rattle.kr_ops.proofs.ServeLemmas.{kept-names}
+use Rattle.kr_exec.specs.kr_tree.Tree.{Tree}
+use Rattle.kr_perform.specs.kr_model.Applied.{with_living, with_program}
+use Rattle.kr_perform.specs.kr_model.Conditions.{CanLoad}
+use Rattle.kr_perform.specs.kr_model.State as model
+use Rattle.kr_perform.specs.kr_ops.declared.state.Process.{Process}
+use Rattle.kr_perform.specs.kr_ops.declared.state.State.{State}
+use Rattle.kr_perform.specs.kr_ops.Living.{HasPid}
+use Rattle.kr_perform.specs.kr_ops.Making.{Makes}
+use Rattle.kr_perform.specs.kr_ops.Meaning.{meaning}
+use Rattle.kr_perform.specs.kr_ops.Sound.{IsServed, IsSound}
+use Rattle.kr_perform.proofs.kr_ops.ChangeLemmas.{one-changed}
+use Rattle.kr_perform.proofs.kr_ops.OpeningLemmas.{found}
+use Rattle.kr_perform.proofs.kr_ops.PageLemmas.{counted-in, room-changed}
+use Rattle.kr_perform.proofs.kr_ops.ServeLemmas.{kept-names}
 use Rattle.kr_exec.specs.Interpreters.{bytes_at}
 use Rattle.kr_exec.specs.declared.plan.ExecPlan.{ExecPlan}
 use Rattle.kr_execve.specs.Execution.{exceeds, ids_of, image_of}

@@ -1,18 +1,18 @@
 -- What is known of a file that was planned: it was found as all interpreters are, and it breaks no rule of ELF files.
 use Rattle.std.proofs.Common.{◌≡◌, ℕ, zero, suc, Bool, true, false, cond, List, Option, Some, None, refl, subst}
 use Rattle.std.specs.Prelude.{Result, Ok, Err}
-use Rattle.pr_base.specs.declared.errno.Errno.{Errno}
-use Rattle.pr_base.specs.declared.errno.Errno.TheVariants.{E2BIG, ELOOP}
-use Rattle.elf_read.specs.Plans.{plan_of}
-use Rattle.elf_read.specs.Rules.{first_broken}
-use Rattle.elf_read.specs.declared.fault.ElfFault.{ElfFault}
-use Rattle.kr_tree.specs.declared.place.Place.{Place}
-use Rattle.kr_tree.specs.Tree.{Tree}
-use Rattle.kr_view.specs.declared.target.Target.{Target}
-use Rattle.kr_view.specs.Component.{Surroundings}
-use Rattle.kr_view.specs.View.{Row}
-use Rattle.kr_calls.specs.Expansion.{Expanded, Finding, Onward, by_interpreter, by_line, bytes_with_ends, expanded, is_script, is_too_big, most_scripts, new_args, runs}
-use Rattle.kr_calls.specs.Scripts.{script_of}
+use Rattle.elf_load.specs.pr_base.declared.errno.Errno.{Errno}
+use Rattle.elf_load.specs.pr_base.declared.errno.Errno.TheVariants.{E2BIG, ELOOP}
+use Rattle.elf_load.specs.elf_read.Plans.{plan_of}
+use Rattle.elf_load.specs.elf_read.Rules.{first_broken}
+use Rattle.elf_load.specs.elf_read.declared.fault.ElfFault.{ElfFault}
+use Rattle.kr_exec.specs.kr_tree.declared.place.Place.{Place}
+use Rattle.kr_exec.specs.kr_tree.Tree.{Tree}
+use Rattle.kr_exec.specs.kr_view.declared.target.Target.{Target}
+use Rattle.kr_exec.specs.kr_view.Component.{Surroundings}
+use Rattle.kr_exec.specs.kr_view.View.{Row}
+use Rattle.kr_exec.specs.kr_calls.Expansion.{Expanded, Finding, Onward, by_interpreter, by_line, bytes_with_ends, expanded, is_script, is_too_big, most_scripts, new_args, runs}
+use Rattle.kr_exec.specs.kr_calls.Scripts.{script_of}
 use Rattle.kr_exec.specs.Exec.{after_scripts, are_too_big, entry_of, exec_plan, file_plan, plan_at, target_plan, unless_broken}
 use Rattle.kr_exec.specs.Interpreters.{bytes_at, programs}
 use Rattle.kr_exec.specs.declared.plan.ExecPlan.{ExecPlan}

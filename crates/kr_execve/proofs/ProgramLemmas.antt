@@ -5,30 +5,30 @@ use Rattle.std.specs.Prelude.{Result, Ok, Err, ◌&&◌}
 use Rattle.std.specs.List.{All}
 use Rattle.std.specs.Option.{option_map_or}
 use Rattle.std.proofs.lemmas.Bool.{false≢true}
-use Rattle.pr_base.specs.declared.errno.Errno.{Errno}
-use Rattle.pr_base.specs.declared.errno.Errno.TheVariants.{EACCES}
-use Rattle.pr_base.specs.declared.path.WalkMode.TheVariants.{Look}
-use Rattle.kr_inode.specs.declared.user.User.{User}
-use Rattle.kr_inode.specs.declared.user.Right.TheVariants.{Search}
-use Rattle.kr_tree.specs.declared.place.Host.{Host}
-use Rattle.kr_tree.specs.declared.place.Host.TheVariants.{Node, Proc}
-use Rattle.kr_tree.specs.declared.place.Place.{Place}
-use Rattle.kr_tree.specs.declared.place.ProcAt.{ProcAt}
-use Rattle.kr_tree.specs.Lawful.{HasBytes, IsOfBytes}
-use Rattle.kr_tree.specs.Tree.{Body, Directory, Inode, ProcessDirectory, RegularFile, SymbolicLink, Tree, body, body_is, inode, is_directory, is_file}
-use Rattle.kr_tree.specs.Rights.{may}
-use Rattle.kr_tree.proofs.NameLemmas.{map_some}
-use Rattle.kr_view.specs.declared.procs.Lead.TheVariants.{Text}
-use Rattle.kr_view.specs.declared.target.Target.{Target}
-use Rattle.kr_view.specs.Answers.{told}
-use Rattle.kr_view.specs.Component.{Surroundings, is_directory_at}
-use Rattle.kr_view.specs.InTree.{IsPlaceOf, StandsAround}
-use Rattle.kr_view.specs.View.{Row, source}
-use Rattle.kr_view.specs.Walk.{PlaceTarget, place_walk}
-use Rattle.kr_view.proofs.PlaceLemmas.{walks_keep_places}
-use Rattle.kr_allowed.specs.Texts.{LinksHaveTexts}
-use Rattle.kr_model.specs.Lawful.{IsNameOrNone, is_file_at}
-use Rattle.kr_allowed.specs.Told.{SourcesAreNamed}
+use Rattle.elf_load.specs.pr_base.declared.errno.Errno.{Errno}
+use Rattle.elf_load.specs.pr_base.declared.errno.Errno.TheVariants.{EACCES}
+use Rattle.elf_load.specs.pr_base.declared.path.WalkMode.TheVariants.{Look}
+use Rattle.kr_perform.specs.kr_inode.declared.user.User.{User}
+use Rattle.kr_perform.specs.kr_inode.declared.user.Right.TheVariants.{Search}
+use Rattle.kr_exec.specs.kr_tree.declared.place.Host.{Host}
+use Rattle.kr_exec.specs.kr_tree.declared.place.Host.TheVariants.{Node, Proc}
+use Rattle.kr_exec.specs.kr_tree.declared.place.Place.{Place}
+use Rattle.kr_exec.specs.kr_tree.declared.place.ProcAt.{ProcAt}
+use Rattle.kr_exec.specs.kr_tree.Lawful.{HasBytes, IsOfBytes}
+use Rattle.kr_exec.specs.kr_tree.Tree.{Body, Directory, Inode, ProcessDirectory, RegularFile, SymbolicLink, Tree, body, body_is, inode, is_directory, is_file}
+use Rattle.kr_exec.specs.kr_tree.Rights.{may}
+use Rattle.kr_exec.proofs.kr_tree.NameLemmas.{map_some}
+use Rattle.kr_exec.specs.kr_view.declared.procs.Lead.TheVariants.{Text}
+use Rattle.kr_exec.specs.kr_view.declared.target.Target.{Target}
+use Rattle.kr_exec.specs.kr_view.Answers.{told}
+use Rattle.kr_exec.specs.kr_view.Component.{Surroundings, is_directory_at}
+use Rattle.kr_exec.specs.kr_view.InTree.{IsPlaceOf, StandsAround}
+use Rattle.kr_exec.specs.kr_view.View.{Row, source}
+use Rattle.kr_exec.specs.kr_view.Walk.{PlaceTarget, place_walk}
+use Rattle.kr_exec.proofs.kr_view.PlaceLemmas.{walks_keep_places}
+use Rattle.kr_perform.specs.kr_allowed.Texts.{LinksHaveTexts}
+use Rattle.kr_perform.specs.kr_model.Lawful.{IsNameOrNone, is_file_at}
+use Rattle.kr_perform.specs.kr_allowed.Told.{SourcesAreNamed}
 use Rattle.kr_perform.proofs.kr_resolved.NamingLemmas.{good_name}
 use Rattle.kr_perform.proofs.kr_resolved.TextLemmas.{IsTextByte, text_bytes}
 use Rattle.kr_exec.specs.Exec.{entry_of, exec_plan, inode_at}

@@ -3,17 +3,17 @@ use Rattle.std.proofs.Common.{◌≡◌, ℕ, true, List, Option, Some, None, re
 use Rattle.std.specs.Prelude.{IsSome}
 use Rattle.std.specs.Option.{option_map, option_map_or}
 use Rattle.elf_load.specs.Image.{program_break}
-use Rattle.kr_view.specs.InTree.{IsPlaceOf}
-use Rattle.kr_view.specs.Leads.{numbered}
-use Rattle.kr_view.specs.View.{Row}
-use Rattle.kr_model.specs.Applied.{Mounts, applied, executed, images, with_exe, with_living, with_program}
-use Rattle.kr_model.specs.Change.{OfFound, ReplaceExecutable}
-use Rattle.kr_model.specs.Conditions.{CanBeMade}
-use Rattle.kr_model.specs.Lawful.{IsLawful, IsNameOrNone, is_file_at}
-use Rattle.kr_model.specs.State.{Image, Process, State, at_pid, process, with_process}
-use Rattle.kr_lawful.specs.Laws.{CanAllBeMade}
-use Rattle.kr_lawful.proofs.ChangeLemmas.{changes-keep}
-use Rattle.kr_lawful.proofs.ProcessChangeLemmas.{found}
+use Rattle.kr_exec.specs.kr_view.InTree.{IsPlaceOf}
+use Rattle.kr_exec.specs.kr_view.Leads.{numbered}
+use Rattle.kr_exec.specs.kr_view.View.{Row}
+use Rattle.kr_perform.specs.kr_model.Applied.{Mounts, applied, executed, images, with_exe, with_living, with_program}
+use Rattle.kr_perform.specs.kr_model.Change.{OfFound, ReplaceExecutable}
+use Rattle.kr_perform.specs.kr_model.Conditions.{CanBeMade}
+use Rattle.kr_perform.specs.kr_model.Lawful.{IsLawful, IsNameOrNone, is_file_at}
+use Rattle.kr_perform.specs.kr_model.State.{Image, Process, State, at_pid, process, with_process}
+use Rattle.kr_perform.specs.kr_lawful.Laws.{CanAllBeMade}
+use Rattle.kr_perform.proofs.kr_lawful.ChangeLemmas.{changes-keep}
+use Rattle.kr_perform.proofs.kr_lawful.ProcessChangeLemmas.{found}
 use Rattle.kr_exec.specs.declared.plan.ExecPlan.{ExecPlan}
 use Rattle.kr_execve.specs.Execution.{image_of}
 use Rattle.kr_execve.specs.Executing.{CanBeLoaded, image_change, program_changes}

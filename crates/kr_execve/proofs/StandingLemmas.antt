@@ -2,17 +2,17 @@
 use Rattle.std.proofs.Common.{◌≡◌, ℕ, true, List, Some}
 use Rattle.std.specs.Prelude.{Ok}
 use Rattle.std.specs.List.{All}
-use Rattle.kr_tree.proofs.CountLemmas.{there}
-use Rattle.kr_view.specs.declared.target.Target.{Target}
-use Rattle.kr_view.specs.Answers.{told}
-use Rattle.kr_view.specs.InTree.{IsPlaceOf, StandsAround}
-use Rattle.kr_view.specs.View.{Row}
-use Rattle.kr_view.specs.Walk.{PlaceTarget}
-use Rattle.kr_allowed.specs.Texts.{LinksHaveTexts}
-use Rattle.kr_model.specs.Lawful.{IsLawful, IsNameOrNone, is_file_at}
-use Rattle.kr_model.specs.ProcessDirectory.{around_of}
-use Rattle.kr_model.specs.State.{Image, Process, State, process}
-use Rattle.kr_allowed.specs.Told.{SourcesAreNamed}
+use Rattle.kr_exec.proofs.kr_tree.CountLemmas.{there}
+use Rattle.kr_exec.specs.kr_view.declared.target.Target.{Target}
+use Rattle.kr_exec.specs.kr_view.Answers.{told}
+use Rattle.kr_exec.specs.kr_view.InTree.{IsPlaceOf, StandsAround}
+use Rattle.kr_exec.specs.kr_view.View.{Row}
+use Rattle.kr_exec.specs.kr_view.Walk.{PlaceTarget}
+use Rattle.kr_perform.specs.kr_allowed.Texts.{LinksHaveTexts}
+use Rattle.kr_perform.specs.kr_model.Lawful.{IsLawful, IsNameOrNone, is_file_at}
+use Rattle.kr_perform.specs.kr_model.ProcessDirectory.{around_of}
+use Rattle.kr_perform.specs.kr_model.State.{Image, Process, State, process}
+use Rattle.kr_perform.specs.kr_allowed.Told.{SourcesAreNamed}
 use Rattle.kr_perform.proofs.kr_resolved.AroundLemmas.{lead_to_places, leads_texts}
 use Rattle.kr_perform.proofs.kr_resolved.TextLemmas.{IsTextByte}
 use Rattle.kr_exec.specs.Exec.{exec_plan}

@@ -1,37 +1,37 @@
 -- What the code leaves of a state where a process called execve(2), and what its steps leave.
 use Rattle.std.specs.Prelude.{◌≡◌, ◌≢◌, ◌+◌, ℕ, suc, Bool, true, false, List, [], ◌∷◌, Some, None, Result, Ok, Err, IsSome}
 use Rattle.std.specs.Option.{option_map}
-use Rattle.pr_base.specs.declared.errno.Errno.{Errno}
-use Rattle.pr_base.specs.declared.errno.Errno.TheVariants.{ENOMEM}
-use Rattle.rv_mem.specs.Actions.{CarriedOut, carried_out}
-use Rattle.elf_read.specs.Plans.{plan_of}
-use Rattle.elf_read.specs.Rules.{first_broken}
-use Rattle.rv_mem.specs.Memory.{Memory, page_count}
+use Rattle.elf_load.specs.pr_base.declared.errno.Errno.{Errno}
+use Rattle.elf_load.specs.pr_base.declared.errno.Errno.TheVariants.{ENOMEM}
+use Rattle.elf_load.specs.rv_mem.Actions.{CarriedOut, carried_out}
+use Rattle.elf_load.specs.elf_read.Plans.{plan_of}
+use Rattle.elf_load.specs.elf_read.Rules.{first_broken}
+use Rattle.elf_load.specs.rv_mem.Memory.{Memory, page_count}
 use Rattle.elf_load.specs.Image.{image_exceeds, program_break}
 use Rattle.elf_load.specs.declared.image.Image as loaded
-use Rattle.kr_inode.specs.declared.user.User.{User}
-use Rattle.kr_tree.specs.declared.place.Host.TheVariants.{Node}
-use Rattle.kr_tree.specs.Tree.{Tree}
-use Rattle.kr_view.specs.declared.target.Reach.{Reach}
-use Rattle.kr_view.specs.declared.target.WalkFault.{WalkFault}
-use Rattle.kr_view.specs.declared.target.WalkFault.TheVariants as fault
-use Rattle.kr_view.specs.InTree.{IsPlaceOf}
-use Rattle.kr_view.specs.Leads.{numbered}
-use Rattle.kr_view.specs.View.{Row}
-use Rattle.kr_model.specs.Applied.{Mounts, all_applied, images}
-use Rattle.kr_model.specs.Change.{Change, CloseOnExec, OfFound, ReplaceExecutable, ReplaceImage}
-use Rattle.kr_model.specs.Conditions.{CanLoad, OfCaller}
-use Rattle.kr_model.specs.Lawful.{IsLawful, IsNameOrNone, is_file_at}
-use Rattle.kr_model.specs.State as model
-use Rattle.kr_model.specs.State.{process}
-use Rattle.kr_ops.specs.declared.state.State.{State}
-use Rattle.kr_ops.specs.Making.{Makes}
-use Rattle.kr_ops.specs.Meaning.{meaning}
-use Rattle.kr_ops.specs.Sound.{IsServed}
-use Rattle.kr_seen.specs.Carrying.{memory_of}
+use Rattle.kr_perform.specs.kr_inode.declared.user.User.{User}
+use Rattle.kr_exec.specs.kr_tree.declared.place.Host.TheVariants.{Node}
+use Rattle.kr_exec.specs.kr_tree.Tree.{Tree}
+use Rattle.kr_exec.specs.kr_view.declared.target.Reach.{Reach}
+use Rattle.kr_exec.specs.kr_view.declared.target.WalkFault.{WalkFault}
+use Rattle.kr_exec.specs.kr_view.declared.target.WalkFault.TheVariants as fault
+use Rattle.kr_exec.specs.kr_view.InTree.{IsPlaceOf}
+use Rattle.kr_exec.specs.kr_view.Leads.{numbered}
+use Rattle.kr_exec.specs.kr_view.View.{Row}
+use Rattle.kr_perform.specs.kr_model.Applied.{Mounts, all_applied, images}
+use Rattle.kr_perform.specs.kr_model.Change.{Change, CloseOnExec, OfFound, ReplaceExecutable, ReplaceImage}
+use Rattle.kr_perform.specs.kr_model.Conditions.{CanLoad, OfCaller}
+use Rattle.kr_perform.specs.kr_model.Lawful.{IsLawful, IsNameOrNone, is_file_at}
+use Rattle.kr_perform.specs.kr_model.State as model
+use Rattle.kr_perform.specs.kr_model.State.{process}
+use Rattle.kr_perform.specs.kr_ops.declared.state.State.{State}
+use Rattle.kr_perform.specs.kr_ops.Making.{Makes}
+use Rattle.kr_perform.specs.kr_ops.Meaning.{meaning}
+use Rattle.kr_perform.specs.kr_ops.Sound.{IsServed}
+use Rattle.kr_perform.specs.kr_seen.Carrying.{memory_of}
 use Rattle.kr_perform.specs.Lawful.{LastsLawful}
 use Rattle.kr_perform.specs.kr_rows.Using.{HasMemory}
-use Rattle.kr_seen.specs.Numbered.{state_numbered}
+use Rattle.kr_perform.specs.kr_seen.Numbered.{state_numbered}
 use Rattle.kr_exec.specs.Exec.{are_too_big}
 use Rattle.kr_exec.specs.Interpreters.{bytes_at}
 use Rattle.kr_exec.specs.Lists.{lists_at}

@@ -2,26 +2,27 @@
 -- comes first, then EACCES, the lists, the scripts and the rules on ELF files, and ENOMEM last.
 use Rattle.std.specs.Prelude.{ℕ, Bool, List, [], ◌∷◌, Option, Some, None, Result, Ok, Err, if◌then◌else◌}
 use Rattle.std.specs.Option.{option_map_or}
-use Rattle.pr_base.specs.declared.errno.Errno.{Errno}
-use Rattle.pr_base.specs.declared.errno.Errno.TheVariants.{ENOENT, ENOMEM}
-use Rattle.rv_mem.specs.Actions.{CarriedOut, Done, carried_out}
-use Rattle.rv_mem.specs.Memory.{Memory}
+use Rattle.elf_load.specs.pr_base.declared.errno.Errno.{Errno}
+use Rattle.elf_load.specs.pr_base.declared.errno.Errno.TheVariants.{ENOENT, ENOMEM}
+use Rattle.elf_load.specs.pr_base.declared.path.WalkMode.TheVariants.{Look}
+use Rattle.elf_load.specs.rv_mem.Actions.{CarriedOut, Done, carried_out}
+use Rattle.elf_load.specs.rv_mem.Memory.{Memory}
 use Rattle.elf_load.specs.Image.{first_regs, image_exceeds, image_memory, program_break}
-use Rattle.kr_inode.specs.declared.user.User.{User}
-use Rattle.kr_tree.specs.declared.place.Place.{Place}
-use Rattle.kr_tree.specs.Tree.{Tree}
-use Rattle.kr_view.specs.declared.target.Reach.{Reach}
-use Rattle.kr_view.specs.Answers.{told}
-use Rattle.kr_view.specs.Reach.{reach_after}
-use Rattle.kr_view.specs.View.{Row}
-use Rattle.kr_view.specs.Walk.{PlaceTarget}
-use Rattle.kr_model.specs.Applied.{Mounts, all_applied, cwd_of, images}
-use Rattle.kr_model.specs.Change.{Change, CloseOnExec, OfFound, ReplaceExecutable, ReplaceImage}
-use Rattle.kr_model.specs.Known.{pages_in_all}
-use Rattle.kr_model.specs.ProcessDirectory.{around_of}
-use Rattle.kr_model.specs.State.{Image, State, image_layout}
-use Rattle.kr_model.specs.Walks as results
-use Rattle.kr_seen.specs.Carrying.{with_memory_of}
+use Rattle.kr_perform.specs.kr_inode.declared.user.User.{User}
+use Rattle.kr_exec.specs.kr_tree.declared.place.Place.{Place}
+use Rattle.kr_exec.specs.kr_tree.Tree.{Tree}
+use Rattle.kr_exec.specs.kr_view.declared.target.Reach.{Reach}
+use Rattle.kr_exec.specs.kr_view.Answers.{told}
+use Rattle.kr_exec.specs.kr_view.Reach.{reach_after}
+use Rattle.kr_exec.specs.kr_view.View.{Row}
+use Rattle.kr_exec.specs.kr_view.Walk.{PlaceTarget}
+use Rattle.kr_perform.specs.kr_model.Applied.{Mounts, all_applied, cwd_of, images}
+use Rattle.kr_perform.specs.kr_model.Change.{Change, CloseOnExec, OfFound, ReplaceExecutable, ReplaceImage}
+use Rattle.kr_perform.specs.kr_model.Known.{pages_in_all}
+use Rattle.kr_perform.specs.kr_model.ProcessDirectory.{around_of}
+use Rattle.kr_perform.specs.kr_model.State.{Image, State, image_layout}
+use Rattle.kr_perform.specs.kr_model.Walks as results
+use Rattle.kr_perform.specs.kr_seen.Carrying.{with_memory_of}
 use Rattle.kr_exec.specs.Exec.{exec_plan, exec_reach}
 use Rattle.kr_exec.specs.Finding.{program_at, program_walk}
 use Rattle.kr_exec.specs.Interpreters.{bytes_at}
@@ -99,7 +100,7 @@ module _ (table : List Row) (pid : ℕ) (s : State ℕ Image) (path : List ℕ) 
   found_reach memory base (Err e) r = r
 
   abbrev pub reach_from : Memory → Reach → Place ℕ → Reach
-  reach_from memory r base = found_reach memory base (found_from base) (reach_after (around_of table pid s) (program_walk (around_of table pid s) base path) r)
+  reach_from memory r base = found_reach memory base (found_from base) (reach_after (around_of table pid s) Look (program_walk (around_of table pid s) base path) r)
 
   abbrev pub execution_reach : Memory → Reach → Reach
   execution_reach memory r = option_map_or (reach_from memory r) (cwd_of pid s) r

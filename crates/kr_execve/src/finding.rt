@@ -1,24 +1,24 @@
 //! The file of a new program, and its plan, over the state of a kernel.
 ghost use Rattle.std.specs.Prelude.{◌≡◌, false, true, IfOk, Some, IsSome};
+ghost use Rattle.elf_load.specs.pr_base.declared.path.WalkMode.TheVariants.{Look};
 ghost use Rattle.kr_exec.specs.Answers.{plan_numbered, Answers, Reaches};
 ghost use Rattle.kr_exec.specs.Exec.{are_too_big, exec_plan, exec_reach};
 ghost use Rattle.kr_exec.specs.Finding.{is_program, is_program_found, program_at, program_walk};
-ghost use Rattle.kr_model.specs.Applied.{cwd_of};
-ghost use Rattle.kr_model.specs.Lawful.{IsLawful};
-ghost use Rattle.kr_model.specs.ProcessDirectory.{around_of};
-ghost use Rattle.kr_model.specs.State.{process};
-ghost use Rattle.kr_ops.specs.Meaning.{meaning};
-ghost use Rattle.kr_ops.specs.Sound.{IsServed, IsSound};
-ghost use Rattle.kr_seen.specs.Numbered.{state_numbered};
-ghost use Rattle.kr_tree.specs.declared.place.Host.TheVariants.{Node};
-ghost use Rattle.kr_view.specs.Answers.{target_numbered, IsAnswer, IsReached};
-ghost use Rattle.kr_view.specs.Leads.{numbered};
+ghost use Rattle.kr_perform.specs.kr_model.Applied.{cwd_of};
+ghost use Rattle.kr_perform.specs.kr_model.Lawful.{IsLawful};
+ghost use Rattle.kr_perform.specs.kr_model.ProcessDirectory.{around_of};
+ghost use Rattle.kr_perform.specs.kr_model.State.{process};
+ghost use Rattle.kr_perform.specs.kr_ops.Meaning.{meaning};
+ghost use Rattle.kr_perform.specs.kr_ops.Sound.{IsServed, IsSound};
+ghost use Rattle.kr_perform.specs.kr_seen.Numbered.{state_numbered};
+ghost use Rattle.kr_exec.specs.kr_tree.declared.place.Host.TheVariants.{Node};
+ghost use Rattle.kr_exec.specs.kr_view.Answers.{target_numbered, IsAnswer, IsReached};
+ghost use Rattle.kr_exec.specs.kr_view.Leads.{numbered};
 
+use kr_exec::below::kr_tree::Place;
+use kr_exec::below::kr_view::{Places, Reach, Target, WalkFault};
 use kr_exec::{ExecPlan, Lists, find_exec, plan_exec};
-use kr_ops::State;
-use kr_seen::procs;
-use kr_tree::Place;
-use kr_view::{Places, Reach, Target, WalkFault};
+use kr_perform::below::{State, procs};
 use std::alloc::Global;
 
 /// The working directory of a living process.
@@ -49,7 +49,7 @@ pub fn find<P: Places, const M: u8>(
         IsAnswer P.number (program_at around (numbered P.number base) path.now) result }
     ensures program { IfOk result (λ target. is_program_found state.now.tree state.now.user target.found ≡ true) }
     ensures reach { let around = around_of (P.mounts places.now) pid (state_numbered P.number (meaning state.now)) in
-        IsReached around (program_walk around (numbered P.number base) path.now) reach.old reach.new result }
+        IsReached around Look (program_walk around (numbered P.number base) path.now) reach.old reach.new result }
 {
     let root = places.root();
     let procs = procs(alloc, places, state, &root);

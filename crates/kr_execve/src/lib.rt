@@ -1,6 +1,7 @@
 //! execve(2) in a running process: a program that is found by a path takes the place of the caller's.
 #![tactic(auto)]
 
+pub mod below;
 mod executing;
 mod finding;
 mod loading;

@@ -4,21 +4,20 @@ ghost use Rattle.elf_load.specs.Image.{image_exceeds, program_break};
 ghost use Rattle.kr_exec.specs.Interpreters.{bytes_at};
 ghost use Rattle.kr_execve.specs.Execution.{ids_of, image_of};
 ghost use Rattle.kr_execve.specs.Executing.{Gives, IsLoadable, IsReadyFor, Loads, Puts};
-ghost use Rattle.kr_model.specs.State.{process};
-ghost use Rattle.kr_ops.specs.Meaning.{meaning};
-ghost use Rattle.kr_ops.specs.Sound.{IsSound};
-ghost use Rattle.kr_tree.specs.declared.place.Host.TheVariants.{Node};
-ghost use Rattle.rv_mem.specs.Memory.{page_count};
-ghost use Rattle.rv_mem.specs.Pages.{IsPlaced, IsWhole};
+ghost use Rattle.kr_perform.specs.kr_model.State.{process};
+ghost use Rattle.kr_perform.specs.kr_ops.Meaning.{meaning};
+ghost use Rattle.kr_perform.specs.kr_ops.Sound.{IsSound};
+ghost use Rattle.kr_exec.specs.kr_tree.declared.place.Host.TheVariants.{Node};
+ghost use Rattle.elf_load.specs.rv_mem.Memory.{page_count};
+ghost use Rattle.elf_load.specs.rv_mem.Pages.{IsPlaced, IsWhole};
 
+use elf_load::below::pr_base::Errno;
+use elf_load::below::rv_mem::{Room, Use};
 use elf_load::{Image, LoadFault, load};
 use kr_exec::ExecPlan;
-use kr_ops::State;
-use kr_ops::laws::lawful_states_are_sound;
-use kr_tree::{Ino, Tree, User};
-use kr_view::WalkFault;
-use pr_base::Errno;
-use rv_mem::{Room, Use};
+use kr_exec::below::kr_tree::{Ino, Tree, User};
+use kr_exec::below::kr_view::WalkFault;
+use kr_perform::below::{State, lawful_states_are_sound};
 use std::alloc::Global;
 
 /// How many pages there may be in a memory, by their addresses.

@@ -1,14 +1,14 @@
 //! The lists of texts that a call hands over.
 ghost use Rattle.std.specs.Prelude.{◌≡◌, IsSome};
 ghost use Rattle.kr_execve.specs.Executing.{ReadsLists};
-ghost use Rattle.kr_model.specs.State.{process};
-ghost use Rattle.kr_ops.specs.Meaning.{meaning};
-ghost use Rattle.kr_ops.specs.Sound.{IsSound};
+ghost use Rattle.kr_perform.specs.kr_model.State.{process};
+ghost use Rattle.kr_perform.specs.kr_ops.Meaning.{meaning};
+ghost use Rattle.kr_perform.specs.kr_ops.Sound.{IsSound};
 
-use kr_calls::CallFault;
+use kr_exec::below::kr_calls::CallFault;
+use kr_exec::below::kr_view::WalkFault;
 use kr_exec::{Lists, read_lists};
-use kr_ops::State;
-use kr_view::WalkFault;
+use kr_perform::below::State;
 use std::alloc::Global;
 
 /// Reads the lists at two addresses in the memory of a living process.

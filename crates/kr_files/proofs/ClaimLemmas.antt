@@ -18,7 +18,7 @@ use Rattle.kr_files.specs.declared.opened.Opened.{Opened}
 use Rattle.kr_files.specs.declared.opened.What.TheVariants.{PipeRead, PipeWrite}
 use Rattle.kr_files.proofs.CloseLemmas.{bytes_of}
 use Rattle.kr_files.proofs.OpenFileLemmas.{value_of}
-use Rattle.pr_base.proofs.MapLemmas.{mapped-insert, some-insert, get-insert_same, insert-insert, insert-swap}
+use Rattle.kr_tree.proofs.pr_base.MapLemmas.{mapped-insert, some-insert, get-insert_same, insert-insert, insert-swap}
 
 -- want of memory isn't Full, and neither is an answer that is Ok
 pub wanting_not_full : {A : Type 0} → ◌≡◌ {A = Result A FilesRefusal} (Err NoMemory) (Err Full) → ⊥

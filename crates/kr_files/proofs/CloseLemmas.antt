@@ -10,12 +10,12 @@ use Rattle.kr_files.specs.declared.descs.Descriptor.{Descriptor}
 use Rattle.kr_files.specs.declared.opened.What.{What}
 use Rattle.kr_files.specs.declared.opened.What.TheVariants.{File, Dir, In, Out, Err, PipeRead, PipeWrite}
 use Rattle.kr_files.specs.Files.{Counted, Table, Kept, has_kind, closed, without_file, pipes_left, released}
-use Rattle.pr_base.specs.Maps.{changed, mapped}
+use Rattle.kr_tree.specs.pr_base.Maps.{changed, mapped}
 use Rattle.kr_files.specs.OpenFiles.{Store, ended_kind, with_one_less}
 use Rattle.kr_files.specs.Opened.{is_no_end, is_reader, is_writer}
 use Rattle.kr_files.specs.StoredPipes.{Pipe, PipeTable, reader_gone, writer_gone, end_gone, reader_open, writer_open, without_reader, without_writer}
 use Rattle.kr_files.specs.Sound.{IsSound, is_end, is_noted, kept_of}
-use Rattle.pr_base.proofs.MapLemmas.{same_values, by_key, get-insert_same, get-insert_other, get-remove_same, get-remove_other, remove-none, get-changed_same, get-changed_other, get-mapped, mapped-remove}
+use Rattle.kr_tree.proofs.pr_base.MapLemmas.{same_values, by_key, get-insert_same, get-insert_other, get-remove_same, get-remove_other, remove-none, get-changed_same, get-changed_other, get-mapped, mapped-remove}
 use Rattle.kr_files.proofs.KindLemmas.{either_true, kind_some, kind-remove_other, kind-remove_only}
 use Rattle.kr_files.proofs.OpenFileLemmas.{value_of}
 use Rattle.kr_files.proofs.SoundLemmas.{SameKinds, equal_same, equal_other, no_side, sound-same_kinds, sound-remove}

@@ -7,8 +7,8 @@ use Rattle.std.specs.Ordering.{nat_cmp}
 use Rattle.kr_files.specs.declared.descs.Descriptor.{Descriptor}
 use Rattle.kr_files.specs.Descriptors.{Descriptors, Meanings, Named, meanings, named_below}
 use Rattle.kr_files.specs.Files.{Counted, counted_more}
-use Rattle.pr_base.specs.Maps.{changed, mapped}
-use Rattle.pr_base.proofs.MapLemmas.{same_values, by_key, get-mapped, get-changed_same, get-changed_other}
+use Rattle.kr_tree.specs.pr_base.Maps.{changed, mapped}
+use Rattle.kr_tree.proofs.pr_base.MapLemmas.{same_values, by_key, get-mapped, get-changed_same, get-changed_other}
 use Rattle.kr_files.proofs.SoundLemmas.{equal_same, equal_other}
 
 -- whether the descriptor of a number names a file, as a number

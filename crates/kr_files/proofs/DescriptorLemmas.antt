@@ -11,7 +11,7 @@ use Rattle.std.proofs.lemmas.Option.{none-some}
 use Rattle.kr_files.specs.declared.descs.Descriptor.{Descriptor}
 use Rattle.kr_files.specs.Laws.{AreFew, LowestIsLeast}
 use Rattle.kr_files.proofs.CountLemmas.{below_small}
-use Rattle.pr_base.proofs.MapLemmas.{get-mapped}
+use Rattle.kr_tree.proofs.pr_base.MapLemmas.{get-mapped}
 use Rattle.kr_files.specs.Slots.{slots}
 use Rattle.kr_files.specs.Descriptors.{Descriptors, Named, meanings, first_free, lowest_free, lowest_pair, IsLowestFree, AllTaken}
 use Rattle.kr_files.proofs.SlotLemmas.{get-slots, slots-set_some, slots-set_none, slots-past, slots-same}

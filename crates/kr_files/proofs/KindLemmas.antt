@@ -11,7 +11,7 @@ use Rattle.std.proofs.lemmas.Option.{same_Some, none-some}
 use lib.Dec.{T}
 use Rattle.kr_files.specs.declared.opened.What.{What}
 use Rattle.kr_files.specs.Files.{Counted, has_kind}
-use Rattle.pr_base.proofs.MapLemmas.{ties-same, ties-other, get-insert_same, get-insert_other, get-remove_same, get-remove_other}
+use Rattle.kr_tree.proofs.pr_base.MapLemmas.{ties-same, ties-other, get-insert_same, get-insert_other, get-remove_same, get-remove_other}
 
 pub same_bools : (a b : Bool) → (a ≡ true → b ≡ true) → (b ≡ true → a ≡ true) → a ≡ b
 same_bools true b f g = sym (f refl)

@@ -9,12 +9,12 @@ use Rattle.kr_files.specs.declared.opened.What.{What}
 use Rattle.kr_files.specs.declared.opened.What.TheVariants.{File, Dir, In, Out, Err, PipeRead, PipeWrite}
 use Rattle.kr_files.specs.Descriptors.{Meanings, named_count}
 use Rattle.kr_files.specs.Files.{Counted, Table, file_at, has_kind, has_reader, has_writer, pipe_state_of, with_file, with_pipe, with_copy, with_copies, pipes_left, without_file, closed, counted_more, on_opened, with_opened, at_offset, with_append, with_all_opened, with_bytes, pipe_after_read, pipe_after_write}
-use Rattle.pr_base.specs.Maps.{changed, mapped}
+use Rattle.kr_tree.specs.pr_base.Maps.{changed, mapped}
 use Rattle.kr_files.specs.Opened.{is_reader, is_writer, pipe_end, remembers, nameless, named_at, after_removal, after_rename}
 use Rattle.kr_files.specs.Pipes.{after_write}
 use Rattle.kr_files.specs.WithoutMounts.{without_mount, counted_without_mount, without_mounts}
 use Rattle.kr_files.proofs.KindLemmas.{same_bools, some_kind, kind_some}
-use Rattle.pr_base.proofs.MapLemmas.{same_values, by_key, get-changed_same, get-changed_other, get-mapped, mapped-insert, mapped-remove}
+use Rattle.kr_tree.proofs.pr_base.MapLemmas.{same_values, by_key, get-changed_same, get-changed_other, get-mapped, mapped-insert, mapped-remove}
 
 module _ {X Y : Type 0} (u : X → Y) where
   pub mapped-changed : (m : map.FinMap nat_cmp X) (k : ℕ) (f : X → X) (g : Y → Y) → ((x : X) → u (f x) ≡ g (u x)) → mapped (λ n. u) (changed m k f) ≡ changed (mapped (λ n. u) m) k g

@@ -13,9 +13,9 @@ use Rattle.kr_files.specs.declared.open_files.OpenFile.{OpenFile}
 use Rattle.kr_files.specs.Files.{Counted, on_opened}
 use Rattle.kr_files.specs.declared.opened.Opened.{Opened}
 use Rattle.kr_files.specs.Laws.{HaveKeys, AreCounted}
-use Rattle.pr_base.specs.Maps.{changed, mapped}
+use Rattle.kr_tree.specs.pr_base.Maps.{changed, mapped}
 use Rattle.kr_files.specs.OpenFiles.{Store, store_of, counted, files_in, numbers_in, AreDistinct, AreStored, ChangesEach, on_file, ended_kind, with_one_less}
-use Rattle.pr_base.proofs.MapLemmas.{some-insert, same_values, by_key, get-insert_same, get-insert_other, get-remove_same, get-remove_other, changed-some, get-mapped}
+use Rattle.kr_tree.proofs.pr_base.MapLemmas.{some-insert, same_values, by_key, get-insert_same, get-insert_other, get-remove_same, get-remove_other, changed-some, get-mapped}
 use Rattle.kr_files.proofs.SlotLemmas.{get-slots}
 
 -- two options are the same where each value of one is that of the other

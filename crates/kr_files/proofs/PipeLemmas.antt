@@ -11,12 +11,12 @@ use Rattle.kr_files.specs.declared.opened.Moved.TheVariants.{Bytes, NotReady as 
 use Rattle.kr_files.specs.declared.opened.Wrote.{Wrote}
 use Rattle.kr_files.specs.declared.opened.Wrote.TheVariants.{Took, NotReady as WriteNotReady, NoReader}
 use Rattle.kr_files.specs.Files.{Kept, has_reader, has_writer, reads_wait, writes_wait, on_table, pipe_after_read, pipe_after_write, pipe_state_of}
-use Rattle.pr_base.specs.Maps.{changed}
+use Rattle.kr_tree.specs.pr_base.Maps.{changed}
 use Rattle.kr_files.specs.OpenFiles.{Store}
 use Rattle.kr_files.specs.Pipes.{moved_of, wrote_of, after_write, read_waits}
 use Rattle.kr_files.specs.StoredPipes.{Pipe, PipeTable, holding, reader_open}
 use Rattle.kr_files.specs.Sound.{IsSound, is_noted, kept_of}
-use Rattle.pr_base.proofs.MapLemmas.{some-insert, get-insert_same, get-insert_other, insert-same, changed-some, get-mapped, mapped-insert}
+use Rattle.kr_tree.proofs.pr_base.MapLemmas.{some-insert, get-insert_same, get-insert_other, insert-same, changed-some, get-mapped, mapped-insert}
 use Rattle.kr_files.proofs.CloseLemmas.{bytes_of}
 
 pub get_bytes : (pipes : PipeTable) (p : ℕ) → map.get (bytes_of pipes) p ≡ option_map (λ (q : Pipe). q.bytes) (map.get pipes p)

@@ -3,7 +3,7 @@ use Rattle.std.specs.FinMap as map
 use Rattle.std.proofs.Common.{◌≡◌, ◌≢◌, ◌≤◌, ◌<◌, ◌+◌, ◌^◌, inl, inr, subst, ℕ, Bool, true, false, is_some, refl, sym, ap, ◌∙◌, arith, List, Option, Some, None}
 use Rattle.std.specs.Prelude.{IsSome, Result, Ok, Err, IfOk, OnOk, OnErr}
 use Rattle.std.specs.Option.{option_map, option_map_or, option_and_then}
-use Rattle.pr_base.specs.declared.memory.NoMemory.{NoMemory}
+use Rattle.kr_tree.specs.pr_base.declared.memory.NoMemory.{NoMemory}
 use Rattle.std.proofs.lemmas.Option.{none-some, same_Some}
 use Rattle.kr_files.specs.Opened.{pipe_end}
 use Rattle.kr_files.specs.declared.opened.What.TheVariants.{PipeRead, PipeWrite}
@@ -13,9 +13,9 @@ use Rattle.kr_files.specs.declared.opened.Opened.{Opened}
 use Rattle.kr_files.specs.declared.opened.FilesRefusal.{FilesRefusal}
 use Rattle.kr_files.specs.Descriptors.{Descriptors, meanings, lowest_free, lowest_pair, IsLowestFree, with_copy_at, with_cloexec, named_count}
 use Rattle.kr_files.specs.Files.{Counted, Kept, Table, FitsCopies, NamesOpenFiles, with_copies, with_all_opened, with_bytes, Gives, GivesPair, empty_table, with_file, with_pipe, on_table, on_opened, with_opened, by_descriptor, copied, released, count_at}
-use Rattle.pr_base.specs.Maps.{changed}
+use Rattle.kr_tree.specs.pr_base.Maps.{changed}
 use Rattle.kr_files.specs.Serves.{Serves, IsFresh}
-use Rattle.pr_base.proofs.MapLemmas.{same_values, by_key, get-insert_same, get-insert_other, get-remove_same, get-remove_other, get-changed_same, get-changed_other, get-mapped}
+use Rattle.kr_tree.proofs.pr_base.MapLemmas.{same_values, by_key, get-insert_same, get-insert_other, get-remove_same, get-remove_other, get-changed_same, get-changed_other, get-mapped}
 use Rattle.kr_files.proofs.CountLemmas.{below_small}
 use Rattle.kr_files.proofs.DescriptorLemmas.{lowest_free-some}
 use Rattle.kr_files.proofs.ServesLemmas.{one_at, serves-empty, serves-same, serves-add, serves-raise, serves-close, serves-put, serves-room, serves-fork, names-close}

@@ -11,7 +11,7 @@ use Rattle.kr_files.specs.declared.descs.Descriptor.{Descriptor}
 use Rattle.kr_files.specs.Descriptors.{Descriptors, Named, meanings, named_below, named_count}
 use Rattle.kr_files.specs.Files.{Counted, Kept, NamesOpenFiles, counted_more, copied, on_table, released, closed, with_copies, without_file}
 use Rattle.kr_files.specs.Serves.{Serves}
-use Rattle.pr_base.proofs.MapLemmas.{same_values, by_key, get-insert_same, get-insert_other, get-remove_same, get-remove_other, get-changed_same, get-changed_other, get-mapped}
+use Rattle.kr_tree.proofs.pr_base.MapLemmas.{same_values, by_key, get-insert_same, get-insert_other, get-remove_same, get-remove_other, get-changed_same, get-changed_other, get-mapped}
 use Rattle.kr_files.proofs.SoundLemmas.{equal_same, equal_other}
 use Rattle.kr_files.proofs.CountLemmas.{named_here, get-meanings, none-meanings}
 

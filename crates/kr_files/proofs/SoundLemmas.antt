@@ -11,11 +11,11 @@ use Rattle.kr_files.specs.Opened.{is_no_end, is_reader, is_writer}
 use Rattle.std.proofs.lemmas.Option.{same_Some, none-some}
 use Rattle.kr_files.specs.declared.opened.What.{What}
 use Rattle.kr_files.specs.Files.{Counted, has_kind}
-use Rattle.pr_base.specs.Maps.{changed, mapped}
+use Rattle.kr_tree.specs.pr_base.Maps.{changed, mapped}
 use Rattle.kr_files.specs.Sound.{IsSound, is_end, is_noted}
 use Rattle.kr_files.specs.StoredPipes.{Pipe, PipeTable, fresh_pipe}
 use Rattle.kr_files.proofs.OpenFileLemmas.{value_of}
-use Rattle.pr_base.proofs.MapLemmas.{by_key, some-insert, get-insert_same, get-insert_other, get-remove_same, get-remove_other, get-changed_same, get-changed_other, get-mapped}
+use Rattle.kr_tree.proofs.pr_base.MapLemmas.{by_key, some-insert, get-insert_same, get-insert_other, get-remove_same, get-remove_other, get-changed_same, get-changed_other, get-mapped}
 use Rattle.kr_files.proofs.KindLemmas.{same_kind, not_true, either_true, or_true, kind_some, no_kind, kind-insert}
 
 pub equal_true : (a b : ℕ) → (a == b) ≡ true → a ≡ b

@@ -4,7 +4,7 @@ use Rattle.std.specs.Prelude.{◌≡◌, ℕ, zero, suc, ◌+◌, ◌-◌, ◌==
 use Rattle.std.specs.Option.{option_map, option_map_or, option_and_then}
 use Rattle.std.specs.Ordering.{nat_cmp}
 use Rattle.std.specs.Coded.{Coded, code_by, coded×, coded_ℕ, coded_bool}
-use Rattle.pr_base.specs.Maps.{mapped}
+use Rattle.kr_tree.specs.pr_base.Maps.{mapped}
 use Rattle.kr_files.specs.declared.descs.Descriptor.{Descriptor}
 
 abbrev pub descriptor_code : Coded Descriptor

@@ -11,7 +11,7 @@ use Rattle.kr_files.specs.declared.opened.What.{What}
 use Rattle.kr_files.specs.declared.opened.What.TheVariants.{File, Dir, In, Out, Err, PipeRead, PipeWrite}
 use Rattle.kr_files.specs.declared.opened.PipeState.{PipeState}
 use Rattle.kr_files.specs.Descriptors.{Descriptors, Meanings, meanings, named_count, lowest_pair}
-use Rattle.pr_base.specs.Maps.{changed, mapped}
+use Rattle.kr_tree.specs.pr_base.Maps.{changed, mapped}
 use Rattle.kr_files.specs.Opened.{is_reader, is_writer, pipe_end}
 use Rattle.kr_files.specs.declared.opened.Moved.{Moved}
 use Rattle.kr_files.specs.declared.opened.Wrote.{Wrote}

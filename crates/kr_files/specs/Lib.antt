@@ -1,5 +1,6 @@
-pub use Rattle.kr_tree.specs as kr_tree
 -- what the calls promise
+pub use Rattle.kr_tree.specs.kr_inode as kr_inode
+pub use Rattle.kr_tree.specs as kr_tree
 pub mod Descriptors
 pub mod Files
 pub mod Laws

@@ -4,7 +4,7 @@ use Rattle.std.specs.Prelude.{◌≡◌, ◌≤◌, ℕ, Bool, true, false, ◌|
 use Rattle.std.specs.Ordering.{nat_cmp}
 use Rattle.kr_files.specs.declared.opened.What.{What}
 use Rattle.kr_files.specs.Files.{Counted, Kept, has_kind}
-use Rattle.pr_base.specs.Maps.{mapped}
+use Rattle.kr_tree.specs.pr_base.Maps.{mapped}
 use Rattle.kr_files.specs.OpenFiles.{Store}
 use Rattle.kr_files.specs.Opened.{is_reader, is_writer}
 use Rattle.kr_files.specs.StoredPipes.{Pipe, PipeTable}

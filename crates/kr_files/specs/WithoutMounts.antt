@@ -6,7 +6,7 @@ use Rattle.kr_files.specs.declared.opened.Opened.{Opened}
 use Rattle.kr_files.specs.Descriptors.{Meanings}
 use Rattle.kr_files.specs.Files.{Counted, Table, file_at, pipe_state_of, with_file, with_pipe, with_copy, with_copies, closed, with_opened, with_all_opened, at_offset, with_append, pipe_after_read, pipe_after_write}
 use Rattle.kr_files.specs.Opened.{after_removal, after_rename}
-use Rattle.pr_base.specs.Maps.{mapped}
+use Rattle.kr_tree.specs.pr_base.Maps.{mapped}
 
 module _ {M : Type 0} where
   abbrev pub without_mount : Opened M → Opened (Unit {0})

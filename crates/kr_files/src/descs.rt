@@ -2,7 +2,7 @@
 ghost use Rattle.std.specs.Prelude.{◌≡◌, ℕ, ◌<◌, ◌≤◌, vec_len, slice_index_or, Some, None, IsSome, IfSome, IfOk, OnOk, OnErr};
 ghost use Rattle.std.specs.FinMap as map;
 
-use pr_base::NoMemory;
+use kr_tree::below::pr_base::NoMemory;
 use std::alloc::Global;
 use std::marker::Model;
 
@@ -74,7 +74,7 @@ impl Descs {
     ghost use Rattle.kr_files.specs.Descriptors.{lowest_free, with_cloexec, cloexec_of};
     ghost use Rattle.kr_files.specs.Slots.{unnamed};
     ghost use Rattle.kr_files.specs.Laws.{AreFew};
-    ghost use Rattle.pr_base.specs.Maps.{changed};
+    ghost use Rattle.kr_tree.specs.pr_base.Maps.{changed};
 
     /// No descriptor is open. It takes no memory.
     pub fn new(alloc: Global) -> Descs

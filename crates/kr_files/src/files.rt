@@ -8,7 +8,7 @@ use crate::open_files::OpenFiles;
 use crate::opened::{FilesRefusal, Moved, Opened, PipeState, Wrote};
 use crate::pipes::Pipes;
 use kr_tree::Ino;
-use pr_base::NoMemory;
+use kr_tree::below::pr_base::NoMemory;
 use std::alloc::Global;
 use std::marker::Model;
 

@@ -1,6 +1,7 @@
 //! Open files, the descriptors that name them, and pipes.
 #![tactic(auto)]
 
+pub mod below;
 pub mod descs;
 pub mod files;
 pub mod laws;

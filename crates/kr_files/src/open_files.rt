@@ -7,7 +7,7 @@ use crate::descs::{Descriptor, Descs};
 use crate::opened::{Opened, What};
 use crate::renames::{copies_for, follow_all, forget_all};
 use kr_tree::Ino;
-use pr_base::NoMemory;
+use kr_tree::below::pr_base::NoMemory;
 use slab::Slab;
 use std::alloc::Global;
 use std::marker::Model;
@@ -44,7 +44,7 @@ impl<M> Model for OpenFiles<M> {
 impl<M: Copy> OpenFiles<M> {
     ghost use Rattle.kr_files.specs.Files.{Counted, GivesPair, counted_more, on_opened, at_offset, with_append};
     ghost use Rattle.kr_files.specs.Laws.{HaveKeys, AreCounted};
-    ghost use Rattle.pr_base.specs.Maps.{changed, mapped};
+    ghost use Rattle.kr_tree.specs.pr_base.Maps.{changed, mapped};
     ghost use Rattle.kr_files.specs.Descriptors.{meanings, named_count};
     ghost use Rattle.kr_files.specs.declared.descs.Descriptor.{Descriptor};
     ghost use Rattle.kr_files.specs.OpenFiles.{SameFiles, ended_kind, with_one_less};

@@ -1,7 +1,7 @@
 //! What is open, and what a call on it answers.
 
+use kr_tree::below::pr_base::{Bytes, NoMemory};
 use kr_tree::{Ino, Place};
-use pr_base::{Bytes, NoMemory};
 use std::alloc::Global;
 
 /// An open file description: what open(2) makes, and what every copy of its descriptor shares.

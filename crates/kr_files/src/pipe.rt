@@ -1,7 +1,7 @@
 //! One pipe.
 ghost use Rattle.std.specs.Prelude.{◌≡◌, ◌+◌, ◌-◌, ◌<◌, ◌≤◌, [], ◌++◌, length, take, drop, min, IfOk, OnOk, OnErr, true, false};
 
-use pr_base::{Bytes, NoMemory};
+use kr_tree::below::pr_base::{Bytes, NoMemory};
 use std::alloc::Global;
 use std::collections::VecDeque;
 use std::marker::Model;

@@ -5,7 +5,7 @@ ghost use Rattle.std.specs.FinMap as map;
 
 use crate::opened::What;
 use crate::pipe::{PIPE_BYTES, Pipe};
-use pr_base::{Bytes, NoMemory};
+use kr_tree::below::pr_base::{Bytes, NoMemory};
 use std::alloc::Global;
 use std::collections::BTreeMap;
 use std::marker::Model;
@@ -29,7 +29,7 @@ impl Model for Pipes {
 }
 
 impl Pipes {
-    ghost use Rattle.pr_base.specs.Maps.{changed};
+    ghost use Rattle.kr_tree.specs.pr_base.Maps.{changed};
     ghost use Rattle.kr_files.specs.Pipes.{read_waits};
     ghost use Rattle.kr_files.specs.StoredPipes.{fresh_pipe, holding, reader_open, writer_open, reader_gone, writer_gone, end_gone};
 

@@ -7,7 +7,7 @@ ghost use Rattle.kr_files.specs.Opened.{remembers, after_removal, after_rename};
 
 use crate::open_files::OpenFile;
 use kr_tree::Ino;
-use pr_base::{Bytes, NoMemory};
+use kr_tree::below::pr_base::{Bytes, NoMemory};
 use slab::Slab;
 use std::alloc::Global;
 

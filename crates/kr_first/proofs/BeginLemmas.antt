@@ -1,29 +1,29 @@
 -- A plan that was loaded begins, and what it leaves is the state of the definition, on which calls can go on.
 use Rattle.std.proofs.Common.{◌≡◌, ℕ, ◌≤◌, true, false, List, Some, refl, sym, ap, subst, ◌∙◌}
 use Rattle.std.specs.Prelude.{Ok}
-use Rattle.kr_inode.specs.declared.user.User.{User}
-use Rattle.kr_tree.specs.declared.place.Place.{Place}
-use Rattle.kr_tree.specs.Lawful.{AreBytes, IsKept}
-use Rattle.kr_tree.specs.Tree.{Tree}
-use Rattle.kr_view.specs.Leads.{numbered}
-use Rattle.kr_view.specs.View.{Row, StandsIn}
-use Rattle.elf_load.specs.declared.image.Image as loaded
-use Rattle.kr_allowed.specs.Lasting.{Lasts}
-use Rattle.kr_allowed.specs.Texts.{IsText}
-use Rattle.kr_listed.specs.Beginning.{CanLast}
-use Rattle.kr_allowed.specs.Told.{SourcesAreNamed}
-use Rattle.kr_resolved.proofs.TextLemmas.{text_bytes}
-use Rattle.kr_model.specs.Lawful.{IsLawful}
-use Rattle.kr_model.specs.MemoryRows.{pages_end}
-use Rattle.kr_model.specs.State as model
-use Rattle.kr_ops.specs.declared.state.State.{State}
-use Rattle.kr_ops.specs.Meaning.{meaning}
-use Rattle.kr_ops.specs.Sound.{IsServed}
-use Rattle.kr_seen.specs.Numbered.{state_numbered}
-use Rattle.kr_exec.specs.Answers.{plan_numbered}
-use Rattle.kr_exec.specs.Finding.{is_program}
-use Rattle.kr_exec.specs.Lists.{at_least_one}
-use Rattle.kr_exec.specs.declared.plan.ExecPlan.{ExecPlan}
+use Rattle.kr_execve.specs.kr_inode.declared.user.User.{User}
+use Rattle.kr_start.specs.kr_tree.declared.place.Place.{Place}
+use Rattle.kr_start.specs.kr_tree.Lawful.{AreBytes, IsKept}
+use Rattle.kr_start.specs.kr_tree.Tree.{Tree}
+use Rattle.kr_execve.specs.kr_view.Leads.{numbered}
+use Rattle.kr_execve.specs.kr_view.View.{Row, StandsIn}
+use Rattle.kr_start.specs.elf_load.declared.image.Image as loaded
+use Rattle.kr_start.specs.kr_allowed.Lasting.{Lasts}
+use Rattle.kr_start.specs.kr_allowed.Texts.{IsText}
+use Rattle.kr_start.specs.kr_listed.Beginning.{CanLast}
+use Rattle.kr_start.specs.kr_allowed.Told.{SourcesAreNamed}
+use Rattle.kr_execve.proofs.kr_resolved.TextLemmas.{text_bytes}
+use Rattle.kr_start.specs.kr_model.Lawful.{IsLawful}
+use Rattle.kr_start.specs.kr_model.MemoryRows.{pages_end}
+use Rattle.kr_start.specs.kr_model.State as model
+use Rattle.kr_start.specs.kr_ops.declared.state.State.{State}
+use Rattle.kr_start.specs.kr_ops.Meaning.{meaning}
+use Rattle.kr_start.specs.kr_ops.Sound.{IsServed}
+use Rattle.kr_execve.specs.kr_seen.Numbered.{state_numbered}
+use Rattle.kr_execve.specs.kr_exec.Answers.{plan_numbered}
+use Rattle.kr_execve.specs.kr_exec.Finding.{is_program}
+use Rattle.kr_execve.specs.kr_exec.Lists.{at_least_one}
+use Rattle.kr_execve.specs.kr_exec.declared.plan.ExecPlan.{ExecPlan}
 use Rattle.kr_execve.specs.Executing.{IsLoadable}
 use Rattle.kr_execve.proofs.LoadingLemmas.{break-within}
 use Rattle.kr_execve.proofs.ProgramLemmas.{program-file}

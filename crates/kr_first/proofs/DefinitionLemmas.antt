@@ -4,22 +4,23 @@ use Rattle.std.specs.Prelude.{OnOk, Result, Ok, Err}
 use Rattle.std.specs.Option.{option_map_or}
 use Rattle.pr_base.specs.declared.errno.Errno.{Errno}
 use Rattle.pr_base.specs.declared.errno.Errno.TheVariants.{ENOENT, ENOMEM}
-use Rattle.kr_inode.specs.declared.user.User.{User}
-use Rattle.kr_tree.specs.declared.place.Place.{Place}
-use Rattle.kr_tree.specs.Tree.{Tree}
-use Rattle.kr_view.specs.declared.target.Reach.{Reach}
-use Rattle.kr_view.specs.declared.target.Target.{Target}
-use Rattle.kr_view.specs.declared.target.WalkFault.{WalkFault}
-use Rattle.kr_view.specs.Answers.{told}
-use Rattle.kr_view.specs.Reach.{reach_after}
-use Rattle.kr_view.specs.View.{Row}
-use Rattle.kr_view.specs.Walk.{PlaceTarget}
-use Rattle.kr_model.specs.Walks.{and_then}
-use Rattle.kr_exec.specs.Answers.{Reaches}
-use Rattle.kr_exec.specs.Exec.{exec_plan, exec_reach}
-use Rattle.kr_exec.specs.Finding.{program_at, program_walk}
-use Rattle.kr_exec.specs.Lists.{at_least_one}
-use Rattle.kr_exec.specs.declared.plan.ExecPlan.{ExecPlan}
+use Rattle.pr_base.specs.declared.path.WalkMode.TheVariants.{Look}
+use Rattle.kr_execve.specs.kr_inode.declared.user.User.{User}
+use Rattle.kr_start.specs.kr_tree.declared.place.Place.{Place}
+use Rattle.kr_start.specs.kr_tree.Tree.{Tree}
+use Rattle.kr_execve.specs.kr_view.declared.target.Reach.{Reach}
+use Rattle.kr_execve.specs.kr_view.declared.target.Target.{Target}
+use Rattle.kr_execve.specs.kr_view.declared.target.WalkFault.{WalkFault}
+use Rattle.kr_execve.specs.kr_view.Answers.{told}
+use Rattle.kr_execve.specs.kr_view.Reach.{reach_after}
+use Rattle.kr_execve.specs.kr_view.View.{Row}
+use Rattle.kr_execve.specs.kr_view.Walk.{PlaceTarget}
+use Rattle.kr_start.specs.kr_model.Walks.{and_then}
+use Rattle.kr_execve.specs.kr_exec.Answers.{Reaches}
+use Rattle.kr_execve.specs.kr_exec.Exec.{exec_plan, exec_reach}
+use Rattle.kr_execve.specs.kr_exec.Finding.{program_at, program_walk}
+use Rattle.kr_execve.specs.kr_exec.Lists.{at_least_one}
+use Rattle.kr_execve.specs.kr_exec.declared.plan.ExecPlan.{ExecPlan}
 use Rattle.kr_start.specs.Start.{started}
 use Rattle.kr_first.specs.declared.starting.First.{First}
 use Rattle.kr_first.specs.Starting.{around, directory_at, directory_walk, exceeds, found_reach, idle_state, is_walked, path_errno, plan_of, plan_reach, process_of, start_from, start_of, start_reach, started_with}
@@ -37,7 +38,7 @@ module _ (table : List Row) (tree : Tree) (user : User) where
     plans t = exec_plan (around table tree user) base (told t) path args env
 
     abbrev walked : Reach → Reach
-    walked r = reach_after (around table tree user) (program_walk (around table tree user) base path) r
+    walked r = reach_after (around table tree user) Look (program_walk (around table tree user) base path) r
 
     pub not-walked : is_walked path ≡ false → plan_of table tree user base path args env ≡ Err (path_errno path)
     not-walked is = ap (λ b. and_then (cond b (program_at (around table tree user) base path) (Err (path_errno path))) plans) is
@@ -76,9 +77,9 @@ module _ (table : List Row) (tree : Tree) (user : User) where
         begun (Ok plan) is
         ∙ ap (λ b. cond b (Err ENOMEM) (Ok (started (process_of tree first.ids base plan) (idle_state table tree user input)))) exceed
 
-    pub start-reach-is : (walked reached : Reach) → walked ≡ reach_after (around table tree user) (directory_walk table tree user first.cwd) first.reach → reached ≡ plan_reach table tree user base first.path args first.env walked
+    pub start-reach-is : (walked reached : Reach) → walked ≡ reach_after (around table tree user) Look (directory_walk table tree user first.cwd) first.reach → reached ≡ plan_reach table tree user base first.path args first.env walked
         → reached ≡ start_reach table tree user first
     start-reach-is walked reached one two =
         two
         ∙ (λ i. plan_reach table tree user base first.path (given i) first.env (one i))
-        ∙ sym (ap (λ (o : Option (Place ℕ)). let r = reach_after (around table tree user) (directory_walk table tree user first.cwd) first.reach in option_map_or (λ base. plan_reach table tree user base first.path (at_least_one first.args) first.env r) o r) cwd)
+        ∙ sym (ap (λ (o : Option (Place ℕ)). let r = reach_after (around table tree user) Look (directory_walk table tree user first.cwd) first.reach in option_map_or (λ base. plan_reach table tree user base first.path (at_least_one first.args) first.env r) o r) cwd)

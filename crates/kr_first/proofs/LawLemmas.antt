@@ -1,9 +1,9 @@
 -- Slashes lead to the root, which is a directory.
 use Rattle.std.proofs.Common.{cond, Some, None, ap, ◌∙◌}
 use Rattle.pr_base.specs.declared.path.WalkMode.TheVariants.{Look}
-use Rattle.kr_view.specs.View.{root_place}
-use Rattle.kr_view.specs.Walk.{PlaceTrail}
-use Rattle.kr_view.proofs.DirectoryLemmas.{slashes_end}
+use Rattle.kr_execve.specs.kr_view.View.{root_place}
+use Rattle.kr_execve.specs.kr_view.Walk.{PlaceTrail}
+use Rattle.kr_execve.proofs.kr_view.DirectoryLemmas.{slashes_end}
 use Rattle.kr_first.specs.Laws.{RootsAreDirectories}
 use Rattle.kr_first.specs.Starting.{around, directory_found}
 use Rattle.kr_first.proofs.StandingLemmas.{root-stands}

@@ -3,14 +3,14 @@ use Rattle.std.specs.FinMap as map
 use Rattle.std.proofs.Common.{◌≡◌, ℕ, ◌+◌, Bool, true, false, List, ap, ◌∙◌}
 use Rattle.std.specs.Ordering.{nat_cmp}
 use Rattle.pr_base.proofs.MapLemmas.{mapped-empty, mapped-insert}
-use Rattle.kr_inode.specs.declared.user.User.{User}
-use Rattle.kr_tree.specs.Tree.{Tree}
-use Rattle.kr_view.specs.Leads.{numbered}
-use Rattle.kr_files.specs.declared.opened.What.{What}
-use Rattle.kr_files.specs.declared.opened.What.TheVariants.{In, Out, Err}
-use Rattle.kr_files.specs.Files.{Counted, Table, empty_table, with_file}
-use Rattle.kr_model.specs.Applied.{in_mount, with_files}
-use Rattle.kr_seen.specs.Numbered.{counted_numbered, state_numbered, table_numbered}
+use Rattle.kr_execve.specs.kr_inode.declared.user.User.{User}
+use Rattle.kr_start.specs.kr_tree.Tree.{Tree}
+use Rattle.kr_execve.specs.kr_view.Leads.{numbered}
+use Rattle.kr_start.specs.kr_files.declared.opened.What.{What}
+use Rattle.kr_start.specs.kr_files.declared.opened.What.TheVariants.{In, Out, Err}
+use Rattle.kr_start.specs.kr_files.Files.{Counted, Table, empty_table, with_file}
+use Rattle.kr_start.specs.kr_model.Applied.{in_mount, with_files}
+use Rattle.kr_execve.specs.kr_seen.Numbered.{counted_numbered, state_numbered, table_numbered}
 use Rattle.kr_start.specs.Start.{console, started, without_processes, First}
 
 -- with one more part of the console, and with all three

@@ -7,33 +7,33 @@ use Rattle.std.specs.Option.{option_and_then, option_map, option_map_or}
 use Rattle.std.proofs.lemmas.Option.{same_Some}
 use Rattle.pr_base.specs.declared.errno.Errno.{Errno}
 use Rattle.pr_base.specs.declared.path.WalkMode.TheVariants.{Look}
-use Rattle.kr_inode.specs.declared.user.User.{User}
-use Rattle.kr_tree.specs.declared.place.Host.TheVariants.{Node}
-use Rattle.kr_tree.specs.declared.place.Place.{Place}
-use Rattle.kr_tree.specs.declared.place.ProcAt.{ProcAt}
-use Rattle.kr_tree.specs.Lawful.{IsKept}
-use Rattle.kr_tree.specs.Tree.{Inode, Tree, inode, is_directory}
-use Rattle.kr_tree.proofs.CountLemmas.{there}
-use Rattle.kr_view.specs.declared.procs.Lead.TheVariants.{Text}
-use Rattle.kr_view.specs.declared.target.WalkFault.{WalkFault}
-use Rattle.kr_view.specs.Answers.{told}
-use Rattle.kr_view.specs.Component.{is_directory_at}
-use Rattle.kr_view.specs.InTree.{IsPlaceOf, StandsAround}
-use Rattle.kr_view.specs.Processes.{no_leads}
-use Rattle.kr_view.specs.View.{Row, StandsIn, is_there, root_place, root_source}
-use Rattle.kr_view.specs.Walk.{PlaceTarget}
-use Rattle.kr_view.proofs.PlaceLemmas.{walks_keep_places}
-use Rattle.kr_view.proofs.ProcessLemmas.{no_processes}
-use Rattle.kr_view.proofs.TableLemmas.{laws_of_places}
-use Rattle.kr_allowed.specs.Texts.{LinksHaveTexts}
-use Rattle.kr_model.specs.Lawful.{IsNameOrNone, is_file_at}
-use Rattle.kr_model.specs.Walks.{and_then}
-use Rattle.kr_allowed.specs.Told.{SourcesAreNamed}
-use Rattle.kr_resolved.proofs.TextLemmas.{IsTextByte}
-use Rattle.kr_exec.specs.Answers.{plan_numbered, Answers}
-use Rattle.kr_exec.specs.Exec.{are_too_big, exec_plan}
-use Rattle.kr_exec.specs.Finding.{program_at}
-use Rattle.kr_exec.specs.declared.plan.ExecPlan.{ExecPlan}
+use Rattle.kr_execve.specs.kr_inode.declared.user.User.{User}
+use Rattle.kr_start.specs.kr_tree.declared.place.Host.TheVariants.{Node}
+use Rattle.kr_start.specs.kr_tree.declared.place.Place.{Place}
+use Rattle.kr_start.specs.kr_tree.declared.place.ProcAt.{ProcAt}
+use Rattle.kr_start.specs.kr_tree.Lawful.{IsKept}
+use Rattle.kr_start.specs.kr_tree.Tree.{Inode, Tree, inode, is_directory}
+use Rattle.kr_start.proofs.kr_tree.CountLemmas.{there}
+use Rattle.kr_execve.specs.kr_view.declared.procs.Lead.TheVariants.{Text}
+use Rattle.kr_execve.specs.kr_view.declared.target.WalkFault.{WalkFault}
+use Rattle.kr_execve.specs.kr_view.Answers.{told}
+use Rattle.kr_execve.specs.kr_view.Component.{is_directory_at}
+use Rattle.kr_execve.specs.kr_view.InTree.{IsPlaceOf, StandsAround}
+use Rattle.kr_execve.specs.kr_view.Processes.{no_leads}
+use Rattle.kr_execve.specs.kr_view.View.{Row, StandsIn, is_there, root_place, root_source}
+use Rattle.kr_execve.specs.kr_view.Walk.{PlaceTarget}
+use Rattle.kr_execve.proofs.kr_view.PlaceLemmas.{walks_keep_places}
+use Rattle.kr_execve.proofs.kr_view.ProcessLemmas.{no_processes}
+use Rattle.kr_execve.proofs.kr_view.TableLemmas.{laws_of_places}
+use Rattle.kr_start.specs.kr_allowed.Texts.{LinksHaveTexts}
+use Rattle.kr_start.specs.kr_model.Lawful.{IsNameOrNone, is_file_at}
+use Rattle.kr_start.specs.kr_model.Walks.{and_then}
+use Rattle.kr_start.specs.kr_allowed.Told.{SourcesAreNamed}
+use Rattle.kr_execve.proofs.kr_resolved.TextLemmas.{IsTextByte}
+use Rattle.kr_execve.specs.kr_exec.Answers.{plan_numbered, Answers}
+use Rattle.kr_execve.specs.kr_exec.Exec.{are_too_big, exec_plan}
+use Rattle.kr_execve.specs.kr_exec.Finding.{program_at}
+use Rattle.kr_execve.specs.kr_exec.declared.plan.ExecPlan.{ExecPlan}
 use Rattle.kr_execve.specs.Executing.{IsLoadable}
 use Rattle.kr_execve.proofs.PlannedLemmas.{planned-of}
 use Rattle.kr_execve.proofs.ProgramLemmas.{planned-stands, program-stands}

@@ -4,19 +4,19 @@ use Rattle.std.specs.Borrow.{RattleType}
 use Rattle.std.specs.Mem.{FitsInMemory}
 use Rattle.pr_base.specs.declared.errno.Errno.{Errno}
 use Rattle.pr_base.specs.declared.errno.Errno.TheVariants.{ENOMEM}
-use Rattle.rv_mem.specs.Memory.{page_count}
-use Rattle.elf_load.specs.Image.{program_break}
-use Rattle.elf_load.specs.declared.image.Image as loaded
-use Rattle.kr_inode.specs.declared.user.User.{User}
-use Rattle.kr_tree.specs.Tree.{Tree}
-use Rattle.kr_view.specs.declared.target.WalkFault.{WalkFault}
-use Rattle.kr_view.specs.declared.target.WalkFault.TheVariants as walk
-use Rattle.kr_view.specs.View.{Row}
-use Rattle.kr_model.specs.State as model
-use Rattle.kr_ops.specs.contracts.state.Process.{the_row}
-use Rattle.kr_ops.specs.Meaning.{meaning}
-use Rattle.kr_seen.specs.Numbered.{state_numbered}
-use Rattle.kr_exec.specs.declared.plan.ExecPlan.{ExecPlan}
+use Rattle.kr_start.specs.rv_mem.Memory.{page_count}
+use Rattle.kr_start.specs.elf_load.Image.{program_break}
+use Rattle.kr_start.specs.elf_load.declared.image.Image as loaded
+use Rattle.kr_execve.specs.kr_inode.declared.user.User.{User}
+use Rattle.kr_start.specs.kr_tree.Tree.{Tree}
+use Rattle.kr_execve.specs.kr_view.declared.target.WalkFault.{WalkFault}
+use Rattle.kr_execve.specs.kr_view.declared.target.WalkFault.TheVariants as walk
+use Rattle.kr_execve.specs.kr_view.View.{Row}
+use Rattle.kr_start.specs.kr_model.State as model
+use Rattle.kr_start.specs.kr_ops.contracts.state.Process.{the_row}
+use Rattle.kr_start.specs.kr_ops.Meaning.{meaning}
+use Rattle.kr_execve.specs.kr_seen.Numbered.{state_numbered}
+use Rattle.kr_execve.specs.kr_exec.declared.plan.ExecPlan.{ExecPlan}
 use Rattle.kr_first.specs.declared.starting.Started.{Started}
 use Rattle.kr_first.specs.declared.starting.StartFault.{StartFault}
 use Rattle.kr_first.specs.declared.starting.StartFault.TheVariants as fault

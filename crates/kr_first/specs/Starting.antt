@@ -1,39 +1,36 @@
 -- How the first process comes to be: execve(2) of a program before a process lives, and the state that begins with it, or an error.
 -- The walk to the working directory comes first; then the tests of the path, and what execve(2) tests in its order.
-use Rattle.std.specs.Prelude.{ℕ, ◌==◌, ◌&&◌, not, nat_lt, Bool, List, length, Option, Some, None, Result, Ok, Err, if◌then◌else◌}
+use Rattle.std.specs.Prelude.{ℕ, ◌==◌, Bool, List, length, Option, Some, None, Result, Ok, Err, if◌then◌else◌}
 use Rattle.std.specs.Option.{option_and_then, option_map_or}
 use Rattle.pr_base.specs.declared.errno.Errno.{Errno}
 use Rattle.pr_base.specs.declared.errno.Errno.TheVariants.{ENAMETOOLONG, ENOENT, ENOMEM}
 use Rattle.pr_base.specs.declared.path.WalkMode.TheVariants.{Look}
-use Rattle.elf_load.specs.Image.{first_regs, image_exceeds, image_memory, program_break}
-use Rattle.kr_inode.specs.declared.user.User.{User}
-use Rattle.kr_tree.specs.declared.place.Place.{Place}
-use Rattle.kr_tree.specs.Tree.{Tree}
-use Rattle.kr_view.specs.declared.target.Reach.{Reach}
-use Rattle.kr_view.specs.Answers.{told}
-use Rattle.kr_view.specs.Component.{Surroundings, is_directory_at}
-use Rattle.kr_view.specs.Processes.{no_finds, no_leads}
-use Rattle.kr_view.specs.Reach.{reach_after}
-use Rattle.kr_view.specs.View.{Row, root_place}
-use Rattle.kr_view.specs.Walk.{PlaceTarget, PlaceTrail, place_walk}
-use Rattle.kr_calls.specs.Decoding.{text_limit}
-use Rattle.kr_model.specs.State.{Image, State}
-use Rattle.kr_model.specs.Walks.{and_then}
-use Rattle.kr_exec.specs.Exec.{exec_plan, exec_reach}
-use Rattle.kr_exec.specs.Finding.{program_at, program_walk}
-use Rattle.kr_exec.specs.Interpreters.{bytes_at}
-use Rattle.kr_exec.specs.Lists.{at_least_one}
-use Rattle.kr_exec.specs.declared.plan.ExecPlan.{ExecPlan}
+pub use Rattle.pr_base.specs.Paths.{is_walked}
+use Rattle.kr_start.specs.elf_load.Image.{first_regs, image_exceeds, image_memory, program_break}
+use Rattle.kr_execve.specs.kr_inode.declared.user.User.{User}
+use Rattle.kr_start.specs.kr_tree.declared.place.Place.{Place}
+use Rattle.kr_start.specs.kr_tree.Tree.{Tree}
+use Rattle.kr_execve.specs.kr_view.declared.target.Reach.{Reach}
+use Rattle.kr_execve.specs.kr_view.Answers.{told}
+use Rattle.kr_execve.specs.kr_view.Component.{Surroundings, is_directory_at}
+use Rattle.kr_execve.specs.kr_view.Processes.{no_finds, no_leads}
+use Rattle.kr_execve.specs.kr_view.Reach.{reach_after}
+use Rattle.kr_execve.specs.kr_view.View.{Row, root_place}
+use Rattle.kr_execve.specs.kr_view.Walk.{PlaceTarget, PlaceTrail, place_walk}
+use Rattle.kr_start.specs.kr_model.State.{Image, State}
+use Rattle.kr_start.specs.kr_model.Walks.{and_then}
+use Rattle.kr_execve.specs.kr_exec.Exec.{exec_plan, exec_reach}
+use Rattle.kr_execve.specs.kr_exec.Finding.{program_at, program_walk}
+use Rattle.kr_execve.specs.kr_exec.Interpreters.{bytes_at}
+use Rattle.kr_execve.specs.kr_exec.Lists.{at_least_one}
+use Rattle.kr_execve.specs.kr_exec.declared.plan.ExecPlan.{ExecPlan}
 use Rattle.kr_start.specs.Start as beginning
 use Rattle.kr_start.specs.Start.{pinned, started, without_processes}
 use Rattle.kr_first.specs.declared.starting.First.{First}
 
 -- ---- the path
 
--- a path that execve(2) walks: it isn't empty, and has at most 4,096 bytes with its zero
-abbrev pub is_walked : List ℕ → Bool
-is_walked path = not (length path == 0) && nat_lt (length path) text_limit
-
+-- why a path isn't walked
 abbrev pub path_errno : List ℕ → Errno
 path_errno path = if length path == 0 then ENOENT else ENAMETOOLONG
 
@@ -122,11 +119,11 @@ module _ (table : List Row) (tree : Tree) (user : User) where
 
   abbrev pub plan_reach : Place ℕ → List ℕ → List (List ℕ) → List (List ℕ) → Reach → Reach
   plan_reach base path args env r =
-      if is_walked path then found_reach base path args env (program_at around base path) (reach_after around (program_walk around base path) r)
+      if is_walked path then found_reach base path args env (program_at around base path) (reach_after around Look (program_walk around base path) r)
       else r
 
   -- also of a start that is refused
   abbrev pub start_reach : First → Reach
   start_reach first =
-      let walked = reach_after around (directory_walk first.cwd) first.reach in
+      let walked = reach_after around Look (directory_walk first.cwd) first.reach in
       option_map_or (λ base. plan_reach base first.path (at_least_one first.args) first.env walked) (directory_at first.cwd) walked

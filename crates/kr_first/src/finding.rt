@@ -1,25 +1,24 @@
 //! The working directory and the program of the first process, looked for before a process lives.
 ghost use Rattle.std.specs.Prelude.{◌≡◌, ℕ, IfOk, OnOk, true, false};
 ghost use Rattle.std.specs.Option.{option_and_then, option_map};
-ghost use Rattle.kr_exec.specs.Answers.{plan_numbered, Answers};
-ghost use Rattle.kr_exec.specs.Finding.{is_program};
+ghost use Rattle.pr_base.specs.declared.path.WalkMode.TheVariants.{Look};
+ghost use Rattle.kr_execve.specs.kr_exec.Answers.{plan_numbered, Answers};
+ghost use Rattle.kr_execve.specs.kr_exec.Finding.{is_program};
 ghost use Rattle.kr_execve.specs.Executing.{IsLoadable};
-ghost use Rattle.kr_first.specs.Starting.{around, directory_at, directory_walk, if_directory, is_walked, path_errno, plan_of, plan_reach};
-ghost use Rattle.kr_view.specs.Component.{is_directory_at};
-ghost use Rattle.kr_view.specs.Leads.{numbered};
-ghost use Rattle.kr_view.specs.Reach.{reach_after};
+ghost use Rattle.kr_first.specs.Starting.{around, directory_at, directory_walk, if_directory, path_errno, plan_of, plan_reach};
+ghost use Rattle.kr_execve.specs.kr_view.Component.{is_directory_at};
+ghost use Rattle.kr_execve.specs.kr_view.Leads.{numbered};
+ghost use Rattle.kr_execve.specs.kr_view.Reach.{reach_after};
 
-use kr_exec::{ExecPlan, Lists, find_exec, plan_exec};
-use kr_tree::{Host, Place, ProcAt, Tree, User};
-use kr_view::{NoProcs, Places, Reach, WalkFault, resolve};
-use pr_base::{Errno, NoMemory, WalkMode};
+use kr_execve::below::{
+    ExecPlan, Lists, NoProcs, Places, Reach, WalkFault, find_exec, plan_exec, resolve,
+};
+use kr_start::below::{Host, Place, ProcAt, Tree, User};
+use pr_base::{Errno, NoMemory, WalkMode, is_walked};
 use std::alloc::Global;
 
 /// The number of the first process, in whose name its walks are made.
 const FIRST: u32 = 2;
-
-/// How many bytes a path has at most, with its zero.
-const TEXT_LIMIT: usize = 4096;
 
 /// The directory to which a path leads from the root before a process lives; `None` exactly where it leads to none. What the walk
 /// reaches is added to `reach`; after want of memory a part of it.
@@ -32,7 +31,7 @@ pub fn directory_at<P: Places>(
     reach: &mut Reach,
 ) -> Result<Option<Place<P::Mount>>, NoMemory>
     ensures place { IfOk result (λ place. option_map (numbered P.number) place ≡ directory_at (P.mounts places.now) tree.now user path.now) }
-    ensures reach { OnOk result (reach.new ≡ reach_after (around (P.mounts places.now) tree.now user) (directory_walk (P.mounts places.now) tree.now user path.now) reach.old) }
+    ensures reach { OnOk result (reach.new ≡ reach_after (around (P.mounts places.now) tree.now user) Look (directory_walk (P.mounts places.now) tree.now user path.now) reach.old) }
 {
     match resolve(
         alloc,
@@ -73,13 +72,6 @@ fn is_directory(tree: &Tree, host: Host) -> bool
         Host::Proc(_, ProcAt::Dir(_) | ProcAt::FdDir(_)) => true,
         Host::Proc(_, _) => false,
     }
-}
-
-/// Whether a path is walked: an empty one isn't, and one that is too long.
-fn is_walked(path: &[u8]) -> bool
-    ensures { result ≡ is_walked path.now }
-{
-    !path.is_empty() && path.len() < TEXT_LIMIT
 }
 
 /// Why a path isn't walked: ENOENT of an empty one, and ENAMETOOLONG of another.

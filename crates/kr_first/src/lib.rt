@@ -1,6 +1,7 @@
 //! How the first process of a kernel comes to be: execve(2) of a program before a process lives, and the state that begins with it.
 #![tactic(auto)]
 
+pub mod below;
 mod finding;
 pub mod laws;
 mod loading;

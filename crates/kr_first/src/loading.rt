@@ -1,16 +1,13 @@
 //! The program of the first process in memory.
 ghost use Rattle.std.specs.Prelude.{◌≡◌};
-ghost use Rattle.kr_exec.specs.Interpreters.{bytes_at};
+ghost use Rattle.kr_execve.specs.kr_exec.Interpreters.{bytes_at};
 ghost use Rattle.kr_execve.specs.Executing.{IsLoadable};
 ghost use Rattle.kr_first.specs.Started.{Gives};
-ghost use Rattle.kr_tree.specs.declared.place.Host.TheVariants.{Node};
+ghost use Rattle.kr_start.specs.kr_tree.declared.place.Host.TheVariants.{Node};
 
-use elf_load::{Image, LoadFault, load};
-use kr_exec::ExecPlan;
-use kr_tree::{Ino, Tree};
-use kr_view::WalkFault;
+use kr_execve::below::{ExecPlan, WalkFault};
+use kr_start::below::{Image, Ino, LoadFault, Room, Tree, load};
 use pr_base::Errno;
-use rv_mem::Room;
 use std::alloc::Global;
 
 /// The bytes of a file; none of what is none.

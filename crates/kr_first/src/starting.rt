@@ -1,28 +1,24 @@
 //! The start of a run: its first process, and the state that begins with it.
 ghost use Rattle.std.specs.Prelude.{◌≡◌, ◌<◌, ◌^◌, length, IfOk};
-ghost use Rattle.kr_allowed.specs.Told.{SourcesAreNamed};
+ghost use Rattle.kr_start.specs.kr_allowed.Told.{SourcesAreNamed};
 ghost use Rattle.kr_calling.specs.Calling.{Runs};
-ghost use Rattle.kr_exec.specs.Answers.{Answers};
-ghost use Rattle.kr_exec.specs.Lists.{at_least_one};
+ghost use Rattle.kr_execve.specs.kr_exec.Answers.{Answers};
+ghost use Rattle.kr_execve.specs.kr_exec.Lists.{at_least_one};
 ghost use Rattle.kr_first.specs.Started.{state_of, HasSizedProcesses, IsStarted, LeadsToDirectory};
 ghost use Rattle.kr_first.specs.Starting.{start_of, start_reach};
-ghost use Rattle.kr_allowed.specs.Texts.{IsText};
-ghost use Rattle.kr_listed.specs.Beginning.{CanLast};
+ghost use Rattle.kr_start.specs.kr_allowed.Texts.{IsText};
+ghost use Rattle.kr_start.specs.kr_listed.Beginning.{CanLast};
 ghost use Rattle.kr_start.specs.Start.{HasNoHolds};
-ghost use Rattle.kr_tree.specs.Lawful.{AreBytes};
-ghost use Rattle.kr_view.specs.View.{StandsIn};
+ghost use Rattle.kr_start.specs.kr_tree.Lawful.{AreBytes};
+ghost use Rattle.kr_execve.specs.kr_view.View.{StandsIn};
 
 use crate::finding::{directory_at, plan};
 use crate::loading::image_of;
-use kr_exec::Lists;
-use kr_ops::State;
+use kr_execve::below::{Lists, Places, Reach, WalkFault};
+use kr_start::below::{Room, State, Tree, User, trees_are_kept};
 use kr_start::laws::starts_last;
 use kr_start::{begin, idle};
-use kr_tree::laws::trees_are_kept;
-use kr_tree::{Tree, User};
-use kr_view::{Places, Reach, WalkFault};
 use pr_base::{Bytes, Errno, NoMemory, Texts};
-use rv_mem::Room;
 use std::alloc::Global;
 
 /// What is asked of a start.

@@ -2,23 +2,23 @@
 use Rattle.std.proofs.Common.{◌≡◌, ℕ, Bool, true, false, List, [], Option, Some, None, refl}
 use Rattle.std.specs.Bool.{if◌then◌else◌}
 use Rattle.std.specs.Option.{option_map_or}
-use Rattle.kr_tree.specs.declared.place.Place.{Place}
-use Rattle.kr_tree.specs.declared.place.ProcAt.{ProcAt}
-use Rattle.kr_tree.specs.declared.place.ProcAt.TheVariants.{SelfLink, Dir, Cwd, Root, Exe, FdDir, Fd}
-use Rattle.kr_tree.specs.Tree.{Tree}
-use Rattle.kr_view.specs.declared.procs.Lead.TheVariants.{Jump, Nameless, NoLink}
-use Rattle.kr_view.specs.Component.{Namespace}
-use Rattle.kr_view.specs.HostReach.{host_place}
-use Rattle.kr_view.specs.InTree.{IsPlaceOf}
-use Rattle.kr_view.specs.Leads.{numbered}
-use Rattle.kr_view.specs.Names.{guest_name}
-use Rattle.kr_view.specs.View.{Row, StandsIn, is_there, plain, root_place}
-use Rattle.kr_view.proofs.TableLemmas.{plain_stands}
-use Rattle.kr_files.specs.declared.opened.Opened.{Opened}
-use Rattle.kr_model.specs.HostView.{host_leads, host_open, host_space}
-use Rattle.kr_model.specs.Lawful.{IsLawful}
-use Rattle.kr_model.specs.ProcessDirectory.{jump_to, remembered}
-use Rattle.kr_model.specs.State.{Image, Process, State, opened, process}
+use Rattle.kr_seen.specs.kr_tree.declared.place.Place.{Place}
+use Rattle.kr_seen.specs.kr_tree.declared.place.ProcAt.{ProcAt}
+use Rattle.kr_seen.specs.kr_tree.declared.place.ProcAt.TheVariants.{SelfLink, Dir, Cwd, Root, Exe, FdDir, Fd}
+use Rattle.kr_seen.specs.kr_tree.Tree.{Tree}
+use Rattle.kr_seen.specs.kr_view.declared.procs.Lead.TheVariants.{Jump, Nameless, NoLink}
+use Rattle.kr_seen.specs.kr_view.Component.{Namespace}
+use Rattle.kr_seen.specs.kr_view.HostReach.{host_place}
+use Rattle.kr_seen.specs.kr_view.InTree.{IsPlaceOf}
+use Rattle.kr_seen.specs.kr_view.Leads.{numbered}
+use Rattle.kr_seen.specs.kr_view.Names.{guest_name}
+use Rattle.kr_seen.specs.kr_view.View.{Row, StandsIn, is_there, plain, root_place}
+use Rattle.kr_seen.proofs.kr_view.TableLemmas.{plain_stands}
+use Rattle.kr_seen.specs.kr_files.declared.opened.Opened.{Opened}
+use Rattle.kr_seen.specs.kr_model.HostView.{host_leads, host_open, host_space}
+use Rattle.kr_seen.specs.kr_model.Lawful.{IsLawful}
+use Rattle.kr_seen.specs.kr_model.ProcessDirectory.{jump_to, remembered}
+use Rattle.kr_seen.specs.kr_model.State.{Image, Process, State, opened, process}
 use Rattle.kr_seen.specs.Shown.{Target, Nothing, Unplaced, At, cwd_target, exe_target, lead_to, opened_target}
 use Rattle.kr_seen.specs.Standing.{IsStanding}
 use Rattle.kr_seen.proofs.StandingLemmas.{IsLed, cwd-led, exe-led, led-stands, open-led, root-led}

@@ -3,27 +3,27 @@ use Rattle.std.proofs.Common.{◌≡◌, ℕ, ◌≤◌, ◌^◌, Bool, true, fa
 use Rattle.std.specs.Bool.{if◌then◌else◌}
 use Rattle.std.specs.Option.{option_map, option_map_or}
 use Rattle.pr_base.specs.Peeks.{NamesAreTexts}
-use Rattle.kr_tree.specs.declared.place.Place.{Place}
-use Rattle.kr_tree.specs.declared.place.ProcAt.{ProcAt}
-use Rattle.kr_tree.specs.declared.place.ProcAt.TheVariants.{SelfLink, Dir, Cwd, Root, Exe, FdDir, Fd}
-use Rattle.kr_tree.proofs.CountLemmas.{there}
-use Rattle.kr_view.specs.declared.procs.Lead.TheVariants.{Text, Jump, Nameless, NoLink}
-use Rattle.kr_view.specs.Component.{Namespace}
-use Rattle.kr_view.specs.HostReach.{host_place}
-use Rattle.kr_view.specs.InTree.{LeadToPlaces}
-use Rattle.kr_view.specs.Leads.{lead_numbered, numbered}
-use Rattle.kr_view.specs.Living.{finds_among}
-use Rattle.kr_view.specs.Names.{guest_name}
-use Rattle.kr_view.specs.Processes.{LawsOfProcesses}
-use Rattle.kr_view.specs.View.{Row, is_there, plain, root_place}
-use Rattle.kr_view.proofs.LivingLemmas.{living_processes}
-use Rattle.kr_files.specs.declared.opened.Opened.{Opened}
-use Rattle.kr_model.specs.HostView.{host_leads, host_open, host_space}
-use Rattle.kr_model.specs.Lawful.{IsLawful}
-use Rattle.kr_model.specs.Peeks.{peeked_of}
-use Rattle.kr_model.specs.ProcessDirectory.{jump_to, lead_of_open, leads_of, living_of, remembered, space_of}
-use Rattle.kr_model.specs.State.{Image, Process, State, opened, process}
-use Rattle.kr_model.proofs.ToldLemmas.{told_names_are_texts}
+use Rattle.kr_seen.specs.kr_tree.declared.place.Place.{Place}
+use Rattle.kr_seen.specs.kr_tree.declared.place.ProcAt.{ProcAt}
+use Rattle.kr_seen.specs.kr_tree.declared.place.ProcAt.TheVariants.{SelfLink, Dir, Cwd, Root, Exe, FdDir, Fd}
+use Rattle.kr_seen.proofs.kr_tree.CountLemmas.{there}
+use Rattle.kr_seen.specs.kr_view.declared.procs.Lead.TheVariants.{Text, Jump, Nameless, NoLink}
+use Rattle.kr_seen.specs.kr_view.Component.{Namespace}
+use Rattle.kr_seen.specs.kr_view.HostReach.{host_place}
+use Rattle.kr_seen.specs.kr_view.InTree.{LeadToPlaces}
+use Rattle.kr_seen.specs.kr_view.Leads.{lead_numbered, numbered}
+use Rattle.kr_seen.specs.kr_view.Living.{finds_among}
+use Rattle.kr_seen.specs.kr_view.Names.{guest_name}
+use Rattle.kr_seen.specs.kr_view.Processes.{LawsOfProcesses}
+use Rattle.kr_seen.specs.kr_view.View.{Row, is_there, plain, root_place}
+use Rattle.kr_seen.proofs.kr_view.LivingLemmas.{living_processes}
+use Rattle.kr_seen.specs.kr_files.declared.opened.Opened.{Opened}
+use Rattle.kr_seen.specs.kr_model.HostView.{host_leads, host_open, host_space}
+use Rattle.kr_seen.specs.kr_model.Lawful.{IsLawful}
+use Rattle.kr_seen.specs.kr_model.Peeks.{peeked_of}
+use Rattle.kr_seen.specs.kr_model.ProcessDirectory.{jump_to, lead_of_open, leads_of, living_of, remembered, space_of}
+use Rattle.kr_seen.specs.kr_model.State.{Image, Process, State, opened, process}
+use Rattle.kr_seen.proofs.kr_model.ToldLemmas.{told_names_are_texts}
 use Rattle.kr_seen.specs.Numbered.{opened_numbered, process_numbered, state_numbered}
 use Rattle.kr_seen.specs.Shown.{lead_to}
 use Rattle.kr_seen.proofs.NumberedLemmas.{living-numbered, opened-numbered, process-numbered}

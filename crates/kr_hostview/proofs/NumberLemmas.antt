@@ -2,22 +2,22 @@
 use Rattle.std.proofs.Common.{◌≡◌, ℕ, [], Option, Some, None, refl, sym, ap, ◌∙◌}
 use Rattle.std.specs.Option.{option_map, option_map_or, option_and_then}
 use Rattle.pr_base.specs.declared.path.WalkMode.TheVariants.{LookLink}
-use Rattle.kr_tree.specs.declared.place.Host.{Host}
-use Rattle.kr_tree.specs.declared.place.Host.TheVariants.{Node, Proc}
-use Rattle.kr_tree.specs.declared.place.Place.{Place}
-use Rattle.kr_tree.specs.declared.place.ProcAt.{ProcAt}
-use Rattle.kr_tree.specs.declared.place.ProcAt.TheVariants.{SelfLink, Dir, Cwd, Root, Exe, FdDir, Fd}
-use Rattle.kr_view.specs.declared.procs.Lead.TheVariants.{Nameless, NoLink}
-use Rattle.kr_view.specs.HostReach.{host_place}
-use Rattle.kr_view.specs.Leads.{numbered}
-use Rattle.kr_view.specs.Living.{finds_among}
-use Rattle.kr_view.specs.View.{plain, root_place}
-use Rattle.kr_view.specs.Walk.{place_walk}
-use Rattle.kr_files.specs.declared.opened.Opened.{Opened}
-use Rattle.kr_model.specs.HostView.{base_name, base_text, cwd_name, exe_name, host_around_of, host_leads, host_open, host_space, linked_text, open_name}
-use Rattle.kr_model.specs.Peeks.{head_at, kind_along, kind_of_base, link_text_at, name_or_none, peeked_of, read_of}
-use Rattle.kr_model.specs.ProcessDirectory.{jump_to, name_text, unplaced_text}
-use Rattle.kr_model.specs.State.{Image, Process, State, opened, process}
+use Rattle.kr_seen.specs.kr_tree.declared.place.Host.{Host}
+use Rattle.kr_seen.specs.kr_tree.declared.place.Host.TheVariants.{Node, Proc}
+use Rattle.kr_seen.specs.kr_tree.declared.place.Place.{Place}
+use Rattle.kr_seen.specs.kr_tree.declared.place.ProcAt.{ProcAt}
+use Rattle.kr_seen.specs.kr_tree.declared.place.ProcAt.TheVariants.{SelfLink, Dir, Cwd, Root, Exe, FdDir, Fd}
+use Rattle.kr_seen.specs.kr_view.declared.procs.Lead.TheVariants.{Nameless, NoLink}
+use Rattle.kr_seen.specs.kr_view.HostReach.{host_place}
+use Rattle.kr_seen.specs.kr_view.Leads.{numbered}
+use Rattle.kr_seen.specs.kr_view.Living.{finds_among}
+use Rattle.kr_seen.specs.kr_view.View.{plain, root_place}
+use Rattle.kr_seen.specs.kr_view.Walk.{place_walk}
+use Rattle.kr_seen.specs.kr_files.declared.opened.Opened.{Opened}
+use Rattle.kr_seen.specs.kr_model.HostView.{base_name, base_text, cwd_name, exe_name, host_around_of, host_leads, host_open, host_space, linked_text, open_name}
+use Rattle.kr_seen.specs.kr_model.Peeks.{head_at, kind_along, kind_of_base, link_text_at, name_or_none, peeked_of, read_of}
+use Rattle.kr_seen.specs.kr_model.ProcessDirectory.{jump_to, name_text, unplaced_text}
+use Rattle.kr_seen.specs.kr_model.State.{Image, Process, State, opened, process}
 use Rattle.kr_seen.specs.Numbered.{opened_numbered, process_numbered, state_numbered}
 use Rattle.kr_seen.proofs.NumberedLemmas.{living-numbered, opened-numbered, process-numbered}
 

@@ -4,22 +4,22 @@ use Rattle.std.specs.Option.{option_map}
 use Rattle.pr_base.specs.declared.errno.Errno.{Errno}
 use Rattle.pr_base.specs.declared.errno.Errno.TheVariants.{ENOENT}
 use Rattle.pr_base.specs.declared.path.WalkMode.TheVariants.{LookLink}
-use Rattle.kr_tree.specs.declared.place.Host.{Host}
-use Rattle.kr_tree.specs.declared.place.Place.{Place}
-use Rattle.kr_view.specs.declared.target.Target.{Target}
-use Rattle.kr_view.specs.declared.target.WalkFault.{WalkFault}
-use Rattle.kr_view.specs.declared.view.HostMount.{HostMount}
-use Rattle.kr_view.specs.Answers.{IsAnswer}
-use Rattle.kr_view.specs.Leads.{numbered}
-use Rattle.kr_view.specs.Living.{finds_among}
-use Rattle.kr_view.specs.View.{plain, root_place}
-use Rattle.kr_view.specs.Walk.{PlaceTarget, place_walk, surroundings}
-use Rattle.kr_model.specs.HostView.{host_around_of, host_leads, host_space}
-use Rattle.kr_model.specs.Peeks.{answer_along, at_found, kind_of_answer, kind_seen}
-use Rattle.kr_model.specs.ProcessDirectory.{living_of}
-use Rattle.kr_model.specs.State.{Image, State}
-use Rattle.kr_ops.specs.declared.state.State.{State as Held}
-use Rattle.kr_ops.specs.Meaning.{meaning}
+use Rattle.kr_seen.specs.kr_tree.declared.place.Host.{Host}
+use Rattle.kr_seen.specs.kr_tree.declared.place.Place.{Place}
+use Rattle.kr_seen.specs.kr_view.declared.target.Target.{Target}
+use Rattle.kr_seen.specs.kr_view.declared.target.WalkFault.{WalkFault}
+use Rattle.kr_seen.specs.kr_view.declared.view.HostMount.{HostMount}
+use Rattle.kr_seen.specs.kr_view.Answers.{IsAnswer}
+use Rattle.kr_seen.specs.kr_view.Leads.{numbered}
+use Rattle.kr_seen.specs.kr_view.Living.{finds_among}
+use Rattle.kr_seen.specs.kr_view.View.{plain, root_place}
+use Rattle.kr_seen.specs.kr_view.Walk.{PlaceTarget, place_walk, surroundings}
+use Rattle.kr_seen.specs.kr_model.HostView.{host_around_of, host_leads, host_space}
+use Rattle.kr_seen.specs.kr_model.Peeks.{answer_along, at_found, kind_of_answer, kind_seen}
+use Rattle.kr_seen.specs.kr_model.ProcessDirectory.{living_of}
+use Rattle.kr_seen.specs.kr_model.State.{Image, State}
+use Rattle.kr_seen.specs.kr_ops.declared.state.State.{State as Held}
+use Rattle.kr_seen.specs.kr_ops.Meaning.{meaning}
 use Rattle.kr_hostview.specs.OnHost.{lead_on_host, number}
 use Rattle.kr_hostview.specs.Peeking.{IsFound, kind_at}
 use Rattle.kr_hostview.proofs.LawLemmas.{told-same}

@@ -1,9 +1,9 @@
 -- What peeks are asked of: a state, in the name of a caller, of which all names that are told are texts.
 use Rattle.std.specs.Prelude.{ℕ}
 use Rattle.pr_base.specs.Peeks.{NamesAreTexts}
-use Rattle.kr_model.specs.Peeks.{peeked_of}
-use Rattle.kr_ops.specs.declared.state.State.{State}
-use Rattle.kr_ops.specs.Meaning.{meaning}
+use Rattle.kr_seen.specs.kr_model.Peeks.{peeked_of}
+use Rattle.kr_seen.specs.kr_ops.declared.state.State.{State}
+use Rattle.kr_seen.specs.kr_ops.Meaning.{meaning}
 
 pub record Asked (T : Type 0) (M : ℕ) : Type 0 where
   pub state : State T M

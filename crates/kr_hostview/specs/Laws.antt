@@ -2,18 +2,18 @@
 -- are.
 use Rattle.std.specs.Prelude.{◌≡◌, ℕ, ◌≤◌, ◌^◌, List}
 use Rattle.pr_base.specs.Peeks.{NamesAreTexts}
-use Rattle.kr_tree.specs.declared.place.Place.{Place}
-use Rattle.kr_tree.specs.declared.place.ProcAt.{ProcAt}
-use Rattle.kr_view.specs.HostReach.{host_place}
-use Rattle.kr_view.specs.InTree.{IsPlaceOf, LeadToPlaces, StandsAround}
-use Rattle.kr_view.specs.Leads.{lead_numbered, numbered}
-use Rattle.kr_view.specs.Processes.{LawsOfProcesses}
-use Rattle.kr_view.specs.View.{Row, StandsIn, plain}
-use Rattle.kr_model.specs.HostView.{host_around_of, host_leads, host_space}
-use Rattle.kr_model.specs.Lawful.{IsLawful}
-use Rattle.kr_model.specs.Peeks.{peeked_of}
-use Rattle.kr_model.specs.ProcessDirectory.{leads_of, space_of}
-use Rattle.kr_model.specs.State.{Image, State}
+use Rattle.kr_seen.specs.kr_tree.declared.place.Place.{Place}
+use Rattle.kr_seen.specs.kr_tree.declared.place.ProcAt.{ProcAt}
+use Rattle.kr_seen.specs.kr_view.HostReach.{host_place}
+use Rattle.kr_seen.specs.kr_view.InTree.{IsPlaceOf, LeadToPlaces, StandsAround}
+use Rattle.kr_seen.specs.kr_view.Leads.{lead_numbered, numbered}
+use Rattle.kr_seen.specs.kr_view.Processes.{LawsOfProcesses}
+use Rattle.kr_seen.specs.kr_view.View.{Row, StandsIn, plain}
+use Rattle.kr_seen.specs.kr_model.HostView.{host_around_of, host_leads, host_space}
+use Rattle.kr_seen.specs.kr_model.Lawful.{IsLawful}
+use Rattle.kr_seen.specs.kr_model.Peeks.{peeked_of}
+use Rattle.kr_seen.specs.kr_model.ProcessDirectory.{leads_of, space_of}
+use Rattle.kr_seen.specs.kr_model.State.{Image, State}
 use Rattle.kr_seen.specs.Numbered.{state_numbered}
 use Rattle.kr_hostview.specs.OnHost.{lead_on_host, number}
 

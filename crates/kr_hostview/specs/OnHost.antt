@@ -1,13 +1,13 @@
 -- Objects in the one mount of the host's own view, whatever the mounts of a state are.
 use Rattle.std.specs.Prelude.{ℕ, []}
-use Rattle.kr_tree.specs.declared.place.Place.{Place}
-use Rattle.kr_tree.specs.declared.place.ProcAt.{ProcAt}
-use Rattle.kr_tree.specs.declared.place.ProcAt.TheVariants.{SelfLink, Dir, Cwd, Root, Exe, FdDir, Fd}
-use Rattle.kr_view.specs.declared.procs.Lead.{Lead}
-use Rattle.kr_view.specs.declared.procs.Lead.TheVariants.{Text, Jump, Nameless, NoLink}
-use Rattle.kr_view.specs.declared.view.HostMount.{HostMount}
-use Rattle.kr_view.specs.View.{plain, root_place}
-use Rattle.kr_model.specs.State.{Image, State}
+use Rattle.kr_seen.specs.kr_tree.declared.place.Place.{Place}
+use Rattle.kr_seen.specs.kr_tree.declared.place.ProcAt.{ProcAt}
+use Rattle.kr_seen.specs.kr_tree.declared.place.ProcAt.TheVariants.{SelfLink, Dir, Cwd, Root, Exe, FdDir, Fd}
+use Rattle.kr_seen.specs.kr_view.declared.procs.Lead.{Lead}
+use Rattle.kr_seen.specs.kr_view.declared.procs.Lead.TheVariants.{Text, Jump, Nameless, NoLink}
+use Rattle.kr_seen.specs.kr_view.declared.view.HostMount.{HostMount}
+use Rattle.kr_seen.specs.kr_view.View.{plain, root_place}
+use Rattle.kr_seen.specs.kr_model.State.{Image, State}
 use Rattle.kr_seen.specs.Shown.{Target, Nothing, Unplaced, At, cwd_target, exe_target}
 use Rattle.kr_seen.specs.Targets.{opened_target_of, process_target}
 

@@ -5,16 +5,16 @@ use Rattle.pr_base.specs.declared.errno.Errno.{Errno}
 use Rattle.pr_base.specs.declared.peeks.PeekFault.{PeekFault}
 use Rattle.pr_base.specs.declared.peeks.PeekFault.TheVariants as fault
 use Rattle.pr_base.specs.declared.peeks.PeekKind.{PeekKind}
-use Rattle.kr_tree.specs.declared.place.Host.{Host}
-use Rattle.kr_view.specs.declared.view.HostMount.{HostMount}
-use Rattle.kr_view.specs.Component.{Namespace, seen_at}
-use Rattle.kr_view.specs.HostReach.{host_place}
-use Rattle.kr_view.specs.Leads.{numbered}
-use Rattle.kr_view.specs.Walk.{PlaceTarget}
-use Rattle.kr_model.specs.HostView.{host_around_of}
-use Rattle.kr_model.specs.Peeks.{kind_seen}
-use Rattle.kr_model.specs.ProcessDirectory.{name_text}
-use Rattle.kr_model.specs.State.{Image, State}
+use Rattle.kr_seen.specs.kr_tree.declared.place.Host.{Host}
+use Rattle.kr_seen.specs.kr_view.declared.view.HostMount.{HostMount}
+use Rattle.kr_seen.specs.kr_view.Component.{Namespace, seen_at}
+use Rattle.kr_seen.specs.kr_view.HostReach.{host_place}
+use Rattle.kr_seen.specs.kr_view.Leads.{numbered}
+use Rattle.kr_seen.specs.kr_view.Walk.{PlaceTarget}
+use Rattle.kr_seen.specs.kr_model.HostView.{host_around_of}
+use Rattle.kr_seen.specs.kr_model.Peeks.{kind_seen}
+use Rattle.kr_seen.specs.kr_model.ProcessDirectory.{name_text}
+use Rattle.kr_seen.specs.kr_model.State.{Image, State}
 use Rattle.kr_seen.specs.Shown.{Target, Nothing, Unplaced, At}
 use Rattle.kr_hostview.specs.OnHost.{number}
 

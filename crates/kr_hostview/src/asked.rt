@@ -1,12 +1,12 @@
 //! What a tracer may ask of a state.
 ghost use Rattle.std.specs.Prelude.{◌≡◌};
 ghost use Rattle.pr_base.specs.Peeks.{NamesAreTexts};
-ghost use Rattle.kr_model.specs.Peeks.{peeked_of};
-ghost use Rattle.kr_ops.specs.Meaning.{meaning};
-ghost use Rattle.kr_ops.specs.Sound.{IsOfView};
+ghost use Rattle.kr_seen.specs.kr_model.Peeks.{peeked_of};
+ghost use Rattle.kr_seen.specs.kr_ops.Meaning.{meaning};
+ghost use Rattle.kr_seen.specs.kr_ops.Sound.{IsOfView};
 
 use crate::peeks;
-use kr_ops::State;
+use kr_seen::below::State;
 use pr_base::{BaseKind, Bytes, NoMemory, PeekFault, PeekKind, Peeks};
 use std::alloc::Global;
 use std::marker::Model;
@@ -22,11 +22,11 @@ pub struct HostPeeks<'a, T, const M: u8> {
 
 impl<'a, T, const M: u8> Model for HostPeeks<'a, T, M> {
     ghost use Rattle.std.specs.Coded.{codes};
-    ghost use Rattle.rv_mem.specs.Memory.{memory_code};
-    ghost use Rattle.kr_tree.specs.Tree.{tree_code};
-    ghost use Rattle.kr_files.specs.Descriptors.{descriptors_code};
-    ghost use Rattle.kr_files.specs.Files.{kept_code};
-    ghost use Rattle.kr_ops.specs.Sound.{IsOfView};
+    ghost use Rattle.kr_seen.specs.rv_mem.Memory.{memory_code};
+    ghost use Rattle.kr_seen.specs.kr_tree.Tree.{tree_code};
+    ghost use Rattle.kr_seen.specs.kr_files.Descriptors.{descriptors_code};
+    ghost use Rattle.kr_seen.specs.kr_files.Files.{kept_code};
+    ghost use Rattle.kr_seen.specs.kr_ops.Sound.{IsOfView};
     ghost use Rattle.kr_hostview.specs.Asked.{Asked};
 
     ghost Value = { Asked T M };
@@ -57,8 +57,8 @@ pub fn host_peeks<'a, T: Copy, const M: u8>(
 }
 
 impl<'a, T: Copy, const M: u8> Peeks for HostPeeks<'a, T, M> {
-    ghost use Rattle.kr_model.specs.Peeks.{peeked_of};
-    ghost use Rattle.kr_ops.specs.Meaning.{meaning};
+    ghost use Rattle.kr_seen.specs.kr_model.Peeks.{peeked_of};
+    ghost use Rattle.kr_seen.specs.kr_ops.Meaning.{meaning};
     ghost use Rattle.kr_hostview.specs.Asked.{Asked};
     ghost use Rattle.kr_hostview.specs.Texts.{texts-told};
 

@@ -3,6 +3,7 @@
 #![tactic(auto)]
 
 mod asked;
+pub mod below;
 pub mod laws;
 pub mod peeks;
 mod target;

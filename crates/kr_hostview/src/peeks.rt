@@ -2,30 +2,29 @@
 ghost use Rattle.std.specs.Prelude.{◌≡◌, ℕ, ◌<◌, ◌^◌, [], take, IfOk, Ok, Err};
 ghost use Rattle.std.specs.Option.{option_map};
 ghost use Rattle.pr_base.specs.Peeks.{IsPeeked, NamesAreTexts};
-ghost use Rattle.kr_view.specs.Answers.{IsAnswer};
-ghost use Rattle.kr_view.specs.View.{plain, root_place};
-ghost use Rattle.kr_view.specs.declared.view.HostMount.{HostMount};
-ghost use Rattle.kr_model.specs.HostView.{base_name, base_text, cwd_name, exe_name, host_space};
-ghost use Rattle.kr_model.specs.Peeks.{answer_along, head_at, kind_of_base, link_text_at, name_or_none, peeked_of};
-ghost use Rattle.kr_model.specs.ProcessDirectory.{name_text};
-ghost use Rattle.kr_model.specs.State.{opened};
-ghost use Rattle.kr_ops.specs.Meaning.{meaning};
-ghost use Rattle.kr_ops.specs.Sound.{IsOfView};
+ghost use Rattle.kr_seen.specs.kr_view.Answers.{IsAnswer};
+ghost use Rattle.kr_seen.specs.kr_view.View.{plain, root_place};
+ghost use Rattle.kr_seen.specs.kr_view.declared.view.HostMount.{HostMount};
+ghost use Rattle.kr_seen.specs.kr_model.HostView.{base_name, base_text, cwd_name, exe_name, host_space};
+ghost use Rattle.kr_seen.specs.kr_model.Peeks.{answer_along, head_at, kind_of_base, link_text_at, name_or_none, peeked_of};
+ghost use Rattle.kr_seen.specs.kr_model.ProcessDirectory.{name_text};
+ghost use Rattle.kr_seen.specs.kr_model.State.{opened};
+ghost use Rattle.kr_seen.specs.kr_ops.Meaning.{meaning};
+ghost use Rattle.kr_seen.specs.kr_ops.Sound.{IsOfView};
 ghost use Rattle.kr_seen.specs.Standing.{IsStanding};
 ghost use Rattle.kr_seen.specs.Targets.{target_told};
-ghost use Rattle.kr_tree.specs.declared.place.Host.TheVariants.{Node, Proc};
+ghost use Rattle.kr_seen.specs.kr_tree.declared.place.Host.TheVariants.{Node, Proc};
 ghost use Rattle.kr_hostview.specs.OnHost.{number};
 ghost use Rattle.kr_hostview.specs.Peeking.{IsFound, kind_at, target_name};
 
 use crate::target::{carries_one_mount, standing_target};
 use crate::view::host_procs;
-use kr_files::What;
-use kr_ops::State;
-use kr_procfs::proc_name;
+use kr_seen::below::{
+    Host, HostMount, Ino, Kind, Places, Plain, ProcAt, Reach, Right, State, Target, WalkFault,
+    What, proc_name, resolve,
+};
 use kr_seen::guest::{guest_text, text_to};
 use kr_seen::target::Target as Led;
-use kr_tree::{Host, Ino, Kind, ProcAt, Right};
-use kr_view::{HostMount, Places, Plain, Reach, Target, WalkFault, resolve};
 use pr_base::{BaseKind, Bytes, Errno, NoMemory, PeekFault, PeekKind, WalkMode};
 use std::alloc::Global;
 

@@ -1,18 +1,15 @@
 //! What the links of the process directory lead to in the host's own view.
 ghost use Rattle.std.specs.Prelude.{◌≡◌};
-ghost use Rattle.kr_view.specs.View.{plain};
-ghost use Rattle.kr_ops.specs.Meaning.{meaning};
-ghost use Rattle.kr_ops.specs.Sound.{IsOfView, IsSound};
+ghost use Rattle.kr_seen.specs.kr_view.View.{plain};
+ghost use Rattle.kr_seen.specs.kr_ops.Meaning.{meaning};
+ghost use Rattle.kr_seen.specs.kr_ops.Sound.{IsOfView, IsSound};
 ghost use Rattle.kr_seen.specs.Carried.{CarriesMounts};
 ghost use Rattle.kr_seen.specs.Standing.{IsStanding};
 ghost use Rattle.kr_seen.specs.Targets.{target_told};
 ghost use Rattle.kr_hostview.specs.OnHost.{host_target, number, target_on_host};
 
-use kr_ops::State;
-use kr_ops::laws::lawful_states_are_sound;
+use kr_seen::below::{HostMount, Place, Places, Plain, ProcAt, State, lawful_states_are_sound};
 use kr_seen::target::{Target, cwd_of, exe_of, open_at, root_of};
-use kr_tree::{Place, ProcAt};
-use kr_view::{HostMount, Places, Plain};
 
 /// The same object in the one host mount.
 fn on_host<T: Copy>(target: Target<'_, T>) -> Target<'_, HostMount>

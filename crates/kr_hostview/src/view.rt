@@ -1,18 +1,15 @@
 //! The process directory of the host's own view over a state.
 ghost use Rattle.std.specs.Prelude.{◌≡◌, IfOk};
-ghost use Rattle.kr_model.specs.HostView.{host_space};
-ghost use Rattle.kr_ops.specs.Meaning.{meaning};
-ghost use Rattle.kr_ops.specs.Sound.{IsOfView};
+ghost use Rattle.kr_seen.specs.kr_model.HostView.{host_space};
+ghost use Rattle.kr_seen.specs.kr_ops.Meaning.{meaning};
+ghost use Rattle.kr_seen.specs.kr_ops.Sound.{IsOfView};
 ghost use Rattle.kr_seen.specs.Shown.{lead_to};
 ghost use Rattle.kr_hostview.specs.OnHost.{host_target, number};
 
 use crate::target::{carries_one_mount, standing_target};
-use kr_ops::State;
-use kr_procfs::proc_name;
+use kr_seen::below::{HostMount, Lead, Plain, ProcAt, Procs, State, proc_name};
 use kr_seen::find::find;
 use kr_seen::guest::lead_to;
-use kr_tree::ProcAt;
-use kr_view::{HostMount, Lead, Plain, Procs};
 use pr_base::NoMemory;
 use std::alloc::Global;
 use std::marker::Model;
@@ -27,12 +24,12 @@ pub struct HostProcs<'a, T, const M: u8> {
 
 impl<'a, T, const M: u8> Model for HostProcs<'a, T, M> {
     ghost use Rattle.std.specs.Coded.{codes};
-    ghost use Rattle.rv_mem.specs.Memory.{memory_code};
-    ghost use Rattle.kr_tree.specs.Tree.{tree_code};
-    ghost use Rattle.kr_files.specs.Descriptors.{descriptors_code};
-    ghost use Rattle.kr_files.specs.Files.{kept_code};
-    ghost use Rattle.kr_ops.specs.declared.state.State.{State};
-    ghost use Rattle.kr_ops.specs.Sound.{IsOfView};
+    ghost use Rattle.kr_seen.specs.rv_mem.Memory.{memory_code};
+    ghost use Rattle.kr_seen.specs.kr_tree.Tree.{tree_code};
+    ghost use Rattle.kr_seen.specs.kr_files.Descriptors.{descriptors_code};
+    ghost use Rattle.kr_seen.specs.kr_files.Files.{kept_code};
+    ghost use Rattle.kr_seen.specs.kr_ops.declared.state.State.{State};
+    ghost use Rattle.kr_seen.specs.kr_ops.Sound.{IsOfView};
 
     ghost Value = { State T M };
 
@@ -57,10 +54,10 @@ pub fn host_procs<'a, T: Copy, const M: u8>(
 impl<'a, T: Copy, const M: u8> Procs for HostProcs<'a, T, M> {
     type Mount = HostMount;
 
-    ghost use Rattle.kr_view.specs.Living.{finds_among};
-    ghost use Rattle.kr_model.specs.HostView.{host_leads};
-    ghost use Rattle.kr_model.specs.ProcessDirectory.{living_of};
-    ghost use Rattle.kr_ops.specs.Meaning.{meaning};
+    ghost use Rattle.kr_seen.specs.kr_view.Living.{finds_among};
+    ghost use Rattle.kr_seen.specs.kr_model.HostView.{host_leads};
+    ghost use Rattle.kr_seen.specs.kr_model.ProcessDirectory.{living_of};
+    ghost use Rattle.kr_seen.specs.kr_ops.Meaning.{meaning};
     ghost use Rattle.kr_hostview.specs.OnHost.{lead_on_host};
 
     ghost finds = { λ v caller. finds_among (living_of (meaning v)) };

@@ -1,3 +1,4 @@
+pub use Rattle.pr_base.proofs as pr_base
 pub mod BodyLemmas
 pub mod BytesLemmas
 pub mod EntryLemmas

@@ -2,6 +2,7 @@
 //! kept beside it.
 #![tactic(auto)]
 
+pub mod below;
 mod content;
 pub mod entries;
 pub mod inode;

@@ -4,17 +4,17 @@ use Rattle.std.proofs.Common.{◌≡◌, subst, ℕ, ◌+◌, ◌≤◌, ◌<◌
 use Rattle.std.specs.Prelude.{map as map_list, ◌==◌, sum}
 use Rattle.std.specs.List.{find, list_any}
 use Rattle.std.specs.Option.{option_map, option_map_or, option_and_then}
-use Rattle.kr_view.specs.kr_tree.Tree.{Tree, Inode, inode}
-use Rattle.kr_view.specs.kr_tree.Lawful.{IsKept}
-use Rattle.kr_view.specs.kr_tree.Holds.{holds_at}
-use Rattle.kr_view.specs.kr_tree.declared.place.Host.{Host}
-use Rattle.kr_view.specs.kr_tree.declared.place.Host.TheVariants.{Node, Proc}
-use Rattle.kr_view.specs.kr_tree.declared.place.Place.{Place}
-use Rattle.kr_view.proofs.kr_tree.NameLemmas.{some_is}
-use Rattle.kr_view.specs.View.{Row, is_there}
-use Rattle.kr_view.specs.Component.{is_processes}
-use Rattle.kr_view.specs.InTree.{IsObjectOf}
-use Rattle.kr_view.specs.Leads.{numbered}
+use Rattle.kr_model.specs.kr_tree.Tree.{Tree, Inode, inode}
+use Rattle.kr_model.specs.kr_tree.Lawful.{IsKept}
+use Rattle.kr_model.specs.kr_tree.Holds.{holds_at}
+use Rattle.kr_model.specs.kr_tree.declared.place.Host.{Host}
+use Rattle.kr_model.specs.kr_tree.declared.place.Host.TheVariants.{Node, Proc}
+use Rattle.kr_model.specs.kr_tree.declared.place.Place.{Place}
+use Rattle.kr_model.proofs.kr_tree.NameLemmas.{some_is}
+use Rattle.kr_model.specs.kr_view.View.{Row, is_there}
+use Rattle.kr_model.specs.kr_view.Component.{is_processes}
+use Rattle.kr_model.specs.kr_view.InTree.{IsObjectOf}
+use Rattle.kr_model.specs.kr_view.Leads.{numbered}
 use Rattle.kr_model.specs.kr_files.declared.opened.Opened.{Opened}
 use Rattle.kr_model.specs.kr_files.Descriptors.{Meanings, Named, named_count}
 use Rattle.kr_model.specs.kr_files.Files.{Table, Counted, file_at}

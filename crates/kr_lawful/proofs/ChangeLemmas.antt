@@ -1,8 +1,8 @@
 -- Each change keeps a lawful state, where it can be made.
 use Rattle.std.proofs.Common.{ℕ, List, [], ◌∷◌, ◌∙◌}
-use Rattle.kr_view.specs.kr_tree.Tree.{Tree}
-use Rattle.kr_view.specs.kr_tree.Changes as tree
-use Rattle.kr_view.specs.View.{Row}
+use Rattle.kr_model.specs.kr_tree.Tree.{Tree}
+use Rattle.kr_model.specs.kr_tree.Changes as tree
+use Rattle.kr_model.specs.kr_view.View.{Row}
 use Rattle.kr_model.specs.Applied.{Mounts, applied, images, with_tree}
 use Rattle.kr_model.specs.Change.{Change, AddNode, LinkNode, RemoveName, MoveName, SetMode, SetOwner, SetSize, WriteFile, OpenFile, CopyDescriptor, CloseDescriptor, SetCloexec, Seek, SetAppend, MakePipe, TakeFromPipe, PutIntoPipe, TakeInput, WriteOut, WriteErr, ChangePages, SetBreak, SetUmask, ChangeDirectory, Fork, End, Reap, ReplaceImage, ReplaceExecutable, CloseOnExec}
 use Rattle.kr_model.specs.Conditions.{KeepsLawful}

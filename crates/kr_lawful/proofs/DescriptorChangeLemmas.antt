@@ -5,12 +5,12 @@ use Rattle.std.specs.List.{find}
 use Rattle.std.specs.Ordering.{nat_cmp}
 use Rattle.std.specs.Option.{option_map_or, option_and_then}
 use Rattle.std.proofs.lemmas.Option.{none-some}
-use Rattle.pr_base.proofs.MapLemmas.{by_key, get-insert_same, get-insert_other, get-remove_same, get-remove_other, some-insert}
-use Rattle.kr_view.specs.kr_tree.Tree.{Tree}
-use Rattle.kr_view.specs.kr_tree.Lawful.{IsKept}
-use Rattle.kr_view.specs.kr_tree.declared.place.Place.{Place}
-use Rattle.kr_view.proofs.kr_tree.NameLemmas.{some_is}
-use Rattle.kr_view.specs.View.{Row}
+use Rattle.kr_model.proofs.pr_base.MapLemmas.{by_key, get-insert_same, get-insert_other, get-remove_same, get-remove_other, some-insert}
+use Rattle.kr_model.specs.kr_tree.Tree.{Tree}
+use Rattle.kr_model.specs.kr_tree.Lawful.{IsKept}
+use Rattle.kr_model.specs.kr_tree.declared.place.Place.{Place}
+use Rattle.kr_model.proofs.kr_tree.NameLemmas.{some_is}
+use Rattle.kr_model.specs.kr_view.View.{Row}
 use Rattle.kr_model.specs.kr_files.declared.opened.Opened.{Opened}
 use Rattle.kr_model.specs.kr_files.Descriptors.{Meanings, Named, named_count}
 use Rattle.kr_model.specs.kr_files.Files.{Table, Counted, with_file, closed}

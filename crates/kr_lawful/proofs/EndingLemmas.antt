@@ -5,10 +5,10 @@ use Rattle.std.specs.Prelude.{map as map_list, ◌==◌, sum}
 use Rattle.std.specs.List.{find, filter, list_any}
 use Rattle.std.specs.Option.{option_map, option_map_or, option_and_then}
 use Rattle.std.proofs.lemmas.Bool.Decides.{nat_tests}
-use Rattle.pr_base.proofs.MapLemmas.{by_key, get-remove_same, get-remove_other}
-use Rattle.kr_view.specs.kr_tree.Tree.{Tree}
-use Rattle.kr_view.proofs.kr_tree.NameLemmas.{some_is}
-use Rattle.kr_view.specs.View.{Row}
+use Rattle.kr_model.proofs.pr_base.MapLemmas.{by_key, get-remove_same, get-remove_other}
+use Rattle.kr_model.specs.kr_tree.Tree.{Tree}
+use Rattle.kr_model.proofs.kr_tree.NameLemmas.{some_is}
+use Rattle.kr_model.specs.kr_view.View.{Row}
 use Rattle.kr_model.specs.kr_files.Descriptors.{Named, named_count}
 use Rattle.kr_model.specs.Applied.{released_at, close_named, close, close_below, orphaned, with_parent, stays, put_in, ended_with, gone, end}
 use Rattle.kr_model.specs.Lawful.{IsLawful, IsProcessIn, RiseFrom}

@@ -5,10 +5,10 @@ use Rattle.std.specs.Option.{option_map, option_map_or, is_some}
 use Rattle.std.specs.Ordering.{nat_cmp}
 use Rattle.std.proofs.lemmas.Bool.{lt-ltb}
 use Rattle.std.proofs.lemmas.Option.{none-some}
-use Rattle.pr_base.specs.Maps.{changed, mapped}
-use Rattle.pr_base.proofs.MapLemmas.{by_key, get-insert_same, get-insert_other, get-remove_same, get-remove_other, get-changed_same, get-changed_other, get-mapped, some-insert, stays-changed as told-changed}
-use Rattle.kr_view.specs.kr_tree.Tree.{Tree}
-use Rattle.kr_view.proofs.kr_tree.NameLemmas.{some_is}
+use Rattle.kr_model.specs.pr_base.Maps.{changed, mapped}
+use Rattle.kr_model.proofs.pr_base.MapLemmas.{by_key, get-insert_same, get-insert_other, get-remove_same, get-remove_other, get-changed_same, get-changed_other, get-mapped, some-insert, stays-changed as told-changed}
+use Rattle.kr_model.specs.kr_tree.Tree.{Tree}
+use Rattle.kr_model.proofs.kr_tree.NameLemmas.{some_is}
 use Rattle.kr_model.specs.kr_files.declared.opened.Opened.{Opened}
 use Rattle.kr_model.specs.kr_files.declared.opened.What.{What}
 use Rattle.kr_model.specs.kr_files.declared.opened.What.TheVariants.{File, Dir, In, Out, Err, PipeRead, PipeWrite}

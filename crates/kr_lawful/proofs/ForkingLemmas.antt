@@ -5,17 +5,17 @@ use Rattle.std.specs.Prelude.{map as map_list, ◌==◌, sum, IfSome, ◌⊎◌}
 use Rattle.std.specs.List.{find, list_any}
 use Rattle.std.specs.Int.{to_le_bytes, w32}
 use Rattle.std.specs.Option.{option_map, option_map_or, option_and_then}
-use Rattle.pr_base.specs.Maps.{changed}
-use Rattle.pr_base.proofs.MapLemmas.{same_values, by_key, get-changed_same, get-changed_other, get-mapped}
-use Rattle.rv_mem.specs.Pages.{Pages, IsWhole, IsPlaced}
-use Rattle.rv_mem.proofs.LayoutLemmas.{layouts_follow}
-use Rattle.rv_mem.proofs.SpaceLemmas.{IsWhole-written, IsPlaced-written}
-use Rattle.kr_view.specs.kr_tree.Tree.{Tree, inode}
-use Rattle.kr_view.specs.kr_tree.Lawful.{IsKept}
-use Rattle.kr_view.specs.kr_tree.Holds.{holds_at}
-use Rattle.kr_view.specs.kr_tree.declared.place.Place.{Place}
-use Rattle.kr_view.proofs.kr_tree.NameLemmas.{some_is}
-use Rattle.kr_view.specs.View.{Row}
+use Rattle.kr_model.specs.pr_base.Maps.{changed}
+use Rattle.kr_model.proofs.pr_base.MapLemmas.{same_values, by_key, get-changed_same, get-changed_other, get-mapped}
+use Rattle.kr_model.specs.rv_mem.Pages.{Pages, IsWhole, IsPlaced}
+use Rattle.kr_model.proofs.rv_mem.LayoutLemmas.{layouts_follow}
+use Rattle.kr_model.proofs.rv_mem.SpaceLemmas.{IsWhole-written, IsPlaced-written}
+use Rattle.kr_model.specs.kr_tree.Tree.{Tree, inode}
+use Rattle.kr_model.specs.kr_tree.Lawful.{IsKept}
+use Rattle.kr_model.specs.kr_tree.Holds.{holds_at}
+use Rattle.kr_model.specs.kr_tree.declared.place.Place.{Place}
+use Rattle.kr_model.proofs.kr_tree.NameLemmas.{some_is}
+use Rattle.kr_model.specs.kr_view.View.{Row}
 use Rattle.kr_model.specs.kr_files.declared.opened.Opened.{Opened}
 use Rattle.kr_model.specs.kr_files.Descriptors.{Meanings, Named, named_below, named_count}
 use Rattle.kr_model.specs.kr_files.Files.{Table, Counted, counted_more, with_copy, with_copies}

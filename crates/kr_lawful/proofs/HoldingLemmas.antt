@@ -6,16 +6,16 @@ use Rattle.std.specs.List.{list_any}
 use Rattle.std.specs.Option.{option_map, option_map_or, option_and_then}
 use Rattle.std.proofs.lemmas.Bool.Decides.{nat_tests}
 use Rattle.std.proofs.lemmas.Option.{none-some}
-use Rattle.pr_base.proofs.MapLemmas.{by_key, get-changed_same, get-changed_other, get-remove_same, get-remove_other}
-use Rattle.kr_view.specs.kr_tree.Tree.{Tree, Inode, inode}
-use Rattle.kr_view.specs.kr_tree.Changes.{with_inode, with_inodes, with_holds, held, released, dropped_if_unused, is_unused, is_unused_at, counted}
-use Rattle.kr_view.specs.kr_tree.Holds.{holds_at}
-use Rattle.kr_view.specs.kr_tree.declared.place.Place.{Place}
+use Rattle.kr_model.proofs.pr_base.MapLemmas.{by_key, get-changed_same, get-changed_other, get-remove_same, get-remove_other}
+use Rattle.kr_model.specs.kr_tree.Tree.{Tree, Inode, inode}
+use Rattle.kr_model.specs.kr_tree.Changes.{with_inode, with_inodes, with_holds, held, released, dropped_if_unused, is_unused, is_unused_at, counted}
+use Rattle.kr_model.specs.kr_tree.Holds.{holds_at}
+use Rattle.kr_model.specs.kr_tree.declared.place.Place.{Place}
 use Rattle.kr_model.specs.kr_files.declared.opened.Opened.{Opened}
 use Rattle.kr_model.specs.kr_files.Descriptors.{Meanings, Named, named_below, named_count}
 use Rattle.kr_model.specs.kr_files.Files.{Counted}
 use Rattle.kr_model.proofs.kr_files.CountLemmas.{below_small}
-use Rattle.kr_view.specs.View.{Row}
+use Rattle.kr_model.specs.kr_view.View.{Row}
 use Rattle.kr_model.specs.Lawful.{ArePids}
 use Rattle.kr_model.specs.State.{Process, State, inode_of, process, place_of, is_pid}
 use Rattle.kr_model.specs.Uses.{at_inode, uses_of, file_uses, process_use, process_uses, names_of_file, AreUses}

@@ -4,16 +4,16 @@ use Rattle.std.proofs.Common.{◌≡◌, ◌≢◌, ℕ, suc, ◌+◌, ◌≤◌
 use Rattle.std.specs.Prelude.{map as map_list, ◌==◌, sum, bytes_eq}
 use Rattle.std.specs.List.{find}
 use Rattle.std.specs.Option.{option_map, option_map_or}
-use Rattle.pr_base.specs.Maps.{mapped}
-use Rattle.pr_base.specs.Paths.{IsName}
-use Rattle.pr_base.proofs.MapLemmas.{get-mapped}
-use Rattle.kr_inode.proofs.NameLemmas.{name_decides}
-use Rattle.kr_view.specs.kr_tree.Tree.{Tree, inode}
-use Rattle.kr_view.specs.kr_tree.Changes as tree
-use Rattle.kr_view.specs.kr_tree.declared.place.Host.{Host}
-use Rattle.kr_view.specs.kr_tree.declared.place.Place.{Place}
-use Rattle.kr_view.proofs.kr_tree.NameLemmas.{some_is}
-use Rattle.kr_view.specs.View.{Row}
+use Rattle.kr_model.specs.pr_base.Maps.{mapped}
+use Rattle.kr_model.specs.pr_base.Paths.{IsName}
+use Rattle.kr_model.proofs.pr_base.MapLemmas.{get-mapped}
+use Rattle.kr_model.proofs.kr_inode.NameLemmas.{name_decides}
+use Rattle.kr_model.specs.kr_tree.Tree.{Tree, inode}
+use Rattle.kr_model.specs.kr_tree.Changes as tree
+use Rattle.kr_model.specs.kr_tree.declared.place.Host.{Host}
+use Rattle.kr_model.specs.kr_tree.declared.place.Place.{Place}
+use Rattle.kr_model.proofs.kr_tree.NameLemmas.{some_is}
+use Rattle.kr_model.specs.kr_view.View.{Row}
 use Rattle.kr_model.specs.kr_files.declared.opened.Opened.{Opened}
 use Rattle.kr_model.specs.kr_files.Descriptors.{Named, named_count}
 use Rattle.kr_model.specs.kr_files.Files.{Counted, on_opened, with_all_opened}

@@ -4,16 +4,16 @@ use Rattle.std.specs.Prelude.{bytes_eq}
 use Rattle.std.specs.Option.{option_map_or}
 use Rattle.std.proofs.lemmas.Bool.{eqb-false}
 use Rattle.std.proofs.lemmas.Slice.Eq.{bytes_eq-Decides}
-use Rattle.pr_base.proofs.MapLemmas.{stays-changed}
-use Rattle.kr_inode.specs.declared.standing.Standing.{Standing}
-use Rattle.kr_inode.proofs.BodyLemmas.{entries-with_standing, is_listed-with_standing, filled-entries}
-use Rattle.kr_view.specs.kr_tree.Tree.{Tree, Inode, Inodes, inode, body_is, entry, is_directory, is_filled}
-use Rattle.kr_view.specs.kr_tree.Changes.{with_inode, with_body, with_standing, with_entry, without_entry, without_name, unnamed, without_unused, unlinked, removed, moved, renamed_onto, renamed, next_standing, next_serial, freed}
-use Rattle.kr_view.specs.kr_tree.Lawful.{IsKept, IsLawfulMove}
-use Rattle.kr_view.proofs.kr_tree.MoveLemmas.{kept-moved}
-use Rattle.kr_view.proofs.kr_tree.OntoLemmas.{IsOnto, kept-onto}
-use Rattle.kr_view.proofs.kr_tree.RemoveLemmas.{kept-unlinked}
-use Rattle.kr_view.specs.View.{Row, covered}
+use Rattle.kr_model.proofs.pr_base.MapLemmas.{stays-changed}
+use Rattle.kr_model.specs.kr_inode.declared.standing.Standing.{Standing}
+use Rattle.kr_model.proofs.kr_inode.BodyLemmas.{entries-with_standing, is_listed-with_standing, filled-entries}
+use Rattle.kr_model.specs.kr_tree.Tree.{Tree, Inode, Inodes, inode, body_is, entry, is_directory, is_filled}
+use Rattle.kr_model.specs.kr_tree.Changes.{with_inode, with_body, with_standing, with_entry, without_entry, without_name, unnamed, without_unused, unlinked, removed, moved, renamed_onto, renamed, next_standing, next_serial, freed}
+use Rattle.kr_model.specs.kr_tree.Lawful.{IsKept, IsLawfulMove}
+use Rattle.kr_model.proofs.kr_tree.MoveLemmas.{kept-moved}
+use Rattle.kr_model.proofs.kr_tree.OntoLemmas.{IsOnto, kept-onto}
+use Rattle.kr_model.proofs.kr_tree.RemoveLemmas.{kept-unlinked}
+use Rattle.kr_model.specs.kr_view.View.{Row, covered}
 use Rattle.kr_model.specs.Conditions.{CanRemove, CanMove}
 use Rattle.kr_lawful.proofs.StandingLemmas.{alike-with_entries, alike-with_standing, AllStay, held-all, stay-same, stay-on, stay-with, stay-dropped}
 use Rattle.kr_lawful.proofs.TreeChangeLemmas.{AsHeld, as_held-on, as_held-with, as_held-dropped, entries_in, EntriesStay, entries-on, points-of, LeavesEntries, entries-with, entries-dropped}

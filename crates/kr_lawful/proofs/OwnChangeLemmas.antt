@@ -5,13 +5,13 @@ use Rattle.std.specs.Prelude.{map as map_list, ◌==◌, sum, IfSome}
 use Rattle.std.specs.List.{filter, list_any}
 use Rattle.std.specs.Option.{option_map, option_map_or}
 use Rattle.std.proofs.lemmas.List.{length-drop, length-take}
-use Rattle.pr_base.specs.Maps.{changed}
-use Rattle.pr_base.proofs.MapLemmas.{by_key, get-changed_same, get-changed_other, stays-changed}
-use Rattle.rv_mem.specs.Pages.{Pages, IsWhole}
-use Rattle.rv_mem.proofs.LayoutLemmas.{layouts_follow}
-use Rattle.rv_mem.proofs.SpaceLemmas.{IsWhole-mapped, IsWhole-unmapped, IsWhole-protected}
-use Rattle.kr_view.proofs.kr_tree.NameLemmas.{some_is}
-use Rattle.kr_view.specs.View.{Row}
+use Rattle.kr_model.specs.pr_base.Maps.{changed}
+use Rattle.kr_model.proofs.pr_base.MapLemmas.{by_key, get-changed_same, get-changed_other, stays-changed}
+use Rattle.kr_model.specs.rv_mem.Pages.{Pages, IsWhole}
+use Rattle.kr_model.proofs.rv_mem.LayoutLemmas.{layouts_follow}
+use Rattle.kr_model.proofs.rv_mem.SpaceLemmas.{IsWhole-mapped, IsWhole-unmapped, IsWhole-protected}
+use Rattle.kr_model.proofs.kr_tree.NameLemmas.{some_is}
+use Rattle.kr_model.specs.kr_view.View.{Row}
 use Rattle.kr_model.specs.kr_files.declared.opened.Opened.{Opened}
 use Rattle.kr_model.specs.kr_files.Descriptors.{Named, named_count}
 use Rattle.kr_model.specs.kr_files.Files.{Counted, on_opened, with_opened, with_bytes, at_offset, with_append, has_reader}

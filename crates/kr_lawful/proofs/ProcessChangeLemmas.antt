@@ -5,7 +5,7 @@ use Rattle.std.specs.Prelude.{map as map_list, ◌==◌, sum}
 use Rattle.std.specs.List.{find}
 use Rattle.std.specs.Option.{option_map, option_map_or}
 use Rattle.std.proofs.lemmas.Bool.{cases_eq}
-use Rattle.kr_view.proofs.kr_tree.NameLemmas.{some_is}
+use Rattle.kr_model.proofs.kr_tree.NameLemmas.{some_is}
 use Rattle.kr_model.specs.kr_files.Descriptors.{Meanings, Named, named_below}
 use Rattle.kr_model.specs.Lawful.{RiseFrom}
 use Rattle.kr_model.specs.State.{Process, is_pid, at_pid, with_process}

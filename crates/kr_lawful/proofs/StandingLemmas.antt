@@ -8,19 +8,19 @@ use Rattle.std.specs.Option.{option_map, option_map_or}
 use Rattle.std.proofs.lemmas.Bool.{eq-eqb}
 use Rattle.std.proofs.lemmas.Bool.Decides.{nat_tests}
 use Rattle.std.proofs.lemmas.Slice.Eq.{bytes_eq-Decides}
-use Rattle.pr_base.proofs.MapLemmas.{by_key, get-changed_same, get-changed_other, get-remove_same}
-use Rattle.kr_inode.specs.declared.standing.Standing.{Standing}
-use Rattle.kr_view.specs.kr_tree.Tree.{Tree, Inode, Inodes, Entry, Body, Directory, RegularFile, SymbolicLink, ProcessDirectory, inode, body, body_is, entry, is_directory, is_file, is_listed}
-use Rattle.kr_view.specs.kr_tree.Changes.{with_inode, without_unused, is_unused_at, with_entries, with_standing, with_bytes, counted}
-use Rattle.kr_view.specs.kr_tree.Holds.{holds_at}
-use Rattle.kr_view.specs.kr_tree.declared.place.Host.{Host}
-use Rattle.kr_view.specs.kr_tree.declared.place.Host.TheVariants.{Node, Proc}
-use Rattle.kr_view.specs.kr_tree.declared.place.Place.{Place}
-use Rattle.kr_view.proofs.kr_tree.InodesLemmas.{get-unused_other}
-use Rattle.kr_view.proofs.kr_tree.NameLemmas.{some_is}
-use Rattle.kr_view.specs.View.{Row, Point, row, is_there, covered, is_name_at, stands_at, StandsIn}
-use Rattle.kr_view.specs.Component.{is_processes, is_directory_at}
-use Rattle.kr_view.specs.InTree.{IsObjectOf, IsPlaceOf}
+use Rattle.kr_model.proofs.pr_base.MapLemmas.{by_key, get-changed_same, get-changed_other, get-remove_same}
+use Rattle.kr_model.specs.kr_inode.declared.standing.Standing.{Standing}
+use Rattle.kr_model.specs.kr_tree.Tree.{Tree, Inode, Inodes, Entry, Body, Directory, RegularFile, SymbolicLink, ProcessDirectory, inode, body, body_is, entry, is_directory, is_file, is_listed}
+use Rattle.kr_model.specs.kr_tree.Changes.{with_inode, without_unused, is_unused_at, with_entries, with_standing, with_bytes, counted}
+use Rattle.kr_model.specs.kr_tree.Holds.{holds_at}
+use Rattle.kr_model.specs.kr_tree.declared.place.Host.{Host}
+use Rattle.kr_model.specs.kr_tree.declared.place.Host.TheVariants.{Node, Proc}
+use Rattle.kr_model.specs.kr_tree.declared.place.Place.{Place}
+use Rattle.kr_model.proofs.kr_tree.InodesLemmas.{get-unused_other}
+use Rattle.kr_model.proofs.kr_tree.NameLemmas.{some_is}
+use Rattle.kr_model.specs.kr_view.View.{Row, Point, row, is_there, covered, is_name_at, stands_at, StandsIn}
+use Rattle.kr_model.specs.kr_view.Component.{is_processes, is_directory_at}
+use Rattle.kr_model.specs.kr_view.InTree.{IsObjectOf, IsPlaceOf}
 use Rattle.kr_model.specs.Bare.{pins_of}
 use Rattle.kr_model.specs.Lawful.{is_file_at}
 use Rattle.kr_model.specs.State.{inode_of}

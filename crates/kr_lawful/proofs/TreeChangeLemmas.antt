@@ -4,17 +4,17 @@ use Rattle.std.specs.FinMap as map
 use Rattle.std.proofs.Common.{◌≡◌, ◌≢◌, ℕ, ◌+◌, ◌-◌, ◌<◌, Bool, true, false, nat_eq, List, [], refl, sym, ap, ◌∙◌, arith, cond, Option, Some, None}
 use Rattle.std.specs.Option.{option_map, option_map_or}
 use Rattle.std.proofs.lemmas.Bool.{eqb-true, and_parts}
-use Rattle.pr_base.proofs.MapLemmas.{by_key, get-changed_other, get-remove_same, get-remove_other, stays-changed}
-use Rattle.kr_inode.specs.declared.standing.Standing.{Standing}
-use Rattle.kr_view.specs.kr_tree.Tree.{Tree, Inode, Inodes, Entry, root, inode, entry_named, entries, entries_of, standing, is_listed}
-use Rattle.kr_view.specs.kr_tree.Changes.{with_inode, with_holds, without_unused, is_unused, is_unused_at, held, released}
-use Rattle.kr_view.specs.kr_tree.Lawful.{IsKept, IsSound, IsCounted, count_in, names_of}
-use Rattle.kr_view.proofs.kr_tree.CountLemmas.{value, sum-at, in-counted, counted-same, entries_there}
-use Rattle.kr_view.proofs.kr_tree.DropLemmas.{kept-dropped}
-use Rattle.kr_view.proofs.kr_tree.InodesLemmas.{get-unused_other}
-use Rattle.kr_view.proofs.kr_tree.OfBytesLemmas.{of_bytes-with}
-use Rattle.kr_view.proofs.kr_tree.QuietLemmas.{of_entries, kept-still, held_used, sound-still, counted-still}
-use Rattle.kr_view.specs.View.{Row, is_there, covered}
+use Rattle.kr_model.proofs.pr_base.MapLemmas.{by_key, get-changed_other, get-remove_same, get-remove_other, stays-changed}
+use Rattle.kr_model.specs.kr_inode.declared.standing.Standing.{Standing}
+use Rattle.kr_model.specs.kr_tree.Tree.{Tree, Inode, Inodes, Entry, root, inode, entry_named, entries, entries_of, standing, is_listed}
+use Rattle.kr_model.specs.kr_tree.Changes.{with_inode, with_holds, without_unused, is_unused, is_unused_at, held, released}
+use Rattle.kr_model.specs.kr_tree.Lawful.{IsKept, IsSound, IsCounted, count_in, names_of}
+use Rattle.kr_model.proofs.kr_tree.CountLemmas.{value, sum-at, in-counted, counted-same, entries_there}
+use Rattle.kr_model.proofs.kr_tree.DropLemmas.{kept-dropped}
+use Rattle.kr_model.proofs.kr_tree.InodesLemmas.{get-unused_other}
+use Rattle.kr_model.proofs.kr_tree.OfBytesLemmas.{of_bytes-with}
+use Rattle.kr_model.proofs.kr_tree.QuietLemmas.{of_entries, kept-still, held_used, sound-still, counted-still}
+use Rattle.kr_model.specs.kr_view.View.{Row, is_there, covered}
 use Rattle.kr_lawful.proofs.StandingLemmas.{alike-same, AllStay, HeldStay, held-all, stay-same, stay-on, stay-with, stay-dropped, PointsStay}
 
 -- ---- holds

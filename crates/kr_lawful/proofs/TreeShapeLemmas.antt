@@ -4,18 +4,18 @@ use Rattle.std.proofs.Common.{◌≡◌, ℕ, ◌+◌, ◌-◌, ◌≤◌, ◌<�
 use Rattle.std.specs.Prelude.{bytes_eq, max}
 use Rattle.std.specs.Option.{option_map, option_map_or}
 use Rattle.std.proofs.lemmas.Bool.{ltb-false}
-use Rattle.pr_base.proofs.MapLemmas.{by_key, get-insert_same, get-insert_other, get-changed_same, get-changed_other}
-use Rattle.kr_inode.proofs.BodyLemmas.{entries-with_entries, is_listed-with_entries, entries-with_bytes, is_listed-with_bytes}
-use Rattle.kr_inode.proofs.BytesLemmas.{length-sized, length-overwritten}
-use Rattle.kr_inode.proofs.EntryLemmas.{named-without}
-use Rattle.kr_view.specs.kr_tree.Tree.{Tree, Inode, Inodes, Entry, Body, Directory, RegularFile, SymbolicLink, ProcessDirectory, inode, body_is, entry, entry_named, entries_of, is_directory, is_file, is_listed, bytes_of}
-use Rattle.kr_view.specs.kr_tree.Changes.{with_inode, with_mode, with_owner, with_body, with_bytes, with_entries, with_standing, with_entry, without_entry, with_names, without_name, fresh, mode_set, owner_set, bytes_set, added, linked, next_standing, sized, overwritten, size, size_written, file_limit, byte_limit, is_too_big}
-use Rattle.kr_view.specs.kr_tree.Lawful.{IsKept, AreBytes}
-use Rattle.kr_view.proofs.kr_tree.AddLemmas.{passing, kept-added}
-use Rattle.kr_view.proofs.kr_tree.LinkLemmas.{kept-linked}
-use Rattle.kr_view.proofs.kr_tree.OfBytesLemmas.{of_bytes-sized, of_bytes-overwritten}
-use Rattle.kr_view.proofs.kr_tree.QuietLemmas.{kept-still, kept-bytes, size-le}
-use Rattle.kr_view.specs.View.{Row, is_there, covered}
+use Rattle.kr_model.proofs.pr_base.MapLemmas.{by_key, get-insert_same, get-insert_other, get-changed_same, get-changed_other}
+use Rattle.kr_model.proofs.kr_inode.BodyLemmas.{entries-with_entries, is_listed-with_entries, entries-with_bytes, is_listed-with_bytes}
+use Rattle.kr_model.proofs.kr_inode.BytesLemmas.{length-sized, length-overwritten}
+use Rattle.kr_model.proofs.kr_inode.EntryLemmas.{named-without}
+use Rattle.kr_model.specs.kr_tree.Tree.{Tree, Inode, Inodes, Entry, Body, Directory, RegularFile, SymbolicLink, ProcessDirectory, inode, body_is, entry, entry_named, entries_of, is_directory, is_file, is_listed, bytes_of}
+use Rattle.kr_model.specs.kr_tree.Changes.{with_inode, with_mode, with_owner, with_body, with_bytes, with_entries, with_standing, with_entry, without_entry, with_names, without_name, fresh, mode_set, owner_set, bytes_set, added, linked, next_standing, sized, overwritten, size, size_written, file_limit, byte_limit, is_too_big}
+use Rattle.kr_model.specs.kr_tree.Lawful.{IsKept, AreBytes}
+use Rattle.kr_model.proofs.kr_tree.AddLemmas.{passing, kept-added}
+use Rattle.kr_model.proofs.kr_tree.LinkLemmas.{kept-linked}
+use Rattle.kr_model.proofs.kr_tree.OfBytesLemmas.{of_bytes-sized, of_bytes-overwritten}
+use Rattle.kr_model.proofs.kr_tree.QuietLemmas.{kept-still, kept-bytes, size-le}
+use Rattle.kr_model.specs.kr_view.View.{Row, is_there, covered}
 use Rattle.kr_model.specs.Conditions.{CanAdd, CanLink, CanResize, CanWrite, is_new}
 use Rattle.kr_lawful.proofs.StandingLemmas.{IsAlike, alike-same, alike-with_entries, alike-with_bytes, held-all, stay-on, stay-with}
 use Rattle.kr_lawful.proofs.TreeChangeLemmas.{AsHeld, as_held-on, as_held-with, listed_in, entries_in, entry_in, EntriesStay, entries-on, points-of, leaves-same, entries-with, Leaves}

@@ -1,12 +1,12 @@
 -- How often inodes and open files are held in a state where the holds are what its uses make of them.
 use Rattle.std.specs.FinMap as map
 use Rattle.std.specs.Prelude.{◌≡◌, ℕ, ◌+◌, ◌-◌, ◌≤◌, ◌<◌, ◌==◌, ◌^◌, List, Some, IsSome, if◌then◌else◌}
-use Rattle.kr_view.specs.kr_tree.Tree.{Tree, inode}
-use Rattle.kr_view.specs.kr_tree.Changes.{held, released}
-use Rattle.kr_view.specs.kr_tree.Holds.{holds_at}
-use Rattle.kr_view.specs.kr_tree.declared.place.Place.{Place}
+use Rattle.kr_model.specs.kr_tree.Tree.{Tree, inode}
+use Rattle.kr_model.specs.kr_tree.Changes.{held, released}
+use Rattle.kr_model.specs.kr_tree.Holds.{holds_at}
+use Rattle.kr_model.specs.kr_tree.declared.place.Place.{Place}
 use Rattle.kr_model.specs.kr_files.Files.{Counted}
-use Rattle.kr_view.specs.View.{Row}
+use Rattle.kr_model.specs.kr_view.View.{Row}
 use Rattle.kr_model.specs.Bare.{pins_of}
 use Rattle.kr_model.specs.Lawful.{ArePids}
 use Rattle.kr_model.specs.State.{Process, State, inode_of, process, place_of}

@@ -1,8 +1,8 @@
 -- Each change of a call keeps a lawful state, of every machine.
 use Rattle.std.specs.Prelude.{ℕ, Bool, List, [], ◌∷◌, IsSome}
-use Rattle.kr_view.specs.kr_tree.Tree.{Body}
-use Rattle.kr_view.specs.kr_tree.declared.place.Host.{Host}
-use Rattle.kr_view.specs.View.{Row}
+use Rattle.kr_model.specs.kr_tree.Tree.{Body}
+use Rattle.kr_model.specs.kr_tree.declared.place.Host.{Host}
+use Rattle.kr_model.specs.kr_view.View.{Row}
 use Rattle.kr_model.specs.kr_files.declared.opened.Opened.{Opened}
 use Rattle.kr_model.specs.Applied.{Mounts, applied, all_applied, images}
 use Rattle.kr_model.specs.Change.{Change, AddNode, LinkNode, RemoveName, MoveName, SetMode, SetOwner, SetSize, WriteFile, OpenFile, CopyDescriptor, CloseDescriptor, SetCloexec, Seek, SetAppend, MakePipe, TakeFromPipe, PutIntoPipe, TakeInput, WriteOut, WriteErr, ChangePages, SetBreak, SetUmask, ChangeDirectory, Fork, End, Reap, ReplaceImage, ReplaceExecutable, CloseOnExec, MountOf, PageChange, Birth}

@@ -1,9 +1,9 @@
 -- Trees in which the user made names can last.
 use Rattle.std.proofs.Common.{◌≡◌, suc, ◌+◌, ◌*◌, ◌≤◌, ◌<◌, ◌^◌, Bool, true, false, ap, arith}
 use Rattle.std.specs.Option.{option_map_or}
-use Rattle.kr_inode.specs.declared.user.User.{User}
-use Rattle.kr_tree.specs.Changes.{next_serial, count_limit}
-use Rattle.kr_tree.specs.Tree.{Tree, Inode}
+use Rattle.kr_text.specs.kr_inode.declared.user.User.{User}
+use Rattle.kr_text.specs.kr_tree.Changes.{next_serial, count_limit}
+use Rattle.kr_text.specs.kr_tree.Tree.{Tree, Inode}
 use Rattle.kr_mounts.specs.Growth.{IsGrown, Same, Made}
 use Rattle.kr_mounts.specs.MountTable.{settling}
 use Rattle.kr_mounts.specs.Points.{new_body, new_mode}

@@ -4,10 +4,10 @@ use Rattle.std.proofs.Common.{◌≡◌, ℕ, ◌+◌, ◌*◌, ◌≤◌, ◌^�
 use Rattle.std.specs.Prelude.{codes, bytes_eq, IfSome, IfOk}
 use Rattle.std.specs.Bool.{if◌then◌else◌}
 use Rattle.std.specs.Option.{option_map_or}
-use Rattle.kr_inode.specs.declared.user.User.{User}
-use Rattle.kr_tree.specs.Changes.{count_limit}
-use Rattle.kr_tree.specs.Lawful.{IsSound}
-use Rattle.kr_tree.specs.Tree.{Tree, Inode, RegularFile, SymbolicLink, inode}
+use Rattle.kr_text.specs.kr_inode.declared.user.User.{User}
+use Rattle.kr_text.specs.kr_tree.Changes.{count_limit}
+use Rattle.kr_text.specs.kr_tree.Lawful.{IsSound}
+use Rattle.kr_text.specs.kr_tree.Tree.{Tree, Inode, RegularFile, SymbolicLink, inode}
 use Rattle.kr_text.specs.declared.fault.TreeWhy.{TreeWhy}
 use Rattle.kr_text.specs.declared.fault.TreeWhy.TheVariants.{RootUser}
 use Rattle.kr_text.specs.declared.fault.ListFault.{ListFault}

@@ -2,9 +2,9 @@
 use Rattle.std.proofs.Common.{ℕ, suc, Bool, List, [], ◌∷◌, length, arith, Option, Some, None, Ok}
 use Rattle.std.specs.Prelude.{◌||◌, is_some, IfSome, IfOk}
 use Rattle.std.specs.Option.{ok_or}
-use Rattle.kr_inode.specs.declared.user.User.{User}
-use Rattle.kr_tree.specs.Changes.{added, linked, new_tree, is_too_big, has_no_room, has_no_name_left}
-use Rattle.kr_tree.specs.Tree.{Tree, Body, Directory, RegularFile, ProcessDirectory, bytes_of}
+use Rattle.kr_text.specs.kr_inode.declared.user.User.{User}
+use Rattle.kr_text.specs.kr_tree.Changes.{added, linked, new_tree, is_too_big, has_no_room, has_no_name_left}
+use Rattle.kr_text.specs.kr_tree.Tree.{Tree, Body, Directory, RegularFile, ProcessDirectory, bytes_of}
 use Rattle.kr_text.specs.declared.fault.TreeWhy.TheVariants.{Twice, TwoElf, TooBig, NoParent}
 use Rattle.kr_text.specs.Reading.{Place, place_below, tree_of, put, node_put, node_read, root_read, dir_read, user_read, elf_put, elf_read, proc_owner, proc_put, proc_read, file_at, link_put, name_put, name_read, with_tree}
 use Rattle.kr_allowed.specs.Lasting.{HasText}

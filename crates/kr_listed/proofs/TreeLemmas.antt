@@ -4,10 +4,10 @@ use Rattle.std.specs.FinMap as map
 use Rattle.std.specs.Option.{option_map}
 use Rattle.std.specs.Ordering.{nat_cmp}
 use Rattle.std.proofs.lemmas.Option.{none-some, same_Some}
-use Rattle.pr_base.proofs.MapLemmas.{by_key, get-insert_same, get-insert_other}
-use Rattle.kr_inode.specs.declared.user.User.{User}
-use Rattle.kr_tree.specs.Changes.{new_tree, fresh}
-use Rattle.kr_tree.specs.Tree.{Tree, Inode, Body, Directory, RegularFile, SymbolicLink, ProcessDirectory, inode, root}
+use Rattle.kr_mounts.proofs.pr_base.MapLemmas.{by_key, get-insert_same, get-insert_other}
+use Rattle.kr_text.specs.kr_inode.declared.user.User.{User}
+use Rattle.kr_text.specs.kr_tree.Changes.{new_tree, fresh}
+use Rattle.kr_text.specs.kr_tree.Tree.{Tree, Inode, Body, Directory, RegularFile, SymbolicLink, ProcessDirectory, inode, root}
 use Rattle.kr_allowed.specs.Lasting.{HasText}
 use Rattle.kr_allowed.specs.Texts.{IsText, LinksHaveTexts}
 use Rattle.kr_allowed.proofs.TreeLemmas.{InodeLasts, TreeLasts}

@@ -1,7 +1,7 @@
 -- What a tree and a user have where a run over them begins with what lasts.
 use Rattle.std.specs.Prelude.{◌≡◌, ℕ, ◌+◌, ◌≤◌, ◌<◌, ◌^◌, Some}
-use Rattle.kr_inode.specs.declared.user.User.{User}
-use Rattle.kr_tree.specs.Tree.{Tree, Inode, inode}
+use Rattle.kr_text.specs.kr_inode.declared.user.User.{User}
+use Rattle.kr_text.specs.kr_tree.Tree.{Tree, Inode, inode}
 use Rattle.kr_allowed.specs.Lasting.{HaveOwners}
 use Rattle.kr_allowed.specs.Texts.{LinksHaveTexts}
 

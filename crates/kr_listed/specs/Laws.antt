@@ -1,9 +1,9 @@
 -- Trees that were read can last, and so can those in which bindings were settled.
 use Rattle.std.specs.Prelude.{◌≡◌, ℕ, List, Ok}
-use Rattle.pr_base.specs.declared.bind.Bind.{Bind}
-use Rattle.kr_inode.specs.declared.user.User.{User}
-use Rattle.kr_tree.specs.Lawful.{IsCounted, IsSound}
-use Rattle.kr_tree.specs.Tree.{Tree}
+use Rattle.kr_mounts.specs.pr_base.declared.bind.Bind.{Bind}
+use Rattle.kr_text.specs.kr_inode.declared.user.User.{User}
+use Rattle.kr_text.specs.kr_tree.Lawful.{IsCounted, IsSound}
+use Rattle.kr_text.specs.kr_tree.Tree.{Tree}
 use Rattle.kr_text.specs.Drawn.{IsDrawn}
 use Rattle.kr_text.specs.Reading.{listing_of}
 use Rattle.kr_mounts.specs.Growth.{IsGrown}

@@ -11,7 +11,7 @@ use Rattle.kr_files.specs.kr_tree.declared.place.Place.{Place}
 use Rattle.kr_files.specs.declared.opened.Opened.{Opened}
 use Rattle.kr_files.specs.Descriptors.{Meanings, Named}
 use Rattle.kr_files.specs.Files.{Table, file_at, with_file, at_offset, with_append, with_opened}
-use Rattle.pr_base.specs.Maps.{changed}
+use Rattle.kr_calls.specs.pr_base.Maps.{changed}
 use Rattle.kr_files.specs.WithoutMounts.{without_mount, without_mounts}
 use Rattle.kr_files.proofs.MountLemmas.{file_at-without_mounts, with_file-without_mounts, with_copy-without_mounts, with_copies-without_mounts, seek-without_mounts, append-without_mounts, read-without_mounts, write-without_mounts, removal-without_mounts, rename-without_mounts, with_pipe-without_mounts, closed-without_mounts}
 use Rattle.kr_model.specs.State.{Image, Layout, layout_of, image_layout, Process, State, inode_of, process, named, opened, place_of, is_pid, at_pid, with_process, with_descs}

@@ -2,11 +2,11 @@
 use Rattle.std.proofs.Common.{◌≡◌, ◌≢◌, ℕ, zero, suc, Bool, true, false, ◌||◌, List, [], ◌∷◌, ◌++◌, refl, ap, cond, Option, Some, None}
 use Rattle.std.specs.Prelude.{Result, Ok, Err}
 use Rattle.std.specs.Option.{option_map_or}
-use Rattle.pr_base.specs.Paths.{Component, Dot, DotDot, Name, components_of, has_slash, is_absolute}
-use Rattle.pr_base.specs.WalkFrame.{Seen as Sight, Fails, Missing, Leads, Links, Jumps, Landing, Looking, Target, Trail, Onward, is_followed, wants_directory, may_be_free, target_at as target_of, landed, ends_found, ends_landed, jumps_on, begins_at, in_middle, at_last, along, loops, walk_on, most_links}
-use Rattle.pr_base.specs.declared.errno.Errno.{Errno}
-use Rattle.pr_base.specs.declared.errno.Errno.TheVariants.{ENOENT, EBADF, ENOSYS}
-use Rattle.pr_base.specs.declared.path.WalkMode.{WalkMode}
+use Rattle.kr_calls.specs.pr_base.Paths.{Component, Dot, DotDot, Name, components_of, has_slash, is_absolute}
+use Rattle.kr_calls.specs.pr_base.WalkFrame.{Seen as Sight, Fails, Missing, Leads, Links, Jumps, Landing, Looking, Target, Trail, Onward, is_followed, wants_directory, may_be_free, target_at as target_of, landed, ends_found, ends_landed, jumps_on, begins_at, in_middle, at_last, along, loops, walk_on, most_links}
+use Rattle.kr_calls.specs.pr_base.declared.errno.Errno.{Errno}
+use Rattle.kr_calls.specs.pr_base.declared.errno.Errno.TheVariants.{ENOENT, EBADF, ENOSYS}
+use Rattle.kr_calls.specs.pr_base.declared.path.WalkMode.{WalkMode}
 use Rattle.kr_calls.specs.PathTable.{PathUse, path_at}
 use Rattle.kr_calls.specs.declared.request.Request.{Request}
 use Rattle.kr_calls.specs.declared.request.Request.TheVariants as call

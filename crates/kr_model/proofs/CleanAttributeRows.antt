@@ -1,14 +1,14 @@
 -- Calls on attributes that answer an error change nothing.
 use Rattle.std.proofs.Common.{◌≡◌, ℕ, true, false, ◌&&◌, List, refl, Option, ℤ}
 use Rattle.std.specs.Prelude.{◌==◌}
-use Rattle.pr_base.specs.declared.errno.Errno.TheVariants.{EPERM, ENOENT, EBADF, EACCES, EFAULT, EINVAL}
+use Rattle.kr_calls.specs.pr_base.declared.errno.Errno.TheVariants.{EPERM, ENOENT, EBADF, EACCES, EFAULT, EINVAL}
 use Rattle.kr_files.specs.declared.opened.What.{What}
 use Rattle.kr_files.specs.declared.opened.What.TheVariants.{File, Dir as DirOpen, In, Out, Err, PipeRead, PipeWrite}
 use Rattle.kr_files.specs.kr_tree.Tree.{Body, Directory, RegularFile, SymbolicLink, ProcessDirectory}
 use Rattle.kr_files.specs.kr_tree.declared.place.Host.{Host}
 use Rattle.kr_files.specs.kr_tree.declared.place.Host.TheVariants as host
 use Rattle.kr_calls.specs.declared.stat.Stat.{Stat}
-use Rattle.kr_inode.specs.declared.user.User.{User}
+use Rattle.kr_files.specs.kr_inode.declared.user.User.{User}
 use Rattle.kr_model.specs.Change.{Change}
 use Rattle.kr_model.specs.Known.{Known, known_node}
 use Rattle.kr_model.specs.Laws.{ends_nobody}

@@ -1,10 +1,10 @@
 -- Every call that answers an error has changed nothing and written nothing; and which calls end their caller, and wait.
 use Rattle.std.proofs.Common.{◌≡◌, ◌≢◌, ℕ, Bool, true, false, ◌&&◌, cond, List, [], ◌∷◌, refl, ap, ◌∙◌, Option, Some, None}
 use Rattle.std.proofs.Math.Bool.{and-false}
-use Rattle.pr_base.specs.declared.errno.Errno.TheVariants.{EPERM, ENOENT, ESRCH, E2BIG, ENOEXEC, EBADF, ECHILD, EAGAIN, ENOMEM, EACCES, EFAULT, EBUSY, EEXIST, EXDEV, ENOTDIR, EISDIR, EINVAL, EMFILE, ENOTTY, EFBIG, ENOSPC, ESPIPE, EPIPE, ERANGE, ENAMETOOLONG, ENOSYS, ENOTEMPTY, ELOOP}
-use Rattle.pr_base.specs.declared.errno.Errno.{Errno}
-use Rattle.rv_mem.specs.Actions.{carried_out}
-use Rattle.rv_mem.specs.Memory.{Memory}
+use Rattle.kr_calls.specs.pr_base.declared.errno.Errno.TheVariants.{EPERM, ENOENT, ESRCH, E2BIG, ENOEXEC, EBADF, ECHILD, EAGAIN, ENOMEM, EACCES, EFAULT, EBUSY, EEXIST, EXDEV, ENOTDIR, EISDIR, EINVAL, EMFILE, ENOTTY, EFBIG, ENOSPC, ESPIPE, EPIPE, ERANGE, ENAMETOOLONG, ENOSYS, ENOTEMPTY, ELOOP}
+use Rattle.kr_calls.specs.pr_base.declared.errno.Errno.{Errno}
+use Rattle.kr_calls.specs.rv_mem.Actions.{carried_out}
+use Rattle.kr_calls.specs.rv_mem.Memory.{Memory}
 use Rattle.kr_calls.specs.declared.request.Request.{Request}
 use Rattle.kr_calls.specs.declared.request.Request.TheVariants as call
 use Rattle.kr_model.specs.Change.{End}
@@ -232,37 +232,37 @@ operation_clean built pid call.Getgid seen k known = answered refl
 operation_clean built pid call.Getegid seen k known = answered refl
 
 pub refusals : RefusalsChangeNothing
-refusals pid r seen k m known is =
+refusals pid r seen k m kind known is =
     let l = leaves (bounds_of true r) false (operation pid r seen k) (operation_clean true pid r seen k (λ built. known)) m refl is in (l.0, l.2, l.3)
 
--- ---- what a call comes to
+-- ---- what a row comes to, whatever the request is: of an execve that is the row in its place, of which no law speaks
 
 no_premise : (seen : Seen) → false ≡ true → seen ≢ WalkFails ENOSYS
 no_premise seen is = absurd cc
 
-told : (pid : ℕ) (r : Request) (seen : Seen) (k : Known) (m : Memory) → Tells (bounds_of false r) (carried_out (operation pid r seen k) m).reply
-told pid r seen k m = tells (bounds_of false r) false (operation pid r seen k) (operation_clean false pid r seen k (no_premise seen)) m
+pub row_tells : (pid : ℕ) (r : Request) (seen : Seen) (k : Known) (m : Memory) → Tells (bounds_of false r) (carried_out (operation pid r seen k) m).reply
+row_tells pid r seen k m = tells (bounds_of false r) false (operation pid r seen k) (operation_clean false pid r seen k (no_premise seen)) m
 
 -- the word of one that may end its caller
 ended_by : (b : Bool) (status word : ℕ) → Some status ≡ cond b (Some word) None → (b ≡ true) × (status ≡ word)
 ended_by true status word e = let same : status ≡ word = cc in (refl, same)
 ended_by false status word e = absurd cc
 
-ended : (pid : ℕ) (r : Request) (seen : Seen) (k : Known) (m : Memory) → (carried_out (operation pid r seen k) m).reply.outcome ≡ Ended
+pub row_ended : (pid : ℕ) (r : Request) (seen : Seen) (k : Known) (m : Memory) → (carried_out (operation pid r seen k) m).reply.outcome ≡ Ended
     → (may_end r ≡ true) × ((carried_out (operation pid r seen k) m).reply.changes ≡ End (word_told r) ∷ [])
-ended pid r seen k m is =
-    let end = (told pid r seen k m).0 is in
+row_ended pid r seen k m is =
+    let end = (row_tells pid r seen k m).0 is in
     let by = ended_by (may_end r) end.0 (word_told r) end.2 in
     (by.0, end.1 ∙ ap (λ status. End status ∷ []) by.1)
 
 pub ends_as_told : EndsAsTold
-ends_as_told pid r seen k m is = (ended pid r seen k m is).1
+ends_as_told pid r seen k m kind is = (row_ended pid r seen k m is).1
 
 pub only_enders : OnlyEndersEnd
-only_enders pid r seen k m is = (ended pid r seen k m is).0
+only_enders pid r seen k m kind is = (row_ended pid r seen k m is).0
 
 pub waits_as_told : WaitsAsTold
-waits_as_told pid r seen k m = (told pid r seen k m).1
+waits_as_told pid r seen k m kind = (row_tells pid r seen k m).1
 
 pub answers_end_nobody : AnswersEndNobody
-answers_end_nobody pid r seen k m = (told pid r seen k m).2
+answers_end_nobody pid r seen k m kind = (row_tells pid r seen k m).2

@@ -1,7 +1,7 @@
 -- Calls on descriptors that answer an error change nothing.
 use Rattle.std.proofs.Common.{◌+ℤ◌, ℕ, zero, suc, Bool, true, false, length, refl, Option, Some, None, ℤ, pos, negsuc}
 use Rattle.std.specs.Prelude.{◌==◌}
-use Rattle.pr_base.specs.declared.errno.Errno.TheVariants.{EBADF, EFAULT, EINVAL, EMFILE, ENOTTY, ESPIPE}
+use Rattle.kr_calls.specs.pr_base.declared.errno.Errno.TheVariants.{EBADF, EFAULT, EINVAL, EMFILE, ENOTTY, ESPIPE}
 use Rattle.kr_files.specs.declared.opened.Opened.{Opened}
 use Rattle.kr_files.specs.declared.opened.What.{What}
 use Rattle.kr_files.specs.declared.opened.What.TheVariants.{File, Dir, In, Out, Err, PipeRead, PipeWrite}

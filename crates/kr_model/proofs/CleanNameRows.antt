@@ -1,13 +1,13 @@
 -- Calls on names that answer an error change nothing.
 use Rattle.std.proofs.Common.{cond, not, ◌||◌, ℕ, Bool, true, false, ◌&&◌, List, [], refl, Option, Some, None}
-use Rattle.pr_base.specs.declared.errno.Errno.TheVariants.{EPERM, ENOENT, EACCES, EBUSY, EEXIST, EXDEV, ENOTDIR, EISDIR, EINVAL, ENOSPC, ENOTEMPTY}
+use Rattle.kr_calls.specs.pr_base.declared.errno.Errno.TheVariants.{EPERM, ENOENT, EACCES, EBUSY, EEXIST, EXDEV, ENOTDIR, EISDIR, EINVAL, ENOSPC, ENOTEMPTY}
 use Rattle.std.specs.Bool.{if◌then◌else◌}
 use Rattle.std.specs.Option.{option_map_or}
 use Rattle.kr_files.specs.kr_tree.Tree.{Node}
 use Rattle.kr_files.specs.kr_tree.declared.place.Host.{Host}
 use Rattle.kr_files.specs.kr_tree.declared.place.Host.TheVariants as host
-use Rattle.pr_base.specs.declared.path.Last.{Last}
-use Rattle.pr_base.specs.declared.path.Last.TheVariants as last
+use Rattle.kr_calls.specs.pr_base.declared.path.Last.{Last}
+use Rattle.kr_calls.specs.pr_base.declared.path.Last.TheVariants as last
 use Rattle.kr_model.specs.Known.{Known, known_node}
 use Rattle.kr_model.specs.Reply.{Replying, done, refuse}
 use Rattle.kr_model.specs.Asking.{is_directory_host, is_processes_host}

@@ -2,7 +2,7 @@
 use Rattle.std.proofs.Common.{◌≡◌, ◌*◌, ◌||◌, nat_lt, replicate, ℕ, zero, suc, ◌-◌, Bool, true, false, ◌&&◌, List, [], ◌∷◌, refl, Option, Some, None, ℤ, pos, negsuc}
 use Rattle.std.specs.Int.{int_rem_euclid, to_le_bytes, w32}
 use Rattle.std.specs.Prelude.{unsigned_abs}
-use Rattle.pr_base.specs.declared.errno.Errno.TheVariants.{EPERM, ENOENT, ECHILD, EAGAIN, ENOMEM, EACCES, EFAULT, ENOTDIR, EINVAL, ERANGE}
+use Rattle.kr_calls.specs.pr_base.declared.errno.Errno.TheVariants.{EPERM, ENOENT, ECHILD, EAGAIN, ENOMEM, EACCES, EFAULT, ENOTDIR, EINVAL, ERANGE}
 use Rattle.kr_files.specs.kr_tree.declared.place.Host.{Host}
 use Rattle.kr_model.specs.Known.{Known}
 use Rattle.kr_model.specs.Reply.{Replying, done}

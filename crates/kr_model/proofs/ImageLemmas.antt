@@ -1,9 +1,9 @@
 -- Memories that are equal but for marked bytes stay so when pages change, and so do those of a child.
 use Rattle.std.proofs.Common.{ℕ, Option, Some, None}
 use Rattle.std.specs.Int.{to_le_bytes, w32}
-use Rattle.rv_mem.specs.Pages.{Pages}
-use Rattle.rv_mem.specs.Actions.{AreEqualUnmarked}
-use Rattle.rv_mem.proofs.AlikeLemmas.{stay_alike}
+use Rattle.kr_calls.specs.rv_mem.Pages.{Pages}
+use Rattle.kr_calls.specs.rv_mem.Actions.{AreEqualUnmarked}
+use Rattle.kr_calls.proofs.rv_mem.AlikeLemmas.{stay_alike}
 use Rattle.kr_model.specs.Change.{PageChange, MapPages, UnmapPages, ProtectPages}
 use Rattle.kr_model.specs.Applied.{pages_after, told}
 

@@ -11,7 +11,7 @@ use Rattle.kr_files.specs.WithoutMounts.{without_mount}
 use Rattle.kr_files.specs.declared.opened.Opened.{Opened}
 use Rattle.kr_files.specs.kr_tree.declared.place.Place.{Place}
 use Rattle.kr_model.specs.Bare.{host_only}
-use Rattle.pr_base.proofs.MapLemmas.{len-mapped}
+use Rattle.kr_calls.proofs.pr_base.MapLemmas.{len-mapped}
 use Rattle.kr_files.proofs.MountLemmas.{has_kind-without_mounts}
 use Rattle.kr_model.specs.State.{Image, Layout, image_layout, Process, State, process, opened}
 use Rattle.kr_model.specs.Bare.{bare, bare_process}

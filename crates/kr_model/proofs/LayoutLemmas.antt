@@ -1,8 +1,8 @@
 -- Changes of pages, on their layout.
 use Rattle.std.proofs.Common.{◌≡◌, ℕ, refl, Option, Some, None}
 use Rattle.std.specs.Int.{to_le_bytes, w32}
-use Rattle.rv_mem.specs.Pages as pages
-use Rattle.rv_mem.proofs.LayoutLemmas.{layouts_follow}
+use Rattle.kr_calls.specs.rv_mem.Pages as pages
+use Rattle.kr_calls.proofs.rv_mem.LayoutLemmas.{layouts_follow}
 use Rattle.kr_model.specs.State.{layout_of}
 use Rattle.kr_model.specs.Change.{PageChange, MapPages, UnmapPages, ProtectPages}
 use Rattle.kr_model.specs.Applied.{layout_after, pages_after, told}

@@ -2,7 +2,7 @@
 use Rattle.std.specs.FinMap as map
 use Rattle.std.proofs.Common.{◌≡◌, ℕ, ◌+◌, ◌<◌, false, List, refl, ap, arith, Option, Some, None}
 use Rattle.std.specs.Option.{option_map, option_map_or}
-use Rattle.pr_base.proofs.MapLemmas.{by_key, get-insert_same, get-insert_other, get-changed_same, get-changed_other}
+use Rattle.kr_calls.proofs.pr_base.MapLemmas.{by_key, get-insert_same, get-insert_other, get-changed_same, get-changed_other}
 use Rattle.kr_files.specs.kr_tree.Tree.{Tree, Inode, Inodes, Node, Body, is_directory}
 use Rattle.kr_files.specs.kr_tree.Changes as tree
 use Rattle.kr_files.specs.kr_tree.Holds.{names_at}

@@ -3,12 +3,12 @@
 use Rattle.std.specs.FinMap as map
 use Rattle.std.proofs.Common.{◌≡◌, ℕ, Bool, true, false, List, [], ◌∷◌, replicate, refl, Option, Some, None, pos, negsuc}
 use Rattle.std.specs.Prelude.{codes, ◌==◌, if◌then◌else◌}
-use Rattle.pr_base.specs.declared.errno.Errno.TheVariants.{EPERM, ENOENT, EBADF, ECHILD, ENOMEM, EACCES, EFAULT, EBUSY, EEXIST, EXDEV, ENOTDIR, EISDIR, EINVAL, ENOTTY, EFBIG, ESPIPE, ERANGE, ENOTEMPTY, ELOOP}
-use Rattle.pr_base.specs.declared.path.Last.TheVariants as last
-use Rattle.rv_mem.specs.Actions.{Done, MayUse, ReadBytes, WriteBytes}
+use Rattle.kr_calls.specs.pr_base.declared.errno.Errno.TheVariants.{EPERM, ENOENT, EBADF, ECHILD, ENOMEM, EACCES, EFAULT, EBUSY, EEXIST, EXDEV, ENOTDIR, EISDIR, EINVAL, ENOTTY, EFBIG, ESPIPE, ERANGE, ENOTEMPTY, ELOOP}
+use Rattle.kr_calls.specs.pr_base.declared.path.Last.TheVariants as last
+use Rattle.kr_calls.specs.rv_mem.Actions.{Done, MayUse, ReadBytes, WriteBytes}
 use Rattle.kr_calls.specs.declared.request.Request.{Request}
 use Rattle.kr_calls.specs.declared.request.Request.TheVariants as call
-use Rattle.kr_inode.specs.declared.standing.Standing.{Standing}
+use Rattle.kr_files.specs.kr_inode.declared.standing.Standing.{Standing}
 use Rattle.kr_files.specs.kr_tree.Tree.{Body, Directory, RegularFile, SymbolicLink, ProcessDirectory}
 use Rattle.kr_files.specs.kr_tree.declared.place.Host.TheVariants as host
 use Rattle.kr_files.specs.kr_tree.declared.place.ProcAt.TheVariants.{Cwd}

@@ -3,7 +3,7 @@ use Rattle.std.proofs.Common.{◌≡◌, ℕ, zero, suc, Bool, true, false, not,
 use Rattle.std.specs.Prelude.{map as map_list, ◌==◌}
 use Rattle.std.specs.List.{find, filter}
 use Rattle.std.specs.Option.{option_map, option_map_or}
-use Rattle.rv_mem.specs.declared.regs.Regs.{Regs}
+use Rattle.kr_calls.specs.rv_mem.declared.regs.Regs.{Regs}
 use Rattle.kr_files.specs.Descriptors.{Named}
 use Rattle.kr_model.specs.State.{Image, Process, State, process, named, is_pid, at_pid, with_process}
 use Rattle.kr_model.specs.Change.{Change, AddNode, LinkNode, RemoveName, MoveName, SetMode, SetOwner, SetSize, WriteFile, OpenFile, CopyDescriptor, CloseDescriptor, SetCloexec, Seek, SetAppend, MakePipe, TakeFromPipe, PutIntoPipe, TakeInput, WriteOut, WriteErr, ChangePages, SetBreak, SetUmask, ChangeDirectory, Fork, End, Reap, ReplaceImage, ReplaceExecutable, CloseOnExec, Birth}

@@ -4,8 +4,8 @@ use Rattle.std.proofs.Common.{◌≡◌, ℕ, Bool, true, false, List, [], refl,
 use Rattle.std.specs.Prelude.{◌==◌, map as map_list}
 use Rattle.std.specs.List.{find}
 use Rattle.std.specs.Option.{option_map, option_map_or, option_and_then}
-use Rattle.pr_base.specs.Maps.{changed}
-use Rattle.pr_base.proofs.MapLemmas.{by_key, get-changed_same, get-changed_other}
+use Rattle.kr_calls.specs.pr_base.Maps.{changed}
+use Rattle.kr_calls.proofs.pr_base.MapLemmas.{by_key, get-changed_same, get-changed_other}
 use Rattle.kr_files.specs.Descriptors.{Meanings, Named}
 use Rattle.kr_model.specs.State.{Process, State, process, named, is_pid, at_pid, with_process, with_descs}
 use Rattle.kr_model.specs.Change.{Change, AddNode, LinkNode, RemoveName, MoveName, SetMode, SetOwner, SetSize, WriteFile, OpenFile, CopyDescriptor, CloseDescriptor, SetCloexec, Seek, SetAppend, MakePipe, TakeFromPipe, PutIntoPipe, TakeInput, WriteOut, WriteErr, ChangePages, SetBreak, SetUmask, ChangeDirectory, Fork, End, Reap, ReplaceImage, ReplaceExecutable, CloseOnExec}

@@ -3,7 +3,7 @@ use Rattle.std.specs.FinMap as map
 use Rattle.std.proofs.Common.{◌≡◌, ℕ, zero, suc, ◌+◌, ◌-◌, ◌<◌, Bool, true, false, ◌&&◌, nat_eq, List, refl, ap, ◌∙◌, arith, cond, Option, Some, None}
 use Rattle.std.specs.Option.{option_map, option_map_or, option_and_then}
 use Rattle.std.proofs.lemmas.Bool.Decides.{nat_tests}
-use Rattle.pr_base.proofs.MapLemmas.{by_key, get-changed_same, get-changed_other}
+use Rattle.kr_calls.proofs.pr_base.MapLemmas.{by_key, get-changed_same, get-changed_other}
 use Rattle.kr_files.specs.kr_tree.Tree.{Tree, Inode, Inodes, Node}
 use Rattle.kr_files.specs.kr_tree.Changes as tree
 use Rattle.kr_files.proofs.kr_tree.InodesLemmas.{get-unused_other}

@@ -7,9 +7,9 @@ use Rattle.std.specs.Bool.{if◌then◌else◌}
 use Rattle.std.specs.Fmt.{decimal}
 use Rattle.std.specs.Option.{option_map, option_and_then}
 use Rattle.std.proofs.lemmas.Slice.Eq.{bytes_eq-Decides}
-use Rattle.pr_base.specs.Paths.{AreNames, IsName, text_of}
-use Rattle.pr_base.specs.Peeks.{NamesAreTexts}
-use Rattle.pr_base.specs.Texts.{IsText, Text}
+use Rattle.kr_calls.specs.pr_base.Paths.{AreNames, IsName, text_of}
+use Rattle.kr_calls.specs.pr_base.Peeks.{NamesAreTexts}
+use Rattle.kr_calls.specs.pr_base.Texts.{IsText, Text}
 use Rattle.kr_files.specs.kr_tree.declared.place.Host.{Host}
 use Rattle.kr_files.specs.kr_tree.declared.place.Host.TheVariants.{Node, Proc}
 use Rattle.kr_files.specs.kr_tree.declared.place.ProcAt.{ProcAt}

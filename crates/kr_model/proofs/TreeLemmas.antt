@@ -2,7 +2,7 @@
 use Rattle.std.specs.FinMap as map
 use Rattle.std.proofs.Common.{◌≡◌, subst, ℕ, ◌+◌, ◌-◌, ◌≤◌, Bool, true, false, sym, ap, refl, arith, cond, Option, Some, None}
 use Rattle.std.specs.Option.{option_map, option_map_or}
-use Rattle.pr_base.proofs.MapLemmas.{by_key, get-changed_same, get-changed_other, get-remove_same, get-remove_other}
+use Rattle.kr_calls.proofs.pr_base.MapLemmas.{by_key, get-changed_same, get-changed_other, get-remove_same, get-remove_other}
 use Rattle.kr_files.specs.kr_tree.Tree.{Tree, Inode}
 use Rattle.kr_files.specs.kr_tree.Changes.{with_inode, with_inodes, with_holds, is_unused_at, dropped_if_unused, held, released}
 use Rattle.kr_files.specs.kr_tree.Holds.{names_at, holds_at}

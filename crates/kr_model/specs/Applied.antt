@@ -1,15 +1,15 @@
 -- What changes make of a state. Each keeps together what belongs together: a descriptor that comes or
 -- goes holds or releases its inode, and a name that goes is forgotten by all that remember it.
 use Rattle.std.specs.FinMap as map
-use Rattle.std.specs.Prelude.{ℕ, zero, suc, ◌+◌, Bool, false, List, [], ◌∷◌, ◌++◌, ◌==◌, ◌&&◌, not, length, nat_lt, bytes_eq, Option, Some, None, map as map_list, if◌then◌else◌}
+use Rattle.std.specs.Prelude.{ℕ, zero, suc, ◌+◌, ◌%◌, ◌^◌, Bool, false, List, [], ◌∷◌, ◌++◌, ◌==◌, ◌&&◌, not, length, nat_lt, bytes_eq, Option, Some, None, map as map_list, if◌then◌else◌}
 use Rattle.std.specs.List.{filter}
 use Rattle.std.specs.Option.{option_map, option_map_or, option_and_then}
 use Rattle.std.specs.Int.{to_le_bytes, w32}
 use Rattle.std.specs.Prelude.{slice_set}
-use Rattle.rv_mem.specs.declared.regs.Regs.{Regs}
-use Rattle.rv_mem.specs.Memory as memory
-use Rattle.rv_mem.specs.Pages as pages
-use Rattle.rv_mem.specs.Layout.{laid}
+use Rattle.kr_calls.specs.rv_mem.declared.regs.Regs.{Regs}
+use Rattle.kr_calls.specs.rv_mem.Memory as memory
+use Rattle.kr_calls.specs.rv_mem.Pages as pages
+use Rattle.kr_calls.specs.rv_mem.Layout.{laid}
 use Rattle.kr_files.specs.kr_tree.Tree.{Tree}
 use Rattle.kr_files.specs.kr_tree.Changes as tree
 use Rattle.kr_files.specs.kr_tree.declared.place.Host.{Host}
@@ -18,7 +18,7 @@ use Rattle.kr_files.specs.declared.opened.Opened.{Opened}
 use Rattle.kr_files.specs.Descriptors.{Meanings, Named}
 use Rattle.kr_files.specs.Files.{Table, with_file, with_copy, with_copies, closed, with_pipe, with_opened, with_all_opened, at_offset, with_append, pipe_after_read, pipe_after_write}
 use Rattle.kr_files.specs.Opened.{after_removal, after_rename}
-use Rattle.pr_base.specs.Maps.{changed}
+use Rattle.kr_calls.specs.pr_base.Maps.{changed}
 use Rattle.kr_model.specs.State.{Image, Layout, layout_of, Process, Ended, State, inode_of, process, named, opened, place_of, with_process, with_descs}
 use Rattle.kr_model.specs.Change.{Change, AddNode, LinkNode, RemoveName, MoveName, SetMode, SetOwner, SetSize, WriteFile, OpenFile, CopyDescriptor, CloseDescriptor, SetCloexec, Seek, SetAppend, MakePipe, TakeFromPipe, PutIntoPipe, TakeInput, WriteOut, WriteErr, ChangePages, SetBreak, SetUmask, ChangeDirectory, Fork, End, Reap, ReplaceImage, ReplaceExecutable, CloseOnExec, MountOf, OfFound, OfDirectory, OfDescriptor, PageChange, MapPages, UnmapPages, ProtectPages, Birth}
 
@@ -35,11 +35,11 @@ pages_after (MapPages first count rights) m = pages.mapped m first count rights
 pages_after (UnmapPages first count) m = pages.unmapped m first count
 pages_after (ProtectPages first count rights) m = pages.protected m first count rights
 
--- the registers of a child, behind its call, with 0 as the answer
+-- the registers of a child, behind its call modulo 2^64, with 0 as the answer
 abbrev pub child_regs : ℕ → Regs → Regs
 child_regs sp regs =
     let x = slice_set regs.x 10 0 in
-    record { x = (if sp == 0 then x else slice_set x 2 sp); pc = regs.pc + 4 }
+    record { x = (if sp == 0 then x else slice_set x 2 sp); pc = (regs.pc + 4) % 2 ^ 64 }
 
 -- the child's own number in its memory
 abbrev pub told : ℕ → Option ℕ → pages.Pages → pages.Pages

@@ -3,8 +3,8 @@ use Rattle.std.specs.Prelude.{ℕ, ◌+◌, ◌-◌, ◌==◌, ◌&&◌, ◌||�
 use Rattle.std.specs.Int.RustNames.{bit_and}
 use Rattle.std.specs.List.{list_any}
 use Rattle.std.specs.Option.{option_map_or}
-use Rattle.pr_base.specs.declared.errno.Errno.TheVariants.{ENOENT, EBADF, EACCES, ENOTDIR}
-use Rattle.kr_inode.specs.declared.user.Right.TheVariants.{Write, Search}
+use Rattle.kr_calls.specs.pr_base.declared.errno.Errno.TheVariants.{ENOENT, EBADF, EACCES, ENOTDIR}
+use Rattle.kr_files.specs.kr_inode.declared.user.Right.TheVariants.{Write, Search}
 use Rattle.kr_files.specs.kr_tree.Tree.{Node, Body, Directory, RegularFile, SymbolicLink, ProcessDirectory, is_directory}
 use Rattle.kr_files.specs.kr_tree.Rights.{allows}
 use Rattle.kr_files.specs.kr_tree.Changes.{byte_limit, count_limit}

@@ -3,14 +3,14 @@
 use Rattle.std.specs.Prelude.{ℕ, ◌+◌, ◌%◌, ◌==◌, ◌&&◌, ◌||◌, not, Bool, true, false, List, [], ◌∷◌, length, take, Option, Some, None, ℤ, unsigned_abs, if◌then◌else◌}
 use Rattle.std.specs.Int.{div_ceil}
 use Rattle.std.specs.Option.{option_map_or}
-use Rattle.pr_base.specs.declared.errno.Errno.TheVariants.{EPERM, ENOENT, EBADF, EACCES, EFAULT, EINVAL}
-use Rattle.rv_mem.specs.Actions.{write_if_allowed}
+use Rattle.kr_calls.specs.pr_base.declared.errno.Errno.TheVariants.{EPERM, ENOENT, EBADF, EACCES, EFAULT, EINVAL}
+use Rattle.kr_calls.specs.rv_mem.Actions.{write_if_allowed}
 use Rattle.kr_calls.specs.Arguments.{has}
 use Rattle.kr_calls.specs.Stats.{stat_layout}
 use Rattle.kr_calls.specs.declared.stat.Stat.{Stat}
-use Rattle.kr_inode.specs.declared.user.User.{User}
-use Rattle.kr_inode.specs.declared.user.Right.{Right}
-use Rattle.kr_inode.specs.declared.user.Right.TheVariants.{Read, Write, Search}
+use Rattle.kr_files.specs.kr_inode.declared.user.User.{User}
+use Rattle.kr_files.specs.kr_inode.declared.user.Right.{Right}
+use Rattle.kr_files.specs.kr_inode.declared.user.Right.TheVariants.{Read, Write, Search}
 use Rattle.kr_files.specs.kr_tree.Tree.{Node, Body, Directory, RegularFile, SymbolicLink, ProcessDirectory}
 use Rattle.kr_files.specs.kr_tree.Rights.{allows}
 use Rattle.kr_files.specs.kr_tree.declared.place.Host.{Host}

@@ -1,7 +1,7 @@
 -- What a call can change: a small vocabulary, in which every call says what it does. A change names no
 -- mount: it says of what the mount is to be taken.
 use Rattle.std.specs.Prelude.{ℕ, Bool, List, Option}
-use Rattle.rv_mem.specs.declared.rights.Rights.{Rights}
+use Rattle.kr_calls.specs.rv_mem.declared.rights.Rights.{Rights}
 use Rattle.kr_files.specs.kr_tree.declared.place.Host.{Host}
 use Rattle.kr_files.specs.kr_tree.Tree.{Body}
 use Rattle.kr_files.specs.declared.opened.Opened.{Opened}

@@ -3,7 +3,7 @@
 use Rattle.std.specs.FinMap as map
 use Rattle.std.specs.Prelude.{◌≡◌, ◌≢◌, ℕ, ◌+◌, ◌≤◌, ◌<◌, ◌^◌, Bool, true, false, List, [], length, Some, None, IsSome}
 use Rattle.std.specs.Option.{IfSome}
-use Rattle.rv_mem.specs.Pages.{IsWhole, IsPlaced}
+use Rattle.kr_calls.specs.rv_mem.Pages.{IsWhole, IsPlaced}
 use Rattle.kr_files.specs.kr_tree.Tree.{Tree, Body, Directory, RegularFile, SymbolicLink, inode, entry, body_is, takes_names, is_file, is_filled, may_be_linked, bytes_of}
 use Rattle.kr_files.specs.kr_tree.Changes.{file_limit, has_no_room, has_no_name_left, has_no_room_for}
 use Rattle.kr_files.specs.kr_tree.Lawful.{AreBytes, IsOfBytes, IsLawfulMove}

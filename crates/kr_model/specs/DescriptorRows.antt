@@ -4,8 +4,8 @@ use Rattle.std.specs.FinMap as map
 use Rattle.std.specs.Prelude.{ℕ, zero, suc, ◌+◌, ◌%◌, ◌==◌, ◌++◌, Bool, true, false, List, [], ◌∷◌, length, nat_lt, nat_le, Option, Some, None, ℤ, pos, negsuc, ◌+ℤ◌, if◌then◌else◌}
 use Rattle.std.specs.Int.{to_le_bytes, w32}
 use Rattle.std.specs.Option.{option_map_or}
-use Rattle.pr_base.specs.declared.errno.Errno.TheVariants.{EBADF, EFAULT, EINVAL, EMFILE, ENOTTY, ESPIPE}
-use Rattle.rv_mem.specs.Actions.{write_if_allowed}
+use Rattle.kr_calls.specs.pr_base.declared.errno.Errno.TheVariants.{EBADF, EFAULT, EINVAL, EMFILE, ENOTTY, ESPIPE}
+use Rattle.kr_calls.specs.rv_mem.Actions.{write_if_allowed}
 use Rattle.kr_calls.specs.Arguments.{has}
 use Rattle.kr_files.specs.kr_tree.Tree.{bytes_of}
 use Rattle.kr_files.specs.kr_tree.declared.place.Host.{Host}

@@ -3,8 +3,8 @@
 use Rattle.std.specs.Prelude.{ℕ, ◌+◌, ◌-◌, ◌==◌, ◌++◌, not, List, [], ◌∷◌, length, nat_lt, nat_le, codes, map as map_list, Option, Some, None, ℤ, pos, negsuc, if◌then◌else◌}
 use Rattle.std.specs.List.{filter, find}
 use Rattle.std.specs.Option.{option_map_or}
-use Rattle.pr_base.specs.declared.errno.Errno.TheVariants.{EPERM, ENOENT, EACCES, EFAULT, ENOTDIR, EINVAL, ERANGE}
-use Rattle.rv_mem.specs.Actions.{write_if_allowed}
+use Rattle.kr_calls.specs.pr_base.declared.errno.Errno.TheVariants.{EPERM, ENOENT, EACCES, EFAULT, ENOTDIR, EINVAL, ERANGE}
+use Rattle.kr_calls.specs.rv_mem.Actions.{write_if_allowed}
 use Rattle.kr_calls.specs.DirectoryEntries.{record_length, entry_bytes}
 use Rattle.kr_files.specs.kr_tree.Tree.{Entry, Body, Directory, RegularFile, SymbolicLink, ProcessDirectory}
 use Rattle.kr_files.specs.kr_tree.declared.place.Host.{Host}

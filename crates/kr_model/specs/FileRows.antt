@@ -2,10 +2,10 @@
 -- is our own).
 use Rattle.std.specs.Prelude.{ℕ, ◌+◌, ◌-◌, ◌%◌, ◌==◌, ◌&&◌, ◌||◌, not, Bool, true, false, List, [], ◌∷◌, length, take, drop, nat_lt, nat_le, Option, Some, None, ℤ, if◌then◌else◌}
 use Rattle.std.specs.Option.{option_map_or}
-use Rattle.pr_base.specs.declared.errno.Errno.TheVariants.{ENOENT, EBADF, EACCES, EEXIST, ENOTDIR, EISDIR, EINVAL, EMFILE, EFBIG, ENOSPC, ELOOP}
-use Rattle.rv_mem.specs.declared.rights.Use.TheVariants.{Read}
+use Rattle.kr_calls.specs.pr_base.declared.errno.Errno.TheVariants.{ENOENT, EBADF, EACCES, EEXIST, ENOTDIR, EISDIR, EINVAL, EMFILE, EFBIG, ENOSPC, ELOOP}
+use Rattle.kr_calls.specs.rv_mem.declared.rights.Use.TheVariants.{Read}
 use Rattle.kr_calls.specs.Arguments.{has}
-use Rattle.kr_inode.specs.declared.user.Right.TheVariants.{Read as ReadRight, Write as WriteRight}
+use Rattle.kr_files.specs.kr_inode.declared.user.Right.TheVariants.{Read as ReadRight, Write as WriteRight}
 use Rattle.kr_files.specs.kr_tree.Tree.{Node, Body, Directory, RegularFile, SymbolicLink, ProcessDirectory}
 use Rattle.kr_files.specs.kr_tree.Rights.{allows}
 use Rattle.kr_files.specs.kr_tree.Changes.{file_limit, size_written}

@@ -2,9 +2,9 @@
 -- one (section 2 of the manual; the order of tests is our own).
 use Rattle.std.specs.Prelude.{ℕ, ◌==◌, ◌&&◌, ◌||◌, Bool, [], ◌∷◌, ℤ, pos, negsuc, zero, suc, if◌then◌else◌}
 use Rattle.std.specs.Int.{to_le_bytes, w32}
-use Rattle.pr_base.specs.declared.errno.Errno.TheVariants.{EPERM, EFAULT, EINVAL}
-use Rattle.rv_mem.specs.Actions.{MayUse, WriteBytes, write_if_allowed}
-use Rattle.rv_mem.specs.declared.rights.Use.TheVariants.{Write}
+use Rattle.kr_calls.specs.pr_base.declared.errno.Errno.TheVariants.{EPERM, EFAULT, EINVAL}
+use Rattle.kr_calls.specs.rv_mem.Actions.{MayUse, WriteBytes, write_if_allowed}
+use Rattle.kr_calls.specs.rv_mem.declared.rights.Use.TheVariants.{Write}
 use Rattle.kr_model.specs.Known.{Known}
 use Rattle.kr_model.specs.Reply.{Replying, done, refuse}
 

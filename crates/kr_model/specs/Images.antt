@@ -1,8 +1,8 @@
 -- The registers and memories of processes on two machines, and how changes leave them.
 use Rattle.std.specs.Prelude.{◌≡◌, ℕ, Bool, true, List, [], ◌∷◌, map as map_list}
-use Rattle.rv_mem.specs.Actions.{AreEqualUnmarked}
-use Rattle.rv_mem.specs.Pages.{IsWhole}
-use Rattle.rv_mem.specs.declared.regs.Regs.{Regs}
+use Rattle.kr_calls.specs.rv_mem.Actions.{AreEqualUnmarked}
+use Rattle.kr_calls.specs.rv_mem.Pages.{IsWhole}
+use Rattle.kr_calls.specs.rv_mem.declared.regs.Regs.{Regs}
 use Rattle.kr_model.specs.Applied.{Mounts, applied, images, child_regs}
 use Rattle.kr_model.specs.Change.{Change, ReplaceImage}
 use Rattle.kr_model.specs.State.{Image, Process, State}

@@ -2,7 +2,7 @@
 use Rattle.std.specs.FinMap as map
 use Rattle.std.specs.Prelude.{ℕ, Bool, List, drop, sum, Option, map as map_list}
 use Rattle.std.specs.Option.{option_map, option_map_or}
-use Rattle.kr_inode.specs.declared.user.User.{User}
+use Rattle.kr_files.specs.kr_inode.declared.user.User.{User}
 use Rattle.kr_files.specs.kr_tree.Tree.{Tree, Node, root, inode}
 use Rattle.kr_files.specs.kr_tree.declared.place.Host.{Host}
 use Rattle.kr_files.specs.kr_tree.declared.place.Host.TheVariants.{Node as AtNode}

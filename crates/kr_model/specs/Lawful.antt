@@ -3,8 +3,8 @@
 use Rattle.std.specs.FinMap as map
 use Rattle.std.specs.Prelude.{◌≡◌, ◌≢◌, ℕ, suc, ◌+◌, ◌≤◌, ◌<◌, Bool, true, false, List, [], ◌∷◌, length, map as map_list, ◌==◌, Some, IsSome}
 use Rattle.std.specs.List.{list_any}
-use Rattle.pr_base.specs.Paths.{IsName}
-use Rattle.rv_mem.specs.Pages.{IsWhole, IsPlaced}
+use Rattle.kr_calls.specs.pr_base.Paths.{IsName}
+use Rattle.kr_calls.specs.rv_mem.Pages.{IsWhole, IsPlaced}
 use Rattle.kr_files.specs.kr_tree.Tree.{Tree, body_is, is_file}
 use Rattle.kr_files.specs.kr_tree.Lawful.{IsKept}
 use Rattle.kr_files.specs.kr_tree.declared.place.Host.{Host}

@@ -1,10 +1,10 @@
 -- What two machines with equal bare states have in common, and what calls come to.
 use Rattle.std.specs.Prelude.{◌≡◌, ◌≢◌, ℕ, ◌*◌, Bool, true, false, List, [], ◌∷◌, pos, unsigned_abs}
 use Rattle.std.specs.Int.{int_rem_euclid}
-use Rattle.pr_base.specs.declared.errno.Errno.TheVariants.{ENOSYS}
-use Rattle.rv_mem.specs.Memory.{Memory}
-use Rattle.rv_mem.specs.Pages.{Pages}
-use Rattle.rv_mem.specs.Actions.{carried_out, AreEqualUnmarked}
+use Rattle.kr_calls.specs.pr_base.declared.errno.Errno.TheVariants.{ENOSYS}
+use Rattle.kr_calls.specs.rv_mem.Memory.{Memory}
+use Rattle.kr_calls.specs.rv_mem.Pages.{Pages}
+use Rattle.kr_calls.specs.rv_mem.Actions.{carried_out, AreEqualUnmarked}
 use Rattle.kr_calls.specs.declared.request.Request.{Request}
 use Rattle.kr_calls.specs.declared.request.Request.TheVariants as call
 use Rattle.kr_model.specs.declared.outcome.Outcome.TheVariants.{Wait, Ended}
@@ -12,7 +12,7 @@ use Rattle.kr_model.specs.State.{State, Image, image_layout}
 use Rattle.kr_model.specs.Change.{Change, End, PageChange, Birth}
 use Rattle.kr_model.specs.Applied.{Computing, Mounts, applied, all_applied, layouts, images, pages_after}
 use Rattle.kr_model.specs.FileRows.{sigpipe}
-use Rattle.kr_model.specs.Operation.{operation}
+use Rattle.kr_model.specs.Operation.{IsNoExec, operation}
 use Rattle.kr_model.specs.Reply.{is_refusal, unbuilt}
 use Rattle.kr_model.specs.Seen.{Seen, WalkFails}
 use Rattle.kr_model.specs.Walks.{seen as seen_of_paths}
@@ -44,11 +44,11 @@ AllChangesAreBare M =
     (pins : ℕ → ℕ) (mounts : Mounts M) (pid : ℕ) (cs : List Change) (s : State M Image) → ArePinnedAlong pins images mounts pid cs s
     → bare image_layout pins (all_applied images mounts pid cs s) ≡ all_applied layouts (bare_mounts mounts) pid cs (bare image_layout pins s)
 
--- what two machines with equal bare states and equal facts are answered. Where the first one's call reads no marked
+-- what two machines with equal bare states and equal facts are answered, of any request but an execve. Where the first one's call reads no marked
 -- byte, the outcomes and the changes are the same, and the memories stay equal but for marked bytes
 abbrev pub CallsAlike : Type 0 → Type 0 → Type 0
 CallsAlike M N =
-    (p q : ℕ → ℕ) (pid : ℕ) (r : Request) (seen : Seen) (s : State M Image) (t : State N Image) (m w : Memory)
+    (p q : ℕ → ℕ) (pid : ℕ) (r : Request) (seen : Seen) (s : State M Image) (t : State N Image) (m w : Memory) → IsNoExec r
     → bare image_layout p s ≡ bare image_layout q t → AreEqualUnmarked m.pages w.pages
     → (carried_out (operation pid r seen (known image_layout pid s)) m).memory.read_marked ≡ false
     → ((carried_out (operation pid r seen (known image_layout pid s)) m).reply ≡ (carried_out (operation pid r seen (known image_layout pid t)) w).reply)
@@ -59,11 +59,11 @@ pub record PagesStayAlike : Type 0 where
   pub changed : (c : PageChange) (m w : Pages) → AreEqualUnmarked m w → AreEqualUnmarked (pages_after c m) (pages_after c w)
   pub born : (b : Birth) (x y : Image) → AreEqualUnmarked x.memory.pages y.memory.pages → AreEqualUnmarked (images.born b x).memory.pages (images.born b y).memory.pages
 
--- a call that answers an error has changed nothing and written nothing, and the error is ENOSYS only where that is told
--- of its paths
+-- a call, other than execve, that answers an error has changed nothing and written nothing, and the error is ENOSYS only where that is
+-- told of its paths
 abbrev pub RefusalsChangeNothing : Type 0
 RefusalsChangeNothing =
-    (pid : ℕ) (r : Request) (seen : Seen) (k : Known) (m : Memory) → seen ≢ WalkFails ENOSYS
+    (pid : ℕ) (r : Request) (seen : Seen) (k : Known) (m : Memory) → IsNoExec r → seen ≢ WalkFails ENOSYS
     → is_refusal (carried_out (operation pid r seen k) m).reply.outcome ≡ true
     → ((carried_out (operation pid r seen k) m).reply.changes ≡ [])
     × ((carried_out (operation pid r seen k) m).memory.pages ≡ m.pages)
@@ -73,7 +73,7 @@ RefusalsChangeNothing =
 abbrev pub NoWalkAnswersEnosys : Type 0 → Type 0
 NoWalkAnswersEnosys X = (table : List Row) (pid : ℕ) (s : State ℕ X) (r : Request) → seen_of_paths table pid s r ≢ WalkFails ENOSYS
 
--- ---- ends and waits
+-- ---- ends and waits, of any request but an execve
 
 -- the word by which a call ends its caller: an exit tells its code as wait4(2) does, and a write ends by SIGPIPE
 abbrev pub word_told : Request → ℕ
@@ -84,7 +84,7 @@ word_told _ = sigpipe
 -- a call that ends its caller changes nothing else
 abbrev pub EndsAsTold : Type 0
 EndsAsTold =
-    (pid : ℕ) (r : Request) (seen : Seen) (k : Known) (m : Memory)
+    (pid : ℕ) (r : Request) (seen : Seen) (k : Known) (m : Memory) → IsNoExec r
     → (carried_out (operation pid r seen k) m).reply.outcome ≡ Ended
     → (carried_out (operation pid r seen k) m).reply.changes ≡ End (word_told r) ∷ []
 
@@ -99,7 +99,7 @@ may_end _ = false
 -- no other call ends its caller
 abbrev pub OnlyEndersEnd : Type 0
 OnlyEndersEnd =
-    (pid : ℕ) (r : Request) (seen : Seen) (k : Known) (m : Memory)
+    (pid : ℕ) (r : Request) (seen : Seen) (k : Known) (m : Memory) → IsNoExec r
     → (carried_out (operation pid r seen k) m).reply.outcome ≡ Ended
     → may_end r ≡ true
 
@@ -115,7 +115,7 @@ may_wait _ = false
 -- no other call waits
 abbrev pub WaitsAsTold : Type 0
 WaitsAsTold =
-    (pid : ℕ) (r : Request) (seen : Seen) (k : Known) (m : Memory)
+    (pid : ℕ) (r : Request) (seen : Seen) (k : Known) (m : Memory) → IsNoExec r
     → (carried_out (operation pid r seen k) m).reply.outcome ≡ Wait
     → may_wait r ≡ true
 
@@ -128,6 +128,6 @@ ends_nobody (c ∷ cs) = ends_nobody cs
 -- so the caller of any other call lives behind it
 abbrev pub AnswersEndNobody : Type 0
 AnswersEndNobody =
-    (pid : ℕ) (r : Request) (seen : Seen) (k : Known) (m : Memory)
+    (pid : ℕ) (r : Request) (seen : Seen) (k : Known) (m : Memory) → IsNoExec r
     → (carried_out (operation pid r seen k) m).reply.outcome ≢ Ended
     → ends_nobody (carried_out (operation pid r seen k) m).reply.changes ≡ true

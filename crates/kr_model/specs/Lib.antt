@@ -1,4 +1,11 @@
+pub use Rattle.kr_calls.specs.pr_base as pr_base
+pub use Rattle.kr_calls.specs.rv_mem as rv_mem
+pub use Rattle.kr_files.specs.kr_inode as kr_inode
+pub use Rattle.kr_files.specs.kr_tree as kr_tree
+pub use Rattle.kr_procfs.specs.kr_view as kr_view
+pub use Rattle.kr_procfs.specs as kr_procfs
 pub use Rattle.kr_files.specs as kr_files
+pub use Rattle.kr_calls.specs as kr_calls
 pub mod State
 pub mod Change
 pub mod Applied

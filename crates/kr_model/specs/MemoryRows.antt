@@ -4,8 +4,8 @@ use Rattle.std.specs.FinMap as map
 use Rattle.std.specs.Prelude.{ℕ, zero, suc, ◌+◌, ◌-◌, ◌/◌, ◌==◌, ◌||◌, ◌*◌, not, Bool, true, false, List, [], ◌∷◌, nat_lt, nat_le, map as map_list, Option, Some, None, if◌then◌else◌}
 use Rattle.std.specs.Int.{div_ceil}
 use Rattle.std.specs.Option.{option_map_or}
-use Rattle.pr_base.specs.declared.errno.Errno.TheVariants.{ENOMEM}
-use Rattle.rv_mem.specs.declared.rights.Rights.{Rights}
+use Rattle.kr_calls.specs.pr_base.declared.errno.Errno.TheVariants.{ENOMEM}
+use Rattle.kr_calls.specs.rv_mem.declared.rights.Rights.{Rights}
 use Rattle.kr_calls.specs.Arguments.{has}
 use Rattle.kr_model.specs.Change.{MapPages, UnmapPages, ProtectPages, ChangePages, SetBreak}
 use Rattle.kr_model.specs.Known.{Known}

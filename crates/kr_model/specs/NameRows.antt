@@ -2,12 +2,12 @@
 use Rattle.std.specs.Prelude.{ℕ, zero, suc, ◌+◌, ◌==◌, ◌&&◌, ◌||◌, not, Bool, true, false, List, [], ◌∷◌, length, Option, Some, None, if◌then◌else◌}
 use Rattle.std.specs.Int.RustNames.{bit_and}
 use Rattle.std.specs.Option.{option_map_or}
-use Rattle.pr_base.specs.declared.errno.Errno.{Errno}
-use Rattle.pr_base.specs.declared.errno.Errno.TheVariants.{EPERM, ENOENT, EACCES, EBUSY, EEXIST, EXDEV, ENOTDIR, EISDIR, EINVAL, ENOSPC, ENOTEMPTY}
-use Rattle.pr_base.specs.declared.path.Last.{Last}
-use Rattle.pr_base.specs.declared.path.Last.TheVariants as last
+use Rattle.kr_calls.specs.pr_base.declared.errno.Errno.{Errno}
+use Rattle.kr_calls.specs.pr_base.declared.errno.Errno.TheVariants.{EPERM, ENOENT, EACCES, EBUSY, EEXIST, EXDEV, ENOTDIR, EISDIR, EINVAL, ENOSPC, ENOTEMPTY}
+use Rattle.kr_calls.specs.pr_base.declared.path.Last.{Last}
+use Rattle.kr_calls.specs.pr_base.declared.path.Last.TheVariants as last
 use Rattle.kr_calls.specs.Arguments.{has}
-use Rattle.kr_inode.specs.declared.user.Right.TheVariants.{Write}
+use Rattle.kr_files.specs.kr_inode.declared.user.Right.TheVariants.{Write}
 use Rattle.kr_files.specs.kr_tree.Tree.{Node, Directory, SymbolicLink, root, is_directory, is_filled, standing_of}
 use Rattle.kr_files.specs.kr_tree.Rights.{allows, is_kept_by_sticky}
 use Rattle.kr_files.specs.kr_tree.declared.place.Host.{Host}

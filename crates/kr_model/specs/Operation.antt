@@ -1,6 +1,6 @@
 -- What a request comes to, of what is known of the state and seen of the paths.
 use Rattle.std.specs.Prelude.{ℕ, List, [], ◌∷◌, Option}
-use Rattle.pr_base.specs.declared.errno.Errno.TheVariants.{ENOENT, ENOEXEC}
+use Rattle.kr_calls.specs.pr_base.declared.errno.Errno.TheVariants.{ENOENT, ENOEXEC}
 use Rattle.kr_calls.specs.declared.request.Request.{Request}
 use Rattle.kr_calls.specs.declared.request.Request.TheVariants as call
 use Rattle.kr_model.specs.AttributeRows.{faccessat_row, fchmod_row, fchmodat_row, fchown_row, fchownat_row, fchownat_here, fstat_row, newfstatat_row, newfstatat_here, readlinkat_row}
@@ -65,7 +65,12 @@ abbrev pub by_path : List ℕ → Replying → Replying → Replying
 by_path [] here next = here
 by_path (b ∷ path) here next = next
 
--- ---- each request. An execve that isn't refused with its walk has a definition of its own, beside its loader
+-- ---- each request. An execve has a definition of its own, beside its loader (`execution` in kr_execve). What its line here says, the error of
+-- its walk or ENOEXEC, is not the call: laws on this definition speak of the other requests, and name them by this premise
+
+abbrev pub IsNoExec : Request → Type 0
+IsNoExec (call.Execve path args env) = ⊥
+IsNoExec _ = Unit {0}
 
 abbrev pub operation : ℕ → Request → Seen → Known → Replying
 -- descriptors

@@ -2,17 +2,17 @@
 -- isn't followed.
 use Rattle.std.specs.Prelude.{◌≡◌, ℕ, Bool, true, false, List, [], take, Option, Some, None, Result, Ok, Err, if◌then◌else◌}
 use Rattle.std.specs.Fmt.{decimal}
-use Rattle.pr_base.specs.Peeks.{Peeked, NamesAreTexts}
-use Rattle.pr_base.specs.WalkFrame.{Fails, Missing, Leads, Links, Jumps}
-use Rattle.pr_base.specs.declared.errno.Errno.{Errno}
-use Rattle.pr_base.specs.declared.errno.Errno.TheVariants.{EACCES, EINVAL, ENOENT}
-use Rattle.pr_base.specs.declared.path.WalkMode.TheVariants.{LookLink}
-use Rattle.pr_base.specs.declared.peeks.BaseKind.{BaseKind}
-use Rattle.pr_base.specs.declared.peeks.BaseKind.TheVariants as base_kind
-use Rattle.pr_base.specs.declared.peeks.PeekKind.{PeekKind}
-use Rattle.pr_base.specs.declared.peeks.PeekKind.TheVariants as kind
-use Rattle.kr_inode.specs.declared.user.User.{User}
-use Rattle.kr_inode.specs.declared.user.Right.TheVariants.{Search}
+use Rattle.kr_calls.specs.pr_base.Peeks.{Peeked, NamesAreTexts}
+use Rattle.kr_calls.specs.pr_base.WalkFrame.{Fails, Missing, Leads, Links, Jumps}
+use Rattle.kr_calls.specs.pr_base.declared.errno.Errno.{Errno}
+use Rattle.kr_calls.specs.pr_base.declared.errno.Errno.TheVariants.{EACCES, EINVAL, ENOENT}
+use Rattle.kr_calls.specs.pr_base.declared.path.WalkMode.TheVariants.{LookLink}
+use Rattle.kr_calls.specs.pr_base.declared.peeks.BaseKind.{BaseKind}
+use Rattle.kr_calls.specs.pr_base.declared.peeks.BaseKind.TheVariants as base_kind
+use Rattle.kr_calls.specs.pr_base.declared.peeks.PeekKind.{PeekKind}
+use Rattle.kr_calls.specs.pr_base.declared.peeks.PeekKind.TheVariants as kind
+use Rattle.kr_files.specs.kr_inode.declared.user.User.{User}
+use Rattle.kr_files.specs.kr_inode.declared.user.Right.TheVariants.{Search}
 use Rattle.kr_files.specs.kr_tree.declared.place.Host.{Host}
 use Rattle.kr_files.specs.kr_tree.declared.place.Host.TheVariants.{Node, Proc}
 use Rattle.kr_files.specs.kr_tree.declared.place.Place.{Place}

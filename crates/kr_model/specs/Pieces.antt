@@ -2,10 +2,10 @@
 -- and write(2) have one piece.
 use Rattle.std.specs.Prelude.{ℕ, zero, suc, ◌-◌, ◌*◌, ◌&&◌, ◌++◌, min, Bool, true, List, [], ◌∷◌, length, take, drop, sum, map as map_list, nat_lt, if◌then◌else◌}
 use Rattle.std.specs.Int.{from_le_bytes, w64}
-use Rattle.pr_base.specs.declared.errno.Errno.TheVariants.{EFAULT, EINVAL}
-use Rattle.rv_mem.specs.Actions.{MayUse, ReadBytes, WriteBytes, read_if_allowed}
-use Rattle.rv_mem.specs.declared.rights.Use.{Use}
-use Rattle.rv_mem.specs.declared.rights.Use.TheVariants.{Read, Write}
+use Rattle.kr_calls.specs.pr_base.declared.errno.Errno.TheVariants.{EFAULT, EINVAL}
+use Rattle.kr_calls.specs.rv_mem.Actions.{MayUse, ReadBytes, WriteBytes, read_if_allowed}
+use Rattle.kr_calls.specs.rv_mem.declared.rights.Use.{Use}
+use Rattle.kr_calls.specs.rv_mem.declared.rights.Use.TheVariants.{Read, Write}
 use Rattle.kr_model.specs.Change.{Change}
 use Rattle.kr_model.specs.Reply.{Replying, done, refuse}
 

@@ -3,7 +3,7 @@ use Rattle.std.specs.FinMap as map
 use Rattle.std.specs.Prelude.{ℕ, ◌==◌, List, [], map as map_list, length, Option, Some, None, if◌then◌else◌}
 use Rattle.std.specs.Fmt.{decimal}
 use Rattle.std.specs.Option.{option_map, option_map_or, option_and_then}
-use Rattle.pr_base.specs.Paths.{text_of}
+use Rattle.kr_calls.specs.pr_base.Paths.{text_of}
 use Rattle.kr_files.specs.kr_tree.declared.place.Place.{Place}
 use Rattle.kr_files.specs.kr_tree.declared.place.ProcAt.{ProcAt}
 use Rattle.kr_files.specs.kr_tree.declared.place.ProcAt.TheVariants.{SelfLink, Dir, Cwd, Root, Exe, FdDir, Fd}

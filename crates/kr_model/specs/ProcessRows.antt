@@ -3,9 +3,9 @@ use Rattle.std.specs.FinMap as map
 use Rattle.std.specs.Prelude.{ℕ, zero, suc, ◌+◌, ◌-◌, ◌*◌, ◌%◌, ◌==◌, ◌&&◌, ◌||◌, ◌++◌, not, Bool, true, false, List, [], ◌∷◌, length, replicate, nat_lt, nat_le, codes, Option, Some, None, ℤ, pos, negsuc, unsigned_abs, if◌then◌else◌}
 use Rattle.std.specs.Int.{int_rem_euclid, to_le_bytes, w32}
 use Rattle.std.specs.List.{find, list_any}
-use Rattle.pr_base.specs.declared.errno.Errno.TheVariants.{ECHILD, EAGAIN, ENOMEM, EFAULT, EINVAL}
-use Rattle.rv_mem.specs.Actions.{MayUse, WriteBytes, write_if_allowed}
-use Rattle.rv_mem.specs.declared.rights.Use.TheVariants.{Write}
+use Rattle.kr_calls.specs.pr_base.declared.errno.Errno.TheVariants.{ECHILD, EAGAIN, ENOMEM, EFAULT, EINVAL}
+use Rattle.kr_calls.specs.rv_mem.Actions.{MayUse, WriteBytes, write_if_allowed}
+use Rattle.kr_calls.specs.rv_mem.declared.rights.Use.TheVariants.{Write}
 use Rattle.kr_calls.specs.Arguments.{has}
 use Rattle.kr_model.specs.Change.{SetUmask, Fork, Reap}
 use Rattle.kr_model.specs.Known.{Known}

@@ -1,9 +1,9 @@
 -- What a call comes to: an outcome, and the changes that it makes.
 use Rattle.std.specs.Prelude.{ℕ, Bool, true, false, List, [], ◌∷◌, pos, negsuc, neg_ℤ}
-use Rattle.pr_base.specs.declared.errno.Errno.{Errno}
-use Rattle.pr_base.specs.declared.errno.Errno.TheVariants.{ENOSYS}
-use Rattle.pr_base.specs.Errno.{errno_number}
-use Rattle.rv_mem.specs.Actions.{Action, Done}
+use Rattle.kr_calls.specs.pr_base.declared.errno.Errno.{Errno}
+use Rattle.kr_calls.specs.pr_base.declared.errno.Errno.TheVariants.{ENOSYS}
+use Rattle.kr_calls.specs.pr_base.Errno.{errno_number}
+use Rattle.kr_calls.specs.rv_mem.Actions.{Action, Done}
 use Rattle.kr_model.specs.declared.outcome.Outcome.{Outcome}
 use Rattle.kr_model.specs.declared.outcome.Outcome.TheVariants.{Answer, Wait, Ended, NoMemory}
 use Rattle.kr_model.specs.Change.{Change, End}

@@ -1,8 +1,8 @@
 -- What a call is told of its paths and of the view: of each path what its call uses, and no mount. So the call of
 -- which a walk failed, or that a tracer cancels, is told an error and nothing else, as any other call whose walk failed.
 use Rattle.std.specs.Prelude.{ℕ, Bool, List, Option}
-use Rattle.pr_base.specs.declared.errno.Errno.{Errno}
-use Rattle.pr_base.specs.declared.path.Last.{Last}
+use Rattle.kr_calls.specs.pr_base.declared.errno.Errno.{Errno}
+use Rattle.kr_calls.specs.pr_base.declared.path.Last.{Last}
 use Rattle.kr_files.specs.kr_tree.declared.place.Host.{Host}
 
 -- a path that is looked up: what was found, and of what is no directory the entry that an opening remembers, which

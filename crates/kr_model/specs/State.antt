@@ -4,10 +4,10 @@ use Rattle.std.specs.FinMap as map
 use Rattle.std.specs.Prelude.{ℕ, Bool, List, ◌==◌, Option, map as map_list, if◌then◌else◌}
 use Rattle.std.specs.List.{find}
 use Rattle.std.specs.Option.{option_and_then}
-use Rattle.rv_mem.specs.declared.regs.Regs.{Regs}
-use Rattle.rv_mem.specs.Memory.{Memory}
-pub use Rattle.rv_mem.specs.Layout.{Layout, layout_of}
-use Rattle.kr_inode.specs.declared.user.User.{User}
+use Rattle.kr_calls.specs.rv_mem.declared.regs.Regs.{Regs}
+use Rattle.kr_calls.specs.rv_mem.Memory.{Memory}
+pub use Rattle.kr_calls.specs.rv_mem.Layout.{Layout, layout_of}
+use Rattle.kr_files.specs.kr_inode.declared.user.User.{User}
 use Rattle.kr_files.specs.kr_tree.Tree.{Tree}
 use Rattle.kr_files.specs.kr_tree.declared.place.Host.{Host}
 use Rattle.kr_files.specs.kr_tree.declared.place.Host.TheVariants.{Node, Proc}

@@ -2,11 +2,11 @@
 -- call is told of the targets in a view.
 use Rattle.std.specs.Prelude.{ℕ, ◌==◌, Bool, false, List, [], ◌∷◌, Option, Some, None, Result, Ok, Err, if◌then◌else◌}
 use Rattle.std.specs.Option.{option_map, option_map_or, option_and_then}
-use Rattle.pr_base.specs.Paths.{is_absolute}
-use Rattle.pr_base.specs.declared.errno.Errno.{Errno}
-use Rattle.pr_base.specs.declared.errno.Errno.TheVariants.{ENOENT, EBADF, ENOTDIR}
-use Rattle.pr_base.specs.declared.path.Last.{Last}
-use Rattle.pr_base.specs.declared.path.Last.TheVariants as last
+use Rattle.kr_calls.specs.pr_base.Paths.{is_absolute}
+use Rattle.kr_calls.specs.pr_base.declared.errno.Errno.{Errno}
+use Rattle.kr_calls.specs.pr_base.declared.errno.Errno.TheVariants.{ENOENT, EBADF, ENOTDIR}
+use Rattle.kr_calls.specs.pr_base.declared.path.Last.{Last}
+use Rattle.kr_calls.specs.pr_base.declared.path.Last.TheVariants as last
 use Rattle.kr_calls.specs.PathTable.{PathUse, path_at}
 use Rattle.kr_calls.specs.declared.request.Request.{Request}
 use Rattle.kr_calls.specs.declared.request.Request.TheVariants as call

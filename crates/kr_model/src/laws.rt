@@ -19,7 +19,7 @@ pub fn all_changes_are_bare<T>()
     ensures { AllChangesAreBare T }
 {}
 
-/// Equal bare states and equal facts give equal replies, for every call.
+/// Equal bare states and equal facts give equal replies, for every call but execve(2).
 pub fn calls_alike<T, U>()
     ensures { CallsAlike T U }
 {}
@@ -29,8 +29,8 @@ pub fn pages_stay_alike()
     ensures { PagesStayAlike }
 {}
 
-/// A call that answers an error has changed nothing and written nothing, and where it isn't told ENOSYS of its paths
-/// it doesn't answer that.
+/// A call, other than execve(2), that answers an error has changed nothing and written nothing, and where it isn't told
+/// ENOSYS of its paths it doesn't answer that.
 pub fn refusals_change_nothing()
     ensures { RefusalsChangeNothing }
 {}
@@ -62,22 +62,22 @@ pub fn told_names_are_texts<T, X>()
     ensures { ToldNamesAreTexts T X }
 {}
 
-/// A call that ends its caller changes nothing else: an exit tells its code, and another one SIGPIPE.
+/// A call, other than execve(2), that ends its caller changes nothing else: an exit tells its code, and another one SIGPIPE.
 pub fn ends_are_told()
     ensures { EndsAsTold }
 {}
 
-/// A call that ends its caller is an exit or a write.
+/// A call, other than execve(2), that ends its caller is an exit or a write.
 pub fn only_enders_end()
     ensures { OnlyEndersEnd }
 {}
 
-/// A call that waits is a read, a write or a wait for a child.
+/// A call, other than execve(2), that waits is a read, a write or a wait for a child.
 pub fn waits_are_told()
     ensures { WaitsAsTold }
 {}
 
-/// A call that is answered, or waits, ends nobody.
+/// A call, other than execve(2), that is answered, or waits, ends nobody.
 pub fn answers_end_nobody()
     ensures { AnswersEndNobody }
 {}

@@ -2,6 +2,7 @@
 //! changes that it makes, and each call as a tree of memory actions that ends in a list of changes.
 #![tactic(auto)]
 
+pub mod below;
 pub mod laws;
 pub mod outcome;
 

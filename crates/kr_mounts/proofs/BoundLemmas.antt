@@ -4,15 +4,15 @@ use Rattle.std.specs.Bool.{if◌then◌else◌}
 use Rattle.std.specs.List.{AllByRecursion, list_any}
 use Rattle.std.specs.Option.{option_map_or}
 use Rattle.std.proofs.lemmas.List.Elements.{All-cons, All-head, All-nil, All-tail}
-use Rattle.pr_base.specs.MountText.{MountText, bound_of}
-use Rattle.pr_base.specs.Paths.{AreParts, text_of}
-use Rattle.pr_base.specs.Texts.{Text}
-use Rattle.pr_base.specs.declared.bind.Bind.{Bind}
-use Rattle.pr_base.specs.declared.bind.Bound.{Bound}
+use Rattle.pt_bind.specs.pr_base.MountText.{MountText, bound_of}
+use Rattle.pt_bind.specs.pr_base.Paths.{AreParts, text_of}
+use Rattle.pt_bind.specs.pr_base.Texts.{Text}
+use Rattle.pt_bind.specs.pr_base.declared.bind.Bind.{Bind}
+use Rattle.pt_bind.specs.pr_base.declared.bind.Bound.{Bound}
 use Rattle.pt_bind.specs.Binding.{AreBounds, AreTexts, IsWritten, point_of, row_of as texts_of}
 use Rattle.pt_bind.proofs.ByteLemmas.{spelled, spelled_parts}
-use Rattle.kr_inode.specs.declared.user.User.{User}
-use Rattle.kr_tree.specs.Tree.{Tree}
+use Rattle.kr_view.specs.kr_inode.declared.user.User.{User}
+use Rattle.kr_view.specs.kr_tree.Tree.{Tree}
 use Rattle.kr_view.specs.View.{Point, Row}
 use Rattle.kr_mounts.specs.Bounds.{AreNumbered, AreWritten, IsSpelled}
 use Rattle.kr_mounts.specs.Locations.{location_by}

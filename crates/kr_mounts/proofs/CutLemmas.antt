@@ -4,8 +4,8 @@ use Rattle.std.proofs.lemmas.List.{reverse-reverse}
 use Rattle.std.proofs.lemmas.Grind.{reverse_onto}
 use Rattle.std.proofs.lemmas.List.Elements.{All-append, All-head, All-tail, All-cons, All-nil, All-drop}
 use Rattle.std.proofs.Math.Seq.{take-append_seam, drop-append-add}
-use Rattle.pr_base.specs.Paths.{slash, IsPart, AreParts, below_root, parts_of, text_of}
-use Rattle.pr_base.specs.Texts.{Text}
+use Rattle.pt_bind.specs.pr_base.Paths.{slash, IsPart, AreParts, below_root, parts_of, text_of}
+use Rattle.pt_bind.specs.pr_base.Texts.{Text}
 use Rattle.pt_bind.specs.Binding.{IsWritten, names_of}
 use Rattle.pt_bind.proofs.ByteLemmas.{below_root_parts, spelled_in_turn, spelled_parts}
 use Rattle.kr_mounts.specs.Locations.{located_at}

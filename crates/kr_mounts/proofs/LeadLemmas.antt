@@ -6,22 +6,22 @@ use Rattle.std.specs.Option.{option_map, option_map_or, option_and_then}
 use Rattle.std.proofs.lemmas.Grind.{reverse_onto}
 use Rattle.std.proofs.lemmas.List.{reverse-reverse}
 use Rattle.std.proofs.lemmas.Option.{slice_get_within}
-use Rattle.pr_base.specs.Paths.{AreNames, IsName}
-use Rattle.pr_base.specs.Texts.{Text}
-use Rattle.pr_base.specs.declared.bind.Bind.{Bind}
-use Rattle.kr_inode.specs.declared.user.User.{User}
-use Rattle.kr_inode.specs.declared.user.Right.TheVariants.{Write, Search}
-use Rattle.kr_inode.proofs.NameLemmas.{name_decides}
-use Rattle.kr_tree.specs.declared.place.Host.{Host}
-use Rattle.kr_tree.specs.declared.place.Host.TheVariants.{Node, Proc}
-use Rattle.kr_tree.specs.declared.place.Place.{Place}
-use Rattle.kr_tree.specs.Changes.{has_no_room}
-use Rattle.kr_tree.specs.Lawful.{IsSound, IsCounted, HasItsInodes}
-use Rattle.kr_tree.specs.Names.{host_name, is_name, named, reached}
-use Rattle.kr_tree.specs.Rights.{may}
-use Rattle.kr_tree.specs.Tree.{Tree, Inode, body, body_is, entry, inode, is_directory, is_listed, takes_names}
-use Rattle.kr_tree.proofs.EntryLemmas.{entry_named_well, named_once, named_there}
-use Rattle.kr_tree.proofs.NameLemmas.{host_names-lead, named-host_name, some_is}
+use Rattle.pt_bind.specs.pr_base.Paths.{AreNames, IsName}
+use Rattle.pt_bind.specs.pr_base.Texts.{Text}
+use Rattle.pt_bind.specs.pr_base.declared.bind.Bind.{Bind}
+use Rattle.kr_view.specs.kr_inode.declared.user.User.{User}
+use Rattle.kr_view.specs.kr_inode.declared.user.Right.TheVariants.{Write, Search}
+use Rattle.kr_view.proofs.kr_inode.NameLemmas.{name_decides}
+use Rattle.kr_view.specs.kr_tree.declared.place.Host.{Host}
+use Rattle.kr_view.specs.kr_tree.declared.place.Host.TheVariants.{Node, Proc}
+use Rattle.kr_view.specs.kr_tree.declared.place.Place.{Place}
+use Rattle.kr_view.specs.kr_tree.Changes.{has_no_room}
+use Rattle.kr_view.specs.kr_tree.Lawful.{IsSound, IsCounted, HasItsInodes}
+use Rattle.kr_view.specs.kr_tree.Names.{host_name, is_name, named, reached}
+use Rattle.kr_view.specs.kr_tree.Rights.{may}
+use Rattle.kr_view.specs.kr_tree.Tree.{Tree, Inode, body, body_is, entry, inode, is_directory, is_listed, takes_names}
+use Rattle.kr_view.proofs.kr_tree.EntryLemmas.{entry_named_well, named_once, named_there}
+use Rattle.kr_view.proofs.kr_tree.NameLemmas.{host_names-lead, named-host_name, some_is}
 use Rattle.pt_bind.specs.Binding.{host_of}
 use Rattle.kr_view.specs.Laws.{is_link}
 use Rattle.kr_view.specs.View.{Point, Row, down, is_there, node_in, root_source, row}

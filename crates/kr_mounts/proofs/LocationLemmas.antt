@@ -1,16 +1,16 @@
 -- Walks along locations, one component after the other.
 use Rattle.std.proofs.Common.{◌≡◌, ◌≢◌, ◌-◌, map, ℕ, Bool, true, false, not, ◌&&◌, ◌||◌, List, [], ◌∷◌, ◌++◌, append-nil, Some, Result, Err, refl, ap, sym, subst, ◌∙◌, All}
 use Rattle.std.specs.Bool.{if◌then◌else◌}
-use Rattle.pr_base.specs.Paths.{Component, IsComponent, component_of, components_of, has_parts, has_slash, is_absolute, parts_of}
-use Rattle.pr_base.specs.Texts.{Text}
-use Rattle.pr_base.specs.WalkFrame.{Looking, Trail, Fails, Links, begins_at, ends, fails, at_last, in_middle, onward, is_followed, target_at, wants_directory, ends_found, walk_on, most_links}
-use Rattle.pr_base.specs.declared.errno.Errno.{Errno}
-use Rattle.pr_base.specs.declared.errno.Errno.TheVariants.{ENOTDIR}
-use Rattle.pr_base.specs.declared.path.WalkMode.{WalkMode}
+use Rattle.pt_bind.specs.pr_base.Paths.{Component, IsComponent, component_of, components_of, has_parts, has_slash, is_absolute, parts_of}
+use Rattle.pt_bind.specs.pr_base.Texts.{Text}
+use Rattle.pt_bind.specs.pr_base.WalkFrame.{Looking, Trail, Fails, Links, begins_at, ends, fails, at_last, in_middle, onward, is_followed, target_at, wants_directory, ends_found, walk_on, most_links}
+use Rattle.pt_bind.specs.pr_base.declared.errno.Errno.{Errno}
+use Rattle.pt_bind.specs.pr_base.declared.errno.Errno.TheVariants.{ENOTDIR}
+use Rattle.pt_bind.specs.pr_base.declared.path.WalkMode.{WalkMode}
 use Rattle.std.proofs.lemmas.List.Elements.{All-head}
-use Rattle.pr_base.proofs.PathLemmas.{paths_have_components}
-use Rattle.pr_base.proofs.WalkLemmas.{walk-none, walk-last, walk-middle, onward-less, onward-none}
-use Rattle.kr_mounts.specs.Locations.{Spot, alone, leads_to, located_at, locating, location_by, location_mode, location_of}
+use Rattle.pt_bind.proofs.pr_base.PathLemmas.{paths_have_components}
+use Rattle.pt_bind.proofs.pr_base.WalkLemmas.{walk-none, walk-last, walk-middle, onward-less, onward-none}
+use Rattle.kr_mounts.specs.Locations.{Spot, alone, leads_to, located_at, locating, location_mode, location_of, location_walked}
 use Rattle.kr_mounts.specs.Spots.{location_on}
 use Rattle.kr_mounts.specs.declared.fault.BindWhy.{BindWhy}
 use Rattle.kr_mounts.specs.declared.fault.BindWhy.TheVariants.{NoPoint}
@@ -125,7 +125,7 @@ module _ (l : Locating) where
       slashed (c ∷ cs) last middle = middle (λ e. absurd cc)
 
   -- the whole walk
-  pub location_begins : (path : List ℕ) → location_by l.tree.now l.user l.root l.keep path ≡ location_on l most_links L.root (components_of path) (has_slash path)
+  pub location_begins : (path : List ℕ) → location_walked l.tree.now l.user l.root l.keep path ≡ location_on l most_links L.root (components_of path) (has_slash path)
   location_begins path =
       elim (is_absolute path) as (λ b. answer (walk_on L mode most_links (if b then L.root else L.root) (components_of path) (has_slash path)) ≡ location_on l most_links L.root (components_of path) (has_slash path)) [ true ↦ refl | false ↦ refl ]
 

@@ -3,12 +3,12 @@ use Rattle.std.proofs.Common.{◌≡◌, ◌≢◌, ℕ, Bool, List, [], ◌∷�
 use Rattle.std.specs.Option.{option_map}
 use Rattle.std.proofs.lemmas.List.{map-append}
 use Rattle.std.proofs.lemmas.List.Elements.{All-head, All-nil}
-use Rattle.kr_inode.specs.declared.user.User.{User}
-use Rattle.kr_tree.specs.Tree.{Tree}
+use Rattle.kr_view.specs.kr_inode.declared.user.User.{User}
+use Rattle.kr_view.specs.kr_tree.Tree.{Tree}
 use Rattle.kr_view.specs.View.{Point, Row}
-use Rattle.pr_base.specs.Paths.{AreParts, IsPart, parts_of, slash}
-use Rattle.pr_base.specs.Texts.{Text}
-use Rattle.pr_base.specs.declared.bind.Bound.{Bound}
+use Rattle.pt_bind.specs.pr_base.Paths.{AreParts, IsPart, parts_of, slash}
+use Rattle.pt_bind.specs.pr_base.Texts.{Text}
+use Rattle.pt_bind.specs.pr_base.declared.bind.Bound.{Bound}
 use Rattle.pt_bind.specs.Binding.{IsWritten, names_of, point_of}
 use Rattle.pt_bind.proofs.ByteLemmas.{names_written, spelled_in_turn}
 use Rattle.kr_mounts.specs.Found.{HasTexts, located_told}

@@ -3,7 +3,7 @@ use Rattle.std.proofs.Common.{◌≡◌, ◌≢◌, ◌≤◌, ◌||◌, ℕ, Bo
 use Rattle.std.specs.Bool.{if◌then◌else◌}
 use Rattle.std.specs.List.{AllByRecursion, list_any}
 use Rattle.std.proofs.lemmas.Bool.Decides.{nat_tests}
-use Rattle.pr_base.proofs.TextLemmas.{texts_true}
+use Rattle.pt_bind.proofs.pr_base.TextLemmas.{texts_true}
 use Rattle.kr_mounts.specs.MountTable.{Located, is_located_as, counting, placed_before, in_order}
 use Rattle.kr_mounts.specs.Order.{AreApart, AreByLength, IsAmong, BindingsAreInOrder}
 

@@ -2,32 +2,32 @@
 use Rattle.std.proofs.Common.{◌≡◌, ℕ, zero, suc, Bool, true, false, List, [], ◌∷◌, Option, Some, None, Result, Ok, Err, inl, inr, refl, ap, sym, subst, ◌∙◌, nat_eq}
 use Rattle.std.specs.Bool.{if◌then◌else◌}
 use Rattle.std.specs.Option.{option_map, option_map_or}
-use Rattle.pr_base.specs.Paths.{Component, Dot, DotDot, Name, has_slash}
-use Rattle.pr_base.specs.Texts.{Text, below}
-use Rattle.pr_base.specs.WalkFrame.{Fails, Missing, Leads, Links, Jumps, most_links}
-use Rattle.pr_base.specs.WalkLaws.{Shows}
-use Rattle.pr_base.specs.declared.errno.Errno.{Errno}
-use Rattle.pr_base.specs.declared.errno.Errno.TheVariants.{EACCES, ENOTDIR, ENAMETOOLONG}
-use Rattle.pr_base.specs.declared.path.WalkMode.TheVariants.{Look}
-use Rattle.pr_base.proofs.EndLemmas.{EndsSo}
-use Rattle.pr_base.proofs.KeepLemmas.{GoesOn, walk_keeps}
-use Rattle.kr_inode.specs.declared.user.Right.TheVariants.{Search}
-use Rattle.kr_inode.specs.declared.standing.Standing.{Standing}
-use Rattle.kr_inode.specs.declared.user.User.{User}
-use Rattle.kr_tree.specs.Lawful.{IsSound}
-use Rattle.kr_tree.specs.Names.{host_name, named, reached}
-use Rattle.kr_tree.specs.Rights.{may}
-use Rattle.kr_tree.specs.Tree.{Tree, Body, Directory, RegularFile, SymbolicLink, ProcessDirectory, above as node_above, body, body_is, entry, is_directory, root}
-use Rattle.kr_tree.specs.declared.place.Host.{Host}
-use Rattle.kr_tree.specs.declared.place.Host.TheVariants.{Node, Proc}
-use Rattle.kr_tree.specs.declared.place.Place.{Place}
-use Rattle.kr_tree.proofs.EntryLemmas.{entry_in_directory, entry_stands, last_step, reached-named, step_more}
-use Rattle.kr_tree.proofs.NameLemmas.{map_some, named-host_name, some_is}
+use Rattle.pt_bind.specs.pr_base.Paths.{Component, Dot, DotDot, Name, has_slash}
+use Rattle.pt_bind.specs.pr_base.Texts.{Text, below}
+use Rattle.pt_bind.specs.pr_base.WalkFrame.{Fails, Missing, Leads, Links, Jumps, most_links}
+use Rattle.pt_bind.specs.pr_base.WalkLaws.{Shows}
+use Rattle.pt_bind.specs.pr_base.declared.errno.Errno.{Errno}
+use Rattle.pt_bind.specs.pr_base.declared.errno.Errno.TheVariants.{EACCES, ENOTDIR, ENAMETOOLONG}
+use Rattle.pt_bind.specs.pr_base.declared.path.WalkMode.TheVariants.{Look}
+use Rattle.pt_bind.proofs.pr_base.EndLemmas.{EndsSo}
+use Rattle.pt_bind.proofs.pr_base.KeepLemmas.{GoesOn, walk_keeps}
+use Rattle.kr_view.specs.kr_inode.declared.user.Right.TheVariants.{Search}
+use Rattle.kr_view.specs.kr_inode.declared.standing.Standing.{Standing}
+use Rattle.kr_view.specs.kr_inode.declared.user.User.{User}
+use Rattle.kr_view.specs.kr_tree.Lawful.{IsSound}
+use Rattle.kr_view.specs.kr_tree.Names.{host_name, named, reached}
+use Rattle.kr_view.specs.kr_tree.Rights.{may}
+use Rattle.kr_view.specs.kr_tree.Tree.{Tree, Body, Directory, RegularFile, SymbolicLink, ProcessDirectory, above as node_above, body, body_is, entry, is_directory, root}
+use Rattle.kr_view.specs.kr_tree.declared.place.Host.{Host}
+use Rattle.kr_view.specs.kr_tree.declared.place.Host.TheVariants.{Node, Proc}
+use Rattle.kr_view.specs.kr_tree.declared.place.Place.{Place}
+use Rattle.kr_view.proofs.kr_tree.EntryLemmas.{entry_in_directory, entry_stands, last_step, reached-named, step_more}
+use Rattle.kr_view.proofs.kr_tree.NameLemmas.{map_some, named-host_name, some_is}
 use Rattle.kr_view.specs.View.{is_root_place, node_in, plain, root_place, up}
 use Rattle.kr_view.specs.Component.{SeenPlace, Surroundings, above_body, above_host, above_node, in_node, inside, is_directory_at, is_processes, look_up, may_search, named_in, seen_body, seen_entry, seen_in_processes, shows_directory, too_long}
 use Rattle.kr_view.specs.Walk.{PlaceTarget, looking, place_walk}
 use Rattle.kr_mounts.specs.Sources.{Source, around_table, directory_source, entry_source, source_at, source_by, source_of}
-use Rattle.kr_mounts.proofs.SourceLemmas.{found_well}
+use Rattle.kr_mounts.proofs.SourceLemmas.{found_well, source_was_walked}
 
 -- an object that the user reaches by a text
 record IsReached (t : Tree) (user : User) (h : Host) : Type 0 where
@@ -218,7 +218,7 @@ module _ (t : Tree) (user : User) (sound : IsSound t) where
       of (Some p) found h = host_at p p.host found refl h
 
   pub sources_reached : (path : List ℕ) (s : Source) → source_by t user path ≡ Some s → IsReachedSource t user s
-  sources_reached path s is = of (place_walk (around_table plain t user) Look (root_place plain) path).answer refl is
+  sources_reached path s is = of (place_walk (around_table plain t user) Look (root_place plain) path).answer refl (source_was_walked t user sound path s is)
     where
       of : (r : Result PlaceTarget Errno) → (place_walk (around_table plain t user) Look (root_place plain) path).answer ≡ r → source_of t r ≡ Some s → IsReachedSource t user s
       of (Ok target) answer h = found_reached path target s answer h

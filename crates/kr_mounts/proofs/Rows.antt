@@ -1,8 +1,8 @@
 -- Bindings worked out by hand: which count and in what order, and what is kept of locations by text.
 use Rattle.std.proofs.Common.{◌≡◌, ℕ, true, false, [], ◌∷◌, None, Err, refl}
 use Rattle.std.specs.Prelude.{codes}
-use Rattle.pr_base.specs.Paths.{Dot, DotDot, Name}
-use Rattle.pr_base.specs.Texts.{Text}
+use Rattle.pt_bind.specs.pr_base.Paths.{Dot, DotDot, Name}
+use Rattle.pt_bind.specs.pr_base.Texts.{Text}
 use Rattle.kr_mounts.specs.Sources.{Source}
 use Rattle.kr_mounts.specs.Locations.{stepped, located_at}
 use Rattle.kr_mounts.specs.MountTable.{Located, counting, in_order, root_row, row_of}

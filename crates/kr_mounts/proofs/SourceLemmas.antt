@@ -4,35 +4,35 @@ use Rattle.std.specs.Bool.{if◌then◌else◌}
 use Rattle.std.specs.Option.{option_map, option_map_or}
 use Rattle.std.proofs.lemmas.Bool.{cases_eq}
 use Rattle.std.proofs.lemmas.List.Elements.{All-cons}
-use Rattle.pr_base.specs.Paths.{Component, Dot, DotDot, Name, AreNames, AreParts, IsName, IsPart, components_of, has_slash, is_absolute, text_of}
-use Rattle.pr_base.specs.Texts.{Text, below}
-use Rattle.pr_base.specs.WalkFrame.{Fails, Missing, Leads, Links, Jumps, begins_at, most_links, name_of}
-use Rattle.pr_base.specs.WalkLaws.{Shows}
-use Rattle.pr_base.specs.declared.errno.Errno.{Errno}
-use Rattle.pr_base.specs.declared.errno.Errno.TheVariants.{EACCES, ENOTDIR, ENAMETOOLONG}
-use Rattle.pr_base.specs.declared.path.WalkMode.TheVariants.{Look}
-use Rattle.pr_base.proofs.EndLemmas.{EndsSo, walk_ends}
-use Rattle.pr_base.proofs.PathLemmas.{name_is_part, names_are_parts}
+use Rattle.pt_bind.specs.pr_base.Paths.{Component, Dot, DotDot, Name, AreNames, AreParts, IsName, IsPart, components_of, has_slash, is_absolute, is_walked, text_of}
+use Rattle.pt_bind.specs.pr_base.Texts.{Text, below}
+use Rattle.pt_bind.specs.pr_base.WalkFrame.{Fails, Missing, Leads, Links, Jumps, begins_at, most_links, name_of}
+use Rattle.pt_bind.specs.pr_base.WalkLaws.{Shows}
+use Rattle.pt_bind.specs.pr_base.declared.errno.Errno.{Errno}
+use Rattle.pt_bind.specs.pr_base.declared.errno.Errno.TheVariants.{EACCES, ENOTDIR, ENAMETOOLONG}
+use Rattle.pt_bind.specs.pr_base.declared.path.WalkMode.TheVariants.{Look}
+use Rattle.pt_bind.proofs.pr_base.EndLemmas.{EndsSo, walk_ends}
+use Rattle.pt_bind.proofs.pr_base.PathLemmas.{name_is_part, names_are_parts}
 use Rattle.pt_bind.specs.Binding.{IsWritten, names_of}
 use Rattle.pt_bind.proofs.ByteLemmas.{names_written}
-use Rattle.kr_inode.specs.declared.standing.Standing.{Standing}
-use Rattle.kr_inode.specs.declared.user.Right.TheVariants.{Search}
-use Rattle.kr_inode.specs.declared.user.User.{User}
-use Rattle.kr_inode.specs.Stored.{kind_of}
-use Rattle.kr_inode.specs.declared.node.Kind.{Kind}
-use Rattle.kr_inode.specs.declared.node.Kind.TheVariants as kind
-use Rattle.kr_inode.proofs.BodyLemmas.{listed-is_directory}
-use Rattle.kr_tree.specs.Lawful.{IsSound}
-use Rattle.kr_tree.specs.Names.{host_name}
-use Rattle.kr_tree.specs.Rights.{may}
-use Rattle.kr_tree.specs.Tree.{Tree, Inode, Body, Directory, RegularFile, SymbolicLink, ProcessDirectory, above as node_above, body, body_is, entry, inode, is_directory, is_listed, root, standing}
-use Rattle.kr_tree.specs.declared.place.Host.{Host}
-use Rattle.kr_tree.specs.declared.place.Host.TheVariants.{Node, Proc}
-use Rattle.kr_tree.specs.declared.place.Place.{Place}
-use Rattle.kr_tree.specs.declared.place.ProcAt.{ProcAt}
-use Rattle.kr_tree.specs.declared.place.ProcAt.TheVariants.{SelfLink, Dir, Cwd, Root, Exe, FdDir, Fd}
-use Rattle.kr_tree.proofs.EntryLemmas.{entry_named_well}
-use Rattle.kr_tree.proofs.NameLemmas.{filled_directory, host_names-lead, map_some, some_is}
+use Rattle.kr_view.specs.kr_inode.declared.standing.Standing.{Standing}
+use Rattle.kr_view.specs.kr_inode.declared.user.Right.TheVariants.{Search}
+use Rattle.kr_view.specs.kr_inode.declared.user.User.{User}
+use Rattle.kr_view.specs.kr_inode.Stored.{kind_of}
+use Rattle.kr_view.specs.kr_inode.declared.node.Kind.{Kind}
+use Rattle.kr_view.specs.kr_inode.declared.node.Kind.TheVariants as kind
+use Rattle.kr_view.proofs.kr_inode.BodyLemmas.{listed-is_directory}
+use Rattle.kr_view.specs.kr_tree.Lawful.{IsSound}
+use Rattle.kr_view.specs.kr_tree.Names.{host_name}
+use Rattle.kr_view.specs.kr_tree.Rights.{may}
+use Rattle.kr_view.specs.kr_tree.Tree.{Tree, Inode, Body, Directory, RegularFile, SymbolicLink, ProcessDirectory, above as node_above, body, body_is, entry, inode, is_directory, is_listed, root, standing}
+use Rattle.kr_view.specs.kr_tree.declared.place.Host.{Host}
+use Rattle.kr_view.specs.kr_tree.declared.place.Host.TheVariants.{Node, Proc}
+use Rattle.kr_view.specs.kr_tree.declared.place.Place.{Place}
+use Rattle.kr_view.specs.kr_tree.declared.place.ProcAt.{ProcAt}
+use Rattle.kr_view.specs.kr_tree.declared.place.ProcAt.TheVariants.{SelfLink, Dir, Cwd, Root, Exe, FdDir, Fd}
+use Rattle.kr_view.proofs.kr_tree.EntryLemmas.{entry_named_well}
+use Rattle.kr_view.proofs.kr_tree.NameLemmas.{filled_directory, host_names-lead, map_some, some_is}
 use Rattle.kr_view.specs.View.{is_root_place, node_in, plain, root_place, up}
 use Rattle.kr_view.specs.Component.{SeenPlace, Surroundings, above, above_body, above_host, above_node, in_node, inside, is_directory_at, is_processes, look_up, may_search, named, named_in, seen_body, seen_entry, seen_in_processes, shows_directory, too_long}
 use Rattle.kr_view.specs.Walk.{PlaceTarget, looking, place_walk}
@@ -40,7 +40,7 @@ use Rattle.kr_view.specs.Answers.{IsAnswer}
 use Rattle.kr_view.specs.Leads.{numbered}
 use Rattle.kr_view.specs.declared.target.Target.{Target}
 use Rattle.kr_mounts.specs.Found.{source_told}
-use Rattle.kr_mounts.specs.Sources.{Source, around_table, directory_source, entry_source, source_at, source_by, source_of}
+use Rattle.kr_mounts.specs.Sources.{Source, around_table, directory_source, entry_source, source_at, source_by, source_of, source_walked}
 
 -- a place that is found by a component of another: the entry of a directory
 pub record IsEntryOf (t : Tree) (user : User) (p : Place ℕ) (c : Component) (f : Place ℕ) : Type 0 where
@@ -251,8 +251,16 @@ module _ (t : Tree) (user : User) (sound : IsSound t) where
       of None found h = absurd cc
       of (Some p) found h = host_at p p.host found refl h
 
+  -- what is found is what a walk leads to
+  pub source_was_walked : (path : List ℕ) (s : Source) → source_by t user path ≡ Some s → source_walked t user path ≡ Some s
+  source_was_walked path s is = by (is_walked path) is
+    where
+      by : (walks : Bool) → (if walks then source_walked t user path else None) ≡ Some s → source_walked t user path ≡ Some s
+      by true is = is
+      by false is = absurd cc
+
   pub sources_are : (path : List ℕ) (s : Source) → source_by t user path ≡ Some s → IsSource t s
-  sources_are path s is = of (place_walk (around_table plain t user) Look (root_place plain) path).answer refl is
+  sources_are path s is = of (place_walk (around_table plain t user) Look (root_place plain) path).answer refl (source_was_walked path s is)
     where
       of : (r : Result PlaceTarget Errno) → (place_walk (around_table plain t user) Look (root_place plain) path).answer ≡ r → source_of t r ≡ Some s → IsSource t s
       of (Ok target) answer h = found_is_source target s (found_well t user sound path target answer) h

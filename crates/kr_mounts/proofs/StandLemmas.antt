@@ -7,16 +7,16 @@ use Rattle.std.proofs.lemmas.Bool.{eq-eqb, eqb-true}
 use Rattle.std.proofs.lemmas.List.{append_cancel_right}
 use Rattle.std.proofs.lemmas.List.Elements.{All-cons, All-nil}
 use Rattle.std.proofs.lemmas.Slice.Eq.{bytes_eq-Decides}
-use Rattle.pr_base.specs.Paths.{AreNames, IsName}
-use Rattle.pr_base.specs.Texts.{Text}
-use Rattle.kr_tree.specs.declared.place.Host.{Host}
-use Rattle.kr_tree.specs.declared.place.Host.TheVariants.{Node, Proc}
-use Rattle.kr_tree.specs.declared.place.Place.{Place}
-use Rattle.kr_tree.specs.Lawful.{IsSound, IsCounted}
-use Rattle.kr_tree.specs.Names.{named}
-use Rattle.kr_tree.specs.Tree.{Tree, body, body_is, entry, is_directory}
-use Rattle.kr_tree.proofs.EntryLemmas.{entry_named_well, named_once}
-use Rattle.kr_tree.proofs.NameLemmas.{map_some, some_is, then_some}
+use Rattle.pt_bind.specs.pr_base.Paths.{AreNames, IsName}
+use Rattle.pt_bind.specs.pr_base.Texts.{Text}
+use Rattle.kr_view.specs.kr_tree.declared.place.Host.{Host}
+use Rattle.kr_view.specs.kr_tree.declared.place.Host.TheVariants.{Node, Proc}
+use Rattle.kr_view.specs.kr_tree.declared.place.Place.{Place}
+use Rattle.kr_view.specs.kr_tree.Lawful.{IsSound, IsCounted}
+use Rattle.kr_view.specs.kr_tree.Names.{named}
+use Rattle.kr_view.specs.kr_tree.Tree.{Tree, body, body_is, entry, is_directory}
+use Rattle.kr_view.proofs.kr_tree.EntryLemmas.{entry_named_well, named_once}
+use Rattle.kr_view.proofs.kr_tree.NameLemmas.{map_some, some_is, then_some}
 use Rattle.kr_view.specs.View.{Point, PointStands, Row, down, is_name_at, is_point, is_there, node_in, root_place, root_source, row, source_place, stands_at}
 use Rattle.kr_view.proofs.TableLemmas.{first_passes, point_there, there_is}
 use Rattle.kr_mounts.specs.Growth.{HasAllBefore}

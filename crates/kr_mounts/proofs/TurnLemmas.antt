@@ -14,9 +14,9 @@ use Rattle.std.proofs.lemmas.Bool.Decides.{nat_tests}
 use Rattle.std.proofs.lemmas.List.{length-append}
 use Rattle.std.proofs.lemmas.List.Elements.{All-cons, All-nil, All-pop}
 use Rattle.std.proofs.lemmas.Slice.Eq.{bytes_eq-Decides}
-use Rattle.pr_base.specs.Texts.{texts_eq}
-use Rattle.pr_base.specs.Paths.{text_of}
-use Rattle.pr_base.proofs.TextLemmas.{texts_same, texts_true}
+use Rattle.pt_bind.specs.pr_base.Texts.{texts_eq}
+use Rattle.pt_bind.specs.pr_base.Paths.{text_of}
+use Rattle.pt_bind.proofs.pr_base.TextLemmas.{texts_same, texts_true}
 use Rattle.pt_bind.specs.Binding.{IsWritten, names_of}
 use Rattle.pt_bind.specs.Kept.{IsNoted as IsKept}
 use Rattle.pt_bind.proofs.ByteLemmas.{spelled}

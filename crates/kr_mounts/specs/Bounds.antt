@@ -1,7 +1,7 @@
 -- What a tracer's table needs of settled bindings.
 use Rattle.std.specs.Prelude.{◌≡◌, ◌+◌, ◌⊎◌, ◌++◌, ℕ, List, [], ◌∷◌, Some, slice_get}
-use Rattle.pr_base.specs.declared.bind.Bind.{Bind}
-use Rattle.pr_base.specs.declared.bind.Bound.{Bound}
+use Rattle.pt_bind.specs.pr_base.declared.bind.Bind.{Bind}
+use Rattle.pt_bind.specs.pr_base.declared.bind.Bound.{Bound}
 use Rattle.pt_bind.specs.Binding.{IsWritten}
 use Rattle.kr_mounts.specs.declared.mount.Mount.{Mount}
 

@@ -1,14 +1,14 @@
 -- Where bindings are located: their guest paths, resolved in the guest's root alone.
 use Rattle.std.specs.Prelude.{ℕ, Bool, true, false, List, [], ◌∷◌, drop, Option, Some, None, Result, Ok, Err, if◌then◌else◌}
-use Rattle.pr_base.specs.Paths.{Component, Dot, DotDot, Name}
-use Rattle.pr_base.specs.Texts.{Text}
-use Rattle.pr_base.specs.WalkFrame.{Looking, Seen, Fails, Missing, Leads, Links, Jumps, Target, walk}
-use Rattle.pr_base.specs.declared.errno.Errno.{Errno}
-use Rattle.pr_base.specs.declared.path.WalkMode.{WalkMode}
-use Rattle.pr_base.specs.declared.path.WalkMode.TheVariants.{Look, LookLink}
-use Rattle.kr_inode.specs.declared.user.User.{User}
-use Rattle.kr_tree.specs.declared.place.Place.{Place}
-use Rattle.kr_tree.specs.Tree.{Tree}
+use Rattle.pt_bind.specs.pr_base.Paths.{Component, Dot, DotDot, Name, is_walked}
+use Rattle.pt_bind.specs.pr_base.Texts.{Text}
+use Rattle.pt_bind.specs.pr_base.WalkFrame.{Looking, Seen, Fails, Missing, Leads, Links, Jumps, Target, walk}
+use Rattle.pt_bind.specs.pr_base.declared.errno.Errno.{Errno}
+use Rattle.pt_bind.specs.pr_base.declared.path.WalkMode.{WalkMode}
+use Rattle.pt_bind.specs.pr_base.declared.path.WalkMode.TheVariants.{Look, LookLink}
+use Rattle.kr_view.specs.kr_inode.declared.user.User.{User}
+use Rattle.kr_view.specs.kr_tree.declared.place.Place.{Place}
+use Rattle.kr_view.specs.kr_tree.Tree.{Tree}
 use Rattle.kr_view.specs.Component.{SeenPlace, is_directory_at, look_up}
 use Rattle.kr_view.specs.View.{Row, plain_row, root_place}
 use Rattle.kr_mounts.specs.Sources.{around_table}
@@ -85,8 +85,12 @@ abbrev pub location_of : Result (Target Spot Spot) Errno → Result Text BindWhy
 location_of (Ok target) = location_at target.found
 location_of (Err e) = Err NoPoint
 
--- the location of a guest path, by the inode of the guest's root
-abbrev pub location_by : Tree → User → ℕ → Bool → List ℕ → Result Text BindWhy
-location_by t user root keep path =
+-- where the walk of a guest path ends, by the inode of the guest's root
+abbrev pub location_walked : Tree → User → ℕ → Bool → List ℕ → Result Text BindWhy
+location_walked t user root keep path =
     let looking = locating t user (alone root) in
     location_of (walk looking (location_mode keep) looking.root path).answer
+
+-- the location of a guest path: an empty one isn't walked, nor one that is too long
+abbrev pub location_by : Tree → User → ℕ → Bool → List ℕ → Result Text BindWhy
+location_by t user root keep path = if is_walked path then location_walked t user root keep path else Err NoPoint

@@ -1,9 +1,9 @@
 -- What the passes of settling answer in code.
 use Rattle.std.specs.Prelude.{◌≡◌, ℕ, List, [], ◌∷◌, reverse, Result, Ok, Err}
-use Rattle.kr_inode.specs.declared.user.User.{User}
-use Rattle.kr_tree.specs.Tree.{Tree}
+use Rattle.kr_view.specs.kr_inode.declared.user.User.{User}
+use Rattle.kr_view.specs.kr_tree.Tree.{Tree}
 use Rattle.kr_view.specs.View.{Row}
-use Rattle.pr_base.specs.Texts.{Text}
+use Rattle.pt_bind.specs.pr_base.Texts.{Text}
 use Rattle.pt_bind.specs.Binding.{IsWritten}
 use Rattle.kr_mounts.specs.Found.{source_told}
 use Rattle.kr_mounts.specs.MountTable.{Located, Refusal, Settling, Sourced, after_way, way_along}

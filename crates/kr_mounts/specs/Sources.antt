@@ -1,15 +1,16 @@
 -- The sources of bindings, as they are found on the host before a process lives.
 use Rattle.std.specs.Prelude.{ℕ, Bool, true, false, List, Option, Some, None, Result, Ok, Err, if◌then◌else◌}
 use Rattle.std.specs.Option.{option_map, option_map_or}
-use Rattle.pr_base.specs.Texts.{Text, below}
-use Rattle.pr_base.specs.declared.errno.Errno.{Errno}
-use Rattle.pr_base.specs.declared.path.WalkMode.TheVariants.{Look}
-use Rattle.kr_inode.specs.declared.user.User.{User}
-use Rattle.kr_tree.specs.declared.place.Host.{Host}
-use Rattle.kr_tree.specs.declared.place.Host.TheVariants.{Node, Proc}
-use Rattle.kr_tree.specs.declared.place.Place.{Place}
-use Rattle.kr_tree.specs.Tree.{Tree, above, body_is, is_directory, is_listed}
-use Rattle.kr_tree.specs.Names.{host_name}
+use Rattle.pt_bind.specs.pr_base.Paths.{is_walked}
+use Rattle.pt_bind.specs.pr_base.Texts.{Text, below}
+use Rattle.pt_bind.specs.pr_base.declared.errno.Errno.{Errno}
+use Rattle.pt_bind.specs.pr_base.declared.path.WalkMode.TheVariants.{Look}
+use Rattle.kr_view.specs.kr_inode.declared.user.User.{User}
+use Rattle.kr_view.specs.kr_tree.declared.place.Host.{Host}
+use Rattle.kr_view.specs.kr_tree.declared.place.Host.TheVariants.{Node, Proc}
+use Rattle.kr_view.specs.kr_tree.declared.place.Place.{Place}
+use Rattle.kr_view.specs.kr_tree.Tree.{Tree, above, body_is, is_directory, is_listed}
+use Rattle.kr_view.specs.kr_tree.Names.{host_name}
 use Rattle.kr_view.specs.Component.{Surroundings}
 use Rattle.kr_view.specs.Processes.{no_finds, no_leads}
 use Rattle.kr_view.specs.View.{Row, plain, root_place}
@@ -48,9 +49,13 @@ abbrev pub source_of : Tree → Result PlaceTarget Errno → Option Source
 source_of t (Ok target) = source_at t target.dir.host target.name (option_map (λ (p : Place ℕ). p.host) target.found)
 source_of t (Err e) = None
 
--- the source at a host path, with links followed
+-- where the walk of a host path leads, with links followed
+abbrev pub source_walked : Tree → User → List ℕ → Option Source
+source_walked t user path = source_of t (place_walk (around_table plain t user) Look (root_place plain) path).answer
+
+-- the source at a host path: an empty one isn't walked, nor one that is too long
 abbrev pub source_by : Tree → User → List ℕ → Option Source
-source_by t user path = source_of t (place_walk (around_table plain t user) Look (root_place plain) path).answer
+source_by t user path = if is_walked path then source_walked t user path else None
 
 -- the root's source must be a directory proper
 abbrev pub as_root : Tree → Source → Result Source BindWhy

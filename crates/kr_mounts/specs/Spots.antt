@@ -1,12 +1,12 @@
 -- What is proved of walks along locations in code. No public clause cites this module.
 use Rattle.std.specs.Prelude.{◌≡◌, ◌<◌, ℕ, Bool, List, ◌∷◌, Option, Some, None, Result, Ok, Err}
 use Rattle.std.specs.Option.{option_map}
-use Rattle.pr_base.specs.Paths.{Component, Dot, DotDot, Name, components_of}
-use Rattle.pr_base.specs.Texts.{Text}
-use Rattle.pr_base.specs.WalkFrame.{Fails, Missing, Leads, Links, walk_on}
-use Rattle.pr_base.specs.declared.errno.Errno.{Errno}
-use Rattle.pr_base.specs.declared.memory.NoMemory.{NoMemory}
-use Rattle.kr_tree.specs.declared.place.Place.{Place}
+use Rattle.pt_bind.specs.pr_base.Paths.{Component, Dot, DotDot, Name, components_of}
+use Rattle.pt_bind.specs.pr_base.Texts.{Text}
+use Rattle.pt_bind.specs.pr_base.WalkFrame.{Fails, Missing, Leads, Links, walk_on}
+use Rattle.pt_bind.specs.pr_base.declared.errno.Errno.{Errno}
+use Rattle.pt_bind.specs.pr_base.declared.memory.NoMemory.{NoMemory}
+use Rattle.kr_view.specs.kr_tree.declared.place.Place.{Place}
 use Rattle.pt_bind.specs.Binding.{IsWritten, names_of}
 use Rattle.kr_view.specs.View.{node_in}
 use Rattle.kr_view.specs.Component.{SeenPlace, Surroundings}

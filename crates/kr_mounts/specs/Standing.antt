@@ -1,18 +1,18 @@
 -- Where names alone lead through the mounts of a table, and what holds of a table that was settled.
 use Rattle.std.specs.Prelude.{◌≡◌, ℕ, false, List, [], ◌∷◌, map, Option, Some, None, Ok}
 use Rattle.std.specs.Option.{option_map, option_and_then}
-use Rattle.pr_base.specs.MountText.{MountText}
-use Rattle.pr_base.specs.Paths.{AreNames}
-use Rattle.pr_base.specs.Texts.{Text}
-use Rattle.pr_base.specs.declared.bind.Bind.{Bind}
+use Rattle.pt_bind.specs.pr_base.MountText.{MountText}
+use Rattle.pt_bind.specs.pr_base.Paths.{AreNames}
+use Rattle.pt_bind.specs.pr_base.Texts.{Text}
+use Rattle.pt_bind.specs.pr_base.declared.bind.Bind.{Bind}
 use Rattle.pt_bind.specs.Binding.{host_of, owner}
-use Rattle.kr_inode.specs.declared.user.User.{User}
-use Rattle.kr_tree.specs.declared.place.Host.{Host}
-use Rattle.kr_tree.specs.declared.place.Host.TheVariants.{Node, Proc}
-use Rattle.kr_tree.specs.declared.place.Place.{Place}
-use Rattle.kr_tree.specs.Lawful.{IsSound, IsCounted, HasItsInodes}
-use Rattle.kr_tree.specs.Names.{named, reached}
-use Rattle.kr_tree.specs.Tree.{Tree, entry}
+use Rattle.kr_view.specs.kr_inode.declared.user.User.{User}
+use Rattle.kr_view.specs.kr_tree.declared.place.Host.{Host}
+use Rattle.kr_view.specs.kr_tree.declared.place.Host.TheVariants.{Node, Proc}
+use Rattle.kr_view.specs.kr_tree.declared.place.Place.{Place}
+use Rattle.kr_view.specs.kr_tree.Lawful.{IsSound, IsCounted, HasItsInodes}
+use Rattle.kr_view.specs.kr_tree.Names.{named, reached}
+use Rattle.kr_view.specs.kr_tree.Tree.{Tree, entry}
 use Rattle.kr_view.specs.View.{IsAsSettled, Point, Row, StandsIn, down, node_in, root_place, row}
 use Rattle.kr_mounts.specs.Bounds.{AreNumbered}
 use Rattle.kr_mounts.specs.MountTable.{settling}

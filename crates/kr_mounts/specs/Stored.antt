@@ -1,7 +1,7 @@
 -- Mounts as the code keeps them, their texts in bytes, and the rows that they stand for.
 use Rattle.std.specs.Prelude.{List, map}
 use Rattle.std.specs.Option.{option_map}
-use Rattle.pr_base.specs.MountText.{bound_of}
+use Rattle.pt_bind.specs.pr_base.MountText.{bound_of}
 use Rattle.kr_view.specs.View.{Point, Row}
 use Rattle.std.specs.List.{All}
 use Rattle.pt_bind.specs.Binding.{row_of as texts_of, IsWritten}

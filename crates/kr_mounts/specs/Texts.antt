@@ -1,7 +1,7 @@
 -- Texts below the root, in bytes.
 use Rattle.std.specs.Prelude.{◌≡◌, ℕ, List, [], ◌∷◌}
-use Rattle.pr_base.specs.Paths.{AreParts, below_root}
-use Rattle.pr_base.specs.Texts.{Text}
+use Rattle.pt_bind.specs.pr_base.Paths.{AreParts, below_root}
+use Rattle.pt_bind.specs.pr_base.Texts.{Text}
 
 -- bytes are those of a text below the root
 pub record IsBelow (bytes : List ℕ) : Type 0 where

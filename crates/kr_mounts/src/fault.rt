@@ -1,6 +1,6 @@
 //! Why bindings aren't settled.
 
-use pr_base::NoMemory;
+use pt_bind::below::pr_base::NoMemory;
 
 /// Why a binding is refused.
 #[derive(Clone, Copy, Debug, PartialEq, Eq)]

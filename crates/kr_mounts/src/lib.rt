@@ -1,6 +1,7 @@
 //! The mounts of a guest: bindings that are settled over a tree, and the view that enters them.
 #![tactic(auto)]
 
+pub mod below;
 pub mod fault;
 pub mod laws;
 mod location;

@@ -1,20 +1,20 @@
 //! Where bindings are located: their guest paths, resolved in the guest's root alone.
 ghost use Rattle.std.specs.Prelude.{◌≡◌, ◌++◌, ◌&&◌, ◌||◌, not, IfOk};
 ghost use Rattle.std.specs.Option.{option_map};
-ghost use Rattle.pr_base.specs.Paths.{IsComponent, component_of, components_of, has_parts, has_slash, parts_of};
-ghost use Rattle.pr_base.specs.WalkFrame.{begins_at};
+ghost use Rattle.pt_bind.specs.pr_base.Paths.{IsComponent, component_of, components_of, has_parts, has_slash, parts_of};
+ghost use Rattle.pt_bind.specs.pr_base.WalkFrame.{begins_at};
 ghost use Rattle.pt_bind.specs.Binding.{names_of};
 ghost use Rattle.kr_view.specs.View.{node_in};
 ghost use Rattle.kr_view.specs.Component.{above, inside, named};
-ghost use Rattle.kr_mounts.specs.Locations.{Spot as SpotData, stepped, look_from, alone, locating, located_at, location_by};
+ghost use Rattle.kr_mounts.specs.Locations.{Spot as SpotData, stepped, look_from, alone, locating, located_at, location_by, location_walked};
 ghost use Rattle.kr_mounts.specs.Texts.{IsBelow};
 ghost use Rattle.kr_mounts.specs.Spots.{spot_of, IsSight, IsShownAt, IsMoved, IsFollowed, IsStepped, IsLocated, location_left, location_from, alone_around, part_data};
 
 use crate::fault::BindWhy;
 use crate::text::{push_name, without_last};
-use kr_tree::laws::trees_are_kept;
-use kr_tree::{Ino, Right, Tree, User};
-use pr_base::{Bytes, NoMemory, components};
+use kr_view::below::kr_tree::laws::trees_are_kept;
+use kr_view::below::kr_tree::{Ino, Right, Tree, User};
+use pt_bind::below::pr_base::{Bytes, NoMemory, components, is_walked};
 use std::alloc::Global;
 
 /// Why a mount doesn't come about: the binding is refused, or memory ran out.
@@ -95,9 +95,19 @@ pub(crate) struct Locating<'a> {
 }
 
 impl<'a> Locating<'a> {
-    /// The location of a guest path, as the bytes of its text.
+    /// The location of a guest path, as the bytes of its text. An empty path has none, nor one that is too long.
     pub(crate) fn locate(&self, path: &[u8]) -> Result<Bytes, Stop>
         ensures { IsLocated (location_by self.now.tree.now self.now.user self.now.root self.now.keep path.now) result }
+    {
+        if !is_walked(path) {
+            return Err(Stop::Bad(BindWhy::NoPoint));
+        }
+        self.walked(path)
+    }
+
+    /// Where the walk of a guest path ends, as the bytes of its text.
+    fn walked(&self, path: &[u8]) -> Result<Bytes, Stop>
+        ensures { IsLocated (location_walked self.now.tree.now self.now.user self.now.root self.now.keep path.now) result }
     {
         let rest = Bytes::copy(self.alloc, path)?;
         let mut walk = Walk {

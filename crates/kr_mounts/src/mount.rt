@@ -1,8 +1,8 @@
 //! Mounts as they were settled.
 ghost use Rattle.std.specs.Prelude.{◌≡◌, IfOk};
 
-use kr_tree::Ino;
-use pr_base::{Bound, Bytes, NoMemory};
+use kr_view::below::kr_tree::Ino;
+use pt_bind::below::pr_base::{Bound, Bytes, NoMemory};
 use std::alloc::Global;
 
 /// A mount point: a name in a directory of the mount in which it stands.

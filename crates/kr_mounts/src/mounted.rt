@@ -8,9 +8,9 @@ ghost use Rattle.kr_mounts.specs.Index.{IsIndexOf, IsNameNoted, IsKeyNoted, poin
 
 use crate::mount::{Mount, copy_mount};
 use crate::settled::Settled;
-use kr_tree::{Host, Ino, Place, ROOT, Tree};
+use kr_view::below::kr_tree::{Host, Ino, Place, ROOT, Tree};
 use kr_view::{MountRow, Places};
-use pr_base::{Bytes, NoMemory};
+use pt_bind::below::pr_base::{Bytes, NoMemory};
 use std::alloc::Global;
 use std::collections::BTreeMap;
 use std::marker::Model;

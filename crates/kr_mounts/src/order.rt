@@ -8,7 +8,7 @@ ghost use Rattle.kr_mounts.specs.MountTable.{counting, in_order};
 ghost use Rattle.kr_mounts.specs.Turns.{IsNoted, turn_cmp};
 
 use crate::source::Found;
-use pr_base::{Bytes, NoMemory, components};
+use pt_bind::below::pr_base::{Bytes, NoMemory, components};
 use std::alloc::Global;
 use std::collections::BTreeMap;
 

@@ -3,13 +3,13 @@ ghost use Rattle.std.specs.Prelude.{◌≡◌, ◌&&◌, ◌∷◌, None, true, 
 ghost use Rattle.std.specs.List.{All};
 ghost use Rattle.pt_bind.specs.Binding.{IsWritten};
 ghost use Rattle.kr_view.specs.View.{root_source};
-ghost use Rattle.kr_tree.specs.Tree.{body_is, entry, takes_names};
-ghost use Rattle.kr_tree.specs.Rights.{may};
-ghost use Rattle.kr_tree.specs.Names.{is_name};
-ghost use Rattle.kr_inode.specs.declared.user.Right.TheVariants.{Write, Search};
-ghost use Rattle.kr_inode.specs.Stored.{body_of_new};
+ghost use Rattle.kr_view.specs.kr_tree.Tree.{body_is, entry, takes_names};
+ghost use Rattle.kr_view.specs.kr_tree.Rights.{may};
+ghost use Rattle.kr_view.specs.kr_tree.Names.{is_name};
+ghost use Rattle.kr_view.specs.kr_inode.declared.user.Right.TheVariants.{Write, Search};
+ghost use Rattle.kr_view.specs.kr_inode.Stored.{body_of_new};
 ghost use Rattle.kr_view.specs.Laws.{is_link};
-ghost use Rattle.pr_base.specs.Paths.{IsPart, parts_of};
+ghost use Rattle.pt_bind.specs.pr_base.Paths.{IsPart, parts_of};
 ghost use Rattle.kr_mounts.specs.Growth.{IsGrown};
 ghost use Rattle.kr_mounts.specs.Points.{at_entry, fits, new_body, new_mode, way};
 ghost use Rattle.kr_mounts.specs.Stored.{table_of};
@@ -19,10 +19,12 @@ use crate::fault::BindWhy;
 use crate::location::Stop;
 use crate::mount::MountPoint;
 use crate::mounted::{MountNumber, Mounted};
-use kr_tree::laws::trees_are_kept;
-use kr_tree::{Host, Ino, Meta, Node, Place, Right, Tree, TreeRefusal, User, is_name};
 use kr_view::Places;
-use pr_base::{Bytes, components};
+use kr_view::below::kr_tree::laws::trees_are_kept;
+use kr_view::below::kr_tree::{
+    Host, Ino, Meta, Node, Place, Right, Tree, TreeRefusal, User, is_name,
+};
+use pt_bind::below::pr_base::{Bytes, components};
 use std::alloc::Global;
 
 /// What stands at a mount point: whether the source is a directory, and whether a last link is kept.

@@ -3,7 +3,7 @@ ghost use Rattle.std.specs.Prelude.{◌≡◌, map, IfOk};
 ghost use Rattle.kr_mounts.specs.Stored.{AreLocated};
 
 use crate::mount::{Mount, copy_bound};
-use pr_base::{Bound, NoMemory};
+use pt_bind::below::pr_base::{Bound, NoMemory};
 use std::alloc::Global;
 use std::marker::Model;
 

@@ -1,19 +1,19 @@
 //! The sources of bindings, found on the host.
 ghost use Rattle.std.specs.Prelude.{◌≡◌, ℕ, false, Some, IfOk, IfSome};
 ghost use Rattle.std.specs.Option.{option_map, option_map_or};
-ghost use Rattle.kr_tree.specs.declared.place.Host.TheVariants.{Node};
-ghost use Rattle.kr_tree.specs.Tree.{above, body_is, is_directory};
-ghost use Rattle.pr_base.specs.Paths.{IsPart};
-ghost use Rattle.kr_tree.specs.Names.{host_name};
+ghost use Rattle.kr_view.specs.kr_tree.declared.place.Host.TheVariants.{Node};
+ghost use Rattle.kr_view.specs.kr_tree.Tree.{above, body_is, is_directory};
+ghost use Rattle.pt_bind.specs.pr_base.Paths.{IsPart};
+ghost use Rattle.kr_view.specs.kr_tree.Names.{host_name};
 ghost use Rattle.pt_bind.specs.Binding.{IsWritten, names_of};
 ghost use Rattle.kr_mounts.specs.Found.{source_told};
-ghost use Rattle.kr_mounts.specs.Sources.{source_at, source_by, directory_source, entry_source};
+ghost use Rattle.kr_mounts.specs.Sources.{source_at, source_by, source_walked, directory_source, entry_source};
 
 use crate::text::entry_text;
-use kr_tree::laws::{directories_have_host_names, trees_are_kept};
-use kr_tree::{Host, Ino, Tree, User};
+use kr_view::below::kr_tree::laws::{directories_have_host_names, trees_are_kept};
+use kr_view::below::kr_tree::{Host, Ino, Tree, User};
 use kr_view::{HostMount, NoProcs, Places, Plain, Reach, Target, WalkFault, resolve};
-use pr_base::{Bytes, NoMemory, WalkMode};
+use pt_bind::below::pr_base::{Bytes, NoMemory, WalkMode, is_walked};
 use std::alloc::Global;
 
 /// A source as it was found: its inode, whether it is a directory, the directory in which it stands, which of the
@@ -26,7 +26,8 @@ pub(crate) struct Found {
     pub(crate) text: Bytes,
 }
 
-/// The source at a host path, with links followed, as the user finds it before a process lives.
+/// The source at a host path, with links followed, as the user finds it before a process lives. There is none at an empty path,
+/// nor at one that is too long.
 pub(crate) fn find_source(
     alloc: Global,
     tree: &Tree,
@@ -34,6 +35,22 @@ pub(crate) fn find_source(
     path: &[u8],
 ) -> Result<Option<Found>, NoMemory>
     ensures source { IfOk result (λ found. option_map source_told found ≡ source_by tree.now user path.now) }
+    ensures written { IfOk result (λ found. IfSome found (λ f. IsWritten f.text)) }
+{
+    if !is_walked(path) {
+        return Ok(None);
+    }
+    source_walked(alloc, tree, user, path)
+}
+
+/// The source to which the walk of a host path leads.
+fn source_walked(
+    alloc: Global,
+    tree: &Tree,
+    user: User,
+    path: &[u8],
+) -> Result<Option<Found>, NoMemory>
+    ensures source { IfOk result (λ found. option_map source_told found ≡ source_walked tree.now user path.now) }
     ensures written { IfOk result (λ found. IfSome found (λ f. IsWritten f.text)) }
 {
     trees_are_kept(tree);

@@ -1,11 +1,11 @@
 //! Texts of names, in bytes.
 ghost use Rattle.std.specs.Prelude.{◌≡◌, ◌≢◌, ◌≤◌, ◌<◌, ◌++◌, ◌∷◌, ℕ, List, length, drop, IfOk, OnOk};
 ghost use Rattle.std.specs.List.{All};
-ghost use Rattle.pr_base.specs.Paths.{below_root, slash, IsPart};
+ghost use Rattle.pt_bind.specs.pr_base.Paths.{below_root, slash, IsPart};
 ghost use Rattle.pt_bind.specs.Binding.{IsWritten, names_of};
 ghost use Rattle.kr_mounts.specs.Texts.{IsBelow, last_name};
 
-use pr_base::{Bytes, NoMemory};
+use pt_bind::below::pr_base::{Bytes, NoMemory};
 use std::alloc::Global;
 
 /// The bytes of a text below the root: none for the root.

@@ -1,22 +1,22 @@
 //! Opening what is there.
 ghost use Rattle.std.specs.Prelude.{◌≡◌, ◌≢◌, ◌+◌, ◌<◌, ◌^◌, ◌&&◌, ◌||◌, ℕ, false, true, Some, IsSome, IfOk};
 ghost use Rattle.std.specs.Option.{option_map, option_map_or};
-ghost use Rattle.kr_inode.specs.Inode.{Node as NodeWord};
-ghost use Rattle.kr_tree.specs.Changes.{byte_limit};
-ghost use Rattle.kr_tree.specs.Rights.{allows};
-ghost use Rattle.kr_tree.specs.Tree.{body_is, inode, is_file};
-ghost use Rattle.kr_tree.specs.declared.place.Host.TheVariants.{Node};
-ghost use Rattle.kr_view.specs.Component.{is_process_directory};
-ghost use Rattle.kr_view.specs.InTree.{IsObjectOf};
-ghost use Rattle.kr_files.specs.declared.opened.Opened.{Opened as OpenedWord};
-ghost use Rattle.kr_model.specs.Applied.{Mounts, in_mount};
-ghost use Rattle.kr_model.specs.FileRows.{has_rights, open_directory, open_file, open_found, open_host, opens_as};
-ghost use Rattle.kr_model.specs.Known.{known, known_node};
-ghost use Rattle.kr_model.specs.State.{image_layout, inode_of as host_inode, process};
-ghost use Rattle.kr_model.specs.declared.outcome.Outcome.TheVariants.{NoMemory as WantOfMemory};
-ghost use Rattle.kr_ops.specs.Meaning.{meaning};
-ghost use Rattle.kr_ops.specs.Sound.{IsServed, IsSound};
-ghost use Rattle.kr_seen.specs.Carrying.{CarriesOut};
+ghost use Rattle.kr_targets.specs.kr_inode.Inode.{Node as NodeWord};
+ghost use Rattle.kr_targets.specs.kr_tree.Changes.{byte_limit};
+ghost use Rattle.kr_targets.specs.kr_tree.Rights.{allows};
+ghost use Rattle.kr_targets.specs.kr_tree.Tree.{body_is, inode, is_file};
+ghost use Rattle.kr_targets.specs.kr_tree.declared.place.Host.TheVariants.{Node};
+ghost use Rattle.kr_targets.specs.kr_view.Component.{is_process_directory};
+ghost use Rattle.kr_targets.specs.kr_view.InTree.{IsObjectOf};
+ghost use Rattle.kr_targets.specs.kr_files.declared.opened.Opened.{Opened as OpenedWord};
+ghost use Rattle.kr_targets.specs.kr_model.Applied.{Mounts, in_mount};
+ghost use Rattle.kr_targets.specs.kr_model.FileRows.{has_rights, open_directory, open_file, open_found, open_host, opens_as};
+ghost use Rattle.kr_targets.specs.kr_model.Known.{known, known_node};
+ghost use Rattle.kr_targets.specs.kr_model.State.{image_layout, inode_of as host_inode, process};
+ghost use Rattle.kr_targets.specs.kr_model.declared.outcome.Outcome.TheVariants.{NoMemory as WantOfMemory};
+ghost use Rattle.kr_targets.specs.kr_ops.Meaning.{meaning};
+ghost use Rattle.kr_targets.specs.kr_ops.Sound.{IsServed, IsSound};
+ghost use Rattle.kr_targets.specs.kr_seen.Carrying.{CarriesOut};
 ghost use Rattle.kr_targets.specs.Told.{entry_told, looked_told};
 ghost use Rattle.kr_names.specs.Opening.{entry_dir, entry_name, HasRoomLeft};
 
@@ -24,13 +24,11 @@ use crate::flags::{
     appends, changes, closes_on_exec, makes_anew, truncates, wants_directory, wants_read,
     wants_write,
 };
-use kr_files::{FilesRefusal, Opened, What};
-use kr_model::Outcome;
-use kr_ops::State;
-use kr_seen::{number, refused};
+use kr_targets::below::{
+    Bytes, Errno, FilesRefusal, Host, Ino, Kind, NoMemory, Opened, Outcome, Place, ProcAt, Right,
+    State, TreeRefusal, What, number, refused,
+};
 use kr_targets::{Entry, Looked};
-use kr_tree::{Host, Ino, Kind, Place, ProcAt, Right, TreeRefusal};
-use pr_base::{Bytes, Errno, NoMemory};
 use std::alloc::Global;
 
 /// An open file at its front.

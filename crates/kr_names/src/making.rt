@@ -1,23 +1,18 @@
 //! Calls that make directories and links.
 ghost use Rattle.std.specs.Prelude.{◌≡◌, ◌≢◌, ◌+◌, ◌<◌, ◌^◌, ℕ, List, IsSome};
-ghost use Rattle.kr_tree.specs.Changes.{next_serial};
-ghost use Rattle.kr_view.specs.View.{Row};
-ghost use Rattle.kr_model.specs.NameRows.{mkdirat_row, symlinkat_row};
-ghost use Rattle.kr_model.specs.State.{inode_of as host_inode, process};
-ghost use Rattle.kr_model.specs.declared.outcome.Outcome.TheVariants.{NoMemory as WantOfMemory};
-ghost use Rattle.kr_ops.specs.Meaning.{meaning};
-ghost use Rattle.kr_ops.specs.Sound.{IsServed, IsSound};
+ghost use Rattle.kr_targets.specs.kr_tree.Changes.{next_serial};
+ghost use Rattle.kr_targets.specs.kr_view.View.{Row};
+ghost use Rattle.kr_targets.specs.kr_model.NameRows.{mkdirat_row, symlinkat_row};
+ghost use Rattle.kr_targets.specs.kr_model.State.{inode_of as host_inode, process};
+ghost use Rattle.kr_targets.specs.kr_model.declared.outcome.Outcome.TheVariants.{NoMemory as WantOfMemory};
+ghost use Rattle.kr_targets.specs.kr_ops.Meaning.{meaning};
+ghost use Rattle.kr_targets.specs.kr_ops.Sound.{IsServed, IsSound};
 ghost use Rattle.kr_targets.specs.Performing.{PerformsAt, seen_made};
 ghost use Rattle.kr_targets.specs.Resolved.{IsFreeIn};
 
 use crate::adding::{add_named, unmasked};
-use kr_model::Outcome;
-use kr_ops::State;
-use kr_seen::refused;
+use kr_targets::below::{Bytes, Errno, Node, Outcome, State, Target, refused};
 use kr_targets::{Made, made};
-use kr_tree::Node;
-use kr_view::Target;
-use pr_base::{Bytes, Errno};
 
 /// The bits of a mode that mkdirat(2) takes.
 const DIRECTORY_BITS: u32 = 0o1777;

@@ -1,22 +1,22 @@
 //! Names that move.
 ghost use Rattle.std.specs.Prelude.{◌≡◌, ◌≢◌, ◌+◌, ◌<◌, ◌^◌, ◌&&◌, ◌||◌, not, ℕ, true, false, None, Some, IfOk};
 ghost use Rattle.std.specs.Option.{option_map_or};
-ghost use Rattle.kr_tree.specs.Changes.{next_serial};
-ghost use Rattle.kr_tree.specs.Lawful.{IsSound as IsSoundTree};
-ghost use Rattle.kr_tree.specs.Rights.{is_kept_by_sticky};
-ghost use Rattle.kr_tree.specs.Tree.{Node, body_is, takes_names};
-ghost use Rattle.kr_tree.specs.declared.place.Host.{Host as AnyHost};
-ghost use Rattle.kr_tree.specs.declared.place.Host.TheVariants.{Node as AtNode};
-ghost use Rattle.kr_model.specs.Applied.{Mounts};
-ghost use Rattle.kr_model.specs.Asking.{is_directory_host, is_processes_host};
-ghost use Rattle.kr_model.specs.Known.{known, known_node};
-ghost use Rattle.kr_model.specs.NameRows.{can_move, is_above_old, is_at_or_above, is_one, move_entry, move_found};
-ghost use Rattle.kr_model.specs.Operation.{moved as if_moved};
-ghost use Rattle.kr_model.specs.State.{image_layout, inode_of as host_inode};
-ghost use Rattle.kr_model.specs.declared.outcome.Outcome.TheVariants.{NoMemory as WantOfMemory};
-ghost use Rattle.kr_ops.specs.Meaning.{meaning};
-ghost use Rattle.kr_ops.specs.Sound.{IsServed, IsSound};
-ghost use Rattle.kr_seen.specs.Carrying.{CarriesOut};
+ghost use Rattle.kr_targets.specs.kr_tree.Changes.{next_serial};
+ghost use Rattle.kr_targets.specs.kr_tree.Lawful.{IsSound as IsSoundTree};
+ghost use Rattle.kr_targets.specs.kr_tree.Rights.{is_kept_by_sticky};
+ghost use Rattle.kr_targets.specs.kr_tree.Tree.{Node, body_is, takes_names};
+ghost use Rattle.kr_targets.specs.kr_tree.declared.place.Host.{Host as AnyHost};
+ghost use Rattle.kr_targets.specs.kr_tree.declared.place.Host.TheVariants.{Node as AtNode};
+ghost use Rattle.kr_targets.specs.kr_model.Applied.{Mounts};
+ghost use Rattle.kr_targets.specs.kr_model.Asking.{is_directory_host, is_processes_host};
+ghost use Rattle.kr_targets.specs.kr_model.Known.{known, known_node};
+ghost use Rattle.kr_targets.specs.kr_model.NameRows.{can_move, is_above_old, is_at_or_above, is_one, move_entry, move_found};
+ghost use Rattle.kr_targets.specs.kr_model.Operation.{moved as if_moved};
+ghost use Rattle.kr_targets.specs.kr_model.State.{image_layout, inode_of as host_inode};
+ghost use Rattle.kr_targets.specs.kr_model.declared.outcome.Outcome.TheVariants.{NoMemory as WantOfMemory};
+ghost use Rattle.kr_targets.specs.kr_ops.Meaning.{meaning};
+ghost use Rattle.kr_targets.specs.kr_ops.Sound.{IsServed, IsSound};
+ghost use Rattle.kr_targets.specs.kr_seen.Carrying.{CarriesOut};
 ghost use Rattle.kr_targets.specs.Performing.{PerformsAt, seen_moved};
 ghost use Rattle.kr_targets.specs.Resolved.{IsEntryIn, IsFreeIn};
 ghost use Rattle.kr_targets.specs.Told.{entered_told};
@@ -26,13 +26,8 @@ ghost use Rattle.kr_names.specs.Taking.{IsEntryOf};
 
 use crate::above::{is_at_or_above, same_host};
 use crate::removing::is_kept_by_sticky;
-use kr_model::Outcome;
-use kr_ops::State;
-use kr_seen::{number, refused};
+use kr_targets::below::{Errno, Host, Ino, Outcome, Places, Right, State, Target, number, refused};
 use kr_targets::{Entered, Taken, is_directory_host, is_processes_host, moved, writable};
-use kr_tree::{Host, Ino, Right};
-use kr_view::{Places, Target};
-use pr_base::Errno;
 
 /// An entry that goes from one directory to another: both, and the inode that is moved.
 #[derive(Clone, Copy, Debug)]

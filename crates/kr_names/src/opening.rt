@@ -1,25 +1,21 @@
 //! The call that opens files.
 ghost use Rattle.std.specs.Prelude.{◌≡◌, ◌≢◌, ◌+◌, ◌<◌, ◌^◌, IsSome};
-ghost use Rattle.kr_tree.specs.Changes.{next_serial};
-ghost use Rattle.kr_model.specs.FileRows.{openat_row};
-ghost use Rattle.kr_model.specs.Lawful.{IsLawful};
-ghost use Rattle.kr_model.specs.Operation.{opened as if_opened};
-ghost use Rattle.kr_model.specs.State.{inode_of as host_inode, process};
-ghost use Rattle.kr_model.specs.declared.outcome.Outcome.TheVariants.{NoMemory as WantOfMemory};
-ghost use Rattle.kr_ops.specs.Meaning.{meaning};
-ghost use Rattle.kr_ops.specs.Sound.{IsServed};
+ghost use Rattle.kr_targets.specs.kr_tree.Changes.{next_serial};
+ghost use Rattle.kr_targets.specs.kr_model.FileRows.{openat_row};
+ghost use Rattle.kr_targets.specs.kr_model.Lawful.{IsLawful};
+ghost use Rattle.kr_targets.specs.kr_model.Operation.{opened as if_opened};
+ghost use Rattle.kr_targets.specs.kr_model.State.{inode_of as host_inode, process};
+ghost use Rattle.kr_targets.specs.kr_model.declared.outcome.Outcome.TheVariants.{NoMemory as WantOfMemory};
+ghost use Rattle.kr_targets.specs.kr_ops.Meaning.{meaning};
+ghost use Rattle.kr_targets.specs.kr_ops.Sound.{IsServed};
 ghost use Rattle.kr_targets.specs.Performing.{PerformsAt, seen_opened};
 ghost use Rattle.kr_targets.specs.Resolved.{IsFoundIn, IsFreeIn};
 
 use crate::creating::open_new;
 use crate::flags::excludes;
 use crate::found::open_found;
-use kr_model::Outcome;
-use kr_ops::State;
-use kr_seen::refused;
+use kr_targets::below::{Errno, Outcome, Places, State, Target, refused};
 use kr_targets::{Opening, opened};
-use kr_view::{Places, Target};
-use pr_base::Errno;
 use std::alloc::Global;
 
 /// openat(2). With O_CREAT an ending that is no name is EEXIST with O_EXCL and else EISDIR, and a slash is EISDIR. What is there:

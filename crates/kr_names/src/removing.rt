@@ -1,30 +1,27 @@
 //! Names that go.
 ghost use Rattle.std.specs.Prelude.{◌≡◌, ◌≢◌, ℕ, true, IfOk, Some};
-ghost use Rattle.kr_inode.specs.Inode.{Inode};
-ghost use Rattle.kr_inode.specs.Stored.{meta_of};
-ghost use Rattle.kr_tree.specs.Rights.{is_kept_by_sticky};
-ghost use Rattle.kr_tree.specs.Tree.{body_is, takes_names};
-ghost use Rattle.kr_model.specs.Applied.{Mounts};
-ghost use Rattle.kr_model.specs.Known.{known};
-ghost use Rattle.kr_model.specs.NameRows.{ending_removed, removes_directory, rmdir_found, rmdir_row, unlink_found, unlink_row, unlinkat_row};
-ghost use Rattle.kr_model.specs.State.{image_layout};
-ghost use Rattle.kr_model.specs.declared.outcome.Outcome.TheVariants.{NoMemory as WantOfMemory};
-ghost use Rattle.kr_ops.specs.Meaning.{meaning};
-ghost use Rattle.kr_ops.specs.Sound.{IsServed, IsSound};
-ghost use Rattle.kr_seen.specs.Carrying.{CarriesOut};
+ghost use Rattle.kr_targets.specs.kr_inode.Inode.{Inode};
+ghost use Rattle.kr_targets.specs.kr_inode.Stored.{meta_of};
+ghost use Rattle.kr_targets.specs.kr_tree.Rights.{is_kept_by_sticky};
+ghost use Rattle.kr_targets.specs.kr_tree.Tree.{body_is, takes_names};
+ghost use Rattle.kr_targets.specs.kr_model.Applied.{Mounts};
+ghost use Rattle.kr_targets.specs.kr_model.Known.{known};
+ghost use Rattle.kr_targets.specs.kr_model.NameRows.{ending_removed, removes_directory, rmdir_found, rmdir_row, unlink_found, unlink_row, unlinkat_row};
+ghost use Rattle.kr_targets.specs.kr_model.State.{image_layout};
+ghost use Rattle.kr_targets.specs.kr_model.declared.outcome.Outcome.TheVariants.{NoMemory as WantOfMemory};
+ghost use Rattle.kr_targets.specs.kr_ops.Meaning.{meaning};
+ghost use Rattle.kr_targets.specs.kr_ops.Sound.{IsServed, IsSound};
+ghost use Rattle.kr_targets.specs.kr_seen.Carrying.{CarriesOut};
 ghost use Rattle.kr_targets.specs.Performing.{PerformsAt, seen_taken};
 ghost use Rattle.kr_targets.specs.Resolved.{IsEntryIn};
 ghost use Rattle.kr_targets.specs.Told.{entered_told};
 ghost use Rattle.kr_names.specs.Taking.{AnswersTakable, IsEntryOf};
 
 use bitflags::Flags;
-use kr_model::Outcome;
-use kr_ops::State;
-use kr_seen::{number, refused};
+use kr_targets::below::{
+    AtFlags, Errno, Host, Ino, Last, Meta, Outcome, Places, State, Target, User, number, refused,
+};
 use kr_targets::{Entered, Taken, is_directory_host, is_processes_host, taken, writable};
-use kr_tree::{Host, Ino, Meta, User};
-use kr_view::{Places, Target};
-use pr_base::{AtFlags, Errno, Last};
 
 /// An entry that the user may take away: its directory and its inode.
 #[derive(Clone, Copy, Debug)]

@@ -5,20 +5,20 @@ use Rattle.std.specs.Prelude.{map as map_list, ◌==◌}
 use Rattle.std.specs.List.{filter}
 use Rattle.std.specs.Option.{option_map, option_map_or, option_and_then}
 use Rattle.std.proofs.lemmas.List.{map-append}
-use Rattle.pr_base.specs.Maps.{changed}
-use Rattle.kr_tree.specs.Tree.{Tree}
-use Rattle.kr_tree.specs.Changes as tree
-use Rattle.kr_tree.specs.declared.place.Host.{Host}
-use Rattle.kr_tree.specs.declared.place.Place.{Place}
-use Rattle.kr_view.specs.Leads.{numbered}
-use Rattle.kr_files.specs.declared.opened.Opened.{Opened}
-use Rattle.kr_files.specs.Descriptors.{Meanings, Named}
-use Rattle.kr_files.specs.Files.{Table, at_offset, with_append, with_file, with_opened}
-use Rattle.kr_files.specs.Opened.{after_removal, after_rename}
-use Rattle.kr_model.specs.State.{Process, State, inode_of, process, named, opened, place_of, at_pid, with_process, with_descs}
-use Rattle.kr_model.specs.Change.{Change, AddNode, LinkNode, RemoveName, MoveName, SetMode, SetOwner, SetSize, WriteFile, OpenFile, CopyDescriptor, CloseDescriptor, SetCloexec, Seek, SetAppend, MakePipe, TakeFromPipe, PutIntoPipe, TakeInput, WriteOut, WriteErr, ChangePages, SetBreak, SetUmask, ChangeDirectory, Fork, End, Reap, ReplaceImage, ReplaceExecutable, CloseOnExec, MountOf, OfFound, OfDirectory, OfDescriptor, Birth}
-use Rattle.kr_model.specs.Applied.{Computing, Mounts, applied, all_applied, held_at, released_at, held_for, mount_of, in_mount, open_in, let_go, close_named, close, copy_named, copy_over, on_opened_of, pipe_made, with_image, with_brk, with_umask, with_cwd, with_parent, cwd_of, exe_of, with_program, with_exe, executed, is_closed_on_exec, close_on_exec_below, moved_to, child_of, forked_from, close_below, orphaned, gone, end, exe_remembers, with_exe_name, exe_after_removal, exe_after_rename, with_files, with_living}
-use Rattle.kr_model.proofs.BareLemmas.{maps, kept-mapped}
+use Rattle.kr_seen.specs.pr_base.Maps.{changed}
+use Rattle.kr_seen.specs.kr_tree.Tree.{Tree}
+use Rattle.kr_seen.specs.kr_tree.Changes as tree
+use Rattle.kr_seen.specs.kr_tree.declared.place.Host.{Host}
+use Rattle.kr_seen.specs.kr_tree.declared.place.Place.{Place}
+use Rattle.kr_seen.specs.kr_view.Leads.{numbered}
+use Rattle.kr_seen.specs.kr_files.declared.opened.Opened.{Opened}
+use Rattle.kr_seen.specs.kr_files.Descriptors.{Meanings, Named}
+use Rattle.kr_seen.specs.kr_files.Files.{Table, at_offset, with_append, with_file, with_opened}
+use Rattle.kr_seen.specs.kr_files.Opened.{after_removal, after_rename}
+use Rattle.kr_seen.specs.kr_model.State.{Process, State, inode_of, process, named, opened, place_of, at_pid, with_process, with_descs}
+use Rattle.kr_seen.specs.kr_model.Change.{Change, AddNode, LinkNode, RemoveName, MoveName, SetMode, SetOwner, SetSize, WriteFile, OpenFile, CopyDescriptor, CloseDescriptor, SetCloexec, Seek, SetAppend, MakePipe, TakeFromPipe, PutIntoPipe, TakeInput, WriteOut, WriteErr, ChangePages, SetBreak, SetUmask, ChangeDirectory, Fork, End, Reap, ReplaceImage, ReplaceExecutable, CloseOnExec, MountOf, OfFound, OfDirectory, OfDescriptor, Birth}
+use Rattle.kr_seen.specs.kr_model.Applied.{Computing, Mounts, applied, all_applied, held_at, released_at, held_for, mount_of, in_mount, open_in, let_go, close_named, close, copy_named, copy_over, on_opened_of, pipe_made, with_image, with_brk, with_umask, with_cwd, with_parent, cwd_of, exe_of, with_program, with_exe, executed, is_closed_on_exec, close_on_exec_below, moved_to, child_of, forked_from, close_below, orphaned, gone, end, exe_remembers, with_exe_name, exe_after_removal, exe_after_rename, with_files, with_living}
+use Rattle.kr_seen.proofs.kr_model.BareLemmas.{maps, kept-mapped}
 use Rattle.kr_seen.specs.Numbered.{opened_numbered, process_numbered, state_numbered, table_numbered}
 use Rattle.kr_numbered.specs.Laws.{ChangesAreNumbered}
 use Rattle.kr_numbered.specs.Mounts.{mounts_numbered}

@@ -4,17 +4,17 @@ use Rattle.std.proofs.Common.{◌≡◌, ℕ, Option, Some, None, refl, ap, ◌�
 use Rattle.std.specs.Prelude.{drop, sum}
 use Rattle.std.specs.Option.{option_map, option_map_or, option_and_then}
 use mathlib.Core.List.{map-map}
-use Rattle.kr_tree.specs.declared.place.Place.{Place}
-use Rattle.kr_view.specs.Leads.{numbered}
-use Rattle.kr_files.specs.declared.opened.Opened.{Opened}
-use Rattle.kr_files.specs.Descriptors.{Named}
-use Rattle.kr_files.specs.Files.{file_at}
-use Rattle.kr_files.specs.Opened.{is_reader, is_writer}
-use Rattle.kr_files.specs.WithoutMounts.{without_mount}
-use Rattle.kr_model.specs.Applied.{cwd_of, exe_of}
-use Rattle.kr_model.specs.Bare.{host_only}
-use Rattle.kr_model.specs.Known.{caller_of, fact_at, family_of, known, no_caller, pages_in_all}
-use Rattle.kr_model.specs.State.{Layout, Process, State, is_pid, named, opened, process}
+use Rattle.kr_seen.specs.kr_tree.declared.place.Place.{Place}
+use Rattle.kr_seen.specs.kr_view.Leads.{numbered}
+use Rattle.kr_seen.specs.kr_files.declared.opened.Opened.{Opened}
+use Rattle.kr_seen.specs.kr_files.Descriptors.{Named}
+use Rattle.kr_seen.specs.kr_files.Files.{file_at}
+use Rattle.kr_seen.specs.kr_files.Opened.{is_reader, is_writer}
+use Rattle.kr_seen.specs.kr_files.WithoutMounts.{without_mount}
+use Rattle.kr_seen.specs.kr_model.Applied.{cwd_of, exe_of}
+use Rattle.kr_seen.specs.kr_model.Bare.{host_only}
+use Rattle.kr_seen.specs.kr_model.Known.{caller_of, fact_at, family_of, known, no_caller, pages_in_all}
+use Rattle.kr_seen.specs.kr_model.State.{Layout, Process, State, is_pid, named, opened, process}
 use Rattle.kr_seen.specs.Numbered.{opened_numbered, process_numbered, state_numbered, table_numbered}
 use Rattle.kr_seen.proofs.NumberedLemmas.{find-map}
 use Rattle.kr_numbered.proofs.TableLemmas.{file-numbered, kind-numbered, place-numbered}

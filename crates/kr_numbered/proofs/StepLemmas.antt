@@ -5,10 +5,10 @@ use Rattle.std.specs.List.{filter}
 use Rattle.std.specs.Option.{option_map}
 use Rattle.std.proofs.lemmas.List.{length-map}
 use Rattle.std.proofs.lemmas.Option.{slice_get-map}
-use Rattle.kr_model.specs.Applied.{Computing, Mounts, all_applied, with_image, with_living}
-use Rattle.kr_model.specs.Change.{Change}
-use Rattle.kr_model.specs.State.{Process, State, with_process}
-use Rattle.kr_model.proofs.BareLemmas.{kept-mapped}
+use Rattle.kr_seen.specs.kr_model.Applied.{Computing, Mounts, all_applied, with_image, with_living}
+use Rattle.kr_seen.specs.kr_model.Change.{Change}
+use Rattle.kr_seen.specs.kr_model.State.{Process, State, with_process}
+use Rattle.kr_seen.proofs.kr_model.BareLemmas.{kept-mapped}
 use Rattle.kr_seen.specs.Numbered.{process_numbered, state_numbered}
 use Rattle.kr_numbered.specs.Laws.{ChoicesAreNumbered, StepsAreNumbered, picked}
 use Rattle.kr_numbered.specs.Mounts.{mounts_numbered}

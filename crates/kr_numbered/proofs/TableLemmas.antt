@@ -5,18 +5,18 @@ use Rattle.std.specs.Prelude.{map as map_list}
 use Rattle.std.specs.List.{list_any}
 use Rattle.std.specs.Option.{option_map, option_map_or, option_and_then}
 use Rattle.std.specs.Ordering.{nat_cmp}
-use Rattle.pr_base.specs.Maps.{mapped}
-use Rattle.pr_base.proofs.MapLemmas.{entries-mapped, get-mapped, mapped-insert, mapped-remove}
-use Rattle.kr_view.specs.Leads.{numbered}
-use Rattle.kr_files.specs.declared.opened.Opened.{Opened}
-use Rattle.kr_files.specs.declared.opened.What.{What}
-use Rattle.kr_files.specs.declared.opened.What.TheVariants.{File, Dir, In, Out, Err, PipeRead, PipeWrite}
-use Rattle.kr_files.specs.Descriptors.{Meanings, named_count}
-use Rattle.kr_files.specs.Files.{Counted, Table, file_at, has_kind, has_reader, with_file, with_pipe, with_copy, with_copies, pipes_left, without_file, closed, counted_more, on_opened, with_opened, with_all_opened, with_bytes, pipe_after_read, pipe_after_write}
-use Rattle.kr_files.specs.Opened.{is_reader, is_writer, pipe_end, remembers, nameless, named_at, after_removal, after_rename}
-use Rattle.kr_files.specs.Pipes.{after_write}
-use Rattle.kr_files.proofs.MountLemmas.{mapped-changed, mapped-mapped}
-use Rattle.kr_model.specs.State.{place_of}
+use Rattle.kr_seen.specs.pr_base.Maps.{mapped}
+use Rattle.kr_seen.proofs.pr_base.MapLemmas.{entries-mapped, get-mapped, mapped-insert, mapped-remove}
+use Rattle.kr_seen.specs.kr_view.Leads.{numbered}
+use Rattle.kr_seen.specs.kr_files.declared.opened.Opened.{Opened}
+use Rattle.kr_seen.specs.kr_files.declared.opened.What.{What}
+use Rattle.kr_seen.specs.kr_files.declared.opened.What.TheVariants.{File, Dir, In, Out, Err, PipeRead, PipeWrite}
+use Rattle.kr_seen.specs.kr_files.Descriptors.{Meanings, named_count}
+use Rattle.kr_seen.specs.kr_files.Files.{Counted, Table, file_at, has_kind, has_reader, with_file, with_pipe, with_copy, with_copies, pipes_left, without_file, closed, counted_more, on_opened, with_opened, with_all_opened, with_bytes, pipe_after_read, pipe_after_write}
+use Rattle.kr_seen.specs.kr_files.Opened.{is_reader, is_writer, pipe_end, remembers, nameless, named_at, after_removal, after_rename}
+use Rattle.kr_seen.specs.kr_files.Pipes.{after_write}
+use Rattle.kr_seen.proofs.kr_files.MountLemmas.{mapped-changed, mapped-mapped}
+use Rattle.kr_seen.specs.kr_model.State.{place_of}
 use Rattle.kr_seen.specs.Numbered.{opened_numbered, counted_numbered, table_numbered}
 
 -- a table with one descriptor less of a file that is there

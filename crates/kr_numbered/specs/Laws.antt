@@ -3,12 +3,12 @@
 use Rattle.std.specs.Prelude.{◌≡◌, ℕ, ◌%◌, Bool, List, length, slice_get, Option, map as map_list}
 use Rattle.std.specs.List.{filter}
 use Rattle.std.specs.Option.{option_map, option_map_or}
-use Rattle.kr_view.specs.Leads.{numbered}
-use Rattle.kr_files.specs.Files.{file_at}
-use Rattle.kr_model.specs.Applied.{Computing, Mounts, all_applied, applied, cwd_of, exe_of, with_image, with_living}
-use Rattle.kr_model.specs.Change.{Change}
-use Rattle.kr_model.specs.Known.{known, pages_in_all}
-use Rattle.kr_model.specs.State.{Layout, Process, State, named, opened, place_of, process, with_process}
+use Rattle.kr_seen.specs.kr_view.Leads.{numbered}
+use Rattle.kr_seen.specs.kr_files.Files.{file_at}
+use Rattle.kr_seen.specs.kr_model.Applied.{Computing, Mounts, all_applied, applied, cwd_of, exe_of, with_image, with_living}
+use Rattle.kr_seen.specs.kr_model.Change.{Change}
+use Rattle.kr_seen.specs.kr_model.Known.{known, pages_in_all}
+use Rattle.kr_seen.specs.kr_model.State.{Layout, Process, State, named, opened, place_of, process, with_process}
 use Rattle.kr_seen.specs.Numbered.{opened_numbered, process_numbered, state_numbered, table_numbered}
 use Rattle.kr_numbered.specs.Mounts.{mounts_numbered}
 

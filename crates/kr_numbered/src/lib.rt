@@ -2,4 +2,5 @@
 //! of it and what is made of it are those of the state itself.
 #![tactic(auto)]
 
+pub mod below;
 pub mod laws;

@@ -4,9 +4,9 @@ use Rattle.std.proofs.Common.{◌≡◌, ℕ, zero, suc, ◌+◌, ◌<◌, List,
 use Rattle.std.specs.Prelude.{map as map_list, ◌||◌, ◌&&◌, ◌==◌}
 use Rattle.std.specs.List.{find, list_any}
 use Rattle.std.specs.Option.{option_map, option_and_then}
-use Rattle.kr_files.specs.declared.descs.Descriptor.{Descriptor}
-use Rattle.kr_files.specs.Descriptors.{Named, cloexec_of}
-use Rattle.kr_files.specs.Files.{file_at, opened_at}
+use Rattle.kr_lawful.specs.kr_files.declared.descs.Descriptor.{Descriptor}
+use Rattle.kr_lawful.specs.kr_files.Descriptors.{Named, cloexec_of}
+use Rattle.kr_lawful.specs.kr_files.Files.{file_at, opened_at}
 use Rattle.kr_lawful.specs.kr_model.State as model
 use Rattle.kr_ops.specs.declared.state.Process.{Process}
 use Rattle.kr_ops.specs.declared.state.State.{State}

@@ -6,13 +6,13 @@ use Rattle.std.specs.List.{AllByRecursion, filter, insert, position, position_or
 use Rattle.std.specs.Option.{option_map_or, unwrap_or}
 use Rattle.std.specs.Ordering.{nat_cmp}
 use Rattle.std.proofs.lemmas.Bool.Decides.{nat_tests}
-use Rattle.pr_base.proofs.MapLemmas.{same_values}
-use Rattle.rv_mem.specs.Memory.{Memory, page_count, room_after, with_pages}
-use Rattle.rv_mem.specs.Page.{PageState}
-use Rattle.rv_mem.specs.Pages.{IsPlaced, Pages, unmapped}
-use Rattle.rv_mem.proofs.ChangeLemmas.{get-unmapped_in, get-unmapped_out}
-use Rattle.kr_tree.specs.Tree.{Tree}
-use Rattle.kr_files.specs.Files.{NamesOpenFiles}
+use Rattle.kr_lawful.proofs.pr_base.MapLemmas.{same_values}
+use Rattle.kr_lawful.specs.rv_mem.Memory.{Memory, page_count, room_after, with_pages}
+use Rattle.kr_lawful.specs.rv_mem.Page.{PageState}
+use Rattle.kr_lawful.specs.rv_mem.Pages.{IsPlaced, Pages, unmapped}
+use Rattle.kr_lawful.proofs.rv_mem.ChangeLemmas.{get-unmapped_in, get-unmapped_out}
+use Rattle.kr_lawful.specs.kr_tree.Tree.{Tree}
+use Rattle.kr_lawful.specs.kr_files.Files.{NamesOpenFiles}
 use Rattle.kr_lawful.specs.kr_model.Applied.{close_below, end, ended_with, gone, orphaned, put_in, released_at, stays, with_parent}
 use Rattle.kr_lawful.specs.kr_model.Known.{pages_in_all}
 use Rattle.kr_lawful.specs.kr_model.State as model

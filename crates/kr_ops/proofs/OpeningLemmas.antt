@@ -3,15 +3,15 @@ use Rattle.std.specs.FinMap as map
 use Rattle.std.proofs.Common.{◌≡◌, ℕ, ◌+◌, ◌<◌, ◌^◌, get_or, refl, sym, ap, subst, ◌∙◌, Bool, true, false, arith, Option, Some, None}
 use Rattle.std.specs.Prelude.{◌↔◌, Result, Err, IfSome, IsSome, ◌&&◌, nat_lt, map as map_list, slice_set}
 use Rattle.std.specs.Option.{option_map, option_map_or, option_and_then, is_some}
-use Rattle.pr_base.proofs.MapLemmas.{by_key, mapped-insert, get-changed_same, get-changed_other}
-use Rattle.kr_tree.specs.Tree.{Tree, Inode, inode}
-use Rattle.kr_tree.specs.Holds.{holds_at}
-use Rattle.kr_tree.specs.declared.place.Place.{Place}
-use Rattle.kr_files.specs.declared.descs.Descriptor.{Descriptor}
-use Rattle.kr_files.specs.declared.opened.Opened.{Opened}
-use Rattle.kr_files.specs.Descriptors.{Descriptors, Meanings, Named, lowest_free, lowest_pair, with_copy_at, with_cloexec}
-use Rattle.kr_files.specs.Files.{Kept, Counted, with_file, with_copy, with_pipe, takes_pipe, closed, copied, released, by_descriptor, counted_more, count_at, file_at, Gives, GivesPair}
-use Rattle.kr_files.proofs.DescriptorLemmas.{lowest_free-meanings, lowest_pair-meanings}
+use Rattle.kr_lawful.proofs.pr_base.MapLemmas.{by_key, mapped-insert, get-changed_same, get-changed_other}
+use Rattle.kr_lawful.specs.kr_tree.Tree.{Tree, Inode, inode}
+use Rattle.kr_lawful.specs.kr_tree.Holds.{holds_at}
+use Rattle.kr_lawful.specs.kr_tree.declared.place.Place.{Place}
+use Rattle.kr_lawful.specs.kr_files.declared.descs.Descriptor.{Descriptor}
+use Rattle.kr_lawful.specs.kr_files.declared.opened.Opened.{Opened}
+use Rattle.kr_lawful.specs.kr_files.Descriptors.{Descriptors, Meanings, Named, lowest_free, lowest_pair, with_copy_at, with_cloexec}
+use Rattle.kr_lawful.specs.kr_files.Files.{Kept, Counted, with_file, with_copy, with_pipe, takes_pipe, closed, copied, released, by_descriptor, counted_more, count_at, file_at, Gives, GivesPair}
+use Rattle.kr_lawful.proofs.kr_files.DescriptorLemmas.{lowest_free-meanings, lowest_pair-meanings}
 use Rattle.kr_lawful.specs.kr_model.Applied.{Mounts, images, applied, held_at, released_at, in_mount, mount_of, open_in, copy_over}
 use Rattle.kr_lawful.specs.kr_model.Change.{CopyDescriptor, MakePipe, MountOf, OpenFile}
 use Rattle.kr_lawful.specs.kr_model.State as model

@@ -1,9 +1,9 @@
 -- Pages that the code changes are changed in what its state means, and counted.
 use Rattle.std.proofs.Common.{◌≡◌, ℕ, zero, suc, ◌+◌, ◌≤◌, ◌<◌, List, [], ◌∷◌, length, get_or, sym, ap, subst, arith, Option}
 use Rattle.std.specs.Prelude.{map as map_list, slice_set, sum, IfSome, Result, Ok, Err, OnOk, OnErr}
-use Rattle.rv_mem.specs.Memory.{Memory, with_pages, room_after, page_count}
-use Rattle.rv_mem.specs.Pages.{Pages}
-use Rattle.rv_mem.proofs.LayoutLemmas.{layouts_follow}
+use Rattle.kr_lawful.specs.rv_mem.Memory.{Memory, with_pages, room_after, page_count}
+use Rattle.kr_lawful.specs.rv_mem.Pages.{Pages}
+use Rattle.kr_lawful.proofs.rv_mem.LayoutLemmas.{layouts_follow}
 use Rattle.kr_lawful.specs.kr_model.Applied.{images, pages_after, with_image, with_living}
 use Rattle.kr_lawful.specs.kr_model.Change.{PageChange}
 use Rattle.kr_lawful.specs.kr_model.Known.{pages_in_all}

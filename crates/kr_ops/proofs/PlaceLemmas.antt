@@ -2,9 +2,9 @@
 use Rattle.std.proofs.Common.{◌≡◌, ℕ, ◌+◌, ◌≤◌, ◌<◌, List, get_or, refl, sym, ap, subst, ◌∙◌, cond, arith, Option, Some}
 use Rattle.std.specs.Prelude.{slice_set}
 use Rattle.std.specs.Option.{option_map, option_map_or}
-use Rattle.kr_tree.specs.Tree.{Tree}
-use Rattle.kr_tree.specs.Holds.{holds_at}
-use Rattle.kr_tree.specs.declared.place.Place.{Place}
+use Rattle.kr_lawful.specs.kr_tree.Tree.{Tree}
+use Rattle.kr_lawful.specs.kr_tree.Holds.{holds_at}
+use Rattle.kr_lawful.specs.kr_tree.declared.place.Place.{Place}
 use Rattle.kr_lawful.specs.kr_model.Applied.{Mounts, images, applied, held_at, released_at, mount_of, moved_to, executed, with_cwd, with_exe}
 use Rattle.kr_lawful.specs.kr_model.Change.{MountOf, ChangeDirectory, ReplaceExecutable}
 use Rattle.kr_lawful.specs.kr_model.Uses.{at_inode}

@@ -5,15 +5,15 @@ use Rattle.std.specs.Prelude.{map as map_list, slice_set, sum, IsSome, OnErr, Re
 use Rattle.std.specs.List.{AllByRecursion}
 use Rattle.std.specs.Option.{option_map, option_map_or, option_and_then}
 use Rattle.std.proofs.lemmas.Option.{none-some, same_Some}
-use Rattle.pr_base.specs.Maps.{changed}
-use Rattle.pr_base.proofs.MapLemmas.{by_key, each-changed, get-insert_same, get-insert_other, get-mapped}
-use Rattle.rv_mem.specs.Memory.{Memory}
-use Rattle.kr_files.specs.declared.descs.Descriptor.{Descriptor}
-use Rattle.kr_files.specs.Descriptors.{Descriptors, meanings, named_count, with_cloexec, with_copy_at}
-use Rattle.kr_files.specs.Files.{Counted, GivesPair, Kept, NamesOpenFiles, by_descriptor, copied, released, file_at}
-use Rattle.kr_files.specs.Serves.{Serves}
-use Rattle.kr_files.proofs.ServedLemmas.{served-close, served-dup_to, served-others}
-use Rattle.kr_files.proofs.ServesLemmas.{one_at, serves-raise}
+use Rattle.kr_lawful.specs.pr_base.Maps.{changed}
+use Rattle.kr_lawful.proofs.pr_base.MapLemmas.{by_key, each-changed, get-insert_same, get-insert_other, get-mapped}
+use Rattle.kr_lawful.specs.rv_mem.Memory.{Memory}
+use Rattle.kr_lawful.specs.kr_files.declared.descs.Descriptor.{Descriptor}
+use Rattle.kr_lawful.specs.kr_files.Descriptors.{Descriptors, meanings, named_count, with_cloexec, with_copy_at}
+use Rattle.kr_lawful.specs.kr_files.Files.{Counted, GivesPair, Kept, NamesOpenFiles, by_descriptor, copied, released, file_at}
+use Rattle.kr_lawful.specs.kr_files.Serves.{Serves}
+use Rattle.kr_lawful.proofs.kr_files.ServedLemmas.{served-close, served-dup_to, served-others}
+use Rattle.kr_lawful.proofs.kr_files.ServesLemmas.{one_at, serves-raise}
 use Rattle.kr_lawful.specs.kr_model.Known.{pages_in_all}
 use Rattle.kr_lawful.specs.kr_model.State as model
 use Rattle.kr_lawful.specs.kr_model.State.{image_layout, layout_of}

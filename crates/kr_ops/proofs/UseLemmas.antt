@@ -2,12 +2,12 @@
 use Rattle.std.specs.FinMap as map
 use Rattle.std.proofs.Common.{◌≡◌, ℕ, ◌+◌, ◌≤◌, ◌<◌, ◌^◌, List, sym, subst, arith, Option, Some, None}
 use Rattle.std.specs.Option.{option_map, option_map_or}
-use Rattle.pr_base.proofs.MapLemmas.{by_key, get-changed_same, get-changed_other}
-use Rattle.kr_tree.specs.Tree.{Tree, Inode}
-use Rattle.kr_tree.specs.Changes.{held, with_holds}
-use Rattle.kr_tree.specs.Holds.{holds_at}
-use Rattle.kr_tree.specs.declared.place.Place.{Place}
-use Rattle.kr_files.specs.Files.{Counted}
+use Rattle.kr_lawful.proofs.pr_base.MapLemmas.{by_key, get-changed_same, get-changed_other}
+use Rattle.kr_lawful.specs.kr_tree.Tree.{Tree, Inode}
+use Rattle.kr_lawful.specs.kr_tree.Changes.{held, with_holds}
+use Rattle.kr_lawful.specs.kr_tree.Holds.{holds_at}
+use Rattle.kr_lawful.specs.kr_tree.declared.place.Place.{Place}
+use Rattle.kr_lawful.specs.kr_files.Files.{Counted}
 use Rattle.kr_lawful.specs.kr_view.View.{Row}
 use Rattle.kr_lawful.specs.kr_model.Applied.{held_at}
 use Rattle.kr_lawful.specs.kr_model.Bare.{pins_of}

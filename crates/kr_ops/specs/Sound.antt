@@ -1,8 +1,8 @@
 -- What holds of every state of the code, whatever the view: the facts on which its changes rest.
 use Rattle.std.specs.Prelude.{◌≡◌, ◌≤◌, ◌<◌, ℕ, List, Some, IsSome}
 use Rattle.std.specs.List.{AllByRecursion}
-use Rattle.kr_files.specs.Descriptors.{Named}
-use Rattle.kr_files.specs.Files.{NamesOpenFiles, file_at}
+use Rattle.kr_lawful.specs.kr_files.Descriptors.{Named}
+use Rattle.kr_lawful.specs.kr_files.Files.{NamesOpenFiles, file_at}
 use Rattle.kr_lawful.specs.kr_view.View.{Row}
 use Rattle.kr_lawful.specs.kr_model.Known.{pages_in_all}
 use Rattle.kr_lawful.specs.kr_model.Lawful.{ArePids, IsLawful}

@@ -11,7 +11,7 @@ ghost use Rattle.kr_ops.specs.Opening.{lowest_of, takes_pipe_of};
 ghost use Rattle.kr_ops.specs.Sound.{IsServed, IsSound};
 
 use crate::state::{EndedProcess, Process, State};
-use kr_files::Opened;
+use kr_lawful::below::Opened;
 
 /// Which children wait4(2) means by its first argument.
 #[derive(Clone, Copy, Debug, PartialEq, Eq)]

@@ -6,7 +6,7 @@ ghost use Rattle.kr_ops.specs.Making.{Makes};
 ghost use Rattle.kr_ops.specs.Sound.{IsServed};
 
 use crate::state::State;
-use pr_base::NoMemory;
+use kr_lawful::below::NoMemory;
 
 impl<T: Copy, const M: u8> State<T, M> {
     /// How many bytes of the input are left.

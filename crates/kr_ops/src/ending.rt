@@ -10,7 +10,7 @@ ghost use Rattle.kr_ops.specs.Sound.{IsOfView, IsServed};
 
 use crate::holding::release;
 use crate::state::{EndedProcess, State};
-use pr_base::NoMemory;
+use kr_lawful::below::NoMemory;
 
 /// The process that has the children of those that ended. It isn't among the living.
 const FIRST_PROCESS: u32 = 1;

@@ -1,8 +1,8 @@
 //! New processes.
 ghost use Rattle.std.specs.Prelude.{◌≡◌, ◌+◌, ◌<◌, ◌≤◌, ◌^◌, true, IsSome, IfSome, IfOk, OnOk};
-ghost use Rattle.rv_mem.specs.Memory.{page_count};
-ghost use Rattle.rv_mem.specs.Pages.{allows_all};
-ghost use Rattle.rv_mem.specs.declared.rights.Use.TheVariants.{Write};
+ghost use Rattle.kr_lawful.specs.rv_mem.Memory.{page_count};
+ghost use Rattle.kr_lawful.specs.rv_mem.Pages.{allows_all};
+ghost use Rattle.kr_lawful.specs.rv_mem.declared.rights.Use.TheVariants.{Write};
 ghost use Rattle.kr_lawful.specs.kr_model.Applied.{child_regs, told};
 ghost use Rattle.kr_lawful.specs.kr_model.Change.{Fork};
 ghost use Rattle.kr_lawful.specs.kr_model.MemoryRows.{all_pages};
@@ -13,17 +13,18 @@ ghost use Rattle.kr_ops.specs.Sound.{IsServed, IsSound};
 
 use crate::holding::{hold, hold_all};
 use crate::state::{Process, State};
-use pr_base::{Bytes, NoMemory};
-use rv_mem::{MapFault, Regs, Space, StoreFault};
+use kr_lawful::below::{Bytes, MapFault, NoMemory, Regs, Space, StoreFault};
 
 /// The register that holds the answer of a call, and that of the stack pointer.
 const ANSWER: usize = 10;
 
 const STACK_POINTER: usize = 2;
 
+/// How many bytes an instruction has.
+const INSTRUCTION: u64 = 4;
+
 /// The registers of a child, behind its call with 0 as the answer. A stack pointer of 0 stands for the parent's.
 fn child_regs(parent: &Regs, sp: u64) -> Regs
-    requires { parent.now.pc + 4 < 2 ^ 64 }
     ensures { result ≡ child_regs sp parent.now }
 {
     let mut regs = *parent;
@@ -31,7 +32,7 @@ fn child_regs(parent: &Regs, sp: u64) -> Regs
     if sp != 0 {
         regs.x[STACK_POINTER] = sp;
     }
-    regs.pc += 4;
+    regs.pc = regs.pc.wrapping_add(INSTRUCTION);
     regs
 }
 
@@ -58,7 +59,6 @@ impl<T: Copy, const M: u8> State<T, M> {
         requires sound { IsSound self.old }
         requires lives { IsSome (process pid (meaning self.old)) }
         requires numbers { self.old.next_pid + 1 < 2 ^ 32 }
-        requires behind { IfSome (process pid (meaning self.old)) (λ p. p.image.regs.pc + 4 < 2 ^ 64) }
         requires room { IfSome (process pid (meaning self.old)) (λ p. self.old.room + page_count p.image.memory.pages ≤ all_pages) }
         requires told { IfSome (process pid (meaning self.old)) (λ p. IfSome told_at (λ a. allows_all p.image.memory.pages a 4 Write ≡ true)) }
         ensures number { IfOk result (λ child. child ≡ self.old.next_pid) }

@@ -2,6 +2,7 @@
 #![tactic(auto)]
 
 mod asking;
+pub mod below;
 mod changing;
 mod closing;
 mod console;

@@ -1,7 +1,7 @@
 //! Descriptors that come: files that are opened, copies, and pipes.
 ghost use Rattle.std.specs.Prelude.{◌≡◌, ◌≢◌, ◌↔◌, ◌+◌, ◌<◌, ◌^◌, ℕ, Some, None, Err, false, IsSome, IsTrue, IfSome, IfOk, OnErr, OnOk};
-ghost use Rattle.kr_tree.specs.Tree.{inode};
-ghost use Rattle.kr_files.specs.Opened.{is_no_end};
+ghost use Rattle.kr_lawful.specs.kr_tree.Tree.{inode};
+ghost use Rattle.kr_lawful.specs.kr_files.Opened.{is_no_end};
 ghost use Rattle.kr_lawful.specs.kr_model.Change.{CopyDescriptor, MakePipe};
 ghost use Rattle.kr_lawful.specs.kr_model.State.{inode_of as host_inode, named, process};
 ghost use Rattle.kr_ops.specs.Meaning.{meaning};
@@ -11,8 +11,7 @@ ghost use Rattle.kr_ops.specs.Sound.{IsServed, IsSound};
 
 use crate::holding::{hold, release};
 use crate::state::State;
-use kr_files::{FilesRefusal, Opened};
-use pr_base::NoMemory;
+use kr_lawful::below::{FilesRefusal, NoMemory, Opened};
 
 impl<T: Copy, const M: u8> State<T, M> {
     /// Opens what is no end of a pipe under the lowest free descriptor of a living process; Full exactly where none is free.

@@ -1,9 +1,6 @@
 //! The state of a kernel.
 
-use kr_files::{Descs, Files};
-use kr_tree::{Ino, Place, Tree, User};
-use pr_base::Bytes;
-use rv_mem::{Regs, Room, Space};
+use kr_lawful::below::{Bytes, Descs, Files, Ino, Place, Regs, Room, Space, Tree, User};
 
 /// A living process. `T` tells mounts apart, and `M` is not 0 where the marks of bytes are kept.
 #[derive(Drop)]

@@ -5,11 +5,11 @@ use Rattle.std.specs.Prelude.{map as map_list, ◌==◌}
 use Rattle.std.specs.List.{find, filter}
 use Rattle.std.specs.Option.{option_map, option_map_or}
 use Rattle.std.proofs.lemmas.Bool.Decides.{nat_tests}
-use Rattle.pr_base.specs.Maps.{changed}
-use Rattle.kr_tree.specs.declared.place.Host.{Host}
-use Rattle.kr_files.specs.declared.opened.Opened.{Opened}
-use Rattle.kr_files.specs.Descriptors.{Named}
-use Rattle.kr_files.specs.Files.{with_opened, at_offset, with_append}
+use Rattle.kr_model.specs.pr_base.Maps.{changed}
+use Rattle.kr_model.specs.kr_tree.declared.place.Host.{Host}
+use Rattle.kr_model.specs.kr_files.declared.opened.Opened.{Opened}
+use Rattle.kr_model.specs.kr_files.Descriptors.{Named}
+use Rattle.kr_model.specs.kr_files.Files.{with_opened, at_offset, with_append}
 use Rattle.kr_model.specs.State.{Process, State, process, named, is_pid, with_process, with_descs}
 use Rattle.kr_model.specs.Change.{Change, AddNode, LinkNode, RemoveName, MoveName, SetMode, SetOwner, SetSize, WriteFile, OpenFile, CopyDescriptor, CloseDescriptor, SetCloexec, Seek, SetAppend, MakePipe, TakeFromPipe, PutIntoPipe, TakeInput, WriteOut, WriteErr, ChangePages, SetBreak, SetUmask, ChangeDirectory, Fork, End, Reap, ReplaceImage, ReplaceExecutable, CloseOnExec, Birth}
 use Rattle.kr_model.specs.Applied.{Computing, Mounts, applied, all_applied, mount_of, with_files, with_living, with_exe_name, exe_remembers, exe_after_removal, exe_after_rename, open_in, close_named, close, copy_named, copy_over, on_opened_of, pipe_made, with_image, with_brk, with_umask, with_cwd, moved_to, child_of, forked_from, close_below, with_program, with_exe, executed, is_closed_on_exec, close_on_exec_below, with_parent, orphaned, gone, end}

@@ -1,7 +1,7 @@
 -- What a call leaves of the processes other than its caller.
 use Rattle.std.specs.Prelude.{◌≡◌, ◌≢◌, ℕ, Bool, List, Some}
-use Rattle.kr_tree.specs.declared.place.Place.{Place}
-use Rattle.kr_files.specs.Descriptors.{Meanings}
+use Rattle.kr_model.specs.kr_tree.declared.place.Place.{Place}
+use Rattle.kr_model.specs.kr_files.Descriptors.{Meanings}
 use Rattle.kr_model.specs.State.{Process, State, process, with_process}
 use Rattle.kr_model.specs.Change.{Change}
 use Rattle.kr_model.specs.Applied.{Computing, Mounts, applied, all_applied, with_living}

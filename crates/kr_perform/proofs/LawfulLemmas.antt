@@ -5,23 +5,23 @@ pub use Rattle.kr_resolved.proofs.NumberedLemmas.{lawful_numbered}
 pub use Rattle.kr_resolved.proofs.ResolveLemmas.{walks_resolve}
 use Rattle.std.proofs.Common.{◌≡◌, ℕ, suc, Option, sym, ap, subst, ◌∙◌, arith}
 use Rattle.std.specs.Option.{option_map_or}
-use Rattle.rv_mem.specs.Actions.{carried_out}
-use Rattle.rv_mem.specs.Memory.{Memory}
-use Rattle.kr_model.specs.Known.{known}
-use Rattle.kr_model.specs.Lawful.{IsLawful}
-use Rattle.kr_model.specs.Operation.{operation}
-use Rattle.kr_model.specs.Reply.{Replying}
-use Rattle.kr_model.specs.State as model
-use Rattle.kr_model.specs.Walks.{told}
-use Rattle.kr_allowed.specs.Lasting.{Lasts}
-use Rattle.kr_allowed.proofs.ChangeLemmas.{modest-last}
-use Rattle.kr_allowed.proofs.RoomLemmas.{lasting-room}
-use Rattle.kr_allowed.specs.Allowed.{with_memory}
-use Rattle.kr_allowed.specs.Resting.{HasSmallNumbers}
-use Rattle.kr_allowed.proofs.OperationLemmas.{operation-is-allowed}
-use Rattle.kr_seen.specs.Carrying.{after_row, memory_of, no_memory}
-use Rattle.kr_ops.specs.Meaning.{meaning}
-use Rattle.kr_seen.specs.Numbered.{state_numbered}
+use Rattle.kr_resolved.specs.rv_mem.Actions.{carried_out}
+use Rattle.kr_resolved.specs.rv_mem.Memory.{Memory}
+use Rattle.kr_resolved.specs.kr_model.Known.{known}
+use Rattle.kr_resolved.specs.kr_model.Lawful.{IsLawful}
+use Rattle.kr_resolved.specs.kr_model.Operation.{operation}
+use Rattle.kr_resolved.specs.kr_model.Reply.{Replying}
+use Rattle.kr_resolved.specs.kr_model.State as model
+use Rattle.kr_resolved.specs.kr_model.Walks.{told}
+use Rattle.kr_resolved.specs.kr_allowed.Lasting.{Lasts}
+use Rattle.kr_resolved.proofs.kr_allowed.ChangeLemmas.{modest-last}
+use Rattle.kr_resolved.proofs.kr_allowed.RoomLemmas.{lasting-room}
+use Rattle.kr_resolved.specs.kr_allowed.Allowed.{with_memory}
+use Rattle.kr_resolved.specs.kr_allowed.Resting.{HasSmallNumbers}
+use Rattle.kr_resolved.proofs.kr_allowed.OperationLemmas.{operation-is-allowed}
+use Rattle.kr_resolved.specs.kr_seen.Carrying.{after_row, memory_of, no_memory}
+use Rattle.kr_resolved.specs.kr_ops.Meaning.{meaning}
+use Rattle.kr_resolved.specs.kr_seen.Numbered.{state_numbered}
 use Rattle.kr_perform.specs.Lawful.{LastsLawful, PerformedLast}
 use Rattle.kr_perform.specs.Operating.{mounts_at, placed_targets}
 
@@ -35,13 +35,13 @@ with-memory calls pid memory s lasts = record {
 }
 
 pub performed-last : {T : Type 0} {M : ℕ} → PerformedLast T M
-performed-last {T} {M} number table calls pid request first second old new result caller operates wanted few before lives bytes givable is_told =
+performed-last {T} {M} number table calls pid request first second old new result caller kind operates wanted few before lives bytes givable is_told =
     let seen = told table pid (state_numbered number (meaning old)) request (placed_targets number first second) in
     let done = operates wanted in
     let room = lasting-room T model.Image calls (meaning old) few before.lawful.tree.sound before.lasts in
     let pids = room.pids in
     let small : HasSmallNumbers (meaning old).tree (meaning old).next_pid = record { owners = room.owners; serials = room.serials; pids = omega arith } in
-    let leaves = operation-is-allowed T number table (mounts_at first) pid request seen givable (meaning old) caller before.lawful lives bytes (small, is_told) in
+    let leaves = operation-is-allowed T number table (mounts_at first) pid request seen kind givable (meaning old) caller before.lawful lives bytes (small, is_told) in
     let row : Replying = operation pid request seen (known model.image_layout pid (meaning old)) in
     let after = carried_out row caller.image.memory in
     let own : memory_of pid (meaning old) ≡ caller.image.memory = ap (λ (o : Option (model.Process T model.Image)). option_map_or (λ p. p.image.memory) o no_memory) lives in

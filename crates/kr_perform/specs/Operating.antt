@@ -2,22 +2,23 @@
 -- what is left of the state.
 use Rattle.std.specs.Prelude.{◌+◌, ◌<◌, ◌^◌, ℕ, List, Option}
 use Rattle.std.specs.Option.{option_map, option_and_then}
-use Rattle.kr_calls.specs.declared.request.Request.{Request}
-use Rattle.kr_calls.specs.declared.request.Request.TheVariants as call
-use Rattle.kr_tree.specs.Changes.{next_serial}
-use Rattle.kr_view.specs.View.{Row}
-use Rattle.kr_view.specs.declared.target.Target.{Target}
-use Rattle.kr_model.specs.Applied.{Mounts}
-use Rattle.kr_model.specs.Operation.{operation}
-use Rattle.kr_model.specs.Seen.{Seen}
-use Rattle.kr_model.specs.Walks.{Targets, told}
-use Rattle.kr_model.specs.declared.outcome.Outcome.{Outcome}
-use Rattle.kr_ops.specs.declared.state.State.{State}
-use Rattle.kr_ops.specs.Meaning.{meaning}
-use Rattle.kr_seen.specs.Numbered.{state_numbered}
-use Rattle.kr_seen.specs.Carrying.{CarriesOut}
+use Rattle.kr_resolved.specs.kr_calls.declared.request.Request.{Request}
+use Rattle.kr_resolved.specs.kr_calls.declared.request.Request.TheVariants as call
+use Rattle.kr_resolved.specs.kr_tree.Changes.{next_serial}
+use Rattle.kr_resolved.specs.kr_view.View.{Row}
+use Rattle.kr_resolved.specs.kr_view.declared.target.Target.{Target}
+use Rattle.kr_resolved.specs.kr_model.Applied.{Mounts}
+pub use Rattle.kr_resolved.specs.kr_model.Operation.{IsNoExec}
+use Rattle.kr_resolved.specs.kr_model.Operation.{operation}
+use Rattle.kr_resolved.specs.kr_model.Seen.{Seen}
+use Rattle.kr_resolved.specs.kr_model.Walks.{Targets, told}
+use Rattle.kr_resolved.specs.kr_model.declared.outcome.Outcome.{Outcome}
+use Rattle.kr_resolved.specs.kr_ops.declared.state.State.{State}
+use Rattle.kr_resolved.specs.kr_ops.Meaning.{meaning}
+use Rattle.kr_resolved.specs.kr_seen.Numbered.{state_numbered}
+use Rattle.kr_resolved.specs.kr_seen.Carrying.{CarriesOut}
 use Rattle.kr_resolved.specs.kr_targets.Placed.{placed_in}
-use Rattle.kr_rows.specs.Performing.{Performs}
+use Rattle.kr_transfer.specs.kr_rows.Performing.{Performs}
 
 -- ---- kinds of requests
 
@@ -54,11 +55,6 @@ IsOfProcess call.Geteuid = Unit {0}
 IsOfProcess call.Getgid = Unit {0}
 IsOfProcess call.Getegid = Unit {0}
 IsOfProcess _ = ⊥
-
--- any but an execve, which has a definition of its own
-abbrev pub IsNoExec : Request → Type 0
-IsNoExec (call.Execve path args env) = ⊥
-IsNoExec _ = Unit {0}
 
 -- without a path, and without a name that is told
 abbrev pub IsAlone : Request → Type 0

@@ -1,10 +1,10 @@
 //! Calls without a path: those on what is open under a descriptor here, and the others where they stand.
-ghost use Rattle.std.specs.Prelude.{◌≢◌, ◌+◌, ◌<◌, ◌^◌, IfSome, IsSome};
-ghost use Rattle.kr_model.specs.State.{process};
-ghost use Rattle.kr_model.specs.declared.outcome.Outcome.TheVariants.{NoMemory as WantOfMemory};
-ghost use Rattle.kr_allowed.specs.Calls.{IsGivable};
-ghost use Rattle.kr_ops.specs.Meaning.{meaning};
-ghost use Rattle.kr_ops.specs.Sound.{IsOfView, IsServed};
+ghost use Rattle.std.specs.Prelude.{◌≢◌, IsSome};
+ghost use Rattle.kr_resolved.specs.kr_model.State.{process};
+ghost use Rattle.kr_resolved.specs.kr_model.declared.outcome.Outcome.TheVariants.{NoMemory as WantOfMemory};
+ghost use Rattle.kr_resolved.specs.kr_allowed.Calls.{IsGivable};
+ghost use Rattle.kr_resolved.specs.kr_ops.Meaning.{meaning};
+ghost use Rattle.kr_resolved.specs.kr_ops.Sound.{IsOfView, IsServed};
 ghost use Rattle.kr_perform.specs.Operating.{HasNumbers, IsAlone, OperatesAlone};
 
 use crate::processes;
@@ -12,13 +12,8 @@ use kr_attributes::directories::fchdir;
 use kr_attributes::modes::fchmod;
 use kr_attributes::owners::fchown;
 use kr_attributes::stats::fstat;
-use kr_calls::Request;
-use kr_model::Outcome;
-use kr_ops::State;
-use kr_ops::laws::lawful_states_are_sound;
-use kr_rows::descriptors::{close, dup, dup3, ioctl, pipe2};
-use kr_rows::fcntl::fcntl;
-use kr_rows::seeking::lseek;
+use kr_resolved::below::{Outcome, Request, State, lawful_states_are_sound};
+use kr_transfer::below::{close, dup, dup3, fcntl, ioctl, lseek, pipe2};
 use kr_transfer::entries::getdents64;
 use kr_transfer::reading::{read, readv};
 use kr_transfer::sizes::ftruncate;
@@ -34,7 +29,6 @@ pub fn perform<T: Copy, const M: u8>(
     requires given { IsGivable request.now }
     requires view { IsOfView state.old }
     requires lives { IsSome (process pid (meaning state.old)) }
-    requires behind { IfSome (process pid (meaning state.old)) (λ p. p.image.regs.pc + 4 < 2 ^ 64) }
     requires numbers { HasNumbers state.old }
     ensures performs { OperatesAlone pid request.now state.old state.new result }
     ensures served { result ≢ WantOfMemory → IsServed state.new }

@@ -2,6 +2,7 @@
 #![tactic(auto)]
 
 pub mod asking;
+pub mod below;
 pub mod descriptors;
 pub mod laws;
 pub mod naming;

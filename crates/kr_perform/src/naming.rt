@@ -1,23 +1,19 @@
 //! Calls that open, make and remove what a path leads to. A path that isn't walked leads nowhere: ENOENT.
 ghost use Rattle.std.specs.Prelude.{◌≢◌, ℕ, ℤ, List, IfSome, IsSome};
-ghost use Rattle.kr_calls.specs.declared.request.Request.TheVariants as call;
-ghost use Rattle.kr_tree.specs.Lawful.{IsSound as IsSoundTree};
-ghost use Rattle.kr_view.specs.View.{Row};
-ghost use Rattle.kr_model.specs.Lawful.{IsLawful};
-ghost use Rattle.kr_model.specs.State.{process};
-ghost use Rattle.kr_model.specs.declared.outcome.Outcome.TheVariants.{NoMemory as WantOfMemory};
-ghost use Rattle.kr_ops.specs.Meaning.{meaning};
-ghost use Rattle.kr_ops.specs.Sound.{IsServed, IsSound};
+ghost use Rattle.kr_resolved.specs.kr_calls.declared.request.Request.TheVariants as call;
+ghost use Rattle.kr_resolved.specs.kr_tree.Lawful.{IsSound as IsSoundTree};
+ghost use Rattle.kr_resolved.specs.kr_view.View.{Row};
+ghost use Rattle.kr_resolved.specs.kr_model.Lawful.{IsLawful};
+ghost use Rattle.kr_resolved.specs.kr_model.State.{process};
+ghost use Rattle.kr_resolved.specs.kr_model.declared.outcome.Outcome.TheVariants.{NoMemory as WantOfMemory};
+ghost use Rattle.kr_resolved.specs.kr_ops.Meaning.{meaning};
+ghost use Rattle.kr_resolved.specs.kr_ops.Sound.{IsServed, IsSound};
 ghost use Rattle.kr_resolved.specs.kr_targets.Resolved.{IsEntryIn, IsFoundIn, IsFreeIn};
 ghost use Rattle.kr_perform.specs.Operating.{HasNumbers, OperatesAt};
 
-use kr_model::Outcome;
 use kr_names::{linking, making, moving, opening, removing};
-use kr_ops::State;
-use kr_ops::laws::lawful_states_are_sound;
-use kr_seen::{Targets, refused};
-use kr_view::Places;
-use pr_base::{Bytes, Errno, NoMemory};
+use kr_resolved::below::{Outcome, Places, State, Targets, lawful_states_are_sound, refused};
+use kr_transfer::below::{Bytes, Errno, NoMemory};
 use std::alloc::Global;
 
 /// mkdirat(2).

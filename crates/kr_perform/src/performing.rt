@@ -1,25 +1,25 @@
 //! Any call.
-ghost use Rattle.std.specs.Prelude.{◌≢◌, ◌+◌, ◌<◌, ◌^◌, IfSome, IsSome};
-ghost use Rattle.kr_model.specs.Lawful.{IsLawful};
-ghost use Rattle.kr_model.specs.State.{process};
-ghost use Rattle.kr_model.specs.declared.outcome.Outcome.TheVariants.{NoMemory as WantOfMemory};
-ghost use Rattle.kr_allowed.specs.Calls.{IsGivable};
-ghost use Rattle.kr_ops.specs.Meaning.{meaning};
-ghost use Rattle.kr_ops.specs.Sound.{IsServed};
+ghost use Rattle.std.specs.Prelude.{◌≢◌, IsSome};
+ghost use Rattle.kr_resolved.specs.kr_model.Lawful.{IsLawful};
+ghost use Rattle.kr_resolved.specs.kr_model.State.{process};
+ghost use Rattle.kr_resolved.specs.kr_model.declared.outcome.Outcome.TheVariants.{NoMemory as WantOfMemory};
+ghost use Rattle.kr_resolved.specs.kr_allowed.Calls.{IsGivable};
+ghost use Rattle.kr_resolved.specs.kr_ops.Meaning.{meaning};
+ghost use Rattle.kr_resolved.specs.kr_ops.Sound.{IsServed};
 ghost use Rattle.kr_resolved.specs.Resolving.{AreResolved};
 ghost use Rattle.kr_perform.specs.Operating.{HasNumbers, IsNoExec, OperatesAt};
 
 use crate::{asking, descriptors, naming};
 use kr_attributes::names::getcwd;
-use kr_calls::Request;
-use kr_model::Outcome;
-use kr_ops::State;
-use kr_ops::laws::lawful_states_are_sound;
-use kr_seen::Targets;
-use kr_view::Places;
+use kr_resolved::below::{Outcome, Places, Request, State, Targets, lawful_states_are_sound};
 use std::alloc::Global;
 
-/// Carries out a call that isn't execve(2), of the targets of its paths.
+/// Carries out a call that isn't execve(2), of the targets of its paths: its clauses say what it answers and what it leaves.
+///
+/// That what it leaves of a lawful state is lawful again, want of memory aside, and keeps what lasts, is the law
+/// `laws::performed_states_last`. That law asks for more than a lawful state: that of it all lasts which calls keep, after fewer than
+/// 2^31 calls, that the caller's memory holds bytes, and that what the call is told of its targets is so. `carry_out` of kr_calling,
+/// by which each call of a turn comes here, meets these premises, and promises such a state (`runs`).
 pub fn perform<P: Places, const M: u8>(
     alloc: Global,
     places: &P,
@@ -34,7 +34,6 @@ pub fn perform<P: Places, const M: u8>(
     requires served { IsServed state.old }
     requires lives { IsSome (process pid (meaning state.old)) }
     requires resolved { AreResolved state.old.tree (P.mounts places.now) request.now targets.now }
-    requires behind { IfSome (process pid (meaning state.old)) (λ p. p.image.regs.pc + 4 < 2 ^ 64) }
     requires numbers { HasNumbers state.old }
     ensures performs { OperatesAt P.number (P.mounts places.now) pid request.now targets.now.first targets.now.second state.old state.new result }
     ensures served { result ≢ WantOfMemory → IsServed state.new }

@@ -1,16 +1,13 @@
 //! Calls on the caller, its pages and its user.
-ghost use Rattle.std.specs.Prelude.{◌≢◌, ◌+◌, ◌<◌, ◌^◌, IfSome, IsSome};
-ghost use Rattle.kr_model.specs.State.{process};
-ghost use Rattle.kr_model.specs.declared.outcome.Outcome.TheVariants.{NoMemory as WantOfMemory};
-ghost use Rattle.kr_ops.specs.Meaning.{meaning};
-ghost use Rattle.kr_ops.specs.Sound.{IsOfView, IsServed};
+ghost use Rattle.std.specs.Prelude.{◌≢◌, IsSome};
+ghost use Rattle.kr_resolved.specs.kr_model.State.{process};
+ghost use Rattle.kr_resolved.specs.kr_model.declared.outcome.Outcome.TheVariants.{NoMemory as WantOfMemory};
+ghost use Rattle.kr_resolved.specs.kr_ops.Meaning.{meaning};
+ghost use Rattle.kr_resolved.specs.kr_ops.Sound.{IsOfView, IsServed};
 ghost use Rattle.kr_perform.specs.Operating.{HasNumbers, IsOfProcess, OperatesAlone};
 
-use kr_calls::Request;
-use kr_model::Outcome;
-use kr_ops::State;
-use kr_ops::laws::lawful_states_are_sound;
-use kr_rows::{ending, forking, identity, memory, processes, system};
+use kr_resolved::below::{Outcome, Request, State, lawful_states_are_sound};
+use kr_transfer::below::{ending, forking, identity, memory, processes, system};
 
 /// Carries out a call that names neither a path nor a descriptor.
 pub fn perform<T: Copy, const M: u8>(
@@ -21,7 +18,6 @@ pub fn perform<T: Copy, const M: u8>(
     requires kind { IsOfProcess request.now }
     requires view { IsOfView state.old }
     requires lives { IsSome (process pid (meaning state.old)) }
-    requires behind { IfSome (process pid (meaning state.old)) (λ p. p.image.regs.pc + 4 < 2 ^ 64) }
     requires numbers { HasNumbers state.old }
     ensures performs { OperatesAlone pid request.now state.old state.new result }
     ensures served { result ≢ WantOfMemory → IsServed state.new }

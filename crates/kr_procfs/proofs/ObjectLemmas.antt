@@ -4,9 +4,9 @@ use Rattle.std.specs.Prelude.{get_or, codes, true, false}
 use Rattle.std.specs.List.{list_all}
 use Rattle.std.specs.Fmt.{decimal}
 use Rattle.std.proofs.lemmas.Fmt.{decimal_injective}
-use Rattle.kr_tree.specs.declared.place.ProcAt.{ProcAt}
-use Rattle.kr_tree.specs.declared.place.ProcAt.TheVariants.{SelfLink, Dir, Cwd, Root, Exe, FdDir, Fd}
-use Rattle.kr_tree.specs.Names.{process_names}
+use Rattle.kr_view.specs.kr_tree.declared.place.ProcAt.{ProcAt}
+use Rattle.kr_view.specs.kr_tree.declared.place.ProcAt.TheVariants.{SelfLink, Dir, Cwd, Root, Exe, FdDir, Fd}
+use Rattle.kr_view.specs.kr_tree.Names.{process_names}
 use Rattle.kr_view.specs.Processes.{holder, names_down_to}
 use Rattle.kr_procfs.specs.Decimals.{is_digit}
 use Rattle.kr_procfs.proofs.DecimalLemmas.{digits-decimal}

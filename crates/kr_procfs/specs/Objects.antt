@@ -2,8 +2,8 @@
 -- entries of a directory.
 use Rattle.std.specs.Prelude.{◌≡◌, ℕ, ◌+◌, ◌*◌, ◌^◌, ◌<◌, List, ◌++◌, codes, Option, Some}
 use Rattle.std.specs.Fmt.{decimal}
-use Rattle.kr_tree.specs.declared.place.ProcAt.{ProcAt}
-use Rattle.kr_tree.specs.declared.place.ProcAt.TheVariants.{SelfLink, Dir, Cwd, Root, Exe, FdDir, Fd}
+use Rattle.kr_view.specs.kr_tree.declared.place.ProcAt.{ProcAt}
+use Rattle.kr_view.specs.kr_tree.declared.place.ProcAt.TheVariants.{SelfLink, Dir, Cwd, Root, Exe, FdDir, Fd}
 use Rattle.kr_view.specs.declared.procs.Lead.{Lead}
 use Rattle.kr_view.specs.Component.{Finds}
 use Rattle.kr_view.specs.Processes.{LawsOfProcesses, holder}

@@ -3,8 +3,8 @@ ghost use Rattle.std.specs.Prelude.{◌≡◌, IfOk};
 ghost use Rattle.std.specs.Fmt.{decimal};
 ghost use Rattle.kr_procfs.specs.Objects.{own_name, pipe_text};
 
-use kr_tree::ProcAt;
-use pr_base::{Bytes, NoMemory};
+use kr_view::below::kr_tree::ProcAt;
+use kr_view::below::pr_base::{Bytes, NoMemory};
 use std::alloc::Global;
 
 /// A number's decimal text.

@@ -2,7 +2,7 @@
 ghost use Rattle.std.specs.Prelude.{◌≡◌};
 ghost use Rattle.kr_procfs.specs.Objects.{base, inode_number, serial};
 
-use kr_tree::ProcAt;
+use kr_view::below::kr_tree::ProcAt;
 
 /// The number of the link `self`; all processes have greater ones.
 const SELF: u64 = 1 << 40;

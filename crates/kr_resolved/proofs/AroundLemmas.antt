@@ -6,34 +6,34 @@ use Rattle.std.specs.List.{All}
 use Rattle.std.specs.Option.{option_map, option_map_or, option_and_then}
 use Rattle.std.proofs.lemmas.Bool.{false≢true}
 use Rattle.std.proofs.lemmas.Option.{same_Some, none-some}
-use Rattle.pr_base.specs.Paths.{IsName, is_absolute}
-use Rattle.pr_base.specs.declared.errno.Errno.{Errno}
-use Rattle.pr_base.specs.declared.errno.Errno.TheVariants.{EBADF, ENOENT, ENOTDIR}
-use Rattle.kr_calls.specs.PathTable.{PathUse}
-use Rattle.kr_tree.specs.Tree.{Tree, Inode, Body, Directory, RegularFile, SymbolicLink, ProcessDirectory, inode, body, body_is, is_directory, is_file}
-use Rattle.kr_tree.specs.declared.place.Host.{Host}
-use Rattle.kr_tree.specs.declared.place.Host.TheVariants.{Node, Proc}
-use Rattle.kr_tree.specs.declared.place.Place.{Place}
-use Rattle.kr_tree.specs.declared.place.ProcAt.{ProcAt}
-use Rattle.kr_tree.specs.declared.place.ProcAt.TheVariants.{SelfLink, Dir, Cwd, Root, Exe, FdDir, Fd}
-use Rattle.kr_tree.proofs.CountLemmas.{there}
-use Rattle.kr_view.specs.declared.procs.Lead.{Lead}
-use Rattle.kr_view.specs.declared.procs.Lead.TheVariants.{Text, Jump, Nameless, NoLink}
-use Rattle.kr_view.specs.Component.{is_directory_at}
-use Rattle.kr_view.specs.InTree.{IsPlaceOf, LeadToPlaces, StandsAround}
-use Rattle.kr_view.specs.Names.{guest_name}
-use Rattle.kr_view.specs.View.{Row, StandsIn, is_there, root_place}
-use Rattle.kr_view.specs.Walk.{PlaceTarget, place_walk}
-use Rattle.kr_files.specs.declared.opened.Opened.{Opened}
-use Rattle.kr_files.specs.Descriptors.{Named}
-use Rattle.kr_files.specs.Files.{file_at}
-use Rattle.kr_model.specs.Applied.{cwd_of}
-use Rattle.kr_model.specs.Asking.{descriptor_number, is_working_directory}
-use Rattle.kr_model.specs.FileRows.{is_dir, is_file_open}
-use Rattle.kr_model.specs.Lawful.{IsLawful, IsOpenIn, is_file_at}
-use Rattle.kr_model.specs.ProcessDirectory.{around_of, jump_to, lead_of_open, leads_of, remembered, space_of}
-use Rattle.kr_model.specs.State.{Image, Process, State, named, opened, process}
-use Rattle.kr_model.specs.Walks.{Targets, and_then, base_of, place_of_descriptor, place_of_open, target_at, walked}
+use Rattle.kr_targets.specs.pr_base.Paths.{IsName, is_absolute}
+use Rattle.kr_targets.specs.pr_base.declared.errno.Errno.{Errno}
+use Rattle.kr_targets.specs.pr_base.declared.errno.Errno.TheVariants.{EBADF, ENOENT, ENOTDIR}
+use Rattle.kr_allowed.specs.kr_calls.PathTable.{PathUse}
+use Rattle.kr_allowed.specs.kr_tree.Tree.{Tree, Inode, Body, Directory, RegularFile, SymbolicLink, ProcessDirectory, inode, body, body_is, is_directory, is_file}
+use Rattle.kr_allowed.specs.kr_tree.declared.place.Host.{Host}
+use Rattle.kr_allowed.specs.kr_tree.declared.place.Host.TheVariants.{Node, Proc}
+use Rattle.kr_allowed.specs.kr_tree.declared.place.Place.{Place}
+use Rattle.kr_allowed.specs.kr_tree.declared.place.ProcAt.{ProcAt}
+use Rattle.kr_allowed.specs.kr_tree.declared.place.ProcAt.TheVariants.{SelfLink, Dir, Cwd, Root, Exe, FdDir, Fd}
+use Rattle.kr_allowed.proofs.kr_tree.CountLemmas.{there}
+use Rattle.kr_allowed.specs.kr_view.declared.procs.Lead.{Lead}
+use Rattle.kr_allowed.specs.kr_view.declared.procs.Lead.TheVariants.{Text, Jump, Nameless, NoLink}
+use Rattle.kr_allowed.specs.kr_view.Component.{is_directory_at}
+use Rattle.kr_allowed.specs.kr_view.InTree.{IsPlaceOf, LeadToPlaces, StandsAround}
+use Rattle.kr_allowed.specs.kr_view.Names.{guest_name}
+use Rattle.kr_allowed.specs.kr_view.View.{Row, StandsIn, is_there, root_place}
+use Rattle.kr_allowed.specs.kr_view.Walk.{PlaceTarget, place_walk}
+use Rattle.kr_allowed.specs.kr_files.declared.opened.Opened.{Opened}
+use Rattle.kr_allowed.specs.kr_files.Descriptors.{Named}
+use Rattle.kr_allowed.specs.kr_files.Files.{file_at}
+use Rattle.kr_allowed.specs.kr_model.Applied.{cwd_of}
+use Rattle.kr_allowed.specs.kr_model.Asking.{descriptor_number, is_working_directory}
+use Rattle.kr_allowed.specs.kr_model.FileRows.{is_dir, is_file_open}
+use Rattle.kr_allowed.specs.kr_model.Lawful.{IsLawful, IsOpenIn, is_file_at}
+use Rattle.kr_allowed.specs.kr_model.ProcessDirectory.{around_of, jump_to, lead_of_open, leads_of, remembered, space_of}
+use Rattle.kr_allowed.specs.kr_model.State.{Image, Process, State, named, opened, process}
+use Rattle.kr_allowed.specs.kr_model.Walks.{Targets, and_then, base_of, place_of_descriptor, place_of_open, target_at, walked}
 use Rattle.kr_resolved.proofs.TextLemmas.{IsTextByte, decimal_text}
 
 -- ---- kinds of objects

@@ -4,20 +4,20 @@ use Rattle.std.specs.Bool.{if◌then◌else◌}
 use Rattle.std.specs.Option.{option_map, option_map_or}
 use Rattle.std.proofs.lemmas.Bool.{false≢true}
 use Rattle.std.proofs.lemmas.Option.{same_Some, none-some}
-use Rattle.pr_base.specs.Paths.{Name}
-use Rattle.pr_base.specs.WalkFrame.{Fails}
-use Rattle.pr_base.specs.WalkLaws.{Shows}
-use Rattle.pr_base.specs.declared.errno.Errno.TheVariants.{EACCES, ENOTDIR, ENAMETOOLONG}
-use Rattle.kr_inode.specs.declared.user.Right.TheVariants.{Search}
-use Rattle.kr_tree.specs.declared.place.Host.TheVariants.{Node}
-use Rattle.kr_tree.specs.declared.place.Place.{Place}
-use Rattle.kr_tree.specs.Lawful.{HasItsInodes}
-use Rattle.kr_tree.specs.Rights.{may}
-use Rattle.kr_tree.specs.Tree.{Tree, Inode, Body, Directory, RegularFile, SymbolicLink, ProcessDirectory, inode, body, body_is, entry, is_directory, takes_names}
-use Rattle.kr_tree.proofs.EntryLemmas.{entered}
-use Rattle.kr_view.specs.View.{StandsIn, node_in, down, covered, is_there}
-use Rattle.kr_view.specs.Component.{Surroundings, SeenPlace, is_processes, look_up, seen_at, seen_body, seen_entry, seen_in_processes, in_node, through_point, too_long}
-use Rattle.kr_view.proofs.TableLemmas.{laws_of_places}
+use Rattle.kr_targets.specs.pr_base.Paths.{Name}
+use Rattle.kr_targets.specs.pr_base.WalkFrame.{Fails}
+use Rattle.kr_targets.specs.pr_base.WalkLaws.{Shows}
+use Rattle.kr_targets.specs.pr_base.declared.errno.Errno.TheVariants.{EACCES, ENOTDIR, ENAMETOOLONG}
+use Rattle.kr_allowed.specs.kr_inode.declared.user.Right.TheVariants.{Search}
+use Rattle.kr_allowed.specs.kr_tree.declared.place.Host.TheVariants.{Node}
+use Rattle.kr_allowed.specs.kr_tree.declared.place.Place.{Place}
+use Rattle.kr_allowed.specs.kr_tree.Lawful.{HasItsInodes}
+use Rattle.kr_allowed.specs.kr_tree.Rights.{may}
+use Rattle.kr_allowed.specs.kr_tree.Tree.{Tree, Inode, Body, Directory, RegularFile, SymbolicLink, ProcessDirectory, inode, body, body_is, entry, is_directory, takes_names}
+use Rattle.kr_allowed.proofs.kr_tree.EntryLemmas.{entered}
+use Rattle.kr_allowed.specs.kr_view.View.{StandsIn, node_in, down, covered, is_there}
+use Rattle.kr_allowed.specs.kr_view.Component.{Surroundings, SeenPlace, is_processes, look_up, seen_at, seen_body, seen_entry, seen_in_processes, in_node, through_point, too_long}
+use Rattle.kr_allowed.proofs.kr_view.TableLemmas.{laws_of_places}
 
 -- what takes names is no process directory
 no_processes : (t : Tree) (dir : ℕ) → body_is takes_names t dir ≡ true → body_is is_processes t dir ≡ false

@@ -2,19 +2,19 @@
 -- where those of the process directory lead.
 use Rattle.std.proofs.Common.{◌≡◌, ℕ, Bool, true, false, List, Option, Some, None, refl, subst}
 use Rattle.std.specs.Bool.{if◌then◌else◌}
-use Rattle.pr_base.specs.Paths.{Component, Dot, DotDot, Name}
-use Rattle.pr_base.specs.WalkFrame.{Fails, Missing, Leads, Links, Jumps, Landing}
-use Rattle.pr_base.specs.declared.errno.Errno.TheVariants.{ENOENT, EACCES, ENOTDIR, ENAMETOOLONG}
-use Rattle.kr_tree.specs.declared.place.Host.{Host}
-use Rattle.kr_tree.specs.declared.place.Host.TheVariants.{Node, Proc}
-use Rattle.kr_tree.specs.declared.place.Place.{Place}
-use Rattle.kr_tree.specs.declared.place.ProcAt.{ProcAt}
-use Rattle.kr_tree.specs.declared.place.ProcAt.TheVariants.{SelfLink, Dir, Cwd, Root, Exe, FdDir, Fd}
-use Rattle.kr_tree.specs.Tree.{Body, Directory, RegularFile, SymbolicLink, ProcessDirectory, body, body_is, entry, above as node_above}
-use Rattle.kr_view.specs.declared.procs.Lead.{Lead}
-use Rattle.kr_view.specs.declared.procs.Lead.TheVariants.{Text, Jump, Nameless, NoLink}
-use Rattle.kr_view.specs.View.{node_in, down, up, is_root_place}
-use Rattle.kr_view.specs.Component.{Surroundings, SeenPlace, is_process_directory, is_directory_at, may_search, shows_directory, landing, seen_body, seen_link, seen_at, above_body, above_node, is_shown, above_process, above_host, seen_in_processes, seen_entry, is_processes, in_node, through_point, named_in, too_long, inside, look_up}
+use Rattle.kr_targets.specs.pr_base.Paths.{Component, Dot, DotDot, Name}
+use Rattle.kr_targets.specs.pr_base.WalkFrame.{Fails, Missing, Leads, Links, Jumps, Landing}
+use Rattle.kr_targets.specs.pr_base.declared.errno.Errno.TheVariants.{ENOENT, EACCES, ENOTDIR, ENAMETOOLONG}
+use Rattle.kr_allowed.specs.kr_tree.declared.place.Host.{Host}
+use Rattle.kr_allowed.specs.kr_tree.declared.place.Host.TheVariants.{Node, Proc}
+use Rattle.kr_allowed.specs.kr_tree.declared.place.Place.{Place}
+use Rattle.kr_allowed.specs.kr_tree.declared.place.ProcAt.{ProcAt}
+use Rattle.kr_allowed.specs.kr_tree.declared.place.ProcAt.TheVariants.{SelfLink, Dir, Cwd, Root, Exe, FdDir, Fd}
+use Rattle.kr_allowed.specs.kr_tree.Tree.{Body, Directory, RegularFile, SymbolicLink, ProcessDirectory, body, body_is, entry, above as node_above}
+use Rattle.kr_allowed.specs.kr_view.declared.procs.Lead.{Lead}
+use Rattle.kr_allowed.specs.kr_view.declared.procs.Lead.TheVariants.{Text, Jump, Nameless, NoLink}
+use Rattle.kr_allowed.specs.kr_view.View.{node_in, down, up, is_root_place}
+use Rattle.kr_allowed.specs.kr_view.Component.{Surroundings, SeenPlace, is_process_directory, is_directory_at, may_search, shows_directory, landing, seen_body, seen_link, seen_at, above_body, above_node, is_shown, above_process, above_host, seen_in_processes, seen_entry, is_processes, in_node, through_point, named_in, too_long, inside, look_up}
 
 -- where a link of the process directory leads
 abbrev pub LandsAt : Surroundings → Landing (Place ℕ) (Place ℕ) → Type 0

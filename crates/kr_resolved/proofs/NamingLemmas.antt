@@ -5,27 +5,27 @@ use Rattle.std.specs.Bool.{if◌then◌else◌}
 use Rattle.std.specs.List.{All}
 use Rattle.std.proofs.lemmas.List.Elements.{All-weaker}
 use Rattle.std.proofs.lemmas.Option.{same_Some}
-use Rattle.pr_base.specs.Paths.{Component, Dot, DotDot, IsName, Name}
-use Rattle.pr_base.specs.WalkFrame.{Landing}
-use Rattle.pr_base.specs.declared.path.Last.TheVariants as last
-use Rattle.pr_base.specs.declared.path.WalkMode.{WalkMode}
-use Rattle.pr_base.proofs.EndLemmas.{jump_is_shown}
-use Rattle.kr_calls.specs.PathTable.{PathUse, path_at}
-use Rattle.kr_inode.proofs.NameLemmas.{name_decides}
-use Rattle.kr_tree.specs.declared.place.Place.{Place}
-use Rattle.kr_tree.specs.declared.place.ProcAt.{ProcAt}
-use Rattle.kr_tree.specs.Lawful.{AreBytes, IsOfBytes}
-use Rattle.kr_tree.specs.Tree.{Inode, SymbolicLink, body, inode}
-use Rattle.kr_tree.proofs.NameLemmas.{map_some}
-use Rattle.kr_view.specs.declared.procs.Lead.TheVariants.{Jump, Text}
-use Rattle.kr_view.specs.Component.{Surroundings, is_directory_at, landing}
-use Rattle.kr_view.specs.InTree.{StandsAround}
-use Rattle.kr_view.specs.View.{Row, node_in}
-use Rattle.kr_view.specs.Walk.{PlaceTarget, looking, place_walk}
-use Rattle.kr_model.specs.Lawful.{IsLawful, IsNameOrNone}
-use Rattle.kr_model.specs.ProcessDirectory.{around_of}
-use Rattle.kr_model.specs.State.{Image, State}
-use Rattle.kr_model.specs.Walks.{target_at}
+use Rattle.kr_targets.specs.pr_base.Paths.{Component, Dot, DotDot, IsName, Name}
+use Rattle.kr_targets.specs.pr_base.WalkFrame.{Landing}
+use Rattle.kr_targets.specs.pr_base.declared.path.Last.TheVariants as last
+use Rattle.kr_targets.specs.pr_base.declared.path.WalkMode.{WalkMode}
+use Rattle.kr_targets.proofs.pr_base.EndLemmas.{jump_is_shown}
+use Rattle.kr_allowed.specs.kr_calls.PathTable.{PathUse, path_at}
+use Rattle.kr_allowed.proofs.kr_inode.NameLemmas.{name_decides}
+use Rattle.kr_allowed.specs.kr_tree.declared.place.Place.{Place}
+use Rattle.kr_allowed.specs.kr_tree.declared.place.ProcAt.{ProcAt}
+use Rattle.kr_allowed.specs.kr_tree.Lawful.{AreBytes, IsOfBytes}
+use Rattle.kr_allowed.specs.kr_tree.Tree.{Inode, SymbolicLink, body, inode}
+use Rattle.kr_allowed.proofs.kr_tree.NameLemmas.{map_some}
+use Rattle.kr_allowed.specs.kr_view.declared.procs.Lead.TheVariants.{Jump, Text}
+use Rattle.kr_allowed.specs.kr_view.Component.{Surroundings, is_directory_at, landing}
+use Rattle.kr_allowed.specs.kr_view.InTree.{StandsAround}
+use Rattle.kr_allowed.specs.kr_view.View.{Row, node_in}
+use Rattle.kr_allowed.specs.kr_view.Walk.{PlaceTarget, looking, place_walk}
+use Rattle.kr_allowed.specs.kr_model.Lawful.{IsLawful, IsNameOrNone}
+use Rattle.kr_allowed.specs.kr_model.ProcessDirectory.{around_of}
+use Rattle.kr_allowed.specs.kr_model.State.{Image, State}
+use Rattle.kr_allowed.specs.kr_model.Walks.{target_at}
 use Rattle.kr_allowed.specs.Told.{HasGoodName}
 use Rattle.kr_allowed.specs.Texts.{IsText, LinksHaveTexts}
 use Rattle.kr_resolved.specs.Naming.{WalksName}

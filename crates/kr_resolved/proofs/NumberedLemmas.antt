@@ -4,24 +4,24 @@ use Rattle.std.proofs.Common.{◌≡◌, ℕ, zero, suc, ◌+◌, ◌≤◌, Lis
 use Rattle.std.specs.Prelude.{IsSome, map as map_list, sum}
 use Rattle.std.specs.Option.{option_map, option_map_or}
 use Rattle.std.proofs.lemmas.List.{length-map}
-use Rattle.pr_base.proofs.MapLemmas.{get-mapped}
-use Rattle.kr_tree.specs.declared.place.Place.{Place}
-use Rattle.kr_tree.proofs.NameLemmas.{map_some}
-use Rattle.kr_view.specs.InTree.{IsPlaceOf}
-use Rattle.kr_view.specs.Leads.{numbered}
-use Rattle.kr_view.specs.View.{Row, is_there}
-use Rattle.kr_view.specs.Component.{is_directory_at}
-use Rattle.kr_files.specs.Files.{Counted, file_at}
-use Rattle.kr_files.specs.declared.opened.Opened.{Opened}
-use Rattle.kr_model.specs.Bare.{pins_of}
-use Rattle.kr_model.specs.FileRows.{is_dir, is_file_open}
-use Rattle.kr_model.specs.Known.{pages_in_all}
-use Rattle.kr_model.specs.Lawful.{ArePids, HasPipes, IsLawful, IsOpenIn, IsProcessIn, RiseFrom, is_file_at}
-use Rattle.kr_model.specs.MemoryRows.{all_pages}
-use Rattle.kr_model.specs.ProcessRows.{most_processes}
-use Rattle.kr_model.specs.State.{Image, Process, State, image_layout, process}
-use Rattle.kr_model.specs.Uses.{AreUses, at_inode, file_uses, names_of_file, process_use, process_uses, sum_to, uses_of}
-use Rattle.kr_files.specs.Descriptors.{named_count}
+use Rattle.kr_targets.proofs.pr_base.MapLemmas.{get-mapped}
+use Rattle.kr_allowed.specs.kr_tree.declared.place.Place.{Place}
+use Rattle.kr_allowed.proofs.kr_tree.NameLemmas.{map_some}
+use Rattle.kr_allowed.specs.kr_view.InTree.{IsPlaceOf}
+use Rattle.kr_allowed.specs.kr_view.Leads.{numbered}
+use Rattle.kr_allowed.specs.kr_view.View.{Row, is_there}
+use Rattle.kr_allowed.specs.kr_view.Component.{is_directory_at}
+use Rattle.kr_allowed.specs.kr_files.Files.{Counted, file_at}
+use Rattle.kr_allowed.specs.kr_files.declared.opened.Opened.{Opened}
+use Rattle.kr_allowed.specs.kr_model.Bare.{pins_of}
+use Rattle.kr_allowed.specs.kr_model.FileRows.{is_dir, is_file_open}
+use Rattle.kr_allowed.specs.kr_model.Known.{pages_in_all}
+use Rattle.kr_allowed.specs.kr_model.Lawful.{ArePids, HasPipes, IsLawful, IsOpenIn, IsProcessIn, RiseFrom, is_file_at}
+use Rattle.kr_allowed.specs.kr_model.MemoryRows.{all_pages}
+use Rattle.kr_allowed.specs.kr_model.ProcessRows.{most_processes}
+use Rattle.kr_allowed.specs.kr_model.State.{Image, Process, State, image_layout, process}
+use Rattle.kr_allowed.specs.kr_model.Uses.{AreUses, at_inode, file_uses, names_of_file, process_use, process_uses, sum_to, uses_of}
+use Rattle.kr_allowed.specs.kr_files.Descriptors.{named_count}
 use Rattle.kr_targets.specs.kr_seen.Numbered.{counted_numbered, opened_numbered, process_numbered, state_numbered, table_numbered}
 use Rattle.kr_targets.proofs.kr_seen.NumberedLemmas.{named-numbered, process-numbered}
 

@@ -4,33 +4,33 @@ use Rattle.std.specs.Prelude.{Ok}
 use Rattle.std.specs.Option.{option_map}
 use Rattle.std.proofs.lemmas.List.Elements.{All-weaker}
 use Rattle.std.proofs.lemmas.Option.{same_Some, none-some}
-use Rattle.pr_base.specs.Paths.{Name}
-use Rattle.pr_base.specs.WalkFrame.{is_followed, may_be_free}
-use Rattle.pr_base.specs.WalkLaws.{Shows}
-use Rattle.pr_base.specs.declared.path.Last.TheVariants as last
-use Rattle.pr_base.specs.declared.path.WalkMode.{WalkMode}
-use Rattle.pr_base.specs.declared.path.WalkMode.TheVariants as modes
-use Rattle.kr_calls.specs.PathTable.{PathUse, path_at}
-use Rattle.kr_inode.proofs.NameLemmas.{name_decides}
-use Rattle.kr_tree.specs.declared.place.Host.TheVariants.{Node}
-use Rattle.kr_tree.specs.declared.place.Place.{Place}
-use Rattle.kr_tree.specs.declared.place.ProcAt.{ProcAt}
-use Rattle.kr_tree.specs.Names.{is_name}
-use Rattle.kr_tree.specs.Tree.{Tree, body_is, entry, takes_names}
-use Rattle.kr_view.specs.declared.procs.Lead.TheVariants.{Text}
-use Rattle.kr_view.specs.declared.target.Target.{Target}
-use Rattle.kr_view.specs.Answers.{told, target_numbered}
-use Rattle.kr_view.specs.Component.{Surroundings, look_up}
-use Rattle.kr_view.specs.InTree.{StandsAround}
-use Rattle.kr_view.specs.Leads.{numbered}
-use Rattle.kr_view.specs.View.{Row, covered, node_in}
-use Rattle.kr_view.specs.Walk.{PlaceTarget, looking, place_walk}
-use Rattle.kr_view.proofs.PlaceLemmas.{walks_keep_places}
-use Rattle.kr_model.specs.Lawful.{IsLawful}
-use Rattle.kr_model.specs.ProcessDirectory.{around_of, leads_of}
-use Rattle.kr_model.specs.State.{Image, State}
-use Rattle.kr_model.specs.Walks.{target_at}
-use Rattle.kr_ops.specs.Meaning.{meaning}
+use Rattle.kr_targets.specs.pr_base.Paths.{Name}
+use Rattle.kr_targets.specs.pr_base.WalkFrame.{is_followed, may_be_free}
+use Rattle.kr_targets.specs.pr_base.WalkLaws.{Shows}
+use Rattle.kr_targets.specs.pr_base.declared.path.Last.TheVariants as last
+use Rattle.kr_targets.specs.pr_base.declared.path.WalkMode.{WalkMode}
+use Rattle.kr_targets.specs.pr_base.declared.path.WalkMode.TheVariants as modes
+use Rattle.kr_allowed.specs.kr_calls.PathTable.{PathUse, path_at}
+use Rattle.kr_allowed.proofs.kr_inode.NameLemmas.{name_decides}
+use Rattle.kr_allowed.specs.kr_tree.declared.place.Host.TheVariants.{Node}
+use Rattle.kr_allowed.specs.kr_tree.declared.place.Place.{Place}
+use Rattle.kr_allowed.specs.kr_tree.declared.place.ProcAt.{ProcAt}
+use Rattle.kr_allowed.specs.kr_tree.Names.{is_name}
+use Rattle.kr_allowed.specs.kr_tree.Tree.{Tree, body_is, entry, takes_names}
+use Rattle.kr_allowed.specs.kr_view.declared.procs.Lead.TheVariants.{Text}
+use Rattle.kr_allowed.specs.kr_view.declared.target.Target.{Target}
+use Rattle.kr_allowed.specs.kr_view.Answers.{told, target_numbered}
+use Rattle.kr_allowed.specs.kr_view.Component.{Surroundings, look_up}
+use Rattle.kr_allowed.specs.kr_view.InTree.{StandsAround}
+use Rattle.kr_allowed.specs.kr_view.Leads.{numbered}
+use Rattle.kr_allowed.specs.kr_view.View.{Row, covered, node_in}
+use Rattle.kr_allowed.specs.kr_view.Walk.{PlaceTarget, looking, place_walk}
+use Rattle.kr_allowed.proofs.kr_view.PlaceLemmas.{walks_keep_places}
+use Rattle.kr_allowed.specs.kr_model.Lawful.{IsLawful}
+use Rattle.kr_allowed.specs.kr_model.ProcessDirectory.{around_of, leads_of}
+use Rattle.kr_allowed.specs.kr_model.State.{Image, State}
+use Rattle.kr_allowed.specs.kr_model.Walks.{target_at}
+use Rattle.kr_targets.specs.kr_ops.Meaning.{meaning}
 use Rattle.kr_targets.specs.kr_seen.Numbered.{state_numbered}
 use Rattle.kr_targets.specs.kr_seen.CallWalks.{IsTold}
 use Rattle.kr_resolved.specs.Resolving.{IsResolved, IsResolvedFor, IsText, LinksHaveTexts, WalksResolve}

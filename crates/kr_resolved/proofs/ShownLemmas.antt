@@ -3,16 +3,16 @@ use Rattle.std.proofs.Common.{◌≡◌, ℕ, ◌≤◌, Bool, true, false, List
 use Rattle.std.specs.Prelude.{Ok}
 use Rattle.std.proofs.lemmas.Bool.Decides.{nat_tests}
 use Rattle.std.proofs.lemmas.Option.{none-some}
-use Rattle.pr_base.specs.Paths.{Component, Dot, DotDot, IsName, Name, kind_of}
-use Rattle.pr_base.specs.WalkFrame.{name_of}
-use Rattle.pr_base.specs.WalkLaws.{Shows}
-use Rattle.pr_base.specs.declared.path.Last.TheVariants as last
-use Rattle.pr_base.specs.declared.path.WalkMode.{WalkMode}
-use Rattle.pr_base.proofs.EndLemmas.{found_is_shown}
-use Rattle.kr_tree.specs.declared.place.Place.{Place}
-use Rattle.kr_view.specs.Component.{Surroundings, look_up, is_directory_at, may_search, named_in, too_long}
-use Rattle.kr_view.specs.Walk.{PlaceTarget, looking, place_walk}
-use Rattle.kr_view.proofs.DirectoryLemmas.{jumped_to}
+use Rattle.kr_targets.specs.pr_base.Paths.{Component, Dot, DotDot, IsName, Name, kind_of}
+use Rattle.kr_targets.specs.pr_base.WalkFrame.{name_of}
+use Rattle.kr_targets.specs.pr_base.WalkLaws.{Shows}
+use Rattle.kr_targets.specs.pr_base.declared.path.Last.TheVariants as last
+use Rattle.kr_targets.specs.pr_base.declared.path.WalkMode.{WalkMode}
+use Rattle.kr_targets.proofs.pr_base.EndLemmas.{found_is_shown}
+use Rattle.kr_allowed.specs.kr_tree.declared.place.Place.{Place}
+use Rattle.kr_allowed.specs.kr_view.Component.{Surroundings, look_up, is_directory_at, may_search, named_in, too_long}
+use Rattle.kr_allowed.specs.kr_view.Walk.{PlaceTarget, looking, place_walk}
+use Rattle.kr_allowed.proofs.kr_view.DirectoryLemmas.{jumped_to}
 use Rattle.kr_resolved.proofs.EntryLemmas.{looked_for}
 use Rattle.kr_resolved.proofs.TextLemmas.{IsTextPart}
 

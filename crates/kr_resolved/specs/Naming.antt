@@ -1,14 +1,14 @@
 -- The names of what the walks of a call lead to over a lawful state.
 use Rattle.std.specs.Prelude.{ℕ, ◌≡◌, List, Some, Ok}
-use Rattle.kr_calls.specs.PathTable.{PathUse, path_at}
-use Rattle.kr_calls.specs.declared.request.Request.{Request}
-use Rattle.kr_tree.specs.Lawful.{AreBytes}
-use Rattle.kr_view.specs.View.{Row}
-use Rattle.kr_model.specs.Lawful.{IsLawful}
-use Rattle.kr_model.specs.State as model
-use Rattle.kr_model.specs.State.{Image}
-use Rattle.kr_model.specs.Walks as walks
-use Rattle.kr_model.specs.Walks.{targets_of}
+use Rattle.kr_allowed.specs.kr_calls.PathTable.{PathUse, path_at}
+use Rattle.kr_allowed.specs.kr_calls.declared.request.Request.{Request}
+use Rattle.kr_allowed.specs.kr_tree.Lawful.{AreBytes}
+use Rattle.kr_allowed.specs.kr_view.View.{Row}
+use Rattle.kr_allowed.specs.kr_model.Lawful.{IsLawful}
+use Rattle.kr_allowed.specs.kr_model.State as model
+use Rattle.kr_allowed.specs.kr_model.State.{Image}
+use Rattle.kr_allowed.specs.kr_model.Walks as walks
+use Rattle.kr_allowed.specs.kr_model.Walks.{targets_of}
 use Rattle.kr_allowed.specs.Told.{AreGoodTargets}
 use Rattle.kr_allowed.specs.Texts.{IsText, LinksHaveTexts}
 

@@ -1,18 +1,18 @@
 -- What calls rest on of the targets of their paths, and that walks over a lawful state give it.
 use Rattle.std.specs.Prelude.{ℕ, ◌≡◌, List, Option, Some, None, Ok, IsSome}
-use Rattle.pr_base.specs.declared.path.WalkMode.{WalkMode}
-use Rattle.pr_base.specs.declared.path.WalkMode.TheVariants.{Name, Open}
-use Rattle.kr_calls.specs.PathTable.{PathUse, path_at}
-use Rattle.kr_calls.specs.declared.request.Request.{Request}
-use Rattle.kr_tree.specs.Tree.{Tree}
-use Rattle.kr_view.specs.View.{Row}
-use Rattle.kr_view.specs.declared.target.Target.{Target}
-use Rattle.kr_model.specs.Lawful.{IsLawful}
-use Rattle.kr_model.specs.State.{process}
-use Rattle.kr_model.specs.Walks.{targets_of}
-use Rattle.kr_ops.specs.declared.state.State.{State}
-use Rattle.kr_ops.specs.Meaning.{meaning}
-use Rattle.kr_ops.specs.Sound.{IsServed}
+use Rattle.kr_targets.specs.pr_base.declared.path.WalkMode.{WalkMode}
+use Rattle.kr_targets.specs.pr_base.declared.path.WalkMode.TheVariants.{Name, Open}
+use Rattle.kr_allowed.specs.kr_calls.PathTable.{PathUse, path_at}
+use Rattle.kr_allowed.specs.kr_calls.declared.request.Request.{Request}
+use Rattle.kr_allowed.specs.kr_tree.Tree.{Tree}
+use Rattle.kr_allowed.specs.kr_view.View.{Row}
+use Rattle.kr_allowed.specs.kr_view.declared.target.Target.{Target}
+use Rattle.kr_allowed.specs.kr_model.Lawful.{IsLawful}
+use Rattle.kr_allowed.specs.kr_model.State.{process}
+use Rattle.kr_allowed.specs.kr_model.Walks.{targets_of}
+use Rattle.kr_targets.specs.kr_ops.declared.state.State.{State}
+use Rattle.kr_targets.specs.kr_ops.Meaning.{meaning}
+use Rattle.kr_targets.specs.kr_ops.Sound.{IsServed}
 use Rattle.kr_targets.specs.kr_seen.Numbered.{state_numbered}
 use Rattle.kr_targets.specs.kr_seen.CallWalks.{AreTargets}
 use Rattle.kr_targets.specs.kr_seen.declared.walks.Targets.{Targets}

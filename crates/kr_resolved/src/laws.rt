@@ -1,6 +1,6 @@
 //! Laws of the targets of calls, each carried by a function that does nothing.
 ghost use Rattle.std.specs.Prelude.{ℕ, List};
-ghost use Rattle.kr_view.specs.View.{Row};
+ghost use Rattle.kr_allowed.specs.kr_view.View.{Row};
 ghost use Rattle.kr_resolved.specs.Naming.{WalksName};
 ghost use Rattle.kr_resolved.specs.Resolving.{WalksResolve};
 

@@ -1,4 +1,5 @@
 //! What calls rest on of the targets of their paths.
 #![tactic(auto)]
 
+pub mod below;
 pub mod laws;

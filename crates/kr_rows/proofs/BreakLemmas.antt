@@ -1,14 +1,14 @@
 -- The break of a process in code, by its index.
 use Rattle.std.proofs.Common.{◌≡◌, ℕ, ◌≤◌, get_or, Option, IfSome, ap, subst}
-use Rattle.rv_mem.specs.Layout.{layout_of}
-use Rattle.kr_model.specs.Known.{Caller, known}
-use Rattle.kr_model.specs.State as model
-use Rattle.kr_ops.specs.declared.state.Process.{Process}
-use Rattle.kr_ops.specs.declared.state.State.{State}
-use Rattle.kr_ops.specs.Living.{HasPid}
-use Rattle.kr_ops.specs.Meaning.{meaning}
-use Rattle.kr_ops.specs.Sound.{IsSound}
-use Rattle.kr_ops.proofs.OpeningLemmas.{found}
+use Rattle.kr_seen.specs.rv_mem.Layout.{layout_of}
+use Rattle.kr_seen.specs.kr_model.Known.{Caller, known}
+use Rattle.kr_seen.specs.kr_model.State as model
+use Rattle.kr_seen.specs.kr_ops.declared.state.Process.{Process}
+use Rattle.kr_seen.specs.kr_ops.declared.state.State.{State}
+use Rattle.kr_seen.specs.kr_ops.Living.{HasPid}
+use Rattle.kr_seen.specs.kr_ops.Meaning.{meaning}
+use Rattle.kr_seen.specs.kr_ops.Sound.{IsSound}
+use Rattle.kr_seen.proofs.kr_ops.OpeningLemmas.{found}
 use Rattle.kr_rows.proofs.ProcessLemmas.{known-caller}
 
 module _ {T : Type 0} {M : ℕ} (s : State T M) (pid k : ℕ) (p : Process T M) (sound : IsSound s) (at : HasPid pid k s.living.items) (e : p ≡ get_or s.living.items k p) where

@@ -4,20 +4,20 @@ use Rattle.std.proofs.Common.{◌≡◌, ℕ, ◌+◌, ◌<◌, ◌≤◌, Bool,
 use Rattle.std.specs.Prelude.{IfSome, nat_le, nat_lt, if◌then◌else◌}
 use Rattle.std.proofs.lemmas.Bool.Decides.{nat_tests}
 use Rattle.std.proofs.lemmas.List.{length-map}
-use Rattle.rv_mem.specs.Memory.{Memory, page_count}
-use Rattle.rv_mem.proofs.LayoutLemmas.{layouts_follow}
-use Rattle.pr_base.specs.declared.errno.Errno.TheVariants.{EAGAIN, EINVAL, ENOMEM}
-use Rattle.kr_model.specs.Known.{Caller, Known, family_of, known}
-use Rattle.kr_model.specs.MemoryRows.{all_pages}
-use Rattle.kr_model.specs.ProcessRows.{clone_row, is_fork, most_processes, told_born}
-use Rattle.kr_model.specs.Reply.{Replying, refuse}
-use Rattle.kr_model.specs.State as model
-use Rattle.kr_ops.specs.declared.state.Process.{Process}
-use Rattle.kr_ops.specs.declared.state.State.{State}
-use Rattle.kr_ops.specs.Living.{HasPid}
-use Rattle.kr_ops.specs.Meaning.{ended_meaning, meaning, process_meaning}
-use Rattle.kr_ops.specs.Sound.{IsSound}
-use Rattle.kr_ops.proofs.OpeningLemmas.{found}
+use Rattle.kr_seen.specs.rv_mem.Memory.{Memory, page_count}
+use Rattle.kr_seen.proofs.rv_mem.LayoutLemmas.{layouts_follow}
+use Rattle.kr_seen.specs.pr_base.declared.errno.Errno.TheVariants.{EAGAIN, EINVAL, ENOMEM}
+use Rattle.kr_seen.specs.kr_model.Known.{Caller, Known, family_of, known}
+use Rattle.kr_seen.specs.kr_model.MemoryRows.{all_pages}
+use Rattle.kr_seen.specs.kr_model.ProcessRows.{clone_row, is_fork, most_processes, told_born}
+use Rattle.kr_seen.specs.kr_model.Reply.{Replying, refuse}
+use Rattle.kr_seen.specs.kr_model.State as model
+use Rattle.kr_seen.specs.kr_ops.declared.state.Process.{Process}
+use Rattle.kr_seen.specs.kr_ops.declared.state.State.{State}
+use Rattle.kr_seen.specs.kr_ops.Living.{HasPid}
+use Rattle.kr_seen.specs.kr_ops.Meaning.{ended_meaning, meaning, process_meaning}
+use Rattle.kr_seen.specs.kr_ops.Sound.{IsSound}
+use Rattle.kr_seen.proofs.kr_ops.OpeningLemmas.{found}
 use Rattle.kr_rows.proofs.ProcessLemmas.{known-caller}
 
 module _ (k : Known) (flags sp ctid : ℕ) where

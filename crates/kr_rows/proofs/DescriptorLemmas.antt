@@ -4,18 +4,18 @@ use Rattle.std.specs.Prelude.{nat_lt, if◌then◌else◌}
 use Rattle.std.specs.FinMap as map
 use Rattle.std.specs.Option.{option_map, option_map_or, option_and_then}
 use Rattle.std.proofs.lemmas.Option.{same_Some, none-some}
-use Rattle.pr_base.specs.declared.errno.Errno.TheVariants.{EBADF}
-use Rattle.kr_files.specs.declared.opened.Opened.{Opened}
-use Rattle.kr_model.specs.Asking.{descriptor_number, of_number, or_badf, or_closed}
-use Rattle.kr_files.specs.Descriptors.{Named, lowest_free}
-use Rattle.kr_files.specs.Files.{file_at}
-use Rattle.kr_files.specs.WithoutMounts.{without_mount}
-use Rattle.kr_model.specs.Change.{CopyDescriptor}
-use Rattle.kr_model.specs.DescriptorRows.{copy_to}
-use Rattle.kr_model.specs.Known.{Known, caller_of, known, no_caller}
-use Rattle.kr_model.specs.State as model
-use Rattle.kr_ops.specs.Opening.{lowest_of}
-use Rattle.kr_model.specs.Reply.{Replying, done, refuse}
+use Rattle.kr_seen.specs.pr_base.declared.errno.Errno.TheVariants.{EBADF}
+use Rattle.kr_seen.specs.kr_files.declared.opened.Opened.{Opened}
+use Rattle.kr_seen.specs.kr_model.Asking.{descriptor_number, of_number, or_badf, or_closed}
+use Rattle.kr_seen.specs.kr_files.Descriptors.{Named, lowest_free}
+use Rattle.kr_seen.specs.kr_files.Files.{file_at}
+use Rattle.kr_seen.specs.kr_files.WithoutMounts.{without_mount}
+use Rattle.kr_seen.specs.kr_model.Change.{CopyDescriptor}
+use Rattle.kr_seen.specs.kr_model.DescriptorRows.{copy_to}
+use Rattle.kr_seen.specs.kr_model.Known.{Known, caller_of, known, no_caller}
+use Rattle.kr_seen.specs.kr_model.State as model
+use Rattle.kr_seen.specs.kr_ops.Opening.{lowest_of}
+use Rattle.kr_seen.specs.kr_model.Reply.{Replying, done, refuse}
 use Rattle.kr_rows.specs.Performing.{open_number}
 
 module _ (k : Known) (fd : ℤ) (next : ℕ → Opened (Unit {0}) → Replying) where

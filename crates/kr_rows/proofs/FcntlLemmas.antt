@@ -2,13 +2,13 @@
 use Rattle.std.proofs.Common.{◌≡◌, ℕ, ◌<◌, ◌≤◌, Bool, true, false, cond, Some, refl, ap, ◌∙◌, arith}
 use Rattle.std.specs.Prelude.{nat_lt}
 use Rattle.std.proofs.lemmas.Bool.Decides.{nat_tests}
-use Rattle.pr_base.specs.declared.errno.Errno.TheVariants.{EINVAL}
-use Rattle.kr_files.specs.Descriptors.{lowest_free}
-use Rattle.kr_files.specs.declared.opened.Opened.{Opened}
-use Rattle.kr_model.specs.Asking.{or_closed}
-use Rattle.kr_model.specs.DescriptorRows.{copy_from, copy_under, fcntl_by}
-use Rattle.kr_model.specs.Known.{Known}
-use Rattle.kr_model.specs.Reply.{refuse}
+use Rattle.kr_seen.specs.pr_base.declared.errno.Errno.TheVariants.{EINVAL}
+use Rattle.kr_seen.specs.kr_files.Descriptors.{lowest_free}
+use Rattle.kr_seen.specs.kr_files.declared.opened.Opened.{Opened}
+use Rattle.kr_seen.specs.kr_model.Asking.{or_closed}
+use Rattle.kr_seen.specs.kr_model.DescriptorRows.{copy_from, copy_under, fcntl_by}
+use Rattle.kr_seen.specs.kr_model.Known.{Known}
+use Rattle.kr_seen.specs.kr_model.Reply.{refuse}
 use Rattle.kr_rows.specs.Commands.{IsUnknown, number_of}
 use Rattle.kr_rows.specs.declared.fcntl.Command.{Command}
 

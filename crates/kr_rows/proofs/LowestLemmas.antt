@@ -7,10 +7,10 @@ use Rattle.std.specs.Ordering.{nat_cmp, is_lt}
 use Rattle.std.proofs.lemmas.Bool.{cases_eq}
 use Rattle.std.proofs.lemmas.Bool.Decides.{nat_tests}
 use Rattle.std.proofs.lemmas.Option.{none-some}
-use Rattle.pr_base.proofs.MapLemmas.{ties-same, ties-other}
-use Rattle.rv_mem.specs.Layout.{Layout, IsFree, HasNoPlace, IsLowestPlace}
-use Rattle.rv_mem.specs.declared.rights.Rights.{Rights}
-use Rattle.kr_model.specs.MemoryRows.{lowest_place, place_among, place_here, places_begin, places_end}
+use Rattle.kr_seen.proofs.pr_base.MapLemmas.{ties-same, ties-other}
+use Rattle.kr_seen.specs.rv_mem.Layout.{Layout, IsFree, HasNoPlace, IsLowestPlace}
+use Rattle.kr_seen.specs.rv_mem.declared.rights.Rights.{Rights}
+use Rattle.kr_seen.specs.kr_model.MemoryRows.{lowest_place, place_among, place_here, places_begin, places_end}
 
 -- ---- entries in their order
 

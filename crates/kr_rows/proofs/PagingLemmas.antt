@@ -4,26 +4,26 @@ use Rattle.std.proofs.Common.{◌≡◌, ℕ, zero, suc, ◌+◌, ◌-◌, ◌*�
 use Rattle.std.specs.Prelude.{nat_lt, if◌then◌else◌}
 use Rattle.std.specs.Option.{is_some, option_map_or}
 use Rattle.std.proofs.lemmas.Bool.Decides.{nat_tests}
-use Rattle.rv_mem.specs.Layout.{Layout, layout_of, has_page}
-use Rattle.rv_mem.specs.Memory.{passes_limit, room_after}
-use Rattle.rv_mem.specs.Pages.{Pages, has_pages, mapped, protected, unmapped, IsPlaced}
-use Rattle.rv_mem.specs.declared.rights.Rights.{Rights}
-use Rattle.rv_mem.proofs.ChangeLemmas.{get-unmapped_out, len-mapped_more}
-use Rattle.rv_mem.proofs.LayoutLemmas.{contains_layout, layouts_follow}
-use Rattle.rv_mem.proofs.TableLemmas.{has_pages-zero, has_pages_refused, mapped-zero}
-use Rattle.pr_base.proofs.MapLemmas.{remove-none}
-use Rattle.kr_ops.proofs.kr_lawful.SumLemmas.{passed-test}
-use Rattle.kr_ops.proofs.kr_lawful.OwnChangeLemmas.{neither}
-use Rattle.kr_ops.proofs.kr_lawful.AfterLemmas.{pids-with, some-of}
-use Rattle.kr_model.specs.Applied.{Mounts, applied, images, with_image, with_living}
-use Rattle.kr_model.specs.Change.{ChangePages, MapPages, PageChange, SetBreak}
-use Rattle.kr_model.specs.Known.{Known, caller_of, known, no_caller, pages_in_all}
-use Rattle.kr_model.specs.Lawful.{ArePids}
-use Rattle.kr_model.specs.Reply.{Replying, done}
-use Rattle.kr_model.specs.State as model
-use Rattle.kr_model.specs.MemoryRows as rows
+use Rattle.kr_seen.specs.rv_mem.Layout.{Layout, layout_of, has_page}
+use Rattle.kr_seen.specs.rv_mem.Memory.{passes_limit, room_after}
+use Rattle.kr_seen.specs.rv_mem.Pages.{Pages, has_pages, mapped, protected, unmapped, IsPlaced}
+use Rattle.kr_seen.specs.rv_mem.declared.rights.Rights.{Rights}
+use Rattle.kr_seen.proofs.rv_mem.ChangeLemmas.{get-unmapped_out, len-mapped_more}
+use Rattle.kr_seen.proofs.rv_mem.LayoutLemmas.{contains_layout, layouts_follow}
+use Rattle.kr_seen.proofs.rv_mem.TableLemmas.{has_pages-zero, has_pages_refused, mapped-zero}
+use Rattle.kr_seen.proofs.pr_base.MapLemmas.{remove-none}
+use Rattle.kr_seen.proofs.kr_lawful.SumLemmas.{passed-test}
+use Rattle.kr_seen.proofs.kr_lawful.OwnChangeLemmas.{neither}
+use Rattle.kr_seen.proofs.kr_lawful.AfterLemmas.{pids-with, some-of}
+use Rattle.kr_seen.specs.kr_model.Applied.{Mounts, applied, images, with_image, with_living}
+use Rattle.kr_seen.specs.kr_model.Change.{ChangePages, MapPages, PageChange, SetBreak}
+use Rattle.kr_seen.specs.kr_model.Known.{Known, caller_of, known, no_caller, pages_in_all}
+use Rattle.kr_seen.specs.kr_model.Lawful.{ArePids}
+use Rattle.kr_seen.specs.kr_model.Reply.{Replying, done}
+use Rattle.kr_seen.specs.kr_model.State as model
+use Rattle.kr_seen.specs.kr_model.MemoryRows as rows
 use Rattle.kr_rows.specs.Performing.{memory_of, no_memory}
-use Rattle.kr_ops.proofs.ListLemmas.{apart-test, same-test}
+use Rattle.kr_seen.proofs.kr_ops.ListLemmas.{apart-test, same-test}
 
 pub test-yes : (a b : ℕ) → a < b → nat_lt a b ≡ true
 test-yes a b l = grind (arith, nat_tests)

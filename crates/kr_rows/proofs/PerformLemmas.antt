@@ -1,15 +1,15 @@
 -- What calls leave of a state, by their replies.
 use Rattle.std.proofs.Common.{◌≡◌, ℕ, [], refl, sym, ap, ◌∙◌}
-use Rattle.rv_mem.specs.Actions.{Done}
-use Rattle.kr_model.specs.Applied.{Mounts, all_applied, images}
-use Rattle.kr_model.specs.Known.{Known, known}
-use Rattle.kr_model.specs.Lawful.{ArePids}
-use Rattle.kr_model.specs.Reply.{Reply, Replying, refusal, refuse}
-use Rattle.kr_model.specs.State as model
-use Rattle.kr_model.specs.declared.outcome.Outcome.{Outcome}
-use Rattle.pr_base.specs.declared.errno.Errno.{Errno}
-use Rattle.kr_ops.specs.declared.state.State.{State}
-use Rattle.kr_ops.specs.Meaning.{meaning}
+use Rattle.kr_seen.specs.rv_mem.Actions.{Done}
+use Rattle.kr_seen.specs.kr_model.Applied.{Mounts, all_applied, images}
+use Rattle.kr_seen.specs.kr_model.Known.{Known, known}
+use Rattle.kr_seen.specs.kr_model.Lawful.{ArePids}
+use Rattle.kr_seen.specs.kr_model.Reply.{Reply, Replying, refusal, refuse}
+use Rattle.kr_seen.specs.kr_model.State as model
+use Rattle.kr_seen.specs.kr_model.declared.outcome.Outcome.{Outcome}
+use Rattle.kr_seen.specs.pr_base.declared.errno.Errno.{Errno}
+use Rattle.kr_seen.specs.kr_ops.declared.state.State.{State}
+use Rattle.kr_seen.specs.kr_ops.Meaning.{meaning}
 pub use Rattle.kr_seen.proofs.CarryLemmas.{own-memory, pages-alike}
 use Rattle.kr_rows.specs.Performing.{IsPerformed, after_row, carried, unchanged}
 

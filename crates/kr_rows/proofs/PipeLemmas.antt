@@ -5,19 +5,19 @@ use Rattle.std.specs.FinMap as map
 use Rattle.std.specs.Option.{option_map, option_map_or, option_and_then, is_some}
 use Rattle.std.proofs.lemmas.Bool.Decides.{nat_tests}
 use Rattle.std.proofs.lemmas.Option.{none-some, same_Some}
-use Rattle.rv_mem.specs.Actions.{write_if_allowed}
-use Rattle.pr_base.specs.declared.errno.Errno.TheVariants.{EFAULT, EMFILE}
-use Rattle.kr_calls.specs.Arguments.{has}
-use Rattle.kr_files.specs.Descriptors.{lowest_free, lowest_pair}
-use Rattle.kr_files.specs.Files.{takes_pipe}
-use Rattle.kr_files.proofs.DescriptorLemmas.{lowest_free-some}
-use Rattle.kr_ops.proofs.kr_lawful.AfterLemmas.{some-of}
-use Rattle.kr_model.specs.Change.{MakePipe}
-use Rattle.kr_model.specs.DescriptorRows.{o_cloexec, pipe2_row, pipe_numbers, pipe_under}
-use Rattle.kr_model.specs.Known.{Known, caller_of, known, no_caller}
-use Rattle.kr_model.specs.Reply.{Replying, done, refuse}
-use Rattle.kr_model.specs.State as model
-use Rattle.kr_ops.specs.Opening.{lowest_of, pair_of, takes_pipe_of}
+use Rattle.kr_seen.specs.rv_mem.Actions.{write_if_allowed}
+use Rattle.kr_seen.specs.pr_base.declared.errno.Errno.TheVariants.{EFAULT, EMFILE}
+use Rattle.kr_seen.specs.kr_calls.Arguments.{has}
+use Rattle.kr_seen.specs.kr_files.Descriptors.{lowest_free, lowest_pair}
+use Rattle.kr_seen.specs.kr_files.Files.{takes_pipe}
+use Rattle.kr_seen.proofs.kr_files.DescriptorLemmas.{lowest_free-some}
+use Rattle.kr_seen.proofs.kr_lawful.AfterLemmas.{some-of}
+use Rattle.kr_seen.specs.kr_model.Change.{MakePipe}
+use Rattle.kr_seen.specs.kr_model.DescriptorRows.{o_cloexec, pipe2_row, pipe_numbers, pipe_under}
+use Rattle.kr_seen.specs.kr_model.Known.{Known, caller_of, known, no_caller}
+use Rattle.kr_seen.specs.kr_model.Reply.{Replying, done, refuse}
+use Rattle.kr_seen.specs.kr_model.State as model
+use Rattle.kr_seen.specs.kr_ops.Opening.{lowest_of, pair_of, takes_pipe_of}
 
 -- ---- what is known
 

@@ -4,38 +4,38 @@ use Rattle.std.proofs.Common.{◌≡◌, ℕ, ◌+◌, ◌<◌, Bool, true, fals
 use Rattle.std.specs.Prelude.{◌↔◌, Result, Ok, Err, IsErrOf, IsOk, OnErr, OnOk, map as map_list, ◌==◌, sum, if◌then◌else◌}
 use Rattle.std.specs.Vec.{with_item}
 use Rattle.std.specs.Option.{option_map, option_map_or, option_and_then}
-use Rattle.rv_mem.specs.Actions.{CarriedOut, carried_out, Done, MayUse, ReadBytes, WriteBytes, read_if_allowed, write_if_allowed}
-use Rattle.rv_mem.specs.Layout.{layout_of}
-use Rattle.rv_mem.specs.Memory.{Memory, after_read, with_pages}
-use Rattle.rv_mem.specs.Pages.{allows_all, bytes_from, written}
-use Rattle.rv_mem.specs.declared.rights.Use.{Use}
-use Rattle.rv_mem.specs.declared.rights.Use.TheVariants.{Read, Write}
-use Rattle.rv_mem.proofs.LayoutLemmas.{layouts_follow}
-use Rattle.kr_files.specs.Descriptors.{Named, named_count}
-use Rattle.kr_files.specs.Files.{file_at}
-use Rattle.kr_files.specs.WithoutMounts.{without_mount}
-use Rattle.kr_model.specs.Applied.{Mounts, all_applied, images, with_image}
-use Rattle.kr_model.specs.Known.{Family, Known, caller_of, family_of, known, no_caller, pages_in_all}
-use Rattle.kr_model.specs.Lawful.{ArePids}
-use Rattle.kr_model.specs.Reply.{Reply, Replying, refusal, refuse}
-use Rattle.pr_base.specs.declared.errno.Errno.{Errno}
-use Rattle.kr_model.specs.ProcessRows.{null_or_writable, unless_null}
-use Rattle.kr_model.specs.State as model
-use Rattle.kr_model.specs.Uses.{AreUses, file_uses, process_use}
-use Rattle.kr_model.specs.declared.outcome.Outcome.{Outcome}
-use Rattle.kr_ops.proofs.kr_lawful.AfterLemmas.{some-of, pids-with}
-use Rattle.kr_ops.proofs.kr_lawful.ProcessChangeLemmas.{found as found-with, found-passes, same-mapped, sum-with}
-use Rattle.kr_ops.specs.declared.state.Process.{Process}
-use Rattle.kr_ops.specs.declared.state.State.{State}
-use Rattle.kr_ops.specs.Living.{HasPid}
-use Rattle.kr_ops.specs.Making.{IsAsBefore}
-use Rattle.kr_ops.specs.Meaning.{meaning}
-use Rattle.kr_ops.specs.Sound.{IsServed, IsSound}
-use Rattle.kr_ops.proofs.ChangeLemmas.{living_as, one-changed}
-use Rattle.kr_ops.proofs.ListLemmas.{apart-test, same-test}
-use Rattle.kr_ops.proofs.OpeningLemmas.{found}
-use Rattle.kr_ops.proofs.PageLemmas.{with_mem}
-use Rattle.kr_ops.proofs.ServeLemmas.{kept-names, room-set}
+use Rattle.kr_seen.specs.rv_mem.Actions.{CarriedOut, carried_out, Done, MayUse, ReadBytes, WriteBytes, read_if_allowed, write_if_allowed}
+use Rattle.kr_seen.specs.rv_mem.Layout.{layout_of}
+use Rattle.kr_seen.specs.rv_mem.Memory.{Memory, after_read, with_pages}
+use Rattle.kr_seen.specs.rv_mem.Pages.{allows_all, bytes_from, written}
+use Rattle.kr_seen.specs.rv_mem.declared.rights.Use.{Use}
+use Rattle.kr_seen.specs.rv_mem.declared.rights.Use.TheVariants.{Read, Write}
+use Rattle.kr_seen.proofs.rv_mem.LayoutLemmas.{layouts_follow}
+use Rattle.kr_seen.specs.kr_files.Descriptors.{Named, named_count}
+use Rattle.kr_seen.specs.kr_files.Files.{file_at}
+use Rattle.kr_seen.specs.kr_files.WithoutMounts.{without_mount}
+use Rattle.kr_seen.specs.kr_model.Applied.{Mounts, all_applied, images, with_image}
+use Rattle.kr_seen.specs.kr_model.Known.{Family, Known, caller_of, family_of, known, no_caller, pages_in_all}
+use Rattle.kr_seen.specs.kr_model.Lawful.{ArePids}
+use Rattle.kr_seen.specs.kr_model.Reply.{Reply, Replying, refusal, refuse}
+use Rattle.kr_seen.specs.pr_base.declared.errno.Errno.{Errno}
+use Rattle.kr_seen.specs.kr_model.ProcessRows.{null_or_writable, unless_null}
+use Rattle.kr_seen.specs.kr_model.State as model
+use Rattle.kr_seen.specs.kr_model.Uses.{AreUses, file_uses, process_use}
+use Rattle.kr_seen.specs.kr_model.declared.outcome.Outcome.{Outcome}
+use Rattle.kr_seen.proofs.kr_lawful.AfterLemmas.{some-of, pids-with}
+use Rattle.kr_seen.proofs.kr_lawful.ProcessChangeLemmas.{found as found-with, found-passes, same-mapped, sum-with}
+use Rattle.kr_seen.specs.kr_ops.declared.state.Process.{Process}
+use Rattle.kr_seen.specs.kr_ops.declared.state.State.{State}
+use Rattle.kr_seen.specs.kr_ops.Living.{HasPid}
+use Rattle.kr_seen.specs.kr_ops.Making.{IsAsBefore}
+use Rattle.kr_seen.specs.kr_ops.Meaning.{meaning}
+use Rattle.kr_seen.specs.kr_ops.Sound.{IsServed, IsSound}
+use Rattle.kr_seen.proofs.kr_ops.ChangeLemmas.{living_as, one-changed}
+use Rattle.kr_seen.proofs.kr_ops.ListLemmas.{apart-test, same-test}
+use Rattle.kr_seen.proofs.kr_ops.OpeningLemmas.{found}
+use Rattle.kr_seen.proofs.kr_ops.PageLemmas.{with_mem}
+use Rattle.kr_seen.proofs.kr_ops.ServeLemmas.{kept-names, room-set}
 use Rattle.kr_rows.specs.Performing.{IsPerformed, after_row, carried, memory_of, no_memory, with_memory, with_memory_of}
 use Rattle.kr_rows.specs.Using.{CarriesOn, HasComeTo, HasMemory, Reads, Writes}
 use Rattle.kr_rows.proofs.PerformLemmas.{own-memory}

@@ -3,13 +3,13 @@ use Rattle.std.proofs.Common.{◌≡◌, ℕ, ℤ, Bool, true, false, cond, ◌=
 use Rattle.std.specs.Prelude.{map as map_list}
 use Rattle.std.specs.List.{find, list_any}
 use Rattle.std.specs.Option.{option_map}
-use Rattle.kr_model.specs.Known.{family_of}
-use Rattle.kr_model.specs.ProcessRows.{is_meant}
-use Rattle.kr_model.specs.State as model
-use Rattle.kr_ops.specs.Children.{is_child, is_ended_child, means}
-use Rattle.kr_ops.specs.Meaning.{ended_meaning}
-use Rattle.kr_ops.specs.declared.asking.Meant.{Meant}
-use Rattle.kr_ops.specs.declared.state.EndedProcess.{EndedProcess}
+use Rattle.kr_seen.specs.kr_model.Known.{family_of}
+use Rattle.kr_seen.specs.kr_model.ProcessRows.{is_meant}
+use Rattle.kr_seen.specs.kr_model.State as model
+use Rattle.kr_seen.specs.kr_ops.Children.{is_child, is_ended_child, means}
+use Rattle.kr_seen.specs.kr_ops.Meaning.{ended_meaning}
+use Rattle.kr_seen.specs.kr_ops.declared.asking.Meant.{Meant}
+use Rattle.kr_seen.specs.kr_ops.declared.state.EndedProcess.{EndedProcess}
 
 module _ (parent : ℕ) (meant : Meant) (child : ℤ) (same : (pid : ℕ) → means meant pid ≡ is_meant child pid) where
   pub meant-living : {T : Type 0} (ps : List (model.Process T model.Image)) → list_any (is_child parent meant) ps ≡ list_any (λ p. p.parent == parent && is_meant child p.pid) (map_list (family_of model.image_layout) ps)

@@ -1,16 +1,16 @@
 -- What is left of a state where a call without a path was carried out, by the definition of its row.
 use Rattle.std.specs.Prelude.{◌≡◌, ◌≢◌, ℕ, ℤ, [], Option}
 use Rattle.std.specs.Option.{option_map, option_and_then}
-use Rattle.rv_mem.specs.Actions.{Done}
-use Rattle.kr_model.specs.Applied.{Mounts}
-use Rattle.kr_model.specs.Asking.{descriptor_number}
-use Rattle.kr_model.specs.Known.{Known, known}
-use Rattle.kr_model.specs.Reply.{Replying}
-use Rattle.kr_model.specs.State as model
-use Rattle.kr_model.specs.declared.outcome.Outcome.{Outcome}
-use Rattle.kr_model.specs.declared.outcome.Outcome.TheVariants.{NoMemory}
-use Rattle.kr_ops.specs.declared.state.State.{State}
-use Rattle.kr_ops.specs.Meaning.{meaning}
+use Rattle.kr_seen.specs.rv_mem.Actions.{Done}
+use Rattle.kr_seen.specs.kr_model.Applied.{Mounts}
+use Rattle.kr_seen.specs.kr_model.Asking.{descriptor_number}
+use Rattle.kr_seen.specs.kr_model.Known.{Known, known}
+use Rattle.kr_seen.specs.kr_model.Reply.{Replying}
+use Rattle.kr_seen.specs.kr_model.State as model
+use Rattle.kr_seen.specs.kr_model.declared.outcome.Outcome.{Outcome}
+use Rattle.kr_seen.specs.kr_model.declared.outcome.Outcome.TheVariants.{NoMemory}
+use Rattle.kr_seen.specs.kr_ops.declared.state.State.{State}
+use Rattle.kr_seen.specs.kr_ops.Meaning.{meaning}
 pub use Rattle.kr_seen.specs.Carrying.{no_memory, with_memory, memory_of, with_memory_of, carried, after_row}
 
 -- a reply that changes nothing

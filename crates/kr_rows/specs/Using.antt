@@ -1,14 +1,14 @@
 -- How calls use the caller's memory, one use after the other, and how far a row has come between two uses.
 use Rattle.std.specs.Prelude.{◌≡◌, ℕ, true, List, length, IsSome}
-use Rattle.rv_mem.specs.Memory.{Memory, after_read, with_pages}
-use Rattle.rv_mem.specs.Pages.{allows_all, bytes_from, written}
-use Rattle.rv_mem.specs.declared.rights.Use.TheVariants.{Read, Write}
-use Rattle.kr_model.specs.Known.{known}
-use Rattle.kr_model.specs.Reply.{Replying}
-use Rattle.kr_model.specs.State as model
-use Rattle.kr_ops.specs.declared.state.State.{State}
-use Rattle.kr_ops.specs.Meaning.{meaning}
-use Rattle.kr_ops.specs.Sound.{IsSound}
+use Rattle.kr_seen.specs.rv_mem.Memory.{Memory, after_read, with_pages}
+use Rattle.kr_seen.specs.rv_mem.Pages.{allows_all, bytes_from, written}
+use Rattle.kr_seen.specs.rv_mem.declared.rights.Use.TheVariants.{Read, Write}
+use Rattle.kr_seen.specs.kr_model.Known.{known}
+use Rattle.kr_seen.specs.kr_model.Reply.{Replying}
+use Rattle.kr_seen.specs.kr_model.State as model
+use Rattle.kr_seen.specs.kr_ops.declared.state.State.{State}
+use Rattle.kr_seen.specs.kr_ops.Meaning.{meaning}
+use Rattle.kr_seen.specs.kr_ops.Sound.{IsSound}
 use Rattle.kr_rows.specs.Performing.{carried, memory_of, with_memory_of}
 
 module _ {T : Type 0} {M : ℕ} where

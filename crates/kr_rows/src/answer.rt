@@ -1,14 +1,14 @@
 //! What calls answer, and the descriptors that they name.
 ghost use Rattle.std.specs.Prelude.{◌≡◌, ◌&&◌};
-ghost use Rattle.kr_calls.specs.Arguments.{has};
-ghost use Rattle.kr_model.specs.Asking.{descriptor_number};
-ghost use Rattle.kr_model.specs.Known.{known};
-ghost use Rattle.kr_model.specs.State.{image_layout};
-ghost use Rattle.kr_ops.specs.Meaning.{meaning};
-ghost use Rattle.kr_ops.specs.Sound.{IsSound};
+ghost use Rattle.kr_seen.specs.kr_calls.Arguments.{has};
+ghost use Rattle.kr_seen.specs.kr_model.Asking.{descriptor_number};
+ghost use Rattle.kr_seen.specs.kr_model.Known.{known};
+ghost use Rattle.kr_seen.specs.kr_model.State.{image_layout};
+ghost use Rattle.kr_seen.specs.kr_ops.Meaning.{meaning};
+ghost use Rattle.kr_seen.specs.kr_ops.Sound.{IsSound};
 ghost use Rattle.kr_rows.specs.Performing.{open_number};
 
-use kr_ops::State;
+use kr_seen::below::State;
 pub use kr_seen::{number, refused};
 
 /// Whether flags have all of these bits.

@@ -1,23 +1,20 @@
 //! The memory of the caller of a call.
 ghost use Rattle.std.specs.Prelude.{◌≡◌, ◌≢◌, ◌↔◌, Bool, false, [], length, IsErrOf, IsSome, IfOk, OnOk, OnErr};
-ghost use Rattle.pr_base.specs.declared.errno.Errno.TheVariants.{EFAULT};
-ghost use Rattle.rv_mem.specs.Actions.{write_if_allowed};
-ghost use Rattle.rv_mem.specs.Pages.{allows_all};
-ghost use Rattle.kr_model.specs.ProcessRows.{null_or_writable, unless_null};
-ghost use Rattle.kr_model.specs.Reply.{Replying, done, refuse};
-ghost use Rattle.kr_model.specs.State.{process};
-ghost use Rattle.kr_model.specs.declared.outcome.Outcome.TheVariants.{NoMemory as WantOfMemory};
-ghost use Rattle.kr_ops.specs.Making.{IsAsBefore};
-ghost use Rattle.kr_ops.specs.Meaning.{meaning};
-ghost use Rattle.kr_ops.specs.Sound.{IsServed, IsSound};
+ghost use Rattle.kr_seen.specs.pr_base.declared.errno.Errno.TheVariants.{EFAULT};
+ghost use Rattle.kr_seen.specs.rv_mem.Actions.{write_if_allowed};
+ghost use Rattle.kr_seen.specs.rv_mem.Pages.{allows_all};
+ghost use Rattle.kr_seen.specs.kr_model.ProcessRows.{null_or_writable, unless_null};
+ghost use Rattle.kr_seen.specs.kr_model.Reply.{Replying, done, refuse};
+ghost use Rattle.kr_seen.specs.kr_model.State.{process};
+ghost use Rattle.kr_seen.specs.kr_model.declared.outcome.Outcome.TheVariants.{NoMemory as WantOfMemory};
+ghost use Rattle.kr_seen.specs.kr_ops.Making.{IsAsBefore};
+ghost use Rattle.kr_seen.specs.kr_ops.Meaning.{meaning};
+ghost use Rattle.kr_seen.specs.kr_ops.Sound.{IsServed, IsSound};
 ghost use Rattle.kr_rows.specs.Performing.{Performs, memory_of};
 ghost use Rattle.kr_rows.specs.Using.{CarriesOn, Reads, Writes};
 
 use crate::answer::{number, refused};
-use kr_model::Outcome;
-use kr_ops::State;
-use pr_base::{Bytes, Errno};
-use rv_mem::{BadAddress, StoreFault, Use};
+use kr_seen::below::{BadAddress, Bytes, Errno, Outcome, State, StoreFault, Use};
 use std::alloc::AllocError;
 
 /// Why bytes aren't read into memory of their own.

@@ -1,23 +1,19 @@
 //! Calls on descriptors.
 ghost use Rattle.std.specs.Prelude.{◌≡◌, ◌≢◌, ◌+◌, ◌<◌, ◌^◌, true, false, Some, None, nat_lt, if◌then◌else◌, IfNone, IfSome, IsSome};
 ghost use Rattle.std.specs.Option.{option_and_then, option_map};
-ghost use Rattle.kr_model.specs.Asking.{descriptor_number};
-ghost use Rattle.kr_model.specs.DescriptorRows.{close_row, dup_row, dup3_row, ioctl_row, pipe2_row, pipe_numbers};
-ghost use Rattle.kr_model.specs.State.{process};
-ghost use Rattle.kr_model.specs.declared.outcome.Outcome.TheVariants.{NoMemory as WantOfMemory};
-ghost use Rattle.kr_ops.specs.Meaning.{meaning};
-ghost use Rattle.kr_ops.specs.Opening.{pair_of, takes_pipe_of};
-ghost use Rattle.kr_ops.specs.Sound.{IsServed, IsSound};
+ghost use Rattle.kr_seen.specs.kr_model.Asking.{descriptor_number};
+ghost use Rattle.kr_seen.specs.kr_model.DescriptorRows.{close_row, dup_row, dup3_row, ioctl_row, pipe2_row, pipe_numbers};
+ghost use Rattle.kr_seen.specs.kr_model.State.{process};
+ghost use Rattle.kr_seen.specs.kr_model.declared.outcome.Outcome.TheVariants.{NoMemory as WantOfMemory};
+ghost use Rattle.kr_seen.specs.kr_ops.Meaning.{meaning};
+ghost use Rattle.kr_seen.specs.kr_ops.Opening.{pair_of, takes_pipe_of};
+ghost use Rattle.kr_seen.specs.kr_ops.Sound.{IsServed, IsSound};
 ghost use Rattle.kr_rows.specs.Performing.{Performs};
 
 use crate::answer::{has, natural, number, open_number, refused};
 use crate::caller;
 use bitflags::Flags;
-use kr_files::FilesRefusal;
-use kr_model::Outcome;
-use kr_ops::State;
-use pr_base::{Errno, NoMemory, OpenFlags};
-use rv_mem::StoreFault;
+use kr_seen::below::{Errno, FilesRefusal, NoMemory, OpenFlags, Outcome, State, StoreFault};
 
 /// How many descriptors a process may have.
 const DESCRIPTORS: u32 = 1024;

@@ -1,18 +1,16 @@
 //! exit(2) and wait4(2).
 ghost use Rattle.std.specs.Prelude.{◌≡◌, ◌≢◌, ◌*◌, pos, unsigned_abs, IsSome};
 ghost use Rattle.std.specs.Int.{int_rem_euclid};
-ghost use Rattle.kr_model.specs.ProcessRows.{exit_row, hangs_not, reap, wait4_row};
-ghost use Rattle.kr_model.specs.State.{process};
-ghost use Rattle.kr_model.specs.declared.outcome.Outcome.TheVariants.{NoMemory as WantOfMemory};
-ghost use Rattle.kr_ops.specs.Meaning.{ended_meaning, meaning};
-ghost use Rattle.kr_ops.specs.Sound.{IsOfView, IsServed, IsSound};
+ghost use Rattle.kr_seen.specs.kr_model.ProcessRows.{exit_row, hangs_not, reap, wait4_row};
+ghost use Rattle.kr_seen.specs.kr_model.State.{process};
+ghost use Rattle.kr_seen.specs.kr_model.declared.outcome.Outcome.TheVariants.{NoMemory as WantOfMemory};
+ghost use Rattle.kr_seen.specs.kr_ops.Meaning.{ended_meaning, meaning};
+ghost use Rattle.kr_seen.specs.kr_ops.Sound.{IsOfView, IsServed, IsSound};
 ghost use Rattle.kr_rows.specs.Performing.{Performs};
 
 use crate::answer::{both, number, refused};
 use crate::caller;
-use kr_model::Outcome;
-use kr_ops::{EndedProcess, Meant, State};
-use pr_base::{Errno, NoMemory};
+use kr_seen::below::{EndedProcess, Errno, Meant, NoMemory, Outcome, State};
 
 /// WNOHANG of wait4(2).
 const NO_HANG: u32 = 1;

@@ -1,22 +1,19 @@
 //! fcntl(2): what is asked and changed of one descriptor.
 ghost use Rattle.std.specs.Prelude.{◌≡◌, ◌≢◌, IfNone, IfSome, IsSome};
-ghost use Rattle.kr_files.specs.WithoutMounts.{without_mount};
-ghost use Rattle.kr_model.specs.Asking.{or_closed};
-ghost use Rattle.kr_model.specs.DescriptorRows.{cloexec_flag, copy_from, fcntl_by, fcntl_row, status_flags};
-ghost use Rattle.kr_model.specs.Known.{known};
-ghost use Rattle.kr_model.specs.State.{image_layout};
-ghost use Rattle.kr_model.specs.declared.outcome.Outcome.TheVariants.{NoMemory as WantOfMemory};
-ghost use Rattle.kr_ops.specs.Meaning.{meaning};
-ghost use Rattle.kr_ops.specs.Sound.{IsServed, IsSound};
+ghost use Rattle.kr_seen.specs.kr_files.WithoutMounts.{without_mount};
+ghost use Rattle.kr_seen.specs.kr_model.Asking.{or_closed};
+ghost use Rattle.kr_seen.specs.kr_model.DescriptorRows.{cloexec_flag, copy_from, fcntl_by, fcntl_row, status_flags};
+ghost use Rattle.kr_seen.specs.kr_model.Known.{known};
+ghost use Rattle.kr_seen.specs.kr_model.State.{image_layout};
+ghost use Rattle.kr_seen.specs.kr_model.declared.outcome.Outcome.TheVariants.{NoMemory as WantOfMemory};
+ghost use Rattle.kr_seen.specs.kr_ops.Meaning.{meaning};
+ghost use Rattle.kr_seen.specs.kr_ops.Sound.{IsServed, IsSound};
 ghost use Rattle.kr_rows.specs.Commands.{IsUnknown, number_of};
 ghost use Rattle.kr_rows.specs.Performing.{Performs};
 
 use crate::answer::{natural, number, open_number, refused};
 use bitflags::Flags;
-use kr_files::{FilesRefusal, Opened};
-use kr_model::Outcome;
-use kr_ops::State;
-use pr_base::{Errno, OpenFlags};
+use kr_seen::below::{Errno, FilesRefusal, OpenFlags, Opened, Outcome, State};
 
 /// The highest descriptor that a process may have.
 const LAST_DESCRIPTOR: u64 = 1023;

@@ -1,22 +1,19 @@
 //! clone(2).
 ghost use Rattle.std.specs.Prelude.{◌≡◌, ◌≢◌, ◌+◌, ◌<◌, ◌^◌, ℕ, true, IfSome, IsSome};
-ghost use Rattle.rv_mem.specs.Pages.{allows_all};
-ghost use Rattle.rv_mem.specs.declared.rights.Use.TheVariants.{Write};
-ghost use Rattle.kr_model.specs.Known.{Known};
-ghost use Rattle.kr_model.specs.ProcessRows.{born, clone_row, is_fork, told_born};
-ghost use Rattle.kr_model.specs.State.{process};
-ghost use Rattle.kr_model.specs.declared.outcome.Outcome.TheVariants.{NoMemory as WantOfMemory};
-ghost use Rattle.kr_ops.specs.Meaning.{meaning};
-ghost use Rattle.kr_ops.specs.Sound.{IsServed, IsSound};
+ghost use Rattle.kr_seen.specs.rv_mem.Pages.{allows_all};
+ghost use Rattle.kr_seen.specs.rv_mem.declared.rights.Use.TheVariants.{Write};
+ghost use Rattle.kr_seen.specs.kr_model.Known.{Known};
+ghost use Rattle.kr_seen.specs.kr_model.ProcessRows.{born, clone_row, is_fork, told_born};
+ghost use Rattle.kr_seen.specs.kr_model.State.{process};
+ghost use Rattle.kr_seen.specs.kr_model.declared.outcome.Outcome.TheVariants.{NoMemory as WantOfMemory};
+ghost use Rattle.kr_seen.specs.kr_ops.Meaning.{meaning};
+ghost use Rattle.kr_seen.specs.kr_ops.Sound.{IsServed, IsSound};
 ghost use Rattle.kr_rows.specs.Performing.{Performs, memory_of};
 ghost use Rattle.kr_rows.specs.Using.{CarriesOn};
 
 use crate::answer::{number, refused};
 use crate::caller;
-use kr_model::Outcome;
-use kr_ops::State;
-use pr_base::{Errno, NoMemory};
-use rv_mem::Use;
+use kr_seen::below::{Errno, NoMemory, Outcome, State, Use};
 
 /// The most processes, ended ones included.
 const PROCESSES: usize = 256;
@@ -41,7 +38,6 @@ pub fn clone<T: Copy, const M: u8>(
     requires sound { IsSound state.old }
     requires lives { IsSome (process pid (meaning state.old)) }
     requires numbers { state.old.next_pid + 1 < 2 ^ 32 }
-    requires behind { IfSome (process pid (meaning state.old)) (λ p. p.image.regs.pc + 4 < 2 ^ 64) }
     ensures performs { Performs pid (λ k. clone_row k flags sp ctid) state.old state.new result }
     ensures served { result ≢ WantOfMemory → IsServed state.new }
 {

@@ -1,18 +1,15 @@
 //! Calls on the numbers of the user and its groups, as an unprivileged process has them: real, effective and saved are one.
 ghost use Rattle.std.specs.Prelude.{◌≡◌, ◌≢◌, IsSome};
-ghost use Rattle.kr_model.specs.IdentityRows.{get_row, get_three_row, getgroups_row, is_kept, set_row, set_three_row, set_two_row, setgroups_row};
-ghost use Rattle.kr_model.specs.State.{process};
-ghost use Rattle.kr_model.specs.declared.outcome.Outcome.TheVariants.{NoMemory as WantOfMemory};
-ghost use Rattle.kr_ops.specs.Meaning.{meaning};
-ghost use Rattle.kr_ops.specs.Sound.{IsServed, IsSound};
+ghost use Rattle.kr_seen.specs.kr_model.IdentityRows.{get_row, get_three_row, getgroups_row, is_kept, set_row, set_three_row, set_two_row, setgroups_row};
+ghost use Rattle.kr_seen.specs.kr_model.State.{process};
+ghost use Rattle.kr_seen.specs.kr_model.declared.outcome.Outcome.TheVariants.{NoMemory as WantOfMemory};
+ghost use Rattle.kr_seen.specs.kr_ops.Meaning.{meaning};
+ghost use Rattle.kr_seen.specs.kr_ops.Sound.{IsServed, IsSound};
 ghost use Rattle.kr_rows.specs.Performing.{Performs, unchanged};
 
 use crate::answer::{both, natural, number, refused};
 use crate::caller;
-use kr_model::Outcome;
-use kr_ops::State;
-use pr_base::Errno;
-use rv_mem::Use;
+use kr_seen::below::{Errno, Outcome, State, Use};
 
 /// All ones, which stand for no number.
 const NO_NUMBER: u32 = 0xffff_ffff;

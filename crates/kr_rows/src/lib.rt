@@ -2,6 +2,7 @@
 #![tactic(auto)]
 
 pub mod answer;
+pub mod below;
 pub mod caller;
 pub mod descriptors;
 pub mod ending;

@@ -1,18 +1,17 @@
 //! Calls on the caller's pages.
 ghost use Rattle.std.specs.Prelude.{◌≡◌, ◌≢◌, ◌+◌, ◌-◌, ◌<◌, ◌≤◌, ◌^◌, min, pos, IfSome, IsSome};
-ghost use Rattle.rv_mem.specs.Pages.{IsPlaced};
-ghost use Rattle.kr_model.specs.MemoryRows.{brk_row, map_at, map_fixed, map_free, mmap_row, mprotect_row, munmap_row, page_count, rights_of};
-ghost use Rattle.kr_model.specs.State.{process};
-ghost use Rattle.kr_model.specs.declared.outcome.Outcome.TheVariants.{Answer, NoMemory as WantOfMemory};
-ghost use Rattle.kr_ops.specs.Meaning.{meaning};
-ghost use Rattle.kr_ops.specs.Sound.{IsServed, IsSound};
+ghost use Rattle.kr_seen.specs.rv_mem.Pages.{IsPlaced};
+ghost use Rattle.kr_seen.specs.kr_model.MemoryRows.{brk_row, map_at, map_fixed, map_free, mmap_row, mprotect_row, munmap_row, page_count, rights_of};
+ghost use Rattle.kr_seen.specs.kr_model.State.{process};
+ghost use Rattle.kr_seen.specs.kr_model.declared.outcome.Outcome.TheVariants.{Answer, NoMemory as WantOfMemory};
+ghost use Rattle.kr_seen.specs.kr_ops.Meaning.{meaning};
+ghost use Rattle.kr_seen.specs.kr_ops.Sound.{IsServed, IsSound};
 ghost use Rattle.kr_rows.specs.Performing.{Performs};
 
 use crate::answer::{number, refused};
-use kr_model::Outcome;
-use kr_ops::State;
-use pr_base::{Errno, PAGE_SIZE};
-use rv_mem::{BadAddress, MapFault, PAGES_END, Rights, Space, Use};
+use kr_seen::below::{
+    BadAddress, Errno, MapFault, Outcome, PAGE_SIZE, PAGES_END, Rights, Space, State, Use,
+};
 
 /// The number of the page behind the last one that a process may have.
 const END_PAGE: u64 = 67_108_863;

@@ -1,14 +1,13 @@
 //! Calls on processes.
 ghost use Rattle.std.specs.Prelude.{◌≡◌, IsSome};
-ghost use Rattle.kr_model.specs.ProcessRows.{getppid_row, pid_row, signals_row, umask_row};
-ghost use Rattle.kr_model.specs.State.{process};
-ghost use Rattle.kr_ops.specs.Meaning.{meaning};
-ghost use Rattle.kr_ops.specs.Sound.{IsServed, IsSound};
+ghost use Rattle.kr_seen.specs.kr_model.ProcessRows.{getppid_row, pid_row, signals_row, umask_row};
+ghost use Rattle.kr_seen.specs.kr_model.State.{process};
+ghost use Rattle.kr_seen.specs.kr_ops.Meaning.{meaning};
+ghost use Rattle.kr_seen.specs.kr_ops.Sound.{IsServed, IsSound};
 ghost use Rattle.kr_rows.specs.Performing.{Performs};
 
 use crate::answer::number;
-use kr_model::Outcome;
-use kr_ops::State;
+use kr_seen::below::{Outcome, State};
 
 /// How many masks of nine bits there are.
 const MASKS: u32 = 512;

@@ -1,23 +1,19 @@
 //! lseek(2): the place at which the next read or write begins.
 ghost use Rattle.std.specs.Prelude.{◌≡◌, ◌<◌, ◌^◌, ◌+ℤ◌, ℕ, ℤ, [], ◌∷◌, pos, length, IfErr, IfOk, IfSome};
 ghost use Rattle.std.specs.Option.{option_map_or};
-ghost use Rattle.pr_base.specs.declared.errno.Errno.TheVariants.{EINVAL};
-ghost use Rattle.kr_files.specs.WithoutMounts.{without_mount};
-ghost use Rattle.kr_model.specs.Change.{Seek};
-ghost use Rattle.kr_model.specs.DescriptorRows.{lseek_row, open_bytes, seek_to, seek_what};
-ghost use Rattle.kr_model.specs.Known.{known};
-ghost use Rattle.kr_model.specs.Reply.{done, refuse};
-ghost use Rattle.kr_model.specs.State.{image_layout};
-ghost use Rattle.kr_ops.specs.Meaning.{meaning};
-ghost use Rattle.kr_ops.specs.Sound.{IsServed, IsSound};
+ghost use Rattle.kr_seen.specs.pr_base.declared.errno.Errno.TheVariants.{EINVAL};
+ghost use Rattle.kr_seen.specs.kr_files.WithoutMounts.{without_mount};
+ghost use Rattle.kr_seen.specs.kr_model.Change.{Seek};
+ghost use Rattle.kr_seen.specs.kr_model.DescriptorRows.{lseek_row, open_bytes, seek_to, seek_what};
+ghost use Rattle.kr_seen.specs.kr_model.Known.{known};
+ghost use Rattle.kr_seen.specs.kr_model.Reply.{done, refuse};
+ghost use Rattle.kr_seen.specs.kr_model.State.{image_layout};
+ghost use Rattle.kr_seen.specs.kr_ops.Meaning.{meaning};
+ghost use Rattle.kr_seen.specs.kr_ops.Sound.{IsServed, IsSound};
 ghost use Rattle.kr_rows.specs.Performing.{Performs};
 
 use crate::answer::{open_number, refused};
-use kr_files::{Opened, What};
-use kr_model::Outcome;
-use kr_ops::State;
-use kr_tree::Host;
-use pr_base::Errno;
+use kr_seen::below::{Errno, Host, Opened, Outcome, State, What};
 
 /// Places are below this one.
 const PLACES_END: u64 = 1 << 63;

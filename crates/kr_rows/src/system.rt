@@ -1,16 +1,14 @@
 //! uname(2): the name of the system.
 ghost use Rattle.std.specs.Prelude.{◌≡◌, ◌≢◌, ◌≤◌, ◌++◌, length, IfOk, IsSome, OnOk};
-ghost use Rattle.kr_model.specs.ProcessRows.{uname_bytes, uname_field, uname_row};
-ghost use Rattle.kr_model.specs.State.{process};
-ghost use Rattle.kr_model.specs.declared.outcome.Outcome.TheVariants.{NoMemory as WantOfMemory};
-ghost use Rattle.kr_ops.specs.Meaning.{meaning};
-ghost use Rattle.kr_ops.specs.Sound.{IsServed, IsSound};
+ghost use Rattle.kr_seen.specs.kr_model.ProcessRows.{uname_bytes, uname_field, uname_row};
+ghost use Rattle.kr_seen.specs.kr_model.State.{process};
+ghost use Rattle.kr_seen.specs.kr_model.declared.outcome.Outcome.TheVariants.{NoMemory as WantOfMemory};
+ghost use Rattle.kr_seen.specs.kr_ops.Meaning.{meaning};
+ghost use Rattle.kr_seen.specs.kr_ops.Sound.{IsServed, IsSound};
 ghost use Rattle.kr_rows.specs.Performing.{Performs};
 
 use crate::caller;
-use kr_model::Outcome;
-use kr_ops::State;
-use pr_base::{Bytes, NoMemory};
+use kr_seen::below::{Bytes, NoMemory, Outcome, State};
 use std::alloc::Global;
 
 /// How many bytes a field has.

@@ -4,21 +4,21 @@ use Rattle.std.specs.Prelude.{List, Result, Ok, Err}
 use Rattle.std.specs.Bool.{if◌then◌else◌}
 use Rattle.std.proofs.lemmas.Option.{none-some, same_Some}
 use Rattle.pr_base.specs.Paths.{is_absolute}
-use Rattle.kr_calls.specs.PathTable.{PathUse}
+use Rattle.kr_ops.specs.kr_calls.PathTable.{PathUse}
 use Rattle.std.specs.Option.{option_map, option_map_or}
 use Rattle.pr_base.specs.declared.errno.Errno.{Errno}
 use Rattle.pr_base.specs.declared.errno.Errno.TheVariants.{EBADF, ENOENT, ENOTDIR}
-use Rattle.kr_tree.specs.declared.place.Place.{Place}
-use Rattle.kr_view.specs.Leads.{numbered}
-use Rattle.kr_view.specs.View.{Row, root_place}
-use Rattle.kr_model.specs.Applied.{cwd_of}
-use Rattle.kr_model.specs.Asking.{descriptor_number, is_working_directory}
-use Rattle.kr_files.specs.declared.opened.Opened.{Opened}
-use Rattle.kr_files.specs.declared.opened.What.{What}
-use Rattle.kr_files.specs.declared.opened.What.TheVariants.{Dir, File, In, Out, Err as ErrorPart, PipeRead, PipeWrite}
-use Rattle.kr_model.specs.FileRows.{is_dir}
-use Rattle.kr_model.specs.State.{Image, Process, State, opened, process}
-use Rattle.kr_model.specs.Walks.{base_of, place_of_open, place_of_descriptor}
+use Rattle.kr_ops.specs.kr_tree.declared.place.Place.{Place}
+use Rattle.kr_ops.specs.kr_view.Leads.{numbered}
+use Rattle.kr_ops.specs.kr_view.View.{Row, root_place}
+use Rattle.kr_ops.specs.kr_model.Applied.{cwd_of}
+use Rattle.kr_ops.specs.kr_model.Asking.{descriptor_number, is_working_directory}
+use Rattle.kr_ops.specs.kr_files.declared.opened.Opened.{Opened}
+use Rattle.kr_ops.specs.kr_files.declared.opened.What.{What}
+use Rattle.kr_ops.specs.kr_files.declared.opened.What.TheVariants.{Dir, File, In, Out, Err as ErrorPart, PipeRead, PipeWrite}
+use Rattle.kr_ops.specs.kr_model.FileRows.{is_dir}
+use Rattle.kr_ops.specs.kr_model.State.{Image, Process, State, opened, process}
+use Rattle.kr_ops.specs.kr_model.Walks.{base_of, place_of_open, place_of_descriptor}
 use Rattle.kr_seen.specs.Numbered.{opened_numbered, process_numbered, state_numbered}
 use Rattle.kr_seen.proofs.NumberedLemmas.{opened-numbered, process-numbered}
 

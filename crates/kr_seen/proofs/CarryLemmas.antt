@@ -6,14 +6,14 @@ use Rattle.std.specs.List.{find}
 use Rattle.std.specs.Option.{option_map_or}
 use Rattle.std.proofs.lemmas.Bool.Decides.{nat_tests}
 use Rattle.std.proofs.lemmas.Option.{same_Some, none-some}
-use Rattle.rv_mem.specs.Actions.{Done}
-use Rattle.kr_model.specs.Applied.{Mounts, all_applied, images, pages_after, with_image, with_living}
-use Rattle.kr_model.specs.Change.{PageChange}
-use Rattle.kr_model.specs.Known.{Known, known}
-use Rattle.kr_model.specs.Lawful.{ArePids, RiseFrom}
-use Rattle.kr_model.specs.Reply.{Reply, Replying, refusal, refuse}
-use Rattle.kr_model.specs.State as model
-use Rattle.kr_model.specs.declared.outcome.Outcome.{Outcome}
+use Rattle.kr_ops.specs.rv_mem.Actions.{Done}
+use Rattle.kr_ops.specs.kr_model.Applied.{Mounts, all_applied, images, pages_after, with_image, with_living}
+use Rattle.kr_ops.specs.kr_model.Change.{PageChange}
+use Rattle.kr_ops.specs.kr_model.Known.{Known, known}
+use Rattle.kr_ops.specs.kr_model.Lawful.{ArePids, RiseFrom}
+use Rattle.kr_ops.specs.kr_model.Reply.{Reply, Replying, refusal, refuse}
+use Rattle.kr_ops.specs.kr_model.State as model
+use Rattle.kr_ops.specs.kr_model.declared.outcome.Outcome.{Outcome}
 use Rattle.pr_base.specs.declared.errno.Errno.{Errno}
 use Rattle.kr_ops.specs.declared.state.State.{State}
 use Rattle.kr_ops.specs.Meaning.{meaning}

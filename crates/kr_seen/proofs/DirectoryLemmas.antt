@@ -2,17 +2,17 @@
 use Rattle.std.proofs.Common.{◌≡◌, ℕ, Bool, true, false, List, [], Option, Some, None, refl, sym, ap, ◌∙◌}
 use Rattle.std.specs.Bool.{if◌then◌else◌}
 use Rattle.std.specs.Option.{option_map, option_map_or, option_and_then}
-use Rattle.kr_tree.specs.declared.place.Place.{Place}
-use Rattle.kr_tree.specs.declared.place.ProcAt.{ProcAt}
-use Rattle.kr_tree.specs.declared.place.ProcAt.TheVariants.{SelfLink, Dir, Cwd, Root, Exe, FdDir, Fd}
-use Rattle.kr_view.specs.declared.procs.Lead.TheVariants.{Jump, Nameless, NoLink}
-use Rattle.kr_view.specs.Component.{Namespace}
-use Rattle.kr_view.specs.Leads.{numbered, lead_numbered}
-use Rattle.kr_view.specs.Names.{guest_name}
-use Rattle.kr_view.specs.View.{is_there, root_place}
-use Rattle.kr_files.specs.declared.opened.Opened.{Opened}
-use Rattle.kr_model.specs.ProcessDirectory.{jump_to, lead_of_open, leads_of, link_text, name_text, open_text, remembered, space_of, unplaced_text}
-use Rattle.kr_model.specs.State.{Image, Process, opened, process}
+use Rattle.kr_ops.specs.kr_tree.declared.place.Place.{Place}
+use Rattle.kr_ops.specs.kr_tree.declared.place.ProcAt.{ProcAt}
+use Rattle.kr_ops.specs.kr_tree.declared.place.ProcAt.TheVariants.{SelfLink, Dir, Cwd, Root, Exe, FdDir, Fd}
+use Rattle.kr_ops.specs.kr_view.declared.procs.Lead.TheVariants.{Jump, Nameless, NoLink}
+use Rattle.kr_ops.specs.kr_view.Component.{Namespace}
+use Rattle.kr_ops.specs.kr_view.Leads.{numbered, lead_numbered}
+use Rattle.kr_ops.specs.kr_view.Names.{guest_name}
+use Rattle.kr_ops.specs.kr_view.View.{is_there, root_place}
+use Rattle.kr_ops.specs.kr_files.declared.opened.Opened.{Opened}
+use Rattle.kr_ops.specs.kr_model.ProcessDirectory.{jump_to, lead_of_open, leads_of, link_text, name_text, open_text, remembered, space_of, unplaced_text}
+use Rattle.kr_ops.specs.kr_model.State.{Image, Process, opened, process}
 use Rattle.kr_seen.specs.Laws.{ShowsTheDirectory}
 use Rattle.kr_seen.specs.Numbered.{opened_numbered, process_numbered, state_numbered}
 use Rattle.kr_seen.specs.Shown.{Shown, Nothing, Unplaced, At, cwd_target, exe_target, opened_target, jump_in, lead_to, leads_in, space_in, text_to, texts_in}

@@ -14,16 +14,16 @@ use Rattle.std.proofs.lemmas.Option.{same_Some, none-some}
 use Rattle.std.proofs.lemmas.Slice.Eq.{bytes_eq-Decides}
 use lib.Dec.{T}
 use Rattle.pr_base.proofs.MapLemmas.{ties-same, ties-other}
-use Rattle.kr_tree.specs.declared.place.ProcAt.TheVariants.{SelfLink, Dir, FdDir, Fd}
-use Rattle.kr_view.specs.Living.{Living, Each, first, finds_among, in_directory, names_number}
-use Rattle.kr_view.specs.View.{is_there}
-use Rattle.kr_procfs.specs.Decimals.{number_named}
-use Rattle.kr_procfs.proofs.DecimalLemmas.{number_named-text, text-number_named}
-use Rattle.kr_files.specs.Descriptors.{Named}
-use Rattle.kr_files.proofs.KindLemmas.{same_bools, not_true}
-use Rattle.kr_model.specs.Lawful.{ArePids, RiseFrom}
-use Rattle.kr_model.specs.ProcessDirectory.{living_of}
-use Rattle.kr_model.specs.State.{Image, Process, State, process, named, is_pid}
+use Rattle.kr_ops.specs.kr_tree.declared.place.ProcAt.TheVariants.{SelfLink, Dir, FdDir, Fd}
+use Rattle.kr_ops.specs.kr_view.Living.{Living, Each, first, finds_among, in_directory, names_number}
+use Rattle.kr_ops.specs.kr_view.View.{is_there}
+use Rattle.kr_ops.specs.kr_procfs.Decimals.{number_named}
+use Rattle.kr_ops.proofs.kr_procfs.DecimalLemmas.{number_named-text, text-number_named}
+use Rattle.kr_ops.specs.kr_files.Descriptors.{Named}
+use Rattle.kr_ops.proofs.kr_files.KindLemmas.{same_bools, not_true}
+use Rattle.kr_ops.specs.kr_model.Lawful.{ArePids, RiseFrom}
+use Rattle.kr_ops.specs.kr_model.ProcessDirectory.{living_of}
+use Rattle.kr_ops.specs.kr_model.State.{Image, Process, State, process, named, is_pid}
 use Rattle.kr_seen.proofs.NumberedLemmas.{to_living}
 
 -- ---- names of numbers

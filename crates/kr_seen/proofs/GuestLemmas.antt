@@ -6,18 +6,18 @@ use Rattle.std.proofs.lemmas.Bool.{eqb-true, false≢true}
 use Rattle.std.proofs.lemmas.List.Elements.{All-nil, All-cons, All-head, All-tail, All-append}
 use Rattle.std.proofs.lemmas.Option.{same_Some, none-some}
 use Rattle.pr_base.specs.Paths.{text_of, IsName, AreNames}
-use Rattle.kr_tree.specs.Lawful.{IsSound}
-use Rattle.kr_tree.specs.Names.{host_name, process_names}
-use Rattle.kr_tree.specs.Tree.{Tree, Inode, inode, Body, Directory, RegularFile, SymbolicLink, ProcessDirectory, body, body_is, is_directory}
-use Rattle.kr_tree.specs.declared.place.Host.TheVariants.{Proc}
-use Rattle.kr_tree.specs.declared.place.ProcAt.{ProcAt}
-use Rattle.kr_tree.specs.declared.place.ProcAt.TheVariants.{SelfLink, Dir, Cwd, Root, Exe, FdDir, Fd}
-use Rattle.kr_tree.proofs.NameLemmas.{host_names-lead, no_directory_name}
-use Rattle.kr_view.specs.View.{Row, StandsIn, row, is_there}
-use Rattle.kr_view.specs.Component.{Namespace, is_process_directory, is_processes}
-use Rattle.kr_view.specs.Names.{Text, guest_directory, guest_node, guest_entry, is_file_source, names_below, process_name, process_object_name}
-use Rattle.kr_view.proofs.GuestNameLemmas.{only_below}
-use Rattle.kr_model.specs.ProcessDirectory.{name_text, remembered}
+use Rattle.kr_ops.specs.kr_tree.Lawful.{IsSound}
+use Rattle.kr_ops.specs.kr_tree.Names.{host_name, process_names}
+use Rattle.kr_ops.specs.kr_tree.Tree.{Tree, Inode, inode, Body, Directory, RegularFile, SymbolicLink, ProcessDirectory, body, body_is, is_directory}
+use Rattle.kr_ops.specs.kr_tree.declared.place.Host.TheVariants.{Proc}
+use Rattle.kr_ops.specs.kr_tree.declared.place.ProcAt.{ProcAt}
+use Rattle.kr_ops.specs.kr_tree.declared.place.ProcAt.TheVariants.{SelfLink, Dir, Cwd, Root, Exe, FdDir, Fd}
+use Rattle.kr_ops.proofs.kr_tree.NameLemmas.{host_names-lead, no_directory_name}
+use Rattle.kr_ops.specs.kr_view.View.{Row, StandsIn, row, is_there}
+use Rattle.kr_ops.specs.kr_view.Component.{Namespace, is_process_directory, is_processes}
+use Rattle.kr_ops.specs.kr_view.Names.{Text, guest_below, guest_directory, guest_node, guest_entry, guest_source, is_file_source, names_below, process_name, process_object_name}
+use Rattle.kr_ops.proofs.kr_view.GuestNameLemmas.{only_below}
+use Rattle.kr_ops.specs.kr_model.ProcessDirectory.{name_text, remembered}
 use Rattle.kr_seen.specs.Standing.{is_shown_directory}
 
 processes-directory : (t : Tree) (i : ℕ) → body_is is_processes t i ≡ true → body_is is_directory t i ≡ true
@@ -68,7 +68,7 @@ module _ (space : Namespace) (sound : IsSound space.tree) (stands : StandsIn spa
   -- so it is called as a directory
   node-directory : (r : Row) → row space.table k ≡ Some r → guest_node space.tree (Some r) i None ≡ guest_directory space.tree (Some r) i
   node-directory r there =
-      ap (λ b. if b then Some r.text.location else if body_is is_directory space.tree i then guest_directory space.tree (Some r) i else None) (no-file-source r there)
+      ap (λ b. if b then guest_source (Some r) None else guest_below space.tree (Some r) i None) (no-file-source r there)
       ∙ ap (λ b. if b then guest_directory space.tree (Some r) i else None) listed
 
   called : is_there (row space.table k) ≡ true → guest_node space.tree (row space.table k) i None ≡ top

@@ -1,3 +1,12 @@
+pub use Rattle.pr_base.proofs as pr_base
+pub use Rattle.kr_ops.proofs.rv_mem as rv_mem
+pub use Rattle.kr_ops.proofs.kr_inode as kr_inode
+pub use Rattle.kr_ops.proofs.kr_tree as kr_tree
+pub use Rattle.kr_ops.proofs.kr_view as kr_view
+pub use Rattle.kr_ops.proofs.kr_files as kr_files
+pub use Rattle.kr_ops.proofs.kr_model as kr_model
+pub use Rattle.kr_ops.proofs.kr_lawful as kr_lawful
+pub use Rattle.kr_ops.proofs as kr_ops
 pub mod NumberedLemmas
 pub mod DirectoryLemmas
 pub mod FindLemmas

@@ -1,7 +1,7 @@
 -- Whether a process lives, by its place in the list.
 use Rattle.std.proofs.Common.{◌≡◌, ℕ, Option, Some, None, refl, sym, ap}
 use Rattle.std.specs.Option.{is_some, IfSome}
-use Rattle.kr_model.specs.State.{process}
+use Rattle.kr_ops.specs.kr_model.State.{process}
 use Rattle.kr_ops.specs.declared.state.State.{State}
 use Rattle.kr_ops.specs.Living.{HaveOthers, HasPid}
 use Rattle.kr_ops.specs.Meaning.{meaning}

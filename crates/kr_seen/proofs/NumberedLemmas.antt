@@ -5,11 +5,11 @@ use Rattle.std.specs.Prelude.{map as map_list}
 use Rattle.std.specs.List.{find}
 use Rattle.std.specs.Option.{option_map, option_and_then}
 use Rattle.pr_base.proofs.MapLemmas.{get-mapped}
-use Rattle.kr_view.specs.Living.{Living, finds_among}
-use Rattle.kr_files.specs.Descriptors.{Named}
-use Rattle.kr_files.specs.Files.{Counted, file_at}
-use Rattle.kr_model.specs.ProcessDirectory.{living_of, space_of}
-use Rattle.kr_model.specs.State.{Image, Process, State, process, named, opened, is_pid}
+use Rattle.kr_ops.specs.kr_view.Living.{Living, finds_among}
+use Rattle.kr_ops.specs.kr_files.Descriptors.{Named}
+use Rattle.kr_ops.specs.kr_files.Files.{Counted, file_at}
+use Rattle.kr_ops.specs.kr_model.ProcessDirectory.{living_of, space_of}
+use Rattle.kr_ops.specs.kr_model.State.{Image, Process, State, process, named, opened, is_pid}
 use Rattle.kr_seen.specs.Numbered.{counted_numbered, opened_numbered, table_numbered, process_numbered, state_numbered}
 use Rattle.kr_seen.specs.Shown.{Shown, space_in}
 

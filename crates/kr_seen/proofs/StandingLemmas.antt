@@ -8,28 +8,28 @@ use Rattle.std.specs.Option.{option_map, option_map_or, option_and_then}
 use Rattle.std.proofs.lemmas.Bool.{false≢true}
 use Rattle.std.proofs.lemmas.Option.{same_Some, none-some}
 use Rattle.pr_base.specs.Paths.{IsName}
-use Rattle.kr_tree.specs.Tree.{Tree, Inode, inode, Body, Directory, RegularFile, SymbolicLink, ProcessDirectory, body, body_is, is_directory, is_file}
-use Rattle.kr_tree.specs.declared.place.Host.{Host}
-use Rattle.kr_tree.specs.declared.place.Host.TheVariants.{Node, Proc}
-use Rattle.kr_tree.specs.declared.place.Place.{Place}
-use Rattle.kr_tree.specs.declared.place.ProcAt.{ProcAt}
-use Rattle.kr_tree.specs.declared.place.ProcAt.TheVariants.{SelfLink, Dir, Cwd, Root, Exe, FdDir, Fd}
-use Rattle.kr_view.specs.declared.procs.Lead.TheVariants.{Text, Jump, Nameless}
-use Rattle.kr_view.specs.Component.{Namespace, is_directory_at}
-use Rattle.kr_view.specs.InTree.{IsPlaceOf, LeadToPlaces}
-use Rattle.kr_view.specs.Leads.{numbered, lead_numbered}
-use Rattle.kr_view.specs.Living.{Each, IsSmall, HasSmallNumbers}
-use Rattle.kr_view.specs.Names.{guest_name}
-use Rattle.kr_view.specs.Processes.{LawsOfProcesses}
-use Rattle.kr_view.specs.View.{Row, StandsIn, is_there, root_place}
-use Rattle.kr_view.proofs.LivingLemmas.{living_processes}
-use Rattle.kr_files.specs.declared.opened.Opened.{Opened}
-use Rattle.kr_files.specs.Descriptors.{Named}
-use Rattle.kr_files.specs.Files.{file_at}
-use Rattle.kr_model.specs.FileRows.{is_dir, is_file_open}
-use Rattle.kr_model.specs.Lawful.{ArePids, IsLawful, IsOpenIn, RiseFrom, is_file_at}
-use Rattle.kr_model.specs.ProcessDirectory.{living_of, remembered}
-use Rattle.kr_model.specs.State.{Image, Process, State, is_pid, named, opened, process}
+use Rattle.kr_ops.specs.kr_tree.Tree.{Tree, Inode, inode, Body, Directory, RegularFile, SymbolicLink, ProcessDirectory, body, body_is, is_directory, is_file}
+use Rattle.kr_ops.specs.kr_tree.declared.place.Host.{Host}
+use Rattle.kr_ops.specs.kr_tree.declared.place.Host.TheVariants.{Node, Proc}
+use Rattle.kr_ops.specs.kr_tree.declared.place.Place.{Place}
+use Rattle.kr_ops.specs.kr_tree.declared.place.ProcAt.{ProcAt}
+use Rattle.kr_ops.specs.kr_tree.declared.place.ProcAt.TheVariants.{SelfLink, Dir, Cwd, Root, Exe, FdDir, Fd}
+use Rattle.kr_ops.specs.kr_view.declared.procs.Lead.TheVariants.{Text, Jump, Nameless}
+use Rattle.kr_ops.specs.kr_view.Component.{Namespace, is_directory_at}
+use Rattle.kr_ops.specs.kr_view.InTree.{IsPlaceOf, LeadToPlaces}
+use Rattle.kr_ops.specs.kr_view.Leads.{numbered, lead_numbered}
+use Rattle.kr_ops.specs.kr_view.Living.{Each, IsSmall, HasSmallNumbers}
+use Rattle.kr_ops.specs.kr_view.Names.{guest_name}
+use Rattle.kr_ops.specs.kr_view.Processes.{LawsOfProcesses}
+use Rattle.kr_ops.specs.kr_view.View.{Row, StandsIn, is_there, root_place}
+use Rattle.kr_ops.proofs.kr_view.LivingLemmas.{living_processes}
+use Rattle.kr_ops.specs.kr_files.declared.opened.Opened.{Opened}
+use Rattle.kr_ops.specs.kr_files.Descriptors.{Named}
+use Rattle.kr_ops.specs.kr_files.Files.{file_at}
+use Rattle.kr_ops.specs.kr_model.FileRows.{is_dir, is_file_open}
+use Rattle.kr_ops.specs.kr_model.Lawful.{ArePids, IsLawful, IsOpenIn, RiseFrom, is_file_at}
+use Rattle.kr_ops.specs.kr_model.ProcessDirectory.{living_of, remembered}
+use Rattle.kr_ops.specs.kr_model.State.{Image, Process, State, is_pid, named, opened, process}
 use Rattle.kr_ops.proofs.ListLemmas.{same-test, apart-test}
 use Rattle.kr_seen.specs.Laws.{LawfulAreShown}
 use Rattle.kr_seen.specs.Shown.{Shown, Target, Nothing, Unplaced, At, cwd_target, exe_target, opened_target, finds_in, lead_to, leads_in, space_in, target_in}

@@ -2,23 +2,24 @@
 use Rattle.std.proofs.Common.{◌≡◌, ℕ, true, false, List, [], ◌∷◌, length, Option, Some, None, refl, sym, ap, subst, ◌∙◌}
 use Rattle.std.specs.Prelude.{Result, Ok, Err, ◌==◌}
 use Rattle.pr_base.specs.declared.errno.Errno.{Errno}
-use Rattle.kr_calls.specs.PathTable.{PathUse, path_at}
-use Rattle.kr_calls.specs.declared.request.Request.{Request}
-use Rattle.kr_tree.specs.declared.place.Place.{Place}
-use Rattle.kr_view.specs.declared.target.Reach.{Reach}
-use Rattle.kr_view.specs.declared.target.Target.{Target}
-use Rattle.kr_view.specs.declared.target.WalkFault.{WalkFault}
-use Rattle.kr_view.specs.declared.target.WalkFault.TheVariants as fault
-use Rattle.kr_view.specs.Answers.{IsAnswer, IsReached}
-use Rattle.kr_view.specs.Component.{Surroundings}
-use Rattle.kr_view.specs.Leads.{numbered}
-use Rattle.kr_view.specs.Reach.{Covers, reach_after}
-use Rattle.kr_view.specs.View.{Row, root_place}
-use Rattle.kr_view.specs.Walk.{PlaceTarget, PlaceTrail, place_walk, surroundings}
-use Rattle.kr_model.specs.ProcessDirectory.{around_of}
-use Rattle.kr_model.specs.State.{Image, State}
-use Rattle.kr_model.specs.Walks as walks
-use Rattle.kr_model.specs.Walks.{base_of, target_at, targets_of, walked}
+use Rattle.pr_base.specs.declared.path.WalkMode.{WalkMode}
+use Rattle.kr_ops.specs.kr_calls.PathTable.{PathUse, path_at}
+use Rattle.kr_ops.specs.kr_calls.declared.request.Request.{Request}
+use Rattle.kr_ops.specs.kr_tree.declared.place.Place.{Place}
+use Rattle.kr_ops.specs.kr_view.declared.target.Reach.{Reach}
+use Rattle.kr_ops.specs.kr_view.declared.target.Target.{Target}
+use Rattle.kr_ops.specs.kr_view.declared.target.WalkFault.{WalkFault}
+use Rattle.kr_ops.specs.kr_view.declared.target.WalkFault.TheVariants as fault
+use Rattle.kr_ops.specs.kr_view.Answers.{IsAnswer, IsReached}
+use Rattle.kr_ops.specs.kr_view.Component.{Surroundings}
+use Rattle.kr_ops.specs.kr_view.Leads.{numbered}
+use Rattle.kr_ops.specs.kr_view.Reach.{Covers, reach_after}
+use Rattle.kr_ops.specs.kr_view.View.{Row, root_place}
+use Rattle.kr_ops.specs.kr_view.Walk.{PlaceTarget, PlaceTrail, place_walk, surroundings}
+use Rattle.kr_ops.specs.kr_model.ProcessDirectory.{around_of}
+use Rattle.kr_ops.specs.kr_model.State.{Image, State}
+use Rattle.kr_ops.specs.kr_model.Walks as walks
+use Rattle.kr_ops.specs.kr_model.Walks.{base_of, target_at, targets_of, walked}
 use Rattle.kr_ops.specs.declared.state.State as code
 use Rattle.kr_ops.specs.Meaning.{meaning}
 use Rattle.kr_seen.specs.Held.{Held, shown_of}
@@ -27,7 +28,7 @@ use Rattle.kr_seen.specs.Shown.{Shown, finds_in, leads_in}
 use Rattle.kr_seen.proofs.DirectoryLemmas.{shows-the-directory}
 use Rattle.kr_seen.specs.CallWalks.{AreTargets, IsTold, IsTarget, IsReachedTo, call_reach, path_reach, second_reach, walk_reach}
 use Rattle.kr_seen.specs.declared.walks.Targets.{Targets}
-use Rattle.kr_view.proofs.ReachLemmas.{covers_refl, covers_trans, covers_after}
+use Rattle.kr_ops.proofs.kr_view.ReachLemmas.{covers_refl, covers_trans, covers_after}
 
 -- what a caller's walks go through
 pub around-same : {T : Type 0} (number : T → ℕ) (v : Shown T) (caller : ℕ) → numbered number v.root ≡ root_place v.table
@@ -76,7 +77,7 @@ module _ {T : Type 0} (number : T → ℕ) (table : List Row) (pid : ℕ) (s : S
   walked-from u (b ∷ path) base some is = ap (λ base. walks.and_then base (λ base. walks.and_then (place_walk (around_of table pid s) u.mode base (b ∷ path)).answer (λ target. Ok (Some target)))) is
 
   pub reached-from : (u : PathUse) (text : List ℕ) (base : Place ℕ) (r : Reach) → (text ≡ [] → ⊥) → base_of table pid s u ≡ Ok base
-      → walk_reach table pid s u text (base_of table pid s u) r ≡ reach_after (around_of table pid s) (place_walk (around_of table pid s) u.mode base text) r
+      → walk_reach table pid s u text (base_of table pid s u) r ≡ reach_after (around_of table pid s) u.mode (place_walk (around_of table pid s) u.mode base text) r
   reached-from u [] base r some is = absurd (some refl)
   reached-from u (b ∷ path) base r some is = ap (λ base. walk_reach table pid s u (b ∷ path) base r) is
 
@@ -93,9 +94,9 @@ module _ {T : Type 0} (number : T → ℕ) (table : List Row) (pid : ℕ) (s : S
 pub reached-to : {A : Type 0} (all other old new : Reach) (x : A) → all ≡ other → new ≡ all → IsReachedTo {T = A} other old new (Ok x)
 reached-to all other old new x e is = is ∙ e
 
-pub fault-reached : (A B : Type 0) (around : Surroundings) (trail : PlaceTrail) (other old new : Reach) (f : WalkFault) → reach_after around trail old ≡ other → IsReached {T = A} around trail old new (Err f) → IsReachedTo {T = B} other old new (Err f)
-fault-reached A B around trail other old new (fault.Err e) same is = is ∙ same
-fault-reached A B around trail other old new fault.NoMemory same is = (is.0, subst (λ all. Covers all new) same is.1)
+pub fault-reached : (A B : Type 0) (around : Surroundings) (mode : WalkMode) (trail : PlaceTrail) (other old new : Reach) (f : WalkFault) → reach_after around mode trail old ≡ other → IsReached {T = A} around mode trail old new (Err f) → IsReachedTo {T = B} other old new (Err f)
+fault-reached A B around mode trail other old new (fault.Err e) same is = is ∙ same
+fault-reached A B around mode trail other old new fault.NoMemory same is = (is.0, subst (λ all. Covers all new) same is.1)
 
 -- ---- both paths
 
@@ -107,7 +108,7 @@ module _ {T : Type 0} (number : T → ℕ) (table : List Row) (pid : ℕ) (s : S
       by : (text : List ℕ) (base : Result (Place ℕ) Errno) → Covers (walk_reach table pid s u text base r) r
       by [] base = covers_refl r
       by (b ∷ path) (Err e) = covers_refl r
-      by (b ∷ path) (Ok base) = covers_after (around_of table pid s) (place_walk (around_of table pid s) u.mode base (b ∷ path)) r
+      by (b ∷ path) (Ok base) = covers_after (around_of table pid s) u.mode (place_walk (around_of table pid s) u.mode base (b ∷ path)) r
 
   covers-second : (first : Result (Option PlaceTarget) Errno) (u : Option PathUse) (r : Reach) → Covers (second_reach table pid s first u r) r
   covers-second (Ok t) u r = covers-path u r

@@ -2,22 +2,22 @@
 use Rattle.std.specs.Prelude.{◌≡◌, ℕ, List, [], ◌∷◌, Option, Some, None, Result, Ok, Err}
 use Rattle.std.specs.Option.{option_map}
 use Rattle.pr_base.specs.declared.errno.Errno.{Errno}
-use Rattle.kr_calls.specs.PathTable.{PathUse, path_at}
-use Rattle.kr_calls.specs.declared.request.Request.{Request}
-use Rattle.kr_tree.specs.declared.place.Place.{Place}
-use Rattle.kr_view.specs.declared.target.Reach.{Reach}
-use Rattle.kr_view.specs.declared.target.Target.{Target}
-use Rattle.kr_view.specs.declared.target.WalkFault.{WalkFault}
-use Rattle.kr_view.specs.declared.target.WalkFault.TheVariants as fault
-use Rattle.kr_view.specs.Answers.{told, target_numbered}
-use Rattle.kr_view.specs.Leads.{numbered}
-use Rattle.kr_view.specs.Reach.{Covers, reach_after}
-use Rattle.kr_view.specs.View.{Row}
-use Rattle.kr_view.specs.Walk.{PlaceTarget, place_walk}
-use Rattle.kr_model.specs.ProcessDirectory.{around_of}
-use Rattle.kr_model.specs.State.{State}
-use Rattle.kr_model.specs.Walks as walks
-use Rattle.kr_model.specs.Walks.{base_of, target_at}
+use Rattle.kr_ops.specs.kr_calls.PathTable.{PathUse, path_at}
+use Rattle.kr_ops.specs.kr_calls.declared.request.Request.{Request}
+use Rattle.kr_ops.specs.kr_tree.declared.place.Place.{Place}
+use Rattle.kr_ops.specs.kr_view.declared.target.Reach.{Reach}
+use Rattle.kr_ops.specs.kr_view.declared.target.Target.{Target}
+use Rattle.kr_ops.specs.kr_view.declared.target.WalkFault.{WalkFault}
+use Rattle.kr_ops.specs.kr_view.declared.target.WalkFault.TheVariants as fault
+use Rattle.kr_ops.specs.kr_view.Answers.{told, target_numbered}
+use Rattle.kr_ops.specs.kr_view.Leads.{numbered}
+use Rattle.kr_ops.specs.kr_view.Reach.{Covers, reach_after}
+use Rattle.kr_ops.specs.kr_view.View.{Row}
+use Rattle.kr_ops.specs.kr_view.Walk.{PlaceTarget, place_walk}
+use Rattle.kr_ops.specs.kr_model.ProcessDirectory.{around_of}
+use Rattle.kr_ops.specs.kr_model.State.{State}
+use Rattle.kr_ops.specs.kr_model.Walks as walks
+use Rattle.kr_ops.specs.kr_model.Walks.{base_of, target_at}
 use Rattle.kr_seen.specs.declared.walks.Targets.{Targets}
 
 -- ---- what is reached
@@ -26,7 +26,7 @@ module _ {X : Type 0} (table : List Row) (pid : ℕ) (s : State ℕ X) where
   -- an empty path isn't walked, and one without a base isn't either
   abbrev pub walk_reach : PathUse → List ℕ → Result (Place ℕ) Errno → Reach → Reach
   walk_reach u [] base r = r
-  walk_reach u (b ∷ path) (Ok base) r = reach_after (around_of table pid s) (place_walk (around_of table pid s) u.mode base (b ∷ path)) r
+  walk_reach u (b ∷ path) (Ok base) r = reach_after (around_of table pid s) u.mode (place_walk (around_of table pid s) u.mode base (b ∷ path)) r
   walk_reach u (b ∷ path) (Err e) r = r
 
   abbrev pub path_reach : Option PathUse → Reach → Reach

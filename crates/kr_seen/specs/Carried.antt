@@ -1,7 +1,7 @@
 -- What the names of places rest on: a state of the code in whose tree a table of mounts stands.
 use Rattle.std.specs.Prelude.{ℕ, List}
-use Rattle.kr_tree.specs.Lawful.{IsSound as IsSoundTree}
-use Rattle.kr_view.specs.View.{Row, StandsIn}
+use Rattle.kr_ops.specs.kr_tree.Lawful.{IsSound as IsSoundTree}
+use Rattle.kr_ops.specs.kr_view.View.{Row, StandsIn}
 use Rattle.kr_ops.specs.declared.state.State.{State}
 use Rattle.kr_ops.specs.Sound.{IsSound}
 

@@ -3,14 +3,14 @@
 use Rattle.std.specs.FinMap as map
 use Rattle.std.specs.Prelude.{◌≡◌, ◌≢◌, ℕ, false}
 use Rattle.std.specs.Option.{option_map_or}
-use Rattle.rv_mem.specs.Actions.{CarriedOut, carried_out}
-use Rattle.rv_mem.specs.Memory.{Memory}
-use Rattle.kr_model.specs.Applied.{Mounts, all_applied, images, with_image, with_living}
-use Rattle.kr_model.specs.Known.{Known, known}
-use Rattle.kr_model.specs.Reply.{Reply, Replying}
-use Rattle.kr_model.specs.State as model
-use Rattle.kr_model.specs.declared.outcome.Outcome.{Outcome}
-use Rattle.kr_model.specs.declared.outcome.Outcome.TheVariants.{NoMemory}
+use Rattle.kr_ops.specs.rv_mem.Actions.{CarriedOut, carried_out}
+use Rattle.kr_ops.specs.rv_mem.Memory.{Memory}
+use Rattle.kr_ops.specs.kr_model.Applied.{Mounts, all_applied, images, with_image, with_living}
+use Rattle.kr_ops.specs.kr_model.Known.{Known, known}
+use Rattle.kr_ops.specs.kr_model.Reply.{Reply, Replying}
+use Rattle.kr_ops.specs.kr_model.State as model
+use Rattle.kr_ops.specs.kr_model.declared.outcome.Outcome.{Outcome}
+use Rattle.kr_ops.specs.kr_model.declared.outcome.Outcome.TheVariants.{NoMemory}
 use Rattle.kr_ops.specs.declared.state.State.{State}
 use Rattle.kr_ops.specs.Meaning.{meaning}
 

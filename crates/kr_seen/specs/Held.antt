@@ -1,7 +1,7 @@
 -- What a view of the process directory keeps.
 use Rattle.std.specs.Prelude.{ℕ, List}
-use Rattle.kr_tree.specs.declared.place.Place.{Place}
-use Rattle.kr_view.specs.View.{Row}
+use Rattle.kr_ops.specs.kr_tree.declared.place.Place.{Place}
+use Rattle.kr_ops.specs.kr_view.View.{Row}
 use Rattle.kr_ops.specs.declared.state.State.{State}
 use Rattle.kr_ops.specs.Meaning.{meaning}
 use Rattle.kr_seen.specs.Shown.{Shown}

@@ -1,12 +1,12 @@
 -- What the process directory over a state in code is to the definition, which tells mounts by their numbers.
 use Rattle.std.specs.Prelude.{◌≡◌, ◌≤◌, ◌^◌, ℕ}
-use Rattle.kr_tree.specs.declared.place.ProcAt.{ProcAt}
-use Rattle.kr_view.specs.InTree.{LeadToPlaces}
-use Rattle.kr_view.specs.Leads.{numbered, lead_numbered}
-use Rattle.kr_view.specs.Processes.{LawsOfProcesses}
-use Rattle.kr_view.specs.View.{root_place}
-use Rattle.kr_model.specs.Lawful.{IsLawful}
-use Rattle.kr_model.specs.ProcessDirectory.{space_of, leads_of, link_text}
+use Rattle.kr_ops.specs.kr_tree.declared.place.ProcAt.{ProcAt}
+use Rattle.kr_ops.specs.kr_view.InTree.{LeadToPlaces}
+use Rattle.kr_ops.specs.kr_view.Leads.{numbered, lead_numbered}
+use Rattle.kr_ops.specs.kr_view.Processes.{LawsOfProcesses}
+use Rattle.kr_ops.specs.kr_view.View.{root_place}
+use Rattle.kr_ops.specs.kr_model.Lawful.{IsLawful}
+use Rattle.kr_ops.specs.kr_model.ProcessDirectory.{space_of, leads_of, link_text}
 use Rattle.kr_seen.specs.Numbered.{state_numbered}
 use Rattle.kr_seen.specs.Shown.{Shown, finds_in, space_in, leads_in, texts_in}
 

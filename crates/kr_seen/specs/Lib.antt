@@ -1,4 +1,13 @@
-pub use Rattle.kr_model.specs as kr_model
+pub use Rattle.pr_base.specs as pr_base
+pub use Rattle.kr_ops.specs.rv_mem as rv_mem
+pub use Rattle.kr_ops.specs.kr_inode as kr_inode
+pub use Rattle.kr_ops.specs.kr_tree as kr_tree
+pub use Rattle.kr_ops.specs.kr_view as kr_view
+pub use Rattle.kr_ops.specs.kr_procfs as kr_procfs
+pub use Rattle.kr_ops.specs.kr_files as kr_files
+pub use Rattle.kr_ops.specs.kr_calls as kr_calls
+pub use Rattle.kr_ops.specs.kr_model as kr_model
+pub use Rattle.kr_ops.specs as kr_ops
 pub mod Carried
 pub mod Held
 pub mod Laws

@@ -2,10 +2,10 @@
 use Rattle.std.specs.Prelude.{ℕ, map as map_list}
 use Rattle.std.specs.Option.{option_map}
 use Rattle.pr_base.specs.Maps.{mapped}
-use Rattle.kr_view.specs.Leads.{numbered}
-use Rattle.kr_files.specs.declared.opened.Opened.{Opened}
-use Rattle.kr_files.specs.Files.{Counted, Table}
-use Rattle.kr_model.specs.State.{Process, State}
+use Rattle.kr_ops.specs.kr_view.Leads.{numbered}
+use Rattle.kr_ops.specs.kr_files.declared.opened.Opened.{Opened}
+use Rattle.kr_ops.specs.kr_files.Files.{Counted, Table}
+use Rattle.kr_ops.specs.kr_model.State.{Process, State}
 
 module _ {T : Type 0} (number : T → ℕ) where
   abbrev pub opened_numbered : Opened T → Opened ℕ

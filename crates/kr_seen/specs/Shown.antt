@@ -3,20 +3,20 @@
 use Rattle.std.specs.Prelude.{ℕ, List, [], Option, Some, None, if◌then◌else◌}
 use Rattle.std.specs.Fmt.{decimal}
 use Rattle.std.specs.Option.{option_map_or}
-use Rattle.kr_tree.specs.declared.place.Place.{Place}
-use Rattle.kr_tree.specs.declared.place.ProcAt.{ProcAt}
-use Rattle.kr_tree.specs.declared.place.ProcAt.TheVariants.{SelfLink, Dir, Cwd, Root, Exe, FdDir, Fd}
-use Rattle.kr_view.specs.declared.procs.Lead.{Lead}
-use Rattle.kr_view.specs.declared.procs.Lead.TheVariants.{Text, Jump, Nameless, NoLink}
-use Rattle.kr_view.specs.View.{Row, is_there}
-use Rattle.kr_view.specs.Component.{Finds, Namespace}
-use Rattle.kr_view.specs.Leads.{numbered}
-use Rattle.kr_view.specs.Living.{finds_among}
-use Rattle.kr_view.specs.Names.{guest_name}
-use Rattle.kr_files.specs.declared.opened.Opened.{Opened}
-use Rattle.kr_files.specs.declared.opened.What.{What}
-use Rattle.kr_model.specs.ProcessDirectory.{living_of, remembered, name_text, space_of, unplaced_text}
-use Rattle.kr_model.specs.State.{Image, Process, State, process, opened}
+use Rattle.kr_ops.specs.kr_tree.declared.place.Place.{Place}
+use Rattle.kr_ops.specs.kr_tree.declared.place.ProcAt.{ProcAt}
+use Rattle.kr_ops.specs.kr_tree.declared.place.ProcAt.TheVariants.{SelfLink, Dir, Cwd, Root, Exe, FdDir, Fd}
+use Rattle.kr_ops.specs.kr_view.declared.procs.Lead.{Lead}
+use Rattle.kr_ops.specs.kr_view.declared.procs.Lead.TheVariants.{Text, Jump, Nameless, NoLink}
+use Rattle.kr_ops.specs.kr_view.View.{Row, is_there}
+use Rattle.kr_ops.specs.kr_view.Component.{Finds, Namespace}
+use Rattle.kr_ops.specs.kr_view.Leads.{numbered}
+use Rattle.kr_ops.specs.kr_view.Living.{finds_among}
+use Rattle.kr_ops.specs.kr_view.Names.{guest_name}
+use Rattle.kr_ops.specs.kr_files.declared.opened.Opened.{Opened}
+use Rattle.kr_ops.specs.kr_files.declared.opened.What.{What}
+use Rattle.kr_ops.specs.kr_model.ProcessDirectory.{living_of, remembered, name_text, space_of, unplaced_text}
+use Rattle.kr_ops.specs.kr_model.State.{Image, Process, State, process, opened}
 
 -- a state, the mounts of a view, and where absolute paths begin
 pub record Shown (T : Type 0) : Type 0 where

@@ -1,15 +1,15 @@
 -- Places that have guest names, and what a link leads to in a lawful state.
 use Rattle.std.specs.Prelude.{◌≡◌, ℕ, Bool, true, false, List}
-use Rattle.kr_tree.specs.declared.place.Host.{Host}
-use Rattle.kr_tree.specs.declared.place.Host.TheVariants.{Node, Proc}
-use Rattle.kr_tree.specs.declared.place.Place.{Place}
-use Rattle.kr_tree.specs.declared.place.ProcAt.{ProcAt}
-use Rattle.kr_tree.specs.declared.place.ProcAt.TheVariants.{SelfLink, Dir, Cwd, Root, Exe, FdDir, Fd}
-use Rattle.kr_tree.specs.Tree.{Tree}
-use Rattle.kr_view.specs.Component.{Namespace, is_process_directory, is_shown}
-use Rattle.kr_view.specs.InTree.{IsPlaceOf}
-use Rattle.kr_view.specs.Leads.{numbered}
-use Rattle.kr_view.specs.View.{Row}
+use Rattle.kr_ops.specs.kr_tree.declared.place.Host.{Host}
+use Rattle.kr_ops.specs.kr_tree.declared.place.Host.TheVariants.{Node, Proc}
+use Rattle.kr_ops.specs.kr_tree.declared.place.Place.{Place}
+use Rattle.kr_ops.specs.kr_tree.declared.place.ProcAt.{ProcAt}
+use Rattle.kr_ops.specs.kr_tree.declared.place.ProcAt.TheVariants.{SelfLink, Dir, Cwd, Root, Exe, FdDir, Fd}
+use Rattle.kr_ops.specs.kr_tree.Tree.{Tree}
+use Rattle.kr_ops.specs.kr_view.Component.{Namespace, is_process_directory, is_shown}
+use Rattle.kr_ops.specs.kr_view.InTree.{IsPlaceOf}
+use Rattle.kr_ops.specs.kr_view.Leads.{numbered}
+use Rattle.kr_ops.specs.kr_view.View.{Row}
 use Rattle.kr_seen.specs.Shown.{Target, Nothing, Unplaced, At}
 
 -- of what is in the process directory only directories have guest names

@@ -1,7 +1,7 @@
 -- What links lead to, in code.
 use Rattle.std.specs.Prelude.{ℕ}
 use Rattle.std.specs.Option.{option_map_or}
-use Rattle.kr_model.specs.State.{Image, Process, State, opened, process}
+use Rattle.kr_ops.specs.kr_model.State.{Image, Process, State, opened, process}
 use Rattle.kr_seen.specs.Shown.{Target, Nothing, Unplaced, At, opened_target}
 use Rattle.kr_seen.specs.declared.target.Target.{Target as Held}
 use Rattle.kr_seen.specs.declared.target.Target.TheVariants as held

@@ -1,9 +1,9 @@
 //! What calls of a guest answer.
 ghost use Rattle.std.specs.Prelude.{◌≡◌, pos};
-ghost use Rattle.kr_model.specs.Reply.{refusal};
-ghost use Rattle.kr_model.specs.declared.outcome.Outcome.TheVariants.{Answer};
+ghost use Rattle.kr_ops.specs.kr_model.Reply.{refusal};
+ghost use Rattle.kr_ops.specs.kr_model.declared.outcome.Outcome.TheVariants.{Answer};
 
-use kr_model::Outcome;
+use kr_ops::below::Outcome;
 use pr_base::Errno;
 
 /// A refused call answers the negated number of the error.

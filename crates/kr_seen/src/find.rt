@@ -1,15 +1,14 @@
 //! What names in the process directory stand for.
 ghost use Rattle.std.specs.Prelude.{◌≡◌, ◌<◌, ◌^◌, Some, None, bytes_eq, codes};
-ghost use Rattle.kr_tree.specs.declared.place.ProcAt.TheVariants as at;
-ghost use Rattle.kr_view.specs.Living.{finds_among, in_directory};
-ghost use Rattle.kr_model.specs.ProcessDirectory.{living_of};
+ghost use Rattle.kr_ops.specs.kr_tree.declared.place.ProcAt.TheVariants as at;
+ghost use Rattle.kr_ops.specs.kr_view.Living.{finds_among, in_directory};
+ghost use Rattle.kr_ops.specs.kr_model.ProcessDirectory.{living_of};
 ghost use Rattle.kr_ops.specs.Meaning.{meaning};
 ghost use Rattle.kr_ops.specs.Sound.{IsSound};
 
 use crate::target::lives;
 use kr_ops::State;
-use kr_procfs::number_of;
-use kr_tree::ProcAt;
+use kr_ops::below::{ProcAt, number_of};
 
 /// What a name stands for in the process directory of a state or in one of its directories; `None` exactly where there is
 /// no such name.

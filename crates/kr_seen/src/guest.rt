@@ -2,13 +2,13 @@
 ghost use Rattle.std.specs.Prelude.{◌≡◌, ℕ, List, IfOk, true};
 ghost use Rattle.std.specs.Option.{option_map};
 ghost use Rattle.pr_base.specs.Paths.{text_of};
-ghost use Rattle.kr_tree.specs.declared.place.Host.TheVariants.{Proc};
-ghost use Rattle.kr_tree.specs.Tree.{body_is};
-ghost use Rattle.kr_view.specs.Component.{is_process_directory, is_processes};
-ghost use Rattle.kr_view.specs.Leads.{numbered};
-ghost use Rattle.kr_view.specs.Names.{guest_node};
-ghost use Rattle.kr_view.specs.View.{Row, is_there, row};
-ghost use Rattle.kr_model.specs.ProcessDirectory.{name_text, space_of, unplaced_text};
+ghost use Rattle.kr_ops.specs.kr_tree.declared.place.Host.TheVariants.{Proc};
+ghost use Rattle.kr_ops.specs.kr_tree.Tree.{body_is};
+ghost use Rattle.kr_ops.specs.kr_view.Component.{is_process_directory, is_processes};
+ghost use Rattle.kr_ops.specs.kr_view.Leads.{numbered};
+ghost use Rattle.kr_ops.specs.kr_view.Names.{guest_node};
+ghost use Rattle.kr_ops.specs.kr_view.View.{Row, is_there, row};
+ghost use Rattle.kr_ops.specs.kr_model.ProcessDirectory.{name_text, space_of, unplaced_text};
 ghost use Rattle.kr_ops.specs.Meaning.{meaning};
 ghost use Rattle.kr_ops.specs.Sound.{IsSound};
 ghost use Rattle.kr_seen.specs.Carried.{CarriesMounts};
@@ -18,11 +18,8 @@ ghost use Rattle.kr_seen.specs.Targets.{target_told};
 
 use crate::name::text_below;
 use crate::target::{Target, lives};
-use kr_files::What;
 use kr_ops::State;
-use kr_procfs::pipe_text;
-use kr_tree::{Host, Ino, Place, ProcAt};
-use kr_view::{Lead, Places, guest_name};
+use kr_ops::below::{Host, Ino, Lead, Place, Places, ProcAt, What, guest_name, pipe_text};
 use pr_base::{Bytes, NoMemory};
 use std::alloc::Global;
 

@@ -3,6 +3,7 @@
 #![tactic(auto)]
 
 mod answers;
+pub mod below;
 pub mod find;
 pub mod guest;
 pub mod laws;

@@ -2,11 +2,10 @@
 ghost use Rattle.std.specs.Prelude.{◌≡◌, ◌∷◌, ◌++◌, ℕ, List, codes, true, IfOk};
 ghost use Rattle.std.specs.Fmt.{decimal};
 ghost use Rattle.pr_base.specs.Paths.{below_root, text_of, AreNames};
-ghost use Rattle.kr_tree.specs.Names.{process_names};
-ghost use Rattle.kr_view.specs.Component.{is_process_directory};
+ghost use Rattle.kr_ops.specs.kr_tree.Names.{process_names};
+ghost use Rattle.kr_ops.specs.kr_view.Component.{is_process_directory};
 
-use kr_procfs::proc_name;
-use kr_tree::ProcAt;
+use kr_ops::below::{ProcAt, proc_name};
 use pr_base::{Bytes, NoMemory};
 use std::alloc::Global;
 

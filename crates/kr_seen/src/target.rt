@@ -1,14 +1,13 @@
 //! What the links of the process directory lead to.
 ghost use Rattle.std.specs.Prelude.{◌≡◌, [], is_some};
-ghost use Rattle.kr_model.specs.State.{opened, process};
+ghost use Rattle.kr_ops.specs.kr_model.State.{opened, process};
 ghost use Rattle.kr_ops.specs.Meaning.{meaning};
 ghost use Rattle.kr_ops.specs.Sound.{IsSound};
 ghost use Rattle.kr_seen.specs.Targets.{process_target, opened_target_of, target_told};
 ghost use Rattle.kr_seen.specs.Shown.{cwd_target, exe_target, Nothing, At};
 
-use kr_files::What;
 use kr_ops::State;
-use kr_tree::{Ino, Place};
+use kr_ops::below::{Ino, Place, What};
 
 /// What a link of the process directory leads to.
 #[derive(Clone, Copy)]

@@ -1,9 +1,9 @@
 //! The view of the process directory over a state.
 ghost use Rattle.std.specs.Prelude.{◌≡◌, IfOk};
-ghost use Rattle.kr_view.specs.Leads.{numbered};
-ghost use Rattle.kr_view.specs.View.{root_place};
-ghost use Rattle.kr_model.specs.Lawful.{IsLawful};
-ghost use Rattle.kr_model.specs.ProcessDirectory.{name_text};
+ghost use Rattle.kr_ops.specs.kr_view.Leads.{numbered};
+ghost use Rattle.kr_ops.specs.kr_view.View.{root_place};
+ghost use Rattle.kr_ops.specs.kr_model.Lawful.{IsLawful};
+ghost use Rattle.kr_ops.specs.kr_model.ProcessDirectory.{name_text};
 ghost use Rattle.kr_ops.specs.Meaning.{meaning};
 ghost use Rattle.kr_ops.specs.Sound.{IsServed};
 ghost use Rattle.kr_seen.specs.Carried.{CarriesMounts};
@@ -16,10 +16,8 @@ use crate::find::find;
 use crate::guest::{guest_text, lead_to, text_to};
 use crate::target::{Target, cwd_of, exe_of, open_at, root_of};
 use kr_ops::State;
+use kr_ops::below::{Ino, Lead, Place, Places, ProcAt, Procs, proc_name};
 use kr_ops::laws::lawful_states_are_sound;
-use kr_procfs::proc_name;
-use kr_tree::{Ino, Place, ProcAt};
-use kr_view::{Lead, Places, Procs};
 use pr_base::{Bytes, NoMemory};
 use std::alloc::Global;
 use std::marker::Model;
@@ -35,16 +33,16 @@ pub struct ProcView<'a, P: Places, const M: u8> {
 
 impl<'a, P: Places, const M: u8> Model for ProcView<'a, P, M> {
     ghost use Rattle.std.specs.Prelude.{◌≡◌};
-    ghost use Rattle.kr_view.specs.Leads.{numbered};
-    ghost use Rattle.kr_view.specs.View.{is_there, root_place, row};
-    ghost use Rattle.kr_model.specs.Lawful.{IsLawful};
+    ghost use Rattle.kr_ops.specs.kr_view.Leads.{numbered};
+    ghost use Rattle.kr_ops.specs.kr_view.View.{is_there, root_place, row};
+    ghost use Rattle.kr_ops.specs.kr_model.Lawful.{IsLawful};
     ghost use Rattle.kr_ops.specs.Meaning.{meaning};
     ghost use Rattle.kr_ops.specs.Sound.{IsServed};
     ghost use Rattle.std.specs.Coded.{codes};
-    ghost use Rattle.rv_mem.specs.Memory.{memory_code};
-    ghost use Rattle.kr_tree.specs.Tree.{tree_code};
-    ghost use Rattle.kr_files.specs.Descriptors.{descriptors_code};
-    ghost use Rattle.kr_files.specs.Files.{kept_code};
+    ghost use Rattle.kr_ops.specs.rv_mem.Memory.{memory_code};
+    ghost use Rattle.kr_ops.specs.kr_tree.Tree.{tree_code};
+    ghost use Rattle.kr_ops.specs.kr_files.Descriptors.{descriptors_code};
+    ghost use Rattle.kr_ops.specs.kr_files.Files.{kept_code};
     ghost use Rattle.kr_seen.specs.Held.{Held};
 
     ghost Value = { Held P.Mount M };

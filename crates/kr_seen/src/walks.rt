@@ -1,25 +1,24 @@
 //! Where the paths of a call lead: each from its base, in the way that its call looks it up.
 ghost use Rattle.std.specs.Prelude.{◌≡◌, ℕ, List, Some, IsSome};
 ghost use Rattle.std.specs.Option.{option_map};
-ghost use Rattle.kr_calls.specs.PathTable.{path_use};
-ghost use Rattle.kr_view.specs.View.{Row};
-ghost use Rattle.kr_model.specs.Applied.{cwd_of};
-ghost use Rattle.kr_model.specs.Asking.{descriptor_number, is_working_directory};
-ghost use Rattle.kr_model.specs.Lawful.{IsLawful};
-ghost use Rattle.kr_model.specs.State.{process};
-ghost use Rattle.kr_model.specs.Walks.{base_of, place_of_descriptor, target_at, targets_of};
+ghost use Rattle.kr_ops.specs.kr_calls.PathTable.{path_use};
+ghost use Rattle.kr_ops.specs.kr_view.View.{Row};
+ghost use Rattle.kr_ops.specs.kr_model.Applied.{cwd_of};
+ghost use Rattle.kr_ops.specs.kr_model.Asking.{descriptor_number, is_working_directory};
+ghost use Rattle.kr_ops.specs.kr_model.Lawful.{IsLawful};
+ghost use Rattle.kr_ops.specs.kr_model.State.{process};
+ghost use Rattle.kr_ops.specs.kr_model.Walks.{base_of, place_of_descriptor, target_at, targets_of};
 ghost use Rattle.kr_ops.specs.Meaning.{meaning};
 ghost use Rattle.kr_ops.specs.Sound.{IsServed, IsSound};
 ghost use Rattle.kr_seen.specs.Numbered.{state_numbered};
 ghost use Rattle.kr_seen.specs.CallWalks.{call_reach, path_reach, AreTargets, IsBase, IsReachedTo, IsTarget};
 
 use crate::view::procs;
-use kr_calls::{PathArg, Request, path_of};
-use kr_files::What;
 use kr_ops::State;
+use kr_ops::below::{
+    PathArg, Place, Places, Reach, Request, Target, WalkFault, What, path_of, resolve,
+};
 use kr_ops::laws::lawful_states_are_sound;
-use kr_tree::Place;
-use kr_view::{Places, Reach, Target, WalkFault, resolve};
 use pr_base::{Errno, components};
 use std::alloc::Global;
 

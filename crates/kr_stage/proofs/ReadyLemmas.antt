@@ -6,24 +6,24 @@ use Rattle.std.proofs.lemmas.List.{length-map}
 use Rattle.pr_base.specs.declared.bind.Bind.{Bind}
 use Rattle.pr_base.specs.declared.bind.Bound.{Bound}
 use Rattle.pt_bind.specs.Binding.{row_of, rows_of}
-use Rattle.kr_inode.specs.declared.user.User.{User}
+use Rattle.kr_tree.specs.kr_inode.declared.user.User.{User}
 use Rattle.kr_tree.specs.Lawful.{HasItsInodes, IsKept}
 use Rattle.kr_tree.specs.Tree.{Tree, Inode, inode}
-use Rattle.kr_text.specs.Drawn.{IsDrawn}
-use Rattle.kr_view.specs.Processes.{no_finds}
-use Rattle.kr_view.specs.View.{Row}
-use Rattle.kr_mounts.specs.Bounds.{AreNumbered}
-use Rattle.kr_mounts.specs.Growth.{IsGrown}
-use Rattle.kr_mounts.specs.MountTable.{settling}
-use Rattle.kr_mounts.specs.Standing.{IsSettledIn, texts_of}
-use Rattle.kr_mounts.specs.Stored.{row_of_mount, table_of}
-use Rattle.kr_mounts.specs.Ways.{HasNumbers}
-use Rattle.kr_mounts.specs.declared.mount.Mount.{Mount}
-use Rattle.kr_mounts.proofs.BeforeLemmas.{grown_trees_have_all_before}
-use Rattle.kr_mounts.proofs.LeadLemmas.{settled_mounts_stand}
-use Rattle.kr_allowed.proofs.SourceLemmas.{settled-are-named}
-use Rattle.kr_listed.proofs.GrownLemmas.{grown-last}
-use Rattle.kr_listed.proofs.ReadLemmas.{read-last}
+use Rattle.kr_start.specs.kr_text.Drawn.{IsDrawn}
+use Rattle.walks_agree.specs.kr_view.Processes.{no_finds}
+use Rattle.walks_agree.specs.kr_view.View.{Row}
+use Rattle.walks_agree.specs.kr_mounts.Bounds.{AreNumbered}
+use Rattle.walks_agree.specs.kr_mounts.Growth.{IsGrown}
+use Rattle.walks_agree.specs.kr_mounts.MountTable.{settling}
+use Rattle.walks_agree.specs.kr_mounts.Standing.{IsSettledIn, texts_of}
+use Rattle.walks_agree.specs.kr_mounts.Stored.{row_of_mount, table_of}
+use Rattle.walks_agree.specs.kr_mounts.Ways.{HasNumbers}
+use Rattle.walks_agree.specs.kr_mounts.declared.mount.Mount.{Mount}
+use Rattle.walks_agree.proofs.kr_mounts.BeforeLemmas.{grown_trees_have_all_before}
+use Rattle.walks_agree.proofs.kr_mounts.LeadLemmas.{settled_mounts_stand}
+use Rattle.kr_start.proofs.kr_allowed.SourceLemmas.{settled-are-named}
+use Rattle.kr_start.proofs.kr_listed.GrownLemmas.{grown-last}
+use Rattle.kr_start.proofs.kr_listed.ReadLemmas.{read-last}
 use Rattle.kr_start.specs.Start.{HasNoHolds}
 use Rattle.walks_agree.specs.Settled.{IsSettled}
 use Rattle.walks_agree.specs.Start.{SettledBindingsAreSettled}

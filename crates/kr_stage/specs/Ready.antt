@@ -1,17 +1,17 @@
 -- What a kernel asks of the tree, the user and the mounts on which it begins.
 use Rattle.std.specs.Prelude.{◌≡◌, ◌<◌, ◌^◌, ℕ, List, length, Result, Ok, Err}
-use Rattle.kr_inode.specs.declared.user.User.{User}
+use Rattle.kr_tree.specs.kr_inode.declared.user.User.{User}
 use Rattle.kr_tree.specs.Tree.{Tree}
-use Rattle.kr_text.specs.Drawn.{IsDrawn}
-use Rattle.kr_text.specs.Reading.{listing_of}
-use Rattle.kr_view.specs.Processes.{no_finds}
-use Rattle.kr_view.specs.View.{Row, StandsIn}
-use Rattle.kr_mounts.specs.MountTable.{Settling}
-use Rattle.kr_mounts.specs.Stored.{table_of}
-use Rattle.kr_mounts.specs.declared.fault.BindFault.{BindFault}
-use Rattle.kr_mounts.specs.declared.fault.BindFault.TheVariants.{Bad, NoMemory}
-use Rattle.kr_allowed.specs.Told.{SourcesAreNamed}
-use Rattle.kr_listed.specs.Beginning.{CanLast}
+use Rattle.kr_start.specs.kr_text.Drawn.{IsDrawn}
+use Rattle.kr_start.specs.kr_text.Reading.{listing_of}
+use Rattle.walks_agree.specs.kr_view.Processes.{no_finds}
+use Rattle.walks_agree.specs.kr_view.View.{Row, StandsIn}
+use Rattle.walks_agree.specs.kr_mounts.MountTable.{Settling}
+use Rattle.walks_agree.specs.kr_mounts.Stored.{table_of}
+use Rattle.walks_agree.specs.kr_mounts.declared.fault.BindFault.{BindFault}
+use Rattle.walks_agree.specs.kr_mounts.declared.fault.BindFault.TheVariants.{Bad, NoMemory}
+use Rattle.kr_start.specs.kr_allowed.Told.{SourcesAreNamed}
+use Rattle.kr_start.specs.kr_listed.Beginning.{CanLast}
 use Rattle.kr_start.specs.Start.{HasNoHolds}
 use Rattle.walks_agree.specs.Settled.{IsSettled}
 use Rattle.kr_stage.specs.declared.stage.Stage.{Stage}

@@ -1,19 +1,19 @@
 //! A tree with its user, and the mounts that stand in it.
 ghost use Rattle.std.specs.Prelude.{◌≡◌, IfOk};
 ghost use Rattle.pt_bind.specs.Binding.{rows_of};
-ghost use Rattle.kr_mounts.specs.Bounds.{AreNumbered};
-ghost use Rattle.kr_mounts.specs.MountTable.{settling};
-ghost use Rattle.kr_mounts.specs.Standing.{texts_of};
-ghost use Rattle.kr_mounts.specs.Stored.{table_of};
+ghost use Rattle.walks_agree.specs.kr_mounts.Bounds.{AreNumbered};
+ghost use Rattle.walks_agree.specs.kr_mounts.MountTable.{settling};
+ghost use Rattle.walks_agree.specs.kr_mounts.Standing.{texts_of};
+ghost use Rattle.walks_agree.specs.kr_mounts.Stored.{table_of};
 ghost use Rattle.kr_stage.specs.Ready.{IsOfListing, IsReady, IsStaged};
 
-use kr_listed::laws::read_trees_last;
-use kr_mounts::{BindFault, Mounted, settle};
+use kr_start::below::read_trees_last;
 use kr_tree::laws::trees_are_kept;
 use kr_tree::{Tree, User};
 use pr_base::Bind;
 use pt_bind::Table;
 use std::alloc::Global;
+use walks_agree::below::{BindFault, Mounted, settle};
 use walks_agree::start::settled_bindings_are_settled;
 
 /// More mounts than this have no numbers in a kernel.

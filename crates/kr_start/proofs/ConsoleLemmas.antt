@@ -5,18 +5,18 @@ use Rattle.std.specs.Prelude.{nat_lt, is_some}
 use Rattle.std.specs.Option.{option_map, option_and_then}
 use Rattle.std.proofs.lemmas.Bool.Decides.{nat_tests}
 use Rattle.std.proofs.lemmas.Option.{same_Some}
-use Rattle.pr_base.proofs.MapLemmas.{by_key, get-insert_same, get-insert_other}
-use Rattle.kr_view.specs.View.{Row}
-use Rattle.kr_files.specs.declared.opened.Opened.{Opened}
-use Rattle.kr_files.specs.declared.opened.What.{What}
-use Rattle.kr_files.specs.Descriptors.{Meanings, Named, lowest_free, IsLowestFree}
-use Rattle.kr_files.proofs.DescriptorLemmas.{lowest_free-some, lowest_free-none}
-use Rattle.kr_model.specs.Applied.{open_in}
-use Rattle.kr_model.specs.Change.{OfFound}
-use Rattle.kr_model.specs.Lawful.{IsLawful}
-use Rattle.kr_model.specs.State.{Image, Process, State, process, is_pid, at_pid, with_descs}
-use Rattle.kr_lawful.proofs.AfterLemmas.{some-of}
-use Rattle.kr_lawful.proofs.ProcessChangeLemmas.{found, found-passes}
+use Rattle.elf_load.proofs.pr_base.MapLemmas.{by_key, get-insert_same, get-insert_other}
+use Rattle.kr_listed.specs.kr_view.View.{Row}
+use Rattle.kr_ops.specs.kr_files.declared.opened.Opened.{Opened}
+use Rattle.kr_ops.specs.kr_files.declared.opened.What.{What}
+use Rattle.kr_ops.specs.kr_files.Descriptors.{Meanings, Named, lowest_free, IsLowestFree}
+use Rattle.kr_ops.proofs.kr_files.DescriptorLemmas.{lowest_free-some, lowest_free-none}
+use Rattle.kr_ops.specs.kr_model.Applied.{open_in}
+use Rattle.kr_ops.specs.kr_model.Change.{OfFound}
+use Rattle.kr_ops.specs.kr_model.Lawful.{IsLawful}
+use Rattle.kr_ops.specs.kr_model.State.{Image, Process, State, process, is_pid, at_pid, with_descs}
+use Rattle.kr_ops.proofs.kr_lawful.AfterLemmas.{some-of}
+use Rattle.kr_ops.proofs.kr_lawful.ProcessChangeLemmas.{found, found-passes}
 use Rattle.kr_ops.specs.declared.state.State as code
 use Rattle.kr_ops.specs.Meaning.{meaning}
 use Rattle.kr_ops.specs.Opening.{lowest_of, Opens}

@@ -2,14 +2,14 @@
 use Rattle.std.proofs.Common.{◌≡◌, ℕ, ◌<◌, ◌^◌, Bool, true, false, List, [], ◌∷◌, ap, arith}
 use Rattle.std.specs.Prelude.{◌==◌}
 use Rattle.std.specs.Bool.{if◌then◌else◌}
-use Rattle.kr_tree.specs.Changes.{held}
-use Rattle.kr_tree.specs.Holds.{holds_at}
-use Rattle.kr_tree.specs.Tree.{Tree}
-use Rattle.kr_view.specs.View.{Row}
-use Rattle.kr_files.specs.Files.{Table}
-use Rattle.kr_model.specs.State.{Image, State, inode_of}
-use Rattle.kr_allowed.specs.Lasting.{Lasts}
-use Rattle.kr_allowed.proofs.TreeLemmas.{TreeLasts, held-lasts}
+use Rattle.kr_listed.specs.kr_tree.Changes.{held}
+use Rattle.kr_listed.specs.kr_tree.Holds.{holds_at}
+use Rattle.kr_listed.specs.kr_tree.Tree.{Tree}
+use Rattle.kr_listed.specs.kr_view.View.{Row}
+use Rattle.kr_ops.specs.kr_files.Files.{Table}
+use Rattle.kr_ops.specs.kr_model.State.{Image, State, inode_of}
+use Rattle.kr_listed.specs.kr_allowed.Lasting.{Lasts}
+use Rattle.kr_listed.proofs.kr_allowed.TreeLemmas.{TreeLasts, held-lasts}
 use Rattle.kr_listed.specs.Beginning.{CanLast}
 use Rattle.kr_listed.proofs.TreeLemmas.{lasts-of, can-last}
 use Rattle.kr_start.specs.Laws.{StartsLast}

@@ -1,23 +1,23 @@
 -- The state in which a run begins: a tree in which the sources of the mounts are held, the console, and one process.
 use Rattle.std.specs.FinMap as map
 use Rattle.std.specs.Prelude.{◌≡◌, ℕ, ◌≤◌, ◌==◌, ◌+◌, nat_lt, is_some, IsSome, Bool, true, false, List, [], ◌∷◌, None, if◌then◌else◌}
-use Rattle.kr_inode.specs.declared.user.User.{User}
-use Rattle.kr_tree.specs.Tree.{Tree}
-use Rattle.kr_tree.specs.Changes.{held}
-use Rattle.kr_tree.specs.Holds.{holds_at}
-use Rattle.kr_tree.specs.declared.place.Place.{Place}
-use Rattle.kr_view.specs.View.{Row}
-use Rattle.kr_view.specs.Component.{is_directory_at}
-use Rattle.kr_view.specs.InTree.{IsPlaceOf}
-use Rattle.kr_view.specs.Leads.{numbered}
-use Rattle.kr_files.specs.Files.{empty_table}
-use Rattle.kr_files.specs.declared.opened.Opened.{Opened}
-use Rattle.kr_files.specs.declared.opened.What.{What}
-use Rattle.kr_files.specs.declared.opened.What.TheVariants.{In, Out, Err}
-use Rattle.kr_model.specs.Applied.{open_in}
-use Rattle.kr_model.specs.Lawful.{IsLawful, IsNameOrNone, is_file_at}
-use Rattle.kr_model.specs.MemoryRows.{pages_end}
-use Rattle.kr_model.specs.State.{Image, Process, State, inode_of, process, named}
+use Rattle.kr_listed.specs.kr_inode.declared.user.User.{User}
+use Rattle.kr_listed.specs.kr_tree.Tree.{Tree}
+use Rattle.kr_listed.specs.kr_tree.Changes.{held}
+use Rattle.kr_listed.specs.kr_tree.Holds.{holds_at}
+use Rattle.kr_listed.specs.kr_tree.declared.place.Place.{Place}
+use Rattle.kr_listed.specs.kr_view.View.{Row}
+use Rattle.kr_listed.specs.kr_view.Component.{is_directory_at}
+use Rattle.kr_listed.specs.kr_view.InTree.{IsPlaceOf}
+use Rattle.kr_listed.specs.kr_view.Leads.{numbered}
+use Rattle.kr_ops.specs.kr_files.Files.{empty_table}
+use Rattle.kr_ops.specs.kr_files.declared.opened.Opened.{Opened}
+use Rattle.kr_ops.specs.kr_files.declared.opened.What.{What}
+use Rattle.kr_ops.specs.kr_files.declared.opened.What.TheVariants.{In, Out, Err}
+use Rattle.kr_ops.specs.kr_model.Applied.{open_in}
+use Rattle.kr_ops.specs.kr_model.Lawful.{IsLawful, IsNameOrNone, is_file_at}
+use Rattle.kr_ops.specs.kr_model.MemoryRows.{pages_end}
+use Rattle.kr_ops.specs.kr_model.State.{Image, Process, State, inode_of, process, named}
 use Rattle.kr_ops.specs.declared.state.State as code
 use Rattle.kr_ops.specs.Meaning.{meaning}
 use Rattle.kr_ops.specs.Sound.{IsOfView, IsServed}

@@ -1,27 +1,25 @@
 //! The state in which a run begins: a tree in which the sources of the mounts are held, the console, and one process.
 ghost use Rattle.std.specs.Prelude.{◌≡◌, ◌+◌, ◌<◌, ◌≤◌, ◌^◌, ℕ, suc, List, length, IsSome, IsTrue, IfOk, OnOk, true, false};
-ghost use Rattle.rv_mem.specs.Memory.{page_count};
-ghost use Rattle.kr_tree.specs.declared.place.Host.{Host};
-ghost use Rattle.kr_tree.specs.Tree.{inode};
-ghost use Rattle.kr_tree.specs.Changes.{held};
-ghost use Rattle.kr_tree.specs.Holds.{holds_at};
-ghost use Rattle.kr_view.specs.View.{Row, StandsIn};
-ghost use Rattle.kr_model.specs.Applied.{in_mount, open_in};
-ghost use Rattle.kr_model.specs.Lawful.{IsLawful, IsNameOrNone};
+ghost use Rattle.elf_load.specs.rv_mem.Memory.{page_count};
+ghost use Rattle.kr_listed.specs.kr_tree.declared.place.Host.{Host};
+ghost use Rattle.kr_listed.specs.kr_tree.Tree.{inode};
+ghost use Rattle.kr_listed.specs.kr_tree.Changes.{held};
+ghost use Rattle.kr_listed.specs.kr_tree.Holds.{holds_at};
+ghost use Rattle.kr_listed.specs.kr_view.View.{Row, StandsIn};
+ghost use Rattle.kr_ops.specs.kr_model.Applied.{in_mount, open_in};
+ghost use Rattle.kr_ops.specs.kr_model.Lawful.{IsLawful, IsNameOrNone};
 ghost use Rattle.kr_ops.specs.Meaning.{meaning};
 ghost use Rattle.kr_ops.specs.Sound.{IsOfView, IsServed};
-ghost use Rattle.kr_model.specs.State.{inode_of, process};
+ghost use Rattle.kr_ops.specs.kr_model.State.{inode_of, process};
 ghost use Rattle.kr_start.specs.Start.{console, first_of, first_pid, held_once, is_console, pinned, started, with_console, with_first, without_processes, AreOpenBelow, CanBegin, First, HasNoHolds, IsIdle, IsOpenTo, IsReady};
 
 use elf_load::Image;
-use kr_files::{Descs, Files, FilesRefusal, Opened, What};
+use elf_load::below::pr_base::{Bytes, NoMemory};
+use elf_load::below::rv_mem::{Room, Use};
+use kr_listed::below::{Host, Ino, Place, Places, Tree, User, trees_are_kept};
+use kr_ops::below::{Descs, Files, FilesRefusal, Opened, What};
 use kr_ops::laws::lawful_states_are_sound;
 use kr_ops::{Process, State};
-use kr_tree::laws::trees_are_kept;
-use kr_tree::{Host, Ino, Place, Tree, User};
-use kr_view::Places;
-use pr_base::{Bytes, NoMemory};
-use rv_mem::{Room, Use};
 use std::alloc::Global;
 
 /// The number of the first process, and that of its parent, which never lives.

@@ -1,6 +1,7 @@
 //! The state in which a run begins.
 #![tactic(auto)]
 
+pub mod below;
 mod first;
 pub mod laws;
 

@@ -2,46 +2,45 @@
 pub use Rattle.kr_calling.proofs.CallLemmas.{refused-call, runs-later}
 pub use Rattle.kr_calling.proofs.RefusedLemmas.{walk-refuses}
 use Rattle.std.specs.FinMap as map
-use Rattle.std.proofs.Common.{◌≡◌, ◌+◌, ◌<◌, ◌^◌, ℕ, zero, suc, Bool, cond, List, get_or, Some, None, Option, refl, sym, ap, subst, ◌∙◌, arith}
-use Rattle.std.specs.Prelude.{Result, Ok, Err, IfOk, IfSome, OnOk}
+use Rattle.std.proofs.Common.{◌≡◌, ℕ, zero, suc, Bool, cond, List, get_or, Some, None, Option, refl, sym, ap, subst, ◌∙◌, arith}
+use Rattle.std.specs.Prelude.{Result, Ok, Err, IfOk, OnOk}
 use Rattle.std.specs.Option.{option_map}
 use Rattle.std.specs.Vec.{with_item}
-use Rattle.rv_mem.specs.Layout.{layout_of}
-use Rattle.rv_mem.specs.Memory.{Memory}
-use Rattle.rv_mem.specs.Pages.{Pages, IsPlaced, IsWhole}
-use Rattle.rv_mem.specs.declared.regs.Regs.{Regs}
-use Rattle.rv_mem.specs.Actions.{CarriedOut, carried_out}
+use Rattle.rv_cpu.specs.rv_mem.Layout.{layout_of}
+use Rattle.rv_cpu.specs.rv_mem.Memory.{Memory}
+use Rattle.rv_cpu.specs.rv_mem.Pages.{Pages, IsPlaced, IsWhole}
+use Rattle.rv_cpu.specs.rv_mem.declared.regs.Regs.{Regs}
+use Rattle.rv_cpu.specs.rv_mem.Actions.{CarriedOut, carried_out}
 use Rattle.rv_cpu.specs.Run.{Ran, ran, ran_holding, counted, after_one}
 use Rattle.rv_cpu.specs.Step.{Stepped, step}
 use Rattle.rv_cpu.specs.declared.event.Event.{Event}
 use Rattle.rv_cpu.specs.declared.event.Event.TheVariants.{Next, Call, Killed}
 use Rattle.rv_cpu.specs.declared.reservation.Held.{Held}
-use Rattle.rv_cpu.proofs.CallLemmas.{calls-stand-in-pages}
-use Rattle.kr_calls.specs.Decodes.{Decodes, Gives}
-use Rattle.kr_calls.specs.Decoding.{Decoded, decoding}
-use Rattle.kr_calls.specs.declared.fault.CallFault.{CallFault}
-use Rattle.kr_calls.specs.declared.fault.CallFault.TheVariants as fault
-use Rattle.kr_calls.specs.declared.request.Request.{Request}
-use Rattle.kr_view.specs.View.{Row}
-use Rattle.kr_model.specs.Applied.{with_image, with_living}
-use Rattle.kr_model.specs.Lawful.{IsLawful}
-use Rattle.kr_model.specs.State as model
-use Rattle.kr_lawful.proofs.AfterLemmas.{parts-of}
-use Rattle.kr_lawful.proofs.OwnChangeLemmas.{process-keeps}
-use Rattle.kr_lawful.proofs.ProcessChangeLemmas.{found as found-changed, found-passes, sum-with}
-use Rattle.kr_allowed.specs.Lasting.{Lasts}
-use Rattle.kr_allowed.specs.Allowed.{HoldsBytes}
-use Rattle.kr_allowed.specs.Calls.{HasTextPaths, IsGivable}
-use Rattle.kr_allowed.proofs.DecodedLemmas.{decoded-are-givable}
-use Rattle.kr_allowed.proofs.RowLemmas.{StaysLike, stays-like, lawful-image}
-use Rattle.kr_ops.specs.declared.state.Process.{Process}
-use Rattle.kr_ops.specs.declared.state.State.{State}
-use Rattle.kr_ops.specs.Living.{HasPid}
-use Rattle.kr_ops.specs.Meaning.{meaning, process_meaning}
-use Rattle.kr_ops.specs.Sound.{IsServed, IsSound}
-use Rattle.kr_ops.proofs.ChangeLemmas.{one-changed}
-use Rattle.kr_ops.proofs.OpeningLemmas.{found}
-use Rattle.kr_ops.proofs.ServeLemmas.{kept-names, room-set}
+use Rattle.kr_calling.specs.kr_calls.Decodes.{Decodes, Gives}
+use Rattle.kr_calling.specs.kr_calls.Decoding.{Decoded, decoding}
+use Rattle.kr_calling.specs.kr_calls.declared.fault.CallFault.{CallFault}
+use Rattle.kr_calling.specs.kr_calls.declared.fault.CallFault.TheVariants as fault
+use Rattle.kr_calling.specs.kr_calls.declared.request.Request.{Request}
+use Rattle.kr_calling.specs.kr_view.View.{Row}
+use Rattle.kr_calling.specs.kr_model.Applied.{with_image, with_living}
+use Rattle.kr_calling.specs.kr_model.Lawful.{IsLawful}
+use Rattle.kr_calling.specs.kr_model.State as model
+use Rattle.kr_calling.proofs.kr_lawful.AfterLemmas.{parts-of}
+use Rattle.kr_calling.proofs.kr_lawful.OwnChangeLemmas.{process-keeps}
+use Rattle.kr_calling.proofs.kr_lawful.ProcessChangeLemmas.{found as found-changed, found-passes, sum-with}
+use Rattle.kr_calling.specs.kr_allowed.Lasting.{Lasts}
+use Rattle.kr_calling.specs.kr_allowed.Allowed.{HoldsBytes}
+use Rattle.kr_calling.specs.kr_allowed.Calls.{HasTextPaths, IsGivable}
+use Rattle.kr_calling.proofs.kr_allowed.DecodedLemmas.{decoded-are-givable}
+use Rattle.kr_calling.proofs.kr_allowed.RowLemmas.{StaysLike, stays-like, lawful-image}
+use Rattle.kr_calling.specs.kr_ops.declared.state.Process.{Process}
+use Rattle.kr_calling.specs.kr_ops.declared.state.State.{State}
+use Rattle.kr_calling.specs.kr_ops.Living.{HasPid}
+use Rattle.kr_calling.specs.kr_ops.Meaning.{meaning, process_meaning}
+use Rattle.kr_calling.specs.kr_ops.Sound.{IsServed, IsSound}
+use Rattle.kr_calling.proofs.kr_ops.ChangeLemmas.{one-changed}
+use Rattle.kr_calling.proofs.kr_ops.OpeningLemmas.{found}
+use Rattle.kr_calling.proofs.kr_ops.ServeLemmas.{kept-names, room-set}
 use Rattle.kr_calling.specs.Operated.{LastsLawful}
 use Rattle.kr_calling.specs.Calling.{Runs}
 use Rattle.kr_steps.specs.Answering.{going}
@@ -171,14 +170,6 @@ module _ {T : Type 0} {M : ℕ} (s : State T M) (pid k : ℕ) (p : Process T M) 
         ∙ found-changed pid f (λ q. refl) pid (meaning s).living
         ∙ ap (option_map (model.at_pid pid f)) lives-at
         ∙ ap (λ b. Some (cond b (f q) q)) (found-passes (model.is_pid pid) (meaning s).living q lives-at)
-
-    -- a call stands in a page, so that there is an address behind it
-    pub behind-call : IsPlaced p.mem.pages → (event : Event) → event ≡ end.event → event ≡ Call
-        → IfSome (model.process pid (meaning (changed_at regs mem p.waits))) (λ q. q.image.regs.pc + 4 < 2 ^ 64)
-    behind-call placed event ends is =
-        let stands = calls-stand-in-pages fuel p.regs p.mem placed (sym ends ∙ is) in
-        let behind : end.regs.pc + 4 < 2 ^ 64 = omega arith in
-        subst (λ (o : Option (model.Process T model.Image)). IfSome o (λ q. q.image.regs.pc + 4 < 2 ^ 64)) (sym changed-here) behind
 
     pub runs-on : (number : T → ℕ) (table : List Row) (calls : ℕ) → Runs number table calls s → Runs number table calls (changed_at regs mem p.waits)
     runs-on number table calls runs = subst (Runs number table calls) (sym same) (image-runs end.regs end.memory (ran-stays-like fuel None p.regs p.mem) number table calls runs)

@@ -1,18 +1,18 @@
 -- What the end of a process leaves of a state.
 use Rattle.std.proofs.Common.{ℕ, suc, None, sym, subst, arith}
 use Rattle.std.specs.Prelude.{Result, Ok, Err, OnOk, IsSome, List, [], ◌∷◌}
-use Rattle.kr_view.specs.View.{Row}
-use Rattle.kr_model.specs.Applied.{Mounts}
-use Rattle.kr_model.specs.Change.{End}
-use Rattle.kr_model.specs.State.{process}
-use Rattle.kr_lawful.proofs.ChangeLemmas.{all-changes-keep}
-use Rattle.kr_lawful.specs.Laws.{CanAllBeMade}
-use Rattle.kr_allowed.specs.Lasting.{AreModest}
-use Rattle.kr_allowed.proofs.ChangeLemmas.{modest-last}
-use Rattle.kr_ops.specs.Making.{Makes}
-use Rattle.kr_ops.specs.Meaning.{meaning}
-use Rattle.kr_ops.specs.Sound.{IsServed}
-use Rattle.kr_ops.specs.declared.state.State.{State}
+use Rattle.kr_calling.specs.kr_view.View.{Row}
+use Rattle.kr_calling.specs.kr_model.Applied.{Mounts}
+use Rattle.kr_calling.specs.kr_model.Change.{End}
+use Rattle.kr_calling.specs.kr_model.State.{process}
+use Rattle.kr_calling.proofs.kr_lawful.ChangeLemmas.{all-changes-keep}
+use Rattle.kr_calling.specs.kr_lawful.Laws.{CanAllBeMade}
+use Rattle.kr_calling.specs.kr_allowed.Lasting.{AreModest}
+use Rattle.kr_calling.proofs.kr_allowed.ChangeLemmas.{modest-last}
+use Rattle.kr_calling.specs.kr_ops.Making.{Makes}
+use Rattle.kr_calling.specs.kr_ops.Meaning.{meaning}
+use Rattle.kr_calling.specs.kr_ops.Sound.{IsServed}
+use Rattle.kr_calling.specs.kr_ops.declared.state.State.{State}
 use Rattle.kr_calling.specs.Operated.{LastsLawful}
 use Rattle.kr_calling.specs.Calling.{Runs}
 

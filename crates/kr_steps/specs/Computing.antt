@@ -1,18 +1,18 @@
 -- Instructions of a process in a state, and the decoding of the call at which it comes to stand.
 use Rattle.std.specs.Prelude.{◌≡◌, ℕ, Some, Result}
-use Rattle.rv_mem.specs.Actions.{carried_out}
-use Rattle.rv_mem.specs.Memory.{Memory}
-use Rattle.rv_mem.specs.declared.regs.Regs.{Regs}
+use Rattle.rv_cpu.specs.rv_mem.Actions.{carried_out}
+use Rattle.rv_cpu.specs.rv_mem.Memory.{Memory}
+use Rattle.rv_cpu.specs.rv_mem.declared.regs.Regs.{Regs}
 use Rattle.rv_cpu.specs.Run.{ran}
 use Rattle.rv_cpu.specs.declared.event.Event.{Event}
-use Rattle.kr_calls.specs.Decodes.{Gives}
-use Rattle.kr_calls.specs.Decoding.{decoding}
-use Rattle.kr_calls.specs.declared.fault.CallFault.{CallFault}
-use Rattle.kr_calls.specs.declared.request.Request.{Request}
-use Rattle.kr_model.specs.Applied.{with_image, with_living}
-use Rattle.kr_model.specs.State as model
-use Rattle.kr_ops.specs.declared.state.State.{State}
-use Rattle.kr_ops.specs.Meaning.{meaning}
+use Rattle.kr_calling.specs.kr_calls.Decodes.{Gives}
+use Rattle.kr_calling.specs.kr_calls.Decoding.{decoding}
+use Rattle.kr_calling.specs.kr_calls.declared.fault.CallFault.{CallFault}
+use Rattle.kr_calling.specs.kr_calls.declared.request.Request.{Request}
+use Rattle.kr_calling.specs.kr_model.Applied.{with_image, with_living}
+use Rattle.kr_calling.specs.kr_model.State as model
+use Rattle.kr_calling.specs.kr_ops.declared.state.State.{State}
+use Rattle.kr_calling.specs.kr_ops.Meaning.{meaning}
 
 -- a process with other registers and another memory
 abbrev pub computed : {T : Type 0} → ℕ → Regs → Memory → model.State T model.Image → model.State T model.Image

@@ -1,12 +1,12 @@
 //! What becomes of the caller of a call.
 ghost use Rattle.std.specs.Prelude.{◌≡◌, ℕ, List};
 ghost use Rattle.kr_calling.specs.Calling.{Runs};
-ghost use Rattle.kr_ops.specs.Meaning.{meaning};
-ghost use Rattle.kr_ops.specs.Sound.{IsSound};
+ghost use Rattle.kr_calling.specs.kr_ops.Meaning.{meaning};
+ghost use Rattle.kr_calling.specs.kr_ops.Sound.{IsSound};
 ghost use Rattle.kr_steps.specs.Answering.{answered, resumed, waiting};
-ghost use Rattle.kr_view.specs.View.{Row};
+ghost use Rattle.kr_calling.specs.kr_view.View.{Row};
 
-use kr_ops::State;
+use kr_calling::below::State;
 
 /// The register of a call's answer.
 const A0: usize = 10;

@@ -1,22 +1,19 @@
 //! A call of a process, to its end.
-ghost use Rattle.std.specs.Prelude.{◌≡◌, ◌+◌, ◌<◌, ◌^◌, ℕ, suc, IfOk, IfSome, IsSome, OnOk};
-ghost use Rattle.kr_allowed.specs.Calls.{HasTextPaths, IsGivable};
-ghost use Rattle.kr_allowed.specs.Told.{SourcesAreNamed};
+ghost use Rattle.std.specs.Prelude.{◌≡◌, ◌<◌, ◌^◌, ℕ, suc, IfOk, IsSome, OnOk};
+ghost use Rattle.kr_calling.specs.kr_allowed.Calls.{HasTextPaths, IsGivable};
+ghost use Rattle.kr_calling.specs.kr_allowed.Told.{SourcesAreNamed};
 ghost use Rattle.kr_calling.specs.Calling.{MayCall, Runs};
-ghost use Rattle.kr_model.specs.State.{process};
-ghost use Rattle.kr_ops.specs.Meaning.{meaning};
-ghost use Rattle.kr_seen.specs.CallWalks.{call_reach};
+ghost use Rattle.kr_calling.specs.kr_model.State.{process};
+ghost use Rattle.kr_calling.specs.kr_ops.Meaning.{meaning};
+ghost use Rattle.kr_calling.specs.kr_seen.CallWalks.{call_reach};
 ghost use Rattle.kr_calling.specs.Operated.{IsNoExec};
-ghost use Rattle.kr_seen.specs.Numbered.{state_numbered};
+ghost use Rattle.kr_calling.specs.kr_seen.Numbered.{state_numbered};
 ghost use Rattle.kr_steps.specs.Settling.{IsSettled};
 
 use crate::answering::{answer, stay};
+use kr_calling::below::{Outcome, Places, Reach, Request, State};
 use kr_calling::carry_out;
-use kr_calls::Request;
-use kr_model::Outcome;
-use kr_ops::State;
-use kr_view::{Places, Reach};
-use pr_base::NoMemory;
+use rv_cpu::below::pr_base::NoMemory;
 use std::alloc::Global;
 
 /// What became of the caller of a call.
@@ -46,7 +43,6 @@ pub fn call<P: Places, const M: u8>(
     requires named { SourcesAreNamed (P.mounts places.now) }
     requires may { MayCall P.number (P.mounts places.now) state.old }
     requires lives { IsSome (process pid (meaning state.old)) }
-    requires behind { IfSome (process pid (meaning state.old)) (λ p. p.image.regs.pc + 4 < 2 ^ 64) }
     ensures settled { IfOk result (λ called. IsSettled P.number (P.mounts places.now) pid request.now state.old state.new called) }
     ensures reach { OnOk result (reach.new ≡ call_reach (P.mounts places.now) pid (state_numbered P.number (meaning state.old)) request.now reach.old) }
     ensures runs { OnOk result ((calls : ℕ) → calls < 2 ^ 31 → Runs P.number (P.mounts places.now) calls state.old → Runs P.number (P.mounts places.now) (suc calls) state.new) }

@@ -1,15 +1,15 @@
 //! A process that dies of an instruction.
 ghost use Rattle.std.specs.Prelude.{ℕ, suc, List, IsSome, OnOk};
 ghost use Rattle.kr_calling.specs.Calling.{Runs};
-ghost use Rattle.kr_model.specs.Change.{End};
-ghost use Rattle.kr_model.specs.State.{process};
-ghost use Rattle.kr_ops.specs.Making.{Makes};
-ghost use Rattle.kr_ops.specs.Meaning.{meaning};
-ghost use Rattle.kr_ops.specs.Sound.{IsOfView};
-ghost use Rattle.kr_view.specs.View.{Row};
+ghost use Rattle.kr_calling.specs.kr_model.Change.{End};
+ghost use Rattle.kr_calling.specs.kr_model.State.{process};
+ghost use Rattle.kr_calling.specs.kr_ops.Making.{Makes};
+ghost use Rattle.kr_calling.specs.kr_ops.Meaning.{meaning};
+ghost use Rattle.kr_calling.specs.kr_ops.Sound.{IsOfView};
+ghost use Rattle.kr_calling.specs.kr_view.View.{Row};
 
-use kr_ops::State;
-use pr_base::NoMemory;
+use kr_calling::below::State;
+use rv_cpu::below::pr_base::NoMemory;
 
 /// Kills a living process by a signal, as signal(7) has it where the signal is the default's to end: its status, which wait4(2) tells its
 /// parent, is the signal's number. After want of memory the state may only be dropped.

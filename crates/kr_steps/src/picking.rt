@@ -1,17 +1,16 @@
 //! Which processes can go on.
 ghost use Rattle.std.specs.Prelude.{◌≡◌, ◌<◌, IfSome, length, slice_get, vec_len};
 ghost use Rattle.std.specs.Option.{option_and_then, option_map};
-ghost use Rattle.kr_calls.specs.Arguments.{int};
-ghost use Rattle.kr_model.specs.Asking.{descriptor_number};
-ghost use Rattle.kr_model.specs.Known.{known};
-ghost use Rattle.kr_model.specs.State.{image_layout};
-ghost use Rattle.kr_ops.specs.Meaning.{meaning};
-ghost use Rattle.kr_ops.specs.Sound.{IsSound};
+ghost use Rattle.kr_calling.specs.kr_calls.Arguments.{int};
+ghost use Rattle.kr_calling.specs.kr_model.Asking.{descriptor_number};
+ghost use Rattle.kr_calling.specs.kr_model.Known.{known};
+ghost use Rattle.kr_calling.specs.kr_model.State.{image_layout};
+ghost use Rattle.kr_calling.specs.kr_ops.Meaning.{meaning};
+ghost use Rattle.kr_calling.specs.kr_ops.Sound.{IsSound};
 ghost use Rattle.kr_steps.specs.Waiting.{child_waits, goes_on, open_waits, picked_process, read_waits, ready_processes, still_waits, write_waits};
 
-use kr_files::What;
-use kr_ops::{Meant, State};
-use rv_mem::Regs;
+use kr_calling::below::{Meant, State, What};
+use rv_cpu::below::rv_mem::Regs;
 
 /// The register of a call's number.
 const A7: usize = 17;

@@ -1,11 +1,11 @@
 -- What is told of targets.
 use Rattle.std.proofs.Common.{◌≡◌, ℕ, true, false, List, Option, Some, None, sym, ap}
 use Rattle.std.specs.Bool.{if◌then◌else◌}
-use Rattle.kr_tree.specs.declared.place.Host.{Host}
-use Rattle.kr_tree.specs.declared.place.Place.{Place}
-use Rattle.kr_view.specs.Component.{is_directory_at}
-use Rattle.kr_view.specs.View.{Row}
-use Rattle.kr_view.specs.Walk.{PlaceTarget}
+use Rattle.kr_seen.specs.kr_tree.declared.place.Host.{Host}
+use Rattle.kr_seen.specs.kr_tree.declared.place.Place.{Place}
+use Rattle.kr_seen.specs.kr_view.Component.{is_directory_at}
+use Rattle.kr_seen.specs.kr_view.View.{Row}
+use Rattle.kr_seen.specs.kr_view.Walk.{PlaceTarget}
 use Rattle.kr_seen.specs.kr_model.FileRows.{creates}
 use Rattle.kr_seen.specs.kr_model.Seen.{Looked, Opens, OpensFound}
 use Rattle.kr_seen.specs.kr_model.State.{Image, State}

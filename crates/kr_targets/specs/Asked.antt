@@ -1,9 +1,9 @@
 -- What the code answers of a directory that is to be changed.
 use Rattle.std.specs.Prelude.{ℕ, ◌≡◌, true, Some, Result, Ok, Err}
-use Rattle.pr_base.specs.declared.errno.Errno.{Errno}
-use Rattle.kr_tree.specs.declared.place.Host.{Host}
-use Rattle.kr_tree.specs.declared.place.Host.TheVariants as host
-use Rattle.kr_tree.specs.Tree.{Node, takes_names}
+use Rattle.kr_seen.specs.pr_base.declared.errno.Errno.{Errno}
+use Rattle.kr_seen.specs.kr_tree.declared.place.Host.{Host}
+use Rattle.kr_seen.specs.kr_tree.declared.place.Host.TheVariants as host
+use Rattle.kr_seen.specs.kr_tree.Tree.{Node, takes_names}
 use Rattle.kr_seen.specs.kr_model.Asking.{writable}
 use Rattle.kr_seen.specs.kr_model.Known.{Known, known_node}
 use Rattle.kr_seen.specs.kr_model.Reply.{Replying, refuse}

@@ -1,14 +1,14 @@
 -- The contract of a call with paths: what its row is given of them, and what is left of a state where it was carried out.
 use Rattle.std.specs.Prelude.{ℕ, List}
-use Rattle.kr_view.specs.View.{Row}
-use Rattle.kr_view.specs.declared.target.Target.{Target}
+use Rattle.kr_seen.specs.kr_view.View.{Row}
+use Rattle.kr_seen.specs.kr_view.declared.target.Target.{Target}
 use Rattle.kr_seen.specs.kr_model.Known.{Known}
 use Rattle.kr_seen.specs.kr_model.Reply.{Replying}
 use Rattle.kr_seen.specs.kr_model.Seen.{Looked, Made, Seen, Taken}
 use Rattle.kr_seen.specs.kr_model.Walks.{if_found, linked_at, made_at, moved_at, opened_at, taken_at}
 use Rattle.kr_seen.specs.kr_model.declared.outcome.Outcome.{Outcome}
-use Rattle.kr_ops.specs.declared.state.State.{State}
-use Rattle.kr_ops.specs.Meaning.{meaning}
+use Rattle.kr_seen.specs.kr_ops.declared.state.State.{State}
+use Rattle.kr_seen.specs.kr_ops.Meaning.{meaning}
 use Rattle.kr_seen.specs.Numbered.{state_numbered}
 use Rattle.kr_seen.specs.Carrying.{CarriesOut}
 use Rattle.kr_targets.specs.Placed.{placed_in, target_mounts}

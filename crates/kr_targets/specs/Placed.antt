@@ -1,9 +1,9 @@
 -- A target of the code as the definitions speak of it: its mounts by their numbers in the view.
 use Rattle.std.specs.Prelude.{ℕ, false, Some}
 use Rattle.std.specs.Option.{option_map}
-use Rattle.kr_view.specs.declared.target.Target.{Target}
-use Rattle.kr_view.specs.Answers.{target_numbered}
-use Rattle.kr_view.specs.Walk.{PlaceTarget}
+use Rattle.kr_seen.specs.kr_view.declared.target.Target.{Target}
+use Rattle.kr_seen.specs.kr_view.Answers.{target_numbered}
+use Rattle.kr_seen.specs.kr_view.Walk.{PlaceTarget}
 use Rattle.kr_seen.specs.kr_model.Applied.{Mounts}
 
 -- a walk also says whether a link of the process directory led to its target, which no call is told

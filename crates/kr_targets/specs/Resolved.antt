@@ -1,13 +1,13 @@
 -- What rows rest on of their targets: what every walk over a lawful state gives.
 use Rattle.std.specs.Prelude.{ℕ, ◌≡◌, true, false, List, Some, None}
-use Rattle.pr_base.specs.declared.path.Last.TheVariants as last
-use Rattle.kr_tree.specs.declared.place.Host.TheVariants.{Node}
-use Rattle.kr_tree.specs.declared.place.Place.{Place}
-use Rattle.kr_tree.specs.Tree.{Tree, body_is, entry, takes_names}
-use Rattle.kr_tree.specs.Names.{is_name}
-use Rattle.kr_view.specs.View.{Row, covered}
-use Rattle.kr_view.specs.InTree.{IsObjectOf}
-use Rattle.kr_view.specs.declared.target.Target.{Target}
+use Rattle.kr_seen.specs.pr_base.declared.path.Last.TheVariants as last
+use Rattle.kr_seen.specs.kr_tree.declared.place.Host.TheVariants.{Node}
+use Rattle.kr_seen.specs.kr_tree.declared.place.Place.{Place}
+use Rattle.kr_seen.specs.kr_tree.Tree.{Tree, body_is, entry, takes_names}
+use Rattle.kr_seen.specs.kr_tree.Names.{is_name}
+use Rattle.kr_seen.specs.kr_view.View.{Row, covered}
+use Rattle.kr_seen.specs.kr_view.InTree.{IsObjectOf}
+use Rattle.kr_seen.specs.kr_view.declared.target.Target.{Target}
 
 module _ {T : Type 0} (t : Tree) where
   -- what was found is in the tree

@@ -1,8 +1,8 @@
 -- What the code tells a call of its targets, as the definitions have it.
 use Rattle.std.specs.Prelude.{ℕ, List, Option}
 use Rattle.std.specs.Option.{option_map}
-use Rattle.kr_tree.specs.declared.place.Host.{Host}
-use Rattle.kr_tree.specs.declared.place.Place.{Place}
+use Rattle.kr_seen.specs.kr_tree.declared.place.Host.{Host}
+use Rattle.kr_seen.specs.kr_tree.declared.place.Place.{Place}
 use Rattle.kr_seen.specs.kr_model.Seen as seen
 use Rattle.kr_targets.specs.declared.told.Entry.{Entry}
 use Rattle.kr_targets.specs.declared.told.Looked.{Looked}

@@ -1,18 +1,16 @@
 //! What calls with paths ask of a state.
 ghost use Rattle.std.specs.Prelude.{◌≡◌, ℕ, true, IfOk};
-ghost use Rattle.kr_tree.specs.Tree.{body_is, takes_names};
-ghost use Rattle.kr_view.specs.Component.{is_directory_at};
+ghost use Rattle.kr_seen.specs.kr_tree.Tree.{body_is, takes_names};
+ghost use Rattle.kr_seen.specs.kr_view.Component.{is_directory_at};
 ghost use Rattle.kr_seen.specs.kr_model.Asking.{is_directory_host, is_over, is_processes_host, is_searched, lives, process_of};
 ghost use Rattle.kr_seen.specs.kr_model.Known.{known};
 ghost use Rattle.kr_seen.specs.kr_model.State.{image_layout};
-ghost use Rattle.kr_tree.specs.declared.place.Host.TheVariants.{Node};
-ghost use Rattle.kr_ops.specs.Meaning.{meaning};
-ghost use Rattle.kr_ops.specs.Sound.{IsSound};
+ghost use Rattle.kr_seen.specs.kr_tree.declared.place.Host.TheVariants.{Node};
+ghost use Rattle.kr_seen.specs.kr_ops.Meaning.{meaning};
+ghost use Rattle.kr_seen.specs.kr_ops.Sound.{IsSound};
 ghost use Rattle.kr_targets.specs.Asked.{IsWritable};
 
-use kr_ops::State;
-use kr_tree::{Host, Ino, Kind, ProcAt, Right};
-use pr_base::Errno;
+use kr_seen::below::{Errno, Host, Ino, Kind, ProcAt, Right, State};
 
 /// Whether an object is a directory: one of the tree, the process directory, or one in it.
 pub fn is_directory_host<T: Copy, const M: u8>(state: &State<T, M>, host: Host) -> bool

@@ -2,6 +2,7 @@
 #![tactic(auto)]
 
 pub mod asking;
+pub mod below;
 pub mod targets;
 pub mod told;
 

@@ -1,15 +1,15 @@
 //! From targets to what a call is told of them.
 ghost use Rattle.std.specs.Prelude.{◌≡◌, ℕ, List};
 ghost use Rattle.std.specs.Option.{option_map, option_map_or};
-ghost use Rattle.pr_base.specs.declared.errno.Errno.TheVariants.{ENOENT as NoEntry};
-ghost use Rattle.kr_view.specs.Leads.{numbered};
-ghost use Rattle.kr_view.specs.View.{Row};
+ghost use Rattle.kr_seen.specs.pr_base.declared.errno.Errno.TheVariants.{ENOENT as NoEntry};
+ghost use Rattle.kr_seen.specs.kr_view.Leads.{numbered};
+ghost use Rattle.kr_seen.specs.kr_view.View.{Row};
 ghost use Rattle.kr_seen.specs.kr_model.Seen.{Opens, WalkFails};
 ghost use Rattle.kr_seen.specs.kr_model.State as model;
 ghost use Rattle.kr_seen.specs.kr_model.State.{inode_of as host_inode};
 ghost use Rattle.kr_seen.specs.kr_model.FileRows.{creates};
 ghost use Rattle.kr_seen.specs.kr_model.Walks.{created_at, entry_of, is_covered, linked_at, looked_at, made_at, moved_at, opened_at, taken_at};
-ghost use Rattle.kr_ops.specs.Meaning.{meaning};
+ghost use Rattle.kr_seen.specs.kr_ops.Meaning.{meaning};
 ghost use Rattle.kr_seen.specs.Numbered.{state_numbered};
 ghost use Rattle.kr_targets.specs.Placed.{placed_in};
 ghost use Rattle.kr_targets.specs.Told.{entered_told, entry_told, found_host, linked_told, looked_told, made_told, moved_told, opening_told, taken_told};
@@ -17,10 +17,7 @@ ghost use Rattle.kr_targets.specs.Told.{entered_told, entry_told, found_host, li
 use crate::asking::is_directory_host;
 use crate::told::{Entered, Entry, Linked, Looked, Made, Moved, Opening, Taken};
 use bitflags::Flags;
-use kr_ops::State;
-use kr_tree::{Host, Ino, Place};
-use kr_view::{Places, Target};
-use pr_base::{Last, OpenFlags};
+use kr_seen::below::{Host, Ino, Last, OpenFlags, Place, Places, State, Target};
 
 /// Whether openat(2) may make a file.
 pub fn creates(flags: u32) -> bool

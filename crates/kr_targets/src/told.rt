@@ -1,7 +1,6 @@
 //! What a call is told of the targets of its paths.
 
-use kr_tree::{Host, Ino};
-use pr_base::Last;
+use kr_seen::below::{Host, Ino, Last};
 
 /// A name in a directory.
 #[derive(Clone, Copy, Debug)]

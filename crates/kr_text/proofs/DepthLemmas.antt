@@ -5,15 +5,15 @@ use Rattle.std.specs.FinMap as map
 use Rattle.std.specs.Cmp.{nat_cmp_total}
 use Rattle.std.specs.Ordering.{nat_cmp}
 use Rattle.std.specs.Option.{option_map, option_map_or, option_and_then}
-use Rattle.kr_inode.specs.declared.standing.Standing.{Standing}
+use Rattle.kr_tree.specs.kr_inode.declared.standing.Standing.{Standing}
 use Rattle.kr_tree.specs.Tree.{Tree, Inodes, Inode, Entry, root, inode, entry, entries, entries_of, entry_named, standing, body_is, is_directory}
 use Rattle.kr_tree.specs.Names.{named}
 use Rattle.kr_tree.specs.Lawful.{IsKept, IsIn}
 use Rattle.kr_tree.proofs.AddLemmas.{passing}
-use Rattle.kr_inode.proofs.BodyLemmas.{entries-is_listed, listed-is_directory}
+use Rattle.kr_tree.proofs.kr_inode.BodyLemmas.{entries-is_listed, listed-is_directory}
 use Rattle.kr_tree.proofs.CountLemmas.{root_directory}
-use Rattle.kr_inode.proofs.EntryLemmas.{named_in, in_above}
-use Rattle.pr_base.proofs.MapLemmas.{get-remove_other}
+use Rattle.kr_tree.proofs.kr_inode.EntryLemmas.{named_in, in_above}
+use Rattle.kr_tree.proofs.pr_base.MapLemmas.{get-remove_other}
 use Rattle.kr_text.proofs.OrderLemmas.{entries_rise}
 
 -- ---- a name in a directory

@@ -5,14 +5,14 @@ use Rattle.std.specs.FinMap as map
 use Rattle.std.specs.Cmp.{nat_cmp_total}
 use Rattle.std.specs.Ordering.{nat_cmp}
 use Rattle.std.specs.Option.{option_map, option_map_or}
-use Rattle.kr_inode.specs.declared.standing.Standing.{Standing}
-use Rattle.kr_inode.specs.declared.node.Node.{Node as NewNode}
-use Rattle.kr_inode.specs.Stored.{body_of_new}
-use Rattle.kr_inode.proofs.BodyLemmas.{entries-with_entries, entries-with_standing, takes-is_listed, entries-new}
+use Rattle.kr_tree.specs.kr_inode.declared.standing.Standing.{Standing}
+use Rattle.kr_tree.specs.kr_inode.declared.node.Node.{Node as NewNode}
+use Rattle.kr_tree.specs.kr_inode.Stored.{body_of_new}
+use Rattle.kr_tree.proofs.kr_inode.BodyLemmas.{entries-with_entries, entries-with_standing, takes-is_listed, entries-new}
 use Rattle.kr_tree.specs.Tree.{Tree, Entry, entries_of, is_listed, Inode, Inodes, Body, Directory, RegularFile, SymbolicLink, ProcessDirectory, root, inode, body_is, takes_names, is_file, may_be_linked, is_directory}
 use Rattle.kr_tree.specs.Changes.{added, linked, new_tree, fresh, with_inode, with_entry, with_names, with_standing, next_standing, next_serial}
 use Rattle.kr_tree.specs.Lawful.{IsKept}
-use Rattle.pr_base.proofs.MapLemmas.{get-insert_same, get-insert_other, get-changed_same, get-changed_other, len-changed, by_key}
+use Rattle.kr_tree.proofs.pr_base.MapLemmas.{get-insert_same, get-insert_other, get-changed_same, get-changed_other, len-changed, by_key}
 use Rattle.kr_text.specs.Drawn.{IsDrawn, after_last}
 
 -- what isn't drawn yet isn't there

@@ -10,7 +10,7 @@ use Rattle.std.specs.List.{AllByRecursion, flat_map, IsDistinct}
 use Rattle.std.proofs.lemmas.Map.Keys.{IsDistinct-head, IsDistinct-tail}
 use Rattle.kr_tree.specs.Tree.{Tree, Entry, entry, entries}
 use Rattle.kr_tree.specs.Names.{named}
-use Rattle.kr_inode.specs.Entries.{names_in}
+use Rattle.kr_tree.specs.kr_inode.Entries.{names_in}
 use Rattle.kr_tree.specs.Lawful.{IsKept, IsIn}
 use Rattle.kr_text.specs.declared.names.Named.{Named}
 use Rattle.kr_text.specs.Canonical.{by_bytes, put_in_order, below, names_under, root_name, all_names}

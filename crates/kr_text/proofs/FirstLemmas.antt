@@ -7,7 +7,7 @@ use Rattle.std.specs.Option.{option_map}
 use Rattle.std.specs.Ordering.{nat_cmp}
 use Rattle.std.proofs.lemmas.Bool.{ne_eqb}
 use Rattle.kr_tree.specs.Tree.{Tree, body_is, is_file}
-use Rattle.pr_base.proofs.MapLemmas.{by_key, ties-other}
+use Rattle.kr_tree.proofs.pr_base.MapLemmas.{by_key, ties-other}
 use Rattle.kr_text.specs.declared.names.Named.{Named}
 use Rattle.kr_text.specs.Canonical.{first_name}
 use Rattle.kr_text.specs.FirstNames.{AreFirst, has_several, kept_name}

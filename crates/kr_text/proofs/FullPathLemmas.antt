@@ -6,9 +6,9 @@ use Rattle.std.proofs.lemmas.Bool.{and_parts, ltb-true}
 use Rattle.std.proofs.lemmas.List.{reverse-append}
 use Rattle.std.proofs.lemmas.List.Sums.{AllPass-from_list_all}
 use Rattle.std.proofs.lemmas.List.Splits.{slice_split_none}
-use Rattle.pr_base.specs.Paths.{is_slash, not_empty, parts_of, below_root}
-use Rattle.pr_base.proofs.PathLemmas.{parts_seam}
-use Rattle.kr_inode.specs.Names.{is_name, is_dots}
+use Rattle.kr_tree.specs.pr_base.Paths.{is_slash, not_empty, parts_of, below_root}
+use Rattle.kr_tree.proofs.pr_base.PathLemmas.{parts_seam}
+use Rattle.kr_tree.specs.kr_inode.Names.{is_name, is_dots}
 
 first_false : (a b : Bool) → not (a || b) ≡ true → a ≡ false
 first_false true b h = cc

@@ -3,16 +3,16 @@ use Rattle.std.proofs.Common.{◌≡◌, ◌≢◌, ℕ, ◌+◌, true, false, c
 use Rattle.std.specs.Prelude.{bytes_eq}
 use Rattle.std.specs.Option.{option_map, option_map_or, option_and_then}
 use Rattle.std.proofs.lemmas.Slice.Eq.{bytes_eq-Decides}
-use Rattle.kr_inode.specs.declared.standing.Standing.{Standing}
+use Rattle.kr_tree.specs.kr_inode.declared.standing.Standing.{Standing}
 use Rattle.kr_tree.specs.Tree.{Tree, Inodes, Inode, Node, Entry, Body, Directory, RegularFile, SymbolicLink, ProcessDirectory, root, inode, node, entry, entries, entries_of, entry_named, standing, body_is, is_directory, is_file, takes_names}
 use Rattle.kr_tree.specs.Names.{named}
 use Rattle.kr_tree.specs.Changes.{added, linked, fresh, with_inode, with_entry, with_names, with_entries, with_standing, next_standing}
 use Rattle.kr_tree.specs.Lawful.{IsKept, IsIn}
 use Rattle.kr_tree.proofs.AddLemmas.{passing}
-use Rattle.kr_inode.proofs.BodyLemmas.{entries-with_entries, entries-with_standing, takes-is_listed}
+use Rattle.kr_tree.proofs.kr_inode.BodyLemmas.{entries-with_entries, entries-with_standing, takes-is_listed}
 use Rattle.kr_tree.proofs.CountLemmas.{there as entry_there, root_directory}
-use Rattle.kr_inode.proofs.EntryLemmas.{named_in, serial_alone}
-use Rattle.pr_base.proofs.MapLemmas.{by_key, get-insert_same, get-insert_other, get-changed_same, get-changed_other}
+use Rattle.kr_tree.proofs.kr_inode.EntryLemmas.{named_in, serial_alone}
+use Rattle.kr_tree.proofs.pr_base.MapLemmas.{by_key, get-insert_same, get-insert_other, get-changed_same, get-changed_other}
 use Rattle.kr_text.specs.Same.{bare, bare_body}
 use Rattle.kr_text.proofs.OrderLemmas.{entries_rise}
 use Rattle.kr_text.proofs.DepthLemmas.{entry_in, named_above, has_entries, root_is_no_entry, one_standing}

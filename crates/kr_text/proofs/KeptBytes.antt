@@ -5,7 +5,7 @@ use Rattle.std.specs.List.{AllByRecursion, list_all}
 use Rattle.std.specs.Option.{option_map, option_map_or}
 use Rattle.std.proofs.lemmas.Bool.{and_parts}
 use Rattle.std.proofs.lemmas.Bool.Decides.{nat_tests}
-use Rattle.pr_base.specs.Paths.{slash, below_root, text_of}
+use Rattle.kr_tree.specs.pr_base.Paths.{slash, below_root, text_of}
 use Rattle.kr_tree.specs.Tree.{Tree, Inode, Node, Entry, Body, Directory, RegularFile, SymbolicLink, ProcessDirectory, inode, node, entry, entries_of}
 use Rattle.kr_tree.specs.Names.{named, is_name}
 use Rattle.kr_tree.specs.Lawful.{IsKept, IsIn, AreBytes, IsOfBytes}

@@ -1,3 +1,4 @@
+pub use Rattle.kr_tree.proofs as kr_tree
 pub mod CanonicalRows
 pub mod CountedNames
 pub mod DepthLemmas

@@ -7,7 +7,7 @@ use Rattle.std.proofs.lemmas.Bool.{eqb-true}
 use Rattle.kr_tree.specs.Tree.{Tree, Inode, Node, Body, Directory, RegularFile, SymbolicLink, ProcessDirectory, root, inode, node, entry, standing, standing_of, body_is, is_directory, is_listed, is_file, takes_names}
 use Rattle.kr_tree.specs.Names.{named}
 use Rattle.kr_tree.specs.Lawful.{IsKept}
-use Rattle.kr_inode.proofs.BodyLemmas.{listed-is_directory}
+use Rattle.kr_tree.proofs.kr_inode.BodyLemmas.{listed-is_directory}
 use Rattle.kr_text.specs.declared.names.Named.{Named}
 use Rattle.kr_text.specs.Canonical.{first_name}
 use Rattle.kr_text.specs.Same.{bare, bare_body, shown}

@@ -5,8 +5,8 @@ use Rattle.std.specs.List.{list_all, slice_split}
 use Rattle.std.specs.Cmp.Derive.{both_true}
 use Rattle.std.proofs.lemmas.Bool.{and_parts, or_cases, eqb-true}
 use Rattle.std.proofs.lemmas.List.{length-reverse}
-use Rattle.pr_base.specs.Paths.{is_slash, not_empty, parts_of, slash}
-use Rattle.pr_base.proofs.PathLemmas.{slash_passed}
+use Rattle.kr_tree.specs.pr_base.Paths.{is_slash, not_empty, parts_of, slash}
+use Rattle.kr_tree.proofs.pr_base.PathLemmas.{slash_passed}
 use Rattle.kr_tree.specs.Names.{is_name}
 use Rattle.kr_text.specs.Fields.{is_path, is_empty, path_limit}
 

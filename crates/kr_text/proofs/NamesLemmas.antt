@@ -7,7 +7,7 @@ use Rattle.std.proofs.lemmas.Cmp.{nat_list_eq_equiv}
 use Rattle.kr_tree.specs.Tree.{Tree, Inode, Entry, inode, entry, entries, entries_of, entry_named}
 use Rattle.kr_tree.specs.Names.{named}
 use Rattle.kr_tree.specs.Lawful.{IsKept, IsIn}
-use Rattle.kr_inode.proofs.EntryLemmas.{in_named}
+use Rattle.kr_tree.proofs.kr_inode.EntryLemmas.{in_named}
 use Rattle.kr_text.specs.declared.names.Named.{Named}
 use Rattle.kr_text.specs.Canonical.{put_in_order, below, children, names_under}
 use Rattle.kr_text.proofs.OrderLemmas.{all-put}

@@ -12,7 +12,7 @@ use Rattle.std.proofs.lemmas.Bool.Decides.{nat_tests}
 use Rattle.std.proofs.lemmas.List.{map-append}
 use Rattle.kr_tree.specs.Tree.{Tree, Inode, Entry, inode, entries, entries_of, entry_after}
 use Rattle.kr_tree.specs.Names.{is_name}
-use Rattle.kr_inode.specs.Entries.{RisesWithin, names_in}
+use Rattle.kr_tree.specs.kr_inode.Entries.{RisesWithin, names_in}
 use Rattle.kr_tree.specs.Lawful.{IsKept, IsIn}
 use Rattle.kr_text.specs.Canonical.{by_bytes, put_in_order}
 use Rattle.kr_text.specs.Order.{AreNamed}

@@ -10,7 +10,7 @@ use Rattle.std.specs.Option.{option_map_or}
 use Rattle.std.proofs.lemmas.Cmp.{nat_list_eq_equiv}
 use Rattle.std.proofs.lemmas.Map.Keys.{IsDistinct-head, IsDistinct-tail}
 use Rattle.kr_tree.specs.Tree.{Tree, Inode, Entry, inode, entry, entries, entries_of}
-use Rattle.kr_inode.specs.Entries.{names_in}
+use Rattle.kr_tree.specs.kr_inode.Entries.{names_in}
 use Rattle.kr_tree.specs.Lawful.{IsKept, IsIn}
 use Rattle.kr_text.specs.declared.names.Named.{Named}
 use Rattle.kr_text.specs.Canonical.{by_bytes, put_in_order, below, children, names_under, root_name}

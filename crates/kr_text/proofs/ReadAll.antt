@@ -7,13 +7,13 @@ use Rattle.std.specs.Ordering.{nat_cmp}
 use Rattle.std.specs.Option.{option_map, option_map_or, option_and_then}
 use Rattle.std.proofs.lemmas.Bool.{ne_eqb}
 use Rattle.std.proofs.lemmas.List.Splits.{slice_split_at, length-slice_split}
-use Rattle.kr_inode.specs.declared.user.User.{User}
-use Rattle.kr_inode.specs.declared.standing.Standing.{Standing}
+use Rattle.kr_tree.specs.kr_inode.declared.user.User.{User}
+use Rattle.kr_tree.specs.kr_inode.declared.standing.Standing.{Standing}
 use Rattle.kr_tree.specs.Tree.{Tree, Inode, Node, Entry, Body, Directory, RegularFile, SymbolicLink, ProcessDirectory, root, node, entries, entries_of, body_is, is_file, is_listed, bytes_of}
 use Rattle.kr_tree.specs.Names.{named}
 use Rattle.kr_tree.specs.Changes.{new_tree, fresh}
 use Rattle.kr_tree.specs.Lawful.{IsKept, IsIn}
-use Rattle.pr_base.proofs.MapLemmas.{get-insert_same, get-insert_other, by_key}
+use Rattle.kr_tree.proofs.pr_base.MapLemmas.{get-insert_same, get-insert_other, by_key}
 use Rattle.kr_tree.proofs.NewLemmas.{sound-new_tree, counted-new_tree, used-new_tree}
 use Rattle.kr_tree.proofs.OfBytesLemmas.{of_bytes-new_tree}
 use Rattle.kr_text.specs.declared.fault.ListFault.{ListFault}

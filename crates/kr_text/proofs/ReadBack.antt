@@ -5,8 +5,8 @@ use Rattle.std.specs.FinMap as map
 use Rattle.std.specs.Fmt.{decimal}
 use Rattle.std.specs.Option.{option_map, option_map_or, option_and_then}
 use Rattle.std.proofs.lemmas.Bool.{false_from_ne_true, ltb-true}
-use Rattle.kr_inode.specs.declared.user.User.{User}
-use Rattle.kr_inode.specs.declared.standing.Standing.{Standing}
+use Rattle.kr_tree.specs.kr_inode.declared.user.User.{User}
+use Rattle.kr_tree.specs.kr_inode.declared.standing.Standing.{Standing}
 use Rattle.kr_tree.specs.Tree.{Tree, Inode, Node, Entry, Body, Directory, RegularFile, SymbolicLink, ProcessDirectory, inode, node, entry, body, body_is, is_file, bytes_of}
 use Rattle.kr_tree.specs.Names.{named}
 use Rattle.kr_tree.specs.Lawful.{IsKept, AreBytes, IsOfBytes}

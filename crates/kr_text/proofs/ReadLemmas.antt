@@ -1,6 +1,6 @@
 -- A listing read from one of its lines on.
 use Rattle.std.proofs.Common.{◌≡◌, ℕ, List, [], ◌∷◌, length, Result, Ok, Err, refl, sym, ap, ◌∙◌, arith}
-use Rattle.kr_inode.specs.declared.user.User.{User}
+use Rattle.kr_tree.specs.kr_inode.declared.user.User.{User}
 use Rattle.kr_tree.specs.Tree.{Tree}
 use Rattle.kr_text.specs.declared.fault.TreeWhy.TheVariants.{Form}
 use Rattle.kr_text.specs.declared.fault.ListFault.{ListFault}

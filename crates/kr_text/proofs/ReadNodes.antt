@@ -10,8 +10,8 @@ use Rattle.kr_tree.specs.Lawful.{IsKept, IsIn}
 use Rattle.kr_tree.specs.Changes.{added, linked, fresh, with_inode, with_entry, with_names, with_standing, next_standing, is_too_big, has_no_room, has_no_name_left, count_limit, byte_limit}
 use Rattle.kr_tree.proofs.AddLemmas.{kept-added, passing}
 use Rattle.kr_tree.proofs.LinkLemmas.{kept-linked}
-use Rattle.kr_inode.proofs.BodyLemmas.{entries-is_listed, listed-is_directory, takes-is_listed}
-use Rattle.pr_base.proofs.MapLemmas.{len-changed, get-changed_other}
+use Rattle.kr_tree.proofs.kr_inode.BodyLemmas.{entries-is_listed, listed-is_directory, takes-is_listed}
+use Rattle.kr_tree.proofs.pr_base.MapLemmas.{len-changed, get-changed_other}
 use Rattle.kr_text.specs.declared.fault.TreeWhy.{TreeWhy}
 use Rattle.kr_text.specs.declared.fault.TreeWhy.TheVariants.{Twice, TooBig}
 use Rattle.kr_text.specs.declared.names.Named.{Named}

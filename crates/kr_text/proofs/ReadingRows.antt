@@ -1,7 +1,7 @@
 -- Small listings read, and what lines add.
 use Rattle.std.proofs.Common.{◌≡◌, [], ◌∷◌, ◌++◌, replicate, Ok, Err, Some, None, refl}
 use Rattle.std.specs.Prelude.{codes, true, false}
-use Rattle.kr_inode.specs.declared.user.User.{User}
+use Rattle.kr_tree.specs.kr_inode.declared.user.User.{User}
 use Rattle.kr_tree.specs.Tree.{Tree}
 use Rattle.kr_tree.specs.Changes.{new_tree}
 use Rattle.kr_text.specs.declared.fault.TreeWhy.TheVariants.{Form, Name, NoParent, Twice, NoUser, NoRoot}

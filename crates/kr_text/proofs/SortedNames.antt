@@ -14,7 +14,7 @@ use Rattle.std.specs.List.Sorted.{IsSortedBy, IsPermutation}
 use Rattle.std.proofs.lemmas.List.Sorted.{IsPermutation-sym, IsPermutation-map, Contains-permutation, All-permutation}
 use Rattle.std.proofs.lemmas.Cmp.{nat_list_cmp_total, nat_list_eq_equiv}
 use Rattle.kr_tree.specs.Tree.{Entry}
-use Rattle.kr_inode.specs.Entries.{names_in}
+use Rattle.kr_tree.specs.kr_inode.Entries.{names_in}
 use Rattle.kr_tree.specs.Lawful.{IsIn}
 use Rattle.kr_text.specs.Canonical.{by_bytes, put_in_order}
 use Rattle.kr_text.specs.declared.order.Item.{Item}

@@ -3,7 +3,7 @@ use Rattle.std.proofs.Common.{◌≡◌, [], ◌∷◌, ◌++◌, Ok, Some, None
 use Rattle.std.specs.Prelude.{codes, true, false}
 use Rattle.std.specs.FinMap as map
 use Rattle.std.specs.Cmp.{nat_cmp_total}
-use Rattle.kr_inode.specs.declared.user.User.{User}
+use Rattle.kr_tree.specs.kr_inode.declared.user.User.{User}
 use Rattle.kr_tree.specs.Tree.{Tree, Directory, root, body_is, takes_names, entry}
 use Rattle.kr_tree.specs.Changes.{new_tree, added, fresh, has_no_room}
 use Rattle.kr_text.specs.declared.line.Owner.{Owner}

@@ -7,7 +7,7 @@ use Rattle.std.specs.Option.{option_map, option_map_or}
 use Rattle.std.specs.BTreeMap.{BTreeMap, get}
 use Rattle.std.specs.Ordering.{nat_cmp}
 use Rattle.std.proofs.lemmas.List.Concat.{flat_map-append}
-use Rattle.kr_inode.specs.declared.user.User.{User}
+use Rattle.kr_tree.specs.kr_inode.declared.user.User.{User}
 use Rattle.kr_tree.specs.Tree.{Tree, Inode, Body, Directory, RegularFile, SymbolicLink, ProcessDirectory, Node, inode, entries, entries_of, body_is, is_file}
 use Rattle.kr_tree.specs.Lawful.{IsKept}
 use Rattle.kr_text.specs.declared.names.Named.{Named}

@@ -5,8 +5,8 @@ use Rattle.std.specs.Fmt.{decimal}
 use Rattle.std.specs.List.{AllByRecursion}
 use Rattle.std.proofs.lemmas.Bool.{ne_eqb}
 use Rattle.std.proofs.lemmas.List.Splits.{slice_split_none, slice_split_at}
-use Rattle.kr_inode.specs.declared.user.User.{User}
-use Rattle.pr_base.specs.Paths.{text_of}
+use Rattle.kr_tree.specs.kr_inode.declared.user.User.{User}
+use Rattle.kr_tree.specs.pr_base.Paths.{text_of}
 use Rattle.kr_text.specs.declared.line.Owner.{Owner}
 use Rattle.kr_text.specs.declared.line.Line.TheVariants.{User as UserLine, Dir as DirLine, File as FileLine, Link as LinkLine, Name as NameLine, Proc as ProcLine}
 use Rattle.kr_text.specs.Fields.{largest_id, largest_mode, path_limit}

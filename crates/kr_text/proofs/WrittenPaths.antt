@@ -7,8 +7,8 @@ use Rattle.std.proofs.lemmas.Bool.{le-leb}
 use Rattle.std.proofs.lemmas.Grind.{reverse_onto}
 use Rattle.std.proofs.lemmas.List.{reverse-reverse, length-reverse}
 use Rattle.std.proofs.lemmas.List.Splits.{slice_split_none, slice_split-cons_yes, slice_split-cons_no}
-use Rattle.pr_base.specs.Paths.{is_slash, not_empty, parts_of, below_root, text_of}
-use Rattle.pr_base.proofs.PathLemmas.{pieces_seam}
+use Rattle.kr_tree.specs.pr_base.Paths.{is_slash, not_empty, parts_of, below_root, text_of}
+use Rattle.kr_tree.proofs.pr_base.PathLemmas.{pieces_seam}
 use Rattle.kr_tree.specs.Names.{is_name}
 use Rattle.kr_text.specs.Fields.{is_path, is_empty, path_limit, names_of, path_of}
 use Rattle.kr_text.specs.Canonical.{path_field}

@@ -10,9 +10,9 @@ use Rattle.std.specs.Ordering.{nat_cmp}
 use Rattle.std.specs.Cmp.Lexicographic.{slice_cmp}
 use Rattle.std.specs.Fmt.{decimal, digits}
 use Rattle.hex.specs.Hex.{encode_lower}
-use Rattle.kr_inode.specs.declared.user.User.{User}
+use Rattle.kr_tree.specs.kr_inode.declared.user.User.{User}
 use Rattle.kr_tree.specs.Tree.{Tree, Node, Entry, Body, Directory, RegularFile, SymbolicLink, ProcessDirectory, root, node, entries}
-use Rattle.pr_base.specs.Paths.{text_of}
+use Rattle.kr_tree.specs.pr_base.Paths.{text_of}
 use Rattle.kr_text.specs.declared.line.Owner.{Owner}
 use Rattle.kr_text.specs.declared.names.Named.{Named}
 use Rattle.kr_text.specs.Fields.{is_plain, percent}

@@ -6,7 +6,7 @@ use Rattle.std.specs.Char.{is_digit}
 use Rattle.std.specs.Str.Parse.{digits_value}
 use Rattle.hex.specs.Hex.{hex_digit_value, decode_of}
 use Rattle.hex.specs.declared.error.FromHexError.{FromHexError}
-use Rattle.pr_base.specs.Paths.{is_slash, parts_of}
+use Rattle.kr_tree.specs.pr_base.Paths.{is_slash, parts_of}
 use Rattle.kr_tree.specs.Names.{is_name}
 use Rattle.kr_text.specs.declared.fault.TreeWhy.{TreeWhy}
 use Rattle.kr_text.specs.declared.fault.TreeWhy.TheVariants.{Form, Number, Name}

@@ -1,3 +1,5 @@
+pub use Rattle.kr_tree.specs.kr_inode as kr_inode
+pub use Rattle.kr_tree.specs as kr_tree
 pub mod Answers
 pub mod Canonical
 pub mod Drawn

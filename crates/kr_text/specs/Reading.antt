@@ -2,7 +2,7 @@
 use Rattle.std.specs.Prelude.{ℕ, ◌+◌, min, Bool, true, false, ◌||◌, List, [], ◌∷◌, length, codes, Option, Some, None, is_some, Result, Ok, Err, ok_or, nat_eq, if◌then◌else◌}
 use Rattle.std.specs.List.{list_any, starts_with, slice_split}
 use Rattle.std.specs.Option.{option_and_then}
-use Rattle.kr_inode.specs.declared.user.User.{User}
+use Rattle.kr_tree.specs.kr_inode.declared.user.User.{User}
 use Rattle.kr_tree.specs.Tree.{Tree, Body, Directory, RegularFile, SymbolicLink, ProcessDirectory, entry, body_is, takes_names, is_file, bytes_of}
 use Rattle.kr_tree.specs.Names.{named}
 use Rattle.kr_tree.specs.Changes.{new_tree, added, linked, is_too_big, has_no_room, has_no_name_left}

@@ -3,12 +3,12 @@
 use Rattle.std.specs.Prelude.{◌≡◌, ◌≢◌, ℕ, ◌+◌, ◌≤◌, ◌<◌, List, [], ◌∷◌, ◌++◌, length, Bool, true, false, Option, Some, None, Ok, ◌↔◌}
 use Rattle.std.specs.List.{AllByRecursion}
 use Rattle.std.specs.Option.{option_map, option_map_or, option_and_then}
-use Rattle.kr_inode.specs.declared.user.User.{User}
+use Rattle.kr_tree.specs.kr_inode.declared.user.User.{User}
 use Rattle.kr_tree.specs.Tree.{Tree, Node, Body, Directory, RegularFile, SymbolicLink, ProcessDirectory, node, body_is, is_file, bytes_of}
 use Rattle.kr_tree.specs.Names.{named}
 use Rattle.kr_tree.specs.Lawful.{IsKept}
 use Rattle.kr_tree.specs.Changes.{count_limit, byte_limit}
-use Rattle.pr_base.specs.Paths.{text_of}
+use Rattle.kr_tree.specs.pr_base.Paths.{text_of}
 use Rattle.kr_text.specs.declared.names.Named.{Named}
 use Rattle.kr_text.specs.Fields.{largest_id, largest_mode, path_limit, unescaped}
 use Rattle.kr_text.specs.Lines.{link_mode}

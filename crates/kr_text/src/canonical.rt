@@ -7,9 +7,9 @@ ghost use Rattle.kr_text.specs.FirstNames.{AreFirst, has_several};
 use crate::names::{FullPath, Named};
 use crate::order::Waiting;
 use crate::written::{line_at, user_line};
+use kr_tree::below::pr_base::{Bytes, NoMemory};
 use kr_tree::laws::trees_are_kept;
 use kr_tree::{Ino, Tree, User};
-use pr_base::{Bytes, NoMemory};
 use std::alloc::Global;
 use std::collections::BTreeMap;
 

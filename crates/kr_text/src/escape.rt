@@ -3,7 +3,7 @@ ghost use Rattle.std.specs.Prelude.{◌≡◌, ◌<◌, ◌∷◌, length, Match
 ghost use Rattle.hex.specs.Hex.{hex_digit_value};
 ghost use Rattle.kr_text.specs.Fields.{is_plain, byte_of, unescaped, behind_percent};
 
-use pr_base::{Bytes, NoMemory};
+use kr_tree::below::pr_base::{Bytes, NoMemory};
 use std::alloc::Global;
 
 /// Whether a byte stands for itself: a graphic character of ASCII other than `%`.

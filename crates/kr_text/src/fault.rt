@@ -1,6 +1,6 @@
 //! Why a listing can't be read.
 
-use pr_base::NoMemory;
+use kr_tree::below::pr_base::NoMemory;
 
 /// What is wrong with a line. In a line the first of `Form`, `Number`, `Name`, `RootUser`,
 /// `NoParent`, `Twice`, `NoTarget`, `TwoElf` and `TooBig` counts.

@@ -1,6 +1,7 @@
 //! The text form in which the tree comes in and goes out.
 #![tactic(auto)]
 
+pub mod below;
 mod canonical;
 mod escape;
 mod fault;

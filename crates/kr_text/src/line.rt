@@ -8,7 +8,7 @@ use crate::number::{id_of, mode_of};
 use crate::path::{Path, bytes_of, text_of};
 use crate::pieces::Pieces;
 use kr_tree::User;
-use pr_base::Bytes;
+use kr_tree::below::pr_base::Bytes;
 use std::alloc::Global;
 
 /// The mode of every link.

@@ -1,11 +1,11 @@
 //! The names of a tree.
 ghost use Rattle.std.specs.Prelude.{◌≡◌, ◌∷◌, [], true, IfOk};
 ghost use Rattle.kr_tree.specs.Names.{is_name};
-ghost use Rattle.pr_base.specs.Paths.{text_of};
+ghost use Rattle.kr_tree.specs.pr_base.Paths.{text_of};
 ghost use Rattle.kr_text.specs.Canonical.{root_name};
 
+use kr_tree::below::pr_base::NoMemory;
 use kr_tree::{Ino, ROOT};
-use pr_base::NoMemory;
 use std::alloc::Global;
 use std::marker::Model;
 
@@ -18,7 +18,7 @@ pub(crate) struct FullPath {
 
 impl Model for FullPath {
     ghost use Rattle.std.specs.Prelude.{◌≡◌, ℕ, List, reverse};
-    ghost use Rattle.pr_base.specs.Paths.{parts_of, below_root as bytes_below_root};
+    ghost use Rattle.kr_tree.specs.pr_base.Paths.{parts_of, below_root as bytes_below_root};
 
     ghost Value = { List (List ℕ) };
 

@@ -6,9 +6,9 @@ ghost use Rattle.kr_text.specs.Canonical.{put_in_order, below, children, root_na
 ghost use Rattle.kr_text.specs.Order.{AreNamed, HasHead, head, pairs_of, pairs_in};
 
 use crate::names::{FullPath, Named};
+use kr_tree::below::pr_base::NoMemory;
 use kr_tree::laws::trees_are_kept;
 use kr_tree::{Ino, Tree};
-use pr_base::NoMemory;
 use std::alloc::Global;
 use std::marker::Model;
 

@@ -2,7 +2,7 @@
 ghost use Rattle.std.specs.Prelude.{◌≡◌, ◌≢◌, ◌||◌, [], true, reverse};
 ghost use Rattle.std.specs.Bool.{MatchBool};
 ghost use Rattle.std.specs.List.{list_all, slice_split};
-ghost use Rattle.pr_base.specs.Paths.{is_slash, parts_of};
+ghost use Rattle.kr_tree.specs.pr_base.Paths.{is_slash, parts_of};
 ghost use Rattle.kr_tree.specs.Names.{is_name};
 ghost use Rattle.kr_text.specs.Fields.{is_path, path_of, text_of, bytes_of};
 ghost use Rattle.kr_text.specs.Answers.{IsRead};
@@ -11,8 +11,8 @@ use crate::escape::unescape;
 use crate::fault::{LineFault, TreeWhy};
 use crate::pieces::Pieces;
 use hex::FromHexError;
+use kr_tree::below::pr_base::{Bytes, components};
 use kr_tree::is_name;
-use pr_base::{Bytes, components};
 use std::alloc::Global;
 use std::marker::Model;
 
@@ -27,7 +27,7 @@ pub(crate) struct Path {
 
 impl Model for Path {
     ghost use Rattle.std.specs.Prelude.{◌≡◌, ℕ, true, List, reverse};
-    ghost use Rattle.pr_base.specs.Paths.{parts_of};
+    ghost use Rattle.kr_tree.specs.pr_base.Paths.{parts_of};
     ghost use Rattle.kr_text.specs.Fields.{is_path};
 
     ghost Value = { List (List ℕ) };

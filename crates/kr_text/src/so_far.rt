@@ -1,6 +1,6 @@
 //! What was read of a listing so far.
 ghost use Rattle.std.specs.Prelude.{◌≡◌, IfSome, OnOk};
-ghost use Rattle.kr_inode.specs.Stored.{body_of_new};
+ghost use Rattle.kr_tree.specs.kr_inode.Stored.{body_of_new};
 ghost use Rattle.kr_text.specs.Answers.{Changes};
 ghost use Rattle.kr_text.specs.Drawn.{IsDrawn};
 ghost use Rattle.kr_text.specs.Reading.{nothing_read, user_read, root_read, dir_read, node_read, elf_read, proc_read, name_read, line_read, line_added};
@@ -9,8 +9,8 @@ use crate::fault::{LineFault, TreeWhy};
 use crate::line::{Line, Owner};
 use crate::path::Path;
 use crate::steps::{elf_put, name_put, node_put, proc_put};
+use kr_tree::below::pr_base::Bytes;
 use kr_tree::{Meta, Node, Tree, User};
-use pr_base::Bytes;
 use std::alloc::Global;
 
 /// The tree and the user, once there are lines for them, and whether there was a line of the process

@@ -2,7 +2,7 @@
 ghost use Rattle.std.specs.Prelude.{◌≡◌, true, None, OnOk};
 ghost use Rattle.kr_tree.specs.Tree.{body_is, takes_names, is_file, entry};
 ghost use Rattle.kr_tree.specs.Names.{is_name};
-ghost use Rattle.kr_inode.specs.Stored.{body_of_new};
+ghost use Rattle.kr_tree.specs.kr_inode.Stored.{body_of_new};
 ghost use Rattle.kr_text.specs.Answers.{Changes};
 ghost use Rattle.kr_text.specs.Drawn.{IsDrawn};
 ghost use Rattle.kr_text.specs.Reading.{put, node_put, elf_put, proc_put, link_put, name_put};
@@ -11,9 +11,9 @@ use crate::fault::{LineFault, TreeWhy};
 use crate::line::Owner;
 use crate::path::Path;
 use crate::walk::{Spot, file_at, place_below};
+use kr_tree::below::pr_base::Bytes;
 use kr_tree::laws::trees_are_kept;
 use kr_tree::{Ino, Meta, Node, Tree, TreeRefusal};
-use pr_base::Bytes;
 
 /// Adds a node at a place.
 #[tactic(auto, using(crate::proofs::DrawnLemmas::numbers_fit, crate::proofs::DrawnLemmas::put_drawn))]

@@ -1,15 +1,15 @@
 //! What a path leads to in a tree.
 ghost use Rattle.std.specs.Prelude.{◌≡◌, true, None, reverse, IfOk};
 ghost use Rattle.kr_tree.specs.Tree.{body_is, takes_names, is_file, entry};
-ghost use Rattle.pr_base.specs.Paths.{parts_of};
+ghost use Rattle.kr_tree.specs.pr_base.Paths.{parts_of};
 ghost use Rattle.kr_tree.specs.Names.{named, is_name};
 ghost use Rattle.kr_text.specs.Reading.{place_below, free_in, directory_of, file_at};
 ghost use Rattle.kr_text.specs.Spots.{IsSpot};
 
 use crate::fault::TreeWhy;
 use crate::path::Path;
+use kr_tree::below::pr_base::components;
 use kr_tree::{Ino, ROOT, Tree};
-use pr_base::components;
 
 /// The inode that a path names; `None` where there is none.
 fn named(tree: &Tree, path: &[u8]) -> Option<Ino>

@@ -8,8 +8,8 @@ ghost use Rattle.kr_text.specs.Canonical.{escape, escaped, octal, bytes_field, u
 use crate::escape::is_plain;
 use crate::line::Owner;
 use crate::names::{FullPath, Named};
+use kr_tree::below::pr_base::NoMemory;
 use kr_tree::{Kind, Tree, User};
-use pr_base::NoMemory;
 use std::alloc::Global;
 
 /// Hex digits in lower case.

@@ -10,14 +10,14 @@ use Rattle.std.specs.Ordering.{nat_cmp, is_lt}
 use Rattle.std.proofs.lemmas.Bool.{cases_eq, cond-true, cond-false}
 use Rattle.std.proofs.lemmas.Bool.Decides.{nat_tests}
 use Rattle.std.proofs.lemmas.Option.{none-some}
-use Rattle.pr_base.proofs.MapLemmas.{ties-same, ties-other}
-use Rattle.kr_tree.specs.declared.place.ProcAt.TheVariants.{Fd}
-use Rattle.kr_files.specs.Descriptors.{Named}
-use Rattle.kr_model.specs.DirectoryRows as model
-use Rattle.kr_model.specs.DirectoryRows.{listed_process, of_descriptors}
-use Rattle.kr_model.specs.Known.{Family, family_of, known}
-use Rattle.kr_model.specs.State as state
-use Rattle.kr_model.specs.State.{Image, image_layout, is_pid, named, process}
+use Rattle.kr_inode.proofs.pr_base.MapLemmas.{ties-same, ties-other}
+use Rattle.kr_rows.specs.kr_tree.declared.place.ProcAt.TheVariants.{Fd}
+use Rattle.kr_rows.specs.kr_files.Descriptors.{Named}
+use Rattle.kr_rows.specs.kr_model.DirectoryRows as model
+use Rattle.kr_rows.specs.kr_model.DirectoryRows.{listed_process, of_descriptors}
+use Rattle.kr_rows.specs.kr_model.Known.{Family, family_of, known}
+use Rattle.kr_rows.specs.kr_model.State as state
+use Rattle.kr_rows.specs.kr_model.State.{Image, image_layout, is_pid, named, process}
 use Rattle.kr_transfer.specs.Listing.{first_behind}
 use Rattle.kr_transfer.proofs.ListingLemmas.{RiseBehind}
 

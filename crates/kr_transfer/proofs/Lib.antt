@@ -1,3 +1,4 @@
+pub use Rattle.kr_rows.proofs as kr_rows
 pub mod ChannelLemmas
 pub mod SizeLemmas
 pub mod PieceLemmas

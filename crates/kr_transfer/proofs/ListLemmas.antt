@@ -5,20 +5,20 @@ use Rattle.std.specs.Int.{from_le_bytes, w64}
 use Rattle.std.proofs.lemmas.Bool.{cond-true, cond-false}
 use Rattle.std.proofs.lemmas.Bool.Decides.{nat_tests}
 use Rattle.std.proofs.lemmas.List.{drop-drop, map-append}
-use Rattle.pr_base.specs.declared.errno.Errno.{Errno}
-use Rattle.pr_base.specs.declared.errno.Errno.TheVariants.{EFAULT, EINVAL}
-use Rattle.rv_mem.specs.Actions.{read_if_allowed}
-use Rattle.rv_mem.specs.declared.rights.Use.TheVariants.{Read}
-use Rattle.kr_model.specs.Known.{known}
-use Rattle.kr_model.specs.Pieces as model
-use Rattle.kr_model.specs.Pieces.{asked, cut_to, if_summed, move_limit, pieces_of, with_list}
-use Rattle.kr_model.specs.Reply.{Replying, refuse}
-use Rattle.kr_model.specs.State.{process, image_layout}
-use Rattle.kr_model.specs.State as state
-use Rattle.kr_ops.specs.declared.state.State.{State}
-use Rattle.kr_ops.specs.Making.{IsAsBefore}
-use Rattle.kr_ops.specs.Meaning.{meaning}
-use Rattle.kr_ops.specs.Sound.{IsSound}
+use Rattle.kr_inode.specs.pr_base.declared.errno.Errno.{Errno}
+use Rattle.kr_inode.specs.pr_base.declared.errno.Errno.TheVariants.{EFAULT, EINVAL}
+use Rattle.kr_rows.specs.rv_mem.Actions.{read_if_allowed}
+use Rattle.kr_rows.specs.rv_mem.declared.rights.Use.TheVariants.{Read}
+use Rattle.kr_rows.specs.kr_model.Known.{known}
+use Rattle.kr_rows.specs.kr_model.Pieces as model
+use Rattle.kr_rows.specs.kr_model.Pieces.{asked, cut_to, if_summed, move_limit, pieces_of, with_list}
+use Rattle.kr_rows.specs.kr_model.Reply.{Replying, refuse}
+use Rattle.kr_rows.specs.kr_model.State.{process, image_layout}
+use Rattle.kr_rows.specs.kr_model.State as state
+use Rattle.kr_rows.specs.kr_ops.declared.state.State.{State}
+use Rattle.kr_rows.specs.kr_ops.Making.{IsAsBefore}
+use Rattle.kr_rows.specs.kr_ops.Meaning.{meaning}
+use Rattle.kr_rows.specs.kr_ops.Sound.{IsSound}
 use Rattle.kr_rows.specs.Performing.{memory_of, with_memory_of}
 use Rattle.kr_rows.specs.Using.{HasComeTo, Reads}
 use Rattle.kr_rows.proofs.PerformLemmas.{own-memory}

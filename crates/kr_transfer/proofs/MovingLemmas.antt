@@ -1,20 +1,20 @@
 -- Rows that use all pieces of a list, and what such uses leave of a state.
 use Rattle.std.proofs.Common.{◌≡◌, ℕ, ◌+◌, ◌<◌, Bool, true, false, List, [], ◌∷◌, ◌++◌, length, refl, sym, ap, subst, ◌∙◌, arith, append_assoc}
 use Rattle.std.specs.Prelude.{◌&&◌, IsSome, take, drop, if◌then◌else◌}
-use Rattle.pr_base.specs.declared.errno.Errno.TheVariants.{EFAULT}
-use Rattle.rv_mem.specs.Actions.{WriteBytes, carried_out}
-use Rattle.rv_mem.specs.Memory.{Memory, after_read, with_pages}
-use Rattle.rv_mem.specs.Pages.{allows_all, written}
-use Rattle.rv_mem.specs.declared.rights.Use.{Use}
-use Rattle.rv_mem.specs.declared.rights.Use.TheVariants.{Write}
-use Rattle.kr_model.specs.Change.{Change}
-use Rattle.kr_model.specs.Pieces as model
-use Rattle.kr_model.specs.Pieces.{cut_to, hand, if_usable, laid_into, may_use_all, read_all, write_all}
-use Rattle.kr_model.specs.Reply.{Replying, done, refuse}
-use Rattle.kr_model.specs.State.{process}
-use Rattle.kr_ops.specs.declared.state.State.{State}
-use Rattle.kr_ops.specs.Meaning.{meaning}
-use Rattle.kr_ops.specs.Sound.{IsSound}
+use Rattle.kr_inode.specs.pr_base.declared.errno.Errno.TheVariants.{EFAULT}
+use Rattle.kr_rows.specs.rv_mem.Actions.{WriteBytes, carried_out}
+use Rattle.kr_rows.specs.rv_mem.Memory.{Memory, after_read, with_pages}
+use Rattle.kr_rows.specs.rv_mem.Pages.{allows_all, written}
+use Rattle.kr_rows.specs.rv_mem.declared.rights.Use.{Use}
+use Rattle.kr_rows.specs.rv_mem.declared.rights.Use.TheVariants.{Write}
+use Rattle.kr_rows.specs.kr_model.Change.{Change}
+use Rattle.kr_rows.specs.kr_model.Pieces as model
+use Rattle.kr_rows.specs.kr_model.Pieces.{cut_to, hand, if_usable, laid_into, may_use_all, read_all, write_all}
+use Rattle.kr_rows.specs.kr_model.Reply.{Replying, done, refuse}
+use Rattle.kr_rows.specs.kr_model.State.{process}
+use Rattle.kr_rows.specs.kr_ops.declared.state.State.{State}
+use Rattle.kr_rows.specs.kr_ops.Meaning.{meaning}
+use Rattle.kr_rows.specs.kr_ops.Sound.{IsSound}
 use Rattle.kr_rows.specs.Performing.{carried, memory_of, with_memory_of}
 use Rattle.kr_rows.specs.Using.{HasComeTo, HasMemory, Reads, Writes}
 use Rattle.kr_rows.proofs.PerformLemmas.{own-memory}

@@ -6,33 +6,33 @@ use Rattle.std.specs.Option.{option_map}
 use Rattle.std.proofs.lemmas.List.{length-take, take_min}
 use Rattle.std.proofs.lemmas.Option.{same_Some, none-some}
 use Rattle.std.proofs.lemmas.Bool.{cond-true, cond-false, ne_eqb}
-use Rattle.pr_base.specs.declared.errno.Errno.{Errno}
-use Rattle.pr_base.specs.declared.errno.Errno.TheVariants.{EBADF, EFAULT, EISDIR}
-use Rattle.kr_files.specs.declared.opened.What.{What}
-use Rattle.kr_files.specs.declared.opened.What.TheVariants.{File}
-use Rattle.rv_mem.specs.Actions.{CarriedOut, carried_out}
-use Rattle.rv_mem.specs.declared.rights.Use.TheVariants.{Write}
-use Rattle.kr_files.specs.declared.opened.Moved.{Moved}
-use Rattle.kr_files.specs.declared.opened.Moved.TheVariants.{Bytes}
-use Rattle.kr_files.specs.declared.opened.Opened.{Opened}
-use Rattle.kr_files.specs.declared.opened.PipeState.{PipeState}
-use Rattle.kr_files.specs.Files.{pipe_state_of, read_answer}
-use Rattle.kr_files.specs.Pipes.{moved_of}
-use Rattle.kr_model.specs.Applied.{Mounts, all_applied, applied, images}
-use Rattle.kr_model.specs.Change.{Change, Seek, TakeFromPipe, TakeInput}
-use Rattle.kr_model.specs.DescriptorRows.{open_bytes}
-use Rattle.kr_model.specs.FileRows.{is_dir, is_file_open, read_file, read_input, read_pieces, read_pipe, read_what}
-use Rattle.kr_model.specs.Known.{Known, known}
-use Rattle.kr_model.specs.Lawful.{ArePids}
-use Rattle.kr_model.specs.Pieces as model_pieces
-use Rattle.kr_model.specs.Pieces.{asked, cut_to, hand, laid_into, write_all}
-use Rattle.kr_model.specs.Reply.{Reply, Replying, answers, done, refusal, refuse, waits}
-use Rattle.kr_model.specs.State as model
-use Rattle.kr_model.specs.declared.outcome.Outcome.{Outcome}
-use Rattle.kr_model.specs.declared.outcome.Outcome.TheVariants.{Answer}
-use Rattle.kr_ops.specs.declared.state.State.{State}
-use Rattle.kr_ops.specs.Meaning.{meaning}
-use Rattle.kr_ops.specs.Sound.{IsOfView, IsServed, IsSound}
+use Rattle.kr_inode.specs.pr_base.declared.errno.Errno.{Errno}
+use Rattle.kr_inode.specs.pr_base.declared.errno.Errno.TheVariants.{EBADF, EFAULT, EISDIR}
+use Rattle.kr_rows.specs.kr_files.declared.opened.What.{What}
+use Rattle.kr_rows.specs.kr_files.declared.opened.What.TheVariants.{File}
+use Rattle.kr_rows.specs.rv_mem.Actions.{CarriedOut, carried_out}
+use Rattle.kr_rows.specs.rv_mem.declared.rights.Use.TheVariants.{Write}
+use Rattle.kr_rows.specs.kr_files.declared.opened.Moved.{Moved}
+use Rattle.kr_rows.specs.kr_files.declared.opened.Moved.TheVariants.{Bytes}
+use Rattle.kr_rows.specs.kr_files.declared.opened.Opened.{Opened}
+use Rattle.kr_rows.specs.kr_files.declared.opened.PipeState.{PipeState}
+use Rattle.kr_rows.specs.kr_files.Files.{pipe_state_of, read_answer}
+use Rattle.kr_rows.specs.kr_files.Pipes.{moved_of}
+use Rattle.kr_rows.specs.kr_model.Applied.{Mounts, all_applied, applied, images}
+use Rattle.kr_rows.specs.kr_model.Change.{Change, Seek, TakeFromPipe, TakeInput}
+use Rattle.kr_rows.specs.kr_model.DescriptorRows.{open_bytes}
+use Rattle.kr_rows.specs.kr_model.FileRows.{is_dir, is_file_open, read_file, read_input, read_pieces, read_pipe, read_what}
+use Rattle.kr_rows.specs.kr_model.Known.{Known, known}
+use Rattle.kr_rows.specs.kr_model.Lawful.{ArePids}
+use Rattle.kr_rows.specs.kr_model.Pieces as model_pieces
+use Rattle.kr_rows.specs.kr_model.Pieces.{asked, cut_to, hand, laid_into, write_all}
+use Rattle.kr_rows.specs.kr_model.Reply.{Reply, Replying, answers, done, refusal, refuse, waits}
+use Rattle.kr_rows.specs.kr_model.State as model
+use Rattle.kr_rows.specs.kr_model.declared.outcome.Outcome.{Outcome}
+use Rattle.kr_rows.specs.kr_model.declared.outcome.Outcome.TheVariants.{Answer}
+use Rattle.kr_rows.specs.kr_ops.declared.state.State.{State}
+use Rattle.kr_rows.specs.kr_ops.Meaning.{meaning}
+use Rattle.kr_rows.specs.kr_ops.Sound.{IsOfView, IsServed, IsSound}
 use Rattle.kr_rows.specs.Performing.{IsPerformed, after_row, carried, memory_of, with_memory_of}
 use Rattle.kr_rows.specs.Using.{HasComeTo}
 use Rattle.kr_rows.proofs.PerformLemmas.{by-reply}

@@ -3,21 +3,21 @@ use Rattle.std.specs.FinMap as map
 use Rattle.std.proofs.Common.{◌≡◌, ℕ, ◌≤◌, Option, Some, refl, sym, ap, subst, ◌∙◌, arith}
 use Rattle.std.specs.Prelude.{IsSome}
 use Rattle.std.specs.Option.{option_map_or}
-use Rattle.rv_mem.specs.Pages.{Pages, IsPlaced, IsWhole}
-use Rattle.kr_lawful.proofs.AfterLemmas.{parts-of}
-use Rattle.kr_lawful.proofs.ChangeLemmas.{every-change-keeps}
-use Rattle.kr_lawful.proofs.OwnChangeLemmas.{process-keeps}
-use Rattle.kr_model.specs.Applied.{Mounts, applied, images, with_image}
-use Rattle.kr_model.specs.Change.{Change}
-use Rattle.kr_model.specs.Conditions.{CanBeMade}
-use Rattle.kr_model.specs.Known.{Known, pages_in_all}
-use Rattle.kr_model.specs.Lawful.{IsLawful}
-use Rattle.kr_model.specs.MemoryRows.{process_pages}
-use Rattle.kr_model.specs.State as model
-use Rattle.kr_ops.specs.declared.state.State.{State}
-use Rattle.kr_ops.specs.Meaning.{meaning}
-use Rattle.kr_ops.specs.Sound.{IsOfView, IsServed, IsSound}
-use Rattle.kr_ops.proofs.UseLemmas.{sound-of}
+use Rattle.kr_rows.specs.rv_mem.Pages.{Pages, IsPlaced, IsWhole}
+use Rattle.kr_rows.proofs.kr_lawful.AfterLemmas.{parts-of}
+use Rattle.kr_rows.proofs.kr_lawful.ChangeLemmas.{every-change-keeps}
+use Rattle.kr_rows.proofs.kr_lawful.OwnChangeLemmas.{process-keeps}
+use Rattle.kr_rows.specs.kr_model.Applied.{Mounts, applied, images, with_image}
+use Rattle.kr_rows.specs.kr_model.Change.{Change}
+use Rattle.kr_rows.specs.kr_model.Conditions.{CanBeMade}
+use Rattle.kr_rows.specs.kr_model.Known.{Known, pages_in_all}
+use Rattle.kr_rows.specs.kr_model.Lawful.{IsLawful}
+use Rattle.kr_rows.specs.kr_model.MemoryRows.{process_pages}
+use Rattle.kr_rows.specs.kr_model.State as model
+use Rattle.kr_rows.specs.kr_ops.declared.state.State.{State}
+use Rattle.kr_rows.specs.kr_ops.Meaning.{meaning}
+use Rattle.kr_rows.specs.kr_ops.Sound.{IsOfView, IsServed, IsSound}
+use Rattle.kr_rows.proofs.kr_ops.UseLemmas.{sound-of}
 use Rattle.kr_rows.specs.Performing.{memory_of, no_memory, with_memory, with_memory_of}
 use Rattle.kr_transfer.specs.Moving.{OnlyReads}
 

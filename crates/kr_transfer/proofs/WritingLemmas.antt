@@ -4,30 +4,30 @@ use Rattle.std.specs.Prelude.{IsSome, ◌&&◌, ◌==◌, max, nat_le, not, if�
 use Rattle.std.specs.Option.{option_map, option_map_or}
 use Rattle.std.proofs.lemmas.Bool.{cond-true, cond-false, ne_eqb}
 use Rattle.std.proofs.lemmas.Bool.Decides.{nat_tests}
-use Rattle.pr_base.specs.declared.errno.Errno.TheVariants.{EFAULT, EFBIG, ENOSPC}
-use Rattle.rv_mem.specs.Actions.{CarriedOut}
-use Rattle.rv_mem.specs.Pages.{Pages}
-use Rattle.rv_mem.specs.declared.rights.Use.{Use}
-use Rattle.rv_mem.specs.declared.rights.Use.TheVariants.{Read}
-use Rattle.kr_tree.specs.Tree.{Inode, Tree, Body, RegularFile, Directory, SymbolicLink, ProcessDirectory, body, body_is, bytes_of, inode, is_file}
-use Rattle.kr_tree.specs.Changes.{byte_limit, file_limit, has_no_room_for as tree_has_no_room_for, is_past_file, size, size_written}
-use Rattle.kr_tree.specs.Lawful.{AreBytes}
-use Rattle.kr_files.specs.declared.opened.Opened.{Opened}
-use Rattle.kr_files.specs.declared.opened.What.{What}
-use Rattle.kr_model.specs.Applied.{Mounts, all_applied, applied, images}
-use Rattle.kr_model.specs.Change.{PutIntoPipe, Seek, WriteFile}
-use Rattle.kr_model.specs.Conditions.{CanWrite}
-use Rattle.kr_model.specs.DescriptorRows.{open_bytes}
-use Rattle.kr_model.specs.FileRows.{is_file_open, put_in_file, sigpipe, write_file, write_pieces, write_pipe, write_place, write_what}
-use Rattle.kr_model.specs.Known.{Known, known}
-use Rattle.kr_model.specs.Pieces as model_pieces
-use Rattle.kr_model.specs.Pieces.{asked, cut_to, if_usable, read_all}
-use Rattle.kr_model.specs.Reply.{Reply, Replying, done, ends, refuse, waits}
-use Rattle.kr_model.specs.State as model
-use Rattle.kr_model.specs.declared.outcome.Outcome.{Outcome}
-use Rattle.kr_ops.specs.declared.state.State.{State}
-use Rattle.kr_ops.specs.Meaning.{meaning}
-use Rattle.kr_ops.specs.Sound.{IsOfView, IsServed, IsSound}
+use Rattle.kr_inode.specs.pr_base.declared.errno.Errno.TheVariants.{EFAULT, EFBIG, ENOSPC}
+use Rattle.kr_rows.specs.rv_mem.Actions.{CarriedOut}
+use Rattle.kr_rows.specs.rv_mem.Pages.{Pages}
+use Rattle.kr_rows.specs.rv_mem.declared.rights.Use.{Use}
+use Rattle.kr_rows.specs.rv_mem.declared.rights.Use.TheVariants.{Read}
+use Rattle.kr_rows.specs.kr_tree.Tree.{Inode, Tree, Body, RegularFile, Directory, SymbolicLink, ProcessDirectory, body, body_is, bytes_of, inode, is_file}
+use Rattle.kr_rows.specs.kr_tree.Changes.{byte_limit, file_limit, has_no_room_for as tree_has_no_room_for, is_past_file, size, size_written}
+use Rattle.kr_rows.specs.kr_tree.Lawful.{AreBytes}
+use Rattle.kr_rows.specs.kr_files.declared.opened.Opened.{Opened}
+use Rattle.kr_rows.specs.kr_files.declared.opened.What.{What}
+use Rattle.kr_rows.specs.kr_model.Applied.{Mounts, all_applied, applied, images}
+use Rattle.kr_rows.specs.kr_model.Change.{PutIntoPipe, Seek, WriteFile}
+use Rattle.kr_rows.specs.kr_model.Conditions.{CanWrite}
+use Rattle.kr_rows.specs.kr_model.DescriptorRows.{open_bytes}
+use Rattle.kr_rows.specs.kr_model.FileRows.{is_file_open, put_in_file, sigpipe, write_file, write_pieces, write_pipe, write_place, write_what}
+use Rattle.kr_rows.specs.kr_model.Known.{Known, known}
+use Rattle.kr_rows.specs.kr_model.Pieces as model_pieces
+use Rattle.kr_rows.specs.kr_model.Pieces.{asked, cut_to, if_usable, read_all}
+use Rattle.kr_rows.specs.kr_model.Reply.{Reply, Replying, done, ends, refuse, waits}
+use Rattle.kr_rows.specs.kr_model.State as model
+use Rattle.kr_rows.specs.kr_model.declared.outcome.Outcome.{Outcome}
+use Rattle.kr_rows.specs.kr_ops.declared.state.State.{State}
+use Rattle.kr_rows.specs.kr_ops.Meaning.{meaning}
+use Rattle.kr_rows.specs.kr_ops.Sound.{IsOfView, IsServed, IsSound}
 use Rattle.kr_rows.specs.Performing.{IsPerformed, after_row, carried, memory_of}
 use Rattle.kr_rows.specs.Using.{HasComeTo}
 use Rattle.kr_transfer.specs.Channels.{IsChannelOf, IsOpenHere, inode_under}

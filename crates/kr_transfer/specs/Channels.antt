@@ -1,17 +1,17 @@
 -- What a call asks of an open file of its caller.
 use Rattle.std.specs.Prelude.{◌≡◌, ◌≢◌, ℕ, ℤ, Option, Some, None}
 use Rattle.std.specs.Option.{option_map, option_and_then}
-use Rattle.kr_tree.specs.declared.place.Host.{Host}
-use Rattle.kr_tree.specs.declared.place.Host.TheVariants.{Node, Proc}
-use Rattle.kr_files.specs.declared.opened.Opened.{Opened}
-use Rattle.kr_model.specs.Asking.{descriptor_number}
-use Rattle.kr_model.specs.Known.{Known, known}
-use Rattle.kr_model.specs.Reply.{Replying}
-use Rattle.kr_model.specs.State.{image_layout}
-use Rattle.kr_model.specs.declared.outcome.Outcome.{Outcome}
-use Rattle.kr_model.specs.declared.outcome.Outcome.TheVariants.{NoMemory}
-use Rattle.kr_ops.specs.declared.state.State.{State}
-use Rattle.kr_ops.specs.Meaning.{meaning}
+use Rattle.kr_rows.specs.kr_tree.declared.place.Host.{Host}
+use Rattle.kr_rows.specs.kr_tree.declared.place.Host.TheVariants.{Node, Proc}
+use Rattle.kr_rows.specs.kr_files.declared.opened.Opened.{Opened}
+use Rattle.kr_rows.specs.kr_model.Asking.{descriptor_number}
+use Rattle.kr_rows.specs.kr_model.Known.{Known, known}
+use Rattle.kr_rows.specs.kr_model.Reply.{Replying}
+use Rattle.kr_rows.specs.kr_model.State.{image_layout}
+use Rattle.kr_rows.specs.kr_model.declared.outcome.Outcome.{Outcome}
+use Rattle.kr_rows.specs.kr_model.declared.outcome.Outcome.TheVariants.{NoMemory}
+use Rattle.kr_rows.specs.kr_ops.declared.state.State.{State}
+use Rattle.kr_rows.specs.kr_ops.Meaning.{meaning}
 use Rattle.kr_rows.specs.Performing.{IsPerformed}
 use Rattle.kr_transfer.specs.declared.channel.Channel.{Channel}
 

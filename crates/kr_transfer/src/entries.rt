@@ -1,17 +1,17 @@
 //! getdents64(2).
 ghost use Rattle.std.specs.Prelude.{◌≡◌, ◌≢◌, ◌<◌, ◌≤◌, ◌∷◌, [], length, true, is_some, IfOk, IfSome, IsSome};
 ghost use Rattle.std.specs.Option.{option_map_or};
-ghost use Rattle.pr_base.specs.declared.errno.Errno.TheVariants.{EFAULT as Fault, ENOTDIR as NotDirectory};
-ghost use Rattle.rv_mem.specs.Actions.{write_if_allowed};
-ghost use Rattle.kr_model.specs.Asking.{is_directory_host};
-ghost use Rattle.kr_model.specs.Change.{Seek};
-ghost use Rattle.kr_model.specs.DirectoryRows.{behind, fitting, getdents64_row, list_host, list_rest, listed_bytes, shown_by};
-ghost use Rattle.kr_model.specs.Known.{known};
-ghost use Rattle.kr_model.specs.Reply.{done, refuse};
-ghost use Rattle.kr_model.specs.State.{image_layout, process};
-ghost use Rattle.kr_model.specs.declared.outcome.Outcome.TheVariants.{NoMemory as WantOfMemory};
-ghost use Rattle.kr_ops.specs.Meaning.{meaning};
-ghost use Rattle.kr_ops.specs.Sound.{IsOfView, IsServed, IsSound};
+ghost use Rattle.kr_inode.specs.pr_base.declared.errno.Errno.TheVariants.{EFAULT as Fault, ENOTDIR as NotDirectory};
+ghost use Rattle.kr_rows.specs.rv_mem.Actions.{write_if_allowed};
+ghost use Rattle.kr_rows.specs.kr_model.Asking.{is_directory_host};
+ghost use Rattle.kr_rows.specs.kr_model.Change.{Seek};
+ghost use Rattle.kr_rows.specs.kr_model.DirectoryRows.{behind, fitting, getdents64_row, list_host, list_rest, listed_bytes, shown_by};
+ghost use Rattle.kr_rows.specs.kr_model.Known.{known};
+ghost use Rattle.kr_rows.specs.kr_model.Reply.{done, refuse};
+ghost use Rattle.kr_rows.specs.kr_model.State.{image_layout, process};
+ghost use Rattle.kr_rows.specs.kr_model.declared.outcome.Outcome.TheVariants.{NoMemory as WantOfMemory};
+ghost use Rattle.kr_rows.specs.kr_ops.Meaning.{meaning};
+ghost use Rattle.kr_rows.specs.kr_ops.Sound.{IsOfView, IsServed, IsSound};
 ghost use Rattle.kr_rows.specs.Performing.{Performs};
 ghost use Rattle.kr_transfer.specs.Channels.{PerformsOn};
 ghost use Rattle.kr_transfer.specs.Listing.{all_shown, last_from, IsNextFitting};
@@ -20,15 +20,12 @@ use crate::channel::{Channel, channel_of};
 use crate::listing::{Listed, or_zero, record_length};
 use crate::moving::allocator_of;
 use crate::shown::{is_shown, next_listed};
-use kr_calls::dirent_bytes;
-use kr_model::Outcome;
-use kr_ops::State;
-use kr_ops::laws::lawful_states_are_sound;
+use kr_inode::below::pr_base::{Bytes, Errno, NoMemory};
 use kr_rows::answer::{number, refused};
+use kr_rows::below::{
+    Host, Outcome, ProcAt, State, StoreFault, dirent_bytes, lawful_states_are_sound,
+};
 use kr_rows::caller;
-use kr_tree::{Host, ProcAt};
-use pr_base::{Bytes, Errno, NoMemory};
-use rv_mem::StoreFault;
 
 /// Entries as bytes, and the serial of the last one.
 #[derive(Drop)]

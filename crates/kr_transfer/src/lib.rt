@@ -1,6 +1,7 @@
 //! Calls of a guest that move bytes between files, pipes, the console and its memory, carried out on the state of a kernel.
 #![tactic(auto)]
 
+pub mod below;
 mod channel;
 pub mod entries;
 pub mod listing;

@@ -1,23 +1,22 @@
 //! Bytes that are moved between calls and pieces of the caller's memory.
 ghost use Rattle.std.specs.Prelude.{◌≡◌, ◌<◌, ◌≤◌, ◌^◌, ℕ, List, true, false, length, IfOk, IfSome, OnOk, OnErr, IsErrOf, IsSome, take, drop};
-ghost use Rattle.pr_base.specs.declared.errno.Errno.TheVariants.{EFAULT as Fault};
-ghost use Rattle.rv_mem.specs.declared.rights.Use.TheVariants.{Read, Write};
-ghost use Rattle.kr_model.specs.Change.{Change};
-ghost use Rattle.kr_model.specs.Pieces.{asked, cut_to, hand, laid_into, read_all, write_all};
-ghost use Rattle.kr_model.specs.Reply.{Replying, done, refuse};
-ghost use Rattle.kr_model.specs.State.{process};
-ghost use Rattle.kr_ops.specs.Making.{IsAsBefore};
-ghost use Rattle.kr_ops.specs.Meaning.{meaning};
-ghost use Rattle.kr_ops.specs.Sound.{IsSound};
+ghost use Rattle.kr_inode.specs.pr_base.declared.errno.Errno.TheVariants.{EFAULT as Fault};
+ghost use Rattle.kr_rows.specs.rv_mem.declared.rights.Use.TheVariants.{Read, Write};
+ghost use Rattle.kr_rows.specs.kr_model.Change.{Change};
+ghost use Rattle.kr_rows.specs.kr_model.Pieces.{asked, cut_to, hand, laid_into, read_all, write_all};
+ghost use Rattle.kr_rows.specs.kr_model.Reply.{Replying, done, refuse};
+ghost use Rattle.kr_rows.specs.kr_model.State.{process};
+ghost use Rattle.kr_rows.specs.kr_ops.Making.{IsAsBefore};
+ghost use Rattle.kr_rows.specs.kr_ops.Meaning.{meaning};
+ghost use Rattle.kr_rows.specs.kr_ops.Sound.{IsSound};
 ghost use Rattle.kr_rows.specs.Performing.{memory_of};
 ghost use Rattle.kr_rows.specs.Using.{HasComeTo};
 ghost use Rattle.kr_transfer.specs.Moving.{all_allowed, told, LeavesOthers, OnlyReads};
 
 use crate::pieces::Piece;
-use kr_ops::State;
+use kr_inode::below::pr_base::{Bytes, NoMemory};
+use kr_rows::below::{State, StoreFault, Use};
 use kr_rows::caller::{self, LoadFault};
-use pr_base::{Bytes, NoMemory};
-use rv_mem::{StoreFault, Use};
 use std::alloc::Global;
 
 /// The most bytes that one call moves.

@@ -11,7 +11,7 @@ use Rattle.kr_tree.specs.Names.{is_name}
 use Rattle.kr_inode.specs.Entries.{IsListed}
 use Rattle.kr_tree.specs.Changes.{fresh, added, with_inode, with_entry, with_standing, next_serial, next_standing, is_unused, is_too_big, has_no_room, counted, count_limit, byte_limit, file_limit}
 use Rattle.kr_tree.specs.Lawful.{IsKept, IsSound, IsCounted, HasNoUnused, RisesToEnd, AtRoot, AtRemoved, Above, IsIn, entries_beside, count_in, directories_in, names_of, total, AreBytes, IsOfBytes}
-use Rattle.pr_base.proofs.MapLemmas.{get-insert_same, get-insert_other, get-changed_same, get-changed_other, len-changed}
+use Rattle.kr_inode.proofs.pr_base.MapLemmas.{get-insert_same, get-insert_other, get-changed_same, get-changed_other, len-changed}
 use Rattle.kr_tree.proofs.OfBytesLemmas.{of_bytes-added}
 use Rattle.kr_inode.proofs.EntryLemmas.{listed-none, listed-new, in-new, in-last, in-append}
 use Rattle.kr_inode.proofs.BodyLemmas.{entries-with_entries, standing-with_entries, is_directory-with_entries, is_listed-with_entries, bytes-with_entries, file-with_entries, entries-with_standing, standing-with_standing, is_directory-with_standing, bytes-with_standing, file-with_standing, takes-is_listed, takes-stands, listed-is_directory, is_directory-stands}

@@ -6,7 +6,7 @@ use Rattle.kr_inode.specs.declared.standing.Standing.{Standing}
 use Rattle.std.proofs.lemmas.Bool.{cases_eq, ne_eqb}
 use Rattle.kr_tree.specs.Tree.{Tree, Inode, Inodes, Entry, root, inode, entries, entries_of, standing, standing_of, above, body_is, is_directory, is_listed}
 use Rattle.kr_tree.specs.Changes.{counted, count_limit, with_inode}
-use Rattle.pr_base.proofs.MapLemmas.{get-changed_same, get-changed_other}
+use Rattle.kr_inode.proofs.pr_base.MapLemmas.{get-changed_same, get-changed_other}
 use Rattle.kr_inode.proofs.BodyLemmas.{listed-is_directory}
 use Rattle.kr_tree.specs.Lawful.{sum_below, count_in, directories_in, IsIn, IsCounted, IsSound, HasItsInodes}
 

@@ -7,7 +7,7 @@ use Rattle.std.proofs.lemmas.Bool.{cases_eq, eqb-true}
 use Rattle.kr_tree.specs.Tree.{Tree, Inode, Entry, RegularFile, root, inode, entries, entries_of, standing, standing_of, body_is, is_directory, is_listed, body, bytes_of}
 use Rattle.kr_tree.specs.Changes.{is_unused, is_unused_at, freed, dropped_if_unused, file_limit}
 use Rattle.kr_tree.specs.Lawful.{IsKept, IsSound, IsCounted, HasNoUnused, HasBytes, IsIn, entries_beside, count_in, directories_in, names_of, total}
-use Rattle.pr_base.proofs.MapLemmas.{get-remove_same, get-remove_other, by_key}
+use Rattle.kr_inode.proofs.pr_base.MapLemmas.{get-remove_same, get-remove_other, by_key}
 use Rattle.kr_tree.proofs.OfBytesLemmas.{of_bytes-removed}
 use Rattle.kr_tree.proofs.CountLemmas.{value, sum-changed, sum-at, in-counted, counted-same, entries_there}
 use Rattle.kr_tree.proofs.QuietLemmas.{LooksAlike, of_entries, sound-alike, counted-alike}

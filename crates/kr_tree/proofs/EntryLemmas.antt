@@ -3,7 +3,7 @@ use Rattle.std.proofs.Common.{◌≡◌, ℕ, Bool, true, false, List, [], ◌�
 use Rattle.std.specs.Bool.{if◌then◌else◌}
 use Rattle.std.specs.Option.{option_map, option_map_or, option_and_then}
 use Rattle.std.proofs.lemmas.Slice.Eq.{bytes_eq-Decides}
-use Rattle.pr_base.specs.Paths.{IsName}
+use Rattle.kr_inode.specs.pr_base.Paths.{IsName}
 use Rattle.kr_inode.specs.declared.standing.Standing.{Standing}
 use Rattle.kr_inode.specs.declared.user.User.{User}
 use Rattle.kr_inode.specs.declared.user.Right.TheVariants.{Search}

@@ -4,7 +4,7 @@ use Rattle.std.proofs.Common.{◌≡◌, ℕ, ◌+◌, ◌-◌, ◌≤◌, ◌<�
 use Rattle.std.specs.Ordering.{nat_cmp}
 use Rattle.std.specs.Option.{option_map_or}
 use Rattle.std.proofs.lemmas.Bool.{eqb-true}
-use Rattle.pr_base.proofs.MapLemmas.{by_key, get-insert_same, get-insert_other, get-remove_same, get-remove_other, stays-changed}
+use Rattle.kr_inode.proofs.pr_base.MapLemmas.{by_key, get-insert_same, get-insert_other, get-remove_same, get-remove_other, stays-changed}
 use Rattle.kr_tree.specs.Tree.{Tree, Inode, Inodes, Body, Directory, root, inode, entry, body_is, is_directory}
 use Rattle.kr_tree.specs.Changes.{new_tree, with_inode, with_holds, with_body, with_mode, with_owner, with_bytes, with_standing, with_entry, without_entry, with_names, unnamed, is_unused, is_unused_at, without_unused, held, released, unlinked, removed, moved, renamed_onto, renamed, added, linked, fresh, next_standing}
 use Rattle.kr_tree.specs.Lawful.{IsSound, sum_below}

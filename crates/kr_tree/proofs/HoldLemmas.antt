@@ -3,8 +3,8 @@ use Rattle.std.specs.FinMap as map
 use Rattle.std.proofs.Common.{◌≡◌, subst, ℕ, zero, suc, ◌+◌, ◌-◌, ◌≤◌, ◌<◌, Bool, true, false, ◌&&◌, ◌||◌, nat_eq, nat_le, nat_lt, List, [], length, refl, sym, ap, ◌∙◌, arith, cond, Option, Some, None}
 use Rattle.std.specs.Option.{option_map, option_map_or, option_and_then}
 use Rattle.std.proofs.lemmas.Bool.Decides.{nat_tests}
-use Rattle.pr_base.specs.Maps.{mapped}
-use Rattle.pr_base.proofs.MapLemmas.{by_key, same_values, get-changed_same, get-changed_other, get-remove_same, get-remove_other, len-mapped, get-mapped, mapped-insert, mapped-remove}
+use Rattle.kr_inode.specs.pr_base.Maps.{mapped}
+use Rattle.kr_inode.proofs.pr_base.MapLemmas.{by_key, same_values, get-changed_same, get-changed_other, get-remove_same, get-remove_other, len-mapped, get-mapped, mapped-insert, mapped-remove}
 use Rattle.kr_inode.specs.declared.standing.Standing.{Standing}
 use Rattle.kr_tree.specs.Tree.{Tree, Inode, Inodes, Body, root, inode, body, body_is, entry, entries_of, entry_named, standing_of, is_directory, is_listed, bytes_of, nodes}
 use Rattle.kr_tree.specs.Changes.{with_inode, with_inodes, with_holds, with_body, with_mode, with_owner, with_bytes, with_standing, with_entry, without_entry, with_names, unnamed, is_unused, is_unused_at, dropped_if_unused, held, released, unlinked, removed, moved, renamed_onto, renamed, added, linked, bytes_set, fresh, next_serial, next_standing, count_limit, byte_limit, size}

@@ -2,7 +2,7 @@
 use Rattle.std.specs.FinMap as map
 use Rattle.std.proofs.Common.{◌≡◌, ◌≢◌, ℕ, Bool, true, false, refl, sym, ap, ◌∙◌, cond, Option, None}
 use Rattle.std.specs.Option.{option_map, option_map_or}
-use Rattle.pr_base.proofs.MapLemmas.{same_values, by_key, get-remove_same, get-remove_other, get-changed_same, get-changed_other, stays-changed}
+use Rattle.kr_inode.proofs.pr_base.MapLemmas.{same_values, by_key, get-remove_same, get-remove_other, get-changed_same, get-changed_other, stays-changed}
 use Rattle.kr_tree.specs.Tree.{Inode, Inodes}
 use Rattle.kr_tree.specs.Changes.{with_inode, is_unused, is_unused_at, without_unused}
 

@@ -9,7 +9,7 @@ use Rattle.kr_tree.specs.Names.{is_name}
 use Rattle.kr_inode.specs.Entries.{IsListed}
 use Rattle.kr_tree.specs.Changes.{linked, with_inode, with_entry, with_names, is_unused, has_no_name_left, counted, count_limit, file_limit}
 use Rattle.kr_tree.specs.Lawful.{IsKept, IsSound, IsCounted, HasNoUnused, RisesToEnd, AtRoot, AtRemoved, Above, IsIn, entries_beside, count_in, directories_in, total, AreBytes}
-use Rattle.pr_base.proofs.MapLemmas.{get-changed_same, get-changed_other, len-changed}
+use Rattle.kr_inode.proofs.pr_base.MapLemmas.{get-changed_same, get-changed_other, len-changed}
 use Rattle.kr_tree.proofs.OfBytesLemmas.{of_bytes-linked}
 use Rattle.kr_inode.proofs.EntryLemmas.{listed-new, in-new, in-append}
 use Rattle.kr_inode.proofs.BodyLemmas.{entries-with_entries, standing-with_entries, is_directory-with_entries, is_listed-with_entries, bytes-with_entries, file-with_entries, takes-is_listed, takes-stands, listed-is_directory, linked-is_directory}

@@ -10,7 +10,7 @@ use Rattle.kr_tree.specs.Tree.{Tree, Inode, Entry, Directory, RegularFile, root,
 use Rattle.kr_inode.specs.Entries.{IsListed}
 use Rattle.kr_tree.specs.Changes.{fresh, new_tree, is_unused}
 use Rattle.kr_tree.specs.Lawful.{IsSound, IsCounted, HasNoUnused, RisesToEnd, AtRoot, IsIn, entries_beside, count_in, directories_in, names_of, total}
-use Rattle.pr_base.proofs.MapLemmas.{get-insert_same, get-insert_other, by_key}
+use Rattle.kr_inode.proofs.pr_base.MapLemmas.{get-insert_same, get-insert_other, by_key}
 use Rattle.kr_inode.proofs.EntryLemmas.{listed-none}
 use Rattle.kr_tree.proofs.CountLemmas.{value, sum-zero, counted-other}
 

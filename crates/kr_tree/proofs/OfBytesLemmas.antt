@@ -8,7 +8,7 @@ use Rattle.kr_inode.specs.declared.standing.Standing.{Standing}
 use Rattle.kr_tree.specs.Tree.{Tree, Inodes, Inode, Body, Directory, RegularFile, SymbolicLink, ProcessDirectory, root, body_is, is_directory}
 use Rattle.kr_tree.specs.Changes.{with_entries, with_standing, with_bytes, without_name, sized, overwritten, with_entry, without_entry, with_body, with_names, unnamed, with_inode, fresh, new_tree, added, linked, moved, next_standing}
 use Rattle.kr_tree.specs.Lawful.{HasBytes, AreBytes, IsOfBytes}
-use Rattle.pr_base.proofs.MapLemmas.{get-insert_same, get-insert_other, get-remove_same, get-remove_other, by_key, each-changed}
+use Rattle.kr_inode.proofs.pr_base.MapLemmas.{get-insert_same, get-insert_other, get-remove_same, get-remove_other, by_key, each-changed}
 
 -- ---- lists
 

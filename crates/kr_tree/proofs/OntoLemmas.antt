@@ -9,7 +9,7 @@ use Rattle.kr_tree.specs.Tree.{Tree, Inode, Inodes, inode, entry, entry_named, e
 use Rattle.kr_tree.specs.Names.{is_name}
 use Rattle.kr_tree.specs.Changes.{with_inode, with_body, with_standing, with_entry, without_entry, without_name, next_serial, next_standing, moved, unlinked, unnamed, without_unused, freed, is_unused, counted}
 use Rattle.kr_tree.specs.Lawful.{IsKept, IsBelow, Here, Below, directories_in, AreBytes}
-use Rattle.pr_base.proofs.MapLemmas.{get-changed_same, get-changed_other, stays-changed, changed-swap, changed-twice}
+use Rattle.kr_inode.proofs.pr_base.MapLemmas.{get-changed_same, get-changed_other, stays-changed, changed-swap, changed-twice}
 use Rattle.kr_tree.proofs.InodesLemmas.{get-unused_other, unused_same, unused-with}
 use Rattle.kr_inode.proofs.EntryLemmas.{named_in, named-without, named-gone}
 use Rattle.kr_inode.proofs.BodyLemmas.{entries-with_entries, standing-with_entries, is_directory-with_entries, takes-with_entries, takes-is_listed, filled-entries, standing-without}

@@ -7,7 +7,7 @@ use Rattle.kr_tree.specs.Tree.{Tree, Inode, Inodes, Entry, RegularFile, root, in
 use Rattle.kr_inode.specs.Entries.{IsListed}
 use Rattle.kr_tree.specs.Changes.{with_inode, with_body, with_bytes, size, is_unused, count_limit, byte_limit, file_limit}
 use Rattle.kr_tree.specs.Lawful.{IsKept, IsSound, IsCounted, HasNoUnused, RisesToEnd, AtRoot, AtRemoved, Above, IsIn, entries_beside, count_in, directories_in, total, sum_below, AreBytes, IsOfBytes}
-use Rattle.pr_base.proofs.MapLemmas.{get-changed_same, get-changed_other, len-changed, by_key}
+use Rattle.kr_inode.proofs.pr_base.MapLemmas.{get-changed_same, get-changed_other, len-changed, by_key}
 use Rattle.kr_tree.proofs.OfBytesLemmas.{of_bytes-with, of_bytes-with_bytes}
 use Rattle.kr_inode.proofs.BodyLemmas.{entries-with_bytes, standing-with_bytes, is_directory-with_bytes, is_listed-with_bytes, file-with_bytes}
 use Rattle.kr_tree.proofs.AddLemmas.{passing}

@@ -9,7 +9,7 @@ use Rattle.kr_tree.specs.Tree.{Tree, Inode, Inodes, Entry, Body, RegularFile, ro
 use Rattle.kr_inode.specs.Entries.{IsListed}
 use Rattle.kr_tree.specs.Changes.{with_inode, without_entry, without_name, unnamed, unlinked, without_unused, freed, is_unused, counted, file_limit}
 use Rattle.kr_tree.specs.Lawful.{IsKept, IsSound, IsCounted, RisesToEnd, AtRoot, AtRemoved, Above, IsIn, entries_beside, count_in, directories_in, names_of, total}
-use Rattle.pr_base.proofs.MapLemmas.{get-changed_same, get-changed_other, len-changed}
+use Rattle.kr_inode.proofs.pr_base.MapLemmas.{get-changed_same, get-changed_other, len-changed}
 use Rattle.kr_tree.proofs.InodesLemmas.{stays-names}
 use Rattle.kr_tree.proofs.OfBytesLemmas.{of_bytes-parted}
 use Rattle.kr_inode.proofs.EntryLemmas.{listed-without, named_in, in_named, in_above, serial_alone, in_without, in_still, weighed, weighed-without}

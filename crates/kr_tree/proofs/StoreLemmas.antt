@@ -5,8 +5,8 @@ use Rattle.std.specs.Ordering.{nat_cmp}
 use Rattle.std.specs.Option.{IsSome}
 use Rattle.std.specs.Map.{lookup}
 use Rattle.std.specs.BTreeMap.{BTreeMap, is_at, get_by, UpdatesBy}
-use Rattle.pr_base.proofs.BTreeLemmas.{get-view, inserted}
-use Rattle.pr_base.proofs.MapLemmas.{changed-some, changed-none, changed-id}
+use Rattle.kr_inode.proofs.pr_base.BTreeLemmas.{get-view, inserted}
+use Rattle.kr_inode.proofs.pr_base.MapLemmas.{changed-some, changed-none, changed-id}
 use Rattle.kr_tree.specs.Tree.{Inode, Inodes}
 use Rattle.kr_tree.specs.Changes.{with_inode}
 

@@ -2,7 +2,7 @@
 use Rattle.std.specs.Prelude.{ℕ, ◌+◌, ◌-◌, Bool, false, ◌||◌, List, [], length, Option, Some, None, nat_eq, nat_le, nat_lt, if◌then◌else◌}
 use Rattle.std.specs.FinMap as map
 use Rattle.std.specs.Option.{option_map_or}
-use Rattle.pr_base.specs.Maps.{changed}
+use Rattle.kr_inode.specs.pr_base.Maps.{changed}
 use Rattle.kr_inode.specs.declared.standing.Standing.{Standing}
 use Rattle.kr_tree.specs.Tree.{Tree, Inodes, Inode, Body, Directory, root, inode, entry, is_directory, bytes_of, body_is}
 -- changes of a node by itself

@@ -1,7 +1,7 @@
 -- How often the inodes of a tree are held, and a tree with fewer holds.
 use Rattle.std.specs.Prelude.{ℕ, ◌≡◌, ◌+◌, ◌-◌, ◌≤◌, ◌<◌, ◌^◌, List, IsSome}
 use Rattle.std.specs.Option.{option_map, option_map_or}
-use Rattle.pr_base.specs.Maps.{mapped}
+use Rattle.kr_inode.specs.pr_base.Maps.{mapped}
 use Rattle.kr_tree.specs.Tree.{Tree, Inode, Body, inode, node, nodes, entry, entries}
 use Rattle.kr_tree.specs.Changes.{with_holds, new_tree, added, linked, removed, renamed, held, released, mode_set, owner_set, bytes_set, next_serial, has_no_room, has_no_name_left, has_no_room_for}
 use Rattle.kr_tree.specs.Lawful.{IsSound, IsKept, total}

@@ -1,3 +1,5 @@
+pub use Rattle.kr_inode.specs.pr_base as pr_base
+pub use Rattle.kr_inode.specs as kr_inode
 pub mod Changes
 pub mod Holds
 pub mod Lawful

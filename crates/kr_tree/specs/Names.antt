@@ -8,7 +8,7 @@ use Rattle.kr_inode.specs.declared.user.Right.TheVariants.{Search}
 use Rattle.kr_inode.specs.declared.standing.Standing.{Standing}
 use Rattle.kr_tree.specs.declared.place.ProcAt.{ProcAt}
 use Rattle.kr_tree.specs.declared.place.ProcAt.TheVariants.{SelfLink, Dir, Cwd, Root, Exe, FdDir, Fd}
-use Rattle.pr_base.specs.Paths.{AreNames}
+use Rattle.kr_inode.specs.pr_base.Paths.{AreNames}
 use Rattle.kr_tree.specs.Tree.{Tree, root, entry, entry_at, entries, standing, body_is, is_directory}
 use Rattle.kr_tree.specs.Rights.{may}
 -- the name of an entry

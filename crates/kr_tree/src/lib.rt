@@ -1,6 +1,7 @@
 //! The tree of inodes on which both machines work.
 #![tactic(auto)]
 
+pub mod below;
 pub mod hold_laws;
 pub mod laws;
 mod name;

@@ -1,8 +1,8 @@
 //! Host names, found from their end.
 ghost use Rattle.std.specs.Prelude.{◌≡◌, OnOk, IfOk, ℕ, List, ◌++◌, ◌∷◌, reverse};
-ghost use Rattle.pr_base.specs.Paths.{slash, below_root, text_of};
+ghost use Rattle.kr_inode.specs.pr_base.Paths.{slash, below_root, text_of};
 
-use pr_base::{Bytes, NoMemory};
+use kr_inode::below::pr_base::{Bytes, NoMemory};
 
 /// Adds a slash and a name at the end of bytes that are read from their end.
 pub(crate) fn append_backward(backward: &mut Vec<u8>, name: &[u8]) -> Result<(), NoMemory>

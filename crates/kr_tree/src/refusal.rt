@@ -1,6 +1,6 @@
 //! Why a tree refuses a change.
 
-use pr_base::NoMemory;
+use kr_inode::below::pr_base::NoMemory;
 
 /// Why a tree refuses a change, which leaves it as it was.
 #[derive(Clone, Copy, Debug, PartialEq, Eq)]

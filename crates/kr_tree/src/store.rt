@@ -3,8 +3,8 @@ ghost use Rattle.std.specs.Prelude.{length, ◌≡◌, ◌+◌, ◌-◌, ◌^◌
 ghost use Rattle.std.specs.FinMap as map;
 ghost use Rattle.std.specs.Option.{option_copied, option_map_or};
 
+use kr_inode::below::pr_base::NoMemory;
 use kr_inode::{Ino, Inode, Standing};
-use pr_base::NoMemory;
 use std::alloc::Global;
 use std::collections::BTreeMap;
 use std::marker::Model;

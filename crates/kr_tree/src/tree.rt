@@ -8,8 +8,8 @@ ghost use Rattle.kr_inode.specs.Stored.{body_of_new};
 use crate::name::{append_backward, from_end};
 use crate::refusal::TreeRefusal;
 use crate::store::Store;
+use kr_inode::below::pr_base::{Bytes, NoMemory};
 use kr_inode::{FILE_LIMIT, Ino, Inode, Kind, Meta, Node, Right, Standing, User, is_name};
-use pr_base::{Bytes, NoMemory};
 use std::alloc::Global;
 use std::marker::Model;
 
@@ -48,7 +48,7 @@ impl Model for Tree {
 
 impl Tree {
     ghost use Rattle.kr_tree.specs.Tree.{nodes, inode, body, entry, entries, entry_after, above, body_is, is_directory, is_filled, takes_names, may_be_linked, is_file, file_of, text_of, bytes_of};
-    ghost use Rattle.pr_base.specs.Paths.{below_root, text_of as bytes_of_text};
+    ghost use Rattle.kr_inode.specs.pr_base.Paths.{below_root, text_of as bytes_of_text};
     ghost use Rattle.kr_tree.specs.Rights.{may};
     ghost use Rattle.kr_tree.specs.Names.{is_name, step_up, host_name, NamedHaveHostNames, StandingHaveHostNames, HostNamesLead};
     ghost use Rattle.kr_inode.specs.Stored.{kind_of, meta_of};

@@ -5,36 +5,36 @@ use Rattle.std.specs.Prelude.{Result, Ok, Err, nat_eq, map as map_list}
 use Rattle.std.specs.Bool.{if◌then◌else◌}
 use Rattle.std.specs.List.{list_any}
 use Rattle.std.specs.Option.{option_and_then, option_map, option_map_or}
-use Rattle.pr_base.specs.declared.errno.Errno.{Errno}
-use Rattle.rv_mem.specs.Actions.{CarriedOut, carried_out}
-use Rattle.rv_mem.specs.Memory.{Memory}
-use Rattle.kr_calls.specs.declared.request.Request.{Request}
-use Rattle.kr_calls.specs.declared.request.Request.TheVariants as call
-use Rattle.kr_tree.specs.Lawful.{IsKept}
-use Rattle.kr_tree.specs.Tree.{Inode, Tree, inode, is_listed}
-use Rattle.kr_tree.specs.declared.place.Host.{Host}
-use Rattle.kr_tree.specs.declared.place.Place.{Place}
-use Rattle.kr_view.specs.Leads.{numbered}
-use Rattle.kr_view.specs.declared.target.Reach.{Reach}
-use Rattle.kr_view.specs.View.{Row, StandsIn}
-use Rattle.kr_files.specs.declared.opened.Opened.{Opened}
-use Rattle.kr_files.specs.Descriptors.{Meanings, Named}
-use Rattle.kr_files.specs.Files.{Table, file_at}
-use Rattle.kr_model.specs.Applied.{Mounts, images}
-use Rattle.kr_model.specs.Change.{Change, End}
-use Rattle.kr_model.specs.FileRows.{is_dir}
-use Rattle.kr_model.specs.Known.{Known, known}
-use Rattle.kr_model.specs.Operation.{operation}
-use Rattle.kr_model.specs.Reply.{Reply, Replying, refusal}
-use Rattle.kr_model.specs.State.{Image, Process, State, image_layout}
-use Rattle.kr_model.specs.Walks.{Targets, seen_of, targets_of}
-use Rattle.kr_ops.specs.declared.state.State.{State as Kept}
-use Rattle.kr_ops.specs.Meaning.{meaning}
-use Rattle.kr_seen.specs.Numbered.{opened_numbered, process_numbered, state_numbered, table_numbered}
-use Rattle.kr_numbered.proofs.TableLemmas.{file-numbered}
-use Rattle.kr_seen.specs.Carrying.{memory_of, with_memory_of}
-use Rattle.kr_allowed.specs.Told.{mounts_walked}
-use Rattle.kr_seen.specs.CallWalks.{call_reach}
+use Rattle.kr_hostview.specs.pr_base.declared.errno.Errno.{Errno}
+use Rattle.kr_steps.specs.rv_mem.Actions.{CarriedOut, carried_out}
+use Rattle.kr_steps.specs.rv_mem.Memory.{Memory}
+use Rattle.kr_execve.specs.kr_calls.declared.request.Request.{Request}
+use Rattle.kr_execve.specs.kr_calls.declared.request.Request.TheVariants as call
+use Rattle.kr_execve.specs.kr_tree.Lawful.{IsKept}
+use Rattle.kr_execve.specs.kr_tree.Tree.{Inode, Tree, inode, is_listed}
+use Rattle.kr_execve.specs.kr_tree.declared.place.Host.{Host}
+use Rattle.kr_execve.specs.kr_tree.declared.place.Place.{Place}
+use Rattle.kr_execve.specs.kr_view.Leads.{numbered}
+use Rattle.kr_execve.specs.kr_view.declared.target.Reach.{Reach}
+use Rattle.kr_execve.specs.kr_view.View.{Row, StandsIn}
+use Rattle.kr_hostview.specs.kr_files.declared.opened.Opened.{Opened}
+use Rattle.kr_hostview.specs.kr_files.Descriptors.{Meanings, Named}
+use Rattle.kr_hostview.specs.kr_files.Files.{Table, file_at}
+use Rattle.kr_hostview.specs.kr_model.Applied.{Mounts, images}
+use Rattle.kr_hostview.specs.kr_model.Change.{Change, End}
+use Rattle.kr_hostview.specs.kr_model.FileRows.{is_dir}
+use Rattle.kr_hostview.specs.kr_model.Known.{Known, known}
+use Rattle.kr_hostview.specs.kr_model.Operation.{operation}
+use Rattle.kr_hostview.specs.kr_model.Reply.{Reply, Replying, refusal}
+use Rattle.kr_hostview.specs.kr_model.State.{Image, Process, State, image_layout}
+use Rattle.kr_hostview.specs.kr_model.Walks.{Targets, seen_of, targets_of}
+use Rattle.kr_hostview.specs.kr_ops.declared.state.State.{State as Kept}
+use Rattle.kr_hostview.specs.kr_ops.Meaning.{meaning}
+use Rattle.kr_hostview.specs.kr_seen.Numbered.{opened_numbered, process_numbered, state_numbered, table_numbered}
+use Rattle.kr_calm.proofs.kr_numbered.TableLemmas.{file-numbered}
+use Rattle.kr_hostview.specs.kr_seen.Carrying.{memory_of, with_memory_of}
+use Rattle.kr_execve.specs.kr_allowed.Told.{mounts_walked}
+use Rattle.kr_hostview.specs.kr_seen.CallWalks.{call_reach}
 use Rattle.kr_steps.proofs.ComputingLemmas.{walk-refuses}
 use Rattle.kr_calm.specs.Calm.{Asked, Course, asked_breaks_2, broken_by, kept}
 use Rattle.kr_calm.specs.InUse.{any_opened_below, is_directory_of, is_in_use, open_directory, passes_at, process_uses}

@@ -2,20 +2,20 @@
 use Rattle.std.proofs.Common.{◌≡◌, ℕ, List, get_or, refl, sym, ap, subst, ◌∙◌}
 use Rattle.std.specs.Prelude.{Result, Ok, Err, OnOk, OnErr}
 use Rattle.std.specs.Option.{option_map_or}
-use Rattle.rv_mem.specs.Actions.{WriteBytes, Done}
-use Rattle.rv_mem.specs.Memory.{Memory, after_read, with_pages}
-use Rattle.rv_mem.specs.Pages.{IsPlaced, IsWhole, written}
-use Rattle.rv_mem.specs.declared.regs.Regs.{Regs}
-use Rattle.kr_view.specs.View.{Row}
-use Rattle.kr_model.specs.Applied.{with_living}
-use Rattle.kr_model.specs.State as model
-use Rattle.kr_model.specs.State.{Image}
-use Rattle.kr_allowed.proofs.RowLemmas.{StaysLike, stays-like}
-use Rattle.kr_ops.specs.declared.state.Process.{Process}
-use Rattle.kr_ops.specs.declared.state.State.{State}
-use Rattle.kr_ops.specs.Living.{HasPid}
-use Rattle.kr_ops.specs.Meaning.{meaning, process_meaning}
-use Rattle.kr_ops.specs.Sound.{IsSound}
+use Rattle.kr_steps.specs.rv_mem.Actions.{WriteBytes, Done}
+use Rattle.kr_steps.specs.rv_mem.Memory.{Memory, after_read, with_pages}
+use Rattle.kr_steps.specs.rv_mem.Pages.{IsPlaced, IsWhole, written}
+use Rattle.kr_steps.specs.rv_mem.declared.regs.Regs.{Regs}
+use Rattle.kr_execve.specs.kr_view.View.{Row}
+use Rattle.kr_hostview.specs.kr_model.Applied.{with_living}
+use Rattle.kr_hostview.specs.kr_model.State as model
+use Rattle.kr_hostview.specs.kr_model.State.{Image}
+use Rattle.kr_execve.proofs.kr_allowed.RowLemmas.{StaysLike, stays-like}
+use Rattle.kr_hostview.specs.kr_ops.declared.state.Process.{Process}
+use Rattle.kr_hostview.specs.kr_ops.declared.state.State.{State}
+use Rattle.kr_hostview.specs.kr_ops.Living.{HasPid}
+use Rattle.kr_hostview.specs.kr_ops.Meaning.{meaning, process_meaning}
+use Rattle.kr_hostview.specs.kr_ops.Sound.{IsSound}
 use Rattle.kr_steps.specs.Calls.{Runs}
 use Rattle.kr_steps.specs.Computing.{computed}
 use Rattle.kr_steps.proofs.ComputingLemmas.{changed_at, image-means, image-runs, lives-at}

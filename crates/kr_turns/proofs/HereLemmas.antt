@@ -2,27 +2,27 @@
 use Rattle.std.proofs.Common.{◌≡◌, ◌≤◌, ◌^◌, ℕ, Bool, List, refl, sym, ap, subst, ◌∙◌}
 use Rattle.std.specs.Prelude.{Option, Result, Ok, Err, OnOk, OnErr, IsSome}
 use Rattle.std.specs.Option.{option_map, option_map_or}
-use Rattle.pr_base.specs.Peeks.{NamesAreTexts}
-use Rattle.rv_mem.specs.Actions.{carried_out}
-use Rattle.rv_mem.specs.Memory.{Memory}
-use Rattle.rv_mem.specs.declared.regs.Regs.{Regs}
-use Rattle.kr_calls.specs.Decodes.{Gives}
-use Rattle.kr_calls.specs.Decoding.{decoding}
-use Rattle.kr_calls.specs.declared.fault.CallFault.{CallFault}
-use Rattle.kr_calls.specs.declared.request.Request.{Request}
-use Rattle.kr_view.specs.View.{Row}
-use Rattle.kr_model.specs.Peeks.{peeked_of}
-use Rattle.kr_model.specs.State as model
-use Rattle.kr_model.specs.State.{Image}
-use Rattle.kr_lawful.proofs.AfterLemmas.{some-of}
-use Rattle.kr_ops.specs.declared.state.State.{State}
-use Rattle.kr_ops.specs.Meaning.{meaning}
-use Rattle.kr_ops.specs.Sound.{IsOfView}
-use Rattle.kr_seen.specs.Numbered.{process_numbered, state_numbered}
+use Rattle.kr_hostview.specs.pr_base.Peeks.{NamesAreTexts}
+use Rattle.kr_steps.specs.rv_mem.Actions.{carried_out}
+use Rattle.kr_steps.specs.rv_mem.Memory.{Memory}
+use Rattle.kr_steps.specs.rv_mem.declared.regs.Regs.{Regs}
+use Rattle.kr_execve.specs.kr_calls.Decodes.{Gives}
+use Rattle.kr_execve.specs.kr_calls.Decoding.{decoding}
+use Rattle.kr_execve.specs.kr_calls.declared.fault.CallFault.{CallFault}
+use Rattle.kr_execve.specs.kr_calls.declared.request.Request.{Request}
+use Rattle.kr_execve.specs.kr_view.View.{Row}
+use Rattle.kr_hostview.specs.kr_model.Peeks.{peeked_of}
+use Rattle.kr_hostview.specs.kr_model.State as model
+use Rattle.kr_hostview.specs.kr_model.State.{Image}
+use Rattle.kr_hostview.proofs.kr_lawful.AfterLemmas.{some-of}
+use Rattle.kr_hostview.specs.kr_ops.declared.state.State.{State}
+use Rattle.kr_hostview.specs.kr_ops.Meaning.{meaning}
+use Rattle.kr_hostview.specs.kr_ops.Sound.{IsOfView}
+use Rattle.kr_hostview.specs.kr_seen.Numbered.{process_numbered, state_numbered}
 use Rattle.kr_steps.specs.Calls.{Runs}
 use Rattle.kr_hostview.specs.Asked.{Asked}
 use Rattle.kr_hostview.proofs.LawLemmas.{hosts-have-one-mount, lawful-on-host}
-use Rattle.kr_numbered.proofs.LookLemmas.{asked-numbered, process-numbered}
+use Rattle.kr_calm.proofs.kr_numbered.LookLemmas.{asked-numbered, process-numbered}
 use Rattle.kr_steps.specs.Computing.{Requests, computed}
 use Rattle.kr_turns.specs.Held.{Held, Stands, stopped_in, stopped_of}
 use Rattle.kr_turns.specs.Stopped.{IsThere, Stopped, edited, image_at, image_in, no_image}

@@ -1,10 +1,10 @@
 -- A turn by relations that are graphs of functions is the turn by the functions.
 use Rattle.std.proofs.Common.{◌≡◌, ℕ, List, Option, Some, None, sym, ap, ◌∙◌}
-use Rattle.rv_cpu.specs.Run.{Ran, ran}
-use Rattle.rv_cpu.specs.declared.event.Event.{Event}
-use Rattle.rv_cpu.specs.declared.event.Event.TheVariants.{Next, Call, Killed}
-use Rattle.kr_view.specs.View.{Row}
-use Rattle.kr_model.specs.State.{Image, Process, State, process}
+use Rattle.kr_steps.specs.rv_cpu.Run.{Ran, ran}
+use Rattle.kr_steps.specs.rv_cpu.declared.event.Event.{Event}
+use Rattle.kr_steps.specs.rv_cpu.declared.event.Event.TheVariants.{Next, Call, Killed}
+use Rattle.kr_execve.specs.kr_view.View.{Row}
+use Rattle.kr_hostview.specs.kr_model.State.{Image, Process, State, process}
 use Rattle.kr_steps.specs.Computing.{computed}
 use Rattle.kr_turns.specs.Laws.{TurnsAreFunctions}
 use Rattle.kr_turns.specs.Breaking.{plain_rule}

@@ -1,29 +1,29 @@
 -- How a call is judged by what was known of it before.
 use Rattle.std.proofs.Common.{◌≡◌, ◌≢◌, ℕ, Bool, ◌||◌, List, Some, None, sym, ap, ◌∙◌}
 use Rattle.std.specs.Prelude.{IsSome}
-use Rattle.rv_mem.specs.Actions.{CarriedOut, carried_out}
-use Rattle.rv_mem.specs.Memory.{Memory}
-use Rattle.kr_calls.specs.declared.request.Request.{Request}
-use Rattle.kr_view.specs.declared.target.Reach.{Reach}
-use Rattle.kr_view.specs.View.{Row}
-use Rattle.kr_model.specs.Known.{Known, known}
-use Rattle.kr_model.specs.Operation.{operation}
-use Rattle.kr_model.specs.Reply.{Reply}
-use Rattle.kr_model.specs.State as model
-use Rattle.kr_model.specs.State.{Image, image_layout}
-use Rattle.kr_model.specs.Walks.{seen, targets_of}
-use Rattle.kr_model.specs.declared.outcome.Outcome.{Outcome}
-use Rattle.kr_model.specs.declared.outcome.Outcome.TheVariants.{Answer, Wait, Ended, NoMemory}
-use Rattle.kr_allowed.specs.Told.{mounts_walked}
-use Rattle.kr_ops.specs.declared.state.State.{State}
-use Rattle.kr_ops.specs.Meaning.{meaning}
-use Rattle.kr_seen.specs.Numbered.{state_numbered}
-use Rattle.kr_numbered.proofs.LookLemmas.{known-numbered}
-use Rattle.kr_seen.specs.Carrying.{after_row, carried, memory_of, with_memory_of}
+use Rattle.kr_steps.specs.rv_mem.Actions.{CarriedOut, carried_out}
+use Rattle.kr_steps.specs.rv_mem.Memory.{Memory}
+use Rattle.kr_execve.specs.kr_calls.declared.request.Request.{Request}
+use Rattle.kr_execve.specs.kr_view.declared.target.Reach.{Reach}
+use Rattle.kr_execve.specs.kr_view.View.{Row}
+use Rattle.kr_hostview.specs.kr_model.Known.{Known, known}
+use Rattle.kr_hostview.specs.kr_model.Operation.{operation}
+use Rattle.kr_hostview.specs.kr_model.Reply.{Reply}
+use Rattle.kr_hostview.specs.kr_model.State as model
+use Rattle.kr_hostview.specs.kr_model.State.{Image, image_layout}
+use Rattle.kr_hostview.specs.kr_model.Walks.{seen, targets_of}
+use Rattle.kr_hostview.specs.kr_model.declared.outcome.Outcome.{Outcome}
+use Rattle.kr_hostview.specs.kr_model.declared.outcome.Outcome.TheVariants.{Answer, Wait, Ended, NoMemory}
+use Rattle.kr_execve.specs.kr_allowed.Told.{mounts_walked}
+use Rattle.kr_hostview.specs.kr_ops.declared.state.State.{State}
+use Rattle.kr_hostview.specs.kr_ops.Meaning.{meaning}
+use Rattle.kr_hostview.specs.kr_seen.Numbered.{state_numbered}
+use Rattle.kr_calm.proofs.kr_numbered.LookLemmas.{known-numbered}
+use Rattle.kr_hostview.specs.kr_seen.Carrying.{after_row, carried, memory_of, with_memory_of}
 use Rattle.kr_calm.specs.Calm.{Course, broken_by}
 use Rattle.kr_calm.specs.Noted.{IsNoted}
 use Rattle.kr_calm.specs.Rules.{breaks_2}
-use Rattle.kr_calm.proofs.MarkLemmas.{marks_are_kept}
+use Rattle.kr_calm.proofs.MarkLemmas.{rows_keep_marks}
 use Rattle.kr_turns.specs.Breaking.{asked_of, changed_rule, rule_told}
 use Rattle.kr_turns.specs.Looking.{judged, read_told}
 use Rattle.kr_turns.specs.PlainCall.{row_on}
@@ -66,7 +66,7 @@ read-is number table pid request before after outcome read wanted is ending live
     goes-on on =
         ap (λ (m : Memory). m.read_marked) (sym (memory-numbered number pid (meaning after)))
         ∙ ap (λ (t : model.State ℕ Image). (memory_of pid t).read_marked) left
-        ∙ (marks_are_kept {M = ℕ}).calls (mounts_walked (targets_of table pid before request)) pid request (seen table pid before request) before lives on
+        ∙ rows_keep_marks (mounts_walked (targets_of table pid before request)) pid request (seen table pid before request) before lives on
 
     by : (o : Outcome) → o ≡ (row_on table pid request before).reply.outcome → read_told o read (memory_of pid (meaning after)).read_marked ≡ (row_on table pid request before).memory.read_marked
     by (Answer value) e = goes-on (λ ends. let no : ◌≡◌ (Answer value) Ended = e ∙ ends in cc)

@@ -1,35 +1,33 @@
 -- What is left where what a call reads was noted before it.
-use Rattle.std.proofs.Common.{◌≡◌, ℕ, ◌+◌, ◌<◌, ◌^◌, ◌*◌, ◌&&◌, Bool, true, false, cond, List, Option, Some, None, refl, sym, ap, subst, ◌∙◌, inl, inr}
-use Rattle.std.specs.Prelude.{◌==◌, Ok, Result, IfSome, IsSome}
-use Rattle.std.specs.Option.{option_map, option_map_or}
-use Rattle.pr_base.specs.declared.errno.Errno.{Errno}
-use Rattle.rv_mem.specs.Actions.{CarriedOut}
-use Rattle.rv_mem.specs.Memory.{Memory, after_read}
-use Rattle.kr_calls.specs.declared.request.Request.{Request}
-use Rattle.kr_calls.specs.declared.request.Request.TheVariants as call
-use Rattle.kr_view.specs.View.{Row}
-use Rattle.kr_model.specs.Applied.{with_image}
-use Rattle.kr_model.specs.Known.{Known, known}
-use Rattle.kr_model.specs.Lawful.{ArePids, IsLawful}
-use Rattle.kr_model.specs.Operation.{operation}
-use Rattle.kr_model.specs.Reply.{Reply}
-use Rattle.kr_model.specs.Seen.{Seen}
-use Rattle.kr_model.specs.State as model
-use Rattle.kr_model.specs.State.{Image, image_layout}
-use Rattle.kr_model.specs.Walks.{Targets, seen, targets_of}
-use Rattle.kr_model.specs.declared.outcome.Outcome.{Outcome}
-use Rattle.kr_allowed.specs.Lasting.{Lasts}
-use Rattle.kr_lawful.proofs.AfterLemmas.{some-of}
-use Rattle.kr_lawful.proofs.ProcessChangeLemmas.{found as found-changed}
-use Rattle.kr_allowed.specs.Told.{mounts_walked}
-use Rattle.kr_allowed.proofs.RowLemmas.{StaysLike, lawful-memory}
-use Rattle.kr_ops.specs.declared.state.State.{State}
-use Rattle.kr_ops.specs.Meaning.{meaning}
-use Rattle.kr_seen.specs.Numbered.{state_numbered}
-use Rattle.kr_seen.specs.Carrying.{after_row, carried, memory_of, no_memory, with_memory, with_memory_of}
-use Rattle.kr_seen.proofs.CarryLemmas.{own-memory}
-use Rattle.kr_seen.specs.CallWalks.{AreTargets}
-use Rattle.kr_seen.specs.declared.walks.Targets.{Targets as Told}
+use Rattle.std.proofs.Common.{◌≡◌, ℕ, ◌*◌, ◌&&◌, Bool, true, false, cond, List, Option, refl, sym, ap, subst, ◌∙◌, inl, inr}
+use Rattle.std.specs.Prelude.{Ok, Result, IsSome}
+use Rattle.std.specs.Option.{option_map_or}
+use Rattle.kr_hostview.specs.pr_base.declared.errno.Errno.{Errno}
+use Rattle.kr_steps.specs.rv_mem.Actions.{CarriedOut}
+use Rattle.kr_steps.specs.rv_mem.Memory.{Memory, after_read}
+use Rattle.kr_execve.specs.kr_calls.declared.request.Request.{Request}
+use Rattle.kr_execve.specs.kr_calls.declared.request.Request.TheVariants as call
+use Rattle.kr_execve.specs.kr_view.View.{Row}
+use Rattle.kr_hostview.specs.kr_model.Known.{Known, known}
+use Rattle.kr_hostview.specs.kr_model.Lawful.{ArePids, IsLawful}
+use Rattle.kr_hostview.specs.kr_model.Operation.{operation}
+use Rattle.kr_hostview.specs.kr_model.Reply.{Reply}
+use Rattle.kr_hostview.specs.kr_model.Seen.{Seen}
+use Rattle.kr_hostview.specs.kr_model.State as model
+use Rattle.kr_hostview.specs.kr_model.State.{Image, image_layout}
+use Rattle.kr_hostview.specs.kr_model.Walks.{Targets, seen, targets_of}
+use Rattle.kr_hostview.specs.kr_model.declared.outcome.Outcome.{Outcome}
+use Rattle.kr_execve.specs.kr_allowed.Lasting.{Lasts}
+use Rattle.kr_hostview.proofs.kr_lawful.AfterLemmas.{some-of}
+use Rattle.kr_execve.specs.kr_allowed.Told.{mounts_walked}
+use Rattle.kr_execve.proofs.kr_allowed.RowLemmas.{StaysLike, lawful-memory}
+use Rattle.kr_hostview.specs.kr_ops.declared.state.State.{State}
+use Rattle.kr_hostview.specs.kr_ops.Meaning.{meaning}
+use Rattle.kr_hostview.specs.kr_seen.Numbered.{state_numbered}
+use Rattle.kr_hostview.specs.kr_seen.Carrying.{after_row, carried, memory_of, no_memory, with_memory_of}
+use Rattle.kr_hostview.proofs.kr_seen.CarryLemmas.{own-memory}
+use Rattle.kr_hostview.specs.kr_seen.CallWalks.{AreTargets}
+use Rattle.kr_hostview.specs.kr_seen.declared.walks.Targets.{Targets as Told}
 use Rattle.kr_steps.specs.Calls.{LastsLawful, IsCalled, Runs}
 use Rattle.kr_calm.specs.Noted.{IsNoted, is_read, kills, noted}
 use Rattle.kr_turns.specs.Noting.{IsNotedOrSame}
@@ -42,20 +40,6 @@ noted-pages k (call.Writev fd list count) m = by (kills k fd && is_read list cou
     by true = refl
     by false = refl
 noted-pages k _ m = refl
-
--- a process with another memory stands where it stood
-behind-with : {T : Type 0} (pid : ℕ) (m : Memory) (s : model.State T Image) → IfSome (model.process pid s) (λ p. p.image.regs.pc + 4 < 2 ^ 64)
-    → IfSome (model.process pid (with_memory_of pid m s)) (λ p. p.image.regs.pc + 4 < 2 ^ 64)
-behind-with {T = T} pid m s h =
-    subst (λ (o : Option (model.Process T Image)). IfSome o (λ p. p.image.regs.pc + 4 < 2 ^ 64)) (sym (found-changed pid (with_image (with_memory m)) (λ p. refl) pid s.living)) (by (model.process pid s) h)
-  where
-    at : (p : model.Process T Image) (b : Bool) → p.image.regs.pc + 4 < 2 ^ 64 → IfSome (Some (cond b (with_image (with_memory m) p) p)) (λ q. q.image.regs.pc + 4 < 2 ^ 64)
-    at p true h = h
-    at p false h = h
-
-    by : (o : Option (model.Process T Image)) → IfSome o (λ p. p.image.regs.pc + 4 < 2 ^ 64) → IfSome (option_map (model.at_pid pid (with_image (with_memory m))) o) (λ p. p.image.regs.pc + 4 < 2 ^ 64)
-    by None h = h
-    by (Some p) h = at p (p.pid == pid) h
 
 module _ {T : Type 0} {M : ℕ} (number : T → ℕ) (table : List Row) (pid : ℕ) (old mid : State T M) where
   abbrev shown : State T M → model.State ℕ Image
@@ -89,11 +73,6 @@ module _ {T : Type 0} {M : ℕ} (number : T → ℕ) (table : List Row) (pid : �
         state = called.carried.state ∙ ap (λ (d : CarriedOut Reply). after_row called.mounts pid d (meaning mid)) rows-same ∙ is.after called.mounts (row old);
       };
     }
-
-    pub behind-noted : IfSome (model.process pid (meaning old)) (λ p. p.image.regs.pc + 4 < 2 ^ 64) → IfSome (model.process pid (meaning mid)) (λ p. p.image.regs.pc + 4 < 2 ^ 64)
-    behind-noted h =
-        subst (λ (t : model.State T Image). IfSome (model.process pid t) (λ p. p.image.regs.pc + 4 < 2 ^ 64)) (sym is.leaves.means)
-        (behind-with pid (noted (known image_layout pid (meaning old)) r (memory_of pid (meaning old))) (meaning old) h)
 
   -- what lasts of the state lasts
   pub runs-noted : (r : Request) (calls : ℕ) → IsNoted pid r old mid → IsSome (model.process pid (meaning old)) → Runs number table calls old → Runs number table calls mid
@@ -137,10 +116,6 @@ module _ {T : Type 0} {M : ℕ} (number : T → ℕ) (table : List Row) (pid : �
     pub lives-kept : IsNotedOrSame pid r old mid → IsSome (model.process pid (meaning old)) → IsSome (model.process pid (meaning mid))
     lives-kept (inl is) lives = is.leaves.lives
     lives-kept (inr same) lives = subst (λ (s : State T M). IsSome (model.process pid (meaning s))) (sym same) lives
-
-    pub behind-kept : ArePids (meaning old) → IsNotedOrSame pid r old mid → IfSome (model.process pid (meaning old)) (λ p. p.image.regs.pc + 4 < 2 ^ 64) → IfSome (model.process pid (meaning mid)) (λ p. p.image.regs.pc + 4 < 2 ^ 64)
-    behind-kept pids (inl is) h = behind-noted pids r is h
-    behind-kept pids (inr same) h = subst (λ (s : State T M). IfSome (model.process pid (meaning s)) (λ p. p.image.regs.pc + 4 < 2 ^ 64)) (sym same) h
 
     pub runs-kept : IsNotedOrSame pid r old mid → IsSome (model.process pid (meaning old)) → (calls : ℕ) → Runs number table calls old → Runs number table calls mid
     runs-kept (inl is) lives calls runs = runs-noted r calls is lives runs

@@ -1,34 +1,33 @@
 -- What the code leaves of a call is what the definition says of the state with the numbers of its mounts.
-use Rattle.std.proofs.Common.{◌≡◌, ℕ, ◌+◌, ◌<◌, ◌^◌, Bool, true, false, cond, ◌||◌, List, Option, Some, None, refl, sym, ap, subst, ◌∙◌}
-use Rattle.std.specs.Prelude.{Result, Ok, Err, IfOk, IfSome, IsSome, ◌==◌, pos, neg_ℤ}
+use Rattle.std.proofs.Common.{◌≡◌, ℕ, Bool, false, ◌||◌, List, Option, Some, None, refl, sym, ap, subst, ◌∙◌}
+use Rattle.std.specs.Prelude.{Result, Ok, Err, IfOk, IsSome, pos, neg_ℤ}
 use Rattle.std.specs.Option.{option_map, option_map_or}
-use Rattle.pr_base.specs.declared.errno.Errno.{Errno}
-use Rattle.pr_base.specs.Errno.{errno_number}
-use Rattle.rv_mem.specs.Actions.{CarriedOut, carried_out}
-use Rattle.rv_mem.specs.Memory.{Memory}
-use Rattle.pr_base.specs.declared.errno.Errno.TheVariants.{EPERM, ENOENT, ESRCH, E2BIG, ENOEXEC, EBADF, ECHILD, EAGAIN, ENOMEM, EACCES, EFAULT, EBUSY, EEXIST, EXDEV, ENOTDIR, EISDIR, EINVAL, EMFILE, ENOTTY, EFBIG, ENOSPC, ESPIPE, EPIPE, ERANGE, ENAMETOOLONG, ENOSYS, ENOTEMPTY, ELOOP}
-use Rattle.kr_calls.specs.Decoding.{decoding}
-use Rattle.kr_calls.specs.declared.fault.CallFault.{CallFault}
-use Rattle.kr_calls.specs.declared.request.Request.{Request}
-use Rattle.kr_calls.specs.declared.request.Request.TheVariants as call
-use Rattle.kr_view.specs.View.{Row}
-use Rattle.kr_view.specs.declared.target.Reach.{Reach}
-use Rattle.kr_model.specs.Applied.{Mounts, all_applied, images, with_image}
-use Rattle.kr_model.specs.Known.{Known, known}
-use Rattle.kr_model.specs.Lawful.{ArePids}
-use Rattle.kr_model.specs.Operation.{operation}
-use Rattle.kr_model.specs.Reply.{Reply, refusal}
-use Rattle.kr_model.specs.State as model
-use Rattle.kr_model.specs.State.{Image, image_layout}
-use Rattle.kr_model.specs.Walks.{seen, targets_of}
-use Rattle.kr_model.specs.declared.outcome.Outcome.{Outcome}
-use Rattle.kr_lawful.proofs.ProcessChangeLemmas.{found as found-changed}
-use Rattle.kr_allowed.specs.Told.{mounts_walked}
-use Rattle.kr_ops.specs.declared.state.State.{State}
-use Rattle.kr_ops.specs.Meaning.{meaning}
-use Rattle.kr_seen.specs.Numbered.{process_numbered, state_numbered}
-use Rattle.kr_seen.specs.Carrying.{after_row, carried, memory_of, with_memory_of}
-use Rattle.kr_seen.specs.CallWalks.{call_reach}
+use Rattle.kr_hostview.specs.pr_base.declared.errno.Errno.{Errno}
+use Rattle.kr_hostview.specs.pr_base.Errno.{errno_number}
+use Rattle.kr_steps.specs.rv_mem.Actions.{CarriedOut, carried_out}
+use Rattle.kr_steps.specs.rv_mem.Memory.{Memory}
+use Rattle.kr_hostview.specs.pr_base.declared.errno.Errno.TheVariants.{EPERM, ENOENT, ESRCH, E2BIG, ENOEXEC, EBADF, ECHILD, EAGAIN, ENOMEM, EACCES, EFAULT, EBUSY, EEXIST, EXDEV, ENOTDIR, EISDIR, EINVAL, EMFILE, ENOTTY, EFBIG, ENOSPC, ESPIPE, EPIPE, ERANGE, ENAMETOOLONG, ENOSYS, ENOTEMPTY, ELOOP}
+use Rattle.kr_execve.specs.kr_calls.Decoding.{decoding}
+use Rattle.kr_execve.specs.kr_calls.declared.fault.CallFault.{CallFault}
+use Rattle.kr_execve.specs.kr_calls.declared.request.Request.{Request}
+use Rattle.kr_execve.specs.kr_calls.declared.request.Request.TheVariants as call
+use Rattle.kr_execve.specs.kr_view.View.{Row}
+use Rattle.kr_execve.specs.kr_view.declared.target.Reach.{Reach}
+use Rattle.kr_hostview.specs.kr_model.Applied.{Mounts, all_applied, images}
+use Rattle.kr_hostview.specs.kr_model.Known.{Known, known}
+use Rattle.kr_hostview.specs.kr_model.Lawful.{ArePids}
+use Rattle.kr_hostview.specs.kr_model.Operation.{operation}
+use Rattle.kr_hostview.specs.kr_model.Reply.{Reply, refusal}
+use Rattle.kr_hostview.specs.kr_model.State as model
+use Rattle.kr_hostview.specs.kr_model.State.{Image, image_layout}
+use Rattle.kr_hostview.specs.kr_model.Walks.{seen, targets_of}
+use Rattle.kr_hostview.specs.kr_model.declared.outcome.Outcome.{Outcome}
+use Rattle.kr_execve.specs.kr_allowed.Told.{mounts_walked}
+use Rattle.kr_hostview.specs.kr_ops.declared.state.State.{State}
+use Rattle.kr_hostview.specs.kr_ops.Meaning.{meaning}
+use Rattle.kr_hostview.specs.kr_seen.Numbered.{process_numbered, state_numbered}
+use Rattle.kr_hostview.specs.kr_seen.Carrying.{after_row, carried, memory_of, with_memory_of}
+use Rattle.kr_hostview.specs.kr_seen.CallWalks.{call_reach}
 use Rattle.kr_steps.specs.Calls.{IsNoExec, IsCalled}
 use Rattle.kr_steps.proofs.ComputingLemmas.{refused-call}
 use Rattle.kr_execve.specs.Execution.{Program, after_execution, changes_of, execution, execution_reach, mount_of}
@@ -36,7 +35,7 @@ use Rattle.kr_execve.specs.Executing.{IsExecuted, done}
 use Rattle.kr_steps.specs.Answering.{answered, resumed}
 use Rattle.kr_steps.specs.Computing.{Requests, computed}
 use Rattle.kr_steps.specs.Settling.{settled}
-use Rattle.kr_rows.proofs.UsingLemmas.{memory-is}
+use Rattle.kr_calm.proofs.kr_rows.UsingLemmas.{memory-is}
 use Rattle.kr_turns.specs.Breaking.{decoded_rule, executed_rule, nothing_reached, operated_rule, plain_rule, plain_rule_of, requested_rule, rule_told}
 use Rattle.kr_turns.specs.Coming.{came_to}
 use Rattle.kr_turns.specs.PlainCall.{Came, after_decoding, child_if_made, child_of, decoded_reach, end_of, executed, leads_to_root, operated, plain_call, plain_call_of, plain_reach, plain_reach_of, refusal_told, replaced, request_reach, requested, row_on}
@@ -45,7 +44,7 @@ use Rattle.kr_turns.specs.declared.plain.Plain.{Plain}
 use Rattle.kr_turns.proofs.BreakLemmas.{exec-told, idle-here}
 use Rattle.kr_turns.proofs.EditLemmas.{computed-lives}
 use Rattle.kr_turns.proofs.NumberLemmas.{answered-numbered, computed-numbered, execution-numbered, memory-numbered, resumed-numbered, row-numbered, settled-numbered}
-use Rattle.kr_numbered.proofs.LookLemmas.{known-numbered, process-numbered}
+use Rattle.kr_calm.proofs.kr_numbered.LookLemmas.{known-numbered, process-numbered}
 
 -- the number of an error is none of a child
 none-made : (next : ℕ) (e : Errno) → child_if_made next (refusal e).outcome ≡ None
@@ -247,9 +246,6 @@ same-rule marks table pid no_shelf s r q same result told = subst (λ (r : Reque
 
 -- ---- the request
 
-abbrev IsBehind : {T : Type 0} → Option (model.Process T Image) → Type 0
-IsBehind o = IfSome o (λ p. p.image.regs.pc + 4 < 2 ^ 64)
-
 module _ {T : Type 0} {M : ℕ} (number : T → ℕ) (table : List Row) (pid : ℕ) (s mid : State T M) (result : Result Request CallFault) (r : Requests pid s mid result) where
   abbrev decoded : CarriedOut (Result Request Errno)
   decoded = carried_out (decoding r.process.image.regs) r.process.image.memory
@@ -301,21 +297,8 @@ module _ {T : Type 0} {M : ℕ} (number : T → ℕ) (table : List Row) (pid : �
   pub reach-carried : (q : Request) → decoded.reply ≡ Ok q → (old new : Reach) → new ≡ request_reach table pid q (shown number mid) old → new ≡ plain_reach table pid (shown number s) old
   reach-carried q told old new reaches = reaches ∙ ap (λ reply. decoded_reach table pid reply (shown number mid) old) (sym told) ∙ sym (reach-is old)
 
-  -- it lives still, and stands where it stood
+  -- it lives still
   pub lives-mid : IsSome (model.process pid (meaning mid))
   lives-mid =
       subst (λ (t : model.State T Image). IsSome (model.process pid t)) (sym r.leaves)
       (computed-lives pid r.process.image.regs decoded.memory (meaning s) (subst IsSome (sym r.lives) refl))
-
-  pub behind-mid : IsBehind (model.process pid (meaning s)) → IsBehind (model.process pid (meaning mid))
-  behind-mid behind =
-      subst (λ (t : model.State T Image). IsBehind (model.process pid t)) (sym r.leaves)
-      (subst IsBehind (sym (found-changed pid (with_image (λ (image : Image). own)) (λ p. refl) pid (meaning s).living ∙ ap (option_map (model.at_pid pid (with_image (λ (image : Image). own)))) r.lives))
-      (by (r.process.pid == pid) (subst IsBehind r.lives behind)))
-    where
-      own : Image
-      own = record { regs = r.process.image.regs; memory = decoded.memory }
-
-      by : (b : Bool) → r.process.image.regs.pc + 4 < 2 ^ 64 → IsBehind (Some (cond b (with_image (λ (image : Image). own) r.process) r.process))
-      by true h = h
-      by false h = h

@@ -1,27 +1,27 @@
 -- A turn in code is a turn of the state with the numbers of its mounts.
-use Rattle.std.proofs.Common.{◌≡◌, ℕ, ◌+◌, ◌<◌, ◌^◌, Bool, false, List, Option, Some, None, refl, sym, ap, subst, ◌∙◌}
-use Rattle.std.specs.Prelude.{IfSome, IsSome}
-use Rattle.std.specs.Option.{option_map, option_map_or}
+use Rattle.std.proofs.Common.{◌≡◌, ℕ, Bool, false, List, Option, Some, None, refl, sym, ap, subst, ◌∙◌}
+use Rattle.std.specs.Prelude.{IsSome}
+use Rattle.std.specs.Option.{option_map}
 use Rattle.std.proofs.lemmas.Option.{same_Some}
-use Rattle.rv_cpu.specs.Run.{ran}
-use Rattle.rv_cpu.specs.declared.event.Event.{Event}
-use Rattle.kr_view.specs.View.{Row}
-use Rattle.kr_model.specs.Applied.{Mounts, images}
-use Rattle.kr_model.specs.Change.{End}
-use Rattle.kr_model.specs.State as model
-use Rattle.kr_model.specs.State.{Image, Process}
-use Rattle.kr_lawful.proofs.AfterLemmas.{some-of}
-use Rattle.kr_lawful.proofs.ProcessChangeLemmas.{found-passes}
-use Rattle.kr_lawful.proofs.SumLemmas.{passed-test}
-use Rattle.kr_ops.specs.declared.state.State.{State}
-use Rattle.kr_ops.specs.Making.{Makes}
-use Rattle.kr_ops.specs.Living.{HasPid}
-use Rattle.kr_ops.specs.Meaning.{meaning}
-use Rattle.kr_ops.specs.Sound.{IsSound}
-use Rattle.kr_ops.proofs.OpeningLemmas.{found}
-use Rattle.kr_seen.specs.Numbered.{process_numbered, state_numbered}
-use Rattle.kr_numbered.proofs.ChangeLemmas.{change-numbered}
-use Rattle.kr_numbered.proofs.LookLemmas.{process-numbered}
+use Rattle.kr_steps.specs.rv_cpu.Run.{ran}
+use Rattle.kr_steps.specs.rv_cpu.declared.event.Event.{Event}
+use Rattle.kr_execve.specs.kr_view.View.{Row}
+use Rattle.kr_hostview.specs.kr_model.Applied.{Mounts, images}
+use Rattle.kr_hostview.specs.kr_model.Change.{End}
+use Rattle.kr_hostview.specs.kr_model.State as model
+use Rattle.kr_hostview.specs.kr_model.State.{Image, Process}
+use Rattle.kr_hostview.proofs.kr_lawful.AfterLemmas.{some-of}
+use Rattle.kr_hostview.proofs.kr_lawful.ProcessChangeLemmas.{found-passes}
+use Rattle.kr_hostview.proofs.kr_lawful.SumLemmas.{passed-test}
+use Rattle.kr_hostview.specs.kr_ops.declared.state.State.{State}
+use Rattle.kr_hostview.specs.kr_ops.Making.{Makes}
+use Rattle.kr_hostview.specs.kr_ops.Living.{HasPid}
+use Rattle.kr_hostview.specs.kr_ops.Meaning.{meaning}
+use Rattle.kr_hostview.specs.kr_ops.Sound.{IsSound}
+use Rattle.kr_hostview.proofs.kr_ops.OpeningLemmas.{found}
+use Rattle.kr_hostview.specs.kr_seen.Numbered.{process_numbered, state_numbered}
+use Rattle.kr_calm.proofs.kr_numbered.ChangeLemmas.{change-numbered}
+use Rattle.kr_calm.proofs.kr_numbered.LookLemmas.{process-numbered}
 use Rattle.kr_steps.specs.Computing.{Computes, computed}
 use Rattle.kr_turns.specs.Coming.{came_to}
 use Rattle.kr_turns.specs.Held.{stopped_in}
@@ -29,12 +29,11 @@ use Rattle.kr_turns.specs.Making.{ComesOut, IsCallMade, IsLeft, ended_with, mach
 use Rattle.kr_turns.specs.Breaking.{plain_rule}
 use Rattle.kr_turns.specs.PlainCall.{Came, plain_call}
 use Rattle.kr_turns.specs.Shelving.{lacks_in, shelved_in}
-use Rattle.kr_turns.specs.Stopped.{IsEdited, Stopped, image_at, no_image}
+use Rattle.kr_turns.specs.Stopped.{Stopped}
 use Rattle.kr_turns.specs.Turn.{ExitsIfAny, IsAfterEvent, IsAfterPlain, IsBorn, IsTurnOf, Machine, Tally, killed, with_broken}
 use Rattle.kr_turns.specs.Watching.{Watching}
 use Rattle.kr_turns.specs.declared.plain.Plain.{Plain}
 use Rattle.kr_turns.proofs.EditLemmas.{computed-lives}
-use Rattle.kr_turns.proofs.HereLemmas.{image-numbered}
 use Rattle.kr_turns.proofs.NumberLemmas.{computed-numbered}
 
 module _ {S T : Type 0} {M : ℕ} (w : Watching S) (number : T → ℕ) (pid : ℕ) (at_root : Bool) (old : State T M) (x : S) where
@@ -56,20 +55,6 @@ module _ {S T : Type 0} {M : ℕ} (w : Watching S) (number : T → ℕ) (pid : �
       subst (λ (o : Option (Process ℕ Image)). ExitsIfAny w at-stop x tally (machine_of number old x tally) o) (sym found) refl
 
 -- ---- a call
-
-module _ {T : Type 0} {M : ℕ} (number : T → ℕ) (pid : ℕ) (old new : State T M) where
-  image-of : (s : State T M) (p : model.Process T Image) → model.process pid (meaning s) ≡ Some p → image_at (stopped_in number s pid false) ≡ p.image
-  image-of s p e = image-numbered number pid s ∙ ap (λ (o : Option (model.Process T Image)). option_map_or (λ q. q.image) o no_image) e
-
-  -- an edit leaves a process where it stands
-  pub behind-edited : IfSome (model.process pid (meaning old)) (λ p. p.image.regs.pc + 4 < 2 ^ 64) → IsSome (model.process pid (meaning old)) → IsSome (model.process pid (meaning new))
-      → IsEdited (stopped_in number old pid false) (stopped_in number new pid false) → IfSome (model.process pid (meaning new)) (λ p. p.image.regs.pc + 4 < 2 ^ 64)
-  behind-edited behind lives lives-now edits =
-      let p = some-of (model.process pid (meaning old)) lives in
-      let q = some-of (model.process pid (meaning new)) lives-now in
-      let same : q.0.image.regs.pc ≡ p.0.image.regs.pc = sym (ap (λ (i : Image). i.regs.pc) (image-of new q.0 q.1)) ∙ edits.behind ∙ ap (λ (i : Image). i.regs.pc) (image-of old p.0 p.1) in
-      subst (λ (o : Option (model.Process T Image)). IfSome o (λ r. r.image.regs.pc + 4 < 2 ^ 64)) (sym q.1)
-      (subst (λ pc. pc + 4 < 2 ^ 64) (sym same) (subst (λ (o : Option (model.Process T Image)). IfSome o (λ r. r.image.regs.pc + 4 < 2 ^ 64)) p.1 behind))
 
 module _ {S T : Type 0} {M : ℕ} (w : Watching S) (number : T → ℕ) (table : List Row) (pid : ℕ) where
   -- the stops of a call around it

@@ -1,21 +1,21 @@
 -- Which of the calm rules a turn breaks.
 use Rattle.std.specs.Prelude.{ℕ, Bool, false, List, [], ◌∷◌, Option, Some, None, nat_eq, Result, Ok, Err, if◌then◌else◌}
 use Rattle.std.specs.Option.{option_map_or}
-use Rattle.pr_base.specs.declared.errno.Errno.{Errno}
-use Rattle.rv_mem.specs.Actions.{carried_out}
-use Rattle.rv_mem.specs.Memory.{Memory}
-use Rattle.kr_calls.specs.Decoding.{decoding}
-use Rattle.kr_calls.specs.declared.request.Request.{Request}
-use Rattle.kr_calls.specs.declared.request.Request.TheVariants as call
-use Rattle.kr_view.specs.declared.target.Reach.{Reach}
-use Rattle.kr_view.specs.View.{Row}
-use Rattle.kr_model.specs.Applied.{Mounts}
-use Rattle.kr_model.specs.Change.{Change, End}
-use Rattle.kr_model.specs.State.{Image, Process, State, process}
-use Rattle.kr_model.specs.Walks.{targets_of}
-use Rattle.kr_allowed.specs.Told.{mounts_walked}
-use Rattle.kr_seen.specs.Carrying.{memory_of, with_memory_of}
-use Rattle.kr_seen.specs.CallWalks.{call_reach}
+use Rattle.kr_hostview.specs.pr_base.declared.errno.Errno.{Errno}
+use Rattle.kr_steps.specs.rv_mem.Actions.{carried_out}
+use Rattle.kr_steps.specs.rv_mem.Memory.{Memory}
+use Rattle.kr_execve.specs.kr_calls.Decoding.{decoding}
+use Rattle.kr_execve.specs.kr_calls.declared.request.Request.{Request}
+use Rattle.kr_execve.specs.kr_calls.declared.request.Request.TheVariants as call
+use Rattle.kr_execve.specs.kr_view.declared.target.Reach.{Reach}
+use Rattle.kr_execve.specs.kr_view.View.{Row}
+use Rattle.kr_hostview.specs.kr_model.Applied.{Mounts}
+use Rattle.kr_hostview.specs.kr_model.Change.{Change, End}
+use Rattle.kr_hostview.specs.kr_model.State.{Image, Process, State, process}
+use Rattle.kr_hostview.specs.kr_model.Walks.{targets_of}
+use Rattle.kr_execve.specs.kr_allowed.Told.{mounts_walked}
+use Rattle.kr_hostview.specs.kr_seen.Carrying.{memory_of, with_memory_of}
+use Rattle.kr_hostview.specs.kr_seen.CallWalks.{call_reach}
 use Rattle.kr_calm.specs.Calm.{Asked, Course, broken_by, broken_by_changes, kept}
 use Rattle.kr_calm.specs.InUse.{is_directory_of, is_in_use}
 use Rattle.kr_calm.specs.Rules.{breaks_6}

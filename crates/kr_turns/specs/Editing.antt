@@ -1,12 +1,12 @@
 -- What is read and changed of a stopped process.
 use Rattle.std.specs.Prelude.{ℕ, List, Result, get_or, slice_set}
-use Rattle.rv_mem.specs.Actions.{CarriedOut, carried_out}
-use Rattle.rv_mem.specs.Memory.{Memory, after_read, with_pages}
-use Rattle.rv_mem.specs.Pages.{written}
-use Rattle.kr_calls.specs.Decodes.{Gives}
-use Rattle.kr_calls.specs.Decoding.{Decoded, decoding}
-use Rattle.kr_calls.specs.declared.fault.CallFault.{CallFault}
-use Rattle.kr_calls.specs.declared.request.Request.{Request}
+use Rattle.kr_steps.specs.rv_mem.Actions.{CarriedOut, carried_out}
+use Rattle.kr_steps.specs.rv_mem.Memory.{Memory, after_read, with_pages}
+use Rattle.kr_steps.specs.rv_mem.Pages.{written}
+use Rattle.kr_execve.specs.kr_calls.Decodes.{Gives}
+use Rattle.kr_execve.specs.kr_calls.Decoding.{Decoded, decoding}
+use Rattle.kr_execve.specs.kr_calls.declared.fault.CallFault.{CallFault}
+use Rattle.kr_execve.specs.kr_calls.declared.request.Request.{Request}
 use Rattle.kr_turns.specs.Stopped.{Stopped, edited, image_at}
 
 abbrev pub memory_at : Stopped → Memory

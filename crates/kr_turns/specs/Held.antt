@@ -1,12 +1,12 @@
 -- A process that a kernel holds at a stop.
 use Rattle.std.specs.Prelude.{ℕ, ◌≤◌, ◌^◌, Bool, List, IsSome}
-use Rattle.pr_base.specs.Peeks.{NamesAreTexts}
-use Rattle.kr_view.specs.View.{Row}
-use Rattle.kr_model.specs.Peeks.{peeked_of}
-use Rattle.kr_model.specs.State.{process}
-use Rattle.kr_ops.specs.declared.state.State.{State}
-use Rattle.kr_ops.specs.Meaning.{meaning}
-use Rattle.kr_seen.specs.Numbered.{state_numbered}
+use Rattle.kr_hostview.specs.pr_base.Peeks.{NamesAreTexts}
+use Rattle.kr_execve.specs.kr_view.View.{Row}
+use Rattle.kr_hostview.specs.kr_model.Peeks.{peeked_of}
+use Rattle.kr_hostview.specs.kr_model.State.{process}
+use Rattle.kr_hostview.specs.kr_ops.declared.state.State.{State}
+use Rattle.kr_hostview.specs.kr_ops.Meaning.{meaning}
+use Rattle.kr_hostview.specs.kr_seen.Numbered.{state_numbered}
 use Rattle.kr_steps.specs.Calls.{Runs}
 use Rattle.kr_turns.specs.Stopped.{Stopped}
 

@@ -1,3 +1,19 @@
+pub use Rattle.kr_hostview.specs.pr_base as pr_base
+pub use Rattle.kr_steps.specs.rv_table as rv_table
+pub use Rattle.kr_steps.specs.rv_mem as rv_mem
+pub use Rattle.kr_steps.specs.rv_cpu as rv_cpu
+pub use Rattle.kr_execve.specs.elf_read as elf_read
+pub use Rattle.kr_execve.specs.elf_load as elf_load
+pub use Rattle.kr_execve.specs.kr_inode as kr_inode
+pub use Rattle.kr_execve.specs.kr_tree as kr_tree
+pub use Rattle.kr_execve.specs.kr_view as kr_view
+pub use Rattle.kr_execve.specs.kr_calls as kr_calls
+pub use Rattle.kr_hostview.specs.kr_model as kr_model
+pub use Rattle.kr_execve.specs.kr_allowed as kr_allowed
+pub use Rattle.kr_hostview.specs.kr_seen as kr_seen
+pub use Rattle.kr_execve.specs.kr_exec as kr_exec
+pub use Rattle.kr_execve.specs as kr_execve
+pub use Rattle.kr_calm.specs as kr_calm
 pub use Rattle.kr_steps.specs as kr_steps
 pub mod Stopped
 pub mod Editing

@@ -3,26 +3,26 @@
 use Rattle.std.specs.Prelude.{ℕ, ◌+◌, Bool, false, ℤ, pos, negsuc, neg_ℤ, unsigned_abs, List, Option, Some, None, Result, Ok, Err}
 use Rattle.std.specs.Int.{int_rem_euclid}
 use Rattle.std.specs.Option.{option_map_or}
-use Rattle.pr_base.specs.declared.errno.Errno.{Errno}
-use Rattle.pr_base.specs.Errno.{errno_number}
-use Rattle.rv_mem.specs.Actions.{CarriedOut, carried_out}
-use Rattle.kr_calls.specs.Decoding.{decoding}
-use Rattle.kr_calls.specs.declared.request.Request.{Request}
-use Rattle.kr_calls.specs.declared.request.Request.TheVariants as call
-use Rattle.kr_view.specs.View.{Row, is_root_place}
-use Rattle.kr_view.specs.Walk.{PlaceTarget}
-use Rattle.kr_view.specs.declared.target.Reach.{Reach}
-use Rattle.kr_model.specs.FileRows.{sigpipe}
-use Rattle.kr_model.specs.Known.{known}
-use Rattle.kr_model.specs.Operation.{operation}
-use Rattle.kr_model.specs.Reply.{Reply}
-use Rattle.kr_model.specs.State.{Image, Process, State, image_layout, process}
-use Rattle.kr_model.specs.Walks.{Targets, seen, targets_of}
-use Rattle.kr_model.specs.declared.outcome.Outcome.{Outcome}
-use Rattle.kr_model.specs.declared.outcome.Outcome.TheVariants.{Answer, Wait, Ended, NoMemory}
-use Rattle.kr_allowed.specs.Told.{mounts_walked}
-use Rattle.kr_seen.specs.Carrying.{after_row, carried, memory_of}
-use Rattle.kr_seen.specs.CallWalks.{call_reach}
+use Rattle.kr_hostview.specs.pr_base.declared.errno.Errno.{Errno}
+use Rattle.kr_hostview.specs.pr_base.Errno.{errno_number}
+use Rattle.kr_steps.specs.rv_mem.Actions.{CarriedOut, carried_out}
+use Rattle.kr_execve.specs.kr_calls.Decoding.{decoding}
+use Rattle.kr_execve.specs.kr_calls.declared.request.Request.{Request}
+use Rattle.kr_execve.specs.kr_calls.declared.request.Request.TheVariants as call
+use Rattle.kr_execve.specs.kr_view.View.{Row, is_root_place}
+use Rattle.kr_execve.specs.kr_view.Walk.{PlaceTarget}
+use Rattle.kr_execve.specs.kr_view.declared.target.Reach.{Reach}
+use Rattle.kr_hostview.specs.kr_model.FileRows.{sigpipe}
+use Rattle.kr_hostview.specs.kr_model.Known.{known}
+use Rattle.kr_hostview.specs.kr_model.Operation.{operation}
+use Rattle.kr_hostview.specs.kr_model.Reply.{Reply}
+use Rattle.kr_hostview.specs.kr_model.State.{Image, Process, State, image_layout, process}
+use Rattle.kr_hostview.specs.kr_model.Walks.{Targets, seen, targets_of}
+use Rattle.kr_hostview.specs.kr_model.declared.outcome.Outcome.{Outcome}
+use Rattle.kr_hostview.specs.kr_model.declared.outcome.Outcome.TheVariants.{Answer, Wait, Ended, NoMemory}
+use Rattle.kr_execve.specs.kr_allowed.Told.{mounts_walked}
+use Rattle.kr_hostview.specs.kr_seen.Carrying.{after_row, carried, memory_of}
+use Rattle.kr_hostview.specs.kr_seen.CallWalks.{call_reach}
 use Rattle.kr_execve.specs.Execution.{Program, after_execution, execution, execution_reach, mount_of}
 use Rattle.kr_steps.specs.Answering.{answered, resumed}
 use Rattle.kr_steps.specs.Computing.{computed}
@@ -89,7 +89,7 @@ replaced pid (Ok program) s = record { state = resumed pid s; end = end.Replaced
 replaced pid (Err e) s = refusal_told pid e s
 
 module _ (table : List Row) (pid : ℕ) where
-  -- a row, on what the caller knows, its memory, and where its paths lead
+  -- a row, on what the caller knows, its memory, and where its paths lead; `requested` doesn't take that of an execve
   abbrev pub row_on : Request → State ℕ Image → CarriedOut Reply
   row_on r s = carried pid (operation pid r (seen table pid s r) (known image_layout pid s)) s
 

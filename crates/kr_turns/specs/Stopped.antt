@@ -1,10 +1,10 @@
 -- A process that stands at a stop of its call, in the state of its kernel, and what may be done to it there.
 use Rattle.std.specs.Prelude.{◌≡◌, ℕ, Bool, [], IsSome}
 use Rattle.std.specs.Option.{option_map_or}
-use Rattle.rv_mem.specs.Memory.{Memory}
-use Rattle.rv_mem.specs.declared.regs.Regs.{Regs}
-use Rattle.kr_model.specs.State.{Image, State, image_layout, process}
-use Rattle.kr_seen.specs.Carrying.{no_memory}
+use Rattle.kr_steps.specs.rv_mem.Memory.{Memory}
+use Rattle.kr_steps.specs.rv_mem.declared.regs.Regs.{Regs}
+use Rattle.kr_hostview.specs.kr_model.State.{Image, State, image_layout, process}
+use Rattle.kr_hostview.specs.kr_seen.Carrying.{no_memory}
 use Rattle.kr_steps.specs.Computing.{computed}
 
 pub record Stopped : Type 0 where

@@ -1,13 +1,13 @@
 -- A turn of a machine: the process that is picked runs until its instructions are used up, or it is killed, or it has called; what a
 -- watcher does at the stops of the call is part of it.
 use Rattle.std.specs.Prelude.{◌≡◌, ℕ, ◌+◌, false, List, Option, Some, None}
-use Rattle.rv_cpu.specs.Run.{ran}
-use Rattle.rv_cpu.specs.declared.event.Event.{Event}
-use Rattle.rv_cpu.specs.declared.event.Event.TheVariants.{Next, Call, Killed}
-use Rattle.kr_view.specs.View.{Row}
-use Rattle.kr_model.specs.Applied.{applied, images}
-use Rattle.kr_model.specs.Change.{End}
-use Rattle.kr_model.specs.State.{Image, Process, State, process}
+use Rattle.kr_steps.specs.rv_cpu.Run.{ran}
+use Rattle.kr_steps.specs.rv_cpu.declared.event.Event.{Event}
+use Rattle.kr_steps.specs.rv_cpu.declared.event.Event.TheVariants.{Next, Call, Killed}
+use Rattle.kr_execve.specs.kr_view.View.{Row}
+use Rattle.kr_hostview.specs.kr_model.Applied.{applied, images}
+use Rattle.kr_hostview.specs.kr_model.Change.{End}
+use Rattle.kr_hostview.specs.kr_model.State.{Image, Process, State, process}
 use Rattle.kr_steps.specs.Computing.{computed}
 use Rattle.kr_steps.specs.Waiting.{picked_process}
 use Rattle.kr_calm.specs.Calm.{kept}

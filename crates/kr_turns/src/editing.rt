@@ -1,17 +1,17 @@
 //! What is read and changed of a stopped process in a state.
 ghost use Rattle.std.specs.Prelude.{◌≡◌, ◌<◌, ◌↔◌, ℕ, List, IsErrOf, IsOk, IsSome, IsTrue, length, OnErr, OnOk, false, get_or, slice_set};
-ghost use Rattle.rv_mem.specs.Memory.{after_read, with_pages};
-ghost use Rattle.rv_mem.specs.Pages.{allows_all, bytes_from, written};
+ghost use Rattle.kr_steps.specs.rv_mem.Memory.{after_read, with_pages};
+ghost use Rattle.kr_steps.specs.rv_mem.Pages.{allows_all, bytes_from, written};
 ghost use Rattle.kr_steps.specs.Calls.{Runs};
-ghost use Rattle.kr_model.specs.State.{process};
-ghost use Rattle.kr_ops.specs.Meaning.{meaning};
-ghost use Rattle.kr_ops.specs.Sound.{IsSound};
+ghost use Rattle.kr_hostview.specs.kr_model.State.{process};
+ghost use Rattle.kr_hostview.specs.kr_ops.Meaning.{meaning};
+ghost use Rattle.kr_hostview.specs.kr_ops.Sound.{IsSound};
 ghost use Rattle.kr_steps.specs.Computing.{computed};
 ghost use Rattle.kr_turns.specs.Stopped.{image_in};
-ghost use Rattle.kr_view.specs.View.{Row};
+ghost use Rattle.kr_execve.specs.kr_view.View.{Row};
 
-use kr_ops::State;
-use rv_mem::{BadAddress, StoreFault, Use};
+use kr_hostview::below::State;
+use kr_steps::below::{BadAddress, StoreFault, Use};
 
 /// A register of a living process.
 pub fn register<T: Copy, const M: u8>(state: &State<T, M>, pid: u32, k: u8) -> u64

@@ -1,24 +1,23 @@
 //! A process at a stop, in the state of its kernel.
 ghost use Rattle.std.specs.Prelude.{◌≡◌, ◌≤◌, ◌^◌, IsSome, refl};
-ghost use Rattle.pr_base.specs.Peeks.{NamesAreTexts};
+ghost use Rattle.kr_hostview.specs.pr_base.Peeks.{NamesAreTexts};
 ghost use Rattle.kr_steps.specs.Calls.{Runs};
-ghost use Rattle.kr_model.specs.Peeks.{peeked_of};
-ghost use Rattle.kr_model.specs.State.{process};
-ghost use Rattle.kr_ops.specs.Meaning.{meaning};
-ghost use Rattle.kr_ops.specs.Sound.{IsOfView};
+ghost use Rattle.kr_hostview.specs.kr_model.Peeks.{peeked_of};
+ghost use Rattle.kr_hostview.specs.kr_model.State.{process};
+ghost use Rattle.kr_hostview.specs.kr_ops.Meaning.{meaning};
+ghost use Rattle.kr_hostview.specs.kr_ops.Sound.{IsOfView};
 ghost use Rattle.kr_turns.specs.Held.{Around, Left, Stands, around_of, left_of, stopped_in, stopped_of};
 ghost use Rattle.kr_turns.specs.HeldLaws.{held-texts, left-parts};
 
 use crate::editing;
 use crate::tracee::Tracee;
-use kr_calls::{CallFault, Request};
+use kr_execve::below::{CallFault, Places, Request};
+use kr_hostview::below::{
+    BaseKind, Bytes, NoMemory, PeekFault, PeekKind, Peeks, State, lawful_states_are_sound,
+};
 use kr_hostview::host_peeks;
-use kr_ops::State;
-use kr_ops::laws::lawful_states_are_sound;
+use kr_steps::below::{BadAddress, StoreFault, Use};
 use kr_steps::request;
-use kr_view::Places;
-use pr_base::{BaseKind, Bytes, NoMemory, PeekFault, PeekKind, Peeks};
-use rv_mem::{BadAddress, StoreFault, Use};
 use std::alloc::Global;
 use std::marker::Model;
 
@@ -36,10 +35,10 @@ pub(crate) struct Here<'a, P: Places, const M: u8> {
 
 impl<'a, P: Places, const M: u8> Model for Here<'a, P, M> {
     ghost use Rattle.std.specs.Coded.{codes};
-    ghost use Rattle.rv_mem.specs.Memory.{memory_code};
-    ghost use Rattle.kr_tree.specs.Tree.{tree_code};
-    ghost use Rattle.kr_files.specs.Descriptors.{descriptors_code};
-    ghost use Rattle.kr_files.specs.Files.{kept_code};
+    ghost use Rattle.kr_steps.specs.rv_mem.Memory.{memory_code};
+    ghost use Rattle.kr_execve.specs.kr_tree.Tree.{tree_code};
+    ghost use Rattle.kr_hostview.specs.kr_files.Descriptors.{descriptors_code};
+    ghost use Rattle.kr_hostview.specs.kr_files.Files.{kept_code};
     ghost use Rattle.kr_turns.specs.Held.{Held, Stands};
 
     ghost Value = { Held P P.Mount M };

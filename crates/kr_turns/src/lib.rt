@@ -1,6 +1,7 @@
 //! A turn: what a watcher of calls may do at their stops, and a call as the kernel carries it out.
 #![tactic(auto)]
 
+pub mod below;
 mod editing;
 mod here;
 mod judging;

@@ -1,38 +1,34 @@
 //! A call as the kernel carries it out.
-ghost use Rattle.std.specs.Prelude.{◌≡◌, ◌≢◌, ◌+◌, ◌<◌, ◌^◌, ◌||◌, ℕ, suc, List, length, false, Ok, IfOk, IfSome, IsSome, OnOk};
-ghost use Rattle.kr_allowed.specs.Calls.{HasTextPaths, IsGivable};
-ghost use Rattle.kr_allowed.specs.Told.{SourcesAreNamed};
-ghost use Rattle.kr_seen.specs.Carrying.{memory_of};
+ghost use Rattle.std.specs.Prelude.{◌≡◌, ◌≢◌, ◌<◌, ◌^◌, ◌||◌, ℕ, suc, List, length, false, Ok, IfOk, IsSome, OnOk};
+ghost use Rattle.kr_execve.specs.kr_allowed.Calls.{HasTextPaths, IsGivable};
+ghost use Rattle.kr_execve.specs.kr_allowed.Told.{SourcesAreNamed};
+ghost use Rattle.kr_hostview.specs.kr_seen.Carrying.{memory_of};
 ghost use Rattle.kr_turns.specs.Breaking.{nothing_reached, plain_rule, requested_rule, rule_told};
 ghost use Rattle.kr_steps.specs.Calls.{MayCall, Runs, IsNoExec};
-ghost use Rattle.kr_allowed.specs.Texts.{IsText};
-ghost use Rattle.kr_model.specs.State.{process};
-ghost use Rattle.kr_model.specs.Walks.{targets_of};
-ghost use Rattle.kr_model.specs.declared.outcome.Outcome.TheVariants.{NoMemory as WantOfMemory};
-ghost use Rattle.kr_ops.specs.Meaning.{meaning};
-ghost use Rattle.kr_ops.specs.Sound.{IsSound};
-ghost use Rattle.kr_seen.specs.CallWalks.{AreTargets};
-ghost use Rattle.kr_seen.specs.Numbered.{state_numbered};
-ghost use Rattle.kr_tree.specs.Lawful.{AreBytes};
+ghost use Rattle.kr_execve.specs.kr_allowed.Texts.{IsText};
+ghost use Rattle.kr_hostview.specs.kr_model.State.{process};
+ghost use Rattle.kr_hostview.specs.kr_model.Walks.{targets_of};
+ghost use Rattle.kr_hostview.specs.kr_model.declared.outcome.Outcome.TheVariants.{NoMemory as WantOfMemory};
+ghost use Rattle.kr_hostview.specs.kr_ops.Meaning.{meaning};
+ghost use Rattle.kr_hostview.specs.kr_ops.Sound.{IsSound};
+ghost use Rattle.kr_hostview.specs.kr_seen.CallWalks.{AreTargets};
+ghost use Rattle.kr_hostview.specs.kr_seen.Numbered.{state_numbered};
+ghost use Rattle.kr_execve.specs.kr_tree.Lawful.{AreBytes};
 ghost use Rattle.kr_steps.specs.Settling.{settled};
 ghost use Rattle.kr_turns.specs.Coming.{came_to};
 ghost use Rattle.std.specs.Option.{option_map, option_map_or};
-ghost use Rattle.kr_view.specs.Leads.{numbered};
-ghost use Rattle.kr_view.specs.View.{Row, is_root_place};
+ghost use Rattle.kr_execve.specs.kr_view.Leads.{numbered};
+ghost use Rattle.kr_execve.specs.kr_view.View.{Row, is_root_place};
 ghost use Rattle.kr_turns.specs.PlainCall.{child_of, end_of, executed, leads_to_root, plain_call, plain_reach, refusal_told, request_reach, requested, status_told};
-ghost use Rattle.kr_calls.specs.declared.request.Request.TheVariants.{Execve as ExecveRequest};
+ghost use Rattle.kr_execve.specs.kr_calls.declared.request.Request.TheVariants.{Execve as ExecveRequest};
 
 use crate::judging::{NOTHING, idle_rule, judge_call, look_ahead, rule_of};
-use kr_calls::{CallFault, Request};
+use kr_execve::below::{CallFault, Place, Places, Reach, Request, WalkFault};
 use kr_execve::{Executed, execute};
-use kr_model::Outcome;
-use kr_ops::State;
-use kr_ops::laws::lawful_states_are_sound;
-use kr_seen::{Targets, walk_paths};
+use kr_hostview::below::{
+    Errno, NoMemory, Outcome, State, Targets, lawful_states_are_sound, walk_paths,
+};
 use kr_steps::{answer, carry_out_along, request, resume, stay};
-use kr_tree::Place;
-use kr_view::{Places, Reach, WalkFault};
-use pr_base::{Errno, NoMemory};
 use std::alloc::Global;
 
 /// The signal that kills a process which writes into a pipe that nobody reads.
@@ -79,7 +75,6 @@ pub fn plain_call<P: Places, const M: u8>(
     requires few_rows { length (P.mounts places.now) < 2 ^ 32 }
     requires may { MayCall P.number (P.mounts places.now) state.old }
     requires lives { IsSome (process pid (meaning state.old)) }
-    requires behind { IfSome (process pid (meaning state.old)) (λ p. p.image.regs.pc + 4 < 2 ^ 64) }
     ensures came { IfOk result (λ plain. came_to P.number state.new plain ≡ plain_call (P.mounts places.now) pid (state_numbered P.number (meaning state.old))) }
     ensures reach { IfOk result (λ plain. plain.reach ≡ plain_reach (P.mounts places.now) pid (state_numbered P.number (meaning state.old)) nothing_reached) }
     ensures rule { IfOk result (λ plain. plain.broken ≡ plain_rule M (P.mounts places.now) pid no_shelf (state_numbered P.number (meaning state.old))) }
@@ -109,7 +104,6 @@ fn carry_request<P: Places, const M: u8>(
     requires few_rows { length (P.mounts places.now) < 2 ^ 32 }
     requires may { MayCall P.number (P.mounts places.now) state.old }
     requires lives { IsSome (process pid (meaning state.old)) }
-    requires behind { IfSome (process pid (meaning state.old)) (λ p. p.image.regs.pc + 4 < 2 ^ 64) }
     ensures came { IfOk result (λ plain. came_to P.number state.new plain ≡ requested (P.mounts places.now) pid request.now (state_numbered P.number (meaning state.old))) }
     ensures reach { IfOk result (λ plain. plain.reach ≡ request_reach (P.mounts places.now) pid request.now (state_numbered P.number (meaning state.old)) nothing_reached) }
     ensures rule { IfOk result (λ plain. plain.broken ≡ requested_rule M (P.mounts places.now) pid no_shelf request.now (state_numbered P.number (meaning state.old))) }
@@ -187,7 +181,6 @@ fn operate<P: Places, const M: u8>(
     requires few_rows { length (P.mounts places.now) < 2 ^ 32 }
     requires may { MayCall P.number (P.mounts places.now) state.old }
     requires lives { IsSome (process pid (meaning state.old)) }
-    requires behind { IfSome (process pid (meaning state.old)) (λ p. p.image.regs.pc + 4 < 2 ^ 64) }
     ensures came { IfOk result (λ plain. came_to P.number state.new plain ≡ requested (P.mounts places.now) pid request.now (state_numbered P.number (meaning state.old))) }
     ensures reach { IfOk result (λ plain. plain.reach ≡ request_reach (P.mounts places.now) pid request.now (state_numbered P.number (meaning state.old)) nothing_reached) }
     ensures rule { IfOk result (λ plain. plain.broken ≡ requested_rule M (P.mounts places.now) pid no_shelf request.now (state_numbered P.number (meaning state.old))) }

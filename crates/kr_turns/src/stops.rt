@@ -3,7 +3,7 @@ ghost use Rattle.std.specs.Prelude.{◌≡◌, ℕ, OnOk};
 ghost use Rattle.kr_turns.specs.Stopped.{Stopped, IsEdited};
 
 use crate::tracee::Tracee;
-use pr_base::NoMemory;
+use kr_hostview::below::NoMemory;
 
 /// A watcher of calls. It is asked at two stops of a call: before the call is carried out, and behind it where its caller goes on.
 /// After want of memory both the watcher and what it was lent may only be dropped.

@@ -1,13 +1,13 @@
 //! A process at a stop, as a watcher sees it.
 ghost use Rattle.std.specs.Prelude.{◌≡◌, ◌≤◌, ◌<◌, ◌↔◌, ℕ, IsErrOf, IsOk, IsTrue, length, OnOk, OnErr, false};
-ghost use Rattle.rv_mem.specs.Pages.{allows_all, bytes_from};
-ghost use Rattle.kr_model.specs.Peeks.{peeked_of};
+ghost use Rattle.kr_steps.specs.rv_mem.Pages.{allows_all, bytes_from};
+ghost use Rattle.kr_hostview.specs.kr_model.Peeks.{peeked_of};
 ghost use Rattle.kr_turns.specs.Stopped.{Stopped, IsThere};
 ghost use Rattle.kr_turns.specs.Editing.{after_peek, after_poke, after_request, memory_at, register_at, with_register, Decodes};
 
-use kr_calls::{CallFault, Request};
-use pr_base::Peeks;
-use rv_mem::{BadAddress, StoreFault, Use};
+use kr_execve::below::{CallFault, Request};
+use kr_hostview::below::Peeks;
+use kr_steps::below::{BadAddress, StoreFault, Use};
 
 /// A process that stands at a stop of its call. Registers are numbered 1 to 31, as the processor numbers them.
 pub trait Tracee: Peeks {

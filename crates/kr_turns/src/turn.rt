@@ -1,9 +1,9 @@
 //! A turn of a process.
-ghost use Rattle.std.specs.Prelude.{◌<◌, ◌^◌, ◌+◌, ℕ, suc, false, length, IfOk, IfSome, IsSome, OnOk};
-ghost use Rattle.kr_allowed.specs.Told.{SourcesAreNamed};
+ghost use Rattle.std.specs.Prelude.{◌<◌, ◌^◌, ℕ, suc, false, length, IfOk, IsSome, OnOk};
+ghost use Rattle.kr_execve.specs.kr_allowed.Told.{SourcesAreNamed};
 ghost use Rattle.kr_steps.specs.Calls.{Runs};
-ghost use Rattle.kr_model.specs.State.{process};
-ghost use Rattle.kr_ops.specs.Meaning.{meaning};
+ghost use Rattle.kr_hostview.specs.kr_model.State.{process};
+ghost use Rattle.kr_hostview.specs.kr_ops.Meaning.{meaning};
 ghost use Rattle.kr_turns.specs.Making.{ComesOut, IsCallMade, IsLeft, IsTurnMade, watching};
 ghost use Rattle.kr_turns.specs.Held.{Stands, stopped_in};
 ghost use Rattle.kr_turns.specs.Stopped.{IsEdited};
@@ -14,13 +14,11 @@ use crate::judging::{NOTHING, idle_rule, killed_rule};
 use crate::plain::{CallEnd, Plain, plain_call};
 use crate::shelving::shelve;
 use crate::stops::Stops;
+use kr_execve::below::Places;
 use kr_execve::marks_read;
-use kr_ops::State;
-use kr_ops::laws::lawful_states_are_sound;
+use kr_hostview::below::{NoMemory, State, lawful_states_are_sound};
+use kr_steps::below::Event;
 use kr_steps::{compute, kill};
-use kr_view::Places;
-use pr_base::NoMemory;
-use rv_cpu::Event;
 use std::alloc::Global;
 
 /// What a turn told.
@@ -85,7 +83,6 @@ fn make_call<P: Places, S: Stops, const M: u8>(
     requires runs { Runs P.number (P.mounts places.now) calls state.old }
     requires few { calls < 2 ^ 31 }
     requires lives { IsSome (process pid (meaning state.old)) }
-    requires behind { IfSome (process pid (meaning state.old)) (λ p. p.image.regs.pc + 4 < 2 ^ 64) }
     ensures call { IfOk result (λ made. IsCallMade (watching S.enters S.exits S.bears S.forgets) P.number (P.mounts places.now) pid state.old stops.old state.new stops.new made) }
     ensures runs { OnOk result (Runs P.number (P.mounts places.now) (suc calls) state.new) }
 {

@@ -5,15 +5,15 @@ use Rattle.std.specs.Option.{option_map, option_map_or}
 use Rattle.std.proofs.lemmas.Bool.{false_from_ne_true}
 use Rattle.std.proofs.lemmas.Bool.Decides.{nat_tests}
 use Rattle.std.proofs.lemmas.List.Elements.{All-head, All-tail}
-use Rattle.pr_base.specs.Paths.{Component, Dot, Name, slash, dot, has_parts, has_slash, parts_of, component_of, components_of, is_absolute, below_root, text_of, name_path, IsPart, IsName, AreNames}
-use Rattle.pr_base.specs.WalkFrame.{Fails, Missing, Leads, Links, Jumps, Onward, here, begins_at, most_links, walk_on, onward, in_middle, at_last, is_followed, wants_directory, target_at, ends, fails, ends_found, ends_missing, ends_landed, jumps_on}
-use Rattle.pr_base.specs.declared.errno.Errno.{Errno}
-use Rattle.pr_base.specs.declared.errno.Errno.TheVariants.{EACCES, ENAMETOOLONG, ENOTDIR}
-use Rattle.pr_base.specs.declared.path.WalkMode.{WalkMode}
-use Rattle.pr_base.specs.declared.path.WalkMode.TheVariants as modes
-use Rattle.pr_base.proofs.PathLemmas.{name_is_part, names_are_parts, part_component, components_seam, names_onto, below_root_components, below_root_absolute, slash_behind}
-use Rattle.pr_base.proofs.WalkLemmas.{walk-none, walk-last, walk-middle}
-use Rattle.pr_base.specs.Texts.{Text}
+use Rattle.kr_tree.specs.pr_base.Paths.{Component, Dot, Name, slash, dot, has_parts, has_slash, parts_of, component_of, components_of, is_absolute, below_root, text_of, name_path, IsPart, IsName, AreNames}
+use Rattle.kr_tree.specs.pr_base.WalkFrame.{Fails, Missing, Leads, Links, Jumps, Onward, here, begins_at, most_links, walk_on, onward, in_middle, at_last, is_followed, wants_directory, target_at, ends, fails, ends_found, ends_missing, ends_landed, jumps_on}
+use Rattle.kr_tree.specs.pr_base.declared.errno.Errno.{Errno}
+use Rattle.kr_tree.specs.pr_base.declared.errno.Errno.TheVariants.{EACCES, ENAMETOOLONG, ENOTDIR}
+use Rattle.kr_tree.specs.pr_base.declared.path.WalkMode.{WalkMode}
+use Rattle.kr_tree.specs.pr_base.declared.path.WalkMode.TheVariants as modes
+use Rattle.kr_tree.proofs.pr_base.PathLemmas.{name_is_part, names_are_parts, part_component, components_seam, names_onto, below_root_components, below_root_absolute, slash_behind}
+use Rattle.kr_tree.proofs.pr_base.WalkLemmas.{walk-none, walk-last, walk-middle}
+use Rattle.kr_tree.specs.pr_base.Texts.{Text}
 use Rattle.kr_tree.specs.declared.place.Host.{Host}
 use Rattle.kr_tree.specs.declared.place.Host.TheVariants.{Node, Proc}
 use Rattle.kr_tree.specs.declared.place.Place.{Place}

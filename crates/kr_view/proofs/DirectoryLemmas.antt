@@ -3,19 +3,19 @@ use Rattle.std.proofs.Common.{◌≡◌, ◌≢◌, ℕ, Bool, true, false, not,
 use Rattle.std.proofs.lemmas.Bool.Decides.{nat_tests}
 use Rattle.std.specs.Bool.{if◌then◌else◌}
 use Rattle.std.specs.Option.{option_map, option_map_or}
-use Rattle.pr_base.specs.Paths.{Component, is_slash, is_absolute, parts_of, component_of, components_of, has_slash, has_parts, ends_in_slash, Dot, DotDot, Name, kind_of}
-use Rattle.pr_base.specs.WalkFrame.{Fails, Looking, begins_at, ends_here, most_links, walk_on}
-use Rattle.pr_base.specs.declared.errno.Errno.TheVariants.{EACCES, ENOTDIR}
-use Rattle.pr_base.specs.declared.path.Last.TheVariants as last
-use Rattle.pr_base.specs.declared.path.WalkMode.{WalkMode}
+use Rattle.kr_tree.specs.pr_base.Paths.{Component, is_slash, is_absolute, parts_of, component_of, components_of, has_slash, has_parts, ends_in_slash, Dot, DotDot, Name, kind_of}
+use Rattle.kr_tree.specs.pr_base.WalkFrame.{Fails, Looking, begins_at, ends_here, most_links, walk_on}
+use Rattle.kr_tree.specs.pr_base.declared.errno.Errno.TheVariants.{EACCES, ENOTDIR}
+use Rattle.kr_tree.specs.pr_base.declared.path.Last.TheVariants as last
+use Rattle.kr_tree.specs.pr_base.declared.path.WalkMode.{WalkMode}
 use Rattle.kr_tree.specs.declared.place.Place.{Place}
 use Rattle.kr_tree.specs.Tree.{Tree, Inode, inode, body, body_is, is_directory}
 use Rattle.kr_view.specs.View.{root_source, root_place, StandsIn}
 use Rattle.kr_view.specs.Component.{Surroundings, SeenPlace, look_up, inside, is_directory_at, may_search}
 use Rattle.kr_view.specs.Walk.{PlaceTrail, PlaceTarget, looking, place_walk}
-use Rattle.pr_base.specs.WalkLaws.{Shows}
-use Rattle.pr_base.proofs.EndLemmas.{EndsSo, walk_ends}
-use Rattle.pr_base.proofs.WalkLemmas.{walk-none}
+use Rattle.kr_tree.specs.pr_base.WalkLaws.{Shows}
+use Rattle.kr_tree.proofs.pr_base.EndLemmas.{EndsSo, walk_ends}
+use Rattle.kr_tree.proofs.pr_base.WalkLemmas.{walk-none}
 use Rattle.kr_view.proofs.JumpedLemmas.{jumped_own}
 use Rattle.kr_view.proofs.TableLemmas.{same_some, laws_of_places}
 use Rattle.kr_view.proofs.RestLemmas.{begun_has_parts}

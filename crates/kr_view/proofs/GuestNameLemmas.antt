@@ -3,9 +3,9 @@ use Rattle.std.proofs.Common.{◌≡◌, ℕ, Bool, true, false, Option, Some, N
 use Rattle.std.specs.Bool.{if◌then◌else◌}
 use Rattle.std.specs.Option.{option_map, option_and_then}
 use Rattle.std.proofs.lemmas.Bool.{eq-eqb}
-use Rattle.pr_base.specs.Paths.{below_root, text_of}
-use Rattle.pr_base.proofs.PathLemmas.{below_root_append}
-use Rattle.pr_base.proofs.TextLemmas.{some_is, map_some, below_found, below_there}
+use Rattle.kr_tree.specs.pr_base.Paths.{below_root, text_of}
+use Rattle.kr_tree.proofs.pr_base.PathLemmas.{below_root_append}
+use Rattle.kr_tree.proofs.pr_base.TextLemmas.{some_is, map_some, below_found, below_there}
 use Rattle.kr_tree.specs.declared.place.Host.{Host}
 use Rattle.kr_tree.specs.declared.place.Host.TheVariants.{Node, Proc}
 use Rattle.kr_tree.specs.declared.place.Place.{Place}
@@ -15,8 +15,8 @@ use Rattle.kr_tree.specs.Names.{host_name}
 use Rattle.kr_tree.specs.Tree.{Tree, body_is, is_directory}
 use Rattle.kr_tree.proofs.NameLemmas.{host_name-of_root, no_directory_name}
 use Rattle.kr_view.specs.View.{Row, row, node_in, plain, plain_row}
-use Rattle.kr_view.specs.Component.{Namespace, is_process_directory}
-use Rattle.kr_view.specs.Names.{Text, below, names_below, names_down, Remembered, host_entry, guest_directory, guest_entry, is_file_source, guest_node, guest_process, guest_object, process_object_name, object_name, guest_name}
+use Rattle.kr_view.specs.Component.{Namespace, is_directory_at, is_process_directory}
+use Rattle.kr_view.specs.Names.{Text, below, names_below, names_down, Remembered, host_entry, guest_directory, guest_entry, is_file_source, guest_source, guest_below, guest_node, guest_process, guest_object, process_object_name, object_name, guest_name}
 
 -- all is below the root, and stays as it is
 below_the_root : (text : Option Text) → option_map (λ names. names ++ []) (option_and_then (names_below []) text) ≡ text
@@ -41,12 +41,12 @@ no_file r i kind = ap (λ b. if b then false else nat_eq r.source i) kind
 module _ (t : Tree) (r : Row) (kind : r.is_dir ≡ true) where
   node_directory : (i : ℕ) (remembered : Remembered) → body_is is_directory t i ≡ true → guest_node t (Some r) i remembered ≡ guest_directory t (Some r) i
   node_directory i remembered is =
-      ap (λ b. if b then Some r.text.location else if body_is is_directory t i then guest_directory t (Some r) i else guest_entry t (Some r) remembered) (no_file r i kind)
+      ap (λ b. if b then guest_source (Some r) remembered else guest_below t (Some r) i remembered) (no_file r i kind)
       ∙ ap (λ b. if b then guest_directory t (Some r) i else guest_entry t (Some r) remembered) is
 
   node_other : (i : ℕ) (remembered : Remembered) → body_is is_directory t i ≡ false → guest_node t (Some r) i remembered ≡ guest_entry t (Some r) remembered
   node_other i remembered is =
-      ap (λ b. if b then Some r.text.location else if body_is is_directory t i then guest_directory t (Some r) i else guest_entry t (Some r) remembered) (no_file r i kind)
+      ap (λ b. if b then guest_source (Some r) remembered else guest_below t (Some r) i remembered) (no_file r i kind)
       ∙ ap (λ b. if b then guest_directory t (Some r) i else guest_entry t (Some r) remembered) is
 
   down_from : (i : ℕ) (top text : Option Text) → host_name t r.source ≡ top → host_name t i ≡ text
@@ -72,10 +72,10 @@ module _ (space : Namespace) where
   in_row : (k i : ℕ) (r : Row) (remembered : Remembered) → row space.table k ≡ Some r → guest_name space (node_in k i) remembered ≡ guest_node space.tree (Some r) i remembered
   in_row k i r remembered there = ap (λ o. guest_node space.tree o i remembered) there
 
-  pub file_source : (k : ℕ) (r : Row) (remembered : Remembered) → row space.table k ≡ Some r → r.is_dir ≡ false → guest_name space (node_in k r.source) remembered ≡ Some r.text.location
-  file_source k r remembered there kind =
-      in_row k r.source r remembered there
-      ∙ ap (λ b. if b then Some r.text.location else if body_is is_directory space.tree r.source then guest_directory space.tree (Some r) r.source else guest_entry space.tree (Some r) remembered) is
+  pub file_source : (k : ℕ) (r : Row) (e : ℕ × List ℕ) → row space.table k ≡ Some r → r.is_dir ≡ false → guest_name space (node_in k r.source) (Some e) ≡ Some r.text.location
+  file_source k r e there kind =
+      in_row k r.source r (Some e) there
+      ∙ ap (λ b. if b then Some r.text.location else guest_below space.tree (Some r) r.source (Some e)) is
     where
       is : is_file_source (Some r) r.source ≡ true
       is = ap (λ b. if b then false else nat_eq r.source r.source) kind ∙ eq-eqb r.source r.source refl
@@ -104,8 +104,17 @@ module _ (space : Namespace) where
   entries k i dir r name there kind other is =
       in_row k i r (Some (dir, name)) there ∙ node_other space.tree r kind i (Some (dir, name)) other ∙ ap (below name) (sym (in_row k dir r None there ∙ node_directory space.tree r kind dir None is))
 
-  pub nameless : (k i : ℕ) (r : Row) → row space.table k ≡ Some r → r.is_dir ≡ true → body_is is_directory space.tree i ≡ false → guest_name space (node_in k i) None ≡ None
-  nameless k i r there kind other = in_row k i r None there ∙ node_other space.tree r kind i None other
+  -- what is no directory and remembers no entry
+  nameless_node : (r : Option Row) (i : ℕ) (source : Bool) → body_is is_directory space.tree i ≡ false → (if source then guest_source r None else guest_below space.tree r i None) ≡ None
+  nameless_node r i true file = refl
+  nameless_node r i false file = ap (λ b. if b then guest_directory space.tree r i else guest_entry space.tree r None) file
+
+  nameless_object : (r : Option Row) (x : Host) → is_directory_at space.tree x ≡ false → guest_object space r x None ≡ None
+  nameless_object r (Node i) file = nameless_node r i (is_file_source r i) file
+  nameless_object r (Proc i at) file = ap (λ b. if b then process_object_name space at (guest_directory space.tree r i) else guest_entry space.tree r None) file
+
+  pub nameless : (p : Place ℕ) → is_directory_at space.tree p.host ≡ false → guest_name space p None ≡ None
+  nameless p file = nameless_object (row space.table p.mount) p.host file
 
   pub processes : (k i : ℕ) (at : ProcAt) (r : Row) (remembered : Remembered) → row space.table k ≡ Some r → r.is_dir ≡ true → body_is is_directory space.tree i ≡ true → is_process_directory at ≡ true
       → guest_name space (record { mount = k; host = Proc i at }) remembered ≡ process_object_name space at (guest_name space (node_in k i) None)

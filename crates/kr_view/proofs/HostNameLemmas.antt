@@ -2,7 +2,7 @@
 use Rattle.std.proofs.Common.{◌≡◌, inl, inr, ℕ, List, Option, Some, None, drop, IfSome, ◌∷◌, refl, sym, ap, ◌∙◌}
 use Rattle.std.specs.Option.{option_map}
 use Rattle.std.proofs.lemmas.Bool.{cases_eq}
-use Rattle.pr_base.specs.Paths.{AreNames}
+use Rattle.kr_tree.specs.pr_base.Paths.{AreNames}
 use Rattle.kr_tree.specs.Tree.{Tree, root, above}
 use Rattle.kr_tree.specs.Names.{host_name, HostNamesLead}
 use Rattle.kr_tree.specs.Lawful.{IsSound}

@@ -3,9 +3,9 @@ use Rattle.std.proofs.Common.{◌≡◌, ℕ, Bool, true, false, List, [], ◌�
 use Rattle.std.specs.Bool.{if◌then◌else◌}
 use Rattle.std.specs.Option.{option_map, option_map_or, option_and_then}
 use Rattle.std.proofs.lemmas.List.Elements.{All-cons, All-nil}
-use Rattle.pr_base.specs.Paths.{IsName, AreNames}
-use Rattle.pr_base.specs.Texts.{Text}
-use Rattle.kr_inode.specs.declared.user.User.{User}
+use Rattle.kr_tree.specs.pr_base.Paths.{IsName, AreNames}
+use Rattle.kr_tree.specs.pr_base.Texts.{Text}
+use Rattle.kr_tree.specs.kr_inode.declared.user.User.{User}
 use Rattle.kr_tree.specs.declared.place.Host.{Host}
 use Rattle.kr_tree.specs.declared.place.Host.TheVariants.{Node, Proc}
 use Rattle.kr_tree.specs.declared.place.ProcAt.{ProcAt}

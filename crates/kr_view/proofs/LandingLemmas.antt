@@ -1,8 +1,8 @@
 -- Where a link of the process directory leads.
 use Rattle.std.proofs.Common.{◌≡◌, ℕ, Bool, true, false, cond, List, [], Some, Ok, refl}
-use Rattle.pr_base.specs.WalkFrame.{ends, ends_landed, wants_directory}
-use Rattle.pr_base.specs.declared.path.Last.TheVariants as last
-use Rattle.pr_base.specs.declared.path.WalkMode.{WalkMode}
+use Rattle.kr_tree.specs.pr_base.WalkFrame.{ends, ends_landed, wants_directory}
+use Rattle.kr_tree.specs.pr_base.declared.path.Last.TheVariants as last
+use Rattle.kr_tree.specs.pr_base.declared.path.WalkMode.{WalkMode}
 use Rattle.kr_tree.specs.declared.place.Place.{Place}
 use Rattle.kr_tree.specs.Names.{host_name}
 use Rattle.kr_view.specs.View.{node_in}

@@ -1,3 +1,4 @@
+pub use Rattle.kr_tree.proofs.kr_inode as kr_inode
 pub use Rattle.kr_tree.proofs as kr_tree
 pub mod ArrivalLemmas
 pub mod DirectoryLemmas

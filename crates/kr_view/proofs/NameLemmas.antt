@@ -4,7 +4,7 @@ use Rattle.std.specs.Option.{option_map, option_map_or}
 use Rattle.std.proofs.lemmas.List.Elements.{All-head}
 use Rattle.std.proofs.lemmas.List.{length-append}
 use Rattle.std.proofs.Math.Seq.{take-append_seam}
-use Rattle.pr_base.specs.Paths.{slash, below_root, text_of, IsName, AreNames}
+use Rattle.kr_tree.specs.pr_base.Paths.{slash, below_root, text_of, IsName, AreNames}
 
 -- the bytes in front of the last slash of a name are those of the name above
 pub cut_above : (names : List (List ℕ)) (name : List ℕ) (end : ℕ) → AreNames names → name ≡ below_root names → end ≤ length name

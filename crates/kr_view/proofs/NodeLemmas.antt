@@ -1,12 +1,12 @@
 -- A walk reads of a tree its nodes alone.
 use Rattle.std.proofs.Common.{◌≡◌, ℕ, Bool, true, false, List, [], Option, Some, None, refl, sym, ap, ◌∙◌, if◌then◌else◌}
 use Rattle.std.specs.Option.{option_map, option_map_or, option_and_then}
-use Rattle.pr_base.specs.Paths.{Component, Dot, DotDot, Name}
-use Rattle.pr_base.specs.WalkFrame.{Fails, Jumps, walk}
-use Rattle.pr_base.specs.declared.errno.Errno.TheVariants.{EACCES, ENOTDIR, ENAMETOOLONG}
-use Rattle.pr_base.specs.declared.path.WalkMode.{WalkMode}
-use Rattle.kr_inode.specs.declared.user.Right.TheVariants.{Search}
-use Rattle.kr_inode.specs.declared.standing.Standing.{Standing}
+use Rattle.kr_tree.specs.pr_base.Paths.{Component, Dot, DotDot, Name}
+use Rattle.kr_tree.specs.pr_base.WalkFrame.{Fails, Jumps, walk}
+use Rattle.kr_tree.specs.pr_base.declared.errno.Errno.TheVariants.{EACCES, ENOTDIR, ENAMETOOLONG}
+use Rattle.kr_tree.specs.pr_base.declared.path.WalkMode.{WalkMode}
+use Rattle.kr_tree.specs.kr_inode.declared.user.Right.TheVariants.{Search}
+use Rattle.kr_tree.specs.kr_inode.declared.standing.Standing.{Standing}
 use Rattle.kr_tree.specs.declared.place.Host.{Host}
 use Rattle.kr_tree.specs.declared.place.Host.TheVariants.{Node, Proc}
 use Rattle.kr_tree.specs.declared.place.Place.{Place}

@@ -2,11 +2,11 @@
 use Rattle.std.proofs.Common.{◌≡◌, ◌≢◌, ◌-◌, ℕ, zero, suc, Bool, true, false, List, [], ◌++◌, Some, Result, Ok, Err, refl, sym, ap, subst, ◌∙◌}
 use Rattle.std.specs.Bool.{if◌then◌else◌}
 use Rattle.std.specs.Result.{IsErr, IsErrAnd}
-use Rattle.pr_base.specs.Paths.{Component, components_of}
-use Rattle.pr_base.specs.WalkFrame.{Landing, Trail, fails, begins_at, after_jump, jumps_on, onward, walk_on, Links, Jumps}
-use Rattle.pr_base.specs.declared.errno.Errno.{Errno}
-use Rattle.pr_base.specs.declared.errno.Errno.TheVariants.{ELOOP}
-use Rattle.pr_base.specs.declared.path.WalkMode.{WalkMode}
+use Rattle.kr_tree.specs.pr_base.Paths.{Component, components_of}
+use Rattle.kr_tree.specs.pr_base.WalkFrame.{Landing, Trail, fails, begins_at, after_jump, jumps_on, onward, walk_on, Links, Jumps}
+use Rattle.kr_tree.specs.pr_base.declared.errno.Errno.{Errno}
+use Rattle.kr_tree.specs.pr_base.declared.errno.Errno.TheVariants.{ELOOP}
+use Rattle.kr_tree.specs.pr_base.declared.path.WalkMode.{WalkMode}
 use Rattle.kr_tree.specs.declared.place.Place.{Place}
 use Rattle.kr_view.specs.declared.procs.Lead.{Lead}
 use Rattle.kr_view.specs.declared.procs.Lead.TheVariants.{Text, Jump}
@@ -23,7 +23,7 @@ use Rattle.kr_view.specs.Reach.{Covers, reached_landing, reach_after}
 use Rattle.kr_view.specs.inside.Stacks.{stack_of}
 use Rattle.kr_view.specs.inside.Positions.{IsNamed}
 use Rattle.kr_view.specs.inside.Steps.{trail_of, middle_trail, Follows, IsFollowed, GoesOn, HasOutcome}
-use Rattle.pr_base.proofs.WalkLemmas.{onward-less, onward-none}
+use Rattle.kr_tree.proofs.pr_base.WalkLemmas.{onward-less, onward-none}
 use Rattle.kr_view.proofs.ReachLemmas.{covers_refl, covers_trans, covers_after, covers_landing, behind_jump}
 
 module _ {M : Type 0} (number : M → ℕ) (around : Surroundings) (mode : WalkMode) where
@@ -41,22 +41,22 @@ module _ {M : Type 0} (number : M → ℕ) (around : Surroundings) (mode : WalkM
   pub at_follow_error : (walk : Walk M) (text : List ℕ) (slash : Bool) (trail : PlaceTrail) (old : Reach) (e : WalkFault) (r : Result (Step M) WalkFault) → IsErr r → IsErrAnd r (λ f. f ≡ e)
       → IsFollowed number around walk text slash (Err e)
       → trail ≡ onward (looking around) mode walk.left (begins_at (looking around) (numbered number walk.position.place) text) (components_of text ++ stack_of walk.rests) slash
-      → HasOutcome number around mode trail.answer (reach_after around trail old) old old r
+      → HasOutcome number around mode trail.answer (reach_after around mode trail old) old old r
   at_follow_error walk text slash trail old e (Ok step) is same followed at = absurd cc
   at_follow_error walk text slash trail old (fault.Err e) (Err fault.NoMemory) is same followed at = absurd cc
   at_follow_error walk text slash trail old fault.NoMemory (Err (fault.Err f)) is same followed at = absurd cc
-  at_follow_error walk text slash trail old fault.NoMemory (Err fault.NoMemory) is same followed at = (covers_refl old, covers_after around trail old)
+  at_follow_error walk text slash trail old fault.NoMemory (Err fault.NoMemory) is same followed at = (covers_refl old, covers_after around mode trail old)
   at_follow_error walk text slash trail old (fault.Err e) (Err (fault.Err f)) is same followed at =
       let loops : trail ≡ fails ELOOP = at ∙ onward-none (looking around) mode walk.left _ _ slash followed.1 in
       let one : f ≡ e = cc in
-      (ap (λ t. t.answer) loops ∙ ap Err (sym followed.0 ∙ sym one), ap (λ t. reach_after around t old) (sym loops))
+      (ap (λ t. t.answer) loops ∙ ap Err (sym followed.0 ∙ sym one), ap (λ t. reach_after around mode t old) (sym loops))
 
   pub at_follow : (walk : Walk M) (text : List ℕ) (slash : Bool) (trail : PlaceTrail) (old : Reach) (on : Walk M) → Follows number around walk text slash on
       → trail ≡ onward (looking around) mode walk.left (begins_at (looking around) (numbered number walk.position.place) text) (components_of text ++ stack_of walk.rests) slash
-      → GoesOn number around mode trail.answer (reach_after around trail old) old old on
+      → GoesOn number around mode trail.answer (reach_after around mode trail old) old old on
   at_follow walk text slash trail old on follows at =
       let same = follows.trail mode ∙ sym at in
-      record { ends = ap (λ t. t.answer) same; reaches = ap (λ t. reach_after around t old) same; covers = covers_refl old; named = follows.named }
+      record { ends = ap (λ t. t.answer) same; reaches = ap (λ t. reach_after around mode t old) same; covers = covers_refl old; named = follows.named }
 
 -- ---- a process link
 
@@ -81,10 +81,10 @@ module _ (around : Surroundings) (mode : WalkMode) (left : ℕ) (s : Place ℕ) 
       ∙ ap (after_jump l) (onward-less (looking around) mode left l.place rest slash some ∙ ap (λ q. walk_on (looking around) mode (left - 1) q rest slash) (landing_place around p dir name))
 
   middle_jump_reach : (p : Place ℕ) (dir : ℕ) (name : List ℕ) (old : Reach) → left ≢ 0
-      → reach_after around (middle_trail around mode left s rest slash (Jumps link (Some (landing around.space p dir name)))) old
-      ≡ reach_after around (walk_on (looking around) mode (left - 1) p rest slash) (reached_landing around.space (landing around.space p dir name) old)
+      → reach_after around mode (middle_trail around mode left s rest slash (Jumps link (Some (landing around.space p dir name)))) old
+      ≡ reach_after around mode (walk_on (looking around) mode (left - 1) p rest slash) (reached_landing around.space (landing around.space p dir name) old)
   middle_jump_reach p dir name old some =
-      ap (λ t. reach_after around t old) (middle_jump p dir name some) ∙ behind_jump around (landing around.space p dir name) (walk_on (looking around) mode (left - 1) p rest slash) old
+      ap (λ t. reach_after around mode t old) (middle_jump p dir name some) ∙ behind_jump around mode (landing around.space p dir name) (walk_on (looking around) mode (left - 1) p rest slash) old
 
 module _ {M : Type 0} (number : M → ℕ) (around : Surroundings) (mode : WalkMode) (walk : Walk M) (link : Place ℕ) (lead : Lead ℕ) (old : Reach) where
   -- what is left of a walk behind a process link
@@ -92,58 +92,58 @@ module _ {M : Type 0} (number : M → ℕ) (around : Surroundings) (mode : WalkM
   behind_link = middle_trail around mode walk.left (numbered number walk.position.place) (stack_of walk.rests) walk.slash (seen_link around.space link lead)
 
   pub link_want : (r : Result (Step M) WalkFault) → IsErr r → IsErrAnd r (λ f. f ≡ fault.NoMemory)
-      → HasOutcome number around mode behind_link.answer (reach_after around behind_link old) old old r
+      → HasOutcome number around mode behind_link.answer (reach_after around mode behind_link old) old old r
   link_want r err want =
-      at_want number around mode behind_link.answer (reach_after around behind_link old) old old r err want
-      (covers_refl old, covers_after around behind_link old)
+      at_want number around mode behind_link.answer (reach_after around mode behind_link old) old old r err want
+      (covers_refl old, covers_after around mode behind_link old)
 
   pub text_error : (text : List ℕ) (e : WalkFault) (r : Result (Step M) WalkFault) → lead ≡ Text text → IsErr r → IsErrAnd r (λ f. f ≡ e) → IsFollowed number around walk text walk.slash (Err e)
-      → HasOutcome number around mode behind_link.answer (reach_after around behind_link old) old old r
+      → HasOutcome number around mode behind_link.answer (reach_after around mode behind_link old) old old r
   text_error text e r is err same followed =
       let s = numbered number walk.position.place in
       let T = middle_trail around mode walk.left s (stack_of walk.rests) walk.slash (Links link text) in
-      let at_text : HasOutcome number around mode T.answer (reach_after around T old) old old r = at_follow_error number around mode walk text walk.slash T old e r err same followed refl in
+      let at_text : HasOutcome number around mode T.answer (reach_after around mode T old) old old r = at_follow_error number around mode walk text walk.slash T old e r err same followed refl in
       let Q : Lead ℕ → Type 0 = λ lead. HasOutcome number around mode (middle_trail around mode walk.left s (stack_of walk.rests) walk.slash (seen_link around.space link lead)).answer
-      (reach_after around (middle_trail around mode walk.left s (stack_of walk.rests) walk.slash (seen_link around.space link lead)) old) old old r in
+      (reach_after around mode (middle_trail around mode walk.left s (stack_of walk.rests) walk.slash (seen_link around.space link lead)) old) old old r in
       subst Q (sym is) at_text
 
   pub landing_error : (p : Place ℕ) (dir : ℕ) (name : List ℕ) (new : Reach) (r : Result (Step M) WalkFault) → lead ≡ Jump p dir name → walk.left ≢ 0 → stack_of walk.rests ≢ []
       → IsErr r → IsErrAnd r (λ f. f ≡ fault.NoMemory) → Covers new old × Covers (reached_landing around.space (landing around.space p dir name) old) new
-      → HasOutcome number around mode behind_link.answer (reach_after around behind_link old) old new r
+      → HasOutcome number around mode behind_link.answer (reach_after around mode behind_link old) old new r
   landing_error p dir name new r is some more err want part =
       let l = landing around.space p dir name in
       let s = numbered number walk.position.place in
       let T = middle_trail around mode walk.left s (stack_of walk.rests) walk.slash (Jumps link (Some l)) in
       let on = walk_on (looking around) mode (walk.left - 1) p (stack_of walk.rests) walk.slash in
-      let all : Covers (reach_after around on (reached_landing around.space l old)) new = covers_trans _ (reached_landing around.space l old) new (covers_after around on (reached_landing around.space l old)) part.1 in
+      let all : Covers (reach_after around mode on (reached_landing around.space l old)) new = covers_trans _ (reached_landing around.space l old) new (covers_after around mode on (reached_landing around.space l old)) part.1 in
       let P : Reach → Type 0 = λ whole. Covers whole new in
-      let whole : Covers (reach_after around T old) new = subst P (sym (middle_jump_reach around mode walk.left s (stack_of walk.rests) walk.slash link p dir name old some)) all in
-      let at_jump = at_want number around mode T.answer (reach_after around T old) old new r err want (part.0, whole) in
+      let whole : Covers (reach_after around mode T old) new = subst P (sym (middle_jump_reach around mode walk.left s (stack_of walk.rests) walk.slash link p dir name old some)) all in
+      let at_jump = at_want number around mode T.answer (reach_after around mode T old) old new r err want (part.0, whole) in
       let Q : Lead ℕ → Type 0 = λ lead. HasOutcome number around mode (middle_trail around mode walk.left s (stack_of walk.rests) walk.slash (seen_link around.space link lead)).answer
-      (reach_after around (middle_trail around mode walk.left s (stack_of walk.rests) walk.slash (seen_link around.space link lead)) old) old new r in
+      (reach_after around mode (middle_trail around mode walk.left s (stack_of walk.rests) walk.slash (seen_link around.space link lead)) old) old new r in
       subst Q (sym is) at_jump
 
   pub landing_goes : (p : Place ℕ) (dir : ℕ) (name : List ℕ) (new : Reach) (on : Walk M) → lead ≡ Jump p dir name → walk.left ≢ 0 → stack_of walk.rests ≢ []
       → new ≡ reached_landing around.space (landing around.space p dir name) old → trail_of number around mode on ≡ walk_on (looking around) mode (walk.left - 1) p (stack_of walk.rests) walk.slash
       → IsNamed around.space.tree on.position.place.host on.position.name
-      → GoesOn number around mode behind_link.answer (reach_after around behind_link old) old new on
+      → GoesOn number around mode behind_link.answer (reach_after around mode behind_link old) old new on
   landing_goes p dir name new on is some more reached goes named =
       let l = landing around.space p dir name in
       let s = numbered number walk.position.place in
       let T = middle_trail around mode walk.left s (stack_of walk.rests) walk.slash (Jumps link (Some l)) in
-      let at_jump : GoesOn number around mode T.answer (reach_after around T old) old new on = record {
+      let at_jump : GoesOn number around mode T.answer (reach_after around mode T old) old new on = record {
         ends = ap (λ t. t.answer) goes ∙ sym (ap (λ t. t.answer) (middle_jump around mode walk.left s (stack_of walk.rests) walk.slash link p dir name some));
         reaches =
-            ap (λ t. reach_after around t new) goes ∙ ap (reach_after around (walk_on (looking around) mode (walk.left - 1) p (stack_of walk.rests) walk.slash)) reached
+            ap (λ t. reach_after around mode t new) goes ∙ ap (reach_after around mode (walk_on (looking around) mode (walk.left - 1) p (stack_of walk.rests) walk.slash)) reached
             ∙ sym (middle_jump_reach around mode walk.left s (stack_of walk.rests) walk.slash link p dir name old some);
         covers = let P : Reach → Type 0 = λ n. Covers n old in subst P (sym reached) (covers_landing around l old);
         named = named;
       } in
       let Q : Lead ℕ → Type 0 = λ lead. GoesOn number around mode (middle_trail around mode walk.left s (stack_of walk.rests) walk.slash (seen_link around.space link lead)).answer
-      (reach_after around (middle_trail around mode walk.left s (stack_of walk.rests) walk.slash (seen_link around.space link lead)) old) old new on in
+      (reach_after around mode (middle_trail around mode walk.left s (stack_of walk.rests) walk.slash (seen_link around.space link lead)) old) old new on in
       subst Q (sym is) at_jump
 
 -- where memory is wanting before anything more was reached
 pub want_behind : {M : Type 0} (number : M → ℕ) (around : Surroundings) (mode : WalkMode) (answer : Result PlaceTarget Errno) (trail : PlaceTrail) (old : Reach) (r : Result (Step M) WalkFault)
-    → IsErr r → IsErrAnd r (λ f. f ≡ fault.NoMemory) → HasOutcome number around mode answer (reach_after around trail old) old old r
-want_behind number around mode answer trail old r err want = at_want number around mode answer (reach_after around trail old) old old r err want (covers_refl old, covers_after around trail old)
+    → IsErr r → IsErrAnd r (λ f. f ≡ fault.NoMemory) → HasOutcome number around mode answer (reach_after around mode trail old) old old r
+want_behind number around mode answer trail old r err want = at_want number around mode answer (reach_after around mode trail old) old old r err want (covers_refl old, covers_after around mode trail old)

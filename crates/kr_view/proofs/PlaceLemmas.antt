@@ -2,14 +2,14 @@
 use Rattle.std.proofs.Common.{◌≡◌, ℕ, ◌<◌, zero, suc, Bool, true, false, List, [], ◌∷◌, Option, Some, None, refl, sym, ap, subst, ◌∙◌, arith, nat_eq}
 use Rattle.std.specs.Bool.{if◌then◌else◌}
 use Rattle.std.specs.Option.{option_map, option_map_or, option_and_then}
-use Rattle.pr_base.specs.Paths.{Component, Dot, DotDot, Name, has_slash}
-use Rattle.pr_base.specs.WalkFrame.{Fails, Missing, Leads, Links, Jumps, Landing, most_links}
-use Rattle.pr_base.specs.declared.errno.Errno.TheVariants.{ENOENT, EACCES, ENOTDIR, ENAMETOOLONG}
-use Rattle.pr_base.specs.declared.path.WalkMode.{WalkMode}
-use Rattle.pr_base.proofs.EndLemmas.{EndsSo}
-use Rattle.pr_base.proofs.KeepLemmas.{GoesOn, walk_keeps}
-use Rattle.pr_base.proofs.TextLemmas.{some_is, map_some}
-use Rattle.kr_inode.proofs.EntryLemmas.{named_in as entry_in}
+use Rattle.kr_tree.specs.pr_base.Paths.{Component, Dot, DotDot, Name, has_slash}
+use Rattle.kr_tree.specs.pr_base.WalkFrame.{Fails, Missing, Leads, Links, Jumps, Landing, most_links}
+use Rattle.kr_tree.specs.pr_base.declared.errno.Errno.TheVariants.{ENOENT, EACCES, ENOTDIR, ENAMETOOLONG}
+use Rattle.kr_tree.specs.pr_base.declared.path.WalkMode.{WalkMode}
+use Rattle.kr_tree.proofs.pr_base.EndLemmas.{EndsSo}
+use Rattle.kr_tree.proofs.pr_base.KeepLemmas.{GoesOn, walk_keeps}
+use Rattle.kr_tree.proofs.pr_base.TextLemmas.{some_is, map_some}
+use Rattle.kr_tree.proofs.kr_inode.EntryLemmas.{named_in as entry_in}
 use Rattle.kr_tree.specs.declared.place.Host.{Host}
 use Rattle.kr_tree.specs.declared.place.Host.TheVariants.{Node, Proc}
 use Rattle.kr_tree.specs.declared.place.Place.{Place}
@@ -22,7 +22,7 @@ use Rattle.kr_view.specs.declared.procs.Lead.TheVariants.{Text, Jump, Nameless, 
 use Rattle.kr_view.specs.View.{Point, Row, row, node_in, root_place, point_place, is_there, down, up, is_root_place}
 use Rattle.kr_view.specs.Component.{Surroundings, SeenPlace, is_process_directory, is_directory_at, may_search, shows_directory, seen_body, landing, seen_link, seen_at, above_body, above_node, is_shown, above_process, above_host, seen_in_processes, seen_entry, is_processes, in_node, through_point, named_in, too_long, inside, look_up}
 use Rattle.kr_view.specs.Walk.{PlaceTarget, looking, place_walk}
-use Rattle.pr_base.specs.WalkLaws.{Shows}
+use Rattle.kr_tree.specs.pr_base.WalkLaws.{Shows}
 use Rattle.kr_view.specs.Laws.{IsSettledSource}
 use Rattle.kr_view.specs.InTree.{IsObjectOf, IsPlaceOf, LeadToEntries, StandsAround, WalksKeepPlaces}
 use Rattle.kr_view.proofs.TableLemmas.{laws_of_places}

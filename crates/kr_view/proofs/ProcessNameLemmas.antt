@@ -7,8 +7,8 @@ use Rattle.std.specs.Fmt.{digit_glyph, digits_onto, digits}
 use Rattle.std.proofs.Math.Nat.{mod-lt}
 use Rattle.std.proofs.lemmas.Bool.Decides.{nat_tests}
 use Rattle.std.proofs.lemmas.List.Elements.{All-cons, All-nil}
-use Rattle.pr_base.specs.Paths.{slash, IsName}
-use Rattle.kr_inode.proofs.NameLemmas.{name_decides}
+use Rattle.kr_tree.specs.pr_base.Paths.{slash, IsName}
+use Rattle.kr_tree.proofs.kr_inode.NameLemmas.{name_decides}
 use Rattle.kr_tree.specs.declared.place.ProcAt.{ProcAt}
 use Rattle.kr_tree.specs.declared.place.ProcAt.TheVariants.{SelfLink, Dir, Cwd, Root, Exe, FdDir, Fd}
 use Rattle.kr_tree.specs.Names.{process_names}

@@ -1,8 +1,8 @@
 -- A walk along a text that is reached among inodes, over the host's own view.
 use Rattle.std.proofs.Common.{◌≡◌, ℕ, true, false, List, Option, Some, None, Ok, refl, sym, ◌∙◌}
 use Rattle.std.specs.Option.{option_map, option_map_or}
-use Rattle.pr_base.specs.Paths.{AreNames, text_of}
-use Rattle.pr_base.specs.declared.path.WalkMode.{WalkMode}
+use Rattle.kr_tree.specs.pr_base.Paths.{AreNames, text_of}
+use Rattle.kr_tree.specs.pr_base.declared.path.WalkMode.{WalkMode}
 use Rattle.kr_tree.specs.declared.place.Host.TheVariants.{Node}
 use Rattle.kr_tree.specs.declared.place.Place.{Place}
 use Rattle.kr_tree.specs.Tree.{Tree, Inode, inode, body}

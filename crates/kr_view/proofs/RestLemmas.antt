@@ -3,9 +3,9 @@ use Rattle.std.proofs.Common.{◌≡◌, ◌≢◌, ℕ, ◌+◌, ◌-◌, ◌�
 use Rattle.std.specs.List.{slice_split, onto_first}
 use Rattle.std.proofs.lemmas.Bool.Decides.{nat_tests}
 use Rattle.std.proofs.lemmas.List.{length-drop, drop-drop, take-append-drop}
-use Rattle.pr_base.specs.Paths.{slash, is_slash, not_empty, parts_of, has_parts}
-use Rattle.pr_base.specs.Pieces.{BeginsName, BeginsSlash}
-use Rattle.pr_base.proofs.PathLemmas.{first_part}
+use Rattle.kr_tree.specs.pr_base.Paths.{slash, is_slash, not_empty, parts_of, has_parts}
+use Rattle.kr_tree.specs.pr_base.Pieces.{BeginsName, BeginsSlash}
+use Rattle.kr_tree.proofs.pr_base.PathLemmas.{first_part}
 use Rattle.kr_view.specs.inside.Begins.{begins_part}
 
 -- what was put onto the first piece isn't empty

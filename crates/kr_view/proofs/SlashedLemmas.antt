@@ -1,8 +1,8 @@
 -- A part with a slash behind it, or without, as a path.
 use Rattle.std.proofs.Common.{◌≡◌, ℕ, Bool, true, false, List, [], ◌∷◌, ◌++◌, refl, ap, ◌∙◌, append-nil}
 use Rattle.std.specs.Bool.{if◌then◌else◌}
-use Rattle.pr_base.specs.Paths.{slash, has_parts, ends_in_slash, has_slash, parts_of, is_absolute, IsPart}
-use Rattle.pr_base.proofs.PathLemmas.{parts_seam, part_alone, ends_behind, part_no_slash, part_relative}
+use Rattle.kr_tree.specs.pr_base.Paths.{slash, has_parts, ends_in_slash, has_slash, parts_of, is_absolute, IsPart}
+use Rattle.kr_tree.proofs.pr_base.PathLemmas.{parts_seam, part_alone, ends_behind, part_no_slash, part_relative}
 use Rattle.kr_view.specs.ReachLaws.{slashed}
 
 pub slashed_parts : (sl : Bool) (name : List ℕ) → IsPart name → parts_of (slashed sl name) ≡ name ∷ []

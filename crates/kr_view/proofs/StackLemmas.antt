@@ -2,7 +2,7 @@
 use Rattle.std.proofs.Common.{◌≡◌, ℕ, Bool, true, false, ◌&&◌, List, [], ◌∷◌, ◌++◌, map, refl, sym, ap, ◌∙◌, append_assoc, append-nil, length, nat_eq, arith}
 use Rattle.std.proofs.lemmas.Bool.Decides.{nat_tests}
 use Rattle.std.specs.List.{list_all}
-use Rattle.pr_base.specs.Paths.{Component, component_of, has_parts}
+use Rattle.kr_tree.specs.pr_base.Paths.{Component, component_of, has_parts}
 use Rattle.kr_view.specs.declared.rest.Rest.{Rest}
 use Rattle.kr_view.specs.inside.Rests.{parts_left, components_left, has_more, stacked}
 

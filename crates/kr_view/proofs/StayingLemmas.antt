@@ -1,10 +1,10 @@
 -- A walk to a name doesn't follow a process link as its last component.
 use Rattle.std.proofs.Common.{◌≡◌, ℕ, zero, suc, Bool, false, List, [], ◌∷◌, ◌++◌, refl, Ok}
-use Rattle.pr_base.specs.Paths.{Component, components_of, has_slash}
-use Rattle.pr_base.specs.WalkFrame.{Seen, Fails, Missing, Leads, Links, Jumps, Looking, Target, Trail, Onward, begins_at, loops, here, in_middle, at_last, along, walk_on, walk, most_links}
-use Rattle.pr_base.specs.declared.errno.Errno.TheVariants.{ENOENT, ELOOP}
-use Rattle.pr_base.specs.declared.path.WalkMode.TheVariants.{Name as NameMode}
-use Rattle.pr_base.proofs.EndLemmas.{EndsSo, failed, ended, jumps}
+use Rattle.kr_tree.specs.pr_base.Paths.{Component, components_of, has_slash}
+use Rattle.kr_tree.specs.pr_base.WalkFrame.{Seen, Fails, Missing, Leads, Links, Jumps, Looking, Target, Trail, Onward, begins_at, loops, here, in_middle, at_last, along, walk_on, walk, most_links}
+use Rattle.kr_tree.specs.pr_base.declared.errno.Errno.TheVariants.{ENOENT, ELOOP}
+use Rattle.kr_tree.specs.pr_base.declared.path.WalkMode.TheVariants.{Name as NameMode}
+use Rattle.kr_tree.proofs.pr_base.EndLemmas.{EndsSo, failed, ended, jumps}
 
 module _ {S F : Type 0} (looking : Looking S F) where
   abbrev Stays : Target S F → Type 0

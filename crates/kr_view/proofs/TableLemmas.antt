@@ -9,7 +9,7 @@ use Rattle.std.proofs.lemmas.Bool.{eqb-true, eq-eqb}
 use Rattle.std.proofs.lemmas.Option.{slice_get-get_or}
 use Rattle.std.specs.List.{list_any, position_or_len}
 use Rattle.std.proofs.lemmas.Slice.Eq.{bytes_eq-Decides}
-use Rattle.pr_base.specs.Paths.{AreNames}
+use Rattle.kr_tree.specs.pr_base.Paths.{AreNames}
 use Rattle.kr_tree.specs.declared.place.Place.{Place}
 use Rattle.kr_tree.specs.Tree.{Tree, root, body, body_is, inode, entry, is_directory, is_listed}
 use Rattle.kr_tree.specs.Lawful.{IsSound}

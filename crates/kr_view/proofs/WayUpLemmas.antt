@@ -6,11 +6,11 @@ use Rattle.std.proofs.lemmas.Bool.{false_from_ne_true, eq-eqb}
 use Rattle.std.proofs.lemmas.List.{length-append}
 use Rattle.std.proofs.lemmas.List.Elements.{All-head}
 use Rattle.std.proofs.Math.Seq.{take-append_seam, drop-append_seam}
-use Rattle.pr_base.specs.Texts.{texts_eq}
-use Rattle.pr_base.proofs.PathLemmas.{below_root_append}
-use Rattle.pr_base.proofs.TextLemmas.{some_is, map_some, texts_same, below_there}
-use Rattle.pr_base.specs.Paths.{slash, below_root, IsName, AreNames}
-use Rattle.kr_inode.specs.declared.standing.Standing.{Standing}
+use Rattle.kr_tree.specs.pr_base.Texts.{texts_eq}
+use Rattle.kr_tree.proofs.pr_base.PathLemmas.{below_root_append}
+use Rattle.kr_tree.proofs.pr_base.TextLemmas.{some_is, map_some, texts_same, below_there}
+use Rattle.kr_tree.specs.pr_base.Paths.{slash, below_root, IsName, AreNames}
+use Rattle.kr_tree.specs.kr_inode.declared.standing.Standing.{Standing}
 use Rattle.kr_tree.specs.Tree.{Tree, above, standing}
 use Rattle.kr_tree.specs.Names.{named as named_by, host_name, HostNamesLead}
 use Rattle.kr_tree.specs.Lawful.{IsSound}

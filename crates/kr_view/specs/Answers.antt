@@ -1,7 +1,8 @@
 -- What a walk answers its caller.
 use Rattle.std.specs.Prelude.{ℕ, ◌≡◌, Result, Ok, Err}
 use Rattle.std.specs.Option.{option_map}
-use Rattle.pr_base.specs.declared.errno.Errno.{Errno}
+use Rattle.kr_tree.specs.pr_base.declared.errno.Errno.{Errno}
+use Rattle.kr_tree.specs.pr_base.declared.path.WalkMode.{WalkMode}
 use Rattle.kr_view.specs.declared.target.Target.{Target}
 use Rattle.kr_view.specs.declared.target.WalkFault.{WalkFault}
 use Rattle.kr_view.specs.declared.target.WalkFault.TheVariants as fault
@@ -31,7 +32,7 @@ IsAnswer number answer (Err (fault.Err e)) = answer ≡ Err e
 IsAnswer number answer (Err fault.NoMemory) = Unit {0}
 
 -- what was reached is what the walk reaches, and for want of memory a part of that
-abbrev pub IsReached : {T : Type 0} → Surroundings → PlaceTrail → Reach → Reach → Result T WalkFault → Type 0
-IsReached around trail old new (Ok target) = new ≡ reach_after around trail old
-IsReached around trail old new (Err (fault.Err e)) = new ≡ reach_after around trail old
-IsReached around trail old new (Err fault.NoMemory) = Covers new old × Covers (reach_after around trail old) new
+abbrev pub IsReached : {T : Type 0} → Surroundings → WalkMode → PlaceTrail → Reach → Reach → Result T WalkFault → Type 0
+IsReached around mode trail old new (Ok target) = new ≡ reach_after around mode trail old
+IsReached around mode trail old new (Err (fault.Err e)) = new ≡ reach_after around mode trail old
+IsReached around mode trail old new (Err fault.NoMemory) = Covers new old × Covers (reach_after around mode trail old) new

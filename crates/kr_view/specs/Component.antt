@@ -2,16 +2,16 @@
 -- stand in this order: the place is a directory, it gives search, the component isn't too long; then
 -- `.`, `..`, a mount point, an entry.
 use Rattle.std.specs.Prelude.{ℕ, Bool, true, false, List, [], length, Option, Some, None, nat_lt, codes, if◌then◌else◌}
-use Rattle.pr_base.specs.Paths.{Component, Dot, DotDot, Name}
-use Rattle.pr_base.specs.WalkFrame.{Seen, Fails, Missing, Leads, Links, Jumps, Landing}
-use Rattle.pr_base.specs.declared.errno.Errno.TheVariants.{ENOENT, EACCES, ENOTDIR, ENAMETOOLONG}
+use Rattle.kr_tree.specs.pr_base.Paths.{Component, Dot, DotDot, Name}
+use Rattle.kr_tree.specs.pr_base.WalkFrame.{Seen, Fails, Missing, Leads, Links, Jumps, Landing}
+use Rattle.kr_tree.specs.pr_base.declared.errno.Errno.TheVariants.{ENOENT, EACCES, ENOTDIR, ENAMETOOLONG}
 use Rattle.kr_tree.specs.declared.place.Host.{Host}
 use Rattle.kr_tree.specs.declared.place.Host.TheVariants.{Node, Proc}
 use Rattle.kr_tree.specs.declared.place.Place.{Place}
 use Rattle.kr_tree.specs.declared.place.ProcAt.{ProcAt}
 use Rattle.kr_tree.specs.declared.place.ProcAt.TheVariants.{SelfLink, Dir, Cwd, Root, Exe, FdDir, Fd}
-use Rattle.kr_inode.specs.declared.user.User.{User}
-use Rattle.kr_inode.specs.declared.user.Right.TheVariants.{Search}
+use Rattle.kr_tree.specs.kr_inode.declared.user.User.{User}
+use Rattle.kr_tree.specs.kr_inode.declared.user.Right.TheVariants.{Search}
 use Rattle.kr_tree.specs.Tree.{Tree, Body, Directory, RegularFile, SymbolicLink, ProcessDirectory, body, body_is, entry, above as node_above, is_directory}
 use Rattle.kr_tree.specs.Rights.{may}
 use Rattle.kr_view.specs.declared.procs.Lead.{Lead}

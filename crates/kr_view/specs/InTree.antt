@@ -1,7 +1,7 @@
 -- Places of a view in a tree.
 use Rattle.std.specs.Prelude.{ℕ, ◌≡◌, ◌≢◌, true, false, List, [], Some, Ok}
-use Rattle.pr_base.specs.Paths.{IsName}
-use Rattle.pr_base.specs.declared.path.WalkMode.{WalkMode}
+use Rattle.kr_tree.specs.pr_base.Paths.{IsName}
+use Rattle.kr_tree.specs.pr_base.declared.path.WalkMode.{WalkMode}
 use Rattle.kr_tree.specs.declared.place.Host.{Host}
 use Rattle.kr_tree.specs.declared.place.Host.TheVariants.{Node, Proc}
 use Rattle.kr_tree.specs.declared.place.Place.{Place}

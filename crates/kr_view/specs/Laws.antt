@@ -1,11 +1,11 @@
 -- Laws of views and of walks over them.
 use Rattle.std.specs.Prelude.{ℕ, ◌≡◌, ◌≢◌, Bool, true, false, List, [], Some, Ok}
 use Rattle.std.specs.Option.{option_map}
-use Rattle.pr_base.specs.Paths.{components_of, AreNames, text_of}
-use Rattle.pr_base.specs.WalkFrame.{ends_here}
-use Rattle.pr_base.specs.WalkLaws.{IsShown}
-use Rattle.pr_base.specs.declared.path.Last.TheVariants as last
-use Rattle.pr_base.specs.declared.path.WalkMode.{WalkMode}
+use Rattle.kr_tree.specs.pr_base.Paths.{components_of, AreNames, text_of}
+use Rattle.kr_tree.specs.pr_base.WalkFrame.{ends_here}
+use Rattle.kr_tree.specs.pr_base.WalkLaws.{IsShown}
+use Rattle.kr_tree.specs.pr_base.declared.path.Last.TheVariants as last
+use Rattle.kr_tree.specs.pr_base.declared.path.WalkMode.{WalkMode}
 use Rattle.kr_tree.specs.declared.place.Place.{Place}
 use Rattle.kr_tree.specs.Tree.{Tree, Body, Directory, RegularFile, SymbolicLink, ProcessDirectory, node, body, body_is, entry, is_directory, is_listed}
 use Rattle.kr_tree.specs.Names.{reached}

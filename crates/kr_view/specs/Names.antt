@@ -5,9 +5,9 @@
 use Rattle.std.specs.Prelude.{ℕ, Bool, false, List, ◌++◌, Option, Some, None, nat_eq, if◌then◌else◌}
 use Rattle.std.specs.Option.{option_map, option_and_then}
 use Rattle.std.specs.List.{position}
-use Rattle.pr_base.specs.Paths.{Component, Dot, DotDot, Name}
-use Rattle.pr_base.specs.WalkFrame.{Fails, Missing, Leads, Links, Jumps, Landing}
-pub use Rattle.pr_base.specs.Texts.{Text, below, names_below}
+use Rattle.kr_tree.specs.pr_base.Paths.{Component, Dot, DotDot, Name}
+use Rattle.kr_tree.specs.pr_base.WalkFrame.{Fails, Missing, Leads, Links, Jumps, Landing}
+pub use Rattle.kr_tree.specs.pr_base.Texts.{Text, below, names_below}
 use Rattle.kr_tree.specs.declared.place.Host.{Host}
 use Rattle.kr_tree.specs.declared.place.Host.TheVariants.{Node, Proc}
 use Rattle.kr_tree.specs.declared.place.Place.{Place}
@@ -138,10 +138,15 @@ is_file_source None i = false
 abbrev pub guest_below : Tree → Option Row → ℕ → Remembered → Option Text
 guest_below t r i remembered = if body_is is_directory t i then guest_directory t r i else guest_entry t r remembered
 
--- an inode, seen in a mount. It goes by the place: the source that is no directory is called by the
--- location, whatever its own name is now, and without one, too
+-- the source of a mount that is no directory goes by the place: it is called by the location, whatever its own
+-- name is now; but without one it has no guest name, either
+abbrev pub guest_source : Option Row → Remembered → Option Text
+guest_source r (Some e) = option_map (λ r. r.text.location) r
+guest_source r None = None
+
+-- an inode, seen in a mount
 abbrev pub guest_node : Tree → Option Row → ℕ → Remembered → Option Text
-guest_node t r i remembered = if is_file_source r i then option_map (λ r. r.text.location) r else guest_below t r i remembered
+guest_node t r i remembered = if is_file_source r i then guest_source r remembered else guest_below t r i remembered
 
 -- what stands in the process directory
 abbrev pub guest_process : Namespace → Option Row → ℕ → ProcAt → Remembered → Option Text

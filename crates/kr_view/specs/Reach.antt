@@ -1,12 +1,14 @@
 -- What a walk reaches: the longest host name of a place or free name, its base included, and whether it
 -- looks up a name in the process directory. A place without a name doesn't count.
-use Rattle.std.specs.Prelude.{ℕ, ◌≤◌, ◌≡◌, true, ◌||◌, List, [], ◌∷◌, length, max, Option, Some, None, Result, Ok, Err}
+use Rattle.std.specs.Prelude.{ℕ, ◌≤◌, ◌≡◌, Bool, true, false, ◌||◌, List, [], ◌∷◌, length, max, Option, Some, None, Result, Ok, Err, if◌then◌else◌}
 use Rattle.std.specs.Option.{option_map}
-use Rattle.pr_base.specs.Paths.{Component, text_of, below_root}
-use Rattle.pr_base.specs.WalkFrame.{Fails, Missing, Leads, Links, Jumps, Landing, LookedAt}
-use Rattle.pr_base.specs.declared.errno.Errno.{Errno}
-use Rattle.pr_base.specs.declared.path.Last.{Last}
-use Rattle.pr_base.specs.declared.path.Last.TheVariants as last
+use Rattle.kr_tree.specs.pr_base.Paths.{Component, text_of, below_root}
+use Rattle.kr_tree.specs.pr_base.WalkFrame.{Fails, Missing, Leads, Links, Jumps, Landing, LookedAt}
+use Rattle.kr_tree.specs.pr_base.declared.errno.Errno.{Errno}
+use Rattle.kr_tree.specs.pr_base.declared.path.Last.{Last}
+use Rattle.kr_tree.specs.pr_base.declared.path.Last.TheVariants as last
+use Rattle.kr_tree.specs.pr_base.declared.path.WalkMode.{WalkMode}
+use Rattle.kr_tree.specs.pr_base.declared.path.WalkMode.TheVariants as modes
 use Rattle.kr_tree.specs.declared.place.Host.{Host}
 use Rattle.kr_tree.specs.declared.place.Place.{Place}
 use Rattle.kr_view.specs.declared.target.Reach.{Reach}
@@ -46,21 +48,34 @@ seen_name name (Leads is_dir p found) = name
 seen_name name (Links found text) = name
 seen_name name (Jumps found lead) = name
 
--- the names that a look-up reaches: its place, what it shows, and the entry where it shows something, which at
--- a mount point is another
-abbrev pub look_names : Namespace → Place ℕ → Component → SeenPlace → List (Option Text)
-look_names space p c seen = directory_name space p.host ∷ seen_name (component_name space p c) seen ∷ seen_name (entry_name space p.host c) seen ∷ []
+-- whether a walk comes to the entry itself: at the last component of a path that names one
+abbrev pub names_entry : WalkMode → Bool → Bool
+names_entry modes.Look is_last = false
+names_entry modes.LookLink is_last = false
+names_entry modes.Name is_last = is_last
+names_entry modes.Open is_last = false
 
--- what was reached after a look-up
-abbrev pub look_reach : Surroundings → LookedAt (Place ℕ) → Reach → Reach
-look_reach around l r = record {
-  longest = raised_by_all (look_names around.space l.place l.component (look_up around l.place l.component)) r.longest;
-  met_proc = r.met_proc || meets_processes around.space l.place l.component;
+abbrev pub named_entry : Namespace → Bool → Host → Component → Option Text
+named_entry space by_name dir c = if by_name then entry_name space dir c else None
+
+-- the names that a look-up reaches: its place, what it shows, and, where the path names the entry, that of the entry,
+-- which at a mount point is another
+abbrev pub look_names : Namespace → Bool → Place ℕ → Component → SeenPlace → List (Option Text)
+look_names space by_name p c seen = directory_name space p.host ∷ seen_name (component_name space p c) seen ∷ seen_name (named_entry space by_name p.host c) seen ∷ []
+
+-- what was reached after a look-up, with the entry itself or without
+abbrev pub noted : Surroundings → Bool → Place ℕ → Component → Reach → Reach
+noted around by_name p c r = record {
+  longest = raised_by_all (look_names around.space by_name p c (look_up around p c)) r.longest;
+  met_proc = r.met_proc || meets_processes around.space p c;
 }
 
-abbrev pub looks_reach : Surroundings → List (LookedAt (Place ℕ)) → Reach → Reach
-looks_reach around [] r = r
-looks_reach around (l ∷ looks) r = looks_reach around looks (look_reach around l r)
+abbrev pub look_reach : Surroundings → WalkMode → LookedAt (Place ℕ) → Reach → Reach
+look_reach around mode l r = noted around (names_entry mode l.is_last) l.place l.component r
+
+abbrev pub looks_reach : Surroundings → WalkMode → List (LookedAt (Place ℕ)) → Reach → Reach
+looks_reach around mode [] r = r
+looks_reach around mode (l ∷ looks) r = looks_reach around mode looks (look_reach around mode l r)
 
 -- ---- process links
 
@@ -95,9 +110,9 @@ end_reach space answer r = record { longest = raised_by_all (end_names space ans
 
 -- ---- a trail
 
--- what was reached after a walk
-abbrev pub reach_after : Surroundings → PlaceTrail → Reach → Reach
-reach_after around trail r = end_reach around.space trail.answer (landings_reach around.space trail.landings (looks_reach around trail.looks r))
+-- what was reached after a walk in a mode
+abbrev pub reach_after : Surroundings → WalkMode → PlaceTrail → Reach → Reach
+reach_after around mode trail r = end_reach around.space trail.answer (landings_reach around.space trail.landings (looks_reach around mode trail.looks r))
 
 -- one reach has all that another has
 pub record Covers (more less : Reach) : Type 0 where

@@ -1,14 +1,14 @@
 -- Laws of what host texts reach, and of walks along them over the host's own view.
 use Rattle.std.specs.Prelude.{ℕ, ◌≡◌, ◌⊎◌, Bool, true, false, List, [], ◌∷◌, ◌++◌, Option, Some, None, Result, Ok, Err, if◌then◌else◌}
 use Rattle.std.specs.Option.{option_map}
-use Rattle.pr_base.specs.Paths.{Dot, Name, slash, dot, parts_of, has_parts, is_absolute, AreNames, IsPart, below_root, text_of, name_path}
-use Rattle.pr_base.specs.Texts.{Text}
-use Rattle.pr_base.specs.WalkFrame.{is_followed, wants_directory, target_at, ends_found, ends_missing}
-use Rattle.pr_base.specs.declared.errno.Errno.{Errno}
-use Rattle.pr_base.specs.declared.errno.Errno.TheVariants.{EACCES, ENAMETOOLONG, ENOTDIR}
-use Rattle.pr_base.specs.declared.path.WalkMode.{WalkMode}
-use Rattle.pr_base.specs.declared.path.WalkMode.TheVariants as modes
-use Rattle.kr_inode.specs.declared.user.User.{User}
+use Rattle.kr_tree.specs.pr_base.Paths.{Dot, Name, slash, dot, parts_of, has_parts, is_absolute, AreNames, IsPart, below_root, text_of, name_path}
+use Rattle.kr_tree.specs.pr_base.Texts.{Text}
+use Rattle.kr_tree.specs.pr_base.WalkFrame.{is_followed, wants_directory, target_at, ends_found, ends_missing}
+use Rattle.kr_tree.specs.pr_base.declared.errno.Errno.{Errno}
+use Rattle.kr_tree.specs.pr_base.declared.errno.Errno.TheVariants.{EACCES, ENAMETOOLONG, ENOTDIR}
+use Rattle.kr_tree.specs.pr_base.declared.path.WalkMode.{WalkMode}
+use Rattle.kr_tree.specs.pr_base.declared.path.WalkMode.TheVariants as modes
+use Rattle.kr_tree.specs.kr_inode.declared.user.User.{User}
 use Rattle.kr_tree.specs.declared.place.Host.{Host}
 use Rattle.kr_tree.specs.declared.place.Host.TheVariants.{Node, Proc}
 use Rattle.kr_tree.specs.declared.place.Place.{Place}

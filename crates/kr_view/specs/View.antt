@@ -3,8 +3,8 @@
 -- is 0; its index is that of the binding which it settles.
 use Rattle.std.specs.Prelude.{ℕ, suc, ◌≡◌, ◌<◌, Bool, true, false, ◌&&◌, List, [], ◌∷◌, slice_get, position, Option, Some, None, nat_eq, bytes_eq, if◌then◌else◌}
 use Rattle.std.specs.Option.{option_map, option_map_or, option_and_then}
-use Rattle.pr_base.specs.MountText.{MountText}
-use Rattle.pr_base.specs.Paths.{text_of, IsName, AreNames}
+use Rattle.kr_tree.specs.pr_base.MountText.{MountText}
+use Rattle.kr_tree.specs.pr_base.Paths.{text_of, IsName, AreNames}
 use Rattle.kr_tree.specs.declared.place.Host.{Host}
 use Rattle.kr_tree.specs.declared.place.Host.TheVariants.{Node, Proc}
 use Rattle.kr_tree.specs.declared.place.Place.{Place}

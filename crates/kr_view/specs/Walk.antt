@@ -1,9 +1,9 @@
 -- The walk of a kernel: the rules of a walk, over looking at places in a view.
 use Rattle.std.specs.Prelude.{ℕ, List}
-use Rattle.pr_base.specs.WalkFrame.{Looking, Trail, Target, walk}
-use Rattle.pr_base.specs.declared.path.WalkMode.{WalkMode}
+use Rattle.kr_tree.specs.pr_base.WalkFrame.{Looking, Trail, Target, walk}
+use Rattle.kr_tree.specs.pr_base.declared.path.WalkMode.{WalkMode}
 use Rattle.kr_tree.specs.declared.place.Place.{Place}
-use Rattle.kr_inode.specs.declared.user.User.{User}
+use Rattle.kr_tree.specs.kr_inode.declared.user.User.{User}
 use Rattle.kr_tree.specs.declared.place.ProcAt.{ProcAt}
 use Rattle.kr_tree.specs.Tree.{Tree}
 use Rattle.kr_view.specs.declared.procs.Lead.{Lead}

@@ -1,10 +1,10 @@
 //! Components of paths.
 ghost use Rattle.std.specs.Prelude.{◌≡◌};
-ghost use Rattle.pr_base.specs.Paths.{component_of, kind_of};
+ghost use Rattle.kr_tree.specs.pr_base.Paths.{component_of, kind_of};
 ghost use Rattle.kr_view.specs.inside.Components.{component_data};
-ghost use Rattle.pr_base.specs.WalkFrame.{name_of};
+ghost use Rattle.kr_tree.specs.pr_base.WalkFrame.{name_of};
 
-use pr_base::Last;
+use kr_tree::below::pr_base::Last;
 
 /// A component of a path.
 #[derive(Clone, Copy, Debug)]

@@ -1,23 +1,23 @@
 //! Guest names of inodes.
 ghost use Rattle.std.specs.Prelude.{◌≡◌, true, ℕ, List, ◌≤◌, length, drop, nat_eq, Some, IfOk, IfSome};
 ghost use Rattle.std.specs.Option.{option_map};
-ghost use Rattle.pr_base.specs.Paths.{below_root, text_of};
+ghost use Rattle.kr_tree.specs.pr_base.Paths.{below_root, text_of};
 ghost use Rattle.kr_tree.specs.Names.{host_name};
 ghost use Rattle.kr_view.specs.View.{Row, IsTable, row, is_there};
-ghost use Rattle.kr_view.specs.Names.{names_down, guest_directory, is_file_source, guest_below, guest_node};
+ghost use Rattle.kr_view.specs.Names.{names_down, guest_directory, is_file_source, guest_source, guest_below, guest_node};
 
 use crate::name::{below_the_root, directory_name, entered, last_slash};
 use crate::view::Places;
+use kr_tree::below::pr_base::{Bytes, NoMemory};
 use kr_tree::laws::{directories_have_host_names, trees_are_kept};
 use kr_tree::{Host, Ino, Tree};
-use pr_base::{Bytes, NoMemory};
 use std::alloc::Global;
 
 /// The guest name of an inode that is seen in a mount, as getcwd(2) and the links of the process directory
 /// tell it: the location of the mount, and the names from its source down. What is no directory has the names
 /// of the entry that it remembers; but if it is the source of the mount it is called by the location,
-/// whatever its own name is now. `None` where there is no such name: of a directory that was removed or
-/// isn't below the source, and of a file without a name.
+/// whatever the name of that entry is now. `None` where there is no such name: of a directory that was removed
+/// or isn't below the source, and of a file that remembers no entry.
 pub fn guest_name<P: Places>(
     alloc: Global,
     places: &P,
@@ -32,7 +32,7 @@ pub fn guest_name<P: Places>(
         IfOk result (λ name. name ≡ option_map text_of names) }
 {
     if is_file_source(places, mount, ino) {
-        return Ok(Some(Bytes::copy(alloc, places.location(mount))?));
+        return guest_source(alloc, places, mount, remembered);
     }
     match guest_below(alloc, places, tree, mount, ino, remembered)? {
         Some(bytes) => Ok(Some(from_the_root(bytes)?)),
@@ -59,6 +59,23 @@ fn is_file_source<P: Places>(places: &P, mount: P::Mount, ino: Ino) -> bool
     ensures { result ≡ is_file_source (row (P.mounts places.now) (P.number mount)) ino }
 {
     places.source(mount).is_some() && is_source(places, mount, ino)
+}
+
+/// The guest name of the source of a mount that is no directory.
+fn guest_source<P: Places>(
+    alloc: Global,
+    places: &P,
+    mount: P::Mount,
+    remembered: Option<(Ino, &[u8])>,
+) -> Result<Option<Bytes>, NoMemory>
+    requires mounted { is_there (row (P.mounts places.now) (P.number mount)) ≡ true }
+    ensures { let names = guest_source (row (P.mounts places.now) (P.number mount)) (option_map (λ e. (e.0, e.1.now)) remembered.entry) in
+        IfOk result (λ name. name ≡ option_map text_of names) }
+{
+    match remembered {
+        Some(_) => Ok(Some(Bytes::copy(alloc, places.location(mount))?)),
+        None => Ok(None),
+    }
 }
 
 /// The guest name of an inode below the source of a mount, as its bytes below the root.

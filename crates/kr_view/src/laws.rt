@@ -20,7 +20,7 @@ pub fn settled_sources_are_entries()
 {}
 
 /// The guest name of a place goes by the place: the source of a mount is called by its location, what is
-/// below by the names from there down, and nothing else has one.
+/// below by the names from there down, and nothing else has one; nor has a file that remembers no entry.
 pub fn guest_names_go_by_places()
     ensures { GuestNamesGoByPlaces }
 {}

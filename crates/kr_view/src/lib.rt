@@ -1,6 +1,7 @@
 //! Path resolution on the tree of inodes, over any view of its mounts.
 #![tactic(auto)]
 
+pub mod below;
 mod component;
 mod guest;
 pub mod laws;

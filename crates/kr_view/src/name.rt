@@ -4,15 +4,15 @@ ghost use Rattle.std.specs.Prelude.{◌≡◌, ◌≢◌, ℕ, ◌+◌, ◌<◌,
 ghost use Rattle.std.specs.List.{All};
 ghost use Rattle.std.specs.Option.{option_map};
 ghost use Rattle.std.specs.Fmt.{decimal};
-ghost use Rattle.pr_base.specs.Paths.{slash, below_root, text_of, AreNames};
+ghost use Rattle.kr_tree.specs.pr_base.Paths.{slash, below_root, text_of, AreNames};
 ghost use Rattle.kr_tree.specs.Names.{host_name, process_names};
 ghost use Rattle.kr_view.specs.Names.{below};
 ghost use Rattle.kr_view.specs.inside.HostNames.{NamesHangTogether};
 ghost use Rattle.kr_view.specs.Reach.{text_length, bytes_below};
 
+use kr_tree::below::pr_base::{Bytes, NoMemory};
 use kr_tree::laws::{directories_have_host_names, trees_are_kept};
 use kr_tree::{Ino, ProcAt, Tree};
-use pr_base::{Bytes, NoMemory};
 
 /// How many bytes a host name has below the root, if there is one.
 pub(crate) fn bytes_of(name: &Option<Bytes>) -> Option<u64>

@@ -17,8 +17,8 @@ use crate::name::{
 use crate::procs::Procs;
 use crate::surroundings::{Spot, Surroundings, Way};
 use crate::view::Places;
+use kr_tree::below::pr_base::{Bytes, NoMemory};
 use kr_tree::{Host, Ino, Place, ProcAt};
-use pr_base::{Bytes, NoMemory};
 
 /// A place, and the host name of its inode as bytes below the root, if it has one.
 #[derive(Drop)]

@@ -1,7 +1,7 @@
 //! What a walk asks of the processes.
 
+use kr_tree::below::pr_base::{Bytes, NoMemory};
 use kr_tree::{Ino, Place, ProcAt};
-use pr_base::{Bytes, NoMemory};
 use std::marker::PhantomData;
 
 /// Where a link of the process directory leads.

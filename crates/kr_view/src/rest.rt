@@ -1,11 +1,11 @@
 //! Paths that a walk reads.
 ghost use Rattle.std.specs.Prelude.{◌≡◌, ◌≢◌, ◌≤◌, ◌+◌, ◌∷◌, not, [], take, drop, length, slice_range, IsTrue, MatchOption};
 ghost use Rattle.std.specs.List.{All};
-ghost use Rattle.pr_base.specs.Paths.{slash, parts_of};
-ghost use Rattle.pr_base.specs.Pieces.{BeginsSlash};
+ghost use Rattle.kr_tree.specs.pr_base.Paths.{slash, parts_of};
+ghost use Rattle.kr_tree.specs.pr_base.Pieces.{BeginsSlash};
 ghost use Rattle.kr_view.specs.inside.Begins.{begins_part};
 
-use pr_base::Bytes;
+use kr_tree::below::pr_base::Bytes;
 
 /// A path of which some components were read. It stands at the beginning of the next one, or at its
 /// end.
@@ -25,7 +25,7 @@ pub(crate) struct Span {
 }
 
 impl Rest {
-    ghost use Rattle.pr_base.specs.Paths.{has_parts};
+    ghost use Rattle.kr_tree.specs.pr_base.Paths.{has_parts};
     ghost use Rattle.kr_view.specs.inside.Rests.{parts_left};
 
     pub(crate) fn new(text: Bytes) -> Rest

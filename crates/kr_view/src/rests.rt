@@ -1,11 +1,11 @@
 //! The paths that a walk reads: the one that it began with, and the texts of links.
 ghost use Rattle.std.specs.Prelude.{◌≡◌, ◌≤◌, ◌∷◌, [], ◌++◌, length, not, IsTrue, MatchOption, OnOk, ◌↔◌};
 ghost use Rattle.std.specs.List.{list_all};
-ghost use Rattle.pr_base.specs.Paths.{component_of};
+ghost use Rattle.kr_tree.specs.pr_base.Paths.{component_of};
 ghost use Rattle.kr_view.specs.inside.Rests.{components_left, has_more};
 
 use crate::rest::{Rest, Span};
-use pr_base::NoMemory;
+use kr_tree::below::pr_base::NoMemory;
 use std::alloc::Global;
 
 /// Paths of which a component is left, in the order in which they were met: the last one is read first, and

@@ -5,7 +5,7 @@ ghost use Rattle.kr_tree.specs.Tree.{body, text_of, above as node_above};
 ghost use Rattle.kr_view.specs.View.{is_root_place, node_in};
 ghost use Rattle.kr_tree.specs.declared.place.Host.TheVariants.{Node};
 ghost use Rattle.kr_view.specs.Leads.{numbered};
-ghost use Rattle.pr_base.specs.Paths.{DotDot, Name};
+ghost use Rattle.kr_tree.specs.pr_base.Paths.{DotDot, Name};
 ghost use Rattle.kr_view.specs.inside.Components.{component_data};
 ghost use Rattle.kr_view.specs.inside.Sights.{surroundings_of, sight_seen};
 ghost use Rattle.kr_view.specs.inside.Ways.{HasKind, spot_of, IsSightAt, IsSightCalled, IsSightWay};
@@ -15,8 +15,8 @@ ghost use Rattle.kr_view.specs.Component.{is_process_directory, is_directory_at,
 use crate::component::Component;
 use crate::procs::Procs;
 use crate::view::Places;
+use kr_tree::below::pr_base::Errno;
 use kr_tree::{Host, Ino, Kind, Place, ProcAt, Right, Tree, User};
-use pr_base::Errno;
 use std::alloc::Global;
 
 /// What a walk goes through: the mounts, the tree, the user, and what the processes show to the caller.

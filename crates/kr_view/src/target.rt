@@ -1,7 +1,7 @@
 //! What a walk answers.
 
 use kr_tree::Place;
-use pr_base::{Bytes, Errno, Last, NoMemory};
+use kr_tree::below::pr_base::{Bytes, Errno, Last, NoMemory};
 
 /// Where a path leads.
 #[derive(Debug, Drop)]

@@ -1,22 +1,22 @@
 //! Walks along paths.
 ghost use Rattle.std.specs.Prelude.{◌≡◌, ◌≢◌, ℕ, ◌≤◌, ◌+◌, ◌*◌, ◌^◌, [], ◌||◌, ◌&&◌, not, length, true, IfOk};
 ghost use Rattle.std.specs.Option.{option_map};
-ghost use Rattle.pr_base.specs.declared.path.WalkMode.{WalkMode};
-ghost use Rattle.pr_base.specs.WalkFrame.{is_followed, wants_directory, may_be_free, target_at, ends_landed, begins_at, name_of};
+ghost use Rattle.kr_tree.specs.pr_base.declared.path.WalkMode.{WalkMode};
+ghost use Rattle.kr_tree.specs.pr_base.WalkFrame.{is_followed, wants_directory, may_be_free, target_at, ends_landed, begins_at, name_of};
 ghost use Rattle.kr_view.specs.Leads.{numbered};
 ghost use Rattle.kr_view.specs.inside.Components.{component_data};
 ghost use Rattle.kr_view.specs.inside.Stacks.{stack_of, taken_bytes};
-ghost use Rattle.pr_base.specs.Paths.{Component as PathComponent, component_of, has_slash};
+ghost use Rattle.kr_tree.specs.pr_base.Paths.{Component as PathComponent, component_of, has_slash};
 ghost use Rattle.kr_tree.specs.declared.place.Place.{Place};
 ghost use Rattle.kr_view.specs.inside.Sights.{surroundings_of, sight_seen};
 ghost use Rattle.kr_view.specs.inside.Ways.{HasKind, IsSightWay};
 ghost use Rattle.kr_view.specs.inside.Positions.{IsNamed};
 ghost use Rattle.kr_view.specs.Component.{look_up, landing};
-ghost use Rattle.kr_view.specs.Names.{entry_name, free_name, landing_name};
+ghost use Rattle.kr_view.specs.Names.{free_name, landing_name};
 ghost use Rattle.kr_view.specs.Walk.{surroundings, place_walk, looking};
-ghost use Rattle.kr_view.specs.Reach.{text_length, end_reach, reached_landing};
+ghost use Rattle.kr_view.specs.Reach.{text_length, names_entry, named_entry, noted, end_reach, reached_landing};
 ghost use Rattle.kr_view.specs.Answers.{told, target_numbered, IsAnswer, IsReached};
-ghost use Rattle.kr_view.specs.inside.Steps.{trail_of, rest_behind, left_in_middle, left_at_last, left_by_jump, left_by_last_jump, noted, here_target, work, HasReached, IsFollowed, IsLanded, IsOutcome, HasLess};
+ghost use Rattle.kr_view.specs.inside.Steps.{trail_of, rest_behind, left_in_middle, left_at_last, left_by_jump, left_by_last_jump, here_target, work, HasReached, IsFollowed, IsLanded, IsOutcome, HasLess};
 
 use crate::component::{Component, component_of, kind_of, name_of};
 use crate::name::{bytes_of, directory_name, entry_length, length_of};
@@ -27,8 +27,8 @@ use crate::rests::{Rests, Taken};
 use crate::surroundings::{Sight, Surroundings};
 use crate::target::{Reach, Target, WalkFault};
 use crate::view::Places;
+use kr_tree::below::pr_base::{Bytes, Errno, Last, NoMemory, WalkMode, components};
 use kr_tree::{Host, Ino, Place, ProcAt, Tree, User};
-use pr_base::{Bytes, Errno, Last, NoMemory, WalkMode, components};
 use std::alloc::Global;
 
 /// A walk on its way: where it stands, the paths of which components are left, how many links it may still
@@ -89,6 +89,16 @@ fn may_be_free(mode: WalkMode) -> bool
     }
 }
 
+/// Whether a walk comes to the entry itself, whatever is shown in its place.
+fn names_entry(mode: WalkMode, is_last: bool) -> bool
+    ensures { result ≡ names_entry mode is_last }
+{
+    match mode {
+        WalkMode::Look | WalkMode::LookLink | WalkMode::Open => false,
+        WalkMode::Name => is_last,
+    }
+}
+
 /// Whether a slash stands behind a last component that was a link with a text: one behind the text counts, too.
 fn slash_behind(slash: bool, text: &[u8]) -> bool
     ensures { result ≡ (slash || has_slash text.now) }
@@ -114,7 +124,7 @@ pub fn resolve<P: Places, Q: Procs<Mount = P::Mount>>(
     ensures answer { let around = surroundings P.number (P.mounts places.now) tree.now user (Q.finds procs.now caller) (Q.leads procs.now caller) in
         IsAnswer P.number (place_walk around mode (numbered P.number base) path.now).answer result }
     ensures reach { let around = surroundings P.number (P.mounts places.now) tree.now user (Q.finds procs.now caller) (Q.leads procs.now caller) in
-        IsReached around (place_walk around mode (numbered P.number base) path.now) reach.old reach.new result }
+        IsReached around mode (place_walk around mode (numbered P.number base) path.now) reach.old reach.new result }
 {
     let surroundings = Surroundings {
         alloc,
@@ -174,8 +184,10 @@ impl<'a, P: Places, Q: Procs<Mount = P::Mount>> Surroundings<'a, P, Q> {
         };
         let component = component_of(taken.bytes());
         let sight = self.look_up(walk.position.place(), &component);
-        self.note(&walk.position, &component, &sight, reach)?;
-        if walk.rests.none_behind(&taken) {
+        let is_last = walk.rests.none_behind(&taken);
+        let by_name = names_entry(mode, is_last);
+        self.note(&walk.position, &component, &sight, by_name, reach)?;
+        if is_last {
             self.at_last(walk, &taken, &sight, mode, reach)
         } else {
             self.in_middle(walk, taken, &sight, reach)
@@ -200,12 +212,13 @@ impl<'a, P: Places, Q: Procs<Mount = P::Mount>> Surroundings<'a, P, Q> {
         }
     }
 
-    /// Notes what a look-up reaches.
+    /// Notes what a look-up reaches, with the entry itself where the path names that.
     fn note(
         &self,
         position: &Position<P::Mount>,
         component: &Component<'_>,
         sight: &Sight<'_, P::Mount>,
+        by_name: bool,
         reach: &mut Reach,
     ) -> Result<(), NoMemory>
         requires named { IsNamed self.now.tree.now position.now.place.host position.now.name }
@@ -214,14 +227,14 @@ impl<'a, P: Places, Q: Procs<Mount = P::Mount>> Surroundings<'a, P, Q> {
         requires way { let around = surroundings_of P.number P.mounts Q.finds Q.leads self.now in
             IsSightWay P.number around.space (numbered P.number position.now.place) (component_data component.now) sight.now }
         ensures { let around = surroundings_of P.number P.mounts Q.finds Q.leads self.now in
-            HasReached (noted around (numbered P.number position.now.place) (component_data component.now) reach.old) reach.old reach.new result }
+            HasReached (noted around by_name (numbered P.number position.now.place) (component_data component.now) reach.old) reach.old reach.new result }
     {
         let place = position.place;
         reach.raise(length_of(self.object_bytes(place.host, &position.name)));
         reach.meet(self.meets_processes(place, component));
         if let Some(spot) = sight.spot() {
             reach.raise(self.shown_length(position, component, spot)?);
-            reach.raise(self.named_length(position, component));
+            reach.raise(self.named_length(position, component, by_name));
         }
         Ok(())
     }
@@ -356,13 +369,21 @@ impl<'a, P: Places, Q: Procs<Mount = P::Mount>> Surroundings<'a, P, Q> {
         })
     }
 
-    /// The length of the host name of an entry itself, whatever is shown in its place.
-    fn named_length(&self, position: &Position<P::Mount>, component: &Component<'_>) -> Option<u64>
+    /// The length of the host name of an entry itself, where the path names that.
+    fn named_length(
+        &self,
+        position: &Position<P::Mount>,
+        component: &Component<'_>,
+        by_name: bool,
+    ) -> Option<u64>
         requires named { IsNamed self.now.tree.now position.now.place.host position.now.name }
         requires short { length (name_of (component_data component.now)) ≤ 255 }
         ensures { let around = surroundings_of P.number P.mounts Q.finds Q.leads self.now in
-            result ≡ option_map text_length (entry_name around.space position.now.place.host (component_data component.now)) }
+            result ≡ option_map text_length (named_entry around.space by_name position.now.place.host (component_data component.now)) }
     {
+        if !by_name {
+            return None;
+        }
         match component {
             Component::Dot | Component::DotDot => None,
             Component::Name(_) => self.free_length(position, component),

@@ -2,21 +2,21 @@
 use Rattle.std.proofs.Common.{◌≡◌, ℕ, zero, suc, ◌+◌, Bool, true, false, ◌||◌, cond, List, [], ◌∷◌, refl, sym, ap, subst, ◌∙◌, arith, Ok}
 use Rattle.std.specs.Prelude.{◌==◌, nat_eq, slice_index}
 use Rattle.std.proofs.lemmas.Bool.Decides.{nat_tests}
-use Rattle.pr_base.specs.declared.errno.Errno.{Errno}
-use Rattle.pr_base.specs.declared.errno.Errno.TheVariants.{EFAULT, EINVAL, ENAMETOOLONG, ENOENT, ENOSYS}
-use Rattle.rv_mem.specs.Actions.{Action, MayUse, ReadBytes, carried_out, allows_uses}
-use Rattle.rv_mem.specs.Memory.{Memory, after_read}
-use Rattle.rv_mem.specs.Pages.{bytes_from}
-use Rattle.rv_mem.specs.declared.regs.Regs.{Regs}
-use Rattle.rv_mem.specs.declared.rights.Use.{Use}
-use Rattle.kr_calls.specs.Arguments.{number, int, long, word, has}
-use Rattle.kr_calls.specs.Decoding.{Decoded, accepts, refuses, unless, text_limit, named, with_text, with_texts, faccessat_with, openat_with, readlinkat_with, newfstatat_with, mkdirat_with, unlinkat_with, symlinkat_with, linkat_with, renameat2_with, fchmodat_with, fchownat_with, execve_with, read_row, readv_row, write_row, writev_row, wait4_row, by_descriptor, by_file, by_name, by_identity, by_process, by_memory, by_name_or_user}
-use Rattle.kr_calls.specs.Texts.{read_text}
-use Rattle.kr_calls.specs.declared.request.Request.{Request}
-use Rattle.kr_calls.specs.declared.request.Request.TheVariants as call
-use Rattle.kr_model.specs.Asking.{descriptor_number}
-use Rattle.kr_model.specs.Known.{Known}
-use Rattle.kr_model.specs.Laws.{may_wait}
+use Rattle.kr_steps.specs.pr_base.declared.errno.Errno.{Errno}
+use Rattle.kr_steps.specs.pr_base.declared.errno.Errno.TheVariants.{EFAULT, EINVAL, ENAMETOOLONG, ENOENT, ENOSYS}
+use Rattle.kr_steps.specs.rv_mem.Actions.{Action, MayUse, ReadBytes, carried_out, allows_uses}
+use Rattle.kr_steps.specs.rv_mem.Memory.{Memory, after_read}
+use Rattle.kr_steps.specs.rv_mem.Pages.{bytes_from}
+use Rattle.kr_steps.specs.rv_mem.declared.regs.Regs.{Regs}
+use Rattle.kr_steps.specs.rv_mem.declared.rights.Use.{Use}
+use Rattle.kr_steps.specs.kr_calls.Arguments.{number, int, long, word, has}
+use Rattle.kr_steps.specs.kr_calls.Decoding.{Decoded, accepts, refuses, unless, text_limit, named, with_text, with_texts, faccessat_with, openat_with, readlinkat_with, newfstatat_with, mkdirat_with, unlinkat_with, symlinkat_with, linkat_with, renameat2_with, fchmodat_with, fchownat_with, execve_with, read_row, readv_row, write_row, writev_row, wait4_row, by_descriptor, by_file, by_name, by_identity, by_process, by_memory, by_name_or_user}
+use Rattle.kr_steps.specs.kr_calls.Texts.{read_text}
+use Rattle.kr_steps.specs.kr_calls.declared.request.Request.{Request}
+use Rattle.kr_steps.specs.kr_calls.declared.request.Request.TheVariants as call
+use Rattle.kr_steps.specs.kr_model.Asking.{descriptor_number}
+use Rattle.kr_steps.specs.kr_model.Known.{Known}
+use Rattle.kr_steps.specs.kr_model.Laws.{may_wait}
 use Rattle.kr_steps.specs.Waiting.{read_waits, write_waits, open_waits, child_waits}
 use Rattle.kr_waits.specs.Waits.{request_waits, WaitsAreDecoded}
 

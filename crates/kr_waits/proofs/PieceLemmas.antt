@@ -1,18 +1,18 @@
 -- Parts of rows that never come to wait: bytes that are moved, and a child that is reaped.
 use Rattle.std.proofs.Common.{◌≡◌, ℕ, Bool, true, false, ◌&&◌, cond, List, [], ◌∷◌, length, refl}
-use Rattle.pr_base.specs.declared.errno.Errno.{Errno}
-use Rattle.pr_base.specs.declared.errno.Errno.TheVariants.{EFAULT}
-use Rattle.rv_mem.specs.Actions.{MayUse, ReadBytes, WriteBytes, carried_out, allows_uses}
-use Rattle.rv_mem.specs.Memory.{Memory, with_pages, after_read}
-use Rattle.rv_mem.specs.Pages.{Pages, written, bytes_from}
-use Rattle.rv_mem.specs.declared.rights.Use.{Use}
-use Rattle.rv_mem.specs.declared.rights.Use.TheVariants.{Write}
-use Rattle.kr_model.specs.Change.{Change}
-use Rattle.kr_model.specs.Pieces.{Piece, Part, cut_to, laid_into, may_use_all, read_all, write_all, hand}
-use Rattle.kr_model.specs.ProcessRows.{usage_size, null_or_writable, unless_null, tell_end, reap}
-use Rattle.kr_model.specs.Reply.{Replying, done, refuse}
-use Rattle.kr_model.specs.State.{Ended}
-use Rattle.kr_model.specs.declared.outcome.Outcome.TheVariants.{Wait}
+use Rattle.kr_steps.specs.pr_base.declared.errno.Errno.{Errno}
+use Rattle.kr_steps.specs.pr_base.declared.errno.Errno.TheVariants.{EFAULT}
+use Rattle.kr_steps.specs.rv_mem.Actions.{MayUse, ReadBytes, WriteBytes, carried_out, allows_uses}
+use Rattle.kr_steps.specs.rv_mem.Memory.{Memory, with_pages, after_read}
+use Rattle.kr_steps.specs.rv_mem.Pages.{Pages, written, bytes_from}
+use Rattle.kr_steps.specs.rv_mem.declared.rights.Use.{Use}
+use Rattle.kr_steps.specs.rv_mem.declared.rights.Use.TheVariants.{Write}
+use Rattle.kr_steps.specs.kr_model.Change.{Change}
+use Rattle.kr_steps.specs.kr_model.Pieces.{Piece, Part, cut_to, laid_into, may_use_all, read_all, write_all, hand}
+use Rattle.kr_steps.specs.kr_model.ProcessRows.{usage_size, null_or_writable, unless_null, tell_end, reap}
+use Rattle.kr_steps.specs.kr_model.Reply.{Replying, done, refuse}
+use Rattle.kr_steps.specs.kr_model.State.{Ended}
+use Rattle.kr_steps.specs.kr_model.declared.outcome.Outcome.TheVariants.{Wait}
 
 -- what a row comes to on a memory
 abbrev pub Waits : Replying → Memory → Type 0

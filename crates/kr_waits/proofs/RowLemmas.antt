@@ -4,22 +4,22 @@ use Rattle.std.specs.Prelude.{◌==◌, nat_lt, nat_le}
 use Rattle.std.specs.Option.{option_map, option_map_or, option_and_then}
 use Rattle.std.proofs.lemmas.Bool.{and_parts}
 use Rattle.std.proofs.lemmas.Bool.Decides.{nat_tests}
-use Rattle.pr_base.specs.declared.errno.Errno.TheVariants.{EBADF, EFAULT, EFBIG, EINVAL, EISDIR, ENOSPC}
-use Rattle.rv_mem.specs.Actions.{MayUse, ReadBytes, carried_out, allows_uses}
-use Rattle.rv_mem.specs.Memory.{Memory, after_read}
-use Rattle.rv_mem.specs.Pages.{Pages, bytes_from}
-use Rattle.rv_mem.specs.declared.rights.Use.TheVariants.{Read}
-use Rattle.kr_files.specs.declared.opened.Opened.{Opened}
-use Rattle.kr_files.specs.declared.opened.What.{What}
-use Rattle.kr_files.specs.declared.opened.What.TheVariants.{File, Dir, In, Out, Err, PipeRead, PipeWrite}
-use Rattle.kr_model.specs.Asking.{descriptor_number, or_closed, of_number, or_badf}
-use Rattle.kr_model.specs.Change.{PutIntoPipe}
-use Rattle.kr_model.specs.FileRows.{is_dir, pipe_limit, read_pipe, read_what, read_pieces, write_pipe, put_in_file, write_file, write_what, write_pieces, sigpipe}
-use Rattle.kr_model.specs.Known.{Known}
-use Rattle.kr_model.specs.Pieces.{Piece, asked, cut_to, pieces_of, move_limit, read_all, if_usable, if_summed, with_list}
-use Rattle.kr_model.specs.ProcessRows.{wait_for}
-use Rattle.kr_model.specs.Reply.{Replying, done, refuse, waits, ends}
-use Rattle.kr_model.specs.State.{Ended}
+use Rattle.kr_steps.specs.pr_base.declared.errno.Errno.TheVariants.{EBADF, EFAULT, EFBIG, EINVAL, EISDIR, ENOSPC}
+use Rattle.kr_steps.specs.rv_mem.Actions.{MayUse, ReadBytes, carried_out, allows_uses}
+use Rattle.kr_steps.specs.rv_mem.Memory.{Memory, after_read}
+use Rattle.kr_steps.specs.rv_mem.Pages.{Pages, bytes_from}
+use Rattle.kr_steps.specs.rv_mem.declared.rights.Use.TheVariants.{Read}
+use Rattle.kr_steps.specs.kr_files.declared.opened.Opened.{Opened}
+use Rattle.kr_steps.specs.kr_files.declared.opened.What.{What}
+use Rattle.kr_steps.specs.kr_files.declared.opened.What.TheVariants.{File, Dir, In, Out, Err, PipeRead, PipeWrite}
+use Rattle.kr_steps.specs.kr_model.Asking.{descriptor_number, or_closed, of_number, or_badf}
+use Rattle.kr_steps.specs.kr_model.Change.{PutIntoPipe}
+use Rattle.kr_steps.specs.kr_model.FileRows.{is_dir, pipe_limit, read_pipe, read_what, read_pieces, write_pipe, put_in_file, write_file, write_what, write_pieces, sigpipe}
+use Rattle.kr_steps.specs.kr_model.Known.{Known}
+use Rattle.kr_steps.specs.kr_model.Pieces.{Piece, asked, cut_to, pieces_of, move_limit, read_all, if_usable, if_summed, with_list}
+use Rattle.kr_steps.specs.kr_model.ProcessRows.{wait_for}
+use Rattle.kr_steps.specs.kr_model.Reply.{Replying, done, refuse, waits, ends}
+use Rattle.kr_steps.specs.kr_model.State.{Ended}
 use Rattle.kr_steps.specs.Waiting.{read_waits, write_waits, open_waits}
 use Rattle.kr_waits.specs.Waits.{Nature, nature, IsAsWhenItWaited}
 use Rattle.kr_waits.proofs.PieceLemmas.{Waits, NeverWaits, refused, answered, either, never, usable_on, used, read_never, handed_never, reaped_never}

@@ -2,16 +2,16 @@
 use Rattle.std.proofs.Common.{◌≡◌, ℕ, true, sym, ◌∙◌}
 use Rattle.std.specs.Prelude.{◌==◌, ◌&&◌}
 use Rattle.std.specs.List.{find, list_any}
-use Rattle.rv_mem.specs.Memory.{Memory}
-use Rattle.kr_calls.specs.declared.request.Request.{Request}
-use Rattle.kr_calls.specs.declared.request.Request.TheVariants as call
-use Rattle.kr_model.specs.FileRows.{read_pieces, write_pieces}
-use Rattle.kr_model.specs.Known.{Known}
-use Rattle.kr_model.specs.Laws.{may_wait}
-use Rattle.kr_model.specs.Pieces.{one_piece, with_list}
-use Rattle.kr_model.specs.ProcessRows.{is_meant, hangs_not}
-use Rattle.kr_model.specs.Seen.{Seen}
-use Rattle.kr_model.proofs.CleanCalls.{waits_as_told}
+use Rattle.kr_steps.specs.rv_mem.Memory.{Memory}
+use Rattle.kr_steps.specs.kr_calls.declared.request.Request.{Request}
+use Rattle.kr_steps.specs.kr_calls.declared.request.Request.TheVariants as call
+use Rattle.kr_steps.specs.kr_model.FileRows.{read_pieces, write_pieces}
+use Rattle.kr_steps.specs.kr_model.Known.{Known}
+use Rattle.kr_steps.specs.kr_model.Laws.{may_wait}
+use Rattle.kr_steps.specs.kr_model.Pieces.{one_piece, with_list}
+use Rattle.kr_steps.specs.kr_model.ProcessRows.{is_meant, hangs_not}
+use Rattle.kr_steps.specs.kr_model.Seen.{Seen}
+use Rattle.kr_steps.proofs.kr_model.CleanCalls.{waits_as_told}
 use Rattle.kr_steps.specs.Waiting.{read_waits, write_waits}
 use Rattle.kr_waits.specs.Waits.{request_waits, ComesToWait, IsAsWhenItWaited, WaitsAreSeen, WaitsLast}
 use Rattle.kr_waits.proofs.DecodedLemmas.{decoded_waits}
@@ -55,8 +55,8 @@ comes caller _ first seen before now m w is alike still = absurd cc
 -- ---- by the registers
 
 pub waits_seen : WaitsAreSeen
-waits_seen regs memory r decoded caller seen k m is = decoded_waits regs memory r decoded caller k ∙ told caller r seen k m (waits_as_told caller r seen k m is) is
+waits_seen regs memory r decoded kind caller seen k m is = decoded_waits regs memory r decoded caller k ∙ told caller r seen k m (waits_as_told caller r seen k m kind is) is
 
 pub waits_last : WaitsLast
-waits_last regs memory r decoded caller first seen before now m w is alike still =
+waits_last regs memory r decoded kind caller first seen before now m w is alike still =
     comes caller r first seen before now m w is alike (sym (decoded_waits regs memory r decoded caller now) ∙ still)

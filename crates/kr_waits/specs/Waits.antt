@@ -1,19 +1,19 @@
 -- Whether a process that stays at its call has to wait still: its registers tell what the call itself would answer.
 use Rattle.std.specs.Prelude.{◌≡◌, ℕ, Bool, true, false, Ok}
 use Rattle.std.specs.Option.{option_map}
-use Rattle.rv_mem.specs.Actions.{carried_out}
-use Rattle.rv_mem.specs.Memory.{Memory}
-use Rattle.rv_mem.specs.declared.regs.Regs.{Regs}
-use Rattle.kr_files.specs.declared.opened.Opened.{Opened}
-use Rattle.kr_files.specs.declared.opened.What.{What}
-use Rattle.kr_calls.specs.Decoding.{decoding}
-use Rattle.kr_calls.specs.declared.request.Request.{Request}
-use Rattle.kr_calls.specs.declared.request.Request.TheVariants as call
-use Rattle.kr_model.specs.Asking.{descriptor_number}
-use Rattle.kr_model.specs.Known.{Known}
-use Rattle.kr_model.specs.Operation.{operation}
-use Rattle.kr_model.specs.Seen.{Seen}
-use Rattle.kr_model.specs.declared.outcome.Outcome.TheVariants.{Wait}
+use Rattle.kr_steps.specs.rv_mem.Actions.{carried_out}
+use Rattle.kr_steps.specs.rv_mem.Memory.{Memory}
+use Rattle.kr_steps.specs.rv_mem.declared.regs.Regs.{Regs}
+use Rattle.kr_steps.specs.kr_files.declared.opened.Opened.{Opened}
+use Rattle.kr_steps.specs.kr_files.declared.opened.What.{What}
+use Rattle.kr_steps.specs.kr_calls.Decoding.{decoding}
+use Rattle.kr_steps.specs.kr_calls.declared.request.Request.{Request}
+use Rattle.kr_steps.specs.kr_calls.declared.request.Request.TheVariants as call
+use Rattle.kr_steps.specs.kr_model.Asking.{descriptor_number}
+use Rattle.kr_steps.specs.kr_model.Known.{Known}
+use Rattle.kr_steps.specs.kr_model.Operation.{IsNoExec, operation}
+use Rattle.kr_steps.specs.kr_model.Seen.{Seen}
+use Rattle.kr_steps.specs.kr_model.declared.outcome.Outcome.TheVariants.{Wait}
 use Rattle.kr_steps.specs.Waiting.{read_waits, write_waits, open_waits, child_waits, still_waits}
 
 -- ---- by the request
@@ -42,10 +42,10 @@ WaitsAreDecoded =
 abbrev pub ComesToWait : ℕ → Request → Seen → Known → Memory → Type 0
 ComesToWait caller r seen k m = (carried_out (operation caller r seen k) m).reply.outcome ≡ Wait
 
--- a call that comes to wait is seen to wait by its caller's registers, and so its caller isn't ready
+-- a call, other than execve, that comes to wait is seen to wait by its caller's registers, and so its caller isn't ready
 abbrev pub WaitsAreSeen : Type 0
 WaitsAreSeen =
-    (regs : Regs) (memory : Memory) (r : Request) → IsDecoded regs memory r
+    (regs : Regs) (memory : Memory) (r : Request) → IsDecoded regs memory r → IsNoExec r
     → (caller : ℕ) (seen : Seen) (k : Known) (m : Memory) → ComesToWait caller r seen k m
     → still_waits k caller regs ≡ true
 
@@ -65,10 +65,10 @@ pub record IsAsWhenItWaited (before now : Known) (m w : Memory) : Type 0 where
   pub opened : (fd : ℕ) → option_map nature (now.opened fd) ≡ option_map nature (before.opened fd)
   pub pages : w.pages ≡ m.pages
 
--- a call that came to wait comes to wait again as long as it is seen to wait by its caller's registers, whatever was done
+-- a call, other than execve, that came to wait comes to wait again as long as it is seen to wait by its caller's registers, whatever was done
 -- meanwhile to pipes, children and files: a caller that isn't ready would have been told nothing
 abbrev pub WaitsLast : Type 0
 WaitsLast =
-    (regs : Regs) (memory : Memory) (r : Request) → IsDecoded regs memory r
+    (regs : Regs) (memory : Memory) (r : Request) → IsDecoded regs memory r → IsNoExec r
     → (caller : ℕ) (first seen : Seen) (before now : Known) (m w : Memory) → ComesToWait caller r first before m → IsAsWhenItWaited before now m w
     → still_waits now caller regs ≡ true → ComesToWait caller r seen now w

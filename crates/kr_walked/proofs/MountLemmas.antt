@@ -2,18 +2,18 @@
 use Rattle.std.proofs.Common.{◌≡◌, ℕ, Option, Some, None, refl, sym, subst, ◌∙◌}
 use Rattle.std.specs.Prelude.{List}
 use Rattle.std.specs.Option.{option_map}
-use Rattle.kr_tree.specs.Tree.{Tree}
-use Rattle.kr_tree.specs.declared.place.Host.{Host}
-use Rattle.kr_tree.specs.declared.place.Place.{Place}
-use Rattle.kr_tree.proofs.NameLemmas.{map_some}
-use Rattle.kr_view.specs.InTree.{IsPlaceOf}
-use Rattle.kr_view.specs.View.{Row}
-use Rattle.kr_view.specs.declared.target.Target.{Target}
-use Rattle.kr_model.specs.Applied.{Mounts}
-use Rattle.kr_model.specs.Seen.{Seen, Looked, Taken, TakesNoName, TakesCovered, Takes, Made, MakesNoName, MakesOver, Makes, Opening, OpensNoName, OpensSlashed, OpensFound, OpensNew, NoPath, WalkFails, LooksUp, ReadsLink, Opens, TakesEntry, MakesEntry, Links, Moves, NamesDirectory}
-use Rattle.kr_model.specs.Walks.{mounts_of}
-use Rattle.kr_allowed.specs.Calls.{IsToldIn}
-use Rattle.kr_allowed.specs.Resting.{IsLookedIn, IsMadeIn, IsOpeningIn, IsSeenIn, IsTakenIn}
+use Rattle.kr_perform.specs.kr_tree.Tree.{Tree}
+use Rattle.kr_perform.specs.kr_tree.declared.place.Host.{Host}
+use Rattle.kr_perform.specs.kr_tree.declared.place.Place.{Place}
+use Rattle.kr_perform.proofs.kr_tree.NameLemmas.{map_some}
+use Rattle.kr_perform.specs.kr_view.InTree.{IsPlaceOf}
+use Rattle.kr_perform.specs.kr_view.View.{Row}
+use Rattle.kr_perform.specs.kr_view.declared.target.Target.{Target}
+use Rattle.kr_perform.specs.kr_model.Applied.{Mounts}
+use Rattle.kr_perform.specs.kr_model.Seen.{Seen, Looked, Taken, TakesNoName, TakesCovered, Takes, Made, MakesNoName, MakesOver, Makes, Opening, OpensNoName, OpensSlashed, OpensFound, OpensNew, NoPath, WalkFails, LooksUp, ReadsLink, Opens, TakesEntry, MakesEntry, Links, Moves, NamesDirectory}
+use Rattle.kr_perform.specs.kr_model.Walks.{mounts_of}
+use Rattle.kr_perform.specs.kr_allowed.Calls.{IsToldIn}
+use Rattle.kr_perform.specs.kr_allowed.Resting.{IsLookedIn, IsMadeIn, IsOpeningIn, IsSeenIn, IsTakenIn}
 use Rattle.kr_perform.specs.Operating.{mounts_at, placed_targets}
 
 module _ {T : Type 0} (number : T → ℕ) (table : List Row) (t : Tree) where

@@ -2,23 +2,23 @@
 pub use Rattle.kr_perform.proofs.LawfulLemmas.{performed-last, walks_resolve}
 use Rattle.std.proofs.Common.{◌≡◌, ℕ, List, Option, Some, ap, subst, ◌∙◌}
 use Rattle.std.specs.Option.{option_map}
-use Rattle.kr_calls.specs.declared.request.Request.{Request}
-use Rattle.kr_tree.specs.Tree.{Tree}
-use Rattle.kr_tree.proofs.NameLemmas.{map_some}
-use Rattle.kr_view.specs.Answers.{target_numbered, told as told_target}
-use Rattle.kr_view.specs.View.{Row}
-use Rattle.kr_view.specs.Walk.{PlaceTarget}
-use Rattle.kr_view.specs.declared.target.Target.{Target}
-use Rattle.kr_model.specs.State.{Image, State}
-use Rattle.kr_model.specs.Walks as walks
-use Rattle.kr_model.specs.Walks.{mounts_of, told}
-use Rattle.kr_allowed.specs.Told.{AreTargetsIn, IsEntryOf, IsTargetIn}
-use Rattle.kr_allowed.proofs.TargetLemmas.{calls-walk-to-targets}
-use Rattle.kr_allowed.proofs.ToldLemmas.{targets-are-told}
-use Rattle.kr_ops.specs.Meaning.{meaning}
-use Rattle.kr_seen.specs.Numbered.{state_numbered}
-use Rattle.kr_seen.specs.CallWalks.{IsTold}
-use Rattle.kr_targets.specs.Placed.{placed, placed_in}
+use Rattle.kr_perform.specs.kr_calls.declared.request.Request.{Request}
+use Rattle.kr_perform.specs.kr_tree.Tree.{Tree}
+use Rattle.kr_perform.proofs.kr_tree.NameLemmas.{map_some}
+use Rattle.kr_perform.specs.kr_view.Answers.{target_numbered, told as told_target}
+use Rattle.kr_perform.specs.kr_view.View.{Row}
+use Rattle.kr_perform.specs.kr_view.Walk.{PlaceTarget}
+use Rattle.kr_perform.specs.kr_view.declared.target.Target.{Target}
+use Rattle.kr_perform.specs.kr_model.State.{Image, State}
+use Rattle.kr_perform.specs.kr_model.Walks as walks
+use Rattle.kr_perform.specs.kr_model.Walks.{mounts_of, told}
+use Rattle.kr_perform.specs.kr_allowed.Told.{AreTargetsIn, IsEntryOf, IsTargetIn}
+use Rattle.kr_perform.proofs.kr_allowed.TargetLemmas.{calls-walk-to-targets}
+use Rattle.kr_perform.proofs.kr_allowed.ToldLemmas.{targets-are-told}
+use Rattle.kr_perform.specs.kr_ops.Meaning.{meaning}
+use Rattle.kr_perform.specs.kr_seen.Numbered.{state_numbered}
+use Rattle.kr_perform.specs.kr_seen.CallWalks.{IsTold}
+use Rattle.kr_perform.specs.kr_targets.Placed.{placed, placed_in}
 use Rattle.kr_perform.proofs.LawfulLemmas.{lawful_numbered, lead_to_places, walks_name}
 use Rattle.kr_perform.specs.Operating.{mounts_at, placed_targets}
 use Rattle.kr_walked.specs.Walked.{ResolvedAreTold}

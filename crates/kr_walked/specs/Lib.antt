@@ -1,2 +1,13 @@
+pub use Rattle.kr_perform.specs.pr_base as pr_base
+pub use Rattle.kr_perform.specs.kr_inode as kr_inode
+pub use Rattle.kr_perform.specs.kr_tree as kr_tree
+pub use Rattle.kr_perform.specs.kr_view as kr_view
+pub use Rattle.kr_perform.specs.kr_files as kr_files
+pub use Rattle.kr_perform.specs.kr_calls as kr_calls
+pub use Rattle.kr_perform.specs.kr_model as kr_model
+pub use Rattle.kr_perform.specs.kr_lawful as kr_lawful
+pub use Rattle.kr_perform.specs.kr_allowed as kr_allowed
+pub use Rattle.kr_perform.specs.kr_ops as kr_ops
+pub use Rattle.kr_perform.specs.kr_seen as kr_seen
 pub mod Walked
 pub mod Operated

@@ -2,4 +2,4 @@
 pub use Rattle.kr_perform.specs.Operating.{HasNumbers, IsNoExec, OperatesAt, mounts_at, placed_targets}
 pub use Rattle.kr_perform.specs.Lawful.{LastsLawful}
 pub use Rattle.kr_perform.specs.Resolved.{AreTexts}
-pub use Rattle.kr_targets.specs.Placed.{placed}
+pub use Rattle.kr_perform.specs.kr_targets.Placed.{placed}

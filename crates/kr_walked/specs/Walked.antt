@@ -1,19 +1,19 @@
 -- What calls rest on, of what the walks of their paths lead to over a lawful state.
 use Rattle.std.specs.Prelude.{ℕ, ◌≡◌, List, Some, Ok}
-use Rattle.kr_calls.specs.PathTable.{PathUse, path_at}
-use Rattle.kr_calls.specs.declared.request.Request.{Request}
-use Rattle.kr_tree.specs.Lawful.{AreBytes}
-use Rattle.kr_view.specs.View.{Row}
-use Rattle.kr_model.specs.Lawful.{IsLawful}
-use Rattle.kr_model.specs.Walks.{targets_of, told}
-use Rattle.kr_allowed.specs.Texts.{IsText, LinksHaveTexts}
-use Rattle.kr_allowed.specs.Calls.{IsToldIn}
-use Rattle.kr_allowed.specs.Told.{SourcesAreNamed}
-use Rattle.kr_ops.specs.declared.state.State.{State}
-use Rattle.kr_ops.specs.Meaning.{meaning}
-use Rattle.kr_seen.specs.Numbered.{state_numbered}
-use Rattle.kr_seen.specs.CallWalks.{AreTargets}
-use Rattle.kr_seen.specs.declared.walks.Targets.{Targets}
+use Rattle.kr_perform.specs.kr_calls.PathTable.{PathUse, path_at}
+use Rattle.kr_perform.specs.kr_calls.declared.request.Request.{Request}
+use Rattle.kr_perform.specs.kr_tree.Lawful.{AreBytes}
+use Rattle.kr_perform.specs.kr_view.View.{Row}
+use Rattle.kr_perform.specs.kr_model.Lawful.{IsLawful}
+use Rattle.kr_perform.specs.kr_model.Walks.{targets_of, told}
+use Rattle.kr_perform.specs.kr_allowed.Texts.{IsText, LinksHaveTexts}
+use Rattle.kr_perform.specs.kr_allowed.Calls.{IsToldIn}
+use Rattle.kr_perform.specs.kr_allowed.Told.{SourcesAreNamed}
+use Rattle.kr_perform.specs.kr_ops.declared.state.State.{State}
+use Rattle.kr_perform.specs.kr_ops.Meaning.{meaning}
+use Rattle.kr_perform.specs.kr_seen.Numbered.{state_numbered}
+use Rattle.kr_perform.specs.kr_seen.CallWalks.{AreTargets}
+use Rattle.kr_perform.specs.kr_seen.declared.walks.Targets.{Targets}
 use Rattle.kr_perform.specs.Operating.{mounts_at, placed_targets}
 
 -- what a call is told of the targets to which its paths were walked is so, in the mounts of the machine: where paths are texts of

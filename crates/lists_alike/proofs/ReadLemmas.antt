@@ -3,22 +3,22 @@ use Rattle.std.proofs.Common.{◌≡◌, ℕ, zero, suc, ◌+◌, ◌-◌, ◌%�
 use Rattle.std.specs.FinMap as map
 use Rattle.std.specs.Option.{option_map_or}
 use Rattle.std.specs.Prelude.{if◌then◌else◌, is_some, nat_eq, slice_index}
-use Rattle.pr_base.specs.declared.errno.Errno.{Errno}
-use Rattle.pr_base.specs.declared.errno.Errno.TheVariants.{EFAULT, E2BIG}
-use Rattle.rv_mem.specs.Actions.{Action, AreEqualUnmarked, Done, MayUse, ReadBytes, WriteBytes, CarriedOut, allows_uses, carried_out}
-use Rattle.rv_mem.specs.Memory.{Memory, after_read, with_pages}
-use Rattle.rv_mem.specs.Page.{PageState, grants}
-use Rattle.rv_mem.specs.Pages.{IsPlaced, Pages, allows_all, bytes_from, page_allows, written}
-use Rattle.rv_mem.specs.declared.rights.Use.{Use}
-use Rattle.rv_mem.specs.declared.rights.Use.TheVariants.{Read}
-use Rattle.rv_mem.proofs.ActionLemmas.{reads_alike}
-use Rattle.rv_mem.proofs.SpaceLemmas.{IsPlaced-written}
-use Rattle.kr_calls.specs.Expansion.{bytes_with_ends}
-use Rattle.kr_calls.specs.Texts.{read_text}
-use Rattle.kr_exec.specs.Lists.{Trying, address_at, and_then, at_least_one, behind, if_it_fits, most_bytes, most_texts, next_address}
-use Rattle.kr_exec.specs.Lists as kernel
-use Rattle.kr_exec.specs.declared.lists.Lists.{Lists}
-use Rattle.kr_exec.proofs.ListLemmas.{and_then_is, at_address, by_address, done, front, goes_on, on_reply}
+use Rattle.pt_lists.specs.pr_base.declared.errno.Errno.{Errno}
+use Rattle.pt_lists.specs.pr_base.declared.errno.Errno.TheVariants.{EFAULT, E2BIG}
+use Rattle.pt_lists.specs.rv_mem.Actions.{Action, AreEqualUnmarked, Done, MayUse, ReadBytes, WriteBytes, CarriedOut, allows_uses, carried_out}
+use Rattle.pt_lists.specs.rv_mem.Memory.{Memory, after_read, with_pages}
+use Rattle.pt_lists.specs.rv_mem.Page.{PageState, grants}
+use Rattle.pt_lists.specs.rv_mem.Pages.{IsPlaced, Pages, allows_all, bytes_from, page_allows, written}
+use Rattle.pt_lists.specs.rv_mem.declared.rights.Use.{Use}
+use Rattle.pt_lists.specs.rv_mem.declared.rights.Use.TheVariants.{Read}
+use Rattle.pt_lists.proofs.rv_mem.ActionLemmas.{reads_alike}
+use Rattle.pt_lists.proofs.rv_mem.SpaceLemmas.{IsPlaced-written}
+use Rattle.pt_lists.specs.kr_calls.Expansion.{bytes_with_ends}
+use Rattle.pt_lists.specs.kr_calls.Texts.{read_text}
+use Rattle.pt_lists.specs.kr_exec.Lists.{Trying, address_at, and_then, at_least_one, behind, if_it_fits, most_bytes, most_texts, next_address}
+use Rattle.pt_lists.specs.kr_exec.Lists as kernel
+use Rattle.pt_lists.specs.kr_exec.declared.lists.Lists.{Lists}
+use Rattle.pt_lists.proofs.kr_exec.ListLemmas.{and_then_is, at_address, by_address, done, front, goes_on, on_reply}
 use Rattle.pt_lists.specs.Reading.{next_byte, text_from}
 use Rattle.pt_lists.specs.Reading as tracer
 use Rattle.pt_lists.specs.declared.lists.Handed.{Handed}

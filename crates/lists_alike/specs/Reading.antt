@@ -1,12 +1,12 @@
 -- The lists of texts of execve(2) that a tracer reads by peeks are those that the kernel reads, from the same bytes.
 use Rattle.std.specs.Prelude.{◌≡◌, ℕ, false, Result, Ok, Err}
-use Rattle.pr_base.specs.declared.errno.Errno.{Errno}
-use Rattle.rv_mem.specs.Actions.{AreEqualUnmarked, CarriedOut, carried_out}
-use Rattle.rv_mem.specs.Memory.{Memory}
-use Rattle.rv_mem.specs.Pages.{IsPlaced}
-use Rattle.kr_calls.specs.Expansion.{bytes_with_ends}
-use Rattle.kr_exec.specs.Lists as kernel
-use Rattle.kr_exec.specs.declared.lists.Lists.{Lists}
+use Rattle.pt_lists.specs.pr_base.declared.errno.Errno.{Errno}
+use Rattle.pt_lists.specs.rv_mem.Actions.{AreEqualUnmarked, CarriedOut, carried_out}
+use Rattle.pt_lists.specs.rv_mem.Memory.{Memory}
+use Rattle.pt_lists.specs.rv_mem.Pages.{IsPlaced}
+use Rattle.pt_lists.specs.kr_calls.Expansion.{bytes_with_ends}
+use Rattle.pt_lists.specs.kr_exec.Lists as kernel
+use Rattle.pt_lists.specs.kr_exec.declared.lists.Lists.{Lists}
 use Rattle.pt_lists.specs.Reading as tracer
 use Rattle.pt_lists.specs.declared.lists.Handed.{Handed}
 

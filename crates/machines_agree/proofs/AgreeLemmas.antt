@@ -1,30 +1,28 @@
--- What is put of a calm run over mounts is put of the run that a tracer watches.
-use Rattle.std.proofs.Common.{◌≡◌, ℕ, List, None, refl, sym, ap, ◌∙◌}
+-- What a calm run over mounts comes to, the run that a tracer watches comes to.
+use Rattle.std.proofs.Common.{◌≡◌, ℕ, List, None, refl, sym, ap, subst, ◌∙◌}
 use Rattle.std.specs.Prelude.{Result, Ok, Err}
-use Rattle.pr_base.specs.declared.errno.Errno.{Errno}
-use Rattle.pr_command.specs.declared.launch.Launch.{Launch}
+use Rattle.pr_top.specs.pr_base.declared.errno.Errno.{Errno}
+use Rattle.pr_top.specs.pr_command.declared.launch.Launch.{Launch}
 use Rattle.pt_args.specs.Laws.{ShelvesHoldTheirItems, TextsAreReadBack}
-use Rattle.kr_calm.specs.Calm.{broken_at_start}
-use Rattle.kr_inode.specs.declared.user.User.{User}
-use Rattle.kr_mounts.specs.Standing.{texts_of}
-use Rattle.kr_tree.specs.Tree.{Tree}
-use Rattle.kr_turns.specs.Run.{Ran, run}
-use Rattle.kr_turns.specs.Turn.{Machine}
-use Rattle.kr_turns.specs.Watching.{unwatched}
-use Rattle.kr_view.specs.View.{Row}
-use Rattle.pr_top.specs.pr_run.Report.{report_of}
+use Rattle.starts_match.specs.kr_calm.Calm.{broken_at_start}
+use Rattle.pr_top.specs.kr_inode.declared.user.User.{User}
+use Rattle.pr_top.specs.kr_mounts.Standing.{texts_of}
+use Rattle.pr_top.specs.kr_tree.Tree.{Tree}
+use Rattle.pt_bytes.specs.kr_turns.Run.{Ran, run}
+use Rattle.pt_bytes.specs.kr_turns.Turn.{Machine}
+use Rattle.pt_bytes.specs.kr_turns.Watching.{unwatched}
+use Rattle.pr_top.specs.kr_view.View.{Row}
 use Rattle.pr_top.specs.pr_run.Slots.{slot_of}
 use Rattle.pr_top.specs.pr_run.declared.plan.Plan.{Plan}
-use Rattle.pr_top.specs.pr_start.Beginning.{beginning}
-use Rattle.pr_top.specs.pr_traced.TracedBeginning.{traced_beginning}
-use Rattle.pr_watch.specs.Watches.{watch}
-use Rattle.pr_watch.specs.declared.watch.Watch.{Watch}
-use Rattle.pr_watch.specs.declared.watch.Watch.TheVariants.{Nobody}
-use Rattle.pt_bytes.specs.Watchers.{goes_by_bytes}
-use Rattle.pt_watched.specs.Watched.{Tracing}
+use Rattle.starts_match.specs.pr_start.Beginning.{beginning}
+use Rattle.starts_match.specs.pr_traced.TracedBeginning.{traced_beginning}
+use Rattle.starts_match.specs.pr_watch.Watches.{watch}
+use Rattle.starts_match.specs.pr_watch.declared.watch.Watch.{Watch}
+use Rattle.starts_match.specs.pr_watch.declared.watch.Watch.TheVariants.{Nobody}
+use Rattle.pt_bytes.specs.pt_watched.Watched.{Tracing}
+use Rattle.starts_match.specs.turns_match.Runs.{ComeAlike}
 use Rattle.starts_match.proofs.turns_match.ComeLemmas.{run_unbroken}
-use Rattle.execves_together.proofs.stops_match.TogetherLemmas.{traced_runs_come_alike}
-use Rattle.machines_agree.proofs.CallLemmas.{calls_go_together}
+use Rattle.machines_agree.proofs.TurnLemmas.{untold_runs}
 use Rattle.starts_match.specs.Starts.{beginning_reach}
 use Rattle.starts_match.proofs.StartLemmas.{beginnings-are-judged}
 use Rattle.machines_agree.specs.Starts.{BeginToRun, CanComeAlike}
@@ -32,19 +30,16 @@ use Rattle.machines_agree.proofs.BeginLemmas.{starts-can-run}
 use Rattle.machines_agree.proofs.WatchedLemmas.{beginning_watched}
 use Rattle.machines_agree.specs.Agreeing.{CanBeTold, IsCalm, IsToldToo, MachinesAgree, mounted, traced}
 use Rattle.machines_agree.proofs.NobodyLemmas.{nobody_watches}
-use Rattle.machines_agree.proofs.ReportLemmas.{reports_are_alike}
 
 module _ (back : TextsAreReadBack) (shelves : ShelvesHoldTheirItems) (plan : Plan) (table : List Row) (tree : Tree) (user : User) (launch : Launch) (input : List ℕ) (can : CanBeTold plan table tree user launch input) where
   calm_start : (m : Machine Watch) → beginning table tree user Nobody launch input ≡ Ok m → IsCalm plan table m → broken_at_start (beginning_reach table tree user Nobody launch) ≡ None
   calm_start m is calm = sym (beginnings-are-judged table tree user Nobody launch input m is) ∙ run_unbroken watch table (slot_of plan.schedule) plan.turns 0 m calm
 
-  runs_agree : (m : Machine Watch) (n : Machine Tracing) → m.watcher ≡ Nobody → CanComeAlike table m n → IsCalm plan table m → report_of plan (mounted plan table m) ≡ report_of plan (traced plan n)
+  runs_agree : (m : Machine Watch) (n : Machine Tracing) → m.watcher ≡ Nobody → CanComeAlike table m n → IsCalm plan table m → ComeAlike (mounted plan table m) (traced plan n)
   runs_agree m n alone both calm =
       let same : mounted plan table m ≡ run unwatched 1 table (slot_of plan.schedule) plan.turns m = nobody_watches 1 table (slot_of plan.schedule) plan.turns m alone in
-      let come =
-      traced_runs_come_alike Watch goes_by_bytes table (slot_of plan.schedule) (calls_go_together back shelves Watch table) both.can plan.turns m n can.few both.together both.keeps
-      (sym (ap (λ (ran : Ran Watch). ran.machine.tally.broken) same) ∙ calm) in
-      ap (report_of plan) same ∙ reports_are_alike Watch Tracing plan (run unwatched 1 table (slot_of plan.schedule) plan.turns m) (traced plan n) can.quiet come
+      subst (λ (ran : Ran Watch). ComeAlike ran (traced plan n)) (sym same)
+      (untold_runs back shelves table both.can.named both.can.bytes (slot_of plan.schedule) plan.turns can.few Watch m n (record { together = both.together; keeps = both.keeps }) (sym (ap (λ (ran : Ran Watch). ran.machine.tally.broken) same) ∙ calm))
 
   by_beginnings : (r : Result (Machine Watch) Errno) → beginning table tree user Nobody launch input ≡ r → (q : Result (Machine Tracing) Errno) → traced_beginning (texts_of table) tree user None launch input ≡ q
       → (broken_at_start (beginning_reach table tree user Nobody launch) ≡ None → BeginToRun table r q) → IsToldToo plan table tree user launch input r

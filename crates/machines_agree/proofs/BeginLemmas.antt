@@ -2,43 +2,43 @@
 use Rattle.std.proofs.Common.{◌≡◌, ℕ, Bool, true, false, ◌∷◌, [], List, cond, Option, Some, None, refl, sym, ap, subst, ◌∙◌}
 use Rattle.std.specs.Prelude.{Err, IfOk, IfSome, Ok, Result}
 use Rattle.std.specs.List.{list_all}
-use Rattle.pr_base.specs.MountText.{MountText}
-use Rattle.pr_base.specs.declared.errno.Errno.{Errno}
-use Rattle.pr_command.specs.Command.{candidate, directories, has_slash, path_of, word_of}
-use Rattle.pr_command.specs.declared.launch.Launch.{Launch}
-use Rattle.kr_first.specs.Starting.{start_of, start_reach}
-use Rattle.kr_first.specs.declared.starting.First.{First}
-use Rattle.kr_inode.specs.declared.user.User.{User}
-use Rattle.kr_model.specs.State.{Image, State}
-use Rattle.kr_model.specs.Walks.{and_then}
-use Rattle.kr_mounts.specs.Standing.{texts_of}
-use Rattle.kr_tree.specs.Lawful.{AreBytes, HasBytes as TreeHasBytes}
-use Rattle.kr_tree.specs.Tree.{Tree}
-use Rattle.kr_tree.specs.declared.place.Place.{Place}
-use Rattle.kr_turns.specs.Turn.{Machine}
-use Rattle.kr_view.specs.View.{Row, plain}
-use Rattle.kr_view.specs.declared.target.Reach.{Reach}
-use Rattle.pr_top.specs.pr_start.Beginning.{beginning, begun, begun_at, first_of, fresh, nowhere}
-use Rattle.pr_top.specs.pr_start.Command.{Chosen, chosen, is_there, program_reach, searched}
-use Rattle.pr_top.specs.pr_start.Directory.{At, directory_reach, working_directory}
-use Rattle.pr_top.specs.pr_traced.TracedBeginning as traced
-use Rattle.pr_top.specs.pr_traced.TracedBeginning.{begun_as, texts_before, traced_beginning, tracing_of}
-use Rattle.pr_watch.specs.declared.watch.Watch.{Watch}
-use Rattle.pt_canon.specs.TextWalk.{TextSurroundings}
-use Rattle.pt_first.specs.GuestStart.{guest_start}
-use Rattle.pt_first.specs.declared.begun.Begun.{Begun}
-use Rattle.kr_bytes.specs.Bytes.{AreAllBytes, HasBytes, TableHasBytes}
-use Rattle.kr_bytes.proofs.StartLemmas.{beginnings-have-bytes, tables-have-bytes}
+use Rattle.pr_top.specs.pr_base.MountText.{MountText}
+use Rattle.pr_top.specs.pr_base.declared.errno.Errno.{Errno}
+use Rattle.pr_top.specs.pr_command.Command.{candidate, directories, has_slash, path_of, word_of}
+use Rattle.pr_top.specs.pr_command.declared.launch.Launch.{Launch}
+use Rattle.starts_match.specs.kr_first.Starting.{start_of, start_reach}
+use Rattle.starts_match.specs.kr_first.declared.starting.First.{First}
+use Rattle.pr_top.specs.kr_inode.declared.user.User.{User}
+use Rattle.starts_match.specs.kr_model.State.{Image, State}
+use Rattle.starts_match.specs.kr_model.Walks.{and_then}
+use Rattle.pr_top.specs.kr_mounts.Standing.{texts_of}
+use Rattle.pr_top.specs.kr_tree.Lawful.{AreBytes, HasBytes as TreeHasBytes}
+use Rattle.pr_top.specs.kr_tree.Tree.{Tree}
+use Rattle.pr_top.specs.kr_tree.declared.place.Place.{Place}
+use Rattle.pt_bytes.specs.kr_turns.Turn.{Machine}
+use Rattle.pr_top.specs.kr_view.View.{Row, plain}
+use Rattle.pr_top.specs.kr_view.declared.target.Reach.{Reach}
+use Rattle.starts_match.specs.pr_start.Beginning.{beginning, begun, begun_at, first_of, fresh, nowhere}
+use Rattle.starts_match.specs.pr_start.Command.{Chosen, chosen, is_there, program_reach, searched}
+use Rattle.starts_match.specs.pr_start.Directory.{At, directory_reach, working_directory}
+use Rattle.starts_match.specs.pr_traced.TracedBeginning as traced
+use Rattle.starts_match.specs.pr_traced.TracedBeginning.{begun_as, texts_before, traced_beginning, tracing_of}
+use Rattle.starts_match.specs.pr_watch.declared.watch.Watch.{Watch}
+use Rattle.pt_args.specs.pt_canon.TextWalk.{TextSurroundings}
+use Rattle.starts_match.specs.pt_first.GuestStart.{guest_start}
+use Rattle.starts_match.specs.pt_first.declared.begun.Begun.{Begun}
+use Rattle.pt_bytes.specs.kr_bytes.Bytes.{AreAllBytes, HasBytes, TableHasBytes}
+use Rattle.pt_bytes.proofs.kr_bytes.StartLemmas.{beginnings-have-bytes, tables-have-bytes}
 use Rattle.pt_bytes.specs.Watchers.{is_byte_row}
 use Rattle.pt_bytes.proofs.LookLemmas.{AreOfBytes}
 use Rattle.pt_bytes.proofs.TextLemmas.{rows-tested}
 use Rattle.pt_bytes.proofs.TracerLemmas.{tracers-watch-bytes}
-use Rattle.pt_watched.specs.Answering.{starting_identities}
-use Rattle.pt_watched.specs.Watched.{Tracing}
+use Rattle.pt_bytes.specs.pt_watched.Answering.{starting_identities}
+use Rattle.pt_bytes.specs.pt_watched.Watched.{Tracing}
 use Rattle.starts_match.specs.FirstStates.{IsOpening}
 use Rattle.starts_match.specs.Starts.{ComeTogether}
 use Rattle.starts_match.proofs.StartLemmas.{starts-go-together}
-use Rattle.execves_together.specs.stops_match.Turning.{tags_kept}
+use Rattle.paths_together.specs.stops_match.Turning.{tags_kept}
 use Rattle.starts_match.specs.turns_match.Runs.{GoTogether}
 use Rattle.machines_agree.specs.Starts.{BeginToRun, CanComeAlike, IsOfByteWords, StartsCanRun}
 use Rattle.machines_agree.specs.Tables.{IsMadeOfBytes}

@@ -1,16 +1,16 @@
 -- Every call of a calm run keeps both machines together.
 use Rattle.std.proofs.Common.{◌≡◌, ℕ, true, List, None, Ok, Err, refl, ap, ◌∙◌}
 use Rattle.pt_args.specs.Laws.{ShelvesHoldTheirItems, TextsAreReadBack}
-use Rattle.kr_calls.specs.Decoding.{Decoded}
-use Rattle.kr_calls.specs.declared.request.Request.{Request}
-use Rattle.kr_calls.specs.declared.request.Request.TheVariants as call
-use Rattle.kr_view.specs.View.{Row, plain}
-use Rattle.kr_turns.specs.Turn.{Machine, calling, watched_call}
-use Rattle.kr_turns.specs.Watching.{unwatched}
-use Rattle.pt_tracer.specs.Stopping.{decoded_at}
-use Rattle.pt_watched.specs.Watched.{Tracing, tracer}
-use Rattle.execves_together.specs.stops_match.Together.{CallsGoTogether, any_call}
-use Rattle.execves_together.specs.stops_match.Turning.{ComeFromCall, ComeToCall}
+use Rattle.pt_args.specs.kr_calls.Decoding.{Decoded}
+use Rattle.pt_args.specs.kr_calls.declared.request.Request.{Request}
+use Rattle.pt_args.specs.kr_calls.declared.request.Request.TheVariants as call
+use Rattle.pr_top.specs.kr_view.View.{Row, plain}
+use Rattle.pt_bytes.specs.kr_turns.Turn.{Machine, calling, watched_call}
+use Rattle.pt_bytes.specs.kr_turns.Watching.{unwatched}
+use Rattle.pt_bytes.specs.pt_tracer.Stopping.{decoded_at}
+use Rattle.pt_bytes.specs.pt_watched.Watched.{Tracing, tracer}
+use Rattle.paths_together.specs.stops_match.Together.{CallsGoTogether, any_call}
+use Rattle.paths_together.specs.stops_match.Turning.{ComeFromCall, ComeToCall}
 use Rattle.paths_together.specs.Calls.{executes_nothing}
 use Rattle.paths_together.proofs.OtherLemmas.{other_calls_go_together}
 use Rattle.execves_together.proofs.FollowLemmas.{execves_go_together}

@@ -1,30 +1,28 @@
--- What is put of a calm run over mounts, whose watcher tells an identity, is put of the run that a tracer watches.
-use Rattle.std.proofs.Common.{◌≡◌, ℕ, List, Some, None, refl, sym, ap, ◌∙◌}
+-- What a calm run over mounts, whose watcher tells an identity, comes to, the run that a tracer watches comes to.
+use Rattle.std.proofs.Common.{◌≡◌, ℕ, List, Some, None, refl, sym, ap, subst, ◌∙◌}
 use Rattle.std.specs.Prelude.{Result, Ok, Err}
-use Rattle.pr_base.specs.declared.errno.Errno.{Errno}
-use Rattle.pr_command.specs.declared.launch.Launch.{Launch}
+use Rattle.pr_top.specs.pr_base.declared.errno.Errno.{Errno}
+use Rattle.pr_top.specs.pr_command.declared.launch.Launch.{Launch}
 use Rattle.pt_args.specs.Laws.{ShelvesHoldTheirItems, TextsAreReadBack}
-use Rattle.kr_calm.specs.Calm.{broken_at_start}
-use Rattle.kr_inode.specs.declared.user.User.{User}
-use Rattle.kr_mounts.specs.Standing.{texts_of}
-use Rattle.kr_tree.specs.Tree.{Tree}
-use Rattle.kr_turns.specs.Run.{Ran, run}
-use Rattle.kr_turns.specs.Turn.{Machine}
-use Rattle.kr_view.specs.View.{Row}
-use Rattle.pr_top.specs.pr_run.Report.{report_of}
+use Rattle.starts_match.specs.kr_calm.Calm.{broken_at_start}
+use Rattle.pr_top.specs.kr_inode.declared.user.User.{User}
+use Rattle.pr_top.specs.kr_mounts.Standing.{texts_of}
+use Rattle.pr_top.specs.kr_tree.Tree.{Tree}
+use Rattle.pt_bytes.specs.kr_turns.Run.{Ran, run}
+use Rattle.pt_bytes.specs.kr_turns.Turn.{Machine}
+use Rattle.pr_top.specs.kr_view.View.{Row}
 use Rattle.pr_top.specs.pr_run.Slots.{slot_of}
 use Rattle.pr_top.specs.pr_run.declared.plan.Plan.{Plan}
-use Rattle.pr_top.specs.pr_start.Beginning.{beginning}
-use Rattle.pr_top.specs.pr_traced.TracedBeginning.{traced_beginning}
-use Rattle.pr_watch.specs.Watches.{watch}
-use Rattle.pr_watch.specs.declared.watch.Watch.{Watch}
-use Rattle.pr_watch.specs.declared.watch.Watch.TheVariants.{Faked}
-use Rattle.pt_bytes.specs.Watchers.{anything, goes_by_bytes}
-use Rattle.pt_tracer.specs.Faking.{Faking, faker, starting_faking}
-use Rattle.pt_watched.specs.Watched.{Tracing}
+use Rattle.starts_match.specs.pr_start.Beginning.{beginning}
+use Rattle.starts_match.specs.pr_traced.TracedBeginning.{traced_beginning}
+use Rattle.starts_match.specs.pr_watch.Watches.{watch}
+use Rattle.starts_match.specs.pr_watch.declared.watch.Watch.{Watch}
+use Rattle.starts_match.specs.pr_watch.declared.watch.Watch.TheVariants.{Faked}
+use Rattle.pt_bytes.specs.pt_tracer.Faking.{Faking, faker, starting_faking}
+use Rattle.pt_bytes.specs.pt_watched.Watched.{Tracing}
+use Rattle.starts_match.specs.turns_match.Runs.{ComeAlike}
 use Rattle.starts_match.proofs.turns_match.ComeLemmas.{run_unbroken}
-use Rattle.execves_together.proofs.stops_match.RunLemmas.{faked_runs_come_alike}
-use Rattle.machines_agree.proofs.FakedCallLemmas.{faked_calls_go_together}
+use Rattle.machines_agree.proofs.TurnLemmas.{told_runs}
 use Rattle.starts_match.specs.Starts.{beginning_reach}
 use Rattle.starts_match.proofs.StartLemmas.{beginnings-are-judged}
 use Rattle.machines_agree.specs.FakedStarts.{BeginToRunFaked, CanComeAlikeFaked, with_faking}
@@ -33,7 +31,6 @@ use Rattle.machines_agree.specs.Agreeing.{CanBeTold, IsCalm, mounted, traced}
 use Rattle.machines_agree.specs.FakedAgreeing.{FakedMachinesAgree, IsToldFaked}
 use Rattle.machines_agree.specs.Watching.{ran_faked}
 use Rattle.machines_agree.proofs.FakedLemmas.{fakers_watch}
-use Rattle.machines_agree.proofs.ReportLemmas.{reports_are_alike}
 
 module _ (back : TextsAreReadBack) (shelves : ShelvesHoldTheirItems) (plan : Plan) (table : List Row) (tree : Tree) (user : User) (uid gid : ℕ) (launch : Launch) (input : List ℕ) (can : CanBeTold plan table tree user launch input) where
   abbrev who : Watch
@@ -42,15 +39,14 @@ module _ (back : TextsAreReadBack) (shelves : ShelvesHoldTheirItems) (plan : Pla
   calm_start : (m : Machine Watch) → beginning table tree user who launch input ≡ Ok m → IsCalm plan table m → broken_at_start (beginning_reach table tree user who launch) ≡ None
   calm_start m is calm = sym (beginnings-are-judged table tree user who launch input m is) ∙ run_unbroken watch table (slot_of plan.schedule) plan.turns 0 m calm
 
-  runs_agree : (m : Machine Watch) (n : Machine Tracing) (f : Faking) → m.watcher ≡ Faked f → CanComeAlikeFaked table (with_faking f m) n → IsCalm plan table m → report_of plan (mounted plan table m) ≡ report_of plan (traced plan n)
+  runs_agree : (m : Machine Watch) (n : Machine Tracing) (f : Faking) → m.watcher ≡ Faked f → CanComeAlikeFaked table (with_faking f m) n → IsCalm plan table m → ComeAlike (mounted plan table m) (traced plan n)
   runs_agree m n f watched both calm =
       let slots = slot_of plan.schedule in
       let ran = run faker 1 table slots plan.turns (with_faking f m) in
       let same : mounted plan table m ≡ ran_faked ran = fakers_watch 1 table slots plan.turns m f watched in
       let come =
-      faked_runs_come_alike anything goes_by_bytes table slots (faked_calls_go_together back shelves table) both.can plan.turns (with_faking f m) n can.few both.together both.keeps
-      (sym (ap (λ (ran : Ran Watch). ran.machine.tally.broken) same) ∙ calm) in
-      ap (report_of plan) same ∙ reports_are_alike Watch Tracing plan (ran_faked ran) (traced plan n) can.quiet (record { puts = come.puts; endings = come.endings; statuses = come.statuses; trees = come.trees })
+      told_runs back shelves table both.can.named both.can.bytes slots plan.turns can.few (with_faking f m) n (record { together = both.together; keeps = both.keeps }) (sym (ap (λ (ran : Ran Watch). ran.machine.tally.broken) same) ∙ calm) in
+      subst (λ (ran : Ran Watch). ComeAlike ran (traced plan n)) (sym same) (record { puts = come.puts; endings = come.endings; statuses = come.statuses; trees = come.trees })
 
   by_beginnings : (r : Result (Machine Watch) Errno) → beginning table tree user who launch input ≡ r → (q : Result (Machine Tracing) Errno) → traced_beginning (texts_of table) tree user (Some (uid, gid)) launch input ≡ q
       → (broken_at_start (beginning_reach table tree user who launch) ≡ None → BeginToRunFaked table r q) → IsToldFaked plan table tree user uid gid launch input r

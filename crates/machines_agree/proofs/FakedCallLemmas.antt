@@ -1,18 +1,18 @@
 -- Every call of a calm run keeps both machines together, where processes are told an identity.
 use Rattle.std.proofs.Common.{◌≡◌, ℕ, true, List, Ok}
 use Rattle.pt_args.specs.Laws.{ShelvesHoldTheirItems, TextsAreReadBack}
-use Rattle.kr_calls.specs.declared.request.Request.{Request}
-use Rattle.kr_calls.specs.declared.request.Request.TheVariants as call
-use Rattle.kr_view.specs.View.{Row}
-use Rattle.kr_turns.specs.Turn.{Machine, calling}
-use Rattle.pt_tracer.specs.Faking.{Faking}
-use Rattle.pt_tracer.specs.Stopping.{decoded_at}
-use Rattle.pt_watched.specs.Watched.{Tracing, is_execve}
-use Rattle.execves_together.specs.stops_match.Going.{ComeToFakedCall}
-use Rattle.execves_together.specs.stops_match.Kinds.{GoesTogether}
-use Rattle.execves_together.specs.stops_match.Runs.{EachCallGoesTogether}
-use Rattle.execves_together.specs.stops_match.Together.{any_call}
-use Rattle.execves_together.proofs.stops_match.WholeLemmas.{all_calls_go_together}
+use Rattle.pt_args.specs.kr_calls.declared.request.Request.{Request}
+use Rattle.pt_args.specs.kr_calls.declared.request.Request.TheVariants as call
+use Rattle.pr_top.specs.kr_view.View.{Row}
+use Rattle.pt_bytes.specs.kr_turns.Turn.{Machine, calling}
+use Rattle.pt_bytes.specs.pt_tracer.Faking.{Faking}
+use Rattle.pt_bytes.specs.pt_tracer.Stopping.{decoded_at}
+use Rattle.pt_bytes.specs.pt_watched.Watched.{Tracing, is_execve}
+use Rattle.paths_together.specs.stops_match.Going.{ComeToFakedCall}
+use Rattle.paths_together.specs.stops_match.Kinds.{GoesTogether}
+use Rattle.paths_together.specs.stops_match.Runs.{EachCallGoesTogether}
+use Rattle.paths_together.specs.stops_match.Together.{any_call}
+use Rattle.paths_together.proofs.stops_match.WholeLemmas.{all_calls_go_together}
 use Rattle.paths_together.proofs.FakedOtherLemmas.{along}
 use Rattle.execves_together.proofs.ToldLemmas.{faked_execves_go_together}
 

@@ -1,26 +1,26 @@
 -- Machines that begin where processes are told an identity have all that such runs rest on.
 use Rattle.std.proofs.Common.{◌≡◌, ℕ, true, List, Some, refl, sym}
 use Rattle.std.specs.Prelude.{Err, Ok, Result}
-use Rattle.pr_base.specs.declared.errno.Errno.{Errno}
-use Rattle.pr_command.specs.declared.launch.Launch.{Launch}
-use Rattle.kr_inode.specs.declared.user.User.{User}
-use Rattle.kr_mounts.specs.Standing.{texts_of}
-use Rattle.kr_tree.specs.Lawful.{AreBytes}
-use Rattle.kr_tree.specs.Tree.{Tree}
-use Rattle.kr_turns.specs.Turn.{Machine}
-use Rattle.kr_view.specs.View.{Row}
-use Rattle.pr_top.specs.pr_start.Beginning.{beginning}
-use Rattle.pr_top.specs.pr_traced.TracedBeginning.{traced_beginning}
-use Rattle.pr_watch.specs.declared.watch.Watch.{Watch}
-use Rattle.pr_watch.specs.declared.watch.Watch.TheVariants.{Faked}
+use Rattle.pr_top.specs.pr_base.declared.errno.Errno.{Errno}
+use Rattle.pr_top.specs.pr_command.declared.launch.Launch.{Launch}
+use Rattle.pr_top.specs.kr_inode.declared.user.User.{User}
+use Rattle.pr_top.specs.kr_mounts.Standing.{texts_of}
+use Rattle.pr_top.specs.kr_tree.Lawful.{AreBytes}
+use Rattle.pr_top.specs.kr_tree.Tree.{Tree}
+use Rattle.pt_bytes.specs.kr_turns.Turn.{Machine}
+use Rattle.pr_top.specs.kr_view.View.{Row}
+use Rattle.starts_match.specs.pr_start.Beginning.{beginning}
+use Rattle.starts_match.specs.pr_traced.TracedBeginning.{traced_beginning}
+use Rattle.starts_match.specs.pr_watch.declared.watch.Watch.{Watch}
+use Rattle.starts_match.specs.pr_watch.declared.watch.Watch.TheVariants.{Faked}
 use Rattle.pt_bytes.proofs.FakerLemmas.{fakers-watch-bytes}
 use Rattle.pt_bytes.proofs.TracerLemmas.{tracers-watch-bytes}
-use Rattle.pt_tracer.specs.Faking.{Faking, starting_faking}
-use Rattle.pt_watched.specs.Watched.{Tracing}
+use Rattle.pt_bytes.specs.pt_tracer.Faking.{Faking, starting_faking}
+use Rattle.pt_bytes.specs.pt_watched.Watched.{Tracing}
 use Rattle.starts_match.specs.FirstStates.{IsOpening}
 use Rattle.starts_match.specs.Starts.{ComeTogether}
 use Rattle.starts_match.proofs.StartLemmas.{starts-go-together}
-use Rattle.execves_together.specs.stops_match.Turning.{tags_kept}
+use Rattle.paths_together.specs.stops_match.Turning.{tags_kept}
 use Rattle.starts_match.specs.turns_match.Runs.{GoTogether}
 use Rattle.machines_agree.specs.FakedStarts.{BeginToRunFaked, CanComeAlikeFaked, FakedStartsCanRun, with_faking}
 use Rattle.machines_agree.specs.Starts.{IsOfByteWords}

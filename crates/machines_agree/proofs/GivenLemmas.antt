@@ -5,7 +5,7 @@ use Rattle.machines_agree.specs.Given.{GivenIsOpening}
 use Rattle.machines_agree.proofs.GrownLemmas.{settled-trees-have-bytes}
 use Rattle.machines_agree.proofs.GivenOpeningLemmas.{settled-is-opening}
 use Rattle.machines_agree.proofs.SourceLemmas.{told-has-options}
-use Rattle.pr_words.specs.Sound.{AreSound}
+use Rattle.pr_top.specs.pr_words.Sound.{AreSound}
 use Rattle.machines_agree.proofs.WordLemmas.{asked-are-sound, asked-are-of-bytes}
 
 pub given-is-opening : GivenIsOpening

@@ -1,21 +1,21 @@
 -- Settling keeps the laws of a tree, and so gives what both machines can begin on.
 use Rattle.std.proofs.Common.{◌≡◌, ◌∙◌, ◌&&◌, ℕ, Bool, true, false, not, List, [], length, ap, refl}
-use Rattle.kr_inode.specs.declared.user.Right.TheVariants.{Write, Search}
-use Rattle.kr_inode.specs.declared.user.User.{User}
-use Rattle.kr_tree.specs.Changes.{has_no_room, is_too_big}
-use Rattle.kr_tree.specs.Lawful.{HasNoUnused, IsCounted, IsSound}
-use Rattle.kr_tree.specs.Names.{is_name}
-use Rattle.kr_tree.specs.Rights.{may}
-use Rattle.kr_tree.specs.Tree.{Tree, bytes_of, entries_of}
-use Rattle.kr_tree.proofs.AddLemmas.{used-added}
-use Rattle.kr_tree.proofs.CountLemmas.{there}
-use Rattle.kr_mounts.specs.Growth.{IsGrown, Same, Made}
-use Rattle.kr_mounts.specs.MountTable.{settling}
-use Rattle.kr_mounts.specs.Points.{new_body, new_mode}
-use Rattle.kr_mounts.proofs.BeforeLemmas.{grown_trees_have_all_before}
-use Rattle.kr_mounts.proofs.GrowthLemmas.{settling_makes_names_alone}
-use Rattle.kr_stage.proofs.ReadyLemmas.{settled-prepared}
-use Rattle.walks_agree.proofs.StartLemmas.{settled_bindings_are_settled}
+use Rattle.pr_top.specs.kr_inode.declared.user.Right.TheVariants.{Write, Search}
+use Rattle.pr_top.specs.kr_inode.declared.user.User.{User}
+use Rattle.pr_top.specs.kr_tree.Changes.{has_no_room, is_too_big}
+use Rattle.pr_top.specs.kr_tree.Lawful.{HasNoUnused, IsCounted, IsSound}
+use Rattle.pr_top.specs.kr_tree.Names.{is_name}
+use Rattle.pr_top.specs.kr_tree.Rights.{may}
+use Rattle.pr_top.specs.kr_tree.Tree.{Tree, bytes_of, entries_of}
+use Rattle.pr_top.proofs.kr_tree.AddLemmas.{used-added}
+use Rattle.pr_top.proofs.kr_tree.CountLemmas.{there}
+use Rattle.pr_top.specs.kr_mounts.Growth.{IsGrown, Same, Made}
+use Rattle.pr_top.specs.kr_mounts.MountTable.{settling}
+use Rattle.pr_top.specs.kr_mounts.Points.{new_body, new_mode}
+use Rattle.pr_top.proofs.kr_mounts.BeforeLemmas.{grown_trees_have_all_before}
+use Rattle.pr_top.proofs.kr_mounts.GrowthLemmas.{settling_makes_names_alone}
+use Rattle.starts_match.proofs.kr_stage.ReadyLemmas.{settled-prepared}
+use Rattle.starts_match.proofs.walks_agree.StartLemmas.{settled_bindings_are_settled}
 use Rattle.starts_match.proofs.SourceLemmas.{settled-sources-are-named}
 use Rattle.machines_agree.specs.GivenOpenings.{SettledIsOpening}
 

@@ -2,26 +2,26 @@
 use Rattle.std.proofs.Common.{◌≡◌, ℕ, Bool, true, false, List, [], ◌∷◌, ◌++◌, reverse, Option, Some, None, Result, Ok, Err, refl, subst}
 use Rattle.std.specs.Bool.{if◌then◌else◌}
 use Rattle.std.specs.List.{AllByRecursion}
-use Rattle.pr_base.specs.Texts.{Text}
-use Rattle.pr_base.specs.declared.bind.Bind.{Bind}
-use Rattle.kr_inode.specs.declared.user.User.{User}
-use Rattle.kr_tree.specs.Lawful.{AreBytes, HasBytes, IsOfBytes}
-use Rattle.kr_tree.specs.Tree.{Tree, body_is, entry, takes_names}
-use Rattle.kr_tree.specs.declared.place.Host.{Host}
-use Rattle.kr_tree.specs.declared.place.Host.TheVariants.{Node, Proc}
-use Rattle.kr_tree.specs.declared.place.Place.{Place}
-use Rattle.kr_tree.proofs.OfBytesLemmas.{of_bytes-added}
-use Rattle.kr_view.specs.Laws.{is_link}
-use Rattle.kr_view.specs.View.{Point, Row, down, root_source}
-use Rattle.kr_mounts.specs.Locations.{location_by}
-use Rattle.kr_mounts.specs.MountTable.{Located, Refusal, Sourced, after_way, and_then, as_source, counting, in_order, located, located_all, locations, point_row, points, points_of, root_row, sourced, sources, told, way_along}
-use Rattle.kr_mounts.specs.Points.{Left, Wanted, at_entry, at_host, at_last_name, fits, made, making, may_make, new_body, new_mode, point_unless, refused, through, way}
-use Rattle.kr_mounts.specs.Sources.{Source, root_source_by, source_by}
-use Rattle.kr_mounts.specs.declared.fault.BindWhy.{BindWhy}
-use Rattle.kr_mounts.specs.declared.fault.BindWhy.TheVariants.{LinkOnTheWay, NoPoint}
-use Rattle.kr_mounts.proofs.BoundLemmas.{ok_is, then_ok}
-use Rattle.kr_mounts.proofs.OrderLemmas.{counting_each, ordered_each}
-use Rattle.kr_bytes.specs.Bytes.{AreAllBytes}
+use Rattle.pr_top.specs.pr_base.Texts.{Text}
+use Rattle.pr_top.specs.pr_base.declared.bind.Bind.{Bind}
+use Rattle.pr_top.specs.kr_inode.declared.user.User.{User}
+use Rattle.pr_top.specs.kr_tree.Lawful.{AreBytes, HasBytes, IsOfBytes}
+use Rattle.pr_top.specs.kr_tree.Tree.{Tree, body_is, entry, takes_names}
+use Rattle.pr_top.specs.kr_tree.declared.place.Host.{Host}
+use Rattle.pr_top.specs.kr_tree.declared.place.Host.TheVariants.{Node, Proc}
+use Rattle.pr_top.specs.kr_tree.declared.place.Place.{Place}
+use Rattle.pr_top.proofs.kr_tree.OfBytesLemmas.{of_bytes-added}
+use Rattle.pr_top.specs.kr_view.Laws.{is_link}
+use Rattle.pr_top.specs.kr_view.View.{Point, Row, down, root_source}
+use Rattle.pr_top.specs.kr_mounts.Locations.{location_by}
+use Rattle.pr_top.specs.kr_mounts.MountTable.{Located, Refusal, Sourced, after_way, and_then, as_source, counting, in_order, located, located_all, locations, point_row, points, points_of, root_row, sourced, sources, told, way_along}
+use Rattle.pr_top.specs.kr_mounts.Points.{Left, Wanted, at_entry, at_host, at_last_name, fits, made, making, may_make, new_body, new_mode, point_unless, refused, through, way}
+use Rattle.pr_top.specs.kr_mounts.Sources.{Source, root_source_by, source_by}
+use Rattle.pr_top.specs.kr_mounts.declared.fault.BindWhy.{BindWhy}
+use Rattle.pr_top.specs.kr_mounts.declared.fault.BindWhy.TheVariants.{LinkOnTheWay, NoPoint}
+use Rattle.pr_top.proofs.kr_mounts.BoundLemmas.{ok_is, then_ok}
+use Rattle.pr_top.proofs.kr_mounts.OrderLemmas.{counting_each, ordered_each}
+use Rattle.pt_bytes.specs.kr_bytes.Bytes.{AreAllBytes}
 use Rattle.machines_agree.specs.Asking.{IsOfByteParts}
 use Rattle.machines_agree.specs.GivenOpenings.{SettledTreesHaveBytes}
 use Rattle.machines_agree.proofs.PieceLemmas.{turned}

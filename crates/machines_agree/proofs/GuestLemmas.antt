@@ -1,33 +1,33 @@
 -- What a tracer finds before a process lives, and hands to the plain kernel, is made of bytes.
 use Rattle.std.proofs.Common.{ℕ, Bool, true, false, ◌∷◌, [], List, arith, cond, Option, Some, None}
 use Rattle.std.specs.Prelude.{Err, IfOk, IfSome, Ok, Result}
-use Rattle.pr_base.specs.Paths.{dot}
-use Rattle.pr_base.specs.declared.errno.Errno.{Errno}
-use Rattle.pr_base.specs.declared.errno.Errno.TheVariants.{E2BIG}
-use Rattle.pr_base.specs.declared.path.WalkMode.TheVariants.{Look}
-use Rattle.pr_command.specs.Command.{arguments, candidate, directories, has_slash, path_of, word_of}
-use Rattle.pr_command.specs.declared.launch.Launch.{Launch}
-use Rattle.pt_bind.specs.Binding.{names_of}
-use Rattle.pt_canon.specs.TextWalk.{TextSurroundings}
-use Rattle.pt_canon.specs.declared.canon.Canon.{Canon}
+use Rattle.pr_top.specs.pr_base.Paths.{dot}
+use Rattle.pr_top.specs.pr_base.declared.errno.Errno.{Errno}
+use Rattle.pr_top.specs.pr_base.declared.errno.Errno.TheVariants.{E2BIG}
+use Rattle.pr_top.specs.pr_base.declared.path.WalkMode.TheVariants.{Look}
+use Rattle.pr_top.specs.pr_command.Command.{arguments, candidate, directories, has_slash, path_of, word_of}
+use Rattle.pr_top.specs.pr_command.declared.launch.Launch.{Launch}
+use Rattle.starts_match.specs.pt_bind.Binding.{names_of}
+use Rattle.pt_args.specs.pt_canon.TextWalk.{TextSurroundings}
+use Rattle.pt_args.specs.pt_canon.declared.canon.Canon.{Canon}
 use Rattle.pt_args.specs.Walks.{and_then}
-use Rattle.pt_script.specs.Expanding.{expanded_from}
-use Rattle.pt_script.specs.Programs.{canon_from, program_from}
-use Rattle.pt_script.specs.declared.expansion.Expanded.{Expanded}
-use Rattle.pt_script.specs.declared.program.Program.{Program}
-use Rattle.kr_calls.specs.Expansion.{bytes_with_ends}
-use Rattle.kr_exec.specs.Exec.{are_too_big}
-use Rattle.kr_first.specs.Starting.{is_walked, path_errno}
-use Rattle.kr_inode.specs.declared.user.User.{User}
-use Rattle.kr_model.specs.Peeks.{head_at}
-use Rattle.kr_tree.specs.Lawful.{AreBytes, HasBytes as TreeHasBytes}
-use Rattle.kr_tree.specs.Tree.{Tree}
-use Rattle.kr_tree.specs.declared.place.Host.{Host}
-use Rattle.kr_tree.specs.declared.place.Host.TheVariants.{Node, Proc}
-use Rattle.pt_first.specs.FirstPeeks.{answer_along, first_peeked, link_text_at}
-use Rattle.pt_first.specs.GuestStart.{begun, chosen, directory_at, guest_start, handed, is_there, root_text, run_from, run_with, searched, started_at, text_or_root, working_directory}
-use Rattle.pt_first.specs.declared.begun.Begun.{Begun}
-use Rattle.kr_bytes.specs.Bytes.{AreAllBytes}
+use Rattle.starts_match.specs.pt_script.Expanding.{expanded_from}
+use Rattle.starts_match.specs.pt_script.Programs.{canon_from, program_from}
+use Rattle.starts_match.specs.pt_script.declared.expansion.Expanded.{Expanded}
+use Rattle.starts_match.specs.pt_script.declared.program.Program.{Program}
+use Rattle.pt_args.specs.kr_calls.Expansion.{bytes_with_ends}
+use Rattle.starts_match.specs.kr_exec.Exec.{are_too_big}
+use Rattle.starts_match.specs.kr_first.Starting.{is_walked, path_errno}
+use Rattle.pr_top.specs.kr_inode.declared.user.User.{User}
+use Rattle.starts_match.specs.kr_model.Peeks.{head_at}
+use Rattle.pr_top.specs.kr_tree.Lawful.{AreBytes, HasBytes as TreeHasBytes}
+use Rattle.pr_top.specs.kr_tree.Tree.{Tree}
+use Rattle.pr_top.specs.kr_tree.declared.place.Host.{Host}
+use Rattle.pr_top.specs.kr_tree.declared.place.Host.TheVariants.{Node, Proc}
+use Rattle.starts_match.specs.pt_first.FirstPeeks.{answer_along, first_peeked, link_text_at}
+use Rattle.starts_match.specs.pt_first.GuestStart.{begun, chosen, directory_at, guest_start, handed, is_there, root_text, run_from, run_with, searched, started_at, text_or_root, working_directory}
+use Rattle.starts_match.specs.pt_first.declared.begun.Begun.{Begun}
+use Rattle.pt_bytes.specs.kr_bytes.Bytes.{AreAllBytes}
 use Rattle.pt_bytes.proofs.LookLemmas.{AreOfBytes}
 use Rattle.pt_bytes.proofs.PeekLemmas.{TellsBytes, head-bytes, read-bytes, text-of-inode}
 use Rattle.pt_bytes.proofs.PlanLemmas.{either-ok, then-gives}

@@ -2,10 +2,10 @@
 use Rattle.std.proofs.Common.{ℕ, Bool, true, false, ◌∷◌, [], List, arith, cond, drop, Option, Some, None, nat_eq, refl}
 use Rattle.std.specs.Prelude.{codes, IfSome, ◌==◌}
 use Rattle.std.specs.List.{starts_with}
-use Rattle.kr_tree.specs.Lawful.{AreBytes}
-use Rattle.pr_command.specs.Command.{arguments, candidate, directories, or_later, path_of, path_text, shell, word_of}
-use Rattle.kr_bytes.specs.Bytes.{AreAllBytes}
-use Rattle.kr_bytes.proofs.ListLemmas.{bytes-tested, joined, rest-of}
+use Rattle.pr_top.specs.kr_tree.Lawful.{AreBytes}
+use Rattle.pr_top.specs.pr_command.Command.{arguments, candidate, directories, or_later, path_of, path_text, shell, word_of}
+use Rattle.pt_bytes.specs.kr_bytes.Bytes.{AreAllBytes}
+use Rattle.pt_bytes.proofs.kr_bytes.ListLemmas.{bytes-tested, joined, rest-of}
 use Rattle.pt_bytes.proofs.TextLemmas.{pieces-bytes}
 
 shell-bytes : AreBytes shell

@@ -14,6 +14,7 @@ pub mod LaunchLemmas
 pub mod AgreeLemmas
 pub mod CallLemmas
 pub mod FakedCallLemmas
+pub mod TurnLemmas
 pub mod FakedAgreeLemmas
 pub mod FakedLemmas
 pub mod NobodyLemmas

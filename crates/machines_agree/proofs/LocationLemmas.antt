@@ -3,28 +3,29 @@ use Rattle.std.proofs.Common.{◌≡◌, ℕ, zero, suc, Bool, true, false, ◌|
 use Rattle.std.specs.Prelude.{IfSome, bytes_eq}
 use Rattle.std.specs.Bool.{if◌then◌else◌}
 use Rattle.std.specs.List.{AllByRecursion, slice_split}
-use Rattle.pr_base.specs.Paths.{Component, Dot, DotDot, Name, component_of, components_of, dot, dot_dot, has_slash, is_absolute, is_slash, parts_of}
-use Rattle.pr_base.specs.Texts.{Text}
-use Rattle.pr_base.specs.WalkFrame.{Fails, Missing, Leads, Links, Jumps, Looking, Target, Trail, Onward, along, at_last, begins_at, ends, ends_landed, fails, here, in_middle, is_followed, jumps_on, loops, may_be_free, most_links, name_of, target_at, walk, walk_on, wants_directory}
-use Rattle.pr_base.specs.declared.errno.Errno.{Errno}
-use Rattle.pr_base.specs.declared.errno.Errno.TheVariants.{ENOENT, ENOTDIR}
-use Rattle.pr_base.specs.declared.path.WalkMode.{WalkMode}
-use Rattle.pr_base.proofs.EndLemmas.{EndsSo, either_way, ended, failed, jumps}
-use Rattle.kr_inode.specs.declared.user.User.{User}
-use Rattle.kr_tree.specs.Lawful.{AreBytes, HasBytes, IsOfBytes}
-use Rattle.kr_tree.specs.Tree.{Inode, SymbolicLink, Tree, body, inode}
-use Rattle.kr_tree.specs.declared.place.Place.{Place}
-use Rattle.kr_tree.specs.declared.place.ProcAt.{ProcAt}
-use Rattle.kr_tree.proofs.NameLemmas.{map_some}
-use Rattle.kr_view.specs.declared.procs.Lead.TheVariants.{Text as TextLead}
-use Rattle.kr_view.specs.Component.{SeenPlace, is_directory_at, look_up}
-use Rattle.kr_view.specs.View.{Row}
-use Rattle.kr_resolved.proofs.LinkLemmas.{link_text}
-use Rattle.kr_mounts.specs.Locations.{SeenSpot, Spot, alone, by_text, leads_to, located_at, locating, location_at, location_by, location_mode, location_of, look_from, spotted, stepped}
-use Rattle.kr_mounts.specs.Sources.{around_table}
-use Rattle.kr_bytes.specs.Bytes.{AreAllBytes}
-use Rattle.kr_bytes.proofs.ListLemmas.{all-drop}
-use Rattle.kr_allowed.proofs.PieceLemmas.{all-append}
+use Rattle.pr_top.specs.pr_base.Paths.{Component, Dot, DotDot, Name, component_of, components_of, dot, dot_dot, has_slash, is_absolute, is_slash, is_walked, parts_of}
+use Rattle.pr_top.specs.pr_base.Texts.{Text}
+use Rattle.pr_top.specs.pr_base.WalkFrame.{Fails, Missing, Leads, Links, Jumps, Looking, Target, Trail, Onward, along, at_last, begins_at, ends, ends_landed, fails, here, in_middle, is_followed, jumps_on, loops, may_be_free, most_links, name_of, target_at, walk, walk_on, wants_directory}
+use Rattle.pr_top.specs.pr_base.declared.errno.Errno.{Errno}
+use Rattle.pr_top.specs.pr_base.declared.errno.Errno.TheVariants.{ENOENT, ENOTDIR}
+use Rattle.pr_top.specs.pr_base.declared.path.WalkMode.{WalkMode}
+use Rattle.pr_top.proofs.pr_base.EndLemmas.{EndsSo, either_way, ended, failed, jumps}
+use Rattle.pr_top.specs.kr_inode.declared.user.User.{User}
+use Rattle.pr_top.specs.kr_tree.Lawful.{AreBytes, HasBytes, IsOfBytes}
+use Rattle.pr_top.specs.kr_tree.Tree.{Inode, SymbolicLink, Tree, body, inode}
+use Rattle.pr_top.specs.kr_tree.declared.place.Place.{Place}
+use Rattle.pr_top.specs.kr_tree.declared.place.ProcAt.{ProcAt}
+use Rattle.pr_top.proofs.kr_tree.NameLemmas.{map_some}
+use Rattle.pr_top.specs.kr_view.declared.procs.Lead.TheVariants.{Text as TextLead}
+use Rattle.pr_top.specs.kr_view.Component.{SeenPlace, is_directory_at, look_up}
+use Rattle.pr_top.specs.kr_view.View.{Row}
+use Rattle.starts_match.proofs.kr_resolved.LinkLemmas.{link_text}
+use Rattle.pr_top.specs.kr_mounts.Locations.{SeenSpot, Spot, alone, by_text, leads_to, located_at, locating, location_at, location_by, location_mode, location_of, location_walked, look_from, spotted, stepped}
+use Rattle.pr_top.specs.kr_mounts.Sources.{around_table}
+use Rattle.pr_top.specs.kr_mounts.declared.fault.BindWhy.TheVariants.{NoPoint}
+use Rattle.pt_bytes.specs.kr_bytes.Bytes.{AreAllBytes}
+use Rattle.pt_bytes.proofs.kr_bytes.ListLemmas.{all-drop}
+use Rattle.starts_match.proofs.kr_allowed.PieceLemmas.{all-append}
 use Rattle.machines_agree.proofs.PieceLemmas.{pieces-bytes, some-bytes}
 
 -- ---- components
@@ -160,8 +161,7 @@ located-bytes [] location are e = absurd cc
 located-bytes (name ∷ text) location are e = let same : name ∷ text ≡ location = cc in subst AreAllBytes same are
 
 pub location-bytes : (t : Tree) (user : User) (root : ℕ) (keep : Bool) (path : List ℕ) (location : Text) → HasBytes t → AreBytes path → location_by t user root keep path ≡ Ok location → AreAllBytes location
-location-bytes t user root keep path location has are e =
-    by (walk looking (location_mode keep) looking.root path).answer (walk-bytes t user (alone root) has (location_mode keep) most_links (begins_at looking looking.root path) (components_of path) (has_slash path) (begins-bytes t user (alone root) has looking.root path tt) (path-parts path are)) e
+location-bytes t user root keep path location has are e = walked (is_walked path) e
   where
     looking : Looking Spot Spot
     looking = locating t user (alone root)
@@ -173,3 +173,8 @@ location-bytes t user root keep path location has are e =
     by : (r : Result (Target Spot Spot) Errno) → ((target : Target Spot Spot) → r ≡ Ok target → IfSome target.found IsByteSpot) → location_of r ≡ Ok location → AreAllBytes location
     by (Ok target) is e = at target.found (is target refl) e
     by (Err why) is e = absurd cc
+
+    walked : (walks : Bool) → (if walks then location_walked t user root keep path else Err NoPoint) ≡ Ok location → AreAllBytes location
+    walked true e =
+        by (walk looking (location_mode keep) looking.root path).answer (walk-bytes t user (alone root) has (location_mode keep) most_links (begins_at looking looking.root path) (components_of path) (has_slash path) (begins-bytes t user (alone root) has looking.root path tt) (path-parts path are)) e
+    walked false e = absurd cc

@@ -1,25 +1,25 @@
 -- A watcher that is nobody leaves each turn as it is without one.
 use Rattle.std.proofs.Common.{◌≡◌, ℕ, zero, suc, List, Option, Some, None, refl, sym, ap, ◌∙◌}
 use Rattle.std.specs.Option.{option_map_or}
-use Rattle.rv_cpu.specs.Run.{ran}
-use Rattle.rv_cpu.specs.declared.event.Event.{Event}
-use Rattle.rv_cpu.specs.declared.event.Event.TheVariants.{Call, Killed, Next}
-use Rattle.kr_view.specs.View.{Row}
-use Rattle.kr_model.specs.State.{Image, Process, State, process}
-use Rattle.kr_steps.specs.Computing.{computed}
-use Rattle.kr_steps.specs.Waiting.{picked_process}
-use Rattle.kr_turns.specs.Breaking.{plain_rule}
-use Rattle.kr_turns.specs.PlainCall.{Came, plain_call}
-use Rattle.kr_turns.specs.Run.{Slot, after_put, ended, ending_of, put_by, run_from, turned, with_put}
-use Rattle.kr_turns.specs.Shelving.{lacks_in, shelved_in}
-use Rattle.kr_turns.specs.Stopped.{Stopped}
-use Rattle.kr_turns.specs.Turn.{Machine, Tally, after_born, after_end, after_event, after_exit, by_pick, called, with_broken}
-use Rattle.kr_turns.specs.Watching.{unwatched}
-use Rattle.kr_turns.specs.declared.plain.CallEnd.{CallEnd}
-use Rattle.kr_turns.specs.declared.plain.CallEnd.TheVariants as end
-use Rattle.pr_watch.specs.Watches.{watch}
-use Rattle.pr_watch.specs.declared.watch.Watch.{Watch}
-use Rattle.pr_watch.specs.declared.watch.Watch.TheVariants.{Nobody}
+use Rattle.pt_bytes.specs.rv_cpu.Run.{ran}
+use Rattle.pt_bytes.specs.rv_cpu.declared.event.Event.{Event}
+use Rattle.pt_bytes.specs.rv_cpu.declared.event.Event.TheVariants.{Call, Killed, Next}
+use Rattle.pr_top.specs.kr_view.View.{Row}
+use Rattle.starts_match.specs.kr_model.State.{Image, Process, State, process}
+use Rattle.pt_bytes.specs.kr_steps.Computing.{computed}
+use Rattle.pt_bytes.specs.kr_steps.Waiting.{picked_process}
+use Rattle.pt_bytes.specs.kr_turns.Breaking.{plain_rule}
+use Rattle.pt_bytes.specs.kr_turns.PlainCall.{Came, plain_call}
+use Rattle.pt_bytes.specs.kr_turns.Run.{Slot, after_put, ended, ending_of, put_by, run_from, turned, with_put}
+use Rattle.pt_bytes.specs.kr_turns.Shelving.{lacks_in, shelved_in}
+use Rattle.pt_bytes.specs.kr_turns.Stopped.{Stopped}
+use Rattle.pt_bytes.specs.kr_turns.Turn.{Machine, Tally, after_born, after_end, after_event, after_exit, by_pick, called, with_broken}
+use Rattle.pt_bytes.specs.kr_turns.Watching.{unwatched}
+use Rattle.pt_bytes.specs.kr_turns.declared.plain.CallEnd.{CallEnd}
+use Rattle.pt_bytes.specs.kr_turns.declared.plain.CallEnd.TheVariants as end
+use Rattle.starts_match.specs.pr_watch.Watches.{watch}
+use Rattle.starts_match.specs.pr_watch.declared.watch.Watch.{Watch}
+use Rattle.starts_match.specs.pr_watch.declared.watch.Watch.TheVariants.{Nobody}
 use Rattle.machines_agree.specs.Watching.{NobodyWatches}
 
 -- a machine that nobody watches

@@ -1,24 +1,27 @@
 -- What is begun over mounts and with a tracer is what both machines agree on.
 use Rattle.std.proofs.Common.{arith, ◌≡◌, ◌≤◌, ◌^◌, ℕ, true, false, List, Option, Some, None, Result, Ok, Err, refl, sym, ap, subst, ◌∙◌}
-use Rattle.pr_base.specs.declared.errno.Errno.{Errno}
-use Rattle.kr_calm.specs.Calm.{broken_at_start}
-use Rattle.kr_mounts.specs.Standing.{texts_of}
-use Rattle.kr_view.specs.View.{Row}
-use Rattle.kr_turns.specs.Turn.{Machine}
-use Rattle.pr_answer.specs.declared.answer.Answer.{Answer}
-use Rattle.pr_sources.specs.declared.reading.Asked.{Asked}
-use Rattle.pr_sources.specs.Within.{Stage, and_then}
-use Rattle.pr_words.specs.declared.options.Options.{Options}
-use Rattle.pr_top.specs.pr_start.Beginning.{beginning}
-use Rattle.pr_top.specs.pr_traced.TracedBeginning.{traced_beginning}
-use Rattle.pr_watch.specs.declared.watch.Watch.{Watch}
-use Rattle.pt_watched.specs.Watched.{Tracing}
+use Rattle.pr_top.specs.pr_base.declared.errno.Errno.{Errno}
+use Rattle.starts_match.specs.kr_calm.Calm.{broken_at_start}
+use Rattle.pr_top.specs.kr_mounts.Standing.{texts_of}
+use Rattle.pr_top.specs.kr_view.View.{Row}
+use Rattle.pt_bytes.specs.kr_turns.Turn.{Machine}
+use Rattle.pr_top.specs.pr_answer.declared.answer.Answer.{Answer}
+use Rattle.pr_top.specs.pr_run.Report.{report_of}
+use Rattle.pr_top.specs.pr_sources.declared.reading.Asked.{Asked}
+use Rattle.pr_top.specs.pr_sources.Within.{Stage, and_then}
+use Rattle.pr_top.specs.pr_words.declared.options.Options.{Options}
+use Rattle.starts_match.specs.pr_start.Beginning.{beginning}
+use Rattle.starts_match.specs.pr_traced.TracedBeginning.{traced_beginning}
+use Rattle.starts_match.specs.pr_watch.declared.watch.Watch.{Watch}
+use Rattle.pt_bytes.specs.pt_watched.Watched.{Tracing}
 use Rattle.starts_match.specs.Starts.{beginning_reach}
+use Rattle.starts_match.specs.turns_match.Runs.{ComeAlike}
 use Rattle.machines_agree.specs.Given.{CanBegin, settled_in}
 use Rattle.machines_agree.proofs.SourceLemmas.{told-has-options}
 use Rattle.machines_agree.proofs.GivenLemmas.{given-is-opening}
-use Rattle.machines_agree.specs.Agreeing.{CanBeTold, IsToldToo, MachinesAgree}
+use Rattle.machines_agree.specs.Agreeing.{CanBeTold, IsToldToo, MachinesAgree, mounted, traced as traced_run}
 use Rattle.machines_agree.specs.FakedAgreeing.{FakedMachinesAgree, IsToldFaked}
+use Rattle.machines_agree.proofs.ReportLemmas.{reports_are_alike}
 use Rattle.pr_top.specs.Opening.{Begun, Mounts, Traced, begun, begun_as, launch_of, opened_for, over, plan_of, started_as, watch_for}
 use Rattle.machines_agree.specs.Openings.{IsCalmStart, IsToldAlike, OpeningsAgree, RefusalsAgree, WordsBeginTraced, asked_on, over_mounts, with_tracer}
 
@@ -66,7 +69,6 @@ module _ (machines : MachinesAgree) (faked : FakedMachinesAgree) (a : Asked) (ta
     words = record { command = can.words.command; env = can.words.env; cwd = can.words.cwd };
     input_bytes = can.input;
     few = few_turns a.options.turns can.sound.turns;
-    quiet = quiet;
   }
 
   -- the walks of a start, whoever watches
@@ -82,15 +84,19 @@ module _ (machines : MachinesAgree) (faked : FakedMachinesAgree) (a : Asked) (ta
   abbrev traced : Result (Machine Tracing) Errno → Result Begun Answer
   traced r = begun_as (plan_of a) (started_as Traced r)
 
+  -- what is reported of runs that come to the same
+  reported : (m : Machine Watch) (n : Machine Tracing) → ComeAlike (mounted (plan_of a) table m) (traced_run (plan_of a) n) → report_of (plan_of a) (mounted (plan_of a) table m) ≡ report_of (plan_of a) (traced_run (plan_of a) n)
+  reported m n alike = reports_are_alike Watch Tracing (plan_of a) (mounted (plan_of a) table m) (traced_run (plan_of a) n) quiet alike
+
   -- without an identity
   nobody : a.options.ids ≡ None → (r : Result (Machine Watch) Errno) → IsToldToo (plan_of a) table (settled_in a).tree a.user (launch_of a) a.input r → IsToldAlike a table (begun_as (plan_of a) (started_as (Mounts table) r)) (traced (watched_start None))
-  nobody is (Ok m) agrees = λ calm. let both = agrees calm in (record { plan = plan_of a; started = Traced both.0 }, ap traced both.1, both.2)
+  nobody is (Ok m) agrees = λ calm. let both = agrees calm in (record { plan = plan_of a; started = Traced both.0 }, ap traced both.1, reported m both.0 both.2)
   nobody is (Err e) agrees = λ calm. ap traced (agrees (calm_as None is calm))
 
   -- and with one
   somebody : (ids : ℕ × ℕ) → a.options.ids ≡ Some ids → (r : Result (Machine Watch) Errno) → IsToldFaked (plan_of a) table (settled_in a).tree a.user ids.0 ids.1 (launch_of a) a.input r
       → IsToldAlike a table (begun_as (plan_of a) (started_as (Mounts table) r)) (traced (watched_start (Some ids)))
-  somebody ids is (Ok m) agrees = λ calm. let both = agrees calm in (record { plan = plan_of a; started = Traced both.0 }, ap traced both.1, both.2)
+  somebody ids is (Ok m) agrees = λ calm. let both = agrees calm in (record { plan = plan_of a; started = Traced both.0 }, ap traced both.1, reported m both.0 both.2)
   somebody ids is (Err e) agrees = λ calm. ap traced (agrees (calm_as (Some ids) is calm))
 
   either : (ids : Option (ℕ × ℕ)) → a.options.ids ≡ ids → IsToldAlike a table (begun_as (plan_of a) (started_as (Mounts table) (mounted_start ids))) (traced (watched_start ids))

@@ -2,10 +2,10 @@
 use Rattle.std.proofs.Common.{ℕ, ◌<◌, Bool, true, false, cond, List, [], ◌∷◌, reverse, sym, subst}
 use Rattle.std.specs.List.{AllByRecursion, onto_first, slice_split}
 use Rattle.std.proofs.lemmas.List.{reverse-append}
-use Rattle.pr_base.specs.Paths.{is_slash, not_empty}
-use Rattle.pr_base.specs.Texts.{Text}
-use Rattle.kr_tree.specs.Lawful.{AreBytes}
-use Rattle.kr_allowed.proofs.PieceLemmas.{all-append}
+use Rattle.pr_top.specs.pr_base.Paths.{is_slash, not_empty}
+use Rattle.pr_top.specs.pr_base.Texts.{Text}
+use Rattle.pr_top.specs.kr_tree.Lawful.{AreBytes}
+use Rattle.starts_match.proofs.kr_allowed.PieceLemmas.{all-append}
 
 abbrev pub AreBytesEach : Text → Type 0
 AreBytesEach pieces = AllByRecursion AreBytes pieces

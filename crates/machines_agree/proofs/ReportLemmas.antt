@@ -4,12 +4,12 @@ use Rattle.std.proofs.Common.{◌≡◌, ℕ, zero, suc, Bool, true, List, [], �
 use Rattle.std.specs.List.{flat_map}
 use Rattle.std.specs.Option.{option_map, option_map_or}
 use Rattle.std.specs.Ordering.{nat_cmp}
-use Rattle.kr_inode.specs.declared.user.User.{User}
-use Rattle.kr_text.specs.Canonical.{all_names, below, body_line, canonical, first_name, lines_after, names_under, owner_of, put_in_order, root_name, user_line}
-use Rattle.kr_tree.specs.Tree.{Inode, Node, Tree, entries, entries_of, inode, node, nodes}
-use Rattle.pr_base.specs.Maps.{mapped}
-use Rattle.pr_base.proofs.MapLemmas.{get-mapped, len-mapped, same_values}
-use Rattle.kr_tree.proofs.NodesLemmas.{get-with_values}
+use Rattle.pr_top.specs.kr_inode.declared.user.User.{User}
+use Rattle.pr_top.specs.kr_text.Canonical.{all_names, below, body_line, canonical, first_name, lines_after, names_under, owner_of, put_in_order, root_name, user_line}
+use Rattle.pr_top.specs.kr_tree.Tree.{Inode, Node, Tree, entries, entries_of, inode, node, nodes}
+use Rattle.pr_top.specs.pr_base.Maps.{mapped}
+use Rattle.pr_top.proofs.pr_base.MapLemmas.{get-mapped, len-mapped, same_values}
+use Rattle.pr_top.proofs.kr_tree.NodesLemmas.{get-with_values}
 use Rattle.pr_top.specs.pr_run.Report.{answer_of, calm_part}
 use Rattle.machines_agree.specs.Reports.{ListingsTellNodes, ReportsAreAlike}
 

@@ -1,9 +1,9 @@
 -- What is told of the sources has the options that the words ask for.
 use Rattle.std.proofs.Common.{◌≡◌, List, ℕ, Option, Some, None, Ok, Err, refl, sym, ap}
-use Rattle.pr_words.specs.declared.options.Options.{Options}
-use Rattle.pr_sources.specs.Reading.{asks, told_asked, told_input, told_listing, with_input}
-use Rattle.pr_sources.specs.Within.{Stage, and_then}
-use Rattle.pr_sources.specs.declared.reading.Asked.{Asked}
+use Rattle.pr_top.specs.pr_words.declared.options.Options.{Options}
+use Rattle.pr_top.specs.pr_sources.Reading.{asks, told_asked, told_input, told_listing, with_input}
+use Rattle.pr_top.specs.pr_sources.Within.{Stage, and_then}
+use Rattle.pr_top.specs.pr_sources.declared.reading.Asked.{Asked}
 
 -- a stage that is told, by those before it
 and-then : {A B : Type 0} (s : Stage A) (go : A → Stage B) (y : B) → and_then s go ≡ Some (Ok y) → (x : A) × (s ≡ Some (Ok x)) × (go x ≡ Some (Ok y))

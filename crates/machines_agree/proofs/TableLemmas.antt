@@ -2,19 +2,19 @@
 use Rattle.std.proofs.Common.{◌≡◌, ℕ, zero, suc, false, true, List, [], ◌∷◌, Option, Some, None, refl, sym, ap, subst, ◌∙◌}
 use Rattle.std.specs.List.{AllByRecursion}
 use Rattle.std.specs.Option.{option_and_then}
-use Rattle.pr_base.specs.MountText.{MountText}
-use Rattle.pr_base.specs.Texts.{Text}
-use Rattle.pt_bind.specs.Binding.{host_of, located}
-use Rattle.kr_tree.specs.Lawful.{AreBytes, HasBytes as TreeHasBytes}
-use Rattle.kr_tree.specs.Names.{named}
-use Rattle.kr_tree.specs.Tree.{Tree, entry}
-use Rattle.kr_view.specs.Component.{Namespace}
-use Rattle.kr_view.specs.View.{Point, Row, is_there, row}
-use Rattle.kr_mounts.specs.Standing.{texts_of}
-use Rattle.walks_agree.specs.Settled.{IsSettled}
-use Rattle.walks_agree.proofs.TableLemmas.{host_none, mount_below, source_named}
-use Rattle.kr_bytes.specs.Bytes.{AreAllBytes, TableHasBytes}
-use Rattle.kr_bytes.proofs.StartLemmas.{entry-named}
+use Rattle.pr_top.specs.pr_base.MountText.{MountText}
+use Rattle.pr_top.specs.pr_base.Texts.{Text}
+use Rattle.starts_match.specs.pt_bind.Binding.{host_of, located}
+use Rattle.pr_top.specs.kr_tree.Lawful.{AreBytes, HasBytes as TreeHasBytes}
+use Rattle.pr_top.specs.kr_tree.Names.{named}
+use Rattle.pr_top.specs.kr_tree.Tree.{Tree, entry}
+use Rattle.pr_top.specs.kr_view.Component.{Namespace}
+use Rattle.pr_top.specs.kr_view.View.{Point, Row, is_there, row}
+use Rattle.pr_top.specs.kr_mounts.Standing.{texts_of}
+use Rattle.starts_match.specs.walks_agree.Settled.{IsSettled}
+use Rattle.starts_match.proofs.walks_agree.TableLemmas.{host_none, mount_below, source_named}
+use Rattle.pt_bytes.specs.kr_bytes.Bytes.{AreAllBytes, TableHasBytes}
+use Rattle.pt_bytes.proofs.kr_bytes.StartLemmas.{entry-named}
 use Rattle.pt_bytes.proofs.TextLemmas.{IsByteRow, rows-pass}
 use Rattle.starts_match.specs.Spaces.{first_space}
 use Rattle.machines_agree.specs.Tables.{OpeningsAreMadeOfBytes}

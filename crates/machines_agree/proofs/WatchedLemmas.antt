@@ -1,22 +1,22 @@
 -- A machine that begins is watched by whom it was given.
 use Rattle.std.proofs.Common.{◌≡◌, ℕ, List, Option, Some, None, sym, ap}
 use Rattle.std.specs.Prelude.{Result, Ok, Err}
-use Rattle.pr_base.specs.declared.errno.Errno.{Errno}
-use Rattle.pr_command.specs.Command.{word_of}
-use Rattle.pr_command.specs.declared.launch.Launch.{Launch}
-use Rattle.kr_first.specs.Starting.{start_of, start_reach}
-use Rattle.kr_first.specs.declared.starting.First.{First}
-use Rattle.kr_inode.specs.declared.user.User.{User}
-use Rattle.kr_model.specs.State.{Image, State}
-use Rattle.kr_model.specs.Walks.{and_then}
-use Rattle.kr_tree.specs.Tree.{Tree}
-use Rattle.kr_turns.specs.Turn.{Machine}
-use Rattle.kr_view.specs.View.{Row}
-use Rattle.kr_view.specs.declared.target.Reach.{Reach}
-use Rattle.pr_top.specs.pr_start.Beginning.{beginning, begun, begun_at, first_of, fresh, nowhere}
-use Rattle.pr_top.specs.pr_start.Command.{chosen}
-use Rattle.pr_top.specs.pr_start.Directory.{At, directory_reach, working_directory}
-use Rattle.pr_watch.specs.declared.watch.Watch.{Watch}
+use Rattle.pr_top.specs.pr_base.declared.errno.Errno.{Errno}
+use Rattle.pr_top.specs.pr_command.Command.{word_of}
+use Rattle.pr_top.specs.pr_command.declared.launch.Launch.{Launch}
+use Rattle.starts_match.specs.kr_first.Starting.{start_of, start_reach}
+use Rattle.starts_match.specs.kr_first.declared.starting.First.{First}
+use Rattle.pr_top.specs.kr_inode.declared.user.User.{User}
+use Rattle.starts_match.specs.kr_model.State.{Image, State}
+use Rattle.starts_match.specs.kr_model.Walks.{and_then}
+use Rattle.pr_top.specs.kr_tree.Tree.{Tree}
+use Rattle.pt_bytes.specs.kr_turns.Turn.{Machine}
+use Rattle.pr_top.specs.kr_view.View.{Row}
+use Rattle.pr_top.specs.kr_view.declared.target.Reach.{Reach}
+use Rattle.starts_match.specs.pr_start.Beginning.{beginning, begun, begun_at, first_of, fresh, nowhere}
+use Rattle.starts_match.specs.pr_start.Command.{chosen}
+use Rattle.starts_match.specs.pr_start.Directory.{At, directory_reach, working_directory}
+use Rattle.starts_match.specs.pr_watch.declared.watch.Watch.{Watch}
 
 module _ (table : List Row) (tree : Tree) (user : User) (watcher : Watch) (launch : Launch) (input : List ℕ) (m : Machine Watch) where
   begun_watched : (first : First) → begun table tree user watcher first input ≡ Ok m → m.watcher ≡ watcher

@@ -5,23 +5,23 @@ use Rattle.std.specs.Bool.{if◌then◌else◌}
 use Rattle.std.specs.List.{AllByRecursion, ends_with, position, starts_with}
 use Rattle.std.specs.Option.{ok_or, option_map}
 use Rattle.std.proofs.lemmas.List.{length-drop}
-use Rattle.pr_words.specs.declared.fault.Why.{Why}
-use Rattle.pr_words.specs.declared.fault.Why.TheVariants.{BadEnv, BadNumber, BadBind, BadSchedule, BadId, CalmAlone, CaseAlone, ZeroByte}
-use Rattle.pr_words.specs.declared.fault.WordsFault.{WordsFault}
-use Rattle.pr_words.specs.declared.options.Options.{Options}
-use Rattle.pr_words.specs.Spelling.{by_name, cut_at, flag_named, long_named, own_value, renamed, second_or_none, short_named, spelled_or, spelling_of}
-use Rattle.pr_words.specs.Values.{Binding, binding_of, case_of, ids_of, is_variable, parts_of, schedule_of, turns_of, variable_name, without_mark}
-use Rattle.pr_words.specs.Variables.{same_name, with_variable}
-use Rattle.pr_words.specs.Reading.{accepted, broken_at, has_zero, line_of, or_twice, reading_of, setting_of}
-use Rattle.pr_words.specs.Steps.{Front, added, calm_alone_in, case_alone_in, finished, front_by, front_of, is_again_in, next_value, options_in, so_far_of, step_of, with_front, with_setting}
-use Rattle.pr_words.proofs.ReadLemmas.{Reached, reached_command, reached_end, reached_fault, reached_first, reached_more}
-use Rattle.pr_words.proofs.SoundLemmas.{answer_is_sound}
-use Rattle.kr_tree.specs.Lawful.{AreBytes}
-use Rattle.kr_bytes.specs.Bytes.{AreAllBytes}
-use Rattle.kr_bytes.proofs.ListLemmas.{all-drop, bytes-tested, first-of, rest-of}
-use Rattle.kr_allowed.proofs.PieceLemmas.{all-append}
-use Rattle.kr_listed.proofs.FieldLemmas.{FirstOf}
-use Rattle.pr_sources.specs.Asking.{asked_of}
+use Rattle.pr_top.specs.pr_words.declared.fault.Why.{Why}
+use Rattle.pr_top.specs.pr_words.declared.fault.Why.TheVariants.{BadEnv, BadNumber, BadBind, BadSchedule, BadId, CalmAlone, CaseAlone, ZeroByte}
+use Rattle.pr_top.specs.pr_words.declared.fault.WordsFault.{WordsFault}
+use Rattle.pr_top.specs.pr_words.declared.options.Options.{Options}
+use Rattle.pr_top.specs.pr_words.Spelling.{by_name, cut_at, flag_named, long_named, own_value, renamed, second_or_none, short_named, spelled_or, spelling_of}
+use Rattle.pr_top.specs.pr_words.Values.{Binding, binding_of, case_of, ids_of, is_variable, parts_of, schedule_of, turns_of, variable_name, without_mark}
+use Rattle.pr_top.specs.pr_words.Variables.{same_name, with_variable}
+use Rattle.pr_top.specs.pr_words.Reading.{accepted, broken_at, has_zero, line_of, or_twice, reading_of, setting_of}
+use Rattle.pr_top.specs.pr_words.Steps.{Front, added, calm_alone_in, case_alone_in, finished, front_by, front_of, is_again_in, next_value, options_in, so_far_of, step_of, with_front, with_setting}
+use Rattle.pr_top.proofs.pr_words.ReadLemmas.{Reached, reached_command, reached_end, reached_fault, reached_first, reached_more}
+use Rattle.pr_top.proofs.pr_words.SoundLemmas.{answer_is_sound}
+use Rattle.pr_top.specs.kr_tree.Lawful.{AreBytes}
+use Rattle.pt_bytes.specs.kr_bytes.Bytes.{AreAllBytes}
+use Rattle.pt_bytes.proofs.kr_bytes.ListLemmas.{all-drop, bytes-tested, first-of, rest-of}
+use Rattle.starts_match.proofs.kr_allowed.PieceLemmas.{all-append}
+use Rattle.starts_match.proofs.kr_listed.FieldLemmas.{FirstOf}
+use Rattle.pr_top.specs.pr_sources.Asking.{asked_of}
 use Rattle.machines_agree.specs.Asking.{AreOfBytes, AskedAreSound, AskedAreOfBytes, IsOfByteParts}
 
 -- ---- values

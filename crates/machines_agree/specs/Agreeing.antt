@@ -1,26 +1,26 @@
--- Both machines on the same words: of the run of a plain kernel with a tracer the same is put as of that of a kernel with mounts.
-use Rattle.std.specs.Prelude.{◌≡◌, ◌≤◌, ◌^◌, ℕ, false, List, None, Result, Ok, Err}
-use Rattle.pr_base.specs.declared.errno.Errno.{Errno}
-use Rattle.pr_command.specs.declared.launch.Launch.{Launch}
-use Rattle.kr_calm.specs.Calm.{broken_at_start}
-use Rattle.kr_inode.specs.declared.user.User.{User}
-use Rattle.kr_mounts.specs.Standing.{texts_of}
-use Rattle.kr_tree.specs.Lawful.{AreBytes}
-use Rattle.kr_tree.specs.Tree.{Tree}
-use Rattle.kr_turns.specs.Run.{Ran, run}
-use Rattle.kr_turns.specs.Turn.{Machine}
-use Rattle.kr_view.specs.View.{Row, plain}
-use Rattle.pr_top.specs.pr_run.Report.{report_of}
+-- Both machines on the same words: the run of a plain kernel with a tracer comes to what that of a kernel with mounts comes to.
+use Rattle.std.specs.Prelude.{◌≡◌, ◌≤◌, ◌^◌, ℕ, List, None, Result, Ok, Err}
+use Rattle.pr_top.specs.pr_base.declared.errno.Errno.{Errno}
+use Rattle.pr_top.specs.pr_command.declared.launch.Launch.{Launch}
+use Rattle.starts_match.specs.kr_calm.Calm.{broken_at_start}
+use Rattle.pr_top.specs.kr_inode.declared.user.User.{User}
+use Rattle.pr_top.specs.kr_mounts.Standing.{texts_of}
+use Rattle.pr_top.specs.kr_tree.Lawful.{AreBytes}
+use Rattle.pr_top.specs.kr_tree.Tree.{Tree}
+use Rattle.pt_bytes.specs.kr_turns.Run.{Ran, run}
+use Rattle.pt_bytes.specs.kr_turns.Turn.{Machine}
+use Rattle.pr_top.specs.kr_view.View.{Row, plain}
 use Rattle.pr_top.specs.pr_run.Slots.{slot_of}
 use Rattle.pr_top.specs.pr_run.declared.plan.Plan.{Plan}
-use Rattle.pr_top.specs.pr_start.Beginning.{beginning}
-use Rattle.pr_top.specs.pr_traced.TracedBeginning.{traced_beginning}
-use Rattle.pr_watch.specs.Watches.{watch}
-use Rattle.pr_watch.specs.declared.watch.Watch.{Watch}
-use Rattle.pr_watch.specs.declared.watch.Watch.TheVariants.{Nobody}
-use Rattle.pt_watched.specs.Watched.{Tracing, tracer}
+use Rattle.starts_match.specs.pr_start.Beginning.{beginning}
+use Rattle.starts_match.specs.pr_traced.TracedBeginning.{traced_beginning}
+use Rattle.starts_match.specs.pr_watch.Watches.{watch}
+use Rattle.starts_match.specs.pr_watch.declared.watch.Watch.{Watch}
+use Rattle.starts_match.specs.pr_watch.declared.watch.Watch.TheVariants.{Nobody}
+use Rattle.pt_bytes.specs.pt_watched.Watched.{Tracing, tracer}
 use Rattle.starts_match.specs.FirstStates.{IsOpening}
 use Rattle.starts_match.specs.Starts.{beginning_reach}
+use Rattle.starts_match.specs.turns_match.Runs.{ComeAlike}
 use Rattle.machines_agree.specs.Starts.{IsOfByteWords}
 
 -- ---- runs over mounts
@@ -41,9 +41,10 @@ module _ (plan : Plan) (table : List Row) (tree : Tree) (user : User) (launch : 
   abbrev pub watched_start : Result (Machine Tracing) Errno
   watched_start = traced_beginning (texts_of table) tree user None launch input
 
-  -- a calm run is told, or the error of a start whose walks are calm
+  -- what a calm run comes to, all of it: the bytes of each turn, how it ended, the status, also where it is stuck or its turns are spent, and the
+  -- nodes of the tree by their numbers, with serials; or the error of a start whose walks are calm
   abbrev pub IsToldToo : Result (Machine Watch) Errno → Type 0
-  IsToldToo (Ok m) = IsCalm plan table m → (n : Machine Tracing) × (watched_start ≡ Ok n) × (report_of plan (mounted plan table m) ≡ report_of plan (traced plan n))
+  IsToldToo (Ok m) = IsCalm plan table m → (n : Machine Tracing) × (watched_start ≡ Ok n) × ComeAlike (mounted plan table m) (traced plan n)
   IsToldToo (Err e) = broken_at_start (beginning_reach table tree user Nobody launch) ≡ None → watched_start ≡ Err e
 
 -- what a run and its words rest on
@@ -52,7 +53,6 @@ pub record CanBeTold (plan : Plan) (table : List Row) (tree : Tree) (user : User
   pub words : IsOfByteWords launch
   pub input_bytes : AreBytes input
   pub few : plan.turns ≤ 2 ^ 31
-  pub quiet : plan.calm ≡ false
 
 -- so what a tracer does is what mounts do
 abbrev pub MachinesAgree : Type 0

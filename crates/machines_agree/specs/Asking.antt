@@ -1,12 +1,12 @@
 -- What words of bytes ask for.
 use Rattle.std.specs.Prelude.{◌≡◌, ℕ, List, Ok}
 use Rattle.std.specs.List.{AllByRecursion}
-use Rattle.pr_base.specs.declared.bind.Bind.{Bind}
-use Rattle.kr_tree.specs.Lawful.{AreBytes}
-use Rattle.kr_bytes.specs.Bytes.{AreAllBytes}
-use Rattle.pr_words.specs.Sound.{AreSound}
-use Rattle.pr_words.specs.declared.options.Options.{Options}
-use Rattle.pr_sources.specs.Asking.{asked}
+use Rattle.pr_top.specs.pr_base.declared.bind.Bind.{Bind}
+use Rattle.pr_top.specs.kr_tree.Lawful.{AreBytes}
+use Rattle.pt_bytes.specs.kr_bytes.Bytes.{AreAllBytes}
+use Rattle.pr_top.specs.pr_words.Sound.{AreSound}
+use Rattle.pr_top.specs.pr_words.declared.options.Options.{Options}
+use Rattle.pr_top.specs.pr_sources.Asking.{asked}
 
 pub record IsOfByteParts (b : Bind) : Type 0 where
   pub host : AreBytes b.host

@@ -1,23 +1,23 @@
--- Both machines on the same words, where processes are told an identity: of the run of a plain kernel with a tracer the same is put as of
--- that of a kernel with mounts and the watcher of identities.
+-- Both machines on the same words, where processes are told an identity: the run of a plain kernel with a tracer comes to what that of a kernel
+-- with mounts and the watcher of identities comes to.
 use Rattle.std.specs.Prelude.{◌≡◌, ℕ, List, None, Some, Result, Ok, Err}
-use Rattle.pr_base.specs.declared.errno.Errno.{Errno}
-use Rattle.pr_command.specs.declared.launch.Launch.{Launch}
-use Rattle.kr_calm.specs.Calm.{broken_at_start}
-use Rattle.kr_inode.specs.declared.user.User.{User}
-use Rattle.kr_mounts.specs.Standing.{texts_of}
-use Rattle.kr_tree.specs.Tree.{Tree}
-use Rattle.kr_turns.specs.Turn.{Machine}
-use Rattle.kr_view.specs.View.{Row}
-use Rattle.pr_top.specs.pr_run.Report.{report_of}
+use Rattle.pr_top.specs.pr_base.declared.errno.Errno.{Errno}
+use Rattle.pr_top.specs.pr_command.declared.launch.Launch.{Launch}
+use Rattle.starts_match.specs.kr_calm.Calm.{broken_at_start}
+use Rattle.pr_top.specs.kr_inode.declared.user.User.{User}
+use Rattle.pr_top.specs.kr_mounts.Standing.{texts_of}
+use Rattle.pr_top.specs.kr_tree.Tree.{Tree}
+use Rattle.pt_bytes.specs.kr_turns.Turn.{Machine}
+use Rattle.pr_top.specs.kr_view.View.{Row}
 use Rattle.pr_top.specs.pr_run.declared.plan.Plan.{Plan}
-use Rattle.pr_top.specs.pr_start.Beginning.{beginning}
-use Rattle.pr_top.specs.pr_traced.TracedBeginning.{traced_beginning}
-use Rattle.pr_watch.specs.declared.watch.Watch.{Watch}
-use Rattle.pr_watch.specs.declared.watch.Watch.TheVariants.{Faked}
-use Rattle.pt_tracer.specs.Faking.{starting_faking}
-use Rattle.pt_watched.specs.Watched.{Tracing}
+use Rattle.starts_match.specs.pr_start.Beginning.{beginning}
+use Rattle.starts_match.specs.pr_traced.TracedBeginning.{traced_beginning}
+use Rattle.starts_match.specs.pr_watch.declared.watch.Watch.{Watch}
+use Rattle.starts_match.specs.pr_watch.declared.watch.Watch.TheVariants.{Faked}
+use Rattle.pt_bytes.specs.pt_tracer.Faking.{starting_faking}
+use Rattle.pt_bytes.specs.pt_watched.Watched.{Tracing}
 use Rattle.starts_match.specs.Starts.{beginning_reach}
+use Rattle.starts_match.specs.turns_match.Runs.{ComeAlike}
 use Rattle.machines_agree.specs.Agreeing.{CanBeTold, IsCalm, mounted, traced}
 
 -- ---- both
@@ -30,9 +30,9 @@ module _ (plan : Plan) (table : List Row) (tree : Tree) (user : User) (uid gid :
   abbrev pub faked_start : Result (Machine Tracing) Errno
   faked_start = traced_beginning (texts_of table) tree user (Some (uid, gid)) launch input
 
-  -- a calm run is told, or the error of a start whose walks are calm
+  -- what a calm run comes to, all of it, or the error of a start whose walks are calm
   abbrev pub IsToldFaked : Result (Machine Watch) Errno → Type 0
-  IsToldFaked (Ok m) = IsCalm plan table m → (n : Machine Tracing) × (faked_start ≡ Ok n) × (report_of plan (mounted plan table m) ≡ report_of plan (traced plan n))
+  IsToldFaked (Ok m) = IsCalm plan table m → (n : Machine Tracing) × (faked_start ≡ Ok n) × ComeAlike (mounted plan table m) (traced plan n)
   IsToldFaked (Err e) = broken_at_start (beginning_reach table tree user faker_of launch) ≡ None → faked_start ≡ Err e
 
 -- so what a tracer does with an identity is what mounts and a watcher of identities do

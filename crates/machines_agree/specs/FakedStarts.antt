@@ -1,26 +1,26 @@
 -- What a start gives that is told on both machines, where processes are told an identity: all that such runs rest on.
 use Rattle.std.specs.Prelude.{◌≡◌, ℕ, List, None, Some, Result, Ok, Err}
-use Rattle.pr_base.specs.declared.errno.Errno.{Errno}
-use Rattle.pr_command.specs.declared.launch.Launch.{Launch}
-use Rattle.kr_calm.specs.Calm.{broken_at_start}
-use Rattle.kr_inode.specs.declared.user.User.{User}
-use Rattle.kr_mounts.specs.Standing.{texts_of}
-use Rattle.kr_tree.specs.Lawful.{AreBytes}
-use Rattle.kr_tree.specs.Tree.{Tree}
-use Rattle.kr_turns.specs.Turn.{Machine}
-use Rattle.kr_view.specs.View.{Row}
-use Rattle.pr_top.specs.pr_start.Beginning.{beginning}
-use Rattle.pr_top.specs.pr_traced.TracedBeginning.{traced_beginning}
-use Rattle.pr_watch.specs.declared.watch.Watch.{Watch}
-use Rattle.pr_watch.specs.declared.watch.Watch.TheVariants.{Faked}
+use Rattle.pr_top.specs.pr_base.declared.errno.Errno.{Errno}
+use Rattle.pr_top.specs.pr_command.declared.launch.Launch.{Launch}
+use Rattle.starts_match.specs.kr_calm.Calm.{broken_at_start}
+use Rattle.pr_top.specs.kr_inode.declared.user.User.{User}
+use Rattle.pr_top.specs.kr_mounts.Standing.{texts_of}
+use Rattle.pr_top.specs.kr_tree.Lawful.{AreBytes}
+use Rattle.pr_top.specs.kr_tree.Tree.{Tree}
+use Rattle.pt_bytes.specs.kr_turns.Turn.{Machine}
+use Rattle.pr_top.specs.kr_view.View.{Row}
+use Rattle.starts_match.specs.pr_start.Beginning.{beginning}
+use Rattle.starts_match.specs.pr_traced.TracedBeginning.{traced_beginning}
+use Rattle.starts_match.specs.pr_watch.declared.watch.Watch.{Watch}
+use Rattle.starts_match.specs.pr_watch.declared.watch.Watch.TheVariants.{Faked}
 use Rattle.pt_bytes.specs.Watchers.{anything, goes_by_bytes}
-use Rattle.pt_tracer.specs.Faking.{Faking, starting_faking}
-use Rattle.pt_watched.specs.Watched.{Tracing}
+use Rattle.pt_bytes.specs.pt_tracer.Faking.{Faking, starting_faking}
+use Rattle.pt_bytes.specs.pt_watched.Watched.{Tracing}
 use Rattle.starts_match.specs.FirstStates.{IsOpening}
 use Rattle.starts_match.specs.Starts.{beginning_reach}
-use Rattle.execves_together.specs.stops_match.Turning.{tags_kept}
+use Rattle.paths_together.specs.stops_match.Turning.{tags_kept}
 use Rattle.starts_match.specs.turns_match.Runs.{GoTogether, KeepOn}
-use Rattle.execves_together.specs.stops_match.Runs.{CanRunFaked, faked_by, traced_by}
+use Rattle.paths_together.specs.stops_match.Runs.{CanRunFaked, faked_by, traced_by}
 use Rattle.machines_agree.specs.Starts.{IsOfByteWords}
 
 -- a machine with the watcher of identities alone in place of whoever watches

@@ -1,14 +1,14 @@
 -- What a run is given by its words and its sources is what both machines can begin on.
 use Rattle.std.specs.Prelude.{◌≡◌, ℕ, List, Option, Some, Ok}
-use Rattle.kr_tree.specs.Lawful.{AreBytes}
-use Rattle.kr_view.specs.View.{Row}
-use Rattle.kr_mounts.specs.MountTable.{Settling, settling}
-use Rattle.kr_bytes.specs.Bytes.{AreAllBytes}
-use Rattle.pr_words.specs.Sound.{AreSound}
-use Rattle.pr_words.specs.declared.options.Options.{Options}
-use Rattle.pr_sources.specs.Asking.{asked}
-use Rattle.pr_sources.specs.Reading.{IsRead, told_asked}
-use Rattle.pr_sources.specs.declared.reading.Asked.{Asked}
+use Rattle.pr_top.specs.kr_tree.Lawful.{AreBytes}
+use Rattle.pr_top.specs.kr_view.View.{Row}
+use Rattle.pr_top.specs.kr_mounts.MountTable.{Settling, settling}
+use Rattle.pt_bytes.specs.kr_bytes.Bytes.{AreAllBytes}
+use Rattle.pr_top.specs.pr_words.Sound.{AreSound}
+use Rattle.pr_top.specs.pr_words.declared.options.Options.{Options}
+use Rattle.pr_top.specs.pr_sources.Asking.{asked}
+use Rattle.pr_top.specs.pr_sources.Reading.{IsRead, told_asked}
+use Rattle.pr_top.specs.pr_sources.declared.reading.Asked.{Asked}
 use Rattle.starts_match.specs.FirstStates.{IsOpening}
 use Rattle.machines_agree.specs.Asking.{AreOfBytes}
 

@@ -1,14 +1,14 @@
 -- What both machines begin on, of a listing and of bindings.
 use Rattle.std.specs.Prelude.{◌≡◌, ℕ, List, Ok}
 use Rattle.std.specs.List.{AllByRecursion}
-use Rattle.pr_base.specs.declared.bind.Bind.{Bind}
-use Rattle.kr_inode.specs.declared.user.User.{User}
-use Rattle.kr_tree.specs.Lawful.{HasBytes, IsKept}
-use Rattle.kr_tree.specs.Tree.{Tree}
-use Rattle.kr_view.specs.View.{Row}
-use Rattle.kr_mounts.specs.Bounds.{AreNumbered}
-use Rattle.kr_mounts.specs.MountTable.{settling}
-use Rattle.kr_stage.specs.Ready.{IsOfListing}
+use Rattle.pr_top.specs.pr_base.declared.bind.Bind.{Bind}
+use Rattle.pr_top.specs.kr_inode.declared.user.User.{User}
+use Rattle.pr_top.specs.kr_tree.Lawful.{HasBytes, IsKept}
+use Rattle.pr_top.specs.kr_tree.Tree.{Tree}
+use Rattle.pr_top.specs.kr_view.View.{Row}
+use Rattle.pr_top.specs.kr_mounts.Bounds.{AreNumbered}
+use Rattle.pr_top.specs.kr_mounts.MountTable.{settling}
+use Rattle.starts_match.specs.kr_stage.Ready.{IsOfListing}
 use Rattle.starts_match.specs.FirstStates.{IsOpening}
 use Rattle.machines_agree.specs.Asking.{IsOfByteParts}
 

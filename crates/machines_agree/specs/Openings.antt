@@ -1,14 +1,14 @@
 -- The same words and sources on both machines: what they begin with a tracer is told as what they begin over mounts.
 use Rattle.std.specs.Prelude.{◌≡◌, ℕ, Bool, true, false, List, Option, Some, None, Result, Ok, Err}
-use Rattle.kr_calm.specs.Calm.{broken_at_start}
-use Rattle.kr_mounts.specs.MountTable.{Refusal}
-use Rattle.kr_view.specs.View.{Row}
-use Rattle.pr_answer.specs.declared.answer.Answer.{Answer}
+use Rattle.starts_match.specs.kr_calm.Calm.{broken_at_start}
+use Rattle.pr_top.specs.kr_mounts.MountTable.{Refusal}
+use Rattle.pr_top.specs.kr_view.View.{Row}
+use Rattle.pr_top.specs.pr_answer.declared.answer.Answer.{Answer}
 use Rattle.pr_top.specs.pr_run.declared.plan.Plan.{Plan}
-use Rattle.pr_sources.specs.Asking.{asked}
-use Rattle.pr_sources.specs.Reading.{told_asked}
-use Rattle.pr_sources.specs.declared.reading.Asked.{Asked}
-use Rattle.pr_words.specs.declared.options.Options.{Options}
+use Rattle.pr_top.specs.pr_sources.Asking.{asked}
+use Rattle.pr_top.specs.pr_sources.Reading.{told_asked}
+use Rattle.pr_top.specs.pr_sources.declared.reading.Asked.{Asked}
+use Rattle.pr_top.specs.pr_words.declared.options.Options.{Options}
 use Rattle.starts_match.specs.Starts.{beginning_reach}
 use Rattle.machines_agree.specs.Given.{AreGiven, settled_in}
 use Rattle.machines_agree.specs.Agreeing.{IsCalm}

@@ -1,9 +1,9 @@
 -- What is put of two runs that come to the same.
 use Rattle.std.specs.Prelude.{◌≡◌, false}
-use Rattle.kr_inode.specs.declared.user.User.{User}
-use Rattle.kr_text.specs.Canonical.{canonical}
-use Rattle.kr_tree.specs.Tree.{Tree, nodes}
-use Rattle.kr_turns.specs.Run.{Ran}
+use Rattle.pr_top.specs.kr_inode.declared.user.User.{User}
+use Rattle.pr_top.specs.kr_text.Canonical.{canonical}
+use Rattle.pr_top.specs.kr_tree.Tree.{Tree, nodes}
+use Rattle.pt_bytes.specs.kr_turns.Run.{Ran}
 use Rattle.pr_top.specs.pr_run.Report.{report_of}
 use Rattle.pr_top.specs.pr_run.declared.plan.Plan.{Plan}
 use Rattle.starts_match.specs.turns_match.Runs.{ComeAlike}

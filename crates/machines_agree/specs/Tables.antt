@@ -1,11 +1,11 @@
 -- Mounts on which a start can begin are made of bytes, and so are the texts that a tracer goes by.
 use Rattle.std.specs.Prelude.{◌≡◌, true, List}
 use Rattle.std.specs.List.{list_all}
-use Rattle.kr_inode.specs.declared.user.User.{User}
-use Rattle.kr_tree.specs.Tree.{Tree}
-use Rattle.kr_view.specs.View.{Row}
-use Rattle.kr_mounts.specs.Standing.{texts_of}
-use Rattle.kr_bytes.specs.Bytes.{TableHasBytes}
+use Rattle.pr_top.specs.kr_inode.declared.user.User.{User}
+use Rattle.pr_top.specs.kr_tree.Tree.{Tree}
+use Rattle.pr_top.specs.kr_view.View.{Row}
+use Rattle.pr_top.specs.kr_mounts.Standing.{texts_of}
+use Rattle.pt_bytes.specs.kr_bytes.Bytes.{TableHasBytes}
 use Rattle.pt_bytes.specs.Watchers.{is_byte_row}
 use Rattle.starts_match.specs.FirstStates.{IsOpening}
 

@@ -1,13 +1,13 @@
 -- Runs that nobody watches, where a watcher of identities could, and runs that it watches.
 use Rattle.std.specs.Prelude.{◌≡◌, ℕ, List}
-use Rattle.kr_view.specs.View.{Row}
-use Rattle.kr_turns.specs.Run.{Ran, Slot, run}
-use Rattle.kr_turns.specs.Turn.{Machine}
-use Rattle.kr_turns.specs.Watching.{unwatched}
-use Rattle.pr_watch.specs.Watches.{watch}
-use Rattle.pr_watch.specs.declared.watch.Watch.{Watch}
-use Rattle.pr_watch.specs.declared.watch.Watch.TheVariants.{Faked, Nobody}
-use Rattle.pt_tracer.specs.Faking.{Faking, faker}
+use Rattle.pr_top.specs.kr_view.View.{Row}
+use Rattle.pt_bytes.specs.kr_turns.Run.{Ran, Slot, run}
+use Rattle.pt_bytes.specs.kr_turns.Turn.{Machine}
+use Rattle.pt_bytes.specs.kr_turns.Watching.{unwatched}
+use Rattle.starts_match.specs.pr_watch.Watches.{watch}
+use Rattle.starts_match.specs.pr_watch.declared.watch.Watch.{Watch}
+use Rattle.starts_match.specs.pr_watch.declared.watch.Watch.TheVariants.{Faked, Nobody}
+use Rattle.pt_bytes.specs.pt_tracer.Faking.{Faking, faker}
 use Rattle.machines_agree.specs.FakedStarts.{with_faking}
 
 -- without one it is the run that is watched by none

@@ -2,6 +2,7 @@
 ghost use Rattle.machines_agree.specs.Agreeing.{MachinesAgree};
 ghost use Rattle.machines_agree.specs.FakedAgreeing.{FakedMachinesAgree};
 ghost use Rattle.machines_agree.specs.Reports.{ListingsTellNodes, ReportsAreAlike};
+ghost use Rattle.machines_agree.specs.Turns.{WholeTurnsGoTogether};
 ghost use Rattle.machines_agree.specs.Watching.{FakersWatch, NobodyWatches};
 
 use pt_args::laws as shelves;
@@ -26,8 +27,18 @@ pub fn reports_are_alike<S, T>()
     ensures { ReportsAreAlike S T }
 {}
 
-/// Of a calm run on a kernel with mounts, without an identity, the same is put as of the run of a plain kernel with a tracer
-/// on the same words; and where a start whose walks are calm is refused, so is the other one, with the same error.
+/// A turn of a machine with mounts that breaks no calm rule, and that of the plain one with its tracer, leave both together as they
+/// were: without an identity, and with one.
+pub fn whole_turns_go_together<S>()
+    ensures { WholeTurnsGoTogether S }
+{
+    shelves::texts_are_read_back();
+    shelves::shelves_hold_their_items();
+}
+
+/// A calm run on a kernel with mounts, without an identity, and the run of a plain kernel with a tracer on the same words come to the
+/// same: what each turn puts, the end, the status, and the nodes of the tree; and where a start whose walks are calm is refused, so is
+/// the other one, with the same error.
 pub fn machines_agree()
     ensures { MachinesAgree }
 {
@@ -35,8 +46,8 @@ pub fn machines_agree()
     shelves::shelves_hold_their_items();
 }
 
-/// The same where processes are told an identity: of a calm run on a kernel with mounts, with the watcher of identities, the
-/// same is put as of the run of a plain kernel with a tracer that tells the same one.
+/// The same where processes are told an identity: a calm run on a kernel with mounts, with the watcher of identities, and the run of a
+/// plain kernel with a tracer that tells the same one come to the same.
 pub fn faked_machines_agree()
     ensures { FakedMachinesAgree }
 {

@@ -73,19 +73,16 @@ fn name<T: Copy, const M: u8>(
     }
 }
 
+// The console takes bytes; then nodes are made and changed in another state.
 #[test]
-fn the_console_gives_and_takes(rt: HostRuntime) -> Result<(), Fail> {
+fn the_console_and_the_tree_change(rt: HostRuntime) -> Result<(), Fail> {
     let mut state: State<u32, 0> = fresh(rt.alloc())?;
     assert!(rt; state.write_out(b"ab").is_ok());
     assert!(rt; state.write_out(b"c").is_ok());
     assert!(rt; state.write_err(b"de").is_ok());
     assert!(rt; state.out.as_slice() == b"abc".as_slice());
     assert!(rt; state.err.as_slice() == b"de".as_slice());
-    Ok(())
-}
 
-#[test]
-fn nodes_are_made_and_changed(rt: HostRuntime) -> Result<(), Fail> {
     let mut state: State<u8, 1> = fresh(rt.alloc())?;
     let bytes = Bytes::copy(rt.alloc(), b"abc")?;
     assert!(rt; put(&mut state, b"f", Node::File(bytes)) == Some(Ok(2)));

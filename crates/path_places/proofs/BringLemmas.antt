@@ -2,39 +2,39 @@
 use Rattle.std.proofs.Common.{◌≡◌, ℕ, Bool, true, false, cond, List, Option, Some, None, Result, Ok, Err, refl, sym, ap, subst, ◌∙◌}
 use Rattle.std.specs.Prelude.{ℤ}
 use Rattle.std.specs.Option.{option_and_then, option_map, option_map_or}
-use Rattle.pr_base.specs.declared.errno.Errno.{Errno}
-use Rattle.pr_base.specs.declared.errno.Errno.TheVariants.{ENOENT}
-use Rattle.pr_base.specs.declared.path.Last.{Last}
-use Rattle.pr_base.specs.declared.path.Last.TheVariants as last
-use Rattle.rv_mem.specs.Actions.{carried_out}
-use Rattle.rv_mem.specs.Memory.{Memory}
-use Rattle.pt_bind.specs.Tags.{TagTable}
-use Rattle.kr_tree.specs.declared.place.Place.{Place}
-use Rattle.kr_tree.proofs.NameLemmas.{some_is}
-use Rattle.kr_view.specs.Component.{Namespace, is_directory_at}
-use Rattle.kr_view.specs.View.{Row}
-use Rattle.kr_view.specs.Walk.{PlaceTarget}
-use Rattle.kr_calls.specs.PathTable.{PathUse, path_at}
-use Rattle.kr_calls.specs.declared.request.Request.{Request}
-use Rattle.kr_calls.specs.declared.request.Request.TheVariants as call
-use Rattle.kr_model.specs.Applied.{Mounts}
-use Rattle.kr_model.specs.Change.{Change}
-use Rattle.kr_model.specs.DirectoryRows.{chdir_row}
-use Rattle.kr_model.specs.FileRows.{creates, openat_row}
-use Rattle.kr_model.specs.Known.{Known, known}
-use Rattle.kr_model.specs.Operation.{looked_up, opened}
-use Rattle.kr_model.specs.ProcessDirectory.{space_of}
-use Rattle.kr_model.specs.Reply.{Replying}
-use Rattle.kr_model.specs.Seen.{LooksUp, Opening, Opens, OpensFound, OpensNew, OpensNoName, OpensSlashed, NoPath, Seen, WalkFails}
-use Rattle.kr_model.specs.State.{Image, Process, State, image_layout}
-use Rattle.kr_model.specs.Walks.{Targets, created_at, entry_of, if_found, if_name, looked_at, mounts_of, opened_at, seen_of, targets_of}
-use Rattle.kr_allowed.specs.Told.{mounts_walked}
-use Rattle.kr_allowed.proofs.RowLemmas.{Allowed, reached}
-use Rattle.kr_seen.specs.Carrying.{memory_of}
-use Rattle.places_stay.specs.Changes.{NewPlacesStand}
-use Rattle.walks_agree.specs.Scene.{Scene}
-use Rattle.walks_agree.specs.Standing.{StandsOn, place_in}
-use Rattle.walks_agree.proofs.NamedLemmas.{directories_of_names_are_searched}
+use Rattle.pt_results.specs.pr_base.declared.errno.Errno.{Errno}
+use Rattle.pt_results.specs.pr_base.declared.errno.Errno.TheVariants.{ENOENT}
+use Rattle.pt_results.specs.pr_base.declared.path.Last.{Last}
+use Rattle.pt_results.specs.pr_base.declared.path.Last.TheVariants as last
+use Rattle.pt_results.specs.rv_mem.Actions.{carried_out}
+use Rattle.pt_results.specs.rv_mem.Memory.{Memory}
+use Rattle.pt_results.specs.pt_bind.Tags.{TagTable}
+use Rattle.turns_match.specs.kr_tree.declared.place.Place.{Place}
+use Rattle.turns_match.proofs.kr_tree.NameLemmas.{some_is}
+use Rattle.turns_match.specs.kr_view.Component.{Namespace, is_directory_at}
+use Rattle.turns_match.specs.kr_view.View.{Row}
+use Rattle.turns_match.specs.kr_view.Walk.{PlaceTarget}
+use Rattle.pt_results.specs.kr_calls.PathTable.{PathUse, path_at}
+use Rattle.pt_results.specs.kr_calls.declared.request.Request.{Request}
+use Rattle.pt_results.specs.kr_calls.declared.request.Request.TheVariants as call
+use Rattle.turns_match.specs.kr_model.Applied.{Mounts}
+use Rattle.turns_match.specs.kr_model.Change.{Change}
+use Rattle.turns_match.specs.kr_model.DirectoryRows.{chdir_row}
+use Rattle.turns_match.specs.kr_model.FileRows.{creates, openat_row}
+use Rattle.turns_match.specs.kr_model.Known.{Known, known}
+use Rattle.turns_match.specs.kr_model.Operation.{looked_up, opened}
+use Rattle.turns_match.specs.kr_model.ProcessDirectory.{space_of}
+use Rattle.turns_match.specs.kr_model.Reply.{Replying}
+use Rattle.turns_match.specs.kr_model.Seen.{LooksUp, Opening, Opens, OpensFound, OpensNew, OpensNoName, OpensSlashed, NoPath, Seen, WalkFails}
+use Rattle.turns_match.specs.kr_model.State.{Image, Process, State, image_layout}
+use Rattle.turns_match.specs.kr_model.Walks.{Targets, created_at, entry_of, if_found, if_name, looked_at, mounts_of, opened_at, seen_of, targets_of}
+use Rattle.turns_match.specs.kr_allowed.Told.{mounts_walked}
+use Rattle.turns_match.proofs.kr_allowed.RowLemmas.{Allowed, reached}
+use Rattle.turns_match.specs.kr_seen.Carrying.{memory_of}
+use Rattle.turns_match.specs.places_stay.Changes.{NewPlacesStand}
+use Rattle.turns_match.specs.walks_agree.Scene.{Scene}
+use Rattle.turns_match.specs.walks_agree.Standing.{StandsOn, place_in}
+use Rattle.turns_match.proofs.walks_agree.NamedLemmas.{directories_of_names_are_searched}
 use Rattle.path_places.specs.PathCalls.{CallsPath, PathCallsBringStanding, changes_at, mounts_at, told_at, written_at}
 use Rattle.path_places.proofs.FoundLemmas.{IsFound, is_found}
 use Rattle.path_places.proofs.IndexLemmas.{free_stays}

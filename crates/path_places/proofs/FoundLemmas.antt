@@ -4,30 +4,30 @@ use Rattle.std.specs.Prelude.{◌==◌}
 use Rattle.std.specs.Option.{option_map_or}
 use Rattle.std.proofs.lemmas.Bool.{ne_eqb}
 use Rattle.std.proofs.lemmas.List.Elements.{All-head}
-use Rattle.pr_base.specs.Paths.{AreNames, IsName}
-use Rattle.pr_base.specs.Texts.{Text}
-use Rattle.pr_base.specs.WalkFrame.{Target}
-use Rattle.pr_base.specs.declared.path.WalkMode.{WalkMode}
-use Rattle.pr_base.proofs.AlikeLemmas.{alike_some}
-use Rattle.kr_tree.specs.declared.place.Host.{Host}
-use Rattle.kr_tree.specs.declared.place.Host.TheVariants.{Node, Proc}
-use Rattle.kr_tree.specs.declared.place.Place.{Place}
-use Rattle.kr_tree.specs.declared.place.ProcAt.{ProcAt}
-use Rattle.kr_tree.proofs.NameLemmas.{some_is}
-use Rattle.kr_view.specs.declared.procs.Lead.{Lead}
-use Rattle.kr_view.specs.Component.{Namespace, is_directory_at}
-use Rattle.kr_view.specs.HostReach.{is_link_at}
-use Rattle.kr_view.specs.Processes.{LawsOfProcesses}
-use Rattle.kr_view.specs.View.{source}
-use Rattle.kr_view.specs.Walk.{PlaceTarget}
-use Rattle.kr_view.proofs.HostReachLemmas.{entry_in, last_object, reached_names}
-use Rattle.kr_model.specs.State.{inode_of}
-use Rattle.walks_agree.specs.Handed.{BothEnd}
-use Rattle.walks_agree.specs.Scene.{Scene, space_of}
-use Rattle.walks_agree.specs.Settled.{IsSettled, host_text}
-use Rattle.walks_agree.specs.Standing.{FoundStands, IsEntryAt, StandsOn, reached_in}
-use Rattle.walks_agree.proofs.HandedLemmas.{alike, entry_at, found_stands, settled_at}
-use Rattle.places_stay.specs.Standing.{UseStands}
+use Rattle.pt_results.specs.pr_base.Paths.{AreNames, IsName}
+use Rattle.pt_results.specs.pr_base.Texts.{Text}
+use Rattle.pt_results.specs.pr_base.WalkFrame.{Target}
+use Rattle.pt_results.specs.pr_base.declared.path.WalkMode.{WalkMode}
+use Rattle.pt_results.proofs.pr_base.AlikeLemmas.{alike_some}
+use Rattle.turns_match.specs.kr_tree.declared.place.Host.{Host}
+use Rattle.turns_match.specs.kr_tree.declared.place.Host.TheVariants.{Node, Proc}
+use Rattle.turns_match.specs.kr_tree.declared.place.Place.{Place}
+use Rattle.turns_match.specs.kr_tree.declared.place.ProcAt.{ProcAt}
+use Rattle.turns_match.proofs.kr_tree.NameLemmas.{some_is}
+use Rattle.turns_match.specs.kr_view.declared.procs.Lead.{Lead}
+use Rattle.turns_match.specs.kr_view.Component.{Namespace, is_directory_at}
+use Rattle.turns_match.specs.kr_view.HostReach.{is_link_at}
+use Rattle.turns_match.specs.kr_view.Processes.{LawsOfProcesses}
+use Rattle.turns_match.specs.kr_view.View.{source}
+use Rattle.turns_match.specs.kr_view.Walk.{PlaceTarget}
+use Rattle.turns_match.proofs.kr_view.HostReachLemmas.{entry_in, last_object, reached_names}
+use Rattle.turns_match.specs.kr_model.State.{inode_of}
+use Rattle.turns_match.specs.walks_agree.Handed.{BothEnd}
+use Rattle.turns_match.specs.walks_agree.Scene.{Scene, space_of}
+use Rattle.turns_match.specs.walks_agree.Settled.{IsSettled, host_text}
+use Rattle.turns_match.specs.walks_agree.Standing.{FoundStands, IsEntryAt, StandsOn, reached_in}
+use Rattle.turns_match.proofs.walks_agree.HandedLemmas.{alike, entry_at, found_stands, settled_at}
+use Rattle.turns_match.specs.places_stay.Standing.{UseStands}
 
 -- a place that stands at a guest text. What is no directory has an entry with a name, which is that of the host text
 pub record IsFound (space : Namespace) (p : Place ℕ) (e : ℕ × List ℕ) : Type 0 where

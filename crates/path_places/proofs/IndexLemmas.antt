@@ -1,24 +1,24 @@
 -- The guest text to which a walk comes has the index of the mount to which the walk over places comes.
 use Rattle.std.proofs.Common.{◌≡◌, ℕ, Bool, true, false, List, ◌∷◌, Option, Some, None, refl, sym, ap, ◌∙◌}
 use Rattle.std.specs.Option.{option_map_or}
-use Rattle.pr_base.specs.Texts.{Text}
-use Rattle.pr_base.specs.WalkFrame.{Landing, Target}
-use Rattle.pr_base.specs.declared.path.Last.TheVariants as last
-use Rattle.pr_base.specs.declared.path.WalkMode.{WalkMode}
-use Rattle.pr_base.proofs.EndLemmas.{jump_is_shown}
-use Rattle.pt_bind.specs.Binding.{index_of, located}
-use Rattle.kr_tree.specs.declared.place.Place.{Place}
-use Rattle.kr_view.specs.Component.{Namespace}
-use Rattle.kr_view.specs.View.{Row, row}
-use Rattle.kr_view.specs.Walk.{PlaceTarget, looking}
-use Rattle.kr_mounts.specs.Standing.{texts_of}
-use Rattle.places_stay.specs.Matching.{index_at}
-use Rattle.walks_agree.specs.Handed.{BothEnd}
-use Rattle.walks_agree.specs.Scene.{Scene, space_of}
-use Rattle.walks_agree.specs.Settled.{IsSettled, owning_mount}
-use Rattle.walks_agree.proofs.HandedLemmas.{alike, directory_on, found_stands}
-use Rattle.walks_agree.proofs.NamedLemmas.{mount_found}
-use Rattle.walks_agree.proofs.TableLemmas.{owned, owner_none}
+use Rattle.pt_results.specs.pr_base.Texts.{Text}
+use Rattle.pt_results.specs.pr_base.WalkFrame.{Landing, Target}
+use Rattle.pt_results.specs.pr_base.declared.path.Last.TheVariants as last
+use Rattle.pt_results.specs.pr_base.declared.path.WalkMode.{WalkMode}
+use Rattle.pt_results.proofs.pr_base.EndLemmas.{jump_is_shown}
+use Rattle.pt_results.specs.pt_bind.Binding.{index_of, located}
+use Rattle.turns_match.specs.kr_tree.declared.place.Place.{Place}
+use Rattle.turns_match.specs.kr_view.Component.{Namespace}
+use Rattle.turns_match.specs.kr_view.View.{Row, row}
+use Rattle.turns_match.specs.kr_view.Walk.{PlaceTarget, looking}
+use Rattle.turns_match.specs.kr_mounts.Standing.{texts_of}
+use Rattle.turns_match.specs.places_stay.Matching.{index_at}
+use Rattle.turns_match.specs.walks_agree.Handed.{BothEnd}
+use Rattle.turns_match.specs.walks_agree.Scene.{Scene, space_of}
+use Rattle.turns_match.specs.walks_agree.Settled.{IsSettled, owning_mount}
+use Rattle.turns_match.proofs.walks_agree.HandedLemmas.{alike, directory_on, found_stands}
+use Rattle.turns_match.proofs.walks_agree.NamedLemmas.{mount_found}
+use Rattle.turns_match.proofs.walks_agree.TableLemmas.{owned, owner_none}
 use Rattle.path_places.specs.PathCalls.{HasIndexWalked, TextsHaveIndices}
 
 some_or_none : {A : Type 0} {a : A} → None ≡ Some a → ⊥

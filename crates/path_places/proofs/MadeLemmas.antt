@@ -4,39 +4,39 @@ use Rattle.std.specs.Prelude.{IsSome, bytes_eq}
 use Rattle.std.specs.Option.{option_map, option_map_or, option_or}
 use Rattle.std.proofs.lemmas.List.Folds.{find-append}
 use Rattle.std.proofs.lemmas.Slice.Eq.{bytes_eq-Decides}
-use Rattle.pr_base.proofs.MapLemmas.{get-changed_same, get-insert_other, get-insert_same}
-use Rattle.pr_base.specs.Texts.{Text}
-use Rattle.pt_bind.specs.Binding.{host_of, located}
-use Rattle.kr_inode.specs.declared.user.Right.TheVariants.{Search}
-use Rattle.kr_inode.specs.declared.user.User.{User}
-use Rattle.kr_tree.specs.Changes.{added, with_entries, with_entry, with_inode}
-use Rattle.kr_tree.specs.Rights.{allows, may}
-use Rattle.kr_tree.specs.Tree.{Body, Directory, Entry, Inode, ProcessDirectory, RegularFile, SymbolicLink, Tree, body_is, entries_of, entry, entry_named, inode, is_directory, takes_names}
-use Rattle.kr_tree.specs.Names.{is_name}
-use Rattle.kr_tree.specs.declared.place.Host.TheVariants.{Node}
-use Rattle.kr_tree.specs.declared.place.Place.{Place}
-use Rattle.kr_tree.proofs.EntryLemmas.{reached-named}
-use Rattle.kr_tree.proofs.NameLemmas.{some_is}
-use Rattle.kr_lawful.proofs.ChangeLemmas.{every-change-keeps}
-use Rattle.kr_mounts.specs.Standing.{texts_of}
-use Rattle.kr_view.specs.Component.{Namespace, is_directory_at, may_search}
-use Rattle.kr_view.specs.Laws.{is_link}
-use Rattle.kr_view.specs.View.{Row}
-use Rattle.kr_view.proofs.HostReachLemmas.{object_more, object_of_entry}
-use Rattle.kr_view.proofs.TableLemmas.{there_is}
-use Rattle.kr_model.specs.Applied.{Mounts, applied, images}
-use Rattle.kr_model.specs.Change.{Change, AddNode}
-use Rattle.kr_model.specs.Conditions.{CanAdd}
-use Rattle.kr_model.specs.Lawful.{IsLawful}
-use Rattle.kr_model.specs.ProcessDirectory.{space_of}
-use Rattle.kr_model.specs.State.{Image, State, process}
-use Rattle.walks_agree.specs.Settled.{host_text}
-use Rattle.walks_agree.specs.Standing.{StandsOn, reached_in}
-use Rattle.walks_agree.proofs.StandingLemmas.{node_reached}
-use Rattle.walks_agree.proofs.TableLemmas.{host_none, mount_below, owner_none}
-use Rattle.places_stay.specs.Standing.{PlacesStand, StandsAs, UseStands}
-use Rattle.places_stay.specs.Uses.{Use}
-use Rattle.places_stay.proofs.ChangeLemmas.{change_carries, change_keeps}
+use Rattle.pt_results.proofs.pr_base.MapLemmas.{get-changed_same, get-insert_other, get-insert_same}
+use Rattle.pt_results.specs.pr_base.Texts.{Text}
+use Rattle.pt_results.specs.pt_bind.Binding.{host_of, located}
+use Rattle.turns_match.specs.kr_inode.declared.user.Right.TheVariants.{Search}
+use Rattle.turns_match.specs.kr_inode.declared.user.User.{User}
+use Rattle.turns_match.specs.kr_tree.Changes.{added, with_entries, with_entry, with_inode}
+use Rattle.turns_match.specs.kr_tree.Rights.{allows, may}
+use Rattle.turns_match.specs.kr_tree.Tree.{Body, Directory, Entry, Inode, ProcessDirectory, RegularFile, SymbolicLink, Tree, body_is, entries_of, entry, entry_named, inode, is_directory, takes_names}
+use Rattle.turns_match.specs.kr_tree.Names.{is_name}
+use Rattle.turns_match.specs.kr_tree.declared.place.Host.TheVariants.{Node}
+use Rattle.turns_match.specs.kr_tree.declared.place.Place.{Place}
+use Rattle.turns_match.proofs.kr_tree.EntryLemmas.{reached-named}
+use Rattle.turns_match.proofs.kr_tree.NameLemmas.{some_is}
+use Rattle.turns_match.proofs.kr_lawful.ChangeLemmas.{every-change-keeps}
+use Rattle.turns_match.specs.kr_mounts.Standing.{texts_of}
+use Rattle.turns_match.specs.kr_view.Component.{Namespace, is_directory_at, may_search}
+use Rattle.turns_match.specs.kr_view.Laws.{is_link}
+use Rattle.turns_match.specs.kr_view.View.{Row}
+use Rattle.turns_match.proofs.kr_view.HostReachLemmas.{object_more, object_of_entry}
+use Rattle.turns_match.proofs.kr_view.TableLemmas.{there_is}
+use Rattle.turns_match.specs.kr_model.Applied.{Mounts, applied, images}
+use Rattle.turns_match.specs.kr_model.Change.{Change, AddNode}
+use Rattle.turns_match.specs.kr_model.Conditions.{CanAdd}
+use Rattle.turns_match.specs.kr_model.Lawful.{IsLawful}
+use Rattle.turns_match.specs.kr_model.ProcessDirectory.{space_of}
+use Rattle.turns_match.specs.kr_model.State.{Image, State, process}
+use Rattle.turns_match.specs.walks_agree.Settled.{host_text}
+use Rattle.turns_match.specs.walks_agree.Standing.{StandsOn, reached_in}
+use Rattle.turns_match.proofs.walks_agree.StandingLemmas.{node_reached}
+use Rattle.turns_match.proofs.walks_agree.TableLemmas.{host_none, mount_below, owner_none}
+use Rattle.turns_match.specs.places_stay.Standing.{PlacesStand, StandsAs, UseStands}
+use Rattle.turns_match.specs.places_stay.Uses.{Use}
+use Rattle.turns_match.proofs.places_stay.ChangeLemmas.{change_carries, change_keeps}
 use Rattle.path_places.proofs.FoundLemmas.{IsFound, file_use}
 
 none_some : {A B : Type 0} {a : A} → None ≡ Some a → B

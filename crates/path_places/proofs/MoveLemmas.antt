@@ -2,47 +2,47 @@
 use Rattle.std.proofs.Common.{◌≡◌, ℕ, Bool, true, false, cond, List, [], ◌∷◌, Option, Some, None, Result, Ok, Err, refl, sym, ap, subst, ◌∙◌}
 use Rattle.std.specs.Prelude.{◌&&◌, ◌||◌, ◌==◌, not, ℤ}
 use Rattle.std.specs.Option.{option_map_or}
-use Rattle.pr_base.specs.declared.errno.Errno.{Errno}
-use Rattle.pr_base.specs.declared.path.Last.{Last}
-use Rattle.pr_base.specs.declared.path.Last.TheVariants as last
-use Rattle.pr_base.specs.declared.path.WalkMode.TheVariants.{Name as NameMode}
-use Rattle.rv_mem.specs.Actions.{carried_out}
-use Rattle.rv_mem.specs.Memory.{Memory}
-use Rattle.pt_bind.specs.Tags.{TagTable}
-use Rattle.kr_calls.specs.PathTable.{PathUse}
-use Rattle.kr_calls.specs.declared.request.Request.{Request}
-use Rattle.kr_calls.specs.declared.request.Request.TheVariants as call
-use Rattle.kr_tree.specs.declared.place.Host.{Host}
-use Rattle.kr_tree.specs.declared.place.Host.TheVariants.{Node, Proc}
-use Rattle.kr_tree.proofs.NameLemmas.{some_is}
-use Rattle.kr_view.specs.View.{Row}
-use Rattle.kr_view.specs.Component.{may_search}
-use Rattle.kr_view.specs.Walk.{PlaceTarget, looking, place_walk}
-use Rattle.kr_view.proofs.StayingLemmas.{names-stay}
-use Rattle.kr_seen.specs.Carrying.{memory_of}
-use Rattle.kr_calm.specs.Foreseen.{moved_away, prospect}
-use Rattle.kr_calm.specs.Prospects.{answers_zero, move, move_made, renameat2_made}
-use Rattle.kr_calm.specs.Rules.{are_parted, breaks_2, rename_crosses}
-use Rattle.kr_calm.proofs.ChangeLemmas.{both}
-use Rattle.kr_calm.proofs.MildCalls.{operation_mild}
-use Rattle.kr_calm.proofs.MildLemmas.{are_mild, is_mild, mildly}
-use Rattle.kr_calm.proofs.ProspectLemmas.{foreseen_calls_make_it}
-use Rattle.kr_model.specs.Applied.{Mounts}
-use Rattle.kr_model.specs.Change.{Change, MoveName}
-use Rattle.kr_model.specs.Known.{Known, known}
-use Rattle.kr_model.specs.NameRows.{is_one}
-use Rattle.kr_model.specs.Operation.{operation}
-use Rattle.kr_model.specs.ProcessDirectory.{around_of, space_of}
-use Rattle.kr_model.specs.Seen.{NoPath, Seen, Taken, TakesCovered, Takes, TakesNoName}
-use Rattle.kr_model.specs.State.{Image, Process, State, image_layout}
-use Rattle.kr_model.specs.Walks.{Targets, entered, if_name, is_covered, moved_at, seen_of, taken_at, targets_of}
-use Rattle.kr_turns.specs.Breaking.{plain_rule}
-use Rattle.places_stay.specs.Moving.{IsComeTo}
-use Rattle.calm_places.proofs.KeepLemmas.{stay_inside}
-use Rattle.calm_places.specs.Keeping.{MovesStayInside, move_nothing, moves_nothing}
-use Rattle.walks_agree.specs.Scene.{Scene}
-use Rattle.walks_agree.specs.Settled.{host_text}
-use Rattle.walks_agree.proofs.NamedLemmas.{directories_of_names_are_searched}
+use Rattle.pt_results.specs.pr_base.declared.errno.Errno.{Errno}
+use Rattle.pt_results.specs.pr_base.declared.path.Last.{Last}
+use Rattle.pt_results.specs.pr_base.declared.path.Last.TheVariants as last
+use Rattle.pt_results.specs.pr_base.declared.path.WalkMode.TheVariants.{Name as NameMode}
+use Rattle.pt_results.specs.rv_mem.Actions.{carried_out}
+use Rattle.pt_results.specs.rv_mem.Memory.{Memory}
+use Rattle.pt_results.specs.pt_bind.Tags.{TagTable}
+use Rattle.pt_results.specs.kr_calls.PathTable.{PathUse}
+use Rattle.pt_results.specs.kr_calls.declared.request.Request.{Request}
+use Rattle.pt_results.specs.kr_calls.declared.request.Request.TheVariants as call
+use Rattle.turns_match.specs.kr_tree.declared.place.Host.{Host}
+use Rattle.turns_match.specs.kr_tree.declared.place.Host.TheVariants.{Node, Proc}
+use Rattle.turns_match.proofs.kr_tree.NameLemmas.{some_is}
+use Rattle.turns_match.specs.kr_view.View.{Row}
+use Rattle.turns_match.specs.kr_view.Component.{may_search}
+use Rattle.turns_match.specs.kr_view.Walk.{PlaceTarget, looking, place_walk}
+use Rattle.turns_match.proofs.kr_view.StayingLemmas.{names-stay}
+use Rattle.turns_match.specs.kr_seen.Carrying.{memory_of}
+use Rattle.turns_match.specs.kr_calm.Foreseen.{moved_away, prospect}
+use Rattle.turns_match.specs.kr_calm.Prospects.{answers_zero, move, move_made, renameat2_made}
+use Rattle.turns_match.specs.kr_calm.Rules.{are_parted, breaks_2, rename_crosses}
+use Rattle.turns_match.proofs.kr_calm.ChangeLemmas.{both}
+use Rattle.turns_match.proofs.kr_calm.MildCalls.{operation_mild}
+use Rattle.turns_match.proofs.kr_calm.MildLemmas.{are_mild, is_mild, mildly}
+use Rattle.turns_match.proofs.kr_calm.ProspectLemmas.{foreseen_calls_make_it}
+use Rattle.turns_match.specs.kr_model.Applied.{Mounts}
+use Rattle.turns_match.specs.kr_model.Change.{Change, MoveName}
+use Rattle.turns_match.specs.kr_model.Known.{Known, known}
+use Rattle.turns_match.specs.kr_model.NameRows.{is_one}
+use Rattle.turns_match.specs.kr_model.Operation.{operation}
+use Rattle.turns_match.specs.kr_model.ProcessDirectory.{around_of, space_of}
+use Rattle.turns_match.specs.kr_model.Seen.{NoPath, Seen, Taken, TakesCovered, Takes, TakesNoName}
+use Rattle.turns_match.specs.kr_model.State.{Image, Process, State, image_layout}
+use Rattle.turns_match.specs.kr_model.Walks.{Targets, entered, if_name, is_covered, moved_at, seen_of, taken_at, targets_of}
+use Rattle.turns_match.specs.kr_turns.Breaking.{plain_rule}
+use Rattle.turns_match.specs.places_stay.Moving.{IsComeTo}
+use Rattle.turns_match.proofs.calm_places.KeepLemmas.{stay_inside}
+use Rattle.turns_match.specs.calm_places.Keeping.{MovesStayInside, move_nothing, moves_nothing}
+use Rattle.turns_match.specs.walks_agree.Scene.{Scene}
+use Rattle.turns_match.specs.walks_agree.Settled.{host_text}
+use Rattle.turns_match.proofs.walks_agree.NamedLemmas.{directories_of_names_are_searched}
 use Rattle.turns_match.specs.Calls.{decoded_in}
 use Rattle.path_places.specs.PathCalls.{CallsPath, HasPath, PathCallsMoveInside, changes_at, mounts_at, told_at, written_at}
 use Rattle.path_places.proofs.RowLemmas.{leave_places, leaves_places, others_leave_places}

@@ -5,48 +5,48 @@ use Rattle.std.specs.Int.{cast_signed, cast_unsigned, w64}
 use Rattle.std.specs.Option.{option_and_then, option_map, option_map_or}
 use Rattle.std.proofs.lemmas.Bool.Decides.{nat_tests}
 use Rattle.std.proofs.lemmas.Int.{to_z-of_z}
-use Rattle.pr_base.specs.Errno.{errno_number}
-use Rattle.pr_base.specs.declared.errno.Errno.{Errno}
-use Rattle.pr_base.specs.declared.errno.Errno.TheVariants.{EACCES, EEXIST, EISDIR, ELOOP, EMFILE, ENOENT, ENOSPC, ENOTDIR}
-use Rattle.pr_base.specs.declared.path.Last.{Last}
-use Rattle.pr_base.specs.declared.path.Last.TheVariants as last
-use Rattle.rv_mem.specs.Actions.{Done, carried_out}
-use Rattle.rv_mem.specs.Memory.{Memory}
-use Rattle.pt_bind.specs.Tags.{TagTable, with_tag}
-use Rattle.pt_bind.specs.declared.slot.Slot.TheVariants.{Cwd, Fd}
+use Rattle.pt_results.specs.pr_base.Errno.{errno_number}
+use Rattle.pt_results.specs.pr_base.declared.errno.Errno.{Errno}
+use Rattle.pt_results.specs.pr_base.declared.errno.Errno.TheVariants.{EACCES, EEXIST, EISDIR, ELOOP, EMFILE, ENOENT, ENOSPC, ENOTDIR}
+use Rattle.pt_results.specs.pr_base.declared.path.Last.{Last}
+use Rattle.pt_results.specs.pr_base.declared.path.Last.TheVariants as last
+use Rattle.pt_results.specs.rv_mem.Actions.{Done, carried_out}
+use Rattle.pt_results.specs.rv_mem.Memory.{Memory}
+use Rattle.pt_results.specs.pt_bind.Tags.{TagTable, with_tag}
+use Rattle.pt_results.specs.pt_bind.declared.slot.Slot.TheVariants.{Cwd, Fd}
 use Rattle.pt_results.specs.Notes.{noted_of, tags_after}
 use Rattle.pt_results.specs.Numbers.{made_number}
-use Rattle.kr_inode.specs.declared.user.Right.TheVariants.{Read as ReadRight, Search as SearchRight, Write as WriteRight}
-use Rattle.kr_tree.specs.Rights.{allows}
-use Rattle.kr_tree.specs.Tree.{Body, Directory, Node as TreeNode, ProcessDirectory, RegularFile, SymbolicLink}
-use Rattle.kr_tree.specs.declared.place.Host.{Host}
-use Rattle.kr_tree.specs.declared.place.Host.TheVariants.{Node, Proc}
-use Rattle.kr_tree.specs.declared.place.Place.{Place}
-use Rattle.kr_files.specs.Descriptors.{lowest_free}
-use Rattle.kr_files.specs.declared.opened.Opened.{Opened}
-use Rattle.kr_files.specs.declared.opened.What.TheVariants.{Dir, File}
-use Rattle.kr_files.proofs.DescriptorLemmas.{lowest_free-some}
-use Rattle.kr_view.specs.Component.{is_process_directory}
-use Rattle.kr_view.specs.View.{Row}
-use Rattle.kr_view.specs.Walk.{PlaceTarget}
-use Rattle.kr_calls.specs.declared.request.Request.{Request}
-use Rattle.kr_calls.specs.declared.request.Request.TheVariants as call
-use Rattle.kr_allowed.specs.Told.{mounts_walked}
-use Rattle.kr_seen.specs.Carrying.{memory_of}
-use Rattle.kr_model.specs.Applied.{Mounts, mount_of}
-use Rattle.kr_model.specs.Asking.{has_no_room, is_directory_host, is_over, is_searched, writable_body, writable_node}
-use Rattle.kr_model.specs.Change.{Change, MountOf, OfDirectory, OfFound, OpenFile, SetSize}
-use Rattle.kr_model.specs.DirectoryRows.{chdir_row}
-use Rattle.kr_model.specs.FileRows.{creates, cut_after, excludes, has_rights, make_and_open, open_body, open_directory, open_file, open_host, open_new, open_under, openat_row, opens_as, truncates, wants_directory, wants_write}
-use Rattle.kr_model.specs.Known.{Known, known, known_node}
-use Rattle.kr_model.specs.Operation.{looked_up, opened}
-use Rattle.kr_model.specs.Reply.{Reply, Replying, refusal, refuse}
-use Rattle.kr_model.specs.Seen.{Looked, LooksUp, NoPath, Opening, Opens, OpensFound, OpensNew, OpensNoName, OpensSlashed, Seen, WalkFails}
-use Rattle.kr_model.specs.State.{Image, State, image_layout}
-use Rattle.kr_model.specs.Walks.{Targets, created_at, if_found, if_name, looked_at, mounts_of, opened_at, seen_of, targets_of}
-use Rattle.kr_model.specs.declared.outcome.Outcome.{Outcome}
-use Rattle.kr_model.specs.declared.outcome.Outcome.TheVariants.{Answer, Wait, Ended, NoMemory}
-use Rattle.places_stay.specs.Matching.{index_at}
+use Rattle.turns_match.specs.kr_inode.declared.user.Right.TheVariants.{Read as ReadRight, Search as SearchRight, Write as WriteRight}
+use Rattle.turns_match.specs.kr_tree.Rights.{allows}
+use Rattle.turns_match.specs.kr_tree.Tree.{Body, Directory, Node as TreeNode, ProcessDirectory, RegularFile, SymbolicLink}
+use Rattle.turns_match.specs.kr_tree.declared.place.Host.{Host}
+use Rattle.turns_match.specs.kr_tree.declared.place.Host.TheVariants.{Node, Proc}
+use Rattle.turns_match.specs.kr_tree.declared.place.Place.{Place}
+use Rattle.turns_match.specs.kr_files.Descriptors.{lowest_free}
+use Rattle.turns_match.specs.kr_files.declared.opened.Opened.{Opened}
+use Rattle.turns_match.specs.kr_files.declared.opened.What.TheVariants.{Dir, File}
+use Rattle.turns_match.proofs.kr_files.DescriptorLemmas.{lowest_free-some}
+use Rattle.turns_match.specs.kr_view.Component.{is_process_directory}
+use Rattle.turns_match.specs.kr_view.View.{Row}
+use Rattle.turns_match.specs.kr_view.Walk.{PlaceTarget}
+use Rattle.pt_results.specs.kr_calls.declared.request.Request.{Request}
+use Rattle.pt_results.specs.kr_calls.declared.request.Request.TheVariants as call
+use Rattle.turns_match.specs.kr_allowed.Told.{mounts_walked}
+use Rattle.turns_match.specs.kr_seen.Carrying.{memory_of}
+use Rattle.turns_match.specs.kr_model.Applied.{Mounts, mount_of}
+use Rattle.turns_match.specs.kr_model.Asking.{has_no_room, is_directory_host, is_over, is_searched, writable_body, writable_node}
+use Rattle.turns_match.specs.kr_model.Change.{Change, MountOf, OfDirectory, OfFound, OpenFile, SetSize}
+use Rattle.turns_match.specs.kr_model.DirectoryRows.{chdir_row}
+use Rattle.turns_match.specs.kr_model.FileRows.{creates, cut_after, excludes, has_rights, make_and_open, open_body, open_directory, open_file, open_host, open_new, open_under, openat_row, opens_as, truncates, wants_directory, wants_write}
+use Rattle.turns_match.specs.kr_model.Known.{Known, known, known_node}
+use Rattle.turns_match.specs.kr_model.Operation.{looked_up, opened}
+use Rattle.turns_match.specs.kr_model.Reply.{Reply, Replying, refusal, refuse}
+use Rattle.turns_match.specs.kr_model.Seen.{Looked, LooksUp, NoPath, Opening, Opens, OpensFound, OpensNew, OpensNoName, OpensSlashed, Seen, WalkFails}
+use Rattle.turns_match.specs.kr_model.State.{Image, State, image_layout}
+use Rattle.turns_match.specs.kr_model.Walks.{Targets, created_at, if_found, if_name, looked_at, mounts_of, opened_at, seen_of, targets_of}
+use Rattle.turns_match.specs.kr_model.declared.outcome.Outcome.{Outcome}
+use Rattle.turns_match.specs.kr_model.declared.outcome.Outcome.TheVariants.{Answer, Wait, Ended, NoMemory}
+use Rattle.turns_match.specs.places_stay.Matching.{index_at}
 use Rattle.turns_match.specs.Calls.{decoded_in}
 use Rattle.turns_match.specs.Changing.{all_tags_made}
 use Rattle.path_places.specs.PathCalls.{HasPath, IsIndexWalked, PathCallsAreNoted, changes_at, mounts_at, outcome_at, tags_noted, told_at, written_at}

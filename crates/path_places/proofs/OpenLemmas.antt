@@ -2,42 +2,42 @@
 use Rattle.std.proofs.Common.{◌≡◌, ℕ, Bool, true, false, cond, not, List, [], ◌∷◌, Option, Some, None, refl, sym, ap, subst, ◌∙◌}
 use Rattle.std.specs.Prelude.{◌&&◌, ◌||◌, IsSome}
 use Rattle.std.specs.Option.{option_map_or}
-use Rattle.pr_base.specs.declared.errno.Errno.TheVariants.{EACCES, EEXIST, EISDIR, ELOOP, EMFILE, ENOENT, ENOSPC, ENOTDIR}
-use Rattle.pr_base.specs.Texts.{Text}
-use Rattle.kr_inode.specs.declared.user.Right.TheVariants.{Read as ReadRight, Search as SearchRight, Write as WriteRight}
-use Rattle.kr_tree.specs.Rights.{allows}
-use Rattle.kr_tree.specs.Tree.{Body, Directory, Node as TreeNode, ProcessDirectory, RegularFile, SymbolicLink, is_directory}
-use Rattle.kr_tree.specs.declared.place.Host.{Host}
-use Rattle.kr_tree.specs.declared.place.Host.TheVariants.{Node, Proc}
-use Rattle.kr_tree.specs.declared.place.Place.{Place}
-use Rattle.kr_tree.proofs.NameLemmas.{some_is}
-use Rattle.kr_files.specs.Descriptors.{lowest_free}
-use Rattle.kr_files.specs.declared.opened.Opened.{Opened}
-use Rattle.kr_files.specs.declared.opened.What.TheVariants.{Dir, File}
-use Rattle.kr_view.specs.Component.{is_directory_at, is_process_directory, may_search}
-use Rattle.kr_view.specs.HostReach.{is_link_at}
-use Rattle.kr_view.specs.Laws.{is_link}
-use Rattle.kr_view.specs.View.{Row}
-use Rattle.kr_view.proofs.ArrivalLemmas.{directory_firm}
-use Rattle.kr_lawful.specs.Laws.{CanAllBeMade}
-use Rattle.kr_allowed.proofs.KnownLemmas.{maybe}
-use Rattle.kr_allowed.proofs.NodeLemmas.{known-directory, test-known}
-use Rattle.kr_allowed.proofs.RowLemmas.{Allowed, either, ended, refuses}
-use Rattle.kr_model.specs.Applied.{Mounts, applied, images, in_mount}
-use Rattle.kr_model.specs.Asking.{is_directory_host, is_over, is_searched, unmasked, writable_body, writable_node, has_no_room}
-use Rattle.kr_model.specs.Change.{AddNode, Change, OfFound, SetSize}
-use Rattle.kr_model.specs.Conditions.{CanAdd}
-use Rattle.kr_model.specs.DirectoryRows.{chdir_row}
-use Rattle.kr_model.specs.FileRows.{creates, cut_after, excludes, has_rights, make_and_open, open_body, open_directory, open_file, open_found, open_host, open_new, open_under, openat_row, opens_as, truncates, wants_directory, wants_write}
-use Rattle.kr_model.specs.Known.{Known, known, known_node}
-use Rattle.kr_model.specs.ProcessDirectory.{space_of}
-use Rattle.kr_model.specs.Reply.{Replying}
-use Rattle.kr_model.specs.Seen.{Looked, Opening, OpensFound, OpensNew, OpensNoName, OpensSlashed}
-use Rattle.kr_model.specs.State.{Image, State, image_layout, process}
-use Rattle.places_stay.specs.Changes.{NewPlacesStand}
-use Rattle.places_stay.specs.Standing.{PlacesStand, UseStands}
-use Rattle.places_stay.specs.Uses.{open_use}
-use Rattle.walks_agree.specs.Standing.{StandsOn, place_in}
+use Rattle.pt_results.specs.pr_base.declared.errno.Errno.TheVariants.{EACCES, EEXIST, EISDIR, ELOOP, EMFILE, ENOENT, ENOSPC, ENOTDIR}
+use Rattle.pt_results.specs.pr_base.Texts.{Text}
+use Rattle.turns_match.specs.kr_inode.declared.user.Right.TheVariants.{Read as ReadRight, Search as SearchRight, Write as WriteRight}
+use Rattle.turns_match.specs.kr_tree.Rights.{allows}
+use Rattle.turns_match.specs.kr_tree.Tree.{Body, Directory, Node as TreeNode, ProcessDirectory, RegularFile, SymbolicLink, is_directory}
+use Rattle.turns_match.specs.kr_tree.declared.place.Host.{Host}
+use Rattle.turns_match.specs.kr_tree.declared.place.Host.TheVariants.{Node, Proc}
+use Rattle.turns_match.specs.kr_tree.declared.place.Place.{Place}
+use Rattle.turns_match.proofs.kr_tree.NameLemmas.{some_is}
+use Rattle.turns_match.specs.kr_files.Descriptors.{lowest_free}
+use Rattle.turns_match.specs.kr_files.declared.opened.Opened.{Opened}
+use Rattle.turns_match.specs.kr_files.declared.opened.What.TheVariants.{Dir, File}
+use Rattle.turns_match.specs.kr_view.Component.{is_directory_at, is_process_directory, may_search}
+use Rattle.turns_match.specs.kr_view.HostReach.{is_link_at}
+use Rattle.turns_match.specs.kr_view.Laws.{is_link}
+use Rattle.turns_match.specs.kr_view.View.{Row}
+use Rattle.turns_match.proofs.kr_view.ArrivalLemmas.{directory_firm}
+use Rattle.turns_match.specs.kr_lawful.Laws.{CanAllBeMade}
+use Rattle.turns_match.proofs.kr_allowed.KnownLemmas.{maybe}
+use Rattle.turns_match.proofs.kr_allowed.NodeLemmas.{known-directory, test-known}
+use Rattle.turns_match.proofs.kr_allowed.RowLemmas.{Allowed, either, ended, refuses}
+use Rattle.turns_match.specs.kr_model.Applied.{Mounts, applied, images, in_mount}
+use Rattle.turns_match.specs.kr_model.Asking.{is_directory_host, is_over, is_searched, unmasked, writable_body, writable_node, has_no_room}
+use Rattle.turns_match.specs.kr_model.Change.{AddNode, Change, OfFound, SetSize}
+use Rattle.turns_match.specs.kr_model.Conditions.{CanAdd}
+use Rattle.turns_match.specs.kr_model.DirectoryRows.{chdir_row}
+use Rattle.turns_match.specs.kr_model.FileRows.{creates, cut_after, excludes, has_rights, make_and_open, open_body, open_directory, open_file, open_found, open_host, open_new, open_under, openat_row, opens_as, truncates, wants_directory, wants_write}
+use Rattle.turns_match.specs.kr_model.Known.{Known, known, known_node}
+use Rattle.turns_match.specs.kr_model.ProcessDirectory.{space_of}
+use Rattle.turns_match.specs.kr_model.Reply.{Replying}
+use Rattle.turns_match.specs.kr_model.Seen.{Looked, Opening, OpensFound, OpensNew, OpensNoName, OpensSlashed}
+use Rattle.turns_match.specs.kr_model.State.{Image, State, image_layout, process}
+use Rattle.turns_match.specs.places_stay.Changes.{NewPlacesStand}
+use Rattle.turns_match.specs.places_stay.Standing.{PlacesStand, UseStands}
+use Rattle.turns_match.specs.places_stay.Uses.{open_use}
+use Rattle.turns_match.specs.walks_agree.Standing.{StandsOn, place_in}
 use Rattle.path_places.proofs.FoundLemmas.{IsFound, directory_use, file_use}
 use Rattle.path_places.proofs.MadeLemmas.{made_use}
 

@@ -2,30 +2,30 @@
 use Rattle.std.proofs.Common.{◌≡◌, ℕ, Bool, true, false, cond, List, [], ◌∷◌, Option, refl, ap, ◌∙◌, ℤ}
 use Rattle.std.specs.Prelude.{◌&&◌, ◌==◌, unsigned_abs}
 use Rattle.std.specs.List.{list_all}
-use Rattle.pr_base.specs.declared.errno.Errno.TheVariants.{EACCES, EBADF, EEXIST, EFAULT, EINVAL, ENOENT, ENOSPC, ENOTDIR, EPERM, ERANGE, EXDEV}
-use Rattle.rv_mem.specs.Actions.{carried_out}
-use Rattle.rv_mem.specs.Memory.{Memory}
-use Rattle.kr_inode.specs.declared.user.User.{User}
-use Rattle.kr_tree.specs.Tree.{Body, Directory, RegularFile, SymbolicLink, ProcessDirectory}
-use Rattle.kr_tree.specs.declared.place.Host.{Host}
-use Rattle.kr_tree.specs.declared.place.Host.TheVariants as host
-use Rattle.kr_files.specs.declared.opened.What.{What}
-use Rattle.kr_files.specs.declared.opened.What.TheVariants.{File, In, Out, Err, PipeRead, PipeWrite, Dir as DirOpen}
-use Rattle.kr_calls.specs.declared.request.Request.{Request}
-use Rattle.kr_calls.specs.declared.request.Request.TheVariants as call
-use Rattle.kr_calls.specs.declared.stat.Stat.{Stat}
-use Rattle.kr_model.specs.AttributeRows.{chown_by, chown_host, console_stat, faccessat_row, fchownat_here, fchownat_row, may_give, newfstatat_here, newfstatat_row, node_stat, pipe_stat, process_stat, readlink_body, readlink_host, readlinkat_row, stat_host, stat_unplaced, tell_stat, tell_text, unchanged}
-use Rattle.kr_model.specs.Change.{Change, ChangeDirectory, CopyDescriptor, End, Fork, MoveName, OpenFile, ReplaceExecutable}
-use Rattle.kr_model.specs.DirectoryRows.{chroot_row, getcwd_row}
-use Rattle.kr_model.specs.Known.{Known, known_node}
-use Rattle.kr_model.specs.NameRows.{link_host, linkat_row, mkdirat_row, symlinkat_row}
-use Rattle.kr_model.specs.Operation.{by_path, directory_named, link_read, linked, looked_up, made, operation}
-use Rattle.kr_model.specs.Reply.{Replying}
-use Rattle.kr_model.specs.Seen.{Looked, LooksUp, Links, Made, MakesEntry, MakesNoName, MakesOver, Makes, NamesDirectory, ReadsLink, Seen, TakesEntry, WalkFails, TakesNoName, TakesCovered, Takes, Taken}
-use Rattle.kr_calm.specs.Foreseen.{prospect}
-use Rattle.kr_calm.specs.Prospects.{answers_zero, mode_set, removal, unlinkat_made}
-use Rattle.kr_calm.proofs.MildLemmas.{ComesTo, answered, by_open, comes_to, either, maybe, refused, tested, written_to, wrote}
-use Rattle.kr_calm.proofs.ProspectLemmas.{foreseen_calls_make_it}
+use Rattle.pt_results.specs.pr_base.declared.errno.Errno.TheVariants.{EACCES, EBADF, EEXIST, EFAULT, EINVAL, ENOENT, ENOSPC, ENOTDIR, EPERM, ERANGE, EXDEV}
+use Rattle.pt_results.specs.rv_mem.Actions.{carried_out}
+use Rattle.pt_results.specs.rv_mem.Memory.{Memory}
+use Rattle.turns_match.specs.kr_inode.declared.user.User.{User}
+use Rattle.turns_match.specs.kr_tree.Tree.{Body, Directory, RegularFile, SymbolicLink, ProcessDirectory}
+use Rattle.turns_match.specs.kr_tree.declared.place.Host.{Host}
+use Rattle.turns_match.specs.kr_tree.declared.place.Host.TheVariants as host
+use Rattle.turns_match.specs.kr_files.declared.opened.What.{What}
+use Rattle.turns_match.specs.kr_files.declared.opened.What.TheVariants.{File, In, Out, Err, PipeRead, PipeWrite, Dir as DirOpen}
+use Rattle.pt_results.specs.kr_calls.declared.request.Request.{Request}
+use Rattle.pt_results.specs.kr_calls.declared.request.Request.TheVariants as call
+use Rattle.pt_results.specs.kr_calls.declared.stat.Stat.{Stat}
+use Rattle.turns_match.specs.kr_model.AttributeRows.{chown_by, chown_host, console_stat, faccessat_row, fchownat_here, fchownat_row, may_give, newfstatat_here, newfstatat_row, node_stat, pipe_stat, process_stat, readlink_body, readlink_host, readlinkat_row, stat_host, stat_unplaced, tell_stat, tell_text, unchanged}
+use Rattle.turns_match.specs.kr_model.Change.{Change, ChangeDirectory, CopyDescriptor, End, Fork, MoveName, OpenFile, ReplaceExecutable}
+use Rattle.turns_match.specs.kr_model.DirectoryRows.{chroot_row, getcwd_row}
+use Rattle.turns_match.specs.kr_model.Known.{Known, known_node}
+use Rattle.turns_match.specs.kr_model.NameRows.{link_host, linkat_row, mkdirat_row, symlinkat_row}
+use Rattle.turns_match.specs.kr_model.Operation.{by_path, directory_named, link_read, linked, looked_up, made, operation}
+use Rattle.turns_match.specs.kr_model.Reply.{Replying}
+use Rattle.turns_match.specs.kr_model.Seen.{Looked, LooksUp, Links, Made, MakesEntry, MakesNoName, MakesOver, Makes, NamesDirectory, ReadsLink, Seen, TakesEntry, WalkFails, TakesNoName, TakesCovered, Takes, Taken}
+use Rattle.turns_match.specs.kr_calm.Foreseen.{prospect}
+use Rattle.turns_match.specs.kr_calm.Prospects.{answers_zero, mode_set, removal, unlinkat_made}
+use Rattle.turns_match.proofs.kr_calm.MildLemmas.{ComesTo, answered, by_open, comes_to, either, maybe, refused, tested, written_to, wrote}
+use Rattle.turns_match.proofs.kr_calm.ProspectLemmas.{foreseen_calls_make_it}
 use Rattle.path_places.specs.PathCalls.{HasPath}
 
 -- a change that neither brings a place into use nor hands one on, and moves no name

@@ -2,17 +2,17 @@
 use Rattle.std.proofs.Common.{◌≡◌, ℕ, Bool, true, false, cond, List, Option, Some, None, Ok, refl, sym, ap, ◌∙◌}
 use Rattle.std.specs.Prelude.{◌||◌}
 use Rattle.std.specs.Option.{option_map_or}
-use Rattle.kr_view.specs.View.{Row}
-use Rattle.kr_calls.specs.declared.request.Request.{Request}
-use Rattle.kr_calls.specs.declared.request.Request.TheVariants as call
-use Rattle.kr_calm.specs.Laws.{BreakNone}
-use Rattle.kr_calm.specs.Rules.{breaks_2}
-use Rattle.kr_model.specs.Applied.{images}
-use Rattle.kr_model.specs.State.{Image, Process, State, process}
-use Rattle.kr_model.specs.Walks.{targets_of}
-use Rattle.kr_steps.specs.Calls.{IsNoExec}
-use Rattle.kr_turns.specs.Breaking.{decoded_rule, operated_rule, plain_rule, plain_rule_of}
-use Rattle.kr_turns.proofs.PlainLemmas.{no-exec-rule}
+use Rattle.turns_match.specs.kr_view.View.{Row}
+use Rattle.pt_results.specs.kr_calls.declared.request.Request.{Request}
+use Rattle.pt_results.specs.kr_calls.declared.request.Request.TheVariants as call
+use Rattle.turns_match.specs.kr_calm.Laws.{BreakNone}
+use Rattle.turns_match.specs.kr_calm.Rules.{breaks_2}
+use Rattle.turns_match.specs.kr_model.Applied.{images}
+use Rattle.turns_match.specs.kr_model.State.{Image, Process, State, process}
+use Rattle.turns_match.specs.kr_model.Walks.{targets_of}
+use Rattle.turns_match.specs.kr_steps.Calls.{IsNoExec}
+use Rattle.turns_match.specs.kr_turns.Breaking.{decoded_rule, operated_rule, plain_rule, plain_rule_of}
+use Rattle.turns_match.proofs.kr_turns.PlainLemmas.{no-exec-rule}
 use Rattle.turns_match.specs.Calls.{decoded_by, decoded_in}
 use Rattle.turns_match.specs.Operating.{done_in}
 use Rattle.path_places.specs.PathCalls.{HasPath, changes_at, mounts_at, told_at, written_at}

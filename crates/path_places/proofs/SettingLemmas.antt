@@ -1,33 +1,34 @@
 -- What is so of a call with a path before its row and behind it.
 use Rattle.std.proofs.Common.{◌≡◌, ℕ, List, [], ◌∷◌, refl, sym, ap, subst, ◌∙◌, arith, map as map_list}
-use Rattle.rv_mem.specs.Memory.{Memory}
-use Rattle.rv_mem.specs.Pages.{HoldsBytes, IsPlaced, IsWhole}
-use Rattle.pt_bind.specs.Tags.{TagTable}
-use Rattle.kr_view.specs.Living.{Each, HasSmallNumbers, Living, finds_among}
-use Rattle.kr_view.specs.View.{Row}
-use Rattle.kr_calls.specs.Decoding.{decoding}
-use Rattle.kr_calls.specs.declared.request.Request.{Request}
-use Rattle.kr_lawful.specs.Laws.{CanAllBeMade}
-use Rattle.kr_allowed.proofs.RoomLemmas.{lasting-room}
-use Rattle.kr_model.specs.Applied.{with_image}
-use Rattle.kr_model.specs.Known.{known}
-use Rattle.kr_model.proofs.KnownLemmas.{known-bare}
-use Rattle.kr_model.specs.Operation.{operation}
-use Rattle.kr_model.specs.ProcessDirectory.{living_of, space_of}
-use Rattle.kr_model.specs.State.{Image, Process, State, image_layout, with_process}
-use Rattle.kr_allowed.proofs.RowLemmas.{StaysLike, stays-like}
-use Rattle.kr_seen.specs.Carrying.{memory_of, with_memory}
-use Rattle.kr_seen.proofs.StandingLemmas.{living-small}
-use Rattle.kr_steps.specs.Computing.{computed}
-use Rattle.places_stay.specs.Matching.{AreTagged}
-use Rattle.places_stay.specs.Standing.{PlacesStand}
-use Rattle.places_stay.proofs.FollowLemmas.{told_at}
+use Rattle.pt_results.specs.rv_mem.Memory.{Memory}
+use Rattle.pt_results.specs.rv_mem.Pages.{HoldsBytes, IsPlaced, IsWhole}
+use Rattle.pt_results.specs.pt_bind.Tags.{TagTable}
+use Rattle.turns_match.specs.kr_view.Living.{Each, HasSmallNumbers, Living, finds_among}
+use Rattle.turns_match.specs.kr_view.View.{Row}
+use Rattle.pt_results.specs.kr_calls.Decoding.{decoding}
+use Rattle.pt_results.specs.kr_calls.declared.request.Request.{Request}
+use Rattle.turns_match.specs.kr_lawful.Laws.{CanAllBeMade}
+use Rattle.turns_match.proofs.kr_allowed.RoomLemmas.{lasting-room}
+use Rattle.turns_match.specs.kr_model.Applied.{with_image}
+use Rattle.turns_match.specs.kr_model.Known.{known}
+use Rattle.turns_match.proofs.kr_model.KnownLemmas.{known-bare}
+use Rattle.turns_match.specs.kr_model.Operation.{operation}
+use Rattle.turns_match.specs.kr_model.ProcessDirectory.{living_of, space_of}
+use Rattle.turns_match.specs.kr_model.State.{Image, Process, State, image_layout, with_process}
+use Rattle.turns_match.proofs.kr_allowed.RowLemmas.{StaysLike, stays-like}
+use Rattle.turns_match.specs.kr_seen.Carrying.{memory_of, with_memory}
+use Rattle.turns_match.proofs.kr_seen.StandingLemmas.{living-small}
+use Rattle.turns_match.specs.kr_steps.Computing.{computed}
+use Rattle.turns_match.specs.places_stay.Matching.{AreTagged}
+use Rattle.turns_match.specs.places_stay.Standing.{PlacesStand}
+use Rattle.turns_match.proofs.places_stay.FollowLemmas.{told_at}
 use Rattle.turns_match.specs.Calls.{decoded_by, decoded_in}
 use Rattle.turns_match.specs.Operating.{done_in}
 use Rattle.turns_match.proofs.CalledLemmas.{decoded_holds, decoded_lasts, decoded_lives, decoded_memory, decoded_process, is_allowed}
 use Rattle.turns_match.proofs.ImageLemmas.{bare_computed, places_computed, tags_computed}
 use Rattle.turns_match.proofs.OperateLemmas.{with_own_registers}
 use Rattle.path_places.specs.PathCalls.{CallsPath, changes_at, mounts_at, told_at as told_of, written_at}
+use Rattle.path_places.proofs.RuleLemmas.{no_exec}
 
 -- another memory shows no other process
 shown_same : (pid : ℕ) (memory : Memory) (shown : Process ℕ Image → Living) → ((p : Process ℕ Image) → shown (with_image (with_memory memory) p) ≡ shown p) → (ps : List (Process ℕ Image))
@@ -92,4 +93,4 @@ module _ (table : List Row) (made pid : ℕ) (s : State ℕ Image) (p : Process 
   same_space = ap (λ living. record { table = table; tree = at.tree; user = at.user; finds = finds_among living }) (sym (shown_same pid after _ (λ p. refl) at.living))
 
   pub can_all : CanAllBeMade (λ m. m) table (mounts_at table pid s p r) pid written (changes_at table pid s p r)
-  can_all = (is_allowed table made pid s p c.can r c.decoded).made
+  can_all = (is_allowed table made pid s p c.can r c.decoded (no_exec r c.kind)).made

@@ -3,26 +3,26 @@ use Rattle.std.proofs.Common.{◌≡◌, ℕ, Bool, true, false, cond, List, [],
 use Rattle.std.specs.Prelude.{◌&&◌}
 use Rattle.std.specs.List.{list_all}
 use Rattle.std.specs.Option.{option_map_or}
-use Rattle.rv_mem.specs.Actions.{carried_out}
-use Rattle.rv_mem.specs.Memory.{Memory}
-use Rattle.pt_bind.specs.Tags.{TagTable}
-use Rattle.kr_tree.specs.declared.place.Host.{Host}
-use Rattle.kr_tree.specs.declared.place.Host.TheVariants.{Node, Proc}
-use Rattle.kr_view.specs.View.{Row}
-use Rattle.kr_calls.specs.declared.request.Request.{Request}
-use Rattle.kr_calls.specs.declared.request.Request.TheVariants as call
-use Rattle.kr_model.specs.Applied.{Mounts, applied, images}
-use Rattle.kr_model.specs.Change.{Change, ChangeDirectory, CopyDescriptor, End, Fork, MoveName, OpenFile, ReplaceExecutable}
-use Rattle.kr_model.specs.Known.{Known}
-use Rattle.kr_model.specs.NameRows.{is_one}
-use Rattle.kr_model.specs.Operation.{operation}
-use Rattle.kr_model.specs.Seen.{Entered, Moves, Seen, Taken, TakesCovered, Takes, TakesNoName}
-use Rattle.kr_model.specs.State.{Image, State}
-use Rattle.kr_calm.specs.Foreseen.{moved_away, prospect}
-use Rattle.kr_calm.specs.Prospects.{answers_zero, move, move_made, renameat2_made}
-use Rattle.kr_calm.proofs.ChangeLemmas.{both}
-use Rattle.kr_calm.proofs.ProspectLemmas.{foreseen_calls_make_it}
-use Rattle.places_stay.specs.Changes.{NewPlaceStands, NewPlacesStand}
+use Rattle.pt_results.specs.rv_mem.Actions.{carried_out}
+use Rattle.pt_results.specs.rv_mem.Memory.{Memory}
+use Rattle.pt_results.specs.pt_bind.Tags.{TagTable}
+use Rattle.turns_match.specs.kr_tree.declared.place.Host.{Host}
+use Rattle.turns_match.specs.kr_tree.declared.place.Host.TheVariants.{Node, Proc}
+use Rattle.turns_match.specs.kr_view.View.{Row}
+use Rattle.pt_results.specs.kr_calls.declared.request.Request.{Request}
+use Rattle.pt_results.specs.kr_calls.declared.request.Request.TheVariants as call
+use Rattle.turns_match.specs.kr_model.Applied.{Mounts, applied, images}
+use Rattle.turns_match.specs.kr_model.Change.{Change, ChangeDirectory, CopyDescriptor, End, Fork, MoveName, OpenFile, ReplaceExecutable}
+use Rattle.turns_match.specs.kr_model.Known.{Known}
+use Rattle.turns_match.specs.kr_model.NameRows.{is_one}
+use Rattle.turns_match.specs.kr_model.Operation.{operation}
+use Rattle.turns_match.specs.kr_model.Seen.{Entered, Moves, Seen, Taken, TakesCovered, Takes, TakesNoName}
+use Rattle.turns_match.specs.kr_model.State.{Image, State}
+use Rattle.turns_match.specs.kr_calm.Foreseen.{moved_away, prospect}
+use Rattle.turns_match.specs.kr_calm.Prospects.{answers_zero, move, move_made, renameat2_made}
+use Rattle.turns_match.proofs.kr_calm.ChangeLemmas.{both}
+use Rattle.turns_match.proofs.kr_calm.ProspectLemmas.{foreseen_calls_make_it}
+use Rattle.turns_match.specs.places_stay.Changes.{NewPlaceStands, NewPlacesStand}
 use Rattle.turns_match.specs.Changing.{all_tags_made}
 use Rattle.path_places.specs.PathCalls.{HasPath}
 use Rattle.path_places.proofs.RowLemmas.{leave_places, leaves_places, others_leave_places}

@@ -3,43 +3,43 @@ use Rattle.std.proofs.Common.{◌≡◌, ℕ, Bool, true, false, List, [], ◌�
 use Rattle.std.specs.Prelude.{◌||◌, ◌==◌, not}
 use Rattle.std.specs.Bool.{if◌then◌else◌}
 use Rattle.std.specs.Option.{option_map, option_map_or}
-use Rattle.pr_base.specs.Paths.{is_absolute}
-use Rattle.pr_base.specs.Texts.{Text}
-use Rattle.pr_base.specs.WalkFrame.{Target}
-use Rattle.pr_base.specs.declared.errno.Errno.{Errno}
-use Rattle.pr_base.specs.declared.errno.Errno.TheVariants.{EBADF, ENOENT, ENOTDIR}
-use Rattle.pr_base.specs.declared.path.WalkMode.{WalkMode}
-use Rattle.pr_base.proofs.AlikeLemmas.{alike_ok}
-use Rattle.pt_bind.specs.Tags.{TagTable}
-use Rattle.pt_canon.specs.TextWalk.{text_walk}
-use Rattle.kr_calls.specs.PathTable.{PathUse, path_at}
-use Rattle.kr_calls.specs.declared.request.Request.{Request}
-use Rattle.kr_tree.specs.declared.place.Place.{Place}
-use Rattle.kr_tree.proofs.NameLemmas.{some_is, then_some}
-use Rattle.kr_files.specs.Descriptors.{Named}
-use Rattle.kr_files.specs.Files.{file_at}
-use Rattle.kr_files.specs.declared.opened.Opened.{Opened}
-use Rattle.kr_view.specs.Component.{Namespace}
-use Rattle.kr_view.specs.Living.{Each, HasSmallNumbers}
-use Rattle.kr_view.specs.View.{Row, root_place}
-use Rattle.kr_view.specs.Walk.{PlaceTarget, place_walk}
-use Rattle.kr_model.specs.Applied.{cwd_of}
-use Rattle.kr_model.specs.Asking.{descriptor_number, is_working_directory}
-use Rattle.kr_model.specs.FileRows.{is_dir}
-use Rattle.kr_model.specs.ProcessDirectory.{around_of, living_of, space_of}
-use Rattle.kr_model.specs.State.{Image, Process, State, named, opened, process}
-use Rattle.kr_model.specs.Walks.{Targets, and_then, base_of, place_of_descriptor, place_of_open, target_at, targets_of, walked}
-use Rattle.walks_agree.specs.Handed.{BothEnd}
-use Rattle.walks_agree.specs.Scene.{IsMatched, Scene, texts_in}
-use Rattle.walks_agree.specs.Standing.{StandsOn, likeness}
-use Rattle.walks_agree.specs.States.{scene_of}
-use Rattle.walks_agree.proofs.AgreeLemmas.{walks_agree}
-use Rattle.walks_agree.proofs.StandingLemmas.{roots_stand}
-use Rattle.walks_agree.proofs.StateLemmas.{states_are_matched}
-use Rattle.places_stay.specs.Matching.{AreTagged}
-use Rattle.places_stay.specs.Standing.{PlacesStand}
-use Rattle.places_stay.specs.Uses.{cwd_use, is_cwd, is_open, open_use}
-use Rattle.places_stay.proofs.MatchLemmas.{tagged_places_are_placed}
+use Rattle.pt_results.specs.pr_base.Paths.{is_absolute}
+use Rattle.pt_results.specs.pr_base.Texts.{Text}
+use Rattle.pt_results.specs.pr_base.WalkFrame.{Target}
+use Rattle.pt_results.specs.pr_base.declared.errno.Errno.{Errno}
+use Rattle.pt_results.specs.pr_base.declared.errno.Errno.TheVariants.{EBADF, ENOENT, ENOTDIR}
+use Rattle.pt_results.specs.pr_base.declared.path.WalkMode.{WalkMode}
+use Rattle.pt_results.proofs.pr_base.AlikeLemmas.{alike_ok}
+use Rattle.pt_results.specs.pt_bind.Tags.{TagTable}
+use Rattle.pt_results.specs.pt_canon.TextWalk.{text_walk}
+use Rattle.pt_results.specs.kr_calls.PathTable.{PathUse, path_at}
+use Rattle.pt_results.specs.kr_calls.declared.request.Request.{Request}
+use Rattle.turns_match.specs.kr_tree.declared.place.Place.{Place}
+use Rattle.turns_match.proofs.kr_tree.NameLemmas.{some_is, then_some}
+use Rattle.turns_match.specs.kr_files.Descriptors.{Named}
+use Rattle.turns_match.specs.kr_files.Files.{file_at}
+use Rattle.turns_match.specs.kr_files.declared.opened.Opened.{Opened}
+use Rattle.turns_match.specs.kr_view.Component.{Namespace}
+use Rattle.turns_match.specs.kr_view.Living.{Each, HasSmallNumbers}
+use Rattle.turns_match.specs.kr_view.View.{Row, root_place}
+use Rattle.turns_match.specs.kr_view.Walk.{PlaceTarget, place_walk}
+use Rattle.turns_match.specs.kr_model.Applied.{cwd_of}
+use Rattle.turns_match.specs.kr_model.Asking.{descriptor_number, is_working_directory}
+use Rattle.turns_match.specs.kr_model.FileRows.{is_dir}
+use Rattle.turns_match.specs.kr_model.ProcessDirectory.{around_of, living_of, space_of}
+use Rattle.turns_match.specs.kr_model.State.{Image, Process, State, named, opened, process}
+use Rattle.turns_match.specs.kr_model.Walks.{Targets, and_then, base_of, place_of_descriptor, place_of_open, target_at, targets_of, walked}
+use Rattle.turns_match.specs.walks_agree.Handed.{BothEnd}
+use Rattle.turns_match.specs.walks_agree.Scene.{IsMatched, Scene, texts_in}
+use Rattle.turns_match.specs.walks_agree.Standing.{StandsOn, likeness}
+use Rattle.turns_match.specs.walks_agree.States.{scene_of}
+use Rattle.turns_match.proofs.walks_agree.AgreeLemmas.{walks_agree}
+use Rattle.turns_match.proofs.walks_agree.StandingLemmas.{roots_stand}
+use Rattle.turns_match.proofs.walks_agree.StateLemmas.{states_are_matched}
+use Rattle.turns_match.specs.places_stay.Matching.{AreTagged}
+use Rattle.turns_match.specs.places_stay.Standing.{PlacesStand}
+use Rattle.turns_match.specs.places_stay.Uses.{cwd_use, is_cwd, is_open, open_use}
+use Rattle.turns_match.proofs.places_stay.MatchLemmas.{tagged_places_are_placed}
 
 ok_is : {A : Type 0} (a b : A) → ◌≡◌ {A = Result A Errno} (Ok a) (Ok b) → a ≡ b
 ok_is a b e = cc

@@ -2,36 +2,36 @@
 use Rattle.std.specs.Prelude.{◌≡◌, ℕ, Bool, List, ◌∷◌, None, Ok, Some}
 use Rattle.std.specs.Int.{cast_signed, cast_unsigned, w64}
 use Rattle.std.specs.Option.{option_map_or}
-use Rattle.pr_base.specs.Texts.{Text}
-use Rattle.pr_base.specs.WalkFrame.{Target}
-use Rattle.pr_base.specs.declared.path.Last.TheVariants as last
-use Rattle.pr_base.specs.declared.path.WalkMode.{WalkMode}
-use Rattle.pt_bind.specs.Binding.{index_of}
-use Rattle.pt_bind.specs.Tags.{TagTable}
+use Rattle.pt_results.specs.pr_base.Texts.{Text}
+use Rattle.pt_results.specs.pr_base.WalkFrame.{Target}
+use Rattle.pt_results.specs.pr_base.declared.path.Last.TheVariants as last
+use Rattle.pt_results.specs.pr_base.declared.path.WalkMode.{WalkMode}
+use Rattle.pt_results.specs.pt_bind.Binding.{index_of}
+use Rattle.pt_results.specs.pt_bind.Tags.{TagTable}
 use Rattle.pt_results.specs.Notes.{noted, tags_after}
-use Rattle.kr_tree.specs.declared.place.Place.{Place}
-use Rattle.kr_view.specs.View.{Row, plain}
-use Rattle.kr_view.specs.Walk.{PlaceTarget}
-use Rattle.kr_mounts.specs.Standing.{texts_of}
-use Rattle.kr_calls.specs.declared.request.Request.{Request}
-use Rattle.kr_calls.specs.declared.request.Request.TheVariants as call
-use Rattle.kr_model.specs.Applied.{Mounts}
-use Rattle.kr_model.specs.Bare.{bare_mounts}
-use Rattle.kr_model.specs.Change.{Change}
-use Rattle.kr_model.specs.Seen.{Seen}
-use Rattle.kr_model.specs.State.{Image, Process, State}
-use Rattle.kr_model.specs.Walks.{Targets, seen, targets_of}
-use Rattle.kr_model.specs.declared.outcome.Outcome.{Outcome}
-use Rattle.kr_model.specs.declared.outcome.Outcome.TheVariants.{Answer, Wait, Ended, NoMemory}
-use Rattle.kr_allowed.specs.Allowed.{LeavesLawful}
-use Rattle.kr_allowed.specs.Told.{mounts_walked}
-use Rattle.kr_turns.specs.Breaking.{plain_rule}
-use Rattle.walks_agree.specs.Handed.{BothEnd}
-use Rattle.walks_agree.specs.Scene.{Scene}
-use Rattle.places_stay.specs.Changes.{NewPlacesStand}
-use Rattle.places_stay.specs.Matching.{AreTagged, index_at}
-use Rattle.places_stay.specs.Standing.{PlacesStand}
-use Rattle.calm_places.specs.Keeping.{MovesStayInside}
+use Rattle.turns_match.specs.kr_tree.declared.place.Place.{Place}
+use Rattle.turns_match.specs.kr_view.View.{Row, plain}
+use Rattle.turns_match.specs.kr_view.Walk.{PlaceTarget}
+use Rattle.turns_match.specs.kr_mounts.Standing.{texts_of}
+use Rattle.pt_results.specs.kr_calls.declared.request.Request.{Request}
+use Rattle.pt_results.specs.kr_calls.declared.request.Request.TheVariants as call
+use Rattle.turns_match.specs.kr_model.Applied.{Mounts}
+use Rattle.turns_match.specs.kr_model.Bare.{bare_mounts}
+use Rattle.turns_match.specs.kr_model.Change.{Change}
+use Rattle.turns_match.specs.kr_model.Seen.{Seen}
+use Rattle.turns_match.specs.kr_model.State.{Image, Process, State}
+use Rattle.turns_match.specs.kr_model.Walks.{Targets, seen, targets_of}
+use Rattle.turns_match.specs.kr_model.declared.outcome.Outcome.{Outcome}
+use Rattle.turns_match.specs.kr_model.declared.outcome.Outcome.TheVariants.{Answer, Wait, Ended, NoMemory}
+use Rattle.turns_match.specs.kr_allowed.Allowed.{LeavesLawful}
+use Rattle.turns_match.specs.kr_allowed.Told.{mounts_walked}
+use Rattle.turns_match.specs.kr_turns.Breaking.{plain_rule}
+use Rattle.turns_match.specs.walks_agree.Handed.{BothEnd}
+use Rattle.turns_match.specs.walks_agree.Scene.{Scene}
+use Rattle.turns_match.specs.places_stay.Changes.{NewPlacesStand}
+use Rattle.turns_match.specs.places_stay.Matching.{AreTagged, index_at}
+use Rattle.turns_match.specs.places_stay.Standing.{PlacesStand}
+use Rattle.turns_match.specs.calm_places.Keeping.{MovesStayInside}
 use Rattle.turns_match.specs.Calls.{decoded_by, decoded_in}
 use Rattle.turns_match.specs.Changing.{all_tags_made}
 use Rattle.turns_match.specs.Lasting.{CanBeCalled}

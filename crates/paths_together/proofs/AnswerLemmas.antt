@@ -1,26 +1,26 @@
 -- A call along paths that the tracer answers itself, where the kernel with mounts answers and writes the same.
 use Rattle.std.proofs.Common.{◌≡◌, ℕ, false, List, [], Some, None, Ok, sym, ap, subst, ◌∙◌, ℤ}
 use Rattle.std.specs.Option.{unwrap_or}
-use Rattle.rv_mem.specs.Actions.{AreEqualUnmarked}
-use Rattle.rv_mem.specs.Memory.{Memory}
+use Rattle.pt_args.specs.rv_mem.Actions.{AreEqualUnmarked}
+use Rattle.pt_args.specs.rv_mem.Memory.{Memory}
 use Rattle.pt_args.specs.declared.edit.Edit.{Edit}
-use Rattle.pt_results.specs.Notes.{noted, tags_after}
-use Rattle.kr_view.specs.View.{Row}
-use Rattle.kr_calls.specs.declared.request.Request.{Request}
-use Rattle.kr_seen.specs.Carrying.{memory_of}
-use Rattle.kr_model.specs.State.{Image, Process, State, process}
-use Rattle.kr_model.specs.Walks.{seen}
-use Rattle.kr_model.specs.declared.outcome.Outcome.TheVariants.{Answer}
-use Rattle.kr_turns.specs.Stopped.{IsThere, Stopped}
-use Rattle.kr_turns.specs.Turn.{Machine, calling, watched_call}
-use Rattle.kr_turns.specs.Watching.{unwatched}
-use Rattle.kr_turns.proofs.EditLemmas.{there as is_there}
-use Rattle.pt_tracer.specs.Stopping.{decoded_at, memory_at}
-use Rattle.pt_watched.specs.Planning.{answered, edit_for, led_of, rewritten, texts_at}
-use Rattle.pt_watched.specs.Watched.{Tracing, applied}
-use Rattle.places_stay.proofs.MatchLemmas.{tagged_places_are_placed}
-use Rattle.stops_match.specs.turns_match.Operating.{done_in}
-use Rattle.stops_match.proofs.turns_match.CalledLemmas.{decoded_lives, decoded_memory, decoded_process}
+use Rattle.path_places.specs.pt_results.Notes.{noted, tags_after}
+use Rattle.plans_short.specs.kr_view.View.{Row}
+use Rattle.pt_args.specs.kr_calls.declared.request.Request.{Request}
+use Rattle.stops_match.specs.kr_seen.Carrying.{memory_of}
+use Rattle.stops_match.specs.kr_model.State.{Image, Process, State, process}
+use Rattle.stops_match.specs.kr_model.Walks.{seen}
+use Rattle.stops_match.specs.kr_model.declared.outcome.Outcome.TheVariants.{Answer}
+use Rattle.path_places.specs.kr_turns.Stopped.{IsThere, Stopped}
+use Rattle.path_places.specs.kr_turns.Turn.{Machine, calling, watched_call}
+use Rattle.path_places.specs.kr_turns.Watching.{unwatched}
+use Rattle.path_places.proofs.kr_turns.EditLemmas.{there as is_there}
+use Rattle.stops_match.specs.pt_tracer.Stopping.{decoded_at, memory_at}
+use Rattle.plans_short.specs.pt_watched.Planning.{answered, edit_for, led_of, rewritten, texts_at}
+use Rattle.plans_short.specs.pt_watched.Watched.{Tracing, applied}
+use Rattle.plans_short.proofs.places_stay.MatchLemmas.{tagged_places_are_placed}
+use Rattle.path_places.specs.turns_match.Operating.{done_in}
+use Rattle.path_places.proofs.turns_match.CalledLemmas.{decoded_lives, decoded_memory, decoded_process}
 use Rattle.path_places.specs.PathCalls.{HasPath}
 use Rattle.plans_short.specs.answers_agree.Answers.{AreAnsweredAlike, CanBeTold, IsIn}
 use Rattle.stops_match.specs.Answering.{IsAnsweredAlike}

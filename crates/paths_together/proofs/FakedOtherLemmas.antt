@@ -1,25 +1,25 @@
 -- Calls along paths where an identity is told are those without one, and so each call but execve(2) keeps both machines together.
 use Rattle.std.proofs.Common.{◌≡◌, ℕ, true, false, List, Option, Some, None, Ok, refl, sym, ap, ◌∙◌}
 use Rattle.std.specs.Prelude.{IsSome}
-use Rattle.pr_base.specs.declared.path.WalkMode.TheVariants.{Look}
+use Rattle.path_places.specs.pr_base.declared.path.WalkMode.TheVariants.{Look}
 use Rattle.pt_args.specs.Laws.{ShelvesHoldTheirItems, TextsAreReadBack}
-use Rattle.kr_view.specs.View.{Row, plain}
-use Rattle.kr_calls.specs.PathTable.{PathUse, working_directory}
-use Rattle.kr_calls.specs.declared.request.Request.{Request}
-use Rattle.kr_calls.specs.declared.request.Request.TheVariants as call
-use Rattle.kr_model.specs.State.{Image, Process, process}
-use Rattle.kr_turns.specs.PlainCall.{Came, operated, plain_call}
-use Rattle.kr_turns.specs.Turn.{Machine, calling, watched_call}
-use Rattle.kr_turns.specs.Watching.{unwatched}
-use Rattle.kr_turns.proofs.PlainLemmas.{no-exec-requested}
-use Rattle.pt_tracer.specs.Faking.{Faking, faker}
-use Rattle.pt_tracer.specs.Stopping.{decoded_at}
-use Rattle.pt_watched.specs.Planning.{led_of, texts_at}
-use Rattle.pt_watched.specs.Watched.{Tracing, tracer}
-use Rattle.pt_watched.specs.Watched as watched
-use Rattle.images_apart.specs.Paths.{is_told_of_paths}
-use Rattle.stops_match.proofs.turns_match.CallLemmas.{by_request}
-use Rattle.stops_match.proofs.turns_match.RunLemmas.{lives_too}
+use Rattle.plans_short.specs.kr_view.View.{Row, plain}
+use Rattle.pt_args.specs.kr_calls.PathTable.{PathUse, working_directory}
+use Rattle.pt_args.specs.kr_calls.declared.request.Request.{Request}
+use Rattle.pt_args.specs.kr_calls.declared.request.Request.TheVariants as call
+use Rattle.stops_match.specs.kr_model.State.{Image, Process, process}
+use Rattle.path_places.specs.kr_turns.PlainCall.{Came, operated, plain_call}
+use Rattle.path_places.specs.kr_turns.Turn.{Machine, calling, watched_call}
+use Rattle.path_places.specs.kr_turns.Watching.{unwatched}
+use Rattle.path_places.proofs.kr_turns.PlainLemmas.{no-exec-requested}
+use Rattle.stops_match.specs.pt_tracer.Faking.{Faking, faker}
+use Rattle.stops_match.specs.pt_tracer.Stopping.{decoded_at}
+use Rattle.plans_short.specs.pt_watched.Planning.{led_of, texts_at}
+use Rattle.plans_short.specs.pt_watched.Watched.{Tracing, tracer}
+use Rattle.plans_short.specs.pt_watched.Watched as watched
+use Rattle.stops_match.specs.images_apart.Paths.{is_told_of_paths}
+use Rattle.path_places.proofs.turns_match.CallLemmas.{by_request}
+use Rattle.path_places.proofs.turns_match.RunLemmas.{lives_too}
 use Rattle.path_places.specs.PathCalls.{HasPath}
 use Rattle.path_places.proofs.RuleLemmas.{no_exec}
 use Rattle.stops_match.proofs.CallLemmas as before

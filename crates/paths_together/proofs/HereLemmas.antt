@@ -4,41 +4,41 @@ use Rattle.std.proofs.Common.{◌≡◌, ◌≤◌, ℕ, Bool, true, false, cond
 use Rattle.std.specs.Prelude.{nat_lt}
 use Rattle.std.specs.Option.{option_map_or}
 use Rattle.std.proofs.lemmas.Bool.Decides.{nat_tests}
-use Rattle.rv_mem.specs.Actions.{AreEqualUnmarked}
-use Rattle.rv_mem.specs.Layout.{layout_of}
-use Rattle.rv_mem.specs.Memory.{Memory}
-use Rattle.kr_view.specs.View.{Row, plain}
-use Rattle.kr_calls.specs.Decoding.{decoding}
-use Rattle.kr_calls.specs.declared.request.Request.{Request}
-use Rattle.kr_allowed.specs.Texts.{LinksHaveTexts}
-use Rattle.kr_allowed.specs.Calls.{HasTextPaths}
-use Rattle.kr_allowed.proofs.DecodedLemmas.{decoded-are-givable, decoding-leaves-pages}
-use Rattle.kr_allowed.proofs.RowLemmas.{stays-like}
-use Rattle.kr_calm.specs.Rules.{breaks_2}
-use Rattle.kr_model.specs.Bare.{pins_of}
-use Rattle.kr_model.specs.State.{Image, Process, State, process}
-use Rattle.kr_model.specs.Walks.{targets_of}
-use Rattle.kr_seen.specs.CallWalks.{call_reach}
-use Rattle.kr_steps.specs.Computing.{computed}
-use Rattle.kr_turns.specs.Breaking.{decoded_rule, nothing_reached, operated_rule, plain_rule_of}
-use Rattle.kr_turns.specs.Stopped.{Stopped}
-use Rattle.kr_turns.specs.Turn.{Machine, calling, watched_call}
-use Rattle.kr_turns.specs.Watching.{unwatched}
-use Rattle.kr_turns.proofs.PlainLemmas.{no-exec-rule}
-use Rattle.pt_canon.specs.TextWalk.{TextSurroundings}
-use Rattle.pt_tracer.specs.Stopping.{after_request, decoded_at}
-use Rattle.pt_watched.specs.Planning.{edit_for, texts_at}
-use Rattle.pt_watched.specs.Watched.{Tracing}
-use Rattle.walks_bare.proofs.StateLemmas.{peeks_are_bare}
-use Rattle.places_stay.specs.Matching.{IsMatch}
-use Rattle.stops_match.specs.turns_match.Calls.{decoded_by, decoded_in}
-use Rattle.stops_match.specs.turns_match.Lasting.{CanBeCalled}
-use Rattle.stops_match.proofs.turns_match.CalledLemmas.{decoded_lasts}
-use Rattle.stops_match.proofs.turns_match.MatchLemmas.{match_computed}
+use Rattle.pt_args.specs.rv_mem.Actions.{AreEqualUnmarked}
+use Rattle.pt_args.specs.rv_mem.Layout.{layout_of}
+use Rattle.pt_args.specs.rv_mem.Memory.{Memory}
+use Rattle.plans_short.specs.kr_view.View.{Row, plain}
+use Rattle.pt_args.specs.kr_calls.Decoding.{decoding}
+use Rattle.pt_args.specs.kr_calls.declared.request.Request.{Request}
+use Rattle.path_places.specs.kr_allowed.Texts.{LinksHaveTexts}
+use Rattle.path_places.specs.kr_allowed.Calls.{HasTextPaths}
+use Rattle.path_places.proofs.kr_allowed.DecodedLemmas.{decoded-are-givable, decoding-leaves-pages}
+use Rattle.path_places.proofs.kr_allowed.RowLemmas.{stays-like}
+use Rattle.stops_match.specs.kr_calm.Rules.{breaks_2}
+use Rattle.stops_match.specs.kr_model.Bare.{pins_of}
+use Rattle.stops_match.specs.kr_model.State.{Image, Process, State, process}
+use Rattle.stops_match.specs.kr_model.Walks.{targets_of}
+use Rattle.stops_match.specs.kr_seen.CallWalks.{call_reach}
+use Rattle.stops_match.specs.kr_steps.Computing.{computed}
+use Rattle.path_places.specs.kr_turns.Breaking.{decoded_rule, nothing_reached, operated_rule, plain_rule_of}
+use Rattle.path_places.specs.kr_turns.Stopped.{Stopped}
+use Rattle.path_places.specs.kr_turns.Turn.{Machine, calling, watched_call}
+use Rattle.path_places.specs.kr_turns.Watching.{unwatched}
+use Rattle.path_places.proofs.kr_turns.PlainLemmas.{no-exec-rule}
+use Rattle.pt_args.specs.pt_canon.TextWalk.{TextSurroundings}
+use Rattle.stops_match.specs.pt_tracer.Stopping.{after_request, decoded_at}
+use Rattle.plans_short.specs.pt_watched.Planning.{edit_for, texts_at}
+use Rattle.plans_short.specs.pt_watched.Watched.{Tracing}
+use Rattle.stops_match.proofs.walks_bare.StateLemmas.{peeks_are_bare}
+use Rattle.plans_short.specs.places_stay.Matching.{IsMatch}
+use Rattle.path_places.specs.turns_match.Calls.{decoded_by, decoded_in}
+use Rattle.path_places.specs.turns_match.Lasting.{CanBeCalled}
+use Rattle.path_places.proofs.turns_match.CalledLemmas.{decoded_lasts}
+use Rattle.path_places.proofs.turns_match.MatchLemmas.{match_computed}
 use Rattle.path_places.specs.PathCalls.{CallsPath, HasPath}
 use Rattle.path_places.proofs.RuleLemmas.{no_exec}
 use Rattle.path_places.proofs.SettingLemmas.{at_small}
-use Rattle.plans_agree.specs.Begins.{StandTogether, told_texts}
+use Rattle.plans_short.specs.plans_agree.Begins.{StandTogether, told_texts}
 use Rattle.stops_match.specs.Cancelling.{at_first_stop}
 use Rattle.stops_match.specs.Turning.{ComeToCall}
 use Rattle.stops_match.proofs.CallLemmas as before

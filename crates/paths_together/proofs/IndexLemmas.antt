@@ -1,36 +1,36 @@
 -- The index that a tracer notes of an answer is that of the mount to which the first path leads, or the answer is an error.
 use Rattle.std.proofs.Common.{◌≡◌, ◌⊎◌, inl, inr, ℕ, Bool, true, false, List, ◌∷◌, Option, Some, None, Result, Ok, Err, refl, sym, ap, ◌∙◌}
 use Rattle.std.specs.Option.{option_map_or, unwrap_or}
-use Rattle.pr_base.specs.MountText.{MountText}
-use Rattle.pr_base.specs.WalkFrame.{may_be_free}
-use Rattle.pr_base.specs.declared.errno.Errno.{Errno}
-use Rattle.pr_base.specs.declared.path.Last.{Last}
-use Rattle.pr_base.specs.declared.path.Last.TheVariants as last
-use Rattle.pt_bind.specs.Binding.{index_of}
-use Rattle.pt_bind.specs.Tags.{TagTable}
-use Rattle.pt_canon.specs.Canon.{canon_result, entry_text, guest_text}
-use Rattle.pt_canon.specs.declared.canon.Canon.{Canon}
-use Rattle.kr_calls.specs.PathTable.{PathUse, path_at}
-use Rattle.kr_calls.specs.declared.request.Request.{Request}
-use Rattle.kr_view.specs.View.{Row}
-use Rattle.kr_view.specs.Walk.{PlaceTarget}
-use Rattle.kr_mounts.specs.Standing.{texts_of}
-use Rattle.kr_tree.specs.declared.place.Place.{Place}
-use Rattle.kr_model.specs.Known.{Known}
-use Rattle.kr_model.specs.Operation.{operation}
-use Rattle.kr_model.specs.Reply.{refuse}
-use Rattle.kr_model.specs.State.{Image, State}
-use Rattle.kr_model.specs.Walks.{Targets, and_then, seen, targets_of, walked}
-use Rattle.pt_watched.specs.Planning.{led_along, led_by}
-use Rattle.walks_agree.specs.Standing.{FoundStands}
-use Rattle.places_stay.specs.Matching.{index_at}
+use Rattle.path_places.specs.pr_base.MountText.{MountText}
+use Rattle.path_places.specs.pr_base.WalkFrame.{may_be_free}
+use Rattle.path_places.specs.pr_base.declared.errno.Errno.{Errno}
+use Rattle.path_places.specs.pr_base.declared.path.Last.{Last}
+use Rattle.path_places.specs.pr_base.declared.path.Last.TheVariants as last
+use Rattle.pt_args.specs.pt_bind.Binding.{index_of}
+use Rattle.pt_args.specs.pt_bind.Tags.{TagTable}
+use Rattle.pt_args.specs.pt_canon.Canon.{canon_result, entry_text, guest_text}
+use Rattle.pt_args.specs.pt_canon.declared.canon.Canon.{Canon}
+use Rattle.pt_args.specs.kr_calls.PathTable.{PathUse, path_at}
+use Rattle.pt_args.specs.kr_calls.declared.request.Request.{Request}
+use Rattle.plans_short.specs.kr_view.View.{Row}
+use Rattle.plans_short.specs.kr_view.Walk.{PlaceTarget}
+use Rattle.plans_short.specs.kr_mounts.Standing.{texts_of}
+use Rattle.stops_match.specs.kr_tree.declared.place.Place.{Place}
+use Rattle.stops_match.specs.kr_model.Known.{Known}
+use Rattle.stops_match.specs.kr_model.Operation.{operation}
+use Rattle.stops_match.specs.kr_model.Reply.{refuse}
+use Rattle.stops_match.specs.kr_model.State.{Image, State}
+use Rattle.stops_match.specs.kr_model.Walks.{Targets, and_then, seen, targets_of, walked}
+use Rattle.plans_short.specs.pt_watched.Planning.{led_along, led_by}
+use Rattle.plans_short.specs.walks_agree.Standing.{FoundStands}
+use Rattle.plans_short.specs.places_stay.Matching.{index_at}
 use Rattle.path_places.specs.PathCalls.{HasIndexWalked, IsIndexWalked, mount_come_to}
 use Rattle.path_places.proofs.IndexLemmas.{texts_have_indices}
-use Rattle.plans_agree.specs.Begins.{Fails, FailsSo, IsEmpty, Leads, LeadsBoth, PathAgrees, StandTogether, Stays, told_texts}
-use Rattle.plans_agree.proofs.CreateLemmas.{none_alike}
-use Rattle.plans_agree.proofs.LeadLemmas.{alike, found_text, found_there, same_canon, scene, space}
-use Rattle.plans_agree.proofs.PathLemmas.{paths_agree}
-use Rattle.plans_agree.proofs.PlanLemmas.{only, targets_only}
+use Rattle.plans_short.specs.plans_agree.Begins.{Fails, FailsSo, IsEmpty, Leads, LeadsBoth, PathAgrees, StandTogether, Stays, told_texts}
+use Rattle.plans_short.proofs.plans_agree.CreateLemmas.{none_alike}
+use Rattle.plans_short.proofs.plans_agree.LeadLemmas.{alike, found_text, found_there, same_canon, scene, space}
+use Rattle.plans_short.proofs.plans_agree.PathLemmas.{paths_agree}
+use Rattle.plans_short.proofs.plans_agree.PlanLemmas.{only, targets_only}
 
 -- ---- the index of the mount to which the first path leads, if it leads anywhere
 

@@ -1,22 +1,22 @@
 -- Calls along paths, whatever the tracer makes of them.
 use Rattle.std.proofs.Common.{◌≡◌, ℕ, List, Option, Some, None, Ok, refl, sym, ap, subst, ◌∙◌, ℤ, pos}
 use Rattle.std.specs.Prelude.{IsSome}
-use Rattle.pr_base.specs.declared.path.WalkMode.TheVariants.{LookLink}
+use Rattle.path_places.specs.pr_base.declared.path.WalkMode.TheVariants.{LookLink}
 use Rattle.pt_args.specs.Laws.{ShelvesHoldTheirItems, TextsAreReadBack}
 use Rattle.pt_args.specs.declared.edit.Edit.{Edit}
-use Rattle.pt_results.specs.Answers.{cwd_answer, link_answer}
-use Rattle.kr_view.specs.View.{Row, plain}
-use Rattle.kr_calls.specs.PathTable.{PathUse, path_at}
-use Rattle.kr_calls.specs.declared.request.Request.{Request}
-use Rattle.kr_calls.specs.declared.request.Request.TheVariants as call
-use Rattle.kr_seen.specs.Carrying.{memory_of}
-use Rattle.kr_model.specs.State.{Image, Process, process}
-use Rattle.kr_turns.specs.Turn.{Machine, calling, watched_call}
-use Rattle.kr_turns.specs.Watching.{unwatched}
-use Rattle.pt_tracer.specs.Stopping.{decoded_at}
-use Rattle.pt_watched.specs.Planning.{answered}
-use Rattle.pt_watched.specs.Watched.{Tracing, tracer}
-use Rattle.stops_match.proofs.turns_match.RunLemmas.{lives_too}
+use Rattle.path_places.specs.pt_results.Answers.{cwd_answer, link_answer}
+use Rattle.plans_short.specs.kr_view.View.{Row, plain}
+use Rattle.pt_args.specs.kr_calls.PathTable.{PathUse, path_at}
+use Rattle.pt_args.specs.kr_calls.declared.request.Request.{Request}
+use Rattle.pt_args.specs.kr_calls.declared.request.Request.TheVariants as call
+use Rattle.stops_match.specs.kr_seen.Carrying.{memory_of}
+use Rattle.stops_match.specs.kr_model.State.{Image, Process, process}
+use Rattle.path_places.specs.kr_turns.Turn.{Machine, calling, watched_call}
+use Rattle.path_places.specs.kr_turns.Watching.{unwatched}
+use Rattle.stops_match.specs.pt_tracer.Stopping.{decoded_at}
+use Rattle.plans_short.specs.pt_watched.Planning.{answered}
+use Rattle.plans_short.specs.pt_watched.Watched.{Tracing, tracer}
+use Rattle.path_places.proofs.turns_match.RunLemmas.{lives_too}
 use Rattle.path_places.specs.PathCalls.{HasPath}
 use Rattle.plans_short.proofs.answers_agree.CwdLemmas.{cwds_are_answered_alike}
 use Rattle.stops_match.specs.Turning.{ComeFromCall, ComeToCall}

@@ -1,3 +1,4 @@
+pub use Rattle.stops_match.proofs as stops_match
 pub mod AnswerLemmas
 pub mod HereLemmas
 pub mod IndexLemmas

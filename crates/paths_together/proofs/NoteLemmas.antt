@@ -2,38 +2,38 @@
 use Rattle.std.proofs.Common.{◌≡◌, ◌⊎◌, inl, inr, ℕ, Bool, true, false, cond, List, Option, None, Ok, refl, sym, ap, ◌∙◌, ℤ}
 use Rattle.std.specs.Int.{cast_signed, w64}
 use Rattle.std.specs.Option.{option_map_or}
-use Rattle.pr_base.specs.WalkFrame.{may_be_free}
-use Rattle.pr_base.specs.declared.errno.Errno.{Errno}
-use Rattle.pr_base.specs.declared.errno.Errno.TheVariants.{EEXIST, EISDIR}
-use Rattle.pr_base.specs.declared.path.Last.{Last}
-use Rattle.pr_base.specs.declared.path.Last.TheVariants as last
-use Rattle.pr_base.specs.declared.path.WalkMode.TheVariants.{Look, LookLink}
-use Rattle.rv_mem.specs.Actions.{carried_out}
-use Rattle.rv_mem.specs.Memory.{Memory}
-use Rattle.pt_bind.specs.Tags.{TagTable}
-use Rattle.pt_ident.specs.Identity.{refusal}
-use Rattle.pt_results.specs.Notes.{noted, noted_of}
-use Rattle.pt_results.specs.Numbers.{made_number}
-use Rattle.kr_calls.specs.Arguments.{has}
-use Rattle.kr_calls.specs.PathTable.{PathUse, make_mode, open_mode, working_directory}
-use Rattle.kr_calls.specs.declared.request.Request.{Request}
-use Rattle.kr_calls.specs.declared.request.Request.TheVariants as call
-use Rattle.kr_view.specs.View.{Row}
-use Rattle.kr_model.specs.FileRows.{excludes}
-use Rattle.kr_model.specs.Known.{Known}
-use Rattle.kr_model.specs.Operation.{operation}
-use Rattle.kr_model.specs.Reply.{Replying, refuse}
-use Rattle.kr_model.specs.Seen.{Opens, OpensFound, OpensNew, OpensNoName, OpensSlashed, Seen}
-use Rattle.kr_model.specs.State.{Image, State}
-use Rattle.kr_model.specs.Walks.{and_then, created_at, if_found, if_name, looked_at, seen, seen_of}
-use Rattle.kr_model.specs.declared.outcome.Outcome.{Outcome}
-use Rattle.kr_model.specs.declared.outcome.Outcome.TheVariants.{Answer}
-use Rattle.pt_tracer.specs.Faking.{word_of}
-use Rattle.pt_watched.specs.Planning.{led_of}
-use Rattle.places_stay.specs.Matching.{index_at}
+use Rattle.path_places.specs.pr_base.WalkFrame.{may_be_free}
+use Rattle.path_places.specs.pr_base.declared.errno.Errno.{Errno}
+use Rattle.path_places.specs.pr_base.declared.errno.Errno.TheVariants.{EEXIST, EISDIR}
+use Rattle.path_places.specs.pr_base.declared.path.Last.{Last}
+use Rattle.path_places.specs.pr_base.declared.path.Last.TheVariants as last
+use Rattle.path_places.specs.pr_base.declared.path.WalkMode.TheVariants.{Look, LookLink}
+use Rattle.pt_args.specs.rv_mem.Actions.{carried_out}
+use Rattle.pt_args.specs.rv_mem.Memory.{Memory}
+use Rattle.pt_args.specs.pt_bind.Tags.{TagTable}
+use Rattle.stops_match.specs.pt_ident.Identity.{refusal}
+use Rattle.path_places.specs.pt_results.Notes.{noted, noted_of}
+use Rattle.path_places.specs.pt_results.Numbers.{made_number}
+use Rattle.pt_args.specs.kr_calls.Arguments.{has}
+use Rattle.pt_args.specs.kr_calls.PathTable.{PathUse, make_mode, open_mode, working_directory}
+use Rattle.pt_args.specs.kr_calls.declared.request.Request.{Request}
+use Rattle.pt_args.specs.kr_calls.declared.request.Request.TheVariants as call
+use Rattle.plans_short.specs.kr_view.View.{Row}
+use Rattle.stops_match.specs.kr_model.FileRows.{excludes}
+use Rattle.stops_match.specs.kr_model.Known.{Known}
+use Rattle.stops_match.specs.kr_model.Operation.{operation}
+use Rattle.stops_match.specs.kr_model.Reply.{Replying, refuse}
+use Rattle.stops_match.specs.kr_model.Seen.{Opens, OpensFound, OpensNew, OpensNoName, OpensSlashed, Seen}
+use Rattle.stops_match.specs.kr_model.State.{Image, State}
+use Rattle.stops_match.specs.kr_model.Walks.{and_then, created_at, if_found, if_name, looked_at, seen, seen_of}
+use Rattle.stops_match.specs.kr_model.declared.outcome.Outcome.{Outcome}
+use Rattle.stops_match.specs.kr_model.declared.outcome.Outcome.TheVariants.{Answer}
+use Rattle.stops_match.specs.pt_tracer.Faking.{word_of}
+use Rattle.plans_short.specs.pt_watched.Planning.{led_of}
+use Rattle.plans_short.specs.places_stay.Matching.{index_at}
 use Rattle.path_places.specs.PathCalls.{HasPath, mount_come_to}
-use Rattle.plans_agree.specs.Begins.{LeadsBoth, StandTogether, told_texts}
-use Rattle.plans_agree.proofs.PlanLemmas.{only, targets_only}
+use Rattle.plans_short.specs.plans_agree.Begins.{LeadsBoth, StandTogether, told_texts}
+use Rattle.plans_short.proofs.plans_agree.PlanLemmas.{only, targets_only}
 use Rattle.stops_match.proofs.AnsweredLemmas.{none_made}
 use Rattle.paths_together.proofs.IndexLemmas.{index_agrees, index_walked, named_index}
 

@@ -2,15 +2,15 @@
 use Rattle.std.proofs.Common.{◌≡◌, ◌⊎◌, inl, inr, true, Ok, Err, refl, sym, subst}
 use Rattle.std.specs.Prelude.{not}
 use Rattle.pt_args.specs.Laws.{ShelvesHoldTheirItems, TextsAreReadBack}
-use Rattle.kr_view.specs.View.{plain}
-use Rattle.kr_calls.specs.Decoding.{Decoded}
-use Rattle.kr_calls.specs.declared.request.Request.{Request}
-use Rattle.kr_calls.specs.declared.request.Request.TheVariants as call
-use Rattle.kr_turns.specs.Turn.{calling, watched_call}
-use Rattle.kr_turns.specs.Watching.{unwatched}
-use Rattle.pt_tracer.specs.Stopping.{decoded_at}
-use Rattle.pt_watched.specs.Watched.{tracer}
-use Rattle.stops_match.specs.turns_match.Pathless.{IsPathless}
+use Rattle.plans_short.specs.kr_view.View.{plain}
+use Rattle.pt_args.specs.kr_calls.Decoding.{Decoded}
+use Rattle.pt_args.specs.kr_calls.declared.request.Request.{Request}
+use Rattle.pt_args.specs.kr_calls.declared.request.Request.TheVariants as call
+use Rattle.path_places.specs.kr_turns.Turn.{calling, watched_call}
+use Rattle.path_places.specs.kr_turns.Watching.{unwatched}
+use Rattle.stops_match.specs.pt_tracer.Stopping.{decoded_at}
+use Rattle.plans_short.specs.pt_watched.Watched.{tracer}
+use Rattle.path_places.specs.turns_match.Pathless.{IsPathless}
 use Rattle.path_places.specs.PathCalls.{HasPath}
 use Rattle.stops_match.specs.Turning.{ComeFromCall, HasNoPath}
 use Rattle.stops_match.proofs.CallLemmas.{pathless_calls_go_together}

@@ -1,41 +1,41 @@
 -- A call along paths of which the tracer makes what its plan says: it is passed, swapped or cancelled as the kernel with mounts has it.
 use Rattle.std.proofs.Common.{◌≡◌, inl, ℕ, Bool, true, List, Option, Some, None, Ok, sym, ap, subst, ◌∙◌}
 use Rattle.std.specs.Option.{unwrap_or}
-use Rattle.rv_mem.specs.Actions.{carried_out}
+use Rattle.pt_args.specs.rv_mem.Actions.{carried_out}
 use Rattle.pt_args.specs.Edits.{edit_of}
 use Rattle.pt_args.specs.Laws.{ShelvesHoldTheirItems, TextsAreReadBack}
 use Rattle.pt_args.specs.Purposes.{opens}
 use Rattle.pt_args.specs.Walks.{walked_along}
 use Rattle.pt_args.specs.declared.edit.Edit.{Edit}
 use Rattle.pt_args.specs.declared.edit.Edit.TheVariants.{Cancel, Pass}
-use Rattle.pt_results.specs.Answers.{link_answer}
-use Rattle.kr_view.specs.View.{Row, plain}
-use Rattle.kr_calls.specs.Decoding.{decoding}
-use Rattle.kr_calls.specs.PathTable.{PathUse, path_at}
-use Rattle.kr_calls.specs.declared.request.Request.{Request}
-use Rattle.kr_allowed.proofs.RowLemmas.{StaysLike, stays-like}
-use Rattle.kr_model.specs.Known.{known}
-use Rattle.kr_model.specs.Operation.{operation}
-use Rattle.kr_model.specs.Reply.{refuse}
-use Rattle.kr_model.specs.State.{Image, Process, State, image_layout, process}
-use Rattle.kr_model.specs.Walks.{seen}
-use Rattle.kr_turns.specs.Stopped.{Stopped, edited}
-use Rattle.kr_turns.specs.Turn.{Machine, calling, watched_call}
-use Rattle.kr_turns.specs.Watching.{unwatched}
-use Rattle.pt_tracer.specs.Stopping.{after_request, decoded_at, memory_at}
-use Rattle.pt_watched.specs.Planning.{answered, edit_for, rewritten, stack_at, texts_at}
-use Rattle.pt_watched.specs.Watched.{Tracing, applied}
-use Rattle.swaps_read.specs.Operations.{HasFirst}
-use Rattle.swaps_read.specs.Requests.{NewText, with_swaps}
-use Rattle.swaps_read.specs.Shelves.{CanSecondBePath, swap_edit}
-use Rattle.swaps_read.specs.Stops.{CanBeSwapped}
-use Rattle.swaps_read.proofs.OperationLemmas.{operations_are_same}
-use Rattle.stops_match.specs.turns_match.Calls.{decoded_by}
-use Rattle.stops_match.proofs.turns_match.CalledLemmas.{decoded_holds}
+use Rattle.path_places.specs.pt_results.Answers.{link_answer}
+use Rattle.plans_short.specs.kr_view.View.{Row, plain}
+use Rattle.pt_args.specs.kr_calls.Decoding.{decoding}
+use Rattle.pt_args.specs.kr_calls.PathTable.{PathUse, path_at}
+use Rattle.pt_args.specs.kr_calls.declared.request.Request.{Request}
+use Rattle.path_places.proofs.kr_allowed.RowLemmas.{StaysLike, stays-like}
+use Rattle.stops_match.specs.kr_model.Known.{known}
+use Rattle.stops_match.specs.kr_model.Operation.{operation}
+use Rattle.stops_match.specs.kr_model.Reply.{refuse}
+use Rattle.stops_match.specs.kr_model.State.{Image, Process, State, image_layout, process}
+use Rattle.stops_match.specs.kr_model.Walks.{seen}
+use Rattle.path_places.specs.kr_turns.Stopped.{Stopped, edited}
+use Rattle.path_places.specs.kr_turns.Turn.{Machine, calling, watched_call}
+use Rattle.path_places.specs.kr_turns.Watching.{unwatched}
+use Rattle.stops_match.specs.pt_tracer.Stopping.{after_request, decoded_at, memory_at}
+use Rattle.plans_short.specs.pt_watched.Planning.{answered, edit_for, rewritten, stack_at, texts_at}
+use Rattle.plans_short.specs.pt_watched.Watched.{Tracing, applied}
+use Rattle.stops_match.specs.swaps_read.Operations.{HasFirst}
+use Rattle.stops_match.specs.swaps_read.Requests.{NewText, with_swaps}
+use Rattle.stops_match.specs.swaps_read.Shelves.{CanSecondBePath, swap_edit}
+use Rattle.stops_match.specs.swaps_read.Stops.{CanBeSwapped}
+use Rattle.stops_match.proofs.swaps_read.OperationLemmas.{operations_are_same}
+use Rattle.path_places.specs.turns_match.Calls.{decoded_by}
+use Rattle.path_places.proofs.turns_match.CalledLemmas.{decoded_holds}
 use Rattle.path_places.specs.PathCalls.{HasPath}
 use Rattle.path_places.proofs.RuleLemmas.{no_exec}
-use Rattle.plans_agree.specs.Plans.{Cancelling, HasFirstOfTwo, IsEdit, IsNewIfAny, IsPassed, IsPlanned, IsSwapped, Passing, PlanAgrees, Swapping, shelved_texts}
-use Rattle.plans_agree.proofs.PlanLemmas as planning
+use Rattle.plans_short.specs.plans_agree.Plans.{Cancelling, HasFirstOfTwo, IsEdit, IsNewIfAny, IsPassed, IsPlanned, IsSwapped, Passing, PlanAgrees, Swapping, shelved_texts}
+use Rattle.plans_short.proofs.plans_agree.PlanLemmas as planning
 use Rattle.plans_short.specs.Short.{IsShort, IsShortIfAny, IsShortPlan}
 use Rattle.stops_match.specs.Cancelling.{at_first_stop}
 use Rattle.stops_match.specs.Swapping.{IsPassedAlike, IsSwappedAlike}
@@ -77,6 +77,7 @@ module _ {S : Type 0} (table : List Row) (made pid : ℕ) (m : Machine S) (n : M
       (unanswered : answered (here.texts table made pid m n r c p q lives also calm reads kind) then_stop r ≡ None) where
     pub is_planned : IsPlanned table x.tags at w2 pid r
     is_planned = record {
+      kind = no_exec r kind;
       together = here.together table made pid m n r c p q lives also calm reads kind;
       links = here.have_texts table made pid m n r c p q lives also calm reads kind;
       texts = here.text_paths table made pid m n r c p q lives also calm reads kind;
@@ -148,7 +149,7 @@ module _ {S : Type 0} (table : List Row) (made pid : ℕ) (m : Machine S) (n : M
         told = told_along table made pid m n r c p q lives also calm reads kind (with_swaps first second r) (swap.regs3 back shelves table made pid m n r first second c can swaps p q lives also) (swap.memory3 back shelves table made pid m n r first second c can swaps p q lives also)
             (swap.swap_stays back shelves table made pid m n r first second c can swaps p q lives also) (swap.swap_bytes back shelves table made pid m n r first second c can swaps p q lives also (is_told r kind))
             (swap.swap_left back shelves table made pid m n r first second c can swaps p q lives also)
-            (swapped.told ∙ sym (operations_are_same pid r first second (seen plain pid w2 (with_swaps first second r)) (known image_layout pid at) has_first (can_be_path first swapped.one short.0).some)) swapped.mounts;
+            (swapped.told ∙ sym (operations_are_same pid r first second (seen plain pid w2 (with_swaps first second r)) (known image_layout pid at) (no_exec r kind) has_first (can_be_path first swapped.one short.0).some)) swapped.mounts;
         swaps = swaps;
         can = can;
       }

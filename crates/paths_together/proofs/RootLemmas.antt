@@ -4,38 +4,38 @@ use Rattle.std.specs.Prelude.{◌&&◌, bytes_eq, nat_eq}
 use Rattle.std.specs.Option.{option_map_or, unwrap_or}
 use Rattle.std.proofs.lemmas.Bool.Decides.{nat_tests}
 use Rattle.std.proofs.lemmas.Slice.Eq.{bytes_eq-Decides}
-use Rattle.pr_base.specs.Paths.{slash, text_of}
-use Rattle.pr_base.specs.Texts.{Text}
-use Rattle.pr_base.specs.WalkFrame.{may_be_free}
-use Rattle.pr_base.specs.declared.errno.Errno.{Errno}
-use Rattle.pr_base.proofs.PathLemmas.{names_are_parts}
-use Rattle.pt_bind.specs.Binding.{names_of}
-use Rattle.pt_bind.specs.Tags.{TagTable}
-use Rattle.pt_bind.proofs.ByteLemmas.{names_written}
-use Rattle.pt_canon.specs.Canon.{canon_result, guest_text}
-use Rattle.pt_canon.specs.declared.canon.Canon.{Canon}
-use Rattle.kr_calls.specs.PathTable.{PathUse, path_at}
-use Rattle.kr_calls.specs.declared.request.Request.{Request}
-use Rattle.kr_tree.specs.declared.place.Host.{Host}
-use Rattle.kr_tree.specs.declared.place.Host.TheVariants.{Node, Proc}
-use Rattle.kr_tree.specs.declared.place.Place.{Place}
-use Rattle.kr_view.specs.View.{Row, is_root_place, root_place, root_source}
-use Rattle.kr_view.specs.Walk.{PlaceTarget}
-use Rattle.kr_mounts.specs.Standing.{texts_of}
-use Rattle.kr_model.specs.ProcessDirectory.{leads_of, space_of}
-use Rattle.kr_model.specs.State.{Image, State}
-use Rattle.kr_model.specs.Walks.{and_then, targets_of, walked}
-use Rattle.kr_turns.specs.PlainCall.{is_root_found, leads_to_root}
-use Rattle.pt_watched.specs.Planning.{led_along, led_by}
-use Rattle.walks_agree.specs.Settled.{IsSettled}
-use Rattle.walks_agree.specs.Standing.{Stands}
-use Rattle.walks_agree.proofs.InUseLemmas.{laws}
-use Rattle.walks_agree.proofs.StandingLemmas.{directories_stand_once, roots_stand}
-use Rattle.walks_agree.proofs.TableLemmas.{root_directory}
-use Rattle.plans_agree.specs.Begins.{Fails, FailsSo, IsEmpty, Leads, LeadsBoth, PathAgrees, StandTogether, Stays, told_texts}
-use Rattle.plans_agree.proofs.LeadLemmas.{found_text, found_there, guest_names, same_canon}
-use Rattle.plans_agree.proofs.PathLemmas.{paths_agree}
-use Rattle.plans_agree.proofs.PlanLemmas.{only, targets_only}
+use Rattle.path_places.specs.pr_base.Paths.{slash, text_of}
+use Rattle.path_places.specs.pr_base.Texts.{Text}
+use Rattle.path_places.specs.pr_base.WalkFrame.{may_be_free}
+use Rattle.path_places.specs.pr_base.declared.errno.Errno.{Errno}
+use Rattle.path_places.proofs.pr_base.PathLemmas.{names_are_parts}
+use Rattle.pt_args.specs.pt_bind.Binding.{names_of}
+use Rattle.pt_args.specs.pt_bind.Tags.{TagTable}
+use Rattle.pt_args.proofs.pt_bind.ByteLemmas.{names_written}
+use Rattle.pt_args.specs.pt_canon.Canon.{canon_result, guest_text}
+use Rattle.pt_args.specs.pt_canon.declared.canon.Canon.{Canon}
+use Rattle.pt_args.specs.kr_calls.PathTable.{PathUse, path_at}
+use Rattle.pt_args.specs.kr_calls.declared.request.Request.{Request}
+use Rattle.stops_match.specs.kr_tree.declared.place.Host.{Host}
+use Rattle.stops_match.specs.kr_tree.declared.place.Host.TheVariants.{Node, Proc}
+use Rattle.stops_match.specs.kr_tree.declared.place.Place.{Place}
+use Rattle.plans_short.specs.kr_view.View.{Row, is_root_place, root_place, root_source}
+use Rattle.plans_short.specs.kr_view.Walk.{PlaceTarget}
+use Rattle.plans_short.specs.kr_mounts.Standing.{texts_of}
+use Rattle.stops_match.specs.kr_model.ProcessDirectory.{leads_of, space_of}
+use Rattle.stops_match.specs.kr_model.State.{Image, State}
+use Rattle.stops_match.specs.kr_model.Walks.{and_then, targets_of, walked}
+use Rattle.path_places.specs.kr_turns.PlainCall.{is_root_found, leads_to_root}
+use Rattle.plans_short.specs.pt_watched.Planning.{led_along, led_by}
+use Rattle.plans_short.specs.walks_agree.Settled.{IsSettled}
+use Rattle.plans_short.specs.walks_agree.Standing.{Stands}
+use Rattle.plans_short.proofs.walks_agree.InUseLemmas.{laws}
+use Rattle.plans_short.proofs.walks_agree.StandingLemmas.{directories_stand_once, roots_stand}
+use Rattle.plans_short.proofs.walks_agree.TableLemmas.{root_directory}
+use Rattle.plans_short.specs.plans_agree.Begins.{Fails, FailsSo, IsEmpty, Leads, LeadsBoth, PathAgrees, StandTogether, Stays, told_texts}
+use Rattle.plans_short.proofs.plans_agree.LeadLemmas.{found_text, found_there, guest_names, same_canon}
+use Rattle.plans_short.proofs.plans_agree.PathLemmas.{paths_agree}
+use Rattle.plans_short.proofs.plans_agree.PlanLemmas.{only, targets_only}
 
 none_below : (k : ℕ) → suc k ≤ 0 → ⊥
 none_below k lt = grind (arith)

@@ -2,33 +2,33 @@
 use Rattle.std.proofs.Common.{◌≡◌, ◌≤◌, ℕ, true, false, cond, List, length, Option, Some, None, Ok, sym, ap, subst, ◌∙◌, arith}
 use Rattle.std.specs.Prelude.{◌||◌, nat_lt}
 use Rattle.std.proofs.lemmas.Bool.Decides.{nat_tests}
-use Rattle.pr_base.specs.Paths.{is_absolute}
-use Rattle.pr_base.specs.declared.errno.Errno.TheVariants.{ENAMETOOLONG}
-use Rattle.rv_mem.specs.Actions.{AreEqualUnmarked}
-use Rattle.rv_mem.specs.declared.regs.Regs.{Regs}
+use Rattle.path_places.specs.pr_base.Paths.{is_absolute}
+use Rattle.path_places.specs.pr_base.declared.errno.Errno.TheVariants.{ENAMETOOLONG}
+use Rattle.pt_args.specs.rv_mem.Actions.{AreEqualUnmarked}
+use Rattle.pt_args.specs.rv_mem.declared.regs.Regs.{Regs}
 use Rattle.pt_args.specs.Edits.{shelve}
 use Rattle.pt_args.specs.declared.edit.Edit.TheVariants.{Cancel}
-use Rattle.kr_view.specs.View.{Row}
-use Rattle.kr_calls.specs.Arguments.{number}
-use Rattle.kr_calls.specs.PathTable.{PathUse, path_at}
-use Rattle.kr_calls.specs.declared.request.Request.{Request}
-use Rattle.kr_calm.specs.Shelf.{has_path, is_usable, stack_pointer}
-use Rattle.kr_model.specs.State.{Image, Process, process}
-use Rattle.kr_turns.specs.Breaking.{plain_rule}
-use Rattle.kr_turns.specs.Stopped.{Stopped, image_at}
-use Rattle.kr_turns.specs.Turn.{Machine, calling, watched_call}
-use Rattle.kr_turns.specs.Watching.{unwatched}
-use Rattle.kr_turns.proofs.EditLemmas.{there as is_there}
-use Rattle.pt_tracer.specs.Stopping.{decoded_at, memory_at}
-use Rattle.pt_watched.specs.Planning.{has_shelf, stack_at}
-use Rattle.pt_watched.specs.Watched.{Tracing}
+use Rattle.plans_short.specs.kr_view.View.{Row}
+use Rattle.pt_args.specs.kr_calls.Arguments.{number}
+use Rattle.pt_args.specs.kr_calls.PathTable.{PathUse, path_at}
+use Rattle.pt_args.specs.kr_calls.declared.request.Request.{Request}
+use Rattle.stops_match.specs.kr_calm.Shelf.{has_path, is_usable, stack_pointer}
+use Rattle.stops_match.specs.kr_model.State.{Image, Process, process}
+use Rattle.path_places.specs.kr_turns.Breaking.{plain_rule}
+use Rattle.path_places.specs.kr_turns.Stopped.{Stopped, image_at}
+use Rattle.path_places.specs.kr_turns.Turn.{Machine, calling, watched_call}
+use Rattle.path_places.specs.kr_turns.Watching.{unwatched}
+use Rattle.path_places.proofs.kr_turns.EditLemmas.{there as is_there}
+use Rattle.stops_match.specs.pt_tracer.Stopping.{decoded_at, memory_at}
+use Rattle.plans_short.specs.pt_watched.Planning.{has_shelf, stack_at}
+use Rattle.plans_short.specs.pt_watched.Watched.{Tracing}
 use Rattle.path_places.specs.PathCalls.{HasPath}
-use Rattle.plans_agree.specs.OnePath.{IsNewText}
-use Rattle.swaps_read.specs.Requests.{AreOfPaths, NewText}
-use Rattle.swaps_read.specs.Shelves.{CanBePath, CanSecondBePath, HasMarkedShelf, bottom_of, swap_edit}
-use Rattle.swaps_read.specs.Stops.{CanBeSwapped}
-use Rattle.swaps_read.specs.Swapped.{AreMarkedFrom, IsDecodedCalmly}
-use Rattle.swaps_read.proofs.MarkLemmas.{shelves_are_marked}
+use Rattle.plans_short.specs.plans_agree.OnePath.{IsNewText}
+use Rattle.stops_match.specs.swaps_read.Requests.{AreOfPaths, NewText}
+use Rattle.stops_match.specs.swaps_read.Shelves.{CanBePath, CanSecondBePath, HasMarkedShelf, bottom_of, swap_edit}
+use Rattle.stops_match.specs.swaps_read.Stops.{CanBeSwapped}
+use Rattle.stops_match.specs.swaps_read.Swapped.{AreMarkedFrom, IsDecodedCalmly}
+use Rattle.stops_match.proofs.swaps_read.MarkLemmas.{shelves_are_marked}
 use Rattle.plans_short.proofs.answers_agree.NumberLemmas.{paths_have_numbers}
 use Rattle.plans_short.proofs.answers_agree.ShelfLemmas.{calm_calls_have_shelves, shelves_are_seen}
 use Rattle.stops_match.specs.Turning.{ComeToCall}

@@ -1,36 +1,36 @@
 -- What the plain kernel is told along the paths that the tracer leaves is what it is told at the first stop of the same paths; so a call
 -- of which that is what the kernel with mounts is told is told along.
 use Rattle.std.proofs.Common.{◌≡◌, ◌⊎◌, ℕ, true, List, Some, None, Ok, refl, sym, ap, subst, ◌∙◌, ℤ}
-use Rattle.pr_base.specs.declared.errno.Errno.{Errno}
-use Rattle.rv_mem.specs.Memory.{Memory}
-use Rattle.rv_mem.specs.Pages.{HoldsBytes}
-use Rattle.rv_mem.specs.declared.regs.Regs.{Regs}
-use Rattle.pt_results.specs.Notes.{noted, tags_after}
-use Rattle.kr_view.specs.View.{Row, plain}
-use Rattle.kr_calls.specs.Decoding.{decoding}
-use Rattle.kr_calls.specs.declared.request.Request.{Request}
-use Rattle.kr_calls.specs.declared.request.Request.TheVariants as call
-use Rattle.kr_allowed.specs.Told.{mounts_walked}
-use Rattle.kr_allowed.proofs.RowLemmas.{StaysLike, stays-like}
-use Rattle.kr_seen.specs.Carrying.{memory_of}
-use Rattle.kr_model.specs.Bare.{bare_mounts}
-use Rattle.kr_model.specs.Known.{known}
-use Rattle.kr_model.specs.Operation.{operation}
-use Rattle.kr_model.specs.Reply.{refuse}
-use Rattle.kr_model.specs.State.{Image, Process, State, image_layout, process}
-use Rattle.kr_model.specs.Walks.{seen, targets_of}
-use Rattle.kr_model.specs.declared.outcome.Outcome.TheVariants.{Answer}
-use Rattle.kr_turns.specs.Turn.{Machine, calling, watched_call}
-use Rattle.kr_turns.specs.Watching.{unwatched}
-use Rattle.pt_tracer.specs.Stopping.{after_request, decoded_at}
-use Rattle.pt_watched.specs.Planning.{led_of, texts_at}
-use Rattle.pt_watched.specs.Watched.{Tracing}
-use Rattle.images_apart.specs.Paths.{is_told_of_paths}
-use Rattle.places_stay.specs.Changes.{NewPlacesStand}
-use Rattle.calm_places.specs.Keeping.{MovesStayInside}
-use Rattle.walks_bare.specs.Facts.{AreSeenAlike}
-use Rattle.stops_match.specs.turns_match.Changing.{all_tags_made}
-use Rattle.stops_match.specs.turns_match.Operating.{done_in, written_in}
+use Rattle.path_places.specs.pr_base.declared.errno.Errno.{Errno}
+use Rattle.pt_args.specs.rv_mem.Memory.{Memory}
+use Rattle.pt_args.specs.rv_mem.Pages.{HoldsBytes}
+use Rattle.pt_args.specs.rv_mem.declared.regs.Regs.{Regs}
+use Rattle.path_places.specs.pt_results.Notes.{noted, tags_after}
+use Rattle.plans_short.specs.kr_view.View.{Row, plain}
+use Rattle.pt_args.specs.kr_calls.Decoding.{decoding}
+use Rattle.pt_args.specs.kr_calls.declared.request.Request.{Request}
+use Rattle.pt_args.specs.kr_calls.declared.request.Request.TheVariants as call
+use Rattle.path_places.specs.kr_allowed.Told.{mounts_walked}
+use Rattle.path_places.proofs.kr_allowed.RowLemmas.{StaysLike, stays-like}
+use Rattle.stops_match.specs.kr_seen.Carrying.{memory_of}
+use Rattle.stops_match.specs.kr_model.Bare.{bare_mounts}
+use Rattle.stops_match.specs.kr_model.Known.{known}
+use Rattle.stops_match.specs.kr_model.Operation.{operation}
+use Rattle.stops_match.specs.kr_model.Reply.{refuse}
+use Rattle.stops_match.specs.kr_model.State.{Image, Process, State, image_layout, process}
+use Rattle.stops_match.specs.kr_model.Walks.{seen, targets_of}
+use Rattle.stops_match.specs.kr_model.declared.outcome.Outcome.TheVariants.{Answer}
+use Rattle.path_places.specs.kr_turns.Turn.{Machine, calling, watched_call}
+use Rattle.path_places.specs.kr_turns.Watching.{unwatched}
+use Rattle.stops_match.specs.pt_tracer.Stopping.{after_request, decoded_at}
+use Rattle.plans_short.specs.pt_watched.Planning.{led_of, texts_at}
+use Rattle.plans_short.specs.pt_watched.Watched.{Tracing}
+use Rattle.stops_match.specs.images_apart.Paths.{is_told_of_paths}
+use Rattle.plans_short.specs.places_stay.Changes.{NewPlacesStand}
+use Rattle.path_places.specs.calm_places.Keeping.{MovesStayInside}
+use Rattle.stops_match.specs.walks_bare.Facts.{AreSeenAlike}
+use Rattle.path_places.specs.turns_match.Changing.{all_tags_made}
+use Rattle.path_places.specs.turns_match.Operating.{done_in, written_in}
 use Rattle.path_places.specs.PathCalls.{HasPath, tags_noted}
 use Rattle.path_places.proofs.BringLemmas.{path_calls_bring_standing}
 use Rattle.path_places.proofs.MoveLemmas.{path_calls_move_inside}

@@ -1,17 +1,17 @@
 -- Calls along paths, other than execve(2), with their stops.
 use Rattle.std.specs.Prelude.{◌≡◌, ℕ, ℤ, Bool, true, false, not, List, Option, None, Ok, Err}
-use Rattle.pr_base.specs.declared.errno.Errno.{Errno}
-use Rattle.kr_view.specs.View.{Row, plain}
-use Rattle.kr_calls.specs.Decoding.{Decoded}
-use Rattle.kr_calls.specs.declared.request.Request.{Request}
-use Rattle.kr_calls.specs.declared.request.Request.TheVariants as call
-use Rattle.kr_turns.specs.Stopped.{Stopped}
-use Rattle.kr_turns.specs.Turn.{Machine, calling, watched_call}
-use Rattle.kr_turns.specs.Watching.{unwatched}
-use Rattle.pt_tracer.specs.Stopping.{decoded_at}
-use Rattle.pt_watched.specs.Watched.{Tracing, tracer}
+use Rattle.path_places.specs.pr_base.declared.errno.Errno.{Errno}
+use Rattle.plans_short.specs.kr_view.View.{Row, plain}
+use Rattle.pt_args.specs.kr_calls.Decoding.{Decoded}
+use Rattle.pt_args.specs.kr_calls.declared.request.Request.{Request}
+use Rattle.pt_args.specs.kr_calls.declared.request.Request.TheVariants as call
+use Rattle.path_places.specs.kr_turns.Stopped.{Stopped}
+use Rattle.path_places.specs.kr_turns.Turn.{Machine, calling, watched_call}
+use Rattle.path_places.specs.kr_turns.Watching.{unwatched}
+use Rattle.stops_match.specs.pt_tracer.Stopping.{decoded_at}
+use Rattle.plans_short.specs.pt_watched.Watched.{Tracing, tracer}
 use Rattle.path_places.specs.PathCalls.{HasPath}
-use Rattle.swaps_read.specs.Requests.{NewText}
+use Rattle.stops_match.specs.swaps_read.Requests.{NewText}
 use Rattle.stops_match.specs.Answering.{IsAnsweredAlike}
 use Rattle.stops_match.specs.Cancelling.{IsCancelledAlike}
 use Rattle.stops_match.specs.Swapping.{IsPassedAlike, IsSwappedAlike}

@@ -2,20 +2,20 @@
 use Rattle.std.proofs.Common.{◌≡◌, ◌≢◌, ◌⊎◌, inl, inr, ℕ, true, List, [], ◌∷◌, ◌++◌, Option, Some, refl, sym, ap, subst, ◌∙◌}
 use Rattle.std.specs.Option.{option_map}
 use Rattle.std.proofs.lemmas.Bool.{cases_eq}
-use Rattle.pr_base.specs.Texts.{Text}
-use Rattle.kr_inode.specs.declared.standing.Standing.{Standing}
-use Rattle.kr_inode.specs.declared.user.User.{User}
-use Rattle.kr_tree.specs.declared.place.Host.{Host}
-use Rattle.kr_tree.specs.declared.place.Host.TheVariants.{Node, Proc}
-use Rattle.kr_tree.specs.Lawful.{Above, AtRemoved, AtRoot, Below, Here, IsBelow, IsSound, RisesToEnd}
-use Rattle.kr_tree.specs.Tree.{Tree, above, root}
-use Rattle.kr_tree.proofs.BelowLemmas.{below_step, not_below_removed, not_below_root}
-use Rattle.kr_tree.proofs.EntryLemmas.{entry_stands}
-use Rattle.kr_tree.proofs.NameLemmas.{some_is}
-use Rattle.kr_view.specs.Component.{Finds, is_directory_at}
-use Rattle.kr_view.specs.HostReach.{object_in, reaches}
-use Rattle.kr_view.proofs.HostReachLemmas.{IsFoundIn, at_top, below_top, entry_in, found_in, last_object}
-use Rattle.kr_model.specs.State.{inode_of}
+use Rattle.walks_agree.specs.pr_base.Texts.{Text}
+use Rattle.kr_lawful.specs.kr_inode.declared.standing.Standing.{Standing}
+use Rattle.kr_lawful.specs.kr_inode.declared.user.User.{User}
+use Rattle.kr_lawful.specs.kr_tree.declared.place.Host.{Host}
+use Rattle.kr_lawful.specs.kr_tree.declared.place.Host.TheVariants.{Node, Proc}
+use Rattle.kr_lawful.specs.kr_tree.Lawful.{Above, AtRemoved, AtRoot, Below, Here, IsBelow, IsSound, RisesToEnd}
+use Rattle.kr_lawful.specs.kr_tree.Tree.{Tree, above, root}
+use Rattle.kr_lawful.proofs.kr_tree.BelowLemmas.{below_step, not_below_removed, not_below_root}
+use Rattle.kr_lawful.proofs.kr_tree.EntryLemmas.{entry_stands}
+use Rattle.kr_lawful.proofs.kr_tree.NameLemmas.{some_is}
+use Rattle.walks_agree.specs.kr_view.Component.{Finds, is_directory_at}
+use Rattle.walks_agree.specs.kr_view.HostReach.{object_in, reaches}
+use Rattle.walks_agree.proofs.kr_view.HostReachLemmas.{IsFoundIn, at_top, below_top, entry_in, found_in, last_object}
+use Rattle.kr_lawful.specs.kr_model.State.{inode_of}
 
 -- ---- texts with a name in them
 

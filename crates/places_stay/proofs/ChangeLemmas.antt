@@ -4,22 +4,22 @@ use Rattle.std.proofs.Common.{◌≡◌, ℕ, zero, suc, Bool, true, false, cond
 use Rattle.std.specs.Prelude.{◌==◌, ◌&&◌, drop}
 use Rattle.std.specs.Bool.{if◌then◌else◌}
 use Rattle.std.specs.Option.{option_map_or}
-use Rattle.pr_base.specs.Maps.{changed}
-use Rattle.kr_tree.specs.Changes as tree
-use Rattle.kr_tree.specs.declared.place.Place.{Place}
-use Rattle.kr_tree.specs.Lawful.{IsSound}
-use Rattle.kr_tree.specs.Tree.{Inode, Tree}
-use Rattle.kr_view.specs.View.{Row}
-use Rattle.kr_files.specs.Descriptors.{Named}
-use Rattle.kr_files.specs.Files.{Table, at_offset, has_reader, pipe_after_read, pipe_after_write, with_append, with_bytes}
-use Rattle.kr_files.specs.Pipes.{after_write}
+use Rattle.walks_agree.specs.pr_base.Maps.{changed}
+use Rattle.kr_lawful.specs.kr_tree.Changes as tree
+use Rattle.kr_lawful.specs.kr_tree.declared.place.Place.{Place}
+use Rattle.kr_lawful.specs.kr_tree.Lawful.{IsSound}
+use Rattle.kr_lawful.specs.kr_tree.Tree.{Inode, Tree}
+use Rattle.walks_agree.specs.kr_view.View.{Row}
+use Rattle.kr_lawful.specs.kr_files.Descriptors.{Named}
+use Rattle.kr_lawful.specs.kr_files.Files.{Table, at_offset, has_reader, pipe_after_read, pipe_after_write, with_append, with_bytes}
+use Rattle.kr_lawful.specs.kr_files.Pipes.{after_write}
 use Rattle.kr_lawful.proofs.ChangeLemmas.{every-change-keeps}
-use Rattle.kr_model.specs.Applied.{Mounts, applied, close, close_on_exec_below, copy_over, cwd_of, exe_of, executed, forked_from, images, is_closed_on_exec, mount_of, moved_to, open_in, released_at, with_brk, with_cwd, with_exe, with_image, with_program, with_tree, with_umask}
-use Rattle.kr_model.specs.Change.{Change, AddNode, LinkNode, RemoveName, MoveName, SetMode, SetOwner, SetSize, WriteFile, OpenFile, CopyDescriptor, CloseDescriptor, SetCloexec, Seek, SetAppend, MakePipe, TakeFromPipe, PutIntoPipe, TakeInput, WriteOut, WriteErr, ChangePages, SetBreak, SetUmask, ChangeDirectory, Fork, End, Reap, ReplaceImage, ReplaceExecutable, CloseOnExec}
-use Rattle.kr_model.specs.Judged.{are_quiet, is_quiet}
-use Rattle.kr_model.specs.Lawful.{IsLawful}
-use Rattle.kr_model.specs.ProcessDirectory.{space_of}
-use Rattle.kr_model.specs.State.{Image, Process, State, at_pid, inode_of, named, process, with_descs}
+use Rattle.kr_lawful.specs.kr_model.Applied.{Mounts, applied, close, close_on_exec_below, copy_over, cwd_of, exe_of, executed, forked_from, images, is_closed_on_exec, mount_of, moved_to, open_in, released_at, with_brk, with_cwd, with_exe, with_image, with_program, with_tree, with_umask}
+use Rattle.kr_lawful.specs.kr_model.Change.{Change, AddNode, LinkNode, RemoveName, MoveName, SetMode, SetOwner, SetSize, WriteFile, OpenFile, CopyDescriptor, CloseDescriptor, SetCloexec, Seek, SetAppend, MakePipe, TakeFromPipe, PutIntoPipe, TakeInput, WriteOut, WriteErr, ChangePages, SetBreak, SetUmask, ChangeDirectory, Fork, End, Reap, ReplaceImage, ReplaceExecutable, CloseOnExec}
+use Rattle.kr_lawful.specs.kr_model.Judged.{are_quiet, is_quiet}
+use Rattle.kr_lawful.specs.kr_model.Lawful.{IsLawful}
+use Rattle.kr_lawful.specs.kr_model.ProcessDirectory.{space_of}
+use Rattle.kr_lawful.specs.kr_model.State.{Image, Process, State, at_pid, inode_of, named, process, with_descs}
 use Rattle.places_stay.specs.Changes.{ChangesKeepPlaces, ChangesKeepWhatStands, NewPlaceStands, NewPlacesStand, QuietChangesKeepPlaces, take_nothing, takes_nothing}
 use Rattle.places_stay.specs.Following.{Follows, StoodAndStays}
 use Rattle.places_stay.specs.Losses.{nothing}

@@ -6,20 +6,20 @@ use Rattle.std.specs.List.{find, filter}
 use Rattle.std.specs.Option.{option_map_or}
 use Rattle.std.proofs.lemmas.Bool.{ne_eqb}
 use Rattle.std.proofs.lemmas.Bool.Decides.{nat_tests}
-use Rattle.pr_base.specs.Texts.{Text}
-use Rattle.kr_tree.specs.declared.place.Host.{Host}
-use Rattle.kr_tree.specs.declared.place.Host.TheVariants.{Node, Proc}
-use Rattle.kr_tree.specs.Tree.{Tree}
-use Rattle.kr_tree.proofs.NameLemmas.{some_is}
-use Rattle.kr_view.specs.Component.{Namespace, is_process_directory}
-use Rattle.kr_view.specs.HostReach.{is_link_at}
-use Rattle.kr_view.specs.Living.{first}
-use Rattle.kr_view.specs.View.{Row}
+use Rattle.walks_agree.specs.pr_base.Texts.{Text}
+use Rattle.kr_lawful.specs.kr_tree.declared.place.Host.{Host}
+use Rattle.kr_lawful.specs.kr_tree.declared.place.Host.TheVariants.{Node, Proc}
+use Rattle.kr_lawful.specs.kr_tree.Tree.{Tree}
+use Rattle.kr_lawful.proofs.kr_tree.NameLemmas.{some_is}
+use Rattle.walks_agree.specs.kr_view.Component.{Namespace, is_process_directory}
+use Rattle.walks_agree.specs.kr_view.HostReach.{is_link_at}
+use Rattle.walks_agree.specs.kr_view.Living.{first}
+use Rattle.walks_agree.specs.kr_view.View.{Row}
 use Rattle.kr_lawful.proofs.ChangeLemmas.{every-change-keeps}
-use Rattle.kr_model.specs.Applied.{close_below, end, gone, orphaned, released_at, with_parent, with_tree}
-use Rattle.kr_model.specs.Change.{End}
-use Rattle.kr_model.specs.ProcessDirectory.{space_of}
-use Rattle.kr_model.specs.State.{Image, Process, State, is_pid, process}
+use Rattle.kr_lawful.specs.kr_model.Applied.{close_below, end, gone, orphaned, released_at, with_parent, with_tree}
+use Rattle.kr_lawful.specs.kr_model.Change.{End}
+use Rattle.kr_lawful.specs.kr_model.ProcessDirectory.{space_of}
+use Rattle.kr_lawful.specs.kr_model.State.{Image, Process, State, is_pid, process}
 use Rattle.walks_agree.specs.Settled.{host_text}
 use Rattle.places_stay.specs.Following.{Follows, StoodAndStays, pids_of}
 use Rattle.places_stay.specs.Losses.{HostStays, KeepsAbove, KeepsNames, KeepsTable, KeepsWay, PidsStay, pid_of, process_of}

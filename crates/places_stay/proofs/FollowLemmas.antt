@@ -7,21 +7,21 @@ use Rattle.std.specs.List.{find}
 use Rattle.std.specs.Option.{option_map, option_map_or, option_and_then, option_or}
 use Rattle.std.specs.Ordering.{nat_cmp}
 use Rattle.std.proofs.lemmas.List.Folds.{find-append}
-use Rattle.pr_base.specs.Maps.{changed, mapped}
-use Rattle.pr_base.proofs.MapLemmas.{by_key, get-changed_other, get-changed_same, get-insert_other, get-insert_same, get-mapped, get-remove_other, get-remove_same}
-use Rattle.kr_tree.specs.declared.place.Place.{Place}
-use Rattle.kr_tree.specs.Tree.{Tree}
-use Rattle.kr_tree.proofs.NameLemmas.{map_some, some_is}
-use Rattle.kr_view.specs.Living.{first}
-use Rattle.kr_files.specs.declared.opened.Opened.{Opened}
-use Rattle.kr_files.specs.declared.opened.What.TheVariants.{PipeRead, PipeWrite}
-use Rattle.kr_files.specs.Descriptors.{Meanings, Named, named_count}
-use Rattle.kr_files.specs.Files.{Counted, Table, closed, counted_more, file_at, on_opened, with_copies, with_copy, with_file, with_opened, with_pipe, without_file}
-use Rattle.kr_files.specs.Opened.{pipe_end}
-use Rattle.kr_model.specs.Applied.{Computing, child_of, close, close_named, copy_named, copy_over, forked_from, held_at, held_for, in_mount, let_go, on_opened_of, open_in, pipe_made, released_at, with_files, with_living, with_tree}
-use Rattle.kr_model.specs.Change.{Birth}
-use Rattle.kr_model.specs.State.{Process, State, at_pid, inode_of, is_pid, named, place_of, process, with_descs, with_process}
-use Rattle.kr_model.proofs.BareLemmas.{found-mapped, mapped-append}
+use Rattle.walks_agree.specs.pr_base.Maps.{changed, mapped}
+use Rattle.walks_agree.proofs.pr_base.MapLemmas.{by_key, get-changed_other, get-changed_same, get-insert_other, get-insert_same, get-mapped, get-remove_other, get-remove_same}
+use Rattle.kr_lawful.specs.kr_tree.declared.place.Place.{Place}
+use Rattle.kr_lawful.specs.kr_tree.Tree.{Tree}
+use Rattle.kr_lawful.proofs.kr_tree.NameLemmas.{map_some, some_is}
+use Rattle.walks_agree.specs.kr_view.Living.{first}
+use Rattle.kr_lawful.specs.kr_files.declared.opened.Opened.{Opened}
+use Rattle.kr_lawful.specs.kr_files.declared.opened.What.TheVariants.{PipeRead, PipeWrite}
+use Rattle.kr_lawful.specs.kr_files.Descriptors.{Meanings, Named, named_count}
+use Rattle.kr_lawful.specs.kr_files.Files.{Counted, Table, closed, counted_more, file_at, on_opened, with_copies, with_copy, with_file, with_opened, with_pipe, without_file}
+use Rattle.kr_lawful.specs.kr_files.Opened.{pipe_end}
+use Rattle.kr_lawful.specs.kr_model.Applied.{Computing, child_of, close, close_named, copy_named, copy_over, forked_from, held_at, held_for, in_mount, let_go, on_opened_of, open_in, pipe_made, released_at, with_files, with_living, with_tree}
+use Rattle.kr_lawful.specs.kr_model.Change.{Birth}
+use Rattle.kr_lawful.specs.kr_model.State.{Process, State, at_pid, inode_of, is_pid, named, place_of, process, with_descs, with_process}
+use Rattle.kr_lawful.proofs.kr_model.BareLemmas.{found-mapped, mapped-append}
 use Rattle.places_stay.specs.Following.{Follows, pids_of}
 use Rattle.places_stay.specs.Losses.{InodesStay, Losses, PidsStay}
 use Rattle.places_stay.specs.Uses.{Use, cwd_use, exe_use, open_use}

@@ -1,14 +1,14 @@
 -- Where nothing is lost, everything keeps what it needs.
 use Rattle.std.proofs.Common.{◌≡◌, ℕ, Bool, true, false, not, List, [], ◌∷◌, refl}
-use Rattle.pr_base.specs.Texts.{Text}
-use Rattle.kr_tree.specs.declared.place.Host.{Host}
-use Rattle.kr_tree.specs.declared.place.Host.TheVariants.{Node, Proc}
-use Rattle.kr_tree.specs.Tree.{Tree}
-use Rattle.kr_view.specs.Component.{Namespace, is_process_directory}
-use Rattle.kr_view.specs.HostReach.{is_link_at}
-use Rattle.kr_view.specs.View.{Row}
-use Rattle.kr_model.specs.ProcessDirectory.{space_of}
-use Rattle.kr_model.specs.State.{State}
+use Rattle.walks_agree.specs.pr_base.Texts.{Text}
+use Rattle.kr_lawful.specs.kr_tree.declared.place.Host.{Host}
+use Rattle.kr_lawful.specs.kr_tree.declared.place.Host.TheVariants.{Node, Proc}
+use Rattle.kr_lawful.specs.kr_tree.Tree.{Tree}
+use Rattle.walks_agree.specs.kr_view.Component.{Namespace, is_process_directory}
+use Rattle.walks_agree.specs.kr_view.HostReach.{is_link_at}
+use Rattle.walks_agree.specs.kr_view.View.{Row}
+use Rattle.kr_lawful.specs.kr_model.ProcessDirectory.{space_of}
+use Rattle.kr_lawful.specs.kr_model.State.{State}
 use Rattle.walks_agree.specs.Settled.{host_text}
 use Rattle.places_stay.specs.Following.{StoodAndStays}
 use Rattle.places_stay.specs.Losses.{HostStays, KeepsAbove, KeepsNames, KeepsTable, KeepsUse, KeepsWay, Losses, nothing, pid_of}

@@ -1,3 +1,9 @@
+pub use Rattle.kr_lawful.proofs.kr_tree as kr_tree
+pub use Rattle.walks_agree.proofs.kr_view as kr_view
+pub use Rattle.kr_lawful.proofs.kr_files as kr_files
+pub use Rattle.kr_lawful.proofs.kr_model as kr_model
+pub use Rattle.kr_lawful.proofs as kr_lawful
+pub use Rattle.walks_agree.proofs as walks_agree
 pub mod BelowLemmas
 pub mod ChangeLemmas
 pub mod EndLemmas

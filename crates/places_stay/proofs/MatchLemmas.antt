@@ -1,39 +1,27 @@
 -- What two states that match have in common with what walks go by.
 use Rattle.std.proofs.Common.{◌≡◌, ℕ, Bool, true, false, not, List, [], length, Option, Some, None, refl, sym, ap, ◌∙◌}
 use Rattle.std.specs.Prelude.{◌||◌, ◌==◌}
-use Rattle.std.specs.Bool.{if◌then◌else◌}
-use Rattle.std.specs.Option.{option_map, option_map_or}
-use Rattle.kr_tree.specs.declared.place.Host.{Host}
-use Rattle.kr_tree.specs.declared.place.Host.TheVariants.{Node, Proc}
-use Rattle.kr_tree.specs.declared.place.Place.{Place}
-use Rattle.kr_tree.specs.Tree.{Body, Directory, RegularFile, SymbolicLink, ProcessDirectory, Tree, body, is_directory, is_file}
-use Rattle.kr_tree.proofs.EntryLemmas.{body_test}
-use Rattle.kr_tree.proofs.NameLemmas.{then_some}
-use Rattle.kr_view.specs.Component.{Namespace, is_directory_at}
-use Rattle.kr_view.specs.Names.{guest_below, guest_directory, guest_entry, guest_name, guest_object, process_object_name}
-use Rattle.kr_view.specs.View.{Row, row}
-use Rattle.kr_files.specs.Descriptors.{Named}
-use Rattle.kr_files.specs.Files.{file_at}
-use Rattle.kr_model.specs.Lawful.{is_file_at}
-use Rattle.kr_model.specs.ProcessDirectory.{space_of}
-use Rattle.kr_model.specs.State.{Image, State, named}
+use Rattle.std.specs.Option.{option_map_or}
+use Rattle.kr_lawful.specs.kr_tree.declared.place.Host.{Host}
+use Rattle.kr_lawful.specs.kr_tree.declared.place.Host.TheVariants.{Node, Proc}
+use Rattle.kr_lawful.specs.kr_tree.declared.place.Place.{Place}
+use Rattle.kr_lawful.specs.kr_tree.Tree.{Body, Directory, RegularFile, SymbolicLink, ProcessDirectory, Tree, body, is_directory, is_file}
+use Rattle.kr_lawful.proofs.kr_tree.EntryLemmas.{body_test}
+use Rattle.kr_lawful.proofs.kr_tree.NameLemmas.{then_some}
+use Rattle.walks_agree.specs.kr_view.Component.{Namespace, is_directory_at}
+use Rattle.walks_agree.proofs.kr_view.GuestNameLemmas.{nameless}
+use Rattle.walks_agree.specs.kr_view.View.{Row, row}
+use Rattle.kr_lawful.specs.kr_files.Descriptors.{Named}
+use Rattle.kr_lawful.specs.kr_files.Files.{file_at}
+use Rattle.kr_lawful.specs.kr_model.Lawful.{is_file_at}
+use Rattle.kr_lawful.specs.kr_model.ProcessDirectory.{space_of}
+use Rattle.kr_lawful.specs.kr_model.State.{Image, State, named}
 use Rattle.walks_agree.specs.States.{IsPlaced}
 use Rattle.walks_agree.proofs.StateLemmas.{states_are_matched}
 use Rattle.walks_agree.proofs.TableLemmas.{owned}
 use Rattle.places_stay.specs.Matching.{MatchesAreMatched, TaggedPlacesArePlaced, index_at}
 use Rattle.places_stay.specs.Standing.{PlacesStand, UseStands}
-use Rattle.places_stay.specs.Uses.{Use, cwd_use, exe_use, is_cwd, is_exe, is_open, is_source_object, is_source_place, open_use}
-
--- ---- what has no name
-
--- what is no directory and remembers no entry has no guest name, unless it is a mount's source
-nameless_guest : (space : Namespace) (p : Place ℕ) → is_directory_at space.tree p.host ≡ false → is_source_place space.table p ≡ false → guest_name space p None ≡ None
-nameless_guest space p file other = by (row space.table p.mount) p.host file other
-  where
-    by : (r : Option Row) (x : Host) → is_directory_at space.tree x ≡ false → is_source_object r x ≡ false → guest_object space r x None ≡ None
-    by r (Node i) file other =
-        ap (λ b. if b then option_map (λ (r : Row). r.text.location) r else guest_below space.tree r i None) other ∙ ap (λ b. if b then guest_directory space.tree r i else guest_entry space.tree r None) file
-    by r (Proc i at) file other = ap (λ b. if b then process_object_name space at (guest_directory space.tree r i) else guest_entry space.tree r None) file
+use Rattle.places_stay.specs.Uses.{Use, cwd_use, exe_use, is_cwd, is_exe, is_open, open_use}
 
 -- ---- kinds
 
@@ -70,9 +58,7 @@ module _ (table : List Row) (s : State ℕ Image) (stand : PlacesStand table s) 
           directory = λ dir. unnamed (sym kind ∙ dir);
           entry = λ file. at.1.entry (sym kind ∙ file);
         };
-    nameless = λ uncalled.
-        let none = ap (λ b. b || not (length x.name == 0)) (sym kind) ∙ uncalled in
-        nameless_guest space x.place (no_or (is_directory_at s.tree x.place.host) (not (length x.name == 0)) uncalled) (stands.nameless none);
+    nameless = λ uncalled. nameless space x.place (no_or (is_directory_at s.tree x.place.host) (not (length x.name == 0)) uncalled);
   }
     where
       no_or : (a b : Bool) → (a || b) ≡ false → a ≡ false

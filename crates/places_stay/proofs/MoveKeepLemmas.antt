@@ -4,33 +4,33 @@ use Rattle.std.proofs.Common.{◌≡◌, ◌≢◌, ◌⊎◌, inl, inr, ℕ, Bo
 use Rattle.std.specs.Prelude.{◌==◌, ◌||◌, IsSome}
 use Rattle.std.specs.Bool.{if◌then◌else◌}
 use Rattle.std.specs.Option.{option_map}
-use Rattle.pr_base.proofs.MapLemmas.{get-mapped}
-use Rattle.pr_base.specs.Texts.{Text}
-use Rattle.kr_inode.proofs.NameLemmas.{name_decides}
-use Rattle.kr_tree.specs.Changes.{renamed}
-use Rattle.kr_tree.specs.Lawful.{IsBelow}
-use Rattle.kr_tree.specs.Tree.{Tree, entry}
-use Rattle.kr_tree.specs.Names.{reached}
-use Rattle.kr_tree.specs.declared.place.Host.{Host}
-use Rattle.kr_tree.specs.declared.place.Host.TheVariants.{Node}
-use Rattle.kr_tree.specs.declared.place.Place.{Place}
-use Rattle.kr_tree.proofs.EntryLemmas.{entry_named_well}
-use Rattle.kr_tree.proofs.NameLemmas.{map_some, some_is}
-use Rattle.kr_view.specs.Component.{Namespace, is_directory_at}
-use Rattle.kr_view.specs.HostReach.{reaches}
-use Rattle.kr_view.specs.View.{Row}
-use Rattle.kr_view.proofs.HostReachLemmas.{last_object, reached_inode}
-use Rattle.kr_files.specs.declared.opened.Opened.{Opened}
-use Rattle.kr_files.specs.Files.{Counted, file_at, on_opened, with_all_opened}
-use Rattle.kr_files.specs.Opened.{after_rename, named_at, nameless, remembers}
+use Rattle.walks_agree.proofs.pr_base.MapLemmas.{get-mapped}
+use Rattle.walks_agree.specs.pr_base.Texts.{Text}
+use Rattle.kr_lawful.proofs.kr_inode.NameLemmas.{name_decides}
+use Rattle.kr_lawful.specs.kr_tree.Changes.{renamed}
+use Rattle.kr_lawful.specs.kr_tree.Lawful.{IsBelow}
+use Rattle.kr_lawful.specs.kr_tree.Tree.{Tree, entry}
+use Rattle.kr_lawful.specs.kr_tree.Names.{reached}
+use Rattle.kr_lawful.specs.kr_tree.declared.place.Host.{Host}
+use Rattle.kr_lawful.specs.kr_tree.declared.place.Host.TheVariants.{Node}
+use Rattle.kr_lawful.specs.kr_tree.declared.place.Place.{Place}
+use Rattle.kr_lawful.proofs.kr_tree.EntryLemmas.{entry_named_well}
+use Rattle.kr_lawful.proofs.kr_tree.NameLemmas.{map_some, some_is}
+use Rattle.walks_agree.specs.kr_view.Component.{Namespace, is_directory_at}
+use Rattle.walks_agree.specs.kr_view.HostReach.{reaches}
+use Rattle.walks_agree.specs.kr_view.View.{Row}
+use Rattle.walks_agree.proofs.kr_view.HostReachLemmas.{last_object, reached_inode}
+use Rattle.kr_lawful.specs.kr_files.declared.opened.Opened.{Opened}
+use Rattle.kr_lawful.specs.kr_files.Files.{Counted, file_at, on_opened, with_all_opened}
+use Rattle.kr_lawful.specs.kr_files.Opened.{after_rename, named_at, nameless, remembers}
 use Rattle.kr_lawful.proofs.ChangeLemmas.{every-change-keeps}
-use Rattle.kr_model.specs.Applied.{Mounts, exe_after_removal, exe_after_rename, exe_remembers, with_exe_name, with_files, with_living, with_tree}
-use Rattle.kr_model.specs.Change.{MoveName}
-use Rattle.kr_model.specs.Conditions.{CanMove}
-use Rattle.kr_model.specs.FileRows.{is_dir}
-use Rattle.kr_model.specs.Lawful.{IsLawful}
-use Rattle.kr_model.specs.ProcessDirectory.{space_of}
-use Rattle.kr_model.specs.State.{Image, Process, State, process}
+use Rattle.kr_lawful.specs.kr_model.Applied.{Mounts, exe_after_removal, exe_after_rename, exe_remembers, with_exe_name, with_files, with_living, with_tree}
+use Rattle.kr_lawful.specs.kr_model.Change.{MoveName}
+use Rattle.kr_lawful.specs.kr_model.Conditions.{CanMove}
+use Rattle.kr_lawful.specs.kr_model.FileRows.{is_dir}
+use Rattle.kr_lawful.specs.kr_model.Lawful.{IsLawful}
+use Rattle.kr_lawful.specs.kr_model.ProcessDirectory.{space_of}
+use Rattle.kr_lawful.specs.kr_model.State.{Image, Process, State, process}
 use Rattle.walks_agree.specs.Settled.{host_text}
 use Rattle.places_stay.specs.Following.{Follows, pids_of}
 use Rattle.places_stay.specs.Losses.{KeepsUse, Losses}

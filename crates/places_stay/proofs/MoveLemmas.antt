@@ -5,28 +5,28 @@ use Rattle.std.specs.Bool.{if◌then◌else◌}
 use Rattle.std.specs.Option.{option_map_or}
 use Rattle.std.proofs.lemmas.Bool.{cases_eq, eq-eqb, eqb-true}
 use Rattle.std.proofs.lemmas.Slice.Eq.{bytes_eq-Decides}
-use Rattle.pr_base.specs.MountText.{MountText}
-use Rattle.pr_base.specs.Texts.{Text}
-use Rattle.pt_bind.specs.Binding.{host_of, located}
-use Rattle.kr_inode.specs.declared.standing.Standing.{Standing}
-use Rattle.kr_inode.specs.declared.user.User.{User}
-use Rattle.kr_tree.specs.Changes.{moved, renamed, renamed_onto, unlinked}
-use Rattle.kr_tree.specs.declared.place.Host.{Host}
-use Rattle.kr_tree.specs.declared.place.Host.TheVariants.{Node, Proc}
-use Rattle.kr_tree.specs.Lawful.{Below, Here, IsBelow, IsIn}
-use Rattle.kr_tree.specs.Names.{named}
-use Rattle.kr_tree.specs.Tree.{Body, Directory, RegularFile, SymbolicLink, ProcessDirectory, Entry, Inode, Inodes, Tree, body, body_is, entries, entries_of, entry, inode, is_directory, is_filled, standing, takes_names}
-use Rattle.kr_tree.specs.declared.place.ProcAt.{ProcAt}
-use Rattle.kr_tree.proofs.EntryLemmas.{body_test, filled_body}
-use Rattle.kr_tree.proofs.NameLemmas.{map_some, some_is, then_some}
-use Rattle.kr_view.specs.Component.{Finds, Namespace, is_directory_at, is_processes}
-use Rattle.kr_view.specs.HostReach.{is_link_at, object_in, reaches}
-use Rattle.kr_view.specs.View.{Row, row}
-use Rattle.kr_view.proofs.HostReachLemmas.{IsFoundIn, at_top, below_top, entry_in, found_in, inode_reached, last_object, named_alone, object_of_entry}
-use Rattle.kr_mounts.specs.Standing.{texts_of}
-use Rattle.kr_model.specs.Conditions.{CanMove}
-use Rattle.kr_model.specs.ProcessDirectory.{space_of}
-use Rattle.kr_model.specs.State.{Image, State, inode_of}
+use Rattle.walks_agree.specs.pr_base.MountText.{MountText}
+use Rattle.walks_agree.specs.pr_base.Texts.{Text}
+use Rattle.walks_agree.specs.pt_bind.Binding.{host_of, located}
+use Rattle.kr_lawful.specs.kr_inode.declared.standing.Standing.{Standing}
+use Rattle.kr_lawful.specs.kr_inode.declared.user.User.{User}
+use Rattle.kr_lawful.specs.kr_tree.Changes.{moved, renamed, renamed_onto, unlinked}
+use Rattle.kr_lawful.specs.kr_tree.declared.place.Host.{Host}
+use Rattle.kr_lawful.specs.kr_tree.declared.place.Host.TheVariants.{Node, Proc}
+use Rattle.kr_lawful.specs.kr_tree.Lawful.{Below, Here, IsBelow, IsIn}
+use Rattle.kr_lawful.specs.kr_tree.Names.{named}
+use Rattle.kr_lawful.specs.kr_tree.Tree.{Body, Directory, RegularFile, SymbolicLink, ProcessDirectory, Entry, Inode, Inodes, Tree, body, body_is, entries, entries_of, entry, inode, is_directory, is_filled, standing, takes_names}
+use Rattle.kr_lawful.specs.kr_tree.declared.place.ProcAt.{ProcAt}
+use Rattle.kr_lawful.proofs.kr_tree.EntryLemmas.{body_test, filled_body}
+use Rattle.kr_lawful.proofs.kr_tree.NameLemmas.{map_some, some_is, then_some}
+use Rattle.walks_agree.specs.kr_view.Component.{Finds, Namespace, is_directory_at, is_processes}
+use Rattle.walks_agree.specs.kr_view.HostReach.{is_link_at, object_in, reaches}
+use Rattle.walks_agree.specs.kr_view.View.{Row, row}
+use Rattle.walks_agree.proofs.kr_view.HostReachLemmas.{IsFoundIn, at_top, below_top, entry_in, found_in, inode_reached, last_object, named_alone, object_of_entry}
+use Rattle.walks_agree.specs.kr_mounts.Standing.{texts_of}
+use Rattle.kr_lawful.specs.kr_model.Conditions.{CanMove}
+use Rattle.kr_lawful.specs.kr_model.ProcessDirectory.{space_of}
+use Rattle.kr_lawful.specs.kr_model.State.{Image, State, inode_of}
 use Rattle.walks_agree.specs.Standing.{IsOpen}
 use Rattle.walks_agree.proofs.TableLemmas.{host_none, mount_below}
 use Rattle.places_stay.specs.Losses.{InodesStay, KeepsAbove, KeepsNames, KeepsTable, KeepsUse, KeepsWay, Losses}

@@ -6,15 +6,15 @@ use Rattle.std.specs.Option.{option_map, option_map_or, option_or}
 use Rattle.std.proofs.lemmas.Bool.{cases_eq, eq-eqb, eqb-true}
 use Rattle.std.proofs.lemmas.List.Folds.{find-append}
 use Rattle.std.proofs.lemmas.Slice.Eq.{bytes_eq-Decides}
-use Rattle.pr_base.proofs.MapLemmas.{get-changed_other, get-changed_same, stays-changed}
-use Rattle.kr_inode.proofs.BodyLemmas.{entries-with_entries, entries-with_standing, takes-is_listed, takes-with_entries}
-use Rattle.kr_inode.proofs.EntryLemmas.{named-gone, none-without}
-use Rattle.kr_tree.specs.Changes.{moved, next_standing, renamed, renamed_onto, unlinked, unnamed, with_body, with_entry, with_inode, with_standing, without_entry, without_name}
-use Rattle.kr_tree.specs.Lawful.{IsLawfulMove}
-use Rattle.kr_tree.specs.Tree.{Entry, Inode, Inodes, Tree, body_is, entries, entries_of, entry, entry_named, inode, is_directory, takes_names}
-use Rattle.kr_tree.proofs.AddLemmas.{none_of, passing}
-use Rattle.kr_tree.proofs.InodesLemmas.{get-unused_other}
-use Rattle.kr_tree.proofs.NameLemmas.{some_is}
+use Rattle.walks_agree.proofs.pr_base.MapLemmas.{get-changed_other, get-changed_same, stays-changed}
+use Rattle.kr_lawful.proofs.kr_inode.BodyLemmas.{entries-with_entries, entries-with_standing, takes-is_listed, takes-with_entries}
+use Rattle.kr_lawful.proofs.kr_inode.EntryLemmas.{named-gone, none-without}
+use Rattle.kr_lawful.specs.kr_tree.Changes.{moved, next_standing, renamed, renamed_onto, unlinked, unnamed, with_body, with_entry, with_inode, with_standing, without_entry, without_name}
+use Rattle.kr_lawful.specs.kr_tree.Lawful.{IsLawfulMove}
+use Rattle.kr_lawful.specs.kr_tree.Tree.{Entry, Inode, Inodes, Tree, body_is, entries, entries_of, entry, entry_named, inode, is_directory, takes_names}
+use Rattle.kr_lawful.proofs.kr_tree.AddLemmas.{none_of, passing}
+use Rattle.kr_lawful.proofs.kr_tree.InodesLemmas.{get-unused_other}
+use Rattle.kr_lawful.proofs.kr_tree.NameLemmas.{some_is}
 use Rattle.places_stay.proofs.RemoveLemmas.{unfilled}
 
 -- a directory that takes a name which is free in it

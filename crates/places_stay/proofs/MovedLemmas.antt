@@ -1,29 +1,29 @@
 -- What remembers an entry that moves, or lies below it, by its host text before the move and after it.
 use Rattle.std.proofs.Common.{◌≡◌, inl, inr, ℕ, true, false, not, List, [], ◌∷◌, ◌++◌, length, length-append, append_assoc, Option, Some, refl, sym, ap, subst, ◌∙◌, arith}
 use Rattle.std.specs.Option.{option_and_then, option_map_or}
-use Rattle.pr_base.specs.MountText.{MountText}
-use Rattle.pr_base.specs.Texts.{Text}
-use Rattle.pt_bind.specs.Binding.{host_of, owner}
-use Rattle.kr_inode.proofs.BodyLemmas.{listed-is_directory, takes-is_listed}
-use Rattle.kr_tree.specs.declared.place.Host.{Host}
-use Rattle.kr_tree.specs.declared.place.Host.TheVariants.{Node, Proc}
-use Rattle.kr_tree.specs.declared.place.Place.{Place}
-use Rattle.kr_tree.specs.Lawful.{IsBelow, IsSound}
-use Rattle.kr_tree.specs.Names.{named, reached}
-use Rattle.kr_tree.specs.Tree.{Tree, body_is, entry, inode, is_directory, root, takes_names}
-use Rattle.kr_tree.proofs.AddLemmas.{passing}
-use Rattle.kr_tree.proofs.EntryLemmas.{entry_in_directory, last_step, named_once, named_there, reached-named, step_more}
-use Rattle.kr_tree.proofs.NameLemmas.{named_step, some_is}
-use Rattle.kr_view.specs.Component.{Finds, Namespace, is_directory_at}
-use Rattle.kr_view.specs.HostReach.{is_link_at, object_in, reaches}
-use Rattle.kr_view.specs.View.{Point, Row, covered, row}
-use Rattle.kr_view.proofs.HostReachLemmas.{entry_in, inode_reached, last_object, named_alone, object_of_entry, reached_inode}
-use Rattle.kr_view.proofs.TableLemmas.{there_is}
-use Rattle.kr_mounts.specs.Standing.{texts_of}
-use Rattle.kr_model.specs.Conditions.{CanMove}
-use Rattle.kr_model.specs.Lawful.{IsLawful}
-use Rattle.kr_model.specs.ProcessDirectory.{space_of}
-use Rattle.kr_model.specs.State.{Image, State, inode_of}
+use Rattle.walks_agree.specs.pr_base.MountText.{MountText}
+use Rattle.walks_agree.specs.pr_base.Texts.{Text}
+use Rattle.walks_agree.specs.pt_bind.Binding.{host_of, owner}
+use Rattle.kr_lawful.proofs.kr_inode.BodyLemmas.{listed-is_directory, takes-is_listed}
+use Rattle.kr_lawful.specs.kr_tree.declared.place.Host.{Host}
+use Rattle.kr_lawful.specs.kr_tree.declared.place.Host.TheVariants.{Node, Proc}
+use Rattle.kr_lawful.specs.kr_tree.declared.place.Place.{Place}
+use Rattle.kr_lawful.specs.kr_tree.Lawful.{IsBelow, IsSound}
+use Rattle.kr_lawful.specs.kr_tree.Names.{named, reached}
+use Rattle.kr_lawful.specs.kr_tree.Tree.{Tree, body_is, entry, inode, is_directory, root, takes_names}
+use Rattle.kr_lawful.proofs.kr_tree.AddLemmas.{passing}
+use Rattle.kr_lawful.proofs.kr_tree.EntryLemmas.{entry_in_directory, last_step, named_once, named_there, reached-named, step_more}
+use Rattle.kr_lawful.proofs.kr_tree.NameLemmas.{named_step, some_is}
+use Rattle.walks_agree.specs.kr_view.Component.{Finds, Namespace, is_directory_at}
+use Rattle.walks_agree.specs.kr_view.HostReach.{is_link_at, object_in, reaches}
+use Rattle.walks_agree.specs.kr_view.View.{Point, Row, covered, row}
+use Rattle.walks_agree.proofs.kr_view.HostReachLemmas.{entry_in, inode_reached, last_object, named_alone, object_of_entry, reached_inode}
+use Rattle.walks_agree.proofs.kr_view.TableLemmas.{there_is}
+use Rattle.walks_agree.specs.kr_mounts.Standing.{texts_of}
+use Rattle.kr_lawful.specs.kr_model.Conditions.{CanMove}
+use Rattle.kr_lawful.specs.kr_model.Lawful.{IsLawful}
+use Rattle.kr_lawful.specs.kr_model.ProcessDirectory.{space_of}
+use Rattle.kr_lawful.specs.kr_model.State.{Image, State, inode_of}
 use Rattle.walks_agree.specs.Settled.{IsPointNamed, host_text}
 use Rattle.walks_agree.specs.Standing.{IsEntryAt, IsUncovered, Stands, reached_in}
 use Rattle.walks_agree.proofs.StandingLemmas.{above_directory, below_location, source_reached, standing_places_are_uncovered}

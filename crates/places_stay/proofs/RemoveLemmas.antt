@@ -6,32 +6,32 @@ use Rattle.std.specs.Bool.{if◌then◌else◌}
 use Rattle.std.specs.Option.{option_map, option_map_or}
 use Rattle.std.proofs.lemmas.Bool.{eq-eqb, eqb-true, false_from_ne_true}
 use Rattle.std.proofs.lemmas.Slice.Eq.{bytes_eq-Decides}
-use Rattle.pr_base.proofs.MapLemmas.{get-mapped}
-use Rattle.pr_base.specs.MountText.{MountText}
-use Rattle.pr_base.specs.Texts.{Text}
-use Rattle.pt_bind.specs.Binding.{host_of, located}
-use Rattle.kr_tree.specs.Changes.{removed}
-use Rattle.kr_tree.specs.declared.place.Host.{Host}
-use Rattle.kr_tree.specs.declared.place.Host.TheVariants.{Node, Proc}
-use Rattle.kr_tree.specs.declared.place.Place.{Place}
-use Rattle.kr_tree.specs.Names.{named}
-use Rattle.kr_tree.specs.Tree.{Body, Directory, RegularFile, SymbolicLink, ProcessDirectory, Entry, Inode, Tree, body_is, entries_of, entry, entry_named, inode, is_filled}
-use Rattle.kr_tree.proofs.EntryLemmas.{entry_named_well}
-use Rattle.kr_tree.proofs.NameLemmas.{map_some, some_is, then_some}
-use Rattle.kr_view.specs.Component.{Finds, Namespace}
-use Rattle.kr_view.specs.HostReach.{object_in, reaches}
-use Rattle.kr_view.specs.View.{Row, is_there, row}
-use Rattle.kr_view.proofs.HostReachLemmas.{inode_reached, last_object, named_alone, object_of_entry}
-use Rattle.kr_files.specs.declared.opened.Opened.{Opened}
-use Rattle.kr_files.specs.Files.{Counted, file_at, on_opened, with_all_opened}
-use Rattle.kr_files.specs.Opened.{after_removal, nameless, remembers}
-use Rattle.kr_mounts.specs.Standing.{texts_of}
+use Rattle.walks_agree.proofs.pr_base.MapLemmas.{get-mapped}
+use Rattle.walks_agree.specs.pr_base.MountText.{MountText}
+use Rattle.walks_agree.specs.pr_base.Texts.{Text}
+use Rattle.walks_agree.specs.pt_bind.Binding.{host_of, located}
+use Rattle.kr_lawful.specs.kr_tree.Changes.{removed}
+use Rattle.kr_lawful.specs.kr_tree.declared.place.Host.{Host}
+use Rattle.kr_lawful.specs.kr_tree.declared.place.Host.TheVariants.{Node, Proc}
+use Rattle.kr_lawful.specs.kr_tree.declared.place.Place.{Place}
+use Rattle.kr_lawful.specs.kr_tree.Names.{named}
+use Rattle.kr_lawful.specs.kr_tree.Tree.{Body, Directory, RegularFile, SymbolicLink, ProcessDirectory, Entry, Inode, Tree, body_is, entries_of, entry, entry_named, inode, is_filled}
+use Rattle.kr_lawful.proofs.kr_tree.EntryLemmas.{entry_named_well}
+use Rattle.kr_lawful.proofs.kr_tree.NameLemmas.{map_some, some_is, then_some}
+use Rattle.walks_agree.specs.kr_view.Component.{Finds, Namespace}
+use Rattle.walks_agree.specs.kr_view.HostReach.{object_in, reaches}
+use Rattle.walks_agree.specs.kr_view.View.{Row, is_there, row}
+use Rattle.walks_agree.proofs.kr_view.HostReachLemmas.{inode_reached, last_object, named_alone, object_of_entry}
+use Rattle.kr_lawful.specs.kr_files.declared.opened.Opened.{Opened}
+use Rattle.kr_lawful.specs.kr_files.Files.{Counted, file_at, on_opened, with_all_opened}
+use Rattle.kr_lawful.specs.kr_files.Opened.{after_removal, nameless, remembers}
+use Rattle.walks_agree.specs.kr_mounts.Standing.{texts_of}
 use Rattle.kr_lawful.proofs.ChangeLemmas.{every-change-keeps}
-use Rattle.kr_model.specs.Applied.{exe_after_removal, exe_remembers, with_exe_name, with_files, with_living, with_tree}
-use Rattle.kr_model.specs.Change.{RemoveName}
-use Rattle.kr_model.specs.Conditions.{CanRemove}
-use Rattle.kr_model.specs.ProcessDirectory.{space_of}
-use Rattle.kr_model.specs.State.{Image, Process, State, process}
+use Rattle.kr_lawful.specs.kr_model.Applied.{exe_after_removal, exe_remembers, with_exe_name, with_files, with_living, with_tree}
+use Rattle.kr_lawful.specs.kr_model.Change.{RemoveName}
+use Rattle.kr_lawful.specs.kr_model.Conditions.{CanRemove}
+use Rattle.kr_lawful.specs.kr_model.ProcessDirectory.{space_of}
+use Rattle.kr_lawful.specs.kr_model.State.{Image, Process, State, process}
 use Rattle.walks_agree.specs.Standing.{IsOpen}
 use Rattle.walks_agree.proofs.TableLemmas.{host_none, mount_below}
 use Rattle.places_stay.specs.Following.{Follows, StoodAndStays, pids_of}

@@ -3,19 +3,19 @@ use Rattle.std.proofs.Common.{◌≡◌, ℕ, Bool, true, false, List, Some, ref
 use Rattle.std.specs.FinMap as map
 use Rattle.std.specs.Option.{option_map, option_map_or}
 use Rattle.std.proofs.lemmas.Bool.{eq-eqb}
-use Rattle.pr_base.proofs.MapLemmas.{get-changed_same}
-use Rattle.kr_inode.specs.declared.user.User.{User}
-use Rattle.kr_inode.specs.declared.user.Right.TheVariants.{Search}
-use Rattle.kr_tree.specs.Changes.{mode_set, owner_set, with_inode, with_inodes, with_mode, with_owner}
-use Rattle.kr_tree.specs.Rights.{allows, may}
-use Rattle.kr_tree.specs.Tree.{Inode, Node as NodeWord, Tree}
-use Rattle.kr_view.specs.View.{Row}
+use Rattle.walks_agree.proofs.pr_base.MapLemmas.{get-changed_same}
+use Rattle.kr_lawful.specs.kr_inode.declared.user.User.{User}
+use Rattle.kr_lawful.specs.kr_inode.declared.user.Right.TheVariants.{Search}
+use Rattle.kr_lawful.specs.kr_tree.Changes.{mode_set, owner_set, with_inode, with_inodes, with_mode, with_owner}
+use Rattle.kr_lawful.specs.kr_tree.Rights.{allows, may}
+use Rattle.kr_lawful.specs.kr_tree.Tree.{Inode, Node as NodeWord, Tree}
+use Rattle.walks_agree.specs.kr_view.View.{Row}
 use Rattle.kr_lawful.proofs.ChangeLemmas.{every-change-keeps}
-use Rattle.kr_model.specs.Applied.{with_tree}
-use Rattle.kr_model.specs.Change.{SetMode, SetOwner}
-use Rattle.kr_model.specs.Lawful.{IsLawful}
-use Rattle.kr_model.specs.ProcessDirectory.{space_of}
-use Rattle.kr_model.specs.State.{Image, State}
+use Rattle.kr_lawful.specs.kr_model.Applied.{with_tree}
+use Rattle.kr_lawful.specs.kr_model.Change.{SetMode, SetOwner}
+use Rattle.kr_lawful.specs.kr_model.Lawful.{IsLawful}
+use Rattle.kr_lawful.specs.kr_model.ProcessDirectory.{space_of}
+use Rattle.kr_lawful.specs.kr_model.State.{Image, State}
 use Rattle.places_stay.specs.Following.{StoodAndStays}
 use Rattle.places_stay.specs.Losses.{InodesStay, Losses, nothing, search_of}
 use Rattle.places_stay.specs.Standing.{PlacesStand}

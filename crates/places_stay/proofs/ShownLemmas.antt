@@ -3,11 +3,11 @@ use Rattle.std.proofs.Common.{◌≡◌, ℕ, Bool, true, false, List, [], ◌�
 use Rattle.std.specs.Bool.{if◌then◌else◌}
 use Rattle.std.specs.Option.{option_map, option_and_then}
 use Rattle.std.proofs.lemmas.Bool.{eqb-true}
-use Rattle.kr_tree.specs.declared.place.ProcAt.{ProcAt}
-use Rattle.kr_tree.specs.declared.place.ProcAt.TheVariants.{SelfLink, Dir, Cwd, Root, Exe, FdDir, Fd}
-use Rattle.kr_tree.proofs.NameLemmas.{map_some, some_is, then_some}
-use Rattle.kr_view.specs.Component.{Finds, is_process_directory}
-use Rattle.kr_view.specs.Living.{Living, finds_among, first, in_directory, names_number, process}
+use Rattle.kr_lawful.specs.kr_tree.declared.place.ProcAt.{ProcAt}
+use Rattle.kr_lawful.specs.kr_tree.declared.place.ProcAt.TheVariants.{SelfLink, Dir, Cwd, Root, Exe, FdDir, Fd}
+use Rattle.kr_lawful.proofs.kr_tree.NameLemmas.{map_some, some_is, then_some}
+use Rattle.walks_agree.specs.kr_view.Component.{Finds, is_process_directory}
+use Rattle.walks_agree.specs.kr_view.Living.{Living, finds_among, first, in_directory, names_number, process}
 use Rattle.places_stay.specs.Losses.{Losses, PidsStay, pid_of}
 
 abbrev pub FindsStay : Losses → Finds → Finds → Type 0

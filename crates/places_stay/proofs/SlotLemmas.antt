@@ -8,28 +8,28 @@ use Rattle.std.specs.Option.{IfSome, option_and_then, option_map, option_map_or,
 use Rattle.std.proofs.lemmas.Bool.{eq-eqb, eqb-true}
 use Rattle.std.proofs.lemmas.Bool.Decides.{nat_tests}
 use Rattle.std.proofs.lemmas.List.Folds.{find-append}
-use Rattle.pr_base.specs.Maps.{changed}
-use Rattle.pr_base.proofs.MapLemmas.{by_key, get-changed_other, get-changed_same, get-insert_other, get-insert_same}
-use Rattle.pt_bind.specs.Tags.{TagTable, dropped, forked, tag_of, with_tag}
-use Rattle.pt_bind.specs.declared.slot.Slot.{Slot}
-use Rattle.pt_bind.specs.declared.slot.Slot.TheVariants.{Cwd, Exe, Fd}
-use Rattle.pt_bind.proofs.TagLemmas.{tags_change}
-use Rattle.kr_tree.specs.declared.place.Host.{Host}
-use Rattle.kr_tree.specs.declared.place.Place.{Place}
-use Rattle.kr_tree.proofs.NameLemmas.{map_some, some_is}
-use Rattle.kr_view.specs.View.{Row}
-use Rattle.kr_files.specs.declared.opened.Opened.{Opened}
-use Rattle.kr_files.specs.declared.opened.What.TheVariants.{PipeRead, PipeWrite}
-use Rattle.kr_files.specs.Descriptors.{Named}
-use Rattle.kr_files.specs.Files.{Counted, Table, at_offset, counted_more, file_at, has_reader, on_opened, pipe_after_read, pipe_after_write, with_all_opened, with_append, with_bytes, with_copies, with_copy, with_file, with_opened, with_pipe}
-use Rattle.kr_files.specs.Opened.{after_removal, after_rename, nameless, named_at, pipe_end, remembers}
-use Rattle.kr_files.specs.Pipes.{after_write}
+use Rattle.walks_agree.specs.pr_base.Maps.{changed}
+use Rattle.walks_agree.proofs.pr_base.MapLemmas.{by_key, get-changed_other, get-changed_same, get-insert_other, get-insert_same}
+use Rattle.walks_agree.specs.pt_bind.Tags.{TagTable, dropped, forked, tag_of, with_tag}
+use Rattle.walks_agree.specs.pt_bind.declared.slot.Slot.{Slot}
+use Rattle.walks_agree.specs.pt_bind.declared.slot.Slot.TheVariants.{Cwd, Exe, Fd}
+use Rattle.walks_agree.proofs.pt_bind.TagLemmas.{tags_change}
+use Rattle.kr_lawful.specs.kr_tree.declared.place.Host.{Host}
+use Rattle.kr_lawful.specs.kr_tree.declared.place.Place.{Place}
+use Rattle.kr_lawful.proofs.kr_tree.NameLemmas.{map_some, some_is}
+use Rattle.walks_agree.specs.kr_view.View.{Row}
+use Rattle.kr_lawful.specs.kr_files.declared.opened.Opened.{Opened}
+use Rattle.kr_lawful.specs.kr_files.declared.opened.What.TheVariants.{PipeRead, PipeWrite}
+use Rattle.kr_lawful.specs.kr_files.Descriptors.{Named}
+use Rattle.kr_lawful.specs.kr_files.Files.{Counted, Table, at_offset, counted_more, file_at, has_reader, on_opened, pipe_after_read, pipe_after_write, with_all_opened, with_append, with_bytes, with_copies, with_copy, with_file, with_opened, with_pipe}
+use Rattle.kr_lawful.specs.kr_files.Opened.{after_removal, after_rename, nameless, named_at, pipe_end, remembers}
+use Rattle.kr_lawful.specs.kr_files.Pipes.{after_write}
 use Rattle.kr_lawful.proofs.AfterLemmas.{some-of}
-use Rattle.kr_model.specs.Applied.{Mounts, applied, child_of, copy_named, copy_over, end, exe_after_removal, exe_after_rename, exe_remembers, executed, forked_from, gone, images, in_mount, mount_of, moved_to, on_opened_of, open_in, orphaned, pipe_made, close_below, with_brk, with_cwd, with_files, with_exe, with_exe_name, with_image, with_parent, with_program, with_umask}
-use Rattle.kr_model.specs.Change.{Birth, Change, AddNode, LinkNode, RemoveName, MoveName, SetMode, SetOwner, SetSize, WriteFile, OpenFile, CopyDescriptor, CloseDescriptor, SetCloexec, Seek, SetAppend, MakePipe, TakeFromPipe, PutIntoPipe, TakeInput, WriteOut, WriteErr, ChangePages, SetBreak, SetUmask, ChangeDirectory, Fork, End, Reap, ReplaceImage, ReplaceExecutable, CloseOnExec}
-use Rattle.kr_model.specs.Conditions.{CanBeMade, CanFork, IsOpen}
-use Rattle.kr_model.specs.Lawful.{IsLawful, RiseFrom}
-use Rattle.kr_model.specs.State.{Image, Process, State, is_pid, named, place_of, process, with_descs, with_process}
+use Rattle.kr_lawful.specs.kr_model.Applied.{Mounts, applied, child_of, copy_named, copy_over, end, exe_after_removal, exe_after_rename, exe_remembers, executed, forked_from, gone, images, in_mount, mount_of, moved_to, on_opened_of, open_in, orphaned, pipe_made, close_below, with_brk, with_cwd, with_files, with_exe, with_exe_name, with_image, with_parent, with_program, with_umask}
+use Rattle.kr_lawful.specs.kr_model.Change.{Birth, Change, AddNode, LinkNode, RemoveName, MoveName, SetMode, SetOwner, SetSize, WriteFile, OpenFile, CopyDescriptor, CloseDescriptor, SetCloexec, Seek, SetAppend, MakePipe, TakeFromPipe, PutIntoPipe, TakeInput, WriteOut, WriteErr, ChangePages, SetBreak, SetUmask, ChangeDirectory, Fork, End, Reap, ReplaceImage, ReplaceExecutable, CloseOnExec}
+use Rattle.kr_lawful.specs.kr_model.Conditions.{CanBeMade, CanFork, IsOpen}
+use Rattle.kr_lawful.specs.kr_model.Lawful.{IsLawful, RiseFrom}
+use Rattle.kr_lawful.specs.kr_model.State.{Image, Process, State, is_pid, named, place_of, process, with_descs, with_process}
 use Rattle.places_stay.specs.Matching.{index_at}
 use Rattle.places_stay.specs.Tagging.{TagsFollow, tags_made}
 use Rattle.places_stay.proofs.EndLemmas.{kept_passes}

@@ -3,20 +3,20 @@ use Rattle.std.proofs.Common.{◌≡◌, ℕ, zero, suc, Bool, true, false, List
 use Rattle.std.specs.Bool.{if◌then◌else◌}
 use Rattle.std.specs.Option.{option_and_then, option_map}
 use Rattle.std.proofs.lemmas.Bool.{eqb-true}
-use Rattle.pr_base.specs.Texts.{Text}
-use Rattle.pt_bind.specs.Binding.{located}
-use Rattle.kr_tree.specs.declared.place.Host.{Host}
-use Rattle.kr_tree.specs.declared.place.Host.TheVariants.{Node, Proc}
-use Rattle.kr_tree.specs.declared.place.Place.{Place}
-use Rattle.kr_tree.specs.Names.{named}
-use Rattle.kr_tree.specs.Tree.{body_is, is_directory, is_listed}
-use Rattle.kr_tree.proofs.NameLemmas.{some_is}
-use Rattle.kr_view.specs.Component.{Namespace}
-use Rattle.kr_view.specs.View.{Point, Row, covered, down, is_there, node_in, row, source_place}
-use Rattle.kr_view.proofs.HostReachLemmas.{inode_reached, last_object}
-use Rattle.kr_view.proofs.TableLemmas.{laws_of_places}
-use Rattle.kr_mounts.specs.Standing.{texts_of}
-use Rattle.kr_mounts.proofs.StayLemmas.{is_a_directory}
+use Rattle.walks_agree.specs.pr_base.Texts.{Text}
+use Rattle.walks_agree.specs.pt_bind.Binding.{located}
+use Rattle.kr_lawful.specs.kr_tree.declared.place.Host.{Host}
+use Rattle.kr_lawful.specs.kr_tree.declared.place.Host.TheVariants.{Node, Proc}
+use Rattle.kr_lawful.specs.kr_tree.declared.place.Place.{Place}
+use Rattle.kr_lawful.specs.kr_tree.Names.{named}
+use Rattle.kr_lawful.specs.kr_tree.Tree.{body_is, is_directory, is_listed}
+use Rattle.kr_lawful.proofs.kr_tree.NameLemmas.{some_is}
+use Rattle.walks_agree.specs.kr_view.Component.{Namespace}
+use Rattle.walks_agree.specs.kr_view.View.{Point, Row, covered, down, is_there, node_in, row, source_place}
+use Rattle.walks_agree.proofs.kr_view.HostReachLemmas.{inode_reached, last_object}
+use Rattle.walks_agree.proofs.kr_view.TableLemmas.{laws_of_places}
+use Rattle.walks_agree.specs.kr_mounts.Standing.{texts_of}
+use Rattle.walks_agree.proofs.kr_mounts.StayLemmas.{is_a_directory}
 use Rattle.walks_agree.specs.Settled.{IsPointNamed, IsSettled, host_text}
 use Rattle.walks_agree.specs.Standing.{IsEntryAt, Stands, reached_in}
 use Rattle.walks_agree.proofs.StandingLemmas.{above_directory, kind_of_source, source_reached}

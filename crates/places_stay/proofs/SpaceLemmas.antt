@@ -1,25 +1,25 @@
 -- What stands at guest texts stands there in a state that loses nothing of them.
 use Rattle.std.proofs.Common.{◌≡◌, subst, ℕ, Bool, true, List, [], ◌∷◌, map, Option, Some, None, refl, sym, ap, ◌∙◌}
-use Rattle.pr_base.specs.MountText.{MountText}
-use Rattle.pr_base.specs.Texts.{Text}
-use Rattle.pt_bind.specs.Binding.{host_of, located}
-use Rattle.kr_inode.specs.declared.user.User.{User}
-use Rattle.kr_tree.specs.declared.place.Host.{Host}
-use Rattle.kr_tree.specs.declared.place.Host.TheVariants.{Node}
-use Rattle.kr_tree.specs.declared.place.Place.{Place}
-use Rattle.kr_tree.specs.Lawful.{IsKept}
-use Rattle.kr_tree.specs.Tree.{Tree}
-use Rattle.kr_tree.proofs.CountLemmas.{there}
-use Rattle.kr_tree.proofs.NameLemmas.{some_is}
-use Rattle.kr_view.specs.Component.{Namespace, is_directory_at}
-use Rattle.kr_view.specs.HostReach.{reaches}
-use Rattle.kr_view.specs.Living.{Living}
-use Rattle.kr_view.specs.View.{Row, StandsIn}
-use Rattle.kr_view.proofs.HostReachLemmas.{last_object, named_alone}
-use Rattle.kr_mounts.specs.Standing.{texts_of}
-use Rattle.kr_model.specs.Lawful.{IsLawful}
-use Rattle.kr_model.specs.ProcessDirectory.{living_of, space_of}
-use Rattle.kr_model.specs.State.{Image, Process, State}
+use Rattle.walks_agree.specs.pr_base.MountText.{MountText}
+use Rattle.walks_agree.specs.pr_base.Texts.{Text}
+use Rattle.walks_agree.specs.pt_bind.Binding.{host_of, located}
+use Rattle.kr_lawful.specs.kr_inode.declared.user.User.{User}
+use Rattle.kr_lawful.specs.kr_tree.declared.place.Host.{Host}
+use Rattle.kr_lawful.specs.kr_tree.declared.place.Host.TheVariants.{Node}
+use Rattle.kr_lawful.specs.kr_tree.declared.place.Place.{Place}
+use Rattle.kr_lawful.specs.kr_tree.Lawful.{IsKept}
+use Rattle.kr_lawful.specs.kr_tree.Tree.{Tree}
+use Rattle.kr_lawful.proofs.kr_tree.CountLemmas.{there}
+use Rattle.kr_lawful.proofs.kr_tree.NameLemmas.{some_is}
+use Rattle.walks_agree.specs.kr_view.Component.{Namespace, is_directory_at}
+use Rattle.walks_agree.specs.kr_view.HostReach.{reaches}
+use Rattle.walks_agree.specs.kr_view.Living.{Living}
+use Rattle.walks_agree.specs.kr_view.View.{Row, StandsIn}
+use Rattle.walks_agree.proofs.kr_view.HostReachLemmas.{last_object, named_alone}
+use Rattle.walks_agree.specs.kr_mounts.Standing.{texts_of}
+use Rattle.kr_lawful.specs.kr_model.Lawful.{IsLawful}
+use Rattle.kr_lawful.specs.kr_model.ProcessDirectory.{living_of, space_of}
+use Rattle.kr_lawful.specs.kr_model.State.{Image, Process, State}
 use Rattle.walks_agree.specs.Settled.{IsSettled}
 use Rattle.walks_agree.specs.Standing.{IsEntryAt, IsOpen, Stands}
 use Rattle.walks_agree.proofs.TableLemmas.{host_none, mount_below}

@@ -7,20 +7,20 @@ use Rattle.std.specs.List.{find}
 use Rattle.std.specs.Option.{option_and_then, option_map, option_map_or}
 use Rattle.std.specs.Ordering.{nat_cmp}
 use Rattle.std.proofs.lemmas.Bool.{cases_eq, eq-eqb, eqb-true, ne_eqb}
-use Rattle.pr_base.specs.Maps.{changed, mapped}
-use Rattle.pr_base.proofs.MapLemmas.{by_key, get-changed_other, get-changed_same, get-insert_other, get-insert_same, get-mapped, get-remove_other, get-remove_same}
-use Rattle.pt_bind.specs.Tags.{TagTable, tag_of, with_tag}
-use Rattle.pt_bind.specs.declared.slot.Slot.{Slot}
-use Rattle.pt_bind.specs.declared.slot.Slot.TheVariants.{Cwd, Exe, Fd}
-use Rattle.pt_bind.proofs.TagLemmas.{tags_change}
-use Rattle.kr_tree.specs.declared.place.Place.{Place}
-use Rattle.kr_tree.proofs.NameLemmas.{some_is, then_some}
-use Rattle.kr_view.specs.View.{Row}
-use Rattle.kr_files.specs.declared.opened.Opened.{Opened}
-use Rattle.kr_files.specs.Descriptors.{Named}
-use Rattle.kr_files.specs.Files.{Counted, Table, closed, file_at, without_file}
-use Rattle.kr_model.specs.State.{Image, Process, State, at_pid, is_pid, named, place_of, process, with_descs, with_process}
-use Rattle.kr_model.specs.Applied.{close, close_below, close_named, close_on_exec_below, is_closed_on_exec, let_go}
+use Rattle.walks_agree.specs.pr_base.Maps.{changed, mapped}
+use Rattle.walks_agree.proofs.pr_base.MapLemmas.{by_key, get-changed_other, get-changed_same, get-insert_other, get-insert_same, get-mapped, get-remove_other, get-remove_same}
+use Rattle.walks_agree.specs.pt_bind.Tags.{TagTable, tag_of, with_tag}
+use Rattle.walks_agree.specs.pt_bind.declared.slot.Slot.{Slot}
+use Rattle.walks_agree.specs.pt_bind.declared.slot.Slot.TheVariants.{Cwd, Exe, Fd}
+use Rattle.walks_agree.proofs.pt_bind.TagLemmas.{tags_change}
+use Rattle.kr_lawful.specs.kr_tree.declared.place.Place.{Place}
+use Rattle.kr_lawful.proofs.kr_tree.NameLemmas.{some_is, then_some}
+use Rattle.walks_agree.specs.kr_view.View.{Row}
+use Rattle.kr_lawful.specs.kr_files.declared.opened.Opened.{Opened}
+use Rattle.kr_lawful.specs.kr_files.Descriptors.{Named}
+use Rattle.kr_lawful.specs.kr_files.Files.{Counted, Table, closed, file_at, without_file}
+use Rattle.kr_lawful.specs.kr_model.State.{Image, Process, State, at_pid, is_pid, named, place_of, process, with_descs, with_process}
+use Rattle.kr_lawful.specs.kr_model.Applied.{close, close_below, close_named, close_on_exec_below, is_closed_on_exec, let_go}
 use Rattle.places_stay.specs.Matching.{AreTagged, index_at}
 use Rattle.places_stay.proofs.FollowLemmas.{from_process, told_at}
 

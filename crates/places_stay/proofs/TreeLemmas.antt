@@ -5,18 +5,18 @@ use Rattle.std.specs.Option.{option_map, option_map_or, option_or}
 use Rattle.std.proofs.lemmas.Bool.{false_from_ne_true}
 use Rattle.std.proofs.lemmas.List.Folds.{find-append}
 use Rattle.std.proofs.lemmas.Slice.Eq.{bytes_eq-Decides}
-use Rattle.pr_base.proofs.MapLemmas.{by_key, get-changed_other, get-changed_same, get-insert_other, get-remove_same}
-use Rattle.kr_inode.specs.declared.user.User.{User}
-use Rattle.kr_inode.specs.declared.user.Right.TheVariants.{Search}
-use Rattle.kr_inode.specs.declared.standing.Standing.{Standing}
-use Rattle.kr_inode.proofs.EntryLemmas.{named-without}
-use Rattle.kr_tree.specs.Changes.{added, bytes_set, held, linked, mode_set, moved, next_standing, owner_set, released, removed, unlinked, unnamed, with_body, with_bytes, with_entries, with_entry, with_holds, with_inode, with_mode, with_names, with_owner, with_standing, without_entry, without_name, without_unused, is_unused_at}
-use Rattle.kr_tree.specs.Rights.{allows}
-use Rattle.kr_tree.specs.Tree.{Body, Directory, RegularFile, SymbolicLink, ProcessDirectory, Entry, Inode, Inodes, Tree, body_is, entries_of, entry, entry_named, is_directory}
-use Rattle.kr_tree.proofs.InodesLemmas.{get-unused_other}
-use Rattle.kr_tree.proofs.NameLemmas.{map_some, some_is}
-use Rattle.kr_view.specs.Component.{is_processes}
-use Rattle.kr_view.specs.Laws.{is_link}
+use Rattle.walks_agree.proofs.pr_base.MapLemmas.{by_key, get-changed_other, get-changed_same, get-insert_other, get-remove_same}
+use Rattle.kr_lawful.specs.kr_inode.declared.user.User.{User}
+use Rattle.kr_lawful.specs.kr_inode.declared.user.Right.TheVariants.{Search}
+use Rattle.kr_lawful.specs.kr_inode.declared.standing.Standing.{Standing}
+use Rattle.kr_lawful.proofs.kr_inode.EntryLemmas.{named-without}
+use Rattle.kr_lawful.specs.kr_tree.Changes.{added, bytes_set, held, linked, mode_set, moved, next_standing, owner_set, released, removed, unlinked, unnamed, with_body, with_bytes, with_entries, with_entry, with_holds, with_inode, with_mode, with_names, with_owner, with_standing, without_entry, without_name, without_unused, is_unused_at}
+use Rattle.kr_lawful.specs.kr_tree.Rights.{allows}
+use Rattle.kr_lawful.specs.kr_tree.Tree.{Body, Directory, RegularFile, SymbolicLink, ProcessDirectory, Entry, Inode, Inodes, Tree, body_is, entries_of, entry, entry_named, is_directory}
+use Rattle.kr_lawful.proofs.kr_tree.InodesLemmas.{get-unused_other}
+use Rattle.kr_lawful.proofs.kr_tree.NameLemmas.{map_some, some_is}
+use Rattle.walks_agree.specs.kr_view.Component.{is_processes}
+use Rattle.walks_agree.specs.kr_view.Laws.{is_link}
 use Rattle.places_stay.specs.Losses.{InodeStays, InodesStay, Losses}
 
 -- the inode under a name among the entries of a body

@@ -2,22 +2,22 @@
 use Rattle.std.proofs.Common.{◌≡◌, subst, ℕ, Bool, true, false, List, [], ◌∷◌, Option, Some, None, refl, sym, ap, ◌∙◌}
 use Rattle.std.specs.Bool.{if◌then◌else◌}
 use Rattle.std.specs.Option.{option_map, option_map_or, option_and_then}
-use Rattle.pr_base.specs.Texts.{Text}
-use Rattle.kr_inode.specs.declared.user.User.{User}
-use Rattle.kr_inode.specs.declared.user.Right.TheVariants.{Search}
-use Rattle.kr_tree.specs.declared.place.Host.{Host}
-use Rattle.kr_tree.specs.declared.place.Host.TheVariants.{Node, Proc}
-use Rattle.kr_tree.specs.Lawful.{HasItsInodes, IsSound}
-use Rattle.kr_tree.specs.Names.{named, reached}
-use Rattle.kr_tree.specs.Rights.{allows, may}
-use Rattle.kr_tree.specs.Tree.{Body, Entry, Inode, Node as NodeWord, Tree, body_is, entries_of, entry, entry_named, inode, is_directory}
-use Rattle.kr_tree.proofs.EntryLemmas.{named_there, reached-named}
-use Rattle.kr_tree.proofs.NameLemmas.{map_some, then_some}
-use Rattle.kr_view.specs.Component.{Finds, is_directory_at, is_processes, may_search}
-use Rattle.kr_view.specs.HostReach.{is_link_at, object_in, reaches}
-use Rattle.kr_view.specs.Laws.{is_link}
-use Rattle.kr_view.specs.Living.{Living, finds_among}
-use Rattle.kr_view.proofs.HostReachLemmas.{inode_reached, last_object, object_more, reached_inode}
+use Rattle.walks_agree.specs.pr_base.Texts.{Text}
+use Rattle.kr_lawful.specs.kr_inode.declared.user.User.{User}
+use Rattle.kr_lawful.specs.kr_inode.declared.user.Right.TheVariants.{Search}
+use Rattle.kr_lawful.specs.kr_tree.declared.place.Host.{Host}
+use Rattle.kr_lawful.specs.kr_tree.declared.place.Host.TheVariants.{Node, Proc}
+use Rattle.kr_lawful.specs.kr_tree.Lawful.{HasItsInodes, IsSound}
+use Rattle.kr_lawful.specs.kr_tree.Names.{named, reached}
+use Rattle.kr_lawful.specs.kr_tree.Rights.{allows, may}
+use Rattle.kr_lawful.specs.kr_tree.Tree.{Body, Entry, Inode, Node as NodeWord, Tree, body_is, entries_of, entry, entry_named, inode, is_directory}
+use Rattle.kr_lawful.proofs.kr_tree.EntryLemmas.{named_there, reached-named}
+use Rattle.kr_lawful.proofs.kr_tree.NameLemmas.{map_some, then_some}
+use Rattle.walks_agree.specs.kr_view.Component.{Finds, is_directory_at, is_processes, may_search}
+use Rattle.walks_agree.specs.kr_view.HostReach.{is_link_at, object_in, reaches}
+use Rattle.walks_agree.specs.kr_view.Laws.{is_link}
+use Rattle.walks_agree.specs.kr_view.Living.{Living, finds_among}
+use Rattle.walks_agree.proofs.kr_view.HostReachLemmas.{inode_reached, last_object, object_more, reached_inode}
 use Rattle.places_stay.specs.Losses.{HostStays, InodeStays, InodesStay, KeepsNames, KeepsWay, Losses, PidsStay}
 use Rattle.places_stay.proofs.ShownLemmas.{finds_stay, one_process, shown_pids}
 

@@ -1,14 +1,14 @@
 -- Changes that take nothing from what has a name: all places stand after them, where each new one stands before it comes into use.
 use Rattle.std.specs.Prelude.{◌≡◌, ℕ, Bool, true, false, List, [], ◌∷◌, Some}
 use Rattle.std.specs.List.{list_all}
-use Rattle.kr_tree.specs.declared.place.Place.{Place}
-use Rattle.kr_view.specs.View.{Row}
+use Rattle.kr_lawful.specs.kr_tree.declared.place.Place.{Place}
+use Rattle.walks_agree.specs.kr_view.View.{Row}
 use Rattle.kr_lawful.specs.Laws.{CanAllBeMade}
-use Rattle.kr_model.specs.Applied.{Mounts, all_applied, applied, images, in_mount, mount_of}
-use Rattle.kr_model.specs.Change.{Change, ChangeDirectory, End, MoveName, OpenFile, RemoveName, ReplaceExecutable, SetMode, SetOwner}
-use Rattle.kr_model.specs.Judged.{are_quiet}
-use Rattle.kr_model.specs.ProcessDirectory.{space_of}
-use Rattle.kr_model.specs.State.{Image, State}
+use Rattle.kr_lawful.specs.kr_model.Applied.{Mounts, all_applied, applied, images, in_mount, mount_of}
+use Rattle.kr_lawful.specs.kr_model.Change.{Change, ChangeDirectory, End, MoveName, OpenFile, RemoveName, ReplaceExecutable, SetMode, SetOwner}
+use Rattle.kr_lawful.specs.kr_model.Judged.{are_quiet}
+use Rattle.kr_lawful.specs.kr_model.ProcessDirectory.{space_of}
+use Rattle.kr_lawful.specs.kr_model.State.{Image, State}
 use Rattle.places_stay.specs.Standing.{PlacesStand, UseStands}
 use Rattle.places_stay.specs.Uses.{Use, open_use}
 

@@ -1,12 +1,12 @@
 -- A state that follows from another by changes which lose no more than is said.
 use Rattle.std.specs.Prelude.{◌≡◌, ℕ, List, Some, map as map_list}
-use Rattle.kr_tree.specs.declared.place.Place.{Place}
-use Rattle.kr_files.specs.declared.opened.Opened.{Opened}
-use Rattle.kr_files.specs.Files.{file_at}
-use Rattle.kr_view.specs.View.{Row}
-use Rattle.kr_model.specs.Lawful.{IsLawful}
-use Rattle.kr_model.specs.ProcessDirectory.{space_of}
-use Rattle.kr_model.specs.State.{Image, Process, State, process}
+use Rattle.kr_lawful.specs.kr_tree.declared.place.Place.{Place}
+use Rattle.kr_lawful.specs.kr_files.declared.opened.Opened.{Opened}
+use Rattle.kr_lawful.specs.kr_files.Files.{file_at}
+use Rattle.walks_agree.specs.kr_view.View.{Row}
+use Rattle.kr_lawful.specs.kr_model.Lawful.{IsLawful}
+use Rattle.kr_lawful.specs.kr_model.ProcessDirectory.{space_of}
+use Rattle.kr_lawful.specs.kr_model.State.{Image, Process, State, process}
 use Rattle.places_stay.specs.Losses.{InodesStay, KeepsTable, KeepsUse, Losses, PidsStay}
 use Rattle.places_stay.specs.Standing.{PlacesStand, UseStands}
 use Rattle.places_stay.specs.Uses.{Use, cwd_use, exe_use, open_use}

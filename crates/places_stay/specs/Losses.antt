@@ -2,20 +2,20 @@
 use Rattle.std.specs.FinMap as map
 use Rattle.std.specs.Option.{option_map}
 use Rattle.std.specs.Prelude.{◌≡◌, ◌==◌, ◌&&◌, ℕ, Bool, true, false, List, [], ◌∷◌, Some, bytes_eq}
-use Rattle.pr_base.specs.Texts.{Text}
-use Rattle.kr_inode.specs.declared.user.User.{User}
-use Rattle.kr_inode.specs.declared.user.Right.TheVariants.{Search}
-use Rattle.kr_tree.specs.declared.place.Host.{Host}
-use Rattle.kr_tree.specs.declared.place.Host.TheVariants.{Node, Proc}
-use Rattle.kr_tree.specs.declared.place.ProcAt.{ProcAt}
-use Rattle.kr_tree.specs.declared.place.ProcAt.TheVariants.{SelfLink, Dir, Cwd, Root, Exe, FdDir, Fd}
-use Rattle.kr_tree.specs.Names.{named}
-use Rattle.kr_tree.specs.Rights.{allows}
-use Rattle.kr_tree.specs.Tree.{Inode, Inodes, Tree, entries_of, entry_named, is_directory}
-use Rattle.kr_view.specs.Component.{Namespace, is_process_directory, is_processes}
-use Rattle.kr_view.specs.Laws.{is_link}
-use Rattle.kr_view.specs.Living.{first}
-use Rattle.kr_view.specs.View.{Row, row}
+use Rattle.walks_agree.specs.pr_base.Texts.{Text}
+use Rattle.kr_lawful.specs.kr_inode.declared.user.User.{User}
+use Rattle.kr_lawful.specs.kr_inode.declared.user.Right.TheVariants.{Search}
+use Rattle.kr_lawful.specs.kr_tree.declared.place.Host.{Host}
+use Rattle.kr_lawful.specs.kr_tree.declared.place.Host.TheVariants.{Node, Proc}
+use Rattle.kr_lawful.specs.kr_tree.declared.place.ProcAt.{ProcAt}
+use Rattle.kr_lawful.specs.kr_tree.declared.place.ProcAt.TheVariants.{SelfLink, Dir, Cwd, Root, Exe, FdDir, Fd}
+use Rattle.kr_lawful.specs.kr_tree.Names.{named}
+use Rattle.kr_lawful.specs.kr_tree.Rights.{allows}
+use Rattle.kr_lawful.specs.kr_tree.Tree.{Inode, Inodes, Tree, entries_of, entry_named, is_directory}
+use Rattle.walks_agree.specs.kr_view.Component.{Namespace, is_process_directory, is_processes}
+use Rattle.walks_agree.specs.kr_view.Laws.{is_link}
+use Rattle.walks_agree.specs.kr_view.Living.{first}
+use Rattle.walks_agree.specs.kr_view.View.{Row, row}
 use Rattle.walks_agree.specs.Settled.{host_text}
 use Rattle.places_stay.specs.Uses.{Use, has_name}
 use Rattle.places_stay.specs.Standing.{StandsAs}

@@ -1,16 +1,16 @@
 -- The match of a state of a kernel with mounts and one of a plain kernel whose processes are watched by a tracer.
 use Rattle.std.specs.Prelude.{◌≡◌, ℕ, List, Some}
 use Rattle.std.specs.Option.{option_map, option_map_or}
-use Rattle.rv_mem.specs.Actions.{AreEqualUnmarked}
-use Rattle.pt_bind.specs.Tags.{TagTable, tag_of}
-use Rattle.pt_bind.specs.declared.slot.Slot.TheVariants as slot
-use Rattle.kr_tree.specs.declared.place.Place.{Place}
-use Rattle.kr_view.specs.Living.{Each, HasSmallNumbers}
-use Rattle.kr_view.specs.View.{Row, plain, row}
-use Rattle.kr_files.specs.declared.opened.Opened.{Opened}
-use Rattle.kr_model.specs.Bare.{bare, pins_of}
-use Rattle.kr_model.specs.ProcessDirectory.{living_of}
-use Rattle.kr_model.specs.State.{Image, Process, State, image_layout, opened, process}
+use Rattle.kr_lawful.specs.rv_mem.Actions.{AreEqualUnmarked}
+use Rattle.walks_agree.specs.pt_bind.Tags.{TagTable, tag_of}
+use Rattle.walks_agree.specs.pt_bind.declared.slot.Slot.TheVariants as slot
+use Rattle.kr_lawful.specs.kr_tree.declared.place.Place.{Place}
+use Rattle.walks_agree.specs.kr_view.Living.{Each, HasSmallNumbers}
+use Rattle.walks_agree.specs.kr_view.View.{Row, plain, row}
+use Rattle.kr_lawful.specs.kr_files.declared.opened.Opened.{Opened}
+use Rattle.kr_lawful.specs.kr_model.Bare.{bare, pins_of}
+use Rattle.kr_lawful.specs.kr_model.ProcessDirectory.{living_of}
+use Rattle.kr_lawful.specs.kr_model.State.{Image, Process, State, image_layout, opened, process}
 use Rattle.walks_agree.specs.Scene.{IsMatched}
 use Rattle.walks_agree.specs.States.{ArePlaced, scene_of}
 use Rattle.places_stay.specs.Standing.{PlacesStand}

@@ -1,18 +1,18 @@
 -- A name that is moved: what calm asks of the move, and what the move leaves. What is open below a moved directory stands at another
 -- guest text then, in the same mount.
 use Rattle.std.specs.Prelude.{◌≡◌, ◌==◌, ◌&&◌, ◌||◌, ℕ, true, false, List, Some, IsSome, bytes_eq}
-use Rattle.pr_base.specs.Texts.{Text}
-use Rattle.kr_tree.specs.Changes.{renamed}
-use Rattle.kr_tree.specs.Lawful.{IsBelow}
-use Rattle.kr_tree.specs.Tree.{Tree, entry}
-use Rattle.kr_tree.specs.declared.place.Host.TheVariants.{Node}
-use Rattle.kr_view.specs.Component.{Namespace, may_search}
-use Rattle.kr_view.specs.View.{Point, Row, row}
-use Rattle.kr_model.specs.Applied.{Mounts, applied, images}
-use Rattle.kr_model.specs.Change.{MoveName}
-use Rattle.kr_model.specs.Conditions.{CanBeMade, CanMove}
-use Rattle.kr_model.specs.ProcessDirectory.{space_of}
-use Rattle.kr_model.specs.State.{Image, State, inode_of, process}
+use Rattle.walks_agree.specs.pr_base.Texts.{Text}
+use Rattle.kr_lawful.specs.kr_tree.Changes.{renamed}
+use Rattle.kr_lawful.specs.kr_tree.Lawful.{IsBelow}
+use Rattle.kr_lawful.specs.kr_tree.Tree.{Tree, entry}
+use Rattle.kr_lawful.specs.kr_tree.declared.place.Host.TheVariants.{Node}
+use Rattle.walks_agree.specs.kr_view.Component.{Namespace, may_search}
+use Rattle.walks_agree.specs.kr_view.View.{Point, Row, row}
+use Rattle.kr_lawful.specs.kr_model.Applied.{Mounts, applied, images}
+use Rattle.kr_lawful.specs.kr_model.Change.{MoveName}
+use Rattle.kr_lawful.specs.kr_model.Conditions.{CanBeMade, CanMove}
+use Rattle.kr_lawful.specs.kr_model.ProcessDirectory.{space_of}
+use Rattle.kr_lawful.specs.kr_model.State.{Image, State, inode_of, process}
 use Rattle.walks_agree.specs.Standing.{reached_in}
 use Rattle.places_stay.specs.Losses.{InodesStay, KeepsTable, KeepsUse, Losses}
 use Rattle.places_stay.specs.Standing.{PlacesStand}

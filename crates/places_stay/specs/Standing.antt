@@ -1,14 +1,14 @@
 -- A state in which the table of mounts is settled and all places in use stand at guest texts.
 use Rattle.std.specs.Prelude.{◌≡◌, ℕ, true, false, List, ◌∷◌, Some}
-use Rattle.pr_base.specs.Texts.{Text}
-use Rattle.kr_tree.specs.Names.{named}
-use Rattle.kr_tree.specs.Tree.{Tree}
-use Rattle.kr_tree.specs.declared.place.Host.TheVariants.{Node}
-use Rattle.kr_view.specs.Component.{Namespace, is_directory_at}
-use Rattle.kr_view.specs.View.{Row, row}
-use Rattle.kr_model.specs.Lawful.{IsLawful}
-use Rattle.kr_model.specs.ProcessDirectory.{space_of}
-use Rattle.kr_model.specs.State.{Image, State}
+use Rattle.walks_agree.specs.pr_base.Texts.{Text}
+use Rattle.kr_lawful.specs.kr_tree.Names.{named}
+use Rattle.kr_lawful.specs.kr_tree.Tree.{Tree}
+use Rattle.kr_lawful.specs.kr_tree.declared.place.Host.TheVariants.{Node}
+use Rattle.walks_agree.specs.kr_view.Component.{Namespace, is_directory_at}
+use Rattle.walks_agree.specs.kr_view.View.{Row, row}
+use Rattle.kr_lawful.specs.kr_model.Lawful.{IsLawful}
+use Rattle.kr_lawful.specs.kr_model.ProcessDirectory.{space_of}
+use Rattle.kr_lawful.specs.kr_model.State.{Image, State}
 use Rattle.walks_agree.specs.Settled.{IsSettled, host_text}
 use Rattle.walks_agree.specs.Standing.{IsEntryAt, StandsOn}
 use Rattle.places_stay.specs.Uses.{IsUse, Use, has_name, is_source_place}
@@ -19,7 +19,7 @@ pub record StandsAs (space : Namespace) (x : Use) (guest : Text) : Type 0 where
   pub kind : is_directory_at space.tree x.place.host ≡ x.is_directory
   pub entry : x.is_directory ≡ false → IsEntryAt space (host_text space guest) (Node x.dir) x.name
 
--- what has a name stands at some guest text. What has none is no mount's source, so that it has no guest name either
+-- what has a name stands at some guest text, and what has none is no mount's source
 pub record UseStands (space : Namespace) (x : Use) : Type 0 where
   pub called : has_name x ≡ true → (guest : Text) × StandsAs space x guest
   pub nameless : has_name x ≡ false → is_source_place space.table x.place ≡ false

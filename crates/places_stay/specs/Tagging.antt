@@ -1,15 +1,15 @@
 -- The tags that follow changes: what is made gets the index of its mount, and a copy the tag of its original.
 use Rattle.std.specs.Prelude.{ℕ, List, IsSome}
 use Rattle.std.specs.Option.{option_map_or}
-use Rattle.pt_bind.specs.Tags.{TagTable, dropped, forked, tag_of, with_tag}
-use Rattle.pt_bind.specs.declared.slot.Slot.{Slot}
-use Rattle.pt_bind.specs.declared.slot.Slot.TheVariants.{Cwd, Exe, Fd}
-use Rattle.kr_view.specs.View.{Row}
-use Rattle.kr_model.specs.Applied.{Mounts, applied, images, mount_of}
-use Rattle.kr_model.specs.Change.{Change, ChangeDirectory, CopyDescriptor, End, Fork, MountOf, OpenFile, ReplaceExecutable}
-use Rattle.kr_model.specs.Conditions.{CanBeMade}
-use Rattle.kr_model.specs.Lawful.{IsLawful}
-use Rattle.kr_model.specs.State.{Image, State, process}
+use Rattle.walks_agree.specs.pt_bind.Tags.{TagTable, dropped, forked, tag_of, with_tag}
+use Rattle.walks_agree.specs.pt_bind.declared.slot.Slot.{Slot}
+use Rattle.walks_agree.specs.pt_bind.declared.slot.Slot.TheVariants.{Cwd, Exe, Fd}
+use Rattle.walks_agree.specs.kr_view.View.{Row}
+use Rattle.kr_lawful.specs.kr_model.Applied.{Mounts, applied, images, mount_of}
+use Rattle.kr_lawful.specs.kr_model.Change.{Change, ChangeDirectory, CopyDescriptor, End, Fork, MountOf, OpenFile, ReplaceExecutable}
+use Rattle.kr_lawful.specs.kr_model.Conditions.{CanBeMade}
+use Rattle.kr_lawful.specs.kr_model.Lawful.{IsLawful}
+use Rattle.kr_lawful.specs.kr_model.State.{Image, State, process}
 use Rattle.places_stay.specs.Matching.{AreTagged, index_at}
 
 -- a slot with the index of the mount that is taken, if one is

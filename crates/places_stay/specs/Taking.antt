@@ -1,17 +1,17 @@
 -- Changes that take something away: a name, the search of a directory, a process. All places stand after them, where they spare what
 -- the table and the places in use need.
 use Rattle.std.specs.Prelude.{◌≡◌, ◌≢◌, ℕ, true, false, List, Some, IsSome}
-use Rattle.kr_inode.specs.declared.user.Right.TheVariants.{Search}
-use Rattle.kr_tree.specs.Rights.{may}
-use Rattle.kr_tree.specs.Tree.{entry}
-use Rattle.kr_tree.specs.declared.place.Host.TheVariants.{Node, Proc}
-use Rattle.kr_tree.specs.declared.place.ProcAt.{ProcAt}
-use Rattle.kr_view.specs.View.{Row, row}
-use Rattle.kr_model.specs.Applied.{Mounts, applied, images}
-use Rattle.kr_model.specs.Change.{Change, End, RemoveName, SetMode, SetOwner}
-use Rattle.kr_model.specs.Conditions.{CanBeMade}
-use Rattle.kr_model.specs.ProcessDirectory.{space_of}
-use Rattle.kr_model.specs.State.{Image, State, process}
+use Rattle.kr_lawful.specs.kr_inode.declared.user.Right.TheVariants.{Search}
+use Rattle.kr_lawful.specs.kr_tree.Rights.{may}
+use Rattle.kr_lawful.specs.kr_tree.Tree.{entry}
+use Rattle.kr_lawful.specs.kr_tree.declared.place.Host.TheVariants.{Node, Proc}
+use Rattle.kr_lawful.specs.kr_tree.declared.place.ProcAt.{ProcAt}
+use Rattle.walks_agree.specs.kr_view.View.{Row, row}
+use Rattle.kr_lawful.specs.kr_model.Applied.{Mounts, applied, images}
+use Rattle.kr_lawful.specs.kr_model.Change.{Change, End, RemoveName, SetMode, SetOwner}
+use Rattle.kr_lawful.specs.kr_model.Conditions.{CanBeMade}
+use Rattle.kr_lawful.specs.kr_model.ProcessDirectory.{space_of}
+use Rattle.kr_lawful.specs.kr_model.State.{Image, State, process}
 use Rattle.places_stay.specs.Losses.{KeepsTable, KeepsUse, pid_of, search_of}
 use Rattle.places_stay.specs.Standing.{PlacesStand}
 use Rattle.places_stay.specs.Uses.{IsUse, Use}

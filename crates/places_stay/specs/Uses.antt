@@ -1,15 +1,15 @@
 -- The places that a state's processes use, as plain data: working directories, executables, and what is open, by its number.
 -- Descriptors aren't among them, since copies share what is open.
 use Rattle.std.specs.Prelude.{◌≡◌, ◌||◌, ◌==◌, ℕ, Bool, true, false, not, List, [], length, Option, Some}
-use Rattle.kr_tree.specs.declared.place.Host.{Host}
-use Rattle.kr_tree.specs.declared.place.Host.TheVariants.{Node, Proc}
-use Rattle.kr_tree.specs.declared.place.Place.{Place}
-use Rattle.kr_files.specs.declared.opened.Opened.{Opened}
-use Rattle.kr_files.specs.Files.{file_at}
-use Rattle.kr_view.specs.Names.{is_file_source}
-use Rattle.kr_view.specs.View.{Row, row}
-use Rattle.kr_model.specs.FileRows.{is_dir}
-use Rattle.kr_model.specs.State.{Process, State, process}
+use Rattle.kr_lawful.specs.kr_tree.declared.place.Host.{Host}
+use Rattle.kr_lawful.specs.kr_tree.declared.place.Host.TheVariants.{Node, Proc}
+use Rattle.kr_lawful.specs.kr_tree.declared.place.Place.{Place}
+use Rattle.kr_lawful.specs.kr_files.declared.opened.Opened.{Opened}
+use Rattle.kr_lawful.specs.kr_files.Files.{file_at}
+use Rattle.walks_agree.specs.kr_view.Names.{is_file_source}
+use Rattle.walks_agree.specs.kr_view.View.{Row, row}
+use Rattle.kr_lawful.specs.kr_model.FileRows.{is_dir}
+use Rattle.kr_lawful.specs.kr_model.State.{Process, State, process}
 
 -- a place in use, whether it is used as a directory, and the entry that is remembered of it; an empty name remembers none
 pub record Use : Type 0 where

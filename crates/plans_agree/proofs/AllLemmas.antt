@@ -2,23 +2,23 @@
 use Rattle.std.proofs.Common.{◌≡◌, ◌⊎◌, inl, inr, ℕ, Bool, true, false, List, Some, None, refl, sym, ap, ◌∙◌}
 use Rattle.std.specs.Bool.{if◌then◌else◌}
 use Rattle.std.specs.Option.{option_map_or}
-use Rattle.pr_base.specs.WalkFrame.{may_be_free}
-use Rattle.pr_base.specs.declared.errno.Errno.{Errno}
-use Rattle.pr_base.specs.declared.errno.Errno.TheVariants.{EEXIST}
-use Rattle.pr_base.specs.declared.path.Last.{Last}
-use Rattle.pr_base.specs.declared.path.WalkMode.TheVariants as modes
-use Rattle.pt_bind.specs.Tags.{TagTable}
-use Rattle.kr_calls.specs.Arguments.{has}
-use Rattle.kr_calls.specs.PathTable.{PathUse, look_mode, path_at}
-use Rattle.kr_calls.specs.declared.request.Request.{Request}
-use Rattle.kr_calls.specs.declared.request.Request.TheVariants as call
-use Rattle.kr_tree.specs.declared.place.Host.{Host}
-use Rattle.kr_view.specs.View.{Row}
-use Rattle.kr_model.specs.Known.{known}
-use Rattle.kr_model.specs.Operation.{operation}
-use Rattle.kr_model.specs.Reply.{Replying, refuse}
-use Rattle.kr_model.specs.Seen.{Made, Makes, MakesEntry, MakesNoName, MakesOver}
-use Rattle.kr_model.specs.State.{Image, State, image_layout}
+use Rattle.swaps_read.specs.pr_base.WalkFrame.{may_be_free}
+use Rattle.swaps_read.specs.pr_base.declared.errno.Errno.{Errno}
+use Rattle.swaps_read.specs.pr_base.declared.errno.Errno.TheVariants.{EEXIST}
+use Rattle.swaps_read.specs.pr_base.declared.path.Last.{Last}
+use Rattle.swaps_read.specs.pr_base.declared.path.WalkMode.TheVariants as modes
+use Rattle.swaps_read.specs.pt_bind.Tags.{TagTable}
+use Rattle.walks_bare.specs.kr_calls.Arguments.{has}
+use Rattle.walks_bare.specs.kr_calls.PathTable.{PathUse, look_mode, path_at}
+use Rattle.walks_bare.specs.kr_calls.declared.request.Request.{Request}
+use Rattle.walks_bare.specs.kr_calls.declared.request.Request.TheVariants as call
+use Rattle.walks_bare.specs.kr_tree.declared.place.Host.{Host}
+use Rattle.walks_bare.specs.kr_view.View.{Row}
+use Rattle.walks_bare.specs.kr_model.Known.{known}
+use Rattle.walks_bare.specs.kr_model.Operation.{operation}
+use Rattle.walks_bare.specs.kr_model.Reply.{Replying, refuse}
+use Rattle.walks_bare.specs.kr_model.Seen.{Made, Makes, MakesEntry, MakesNoName, MakesOver}
+use Rattle.walks_bare.specs.kr_model.State.{Image, State, image_layout}
 use Rattle.plans_agree.specs.Plans.{IsPlanned, PlanAgrees, PlansOfOneAgree}
 use Rattle.plans_agree.proofs.OpenLemmas.{opens_agree}
 use Rattle.plans_agree.proofs.ReadLemmas.{reads_agree}

@@ -4,47 +4,47 @@ use Rattle.std.specs.Prelude.{◌==◌, ◌||◌, not, length, ℤ, pos, negsuc}
 use Rattle.std.specs.Bool.{if◌then◌else◌}
 use Rattle.std.specs.Option.{option_map, option_map_or, option_and_then}
 use Rattle.std.proofs.lemmas.List.Elements.{All-nil}
-use Rattle.pr_base.specs.MountText.{MountText}
-use Rattle.pr_base.specs.Paths.{IsPart, is_absolute, slash, text_of}
-use Rattle.pr_base.specs.Texts.{Text}
-use Rattle.pr_base.specs.declared.errno.Errno.{Errno}
-use Rattle.pr_base.specs.declared.errno.Errno.TheVariants.{EBADF, ENOENT, ENOTDIR}
-use Rattle.pr_base.specs.declared.peeks.BaseKind.{BaseKind}
-use Rattle.pr_base.specs.declared.peeks.BaseKind.TheVariants as kind
-use Rattle.pr_base.proofs.PathLemmas.{names_are_parts}
-use Rattle.pt_bind.specs.Binding.{guest_of, names_of}
-use Rattle.pt_bind.specs.Tags.{TagTable, tag_of}
-use Rattle.pt_bind.specs.declared.slot.Slot.TheVariants as slot
-use Rattle.pt_bind.proofs.ByteLemmas.{names_written}
-use Rattle.pt_canon.specs.TextWalk.{TextSurroundings}
-use Rattle.pt_args.specs.Bases as traced
-use Rattle.pt_args.specs.Bases.{or_lost, tagged_text}
-use Rattle.kr_calls.specs.PathTable.{PathUse}
-use Rattle.kr_tree.specs.declared.place.Place.{Place}
-use Rattle.kr_tree.proofs.NameLemmas.{then_some}
-use Rattle.kr_view.specs.Component.{Namespace, is_directory_at}
-use Rattle.kr_view.specs.HostReach.{host_place}
-use Rattle.kr_view.specs.View.{Row, plain, root_place}
-use Rattle.kr_view.proofs.TableLemmas.{there_is}
-use Rattle.kr_files.specs.declared.opened.Opened.{Opened}
-use Rattle.kr_files.specs.Descriptors.{Named}
-use Rattle.kr_files.specs.Files.{file_at}
-use Rattle.kr_mounts.specs.Standing.{texts_of}
-use Rattle.kr_model.specs.Applied.{cwd_of}
-use Rattle.kr_model.specs.Asking.{descriptor_number, is_working_directory}
-use Rattle.kr_model.specs.Bare.{pins_of}
-use Rattle.kr_model.specs.FileRows.{is_dir}
-use Rattle.kr_model.specs.HostView.{host_space, open_name}
-use Rattle.kr_model.specs.Peeks.{kind_of_base}
-use Rattle.kr_model.specs.ProcessDirectory.{name_text, space_of}
-use Rattle.kr_model.specs.State.{Image, Process, State, named, opened, process}
-use Rattle.kr_model.specs.Walks.{base_of, place_of_descriptor, place_of_open}
+use Rattle.swaps_read.specs.pr_base.MountText.{MountText}
+use Rattle.swaps_read.specs.pr_base.Paths.{IsPart, is_absolute, slash, text_of}
+use Rattle.swaps_read.specs.pr_base.Texts.{Text}
+use Rattle.swaps_read.specs.pr_base.declared.errno.Errno.{Errno}
+use Rattle.swaps_read.specs.pr_base.declared.errno.Errno.TheVariants.{EBADF, ENOENT, ENOTDIR}
+use Rattle.swaps_read.specs.pr_base.declared.peeks.BaseKind.{BaseKind}
+use Rattle.swaps_read.specs.pr_base.declared.peeks.BaseKind.TheVariants as kind
+use Rattle.swaps_read.proofs.pr_base.PathLemmas.{names_are_parts}
+use Rattle.swaps_read.specs.pt_bind.Binding.{guest_of, names_of}
+use Rattle.swaps_read.specs.pt_bind.Tags.{TagTable, tag_of}
+use Rattle.swaps_read.specs.pt_bind.declared.slot.Slot.TheVariants as slot
+use Rattle.swaps_read.proofs.pt_bind.ByteLemmas.{names_written}
+use Rattle.places_stay.specs.pt_canon.TextWalk.{TextSurroundings}
+use Rattle.swaps_read.specs.pt_args.Bases as traced
+use Rattle.swaps_read.specs.pt_args.Bases.{or_lost, tagged_text}
+use Rattle.walks_bare.specs.kr_calls.PathTable.{PathUse}
+use Rattle.walks_bare.specs.kr_tree.declared.place.Place.{Place}
+use Rattle.walks_bare.proofs.kr_tree.NameLemmas.{then_some}
+use Rattle.walks_bare.specs.kr_view.Component.{Namespace, is_directory_at}
+use Rattle.walks_bare.specs.kr_view.HostReach.{host_place}
+use Rattle.walks_bare.specs.kr_view.View.{Row, plain, root_place}
+use Rattle.walks_bare.proofs.kr_view.TableLemmas.{there_is}
+use Rattle.walks_bare.specs.kr_files.declared.opened.Opened.{Opened}
+use Rattle.walks_bare.specs.kr_files.Descriptors.{Named}
+use Rattle.walks_bare.specs.kr_files.Files.{file_at}
+use Rattle.places_stay.specs.kr_mounts.Standing.{texts_of}
+use Rattle.walks_bare.specs.kr_model.Applied.{cwd_of}
+use Rattle.walks_bare.specs.kr_model.Asking.{descriptor_number, is_working_directory}
+use Rattle.walks_bare.specs.kr_model.Bare.{pins_of}
+use Rattle.walks_bare.specs.kr_model.FileRows.{is_dir}
+use Rattle.walks_bare.specs.kr_model.HostView.{host_space, open_name}
+use Rattle.walks_bare.specs.kr_model.Peeks.{kind_of_base}
+use Rattle.walks_bare.specs.kr_model.ProcessDirectory.{name_text, space_of}
+use Rattle.walks_bare.specs.kr_model.State.{Image, Process, State, named, opened, process}
+use Rattle.walks_bare.specs.kr_model.Walks.{base_of, place_of_descriptor, place_of_open}
 use Rattle.walks_bare.proofs.StateLemmas.{peeks_are_bare}
-use Rattle.walks_agree.specs.Settled.{IsSettled}
-use Rattle.walks_agree.specs.Standing.{Stands}
-use Rattle.walks_agree.specs.States.{ArePlaced, IsInUse}
-use Rattle.walks_agree.proofs.InUseLemmas.{host_is, laws, read_back, tag_is}
-use Rattle.walks_agree.proofs.StandingLemmas.{roots_stand, standing_places_are_called}
+use Rattle.places_stay.specs.walks_agree.Settled.{IsSettled}
+use Rattle.places_stay.specs.walks_agree.Standing.{Stands}
+use Rattle.places_stay.specs.walks_agree.States.{ArePlaced, IsInUse}
+use Rattle.places_stay.proofs.walks_agree.InUseLemmas.{host_is, laws, read_back, tag_is}
+use Rattle.places_stay.proofs.walks_agree.StandingLemmas.{roots_stand, standing_places_are_called}
 use Rattle.places_stay.proofs.MatchLemmas.{tagged_places_are_placed}
 use Rattle.plans_agree.specs.Begins.{BaseAgrees, BaseOn, BasesAgree, LostBase, NoBase, StandTogether, told_texts}
 

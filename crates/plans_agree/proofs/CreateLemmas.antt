@@ -4,39 +4,39 @@ use Rattle.std.proofs.Common.{◌≡◌, ◌≢◌, inl, inr, ℕ, Bool, true, f
 use Rattle.std.specs.Prelude.{is_some}
 use Rattle.std.specs.Bool.{if◌then◌else◌}
 use Rattle.std.specs.Option.{option_map_or}
-use Rattle.pr_base.specs.Alike.{OptionAlike, both as both_there, neither}
-use Rattle.pr_base.specs.Paths.{dot, dot_dot, slash, text_of}
-use Rattle.pr_base.specs.Texts.{Text}
-use Rattle.pr_base.specs.WalkFrame.{here, may_be_free}
-use Rattle.pr_base.specs.declared.errno.Errno.TheVariants.{EISDIR}
-use Rattle.pr_base.specs.declared.path.Last.{Last}
-use Rattle.pr_base.specs.declared.path.Last.TheVariants as last
-use Rattle.pr_base.proofs.EndLemmas.{jump_is_shown}
-use Rattle.pt_bind.specs.Tags.{TagTable}
-use Rattle.pt_canon.specs.declared.canon.Canon.{Canon}
-use Rattle.pt_args.specs.Purposes.{entry_swap, made_swap}
-use Rattle.kr_calls.specs.PathTable.{PathUse}
-use Rattle.kr_tree.specs.Tree.{root}
-use Rattle.kr_tree.specs.declared.place.Host.TheVariants.{Node}
-use Rattle.kr_tree.specs.declared.place.Place.{Place}
-use Rattle.kr_tree.proofs.NameLemmas.{some_is}
-use Rattle.kr_view.specs.View.{Row, plain, root_place}
-use Rattle.kr_view.specs.Walk.{PlaceTarget, looking}
-use Rattle.kr_view.proofs.DirectoryLemmas.{slashes_end}
-use Rattle.kr_mounts.specs.Standing.{texts_of}
-use Rattle.kr_model.specs.HostView.{host_around_of}
-use Rattle.kr_model.specs.ProcessDirectory.{space_of}
-use Rattle.kr_model.specs.Seen.{OpensFound, OpensNew, OpensNoName, OpensSlashed}
-use Rattle.kr_model.specs.State.{Image, State}
-use Rattle.kr_model.specs.Walks.{created_at, if_name, looked_at}
-use Rattle.kr_allowed.specs.Told.{HasGoodName}
-use Rattle.walks_agree.specs.Answers.{canon_told}
-use Rattle.walks_agree.specs.Facts.{AlikeWithoutName, CreatesAlike, EndsOn}
-use Rattle.walks_agree.specs.Handed.{handed_path}
-use Rattle.walks_agree.specs.Settled.{host_text}
-use Rattle.walks_agree.specs.Standing.{Stands, reached_in}
-use Rattle.walks_agree.proofs.FactLemmas.{found_is_told_alike}
-use Rattle.walks_agree.proofs.HandedLemmas.{text_target_named}
+use Rattle.swaps_read.specs.pr_base.Alike.{OptionAlike, both as both_there, neither}
+use Rattle.swaps_read.specs.pr_base.Paths.{dot, dot_dot, slash, text_of}
+use Rattle.swaps_read.specs.pr_base.Texts.{Text}
+use Rattle.swaps_read.specs.pr_base.WalkFrame.{here, may_be_free}
+use Rattle.swaps_read.specs.pr_base.declared.errno.Errno.TheVariants.{EISDIR}
+use Rattle.swaps_read.specs.pr_base.declared.path.Last.{Last}
+use Rattle.swaps_read.specs.pr_base.declared.path.Last.TheVariants as last
+use Rattle.swaps_read.proofs.pr_base.EndLemmas.{jump_is_shown}
+use Rattle.swaps_read.specs.pt_bind.Tags.{TagTable}
+use Rattle.places_stay.specs.pt_canon.declared.canon.Canon.{Canon}
+use Rattle.swaps_read.specs.pt_args.Purposes.{entry_swap, made_swap}
+use Rattle.walks_bare.specs.kr_calls.PathTable.{PathUse}
+use Rattle.walks_bare.specs.kr_tree.Tree.{root}
+use Rattle.walks_bare.specs.kr_tree.declared.place.Host.TheVariants.{Node}
+use Rattle.walks_bare.specs.kr_tree.declared.place.Place.{Place}
+use Rattle.walks_bare.proofs.kr_tree.NameLemmas.{some_is}
+use Rattle.walks_bare.specs.kr_view.View.{Row, plain, root_place}
+use Rattle.walks_bare.specs.kr_view.Walk.{PlaceTarget, looking}
+use Rattle.walks_bare.proofs.kr_view.DirectoryLemmas.{slashes_end}
+use Rattle.places_stay.specs.kr_mounts.Standing.{texts_of}
+use Rattle.walks_bare.specs.kr_model.HostView.{host_around_of}
+use Rattle.walks_bare.specs.kr_model.ProcessDirectory.{space_of}
+use Rattle.walks_bare.specs.kr_model.Seen.{OpensFound, OpensNew, OpensNoName, OpensSlashed}
+use Rattle.walks_bare.specs.kr_model.State.{Image, State}
+use Rattle.walks_bare.specs.kr_model.Walks.{created_at, if_name, looked_at}
+use Rattle.swaps_read.specs.kr_allowed.Told.{HasGoodName}
+use Rattle.places_stay.specs.walks_agree.Answers.{canon_told}
+use Rattle.places_stay.specs.walks_agree.Facts.{AlikeWithoutName, CreatesAlike, EndsOn}
+use Rattle.places_stay.specs.walks_agree.Handed.{handed_path}
+use Rattle.places_stay.specs.walks_agree.Settled.{host_text}
+use Rattle.places_stay.specs.walks_agree.Standing.{Stands, reached_in}
+use Rattle.places_stay.proofs.walks_agree.FactLemmas.{found_is_told_alike}
+use Rattle.places_stay.proofs.walks_agree.HandedLemmas.{text_target_named}
 use Rattle.plans_agree.specs.Begins.{LeadsBoth, StandTogether}
 use Rattle.plans_agree.specs.OnePath.{CreatesSame, EndsPlain, IsNewText, OpensSame}
 use Rattle.plans_agree.proofs.EntryLemmas.{named_canon, named_facts, named_last, named_new, named_slash, named_swap, unnamed_facts, unnamed_last, unnamed_new, unnamed_swap}

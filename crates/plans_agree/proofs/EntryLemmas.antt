@@ -2,33 +2,33 @@
 use Rattle.std.proofs.Common.{◌≡◌, ◌≢◌, ℕ, Bool, true, false, List, ◌∷◌, Option, Some, None, refl, sym, ap, subst, ◌∙◌}
 use Rattle.std.specs.Prelude.{is_some}
 use Rattle.std.proofs.lemmas.List.Elements.{All-cons, All-head}
-use Rattle.pr_base.specs.Paths.{AreNames, AreParts, IsComponent, IsName, IsPart}
-use Rattle.pr_base.specs.Texts.{Text}
-use Rattle.pr_base.specs.WalkFrame.{may_be_free}
-use Rattle.pr_base.specs.declared.path.Last.{Last}
-use Rattle.pr_base.specs.declared.path.Last.TheVariants as last
-use Rattle.pr_base.proofs.PathLemmas.{names_are_parts}
-use Rattle.pt_bind.specs.Binding.{is_point, names_of}
-use Rattle.pt_bind.specs.Tags.{TagTable}
-use Rattle.pt_bind.proofs.ByteLemmas.{names_written}
-use Rattle.pt_canon.specs.declared.canon.Canon.{Canon}
-use Rattle.pt_args.specs.Points.{is_at_point, is_point_text}
-use Rattle.pt_args.specs.Purposes.{entry_swap, named_path, own_path}
-use Rattle.kr_calls.specs.PathTable.{PathUse}
-use Rattle.kr_inode.proofs.NameLemmas.{name_decides}
-use Rattle.kr_tree.specs.declared.place.Place.{Place}
-use Rattle.kr_view.specs.View.{Row, plain, root_place}
-use Rattle.kr_view.specs.Walk.{PlaceTarget}
-use Rattle.kr_allowed.specs.Texts.{IsText}
-use Rattle.kr_model.specs.State.{Image, State}
-use Rattle.kr_allowed.specs.Told.{HasGoodName}
-use Rattle.walks_agree.specs.Answers.{canon_told}
-use Rattle.walks_agree.specs.Facts.{FactsOfLast, FactsOfName}
-use Rattle.walks_agree.specs.Handed.{handed_path}
-use Rattle.walks_agree.specs.Settled.{host_text}
-use Rattle.walks_agree.specs.Standing.{StandsOn}
-use Rattle.walks_agree.proofs.FactLemmas.{lasts_are_told_alike, names_are_told_alike}
-use Rattle.walks_agree.proofs.HandedLemmas.{directory_on, last_name, text_target_named}
+use Rattle.swaps_read.specs.pr_base.Paths.{AreNames, AreParts, IsComponent, IsName, IsPart}
+use Rattle.swaps_read.specs.pr_base.Texts.{Text}
+use Rattle.swaps_read.specs.pr_base.WalkFrame.{may_be_free}
+use Rattle.swaps_read.specs.pr_base.declared.path.Last.{Last}
+use Rattle.swaps_read.specs.pr_base.declared.path.Last.TheVariants as last
+use Rattle.swaps_read.proofs.pr_base.PathLemmas.{names_are_parts}
+use Rattle.swaps_read.specs.pt_bind.Binding.{is_point, names_of}
+use Rattle.swaps_read.specs.pt_bind.Tags.{TagTable}
+use Rattle.swaps_read.proofs.pt_bind.ByteLemmas.{names_written}
+use Rattle.places_stay.specs.pt_canon.declared.canon.Canon.{Canon}
+use Rattle.swaps_read.specs.pt_args.Points.{is_at_point, is_point_text}
+use Rattle.swaps_read.specs.pt_args.Purposes.{entry_swap, named_path, own_path}
+use Rattle.walks_bare.specs.kr_calls.PathTable.{PathUse}
+use Rattle.walks_bare.proofs.kr_inode.NameLemmas.{name_decides}
+use Rattle.walks_bare.specs.kr_tree.declared.place.Place.{Place}
+use Rattle.walks_bare.specs.kr_view.View.{Row, plain, root_place}
+use Rattle.walks_bare.specs.kr_view.Walk.{PlaceTarget}
+use Rattle.swaps_read.specs.kr_allowed.Texts.{IsText}
+use Rattle.walks_bare.specs.kr_model.State.{Image, State}
+use Rattle.swaps_read.specs.kr_allowed.Told.{HasGoodName}
+use Rattle.places_stay.specs.walks_agree.Answers.{canon_told}
+use Rattle.places_stay.specs.walks_agree.Facts.{FactsOfLast, FactsOfName}
+use Rattle.places_stay.specs.walks_agree.Handed.{handed_path}
+use Rattle.places_stay.specs.walks_agree.Settled.{host_text}
+use Rattle.places_stay.specs.walks_agree.Standing.{StandsOn}
+use Rattle.places_stay.proofs.walks_agree.FactLemmas.{lasts_are_told_alike, names_are_told_alike}
+use Rattle.places_stay.proofs.walks_agree.HandedLemmas.{directory_on, last_name, text_target_named}
 use Rattle.plans_agree.specs.Begins.{LeadsBoth, StandTogether}
 use Rattle.plans_agree.specs.OnePath.{IsNewText}
 use Rattle.plans_agree.proofs.LeadLemmas.{alike, answers, bindings, ends_in, found_text, guest_names, host_names, same_canon, scene, space, texts}

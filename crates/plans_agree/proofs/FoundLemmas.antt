@@ -2,18 +2,18 @@
 use Rattle.std.proofs.Common.{◌≡◌, ℕ, Bool, true, false, List, Option, Some, None, refl, sym, ap, ◌∙◌}
 use Rattle.std.specs.Bool.{if◌then◌else◌}
 use Rattle.std.specs.Option.{option_map, option_map_or}
-use Rattle.pr_base.specs.declared.errno.Errno.TheVariants.{ENOENT}
-use Rattle.pr_base.specs.declared.path.Last.{Last}
-use Rattle.pr_base.specs.declared.path.Last.TheVariants as last
-use Rattle.kr_tree.specs.declared.place.Host.{Host}
-use Rattle.kr_tree.specs.declared.place.Place.{Place}
-use Rattle.kr_view.specs.View.{Row, is_there}
-use Rattle.kr_view.specs.Walk.{PlaceTarget}
-use Rattle.kr_view.proofs.TableLemmas.{there_is}
-use Rattle.kr_model.specs.Bare.{bare_mounts}
-use Rattle.kr_model.specs.Seen.{Entered, Looked, LooksUp, Makes, MakesNoName, MakesOver, Opening, OpensFound, OpensNew, OpensNoName, OpensSlashed, Seen, Takes, TakesCovered, TakesNoName, WalkFails}
-use Rattle.kr_model.specs.State.{Image, State}
-use Rattle.kr_model.specs.Walks.{created_at, entered, if_found, if_name, is_covered, looked_at, made_at, mounts_of, taken_at}
+use Rattle.swaps_read.specs.pr_base.declared.errno.Errno.TheVariants.{ENOENT}
+use Rattle.swaps_read.specs.pr_base.declared.path.Last.{Last}
+use Rattle.swaps_read.specs.pr_base.declared.path.Last.TheVariants as last
+use Rattle.walks_bare.specs.kr_tree.declared.place.Host.{Host}
+use Rattle.walks_bare.specs.kr_tree.declared.place.Place.{Place}
+use Rattle.walks_bare.specs.kr_view.View.{Row, is_there}
+use Rattle.walks_bare.specs.kr_view.Walk.{PlaceTarget}
+use Rattle.walks_bare.proofs.kr_view.TableLemmas.{there_is}
+use Rattle.walks_bare.specs.kr_model.Bare.{bare_mounts}
+use Rattle.walks_bare.specs.kr_model.Seen.{Entered, Looked, LooksUp, Makes, MakesNoName, MakesOver, Opening, OpensFound, OpensNew, OpensNoName, OpensSlashed, Seen, Takes, TakesCovered, TakesNoName, WalkFails}
+use Rattle.walks_bare.specs.kr_model.State.{Image, State}
+use Rattle.walks_bare.specs.kr_model.Walks.{created_at, entered, if_found, if_name, is_covered, looked_at, made_at, mounts_of, taken_at}
 use Rattle.plans_agree.proofs.PlanLemmas.{only}
 
 module _ (rows : List Row) (pid : ℕ) (x : State ℕ Image) (t : PlaceTarget) where

@@ -3,49 +3,49 @@
 use Rattle.std.proofs.Common.{◌≡◌, ℕ, Bool, true, false, List, [], ◌∷◌, Option, Some, Result, Ok, Err, refl, sym, ap, ◌∙◌}
 use Rattle.std.specs.Bool.{if◌then◌else◌}
 use Rattle.std.specs.Option.{option_map_or}
-use Rattle.pr_base.specs.Alike.{TargetAlike}
-use Rattle.pr_base.specs.MountText.{MountText}
-use Rattle.pr_base.specs.Paths.{AreNames, Component, components_of, has_slash, is_absolute}
-use Rattle.pr_base.specs.Texts.{Text}
-use Rattle.pr_base.specs.WalkFrame.{Looking, Target, begins_at, may_be_free, most_links, walk}
-use Rattle.pr_base.specs.declared.errno.Errno.{Errno}
-use Rattle.pr_base.specs.declared.errno.Errno.TheVariants.{ENOENT}
-use Rattle.pr_base.specs.declared.path.WalkMode.{WalkMode}
-use Rattle.pr_base.proofs.AlikeLemmas.{alike_some}
-use Rattle.pr_base.proofs.EndLemmas.{EndsSo}
-use Rattle.pt_bind.specs.Tags.{TagTable}
-use Rattle.pt_canon.specs.Canon.{canon_of}
-use Rattle.pt_canon.specs.TextWalk.{TextSurroundings}
-use Rattle.pt_canon.specs.declared.canon.Canon.{Canon}
-use Rattle.kr_calls.specs.PathTable.{PathUse}
-use Rattle.kr_tree.specs.declared.place.Place.{Place}
-use Rattle.kr_view.specs.Component.{Namespace}
-use Rattle.kr_view.specs.View.{Row, plain, root_place}
-use Rattle.kr_view.specs.Walk.{PlaceTarget, looking, place_walk}
-use Rattle.kr_view.proofs.HostReachLemmas.{reached_names}
-use Rattle.kr_mounts.specs.Standing.{texts_of}
-use Rattle.kr_model.specs.Applied.{cwd_of}
-use Rattle.kr_model.specs.Asking.{descriptor_number, is_working_directory}
-use Rattle.kr_model.specs.Bare.{pins_of}
-use Rattle.kr_model.specs.HostView.{host_around_of}
-use Rattle.kr_model.specs.ProcessDirectory.{around_of, leads_of, space_of}
-use Rattle.kr_model.specs.State.{Image, State}
-use Rattle.kr_model.specs.Walks.{and_then, base_of, place_of_descriptor, walked}
-use Rattle.kr_resolved.proofs.EndingLemmas.{HasLast, walk_comes}
+use Rattle.swaps_read.specs.pr_base.Alike.{TargetAlike}
+use Rattle.swaps_read.specs.pr_base.MountText.{MountText}
+use Rattle.swaps_read.specs.pr_base.Paths.{AreNames, Component, components_of, has_slash, is_absolute}
+use Rattle.swaps_read.specs.pr_base.Texts.{Text}
+use Rattle.swaps_read.specs.pr_base.WalkFrame.{Looking, Target, begins_at, may_be_free, most_links, walk}
+use Rattle.swaps_read.specs.pr_base.declared.errno.Errno.{Errno}
+use Rattle.swaps_read.specs.pr_base.declared.errno.Errno.TheVariants.{ENOENT}
+use Rattle.swaps_read.specs.pr_base.declared.path.WalkMode.{WalkMode}
+use Rattle.swaps_read.proofs.pr_base.AlikeLemmas.{alike_some}
+use Rattle.swaps_read.proofs.pr_base.EndLemmas.{EndsSo}
+use Rattle.swaps_read.specs.pt_bind.Tags.{TagTable}
+use Rattle.places_stay.specs.pt_canon.Canon.{canon_of}
+use Rattle.places_stay.specs.pt_canon.TextWalk.{TextSurroundings}
+use Rattle.places_stay.specs.pt_canon.declared.canon.Canon.{Canon}
+use Rattle.walks_bare.specs.kr_calls.PathTable.{PathUse}
+use Rattle.walks_bare.specs.kr_tree.declared.place.Place.{Place}
+use Rattle.walks_bare.specs.kr_view.Component.{Namespace}
+use Rattle.walks_bare.specs.kr_view.View.{Row, plain, root_place}
+use Rattle.walks_bare.specs.kr_view.Walk.{PlaceTarget, looking, place_walk}
+use Rattle.walks_bare.proofs.kr_view.HostReachLemmas.{reached_names}
+use Rattle.places_stay.specs.kr_mounts.Standing.{texts_of}
+use Rattle.walks_bare.specs.kr_model.Applied.{cwd_of}
+use Rattle.walks_bare.specs.kr_model.Asking.{descriptor_number, is_working_directory}
+use Rattle.walks_bare.specs.kr_model.Bare.{pins_of}
+use Rattle.walks_bare.specs.kr_model.HostView.{host_around_of}
+use Rattle.walks_bare.specs.kr_model.ProcessDirectory.{around_of, leads_of, space_of}
+use Rattle.walks_bare.specs.kr_model.State.{Image, State}
+use Rattle.walks_bare.specs.kr_model.Walks.{and_then, base_of, place_of_descriptor, walked}
+use Rattle.swaps_read.proofs.kr_resolved.EndingLemmas.{HasLast, walk_comes}
 use Rattle.walks_bare.specs.Facts.{AreToldAlike}
 use Rattle.walks_bare.proofs.FactLemmas.{facts_are_bare}
 use Rattle.walks_bare.proofs.OneMountLemmas.{lawful_states_are_in_one_mount, plain_walks_are_host_walks}
 use Rattle.walks_bare.proofs.StateLemmas.{host_walks_are_bare}
-use Rattle.walks_agree.specs.Answers.{AnswersTarget}
-use Rattle.walks_agree.specs.Facts.{EndIn, EndsOn, LooksUpAlike, MakesAlike, TakesAlike}
-use Rattle.walks_agree.specs.Scene.{Scene}
-use Rattle.walks_agree.specs.Settled.{IsSettled, host_text}
-use Rattle.walks_agree.specs.Standing.{FoundStands, Stands, likeness}
-use Rattle.walks_agree.specs.States.{scene_of}
-use Rattle.walks_agree.proofs.CanonLemmas.{answers_tell_targets}
-use Rattle.walks_agree.proofs.HandedLemmas.{alike as ends_alike}
-use Rattle.walks_agree.proofs.InUseLemmas.{laws}
-use Rattle.walks_agree.proofs.StandingLemmas.{standing_places_are_called}
+use Rattle.places_stay.specs.walks_agree.Answers.{AnswersTarget}
+use Rattle.places_stay.specs.walks_agree.Facts.{EndIn, EndsOn, LooksUpAlike, MakesAlike, TakesAlike}
+use Rattle.places_stay.specs.walks_agree.Scene.{Scene}
+use Rattle.places_stay.specs.walks_agree.Settled.{IsSettled, host_text}
+use Rattle.places_stay.specs.walks_agree.Standing.{FoundStands, Stands, likeness}
+use Rattle.places_stay.specs.walks_agree.States.{scene_of}
+use Rattle.places_stay.proofs.walks_agree.CanonLemmas.{answers_tell_targets}
+use Rattle.places_stay.proofs.walks_agree.HandedLemmas.{alike as ends_alike}
+use Rattle.places_stay.proofs.walks_agree.InUseLemmas.{laws}
+use Rattle.places_stay.proofs.walks_agree.StandingLemmas.{standing_places_are_called}
 use Rattle.plans_agree.specs.Begins.{LeadsBoth, StandTogether, told_texts}
 use Rattle.plans_agree.specs.OnePath.{EndsPlain, IsNewText, LooksUpSame, MakesSame, TakesSame}
 use Rattle.swaps_read.specs.Operations.{with_path}

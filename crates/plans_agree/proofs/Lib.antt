@@ -1,3 +1,6 @@
+pub use Rattle.walks_bare.proofs.kr_tree as kr_tree
+pub use Rattle.places_stay.proofs.kr_lawful as kr_lawful
+pub use Rattle.places_stay.proofs as places_stay
 pub mod AllLemmas
 pub mod BaseLemmas
 pub mod CreateLemmas

@@ -1,16 +1,16 @@
 -- A path that is looked up: the plain kernel is told the same along the host text of what the tracer found.
 use Rattle.std.proofs.Common.{◌≡◌, ℕ, Bool, false, List, sym, ap, subst}
-use Rattle.pr_base.specs.Paths.{text_of}
-use Rattle.pr_base.specs.WalkFrame.{may_be_free}
-use Rattle.pt_bind.specs.Tags.{TagTable}
-use Rattle.pt_canon.specs.declared.canon.Canon.{Canon}
-use Rattle.kr_calls.specs.PathTable.{PathUse}
-use Rattle.kr_view.specs.View.{Row, is_there, plain, root_place}
-use Rattle.kr_model.specs.ProcessDirectory.{space_of}
-use Rattle.kr_model.specs.State.{Image, State}
-use Rattle.walks_agree.specs.Facts.{LooksUpAlike}
-use Rattle.walks_agree.specs.Settled.{host_text}
-use Rattle.walks_agree.proofs.FactLemmas.{found_is_told_alike}
+use Rattle.swaps_read.specs.pr_base.Paths.{text_of}
+use Rattle.swaps_read.specs.pr_base.WalkFrame.{may_be_free}
+use Rattle.swaps_read.specs.pt_bind.Tags.{TagTable}
+use Rattle.places_stay.specs.pt_canon.declared.canon.Canon.{Canon}
+use Rattle.walks_bare.specs.kr_calls.PathTable.{PathUse}
+use Rattle.walks_bare.specs.kr_view.View.{Row, is_there, plain, root_place}
+use Rattle.walks_bare.specs.kr_model.ProcessDirectory.{space_of}
+use Rattle.walks_bare.specs.kr_model.State.{Image, State}
+use Rattle.places_stay.specs.walks_agree.Facts.{LooksUpAlike}
+use Rattle.places_stay.specs.walks_agree.Settled.{host_text}
+use Rattle.places_stay.proofs.walks_agree.FactLemmas.{found_is_told_alike}
 use Rattle.plans_agree.specs.Begins.{LeadsBoth, StandTogether}
 use Rattle.plans_agree.specs.OnePath.{EndsPlain, IsLookedUp, LooksUpSame}
 use Rattle.plans_agree.proofs.LeadLemmas.{answers, ends_in, found_text, found_there, host_names, looks_same, same_canon, to_plain}

@@ -3,33 +3,33 @@ use Rattle.std.proofs.Common.{◌≡◌, ◌⊎◌, inl, inr, ℕ, Bool, true, f
 use Rattle.std.specs.Bool.{if◌then◌else◌}
 use Rattle.std.specs.Option.{option_map, option_map_or}
 use Rattle.std.specs.Prelude.{ℤ, ◌&&◌, ◌==◌, ◌||◌}
-use Rattle.pr_base.specs.WalkFrame.{may_be_free}
-use Rattle.pr_base.specs.declared.errno.Errno.{Errno}
-use Rattle.pr_base.specs.declared.errno.Errno.TheVariants.{EBUSY, ENOENT}
-use Rattle.pr_base.specs.declared.path.Last.{Last}
-use Rattle.pr_base.specs.declared.path.Last.TheVariants as last
-use Rattle.pr_base.specs.declared.path.WalkMode.TheVariants as modes
-use Rattle.pt_bind.specs.Tags.{TagTable}
-use Rattle.pt_args.specs.Points.{is_at_point}
-use Rattle.pt_args.specs.Purposes.{entry_swap, purpose_of, swap_for}
-use Rattle.kr_calls.specs.Arguments.{has}
-use Rattle.kr_calls.specs.PathTable.{PathUse, link_mode, path_at}
-use Rattle.kr_calls.specs.declared.request.Request.{Request}
-use Rattle.kr_calls.specs.declared.request.Request.TheVariants as call
-use Rattle.kr_tree.specs.declared.place.Place.{Place}
-use Rattle.kr_view.specs.View.{Row, is_there, plain}
-use Rattle.kr_view.specs.Walk.{PlaceTarget}
-use Rattle.kr_view.proofs.TableLemmas.{there_is}
-use Rattle.kr_mounts.specs.Standing.{texts_of}
-use Rattle.kr_model.specs.Bare.{bare_mounts}
-use Rattle.kr_model.specs.Known.{Known, known}
-use Rattle.kr_model.specs.NameRows.{ends_in_name, move_taken, move_uncovered, renameat2_row}
-use Rattle.kr_model.specs.Operation.{linked, operation}
-use Rattle.kr_model.specs.Reply.{refuse}
-use Rattle.kr_model.specs.Seen.{Entered, Links, Looked, Made, MakesNoName, MakesOver, Makes, Seen, Taken, Takes, TakesCovered, TakesNoName}
-use Rattle.kr_model.specs.State.{Image, State, image_layout}
-use Rattle.kr_model.specs.Walks.{entered, if_found, if_name, is_covered, made_at, mount_found, mounts_of, taken_at, told}
-use Rattle.kr_calm.specs.Rules.{are_parted, breaks_2}
+use Rattle.swaps_read.specs.pr_base.WalkFrame.{may_be_free}
+use Rattle.swaps_read.specs.pr_base.declared.errno.Errno.{Errno}
+use Rattle.swaps_read.specs.pr_base.declared.errno.Errno.TheVariants.{EBUSY, ENOENT}
+use Rattle.swaps_read.specs.pr_base.declared.path.Last.{Last}
+use Rattle.swaps_read.specs.pr_base.declared.path.Last.TheVariants as last
+use Rattle.swaps_read.specs.pr_base.declared.path.WalkMode.TheVariants as modes
+use Rattle.swaps_read.specs.pt_bind.Tags.{TagTable}
+use Rattle.swaps_read.specs.pt_args.Points.{is_at_point}
+use Rattle.swaps_read.specs.pt_args.Purposes.{entry_swap, purpose_of, swap_for}
+use Rattle.walks_bare.specs.kr_calls.Arguments.{has}
+use Rattle.walks_bare.specs.kr_calls.PathTable.{PathUse, link_mode, path_at}
+use Rattle.walks_bare.specs.kr_calls.declared.request.Request.{Request}
+use Rattle.walks_bare.specs.kr_calls.declared.request.Request.TheVariants as call
+use Rattle.walks_bare.specs.kr_tree.declared.place.Place.{Place}
+use Rattle.walks_bare.specs.kr_view.View.{Row, is_there, plain}
+use Rattle.walks_bare.specs.kr_view.Walk.{PlaceTarget}
+use Rattle.walks_bare.proofs.kr_view.TableLemmas.{there_is}
+use Rattle.places_stay.specs.kr_mounts.Standing.{texts_of}
+use Rattle.walks_bare.specs.kr_model.Bare.{bare_mounts}
+use Rattle.walks_bare.specs.kr_model.Known.{Known, known}
+use Rattle.walks_bare.specs.kr_model.NameRows.{ends_in_name, move_taken, move_uncovered, renameat2_row}
+use Rattle.walks_bare.specs.kr_model.Operation.{linked, operation}
+use Rattle.walks_bare.specs.kr_model.Reply.{refuse}
+use Rattle.walks_bare.specs.kr_model.Seen.{Entered, Links, Looked, Made, MakesNoName, MakesOver, Makes, Seen, Taken, Takes, TakesCovered, TakesNoName}
+use Rattle.walks_bare.specs.kr_model.State.{Image, State, image_layout}
+use Rattle.walks_bare.specs.kr_model.Walks.{entered, if_found, if_name, is_covered, made_at, mount_found, mounts_of, taken_at, told}
+use Rattle.swaps_read.specs.kr_calm.Rules.{are_parted, breaks_2}
 use Rattle.plans_agree.specs.Begins.{LeadsBoth}
 use Rattle.plans_agree.specs.OnePath.{EndsPlain, IsEntry, IsLookedUp, MakesSame, TakesSame}
 use Rattle.swaps_read.specs.Operations.{with_path}

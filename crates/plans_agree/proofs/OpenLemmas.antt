@@ -3,35 +3,35 @@ use Rattle.std.proofs.Common.{◌≡◌, ◌⊎◌, inl, inr, ℕ, Bool, true, f
 use Rattle.std.specs.Bool.{if◌then◌else◌}
 use Rattle.std.specs.Option.{option_map, option_map_or}
 use Rattle.std.specs.Prelude.{ℤ, ◌&&◌, ◌||◌}
-use Rattle.pr_base.specs.WalkFrame.{may_be_free}
-use Rattle.pr_base.specs.declared.errno.Errno.{Errno}
-use Rattle.pr_base.specs.declared.errno.Errno.TheVariants.{EEXIST, EISDIR, ENOENT}
-use Rattle.pr_base.specs.declared.path.WalkMode.{WalkMode}
-use Rattle.pr_base.specs.declared.path.WalkMode.TheVariants as modes
-use Rattle.pt_bind.specs.Tags.{TagTable}
-use Rattle.pt_args.specs.Purposes.{made_swap, purpose_of, swap_for}
-use Rattle.pt_args.specs.declared.purpose.Purpose.TheVariants as purposes
-use Rattle.kr_calls.specs.Arguments.{has}
-use Rattle.kr_calls.specs.PathTable.{PathUse, make_mode, open_mode, path_at}
-use Rattle.kr_calls.specs.declared.request.Request.{Request}
-use Rattle.kr_calls.specs.declared.request.Request.TheVariants as call
-use Rattle.kr_tree.specs.Lawful.{IsSound}
-use Rattle.kr_inode.specs.declared.user.Right.TheVariants.{Read as ReadRight}
-use Rattle.kr_tree.specs.Rights.{allows}
-use Rattle.kr_tree.specs.Tree.{Body, Directory, Inode, Node as TreeNode, ProcessDirectory, RegularFile, SymbolicLink, inode, is_directory, root}
-use Rattle.kr_tree.specs.declared.place.Host.TheVariants.{Node}
-use Rattle.kr_tree.proofs.CountLemmas.{root_directory}
-use Rattle.kr_view.specs.View.{Row, plain}
-use Rattle.kr_view.specs.Walk.{PlaceTarget}
-use Rattle.kr_mounts.specs.Standing.{texts_of}
-use Rattle.kr_model.specs.Bare.{bare_mounts}
-use Rattle.kr_model.specs.FileRows.{creates, excludes, open_body, open_directory, open_found, open_host, openat_row, truncates, wants_write}
-use Rattle.kr_model.specs.Known.{Fact, Known, known}
-use Rattle.kr_model.specs.Operation.{opened, operation}
-use Rattle.kr_model.specs.Reply.{refuse}
-use Rattle.kr_model.specs.Seen.{Looked, Opening, Opens, OpensFound, OpensNew, OpensNoName, OpensSlashed}
-use Rattle.kr_model.specs.State.{Image, State, image_layout}
-use Rattle.kr_model.specs.Walks.{created_at, if_found, mounts_of, told}
+use Rattle.swaps_read.specs.pr_base.WalkFrame.{may_be_free}
+use Rattle.swaps_read.specs.pr_base.declared.errno.Errno.{Errno}
+use Rattle.swaps_read.specs.pr_base.declared.errno.Errno.TheVariants.{EEXIST, EISDIR, ENOENT}
+use Rattle.swaps_read.specs.pr_base.declared.path.WalkMode.{WalkMode}
+use Rattle.swaps_read.specs.pr_base.declared.path.WalkMode.TheVariants as modes
+use Rattle.swaps_read.specs.pt_bind.Tags.{TagTable}
+use Rattle.swaps_read.specs.pt_args.Purposes.{made_swap, purpose_of, swap_for}
+use Rattle.swaps_read.specs.pt_args.declared.purpose.Purpose.TheVariants as purposes
+use Rattle.walks_bare.specs.kr_calls.Arguments.{has}
+use Rattle.walks_bare.specs.kr_calls.PathTable.{PathUse, make_mode, open_mode, path_at}
+use Rattle.walks_bare.specs.kr_calls.declared.request.Request.{Request}
+use Rattle.walks_bare.specs.kr_calls.declared.request.Request.TheVariants as call
+use Rattle.walks_bare.specs.kr_tree.Lawful.{IsSound}
+use Rattle.walks_bare.specs.kr_inode.declared.user.Right.TheVariants.{Read as ReadRight}
+use Rattle.walks_bare.specs.kr_tree.Rights.{allows}
+use Rattle.walks_bare.specs.kr_tree.Tree.{Body, Directory, Inode, Node as TreeNode, ProcessDirectory, RegularFile, SymbolicLink, inode, is_directory, root}
+use Rattle.walks_bare.specs.kr_tree.declared.place.Host.TheVariants.{Node}
+use Rattle.walks_bare.proofs.kr_tree.CountLemmas.{root_directory}
+use Rattle.walks_bare.specs.kr_view.View.{Row, plain}
+use Rattle.walks_bare.specs.kr_view.Walk.{PlaceTarget}
+use Rattle.places_stay.specs.kr_mounts.Standing.{texts_of}
+use Rattle.walks_bare.specs.kr_model.Bare.{bare_mounts}
+use Rattle.walks_bare.specs.kr_model.FileRows.{creates, excludes, open_body, open_directory, open_found, open_host, openat_row, truncates, wants_write}
+use Rattle.walks_bare.specs.kr_model.Known.{Fact, Known, known}
+use Rattle.walks_bare.specs.kr_model.Operation.{opened, operation}
+use Rattle.walks_bare.specs.kr_model.Reply.{refuse}
+use Rattle.walks_bare.specs.kr_model.Seen.{Looked, Opening, Opens, OpensFound, OpensNew, OpensNoName, OpensSlashed}
+use Rattle.walks_bare.specs.kr_model.State.{Image, State, image_layout}
+use Rattle.walks_bare.specs.kr_model.Walks.{created_at, if_found, mounts_of, told}
 use Rattle.plans_agree.specs.Begins.{LeadsBoth}
 use Rattle.plans_agree.specs.OnePath.{CreatesSame, IsLookedUp, IsOpenedAlike}
 use Rattle.plans_agree.specs.Plans.{IsPlanned, PlanAgrees}

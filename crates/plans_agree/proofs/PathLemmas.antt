@@ -1,31 +1,31 @@
 -- Where paths lead for a tracer and for the kernel with mounts.
 use Rattle.std.proofs.Common.{◌≡◌, ℕ, Bool, List, [], ◌∷◌, Option, Some, Result, Ok, Err, refl, sym, ap, ◌∙◌}
-use Rattle.pr_base.specs.Alike.{Alike, ends, errs}
-use Rattle.pr_base.specs.Paths.{text_of}
-use Rattle.pr_base.specs.Texts.{Text}
-use Rattle.pr_base.specs.WalkFrame.{Target}
-use Rattle.pr_base.specs.declared.errno.Errno.{Errno}
-use Rattle.pt_bind.specs.Binding.{names_of}
-use Rattle.pt_bind.specs.Tags.{TagTable}
-use Rattle.pt_canon.specs.Canon.{canon_at, canon_of, canon_result, ending_of}
-use Rattle.pt_canon.specs.TextWalk.{TextSurroundings, text_walk}
-use Rattle.pt_canon.specs.declared.canon.Canon.{Canon}
-use Rattle.pt_args.specs.Bases as traced_bases
-use Rattle.pt_args.specs.Walks as traced
-use Rattle.pt_args.specs.Walks.{reached_at, walked_along, walked_from}
-use Rattle.pt_args.specs.declared.reached.Reached.{Reached}
-use Rattle.kr_calls.specs.PathTable.{PathUse}
-use Rattle.kr_tree.specs.declared.place.Place.{Place}
-use Rattle.kr_view.specs.View.{Row, plain}
-use Rattle.kr_view.specs.Walk.{PlaceTarget, place_walk}
-use Rattle.kr_mounts.specs.Standing.{texts_of}
-use Rattle.kr_model.specs.ProcessDirectory.{around_of, space_of}
-use Rattle.kr_model.specs.State.{Image, State}
-use Rattle.kr_model.specs.Walks.{and_then, base_of, walked}
-use Rattle.walks_agree.specs.Scene.{IsMatched, Scene}
-use Rattle.walks_agree.specs.Standing.{StandsOn, likeness}
-use Rattle.walks_agree.specs.States.{scene_of}
-use Rattle.walks_agree.proofs.AgreeLemmas.{walks_agree}
+use Rattle.swaps_read.specs.pr_base.Alike.{Alike, ends, errs}
+use Rattle.swaps_read.specs.pr_base.Paths.{text_of}
+use Rattle.swaps_read.specs.pr_base.Texts.{Text}
+use Rattle.swaps_read.specs.pr_base.WalkFrame.{Target}
+use Rattle.swaps_read.specs.pr_base.declared.errno.Errno.{Errno}
+use Rattle.swaps_read.specs.pt_bind.Binding.{names_of}
+use Rattle.swaps_read.specs.pt_bind.Tags.{TagTable}
+use Rattle.places_stay.specs.pt_canon.Canon.{canon_at, canon_of, canon_result, ending_of}
+use Rattle.places_stay.specs.pt_canon.TextWalk.{TextSurroundings, text_walk}
+use Rattle.places_stay.specs.pt_canon.declared.canon.Canon.{Canon}
+use Rattle.swaps_read.specs.pt_args.Bases as traced_bases
+use Rattle.swaps_read.specs.pt_args.Walks as traced
+use Rattle.swaps_read.specs.pt_args.Walks.{reached_at, walked_along, walked_from}
+use Rattle.swaps_read.specs.pt_args.declared.reached.Reached.{Reached}
+use Rattle.walks_bare.specs.kr_calls.PathTable.{PathUse}
+use Rattle.walks_bare.specs.kr_tree.declared.place.Place.{Place}
+use Rattle.walks_bare.specs.kr_view.View.{Row, plain}
+use Rattle.walks_bare.specs.kr_view.Walk.{PlaceTarget, place_walk}
+use Rattle.places_stay.specs.kr_mounts.Standing.{texts_of}
+use Rattle.walks_bare.specs.kr_model.ProcessDirectory.{around_of, space_of}
+use Rattle.walks_bare.specs.kr_model.State.{Image, State}
+use Rattle.walks_bare.specs.kr_model.Walks.{and_then, base_of, walked}
+use Rattle.places_stay.specs.walks_agree.Scene.{IsMatched, Scene}
+use Rattle.places_stay.specs.walks_agree.Standing.{StandsOn, likeness}
+use Rattle.places_stay.specs.walks_agree.States.{scene_of}
+use Rattle.places_stay.proofs.walks_agree.AgreeLemmas.{walks_agree}
 use Rattle.places_stay.proofs.MatchLemmas.{matches_are_matched}
 use Rattle.plans_agree.specs.Begins.{BaseAgrees, BaseOn, Fails, FailsSo, IsEmpty, Leads, LostBase, NoBase, PathAgrees, PathsAgree, StandTogether, Stays, told_texts}
 use Rattle.plans_agree.proofs.BaseLemmas.{bases_agree}

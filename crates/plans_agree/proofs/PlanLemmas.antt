@@ -1,32 +1,32 @@
 -- What a tracer plans for a call with one path, and the targets of the paths in both kernels.
 use Rattle.std.proofs.Common.{◌≡◌, ℕ, Bool, true, false, List, Option, Some, None, Result, Ok, Err, ◌⊎◌, inl, inr, refl, sym, ap, ◌∙◌}
 use Rattle.std.specs.Option.{option_map}
-use Rattle.pr_base.specs.declared.errno.Errno.{Errno}
-use Rattle.pr_base.specs.declared.errno.Errno.TheVariants.{EBUSY}
-use Rattle.pt_bind.specs.Tags.{TagTable}
-use Rattle.pt_canon.specs.TextWalk.{TextSurroundings}
-use Rattle.pt_args.specs.Edits.{edit_by, edit_of}
-use Rattle.pt_args.specs.Plans.{first_walked, plan_from, plan_one, second_walked}
-use Rattle.pt_args.specs.Points.{one_is_busy}
-use Rattle.pt_args.specs.Purposes.{opens, purpose_of, swap_for}
-use Rattle.pt_args.specs.Walks as traced
-use Rattle.pt_args.specs.Walks.{reached_at}
-use Rattle.pt_args.specs.declared.edit.Edit.{Edit}
-use Rattle.pt_args.specs.declared.edit.Edit.TheVariants.{Cancel}
-use Rattle.pt_args.specs.declared.purpose.Purpose.{Purpose}
-use Rattle.pt_args.specs.declared.reached.Reached.{Reached}
-use Rattle.kr_calls.specs.PathTable.{PathUse, path_at}
-use Rattle.kr_calls.specs.declared.request.Request.{Request}
-use Rattle.kr_view.specs.View.{Row, plain}
-use Rattle.kr_view.specs.Walk.{PlaceTarget}
-use Rattle.kr_mounts.specs.Standing.{texts_of}
-use Rattle.kr_model.specs.Bare.{bare_mounts}
-use Rattle.kr_model.specs.Known.{Known, known}
-use Rattle.kr_model.specs.Operation.{operation}
-use Rattle.kr_model.specs.Reply.{refuse}
-use Rattle.kr_model.specs.State.{Image, State, image_layout}
-use Rattle.kr_model.specs.Walks.{Targets, and_then, mounts_of, seen, seen_of, target_at, targets_of, told, walked}
-use Rattle.kr_allowed.specs.Told.{mounts_walked}
+use Rattle.swaps_read.specs.pr_base.declared.errno.Errno.{Errno}
+use Rattle.swaps_read.specs.pr_base.declared.errno.Errno.TheVariants.{EBUSY}
+use Rattle.swaps_read.specs.pt_bind.Tags.{TagTable}
+use Rattle.places_stay.specs.pt_canon.TextWalk.{TextSurroundings}
+use Rattle.swaps_read.specs.pt_args.Edits.{edit_by, edit_of}
+use Rattle.swaps_read.specs.pt_args.Plans.{first_walked, plan_from, plan_one, second_walked}
+use Rattle.swaps_read.specs.pt_args.Points.{one_is_busy}
+use Rattle.swaps_read.specs.pt_args.Purposes.{opens, purpose_of, swap_for}
+use Rattle.swaps_read.specs.pt_args.Walks as traced
+use Rattle.swaps_read.specs.pt_args.Walks.{reached_at}
+use Rattle.swaps_read.specs.pt_args.declared.edit.Edit.{Edit}
+use Rattle.swaps_read.specs.pt_args.declared.edit.Edit.TheVariants.{Cancel}
+use Rattle.swaps_read.specs.pt_args.declared.purpose.Purpose.{Purpose}
+use Rattle.swaps_read.specs.pt_args.declared.reached.Reached.{Reached}
+use Rattle.walks_bare.specs.kr_calls.PathTable.{PathUse, path_at}
+use Rattle.walks_bare.specs.kr_calls.declared.request.Request.{Request}
+use Rattle.walks_bare.specs.kr_view.View.{Row, plain}
+use Rattle.walks_bare.specs.kr_view.Walk.{PlaceTarget}
+use Rattle.places_stay.specs.kr_mounts.Standing.{texts_of}
+use Rattle.walks_bare.specs.kr_model.Bare.{bare_mounts}
+use Rattle.walks_bare.specs.kr_model.Known.{Known, known}
+use Rattle.walks_bare.specs.kr_model.Operation.{operation}
+use Rattle.walks_bare.specs.kr_model.Reply.{refuse}
+use Rattle.walks_bare.specs.kr_model.State.{Image, State, image_layout}
+use Rattle.walks_bare.specs.kr_model.Walks.{Targets, and_then, mounts_of, seen, seen_of, target_at, targets_of, told, walked}
+use Rattle.swaps_read.specs.kr_allowed.Told.{mounts_walked}
 use Rattle.plans_agree.specs.Begins.{LeadsBoth, told_texts}
 use Rattle.plans_agree.specs.OnePath.{IsNewText}
 use Rattle.swaps_read.specs.Operations.{with_path, with_path_if_any}

@@ -5,62 +5,62 @@ use Rattle.std.specs.Bool.{if◌then◌else◌}
 use Rattle.std.specs.Option.{option_and_then, option_map, option_map_or}
 use Rattle.std.specs.Prelude.{ℤ}
 use Rattle.std.specs.Int.RustNames.{unsigned_abs}
-use Rattle.pr_base.specs.Paths.{is_absolute, text_of}
-use Rattle.pr_base.specs.Texts.{Text}
-use Rattle.pr_base.specs.WalkFrame.{may_be_free}
-use Rattle.pr_base.specs.declared.errno.Errno.{Errno}
-use Rattle.pr_base.specs.declared.errno.Errno.TheVariants.{ENOENT}
-use Rattle.pr_base.specs.declared.path.WalkMode.TheVariants as modes
-use Rattle.pr_base.specs.declared.peeks.PeekKind.TheVariants as kind
-use Rattle.pr_base.proofs.PathLemmas.{names_are_parts, text_absolute}
-use Rattle.pt_bind.specs.Binding.{names_of}
-use Rattle.pt_bind.specs.Tags.{TagTable}
-use Rattle.pt_bind.proofs.ByteLemmas.{names_written}
-use Rattle.pt_canon.specs.Canon.{canon_of}
-use Rattle.pt_canon.specs.TextWalk.{TextSurroundings}
-use Rattle.pt_canon.specs.declared.canon.Canon.{Canon}
-use Rattle.pt_args.specs.Purposes.{swap_for}
-use Rattle.pt_results.specs.Answers.{jump_answer, kind_answer, led_answer, nowhere_answer, path_answer, walked_answer}
-use Rattle.pt_results.specs.Numbers.{count_of}
-use Rattle.kr_calls.specs.PathTable.{PathUse, path_at}
-use Rattle.kr_calls.specs.declared.request.Request.{Request}
-use Rattle.kr_calls.specs.declared.request.Request.TheVariants as call
-use Rattle.kr_tree.specs.declared.place.Host.{Host}
-use Rattle.kr_tree.specs.declared.place.Host.TheVariants.{Node, Proc}
-use Rattle.kr_tree.specs.declared.place.Place.{Place}
-use Rattle.kr_tree.specs.declared.place.ProcAt.{ProcAt}
-use Rattle.kr_tree.specs.declared.place.ProcAt.TheVariants.{SelfLink, Dir, Cwd, Root, Exe, FdDir, Fd}
-use Rattle.kr_tree.proofs.NameLemmas.{map_some, then_some}
-use Rattle.kr_view.specs.Component.{is_process_directory, seen_link, shows_directory}
-use Rattle.kr_view.specs.HostReach.{host_place}
-use Rattle.kr_view.specs.Names.{guest_name}
-use Rattle.kr_view.specs.View.{Row, plain, root_place, root_source}
-use Rattle.kr_view.specs.declared.procs.Lead.{Lead}
-use Rattle.kr_view.specs.declared.procs.Lead.TheVariants as ways
-use Rattle.kr_view.proofs.ArrivalLemmas.{text_found}
-use Rattle.kr_view.proofs.TableLemmas.{there_is}
-use Rattle.kr_files.specs.declared.opened.Opened.{Opened}
-use Rattle.kr_mounts.specs.Standing.{texts_of}
-use Rattle.kr_model.specs.AttributeRows.{readlink_host, readlinkat_row, tell_text}
-use Rattle.kr_model.specs.Bare.{pins_of}
-use Rattle.kr_model.specs.HostView.{base_text, cwd_name, exe_name, host_around_of, host_leads, host_space, linked_text}
-use Rattle.kr_model.specs.Known.{Known, known}
-use Rattle.kr_model.specs.Operation.{link_read}
-use Rattle.kr_model.specs.Peeks.{kind_seen, link_text_at, name_or_none, read_at, read_of}
-use Rattle.kr_model.specs.ProcessDirectory.{link_text, name_text, open_text, remembered, space_of, unplaced_text}
-use Rattle.kr_model.specs.Reply.{Replying, refuse}
-use Rattle.kr_model.specs.Seen.{Looked, ReadsLink, Seen}
-use Rattle.kr_model.specs.State.{Image, Process, State, image_layout, opened, process}
-use Rattle.kr_model.specs.Walks.{text_at}
+use Rattle.swaps_read.specs.pr_base.Paths.{is_absolute, text_of}
+use Rattle.swaps_read.specs.pr_base.Texts.{Text}
+use Rattle.swaps_read.specs.pr_base.WalkFrame.{may_be_free}
+use Rattle.swaps_read.specs.pr_base.declared.errno.Errno.{Errno}
+use Rattle.swaps_read.specs.pr_base.declared.errno.Errno.TheVariants.{ENOENT}
+use Rattle.swaps_read.specs.pr_base.declared.path.WalkMode.TheVariants as modes
+use Rattle.swaps_read.specs.pr_base.declared.peeks.PeekKind.TheVariants as kind
+use Rattle.swaps_read.proofs.pr_base.PathLemmas.{names_are_parts, text_absolute}
+use Rattle.swaps_read.specs.pt_bind.Binding.{names_of}
+use Rattle.swaps_read.specs.pt_bind.Tags.{TagTable}
+use Rattle.swaps_read.proofs.pt_bind.ByteLemmas.{names_written}
+use Rattle.places_stay.specs.pt_canon.Canon.{canon_of}
+use Rattle.places_stay.specs.pt_canon.TextWalk.{TextSurroundings}
+use Rattle.places_stay.specs.pt_canon.declared.canon.Canon.{Canon}
+use Rattle.swaps_read.specs.pt_args.Purposes.{swap_for}
+use Rattle.swaps_read.specs.pt_results.Answers.{jump_answer, kind_answer, led_answer, nowhere_answer, path_answer, walked_answer}
+use Rattle.swaps_read.specs.pt_results.Numbers.{count_of}
+use Rattle.walks_bare.specs.kr_calls.PathTable.{PathUse, path_at}
+use Rattle.walks_bare.specs.kr_calls.declared.request.Request.{Request}
+use Rattle.walks_bare.specs.kr_calls.declared.request.Request.TheVariants as call
+use Rattle.walks_bare.specs.kr_tree.declared.place.Host.{Host}
+use Rattle.walks_bare.specs.kr_tree.declared.place.Host.TheVariants.{Node, Proc}
+use Rattle.walks_bare.specs.kr_tree.declared.place.Place.{Place}
+use Rattle.walks_bare.specs.kr_tree.declared.place.ProcAt.{ProcAt}
+use Rattle.walks_bare.specs.kr_tree.declared.place.ProcAt.TheVariants.{SelfLink, Dir, Cwd, Root, Exe, FdDir, Fd}
+use Rattle.walks_bare.proofs.kr_tree.NameLemmas.{map_some, then_some}
+use Rattle.walks_bare.specs.kr_view.Component.{is_process_directory, seen_link, shows_directory}
+use Rattle.walks_bare.specs.kr_view.HostReach.{host_place}
+use Rattle.walks_bare.specs.kr_view.Names.{guest_name}
+use Rattle.walks_bare.specs.kr_view.View.{Row, plain, root_place, root_source}
+use Rattle.walks_bare.specs.kr_view.declared.procs.Lead.{Lead}
+use Rattle.walks_bare.specs.kr_view.declared.procs.Lead.TheVariants as ways
+use Rattle.walks_bare.proofs.kr_view.ArrivalLemmas.{text_found}
+use Rattle.walks_bare.proofs.kr_view.TableLemmas.{there_is}
+use Rattle.walks_bare.specs.kr_files.declared.opened.Opened.{Opened}
+use Rattle.places_stay.specs.kr_mounts.Standing.{texts_of}
+use Rattle.walks_bare.specs.kr_model.AttributeRows.{readlink_host, readlinkat_row, tell_text}
+use Rattle.walks_bare.specs.kr_model.Bare.{pins_of}
+use Rattle.walks_bare.specs.kr_model.HostView.{base_text, cwd_name, exe_name, host_around_of, host_leads, host_space, linked_text}
+use Rattle.walks_bare.specs.kr_model.Known.{Known, known}
+use Rattle.walks_bare.specs.kr_model.Operation.{link_read}
+use Rattle.walks_bare.specs.kr_model.Peeks.{kind_seen, link_text_at, name_or_none, read_at, read_of}
+use Rattle.walks_bare.specs.kr_model.ProcessDirectory.{link_text, name_text, open_text, remembered, space_of, unplaced_text}
+use Rattle.walks_bare.specs.kr_model.Reply.{Replying, refuse}
+use Rattle.walks_bare.specs.kr_model.Seen.{Looked, ReadsLink, Seen}
+use Rattle.walks_bare.specs.kr_model.State.{Image, Process, State, image_layout, opened, process}
+use Rattle.walks_bare.specs.kr_model.Walks.{text_at}
 use Rattle.walks_bare.specs.Facts.{process_text}
 use Rattle.walks_bare.proofs.FactLemmas.{facts_are_bare}
 use Rattle.walks_bare.proofs.OneMountLemmas.{lawful_states_are_in_one_mount, same_text}
-use Rattle.walks_agree.specs.Answers.{canon_told}
-use Rattle.walks_agree.specs.Settled.{host_text}
-use Rattle.walks_agree.specs.Standing.{Stands, reached_in}
-use Rattle.walks_agree.proofs.InUseLemmas.{host_laws}
-use Rattle.walks_agree.proofs.PeekLemmas.{kind_reached, reached_by}
-use Rattle.walks_agree.proofs.StandingLemmas.{root_reached}
+use Rattle.places_stay.specs.walks_agree.Answers.{canon_told}
+use Rattle.places_stay.specs.walks_agree.Settled.{host_text}
+use Rattle.places_stay.specs.walks_agree.Standing.{Stands, reached_in}
+use Rattle.places_stay.proofs.walks_agree.InUseLemmas.{host_laws}
+use Rattle.places_stay.proofs.walks_agree.PeekLemmas.{kind_reached, reached_by}
+use Rattle.places_stay.proofs.walks_agree.StandingLemmas.{root_reached}
 use Rattle.plans_agree.specs.Begins.{LeadsBoth, told_texts}
 use Rattle.plans_agree.specs.OnePath.{IsLookedUp}
 use Rattle.plans_agree.specs.Plans.{IsPlanned, PlanAgrees}

@@ -2,32 +2,32 @@
 use Rattle.std.proofs.Common.{◌≡◌, ◌⊎◌, inl, inr, ℕ, Bool, true, false, List, Some, None, Ok, refl, sym, ap, ◌∙◌}
 use Rattle.std.specs.Bool.{if◌then◌else◌}
 use Rattle.std.specs.Prelude.{ℤ}
-use Rattle.pr_base.specs.WalkFrame.{may_be_free}
-use Rattle.pr_base.specs.declared.errno.Errno.{Errno}
-use Rattle.pr_base.specs.declared.errno.Errno.TheVariants.{EBUSY, EISDIR}
-use Rattle.pr_base.specs.declared.path.Last.{Last}
-use Rattle.pr_base.specs.declared.path.WalkMode.{WalkMode}
-use Rattle.pr_base.specs.declared.path.WalkMode.TheVariants as modes
-use Rattle.pt_bind.specs.Tags.{TagTable}
-use Rattle.pt_canon.specs.declared.canon.Canon.{Canon}
-use Rattle.pt_args.specs.Points.{is_at_point, one_is_busy}
-use Rattle.pt_args.specs.Purposes.{entry_swap, opens, purpose_of, swap_for}
-use Rattle.pt_args.specs.declared.purpose.Purpose.TheVariants as purposes
-use Rattle.kr_calls.specs.PathTable.{PathUse, path_at}
-use Rattle.kr_calls.specs.declared.request.Request.{Request}
-use Rattle.kr_calls.specs.declared.request.Request.TheVariants as call
-use Rattle.kr_tree.specs.declared.place.Host.{Host}
-use Rattle.kr_view.specs.View.{Row, plain}
-use Rattle.kr_view.specs.Walk.{PlaceTarget}
-use Rattle.kr_mounts.specs.Standing.{texts_of}
-use Rattle.kr_model.specs.Bare.{bare_mounts}
-use Rattle.kr_model.specs.Known.{Known, known}
-use Rattle.kr_model.specs.NameRows.{ending_removed, removes_directory, rmdir_row, unlink_row, unlinkat_row}
-use Rattle.kr_model.specs.Operation.{operation}
-use Rattle.kr_model.specs.Reply.{refuse}
-use Rattle.kr_model.specs.Seen.{LooksUp, Made, Makes, MakesEntry, Taken, Takes, TakesCovered, TakesNoName}
-use Rattle.kr_model.specs.State.{Image, State, image_layout}
-use Rattle.kr_model.specs.Walks.{if_found, made_at, mounts_of, taken_at, told}
+use Rattle.swaps_read.specs.pr_base.WalkFrame.{may_be_free}
+use Rattle.swaps_read.specs.pr_base.declared.errno.Errno.{Errno}
+use Rattle.swaps_read.specs.pr_base.declared.errno.Errno.TheVariants.{EBUSY, EISDIR}
+use Rattle.swaps_read.specs.pr_base.declared.path.Last.{Last}
+use Rattle.swaps_read.specs.pr_base.declared.path.WalkMode.{WalkMode}
+use Rattle.swaps_read.specs.pr_base.declared.path.WalkMode.TheVariants as modes
+use Rattle.swaps_read.specs.pt_bind.Tags.{TagTable}
+use Rattle.places_stay.specs.pt_canon.declared.canon.Canon.{Canon}
+use Rattle.swaps_read.specs.pt_args.Points.{is_at_point, one_is_busy}
+use Rattle.swaps_read.specs.pt_args.Purposes.{entry_swap, opens, purpose_of, swap_for}
+use Rattle.swaps_read.specs.pt_args.declared.purpose.Purpose.TheVariants as purposes
+use Rattle.walks_bare.specs.kr_calls.PathTable.{PathUse, path_at}
+use Rattle.walks_bare.specs.kr_calls.declared.request.Request.{Request}
+use Rattle.walks_bare.specs.kr_calls.declared.request.Request.TheVariants as call
+use Rattle.walks_bare.specs.kr_tree.declared.place.Host.{Host}
+use Rattle.walks_bare.specs.kr_view.View.{Row, plain}
+use Rattle.walks_bare.specs.kr_view.Walk.{PlaceTarget}
+use Rattle.places_stay.specs.kr_mounts.Standing.{texts_of}
+use Rattle.walks_bare.specs.kr_model.Bare.{bare_mounts}
+use Rattle.walks_bare.specs.kr_model.Known.{Known, known}
+use Rattle.walks_bare.specs.kr_model.NameRows.{ending_removed, removes_directory, rmdir_row, unlink_row, unlinkat_row}
+use Rattle.walks_bare.specs.kr_model.Operation.{operation}
+use Rattle.walks_bare.specs.kr_model.Reply.{refuse}
+use Rattle.walks_bare.specs.kr_model.Seen.{LooksUp, Made, Makes, MakesEntry, Taken, Takes, TakesCovered, TakesNoName}
+use Rattle.walks_bare.specs.kr_model.State.{Image, State, image_layout}
+use Rattle.walks_bare.specs.kr_model.Walks.{if_found, made_at, mounts_of, taken_at, told}
 use Rattle.plans_agree.specs.Begins.{LeadsBoth}
 use Rattle.plans_agree.specs.OnePath.{EndsPlain, IsEntry, IsLookedUp, TakesSame}
 use Rattle.plans_agree.specs.Plans.{IsPlanned, PlanAgrees}

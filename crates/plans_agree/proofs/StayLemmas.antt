@@ -1,32 +1,32 @@
 -- Calls whose first path stays as it is, and calls of which the walk of the first path fails.
 use Rattle.std.proofs.Common.{◌≡◌, ◌≢◌, ℕ, List, [], ◌∷◌, Option, Some, None, Result, Ok, Err, refl, sym, ap, subst, ◌∙◌}
 use Rattle.std.specs.Option.{option_map_or}
-use Rattle.pr_base.specs.declared.errno.Errno.{Errno}
-use Rattle.pt_bind.specs.Tags.{TagTable}
-use Rattle.pt_args.specs.Purposes.{opens}
-use Rattle.kr_calls.specs.PathTable.{PathUse, path_at}
-use Rattle.kr_calls.specs.declared.request.Request.{Request}
-use Rattle.kr_calls.specs.declared.request.Request.TheVariants as call
-use Rattle.kr_tree.specs.Lawful.{IsOfBytes}
-use Rattle.kr_tree.specs.Tree.{Inode, SymbolicLink, body, inode}
-use Rattle.kr_tree.proofs.NameLemmas.{map_some}
-use Rattle.kr_view.specs.View.{Row, plain}
-use Rattle.kr_view.specs.Walk.{PlaceTarget}
-use Rattle.kr_allowed.specs.Texts.{LinksHaveTexts}
-use Rattle.kr_model.specs.Bare.{bare_mounts}
-use Rattle.kr_model.specs.Known.{Known, known}
-use Rattle.kr_model.specs.Lawful.{IsLawful}
-use Rattle.kr_model.specs.Operation.{by_path, operation}
-use Rattle.kr_model.specs.ProcessDirectory.{around_of}
-use Rattle.kr_model.specs.Reply.{Replying, refuse}
-use Rattle.kr_model.specs.Seen.{NoPath, WalkFails}
-use Rattle.kr_model.specs.State.{Image, State, image_layout}
-use Rattle.kr_model.specs.Walks.{and_then, seen, seen_of, targets_of, told, walked}
-use Rattle.kr_allowed.specs.Calls.{HasTextPaths}
-use Rattle.kr_allowed.specs.Told.{HasGoodName, mounts_walked}
-use Rattle.kr_resolved.proofs.AroundLemmas.{leads_texts, of_walk}
-use Rattle.kr_resolved.proofs.NamingLemmas.{good_name}
-use Rattle.kr_resolved.proofs.TextLemmas.{IsTextByte, text_bytes}
+use Rattle.swaps_read.specs.pr_base.declared.errno.Errno.{Errno}
+use Rattle.swaps_read.specs.pt_bind.Tags.{TagTable}
+use Rattle.swaps_read.specs.pt_args.Purposes.{opens}
+use Rattle.walks_bare.specs.kr_calls.PathTable.{PathUse, path_at}
+use Rattle.walks_bare.specs.kr_calls.declared.request.Request.{Request}
+use Rattle.walks_bare.specs.kr_calls.declared.request.Request.TheVariants as call
+use Rattle.walks_bare.specs.kr_tree.Lawful.{IsOfBytes}
+use Rattle.walks_bare.specs.kr_tree.Tree.{Inode, SymbolicLink, body, inode}
+use Rattle.walks_bare.proofs.kr_tree.NameLemmas.{map_some}
+use Rattle.walks_bare.specs.kr_view.View.{Row, plain}
+use Rattle.walks_bare.specs.kr_view.Walk.{PlaceTarget}
+use Rattle.swaps_read.specs.kr_allowed.Texts.{LinksHaveTexts}
+use Rattle.walks_bare.specs.kr_model.Bare.{bare_mounts}
+use Rattle.walks_bare.specs.kr_model.Known.{Known, known}
+use Rattle.walks_bare.specs.kr_model.Lawful.{IsLawful}
+use Rattle.walks_bare.specs.kr_model.Operation.{by_path, operation}
+use Rattle.walks_bare.specs.kr_model.ProcessDirectory.{around_of}
+use Rattle.walks_bare.specs.kr_model.Reply.{Replying, refuse}
+use Rattle.walks_bare.specs.kr_model.Seen.{NoPath, WalkFails}
+use Rattle.walks_bare.specs.kr_model.State.{Image, State, image_layout}
+use Rattle.walks_bare.specs.kr_model.Walks.{and_then, seen, seen_of, targets_of, told, walked}
+use Rattle.swaps_read.specs.kr_allowed.Calls.{HasTextPaths}
+use Rattle.swaps_read.specs.kr_allowed.Told.{HasGoodName, mounts_walked}
+use Rattle.swaps_read.proofs.kr_resolved.AroundLemmas.{leads_texts, of_walk}
+use Rattle.swaps_read.proofs.kr_resolved.NamingLemmas.{good_name}
+use Rattle.swaps_read.proofs.kr_resolved.TextLemmas.{IsTextByte, text_bytes}
 use Rattle.std.specs.List.{All}
 use Rattle.plans_agree.specs.Begins.{Fails, FailsSo, IsEmpty, Leads, LeadsBoth, PathAgrees, StaysSo, Stays}
 use Rattle.plans_agree.specs.Plans.{Cancelling, IsPassed, IsPlanned, Passing, PlanAgrees}

@@ -2,26 +2,26 @@
 -- of a mount point is known to the tracer.
 use Rattle.std.proofs.Common.{◌≡◌, ◌≢◌, ℕ, Bool, true, false, List, [], ◌∷◌, Option, refl, sym, ap, subst, ◌∙◌}
 use Rattle.std.specs.Prelude.{is_some}
-use Rattle.pr_base.specs.Alike.{OptionAlike, both as both_there, neither}
-use Rattle.pr_base.specs.Paths.{dot, dot_dot, slash}
-use Rattle.pr_base.specs.WalkFrame.{may_be_free}
-use Rattle.pr_base.specs.declared.path.Last.{Last}
-use Rattle.pr_base.specs.declared.path.Last.TheVariants as last
-use Rattle.pr_base.specs.declared.path.WalkMode.TheVariants as modes
-use Rattle.pt_bind.specs.Tags.{TagTable}
-use Rattle.pt_canon.specs.declared.canon.Canon.{Canon}
-use Rattle.pt_args.specs.Points.{is_at_point}
-use Rattle.pt_args.specs.Purposes.{entry_swap}
-use Rattle.kr_calls.specs.PathTable.{PathUse}
-use Rattle.kr_view.specs.View.{Row, is_there, plain, root_place}
-use Rattle.kr_view.specs.Walk.{PlaceTarget, looking, place_walk}
-use Rattle.kr_mounts.specs.Standing.{texts_of}
-use Rattle.kr_model.specs.ProcessDirectory.{space_of}
-use Rattle.kr_model.specs.State.{Image, State}
-use Rattle.kr_allowed.specs.Told.{HasGoodName}
-use Rattle.kr_view.proofs.StayingLemmas.{names-stay}
-use Rattle.walks_agree.specs.Facts.{AlikeWithoutName, EndsOn, MakesAlike, TakesAlike}
-use Rattle.walks_agree.specs.Handed.{handed_path}
+use Rattle.swaps_read.specs.pr_base.Alike.{OptionAlike, both as both_there, neither}
+use Rattle.swaps_read.specs.pr_base.Paths.{dot, dot_dot, slash}
+use Rattle.swaps_read.specs.pr_base.WalkFrame.{may_be_free}
+use Rattle.swaps_read.specs.pr_base.declared.path.Last.{Last}
+use Rattle.swaps_read.specs.pr_base.declared.path.Last.TheVariants as last
+use Rattle.swaps_read.specs.pr_base.declared.path.WalkMode.TheVariants as modes
+use Rattle.swaps_read.specs.pt_bind.Tags.{TagTable}
+use Rattle.places_stay.specs.pt_canon.declared.canon.Canon.{Canon}
+use Rattle.swaps_read.specs.pt_args.Points.{is_at_point}
+use Rattle.swaps_read.specs.pt_args.Purposes.{entry_swap}
+use Rattle.walks_bare.specs.kr_calls.PathTable.{PathUse}
+use Rattle.walks_bare.specs.kr_view.View.{Row, is_there, plain, root_place}
+use Rattle.walks_bare.specs.kr_view.Walk.{PlaceTarget, looking, place_walk}
+use Rattle.places_stay.specs.kr_mounts.Standing.{texts_of}
+use Rattle.walks_bare.specs.kr_model.ProcessDirectory.{space_of}
+use Rattle.walks_bare.specs.kr_model.State.{Image, State}
+use Rattle.swaps_read.specs.kr_allowed.Told.{HasGoodName}
+use Rattle.walks_bare.proofs.kr_view.StayingLemmas.{names-stay}
+use Rattle.places_stay.specs.walks_agree.Facts.{AlikeWithoutName, EndsOn, MakesAlike, TakesAlike}
+use Rattle.places_stay.specs.walks_agree.Handed.{handed_path}
 use Rattle.plans_agree.specs.Begins.{LeadsBoth, StandTogether}
 use Rattle.plans_agree.specs.OnePath.{EndsPlain, IsEntry, IsNewText, MakesSame, TakesSame}
 use Rattle.plans_agree.proofs.EntryLemmas.{named_canon, named_facts, named_last, named_new, named_point, named_swap, unnamed_canon, unnamed_facts, unnamed_last, unnamed_new, unnamed_swap}

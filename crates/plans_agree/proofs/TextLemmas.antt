@@ -3,14 +3,14 @@ use Rattle.std.proofs.Common.{◌≡◌, ◌≢◌, ℕ, Bool, true, false, List
 use Rattle.std.specs.Bool.{if◌then◌else◌}
 use Rattle.std.proofs.lemmas.List.{append-nil}
 use Rattle.std.proofs.lemmas.List.Elements.{All-append, All-cons, All-head, All-nil, All-tail}
-use Rattle.pr_base.specs.MountText.{MountText}
-use Rattle.pr_base.specs.Paths.{AreNames, IsName, below_root, dot, dot_dot, is_absolute, slash, text_of}
-use Rattle.pr_base.specs.Texts.{Text}
-use Rattle.pr_base.proofs.PathLemmas.{text_absolute}
-use Rattle.pt_bind.specs.Binding.{host_of}
-use Rattle.pt_args.specs.Purposes.{named_path}
-use Rattle.kr_allowed.specs.Texts.{IsText}
-use Rattle.kr_view.specs.ReachLaws.{slashed}
+use Rattle.swaps_read.specs.pr_base.MountText.{MountText}
+use Rattle.swaps_read.specs.pr_base.Paths.{AreNames, IsName, below_root, dot, dot_dot, is_absolute, slash, text_of}
+use Rattle.swaps_read.specs.pr_base.Texts.{Text}
+use Rattle.swaps_read.proofs.pr_base.PathLemmas.{text_absolute}
+use Rattle.swaps_read.specs.pt_bind.Binding.{host_of}
+use Rattle.swaps_read.specs.pt_args.Purposes.{named_path}
+use Rattle.swaps_read.specs.kr_allowed.Texts.{IsText}
+use Rattle.walks_bare.specs.kr_view.ReachLaws.{slashed}
 use Rattle.plans_agree.specs.OnePath.{IsNewText}
 
 abbrev NoZero : ℕ → Type 0

@@ -1,38 +1,38 @@
 -- Calls with two paths: where the second one stays or its walk fails, and where both lead somewhere.
 use Rattle.std.proofs.Common.{◌≡◌, ◌⊎◌, inl, inr, ℕ, zero, suc, Bool, true, false, List, Option, Some, None, Result, Ok, Err, refl, sym, ap, ◌∙◌}
 use Rattle.std.specs.Option.{option_map, option_map_or}
-use Rattle.pr_base.specs.declared.errno.Errno.{Errno}
-use Rattle.pr_base.specs.declared.errno.Errno.TheVariants.{EBUSY, ENOENT}
-use Rattle.pr_base.specs.declared.path.WalkMode.TheVariants as modes
-use Rattle.pt_bind.specs.Tags.{TagTable}
-use Rattle.pt_canon.specs.TextWalk.{TextSurroundings}
-use Rattle.pt_args.specs.Edits.{edit_by, edit_of}
-use Rattle.pt_args.specs.Plans.{plan_behind, second_walked}
-use Rattle.pt_args.specs.Points.{both_are_busy}
-use Rattle.pt_args.specs.Purposes.{opens, purpose_of, swap_for}
-use Rattle.pt_args.specs.Walks as traced
-use Rattle.pt_args.specs.Walks.{reached_at}
-use Rattle.pt_args.specs.declared.reached.Reached.{Reached}
-use Rattle.kr_calls.specs.PathTable.{PathUse, path_at}
-use Rattle.kr_calls.specs.declared.request.Request.{Request}
-use Rattle.kr_tree.specs.Tree.{Tree}
-use Rattle.kr_tree.specs.declared.place.Place.{Place}
-use Rattle.kr_view.specs.InTree.{IsPlaceOf}
-use Rattle.kr_view.specs.View.{Row, is_there, plain, row}
-use Rattle.kr_view.specs.Walk.{PlaceTarget, looking, place_walk}
-use Rattle.kr_view.proofs.PlaceLemmas.{walks_keep_places}
-use Rattle.kr_mounts.specs.Standing.{texts_of}
-use Rattle.kr_model.specs.Bare.{bare_mounts}
-use Rattle.kr_model.specs.Known.{Known, known}
-use Rattle.kr_model.specs.Operation.{operation}
-use Rattle.kr_model.specs.ProcessDirectory.{around_of}
-use Rattle.kr_model.specs.Reply.{refuse}
-use Rattle.kr_model.specs.Seen.{NoPath}
-use Rattle.kr_model.specs.State.{Image, State, image_layout}
-use Rattle.kr_model.specs.Walks.{Targets, and_then, mounts_of, seen, seen_of, target_at, targets_of, told, walked}
-use Rattle.kr_allowed.specs.Told.{mounts_walked}
-use Rattle.kr_view.proofs.StayingLemmas.{names-stay}
-use Rattle.kr_resolved.proofs.AroundLemmas.{of_walk}
+use Rattle.swaps_read.specs.pr_base.declared.errno.Errno.{Errno}
+use Rattle.swaps_read.specs.pr_base.declared.errno.Errno.TheVariants.{EBUSY, ENOENT}
+use Rattle.swaps_read.specs.pr_base.declared.path.WalkMode.TheVariants as modes
+use Rattle.swaps_read.specs.pt_bind.Tags.{TagTable}
+use Rattle.places_stay.specs.pt_canon.TextWalk.{TextSurroundings}
+use Rattle.swaps_read.specs.pt_args.Edits.{edit_by, edit_of}
+use Rattle.swaps_read.specs.pt_args.Plans.{plan_behind, second_walked}
+use Rattle.swaps_read.specs.pt_args.Points.{both_are_busy}
+use Rattle.swaps_read.specs.pt_args.Purposes.{opens, purpose_of, swap_for}
+use Rattle.swaps_read.specs.pt_args.Walks as traced
+use Rattle.swaps_read.specs.pt_args.Walks.{reached_at}
+use Rattle.swaps_read.specs.pt_args.declared.reached.Reached.{Reached}
+use Rattle.walks_bare.specs.kr_calls.PathTable.{PathUse, path_at}
+use Rattle.walks_bare.specs.kr_calls.declared.request.Request.{Request}
+use Rattle.walks_bare.specs.kr_tree.Tree.{Tree}
+use Rattle.walks_bare.specs.kr_tree.declared.place.Place.{Place}
+use Rattle.walks_bare.specs.kr_view.InTree.{IsPlaceOf}
+use Rattle.walks_bare.specs.kr_view.View.{Row, is_there, plain, row}
+use Rattle.walks_bare.specs.kr_view.Walk.{PlaceTarget, looking, place_walk}
+use Rattle.walks_bare.proofs.kr_view.PlaceLemmas.{walks_keep_places}
+use Rattle.places_stay.specs.kr_mounts.Standing.{texts_of}
+use Rattle.walks_bare.specs.kr_model.Bare.{bare_mounts}
+use Rattle.walks_bare.specs.kr_model.Known.{Known, known}
+use Rattle.walks_bare.specs.kr_model.Operation.{operation}
+use Rattle.walks_bare.specs.kr_model.ProcessDirectory.{around_of}
+use Rattle.walks_bare.specs.kr_model.Reply.{refuse}
+use Rattle.walks_bare.specs.kr_model.Seen.{NoPath}
+use Rattle.walks_bare.specs.kr_model.State.{Image, State, image_layout}
+use Rattle.walks_bare.specs.kr_model.Walks.{Targets, and_then, mounts_of, seen, seen_of, target_at, targets_of, told, walked}
+use Rattle.swaps_read.specs.kr_allowed.Told.{mounts_walked}
+use Rattle.walks_bare.proofs.kr_view.StayingLemmas.{names-stay}
+use Rattle.swaps_read.proofs.kr_resolved.AroundLemmas.{of_walk}
 use Rattle.plans_agree.specs.Begins.{Fails, FailsSo, IsEmpty, Leads, LeadsBoth, PathAgrees, Stays, StaysSo, told_texts}
 use Rattle.plans_agree.specs.OnePath.{IsNewText}
 use Rattle.swaps_read.specs.Operations.{with_path, with_path_if_any}

@@ -1,12 +1,12 @@
 -- Plans of all calls with paths agree.
 use Rattle.std.proofs.Common.{◌≡◌, ℕ, List, Some, refl}
-use Rattle.pr_base.specs.declared.path.WalkMode.TheVariants as modes
-use Rattle.pt_bind.specs.Tags.{TagTable}
-use Rattle.kr_calls.specs.PathTable.{PathUse, path_at}
-use Rattle.kr_calls.specs.declared.request.Request.{Request}
-use Rattle.kr_calls.specs.declared.request.Request.TheVariants as call
-use Rattle.kr_view.specs.View.{Row}
-use Rattle.kr_model.specs.State.{Image, State}
+use Rattle.swaps_read.specs.pr_base.declared.path.WalkMode.TheVariants as modes
+use Rattle.swaps_read.specs.pt_bind.Tags.{TagTable}
+use Rattle.walks_bare.specs.kr_calls.PathTable.{PathUse, path_at}
+use Rattle.walks_bare.specs.kr_calls.declared.request.Request.{Request}
+use Rattle.walks_bare.specs.kr_calls.declared.request.Request.TheVariants as call
+use Rattle.walks_bare.specs.kr_view.View.{Row}
+use Rattle.walks_bare.specs.kr_model.State.{Image, State}
 use Rattle.plans_agree.specs.Plans.{IsPlanned, PlanAgrees, PlansAgree}
 use Rattle.plans_agree.proofs.AllLemmas.{mode_of, one_agrees}
 use Rattle.plans_agree.proofs.MoveLemmas.{links_agree, moves_agree}

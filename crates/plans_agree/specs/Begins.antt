@@ -1,32 +1,32 @@
 -- The states of both kernels as a call begins, and where one of its paths begins and leads: for the kernel with mounts, for the
 -- tracer, and, where the path stays as it is, for the plain kernel.
 use Rattle.std.specs.Prelude.{◌≡◌, ℕ, Bool, List, [], Some, None, Ok, Err}
-use Rattle.pr_base.specs.Paths.{text_of}
-use Rattle.pr_base.specs.Texts.{Text}
-use Rattle.pr_base.specs.WalkFrame.{Target}
-use Rattle.pr_base.specs.declared.errno.Errno.{Errno}
-use Rattle.pt_bind.specs.Binding.{names_of}
-use Rattle.pt_bind.specs.Tags.{TagTable}
-use Rattle.pt_canon.specs.Canon.{canon_of}
-use Rattle.pt_canon.specs.TextWalk.{TextSurroundings}
-use Rattle.pt_canon.specs.declared.canon.Canon.{Canon}
-use Rattle.pt_args.specs.Bases as traced_bases
-use Rattle.pt_args.specs.Walks as traced_walks
-use Rattle.pt_args.specs.Walks.{reached_at}
-use Rattle.kr_calls.specs.PathTable.{PathUse}
-use Rattle.kr_tree.specs.declared.place.Place.{Place}
-use Rattle.kr_view.specs.Living.{Each, HasSmallNumbers}
-use Rattle.kr_view.specs.View.{Row, plain}
-use Rattle.kr_view.specs.Walk.{PlaceTarget}
-use Rattle.kr_mounts.specs.Standing.{texts_of}
-use Rattle.kr_model.specs.Lawful.{IsLawful}
-use Rattle.kr_model.specs.Peeks.{peeked_of}
-use Rattle.kr_model.specs.ProcessDirectory.{living_of, space_of}
-use Rattle.kr_model.specs.State.{Image, State}
-use Rattle.kr_model.specs.Walks.{base_of, walked}
-use Rattle.walks_agree.specs.Handed.{BothEnd}
-use Rattle.walks_agree.specs.Standing.{StandsOn}
-use Rattle.walks_agree.specs.States.{scene_of}
+use Rattle.swaps_read.specs.pr_base.Paths.{text_of}
+use Rattle.swaps_read.specs.pr_base.Texts.{Text}
+use Rattle.swaps_read.specs.pr_base.WalkFrame.{Target}
+use Rattle.swaps_read.specs.pr_base.declared.errno.Errno.{Errno}
+use Rattle.swaps_read.specs.pt_bind.Binding.{names_of}
+use Rattle.swaps_read.specs.pt_bind.Tags.{TagTable}
+use Rattle.places_stay.specs.pt_canon.Canon.{canon_of}
+use Rattle.places_stay.specs.pt_canon.TextWalk.{TextSurroundings}
+use Rattle.places_stay.specs.pt_canon.declared.canon.Canon.{Canon}
+use Rattle.swaps_read.specs.pt_args.Bases as traced_bases
+use Rattle.swaps_read.specs.pt_args.Walks as traced_walks
+use Rattle.swaps_read.specs.pt_args.Walks.{reached_at}
+use Rattle.walks_bare.specs.kr_calls.PathTable.{PathUse}
+use Rattle.walks_bare.specs.kr_tree.declared.place.Place.{Place}
+use Rattle.walks_bare.specs.kr_view.Living.{Each, HasSmallNumbers}
+use Rattle.walks_bare.specs.kr_view.View.{Row, plain}
+use Rattle.walks_bare.specs.kr_view.Walk.{PlaceTarget}
+use Rattle.places_stay.specs.kr_mounts.Standing.{texts_of}
+use Rattle.walks_bare.specs.kr_model.Lawful.{IsLawful}
+use Rattle.walks_bare.specs.kr_model.Peeks.{peeked_of}
+use Rattle.walks_bare.specs.kr_model.ProcessDirectory.{living_of, space_of}
+use Rattle.walks_bare.specs.kr_model.State.{Image, State}
+use Rattle.walks_bare.specs.kr_model.Walks.{base_of, walked}
+use Rattle.places_stay.specs.walks_agree.Handed.{BothEnd}
+use Rattle.places_stay.specs.walks_agree.Standing.{StandsOn}
+use Rattle.places_stay.specs.walks_agree.States.{scene_of}
 use Rattle.places_stay.specs.Matching.{IsMatch}
 
 -- a state of the kernel with mounts and one of the plain kernel that match

@@ -1,26 +1,26 @@
 -- What takes the place of a path that leads somewhere, and that the plain kernel is told the same along it.
 use Rattle.std.specs.Prelude.{◌≡◌, ◌≢◌, ◌⊎◌, ℕ, Bool, true, false, List, Some, Result, Ok, Err}
-use Rattle.pr_base.specs.Paths.{is_absolute}
-use Rattle.pr_base.specs.WalkFrame.{may_be_free}
-use Rattle.pr_base.specs.declared.errno.Errno.{Errno}
-use Rattle.pr_base.specs.declared.errno.Errno.TheVariants.{EISDIR}
-use Rattle.pr_base.specs.declared.path.Last.{Last}
-use Rattle.pr_base.specs.declared.path.Last.TheVariants as last
-use Rattle.pr_base.specs.declared.path.WalkMode.TheVariants as modes
-use Rattle.pt_bind.specs.Tags.{TagTable}
-use Rattle.pt_args.specs.Points.{is_at_point}
-use Rattle.pt_args.specs.Purposes.{entry_swap, made_swap}
-use Rattle.kr_calls.specs.PathTable.{PathUse}
-use Rattle.kr_tree.specs.Tree.{root}
-use Rattle.kr_tree.specs.declared.place.Host.TheVariants.{Node}
-use Rattle.kr_view.specs.View.{Row, is_there, plain}
-use Rattle.kr_view.specs.Walk.{PlaceTarget}
-use Rattle.kr_mounts.specs.Standing.{texts_of}
-use Rattle.kr_allowed.specs.Texts.{IsText}
-use Rattle.kr_model.specs.Seen.{Looked, Opening, OpensFound, OpensNoName, OpensSlashed, Seen, TakesCovered}
-use Rattle.kr_model.specs.State.{Image, State}
-use Rattle.kr_model.specs.Walks.{created_at, if_found, made_at, taken_at, walked}
-use Rattle.kr_allowed.specs.Told.{HasGoodName}
+use Rattle.swaps_read.specs.pr_base.Paths.{is_absolute}
+use Rattle.swaps_read.specs.pr_base.WalkFrame.{may_be_free}
+use Rattle.swaps_read.specs.pr_base.declared.errno.Errno.{Errno}
+use Rattle.swaps_read.specs.pr_base.declared.errno.Errno.TheVariants.{EISDIR}
+use Rattle.swaps_read.specs.pr_base.declared.path.Last.{Last}
+use Rattle.swaps_read.specs.pr_base.declared.path.Last.TheVariants as last
+use Rattle.swaps_read.specs.pr_base.declared.path.WalkMode.TheVariants as modes
+use Rattle.swaps_read.specs.pt_bind.Tags.{TagTable}
+use Rattle.swaps_read.specs.pt_args.Points.{is_at_point}
+use Rattle.swaps_read.specs.pt_args.Purposes.{entry_swap, made_swap}
+use Rattle.walks_bare.specs.kr_calls.PathTable.{PathUse}
+use Rattle.walks_bare.specs.kr_tree.Tree.{root}
+use Rattle.walks_bare.specs.kr_tree.declared.place.Host.TheVariants.{Node}
+use Rattle.walks_bare.specs.kr_view.View.{Row, is_there, plain}
+use Rattle.walks_bare.specs.kr_view.Walk.{PlaceTarget}
+use Rattle.places_stay.specs.kr_mounts.Standing.{texts_of}
+use Rattle.swaps_read.specs.kr_allowed.Texts.{IsText}
+use Rattle.walks_bare.specs.kr_model.Seen.{Looked, Opening, OpensFound, OpensNoName, OpensSlashed, Seen, TakesCovered}
+use Rattle.walks_bare.specs.kr_model.State.{Image, State}
+use Rattle.walks_bare.specs.kr_model.Walks.{created_at, if_found, made_at, taken_at, walked}
+use Rattle.swaps_read.specs.kr_allowed.Told.{HasGoodName}
 use Rattle.plans_agree.specs.Begins.{LeadsBoth, StandTogether}
 use Rattle.swaps_read.specs.Operations.{with_path}
 

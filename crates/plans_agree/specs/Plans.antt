@@ -1,25 +1,25 @@
 -- What a tracer plans for the paths of a call agrees with what the kernel with mounts is told of them.
 use Rattle.std.specs.Prelude.{◌≡◌, ◌≢◌, ◌⊎◌, ℕ, Bool, false, List, [], Option, Some, None, Result}
 use Rattle.std.specs.Option.{option_map}
-use Rattle.pr_base.specs.declared.errno.Errno.{Errno}
-use Rattle.pt_bind.specs.Tags.{TagTable}
-use Rattle.pt_args.specs.Edits.{edit_of, shelve}
-use Rattle.pt_args.specs.declared.edit.Edit.{Edit}
-use Rattle.pt_args.specs.declared.edit.Edit.TheVariants.{Cancel, Pass}
-use Rattle.pt_results.specs.Answers.{link_answer}
-use Rattle.kr_calls.specs.PathTable.{PathUse, path_at}
-use Rattle.kr_calls.specs.declared.request.Request.{Request}
-use Rattle.kr_view.specs.View.{Row, plain}
-use Rattle.kr_allowed.specs.Texts.{LinksHaveTexts}
-use Rattle.kr_model.specs.Bare.{bare_mounts}
-use Rattle.kr_model.specs.Known.{Known, known}
-use Rattle.kr_model.specs.Operation.{operation}
-use Rattle.kr_model.specs.Reply.{refuse}
-use Rattle.kr_model.specs.State.{Image, State, image_layout}
-use Rattle.kr_model.specs.Walks.{Targets, seen, targets_of}
-use Rattle.kr_allowed.specs.Calls.{HasTextPaths}
-use Rattle.kr_allowed.specs.Told.{mounts_walked}
-use Rattle.kr_calm.specs.Rules.{breaks_2}
+use Rattle.swaps_read.specs.pr_base.declared.errno.Errno.{Errno}
+use Rattle.swaps_read.specs.pt_bind.Tags.{TagTable}
+use Rattle.swaps_read.specs.pt_args.Edits.{edit_of, shelve}
+use Rattle.swaps_read.specs.pt_args.declared.edit.Edit.{Edit}
+use Rattle.swaps_read.specs.pt_args.declared.edit.Edit.TheVariants.{Cancel, Pass}
+use Rattle.swaps_read.specs.pt_results.Answers.{link_answer}
+use Rattle.walks_bare.specs.kr_calls.PathTable.{PathUse, path_at}
+use Rattle.walks_bare.specs.kr_calls.declared.request.Request.{Request}
+use Rattle.walks_bare.specs.kr_view.View.{Row, plain}
+use Rattle.swaps_read.specs.kr_allowed.Texts.{LinksHaveTexts}
+use Rattle.walks_bare.specs.kr_model.Bare.{bare_mounts}
+use Rattle.walks_bare.specs.kr_model.Known.{Known, known}
+use Rattle.walks_bare.specs.kr_model.Operation.{IsNoExec, operation}
+use Rattle.walks_bare.specs.kr_model.Reply.{refuse}
+use Rattle.walks_bare.specs.kr_model.State.{Image, State, image_layout}
+use Rattle.walks_bare.specs.kr_model.Walks.{Targets, seen, targets_of}
+use Rattle.swaps_read.specs.kr_allowed.Calls.{HasTextPaths}
+use Rattle.swaps_read.specs.kr_allowed.Told.{mounts_walked}
+use Rattle.swaps_read.specs.kr_calm.Rules.{breaks_2}
 use Rattle.plans_agree.specs.Begins.{StandTogether, told_texts}
 use Rattle.plans_agree.specs.OnePath.{IsNewText}
 use Rattle.swaps_read.specs.Requests.{AreOfPaths, NewText, with_swaps}
@@ -30,8 +30,9 @@ use Rattle.swaps_read.specs.Requests.{AreOfPaths, NewText, with_swaps}
 abbrev pub HasFirstOfTwo : Request → Type 0
 HasFirstOfTwo r = (u v : PathUse) → path_at r 0 ≡ Some u → path_at r 1 ≡ Some v → u.text ≢ []
 
--- a call with a path, of which the tracer answers no link of the process directory itself, and that leads from no mount to another
+-- a call with a path, other than execve, of which the tracer answers no link of the process directory itself, and that leads from no mount to another
 pub record IsPlanned (table : List Row) (tags : TagTable) (s w : State ℕ Image) (pid : ℕ) (r : Request) : Type 0 where
+  pub kind : IsNoExec r
   pub together : StandTogether table tags s w
   pub links : LinksHaveTexts s.tree
   pub texts : HasTextPaths r

@@ -5,19 +5,19 @@ use Rattle.std.specs.Int.{w32}
 use Rattle.std.specs.Option.{option_map_or}
 use Rattle.std.proofs.lemmas.Bool.Decides.{nat_tests}
 use Rattle.std.proofs.lemmas.Int.{to_z_pos}
-use Rattle.pr_base.specs.declared.errno.Errno.{Errno}
-use Rattle.pr_base.specs.declared.errno.Errno.TheVariants.{EFAULT, EINVAL, ENAMETOOLONG, ENOENT, ENOSYS}
-use Rattle.rv_mem.specs.Actions.{Action, MayUse, ReadBytes, allows_uses, carried_out}
-use Rattle.rv_mem.specs.Memory.{Memory, after_read}
-use Rattle.rv_mem.specs.Pages.{bytes_from}
-use Rattle.rv_mem.specs.declared.regs.Regs.{Regs}
-use Rattle.rv_mem.specs.declared.rights.Use.{Use}
-use Rattle.kr_calls.specs.Arguments.{has, int, long, number, word}
-use Rattle.kr_calls.specs.Decoding.{Decoded, accepts, by_descriptor, by_file, by_identity, by_memory, by_name, by_process, decoding, execve_with, faccessat_with, fchmodat_with, fchownat_with, has_no_size, linkat_with, mkdirat_with, named, newfstatat_with, openat_with, readlinkat_with, refuses, renameat2_with, symlinkat_with, text_limit, unless, unlinkat_with, with_text, with_texts}
-use Rattle.kr_calls.specs.PathTable.{PathUse, path_at}
-use Rattle.kr_calls.specs.Texts.{read_text}
-use Rattle.kr_calls.specs.declared.request.Request.{Request}
-use Rattle.kr_calls.specs.declared.request.Request.TheVariants as call
+use Rattle.answers_agree.specs.pr_base.declared.errno.Errno.{Errno}
+use Rattle.answers_agree.specs.pr_base.declared.errno.Errno.TheVariants.{EFAULT, EINVAL, ENAMETOOLONG, ENOENT, ENOSYS}
+use Rattle.answers_agree.specs.rv_mem.Actions.{Action, MayUse, ReadBytes, allows_uses, carried_out}
+use Rattle.answers_agree.specs.rv_mem.Memory.{Memory, after_read}
+use Rattle.answers_agree.specs.rv_mem.Pages.{bytes_from}
+use Rattle.answers_agree.specs.rv_mem.declared.regs.Regs.{Regs}
+use Rattle.answers_agree.specs.rv_mem.declared.rights.Use.{Use}
+use Rattle.plans_agree.specs.kr_calls.Arguments.{has, int, long, number, word}
+use Rattle.plans_agree.specs.kr_calls.Decoding.{Decoded, accepts, by_descriptor, by_file, by_identity, by_memory, by_name, by_process, decoding, execve_with, faccessat_with, fchmodat_with, fchownat_with, has_no_size, linkat_with, mkdirat_with, named, newfstatat_with, openat_with, readlinkat_with, refuses, renameat2_with, symlinkat_with, text_limit, unless, unlinkat_with, with_text, with_texts}
+use Rattle.plans_agree.specs.kr_calls.PathTable.{PathUse, path_at}
+use Rattle.plans_agree.specs.kr_calls.Texts.{read_text}
+use Rattle.plans_agree.specs.kr_calls.declared.request.Request.{Request}
+use Rattle.plans_agree.specs.kr_calls.declared.request.Request.TheVariants as call
 use Rattle.plans_agree.specs.Plans.{HasFirstOfTwo}
 use Rattle.plans_short.specs.Decoded.{CountsAreDecoded, FirstOfTwoIsDecoded, HasCount}
 

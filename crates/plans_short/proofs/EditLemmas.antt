@@ -5,38 +5,38 @@ use Rattle.std.specs.List.{list_any}
 use Rattle.std.specs.Option.{option_map}
 use Rattle.std.specs.Prelude.{◌||◌, nat_lt}
 use Rattle.std.proofs.lemmas.Bool.{ltb-false, ltb-true}
-use Rattle.pr_base.specs.MountText.{MountText}
-use Rattle.pr_base.specs.declared.errno.Errno.{Errno}
-use Rattle.pr_base.specs.declared.errno.Errno.TheVariants.{EBUSY, EISDIR, ENAMETOOLONG}
-use Rattle.pr_base.specs.declared.path.Last.{Last}
-use Rattle.pr_base.specs.declared.path.Last.TheVariants as last
-use Rattle.pt_args.specs.Edits.{both, edit_by, edit_of, is_long, put_edit}
-use Rattle.pt_args.specs.Plans.{plan_behind, second_walked}
-use Rattle.pt_args.specs.Points.{both_are_busy, one_is_busy}
-use Rattle.pt_args.specs.Purposes.{entry_swap, made_swap, opens, purpose_of, swap_for}
-use Rattle.pt_args.specs.Walks as traced
-use Rattle.pt_args.specs.Walks.{reached_at}
-use Rattle.pt_args.specs.declared.edit.Edit.{Edit}
-use Rattle.pt_args.specs.declared.edit.Edit.TheVariants.{Cancel, Pass}
-use Rattle.pt_args.specs.declared.purpose.Purpose.{Purpose}
-use Rattle.pt_args.specs.declared.purpose.Purpose.TheVariants as purposes
-use Rattle.pt_args.specs.declared.reached.Reached.{Reached}
-use Rattle.pt_bind.specs.Tags.{TagTable}
-use Rattle.pt_canon.specs.TextWalk.{TextSurroundings}
-use Rattle.pt_canon.specs.declared.canon.Canon.{Canon}
-use Rattle.kr_calls.specs.PathTable.{PathUse, path_at}
-use Rattle.kr_calls.specs.declared.request.Request.{Request}
-use Rattle.kr_view.specs.View.{Row}
-use Rattle.kr_view.specs.Walk.{PlaceTarget}
-use Rattle.kr_mounts.specs.Standing.{texts_of}
-use Rattle.kr_model.specs.Known.{Known, known}
-use Rattle.kr_model.specs.Operation.{operation}
-use Rattle.kr_model.specs.Reply.{refuse}
-use Rattle.kr_model.specs.State.{Image, State, image_layout}
-use Rattle.kr_model.specs.Walks.{and_then, seen, seen_of, target_at, targets_of, walked}
+use Rattle.answers_agree.specs.pr_base.MountText.{MountText}
+use Rattle.answers_agree.specs.pr_base.declared.errno.Errno.{Errno}
+use Rattle.answers_agree.specs.pr_base.declared.errno.Errno.TheVariants.{EBUSY, EISDIR, ENAMETOOLONG}
+use Rattle.answers_agree.specs.pr_base.declared.path.Last.{Last}
+use Rattle.answers_agree.specs.pr_base.declared.path.Last.TheVariants as last
+use Rattle.plans_agree.specs.pt_args.Edits.{both, edit_by, edit_of, is_long, put_edit}
+use Rattle.plans_agree.specs.pt_args.Plans.{plan_behind, second_walked}
+use Rattle.plans_agree.specs.pt_args.Points.{both_are_busy, one_is_busy}
+use Rattle.plans_agree.specs.pt_args.Purposes.{entry_swap, made_swap, opens, purpose_of, swap_for}
+use Rattle.plans_agree.specs.pt_args.Walks as traced
+use Rattle.plans_agree.specs.pt_args.Walks.{reached_at}
+use Rattle.plans_agree.specs.pt_args.declared.edit.Edit.{Edit}
+use Rattle.plans_agree.specs.pt_args.declared.edit.Edit.TheVariants.{Cancel, Pass}
+use Rattle.plans_agree.specs.pt_args.declared.purpose.Purpose.{Purpose}
+use Rattle.plans_agree.specs.pt_args.declared.purpose.Purpose.TheVariants as purposes
+use Rattle.plans_agree.specs.pt_args.declared.reached.Reached.{Reached}
+use Rattle.answers_agree.specs.pt_bind.Tags.{TagTable}
+use Rattle.answers_agree.specs.pt_canon.TextWalk.{TextSurroundings}
+use Rattle.answers_agree.specs.pt_canon.declared.canon.Canon.{Canon}
+use Rattle.plans_agree.specs.kr_calls.PathTable.{PathUse, path_at}
+use Rattle.plans_agree.specs.kr_calls.declared.request.Request.{Request}
+use Rattle.answers_agree.specs.kr_view.View.{Row}
+use Rattle.answers_agree.specs.kr_view.Walk.{PlaceTarget}
+use Rattle.answers_agree.specs.kr_mounts.Standing.{texts_of}
+use Rattle.plans_agree.specs.kr_model.Known.{Known, known}
+use Rattle.plans_agree.specs.kr_model.Operation.{operation}
+use Rattle.plans_agree.specs.kr_model.Reply.{refuse}
+use Rattle.plans_agree.specs.kr_model.State.{Image, State, image_layout}
+use Rattle.plans_agree.specs.kr_model.Walks.{and_then, seen, seen_of, target_at, targets_of, walked}
 use Rattle.plans_agree.specs.Begins.{Fails, Leads, LeadsBoth, PathAgrees, Stays, told_texts}
 use Rattle.plans_agree.specs.Plans.{Cancelling, IsEdit, IsPlanned, Passing, PlanAgrees, Swapping, shelved_texts}
-use Rattle.swaps_read.specs.Requests.{NewText}
+use Rattle.plans_agree.specs.swaps_read.Requests.{NewText}
 use Rattle.plans_agree.proofs.PathLemmas.{paths_agree}
 use Rattle.plans_agree.proofs.PlanLemmas.{edit_is, targets_then}
 use Rattle.plans_agree.proofs.StayLemmas.{walk_refused}

@@ -2,37 +2,37 @@
 use Rattle.std.proofs.Common.{◌≡◌, ℕ, true, false, List, [], ◌∷◌, Option, Some, None, Result, Ok, Err, refl, sym, ap, ◌∙◌}
 use Rattle.std.specs.Bool.{if◌then◌else◌}
 use Rattle.std.proofs.lemmas.List.Elements.{All-head}
-use Rattle.pr_base.specs.MountText.{MountText}
-use Rattle.pr_base.specs.Paths.{AreNames, IsName, IsPart, Name, components_of, has_slash, text_of}
-use Rattle.pr_base.specs.Texts.{Text}
-use Rattle.pr_base.specs.WalkFrame.{Jumps, Landing, Looking, Target, after_look, landed, most_links, walk_on}
-use Rattle.pr_base.specs.WalkLaws.{last_trail}
-use Rattle.pr_base.specs.declared.errno.Errno.{Errno}
-use Rattle.pr_base.specs.declared.errno.Errno.TheVariants.{EACCES, ENOENT}
-use Rattle.pr_base.specs.declared.path.WalkMode.TheVariants as modes
-use Rattle.pr_base.specs.declared.peeks.PeekKind.TheVariants as kind
-use Rattle.pr_base.proofs.PathLemmas.{name_is_part, part_components, part_no_slash, part_relative}
-use Rattle.pr_base.proofs.WalkLemmas.{walk-last}
-use Rattle.pt_args.specs.declared.edit.Edit.{Edit}
-use Rattle.pt_bind.specs.Binding.{host_of}
-use Rattle.pt_canon.specs.Canon.{canon_of, canon_result}
-use Rattle.pt_canon.specs.ProcessLinks.{landing_of}
-use Rattle.pt_canon.specs.TextWalk.{TextSurroundings, in_directory, itself_in, look_text, looking_texts, seen_kind, seen_text, text_walk, where_found}
-use Rattle.pt_canon.specs.declared.link.ProcessLink.{ProcessLink}
-use Rattle.pt_results.specs.Answers.{lead_answer, led_answer, nowhere_answer}
-use Rattle.kr_tree.specs.Tree.{Tree}
-use Rattle.kr_tree.specs.declared.place.Host.{Host}
-use Rattle.kr_tree.specs.declared.place.Host.TheVariants.{Proc}
-use Rattle.kr_tree.specs.declared.place.ProcAt.{ProcAt}
-use Rattle.kr_view.specs.Component.{Namespace}
-use Rattle.kr_view.proofs.ArrivalLemmas.{directory_firm}
-use Rattle.kr_view.proofs.HostReachLemmas.{LastObject, last_object, reached_names}
-use Rattle.walks_agree.specs.Scene.{IsMatched, Scene, link_of, space_of, texts_in}
-use Rattle.walks_agree.specs.Standing.{reached_in}
-use Rattle.walks_agree.proofs.LinkLemmas.{link_followed}
-use Rattle.walks_agree.proofs.PeekLemmas.{kind_firm, kind_itself}
-use Rattle.walks_agree.proofs.StandingLemmas.{not_located}
-use Rattle.walks_agree.proofs.TableLemmas.{host_none}
+use Rattle.answers_agree.specs.pr_base.MountText.{MountText}
+use Rattle.answers_agree.specs.pr_base.Paths.{AreNames, IsName, IsPart, Name, components_of, has_slash, text_of}
+use Rattle.answers_agree.specs.pr_base.Texts.{Text}
+use Rattle.answers_agree.specs.pr_base.WalkFrame.{Jumps, Landing, Looking, Target, after_look, landed, most_links, walk_on}
+use Rattle.answers_agree.specs.pr_base.WalkLaws.{last_trail}
+use Rattle.answers_agree.specs.pr_base.declared.errno.Errno.{Errno}
+use Rattle.answers_agree.specs.pr_base.declared.errno.Errno.TheVariants.{EACCES, ENOENT}
+use Rattle.answers_agree.specs.pr_base.declared.path.WalkMode.TheVariants as modes
+use Rattle.answers_agree.specs.pr_base.declared.peeks.PeekKind.TheVariants as kind
+use Rattle.answers_agree.proofs.pr_base.PathLemmas.{name_is_part, part_components, part_no_slash, part_relative}
+use Rattle.answers_agree.proofs.pr_base.WalkLemmas.{walk-last}
+use Rattle.plans_agree.specs.pt_args.declared.edit.Edit.{Edit}
+use Rattle.answers_agree.specs.pt_bind.Binding.{host_of}
+use Rattle.answers_agree.specs.pt_canon.Canon.{canon_of, canon_result}
+use Rattle.answers_agree.specs.pt_canon.ProcessLinks.{landing_of}
+use Rattle.answers_agree.specs.pt_canon.TextWalk.{TextSurroundings, in_directory, itself_in, look_text, looking_texts, seen_kind, seen_text, text_walk, where_found}
+use Rattle.answers_agree.specs.pt_canon.declared.link.ProcessLink.{ProcessLink}
+use Rattle.answers_agree.specs.pt_results.Answers.{lead_answer, led_answer, nowhere_answer}
+use Rattle.plans_agree.specs.kr_tree.Tree.{Tree}
+use Rattle.plans_agree.specs.kr_tree.declared.place.Host.{Host}
+use Rattle.plans_agree.specs.kr_tree.declared.place.Host.TheVariants.{Proc}
+use Rattle.plans_agree.specs.kr_tree.declared.place.ProcAt.{ProcAt}
+use Rattle.answers_agree.specs.kr_view.Component.{Namespace}
+use Rattle.answers_agree.proofs.kr_view.ArrivalLemmas.{directory_firm}
+use Rattle.answers_agree.proofs.kr_view.HostReachLemmas.{LastObject, last_object, reached_names}
+use Rattle.answers_agree.specs.walks_agree.Scene.{IsMatched, Scene, link_of, space_of, texts_in}
+use Rattle.answers_agree.specs.walks_agree.Standing.{reached_in}
+use Rattle.answers_agree.proofs.walks_agree.LinkLemmas.{link_followed}
+use Rattle.answers_agree.proofs.walks_agree.PeekLemmas.{kind_firm, kind_itself}
+use Rattle.answers_agree.proofs.walks_agree.StandingLemmas.{not_located}
+use Rattle.answers_agree.proofs.walks_agree.TableLemmas.{host_none}
 
 -- a tracer's answer, by where the link leads
 abbrev pub answer_by : ℕ → ℕ → Result (List ℕ) Errno → Option (Landing Text Text) → Option Edit

@@ -4,46 +4,46 @@ use Rattle.std.proofs.Common.{◌≡◌, ℕ, Bool, true, false, not, length, Li
 use Rattle.std.specs.Prelude.{◌==◌, ◌||◌}
 use Rattle.std.specs.Bool.{if◌then◌else◌}
 use Rattle.std.specs.Option.{option_and_then, option_map, option_map_or}
-use Rattle.pr_base.specs.MountText.{MountText}
-use Rattle.pr_base.specs.Paths.{is_absolute, text_of}
-use Rattle.pr_base.specs.Peeks.{Peeked}
-use Rattle.pr_base.specs.Texts.{Text}
-use Rattle.pr_base.specs.WalkFrame.{Landing}
-use Rattle.pr_base.specs.declared.errno.Errno.{Errno}
-use Rattle.pt_bind.specs.Binding.{guest_of, host_of, names_of}
-use Rattle.pt_bind.specs.Tags.{TagTable, tag_of}
-use Rattle.pt_bind.specs.declared.slot.Slot.TheVariants as slot
-use Rattle.pt_canon.specs.ProcessLinks.{is_dir_kind, landing_of, landing_of_guest, landing_of_name, link_guest, link_name, text_landing}
-use Rattle.pt_canon.specs.declared.link.ProcessLink.{ProcessLink}
-use Rattle.pt_canon.specs.declared.link.ProcessLink.TheVariants as process_link
-use Rattle.kr_procfs.specs.Objects.{console_text, pipe_text}
-use Rattle.kr_tree.specs.declared.place.Host.TheVariants.{Proc}
-use Rattle.kr_tree.specs.declared.place.Place.{Place}
-use Rattle.kr_tree.specs.declared.place.ProcAt.{ProcAt}
-use Rattle.kr_tree.specs.declared.place.ProcAt.TheVariants.{SelfLink, Dir, Cwd, Root, Exe, FdDir, Fd}
-use Rattle.kr_tree.proofs.NameLemmas.{some_is}
-use Rattle.kr_view.specs.declared.procs.Lead.TheVariants as lead
-use Rattle.kr_view.specs.Component.{Namespace, is_directory_at}
-use Rattle.kr_view.specs.HostReach.{host_place}
-use Rattle.kr_view.specs.Living.{Each, HasSmallNumbers}
-use Rattle.kr_view.specs.Names.{directory_name, guest_name}
-use Rattle.kr_view.specs.View.{Row, root_place}
-use Rattle.kr_view.proofs.GuestNameLemmas.{plain_view}
-use Rattle.kr_files.specs.declared.opened.Opened.{Opened}
-use Rattle.kr_files.specs.declared.opened.What.{What}
-use Rattle.kr_files.specs.declared.opened.What.TheVariants as what
-use Rattle.kr_mounts.specs.Standing.{texts_of}
-use Rattle.kr_model.specs.HostView.{base_text, host_space, linked_text, open_name}
-use Rattle.kr_model.specs.Peeks.{link_text_at, name_or_none, peeked_of}
-use Rattle.kr_model.specs.ProcessDirectory.{jump_to, leads_of, link_text, living_of, name_text, open_text, remembered, space_of, unplaced_text}
-use Rattle.kr_model.specs.State.{Image, Process, State, opened, process}
-use Rattle.walks_agree.specs.Scene.{IsMatched, LeadsAlike, link_of}
-use Rattle.walks_agree.specs.Settled.{IsSettled, host_text}
-use Rattle.walks_agree.specs.Standing.{reached_in}
-use Rattle.walks_agree.specs.States.{ArePlaced, IsInUse, IsPlaced, scene_of}
-use Rattle.walks_agree.proofs.InUseLemmas.{guest_is, host_is, laws, read_back, remembered_name, tag_is}
-use Rattle.walks_agree.proofs.StandingLemmas.{roots_stand}
-use Rattle.walks_agree.proofs.TableLemmas.{root_directory}
+use Rattle.answers_agree.specs.pr_base.MountText.{MountText}
+use Rattle.answers_agree.specs.pr_base.Paths.{is_absolute, text_of}
+use Rattle.answers_agree.specs.pr_base.Peeks.{Peeked}
+use Rattle.answers_agree.specs.pr_base.Texts.{Text}
+use Rattle.answers_agree.specs.pr_base.WalkFrame.{Landing}
+use Rattle.answers_agree.specs.pr_base.declared.errno.Errno.{Errno}
+use Rattle.answers_agree.specs.pt_bind.Binding.{guest_of, host_of, names_of}
+use Rattle.answers_agree.specs.pt_bind.Tags.{TagTable, tag_of}
+use Rattle.answers_agree.specs.pt_bind.declared.slot.Slot.TheVariants as slot
+use Rattle.answers_agree.specs.pt_canon.ProcessLinks.{is_dir_kind, landing_of, landing_of_guest, landing_of_name, link_guest, link_name, text_landing}
+use Rattle.answers_agree.specs.pt_canon.declared.link.ProcessLink.{ProcessLink}
+use Rattle.answers_agree.specs.pt_canon.declared.link.ProcessLink.TheVariants as process_link
+use Rattle.plans_agree.specs.kr_procfs.Objects.{console_text, pipe_text}
+use Rattle.plans_agree.specs.kr_tree.declared.place.Host.TheVariants.{Proc}
+use Rattle.plans_agree.specs.kr_tree.declared.place.Place.{Place}
+use Rattle.plans_agree.specs.kr_tree.declared.place.ProcAt.{ProcAt}
+use Rattle.plans_agree.specs.kr_tree.declared.place.ProcAt.TheVariants.{SelfLink, Dir, Cwd, Root, Exe, FdDir, Fd}
+use Rattle.plans_agree.proofs.kr_tree.NameLemmas.{some_is}
+use Rattle.answers_agree.specs.kr_view.declared.procs.Lead.TheVariants as lead
+use Rattle.answers_agree.specs.kr_view.Component.{Namespace, is_directory_at}
+use Rattle.answers_agree.specs.kr_view.HostReach.{host_place}
+use Rattle.answers_agree.specs.kr_view.Living.{Each, HasSmallNumbers}
+use Rattle.answers_agree.specs.kr_view.Names.{directory_name, guest_name}
+use Rattle.answers_agree.specs.kr_view.View.{Row, root_place}
+use Rattle.answers_agree.proofs.kr_view.GuestNameLemmas.{plain_view}
+use Rattle.plans_agree.specs.kr_files.declared.opened.Opened.{Opened}
+use Rattle.plans_agree.specs.kr_files.declared.opened.What.{What}
+use Rattle.plans_agree.specs.kr_files.declared.opened.What.TheVariants as what
+use Rattle.answers_agree.specs.kr_mounts.Standing.{texts_of}
+use Rattle.plans_agree.specs.kr_model.HostView.{base_text, host_space, linked_text, open_name}
+use Rattle.plans_agree.specs.kr_model.Peeks.{link_text_at, name_or_none, peeked_of}
+use Rattle.plans_agree.specs.kr_model.ProcessDirectory.{jump_to, leads_of, link_text, living_of, name_text, open_text, remembered, space_of, unplaced_text}
+use Rattle.plans_agree.specs.kr_model.State.{Image, Process, State, opened, process}
+use Rattle.answers_agree.specs.walks_agree.Scene.{IsMatched, LeadsAlike, link_of}
+use Rattle.answers_agree.specs.walks_agree.Settled.{IsSettled, host_text}
+use Rattle.answers_agree.specs.walks_agree.Standing.{reached_in}
+use Rattle.answers_agree.specs.walks_agree.States.{ArePlaced, IsInUse, IsPlaced, scene_of}
+use Rattle.answers_agree.proofs.walks_agree.InUseLemmas.{guest_is, host_is, laws, read_back, remembered_name, tag_is}
+use Rattle.answers_agree.proofs.walks_agree.StandingLemmas.{roots_stand}
+use Rattle.answers_agree.proofs.walks_agree.TableLemmas.{root_directory}
 
 -- where a tracer goes by a link, what the kernel with mounts tells of it, and the text that the plain kernel has
 pub data LeadsAsTold (landing : Option (Landing Text Text)) (text : Option (List ℕ)) (own : Result (List ℕ) Errno) : Type 0 where

@@ -2,63 +2,63 @@
 use Rattle.std.proofs.Common.{◌≡◌, ℕ, ℤ, Bool, true, false, List, [], ◌∷◌, Option, Some, None, Result, Ok, Err, refl, sym, ap, subst, ◌∙◌, pos}
 use Rattle.std.specs.Bool.{if◌then◌else◌}
 use Rattle.std.specs.Option.{option_map_or}
-use Rattle.pr_base.specs.Paths.{is_absolute, text_of}
-use Rattle.pr_base.specs.Texts.{Text}
-use Rattle.pr_base.specs.WalkFrame.{Landing}
-use Rattle.pr_base.specs.declared.errno.Errno.{Errno}
-use Rattle.pr_base.specs.declared.errno.Errno.TheVariants.{ENOENT}
-use Rattle.pr_base.specs.declared.path.WalkMode.TheVariants as modes
-use Rattle.pr_base.specs.declared.peeks.PeekKind.TheVariants as kind
-use Rattle.pr_base.proofs.PathLemmas.{names_are_parts}
-use Rattle.pt_args.specs.declared.edit.Edit.{Edit}
-use Rattle.pt_args.specs.declared.edit.Edit.TheVariants.{Cancel}
-use Rattle.pt_bind.specs.Binding.{names_of}
-use Rattle.pt_bind.specs.Tags.{TagTable}
-use Rattle.pt_bind.proofs.ByteLemmas.{names_written}
-use Rattle.pt_canon.specs.TextWalk.{TextSurroundings}
-use Rattle.pt_canon.specs.declared.canon.Canon.{Canon}
-use Rattle.pt_canon.specs.declared.link.ProcessLink.{ProcessLink}
-use Rattle.pt_canon.specs.declared.link.ProcessLink.TheVariants as process_link
-use Rattle.pt_results.specs.Answers.{jump_answer, kind_answer, lead_answer, link_answer, nowhere_answer, walked_answer}
-use Rattle.pt_tracer.specs.Stopping.{memory_at}
-use Rattle.pt_watched.specs.Watched.{applied}
-use Rattle.rv_mem.specs.Actions.{AreEqualUnmarked, carried_out}
-use Rattle.rv_mem.specs.Memory.{Memory}
-use Rattle.kr_calls.specs.PathTable.{PathUse}
-use Rattle.kr_calls.specs.declared.request.Request.{Request}
-use Rattle.kr_calls.specs.declared.request.Request.TheVariants as call
-use Rattle.kr_tree.specs.Tree.{Body, Directory, ProcessDirectory, RegularFile, SymbolicLink, body}
-use Rattle.kr_tree.specs.declared.place.Host.{Host}
-use Rattle.kr_tree.specs.declared.place.Host.TheVariants.{Node, Proc}
-use Rattle.kr_tree.specs.declared.place.Place.{Place}
-use Rattle.kr_tree.specs.declared.place.ProcAt.{ProcAt}
-use Rattle.kr_tree.specs.declared.place.ProcAt.TheVariants.{SelfLink, Dir, Cwd, Root, Exe, FdDir, Fd}
-use Rattle.kr_view.specs.declared.procs.Lead.{Lead}
-use Rattle.kr_view.specs.declared.procs.Lead.TheVariants as ways
-use Rattle.kr_view.specs.Component.{is_process_directory, seen_at, seen_body, seen_link, shows_directory}
-use Rattle.kr_view.specs.HostReach.{host_place}
-use Rattle.kr_view.specs.View.{Row, plain, root_place}
-use Rattle.kr_view.proofs.ArrivalLemmas.{text_found}
-use Rattle.kr_mounts.specs.Standing.{texts_of}
-use Rattle.kr_model.specs.AttributeRows.{readlink_host, readlinkat_row, tell_text}
-use Rattle.kr_model.specs.HostView.{host_around_of, host_leads, host_space}
-use Rattle.kr_model.specs.Known.{Known, known}
-use Rattle.kr_model.specs.Operation.{link_read}
-use Rattle.kr_model.specs.Peeks.{kind_seen, link_text_at, read_at, read_of}
-use Rattle.kr_model.specs.ProcessDirectory.{link_text, space_of}
-use Rattle.kr_model.specs.Reply.{Replying, refuse}
-use Rattle.kr_model.specs.Seen.{ReadsLink, Seen}
-use Rattle.kr_model.specs.State.{Image, State, image_layout}
-use Rattle.kr_model.specs.Walks.{seen, text_at}
-use Rattle.kr_turns.specs.Stopped.{IsThere, Stopped}
-use Rattle.walks_agree.specs.Answers.{canon_told}
-use Rattle.walks_agree.specs.Scene.{Scene, link_of}
-use Rattle.walks_agree.specs.Settled.{host_text}
-use Rattle.walks_agree.specs.Standing.{Stands, reached_in}
-use Rattle.walks_agree.specs.States.{ArePlaced, scene_of}
-use Rattle.walks_agree.proofs.InUseLemmas.{host_laws}
-use Rattle.walks_agree.proofs.PeekLemmas.{kind_reached, reached_by}
-use Rattle.places_stay.proofs.MatchLemmas.{tagged_places_are_placed}
+use Rattle.answers_agree.specs.pr_base.Paths.{is_absolute, text_of}
+use Rattle.answers_agree.specs.pr_base.Texts.{Text}
+use Rattle.answers_agree.specs.pr_base.WalkFrame.{Landing}
+use Rattle.answers_agree.specs.pr_base.declared.errno.Errno.{Errno}
+use Rattle.answers_agree.specs.pr_base.declared.errno.Errno.TheVariants.{ENOENT}
+use Rattle.answers_agree.specs.pr_base.declared.path.WalkMode.TheVariants as modes
+use Rattle.answers_agree.specs.pr_base.declared.peeks.PeekKind.TheVariants as kind
+use Rattle.answers_agree.proofs.pr_base.PathLemmas.{names_are_parts}
+use Rattle.plans_agree.specs.pt_args.declared.edit.Edit.{Edit}
+use Rattle.plans_agree.specs.pt_args.declared.edit.Edit.TheVariants.{Cancel}
+use Rattle.answers_agree.specs.pt_bind.Binding.{names_of}
+use Rattle.answers_agree.specs.pt_bind.Tags.{TagTable}
+use Rattle.answers_agree.proofs.pt_bind.ByteLemmas.{names_written}
+use Rattle.answers_agree.specs.pt_canon.TextWalk.{TextSurroundings}
+use Rattle.answers_agree.specs.pt_canon.declared.canon.Canon.{Canon}
+use Rattle.answers_agree.specs.pt_canon.declared.link.ProcessLink.{ProcessLink}
+use Rattle.answers_agree.specs.pt_canon.declared.link.ProcessLink.TheVariants as process_link
+use Rattle.answers_agree.specs.pt_results.Answers.{jump_answer, kind_answer, lead_answer, link_answer, nowhere_answer, walked_answer}
+use Rattle.answers_agree.specs.pt_tracer.Stopping.{memory_at}
+use Rattle.answers_agree.specs.pt_watched.Watched.{applied}
+use Rattle.answers_agree.specs.rv_mem.Actions.{AreEqualUnmarked, carried_out}
+use Rattle.answers_agree.specs.rv_mem.Memory.{Memory}
+use Rattle.plans_agree.specs.kr_calls.PathTable.{PathUse}
+use Rattle.plans_agree.specs.kr_calls.declared.request.Request.{Request}
+use Rattle.plans_agree.specs.kr_calls.declared.request.Request.TheVariants as call
+use Rattle.plans_agree.specs.kr_tree.Tree.{Body, Directory, ProcessDirectory, RegularFile, SymbolicLink, body}
+use Rattle.plans_agree.specs.kr_tree.declared.place.Host.{Host}
+use Rattle.plans_agree.specs.kr_tree.declared.place.Host.TheVariants.{Node, Proc}
+use Rattle.plans_agree.specs.kr_tree.declared.place.Place.{Place}
+use Rattle.plans_agree.specs.kr_tree.declared.place.ProcAt.{ProcAt}
+use Rattle.plans_agree.specs.kr_tree.declared.place.ProcAt.TheVariants.{SelfLink, Dir, Cwd, Root, Exe, FdDir, Fd}
+use Rattle.answers_agree.specs.kr_view.declared.procs.Lead.{Lead}
+use Rattle.answers_agree.specs.kr_view.declared.procs.Lead.TheVariants as ways
+use Rattle.answers_agree.specs.kr_view.Component.{is_process_directory, seen_at, seen_body, seen_link, shows_directory}
+use Rattle.answers_agree.specs.kr_view.HostReach.{host_place}
+use Rattle.answers_agree.specs.kr_view.View.{Row, plain, root_place}
+use Rattle.answers_agree.proofs.kr_view.ArrivalLemmas.{text_found}
+use Rattle.answers_agree.specs.kr_mounts.Standing.{texts_of}
+use Rattle.plans_agree.specs.kr_model.AttributeRows.{readlink_host, readlinkat_row, tell_text}
+use Rattle.plans_agree.specs.kr_model.HostView.{host_around_of, host_leads, host_space}
+use Rattle.plans_agree.specs.kr_model.Known.{Known, known}
+use Rattle.plans_agree.specs.kr_model.Operation.{link_read}
+use Rattle.plans_agree.specs.kr_model.Peeks.{kind_seen, link_text_at, read_at, read_of}
+use Rattle.plans_agree.specs.kr_model.ProcessDirectory.{link_text, space_of}
+use Rattle.plans_agree.specs.kr_model.Reply.{Replying, refuse}
+use Rattle.plans_agree.specs.kr_model.Seen.{ReadsLink, Seen}
+use Rattle.plans_agree.specs.kr_model.State.{Image, State, image_layout}
+use Rattle.plans_agree.specs.kr_model.Walks.{seen, text_at}
+use Rattle.answers_agree.specs.kr_turns.Stopped.{IsThere, Stopped}
+use Rattle.answers_agree.specs.walks_agree.Answers.{canon_told}
+use Rattle.answers_agree.specs.walks_agree.Scene.{Scene, link_of}
+use Rattle.answers_agree.specs.walks_agree.Settled.{host_text}
+use Rattle.answers_agree.specs.walks_agree.Standing.{Stands, reached_in}
+use Rattle.answers_agree.specs.walks_agree.States.{ArePlaced, scene_of}
+use Rattle.answers_agree.proofs.walks_agree.InUseLemmas.{host_laws}
+use Rattle.answers_agree.proofs.walks_agree.PeekLemmas.{kind_reached, reached_by}
+use Rattle.plans_agree.proofs.places_stay.MatchLemmas.{tagged_places_are_placed}
 use Rattle.plans_agree.specs.Begins.{Fails, Leads, LeadsBoth, PathAgrees, StandTogether, Stays, told_texts}
 use Rattle.plans_agree.proofs.FoundLemmas.{looked_is}
 use Rattle.plans_agree.proofs.LeadLemmas.{answers, found_text, found_there, guest_names, same_canon}

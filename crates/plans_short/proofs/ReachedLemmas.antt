@@ -1,24 +1,24 @@
 -- What the walk of each path of a call reaches is part of what the call reaches.
 use Rattle.std.proofs.Common.{◌≡◌, ◌≢◌, ◌≤◌, ℕ, List, [], ◌∷◌, Option, Some, None, Result, Ok, Err, refl, ap, subst, ◌∙◌, arith}
-use Rattle.pr_base.specs.declared.errno.Errno.{Errno}
-use Rattle.kr_calls.specs.PathTable.{PathUse, path_at}
-use Rattle.kr_calls.specs.declared.request.Request.{Request}
-use Rattle.kr_tree.specs.declared.place.Place.{Place}
-use Rattle.kr_view.specs.Reach.{reach_after}
-use Rattle.kr_view.specs.View.{Row}
-use Rattle.kr_view.specs.Walk.{PlaceTarget, place_walk}
-use Rattle.kr_view.specs.declared.target.Reach.{Reach}
-use Rattle.kr_view.proofs.ReachLemmas.{covers_after}
-use Rattle.kr_model.specs.ProcessDirectory.{around_of}
-use Rattle.kr_model.specs.State.{Image, State}
-use Rattle.kr_model.specs.Walks.{base_of, target_at, walked}
-use Rattle.kr_seen.specs.CallWalks.{call_reach, path_reach, second_reach, walk_reach}
-use Rattle.kr_turns.specs.Breaking.{nothing_reached}
+use Rattle.answers_agree.specs.pr_base.declared.errno.Errno.{Errno}
+use Rattle.plans_agree.specs.kr_calls.PathTable.{PathUse, path_at}
+use Rattle.plans_agree.specs.kr_calls.declared.request.Request.{Request}
+use Rattle.plans_agree.specs.kr_tree.declared.place.Place.{Place}
+use Rattle.answers_agree.specs.kr_view.Reach.{reach_after}
+use Rattle.answers_agree.specs.kr_view.View.{Row}
+use Rattle.answers_agree.specs.kr_view.Walk.{PlaceTarget, place_walk}
+use Rattle.answers_agree.specs.kr_view.declared.target.Reach.{Reach}
+use Rattle.answers_agree.proofs.kr_view.ReachLemmas.{covers_after}
+use Rattle.plans_agree.specs.kr_model.ProcessDirectory.{around_of}
+use Rattle.plans_agree.specs.kr_model.State.{Image, State}
+use Rattle.plans_agree.specs.kr_model.Walks.{base_of, target_at, walked}
+use Rattle.answers_agree.specs.kr_seen.CallWalks.{call_reach, path_reach, second_reach, walk_reach}
+use Rattle.answers_agree.specs.kr_turns.Breaking.{nothing_reached}
 
 module _ (table : List Row) (pid : ℕ) (s : State ℕ Image) where
   walk_more : (u : PathUse) (text : List ℕ) (base : Result (Place ℕ) Errno) (r : Reach) → r.longest ≤ (walk_reach table pid s u text base r).longest
   walk_more u [] base r = omega arith
-  walk_more u (b ∷ path) (Ok base) r = (covers_after (around_of table pid s) (place_walk (around_of table pid s) u.mode base (b ∷ path)) r).longest
+  walk_more u (b ∷ path) (Ok base) r = (covers_after (around_of table pid s) u.mode (place_walk (around_of table pid s) u.mode base (b ∷ path)) r).longest
   walk_more u (b ∷ path) (Err e) r = omega arith
 
   path_more : (o : Option PathUse) (r : Reach) → r.longest ≤ (path_reach table pid s o r).longest
@@ -31,16 +31,16 @@ module _ (table : List Row) (pid : ℕ) (s : State ℕ Image) where
 
   -- a path from its base
   walked_reach : (u : PathUse) (base : Place ℕ) (r : Reach) → base_of table pid s u ≡ Ok base → u.text ≢ []
-      → path_reach table pid s (Some u) r ≡ reach_after (around_of table pid s) (place_walk (around_of table pid s) u.mode base u.text) r
+      → path_reach table pid s (Some u) r ≡ reach_after (around_of table pid s) u.mode (place_walk (around_of table pid s) u.mode base u.text) r
   walked_reach u base r begun some = ap (λ base. walk_reach table pid s u u.text base r) begun ∙ by u.text some
     where
-      by : (text : List ℕ) → text ≢ [] → walk_reach table pid s u text (Ok base) r ≡ reach_after (around_of table pid s) (place_walk (around_of table pid s) u.mode base text) r
+      by : (text : List ℕ) → text ≢ [] → walk_reach table pid s u text (Ok base) r ≡ reach_after (around_of table pid s) u.mode (place_walk (around_of table pid s) u.mode base text) r
       by [] some = absurd (some refl)
       by (b ∷ path) some = refl
 
   module _ (q : Request) (u : PathUse) (base : Place ℕ) (begun : base_of table pid s u ≡ Ok base) (some : u.text ≢ []) (calm : (call_reach table pid s q nothing_reached).longest ≤ 4000) where
     abbrev IsCalm : Type 0
-    IsCalm = (r : Reach) × ((reach_after (around_of table pid s) (place_walk (around_of table pid s) u.mode base u.text) r).longest ≤ 4000)
+    IsCalm = (r : Reach) × ((reach_after (around_of table pid s) u.mode (place_walk (around_of table pid s) u.mode base u.text) r).longest ≤ 4000)
 
     pub first_calm : path_at q 0 ≡ Some u → IsCalm
     first_calm at =

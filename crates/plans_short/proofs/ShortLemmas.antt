@@ -1,30 +1,30 @@
 -- Each text that takes the place of a path of a calm call is short.
 use Rattle.std.proofs.Common.{◌≡◌, ◌≤◌, ℕ, Bool, List, [], ◌∷◌, length, Option, Some, None, Result, Ok, Err, refl, sym, ap, ◌∙◌}
-use Rattle.pr_base.specs.Texts.{Text}
-use Rattle.pr_base.specs.WalkFrame.{Target}
-use Rattle.pr_base.specs.declared.errno.Errno.{Errno}
-use Rattle.pt_args.specs.Bases as traced_bases
-use Rattle.pt_args.specs.Purposes.{purpose_of, swap_for}
-use Rattle.pt_args.specs.Walks as traced
-use Rattle.pt_args.specs.Walks.{reached_at, walked_along, walked_from}
-use Rattle.pt_args.specs.declared.reached.Reached.{Reached}
-use Rattle.pt_bind.specs.Tags.{TagTable}
-use Rattle.pt_canon.specs.Canon.{canon_at, canon_of, canon_result, ending_of}
-use Rattle.pt_canon.specs.TextWalk.{TextSurroundings, text_walk}
-use Rattle.pt_canon.specs.declared.canon.Canon.{Canon}
-use Rattle.kr_calls.specs.PathTable.{PathUse}
-use Rattle.kr_tree.specs.declared.place.Place.{Place}
-use Rattle.kr_view.specs.Reach.{reach_after}
-use Rattle.kr_view.specs.View.{Row}
-use Rattle.kr_view.specs.Walk.{PlaceTarget, place_walk}
-use Rattle.kr_view.specs.declared.target.Reach.{Reach}
-use Rattle.kr_mounts.specs.Standing.{texts_of}
-use Rattle.kr_model.specs.ProcessDirectory.{around_of, space_of}
-use Rattle.kr_model.specs.State.{Image, State}
-use Rattle.kr_model.specs.Walks.{and_then, base_of, walked}
-use Rattle.walks_agree.specs.Scene.{Scene}
-use Rattle.walks_agree.specs.Standing.{StandsOn}
-use Rattle.walks_agree.specs.States.{scene_of}
+use Rattle.answers_agree.specs.pr_base.Texts.{Text}
+use Rattle.answers_agree.specs.pr_base.WalkFrame.{Target}
+use Rattle.answers_agree.specs.pr_base.declared.errno.Errno.{Errno}
+use Rattle.plans_agree.specs.pt_args.Bases as traced_bases
+use Rattle.plans_agree.specs.pt_args.Purposes.{purpose_of, swap_for}
+use Rattle.plans_agree.specs.pt_args.Walks as traced
+use Rattle.plans_agree.specs.pt_args.Walks.{reached_at, walked_along, walked_from}
+use Rattle.plans_agree.specs.pt_args.declared.reached.Reached.{Reached}
+use Rattle.answers_agree.specs.pt_bind.Tags.{TagTable}
+use Rattle.answers_agree.specs.pt_canon.Canon.{canon_at, canon_of, canon_result, ending_of}
+use Rattle.answers_agree.specs.pt_canon.TextWalk.{TextSurroundings, text_walk}
+use Rattle.answers_agree.specs.pt_canon.declared.canon.Canon.{Canon}
+use Rattle.plans_agree.specs.kr_calls.PathTable.{PathUse}
+use Rattle.plans_agree.specs.kr_tree.declared.place.Place.{Place}
+use Rattle.answers_agree.specs.kr_view.Reach.{reach_after}
+use Rattle.answers_agree.specs.kr_view.View.{Row}
+use Rattle.answers_agree.specs.kr_view.Walk.{PlaceTarget, place_walk}
+use Rattle.answers_agree.specs.kr_view.declared.target.Reach.{Reach}
+use Rattle.answers_agree.specs.kr_mounts.Standing.{texts_of}
+use Rattle.plans_agree.specs.kr_model.ProcessDirectory.{around_of, space_of}
+use Rattle.plans_agree.specs.kr_model.State.{Image, State}
+use Rattle.plans_agree.specs.kr_model.Walks.{and_then, base_of, walked}
+use Rattle.answers_agree.specs.walks_agree.Scene.{Scene}
+use Rattle.answers_agree.specs.walks_agree.Standing.{StandsOn}
+use Rattle.answers_agree.specs.walks_agree.States.{scene_of}
 use Rattle.plans_agree.specs.Begins.{BaseAgrees, BaseOn, LeadsBoth, LostBase, NoBase, StandTogether, told_texts}
 use Rattle.plans_agree.proofs.BaseLemmas.{bases_agree}
 use Rattle.answers_agree.proofs.SwapLemmas.{swaps_are_short}
@@ -107,5 +107,5 @@ module _ (table : List Row) (tags : TagTable) (s w : State ℕ Image) (pid : ℕ
 
   -- ---- its text
 
-  pub lead_short : (r : Reach) → (reach_after scene.around (place_walk scene.around u.mode lead.base u.text) r).longest ≤ 4000 → (text : List ℕ) → swap_for (texts_of table) (purpose_of opening u.mode) lead.canon ≡ Ok text → length text ≤ 4095
+  pub lead_short : (r : Reach) → (reach_after scene.around u.mode (place_walk scene.around u.mode lead.base u.text) r).longest ≤ 4000 → (text : List ℕ) → swap_for (texts_of table) (purpose_of opening u.mode) lead.canon ≡ Ok text → length text ≤ 4095
   lead_short r calm text swap = swaps_are_short scene u.mode lead.base lead.start u.text lead.place lead.text r opening lead.canon text lead.both calm lead.answers swap

@@ -1,11 +1,11 @@
 -- What decoding gives of a request beside the texts of its paths.
 use Rattle.std.specs.Prelude.{◌≡◌, ℕ, pos, Ok}
-use Rattle.rv_mem.specs.Actions.{carried_out}
-use Rattle.rv_mem.specs.Memory.{Memory}
-use Rattle.rv_mem.specs.declared.regs.Regs.{Regs}
-use Rattle.kr_calls.specs.Decoding.{decoding}
-use Rattle.kr_calls.specs.declared.request.Request.{Request}
-use Rattle.kr_calls.specs.declared.request.Request.TheVariants as call
+use Rattle.answers_agree.specs.rv_mem.Actions.{carried_out}
+use Rattle.answers_agree.specs.rv_mem.Memory.{Memory}
+use Rattle.answers_agree.specs.rv_mem.declared.regs.Regs.{Regs}
+use Rattle.plans_agree.specs.kr_calls.Decoding.{decoding}
+use Rattle.plans_agree.specs.kr_calls.declared.request.Request.{Request}
+use Rattle.plans_agree.specs.kr_calls.declared.request.Request.TheVariants as call
 use Rattle.plans_agree.specs.Plans.{HasFirstOfTwo}
 
 -- the size of readlinkat(2) is a positive number, since 0 and what is negative isn't decoded

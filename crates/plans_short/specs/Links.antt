@@ -1,19 +1,19 @@
 -- Links of the process directory that a tracer answers itself: readlinkat(2) of one is answered as the kernel with mounts answers it.
 use Rattle.std.specs.Prelude.{◌≡◌, ℕ, ℤ, pos, List, Some}
-use Rattle.pt_args.specs.declared.edit.Edit.{Edit}
-use Rattle.pt_bind.specs.Tags.{TagTable}
-use Rattle.pt_results.specs.Answers.{link_answer}
-use Rattle.pt_tracer.specs.Stopping.{memory_at}
-use Rattle.pt_watched.specs.Watched.{applied}
-use Rattle.rv_mem.specs.Actions.{AreEqualUnmarked, carried_out}
-use Rattle.rv_mem.specs.Memory.{Memory}
-use Rattle.kr_calls.specs.declared.request.Request.TheVariants as call
-use Rattle.kr_view.specs.View.{Row}
-use Rattle.kr_model.specs.Known.{known}
-use Rattle.kr_model.specs.Operation.{operation}
-use Rattle.kr_model.specs.State.{Image, State, image_layout}
-use Rattle.kr_model.specs.Walks.{seen}
-use Rattle.kr_turns.specs.Stopped.{IsThere, Stopped}
+use Rattle.plans_agree.specs.pt_args.declared.edit.Edit.{Edit}
+use Rattle.answers_agree.specs.pt_bind.Tags.{TagTable}
+use Rattle.answers_agree.specs.pt_results.Answers.{link_answer}
+use Rattle.answers_agree.specs.pt_tracer.Stopping.{memory_at}
+use Rattle.answers_agree.specs.pt_watched.Watched.{applied}
+use Rattle.answers_agree.specs.rv_mem.Actions.{AreEqualUnmarked, carried_out}
+use Rattle.answers_agree.specs.rv_mem.Memory.{Memory}
+use Rattle.plans_agree.specs.kr_calls.declared.request.Request.TheVariants as call
+use Rattle.answers_agree.specs.kr_view.View.{Row}
+use Rattle.plans_agree.specs.kr_model.Known.{known}
+use Rattle.plans_agree.specs.kr_model.Operation.{operation}
+use Rattle.plans_agree.specs.kr_model.State.{Image, State, image_layout}
+use Rattle.plans_agree.specs.kr_model.Walks.{seen}
+use Rattle.answers_agree.specs.kr_turns.Stopped.{IsThere, Stopped}
 use Rattle.plans_agree.specs.Begins.{StandTogether, told_texts}
 use Rattle.answers_agree.specs.Answers.{AreAnsweredAlike}
 

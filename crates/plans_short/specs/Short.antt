@@ -1,20 +1,20 @@
 -- What a tracer puts in place of the paths of a calm call is no longer than the plain kernel takes.
 use Rattle.std.specs.Prelude.{◌≡◌, ◌≤◌, ◌⊎◌, ℕ, List, length, Option, Some, None}
-use Rattle.pr_base.specs.declared.errno.Errno.TheVariants.{ENAMETOOLONG}
-use Rattle.pt_args.specs.declared.edit.Edit.TheVariants.{Cancel}
-use Rattle.pt_bind.specs.Tags.{TagTable}
-use Rattle.kr_calls.specs.PathTable.{PathUse, path_at}
-use Rattle.kr_calls.specs.declared.request.Request.{Request}
-use Rattle.kr_view.specs.View.{Row}
-use Rattle.kr_model.specs.Known.{known}
-use Rattle.kr_model.specs.Operation.{operation}
-use Rattle.kr_model.specs.Reply.{refuse}
-use Rattle.kr_model.specs.State.{Image, State, image_layout}
-use Rattle.kr_model.specs.Walks.{seen}
-use Rattle.kr_seen.specs.CallWalks.{call_reach}
-use Rattle.kr_turns.specs.Breaking.{nothing_reached}
+use Rattle.answers_agree.specs.pr_base.declared.errno.Errno.TheVariants.{ENAMETOOLONG}
+use Rattle.plans_agree.specs.pt_args.declared.edit.Edit.TheVariants.{Cancel}
+use Rattle.answers_agree.specs.pt_bind.Tags.{TagTable}
+use Rattle.plans_agree.specs.kr_calls.PathTable.{PathUse, path_at}
+use Rattle.plans_agree.specs.kr_calls.declared.request.Request.{Request}
+use Rattle.answers_agree.specs.kr_view.View.{Row}
+use Rattle.plans_agree.specs.kr_model.Known.{known}
+use Rattle.plans_agree.specs.kr_model.Operation.{operation}
+use Rattle.plans_agree.specs.kr_model.Reply.{refuse}
+use Rattle.plans_agree.specs.kr_model.State.{Image, State, image_layout}
+use Rattle.plans_agree.specs.kr_model.Walks.{seen}
+use Rattle.answers_agree.specs.kr_seen.CallWalks.{call_reach}
+use Rattle.answers_agree.specs.kr_turns.Breaking.{nothing_reached}
 use Rattle.plans_agree.specs.Plans.{Cancelling, IsEdit, IsPlanned, Passing, PlanAgrees, Swapping, shelved_texts}
-use Rattle.swaps_read.specs.Requests.{NewText}
+use Rattle.plans_agree.specs.swaps_read.Requests.{NewText}
 
 -- ---- texts
 

@@ -1,5 +1,5 @@
 -- Paths, as path_resolution(7) reads them: bytes between slashes, and what each component is. Texts of names.
-use Rattle.std.specs.Prelude.{◌≡◌, ◌≢◌, ℕ, ◌==◌, ◌≤◌, Bool, true, false, List, [], ◌∷◌, ◌++◌, ◌-◌, length, map, reverse, slice_index}
+use Rattle.std.specs.Prelude.{◌≡◌, ◌≢◌, ℕ, ◌==◌, ◌&&◌, ◌≤◌, not, nat_lt, Bool, true, false, List, [], ◌∷◌, ◌++◌, ◌-◌, length, map, reverse, slice_index}
 use Rattle.std.specs.Bool.{if◌then◌else◌}
 use Rattle.std.specs.List.{All, slice_split}
 use Rattle.std.specs.Str.{bytes_eq}
@@ -45,6 +45,14 @@ components_of path = map component_of (parts_of path)
 abbrev pub is_absolute : List ℕ → Bool
 is_absolute [] = false
 is_absolute (b ∷ _) = is_slash b
+
+-- a path or text has at most 4,096 bytes with its zero
+abbrev pub text_limit : ℕ
+text_limit = 4096
+
+-- a path that is walked: it isn't empty, and isn't too long
+abbrev pub is_walked : List ℕ → Bool
+is_walked path = not (length path == 0) && nat_lt (length path) text_limit
 
 abbrev pub kind_of : Component → Last
 kind_of Dot = last.Dot

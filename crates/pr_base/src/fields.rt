@@ -26,20 +26,3 @@ pub fn field_u64(b: &[u8], at: usize) -> Option<u64>
     let field = b.get(at..)?.get(..8)?;
     Some(LittleEndian::read_u64(field))
 }
-
-#[cfg(test)]
-mod tests {
-    use super::*;
-
-    #[test]
-    fn the_lowest_byte_comes_first(rt: HostRuntime) {
-        let bytes = [0x11, 0x22, 0x33, 0x44, 0x55, 0x66, 0x77, 0x88, 0x99];
-        assert_eq!(rt; field_u16(&bytes, 1), Some(0x3322));
-        assert_eq!(rt; field_u32(&bytes, 1), Some(0x5544_3322));
-        assert_eq!(rt; field_u64(&bytes, 1), Some(0x9988_7766_5544_3322));
-        assert_eq!(rt; field_u16(&bytes, 8), None);
-        assert_eq!(rt; field_u32(&bytes, 6), None);
-        assert_eq!(rt; field_u64(&bytes, 2), None);
-        assert_eq!(rt; field_u16(&bytes, usize::MAX), None);
-    }
-}

@@ -21,10 +21,7 @@ pub use fields::{field_u16, field_u32, field_u64};
 pub use flags::{AtFlags, OpenFlags};
 pub use memory::NoMemory;
 pub use page::PAGE_SIZE;
-pub use path::{Last, Parts, PartsLeft, WalkMode, components};
+pub use path::{Last, Parts, PartsLeft, WalkMode, components, is_walked};
 pub use peeks::{BaseKind, PeekFault, PeekKind, Peeks};
 pub use texts::Texts;
 pub use word::bits;
-
-#[cfg(test)]
-mod tests;

@@ -1,9 +1,12 @@
 //! Paths and their components, after path_resolution(7).
 ghost use Rattle.std.specs.Prelude.{◌≡◌, ◌≢◌, [], ◌++◌, MatchOption};
 ghost use Rattle.std.specs.List.{All};
-ghost use Rattle.pr_base.specs.Paths.{slash, parts_of, ends_in_slash, component_of, kind_of};
+ghost use Rattle.pr_base.specs.Paths.{slash, parts_of, ends_in_slash, component_of, kind_of, is_walked};
 ghost use Rattle.pr_base.specs.Parts.{path_of, rest_of};
 ghost use Rattle.pr_base.specs.Pieces.{BeginsName, BeginsSlash};
+
+/// How many bytes a path has at most, with its zero.
+const TEXT_LIMIT: usize = 4096;
 
 /// What a path ends with.
 #[derive(Clone, Copy, Debug, PartialEq, Eq)]
@@ -119,6 +122,13 @@ pub fn components(path: &[u8]) -> Parts<'_>
     ensures { path_of result ≡ path.now }
 {
     Parts { path }
+}
+
+/// Whether a path is walked: an empty one isn't, nor one that is too long.
+pub fn is_walked(path: &[u8]) -> bool
+    ensures { result ≡ is_walked path.now }
+{
+    !path.is_empty() && path.len() < TEXT_LIMIT
 }
 
 /// What a path begins with after its leading slashes; `None` where nothing is left.

@@ -2,18 +2,18 @@
 use Rattle.std.proofs.Common.{◌≡◌, ◌⊎◌, inl, inr, ℕ, true, false, List, Option, None, Some, Result, Ok, Err, refl, sym, ap, subst, ◌∙◌, IfSome}
 use Rattle.std.specs.Prelude.{IfOk}
 use Rattle.std.specs.List.{AllByRecursion}
-use Rattle.kr_tree.specs.Lawful.{AreBytes}
-use Rattle.kr_mounts.specs.MountTable.{Refusal}
-use Rattle.kr_view.specs.View.{Row}
+use Rattle.machines_agree.specs.kr_tree.Lawful.{AreBytes}
+use Rattle.pr_answer.specs.kr_mounts.MountTable.{Refusal}
+use Rattle.machines_agree.specs.kr_view.View.{Row}
 use Rattle.machines_agree.specs.Given.{settled_in}
 use Rattle.machines_agree.proofs.SourceLemmas.{told-has-options}
-use Rattle.pr_words.specs.declared.options.Options.{Options}
+use Rattle.pr_answer.specs.pr_words.declared.options.Options.{Options}
 use Rattle.pr_answer.specs.declared.answer.Answer.{Answer}
-use Rattle.pr_sources.specs.Asking.{asked}
-use Rattle.pr_sources.specs.Reading.{IsRead, told_asked}
-use Rattle.pr_sources.specs.declared.reading.Asked.{Asked}
-use Rattle.pr_top.specs.pr_run.Puts.{Got}
-use Rattle.pr_top.specs.Opening.{Begun, WasRead, opening, over, report}
+use Rattle.machines_agree.specs.pr_sources.Asking.{asked}
+use Rattle.machines_agree.specs.pr_sources.Reading.{IsRead, told_asked}
+use Rattle.machines_agree.specs.pr_sources.declared.reading.Asked.{Asked}
+use Rattle.machines_agree.specs.pr_run.Puts.{Got}
+use Rattle.machines_agree.specs.pr_top.Opening.{Begun, WasRead, opening, over, report}
 use Rattle.machines_agree.specs.Openings.{IsToldAlike, OpeningsAgree, asked_on, over_mounts, with_tracer}
 use Rattle.machines_agree.proofs.OpeningLemmas.{refusals_agree, words_begin_traced}
 use Rattle.pr_call.specs.Headline.{AsksTraced, OfCalmOpening, OpensCalmly}

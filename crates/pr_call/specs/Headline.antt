@@ -1,13 +1,13 @@
 -- The same words over mounts: what they open there, where that is calm. Without `--native` the public call answers and puts what is told of it.
 use Rattle.std.specs.Prelude.{◌≡◌, ℕ, false, List, Option, Some, None, Result, Ok, Err}
-use Rattle.kr_view.specs.View.{Row}
+use Rattle.machines_agree.specs.kr_view.View.{Row}
 use Rattle.machines_agree.specs.Given.{settled_in}
-use Rattle.pr_words.specs.declared.options.Options.{Options}
+use Rattle.pr_answer.specs.pr_words.declared.options.Options.{Options}
 use Rattle.pr_answer.specs.declared.answer.Answer.{Answer}
-use Rattle.pr_sources.specs.Asking.{asked}
-use Rattle.pr_sources.specs.Reading.{told_asked}
-use Rattle.pr_sources.specs.declared.reading.Asked.{Asked}
-use Rattle.pr_top.specs.Opening.{Begun}
+use Rattle.machines_agree.specs.pr_sources.Asking.{asked}
+use Rattle.machines_agree.specs.pr_sources.Reading.{told_asked}
+use Rattle.machines_agree.specs.pr_sources.declared.reading.Asked.{Asked}
+use Rattle.machines_agree.specs.pr_top.Opening.{Begun}
 use Rattle.machines_agree.specs.Openings.{IsCalmRun, IsCalmStart, over_mounts}
 
 -- what words ask for of sources that are told: not for a generated case, and not for mounts

@@ -5,10 +5,10 @@ use Rattle.pr_io.specs.Moves.{AppendsPrefix}
 use Rattle.pr_answer.specs.declared.answer.Answer.{Answer}
 use Rattle.pr_answer.specs.declared.answer.Answer.TheVariants.{Ended, Deadlock, Spent, Usage, TooLong, TreeBad, BadBind, NoStart, ReadFault, WriteFault, NoMemory}
 use Rattle.pr_answer.specs.declared.answer.Which.TheVariants.{Out, Err as ErrSink, Left}
-use Rattle.pr_sources.specs.Within.{IsEarly}
-use Rattle.pr_top.specs.pr_run.Report.{Report}
-use Rattle.pr_top.specs.pr_run.Puts.{Got, PutsTurns, StopsBetween, StopsInCalm, StopsInErr, StopsInOut}
-use Rattle.pr_top.specs.Opening.{Begun, report}
+use Rattle.machines_agree.specs.pr_sources.Within.{IsEarly}
+use Rattle.machines_agree.specs.pr_run.Report.{Report}
+use Rattle.machines_agree.specs.pr_run.Puts.{Got, PutsTurns, StopsBetween, StopsInCalm, StopsInErr, StopsInOut}
+use Rattle.machines_agree.specs.pr_top.Opening.{Begun, report}
 
 -- answers that tell a whole run
 abbrev pub TellsRun : Answer → Type 0

@@ -2,6 +2,7 @@
 //! case, which both machines run. The program hands it the files that its own words name.
 #![tactic(auto)]
 
+pub mod below;
 mod program;
 mod top;
 

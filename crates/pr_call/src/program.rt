@@ -2,9 +2,9 @@
 
 use crate::top::proot;
 use pr_answer::Answer;
-use pr_io::{FileSink, FileSource};
+use pr_io::{FileSink, FileSource, ReplacingSink};
 use std::env;
-use std::fs::File;
+use std::fs::{File, OpenOptions};
 use std::io::{self, ErrorKind, Write};
 use std::process::ExitCode;
 
@@ -33,6 +33,12 @@ fn tell(rt: &HostRuntime, answer: Answer) -> ExitCode {
     ExitCode::from(answer.status())
 }
 
+/// Opens LEFT as it is, and makes it where it is missing. What stands there goes when the listing comes, so it may be TREE or ELF, and an
+/// ending without a listing loses nothing.
+fn open_left(rt: &HostRuntime, name: &str) -> io::Result<File> {
+    OpenOptions::new().write(true).create(true).open(rt, name)
+}
+
 /// Runs the program on its own words, and with the files that they name.
 pub fn run(rt: &HostRuntime) -> ExitCode {
     let words = match words(rt) {
@@ -49,7 +55,6 @@ pub fn run(rt: &HostRuntime) -> ExitCode {
     if command.len() > MOST_WORDS {
         return usage(rt);
     }
-    // The call takes all objects open, so LEFT is emptied here, before anything is read: a TREE of the same name would be lost.
     let answer = proot(
         rt.alloc(),
         command,
@@ -58,7 +63,7 @@ pub fn run(rt: &HostRuntime) -> ExitCode {
         &mut FileSource::over(Some(rt.stdin())),
         &mut FileSink::over(Some(rt.stdout())),
         &mut FileSink::over(Some(rt.stderr())),
-        &mut FileSink::over(File::create(rt, left.as_str()).ok()),
+        &mut ReplacingSink::over(open_left(rt, left.as_str()).ok()),
     );
     tell(rt, answer)
 }

@@ -9,7 +9,7 @@ use Rattle.kr_tree.specs.Names.{named, is_name}
 use Rattle.kr_tree.specs.Lawful.{AreBytes, IsKept, IsOfBytes}
 use Rattle.kr_tree.specs.Changes.{added, byte_limit, count_limit, fresh, has_no_room, is_too_big, next_standing, with_entry, with_inode, with_standing}
 use Rattle.kr_tree.proofs.AddLemmas.{kept-added, passing}
-use Rattle.kr_inode.proofs.BodyLemmas.{listed-is_directory, takes-is_listed}
+use Rattle.kr_tree.proofs.kr_inode.BodyLemmas.{listed-is_directory, takes-is_listed}
 use Rattle.pr_base.proofs.MapLemmas.{len-changed, get-changed_other}
 use Rattle.kr_text.specs.declared.fault.TreeWhy.{TreeWhy}
 use Rattle.kr_text.specs.declared.fault.TreeWhy.TheVariants.{Twice, TooBig}

@@ -1,7 +1,7 @@
 -- A generated case: a tree, bindings, and a command that uses them.
 use Rattle.std.specs.Prelude.{◌≡◌, ℕ, false, List, [], ◌∷◌, codes, Ok, None}
 use Rattle.pr_base.specs.declared.bind.Bind.{Bind}
-use Rattle.elf_read.specs.Rules.{first_broken}
+use Rattle.elf_write.specs.elf_read.Rules.{first_broken}
 use Rattle.kr_text.specs.Reading.{listing_of}
 use Rattle.kr_text.specs.Drawn.{IsDrawn}
 use Rattle.pr_case.specs.Listing.{case_listing}

@@ -1,6 +1,6 @@
 //! The guest's file.
 ghost use Rattle.std.specs.Prelude.{◌≡◌, ◌≤◌, ◌^◌, ◌++◌, ℕ, None, All, length, map, IfOk, OnOk};
-ghost use Rattle.elf_read.specs.Rules.{first_broken};
+ghost use Rattle.elf_write.specs.elf_read.Rules.{first_broken};
 ghost use Rattle.rv_table.specs.Encoding.{IsValid};
 ghost use Rattle.rv_asm.specs.declared.item.Item.TheVariants.{Plain};
 ghost use Rattle.rv_asm.specs.Program.{Program};

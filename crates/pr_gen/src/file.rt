@@ -1,6 +1,6 @@
 //! A probe as a file.
 ghost use Rattle.std.specs.Prelude.{◌≡◌, ◌+◌, ◌<◌, ◌≤◌, ◌^◌, None, [], ◌∷◌, length, IfOk, OnOk};
-ghost use Rattle.elf_read.specs.Rules.{first_broken};
+ghost use Rattle.elf_write.specs.elf_read.Rules.{first_broken};
 ghost use Rattle.pr_gen.specs.Draft.{Grows, IsOpen};
 ghost use Rattle.pr_gen.specs.Steps.{IsProbe, AreEarlier, room};
 

@@ -2,3 +2,4 @@ pub mod Faults
 pub mod File
 pub mod Memory
 pub mod Moves
+pub mod Replacing

@@ -89,7 +89,7 @@ impl<R: Read> Source for FileSource<R> {
 /// took every byte, in as many writes as write(2) needs, and holds none back.
 #[derive(Drop)]
 pub struct FileSink<W> {
-    writer: Option<W>,
+    pub(crate) writer: Option<W>,
     faults: u64,
 }
 
@@ -134,6 +134,18 @@ fn write_whole<W: Write>(writer: &mut W, b: &[u8]) -> Result<(), Failed>
     Err(Failed)
 }
 
+impl<W> FileSink<W> {
+    // A put that fails.
+    pub(crate) fn fail(&mut self) -> PutFault
+        ensures answer { result ≡ PutFault.Failed }
+        ensures counts { self.new ≡ record self.old { faults = raised self.old.faults } }
+        ensures grows { self.old.faults ≤ self.new.faults }
+    {
+        self.faults = self.faults.saturating_add(1);
+        PutFault::Failed
+    }
+}
+
 impl<W: Write> Sink for FileSink<W> {
     ghost got = { λ _. None };
 
@@ -156,7 +168,6 @@ impl<W: Write> Sink for FileSink<W> {
         if whole {
             return Ok(());
         }
-        self.faults = self.faults.saturating_add(1);
-        Err(PutFault::Failed)
+        Err(self.fail())
     }
 }

@@ -7,6 +7,7 @@ pub mod clean;
 pub mod fault;
 pub mod file;
 pub mod memory;
+pub mod replacing;
 pub mod sink;
 pub mod source;
 mod unread;
@@ -15,8 +16,6 @@ pub use clean::{CleanSink, CleanSource};
 pub use fault::{Failed, PutFault};
 pub use file::{FileSink, FileSource};
 pub use memory::{MemSink, MemSource};
+pub use replacing::{Cut, ReplacingSink};
 pub use sink::Sink;
 pub use source::Source;
-
-#[cfg(test)]
-mod tests;

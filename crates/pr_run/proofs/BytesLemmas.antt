@@ -5,7 +5,7 @@ use Rattle.std.proofs.KnownBytes.{Appends-trans}
 use Rattle.std.proofs.lemmas.List.{append-nil}
 use Rattle.pr_io.specs.Faults.{Rose}
 use Rattle.pr_io.specs.Moves.{AppendsPrefix}
-use Rattle.kr_turns.specs.Run.{Put}
+use Rattle.kr_core.specs.kr_turns.Run.{Put}
 use Rattle.pr_run.specs.Report.{gathered}
 use Rattle.pr_run.specs.Puts.{AppendsPast, Got}
 

@@ -3,8 +3,8 @@ use Rattle.std.proofs.Common.{◌≡◌, ℕ, zero, suc, ◌+◌, ◌<◌, List,
 use Rattle.std.proofs.Math.Seq.{take-suc}
 use Rattle.std.proofs.lemmas.List.{append-nil}
 use Rattle.kr_tree.specs.Tree.{nodes}
-use Rattle.kr_turns.specs.Run.{Ending, Put, Ran}
-use Rattle.kr_turns.specs.Turn.{Machine}
+use Rattle.kr_core.specs.kr_turns.Run.{Ending, Put, Ran}
+use Rattle.kr_core.specs.kr_turns.Turn.{Machine}
 use Rattle.pr_run.specs.Case.{Outcome, outcome}
 use Rattle.pr_run.specs.Keeping.{put_told, puts_told}
 use Rattle.pr_run.specs.Report.{out_part, outs}

@@ -4,7 +4,7 @@ use Rattle.std.specs.Prelude.{Err}
 use Rattle.std.specs.Io.KnownBytes.{Appends}
 use Rattle.std.proofs.KnownBytes.{Appends-kept, Keeps-refl}
 use Rattle.std.proofs.lemmas.List.{take_all}
-use Rattle.kr_turns.specs.Run.{Put}
+use Rattle.kr_core.specs.kr_turns.Run.{Put}
 use Rattle.pr_run.specs.Report.{Report, errs, outs}
 use Rattle.pr_run.specs.Puts.{Got, PutsCalm, PutsListing, PutsTurns, StopsReport, StopsRun}
 use Rattle.pr_run.specs.declared.turns.Stop.{Stop}

@@ -5,9 +5,9 @@ use Rattle.std.specs.Io.KnownBytes.{Appends, Keeps}
 use Rattle.std.proofs.KnownBytes.{Appends-kept}
 use Rattle.std.proofs.lemmas.List.{append-nil}
 use Rattle.kr_view.specs.View.{Row}
-use Rattle.kr_turns.specs.Run.{Ending, Put, Ran, Slot, Spent, after_put, ended, ending_of, put_by, run, run_from, turned, with_put}
-use Rattle.kr_turns.specs.Turn.{Machine}
-use Rattle.kr_turns.specs.Watching.{Watcher}
+use Rattle.kr_core.specs.kr_turns.Run.{Ending, Put, Ran, Slot, Spent, after_put, ended, ending_of, put_by, run, run_from, turned, with_put}
+use Rattle.kr_core.specs.kr_turns.Turn.{Machine}
+use Rattle.kr_core.specs.kr_turns.Watching.{Watcher}
 use Rattle.pr_run.specs.Report.{errs, last_ending, out_part, outs}
 use Rattle.pr_run.specs.Puts.{Got, StopsBetween, StopsMaking, StopsRun}
 use Rattle.pr_run.specs.declared.turns.Stop.{Stop}

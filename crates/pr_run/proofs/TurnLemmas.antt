@@ -1,11 +1,11 @@
 -- A call for a turn of a kernel, by what its machine can do.
 use Rattle.std.proofs.Common.{◌≡◌, inr, ℕ, Bool, List, [], ◌∷◌, Option, Some, None, refl, subst, slice_get}
 use Rattle.std.specs.List.{filter}
-use Rattle.kr_model.specs.State.{Image, Process}
-use Rattle.kr_turns.specs.Steps.{goes_on, picked_process}
+use Rattle.kr_core.specs.kr_model.State.{Image, Process}
+use Rattle.kr_core.specs.kr_turns.Steps.{goes_on, picked_process}
 use Rattle.kr_core.specs.Kernel.{Clears, Kernel, machine}
-use Rattle.kr_turns.specs.Run.{Deadlock, Ending, Over, Put, after_put, ending_of, if_any}
-use Rattle.kr_turns.specs.Turn.{Machine}
+use Rattle.kr_core.specs.kr_turns.Run.{Deadlock, Ending, Over, Put, after_put, ending_of, if_any}
+use Rattle.kr_core.specs.kr_turns.Turn.{Machine}
 use Rattle.pr_run.specs.Puts.{Got, StopsMaking, StopsTurn}
 use Rattle.pr_run.specs.declared.turns.Stop.{Stop}
 use Rattle.pr_run.specs.declared.turns.Stop.TheVariants as stop

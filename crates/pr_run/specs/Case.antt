@@ -3,11 +3,11 @@ use Rattle.std.specs.Prelude.{◌≡◌, ℕ, zero, suc, ◌-◌, ◌==◌, Bool
 use Rattle.std.specs.FinMap as map
 use Rattle.std.specs.Coded.{Coded, code_by, coded×, coded_ℕ, coded_list}
 use Rattle.std.specs.Fmt.{decimal}
-use Rattle.kr_inode.specs.Inode.{node_code}
-use Rattle.kr_inode.specs.declared.user.User.{User}
+use Rattle.kr_tree.specs.kr_inode.Inode.{node_code}
+use Rattle.kr_tree.specs.kr_inode.declared.user.User.{User}
 use Rattle.kr_tree.specs.Tree.{Nodes, nodes}
 use Rattle.kr_text.specs.Canonical.{canonical}
-use Rattle.kr_turns.specs.Run.{Deadlock, Ending, Over, Put, Ran, Spent}
+use Rattle.kr_core.specs.kr_turns.Run.{Deadlock, Ending, Over, Put, Ran, Spent}
 use Rattle.pr_answer.specs.declared.answer.Answer.TheVariants as answer
 use Rattle.pr_run.specs.Alike.{alike}
 use Rattle.pr_run.specs.Report.{Report, outs}

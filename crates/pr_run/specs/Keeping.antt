@@ -4,9 +4,9 @@ use Rattle.kr_tree.specs.Tree.{Tree, nodes}
 use Rattle.kr_view.specs.View.{Row}
 use Rattle.kr_core.specs.declared.kernel.Turned.{Turned}
 use Rattle.kr_core.specs.declared.kernel.Turned.TheVariants as turned
-use Rattle.kr_turns.specs.Run.{Deadlock, Over, Put, after_put, ending_of, put_by}
-use Rattle.kr_turns.specs.Turn.{Machine}
-use Rattle.kr_turns.specs.Watching.{Watcher}
+use Rattle.kr_core.specs.kr_turns.Run.{Deadlock, Over, Put, after_put, ending_of, put_by}
+use Rattle.kr_core.specs.kr_turns.Turn.{Machine}
+use Rattle.kr_core.specs.kr_turns.Watching.{Watcher}
 use Rattle.pr_words.specs.declared.options.Slot.{Slot}
 use Rattle.pr_answer.specs.declared.answer.Answer.TheVariants as answer
 use Rattle.pr_run.specs.Case.{Outcome}

@@ -6,9 +6,9 @@ use Rattle.kr_view.specs.View.{Row}
 use Rattle.kr_core.specs.Kernel.{Kernel}
 use Rattle.kr_core.specs.declared.kernel.Turned.{Turned}
 use Rattle.kr_core.specs.declared.kernel.Turned.TheVariants as turned
-use Rattle.kr_turns.specs.Run.{Deadlock, Ending, Over, Put, Ran, Spent, after_put, ending_of, put_by}
-use Rattle.kr_turns.specs.Turn.{Machine, turn}
-use Rattle.kr_turns.specs.Watching.{Watcher}
+use Rattle.kr_core.specs.kr_turns.Run.{Deadlock, Ending, Over, Put, Ran, Spent, after_put, ending_of, put_by}
+use Rattle.kr_core.specs.kr_turns.Turn.{Machine, turn}
+use Rattle.kr_core.specs.kr_turns.Watching.{Watcher}
 use Rattle.pr_words.specs.declared.options.Slot.{Slot}
 use Rattle.pr_answer.specs.declared.answer.Answer.{Answer}
 use Rattle.pr_answer.specs.declared.answer.Answer.TheVariants as answer

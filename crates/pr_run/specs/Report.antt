@@ -3,9 +3,9 @@ use Rattle.std.specs.Prelude.{ℕ, Bool, List, [], ◌∷◌, ◌++◌, codes, O
 use Rattle.std.specs.Option.{option_map_or}
 use Rattle.std.specs.Fmt.{decimal}
 use Rattle.kr_text.specs.Canonical.{canonical}
-pub use Rattle.kr_turns.specs.Run.{Deadlock, Ending, Over, Spent}
-use Rattle.kr_turns.specs.Run.{Put, Ran, ending_of}
-use Rattle.kr_turns.specs.Turn.{Machine}
+pub use Rattle.kr_core.specs.kr_turns.Run.{Deadlock, Ending, Over, Spent}
+use Rattle.kr_core.specs.kr_turns.Run.{Put, Ran, ending_of}
+use Rattle.kr_core.specs.kr_turns.Turn.{Machine}
 use Rattle.pr_answer.specs.declared.answer.Answer.{Answer}
 use Rattle.pr_answer.specs.declared.answer.Answer.TheVariants as answer
 use Rattle.pr_run.specs.declared.plan.Plan.{Plan}

@@ -1,7 +1,7 @@
 -- The slots of the turns of a run, and what a plan of one keeps.
 use Rattle.std.specs.Prelude.{ℕ, ◌≤◌, ◌<◌, ◌^◌, List, [], ◌∷◌, map}
 use Rattle.std.specs.List.{All}
-use Rattle.kr_turns.specs.Run.{Slot, cycle}
+use Rattle.kr_core.specs.kr_turns.Run.{Slot, cycle}
 use Rattle.pr_words.specs.declared.options.Slot.{Slot as SlotOfWords}
 use Rattle.pr_run.specs.declared.plan.Plan.{Plan}
 

@@ -4,7 +4,7 @@ ghost use Rattle.std.specs.String.{string_bytes};
 ghost use Rattle.pr_io.specs.Faults.{Rose};
 ghost use Rattle.kr_core.specs.Kernel.{machine};
 ghost use Rattle.kr_text.specs.Canonical.{canonical};
-ghost use Rattle.kr_turns.specs.Run.{run};
+ghost use Rattle.kr_core.specs.kr_turns.Run.{run};
 ghost use Rattle.pr_run.specs.Case.{agree, case_report_of, end_words, lines, status_by, summary, summary_lines, told_of, yes_or_no};
 ghost use Rattle.pr_run.specs.Keeping.{kept_told, puts_told, report_told};
 ghost use Rattle.pr_run.specs.Puts.{AnswersReport, Got, PutsReport, end_told};

@@ -1,7 +1,7 @@
 //! A run whose bytes are kept, turn after turn, so that it can be compared with another.
 ghost use Rattle.std.specs.Prelude.{◌≡◌, ◌≤◌, ◌<◌, ◌^◌, ◌↔◌, [], true, length, IfOk, OnOk, IsTrue};
 ghost use Rattle.kr_core.specs.Kernel.{Clears, machine};
-ghost use Rattle.kr_turns.specs.Run.{put_by, run};
+ghost use Rattle.kr_core.specs.kr_turns.Run.{put_by, run};
 ghost use Rattle.pr_run.specs.Case.{outcome};
 ghost use Rattle.pr_run.specs.Keeping.{KeepsTurn, kept_told, put_told, puts_told};
 ghost use Rattle.pr_run.specs.Puts.{GoesOn, end_told};
@@ -10,9 +10,9 @@ ghost use Rattle.pr_run.specs.Slots.{IsPlan, slot_of};
 
 use crate::plan::Plan;
 use crate::turns::{End, end_after};
+use kr_core::below::turns_are_functions;
 use kr_core::{Kernel, Turned};
 use kr_tree::Tree;
-use kr_turns::laws::turns_are_functions;
 use kr_view::Places;
 use pr_base::{Bytes, NoMemory};
 use pr_watch::Graphed;

@@ -2,7 +2,7 @@
 ghost use Rattle.std.specs.Prelude.{◌≡◌, ◌≤◌, true, IfOk};
 ghost use Rattle.pr_io.specs.Faults.{Rose};
 ghost use Rattle.kr_core.specs.Kernel.{machine};
-ghost use Rattle.kr_turns.specs.Run.{run};
+ghost use Rattle.kr_core.specs.kr_turns.Run.{run};
 ghost use Rattle.kr_text.specs.Canonical.{canonical};
 ghost use Rattle.pr_run.specs.Report.{answer_of, calm_line, calm_part, report_of};
 ghost use Rattle.pr_run.specs.Puts.{AnswersReport, PutsCalm, PutsListing, PutsReport, end_told};

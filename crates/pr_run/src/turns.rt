@@ -3,14 +3,14 @@ ghost use Rattle.std.specs.Prelude.{◌≡◌, ◌≢◌, ◌<◌, ◌≤◌, �
 ghost use Rattle.pr_io.specs.Faults.{Rose};
 ghost use Rattle.pr_io.specs.Moves.{Puts};
 ghost use Rattle.kr_core.specs.Kernel.{Clears, machine};
-ghost use Rattle.kr_turns.specs.Run.{put_by, run};
+ghost use Rattle.kr_core.specs.kr_turns.Run.{put_by, run};
 ghost use Rattle.pr_run.specs.Puts.{GoesOn, MakesTurn, PutsRun, PutsTurn, end_told};
 ghost use Rattle.pr_run.specs.Report.{last_ending};
 ghost use Rattle.pr_run.specs.Slots.{IsPlan, slot_of};
 
 use crate::plan::Plan;
+use kr_core::below::turns_are_functions;
 use kr_core::{Kernel, Turned};
-use kr_turns::laws::turns_are_functions;
 use kr_view::Places;
 use pr_answer::{Answer, Which};
 use pr_io::{PutFault, Sink};

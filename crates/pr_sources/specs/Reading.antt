@@ -3,7 +3,7 @@
 -- Words that ask for a generated case read none of them.
 use Rattle.std.specs.Prelude.{◌≡◌, ℕ, false, IsTrue, IsSome, List, [], Option, Some, None, IfSome, Result, Ok, Err, if◌then◌else◌}
 use Rattle.pr_words.specs.declared.options.Options.{Options}
-use Rattle.kr_inode.specs.declared.user.User.{User}
+use Rattle.kr_tree.specs.kr_inode.declared.user.User.{User}
 use Rattle.kr_tree.specs.Lawful.{AreBytes, IsKept}
 use Rattle.kr_tree.specs.Tree.{Tree}
 use Rattle.kr_stage.specs.Ready.{IsOfListing}

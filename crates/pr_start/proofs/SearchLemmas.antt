@@ -5,15 +5,15 @@ use Rattle.std.specs.List.{All}
 use Rattle.std.specs.Option.{option_and_then}
 use Rattle.std.proofs.lemmas.List.Elements.{All-head, All-tail}
 use Rattle.std.proofs.lemmas.Option.{same_Some}
-use Rattle.kr_inode.specs.declared.user.User.{User}
+use Rattle.kr_tree.specs.kr_inode.declared.user.User.{User}
 use Rattle.kr_tree.specs.declared.place.Place.{Place}
 use Rattle.kr_tree.specs.Tree.{Tree}
 use Rattle.kr_view.specs.declared.target.Reach.{Reach}
 use Rattle.kr_view.specs.Component.{may_search}
 use Rattle.kr_view.specs.View.{Row, StandsIn}
-use Rattle.kr_allowed.specs.Texts.{IsText}
-use Rattle.kr_first.specs.Laws.{RootsAreDirectories}
-use Rattle.kr_first.specs.Starting.{directory_at, is_walked}
+use Rattle.kr_stage.specs.kr_allowed.Texts.{IsText}
+use Rattle.kr_core.specs.kr_first.Laws.{RootsAreDirectories}
+use Rattle.kr_core.specs.kr_first.Starting.{directory_at, is_walked}
 use Rattle.pr_start.specs.Directory.{if_searchable, or_root, searchable_at, working_directory}
 use Rattle.pr_command.proofs.TextLemmas.{text-candidate, text-word, texts-directories}
 use Rattle.pr_command.specs.Command.{candidate, directories, has_slash, path_of, word_of}

@@ -2,7 +2,8 @@
 -- candidate that is a regular file which the user may execute is taken.
 use Rattle.std.specs.Prelude.{ℕ, Bool, true, false, List, [], ◌∷◌, Option, Some, None, Result, Ok, Err, if◌then◌else◌}
 use Rattle.pr_base.specs.declared.errno.Errno.{Errno}
-use Rattle.kr_inode.specs.declared.user.User.{User}
+use Rattle.pr_base.specs.declared.path.WalkMode.TheVariants.{Look}
+use Rattle.kr_tree.specs.kr_inode.declared.user.User.{User}
 use Rattle.kr_tree.specs.declared.place.Place.{Place}
 use Rattle.kr_tree.specs.Tree.{Tree}
 use Rattle.kr_view.specs.declared.target.Reach.{Reach}
@@ -10,7 +11,7 @@ use Rattle.kr_view.specs.Reach.{reach_after}
 use Rattle.kr_view.specs.View.{Row}
 use Rattle.kr_view.specs.Walk.{PlaceTarget}
 use Rattle.kr_exec.specs.Finding.{program_walk}
-use Rattle.kr_first.specs.Starting.{around, found_from, is_walked}
+use Rattle.kr_core.specs.kr_first.Starting.{around, found_from, is_walked}
 use Rattle.pr_command.specs.Command.{candidate, directories, has_slash, path_of}
 
 abbrev pub is_found : Result PlaceTarget Errno → Bool
@@ -27,7 +28,7 @@ module _ (table : List Row) (tree : Tree) (user : User) (base : Place ℕ) where
   is_there path = is_found (found_from table tree user base path)
 
   abbrev pub program_reach : List ℕ → Reach → Reach
-  program_reach path r = if is_walked path then reach_after (around table tree user) (program_walk (around table tree user) base path) r else r
+  program_reach path r = if is_walked path then reach_after (around table tree user) Look (program_walk (around table tree user) base path) r else r
 
   unfoldable pub searched : List ℕ → List (List ℕ) → Reach → Chosen
   searched word [] r = record { path = None; reach = r }

@@ -1,14 +1,15 @@
 -- The first working directory: what a path leads to from the root, if the user may search it, and else the root.
 use Rattle.std.specs.Prelude.{ℕ, List, codes, Option, Some, None, if◌then◌else◌}
 use Rattle.std.specs.Option.{option_and_then}
-use Rattle.kr_inode.specs.declared.user.User.{User}
+use Rattle.pr_base.specs.declared.path.WalkMode.TheVariants.{Look}
+use Rattle.kr_tree.specs.kr_inode.declared.user.User.{User}
 use Rattle.kr_tree.specs.declared.place.Place.{Place}
 use Rattle.kr_tree.specs.Tree.{Tree}
 use Rattle.kr_view.specs.declared.target.Reach.{Reach}
 use Rattle.kr_view.specs.Component.{may_search}
 use Rattle.kr_view.specs.Reach.{reach_after}
 use Rattle.kr_view.specs.View.{Row, root_place}
-use Rattle.kr_first.specs.Starting.{around, directory_at, directory_walk, is_walked}
+use Rattle.kr_core.specs.kr_first.Starting.{around, directory_at, directory_walk, is_walked}
 
 -- a directory with a path that leads to it
 pub record At : Type 0 where
@@ -32,4 +33,4 @@ module _ (table : List Row) (tree : Tree) (user : User) where
 
   -- what its walk reaches
   abbrev pub directory_reach : List ℕ → Reach → Reach
-  directory_reach path r = if is_walked path then reach_after (around table tree user) (directory_walk table tree user path) r else r
+  directory_reach path r = if is_walked path then reach_after (around table tree user) Look (directory_walk table tree user path) r else r

@@ -5,13 +5,12 @@ ghost use Rattle.kr_view.specs.Leads.{numbered};
 ghost use Rattle.pr_start.specs.Command.{Chosen, chosen, is_there, program_reach, searched};
 ghost use Rattle.pr_start.specs.Numbers.{number_of};
 
-use crate::directory::is_walked;
 use kr_exec::find_exec;
 use kr_mounts::MountNumber;
 use kr_stage::Stage;
 use kr_tree::Place;
 use kr_view::{NoProcs, Reach, WalkFault};
-use pr_base::{Bytes, NoMemory, Texts};
+use pr_base::{Bytes, NoMemory, Texts, is_walked};
 use pr_command::{candidate, directories, has_slash, path_of};
 use std::alloc::Global;
 

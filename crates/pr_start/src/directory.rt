@@ -1,36 +1,25 @@
 //! The first working directory.
 ghost use Rattle.std.specs.Prelude.{◌≡◌, IfOk, OnOk};
 ghost use Rattle.std.specs.Option.{option_map};
-ghost use Rattle.kr_first.specs.Starting.{is_walked};
 ghost use Rattle.kr_mounts.specs.Stored.{table_of};
 ghost use Rattle.kr_view.specs.Component.{may_search};
 ghost use Rattle.kr_view.specs.Leads.{numbered};
 ghost use Rattle.pr_start.specs.Directory.{directory_reach, searchable_at, working_directory};
 ghost use Rattle.pr_start.specs.Numbers.{number_of, directory_told};
 
-use kr_first::directory_at;
+use kr_core::below::directory_at;
 use kr_mounts::MountNumber;
 use kr_stage::Stage;
 use kr_tree::{Host, Place, Right, Tree, User};
 use kr_view::{Places, Reach};
-use pr_base::{Bytes, NoMemory};
+use pr_base::{Bytes, NoMemory, is_walked};
 use std::alloc::Global;
-
-/// How many bytes a path has at most, with its zero.
-const TEXT_LIMIT: usize = 4096;
 
 /// The first working directory, and a path that leads to it from the root.
 #[derive(Drop)]
 pub(crate) struct Directory {
     pub(crate) path: Bytes,
     pub(crate) place: Place<MountNumber>,
-}
-
-/// Whether a path is walked: an empty one isn't, nor one that is too long.
-pub(crate) fn is_walked(path: &[u8]) -> bool
-    ensures { result ≡ is_walked path.now }
-{
-    !path.is_empty() && path.len() < TEXT_LIMIT
 }
 
 /// Whether the user may search a directory.

@@ -1,7 +1,7 @@
 //! The start.
 ghost use Rattle.std.specs.Prelude.{◌≡◌, ◌≢◌, IfOk};
 ghost use Rattle.std.specs.List.{All};
-ghost use Rattle.kr_allowed.specs.Texts.{IsText};
+ghost use Rattle.kr_stage.specs.kr_allowed.Texts.{IsText};
 ghost use Rattle.kr_mounts.specs.Stored.{table_of};
 ghost use Rattle.kr_stage.specs.Ready.{IsReady};
 ghost use Rattle.pr_start.specs.Beginning.{Begins, beginning};
@@ -9,8 +9,7 @@ ghost use Rattle.pr_start.specs.Beginning.{Begins, beginning};
 use crate::command::choose;
 use crate::directory::working_directory;
 use kr_core::Kernel;
-use kr_first::laws::roots_are_directories;
-use kr_first::{First, StartFault};
+use kr_core::below::{First, StartFault, roots_are_directories};
 use kr_mounts::Mounted;
 use kr_stage::Stage;
 use kr_view::Reach;

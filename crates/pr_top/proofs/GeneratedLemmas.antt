@@ -4,12 +4,12 @@ use Rattle.std.specs.Prelude.{Result, Ok, Err}
 use Rattle.std.specs.List.{All}
 use Rattle.pr_base.specs.declared.bind.Bind.{Bind}
 use Rattle.pr_base.specs.declared.errno.Errno.{Errno}
-use Rattle.kr_inode.specs.declared.user.User.{User}
-use Rattle.kr_allowed.specs.Texts.{IsText}
+use Rattle.kr_tree.specs.kr_inode.declared.user.User.{User}
+use Rattle.pr_traced.specs.kr_allowed.Texts.{IsText}
 use Rattle.kr_mounts.specs.Bounds.{AreNumbered}
 use Rattle.kr_mounts.specs.Standing.{texts_of}
 use Rattle.kr_mounts.specs.Stored.{table_of}
-use Rattle.kr_stage.specs.declared.stage.Stage.{Stage as StageOfCode}
+use Rattle.pr_traced.specs.kr_stage.declared.stage.Stage.{Stage as StageOfCode}
 use Rattle.kr_view.specs.View.{Row}
 use Rattle.pr_answer.specs.declared.answer.Answer.{Answer}
 use Rattle.pr_answer.specs.declared.answer.Answer.TheVariants.{NoStart}

@@ -1,7 +1,7 @@
 -- From what was read to the opening.
 use Rattle.std.proofs.Common.{◌≡◌, inl, inr, ℕ, false, List, Some, None, refl, sym, ap, subst, ◌∙◌}
 use Rattle.std.specs.Prelude.{Option, Result, Ok, Err, IfErr, IfOk, IsSome, is_some}
-use Rattle.kr_inode.specs.declared.user.User.{User}
+use Rattle.kr_tree.specs.kr_inode.declared.user.User.{User}
 use Rattle.kr_tree.specs.Tree.{Tree}
 use Rattle.pr_words.specs.declared.options.Options.{Options}
 use Rattle.pr_answer.specs.declared.answer.Answer.{Answer}

@@ -6,16 +6,16 @@ use Rattle.kr_tree.specs.Tree.{Tree}
 use Rattle.kr_view.specs.View.{Row, plain}
 use Rattle.kr_view.specs.declared.view.Plain.{Plain}
 use Rattle.kr_view.specs.declared.view.HostMount.{HostMount}
-use Rattle.pr_start.specs.kr_core.Kernel as kernel
+use Rattle.pr_traced.specs.kr_core.Kernel as kernel
 use Rattle.kr_mounts.specs.declared.mount.Mount.{Mount}
 use Rattle.kr_mounts.specs.declared.mounted.MountNumber.{MountNumber}
-use Rattle.kr_stage.specs.declared.stage.Stage.{Stage as StageOfCode}
+use Rattle.pr_traced.specs.kr_stage.declared.stage.Stage.{Stage as StageOfCode}
 use Rattle.kr_mounts.specs.MountTable.{Refusal, Settling, settling}
 use Rattle.kr_mounts.specs.Standing.{texts_of}
 use Rattle.kr_mounts.specs.Stored.{table_of}
-use Rattle.kr_first.specs.declared.starting.StartFault.{StartFault}
-use Rattle.kr_first.specs.declared.starting.StartFault.TheVariants as fault
-use Rattle.kr_inode.specs.declared.user.User.{User}
+use Rattle.pr_traced.specs.kr_first.declared.starting.StartFault.{StartFault}
+use Rattle.pr_traced.specs.kr_first.declared.starting.StartFault.TheVariants as fault
+use Rattle.kr_tree.specs.kr_inode.declared.user.User.{User}
 use Rattle.pr_answer.specs.declared.answer.Answer.{Answer}
 use Rattle.pr_answer.specs.declared.answer.Answer.TheVariants.{BadBind, NoMemory, NoStart, ReadFault, TooLong, TreeBad, Usage}
 use Rattle.pr_sources.specs.Within.{IsEarly, Stage, and_then}

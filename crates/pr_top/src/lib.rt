@@ -2,6 +2,7 @@
 //! or words ask for a generated case, which both machines run.
 #![tactic(auto)]
 
+pub mod below;
 mod generated;
 mod opening;
 

@@ -3,15 +3,15 @@ use Rattle.std.proofs.Common.{◌≡◌, ℕ, List, Some, sym, ap, ◌∙◌}
 use Rattle.std.specs.Prelude.{Result, Ok, Err}
 use Rattle.pr_base.specs.MountText.{MountText}
 use Rattle.pr_base.specs.declared.errno.Errno.{Errno}
-use Rattle.kr_inode.specs.declared.user.User.{User}
-use Rattle.kr_tree.specs.Tree.{Tree}
+use Rattle.kr_view.specs.kr_inode.declared.user.User.{User}
+use Rattle.kr_view.specs.kr_tree.Tree.{Tree}
 use Rattle.kr_view.specs.declared.target.Reach.{Reach}
 use Rattle.kr_view.specs.declared.view.Plain.{Plain}
 use Rattle.kr_view.specs.declared.view.HostMount.{HostMount}
-use Rattle.kr_model.specs.State.{Image, State}
-use Rattle.kr_model.specs.Walks.{and_then}
-use Rattle.kr_first.specs.declared.starting.StartFault.{StartFault}
-use Rattle.kr_first.specs.declared.starting.StartFault.TheVariants as fault
+use Rattle.kr_stage.specs.kr_model.State.{Image, State}
+use Rattle.kr_stage.specs.kr_model.Walks.{and_then}
+use Rattle.kr_core.specs.kr_first.declared.starting.StartFault.{StartFault}
+use Rattle.kr_core.specs.kr_first.declared.starting.StartFault.TheVariants as fault
 use Rattle.kr_core.specs.Runs.{Machine}
 use Rattle.kr_core.specs.Kernel.{Kernel, Starts, machine}
 use Rattle.pt_watched.specs.Watched.{Tracing}

@@ -1,15 +1,15 @@
 -- A plain kernel can begin with the first process that a tracer found.
 use Rattle.std.proofs.Common.{◌≡◌, List, sym, ap, subst, ◌∙◌}
 use Rattle.std.specs.Prelude.{Ok}
-use Rattle.kr_inode.specs.declared.user.User.{User}
-use Rattle.kr_tree.specs.Tree.{Tree}
+use Rattle.kr_view.specs.kr_inode.declared.user.User.{User}
+use Rattle.kr_view.specs.kr_tree.Tree.{Tree}
 use Rattle.kr_view.specs.Processes.{no_finds}
 use Rattle.kr_view.specs.View.{Row, plain}
-use Rattle.kr_mounts.specs.Standing.{texts_of}
-use Rattle.kr_allowed.specs.Texts.{IsText}
-use Rattle.kr_first.specs.Started.{LeadsToDirectory}
-use Rattle.kr_first.specs.declared.starting.First.{First}
-use Rattle.walks_agree.specs.Settled.{IsSettled}
+use Rattle.kr_stage.specs.kr_mounts.Standing.{texts_of}
+use Rattle.kr_stage.specs.kr_allowed.Texts.{IsText}
+use Rattle.kr_core.specs.kr_first.Started.{LeadsToDirectory}
+use Rattle.kr_core.specs.kr_first.declared.starting.First.{First}
+use Rattle.kr_stage.specs.walks_agree.Settled.{IsSettled}
 use Rattle.pr_base.specs.MountText.{MountText}
 use Rattle.pt_bind.specs.Tags.{TagTable}
 use Rattle.pt_first.specs.GuestStart.{IsBegun, guest_start}

@@ -1,2 +1,3 @@
+pub use Rattle.pt_bind.proofs as pt_bind
 pub mod BeginLemmas
 pub mod FirstLemmas

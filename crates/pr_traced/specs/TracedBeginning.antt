@@ -4,16 +4,16 @@ use Rattle.std.specs.FinMap as map
 use Rattle.std.specs.Prelude.{◌≡◌, ℕ, true, List, Option, None, Result, Ok, Err}
 use Rattle.pr_base.specs.MountText.{MountText}
 use Rattle.pr_base.specs.declared.errno.Errno.{Errno}
-use Rattle.kr_inode.specs.declared.user.User.{User}
-use Rattle.kr_tree.specs.Tree.{Tree}
+use Rattle.kr_view.specs.kr_inode.declared.user.User.{User}
+use Rattle.kr_view.specs.kr_tree.Tree.{Tree}
 use Rattle.kr_view.specs.View.{plain}
 use Rattle.kr_view.specs.declared.view.Plain.{Plain}
 use Rattle.kr_view.specs.declared.view.HostMount.{HostMount}
-use Rattle.kr_model.specs.State.{Image, State}
-use Rattle.kr_model.specs.Walks.{and_then}
-use Rattle.kr_first.specs.Starting.{start_of}
-use Rattle.kr_first.specs.declared.starting.StartFault.{StartFault}
-use Rattle.kr_first.specs.declared.starting.StartFault.TheVariants as fault
+use Rattle.kr_stage.specs.kr_model.State.{Image, State}
+use Rattle.kr_stage.specs.kr_model.Walks.{and_then}
+use Rattle.kr_core.specs.kr_first.Starting.{start_of}
+use Rattle.kr_core.specs.kr_first.declared.starting.StartFault.{StartFault}
+use Rattle.kr_core.specs.kr_first.declared.starting.StartFault.TheVariants as fault
 use Rattle.kr_core.specs.Runs.{Machine}
 use Rattle.kr_core.specs.Kernel as kernel
 use Rattle.kr_core.specs.Kernel.{machine}

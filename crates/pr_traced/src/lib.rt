@@ -2,6 +2,7 @@
 //! no binding.
 #![tactic(auto)]
 
+pub mod below;
 mod starting;
 
 pub use pt_watched::Tracer;

@@ -1,13 +1,13 @@
 //! The start.
 ghost use Rattle.std.specs.Prelude.{◌≡◌};
-ghost use Rattle.kr_mounts.specs.Standing.{texts_of};
-ghost use Rattle.kr_mounts.specs.Stored.{table_of};
+ghost use Rattle.kr_stage.specs.kr_mounts.Standing.{texts_of};
+ghost use Rattle.kr_stage.specs.kr_mounts.Stored.{table_of};
 ghost use Rattle.kr_stage.specs.Ready.{IsReady};
 ghost use Rattle.pt_bind.specs.Binding.{rows_of};
 ghost use Rattle.pr_traced.specs.TracedBeginning.{BeginsTraced, traced_beginning};
 
 use kr_core::Kernel;
-use kr_first::StartFault;
+use kr_core::below::StartFault;
 use kr_stage::Stage;
 use kr_view::Plain;
 use pr_base::Bytes;

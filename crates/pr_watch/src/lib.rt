@@ -5,5 +5,5 @@ mod graphed;
 mod watch;
 
 pub use graphed::Graphed;
-pub use pt_tracer::Faker;
+pub use pt_watched::below::Faker;
 pub use watch::Watch;

@@ -2,9 +2,8 @@
 
 use crate::graphed::Graphed;
 use pr_base::NoMemory;
-use pt_tracer::laws::faker_is_its_definition;
-use pt_tracer::{Faker, Stops, Tracee};
 use pt_watched::Tracer;
+use pt_watched::below::{Faker, Stops, Tracee, faker_is_its_definition};
 use pt_watched::laws::tracer_is_its_definition;
 
 /// Who watches the calls of a run on the kernel with mounts.

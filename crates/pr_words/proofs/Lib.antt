@@ -1,4 +1,5 @@
 pub mod CutLemmas
+pub mod IndexLemmas
 pub mod LoopLemmas
 pub mod NumberLemmas
 pub mod PositionLemmas

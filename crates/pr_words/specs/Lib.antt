@@ -1,5 +1,6 @@
 pub mod Answers
 pub mod Bindings
+pub mod Kept
 pub mod Meaning
 pub mod ReadBack
 pub mod Reading

@@ -1,17 +1,18 @@
 -- Scripts lead to programs that are alike where two ways of finding find such along each path; and walks within a length.
 use Rattle.std.proofs.Common.{◌≡◌, ◌≤◌, ℕ, zero, suc, Bool, true, false, List, [], ◌∷◌, Option, Some, None, Result, Ok, Err, refl, sym, subst, arith}
 use Rattle.std.specs.Bool.{if◌then◌else◌}
-use Rattle.pr_base.specs.declared.errno.Errno.{Errno}
-use Rattle.pr_base.specs.declared.errno.Errno.TheVariants.{E2BIG, ELOOP, ENOEXEC}
-use Rattle.kr_calls.specs.Expansion.{Finding, by_interpreter, by_line, expanded, is_script, is_too_big, new_args, runs}
-use Rattle.kr_calls.specs.Scripts.{script_of}
-use Rattle.kr_exec.specs.Finding.{program_walk}
-use Rattle.kr_exec.specs.Interpreters.{if_args_fit, interpreters, paths_behind, paths_by_line, walks_reach}
-use Rattle.kr_tree.specs.declared.place.Place.{Place}
-use Rattle.kr_view.specs.Component.{Surroundings}
-use Rattle.kr_view.specs.Reach.{reach_after}
-use Rattle.kr_view.specs.declared.target.Reach.{Reach}
-use Rattle.kr_view.proofs.ReachLemmas.{covers_after}
+use Rattle.kr_first.specs.pr_base.declared.errno.Errno.{Errno}
+use Rattle.kr_first.specs.pr_base.declared.errno.Errno.TheVariants.{E2BIG, ELOOP, ENOEXEC}
+use Rattle.kr_first.specs.pr_base.declared.path.WalkMode.TheVariants.{Look}
+use Rattle.pt_script.specs.kr_calls.Expansion.{Finding, by_interpreter, by_line, expanded, is_script, is_too_big, new_args, runs}
+use Rattle.pt_script.specs.kr_calls.Scripts.{script_of}
+use Rattle.kr_first.specs.kr_exec.Finding.{program_walk}
+use Rattle.kr_first.specs.kr_exec.Interpreters.{if_args_fit, interpreters, paths_behind, paths_by_line, walks_reach}
+use Rattle.walks_bare.specs.kr_tree.declared.place.Place.{Place}
+use Rattle.walks_agree.specs.kr_view.Component.{Surroundings}
+use Rattle.walks_agree.specs.kr_view.Reach.{reach_after}
+use Rattle.walks_agree.specs.kr_view.declared.target.Reach.{Reach}
+use Rattle.walks_agree.proofs.kr_view.ReachLemmas.{covers_after}
 use Rattle.programs_agree.specs.Ending as alike
 use Rattle.programs_agree.specs.Ending.{EndAlike, ResultsAlike}
 
@@ -79,20 +80,20 @@ module _ {F G : Type 0} (one : Finding F) (other : Finding G) (R : F → G → T
 
 module _ (here : Surroundings) (base : Place ℕ) (most : ℕ) where
   abbrev pub IsShort : List ℕ → Type 0
-  IsShort path = (r : Reach) × ((reach_after here (program_walk here base path) r).longest ≤ most)
+  IsShort path = (r : Reach) × ((reach_after here Look (program_walk here base path) r).longest ≤ most)
 
   pub walks-more : (paths : List (List ℕ)) (r : Reach) → r.longest ≤ (walks_reach here base paths r).longest
   walks-more [] r = omega arith
   walks-more (path ∷ paths) r =
-      let one = (covers_after here (program_walk here base path) r).longest in
-      let rest = walks-more paths (reach_after here (program_walk here base path) r) in
+      let one = (covers_after here Look (program_walk here base path) r).longest in
+      let rest = walks-more paths (reach_after here Look (program_walk here base path) r) in
       omega arith
 
   pub walks-short : (paths : List (List ℕ)) (r : Reach) → (walks_reach here base paths r).longest ≤ most → Each IsShort paths
   walks-short [] r within = tt
   walks-short (path ∷ paths) r within =
-      let more = walks-more paths (reach_after here (program_walk here base path) r) in
-      ((r, omega arith), walks-short paths (reach_after here (program_walk here base path) r) within)
+      let more = walks-more paths (reach_after here Look (program_walk here base path) r) in
+      ((r, omega arith), walks-short paths (reach_after here Look (program_walk here base path) r) within)
 
 pub each-mapped : {A : Type 0} (P Q : A → Type 0) → ((x : A) → P x → Q x) → (xs : List A) → Each P xs → Each Q xs
 each-mapped P Q f [] each = tt

@@ -2,27 +2,27 @@
 use Rattle.std.proofs.Common.{◌≡◌, ℕ, Bool, true, false, List, Option, Some, Result, Ok, Err, refl, sym, ap, subst, ◌∙◌}
 use Rattle.std.specs.Bool.{if◌then◌else◌}
 use Rattle.std.specs.Option.{option_map_or}
-use Rattle.pr_base.specs.declared.errno.Errno.{Errno}
-use Rattle.pr_base.specs.declared.errno.Errno.TheVariants.{ENOENT, ENOMEM}
-use Rattle.rv_mem.specs.Actions.{CarriedOut, Done, carried_out}
-use Rattle.rv_mem.specs.Memory.{Memory}
-use Rattle.elf_load.specs.Image.{first_regs, image_exceeds, image_memory, program_break}
-use Rattle.pt_bind.specs.Tags.{TagTable}
+use Rattle.kr_first.specs.pr_base.declared.errno.Errno.{Errno}
+use Rattle.kr_first.specs.pr_base.declared.errno.Errno.TheVariants.{ENOENT, ENOMEM}
+use Rattle.kr_first.specs.rv_mem.Actions.{CarriedOut, Done, carried_out}
+use Rattle.kr_first.specs.rv_mem.Memory.{Memory}
+use Rattle.kr_first.specs.elf_load.Image.{first_regs, image_exceeds, image_memory, program_break}
+use Rattle.walks_agree.specs.pt_bind.Tags.{TagTable}
 use Rattle.pt_script.specs.declared.expansion.Expanded.{Expanded}
-use Rattle.kr_tree.specs.declared.place.Place.{Place}
-use Rattle.kr_view.specs.View.{Row, plain}
-use Rattle.kr_view.specs.Walk.{PlaceTarget}
-use Rattle.kr_exec.specs.Lists.{Trying, and_then, lists_at}
-use Rattle.kr_exec.specs.Interpreters.{bytes_at}
-use Rattle.kr_exec.specs.declared.lists.Lists.{Lists}
-use Rattle.kr_exec.specs.declared.plan.ExecPlan.{ExecPlan}
-use Rattle.kr_exec.proofs.ListLemmas.{and_then_is, on_reply}
-use Rattle.kr_execve.specs.Execution.{Program, exceeds, execution, execution_from, found_from, ids_of, image_of, loaded, planned_from, program_of}
-use Rattle.kr_model.specs.Applied.{cwd_of}
-use Rattle.kr_model.specs.HostView.{host_around_of}
-use Rattle.kr_model.specs.ProcessDirectory.{around_of}
-use Rattle.kr_model.specs.State.{Image, State}
-use Rattle.kr_model.specs.Walks as results
+use Rattle.walks_bare.specs.kr_tree.declared.place.Place.{Place}
+use Rattle.walks_agree.specs.kr_view.View.{Row, plain}
+use Rattle.walks_agree.specs.kr_view.Walk.{PlaceTarget}
+use Rattle.kr_first.specs.kr_exec.Lists.{Trying, and_then, lists_at}
+use Rattle.kr_first.specs.kr_exec.Interpreters.{bytes_at}
+use Rattle.kr_first.specs.kr_exec.declared.lists.Lists.{Lists}
+use Rattle.kr_first.specs.kr_exec.declared.plan.ExecPlan.{ExecPlan}
+use Rattle.kr_first.proofs.kr_exec.ListLemmas.{and_then_is, on_reply}
+use Rattle.kr_first.specs.kr_execve.Execution.{Program, exceeds, execution, execution_from, found_from, ids_of, image_of, loaded, planned_from, program_of}
+use Rattle.walks_bare.specs.kr_model.Applied.{cwd_of}
+use Rattle.walks_bare.specs.kr_model.HostView.{host_around_of}
+use Rattle.walks_bare.specs.kr_model.ProcessDirectory.{around_of}
+use Rattle.walks_bare.specs.kr_model.State.{Image, State}
+use Rattle.walks_bare.specs.kr_model.Walks as results
 use Rattle.programs_agree.specs.Planning.{IsSamePlan, PlannedAlike, PlansAlike, no_plan, one_plan, planned}
 use Rattle.programs_agree.proofs.LimitLemmas.{lists_fit}
 use Rattle.programs_agree.proofs.PlanLemmas.{programs_are_planned_alike}

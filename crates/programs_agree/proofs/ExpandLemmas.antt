@@ -1,21 +1,21 @@
 -- Scripts are expanded alike where programs are found alike.
 use Rattle.std.proofs.Common.{◌≡◌, ℕ, zero, suc, Bool, true, false, cond, List, Option, Some, None, Result, Err, refl, sym, ap, subst, ◌∙◌}
-use Rattle.pr_base.specs.declared.errno.Errno.{Errno}
-use Rattle.pr_base.specs.declared.errno.Errno.TheVariants.{E2BIG, ENOEXEC, ELOOP}
-use Rattle.pt_bind.specs.Tags.{TagTable}
+use Rattle.kr_first.specs.pr_base.declared.errno.Errno.{Errno}
+use Rattle.kr_first.specs.pr_base.declared.errno.Errno.TheVariants.{E2BIG, ENOEXEC, ELOOP}
+use Rattle.walks_agree.specs.pt_bind.Tags.{TagTable}
 use Rattle.pt_script.specs.Programs as tracer
 use Rattle.pt_script.specs.declared.program.Program.{Program}
-use Rattle.kr_calls.specs.Expansion.{Expanded, Finding, Onward, by_interpreter, by_line, expanded, is_script, is_too_big, new_args, runs}
-use Rattle.kr_calls.specs.Scripts.{script_of}
-use Rattle.kr_tree.specs.declared.place.Place.{Place}
-use Rattle.kr_view.specs.Answers as answers
-use Rattle.kr_view.specs.View.{Row}
-use Rattle.kr_view.specs.Walk.{PlaceTarget}
-use Rattle.kr_view.specs.declared.target.Target.{Target}
-use Rattle.kr_exec.specs.Interpreters.{told_program}
-use Rattle.kr_exec.specs.Interpreters as kernel
-use Rattle.kr_model.specs.ProcessDirectory.{around_of}
-use Rattle.kr_model.specs.State.{State}
+use Rattle.pt_script.specs.kr_calls.Expansion.{Expanded, Finding, Onward, by_interpreter, by_line, expanded, is_script, is_too_big, new_args, runs}
+use Rattle.pt_script.specs.kr_calls.Scripts.{script_of}
+use Rattle.walks_bare.specs.kr_tree.declared.place.Place.{Place}
+use Rattle.walks_agree.specs.kr_view.Answers as answers
+use Rattle.walks_agree.specs.kr_view.View.{Row}
+use Rattle.walks_agree.specs.kr_view.Walk.{PlaceTarget}
+use Rattle.walks_agree.specs.kr_view.declared.target.Target.{Target}
+use Rattle.kr_first.specs.kr_exec.Interpreters.{told_program}
+use Rattle.kr_first.specs.kr_exec.Interpreters as kernel
+use Rattle.walks_bare.specs.kr_model.ProcessDirectory.{around_of}
+use Rattle.walks_bare.specs.kr_model.State.{State}
 use Rattle.walks_agree.specs.Scene.{IsMatched}
 use Rattle.programs_agree.specs.Expanding.{ExpandedAlike, ExpansionsAgree, FindAlike, FoundAlike, IsSameTold, both_fail, both_found, both_refused, both_run}
 use Rattle.programs_agree.specs.Finding.{ProgramsAlike, WorksAt, no_program, one_program, scene_here, texts_here}

@@ -4,44 +4,44 @@ use Rattle.std.specs.Bool.{if◌then◌else◌}
 use Rattle.std.specs.Option.{option_and_then, option_map_or}
 use Rattle.std.specs.Prelude.{IsSome, is_some}
 use Rattle.std.proofs.lemmas.List.{take-take}
-use Rattle.pr_base.specs.Alike.{Alike, TargetAlike, ends, errs}
-use Rattle.pr_base.specs.MountText.{MountText}
-use Rattle.pr_base.specs.Paths.{components_of, has_slash, is_absolute, slash, text_of}
-use Rattle.pr_base.specs.Texts.{Text}
-use Rattle.pr_base.specs.WalkFrame.{Target, most_links, walk_on}
-use Rattle.pr_base.specs.declared.errno.Errno.{Errno}
-use Rattle.pr_base.specs.declared.errno.Errno.TheVariants.{EACCES}
-use Rattle.pr_base.specs.declared.path.WalkMode.TheVariants.{Look, LookLink}
-use Rattle.pr_base.proofs.AlikeLemmas.{alike_some}
-use Rattle.pr_base.proofs.PathLemmas.{names_are_parts}
-use Rattle.pr_base.proofs.WalkLemmas.{walk-none}
-use Rattle.pt_bind.specs.Binding.{index_of, names_of}
-use Rattle.pt_bind.specs.Tags.{TagTable}
-use Rattle.pt_bind.proofs.ByteLemmas.{names_written}
-use Rattle.pt_args.specs.Walks.{and_then}
-use Rattle.pt_canon.specs.Canon.{canon_of, canon_result}
-use Rattle.pt_canon.specs.TextWalk.{TextSurroundings, looking_texts, text_walk}
-use Rattle.pt_canon.specs.declared.canon.Canon.{Canon}
+use Rattle.kr_first.specs.pr_base.Alike.{Alike, TargetAlike, ends, errs}
+use Rattle.kr_first.specs.pr_base.MountText.{MountText}
+use Rattle.kr_first.specs.pr_base.Paths.{components_of, has_slash, is_absolute, slash, text_of}
+use Rattle.kr_first.specs.pr_base.Texts.{Text}
+use Rattle.kr_first.specs.pr_base.WalkFrame.{Target, most_links, walk_on}
+use Rattle.kr_first.specs.pr_base.declared.errno.Errno.{Errno}
+use Rattle.kr_first.specs.pr_base.declared.errno.Errno.TheVariants.{EACCES}
+use Rattle.kr_first.specs.pr_base.declared.path.WalkMode.TheVariants.{Look, LookLink}
+use Rattle.kr_first.proofs.pr_base.AlikeLemmas.{alike_some}
+use Rattle.kr_first.proofs.pr_base.PathLemmas.{names_are_parts}
+use Rattle.kr_first.proofs.pr_base.WalkLemmas.{walk-none}
+use Rattle.walks_agree.specs.pt_bind.Binding.{index_of, names_of}
+use Rattle.walks_agree.specs.pt_bind.Tags.{TagTable}
+use Rattle.walks_agree.proofs.pt_bind.ByteLemmas.{names_written}
+use Rattle.pt_script.specs.pt_args.Walks.{and_then}
+use Rattle.walks_agree.specs.pt_canon.Canon.{canon_of, canon_result}
+use Rattle.walks_agree.specs.pt_canon.TextWalk.{TextSurroundings, looking_texts, text_walk}
+use Rattle.walks_agree.specs.pt_canon.declared.canon.Canon.{Canon}
 use Rattle.pt_script.specs.Programs.{base_from, canon_from, or_lost, program_from, program_in}
 use Rattle.pt_script.specs.declared.program.Program.{Program}
-use Rattle.kr_inode.specs.declared.user.User.{User}
-use Rattle.kr_inode.specs.declared.user.Right.TheVariants.{Search}
-use Rattle.kr_tree.specs.declared.place.Host.{Host}
-use Rattle.kr_tree.specs.declared.place.Host.TheVariants.{Node, Proc}
-use Rattle.kr_tree.specs.declared.place.Place.{Place}
-use Rattle.kr_tree.specs.Rights.{may}
-use Rattle.kr_tree.specs.Tree.{Body, Directory, ProcessDirectory, RegularFile, SymbolicLink, Tree, body, file_of, is_directory, is_file}
-use Rattle.kr_tree.proofs.EntryLemmas.{body_test}
-use Rattle.kr_view.specs.Component.{Namespace, Surroundings, is_directory_at}
-use Rattle.kr_view.specs.View.{Row, plain, root_place}
-use Rattle.kr_view.specs.Walk.{PlaceTarget, looking, place_walk}
-use Rattle.kr_view.proofs.ArrivalLemmas.{text_found}
-use Rattle.kr_mounts.specs.Standing.{texts_of}
-use Rattle.kr_exec.specs.Finding.{if_program, is_program, is_program_found, program_at}
-use Rattle.kr_exec.specs.Interpreters.{bytes_at, head_of}
-use Rattle.kr_model.specs.Peeks.{body_head, head_at, read_at, read_of}
-use Rattle.kr_model.specs.ProcessDirectory.{around_of}
-use Rattle.kr_model.specs.State.{State}
+use Rattle.kr_first.specs.kr_inode.declared.user.User.{User}
+use Rattle.kr_first.specs.kr_inode.declared.user.Right.TheVariants.{Search}
+use Rattle.walks_bare.specs.kr_tree.declared.place.Host.{Host}
+use Rattle.walks_bare.specs.kr_tree.declared.place.Host.TheVariants.{Node, Proc}
+use Rattle.walks_bare.specs.kr_tree.declared.place.Place.{Place}
+use Rattle.walks_bare.specs.kr_tree.Rights.{may}
+use Rattle.walks_bare.specs.kr_tree.Tree.{Body, Directory, ProcessDirectory, RegularFile, SymbolicLink, Tree, body, file_of, is_directory, is_file}
+use Rattle.walks_bare.proofs.kr_tree.EntryLemmas.{body_test}
+use Rattle.walks_agree.specs.kr_view.Component.{Namespace, Surroundings, is_directory_at}
+use Rattle.walks_agree.specs.kr_view.View.{Row, plain, root_place}
+use Rattle.walks_agree.specs.kr_view.Walk.{PlaceTarget, looking, place_walk}
+use Rattle.walks_agree.proofs.kr_view.ArrivalLemmas.{text_found}
+use Rattle.walks_agree.specs.kr_mounts.Standing.{texts_of}
+use Rattle.kr_first.specs.kr_exec.Finding.{if_program, is_program, is_program_found, program_at}
+use Rattle.kr_first.specs.kr_exec.Interpreters.{bytes_at, head_of}
+use Rattle.walks_bare.specs.kr_model.Peeks.{body_head, head_at, read_at, read_of}
+use Rattle.walks_bare.specs.kr_model.ProcessDirectory.{around_of}
+use Rattle.walks_bare.specs.kr_model.State.{State}
 use Rattle.walks_agree.specs.Handed.{BothEnd}
 use Rattle.walks_agree.specs.Scene.{IsMatched, Scene}
 use Rattle.walks_agree.specs.Settled.{host_text}

@@ -5,17 +5,17 @@ use Rattle.std.specs.Prelude.{nat_lt}
 use Rattle.std.specs.List.{All}
 use Rattle.std.proofs.lemmas.Bool.Decides.{nat_tests}
 use Rattle.std.proofs.lemmas.List.Elements.{All-head, All-tail}
-use Rattle.rv_mem.specs.Pages.{IsPlaced, IsWhole, Pages, mapped}
-use Rattle.rv_mem.proofs.SpaceLemmas.{IsPlaced-empty, IsPlaced-mapped, IsPlaced-written, IsWhole-empty, IsWhole-mapped, IsWhole-written}
-use Rattle.elf_read.specs.Plans.{IsSound, plan_of, planned}
-use Rattle.elf_read.specs.Rules.{first_broken}
-use Rattle.elf_read.specs.declared.plan.Segment.{Segment}
-use Rattle.elf_load.specs.Image.{end_page, file_bytes, first_page, image_pages, rights_in, stack_rights, with_segment, with_segments, with_stack}
-use Rattle.elf_load.proofs.ImageLemmas.{sound_plan}
-use Rattle.kr_exec.specs.Interpreters.{bytes_at}
-use Rattle.kr_exec.specs.declared.plan.ExecPlan.{ExecPlan}
+use Rattle.kr_first.specs.rv_mem.Pages.{IsPlaced, IsWhole, Pages, mapped}
+use Rattle.kr_first.proofs.rv_mem.SpaceLemmas.{IsPlaced-empty, IsPlaced-mapped, IsPlaced-written, IsWhole-empty, IsWhole-mapped, IsWhole-written}
+use Rattle.kr_first.specs.elf_read.Plans.{IsSound, plan_of, planned}
+use Rattle.kr_first.specs.elf_read.Rules.{first_broken}
+use Rattle.kr_first.specs.elf_read.declared.plan.Segment.{Segment}
+use Rattle.kr_first.specs.elf_load.Image.{end_page, file_bytes, first_page, image_pages, rights_in, stack_rights, with_segment, with_segments, with_stack}
+use Rattle.kr_first.proofs.elf_load.ImageLemmas.{sound_plan}
+use Rattle.kr_first.specs.kr_exec.Interpreters.{bytes_at}
+use Rattle.kr_first.specs.kr_exec.declared.plan.ExecPlan.{ExecPlan}
 use Rattle.kr_first.specs.Starting.{exceeds, image_of}
-use Rattle.kr_tree.specs.Tree.{Tree}
+use Rattle.walks_bare.specs.kr_tree.Tree.{Tree}
 use Rattle.programs_agree.specs.Images.{IsImage}
 
 -- whole pages, all of them below the last address

@@ -2,16 +2,16 @@
 use Rattle.std.proofs.Common.{◌≡◌, ℕ, zero, suc, ◌+◌, ◌-◌, ◌<◌, ◌≤◌, Bool, true, false, cond, List, ◌∷◌, length, nat_lt, Result, Ok, Err, refl, sym, ap, subst, ◌∙◌, arith, []}
 use Rattle.std.specs.Prelude.{nat_eq}
 use Rattle.std.proofs.lemmas.Bool.Decides.{nat_tests}
-use Rattle.pr_base.specs.declared.errno.Errno.{Errno}
-use Rattle.pr_base.specs.declared.errno.Errno.TheVariants.{E2BIG}
-use Rattle.rv_mem.specs.Actions.{CarriedOut, Done, carried_out}
-use Rattle.rv_mem.specs.Memory.{Memory}
-use Rattle.kr_calls.specs.Expansion.{bytes_with_ends}
-use Rattle.kr_exec.specs.Exec.{are_too_big}
-use Rattle.kr_exec.specs.Lists.{Trying, address_at, and_then, at_least_one, behind, env_at, if_it_fits, list_at, most_bytes, most_texts, next_address, text_at, text_within, texts_from}
-use Rattle.kr_exec.specs.declared.lists.Lists.{Lists}
-use Rattle.kr_exec.proofs.ListLemmas.{and_then_is, at_address, by_address, entry, on_reply}
-use Rattle.kr_exec.proofs.PlanLemmas.{lists_within}
+use Rattle.kr_first.specs.pr_base.declared.errno.Errno.{Errno}
+use Rattle.kr_first.specs.pr_base.declared.errno.Errno.TheVariants.{E2BIG}
+use Rattle.kr_first.specs.rv_mem.Actions.{CarriedOut, Done, carried_out}
+use Rattle.kr_first.specs.rv_mem.Memory.{Memory}
+use Rattle.pt_script.specs.kr_calls.Expansion.{bytes_with_ends}
+use Rattle.kr_first.specs.kr_exec.Exec.{are_too_big}
+use Rattle.kr_first.specs.kr_exec.Lists.{Trying, address_at, and_then, at_least_one, behind, env_at, if_it_fits, list_at, most_bytes, most_texts, next_address, text_at, text_within, texts_from}
+use Rattle.kr_first.specs.kr_exec.declared.lists.Lists.{Lists}
+use Rattle.kr_first.proofs.kr_exec.ListLemmas.{and_then_is, at_address, by_address, entry, on_reply}
+use Rattle.kr_first.proofs.kr_exec.PlanLemmas.{lists_within}
 use Rattle.programs_agree.specs.Executing.{ListsFit}
 
 abbrev Texts : Type 0

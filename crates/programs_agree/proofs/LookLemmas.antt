@@ -2,11 +2,11 @@
 use Rattle.std.proofs.Common.{◌≡◌, ℕ, zero, suc, Bool, ◌||◌, List, ◌∷◌, ◌++◌, Some, Ok, refl, []}
 use Rattle.std.specs.Bool.{if◌then◌else◌}
 use Rattle.std.specs.Prelude.{IsSome}
-use Rattle.pr_base.specs.Paths.{Component, components_of, has_slash}
-use Rattle.pr_base.specs.WalkFrame.{Seen, Fails, Missing, Leads, Links, Jumps, Looking, Target, Trail, Onward, fails, ends, begins_at, loops, target_at, here, ends_landed, in_middle, at_last, along, walk, walk_on, most_links}
-use Rattle.pr_base.specs.declared.errno.Errno.TheVariants.{ELOOP, ENOENT, ENOTDIR}
-use Rattle.pr_base.specs.declared.path.WalkMode.TheVariants.{Look}
-use Rattle.pr_base.proofs.EndLemmas.{EndsSo, either_way, ended, failed, jumps, lands}
+use Rattle.kr_first.specs.pr_base.Paths.{Component, components_of, has_slash}
+use Rattle.kr_first.specs.pr_base.WalkFrame.{Seen, Fails, Missing, Leads, Links, Jumps, Looking, Target, Trail, Onward, fails, ends, begins_at, loops, target_at, here, ends_landed, in_middle, at_last, along, walk, walk_on, most_links}
+use Rattle.kr_first.specs.pr_base.declared.errno.Errno.TheVariants.{ELOOP, ENOENT, ENOTDIR}
+use Rattle.kr_first.specs.pr_base.declared.path.WalkMode.TheVariants.{Look}
+use Rattle.kr_first.proofs.pr_base.EndLemmas.{EndsSo, either_way, ended, failed, jumps, lands}
 
 module _ {S F : Type 0} (looking : Looking S F) where
   abbrev IsFound : Target S F → Type 0

@@ -1,20 +1,20 @@
 -- A program that is no script is loaded with the lists of the call itself.
 use Rattle.std.specs.Prelude.{take}
 use Rattle.std.proofs.Common.{◌≡◌, ◌≤◌, ℕ, zero, suc, ◌-◌, Bool, true, false, cond, List, Option, Some, None, Result, Ok, Err, arith, sym, ap, subst, ◌∙◌, refl}
-use Rattle.pr_base.specs.declared.errno.Errno.{Errno}
-use Rattle.pr_base.specs.declared.errno.Errno.TheVariants.{E2BIG, ENOEXEC, ELOOP}
-use Rattle.rv_mem.proofs.ActionLemmas.{reads_alike}
-use Rattle.pt_args.specs.Walks as texts
-use Rattle.pt_canon.specs.TextWalk.{TextSurroundings}
-use Rattle.pt_canon.specs.declared.canon.Canon.{Canon}
+use Rattle.kr_first.specs.pr_base.declared.errno.Errno.{Errno}
+use Rattle.kr_first.specs.pr_base.declared.errno.Errno.TheVariants.{E2BIG, ENOEXEC, ELOOP}
+use Rattle.kr_first.proofs.rv_mem.ActionLemmas.{reads_alike}
+use Rattle.pt_script.specs.pt_args.Walks as texts
+use Rattle.walks_agree.specs.pt_canon.TextWalk.{TextSurroundings}
+use Rattle.walks_agree.specs.pt_canon.declared.canon.Canon.{Canon}
 use Rattle.pt_script.specs.Expanding.{expanded_from, shown_result}
 use Rattle.pt_script.specs.Programs.{head_size, program_from, program_in, programs}
 use Rattle.pt_script.specs.declared.expansion.Expanded.{Expanded as Shown}
 use Rattle.pt_script.specs.declared.program.Program.{Program}
-use Rattle.kr_calls.specs.Expansion.{Expanded, Finding, Onward, by_interpreter, by_line, bytes_with_ends, expanded, is_script, is_too_big, most_scripts, new_args, runs}
-use Rattle.kr_calls.specs.Scripts.{script_of}
-use Rattle.kr_exec.specs.Lists.{lists_at}
-use Rattle.kr_exec.specs.declared.lists.Lists.{Lists}
+use Rattle.pt_script.specs.kr_calls.Expansion.{Expanded, Finding, Onward, by_interpreter, by_line, bytes_with_ends, expanded, is_script, is_too_big, most_scripts, new_args, runs}
+use Rattle.pt_script.specs.kr_calls.Scripts.{script_of}
+use Rattle.kr_first.specs.kr_exec.Lists.{lists_at}
+use Rattle.kr_first.specs.kr_exec.declared.lists.Lists.{Lists}
 use Rattle.programs_agree.specs.Executing.{PlainExecutionsAgree}
 use Rattle.programs_agree.specs.Finding.{texts_here}
 use Rattle.programs_agree.specs.Refusing.{canon_along}

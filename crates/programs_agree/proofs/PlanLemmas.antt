@@ -2,37 +2,37 @@
 use Rattle.std.proofs.Common.{◌≡◌, ℕ, zero, suc, ◌-◌, Bool, true, false, ◌||◌, cond, List, Option, Some, None, Result, Ok, Err, nat_lt, length, refl, sym, ap, subst, ◌∙◌, []}
 use Rattle.std.specs.Bool.{if◌then◌else◌}
 use Rattle.std.specs.Option.{option_map_or}
-use Rattle.pr_base.specs.declared.errno.Errno.{Errno}
-use Rattle.pr_base.specs.declared.errno.Errno.TheVariants.{EACCES, E2BIG, ELOOP, ENOEXEC}
-use Rattle.pr_base.specs.declared.path.WalkMode.TheVariants.{Look}
-use Rattle.pt_bind.specs.Tags.{TagTable}
+use Rattle.kr_first.specs.pr_base.declared.errno.Errno.{Errno}
+use Rattle.kr_first.specs.pr_base.declared.errno.Errno.TheVariants.{EACCES, E2BIG, ELOOP, ENOEXEC}
+use Rattle.kr_first.specs.pr_base.declared.path.WalkMode.TheVariants.{Look}
+use Rattle.walks_agree.specs.pt_bind.Tags.{TagTable}
 use Rattle.pt_script.specs.Expanding.{shown_result}
 use Rattle.pt_script.specs.Programs as tracer
 use Rattle.pt_script.specs.declared.program.Program.{Program}
-use Rattle.pt_args.specs.Walks as texts
-use Rattle.elf_read.specs.Rules.{first_broken}
-use Rattle.elf_read.specs.declared.fault.ElfFault.{ElfFault}
-use Rattle.kr_calls.specs.Expansion.{Expanded, Finding, Onward, by_interpreter, by_line, bytes_with_ends, expanded, is_script, is_too_big, most_scripts, new_args, runs}
-use Rattle.kr_calls.specs.Scripts.{script_of}
-use Rattle.kr_tree.specs.declared.place.Host.{Host}
-use Rattle.kr_tree.specs.declared.place.Host.TheVariants.{Node, Proc}
-use Rattle.kr_tree.specs.declared.place.Place.{Place}
-use Rattle.kr_view.specs.Answers.{told}
-use Rattle.kr_view.specs.Component.{Surroundings, is_directory_at}
-use Rattle.kr_view.specs.HostReach.{host_place}
-use Rattle.kr_view.specs.View.{Row, plain, source}
-use Rattle.kr_view.specs.Walk.{PlaceTarget}
-use Rattle.kr_view.specs.declared.target.Target.{Target}
-use Rattle.kr_exec.specs.Exec.{after_scripts, are_too_big, entry_of, exec_plan, file_plan, inode_at, plan_at, target_plan, unless_broken}
-use Rattle.kr_exec.specs.Finding.{if_program, is_program_found, program_at}
-use Rattle.kr_exec.specs.Interpreters.{bytes_at, head_of}
-use Rattle.kr_exec.specs.Interpreters as kernel
-use Rattle.kr_exec.specs.declared.plan.ExecPlan.{ExecPlan}
-use Rattle.kr_exec.proofs.RunningLemmas.{program_ends}
-use Rattle.kr_model.specs.HostView.{host_around_of}
-use Rattle.kr_model.specs.ProcessDirectory.{around_of}
-use Rattle.kr_model.specs.State.{State, inode_of}
-use Rattle.kr_model.specs.Walks.{and_then}
+use Rattle.pt_script.specs.pt_args.Walks as texts
+use Rattle.kr_first.specs.elf_read.Rules.{first_broken}
+use Rattle.kr_first.specs.elf_read.declared.fault.ElfFault.{ElfFault}
+use Rattle.pt_script.specs.kr_calls.Expansion.{Expanded, Finding, Onward, by_interpreter, by_line, bytes_with_ends, expanded, is_script, is_too_big, most_scripts, new_args, runs}
+use Rattle.pt_script.specs.kr_calls.Scripts.{script_of}
+use Rattle.walks_bare.specs.kr_tree.declared.place.Host.{Host}
+use Rattle.walks_bare.specs.kr_tree.declared.place.Host.TheVariants.{Node, Proc}
+use Rattle.walks_bare.specs.kr_tree.declared.place.Place.{Place}
+use Rattle.walks_agree.specs.kr_view.Answers.{told}
+use Rattle.walks_agree.specs.kr_view.Component.{Surroundings, is_directory_at}
+use Rattle.walks_agree.specs.kr_view.HostReach.{host_place}
+use Rattle.walks_agree.specs.kr_view.View.{Row, plain, source}
+use Rattle.walks_agree.specs.kr_view.Walk.{PlaceTarget}
+use Rattle.walks_agree.specs.kr_view.declared.target.Target.{Target}
+use Rattle.kr_first.specs.kr_exec.Exec.{after_scripts, are_too_big, entry_of, exec_plan, file_plan, inode_at, plan_at, target_plan, unless_broken}
+use Rattle.kr_first.specs.kr_exec.Finding.{if_program, is_program_found, program_at}
+use Rattle.kr_first.specs.kr_exec.Interpreters.{bytes_at, head_of}
+use Rattle.kr_first.specs.kr_exec.Interpreters as kernel
+use Rattle.kr_first.specs.kr_exec.declared.plan.ExecPlan.{ExecPlan}
+use Rattle.kr_first.proofs.kr_exec.RunningLemmas.{program_ends}
+use Rattle.walks_bare.specs.kr_model.HostView.{host_around_of}
+use Rattle.walks_bare.specs.kr_model.ProcessDirectory.{around_of}
+use Rattle.walks_bare.specs.kr_model.State.{State, inode_of}
+use Rattle.walks_bare.specs.kr_model.Walks.{and_then}
 use Rattle.walks_agree.specs.Handed.{LeadsToFound}
 use Rattle.walks_agree.specs.Scene.{IsMatched}
 use Rattle.walks_agree.specs.States.{IsInUse, remembered_of}

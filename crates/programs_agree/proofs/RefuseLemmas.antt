@@ -3,36 +3,36 @@ use Rattle.std.proofs.Common.{◌≡◌, ◌≢◌, ℕ, Bool, true, false, List
 use Rattle.std.specs.Bool.{if◌then◌else◌}
 use Rattle.std.specs.Option.{option_map_or}
 use Rattle.std.specs.Prelude.{IsSome, is_some}
-use Rattle.pr_base.specs.Alike.{Alike, TargetAlike, ends, errs}
-use Rattle.pr_base.specs.Texts.{Text}
-use Rattle.pr_base.specs.WalkFrame.{Target, here, most_links}
-use Rattle.pr_base.specs.declared.errno.Errno.{Errno}
-use Rattle.pr_base.specs.declared.errno.Errno.TheVariants.{EACCES, ENOENT}
-use Rattle.pr_base.specs.declared.path.WalkMode.TheVariants.{Look}
-use Rattle.pr_base.proofs.AlikeLemmas.{alike_some}
-use Rattle.pr_base.proofs.WalkLemmas.{walk-none}
-use Rattle.rv_mem.specs.Actions.{CarriedOut, Done, carried_out}
-use Rattle.rv_mem.specs.Memory.{Memory}
-use Rattle.pt_bind.specs.Tags.{TagTable}
-use Rattle.pt_canon.specs.Canon.{canon_result}
-use Rattle.pt_canon.specs.TextWalk.{TextSurroundings, text_walk}
-use Rattle.pt_canon.specs.declared.canon.Canon.{Canon}
+use Rattle.kr_first.specs.pr_base.Alike.{Alike, TargetAlike, ends, errs}
+use Rattle.kr_first.specs.pr_base.Texts.{Text}
+use Rattle.kr_first.specs.pr_base.WalkFrame.{Target, here, most_links}
+use Rattle.kr_first.specs.pr_base.declared.errno.Errno.{Errno}
+use Rattle.kr_first.specs.pr_base.declared.errno.Errno.TheVariants.{EACCES, ENOENT}
+use Rattle.kr_first.specs.pr_base.declared.path.WalkMode.TheVariants.{Look}
+use Rattle.kr_first.proofs.pr_base.AlikeLemmas.{alike_some}
+use Rattle.kr_first.proofs.pr_base.WalkLemmas.{walk-none}
+use Rattle.kr_first.specs.rv_mem.Actions.{CarriedOut, Done, carried_out}
+use Rattle.kr_first.specs.rv_mem.Memory.{Memory}
+use Rattle.walks_agree.specs.pt_bind.Tags.{TagTable}
+use Rattle.walks_agree.specs.pt_canon.Canon.{canon_result}
+use Rattle.walks_agree.specs.pt_canon.TextWalk.{TextSurroundings, text_walk}
+use Rattle.walks_agree.specs.pt_canon.declared.canon.Canon.{Canon}
 use Rattle.pt_script.specs.Programs.{program_from}
 use Rattle.pt_script.specs.declared.program.Program.{Program as TracedProgram}
-use Rattle.kr_tree.specs.declared.place.Place.{Place}
-use Rattle.kr_view.specs.Component.{Surroundings}
-use Rattle.kr_view.specs.View.{Row, plain}
-use Rattle.kr_view.specs.Walk.{PlaceTarget, looking, place_walk}
-use Rattle.kr_exec.specs.Finding.{if_program, is_program, is_program_found, program_at}
-use Rattle.kr_exec.specs.Lists.{Trying, and_then, lists_at}
-use Rattle.kr_exec.specs.declared.lists.Lists.{Lists}
-use Rattle.kr_exec.proofs.ListLemmas.{and_then_is, on_reply}
-use Rattle.kr_execve.specs.Execution.{Program, execution, execution_from, loaded, planned_from}
-use Rattle.kr_model.specs.Applied.{cwd_of}
-use Rattle.kr_model.specs.HostView.{host_around_of}
-use Rattle.kr_model.specs.ProcessDirectory.{around_of}
-use Rattle.kr_model.specs.State.{Image, State}
-use Rattle.kr_model.specs.Walks as results
+use Rattle.walks_bare.specs.kr_tree.declared.place.Place.{Place}
+use Rattle.walks_agree.specs.kr_view.Component.{Surroundings}
+use Rattle.walks_agree.specs.kr_view.View.{Row, plain}
+use Rattle.walks_agree.specs.kr_view.Walk.{PlaceTarget, looking, place_walk}
+use Rattle.kr_first.specs.kr_exec.Finding.{if_program, is_program, is_program_found, program_at}
+use Rattle.kr_first.specs.kr_exec.Lists.{Trying, and_then, lists_at}
+use Rattle.kr_first.specs.kr_exec.declared.lists.Lists.{Lists}
+use Rattle.kr_first.proofs.kr_exec.ListLemmas.{and_then_is, on_reply}
+use Rattle.kr_first.specs.kr_execve.Execution.{Program, execution, execution_from, loaded, planned_from}
+use Rattle.walks_bare.specs.kr_model.Applied.{cwd_of}
+use Rattle.walks_bare.specs.kr_model.HostView.{host_around_of}
+use Rattle.walks_bare.specs.kr_model.ProcessDirectory.{around_of}
+use Rattle.walks_bare.specs.kr_model.State.{Image, State}
+use Rattle.walks_bare.specs.kr_model.Walks as results
 use Rattle.walks_agree.specs.Handed.{LeadsToFound}
 use Rattle.walks_agree.specs.Scene.{IsMatched, Scene}
 use Rattle.walks_agree.specs.Standing.{FoundStands, likeness}

@@ -3,20 +3,20 @@ use Rattle.std.specs.FinMap as map
 use Rattle.std.proofs.Common.{◌≡◌, ℕ, ◌&&◌, List, ◌∷◌, refl, sym, ap, ◌∙◌, []}
 use Rattle.std.specs.Option.{option_and_then, option_map_or}
 use Rattle.std.specs.Prelude.{map as map_list, sum}
-use Rattle.pr_base.specs.declared.path.WalkMode.TheVariants.{Look}
-use Rattle.rv_mem.specs.Layout.{Layout}
-use Rattle.kr_inode.specs.declared.user.User.{User}
-use Rattle.kr_inode.specs.declared.user.Right.TheVariants.{Search}
-use Rattle.kr_tree.specs.declared.place.Host.{Host}
-use Rattle.kr_tree.specs.declared.place.Host.TheVariants.{Node, Proc}
-use Rattle.kr_tree.specs.Holds.{with_fewer}
-use Rattle.kr_tree.specs.Tree.{Tree, file_of, is_file}
-use Rattle.kr_view.specs.Walk.{place_walk}
-use Rattle.kr_exec.specs.Finding.{is_program}
-use Rattle.kr_exec.specs.Interpreters.{bytes_at}
-use Rattle.kr_model.specs.Bare.{bare_process}
-use Rattle.kr_model.specs.Known.{pages_in_all}
-use Rattle.kr_model.specs.State.{Image, Process, State, image_layout}
+use Rattle.kr_first.specs.pr_base.declared.path.WalkMode.TheVariants.{Look}
+use Rattle.kr_first.specs.rv_mem.Layout.{Layout}
+use Rattle.kr_first.specs.kr_inode.declared.user.User.{User}
+use Rattle.kr_first.specs.kr_inode.declared.user.Right.TheVariants.{Search}
+use Rattle.walks_bare.specs.kr_tree.declared.place.Host.{Host}
+use Rattle.walks_bare.specs.kr_tree.declared.place.Host.TheVariants.{Node, Proc}
+use Rattle.walks_bare.specs.kr_tree.Holds.{with_fewer}
+use Rattle.walks_bare.specs.kr_tree.Tree.{Tree, file_of, is_file}
+use Rattle.walks_agree.specs.kr_view.Walk.{place_walk}
+use Rattle.kr_first.specs.kr_exec.Finding.{is_program}
+use Rattle.kr_first.specs.kr_exec.Interpreters.{bytes_at}
+use Rattle.walks_bare.specs.kr_model.Bare.{bare_process}
+use Rattle.walks_bare.specs.kr_model.Known.{pages_in_all}
+use Rattle.walks_bare.specs.kr_model.State.{Image, Process, State, image_layout}
 use Rattle.walks_bare.specs.Alike.{AreEqualButForMounts}
 use Rattle.walks_bare.specs.OneMount.{IsInOneMount}
 use Rattle.walks_bare.proofs.OneMountLemmas.{plain_walks_are_host_walks}

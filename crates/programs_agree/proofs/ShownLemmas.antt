@@ -2,25 +2,25 @@
 use Rattle.std.proofs.Common.{◌≡◌, ℕ, List, Option, Some, None, Result, Ok, Err, refl, ap, ◌∙◌}
 use Rattle.std.specs.Bool.{if◌then◌else◌}
 use Rattle.std.specs.Prelude.{take}
-use Rattle.pr_base.specs.declared.errno.Errno.{Errno}
-use Rattle.pr_base.specs.declared.errno.Errno.TheVariants.{E2BIG, EACCES}
-use Rattle.pr_base.specs.declared.path.WalkMode.TheVariants.{Look}
-use Rattle.kr_calls.specs.Expansion.{Expanded, Finding, bytes_with_ends, expanded, most_scripts}
-use Rattle.kr_tree.specs.declared.place.Place.{Place}
-use Rattle.kr_view.specs.Answers.{told}
-use Rattle.kr_view.specs.Component.{Surroundings}
-use Rattle.kr_view.specs.View.{plain}
-use Rattle.kr_view.specs.Walk.{PlaceTarget, place_walk}
-use Rattle.kr_view.specs.declared.target.Target.{Target}
-use Rattle.kr_exec.specs.Exec.{after_scripts, are_too_big, exec_plan, file_plan, plan_at, unless_broken}
-use Rattle.kr_exec.specs.Finding.{if_program, is_program_found, program_at}
-use Rattle.kr_exec.specs.Interpreters.{head_of, programs, told_program}
-use Rattle.kr_model.specs.HostView.{host_around_of}
-use Rattle.kr_model.specs.ProcessDirectory.{around_of}
-use Rattle.kr_model.specs.State.{Image, State}
-use Rattle.kr_model.specs.Walks.{and_then}
-use Rattle.elf_read.specs.Plans.{plan_of}
-use Rattle.elf_read.specs.Rules.{first_broken}
+use Rattle.kr_first.specs.pr_base.declared.errno.Errno.{Errno}
+use Rattle.kr_first.specs.pr_base.declared.errno.Errno.TheVariants.{E2BIG, EACCES}
+use Rattle.kr_first.specs.pr_base.declared.path.WalkMode.TheVariants.{Look}
+use Rattle.pt_script.specs.kr_calls.Expansion.{Expanded, Finding, bytes_with_ends, expanded, most_scripts}
+use Rattle.walks_bare.specs.kr_tree.declared.place.Place.{Place}
+use Rattle.walks_agree.specs.kr_view.Answers.{told}
+use Rattle.walks_agree.specs.kr_view.Component.{Surroundings}
+use Rattle.walks_agree.specs.kr_view.View.{plain}
+use Rattle.walks_agree.specs.kr_view.Walk.{PlaceTarget, place_walk}
+use Rattle.walks_agree.specs.kr_view.declared.target.Target.{Target}
+use Rattle.kr_first.specs.kr_exec.Exec.{after_scripts, are_too_big, exec_plan, file_plan, plan_at, unless_broken}
+use Rattle.kr_first.specs.kr_exec.Finding.{if_program, is_program_found, program_at}
+use Rattle.kr_first.specs.kr_exec.Interpreters.{head_of, programs, told_program}
+use Rattle.walks_bare.specs.kr_model.HostView.{host_around_of}
+use Rattle.walks_bare.specs.kr_model.ProcessDirectory.{around_of}
+use Rattle.walks_bare.specs.kr_model.State.{Image, State}
+use Rattle.walks_bare.specs.kr_model.Walks.{and_then}
+use Rattle.kr_first.specs.elf_read.Plans.{plan_of}
+use Rattle.kr_first.specs.elf_read.Rules.{first_broken}
 use Rattle.programs_agree.specs.Planning.{planned}
 use Rattle.programs_agree.specs.Executing.{IsShownAlike}
 

@@ -1,20 +1,20 @@
 -- A tracer knows the working directory of a process by its host name and its tag.
 use Rattle.std.proofs.Common.{◌≡◌, ◌||◌, ℕ, true, false, List, Some, ap, ◌∙◌, []}
 use Rattle.std.specs.Option.{option_and_then, option_map}
-use Rattle.pr_base.specs.Paths.{text_of}
-use Rattle.pr_base.specs.Texts.{Text}
-use Rattle.pt_args.specs.Bases.{tagged_text, working_text}
-use Rattle.pt_bind.specs.Binding.{guest_of}
-use Rattle.pt_bind.specs.Tags.{TagTable, tag_of}
-use Rattle.pt_bind.specs.declared.slot.Slot.TheVariants as slot
-use Rattle.kr_view.specs.Component.{is_directory_at}
-use Rattle.kr_view.specs.HostReach.{host_place}
-use Rattle.kr_view.specs.Living.{Each, HasSmallNumbers}
-use Rattle.kr_view.specs.View.{Row}
-use Rattle.kr_mounts.specs.Standing.{texts_of}
-use Rattle.kr_model.specs.HostView.{host_space}
-use Rattle.kr_model.specs.ProcessDirectory.{living_of, name_text}
-use Rattle.kr_model.specs.State.{Process, State, process}
+use Rattle.kr_first.specs.pr_base.Paths.{text_of}
+use Rattle.kr_first.specs.pr_base.Texts.{Text}
+use Rattle.pt_script.specs.pt_args.Bases.{tagged_text, working_text}
+use Rattle.walks_agree.specs.pt_bind.Binding.{guest_of}
+use Rattle.walks_agree.specs.pt_bind.Tags.{TagTable, tag_of}
+use Rattle.walks_agree.specs.pt_bind.declared.slot.Slot.TheVariants as slot
+use Rattle.walks_agree.specs.kr_view.Component.{is_directory_at}
+use Rattle.walks_agree.specs.kr_view.HostReach.{host_place}
+use Rattle.walks_agree.specs.kr_view.Living.{Each, HasSmallNumbers}
+use Rattle.walks_agree.specs.kr_view.View.{Row}
+use Rattle.walks_agree.specs.kr_mounts.Standing.{texts_of}
+use Rattle.walks_bare.specs.kr_model.HostView.{host_space}
+use Rattle.walks_bare.specs.kr_model.ProcessDirectory.{living_of, name_text}
+use Rattle.walks_bare.specs.kr_model.State.{Process, State, process}
 use Rattle.walks_agree.specs.Scene.{IsMatched}
 use Rattle.walks_agree.specs.Settled.{host_text}
 use Rattle.walks_agree.specs.States.{IsInUse}

@@ -1,28 +1,28 @@
 -- What execve(2) comes to on a kernel with mounts, and on a plain one that is handed what a tracer found.
 use Rattle.std.specs.Prelude.{◌≡◌, ℕ, false, List, Option, Some, Result, Ok, Err}
-use Rattle.pr_base.specs.declared.errno.Errno.{Errno}
-use Rattle.pr_base.specs.declared.path.WalkMode.TheVariants.{Look}
-use Rattle.rv_mem.specs.Actions.{AreEqualUnmarked, CarriedOut, carried_out}
-use Rattle.rv_mem.specs.Memory.{Memory}
-use Rattle.pt_bind.specs.Tags.{TagTable}
+use Rattle.kr_first.specs.pr_base.declared.errno.Errno.{Errno}
+use Rattle.kr_first.specs.pr_base.declared.path.WalkMode.TheVariants.{Look}
+use Rattle.kr_first.specs.rv_mem.Actions.{AreEqualUnmarked, CarriedOut, carried_out}
+use Rattle.kr_first.specs.rv_mem.Memory.{Memory}
+use Rattle.walks_agree.specs.pt_bind.Tags.{TagTable}
 use Rattle.pt_script.specs.Expanding.{expanded_from}
 use Rattle.pt_script.specs.declared.expansion.Expanded.{Expanded}
-use Rattle.kr_calls.specs.Expansion.{bytes_with_ends}
-use Rattle.kr_tree.specs.declared.place.Host.{Host}
-use Rattle.kr_tree.specs.declared.place.Place.{Place}
-use Rattle.kr_view.specs.View.{Row, plain}
-use Rattle.kr_view.specs.Walk.{place_walk}
-use Rattle.kr_exec.specs.Exec.{are_too_big}
-use Rattle.kr_exec.specs.Finding.{is_program}
-use Rattle.kr_exec.specs.Interpreters.{bytes_at}
-use Rattle.kr_exec.specs.Lists.{lists_at}
-use Rattle.kr_exec.specs.declared.lists.Lists.{Lists}
-use Rattle.kr_execve.specs.Execution.{Program, execution}
-use Rattle.kr_model.specs.Applied.{cwd_of}
-use Rattle.kr_model.specs.HostView.{host_around_of}
-use Rattle.kr_model.specs.Known.{pages_in_all}
-use Rattle.kr_model.specs.ProcessDirectory.{around_of}
-use Rattle.kr_model.specs.State.{Image, State, image_layout}
+use Rattle.pt_script.specs.kr_calls.Expansion.{bytes_with_ends}
+use Rattle.walks_bare.specs.kr_tree.declared.place.Host.{Host}
+use Rattle.walks_bare.specs.kr_tree.declared.place.Place.{Place}
+use Rattle.walks_agree.specs.kr_view.View.{Row, plain}
+use Rattle.walks_agree.specs.kr_view.Walk.{place_walk}
+use Rattle.kr_first.specs.kr_exec.Exec.{are_too_big}
+use Rattle.kr_first.specs.kr_exec.Finding.{is_program}
+use Rattle.kr_first.specs.kr_exec.Interpreters.{bytes_at}
+use Rattle.kr_first.specs.kr_exec.Lists.{lists_at}
+use Rattle.kr_first.specs.kr_exec.declared.lists.Lists.{Lists}
+use Rattle.kr_first.specs.kr_execve.Execution.{Program, execution}
+use Rattle.walks_bare.specs.kr_model.Applied.{cwd_of}
+use Rattle.walks_bare.specs.kr_model.HostView.{host_around_of}
+use Rattle.walks_bare.specs.kr_model.Known.{pages_in_all}
+use Rattle.walks_bare.specs.kr_model.ProcessDirectory.{around_of}
+use Rattle.walks_bare.specs.kr_model.State.{Image, State, image_layout}
 use Rattle.walks_agree.specs.Scene.{IsMatched}
 use Rattle.walks_agree.specs.States.{IsInUse}
 use Rattle.programs_agree.specs.Finding.{WorksAt, scene_here, space_here, texts_here}

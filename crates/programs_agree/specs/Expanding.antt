@@ -1,18 +1,18 @@
 -- Scripts that are expanded over two ways to find programs.
 use Rattle.std.specs.Prelude.{◌≡◌, ℕ, List, Option, Result, Ok, Err}
-use Rattle.pr_base.specs.declared.errno.Errno.{Errno}
-use Rattle.pt_bind.specs.Tags.{TagTable}
+use Rattle.kr_first.specs.pr_base.declared.errno.Errno.{Errno}
+use Rattle.walks_agree.specs.pt_bind.Tags.{TagTable}
 use Rattle.pt_script.specs.Programs as tracer
 use Rattle.pt_script.specs.declared.program.Program.{Program}
-use Rattle.kr_calls.specs.Expansion.{Expanded, Finding, expanded}
-use Rattle.kr_tree.specs.declared.place.Place.{Place}
-use Rattle.kr_view.specs.Answers.{told}
-use Rattle.kr_view.specs.View.{Row}
-use Rattle.kr_view.specs.Walk.{PlaceTarget}
-use Rattle.kr_view.specs.declared.target.Target.{Target}
-use Rattle.kr_exec.specs.Interpreters as kernel
-use Rattle.kr_model.specs.ProcessDirectory.{around_of}
-use Rattle.kr_model.specs.State.{State}
+use Rattle.pt_script.specs.kr_calls.Expansion.{Expanded, Finding, expanded}
+use Rattle.walks_bare.specs.kr_tree.declared.place.Place.{Place}
+use Rattle.walks_agree.specs.kr_view.Answers.{told}
+use Rattle.walks_agree.specs.kr_view.View.{Row}
+use Rattle.walks_agree.specs.kr_view.Walk.{PlaceTarget}
+use Rattle.walks_agree.specs.kr_view.declared.target.Target.{Target}
+use Rattle.kr_first.specs.kr_exec.Interpreters as kernel
+use Rattle.walks_bare.specs.kr_model.ProcessDirectory.{around_of}
+use Rattle.walks_bare.specs.kr_model.State.{State}
 use Rattle.walks_agree.specs.Scene.{IsMatched}
 use Rattle.programs_agree.specs.Finding.{IsSameProgram, WorksAt, scene_here, texts_here}
 

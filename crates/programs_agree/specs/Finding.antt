@@ -1,23 +1,23 @@
 -- A program that a kernel with mounts finds by a walk over places, and a tracer by one over guest texts.
 use Rattle.std.specs.Prelude.{◌≡◌, ℕ, true, List, Option, Some, Result, Ok, Err}
-use Rattle.pr_base.specs.Paths.{text_of}
-use Rattle.pr_base.specs.Texts.{Text}
-use Rattle.pr_base.specs.declared.errno.Errno.{Errno}
-use Rattle.pr_base.specs.declared.path.WalkMode.TheVariants.{Look}
-use Rattle.pt_bind.specs.Binding.{index_of}
-use Rattle.pt_bind.specs.Tags.{TagTable}
-use Rattle.pt_canon.specs.TextWalk.{TextSurroundings}
+use Rattle.kr_first.specs.pr_base.Paths.{text_of}
+use Rattle.kr_first.specs.pr_base.Texts.{Text}
+use Rattle.kr_first.specs.pr_base.declared.errno.Errno.{Errno}
+use Rattle.kr_first.specs.pr_base.declared.path.WalkMode.TheVariants.{Look}
+use Rattle.walks_agree.specs.pt_bind.Binding.{index_of}
+use Rattle.walks_agree.specs.pt_bind.Tags.{TagTable}
+use Rattle.walks_agree.specs.pt_canon.TextWalk.{TextSurroundings}
 use Rattle.pt_script.specs.Programs.{program_from}
 use Rattle.pt_script.specs.declared.program.Program.{Program}
-use Rattle.kr_tree.specs.declared.place.Place.{Place}
-use Rattle.kr_view.specs.Component.{Namespace, is_directory_at}
-use Rattle.kr_view.specs.View.{Row}
-use Rattle.kr_view.specs.Walk.{PlaceTarget}
-use Rattle.kr_mounts.specs.Standing.{texts_of}
-use Rattle.kr_exec.specs.Finding.{is_program, program_at}
-use Rattle.kr_exec.specs.Interpreters.{head_of}
-use Rattle.kr_model.specs.ProcessDirectory.{around_of, space_of}
-use Rattle.kr_model.specs.State.{State}
+use Rattle.walks_bare.specs.kr_tree.declared.place.Place.{Place}
+use Rattle.walks_agree.specs.kr_view.Component.{Namespace, is_directory_at}
+use Rattle.walks_agree.specs.kr_view.View.{Row}
+use Rattle.walks_agree.specs.kr_view.Walk.{PlaceTarget}
+use Rattle.walks_agree.specs.kr_mounts.Standing.{texts_of}
+use Rattle.kr_first.specs.kr_exec.Finding.{is_program, program_at}
+use Rattle.kr_first.specs.kr_exec.Interpreters.{head_of}
+use Rattle.walks_bare.specs.kr_model.ProcessDirectory.{around_of, space_of}
+use Rattle.walks_bare.specs.kr_model.State.{State}
 use Rattle.walks_agree.specs.Handed.{LeadsToFound}
 use Rattle.walks_agree.specs.Scene.{IsMatched, Scene, texts_in}
 use Rattle.walks_agree.specs.Settled.{host_text}

@@ -1,9 +1,9 @@
 -- What a first process computes on.
 use Rattle.std.specs.FinMap as map
 use Rattle.std.specs.Prelude.{◌≤◌}
-use Rattle.rv_mem.specs.Pages.{IsPlaced, IsWhole}
-use Rattle.kr_model.specs.MemoryRows.{process_pages}
-use Rattle.kr_model.specs.State.{Image}
+use Rattle.kr_first.specs.rv_mem.Pages.{IsPlaced, IsWhole}
+use Rattle.walks_bare.specs.kr_model.MemoryRows.{process_pages}
+use Rattle.walks_bare.specs.kr_model.State.{Image}
 
 -- its memory is one that a process can have
 pub record IsImage (image : Image) : Type 0 where

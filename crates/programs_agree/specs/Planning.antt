@@ -1,22 +1,22 @@
 -- What is planned of execve(2): a kernel with mounts plans by its own walks. A tracer expands the scripts, and hands the plain kernel
 -- the program that runs in the end, which is none, with its arguments; of these that kernel makes a plan of its own.
 use Rattle.std.specs.Prelude.{◌≡◌, ℕ, false, List, Option, Result, Ok, Err}
-use Rattle.pr_base.specs.declared.errno.Errno.{Errno}
-use Rattle.pt_bind.specs.Tags.{TagTable}
+use Rattle.kr_first.specs.pr_base.declared.errno.Errno.{Errno}
+use Rattle.walks_agree.specs.pt_bind.Tags.{TagTable}
 use Rattle.pt_script.specs.Expanding.{expanded_from}
 use Rattle.pt_script.specs.declared.expansion.Expanded.{Expanded}
-use Rattle.kr_calls.specs.Expansion.{bytes_with_ends}
-use Rattle.kr_tree.specs.declared.place.Place.{Place}
-use Rattle.kr_view.specs.Answers.{told}
-use Rattle.kr_view.specs.Component.{Surroundings}
-use Rattle.kr_view.specs.View.{Row}
-use Rattle.kr_exec.specs.Exec.{are_too_big, exec_plan}
-use Rattle.kr_exec.specs.Finding.{program_at}
-use Rattle.kr_exec.specs.declared.plan.ExecPlan.{ExecPlan}
-use Rattle.kr_model.specs.HostView.{host_around_of}
-use Rattle.kr_model.specs.ProcessDirectory.{around_of}
-use Rattle.kr_model.specs.State.{State}
-use Rattle.kr_model.specs.Walks.{and_then}
+use Rattle.pt_script.specs.kr_calls.Expansion.{bytes_with_ends}
+use Rattle.walks_bare.specs.kr_tree.declared.place.Place.{Place}
+use Rattle.walks_agree.specs.kr_view.Answers.{told}
+use Rattle.walks_agree.specs.kr_view.Component.{Surroundings}
+use Rattle.walks_agree.specs.kr_view.View.{Row}
+use Rattle.kr_first.specs.kr_exec.Exec.{are_too_big, exec_plan}
+use Rattle.kr_first.specs.kr_exec.Finding.{program_at}
+use Rattle.kr_first.specs.kr_exec.declared.plan.ExecPlan.{ExecPlan}
+use Rattle.walks_bare.specs.kr_model.HostView.{host_around_of}
+use Rattle.walks_bare.specs.kr_model.ProcessDirectory.{around_of}
+use Rattle.walks_bare.specs.kr_model.State.{State}
+use Rattle.walks_bare.specs.kr_model.Walks.{and_then}
 use Rattle.walks_agree.specs.Scene.{IsMatched}
 use Rattle.walks_agree.specs.States.{IsInUse}
 use Rattle.programs_agree.specs.Finding.{WorksAt, scene_here, space_here, texts_here}

@@ -1,28 +1,28 @@
 -- Where a path of execve(2) leads, whether a program stands there or not; and calls that are refused for their path, or for lists that
 -- can't be read, which a tracer leaves to the plain kernel.
 use Rattle.std.specs.Prelude.{◌≡◌, ◌≢◌, ℕ, List, [], Option, Some, Result, Ok, Err}
-use Rattle.pr_base.specs.Paths.{text_of}
-use Rattle.pr_base.specs.Texts.{Text}
-use Rattle.pr_base.specs.WalkFrame.{Target}
-use Rattle.pr_base.specs.declared.errno.Errno.{Errno}
-use Rattle.pr_base.specs.declared.errno.Errno.TheVariants.{EACCES}
-use Rattle.pr_base.specs.declared.path.WalkMode.TheVariants.{Look}
-use Rattle.rv_mem.specs.Actions.{carried_out}
-use Rattle.rv_mem.specs.Memory.{Memory}
-use Rattle.pt_args.specs.Walks.{and_then}
-use Rattle.pt_bind.specs.Binding.{index_of}
-use Rattle.pt_bind.specs.Tags.{TagTable}
-use Rattle.pt_canon.specs.TextWalk.{TextSurroundings}
-use Rattle.pt_canon.specs.declared.canon.Canon.{Canon}
+use Rattle.kr_first.specs.pr_base.Paths.{text_of}
+use Rattle.kr_first.specs.pr_base.Texts.{Text}
+use Rattle.kr_first.specs.pr_base.WalkFrame.{Target}
+use Rattle.kr_first.specs.pr_base.declared.errno.Errno.{Errno}
+use Rattle.kr_first.specs.pr_base.declared.errno.Errno.TheVariants.{EACCES}
+use Rattle.kr_first.specs.pr_base.declared.path.WalkMode.TheVariants.{Look}
+use Rattle.kr_first.specs.rv_mem.Actions.{carried_out}
+use Rattle.kr_first.specs.rv_mem.Memory.{Memory}
+use Rattle.pt_script.specs.pt_args.Walks.{and_then}
+use Rattle.walks_agree.specs.pt_bind.Binding.{index_of}
+use Rattle.walks_agree.specs.pt_bind.Tags.{TagTable}
+use Rattle.walks_agree.specs.pt_canon.TextWalk.{TextSurroundings}
+use Rattle.walks_agree.specs.pt_canon.declared.canon.Canon.{Canon}
 use Rattle.pt_script.specs.Programs.{base_from, canon_from, program_from}
-use Rattle.kr_tree.specs.declared.place.Place.{Place}
-use Rattle.kr_view.specs.View.{Row, plain}
-use Rattle.kr_view.specs.Walk.{PlaceTarget, place_walk}
-use Rattle.kr_mounts.specs.Standing.{texts_of}
-use Rattle.kr_execve.specs.Execution.{Program, execution}
-use Rattle.kr_model.specs.Applied.{cwd_of}
-use Rattle.kr_model.specs.ProcessDirectory.{around_of}
-use Rattle.kr_model.specs.State.{Image, State}
+use Rattle.walks_bare.specs.kr_tree.declared.place.Place.{Place}
+use Rattle.walks_agree.specs.kr_view.View.{Row, plain}
+use Rattle.walks_agree.specs.kr_view.Walk.{PlaceTarget, place_walk}
+use Rattle.walks_agree.specs.kr_mounts.Standing.{texts_of}
+use Rattle.kr_first.specs.kr_execve.Execution.{Program, execution}
+use Rattle.walks_bare.specs.kr_model.Applied.{cwd_of}
+use Rattle.walks_bare.specs.kr_model.ProcessDirectory.{around_of}
+use Rattle.walks_bare.specs.kr_model.State.{Image, State}
 use Rattle.walks_agree.specs.Handed.{BothEnd, LeadsToFound}
 use Rattle.walks_agree.specs.Scene.{IsMatched}
 use Rattle.walks_agree.specs.Settled.{host_text}

@@ -1,6 +1,6 @@
 -- Two states that are equal but for mounts, the second that of a plain kernel, are shown alike.
 use Rattle.std.specs.Prelude.{ℕ}
-use Rattle.kr_model.specs.State.{Image, State}
+use Rattle.walks_bare.specs.kr_model.State.{Image, State}
 use Rattle.walks_bare.specs.Alike.{AreEqualButForMounts}
 use Rattle.walks_bare.specs.OneMount.{IsInOneMount}
 use Rattle.programs_agree.specs.Executing.{IsShownAlike}

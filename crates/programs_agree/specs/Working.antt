@@ -1,12 +1,12 @@
 -- The working directory of a process, as a tracer knows it.
 use Rattle.std.specs.Prelude.{◌≡◌, ℕ, true, List, Some}
-use Rattle.pt_args.specs.Bases.{working_text}
-use Rattle.pt_bind.specs.Tags.{TagTable}
-use Rattle.kr_view.specs.Component.{is_directory_at}
-use Rattle.kr_view.specs.Living.{Each, HasSmallNumbers}
-use Rattle.kr_view.specs.View.{Row}
-use Rattle.kr_model.specs.ProcessDirectory.{living_of}
-use Rattle.kr_model.specs.State.{Process, State, process}
+use Rattle.pt_script.specs.pt_args.Bases.{working_text}
+use Rattle.walks_agree.specs.pt_bind.Tags.{TagTable}
+use Rattle.walks_agree.specs.kr_view.Component.{is_directory_at}
+use Rattle.walks_agree.specs.kr_view.Living.{Each, HasSmallNumbers}
+use Rattle.walks_agree.specs.kr_view.View.{Row}
+use Rattle.walks_bare.specs.kr_model.ProcessDirectory.{living_of}
+use Rattle.walks_bare.specs.kr_model.State.{Process, State, process}
 use Rattle.walks_agree.specs.Scene.{IsMatched}
 use Rattle.walks_agree.specs.States.{ArePlaced}
 use Rattle.programs_agree.specs.Finding.{WorksAt, scene_here, texts_here}

@@ -4,12 +4,12 @@ use Rattle.std.specs.Prelude.{nat_eq}
 use Rattle.std.specs.List.{All}
 use Rattle.std.proofs.lemmas.Bool.{eq-eqb, ne_eqb}
 use Rattle.std.proofs.lemmas.List.Elements.{All-head, All-tail}
-use Rattle.rv_mem.specs.Memory.{text_after, text_of}
-use Rattle.rv_mem.specs.Pages.{Pages, IsWhole, allows, byte_at, written}
-use Rattle.rv_mem.specs.declared.rights.Use.TheVariants.{Read}
-use Rattle.rv_mem.proofs.AccessLemmas.{contains_allowed}
-use Rattle.rv_mem.proofs.AddressLemmas.{allows-written, byte_at-written_in, byte_at-written_other}
-use Rattle.rv_mem.proofs.SpaceLemmas.{IsWhole-written}
+use Rattle.kr_calls.specs.rv_mem.Memory.{text_after, text_of}
+use Rattle.kr_calls.specs.rv_mem.Pages.{Pages, IsWhole, allows, byte_at, written}
+use Rattle.kr_calls.specs.rv_mem.declared.rights.Use.TheVariants.{Read}
+use Rattle.kr_calls.proofs.rv_mem.AccessLemmas.{contains_allowed}
+use Rattle.kr_calls.proofs.rv_mem.AddressLemmas.{allows-written, byte_at-written_in, byte_at-written_other}
+use Rattle.kr_calls.proofs.rv_mem.SpaceLemmas.{IsWhole-written}
 use Rattle.pt_args.specs.Laws.{room_of, StandBetween, poked, IsPathText, TextsAreReadBack}
 use Rattle.pt_args.specs.Shelving.{address_below, shelved, with_zero}
 use Rattle.pt_args.proofs.ShelfLemmas.{fits_below, not_far_below, stand_between}

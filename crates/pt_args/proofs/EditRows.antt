@@ -5,14 +5,14 @@ use Rattle.std.specs.FinMap as map
 use Rattle.std.specs.Prelude.{Bool, ℤ, codes, if◌then◌else◌}
 use Rattle.std.specs.List.{list_any}
 use Rattle.std.specs.Str.{bytes_eq}
-use Rattle.pr_base.specs.MountText.{MountText}
-use Rattle.pr_base.specs.WalkFrame.{walk_on}
-use Rattle.pr_base.specs.declared.errno.Errno.{Errno}
-use Rattle.pr_base.specs.declared.errno.Errno.TheVariants.{EACCES, EBUSY, EFAULT, EINVAL, EISDIR, ENOENT}
-use Rattle.pr_base.specs.declared.peeks.BaseKind.TheVariants as base
-use Rattle.pr_base.specs.declared.peeks.PeekKind.{PeekKind}
-use Rattle.pr_base.specs.declared.peeks.PeekKind.TheVariants as kind
-use Rattle.pt_bind.specs.Binding.{names_of}
+use Rattle.pt_canon.specs.pr_base.MountText.{MountText}
+use Rattle.pt_canon.specs.pr_base.WalkFrame.{walk_on}
+use Rattle.pt_canon.specs.pr_base.declared.errno.Errno.{Errno}
+use Rattle.pt_canon.specs.pr_base.declared.errno.Errno.TheVariants.{EACCES, EBUSY, EFAULT, EINVAL, EISDIR, ENOENT}
+use Rattle.pt_canon.specs.pr_base.declared.peeks.BaseKind.TheVariants as base
+use Rattle.pt_canon.specs.pr_base.declared.peeks.PeekKind.{PeekKind}
+use Rattle.pt_canon.specs.pr_base.declared.peeks.PeekKind.TheVariants as kind
+use Rattle.pt_canon.specs.pt_bind.Binding.{names_of}
 use Rattle.pt_canon.specs.TextWalk.{TextSurroundings, look_text, seen_text}
 use Rattle.kr_calls.specs.declared.request.Request.{Request}
 use Rattle.kr_calls.specs.declared.request.Request.TheVariants as call

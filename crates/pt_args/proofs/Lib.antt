@@ -1,3 +1,6 @@
+pub use Rattle.kr_calls.proofs.rv_mem as rv_mem
+pub use Rattle.kr_calls.proofs as kr_calls
+pub use Rattle.pt_canon.proofs.pt_bind as pt_bind
 mod BackLemmas
 mod EditRows
 mod NamedLemmas

@@ -3,11 +3,11 @@ use Rattle.std.proofs.Common.{◌≡◌, ◌≢◌, ℕ, ◌≤◌, ◌+◌, ◌
 use Rattle.std.specs.List.{All}
 use Rattle.std.proofs.lemmas.List.{length-append, length-drop, append_assoc}
 use Rattle.std.proofs.lemmas.List.Elements.{All-nil, All-cons, All-head, All-tail}
-use Rattle.pr_base.specs.Paths.{slash, IsPart, AreParts, below_root, text_of}
-use Rattle.pr_base.specs.Texts.{Text}
-use Rattle.pt_bind.specs.Binding.{IsWritten, names_of}
-use Rattle.pt_bind.proofs.ByteLemmas.{below_short, below_some, names_written, spelled_parts}
-use Rattle.pt_bind.proofs.RowLemmas.{drop_front}
+use Rattle.pt_canon.specs.pr_base.Paths.{slash, IsPart, AreParts, below_root, text_of}
+use Rattle.pt_canon.specs.pr_base.Texts.{Text}
+use Rattle.pt_canon.specs.pt_bind.Binding.{IsWritten, names_of}
+use Rattle.pt_canon.proofs.pt_bind.ByteLemmas.{below_short, below_some, names_written, spelled_parts}
+use Rattle.pt_canon.proofs.pt_bind.RowLemmas.{drop_front}
 use Rattle.pt_args.specs.Parting.{IsParted}
 
 -- the root alone has one byte

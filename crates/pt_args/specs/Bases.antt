@@ -2,15 +2,15 @@
 -- an open directory, which its tag and its host name give.
 use Rattle.std.specs.Prelude.{ℕ, ◌==◌, Bool, false, ℤ, pos, negsuc, List, [], ◌∷◌, Option, Some, None, Result, Ok, Err, if◌then◌else◌}
 use Rattle.std.specs.Option.{option_map, option_and_then}
-use Rattle.pr_base.specs.MountText.{MountText}
-use Rattle.pr_base.specs.Paths.{slash, is_absolute, text_of}
-use Rattle.pr_base.specs.declared.errno.Errno.{Errno}
-use Rattle.pr_base.specs.declared.errno.Errno.TheVariants.{ENOENT}
-use Rattle.pr_base.specs.declared.peeks.BaseKind.{BaseKind}
-use Rattle.pr_base.specs.declared.peeks.BaseKind.TheVariants as kind
-use Rattle.pt_bind.specs.Binding.{guest_of, names_of}
-use Rattle.pt_bind.specs.Tags.{tag_of}
-use Rattle.pt_bind.specs.declared.slot.Slot.TheVariants as slot
+use Rattle.pt_canon.specs.pr_base.MountText.{MountText}
+use Rattle.pt_canon.specs.pr_base.Paths.{slash, is_absolute, text_of}
+use Rattle.pt_canon.specs.pr_base.declared.errno.Errno.{Errno}
+use Rattle.pt_canon.specs.pr_base.declared.errno.Errno.TheVariants.{ENOENT}
+use Rattle.pt_canon.specs.pr_base.declared.peeks.BaseKind.{BaseKind}
+use Rattle.pt_canon.specs.pr_base.declared.peeks.BaseKind.TheVariants as kind
+use Rattle.pt_canon.specs.pt_bind.Binding.{guest_of, names_of}
+use Rattle.pt_canon.specs.pt_bind.Tags.{tag_of}
+use Rattle.pt_canon.specs.pt_bind.declared.slot.Slot.TheVariants as slot
 use Rattle.pt_canon.specs.TextWalk.{TextSurroundings}
 use Rattle.kr_calls.specs.PathTable.{PathUse}
 

@@ -1,9 +1,9 @@
 -- Laws of edits and of the shelf.
 use Rattle.std.specs.Prelude.{◌≡◌, ◌≢◌, ℕ, ◌+◌, ◌-◌, ◌%◌, ◌<◌, ◌≤◌, true, Bool, List, [], ◌∷◌, length, map, Some, None, Ok, ◌⊎◌}
 use Rattle.std.specs.List.{All}
-use Rattle.rv_mem.specs.Memory.{text_of}
-use Rattle.rv_mem.specs.Pages.{Pages, IsWhole, allows, written}
-use Rattle.rv_mem.specs.declared.rights.Use.TheVariants.{Read}
+use Rattle.kr_calls.specs.rv_mem.Memory.{text_of}
+use Rattle.kr_calls.specs.rv_mem.Pages.{Pages, IsWhole, allows, written}
+use Rattle.kr_calls.specs.rv_mem.declared.rights.Use.TheVariants.{Read}
 use Rattle.pt_canon.specs.TextWalk.{TextSurroundings}
 use Rattle.kr_calls.specs.PathTable.{PathUse, path_at}
 use Rattle.kr_calls.specs.declared.request.Request.{Request}

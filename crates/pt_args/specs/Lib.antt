@@ -1,3 +1,7 @@
+pub use Rattle.kr_calls.specs.rv_mem as rv_mem
+pub use Rattle.kr_calls.specs as kr_calls
+pub use Rattle.pt_canon.specs.pt_bind as pt_bind
+pub use Rattle.pt_canon.specs as pt_canon
 pub mod Bases
 pub mod Edits
 pub mod Laws

@@ -1,7 +1,7 @@
 -- Guest texts by their last names.
 use Rattle.std.specs.Prelude.{◌≡◌, ℕ, List, ◌∷◌}
-use Rattle.pr_base.specs.Paths.{IsPart}
-use Rattle.pt_bind.specs.Binding.{IsWritten, names_of}
+use Rattle.pt_canon.specs.pr_base.Paths.{IsPart}
+use Rattle.pt_canon.specs.pt_bind.Binding.{IsWritten, names_of}
 
 -- the text above a text and its last name
 pub record IsParted (text dir name : List ℕ) : Type 0 where

@@ -1,9 +1,9 @@
 -- What becomes of the paths of a call, or the error that cancels it: the walks, the first path before the second, then the
 -- texts in place of the paths, then the mount points.
 use Rattle.std.specs.Prelude.{ℕ, Bool, true, false, List, Option, Some, None, Result, Ok, Err}
-use Rattle.pr_base.specs.MountText.{MountText}
-use Rattle.pr_base.specs.declared.errno.Errno.{Errno}
-use Rattle.pr_base.specs.declared.errno.Errno.TheVariants.{EBUSY}
+use Rattle.pt_canon.specs.pr_base.MountText.{MountText}
+use Rattle.pt_canon.specs.pr_base.declared.errno.Errno.{Errno}
+use Rattle.pt_canon.specs.pr_base.declared.errno.Errno.TheVariants.{EBUSY}
 use Rattle.pt_canon.specs.TextWalk.{TextSurroundings}
 use Rattle.kr_calls.specs.PathTable.{PathUse, path_at}
 use Rattle.kr_calls.specs.declared.request.Request.{Request}

@@ -1,11 +1,11 @@
 -- Calls that are cancelled with EBUSY, since they would remove or rename a mount point. The plain kernel has no mounts and
 -- wouldn't refuse them.
 use Rattle.std.specs.Prelude.{Bool, false, ◌&&◌, ◌||◌, List, [], ◌∷◌}
-use Rattle.pr_base.specs.MountText.{MountText}
-use Rattle.pr_base.specs.Texts.{Text}
-use Rattle.pr_base.specs.declared.path.Last.{Last}
-use Rattle.pr_base.specs.declared.path.Last.TheVariants as last
-use Rattle.pt_bind.specs.Binding.{is_point, names_of}
+use Rattle.pt_canon.specs.pr_base.MountText.{MountText}
+use Rattle.pt_canon.specs.pr_base.Texts.{Text}
+use Rattle.pt_canon.specs.pr_base.declared.path.Last.{Last}
+use Rattle.pt_canon.specs.pr_base.declared.path.Last.TheVariants as last
+use Rattle.pt_canon.specs.pt_bind.Binding.{is_point, names_of}
 use Rattle.pt_canon.specs.declared.canon.Canon.{Canon}
 use Rattle.kr_calls.specs.declared.request.Request.{Request}
 use Rattle.kr_calls.specs.declared.request.Request.TheVariants as call

@@ -1,15 +1,15 @@
 -- What a path of a call is for, and the text that takes its place, by where its walk over guest texts leads.
 use Rattle.std.specs.Prelude.{ℕ, Bool, true, false, List, [], ◌∷◌, ◌++◌, Result, Ok, Err, if◌then◌else◌}
-use Rattle.pr_base.specs.MountText.{MountText}
-use Rattle.pr_base.specs.Paths.{slash, dot, dot_dot, text_of}
-use Rattle.pr_base.specs.Texts.{Text}
-use Rattle.pr_base.specs.declared.errno.Errno.{Errno}
-use Rattle.pr_base.specs.declared.errno.Errno.TheVariants.{EISDIR}
-use Rattle.pr_base.specs.declared.path.Last.{Last}
-use Rattle.pr_base.specs.declared.path.Last.TheVariants as last
-use Rattle.pr_base.specs.declared.path.WalkMode.{WalkMode}
-use Rattle.pr_base.specs.declared.path.WalkMode.TheVariants as mode
-use Rattle.pt_bind.specs.Binding.{host_of, names_of}
+use Rattle.pt_canon.specs.pr_base.MountText.{MountText}
+use Rattle.pt_canon.specs.pr_base.Paths.{slash, dot, dot_dot, text_of}
+use Rattle.pt_canon.specs.pr_base.Texts.{Text}
+use Rattle.pt_canon.specs.pr_base.declared.errno.Errno.{Errno}
+use Rattle.pt_canon.specs.pr_base.declared.errno.Errno.TheVariants.{EISDIR}
+use Rattle.pt_canon.specs.pr_base.declared.path.Last.{Last}
+use Rattle.pt_canon.specs.pr_base.declared.path.Last.TheVariants as last
+use Rattle.pt_canon.specs.pr_base.declared.path.WalkMode.{WalkMode}
+use Rattle.pt_canon.specs.pr_base.declared.path.WalkMode.TheVariants as mode
+use Rattle.pt_canon.specs.pt_bind.Binding.{host_of, names_of}
 use Rattle.pt_canon.specs.declared.canon.Canon.{Canon}
 use Rattle.kr_calls.specs.declared.request.Request.{Request}
 use Rattle.kr_calls.specs.declared.request.Request.TheVariants as call

@@ -1,8 +1,8 @@
 -- Where a path of a call leads, by the tracer's walk over guest texts.
 use Rattle.std.specs.Prelude.{ℕ, Bool, IsTrue, List, [], ◌∷◌, Option, Some, None, Result, Ok, Err}
-use Rattle.pr_base.specs.Paths.{is_absolute}
-use Rattle.pr_base.specs.declared.errno.Errno.{Errno}
-use Rattle.pt_bind.specs.Binding.{IsWritten, names_of}
+use Rattle.pt_canon.specs.pr_base.Paths.{is_absolute}
+use Rattle.pt_canon.specs.pr_base.declared.errno.Errno.{Errno}
+use Rattle.pt_canon.specs.pt_bind.Binding.{IsWritten, names_of}
 use Rattle.pt_canon.specs.Canon.{canon_of}
 use Rattle.pt_canon.specs.TextWalk.{TextSurroundings}
 use Rattle.pt_canon.specs.declared.canon.Canon.{Canon}

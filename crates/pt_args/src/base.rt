@@ -1,14 +1,14 @@
 //! Where the paths of a call begin.
 ghost use Rattle.std.specs.Prelude.{◌≡◌, IfOk, IfSome};
 ghost use Rattle.kr_calls.specs.PathTable.{path_use};
-ghost use Rattle.pt_bind.specs.Binding.{IsWritten, rows_of};
+ghost use Rattle.pt_canon.specs.pt_bind.Binding.{IsWritten, rows_of};
 ghost use Rattle.pt_canon.specs.Canon.{IsAnswer, texts_by};
 ghost use Rattle.pt_args.specs.Bases.{base_of, descriptor_base, descriptor_number, is_working_directory, or_lost, tagged_text, working_base, working_text};
 
 use kr_calls::PathArg;
-use pr_base::{BaseKind, Bytes, Errno, NoMemory, Peeks, components};
-use pt_bind::{Table, Tags};
 use pt_canon::WalkErr;
+use pt_canon::below::pr_base::{BaseKind, Bytes, Errno, NoMemory, Peeks, components};
+use pt_canon::below::pt_bind::{Table, Tags};
 use std::alloc::Global;
 
 /// AT_FDCWD of openat(2): a relative path is taken from the working directory.

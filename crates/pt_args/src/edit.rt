@@ -1,7 +1,7 @@
 //! What the plain kernel is shown of a call in place of what its caller passed.
 ghost use Rattle.std.specs.Prelude.{◌≡◌, ℕ, List, [], ◌∷◌, ◌++◌, OnOk, OnErr};
 
-use pr_base::{Bytes, Errno, NoMemory};
+use pt_canon::below::pr_base::{Bytes, Errno, NoMemory};
 use std::alloc::Global;
 use std::marker::Model;
 

@@ -8,8 +8,8 @@ use crate::edit::{Edit, Swaps};
 use crate::plan::{Plan, Swapped, plan_of};
 use crate::shelf::Shelf;
 use kr_calls::Request;
-use pr_base::{Errno, NoMemory, Peeks};
-use pt_bind::Tags;
+use pt_canon::below::pr_base::{Errno, NoMemory, Peeks};
+use pt_canon::below::pt_bind::Tags;
 use pt_canon::{WalkErr, Walker};
 use std::alloc::Global;
 

@@ -2,6 +2,7 @@
 #![tactic(auto)]
 
 pub mod base;
+pub mod below;
 pub mod edit;
 pub mod entry;
 pub mod laws;

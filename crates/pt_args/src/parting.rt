@@ -1,8 +1,8 @@
 //! Guest texts by their last names.
 ghost use Rattle.std.specs.Prelude.{◌≡◌, ◌≢◌, ℕ, ◌≤◌, List, [], ◌∷◌, ◌++◌, length, MatchOption};
 ghost use Rattle.std.specs.List.{All};
-ghost use Rattle.pr_base.specs.Paths.{slash};
-ghost use Rattle.pt_bind.specs.Binding.{IsWritten, names_of};
+ghost use Rattle.pt_canon.specs.pr_base.Paths.{slash};
+ghost use Rattle.pt_canon.specs.pt_bind.Binding.{IsWritten, names_of};
 ghost use Rattle.pt_args.specs.Parting.{IsParted};
 
 /// The text above a text and the text's last name; `None` exactly for the root.

@@ -1,7 +1,7 @@
 //! Which texts take the places of a call's paths, before they are put anywhere.
 ghost use Rattle.std.specs.Prelude.{◌≡◌};
 ghost use Rattle.kr_calls.specs.PathTable.{path_use};
-ghost use Rattle.pt_bind.specs.Binding.{rows_of};
+ghost use Rattle.pt_canon.specs.pt_bind.Binding.{rows_of};
 ghost use Rattle.pt_canon.specs.Canon.{IsAnswer, texts_by};
 ghost use Rattle.pt_args.specs.Plans.{plan_both, plan_first, plan_of, plan_one, plan_second, swap_of};
 ghost use Rattle.pt_args.specs.Walks.{IsReached};
@@ -10,8 +10,8 @@ use crate::point::{both_are_busy, one_is_busy};
 use crate::purpose::{opens, text_for};
 use crate::reached::{Reached, walk_path};
 use kr_calls::{Request, path_of};
-use pr_base::{Bytes, Errno, Peeks};
-use pt_bind::{Table, Tags};
+use pt_canon::below::pr_base::{Bytes, Errno, Peeks};
+use pt_canon::below::pt_bind::{Table, Tags};
 use pt_canon::{WalkErr, Walker};
 use std::alloc::Global;
 

@@ -1,14 +1,14 @@
 //! Calls that would take a mount point away.
 ghost use Rattle.std.specs.Prelude.{◌≡◌, ◌∷◌, IfOk};
-ghost use Rattle.pr_base.specs.Paths.{IsPart, below_root};
-ghost use Rattle.pt_bind.specs.Binding.{IsWritten, names_of, rows_of};
+ghost use Rattle.pt_canon.specs.pr_base.Paths.{IsPart, below_root};
+ghost use Rattle.pt_canon.specs.pt_bind.Binding.{IsWritten, names_of, rows_of};
 ghost use Rattle.pt_args.specs.Points.{both_are_busy, is_at_point, is_point_text, one_is_busy};
 
 use crate::parting::parted;
 use kr_calls::Request;
-use pr_base::{Bytes, Last, NoMemory};
-use pt_bind::Table;
 use pt_canon::Canon;
+use pt_canon::below::pr_base::{Bytes, Last, NoMemory};
+use pt_canon::below::pt_bind::Table;
 
 /// Whether a call with one path would remove a mount point.
 pub(crate) fn one_is_busy(table: &Table, request: &Request, canon: &Canon) -> Result<bool, NoMemory>

@@ -1,13 +1,13 @@
 //! What the paths of calls are for, and the texts that take their places.
 ghost use Rattle.std.specs.Prelude.{◌≡◌, IfOk};
-ghost use Rattle.pt_bind.specs.Binding.{IsWritten, names_of, rows_of};
+ghost use Rattle.pt_canon.specs.pt_bind.Binding.{IsWritten, names_of, rows_of};
 ghost use Rattle.pt_canon.specs.Canon.{IsAnswer};
 ghost use Rattle.pt_args.specs.Purposes.{entry_swap, made_swap, named_path, opens, purpose_of, swap_for};
 
 use crate::parting::parted;
 use kr_calls::Request;
-use pr_base::{Bytes, Errno, Last, NoMemory, WalkMode};
-use pt_bind::Table;
+use pt_canon::below::pr_base::{Bytes, Errno, Last, NoMemory, WalkMode};
+use pt_canon::below::pt_bind::Table;
 use pt_canon::{Canon, WalkErr};
 use std::alloc::Global;
 

@@ -1,15 +1,15 @@
 //! Where the paths of a call lead.
 ghost use Rattle.std.specs.Prelude.{◌≡◌, Some, IfOk, IfSome};
 ghost use Rattle.kr_calls.specs.PathTable.{path_use};
-ghost use Rattle.pt_bind.specs.Binding.{IsWritten};
+ghost use Rattle.pt_canon.specs.pt_bind.Binding.{IsWritten};
 ghost use Rattle.pt_canon.specs.Canon.{IsAnswer, texts_by};
 ghost use Rattle.pt_args.specs.Walks.{walked, walked_from, IsReached};
 
 use crate::base::base_of;
 use crate::purpose::{Purpose, purpose_of};
 use kr_calls::PathArg;
-use pr_base::Peeks;
-use pt_bind::Tags;
+use pt_canon::below::pr_base::Peeks;
+use pt_canon::below::pt_bind::Tags;
 use pt_canon::laws::answers_are_of_their_texts;
 use pt_canon::{Canon, WalkErr, Walker};
 use std::alloc::Global;

@@ -3,7 +3,7 @@ ghost use Rattle.std.specs.Prelude.{◌≡◌, ◌+◌, ◌≤◌, [], IfOk, OnE
 ghost use Rattle.pt_args.specs.Shelving.{address_below, with_item, with_zero};
 
 use crate::edit::Pokes;
-use pr_base::{Bytes, NoMemory};
+use pt_canon::below::pr_base::{Bytes, NoMemory};
 use std::alloc::Global;
 
 /// Addresses of items are multiples of this.

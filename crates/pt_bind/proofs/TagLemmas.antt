@@ -7,12 +7,26 @@ use Rattle.std.specs.Ordering.{nat_cmp}
 use Rattle.pr_base.proofs.MapLemmas.{same_values, by_key, get-insert_same, get-insert_other, get-remove_same, get-remove_other}
 use Rattle.pt_bind.specs.declared.slot.Slot.{Slot}
 use Rattle.pt_bind.specs.declared.slot.Slot.TheVariants.{Cwd, Exe, Fd}
-use Rattle.pt_bind.specs.Tags.{Tagged, untagged, tag_at, with_slot, tags_of, TagsChange}
+use Rattle.pt_bind.specs.Tags.{Tagged, untagged, tag_at, with_slot, tags_of, with_tag, TagTable, TagsChange}
 
 -- what is there put once more
 pub same_insert : {X : Type 0} (m : map.FinMap nat_cmp X) (k : ℕ) (x : X) → map.get m k ≡ Some x → map.insert m k x ≡ m
 same_insert m k x e =
     same_values (map.insert m k x) m (by_key (λ q. map.get (map.insert m k x) q ≡ map.get m q) k (get-insert_same m k x ∙ sym e) (λ q away. get-insert_other m k x q away))
+
+-- what is put over another
+insert_over : {X : Type 0} (m : map.FinMap nat_cmp X) (k : ℕ) (x y : X) → map.insert (map.insert m k x) k y ≡ map.insert m k y
+insert_over m k x y =
+    same_values (map.insert (map.insert m k x) k y) (map.insert m k y)
+    (by_key (λ q. map.get (map.insert (map.insert m k x) k y) q ≡ map.get (map.insert m k y) q) k (get-insert_same (map.insert m k x) k y ∙ sym (get-insert_same m k y))
+    (λ q away. get-insert_other (map.insert m k x) k y q away ∙ get-insert_other m k x q away ∙ sym (get-insert_other m k y q away)))
+
+-- two tags of a process are set at once
+pub two_tags : (tags : TagTable) (pid cwd exe : ℕ) → with_tag (with_tag tags pid Cwd cwd) pid Exe exe ≡ map.insert tags pid (with_slot (with_slot (tags_of tags pid) Cwd cwd) Exe exe)
+two_tags tags pid cwd exe =
+    let own = with_slot (tags_of tags pid) Cwd cwd in
+    ap (λ o. map.insert (map.insert tags pid own) pid (with_slot (unwrap_or o untagged) Exe exe)) (get-insert_same tags pid own)
+    ∙ insert_over tags pid own (with_slot own Exe exe)
 
 -- a clause of an answer and what follows from it
 pub if_ok : {X E : Type 0} (r : Result X E) (P Q : X → Type 0) → ((x : X) → P x → Q x) → IfOk r P → IfOk r Q

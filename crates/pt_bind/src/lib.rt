@@ -1,6 +1,7 @@
 //! The texts under which a guest and its host see the same object, by a table of bindings.
 #![tactic(auto)]
 
+pub mod below;
 pub mod laws;
 pub mod slot;
 pub mod table;
@@ -11,6 +12,3 @@ mod text;
 pub use slot::Slot;
 pub use table::Table;
 pub use tags::Tags;
-
-#[cfg(test)]
-mod tests;

@@ -104,6 +104,19 @@ impl Tags {
         self.set(pid, Slot::Fd(fd), tag)
     }
 
+    /// Sets the tags with which a process begins: those of its working directory and of its executable. Where memory is wanting nothing
+    /// changes.
+    pub fn begin(&mut self, pid: u32, cwd: u32, exe: u32) -> Result<(), NoMemory>
+        ensures ok { OnOk result (self.new ≡ with_tag (with_tag self.old pid slot.Cwd cwd) pid slot.Exe exe) }
+        ensures err { OnErr result (self.new ≡ self.old) }
+    {
+        let mut tags = self.copy_of(pid)?;
+        tags.set(Slot::Cwd, cwd)?;
+        tags.set(Slot::Exe, exe)?;
+        self.by_pid.insert(pid, tags)?;
+        Ok(())
+    }
+
     /// The tags of a process once more.
     fn copy_of(&self, pid: u32) -> Result<Tagged, NoMemory>
         ensures { IfOk result (λ tags. tags ≡ tags_of self.now pid) }

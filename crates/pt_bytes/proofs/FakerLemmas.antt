@@ -2,16 +2,16 @@
 use Rattle.std.specs.FinMap as map
 use Rattle.std.proofs.Common.{Bool, true, false, cond, Option, Some, None, refl}
 use Rattle.std.specs.Prelude.{Err, Ok, Result}
-use Rattle.pr_base.specs.declared.errno.Errno.{Errno}
-use Rattle.kr_calls.specs.declared.request.Request.{Request}
-use Rattle.kr_turns.specs.Stopped.{Stopped}
-use Rattle.pt_ident.specs.Identity.{Effect, after_exec, effect, on_memory}
-use Rattle.pt_ident.specs.IdentityTable.{identity_at}
-use Rattle.pt_tracer.specs.Faking.{Faking, after_decoding, after_due, after_effect, answer_register, begin_program, entered, exited, has_answered_zero, number_register, show_identity, stack_register, without_due, word_of}
-use Rattle.pt_tracer.specs.Stopping.{after_request, decoded_at, memory_at, register_at, with_memory, with_register}
-use Rattle.pt_tracer.specs.declared.due.Due.{Due}
-use Rattle.pt_tracer.specs.declared.due.Due.TheVariants.{BeginsProgram, ForgivesOwner, ForgivesRoot, ShowsOwner, Tells}
-use Rattle.rv_mem.specs.Actions.{carried_out}
+use Rattle.pt_watched.specs.pr_base.declared.errno.Errno.{Errno}
+use Rattle.pt_watched.specs.kr_calls.declared.request.Request.{Request}
+use Rattle.kr_bytes.specs.kr_turns.Stopped.{Stopped}
+use Rattle.pt_watched.specs.pt_ident.Identity.{Effect, after_exec, effect, on_memory}
+use Rattle.pt_watched.specs.pt_ident.IdentityTable.{identity_at}
+use Rattle.pt_watched.specs.pt_tracer.Faking.{Faking, after_decoding, after_due, after_effect, answer_register, begin_program, entered, exited, has_answered_zero, number_register, show_identity, stack_register, without_due, word_of}
+use Rattle.pt_watched.specs.pt_tracer.Stopping.{after_request, decoded_at, memory_at, register_at, with_memory, with_register}
+use Rattle.pt_watched.specs.pt_tracer.declared.due.Due.{Due}
+use Rattle.pt_watched.specs.pt_tracer.declared.due.Due.TheVariants.{BeginsProgram, ForgivesOwner, ForgivesRoot, ShowsOwner, Tells}
+use Rattle.pt_watched.specs.rv_mem.Actions.{carried_out}
 use Rattle.kr_bytes.specs.Bytes.{HasBytes}
 use Rattle.pt_bytes.specs.Watchers.{FakersWatchBytes}
 use Rattle.pt_bytes.proofs.StopLemmas.{Fine, carried-keeps, effect-puts, forgiven-keeps, identity-puts, register-keeps, request-keeps, shown-keeps, uncalled-keeps}

@@ -1,3 +1,4 @@
+pub use Rattle.kr_bytes.proofs as kr_bytes
 pub mod FakerLemmas
 pub mod LookLemmas
 pub mod PeekLemmas

@@ -3,20 +3,20 @@ use Rattle.std.proofs.Common.{ℕ, Bool, true, false, List, [], ◌∷◌, cond,
 use Rattle.std.specs.Prelude.{Err, IfOk, IfSome, Ok, Result}
 use Rattle.std.specs.List.{AllByRecursion}
 use Rattle.std.specs.Option.{option_and_then}
-use Rattle.pr_base.specs.Paths.{Component, Dot, DotDot, Name, text_of}
-use Rattle.pr_base.specs.Texts.{Text}
-use Rattle.pr_base.specs.WalkFrame.{Fails, Jumps, Landing, Leads, Links, Missing}
-use Rattle.pr_base.specs.declared.errno.Errno.{Errno}
-use Rattle.pr_base.specs.declared.peeks.PeekKind.{PeekKind}
-use Rattle.pr_base.specs.declared.peeks.PeekKind.TheVariants as kind
-use Rattle.pt_bind.specs.Binding.{host_of, names_of}
-use Rattle.pt_bind.specs.Tags.{tag_of}
-use Rattle.pt_bind.specs.declared.slot.Slot.TheVariants as slot
-use Rattle.pt_canon.specs.ProcessLinks.{above, head_of, is_dir_kind, jump_at, landing_of, landing_of_guest, landing_of_name, link_at, link_guest, link_name, text_landing}
-use Rattle.pt_canon.specs.TextWalk.{SeenText, TextSurroundings, in_directory, inside_text, is_missing, itself_in, look_text, seen_error, seen_kind, seen_link, seen_text, where_found}
-use Rattle.pt_canon.specs.declared.link.ProcessLink.{ProcessLink}
-use Rattle.pt_canon.specs.declared.link.ProcessLink.TheVariants.{Cwd, Exe, Fd, Root}
-use Rattle.kr_tree.specs.Lawful.{AreBytes}
+use Rattle.pt_watched.specs.pr_base.Paths.{Component, Dot, DotDot, Name, text_of}
+use Rattle.pt_watched.specs.pr_base.Texts.{Text}
+use Rattle.pt_watched.specs.pr_base.WalkFrame.{Fails, Jumps, Landing, Leads, Links, Missing}
+use Rattle.pt_watched.specs.pr_base.declared.errno.Errno.{Errno}
+use Rattle.pt_watched.specs.pr_base.declared.peeks.PeekKind.{PeekKind}
+use Rattle.pt_watched.specs.pr_base.declared.peeks.PeekKind.TheVariants as kind
+use Rattle.pt_watched.specs.pt_bind.Binding.{host_of, names_of}
+use Rattle.pt_watched.specs.pt_bind.Tags.{tag_of}
+use Rattle.pt_watched.specs.pt_bind.declared.slot.Slot.TheVariants as slot
+use Rattle.pt_watched.specs.pt_canon.ProcessLinks.{above, head_of, is_dir_kind, jump_at, landing_of, landing_of_guest, landing_of_name, link_at, link_guest, link_name, text_landing}
+use Rattle.pt_watched.specs.pt_canon.TextWalk.{SeenText, TextSurroundings, in_directory, inside_text, is_missing, itself_in, look_text, seen_error, seen_kind, seen_link, seen_text, where_found}
+use Rattle.pt_watched.specs.pt_canon.declared.link.ProcessLink.{ProcessLink}
+use Rattle.pt_watched.specs.pt_canon.declared.link.ProcessLink.TheVariants.{Cwd, Exe, Fd, Root}
+use Rattle.kr_bytes.specs.kr_tree.Lawful.{AreBytes}
 use Rattle.kr_bytes.specs.Bytes.{AreAllBytes}
 use Rattle.kr_bytes.proofs.NameLemmas.{if-mapped, if-then}
 use Rattle.pt_bytes.proofs.PeekLemmas.{TellsBytes}

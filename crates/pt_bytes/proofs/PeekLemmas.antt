@@ -2,25 +2,25 @@
 use Rattle.std.proofs.Common.{◌≡◌, ℕ, Bool, true, false, List, [], Option, Some, None, refl}
 use Rattle.std.specs.Prelude.{Err, IfOk, IfSome, Ok, Result}
 use Rattle.std.specs.Option.{option_and_then, option_map, option_map_or}
-use Rattle.pr_base.specs.Peeks.{Peeked}
-use Rattle.pr_base.specs.declared.errno.Errno.{Errno}
-use Rattle.kr_inode.specs.declared.user.User.{User}
-use Rattle.kr_inode.specs.declared.user.Right.TheVariants.{Search}
-use Rattle.kr_tree.specs.Lawful.{AreBytes, HasBytes as TreeHasBytes, IsOfBytes}
-use Rattle.kr_tree.specs.Rights.{may}
-use Rattle.kr_tree.specs.Tree.{Body, Directory, Inode, ProcessDirectory, RegularFile, SymbolicLink, Tree, body, inode}
-use Rattle.kr_tree.specs.declared.place.Host.{Host}
-use Rattle.kr_tree.specs.declared.place.Host.TheVariants.{Node, Proc}
-use Rattle.kr_tree.specs.declared.place.Place.{Place}
-use Rattle.kr_tree.specs.declared.place.ProcAt.TheVariants.{Cwd, Dir, Exe, Fd, FdDir, Root, SelfLink}
-use Rattle.kr_view.specs.HostReach.{host_place}
-use Rattle.kr_view.specs.View.{plain, root_place}
-use Rattle.kr_view.specs.Walk.{PlaceTarget}
-use Rattle.kr_files.specs.declared.opened.Opened.{Opened}
-use Rattle.kr_model.specs.HostView.{base_name, base_text, cwd_name, exe_name, host_space, linked_text, open_name}
-use Rattle.kr_model.specs.Peeks.{answer_along, body_head, body_text, head_at, link_text_at, name_or_none, peeked_of, read_at, read_of}
-use Rattle.kr_model.specs.ProcessDirectory.{name_text, unplaced_text}
-use Rattle.kr_model.specs.State.{Image, State, opened}
+use Rattle.pt_watched.specs.pr_base.Peeks.{Peeked}
+use Rattle.pt_watched.specs.pr_base.declared.errno.Errno.{Errno}
+use Rattle.pt_watched.specs.kr_inode.declared.user.User.{User}
+use Rattle.pt_watched.specs.kr_inode.declared.user.Right.TheVariants.{Search}
+use Rattle.kr_bytes.specs.kr_tree.Lawful.{AreBytes, HasBytes as TreeHasBytes, IsOfBytes}
+use Rattle.kr_bytes.specs.kr_tree.Rights.{may}
+use Rattle.kr_bytes.specs.kr_tree.Tree.{Body, Directory, Inode, ProcessDirectory, RegularFile, SymbolicLink, Tree, body, inode}
+use Rattle.kr_bytes.specs.kr_tree.declared.place.Host.{Host}
+use Rattle.kr_bytes.specs.kr_tree.declared.place.Host.TheVariants.{Node, Proc}
+use Rattle.kr_bytes.specs.kr_tree.declared.place.Place.{Place}
+use Rattle.kr_bytes.specs.kr_tree.declared.place.ProcAt.TheVariants.{Cwd, Dir, Exe, Fd, FdDir, Root, SelfLink}
+use Rattle.kr_bytes.specs.kr_view.HostReach.{host_place}
+use Rattle.kr_bytes.specs.kr_view.View.{plain, root_place}
+use Rattle.kr_bytes.specs.kr_view.Walk.{PlaceTarget}
+use Rattle.kr_bytes.specs.kr_files.declared.opened.Opened.{Opened}
+use Rattle.kr_bytes.specs.kr_model.HostView.{base_name, base_text, cwd_name, exe_name, host_space, linked_text, open_name}
+use Rattle.kr_bytes.specs.kr_model.Peeks.{answer_along, body_head, body_text, head_at, link_text_at, name_or_none, peeked_of, read_at, read_of}
+use Rattle.kr_bytes.specs.kr_model.ProcessDirectory.{name_text, unplaced_text}
+use Rattle.kr_bytes.specs.kr_model.State.{Image, State, opened}
 use Rattle.kr_bytes.specs.Bytes.{HasBytes, TableHasBytes}
 use Rattle.kr_bytes.proofs.ListLemmas.{decimal-bytes, first-of}
 use Rattle.kr_bytes.proofs.LivingLemmas.{process-bytes}

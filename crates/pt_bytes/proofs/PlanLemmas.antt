@@ -3,44 +3,44 @@ use Rattle.std.proofs.Common.{◌≡◌, refl, ℕ, Bool, true, false, List, [],
 use Rattle.std.specs.Prelude.{Err, IfOk, IfSome, Ok, Result, map, min, nat_lt, pos}
 use Rattle.std.specs.List.{AllByRecursion, list_any}
 use Rattle.std.specs.Option.{option_map, unwrap_or}
-use Rattle.pr_base.specs.MountText.{MountText}
-use Rattle.pr_base.specs.Paths.{dot, dot_dot, is_absolute, slash, text_of}
-use Rattle.pr_base.specs.Texts.{Text}
-use Rattle.pr_base.specs.declared.errno.Errno.{Errno}
-use Rattle.pr_base.specs.declared.errno.Errno.TheVariants.{EFAULT, EISDIR, ENAMETOOLONG, ENOENT, ERANGE}
-use Rattle.pr_base.specs.declared.path.Last.{Last}
-use Rattle.pr_base.specs.declared.path.Last.TheVariants as last
-use Rattle.pr_base.specs.declared.path.WalkMode.TheVariants as mode
-use Rattle.pr_base.specs.declared.peeks.BaseKind.{BaseKind}
-use Rattle.pr_base.specs.declared.peeks.BaseKind.TheVariants as base_kind
-use Rattle.pr_base.specs.declared.peeks.PeekKind.{PeekKind}
-use Rattle.pr_base.specs.declared.peeks.PeekKind.TheVariants as kind
-use Rattle.pt_bind.specs.Binding.{guest_of, host_of, names_of}
-use Rattle.pt_bind.specs.Tags.{tag_of}
-use Rattle.pt_bind.specs.declared.slot.Slot.TheVariants as slot
-use Rattle.pt_canon.specs.Canon.{canon_of}
-use Rattle.pt_canon.specs.TextWalk.{TextSurroundings}
-use Rattle.pt_canon.specs.declared.canon.Canon.{Canon}
-use Rattle.kr_calls.specs.PathTable.{PathUse, path_at}
-use Rattle.kr_calls.specs.declared.request.Request.{Request}
-use Rattle.kr_calls.specs.declared.request.Request.TheVariants as call
-use Rattle.kr_tree.specs.Lawful.{AreBytes}
-use Rattle.pt_args.specs.Bases.{base_of, descriptor_base, descriptor_number, is_working_directory, numbered_base, or_lost, tagged_text, working_base, working_text}
-use Rattle.pt_args.specs.Edits.{both, edit_by, edit_of, is_long, item_of, put_edit, shelve}
-use Rattle.pt_args.specs.Plans.{first_walked, plan_behind, plan_both, plan_first, plan_from, plan_one, second_walked}
-use Rattle.pt_args.specs.Points.{both_are_busy, one_is_busy}
-use Rattle.pt_args.specs.Purposes.{entry_swap, made_swap, named_path, opens, own_path, swap_for}
-use Rattle.pt_args.specs.Shelving.{address_below, shelved, with_zero}
-use Rattle.pt_args.specs.Walks.{and_then, reached_at, walked, walked_along, walked_from}
-use Rattle.pt_args.specs.declared.edit.Edit.{Edit}
-use Rattle.pt_args.specs.declared.edit.Edit.TheVariants.{Cancel, Emulate, Pass, Swap}
-use Rattle.pt_args.specs.declared.purpose.Purpose.{Purpose}
-use Rattle.pt_args.specs.declared.purpose.Purpose.TheVariants.{LooksUp, MayMake, NamesEntry}
-use Rattle.pt_args.specs.declared.reached.Reached.{Reached}
-use Rattle.pt_results.specs.Answers.{cwd_answer, directory_answer, jump_answer, kind_answer, led_answer, nowhere_answer, path_answer, walked_answer}
-use Rattle.pt_results.specs.Numbers.{count_of}
+use Rattle.pt_watched.specs.pr_base.MountText.{MountText}
+use Rattle.pt_watched.specs.pr_base.Paths.{dot, dot_dot, is_absolute, slash, text_of}
+use Rattle.pt_watched.specs.pr_base.Texts.{Text}
+use Rattle.pt_watched.specs.pr_base.declared.errno.Errno.{Errno}
+use Rattle.pt_watched.specs.pr_base.declared.errno.Errno.TheVariants.{EFAULT, EISDIR, ENAMETOOLONG, ENOENT, ERANGE}
+use Rattle.pt_watched.specs.pr_base.declared.path.Last.{Last}
+use Rattle.pt_watched.specs.pr_base.declared.path.Last.TheVariants as last
+use Rattle.pt_watched.specs.pr_base.declared.path.WalkMode.TheVariants as mode
+use Rattle.pt_watched.specs.pr_base.declared.peeks.BaseKind.{BaseKind}
+use Rattle.pt_watched.specs.pr_base.declared.peeks.BaseKind.TheVariants as base_kind
+use Rattle.pt_watched.specs.pr_base.declared.peeks.PeekKind.{PeekKind}
+use Rattle.pt_watched.specs.pr_base.declared.peeks.PeekKind.TheVariants as kind
+use Rattle.pt_watched.specs.pt_bind.Binding.{guest_of, host_of, names_of}
+use Rattle.pt_watched.specs.pt_bind.Tags.{tag_of}
+use Rattle.pt_watched.specs.pt_bind.declared.slot.Slot.TheVariants as slot
+use Rattle.pt_watched.specs.pt_canon.Canon.{canon_of}
+use Rattle.pt_watched.specs.pt_canon.TextWalk.{TextSurroundings}
+use Rattle.pt_watched.specs.pt_canon.declared.canon.Canon.{Canon}
+use Rattle.pt_watched.specs.kr_calls.PathTable.{PathUse, path_at}
+use Rattle.pt_watched.specs.kr_calls.declared.request.Request.{Request}
+use Rattle.pt_watched.specs.kr_calls.declared.request.Request.TheVariants as call
+use Rattle.kr_bytes.specs.kr_tree.Lawful.{AreBytes}
+use Rattle.pt_watched.specs.pt_args.Bases.{base_of, descriptor_base, descriptor_number, is_working_directory, numbered_base, or_lost, tagged_text, working_base, working_text}
+use Rattle.pt_watched.specs.pt_args.Edits.{both, edit_by, edit_of, is_long, item_of, put_edit, shelve}
+use Rattle.pt_watched.specs.pt_args.Plans.{first_walked, plan_behind, plan_both, plan_first, plan_from, plan_one, second_walked}
+use Rattle.pt_watched.specs.pt_args.Points.{both_are_busy, one_is_busy}
+use Rattle.pt_watched.specs.pt_args.Purposes.{entry_swap, made_swap, named_path, opens, own_path, swap_for}
+use Rattle.pt_watched.specs.pt_args.Shelving.{address_below, shelved, with_zero}
+use Rattle.pt_watched.specs.pt_args.Walks.{and_then, reached_at, walked, walked_along, walked_from}
+use Rattle.pt_watched.specs.pt_args.declared.edit.Edit.{Edit}
+use Rattle.pt_watched.specs.pt_args.declared.edit.Edit.TheVariants.{Cancel, Emulate, Pass, Swap}
+use Rattle.pt_watched.specs.pt_args.declared.purpose.Purpose.{Purpose}
+use Rattle.pt_watched.specs.pt_args.declared.purpose.Purpose.TheVariants.{LooksUp, MayMake, NamesEntry}
+use Rattle.pt_watched.specs.pt_args.declared.reached.Reached.{Reached}
+use Rattle.pt_watched.specs.pt_results.Answers.{cwd_answer, directory_answer, jump_answer, kind_answer, led_answer, nowhere_answer, path_answer, walked_answer}
+use Rattle.pt_watched.specs.pt_results.Numbers.{count_of}
 use Rattle.pt_watched.specs.Planning.{answered, edit_for, has_shelf, rewritten, stack_at}
-use Rattle.pt_tracer.specs.Stopping.{Stopped}
+use Rattle.pt_watched.specs.pt_tracer.Stopping.{Stopped}
 use Rattle.kr_bytes.specs.Bytes.{AreAllBytes, GivesBytes}
 use Rattle.kr_bytes.proofs.ListLemmas.{first-of, joined}
 use Rattle.kr_bytes.proofs.NameLemmas.{if-mapped, if-then, text-bytes}

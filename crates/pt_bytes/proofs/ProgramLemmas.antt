@@ -2,29 +2,29 @@
 use Rattle.std.proofs.Common.{◌≡◌, ℕ, zero, suc, ◌+◌, ◌-◌, ◌<◌, List, [], ◌∷◌, ◌++◌, cond, length, nat_eq, take, arith, refl, Option, Some, None}
 use Rattle.std.specs.Prelude.{Err, IfOk, IfSome, Ok, Result, nat_lt}
 use Rattle.std.specs.Int.{to_le_bytes, w64}
-use Rattle.pr_base.specs.Paths.{is_absolute, slash}
-use Rattle.pr_base.specs.declared.errno.Errno.{Errno}
-use Rattle.pr_base.specs.declared.errno.Errno.TheVariants.{E2BIG, ELOOP, ENAMETOOLONG}
-use Rattle.pr_base.specs.declared.path.WalkMode.TheVariants.{Look}
-use Rattle.rv_mem.specs.Actions.{Done}
-use Rattle.kr_calls.specs.Expansion.{Expanded as Ended, Onward, bytes_with_ends, by_interpreter, by_line, expanded, is_script, is_too_big, most_scripts, new_args, runs}
-use Rattle.kr_calls.specs.Scripts.{script_of}
-use Rattle.kr_exec.specs.Lists as lists
-use Rattle.kr_exec.specs.Lists.{Trying, address_at, at_least_one, if_it_fits, most_bytes, most_texts, next_address}
-use Rattle.kr_tree.specs.Lawful.{AreBytes}
-use Rattle.kr_allowed.proofs.PieceLemmas.{all-append}
-use Rattle.pt_bind.specs.Binding.{names_of}
-use Rattle.pt_canon.specs.TextWalk.{TextSurroundings}
-use Rattle.pt_args.specs.Shelving.{address_below, with_item, with_zero}
-use Rattle.pt_args.specs.Walks.{and_then}
-use Rattle.pt_args.specs.declared.edit.Edit.TheVariants.{Cancel}
-use Rattle.pt_args.specs.declared.shelf.Shelf.{Shelf}
-use Rattle.pt_script.specs.Expanding.{command_of, ends_of, expanded_from, shown_result}
-use Rattle.pt_script.specs.Programs.{base_from, canon_from, head_size, or_lost, program_from, program_in, programs}
-use Rattle.pt_script.specs.declared.expansion.Expanded.{Expanded}
-use Rattle.pt_script.specs.declared.program.Program.{Program}
-use Rattle.pt_lists.specs.Reading.{addresses_behind, byte_at, env_at, list_at, lists_at, next_byte, text_at, text_from, text_within, texts_from}
-use Rattle.pt_lists.specs.declared.lists.Handed.{Handed}
+use Rattle.pt_watched.specs.pr_base.Paths.{is_absolute, slash}
+use Rattle.pt_watched.specs.pr_base.declared.errno.Errno.{Errno}
+use Rattle.pt_watched.specs.pr_base.declared.errno.Errno.TheVariants.{E2BIG, ELOOP, ENAMETOOLONG}
+use Rattle.pt_watched.specs.pr_base.declared.path.WalkMode.TheVariants.{Look}
+use Rattle.pt_watched.specs.rv_mem.Actions.{Done}
+use Rattle.pt_watched.specs.kr_calls.Expansion.{Expanded as Ended, Onward, bytes_with_ends, by_interpreter, by_line, expanded, is_script, is_too_big, most_scripts, new_args, runs}
+use Rattle.pt_watched.specs.kr_calls.Scripts.{script_of}
+use Rattle.kr_bytes.specs.kr_exec.Lists as lists
+use Rattle.kr_bytes.specs.kr_exec.Lists.{Trying, address_at, at_least_one, if_it_fits, most_bytes, most_texts, next_address}
+use Rattle.kr_bytes.specs.kr_tree.Lawful.{AreBytes}
+use Rattle.kr_bytes.proofs.kr_allowed.PieceLemmas.{all-append}
+use Rattle.pt_watched.specs.pt_bind.Binding.{names_of}
+use Rattle.pt_watched.specs.pt_canon.TextWalk.{TextSurroundings}
+use Rattle.pt_watched.specs.pt_args.Shelving.{address_below, with_item, with_zero}
+use Rattle.pt_watched.specs.pt_args.Walks.{and_then}
+use Rattle.pt_watched.specs.pt_args.declared.edit.Edit.TheVariants.{Cancel}
+use Rattle.pt_watched.specs.pt_args.declared.shelf.Shelf.{Shelf}
+use Rattle.pt_watched.specs.pt_script.Expanding.{command_of, ends_of, expanded_from, shown_result}
+use Rattle.pt_watched.specs.pt_script.Programs.{base_from, canon_from, head_size, or_lost, program_from, program_in, programs}
+use Rattle.pt_watched.specs.pt_script.declared.expansion.Expanded.{Expanded}
+use Rattle.pt_watched.specs.pt_script.declared.program.Program.{Program}
+use Rattle.pt_watched.specs.pt_lists.Reading.{addresses_behind, byte_at, env_at, list_at, lists_at, next_byte, text_at, text_from, text_within, texts_from}
+use Rattle.pt_watched.specs.pt_lists.declared.lists.Handed.{Handed}
 use Rattle.pt_watched.specs.ScriptEdit.{addresses_of, empty_shelf, list_item, put_texts, script_edit, script_room, shelved_script, with_texts}
 use Rattle.kr_bytes.specs.Bytes.{AreAllBytes}
 use Rattle.kr_bytes.proofs.ActionLemmas.{either_way, read, tested, told}

@@ -3,16 +3,16 @@ use Rattle.std.proofs.Common.{ℕ, zero, suc, Bool, true, false, ◌&&◌, ◌+�
 use Rattle.std.specs.Prelude.{◌==◌}
 use Rattle.std.specs.Int.{to_le_bytes, w32, w64}
 use Rattle.std.proofs.Math.Seq.{sets}
-use Rattle.pr_base.specs.Fields.{little_endian}
-use Rattle.rv_mem.specs.Actions.{Action, carried_out}
-use Rattle.kr_inode.specs.declared.user.User.{User}
-use Rattle.kr_tree.specs.Lawful.{AreBytes}
-use Rattle.kr_turns.specs.Stopped.{Stopped, image_at}
-use Rattle.pt_tracer.specs.Stopping.{after_request, memory_at, with_memory, with_register}
-use Rattle.pt_ident.specs.Identity.{Answers, Effect, Identity, TakesGroups, TellsGroups, TellsNumbers, number_bytes, on_memory}
-use Rattle.pt_ident.specs.Showing.{auxiliary_values, shown_at}
-use Rattle.pt_tracer.specs.Carrying.{on_its_memory}
-use Rattle.pt_tracer.specs.Faking.{behind_list, forgiven, has_answered_zero, if_done, most_words, next_word, no_call, no_longer_called, number_register, put_values, show_identity, show_owner}
+use Rattle.pt_watched.specs.pr_base.Fields.{little_endian}
+use Rattle.pt_watched.specs.rv_mem.Actions.{Action, carried_out}
+use Rattle.pt_watched.specs.kr_inode.declared.user.User.{User}
+use Rattle.kr_bytes.specs.kr_tree.Lawful.{AreBytes}
+use Rattle.kr_bytes.specs.kr_turns.Stopped.{Stopped, image_at}
+use Rattle.pt_watched.specs.pt_tracer.Stopping.{after_request, memory_at, with_memory, with_register}
+use Rattle.pt_watched.specs.pt_ident.Identity.{Answers, Effect, Identity, TakesGroups, TellsGroups, TellsNumbers, number_bytes, on_memory}
+use Rattle.pt_watched.specs.pt_ident.Showing.{auxiliary_values, shown_at}
+use Rattle.pt_watched.specs.pt_tracer.Carrying.{on_its_memory}
+use Rattle.pt_watched.specs.pt_tracer.Faking.{behind_list, forgiven, has_answered_zero, if_done, most_words, next_word, no_call, no_longer_called, number_register, put_values, show_identity, show_owner}
 use Rattle.kr_bytes.specs.Bytes.{HasBytes}
 use Rattle.kr_bytes.proofs.ActionLemmas.{PutsBytes, either_way, puts, read, tested, told, wrote}
 use Rattle.kr_bytes.proofs.ListLemmas.{bytes-laid, joined, word-bytes}

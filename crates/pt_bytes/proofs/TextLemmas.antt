@@ -6,12 +6,12 @@ use Rattle.std.specs.Option.{option_and_then, option_map_or}
 use Rattle.std.specs.Str.{bytes_eq}
 use Rattle.std.proofs.lemmas.Bool.Decides.{nat_tests}
 use Rattle.std.proofs.lemmas.List.{reverse-append}
-use Rattle.pr_base.specs.MountText.{MountText}
-use Rattle.pr_base.specs.Paths.{Component, Dot, DotDot, Name, component_of, components_of, dot, dot_dot, is_slash, not_empty, parts_of}
-use Rattle.pr_base.specs.Texts.{Text, names_below}
-use Rattle.pr_base.specs.WalkFrame.{name_of}
-use Rattle.pt_bind.specs.Binding.{guest_in, guest_of, host_at, host_of, located, names_of, source_of}
-use Rattle.kr_tree.specs.Lawful.{AreBytes}
+use Rattle.pt_watched.specs.pr_base.MountText.{MountText}
+use Rattle.pt_watched.specs.pr_base.Paths.{Component, Dot, DotDot, Name, component_of, components_of, dot, dot_dot, is_slash, not_empty, parts_of}
+use Rattle.pt_watched.specs.pr_base.Texts.{Text, names_below}
+use Rattle.pt_watched.specs.pr_base.WalkFrame.{name_of}
+use Rattle.pt_watched.specs.pt_bind.Binding.{guest_in, guest_of, host_at, host_of, located, names_of, source_of}
+use Rattle.kr_bytes.specs.kr_tree.Lawful.{AreBytes}
 use Rattle.kr_bytes.specs.Bytes.{AreAllBytes}
 use Rattle.kr_bytes.proofs.ListLemmas.{all-at, all-found, bytes-tested}
 use Rattle.kr_bytes.proofs.NameLemmas.{if-mapped, names-below-bytes, names-joined}

@@ -3,31 +3,31 @@ use Rattle.std.specs.FinMap as map
 use Rattle.std.proofs.Common.{◌≡◌, ℕ, ◌-◌, Bool, true, false, List, [], ◌∷◌, cond, length, Option, Some, None, ℤ, refl}
 use Rattle.std.specs.Prelude.{◌==◌, Err, IfOk, Ok, Result}
 use Rattle.std.specs.List.{AllByRecursion}
-use Rattle.pr_base.specs.MountText.{MountText}
-use Rattle.pr_base.specs.declared.errno.Errno.{Errno}
-use Rattle.pr_base.specs.declared.errno.Errno.TheVariants.{EFAULT}
-use Rattle.rv_mem.specs.Actions.{carried_out}
-use Rattle.kr_inode.specs.declared.user.User.{User}
-use Rattle.kr_calls.specs.PathTable.{PathUse, path_at}
-use Rattle.kr_calls.specs.declared.request.Request.{Request}
-use Rattle.kr_tree.specs.Lawful.{AreBytes}
-use Rattle.kr_allowed.proofs.DecodedLemmas.{decoded-are-givable}
-use Rattle.kr_turns.specs.Stopped.{Stopped, image_at}
-use Rattle.pt_bind.specs.Tags.{TagTable, with_tag}
-use Rattle.pt_bind.specs.declared.slot.Slot.TheVariants.{Exe}
-use Rattle.pt_args.specs.Bases.{working_text}
-use Rattle.pt_args.specs.declared.edit.Edit.{Edit}
-use Rattle.pt_args.specs.declared.edit.Edit.TheVariants.{Cancel, Emulate, Pass, Swap}
-use Rattle.pt_ident.specs.Identity.{Effect, after_exec, effect, on_memory}
-use Rattle.pt_ident.specs.IdentityTable.{IdentityTable, identity_at}
-use Rattle.pt_lists.specs.Reading.{addresses_behind, lists_at}
-use Rattle.pt_lists.specs.declared.lists.Handed.{Handed}
-use Rattle.pt_script.specs.Expanding.{expanded_at}
-use Rattle.pt_script.specs.declared.expansion.Expanded.{Expanded}
-use Rattle.pt_tracer.specs.Faking.{due_of, no_longer_called, show_identity, stack_register, word_of}
-use Rattle.pt_tracer.specs.Stopping.{after_poke, after_request, decoded_at, memory_at, register_at, with_memory, with_register}
-use Rattle.pt_tracer.specs.declared.due.Due.{Due}
-use Rattle.pt_tracer.specs.declared.due.Due.TheVariants as due
+use Rattle.pt_watched.specs.pr_base.MountText.{MountText}
+use Rattle.pt_watched.specs.pr_base.declared.errno.Errno.{Errno}
+use Rattle.pt_watched.specs.pr_base.declared.errno.Errno.TheVariants.{EFAULT}
+use Rattle.pt_watched.specs.rv_mem.Actions.{carried_out}
+use Rattle.pt_watched.specs.kr_inode.declared.user.User.{User}
+use Rattle.pt_watched.specs.kr_calls.PathTable.{PathUse, path_at}
+use Rattle.pt_watched.specs.kr_calls.declared.request.Request.{Request}
+use Rattle.kr_bytes.specs.kr_tree.Lawful.{AreBytes}
+use Rattle.kr_bytes.proofs.kr_allowed.DecodedLemmas.{decoded-are-givable}
+use Rattle.kr_bytes.specs.kr_turns.Stopped.{Stopped, image_at}
+use Rattle.pt_watched.specs.pt_bind.Tags.{TagTable, with_tag}
+use Rattle.pt_watched.specs.pt_bind.declared.slot.Slot.TheVariants.{Exe}
+use Rattle.pt_watched.specs.pt_args.Bases.{working_text}
+use Rattle.pt_watched.specs.pt_args.declared.edit.Edit.{Edit}
+use Rattle.pt_watched.specs.pt_args.declared.edit.Edit.TheVariants.{Cancel, Emulate, Pass, Swap}
+use Rattle.pt_watched.specs.pt_ident.Identity.{Effect, after_exec, effect, on_memory}
+use Rattle.pt_watched.specs.pt_ident.IdentityTable.{IdentityTable, identity_at}
+use Rattle.pt_watched.specs.pt_lists.Reading.{addresses_behind, lists_at}
+use Rattle.pt_watched.specs.pt_lists.declared.lists.Handed.{Handed}
+use Rattle.pt_watched.specs.pt_script.Expanding.{expanded_at}
+use Rattle.pt_watched.specs.pt_script.declared.expansion.Expanded.{Expanded}
+use Rattle.pt_watched.specs.pt_tracer.Faking.{due_of, no_longer_called, show_identity, stack_register, word_of}
+use Rattle.pt_watched.specs.pt_tracer.Stopping.{after_poke, after_request, decoded_at, memory_at, register_at, with_memory, with_register}
+use Rattle.pt_watched.specs.pt_tracer.declared.due.Due.{Due}
+use Rattle.pt_watched.specs.pt_tracer.declared.due.Due.TheVariants as due
 use Rattle.pt_watched.specs.Planning.{after_addresses, after_expansion, after_lists, after_path, edit_for, is_swap, led_in, led_of, list_addresses, nowhere, planned, planned_by, rewritten, script_plan, stack_at, texts_at, has_shelf}
 use Rattle.pt_watched.specs.Poking.{may_poke, poked}
 use Rattle.pt_watched.specs.Registers.{given_back, is_register, with_argument, with_arguments}

@@ -2,20 +2,20 @@
 use Rattle.std.proofs.Common.{ℕ, zero, suc, Bool, true, false, ◌||◌, List, [], ◌∷◌, ◌++◌, cond, Option, Some, None}
 use Rattle.std.specs.Prelude.{Err, IfOk, IfSome, Ok, Result}
 use Rattle.std.specs.Option.{unwrap_or}
-use Rattle.pr_base.specs.Paths.{Component, components_of, has_slash, is_absolute}
-use Rattle.pr_base.specs.Texts.{Text}
-use Rattle.pr_base.specs.WalkFrame.{Fails, Jumps, Landing, Leads, Links, Missing, Onward, Target, Trail, along, at_last, begins_at, ends, ends_found, ends_landed, fails, in_middle, is_followed, jumps_on, landed, loops, may_be_free, most_links, target_at, walk_on, wants_directory}
-use Rattle.pr_base.specs.declared.errno.Errno.{Errno}
-use Rattle.pr_base.specs.declared.errno.Errno.TheVariants.{ENOENT, ENOTDIR}
-use Rattle.pr_base.specs.declared.path.Last.{Last}
-use Rattle.pr_base.specs.declared.path.Last.TheVariants as last
-use Rattle.pr_base.specs.declared.path.WalkMode.{WalkMode}
-use Rattle.pt_bind.specs.Binding.{host_of}
-use Rattle.pt_canon.specs.Canon.{canon_of, canon_result, entry_text, guest_text}
-use Rattle.pt_canon.specs.TextWalk.{SeenText, TextSurroundings, look_text, looking_texts, text_walk}
-use Rattle.pt_canon.specs.declared.canon.Canon.{Canon}
-use Rattle.kr_tree.specs.Lawful.{AreBytes}
-use Rattle.kr_allowed.proofs.PieceLemmas.{all-append}
+use Rattle.pt_watched.specs.pr_base.Paths.{Component, components_of, has_slash, is_absolute}
+use Rattle.pt_watched.specs.pr_base.Texts.{Text}
+use Rattle.pt_watched.specs.pr_base.WalkFrame.{Fails, Jumps, Landing, Leads, Links, Missing, Onward, Target, Trail, along, at_last, begins_at, ends, ends_found, ends_landed, fails, in_middle, is_followed, jumps_on, landed, loops, may_be_free, most_links, target_at, walk_on, wants_directory}
+use Rattle.pt_watched.specs.pr_base.declared.errno.Errno.{Errno}
+use Rattle.pt_watched.specs.pr_base.declared.errno.Errno.TheVariants.{ENOENT, ENOTDIR}
+use Rattle.pt_watched.specs.pr_base.declared.path.Last.{Last}
+use Rattle.pt_watched.specs.pr_base.declared.path.Last.TheVariants as last
+use Rattle.pt_watched.specs.pr_base.declared.path.WalkMode.{WalkMode}
+use Rattle.pt_watched.specs.pt_bind.Binding.{host_of}
+use Rattle.pt_watched.specs.pt_canon.Canon.{canon_of, canon_result, entry_text, guest_text}
+use Rattle.pt_watched.specs.pt_canon.TextWalk.{SeenText, TextSurroundings, look_text, looking_texts, text_walk}
+use Rattle.pt_watched.specs.pt_canon.declared.canon.Canon.{Canon}
+use Rattle.kr_bytes.specs.kr_tree.Lawful.{AreBytes}
+use Rattle.kr_bytes.proofs.kr_allowed.PieceLemmas.{all-append}
 use Rattle.kr_bytes.specs.Bytes.{AreAllBytes}
 use Rattle.kr_bytes.proofs.NameLemmas.{text-bytes}
 use Rattle.pt_bytes.proofs.LookLemmas.{AreOfBytes, LandsOnBytes, SeesBytes, looks-see-bytes}

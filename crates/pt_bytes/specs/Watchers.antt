@@ -1,10 +1,10 @@
 -- Watchers that leave bytes at the stops of calls.
 use Rattle.std.specs.Prelude.{◌≡◌, ℕ, nat_lt, ◌&&◌, Bool, true}
 use Rattle.std.specs.List.{list_all}
-use Rattle.pr_base.specs.MountText.{MountText}
-use Rattle.pr_base.specs.Texts.{Text}
+use Rattle.pt_watched.specs.pr_base.MountText.{MountText}
+use Rattle.pt_watched.specs.pr_base.Texts.{Text}
 use Rattle.kr_bytes.specs.Turns.{WatchesBytes}
-use Rattle.pt_tracer.specs.Faking.{Faking, faker}
+use Rattle.pt_watched.specs.pt_tracer.Faking.{Faking, faker}
 use Rattle.pt_watched.specs.Watched.{Tracing, tracer}
 
 -- ---- the watcher of identities, whatever it keeps

@@ -3,12 +3,12 @@ use Rattle.std.proofs.Common.{◌≡◌, ℕ, false, Some, Result, Ok, Err, List
 use Rattle.std.specs.List.{All}
 use Rattle.std.specs.Result.{IsErr, IsErrAnd}
 use Rattle.std.proofs.lemmas.List.Elements.{All-tail}
-use Rattle.pr_base.specs.Paths.{Component, IsComponent, component_of, components_of, parts_of}
-use Rattle.pr_base.specs.Texts.{Text}
-use Rattle.pr_base.specs.declared.errno.Errno.{Errno}
-use Rattle.pr_base.specs.declared.path.Last.TheVariants as last
-use Rattle.pr_base.proofs.PathLemmas.{paths_have_components}
-use Rattle.pr_base.proofs.WalkLemmas.{walk-none}
+use Rattle.pt_bind.specs.pr_base.Paths.{Component, IsComponent, component_of, components_of, parts_of}
+use Rattle.pt_bind.specs.pr_base.Texts.{Text}
+use Rattle.pt_bind.specs.pr_base.declared.errno.Errno.{Errno}
+use Rattle.pt_bind.specs.pr_base.declared.path.Last.TheVariants as last
+use Rattle.pt_bind.proofs.pr_base.PathLemmas.{paths_have_components}
+use Rattle.pt_bind.proofs.pr_base.WalkLemmas.{walk-none}
 use Rattle.pt_canon.specs.Canon.{ending_of}
 use Rattle.pt_canon.specs.Looks.{IsKnown}
 use Rattle.pt_canon.specs.Steps.{ended, left_on, middle_trail, last_trail, GoesOn, PassedIs, IsWay, Tells, WayIs}

@@ -1,12 +1,12 @@
 -- Where walks end.
 use Rattle.std.proofs.Common.{◌≡◌, ℕ, Bool, true, List, Some, Result, Ok, Err, ap, refl}
-use Rattle.pr_base.specs.Paths.{text_of}
-use Rattle.pr_base.specs.Texts.{Text}
-use Rattle.pr_base.specs.WalkFrame.{Target}
-use Rattle.pr_base.specs.declared.errno.Errno.{Errno}
-use Rattle.pr_base.specs.declared.path.Last.TheVariants as last
-use Rattle.pr_base.specs.declared.path.WalkMode.{WalkMode}
-use Rattle.pr_base.specs.declared.path.WalkMode.TheVariants as modes
+use Rattle.pt_bind.specs.pr_base.Paths.{text_of}
+use Rattle.pt_bind.specs.pr_base.Texts.{Text}
+use Rattle.pt_bind.specs.pr_base.WalkFrame.{Target}
+use Rattle.pt_bind.specs.pr_base.declared.errno.Errno.{Errno}
+use Rattle.pt_bind.specs.pr_base.declared.path.Last.TheVariants as last
+use Rattle.pt_bind.specs.pr_base.declared.path.WalkMode.{WalkMode}
+use Rattle.pt_bind.specs.pr_base.declared.path.WalkMode.TheVariants as modes
 use Rattle.pt_bind.specs.Binding.{host_of, index_of}
 use Rattle.pt_canon.specs.Canon.{canon_at, canon_result, ending_of}
 use Rattle.pt_canon.specs.Laws.{AnswersAreOfTheirTexts}

@@ -3,8 +3,8 @@ use Rattle.std.proofs.Common.{◌≡◌, ◌≢◌, ℕ, zero, suc, ◌≤◌, �
 use Rattle.std.specs.List.{All}
 use Rattle.std.proofs.lemmas.List.{reverse-reverse, length-append, length-drop, append_assoc}
 use Rattle.std.proofs.lemmas.List.Elements.{All-nil, All-cons, All-head, All-tail}
-use Rattle.pr_base.specs.Paths.{slash, IsPart, AreParts, below_root, text_of}
-use Rattle.pr_base.specs.Texts.{Text}
+use Rattle.pt_bind.specs.pr_base.Paths.{slash, IsPart, AreParts, below_root, text_of}
+use Rattle.pt_bind.specs.pr_base.Texts.{Text}
 use Rattle.pt_bind.specs.Binding.{IsWritten, names_of}
 use Rattle.pt_bind.proofs.ByteLemmas.{below_root_parts, names_written}
 use Rattle.pt_bind.proofs.RowLemmas.{drop_front}

@@ -1,10 +1,10 @@
 -- Where a link of the process directory leads.
 use Rattle.std.proofs.Common.{◌≡◌, ◌∙◌, Bool, true, false, Option, Some, None, refl, sym, subst}
 use Rattle.std.specs.Option.{option_map, option_and_then}
-use Rattle.pr_base.specs.Paths.{text_of}
-use Rattle.pr_base.specs.Texts.{Text}
-use Rattle.pr_base.specs.WalkFrame.{Landing}
-use Rattle.pr_base.proofs.TextLemmas.{some_is}
+use Rattle.pt_bind.specs.pr_base.Paths.{text_of}
+use Rattle.pt_bind.specs.pr_base.Texts.{Text}
+use Rattle.pt_bind.specs.pr_base.WalkFrame.{Landing}
+use Rattle.pt_bind.proofs.pr_base.TextLemmas.{some_is}
 use Rattle.pt_bind.specs.Binding.{host_of}
 use Rattle.pt_canon.specs.ProcessLinks.{is_dir_kind, jump_at, landing_of, landing_of_guest, landing_of_name, link_at, link_guest, link_name, text_landing}
 use Rattle.pt_canon.specs.TextWalk.{TextSurroundings}

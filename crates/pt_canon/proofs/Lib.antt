@@ -1,3 +1,5 @@
+pub use Rattle.pt_bind.proofs.pr_base as pr_base
+pub use Rattle.pt_bind.proofs as pt_bind
 mod AlongLemmas
 mod EndingLemmas
 mod GuestLemmas

@@ -2,13 +2,13 @@
 use Rattle.std.proofs.Common.{◌≡◌, ◌≢◌, ap, ◌∙◌, sym, subst, Bool, true, false, List, ℕ, ◌∷◌, Result, Ok, Err, refl, arith}
 use Rattle.std.specs.Bool.{if◌then◌else◌}
 use Rattle.std.specs.Result.{IsErr, IsErrAnd}
-use Rattle.pr_base.specs.Paths.{Component, Dot, DotDot, Name, text_of}
-use Rattle.pr_base.specs.Texts.{Text}
-use Rattle.pr_base.specs.WalkFrame.{Fails, Missing, Leads}
-use Rattle.pr_base.specs.declared.errno.Errno.{Errno}
-use Rattle.pr_base.specs.declared.errno.Errno.TheVariants.{ENOENT, ENOTDIR}
-use Rattle.pr_base.specs.declared.peeks.PeekKind.{PeekKind}
-use Rattle.pr_base.specs.declared.peeks.PeekKind.TheVariants as kind
+use Rattle.pt_bind.specs.pr_base.Paths.{Component, Dot, DotDot, Name, text_of}
+use Rattle.pt_bind.specs.pr_base.Texts.{Text}
+use Rattle.pt_bind.specs.pr_base.WalkFrame.{Fails, Missing, Leads}
+use Rattle.pt_bind.specs.pr_base.declared.errno.Errno.{Errno}
+use Rattle.pt_bind.specs.pr_base.declared.errno.Errno.TheVariants.{ENOENT, ENOTDIR}
+use Rattle.pt_bind.specs.pr_base.declared.peeks.PeekKind.{PeekKind}
+use Rattle.pt_bind.specs.pr_base.declared.peeks.PeekKind.TheVariants as kind
 use Rattle.pt_bind.specs.Binding.{host_of, names_of}
 use Rattle.pt_canon.specs.TextWalk.{TextSurroundings, SeenText, itself_in, in_directory, where_found, inside_text, is_missing, look_text, seen_text, seen_error, seen_kind, seen_link}
 use Rattle.pt_canon.specs.Laws.{host_bytes, MayLook, TextsAreLookedAt}

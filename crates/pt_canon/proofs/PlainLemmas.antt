@@ -1,16 +1,16 @@
 -- The walk along a text on which no link stands.
 use Rattle.std.proofs.Common.{◌≡◌, ℕ, Bool, false, List, [], ◌∷◌, ◌++◌, map, reverse, Some, Result, Ok, refl, ap, sym, ◌∙◌}
 use Rattle.std.specs.Bool.{if◌then◌else◌}
-use Rattle.pr_base.specs.Paths.{Component, Name, AreParts, components_of, has_slash, text_of}
-use Rattle.pr_base.specs.Texts.{Text}
-use Rattle.pr_base.specs.WalkFrame.{Leads, Target, Trail, ends, fails, here, most_links, target_at, wants_directory, walk_on}
-use Rattle.pr_base.specs.WalkLaws.{last_trail, middle_trail}
-use Rattle.pr_base.specs.declared.errno.Errno.{Errno}
-use Rattle.pr_base.specs.declared.errno.Errno.TheVariants.{ENOTDIR}
-use Rattle.pr_base.specs.declared.path.WalkMode.{WalkMode}
-use Rattle.pr_base.specs.declared.path.WalkMode.TheVariants as modes
-use Rattle.pr_base.proofs.PathLemmas.{names_onto, names_end, text_absolute, text_no_slash, texts_have_their_names}
-use Rattle.pr_base.proofs.WalkLemmas.{walk-none, walk-last, walk-middle}
+use Rattle.pt_bind.specs.pr_base.Paths.{Component, Name, AreParts, components_of, has_slash, text_of}
+use Rattle.pt_bind.specs.pr_base.Texts.{Text}
+use Rattle.pt_bind.specs.pr_base.WalkFrame.{Leads, Target, Trail, ends, fails, here, most_links, target_at, wants_directory, walk_on}
+use Rattle.pt_bind.specs.pr_base.WalkLaws.{last_trail, middle_trail}
+use Rattle.pt_bind.specs.pr_base.declared.errno.Errno.{Errno}
+use Rattle.pt_bind.specs.pr_base.declared.errno.Errno.TheVariants.{ENOTDIR}
+use Rattle.pt_bind.specs.pr_base.declared.path.WalkMode.{WalkMode}
+use Rattle.pt_bind.specs.pr_base.declared.path.WalkMode.TheVariants as modes
+use Rattle.pt_bind.proofs.pr_base.PathLemmas.{names_onto, names_end, text_absolute, text_no_slash, texts_have_their_names}
+use Rattle.pt_bind.proofs.pr_base.WalkLemmas.{walk-none, walk-last, walk-middle}
 use Rattle.pt_canon.specs.Canon.{canon_at, canon_result, ending_of}
 use Rattle.pt_canon.specs.Laws.{IsPlain, TextsLeadToThemselves}
 use Rattle.pt_canon.specs.TextWalk.{TextSurroundings, look_text, looking_texts, text_walk}

@@ -2,17 +2,17 @@
 use Rattle.std.proofs.Common.{◌≡◌, ◌≢◌, ◌-◌, ℕ, zero, suc, Bool, true, false, not, ◌&&◌, ◌||◌, Option, Some, None, Result, Ok, Err, List, [], ◌∷◌, ◌++◌, refl, ap, sym, subst, ◌∙◌}
 use Rattle.std.specs.Bool.{if◌then◌else◌}
 use Rattle.std.specs.Result.{IsErr, IsErrAnd}
-use Rattle.pr_base.specs.Paths.{Component, Dot, DotDot, Name, slash, components_of, has_slash, text_of}
-use Rattle.pr_base.specs.Texts.{Text}
-use Rattle.pr_base.specs.WalkFrame.{Fails, Leads, Links, Jumps, Landing, Target, Trail, after_jump, ends_found, ends_landed, ends_missing, is_followed, wants_directory, may_be_free, target_at, ends, fails, jumps_on, onward, walk_on}
-use Rattle.pr_base.specs.declared.errno.Errno.{Errno}
-use Rattle.pr_base.specs.declared.errno.Errno.TheVariants.{ENOENT, ENOTDIR, ELOOP}
-use Rattle.pr_base.specs.declared.path.Last.TheVariants as last
-use Rattle.pr_base.specs.declared.path.WalkMode.{WalkMode}
-use Rattle.pr_base.specs.declared.path.WalkMode.TheVariants as modes
-use Rattle.pr_base.proofs.PathLemmas.{components_seam}
-use Rattle.pr_base.proofs.TextLemmas.{map_some}
-use Rattle.pr_base.proofs.WalkLemmas.{walk-last, walk-middle, onward-less, onward-none}
+use Rattle.pt_bind.specs.pr_base.Paths.{Component, Dot, DotDot, Name, slash, components_of, has_slash, text_of}
+use Rattle.pt_bind.specs.pr_base.Texts.{Text}
+use Rattle.pt_bind.specs.pr_base.WalkFrame.{Fails, Leads, Links, Jumps, Landing, Target, Trail, after_jump, ends_found, ends_landed, ends_missing, is_followed, wants_directory, may_be_free, target_at, ends, fails, jumps_on, onward, walk_on}
+use Rattle.pt_bind.specs.pr_base.declared.errno.Errno.{Errno}
+use Rattle.pt_bind.specs.pr_base.declared.errno.Errno.TheVariants.{ENOENT, ENOTDIR, ELOOP}
+use Rattle.pt_bind.specs.pr_base.declared.path.Last.TheVariants as last
+use Rattle.pt_bind.specs.pr_base.declared.path.WalkMode.{WalkMode}
+use Rattle.pt_bind.specs.pr_base.declared.path.WalkMode.TheVariants as modes
+use Rattle.pt_bind.proofs.pr_base.PathLemmas.{components_seam}
+use Rattle.pt_bind.proofs.pr_base.TextLemmas.{map_some}
+use Rattle.pt_bind.proofs.pr_base.WalkLemmas.{walk-last, walk-middle, onward-less, onward-none}
 use Rattle.pt_bind.specs.Binding.{host_of}
 use Rattle.pt_canon.specs.Canon.{ending_of}
 use Rattle.pt_canon.specs.ProcessLinks.{above, jump_at, is_dir_kind}

@@ -9,11 +9,11 @@ use Rattle.std.proofs.lemmas.Grind.{reverse_onto}
 use Rattle.std.proofs.lemmas.List.{reverse-reverse}
 use Rattle.std.proofs.lemmas.List.Elements.{All-head, All-tail}
 use Rattle.std.proofs.lemmas.Slice.Eq.{bytes_eq-Decides}
-use Rattle.pr_base.specs.Paths.{Dot, DotDot, Name, dot, dot_dot, component_of, parts_of, IsComponent, IsPart, AreParts, below_root, text_of}
-use Rattle.pr_base.specs.Texts.{Text, names_below}
-use Rattle.pr_base.specs.declared.bind.Bound.{Bound}
-use Rattle.pr_base.proofs.PathLemmas.{parts_seam, part_alone, paths_have_components}
-use Rattle.pr_base.proofs.TextLemmas.{below_found, map_some}
+use Rattle.pt_bind.specs.pr_base.Paths.{Dot, DotDot, Name, dot, dot_dot, component_of, parts_of, IsComponent, IsPart, AreParts, below_root, text_of}
+use Rattle.pt_bind.specs.pr_base.Texts.{Text, names_below}
+use Rattle.pt_bind.specs.pr_base.declared.bind.Bound.{Bound}
+use Rattle.pt_bind.proofs.pr_base.PathLemmas.{parts_seam, part_alone, paths_have_components}
+use Rattle.pt_bind.proofs.pr_base.TextLemmas.{below_found, map_some}
 use Rattle.pt_bind.specs.Binding.{IsWritten, guest_in, guest_of, host_at, host_of, located, names_of, rows_of, row_of, source_of}
 use Rattle.pt_bind.proofs.ByteLemmas.{spelled_parts}
 

@@ -5,17 +5,17 @@ use Rattle.std.specs.FinMap as map
 use Rattle.std.specs.Prelude.{codes, if◌then◌else◌}
 use Rattle.std.specs.List.{list_any}
 use Rattle.std.specs.Str.{bytes_eq}
-use Rattle.pr_base.specs.MountText.{MountText}
-use Rattle.pr_base.specs.Texts.{Text}
-use Rattle.pr_base.specs.WalkFrame.{walk_on}
-use Rattle.pr_base.specs.declared.errno.Errno.{Errno}
-use Rattle.pr_base.specs.declared.errno.Errno.TheVariants.{EACCES, EINVAL, ENOENT, ENOTDIR}
-use Rattle.pr_base.specs.declared.path.Last.{Last}
-use Rattle.pr_base.specs.declared.path.Last.TheVariants as last
-use Rattle.pr_base.specs.declared.path.WalkMode.TheVariants as modes
-use Rattle.pr_base.specs.declared.peeks.BaseKind.TheVariants as base
-use Rattle.pr_base.specs.declared.peeks.PeekKind.{PeekKind}
-use Rattle.pr_base.specs.declared.peeks.PeekKind.TheVariants as kind
+use Rattle.pt_bind.specs.pr_base.MountText.{MountText}
+use Rattle.pt_bind.specs.pr_base.Texts.{Text}
+use Rattle.pt_bind.specs.pr_base.WalkFrame.{walk_on}
+use Rattle.pt_bind.specs.pr_base.declared.errno.Errno.{Errno}
+use Rattle.pt_bind.specs.pr_base.declared.errno.Errno.TheVariants.{EACCES, EINVAL, ENOENT, ENOTDIR}
+use Rattle.pt_bind.specs.pr_base.declared.path.Last.{Last}
+use Rattle.pt_bind.specs.pr_base.declared.path.Last.TheVariants as last
+use Rattle.pt_bind.specs.pr_base.declared.path.WalkMode.TheVariants as modes
+use Rattle.pt_bind.specs.pr_base.declared.peeks.BaseKind.TheVariants as base
+use Rattle.pt_bind.specs.pr_base.declared.peeks.PeekKind.{PeekKind}
+use Rattle.pt_bind.specs.pr_base.declared.peeks.PeekKind.TheVariants as kind
 use Rattle.pt_canon.specs.Canon.{canon_of}
 use Rattle.pt_canon.specs.TextWalk.{TextSurroundings, look_text, seen_text}
 use Rattle.pt_canon.specs.declared.canon.Canon.{Canon}

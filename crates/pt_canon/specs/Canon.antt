@@ -1,18 +1,18 @@
 -- What a tracer's walk answers: the guest text to which a path comes, its host text and the index of its binding.
 use Rattle.std.specs.Prelude.{ℕ, ◌≡◌, Bool, true, false, List, ◌∷◌, Result, Ok, Err, is_some}
 use Rattle.std.specs.Option.{unwrap_or}
-use Rattle.pr_base.specs.MountText.{MountText}
-use Rattle.pr_base.specs.Paths.{text_of}
-use Rattle.pr_base.specs.Peeks.{Peeked}
-use Rattle.pr_base.specs.Texts.{Text}
-use Rattle.pr_base.specs.WalkFrame.{Target, may_be_free}
-use Rattle.pr_base.specs.declared.bind.Bound.{Bound}
-use Rattle.pr_base.specs.declared.errno.Errno.{Errno}
-use Rattle.pr_base.specs.declared.path.Last.{Last}
-use Rattle.pr_base.specs.declared.path.Last.TheVariants as last
-use Rattle.pr_base.specs.declared.path.WalkMode.{WalkMode}
-use Rattle.pr_base.specs.declared.peeks.PeekFault.{PeekFault}
-use Rattle.pr_base.specs.declared.peeks.PeekFault.TheVariants as peek_fault
+use Rattle.pt_bind.specs.pr_base.MountText.{MountText}
+use Rattle.pt_bind.specs.pr_base.Paths.{text_of}
+use Rattle.pt_bind.specs.pr_base.Peeks.{Peeked}
+use Rattle.pt_bind.specs.pr_base.Texts.{Text}
+use Rattle.pt_bind.specs.pr_base.WalkFrame.{Target, may_be_free}
+use Rattle.pt_bind.specs.pr_base.declared.bind.Bound.{Bound}
+use Rattle.pt_bind.specs.pr_base.declared.errno.Errno.{Errno}
+use Rattle.pt_bind.specs.pr_base.declared.path.Last.{Last}
+use Rattle.pt_bind.specs.pr_base.declared.path.Last.TheVariants as last
+use Rattle.pt_bind.specs.pr_base.declared.path.WalkMode.{WalkMode}
+use Rattle.pt_bind.specs.pr_base.declared.peeks.PeekFault.{PeekFault}
+use Rattle.pt_bind.specs.pr_base.declared.peeks.PeekFault.TheVariants as peek_fault
 use Rattle.pt_bind.specs.Binding.{host_of, index_of, rows_of}
 use Rattle.pt_bind.specs.Tags.{TagTable}
 use Rattle.pt_canon.specs.TextWalk.{TextSurroundings, text_walk}

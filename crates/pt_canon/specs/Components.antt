@@ -1,6 +1,6 @@
 -- What a component in the hands of a walk stands for. No public clause cites this module.
-use Rattle.pr_base.specs.Paths.{Component}
-use Rattle.pr_base.specs.Paths as paths
+use Rattle.pt_bind.specs.pr_base.Paths.{Component}
+use Rattle.pt_bind.specs.pr_base.Paths as paths
 use Rattle.pt_canon.specs.declared.component.Component.{Component as Held}
 use Rattle.pt_canon.specs.declared.component.Component.TheVariants.{Dot, DotDot, Name}
 

@@ -1,7 +1,7 @@
 -- How guest texts are kept. No public clause cites this module.
 use Rattle.std.specs.Prelude.{◌≡◌, ℕ, List, ◌∷◌}
-use Rattle.pr_base.specs.Paths.{IsPart, AreParts, below_root}
-use Rattle.pr_base.specs.Texts.{Text}
+use Rattle.pt_bind.specs.pr_base.Paths.{IsPart, AreParts, below_root}
+use Rattle.pt_bind.specs.pr_base.Texts.{Text}
 use Rattle.pt_bind.specs.Binding.{names_of}
 
 -- bytes are those of a text below the root

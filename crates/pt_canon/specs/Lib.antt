@@ -1,3 +1,5 @@
+pub use Rattle.pt_bind.specs.pr_base as pr_base
+pub use Rattle.pt_bind.specs as pt_bind
 pub mod Canon
 pub mod Components
 pub mod Kept

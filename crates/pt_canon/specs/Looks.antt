@@ -1,13 +1,13 @@
 -- What the steps of a look answer, over the definition of the look. No public clause cites this module.
 use Rattle.std.specs.Prelude.{◌≡◌, true, false, Option, Result, Ok, Err}
 use Rattle.std.specs.Option.{option_map}
-use Rattle.pr_base.specs.Paths.{Component}
-use Rattle.pr_base.specs.Peeks.{Peeked}
-use Rattle.pr_base.specs.Texts.{Text}
-use Rattle.pr_base.specs.WalkFrame.{Fails, Missing, Leads, Links, Jumps, Landing}
-use Rattle.pr_base.specs.declared.errno.Errno.{Errno}
-use Rattle.pr_base.specs.declared.peeks.PeekKind.{PeekKind}
-use Rattle.pr_base.specs.declared.peeks.PeekKind.TheVariants as kind
+use Rattle.pt_bind.specs.pr_base.Paths.{Component}
+use Rattle.pt_bind.specs.pr_base.Peeks.{Peeked}
+use Rattle.pt_bind.specs.pr_base.Texts.{Text}
+use Rattle.pt_bind.specs.pr_base.WalkFrame.{Fails, Missing, Leads, Links, Jumps, Landing}
+use Rattle.pt_bind.specs.pr_base.declared.errno.Errno.{Errno}
+use Rattle.pt_bind.specs.pr_base.declared.peeks.PeekKind.{PeekKind}
+use Rattle.pt_bind.specs.pr_base.declared.peeks.PeekKind.TheVariants as kind
 use Rattle.pt_bind.specs.Binding.{host_of}
 use Rattle.pt_canon.specs.Canon.{texts_by}
 use Rattle.pt_canon.specs.Laws.{host_bytes, MayLook}

@@ -4,14 +4,14 @@ use Rattle.std.specs.Prelude.{ℕ, Bool, true, false, List, [], ◌∷◌, lengt
 use Rattle.std.specs.List.{list_all}
 use Rattle.std.specs.Option.{option_map, option_and_then}
 use Rattle.std.specs.Str.Parse.{digits_value}
-use Rattle.pr_base.specs.MountText.{MountText}
-use Rattle.pr_base.specs.Paths.{text_of}
-use Rattle.pr_base.specs.Peeks.{Peeked}
-use Rattle.pr_base.specs.Texts.{Text}
-use Rattle.pr_base.specs.WalkFrame.{Landing}
-use Rattle.pr_base.specs.declared.errno.Errno.{Errno}
-use Rattle.pr_base.specs.declared.peeks.PeekKind.{PeekKind}
-use Rattle.pr_base.specs.declared.peeks.PeekKind.TheVariants as kind
+use Rattle.pt_bind.specs.pr_base.MountText.{MountText}
+use Rattle.pt_bind.specs.pr_base.Paths.{text_of}
+use Rattle.pt_bind.specs.pr_base.Peeks.{Peeked}
+use Rattle.pt_bind.specs.pr_base.Texts.{Text}
+use Rattle.pt_bind.specs.pr_base.WalkFrame.{Landing}
+use Rattle.pt_bind.specs.pr_base.declared.errno.Errno.{Errno}
+use Rattle.pt_bind.specs.pr_base.declared.peeks.PeekKind.{PeekKind}
+use Rattle.pt_bind.specs.pr_base.declared.peeks.PeekKind.TheVariants as kind
 use Rattle.pt_bind.specs.Binding.{guest_of, host_of, names_of}
 use Rattle.pt_bind.specs.Tags.{TagTable, tag_of}
 use Rattle.pt_bind.specs.declared.slot.Slot.TheVariants as slot

@@ -1,13 +1,13 @@
 -- What the steps of a walk answer, over the definition of the walk. No public clause cites this module.
 use Rattle.std.specs.Prelude.{ℕ, ◌≡◌, ◌≢◌, ◌-◌, Bool, List, [], Option, Some, Result, Ok, Err}
 use Rattle.std.specs.Bool.{if◌then◌else◌}
-use Rattle.pr_base.specs.Paths.{Component, components_of, is_absolute}
-use Rattle.pr_base.specs.Texts.{Text}
-use Rattle.pr_base.specs.WalkFrame.{Landing, Target, Trail, fails, jumps_on, walk_on}
-use Rattle.pr_base.specs.WalkLaws as laws
-use Rattle.pr_base.specs.declared.errno.Errno.{Errno}
-use Rattle.pr_base.specs.declared.errno.Errno.TheVariants.{ELOOP}
-use Rattle.pr_base.specs.declared.path.WalkMode.{WalkMode}
+use Rattle.pt_bind.specs.pr_base.Paths.{Component, components_of, is_absolute}
+use Rattle.pt_bind.specs.pr_base.Texts.{Text}
+use Rattle.pt_bind.specs.pr_base.WalkFrame.{Landing, Target, Trail, fails, jumps_on, walk_on}
+use Rattle.pt_bind.specs.pr_base.WalkLaws as laws
+use Rattle.pt_bind.specs.pr_base.declared.errno.Errno.{Errno}
+use Rattle.pt_bind.specs.pr_base.declared.errno.Errno.TheVariants.{ELOOP}
+use Rattle.pt_bind.specs.pr_base.declared.path.WalkMode.{WalkMode}
 use Rattle.pt_canon.specs.Canon.{ending_of}
 use Rattle.pt_canon.specs.Looks.{IsKnown, led}
 use Rattle.pt_canon.specs.TextWalk.{TextSurroundings, SeenText, looking_texts}

@@ -1,15 +1,15 @@
 -- The walk of a tracer: the rules of a walk, over looking at guest texts by peeks.
 use Rattle.std.specs.Prelude.{ℕ, Bool, true, false, List, [], ◌∷◌, ◌++◌, Result, Ok, Err, if◌then◌else◌}
-use Rattle.pr_base.specs.MountText.{MountText}
-use Rattle.pr_base.specs.Paths.{Component, Dot, DotDot, Name, slash, dot, below_root, text_of}
-use Rattle.pr_base.specs.Peeks.{Peeked}
-use Rattle.pr_base.specs.Texts.{Text}
-use Rattle.pr_base.specs.WalkFrame.{Seen, Fails, Missing, Leads, Links, Jumps, Looking, Trail, walk}
-use Rattle.pr_base.specs.declared.errno.Errno.{Errno}
-use Rattle.pr_base.specs.declared.errno.Errno.TheVariants.{ENOENT, ENOTDIR}
-use Rattle.pr_base.specs.declared.path.WalkMode.{WalkMode}
-use Rattle.pr_base.specs.declared.peeks.PeekKind.{PeekKind}
-use Rattle.pr_base.specs.declared.peeks.PeekKind.TheVariants as kind
+use Rattle.pt_bind.specs.pr_base.MountText.{MountText}
+use Rattle.pt_bind.specs.pr_base.Paths.{Component, Dot, DotDot, Name, slash, dot, below_root, text_of}
+use Rattle.pt_bind.specs.pr_base.Peeks.{Peeked}
+use Rattle.pt_bind.specs.pr_base.Texts.{Text}
+use Rattle.pt_bind.specs.pr_base.WalkFrame.{Seen, Fails, Missing, Leads, Links, Jumps, Looking, Trail, walk}
+use Rattle.pt_bind.specs.pr_base.declared.errno.Errno.{Errno}
+use Rattle.pt_bind.specs.pr_base.declared.errno.Errno.TheVariants.{ENOENT, ENOTDIR}
+use Rattle.pt_bind.specs.pr_base.declared.path.WalkMode.{WalkMode}
+use Rattle.pt_bind.specs.pr_base.declared.peeks.PeekKind.{PeekKind}
+use Rattle.pt_bind.specs.pr_base.declared.peeks.PeekKind.TheVariants as kind
 use Rattle.pt_bind.specs.Binding.{host_of}
 use Rattle.pt_bind.specs.Tags.{TagTable}
 use Rattle.pt_canon.specs.ProcessLinks.{above, jump_at}

@@ -4,7 +4,7 @@ ghost use Rattle.std.specs.Prelude.{◌≡◌, IfOk};
 use crate::ending::Ending;
 use crate::guest::Guest;
 use crate::translation::Translation;
-use pr_base::{Bytes, Errno, Last, NoMemory, PeekFault, Peeks, WalkMode};
+use pt_bind::below::pr_base::{Bytes, Errno, Last, NoMemory, PeekFault, Peeks, WalkMode};
 use pt_bind::{Table, Tags};
 use std::alloc::Global;
 use std::marker::Model;
@@ -69,7 +69,7 @@ pub struct Walker {
 
 impl Model for Walker {
     ghost use Rattle.std.specs.Prelude.{List};
-    ghost use Rattle.pr_base.specs.declared.bind.Bound.{Bound};
+    ghost use Rattle.pt_bind.specs.pr_base.declared.bind.Bound.{Bound};
 
     ghost Value = { List Bound };
 

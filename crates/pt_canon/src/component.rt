@@ -1,6 +1,6 @@
 //! Components of paths.
 ghost use Rattle.std.specs.Prelude.{◌≡◌};
-ghost use Rattle.pr_base.specs.Paths.{component_of};
+ghost use Rattle.pt_bind.specs.pr_base.Paths.{component_of};
 ghost use Rattle.pt_canon.specs.Components.{component_data};
 
 /// A component of a path.

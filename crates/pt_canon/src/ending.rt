@@ -1,7 +1,7 @@
 //! Where a walk ends.
 
 use crate::guest::Guest;
-use pr_base::Last;
+use pt_bind::below::pr_base::Last;
 
 /// Where a walk ends: the guest text that it answers, what the path ends with, whether a slash stands behind that, and
 /// whether what was asked for is there.

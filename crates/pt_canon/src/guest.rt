@@ -1,12 +1,12 @@
 //! Guest texts that grow and are cut.
 ghost use Rattle.std.specs.Prelude.{◌≡◌, ◌≢◌, ℕ, ◌≤◌, List, [], ◌∷◌, ◌++◌, length, IfOk, MatchOption};
 ghost use Rattle.std.specs.List.{All};
-ghost use Rattle.pr_base.specs.Paths.{slash, IsPart, below_root, text_of};
+ghost use Rattle.pt_bind.specs.pr_base.Paths.{slash, IsPart, below_root, text_of};
 ghost use Rattle.pt_bind.specs.Binding.{IsWritten, names_of};
 ghost use Rattle.pt_canon.specs.ProcessLinks.{above};
 ghost use Rattle.pt_canon.specs.Kept.{IsBelowRoot, IsParted};
 
-use pr_base::NoMemory;
+use pt_bind::below::pr_base::NoMemory;
 use std::alloc::Global;
 use std::marker::Model;
 

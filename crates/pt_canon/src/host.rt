@@ -1,6 +1,6 @@
 //! Peeks at host texts, as what they tell a walk.
 ghost use Rattle.std.specs.Prelude.{◌≡◌, IfOk, Ok};
-ghost use Rattle.pr_base.specs.Peeks.{IsPeeked};
+ghost use Rattle.pt_bind.specs.pr_base.Peeks.{IsPeeked};
 ghost use Rattle.pt_bind.specs.Binding.{IsWritten, names_of};
 ghost use Rattle.pt_canon.specs.ProcessLinks.{is_dir_kind};
 ghost use Rattle.pt_canon.specs.TextWalk.{itself_in};
@@ -8,7 +8,7 @@ ghost use Rattle.pt_canon.specs.Looks.{IsDirectoryTold, IsItselfTold};
 
 use crate::canon::WalkErr;
 use crate::guest::below_root;
-use pr_base::{Bytes, Errno, NoMemory, PeekFault, PeekKind, Peeks};
+use pt_bind::below::pr_base::{Bytes, Errno, NoMemory, PeekFault, PeekKind, Peeks};
 use std::alloc::Global;
 
 /// What stands at a host text.

@@ -1,6 +1,7 @@
 //! The walk of a tracer over guest texts.
 #![tactic(auto)]
 
+pub mod below;
 pub mod canon;
 mod component;
 mod ending;

@@ -1,14 +1,14 @@
 //! What a tracer sees of a guest text.
 ghost use Rattle.std.specs.Prelude.{◌≡◌, Result, Ok, Err};
-ghost use Rattle.pr_base.specs.Peeks.{IsPeeked};
-ghost use Rattle.pr_base.specs.Texts.{Text};
-ghost use Rattle.pr_base.specs.declared.errno.Errno.{Errno};
-ghost use Rattle.pr_base.specs.declared.peeks.PeekKind.{PeekKind};
+ghost use Rattle.pt_bind.specs.pr_base.Peeks.{IsPeeked};
+ghost use Rattle.pt_bind.specs.pr_base.Texts.{Text};
+ghost use Rattle.pt_bind.specs.pr_base.declared.errno.Errno.{Errno};
+ghost use Rattle.pt_bind.specs.pr_base.declared.peeks.PeekKind.{PeekKind};
 ghost use Rattle.pt_canon.specs.TextWalk.{TextSurroundings, seen_kind};
 ghost use Rattle.pt_canon.specs.Looks.{IsSeen};
 
 use crate::canon::WalkErr;
-use pr_base::{Bytes, Errno, PeekFault};
+use pt_bind::below::pr_base::{Bytes, Errno, PeekFault};
 
 /// What is known of a guest text from the peeks before.
 #[derive(Clone, Copy)]

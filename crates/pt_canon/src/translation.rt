@@ -1,7 +1,7 @@
 //! Looking at guest texts through the kernel that runs the process.
 ghost use Rattle.std.specs.Prelude.{◌≡◌, Ok, IfOk, IfSome};
 ghost use Rattle.std.specs.Option.{option_map};
-ghost use Rattle.pr_base.specs.Paths.{text_of};
+ghost use Rattle.pt_bind.specs.pr_base.Paths.{text_of};
 ghost use Rattle.pt_bind.specs.Binding.{IsWritten, guest_of, host_of, names_of, rows_of};
 ghost use Rattle.pt_canon.specs.Laws.{host_bytes};
 ghost use Rattle.pt_canon.specs.ProcessLinks.{jump_at, landing_of, link_guest, link_name};
@@ -13,7 +13,7 @@ use crate::guest::Guest;
 use crate::host::{find_directory, find_itself, kind_at, link_text_at};
 use crate::link::{ProcessLink, link_at};
 use crate::sight::{Known, Sight, unseen};
-use pr_base::{Bytes, NoMemory, PeekKind, Peeks};
+use pt_bind::below::pr_base::{Bytes, NoMemory, PeekKind, Peeks};
 use pt_bind::{Table, Tags};
 use std::alloc::Global;
 

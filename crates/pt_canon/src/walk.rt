@@ -1,8 +1,8 @@
 //! Walks along paths, over guest texts.
 ghost use Rattle.std.specs.Prelude.{◌≡◌, ℕ, List, [], ◌++◌, ◌∷◌, true, false, Some, IfOk};
-ghost use Rattle.pr_base.specs.Paths.{Dot, DotDot, Name, slash, components_of, has_slash, IsComponent};
-ghost use Rattle.pr_base.specs.WalkFrame.{Missing, Leads, Links, is_followed, wants_directory, may_be_free, target_at};
-ghost use Rattle.pr_base.specs.declared.path.Last.TheVariants as last;
+ghost use Rattle.pt_bind.specs.pr_base.Paths.{Dot, DotDot, Name, slash, components_of, has_slash, IsComponent};
+ghost use Rattle.pt_bind.specs.pr_base.WalkFrame.{Missing, Leads, Links, is_followed, wants_directory, may_be_free, target_at};
+ghost use Rattle.pt_bind.specs.pr_base.declared.path.Last.TheVariants as last;
 ghost use Rattle.pt_bind.specs.Binding.{IsWritten, host_of, names_of, rows_of};
 ghost use Rattle.pt_canon.specs.Canon.{canon_at, ending_of, IsAnswer};
 ghost use Rattle.pt_canon.specs.Components.{component_data};
@@ -19,7 +19,7 @@ use crate::guest::Guest;
 use crate::host::is_directory;
 use crate::sight::{Known, Sight};
 use crate::translation::Translation;
-use pr_base::{Bytes, Errno, Last, NoMemory, Peeks, WalkMode, components};
+use pt_bind::below::pr_base::{Bytes, Errno, Last, NoMemory, Peeks, WalkMode, components};
 use std::alloc::Global;
 
 /// Where a walk goes on behind a link that it followed: from which guest text along which path, and whether a slash

@@ -14,7 +14,7 @@ use Rattle.pr_base.specs.declared.peeks.PeekKind.{PeekKind}
 use Rattle.pr_base.specs.declared.peeks.PeekKind.TheVariants as kind
 use Rattle.pt_bind.specs.Binding.{names_of}
 use Rattle.pt_canon.specs.TextWalk.{TextSurroundings, look_text, seen_text}
-use Rattle.kr_calls.specs.Expansion.{expanded}
+use Rattle.pt_script.specs.kr_calls.Expansion.{expanded}
 use Rattle.pt_first.specs.GuestStart.{guest_start, searched, working_directory}
 use Rattle.pt_first.specs.declared.begun.Begun.{Begun}
 use Rattle.pr_command.specs.declared.launch.Launch.{Launch}

@@ -2,12 +2,12 @@
 use Rattle.std.proofs.Common.{◌≡◌, Some, Result, Ok, Err, ap, ◌∙◌}
 use Rattle.pr_base.specs.declared.errno.Errno.{Errno}
 use Rattle.pr_base.specs.declared.errno.Errno.TheVariants.{ENOENT}
-use Rattle.kr_inode.specs.declared.user.User.{User}
+use Rattle.kr_tree.specs.kr_inode.declared.user.User.{User}
 use Rattle.kr_tree.specs.declared.place.Host.{Host}
 use Rattle.kr_tree.specs.Tree.{Tree}
 use Rattle.kr_view.specs.View.{plain}
 use Rattle.kr_view.specs.Walk.{PlaceTarget}
-use Rattle.kr_model.specs.Peeks.{at_found, kind_of_answer, kind_seen}
+use Rattle.walks_agree.specs.kr_model.Peeks.{at_found, kind_of_answer, kind_seen}
 use Rattle.kr_first.specs.Starting.{around}
 use Rattle.kr_hostview.specs.Peeking.{IsFound}
 use Rattle.pt_first.specs.FirstPeeks.{kind_at}

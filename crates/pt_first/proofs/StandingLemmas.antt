@@ -24,7 +24,7 @@ use Rattle.pt_canon.specs.Canon.{canon_at, canon_of, canon_result, ending_of}
 use Rattle.pt_canon.specs.TextWalk.{TextSurroundings, in_directory, itself_in, look_text, looking_texts, text_walk, where_found}
 use Rattle.pt_canon.specs.declared.canon.Canon.{Canon}
 use Rattle.pt_script.specs.Programs.{canon_from}
-use Rattle.kr_inode.specs.declared.user.User.{User}
+use Rattle.kr_tree.specs.kr_inode.declared.user.User.{User}
 use Rattle.kr_tree.specs.declared.place.Host.{Host}
 use Rattle.kr_tree.specs.declared.place.Host.TheVariants.{Node, Proc}
 use Rattle.kr_tree.specs.declared.place.Place.{Place}
@@ -41,8 +41,8 @@ use Rattle.kr_view.specs.Walk.{PlaceTarget, place_walk}
 use Rattle.kr_view.proofs.ArrivalLemmas.{texts_are_found}
 use Rattle.kr_view.proofs.HostReachLemmas.{reached_names, reached_there}
 use Rattle.kr_view.proofs.ProcessLemmas.{no_processes}
-use Rattle.kr_allowed.specs.Texts.{IsText}
-use Rattle.kr_model.specs.Peeks.{at_found, body_text, kind_of_answer, kind_seen, read_at, read_of}
+use Rattle.kr_first.specs.kr_allowed.Texts.{IsText}
+use Rattle.walks_agree.specs.kr_model.Peeks.{at_found, body_text, kind_of_answer, kind_seen, read_at, read_of}
 use Rattle.kr_first.specs.Started.{LeadsToDirectory}
 use Rattle.kr_first.specs.Starting.{around, directory_at, directory_found, if_directory}
 use Rattle.walks_agree.specs.Peeks.{ArePeeks, text_of_answer, text_seen}

@@ -8,18 +8,18 @@ use Rattle.pr_command.specs.Command.{arguments, word_of}
 use Rattle.pt_bind.specs.Tags.{TagTable}
 use Rattle.pt_canon.specs.TextWalk.{TextSurroundings}
 use Rattle.pt_canon.specs.declared.canon.Canon.{Canon}
-use Rattle.pt_args.specs.Walks.{and_then}
+use Rattle.pt_script.specs.pt_args.Walks.{and_then}
 use Rattle.pt_script.specs.Expanding.{expanded_from}
 use Rattle.pt_script.specs.Programs.{base_from, canon_from, program_from, program_in}
 use Rattle.pt_script.specs.declared.expansion.Expanded.{Expanded}
 use Rattle.pt_script.specs.declared.program.Program.{Program}
 use Rattle.pt_script.proofs.RunLemmas.{programs_run_by_chains}
-use Rattle.kr_calls.specs.Expansion.{bytes_with_ends}
-use Rattle.kr_exec.specs.Exec.{are_too_big}
+use Rattle.pt_script.specs.kr_calls.Expansion.{bytes_with_ends}
+use Rattle.kr_first.specs.kr_exec.Exec.{are_too_big}
 use Rattle.kr_first.specs.Started.{LeadsToDirectory}
 use Rattle.kr_first.specs.Starting.{is_walked, path_errno}
-use Rattle.kr_inode.specs.declared.user.User.{User}
-use Rattle.kr_allowed.specs.Texts.{IsText}
+use Rattle.kr_tree.specs.kr_inode.declared.user.User.{User}
+use Rattle.kr_first.specs.kr_allowed.Texts.{IsText}
 use Rattle.kr_tree.specs.Tree.{Tree}
 use Rattle.kr_view.specs.View.{Row, plain}
 use Rattle.walks_agree.specs.Settled.{IsSettled}

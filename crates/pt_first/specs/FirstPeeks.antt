@@ -7,7 +7,7 @@ use Rattle.pr_base.specs.declared.errno.Errno.TheVariants.{EINVAL}
 use Rattle.pr_base.specs.declared.path.WalkMode.TheVariants.{LookLink}
 use Rattle.pr_base.specs.declared.peeks.BaseKind.TheVariants as base_kind
 use Rattle.pr_base.specs.declared.peeks.PeekKind.{PeekKind}
-use Rattle.kr_inode.specs.declared.user.User.{User}
+use Rattle.kr_tree.specs.kr_inode.declared.user.User.{User}
 use Rattle.kr_tree.specs.declared.place.Host.{Host}
 use Rattle.kr_tree.specs.declared.place.Host.TheVariants.{Node, Proc}
 use Rattle.kr_tree.specs.Tree.{Tree, body}
@@ -15,7 +15,7 @@ use Rattle.kr_view.specs.Component.{seen_at}
 use Rattle.kr_view.specs.HostReach.{host_place}
 use Rattle.kr_view.specs.View.{plain, root_place}
 use Rattle.kr_view.specs.Walk.{PlaceTarget, place_walk}
-use Rattle.kr_model.specs.Peeks.{body_text, head_at, kind_along, kind_seen, read_of}
+use Rattle.walks_agree.specs.kr_model.Peeks.{body_text, head_at, kind_along, kind_seen, read_of}
 use Rattle.kr_first.specs.Starting.{around}
 
 -- a tree, in the name of a user

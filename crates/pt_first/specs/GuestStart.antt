@@ -11,13 +11,13 @@ use Rattle.pt_bind.specs.Tags.{TagTable, with_tag}
 use Rattle.pt_bind.specs.declared.slot.Slot.TheVariants as slot
 use Rattle.pt_canon.specs.TextWalk.{TextSurroundings}
 use Rattle.pt_canon.specs.declared.canon.Canon.{Canon}
-use Rattle.pt_args.specs.Walks.{and_then}
+use Rattle.pt_script.specs.pt_args.Walks.{and_then}
 use Rattle.pt_script.specs.Expanding.{expanded_from}
 use Rattle.pt_script.specs.Programs.{canon_from, program_from}
 use Rattle.pt_script.specs.declared.expansion.Expanded.{Expanded}
 use Rattle.pt_script.specs.declared.program.Program.{Program}
-use Rattle.kr_calls.specs.Expansion.{bytes_with_ends}
-use Rattle.kr_exec.specs.Exec.{are_too_big}
+use Rattle.pt_script.specs.kr_calls.Expansion.{bytes_with_ends}
+use Rattle.kr_first.specs.kr_exec.Exec.{are_too_big}
 use Rattle.kr_first.specs.Starting.{is_walked, path_errno}
 use Rattle.kr_first.specs.declared.starting.First.{First}
 use Rattle.kr_first.specs.declared.starting.StartFault.{StartFault}
@@ -130,8 +130,8 @@ module _ (texts : TextSurroundings) where
 
 -- ---- what the code answers
 
--- a start is this one, and its process has its tags; for want of memory it may have some of them
+-- a start is this one, and its process has its tags; else they are as they were
 abbrev pub IsBegun : Result Begun Errno → TagTable → TagTable → Result First StartFault → Type 0
 IsBegun answer old new (Ok first) = (b : Begun) × (answer ≡ Ok b) × (first ≡ b.first) × (new ≡ tagged old b)
 IsBegun answer old new (Err (fault.Err e)) = (answer ≡ Err e) × (new ≡ old)
-IsBegun answer old new (Err fault.NoMemory) = Unit {0}
+IsBegun answer old new (Err fault.NoMemory) = new ≡ old

@@ -2,12 +2,12 @@
 use Rattle.std.specs.Prelude.{◌≡◌, List, Ok}
 use Rattle.pt_bind.specs.Tags.{TagTable}
 use Rattle.pt_canon.specs.TextWalk.{TextSurroundings}
-use Rattle.kr_inode.specs.declared.user.User.{User}
+use Rattle.kr_tree.specs.kr_inode.declared.user.User.{User}
 use Rattle.kr_tree.specs.Tree.{Tree}
 use Rattle.kr_view.specs.Processes.{no_finds}
 use Rattle.kr_view.specs.View.{Row, plain}
-use Rattle.kr_mounts.specs.Standing.{texts_of}
-use Rattle.kr_allowed.specs.Texts.{IsText}
+use Rattle.walks_agree.specs.kr_mounts.Standing.{texts_of}
+use Rattle.kr_first.specs.kr_allowed.Texts.{IsText}
 use Rattle.kr_first.specs.Started.{LeadsToDirectory}
 use Rattle.walks_agree.specs.Settled.{IsSettled}
 use Rattle.pt_first.specs.FirstPeeks.{first_peeked}

@@ -1,28 +1,17 @@
 //! The first working directory.
 ghost use Rattle.std.specs.Prelude.{◌≡◌, IfOk};
-ghost use Rattle.kr_first.specs.Starting.{is_walked};
 ghost use Rattle.pt_bind.specs.Binding.{IsWritten};
 ghost use Rattle.pt_canon.specs.Canon.{IsAnswer, texts_by};
 ghost use Rattle.pt_script.specs.Programs.{canon_from};
 ghost use Rattle.pt_first.specs.GuestStart.{directory_at, working_directory};
 
-use pr_base::{Bytes, NoMemory, Peeks, WalkMode};
+use pr_base::{Bytes, NoMemory, Peeks, WalkMode, is_walked};
 use pt_bind::Tags;
 use pt_canon::{Canon, WalkErr, Walker};
 use std::alloc::Global;
 
 /// The root's guest text.
 pub(crate) const ROOT: &[u8] = b"/";
-
-/// How many bytes a path has at most, with its zero.
-const TEXT_LIMIT: usize = 4096;
-
-/// Whether a path is walked: an empty one isn't, nor one that is too long.
-pub(crate) fn is_walked(path: &[u8]) -> bool
-    ensures { result ≡ is_walked path.now }
-{
-    !path.is_empty() && path.len() < TEXT_LIMIT
-}
 
 /// Where a path leads from a guest text, a last link followed.
 pub(crate) fn canon_from<K: Peeks>(

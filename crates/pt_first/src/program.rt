@@ -2,13 +2,13 @@
 ghost use Rattle.std.specs.Prelude.{◌≡◌, ◌≤◌, ◌<◌, length, false, true, IfOk, MatchOption};
 ghost use Rattle.pt_bind.specs.Binding.{IsWritten};
 ghost use Rattle.pt_canon.specs.Canon.{IsAnswer, texts_by};
-ghost use Rattle.kr_calls.specs.Expansion.{bytes_with_ends};
-ghost use Rattle.kr_exec.specs.Exec.{are_too_big};
+ghost use Rattle.pt_script.specs.kr_calls.Expansion.{bytes_with_ends};
+ghost use Rattle.kr_first.specs.kr_exec.Exec.{are_too_big};
 ghost use Rattle.kr_first.specs.Starting.{path_errno};
 ghost use Rattle.pt_first.specs.GuestStart.{base_of, handed, if_short, run_from, run_with};
 
-use crate::directory::{ROOT, canon_from, is_walked};
-use pr_base::{Bytes, Errno, Peeks, Texts, components};
+use crate::directory::{ROOT, canon_from};
+use pr_base::{Bytes, Errno, Peeks, Texts, components, is_walked};
 use pt_bind::Tags;
 use pt_canon::{Canon, WalkErr, Walker};
 use pt_script::{Expanded, bytes_within, expand_from, is_too_big, program_from};

@@ -1,5 +1,5 @@
 //! The start.
-ghost use Rattle.std.specs.Prelude.{◌≡◌, IfOk, OnOk};
+ghost use Rattle.std.specs.Prelude.{◌≡◌, IfOk, OnErr, OnOk};
 ghost use Rattle.pt_bind.specs.Binding.{IsWritten, rows_of};
 ghost use Rattle.pt_canon.specs.Canon.{IsAnswer, texts_by};
 ghost use Rattle.pt_first.specs.FirstPeeks.{first_peeked};
@@ -31,7 +31,7 @@ const NOWHERE: Reach = Reach {
 
 /// The first process of a launch, by what a kernel tells before a process lives, and its tags. A command without a slash is the first program
 /// of that name in the directories of PATH, ENOENT where there is none; else the errors are those of execve(2) of a process in the
-/// working directory, and no tag is set.
+/// working directory. Where none begins, also for want of memory, no tag is set.
 pub fn first_by<K: Peeks>(
     alloc: Global,
     kernel: &mut K,
@@ -55,7 +55,7 @@ pub fn first_by<K: Peeks>(
 }
 
 /// The first process of a launch over a tree in which no process lives, in the name of a user, and its tags. The errors are those of
-/// `first_by`.
+/// `first_by`, and where none begins no tag is set.
 pub fn first(
     alloc: Global,
     walker: &mut Walker,
@@ -71,12 +71,12 @@ pub fn first(
     first_by(alloc, &mut kernel, walker, tags, launch)
 }
 
-/// Sets the tags of the first process. Where memory is wanting a part of them may be set.
+/// Sets the tags of the first process. Where memory is wanting nothing changes.
 fn note(tags: &mut Tags, begun: &Begun) -> Result<(), NoMemory>
-    ensures { OnOk result (tags.new ≡ tagged tags.old begun.now) }
+    ensures ok { OnOk result (tags.new ≡ tagged tags.old begun.now) }
+    ensures err { OnErr result (tags.new ≡ tags.old) }
 {
-    tags.set_cwd(FIRST, begun.cwd)?;
-    tags.set_exe(FIRST, begun.exe)
+    tags.begin(FIRST, begun.cwd, begun.exe)
 }
 
 /// What begins.

@@ -3,9 +3,9 @@ use Rattle.std.proofs.Common.{◌≡◌, ◌∙◌, ◌⊎◌, ◌==◌, ◌&&�
 use Rattle.std.specs.Int.{to_le_bytes}
 use Rattle.pr_base.specs.declared.errno.Errno.{Errno}
 use Rattle.pr_base.specs.declared.errno.Errno.TheVariants.{EPERM, EINVAL, EFAULT}
-use Rattle.rv_mem.specs.Actions.{ReadBytes, WriteBytes, carried_out, allows_uses}
-use Rattle.rv_mem.specs.Memory.{Memory}
-use Rattle.rv_mem.specs.declared.rights.Use.TheVariants.{Read, Write}
+use Rattle.kr_calls.specs.rv_mem.Actions.{ReadBytes, WriteBytes, carried_out, allows_uses}
+use Rattle.kr_calls.specs.rv_mem.Memory.{Memory}
+use Rattle.kr_calls.specs.rv_mem.declared.rights.Use.TheVariants.{Read, Write}
 use Rattle.kr_calls.specs.declared.request.Request.{Request}
 use Rattle.kr_calls.specs.declared.request.Request.TheVariants as call
 use Rattle.pt_ident.specs.Identity.{Answered, Effect, TellsNumbers, TellsGroups, TakesGroups, Identity, Numbers, answered, effect, get_groups, is_allowed, is_among, is_privileged, is_saved, keeps_group, keeps_user, most_groups, natural, no_number, number_bytes, numbers_in, or_old, refusal, refuses, set_one, set_three, set_two, take_groups, tells, three_of, with_groups, with_three, with_two}

@@ -6,8 +6,8 @@ use Rattle.std.specs.List.{flat_map, list_any}
 use Rattle.pr_base.specs.declared.errno.Errno.{Errno}
 use Rattle.pr_base.specs.declared.errno.Errno.TheVariants.{EPERM, EFAULT, EINVAL}
 use Rattle.pr_base.specs.Errno.{errno_number}
-use Rattle.rv_mem.specs.Actions.{Action, Done, MayUse, WriteBytes, read_if_allowed, write_if_allowed}
-use Rattle.rv_mem.specs.declared.rights.Use.TheVariants.{Read, Write}
+use Rattle.kr_calls.specs.rv_mem.Actions.{Action, Done, MayUse, WriteBytes, read_if_allowed, write_if_allowed}
+use Rattle.kr_calls.specs.rv_mem.declared.rights.Use.TheVariants.{Read, Write}
 use Rattle.kr_calls.specs.declared.request.Request.{Request}
 use Rattle.kr_calls.specs.declared.request.Request.TheVariants as call
 

@@ -1,7 +1,7 @@
 -- Laws of the identity, in the words of its subject.
 use Rattle.std.specs.Prelude.{◌≡◌, ◌⊎◌, ◌<◌, ◌^◌, ℕ, All, false, List, [], ◌∷◌, negsuc, Option, Some, None}
-use Rattle.rv_mem.specs.Actions.{carried_out}
-use Rattle.rv_mem.specs.Memory.{Memory}
+use Rattle.kr_calls.specs.rv_mem.Actions.{carried_out}
+use Rattle.kr_calls.specs.rv_mem.Memory.{Memory}
 use Rattle.kr_inode.specs.declared.user.User.{User}
 use Rattle.kr_calls.specs.declared.request.Request.{Request}
 use Rattle.kr_calls.specs.declared.stat.Stat.{Stat}

@@ -1,6 +1,7 @@
 //! The identity that a process believes in: the numbers of its user and its groups, what calls make of them, and where they are shown.
 #![tactic(auto)]
 
+pub mod below;
 mod calls;
 mod ids;
 pub mod laws;

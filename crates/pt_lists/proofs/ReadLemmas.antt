@@ -9,11 +9,11 @@ use Rattle.rv_mem.specs.Actions.{Action, CarriedOut, Done, ReadBytes, carried_ou
 use Rattle.rv_mem.specs.Memory.{Memory, after_read}
 use Rattle.rv_mem.specs.Pages.{allows_all, bytes_from}
 use Rattle.rv_mem.specs.declared.rights.Use.TheVariants.{Read}
-use Rattle.kr_calls.specs.Expansion.{bytes_with_ends}
-use Rattle.kr_calls.specs.declared.fault.CallFault.{CallFault}
-use Rattle.kr_calls.specs.declared.fault.CallFault.TheVariants as call
-use Rattle.kr_exec.specs.Lists.{Trying, address_at, and_then, at_least_one, if_it_fits, most_bytes, next_address}
-use Rattle.kr_exec.proofs.ListLemmas.{and_then_is, is_less, not_zero, on_reply}
+use Rattle.pt_tracer.specs.kr_calls.Expansion.{bytes_with_ends}
+use Rattle.pt_tracer.specs.kr_calls.declared.fault.CallFault.{CallFault}
+use Rattle.pt_tracer.specs.kr_calls.declared.fault.CallFault.TheVariants as call
+use Rattle.pt_tracer.specs.kr_exec.Lists.{Trying, address_at, and_then, at_least_one, if_it_fits, most_bytes, next_address}
+use Rattle.pt_tracer.proofs.kr_exec.ListLemmas.{and_then_is, is_less, not_zero, on_reply}
 use Rattle.pt_tracer.specs.Stopping.{after_peek, IsThere, memory_at, Stopped, with_memory}
 use Rattle.pt_tracer.specs.Carrying.{CarriesOut}
 use Rattle.pt_tracer.proofs.AuxiliaryLemmas.{word-of}

@@ -5,10 +5,10 @@ use Rattle.pr_base.specs.declared.errno.Errno.{Errno}
 use Rattle.pr_base.specs.declared.errno.Errno.TheVariants.{EFAULT, E2BIG}
 use Rattle.rv_mem.specs.Actions.{Action, Done, read_if_allowed}
 use Rattle.rv_mem.specs.declared.rights.Use.TheVariants.{Read}
-use Rattle.kr_calls.specs.Expansion.{bytes_with_ends}
-use Rattle.kr_calls.specs.declared.fault.CallFault.{CallFault}
-use Rattle.kr_calls.specs.declared.fault.CallFault.TheVariants as call
-use Rattle.kr_exec.specs.Lists.{Trying, address_at, and_then, at_least_one, if_it_fits, most_bytes, most_texts, next_address}
+use Rattle.pt_tracer.specs.kr_calls.Expansion.{bytes_with_ends}
+use Rattle.pt_tracer.specs.kr_calls.declared.fault.CallFault.{CallFault}
+use Rattle.pt_tracer.specs.kr_calls.declared.fault.CallFault.TheVariants as call
+use Rattle.pt_tracer.specs.kr_exec.Lists.{Trying, address_at, and_then, at_least_one, if_it_fits, most_bytes, most_texts, next_address}
 use Rattle.pt_tracer.specs.Stopping.{Stopped}
 use Rattle.pt_lists.specs.declared.lists.Handed.{Handed}
 use Rattle.pt_lists.specs.declared.lists.List.{List as ListRead}

@@ -1,14 +1,14 @@
 //! Lists of texts in the memory of a stopped process.
 ghost use Rattle.std.specs.Prelude.{◌≡◌, ◌+◌, ◌*◌, ◌<◌, ◌≤◌, [], IfOk, length};
-ghost use Rattle.kr_calls.specs.Expansion.{bytes_with_ends};
-ghost use Rattle.kr_exec.specs.Lists.{at_least_one, most_texts};
+ghost use Rattle.pt_tracer.specs.kr_calls.Expansion.{bytes_with_ends};
+ghost use Rattle.pt_tracer.specs.kr_exec.Lists.{at_least_one, most_texts};
 ghost use Rattle.pt_tracer.specs.Stopping.{IsEdited};
 ghost use Rattle.pt_lists.specs.Reading.{addresses_behind, list_at, lists_at, texts_from, texts_read, Reads};
 
 use crate::text::{MOST_BYTES, read_address, read_text_within};
-use kr_calls::CallFault;
 use pr_base::{Bytes, Errno, NoMemory, Texts};
 use pt_tracer::Tracee;
+use pt_tracer::below::CallFault;
 use rv_mem::Use;
 use std::alloc::Global;
 

@@ -1,13 +1,13 @@
 //! Texts in the memory of a stopped process.
 ghost use Rattle.std.specs.Prelude.{◌≡◌, ◌<◌, IfOk, length};
-ghost use Rattle.kr_exec.specs.Lists.{address_at};
+ghost use Rattle.pt_tracer.specs.kr_exec.Lists.{address_at};
 ghost use Rattle.pt_tracer.specs.Stopping.{IsEdited};
 ghost use Rattle.pt_tracer.specs.Carrying.{CarriesOut};
 ghost use Rattle.pt_lists.specs.Reading.{byte_at, text_at, text_within, Reads};
 
-use kr_calls::CallFault;
 use pr_base::{Bytes, Errno};
 use pt_tracer::Tracee;
+use pt_tracer::below::CallFault;
 use rv_mem::Use;
 use std::alloc::Global;
 

@@ -3,7 +3,7 @@ use Rattle.std.proofs.Common.{◌≡◌, [], ◌∷◌, ◌++◌, None, Some, Ok
 use Rattle.std.specs.Prelude.{codes}
 use Rattle.pr_base.specs.declared.errno.Errno.TheVariants.{ENOENT, ERANGE}
 use Rattle.pt_bind.specs.declared.slot.Slot.TheVariants.{Cwd, Exe, Fd}
-use Rattle.kr_calls.specs.declared.request.Request.TheVariants as call
+use Rattle.pt_args.specs.kr_calls.declared.request.Request.TheVariants as call
 use Rattle.pt_args.specs.declared.edit.Edit.TheVariants.{Cancel, Emulate}
 use Rattle.pt_results.specs.Answers.{directory_answer, lead_answer, nowhere_answer}
 use Rattle.pt_results.specs.Notes.{noted}

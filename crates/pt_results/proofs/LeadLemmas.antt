@@ -7,8 +7,8 @@ use Rattle.pr_base.specs.WalkFrame.{Jumps, Looking, Trail, after_look, at_last, 
 use Rattle.pr_base.specs.declared.path.WalkMode.TheVariants as mode
 use Rattle.pr_base.proofs.PathLemmas.{part_components, part_no_slash, part_relative}
 use Rattle.pr_base.proofs.WalkLemmas.{walk-last}
-use Rattle.pt_canon.specs.Canon.{canon_at, canon_result, ending_of}
-use Rattle.pt_canon.specs.TextWalk.{SeenText, TextSurroundings, look_text, looking_texts, text_walk}
+use Rattle.pt_args.specs.pt_canon.Canon.{canon_at, canon_result, ending_of}
+use Rattle.pt_args.specs.pt_canon.TextWalk.{SeenText, TextSurroundings, look_text, looking_texts, text_walk}
 use Rattle.pt_results.specs.Laws.{LinksLeadByTags}
 
 module _ (texts : TextSurroundings) (dir : Text) (name : List ℕ) (is : IsPart name) where

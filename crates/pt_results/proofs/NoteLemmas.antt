@@ -3,8 +3,8 @@ use Rattle.std.proofs.Common.{◌≡◌, ◌≢◌, ℕ, refl}
 use Rattle.pt_bind.specs.Tags.{TagTable, tag_of}
 use Rattle.pt_bind.specs.declared.slot.Slot.{Slot}
 use Rattle.pt_bind.proofs.TagLemmas.{tags_change}
-use Rattle.kr_calls.specs.declared.request.Request.{Request}
-use Rattle.kr_calls.specs.declared.request.Request.TheVariants as call
+use Rattle.pt_args.specs.kr_calls.declared.request.Request.{Request}
+use Rattle.pt_args.specs.kr_calls.declared.request.Request.TheVariants as call
 use Rattle.std.specs.Prelude.{None}
 use Rattle.pt_results.specs.Laws.{IsChangedBy, NotesChangeOneSlot}
 use Rattle.pt_results.specs.Notes.{noted_of, tags_after}

@@ -7,10 +7,10 @@ use Rattle.pr_base.specs.declared.errno.Errno.TheVariants.{ENOENT}
 use Rattle.pr_base.specs.declared.path.WalkMode.TheVariants as mode
 use Rattle.pt_bind.specs.Tags.{TagTable, tag_of}
 use Rattle.pt_bind.specs.declared.slot.Slot.{Slot}
-use Rattle.pt_canon.specs.Canon.{canon_of}
-use Rattle.pt_canon.specs.TextWalk.{TextSurroundings, look_text}
-use Rattle.pt_canon.specs.declared.canon.Canon.{Canon}
-use Rattle.kr_calls.specs.declared.request.Request.{Request}
+use Rattle.pt_args.specs.pt_canon.Canon.{canon_of}
+use Rattle.pt_args.specs.pt_canon.TextWalk.{TextSurroundings, look_text}
+use Rattle.pt_args.specs.pt_canon.declared.canon.Canon.{Canon}
+use Rattle.pt_args.specs.kr_calls.declared.request.Request.{Request}
 use Rattle.pt_results.specs.Notes.{noted, tags_after}
 use Rattle.pt_results.specs.declared.note.Note.{Note}
 use Rattle.pt_results.specs.declared.note.Note.TheVariants.{Nothing, Sets, Copies}

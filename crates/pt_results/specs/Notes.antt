@@ -4,8 +4,8 @@ use Rattle.std.specs.Prelude.{ℕ, ◌==◌, ℤ, pos, negsuc, Option, Some, Non
 use Rattle.pt_bind.specs.Tags.{TagTable, tag_of, with_tag}
 use Rattle.pt_bind.specs.declared.slot.Slot.{Slot}
 use Rattle.pt_bind.specs.declared.slot.Slot.TheVariants.{Cwd, Exe, Fd}
-use Rattle.kr_calls.specs.declared.request.Request.{Request}
-use Rattle.kr_calls.specs.declared.request.Request.TheVariants as call
+use Rattle.pt_args.specs.kr_calls.declared.request.Request.{Request}
+use Rattle.pt_args.specs.kr_calls.declared.request.Request.TheVariants as call
 use Rattle.pt_args.specs.Bases.{descriptor_number}
 use Rattle.pt_results.specs.Numbers.{made_number}
 use Rattle.pt_results.specs.declared.note.Note.{Note}

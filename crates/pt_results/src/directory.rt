@@ -1,12 +1,12 @@
 //! The answer of getcwd(2).
 ghost use Rattle.std.specs.Prelude.{◌≡◌, ◌+◌, ◌≤◌, IfOk, length};
-ghost use Rattle.pt_canon.specs.Canon.{texts_by};
+ghost use Rattle.pt_args.specs.pt_canon.Canon.{texts_by};
 ghost use Rattle.pt_results.specs.Answers.{cwd_answer, text_answer};
 
 use pr_base::{Bytes, Errno, NoMemory, Peeks};
+use pt_args::below::pt_canon::Walker;
 use pt_args::{Edit, Pokes, working_text};
 use pt_bind::Tags;
-use pt_canon::Walker;
 use std::alloc::Global;
 
 /// The answer of getcwd(2) in guest terms: the guest text of the working directory with its zero, and how many bytes that are.

@@ -1,6 +1,7 @@
 //! What a tracer answers in place of the plain kernel, and what it notes of the plain kernel's answers.
 #![tactic(auto)]
 
+pub mod below;
 pub mod directory;
 pub mod laws;
 pub mod link;

@@ -2,15 +2,15 @@
 ghost use Rattle.std.specs.Prelude.{◌≡◌, IsTrue, IfOk};
 ghost use Rattle.pr_base.specs.Paths.{is_absolute};
 ghost use Rattle.pt_bind.specs.Binding.{IsWritten, names_of};
-ghost use Rattle.pt_canon.specs.Canon.{texts_by};
+ghost use Rattle.pt_args.specs.pt_canon.Canon.{texts_by};
 ghost use Rattle.pt_results.specs.Answers.{jump_answer, lead_answer, link_answer, nowhere_answer, read_answer};
 
 use crate::numbers::count_of;
-use kr_calls::{Request, path_of};
 use pr_base::{Bytes, Errno, NoMemory, PeekFault, PeekKind, Peeks, WalkMode, components};
+use pt_args::below::kr_calls::{Request, path_of};
+use pt_args::below::pt_canon::{Canon, WalkErr, Walker};
 use pt_args::{Edit, Pokes, parted, walk_path};
 use pt_bind::Tags;
-use pt_canon::{Canon, WalkErr, Walker};
 use std::alloc::Global;
 
 /// Where the bytes of a text are put, and how many at most.

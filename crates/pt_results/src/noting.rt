@@ -5,8 +5,8 @@ ghost use Rattle.pt_results.specs.Notes.{copied, duplicated, noted, tags_after};
 
 use crate::note::Note;
 use crate::numbers::{descriptor_number, made_number};
-use kr_calls::Request;
 use pr_base::NoMemory;
+use pt_args::below::kr_calls::Request;
 use pt_bind::{Slot, Tags};
 
 /// F_DUPFD of fcntl(2).

@@ -3,9 +3,9 @@ use Rattle.std.proofs.Common.{◌≡◌, ℕ, zero, suc, Bool, true, false, List
 use Rattle.std.specs.Prelude.{if◌then◌else◌}
 use Rattle.pr_base.specs.declared.errno.Errno.{Errno}
 use Rattle.pr_base.specs.declared.errno.Errno.TheVariants.{E2BIG}
-use Rattle.pt_canon.specs.TextWalk.{TextSurroundings}
-use Rattle.kr_calls.specs.Expansion.{argument_of, is_too_big, new_args}
-use Rattle.kr_calls.specs.Scripts.{script_of}
+use Rattle.pt_args.specs.pt_canon.TextWalk.{TextSurroundings}
+use Rattle.pt_args.specs.kr_calls.Expansion.{argument_of, is_too_big, new_args}
+use Rattle.pt_args.specs.kr_calls.Scripts.{script_of}
 use Rattle.pt_args.specs.Walks.{and_then}
 use Rattle.pt_script.specs.Chains.{Chain, LeadsTo}
 use Rattle.pt_script.specs.Expanding.{command_of, if_args_fit, interpreted_by}

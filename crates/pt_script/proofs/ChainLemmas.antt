@@ -2,12 +2,12 @@
 use Rattle.std.proofs.Common.{◌≡◌, ◌≢◌, ◌≤◌, ℕ, zero, suc, ◌+◌, ◌-◌, Bool, true, false, cond, List, Option, Some, None, Result, Ok, Err, refl, sym, ap, ◌∙◌, arith}
 use Rattle.pr_base.specs.declared.errno.Errno.{Errno}
 use Rattle.pr_base.specs.declared.errno.Errno.TheVariants.{E2BIG, ELOOP}
-use Rattle.pt_canon.specs.Canon.{IsAnswer}
-use Rattle.pt_canon.specs.TextWalk.{TextSurroundings}
-use Rattle.pt_canon.specs.declared.canon.WalkErr.{WalkErr}
-use Rattle.pt_canon.specs.declared.canon.WalkErr.TheVariants as fault
-use Rattle.kr_calls.specs.Expansion.{by_interpreter, by_line, expanded, is_script, is_too_big, most_scripts, new_args, runs}
-use Rattle.kr_calls.specs.Scripts.{script_of}
+use Rattle.pt_args.specs.pt_canon.Canon.{IsAnswer}
+use Rattle.pt_args.specs.pt_canon.TextWalk.{TextSurroundings}
+use Rattle.pt_args.specs.pt_canon.declared.canon.WalkErr.{WalkErr}
+use Rattle.pt_args.specs.pt_canon.declared.canon.WalkErr.TheVariants as fault
+use Rattle.pt_args.specs.kr_calls.Expansion.{by_interpreter, by_line, expanded, is_script, is_too_big, most_scripts, new_args, runs}
+use Rattle.pt_args.specs.kr_calls.Scripts.{script_of}
 use Rattle.pt_args.specs.Walks.{and_then}
 use Rattle.pt_script.specs.Chains.{Chain}
 use Rattle.pt_script.specs.Expanding.{command_of, ends_of, expanded_from, if_args_fit, interpreted, interpreted_by, shown_result}

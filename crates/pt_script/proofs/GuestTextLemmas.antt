@@ -5,10 +5,10 @@ use Rattle.pr_base.specs.Paths.{text_of}
 use Rattle.pr_base.specs.Texts.{Text}
 use Rattle.pr_base.specs.declared.errno.Errno.{Errno}
 use Rattle.pr_base.specs.declared.path.WalkMode.TheVariants.{Look}
-use Rattle.pt_bind.specs.Binding.{host_of, index_of, names_of}
-use Rattle.pt_canon.specs.Laws.{AnswersAreOfTheirTexts}
-use Rattle.pt_canon.specs.TextWalk.{TextSurroundings}
-use Rattle.pt_canon.specs.declared.canon.Canon.{Canon}
+use Rattle.pt_args.specs.pt_bind.Binding.{host_of, index_of, names_of}
+use Rattle.pt_args.specs.pt_canon.Laws.{AnswersAreOfTheirTexts}
+use Rattle.pt_args.specs.pt_canon.TextWalk.{TextSurroundings}
+use Rattle.pt_args.specs.pt_canon.declared.canon.Canon.{Canon}
 use Rattle.pt_args.specs.Walks.{and_then}
 use Rattle.pt_script.specs.Laws.{ProgramsAreOfGuestTexts}
 use Rattle.pt_script.specs.Programs.{base_from, canon_from, head_size, program_in}

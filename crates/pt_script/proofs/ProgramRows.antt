@@ -14,11 +14,11 @@ use Rattle.pr_base.specs.declared.errno.Errno.TheVariants.{EACCES, E2BIG, EINVAL
 use Rattle.pr_base.specs.declared.peeks.BaseKind.TheVariants as base
 use Rattle.pr_base.specs.declared.peeks.PeekKind.{PeekKind}
 use Rattle.pr_base.specs.declared.peeks.PeekKind.TheVariants as kind
-use Rattle.pt_bind.specs.Binding.{names_of}
-use Rattle.pt_bind.specs.Tags.{tag_at, tag_of, untagged as unset}
-use Rattle.pt_bind.specs.declared.slot.Slot.TheVariants.{Cwd}
-use Rattle.pt_canon.specs.TextWalk.{TextSurroundings, look_text, seen_text}
-use Rattle.kr_calls.specs.Expansion.{expanded}
+use Rattle.pt_args.specs.pt_bind.Binding.{names_of}
+use Rattle.pt_args.specs.pt_bind.Tags.{tag_at, tag_of, untagged as unset}
+use Rattle.pt_args.specs.pt_bind.declared.slot.Slot.TheVariants.{Cwd}
+use Rattle.pt_args.specs.pt_canon.TextWalk.{TextSurroundings, look_text, seen_text}
+use Rattle.pt_args.specs.kr_calls.Expansion.{expanded}
 use Rattle.pt_args.specs.Bases.{tagged_text, working_text}
 use Rattle.pt_script.specs.Expanding.{expanded_at}
 use Rattle.pt_script.specs.Programs.{base_from, or_lost}

@@ -2,9 +2,9 @@
 use Rattle.std.proofs.Common.{◌≡◌, ◌≤◌, ℕ, zero, suc, ◌-◌, Bool, true, false, List, Option, Result, Ok, Err, refl, sym, ap, ◌∙◌, subst, arith}
 use Rattle.pr_base.specs.declared.errno.Errno.{Errno}
 use Rattle.pr_base.specs.declared.errno.Errno.TheVariants.{ELOOP}
-use Rattle.pt_canon.specs.TextWalk.{TextSurroundings}
-use Rattle.kr_calls.specs.Expansion.{is_script, most_scripts, runs}
-use Rattle.kr_calls.specs.Expansion.{Expanded as Ended}
+use Rattle.pt_args.specs.pt_canon.TextWalk.{TextSurroundings}
+use Rattle.pt_args.specs.kr_calls.Expansion.{is_script, most_scripts, runs}
+use Rattle.pt_args.specs.kr_calls.Expansion.{Expanded as Ended}
 use Rattle.pt_args.specs.Walks.{and_then}
 use Rattle.pt_script.proofs.ArgumentLemmas.{found_at}
 use Rattle.pt_script.proofs.ChainLemmas.{loop_ends, program_ends, script_step}

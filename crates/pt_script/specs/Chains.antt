@@ -1,7 +1,7 @@
 -- Scripts that lead to one another.
 use Rattle.std.specs.Prelude.{◌≡◌, ℕ, zero, suc, true, List, Option, Ok}
-use Rattle.pt_canon.specs.TextWalk.{TextSurroundings}
-use Rattle.kr_calls.specs.Expansion.{is_script}
+use Rattle.pt_args.specs.pt_canon.TextWalk.{TextSurroundings}
+use Rattle.pt_args.specs.kr_calls.Expansion.{is_script}
 use Rattle.pt_script.specs.Expanding.{interpreted}
 use Rattle.pt_script.specs.declared.command.Command.{Command}
 

@@ -2,10 +2,10 @@
 use Rattle.std.specs.Prelude.{ℕ, List, Option, Some, None, Result, Ok, Err, if◌then◌else◌}
 use Rattle.pr_base.specs.declared.errno.Errno.{Errno}
 use Rattle.pr_base.specs.declared.errno.Errno.TheVariants.{E2BIG, ENOEXEC}
-use Rattle.pt_canon.specs.TextWalk.{TextSurroundings}
-use Rattle.kr_calls.specs.Expansion.{expanded, is_too_big, most_scripts, new_args}
-use Rattle.kr_calls.specs.Expansion.{Expanded as Ended}
-use Rattle.kr_calls.specs.Scripts.{script_of}
+use Rattle.pt_args.specs.pt_canon.TextWalk.{TextSurroundings}
+use Rattle.pt_args.specs.kr_calls.Expansion.{expanded, is_too_big, most_scripts, new_args}
+use Rattle.pt_args.specs.kr_calls.Expansion.{Expanded as Ended}
+use Rattle.pt_args.specs.kr_calls.Scripts.{script_of}
 use Rattle.pt_args.specs.Bases.{working_text}
 use Rattle.pt_args.specs.Walks.{and_then}
 use Rattle.pt_script.specs.Programs.{program_from, programs}

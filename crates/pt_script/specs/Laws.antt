@@ -4,9 +4,9 @@ use Rattle.pr_base.specs.Paths.{text_of}
 use Rattle.pr_base.specs.Texts.{Text}
 use Rattle.pr_base.specs.declared.errno.Errno.{Errno}
 use Rattle.pr_base.specs.declared.errno.Errno.TheVariants.{ELOOP}
-use Rattle.pt_bind.specs.Binding.{host_of, index_of}
-use Rattle.pt_canon.specs.TextWalk.{TextSurroundings}
-use Rattle.kr_calls.specs.Expansion.{is_script}
+use Rattle.pt_args.specs.pt_bind.Binding.{host_of, index_of}
+use Rattle.pt_args.specs.pt_canon.TextWalk.{TextSurroundings}
+use Rattle.pt_args.specs.kr_calls.Expansion.{is_script}
 use Rattle.pt_script.specs.Chains.{Chain}
 use Rattle.pt_script.specs.Expanding.{command_of, expanded_from, interpreted}
 use Rattle.pt_script.specs.Programs.{program_from}

@@ -5,11 +5,11 @@ use Rattle.pr_base.specs.Peeks.{Peeked}
 use Rattle.pr_base.specs.declared.errno.Errno.{Errno}
 use Rattle.pr_base.specs.declared.errno.Errno.TheVariants.{ENOENT}
 use Rattle.pr_base.specs.declared.path.WalkMode.TheVariants.{Look}
-use Rattle.pt_bind.specs.Binding.{names_of}
-use Rattle.pt_canon.specs.Canon.{canon_of}
-use Rattle.pt_canon.specs.TextWalk.{TextSurroundings}
-use Rattle.pt_canon.specs.declared.canon.Canon.{Canon}
-use Rattle.kr_calls.specs.Expansion.{Finding}
+use Rattle.pt_args.specs.pt_bind.Binding.{names_of}
+use Rattle.pt_args.specs.pt_canon.Canon.{canon_of}
+use Rattle.pt_args.specs.pt_canon.TextWalk.{TextSurroundings}
+use Rattle.pt_args.specs.pt_canon.declared.canon.Canon.{Canon}
+use Rattle.pt_args.specs.kr_calls.Expansion.{Finding}
 use Rattle.pt_args.specs.Walks.{and_then}
 use Rattle.pt_script.specs.declared.program.Program.{Program}
 

@@ -1,7 +1,7 @@
 //! The arguments of interpreters, and how much a program may be given.
 ghost use Rattle.std.specs.Prelude.{◌≡◌, ◌+◌, ◌≤◌, ◌<◌, ◌∷◌, drop, length, IfOk};
 ghost use Rattle.std.specs.Option.{SomeIff};
-ghost use Rattle.kr_calls.specs.Expansion.{bytes_with_ends, is_too_big, new_args};
+ghost use Rattle.pt_args.specs.kr_calls.Expansion.{bytes_with_ends, is_too_big, new_args};
 
 use pr_base::{Bytes, NoMemory, Texts};
 use std::alloc::Global;

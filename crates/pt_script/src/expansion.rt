@@ -1,20 +1,20 @@
 //! Scripts: files whose first line names the program that runs them.
 ghost use Rattle.std.specs.Prelude.{◌≡◌, ◌≤◌, length, IfOk, IfSome};
 ghost use Rattle.std.specs.Option.{option_copied};
-ghost use Rattle.pt_bind.specs.Binding.{IsWritten};
-ghost use Rattle.pt_canon.specs.Canon.{IsAnswer, texts_by};
-ghost use Rattle.kr_calls.specs.Expansion.{most_scripts};
-ghost use Rattle.kr_calls.specs.Scripts.{BeginsScript};
+ghost use Rattle.pt_args.specs.pt_bind.Binding.{IsWritten};
+ghost use Rattle.pt_args.specs.pt_canon.Canon.{IsAnswer, texts_by};
+ghost use Rattle.pt_args.specs.kr_calls.Expansion.{most_scripts};
+ghost use Rattle.pt_args.specs.kr_calls.Scripts.{BeginsScript};
 ghost use Rattle.pt_script.specs.Expanding.{ends_of, expanded_at, expanded_from, interpreted, shown_result};
 
 use crate::arguments::{is_too_big, new_args};
 use crate::command::Command;
 use crate::program::{is_script, program_from};
-use kr_calls::script_line;
 use pr_base::{Bytes, Errno, Peeks, Texts};
+use pt_args::below::kr_calls::script_line;
+use pt_args::below::pt_bind::Tags;
+use pt_args::below::pt_canon::{WalkErr, Walker};
 use pt_args::working_text;
-use pt_bind::Tags;
-use pt_canon::{WalkErr, Walker};
 use std::alloc::Global;
 
 /// The most scripts that are expanded, one after the other.

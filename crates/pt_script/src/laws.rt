@@ -1,7 +1,7 @@
 //! Laws of the definitions, each carried by a function that does nothing.
 ghost use Rattle.pt_script.specs.Laws.{ArgumentsFollow, ProgramsAreOfGuestTexts, ProgramsRunByChains, ScriptsEnd};
 
-use pt_canon::laws::answers_are_of_their_texts;
+use pt_args::below::pt_canon::laws::answers_are_of_their_texts;
 
 /// A program runs behind at most five scripts, which lead to one another; six answer ELOOP.
 pub fn scripts_end()

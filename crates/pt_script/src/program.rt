@@ -2,16 +2,16 @@
 ghost use Rattle.std.specs.Prelude.{◌≡◌, ◌≤◌, take, length, IsTrue, IfOk, IfSome};
 ghost use Rattle.std.specs.Option.{option_copied};
 ghost use Rattle.pr_base.specs.Paths.{is_absolute};
-ghost use Rattle.pt_bind.specs.Binding.{IsWritten, names_of};
-ghost use Rattle.pt_canon.specs.Canon.{IsAnswer, canon_of, texts_by};
-ghost use Rattle.kr_calls.specs.Expansion.{is_script};
-ghost use Rattle.kr_calls.specs.Scripts.{BeginsScript};
+ghost use Rattle.pt_args.specs.pt_bind.Binding.{IsWritten, names_of};
+ghost use Rattle.pt_args.specs.pt_canon.Canon.{IsAnswer, canon_of, texts_by};
+ghost use Rattle.pt_args.specs.kr_calls.Expansion.{is_script};
+ghost use Rattle.pt_args.specs.kr_calls.Scripts.{BeginsScript};
 ghost use Rattle.pt_script.specs.Programs.{base_from, canon_from, program_from, program_in};
 
 use pr_base::{Bytes, Errno, Peeks, WalkMode, components};
-use pt_bind::Tags;
-use pt_canon::laws::answers_are_of_their_texts;
-use pt_canon::{Canon, WalkErr, Walker};
+use pt_args::below::pt_bind::Tags;
+use pt_args::below::pt_canon::laws::answers_are_of_their_texts;
+use pt_args::below::pt_canon::{Canon, WalkErr, Walker};
 use std::alloc::Global;
 
 /// How many bytes of a file tell a script's line.

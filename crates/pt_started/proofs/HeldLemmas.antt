@@ -2,13 +2,13 @@
 use Rattle.std.proofs.Common.{◌≡◌, ◌⊎◌, inl, inr, ℕ, zero, suc, ◌+◌, ◌*◌, ◌/◌, ◌≤◌, ◌<◌, true, ◌&&◌, List, [], ◌∷◌, ◌++◌, length, get_or, refl, sym, ap, subst, ◌∙◌, arith, append_assoc, length-append}
 use Rattle.std.proofs.lemmas.List.{get_or_append_left, get_or-append-add}
 use Rattle.std.specs.Int.{to_le_bytes, w64}
-use Rattle.rv_mem.specs.Pages.{IsWhole, Pages, allows, allows_all, byte_at, bytes_from, written}
-use Rattle.rv_mem.specs.declared.rights.Use.{Use}
-use Rattle.rv_mem.specs.declared.rights.Use.TheVariants.{Write}
-use Rattle.rv_mem.proofs.AccessLemmas.{contains_allowed}
-use Rattle.rv_mem.proofs.AddressLemmas.{allows-written, byte_at-written_in, byte_at-written_other}
-use Rattle.rv_mem.proofs.SpaceLemmas.{IsWhole-written}
-use Rattle.elf_load.specs.Placed.{HoldsBytes}
+use Rattle.pt_tracer.specs.rv_mem.Pages.{IsWhole, Pages, allows, allows_all, byte_at, bytes_from, written}
+use Rattle.pt_tracer.specs.rv_mem.declared.rights.Use.{Use}
+use Rattle.pt_tracer.specs.rv_mem.declared.rights.Use.TheVariants.{Write}
+use Rattle.pt_tracer.proofs.rv_mem.AccessLemmas.{contains_allowed}
+use Rattle.pt_tracer.proofs.rv_mem.AddressLemmas.{allows-written, byte_at-written_in, byte_at-written_other}
+use Rattle.pt_tracer.proofs.rv_mem.SpaceLemmas.{IsWhole-written}
+use Rattle.pt_tracer.specs.elf_load.Placed.{HoldsBytes}
 
 -- ---- parts
 

@@ -4,13 +4,13 @@ use Rattle.std.specs.Int.{to_le_bytes}
 use Rattle.std.specs.List.{AllByRecursion}
 use Rattle.std.proofs.lemmas.Bool.Decides.{nat_tests}
 use Rattle.std.proofs.lemmas.Nat.{from_le_bytes-to_le_bytes_8}
-use Rattle.pr_base.specs.Fields.{little_endian}
-use Rattle.rv_mem.specs.Actions.{Action, Done, ReadBytes, WriteBytes, carried_out}
-use Rattle.rv_mem.specs.Memory.{Memory, after_read}
-use Rattle.rv_mem.specs.Pages.{Pages, any_marked, written}
-use Rattle.rv_mem.specs.declared.rights.Use.TheVariants.{Read, Write}
-use Rattle.elf_load.specs.FirstStack.{text_addresses, text_bytes, word_bytes}
-use Rattle.elf_load.specs.Placed.{HoldsBytes}
+use Rattle.pt_tracer.specs.pr_base.Fields.{little_endian}
+use Rattle.pt_tracer.specs.rv_mem.Actions.{Action, Done, ReadBytes, WriteBytes, carried_out}
+use Rattle.pt_tracer.specs.rv_mem.Memory.{Memory, after_read}
+use Rattle.pt_tracer.specs.rv_mem.Pages.{Pages, any_marked, written}
+use Rattle.pt_tracer.specs.rv_mem.declared.rights.Use.TheVariants.{Read, Write}
+use Rattle.pt_tracer.specs.elf_load.FirstStack.{text_addresses, text_bytes, word_bytes}
+use Rattle.pt_tracer.specs.elf_load.Placed.{HoldsBytes}
 use Rattle.pt_tracer.specs.Faking.{behind_list, next_word, put_values, word_at}
 use Rattle.pt_started.proofs.HeldLemmas.{MayBeUsed, all-used, bytes-held, holds-back, holds-front, used-written, with_words}
 

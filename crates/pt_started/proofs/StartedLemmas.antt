@@ -5,27 +5,27 @@ use Rattle.std.specs.Prelude.{slice_index}
 use Rattle.std.specs.Int.{to_le_bytes}
 use Rattle.std.specs.Option.{option_map_or}
 use Rattle.std.proofs.lemmas.Bool.Decides.{nat_tests}
-use Rattle.rv_mem.specs.Actions.{Action, carried_out}
-use Rattle.rv_mem.specs.Memory.{Memory, empty_memory}
-use Rattle.rv_mem.specs.Page.{grants}
-use Rattle.rv_mem.specs.Pages.{IsWhole, Pages, allows, byte_at, mapped}
-use Rattle.rv_mem.specs.declared.rights.Use.{Use}
-use Rattle.rv_mem.specs.declared.rights.Use.TheVariants.{Read, Write}
-use Rattle.rv_mem.proofs.AddressLemmas.{allows-written, byte_at-written_other}
-use Rattle.rv_mem.proofs.ChangeLemmas.{get-mapped_in}
-use Rattle.rv_mem.proofs.TableLemmas.{below_or_not}
-use Rattle.rv_mem.proofs.SpaceLemmas.{IsWhole-empty, IsWhole-mapped, IsWhole-written}
-use Rattle.elf_read.specs.Headers.{entry_size}
-use Rattle.elf_read.specs.Plans.{planned}
-use Rattle.elf_read.specs.declared.plan.Plan.{Plan}
-use Rattle.elf_read.specs.declared.plan.Segment.{Segment}
-use Rattle.elf_load.specs.FirstStack.{exceeds_arguments, pair_words, pairs_of, random_at, random_bytes, stack_bytes, stack_pointer, stack_top, text_addresses, text_bytes, texts_at, texts_size, word_bytes, word_count, words_of, zeros}
-use Rattle.elf_load.specs.Image.{end_page, file_bytes, first_page, image_memory, image_pages, rights_in, stack_rights, with_segment, with_segments, with_stack}
-use Rattle.elf_load.specs.Placed.{HoldsBytes}
-use Rattle.elf_load.proofs.ImageLemmas.{image_stack}
-use Rattle.elf_load.proofs.ListLemmas.{stack_ends, stack_low, word_bytes-append}
-use Rattle.pt_ident.specs.Identity.{Identity}
-use Rattle.pt_ident.specs.Showing.{auxiliary_values}
+use Rattle.pt_tracer.specs.rv_mem.Actions.{Action, carried_out}
+use Rattle.pt_tracer.specs.rv_mem.Memory.{Memory, empty_memory}
+use Rattle.pt_tracer.specs.rv_mem.Page.{grants}
+use Rattle.pt_tracer.specs.rv_mem.Pages.{IsWhole, Pages, allows, byte_at, mapped}
+use Rattle.pt_tracer.specs.rv_mem.declared.rights.Use.{Use}
+use Rattle.pt_tracer.specs.rv_mem.declared.rights.Use.TheVariants.{Read, Write}
+use Rattle.pt_tracer.proofs.rv_mem.AddressLemmas.{allows-written, byte_at-written_other}
+use Rattle.pt_tracer.proofs.rv_mem.ChangeLemmas.{get-mapped_in}
+use Rattle.pt_tracer.proofs.rv_mem.TableLemmas.{below_or_not}
+use Rattle.pt_tracer.proofs.rv_mem.SpaceLemmas.{IsWhole-empty, IsWhole-mapped, IsWhole-written}
+use Rattle.pt_tracer.specs.elf_read.Headers.{entry_size}
+use Rattle.pt_tracer.specs.elf_read.Plans.{planned}
+use Rattle.pt_tracer.specs.elf_read.declared.plan.Plan.{Plan}
+use Rattle.pt_tracer.specs.elf_read.declared.plan.Segment.{Segment}
+use Rattle.pt_tracer.specs.elf_load.FirstStack.{exceeds_arguments, pair_words, pairs_of, random_at, random_bytes, stack_bytes, stack_pointer, stack_top, text_addresses, text_bytes, texts_at, texts_size, word_bytes, word_count, words_of, zeros}
+use Rattle.pt_tracer.specs.elf_load.Image.{end_page, file_bytes, first_page, image_memory, image_pages, rights_in, stack_rights, with_segment, with_segments, with_stack}
+use Rattle.pt_tracer.specs.elf_load.Placed.{HoldsBytes}
+use Rattle.pt_tracer.proofs.elf_load.ImageLemmas.{image_stack}
+use Rattle.pt_tracer.proofs.elf_load.ListLemmas.{stack_ends, stack_low, word_bytes-append}
+use Rattle.pt_tracer.specs.pt_ident.Identity.{Identity}
+use Rattle.pt_tracer.specs.pt_ident.Showing.{auxiliary_values}
 use Rattle.pt_tracer.specs.Faking.{behind_list, most_words, next_word, put_values, show_identity}
 use Rattle.pt_started.specs.Started.{AreAsLoaded, ArePut, BeginSo, DifferOnStack, HasFirstStack}
 use Rattle.pt_started.proofs.HeldLemmas.{MayBeUsed, allows-with_words, holds-back, holds-laced, laced, others-with_words, whole-with_words, with_words}

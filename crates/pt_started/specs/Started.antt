@@ -1,18 +1,18 @@
 -- The first stack of a program, and an identity that is shown on it: the values of AT_UID, AT_EUID, AT_GID and AT_EGID become the
 -- identity's, each where the loader has put one, and all else stays.
 use Rattle.std.specs.Prelude.{◌≡◌, ◌⊎◌, ℕ, ◌<◌, ◌≤◌, false, true, List}
-use Rattle.rv_mem.specs.Actions.{carried_out}
-use Rattle.rv_mem.specs.Memory.{Memory}
-use Rattle.rv_mem.specs.Page.{grants}
-use Rattle.rv_mem.specs.Pages.{IsWhole, Pages, allows, byte_at}
-use Rattle.rv_mem.specs.declared.rights.Use.{Use}
-use Rattle.elf_read.specs.declared.plan.Plan.{Plan}
-use Rattle.elf_load.specs.FirstStack.{exceeds_arguments, pairs_of, stack_bytes, stack_pointer, stack_top}
-use Rattle.elf_load.specs.Image.{image_memory, image_pages, stack_rights}
-use Rattle.elf_load.specs.Placed.{HoldsBytes}
-use Rattle.elf_load.specs.declared.stack.Pair.{Pair}
-use Rattle.pt_ident.specs.Identity.{Identity}
-use Rattle.pt_ident.specs.Showing.{auxiliary_values}
+use Rattle.pt_tracer.specs.rv_mem.Actions.{carried_out}
+use Rattle.pt_tracer.specs.rv_mem.Memory.{Memory}
+use Rattle.pt_tracer.specs.rv_mem.Page.{grants}
+use Rattle.pt_tracer.specs.rv_mem.Pages.{IsWhole, Pages, allows, byte_at}
+use Rattle.pt_tracer.specs.rv_mem.declared.rights.Use.{Use}
+use Rattle.pt_tracer.specs.elf_read.declared.plan.Plan.{Plan}
+use Rattle.pt_tracer.specs.elf_load.FirstStack.{exceeds_arguments, pairs_of, stack_bytes, stack_pointer, stack_top}
+use Rattle.pt_tracer.specs.elf_load.Image.{image_memory, image_pages, stack_rights}
+use Rattle.pt_tracer.specs.elf_load.Placed.{HoldsBytes}
+use Rattle.pt_tracer.specs.elf_load.declared.stack.Pair.{Pair}
+use Rattle.pt_tracer.specs.pt_ident.Identity.{Identity}
+use Rattle.pt_tracer.specs.pt_ident.Showing.{auxiliary_values}
 use Rattle.pt_tracer.specs.Faking.{show_identity}
 
 -- from the stack pointer to the top stand the bytes of a first stack, and each may be used as the rights of a stack say

@@ -5,8 +5,8 @@ use Rattle.std.specs.Option.{option_map}
 use Rattle.std.proofs.lemmas.Bool.Decides.{nat_tests}
 use Rattle.pr_base.specs.declared.errno.Errno.{Errno}
 use Rattle.pr_base.specs.declared.errno.Errno.TheVariants.{EINVAL, EPERM}
-use Rattle.kr_calls.specs.declared.request.Request.{Request}
-use Rattle.kr_calls.specs.declared.request.Request.TheVariants as call
+use Rattle.pt_ident.specs.kr_calls.declared.request.Request.{Request}
+use Rattle.pt_ident.specs.kr_calls.declared.request.Request.TheVariants as call
 use Rattle.pt_ident.specs.declared.calls.IdAnswer.TheVariants.{Value, Three, Groups, SetGroups}
 use Rattle.pt_ident.specs.Answering.{answer_of, identity_behind}
 use Rattle.pt_ident.specs.Identity.{Answers, Effect, Identity, Numbers, TakesGroups, TellsGroups, TellsNumbers, effect, get_groups, is_privileged, keeps_group, keeps_user, most_groups, natural, numbers_of, on_memory, refuses, take_groups, tells, three_of}

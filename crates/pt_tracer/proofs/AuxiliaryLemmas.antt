@@ -4,11 +4,11 @@ use Rattle.std.specs.Int.{from_le_bytes, to_le_bytes}
 use Rattle.std.specs.Prelude.{IsSome}
 use Rattle.std.proofs.lemmas.Bool.Decides.{nat_tests}
 use Rattle.pr_base.specs.Fields.{little_endian}
-use Rattle.rv_mem.specs.Actions.{Action, Done, ReadBytes, WriteBytes, carried_out}
-use Rattle.rv_mem.specs.Memory.{Memory, after_read}
-use Rattle.rv_mem.specs.Pages.{Pages, allows_all, bytes_from}
-use Rattle.rv_mem.specs.declared.rights.Use.TheVariants.{Read, Write}
-use Rattle.kr_model.specs.State.{process}
+use Rattle.pt_ident.specs.rv_mem.Actions.{Action, Done, ReadBytes, WriteBytes, carried_out}
+use Rattle.pt_ident.specs.rv_mem.Memory.{Memory, after_read}
+use Rattle.pt_ident.specs.rv_mem.Pages.{Pages, allows_all, bytes_from}
+use Rattle.pt_ident.specs.rv_mem.declared.rights.Use.TheVariants.{Read, Write}
+use Rattle.kr_turns.specs.kr_model.State.{process}
 use Rattle.kr_turns.specs.Editing.{after_peek, after_poke, memory_at, with_memory}
 use Rattle.kr_turns.specs.Stopped.{IsEdited, IsThere, Stopped, edited, image_at}
 use Rattle.kr_turns.proofs.EditLemmas.{computed-lives, edited-twice}

@@ -1,15 +1,15 @@
 -- The decoding of a call writes nothing into the memory.
 use Rattle.std.proofs.Common.{◌≡◌, ℕ, zero, suc, ◌+◌, ◌==◌, Bool, true, false, cond, List, [], ◌∷◌, nat_eq, nat_lt, slice_index, refl}
-use Rattle.rv_mem.specs.Actions.{Action, Done, MayUse, ReadBytes, allows_uses, carried_out}
-use Rattle.rv_mem.specs.Memory.{Memory, after_read}
-use Rattle.rv_mem.specs.Pages.{bytes_from}
-use Rattle.rv_mem.specs.declared.regs.Regs.{Regs}
-use Rattle.rv_mem.specs.declared.rights.Use.{Use}
+use Rattle.pt_ident.specs.rv_mem.Actions.{Action, Done, MayUse, ReadBytes, allows_uses, carried_out}
+use Rattle.pt_ident.specs.rv_mem.Memory.{Memory, after_read}
+use Rattle.pt_ident.specs.rv_mem.Pages.{bytes_from}
+use Rattle.pt_ident.specs.rv_mem.declared.regs.Regs.{Regs}
+use Rattle.pt_ident.specs.rv_mem.declared.rights.Use.{Use}
 use Rattle.pr_base.specs.declared.errno.Errno.TheVariants.{EFAULT, ENAMETOOLONG, ENOENT}
-use Rattle.kr_calls.specs.Arguments.{has, has_other, is_negative, long, number, word}
-use Rattle.kr_calls.specs.declared.request.Request.TheVariants as call
-use Rattle.kr_calls.specs.Decoding.{Decoded, accepts, by_descriptor, by_file, by_identity, by_memory, by_name, by_process, chdir_row, chroot_row, decoding, execve_row, execve_with, faccessat_row, faccessat_with, fchmodat_row, fchmodat_with, fchownat_row, fchownat_with, has_bad_open_flags, has_no_size, link_flags, linkat_row, linkat_with, mkdirat_row, mkdirat_with, named, newfstatat_row, newfstatat_with, openat_row, openat_with, readlinkat_row, readlinkat_with, refuses, remove_flags, renameat2_row, renameat2_with, stat_flags, symlinkat_row, symlinkat_with, text_limit, unless, unlinkat_row, unlinkat_with, with_text, with_texts}
-use Rattle.kr_calls.specs.Texts.{read_text}
+use Rattle.pt_ident.specs.kr_calls.Arguments.{has, has_other, is_negative, long, number, word}
+use Rattle.pt_ident.specs.kr_calls.declared.request.Request.TheVariants as call
+use Rattle.pt_ident.specs.kr_calls.Decoding.{Decoded, accepts, by_descriptor, by_file, by_identity, by_memory, by_name, by_process, chdir_row, chroot_row, decoding, execve_row, execve_with, faccessat_row, faccessat_with, fchmodat_row, fchmodat_with, fchownat_row, fchownat_with, has_bad_open_flags, has_no_size, link_flags, linkat_row, linkat_with, mkdirat_row, mkdirat_with, named, newfstatat_row, newfstatat_with, openat_row, openat_with, readlinkat_row, readlinkat_with, refuses, remove_flags, renameat2_row, renameat2_with, stat_flags, symlinkat_row, symlinkat_with, text_limit, unless, unlinkat_row, unlinkat_with, with_text, with_texts}
+use Rattle.pt_ident.specs.kr_calls.Texts.{read_text}
 
 data OnlyReads : Action Decoded → Type 0 where
   told : {d : Decoded} → OnlyReads (Done d)

@@ -2,11 +2,11 @@
 use Rattle.std.specs.FinMap as map
 use Rattle.std.proofs.Common.{◌≡◌, ◌∙◌, ◌==◌, ℕ, ℤ, Bool, true, Option, Some, None, if◌then◌else◌, get_or, sym, ap, subst}
 use Rattle.std.specs.Ordering.{nat_cmp}
-use Rattle.kr_calls.specs.declared.request.Request.{Request}
+use Rattle.pt_ident.specs.kr_calls.declared.request.Request.{Request}
 use Rattle.kr_turns.specs.Editing.{memory_at, register_at, with_memory}
 use Rattle.kr_turns.specs.Stopped.{IsThere, Stopped}
-use Rattle.rv_mem.specs.Actions.{carried_out}
-use Rattle.rv_mem.specs.declared.regs.Regs.{Regs}
+use Rattle.pt_ident.specs.rv_mem.Actions.{carried_out}
+use Rattle.pt_ident.specs.rv_mem.declared.regs.Regs.{Regs}
 use Rattle.pt_ident.specs.Identity.{Answered, Effect, Identity, after_exec, effect, on_memory}
 use Rattle.pt_ident.specs.IdentityTable.{IdentityTable, after_end, identity_at, with_identity, with_kept}
 use Rattle.pt_tracer.specs.Carrying.{AnswersAny, on_its_memory}

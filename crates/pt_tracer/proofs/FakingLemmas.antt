@@ -5,7 +5,7 @@ use Rattle.std.specs.Option.{option_map_or}
 use Rattle.std.specs.Ordering.{nat_cmp}
 use Rattle.pr_base.proofs.MapLemmas.{by_key, get-insert_other, get-insert_same, get-remove_other, get-remove_same, remove-none, same_values}
 use Rattle.pr_base.specs.declared.errno.Errno.{Errno}
-use Rattle.kr_calls.specs.declared.request.Request.{Request}
+use Rattle.pt_ident.specs.kr_calls.declared.request.Request.{Request}
 use Rattle.kr_turns.specs.Editing.{after_request, decoded_at, register_at}
 use Rattle.kr_turns.specs.Stopped.{Stopped}
 use Rattle.pt_ident.specs.Identity.{Effect, Identity, effect, starting}

@@ -3,17 +3,17 @@ pub use Rattle.kr_turns.proofs.EditLemmas.{edited-then}
 use Rattle.std.proofs.Common.{◌≡◌, ◌∙◌, ◌+◌, ◌*◌, ◌≤◌, ◌&&◌, ℕ, zero, suc, pos, Bool, true, false, List, [], ◌∷◌, length, arith, w32, Result, Ok, Err, if◌then◌else◌, refl, sym, ap, subst}
 use Rattle.std.specs.Int.{to_le_bytes}
 use Rattle.std.specs.Prelude.{IsTrue, OnOk, slice_set}
-use Rattle.rv_mem.specs.Actions.{Action, Done, ReadBytes, WriteBytes, carried_out}
-use Rattle.rv_mem.specs.Layout.{layout_of}
-use Rattle.rv_mem.specs.Memory.{Memory, after_read, with_pages}
-use Rattle.rv_mem.specs.Pages.{Pages, allows, allows_all, bytes_from, written}
-use Rattle.rv_mem.specs.declared.regs.Regs.{Regs}
-use Rattle.rv_mem.specs.declared.rights.Use.{Use}
-use Rattle.rv_mem.specs.declared.rights.Use.TheVariants.{Write}
-use Rattle.rv_mem.proofs.AddressLemmas.{allows-written}
-use Rattle.rv_mem.proofs.LayoutLemmas.{layouts_follow}
-use Rattle.kr_inode.specs.declared.user.User.{User}
-use Rattle.kr_model.specs.State.{Image}
+use Rattle.pt_ident.specs.rv_mem.Actions.{Action, Done, ReadBytes, WriteBytes, carried_out}
+use Rattle.pt_ident.specs.rv_mem.Layout.{layout_of}
+use Rattle.pt_ident.specs.rv_mem.Memory.{Memory, after_read, with_pages}
+use Rattle.pt_ident.specs.rv_mem.Pages.{Pages, allows, allows_all, bytes_from, written}
+use Rattle.pt_ident.specs.rv_mem.declared.regs.Regs.{Regs}
+use Rattle.pt_ident.specs.rv_mem.declared.rights.Use.{Use}
+use Rattle.pt_ident.specs.rv_mem.declared.rights.Use.TheVariants.{Write}
+use Rattle.pt_ident.proofs.rv_mem.AddressLemmas.{allows-written}
+use Rattle.pt_ident.proofs.rv_mem.LayoutLemmas.{layouts_follow}
+use Rattle.pt_ident.specs.kr_inode.declared.user.User.{User}
+use Rattle.kr_turns.specs.kr_model.State.{Image}
 use Rattle.kr_turns.specs.Editing.{after_peek, after_poke, after_request, decoded_at, memory_at, with_memory, with_register}
 use Rattle.kr_turns.specs.Stopped.{IsEdited, IsThere, Stopped, edited, image_at}
 use Rattle.kr_turns.proofs.EditLemmas.{edited-by, edited-same, edited-twice, image-edited}

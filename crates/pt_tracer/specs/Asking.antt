@@ -1,8 +1,8 @@
 -- Where in its memory a call on users and groups has what it reads or writes.
 use Rattle.std.specs.Prelude.{ℕ, List, [], ◌∷◌, ℤ, Option, None, Some}
 use Rattle.std.specs.Option.{option_map}
-use Rattle.kr_calls.specs.declared.request.Request.{Request}
-use Rattle.kr_calls.specs.declared.request.Request.TheVariants as call
+use Rattle.pt_ident.specs.kr_calls.declared.request.Request.{Request}
+use Rattle.pt_ident.specs.kr_calls.declared.request.Request.TheVariants as call
 use Rattle.pt_ident.specs.Identity.{natural}
 use Rattle.pt_tracer.specs.declared.asking.GroupList.{GroupList}
 

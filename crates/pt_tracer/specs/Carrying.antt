@@ -1,6 +1,6 @@
 -- What is done on the memory of a stopped process in place of its call.
 use Rattle.std.specs.Prelude.{◌≡◌, ℕ, ℤ, Option, Some, None}
-use Rattle.rv_mem.specs.Actions.{Action, carried_out}
+use Rattle.pt_ident.specs.rv_mem.Actions.{Action, carried_out}
 use Rattle.kr_turns.specs.Editing.{memory_at, with_memory}
 use Rattle.kr_turns.specs.Stopped.{Stopped}
 use Rattle.pt_ident.specs.Identity.{Effect, Identity, on_memory}

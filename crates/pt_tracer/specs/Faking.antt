@@ -8,11 +8,11 @@ use Rattle.std.specs.Ordering.{nat_cmp}
 use Rattle.pr_base.specs.Fields.{little_endian}
 use Rattle.pr_base.specs.declared.errno.Errno.{Errno}
 use Rattle.pr_base.specs.declared.errno.Errno.TheVariants.{EPERM}
-use Rattle.rv_mem.specs.Actions.{Action, Done, WriteBytes, carried_out, read_if_allowed, write_if_allowed}
-use Rattle.rv_mem.specs.declared.rights.Use.TheVariants.{Read, Write}
-use Rattle.kr_inode.specs.declared.user.User.{User}
-use Rattle.kr_calls.specs.declared.request.Request.{Request}
-use Rattle.kr_calls.specs.declared.request.Request.TheVariants as call
+use Rattle.pt_ident.specs.rv_mem.Actions.{Action, Done, WriteBytes, carried_out, read_if_allowed, write_if_allowed}
+use Rattle.pt_ident.specs.rv_mem.declared.rights.Use.TheVariants.{Read, Write}
+use Rattle.pt_ident.specs.kr_inode.declared.user.User.{User}
+use Rattle.pt_ident.specs.kr_calls.declared.request.Request.{Request}
+use Rattle.pt_ident.specs.kr_calls.declared.request.Request.TheVariants as call
 use Rattle.kr_turns.specs.Editing.{after_request, decoded_at, memory_at, register_at, with_memory, with_register}
 use Rattle.kr_turns.specs.Stopped.{Stopped}
 use Rattle.kr_turns.specs.Watching.{Watcher}

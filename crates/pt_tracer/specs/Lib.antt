@@ -1,3 +1,20 @@
+pub use Rattle.pr_base.specs as pr_base
+pub use Rattle.pt_ident.specs.rv_mem as rv_mem
+pub use Rattle.kr_turns.specs.elf_read as elf_read
+pub use Rattle.kr_turns.specs.elf_load as elf_load
+pub use Rattle.pt_ident.specs.kr_inode as kr_inode
+pub use Rattle.kr_turns.specs.kr_tree as kr_tree
+pub use Rattle.kr_turns.specs.kr_view as kr_view
+pub use Rattle.pt_ident.specs.kr_calls as kr_calls
+pub use Rattle.kr_turns.specs.kr_model as kr_model
+pub use Rattle.kr_turns.specs.kr_allowed as kr_allowed
+pub use Rattle.kr_turns.specs.kr_seen as kr_seen
+pub use Rattle.kr_turns.specs.kr_exec as kr_exec
+pub use Rattle.kr_turns.specs.kr_execve as kr_execve
+pub use Rattle.kr_turns.specs.kr_calm as kr_calm
+pub use Rattle.kr_turns.specs.kr_steps as kr_steps
+pub use Rattle.kr_turns.specs as kr_turns
+pub use Rattle.pt_ident.specs as pt_ident
 pub mod Carrying
 pub mod Asking
 pub mod Faking

@@ -6,9 +6,9 @@ ghost use Rattle.pt_tracer.specs.Carrying.{AnswersAny};
 
 use crate::asking::{group_list, number_places};
 use crate::memory::{take_groups, tell_groups, tell_numbers};
-use kr_calls::Request;
 use kr_turns::Tracee;
 use pr_base::NoMemory;
+use pt_ident::below::kr_calls::Request;
 use pt_ident::{IdAnswer, Ids, answer};
 use std::alloc::Global;
 

@@ -2,7 +2,7 @@
 ghost use Rattle.std.specs.Prelude.{◌≡◌};
 ghost use Rattle.pt_tracer.specs.Asking.{group_list, number_places, sized_list};
 
-use kr_calls::Request;
+use pt_ident::below::kr_calls::Request;
 
 /// `count` groups, four bytes each, from the address `at` on.
 #[derive(Clone, Copy)]

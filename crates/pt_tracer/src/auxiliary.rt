@@ -7,8 +7,8 @@ ghost use Rattle.pt_tracer.specs.Faking.{behind_list, put_values, show_identity,
 use crate::memory::write;
 use kr_turns::Tracee;
 use pr_base::NoMemory;
+use pt_ident::below::rv_mem::Use;
 use pt_ident::{Ids, fix_aux};
-use rv_mem::Use;
 
 /// A program has at most 4,096 arguments, or texts of the environment, whose addresses end with 0.
 const MOST_WORDS: u32 = 4097;

@@ -10,11 +10,11 @@ use crate::due::Due;
 use crate::dues::Dues;
 use crate::memory::show_owner;
 use crate::registers::{STACK, forgive, has_answered_zero, take_number, tell};
-use kr_calls::{CallFault, Request};
-use kr_inode::User;
 use kr_turns::{Stops, Tracee};
 use pr_base::NoMemory;
 use pt_ident::Identities;
+use pt_ident::below::kr_calls::{CallFault, Request};
+use pt_ident::below::kr_inode::User;
 use std::alloc::Global;
 use std::marker::Model;
 

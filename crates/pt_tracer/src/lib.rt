@@ -4,6 +4,7 @@
 mod answering;
 mod asking;
 mod auxiliary;
+pub mod below;
 mod due;
 mod dues;
 mod faker;

@@ -4,12 +4,12 @@ use Rattle.std.proofs.Common.{◌≡◌, ◌∙◌, ℕ, ℤ, List, Option, Some
 use Rattle.std.specs.Ordering.{nat_cmp}
 use Rattle.rv_mem.specs.Actions.{carried_out}
 use Rattle.pt_bind.specs.Tags.{TagTable}
-use Rattle.kr_calls.specs.declared.request.Request.{Request}
-use Rattle.pt_tracer.specs.Stopping.{memory_at, Stopped, with_memory}
-use Rattle.pt_ident.specs.Identity.{Answered, Effect, Identity, effect, on_memory}
-use Rattle.pt_ident.specs.IdentityTable.{IdentityTable, identity_at, with_identity}
-use Rattle.pt_tracer.specs.Carrying.{AnswersAny}
-use Rattle.pt_tracer.specs.Faking.{no_longer_called}
+use Rattle.pt_results.specs.kr_calls.declared.request.Request.{Request}
+use Rattle.pt_lists.specs.pt_tracer.Stopping.{memory_at, Stopped, with_memory}
+use Rattle.pt_lists.specs.pt_ident.Identity.{Answered, Effect, Identity, effect, on_memory}
+use Rattle.pt_lists.specs.pt_ident.IdentityTable.{IdentityTable, identity_at, with_identity}
+use Rattle.pt_lists.specs.pt_tracer.Carrying.{AnswersAny}
+use Rattle.pt_lists.specs.pt_tracer.Faking.{no_longer_called}
 use Rattle.pt_watched.specs.Answering.{AnswersFaked}
 use Rattle.pt_watched.specs.Planning.{nowhere, planned}
 use Rattle.pt_watched.specs.Registers.{arguments_at}

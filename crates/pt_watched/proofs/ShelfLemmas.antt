@@ -3,8 +3,8 @@ use Rattle.std.proofs.Common.{◌≡◌, ◌∙◌, ◌+◌, ◌-◌, ◌*◌, �
 use Rattle.std.specs.Int.{to_le_bytes}
 use Rattle.std.proofs.Common.{length-append}
 use Rattle.std.proofs.SliceLists.{length_more}
-use Rattle.pt_args.specs.Shelving.{address_below, with_item, with_zero}
-use Rattle.pt_args.specs.declared.shelf.Shelf.{Shelf}
+use Rattle.pt_results.specs.pt_args.Shelving.{address_below, with_item, with_zero}
+use Rattle.pt_results.specs.pt_args.declared.shelf.Shelf.{Shelf}
 use Rattle.pt_watched.specs.ScriptEdit.{addresses_of, texts_room, with_texts}
 
 -- an address divisible by 8 is at most 7 bytes further down

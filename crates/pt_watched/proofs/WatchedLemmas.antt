@@ -1,12 +1,12 @@
 -- Identities that were taken out and kept again, and what else the code does beside the definition.
 use Rattle.std.proofs.Common.{◌≡◌, ◌∙◌, ℕ, ℤ, Option, sym, ap, subst}
-use Rattle.kr_calls.specs.declared.request.Request.{Request}
-use Rattle.pt_tracer.specs.Stopping.{register_at, Stopped}
-use Rattle.pt_ident.specs.Identity.{Identity, after_exec, effect}
-use Rattle.pt_ident.specs.IdentityTable.{IdentityTable, after_end, identity_at, with_identity}
-use Rattle.pt_tracer.specs.Carrying.{AnswersAny, on_its_memory}
-use Rattle.pt_tracer.specs.Faking.{show_identity, stack_register}
-use Rattle.pt_tracer.proofs.FakerLemmas.{kept-again}
+use Rattle.pt_results.specs.kr_calls.declared.request.Request.{Request}
+use Rattle.pt_lists.specs.pt_tracer.Stopping.{register_at, Stopped}
+use Rattle.pt_lists.specs.pt_ident.Identity.{Identity, after_exec, effect}
+use Rattle.pt_lists.specs.pt_ident.IdentityTable.{IdentityTable, after_end, identity_at, with_identity}
+use Rattle.pt_lists.specs.pt_tracer.Carrying.{AnswersAny, on_its_memory}
+use Rattle.pt_lists.specs.pt_tracer.Faking.{show_identity, stack_register}
+use Rattle.pt_lists.proofs.pt_tracer.FakerLemmas.{kept-again}
 use Rattle.pt_watched.specs.Answering.{AnswersBy, BeginsBy}
 
 module _ (table taken after : IdentityTable) (pid : ℕ) (t u : Stopped) (same : pid ≡ t.pid) (takes : taken ≡ after_end pid table) (i : Identity) (own : i ≡ identity_at table pid) where

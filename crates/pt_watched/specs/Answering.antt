@@ -1,12 +1,12 @@
 -- What of identities is done at the stops, where there are any, as relations between what was before and what is after.
 use Rattle.std.specs.Prelude.{◌≡◌, ℕ, ℤ, Option, Some, None}
 use Rattle.std.specs.Option.{option_map}
-use Rattle.kr_calls.specs.declared.request.Request.{Request}
-use Rattle.pt_tracer.specs.Stopping.{register_at, Stopped}
-use Rattle.pt_ident.specs.Identity.{Identity, after_exec, effect}
-use Rattle.pt_ident.specs.IdentityTable.{IdentityTable, identity_at, starting_table, with_identity}
-use Rattle.pt_tracer.specs.Carrying.{AnswersAny, on_its_memory}
-use Rattle.pt_tracer.specs.Faking.{show_identity, stack_register}
+use Rattle.pt_results.specs.kr_calls.declared.request.Request.{Request}
+use Rattle.pt_lists.specs.pt_tracer.Stopping.{register_at, Stopped}
+use Rattle.pt_lists.specs.pt_ident.Identity.{Identity, after_exec, effect}
+use Rattle.pt_lists.specs.pt_ident.IdentityTable.{IdentityTable, identity_at, starting_table, with_identity}
+use Rattle.pt_lists.specs.pt_tracer.Carrying.{AnswersAny, on_its_memory}
+use Rattle.pt_lists.specs.pt_tracer.Faking.{show_identity, stack_register}
 
 abbrev pub starting_identities : Option (ℕ × ℕ) → Option IdentityTable
 starting_identities ids = option_map (λ i. starting_table i.0 i.1) ids

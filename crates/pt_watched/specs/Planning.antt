@@ -8,18 +8,18 @@ use Rattle.rv_mem.specs.Actions.{carried_out}
 use Rattle.rv_mem.specs.Pages.{allows_all}
 use Rattle.rv_mem.specs.declared.rights.Use.TheVariants.{Read, Write}
 use Rattle.pt_bind.specs.Tags.{TagTable}
-use Rattle.pt_canon.specs.TextWalk.{TextSurroundings}
-use Rattle.kr_calls.specs.PathTable.{PathUse, path_at}
-use Rattle.kr_calls.specs.declared.request.Request.{Request}
-use Rattle.kr_calls.specs.declared.request.Request.TheVariants as call
-use Rattle.kr_model.specs.Peeks.{peeked_of}
-use Rattle.pt_tracer.specs.Stopping.{memory_at, register_at, Stopped, with_memory}
-use Rattle.pt_args.specs.Edits.{edit_of}
-use Rattle.pt_args.specs.Purposes.{opens}
-use Rattle.pt_args.specs.Walks.{walked}
-use Rattle.pt_args.specs.declared.edit.Edit.{Edit}
-use Rattle.pt_args.specs.declared.edit.Edit.TheVariants.{Cancel, Emulate, Pass, Swap}
-use Rattle.pt_args.specs.declared.reached.Reached.{Reached}
+use Rattle.pt_results.specs.pt_canon.TextWalk.{TextSurroundings}
+use Rattle.pt_results.specs.kr_calls.PathTable.{PathUse, path_at}
+use Rattle.pt_results.specs.kr_calls.declared.request.Request.{Request}
+use Rattle.pt_results.specs.kr_calls.declared.request.Request.TheVariants as call
+use Rattle.pt_lists.specs.kr_model.Peeks.{peeked_of}
+use Rattle.pt_lists.specs.pt_tracer.Stopping.{memory_at, register_at, Stopped, with_memory}
+use Rattle.pt_results.specs.pt_args.Edits.{edit_of}
+use Rattle.pt_results.specs.pt_args.Purposes.{opens}
+use Rattle.pt_results.specs.pt_args.Walks.{walked}
+use Rattle.pt_results.specs.pt_args.declared.edit.Edit.{Edit}
+use Rattle.pt_results.specs.pt_args.declared.edit.Edit.TheVariants.{Cancel, Emulate, Pass, Swap}
+use Rattle.pt_results.specs.pt_args.declared.reached.Reached.{Reached}
 use Rattle.pt_results.specs.Answers.{cwd_answer, link_answer}
 use Rattle.pt_script.specs.Expanding.{expanded_at}
 use Rattle.pt_script.specs.declared.expansion.Expanded.{Expanded}

@@ -3,10 +3,10 @@
 use Rattle.std.specs.Prelude.{ℕ, ◌+◌, ◌-◌, ◌*◌, nat_lt, List, [], ◌∷◌, ◌++◌, length, take, if◌then◌else◌}
 use Rattle.std.specs.Int.{to_le_bytes, w64}
 use Rattle.pr_base.specs.declared.errno.Errno.TheVariants.{E2BIG, ENAMETOOLONG}
-use Rattle.pt_args.specs.Shelving.{address_below, with_item, with_zero}
-use Rattle.pt_args.specs.declared.edit.Edit.{Edit}
-use Rattle.pt_args.specs.declared.edit.Edit.TheVariants.{Cancel, Swap}
-use Rattle.pt_args.specs.declared.shelf.Shelf.{Shelf}
+use Rattle.pt_results.specs.pt_args.Shelving.{address_below, with_item, with_zero}
+use Rattle.pt_results.specs.pt_args.declared.edit.Edit.{Edit}
+use Rattle.pt_results.specs.pt_args.declared.edit.Edit.TheVariants.{Cancel, Swap}
+use Rattle.pt_results.specs.pt_args.declared.shelf.Shelf.{Shelf}
 
 -- the texts of a new list that stand before the kept ones
 abbrev pub put_texts : ℕ → List (List ℕ) → List (List ℕ)

@@ -1,12 +1,11 @@
 //! Calls on users and groups, where processes believe in identities of their own.
 ghost use Rattle.std.specs.Prelude.{◌≡◌, IfOk};
-ghost use Rattle.pt_tracer.specs.Stopping.{IsEdited};
+ghost use Rattle.pt_lists.specs.pt_tracer.Stopping.{IsEdited};
 ghost use Rattle.pt_watched.specs.Answering.{AnswersBy, AnswersFaked};
 
-use kr_calls::Request;
 use pr_base::NoMemory;
-use pt_ident::Identities;
-use pt_tracer::{Tracee, answer_call};
+use pt_lists::below::{Identities, Tracee, answer_call};
+use pt_results::below::Request;
 use std::alloc::Global;
 
 /// Answers a call on users and groups in place of the kernel, where there are identities. `None`, and nothing is done, exactly for any

@@ -3,6 +3,7 @@
 
 mod answering;
 mod apply;
+pub mod below;
 pub mod laws;
 mod pending;
 pub mod plan;

@@ -4,8 +4,8 @@ ghost use Rattle.std.specs.FinMap as map;
 
 use crate::plan::Led;
 use crate::registers::Arguments;
-use kr_calls::Request;
 use pr_base::NoMemory;
+use pt_results::below::Request;
 use std::alloc::Global;
 use std::collections::BTreeMap;
 use std::marker::Model;

@@ -1,6 +1,6 @@
 //! What becomes of a call at its first stop.
 
-use pt_args::Edit;
+use pt_results::below::Edit;
 
 /// Where the first path of a call leads in the guest.
 #[derive(Clone, Copy)]

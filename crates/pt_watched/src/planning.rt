@@ -1,24 +1,23 @@
 //! What a tracer makes of a call that could be read.
 ghost use Rattle.std.specs.Prelude.{◌≡◌, ◌≤◌, IsTrue, IfOk, length};
 ghost use Rattle.pt_bind.specs.Binding.{rows_of};
-ghost use Rattle.pt_canon.specs.Canon.{IsAnswer};
+ghost use Rattle.pt_results.specs.pt_canon.Canon.{IsAnswer};
 ghost use Rattle.pt_script.specs.Expanding.{expanded_at};
-ghost use Rattle.kr_calls.specs.PathTable.{path_at};
-ghost use Rattle.pt_tracer.specs.Stopping.{IsEdited};
+ghost use Rattle.pt_results.specs.kr_calls.PathTable.{path_at};
+ghost use Rattle.pt_lists.specs.pt_tracer.Stopping.{IsEdited};
 ghost use Rattle.pt_watched.specs.Planning.{answered, cancelled, edit_for, execve_plan, expand_with, has_shelf, is_swap, led_along, led_in, led_of, led_to, list_addresses, plan_for, planned, rewritten, script_plan, stack_at, texts_at};
 
 use crate::plan::{Led, NOWHERE, Plan};
 use crate::script::script_edit;
-use kr_calls::{CallFault, Request, path_of};
 use pr_base::{Errno, NoMemory};
-use pt_args::{Edit, Reached, rewrite, walk_path};
 use pt_bind::Tags;
-use pt_canon::{WalkErr, Walker};
+use pt_lists::below::{STACK, Tracee};
 use pt_lists::{Handed, addresses_behind, read_lists};
+use pt_results::below::{
+    CallFault, Edit, Reached, Request, WalkErr, Walker, path_of, rewrite, walk_path,
+};
 use pt_results::{cwd_answer, link_answer};
 use pt_script::{Expanded, expand};
-use pt_tracer::Tracee;
-use pt_tracer::registers::STACK;
 use rv_mem::Use;
 use std::alloc::Global;
 

@@ -4,7 +4,7 @@ ghost use Rattle.std.specs.Option.{SomeIff};
 ghost use Rattle.pt_watched.specs.ScriptEdit.{addresses_of, put_texts, script_edit, script_room, shelved_script, texts_room, with_texts};
 
 use pr_base::{Bytes, Errno, NoMemory, Texts};
-use pt_args::{Edit, Shelf, Swaps};
+use pt_results::below::{Edit, Shelf, Swaps};
 use std::alloc::Global;
 
 /// How many bytes a host text has at most, without its zero.

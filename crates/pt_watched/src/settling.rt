@@ -1,6 +1,6 @@
 //! The second stop of a call.
 ghost use Rattle.std.specs.Prelude.{◌≡◌, OnOk, Some};
-ghost use Rattle.pt_tracer.specs.Stopping.{IsEdited};
+ghost use Rattle.pt_lists.specs.pt_tracer.Stopping.{IsEdited};
 ghost use Rattle.pt_bind.specs.Tags.{with_tag};
 ghost use Rattle.pt_bind.specs.declared.slot.Slot.TheVariants.{Exe};
 ghost use Rattle.pt_results.specs.Notes.{noted, tags_after};
@@ -9,15 +9,14 @@ ghost use Rattle.pt_watched.specs.Watched.{answer_at, has_begun, is_execve, retu
 
 use crate::pending::Pending;
 use crate::registers::{A0, set};
-use kr_calls::Request;
-use kr_inode::User;
 use pr_base::NoMemory;
 use pt_bind::Tags;
-use pt_ident::Identities;
+use pt_lists::below::{
+    Due, Identities, STACK, Tracee, User, due_of, forgive, has_answered_zero, show_identity,
+    show_owner,
+};
+use pt_results::below::Request;
 use pt_results::note_result;
-use pt_tracer::memory::show_owner;
-use pt_tracer::registers::{STACK, forgive, has_answered_zero};
-use pt_tracer::{Due, Tracee, due_of, show_identity};
 
 /// Whether a new program has begun in place of the caller's.
 pub(crate) fn has_begun<T: Tracee>(call: &Pending, t: &T) -> bool

@@ -1,6 +1,6 @@
 //! The tracer.
 ghost use Rattle.std.specs.Prelude.{◌≡◌, OnOk, Some};
-ghost use Rattle.pt_tracer.specs.Stopping.{IsEdited};
+ghost use Rattle.pt_lists.specs.pt_tracer.Stopping.{IsEdited};
 ghost use Rattle.pt_watched.specs.Answering.{starting_identities};
 
 use crate::answering::answer_faked;
@@ -10,14 +10,10 @@ use crate::plan::{NOWHERE, Plan};
 use crate::planning::plan;
 use crate::registers::Arguments;
 use crate::settling::{begin, give_back, has_begun};
-use kr_calls::{CallFault, Request};
-use kr_inode::User;
 use pr_base::NoMemory;
 use pt_bind::Tags;
-use pt_canon::Walker;
-use pt_ident::Identities;
-use pt_tracer::registers::take_number;
-use pt_tracer::{Stops, Tracee};
+use pt_lists::below::{Identities, Stops, Tracee, User, take_number};
+use pt_results::below::{CallFault, Request, Walker};
 use std::alloc::Global;
 use std::marker::Model;
 
@@ -39,7 +35,7 @@ impl Model for Tracer {
     ghost use Rattle.std.specs.Ordering.{nat_cmp};
     ghost use Rattle.pt_bind.specs.Binding.{rows_of};
     ghost use Rattle.pt_bind.specs.Tags.{tag_table_code};
-    ghost use Rattle.pt_ident.specs.IdentityTable.{table_code};
+    ghost use Rattle.pt_lists.specs.pt_ident.IdentityTable.{table_code};
     ghost use Rattle.pt_watched.specs.Watched.{Tracing};
     ghost use Rattle.pt_watched.specs.declared.pending.Pending.{Pending};
 

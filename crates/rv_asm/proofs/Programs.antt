@@ -1,7 +1,10 @@
 -- Programs as lists of items, and what always holds of them.
-use Rattle.std.proofs.Common.{◌≡◌, ℕ, ◌+◌, ◌%◌, ◌<◌, ◌≤◌, ◌^◌, List, [], ◌∷◌, ◌++◌, All, Option, Some, None, length, drop, get_or, set, length-set, length-append, arith, refl, sym, ap, subst, ◌∙◌}
+use Rattle.std.proofs.Common.{◌≡◌, ℕ, ◌+◌, ◌%◌, ◌<◌, ◌≤◌, ◌^◌, List, [], ◌∷◌, ◌++◌, All, Option, Some, None, length, drop, get_or, set, length-set, length-append, append_assoc, arith, refl, sym, ap, subst, ◌∙◌}
+use Rattle.std.specs.List.{AllByRecursion}
 use Rattle.std.specs.Option.{option_or}
-use Rattle.std.proofs.lemmas.List.{drop_more}
+use Rattle.std.specs.Prelude.{◌*◌, map, suc}
+use Rattle.rv_table.specs.Encoding.{IsValid}
+use Rattle.std.proofs.lemmas.List.{append-nil, drop_more}
 use Rattle.std.proofs.lemmas.List.Elements.{All-head, All-tail, All-push, All-set, All-weaker}
 use Rattle.rv_asm.specs.declared.item.Item.{Item}
 use Rattle.rv_asm.specs.declared.item.Item.TheVariants.{Plain, Jump, Branch, Address, Data}
@@ -48,6 +51,18 @@ sound_push items places size item sound proper room = record {
   proper = All-push (IsProper (length places)) items item sound.proper proper;
   inside = All-weaker (IsInside size) (IsInside (size + size_of item)) (IsInside-more size (size_of item)) places sound.inside;
 }
+
+-- instructions behind the items
+pub sound_all : (items : List Item) (places : List (Option ℕ)) (size : ℕ) (is : List Instr) → IsSound items places size → AllByRecursion IsValid is → size + 4 * length is ≤ 2 ^ 62
+    → IsSound (items ++ map Plain is) places (size + 4 * length is)
+sound_all items places size [] sound valid room =
+    let same : size ≡ size + 0 = omega arith in
+    subst (λ (l : List Item). IsSound l places (size + 0)) (sym (append-nil items)) (subst (IsSound items places) same sound)
+sound_all items places size (i ∷ is) sound valid room =
+    let one = sound_push items places size (Plain i) sound valid.0 (omega arith) in
+    let all = sound_all (items ++ Plain i ∷ []) places (size + 4) is one valid.1 (omega arith) in
+    let same : size + 4 + 4 * length is ≡ size + 4 * suc (length is) = omega arith in
+    subst (λ (l : List Item). IsSound l places (size + 4 * suc (length is))) (append_assoc items (Plain i ∷ []) (map Plain is)) (subst (IsSound ((items ++ Plain i ∷ []) ++ map Plain is) places) same all)
 
 pub sound_bind : (items : List Item) (places : List (Option ℕ)) (size label : ℕ) → IsSound items places size → IsSound items (set places label (Some size)) size
 sound_bind items places size label sound =

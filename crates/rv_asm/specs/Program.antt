@@ -1,5 +1,5 @@
 -- A program: its items in order, and where its labels stand.
-use Rattle.std.specs.Prelude.{◌≡◌, ℕ, ◌+◌, ◌-◌, ◌*◌, ◌%◌, ◌<◌, ◌≤◌, ◌^◌, List, [], ◌∷◌, ◌++◌, length, replicate, All, Option, Some, None, slice_index_or}
+use Rattle.std.specs.Prelude.{◌≡◌, ℕ, ◌+◌, ◌-◌, ◌*◌, ◌%◌, ◌<◌, ◌≤◌, ◌^◌, List, [], ◌∷◌, ◌++◌, length, map, replicate, All, Option, Some, None, slice_index_or}
 use Rattle.std.specs.Int.{div_ceil}
 use Rattle.rv_table.specs.declared.instr.Instr.{Instr}
 use Rattle.rv_table.specs.declared.instr.Instr.TheVariants.{Beq, Bne, Blt, Bge, Bltu, Bgeu}
@@ -19,6 +19,10 @@ place_of places label = slice_index_or places label None
 -- with one more item
 abbrev pub with_item : Program → Item → Program
 with_item p item = record { items = p.items ++ item ∷ []; places = p.places }
+
+-- with instructions behind it
+abbrev pub with_code : Program → List Instr → Program
+with_code p is = record { items = p.items ++ map Plain is; places = p.places }
 
 -- bytes, and zeros behind them up to a multiple of four
 abbrev pub padded : List ℕ → List ℕ

@@ -6,7 +6,7 @@ use pr_base::Bytes;
 use rv_table::Instr;
 
 /// A part of a program: one or two instructions, or data.
-#[derive(Debug, Drop)]
+#[derive(Drop)]
 pub enum Item {
     /// An instruction as it is.
     Plain(Instr),

@@ -1,8 +1,9 @@
 //! A program while it is written.
-ghost use Rattle.std.specs.Prelude.{◌≡◌, ◌+◌, ◌-◌, ◌<◌, ◌^◌, [], ◌∷◌, ◌++◌, length, Some, None, slice_set, IfOk, IfNone, IfSome, OnErr, OnOk, MatchResult};
+ghost use Rattle.std.specs.Prelude.{◌≡◌, ◌+◌, ◌-◌, ◌<◌, ◌^◌, [], ◌∷◌, ◌++◌, length, map, Some, None, slice_set, IfOk, IfNone, IfSome, OnErr, OnOk, MatchResult};
+ghost use Rattle.std.specs.List.{AllByRecursion};
 ghost use Rattle.rv_table.specs.Encoding.{IsValid};
 ghost use Rattle.rv_asm.specs.declared.item.Item.TheVariants.{Plain, Jump, Branch, Address, Data};
-ghost use Rattle.rv_asm.specs.Program.{Program, place_of, with_item, padded, IsBranch, IsProper, total};
+ghost use Rattle.rv_asm.specs.Program.{Program, place_of, with_item, padded, with_code, IsBranch, IsProper, total};
 ghost use Rattle.rv_asm.specs.Assembly.{first_fault, code_of, IsNear};
 
 use crate::assembly::{assemble, first_far, first_unbound};
@@ -16,6 +17,9 @@ use std::marker::Model;
 /// More bytes than this have room in no memory.
 const MOST_BYTES: u64 = 1 << 62;
 
+/// How many bytes an instruction has.
+const INSTRUCTION: u64 = 4;
+
 /// A program while it is written: its items in order, and its labels. A label is a number, counted from
 /// 0 on, that stands for the place where it is bound.
 #[derive(Drop)]
@@ -24,6 +28,17 @@ pub struct Asm {
     items: Vec<Item>,
     places: Vec<Option<u64>>,
     size: u64,
+}
+
+/// Instructions as items.
+fn plain_items(alloc: Global, instrs: &[Instr]) -> Result<Vec<Item>, NoMemory>
+    ensures { IfOk result (λ items. items.items ≡ map Plain instrs.now) }
+{
+    let mut items = Vec::new(alloc);
+    for i in instrs {
+        items.push(Item::Plain(*i))?;
+    }
+    Ok(items)
 }
 
 impl Model for Asm {
@@ -95,6 +110,22 @@ impl Asm {
         ensures err { OnErr result (self.new ≡ self.old) }
     {
         self.add(Item::Plain(i))
+    }
+
+    /// Adds instructions, one behind the other. Where memory is wanting none is added.
+    pub fn put_all(&mut self, instrs: &[Instr]) -> Result<(), NoMemory>
+        requires { AllByRecursion IsValid instrs.now }
+        ensures ok { OnOk result (self.new ≡ with_code self.old instrs.now) }
+        ensures err { OnErr result (self.new ≡ self.old) }
+    {
+        let count = instrs.len() as u64;
+        if count > (MOST_BYTES - self.size) / INSTRUCTION {
+            return Err(NoMemory);
+        }
+        let mut items = plain_items(self.alloc, instrs)?;
+        self.items.append(&mut items)?;
+        self.size += INSTRUCTION * count;
+        Ok(())
     }
 
     /// Adds a JAL to a label, which leaves the address behind it in `rd`.

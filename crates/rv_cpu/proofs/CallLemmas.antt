@@ -1,7 +1,7 @@
 -- Where instructions end with a call, the process stands at it in a page.
 use Rattle.std.proofs.Common.{◌≡◌, ℕ, zero, suc, ◌+◌, ◌*◌, ◌/◌, ◌%◌, ◌<◌, Bool, true, false, ℤ, List, [], ◌∷◌, refl, cond, arith}
 use Rattle.std.specs.Prelude.{Option, Some, None, ◌==◌, not}
-use Rattle.pr_base.specs.Fields.{little_endian}
+use Rattle.rv_table.specs.pr_base.Fields.{little_endian}
 use Rattle.rv_mem.specs.declared.regs.Regs.{Regs}
 use Rattle.rv_mem.specs.declared.rights.Use.{Use}
 use Rattle.rv_mem.specs.declared.rights.Use.TheVariants.{Read, Write, Execute}

@@ -1,3 +1,4 @@
+pub use Rattle.rv_mem.proofs as rv_mem
 pub mod AlikeLemmas
 pub mod CallLemmas
 mod EdgeCases

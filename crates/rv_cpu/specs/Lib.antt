@@ -1,3 +1,6 @@
+pub use Rattle.rv_table.specs.pr_base as pr_base
+pub use Rattle.rv_table.specs as rv_table
+pub use Rattle.rv_mem.specs as rv_mem
 pub mod Amos
 pub mod Groups
 pub mod Laws

@@ -2,7 +2,7 @@
 -- the memory, which gives what happened, the registers and the reservation afterwards.
 use Rattle.std.specs.Prelude.{◌≡◌, ℕ, ◌*◌, ◌/◌, ◌%◌, ◌==◌, ◌<◌, ◌&&◌, not, Bool, true, false, List, [], ◌∷◌, slice_index, slice_set, Option, Some, None, ℤ, if◌then◌else◌}
 use Rattle.std.specs.Int.{bytes_low_first}
-use Rattle.pr_base.specs.Fields.{little_endian}
+use Rattle.rv_table.specs.pr_base.Fields.{little_endian}
 use Rattle.rv_mem.specs.declared.regs.Regs.{Regs}
 use Rattle.rv_mem.specs.declared.rights.Use.TheVariants.{Read, Write, Execute}
 use Rattle.rv_mem.specs.Memory.{Memory}

@@ -12,8 +12,8 @@ use crate::event::Event;
 use crate::load::number_at;
 use crate::registers::{bytes, get, set_and_move_on};
 use crate::reservation::{Held, is_held};
-use pr_base::NoMemory;
 use rv_mem::{Regs, Space, StoreFault, Use};
+use rv_table::below::pr_base::NoMemory;
 
 /// What an AMO makes of the number in memory and of that of a register.
 #[derive(Clone, Copy)]
@@ -65,6 +65,7 @@ fn combined(op: Amo, wide: bool, old: u64, value: u64) -> u64
 }
 
 /// LR: a load that reserves its bytes. It kills by SIGSEGV where a byte isn't readable.
+#[inline(never)]
 pub fn load_reserved<const M: u8>(
     regs: &mut Regs,
     mem: &mut Space<M>,
@@ -93,6 +94,7 @@ pub fn load_reserved<const M: u8>(
 
 /// SC: a store that gives 0, where its bytes are reserved; it kills by SIGSEGV where one of them isn't
 /// writable. Elsewhere it looks at no byte and gives 1. Nothing is reserved afterwards.
+#[inline(never)]
 pub fn store_conditional<const M: u8>(
     regs: &mut Regs,
     mem: &mut Space<M>,
@@ -131,6 +133,7 @@ pub fn store_conditional<const M: u8>(
 
 /// An AMO: gives the number that the bytes hold, and stores in them what it makes of it. It kills by
 /// SIGSEGV where a byte isn't readable or isn't writable.
+#[inline(never)]
 pub fn replace<const M: u8>(
     regs: &mut Regs,
     mem: &mut Space<M>,

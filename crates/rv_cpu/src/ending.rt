@@ -9,10 +9,11 @@ use crate::arithmetic::{add, of_immediate};
 use crate::event::Event;
 use crate::load::{Load, loaded};
 use crate::registers::{address, move_on, set, set_and_move_on};
-use pr_base::NoMemory;
 use rv_mem::{Regs, Space, StoreFault};
+use rv_table::below::pr_base::NoMemory;
 
 /// On to the next instruction.
+#[inline(always)]
 pub fn pass(regs: &mut Regs) -> Event
     ensures event { result ≡ Event.Next }
     ensures regs { regs.new ≡ moved_on regs.old }
@@ -24,6 +25,7 @@ pub fn pass(regs: &mut Regs) -> Event
 }
 
 /// A register takes a value.
+#[inline(always)]
 pub fn give(regs: &mut Regs, rd: u8, value: u64) -> Event
     ensures event { result ≡ (gives regs.old rd value).event }
     ensures regs { regs.new ≡ (gives regs.old rd value).regs }
@@ -35,6 +37,7 @@ pub fn give(regs: &mut Regs, rd: u8, value: u64) -> Event
 }
 
 /// A jump: to an address that isn't divisible by 4 it kills by SIGBUS.
+#[inline(always)]
 pub fn jump(regs: &mut Regs, rd: u8, target: u64) -> Event
     ensures event { result ≡ (jumps regs.old rd target).event }
     ensures regs { regs.new ≡ (jumps regs.old rd target).regs }
@@ -51,6 +54,7 @@ pub fn jump(regs: &mut Regs, rd: u8, target: u64) -> Event
 }
 
 /// A branch: one that is taken to an address that isn't divisible by 4 kills by SIGBUS.
+#[inline(always)]
 pub fn branch(regs: &mut Regs, taken: bool, imm: i64) -> Event
     ensures event { result ≡ (branches regs.old taken imm).event }
     ensures regs { regs.new ≡ (branches regs.old taken imm).regs }
@@ -70,6 +74,7 @@ pub fn branch(regs: &mut Regs, taken: bool, imm: i64) -> Event
 
 /// A load from the address of a register and an immediate: it kills by SIGSEGV where a byte isn't
 /// readable.
+#[inline(always)]
 pub fn load<const M: u8>(
     regs: &mut Regs,
     mem: &mut Space<M>,
@@ -95,6 +100,7 @@ pub fn load<const M: u8>(
 
 /// A store to the address of a register and an immediate: it kills by SIGSEGV where a byte isn't
 /// writable.
+#[inline(always)]
 pub fn store<const M: u8>(
     regs: &mut Regs,
     mem: &mut Space<M>,

@@ -16,8 +16,8 @@ use crate::event::Event;
 use crate::load::{Load, read_word};
 use crate::registers::{address, bytes, get};
 use crate::reservation::Held;
-use pr_base::NoMemory;
 use rv_mem::{Regs, Space, Use};
+use rv_table::below::pr_base::NoMemory;
 use rv_table::{Instr, decode};
 
 /// Does one instruction: fetches the word at the pc, decodes it and executes it.
@@ -26,6 +26,7 @@ use rv_table::{Instr, decode};
 /// that aren't executable kills by SIGSEGV. At a call the pc stays at the call. A killing instruction
 /// leaves registers and bytes as they were. `held` is what the last LR reserved, if no SC came after it.
 /// After `NoMemory` registers and memory may only be dropped.
+#[inline(always)]
 pub fn step<const M: u8>(
     regs: &mut Regs,
     mem: &mut Space<M>,
@@ -52,6 +53,7 @@ pub fn step<const M: u8>(
 }
 
 /// Executes an instruction: the loads and the stores here.
+#[inline(always)]
 fn execute<const M: u8>(
     regs: &mut Regs,
     mem: &mut Space<M>,
@@ -80,6 +82,7 @@ fn execute<const M: u8>(
 }
 
 /// The atomic instructions: those that reserve, or that need a reservation, here.
+#[inline(always)]
 fn execute_atomic<const M: u8>(
     regs: &mut Regs,
     mem: &mut Space<M>,
@@ -102,6 +105,7 @@ fn execute_atomic<const M: u8>(
 }
 
 /// The atomic memory operations.
+#[inline(always)]
 fn execute_amo<const M: u8>(
     regs: &mut Regs,
     mem: &mut Space<M>,
@@ -139,6 +143,7 @@ fn execute_amo<const M: u8>(
 }
 
 /// The jumps, the branches, ECALL, EBREAK and FENCE.
+#[inline(always)]
 fn execute_jump(regs: &mut Regs, i: Instr) -> Event
     requires { UsesNoMemory i }
     ensures ends { (held : _) → executed regs.old held i ≡ holds held (ends result regs.new) }
@@ -163,6 +168,7 @@ fn execute_jump(regs: &mut Regs, i: Instr) -> Event
 }
 
 /// Arithmetic on two registers.
+#[inline(always)]
 fn execute_on_registers(regs: &mut Regs, i: Instr) -> Event
     requires { GoesStraightOn i }
     ensures ends { (held : _) → executed regs.old held i ≡ holds held (ends result regs.new) }
@@ -203,6 +209,7 @@ fn execute_on_registers(regs: &mut Regs, i: Instr) -> Event
 }
 
 /// Arithmetic on an immediate.
+#[inline(always)]
 fn execute_on_immediate(regs: &mut Regs, i: Instr) -> Event
     requires { HasAnImmediate i }
     ensures ends { (held : _) → executed regs.old held i ≡ holds held (ends result regs.new) }

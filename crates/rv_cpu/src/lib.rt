@@ -4,6 +4,7 @@
 
 mod arithmetic;
 mod atomic;
+pub mod below;
 mod ending;
 mod event;
 mod execution;

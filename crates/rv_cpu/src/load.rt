@@ -2,7 +2,7 @@
 ghost use Rattle.std.specs.Prelude.{◌≡◌, IfSome, true, false};
 ghost use Rattle.rv_mem.specs.Pages.{allows_all, bytes_from};
 ghost use Rattle.rv_mem.specs.Memory.{after_read};
-ghost use Rattle.pr_base.specs.Fields.{little_endian};
+ghost use Rattle.rv_table.specs.pr_base.Fields.{little_endian};
 ghost use Rattle.rv_cpu.specs.Loads.{size, extended};
 ghost use Rattle.rv_cpu.specs.Step.{width};
 ghost use Rattle.rv_cpu.specs.Words as word;
@@ -23,6 +23,7 @@ pub enum Load {
 }
 
 /// A byte, its sign bit repeated above.
+#[inline(always)]
 fn extend_byte(n: u8) -> u64
     ensures { result ≡ word.sign_extended_byte n }
 {
@@ -30,6 +31,7 @@ fn extend_byte(n: u8) -> u64
 }
 
 /// A half word, its sign bit repeated above.
+#[inline(always)]
 fn extend_half(n: u16) -> u64
     ensures { result ≡ word.sign_extended_half n }
 {
@@ -37,6 +39,7 @@ fn extend_half(n: u16) -> u64
 }
 
 /// Reads bytes for a use, all or none of them.
+#[inline(always)]
 pub fn read_array<const N: usize, const M: u8>(
     mem: &mut Space<M>,
     at: u64,
@@ -52,6 +55,7 @@ pub fn read_array<const N: usize, const M: u8>(
     }
 }
 
+#[inline(always)]
 fn read_byte<const M: u8>(mem: &mut Space<M>, at: u64) -> Option<u8>
     ensures some { IfSome result (λ n. (allows_all mem.old.pages at 1 Use.Read ≡ true) × (n ≡ little_endian (bytes_from mem.old.pages at 1)) × (mem.new ≡ after_read mem.old at 1)) }
     ensures none { result ≡ None → (allows_all mem.old.pages at 1 Use.Read ≡ false) × (mem.new ≡ mem.old) }
@@ -62,6 +66,7 @@ fn read_byte<const M: u8>(mem: &mut Space<M>, at: u64) -> Option<u8>
     }
 }
 
+#[inline(always)]
 fn read_half<const M: u8>(mem: &mut Space<M>, at: u64) -> Option<u16>
     ensures some { IfSome result (λ n. (allows_all mem.old.pages at 2 Use.Read ≡ true) × (n ≡ little_endian (bytes_from mem.old.pages at 2)) × (mem.new ≡ after_read mem.old at 2)) }
     ensures none { result ≡ None → (allows_all mem.old.pages at 2 Use.Read ≡ false) × (mem.new ≡ mem.old) }
@@ -73,6 +78,7 @@ fn read_half<const M: u8>(mem: &mut Space<M>, at: u64) -> Option<u16>
 }
 
 /// Reads a word for a use: as data, or to execute it.
+#[inline(always)]
 pub fn read_word<const M: u8>(mem: &mut Space<M>, at: u64, what: Use) -> Option<u32>
     ensures some { IfSome result (λ n. (allows_all mem.old.pages at 4 what ≡ true) × (n ≡ little_endian (bytes_from mem.old.pages at 4)) × (mem.new ≡ after_read mem.old at 4)) }
     ensures none { result ≡ None → (allows_all mem.old.pages at 4 what ≡ false) × (mem.new ≡ mem.old) }
@@ -83,6 +89,7 @@ pub fn read_word<const M: u8>(mem: &mut Space<M>, at: u64, what: Use) -> Option<
     }
 }
 
+#[inline(always)]
 fn read_double<const M: u8>(mem: &mut Space<M>, at: u64) -> Option<u64>
     ensures some { IfSome result (λ n. (allows_all mem.old.pages at 8 Use.Read ≡ true) × (n ≡ little_endian (bytes_from mem.old.pages at 8)) × (mem.new ≡ after_read mem.old at 8)) }
     ensures none { result ≡ None → (allows_all mem.old.pages at 8 Use.Read ≡ false) × (mem.new ≡ mem.old) }
@@ -94,6 +101,7 @@ fn read_double<const M: u8>(mem: &mut Space<M>, at: u64) -> Option<u64>
 }
 
 /// What a load gives its register, `None` where a byte isn't readable.
+#[inline(always)]
 pub fn loaded<const M: u8>(mem: &mut Space<M>, at: u64, load: Load) -> Option<u64>
     ensures some { IfSome result (λ n. (allows_all mem.old.pages at (size load) Use.Read ≡ true) × (n ≡ extended load (little_endian (bytes_from mem.old.pages at (size load)))) × (mem.new ≡ after_read mem.old at (size load))) }
     ensures none { result ≡ None → (allows_all mem.old.pages at (size load) Use.Read ≡ false) × (mem.new ≡ mem.old) }

@@ -6,6 +6,7 @@ use crate::arithmetic::{add, of_immediate};
 use rv_mem::Regs;
 
 /// The value of a register: 0 for register 0, whatever stands in its place.
+#[inline(always)]
 pub fn get(regs: &Regs, r: u8) -> u64
     ensures { result ≡ register regs.now r }
 {
@@ -16,6 +17,7 @@ pub fn get(regs: &Regs, r: u8) -> u64
 }
 
 /// Sets a register, but for register 0.
+#[inline(always)]
 pub fn set(regs: &mut Regs, r: u8, value: u64)
     ensures { regs.new ≡ with_register regs.old r value }
 {
@@ -25,6 +27,7 @@ pub fn set(regs: &mut Regs, r: u8, value: u64)
 }
 
 /// Goes on behind an instruction.
+#[inline(always)]
 pub fn move_on(regs: &mut Regs)
     ensures { regs.new ≡ moved_on regs.old }
 {
@@ -32,6 +35,7 @@ pub fn move_on(regs: &mut Regs)
 }
 
 /// Sets a register, but for register 0, and goes on behind an instruction.
+#[inline(always)]
 pub fn set_and_move_on(regs: &mut Regs, r: u8, value: u64)
     ensures { regs.new ≡ moved_on (with_register regs.old r value) }
 {
@@ -40,6 +44,7 @@ pub fn set_and_move_on(regs: &mut Regs, r: u8, value: u64)
 }
 
 /// The address of a load, a store or a jump: a register and an immediate.
+#[inline(always)]
 pub fn address(regs: &Regs, r: u8, imm: i64) -> u64
     ensures { result ≡ address regs.now r imm }
 {
@@ -47,6 +52,7 @@ pub fn address(regs: &Regs, r: u8, imm: i64) -> u64
 }
 
 /// The bytes of a register, the lowest of them first.
+#[inline(always)]
 pub fn bytes(regs: &Regs, r: u8) -> [u8; 8]
     ensures { result ≡ lowest_bytes 8 (register regs.now r) }
 {

@@ -1,5 +1,4 @@
 pub mod Carried
-pub mod Programs
 pub mod Fetch
 pub mod Operations
 pub mod Outside

@@ -1,5 +1,5 @@
 -- A loop of LR and SC: its four instructions, and what a pass of it needs.
-use Rattle.std.specs.Prelude.{◌≡◌, ◌≢◌, ℕ, ◌+◌, ◌%◌, ◌<◌, ◌≤◌, ◌⊎◌, Bool, true, false, if◌then◌else◌, pos, negsuc, List, [], ◌∷◌, ◌++◌, length, map, slice_index, None}
+use Rattle.std.specs.Prelude.{◌≡◌, ◌≢◌, ℕ, ◌+◌, ◌%◌, ◌<◌, ◌≤◌, ◌⊎◌, Bool, true, false, if◌then◌else◌, pos, negsuc, List, [], ◌∷◌, length, map, slice_index, None}
 use Rattle.rv_table.specs.declared.instr.Instr.{Instr}
 use Rattle.rv_table.specs.declared.instr.Instr.TheVariants.{LrW, LrD, ScW, ScD, Addi, Add as Plus, Xor as ExclusiveOr, And as Both, Or as Either, Bne, AmoswapW, AmoswapD, AmoaddW, AmoaddD, AmoxorW, AmoxorD, AmoandW, AmoandD, AmoorW, AmoorD}
 use Rattle.rv_mem.specs.declared.regs.Regs.{Regs}
@@ -9,8 +9,7 @@ use Rattle.rv_mem.specs.Memory.{Memory}
 use Rattle.rv_mem.specs.Actions.{CarriedOut, carried_out}
 use Rattle.rv_cpu.specs.Words.{sum}
 use Rattle.rv_cpu.specs.Step.{Stepped, register, width, executed}
-use Rattle.rv_asm.specs.declared.item.Item.TheVariants.{Plain}
-use Rattle.rv_asm.specs.Program.{Program}
+pub use Rattle.rv_asm.specs.Program.{with_code}
 use Rattle.rv_asm.specs.Assembly.{word}
 use Rattle.rv_loops.specs.declared.code.LoopOp.{LoopOp}
 use Rattle.rv_loops.specs.declared.code.LoopOp.TheVariants.{Swap, Add, Xor, And, Or}
@@ -54,10 +53,6 @@ again r = Bne r.failed 0 (negsuc 11)
 
 abbrev pub code : LoopOp → Bool → LoopRegs → List Instr
 code op wide r = reserve wide r ∷ operate op r ∷ conclude wide r ∷ again r ∷ []
-
--- a program with these instructions behind it
-abbrev pub with_code : Program → List Instr → Program
-with_code p is = record { items = p.items ++ map Plain is; places = p.places }
 
 -- ---- a pass
 

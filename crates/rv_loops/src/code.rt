@@ -1,5 +1,5 @@
 //! The code of a loop.
-ghost use Rattle.std.specs.Prelude.{◌≡◌, ℕ, ◌<◌, take, OnOk, OnErr};
+ghost use Rattle.std.specs.Prelude.{◌≡◌, OnOk, OnErr};
 ghost use Rattle.rv_loops.specs.Loops.{AreUsable, with_code};
 ghost use Rattle.rv_loops.specs.Loops as spec;
 
@@ -86,19 +86,16 @@ fn conclude(wide: bool, r: LoopRegs) -> Instr
 }
 
 /// Appends the loop: LR, the operation, SC, and a branch back to the LR where that failed. The five
-/// registers differ, and none of them is register 0. After `NoMemory` the first of the four instructions,
-/// as many as had room, stand there.
+/// registers differ, and none of them is register 0. Where memory is wanting nothing is appended.
 pub fn put(asm: &mut Asm, op: LoopOp, wide: bool, r: LoopRegs) -> Result<(), NoMemory>
     requires { AreUsable r }
     ensures ok { OnOk result (asm.new ≡ with_code asm.old (spec.code op wide r)) }
-    ensures err { OnErr result ((n : ℕ) × (n < 4) × (asm.new ≡ with_code asm.old (take n (spec.code op wide r)))) }
+    ensures err { OnErr result (asm.new ≡ asm.old) }
 {
-    asm.put(reserve(wide, r))?;
-    asm.put(operate(op, r))?;
-    asm.put(conclude(wide, r))?;
-    asm.put(Instr::Bne {
+    let again = Instr::Bne {
         rs1: r.failed,
         rs2: 0,
         imm: -12,
-    })
+    };
+    asm.put_all(&[reserve(wide, r), operate(op, r), conclude(wide, r), again])
 }

@@ -1,3 +1,4 @@
+pub use Rattle.pr_base.proofs as pr_base
 pub mod AccessLemmas
 pub mod ActionLemmas
 pub mod AddressLemmas
@@ -6,6 +7,7 @@ pub mod ByteLemmas
 pub mod ChangeLemmas
 pub mod LayoutLemmas
 pub mod MapLemmas
+pub mod MarkLemmas
 pub mod PageLemmas
 pub mod PagesLemmas
 pub mod PlaceLemmas

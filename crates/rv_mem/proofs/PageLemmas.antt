@@ -5,7 +5,7 @@ use Rattle.std.specs.List.{list_any}
 use Rattle.std.proofs.Math.Seq.{sets, length-sets, sets-eq}
 use Rattle.std.proofs.lemmas.List.{replicate_more, length-replicate, append_assoc, append-nil, drop-drop, take_all, drop_all}
 use Rattle.std.proofs.lemmas.Bool.{ne_eqb}
-use Rattle.rv_mem.specs.Marks.{no_marks, kept_marks, stored_count}
+use Rattle.rv_mem.specs.Marks.{no_marks, marks_in, kept_marks, word_count}
 use Rattle.rv_mem.specs.Page.{zero_bytes}
 
 -- one more value written at the end of those written
@@ -76,24 +76,20 @@ overwritten old xs new bs n at k e f g h within =
     = ap (λ ys. take at ys ++ (new ++ drop k (drop at ys))) e ∙ ap (λ ys. take at old ++ (ys ++ drop k (drop at old))) g ∙ spliced old at k bs h within
     in ap (λ zs. take n (zs ++ drop (length zs) old)) ws ∙ whole old (sets old at bs) n (length-sets old at bs) f
 
--- marks that were all taken away, as they are stored
-pub kept_marks-cleared : (marked n : ℕ) (xs : List Bool) → n ≡ stored_count marked → xs ≡ replicate n false → kept_marks marked xs ≡ no_marks
-unfolding no_marks
-kept_marks-cleared marked n xs e f =
-    elim (nat_eq marked 0) as (λ b. n ≡ cond b 0 4096 → cond b no_marks xs ≡ no_marks) [
-      | true ↦ λ _. refl
-      | false ↦ λ k. f ∙ ap (λ m. replicate m false) k
-    ] e
+-- where none are kept
+pub kept_marks-unkept : (marked : ℕ) (some : Bool) (words : List ℕ) → marked ≡ 0 → kept_marks marked some words ≡ no_marks
+kept_marks-unkept marked some words h = ap (λ b. cond b no_marks (cond some (marks_in words) no_marks)) (eq-eqb marked 0 h)
 
--- where marks are kept they are those that are stored
-pub kept_marks-some : (marked : ℕ) (xs : List Bool) → (marked ≡ 0 → ⊥) → kept_marks marked xs ≡ xs
-kept_marks-some marked xs h = ap (λ b. cond b no_marks xs) (ne_eqb marked 0 h)
+-- where there are none
+pub kept_marks-none : (marked : ℕ) (words : List ℕ) → kept_marks marked false words ≡ no_marks
+kept_marks-none marked words = elim (nat_eq marked 0) as (λ b. cond b no_marks no_marks ≡ no_marks) [ true ↦ refl | false ↦ refl ]
 
-pub kept_marks-none : (marked : ℕ) (xs : List Bool) → marked ≡ 0 → kept_marks marked xs ≡ no_marks
-kept_marks-none marked xs h = ap (λ b. cond b no_marks xs) (eq-eqb marked 0 h)
+-- where there may be some they are those that the words tell
+pub kept_marks-some : (marked : ℕ) (words : List ℕ) → (marked ≡ 0 → ⊥) → kept_marks marked true words ≡ marks_in words
+kept_marks-some marked words h = ap (λ b. cond b no_marks (marks_in words)) (ne_eqb marked 0 h)
 
-pub stored_count-some : (marked : ℕ) → (marked ≡ 0 → ⊥) → stored_count marked ≡ 4096
-stored_count-some marked h = ap (λ b. cond b 0 4096) (ne_eqb marked 0 h)
+pub word_count-some : (marked : ℕ) → (marked ≡ 0 → ⊥) → word_count marked ≡ 64
+word_count-some marked h = ap (λ b. cond b 0 64) (ne_eqb marked 0 h)
 
-pub stored_count-none : (marked : ℕ) → marked ≡ 0 → stored_count marked ≡ 0
-stored_count-none marked h = ap (λ b. cond b 0 4096) (eq-eqb marked 0 h)
+pub word_count-none : (marked : ℕ) → marked ≡ 0 → word_count marked ≡ 0
+word_count-none marked h = ap (λ b. cond b 0 64) (eq-eqb marked 0 h)

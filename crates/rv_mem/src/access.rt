@@ -53,7 +53,7 @@ impl<const MARKED: u8> Table<MARKED> {
 
     /// Writes bytes if each of them may be written, which clears their marks. Where memory is wanting none is
     /// written.
-    #[inline]
+    #[inline(always)]
     pub fn write_allowed(&mut self, at: u64, bytes: &[u8]) -> Result<(), StoreFault>
         requires placed { IsPlaced self.old }
         ensures bad { IsErrOf result StoreFault.BadAddress ↔ (allows_all self.old at (length bytes.now) Use.Write ≡ false) }
@@ -68,6 +68,7 @@ impl<const MARKED: u8> Table<MARKED> {
     }
 
     /// The same for bytes that may lie in several pages.
+    #[inline(never)]
     fn write_over_pages(&mut self, at: u64, bytes: &[u8]) -> Result<(), StoreFault>
         requires placed { IsPlaced self.old }
         ensures bad { IsErrOf result StoreFault.BadAddress ↔ (allows_all self.old at (length bytes.now) Use.Write ≡ false) }
@@ -114,7 +115,7 @@ impl<const MARKED: u8> Table<MARKED> {
     }
 
     /// Copies bytes if each of them allows a use, and tells whether one of them is marked.
-    #[inline]
+    #[inline(always)]
     pub fn read_allowed(&mut self, at: u64, into: &mut [u8], what: Use) -> Option<bool>
         requires placed { IsPlaced self.old }
         ensures read { MatchOption result (IsRefused self.old at what into.old into.new) (λ marked. IsRead self.old at what into.old into.new marked) }
@@ -128,6 +129,7 @@ impl<const MARKED: u8> Table<MARKED> {
     }
 
     /// The same for bytes that may lie in several pages.
+    #[inline(never)]
     fn read_over_pages(&self, at: u64, into: &mut [u8], what: Use) -> Option<bool>
         requires placed { IsPlaced self.now }
         ensures { MatchOption result (IsRefused self.now at what into.old into.new) (λ marked. IsRead self.now at what into.old into.new marked) }
@@ -141,6 +143,7 @@ impl<const MARKED: u8> Table<MARKED> {
 }
 
 /// Whether `count` isn't 0, and `count` bytes from the address `at` on lie in one page: then one look-up is enough.
+#[inline(always)]
 fn lie_in_a_page(at: u64, count: usize) -> bool
     ensures { IsTrue result ↔ ((0 < count) × (at % page_size + count ≤ page_size)) }
 {

@@ -38,6 +38,7 @@ impl Frame {
     }
 
     /// Writes bytes from an offset on.
+    #[inline(always)]
     pub fn write(&mut self, offset: usize, bytes: &[u8])
         requires { offset + length bytes.now ≤ page_size }
         ensures { self.new ≡ sets self.old offset bytes.now }
@@ -46,7 +47,7 @@ impl Frame {
     }
 
     /// Copies the bytes from an offset on.
-    #[inline]
+    #[inline(always)]
     pub fn copy_to(&self, offset: usize, into: &mut [u8])
         requires { offset + length into.old ≤ page_size }
         ensures bytes { into.new ≡ take (length into.old) (drop offset self.now) }

@@ -3,6 +3,7 @@
 #![tactic(auto)]
 
 mod access;
+pub mod below;
 mod fault;
 mod frame;
 pub mod laws;

@@ -53,6 +53,7 @@ impl<const MARKED: u8> Page<MARKED> {
     }
 
     /// Whether the page's rights allow the use.
+    #[inline(always)]
     pub fn grants(&self, what: Use) -> bool
         ensures { result ≡ grants self.now.rights what }
     {
@@ -67,6 +68,7 @@ impl<const MARKED: u8> Page<MARKED> {
     }
 
     /// Writes bytes from an offset on, in a copy where they are shared, which clears their marks.
+    #[inline(always)]
     pub fn write(&mut self, alloc: Global, offset: usize, bytes: &[u8]) -> Result<(), NoMemory>
         requires { offset + length bytes.now ≤ page_size }
         ensures ok { OnOk result (self.new ≡ page_written offset bytes.now self.old) }
@@ -103,7 +105,7 @@ impl<const MARKED: u8> Page<MARKED> {
     }
 
     /// Copies the bytes from an offset on.
-    #[inline]
+    #[inline(always)]
     pub fn copy_to(&self, offset: usize, into: &mut [u8])
         requires { offset + length into.old ≤ page_size }
         ensures bytes { into.new ≡ take (length into.old) (drop offset self.now.bytes) }
@@ -113,6 +115,7 @@ impl<const MARKED: u8> Page<MARKED> {
     }
 
     /// Whether one of the `count` bytes from an offset on is marked.
+    #[inline(always)]
     pub fn any_marked(&self, offset: usize, count: usize) -> bool
         requires { offset + count ≤ page_size }
         ensures { result ≡ list_any (λ m. m) (take count (drop offset self.now.marks)) }

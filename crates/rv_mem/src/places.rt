@@ -8,6 +8,7 @@ use pr_base::NoMemory;
 use std::collections::BTreeMap;
 
 /// The place of the page at a number, if it is there.
+#[inline(never)]
 pub fn place_of(places: &BTreeMap<u64, usize>, number: u64) -> Option<usize>
     ensures { result ≡ map.get (places_of places.now.entries) number }
 {
@@ -18,7 +19,7 @@ pub fn place_of(places: &BTreeMap<u64, usize>, number: u64) -> Option<usize>
 }
 
 /// The same, where a place that is remembered is tried first: it is right where the page at it has the number.
-#[inline]
+#[inline(always)]
 pub fn recalled(
     places: &BTreeMap<u64, usize>,
     numbers: &[u64],

@@ -23,7 +23,7 @@ impl Recent {
     }
 
     /// Where the page at a number was when it was used last, or another.
-    #[inline]
+    #[inline(always)]
     pub fn place(&self, number: u64, what: Use) -> usize {
         match what {
             Use::Execute => self.fetched,
@@ -32,7 +32,7 @@ impl Recent {
     }
 
     /// Notes where the page at a number is.
-    #[inline]
+    #[inline(always)]
     pub fn note(&mut self, number: u64, what: Use, place: usize) {
         match what {
             Use::Execute => self.fetched = place,

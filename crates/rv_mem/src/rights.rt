@@ -21,6 +21,7 @@ impl Rights {
     ghost use Rattle.rv_mem.specs.Page.{grants};
 
     /// Whether these rights allow the use.
+    #[inline(always)]
     pub fn grants(self, what: Use) -> bool
         ensures { result ≡ grants self what }
     {

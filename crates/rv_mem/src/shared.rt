@@ -51,6 +51,7 @@ impl Shared {
     }
 
     /// Writes bytes from an offset on, in a copy where they are shared.
+    #[inline(always)]
     pub fn write(&mut self, alloc: Global, offset: usize, bytes: &[u8]) -> Result<(), NoMemory>
         requires { offset + length bytes.now ≤ page_size }
         ensures ok { OnOk result (self.new ≡ sets self.old offset bytes.now) }
@@ -68,7 +69,7 @@ impl Shared {
     }
 
     /// Copies the bytes from an offset on.
-    #[inline]
+    #[inline(always)]
     pub fn copy_to(&self, offset: usize, into: &mut [u8])
         requires { offset + length into.old ≤ page_size }
         ensures bytes { into.new ≡ take (length into.old) (drop offset self.now) }

@@ -86,7 +86,7 @@ impl<const MARKED: u8> Space<MARKED> {
     }
 
     /// Reads bytes for a use, all or none of them. The range is read only if it is allowed.
-    #[inline]
+    #[inline(always)]
     pub fn read(&mut self, at: u64, into: &mut [u8], what: Use) -> Result<(), BadAddress>
         ensures when { IsOk result ↔ IsTrue (allows_all self.old.pages at (length into.old) what) }
         ensures bytes { OnOk result (into.new ≡ bytes_from self.old.pages at (length into.old)) }
@@ -104,6 +104,7 @@ impl<const MARKED: u8> Space<MARKED> {
     }
 
     /// Writes bytes, all or none of them, which clears their marks.
+    #[inline(always)]
     pub fn write(&mut self, at: u64, bytes: &[u8]) -> Result<(), StoreFault>
         ensures bad { IsErrOf result StoreFault.BadAddress ↔ (allows_all self.old.pages at (length bytes.now) Use.Write ≡ false) }
         ensures ok { OnOk result (self.new ≡ with_pages self.old (written self.old.pages at bytes.now)) }

@@ -176,7 +176,7 @@ impl<const MARKED: u8> Table<MARKED> {
     }
 
     /// Writes bytes that lie inside one page if it is there and may be written, which clears their marks.
-    #[inline]
+    #[inline(always)]
     pub fn write_in_page(&mut self, at: u64, bytes: &[u8]) -> Result<(), StoreFault>
         requires some { 0 < length bytes.now }
         requires within { at % page_size + length bytes.now ≤ page_size }
@@ -236,7 +236,7 @@ impl<const MARKED: u8> Table<MARKED> {
 
     /// Copies bytes that lie inside one page if it is there and allows a use, and tells whether one of them is
     /// marked.
-    #[inline]
+    #[inline(always)]
     pub fn read_in_page(&mut self, at: u64, into: &mut [u8], what: Use) -> Option<bool>
         requires some { 0 < length into.old }
         requires within { at % page_size + length into.old ≤ page_size }

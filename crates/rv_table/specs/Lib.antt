@@ -1,2 +1,3 @@
+pub use Rattle.pr_base.specs as pr_base
 pub mod Encoding
 pub mod Rows

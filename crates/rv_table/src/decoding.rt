@@ -66,6 +66,7 @@ macro_rules! first_match {
 }
 
 /// The instruction of a word, `None` where it matches no row of the table.
+#[inline(always)]
 pub fn decode(w: u32) -> Option<Instr>
     ensures value { result ≡ decoded w }
 
@@ -81,6 +82,7 @@ pub fn decode(w: u32) -> Option<Instr>
     by_opcode(w)
 }
 
+#[inline(always)]
 fn by_opcode(word: u32) -> Option<Instr>
     ensures { result ≡ decoded word }
 {
@@ -103,6 +105,7 @@ fn by_opcode(word: u32) -> Option<Instr>
     }
 }
 
+#[inline(always)]
 fn load(word: u32) -> Option<Instr>
     ensures { result ≡ first_match load_rows word }
 {
@@ -118,6 +121,7 @@ fn load(word: u32) -> Option<Instr>
     }
 }
 
+#[inline(always)]
 fn fence(word: u32) -> Option<Instr>
     ensures { result ≡ first_match fence_rows word }
 {
@@ -127,6 +131,7 @@ fn fence(word: u32) -> Option<Instr>
     }
 }
 
+#[inline(always)]
 fn immediate(word: u32) -> Option<Instr>
     ensures { result ≡ first_match immediate_rows word }
 {
@@ -144,6 +149,7 @@ fn immediate(word: u32) -> Option<Instr>
     }
 }
 
+#[inline(always)]
 fn auipc(word: u32) -> Option<Instr>
     ensures { result ≡ first_match auipc_rows word }
 {
@@ -153,6 +159,7 @@ fn auipc(word: u32) -> Option<Instr>
     }
 }
 
+#[inline(always)]
 fn word_immediate(word: u32) -> Option<Instr>
     ensures { result ≡ first_match word_immediate_rows word }
 {
@@ -165,6 +172,7 @@ fn word_immediate(word: u32) -> Option<Instr>
     }
 }
 
+#[inline(always)]
 fn store(word: u32) -> Option<Instr>
     ensures { result ≡ first_match store_rows word }
 {
@@ -177,6 +185,7 @@ fn store(word: u32) -> Option<Instr>
     }
 }
 
+#[inline(never)]
 fn atomic(word: u32) -> Option<Instr>
     ensures { result ≡ first_match atomic_rows word }
 {
@@ -207,6 +216,7 @@ fn atomic(word: u32) -> Option<Instr>
     }
 }
 
+#[inline(always)]
 fn register(word: u32) -> Option<Instr>
     ensures { result ≡ first_match register_rows word }
 {
@@ -233,6 +243,7 @@ fn register(word: u32) -> Option<Instr>
     }
 }
 
+#[inline(always)]
 fn lui(word: u32) -> Option<Instr>
     ensures { result ≡ first_match lui_rows word }
 {
@@ -242,6 +253,7 @@ fn lui(word: u32) -> Option<Instr>
     }
 }
 
+#[inline(always)]
 fn word_register(word: u32) -> Option<Instr>
     ensures { result ≡ first_match word_register_rows word }
 {
@@ -260,6 +272,7 @@ fn word_register(word: u32) -> Option<Instr>
     }
 }
 
+#[inline(always)]
 fn branch(word: u32) -> Option<Instr>
     ensures { result ≡ first_match branch_rows word }
 {
@@ -274,6 +287,7 @@ fn branch(word: u32) -> Option<Instr>
     }
 }
 
+#[inline(always)]
 fn jalr(word: u32) -> Option<Instr>
     ensures { result ≡ first_match jalr_rows word }
 {
@@ -283,6 +297,7 @@ fn jalr(word: u32) -> Option<Instr>
     }
 }
 
+#[inline(always)]
 fn jal(word: u32) -> Option<Instr>
     ensures { result ≡ first_match jal_rows word }
 {
@@ -292,6 +307,7 @@ fn jal(word: u32) -> Option<Instr>
     }
 }
 
+#[inline(always)]
 fn system(word: u32) -> Option<Instr>
     ensures { result ≡ first_match system_rows word }
 {

@@ -6,6 +6,7 @@ ghost use Rattle.rv_table.specs.Rows as manual;
 use pr_base::bits;
 
 /// A number of `WIDTH` bits read in two's complement.
+#[inline(always)]
 fn signed<const WIDTH: u32>(n: u32) -> i64
     requires some { 1 ≤ WIDTH }
     requires within { WIDTH ≤ 32 }
@@ -20,36 +21,42 @@ fn signed<const WIDTH: u32>(n: u32) -> i64
     }
 }
 
+#[inline(always)]
 pub fn rd(word: u32) -> u8
     ensures { result ≡ manual.rd_of word }
 {
     bits::<11, 7>(word) as u8
 }
 
+#[inline(always)]
 pub fn rs1(word: u32) -> u8
     ensures { result ≡ manual.rs1_of word }
 {
     bits::<19, 15>(word) as u8
 }
 
+#[inline(always)]
 pub fn rs2(word: u32) -> u8
     ensures { result ≡ manual.rs2_of word }
 {
     bits::<24, 20>(word) as u8
 }
 
+#[inline(always)]
 pub fn i_immediate(word: u32) -> i64
     ensures { result ≡ manual.i_immediate word }
 {
     signed::<12>(bits::<31, 20>(word))
 }
 
+#[inline(always)]
 pub fn s_immediate(word: u32) -> i64
     ensures { result ≡ manual.s_immediate word }
 {
     signed::<12>((bits::<31, 25>(word) << 5) + bits::<11, 7>(word))
 }
 
+#[inline(always)]
 pub fn b_immediate(word: u32) -> i64
     ensures { result ≡ manual.b_immediate word }
 {
@@ -61,12 +68,14 @@ pub fn b_immediate(word: u32) -> i64
     )
 }
 
+#[inline(always)]
 pub fn u_immediate(word: u32) -> i64
     ensures { result ≡ manual.u_immediate word }
 {
     signed::<32>(bits::<31, 12>(word) << 12)
 }
 
+#[inline(always)]
 pub fn j_immediate(word: u32) -> i64
     ensures { result ≡ manual.j_immediate word }
 {
@@ -79,6 +88,7 @@ pub fn j_immediate(word: u32) -> i64
 }
 
 /// The amount of a shift of 64 bits.
+#[inline(always)]
 pub fn shift_amount(word: u32) -> i64
     ensures { result ≡ manual.shift_amount word }
 {
@@ -86,6 +96,7 @@ pub fn shift_amount(word: u32) -> i64
 }
 
 /// The amount of a shift of 32 bits.
+#[inline(always)]
 pub fn word_shift_amount(word: u32) -> i64
     ensures { result ≡ manual.word_shift_amount word }
 {

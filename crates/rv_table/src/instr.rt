@@ -6,7 +6,7 @@
 /// instruction uses it: a number of bytes for loads, stores, jumps and branches, the whole upper part
 /// with its twelve zeros for LUI and AUIPC, the amount for shifts. `order` has the bits `aq` (2) and
 /// `rl` (1) of an atomic instruction, which order nothing here, where one instruction follows another.
-#[derive(Clone, Copy, Debug, PartialEq, Eq)]
+#[derive(Clone, Copy)]
 pub enum Instr {
     /// Load byte, sign-extended.
     Lb { rd: u8, rs1: u8, imm: i64 },

@@ -3,6 +3,7 @@
 //! and its listings of instructions.
 #![tactic(auto)]
 
+pub mod below;
 mod decoding;
 mod encoding;
 mod fields;

@@ -1,6 +1,3 @@
-ghost use Rattle.std.specs.Prelude.{◌≡◌, OnOk};
-
-use pr_base::NoMemory;
 use rv_asm::{Asm, AsmFault};
 use rv_table::Instr;
 use std::test::Fail;
@@ -99,16 +96,6 @@ fn an_address_has_two_parts(rt: HostRuntime) -> Result<(), Fail> {
     Ok(())
 }
 
-// Adds instructions that do nothing here.
-fn put_many(asm: &mut Asm, count: u32) -> Result<(), NoMemory>
-    ensures { OnOk result (asm.new.places ≡ asm.old.places) }
-{
-    for _ in 0..count {
-        asm.put(Instr::Ecall)?;
-    }
-    Ok(())
-}
-
 #[test]
 fn the_first_fault_is_told(rt: HostRuntime) -> Result<(), Fail> {
     let branch = Instr::Bltu {
@@ -128,7 +115,7 @@ fn the_first_fault_is_told(rt: HostRuntime) -> Result<(), Fail> {
     let mut far = Asm::new(rt.alloc());
     let label = far.label()?;
     far.branch(branch, label)?;
-    put_many(&mut far, 2000)?;
+    far.bytes(&[0; 8000])?;
     far.bind(label);
     assert_eq!(rt; far.finish().err(), Some(AsmFault::Far { label: 0 }));
 
@@ -136,7 +123,7 @@ fn the_first_fault_is_told(rt: HostRuntime) -> Result<(), Fail> {
     let behind = both.label()?;
     let nowhere = both.label()?;
     both.bind(behind);
-    put_many(&mut both, 2000)?;
+    both.bytes(&[0; 8000])?;
     both.branch(branch, behind)?;
     both.jump(0, nowhere)?;
     assert_eq!(rt; both.finish().err(), Some(AsmFault::Unbound { label: 1 }));

@@ -1,15 +1,9 @@
-//! Tests of the instruction table, of memory, of the processor, of the assembler and of loops.
+//! Tests of the assembler, of a loop and of memory, of what no row of rv_rows can show.
 #![tactic(auto)]
 
 #[cfg(test)]
 mod assembler;
 #[cfg(test)]
-mod atomics;
-#[cfg(test)]
 mod loops;
 #[cfg(test)]
 mod memory;
-#[cfg(test)]
-mod processor;
-#[cfg(test)]
-mod table;

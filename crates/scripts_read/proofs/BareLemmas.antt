@@ -1,18 +1,18 @@
 -- Where no marked byte is read of a list, its addresses aren't marked.
 use Rattle.std.proofs.Common.{◌≡◌, ℕ, zero, suc, ◌+◌, ◌-◌, ◌*◌, ◌≤◌, inl, inr, Bool, true, false, cond, ◌||◌, List, [], ◌∷◌, ◌++◌, length, nat_lt, Result, Ok, Err, refl, sym, ap, ◌∙◌, subst, arith}
 use Rattle.std.proofs.lemmas.Bool.Decides.{nat_tests}
-use Rattle.pr_base.specs.declared.errno.Errno.{Errno}
-use Rattle.rv_mem.specs.Actions.{Action, AreEqualUnmarked, CarriedOut, Done, ReadBytes, carried_out}
-use Rattle.rv_mem.specs.Memory.{Memory, after_read}
-use Rattle.rv_mem.specs.Pages.{IsPlaced, Pages, any_marked, bytes_from}
-use Rattle.rv_mem.proofs.AccessLemmas.{bytes_from-zero}
-use Rattle.rv_mem.proofs.ActionLemmas.{flag_stays, reads_alike}
-use Rattle.rv_mem.proofs.PagesLemmas.{bytes_from-add}
-use Rattle.kr_calls.specs.Expansion.{bytes_with_ends}
-use Rattle.kr_exec.specs.Exec.{are_too_big}
-use Rattle.kr_exec.specs.Lists.{Trying, at_least_one, behind, env_at, list_at, most_bytes, most_texts, next_address, texts_from}
-use Rattle.kr_exec.specs.declared.lists.Lists.{Lists}
-use Rattle.kr_exec.proofs.ListLemmas.{and_then_is, on_reply}
+use Rattle.swaps_read.specs.pr_base.declared.errno.Errno.{Errno}
+use Rattle.pt_args.specs.rv_mem.Actions.{Action, AreEqualUnmarked, CarriedOut, Done, ReadBytes, carried_out}
+use Rattle.pt_args.specs.rv_mem.Memory.{Memory, after_read}
+use Rattle.pt_args.specs.rv_mem.Pages.{IsPlaced, Pages, any_marked, bytes_from}
+use Rattle.pt_args.proofs.rv_mem.AccessLemmas.{bytes_from-zero}
+use Rattle.pt_args.proofs.rv_mem.ActionLemmas.{flag_stays, reads_alike}
+use Rattle.pt_args.proofs.rv_mem.PagesLemmas.{bytes_from-add}
+use Rattle.pt_args.specs.kr_calls.Expansion.{bytes_with_ends}
+use Rattle.programs_agree.specs.kr_exec.Exec.{are_too_big}
+use Rattle.programs_agree.specs.kr_exec.Lists.{Trying, at_least_one, behind, env_at, list_at, most_bytes, most_texts, next_address, texts_from}
+use Rattle.programs_agree.specs.kr_exec.declared.lists.Lists.{Lists}
+use Rattle.programs_agree.proofs.kr_exec.ListLemmas.{and_then_is, on_reply}
 use Rattle.programs_agree.proofs.LimitLemmas.{lists_fit}
 use Rattle.scripts_read.specs.Lists.{IsList, IsListAt, KeptAddressesAreAlike, address_in}
 use Rattle.scripts_read.proofs.CopyLemmas.{next-is}

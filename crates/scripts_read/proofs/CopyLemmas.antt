@@ -2,12 +2,12 @@
 use Rattle.std.proofs.Common.{◌≡◌, ℕ, ◌+◌, ◌*◌, ◌%◌, ◌/◌, ◌^◌, ◌<◌, true, List, [], ◌∷◌, ◌++◌, drop, take, length, sym, ap, ◌∙◌, subst, arith}
 use Rattle.std.specs.Prelude.{nat_eq}
 use Rattle.std.proofs.Math.Seq.{drop-append_seam, take-append_seam}
-use Rattle.pr_base.specs.Fields.{little_endian}
-use Rattle.rv_mem.specs.Memory.{text_of}
-use Rattle.rv_mem.specs.Pages.{IsPlaced, Pages, allows_all, bytes_from}
-use Rattle.rv_mem.specs.declared.rights.Use.TheVariants.{Read}
-use Rattle.rv_mem.proofs.PagesLemmas.{bytes_from-add, length-bytes_from}
-use Rattle.kr_exec.specs.Lists.{most_bytes, next_address}
+use Rattle.swaps_read.specs.pr_base.Fields.{little_endian}
+use Rattle.pt_args.specs.rv_mem.Memory.{text_of}
+use Rattle.pt_args.specs.rv_mem.Pages.{IsPlaced, Pages, allows_all, bytes_from}
+use Rattle.pt_args.specs.rv_mem.declared.rights.Use.TheVariants.{Read}
+use Rattle.pt_args.proofs.rv_mem.PagesLemmas.{bytes_from-add, length-bytes_from}
+use Rattle.programs_agree.specs.kr_exec.Lists.{most_bytes, next_address}
 use Rattle.swaps_read.proofs.RangeLemmas.{part_allowed}
 use Rattle.lists_alike.proofs.ReadLemmas.{one-allowed, page-there}
 use Rattle.scripts_read.specs.Lists.{AreEntries, IsEnd, IsEntry, IsList, ListsAreCopied, address_in}

@@ -4,12 +4,12 @@ use Rattle.std.specs.Prelude.{nat_eq}
 use Rattle.std.specs.List.{All}
 use Rattle.std.proofs.lemmas.Bool.{eq-eqb, ne_eqb}
 use Rattle.std.proofs.lemmas.List.Elements.{All-head, All-tail}
-use Rattle.rv_mem.specs.Memory.{text_after, text_of}
-use Rattle.rv_mem.specs.Pages.{IsPlaced, IsWhole, Pages, allows, allows_all, byte_at, bytes_from, written}
-use Rattle.rv_mem.specs.declared.rights.Use.TheVariants.{Read}
-use Rattle.rv_mem.proofs.AccessLemmas.{contains_allowed}
-use Rattle.rv_mem.proofs.AddressLemmas.{allows-written, byte_at-written_in, byte_at-written_other}
-use Rattle.rv_mem.proofs.SpaceLemmas.{IsPlaced-written, IsWhole-written}
+use Rattle.pt_args.specs.rv_mem.Memory.{text_after, text_of}
+use Rattle.pt_args.specs.rv_mem.Pages.{IsPlaced, IsWhole, Pages, allows, allows_all, byte_at, bytes_from, written}
+use Rattle.pt_args.specs.rv_mem.declared.rights.Use.TheVariants.{Read}
+use Rattle.pt_args.proofs.rv_mem.AccessLemmas.{contains_allowed}
+use Rattle.pt_args.proofs.rv_mem.AddressLemmas.{allows-written, byte_at-written_in, byte_at-written_other}
+use Rattle.pt_args.proofs.rv_mem.SpaceLemmas.{IsPlaced-written, IsWhole-written}
 use Rattle.pt_args.specs.Laws.{ShelvesHoldTheirItems, StandBetween, poked, room_of}
 use Rattle.pt_args.specs.Shelving.{address_below, shelved}
 

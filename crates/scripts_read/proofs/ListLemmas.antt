@@ -2,20 +2,20 @@
 use Rattle.std.proofs.Common.{◌≡◌, ℕ, zero, suc, ◌+◌, ◌-◌, ◌<◌, ◌≤◌, inl, inr, Bool, true, false, cond, List, [], ◌∷◌, length, Result, Ok, Err, refl, sym, ap, ◌∙◌, subst, arith}
 use Rattle.std.specs.Prelude.{nat_eq, nat_lt}
 use Rattle.std.proofs.lemmas.Bool.Decides.{nat_tests}
-use Rattle.pr_base.specs.Fields.{little_endian}
-use Rattle.pr_base.specs.declared.errno.Errno.{Errno}
-use Rattle.pr_base.specs.declared.errno.Errno.TheVariants.{E2BIG, EFAULT}
-use Rattle.rv_mem.specs.Actions.{CarriedOut, Done, ReadBytes, allows_uses, carried_out}
-use Rattle.rv_mem.specs.Memory.{Memory, after_read, text_of, text_reach}
-use Rattle.rv_mem.specs.Pages.{allows_all}
-use Rattle.rv_mem.specs.declared.fault.TextFault.{TextFault}
-use Rattle.rv_mem.specs.declared.fault.TextFault.TheVariants as fault
-use Rattle.rv_mem.specs.declared.rights.Use.TheVariants.{Read}
-use Rattle.kr_calls.specs.Expansion.{bytes_with_ends}
-use Rattle.kr_calls.proofs.TextLemmas.{chosen, read_text_is}
-use Rattle.kr_exec.specs.Lists.{Trying, address_at, and_then, at_least_one, behind, env_at, if_it_fits, list_at, most_bytes, most_texts, next_address, text_at, text_within, texts_from}
-use Rattle.kr_exec.specs.declared.lists.Lists.{Lists}
-use Rattle.kr_exec.proofs.ListLemmas.{and_then_is, at_address, at_end, at_text, by_address, done, entry, fits, goes_on, on_reply}
+use Rattle.swaps_read.specs.pr_base.Fields.{little_endian}
+use Rattle.swaps_read.specs.pr_base.declared.errno.Errno.{Errno}
+use Rattle.swaps_read.specs.pr_base.declared.errno.Errno.TheVariants.{E2BIG, EFAULT}
+use Rattle.pt_args.specs.rv_mem.Actions.{CarriedOut, Done, ReadBytes, allows_uses, carried_out}
+use Rattle.pt_args.specs.rv_mem.Memory.{Memory, after_read, text_of, text_reach}
+use Rattle.pt_args.specs.rv_mem.Pages.{allows_all}
+use Rattle.pt_args.specs.rv_mem.declared.fault.TextFault.{TextFault}
+use Rattle.pt_args.specs.rv_mem.declared.fault.TextFault.TheVariants as fault
+use Rattle.pt_args.specs.rv_mem.declared.rights.Use.TheVariants.{Read}
+use Rattle.pt_args.specs.kr_calls.Expansion.{bytes_with_ends}
+use Rattle.pt_args.proofs.kr_calls.TextLemmas.{chosen, read_text_is}
+use Rattle.programs_agree.specs.kr_exec.Lists.{Trying, address_at, and_then, at_least_one, behind, env_at, if_it_fits, list_at, most_bytes, most_texts, next_address, text_at, text_within, texts_from}
+use Rattle.programs_agree.specs.kr_exec.declared.lists.Lists.{Lists}
+use Rattle.programs_agree.proofs.kr_exec.ListLemmas.{and_then_is, at_address, at_end, at_text, by_address, done, entry, fits, goes_on, on_reply}
 use Rattle.lists_alike.proofs.KeepLemmas.{address-keeps, list-keeps, within-keeps}
 use Rattle.scripts_read.specs.Lists.{IsEntry, IsList, IsListAt, ReadListsStand, StandingListsAreRead, address_in}
 

@@ -3,12 +3,12 @@ use Rattle.std.proofs.Common.{◌≡◌, ◌≢◌, ◌≤◌, ℕ, zero, suc, �
 use Rattle.std.specs.List.{All}
 use Rattle.std.proofs.lemmas.Bool.Decides.{nat_tests}
 use Rattle.std.proofs.lemmas.List.Elements.{All-cons, All-tail}
-use Rattle.pr_base.specs.declared.errno.Errno.{Errno}
-use Rattle.pr_base.specs.declared.errno.Errno.TheVariants.{E2BIG, ELOOP}
-use Rattle.kr_calls.specs.Expansion.{Expanded, Finding, Onward, argument_of, by_interpreter, by_line, bytes_with_ends, expanded, is_script, is_too_big, most_scripts, new_args, runs}
-use Rattle.kr_calls.specs.Scripts.{script_of}
+use Rattle.swaps_read.specs.pr_base.declared.errno.Errno.{Errno}
+use Rattle.swaps_read.specs.pr_base.declared.errno.Errno.TheVariants.{E2BIG, ELOOP}
+use Rattle.pt_args.specs.kr_calls.Expansion.{Expanded, Finding, Onward, argument_of, by_interpreter, by_line, bytes_with_ends, expanded, is_script, is_too_big, most_scripts, new_args, runs}
+use Rattle.pt_args.specs.kr_calls.Scripts.{script_of}
 use Rattle.pt_args.specs.Laws.{IsPathText}
-use Rattle.pt_watched.specs.ScriptEdit.{texts_room}
+use Rattle.swaps_read.specs.pt_watched.ScriptEdit.{texts_room}
 use Rattle.scripts_read.proofs.LineLemmas.{IsShortLine, line-words, none}
 
 abbrev pub Texts : Type 0

@@ -3,18 +3,18 @@ use Rattle.std.proofs.Common.{◌≡◌, ℕ, ◌+◌, ◌-◌, ◌*◌, ◌<◌
 use Rattle.std.specs.Prelude.{nat_eq}
 use Rattle.std.proofs.lemmas.Bool.Decides.{nat_tests}
 use Rattle.std.proofs.lemmas.List.{length-drop}
-use Rattle.pr_base.specs.declared.errno.Errno.TheVariants.{EFAULT}
-use Rattle.rv_mem.specs.Actions.{Done, ReadBytes, allows_uses, carried_out}
-use Rattle.rv_mem.specs.Memory.{Memory}
-use Rattle.rv_mem.specs.Pages.{Pages, bytes_from}
-use Rattle.rv_mem.specs.declared.rights.Use.TheVariants.{Read}
-use Rattle.rv_mem.proofs.ActionLemmas.{reads_alike}
+use Rattle.swaps_read.specs.pr_base.declared.errno.Errno.TheVariants.{EFAULT}
+use Rattle.pt_args.specs.rv_mem.Actions.{Done, ReadBytes, allows_uses, carried_out}
+use Rattle.pt_args.specs.rv_mem.Memory.{Memory}
+use Rattle.pt_args.specs.rv_mem.Pages.{Pages, bytes_from}
+use Rattle.pt_args.specs.rv_mem.declared.rights.Use.TheVariants.{Read}
+use Rattle.pt_args.proofs.rv_mem.ActionLemmas.{reads_alike}
 use Rattle.pt_args.specs.Bases.{working_text}
 use Rattle.pt_args.specs.Laws.{ShelvesHoldTheirItems, poked}
-use Rattle.pt_lists.specs.Reading.{addresses_behind}
-use Rattle.pt_watched.specs.ScriptEdit.{put_texts}
-use Rattle.kr_calls.specs.Expansion.{bytes_with_ends}
-use Rattle.kr_exec.specs.Lists.{at_least_one, lists_at, next_address}
+use Rattle.lists_alike.specs.pt_lists.Reading.{addresses_behind}
+use Rattle.swaps_read.specs.pt_watched.ScriptEdit.{put_texts}
+use Rattle.pt_args.specs.kr_calls.Expansion.{bytes_with_ends}
+use Rattle.programs_agree.specs.kr_exec.Lists.{at_least_one, lists_at, next_address}
 use Rattle.programs_agree.proofs.LimitLemmas.{lists_fit}
 use Rattle.scripts_read.specs.Lists.{AreEntries, IsList, IsListAt}
 use Rattle.scripts_read.proofs.BareLemmas.{kept_addresses_are_alike}

@@ -4,31 +4,31 @@ use Rattle.std.specs.List.{All}
 use Rattle.std.proofs.lemmas.Bool.Decides.{nat_tests}
 use Rattle.std.proofs.lemmas.List.{length-append, length-drop, length-take}
 use Rattle.std.proofs.Math.Seq.{take-append_seam}
-use Rattle.pr_base.specs.declared.errno.Errno.{Errno}
-use Rattle.pr_base.specs.declared.errno.Errno.TheVariants.{E2BIG, EFAULT, ENAMETOOLONG}
-use Rattle.rv_mem.specs.Actions.{Done, ReadBytes, allows_uses, carried_out}
-use Rattle.rv_mem.specs.Memory.{Memory}
-use Rattle.rv_mem.specs.declared.rights.Use.TheVariants.{Read}
-use Rattle.pt_canon.specs.TextWalk.{TextSurroundings}
-use Rattle.pt_canon.specs.declared.canon.Canon.{Canon}
-use Rattle.pr_base.specs.Peeks.{Peeked}
-use Rattle.kr_allowed.proofs.RowLemmas.{read-count}
-use Rattle.kr_calls.specs.Expansion.{most_scripts}
-use Rattle.kr_calls.specs.Expansion.{Expanded as Ended}
-use Rattle.kr_exec.specs.Lists.{next_address}
+use Rattle.swaps_read.specs.pr_base.declared.errno.Errno.{Errno}
+use Rattle.swaps_read.specs.pr_base.declared.errno.Errno.TheVariants.{E2BIG, EFAULT, ENAMETOOLONG}
+use Rattle.pt_args.specs.rv_mem.Actions.{Done, ReadBytes, allows_uses, carried_out}
+use Rattle.pt_args.specs.rv_mem.Memory.{Memory}
+use Rattle.pt_args.specs.rv_mem.declared.rights.Use.TheVariants.{Read}
+use Rattle.pt_args.specs.pt_canon.TextWalk.{TextSurroundings}
+use Rattle.pt_args.specs.pt_canon.declared.canon.Canon.{Canon}
+use Rattle.swaps_read.specs.pr_base.Peeks.{Peeked}
+use Rattle.programs_agree.proofs.kr_allowed.RowLemmas.{read-count}
+use Rattle.pt_args.specs.kr_calls.Expansion.{most_scripts}
+use Rattle.pt_args.specs.kr_calls.Expansion.{Expanded as Ended}
+use Rattle.programs_agree.specs.kr_exec.Lists.{next_address}
 use Rattle.pt_args.specs.Bases.{working_text}
 use Rattle.pt_args.specs.Laws.{IsPathText}
 use Rattle.pt_args.specs.Walks.{and_then}
 use Rattle.pt_args.specs.declared.edit.Edit.{Edit}
 use Rattle.pt_args.specs.declared.edit.Edit.TheVariants.{Cancel}
-use Rattle.pt_lists.specs.Reading.{addresses_behind}
-use Rattle.pt_script.specs.Expanding.{command_of, ends_of, expanded_from, shown, shown_result}
-use Rattle.pt_script.specs.Programs.{base_from, canon_from, head_size, program_from, program_in, programs}
-use Rattle.pt_script.specs.declared.expansion.Expanded.{Expanded}
-use Rattle.pt_script.specs.declared.program.Program.{Program}
-use Rattle.pt_tracer.specs.Stopping.{memory_at, with_memory}
-use Rattle.pt_watched.specs.Planning.{after_addresses, led_in, stack_at}
-use Rattle.pt_watched.specs.ScriptEdit.{put_texts, script_edit, script_room, shelved_script}
+use Rattle.lists_alike.specs.pt_lists.Reading.{addresses_behind}
+use Rattle.programs_agree.specs.pt_script.Expanding.{command_of, ends_of, expanded_from, shown, shown_result}
+use Rattle.programs_agree.specs.pt_script.Programs.{base_from, canon_from, head_size, program_from, program_in, programs}
+use Rattle.programs_agree.specs.pt_script.declared.expansion.Expanded.{Expanded}
+use Rattle.programs_agree.specs.pt_script.declared.program.Program.{Program}
+use Rattle.lists_alike.specs.pt_tracer.Stopping.{memory_at, with_memory}
+use Rattle.swaps_read.specs.pt_watched.Planning.{after_addresses, led_in, stack_at}
+use Rattle.swaps_read.specs.pt_watched.ScriptEdit.{put_texts, script_edit, script_room, shelved_script}
 use Rattle.scripts_read.proofs.PutLemmas.{IsPut, Texts, all-put, not-too-many}
 use Rattle.scripts_read.specs.Room.{ScriptTextsArePathTexts, ScriptsAreShelved, ScriptsHaveRoom, ScriptsKeepTheLimits}
 

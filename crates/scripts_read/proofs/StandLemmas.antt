@@ -6,16 +6,16 @@ use Rattle.std.specs.List.{All}
 use Rattle.std.proofs.lemmas.Bool.Decides.{nat_tests}
 use Rattle.std.proofs.lemmas.List.Elements.{All-head, All-tail}
 use Rattle.std.proofs.lemmas.Nat.{from_le_bytes-to_le_bytes_8}
-use Rattle.pr_base.specs.Fields.{little_endian}
-use Rattle.rv_mem.specs.Memory.{text_of}
-use Rattle.rv_mem.specs.Pages.{IsPlaced, IsWhole, Pages, allows, allows_all, bytes_from}
-use Rattle.rv_mem.specs.declared.rights.Use.TheVariants.{Read}
-use Rattle.rv_mem.proofs.PagesLemmas.{length-bytes_from}
-use Rattle.kr_exec.specs.Lists.{most_bytes}
+use Rattle.swaps_read.specs.pr_base.Fields.{little_endian}
+use Rattle.pt_args.specs.rv_mem.Memory.{text_of}
+use Rattle.pt_args.specs.rv_mem.Pages.{IsPlaced, IsWhole, Pages, allows, allows_all, bytes_from}
+use Rattle.pt_args.specs.rv_mem.declared.rights.Use.TheVariants.{Read}
+use Rattle.pt_args.proofs.rv_mem.PagesLemmas.{length-bytes_from}
+use Rattle.programs_agree.specs.kr_exec.Lists.{most_bytes}
 use Rattle.pt_args.specs.Laws.{IsPathText, ShelvesHoldTheirItems, poked, room_of}
 use Rattle.pt_args.specs.Shelving.{address_below, shelved, with_item, with_zero}
 use Rattle.pt_args.specs.declared.shelf.Shelf.{Shelf}
-use Rattle.pt_watched.specs.ScriptEdit.{addresses_of, list_item, script_room, texts_room, with_texts}
+use Rattle.swaps_read.specs.pt_watched.ScriptEdit.{addresses_of, list_item, script_room, texts_room, with_texts}
 use Rattle.lists_alike.proofs.ReadLemmas.{page-there}
 use Rattle.scripts_read.specs.Lists.{AreEntries, IsEnd, IsEntry, IsList, address_in}
 use Rattle.scripts_read.proofs.CopyLemmas.{lists_are_copied, next-is}

@@ -1,13 +1,13 @@
 -- A list of texts as it stands in a memory: the addresses of its texts, eight bytes each, and behind them the address 0.
 use Rattle.std.specs.Prelude.{◌≡◌, ℕ, ◌+◌, ◌-◌, ◌*◌, ◌≤◌, ◌⊎◌, true, false, nat_eq, List, [], ◌∷◌, length, Ok}
-use Rattle.pr_base.specs.Fields.{little_endian}
-use Rattle.rv_mem.specs.Actions.{AreEqualUnmarked, carried_out}
-use Rattle.rv_mem.specs.Memory.{Memory, text_of}
-use Rattle.rv_mem.specs.Pages.{IsPlaced, Pages, allows_all, bytes_from}
-use Rattle.rv_mem.specs.declared.rights.Use.TheVariants.{Read}
-use Rattle.kr_calls.specs.Expansion.{bytes_with_ends}
-use Rattle.kr_exec.specs.Lists.{at_least_one, lists_at, most_bytes, most_texts, next_address}
-use Rattle.kr_exec.specs.declared.lists.Lists.{Lists}
+use Rattle.swaps_read.specs.pr_base.Fields.{little_endian}
+use Rattle.pt_args.specs.rv_mem.Actions.{AreEqualUnmarked, carried_out}
+use Rattle.pt_args.specs.rv_mem.Memory.{Memory, text_of}
+use Rattle.pt_args.specs.rv_mem.Pages.{IsPlaced, Pages, allows_all, bytes_from}
+use Rattle.pt_args.specs.rv_mem.declared.rights.Use.TheVariants.{Read}
+use Rattle.pt_args.specs.kr_calls.Expansion.{bytes_with_ends}
+use Rattle.programs_agree.specs.kr_exec.Lists.{at_least_one, lists_at, most_bytes, most_texts, next_address}
+use Rattle.programs_agree.specs.kr_exec.declared.lists.Lists.{Lists}
 
 -- an address that may be read
 abbrev pub address_in : Pages → ℕ → ℕ

@@ -1,18 +1,18 @@
 -- The lists that the plain kernel reads of a script's shelf.
 use Rattle.std.specs.Prelude.{◌≡◌, ◌≢◌, ℕ, ◌-◌, ◌<◌, ◌≤◌, true, false, List, length, Ok}
-use Rattle.rv_mem.specs.Actions.{AreEqualUnmarked, carried_out}
-use Rattle.rv_mem.specs.Memory.{Memory}
-use Rattle.rv_mem.specs.Pages.{IsPlaced, IsWhole, allows}
-use Rattle.rv_mem.specs.declared.rights.Use.TheVariants.{Read}
+use Rattle.pt_args.specs.rv_mem.Actions.{AreEqualUnmarked, carried_out}
+use Rattle.pt_args.specs.rv_mem.Memory.{Memory}
+use Rattle.pt_args.specs.rv_mem.Pages.{IsPlaced, IsWhole, allows}
+use Rattle.pt_args.specs.rv_mem.declared.rights.Use.TheVariants.{Read}
 use Rattle.pt_args.specs.Laws.{IsPathText, poked}
-use Rattle.pt_canon.specs.TextWalk.{TextSurroundings}
-use Rattle.pt_lists.specs.Reading.{addresses_behind}
-use Rattle.pt_script.specs.Expanding.{expanded_at}
-use Rattle.pt_script.specs.declared.expansion.Expanded.{Expanded}
-use Rattle.pt_watched.specs.ScriptEdit.{put_texts}
-use Rattle.kr_calls.specs.Expansion.{bytes_with_ends}
-use Rattle.kr_exec.specs.Lists.{lists_at}
-use Rattle.kr_exec.specs.declared.lists.Lists.{Lists}
+use Rattle.pt_args.specs.pt_canon.TextWalk.{TextSurroundings}
+use Rattle.lists_alike.specs.pt_lists.Reading.{addresses_behind}
+use Rattle.programs_agree.specs.pt_script.Expanding.{expanded_at}
+use Rattle.programs_agree.specs.pt_script.declared.expansion.Expanded.{Expanded}
+use Rattle.swaps_read.specs.pt_watched.ScriptEdit.{put_texts}
+use Rattle.pt_args.specs.kr_calls.Expansion.{bytes_with_ends}
+use Rattle.programs_agree.specs.kr_exec.Lists.{lists_at}
+use Rattle.programs_agree.specs.kr_exec.declared.lists.Lists.{Lists}
 use Rattle.scripts_read.specs.Shelves.{script_shelf}
 
 -- a memory from which the kernel with mounts reads both lists, and no marked byte; that of which the tracer reads; and the one that it

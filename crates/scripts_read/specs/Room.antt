@@ -1,16 +1,16 @@
 -- What a tracer puts on the shelf of a script.
 use Rattle.std.specs.Prelude.{◌≡◌, ◌≢◌, ℕ, ◌-◌, ◌*◌, ◌<◌, ◌≤◌, false, List, ◌++◌, drop, length, Ok}
 use Rattle.std.specs.List.{All}
-use Rattle.rv_mem.specs.Actions.{carried_out}
-use Rattle.kr_calls.specs.Expansion.{is_too_big}
-use Rattle.pt_canon.specs.TextWalk.{TextSurroundings}
+use Rattle.pt_args.specs.rv_mem.Actions.{carried_out}
+use Rattle.pt_args.specs.kr_calls.Expansion.{is_too_big}
+use Rattle.pt_args.specs.pt_canon.TextWalk.{TextSurroundings}
 use Rattle.pt_args.specs.Laws.{IsPathText}
-use Rattle.pt_lists.specs.Reading.{addresses_behind}
-use Rattle.pt_script.specs.Expanding.{expanded_at}
-use Rattle.pt_script.specs.declared.expansion.Expanded.{Expanded}
-use Rattle.pt_tracer.specs.Stopping.{Stopped, memory_at, with_memory}
-use Rattle.pt_watched.specs.Planning.{led_in, script_plan, stack_at}
-use Rattle.pt_watched.specs.ScriptEdit.{put_texts, script_room, shelved_script}
+use Rattle.lists_alike.specs.pt_lists.Reading.{addresses_behind}
+use Rattle.programs_agree.specs.pt_script.Expanding.{expanded_at}
+use Rattle.programs_agree.specs.pt_script.declared.expansion.Expanded.{Expanded}
+use Rattle.lists_alike.specs.pt_tracer.Stopping.{Stopped, memory_at, with_memory}
+use Rattle.swaps_read.specs.pt_watched.Planning.{led_in, script_plan, stack_at}
+use Rattle.swaps_read.specs.pt_watched.ScriptEdit.{put_texts, script_room, shelved_script}
 
 -- of a path and a host text that are no longer than paths may be, with an address for each argument but the first
 abbrev pub ScriptsHaveRoom : Type 0

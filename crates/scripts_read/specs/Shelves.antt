@@ -1,14 +1,14 @@
 -- The shelf of a script, once it is written.
 use Rattle.std.specs.Prelude.{◌≡◌, ℕ, ◌+◌, ◌-◌, ◌*◌, ◌<◌, ◌≤◌, true, List, [], ◌∷◌, ◌++◌, length, Ok}
 use Rattle.std.specs.List.{All}
-use Rattle.rv_mem.specs.Memory.{text_of}
-use Rattle.rv_mem.specs.Pages.{IsPlaced, IsWhole, Pages, allows, bytes_from}
-use Rattle.rv_mem.specs.declared.rights.Use.TheVariants.{Read}
+use Rattle.pt_args.specs.rv_mem.Memory.{text_of}
+use Rattle.pt_args.specs.rv_mem.Pages.{IsPlaced, IsWhole, Pages, allows, bytes_from}
+use Rattle.pt_args.specs.rv_mem.declared.rights.Use.TheVariants.{Read}
 use Rattle.pt_args.specs.Laws.{IsPathText, poked}
 use Rattle.pt_args.specs.Shelving.{with_item, with_zero}
 use Rattle.pt_args.specs.declared.edit.Edit.TheVariants.{Swap}
 use Rattle.pt_args.specs.declared.shelf.Shelf.{Shelf}
-use Rattle.pt_watched.specs.ScriptEdit.{empty_shelf, list_item, script_room, shelved_script, with_texts}
+use Rattle.swaps_read.specs.pt_watched.ScriptEdit.{empty_shelf, list_item, script_room, shelved_script, with_texts}
 use Rattle.scripts_read.specs.Lists.{AreEntries, IsList}
 
 -- with the host text

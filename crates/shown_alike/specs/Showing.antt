@@ -1,10 +1,10 @@
 -- What watchers do for identities in two memories that are equal but for marked bytes.
 use Rattle.std.specs.Prelude.{◌≡◌, ℕ, false, List, length}
-use Rattle.rv_mem.specs.Actions.{AreEqualUnmarked, CarriedOut, carried_out}
-use Rattle.rv_mem.specs.Memory.{Memory, with_pages}
-use Rattle.rv_mem.specs.Pages.{written}
-use Rattle.kr_inode.specs.declared.user.User.{User}
-use Rattle.pt_ident.specs.Identity.{Effect, Identity, on_memory}
+use Rattle.pt_tracer.specs.rv_mem.Actions.{AreEqualUnmarked, CarriedOut, carried_out}
+use Rattle.pt_tracer.specs.rv_mem.Memory.{Memory, with_pages}
+use Rattle.pt_tracer.specs.rv_mem.Pages.{written}
+use Rattle.pt_tracer.specs.kr_inode.declared.user.User.{User}
+use Rattle.pt_tracer.specs.pt_ident.Identity.{Effect, Identity, on_memory}
 use Rattle.pt_tracer.specs.Faking.{show_owner}
 
 -- carried out on both, no marked byte was read, and all other bytes are equal

@@ -8,37 +8,37 @@ use Rattle.std.specs.Ordering.{nat_cmp}
 use Rattle.std.proofs.lemmas.List.Elements.{All-head}
 use Rattle.std.proofs.lemmas.Bool.{ne_eqb}
 use Rattle.std.proofs.lemmas.Option.{none-some}
-use Rattle.pr_base.specs.Paths.{AreNames, IsName}
-use Rattle.pr_base.specs.Texts.{Text}
-use Rattle.pr_base.proofs.MapLemmas.{by_key, get-insert_other, get-insert_same}
-use Rattle.kr_inode.specs.declared.user.User.{User}
-use Rattle.kr_tree.specs.Changes.{held}
-use Rattle.kr_tree.specs.Holds.{holds_at}
-use Rattle.kr_tree.specs.Tree.{Inodes, Tree}
-use Rattle.kr_tree.specs.declared.place.Host.TheVariants.{Node}
-use Rattle.kr_tree.specs.declared.place.Place.{Place}
-use Rattle.kr_tree.proofs.NameLemmas.{map_some, some_is}
-use Rattle.kr_view.specs.Component.{Namespace}
-use Rattle.kr_view.specs.Living.{finds_among}
-use Rattle.kr_view.specs.Processes.{no_finds, no_leads}
-use Rattle.kr_view.specs.View.{Row}
-use Rattle.kr_view.proofs.HostReachLemmas.{reached_names}
-use Rattle.kr_view.proofs.ProcessLemmas.{no_processes}
-use Rattle.kr_files.specs.declared.opened.Opened.{Opened}
-use Rattle.kr_files.specs.Files.{Counted, Table, empty_table, file_at, with_file}
-use Rattle.kr_model.specs.Lawful.{IsLawful}
-use Rattle.kr_model.specs.ProcessDirectory.{space_of}
-use Rattle.kr_model.specs.State.{Image, Process, State, is_pid}
-use Rattle.kr_start.specs.Start.{First, held_once, pinned, without_processes}
-use Rattle.kr_start.proofs.StartLemmas.{empty-lawful}
-use Rattle.walks_agree.specs.Settled.{IsSettled, host_text}
-use Rattle.places_stay.specs.Losses.{InodesStay, nothing}
-use Rattle.places_stay.specs.Standing.{PlacesStand, UseStands}
-use Rattle.places_stay.specs.Uses.{IsUse, Use, is_cwd, is_exe, is_open}
-use Rattle.places_stay.proofs.KeptLemmas.{table_kept, use_kept}
-use Rattle.places_stay.proofs.MatchLemmas.{file_apart}
-use Rattle.places_stay.proofs.SpaceLemmas.{settled_still, sources_still, use_still, whole}
-use Rattle.places_stay.proofs.TreeLemmas.{held_stays, stay_all}
+use Rattle.pr_start.specs.pr_base.Paths.{AreNames, IsName}
+use Rattle.pr_start.specs.pr_base.Texts.{Text}
+use Rattle.pr_start.proofs.pr_base.MapLemmas.{by_key, get-insert_other, get-insert_same}
+use Rattle.pr_start.specs.kr_inode.declared.user.User.{User}
+use Rattle.pr_start.specs.kr_tree.Changes.{held}
+use Rattle.pr_start.specs.kr_tree.Holds.{holds_at}
+use Rattle.pr_start.specs.kr_tree.Tree.{Inodes, Tree}
+use Rattle.pr_start.specs.kr_tree.declared.place.Host.TheVariants.{Node}
+use Rattle.pr_start.specs.kr_tree.declared.place.Place.{Place}
+use Rattle.pr_start.proofs.kr_tree.NameLemmas.{map_some, some_is}
+use Rattle.pr_start.specs.kr_view.Component.{Namespace}
+use Rattle.pr_start.specs.kr_view.Living.{finds_among}
+use Rattle.pr_start.specs.kr_view.Processes.{no_finds, no_leads}
+use Rattle.pr_start.specs.kr_view.View.{Row}
+use Rattle.pr_start.proofs.kr_view.HostReachLemmas.{reached_names}
+use Rattle.pr_start.proofs.kr_view.ProcessLemmas.{no_processes}
+use Rattle.programs_agree.specs.kr_files.declared.opened.Opened.{Opened}
+use Rattle.programs_agree.specs.kr_files.Files.{Counted, Table, empty_table, file_at, with_file}
+use Rattle.programs_agree.specs.kr_model.Lawful.{IsLawful}
+use Rattle.programs_agree.specs.kr_model.ProcessDirectory.{space_of}
+use Rattle.programs_agree.specs.kr_model.State.{Image, Process, State, is_pid}
+use Rattle.pr_start.specs.kr_start.Start.{First, held_once, pinned, without_processes}
+use Rattle.pr_start.proofs.kr_start.StartLemmas.{empty-lawful}
+use Rattle.programs_agree.specs.walks_agree.Settled.{IsSettled, host_text}
+use Rattle.turns_match.specs.places_stay.Losses.{InodesStay, nothing}
+use Rattle.turns_match.specs.places_stay.Standing.{PlacesStand, UseStands}
+use Rattle.turns_match.specs.places_stay.Uses.{IsUse, Use, is_cwd, is_exe, is_open}
+use Rattle.turns_match.proofs.places_stay.KeptLemmas.{table_kept, use_kept}
+use Rattle.turns_match.proofs.places_stay.MatchLemmas.{file_apart}
+use Rattle.turns_match.proofs.places_stay.SpaceLemmas.{settled_still, sources_still, use_still, whole}
+use Rattle.turns_match.proofs.places_stay.TreeLemmas.{held_stays, stay_all}
 use Rattle.starts_match.specs.FirstStates.{BeginsAt, IsOpening}
 use Rattle.starts_match.specs.Spaces.{first_space}
 use Rattle.starts_match.proofs.LaterLemmas.{entry-later, on-later, settled-later}

@@ -1,30 +1,31 @@
 -- Both machines take the same path for a command.
 use Rattle.std.proofs.Common.{◌≡◌, ◌≤◌, ℕ, Bool, true, false, List, [], ◌∷◌, Some, Result, Ok, Err, refl, ap, ◌∙◌, arith}
 use Rattle.std.specs.Bool.{if◌then◌else◌}
-use Rattle.pr_base.specs.declared.errno.Errno.{Errno}
-use Rattle.pr_command.specs.Command.{candidate, directories, has_slash, path_of}
-use Rattle.pt_bind.specs.Tags.{TagTable}
-use Rattle.pt_canon.specs.TextWalk.{TextSurroundings}
-use Rattle.pt_script.specs.Programs.{program_from}
-use Rattle.pt_script.specs.declared.program.Program.{Program}
-use Rattle.kr_exec.specs.Finding.{program_at, program_walk}
-use Rattle.kr_exec.specs.Interpreters.{told_program}
-use Rattle.kr_first.specs.Starting.{around, is_walked, path_errno}
-use Rattle.kr_inode.specs.declared.user.User.{User}
-use Rattle.kr_tree.specs.Tree.{Tree}
-use Rattle.kr_tree.specs.declared.place.Place.{Place}
-use Rattle.kr_view.specs.Component.{Surroundings}
-use Rattle.kr_view.specs.Reach.{reach_after}
-use Rattle.kr_view.specs.View.{Row}
-use Rattle.kr_view.specs.Walk.{PlaceTarget}
-use Rattle.kr_view.specs.declared.target.Reach.{Reach}
-use Rattle.kr_view.specs.declared.target.Target.{Target}
-use Rattle.kr_view.proofs.ReachLemmas.{covers_after}
+use Rattle.pr_start.specs.pr_base.declared.errno.Errno.{Errno}
+use Rattle.pr_start.specs.pr_base.declared.path.WalkMode.TheVariants.{Look}
+use Rattle.pr_start.specs.pr_command.Command.{candidate, directories, has_slash, path_of}
+use Rattle.pr_traced.specs.pt_bind.Tags.{TagTable}
+use Rattle.pr_traced.specs.pt_canon.TextWalk.{TextSurroundings}
+use Rattle.programs_agree.specs.pt_script.Programs.{program_from}
+use Rattle.programs_agree.specs.pt_script.declared.program.Program.{Program}
+use Rattle.pr_start.specs.kr_exec.Finding.{program_at, program_walk}
+use Rattle.pr_start.specs.kr_exec.Interpreters.{told_program}
+use Rattle.programs_agree.specs.kr_first.Starting.{around, is_walked, path_errno}
+use Rattle.pr_start.specs.kr_inode.declared.user.User.{User}
+use Rattle.pr_start.specs.kr_tree.Tree.{Tree}
+use Rattle.pr_start.specs.kr_tree.declared.place.Place.{Place}
+use Rattle.pr_start.specs.kr_view.Component.{Surroundings}
+use Rattle.pr_start.specs.kr_view.Reach.{reach_after}
+use Rattle.pr_start.specs.kr_view.View.{Row}
+use Rattle.pr_start.specs.kr_view.Walk.{PlaceTarget}
+use Rattle.pr_start.specs.kr_view.declared.target.Reach.{Reach}
+use Rattle.pr_start.specs.kr_view.declared.target.Target.{Target}
+use Rattle.pr_start.proofs.kr_view.ReachLemmas.{covers_after}
 use Rattle.pr_start.specs.Command.{chosen, is_found, is_there, program_reach, searched}
-use Rattle.pt_first.specs.GuestStart as guest
-use Rattle.pt_first.specs.GuestStart.{searched as guest_searched}
-use Rattle.pt_first.specs.Laws.{first_texts}
-use Rattle.walks_agree.specs.Settled.{IsSettled}
+use Rattle.pr_traced.specs.pt_first.GuestStart as guest
+use Rattle.pr_traced.specs.pt_first.GuestStart.{searched as guest_searched}
+use Rattle.pr_traced.specs.pt_first.Laws.{first_texts}
+use Rattle.programs_agree.specs.walks_agree.Settled.{IsSettled}
 use Rattle.starts_match.specs.Commands.{CommandsAgree}
 use Rattle.programs_agree.specs.Ending.{ResultsAlike}
 use Rattle.starts_match.specs.Programs.{IsSameProgram}
@@ -41,8 +42,8 @@ module _ (table : List Row) (tree : Tree) (user : User) (base : Place ℕ) where
   program-more : (path : List ℕ) (r : Reach) → r.longest ≤ (program_reach table tree user base path r).longest
   program-more path r = by (is_walked path)
     where
-      by : (b : Bool) → r.longest ≤ (if b then reach_after here (program_walk here base path) r else r).longest
-      by true = (covers_after here (program_walk here base path) r).longest
+      by : (b : Bool) → r.longest ≤ (if b then reach_after here Look (program_walk here base path) r else r).longest
+      by true = (covers_after here Look (program_walk here base path) r).longest
       by false = omega arith
 
   searched-more : (word : List ℕ) (dirs : List (List ℕ)) (r : Reach) → r.longest ≤ (searched table tree user base word dirs r).reach.longest
@@ -77,7 +78,7 @@ module _ (table : List Row) (tree : Tree) (user : User) (base : Place ℕ) where
     there-agrees : (path : List ℕ) (r : Reach) → (program_reach table tree user base path r).longest ≤ most → guest.is_there texts working path ≡ is_there table tree user base path
     there-agrees path r within = by (is_walked path) within
       where
-        by : (b : Bool) → (if b then reach_after here (program_walk here base path) r else r).longest ≤ most
+        by : (b : Bool) → (if b then reach_after here Look (program_walk here base path) r else r).longest ≤ most
             → guest.is_found (if b then program_from texts (Some working) path else Err (path_errno path)) ≡ is_found (if b then program_at here base path else Err (path_errno path))
         by true within = same-found (program_at here base path) (told_program (program_at here base path)) (program_from texts (Some working) path) refl (programs-agree table tree user tags base working path most r set at within)
         by false within = refl

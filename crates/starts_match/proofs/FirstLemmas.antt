@@ -4,43 +4,43 @@ use Rattle.std.proofs.Common.{◌≡◌, ℕ, Bool, true, false, cond, List, [],
 use Rattle.std.specs.Prelude.{◌==◌}
 use Rattle.std.specs.Option.{option_map, option_map_or}
 use Rattle.std.proofs.lemmas.Option.{none-some}
-use Rattle.pr_base.specs.Texts.{Text}
-use Rattle.rv_mem.specs.Actions.{AreEqualUnmarked}
-use Rattle.pt_bind.specs.Binding.{index_of}
-use Rattle.pt_bind.specs.Tags.{TagTable, tag_of, with_tag}
-use Rattle.pt_bind.specs.declared.slot.Slot.TheVariants as slot
-use Rattle.pt_bind.proofs.TagLemmas.{tags_change}
-use Rattle.kr_inode.specs.declared.user.User.{User}
-use Rattle.kr_tree.specs.Changes.{held}
-use Rattle.kr_tree.specs.Tree.{Tree}
-use Rattle.kr_tree.specs.declared.place.Place.{Place}
-use Rattle.kr_tree.proofs.NameLemmas.{then_some}
-use Rattle.kr_files.specs.declared.opened.Opened.{Opened}
-use Rattle.kr_files.specs.declared.opened.What.{What}
-use Rattle.kr_files.specs.declared.opened.What.TheVariants.{In, Out, Err}
-use Rattle.kr_files.specs.Descriptors.{Named}
-use Rattle.kr_files.specs.Files.{empty_table, file_at, with_file}
-use Rattle.kr_files.specs.WithoutMounts.{without_mounts}
-use Rattle.kr_view.specs.View.{Row, plain, row}
-use Rattle.kr_view.proofs.TableLemmas.{plain_stands}
-use Rattle.kr_mounts.specs.Standing.{texts_of}
-use Rattle.kr_model.specs.Applied.{in_mount}
-use Rattle.kr_model.specs.Bare.{bare, bare_process, pins_of}
-use Rattle.kr_model.specs.ProcessDirectory.{space_of}
-use Rattle.kr_model.specs.State.{Image, Layout, Process, State, image_layout, inode_of, named, process, with_descs}
-use Rattle.kr_start.specs.Start.{First, console, first_pid, first_process}
-use Rattle.walks_agree.specs.Standing.{StandsOn}
-use Rattle.walks_agree.proofs.TableLemmas.{owned}
-use Rattle.places_stay.specs.Following.{Follows, StoodAndStays}
-use Rattle.places_stay.specs.Losses.{nothing}
-use Rattle.places_stay.specs.Matching.{AreImagesAlike, AreTagged, index_at}
-use Rattle.places_stay.specs.Standing.{PlacesStand}
-use Rattle.places_stay.specs.Uses.{Use, cwd_use, exe_use}
-use Rattle.places_stay.proofs.FollowLemmas.{held_at_stays}
-use Rattle.places_stay.proofs.KeptLemmas.{stood_kept, table_kept}
-use Rattle.places_stay.proofs.SpaceLemmas.{places_follow}
-use Rattle.places_stay.proofs.TagLemmas.{found_is}
-use Rattle.places_stay.proofs.TreeLemmas.{stay_all}
+use Rattle.pr_start.specs.pr_base.Texts.{Text}
+use Rattle.pr_traced.specs.rv_mem.Actions.{AreEqualUnmarked}
+use Rattle.pr_traced.specs.pt_bind.Binding.{index_of}
+use Rattle.pr_traced.specs.pt_bind.Tags.{TagTable, tag_of, with_tag}
+use Rattle.pr_traced.specs.pt_bind.declared.slot.Slot.TheVariants as slot
+use Rattle.pr_traced.proofs.pt_bind.TagLemmas.{tags_change}
+use Rattle.pr_start.specs.kr_inode.declared.user.User.{User}
+use Rattle.pr_start.specs.kr_tree.Changes.{held}
+use Rattle.pr_start.specs.kr_tree.Tree.{Tree}
+use Rattle.pr_start.specs.kr_tree.declared.place.Place.{Place}
+use Rattle.pr_start.proofs.kr_tree.NameLemmas.{then_some}
+use Rattle.programs_agree.specs.kr_files.declared.opened.Opened.{Opened}
+use Rattle.programs_agree.specs.kr_files.declared.opened.What.{What}
+use Rattle.programs_agree.specs.kr_files.declared.opened.What.TheVariants.{In, Out, Err}
+use Rattle.programs_agree.specs.kr_files.Descriptors.{Named}
+use Rattle.programs_agree.specs.kr_files.Files.{empty_table, file_at, with_file}
+use Rattle.programs_agree.specs.kr_files.WithoutMounts.{without_mounts}
+use Rattle.pr_start.specs.kr_view.View.{Row, plain, row}
+use Rattle.pr_start.proofs.kr_view.TableLemmas.{plain_stands}
+use Rattle.pr_start.specs.kr_mounts.Standing.{texts_of}
+use Rattle.programs_agree.specs.kr_model.Applied.{in_mount}
+use Rattle.programs_agree.specs.kr_model.Bare.{bare, bare_process, pins_of}
+use Rattle.programs_agree.specs.kr_model.ProcessDirectory.{space_of}
+use Rattle.programs_agree.specs.kr_model.State.{Image, Layout, Process, State, image_layout, inode_of, named, process, with_descs}
+use Rattle.pr_start.specs.kr_start.Start.{First, console, first_pid, first_process}
+use Rattle.programs_agree.specs.walks_agree.Standing.{StandsOn}
+use Rattle.programs_agree.proofs.walks_agree.TableLemmas.{owned}
+use Rattle.turns_match.specs.places_stay.Following.{Follows, StoodAndStays}
+use Rattle.turns_match.specs.places_stay.Losses.{nothing}
+use Rattle.turns_match.specs.places_stay.Matching.{AreImagesAlike, AreTagged, index_at}
+use Rattle.turns_match.specs.places_stay.Standing.{PlacesStand}
+use Rattle.turns_match.specs.places_stay.Uses.{Use, cwd_use, exe_use}
+use Rattle.turns_match.proofs.places_stay.FollowLemmas.{held_at_stays}
+use Rattle.turns_match.proofs.places_stay.KeptLemmas.{stood_kept, table_kept}
+use Rattle.turns_match.proofs.places_stay.SpaceLemmas.{places_follow}
+use Rattle.turns_match.proofs.places_stay.TagLemmas.{found_is}
+use Rattle.turns_match.proofs.places_stay.TreeLemmas.{stay_all}
 use Rattle.starts_match.specs.FirstStates.{BeginsAt, FirstStatesMatch, IsOpening, first_state, first_tags, on_host}
 use Rattle.starts_match.specs.Spaces.{first_space}
 use Rattle.starts_match.proofs.BeforeLemmas.{HasNoPlaces, alone, before, before-stands, cwd-stands, exe-stands, no-places, still-no-places, unplaced}

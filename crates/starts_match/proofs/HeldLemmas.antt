@@ -3,19 +3,19 @@ use Rattle.std.proofs.Common.{◌≡◌, ℕ, ◌-◌, ◌≤◌, Bool, true, fa
 use Rattle.std.specs.Prelude.{◌==◌}
 use Rattle.std.specs.Bool.{if◌then◌else◌}
 use Rattle.std.specs.Option.{option_map, option_map_or}
-use Rattle.pr_base.specs.Maps.{mapped}
-use Rattle.pr_base.proofs.MapLemmas.{get-mapped, same_values}
-use Rattle.kr_tree.specs.Changes.{held, with_holds, with_inodes}
-use Rattle.kr_tree.specs.Holds.{fewer, holds_at, with_fewer}
-use Rattle.kr_tree.specs.Tree.{Inode, Inodes, Tree, inode}
-use Rattle.kr_tree.proofs.HoldLemmas.{changes_are_alike_with_fewer_holds}
-use Rattle.kr_tree.proofs.NameLemmas.{some_is}
-use Rattle.kr_view.specs.View.{Row, StandsIn}
-use Rattle.kr_model.specs.Bare.{pins_of}
-use Rattle.kr_model.proofs.TreeLemmas.{holds-held}
-use Rattle.kr_start.specs.Start.{HasNoHolds, held_once, pinned}
-use Rattle.kr_start.proofs.PinLemmas.{pinned-stays}
-use Rattle.kr_start.proofs.StartLemmas.{sources-held}
+use Rattle.pr_start.specs.pr_base.Maps.{mapped}
+use Rattle.pr_start.proofs.pr_base.MapLemmas.{get-mapped, same_values}
+use Rattle.pr_start.specs.kr_tree.Changes.{held, with_holds, with_inodes}
+use Rattle.pr_start.specs.kr_tree.Holds.{fewer, holds_at, with_fewer}
+use Rattle.pr_start.specs.kr_tree.Tree.{Inode, Inodes, Tree, inode}
+use Rattle.pr_start.proofs.kr_tree.HoldLemmas.{changes_are_alike_with_fewer_holds}
+use Rattle.pr_start.proofs.kr_tree.NameLemmas.{some_is}
+use Rattle.pr_start.specs.kr_view.View.{Row, StandsIn}
+use Rattle.programs_agree.specs.kr_model.Bare.{pins_of}
+use Rattle.programs_agree.proofs.kr_model.TreeLemmas.{holds-held}
+use Rattle.pr_start.specs.kr_start.Start.{HasNoHolds, held_once, pinned}
+use Rattle.pr_start.proofs.kr_start.PinLemmas.{pinned-stays}
+use Rattle.pr_start.proofs.kr_start.StartLemmas.{sources-held}
 
 -- an inode without its holds
 abbrev unheld : Option Inode → Option Inode

@@ -1,23 +1,23 @@
 -- Before a process lives no link of the process directory leads anywhere, so no walk ends where one leads.
 use Rattle.std.proofs.Common.{◌≡◌, ℕ, Bool, true, false, List, Option, Some, None, refl, subst}
 use Rattle.std.specs.Bool.{if◌then◌else◌}
-use Rattle.pr_base.specs.Paths.{Component, Dot, DotDot, Name, components_of, has_slash}
-use Rattle.pr_base.specs.WalkFrame.{Fails, Jumps, Leads, Links, Missing, begins_at, most_links}
-use Rattle.pr_base.specs.declared.errno.Errno.TheVariants.{EACCES, ENAMETOOLONG, ENOENT, ENOTDIR}
-use Rattle.pr_base.specs.declared.path.WalkMode.{WalkMode}
-use Rattle.pr_base.proofs.EndLemmas.{EndsSo, walk_ends}
-use Rattle.kr_inode.specs.declared.user.User.{User}
-use Rattle.kr_tree.specs.Tree.{Body, Directory, ProcessDirectory, RegularFile, SymbolicLink, Tree, above as node_above, body, body_is, entry}
-use Rattle.kr_tree.specs.declared.place.Host.{Host}
-use Rattle.kr_tree.specs.declared.place.Host.TheVariants.{Node, Proc}
-use Rattle.kr_tree.specs.declared.place.Place.{Place}
-use Rattle.kr_tree.specs.declared.place.ProcAt.{ProcAt}
-use Rattle.kr_tree.specs.declared.place.ProcAt.TheVariants.{Cwd, Dir, Exe, Fd, FdDir, Root, SelfLink}
-use Rattle.kr_view.specs.Component.{SeenPlace, Surroundings, above_body, above_host, above_node, above_process, in_node, inside, is_directory_at, is_process_directory, is_processes, is_shown, look_up, may_search, named_in, seen_at, seen_body, seen_entry, seen_in_processes, seen_link, shows_directory, through_point, too_long}
-use Rattle.kr_view.specs.View.{Row, down, is_root_place, node_in, up}
-use Rattle.kr_view.specs.Walk.{looking, place_walk}
-use Rattle.kr_view.specs.declared.procs.Lead.TheVariants.{NoLink}
-use Rattle.kr_first.specs.Starting.{around}
+use Rattle.pr_start.specs.pr_base.Paths.{Component, Dot, DotDot, Name, components_of, has_slash}
+use Rattle.pr_start.specs.pr_base.WalkFrame.{Fails, Jumps, Leads, Links, Missing, begins_at, most_links}
+use Rattle.pr_start.specs.pr_base.declared.errno.Errno.TheVariants.{EACCES, ENAMETOOLONG, ENOENT, ENOTDIR}
+use Rattle.pr_start.specs.pr_base.declared.path.WalkMode.{WalkMode}
+use Rattle.pr_start.proofs.pr_base.EndLemmas.{EndsSo, walk_ends}
+use Rattle.pr_start.specs.kr_inode.declared.user.User.{User}
+use Rattle.pr_start.specs.kr_tree.Tree.{Body, Directory, ProcessDirectory, RegularFile, SymbolicLink, Tree, above as node_above, body, body_is, entry}
+use Rattle.pr_start.specs.kr_tree.declared.place.Host.{Host}
+use Rattle.pr_start.specs.kr_tree.declared.place.Host.TheVariants.{Node, Proc}
+use Rattle.pr_start.specs.kr_tree.declared.place.Place.{Place}
+use Rattle.pr_start.specs.kr_tree.declared.place.ProcAt.{ProcAt}
+use Rattle.pr_start.specs.kr_tree.declared.place.ProcAt.TheVariants.{Cwd, Dir, Exe, Fd, FdDir, Root, SelfLink}
+use Rattle.pr_start.specs.kr_view.Component.{SeenPlace, Surroundings, above_body, above_host, above_node, above_process, in_node, inside, is_directory_at, is_process_directory, is_processes, is_shown, look_up, may_search, named_in, seen_at, seen_body, seen_entry, seen_in_processes, seen_link, shows_directory, through_point, too_long}
+use Rattle.pr_start.specs.kr_view.View.{Row, down, is_root_place, node_in, up}
+use Rattle.pr_start.specs.kr_view.Walk.{looking, place_walk}
+use Rattle.pr_start.specs.kr_view.declared.procs.Lead.TheVariants.{NoLink}
+use Rattle.programs_agree.specs.kr_first.Starting.{around}
 
 module _ (table : List Row) (tree : Tree) (user : User) where
   abbrev here : Surroundings

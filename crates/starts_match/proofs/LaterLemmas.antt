@@ -1,18 +1,18 @@
 -- Whatever the process directory shows later, what stands at guest texts before a process lives stands then.
 use Rattle.std.proofs.Common.{◌≡◌, ℕ, List, [], ◌∷◌, Some, None}
-use Rattle.pr_base.specs.Texts.{Text}
-use Rattle.kr_inode.specs.declared.user.User.{User}
-use Rattle.kr_tree.specs.Tree.{Tree}
-use Rattle.kr_tree.specs.declared.place.Host.{Host}
-use Rattle.kr_tree.specs.declared.place.Host.TheVariants.{Node, Proc}
-use Rattle.kr_tree.specs.declared.place.Place.{Place}
-use Rattle.kr_tree.specs.declared.place.ProcAt.{ProcAt}
-use Rattle.kr_view.specs.Component.{Finds, Namespace}
-use Rattle.kr_view.specs.Processes.{no_finds}
-use Rattle.kr_view.specs.View.{Row}
-use Rattle.kr_view.proofs.HostReachLemmas.{IsFoundIn, at_top, below_top, found_in, inode_reached, last_object, reached_inode}
-use Rattle.walks_agree.specs.Settled.{IsSettled, host_text}
-use Rattle.walks_agree.specs.Standing.{IsEntryAt, IsOpen, IsSearched, Stands, StandsOn, reached_in}
+use Rattle.pr_start.specs.pr_base.Texts.{Text}
+use Rattle.pr_start.specs.kr_inode.declared.user.User.{User}
+use Rattle.pr_start.specs.kr_tree.Tree.{Tree}
+use Rattle.pr_start.specs.kr_tree.declared.place.Host.{Host}
+use Rattle.pr_start.specs.kr_tree.declared.place.Host.TheVariants.{Node, Proc}
+use Rattle.pr_start.specs.kr_tree.declared.place.Place.{Place}
+use Rattle.pr_start.specs.kr_tree.declared.place.ProcAt.{ProcAt}
+use Rattle.pr_start.specs.kr_view.Component.{Finds, Namespace}
+use Rattle.pr_start.specs.kr_view.Processes.{no_finds}
+use Rattle.pr_start.specs.kr_view.View.{Row}
+use Rattle.pr_start.proofs.kr_view.HostReachLemmas.{IsFoundIn, at_top, below_top, found_in, inode_reached, last_object, reached_inode}
+use Rattle.programs_agree.specs.walks_agree.Settled.{IsSettled, host_text}
+use Rattle.programs_agree.specs.walks_agree.Standing.{IsEntryAt, IsOpen, IsSearched, Stands, StandsOn, reached_in}
 use Rattle.starts_match.specs.Spaces.{first_space}
 
 -- whatever it shows later, what is reached before a process lives is reached then

@@ -4,21 +4,21 @@ use Rattle.std.proofs.Common.{◌≡◌, ℕ, true, false, List, IsSome, refl, s
 use Rattle.std.specs.Prelude.{is_some, nat_lt}
 use Rattle.std.specs.Ordering.{nat_cmp}
 use Rattle.std.proofs.lemmas.Bool.Decides.{nat_tests}
-use Rattle.kr_inode.specs.declared.user.User.{User}
-use Rattle.kr_tree.specs.Lawful.{IsKept}
-use Rattle.kr_tree.specs.Tree.{Tree}
-use Rattle.kr_files.specs.declared.opened.What.TheVariants.{In, Out, Err}
-use Rattle.kr_view.specs.View.{Row, StandsIn, plain}
-use Rattle.kr_view.proofs.TableLemmas.{plain_stands}
-use Rattle.kr_listed.specs.Beginning.{CanLast}
-use Rattle.kr_model.specs.Applied.{open_in}
-use Rattle.kr_model.specs.Lawful.{IsLawful}
-use Rattle.kr_model.specs.State.{Image, State, process}
-use Rattle.kr_perform.specs.Lawful.{LastsLawful}
-use Rattle.kr_start.specs.Start.{AreOpenBelow, CanBegin, First, HasNoHolds, IsIdle, console, first_pid, pinned, with_first, without_processes}
-use Rattle.kr_start.proofs.ConsoleLemmas.{open-next, part-lawful, still-lives}
-use Rattle.kr_start.proofs.LastLemmas.{starts-last}
-use Rattle.kr_start.proofs.StartLemmas.{born-lawful, can-begin, empty-lawful}
+use Rattle.pr_start.specs.kr_inode.declared.user.User.{User}
+use Rattle.pr_start.specs.kr_tree.Lawful.{IsKept}
+use Rattle.pr_start.specs.kr_tree.Tree.{Tree}
+use Rattle.programs_agree.specs.kr_files.declared.opened.What.TheVariants.{In, Out, Err}
+use Rattle.pr_start.specs.kr_view.View.{Row, StandsIn, plain}
+use Rattle.pr_start.proofs.kr_view.TableLemmas.{plain_stands}
+use Rattle.pr_start.specs.kr_listed.Beginning.{CanLast}
+use Rattle.programs_agree.specs.kr_model.Applied.{open_in}
+use Rattle.programs_agree.specs.kr_model.Lawful.{IsLawful}
+use Rattle.programs_agree.specs.kr_model.State.{Image, State, process}
+use Rattle.programs_agree.specs.kr_perform.Lawful.{LastsLawful}
+use Rattle.pr_start.specs.kr_start.Start.{AreOpenBelow, CanBegin, First, HasNoHolds, IsIdle, console, first_pid, pinned, with_first, without_processes}
+use Rattle.pr_start.proofs.kr_start.ConsoleLemmas.{open-next, part-lawful, still-lives}
+use Rattle.pr_start.proofs.kr_start.LastLemmas.{starts-last}
+use Rattle.pr_start.proofs.kr_start.StartLemmas.{born-lawful, can-begin, empty-lawful}
 use Rattle.starts_match.specs.FirstStates.{FirstStatesLast, first_state, on_host}
 use Rattle.programs_agree.specs.Images.{IsImage}
 

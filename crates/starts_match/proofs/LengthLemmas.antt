@@ -4,47 +4,47 @@ use Rattle.std.specs.Bool.{if◌then◌else◌}
 use Rattle.std.specs.Option.{option_and_then, option_map, option_map_or}
 use Rattle.std.specs.List.{position}
 use Rattle.std.proofs.lemmas.Option.{none-some}
-use Rattle.pr_base.specs.Alike.{TargetAlike}
-use Rattle.pr_base.specs.MountText.{MountText}
-use Rattle.pr_base.specs.Paths.{Component, Dot, DotDot, Name, components_of, has_slash, kind_of}
-use Rattle.pr_base.specs.Texts.{Text, below}
-use Rattle.pr_base.specs.WalkFrame.{Target, begins_at, most_links, name_of}
-use Rattle.pr_base.specs.WalkLaws.{Shows}
-use Rattle.pr_base.specs.declared.path.Last.{Last}
-use Rattle.pr_base.specs.declared.path.Last.TheVariants as last
-use Rattle.pr_base.specs.declared.path.WalkMode.TheVariants.{Look}
-use Rattle.pt_bind.specs.Binding.{host_of, located, owner}
-use Rattle.pt_bind.specs.Tags.{TagTable}
-use Rattle.pt_canon.specs.TextWalk.{text_walk}
-use Rattle.kr_inode.specs.declared.user.User.{User}
-use Rattle.kr_tree.specs.Names.{host_name, named}
-use Rattle.kr_tree.specs.Tree.{Body, Tree, body, body_is, entry, is_directory}
-use Rattle.kr_tree.specs.declared.place.Host.{Host}
-use Rattle.kr_tree.specs.declared.place.Host.TheVariants.{Node, Proc}
-use Rattle.kr_tree.specs.declared.place.Place.{Place}
-use Rattle.kr_tree.proofs.EntryLemmas.{body_test, reached-named}
-use Rattle.kr_tree.proofs.NameLemmas.{some_is}
-use Rattle.kr_view.specs.declared.target.Reach.{Reach}
-use Rattle.kr_view.specs.Component.{Namespace, Surroundings, is_directory_at, is_processes, look_up}
-use Rattle.kr_view.specs.HostReach.{object_in}
-use Rattle.kr_view.specs.Names.{component_name, directory_name, led_to_name, named_name, point_name, row_at, source_entry_name, source_name}
-use Rattle.kr_view.specs.Processes.{no_finds, no_leads}
-use Rattle.kr_view.specs.Reach.{beginning_name, reach_after, text_length}
-use Rattle.kr_view.specs.View.{Row, down, is_point, node_in, row, source_place, stands_at}
-use Rattle.kr_view.specs.Walk.{PlaceTarget, looking, place_walk}
-use Rattle.kr_view.proofs.DirectoryLemmas.{empty_ends, found_itself, in_directory}
-use Rattle.kr_view.proofs.HostReachLemmas.{inode_reached, last_object, reached_inode}
-use Rattle.kr_view.proofs.ProcessLemmas.{no_processes}
-use Rattle.kr_view.proofs.TableLemmas.{first_passes}
-use Rattle.kr_mounts.specs.Standing.{texts_of}
-use Rattle.kr_first.specs.Starting.{around}
-use Rattle.pt_first.specs.Laws.{first_texts}
-use Rattle.walks_agree.specs.Settled.{IsSettled, host_text}
-use Rattle.walks_agree.specs.Standing.{Stands, StandsOn, likeness, reached_in}
-use Rattle.walks_agree.proofs.HandedLemmas.{shows_inside, text_target_named}
-use Rattle.walks_agree.proofs.StandingLemmas.{host_called, source_reached, standing_places_are_called}
-use Rattle.walks_agree.proofs.TableLemmas.{down_is_located, host_none, host_some, located_some, source_text}
-use Rattle.walks_agree.proofs.UpLemmas.{goes_up}
+use Rattle.pr_start.specs.pr_base.Alike.{TargetAlike}
+use Rattle.pr_start.specs.pr_base.MountText.{MountText}
+use Rattle.pr_start.specs.pr_base.Paths.{Component, Dot, DotDot, Name, components_of, has_slash, kind_of}
+use Rattle.pr_start.specs.pr_base.Texts.{Text, below}
+use Rattle.pr_start.specs.pr_base.WalkFrame.{Target, begins_at, most_links, name_of}
+use Rattle.pr_start.specs.pr_base.WalkLaws.{Shows}
+use Rattle.pr_start.specs.pr_base.declared.path.Last.{Last}
+use Rattle.pr_start.specs.pr_base.declared.path.Last.TheVariants as last
+use Rattle.pr_start.specs.pr_base.declared.path.WalkMode.TheVariants.{Look}
+use Rattle.pr_traced.specs.pt_bind.Binding.{host_of, located, owner}
+use Rattle.pr_traced.specs.pt_bind.Tags.{TagTable}
+use Rattle.pr_traced.specs.pt_canon.TextWalk.{text_walk}
+use Rattle.pr_start.specs.kr_inode.declared.user.User.{User}
+use Rattle.pr_start.specs.kr_tree.Names.{host_name, named}
+use Rattle.pr_start.specs.kr_tree.Tree.{Body, Tree, body, body_is, entry, is_directory}
+use Rattle.pr_start.specs.kr_tree.declared.place.Host.{Host}
+use Rattle.pr_start.specs.kr_tree.declared.place.Host.TheVariants.{Node, Proc}
+use Rattle.pr_start.specs.kr_tree.declared.place.Place.{Place}
+use Rattle.pr_start.proofs.kr_tree.EntryLemmas.{body_test, reached-named}
+use Rattle.pr_start.proofs.kr_tree.NameLemmas.{some_is}
+use Rattle.pr_start.specs.kr_view.declared.target.Reach.{Reach}
+use Rattle.pr_start.specs.kr_view.Component.{Namespace, Surroundings, is_directory_at, is_processes, look_up}
+use Rattle.pr_start.specs.kr_view.HostReach.{object_in}
+use Rattle.pr_start.specs.kr_view.Names.{component_name, directory_name, led_to_name, named_name, point_name, row_at, source_entry_name, source_name}
+use Rattle.pr_start.specs.kr_view.Processes.{no_finds, no_leads}
+use Rattle.pr_start.specs.kr_view.Reach.{beginning_name, reach_after, text_length}
+use Rattle.pr_start.specs.kr_view.View.{Row, down, is_point, node_in, row, source_place, stands_at}
+use Rattle.pr_start.specs.kr_view.Walk.{PlaceTarget, looking, place_walk}
+use Rattle.pr_start.proofs.kr_view.DirectoryLemmas.{empty_ends, found_itself, in_directory}
+use Rattle.pr_start.proofs.kr_view.HostReachLemmas.{inode_reached, last_object, reached_inode}
+use Rattle.pr_start.proofs.kr_view.ProcessLemmas.{no_processes}
+use Rattle.pr_start.proofs.kr_view.TableLemmas.{first_passes}
+use Rattle.pr_start.specs.kr_mounts.Standing.{texts_of}
+use Rattle.programs_agree.specs.kr_first.Starting.{around}
+use Rattle.pr_traced.specs.pt_first.Laws.{first_texts}
+use Rattle.programs_agree.specs.walks_agree.Settled.{IsSettled, host_text}
+use Rattle.programs_agree.specs.walks_agree.Standing.{Stands, StandsOn, likeness, reached_in}
+use Rattle.programs_agree.proofs.walks_agree.HandedLemmas.{shows_inside, text_target_named}
+use Rattle.programs_agree.proofs.walks_agree.StandingLemmas.{host_called, source_reached, standing_places_are_called}
+use Rattle.programs_agree.proofs.walks_agree.TableLemmas.{down_is_located, host_none, host_some, located_some, source_text}
+use Rattle.programs_agree.proofs.walks_agree.UpLemmas.{goes_up}
 use Rattle.starts_match.specs.Spaces.{first_space}
 use Rattle.starts_match.proofs.LaterLemmas.{nothing-reached}
 use Rattle.starts_match.proofs.JumpLemmas.{never-jumped}
@@ -203,12 +203,12 @@ module _ (table : List Row) (tree : Tree) (user : User) (set : IsSettled (first_
         let whole : u ≡ n ∷ b.dir = text ∙ ap (λ n. n ∷ b.dir) (sym names) in
         name-called a.dir b.dir n p directory-on.stands is-directory (subst (Stands space p) whole stands) ∙ ap (λ t. Some (host_text space t)) (sym whole)
 
-    module _ (most : ℕ) (r : Reach) (within : (reach_after here (place_walk here Look base path) r).longest ≤ most) where
+    module _ (most : ℕ) (r : Reach) (within : (reach_after here Look (place_walk here Look base path) r).longest ≤ most) where
       by-look : a.last ≢ last.Root → text_length (host_text space u) ≤ most
       by-look other =
-          let looked = walk-looks (looking here) Look (IsWithin here most) most_links (begins_at (looking here) base path) (components_of path) (has_slash path) (trail-within here most (place_walk here Look base path) r within) a ends jumped other in
+          let looked = walk-looks (looking here) Look (IsWithin here Look most) most_links (begins_at (looking here) base path) (components_of path) (has_slash path) (trail-within here Look most (place_walk here Look base path) r within) a ends jumped other in
           let shows = subst (λ o. Shows (look_up here a.dir looked.component) o) found looked.shows in
-          look-within here most a.dir p looked.component (host_text space u) looked.looked shows (component-called looked.component looked.kind looked.name shows)
+          look-within here Look most a.dir p looked.component (host_text space u) looked.looked shows (component-called looked.component looked.kind looked.name shows)
 
       pub found-short : text_length (host_text space u) ≤ most
       found-short = by a.last refl
@@ -216,7 +216,7 @@ module _ (table : List Row) (tree : Tree) (user : User) (set : IsSettled (first_
           by : (l : Last) → a.last ≡ l → text_length (host_text space u) ≤ most
           by last.Root e =
               let itself : Some p ≡ Some a.dir = sym found ∙ found_itself here Look base path a ends e in
-              beginning-within here most (place_walk here Look base path) r within a (host_text space u) ends
+              beginning-within here Look most (place_walk here Look base path) r within a (host_text space u) ends
               (ap (beginning_name space a.dir.host) e ∙ directory-called (some_is p a.dir itself))
           by last.Name e = by-look (λ root. let clash : last.Name ≡ last.Root = sym e ∙ root in absurd cc)
           by last.Dot e = by-look (λ root. let clash : last.Dot ≡ last.Root = sym e ∙ root in absurd cc)

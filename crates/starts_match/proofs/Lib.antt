@@ -1,3 +1,8 @@
+pub use Rattle.pr_start.proofs.kr_allowed as kr_allowed
+pub use Rattle.pr_start.proofs.kr_listed as kr_listed
+pub use Rattle.programs_agree.proofs.kr_resolved as kr_resolved
+pub use Rattle.pr_start.proofs.kr_stage as kr_stage
+pub use Rattle.programs_agree.proofs.walks_agree as walks_agree
 pub use Rattle.turns_match.proofs as turns_match
 pub mod BeforeLemmas
 pub mod CommandLemmas

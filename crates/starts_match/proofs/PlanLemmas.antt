@@ -4,40 +4,40 @@ use Rattle.std.specs.Prelude.{◌==◌, nat_lt}
 use Rattle.std.specs.Bool.{if◌then◌else◌}
 use Rattle.std.specs.Option.{option_and_then}
 use Rattle.std.proofs.lemmas.Bool.Decides.{nat_tests}
-use Rattle.pr_base.specs.Paths.{Name, below_root, slash, text_of}
-use Rattle.pr_base.specs.Texts.{Text}
-use Rattle.pr_base.specs.WalkFrame.{target_at}
-use Rattle.pr_base.specs.declared.errno.Errno.{Errno}
-use Rattle.pr_base.specs.declared.errno.Errno.TheVariants.{E2BIG, EACCES}
-use Rattle.pr_base.specs.declared.path.WalkMode.TheVariants.{Look}
-use Rattle.pt_script.specs.declared.program.Program.{Program}
-use Rattle.elf_read.specs.Rules.{first_broken}
-use Rattle.elf_read.specs.declared.fault.ElfFault.{ElfFault}
-use Rattle.kr_calls.specs.Expansion.{by_line, bytes_with_ends, expanded, is_script, most_scripts, runs}
-use Rattle.kr_calls.specs.Scripts.{script_of}
-use Rattle.kr_exec.specs.Exec.{after_scripts, are_too_big, exec_plan, file_plan, plan_at, target_plan, unless_broken}
-use Rattle.kr_exec.specs.Finding.{if_program, program_at}
-use Rattle.kr_exec.specs.Interpreters.{bytes_at, head_of, programs}
-use Rattle.kr_first.specs.Starting.{around, directory_at, directory_found, found_from, if_directory, is_walked, path_errno, plan_of}
-use Rattle.kr_inode.specs.declared.user.User.{User}
-use Rattle.kr_model.specs.Walks.{and_then}
-use Rattle.kr_tree.specs.Tree.{Tree}
-use Rattle.kr_tree.specs.declared.place.Host.TheVariants.{Node}
-use Rattle.kr_tree.specs.declared.place.Place.{Place}
-use Rattle.kr_tree.proofs.NameLemmas.{some_is}
-use Rattle.kr_view.specs.Answers.{told}
-use Rattle.kr_view.specs.Component.{Namespace, Surroundings, is_directory_at}
-use Rattle.kr_view.specs.HostReach.{host_place}
-use Rattle.kr_view.specs.Processes.{no_finds, no_leads}
-use Rattle.kr_view.specs.ReachLaws.{IsReachedBy, ends_with}
-use Rattle.kr_view.specs.View.{Row, plain, root_place}
-use Rattle.kr_view.specs.Walk.{PlaceTarget, place_walk}
-use Rattle.kr_view.specs.declared.target.Target.{Target}
-use Rattle.kr_view.proofs.ArrivalLemmas.{texts_are_found}
-use Rattle.kr_view.proofs.HostReachLemmas.{reached_names, reached_there}
-use Rattle.kr_view.proofs.ProcessLemmas.{no_processes}
-use Rattle.walks_agree.specs.Settled.{IsSettled, host_text}
-use Rattle.walks_agree.specs.Standing.{StandsOn, reached_in}
+use Rattle.pr_start.specs.pr_base.Paths.{Name, below_root, slash, text_of}
+use Rattle.pr_start.specs.pr_base.Texts.{Text}
+use Rattle.pr_start.specs.pr_base.WalkFrame.{target_at}
+use Rattle.pr_start.specs.pr_base.declared.errno.Errno.{Errno}
+use Rattle.pr_start.specs.pr_base.declared.errno.Errno.TheVariants.{E2BIG, EACCES}
+use Rattle.pr_start.specs.pr_base.declared.path.WalkMode.TheVariants.{Look}
+use Rattle.programs_agree.specs.pt_script.declared.program.Program.{Program}
+use Rattle.pr_start.specs.elf_read.Rules.{first_broken}
+use Rattle.pr_start.specs.elf_read.declared.fault.ElfFault.{ElfFault}
+use Rattle.pr_start.specs.kr_calls.Expansion.{by_line, bytes_with_ends, expanded, is_script, most_scripts, runs}
+use Rattle.pr_start.specs.kr_calls.Scripts.{script_of}
+use Rattle.pr_start.specs.kr_exec.Exec.{after_scripts, are_too_big, exec_plan, file_plan, plan_at, target_plan, unless_broken}
+use Rattle.pr_start.specs.kr_exec.Finding.{if_program, program_at}
+use Rattle.pr_start.specs.kr_exec.Interpreters.{bytes_at, head_of, programs}
+use Rattle.programs_agree.specs.kr_first.Starting.{around, directory_at, directory_found, found_from, if_directory, is_walked, path_errno, plan_of}
+use Rattle.pr_start.specs.kr_inode.declared.user.User.{User}
+use Rattle.programs_agree.specs.kr_model.Walks.{and_then}
+use Rattle.pr_start.specs.kr_tree.Tree.{Tree}
+use Rattle.pr_start.specs.kr_tree.declared.place.Host.TheVariants.{Node}
+use Rattle.pr_start.specs.kr_tree.declared.place.Place.{Place}
+use Rattle.pr_start.proofs.kr_tree.NameLemmas.{some_is}
+use Rattle.pr_start.specs.kr_view.Answers.{told}
+use Rattle.pr_start.specs.kr_view.Component.{Namespace, Surroundings, is_directory_at}
+use Rattle.pr_start.specs.kr_view.HostReach.{host_place}
+use Rattle.pr_start.specs.kr_view.Processes.{no_finds, no_leads}
+use Rattle.pr_start.specs.kr_view.ReachLaws.{IsReachedBy, ends_with}
+use Rattle.pr_start.specs.kr_view.View.{Row, plain, root_place}
+use Rattle.pr_start.specs.kr_view.Walk.{PlaceTarget, place_walk}
+use Rattle.pr_start.specs.kr_view.declared.target.Target.{Target}
+use Rattle.pr_start.proofs.kr_view.ArrivalLemmas.{texts_are_found}
+use Rattle.pr_start.proofs.kr_view.HostReachLemmas.{reached_names, reached_there}
+use Rattle.pr_start.proofs.kr_view.ProcessLemmas.{no_processes}
+use Rattle.programs_agree.specs.walks_agree.Settled.{IsSettled, host_text}
+use Rattle.programs_agree.specs.walks_agree.Standing.{StandsOn, reached_in}
 use Rattle.starts_match.specs.Plans.{DirectoriesAreHandedOver, ProgramsAreHandedOver, planned_on_host}
 use Rattle.starts_match.specs.Programs.{IsSameProgram}
 use Rattle.starts_match.specs.Spaces.{first_space}

@@ -2,55 +2,55 @@
 use Rattle.std.proofs.Common.{◌≡◌, ◌≢◌, ◌≤◌, ℕ, zero, suc, Bool, true, false, ◌&&◌, List, [], ◌∷◌, take, Option, Some, None, Result, Ok, Err, refl, sym, ap, subst, ◌∙◌}
 use Rattle.std.specs.Bool.{if◌then◌else◌}
 use Rattle.std.specs.Option.{option_and_then, option_map_or, unwrap_or}
-use Rattle.pr_base.specs.Alike.{Alike, OptionAlike, TargetAlike, both, ends, errs, neither}
-use Rattle.pr_base.specs.Paths.{components_of, has_slash, is_absolute, slash, text_of}
-use Rattle.pr_base.specs.Texts.{Text}
-use Rattle.pr_base.specs.WalkFrame.{Looking, Target, Trail, most_links, walk, walk_on}
-use Rattle.pr_base.specs.declared.errno.Errno.{Errno}
-use Rattle.pr_base.specs.declared.errno.Errno.TheVariants.{EACCES}
-use Rattle.pr_base.specs.declared.path.Last.TheVariants as last
-use Rattle.pr_base.specs.declared.path.WalkMode.{WalkMode}
-use Rattle.pr_base.specs.declared.path.WalkMode.TheVariants.{Look, LookLink}
-use Rattle.pt_bind.specs.Binding.{host_of, index_of, names_of}
-use Rattle.pt_bind.specs.Tags.{TagTable}
-use Rattle.pt_canon.specs.Canon.{canon_result}
-use Rattle.pt_canon.specs.TextWalk.{TextSurroundings, looking_texts, text_walk}
-use Rattle.pt_canon.specs.declared.canon.Canon.{Canon}
-use Rattle.pt_args.specs.Walks.{and_then}
-use Rattle.pt_script.specs.Programs.{base_from, canon_from, program_from, program_in}
-use Rattle.kr_exec.specs.Exec.{entry_of, inode_at}
-use Rattle.kr_exec.specs.Finding.{if_program, is_program, is_program_found, program_at, program_walk}
-use Rattle.kr_exec.specs.Interpreters.{bytes_at, head_of, told_program}
-use Rattle.kr_first.specs.Starting.{around}
-use Rattle.kr_inode.specs.declared.user.User.{User}
-use Rattle.kr_inode.specs.declared.user.Right.TheVariants.{Search}
-use Rattle.kr_mounts.specs.Standing.{texts_of}
-use Rattle.kr_model.specs.Peeks.{body_head, head_at, read_at, read_of}
-use Rattle.kr_tree.specs.Rights.{may}
-use Rattle.kr_tree.specs.Tree.{Body, Directory, ProcessDirectory, RegularFile, SymbolicLink, Tree, body, body_is, file_of, is_file}
-use Rattle.kr_tree.specs.declared.place.Host.{Host}
-use Rattle.kr_tree.specs.declared.place.Host.TheVariants.{Node, Proc}
-use Rattle.kr_tree.specs.declared.place.Place.{Place}
-use Rattle.kr_tree.proofs.EntryLemmas.{body_test}
-use Rattle.kr_view.specs.Answers.{told}
-use Rattle.kr_view.specs.Component.{Namespace, Surroundings, is_directory_at}
-use Rattle.kr_view.specs.Processes.{no_finds, no_leads}
-use Rattle.kr_view.specs.Reach.{reach_after, text_length}
-use Rattle.kr_view.specs.ReachLaws.{IsReachedBy}
-use Rattle.kr_view.specs.View.{Row, plain, root_place, source}
-use Rattle.kr_view.specs.Walk.{PlaceTarget, looking, place_walk}
-use Rattle.kr_view.specs.declared.target.Reach.{Reach}
-use Rattle.kr_view.proofs.ArrivalLemmas.{texts_are_found}
-use Rattle.kr_view.proofs.DirectoryLemmas.{empty_ends}
-use Rattle.kr_view.proofs.HostReachLemmas.{reached_names, reached_there}
-use Rattle.kr_view.proofs.ProcessLemmas.{no_processes}
-use Rattle.pt_first.specs.FirstPeeks.{first_peeked}
-use Rattle.pt_first.specs.Laws.{first_texts}
-use Rattle.walks_agree.specs.Handed.{BothEnd}
-use Rattle.walks_agree.specs.Settled.{IsSettled, host_text}
-use Rattle.walks_agree.specs.Standing.{FoundStands, IsEntryAt, StandsOn, likeness}
-use Rattle.walks_agree.proofs.HandedLemmas.{entry_at, settled_at}
-use Rattle.places_stay.proofs.MatchLemmas.{file_apart}
+use Rattle.pr_start.specs.pr_base.Alike.{Alike, OptionAlike, TargetAlike, both, ends, errs, neither}
+use Rattle.pr_start.specs.pr_base.Paths.{components_of, has_slash, is_absolute, slash, text_of}
+use Rattle.pr_start.specs.pr_base.Texts.{Text}
+use Rattle.pr_start.specs.pr_base.WalkFrame.{Looking, Target, Trail, most_links, walk, walk_on}
+use Rattle.pr_start.specs.pr_base.declared.errno.Errno.{Errno}
+use Rattle.pr_start.specs.pr_base.declared.errno.Errno.TheVariants.{EACCES}
+use Rattle.pr_start.specs.pr_base.declared.path.Last.TheVariants as last
+use Rattle.pr_start.specs.pr_base.declared.path.WalkMode.{WalkMode}
+use Rattle.pr_start.specs.pr_base.declared.path.WalkMode.TheVariants.{Look, LookLink}
+use Rattle.pr_traced.specs.pt_bind.Binding.{host_of, index_of, names_of}
+use Rattle.pr_traced.specs.pt_bind.Tags.{TagTable}
+use Rattle.pr_traced.specs.pt_canon.Canon.{canon_result}
+use Rattle.pr_traced.specs.pt_canon.TextWalk.{TextSurroundings, looking_texts, text_walk}
+use Rattle.pr_traced.specs.pt_canon.declared.canon.Canon.{Canon}
+use Rattle.programs_agree.specs.pt_args.Walks.{and_then}
+use Rattle.programs_agree.specs.pt_script.Programs.{base_from, canon_from, program_from, program_in}
+use Rattle.pr_start.specs.kr_exec.Exec.{entry_of, inode_at}
+use Rattle.pr_start.specs.kr_exec.Finding.{if_program, is_program, is_program_found, program_at, program_walk}
+use Rattle.pr_start.specs.kr_exec.Interpreters.{bytes_at, head_of, told_program}
+use Rattle.programs_agree.specs.kr_first.Starting.{around}
+use Rattle.pr_start.specs.kr_inode.declared.user.User.{User}
+use Rattle.pr_start.specs.kr_inode.declared.user.Right.TheVariants.{Search}
+use Rattle.pr_start.specs.kr_mounts.Standing.{texts_of}
+use Rattle.programs_agree.specs.kr_model.Peeks.{body_head, head_at, read_at, read_of}
+use Rattle.pr_start.specs.kr_tree.Rights.{may}
+use Rattle.pr_start.specs.kr_tree.Tree.{Body, Directory, ProcessDirectory, RegularFile, SymbolicLink, Tree, body, body_is, file_of, is_file}
+use Rattle.pr_start.specs.kr_tree.declared.place.Host.{Host}
+use Rattle.pr_start.specs.kr_tree.declared.place.Host.TheVariants.{Node, Proc}
+use Rattle.pr_start.specs.kr_tree.declared.place.Place.{Place}
+use Rattle.pr_start.proofs.kr_tree.EntryLemmas.{body_test}
+use Rattle.pr_start.specs.kr_view.Answers.{told}
+use Rattle.pr_start.specs.kr_view.Component.{Namespace, Surroundings, is_directory_at}
+use Rattle.pr_start.specs.kr_view.Processes.{no_finds, no_leads}
+use Rattle.pr_start.specs.kr_view.Reach.{reach_after, text_length}
+use Rattle.pr_start.specs.kr_view.ReachLaws.{IsReachedBy}
+use Rattle.pr_start.specs.kr_view.View.{Row, plain, root_place, source}
+use Rattle.pr_start.specs.kr_view.Walk.{PlaceTarget, looking, place_walk}
+use Rattle.pr_start.specs.kr_view.declared.target.Reach.{Reach}
+use Rattle.pr_start.proofs.kr_view.ArrivalLemmas.{texts_are_found}
+use Rattle.pr_start.proofs.kr_view.DirectoryLemmas.{empty_ends}
+use Rattle.pr_start.proofs.kr_view.HostReachLemmas.{reached_names, reached_there}
+use Rattle.pr_start.proofs.kr_view.ProcessLemmas.{no_processes}
+use Rattle.pr_traced.specs.pt_first.FirstPeeks.{first_peeked}
+use Rattle.pr_traced.specs.pt_first.Laws.{first_texts}
+use Rattle.programs_agree.specs.walks_agree.Handed.{BothEnd}
+use Rattle.programs_agree.specs.walks_agree.Settled.{IsSettled, host_text}
+use Rattle.programs_agree.specs.walks_agree.Standing.{FoundStands, IsEntryAt, StandsOn, likeness}
+use Rattle.programs_agree.proofs.walks_agree.HandedLemmas.{entry_at, settled_at}
+use Rattle.turns_match.proofs.places_stay.MatchLemmas.{file_apart}
 use Rattle.starts_match.specs.Spaces.{first_space}
 use Rattle.programs_agree.specs.Ending.{ResultsAlike}
 use Rattle.starts_match.specs.Programs.{IsSameProgram, ProgramsAgree}
@@ -125,7 +125,7 @@ module _ (table : List Row) (tree : Tree) (user : User) (tags : TagTable) (set :
       let found = texts_are_found.found (around plain tree user) LookLink (root_place plain) host p.host false by_text (λ e. on.firm) (λ e. absurd cc) in
       ap (read_of (head_at tree user 256)) found.1 ∙ ap (read_at (head_at tree user 256)) found.2 ∙ head-is tree user p.host
 
-  module _ (base : Place ℕ) (working path : List ℕ) (most : ℕ) (r : Reach) (at : StandsAt table tree user base working) (within : (reach_after here (program_walk here base path) r).longest ≤ most) where
+  module _ (base : Place ℕ) (working path : List ℕ) (most : ℕ) (r : Reach) (at : StandsAt table tree user base working) (within : (reach_after here Look (program_walk here base path) r).longest ≤ most) where
     abbrev w : Text
     w = at.text
 

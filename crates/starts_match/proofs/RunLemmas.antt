@@ -4,45 +4,45 @@ use Rattle.std.specs.Prelude.{nat_lt}
 use Rattle.std.specs.Bool.{if◌then◌else◌}
 use Rattle.std.specs.Option.{unwrap_or}
 use Rattle.std.proofs.lemmas.Bool.Decides.{nat_tests}
-use Rattle.pr_base.specs.Alike.{Alike, OptionAlike, TargetAlike, both, ends, errs, neither}
-use Rattle.pr_base.specs.Paths.{is_absolute, text_of}
-use Rattle.pr_base.specs.Texts.{Text}
-use Rattle.pr_base.specs.WalkFrame.{Target, Trail}
-use Rattle.pr_base.specs.declared.errno.Errno.{Errno}
-use Rattle.pr_base.specs.declared.errno.Errno.TheVariants.{E2BIG, ENAMETOOLONG}
-use Rattle.pr_base.specs.declared.path.WalkMode.TheVariants.{Look}
-use Rattle.pt_bind.specs.Binding.{host_of, names_of}
-use Rattle.pt_bind.specs.Tags.{TagTable}
-use Rattle.pt_canon.specs.Canon.{canon_at, canon_result, ending_of}
-use Rattle.pt_canon.specs.TextWalk.{TextSurroundings, looking_texts, text_walk}
-use Rattle.pt_canon.specs.declared.canon.Canon.{Canon}
-use Rattle.pt_args.specs.Walks.{and_then}
-use Rattle.pt_script.specs.Expanding.{command_of, ends_of, shown_result}
-use Rattle.pt_script.specs.Programs.{canon_from, program_from}
-use Rattle.pt_script.specs.Programs as scripts
-use Rattle.pt_script.specs.declared.expansion.Expanded.{Expanded as Shown}
-use Rattle.pt_script.specs.declared.program.Program.{Program}
-use Rattle.kr_calls.specs.Expansion.{Expanded, bytes_with_ends, expanded, is_script, is_too_big, most_scripts}
-use Rattle.kr_exec.specs.Exec.{are_too_big, exec_reach}
-use Rattle.kr_exec.specs.Finding.{if_program, program_at, program_walk}
-use Rattle.kr_exec.specs.Interpreters.{interpreters, programs, told_program, walks_reach}
-use Rattle.kr_first.specs.Starting.{around, found_reach, is_walked, path_errno, plan_reach}
-use Rattle.kr_inode.specs.declared.user.User.{User}
-use Rattle.kr_model.specs.Walks as kernel
-use Rattle.kr_tree.specs.Tree.{Tree}
-use Rattle.kr_tree.specs.declared.place.Place.{Place}
-use Rattle.kr_view.specs.Answers.{told}
-use Rattle.kr_view.specs.Component.{Namespace, Surroundings}
-use Rattle.kr_view.specs.Reach.{reach_after}
-use Rattle.kr_view.specs.View.{Row}
-use Rattle.kr_view.specs.Walk.{PlaceTarget, looking, place_walk}
-use Rattle.kr_view.specs.declared.target.Reach.{Reach}
-use Rattle.kr_view.specs.declared.target.Target.{Target as Found}
-use Rattle.kr_view.proofs.ReachLemmas.{covers_after}
-use Rattle.pt_first.specs.GuestStart.{base_of, handed, if_short, root_text, run_with}
-use Rattle.pt_first.specs.Laws.{first_texts}
-use Rattle.walks_agree.specs.Settled.{IsSettled, host_text}
-use Rattle.walks_agree.specs.Standing.{FoundStands, likeness}
+use Rattle.pr_start.specs.pr_base.Alike.{Alike, OptionAlike, TargetAlike, both, ends, errs, neither}
+use Rattle.pr_start.specs.pr_base.Paths.{is_absolute, text_of}
+use Rattle.pr_start.specs.pr_base.Texts.{Text}
+use Rattle.pr_start.specs.pr_base.WalkFrame.{Target, Trail}
+use Rattle.pr_start.specs.pr_base.declared.errno.Errno.{Errno}
+use Rattle.pr_start.specs.pr_base.declared.errno.Errno.TheVariants.{E2BIG, ENAMETOOLONG}
+use Rattle.pr_start.specs.pr_base.declared.path.WalkMode.TheVariants.{Look}
+use Rattle.pr_traced.specs.pt_bind.Binding.{host_of, names_of}
+use Rattle.pr_traced.specs.pt_bind.Tags.{TagTable}
+use Rattle.pr_traced.specs.pt_canon.Canon.{canon_at, canon_result, ending_of}
+use Rattle.pr_traced.specs.pt_canon.TextWalk.{TextSurroundings, looking_texts, text_walk}
+use Rattle.pr_traced.specs.pt_canon.declared.canon.Canon.{Canon}
+use Rattle.programs_agree.specs.pt_args.Walks.{and_then}
+use Rattle.programs_agree.specs.pt_script.Expanding.{command_of, ends_of, shown_result}
+use Rattle.programs_agree.specs.pt_script.Programs.{canon_from, program_from}
+use Rattle.programs_agree.specs.pt_script.Programs as scripts
+use Rattle.programs_agree.specs.pt_script.declared.expansion.Expanded.{Expanded as Shown}
+use Rattle.programs_agree.specs.pt_script.declared.program.Program.{Program}
+use Rattle.pr_start.specs.kr_calls.Expansion.{Expanded, bytes_with_ends, expanded, is_script, is_too_big, most_scripts}
+use Rattle.pr_start.specs.kr_exec.Exec.{are_too_big, exec_reach}
+use Rattle.pr_start.specs.kr_exec.Finding.{if_program, program_at, program_walk}
+use Rattle.pr_start.specs.kr_exec.Interpreters.{interpreters, programs, told_program, walks_reach}
+use Rattle.programs_agree.specs.kr_first.Starting.{around, found_reach, is_walked, path_errno, plan_reach}
+use Rattle.pr_start.specs.kr_inode.declared.user.User.{User}
+use Rattle.programs_agree.specs.kr_model.Walks as kernel
+use Rattle.pr_start.specs.kr_tree.Tree.{Tree}
+use Rattle.pr_start.specs.kr_tree.declared.place.Place.{Place}
+use Rattle.pr_start.specs.kr_view.Answers.{told}
+use Rattle.pr_start.specs.kr_view.Component.{Namespace, Surroundings}
+use Rattle.pr_start.specs.kr_view.Reach.{reach_after}
+use Rattle.pr_start.specs.kr_view.View.{Row}
+use Rattle.pr_start.specs.kr_view.Walk.{PlaceTarget, looking, place_walk}
+use Rattle.pr_start.specs.kr_view.declared.target.Reach.{Reach}
+use Rattle.pr_start.specs.kr_view.declared.target.Target.{Target as Found}
+use Rattle.pr_start.proofs.kr_view.ReachLemmas.{covers_after}
+use Rattle.pr_traced.specs.pt_first.GuestStart.{base_of, handed, if_short, root_text, run_with}
+use Rattle.pr_traced.specs.pt_first.Laws.{first_texts}
+use Rattle.programs_agree.specs.walks_agree.Settled.{IsSettled, host_text}
+use Rattle.programs_agree.specs.walks_agree.Standing.{FoundStands, likeness}
 use Rattle.programs_agree.specs.Ending.{EndAlike, ResultsAlike}
 use Rattle.starts_match.specs.Programs.{IsSameProgram}
 use Rattle.programs_agree.specs.Ending as alike
@@ -79,10 +79,10 @@ module _ (table : List Row) (tree : Tree) (user : User) (base : Place ℕ) (path
   pub plan-more : (r : Reach) → r.longest ≤ (plan_reach table tree user base path args env r).longest
   plan-more r = by (is_walked path)
     where
-      by : (b : Bool) → r.longest ≤ (if b then found_reach table tree user base path args env (program_at (around table tree user) base path) (reach_after (around table tree user) (program_walk (around table tree user) base path) r) else r).longest
+      by : (b : Bool) → r.longest ≤ (if b then found_reach table tree user base path args env (program_at (around table tree user) base path) (reach_after (around table tree user) Look (program_walk (around table tree user) base path) r) else r).longest
       by true =
-          let one = (covers_after (around table tree user) (program_walk (around table tree user) base path) r).longest in
-          let rest = found-more (program_at (around table tree user) base path) (reach_after (around table tree user) (program_walk (around table tree user) base path) r) in
+          let one = (covers_after (around table tree user) Look (program_walk (around table tree user) base path) r).longest in
+          let rest = found-more (program_at (around table tree user) base path) (reach_after (around table tree user) Look (program_walk (around table tree user) base path) r) in
           omega arith
       by false = omega arith
 
@@ -101,7 +101,7 @@ module _ (table : List Row) (tree : Tree) (user : User) (tags : TagTable) (base 
   w = at.text
 
   abbrev walked : Reach
-  walked = reach_after here (program_walk here base path) r
+  walked = reach_after here Look (program_walk here base path) r
 
   abbrev R : Found ℕ → Program → Type 0
   R = IsSameProgram table tree user most

@@ -1,44 +1,44 @@
 -- Walks before a process lives: what a tracer is told, and that the walks of both machines agree.
 use Rattle.std.proofs.Common.{◌≡◌, ◌≢◌, ℕ, Bool, true, false, List, [], ◌∷◌, Option, Some, None, Result, Ok, Err, refl, ap}
 use Rattle.std.specs.Prelude.{if◌then◌else◌}
-use Rattle.pr_base.specs.Alike.{Alike}
-use Rattle.pr_base.specs.Paths.{Component, components_of, has_slash}
-use Rattle.pr_base.specs.Texts.{Text}
-use Rattle.pr_base.specs.WalkFrame.{Looking, begins_at, most_links, walk}
-use Rattle.pr_base.specs.declared.errno.Errno.{Errno}
-use Rattle.pr_base.specs.declared.path.WalkMode.TheVariants.{Look}
-use Rattle.pr_base.proofs.EndLemmas.{EndsSo}
-use Rattle.pr_base.proofs.PathLemmas.{names_are_parts}
-use Rattle.pt_bind.specs.Binding.{names_of}
-use Rattle.pt_bind.specs.Tags.{TagTable}
-use Rattle.pt_bind.proofs.ByteLemmas.{names_written}
-use Rattle.pt_canon.specs.TextWalk.{text_walk}
-use Rattle.kr_inode.specs.declared.user.User.{User}
-use Rattle.kr_tree.specs.Tree.{Body, Directory, ProcessDirectory, RegularFile, SymbolicLink, Tree, body}
-use Rattle.kr_tree.specs.declared.place.Host.{Host}
-use Rattle.kr_tree.specs.declared.place.Host.TheVariants.{Node, Proc}
-use Rattle.kr_tree.specs.declared.place.Place.{Place}
-use Rattle.kr_tree.proofs.NameLemmas.{some_is}
-use Rattle.kr_view.specs.Component.{Namespace, Surroundings, is_process_directory, seen_at, seen_body, seen_link, shows_directory}
-use Rattle.kr_view.specs.Processes.{no_leads}
-use Rattle.kr_view.specs.View.{Row, plain}
-use Rattle.kr_view.specs.Walk.{PlaceTarget, place_walk}
-use Rattle.kr_view.specs.declared.procs.Lead.TheVariants.{NoLink}
-use Rattle.kr_view.proofs.ProcessLemmas.{no_processes}
-use Rattle.kr_model.specs.Peeks.{at_found, body_text, read_at, read_of}
-use Rattle.kr_first.specs.Starting.{around}
-use Rattle.kr_resolved.proofs.EndingLemmas.{HasLast, walk_comes}
-use Rattle.pr_base.specs.Paths.{text_of}
-use Rattle.walks_agree.specs.Peeks.{ArePeeks, text_of_answer, text_seen}
-use Rattle.walks_agree.specs.Scene.{IsMatched, Scene}
-use Rattle.walks_agree.specs.Settled.{IsSettled}
-use Rattle.walks_agree.specs.Standing.{StandsOn, likeness}
-use Rattle.walks_agree.specs.Start.{first_scene}
-use Rattle.walks_agree.proofs.AgreeLemmas.{walks_agree}
-use Rattle.walks_agree.proofs.StandingLemmas.{standing_places_are_called}
-use Rattle.walks_agree.proofs.StartLemmas.{first_scenes_are_matched}
-use Rattle.pt_first.specs.FirstPeeks.{answer_along, first_peeked, link_text_at}
-use Rattle.pt_first.specs.Laws.{first_texts}
+use Rattle.pr_start.specs.pr_base.Alike.{Alike}
+use Rattle.pr_start.specs.pr_base.Paths.{Component, components_of, has_slash}
+use Rattle.pr_start.specs.pr_base.Texts.{Text}
+use Rattle.pr_start.specs.pr_base.WalkFrame.{Looking, begins_at, most_links, walk}
+use Rattle.pr_start.specs.pr_base.declared.errno.Errno.{Errno}
+use Rattle.pr_start.specs.pr_base.declared.path.WalkMode.TheVariants.{Look}
+use Rattle.pr_start.proofs.pr_base.EndLemmas.{EndsSo}
+use Rattle.pr_start.proofs.pr_base.PathLemmas.{names_are_parts}
+use Rattle.pr_traced.specs.pt_bind.Binding.{names_of}
+use Rattle.pr_traced.specs.pt_bind.Tags.{TagTable}
+use Rattle.pr_traced.proofs.pt_bind.ByteLemmas.{names_written}
+use Rattle.pr_traced.specs.pt_canon.TextWalk.{text_walk}
+use Rattle.pr_start.specs.kr_inode.declared.user.User.{User}
+use Rattle.pr_start.specs.kr_tree.Tree.{Body, Directory, ProcessDirectory, RegularFile, SymbolicLink, Tree, body}
+use Rattle.pr_start.specs.kr_tree.declared.place.Host.{Host}
+use Rattle.pr_start.specs.kr_tree.declared.place.Host.TheVariants.{Node, Proc}
+use Rattle.pr_start.specs.kr_tree.declared.place.Place.{Place}
+use Rattle.pr_start.proofs.kr_tree.NameLemmas.{some_is}
+use Rattle.pr_start.specs.kr_view.Component.{Namespace, Surroundings, is_process_directory, seen_at, seen_body, seen_link, shows_directory}
+use Rattle.pr_start.specs.kr_view.Processes.{no_leads}
+use Rattle.pr_start.specs.kr_view.View.{Row, plain}
+use Rattle.pr_start.specs.kr_view.Walk.{PlaceTarget, place_walk}
+use Rattle.pr_start.specs.kr_view.declared.procs.Lead.TheVariants.{NoLink}
+use Rattle.pr_start.proofs.kr_view.ProcessLemmas.{no_processes}
+use Rattle.programs_agree.specs.kr_model.Peeks.{at_found, body_text, read_at, read_of}
+use Rattle.programs_agree.specs.kr_first.Starting.{around}
+use Rattle.programs_agree.proofs.kr_resolved.EndingLemmas.{HasLast, walk_comes}
+use Rattle.pr_start.specs.pr_base.Paths.{text_of}
+use Rattle.programs_agree.specs.walks_agree.Peeks.{ArePeeks, text_of_answer, text_seen}
+use Rattle.programs_agree.specs.walks_agree.Scene.{IsMatched, Scene}
+use Rattle.programs_agree.specs.walks_agree.Settled.{IsSettled}
+use Rattle.programs_agree.specs.walks_agree.Standing.{StandsOn, likeness}
+use Rattle.programs_agree.specs.walks_agree.Start.{first_scene}
+use Rattle.programs_agree.proofs.walks_agree.AgreeLemmas.{walks_agree}
+use Rattle.programs_agree.proofs.walks_agree.StandingLemmas.{standing_places_are_called}
+use Rattle.programs_agree.proofs.walks_agree.StartLemmas.{first_scenes_are_matched}
+use Rattle.pr_traced.specs.pt_first.FirstPeeks.{answer_along, first_peeked, link_text_at}
+use Rattle.pr_traced.specs.pt_first.Laws.{first_texts}
 use Rattle.starts_match.specs.Spaces.{first_space}
 
 -- ---- what is told

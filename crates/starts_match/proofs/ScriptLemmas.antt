@@ -1,22 +1,22 @@
 -- Scripts lead to the same programs on both machines.
 use Rattle.std.proofs.Common.{◌≡◌, ◌≤◌, ℕ, zero, suc, Bool, true, false, List, [], ◌∷◌, Option, Some, None, Result, Ok, Err, refl, sym, subst, arith}
 use Rattle.std.specs.Bool.{if◌then◌else◌}
-use Rattle.pr_base.specs.declared.errno.Errno.{Errno}
-use Rattle.pr_base.specs.declared.errno.Errno.TheVariants.{E2BIG, ELOOP, ENOEXEC}
-use Rattle.pt_script.specs.Programs as texts
-use Rattle.pt_script.specs.declared.program.Program.{Program}
-use Rattle.kr_calls.specs.Expansion.{Finding, by_interpreter, by_line, expanded, is_script, is_too_big, most_scripts, new_args, runs}
-use Rattle.kr_calls.specs.Scripts.{script_of}
-use Rattle.kr_exec.specs.Finding.{program_walk}
-use Rattle.kr_exec.specs.Interpreters.{head_of, if_args_fit, interpreters, paths_behind, paths_by_line, programs, walks_reach}
-use Rattle.kr_first.specs.Starting.{around}
-use Rattle.kr_tree.specs.declared.place.Place.{Place}
-use Rattle.kr_view.specs.Component.{Surroundings}
-use Rattle.kr_view.specs.Reach.{reach_after}
-use Rattle.kr_view.specs.declared.target.Reach.{Reach}
-use Rattle.kr_view.specs.declared.target.Target.{Target}
-use Rattle.kr_view.proofs.ReachLemmas.{covers_after}
-use Rattle.pt_first.specs.Laws.{first_texts}
+use Rattle.pr_start.specs.pr_base.declared.errno.Errno.{Errno}
+use Rattle.pr_start.specs.pr_base.declared.errno.Errno.TheVariants.{E2BIG, ELOOP, ENOEXEC}
+use Rattle.programs_agree.specs.pt_script.Programs as texts
+use Rattle.programs_agree.specs.pt_script.declared.program.Program.{Program}
+use Rattle.pr_start.specs.kr_calls.Expansion.{Finding, by_interpreter, by_line, expanded, is_script, is_too_big, most_scripts, new_args, runs}
+use Rattle.pr_start.specs.kr_calls.Scripts.{script_of}
+use Rattle.pr_start.specs.kr_exec.Finding.{program_walk}
+use Rattle.pr_start.specs.kr_exec.Interpreters.{head_of, if_args_fit, interpreters, paths_behind, paths_by_line, programs, walks_reach}
+use Rattle.programs_agree.specs.kr_first.Starting.{around}
+use Rattle.pr_start.specs.kr_tree.declared.place.Place.{Place}
+use Rattle.pr_start.specs.kr_view.Component.{Surroundings}
+use Rattle.pr_start.specs.kr_view.Reach.{reach_after}
+use Rattle.pr_start.specs.kr_view.declared.target.Reach.{Reach}
+use Rattle.pr_start.specs.kr_view.declared.target.Target.{Target}
+use Rattle.pr_start.proofs.kr_view.ReachLemmas.{covers_after}
+use Rattle.pr_traced.specs.pt_first.Laws.{first_texts}
 use Rattle.starts_match.specs.Programs.{IsSameProgram}
 use Rattle.starts_match.specs.Scripts.{ScriptsAgree}
 use Rattle.starts_match.proofs.ProgramLemmas.{programs-agree}

@@ -3,35 +3,35 @@ use Rattle.std.proofs.Common.{◌≡◌, ◌++◌, inl, inr, ℕ, zero, suc, Boo
 use Rattle.std.specs.Bool.{if◌then◌else◌}
 use Rattle.std.specs.List.{AllByRecursion}
 use Rattle.std.specs.Option.{option_map, option_map_or}
-use Rattle.pr_base.specs.Texts.{Text, below}
-use Rattle.pr_base.specs.declared.bind.Bind.{Bind}
-use Rattle.pr_base.specs.declared.errno.Errno.{Errno}
-use Rattle.pr_base.specs.declared.path.WalkMode.TheVariants.{Look}
-use Rattle.kr_inode.specs.declared.user.User.{User}
-use Rattle.kr_mounts.specs.Growth.{HasAllBefore}
-use Rattle.kr_mounts.specs.Locations.{location_by}
-use Rattle.kr_mounts.specs.MountTable.{Located, Refusal, Settling, Sourced, after_way, and_then, as_source, counting, dir_of, in_order, located, located_all, locations, point_row, points, root_row, settling, sourced, sources, told, way_along}
-use Rattle.kr_mounts.specs.Sources.{Source, around_table, directory_source, entry_source, root_source_by, root_source_of, source_at, source_by, source_of}
-use Rattle.kr_mounts.specs.Texts.{last_name}
-use Rattle.kr_mounts.specs.declared.fault.BindWhy.{BindWhy}
-use Rattle.kr_mounts.specs.declared.fault.BindWhy.TheVariants.{RootNotDir}
-use Rattle.kr_mounts.proofs.BeforeLemmas.{grown_trees_have_all_before}
-use Rattle.kr_mounts.proofs.BoundLemmas.{ok_is, points_ok, then_ok}
-use Rattle.kr_mounts.proofs.GrowthLemmas.{settling_makes_names_alone}
-use Rattle.kr_mounts.proofs.OrderLemmas.{counting_each, ordered_each}
-use Rattle.kr_mounts.proofs.SourceLemmas.{sources_are}
-use Rattle.kr_mounts.proofs.StandLemmas.{get_any}
-use Rattle.kr_mounts.proofs.StayLemmas.{named_stays}
-use Rattle.kr_tree.specs.Lawful.{IsSound}
-use Rattle.kr_tree.specs.Names.{host_name, named}
-use Rattle.kr_tree.specs.Tree.{Tree, above, body_is, entry, is_directory, is_listed}
-use Rattle.kr_tree.specs.declared.place.Host.{Host}
-use Rattle.kr_tree.specs.declared.place.Host.TheVariants.{Node, Proc}
-use Rattle.kr_tree.specs.declared.place.Place.{Place}
-use Rattle.kr_tree.proofs.EntryLemmas.{entry_stands}
-use Rattle.kr_tree.proofs.NameLemmas.{host_names-lead, map_some, some_is, then_some}
-use Rattle.kr_view.specs.View.{Point, Row, plain, root_place, row}
-use Rattle.kr_view.specs.Walk.{PlaceTarget, place_walk}
+use Rattle.pr_start.specs.pr_base.Texts.{Text, below}
+use Rattle.pr_start.specs.pr_base.declared.bind.Bind.{Bind}
+use Rattle.pr_start.specs.pr_base.declared.errno.Errno.{Errno}
+use Rattle.pr_start.specs.pr_base.declared.path.WalkMode.TheVariants.{Look}
+use Rattle.pr_start.specs.kr_inode.declared.user.User.{User}
+use Rattle.pr_start.specs.kr_mounts.Growth.{HasAllBefore}
+use Rattle.pr_start.specs.kr_mounts.Locations.{location_by}
+use Rattle.pr_start.specs.kr_mounts.MountTable.{Located, Refusal, Settling, Sourced, after_way, and_then, as_source, counting, dir_of, in_order, located, located_all, locations, point_row, points, root_row, settling, sourced, sources, told, way_along}
+use Rattle.pr_start.specs.kr_mounts.Sources.{Source, around_table, directory_source, entry_source, root_source_by, root_source_of, source_at, source_by, source_of}
+use Rattle.pr_start.specs.kr_mounts.Texts.{last_name}
+use Rattle.pr_start.specs.kr_mounts.declared.fault.BindWhy.{BindWhy}
+use Rattle.pr_start.specs.kr_mounts.declared.fault.BindWhy.TheVariants.{RootNotDir}
+use Rattle.pr_start.proofs.kr_mounts.BeforeLemmas.{grown_trees_have_all_before}
+use Rattle.pr_start.proofs.kr_mounts.BoundLemmas.{ok_is, points_ok, then_ok}
+use Rattle.pr_start.proofs.kr_mounts.GrowthLemmas.{settling_makes_names_alone}
+use Rattle.pr_start.proofs.kr_mounts.OrderLemmas.{counting_each, ordered_each}
+use Rattle.pr_start.proofs.kr_mounts.SourceLemmas.{source_was_walked, sources_are}
+use Rattle.pr_start.proofs.kr_mounts.StandLemmas.{get_any}
+use Rattle.pr_start.proofs.kr_mounts.StayLemmas.{named_stays}
+use Rattle.pr_start.specs.kr_tree.Lawful.{IsSound}
+use Rattle.pr_start.specs.kr_tree.Names.{host_name, named}
+use Rattle.pr_start.specs.kr_tree.Tree.{Tree, above, body_is, entry, is_directory, is_listed}
+use Rattle.pr_start.specs.kr_tree.declared.place.Host.{Host}
+use Rattle.pr_start.specs.kr_tree.declared.place.Host.TheVariants.{Node, Proc}
+use Rattle.pr_start.specs.kr_tree.declared.place.Place.{Place}
+use Rattle.pr_start.proofs.kr_tree.EntryLemmas.{entry_stands}
+use Rattle.pr_start.proofs.kr_tree.NameLemmas.{host_names-lead, map_some, some_is, then_some}
+use Rattle.pr_start.specs.kr_view.View.{Point, Row, plain, root_place, row}
+use Rattle.pr_start.specs.kr_view.Walk.{PlaceTarget, place_walk}
 use Rattle.starts_match.specs.Openings.{SettledSourcesAreNamed}
 
 -- ---- one source
@@ -81,7 +81,7 @@ module _ (t : Tree) (user : User) (sound : IsSound t) where
           let leads = host_names-lead t sound s.inode s.text (own.directory e) in
           let step = then_some (λ dir. entry t dir name) (named t up) s.inode (sym (ap (named t) text) ∙ leads.0) in
           let stands = entry_stands t sound step.0 name s.inode step.2 leads.1 in
-          step.1 ∙ ap Some (sym (source-below (place_walk (around_table plain t user) Look (root_place plain) path).answer s is e ∙ ap (λ o. option_map_or (λ up. up) o 0) stands))
+          step.1 ∙ ap Some (sym (source-below (place_walk (around_table plain t user) Look (root_place plain) path).answer s (source_was_walked t user sound path s is) e ∙ ap (λ o. option_map_or (λ up. up) o 0) stands))
       by false e =
           let own = (sources_are t user sound path s is).entered e in
           let heads : name ∷ up ≡ own.0 ∷ own.1 = sym text ∙ own.2 in

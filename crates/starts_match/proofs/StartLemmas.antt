@@ -5,53 +5,54 @@ use Rattle.std.specs.Prelude.{nat_lt}
 use Rattle.std.specs.Bool.{if◌then◌else◌}
 use Rattle.std.specs.Option.{option_map_or}
 use Rattle.std.proofs.lemmas.Bool.Decides.{nat_tests}
-use Rattle.pr_base.specs.Paths.{text_of}
-use Rattle.pr_base.specs.declared.errno.Errno.{Errno}
-use Rattle.pr_base.specs.declared.errno.Errno.TheVariants.{E2BIG, ENOENT}
-use Rattle.pr_command.specs.Command.{arguments, ids_of, word_of}
-use Rattle.pr_command.specs.declared.launch.Launch.{Launch}
-use Rattle.pt_args.specs.Walks as texts
-use Rattle.pt_bind.specs.Binding.{host_of, index_of, names_of}
-use Rattle.pt_bind.specs.Tags.{TagTable, with_tag}
-use Rattle.pt_bind.specs.declared.slot.Slot.TheVariants as slot
-use Rattle.pt_canon.specs.TextWalk.{TextSurroundings}
-use Rattle.pt_script.specs.declared.expansion.Expanded.{Expanded as Shown}
-use Rattle.kr_calls.specs.Expansion.{Expanded, bytes_with_ends, expanded, most_scripts}
-use Rattle.kr_calm.specs.Calm.{broken_at_start}
-use Rattle.kr_exec.specs.Exec.{after_scripts, are_too_big, exec_plan, target_plan}
-use Rattle.kr_exec.specs.Interpreters.{programs}
-use Rattle.kr_exec.specs.Lists.{at_least_one}
-use Rattle.kr_exec.specs.declared.plan.ExecPlan.{ExecPlan}
-use Rattle.kr_first.specs.Starting.{around, directory_at, directory_walk, found_from, plan_of, plan_reach, start_from, start_of, start_reach, started_with}
-use Rattle.kr_first.specs.declared.starting.First.{First}
-use Rattle.kr_first.proofs.LawLemmas.{roots-are-directories}
-use Rattle.kr_inode.specs.declared.user.User.{User}
-use Rattle.kr_mounts.specs.Standing.{texts_of}
-use Rattle.kr_model.specs.State.{Image, State}
-use Rattle.kr_model.specs.Walks.{and_then}
-use Rattle.kr_start.specs.Start.{first_pid}
-use Rattle.kr_tree.specs.Tree.{Tree}
-use Rattle.kr_tree.specs.declared.place.Place.{Place}
-use Rattle.kr_turns.specs.Turn.{Machine}
-use Rattle.kr_view.specs.Answers.{told}
-use Rattle.kr_view.specs.HostReach.{host_place}
-use Rattle.kr_view.specs.Reach.{reach_after}
-use Rattle.kr_view.specs.View.{Row, plain}
-use Rattle.kr_view.specs.Walk.{PlaceTarget}
-use Rattle.kr_view.specs.declared.target.Reach.{Reach}
-use Rattle.kr_view.specs.declared.target.Target.{Target}
-use Rattle.kr_view.proofs.ReachLemmas.{covers_after}
+use Rattle.pr_start.specs.pr_base.Paths.{text_of}
+use Rattle.pr_start.specs.pr_base.declared.errno.Errno.{Errno}
+use Rattle.pr_start.specs.pr_base.declared.errno.Errno.TheVariants.{E2BIG, ENOENT}
+use Rattle.pr_start.specs.pr_base.declared.path.WalkMode.TheVariants.{Look}
+use Rattle.pr_start.specs.pr_command.Command.{arguments, ids_of, word_of}
+use Rattle.pr_start.specs.pr_command.declared.launch.Launch.{Launch}
+use Rattle.programs_agree.specs.pt_args.Walks as texts
+use Rattle.pr_traced.specs.pt_bind.Binding.{host_of, index_of, names_of}
+use Rattle.pr_traced.specs.pt_bind.Tags.{TagTable, with_tag}
+use Rattle.pr_traced.specs.pt_bind.declared.slot.Slot.TheVariants as slot
+use Rattle.pr_traced.specs.pt_canon.TextWalk.{TextSurroundings}
+use Rattle.programs_agree.specs.pt_script.declared.expansion.Expanded.{Expanded as Shown}
+use Rattle.pr_start.specs.kr_calls.Expansion.{Expanded, bytes_with_ends, expanded, most_scripts}
+use Rattle.turns_match.specs.kr_calm.Calm.{broken_at_start}
+use Rattle.pr_start.specs.kr_exec.Exec.{after_scripts, are_too_big, exec_plan, target_plan}
+use Rattle.pr_start.specs.kr_exec.Interpreters.{programs}
+use Rattle.pr_start.specs.kr_exec.Lists.{at_least_one}
+use Rattle.pr_start.specs.kr_exec.declared.plan.ExecPlan.{ExecPlan}
+use Rattle.programs_agree.specs.kr_first.Starting.{around, directory_at, directory_walk, found_from, plan_of, plan_reach, start_from, start_of, start_reach, started_with}
+use Rattle.programs_agree.specs.kr_first.declared.starting.First.{First}
+use Rattle.programs_agree.proofs.kr_first.LawLemmas.{roots-are-directories}
+use Rattle.pr_start.specs.kr_inode.declared.user.User.{User}
+use Rattle.pr_start.specs.kr_mounts.Standing.{texts_of}
+use Rattle.programs_agree.specs.kr_model.State.{Image, State}
+use Rattle.programs_agree.specs.kr_model.Walks.{and_then}
+use Rattle.pr_start.specs.kr_start.Start.{first_pid}
+use Rattle.pr_start.specs.kr_tree.Tree.{Tree}
+use Rattle.pr_start.specs.kr_tree.declared.place.Place.{Place}
+use Rattle.turns_match.specs.kr_turns.Turn.{Machine}
+use Rattle.pr_start.specs.kr_view.Answers.{told}
+use Rattle.pr_start.specs.kr_view.HostReach.{host_place}
+use Rattle.pr_start.specs.kr_view.Reach.{reach_after}
+use Rattle.pr_start.specs.kr_view.View.{Row, plain}
+use Rattle.pr_start.specs.kr_view.Walk.{PlaceTarget}
+use Rattle.pr_start.specs.kr_view.declared.target.Reach.{Reach}
+use Rattle.pr_start.specs.kr_view.declared.target.Target.{Target}
+use Rattle.pr_start.proofs.kr_view.ReachLemmas.{covers_after}
 use Rattle.pr_start.specs.Beginning.{beginning, begun_at, first_of, fresh}
 use Rattle.pr_start.specs.Directory.{At, working_directory}
 use Rattle.pr_start.proofs.SearchLemmas.{directory-leads}
 use Rattle.pr_traced.specs.TracedBeginning as traced
 use Rattle.pr_traced.specs.TracedBeginning.{Tracing, begun_as, traced_beginning, tracing_of}
-use Rattle.pr_watch.specs.declared.watch.Watch.{Watch}
-use Rattle.pt_first.specs.GuestStart as guest
-use Rattle.pt_first.specs.GuestStart.{begun, run_from, started_at, tagged}
-use Rattle.pt_first.specs.Laws.{first_texts}
-use Rattle.pt_first.specs.declared.begun.Begun.{Begun}
-use Rattle.walks_agree.specs.Settled.{IsSettled}
+use Rattle.pr_start.specs.pr_watch.declared.watch.Watch.{Watch}
+use Rattle.pr_traced.specs.pt_first.GuestStart as guest
+use Rattle.pr_traced.specs.pt_first.GuestStart.{begun, run_from, started_at, tagged}
+use Rattle.pr_traced.specs.pt_first.Laws.{first_texts}
+use Rattle.pr_traced.specs.pt_first.declared.begun.Begun.{Begun}
+use Rattle.programs_agree.specs.walks_agree.Settled.{IsSettled}
 use Rattle.starts_match.specs.FirstStates.{IsOpening, first_tags}
 use Rattle.starts_match.specs.Plans.{planned_on_host}
 use Rattle.programs_agree.specs.Ending.{ResultsAlike}
@@ -137,7 +138,7 @@ module _ (table : List Row) (tree : Tree) (user : User) (watch : Watch) (ids : O
     first = first_of table tree user watch launch at path found
 
     abbrev walked : Reach
-    walked = reach_after (around table tree user) (directory_walk table tree user at.path) found
+    walked = reach_after (around table tree user) Look (directory_walk table tree user at.path) found
 
     abbrev reach : Reach
     reach = start_reach table tree user first
@@ -215,7 +216,7 @@ module _ (table : List Row) (tree : Tree) (user : User) (watch : Watch) (ids : O
   found-first : (found : Reach) (o : Option (List ℕ)) → found.longest ≤ (option_map_or (λ path. start_reach table tree user (first_of table tree user watch launch at path found)) o found).longest
   found-first found None = omega arith
   found-first found (Some path) =
-      let one = (covers_after (around table tree user) (directory_walk table tree user at.path) found).longest in
+      let one = (covers_after (around table tree user) Look (directory_walk table tree user at.path) found).longest in
       let more = plan-more table tree user base path args launch.env (walked path found) in
       let same = ap (λ (r : Reach). r.longest) (reach-is path found) in
       omega arith

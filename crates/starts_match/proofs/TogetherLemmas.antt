@@ -2,49 +2,49 @@
 use Rattle.std.proofs.Common.{◌≡◌, ℕ, Bool, true, false, ◌&&◌, List, Option, Some, None, Result, Ok, Err, refl, sym, ap, subst, ◌∙◌}
 use Rattle.std.specs.Bool.{if◌then◌else◌}
 use Rattle.std.proofs.lemmas.List.Elements.{All-head}
-use Rattle.pr_base.specs.Paths.{AreNames, IsName}
-use Rattle.pr_base.specs.Texts.{Text}
-use Rattle.pr_base.specs.declared.errno.Errno.{Errno}
-use Rattle.pr_base.specs.declared.errno.Errno.TheVariants.{ENOMEM}
-use Rattle.pt_script.specs.declared.expansion.Expanded.{Expanded as Shown}
-use Rattle.elf_read.specs.Rules.{first_broken}
-use Rattle.elf_read.specs.declared.fault.ElfFault.{ElfFault}
-use Rattle.kr_calls.specs.Expansion.{Expanded}
-use Rattle.kr_exec.specs.Exec.{file_plan, inode_at, plan_at, target_plan, unless_broken}
-use Rattle.kr_exec.specs.Finding.{is_program}
-use Rattle.kr_exec.specs.Interpreters.{bytes_at}
-use Rattle.kr_exec.specs.declared.plan.ExecPlan.{ExecPlan}
-use Rattle.kr_execve.specs.Executing.{IsLoadable}
-use Rattle.kr_execve.proofs.LoadingLemmas.{break-within}
-use Rattle.kr_first.specs.Starting.{exceeds, idle_state, process_of, started_with}
-use Rattle.kr_inode.specs.declared.user.User.{User}
-use Rattle.kr_inode.specs.declared.user.Right.TheVariants.{Search}
-use Rattle.kr_model.specs.Lawful.{IsNameOrNone, is_file_at}
-use Rattle.kr_model.specs.Walks.{and_then}
-use Rattle.kr_start.specs.Start.{CanBegin, First, started}
-use Rattle.kr_tree.specs.Rights.{may}
-use Rattle.kr_tree.specs.Tree.{Tree, body_is, is_file}
-use Rattle.kr_tree.specs.declared.place.Host.{Host}
-use Rattle.kr_tree.specs.declared.place.Host.TheVariants.{Node, Proc}
-use Rattle.kr_tree.specs.declared.place.Place.{Place}
-use Rattle.kr_turns.specs.Turn.{Machine}
-use Rattle.kr_view.specs.Component.{Namespace}
-use Rattle.kr_view.specs.HostReach.{host_place}
-use Rattle.kr_view.specs.InTree.{IsPlaceOf}
-use Rattle.kr_view.specs.Processes.{no_finds, no_leads}
-use Rattle.kr_view.specs.View.{Row, is_there, plain, row}
-use Rattle.kr_view.specs.declared.target.Reach.{Reach}
-use Rattle.kr_view.specs.declared.target.Target.{Target}
-use Rattle.kr_view.proofs.HostReachLemmas.{reached_names, reached_there}
-use Rattle.kr_view.proofs.ProcessLemmas.{no_processes}
+use Rattle.pr_start.specs.pr_base.Paths.{AreNames, IsName}
+use Rattle.pr_start.specs.pr_base.Texts.{Text}
+use Rattle.pr_start.specs.pr_base.declared.errno.Errno.{Errno}
+use Rattle.pr_start.specs.pr_base.declared.errno.Errno.TheVariants.{ENOMEM}
+use Rattle.programs_agree.specs.pt_script.declared.expansion.Expanded.{Expanded as Shown}
+use Rattle.pr_start.specs.elf_read.Rules.{first_broken}
+use Rattle.pr_start.specs.elf_read.declared.fault.ElfFault.{ElfFault}
+use Rattle.pr_start.specs.kr_calls.Expansion.{Expanded}
+use Rattle.pr_start.specs.kr_exec.Exec.{file_plan, inode_at, plan_at, target_plan, unless_broken}
+use Rattle.pr_start.specs.kr_exec.Finding.{is_program}
+use Rattle.pr_start.specs.kr_exec.Interpreters.{bytes_at}
+use Rattle.pr_start.specs.kr_exec.declared.plan.ExecPlan.{ExecPlan}
+use Rattle.programs_agree.specs.kr_execve.Executing.{IsLoadable}
+use Rattle.programs_agree.proofs.kr_execve.LoadingLemmas.{break-within}
+use Rattle.programs_agree.specs.kr_first.Starting.{exceeds, idle_state, process_of, started_with}
+use Rattle.pr_start.specs.kr_inode.declared.user.User.{User}
+use Rattle.pr_start.specs.kr_inode.declared.user.Right.TheVariants.{Search}
+use Rattle.programs_agree.specs.kr_model.Lawful.{IsNameOrNone, is_file_at}
+use Rattle.programs_agree.specs.kr_model.Walks.{and_then}
+use Rattle.pr_start.specs.kr_start.Start.{CanBegin, First, started}
+use Rattle.pr_start.specs.kr_tree.Rights.{may}
+use Rattle.pr_start.specs.kr_tree.Tree.{Tree, body_is, is_file}
+use Rattle.pr_start.specs.kr_tree.declared.place.Host.{Host}
+use Rattle.pr_start.specs.kr_tree.declared.place.Host.TheVariants.{Node, Proc}
+use Rattle.pr_start.specs.kr_tree.declared.place.Place.{Place}
+use Rattle.turns_match.specs.kr_turns.Turn.{Machine}
+use Rattle.pr_start.specs.kr_view.Component.{Namespace}
+use Rattle.pr_start.specs.kr_view.HostReach.{host_place}
+use Rattle.pr_start.specs.kr_view.InTree.{IsPlaceOf}
+use Rattle.pr_start.specs.kr_view.Processes.{no_finds, no_leads}
+use Rattle.pr_start.specs.kr_view.View.{Row, is_there, plain, row}
+use Rattle.pr_start.specs.kr_view.declared.target.Reach.{Reach}
+use Rattle.pr_start.specs.kr_view.declared.target.Target.{Target}
+use Rattle.pr_start.proofs.kr_view.HostReachLemmas.{reached_names, reached_there}
+use Rattle.pr_start.proofs.kr_view.ProcessLemmas.{no_processes}
 use Rattle.pr_start.specs.Beginning.{fresh}
 use Rattle.pr_traced.specs.TracedBeginning as traced
 use Rattle.pr_traced.specs.TracedBeginning.{Tracing}
-use Rattle.pr_watch.specs.declared.watch.Watch.{Watch}
-use Rattle.walks_agree.specs.Settled.{IsSettled, host_text}
-use Rattle.walks_agree.specs.Standing.{StandsOn}
-use Rattle.walks_agree.proofs.TableLemmas.{owned}
-use Rattle.places_stay.specs.Matching.{IsMatch}
+use Rattle.pr_start.specs.pr_watch.declared.watch.Watch.{Watch}
+use Rattle.programs_agree.specs.walks_agree.Settled.{IsSettled, host_text}
+use Rattle.programs_agree.specs.walks_agree.Standing.{StandsOn}
+use Rattle.programs_agree.proofs.walks_agree.TableLemmas.{owned}
+use Rattle.turns_match.specs.places_stay.Matching.{IsMatch}
 use Rattle.turns_match.specs.Runs.{GoTogether}
 use Rattle.starts_match.specs.FirstStates.{BeginsAt, IsOpening, first_state, first_tags, on_host}
 use Rattle.starts_match.specs.Plans.{plan_on_host, planned_on_host}

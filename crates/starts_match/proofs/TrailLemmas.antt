@@ -1,14 +1,14 @@
 -- The last look of a walk is in its trail.
 use Rattle.std.proofs.Common.{◌≡◌, ◌≢◌, ℕ, zero, suc, Bool, true, false, ◌||◌, List, [], ◌∷◌, ◌++◌, Option, Some, None, Ok, refl, sym, ap, subst, ◌∙◌}
 use Rattle.std.specs.Bool.{if◌then◌else◌}
-use Rattle.pr_base.specs.Paths.{Component, components_of, has_slash, kind_of}
-use Rattle.pr_base.specs.WalkFrame.{Fails, Jumps, Landing, Leads, Links, LookedAt, Looking, Missing, Onward, Seen, Target, Trail, after_look, along, at_last, begins_at, ends, ends_landed, fails, here, in_middle, is_followed, jumps_on, landed, loops, may_be_free, name_of, target_at, walk_on, wants_directory}
-use Rattle.pr_base.specs.WalkLaws.{Shows}
-use Rattle.pr_base.specs.declared.errno.Errno.{Errno}
-use Rattle.pr_base.specs.declared.errno.Errno.TheVariants.{ELOOP, ENOENT, ENOTDIR}
-use Rattle.pr_base.specs.declared.path.Last.TheVariants as last
-use Rattle.pr_base.specs.declared.path.WalkMode.{WalkMode}
-use Rattle.pr_base.proofs.EndLemmas.{same_target}
+use Rattle.pr_start.specs.pr_base.Paths.{Component, components_of, has_slash, kind_of}
+use Rattle.pr_start.specs.pr_base.WalkFrame.{Fails, Jumps, Landing, Leads, Links, LookedAt, Looking, Missing, Onward, Seen, Target, Trail, after_look, along, at_last, begins_at, ends, ends_landed, fails, here, in_middle, is_followed, jumps_on, landed, loops, may_be_free, name_of, target_at, walk_on, wants_directory}
+use Rattle.pr_start.specs.pr_base.WalkLaws.{Shows}
+use Rattle.pr_start.specs.pr_base.declared.errno.Errno.{Errno}
+use Rattle.pr_start.specs.pr_base.declared.errno.Errno.TheVariants.{ELOOP, ENOENT, ENOTDIR}
+use Rattle.pr_start.specs.pr_base.declared.path.Last.TheVariants as last
+use Rattle.pr_start.specs.pr_base.declared.path.WalkMode.{WalkMode}
+use Rattle.pr_start.proofs.pr_base.EndLemmas.{same_target}
 use Rattle.programs_agree.proofs.EndLemmas.{Each}
 
 -- `Q` is what holds of each look

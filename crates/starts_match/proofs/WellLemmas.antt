@@ -1,10 +1,10 @@
 -- What runs in the end is no script, and its arguments fit.
 use Rattle.std.proofs.Common.{◌≡◌, ◌≢◌, ℕ, zero, suc, Bool, true, false, List, [], Option, Some, None, Result, Ok, Err, refl}
 use Rattle.std.specs.Bool.{if◌then◌else◌}
-use Rattle.pr_base.specs.declared.errno.Errno.{Errno}
-use Rattle.pr_base.specs.declared.errno.Errno.TheVariants.{E2BIG, ELOOP}
-use Rattle.kr_calls.specs.Expansion.{Expanded, Finding, by_interpreter, by_line, expanded, is_script, is_too_big, new_args, runs}
-use Rattle.kr_calls.specs.Scripts.{script_of}
+use Rattle.pr_start.specs.pr_base.declared.errno.Errno.{Errno}
+use Rattle.pr_start.specs.pr_base.declared.errno.Errno.TheVariants.{E2BIG, ELOOP}
+use Rattle.pr_start.specs.kr_calls.Expansion.{Expanded, Finding, by_interpreter, by_line, expanded, is_script, is_too_big, new_args, runs}
+use Rattle.pr_start.specs.kr_calls.Scripts.{script_of}
 
 module _ {F : Type 0} (finding : Finding F) (env_bytes : ℕ) where
   pub record RunsWell (x : Expanded F) : Type 0 where

@@ -2,36 +2,36 @@
 use Rattle.std.proofs.Common.{◌≡◌, ◌≢◌, ℕ, Bool, true, false, List, [], Option, Some, None, Result, Ok, Err, refl, sym, ap, subst, ◌∙◌}
 use Rattle.std.specs.Prelude.{if◌then◌else◌}
 use Rattle.std.specs.Option.{option_and_then, unwrap_or}
-use Rattle.pr_base.specs.Alike.{Alike, OptionAlike, both, ends, errs, neither}
-use Rattle.pr_base.specs.Paths.{Dot, dot, text_of}
-use Rattle.pr_base.specs.Texts.{Text}
-use Rattle.pr_base.specs.WalkFrame.{Fails, Target, target_at}
-use Rattle.pr_base.specs.WalkLaws.{last_trail}
-use Rattle.pr_base.specs.declared.errno.Errno.{Errno}
-use Rattle.pr_base.specs.declared.errno.Errno.TheVariants.{EACCES, ENOTDIR}
-use Rattle.pr_base.specs.declared.path.WalkMode.TheVariants.{Look}
-use Rattle.pr_base.proofs.WalkLemmas.{walks_go_by_components}
-use Rattle.pt_bind.specs.Binding.{names_of}
-use Rattle.pt_bind.specs.Tags.{TagTable}
-use Rattle.pt_canon.specs.Canon.{canon_result}
-use Rattle.pt_canon.specs.TextWalk.{TextSurroundings, text_walk}
-use Rattle.pt_args.specs.Walks.{and_then}
-use Rattle.pt_script.specs.Programs.{canon_from}
-use Rattle.kr_inode.specs.declared.user.User.{User}
-use Rattle.kr_tree.specs.Tree.{Tree}
-use Rattle.kr_tree.specs.declared.place.Place.{Place}
-use Rattle.kr_view.specs.Component.{Namespace, Surroundings, is_directory_at, may_search, shows_directory}
-use Rattle.kr_view.specs.View.{Row, root_place}
-use Rattle.kr_view.specs.Walk.{PlaceTarget, looking, place_walk}
-use Rattle.kr_first.specs.Starting.{around, directory_found, if_directory, is_walked}
+use Rattle.pr_start.specs.pr_base.Alike.{Alike, OptionAlike, both, ends, errs, neither}
+use Rattle.pr_start.specs.pr_base.Paths.{Dot, dot, text_of}
+use Rattle.pr_start.specs.pr_base.Texts.{Text}
+use Rattle.pr_start.specs.pr_base.WalkFrame.{Fails, Target, target_at}
+use Rattle.pr_start.specs.pr_base.WalkLaws.{last_trail}
+use Rattle.pr_start.specs.pr_base.declared.errno.Errno.{Errno}
+use Rattle.pr_start.specs.pr_base.declared.errno.Errno.TheVariants.{EACCES, ENOTDIR}
+use Rattle.pr_start.specs.pr_base.declared.path.WalkMode.TheVariants.{Look}
+use Rattle.pr_start.proofs.pr_base.WalkLemmas.{walks_go_by_components}
+use Rattle.pr_traced.specs.pt_bind.Binding.{names_of}
+use Rattle.pr_traced.specs.pt_bind.Tags.{TagTable}
+use Rattle.pr_traced.specs.pt_canon.Canon.{canon_result}
+use Rattle.pr_traced.specs.pt_canon.TextWalk.{TextSurroundings, text_walk}
+use Rattle.programs_agree.specs.pt_args.Walks.{and_then}
+use Rattle.programs_agree.specs.pt_script.Programs.{canon_from}
+use Rattle.pr_start.specs.kr_inode.declared.user.User.{User}
+use Rattle.pr_start.specs.kr_tree.Tree.{Tree}
+use Rattle.pr_start.specs.kr_tree.declared.place.Place.{Place}
+use Rattle.pr_start.specs.kr_view.Component.{Namespace, Surroundings, is_directory_at, may_search, shows_directory}
+use Rattle.pr_start.specs.kr_view.View.{Row, root_place}
+use Rattle.pr_start.specs.kr_view.Walk.{PlaceTarget, looking, place_walk}
+use Rattle.programs_agree.specs.kr_first.Starting.{around, directory_found, if_directory, is_walked}
 use Rattle.pr_start.specs.Directory.{if_searchable, or_root, working_directory}
-use Rattle.pt_first.specs.GuestStart as guest
-use Rattle.pt_first.specs.GuestStart.{root_text, text_or_root}
-use Rattle.pt_first.specs.Laws.{first_texts}
-use Rattle.walks_agree.specs.Settled.{IsSettled}
-use Rattle.walks_agree.specs.Standing.{FoundStands, StandsOn, likeness}
-use Rattle.walks_agree.proofs.StandingLemmas.{roots_stand}
-use Rattle.walks_agree.proofs.TableLemmas.{root_directory}
+use Rattle.pr_traced.specs.pt_first.GuestStart as guest
+use Rattle.pr_traced.specs.pt_first.GuestStart.{root_text, text_or_root}
+use Rattle.pr_traced.specs.pt_first.Laws.{first_texts}
+use Rattle.programs_agree.specs.walks_agree.Settled.{IsSettled}
+use Rattle.programs_agree.specs.walks_agree.Standing.{FoundStands, StandsOn, likeness}
+use Rattle.programs_agree.proofs.walks_agree.StandingLemmas.{roots_stand}
+use Rattle.programs_agree.proofs.walks_agree.TableLemmas.{root_directory}
 use Rattle.starts_match.specs.Spaces.{first_space}
 use Rattle.starts_match.specs.Working.{StandsAt, WorkingDirectoriesAgree}
 use Rattle.starts_match.proofs.SceneLemmas.{look-finds, spelled, walk-alike}

@@ -1,25 +1,25 @@
 -- The states in which the first process begins: on a kernel with mounts, and on the plain kernel at the same objects of the host.
 use Rattle.std.specs.FinMap as map
 use Rattle.std.specs.Prelude.{ℕ, List}
-use Rattle.pr_base.specs.Texts.{Text}
-use Rattle.pt_bind.specs.Binding.{index_of}
-use Rattle.pt_bind.specs.Tags.{TagTable, with_tag}
-use Rattle.pt_bind.specs.declared.slot.Slot.TheVariants as slot
-use Rattle.kr_inode.specs.declared.user.User.{User}
-use Rattle.kr_tree.specs.Lawful.{IsKept}
-use Rattle.kr_tree.specs.Tree.{Tree}
-use Rattle.kr_tree.specs.declared.place.Host.TheVariants.{Node}
-use Rattle.kr_view.specs.HostReach.{host_place}
-use Rattle.kr_view.specs.View.{Row, plain}
-use Rattle.kr_mounts.specs.Standing.{texts_of}
-use Rattle.kr_model.specs.State.{Image, State}
-use Rattle.kr_perform.specs.Lawful.{LastsLawful}
-use Rattle.kr_start.specs.Start.{CanBegin, First, first_pid, pinned, started, without_processes}
-use Rattle.kr_stage.specs.Ready.{IsPrepared}
-use Rattle.walks_agree.specs.Settled.{host_text}
-use Rattle.walks_agree.specs.Standing.{IsEntryAt, StandsOn}
-use Rattle.places_stay.specs.Matching.{IsMatch}
-use Rattle.places_stay.specs.Standing.{AreSourcesNamed}
+use Rattle.pr_start.specs.pr_base.Texts.{Text}
+use Rattle.pr_traced.specs.pt_bind.Binding.{index_of}
+use Rattle.pr_traced.specs.pt_bind.Tags.{TagTable, with_tag}
+use Rattle.pr_traced.specs.pt_bind.declared.slot.Slot.TheVariants as slot
+use Rattle.pr_start.specs.kr_inode.declared.user.User.{User}
+use Rattle.pr_start.specs.kr_tree.Lawful.{IsKept}
+use Rattle.pr_start.specs.kr_tree.Tree.{Tree}
+use Rattle.pr_start.specs.kr_tree.declared.place.Host.TheVariants.{Node}
+use Rattle.pr_start.specs.kr_view.HostReach.{host_place}
+use Rattle.pr_start.specs.kr_view.View.{Row, plain}
+use Rattle.pr_start.specs.kr_mounts.Standing.{texts_of}
+use Rattle.programs_agree.specs.kr_model.State.{Image, State}
+use Rattle.programs_agree.specs.kr_perform.Lawful.{LastsLawful}
+use Rattle.pr_start.specs.kr_start.Start.{CanBegin, First, first_pid, pinned, started, without_processes}
+use Rattle.pr_start.specs.kr_stage.Ready.{IsPrepared}
+use Rattle.programs_agree.specs.walks_agree.Settled.{host_text}
+use Rattle.programs_agree.specs.walks_agree.Standing.{IsEntryAt, StandsOn}
+use Rattle.turns_match.specs.places_stay.Matching.{IsMatch}
+use Rattle.turns_match.specs.places_stay.Standing.{AreSourcesNamed}
 use Rattle.programs_agree.specs.Images.{IsImage}
 use Rattle.starts_match.specs.Spaces.{first_space}
 

@@ -1,12 +1,12 @@
 -- What settling bindings leaves for a beginning, beside what makes it ready: each source's entry.
 use Rattle.std.specs.Prelude.{◌≡◌, ℕ, List, Ok}
-use Rattle.pr_base.specs.declared.bind.Bind.{Bind}
-use Rattle.kr_inode.specs.declared.user.User.{User}
-use Rattle.kr_mounts.specs.MountTable.{settling}
-use Rattle.kr_tree.specs.Lawful.{IsCounted, IsSound}
-use Rattle.kr_tree.specs.Tree.{Tree}
-use Rattle.kr_view.specs.View.{Row}
-use Rattle.places_stay.specs.Standing.{AreSourcesNamed}
+use Rattle.pr_start.specs.pr_base.declared.bind.Bind.{Bind}
+use Rattle.pr_start.specs.kr_inode.declared.user.User.{User}
+use Rattle.pr_start.specs.kr_mounts.MountTable.{settling}
+use Rattle.pr_start.specs.kr_tree.Lawful.{IsCounted, IsSound}
+use Rattle.pr_start.specs.kr_tree.Tree.{Tree}
+use Rattle.pr_start.specs.kr_view.View.{Row}
+use Rattle.turns_match.specs.places_stay.Standing.{AreSourcesNamed}
 
 -- the source of each mount is the entry at which it was settled, that of a directory too
 abbrev pub SettledSourcesAreNamed : Type 0

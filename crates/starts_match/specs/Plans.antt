@@ -1,22 +1,22 @@
 -- What the plain kernel makes of what it is handed: the working directory and the program of the kernel with mounts, on the host alone.
 use Rattle.std.specs.Prelude.{◌≡◌, ◌<◌, ℕ, true, false, List, Some, Result, Ok, Err}
-use Rattle.pr_base.specs.Paths.{text_of}
-use Rattle.pr_base.specs.Texts.{Text}
-use Rattle.pr_base.specs.declared.errno.Errno.{Errno}
-use Rattle.pt_script.specs.declared.program.Program.{Program}
-use Rattle.kr_calls.specs.Expansion.{is_script}
-use Rattle.kr_exec.specs.Exec.{are_too_big, target_plan}
-use Rattle.kr_exec.specs.declared.plan.ExecPlan.{ExecPlan}
-use Rattle.kr_first.specs.Starting.{directory_at, plan_of}
-use Rattle.kr_inode.specs.declared.user.User.{User}
-use Rattle.kr_tree.specs.Tree.{Tree}
-use Rattle.kr_tree.specs.declared.place.Place.{Place}
-use Rattle.kr_view.specs.Component.{is_directory_at}
-use Rattle.kr_view.specs.HostReach.{host_place}
-use Rattle.kr_view.specs.View.{Row, plain}
-use Rattle.kr_view.specs.declared.target.Target.{Target}
-use Rattle.walks_agree.specs.Settled.{IsSettled, host_text}
-use Rattle.walks_agree.specs.Standing.{StandsOn}
+use Rattle.pr_start.specs.pr_base.Paths.{text_of}
+use Rattle.pr_start.specs.pr_base.Texts.{Text}
+use Rattle.pr_start.specs.pr_base.declared.errno.Errno.{Errno}
+use Rattle.programs_agree.specs.pt_script.declared.program.Program.{Program}
+use Rattle.pr_start.specs.kr_calls.Expansion.{is_script}
+use Rattle.pr_start.specs.kr_exec.Exec.{are_too_big, target_plan}
+use Rattle.pr_start.specs.kr_exec.declared.plan.ExecPlan.{ExecPlan}
+use Rattle.programs_agree.specs.kr_first.Starting.{directory_at, plan_of}
+use Rattle.pr_start.specs.kr_inode.declared.user.User.{User}
+use Rattle.pr_start.specs.kr_tree.Tree.{Tree}
+use Rattle.pr_start.specs.kr_tree.declared.place.Place.{Place}
+use Rattle.pr_start.specs.kr_view.Component.{is_directory_at}
+use Rattle.pr_start.specs.kr_view.HostReach.{host_place}
+use Rattle.pr_start.specs.kr_view.View.{Row, plain}
+use Rattle.pr_start.specs.kr_view.declared.target.Target.{Target}
+use Rattle.programs_agree.specs.walks_agree.Settled.{IsSettled, host_text}
+use Rattle.programs_agree.specs.walks_agree.Standing.{StandsOn}
 use Rattle.starts_match.specs.Programs.{IsSameProgram}
 use Rattle.starts_match.specs.Spaces.{first_space}
 

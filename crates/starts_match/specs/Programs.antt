@@ -1,29 +1,30 @@
 -- What both machines find of a program: the kernel with mounts a place, and a tracer its guest text.
 use Rattle.std.specs.Prelude.{◌≡◌, ◌≤◌, ℕ, true, List, Some, Result, Ok, Err}
-use Rattle.pr_base.specs.Paths.{text_of}
-use Rattle.pr_base.specs.Texts.{Text}
-use Rattle.pr_base.specs.declared.errno.Errno.{Errno}
-use Rattle.pt_bind.specs.Binding.{index_of}
-use Rattle.pt_bind.specs.Tags.{TagTable}
-use Rattle.pt_script.specs.Programs.{program_from}
-use Rattle.pt_script.specs.declared.program.Program.{Program}
-use Rattle.kr_exec.specs.Exec.{entry_of}
-use Rattle.kr_exec.specs.Finding.{is_program, program_at, program_walk}
-use Rattle.kr_exec.specs.Interpreters.{head_of, told_program}
-use Rattle.kr_first.specs.Starting.{around}
-use Rattle.kr_inode.specs.declared.user.User.{User}
-use Rattle.kr_mounts.specs.Standing.{texts_of}
-use Rattle.kr_tree.specs.Tree.{Tree}
-use Rattle.kr_tree.specs.declared.place.Host.TheVariants.{Node}
-use Rattle.kr_tree.specs.declared.place.Place.{Place}
-use Rattle.kr_view.specs.Reach.{reach_after, text_length}
-use Rattle.kr_view.specs.View.{Row}
-use Rattle.kr_view.specs.declared.target.Reach.{Reach}
-use Rattle.kr_view.specs.declared.target.Target.{Target}
-use Rattle.pt_first.specs.Laws.{first_texts}
+use Rattle.pr_start.specs.pr_base.Paths.{text_of}
+use Rattle.pr_start.specs.pr_base.Texts.{Text}
+use Rattle.pr_start.specs.pr_base.declared.errno.Errno.{Errno}
+use Rattle.pr_start.specs.pr_base.declared.path.WalkMode.TheVariants.{Look}
+use Rattle.pr_traced.specs.pt_bind.Binding.{index_of}
+use Rattle.pr_traced.specs.pt_bind.Tags.{TagTable}
+use Rattle.programs_agree.specs.pt_script.Programs.{program_from}
+use Rattle.programs_agree.specs.pt_script.declared.program.Program.{Program}
+use Rattle.pr_start.specs.kr_exec.Exec.{entry_of}
+use Rattle.pr_start.specs.kr_exec.Finding.{is_program, program_at, program_walk}
+use Rattle.pr_start.specs.kr_exec.Interpreters.{head_of, told_program}
+use Rattle.programs_agree.specs.kr_first.Starting.{around}
+use Rattle.pr_start.specs.kr_inode.declared.user.User.{User}
+use Rattle.pr_start.specs.kr_mounts.Standing.{texts_of}
+use Rattle.pr_start.specs.kr_tree.Tree.{Tree}
+use Rattle.pr_start.specs.kr_tree.declared.place.Host.TheVariants.{Node}
+use Rattle.pr_start.specs.kr_tree.declared.place.Place.{Place}
+use Rattle.pr_start.specs.kr_view.Reach.{reach_after, text_length}
+use Rattle.pr_start.specs.kr_view.View.{Row}
+use Rattle.pr_start.specs.kr_view.declared.target.Reach.{Reach}
+use Rattle.pr_start.specs.kr_view.declared.target.Target.{Target}
+use Rattle.pr_traced.specs.pt_first.Laws.{first_texts}
 use Rattle.programs_agree.specs.Ending.{ResultsAlike}
-use Rattle.walks_agree.specs.Settled.{IsSettled, host_text}
-use Rattle.walks_agree.specs.Standing.{IsEntryAt, StandsOn}
+use Rattle.programs_agree.specs.walks_agree.Settled.{IsSettled, host_text}
+use Rattle.programs_agree.specs.walks_agree.Standing.{IsEntryAt, StandsOn}
 use Rattle.starts_match.specs.Spaces.{first_space}
 use Rattle.starts_match.specs.Working.{StandsAt}
 
@@ -45,5 +46,5 @@ pub record IsSameProgram (table : List Row) (tree : Tree) (user : User) (most : 
 abbrev pub ProgramsAgree : Type 0
 ProgramsAgree =
     (table : List Row) (tree : Tree) (user : User) (tags : TagTable) (base : Place ℕ) (working path : List ℕ) (most : ℕ) (r : Reach) → IsSettled (first_space table tree user) → StandsAt table tree user base working
-    → (reach_after (around table tree user) (program_walk (around table tree user) base path) r).longest ≤ most
+    → (reach_after (around table tree user) Look (program_walk (around table tree user) base path) r).longest ≤ most
     → ResultsAlike (IsSameProgram table tree user most) (told_program (program_at (around table tree user) base path)) (program_from (first_texts table tree user tags) (Some working) path)

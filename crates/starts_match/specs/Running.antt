@@ -1,25 +1,25 @@
 -- The program that runs in the end, with its arguments, behind the tests of execve(2) in their order: on both machines the same one.
 use Rattle.std.specs.Prelude.{◌≡◌, ◌≢◌, ◌≤◌, ◌<◌, ℕ, false, List, [], Result, Err, if◌then◌else◌}
-use Rattle.pr_base.specs.declared.errno.Errno.{Errno}
-use Rattle.pr_base.specs.declared.errno.Errno.TheVariants.{E2BIG}
-use Rattle.pt_bind.specs.Tags.{TagTable}
-use Rattle.pt_script.specs.declared.expansion.Expanded.{Expanded as Shown}
-use Rattle.pt_script.specs.declared.program.Program.{Program}
-use Rattle.kr_calls.specs.Expansion.{Expanded, bytes_with_ends, expanded, is_script, most_scripts}
-use Rattle.kr_exec.specs.Exec.{are_too_big}
-use Rattle.kr_exec.specs.Interpreters.{programs}
-use Rattle.kr_first.specs.Starting.{around, found_from, plan_reach}
-use Rattle.kr_inode.specs.declared.user.User.{User}
-use Rattle.kr_model.specs.Walks.{and_then}
-use Rattle.kr_tree.specs.Tree.{Tree}
-use Rattle.kr_tree.specs.declared.place.Place.{Place}
-use Rattle.kr_view.specs.Answers.{told}
-use Rattle.kr_view.specs.View.{Row}
-use Rattle.kr_view.specs.declared.target.Reach.{Reach}
-use Rattle.kr_view.specs.declared.target.Target.{Target}
-use Rattle.pt_first.specs.GuestStart.{run_from}
-use Rattle.pt_first.specs.Laws.{first_texts}
-use Rattle.walks_agree.specs.Settled.{IsSettled}
+use Rattle.pr_start.specs.pr_base.declared.errno.Errno.{Errno}
+use Rattle.pr_start.specs.pr_base.declared.errno.Errno.TheVariants.{E2BIG}
+use Rattle.pr_traced.specs.pt_bind.Tags.{TagTable}
+use Rattle.programs_agree.specs.pt_script.declared.expansion.Expanded.{Expanded as Shown}
+use Rattle.programs_agree.specs.pt_script.declared.program.Program.{Program}
+use Rattle.pr_start.specs.kr_calls.Expansion.{Expanded, bytes_with_ends, expanded, is_script, most_scripts}
+use Rattle.pr_start.specs.kr_exec.Exec.{are_too_big}
+use Rattle.pr_start.specs.kr_exec.Interpreters.{programs}
+use Rattle.programs_agree.specs.kr_first.Starting.{around, found_from, plan_reach}
+use Rattle.pr_start.specs.kr_inode.declared.user.User.{User}
+use Rattle.programs_agree.specs.kr_model.Walks.{and_then}
+use Rattle.pr_start.specs.kr_tree.Tree.{Tree}
+use Rattle.pr_start.specs.kr_tree.declared.place.Place.{Place}
+use Rattle.pr_start.specs.kr_view.Answers.{told}
+use Rattle.pr_start.specs.kr_view.View.{Row}
+use Rattle.pr_start.specs.kr_view.declared.target.Reach.{Reach}
+use Rattle.pr_start.specs.kr_view.declared.target.Target.{Target}
+use Rattle.pr_traced.specs.pt_first.GuestStart.{run_from}
+use Rattle.pr_traced.specs.pt_first.Laws.{first_texts}
+use Rattle.programs_agree.specs.walks_agree.Settled.{IsSettled}
 use Rattle.programs_agree.specs.Ending.{ResultsAlike}
 use Rattle.starts_match.specs.Programs.{IsSameProgram}
 use Rattle.starts_match.specs.Spaces.{first_space}

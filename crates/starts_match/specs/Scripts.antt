@@ -1,19 +1,19 @@
 -- What runs in the end, behind the scripts of a program: the same program on both machines, with the same arguments.
 use Rattle.std.specs.Prelude.{◌≡◌, ◌≤◌, ℕ, List, Some}
-use Rattle.pt_bind.specs.Tags.{TagTable}
-use Rattle.pt_script.specs.Programs as texts
-use Rattle.pt_script.specs.declared.program.Program.{Program}
-use Rattle.kr_calls.specs.Expansion.{expanded, most_scripts}
-use Rattle.kr_exec.specs.Interpreters.{interpreters, programs, walks_reach}
-use Rattle.kr_first.specs.Starting.{around}
-use Rattle.kr_inode.specs.declared.user.User.{User}
-use Rattle.kr_tree.specs.Tree.{Tree}
-use Rattle.kr_tree.specs.declared.place.Place.{Place}
-use Rattle.kr_view.specs.View.{Row}
-use Rattle.kr_view.specs.declared.target.Reach.{Reach}
-use Rattle.kr_view.specs.declared.target.Target.{Target}
-use Rattle.pt_first.specs.Laws.{first_texts}
-use Rattle.walks_agree.specs.Settled.{IsSettled}
+use Rattle.pr_traced.specs.pt_bind.Tags.{TagTable}
+use Rattle.programs_agree.specs.pt_script.Programs as texts
+use Rattle.programs_agree.specs.pt_script.declared.program.Program.{Program}
+use Rattle.pr_start.specs.kr_calls.Expansion.{expanded, most_scripts}
+use Rattle.pr_start.specs.kr_exec.Interpreters.{interpreters, programs, walks_reach}
+use Rattle.programs_agree.specs.kr_first.Starting.{around}
+use Rattle.pr_start.specs.kr_inode.declared.user.User.{User}
+use Rattle.pr_start.specs.kr_tree.Tree.{Tree}
+use Rattle.pr_start.specs.kr_tree.declared.place.Place.{Place}
+use Rattle.pr_start.specs.kr_view.View.{Row}
+use Rattle.pr_start.specs.kr_view.declared.target.Reach.{Reach}
+use Rattle.pr_start.specs.kr_view.declared.target.Target.{Target}
+use Rattle.pr_traced.specs.pt_first.Laws.{first_texts}
+use Rattle.programs_agree.specs.walks_agree.Settled.{IsSettled}
 use Rattle.programs_agree.specs.Ending.{EndAlike, ResultsAlike}
 use Rattle.starts_match.specs.Programs.{IsSameProgram}
 use Rattle.starts_match.specs.Spaces.{first_space}

@@ -1,10 +1,10 @@
 -- What walks go through before a process lives.
 use Rattle.std.specs.Prelude.{List}
-use Rattle.kr_inode.specs.declared.user.User.{User}
-use Rattle.kr_tree.specs.Tree.{Tree}
-use Rattle.kr_view.specs.Component.{Namespace}
-use Rattle.kr_view.specs.Processes.{no_finds}
-use Rattle.kr_view.specs.View.{Row}
+use Rattle.pr_start.specs.kr_inode.declared.user.User.{User}
+use Rattle.pr_start.specs.kr_tree.Tree.{Tree}
+use Rattle.pr_start.specs.kr_view.Component.{Namespace}
+use Rattle.pr_start.specs.kr_view.Processes.{no_finds}
+use Rattle.pr_start.specs.kr_view.View.{Row}
 
 abbrev pub first_space : List Row → Tree → User → Namespace
 first_space table tree user = record { table = table; tree = tree; user = user; finds = no_finds }

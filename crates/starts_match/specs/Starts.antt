@@ -1,23 +1,23 @@
 -- What the same words come to on both machines: the same error, or machines that go together.
 use Rattle.std.specs.Prelude.{◌≡◌, ℕ, List, Option, None, Result, Ok, Err}
 use Rattle.std.specs.Option.{option_map_or}
-use Rattle.pr_base.specs.declared.errno.Errno.{Errno}
-use Rattle.pr_command.specs.Command.{word_of}
-use Rattle.pr_command.specs.declared.launch.Launch.{Launch}
-use Rattle.pt_bind.specs.Tags.{TagTable}
-use Rattle.kr_calm.specs.Calm.{broken_at_start}
-use Rattle.kr_first.specs.Starting.{start_reach}
-use Rattle.kr_inode.specs.declared.user.User.{User}
-use Rattle.kr_mounts.specs.Standing.{texts_of}
-use Rattle.kr_tree.specs.Tree.{Tree}
-use Rattle.kr_turns.specs.Turn.{Machine}
-use Rattle.kr_view.specs.View.{Row}
-use Rattle.kr_view.specs.declared.target.Reach.{Reach}
+use Rattle.pr_start.specs.pr_base.declared.errno.Errno.{Errno}
+use Rattle.pr_start.specs.pr_command.Command.{word_of}
+use Rattle.pr_start.specs.pr_command.declared.launch.Launch.{Launch}
+use Rattle.pr_traced.specs.pt_bind.Tags.{TagTable}
+use Rattle.turns_match.specs.kr_calm.Calm.{broken_at_start}
+use Rattle.programs_agree.specs.kr_first.Starting.{start_reach}
+use Rattle.pr_start.specs.kr_inode.declared.user.User.{User}
+use Rattle.pr_start.specs.kr_mounts.Standing.{texts_of}
+use Rattle.pr_start.specs.kr_tree.Tree.{Tree}
+use Rattle.turns_match.specs.kr_turns.Turn.{Machine}
+use Rattle.pr_start.specs.kr_view.View.{Row}
+use Rattle.pr_start.specs.kr_view.declared.target.Reach.{Reach}
 use Rattle.pr_start.specs.Beginning.{beginning, first_of, nowhere}
 use Rattle.pr_start.specs.Command.{Chosen, chosen}
 use Rattle.pr_start.specs.Directory.{directory_reach, working_directory}
 use Rattle.pr_traced.specs.TracedBeginning.{Tracing, traced_beginning}
-use Rattle.pr_watch.specs.declared.watch.Watch.{Watch}
+use Rattle.pr_start.specs.pr_watch.declared.watch.Watch.{Watch}
 use Rattle.turns_match.specs.Runs.{GoTogether}
 use Rattle.starts_match.specs.FirstStates.{IsOpening}
 

@@ -1,18 +1,18 @@
 -- Where the first working directory is: a directory of the mounts, and the guest text that a tracer's walk gives.
 use Rattle.std.specs.Prelude.{◌≡◌, ℕ, true, List}
-use Rattle.pr_base.specs.Paths.{text_of}
-use Rattle.pr_base.specs.Texts.{Text}
-use Rattle.pt_bind.specs.Tags.{TagTable}
-use Rattle.kr_inode.specs.declared.user.User.{User}
-use Rattle.kr_tree.specs.Tree.{Tree}
-use Rattle.kr_tree.specs.declared.place.Place.{Place}
-use Rattle.kr_view.specs.Component.{is_directory_at}
-use Rattle.kr_view.specs.View.{Row}
+use Rattle.pr_start.specs.pr_base.Paths.{text_of}
+use Rattle.pr_start.specs.pr_base.Texts.{Text}
+use Rattle.pr_traced.specs.pt_bind.Tags.{TagTable}
+use Rattle.pr_start.specs.kr_inode.declared.user.User.{User}
+use Rattle.pr_start.specs.kr_tree.Tree.{Tree}
+use Rattle.pr_start.specs.kr_tree.declared.place.Place.{Place}
+use Rattle.pr_start.specs.kr_view.Component.{is_directory_at}
+use Rattle.pr_start.specs.kr_view.View.{Row}
 use Rattle.pr_start.specs.Directory.{working_directory}
-use Rattle.pt_first.specs.GuestStart as guest
-use Rattle.pt_first.specs.Laws.{first_texts}
-use Rattle.walks_agree.specs.Settled.{IsSettled}
-use Rattle.walks_agree.specs.Standing.{StandsOn}
+use Rattle.pr_traced.specs.pt_first.GuestStart as guest
+use Rattle.pr_traced.specs.pt_first.Laws.{first_texts}
+use Rattle.programs_agree.specs.walks_agree.Settled.{IsSettled}
+use Rattle.programs_agree.specs.walks_agree.Standing.{StandsOn}
 use Rattle.starts_match.specs.Spaces.{first_space}
 
 -- a directory stands at the guest text that bytes spell

@@ -1,26 +1,26 @@
 -- Calls along paths, with their stops, where an identity is told.
 use Rattle.std.proofs.Common.{◌≡◌, ℕ, Bool, true, List, Option, Some, None, Ok, Err, refl, sym, ap, subst, ◌∙◌}
 use Rattle.std.specs.Prelude.{IsSome}
-use Rattle.pr_base.specs.declared.errno.Errno.{Errno}
-use Rattle.pt_ident.specs.Identity.{Identity, effect}
-use Rattle.pt_ident.specs.IdentityTable.{identity_at}
-use Rattle.kr_view.specs.View.{Row, plain}
-use Rattle.kr_calls.specs.Decoding.{Decoded}
-use Rattle.kr_calls.specs.declared.request.Request.{Request}
-use Rattle.kr_calls.specs.declared.request.Request.TheVariants as call
-use Rattle.kr_model.specs.Known.{known}
-use Rattle.kr_model.specs.State.{Image, Process, State, image_layout, process}
-use Rattle.kr_model.specs.Walks.{seen}
-use Rattle.kr_seen.specs.Carrying.{memory_of}
-use Rattle.kr_turns.specs.PlainCall.{Came, child_of, end_of, plain_call}
-use Rattle.kr_turns.specs.Stopped.{Stopped}
-use Rattle.kr_turns.specs.Turn.{Machine, called, calling, watched_call}
-use Rattle.kr_turns.specs.Watching.{unwatched}
-use Rattle.kr_turns.proofs.PlainLemmas.{no-exec-requested}
+use Rattle.turns_match.specs.pr_base.declared.errno.Errno.{Errno}
+use Rattle.shown_alike.specs.pt_ident.Identity.{Identity, effect}
+use Rattle.shown_alike.specs.pt_ident.IdentityTable.{identity_at}
+use Rattle.walks_bare.specs.kr_view.View.{Row, plain}
+use Rattle.pt_args.specs.kr_calls.Decoding.{Decoded}
+use Rattle.pt_args.specs.kr_calls.declared.request.Request.{Request}
+use Rattle.pt_args.specs.kr_calls.declared.request.Request.TheVariants as call
+use Rattle.walks_bare.specs.kr_model.Known.{known}
+use Rattle.walks_bare.specs.kr_model.State.{Image, Process, State, image_layout, process}
+use Rattle.walks_bare.specs.kr_model.Walks.{seen}
+use Rattle.images_apart.specs.kr_seen.Carrying.{memory_of}
+use Rattle.turns_match.specs.kr_turns.PlainCall.{Came, child_of, end_of, plain_call}
+use Rattle.turns_match.specs.kr_turns.Stopped.{Stopped}
+use Rattle.turns_match.specs.kr_turns.Turn.{Machine, called, calling, watched_call}
+use Rattle.turns_match.specs.kr_turns.Watching.{unwatched}
+use Rattle.turns_match.proofs.kr_turns.PlainLemmas.{no-exec-requested}
 use Rattle.images_apart.specs.Paths.{is_told_of_paths}
 use Rattle.images_apart.proofs.CallLemmas.{path_calls_answer}
-use Rattle.pt_tracer.specs.Faking.{Faking, due_of, faker, is_root}
-use Rattle.pt_tracer.specs.Stopping.{after_request, decoded_at}
+use Rattle.shown_alike.specs.pt_tracer.Faking.{Faking, due_of, faker, is_root}
+use Rattle.shown_alike.specs.pt_tracer.Stopping.{after_request, decoded_at}
 use Rattle.swaps_read.specs.pt_watched.Planning.{planned}
 use Rattle.swaps_read.specs.pt_watched.Watched.{Tracing, tracer}
 use Rattle.turns_match.specs.Calls.{decoded_by, decoded_in}

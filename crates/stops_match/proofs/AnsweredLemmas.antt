@@ -4,55 +4,55 @@ use Rattle.std.proofs.Common.{◌≡◌, ℕ, suc, Bool, true, false, cond, List
 use Rattle.std.specs.Prelude.{◌==◌, IsSome, slice_set}
 use Rattle.std.specs.Int.{cast_signed, w64}
 use Rattle.std.specs.Option.{option_map}
-use Rattle.pr_base.proofs.MapLemmas.{get-insert_same}
-use Rattle.pr_base.specs.declared.errno.Errno.{Errno}
-use Rattle.pr_base.specs.declared.errno.Errno.TheVariants.{ENOSYS}
-use Rattle.rv_mem.specs.Actions.{AreEqualUnmarked, carried_out}
-use Rattle.rv_mem.specs.Layout.{layout_of}
-use Rattle.rv_mem.specs.Memory.{Memory}
-use Rattle.rv_mem.specs.Pages.{IsPlaced, IsWhole}
-use Rattle.rv_mem.specs.declared.regs.Regs.{Regs}
-use Rattle.pt_bind.specs.Tags.{TagTable}
-use Rattle.pt_ident.specs.Identity.{refusal}
+use Rattle.turns_match.proofs.pr_base.MapLemmas.{get-insert_same}
+use Rattle.turns_match.specs.pr_base.declared.errno.Errno.{Errno}
+use Rattle.turns_match.specs.pr_base.declared.errno.Errno.TheVariants.{ENOSYS}
+use Rattle.pt_args.specs.rv_mem.Actions.{AreEqualUnmarked, carried_out}
+use Rattle.pt_args.specs.rv_mem.Layout.{layout_of}
+use Rattle.pt_args.specs.rv_mem.Memory.{Memory}
+use Rattle.pt_args.specs.rv_mem.Pages.{IsPlaced, IsWhole}
+use Rattle.pt_args.specs.rv_mem.declared.regs.Regs.{Regs}
+use Rattle.pt_args.specs.pt_bind.Tags.{TagTable}
+use Rattle.shown_alike.specs.pt_ident.Identity.{refusal}
 use Rattle.pt_args.specs.declared.edit.Edit.TheVariants.{Cancel}
-use Rattle.pt_results.specs.Numbers.{made_number}
-use Rattle.pt_results.specs.Notes.{noted, noted_of, tags_after}
-use Rattle.kr_view.specs.View.{Row, plain}
-use Rattle.kr_calls.specs.Decoding.{decoding}
-use Rattle.kr_calls.specs.PathTable.{path_at}
-use Rattle.kr_calls.specs.declared.request.Request.{Request}
-use Rattle.kr_calls.specs.declared.request.Request.TheVariants as call
-use Rattle.kr_lawful.proofs.ProcessChangeLemmas.{found}
-use Rattle.kr_model.specs.Applied.{all_applied, images, with_living}
-use Rattle.kr_model.specs.Known.{known}
-use Rattle.kr_model.specs.Operation.{operation}
-use Rattle.kr_model.specs.Reply.{Replying, Reply, refuse}
-use Rattle.kr_model.specs.State.{Image, Process, State, at_pid, image_layout, process, with_process}
-use Rattle.kr_model.specs.Walks.{seen, targets_of}
-use Rattle.kr_model.specs.declared.outcome.Outcome.TheVariants.{Answer}
-use Rattle.kr_allowed.proofs.DecodedLemmas.{decoding-leaves-pages}
-use Rattle.kr_allowed.proofs.RowLemmas.{StaysLike, lawful-image, stays-like}
-use Rattle.kr_allowed.specs.Told.{mounts_walked}
-use Rattle.kr_seen.specs.Carrying.{memory_of, with_memory_of}
-use Rattle.kr_steps.specs.Answering.{answered, going, with_answer}
-use Rattle.kr_steps.specs.Calls.{IsNoExec, LastsLawful}
-use Rattle.kr_steps.specs.Computing.{computed}
-use Rattle.kr_steps.specs.Settling.{settled}
-use Rattle.kr_turns.specs.PlainCall.{Came, child_of, end_of, operated, plain_call, refusal_told}
-use Rattle.kr_turns.specs.Stopped.{IsThere, Stopped, edited, image_at}
-use Rattle.kr_turns.specs.Turn.{Machine, Tally, after_born, after_end, after_exit, after_plain, called, watched_call}
-use Rattle.kr_turns.specs.Watching.{unwatched}
-use Rattle.kr_turns.proofs.EditLemmas.{edited-twice, image-edited, there}
-use Rattle.kr_turns.proofs.PlainLemmas.{no-exec-requested}
-use Rattle.pt_tracer.specs.Stopping.{after_request, decoded_at}
-use Rattle.pt_tracer.specs.Faking.{no_longer_called, word_of}
+use Rattle.swaps_read.specs.pt_results.Numbers.{made_number}
+use Rattle.swaps_read.specs.pt_results.Notes.{noted, noted_of, tags_after}
+use Rattle.walks_bare.specs.kr_view.View.{Row, plain}
+use Rattle.pt_args.specs.kr_calls.Decoding.{decoding}
+use Rattle.pt_args.specs.kr_calls.PathTable.{path_at}
+use Rattle.pt_args.specs.kr_calls.declared.request.Request.{Request}
+use Rattle.pt_args.specs.kr_calls.declared.request.Request.TheVariants as call
+use Rattle.turns_match.proofs.kr_lawful.ProcessChangeLemmas.{found}
+use Rattle.walks_bare.specs.kr_model.Applied.{all_applied, images, with_living}
+use Rattle.walks_bare.specs.kr_model.Known.{known}
+use Rattle.walks_bare.specs.kr_model.Operation.{operation}
+use Rattle.walks_bare.specs.kr_model.Reply.{Replying, Reply, refuse}
+use Rattle.walks_bare.specs.kr_model.State.{Image, Process, State, at_pid, image_layout, process, with_process}
+use Rattle.walks_bare.specs.kr_model.Walks.{seen, targets_of}
+use Rattle.walks_bare.specs.kr_model.declared.outcome.Outcome.TheVariants.{Answer}
+use Rattle.turns_match.proofs.kr_allowed.DecodedLemmas.{decoding-leaves-pages}
+use Rattle.turns_match.proofs.kr_allowed.RowLemmas.{StaysLike, lawful-image, stays-like}
+use Rattle.turns_match.specs.kr_allowed.Told.{mounts_walked}
+use Rattle.images_apart.specs.kr_seen.Carrying.{memory_of, with_memory_of}
+use Rattle.images_apart.specs.kr_steps.Answering.{answered, going, with_answer}
+use Rattle.images_apart.specs.kr_steps.Calls.{IsNoExec, LastsLawful}
+use Rattle.images_apart.specs.kr_steps.Computing.{computed}
+use Rattle.images_apart.specs.kr_steps.Settling.{settled}
+use Rattle.turns_match.specs.kr_turns.PlainCall.{Came, child_of, end_of, operated, plain_call, refusal_told}
+use Rattle.turns_match.specs.kr_turns.Stopped.{IsThere, Stopped, edited, image_at}
+use Rattle.turns_match.specs.kr_turns.Turn.{Machine, Tally, after_born, after_end, after_exit, after_plain, called, watched_call}
+use Rattle.turns_match.specs.kr_turns.Watching.{unwatched}
+use Rattle.turns_match.proofs.kr_turns.EditLemmas.{edited-twice, image-edited, there}
+use Rattle.turns_match.proofs.kr_turns.PlainLemmas.{no-exec-requested}
+use Rattle.shown_alike.specs.pt_tracer.Stopping.{after_request, decoded_at}
+use Rattle.shown_alike.specs.pt_tracer.Faking.{no_longer_called, word_of}
 use Rattle.swaps_read.specs.pt_watched.Planning.{edit_for, led_of, list_addresses, planned_by, texts_at}
 use Rattle.swaps_read.specs.pt_watched.Registers.{arguments_at}
 use Rattle.swaps_read.specs.pt_watched.Watched.{Tracing, after_decoding, after_plan, applied, awaiting, by_identities, entered, exited, keeping, tracer, with_pending}
 use Rattle.swaps_read.specs.pt_watched.declared.pending.Pending.{Pending}
 use Rattle.swaps_read.specs.pt_watched.declared.plan.Led.{Led}
-use Rattle.places_stay.specs.Matching.{IsMatch}
-use Rattle.places_stay.proofs.TagLemmas.{found_is}
+use Rattle.turns_match.specs.places_stay.Matching.{IsMatch}
+use Rattle.turns_match.proofs.places_stay.TagLemmas.{found_is}
 use Rattle.swaps_read.specs.Answered.{StandsAtNoCall}
 use Rattle.swaps_read.specs.Exits.{left_with}
 use Rattle.swaps_read.specs.NoCalls.{without_call}

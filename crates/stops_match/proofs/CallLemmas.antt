@@ -5,55 +5,55 @@ use Rattle.std.specs.Prelude.{IsSome, get_or, nat_eq}
 use Rattle.std.specs.Int.{cast_signed, cast_unsigned, w64}
 use Rattle.std.proofs.lemmas.Bool.Decides.{nat_tests}
 use Rattle.std.specs.Option.{option_map, option_map_or}
-use Rattle.pr_base.proofs.MapLemmas.{get-insert_same, get-remove_same}
-use Rattle.pr_base.specs.declared.errno.Errno.{Errno}
-use Rattle.rv_mem.specs.Actions.{AreEqualUnmarked, carried_out}
-use Rattle.rv_mem.specs.Layout.{layout_of}
-use Rattle.rv_mem.specs.Memory.{Memory}
-use Rattle.rv_mem.specs.Pages.{HoldsBytes}
-use Rattle.rv_mem.specs.declared.regs.Regs.{Regs}
-use Rattle.rv_mem.proofs.AddressLemmas.{byte_at-marked}
-use Rattle.pt_bind.specs.Tags.{TagTable, dropped}
-use Rattle.pt_ident.specs.IdentityTable.{after_birth, after_end as forgets}
-use Rattle.pt_results.specs.Notes.{noted, tags_after}
-use Rattle.kr_view.specs.View.{Row, plain}
-use Rattle.kr_calls.specs.Arguments.{number}
-use Rattle.kr_calls.specs.Decoding.{Decoded, decoding}
-use Rattle.kr_calls.specs.declared.request.Request.{Request}
-use Rattle.kr_calls.specs.declared.request.Request.TheVariants as call
-use Rattle.kr_model.specs.Known.{Known, known}
-use Rattle.kr_model.specs.Operation.{operation}
-use Rattle.kr_model.specs.Reply.{Reply}
-use Rattle.kr_model.specs.Seen.{Seen, NoPath}
-use Rattle.kr_model.specs.State.{Image, Process, State, image_layout, process, with_process}
-use Rattle.kr_model.specs.Walks.{seen, targets_of}
-use Rattle.kr_model.specs.declared.outcome.Outcome.{Outcome}
-use Rattle.kr_model.specs.declared.outcome.Outcome.TheVariants.{Answer, Wait, Ended, NoMemory}
-use Rattle.kr_allowed.specs.Told.{SourcesAreNamed, mounts_walked}
-use Rattle.kr_allowed.proofs.DecodedLemmas.{decoding-leaves-pages}
-use Rattle.kr_allowed.proofs.RowLemmas.{StaysLike}
-use Rattle.kr_seen.specs.Carrying.{memory_of}
-use Rattle.kr_calm.specs.Shelf.{has_path, is_usable, shelf_size, shelf_start, shelved_by, stack_pointer, with_shelf_marked}
-use Rattle.kr_steps.specs.Answering.{with_answer}
-use Rattle.kr_steps.specs.Calls.{LastsLawful}
-use Rattle.kr_steps.specs.Computing.{computed}
-use Rattle.kr_turns.specs.Breaking.{plain_rule}
-use Rattle.kr_turns.specs.PlainCall.{Came, child_of, end_of, operated, plain_call, refusal_told, status_told}
-use Rattle.kr_turns.specs.Shelving.{lacks_in, shelved_in}
-use Rattle.kr_turns.specs.Stopped.{Stopped, image_in, no_image}
-use Rattle.kr_turns.specs.Turn.{Machine, Tally, after_born, after_end, after_exit, after_plain, called, calling, watched_call, with_broken}
-use Rattle.kr_turns.specs.Watching.{Watcher, unwatched}
-use Rattle.kr_turns.specs.declared.plain.CallEnd.{CallEnd}
-use Rattle.kr_turns.specs.declared.plain.CallEnd.TheVariants as end
-use Rattle.kr_turns.proofs.EditLemmas.{there}
-use Rattle.kr_turns.proofs.PlainLemmas.{no-exec-requested}
-use Rattle.pt_tracer.specs.Stopping.{after_request, decoded_at}
+use Rattle.turns_match.proofs.pr_base.MapLemmas.{get-insert_same, get-remove_same}
+use Rattle.turns_match.specs.pr_base.declared.errno.Errno.{Errno}
+use Rattle.pt_args.specs.rv_mem.Actions.{AreEqualUnmarked, carried_out}
+use Rattle.pt_args.specs.rv_mem.Layout.{layout_of}
+use Rattle.pt_args.specs.rv_mem.Memory.{Memory}
+use Rattle.pt_args.specs.rv_mem.Pages.{HoldsBytes}
+use Rattle.pt_args.specs.rv_mem.declared.regs.Regs.{Regs}
+use Rattle.pt_args.proofs.rv_mem.AddressLemmas.{byte_at-marked}
+use Rattle.pt_args.specs.pt_bind.Tags.{TagTable, dropped}
+use Rattle.shown_alike.specs.pt_ident.IdentityTable.{after_birth, after_end as forgets}
+use Rattle.swaps_read.specs.pt_results.Notes.{noted, tags_after}
+use Rattle.walks_bare.specs.kr_view.View.{Row, plain}
+use Rattle.pt_args.specs.kr_calls.Arguments.{number}
+use Rattle.pt_args.specs.kr_calls.Decoding.{Decoded, decoding}
+use Rattle.pt_args.specs.kr_calls.declared.request.Request.{Request}
+use Rattle.pt_args.specs.kr_calls.declared.request.Request.TheVariants as call
+use Rattle.walks_bare.specs.kr_model.Known.{Known, known}
+use Rattle.walks_bare.specs.kr_model.Operation.{operation}
+use Rattle.walks_bare.specs.kr_model.Reply.{Reply}
+use Rattle.walks_bare.specs.kr_model.Seen.{Seen, NoPath}
+use Rattle.walks_bare.specs.kr_model.State.{Image, Process, State, image_layout, process, with_process}
+use Rattle.walks_bare.specs.kr_model.Walks.{seen, targets_of}
+use Rattle.walks_bare.specs.kr_model.declared.outcome.Outcome.{Outcome}
+use Rattle.walks_bare.specs.kr_model.declared.outcome.Outcome.TheVariants.{Answer, Wait, Ended, NoMemory}
+use Rattle.turns_match.specs.kr_allowed.Told.{SourcesAreNamed, mounts_walked}
+use Rattle.turns_match.proofs.kr_allowed.DecodedLemmas.{decoding-leaves-pages}
+use Rattle.turns_match.proofs.kr_allowed.RowLemmas.{StaysLike}
+use Rattle.images_apart.specs.kr_seen.Carrying.{memory_of}
+use Rattle.images_apart.specs.kr_calm.Shelf.{has_path, is_usable, shelf_size, shelf_start, shelved_by, stack_pointer, with_shelf_marked}
+use Rattle.images_apart.specs.kr_steps.Answering.{with_answer}
+use Rattle.images_apart.specs.kr_steps.Calls.{LastsLawful}
+use Rattle.images_apart.specs.kr_steps.Computing.{computed}
+use Rattle.turns_match.specs.kr_turns.Breaking.{plain_rule}
+use Rattle.turns_match.specs.kr_turns.PlainCall.{Came, child_of, end_of, operated, plain_call, refusal_told, status_told}
+use Rattle.turns_match.specs.kr_turns.Shelving.{lacks_in, shelved_in}
+use Rattle.turns_match.specs.kr_turns.Stopped.{Stopped, image_in, no_image}
+use Rattle.turns_match.specs.kr_turns.Turn.{Machine, Tally, after_born, after_end, after_exit, after_plain, called, calling, watched_call, with_broken}
+use Rattle.turns_match.specs.kr_turns.Watching.{Watcher, unwatched}
+use Rattle.turns_match.specs.kr_turns.declared.plain.CallEnd.{CallEnd}
+use Rattle.turns_match.specs.kr_turns.declared.plain.CallEnd.TheVariants as end
+use Rattle.turns_match.proofs.kr_turns.EditLemmas.{there}
+use Rattle.turns_match.proofs.kr_turns.PlainLemmas.{no-exec-requested}
+use Rattle.shown_alike.specs.pt_tracer.Stopping.{after_request, decoded_at}
 use Rattle.swaps_read.specs.pt_watched.Planning.{nowhere}
 use Rattle.swaps_read.specs.pt_watched.Registers.{arguments_at}
 use Rattle.swaps_read.specs.pt_watched.Watched.{Tracing, after_decoding, after_pending, answer_at, awaiting, entered, exited, tracer, with_pending, with_tags, without_pending}
 use Rattle.swaps_read.specs.pt_watched.declared.pending.Pending.{Pending}
 use Rattle.swaps_read.specs.pt_watched.declared.registers.Arguments.{Arguments}
-use Rattle.places_stay.specs.Matching.{IsMatch}
+use Rattle.turns_match.specs.places_stay.Matching.{IsMatch}
 use Rattle.turns_match.specs.Calls.{CameAlike, decoded_by, decoded_in, tags_behind}
 use Rattle.turns_match.specs.Lasting.{CanBeCalled}
 use Rattle.turns_match.specs.Changing.{all_tags_made}

@@ -5,57 +5,57 @@ use Rattle.std.specs.Prelude.{◌&&◌, IsSome, slice_set}
 use Rattle.std.specs.Int.{cast_unsigned, w64}
 use Rattle.std.specs.List.{list_all}
 use Rattle.std.specs.Option.{option_map, option_map_or}
-use Rattle.pr_base.specs.declared.errno.Errno.{Errno}
-use Rattle.rv_mem.specs.Actions.{AreEqualUnmarked, CarriedOut, carried_out}
-use Rattle.rv_mem.specs.Memory.{Memory}
-use Rattle.rv_mem.specs.Pages.{HoldsBytes, Pages}
-use Rattle.rv_mem.specs.declared.regs.Regs.{Regs}
+use Rattle.turns_match.specs.pr_base.declared.errno.Errno.{Errno}
+use Rattle.pt_args.specs.rv_mem.Actions.{AreEqualUnmarked, CarriedOut, carried_out}
+use Rattle.pt_args.specs.rv_mem.Memory.{Memory}
+use Rattle.pt_args.specs.rv_mem.Pages.{HoldsBytes, Pages}
+use Rattle.pt_args.specs.rv_mem.declared.regs.Regs.{Regs}
 use Rattle.pt_args.specs.declared.edit.Edit.{Edit}
-use Rattle.pt_results.specs.Notes.{noted, tags_after}
-use Rattle.kr_view.specs.View.{Row, plain}
-use Rattle.kr_calls.specs.Decoding.{decoding}
-use Rattle.kr_calls.specs.PathTable.{path_at}
-use Rattle.kr_calls.specs.declared.request.Request.{Request}
-use Rattle.kr_calls.specs.declared.request.Request.TheVariants as call
-use Rattle.kr_allowed.specs.Allowed.{LeavesLawful, with_memory}
-use Rattle.kr_allowed.specs.Resting.{HasSmallNumbers}
-use Rattle.kr_allowed.specs.Told.{mounts_walked}
-use Rattle.kr_allowed.proofs.DecodedLemmas.{decoded-are-givable, decoding-leaves-pages}
-use Rattle.kr_allowed.proofs.RowLemmas.{StaysLike, lawful-image, stays-like}
-use Rattle.kr_allowed.proofs.TargetLemmas.{walked-calls-leave-lawful}
-use Rattle.kr_seen.specs.Carrying.{memory_of, with_memory_of}
-use Rattle.kr_calm.specs.Laws.{BreakNone, leaves_mark}
-use Rattle.kr_calm.proofs.ChangeLemmas.{both}
-use Rattle.kr_allowed.proofs.RoomLemmas.{lasting-room}
-use Rattle.kr_lawful.specs.Laws.{CanAllBeMade}
-use Rattle.kr_model.specs.Lawful.{IsLawful}
-use Rattle.kr_model.specs.Applied.{Mounts, all_applied, images}
-use Rattle.kr_model.specs.Bare.{bare, bare_mounts, pins_of}
-use Rattle.kr_model.specs.Change.{Change, End, ReplaceImage}
-use Rattle.kr_model.specs.Known.{known}
-use Rattle.kr_model.specs.Operation.{operation}
-use Rattle.kr_model.specs.Reply.{Reply, Replying, refuse}
-use Rattle.kr_model.specs.Seen.{Seen}
-use Rattle.kr_model.specs.State.{Image, Process, State, image_layout, process, with_process}
-use Rattle.kr_model.specs.Walks.{seen, targets_of}
-use Rattle.kr_model.specs.declared.outcome.Outcome.TheVariants.{Answer, Ended}
-use Rattle.kr_model.specs.Laws.{ends_nobody}
-use Rattle.kr_model.proofs.CleanCalls.{answers_end_nobody}
-use Rattle.kr_model.proofs.KnownLemmas.{known-bare}
-use Rattle.kr_resolved.proofs.AroundLemmas.{lead_to_places}
-use Rattle.kr_resolved.proofs.NamingLemmas.{walks_name}
-use Rattle.kr_steps.specs.Answering.{answered, going, with_answer}
-use Rattle.kr_steps.specs.Calls.{IsNoExec, LastsLawful}
-use Rattle.kr_steps.specs.Computing.{computed}
-use Rattle.kr_steps.specs.Settling.{settled}
-use Rattle.kr_turns.specs.Breaking.{decoded_rule, operated_rule, plain_rule_of}
-use Rattle.kr_turns.specs.PlainCall.{Came, child_of, end_of, operated, plain_call}
-use Rattle.kr_turns.specs.Stopped.{IsThere, Stopped, edited, image_at}
-use Rattle.kr_turns.specs.Turn.{Machine, Tally, after_born, after_end, after_exit, after_plain, called, watched_call}
-use Rattle.kr_turns.specs.Watching.{unwatched}
-use Rattle.kr_turns.proofs.EditLemmas.{there as is_there}
-use Rattle.kr_turns.proofs.PlainLemmas.{no-exec-requested, no-exec-rule}
-use Rattle.pt_tracer.specs.Stopping.{after_request, decoded_at}
+use Rattle.swaps_read.specs.pt_results.Notes.{noted, tags_after}
+use Rattle.walks_bare.specs.kr_view.View.{Row, plain}
+use Rattle.pt_args.specs.kr_calls.Decoding.{decoding}
+use Rattle.pt_args.specs.kr_calls.PathTable.{path_at}
+use Rattle.pt_args.specs.kr_calls.declared.request.Request.{Request}
+use Rattle.pt_args.specs.kr_calls.declared.request.Request.TheVariants as call
+use Rattle.turns_match.specs.kr_allowed.Allowed.{LeavesLawful, with_memory}
+use Rattle.turns_match.specs.kr_allowed.Resting.{HasSmallNumbers}
+use Rattle.turns_match.specs.kr_allowed.Told.{mounts_walked}
+use Rattle.turns_match.proofs.kr_allowed.DecodedLemmas.{decoded-are-givable, decoding-leaves-pages}
+use Rattle.turns_match.proofs.kr_allowed.RowLemmas.{StaysLike, lawful-image, stays-like}
+use Rattle.turns_match.proofs.kr_allowed.TargetLemmas.{walked-calls-leave-lawful}
+use Rattle.images_apart.specs.kr_seen.Carrying.{memory_of, with_memory_of}
+use Rattle.images_apart.specs.kr_calm.Laws.{BreakNone, leaves_mark}
+use Rattle.images_apart.proofs.kr_calm.ChangeLemmas.{both}
+use Rattle.turns_match.proofs.kr_allowed.RoomLemmas.{lasting-room}
+use Rattle.turns_match.specs.kr_lawful.Laws.{CanAllBeMade}
+use Rattle.walks_bare.specs.kr_model.Lawful.{IsLawful}
+use Rattle.walks_bare.specs.kr_model.Applied.{Mounts, all_applied, images}
+use Rattle.walks_bare.specs.kr_model.Bare.{bare, bare_mounts, pins_of}
+use Rattle.walks_bare.specs.kr_model.Change.{Change, End, ReplaceImage}
+use Rattle.walks_bare.specs.kr_model.Known.{known}
+use Rattle.walks_bare.specs.kr_model.Operation.{operation}
+use Rattle.walks_bare.specs.kr_model.Reply.{Reply, Replying, refuse}
+use Rattle.walks_bare.specs.kr_model.Seen.{Seen}
+use Rattle.walks_bare.specs.kr_model.State.{Image, Process, State, image_layout, process, with_process}
+use Rattle.walks_bare.specs.kr_model.Walks.{seen, targets_of}
+use Rattle.walks_bare.specs.kr_model.declared.outcome.Outcome.TheVariants.{Answer, Ended}
+use Rattle.walks_bare.specs.kr_model.Laws.{ends_nobody}
+use Rattle.walks_bare.proofs.kr_model.CleanCalls.{answers_end_nobody}
+use Rattle.walks_bare.proofs.kr_model.KnownLemmas.{known-bare}
+use Rattle.images_apart.proofs.kr_resolved.AroundLemmas.{lead_to_places}
+use Rattle.images_apart.proofs.kr_resolved.NamingLemmas.{walks_name}
+use Rattle.images_apart.specs.kr_steps.Answering.{answered, going, with_answer}
+use Rattle.images_apart.specs.kr_steps.Calls.{IsNoExec, LastsLawful}
+use Rattle.images_apart.specs.kr_steps.Computing.{computed}
+use Rattle.images_apart.specs.kr_steps.Settling.{settled}
+use Rattle.turns_match.specs.kr_turns.Breaking.{decoded_rule, operated_rule, plain_rule_of}
+use Rattle.turns_match.specs.kr_turns.PlainCall.{Came, child_of, end_of, operated, plain_call}
+use Rattle.turns_match.specs.kr_turns.Stopped.{IsThere, Stopped, edited, image_at}
+use Rattle.turns_match.specs.kr_turns.Turn.{Machine, Tally, after_born, after_end, after_exit, after_plain, called, watched_call}
+use Rattle.turns_match.specs.kr_turns.Watching.{unwatched}
+use Rattle.turns_match.proofs.kr_turns.EditLemmas.{there as is_there}
+use Rattle.turns_match.proofs.kr_turns.PlainLemmas.{no-exec-requested, no-exec-rule}
+use Rattle.shown_alike.specs.pt_tracer.Stopping.{after_request, decoded_at}
 use Rattle.swaps_read.specs.pt_watched.Planning.{edit_for, led_of, list_addresses, planned_by, texts_at}
 use Rattle.swaps_read.specs.pt_watched.Registers.{arguments_at}
 use Rattle.swaps_read.specs.pt_watched.Watched.{Tracing, after_decoding, after_plan, applied, awaiting, by_identities, entered, exited, is_execve, tracer, with_pending}
@@ -66,10 +66,10 @@ use Rattle.images_apart.specs.Paths.{is_told_of_paths}
 use Rattle.images_apart.proofs.ApartLemmas.{changes_stand_apart}
 use Rattle.images_apart.proofs.CallLemmas.{path_calls_answer, path_calls_leave_images}
 use Rattle.images_apart.proofs.GivenLemmas.{registers_given_back}
-use Rattle.places_stay.specs.Changes.{NewPlacesStand}
-use Rattle.places_stay.specs.Matching.{IsMatch}
-use Rattle.calm_places.proofs.InUseLemmas.{neither}
-use Rattle.calm_places.specs.Keeping.{MovesStayInside}
+use Rattle.turns_match.specs.places_stay.Changes.{NewPlacesStand}
+use Rattle.turns_match.specs.places_stay.Matching.{IsMatch}
+use Rattle.turns_match.proofs.calm_places.InUseLemmas.{neither}
+use Rattle.turns_match.specs.calm_places.Keeping.{MovesStayInside}
 use Rattle.swaps_read.specs.Exits.{left_with}
 use Rattle.walks_bare.specs.Facts.{AreSeenAlike}
 use Rattle.turns_match.specs.Calls.{decoded_by, decoded_in}
@@ -281,7 +281,7 @@ module _ {S : Type 0} (table : List Row) (made pid : ℕ) (m : Machine S) (n : M
         let givable = decoded-are-givable regs3 memory3 r2 bytes3 reads3 in
         let bytes4 : HoldsBytes memory4.pages = subst (λ (pages : Pages). HoldsBytes pages) (sym pages4) bytes3 in
         let allowed =
-        walked-calls-leave-lawful plain pid own own_q r2 own_lasts.lawful own_lives bytes4 small givable.0 plain_named (lead_to_places plain own own_lasts.lawful pid)
+        walked-calls-leave-lawful plain pid own own_q r2 (no_exec_told r2 told2) own_lasts.lawful own_lives bytes4 small givable.0 plain_named (lead_to_places plain own own_lasts.lawful pid)
         (λ targets e. walks_name plain pid own r2 targets own_lasts.lawful own_lasts.lasts.texts givable.1 e) in
         subst (λ (memory : Memory). LeavesLawful (λ k. k) plain others pid own (carried_out (operation pid r2 sight (known image_layout pid own)) memory)) (sym own_memory)
         (subst (λ targets. LeavesLawful (λ k. k) plain (mounts_walked targets) pid own (carried_out (operation pid r2 sight (known image_layout pid own)) memory4)) sights.targets
@@ -385,6 +385,7 @@ module _ {S : Type 0} (table : List Row) (made pid : ℕ) (m : Machine S) (n : M
     calm_call =
         let rules = none_of_all _ _ _ _ _ _ calm_row in
         record {
+          kind = no_exec_told r2 told2;
           lives = subst IsSome (sym (decoded_lives table made pid s1 p1 mine)) refl;
           same = served.1.same;
           unread = subst (λ (d : CarriedOut Reply). d.memory.read_marked ≡ false) done_same (neither done.memory.read_marked (before.lacks table made pid m n c p q lives also) rules.0).0;
@@ -458,7 +459,7 @@ module _ {S : Type 0} (table : List Row) (made pid : ℕ) (m : Machine S) (n : M
         differ e = cc
 
         kept : registers_in pid after_changes ≡ Some q.image.regs
-        kept = changes_keep_registers others pid pid changes w q.image.regs (all_marks_left changes leave (answers_end_nobody pid r2 sight (known image_layout pid own) (memory_of pid own) (λ e. absurd (differ (sym own_answers ∙ e))))) (ap (option_map (λ (p : Process ℕ Image). p.image.regs)) also)
+        kept = changes_keep_registers others pid pid changes w q.image.regs (all_marks_left changes leave (answers_end_nobody pid r2 sight (known image_layout pid own) (memory_of pid own) (no_exec_told r2 told2) (λ e. absurd (differ (sym own_answers ∙ e))))) (ap (option_map (λ (p : Process ℕ Image). p.image.regs)) also)
 
         by : (o : Option (Process ℕ Image)) → process pid after_changes ≡ o → (q' : Process ℕ Image) × (process pid after_changes ≡ Some q')
         by None none = absurd (never (sym (ap (option_map (λ (p : Process ℕ Image). p.image.regs)) none) ∙ kept))

@@ -2,24 +2,24 @@
 use Rattle.std.proofs.Common.{◌≡◌, ℕ, Bool, true, false, cond, List, Option, Some, None, refl, sym, ap, subst, ◌∙◌}
 use Rattle.std.specs.Prelude.{◌&&◌, ◌==◌, IsSome, get_or, slice_set}
 use Rattle.std.specs.Option.{option_map}
-use Rattle.rv_mem.specs.Actions.{Action, AreEqualUnmarked, carried_out}
-use Rattle.rv_mem.specs.Memory.{Memory}
-use Rattle.rv_mem.specs.declared.regs.Regs.{Regs}
-use Rattle.rv_mem.proofs.ActionLemmas.{reads_alike}
-use Rattle.pr_base.specs.declared.errno.Errno.TheVariants.{EPERM}
-use Rattle.pt_bind.specs.Tags.{TagTable}
-use Rattle.kr_view.specs.View.{Row, plain}
-use Rattle.kr_model.specs.State.{Image, Process, State, process, with_process}
-use Rattle.kr_allowed.proofs.RowLemmas.{StaysLike, lawful-image, stays-like}
-use Rattle.kr_steps.specs.Computing.{computed}
-use Rattle.kr_turns.specs.Stopped.{Stopped}
-use Rattle.pt_ident.specs.Identity.{after_exec, refusal}
-use Rattle.pt_ident.specs.IdentityTable.{identity_at}
-use Rattle.pt_tracer.specs.Carrying.{on_its_memory}
-use Rattle.pt_tracer.specs.Faking.{Faking, after_due, forgiven, has_answered_zero, show_identity, show_owner, stack_register, word_of}
-use Rattle.pt_tracer.specs.Stopping.{memory_at, register_at, with_register}
-use Rattle.pt_tracer.specs.declared.due.Due.{Due}
-use Rattle.pt_tracer.specs.declared.due.Due.TheVariants as due
+use Rattle.pt_args.specs.rv_mem.Actions.{Action, AreEqualUnmarked, carried_out}
+use Rattle.pt_args.specs.rv_mem.Memory.{Memory}
+use Rattle.pt_args.specs.rv_mem.declared.regs.Regs.{Regs}
+use Rattle.pt_args.proofs.rv_mem.ActionLemmas.{reads_alike}
+use Rattle.turns_match.specs.pr_base.declared.errno.Errno.TheVariants.{EPERM}
+use Rattle.pt_args.specs.pt_bind.Tags.{TagTable}
+use Rattle.walks_bare.specs.kr_view.View.{Row, plain}
+use Rattle.walks_bare.specs.kr_model.State.{Image, Process, State, process, with_process}
+use Rattle.turns_match.proofs.kr_allowed.RowLemmas.{StaysLike, lawful-image, stays-like}
+use Rattle.images_apart.specs.kr_steps.Computing.{computed}
+use Rattle.turns_match.specs.kr_turns.Stopped.{Stopped}
+use Rattle.shown_alike.specs.pt_ident.Identity.{after_exec, refusal}
+use Rattle.shown_alike.specs.pt_ident.IdentityTable.{identity_at}
+use Rattle.shown_alike.specs.pt_tracer.Carrying.{on_its_memory}
+use Rattle.shown_alike.specs.pt_tracer.Faking.{Faking, after_due, forgiven, has_answered_zero, show_identity, show_owner, stack_register, word_of}
+use Rattle.shown_alike.specs.pt_tracer.Stopping.{memory_at, register_at, with_register}
+use Rattle.shown_alike.specs.pt_tracer.declared.due.Due.{Due}
+use Rattle.shown_alike.specs.pt_tracer.declared.due.Due.TheVariants as due
 use Rattle.swaps_read.specs.pt_watched.Watched.{shown_due}
 use Rattle.turns_match.proofs.CalledLemmas.{lasts_living}
 use Rattle.turns_match.proofs.ImageLemmas.{given}

@@ -3,26 +3,26 @@ use Rattle.std.specs.FinMap as map
 use Rattle.std.proofs.Common.{◌≡◌, ℕ, Bool, true, false, cond, List, [], Option, Some, None, Ok, refl, sym, ap, subst, ◌∙◌, ℤ}
 use Rattle.std.specs.Prelude.{IsSome}
 use Rattle.std.specs.Int.{cast_signed, w64}
-use Rattle.pr_base.specs.declared.errno.Errno.TheVariants.{EFAULT}
-use Rattle.rv_mem.specs.Actions.{AreEqualUnmarked, carried_out}
-use Rattle.rv_mem.specs.Memory.{Memory}
+use Rattle.turns_match.specs.pr_base.declared.errno.Errno.TheVariants.{EFAULT}
+use Rattle.pt_args.specs.rv_mem.Actions.{AreEqualUnmarked, carried_out}
+use Rattle.pt_args.specs.rv_mem.Memory.{Memory}
 use Rattle.pt_args.specs.declared.edit.Edit.TheVariants.{Cancel}
-use Rattle.pt_results.specs.Notes.{noted, tags_after}
-use Rattle.kr_view.specs.View.{Row, plain}
-use Rattle.kr_calls.specs.Decoding.{decoding}
-use Rattle.kr_calls.specs.PathTable.{path_at}
-use Rattle.kr_calls.specs.declared.request.Request.{Request}
-use Rattle.kr_model.specs.State.{Image, Process, State, process}
-use Rattle.kr_model.specs.Walks.{seen}
-use Rattle.kr_model.specs.declared.outcome.Outcome.TheVariants.{Answer}
-use Rattle.kr_allowed.proofs.RowLemmas.{StaysLike, stays-like}
-use Rattle.kr_steps.specs.Computing.{computed}
-use Rattle.kr_turns.specs.Stopped.{IsThere, Stopped, edited}
-use Rattle.kr_turns.specs.Turn.{Machine, watched_call}
-use Rattle.kr_turns.specs.Watching.{unwatched}
-use Rattle.kr_turns.proofs.EditLemmas.{image-edited, there}
-use Rattle.pt_tracer.specs.Stopping.{after_request, decoded_at, memory_at}
-use Rattle.pt_tracer.specs.Faking.{no_longer_called, word_of}
+use Rattle.swaps_read.specs.pt_results.Notes.{noted, tags_after}
+use Rattle.walks_bare.specs.kr_view.View.{Row, plain}
+use Rattle.pt_args.specs.kr_calls.Decoding.{decoding}
+use Rattle.pt_args.specs.kr_calls.PathTable.{path_at}
+use Rattle.pt_args.specs.kr_calls.declared.request.Request.{Request}
+use Rattle.walks_bare.specs.kr_model.State.{Image, Process, State, process}
+use Rattle.walks_bare.specs.kr_model.Walks.{seen}
+use Rattle.walks_bare.specs.kr_model.declared.outcome.Outcome.TheVariants.{Answer}
+use Rattle.turns_match.proofs.kr_allowed.RowLemmas.{StaysLike, stays-like}
+use Rattle.images_apart.specs.kr_steps.Computing.{computed}
+use Rattle.turns_match.specs.kr_turns.Stopped.{IsThere, Stopped, edited}
+use Rattle.turns_match.specs.kr_turns.Turn.{Machine, watched_call}
+use Rattle.turns_match.specs.kr_turns.Watching.{unwatched}
+use Rattle.turns_match.proofs.kr_turns.EditLemmas.{image-edited, there}
+use Rattle.shown_alike.specs.pt_tracer.Stopping.{after_request, decoded_at, memory_at}
+use Rattle.shown_alike.specs.pt_tracer.Faking.{no_longer_called, word_of}
 use Rattle.swaps_read.specs.pt_watched.Planning.{edit_for, led_of, planned_by, texts_at}
 use Rattle.swaps_read.specs.pt_watched.Registers.{arguments_at}
 use Rattle.swaps_read.specs.pt_watched.Watched.{Tracing, after_decoding, after_plan, applied, awaiting, by_identities, entered, refused, tracer, with_pending}
@@ -40,7 +40,7 @@ use Rattle.stops_match.proofs.CallLemmas.{exit_status, own_image, unwatched_exit
 use Rattle.pt_args.specs.Laws.{poked as pages_poked}
 use Rattle.pt_args.specs.declared.edit.Edit.{Edit}
 use Rattle.pt_args.specs.declared.edit.Edit.TheVariants.{Emulate, Pass, Swap}
-use Rattle.rv_mem.specs.Memory.{with_pages}
+use Rattle.pt_args.specs.rv_mem.Memory.{with_pages}
 use Rattle.swaps_read.specs.pt_watched.Poking.{may_poke, poked}
 use Rattle.swaps_read.specs.pt_watched.Registers.{with_arguments}
 use Rattle.swaps_read.proofs.StopLemmas.{items_put, register_set}

@@ -1,23 +1,23 @@
 -- The caller on the plain machine as the tracer leaves it at the first stop: its memory has the pages that it had, and bytes.
 use Rattle.std.specs.Prelude.{IsSome}
 use Rattle.std.proofs.Common.{◌≡◌, ℕ, List, Some, refl, sym, ap, subst, ◌∙◌}
-use Rattle.rv_mem.specs.Actions.{carried_out}
-use Rattle.rv_mem.specs.Memory.{Memory}
-use Rattle.rv_mem.specs.Pages.{HoldsBytes}
-use Rattle.rv_mem.specs.declared.regs.Regs.{Regs}
-use Rattle.kr_view.specs.View.{Row, plain}
-use Rattle.kr_calls.specs.Decoding.{decoding}
-use Rattle.kr_calls.specs.declared.request.Request.{Request}
-use Rattle.kr_allowed.proofs.DecodedLemmas.{decoding-leaves-pages}
-use Rattle.kr_allowed.proofs.RowLemmas.{StaysLike, lawful-image}
-use Rattle.kr_model.specs.Bare.{bare, pins_of}
-use Rattle.kr_model.specs.State.{Image, Process, State, image_layout, process, with_process}
-use Rattle.kr_steps.specs.Calls.{LastsLawful}
-use Rattle.kr_steps.specs.Computing.{computed}
-use Rattle.kr_turns.specs.Stopped.{Stopped, edited}
-use Rattle.kr_turns.specs.Turn.{Machine}
-use Rattle.kr_turns.proofs.EditLemmas.{image-edited}
-use Rattle.pt_tracer.specs.Stopping.{after_request}
+use Rattle.pt_args.specs.rv_mem.Actions.{carried_out}
+use Rattle.pt_args.specs.rv_mem.Memory.{Memory}
+use Rattle.pt_args.specs.rv_mem.Pages.{HoldsBytes}
+use Rattle.pt_args.specs.rv_mem.declared.regs.Regs.{Regs}
+use Rattle.walks_bare.specs.kr_view.View.{Row, plain}
+use Rattle.pt_args.specs.kr_calls.Decoding.{decoding}
+use Rattle.pt_args.specs.kr_calls.declared.request.Request.{Request}
+use Rattle.turns_match.proofs.kr_allowed.DecodedLemmas.{decoding-leaves-pages}
+use Rattle.turns_match.proofs.kr_allowed.RowLemmas.{StaysLike, lawful-image}
+use Rattle.walks_bare.specs.kr_model.Bare.{bare, pins_of}
+use Rattle.walks_bare.specs.kr_model.State.{Image, Process, State, image_layout, process, with_process}
+use Rattle.images_apart.specs.kr_steps.Calls.{LastsLawful}
+use Rattle.images_apart.specs.kr_steps.Computing.{computed}
+use Rattle.turns_match.specs.kr_turns.Stopped.{Stopped, edited}
+use Rattle.turns_match.specs.kr_turns.Turn.{Machine}
+use Rattle.turns_match.proofs.kr_turns.EditLemmas.{image-edited}
+use Rattle.shown_alike.specs.pt_tracer.Stopping.{after_request}
 use Rattle.swaps_read.specs.pt_watched.Planning.{edit_for, texts_at}
 use Rattle.swaps_read.specs.pt_watched.Watched.{Tracing, applied}
 use Rattle.walks_bare.specs.Facts.{AreSeenAlike}

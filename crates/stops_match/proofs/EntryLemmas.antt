@@ -1,18 +1,18 @@
 -- A calm call at its first stop: a watcher that leaves it to the kernel leaves the process as it is.
 use Rattle.std.proofs.Common.{◌≡◌, ℕ, Bool, false, List, Some, None, refl, sym, ap, ◌∙◌}
-use Rattle.rv_mem.specs.Actions.{carried_out}
-use Rattle.kr_view.specs.View.{Row}
-use Rattle.kr_calls.specs.Decoding.{decoding}
-use Rattle.kr_model.specs.State.{Image, Process, State, process}
-use Rattle.kr_allowed.proofs.DecodedLemmas.{decoding-leaves-pages}
-use Rattle.kr_steps.specs.Computing.{computed}
-use Rattle.kr_turns.specs.Breaking.{plain_rule}
-use Rattle.kr_turns.specs.PlainCall.{Came, plain_call}
-use Rattle.kr_turns.specs.Stopped.{Stopped}
-use Rattle.kr_turns.specs.Turn.{Machine, Tally, after_born, after_plain, called, calling, watched_call, with_broken}
-use Rattle.kr_turns.specs.Watching.{unwatched}
-use Rattle.pt_tracer.specs.Faking.{Faking, entered as faked_entry, faker}
-use Rattle.pt_tracer.specs.Stopping.{after_request, decoded_at}
+use Rattle.pt_args.specs.rv_mem.Actions.{carried_out}
+use Rattle.walks_bare.specs.kr_view.View.{Row}
+use Rattle.pt_args.specs.kr_calls.Decoding.{decoding}
+use Rattle.walks_bare.specs.kr_model.State.{Image, Process, State, process}
+use Rattle.turns_match.proofs.kr_allowed.DecodedLemmas.{decoding-leaves-pages}
+use Rattle.images_apart.specs.kr_steps.Computing.{computed}
+use Rattle.turns_match.specs.kr_turns.Breaking.{plain_rule}
+use Rattle.turns_match.specs.kr_turns.PlainCall.{Came, plain_call}
+use Rattle.turns_match.specs.kr_turns.Stopped.{Stopped}
+use Rattle.turns_match.specs.kr_turns.Turn.{Machine, Tally, after_born, after_plain, called, calling, watched_call, with_broken}
+use Rattle.turns_match.specs.kr_turns.Watching.{unwatched}
+use Rattle.shown_alike.specs.pt_tracer.Faking.{Faking, entered as faked_entry, faker}
+use Rattle.shown_alike.specs.pt_tracer.Stopping.{after_request, decoded_at}
 use Rattle.swaps_read.specs.pt_watched.Watched.{Tracing}
 use Rattle.turns_match.specs.Calls.{decoded_by, decoded_in}
 use Rattle.turns_match.specs.Lasting.{CanBeCalled}

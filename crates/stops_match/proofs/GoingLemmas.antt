@@ -2,16 +2,16 @@
 use Rattle.std.proofs.Common.{◌≡◌, ℕ, suc, List, Option, Some, None, refl, sym, ap, subst, ◌∙◌}
 use Rattle.std.specs.Prelude.{IsSome}
 use Rattle.std.specs.Option.{option_map}
-use Rattle.pt_bind.specs.Tags.{TagTable}
-use Rattle.pt_ident.specs.IdentityTable.{after_birth, after_end as forgets}
-use Rattle.kr_view.specs.View.{Row}
-use Rattle.kr_model.specs.State.{Image, Process, process}
-use Rattle.kr_turns.specs.PlainCall.{Came}
-use Rattle.kr_turns.specs.Stopped.{Stopped}
-use Rattle.kr_turns.specs.Turn.{Tally, after_born, after_end, after_exit, called}
-use Rattle.kr_turns.specs.declared.plain.CallEnd.{CallEnd}
-use Rattle.kr_turns.specs.declared.plain.CallEnd.TheVariants as end
-use Rattle.pt_tracer.specs.Faking.{Faking, exited as faked_exit, faker}
+use Rattle.pt_args.specs.pt_bind.Tags.{TagTable}
+use Rattle.shown_alike.specs.pt_ident.IdentityTable.{after_birth, after_end as forgets}
+use Rattle.walks_bare.specs.kr_view.View.{Row}
+use Rattle.walks_bare.specs.kr_model.State.{Image, Process, process}
+use Rattle.turns_match.specs.kr_turns.PlainCall.{Came}
+use Rattle.turns_match.specs.kr_turns.Stopped.{Stopped}
+use Rattle.turns_match.specs.kr_turns.Turn.{Tally, after_born, after_end, after_exit, called}
+use Rattle.turns_match.specs.kr_turns.declared.plain.CallEnd.{CallEnd}
+use Rattle.turns_match.specs.kr_turns.declared.plain.CallEnd.TheVariants as end
+use Rattle.shown_alike.specs.pt_tracer.Faking.{Faking, exited as faked_exit, faker}
 use Rattle.swaps_read.specs.pt_watched.Watched.{Tracing, exited, tracer, with_identities}
 use Rattle.stops_match.proofs.CallLemmas.{status_after}
 use Rattle.stops_match.specs.Going.{ComeFromFakedCall, GoBySame, StandAlike}

@@ -2,36 +2,36 @@
 use Rattle.std.specs.FinMap as map
 use Rattle.std.proofs.Common.{◌≡◌, ℕ, suc, Bool, false, List, Option, Some, None, Ok, get_or, refl, sym, ap, subst, ◌∙◌}
 use Rattle.std.specs.Prelude.{◌==◌, IsSome, slice_set}
-use Rattle.pr_base.proofs.MapLemmas.{get-insert_same}
-use Rattle.pr_base.specs.declared.errno.Errno.TheVariants.{ENOSYS}
-use Rattle.rv_mem.specs.Actions.{Action, AreEqualUnmarked, CarriedOut, carried_out}
-use Rattle.rv_mem.specs.Memory.{Memory}
-use Rattle.rv_mem.specs.Pages.{Pages}
-use Rattle.rv_mem.proofs.ActionLemmas.{reads_alike}
-use Rattle.pt_ident.specs.Identity.{Answered, Effect, Identity, effect, on_memory, refusal}
-use Rattle.pt_ident.specs.IdentityTable.{identity_at, with_identity}
-use Rattle.pt_bind.specs.Tags.{TagTable}
-use Rattle.pt_results.specs.Notes.{noted_of, tags_after}
-use Rattle.kr_view.specs.View.{Row, plain}
-use Rattle.kr_calls.specs.Decoding.{decoding}
-use Rattle.kr_calls.specs.declared.request.Request.{Request}
-use Rattle.kr_calls.specs.declared.request.Request.TheVariants as call
-use Rattle.kr_model.specs.State.{Image, Process, State, process, with_process}
-use Rattle.kr_model.specs.declared.outcome.Outcome.TheVariants.{Answer}
-use Rattle.kr_allowed.proofs.DecodedLemmas.{decoding-leaves-pages}
-use Rattle.kr_allowed.proofs.RowLemmas.{StaysLike, lawful-image, stays-like}
-use Rattle.kr_steps.specs.Answering.{answered}
-use Rattle.kr_steps.specs.Computing.{computed}
-use Rattle.kr_turns.specs.Breaking.{plain_rule}
-use Rattle.kr_turns.specs.PlainCall.{Came, plain_call}
-use Rattle.kr_turns.specs.Shelving.{lacks_in}
-use Rattle.kr_turns.specs.Stopped.{IsThere, Stopped, edited, image_at}
-use Rattle.kr_turns.specs.Turn.{Machine, Tally, after_exit, after_plain, called, calling, watched_call, with_broken}
-use Rattle.kr_turns.proofs.EditLemmas.{there}
-use Rattle.places_stay.specs.Matching.{IsMatch}
-use Rattle.pt_tracer.specs.Faking.{Faking, after_decoding as faked_decoding, after_due, after_effect as faked_effect, due_of, entered as faked_entry, exited as faked_exit, faker, keeping, no_longer_called, told, with_due, without_due, word_of}
-use Rattle.pt_tracer.specs.Stopping.{after_request, decoded_at, memory_at, with_memory}
-use Rattle.pt_tracer.specs.declared.due.Due.TheVariants as due
+use Rattle.turns_match.proofs.pr_base.MapLemmas.{get-insert_same}
+use Rattle.turns_match.specs.pr_base.declared.errno.Errno.TheVariants.{ENOSYS}
+use Rattle.pt_args.specs.rv_mem.Actions.{Action, AreEqualUnmarked, CarriedOut, carried_out}
+use Rattle.pt_args.specs.rv_mem.Memory.{Memory}
+use Rattle.pt_args.specs.rv_mem.Pages.{Pages}
+use Rattle.pt_args.proofs.rv_mem.ActionLemmas.{reads_alike}
+use Rattle.shown_alike.specs.pt_ident.Identity.{Answered, Effect, Identity, effect, on_memory, refusal}
+use Rattle.shown_alike.specs.pt_ident.IdentityTable.{identity_at, with_identity}
+use Rattle.pt_args.specs.pt_bind.Tags.{TagTable}
+use Rattle.swaps_read.specs.pt_results.Notes.{noted_of, tags_after}
+use Rattle.walks_bare.specs.kr_view.View.{Row, plain}
+use Rattle.pt_args.specs.kr_calls.Decoding.{decoding}
+use Rattle.pt_args.specs.kr_calls.declared.request.Request.{Request}
+use Rattle.pt_args.specs.kr_calls.declared.request.Request.TheVariants as call
+use Rattle.walks_bare.specs.kr_model.State.{Image, Process, State, process, with_process}
+use Rattle.walks_bare.specs.kr_model.declared.outcome.Outcome.TheVariants.{Answer}
+use Rattle.turns_match.proofs.kr_allowed.DecodedLemmas.{decoding-leaves-pages}
+use Rattle.turns_match.proofs.kr_allowed.RowLemmas.{StaysLike, lawful-image, stays-like}
+use Rattle.images_apart.specs.kr_steps.Answering.{answered}
+use Rattle.images_apart.specs.kr_steps.Computing.{computed}
+use Rattle.turns_match.specs.kr_turns.Breaking.{plain_rule}
+use Rattle.turns_match.specs.kr_turns.PlainCall.{Came, plain_call}
+use Rattle.turns_match.specs.kr_turns.Shelving.{lacks_in}
+use Rattle.turns_match.specs.kr_turns.Stopped.{IsThere, Stopped, edited, image_at}
+use Rattle.turns_match.specs.kr_turns.Turn.{Machine, Tally, after_exit, after_plain, called, calling, watched_call, with_broken}
+use Rattle.turns_match.proofs.kr_turns.EditLemmas.{there}
+use Rattle.turns_match.specs.places_stay.Matching.{IsMatch}
+use Rattle.shown_alike.specs.pt_tracer.Faking.{Faking, after_decoding as faked_decoding, after_due, after_effect as faked_effect, due_of, entered as faked_entry, exited as faked_exit, faker, keeping, no_longer_called, told, with_due, without_due, word_of}
+use Rattle.shown_alike.specs.pt_tracer.Stopping.{after_request, decoded_at, memory_at, with_memory}
+use Rattle.shown_alike.specs.pt_tracer.declared.due.Due.TheVariants as due
 use Rattle.swaps_read.specs.pt_watched.Planning.{nowhere}
 use Rattle.swaps_read.specs.pt_watched.Registers.{arguments_at}
 use Rattle.swaps_read.specs.pt_watched.Watched.{Tracing, after_decoding, after_effect, awaiting, by_identities, entered, exited, has_begun, is_execve, returned, shown_due, tracer, with_identities, with_pending}

@@ -3,30 +3,30 @@ use Rattle.std.specs.FinMap as map
 use Rattle.std.proofs.Common.{◌≡◌, ℕ, suc, Bool, true, false, cond, List, Option, Some, None, Ok, refl, sym, ap, subst, ◌∙◌, ℤ}
 use Rattle.std.specs.Prelude.{◌&&◌, ◌==◌, IsSome, is_none}
 use Rattle.std.specs.Ordering.{nat_cmp}
-use Rattle.pr_base.proofs.MapLemmas.{get-insert_same, get-remove_same}
-use Rattle.rv_mem.specs.Actions.{carried_out}
-use Rattle.pt_ident.specs.Identity.{Identity, after_exec, effect}
-use Rattle.pt_ident.specs.IdentityTable.{IdentityTable, identity_at}
-use Rattle.pt_bind.specs.Tags.{with_tag}
-use Rattle.pt_bind.specs.declared.slot.Slot.TheVariants.{Exe}
-use Rattle.pt_results.specs.Notes.{noted, tags_after}
-use Rattle.kr_view.specs.View.{Row, plain}
-use Rattle.kr_calls.specs.declared.request.Request.{Request}
-use Rattle.kr_calls.specs.declared.request.Request.TheVariants as call
-use Rattle.kr_model.specs.State.{Image, Process, State, process}
-use Rattle.kr_steps.specs.Calls.{IsNoExec, LastsLawful}
-use Rattle.kr_turns.specs.Breaking.{plain_rule}
-use Rattle.kr_turns.specs.PlainCall.{Came, plain_call}
-use Rattle.kr_turns.specs.Shelving.{lacks_in}
-use Rattle.kr_turns.specs.Stopped.{Stopped}
-use Rattle.kr_turns.specs.Turn.{Machine, Tally, after_born, after_end, after_plain, called, calling, watched_call, with_broken}
-use Rattle.kr_turns.specs.Watching.{unwatched}
-use Rattle.kr_turns.proofs.EditLemmas.{computed-lives}
-use Rattle.places_stay.specs.Matching.{IsMatch}
-use Rattle.pt_tracer.specs.Faking.{Faking, after_decoding as faked_decoding, after_due, after_effect as faked_effect, begin_program as faked_beginning, due_of, dues_with, entered as faked_entry, exited as faked_exit, faker, has_answered_zero, is_root, keeping, show_owner, with_due, without_due}
-use Rattle.pt_tracer.specs.Stopping.{after_request, decoded_at, memory_at, with_register}
-use Rattle.pt_tracer.specs.declared.due.Due.{Due}
-use Rattle.pt_tracer.specs.declared.due.Due.TheVariants as due
+use Rattle.turns_match.proofs.pr_base.MapLemmas.{get-insert_same, get-remove_same}
+use Rattle.pt_args.specs.rv_mem.Actions.{carried_out}
+use Rattle.shown_alike.specs.pt_ident.Identity.{Identity, after_exec, effect}
+use Rattle.shown_alike.specs.pt_ident.IdentityTable.{IdentityTable, identity_at}
+use Rattle.pt_args.specs.pt_bind.Tags.{with_tag}
+use Rattle.pt_args.specs.pt_bind.declared.slot.Slot.TheVariants.{Exe}
+use Rattle.swaps_read.specs.pt_results.Notes.{noted, tags_after}
+use Rattle.walks_bare.specs.kr_view.View.{Row, plain}
+use Rattle.pt_args.specs.kr_calls.declared.request.Request.{Request}
+use Rattle.pt_args.specs.kr_calls.declared.request.Request.TheVariants as call
+use Rattle.walks_bare.specs.kr_model.State.{Image, Process, State, process}
+use Rattle.images_apart.specs.kr_steps.Calls.{IsNoExec, LastsLawful}
+use Rattle.turns_match.specs.kr_turns.Breaking.{plain_rule}
+use Rattle.turns_match.specs.kr_turns.PlainCall.{Came, plain_call}
+use Rattle.turns_match.specs.kr_turns.Shelving.{lacks_in}
+use Rattle.turns_match.specs.kr_turns.Stopped.{Stopped}
+use Rattle.turns_match.specs.kr_turns.Turn.{Machine, Tally, after_born, after_end, after_plain, called, calling, watched_call, with_broken}
+use Rattle.turns_match.specs.kr_turns.Watching.{unwatched}
+use Rattle.turns_match.proofs.kr_turns.EditLemmas.{computed-lives}
+use Rattle.turns_match.specs.places_stay.Matching.{IsMatch}
+use Rattle.shown_alike.specs.pt_tracer.Faking.{Faking, after_decoding as faked_decoding, after_due, after_effect as faked_effect, begin_program as faked_beginning, due_of, dues_with, entered as faked_entry, exited as faked_exit, faker, has_answered_zero, is_root, keeping, show_owner, with_due, without_due}
+use Rattle.shown_alike.specs.pt_tracer.Stopping.{after_request, decoded_at, memory_at, with_register}
+use Rattle.shown_alike.specs.pt_tracer.declared.due.Due.{Due}
+use Rattle.shown_alike.specs.pt_tracer.declared.due.Due.TheVariants as due
 use Rattle.swaps_read.specs.pt_watched.Planning.{planned}
 use Rattle.swaps_read.specs.pt_watched.Registers.{arguments_at, given_back}
 use Rattle.swaps_read.specs.pt_watched.Watched.{Applied, Tracing, after_decoding, after_effect, after_pending, answer_at, applied, awaiting, begin_as, begin_program, by_identities, entered, exited, give_back, has_begun, if_answered, is_execve, returned, shown_due, shown_to, tracer, with_identities, with_pending, with_tags, without_pending}

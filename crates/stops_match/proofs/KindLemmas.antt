@@ -1,24 +1,24 @@
 -- Calls along paths by what the tracer makes of them, where an identity is told.
 use Rattle.std.proofs.Common.{◌≡◌, ℕ, true, false, List, Option, Some, None, Ok, refl, sym, ap, subst, ◌∙◌, ℤ}
 use Rattle.std.specs.Prelude.{IsSome}
-use Rattle.pr_base.specs.declared.errno.Errno.{Errno}
-use Rattle.rv_mem.specs.Memory.{Memory}
-use Rattle.rv_mem.specs.declared.regs.Regs.{Regs}
-use Rattle.kr_view.specs.View.{Row, plain}
-use Rattle.kr_calls.specs.PathTable.{path_at}
-use Rattle.kr_calls.specs.declared.request.Request.{Request}
-use Rattle.kr_model.specs.State.{Image, Process, process}
-use Rattle.kr_turns.specs.PlainCall.{plain_call}
-use Rattle.kr_turns.specs.Stopped.{IsThere, Stopped}
-use Rattle.kr_turns.specs.Turn.{Machine, calling, watched_call}
-use Rattle.kr_turns.specs.Watching.{unwatched}
-use Rattle.kr_turns.proofs.EditLemmas.{there}
+use Rattle.turns_match.specs.pr_base.declared.errno.Errno.{Errno}
+use Rattle.pt_args.specs.rv_mem.Memory.{Memory}
+use Rattle.pt_args.specs.rv_mem.declared.regs.Regs.{Regs}
+use Rattle.walks_bare.specs.kr_view.View.{Row, plain}
+use Rattle.pt_args.specs.kr_calls.PathTable.{path_at}
+use Rattle.pt_args.specs.kr_calls.declared.request.Request.{Request}
+use Rattle.walks_bare.specs.kr_model.State.{Image, Process, process}
+use Rattle.turns_match.specs.kr_turns.PlainCall.{plain_call}
+use Rattle.turns_match.specs.kr_turns.Stopped.{IsThere, Stopped}
+use Rattle.turns_match.specs.kr_turns.Turn.{Machine, calling, watched_call}
+use Rattle.turns_match.specs.kr_turns.Watching.{unwatched}
+use Rattle.turns_match.proofs.kr_turns.EditLemmas.{there}
 use Rattle.images_apart.specs.Paths.{is_told_of_paths}
 use Rattle.pt_args.specs.Laws.{ShelvesHoldTheirItems, TextsAreReadBack}
 use Rattle.pt_args.specs.declared.edit.Edit.{Edit}
-use Rattle.pt_ident.specs.Identity.{refusal}
-use Rattle.pt_tracer.specs.Faking.{Faking, faker}
-use Rattle.pt_tracer.specs.Stopping.{after_request, decoded_at}
+use Rattle.shown_alike.specs.pt_ident.Identity.{refusal}
+use Rattle.shown_alike.specs.pt_tracer.Faking.{Faking, faker}
+use Rattle.shown_alike.specs.pt_tracer.Stopping.{after_request, decoded_at}
 use Rattle.swaps_read.specs.pt_watched.Planning.{edit_for, planned_by, texts_at}
 use Rattle.swaps_read.specs.pt_watched.Watched.{Tracing, after_decoding, after_plan, applied, entered, tracer}
 use Rattle.swaps_read.specs.Answered.{StandsAtNoCall}

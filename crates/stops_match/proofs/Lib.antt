@@ -1,4 +1,9 @@
-pub use Rattle.turns_match.proofs as turns_match
+pub use Rattle.walks_bare.proofs.kr_tree as kr_tree
+pub use Rattle.walks_bare.proofs.kr_model as kr_model
+pub use Rattle.images_apart.proofs.kr_seen as kr_seen
+pub use Rattle.images_apart.proofs.kr_calm as kr_calm
+pub use Rattle.walks_bare.proofs as walks_bare
+pub use Rattle.swaps_read.proofs as swaps_read
 pub mod AnsweredLemmas
 pub mod CallLemmas
 pub mod CarryLemmas

@@ -7,48 +7,49 @@ use Rattle.std.specs.List.{list_all}
 use Rattle.std.specs.Option.{option_and_then, option_map, option_map_or}
 use Rattle.std.proofs.lemmas.Bool.Decides.{nat_tests}
 use Rattle.std.proofs.lemmas.Int.{to_z-of_z}
-use Rattle.pr_base.specs.declared.errno.Errno.TheVariants.{EACCES, EAGAIN, EBADF, EINVAL, EMFILE, ENOMEM, ENOTDIR}
-use Rattle.rv_mem.specs.Actions.{MayUse, allows_uses, carried_out}
-use Rattle.rv_mem.specs.Memory.{Memory}
-use Rattle.rv_mem.specs.declared.rights.Use.TheVariants.{Write}
-use Rattle.pt_bind.specs.Tags.{TagTable, forked, tag_of, with_tag}
-use Rattle.pt_bind.specs.declared.slot.Slot.TheVariants.{Cwd, Exe, Fd}
-use Rattle.pt_results.specs.Notes.{copied as noted_copy, copied_from, noted_of, tags_after}
-use Rattle.pt_results.specs.Numbers.{made_number}
-use Rattle.kr_tree.specs.declared.place.Place.{Place}
-use Rattle.kr_files.specs.Descriptors.{lowest_free}
-use Rattle.kr_files.specs.WithoutMounts.{without_mount}
-use Rattle.kr_files.specs.declared.opened.Opened.{Opened}
-use Rattle.kr_files.proofs.DescriptorLemmas.{lowest_free-some}
-use Rattle.kr_view.specs.View.{Row}
-use Rattle.kr_calls.specs.Arguments.{has}
-use Rattle.kr_calls.specs.declared.request.Request.{Request}
-use Rattle.kr_calls.specs.declared.request.Request.TheVariants as call
-use Rattle.kr_model.specs.Applied.{Mounts, applied, images, mount_of}
-use Rattle.kr_model.specs.Asking.{descriptor_number, is_directory_host, is_searched, or_closed}
-use Rattle.kr_model.specs.AttributeRows.{fchmod_row, fchown_row}
-use Rattle.kr_model.specs.Change.{Change, ChangeDirectory, CopyDescriptor, End, Fork, OfDescriptor, OfDirectory, OfFound, OpenFile, ReplaceExecutable, SetAppend, SetCloexec}
-use Rattle.kr_model.specs.DescriptorRows.{cloexec_flag, copy_from, copy_to, copy_under, dup3_row, dup_row, fcntl_by, fcntl_row, o_append, o_cloexec, status_flags}
-use Rattle.kr_model.specs.DirectoryRows.{fchdir_row, if_entered}
-use Rattle.kr_model.specs.Known.{Known, known}
-use Rattle.kr_model.specs.Laws.{ends_nobody, word_told}
-use Rattle.kr_model.specs.MemoryRows.{all_pages}
-use Rattle.kr_model.specs.Operation.{operation}
-use Rattle.kr_model.specs.ProcessRows.{born, clone_row, is_fork, most_processes, set_tid}
-use Rattle.kr_model.specs.Reply.{Reply, done, refusal, refuse}
-use Rattle.kr_model.specs.Seen.{NoPath}
-use Rattle.kr_model.specs.State.{Image, State, image_layout, opened}
-use Rattle.kr_model.specs.declared.outcome.Outcome.{Outcome}
-use Rattle.kr_model.specs.declared.outcome.Outcome.TheVariants.{Answer, Wait, Ended, NoMemory}
-use Rattle.kr_model.proofs.CleanCalls.{answers_end_nobody, ends_as_told}
-use Rattle.kr_calm.proofs.ChangeLemmas.{both}
-use Rattle.kr_calm.proofs.MildCalls.{enters_open, hands_on, operation_hands_nothing}
-use Rattle.kr_calm.proofs.MildLemmas.{comes_to, hand_nothing, hands_nothing}
-use Rattle.kr_turns.specs.PlainCall.{child_of}
-use Rattle.places_stay.specs.Matching.{AreTagged, index_at}
+use Rattle.turns_match.specs.pr_base.declared.errno.Errno.TheVariants.{EACCES, EAGAIN, EBADF, EINVAL, EMFILE, ENOMEM, ENOTDIR}
+use Rattle.pt_args.specs.rv_mem.Actions.{MayUse, allows_uses, carried_out}
+use Rattle.pt_args.specs.rv_mem.Memory.{Memory}
+use Rattle.pt_args.specs.rv_mem.declared.rights.Use.TheVariants.{Write}
+use Rattle.pt_args.specs.pt_bind.Tags.{TagTable, forked, tag_of, with_tag}
+use Rattle.pt_args.specs.pt_bind.declared.slot.Slot.TheVariants.{Cwd, Exe, Fd}
+use Rattle.swaps_read.specs.pt_results.Notes.{copied as noted_copy, copied_from, noted_of, tags_after}
+use Rattle.swaps_read.specs.pt_results.Numbers.{made_number}
+use Rattle.walks_bare.specs.kr_tree.declared.place.Place.{Place}
+use Rattle.walks_bare.specs.kr_files.Descriptors.{lowest_free}
+use Rattle.walks_bare.specs.kr_files.WithoutMounts.{without_mount}
+use Rattle.walks_bare.specs.kr_files.declared.opened.Opened.{Opened}
+use Rattle.walks_bare.proofs.kr_files.DescriptorLemmas.{lowest_free-some}
+use Rattle.walks_bare.specs.kr_view.View.{Row}
+use Rattle.pt_args.specs.kr_calls.Arguments.{has}
+use Rattle.pt_args.specs.kr_calls.declared.request.Request.{Request}
+use Rattle.pt_args.specs.kr_calls.declared.request.Request.TheVariants as call
+use Rattle.walks_bare.specs.kr_model.Applied.{Mounts, applied, images, mount_of}
+use Rattle.walks_bare.specs.kr_model.Asking.{descriptor_number, is_directory_host, is_searched, or_closed}
+use Rattle.walks_bare.specs.kr_model.AttributeRows.{fchmod_row, fchown_row}
+use Rattle.walks_bare.specs.kr_model.Change.{Change, ChangeDirectory, CopyDescriptor, End, Fork, OfDescriptor, OfDirectory, OfFound, OpenFile, ReplaceExecutable, SetAppend, SetCloexec}
+use Rattle.walks_bare.specs.kr_model.DescriptorRows.{cloexec_flag, copy_from, copy_to, copy_under, dup3_row, dup_row, fcntl_by, fcntl_row, o_append, o_cloexec, status_flags}
+use Rattle.walks_bare.specs.kr_model.DirectoryRows.{fchdir_row, if_entered}
+use Rattle.walks_bare.specs.kr_model.Known.{Known, known}
+use Rattle.walks_bare.specs.kr_model.Laws.{ends_nobody, word_told}
+use Rattle.walks_bare.specs.kr_model.MemoryRows.{all_pages}
+use Rattle.walks_bare.specs.kr_model.Operation.{operation}
+use Rattle.walks_bare.specs.kr_model.ProcessRows.{born, clone_row, is_fork, most_processes, set_tid}
+use Rattle.walks_bare.specs.kr_model.Reply.{Reply, done, refusal, refuse}
+use Rattle.walks_bare.specs.kr_model.Seen.{NoPath}
+use Rattle.walks_bare.specs.kr_model.State.{Image, State, image_layout, opened}
+use Rattle.walks_bare.specs.kr_model.declared.outcome.Outcome.{Outcome}
+use Rattle.walks_bare.specs.kr_model.declared.outcome.Outcome.TheVariants.{Answer, Wait, Ended, NoMemory}
+use Rattle.walks_bare.proofs.kr_model.CleanCalls.{answers_end_nobody, ends_as_told}
+use Rattle.images_apart.proofs.kr_calm.ChangeLemmas.{both}
+use Rattle.images_apart.proofs.kr_calm.MildCalls.{enters_open, hands_on, operation_hands_nothing}
+use Rattle.images_apart.proofs.kr_calm.MildLemmas.{comes_to, hand_nothing, hands_nothing}
+use Rattle.turns_match.specs.kr_turns.PlainCall.{child_of}
+use Rattle.turns_match.specs.places_stay.Matching.{AreTagged, index_at}
 use Rattle.turns_match.specs.Changing.{all_tags_made}
 use Rattle.turns_match.specs.Pathless.{IsPathless}
 use Rattle.turns_match.proofs.GrantLemmas.{fchmod_comes, fchown_comes}
+use Rattle.turns_match.proofs.PathlessLemmas.{no_exec}
 use Rattle.stops_match.specs.Noting.{NotesFollow, tags_told, told_answer, with_child}
 
 -- ---- changes at which tags don't look, where no mount is named
@@ -89,7 +90,7 @@ module _ (k : Known) where
   others_keep pid (call.Fchownat dirfd path uid gid flags) memory kind enters hands goes = absurd kind
   others_keep pid r memory kind enters hands goes =
       keep_all (carried_out (operation pid r NoPath k) memory).reply.changes (comes_to (operation pid r NoPath k) (operation_hands_nothing pid r NoPath k refl refl enters hands) memory)
-      (answers_end_nobody pid r NoPath k memory goes)
+      (answers_end_nobody pid r NoPath k memory (no_exec r kind) goes)
 
 -- ---- what is noted of other calls: nothing
 
@@ -147,7 +148,7 @@ module _ (table : List Row) (mounts : Mounts ℕ) (nothing_found : mounts.found 
     -- ---- calls that hand nothing on
 
     others_follow : (r : Request) → IsPathless r → enters_open r ≡ false → hands_on r ≡ false → Follows r (carried_out (operation pid r NoPath k) memory).reply
-    others_follow r kind enters hands = by (carried_out (operation pid r NoPath k) memory).reply refl (others_keep k pid r memory kind enters hands) (ends_as_told pid r NoPath k memory)
+    others_follow r kind enters hands = by (carried_out (operation pid r NoPath k) memory).reply refl (others_keep k pid r memory kind enters hands) (ends_as_told pid r NoPath k memory (no_exec r kind))
       where
         by : (reply : Reply) → (carried_out (operation pid r NoPath k) memory).reply ≡ reply → ((carried_out (operation pid r NoPath k) memory).reply.outcome ≢ Ended → list_all keeps_tags (carried_out (operation pid r NoPath k) memory).reply.changes ≡ true)
             → ((carried_out (operation pid r NoPath k) memory).reply.outcome ≡ Ended → (carried_out (operation pid r NoPath k) memory).reply.changes ≡ End (word_told r) ∷ []) → Follows r reply

@@ -2,12 +2,12 @@
 use Rattle.std.specs.FinMap as map
 use Rattle.std.proofs.Common.{◌≡◌, ℕ, zero, suc, false, cond, List, [], ◌∷◌, Some, None, get_or, refl, ap, ◌∙◌}
 use Rattle.std.specs.Prelude.{◌&&◌, is_none, slice_set}
-use Rattle.kr_calls.specs.declared.request.Request.{Request}
-use Rattle.kr_calls.specs.declared.request.Request.TheVariants as call
-use Rattle.pt_results.specs.Notes.{noted, tags_after}
-use Rattle.pt_tracer.specs.Faking.{has_answered_zero}
-use Rattle.pt_tracer.specs.Stopping.{IsThere, Stopped, after_request, register_at, with_register}
-use Rattle.kr_turns.specs.Stopped.{edited, image_at}
+use Rattle.pt_args.specs.kr_calls.declared.request.Request.{Request}
+use Rattle.pt_args.specs.kr_calls.declared.request.Request.TheVariants as call
+use Rattle.swaps_read.specs.pt_results.Notes.{noted, tags_after}
+use Rattle.shown_alike.specs.pt_tracer.Faking.{has_answered_zero}
+use Rattle.shown_alike.specs.pt_tracer.Stopping.{IsThere, Stopped, after_request, register_at, with_register}
+use Rattle.turns_match.specs.kr_turns.Stopped.{edited, image_at}
 use Rattle.swaps_read.specs.pt_watched.Planning.{nowhere, planned}
 use Rattle.swaps_read.specs.pt_watched.Registers.{arguments_at, given_back}
 use Rattle.swaps_read.specs.pt_watched.Watched.{Tracing, after_decoding, after_pending, after_plan, answer_at, awaiting, begin_program, by_identities, give_back, if_answered, is_execve, returned, shown_to, with_pending, with_tags, without_pending}

@@ -1,26 +1,26 @@
 -- A call without a path, or one that isn't decoded, with its stops, where an identity is told.
 use Rattle.std.proofs.Common.{◌≡◌, ℕ, suc, Bool, List, Option, Some, None, Ok, Err, refl, sym, ap, subst, ◌∙◌}
 use Rattle.std.specs.Prelude.{IsSome}
-use Rattle.pr_base.proofs.MapLemmas.{get-remove_same}
-use Rattle.pr_base.specs.declared.errno.Errno.{Errno}
-use Rattle.pt_ident.specs.Identity.{Effect, effect}
-use Rattle.pt_ident.specs.IdentityTable.{identity_at}
-use Rattle.kr_view.specs.View.{Row, plain}
-use Rattle.kr_calls.specs.Decoding.{Decoded}
-use Rattle.kr_calls.specs.declared.request.Request.{Request}
-use Rattle.kr_calls.specs.declared.request.Request.TheVariants as call
-use Rattle.kr_model.specs.State.{Image, Process, State, process}
-use Rattle.kr_steps.specs.Calls.{LastsLawful}
-use Rattle.kr_turns.specs.Breaking.{plain_rule}
-use Rattle.kr_turns.specs.PlainCall.{Came, plain_call, refusal_told}
-use Rattle.kr_turns.specs.Shelving.{lacks_in}
-use Rattle.kr_turns.specs.Stopped.{Stopped}
-use Rattle.kr_turns.specs.Turn.{Machine, Tally, after_exit, after_plain, called, calling, watched_call, with_broken}
-use Rattle.kr_turns.specs.Watching.{unwatched}
-use Rattle.kr_turns.specs.declared.plain.CallEnd.TheVariants as end
-use Rattle.places_stay.specs.Matching.{IsMatch}
-use Rattle.pt_tracer.specs.Faking.{Faking, after_decoding as faked_decoding, after_due, due_of, entered as faked_entry, faker, is_root, without_due}
-use Rattle.pt_tracer.specs.Stopping.{after_request, decoded_at}
+use Rattle.turns_match.proofs.pr_base.MapLemmas.{get-remove_same}
+use Rattle.turns_match.specs.pr_base.declared.errno.Errno.{Errno}
+use Rattle.shown_alike.specs.pt_ident.Identity.{Effect, effect}
+use Rattle.shown_alike.specs.pt_ident.IdentityTable.{identity_at}
+use Rattle.walks_bare.specs.kr_view.View.{Row, plain}
+use Rattle.pt_args.specs.kr_calls.Decoding.{Decoded}
+use Rattle.pt_args.specs.kr_calls.declared.request.Request.{Request}
+use Rattle.pt_args.specs.kr_calls.declared.request.Request.TheVariants as call
+use Rattle.walks_bare.specs.kr_model.State.{Image, Process, State, process}
+use Rattle.images_apart.specs.kr_steps.Calls.{LastsLawful}
+use Rattle.turns_match.specs.kr_turns.Breaking.{plain_rule}
+use Rattle.turns_match.specs.kr_turns.PlainCall.{Came, plain_call, refusal_told}
+use Rattle.turns_match.specs.kr_turns.Shelving.{lacks_in}
+use Rattle.turns_match.specs.kr_turns.Stopped.{Stopped}
+use Rattle.turns_match.specs.kr_turns.Turn.{Machine, Tally, after_exit, after_plain, called, calling, watched_call, with_broken}
+use Rattle.turns_match.specs.kr_turns.Watching.{unwatched}
+use Rattle.turns_match.specs.kr_turns.declared.plain.CallEnd.TheVariants as end
+use Rattle.turns_match.specs.places_stay.Matching.{IsMatch}
+use Rattle.shown_alike.specs.pt_tracer.Faking.{Faking, after_decoding as faked_decoding, after_due, due_of, entered as faked_entry, faker, is_root, without_due}
+use Rattle.shown_alike.specs.pt_tracer.Stopping.{after_request, decoded_at}
 use Rattle.swaps_read.specs.pt_watched.Planning.{planned}
 use Rattle.swaps_read.specs.pt_watched.Watched.{Tracing, after_decoding, after_pending, entered, exited, tracer, with_identities, without_pending}
 use Rattle.turns_match.specs.Calls.{CameAlike, decoded_by, decoded_in, tags_behind}

@@ -2,25 +2,25 @@
 use Rattle.std.proofs.Common.{◌≡◌, ℕ, true, false, List, [], ◌∷◌, Option, Some, None, Ok, Err, get_or, refl, sym, ap, subst, ◌∙◌, arith}
 use Rattle.std.specs.Prelude.{◌==◌, Bool, Result, cond}
 use Rattle.std.specs.Option.{option_map}
-use Rattle.pr_base.specs.declared.errno.Errno.{Errno}
-use Rattle.rv_mem.specs.Actions.{CarriedOut, carried_out}
-use Rattle.rv_mem.specs.Memory.{Memory}
-use Rattle.rv_mem.specs.declared.regs.Regs.{Regs}
-use Rattle.kr_view.specs.View.{Row}
-use Rattle.kr_calls.specs.declared.request.Request.TheVariants as call
-use Rattle.kr_model.specs.Applied.{Mounts, all_applied, images, with_image, with_living, with_program}
-use Rattle.kr_model.specs.Change.{Change, CloseOnExec, OfFound, ReplaceExecutable}
-use Rattle.kr_model.specs.State.{Image, Process, State, at_pid, process, with_process}
-use Rattle.kr_seen.specs.Carrying.{memory_of, with_memory, with_memory_of}
-use Rattle.kr_execve.specs.Execution.{Program, changes_of, execution, mount_of}
-use Rattle.kr_steps.specs.Answering.{answered, going, resumed, with_answer}
-use Rattle.kr_steps.specs.Computing.{computed}
-use Rattle.kr_turns.specs.PlainCall.{Came, plain_call, replaced}
-use Rattle.kr_turns.specs.Stopped.{image_in}
-use Rattle.kr_turns.specs.Turn.{called}
-use Rattle.pt_ident.specs.Identity.{refusal}
-use Rattle.pt_tracer.specs.Faking.{has_answered_zero, stack_register, word_of}
-use Rattle.pt_tracer.specs.Stopping.{memory_at, register_at}
+use Rattle.turns_match.specs.pr_base.declared.errno.Errno.{Errno}
+use Rattle.pt_args.specs.rv_mem.Actions.{CarriedOut, carried_out}
+use Rattle.pt_args.specs.rv_mem.Memory.{Memory}
+use Rattle.pt_args.specs.rv_mem.declared.regs.Regs.{Regs}
+use Rattle.walks_bare.specs.kr_view.View.{Row}
+use Rattle.pt_args.specs.kr_calls.declared.request.Request.TheVariants as call
+use Rattle.walks_bare.specs.kr_model.Applied.{Mounts, all_applied, images, with_image, with_living, with_program}
+use Rattle.walks_bare.specs.kr_model.Change.{Change, CloseOnExec, OfFound, ReplaceExecutable}
+use Rattle.walks_bare.specs.kr_model.State.{Image, Process, State, at_pid, process, with_process}
+use Rattle.images_apart.specs.kr_seen.Carrying.{memory_of, with_memory, with_memory_of}
+use Rattle.turns_match.specs.kr_execve.Execution.{Program, changes_of, execution, mount_of}
+use Rattle.images_apart.specs.kr_steps.Answering.{answered, going, resumed, with_answer}
+use Rattle.images_apart.specs.kr_steps.Computing.{computed}
+use Rattle.turns_match.specs.kr_turns.PlainCall.{Came, plain_call, replaced}
+use Rattle.turns_match.specs.kr_turns.Stopped.{image_in}
+use Rattle.turns_match.specs.kr_turns.Turn.{called}
+use Rattle.shown_alike.specs.pt_ident.Identity.{refusal}
+use Rattle.shown_alike.specs.pt_tracer.Faking.{has_answered_zero, stack_register, word_of}
+use Rattle.shown_alike.specs.pt_tracer.Stopping.{memory_at, register_at}
 use Rattle.images_apart.proofs.ApartLemmas.{changes_stand_apart}
 use Rattle.images_fresh.specs.Fresh.{IsFresh}
 use Rattle.images_fresh.proofs.FreshLemmas.{beginnings_read_no_mark, programs_are_fresh}

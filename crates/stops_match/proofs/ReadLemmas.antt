@@ -4,48 +4,48 @@ use Rattle.std.specs.Prelude.{◌==◌, ◌||◌, pos, replicate}
 use Rattle.std.specs.Option.{option_map_or}
 use Rattle.std.proofs.Math.Seq.{length-sets, sets}
 use Rattle.std.proofs.lemmas.List.{length-replicate}
-use Rattle.pr_base.specs.declared.errno.Errno.{Errno}
-use Rattle.pr_base.specs.declared.errno.Errno.TheVariants.{EBADF, EFAULT, ENOENT, ENOSYS}
-use Rattle.rv_mem.specs.Actions.{CarriedOut, WriteBytes, allows_uses, carried_out}
-use Rattle.rv_mem.specs.Memory.{Memory}
-use Rattle.rv_mem.specs.Pages.{IsWhole, any_marked}
-use Rattle.rv_mem.specs.declared.rights.Use.TheVariants.{Write}
-use Rattle.kr_view.specs.View.{Row}
-use Rattle.kr_files.specs.declared.opened.Opened.{Opened}
-use Rattle.kr_files.specs.declared.opened.What.{What}
-use Rattle.kr_files.specs.declared.opened.What.TheVariants as what
-use Rattle.kr_tree.specs.declared.place.Host.{Host}
-use Rattle.kr_tree.specs.declared.place.Host.TheVariants as host
-use Rattle.kr_tree.specs.declared.place.Place.{Place}
-use Rattle.kr_calls.specs.declared.request.Request.{Request}
-use Rattle.kr_calls.specs.declared.request.Request.TheVariants as call
-use Rattle.kr_calls.specs.declared.stat.Stat.{Stat}
-use Rattle.kr_calls.specs.Stats.{laid, stat_fields, stat_layout}
-use Rattle.kr_model.specs.Applied.{Mounts, all_applied, images, with_image}
-use Rattle.kr_model.specs.AttributeRows.{console_stat, fstat_row, newfstatat_here, newfstatat_row, node_stat, pipe_stat, process_stat, stat_host, stat_open, stat_unplaced, tell_stat}
-use Rattle.kr_model.specs.Asking.{descriptor_number, is_working_directory, of_number, or_closed}
-use Rattle.kr_model.specs.Known.{Fact, Known, known}
-use Rattle.kr_model.specs.Operation.{by_path, looked_up, operation}
-use Rattle.kr_model.specs.Reply.{Reply, Replying, done, refuse}
-use Rattle.kr_model.specs.Seen.{LooksUp, Seen, WalkFails}
-use Rattle.kr_model.specs.State.{Image, Process, State, image_layout, process}
-use Rattle.kr_model.specs.Walks.{seen, targets_of}
-use Rattle.kr_model.specs.declared.outcome.Outcome.TheVariants.{Answer}
-use Rattle.kr_allowed.specs.Told.{mounts_walked}
-use Rattle.kr_seen.specs.Carrying.{memory_of, with_memory, with_memory_of}
-use Rattle.kr_steps.specs.Answering.{answered, going, with_answer}
-use Rattle.kr_steps.specs.Calls.{IsNoExec}
-use Rattle.kr_steps.specs.Settling.{settled}
-use Rattle.kr_turns.specs.Breaking.{decoded_rule, operated_rule, plain_rule, plain_rule_of}
-use Rattle.kr_turns.specs.PlainCall.{Came, operated, plain_call}
-use Rattle.kr_turns.specs.Stopped.{image_in}
-use Rattle.kr_turns.specs.Turn.{called}
-use Rattle.kr_turns.proofs.PlainLemmas.{no-exec-requested, no-exec-rule}
-use Rattle.pt_ident.specs.Identity.{refusal}
-use Rattle.pt_tracer.specs.Faking.{Faking, due_of, has_answered_zero, if_root, is_root, show_owner, word_of}
-use Rattle.pt_tracer.specs.Stopping.{Stopped, memory_at}
-use Rattle.pt_tracer.specs.declared.due.Due.TheVariants.{ForgivesOwner, ForgivesRoot}
-use Rattle.calm_places.proofs.InUseLemmas.{neither}
+use Rattle.turns_match.specs.pr_base.declared.errno.Errno.{Errno}
+use Rattle.turns_match.specs.pr_base.declared.errno.Errno.TheVariants.{EBADF, EFAULT, ENOENT, ENOSYS}
+use Rattle.pt_args.specs.rv_mem.Actions.{CarriedOut, WriteBytes, allows_uses, carried_out}
+use Rattle.pt_args.specs.rv_mem.Memory.{Memory}
+use Rattle.pt_args.specs.rv_mem.Pages.{IsWhole, any_marked}
+use Rattle.pt_args.specs.rv_mem.declared.rights.Use.TheVariants.{Write}
+use Rattle.walks_bare.specs.kr_view.View.{Row}
+use Rattle.walks_bare.specs.kr_files.declared.opened.Opened.{Opened}
+use Rattle.walks_bare.specs.kr_files.declared.opened.What.{What}
+use Rattle.walks_bare.specs.kr_files.declared.opened.What.TheVariants as what
+use Rattle.walks_bare.specs.kr_tree.declared.place.Host.{Host}
+use Rattle.walks_bare.specs.kr_tree.declared.place.Host.TheVariants as host
+use Rattle.walks_bare.specs.kr_tree.declared.place.Place.{Place}
+use Rattle.pt_args.specs.kr_calls.declared.request.Request.{Request}
+use Rattle.pt_args.specs.kr_calls.declared.request.Request.TheVariants as call
+use Rattle.pt_args.specs.kr_calls.declared.stat.Stat.{Stat}
+use Rattle.pt_args.specs.kr_calls.Stats.{laid, stat_fields, stat_layout}
+use Rattle.walks_bare.specs.kr_model.Applied.{Mounts, all_applied, images, with_image}
+use Rattle.walks_bare.specs.kr_model.AttributeRows.{console_stat, fstat_row, newfstatat_here, newfstatat_row, node_stat, pipe_stat, process_stat, stat_host, stat_open, stat_unplaced, tell_stat}
+use Rattle.walks_bare.specs.kr_model.Asking.{descriptor_number, is_working_directory, of_number, or_closed}
+use Rattle.walks_bare.specs.kr_model.Known.{Fact, Known, known}
+use Rattle.walks_bare.specs.kr_model.Operation.{by_path, looked_up, operation}
+use Rattle.walks_bare.specs.kr_model.Reply.{Reply, Replying, done, refuse}
+use Rattle.walks_bare.specs.kr_model.Seen.{LooksUp, Seen, WalkFails}
+use Rattle.walks_bare.specs.kr_model.State.{Image, Process, State, image_layout, process}
+use Rattle.walks_bare.specs.kr_model.Walks.{seen, targets_of}
+use Rattle.walks_bare.specs.kr_model.declared.outcome.Outcome.TheVariants.{Answer}
+use Rattle.turns_match.specs.kr_allowed.Told.{mounts_walked}
+use Rattle.images_apart.specs.kr_seen.Carrying.{memory_of, with_memory, with_memory_of}
+use Rattle.images_apart.specs.kr_steps.Answering.{answered, going, with_answer}
+use Rattle.images_apart.specs.kr_steps.Calls.{IsNoExec}
+use Rattle.images_apart.specs.kr_steps.Settling.{settled}
+use Rattle.turns_match.specs.kr_turns.Breaking.{decoded_rule, operated_rule, plain_rule, plain_rule_of}
+use Rattle.turns_match.specs.kr_turns.PlainCall.{Came, operated, plain_call}
+use Rattle.turns_match.specs.kr_turns.Stopped.{image_in}
+use Rattle.turns_match.specs.kr_turns.Turn.{called}
+use Rattle.turns_match.proofs.kr_turns.PlainLemmas.{no-exec-requested, no-exec-rule}
+use Rattle.shown_alike.specs.pt_ident.Identity.{refusal}
+use Rattle.shown_alike.specs.pt_tracer.Faking.{Faking, due_of, has_answered_zero, if_root, is_root, show_owner, word_of}
+use Rattle.shown_alike.specs.pt_tracer.Stopping.{Stopped, memory_at}
+use Rattle.shown_alike.specs.pt_tracer.declared.due.Due.TheVariants.{ForgivesOwner, ForgivesRoot}
+use Rattle.turns_match.proofs.calm_places.InUseLemmas.{neither}
 use Rattle.turns_match.specs.Calls.{decoded_by, decoded_in}
 use Rattle.turns_match.specs.Lasting.{CanBeCalled}
 use Rattle.turns_match.specs.Operating.{done_in}

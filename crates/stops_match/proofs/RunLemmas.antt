@@ -2,20 +2,20 @@
 use Rattle.std.proofs.Common.{◌≡◌, ◌≢◌, ◌<◌, ◌^◌, ℕ, suc, Bool, true, false, cond, List, Option, Some, None, Ok, Err, refl, sym, ap, subst, ◌∙◌}
 use Rattle.std.specs.Prelude.{IsSome}
 use Rattle.std.specs.Option.{option_map}
-use Rattle.rv_cpu.specs.Run.{Ran, ran}
-use Rattle.rv_cpu.specs.declared.event.Event.{Event}
-use Rattle.rv_cpu.specs.declared.event.Event.TheVariants.{Call, Killed, Next}
-use Rattle.rv_mem.specs.Actions.{carried_out}
-use Rattle.rv_mem.specs.Memory.{Memory}
-use Rattle.rv_mem.specs.declared.regs.Regs.{Regs}
-use Rattle.pt_ident.specs.Identity.{Effect, effect, on_memory}
-use Rattle.pt_ident.specs.IdentityTable.{identity_at}
-use Rattle.kr_view.specs.View.{Row, plain}
-use Rattle.kr_calls.specs.Arguments.{number}
-use Rattle.kr_calls.specs.Decoding.{Decoded, decoding}
-use Rattle.kr_calls.specs.declared.request.Request.{Request}
-use Rattle.kr_model.specs.Lawful.{RiseFrom}
-use Rattle.kr_model.specs.State.{Image, Process, State, process}
+use Rattle.images_apart.specs.rv_cpu.Run.{Ran, ran}
+use Rattle.images_apart.specs.rv_cpu.declared.event.Event.{Event}
+use Rattle.images_apart.specs.rv_cpu.declared.event.Event.TheVariants.{Call, Killed, Next}
+use Rattle.pt_args.specs.rv_mem.Actions.{carried_out}
+use Rattle.pt_args.specs.rv_mem.Memory.{Memory}
+use Rattle.pt_args.specs.rv_mem.declared.regs.Regs.{Regs}
+use Rattle.shown_alike.specs.pt_ident.Identity.{Effect, effect, on_memory}
+use Rattle.shown_alike.specs.pt_ident.IdentityTable.{identity_at}
+use Rattle.walks_bare.specs.kr_view.View.{Row, plain}
+use Rattle.pt_args.specs.kr_calls.Arguments.{number}
+use Rattle.pt_args.specs.kr_calls.Decoding.{Decoded, decoding}
+use Rattle.pt_args.specs.kr_calls.declared.request.Request.{Request}
+use Rattle.walks_bare.specs.kr_model.Lawful.{RiseFrom}
+use Rattle.walks_bare.specs.kr_model.State.{Image, Process, State, process}
 use Rattle.turns_match.specs.kr_bytes.Bytes.{HasBytes}
 use Rattle.turns_match.proofs.kr_bytes.ChangeLemmas.{computing-keeps-bytes}
 use Rattle.turns_match.proofs.kr_bytes.InstructionLemmas.{instructions-keep-bytes}
@@ -23,18 +23,18 @@ use Rattle.turns_match.proofs.kr_bytes.LivingLemmas.{process-bytes}
 use Rattle.turns_match.proofs.kr_bytes.RegisterLemmas.{instructions-keep-registers}
 use Rattle.turns_match.proofs.kr_bytes.StartLemmas.{tables-have-bytes}
 use Rattle.turns_match.proofs.kr_bytes.TurnLemmas.{shelf-keeps, turn-runs}
-use Rattle.kr_calm.specs.Shelf.{has_path, is_usable, shelved_by, stack_pointer, with_shelf_marked}
-use Rattle.kr_steps.specs.Calls.{LastsLawful}
-use Rattle.kr_steps.specs.Computing.{computed}
-use Rattle.kr_steps.specs.Waiting.{picked_process}
-use Rattle.kr_turns.specs.Breaking.{plain_rule}
-use Rattle.kr_turns.specs.PlainCall.{plain_call}
-use Rattle.kr_turns.specs.Shelving.{lacks_in, shelved_in}
-use Rattle.kr_turns.specs.Stopped.{Stopped, image_at, image_in}
-use Rattle.kr_turns.specs.Turn.{Machine, after_born, after_event, by_pick, called, calling, turn, watched_call, with_broken}
-use Rattle.kr_turns.proofs.EditLemmas.{computed-lives, image-edited}
-use Rattle.pt_tracer.specs.Faking.{Faking, after_decoding as faked_decoding, after_effect as faked_effect, entered as faked_entry, faker, no_longer_called}
-use Rattle.pt_tracer.specs.Stopping.{after_request, decoded_at, memory_at, with_memory}
+use Rattle.images_apart.specs.kr_calm.Shelf.{has_path, is_usable, shelved_by, stack_pointer, with_shelf_marked}
+use Rattle.images_apart.specs.kr_steps.Calls.{LastsLawful}
+use Rattle.images_apart.specs.kr_steps.Computing.{computed}
+use Rattle.images_apart.specs.kr_steps.Waiting.{picked_process}
+use Rattle.turns_match.specs.kr_turns.Breaking.{plain_rule}
+use Rattle.turns_match.specs.kr_turns.PlainCall.{plain_call}
+use Rattle.turns_match.specs.kr_turns.Shelving.{lacks_in, shelved_in}
+use Rattle.turns_match.specs.kr_turns.Stopped.{Stopped, image_at, image_in}
+use Rattle.turns_match.specs.kr_turns.Turn.{Machine, after_born, after_event, by_pick, called, calling, turn, watched_call, with_broken}
+use Rattle.turns_match.proofs.kr_turns.EditLemmas.{computed-lives, image-edited}
+use Rattle.shown_alike.specs.pt_tracer.Faking.{Faking, after_decoding as faked_decoding, after_effect as faked_effect, entered as faked_entry, faker, no_longer_called}
+use Rattle.shown_alike.specs.pt_tracer.Stopping.{after_request, decoded_at, memory_at, with_memory}
 use Rattle.swaps_read.specs.pt_watched.Watched.{Tracing, tracer, with_identities}
 use Rattle.turns_match.specs.Quiet.{DropsTags, MakesNoCall}
 use Rattle.turns_match.specs.Runs.{GoTogether, KeepOn}
@@ -53,7 +53,7 @@ use Rattle.stops_match.specs.Together.{any_call}
 use Rattle.stops_match.specs.Turning.{tags_kept}
 use Rattle.stops_match.proofs.CallLemmas.{own_image}
 use Rattle.stops_match.specs.Going.{ComeToFakedCall, GoBySame}
-use Rattle.stops_match.specs.Runs.{CanRunFaked, EachCallGoesTogether, FakedRunsComeAlike, Kept, faked_by, traced_by}
+use Rattle.stops_match.specs.Runs.{CanRunFaked, EachCallGoesTogether, FakedRunsComeAlike, FakedTurnsGoTogether, Kept, faked_by, traced_by}
 use Rattle.stops_match.proofs.GoingLemmas.{goes_gone}
 
 some_same : {A : Type 0} {a b : A} → Some a ≡ Some b → a ≡ b
@@ -315,10 +315,14 @@ module _ (safe : Faking → Bool) (sound : Tracing → Bool) (table : List Row) 
         let goes = turned_on.goes in
         record { bytes = mine.state; also_bytes = yours.state; agree = λ i. (sym goes.bindings i, sym goes.user i, sym goes.identities i, mine.watcher i, sym yours.watcher i) }
 
+pub faked_turns_go_together : FakedTurnsGoTogether
+faked_turns_go_together safe sound table calls can pick fuel made m n few both keep calm =
+    ((turned_on safe sound table calls can made few m n both keep pick fuel calm).together, turn_keeps safe sound table calls can made few m n both keep pick fuel calm)
+
 pub faked_runs_come_alike : FakedRunsComeAlike
 faked_runs_come_alike safe sound table slots calls can turns m n few both keep calm =
     runs_come_alike Faking Tracing Kept faker tracer tags_kept (faked_by safe table) (traced_by sound) table slots
     (record {
-      together = λ made m n few both keep going calm. (turned_on safe sound table calls can made few m n both keep (slots made).pick (slots made).fuel calm).together;
-      keeps = λ made m n few both keep going calm. turn_keeps safe sound table calls can made few m n both keep (slots made).pick (slots made).fuel calm;
+      together = λ made m n few both keep going calm. (faked_turns_go_together safe sound table calls can (slots made).pick (slots made).fuel made m n few both keep calm).0;
+      keeps = λ made m n few both keep going calm. (faked_turns_go_together safe sound table calls can (slots made).pick (slots made).fuel made m n few both keep calm).1;
     }) turns m n few both keep calm

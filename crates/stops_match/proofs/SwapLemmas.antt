@@ -4,29 +4,29 @@ use Rattle.std.proofs.Common.{◌≡◌, ℕ, true, false, List, [], ◌∷◌, 
 use Rattle.std.specs.Prelude.{IsSome, get_or, nat_eq, slice_set}
 use Rattle.std.proofs.lemmas.Bool.Decides.{nat_tests}
 use Rattle.std.specs.Int.{cast_signed, w64}
-use Rattle.pr_base.proofs.MapLemmas.{get-insert_same}
-use Rattle.rv_mem.specs.Actions.{Action, AreEqualUnmarked, Done, WriteBytes, carried_out}
-use Rattle.rv_mem.specs.Memory.{Memory, with_pages}
-use Rattle.rv_mem.specs.Pages.{HoldsBytes, IsPlaced, IsWhole, Pages, written}
-use Rattle.rv_mem.specs.declared.regs.Regs.{Regs}
+use Rattle.turns_match.proofs.pr_base.MapLemmas.{get-insert_same}
+use Rattle.pt_args.specs.rv_mem.Actions.{Action, AreEqualUnmarked, Done, WriteBytes, carried_out}
+use Rattle.pt_args.specs.rv_mem.Memory.{Memory, with_pages}
+use Rattle.pt_args.specs.rv_mem.Pages.{HoldsBytes, IsPlaced, IsWhole, Pages, written}
+use Rattle.pt_args.specs.rv_mem.declared.regs.Regs.{Regs}
 use Rattle.pt_args.specs.Laws.{ShelvesHoldTheirItems, TextsAreReadBack, poked}
 use Rattle.pt_args.specs.declared.edit.Edit.TheVariants.{Pass}
-use Rattle.pt_results.specs.Notes.{noted, tags_after}
-use Rattle.kr_view.specs.View.{Row, plain}
-use Rattle.kr_calls.specs.Decoding.{decoding}
+use Rattle.swaps_read.specs.pt_results.Notes.{noted, tags_after}
+use Rattle.walks_bare.specs.kr_view.View.{Row, plain}
+use Rattle.pt_args.specs.kr_calls.Decoding.{decoding}
 use Rattle.turns_match.specs.kr_bytes.Bytes.{HasBytes}
 use Rattle.turns_match.proofs.kr_bytes.LivingLemmas.{process-bytes}
-use Rattle.kr_calls.specs.PathTable.{path_at}
-use Rattle.kr_calls.specs.declared.request.Request.{Request}
-use Rattle.kr_calls.specs.declared.request.Request.TheVariants as call
-use Rattle.kr_allowed.proofs.RowLemmas.{StaysLike, stays-like}
-use Rattle.kr_model.specs.State.{Image, Process, State, process}
-use Rattle.kr_turns.specs.PlainCall.{Came}
-use Rattle.kr_turns.specs.Stopped.{IsThere, Stopped, edited, image_at}
-use Rattle.kr_turns.specs.Turn.{Machine, called, calling, watched_call}
-use Rattle.kr_turns.specs.Watching.{unwatched}
-use Rattle.kr_turns.proofs.EditLemmas.{image-edited, there as is_there}
-use Rattle.pt_tracer.specs.Stopping.{after_request, decoded_at, memory_at}
+use Rattle.pt_args.specs.kr_calls.PathTable.{path_at}
+use Rattle.pt_args.specs.kr_calls.declared.request.Request.{Request}
+use Rattle.pt_args.specs.kr_calls.declared.request.Request.TheVariants as call
+use Rattle.turns_match.proofs.kr_allowed.RowLemmas.{StaysLike, stays-like}
+use Rattle.walks_bare.specs.kr_model.State.{Image, Process, State, process}
+use Rattle.turns_match.specs.kr_turns.PlainCall.{Came}
+use Rattle.turns_match.specs.kr_turns.Stopped.{IsThere, Stopped, edited, image_at}
+use Rattle.turns_match.specs.kr_turns.Turn.{Machine, called, calling, watched_call}
+use Rattle.turns_match.specs.kr_turns.Watching.{unwatched}
+use Rattle.turns_match.proofs.kr_turns.EditLemmas.{image-edited, there as is_there}
+use Rattle.shown_alike.specs.pt_tracer.Stopping.{after_request, decoded_at, memory_at}
 use Rattle.swaps_read.specs.pt_watched.Planning.{edit_for, led_of, planned_by, stack_at, texts_at}
 use Rattle.swaps_read.specs.pt_watched.Registers.{arguments_at}
 use Rattle.swaps_read.specs.pt_watched.Watched.{Applied, Tracing, after_decoding, after_plan, answer_at, applied, awaiting, by_identities, entered, exited, tracer, with_pending, with_tags, without_pending}

@@ -2,23 +2,23 @@
 use Rattle.std.proofs.Common.{◌≡◌, ℕ, false, List, Some, Ok, Err, get_or, refl, sym, ap, subst, ◌∙◌, ℤ}
 use Rattle.std.specs.Prelude.{IsSome, slice_set}
 use Rattle.std.proofs.lemmas.List.{set-get_or, set-set, set_comm}
-use Rattle.pr_base.specs.declared.errno.Errno.TheVariants.{ENOSYS}
-use Rattle.rv_mem.specs.Actions.{CarriedOut, carried_out}
-use Rattle.rv_mem.specs.Memory.{Memory}
-use Rattle.rv_mem.specs.declared.regs.Regs.{Regs}
-use Rattle.kr_view.specs.View.{Row}
-use Rattle.kr_calls.specs.Decoding.{Decoded, decoding}
-use Rattle.kr_calls.specs.declared.request.Request.{Request}
-use Rattle.kr_model.specs.State.{Image, Process, State, process}
-use Rattle.kr_steps.specs.Answering.{answered, going, with_answer}
-use Rattle.kr_steps.specs.Computing.{computed}
-use Rattle.kr_turns.specs.PlainCall.{Came, plain_call, refusal_told}
-use Rattle.kr_turns.specs.Stopped.{IsThere, Stopped, edited}
-use Rattle.kr_turns.specs.Turn.{called}
-use Rattle.kr_turns.proofs.EditLemmas.{edited-twice, image-edited}
-use Rattle.pt_ident.specs.Identity.{refusal}
-use Rattle.pt_tracer.specs.Faking.{no_call, no_longer_called, told, word_of}
-use Rattle.pt_tracer.specs.Stopping.{with_memory, with_register}
+use Rattle.turns_match.specs.pr_base.declared.errno.Errno.TheVariants.{ENOSYS}
+use Rattle.pt_args.specs.rv_mem.Actions.{CarriedOut, carried_out}
+use Rattle.pt_args.specs.rv_mem.Memory.{Memory}
+use Rattle.pt_args.specs.rv_mem.declared.regs.Regs.{Regs}
+use Rattle.walks_bare.specs.kr_view.View.{Row}
+use Rattle.pt_args.specs.kr_calls.Decoding.{Decoded, decoding}
+use Rattle.pt_args.specs.kr_calls.declared.request.Request.{Request}
+use Rattle.walks_bare.specs.kr_model.State.{Image, Process, State, process}
+use Rattle.images_apart.specs.kr_steps.Answering.{answered, going, with_answer}
+use Rattle.images_apart.specs.kr_steps.Computing.{computed}
+use Rattle.turns_match.specs.kr_turns.PlainCall.{Came, plain_call, refusal_told}
+use Rattle.turns_match.specs.kr_turns.Stopped.{IsThere, Stopped, edited}
+use Rattle.turns_match.specs.kr_turns.Turn.{called}
+use Rattle.turns_match.proofs.kr_turns.EditLemmas.{edited-twice, image-edited}
+use Rattle.shown_alike.specs.pt_ident.Identity.{refusal}
+use Rattle.shown_alike.specs.pt_tracer.Faking.{no_call, no_longer_called, told, word_of}
+use Rattle.shown_alike.specs.pt_tracer.Stopping.{with_memory, with_register}
 use Rattle.swaps_read.specs.NoCalls.{without_call}
 use Rattle.swaps_read.proofs.NoCallLemmas.{no_calls_are_decoded}
 use Rattle.swaps_read.proofs.StopLemmas.{register_set}

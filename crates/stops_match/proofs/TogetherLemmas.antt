@@ -3,18 +3,18 @@ use Rattle.std.specs.FinMap as map
 use Rattle.std.proofs.Common.{◌≡◌, ◌<◌, ◌^◌, ℕ, suc, Bool, true, false, cond, List, Option, Some, None, Ok, Err, refl, sym, ap, subst, ◌∙◌}
 use Rattle.std.specs.Prelude.{IsSome}
 use Rattle.std.specs.Option.{option_map}
-use Rattle.pr_base.specs.MountText.{MountText}
-use Rattle.rv_cpu.specs.Run.{Ran, ran}
-use Rattle.rv_cpu.specs.declared.event.Event.{Event}
-use Rattle.rv_cpu.specs.declared.event.Event.TheVariants.{Call, Killed, Next}
-use Rattle.rv_mem.specs.Memory.{Memory}
-use Rattle.rv_mem.specs.declared.regs.Regs.{Regs}
-use Rattle.pt_ident.specs.IdentityTable.{IdentityTable, after_birth, after_end}
-use Rattle.kr_view.specs.View.{Row, plain}
-use Rattle.kr_calls.specs.Arguments.{number}
-use Rattle.kr_calls.specs.Decoding.{Decoded, decoding}
-use Rattle.kr_model.specs.Lawful.{RiseFrom}
-use Rattle.kr_model.specs.State.{Image, Process, State, process}
+use Rattle.turns_match.specs.pr_base.MountText.{MountText}
+use Rattle.images_apart.specs.rv_cpu.Run.{Ran, ran}
+use Rattle.images_apart.specs.rv_cpu.declared.event.Event.{Event}
+use Rattle.images_apart.specs.rv_cpu.declared.event.Event.TheVariants.{Call, Killed, Next}
+use Rattle.pt_args.specs.rv_mem.Memory.{Memory}
+use Rattle.pt_args.specs.rv_mem.declared.regs.Regs.{Regs}
+use Rattle.shown_alike.specs.pt_ident.IdentityTable.{IdentityTable, after_birth, after_end}
+use Rattle.walks_bare.specs.kr_view.View.{Row, plain}
+use Rattle.pt_args.specs.kr_calls.Arguments.{number}
+use Rattle.pt_args.specs.kr_calls.Decoding.{Decoded, decoding}
+use Rattle.walks_bare.specs.kr_model.Lawful.{RiseFrom}
+use Rattle.walks_bare.specs.kr_model.State.{Image, Process, State, process}
 use Rattle.turns_match.specs.kr_bytes.Bytes.{HasBytes}
 use Rattle.turns_match.specs.kr_bytes.Turns.{WatchesBytes}
 use Rattle.turns_match.proofs.kr_bytes.ChangeLemmas.{computing-keeps-bytes}
@@ -23,21 +23,21 @@ use Rattle.turns_match.proofs.kr_bytes.LivingLemmas.{process-bytes}
 use Rattle.turns_match.proofs.kr_bytes.RegisterLemmas.{instructions-keep-registers}
 use Rattle.turns_match.proofs.kr_bytes.StartLemmas.{tables-have-bytes}
 use Rattle.turns_match.proofs.kr_bytes.TurnLemmas.{shelf-keeps, turn-runs}
-use Rattle.kr_calm.specs.Shelf.{has_path, is_usable, shelved_by, stack_pointer, with_shelf_marked}
-use Rattle.kr_steps.specs.Calls.{LastsLawful}
-use Rattle.kr_steps.specs.Computing.{computed}
-use Rattle.kr_steps.specs.Waiting.{picked_process}
-use Rattle.kr_turns.specs.Breaking.{plain_rule}
-use Rattle.kr_turns.specs.PlainCall.{plain_call}
-use Rattle.kr_turns.specs.Shelving.{lacks_in, shelved_in}
-use Rattle.kr_turns.specs.Stopped.{Stopped, image_in}
-use Rattle.kr_turns.specs.Turn.{Machine, after_born, after_event, by_pick, called, calling, turn, watched_call, with_broken}
-use Rattle.kr_turns.specs.Watching.{unwatched}
-use Rattle.pt_tracer.specs.Stopping.{after_request, decoded_at}
+use Rattle.images_apart.specs.kr_calm.Shelf.{has_path, is_usable, shelved_by, stack_pointer, with_shelf_marked}
+use Rattle.images_apart.specs.kr_steps.Calls.{LastsLawful}
+use Rattle.images_apart.specs.kr_steps.Computing.{computed}
+use Rattle.images_apart.specs.kr_steps.Waiting.{picked_process}
+use Rattle.turns_match.specs.kr_turns.Breaking.{plain_rule}
+use Rattle.turns_match.specs.kr_turns.PlainCall.{plain_call}
+use Rattle.turns_match.specs.kr_turns.Shelving.{lacks_in, shelved_in}
+use Rattle.turns_match.specs.kr_turns.Stopped.{Stopped, image_in}
+use Rattle.turns_match.specs.kr_turns.Turn.{Machine, after_born, after_event, by_pick, called, calling, turn, watched_call, with_broken}
+use Rattle.turns_match.specs.kr_turns.Watching.{unwatched}
+use Rattle.shown_alike.specs.pt_tracer.Stopping.{after_request, decoded_at}
 use Rattle.swaps_read.specs.pt_watched.Watched.{Tracing, after_decoding, after_pending, begin_as, begin_program, by_identities, entered, exited, give_back, has_begun, tracer, with_tags, without_pending}
 use Rattle.swaps_read.specs.pt_watched.declared.pending.Pending.{Pending}
-use Rattle.pt_bind.specs.Tags.{with_tag}
-use Rattle.pt_bind.specs.declared.slot.Slot.TheVariants.{Exe}
+use Rattle.pt_args.specs.pt_bind.Tags.{with_tag}
+use Rattle.pt_args.specs.pt_bind.declared.slot.Slot.TheVariants.{Exe}
 use Rattle.turns_match.specs.Quiet.{DropsTags, MakesNoCall}
 use Rattle.turns_match.specs.Runs.{GoTogether, KeepOn}
 use Rattle.turns_match.specs.Sizes.{AreSized}
@@ -51,7 +51,7 @@ use Rattle.turns_match.proofs.PickLemmas.{matches_go_on_alike}
 use Rattle.turns_match.proofs.QuietLemmas.{kept_none, picked_lives}
 use Rattle.turns_match.proofs.RunLemmas.{instructions_keep_matches}
 use Rattle.turns_match.proofs.UnreadLemmas.{calm_unread, unread_before}
-use Rattle.stops_match.specs.Together.{CallsGoTogether, CanRun, TracedRunsComeAlike, any_call, goes_by, gone_by}
+use Rattle.stops_match.specs.Together.{CallsGoTogether, CanRun, TracedRunsComeAlike, TracedTurnsGoTogether, any_call, goes_by, gone_by}
 use Rattle.stops_match.specs.Turning.{ComeToCall, Traces, tags_kept}
 use Rattle.stops_match.proofs.CallLemmas.{own_image}
 
@@ -232,10 +232,14 @@ module _ {S : Type 0} (sound : Tracing → Bool) (table : List Row) (calls : Cal
         let yours = turn-runs (Sound table sound can.watches) tracer (traced table sound can.watches) 0 plain tables-have-bytes.plain_view pick fuel n (record { watcher = (is_sound, traces); state = keep.also_bytes }) in
         record { bytes = mine.state; also_bytes = yours.state; agree = λ i. (sym yours.watcher.1.bindings i, sym yours.watcher.1.identities i, sym yours.watcher.0 i) }
 
+pub traced_turns_go_together : (S : Type 0) → TracedTurnsGoTogether S
+traced_turns_go_together S sound table calls can pick fuel made m n few both keep calm =
+    (turn_together sound table calls can made few m n both keep pick fuel calm, turn_keeps sound table calls can made few m n both keep pick fuel calm)
+
 pub traced_runs_come_alike : (S : Type 0) → TracedRunsComeAlike S
 traced_runs_come_alike S sound table slots calls can turns m n few both keep calm =
     runs_come_alike S Tracing (List MountText × Option IdentityTable × Bool) unwatched tracer tags_kept (gone_by table) (goes_by sound) table slots
     (record {
-      together = λ made m n few both keep going calm. turn_together sound table calls can made few m n both keep (slots made).pick (slots made).fuel calm;
-      keeps = λ made m n few both keep going calm. turn_keeps sound table calls can made few m n both keep (slots made).pick (slots made).fuel calm;
+      together = λ made m n few both keep going calm. (traced_turns_go_together S sound table calls can (slots made).pick (slots made).fuel made m n few both keep calm).0;
+      keeps = λ made m n few both keep going calm. (traced_turns_go_together S sound table calls can (slots made).pick (slots made).fuel made m n few both keep calm).1;
     }) turns m n few both keep calm

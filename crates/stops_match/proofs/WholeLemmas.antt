@@ -1,14 +1,14 @@
 -- All calls where an identity is told.
 use Rattle.std.proofs.Common.{◌≡◌, ℕ, Bool, true, false, List, None, Ok, Err, refl, sym, subst}
-use Rattle.kr_view.specs.View.{Row, plain}
-use Rattle.kr_calls.specs.Decoding.{Decoded}
-use Rattle.kr_calls.specs.declared.request.Request.{Request}
-use Rattle.kr_calls.specs.declared.request.Request.TheVariants as call
-use Rattle.kr_turns.specs.Stopped.{Stopped}
-use Rattle.kr_turns.specs.Turn.{Machine, calling, watched_call}
+use Rattle.walks_bare.specs.kr_view.View.{Row, plain}
+use Rattle.pt_args.specs.kr_calls.Decoding.{Decoded}
+use Rattle.pt_args.specs.kr_calls.declared.request.Request.{Request}
+use Rattle.pt_args.specs.kr_calls.declared.request.Request.TheVariants as call
+use Rattle.turns_match.specs.kr_turns.Stopped.{Stopped}
+use Rattle.turns_match.specs.kr_turns.Turn.{Machine, calling, watched_call}
 use Rattle.images_apart.specs.Paths.{is_told_of_paths}
-use Rattle.pt_tracer.specs.Faking.{Faking, faker}
-use Rattle.pt_tracer.specs.Stopping.{decoded_at}
+use Rattle.shown_alike.specs.pt_tracer.Faking.{Faking, faker}
+use Rattle.shown_alike.specs.pt_tracer.Stopping.{decoded_at}
 use Rattle.swaps_read.specs.pt_watched.Watched.{Tracing, is_execve, tracer}
 use Rattle.turns_match.specs.Pathless.{IsPathless}
 use Rattle.stops_match.specs.Turning.{HasNoPath}

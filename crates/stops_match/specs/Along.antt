@@ -1,16 +1,16 @@
 -- Calls along paths, where an identity is told: both kernels answer them, and what is left is what stands without an identity.
 use Rattle.std.specs.Prelude.{◌≡◌, ℕ, true, List, None, Some, Ok, Err}
-use Rattle.kr_view.specs.View.{Row, plain}
-use Rattle.kr_calls.specs.Decoding.{Decoded}
-use Rattle.kr_calls.specs.declared.request.Request.{Request}
-use Rattle.kr_model.specs.State.{Image, Process, State, process}
-use Rattle.kr_turns.specs.PlainCall.{Came, plain_call}
-use Rattle.kr_turns.specs.Turn.{Machine, calling, watched_call}
-use Rattle.kr_turns.specs.Watching.{unwatched}
-use Rattle.kr_turns.specs.declared.plain.CallEnd.TheVariants as end
+use Rattle.walks_bare.specs.kr_view.View.{Row, plain}
+use Rattle.pt_args.specs.kr_calls.Decoding.{Decoded}
+use Rattle.pt_args.specs.kr_calls.declared.request.Request.{Request}
+use Rattle.walks_bare.specs.kr_model.State.{Image, Process, State, process}
+use Rattle.turns_match.specs.kr_turns.PlainCall.{Came, plain_call}
+use Rattle.turns_match.specs.kr_turns.Turn.{Machine, calling, watched_call}
+use Rattle.turns_match.specs.kr_turns.Watching.{unwatched}
+use Rattle.turns_match.specs.kr_turns.declared.plain.CallEnd.TheVariants as end
 use Rattle.images_apart.specs.Paths.{is_told_of_paths}
-use Rattle.pt_tracer.specs.Faking.{Faking, faker}
-use Rattle.pt_tracer.specs.Stopping.{after_request, decoded_at}
+use Rattle.shown_alike.specs.pt_tracer.Faking.{Faking, faker}
+use Rattle.shown_alike.specs.pt_tracer.Stopping.{after_request, decoded_at}
 use Rattle.swaps_read.specs.pt_watched.Planning.{planned}
 use Rattle.swaps_read.specs.pt_watched.Watched.{Tracing, tracer}
 use Rattle.turns_match.specs.Calls.{decoded_by}

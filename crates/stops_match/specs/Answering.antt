@@ -1,13 +1,13 @@
 -- A call along paths that the tracer answers at its first stop, where the kernel with mounts answers the same and writes the same bytes.
 use Rattle.std.specs.Prelude.{◌≡◌, ℕ, ℤ, true, List, [], None, Some, Ok}
-use Rattle.rv_mem.specs.Actions.{AreEqualUnmarked}
-use Rattle.pt_results.specs.Notes.{noted, tags_after}
-use Rattle.kr_view.specs.View.{Row, plain}
-use Rattle.kr_calls.specs.declared.request.Request.{Request}
-use Rattle.kr_model.specs.declared.outcome.Outcome.TheVariants.{Answer}
-use Rattle.kr_turns.specs.Turn.{Machine, calling, watched_call}
-use Rattle.kr_turns.specs.Watching.{unwatched}
-use Rattle.pt_tracer.specs.Stopping.{decoded_at, memory_at}
+use Rattle.pt_args.specs.rv_mem.Actions.{AreEqualUnmarked}
+use Rattle.swaps_read.specs.pt_results.Notes.{noted, tags_after}
+use Rattle.walks_bare.specs.kr_view.View.{Row, plain}
+use Rattle.pt_args.specs.kr_calls.declared.request.Request.{Request}
+use Rattle.walks_bare.specs.kr_model.declared.outcome.Outcome.TheVariants.{Answer}
+use Rattle.turns_match.specs.kr_turns.Turn.{Machine, calling, watched_call}
+use Rattle.turns_match.specs.kr_turns.Watching.{unwatched}
+use Rattle.shown_alike.specs.pt_tracer.Stopping.{decoded_at, memory_at}
 use Rattle.swaps_read.specs.pt_watched.Planning.{edit_for, led_of, texts_at}
 use Rattle.swaps_read.specs.pt_watched.Watched.{Tracing, applied, tracer}
 use Rattle.images_apart.specs.Paths.{is_told_of_paths}

@@ -1,18 +1,18 @@
 -- An execve(2) with its stops, where an identity is told: the new program is told who it is on both machines.
 use Rattle.std.specs.Prelude.{◌≡◌, ℕ, Bool, false, true, List, None, Some, Ok}
 use Rattle.std.specs.FinMap as map
-use Rattle.rv_mem.specs.Actions.{carried_out}
-use Rattle.pt_ident.specs.Identity.{Identity}
-use Rattle.kr_view.specs.View.{Row, plain}
-use Rattle.kr_calls.specs.declared.request.Request.{Request}
-use Rattle.kr_calls.specs.declared.request.Request.TheVariants as call
-use Rattle.kr_model.specs.State.{Image, Process, State, process}
-use Rattle.kr_turns.specs.PlainCall.{plain_call}
-use Rattle.kr_turns.specs.Stopped.{Stopped}
-use Rattle.kr_turns.specs.Turn.{Machine, called, calling, watched_call}
-use Rattle.kr_turns.specs.Watching.{unwatched}
-use Rattle.pt_tracer.specs.Faking.{Faking, faker, has_answered_zero, show_identity, stack_register}
-use Rattle.pt_tracer.specs.Stopping.{decoded_at, memory_at, register_at}
+use Rattle.pt_args.specs.rv_mem.Actions.{carried_out}
+use Rattle.shown_alike.specs.pt_ident.Identity.{Identity}
+use Rattle.walks_bare.specs.kr_view.View.{Row, plain}
+use Rattle.pt_args.specs.kr_calls.declared.request.Request.{Request}
+use Rattle.pt_args.specs.kr_calls.declared.request.Request.TheVariants as call
+use Rattle.walks_bare.specs.kr_model.State.{Image, Process, State, process}
+use Rattle.turns_match.specs.kr_turns.PlainCall.{plain_call}
+use Rattle.turns_match.specs.kr_turns.Stopped.{Stopped}
+use Rattle.turns_match.specs.kr_turns.Turn.{Machine, called, calling, watched_call}
+use Rattle.turns_match.specs.kr_turns.Watching.{unwatched}
+use Rattle.shown_alike.specs.pt_tracer.Faking.{Faking, faker, has_answered_zero, show_identity, stack_register}
+use Rattle.shown_alike.specs.pt_tracer.Stopping.{decoded_at, memory_at, register_at}
 use Rattle.swaps_read.specs.pt_watched.Watched.{Tracing, entered, has_begun, is_execve, tracer}
 use Rattle.swaps_read.specs.pt_watched.declared.pending.Pending.{Pending}
 use Rattle.turns_match.specs.Calls.{decoded_by}

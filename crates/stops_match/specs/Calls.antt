@@ -1,15 +1,15 @@
 -- Calls with their stops, on a machine with mounts on which processes are told an identity, and on a plain one with the tracer.
 use Rattle.std.specs.Prelude.{◌≡◌, ℕ, List, None, Some, Ok}
-use Rattle.kr_view.specs.View.{Row, plain}
-use Rattle.kr_calls.specs.declared.request.Request.{Request}
-use Rattle.kr_steps.specs.Calls.{IsNoExec}
-use Rattle.kr_turns.specs.PlainCall.{Came, plain_call}
-use Rattle.kr_turns.specs.Turn.{Machine, called, calling, watched_call}
-use Rattle.kr_turns.specs.Watching.{unwatched}
-use Rattle.pt_ident.specs.Identity.{Effect, effect}
-use Rattle.pt_ident.specs.IdentityTable.{identity_at}
-use Rattle.pt_tracer.specs.Faking.{Faking, due_of, faker, is_root}
-use Rattle.pt_tracer.specs.Stopping.{after_request, decoded_at}
+use Rattle.walks_bare.specs.kr_view.View.{Row, plain}
+use Rattle.pt_args.specs.kr_calls.declared.request.Request.{Request}
+use Rattle.images_apart.specs.kr_steps.Calls.{IsNoExec}
+use Rattle.turns_match.specs.kr_turns.PlainCall.{Came, plain_call}
+use Rattle.turns_match.specs.kr_turns.Turn.{Machine, called, calling, watched_call}
+use Rattle.turns_match.specs.kr_turns.Watching.{unwatched}
+use Rattle.shown_alike.specs.pt_ident.Identity.{Effect, effect}
+use Rattle.shown_alike.specs.pt_ident.IdentityTable.{identity_at}
+use Rattle.shown_alike.specs.pt_tracer.Faking.{Faking, due_of, faker, is_root}
+use Rattle.shown_alike.specs.pt_tracer.Stopping.{after_request, decoded_at}
 use Rattle.swaps_read.specs.pt_watched.Planning.{planned}
 use Rattle.swaps_read.specs.pt_watched.Watched.{Tracing, entered, tracer}
 use Rattle.stops_match.specs.Turning.{ComeFromCall, HasNoPath}

@@ -1,18 +1,18 @@
 -- A call that the tracer cancels, where the kernel with mounts answers the same error.
 use Rattle.std.specs.Prelude.{◌≡◌, ℕ, List, None, Ok}
-use Rattle.pr_base.specs.declared.errno.Errno.{Errno}
-use Rattle.kr_view.specs.View.{Row, plain}
-use Rattle.kr_calls.specs.declared.request.Request.{Request}
-use Rattle.kr_model.specs.Known.{known}
-use Rattle.kr_model.specs.Operation.{operation}
-use Rattle.kr_model.specs.Reply.{refuse}
-use Rattle.kr_model.specs.State.{image_layout}
-use Rattle.kr_model.specs.Walks.{seen}
-use Rattle.kr_steps.specs.Calls.{IsNoExec}
-use Rattle.kr_turns.specs.Turn.{Machine, calling, watched_call}
-use Rattle.kr_turns.specs.Watching.{unwatched}
+use Rattle.turns_match.specs.pr_base.declared.errno.Errno.{Errno}
+use Rattle.walks_bare.specs.kr_view.View.{Row, plain}
+use Rattle.pt_args.specs.kr_calls.declared.request.Request.{Request}
+use Rattle.walks_bare.specs.kr_model.Known.{known}
+use Rattle.walks_bare.specs.kr_model.Operation.{operation}
+use Rattle.walks_bare.specs.kr_model.Reply.{refuse}
+use Rattle.walks_bare.specs.kr_model.State.{image_layout}
+use Rattle.walks_bare.specs.kr_model.Walks.{seen}
+use Rattle.images_apart.specs.kr_steps.Calls.{IsNoExec}
+use Rattle.turns_match.specs.kr_turns.Turn.{Machine, calling, watched_call}
+use Rattle.turns_match.specs.kr_turns.Watching.{unwatched}
 use Rattle.pt_args.specs.declared.edit.Edit.TheVariants.{Cancel}
-use Rattle.pt_tracer.specs.Stopping.{Stopped, after_request, decoded_at}
+use Rattle.shown_alike.specs.pt_tracer.Stopping.{Stopped, after_request, decoded_at}
 use Rattle.swaps_read.specs.pt_watched.Planning.{edit_for, texts_at}
 use Rattle.swaps_read.specs.pt_watched.Watched.{Tracing, tracer}
 use Rattle.stops_match.specs.Turning.{ComeFromCall, ComeToCall}

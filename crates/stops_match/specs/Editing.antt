@@ -1,16 +1,16 @@
 -- What both watchers edit at the second stop of a call that a kernel carried out, for whoever believes in another identity.
 use Rattle.std.specs.Prelude.{◌≡◌, ℕ, Bool, true, false, IsSome, List, Option, Some, None}
-use Rattle.rv_mem.specs.Actions.{carried_out}
-use Rattle.pt_bind.specs.Tags.{TagTable}
-use Rattle.kr_view.specs.View.{Row}
-use Rattle.kr_model.specs.State.{Image, State, process}
-use Rattle.kr_turns.specs.Stopped.{Stopped}
-use Rattle.pt_ident.specs.Identity.{after_exec}
-use Rattle.pt_ident.specs.IdentityTable.{identity_at}
-use Rattle.pt_tracer.specs.Faking.{Faking, after_due, begin_program, has_answered_zero, show_identity, show_owner, stack_register}
-use Rattle.pt_tracer.specs.Stopping.{memory_at, register_at}
-use Rattle.pt_tracer.specs.declared.due.Due.{Due}
-use Rattle.pt_tracer.specs.declared.due.Due.TheVariants as due
+use Rattle.pt_args.specs.rv_mem.Actions.{carried_out}
+use Rattle.pt_args.specs.pt_bind.Tags.{TagTable}
+use Rattle.walks_bare.specs.kr_view.View.{Row}
+use Rattle.walks_bare.specs.kr_model.State.{Image, State, process}
+use Rattle.turns_match.specs.kr_turns.Stopped.{Stopped}
+use Rattle.shown_alike.specs.pt_ident.Identity.{after_exec}
+use Rattle.shown_alike.specs.pt_ident.IdentityTable.{identity_at}
+use Rattle.shown_alike.specs.pt_tracer.Faking.{Faking, after_due, begin_program, has_answered_zero, show_identity, show_owner, stack_register}
+use Rattle.shown_alike.specs.pt_tracer.Stopping.{memory_at, register_at}
+use Rattle.shown_alike.specs.pt_tracer.declared.due.Due.{Due}
+use Rattle.shown_alike.specs.pt_tracer.declared.due.Due.TheVariants as due
 use Rattle.swaps_read.specs.pt_watched.Watched.{Tracing, begin_as, shown_due}
 use Rattle.stops_match.specs.Going.{StandAlike}
 

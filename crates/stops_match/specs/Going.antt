@@ -1,16 +1,16 @@
 -- A machine with mounts on which a watcher tells processes an identity of their own, and a plain one on which the tracer tells the same.
 use Rattle.std.specs.Prelude.{◌≡◌, ◌<◌, ◌^◌, ℕ, suc, List, IsSome, Some, None}
-use Rattle.kr_view.specs.View.{Row, plain}
-use Rattle.kr_mounts.specs.Standing.{texts_of}
-use Rattle.kr_model.specs.State.{Image, State, process}
-use Rattle.kr_allowed.specs.Told.{SourcesAreNamed}
+use Rattle.walks_bare.specs.kr_view.View.{Row, plain}
+use Rattle.turns_match.specs.kr_mounts.Standing.{texts_of}
+use Rattle.walks_bare.specs.kr_model.State.{Image, State, process}
+use Rattle.turns_match.specs.kr_allowed.Told.{SourcesAreNamed}
 use Rattle.turns_match.specs.kr_bytes.Bytes.{HasBytes}
-use Rattle.kr_steps.specs.Calls.{LastsLawful}
-use Rattle.kr_turns.specs.Turn.{Machine, calling}
-use Rattle.pt_bind.specs.Tags.{TagTable}
-use Rattle.pt_tracer.specs.Faking.{Faking}
+use Rattle.images_apart.specs.kr_steps.Calls.{LastsLawful}
+use Rattle.turns_match.specs.kr_turns.Turn.{Machine, calling}
+use Rattle.pt_args.specs.pt_bind.Tags.{TagTable}
+use Rattle.shown_alike.specs.pt_tracer.Faking.{Faking}
 use Rattle.swaps_read.specs.pt_watched.Watched.{Tracing, tracer, with_identities}
-use Rattle.places_stay.specs.Matching.{IsMatch}
+use Rattle.turns_match.specs.places_stay.Matching.{IsMatch}
 use Rattle.turns_match.specs.Quiet.{MachinesMatch}
 use Rattle.turns_match.specs.Sizes.{AreSized}
 use Rattle.stops_match.specs.Turning.{tags_kept}

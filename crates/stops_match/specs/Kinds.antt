@@ -1,13 +1,13 @@
 -- Calls along paths by what the tracer makes of them, where an identity is told: what keeps both machines together without one does so with
 -- one, too.
 use Rattle.std.specs.Prelude.{◌≡◌, ℕ, ℤ, true, List, Option, None}
-use Rattle.pr_base.specs.declared.errno.Errno.{Errno}
-use Rattle.kr_view.specs.View.{Row, plain}
-use Rattle.kr_calls.specs.declared.request.Request.{Request}
-use Rattle.kr_turns.specs.Turn.{Machine, calling, watched_call}
+use Rattle.turns_match.specs.pr_base.declared.errno.Errno.{Errno}
+use Rattle.walks_bare.specs.kr_view.View.{Row, plain}
+use Rattle.pt_args.specs.kr_calls.declared.request.Request.{Request}
+use Rattle.turns_match.specs.kr_turns.Turn.{Machine, calling, watched_call}
 use Rattle.images_apart.specs.Paths.{is_told_of_paths}
-use Rattle.pt_tracer.specs.Faking.{Faking, faker}
-use Rattle.pt_tracer.specs.Stopping.{after_request}
+use Rattle.shown_alike.specs.pt_tracer.Faking.{Faking, faker}
+use Rattle.shown_alike.specs.pt_tracer.Stopping.{after_request}
 use Rattle.swaps_read.specs.pt_watched.Planning.{planned}
 use Rattle.swaps_read.specs.pt_watched.Watched.{Tracing, tracer}
 use Rattle.swaps_read.specs.Requests.{NewText}

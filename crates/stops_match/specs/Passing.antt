@@ -1,9 +1,9 @@
 -- The tracer at the stops of a call without a path, where no identity is told: it lets the process be.
 use Rattle.std.specs.FinMap as map
 use Rattle.std.specs.Prelude.{◌≡◌, false, None, Some, Ok}
-use Rattle.kr_calls.specs.declared.request.Request.{Request}
-use Rattle.pt_results.specs.Notes.{noted, tags_after}
-use Rattle.pt_tracer.specs.Stopping.{IsThere, Stopped, after_request, decoded_at}
+use Rattle.pt_args.specs.kr_calls.declared.request.Request.{Request}
+use Rattle.swaps_read.specs.pt_results.Notes.{noted, tags_after}
+use Rattle.shown_alike.specs.pt_tracer.Stopping.{IsThere, Stopped, after_request, decoded_at}
 use Rattle.swaps_read.specs.pt_watched.Planning.{nowhere}
 use Rattle.swaps_read.specs.pt_watched.Registers.{arguments_at}
 use Rattle.swaps_read.specs.pt_watched.Watched.{Tracing, answer_at, awaiting, entered, exited, is_execve, with_pending, with_tags, without_pending}

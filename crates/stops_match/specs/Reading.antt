@@ -1,14 +1,14 @@
 -- What is edited of an answer reads no marked byte, where the call broke no calm rule.
 use Rattle.std.specs.Prelude.{◌≡◌, ℕ, Bool, List, None, Ok}
-use Rattle.kr_view.specs.View.{Row}
-use Rattle.kr_calls.specs.declared.request.Request.{Request}
-use Rattle.kr_calls.specs.declared.request.Request.TheVariants as call
-use Rattle.kr_model.specs.State.{Image, Process, State}
-use Rattle.kr_steps.specs.Calls.{IsNoExec}
-use Rattle.kr_turns.specs.Breaking.{plain_rule}
-use Rattle.kr_turns.specs.PlainCall.{Came, plain_call}
-use Rattle.kr_turns.specs.Turn.{called}
-use Rattle.pt_tracer.specs.Faking.{Faking, due_of, is_root}
+use Rattle.walks_bare.specs.kr_view.View.{Row}
+use Rattle.pt_args.specs.kr_calls.declared.request.Request.{Request}
+use Rattle.pt_args.specs.kr_calls.declared.request.Request.TheVariants as call
+use Rattle.walks_bare.specs.kr_model.State.{Image, Process, State}
+use Rattle.images_apart.specs.kr_steps.Calls.{IsNoExec}
+use Rattle.turns_match.specs.kr_turns.Breaking.{plain_rule}
+use Rattle.turns_match.specs.kr_turns.PlainCall.{Came, plain_call}
+use Rattle.turns_match.specs.kr_turns.Turn.{called}
+use Rattle.shown_alike.specs.pt_tracer.Faking.{Faking, due_of, is_root}
 use Rattle.turns_match.specs.Calls.{decoded_by}
 use Rattle.turns_match.specs.Lasting.{CanBeCalled}
 use Rattle.turns_match.specs.Sizes.{IsSized}

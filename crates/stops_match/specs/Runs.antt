@@ -1,17 +1,17 @@
--- Runs of both machines where processes are told an identity: where each call keeps them together, so does a run.
-use Rattle.std.specs.Prelude.{◌≡◌, ◌≤◌, ◌^◌, ℕ, Bool, true, List, Option, Some, None}
-use Rattle.pr_base.specs.MountText.{MountText}
-use Rattle.pt_ident.specs.IdentityTable.{IdentityTable}
-use Rattle.kr_inode.specs.declared.user.User.{User}
-use Rattle.kr_view.specs.View.{Row, plain}
-use Rattle.kr_mounts.specs.Standing.{texts_of}
-use Rattle.kr_allowed.specs.Told.{SourcesAreNamed}
+-- Turns and runs of both machines where processes are told an identity: where each call keeps them together, so does a turn, and a run.
+use Rattle.std.specs.Prelude.{◌≡◌, ◌<◌, ◌≤◌, ◌^◌, ℕ, suc, Bool, true, List, Option, Some, None}
+use Rattle.turns_match.specs.pr_base.MountText.{MountText}
+use Rattle.shown_alike.specs.pt_ident.IdentityTable.{IdentityTable}
+use Rattle.shown_alike.specs.kr_inode.declared.user.User.{User}
+use Rattle.walks_bare.specs.kr_view.View.{Row, plain}
+use Rattle.turns_match.specs.kr_mounts.Standing.{texts_of}
+use Rattle.turns_match.specs.kr_allowed.Told.{SourcesAreNamed}
 use Rattle.turns_match.specs.kr_bytes.Bytes.{TableHasBytes}
 use Rattle.turns_match.specs.kr_bytes.Turns.{WatchesBytes}
-use Rattle.kr_turns.specs.Run.{Slot, run}
-use Rattle.kr_turns.specs.Stopped.{Stopped}
-use Rattle.kr_turns.specs.Turn.{Machine, calling, watched_call}
-use Rattle.pt_tracer.specs.Faking.{Faking, faker}
+use Rattle.turns_match.specs.kr_turns.Run.{Slot, run}
+use Rattle.turns_match.specs.kr_turns.Stopped.{Stopped}
+use Rattle.turns_match.specs.kr_turns.Turn.{Machine, calling, turn, watched_call}
+use Rattle.shown_alike.specs.pt_tracer.Faking.{Faking, faker}
 use Rattle.swaps_read.specs.pt_watched.Watched.{Tracing, tracer, with_identities}
 use Rattle.turns_match.specs.Runs.{ComeAlike, GoTogether, KeepOn}
 use Rattle.stops_match.specs.Together.{any_call}
@@ -43,7 +43,16 @@ pub record CanRunFaked (safe : Faking → Bool) (sound : Tracing → Bool) (tabl
   pub watches : WatchesBytes (λ x. sound x ≡ true) tracer
   pub untold : (x : Tracing) → sound x ≡ true → sound (with_identities None x) ≡ true
 
--- so where every call does, a calm run and the watched one come to the same bytes, the same end, the same status and the same tree
+-- so where every call does, each turn does that breaks no calm rule
+abbrev pub FakedTurnsGoTogether : Type 0
+FakedTurnsGoTogether =
+    (safe : Faking → Bool) (sound : Tracing → Bool) (table : List Row) → EachCallGoesTogether any_call table → CanRunFaked safe sound table
+    → (pick fuel made : ℕ) (m : Machine Faking) (n : Machine Tracing) → made < 2 ^ 31 → GoTogether tags_kept table made m n → KeepOn (faked_by safe table) (traced_by sound) m n
+    → (turn faker 1 table pick fuel m).tally.broken ≡ None
+    → GoTogether tags_kept table (suc made) (turn faker 1 table pick fuel m) (turn tracer 0 plain pick fuel n)
+    × KeepOn (faked_by safe table) (traced_by sound) (turn faker 1 table pick fuel m) (turn tracer 0 plain pick fuel n)
+
+-- and a calm run and the watched one come to the same bytes, the same end, the same status and the same tree
 abbrev pub FakedRunsComeAlike : Type 0
 FakedRunsComeAlike =
     (safe : Faking → Bool) (sound : Tracing → Bool) (table : List Row) (slots : ℕ → Slot) → EachCallGoesTogether any_call table → CanRunFaked safe sound table

@@ -1,29 +1,29 @@
 -- A call along paths that the plain kernel carries out: the tracer swaps its paths, or lets it pass, and the plain kernel is told of the
 -- paths what the kernel with mounts is told of the old ones.
 use Rattle.std.specs.Prelude.{◌≡◌, ◌⊎◌, ℕ, ℤ, true, List, Option, None, Ok}
-use Rattle.pr_base.specs.declared.errno.Errno.{Errno}
+use Rattle.turns_match.specs.pr_base.declared.errno.Errno.{Errno}
 use Rattle.pt_args.specs.declared.edit.Edit.TheVariants.{Pass}
-use Rattle.pt_results.specs.Notes.{noted, tags_after}
-use Rattle.kr_view.specs.View.{Row, plain}
-use Rattle.kr_calls.specs.declared.request.Request.{Request}
-use Rattle.kr_allowed.specs.Told.{mounts_walked}
-use Rattle.kr_model.specs.Applied.{Mounts}
-use Rattle.kr_model.specs.Bare.{bare_mounts}
-use Rattle.kr_model.specs.Known.{known}
-use Rattle.kr_model.specs.Operation.{operation}
-use Rattle.kr_model.specs.Reply.{refuse}
-use Rattle.kr_model.specs.Seen.{Seen}
-use Rattle.kr_model.specs.State.{Image, State, image_layout}
-use Rattle.kr_model.specs.Walks.{seen, targets_of}
-use Rattle.kr_model.specs.declared.outcome.Outcome.TheVariants.{Answer}
-use Rattle.kr_turns.specs.Turn.{Machine, calling, watched_call}
-use Rattle.kr_turns.specs.Watching.{unwatched}
-use Rattle.pt_tracer.specs.Stopping.{Stopped, after_request, decoded_at, memory_at}
+use Rattle.swaps_read.specs.pt_results.Notes.{noted, tags_after}
+use Rattle.walks_bare.specs.kr_view.View.{Row, plain}
+use Rattle.pt_args.specs.kr_calls.declared.request.Request.{Request}
+use Rattle.turns_match.specs.kr_allowed.Told.{mounts_walked}
+use Rattle.walks_bare.specs.kr_model.Applied.{Mounts}
+use Rattle.walks_bare.specs.kr_model.Bare.{bare_mounts}
+use Rattle.walks_bare.specs.kr_model.Known.{known}
+use Rattle.walks_bare.specs.kr_model.Operation.{operation}
+use Rattle.walks_bare.specs.kr_model.Reply.{refuse}
+use Rattle.walks_bare.specs.kr_model.Seen.{Seen}
+use Rattle.walks_bare.specs.kr_model.State.{Image, State, image_layout}
+use Rattle.walks_bare.specs.kr_model.Walks.{seen, targets_of}
+use Rattle.walks_bare.specs.kr_model.declared.outcome.Outcome.TheVariants.{Answer}
+use Rattle.turns_match.specs.kr_turns.Turn.{Machine, calling, watched_call}
+use Rattle.turns_match.specs.kr_turns.Watching.{unwatched}
+use Rattle.shown_alike.specs.pt_tracer.Stopping.{Stopped, after_request, decoded_at, memory_at}
 use Rattle.swaps_read.specs.pt_watched.Planning.{edit_for, led_of, stack_at, texts_at}
 use Rattle.swaps_read.specs.pt_watched.Watched.{Tracing, applied, tracer}
 use Rattle.images_apart.specs.Paths.{is_told_of_paths}
-use Rattle.places_stay.specs.Changes.{NewPlacesStand}
-use Rattle.calm_places.specs.Keeping.{MovesStayInside}
+use Rattle.turns_match.specs.places_stay.Changes.{NewPlacesStand}
+use Rattle.turns_match.specs.calm_places.Keeping.{MovesStayInside}
 use Rattle.swaps_read.specs.Requests.{NewText, with_swaps}
 use Rattle.swaps_read.specs.Shelves.{swap_edit}
 use Rattle.swaps_read.specs.Stops.{CanBeSwapped}

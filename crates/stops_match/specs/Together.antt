@@ -1,17 +1,17 @@
--- Runs of a machine with mounts that nobody watches, and of a plain one with the tracer, without an identity: where each call keeps both
--- machines together, so does a run.
-use Rattle.std.specs.Prelude.{◌≡◌, ◌≤◌, ◌^◌, ℕ, Bool, true, List, Option, None}
-use Rattle.pr_base.specs.MountText.{MountText}
-use Rattle.pt_ident.specs.IdentityTable.{IdentityTable}
-use Rattle.kr_view.specs.View.{Row, plain}
-use Rattle.kr_mounts.specs.Standing.{texts_of}
-use Rattle.kr_allowed.specs.Told.{SourcesAreNamed}
+-- Turns and runs of a machine with mounts that nobody watches, and of a plain one with the tracer, without an identity: where each call keeps
+-- both machines together, so does a turn, and a run.
+use Rattle.std.specs.Prelude.{◌≡◌, ◌<◌, ◌≤◌, ◌^◌, ℕ, suc, Bool, true, List, Option, None}
+use Rattle.turns_match.specs.pr_base.MountText.{MountText}
+use Rattle.shown_alike.specs.pt_ident.IdentityTable.{IdentityTable}
+use Rattle.walks_bare.specs.kr_view.View.{Row, plain}
+use Rattle.turns_match.specs.kr_mounts.Standing.{texts_of}
+use Rattle.turns_match.specs.kr_allowed.Told.{SourcesAreNamed}
 use Rattle.turns_match.specs.kr_bytes.Bytes.{TableHasBytes}
 use Rattle.turns_match.specs.kr_bytes.Turns.{WatchesBytes}
-use Rattle.kr_turns.specs.Run.{Slot, run}
-use Rattle.kr_turns.specs.Stopped.{Stopped}
-use Rattle.kr_turns.specs.Turn.{Machine, calling, watched_call}
-use Rattle.kr_turns.specs.Watching.{unwatched}
+use Rattle.turns_match.specs.kr_turns.Run.{Slot, run}
+use Rattle.turns_match.specs.kr_turns.Stopped.{Stopped}
+use Rattle.turns_match.specs.kr_turns.Turn.{Machine, calling, turn, watched_call}
+use Rattle.turns_match.specs.kr_turns.Watching.{unwatched}
 use Rattle.swaps_read.specs.pt_watched.Watched.{Tracing, tracer}
 use Rattle.turns_match.specs.Runs.{ComeAlike, GoTogether, KeepOn}
 use Rattle.stops_match.specs.Turning.{ComeFromCall, ComeToCall, tags_kept}
@@ -39,7 +39,16 @@ pub record CanRun (sound : Tracing → Bool) (table : List Row) : Type 0 where
   pub bytes : TableHasBytes table
   pub watches : WatchesBytes (λ x. sound x ≡ true) tracer
 
--- so where every call does, a calm run and the watched one come to the same bytes, the same end, the same status and the same tree
+-- so where every call does, each turn does that breaks no calm rule
+abbrev pub TracedTurnsGoTogether : Type 0 → Type 0
+TracedTurnsGoTogether S =
+    (sound : Tracing → Bool) (table : List Row) → CallsGoTogether S any_call table → CanRun sound table
+    → (pick fuel made : ℕ) (m : Machine S) (n : Machine Tracing) → made < 2 ^ 31 → GoTogether tags_kept table made m n → KeepOn (gone_by table) (goes_by sound) m n
+    → (turn unwatched 1 table pick fuel m).tally.broken ≡ None
+    → GoTogether tags_kept table (suc made) (turn unwatched 1 table pick fuel m) (turn tracer 0 plain pick fuel n)
+    × KeepOn (gone_by table) (goes_by sound) (turn unwatched 1 table pick fuel m) (turn tracer 0 plain pick fuel n)
+
+-- and a calm run and the watched one come to the same bytes, the same end, the same status and the same tree
 abbrev pub TracedRunsComeAlike : Type 0 → Type 0
 TracedRunsComeAlike S =
     (sound : Tracing → Bool) (table : List Row) (slots : ℕ → Slot) → CallsGoTogether S any_call table → CanRun sound table

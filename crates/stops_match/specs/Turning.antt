@@ -1,17 +1,17 @@
 -- A call with its stops: on a machine with mounts that nobody watches, and on a plain one with the tracer, without an identity.
 use Rattle.std.specs.Prelude.{◌≡◌, ◌<◌, ◌^◌, ℕ, suc, List, IsSome, None, Result, Ok, Err}
-use Rattle.pr_base.specs.declared.errno.Errno.{Errno}
-use Rattle.kr_view.specs.View.{Row, plain}
-use Rattle.kr_mounts.specs.Standing.{texts_of}
-use Rattle.kr_calls.specs.declared.request.Request.{Request}
-use Rattle.kr_model.specs.State.{process}
-use Rattle.kr_allowed.specs.Told.{SourcesAreNamed}
+use Rattle.turns_match.specs.pr_base.declared.errno.Errno.{Errno}
+use Rattle.walks_bare.specs.kr_view.View.{Row, plain}
+use Rattle.turns_match.specs.kr_mounts.Standing.{texts_of}
+use Rattle.pt_args.specs.kr_calls.declared.request.Request.{Request}
+use Rattle.walks_bare.specs.kr_model.State.{process}
+use Rattle.turns_match.specs.kr_allowed.Told.{SourcesAreNamed}
 use Rattle.turns_match.specs.kr_bytes.Bytes.{HasBytes}
-use Rattle.kr_steps.specs.Calls.{LastsLawful}
-use Rattle.kr_turns.specs.Turn.{Machine, calling, watched_call}
-use Rattle.kr_turns.specs.Watching.{unwatched}
-use Rattle.pt_bind.specs.Tags.{TagTable}
-use Rattle.pt_tracer.specs.Stopping.{decoded_at}
+use Rattle.images_apart.specs.kr_steps.Calls.{LastsLawful}
+use Rattle.turns_match.specs.kr_turns.Turn.{Machine, calling, watched_call}
+use Rattle.turns_match.specs.kr_turns.Watching.{unwatched}
+use Rattle.pt_args.specs.pt_bind.Tags.{TagTable}
+use Rattle.shown_alike.specs.pt_tracer.Stopping.{decoded_at}
 use Rattle.swaps_read.specs.pt_watched.Watched.{Tracing, tracer}
 use Rattle.turns_match.specs.Pathless.{IsPathless}
 use Rattle.turns_match.specs.Quiet.{MachinesMatch}

@@ -1,15 +1,15 @@
 -- All calls where an identity is told, by their kinds; and watchers as they start.
 use Rattle.std.specs.Prelude.{◌≡◌, ℕ, Bool, true, List, Some, Ok}
-use Rattle.kr_inode.specs.declared.user.User.{User}
-use Rattle.kr_view.specs.View.{Row}
-use Rattle.kr_mounts.specs.Standing.{texts_of}
-use Rattle.kr_calls.specs.declared.request.Request.{Request}
-use Rattle.kr_turns.specs.Stopped.{Stopped}
-use Rattle.kr_turns.specs.Turn.{Machine, calling}
+use Rattle.shown_alike.specs.kr_inode.declared.user.User.{User}
+use Rattle.walks_bare.specs.kr_view.View.{Row}
+use Rattle.turns_match.specs.kr_mounts.Standing.{texts_of}
+use Rattle.pt_args.specs.kr_calls.declared.request.Request.{Request}
+use Rattle.turns_match.specs.kr_turns.Stopped.{Stopped}
+use Rattle.turns_match.specs.kr_turns.Turn.{Machine, calling}
 use Rattle.images_apart.specs.Paths.{is_told_of_paths}
-use Rattle.pt_bind.specs.Tags.{TagTable}
-use Rattle.pt_tracer.specs.Faking.{Faking, starting_faking}
-use Rattle.pt_tracer.specs.Stopping.{decoded_at}
+use Rattle.pt_args.specs.pt_bind.Tags.{TagTable}
+use Rattle.shown_alike.specs.pt_tracer.Faking.{Faking, starting_faking}
+use Rattle.shown_alike.specs.pt_tracer.Stopping.{decoded_at}
 use Rattle.swaps_read.specs.pt_watched.Watched.{Tracing, is_execve, starting_tracing}
 use Rattle.stops_match.specs.Going.{ComeToFakedCall, GoBySame}
 use Rattle.stops_match.specs.Kinds.{GoesTogether}

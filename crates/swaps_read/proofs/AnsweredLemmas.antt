@@ -3,16 +3,16 @@ use Rattle.std.proofs.Common.{◌≡◌, ℕ, ◌<◌, Bool, true, false, length
 use Rattle.std.specs.Prelude.{IsSome}
 use Rattle.std.specs.Option.{option_map_or}
 use Rattle.std.proofs.lemmas.List.{get_or-set_same}
-use Rattle.pr_base.specs.declared.errno.Errno.TheVariants.{EFAULT, ENOSYS}
-use Rattle.rv_mem.specs.Actions.{CarriedOut, carried_out}
-use Rattle.rv_mem.specs.Memory.{Memory, with_pages}
-use Rattle.rv_mem.specs.declared.regs.Regs.{Regs}
-use Rattle.kr_calls.specs.Decoding.{Decoded, decoding}
-use Rattle.kr_model.specs.State.{Image, Process, process}
-use Rattle.kr_turns.specs.kr_steps.Computing.{computed}
-use Rattle.kr_turns.specs.PlainCall.{after_decoding, plain_call_of, refusal_told}
-use Rattle.kr_turns.specs.Stopped.{IsThere, Stopped, edited, image_at, no_image}
-use Rattle.kr_turns.specs.declared.plain.CallEnd.TheVariants as end
+use Rattle.pt_watched.specs.pr_base.declared.errno.Errno.TheVariants.{EFAULT, ENOSYS}
+use Rattle.pt_watched.specs.rv_mem.Actions.{CarriedOut, carried_out}
+use Rattle.pt_watched.specs.rv_mem.Memory.{Memory, with_pages}
+use Rattle.pt_watched.specs.rv_mem.declared.regs.Regs.{Regs}
+use Rattle.pt_args.specs.kr_calls.Decoding.{Decoded, decoding}
+use Rattle.pt_watched.specs.kr_model.State.{Image, Process, process}
+use Rattle.pt_watched.specs.kr_steps.Computing.{computed}
+use Rattle.pt_watched.specs.kr_turns.PlainCall.{after_decoding, plain_call_of, refusal_told}
+use Rattle.pt_watched.specs.kr_turns.Stopped.{IsThere, Stopped, edited, image_at, no_image}
+use Rattle.pt_watched.specs.kr_turns.declared.plain.CallEnd.TheVariants as end
 use Rattle.pt_args.specs.Laws.{poked as pages_poked}
 use Rattle.pt_args.specs.declared.edit.Edit.{Edit}
 use Rattle.pt_args.specs.declared.edit.Edit.TheVariants.{Cancel, Emulate, Pass, Swap}

@@ -1,11 +1,11 @@
 -- A call whose paths were swapped is decoded to its request with the new texts.
 use Rattle.std.proofs.Common.{◌≡◌, ◌≢◌, ℕ, ◌≤◌, false, Option, Some, None, Ok, arith, sym, subst}
-use Rattle.rv_mem.specs.Actions.{AreEqualUnmarked, carried_out}
-use Rattle.rv_mem.specs.Memory.{Memory}
-use Rattle.rv_mem.specs.declared.regs.Regs.{Regs}
-use Rattle.kr_calls.specs.Arguments.{number}
-use Rattle.kr_calls.specs.Decoding.{decoding}
-use Rattle.kr_calls.specs.declared.request.Request.{Request}
+use Rattle.pt_watched.specs.rv_mem.Actions.{AreEqualUnmarked, carried_out}
+use Rattle.pt_watched.specs.rv_mem.Memory.{Memory}
+use Rattle.pt_watched.specs.rv_mem.declared.regs.Regs.{Regs}
+use Rattle.pt_args.specs.kr_calls.Arguments.{number}
+use Rattle.pt_args.specs.kr_calls.Decoding.{decoding}
+use Rattle.pt_args.specs.kr_calls.declared.request.Request.{Request}
 use Rattle.swaps_read.specs.Requests.{AreOfPaths, IsOfSecond, NewText, with_swaps}
 use Rattle.swaps_read.specs.Swapped.{AreSwapped, IsNotSecond}
 use Rattle.swaps_read.proofs.RegisterLemmas.{path_registers}

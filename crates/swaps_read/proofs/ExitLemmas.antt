@@ -6,11 +6,11 @@ use Rattle.std.specs.Int.{cast_signed, w64}
 use Rattle.std.proofs.lemmas.Bool.{cases_eq, eq-eqb}
 use Rattle.std.proofs.lemmas.Grind.{same_number_lists}
 use Rattle.std.proofs.lemmas.List.{get_or-set_other, get_or-set_same, length-set}
-use Rattle.rv_mem.specs.Memory.{Memory}
-use Rattle.kr_calls.specs.declared.request.Request.{Request}
-use Rattle.kr_model.specs.State.{Image}
-use Rattle.kr_turns.specs.Stopped.{IsThere, Stopped, edited, image_at}
-use Rattle.pt_results.specs.Notes.{noted, tags_after}
+use Rattle.pt_watched.specs.rv_mem.Memory.{Memory}
+use Rattle.pt_args.specs.kr_calls.declared.request.Request.{Request}
+use Rattle.pt_watched.specs.kr_model.State.{Image}
+use Rattle.pt_watched.specs.kr_turns.Stopped.{IsThere, Stopped, edited, image_at}
+use Rattle.pt_watched.specs.pt_results.Notes.{noted, tags_after}
 use Rattle.pt_watched.specs.pt_tracer.Faking.{has_answered_zero, no_call, word_of}
 use Rattle.pt_watched.specs.pt_tracer.Stopping.{after_request, decoded_at, memory_at, with_memory, with_register}
 use Rattle.pt_watched.specs.Planning.{stack_at}

@@ -1,17 +1,17 @@
 -- The decoding of a call leaves the pages of the memory as they are.
 use Rattle.std.proofs.Common.{◌≡◌, ℕ, Bool, true, false, cond, List, [], ◌∷◌, Result, Ok, Err, refl, ap, ◌∙◌}
 use Rattle.std.specs.Prelude.{nat_lt}
-use Rattle.pr_base.specs.declared.errno.Errno.TheVariants.{EFAULT, ENAMETOOLONG, ENOENT}
-use Rattle.rv_mem.specs.Actions.{Action, carried_out}
-use Rattle.rv_mem.specs.Memory.{Memory, text_of}
-use Rattle.rv_mem.specs.declared.fault.TextFault.{TextFault}
-use Rattle.rv_mem.specs.declared.fault.TextFault.TheVariants as text
-use Rattle.rv_mem.specs.declared.regs.Regs.{Regs}
-use Rattle.kr_calls.specs.Arguments.{has, has_other, long, number, word}
-use Rattle.kr_calls.specs.Decoding.{Decoded, accepts, decoding, execve_with, faccessat_with, fchmodat_with, fchownat_with, has_bad_open_flags, has_no_size, link_flags, linkat_with, mkdirat_with, named, newfstatat_with, openat_with, readlinkat_with, refuses, remove_flags, renameat2_with, stat_flags, symlinkat_with, text_limit, unless, unlinkat_with, with_text, with_texts}
-use Rattle.kr_calls.specs.declared.request.Request.{Request}
-use Rattle.kr_calls.specs.declared.request.Request.TheVariants as call
-use Rattle.kr_calls.proofs.TextLemmas.{chosen, read_text_is}
+use Rattle.pt_watched.specs.pr_base.declared.errno.Errno.TheVariants.{EFAULT, ENAMETOOLONG, ENOENT}
+use Rattle.pt_watched.specs.rv_mem.Actions.{Action, carried_out}
+use Rattle.pt_watched.specs.rv_mem.Memory.{Memory, text_of}
+use Rattle.pt_watched.specs.rv_mem.declared.fault.TextFault.{TextFault}
+use Rattle.pt_watched.specs.rv_mem.declared.fault.TextFault.TheVariants as text
+use Rattle.pt_watched.specs.rv_mem.declared.regs.Regs.{Regs}
+use Rattle.pt_args.specs.kr_calls.Arguments.{has, has_other, long, number, word}
+use Rattle.pt_args.specs.kr_calls.Decoding.{Decoded, accepts, decoding, execve_with, faccessat_with, fchmodat_with, fchownat_with, has_bad_open_flags, has_no_size, link_flags, linkat_with, mkdirat_with, named, newfstatat_with, openat_with, readlinkat_with, refuses, remove_flags, renameat2_with, stat_flags, symlinkat_with, text_limit, unless, unlinkat_with, with_text, with_texts}
+use Rattle.pt_args.specs.kr_calls.declared.request.Request.{Request}
+use Rattle.pt_args.specs.kr_calls.declared.request.Request.TheVariants as call
+use Rattle.pt_args.proofs.kr_calls.TextLemmas.{chosen, read_text_is}
 use Rattle.swaps_read.proofs.TableLemmas.{HoldsOfRows, holds}
 use Rattle.swaps_read.proofs.TextLemmas.{after_text}
 

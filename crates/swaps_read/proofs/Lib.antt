@@ -1,3 +1,6 @@
+pub use Rattle.pt_watched.proofs.pr_base as pr_base
+pub use Rattle.pt_watched.proofs.kr_resolved as kr_resolved
+pub use Rattle.pt_watched.proofs.pt_bind as pt_bind
 pub mod AnsweredLemmas
 pub mod DecodeLemmas
 pub mod ExitLemmas

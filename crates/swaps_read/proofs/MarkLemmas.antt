@@ -2,12 +2,12 @@
 use Rattle.std.proofs.Common.{◌≡◌, ◌∙◌, ◌+◌, ◌-◌, ◌/◌, ◌≤◌, ◌<◌, ℕ, true, if◌then◌else◌, ap, arith, subst, sym}
 use Rattle.std.proofs.lemmas.Bool.{and_parts, leb-true}
 use Rattle.std.specs.Prelude.{◌&&◌, nat_le}
-use Rattle.rv_mem.proofs.AccessLemmas.{contains_allowed}
-use Rattle.rv_mem.proofs.AddressLemmas.{is_marked-marked_in}
-use Rattle.rv_mem.specs.Memory.{Memory}
-use Rattle.rv_mem.specs.Pages.{IsWhole, Pages, allows, allows_all, is_marked, marked}
-use Rattle.rv_mem.specs.declared.rights.Use.TheVariants.{Read, Write}
-use Rattle.kr_calm.specs.Shelf.{is_usable, shelf_size, shelf_start, shelved_by, stack_pointer, with_shelf_marked}
+use Rattle.pt_watched.proofs.rv_mem.AccessLemmas.{contains_allowed}
+use Rattle.pt_watched.proofs.rv_mem.AddressLemmas.{is_marked-marked_in}
+use Rattle.pt_watched.specs.rv_mem.Memory.{Memory}
+use Rattle.pt_watched.specs.rv_mem.Pages.{IsWhole, Pages, allows, allows_all, is_marked, marked}
+use Rattle.pt_watched.specs.rv_mem.declared.rights.Use.TheVariants.{Read, Write}
+use Rattle.pt_watched.specs.kr_calm.Shelf.{is_usable, shelf_size, shelf_start, shelved_by, stack_pointer, with_shelf_marked}
 use Rattle.swaps_read.proofs.RangeLemmas.{byte_allowed}
 use Rattle.swaps_read.specs.Marking.{ShelvesAreMarked}
 use Rattle.swaps_read.specs.Shelves.{HasMarkedShelf, bottom_of}

@@ -1,12 +1,12 @@
 -- The number of no call is refused.
 use Rattle.std.proofs.Common.{◌≡◌, Err, ap}
 use Rattle.std.proofs.lemmas.List.{get_or-set_same}
-use Rattle.pr_base.specs.declared.errno.Errno.TheVariants.{ENOSYS}
-use Rattle.rv_mem.specs.Actions.{carried_out}
-use Rattle.rv_mem.specs.Memory.{Memory}
-use Rattle.rv_mem.specs.declared.regs.Regs.{Regs}
-use Rattle.kr_calls.specs.Arguments.{number}
-use Rattle.kr_calls.specs.Decoding.{decoding}
+use Rattle.pt_watched.specs.pr_base.declared.errno.Errno.TheVariants.{ENOSYS}
+use Rattle.pt_watched.specs.rv_mem.Actions.{carried_out}
+use Rattle.pt_watched.specs.rv_mem.Memory.{Memory}
+use Rattle.pt_watched.specs.rv_mem.declared.regs.Regs.{Regs}
+use Rattle.pt_args.specs.kr_calls.Arguments.{number}
+use Rattle.pt_args.specs.kr_calls.Decoding.{decoding}
 use Rattle.swaps_read.specs.NoCalls.{NoCallsAreDecoded, without_call}
 use Rattle.swaps_read.proofs.ShelfLemmas.{has_number}
 use Rattle.swaps_read.proofs.TableLemmas.{decoding_of}

@@ -1,13 +1,13 @@
 -- A request with other texts is carried out alike.
 use Rattle.std.proofs.Common.{◌≡◌, ◌≢◌, ℕ, List, [], ◌∷◌, Option, Some, None, refl, sym, ap, ◌∙◌}
 use Rattle.std.specs.Option.{option_map}
-use Rattle.kr_calls.specs.PathTable.{path_at}
-use Rattle.kr_calls.specs.declared.request.Request.{Request}
-use Rattle.kr_calls.specs.declared.request.Request.TheVariants as call
-use Rattle.kr_model.specs.Known.{Known}
-use Rattle.kr_model.specs.Operation.{by_path, operation}
-use Rattle.kr_model.specs.Reply.{Replying}
-use Rattle.kr_model.specs.Seen.{Seen}
+use Rattle.pt_args.specs.kr_calls.PathTable.{path_at}
+use Rattle.pt_args.specs.kr_calls.declared.request.Request.{Request}
+use Rattle.pt_args.specs.kr_calls.declared.request.Request.TheVariants as call
+use Rattle.pt_watched.specs.kr_model.Known.{Known}
+use Rattle.pt_watched.specs.kr_model.Operation.{by_path, operation}
+use Rattle.pt_watched.specs.kr_model.Reply.{Replying}
+use Rattle.pt_watched.specs.kr_model.Seen.{Seen}
 use Rattle.swaps_read.specs.Operations.{HasFirst, OperationsAreSame, PathsAreSwapped, with_path, with_path_if_any}
 use Rattle.swaps_read.specs.Requests.{NewText, with_first, with_second, with_swaps}
 
@@ -63,5 +63,5 @@ two_same pid (call.Linkat olddir old newdir new flags) text seen k = refl
 two_same pid _ text seen k = refl
 
 pub operations_are_same : OperationsAreSame
-operations_are_same pid r first None seen k some other = one_same pid r first.text seen k some other
-operations_are_same pid r first (Some n) seen k some other = two_same pid (with_first first.text r) n.text seen k ∙ one_same pid r first.text seen k some other
+operations_are_same pid r first None seen k kind some other = one_same pid r first.text seen k some other
+operations_are_same pid r first (Some n) seen k kind some other = two_same pid (with_first first.text r) n.text seen k ∙ one_same pid r first.text seen k some other

@@ -3,13 +3,13 @@ use Rattle.std.proofs.Common.{◌≡◌, ◌∙◌, ℕ, ◌≤◌, Bool, true, 
 use Rattle.std.specs.Prelude.{nat_lt}
 use Rattle.std.specs.Option.{option_map}
 use Rattle.std.proofs.lemmas.Bool.{ltb-true}
-use Rattle.pr_base.specs.declared.errno.Errno.{Errno}
-use Rattle.pt_bind.specs.Binding.{names_of}
-use Rattle.pt_canon.specs.Canon.{canon_of}
-use Rattle.pt_canon.specs.TextWalk.{TextSurroundings}
-use Rattle.pt_canon.specs.declared.canon.Canon.{Canon}
-use Rattle.kr_calls.specs.PathTable.{PathUse, path_at}
-use Rattle.kr_calls.specs.declared.request.Request.{Request}
+use Rattle.pt_watched.specs.pr_base.declared.errno.Errno.{Errno}
+use Rattle.pt_watched.specs.pt_bind.Binding.{names_of}
+use Rattle.pt_args.specs.pt_canon.Canon.{canon_of}
+use Rattle.pt_args.specs.pt_canon.TextWalk.{TextSurroundings}
+use Rattle.pt_args.specs.pt_canon.declared.canon.Canon.{Canon}
+use Rattle.pt_args.specs.kr_calls.PathTable.{PathUse, path_at}
+use Rattle.pt_args.specs.kr_calls.declared.request.Request.{Request}
 use Rattle.pt_args.specs.Bases.{base_of}
 use Rattle.pt_args.specs.Edits.{edit_by, edit_of}
 use Rattle.pt_args.specs.Plans.{first_walked, plan_behind, plan_both, plan_first, plan_from, plan_one, second_walked}

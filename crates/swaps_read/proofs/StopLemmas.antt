@@ -1,14 +1,14 @@
 -- A stopped process by its registers and its memory: what a tracer does to it is done to these.
 use Rattle.std.proofs.Common.{◌≡◌, ℕ, ◌+◌, ◌≤◌, true, cond, ◌&&◌, List, [], ◌∷◌, length, arith, refl, ap, ◌∙◌}
 use Rattle.std.specs.Prelude.{slice_set}
-use Rattle.rv_mem.specs.Memory.{Memory, with_pages}
-use Rattle.rv_mem.specs.Pages.{Pages, allows_all, written}
-use Rattle.rv_mem.specs.declared.regs.Regs.{Regs}
-use Rattle.rv_mem.specs.declared.rights.Use.TheVariants.{Write}
-use Rattle.kr_model.specs.State.{Image}
+use Rattle.pt_watched.specs.rv_mem.Memory.{Memory, with_pages}
+use Rattle.pt_watched.specs.rv_mem.Pages.{Pages, allows_all, written}
+use Rattle.pt_watched.specs.rv_mem.declared.regs.Regs.{Regs}
+use Rattle.pt_watched.specs.rv_mem.declared.rights.Use.TheVariants.{Write}
+use Rattle.pt_watched.specs.kr_model.State.{Image}
 use Rattle.pt_watched.specs.pt_tracer.Stopping.{after_poke, memory_at, with_register}
-use Rattle.kr_turns.specs.Stopped.{IsThere, Stopped, edited, image_at}
-use Rattle.kr_turns.proofs.EditLemmas.{computed-lives, edited-twice, image-edited}
+use Rattle.pt_watched.specs.kr_turns.Stopped.{IsThere, Stopped, edited, image_at}
+use Rattle.pt_watched.proofs.kr_turns.EditLemmas.{computed-lives, edited-twice, image-edited}
 use Rattle.pt_args.specs.Laws.{StandBetween, poked as pages_poked}
 use Rattle.pt_watched.specs.Poking.{may_poke, poked}
 use Rattle.pt_watched.specs.Registers.{is_register, with_arguments}

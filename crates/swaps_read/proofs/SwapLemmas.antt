@@ -2,16 +2,16 @@
 use Rattle.std.proofs.Common.{◌≡◌, ℕ, ◌+◌, ◌-◌, ◌≤◌, ◌<◌, Bool, true, false, ◌&&◌, Option, Some, None, arith, if◌then◌else◌, refl, sym, ap, subst, ◌∙◌}
 use Rattle.std.specs.Prelude.{nat_lt, not}
 use Rattle.std.proofs.lemmas.Bool.{lt-ltb, ltb-false}
-use Rattle.pr_base.specs.declared.errno.Errno.TheVariants.{EFAULT}
-use Rattle.rv_mem.specs.Actions.{AreEqualUnmarked, carried_out}
-use Rattle.rv_mem.specs.Memory.{Memory}
-use Rattle.rv_mem.specs.Pages.{allows_all}
-use Rattle.rv_mem.specs.declared.regs.Regs.{Regs}
-use Rattle.rv_mem.specs.declared.rights.Use.TheVariants.{Read, Write}
-use Rattle.kr_calls.specs.Decoding.{decoding}
-use Rattle.kr_calls.specs.declared.request.Request.{Request}
-use Rattle.kr_model.specs.State.{Image}
-use Rattle.kr_turns.specs.Stopped.{Stopped, edited, image_at}
+use Rattle.pt_watched.specs.pr_base.declared.errno.Errno.TheVariants.{EFAULT}
+use Rattle.pt_watched.specs.rv_mem.Actions.{AreEqualUnmarked, carried_out}
+use Rattle.pt_watched.specs.rv_mem.Memory.{Memory}
+use Rattle.pt_watched.specs.rv_mem.Pages.{allows_all}
+use Rattle.pt_watched.specs.rv_mem.declared.regs.Regs.{Regs}
+use Rattle.pt_watched.specs.rv_mem.declared.rights.Use.TheVariants.{Read, Write}
+use Rattle.pt_args.specs.kr_calls.Decoding.{decoding}
+use Rattle.pt_args.specs.kr_calls.declared.request.Request.{Request}
+use Rattle.pt_watched.specs.kr_model.State.{Image}
+use Rattle.pt_watched.specs.kr_turns.Stopped.{Stopped, edited, image_at}
 use Rattle.pt_watched.specs.pt_tracer.Stopping.{after_request, decoded_at, memory_at}
 use Rattle.pt_args.specs.Laws.{ShelvesHoldTheirItems, TextsAreReadBack}
 use Rattle.pt_watched.specs.Planning.{stack_at}

@@ -1,11 +1,11 @@
 -- A call that a tracer answers at its first stop: the plain kernel finds none, and refuses it.
 use Rattle.std.specs.Prelude.{◌≡◌, List, ℤ, Some, Ok, Err}
-use Rattle.pr_base.specs.declared.errno.Errno.TheVariants.{ENOSYS}
-use Rattle.rv_mem.specs.Memory.{Memory}
-use Rattle.kr_calls.specs.declared.request.Request.{Request}
-use Rattle.kr_view.specs.View.{Row}
-use Rattle.kr_turns.specs.PlainCall.{after_decoding, plain_call, refusal_told}
-use Rattle.kr_turns.specs.Stopped.{IsThere, Stopped, image_at}
+use Rattle.pt_watched.specs.pr_base.declared.errno.Errno.TheVariants.{ENOSYS}
+use Rattle.pt_watched.specs.rv_mem.Memory.{Memory}
+use Rattle.pt_args.specs.kr_calls.declared.request.Request.{Request}
+use Rattle.pt_watched.specs.kr_view.View.{Row}
+use Rattle.pt_watched.specs.kr_turns.PlainCall.{after_decoding, plain_call, refusal_told}
+use Rattle.pt_watched.specs.kr_turns.Stopped.{IsThere, Stopped, image_at}
 use Rattle.pt_args.specs.declared.edit.Edit.{Edit}
 use Rattle.pt_watched.specs.pt_tracer.Stopping.{after_request, decoded_at, memory_at, with_memory}
 use Rattle.pt_watched.specs.Watched.{applied}

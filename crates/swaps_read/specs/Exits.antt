@@ -2,10 +2,10 @@
 use Rattle.std.specs.FinMap as map
 use Rattle.std.specs.Prelude.{◌≡◌, ℕ, ℤ, false, List, Option, None, Some, Ok, slice_set}
 use Rattle.std.specs.Int.{cast_signed, w64}
-use Rattle.rv_mem.specs.Memory.{Memory}
-use Rattle.kr_calls.specs.declared.request.Request.{Request}
-use Rattle.kr_turns.specs.Stopped.{IsThere, Stopped, edited, image_at}
-use Rattle.pt_results.specs.Notes.{noted, tags_after}
+use Rattle.pt_watched.specs.rv_mem.Memory.{Memory}
+use Rattle.pt_args.specs.kr_calls.declared.request.Request.{Request}
+use Rattle.pt_watched.specs.kr_turns.Stopped.{IsThere, Stopped, edited, image_at}
+use Rattle.pt_watched.specs.pt_results.Notes.{noted, tags_after}
 use Rattle.pt_watched.specs.pt_tracer.Faking.{word_of}
 use Rattle.pt_watched.specs.pt_tracer.Stopping.{after_request, decoded_at, memory_at, with_memory}
 use Rattle.pt_watched.specs.Planning.{stack_at}

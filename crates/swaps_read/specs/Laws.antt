@@ -1,10 +1,10 @@
 -- Laws of calls whose paths were swapped.
 use Rattle.std.specs.Prelude.{◌≡◌, ℕ, Option, Ok}
-use Rattle.rv_mem.specs.Actions.{AreEqualUnmarked, carried_out}
-use Rattle.rv_mem.specs.Memory.{Memory}
-use Rattle.rv_mem.specs.declared.regs.Regs.{Regs}
-use Rattle.kr_calls.specs.Decoding.{decoding}
-use Rattle.kr_calls.specs.declared.request.Request.{Request}
+use Rattle.pt_watched.specs.rv_mem.Actions.{AreEqualUnmarked, carried_out}
+use Rattle.pt_watched.specs.rv_mem.Memory.{Memory}
+use Rattle.pt_watched.specs.rv_mem.declared.regs.Regs.{Regs}
+use Rattle.pt_args.specs.kr_calls.Decoding.{decoding}
+use Rattle.pt_args.specs.kr_calls.declared.request.Request.{Request}
 use Rattle.swaps_read.specs.Requests.{AreOfPaths, NewText, with_swaps}
 use Rattle.swaps_read.specs.Shelves.{CanBePath, CanSecondBePath, HasMarkedShelf, memory_behind, registers_behind}
 use Rattle.swaps_read.specs.Swapped.{AreSwapped, IsDecodedCalmly}

@@ -1,10 +1,10 @@
 -- The shelf that the other machine marks is the one on which a tracer puts its texts.
 use Rattle.std.specs.Prelude.{◌≡◌, true}
-use Rattle.rv_mem.specs.Memory.{Memory}
-use Rattle.rv_mem.specs.Pages.{IsWhole}
-use Rattle.rv_mem.specs.declared.regs.Regs.{Regs}
-use Rattle.kr_calls.specs.Arguments.{number}
-use Rattle.kr_calm.specs.Shelf.{has_path, is_usable, shelved_by, stack_pointer}
+use Rattle.pt_watched.specs.rv_mem.Memory.{Memory}
+use Rattle.pt_watched.specs.rv_mem.Pages.{IsWhole}
+use Rattle.pt_watched.specs.rv_mem.declared.regs.Regs.{Regs}
+use Rattle.pt_args.specs.kr_calls.Arguments.{number}
+use Rattle.pt_watched.specs.kr_calm.Shelf.{has_path, is_usable, shelved_by, stack_pointer}
 use Rattle.swaps_read.specs.Shelves.{HasMarkedShelf}
 
 -- of a call with a path, where it can be used

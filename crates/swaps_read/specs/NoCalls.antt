@@ -1,11 +1,11 @@
 -- Registers that have the number of no call.
 use Rattle.std.specs.Prelude.{◌≡◌, Ok, Err, slice_set}
-use Rattle.pr_base.specs.declared.errno.Errno.TheVariants.{ENOSYS}
-use Rattle.rv_mem.specs.Actions.{carried_out}
-use Rattle.rv_mem.specs.Memory.{Memory}
-use Rattle.rv_mem.specs.declared.regs.Regs.{Regs}
-use Rattle.kr_calls.specs.Decoding.{decoding}
-use Rattle.kr_calls.specs.declared.request.Request.{Request}
+use Rattle.pt_watched.specs.pr_base.declared.errno.Errno.TheVariants.{ENOSYS}
+use Rattle.pt_watched.specs.rv_mem.Actions.{carried_out}
+use Rattle.pt_watched.specs.rv_mem.Memory.{Memory}
+use Rattle.pt_watched.specs.rv_mem.declared.regs.Regs.{Regs}
+use Rattle.pt_args.specs.kr_calls.Decoding.{decoding}
+use Rattle.pt_args.specs.kr_calls.declared.request.Request.{Request}
 
 -- the largest word, in a7
 abbrev pub without_call : Regs → Regs

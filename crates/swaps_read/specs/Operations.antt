@@ -1,11 +1,11 @@
 -- What a request with other texts has in common with the one that was made.
 use Rattle.std.specs.Prelude.{◌≡◌, ◌≢◌, ℕ, List, [], Option, Some, None}
 use Rattle.std.specs.Option.{option_map}
-use Rattle.kr_calls.specs.PathTable.{PathUse, path_at}
-use Rattle.kr_calls.specs.declared.request.Request.{Request}
-use Rattle.kr_model.specs.Known.{Known}
-use Rattle.kr_model.specs.Operation.{operation}
-use Rattle.kr_model.specs.Seen.{Seen}
+use Rattle.pt_args.specs.kr_calls.PathTable.{PathUse, path_at}
+use Rattle.pt_args.specs.kr_calls.declared.request.Request.{Request}
+use Rattle.pt_watched.specs.kr_model.Known.{Known}
+use Rattle.pt_watched.specs.kr_model.Operation.{IsNoExec, operation}
+use Rattle.pt_watched.specs.kr_model.Seen.{Seen}
 use Rattle.swaps_read.specs.Requests.{NewText, with_swaps}
 
 abbrev pub with_path : List ℕ → PathUse → PathUse
@@ -24,7 +24,7 @@ pub record PathsAreSwapped : Type 0 where
 abbrev pub HasFirst : Request → Type 0
 HasFirst r = (u : PathUse) → path_at r 0 ≡ Some u → u.text ≢ []
 
--- so where the same is told of the paths, it comes to the same
+-- so where the same is told of the paths, a call other than execve comes to the same
 abbrev pub OperationsAreSame : Type 0
 OperationsAreSame =
-    (pid : ℕ) (r : Request) (first : NewText) (second : Option NewText) (seen : Seen) (k : Known) → HasFirst r → first.text ≢ [] → operation pid (with_swaps first second r) seen k ≡ operation pid r seen k
+    (pid : ℕ) (r : Request) (first : NewText) (second : Option NewText) (seen : Seen) (k : Known) → IsNoExec r → HasFirst r → first.text ≢ [] → operation pid (with_swaps first second r) seen k ≡ operation pid r seen k

@@ -1,8 +1,8 @@
 -- Which edit comes of the walks of a call's paths, where each of them leads somewhere.
 use Rattle.std.specs.Prelude.{◌≡◌, ℕ, false, true, ◌≤◌, List, Some, None, Ok, length}
-use Rattle.pt_canon.specs.TextWalk.{TextSurroundings}
-use Rattle.kr_calls.specs.PathTable.{PathUse, path_at}
-use Rattle.kr_calls.specs.declared.request.Request.{Request}
+use Rattle.pt_args.specs.pt_canon.TextWalk.{TextSurroundings}
+use Rattle.pt_args.specs.kr_calls.PathTable.{PathUse, path_at}
+use Rattle.pt_args.specs.kr_calls.declared.request.Request.{Request}
 use Rattle.pt_args.specs.Edits.{edit_of}
 use Rattle.pt_args.specs.Points.{both_are_busy, one_is_busy}
 use Rattle.pt_args.specs.Purposes.{opens, swap_for}

@@ -1,9 +1,9 @@
 -- A stopped process behind the swap of its call's paths.
 use Rattle.std.specs.Prelude.{◌≡◌, true, Option, None, Ok}
-use Rattle.rv_mem.specs.Actions.{AreEqualUnmarked}
-use Rattle.rv_mem.specs.Memory.{Memory}
-use Rattle.kr_calls.specs.declared.request.Request.{Request}
-use Rattle.kr_turns.specs.Stopped.{IsThere, Stopped, edited, image_at}
+use Rattle.pt_watched.specs.rv_mem.Actions.{AreEqualUnmarked}
+use Rattle.pt_watched.specs.rv_mem.Memory.{Memory}
+use Rattle.pt_args.specs.kr_calls.declared.request.Request.{Request}
+use Rattle.pt_watched.specs.kr_turns.Stopped.{IsThere, Stopped, edited, image_at}
 use Rattle.pt_watched.specs.pt_tracer.Stopping.{after_request, decoded_at, memory_at}
 use Rattle.pt_watched.specs.Planning.{has_shelf, stack_at}
 use Rattle.pt_watched.specs.Watched.{Applied, applied}

@@ -2,21 +2,21 @@
 use Rattle.std.proofs.Common.{◌≡◌, ◌≤◌, ◌∙◌, ℕ, Bool, false, List, length, Option, Some, None, refl, ap, arith, nat_lt, if◌then◌else◌}
 use Rattle.std.specs.Prelude.{Result, Ok, Err}
 use Rattle.std.proofs.lemmas.Bool.Decides.{nat_tests}
-use Rattle.pr_words.specs.declared.options.Options.{Options}
-use Rattle.kr_inode.specs.declared.user.User.{User}
-use Rattle.kr_tree.specs.Tree.{Tree}
-use Rattle.kr_text.specs.Canonical.{canonical}
-use Rattle.kr_text.specs.Reading.{listing_of}
-use Rattle.kr_text.specs.declared.fault.ListFault.{ListFault}
-use Rattle.kr_text.proofs.ReadAll.{listings_read}
-use Rattle.pr_answer.specs.declared.answer.Answer.{Answer}
-use Rattle.pr_answer.specs.declared.answer.Answer.TheVariants.{TooLong}
-use Rattle.pr_answer.specs.declared.answer.Which.{Which}
-use Rattle.pr_answer.specs.declared.answer.Which.TheVariants.{Tree as TreeSource, Input}
-use Rattle.pr_sources.specs.Asking.{asked}
-use Rattle.pr_sources.specs.Reading.{asks, file_limit, listed, listed_of, told_asked, told_file, told_listing, tree_limit, with_input}
-use Rattle.pr_sources.specs.Within.{Stage, and_then, within}
-use Rattle.pr_sources.specs.declared.reading.Asked.{Asked}
+use Rattle.pr_top.specs.pr_words.declared.options.Options.{Options}
+use Rattle.pr_top.specs.kr_inode.declared.user.User.{User}
+use Rattle.pr_top.specs.kr_tree.Tree.{Tree}
+use Rattle.pr_top.specs.kr_text.Canonical.{canonical}
+use Rattle.pr_top.specs.kr_text.Reading.{listing_of}
+use Rattle.pr_top.specs.kr_text.declared.fault.ListFault.{ListFault}
+use Rattle.pr_top.proofs.kr_text.ReadAll.{listings_read}
+use Rattle.pr_top.specs.pr_answer.declared.answer.Answer.{Answer}
+use Rattle.pr_top.specs.pr_answer.declared.answer.Answer.TheVariants.{TooLong}
+use Rattle.pr_top.specs.pr_answer.declared.answer.Which.{Which}
+use Rattle.pr_top.specs.pr_answer.declared.answer.Which.TheVariants.{Tree as TreeSource, Input}
+use Rattle.pr_top.specs.pr_sources.Asking.{asked}
+use Rattle.pr_top.specs.pr_sources.Reading.{asks, file_limit, listed, listed_of, told_asked, told_file, told_listing, tree_limit, with_input}
+use Rattle.pr_top.specs.pr_sources.Within.{Stage, and_then, within}
+use Rattle.pr_top.specs.pr_sources.declared.reading.Asked.{Asked}
 use Rattle.pr_top.specs.Opening.{Begun, Both, Mounts, Started, Traced, begun, opened_for, opening, report, report_on}
 use Rattle.top_laws.specs.Again.{AreReadAgain, tree_left, tree_on}
 

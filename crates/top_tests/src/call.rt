@@ -4,7 +4,6 @@ use pr_base::Bytes;
 use pr_call::{Answer, Which, proot};
 use pr_io::{MemSink, MemSource};
 use std::alloc::Global;
-use std::process::Abort;
 use std::test::Fail;
 
 /// How the objects move bytes.
@@ -115,11 +114,4 @@ pub fn call(alloc: Global, asked: Asked) -> Result<Told, Fail> {
         err,
         left,
     })
-}
-
-/// Fails where another answer, other output or other error bytes came than wanted.
-pub fn compare<R: Abort>(rt: &R, told: &Told, name: &str, answer: Answer, out: &[u8], err: &[u8]) {
-    assert_eq!(rt; told.answer, answer, "{name}");
-    assert_eq!(rt; told.out.got(), out, "{name}");
-    assert_eq!(rt; told.err.got(), err, "{name}");
 }

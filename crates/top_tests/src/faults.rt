@@ -108,24 +108,11 @@ fn objects_may_be_slow_or_fail(rt: HostRuntime) -> Result<(), Fail> {
             compare_row(&rt, alloc, machine, elf.as_slice(), *row, "", k)?;
         }
     }
-    Ok(())
-}
-
-// Under `--calm` one line more is put, before the listing.
-#[test]
-fn the_line_on_calm_may_fail(rt: HostRuntime) -> Result<(), Fail> {
-    let alloc = rt.alloc();
-    let elf = guest(alloc, RUN)?;
-    let unput = unput(Which::Err, Moving::Failing(Which::Err, 0), SHOWN);
-    compare_row(&rt, alloc, "--native --calm ", elf.as_slice(), unput, "", 0)?;
-    let whole = whole(Moving::Failing(Which::Err, 1));
-    compare_row(
-        &rt,
-        alloc,
-        "--native --calm ",
-        elf.as_slice(),
-        whole,
-        "calm: yes\n",
-        1,
-    )
+    // Under `--calm` one line more is put, before the listing.
+    let calm = "--native --calm ";
+    let elf = elf.as_slice();
+    let failing = unput(Which::Err, Moving::Failing(Which::Err, 0), SHOWN);
+    compare_row(&rt, alloc, calm, elf, failing, "", 0)?;
+    let later = whole(Moving::Failing(Which::Err, 1));
+    compare_row(&rt, alloc, calm, elf, later, "calm: yes\n", 1)
 }

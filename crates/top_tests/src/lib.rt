@@ -1,10 +1,9 @@
-//! Tests of the top call: whole runs with a tracer and over mounts, their refusals and their faults.
+//! Tests of the top call that rows of runs don't show: objects that give little, tear or fail, listings that are cut at each place, and generated
+//! cases.
 #![tactic(auto)]
 
 #[cfg(test)]
 mod call;
-#[cfg(test)]
-mod calm;
 #[cfg(test)]
 mod cut;
 #[cfg(test)]
@@ -13,13 +12,3 @@ mod faults;
 mod generated;
 #[cfg(test)]
 mod home;
-#[cfg(test)]
-mod identities;
-#[cfg(test)]
-mod machines;
-#[cfg(test)]
-mod processes;
-#[cfg(test)]
-mod programs;
-#[cfg(test)]
-mod refusals;

@@ -1,7 +1,5 @@
-//! Tests of trees, and of the entries of one directory.
+//! Tests of trees.
 #![tactic(auto)]
 
-#[cfg(test)]
-mod entries;
 #[cfg(test)]
 mod tests;

@@ -4,24 +4,24 @@ use Rattle.std.specs.Prelude.{◌==◌, ◌||◌, map as map_list, nat_eq}
 use Rattle.std.specs.List.{find, list_any}
 use Rattle.std.specs.Option.{option_map, option_map_or}
 use Rattle.std.proofs.lemmas.Bool.{eqb-true}
-use Rattle.rv_mem.specs.Actions.{AreEqualUnmarked}
-use Rattle.rv_mem.specs.declared.regs.Regs.{Regs}
-use Rattle.kr_tree.specs.Tree.{Tree, Inode, root}
-use Rattle.kr_tree.specs.Changes.{counted}
-use Rattle.kr_tree.specs.Holds.{names_at}
-use Rattle.kr_tree.specs.Lawful.{IsKept}
-use Rattle.kr_tree.specs.Names.{named}
-use Rattle.kr_tree.proofs.EntryLemmas.{reached-named}
-use Rattle.kr_view.specs.View.{Row, plain, row}
-use Rattle.kr_model.specs.Applied.{child_regs}
-use Rattle.kr_model.specs.Bare.{ArePinned, bare_process, pins_of}
-use Rattle.kr_model.specs.Images.{AreAlike, IsInherited, computed, computed_all}
-use Rattle.kr_model.specs.Lawful.{IsLawful, RiseFrom}
-use Rattle.kr_model.specs.State.{Image, Process, State, image_layout, is_pid}
-use Rattle.kr_model.proofs.ShapeLemmas.{reached_named}
-use Rattle.kr_lawful.proofs.SumLemmas.{other-test}
-use Rattle.places_stay.specs.Matching.{AreImagesAlike, IsMatch}
-use Rattle.places_stay.specs.Standing.{PlacesStand}
+use Rattle.kr_core.specs.rv_mem.Actions.{AreEqualUnmarked}
+use Rattle.kr_core.specs.rv_mem.declared.regs.Regs.{Regs}
+use Rattle.kr_core.specs.kr_tree.Tree.{Tree, Inode, root}
+use Rattle.kr_core.specs.kr_tree.Changes.{counted}
+use Rattle.kr_core.specs.kr_tree.Holds.{names_at}
+use Rattle.kr_core.specs.kr_tree.Lawful.{IsKept}
+use Rattle.kr_core.specs.kr_tree.Names.{named}
+use Rattle.kr_core.proofs.kr_tree.EntryLemmas.{reached-named}
+use Rattle.kr_core.specs.kr_view.View.{Row, plain, row}
+use Rattle.calm_places.specs.kr_model.Applied.{child_regs}
+use Rattle.calm_places.specs.kr_model.Bare.{ArePinned, bare_process, pins_of}
+use Rattle.calm_places.specs.kr_model.Images.{AreAlike, IsInherited, computed, computed_all}
+use Rattle.calm_places.specs.kr_model.Lawful.{IsLawful, RiseFrom}
+use Rattle.calm_places.specs.kr_model.State.{Image, Process, State, image_layout, is_pid}
+use Rattle.calm_places.proofs.kr_model.ShapeLemmas.{reached_named}
+use Rattle.calm_places.proofs.kr_lawful.SumLemmas.{other-test}
+use Rattle.calm_places.specs.places_stay.Matching.{AreImagesAlike, IsMatch}
+use Rattle.calm_places.specs.places_stay.Standing.{PlacesStand}
 use Rattle.turns_match.proofs.MatchLemmas.{pids_in}
 
 -- ---- equal registers

@@ -2,23 +2,23 @@
 use Rattle.std.proofs.Common.{◌≡◌, ℕ, List, Some, None, Ok, Err, refl, sym, ap, subst, ◌∙◌}
 use Rattle.std.specs.Prelude.{false, neg_ℤ, pos}
 use Rattle.std.specs.Option.{option_map_or}
-use Rattle.pr_base.specs.Errno.{errno_number}
-use Rattle.pr_base.specs.declared.errno.Errno.{Errno}
-use Rattle.pt_bind.specs.Tags.{TagTable}
-use Rattle.kr_view.specs.View.{Row, plain}
-use Rattle.kr_calls.specs.Decoding.{Decoded}
-use Rattle.kr_calls.specs.declared.request.Request.{Request}
-use Rattle.kr_model.specs.Reply.{Reply}
-use Rattle.kr_model.specs.Seen.{Seen}
-use Rattle.kr_model.specs.State.{Image, Process, State, process}
-use Rattle.kr_model.specs.Walks.{seen, targets_of}
-use Rattle.kr_model.specs.declared.outcome.Outcome.TheVariants.{Answer}
-use Rattle.kr_allowed.specs.Told.{mounts_walked}
-use Rattle.kr_steps.specs.Calls.{IsNoExec}
-use Rattle.kr_bytes.specs.kr_turns.PlainCall.{Came, after_decoding, child_of, end_of, operated, plain_call, plain_call_of, refusal_told}
-use Rattle.kr_bytes.specs.kr_turns.declared.plain.CallEnd.TheVariants as end
-use Rattle.kr_bytes.proofs.kr_turns.PlainLemmas.{no-exec-requested}
-use Rattle.places_stay.specs.Matching.{IsMatch}
+use Rattle.kr_core.specs.pr_base.Errno.{errno_number}
+use Rattle.kr_core.specs.pr_base.declared.errno.Errno.{Errno}
+use Rattle.calm_places.specs.pt_bind.Tags.{TagTable}
+use Rattle.kr_core.specs.kr_view.View.{Row, plain}
+use Rattle.kr_core.specs.kr_calls.Decoding.{Decoded}
+use Rattle.kr_core.specs.kr_calls.declared.request.Request.{Request}
+use Rattle.calm_places.specs.kr_model.Reply.{Reply}
+use Rattle.calm_places.specs.kr_model.Seen.{Seen}
+use Rattle.calm_places.specs.kr_model.State.{Image, Process, State, process}
+use Rattle.calm_places.specs.kr_model.Walks.{seen, targets_of}
+use Rattle.calm_places.specs.kr_model.declared.outcome.Outcome.TheVariants.{Answer}
+use Rattle.kr_core.specs.kr_allowed.Told.{mounts_walked}
+use Rattle.kr_core.specs.kr_steps.Calls.{IsNoExec}
+use Rattle.kr_core.specs.kr_turns.PlainCall.{Came, after_decoding, child_of, end_of, operated, plain_call, plain_call_of, refusal_told}
+use Rattle.kr_core.specs.kr_turns.declared.plain.CallEnd.TheVariants as end
+use Rattle.kr_core.proofs.kr_turns.PlainLemmas.{no-exec-requested}
+use Rattle.calm_places.specs.places_stay.Matching.{IsMatch}
 use Rattle.turns_match.specs.Calls.{CallsComeAlike, CameAlike, IsToldAlike, RefusedCallsComeAlike, StandsAtCall, decoded_by, decoded_in, tags_behind}
 use Rattle.turns_match.specs.Operating.{behind, done_in}
 use Rattle.turns_match.specs.Turning.{DecodeAlike}

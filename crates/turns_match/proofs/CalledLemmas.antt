@@ -2,43 +2,43 @@
 use Rattle.std.proofs.Common.{◌≡◌, ℕ, suc, true, false, cond, List, [], Some, Ok, Err, refl, sym, ap, subst, ◌∙◌, arith, eq-eqb}
 use Rattle.std.specs.Prelude.{neg_ℤ, pos}
 use Rattle.std.specs.Option.{option_map}
-use Rattle.pr_base.specs.Errno.{errno_number}
-use Rattle.pr_base.specs.declared.errno.Errno.{Errno}
-use Rattle.rv_mem.specs.Actions.{carried_out}
-use Rattle.rv_mem.specs.Memory.{Memory}
-use Rattle.rv_mem.specs.Pages.{Pages}
-use Rattle.rv_mem.specs.declared.regs.Regs.{Regs}
-use Rattle.kr_view.specs.View.{Row}
-use Rattle.kr_calls.specs.Decoding.{decoding}
-use Rattle.kr_calls.specs.declared.request.Request.{Request}
-use Rattle.kr_allowed.specs.Lasting.{Lasts}
-use Rattle.kr_allowed.proofs.ChangeLemmas.{modest-last}
-use Rattle.kr_allowed.proofs.RoomLemmas.{lasting-room}
-use Rattle.kr_lawful.proofs.ProcessChangeLemmas.{found}
-use Rattle.kr_model.specs.Applied.{Mounts, with_image, with_living}
-use Rattle.kr_model.specs.Known.{known}
-use Rattle.kr_model.specs.Operation.{operation}
-use Rattle.kr_model.specs.State.{Image, Process, State, at_pid, image_layout, process, with_process}
-use Rattle.kr_model.specs.Walks.{seen, targets_of}
-use Rattle.kr_model.specs.declared.outcome.Outcome.{Outcome}
-use Rattle.kr_model.specs.declared.outcome.Outcome.TheVariants.{Answer, Wait, Ended, NoMemory}
-use Rattle.kr_allowed.specs.Allowed.{HoldsBytes, LeavesLawful}
-use Rattle.kr_allowed.specs.Resting.{HasSmallNumbers}
-use Rattle.kr_allowed.specs.Told.{mounts_walked}
-use Rattle.kr_allowed.proofs.DecodedLemmas.{decoded-are-givable, decoding-leaves-pages}
-use Rattle.kr_allowed.proofs.RowLemmas.{lawful-image, stays-like}
-use Rattle.kr_allowed.proofs.TargetLemmas.{walked-calls-leave-lawful}
-use Rattle.kr_seen.specs.Carrying.{after_row, memory_of, with_memory, with_memory_of}
-use Rattle.kr_resolved.proofs.AroundLemmas.{lead_to_places}
-use Rattle.kr_resolved.proofs.NamingLemmas.{walks_name}
-use Rattle.kr_steps.specs.Answering.{going, with_answer}
-use Rattle.kr_steps.specs.Calls.{IsNoExec, LastsLawful}
-use Rattle.kr_steps.specs.Computing.{computed}
-use Rattle.kr_steps.specs.Settling.{settled}
-use Rattle.kr_bytes.specs.kr_turns.Breaking.{no_mounts}
-use Rattle.kr_bytes.specs.kr_turns.PlainCall.{Came, plain_call}
-use Rattle.kr_bytes.proofs.kr_turns.PlainLemmas.{no-exec-requested}
-use Rattle.places_stay.proofs.TagLemmas.{found_is}
+use Rattle.kr_core.specs.pr_base.Errno.{errno_number}
+use Rattle.kr_core.specs.pr_base.declared.errno.Errno.{Errno}
+use Rattle.kr_core.specs.rv_mem.Actions.{carried_out}
+use Rattle.kr_core.specs.rv_mem.Memory.{Memory}
+use Rattle.kr_core.specs.rv_mem.Pages.{Pages}
+use Rattle.kr_core.specs.rv_mem.declared.regs.Regs.{Regs}
+use Rattle.kr_core.specs.kr_view.View.{Row}
+use Rattle.kr_core.specs.kr_calls.Decoding.{decoding}
+use Rattle.kr_core.specs.kr_calls.declared.request.Request.{Request}
+use Rattle.kr_core.specs.kr_allowed.Lasting.{Lasts}
+use Rattle.kr_core.proofs.kr_allowed.ChangeLemmas.{modest-last}
+use Rattle.kr_core.proofs.kr_allowed.RoomLemmas.{lasting-room}
+use Rattle.calm_places.proofs.kr_lawful.ProcessChangeLemmas.{found}
+use Rattle.calm_places.specs.kr_model.Applied.{Mounts, with_image, with_living}
+use Rattle.calm_places.specs.kr_model.Known.{known}
+use Rattle.calm_places.specs.kr_model.Operation.{operation}
+use Rattle.calm_places.specs.kr_model.State.{Image, Process, State, at_pid, image_layout, process, with_process}
+use Rattle.calm_places.specs.kr_model.Walks.{seen, targets_of}
+use Rattle.calm_places.specs.kr_model.declared.outcome.Outcome.{Outcome}
+use Rattle.calm_places.specs.kr_model.declared.outcome.Outcome.TheVariants.{Answer, Wait, Ended, NoMemory}
+use Rattle.kr_core.specs.kr_allowed.Allowed.{HoldsBytes, LeavesLawful}
+use Rattle.kr_core.specs.kr_allowed.Resting.{HasSmallNumbers}
+use Rattle.kr_core.specs.kr_allowed.Told.{mounts_walked}
+use Rattle.kr_core.proofs.kr_allowed.DecodedLemmas.{decoded-are-givable, decoding-leaves-pages}
+use Rattle.kr_core.proofs.kr_allowed.RowLemmas.{lawful-image, stays-like}
+use Rattle.kr_core.proofs.kr_allowed.TargetLemmas.{walked-calls-leave-lawful}
+use Rattle.kr_core.specs.kr_seen.Carrying.{after_row, memory_of, with_memory, with_memory_of}
+use Rattle.kr_core.proofs.kr_resolved.AroundLemmas.{lead_to_places}
+use Rattle.kr_core.proofs.kr_resolved.NamingLemmas.{walks_name}
+use Rattle.kr_core.specs.kr_steps.Answering.{going, with_answer}
+use Rattle.kr_core.specs.kr_steps.Calls.{IsNoExec, LastsLawful}
+use Rattle.kr_core.specs.kr_steps.Computing.{computed}
+use Rattle.kr_core.specs.kr_steps.Settling.{settled}
+use Rattle.kr_core.specs.kr_turns.Breaking.{no_mounts}
+use Rattle.kr_core.specs.kr_turns.PlainCall.{Came, plain_call}
+use Rattle.kr_core.proofs.kr_turns.PlainLemmas.{no-exec-requested}
+use Rattle.calm_places.proofs.places_stay.TagLemmas.{found_is}
 use Rattle.turns_match.specs.Calls.{decoded_by, decoded_in}
 use Rattle.turns_match.specs.Lasting.{CallsLast, CanBeCalled, LeavesLasting, RefusedCallsLast}
 use Rattle.turns_match.specs.Operating.{done_in}
@@ -110,7 +110,7 @@ module _ (table : List Row) (made pid : ℕ) (s : State ℕ Image) (p : Process 
 
   -- ---- a call that is decoded
 
-  module _ (r : Request) (is : (decoded_by p).reply ≡ Ok r) where
+  module _ (r : Request) (is : (decoded_by p).reply ≡ Ok r) (kind : IsNoExec r) where
     abbrev at : State ℕ Image
     at = decoded_in pid p s
 
@@ -121,7 +121,7 @@ module _ (table : List Row) (made pid : ℕ) (s : State ℕ Image) (p : Process 
     is_allowed =
         let givable = decoded-are-givable p.image.regs p.image.memory r can.holds is in
         subst (λ (memory : Memory). LeavesLawful (λ m. m) table mounts pid at (carried_out (operation pid r (seen table pid at r) (known image_layout pid at)) memory)) (sym decoded_memory)
-        (walked-calls-leave-lawful table pid at decoded_process r decoded_lasts.lawful decoded_lives decoded_holds small givable.0 can.named (lead_to_places table at decoded_lasts.lawful pid)
+        (walked-calls-leave-lawful table pid at decoded_process r kind decoded_lasts.lawful decoded_lives decoded_holds small givable.0 can.named (lead_to_places table at decoded_lasts.lawful pid)
         (λ targets e. walks_name table pid at r targets decoded_lasts.lawful can.lasts.lasts.texts givable.1 e))
 
     row_lasts : LastsLawful (λ m. m) table (suc made) (after_row mounts pid (done_in pid r (seen table pid at r) at) at)
@@ -134,8 +134,8 @@ module _ (table : List Row) (made pid : ℕ) (s : State ℕ Image) (p : Process 
               (lasts_living made (with_process pid (with_image (with_memory done.memory))) at decoded_lasts.lasts);
         }
 
-    pub leaves_lasting : IsNoExec r → LeavesLasting table made pid s p r
-    leaves_lasting kind = record {
+    pub leaves_lasting : LeavesLasting table made pid s p r
+    leaves_lasting = record {
       allowed = is_allowed;
       lasts =
           subst (λ (came : Came). LastsLawful (λ m. m) table (suc made) came.state) (no-exec-requested table pid at r kind ∙ sym (by_request table pid table s p (Ok r) can.lives is))

@@ -1,16 +1,16 @@
 -- Machines that match, without the bytes that a turn put out.
 use Rattle.std.proofs.Common.{ℕ, List, [], ap}
-use Rattle.rv_mem.specs.Layout.{Layout}
-use Rattle.pt_bind.specs.Tags.{TagTable}
-use Rattle.kr_view.specs.View.{Row, plain}
-use Rattle.kr_model.specs.Lawful.{IsLawful}
-use Rattle.kr_model.specs.State.{Image, State}
-use Rattle.kr_steps.specs.Calls.{LastsLawful}
-use Rattle.kr_bytes.specs.kr_turns.Run.{after_put, cleared}
-use Rattle.kr_bytes.specs.kr_turns.Turn.{Machine}
-use Rattle.places_stay.specs.Matching.{IsMatch}
-use Rattle.places_stay.specs.Standing.{PlacesStand}
-use Rattle.places_stay.specs.Uses.{IsUse, Use, is_cwd, is_exe, is_open}
+use Rattle.kr_core.specs.rv_mem.Layout.{Layout}
+use Rattle.calm_places.specs.pt_bind.Tags.{TagTable}
+use Rattle.kr_core.specs.kr_view.View.{Row, plain}
+use Rattle.calm_places.specs.kr_model.Lawful.{IsLawful}
+use Rattle.calm_places.specs.kr_model.State.{Image, State}
+use Rattle.kr_core.specs.kr_steps.Calls.{LastsLawful}
+use Rattle.kr_core.specs.kr_turns.Run.{after_put, cleared}
+use Rattle.kr_core.specs.kr_turns.Turn.{Machine}
+use Rattle.calm_places.specs.places_stay.Matching.{IsMatch}
+use Rattle.calm_places.specs.places_stay.Standing.{PlacesStand}
+use Rattle.calm_places.specs.places_stay.Uses.{IsUse, Use, is_cwd, is_exe, is_open}
 use Rattle.turns_match.specs.Runs.{GoTogether}
 
 lawful_cleared : (table : List Row) (s : State ℕ Image) → IsLawful (λ m. m) table s → IsLawful (λ m. m) table (cleared s)

@@ -1,27 +1,27 @@
 -- Runs of machines that match, turn by turn.
 use Rattle.std.proofs.Common.{◌≡◌, ◌+◌, ◌≤◌, ◌^◌, ℕ, zero, suc, List, ◌∷◌, Option, Some, None, refl, sym, ap, subst, ◌∙◌, arith}
 use Rattle.std.specs.Option.{option_map_or}
-use Rattle.pt_bind.specs.Tags.{TagTable}
-use Rattle.rv_cpu.specs.Run.{ran}
-use Rattle.rv_cpu.specs.declared.event.Event.{Event}
-use Rattle.rv_cpu.specs.declared.event.Event.TheVariants.{Next, Call, Killed}
-use Rattle.kr_tree.specs.Tree.{nodes}
-use Rattle.kr_tree.proofs.HoldLemmas.{trees_look_alike_with_fewer_holds}
-use Rattle.kr_view.specs.View.{Row, plain}
-use Rattle.kr_model.specs.Bare.{pins_of}
-use Rattle.kr_model.specs.State.{Image, Process, State, process}
+use Rattle.calm_places.specs.pt_bind.Tags.{TagTable}
+use Rattle.kr_core.specs.rv_cpu.Run.{ran}
+use Rattle.kr_core.specs.rv_cpu.declared.event.Event.{Event}
+use Rattle.kr_core.specs.rv_cpu.declared.event.Event.TheVariants.{Next, Call, Killed}
+use Rattle.kr_core.specs.kr_tree.Tree.{nodes}
+use Rattle.kr_core.proofs.kr_tree.HoldLemmas.{trees_look_alike_with_fewer_holds}
+use Rattle.kr_core.specs.kr_view.View.{Row, plain}
+use Rattle.calm_places.specs.kr_model.Bare.{pins_of}
+use Rattle.calm_places.specs.kr_model.State.{Image, Process, State, process}
 use Rattle.kr_bytes.specs.Bytes.{HasBytes}
-use Rattle.kr_calm.specs.Calm.{kept}
-use Rattle.kr_steps.specs.Waiting.{picked_process}
-use Rattle.kr_bytes.specs.kr_turns.Run.{Ending, Spent, Slot, after_put, cleared, ended, ending_of, put_by, run_from, turned, with_put}
-use Rattle.kr_bytes.specs.kr_turns.Stopped.{Stopped}
-use Rattle.kr_bytes.specs.kr_turns.Breaking.{plain_rule}
-use Rattle.kr_bytes.specs.kr_turns.PlainCall.{plain_call}
-use Rattle.kr_bytes.specs.kr_turns.Shelving.{lacks_in}
-use Rattle.kr_bytes.specs.kr_turns.Turn.{Machine, Tally, after_born, after_end, after_event, after_exit, by_pick, called, calling, turn, with_broken}
-use Rattle.kr_bytes.specs.kr_turns.Watching.{Watcher}
-use Rattle.kr_bytes.specs.kr_turns.declared.plain.CallEnd.{CallEnd}
-use Rattle.kr_bytes.specs.kr_turns.declared.plain.CallEnd.TheVariants as end
+use Rattle.calm_places.specs.kr_calm.Calm.{kept}
+use Rattle.kr_core.specs.kr_steps.Waiting.{picked_process}
+use Rattle.kr_core.specs.kr_turns.Run.{Ending, Spent, Slot, after_put, cleared, ended, ending_of, put_by, run_from, turned, with_put}
+use Rattle.kr_core.specs.kr_turns.Stopped.{Stopped}
+use Rattle.kr_core.specs.kr_turns.Breaking.{plain_rule}
+use Rattle.kr_core.specs.kr_turns.PlainCall.{plain_call}
+use Rattle.kr_core.specs.kr_turns.Shelving.{lacks_in}
+use Rattle.kr_core.specs.kr_turns.Turn.{Machine, Tally, after_born, after_end, after_event, after_exit, by_pick, called, calling, turn, with_broken}
+use Rattle.kr_core.specs.kr_turns.Watching.{Watcher}
+use Rattle.kr_core.specs.kr_turns.declared.plain.CallEnd.{CallEnd}
+use Rattle.kr_core.specs.kr_turns.declared.plain.CallEnd.TheVariants as end
 use Rattle.turns_match.specs.Quiet.{MachinesMatch}
 use Rattle.turns_match.specs.Runs.{ComeAlike, GoTogether, KeepOn, RunsComeAlike, TurnsGoTogether}
 use Rattle.turns_match.proofs.ClearLemmas.{go_cleared}

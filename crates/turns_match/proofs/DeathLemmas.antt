@@ -1,11 +1,11 @@
 -- The death of a process in two states that match.
 use Rattle.std.proofs.Common.{◌≡◌, ℕ, Bool, true, false, cond, [], ◌∷◌, Option, Some, None, refl, sym, subst}
 use Rattle.std.specs.Prelude.{IsSome}
-use Rattle.kr_calm.specs.Rules.{breaks_6, changes_break_3, changes_break_4, changes_break_5}
-use Rattle.kr_model.specs.Applied.{images}
-use Rattle.kr_model.specs.Change.{End}
-use Rattle.kr_model.specs.State.{Image, Process, process}
-use Rattle.kr_bytes.specs.kr_turns.Breaking.{no_mounts, nothing_reached}
+use Rattle.calm_places.specs.kr_calm.Rules.{breaks_6, changes_break_3, changes_break_4, changes_break_5}
+use Rattle.calm_places.specs.kr_model.Applied.{images}
+use Rattle.calm_places.specs.kr_model.Change.{End}
+use Rattle.calm_places.specs.kr_model.State.{Image, Process, process}
+use Rattle.kr_core.specs.kr_turns.Breaking.{no_mounts, nothing_reached}
 use Rattle.turns_match.specs.Changing.{DeathsKeepMatches}
 use Rattle.turns_match.proofs.KeepLemmas.{changes_keep_matches}
 use Rattle.turns_match.proofs.RunLemmas.{lives_too}

@@ -2,33 +2,33 @@
 use Rattle.std.proofs.Common.{◌≡◌, ℕ, Bool, true, false, List, [], ◌∷◌, Option, Some, None, refl, sym, ap, subst, ◌∙◌}
 use Rattle.std.specs.Prelude.{not, ℤ}
 use Rattle.std.specs.Option.{option_and_then, option_map, option_map_or}
-use Rattle.pr_base.specs.declared.errno.Errno.TheVariants.{EACCES, ENOTDIR}
-use Rattle.rv_mem.specs.Actions.{carried_out}
-use Rattle.rv_mem.specs.Memory.{Memory}
-use Rattle.rv_mem.specs.Pages.{HoldsBytes}
-use Rattle.kr_tree.specs.declared.place.Host.{Host}
-use Rattle.kr_tree.specs.declared.place.Place.{Place}
-use Rattle.kr_tree.proofs.NameLemmas.{then_some}
-use Rattle.kr_files.specs.Descriptors.{Named}
-use Rattle.kr_files.specs.Files.{file_at}
-use Rattle.kr_files.specs.declared.opened.Opened.{Opened}
-use Rattle.kr_view.specs.Component.{is_directory_at}
-use Rattle.kr_view.specs.View.{Row}
-use Rattle.kr_model.specs.Applied.{Mounts, mount_of}
-use Rattle.kr_model.specs.Asking.{is_directory_host, is_searched}
-use Rattle.kr_model.specs.Change.{Change, ChangeDirectory, OfDescriptor}
-use Rattle.kr_model.specs.DirectoryRows.{fchdir_row, if_entered}
-use Rattle.kr_model.specs.FileRows.{is_dir}
-use Rattle.kr_model.specs.Known.{Known, known}
-use Rattle.kr_model.specs.ProcessDirectory.{space_of}
-use Rattle.kr_model.specs.Reply.{Replying, done, refuse}
-use Rattle.kr_model.specs.State.{Image, State, image_layout, named, opened}
-use Rattle.kr_allowed.proofs.KnownLemmas.{by-open}
-use Rattle.kr_allowed.proofs.NodeLemmas.{known-directory}
-use Rattle.kr_allowed.proofs.RowLemmas.{Allowed, either, ended, reached, refuses}
-use Rattle.places_stay.specs.Changes.{NewPlacesStand}
-use Rattle.places_stay.specs.Standing.{PlacesStand, UseStands}
-use Rattle.places_stay.specs.Uses.{is_open, open_use}
+use Rattle.kr_core.specs.pr_base.declared.errno.Errno.TheVariants.{EACCES, ENOTDIR}
+use Rattle.kr_core.specs.rv_mem.Actions.{carried_out}
+use Rattle.kr_core.specs.rv_mem.Memory.{Memory}
+use Rattle.kr_core.specs.rv_mem.Pages.{HoldsBytes}
+use Rattle.kr_core.specs.kr_tree.declared.place.Host.{Host}
+use Rattle.kr_core.specs.kr_tree.declared.place.Place.{Place}
+use Rattle.kr_core.proofs.kr_tree.NameLemmas.{then_some}
+use Rattle.calm_places.specs.kr_files.Descriptors.{Named}
+use Rattle.calm_places.specs.kr_files.Files.{file_at}
+use Rattle.calm_places.specs.kr_files.declared.opened.Opened.{Opened}
+use Rattle.kr_core.specs.kr_view.Component.{is_directory_at}
+use Rattle.kr_core.specs.kr_view.View.{Row}
+use Rattle.calm_places.specs.kr_model.Applied.{Mounts, mount_of}
+use Rattle.calm_places.specs.kr_model.Asking.{is_directory_host, is_searched}
+use Rattle.calm_places.specs.kr_model.Change.{Change, ChangeDirectory, OfDescriptor}
+use Rattle.calm_places.specs.kr_model.DirectoryRows.{fchdir_row, if_entered}
+use Rattle.calm_places.specs.kr_model.FileRows.{is_dir}
+use Rattle.calm_places.specs.kr_model.Known.{Known, known}
+use Rattle.calm_places.specs.kr_model.ProcessDirectory.{space_of}
+use Rattle.calm_places.specs.kr_model.Reply.{Replying, done, refuse}
+use Rattle.calm_places.specs.kr_model.State.{Image, State, image_layout, named, opened}
+use Rattle.kr_core.proofs.kr_allowed.KnownLemmas.{by-open}
+use Rattle.kr_core.proofs.kr_allowed.NodeLemmas.{known-directory}
+use Rattle.kr_core.proofs.kr_allowed.RowLemmas.{Allowed, either, ended, reached, refuses}
+use Rattle.calm_places.specs.places_stay.Changes.{NewPlacesStand}
+use Rattle.calm_places.specs.places_stay.Standing.{PlacesStand, UseStands}
+use Rattle.calm_places.specs.places_stay.Uses.{is_open, open_use}
 use Rattle.calm_places.specs.Keeping.{move_nothing}
 
 some_same : {A : Type 0} {a b : A} → Some a ≡ Some b → a ≡ b

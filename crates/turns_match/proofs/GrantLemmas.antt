@@ -2,14 +2,14 @@
 use Rattle.std.proofs.Common.{◌≡◌, ℕ, Bool, true, List, [], refl, ap, ℤ}
 use Rattle.std.specs.Prelude.{◌&&◌, ◌==◌}
 use Rattle.std.specs.List.{list_all}
-use Rattle.pr_base.specs.declared.errno.Errno.TheVariants.{ENOENT, EPERM}
-use Rattle.kr_inode.specs.declared.user.User.{User}
-use Rattle.kr_tree.specs.declared.place.Host.{Host}
-use Rattle.kr_tree.specs.declared.place.Host.TheVariants as host
-use Rattle.kr_model.specs.AttributeRows.{chmod_host, chown_by, chown_host, fchmod_row, fchown_row, may_give, unchanged}
-use Rattle.kr_model.specs.Change.{Change, SetMode, SetOwner}
-use Rattle.kr_model.specs.Known.{Known, known_node}
-use Rattle.kr_calm.proofs.MildLemmas.{ComesTo, answered, by_open, either, maybe, refused}
+use Rattle.kr_core.specs.pr_base.declared.errno.Errno.TheVariants.{ENOENT, EPERM}
+use Rattle.kr_core.specs.kr_inode.declared.user.User.{User}
+use Rattle.kr_core.specs.kr_tree.declared.place.Host.{Host}
+use Rattle.kr_core.specs.kr_tree.declared.place.Host.TheVariants as host
+use Rattle.calm_places.specs.kr_model.AttributeRows.{chmod_host, chown_by, chown_host, fchmod_row, fchown_row, may_give, unchanged}
+use Rattle.calm_places.specs.kr_model.Change.{Change, SetMode, SetOwner}
+use Rattle.calm_places.specs.kr_model.Known.{Known, known_node}
+use Rattle.calm_places.proofs.kr_calm.MildLemmas.{ComesTo, answered, by_open, either, maybe, refused}
 
 module _ {passes : Change → Bool} (k : Known) where
   module _ (mode_passes : (i mode : ℕ) → passes (SetMode i mode) ≡ true) where

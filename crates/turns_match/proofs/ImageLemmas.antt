@@ -2,29 +2,29 @@
 use Rattle.std.proofs.Common.{◌≡◌, ◌<◌, ℕ, suc, Bool, true, false, cond, List, [], ◌∷◌, Some, refl, sym, ap, ◌∙◌, arith}
 use Rattle.std.specs.Prelude.{map as map_list, ◌==◌}
 use Rattle.std.specs.List.{find}
-use Rattle.rv_mem.specs.Layout.{Layout, layout_of}
-use Rattle.rv_mem.specs.Memory.{Memory}
-use Rattle.rv_mem.specs.declared.regs.Regs.{Regs}
-use Rattle.pt_bind.specs.Tags.{TagTable}
-use Rattle.kr_tree.proofs.NameLemmas.{some_is}
-use Rattle.kr_view.specs.View.{Row}
-use Rattle.kr_model.specs.Applied.{with_image, with_living}
-use Rattle.kr_model.specs.Bare.{bare, bare_process}
-use Rattle.kr_model.specs.Lawful.{IsLawful, RiseFrom}
-use Rattle.kr_model.specs.ProcessDirectory.{space_of}
-use Rattle.kr_model.specs.State.{Image, Process, State, image_layout, is_pid, process, with_process}
-use Rattle.kr_allowed.proofs.RowLemmas.{StaysLike, lawful-image}
-use Rattle.kr_lawful.proofs.SumLemmas.{other-test, passed-test}
-use Rattle.kr_steps.specs.Computing.{computed}
-use Rattle.places_stay.specs.Losses.{nothing}
-use Rattle.places_stay.specs.Following.{Follows, StoodAndStays}
-use Rattle.places_stay.specs.Matching.{AreTagged}
-use Rattle.places_stay.specs.Standing.{PlacesStand}
-use Rattle.places_stay.specs.Uses.{IsUse, Use, cwd_use, exe_use, is_cwd, is_exe, is_open}
-use Rattle.places_stay.proofs.FollowLemmas.{IsIdle, follows_idle, follows_itself}
-use Rattle.places_stay.proofs.KeptLemmas.{stood_kept, table_kept}
-use Rattle.places_stay.proofs.SpaceLemmas.{places_follow}
-use Rattle.places_stay.proofs.TagLemmas.{Own, TagIs, slots_at, slots_of_tags, tags_of_slots}
+use Rattle.kr_core.specs.rv_mem.Layout.{Layout, layout_of}
+use Rattle.kr_core.specs.rv_mem.Memory.{Memory}
+use Rattle.kr_core.specs.rv_mem.declared.regs.Regs.{Regs}
+use Rattle.calm_places.specs.pt_bind.Tags.{TagTable}
+use Rattle.kr_core.proofs.kr_tree.NameLemmas.{some_is}
+use Rattle.kr_core.specs.kr_view.View.{Row}
+use Rattle.calm_places.specs.kr_model.Applied.{with_image, with_living}
+use Rattle.calm_places.specs.kr_model.Bare.{bare, bare_process}
+use Rattle.calm_places.specs.kr_model.Lawful.{IsLawful, RiseFrom}
+use Rattle.calm_places.specs.kr_model.ProcessDirectory.{space_of}
+use Rattle.calm_places.specs.kr_model.State.{Image, Process, State, image_layout, is_pid, process, with_process}
+use Rattle.kr_core.proofs.kr_allowed.RowLemmas.{StaysLike, lawful-image}
+use Rattle.calm_places.proofs.kr_lawful.SumLemmas.{other-test, passed-test}
+use Rattle.kr_core.specs.kr_steps.Computing.{computed}
+use Rattle.calm_places.specs.places_stay.Losses.{nothing}
+use Rattle.calm_places.specs.places_stay.Following.{Follows, StoodAndStays}
+use Rattle.calm_places.specs.places_stay.Matching.{AreTagged}
+use Rattle.calm_places.specs.places_stay.Standing.{PlacesStand}
+use Rattle.calm_places.specs.places_stay.Uses.{IsUse, Use, cwd_use, exe_use, is_cwd, is_exe, is_open}
+use Rattle.calm_places.proofs.places_stay.FollowLemmas.{IsIdle, follows_idle, follows_itself}
+use Rattle.calm_places.proofs.places_stay.KeptLemmas.{stood_kept, table_kept}
+use Rattle.calm_places.proofs.places_stay.SpaceLemmas.{places_follow}
+use Rattle.calm_places.proofs.places_stay.TagLemmas.{Own, TagIs, slots_at, slots_of_tags, tags_of_slots}
 
 -- ---- one process that is changed, but not where it stands
 

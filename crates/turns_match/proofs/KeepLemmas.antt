@@ -1,24 +1,24 @@
 -- The changes of a call keep a match, one after the other.
 use Rattle.std.proofs.Common.{◌≡◌, ℕ, true, false, List, [], ◌∷◌, Option, Some, None, sym, ap, ◌∙◌}
 use Rattle.std.specs.Prelude.{◌||◌, IfSome, IsSome}
-use Rattle.rv_mem.specs.Pages.{IsWhole}
-use Rattle.pt_bind.specs.Tags.{TagTable}
-use Rattle.kr_view.specs.View.{Row, plain}
-use Rattle.kr_calm.specs.Rules.{breaks_3, breaks_4, breaks_5, changes_break_3, changes_break_4, changes_break_5}
-use Rattle.kr_lawful.proofs.ChangeLemmas.{every-change-keeps}
-use Rattle.kr_model.specs.Applied.{Mounts, applied, images, layouts}
-use Rattle.kr_model.specs.Bare.{bare, bare_mounts, pins_of}
-use Rattle.kr_model.specs.Change.{Change, AddNode, LinkNode, RemoveName, MoveName, SetMode, SetOwner, SetSize, WriteFile, OpenFile, CopyDescriptor, CloseDescriptor, SetCloexec, Seek, SetAppend, MakePipe, TakeFromPipe, PutIntoPipe, TakeInput, WriteOut, WriteErr, ChangePages, SetBreak, SetUmask, ChangeDirectory, Fork, End, Reap, ReplaceImage, ReplaceExecutable, CloseOnExec}
-use Rattle.kr_model.specs.Conditions.{CanBeMade, CanLoad, OfCaller}
-use Rattle.kr_model.specs.Images.{LoadsWhole}
-use Rattle.kr_model.specs.Lawful.{IsLawful}
-use Rattle.kr_model.specs.State.{Image, Process, State, image_layout, process}
-use Rattle.kr_model.proofs.BareLemmas.{change-bare}
-use Rattle.kr_model.proofs.ProcessLemmas.{processes_alike}
-use Rattle.places_stay.specs.Matching.{IsMatch}
-use Rattle.places_stay.specs.Standing.{PlacesStand}
-use Rattle.places_stay.specs.Tagging.{tags_made}
-use Rattle.places_stay.proofs.SlotLemmas.{tags_follow}
+use Rattle.kr_core.specs.rv_mem.Pages.{IsWhole}
+use Rattle.calm_places.specs.pt_bind.Tags.{TagTable}
+use Rattle.kr_core.specs.kr_view.View.{Row, plain}
+use Rattle.calm_places.specs.kr_calm.Rules.{breaks_3, breaks_4, breaks_5, changes_break_3, changes_break_4, changes_break_5}
+use Rattle.calm_places.proofs.kr_lawful.ChangeLemmas.{every-change-keeps}
+use Rattle.calm_places.specs.kr_model.Applied.{Mounts, applied, images, layouts}
+use Rattle.calm_places.specs.kr_model.Bare.{bare, bare_mounts, pins_of}
+use Rattle.calm_places.specs.kr_model.Change.{Change, AddNode, LinkNode, RemoveName, MoveName, SetMode, SetOwner, SetSize, WriteFile, OpenFile, CopyDescriptor, CloseDescriptor, SetCloexec, Seek, SetAppend, MakePipe, TakeFromPipe, PutIntoPipe, TakeInput, WriteOut, WriteErr, ChangePages, SetBreak, SetUmask, ChangeDirectory, Fork, End, Reap, ReplaceImage, ReplaceExecutable, CloseOnExec}
+use Rattle.calm_places.specs.kr_model.Conditions.{CanBeMade, CanLoad, OfCaller}
+use Rattle.calm_places.specs.kr_model.Images.{LoadsWhole}
+use Rattle.calm_places.specs.kr_model.Lawful.{IsLawful}
+use Rattle.calm_places.specs.kr_model.State.{Image, Process, State, image_layout, process}
+use Rattle.calm_places.proofs.kr_model.BareLemmas.{change-bare}
+use Rattle.calm_places.proofs.kr_model.ProcessLemmas.{processes_alike}
+use Rattle.calm_places.specs.places_stay.Matching.{IsMatch}
+use Rattle.calm_places.specs.places_stay.Standing.{PlacesStand}
+use Rattle.calm_places.specs.places_stay.Tagging.{tags_made}
+use Rattle.calm_places.proofs.places_stay.SlotLemmas.{tags_follow}
 use Rattle.calm_places.proofs.InUseLemmas.{neither}
 use Rattle.calm_places.proofs.KeepLemmas.{calm_moves_keep_places, stay_inside}
 use Rattle.turns_match.specs.Changing.{ChangesKeepMatches, MovesKeepMatches}

@@ -2,26 +2,26 @@
 use Rattle.std.proofs.Common.{◌≡◌, ℕ, suc, List, [], ◌∷◌, Option, Some, None, refl, sym, ap, subst, ◌∙◌, arith}
 use Rattle.std.specs.Prelude.{IsSome}
 use Rattle.std.specs.Option.{option_map}
-use Rattle.rv_cpu.specs.Run.{ran}
-use Rattle.rv_cpu.specs.declared.event.Event.{Event}
-use Rattle.rv_cpu.specs.declared.event.Event.TheVariants.{Next, Call, Killed}
-use Rattle.kr_view.specs.View.{Row, plain}
-use Rattle.kr_allowed.specs.Lasting.{AreModest}
-use Rattle.kr_allowed.proofs.ChangeLemmas.{modest-last}
-use Rattle.kr_lawful.specs.Laws.{CanAllBeMade}
-use Rattle.kr_lawful.proofs.ChangeLemmas.{all-changes-keep}
-use Rattle.kr_lawful.proofs.ProcessChangeLemmas.{found}
-use Rattle.kr_model.specs.Applied.{all_applied, images}
-use Rattle.kr_model.specs.Change.{Change, End}
-use Rattle.kr_model.specs.State.{Image, Process, State, at_pid, process}
-use Rattle.kr_allowed.proofs.RowLemmas.{lawful-image}
-use Rattle.kr_steps.specs.Calls.{LastsLawful}
-use Rattle.kr_steps.specs.Computing.{computed}
-use Rattle.kr_steps.specs.Waiting.{picked_process}
-use Rattle.kr_steps.proofs.ComputingLemmas.{ran-stays-like}
-use Rattle.kr_bytes.specs.kr_turns.Breaking.{no_mounts}
-use Rattle.kr_bytes.specs.kr_turns.Turn.{Machine, after_event, by_pick, turn}
-use Rattle.kr_bytes.specs.kr_turns.Watching.{Watcher}
+use Rattle.kr_core.specs.rv_cpu.Run.{ran}
+use Rattle.kr_core.specs.rv_cpu.declared.event.Event.{Event}
+use Rattle.kr_core.specs.rv_cpu.declared.event.Event.TheVariants.{Next, Call, Killed}
+use Rattle.kr_core.specs.kr_view.View.{Row, plain}
+use Rattle.kr_core.specs.kr_allowed.Lasting.{AreModest}
+use Rattle.kr_core.proofs.kr_allowed.ChangeLemmas.{modest-last}
+use Rattle.calm_places.specs.kr_lawful.Laws.{CanAllBeMade}
+use Rattle.calm_places.proofs.kr_lawful.ChangeLemmas.{all-changes-keep}
+use Rattle.calm_places.proofs.kr_lawful.ProcessChangeLemmas.{found}
+use Rattle.calm_places.specs.kr_model.Applied.{all_applied, images}
+use Rattle.calm_places.specs.kr_model.Change.{Change, End}
+use Rattle.calm_places.specs.kr_model.State.{Image, Process, State, at_pid, process}
+use Rattle.kr_core.proofs.kr_allowed.RowLemmas.{lawful-image}
+use Rattle.kr_core.specs.kr_steps.Calls.{LastsLawful}
+use Rattle.kr_core.specs.kr_steps.Computing.{computed}
+use Rattle.kr_core.specs.kr_steps.Waiting.{picked_process}
+use Rattle.kr_core.proofs.kr_steps.ComputingLemmas.{ran-stays-like}
+use Rattle.kr_core.specs.kr_turns.Breaking.{no_mounts}
+use Rattle.kr_core.specs.kr_turns.Turn.{Machine, after_event, by_pick, turn}
+use Rattle.kr_core.specs.kr_turns.Watching.{Watcher}
 use Rattle.turns_match.specs.Quiet.{MakesNoCall}
 use Rattle.turns_match.specs.Runs.{QuietTurnsGoTogether}
 use Rattle.turns_match.proofs.ImageLemmas.{given}

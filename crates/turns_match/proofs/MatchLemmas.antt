@@ -3,22 +3,22 @@ use Rattle.std.proofs.Common.{◌≡◌, ℕ, Bool, true, false, cond, List, [],
 use Rattle.std.specs.Prelude.{map as map_list, ◌==◌}
 use Rattle.std.specs.Option.{option_map}
 use Rattle.std.proofs.lemmas.Bool.{eqb-true}
-use Rattle.rv_mem.specs.Actions.{AreEqualUnmarked}
-use Rattle.rv_mem.specs.Layout.{layout_of}
-use Rattle.rv_mem.specs.Memory.{Memory}
-use Rattle.rv_mem.specs.declared.regs.Regs.{Regs}
-use Rattle.pt_bind.specs.Tags.{TagTable}
-use Rattle.kr_view.specs.View.{Row, plain}
-use Rattle.kr_model.specs.Applied.{with_living}
-use Rattle.kr_model.specs.Bare.{bare_process, pins_of}
-use Rattle.kr_model.specs.Lawful.{RiseFrom}
-use Rattle.kr_model.specs.State.{Image, Process, State, at_pid, image_layout, process, with_process}
-use Rattle.kr_allowed.proofs.RowLemmas.{StaysLike}
-use Rattle.kr_lawful.proofs.ProcessChangeLemmas.{found}
-use Rattle.kr_steps.specs.Computing.{computed}
-use Rattle.places_stay.specs.Matching.{AreImagesAlike, IsMatch}
-use Rattle.places_stay.proofs.FollowLemmas.{from_process, told_at}
-use Rattle.places_stay.proofs.TagLemmas.{found_is}
+use Rattle.kr_core.specs.rv_mem.Actions.{AreEqualUnmarked}
+use Rattle.kr_core.specs.rv_mem.Layout.{layout_of}
+use Rattle.kr_core.specs.rv_mem.Memory.{Memory}
+use Rattle.kr_core.specs.rv_mem.declared.regs.Regs.{Regs}
+use Rattle.calm_places.specs.pt_bind.Tags.{TagTable}
+use Rattle.kr_core.specs.kr_view.View.{Row, plain}
+use Rattle.calm_places.specs.kr_model.Applied.{with_living}
+use Rattle.calm_places.specs.kr_model.Bare.{bare_process, pins_of}
+use Rattle.calm_places.specs.kr_model.Lawful.{RiseFrom}
+use Rattle.calm_places.specs.kr_model.State.{Image, Process, State, at_pid, image_layout, process, with_process}
+use Rattle.kr_core.proofs.kr_allowed.RowLemmas.{StaysLike}
+use Rattle.calm_places.proofs.kr_lawful.ProcessChangeLemmas.{found}
+use Rattle.kr_core.specs.kr_steps.Computing.{computed}
+use Rattle.calm_places.specs.places_stay.Matching.{AreImagesAlike, IsMatch}
+use Rattle.calm_places.proofs.places_stay.FollowLemmas.{from_process, told_at}
+use Rattle.calm_places.proofs.places_stay.TagLemmas.{found_is}
 use Rattle.turns_match.proofs.ImageLemmas.{bare_computed, given, places_computed, tags_computed}
 
 abbrev pub pids_in : List (Process ℕ Image) → List ℕ

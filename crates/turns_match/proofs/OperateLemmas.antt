@@ -3,30 +3,30 @@ use Rattle.std.proofs.Common.{◌≡◌, ℕ, true, Option, Some, None, refl, sy
 use Rattle.std.specs.Prelude.{false, IsSome, List}
 use Rattle.std.specs.List.{find}
 use Rattle.std.specs.Option.{option_map, option_map_or}
-use Rattle.rv_mem.specs.Actions.{AreEqualUnmarked}
-use Rattle.rv_mem.specs.Layout.{layout_of}
-use Rattle.rv_mem.specs.Memory.{Memory}
-use Rattle.rv_mem.specs.Pages.{IsPlaced, IsWhole}
-use Rattle.rv_mem.proofs.LayoutLemmas.{layout_alike}
-use Rattle.pt_bind.specs.Tags.{TagTable}
-use Rattle.kr_view.specs.View.{Row, plain}
-use Rattle.kr_calls.specs.declared.request.Request.{Request}
-use Rattle.kr_model.specs.Applied.{Mounts, all_applied, images, with_image, with_living}
-use Rattle.kr_model.specs.Bare.{pins_of}
-use Rattle.kr_model.specs.Known.{known}
-use Rattle.kr_model.specs.Lawful.{RiseFrom}
-use Rattle.kr_model.specs.Operation.{operation}
-use Rattle.kr_model.specs.Reply.{Reply}
-use Rattle.kr_model.specs.Seen.{Seen}
-use Rattle.kr_model.specs.State.{Image, Process, State, image_layout, is_pid, process}
-use Rattle.kr_model.proofs.CallLemmas.{calls-alike}
-use Rattle.kr_lawful.specs.Laws.{CanAllBeMade}
-use Rattle.kr_allowed.proofs.RowLemmas.{StaysLike, stays-like}
-use Rattle.kr_seen.specs.Carrying.{after_row, memory_of, no_memory, with_memory, with_memory_of}
-use Rattle.kr_seen.proofs.CarryLemmas.{agree}
-use Rattle.kr_steps.specs.Computing.{computed}
-use Rattle.kr_steps.specs.Settling.{settled}
-use Rattle.places_stay.specs.Matching.{IsMatch}
+use Rattle.kr_core.specs.rv_mem.Actions.{AreEqualUnmarked}
+use Rattle.kr_core.specs.rv_mem.Layout.{layout_of}
+use Rattle.kr_core.specs.rv_mem.Memory.{Memory}
+use Rattle.kr_core.specs.rv_mem.Pages.{IsPlaced, IsWhole}
+use Rattle.kr_core.proofs.rv_mem.LayoutLemmas.{layout_alike}
+use Rattle.calm_places.specs.pt_bind.Tags.{TagTable}
+use Rattle.kr_core.specs.kr_view.View.{Row, plain}
+use Rattle.kr_core.specs.kr_calls.declared.request.Request.{Request}
+use Rattle.calm_places.specs.kr_model.Applied.{Mounts, all_applied, images, with_image, with_living}
+use Rattle.calm_places.specs.kr_model.Bare.{pins_of}
+use Rattle.calm_places.specs.kr_model.Known.{known}
+use Rattle.calm_places.specs.kr_model.Lawful.{RiseFrom}
+use Rattle.calm_places.specs.kr_model.Operation.{operation}
+use Rattle.calm_places.specs.kr_model.Reply.{Reply}
+use Rattle.calm_places.specs.kr_model.Seen.{Seen}
+use Rattle.calm_places.specs.kr_model.State.{Image, Process, State, image_layout, is_pid, process}
+use Rattle.calm_places.proofs.kr_model.CallLemmas.{calls-alike}
+use Rattle.calm_places.specs.kr_lawful.Laws.{CanAllBeMade}
+use Rattle.kr_core.proofs.kr_allowed.RowLemmas.{StaysLike, stays-like}
+use Rattle.kr_core.specs.kr_seen.Carrying.{after_row, memory_of, no_memory, with_memory, with_memory_of}
+use Rattle.kr_core.proofs.kr_seen.CarryLemmas.{agree}
+use Rattle.kr_core.specs.kr_steps.Computing.{computed}
+use Rattle.kr_core.specs.kr_steps.Settling.{settled}
+use Rattle.calm_places.specs.places_stay.Matching.{IsMatch}
 use Rattle.turns_match.specs.Changing.{all_tags_made}
 use Rattle.turns_match.specs.Operating.{CallsKeepMatches, IsCalmCall, IsCarriedAlike, behind, done_in, written_in}
 use Rattle.turns_match.proofs.ImageLemmas.{given}
@@ -62,7 +62,7 @@ module _ (pid : ℕ) (r : Request) (seen : Seen) (table : List Row) (mounts othe
       (subst (λ (y : Memory). AreEqualUnmarked p.image.memory.pages y.pages) (sym theirs) (m.images.memories pid p q lives also))
 
   answered_alike : ((done_in pid r seen s).reply ≡ (done_in pid r seen w).reply) × AreEqualUnmarked (done_in pid r seen s).memory.pages (done_in pid r seen w).memory.pages
-  answered_alike = calls-alike ℕ ℕ (pins_of table) (pins_of plain) pid r seen s w (memory_of pid s) (memory_of pid w) m.bares memories c.unread
+  answered_alike = calls-alike ℕ ℕ (pins_of table) (pins_of plain) pid r seen s w (memory_of pid s) (memory_of pid w) c.kind m.bares memories c.unread
 
   stays : StaysLike p.image.memory.pages (done_in pid r seen s).memory.pages
   stays =

@@ -3,44 +3,44 @@ use Rattle.std.proofs.Common.{◌≡◌, ◌≢◌, ℕ, Bool, true, false, cond
 use Rattle.std.specs.Prelude.{◌&&◌, ◌||◌, ◌⊎◌, IsSome, ℤ}
 use Rattle.std.specs.List.{list_all}
 use Rattle.std.specs.Option.{option_map_or}
-use Rattle.rv_mem.specs.Actions.{carried_out}
-use Rattle.rv_mem.specs.Memory.{Memory}
-use Rattle.rv_mem.specs.Pages.{HoldsBytes, IsPlaced, IsWhole}
-use Rattle.pt_bind.specs.Tags.{TagTable}
-use Rattle.kr_view.specs.View.{Row, plain}
-use Rattle.kr_calls.specs.declared.request.Request.{Request}
-use Rattle.kr_calls.specs.declared.request.Request.TheVariants as call
-use Rattle.kr_model.specs.Applied.{Mounts, applied, images}
-use Rattle.kr_model.specs.Bare.{bare_mounts}
-use Rattle.kr_model.specs.Change.{Change, ChangeDirectory, MoveName, OfDescriptor, OfDirectory, OfFound, OpenFile, ReplaceExecutable}
-use Rattle.kr_model.specs.AttributeRows.{fchmod_row, fchown_row}
-use Rattle.kr_model.specs.DirectoryRows.{fchdir_row}
-use Rattle.kr_model.specs.Known.{Known, known}
-use Rattle.kr_model.proofs.KnownLemmas.{known-bare}
-use Rattle.kr_model.specs.Operation.{operation}
-use Rattle.kr_model.specs.Seen.{NoPath, Seen}
-use Rattle.kr_model.specs.State.{Image, Process, State, image_layout}
-use Rattle.kr_model.specs.Walks.{seen, targets_of}
-use Rattle.kr_model.specs.declared.outcome.Outcome.TheVariants.{Ended}
-use Rattle.kr_allowed.specs.Allowed.{LeavesLawful}
-use Rattle.kr_allowed.specs.Told.{mounts_walked}
-use Rattle.kr_allowed.proofs.RowLemmas.{StaysLike, stays-like}
-use Rattle.kr_seen.specs.Carrying.{memory_of}
-use Rattle.kr_calm.specs.Foreseen.{gives_owner, is_foreseen}
-use Rattle.kr_calm.specs.Rules.{changes_break_3, changes_break_4, changes_break_5}
-use Rattle.kr_calm.specs.Laws.{leaves_mark}
-use Rattle.kr_calm.proofs.ChangeLemmas.{both}
-use Rattle.kr_calm.proofs.MildCalls.{enters_open, operation_mild}
-use Rattle.kr_calm.proofs.MildLemmas.{ComesTo, are_mild, comes_to, is_mild, mildly}
-use Rattle.kr_calm.proofs.UnjudgedLemmas.{others-leave}
-use Rattle.kr_steps.specs.Calls.{IsNoExec}
-use Rattle.kr_steps.specs.Computing.{computed}
-use Rattle.kr_bytes.specs.kr_turns.Breaking.{decoded_rule, operated_rule, plain_rule, plain_rule_of}
-use Rattle.kr_bytes.specs.kr_turns.PlainCall.{plain_call}
-use Rattle.kr_bytes.proofs.kr_turns.PlainLemmas.{no-exec-rule}
-use Rattle.places_stay.specs.Changes.{NewPlaceStands, NewPlacesStand}
-use Rattle.places_stay.specs.Matching.{AreTagged, IsMatch}
-use Rattle.places_stay.specs.Standing.{PlacesStand}
+use Rattle.kr_core.specs.rv_mem.Actions.{carried_out}
+use Rattle.kr_core.specs.rv_mem.Memory.{Memory}
+use Rattle.kr_core.specs.rv_mem.Pages.{HoldsBytes, IsPlaced, IsWhole}
+use Rattle.calm_places.specs.pt_bind.Tags.{TagTable}
+use Rattle.kr_core.specs.kr_view.View.{Row, plain}
+use Rattle.kr_core.specs.kr_calls.declared.request.Request.{Request}
+use Rattle.kr_core.specs.kr_calls.declared.request.Request.TheVariants as call
+use Rattle.calm_places.specs.kr_model.Applied.{Mounts, applied, images}
+use Rattle.calm_places.specs.kr_model.Bare.{bare_mounts}
+use Rattle.calm_places.specs.kr_model.Change.{Change, ChangeDirectory, MoveName, OfDescriptor, OfDirectory, OfFound, OpenFile, ReplaceExecutable}
+use Rattle.calm_places.specs.kr_model.AttributeRows.{fchmod_row, fchown_row}
+use Rattle.calm_places.specs.kr_model.DirectoryRows.{fchdir_row}
+use Rattle.calm_places.specs.kr_model.Known.{Known, known}
+use Rattle.calm_places.proofs.kr_model.KnownLemmas.{known-bare}
+use Rattle.calm_places.specs.kr_model.Operation.{operation}
+use Rattle.calm_places.specs.kr_model.Seen.{NoPath, Seen}
+use Rattle.calm_places.specs.kr_model.State.{Image, Process, State, image_layout}
+use Rattle.calm_places.specs.kr_model.Walks.{seen, targets_of}
+use Rattle.calm_places.specs.kr_model.declared.outcome.Outcome.TheVariants.{Ended}
+use Rattle.kr_core.specs.kr_allowed.Allowed.{LeavesLawful}
+use Rattle.kr_core.specs.kr_allowed.Told.{mounts_walked}
+use Rattle.kr_core.proofs.kr_allowed.RowLemmas.{StaysLike, stays-like}
+use Rattle.kr_core.specs.kr_seen.Carrying.{memory_of}
+use Rattle.calm_places.specs.kr_calm.Foreseen.{gives_owner, is_foreseen}
+use Rattle.calm_places.specs.kr_calm.Rules.{changes_break_3, changes_break_4, changes_break_5}
+use Rattle.calm_places.specs.kr_calm.Laws.{leaves_mark}
+use Rattle.calm_places.proofs.kr_calm.ChangeLemmas.{both}
+use Rattle.calm_places.proofs.kr_calm.MildCalls.{enters_open, operation_mild}
+use Rattle.calm_places.proofs.kr_calm.MildLemmas.{ComesTo, are_mild, comes_to, is_mild, mildly}
+use Rattle.calm_places.proofs.kr_calm.UnjudgedLemmas.{others-leave}
+use Rattle.kr_core.specs.kr_steps.Calls.{IsNoExec}
+use Rattle.kr_core.specs.kr_steps.Computing.{computed}
+use Rattle.kr_core.specs.kr_turns.Breaking.{decoded_rule, operated_rule, plain_rule, plain_rule_of}
+use Rattle.kr_core.specs.kr_turns.PlainCall.{plain_call}
+use Rattle.kr_core.proofs.kr_turns.PlainLemmas.{no-exec-rule}
+use Rattle.calm_places.specs.places_stay.Changes.{NewPlaceStands, NewPlacesStand}
+use Rattle.calm_places.specs.places_stay.Matching.{AreTagged, IsMatch}
+use Rattle.calm_places.specs.places_stay.Standing.{PlacesStand}
 use Rattle.calm_places.proofs.InUseLemmas.{neither}
 use Rattle.calm_places.specs.Keeping.{move_nothing, moves_nothing}
 use Rattle.calm_places.proofs.KeepLemmas.{stay_inside}
@@ -285,16 +285,17 @@ module _ (table : List Row) (made pid : ℕ) (no_shelf : Bool) (s w : State ℕ 
 
   is_calm : IsCalmCall pid r told table mounts (mounts_walked (targets_of plain pid other_at r)) at other_at
   is_calm = record {
+    kind = no_exec r kind;
     lives = subst IsSome (sym (decoded_lives table made pid s p can)) refl;
     same = ap (λ t. bare_mounts (mounts_walked t)) (no_targets table pid at r kind ∙ sym (no_targets plain pid other_at r kind));
     unread = row_unread;
     inside = stay_inside table mounts pid changes written brings.0;
     calm = record { third = rules.1; fourth = rules.2; fifth = rules.3 };
     new = brings.1;
-    allowed = is_allowed table made pid s p can r is;
+    allowed = is_allowed table made pid s p can r is (no_exec r kind);
     also_allowed =
         subst (λ (x : Seen). LeavesLawful (λ m. m) plain (mounts_walked (targets_of plain pid other_at r)) pid other_at (done_in pid r x other_at)) (told_none plain pid other_at r kind ∙ sym (told_none table pid at r kind))
-        (is_allowed plain made pid w q also r (sym requests ∙ is));
+        (is_allowed plain made pid w q also r (sym requests ∙ is) (no_exec r kind));
   }
     where
       requests : (decoded_by p).reply ≡ (decoded_by q).reply

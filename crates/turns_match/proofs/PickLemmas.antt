@@ -3,18 +3,18 @@ use Rattle.std.proofs.Common.{◌≡◌, ◌≤◌, ℕ, suc, Bool, true, false,
 use Rattle.std.specs.Prelude.{◌==◌, ◌&&◌, ◌%◌, map as map_list, not, slice_get}
 use Rattle.std.specs.List.{filter, find}
 use Rattle.std.specs.Option.{option_map}
-use Rattle.pt_bind.specs.Tags.{TagTable}
+use Rattle.calm_places.specs.pt_bind.Tags.{TagTable}
 use Rattle.std.proofs.lemmas.Option.{slice_get-map}
-use Rattle.kr_view.specs.View.{Row, plain}
-use Rattle.kr_model.specs.Bare.{bare_process, pins_of}
-use Rattle.kr_model.specs.Known.{known}
-use Rattle.kr_model.specs.Lawful.{RiseFrom}
-use Rattle.kr_model.specs.State.{Image, Process, State, image_layout, is_pid}
-use Rattle.kr_model.proofs.KnownLemmas.{known-bare}
-use Rattle.kr_lawful.proofs.SumLemmas.{other-test}
-use Rattle.kr_steps.specs.Waiting.{goes_on, ready_processes, still_waits}
-use Rattle.kr_bytes.specs.kr_turns.Run.{Deadlock, Over, if_any}
-use Rattle.places_stay.specs.Matching.{IsMatch}
+use Rattle.kr_core.specs.kr_view.View.{Row, plain}
+use Rattle.calm_places.specs.kr_model.Bare.{bare_process, pins_of}
+use Rattle.calm_places.specs.kr_model.Known.{known}
+use Rattle.calm_places.specs.kr_model.Lawful.{RiseFrom}
+use Rattle.calm_places.specs.kr_model.State.{Image, Process, State, image_layout, is_pid}
+use Rattle.calm_places.proofs.kr_model.KnownLemmas.{known-bare}
+use Rattle.calm_places.proofs.kr_lawful.SumLemmas.{other-test}
+use Rattle.kr_core.specs.kr_steps.Waiting.{goes_on, ready_processes, still_waits}
+use Rattle.kr_core.specs.kr_turns.Run.{Deadlock, Over, if_any}
+use Rattle.calm_places.specs.places_stay.Matching.{IsMatch}
 use Rattle.turns_match.specs.Turning.{MatchesGoOnAlike}
 use Rattle.turns_match.proofs.MatchLemmas.{pids_in, same_pids}
 

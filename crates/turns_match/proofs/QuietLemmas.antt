@@ -2,29 +2,29 @@
 use Rattle.std.proofs.Common.{◌≡◌, ◌≢◌, ℕ, Bool, true, false, cond, Option, Some, None, refl, sym, ap, subst, ◌∙◌, length, eq-eqb}
 use Rattle.std.specs.Prelude.{◌||◌, ◌%◌, IsSome, List}
 use Rattle.std.specs.Option.{option_map, option_map_or}
-use Rattle.rv_mem.specs.Memory.{Memory}
-use Rattle.rv_mem.specs.declared.regs.Regs.{Regs}
-use Rattle.rv_cpu.specs.Run.{Ran, ran}
-use Rattle.rv_cpu.specs.declared.event.Event.{Event}
-use Rattle.rv_cpu.specs.declared.event.Event.TheVariants.{Next, Call, Killed}
-use Rattle.pt_bind.specs.Tags.{TagTable}
-use Rattle.kr_view.specs.View.{Row, plain}
-use Rattle.kr_lawful.proofs.ProcessChangeLemmas.{found}
-use Rattle.kr_model.specs.Lawful.{IsLawful, RiseFrom}
-use Rattle.kr_model.specs.State.{Image, Process, State, at_pid, process}
-use Rattle.kr_allowed.proofs.RowLemmas.{lawful-image}
-use Rattle.kr_seen.specs.Carrying.{memory_of, no_memory}
-use Rattle.kr_calm.specs.Calm.{kept}
+use Rattle.kr_core.specs.rv_mem.Memory.{Memory}
+use Rattle.kr_core.specs.rv_mem.declared.regs.Regs.{Regs}
+use Rattle.kr_core.specs.rv_cpu.Run.{Ran, ran}
+use Rattle.kr_core.specs.rv_cpu.declared.event.Event.{Event}
+use Rattle.kr_core.specs.rv_cpu.declared.event.Event.TheVariants.{Next, Call, Killed}
+use Rattle.calm_places.specs.pt_bind.Tags.{TagTable}
+use Rattle.kr_core.specs.kr_view.View.{Row, plain}
+use Rattle.calm_places.proofs.kr_lawful.ProcessChangeLemmas.{found}
+use Rattle.calm_places.specs.kr_model.Lawful.{IsLawful, RiseFrom}
+use Rattle.calm_places.specs.kr_model.State.{Image, Process, State, at_pid, process}
+use Rattle.kr_core.proofs.kr_allowed.RowLemmas.{lawful-image}
+use Rattle.kr_core.specs.kr_seen.Carrying.{memory_of, no_memory}
+use Rattle.calm_places.specs.kr_calm.Calm.{kept}
 use Rattle.kr_core.proofs.KernelLemmas.{found-of}
-use Rattle.kr_steps.specs.Computing.{computed}
-use Rattle.kr_steps.specs.Waiting.{goes_on, picked_process, ready_processes}
-use Rattle.kr_steps.proofs.ComputingLemmas.{ran-stays-like}
-use Rattle.kr_bytes.specs.kr_turns.Breaking.{idle_rule, killed_rule}
-use Rattle.kr_bytes.specs.kr_turns.Turn.{Machine, after_event, by_pick, turn, turn_of}
-use Rattle.kr_bytes.specs.kr_turns.Watching.{Watcher}
+use Rattle.kr_core.specs.kr_steps.Computing.{computed}
+use Rattle.kr_core.specs.kr_steps.Waiting.{goes_on, picked_process, ready_processes}
+use Rattle.kr_core.proofs.kr_steps.ComputingLemmas.{ran-stays-like}
+use Rattle.kr_core.specs.kr_turns.Breaking.{idle_rule, killed_rule}
+use Rattle.kr_core.specs.kr_turns.Turn.{Machine, after_event, by_pick, turn, turn_of}
+use Rattle.kr_core.specs.kr_turns.Watching.{Watcher}
 use Rattle.calm_places.proofs.InUseLemmas.{neither}
-use Rattle.places_stay.specs.Matching.{IsMatch}
-use Rattle.places_stay.proofs.TagLemmas.{found_is}
+use Rattle.calm_places.specs.places_stay.Matching.{IsMatch}
+use Rattle.calm_places.proofs.places_stay.TagLemmas.{found_is}
 use Rattle.turns_match.specs.Quiet.{DropsTags, MachinesMatch, MakesNoCall, QuietTurnsKeepMatches}
 use Rattle.turns_match.specs.Turning.{ComputeAlike}
 use Rattle.turns_match.proofs.DeathLemmas.{deaths_keep_matches}

@@ -4,22 +4,22 @@ use Rattle.std.proofs.Common.{◌≡◌, ℕ, zero, suc, Bool, true, false, cond
 use Rattle.std.specs.Prelude.{◌==◌, map as map_list}
 use Rattle.std.specs.List.{find, list_all}
 use Rattle.std.specs.Option.{option_map, option_map_or}
-use Rattle.rv_mem.specs.declared.regs.Regs.{Regs}
-use Rattle.kr_calm.proofs.ChangeLemmas.{both}
-use Rattle.kr_calm.specs.Laws.{leaves_mark}
-use Rattle.kr_files.specs.Descriptors.{Meanings, Named}
-use Rattle.kr_files.specs.Files.{with_opened}
-use Rattle.kr_model.specs.Applied.{Mounts, all_applied, applied, child_of, close, close_named, close_on_exec_below, copy_over, exe_after_removal, exe_after_rename, exe_remembers, forked_from, images, is_closed_on_exec, mount_of, moved_to, on_opened_of, open_in, executed, with_brk, with_cwd, with_exe, with_exe_name, with_files, with_image, with_umask}
-use Rattle.kr_model.specs.Change.{Change, AddNode, LinkNode, RemoveName, MoveName, SetMode, SetOwner, SetSize, WriteFile, OpenFile, CopyDescriptor, CloseDescriptor, SetCloexec, Seek, SetAppend, MakePipe, TakeFromPipe, PutIntoPipe, TakeInput, WriteOut, WriteErr, ChangePages, SetBreak, SetUmask, ChangeDirectory, Fork, End, Reap, ReplaceImage, ReplaceExecutable, CloseOnExec}
-use Rattle.kr_model.specs.State.{Image, Process, State, at_pid, is_pid, named, process, with_descs, with_process}
-use Rattle.kr_model.specs.declared.outcome.Outcome.{Outcome}
-use Rattle.kr_model.specs.declared.outcome.Outcome.TheVariants.{Answer, Wait, Ended, NoMemory}
-use Rattle.kr_seen.specs.Carrying.{with_memory, with_memory_of}
-use Rattle.kr_lawful.proofs.ProcessChangeLemmas.{found}
-use Rattle.kr_steps.specs.Answering.{going, with_answer}
-use Rattle.kr_steps.specs.Settling.{settled}
-use Rattle.places_stay.proofs.FollowLemmas.{told_at}
-use Rattle.places_stay.proofs.TagLemmas.{found_is}
+use Rattle.kr_core.specs.rv_mem.declared.regs.Regs.{Regs}
+use Rattle.calm_places.proofs.kr_calm.ChangeLemmas.{both}
+use Rattle.calm_places.specs.kr_calm.Laws.{leaves_mark}
+use Rattle.calm_places.specs.kr_files.Descriptors.{Meanings, Named}
+use Rattle.calm_places.specs.kr_files.Files.{with_opened}
+use Rattle.calm_places.specs.kr_model.Applied.{Mounts, all_applied, applied, child_of, close, close_named, close_on_exec_below, copy_over, exe_after_removal, exe_after_rename, exe_remembers, forked_from, images, is_closed_on_exec, mount_of, moved_to, on_opened_of, open_in, executed, with_brk, with_cwd, with_exe, with_exe_name, with_files, with_image, with_umask}
+use Rattle.calm_places.specs.kr_model.Change.{Change, AddNode, LinkNode, RemoveName, MoveName, SetMode, SetOwner, SetSize, WriteFile, OpenFile, CopyDescriptor, CloseDescriptor, SetCloexec, Seek, SetAppend, MakePipe, TakeFromPipe, PutIntoPipe, TakeInput, WriteOut, WriteErr, ChangePages, SetBreak, SetUmask, ChangeDirectory, Fork, End, Reap, ReplaceImage, ReplaceExecutable, CloseOnExec}
+use Rattle.calm_places.specs.kr_model.State.{Image, Process, State, at_pid, is_pid, named, process, with_descs, with_process}
+use Rattle.calm_places.specs.kr_model.declared.outcome.Outcome.{Outcome}
+use Rattle.calm_places.specs.kr_model.declared.outcome.Outcome.TheVariants.{Answer, Wait, Ended, NoMemory}
+use Rattle.kr_core.specs.kr_seen.Carrying.{with_memory, with_memory_of}
+use Rattle.calm_places.proofs.kr_lawful.ProcessChangeLemmas.{found}
+use Rattle.kr_core.specs.kr_steps.Answering.{going, with_answer}
+use Rattle.kr_core.specs.kr_steps.Settling.{settled}
+use Rattle.calm_places.proofs.places_stay.FollowLemmas.{told_at}
+use Rattle.calm_places.proofs.places_stay.TagLemmas.{found_is}
 use Rattle.turns_match.specs.Operating.{done_in}
 use Rattle.turns_match.specs.Registers.{CallsKeepRegisters, ChangesKeepRegisters, told_by}
 

@@ -4,31 +4,31 @@ use Rattle.std.proofs.Common.{◌≡◌, ◌≢◌, ◌+◌, ◌-◌, ◌/◌, �
 use Rattle.std.specs.Prelude.{List, ◌%◌, is_some, nat_le, nat_lt, slice_index_or}
 use Rattle.std.specs.Option.{option_map, option_map_or}
 use Rattle.std.proofs.lemmas.Bool.{leb-false, leb-true, ltb-false, ltb-true}
-use Rattle.rv_mem.specs.Actions.{AreEqualUnmarked, carried_out}
-use Rattle.rv_mem.specs.Layout.{layout_of}
-use Rattle.rv_mem.specs.Memory.{Memory}
-use Rattle.rv_mem.specs.Pages.{IsPlaced, IsWhole, Pages, is_marked, marked}
-use Rattle.rv_mem.specs.Page.{PageState}
-use Rattle.rv_mem.specs.declared.regs.Regs.{Regs}
-use Rattle.rv_mem.proofs.ActionLemmas.{reads_alike}
-use Rattle.rv_mem.proofs.AddressLemmas.{byte_at-marked, is_marked-marked_in, is_marked-marked_other}
-use Rattle.rv_mem.proofs.LayoutLemmas.{layout_alike, layouts_follow}
-use Rattle.rv_mem.proofs.SpaceLemmas.{IsPlaced-marked, IsWhole-marked}
-use Rattle.rv_cpu.specs.Laws.{EndAlike}
-use Rattle.rv_cpu.specs.Run.{ran}
-use Rattle.rv_cpu.proofs.AlikeLemmas.{runs-alike}
-use Rattle.pt_bind.specs.Tags.{TagTable}
-use Rattle.kr_view.specs.View.{Row}
-use Rattle.kr_calls.specs.Arguments.{number}
-use Rattle.kr_calls.specs.Decoding.{decoding}
-use Rattle.kr_calm.specs.Shelf.{has_path, is_usable, shelf_size, shelf_start, shelved_by, stack_pointer, with_shelf_marked}
-use Rattle.kr_model.specs.State.{Image, Process, State, process}
-use Rattle.kr_allowed.proofs.RowLemmas.{StaysLike, stays-like}
-use Rattle.kr_steps.specs.Computing.{computed}
-use Rattle.kr_steps.proofs.ComputingLemmas.{ran-stays-like}
-use Rattle.kr_bytes.specs.kr_turns.Shelving.{shelved_in}
-use Rattle.kr_bytes.specs.kr_turns.Stopped.{image_in, no_image}
-use Rattle.places_stay.specs.Matching.{IsMatch}
+use Rattle.kr_core.specs.rv_mem.Actions.{AreEqualUnmarked, carried_out}
+use Rattle.kr_core.specs.rv_mem.Layout.{layout_of}
+use Rattle.kr_core.specs.rv_mem.Memory.{Memory}
+use Rattle.kr_core.specs.rv_mem.Pages.{IsPlaced, IsWhole, Pages, is_marked, marked}
+use Rattle.kr_core.specs.rv_mem.Page.{PageState}
+use Rattle.kr_core.specs.rv_mem.declared.regs.Regs.{Regs}
+use Rattle.kr_core.proofs.rv_mem.ActionLemmas.{reads_alike}
+use Rattle.kr_core.proofs.rv_mem.AddressLemmas.{byte_at-marked, is_marked-marked_in, is_marked-marked_other}
+use Rattle.kr_core.proofs.rv_mem.LayoutLemmas.{layout_alike, layouts_follow}
+use Rattle.kr_core.proofs.rv_mem.SpaceLemmas.{IsPlaced-marked, IsWhole-marked}
+use Rattle.kr_core.specs.rv_cpu.Laws.{EndAlike}
+use Rattle.kr_core.specs.rv_cpu.Run.{ran}
+use Rattle.kr_core.proofs.rv_cpu.AlikeLemmas.{runs-alike}
+use Rattle.calm_places.specs.pt_bind.Tags.{TagTable}
+use Rattle.kr_core.specs.kr_view.View.{Row}
+use Rattle.kr_core.specs.kr_calls.Arguments.{number}
+use Rattle.kr_core.specs.kr_calls.Decoding.{decoding}
+use Rattle.calm_places.specs.kr_calm.Shelf.{has_path, is_usable, shelf_size, shelf_start, shelved_by, stack_pointer, with_shelf_marked}
+use Rattle.calm_places.specs.kr_model.State.{Image, Process, State, process}
+use Rattle.kr_core.proofs.kr_allowed.RowLemmas.{StaysLike, stays-like}
+use Rattle.kr_core.specs.kr_steps.Computing.{computed}
+use Rattle.kr_core.proofs.kr_steps.ComputingLemmas.{ran-stays-like}
+use Rattle.kr_core.specs.kr_turns.Shelving.{shelved_in}
+use Rattle.kr_core.specs.kr_turns.Stopped.{image_in, no_image}
+use Rattle.calm_places.specs.places_stay.Matching.{IsMatch}
 use Rattle.turns_match.specs.Turning.{ComputeAlike, DecodeAlike, DecodingsKeepMatches, InstructionsKeepMatches, ShelvesKeepMatches}
 use Rattle.turns_match.proofs.MatchLemmas.{match_computed}
 

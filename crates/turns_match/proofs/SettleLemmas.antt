@@ -2,21 +2,21 @@
 use Rattle.std.proofs.Common.{◌≡◌, ℕ, Bool, true, false, cond, List, [], ◌∷◌, Some, refl, sym, ap, ◌∙◌, arith}
 use Rattle.std.specs.Prelude.{map as map_list, ◌==◌}
 use Rattle.std.specs.Option.{option_map}
-use Rattle.rv_mem.specs.Layout.{Layout}
-use Rattle.rv_mem.specs.declared.regs.Regs.{Regs}
-use Rattle.pt_bind.specs.Tags.{TagTable}
-use Rattle.kr_view.specs.View.{Row, plain}
-use Rattle.kr_lawful.proofs.AfterLemmas.{pages-same, parts-of}
-use Rattle.kr_lawful.proofs.OwnChangeLemmas.{process-keeps}
-use Rattle.kr_model.specs.Applied.{with_living}
-use Rattle.kr_model.specs.Bare.{bare, bare_process, pins_of}
-use Rattle.kr_model.specs.Lawful.{IsLawful}
-use Rattle.kr_model.specs.State.{Image, Process, State, image_layout, process, with_process}
-use Rattle.kr_model.specs.declared.outcome.Outcome.{Outcome}
-use Rattle.kr_model.specs.declared.outcome.Outcome.TheVariants.{Answer, Wait, Ended, NoMemory}
-use Rattle.kr_steps.specs.Answering.{going, with_answer}
-use Rattle.kr_steps.specs.Settling.{settled}
-use Rattle.places_stay.specs.Matching.{IsMatch}
+use Rattle.kr_core.specs.rv_mem.Layout.{Layout}
+use Rattle.kr_core.specs.rv_mem.declared.regs.Regs.{Regs}
+use Rattle.calm_places.specs.pt_bind.Tags.{TagTable}
+use Rattle.kr_core.specs.kr_view.View.{Row, plain}
+use Rattle.calm_places.proofs.kr_lawful.AfterLemmas.{pages-same, parts-of}
+use Rattle.calm_places.proofs.kr_lawful.OwnChangeLemmas.{process-keeps}
+use Rattle.calm_places.specs.kr_model.Applied.{with_living}
+use Rattle.calm_places.specs.kr_model.Bare.{bare, bare_process, pins_of}
+use Rattle.calm_places.specs.kr_model.Lawful.{IsLawful}
+use Rattle.calm_places.specs.kr_model.State.{Image, Process, State, image_layout, process, with_process}
+use Rattle.calm_places.specs.kr_model.declared.outcome.Outcome.{Outcome}
+use Rattle.calm_places.specs.kr_model.declared.outcome.Outcome.TheVariants.{Answer, Wait, Ended, NoMemory}
+use Rattle.kr_core.specs.kr_steps.Answering.{going, with_answer}
+use Rattle.kr_core.specs.kr_steps.Settling.{settled}
+use Rattle.calm_places.specs.places_stay.Matching.{IsMatch}
 use Rattle.turns_match.proofs.ImageLemmas.{places_idle, tags_idle}
 use Rattle.turns_match.proofs.MatchLemmas.{images}
 

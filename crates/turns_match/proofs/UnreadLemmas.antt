@@ -2,20 +2,20 @@
 use Rattle.std.proofs.Common.{◌≡◌, ℕ, Bool, true, false, cond, List, Option, Some, None, Ok, Err, refl, sym, ap, ◌∙◌}
 use Rattle.std.specs.Prelude.{◌||◌}
 use Rattle.std.specs.Option.{option_map_or}
-use Rattle.rv_mem.specs.Actions.{Action, carried_out}
-use Rattle.rv_mem.specs.Memory.{Memory}
-use Rattle.kr_view.specs.View.{Row}
-use Rattle.kr_calls.specs.Decoding.{Decoded}
-use Rattle.kr_calls.specs.declared.request.Request.{Request}
-use Rattle.kr_calls.specs.declared.request.Request.TheVariants as call
-use Rattle.kr_model.specs.Known.{known}
-use Rattle.kr_model.specs.Operation.{operation}
-use Rattle.kr_model.specs.State.{Image, Process, State, image_layout, process}
-use Rattle.kr_model.specs.Walks.{seen}
-use Rattle.kr_seen.specs.Carrying.{memory_of}
-use Rattle.kr_calm.proofs.ChangeLemmas.{marks_stay_read}
-use Rattle.kr_execve.specs.Execution.{execution}
-use Rattle.kr_bytes.specs.kr_turns.Breaking.{decoded_rule, plain_rule, plain_rule_of, requested_rule}
+use Rattle.kr_core.specs.rv_mem.Actions.{Action, carried_out}
+use Rattle.kr_core.specs.rv_mem.Memory.{Memory}
+use Rattle.kr_core.specs.kr_view.View.{Row}
+use Rattle.kr_core.specs.kr_calls.Decoding.{Decoded}
+use Rattle.kr_core.specs.kr_calls.declared.request.Request.{Request}
+use Rattle.kr_core.specs.kr_calls.declared.request.Request.TheVariants as call
+use Rattle.calm_places.specs.kr_model.Known.{known}
+use Rattle.calm_places.specs.kr_model.Operation.{operation}
+use Rattle.calm_places.specs.kr_model.State.{Image, Process, State, image_layout, process}
+use Rattle.calm_places.specs.kr_model.Walks.{seen}
+use Rattle.kr_core.specs.kr_seen.Carrying.{memory_of}
+use Rattle.calm_places.proofs.kr_calm.ChangeLemmas.{marks_stay_read}
+use Rattle.kr_core.specs.kr_execve.Execution.{execution}
+use Rattle.kr_core.specs.kr_turns.Breaking.{decoded_rule, plain_rule, plain_rule_of, requested_rule}
 use Rattle.calm_places.proofs.InUseLemmas.{neither}
 use Rattle.turns_match.specs.Calls.{decoded_by, decoded_in}
 use Rattle.turns_match.proofs.QuietLemmas.{first_unbroken, memory_computed}

@@ -1,18 +1,18 @@
 -- A call behind its first stop, of a process that stands at the same call in two states that match.
 use Rattle.std.specs.Prelude.{◌≡◌, ℕ, false, List, Some, Ok, Err}
-use Rattle.pr_base.specs.declared.errno.Errno.{Errno}
-use Rattle.rv_mem.specs.Actions.{CarriedOut, carried_out}
-use Rattle.pt_bind.specs.Tags.{TagTable}
-use Rattle.kr_view.specs.View.{Row, plain}
-use Rattle.kr_calls.specs.Decoding.{Decoded, decoding}
-use Rattle.kr_calls.specs.declared.request.Request.{Request}
-use Rattle.kr_model.specs.State.{Image, Process, State, process}
-use Rattle.kr_model.specs.Walks.{seen, targets_of}
-use Rattle.kr_allowed.specs.Told.{mounts_walked}
-use Rattle.kr_steps.specs.Calls.{IsNoExec}
-use Rattle.kr_steps.specs.Computing.{computed}
-use Rattle.kr_bytes.specs.kr_turns.PlainCall.{Came, plain_call}
-use Rattle.places_stay.specs.Matching.{IsMatch}
+use Rattle.kr_core.specs.pr_base.declared.errno.Errno.{Errno}
+use Rattle.kr_core.specs.rv_mem.Actions.{CarriedOut, carried_out}
+use Rattle.calm_places.specs.pt_bind.Tags.{TagTable}
+use Rattle.kr_core.specs.kr_view.View.{Row, plain}
+use Rattle.kr_core.specs.kr_calls.Decoding.{Decoded, decoding}
+use Rattle.kr_core.specs.kr_calls.declared.request.Request.{Request}
+use Rattle.calm_places.specs.kr_model.State.{Image, Process, State, process}
+use Rattle.calm_places.specs.kr_model.Walks.{seen, targets_of}
+use Rattle.kr_core.specs.kr_allowed.Told.{mounts_walked}
+use Rattle.kr_core.specs.kr_steps.Calls.{IsNoExec}
+use Rattle.kr_core.specs.kr_steps.Computing.{computed}
+use Rattle.kr_core.specs.kr_turns.PlainCall.{Came, plain_call}
+use Rattle.calm_places.specs.places_stay.Matching.{IsMatch}
 use Rattle.turns_match.specs.Changing.{all_tags_made}
 use Rattle.turns_match.specs.Operating.{IsCalmCall, done_in, written_in}
 

@@ -1,19 +1,19 @@
 -- The changes of a call that are made in two states that match.
 use Rattle.std.specs.Prelude.{◌≡◌, ℕ, true, IsSome, List, [], ◌∷◌, None}
-use Rattle.pt_bind.specs.Tags.{TagTable, dropped}
-use Rattle.kr_view.specs.View.{Row, plain}
-use Rattle.kr_calm.specs.Laws.{BreakNone}
-use Rattle.kr_lawful.specs.Laws.{CanAllBeMade}
-use Rattle.kr_model.specs.Applied.{Mounts, all_applied, applied, images}
-use Rattle.kr_model.specs.Bare.{bare_mounts}
-use Rattle.kr_model.specs.Change.{Change}
-use Rattle.kr_model.specs.Lawful.{IsLawful}
-use Rattle.kr_model.specs.State.{Image, State, process}
-use Rattle.kr_bytes.specs.kr_turns.Breaking.{killed_rule}
-use Rattle.kr_bytes.specs.kr_turns.Turn.{killed}
-use Rattle.places_stay.specs.Changes.{NewPlacesStand}
-use Rattle.places_stay.specs.Matching.{IsMatch}
-use Rattle.places_stay.specs.Tagging.{tags_made}
+use Rattle.calm_places.specs.pt_bind.Tags.{TagTable, dropped}
+use Rattle.kr_core.specs.kr_view.View.{Row, plain}
+use Rattle.calm_places.specs.kr_calm.Laws.{BreakNone}
+use Rattle.calm_places.specs.kr_lawful.Laws.{CanAllBeMade}
+use Rattle.calm_places.specs.kr_model.Applied.{Mounts, all_applied, applied, images}
+use Rattle.calm_places.specs.kr_model.Bare.{bare_mounts}
+use Rattle.calm_places.specs.kr_model.Change.{Change}
+use Rattle.calm_places.specs.kr_model.Lawful.{IsLawful}
+use Rattle.calm_places.specs.kr_model.State.{Image, State, process}
+use Rattle.kr_core.specs.kr_turns.Breaking.{killed_rule}
+use Rattle.kr_core.specs.kr_turns.Turn.{killed}
+use Rattle.calm_places.specs.places_stay.Changes.{NewPlacesStand}
+use Rattle.calm_places.specs.places_stay.Matching.{IsMatch}
+use Rattle.calm_places.specs.places_stay.Tagging.{tags_made}
 use Rattle.calm_places.specs.Keeping.{MovesStayInside, move_nothing}
 
 -- the tags after each change of a call in its turn

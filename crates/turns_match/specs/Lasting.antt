@@ -1,14 +1,14 @@
 -- What a call leaves on either kernel: a lawful state, with what lasts.
 use Rattle.std.specs.Prelude.{◌≡◌, ◌<◌, ◌^◌, ℕ, suc, List, Some, Ok, Err}
-use Rattle.pr_base.specs.declared.errno.Errno.{Errno}
-use Rattle.kr_view.specs.View.{Row}
-use Rattle.kr_calls.specs.declared.request.Request.{Request}
-use Rattle.kr_model.specs.State.{Image, Process, State, process}
-use Rattle.kr_model.specs.Walks.{seen, targets_of}
-use Rattle.kr_allowed.specs.Allowed.{HoldsBytes, LeavesLawful}
-use Rattle.kr_allowed.specs.Told.{SourcesAreNamed, mounts_walked}
-use Rattle.kr_steps.specs.Calls.{IsNoExec, LastsLawful}
-use Rattle.kr_bytes.specs.kr_turns.PlainCall.{plain_call}
+use Rattle.kr_core.specs.pr_base.declared.errno.Errno.{Errno}
+use Rattle.kr_core.specs.kr_view.View.{Row}
+use Rattle.kr_core.specs.kr_calls.declared.request.Request.{Request}
+use Rattle.calm_places.specs.kr_model.State.{Image, Process, State, process}
+use Rattle.calm_places.specs.kr_model.Walks.{seen, targets_of}
+use Rattle.kr_core.specs.kr_allowed.Allowed.{HoldsBytes, LeavesLawful}
+use Rattle.kr_core.specs.kr_allowed.Told.{SourcesAreNamed, mounts_walked}
+use Rattle.kr_core.specs.kr_steps.Calls.{IsNoExec, LastsLawful}
+use Rattle.kr_core.specs.kr_turns.PlainCall.{plain_call}
 use Rattle.turns_match.specs.Calls.{decoded_by, decoded_in}
 use Rattle.turns_match.specs.Operating.{done_in}
 

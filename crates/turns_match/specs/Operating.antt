@@ -1,22 +1,22 @@
 -- A call that is carried out in two states that match: on equal requests, and on what is told alike of its paths.
 use Rattle.std.specs.Prelude.{◌≡◌, ℕ, false, IsSome, List}
-use Rattle.rv_mem.specs.Actions.{CarriedOut}
-use Rattle.pt_bind.specs.Tags.{TagTable}
-use Rattle.kr_seen.specs.Carrying.{after_row, carried, with_memory_of}
-use Rattle.kr_allowed.specs.Allowed.{LeavesLawful}
-use Rattle.kr_calls.specs.declared.request.Request.{Request}
-use Rattle.kr_calm.specs.Laws.{BreakNone}
-use Rattle.kr_model.specs.Applied.{Mounts, images}
-use Rattle.kr_model.specs.Bare.{bare_mounts}
-use Rattle.kr_model.specs.Known.{known}
-use Rattle.kr_model.specs.Operation.{operation}
-use Rattle.kr_model.specs.Reply.{Reply}
-use Rattle.kr_model.specs.Seen.{Seen}
-use Rattle.kr_model.specs.State.{Image, State, image_layout, process}
-use Rattle.kr_steps.specs.Settling.{settled}
-use Rattle.kr_view.specs.View.{Row, plain}
-use Rattle.places_stay.specs.Changes.{NewPlacesStand}
-use Rattle.places_stay.specs.Matching.{IsMatch}
+use Rattle.kr_core.specs.rv_mem.Actions.{CarriedOut}
+use Rattle.calm_places.specs.pt_bind.Tags.{TagTable}
+use Rattle.kr_core.specs.kr_seen.Carrying.{after_row, carried, with_memory_of}
+use Rattle.kr_core.specs.kr_allowed.Allowed.{LeavesLawful}
+use Rattle.kr_core.specs.kr_calls.declared.request.Request.{Request}
+use Rattle.calm_places.specs.kr_calm.Laws.{BreakNone}
+use Rattle.calm_places.specs.kr_model.Applied.{Mounts, images}
+use Rattle.calm_places.specs.kr_model.Bare.{bare_mounts}
+use Rattle.calm_places.specs.kr_model.Known.{known}
+use Rattle.calm_places.specs.kr_model.Operation.{IsNoExec, operation}
+use Rattle.calm_places.specs.kr_model.Reply.{Reply}
+use Rattle.calm_places.specs.kr_model.Seen.{Seen}
+use Rattle.calm_places.specs.kr_model.State.{Image, State, image_layout, process}
+use Rattle.kr_core.specs.kr_steps.Settling.{settled}
+use Rattle.kr_core.specs.kr_view.View.{Row, plain}
+use Rattle.calm_places.specs.places_stay.Changes.{NewPlacesStand}
+use Rattle.calm_places.specs.places_stay.Matching.{IsMatch}
 use Rattle.calm_places.specs.Keeping.{MovesStayInside}
 use Rattle.turns_match.specs.Changing.{all_tags_made}
 
@@ -34,9 +34,10 @@ module _ (pid : ℕ) (r : Request) (seen : Seen) where
   behind mounts s = settled pid (done_in s).reply.outcome (after_row mounts pid (done_in s) s)
 
   module _ (table : List Row) (mounts others : Mounts ℕ) (s w : State ℕ Image) where
-    -- what is so of a call that is allowed on both kernels, breaks no calm rule and moves names inside alone. `others` are the mounts that
+    -- what is so of a call, other than execve, that is allowed on both kernels, breaks no calm rule and moves names inside alone. `others` are the mounts that
     -- it names on the plain kernel
     pub record IsCalmCall : Type 0 where
+      pub kind : IsNoExec r
       pub lives : IsSome (process pid s)
       pub same : bare_mounts mounts ≡ bare_mounts others
       pub unread : (done_in s).memory.read_marked ≡ false

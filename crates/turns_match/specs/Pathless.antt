@@ -1,13 +1,13 @@
 -- Calls without a path, which on both kernels go by descriptors, memory and processes alone.
 use Rattle.std.specs.Prelude.{◌≡◌, ℕ, Bool, List, None, Ok}
-use Rattle.pt_bind.specs.Tags.{TagTable}
-use Rattle.kr_view.specs.View.{Row, plain}
-use Rattle.kr_calls.specs.declared.request.Request.{Request}
-use Rattle.kr_calls.specs.declared.request.Request.TheVariants as call
-use Rattle.kr_model.specs.State.{Image, Process, State}
-use Rattle.kr_bytes.specs.kr_turns.Breaking.{plain_rule}
-use Rattle.kr_bytes.specs.kr_turns.PlainCall.{plain_call}
-use Rattle.places_stay.specs.Matching.{IsMatch}
+use Rattle.calm_places.specs.pt_bind.Tags.{TagTable}
+use Rattle.kr_core.specs.kr_view.View.{Row, plain}
+use Rattle.kr_core.specs.kr_calls.declared.request.Request.{Request}
+use Rattle.kr_core.specs.kr_calls.declared.request.Request.TheVariants as call
+use Rattle.calm_places.specs.kr_model.State.{Image, Process, State}
+use Rattle.kr_core.specs.kr_turns.Breaking.{plain_rule}
+use Rattle.kr_core.specs.kr_turns.PlainCall.{plain_call}
+use Rattle.calm_places.specs.places_stay.Matching.{IsMatch}
 use Rattle.turns_match.specs.Calls.{CameAlike, decoded_by, tags_behind}
 use Rattle.turns_match.specs.Lasting.{CanBeCalled}
 

@@ -1,15 +1,15 @@
 -- Machines of which the states match, and turns in which no call is made.
 use Rattle.std.specs.Prelude.{◌≡◌, ◌≢◌, ℕ, List, Option, Some, None}
-use Rattle.rv_cpu.specs.Run.{ran}
-use Rattle.rv_cpu.specs.declared.event.Event.TheVariants.{Call}
-use Rattle.pt_bind.specs.Tags.{TagTable, dropped}
-use Rattle.kr_view.specs.View.{Row, plain}
-use Rattle.kr_model.specs.Lawful.{IsLawful}
-use Rattle.kr_model.specs.State.{Image, Process}
-use Rattle.kr_steps.specs.Waiting.{picked_process}
-use Rattle.kr_bytes.specs.kr_turns.Turn.{Machine, turn}
-use Rattle.kr_bytes.specs.kr_turns.Watching.{Watcher}
-use Rattle.places_stay.specs.Matching.{IsMatch}
+use Rattle.kr_core.specs.rv_cpu.Run.{ran}
+use Rattle.kr_core.specs.rv_cpu.declared.event.Event.TheVariants.{Call}
+use Rattle.calm_places.specs.pt_bind.Tags.{TagTable, dropped}
+use Rattle.kr_core.specs.kr_view.View.{Row, plain}
+use Rattle.calm_places.specs.kr_model.Lawful.{IsLawful}
+use Rattle.calm_places.specs.kr_model.State.{Image, Process}
+use Rattle.kr_core.specs.kr_steps.Waiting.{picked_process}
+use Rattle.kr_core.specs.kr_turns.Turn.{Machine, turn}
+use Rattle.kr_core.specs.kr_turns.Watching.{Watcher}
+use Rattle.calm_places.specs.places_stay.Matching.{IsMatch}
 
 -- a tracer forgets the tags of a process that is gone
 abbrev pub DropsTags : {T : Type 0} → Watcher T → (T → TagTable) → Type 0

@@ -2,16 +2,16 @@
 use Rattle.std.specs.Prelude.{◌≡◌, ℕ, true, List, Option, Some}
 use Rattle.std.specs.List.{list_all}
 use Rattle.std.specs.Option.{option_map}
-use Rattle.rv_mem.specs.declared.regs.Regs.{Regs}
-use Rattle.kr_calls.specs.declared.request.Request.{Request}
-use Rattle.kr_calm.specs.Laws.{leaves_mark}
-use Rattle.kr_model.specs.Applied.{Mounts, all_applied, images}
-use Rattle.kr_model.specs.Change.{Change}
-use Rattle.kr_model.specs.Seen.{Seen}
-use Rattle.kr_model.specs.State.{Image, Process, State, process}
-use Rattle.kr_model.specs.declared.outcome.Outcome.{Outcome}
-use Rattle.kr_model.specs.declared.outcome.Outcome.TheVariants.{Answer, Wait, Ended, NoMemory}
-use Rattle.kr_steps.specs.Answering.{with_answer}
+use Rattle.kr_core.specs.rv_mem.declared.regs.Regs.{Regs}
+use Rattle.kr_core.specs.kr_calls.declared.request.Request.{Request}
+use Rattle.calm_places.specs.kr_calm.Laws.{leaves_mark}
+use Rattle.calm_places.specs.kr_model.Applied.{Mounts, all_applied, images}
+use Rattle.calm_places.specs.kr_model.Change.{Change}
+use Rattle.calm_places.specs.kr_model.Seen.{Seen}
+use Rattle.calm_places.specs.kr_model.State.{Image, Process, State, process}
+use Rattle.calm_places.specs.kr_model.declared.outcome.Outcome.{Outcome}
+use Rattle.calm_places.specs.kr_model.declared.outcome.Outcome.TheVariants.{Answer, Wait, Ended, NoMemory}
+use Rattle.kr_core.specs.kr_steps.Answering.{with_answer}
 use Rattle.turns_match.specs.Operating.{behind, done_in}
 
 abbrev pub registers_in : ℕ → State ℕ Image → Option Regs

@@ -1,14 +1,14 @@
 -- Runs of machines that match.
 use Rattle.std.specs.Prelude.{◌≡◌, ◌<◌, ◌≤◌, ◌^◌, ℕ, suc, List, None}
-use Rattle.pt_bind.specs.Tags.{TagTable}
-use Rattle.kr_tree.specs.Tree.{nodes}
-use Rattle.kr_view.specs.View.{Row, plain}
+use Rattle.calm_places.specs.pt_bind.Tags.{TagTable}
+use Rattle.kr_core.specs.kr_tree.Tree.{nodes}
+use Rattle.kr_core.specs.kr_view.View.{Row, plain}
 use Rattle.kr_bytes.specs.Bytes.{HasBytes}
-use Rattle.kr_steps.specs.Calls.{LastsLawful}
-use Rattle.kr_steps.specs.Waiting.{picked_process}
-use Rattle.kr_bytes.specs.kr_turns.Run.{Ran, Slot, ending_of, run, turned}
-use Rattle.kr_bytes.specs.kr_turns.Turn.{Machine, turn}
-use Rattle.kr_bytes.specs.kr_turns.Watching.{Watcher}
+use Rattle.kr_core.specs.kr_steps.Calls.{LastsLawful}
+use Rattle.kr_core.specs.kr_steps.Waiting.{picked_process}
+use Rattle.kr_core.specs.kr_turns.Run.{Ran, Slot, ending_of, run, turned}
+use Rattle.kr_core.specs.kr_turns.Turn.{Machine, turn}
+use Rattle.kr_core.specs.kr_turns.Watching.{Watcher}
 use Rattle.turns_match.specs.Quiet.{DropsTags, MachinesMatch, MakesNoCall}
 
 -- machines that match after as many turns, of which both are lawful, with what lasts

@@ -1,7 +1,7 @@
 -- What processes compute on has its sizes: memories hold bytes, and there are 32 registers.
 use Rattle.std.specs.Prelude.{◌≡◌, ℕ, length, Some}
-use Rattle.kr_model.specs.State.{Image, Process, State, process}
-use Rattle.kr_allowed.specs.Allowed.{HoldsBytes}
+use Rattle.calm_places.specs.kr_model.State.{Image, Process, State, process}
+use Rattle.kr_core.specs.kr_allowed.Allowed.{HoldsBytes}
 
 pub record IsSized (image : Image) : Type 0 where
   pub bytes : HoldsBytes image.memory.pages

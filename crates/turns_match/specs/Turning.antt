@@ -1,19 +1,19 @@
 -- What two states that match do alike in a turn: the process that is picked is the same, and its instructions are.
 use Rattle.std.specs.Prelude.{◌≡◌, ℕ, false, List, Some}
 use Rattle.std.specs.Option.{option_map}
-use Rattle.rv_mem.specs.Actions.{carried_out}
-use Rattle.rv_cpu.specs.Laws.{EndAlike}
-use Rattle.rv_cpu.specs.Run.{ran}
-use Rattle.pt_bind.specs.Tags.{TagTable}
-use Rattle.kr_view.specs.View.{Row}
-use Rattle.kr_calls.specs.Decoding.{decoding}
-use Rattle.kr_model.specs.State.{Image, Process, State, process}
-use Rattle.kr_steps.specs.Computing.{computed}
-use Rattle.kr_steps.specs.Waiting.{picked_process}
-use Rattle.kr_bytes.specs.kr_turns.Run.{ending_of}
-use Rattle.kr_bytes.specs.kr_turns.Shelving.{shelved_in}
-use Rattle.kr_bytes.specs.kr_turns.Turn.{Machine}
-use Rattle.places_stay.specs.Matching.{IsMatch}
+use Rattle.kr_core.specs.rv_mem.Actions.{carried_out}
+use Rattle.kr_core.specs.rv_cpu.Laws.{EndAlike}
+use Rattle.kr_core.specs.rv_cpu.Run.{ran}
+use Rattle.calm_places.specs.pt_bind.Tags.{TagTable}
+use Rattle.kr_core.specs.kr_view.View.{Row}
+use Rattle.kr_core.specs.kr_calls.Decoding.{decoding}
+use Rattle.calm_places.specs.kr_model.State.{Image, Process, State, process}
+use Rattle.kr_core.specs.kr_steps.Computing.{computed}
+use Rattle.kr_core.specs.kr_steps.Waiting.{picked_process}
+use Rattle.kr_core.specs.kr_turns.Run.{ending_of}
+use Rattle.kr_core.specs.kr_turns.Shelving.{shelved_in}
+use Rattle.kr_core.specs.kr_turns.Turn.{Machine}
+use Rattle.calm_places.specs.places_stay.Matching.{IsMatch}
 
 -- the same process runs at each pick, and where none can, the end is the same
 pub record GoOnAlike {S T : Type 0} (m : Machine S) (n : Machine T) : Type 0 where

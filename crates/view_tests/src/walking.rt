@@ -1,12 +1,11 @@
 //! Walks over the host's own view, and small trees for them.
-ghost use Rattle.std.specs.Prelude.{◌<◌};
 
 use kr_tree::{Ino, Meta, Node, ROOT, Tree, User};
-use kr_view::{Host, HostMount, Place, Plain, Procs, Reach, Target, WalkFault, resolve};
+use kr_view::{Host, HostMount, NoProcs, Place, Plain, Reach, Target, WalkFault, resolve};
 use pr_base::{Bytes, Errno, Last, NoMemory, WalkMode};
 use std::alloc::Global;
 
-pub(crate) const USER: User = User {
+const USER: User = User {
     uid: 1000,
     gid: 1000,
 };
@@ -20,7 +19,7 @@ pub(crate) enum Seen {
     WantsMemory,
 }
 
-pub(crate) fn meta(mode: u16) -> Meta {
+fn meta(mode: u16) -> Meta {
     Meta {
         mode,
         uid: 1000,
@@ -30,36 +29,24 @@ pub(crate) fn meta(mode: u16) -> Meta {
     }
 }
 
-pub(crate) fn ino(place: Place<HostMount>) -> Ino {
+fn ino(place: Place<HostMount>) -> Ino {
     match place.host {
         Host::Node(ino) | Host::Proc(ino, _) => ino,
     }
 }
 
-pub(crate) fn node_at(dir: Ino) -> Place<HostMount> {
+fn node_at(dir: Ino) -> Place<HostMount> {
     Place {
         mount: HostMount,
         host: Host::Node(dir),
     }
 }
 
-/// A walk from the root of the host.
-pub(crate) fn walk<Q: Procs<Mount = HostMount>>(
+/// A walk from a directory, with an empty process directory.
+pub(crate) fn walk_from(
     alloc: Global,
     tree: &Tree,
-    procs: &Q,
-    path: &[u8],
-    mode: WalkMode,
-    reach: &mut Reach,
-) -> Seen {
-    walk_from(alloc, tree, procs, node_at(ROOT), path, mode, reach)
-}
-
-pub(crate) fn walk_from<Q: Procs<Mount = HostMount>>(
-    alloc: Global,
-    tree: &Tree,
-    procs: &Q,
-    base: Place<HostMount>,
+    base: Ino,
     path: &[u8],
     mode: WalkMode,
     reach: &mut Reach,
@@ -67,11 +54,11 @@ pub(crate) fn walk_from<Q: Procs<Mount = HostMount>>(
     told(resolve(
         alloc,
         &Plain::new(),
-        procs,
+        &NoProcs::new(),
         tree,
         USER,
         2,
-        base,
+        node_at(base),
         path,
         mode,
         reach,
@@ -79,7 +66,7 @@ pub(crate) fn walk_from<Q: Procs<Mount = HostMount>>(
 }
 
 /// An answer, without the bytes of its name.
-pub(crate) fn told(answer: Result<Target<HostMount>, WalkFault>) -> Seen {
+fn told(answer: Result<Target<HostMount>, WalkFault>) -> Seen {
     match answer {
         Ok(target) => {
             let found = match target.found {
@@ -106,12 +93,12 @@ pub(crate) fn nothing() -> Reach {
     }
 }
 
-pub(crate) fn link(alloc: Global, text: &[u8]) -> Result<Node, NoMemory> {
+fn link(alloc: Global, text: &[u8]) -> Result<Node, NoMemory> {
     Ok(Node::Link(Bytes::copy(alloc, text)?))
 }
 
 /// Adds a node where the tree takes it.
-pub(crate) fn put(tree: &mut Tree, dir: Ino, name: &[u8], node: Node, mode: u16) -> bool {
+fn put(tree: &mut Tree, dir: Ino, name: &[u8], node: Node, mode: u16) -> bool {
     let fits = kr_tree::is_name(name)
         && tree.takes_names(dir)
         && tree.entry(dir, name).is_none()
@@ -120,28 +107,9 @@ pub(crate) fn put(tree: &mut Tree, dir: Ino, name: &[u8], node: Node, mode: u16)
     fits && tree.add(dir, name, node, meta(mode)).is_ok()
 }
 
-/// The name of a link of the chain.
-pub(crate) fn chain_name(k: u8) -> [u8; 2]
-    requires { k < 100 }
-{
-    [b'A' + k / 10, b'0' + k % 10]
-}
-
-/// A chain of links `A0`, `A1` and so on, each to the one before it; the first one has a text of its own.
-pub(crate) fn chained(alloc: Global, tree: &mut Tree, first: &[u8]) -> Result<bool, NoMemory> {
-    let mut whole = put(tree, ROOT, &chain_name(0), link(alloc, first)?, 0o777);
-    for k in 1..41 {
-        let text = chain_name(k - 1);
-        let name = chain_name(k);
-        let added = put(tree, ROOT, &name, link(alloc, &text)?, 0o777);
-        whole = whole && added;
-    }
-    Ok(whole)
-}
-
 /// Directories /d (2), /d/e (3) and /n (6), which can't be searched; files /d/f (4), /d/e/g (5) and /n/x (7);
 /// the process directory /proc (8).
-pub(crate) fn plain_tree(alloc: Global) -> Result<Option<Tree>, NoMemory> {
+fn plain_tree(alloc: Global) -> Result<Option<Tree>, NoMemory> {
     let mut tree = Tree::new(alloc, meta(0o755))?;
     let whole = put(&mut tree, ROOT, b"d", Node::Dir, 0o755)
         && put(&mut tree, 2, b"e", Node::Dir, 0o755)
@@ -166,16 +134,4 @@ pub(crate) fn linked_tree(alloc: Global) -> Result<Option<Tree>, NoMemory> {
         && put(&mut tree, ROOT, b"self", link(alloc, b"self")?, 0o777)
         && put(&mut tree, ROOT, b"gone", link(alloc, b"nowhere")?, 0o777);
     Ok(if whole { Some(tree) } else { None })
-}
-
-/// A path, a mode, and what the walk along it answers.
-#[derive(Clone, Copy)]
-pub(crate) struct Case {
-    pub(crate) path: &'static [u8],
-    pub(crate) mode: WalkMode,
-    pub(crate) want: Seen,
-}
-
-pub(crate) fn given(path: &'static [u8], mode: WalkMode, want: Seen) -> Case {
-    Case { path, mode, want }
 }

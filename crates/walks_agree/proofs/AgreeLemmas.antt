@@ -1,23 +1,23 @@
 -- One component looks alike from a place and from its guest text, and so walks agree.
 use Rattle.std.proofs.Common.{◌≡◌, ℕ, Bool, true, false, List, sym, subst}
-use Rattle.pr_base.specs.Alike.{Likeness, SeenAlike}
-use Rattle.pr_base.specs.MountText.{MountText}
-use Rattle.pr_base.specs.Paths.{Component, Dot, DotDot, IsComponent, Name}
-use Rattle.pr_base.specs.Texts.{Text}
-use Rattle.pr_base.specs.WalkFrame.{Leads, is_followed}
-use Rattle.pr_base.specs.declared.path.WalkMode.{WalkMode}
-use Rattle.pr_base.specs.declared.path.WalkMode.TheVariants as modes
-use Rattle.pr_base.proofs.AlikeLemmas.{walks_end_alike}
-use Rattle.pr_base.proofs.PathLemmas.{paths_have_components}
-use Rattle.pt_bind.specs.Binding.{host_of}
+use Rattle.pt_canon.specs.pr_base.Alike.{Likeness, SeenAlike}
+use Rattle.pt_canon.specs.pr_base.MountText.{MountText}
+use Rattle.pt_canon.specs.pr_base.Paths.{Component, Dot, DotDot, IsComponent, Name}
+use Rattle.pt_canon.specs.pr_base.Texts.{Text}
+use Rattle.pt_canon.specs.pr_base.WalkFrame.{Leads, is_followed}
+use Rattle.pt_canon.specs.pr_base.declared.path.WalkMode.{WalkMode}
+use Rattle.pt_canon.specs.pr_base.declared.path.WalkMode.TheVariants as modes
+use Rattle.pt_canon.proofs.pr_base.AlikeLemmas.{walks_end_alike}
+use Rattle.pt_canon.proofs.pr_base.PathLemmas.{paths_have_components}
+use Rattle.pt_canon.specs.pt_bind.Binding.{host_of}
 use Rattle.pt_canon.specs.ProcessLinks.{above as text_above}
 use Rattle.pt_canon.specs.TextWalk.{TextSurroundings, inside_text, look_text, looking_texts}
-use Rattle.kr_tree.specs.declared.place.Host.{Host}
-use Rattle.kr_tree.specs.declared.place.Place.{Place}
-use Rattle.kr_tree.specs.Tree.{Tree}
-use Rattle.kr_view.specs.Component.{Namespace, above, inside, is_directory_at, look_up, may_search}
-use Rattle.kr_view.specs.Walk.{looking}
-use Rattle.kr_view.proofs.ArrivalLemmas.{directory_firm}
+use Rattle.kr_mounts.specs.kr_tree.declared.place.Host.{Host}
+use Rattle.kr_mounts.specs.kr_tree.declared.place.Place.{Place}
+use Rattle.kr_mounts.specs.kr_tree.Tree.{Tree}
+use Rattle.kr_mounts.specs.kr_view.Component.{Namespace, above, inside, is_directory_at, look_up, may_search}
+use Rattle.kr_mounts.specs.kr_view.Walk.{looking}
+use Rattle.kr_mounts.proofs.kr_view.ArrivalLemmas.{directory_firm}
 use Rattle.kr_mounts.specs.Standing.{texts_of}
 use Rattle.walks_agree.specs.Laws.{LooksAgree, WalksAgree}
 use Rattle.walks_agree.specs.Scene.{IsMatched, Scene, space_of, texts_in}

@@ -2,24 +2,24 @@
 use Rattle.std.proofs.Common.{◌≡◌, ◌≢◌, ℕ, Bool, true, false, List, ◌∷◌, Option, Some, None, refl, sym, ap, ◌∙◌}
 use Rattle.std.specs.Bool.{if◌then◌else◌}
 use Rattle.std.specs.Option.{option_map, option_map_or}
-use Rattle.pr_base.specs.MountText.{MountText}
-use Rattle.pr_base.specs.Texts.{Text}
-use Rattle.pr_base.specs.WalkFrame.{Target, may_be_free}
-use Rattle.pr_base.specs.declared.errno.Errno.TheVariants.{ENOENT}
-use Rattle.pr_base.specs.declared.path.Last.{Last}
-use Rattle.pr_base.specs.declared.path.Last.TheVariants as last
-use Rattle.pr_base.specs.declared.path.WalkMode.{WalkMode}
-use Rattle.pr_base.specs.declared.path.WalkMode.TheVariants as modes
-use Rattle.pt_bind.specs.Binding.{is_point, located}
-use Rattle.kr_tree.specs.declared.place.Host.{Host}
-use Rattle.kr_tree.specs.declared.place.Host.TheVariants.{Node, Proc}
-use Rattle.kr_tree.specs.declared.place.Place.{Place}
-use Rattle.kr_view.specs.Component.{Namespace, is_directory_at}
-use Rattle.kr_view.specs.HostReach.{host_place}
-use Rattle.kr_view.specs.ReachLaws.{name_target}
-use Rattle.kr_view.specs.View.{Row, is_there, plain, source}
-use Rattle.kr_view.specs.Walk.{PlaceTarget}
-use Rattle.kr_view.proofs.DirectoryLemmas.{in_directory}
+use Rattle.pt_canon.specs.pr_base.MountText.{MountText}
+use Rattle.pt_canon.specs.pr_base.Texts.{Text}
+use Rattle.pt_canon.specs.pr_base.WalkFrame.{Target, may_be_free}
+use Rattle.pt_canon.specs.pr_base.declared.errno.Errno.TheVariants.{ENOENT}
+use Rattle.pt_canon.specs.pr_base.declared.path.Last.{Last}
+use Rattle.pt_canon.specs.pr_base.declared.path.Last.TheVariants as last
+use Rattle.pt_canon.specs.pr_base.declared.path.WalkMode.{WalkMode}
+use Rattle.pt_canon.specs.pr_base.declared.path.WalkMode.TheVariants as modes
+use Rattle.pt_canon.specs.pt_bind.Binding.{is_point, located}
+use Rattle.kr_mounts.specs.kr_tree.declared.place.Host.{Host}
+use Rattle.kr_mounts.specs.kr_tree.declared.place.Host.TheVariants.{Node, Proc}
+use Rattle.kr_mounts.specs.kr_tree.declared.place.Place.{Place}
+use Rattle.kr_mounts.specs.kr_view.Component.{Namespace, is_directory_at}
+use Rattle.kr_mounts.specs.kr_view.HostReach.{host_place}
+use Rattle.kr_mounts.specs.kr_view.ReachLaws.{name_target}
+use Rattle.kr_mounts.specs.kr_view.View.{Row, is_there, plain, source}
+use Rattle.kr_mounts.specs.kr_view.Walk.{PlaceTarget}
+use Rattle.kr_mounts.proofs.kr_view.DirectoryLemmas.{in_directory}
 use Rattle.kr_mounts.specs.Standing.{texts_of}
 use Rattle.kr_model.specs.ProcessDirectory.{space_of}
 use Rattle.kr_model.specs.Seen.{Looked, WalkFails, Takes, TakesCovered, TakesNoName, Makes, MakesOver, MakesNoName, OpensFound, OpensNew, OpensNoName, OpensSlashed}

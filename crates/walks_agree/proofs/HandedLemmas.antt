@@ -2,37 +2,37 @@
 use Rattle.std.proofs.Common.{◌≡◌, ◌≢◌, ℕ, Bool, true, false, List, [], ◌∷◌, ◌++◌, Option, Some, None, Result, Ok, Err, refl, sym, ap, subst, ◌∙◌}
 use Rattle.std.specs.Bool.{if◌then◌else◌}
 use Rattle.std.specs.Option.{option_and_then}
-use Rattle.pr_base.specs.Alike.{Likeness, TargetAlike}
-use Rattle.pr_base.specs.MountText.{MountText}
-use Rattle.pr_base.specs.Paths.{Component, Dot, DotDot, Name, kind_of, text_of}
-use Rattle.pr_base.specs.Texts.{Text}
-use Rattle.pr_base.specs.WalkFrame.{Fails, Missing, Target, ends, fails, name_of}
-use Rattle.pr_base.specs.WalkLaws.{Shows}
-use Rattle.pr_base.specs.declared.errno.Errno.{Errno}
-use Rattle.pr_base.specs.declared.errno.Errno.TheVariants.{EACCES, ENOTDIR}
-use Rattle.pr_base.specs.declared.path.Last.{Last}
-use Rattle.pr_base.specs.declared.path.Last.TheVariants as last
-use Rattle.pr_base.specs.declared.path.WalkMode.{WalkMode}
-use Rattle.pr_base.specs.declared.peeks.PeekKind.{PeekKind}
-use Rattle.pr_base.specs.declared.peeks.PeekKind.TheVariants as kind
-use Rattle.pr_base.proofs.AlikeLemmas.{alike_ok, alike_some}
-use Rattle.pr_base.proofs.EndLemmas.{found_is_shown, same_target}
-use Rattle.pt_bind.specs.Binding.{host_of, located, owner}
+use Rattle.pt_canon.specs.pr_base.Alike.{Likeness, TargetAlike}
+use Rattle.pt_canon.specs.pr_base.MountText.{MountText}
+use Rattle.pt_canon.specs.pr_base.Paths.{Component, Dot, DotDot, Name, kind_of, text_of}
+use Rattle.pt_canon.specs.pr_base.Texts.{Text}
+use Rattle.pt_canon.specs.pr_base.WalkFrame.{Fails, Missing, Target, ends, fails, name_of}
+use Rattle.pt_canon.specs.pr_base.WalkLaws.{Shows}
+use Rattle.pt_canon.specs.pr_base.declared.errno.Errno.{Errno}
+use Rattle.pt_canon.specs.pr_base.declared.errno.Errno.TheVariants.{EACCES, ENOTDIR}
+use Rattle.pt_canon.specs.pr_base.declared.path.Last.{Last}
+use Rattle.pt_canon.specs.pr_base.declared.path.Last.TheVariants as last
+use Rattle.pt_canon.specs.pr_base.declared.path.WalkMode.{WalkMode}
+use Rattle.pt_canon.specs.pr_base.declared.peeks.PeekKind.{PeekKind}
+use Rattle.pt_canon.specs.pr_base.declared.peeks.PeekKind.TheVariants as kind
+use Rattle.pt_canon.proofs.pr_base.AlikeLemmas.{alike_ok, alike_some}
+use Rattle.pt_canon.proofs.pr_base.EndLemmas.{found_is_shown, same_target}
+use Rattle.pt_canon.specs.pt_bind.Binding.{host_of, located, owner}
 use Rattle.pt_canon.specs.TextWalk.{SeenText, TextSurroundings, in_directory as in_kind, is_missing, itself_in, look_text, looking_texts, seen_kind, seen_link, seen_text, text_walk, where_found}
-use Rattle.kr_tree.specs.declared.place.Host.{Host}
-use Rattle.kr_tree.specs.declared.place.Host.TheVariants.{Node}
-use Rattle.kr_tree.specs.declared.place.Place.{Place}
-use Rattle.kr_tree.specs.Tree.{Tree, root}
-use Rattle.kr_tree.proofs.CountLemmas.{root_directory}
-use Rattle.kr_tree.proofs.NameLemmas.{some_is}
-use Rattle.kr_view.specs.Component.{Namespace, Surroundings, inside, is_directory_at, look_up, may_search}
-use Rattle.kr_view.specs.HostReach.{host_place}
-use Rattle.kr_view.specs.ReachLaws.{name_target}
-use Rattle.kr_view.specs.View.{Row, is_there, row, source, source_entry}
-use Rattle.kr_view.specs.Walk.{PlaceTarget, looking, place_walk}
-use Rattle.kr_view.proofs.ArrivalLemmas.{target_found, text_found, unasked}
-use Rattle.kr_view.proofs.DirectoryLemmas.{found_itself, in_directory}
-use Rattle.kr_view.proofs.HostReachLemmas.{inode_reached, last_object}
+use Rattle.kr_mounts.specs.kr_tree.declared.place.Host.{Host}
+use Rattle.kr_mounts.specs.kr_tree.declared.place.Host.TheVariants.{Node}
+use Rattle.kr_mounts.specs.kr_tree.declared.place.Place.{Place}
+use Rattle.kr_mounts.specs.kr_tree.Tree.{Tree, root}
+use Rattle.kr_mounts.proofs.kr_tree.CountLemmas.{root_directory}
+use Rattle.kr_mounts.proofs.kr_tree.NameLemmas.{some_is}
+use Rattle.kr_mounts.specs.kr_view.Component.{Namespace, Surroundings, inside, is_directory_at, look_up, may_search}
+use Rattle.kr_mounts.specs.kr_view.HostReach.{host_place}
+use Rattle.kr_mounts.specs.kr_view.ReachLaws.{name_target}
+use Rattle.kr_mounts.specs.kr_view.View.{Row, is_there, row, source, source_entry}
+use Rattle.kr_mounts.specs.kr_view.Walk.{PlaceTarget, looking, place_walk}
+use Rattle.kr_mounts.proofs.kr_view.ArrivalLemmas.{target_found, text_found, unasked}
+use Rattle.kr_mounts.proofs.kr_view.DirectoryLemmas.{found_itself, in_directory}
+use Rattle.kr_mounts.proofs.kr_view.HostReachLemmas.{inode_reached, last_object}
 use Rattle.kr_mounts.specs.Standing.{texts_of}
 use Rattle.walks_agree.specs.Handed.{BothEnd, FoundIsHandedOver, LeadsToFound, NamedTextsAreFound}
 use Rattle.walks_agree.specs.Scene.{Scene, host_around, space_of, texts_in}

@@ -6,32 +6,32 @@ use Rattle.std.specs.Fmt.{decimal}
 use Rattle.std.specs.Option.{option_map, option_map_or}
 use Rattle.std.proofs.lemmas.Bool.{ne_eqb}
 use Rattle.std.proofs.lemmas.List.Elements.{All-head}
-use Rattle.pr_base.specs.Paths.{AreNames, IsName, text_of}
-use Rattle.pr_base.specs.Texts.{Text}
-use Rattle.pr_base.specs.declared.errno.Errno.{Errno}
-use Rattle.pr_base.specs.WalkFrame.{Target, is_followed}
-use Rattle.pr_base.specs.declared.path.WalkMode.{WalkMode}
-use Rattle.pr_base.proofs.PathLemmas.{names_are_parts}
-use Rattle.pt_bind.specs.Binding.{guest_of, names_of, index_of}
-use Rattle.pt_bind.proofs.ByteLemmas.{names_written}
-use Rattle.kr_tree.specs.declared.place.Host.{Host}
-use Rattle.kr_tree.specs.declared.place.Host.TheVariants.{Node, Proc}
-use Rattle.kr_tree.specs.declared.place.Place.{Place}
-use Rattle.kr_tree.specs.declared.place.ProcAt.{ProcAt}
-use Rattle.kr_tree.specs.declared.place.ProcAt.TheVariants.{SelfLink, Dir, Cwd, Root, Exe, FdDir, Fd}
-use Rattle.kr_tree.specs.Tree.{Body, Directory, RegularFile, SymbolicLink, ProcessDirectory, body}
-use Rattle.kr_tree.proofs.NameLemmas.{some_is}
-use Rattle.kr_view.specs.declared.procs.Lead.{Lead}
-use Rattle.kr_view.specs.declared.procs.Lead.TheVariants as lead
-use Rattle.kr_view.specs.Component.{Namespace, is_directory_at, seen_at, seen_body, seen_link}
-use Rattle.kr_view.specs.HostReach.{host_place, is_link_at}
-use Rattle.kr_view.specs.Living.{Each, HasSmallNumbers as IsSmallProcess}
-use Rattle.kr_view.specs.Names.{guest_name}
-use Rattle.kr_view.specs.Processes.{LawsOfProcesses}
-use Rattle.kr_view.specs.View.{Row, plain, root_place, row, source}
-use Rattle.kr_view.specs.Walk.{PlaceTarget}
-use Rattle.kr_view.proofs.HostReachLemmas.{last_object, reached_names, entry_in}
-use Rattle.kr_view.proofs.LivingLemmas.{living_processes}
+use Rattle.pt_canon.specs.pr_base.Paths.{AreNames, IsName, text_of}
+use Rattle.pt_canon.specs.pr_base.Texts.{Text}
+use Rattle.pt_canon.specs.pr_base.declared.errno.Errno.{Errno}
+use Rattle.pt_canon.specs.pr_base.WalkFrame.{Target, is_followed}
+use Rattle.pt_canon.specs.pr_base.declared.path.WalkMode.{WalkMode}
+use Rattle.pt_canon.proofs.pr_base.PathLemmas.{names_are_parts}
+use Rattle.pt_canon.specs.pt_bind.Binding.{guest_of, names_of, index_of}
+use Rattle.pt_canon.proofs.pt_bind.ByteLemmas.{names_written}
+use Rattle.kr_mounts.specs.kr_tree.declared.place.Host.{Host}
+use Rattle.kr_mounts.specs.kr_tree.declared.place.Host.TheVariants.{Node, Proc}
+use Rattle.kr_mounts.specs.kr_tree.declared.place.Place.{Place}
+use Rattle.kr_mounts.specs.kr_tree.declared.place.ProcAt.{ProcAt}
+use Rattle.kr_mounts.specs.kr_tree.declared.place.ProcAt.TheVariants.{SelfLink, Dir, Cwd, Root, Exe, FdDir, Fd}
+use Rattle.kr_mounts.specs.kr_tree.Tree.{Body, Directory, RegularFile, SymbolicLink, ProcessDirectory, body}
+use Rattle.kr_mounts.proofs.kr_tree.NameLemmas.{some_is}
+use Rattle.kr_mounts.specs.kr_view.declared.procs.Lead.{Lead}
+use Rattle.kr_mounts.specs.kr_view.declared.procs.Lead.TheVariants as lead
+use Rattle.kr_mounts.specs.kr_view.Component.{Namespace, is_directory_at, seen_at, seen_body, seen_link}
+use Rattle.kr_mounts.specs.kr_view.HostReach.{host_place, is_link_at}
+use Rattle.kr_mounts.specs.kr_view.Living.{Each, HasSmallNumbers as IsSmallProcess}
+use Rattle.kr_mounts.specs.kr_view.Names.{guest_name}
+use Rattle.kr_mounts.specs.kr_view.Processes.{LawsOfProcesses}
+use Rattle.kr_mounts.specs.kr_view.View.{Row, plain, root_place, row, source}
+use Rattle.kr_mounts.specs.kr_view.Walk.{PlaceTarget}
+use Rattle.kr_mounts.proofs.kr_view.HostReachLemmas.{last_object, reached_names, entry_in}
+use Rattle.kr_mounts.proofs.kr_view.LivingLemmas.{living_processes}
 use Rattle.kr_mounts.specs.Standing.{texts_of}
 use Rattle.kr_model.specs.ProcessDirectory.{leads_of, living_of, name_text, remembered, space_of}
 use Rattle.kr_model.specs.State.{State, opened, process, inode_of}

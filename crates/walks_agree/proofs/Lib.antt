@@ -1,3 +1,8 @@
+pub use Rattle.pt_canon.proofs.pr_base as pr_base
+pub use Rattle.kr_mounts.proofs.kr_tree as kr_tree
+pub use Rattle.kr_mounts.proofs.kr_view as kr_view
+pub use Rattle.kr_mounts.proofs as kr_mounts
+pub use Rattle.pt_canon.proofs.pt_bind as pt_bind
 pub mod AgreeLemmas
 pub mod CanonLemmas
 pub mod FactLemmas

@@ -10,16 +10,16 @@ use Rattle.std.proofs.lemmas.Bool.{false_from_ne_true, le-leb}
 use Rattle.std.proofs.lemmas.Fmt.{decimal_nonempty, digits_decimal, digits_value-decimal}
 use Rattle.std.proofs.lemmas.Slice.Eq.{bytes_eq-Decides}
 use Rattle.std.proofs.lemmas.Str.Parse.{IsNumeralModel, IsDigitsTest, numerals_by_fold}
-use Rattle.pr_base.specs.Texts.{Text}
+use Rattle.pt_canon.specs.pr_base.Texts.{Text}
 use Rattle.pt_canon.specs.ProcessLinks.{file_link_at, is_digit, jump_at, landing_of, largest, link_at, number_in, process_link_at}
 use Rattle.pt_canon.specs.declared.link.ProcessLink.{ProcessLink}
 use Rattle.pt_canon.specs.declared.link.ProcessLink.TheVariants as process_link
-use Rattle.kr_tree.specs.declared.place.Host.TheVariants.{Proc}
-use Rattle.kr_tree.specs.declared.place.ProcAt.{ProcAt}
-use Rattle.kr_tree.specs.declared.place.ProcAt.TheVariants.{SelfLink, Dir, Cwd, Root, Exe, FdDir, Fd}
-use Rattle.kr_tree.specs.Names.{process_names}
-use Rattle.kr_view.specs.Living.{IsSmall}
-use Rattle.kr_view.proofs.HostReachLemmas.{reached_process}
+use Rattle.kr_mounts.specs.kr_tree.declared.place.Host.TheVariants.{Proc}
+use Rattle.kr_mounts.specs.kr_tree.declared.place.ProcAt.{ProcAt}
+use Rattle.kr_mounts.specs.kr_tree.declared.place.ProcAt.TheVariants.{SelfLink, Dir, Cwd, Root, Exe, FdDir, Fd}
+use Rattle.kr_mounts.specs.kr_tree.Names.{process_names}
+use Rattle.kr_mounts.specs.kr_view.Living.{IsSmall}
+use Rattle.kr_mounts.proofs.kr_view.HostReachLemmas.{reached_process}
 use Rattle.walks_agree.specs.Scene.{HasSmallNumbers, IsMatched, Scene, link_of, space_of, texts_in}
 use Rattle.walks_agree.specs.Standing.{reached_in}
 

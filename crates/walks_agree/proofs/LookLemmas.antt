@@ -4,35 +4,35 @@ use Rattle.std.specs.Bool.{if◌then◌else◌}
 use Rattle.std.specs.Option.{option_map, option_map_or, option_and_then}
 use Rattle.std.proofs.lemmas.Bool.Decides.{nat_tests}
 use Rattle.std.proofs.lemmas.List.Elements.{All-head}
-use Rattle.pr_base.specs.Alike.{Likeness, LandingAlike, OptionAlike, SeenAlike, both, fails, jumps, leads, links, missing, neither}
-use Rattle.pr_base.specs.MountText.{MountText}
-use Rattle.pr_base.specs.Paths.{AreNames, IsName, IsPart, text_of}
-use Rattle.pr_base.specs.Texts.{Text}
-use Rattle.pr_base.specs.WalkFrame.{Fails, Jumps, Landing, Leads, Links, Missing}
-use Rattle.pr_base.specs.declared.errno.Errno.TheVariants.{EACCES, ENAMETOOLONG, ENOENT, ENOTDIR}
-use Rattle.pr_base.specs.declared.path.WalkMode.{WalkMode}
-use Rattle.pr_base.specs.declared.peeks.PeekKind.TheVariants as kind
-use Rattle.pt_bind.specs.Binding.{host_of, located, owner}
+use Rattle.pt_canon.specs.pr_base.Alike.{Likeness, LandingAlike, OptionAlike, SeenAlike, both, fails, jumps, leads, links, missing, neither}
+use Rattle.pt_canon.specs.pr_base.MountText.{MountText}
+use Rattle.pt_canon.specs.pr_base.Paths.{AreNames, IsName, IsPart, text_of}
+use Rattle.pt_canon.specs.pr_base.Texts.{Text}
+use Rattle.pt_canon.specs.pr_base.WalkFrame.{Fails, Jumps, Landing, Leads, Links, Missing}
+use Rattle.pt_canon.specs.pr_base.declared.errno.Errno.TheVariants.{EACCES, ENAMETOOLONG, ENOENT, ENOTDIR}
+use Rattle.pt_canon.specs.pr_base.declared.path.WalkMode.{WalkMode}
+use Rattle.pt_canon.specs.pr_base.declared.peeks.PeekKind.TheVariants as kind
+use Rattle.pt_canon.specs.pt_bind.Binding.{host_of, located, owner}
 use Rattle.pt_canon.specs.ProcessLinks.{is_dir_kind, jump_at, landing_of, landing_of_guest, landing_of_name, text_landing}
 use Rattle.pt_canon.specs.TextWalk.{SeenText, TextSurroundings, in_directory, in_host, itself_in, seen_kind, seen_link as text_link, seen_text, where_found}
 use Rattle.pt_canon.specs.declared.link.ProcessLink.{ProcessLink}
 use Rattle.pt_canon.specs.declared.link.ProcessLink.TheVariants as process_link
-use Rattle.kr_tree.specs.declared.place.Host.{Host}
-use Rattle.kr_tree.specs.declared.place.Host.TheVariants.{Node, Proc}
-use Rattle.kr_tree.specs.declared.place.Place.{Place}
-use Rattle.kr_tree.specs.declared.place.ProcAt.{ProcAt}
-use Rattle.kr_tree.specs.declared.place.ProcAt.TheVariants.{SelfLink, Dir, Cwd, Root, Exe, FdDir, Fd}
-use Rattle.kr_tree.specs.Names.{named}
-use Rattle.kr_tree.specs.Tree.{Tree, Body, Directory, RegularFile, SymbolicLink, ProcessDirectory, body}
-use Rattle.kr_tree.proofs.EntryLemmas.{body_test, reached-named}
-use Rattle.kr_view.specs.declared.procs.Lead.{Lead}
-use Rattle.kr_view.specs.declared.procs.Lead.TheVariants as lead
-use Rattle.kr_view.specs.Component.{Namespace, SeenPlace, Surroundings, is_directory_at, is_process_directory, landing, may_search, named as looked_up, seen_at, seen_body, seen_link, shows_directory, through_point, too_long}
-use Rattle.kr_view.specs.HostReach.{host_place, is_link_at, object_in}
-use Rattle.kr_view.specs.Laws.{is_link}
-use Rattle.kr_view.specs.Processes.{LawsOfProcesses}
-use Rattle.kr_view.specs.View.{Row, node_in, source_place}
-use Rattle.kr_view.proofs.HostReachLemmas.{named_alone, object_more}
+use Rattle.kr_mounts.specs.kr_tree.declared.place.Host.{Host}
+use Rattle.kr_mounts.specs.kr_tree.declared.place.Host.TheVariants.{Node, Proc}
+use Rattle.kr_mounts.specs.kr_tree.declared.place.Place.{Place}
+use Rattle.kr_mounts.specs.kr_tree.declared.place.ProcAt.{ProcAt}
+use Rattle.kr_mounts.specs.kr_tree.declared.place.ProcAt.TheVariants.{SelfLink, Dir, Cwd, Root, Exe, FdDir, Fd}
+use Rattle.kr_mounts.specs.kr_tree.Names.{named}
+use Rattle.kr_mounts.specs.kr_tree.Tree.{Tree, Body, Directory, RegularFile, SymbolicLink, ProcessDirectory, body}
+use Rattle.kr_mounts.proofs.kr_tree.EntryLemmas.{body_test, reached-named}
+use Rattle.kr_mounts.specs.kr_view.declared.procs.Lead.{Lead}
+use Rattle.kr_mounts.specs.kr_view.declared.procs.Lead.TheVariants as lead
+use Rattle.kr_mounts.specs.kr_view.Component.{Namespace, SeenPlace, Surroundings, is_directory_at, is_process_directory, landing, may_search, named as looked_up, seen_at, seen_body, seen_link, shows_directory, through_point, too_long}
+use Rattle.kr_mounts.specs.kr_view.HostReach.{host_place, is_link_at, object_in}
+use Rattle.kr_mounts.specs.kr_view.Laws.{is_link}
+use Rattle.kr_mounts.specs.kr_view.Processes.{LawsOfProcesses}
+use Rattle.kr_mounts.specs.kr_view.View.{Row, node_in, source_place}
+use Rattle.kr_mounts.proofs.kr_view.HostReachLemmas.{named_alone, object_more}
 use Rattle.kr_mounts.specs.Standing.{texts_of}
 use Rattle.walks_agree.specs.Peeks.{kind_seen, text_seen}
 use Rattle.walks_agree.specs.Scene.{IsMatched, LeadsAlike, LeadsTo, Scene, host_around, link_of, space_of, texts_in}

@@ -2,34 +2,34 @@
 use Rattle.std.proofs.Common.{◌≡◌, ◌≢◌, ℕ, Bool, true, false, List, [], ◌∷◌, Option, Some, None, Ok, refl, sym, ap, subst, ◌∙◌, inl, inr}
 use Rattle.std.specs.Bool.{if◌then◌else◌}
 use Rattle.std.specs.Option.{option_map, option_and_then}
-use Rattle.pr_base.specs.MountText.{MountText}
-use Rattle.pr_base.specs.Paths.{Component, Dot, DotDot, IsComponent, IsPart, Name, components_of, dot, dot_dot, has_parts, has_slash, is_absolute, parts_of, slash}
-use Rattle.pr_base.specs.Texts.{Text}
-use Rattle.pr_base.specs.WalkFrame.{Fails, Jumps, Leads, Links, Missing, Target, at_last, ends, fails, here, may_be_free, most_links, onward, target_at, walk_on, wants_directory}
-use Rattle.pr_base.specs.WalkLaws.{Shows}
-use Rattle.pr_base.specs.declared.errno.Errno.TheVariants.{EACCES, ENAMETOOLONG, ENOENT, ENOTDIR}
-use Rattle.pr_base.specs.declared.path.Last.TheVariants as last
-use Rattle.pr_base.specs.declared.path.WalkMode.{WalkMode}
-use Rattle.pr_base.specs.declared.path.WalkMode.TheVariants as modes
-use Rattle.pr_base.proofs.EndLemmas.{found_is_shown}
-use Rattle.pr_base.proofs.WalkLemmas.{walk-last}
-use Rattle.pt_bind.specs.Binding.{host_of, is_point, located}
+use Rattle.pt_canon.specs.pr_base.MountText.{MountText}
+use Rattle.pt_canon.specs.pr_base.Paths.{Component, Dot, DotDot, IsComponent, IsPart, Name, components_of, dot, dot_dot, has_parts, has_slash, is_absolute, parts_of, slash}
+use Rattle.pt_canon.specs.pr_base.Texts.{Text}
+use Rattle.pt_canon.specs.pr_base.WalkFrame.{Fails, Jumps, Leads, Links, Missing, Target, at_last, ends, fails, here, may_be_free, most_links, onward, target_at, walk_on, wants_directory}
+use Rattle.pt_canon.specs.pr_base.WalkLaws.{Shows}
+use Rattle.pt_canon.specs.pr_base.declared.errno.Errno.TheVariants.{EACCES, ENAMETOOLONG, ENOENT, ENOTDIR}
+use Rattle.pt_canon.specs.pr_base.declared.path.Last.TheVariants as last
+use Rattle.pt_canon.specs.pr_base.declared.path.WalkMode.{WalkMode}
+use Rattle.pt_canon.specs.pr_base.declared.path.WalkMode.TheVariants as modes
+use Rattle.pt_canon.proofs.pr_base.EndLemmas.{found_is_shown}
+use Rattle.pt_canon.proofs.pr_base.WalkLemmas.{walk-last}
+use Rattle.pt_canon.specs.pt_bind.Binding.{host_of, is_point, located}
 use Rattle.pt_canon.specs.ProcessLinks.{above as text_above}
-use Rattle.kr_tree.specs.declared.place.Host.{Host}
-use Rattle.kr_tree.specs.declared.place.Host.TheVariants.{Node, Proc}
-use Rattle.kr_tree.specs.declared.place.Place.{Place}
-use Rattle.kr_tree.specs.Tree.{Tree, entry}
-use Rattle.kr_tree.proofs.EntryLemmas.{reached-named}
-use Rattle.kr_view.specs.Component.{Namespace, SeenPlace, Surroundings, inside, is_directory_at, may_search, named as looked_up, named_in, seen_at, shows_directory, through_point, too_long}
-use Rattle.kr_view.specs.HostReach.{host_place, is_link_at, object_in}
-use Rattle.kr_view.specs.InTree.{IsObjectOf}
-use Rattle.kr_view.specs.ReachLaws.{EndsAtName, IsJoined, IsLookedUp, name_target, slashed}
-use Rattle.kr_view.specs.View.{Row, node_in, root_place, source_place}
-use Rattle.kr_view.specs.Walk.{PlaceTarget, looking, place_walk}
-use Rattle.kr_view.proofs.ArrivalLemmas.{ShowsLink, entries_are_found, led_to, link_seen, walks_go_on_behind_texts}
-use Rattle.kr_view.proofs.DirectoryLemmas.{slashes_end}
-use Rattle.kr_view.proofs.HostReachLemmas.{named_alone, object_more, object_of_entry, reached_there}
-use Rattle.kr_view.proofs.TableLemmas.{there_is}
+use Rattle.kr_mounts.specs.kr_tree.declared.place.Host.{Host}
+use Rattle.kr_mounts.specs.kr_tree.declared.place.Host.TheVariants.{Node, Proc}
+use Rattle.kr_mounts.specs.kr_tree.declared.place.Place.{Place}
+use Rattle.kr_mounts.specs.kr_tree.Tree.{Tree, entry}
+use Rattle.kr_mounts.proofs.kr_tree.EntryLemmas.{reached-named}
+use Rattle.kr_mounts.specs.kr_view.Component.{Namespace, SeenPlace, Surroundings, inside, is_directory_at, may_search, named as looked_up, named_in, seen_at, shows_directory, through_point, too_long}
+use Rattle.kr_mounts.specs.kr_view.HostReach.{host_place, is_link_at, object_in}
+use Rattle.kr_mounts.specs.kr_view.InTree.{IsObjectOf}
+use Rattle.kr_mounts.specs.kr_view.ReachLaws.{EndsAtName, IsJoined, IsLookedUp, name_target, slashed}
+use Rattle.kr_mounts.specs.kr_view.View.{Row, node_in, root_place, source_place}
+use Rattle.kr_mounts.specs.kr_view.Walk.{PlaceTarget, looking, place_walk}
+use Rattle.kr_mounts.proofs.kr_view.ArrivalLemmas.{ShowsLink, entries_are_found, led_to, link_seen, walks_go_on_behind_texts}
+use Rattle.kr_mounts.proofs.kr_view.DirectoryLemmas.{slashes_end}
+use Rattle.kr_mounts.proofs.kr_view.HostReachLemmas.{named_alone, object_more, object_of_entry, reached_there}
+use Rattle.kr_mounts.proofs.kr_view.TableLemmas.{there_is}
 use Rattle.kr_mounts.specs.Standing.{texts_of}
 use Rattle.walks_agree.specs.Handed.{BothEnd, DirectoriesOfNamesAreSearched, LastsAreHandedOver, LeadsToLast, LeadsToName, NamesAreHandedOver, handed_path}
 use Rattle.walks_agree.specs.Scene.{Scene, host_around, space_of}

@@ -3,24 +3,24 @@ use Rattle.std.proofs.Common.{◌≡◌, ℕ, Bool, true, false, List, [], ◌�
 use Rattle.std.specs.Bool.{if◌then◌else◌}
 use Rattle.std.specs.Option.{option_map}
 use Rattle.std.proofs.lemmas.Bool.Decides.{nat_tests}
-use Rattle.pr_base.specs.Paths.{IsPart, below_root, slash, text_of}
-use Rattle.pr_base.specs.Texts.{Text}
-use Rattle.pr_base.specs.WalkFrame.{Missing, Leads}
-use Rattle.pr_base.specs.declared.errno.Errno.TheVariants.{EACCES, ENAMETOOLONG, ENOENT, ENOTDIR}
-use Rattle.pr_base.specs.declared.path.Last.TheVariants as last
-use Rattle.pr_base.specs.declared.path.WalkMode.TheVariants.{LookLink}
-use Rattle.pr_base.specs.declared.peeks.PeekKind.TheVariants as kind
+use Rattle.pt_canon.specs.pr_base.Paths.{IsPart, below_root, slash, text_of}
+use Rattle.pt_canon.specs.pr_base.Texts.{Text}
+use Rattle.pt_canon.specs.pr_base.WalkFrame.{Missing, Leads}
+use Rattle.pt_canon.specs.pr_base.declared.errno.Errno.TheVariants.{EACCES, ENAMETOOLONG, ENOENT, ENOTDIR}
+use Rattle.pt_canon.specs.pr_base.declared.path.Last.TheVariants as last
+use Rattle.pt_canon.specs.pr_base.declared.path.WalkMode.TheVariants.{LookLink}
+use Rattle.pt_canon.specs.pr_base.declared.peeks.PeekKind.TheVariants as kind
 use Rattle.pt_canon.specs.TextWalk.{itself_in}
-use Rattle.kr_tree.specs.declared.place.Host.{Host}
-use Rattle.kr_tree.specs.declared.place.Host.TheVariants.{Node, Proc}
-use Rattle.kr_tree.specs.declared.place.ProcAt.{ProcAt}
-use Rattle.kr_tree.specs.Tree.{Tree, body_is, entry}
-use Rattle.kr_view.specs.Component.{Namespace, SeenPlace, Surroundings, in_node, is_directory_at, is_processes, may_search, seen_at, seen_entry, seen_in_processes, too_long}
-use Rattle.kr_view.specs.HostReach.{host_place, is_link_at, object_in}
-use Rattle.kr_view.specs.ReachLaws.{EndsAtName, IsReachedBy}
-use Rattle.kr_view.specs.View.{plain, root_place}
-use Rattle.kr_view.proofs.ArrivalLemmas.{directories_are_searched, directory_firm, entries_are_found, led_to, text_found}
-use Rattle.kr_view.proofs.HostReachLemmas.{object_name, reached_names, reached_there}
+use Rattle.kr_mounts.specs.kr_tree.declared.place.Host.{Host}
+use Rattle.kr_mounts.specs.kr_tree.declared.place.Host.TheVariants.{Node, Proc}
+use Rattle.kr_mounts.specs.kr_tree.declared.place.ProcAt.{ProcAt}
+use Rattle.kr_mounts.specs.kr_tree.Tree.{Tree, body_is, entry}
+use Rattle.kr_mounts.specs.kr_view.Component.{Namespace, SeenPlace, Surroundings, in_node, is_directory_at, is_processes, may_search, seen_at, seen_entry, seen_in_processes, too_long}
+use Rattle.kr_mounts.specs.kr_view.HostReach.{host_place, is_link_at, object_in}
+use Rattle.kr_mounts.specs.kr_view.ReachLaws.{EndsAtName, IsReachedBy}
+use Rattle.kr_mounts.specs.kr_view.View.{plain, root_place}
+use Rattle.kr_mounts.proofs.kr_view.ArrivalLemmas.{directories_are_searched, directory_firm, entries_are_found, led_to, text_found}
+use Rattle.kr_mounts.proofs.kr_view.HostReachLemmas.{object_name, reached_names, reached_there}
 use Rattle.walks_agree.specs.Peeks.{at_found, kind_along, kind_of_answer, kind_seen, text_along, text_of_answer, text_seen}
 use Rattle.walks_agree.specs.Scene.{IsMatched, Scene, host_around, space_of}
 use Rattle.walks_agree.specs.Standing.{place_in, reached_in}

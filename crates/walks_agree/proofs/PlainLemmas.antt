@@ -1,15 +1,15 @@
 -- The host's own view is settled, and over it a place stands at its host text.
 use Rattle.std.proofs.Common.{◌≡◌, ℕ, zero, suc, true, false, [], ◌∷◌, Some, None, refl, sym, ap, subst, ◌∙◌}
-use Rattle.pr_base.specs.Texts.{Text}
-use Rattle.pt_bind.specs.Binding.{host_of, owner}
-use Rattle.kr_tree.specs.declared.place.Host.{Host}
-use Rattle.kr_tree.specs.Lawful.{HasItsInodes, IsSound}
-use Rattle.kr_tree.specs.Names.{reached}
-use Rattle.kr_tree.proofs.NameLemmas.{some_is}
-use Rattle.kr_view.specs.Component.{Namespace}
-use Rattle.kr_view.specs.View.{Point, Row, plain, plain_row, row}
-use Rattle.kr_view.proofs.HostReachLemmas.{last_object}
-use Rattle.kr_view.proofs.TableLemmas.{plain_stands as plain_in_tree}
+use Rattle.pt_canon.specs.pr_base.Texts.{Text}
+use Rattle.pt_canon.specs.pt_bind.Binding.{host_of, owner}
+use Rattle.kr_mounts.specs.kr_tree.declared.place.Host.{Host}
+use Rattle.kr_mounts.specs.kr_tree.Lawful.{HasItsInodes, IsSound}
+use Rattle.kr_mounts.specs.kr_tree.Names.{reached}
+use Rattle.kr_mounts.proofs.kr_tree.NameLemmas.{some_is}
+use Rattle.kr_mounts.specs.kr_view.Component.{Namespace}
+use Rattle.kr_mounts.specs.kr_view.View.{Point, Row, plain, plain_row, row}
+use Rattle.kr_mounts.proofs.kr_view.HostReachLemmas.{last_object}
+use Rattle.kr_mounts.proofs.kr_view.TableLemmas.{plain_stands as plain_in_tree}
 use Rattle.kr_mounts.specs.Standing.{texts_of}
 use Rattle.walks_agree.specs.Settled.{IsSettled}
 use Rattle.walks_agree.specs.Standing.{IsOpen, Stands, place_in, reached_in}

@@ -8,19 +8,19 @@ use Rattle.std.proofs.lemmas.Bool.{false_from_ne_true}
 use Rattle.std.proofs.lemmas.Bool.Decides.{Decides-and, Decides-eqb, nat_tests, same_from_decides}
 use Rattle.std.proofs.lemmas.Option.{slice_get-map}
 use Rattle.std.proofs.lemmas.Slice.Eq.{bytes_eq-Decides}
-use Rattle.pr_base.specs.MountText.{MountText}
-use Rattle.pr_base.specs.Texts.{Text, texts_eq}
-use Rattle.pr_base.proofs.TextLemmas.{texts_same, texts_true}
-use Rattle.pt_bind.specs.Binding.{host_of, is_point, located}
-use Rattle.kr_tree.specs.declared.place.Host.TheVariants.{Node, Proc}
-use Rattle.kr_tree.specs.declared.place.ProcAt.{ProcAt}
-use Rattle.kr_tree.specs.Names.{named}
-use Rattle.kr_tree.specs.Tree.{Tree, body_is, is_directory}
-use Rattle.kr_tree.proofs.EntryLemmas.{named_once, reached-named}
-use Rattle.kr_tree.proofs.NameLemmas.{map_some, some_is}
-use Rattle.kr_view.specs.Component.{Namespace}
-use Rattle.kr_view.specs.View.{Point, Row, covered, is_name_at, is_there, row, stands_at}
-use Rattle.kr_view.proofs.HostReachLemmas.{named_alone}
+use Rattle.pt_canon.specs.pr_base.MountText.{MountText}
+use Rattle.pt_canon.specs.pr_base.Texts.{Text, texts_eq}
+use Rattle.pt_canon.proofs.pr_base.TextLemmas.{texts_same, texts_true}
+use Rattle.pt_canon.specs.pt_bind.Binding.{host_of, is_point, located}
+use Rattle.kr_mounts.specs.kr_tree.declared.place.Host.TheVariants.{Node, Proc}
+use Rattle.kr_mounts.specs.kr_tree.declared.place.ProcAt.{ProcAt}
+use Rattle.kr_mounts.specs.kr_tree.Names.{named}
+use Rattle.kr_mounts.specs.kr_tree.Tree.{Tree, body_is, is_directory}
+use Rattle.kr_mounts.proofs.kr_tree.EntryLemmas.{named_once, reached-named}
+use Rattle.kr_mounts.proofs.kr_tree.NameLemmas.{map_some, some_is}
+use Rattle.kr_mounts.specs.kr_view.Component.{Namespace}
+use Rattle.kr_mounts.specs.kr_view.View.{Point, Row, covered, is_name_at, is_there, row, stands_at}
+use Rattle.kr_mounts.proofs.kr_view.HostReachLemmas.{named_alone}
 use Rattle.kr_mounts.specs.Standing.{texts_of}
 use Rattle.walks_agree.specs.Handed.{CoveredNamesArePoints}
 use Rattle.walks_agree.specs.Settled.{IsPointNamed, IsSettled, host_text}

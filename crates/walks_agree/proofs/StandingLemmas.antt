@@ -6,28 +6,28 @@ use Rattle.std.specs.Option.{option_map, option_map_or, option_and_then}
 use Rattle.std.proofs.lemmas.Bool.{eq-eqb, ne_eqb, cases_eq}
 use Rattle.std.proofs.lemmas.List.{append_cancel_right, length-append}
 use Rattle.std.proofs.lemmas.List.Elements.{All-append, All-cons, All-head, All-nil, All-tail}
-use Rattle.pr_base.specs.MountText.{MountText}
-use Rattle.pr_base.specs.Paths.{AreNames, IsName}
-use Rattle.pr_base.specs.Texts.{Text, below, names_below}
-use Rattle.pr_base.proofs.TextLemmas.{below_found, below_there}
-use Rattle.pt_bind.specs.Binding.{guest_in, guest_of, host_of, located, owner}
-use Rattle.kr_tree.specs.declared.place.Host.{Host}
-use Rattle.kr_tree.specs.declared.place.Host.TheVariants.{Node, Proc}
-use Rattle.kr_tree.specs.declared.place.Place.{Place}
-use Rattle.kr_tree.specs.declared.place.ProcAt.{ProcAt}
-use Rattle.kr_tree.specs.declared.place.ProcAt.TheVariants.{SelfLink, Dir, Cwd, Root, Exe, FdDir, Fd}
-use Rattle.kr_tree.specs.Names.{host_name, process_names, reached}
-use Rattle.kr_tree.specs.Tree.{Tree, Body, Directory, RegularFile, SymbolicLink, ProcessDirectory, body, body_is, is_directory}
-use Rattle.kr_tree.proofs.EntryLemmas.{body_test, reached-named}
-use Rattle.kr_tree.proofs.NameLemmas.{map_some, named-host_name, some_is}
-use Rattle.kr_view.specs.declared.procs.Lead.{Lead}
-use Rattle.kr_view.specs.Component.{Namespace, is_directory_at, is_process_directory, is_processes, is_shown}
-use Rattle.kr_view.specs.Names.{directory_name, guest_name, process_name, process_object_name}
-use Rattle.kr_view.specs.Processes.{LawsOfProcesses}
-use Rattle.kr_view.specs.View.{Row, node_in, root_source, row}
-use Rattle.kr_view.proofs.GuestNameLemmas.{below_source, entries, file_source, processes}
-use Rattle.kr_view.proofs.HostReachLemmas.{IsFoundIn, at_top, below_processes, below_top, found_in, inode_reached, last_object, reached_inode, reached_names, reached_process}
-use Rattle.kr_view.proofs.ArrivalLemmas.{directory_firm}
+use Rattle.pt_canon.specs.pr_base.MountText.{MountText}
+use Rattle.pt_canon.specs.pr_base.Paths.{AreNames, IsName}
+use Rattle.pt_canon.specs.pr_base.Texts.{Text, below, names_below}
+use Rattle.pt_canon.proofs.pr_base.TextLemmas.{below_found, below_there}
+use Rattle.pt_canon.specs.pt_bind.Binding.{guest_in, guest_of, host_of, located, owner}
+use Rattle.kr_mounts.specs.kr_tree.declared.place.Host.{Host}
+use Rattle.kr_mounts.specs.kr_tree.declared.place.Host.TheVariants.{Node, Proc}
+use Rattle.kr_mounts.specs.kr_tree.declared.place.Place.{Place}
+use Rattle.kr_mounts.specs.kr_tree.declared.place.ProcAt.{ProcAt}
+use Rattle.kr_mounts.specs.kr_tree.declared.place.ProcAt.TheVariants.{SelfLink, Dir, Cwd, Root, Exe, FdDir, Fd}
+use Rattle.kr_mounts.specs.kr_tree.Names.{host_name, process_names, reached}
+use Rattle.kr_mounts.specs.kr_tree.Tree.{Tree, Body, Directory, RegularFile, SymbolicLink, ProcessDirectory, body, body_is, is_directory}
+use Rattle.kr_mounts.proofs.kr_tree.EntryLemmas.{body_test, reached-named}
+use Rattle.kr_mounts.proofs.kr_tree.NameLemmas.{map_some, named-host_name, some_is}
+use Rattle.kr_mounts.specs.kr_view.declared.procs.Lead.{Lead}
+use Rattle.kr_mounts.specs.kr_view.Component.{Namespace, is_directory_at, is_process_directory, is_processes, is_shown}
+use Rattle.kr_mounts.specs.kr_view.Names.{directory_name, guest_name, process_name, process_object_name}
+use Rattle.kr_mounts.specs.kr_view.Processes.{LawsOfProcesses}
+use Rattle.kr_mounts.specs.kr_view.View.{Row, node_in, root_source, row}
+use Rattle.kr_mounts.proofs.kr_view.GuestNameLemmas.{below_source, entries, file_source, processes}
+use Rattle.kr_mounts.proofs.kr_view.HostReachLemmas.{IsFoundIn, at_top, below_processes, below_top, found_in, inode_reached, last_object, reached_inode, reached_names, reached_process}
+use Rattle.kr_mounts.proofs.kr_view.ArrivalLemmas.{directory_firm}
 use Rattle.kr_mounts.specs.Standing.{texts_of}
 use Rattle.walks_agree.specs.Settled.{IsSettled, host_text}
 use Rattle.walks_agree.specs.Standing.{IsEntryAt, IsOpen, IsUncovered, Stands, place_in, reached_in}
@@ -148,7 +148,7 @@ module _ (space : Namespace) (set : IsSettled space) where
           let same : l.mount.source ≡ i = cc in
           let kind = kind_of_source k l.mount false l.there (ap (body_is is_directory tree) same ∙ file) in
           let P : ℕ → Type 0 = λ i. guest_name space (node_in m i) (Some (dir, name)) ≡ Some (c ∷ u) in
-          subst P same (file_source space m l.mount (Some (dir, name)) (ap (row table) m_is ∙ l.there) kind ∙ ap Some l.at)
+          subst P same (file_source space m l.mount (dir, name) (ap (row table) m_is ∙ l.there) kind ∙ ap Some l.at)
       by None e =
           let h : host_of bindings (c ∷ u) ≡ c ∷ host_of bindings u = host_none bindings c u e in
           let m_is : m ≡ owner bindings u = mount ∙ owner_none bindings c u e in

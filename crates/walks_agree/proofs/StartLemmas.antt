@@ -3,20 +3,20 @@ use Rattle.std.proofs.Common.{◌≡◌, ℕ, Bool, true, false, List, [], ◌�
 use Rattle.std.specs.Prelude.{codes}
 use Rattle.std.specs.Bool.{if◌then◌else◌}
 use Rattle.std.specs.Option.{option_map}
-use Rattle.pr_base.specs.Texts.{Text}
+use Rattle.pt_canon.specs.pr_base.Texts.{Text}
 use Rattle.pt_canon.specs.declared.link.ProcessLink.{ProcessLink}
 use Rattle.pt_canon.specs.declared.link.ProcessLink.TheVariants as process_link
-use Rattle.kr_tree.specs.declared.place.Host.{Host}
-use Rattle.kr_tree.specs.declared.place.Host.TheVariants.{Proc}
-use Rattle.kr_tree.specs.declared.place.ProcAt.{ProcAt}
-use Rattle.kr_tree.specs.declared.place.ProcAt.TheVariants.{SelfLink, Dir, Cwd, Root, Exe, FdDir, Fd}
-use Rattle.kr_tree.proofs.CountLemmas.{there}
-use Rattle.kr_tree.proofs.NameLemmas.{map_some, some_is, then_some}
-use Rattle.kr_view.specs.Component.{Finds, Namespace}
-use Rattle.kr_view.specs.Living.{Each, HasSmallNumbers as IsSmallProcess, IsSmall, Living, finds_among, first, in_directory, names_number, process}
-use Rattle.kr_view.specs.Processes.{no_finds}
-use Rattle.kr_view.proofs.HostReachLemmas.{IsFoundIn, at_top, below_top, found_in, last_object}
-use Rattle.kr_view.proofs.ProcessLemmas.{no_processes}
+use Rattle.kr_mounts.specs.kr_tree.declared.place.Host.{Host}
+use Rattle.kr_mounts.specs.kr_tree.declared.place.Host.TheVariants.{Proc}
+use Rattle.kr_mounts.specs.kr_tree.declared.place.ProcAt.{ProcAt}
+use Rattle.kr_mounts.specs.kr_tree.declared.place.ProcAt.TheVariants.{SelfLink, Dir, Cwd, Root, Exe, FdDir, Fd}
+use Rattle.kr_mounts.proofs.kr_tree.CountLemmas.{there}
+use Rattle.kr_mounts.proofs.kr_tree.NameLemmas.{map_some, some_is, then_some}
+use Rattle.kr_mounts.specs.kr_view.Component.{Finds, Namespace}
+use Rattle.kr_mounts.specs.kr_view.Living.{Each, HasSmallNumbers as IsSmallProcess, IsSmall, Living, finds_among, first, in_directory, names_number, process}
+use Rattle.kr_mounts.specs.kr_view.Processes.{no_finds}
+use Rattle.kr_mounts.proofs.kr_view.HostReachLemmas.{IsFoundIn, at_top, below_top, found_in, last_object}
+use Rattle.kr_mounts.proofs.kr_view.ProcessLemmas.{no_processes}
 use Rattle.kr_model.proofs.ToldLemmas.{first_each, small_process}
 use Rattle.kr_mounts.specs.MountTable.{settling}
 use Rattle.kr_mounts.proofs.BeforeLemmas.{grown_trees_have_all_before}

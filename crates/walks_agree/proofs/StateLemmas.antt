@@ -5,32 +5,32 @@ use Rattle.std.specs.Bool.{if◌then◌else◌}
 use Rattle.std.specs.Fmt.{decimal}
 use Rattle.std.specs.List.{find}
 use Rattle.std.specs.Option.{option_map, option_map_or, option_and_then}
-use Rattle.pr_base.specs.MountText.{MountText}
-use Rattle.pr_base.specs.Paths.{text_of}
-use Rattle.pr_base.specs.Texts.{Text}
-use Rattle.pt_bind.specs.Binding.{guest_of, names_of}
-use Rattle.pt_bind.specs.Tags.{TagTable, tag_of}
-use Rattle.pt_bind.specs.declared.slot.Slot.TheVariants as slot
+use Rattle.pt_canon.specs.pr_base.MountText.{MountText}
+use Rattle.pt_canon.specs.pr_base.Paths.{text_of}
+use Rattle.pt_canon.specs.pr_base.Texts.{Text}
+use Rattle.pt_canon.specs.pt_bind.Binding.{guest_of, names_of}
+use Rattle.pt_canon.specs.pt_bind.Tags.{TagTable, tag_of}
+use Rattle.pt_canon.specs.pt_bind.declared.slot.Slot.TheVariants as slot
 use Rattle.pt_canon.specs.ProcessLinks.{head_of, landing_of, landing_of_name, link_guest, link_name}
 use Rattle.pt_canon.specs.declared.link.ProcessLink.{ProcessLink}
 use Rattle.pt_canon.specs.declared.link.ProcessLink.TheVariants as process_link
-use Rattle.kr_tree.specs.declared.place.Host.{Host}
-use Rattle.kr_tree.specs.declared.place.Host.TheVariants.{Proc}
-use Rattle.kr_tree.specs.declared.place.Place.{Place}
-use Rattle.kr_tree.specs.declared.place.ProcAt.{ProcAt}
-use Rattle.kr_tree.specs.declared.place.ProcAt.TheVariants.{SelfLink, Dir, Cwd, Root, Exe, FdDir, Fd}
-use Rattle.kr_tree.proofs.NameLemmas.{some_is, then_some}
-use Rattle.kr_view.specs.declared.procs.Lead.{Lead}
-use Rattle.kr_view.specs.declared.procs.Lead.TheVariants as lead
-use Rattle.kr_view.specs.Component.{Namespace, is_directory_at}
-use Rattle.kr_view.specs.Names.{directory_name, guest_name}
-use Rattle.kr_view.specs.HostReach.{host_place}
-use Rattle.kr_view.specs.Living.{Each, HasSmallNumbers as IsSmallProcess, Living, first, process as living_process}
-use Rattle.kr_view.specs.Processes.{LawsOfProcesses}
-use Rattle.kr_view.specs.View.{Row, is_there, root_place}
-use Rattle.kr_view.proofs.GuestNameLemmas.{plain_view}
-use Rattle.kr_view.proofs.HostReachLemmas.{IsFoundIn, at_top, below_top, found_in, last_object}
-use Rattle.kr_files.specs.declared.opened.Opened.{Opened}
+use Rattle.kr_mounts.specs.kr_tree.declared.place.Host.{Host}
+use Rattle.kr_mounts.specs.kr_tree.declared.place.Host.TheVariants.{Proc}
+use Rattle.kr_mounts.specs.kr_tree.declared.place.Place.{Place}
+use Rattle.kr_mounts.specs.kr_tree.declared.place.ProcAt.{ProcAt}
+use Rattle.kr_mounts.specs.kr_tree.declared.place.ProcAt.TheVariants.{SelfLink, Dir, Cwd, Root, Exe, FdDir, Fd}
+use Rattle.kr_mounts.proofs.kr_tree.NameLemmas.{some_is, then_some}
+use Rattle.kr_mounts.specs.kr_view.declared.procs.Lead.{Lead}
+use Rattle.kr_mounts.specs.kr_view.declared.procs.Lead.TheVariants as lead
+use Rattle.kr_mounts.specs.kr_view.Component.{Namespace, is_directory_at}
+use Rattle.kr_mounts.specs.kr_view.Names.{directory_name, guest_name}
+use Rattle.kr_mounts.specs.kr_view.HostReach.{host_place}
+use Rattle.kr_mounts.specs.kr_view.Living.{Each, HasSmallNumbers as IsSmallProcess, Living, first, process as living_process}
+use Rattle.kr_mounts.specs.kr_view.Processes.{LawsOfProcesses}
+use Rattle.kr_mounts.specs.kr_view.View.{Row, is_there, root_place}
+use Rattle.kr_mounts.proofs.kr_view.GuestNameLemmas.{plain_view}
+use Rattle.kr_mounts.proofs.kr_view.HostReachLemmas.{IsFoundIn, at_top, below_top, found_in, last_object}
+use Rattle.kr_model.specs.kr_files.declared.opened.Opened.{Opened}
 use Rattle.kr_mounts.specs.Standing.{texts_of}
 use Rattle.kr_model.specs.ProcessDirectory.{jump_to, lead_of_open, leads_of, living_of, name_text, remembered, space_of}
 use Rattle.kr_model.specs.State.{Process, State, opened, process}

@@ -11,18 +11,18 @@ use Rattle.std.proofs.lemmas.List.Quantifiers.{position-Some}
 use Rattle.std.proofs.lemmas.List.Sums.{fails_before_first}
 use Rattle.std.proofs.lemmas.Option.{get_or_from_slice_get, slice_get-get_or, slice_get-map, slice_get_within}
 use Rattle.std.proofs.lemmas.Slice.Eq.{bytes_eq-Decides}
-use Rattle.pr_base.specs.MountText.{MountText}
-use Rattle.pr_base.specs.Texts.{Text}
-use Rattle.pt_bind.specs.Binding.{is_located, located, source_of, number_at, owner, host_at, host_of, index_of}
-use Rattle.pt_bind.proofs.RowLemmas.{located_is}
-use Rattle.kr_tree.specs.declared.place.Place.{Place}
-use Rattle.kr_tree.specs.Tree.{Tree, Body, body, body_is, entry, is_directory}
-use Rattle.kr_tree.specs.Names.{named}
-use Rattle.kr_tree.proofs.EntryLemmas.{body_test, entry_in_directory, named_once, reached-named}
-use Rattle.kr_tree.proofs.NameLemmas.{map_some, some_is}
-use Rattle.kr_view.specs.Component.{Namespace}
-use Rattle.kr_view.specs.View.{Point, Row, down, is_point, is_there, node_in, plain_row, root_source, row, source_place, stands_at}
-use Rattle.kr_view.proofs.TableLemmas.{laws_of_places}
+use Rattle.pt_canon.specs.pr_base.MountText.{MountText}
+use Rattle.pt_canon.specs.pr_base.Texts.{Text}
+use Rattle.pt_canon.specs.pt_bind.Binding.{is_located, located, source_of, number_at, owner, host_at, host_of, index_of}
+use Rattle.pt_canon.proofs.pt_bind.RowLemmas.{located_is}
+use Rattle.kr_mounts.specs.kr_tree.declared.place.Place.{Place}
+use Rattle.kr_mounts.specs.kr_tree.Tree.{Tree, Body, body, body_is, entry, is_directory}
+use Rattle.kr_mounts.specs.kr_tree.Names.{named}
+use Rattle.kr_mounts.proofs.kr_tree.EntryLemmas.{body_test, entry_in_directory, named_once, reached-named}
+use Rattle.kr_mounts.proofs.kr_tree.NameLemmas.{map_some, some_is}
+use Rattle.kr_mounts.specs.kr_view.Component.{Namespace}
+use Rattle.kr_mounts.specs.kr_view.View.{Point, Row, down, is_point, is_there, node_in, plain_row, root_source, row, source_place, stands_at}
+use Rattle.kr_mounts.proofs.kr_view.TableLemmas.{laws_of_places}
 use Rattle.kr_mounts.specs.Standing.{behind, led, next_by_name, texts_of}
 use Rattle.kr_mounts.proofs.StayLemmas.{is_a_directory}
 use Rattle.walks_agree.specs.Settled.{IsPointNamed, IsSettled}

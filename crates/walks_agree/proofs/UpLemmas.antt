@@ -3,26 +3,26 @@ use Rattle.std.proofs.Common.{◌≡◌, ◌≢◌, ℕ, Bool, true, false, ◌&
 use Rattle.std.specs.Bool.{if◌then◌else◌}
 use Rattle.std.specs.Option.{option_map, option_and_then}
 use Rattle.std.proofs.lemmas.Bool.{cases_eq, eq-eqb, ne_eqb}
-use Rattle.pr_base.specs.MountText.{MountText}
-use Rattle.pr_base.specs.Texts.{Text}
-use Rattle.pr_base.specs.WalkFrame.{Fails}
-use Rattle.pr_base.specs.declared.errno.Errno.TheVariants.{ENOENT}
-use Rattle.pt_bind.specs.Binding.{host_of, located, owner}
+use Rattle.pt_canon.specs.pr_base.MountText.{MountText}
+use Rattle.pt_canon.specs.pr_base.Texts.{Text}
+use Rattle.pt_canon.specs.pr_base.WalkFrame.{Fails}
+use Rattle.pt_canon.specs.pr_base.declared.errno.Errno.TheVariants.{ENOENT}
+use Rattle.pt_canon.specs.pt_bind.Binding.{host_of, located, owner}
 use Rattle.pt_canon.specs.ProcessLinks.{above as text_above}
-use Rattle.kr_tree.specs.declared.place.Host.{Host}
-use Rattle.kr_tree.specs.declared.place.Host.TheVariants.{Node, Proc}
-use Rattle.kr_tree.specs.declared.place.Place.{Place}
-use Rattle.kr_tree.specs.declared.place.ProcAt.{ProcAt}
-use Rattle.kr_tree.specs.declared.place.ProcAt.TheVariants.{SelfLink, Dir, Cwd, Root, Exe, FdDir, Fd}
-use Rattle.kr_tree.specs.Names.{named}
-use Rattle.kr_tree.specs.Tree.{Tree, body_is, is_directory}
-use Rattle.kr_tree.proofs.EntryLemmas.{entry_in_directory, entry_stands, reached-named}
-use Rattle.kr_tree.proofs.NameLemmas.{some_is}
-use Rattle.kr_view.specs.declared.procs.Lead.{Lead}
-use Rattle.kr_view.specs.Processes.{LawsOfProcesses}
-use Rattle.kr_view.specs.Component.{Namespace, above, above_body, above_host, above_node, above_process, is_directory_at, is_process_directory, shows_directory}
-use Rattle.kr_view.specs.View.{Row, is_root_place, node_in, point_place, root_source, row, up}
-use Rattle.kr_view.proofs.HostReachLemmas.{IsFoundIn, at_top, below_top, entry_in, found_in, last_object, named_alone}
+use Rattle.kr_mounts.specs.kr_tree.declared.place.Host.{Host}
+use Rattle.kr_mounts.specs.kr_tree.declared.place.Host.TheVariants.{Node, Proc}
+use Rattle.kr_mounts.specs.kr_tree.declared.place.Place.{Place}
+use Rattle.kr_mounts.specs.kr_tree.declared.place.ProcAt.{ProcAt}
+use Rattle.kr_mounts.specs.kr_tree.declared.place.ProcAt.TheVariants.{SelfLink, Dir, Cwd, Root, Exe, FdDir, Fd}
+use Rattle.kr_mounts.specs.kr_tree.Names.{named}
+use Rattle.kr_mounts.specs.kr_tree.Tree.{Tree, body_is, is_directory}
+use Rattle.kr_mounts.proofs.kr_tree.EntryLemmas.{entry_in_directory, entry_stands, reached-named}
+use Rattle.kr_mounts.proofs.kr_tree.NameLemmas.{some_is}
+use Rattle.kr_mounts.specs.kr_view.declared.procs.Lead.{Lead}
+use Rattle.kr_mounts.specs.kr_view.Processes.{LawsOfProcesses}
+use Rattle.kr_mounts.specs.kr_view.Component.{Namespace, above, above_body, above_host, above_node, above_process, is_directory_at, is_process_directory, shows_directory}
+use Rattle.kr_mounts.specs.kr_view.View.{Row, is_root_place, node_in, point_place, root_source, row, up}
+use Rattle.kr_mounts.proofs.kr_view.HostReachLemmas.{IsFoundIn, at_top, below_top, entry_in, found_in, last_object, named_alone}
 use Rattle.kr_mounts.specs.Standing.{texts_of}
 use Rattle.walks_agree.specs.Settled.{IsSettled}
 use Rattle.walks_agree.specs.Standing.{IsOpen, Stands, place_in, reached_in}

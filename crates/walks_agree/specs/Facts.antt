@@ -1,16 +1,16 @@
 -- What a call is told of its paths: the plain kernel, of what it is handed, the same as the kernel with mounts of the path.
 use Rattle.std.specs.Prelude.{◌≡◌, ◌≢◌, ℕ, true, false, List, [], ◌∷◌, Some, None, Ok}
-use Rattle.pr_base.specs.Paths.{dot, dot_dot, slash, text_of}
-use Rattle.pr_base.specs.Texts.{Text}
-use Rattle.pr_base.specs.WalkFrame.{Target, may_be_free}
-use Rattle.pr_base.specs.declared.path.Last.TheVariants as last
-use Rattle.pr_base.specs.declared.path.WalkMode.{WalkMode}
-use Rattle.pr_base.specs.declared.path.WalkMode.TheVariants as modes
-use Rattle.pt_bind.specs.Binding.{is_point}
-use Rattle.pt_bind.specs.Tags.{TagTable}
-use Rattle.kr_tree.specs.declared.place.Place.{Place}
-use Rattle.kr_view.specs.View.{Row, plain}
-use Rattle.kr_view.specs.Walk.{PlaceTarget, place_walk}
+use Rattle.pt_canon.specs.pr_base.Paths.{dot, dot_dot, slash, text_of}
+use Rattle.pt_canon.specs.pr_base.Texts.{Text}
+use Rattle.pt_canon.specs.pr_base.WalkFrame.{Target, may_be_free}
+use Rattle.pt_canon.specs.pr_base.declared.path.Last.TheVariants as last
+use Rattle.pt_canon.specs.pr_base.declared.path.WalkMode.{WalkMode}
+use Rattle.pt_canon.specs.pr_base.declared.path.WalkMode.TheVariants as modes
+use Rattle.pt_canon.specs.pt_bind.Binding.{is_point}
+use Rattle.pt_canon.specs.pt_bind.Tags.{TagTable}
+use Rattle.kr_mounts.specs.kr_tree.declared.place.Place.{Place}
+use Rattle.kr_mounts.specs.kr_view.View.{Row, plain}
+use Rattle.kr_mounts.specs.kr_view.Walk.{PlaceTarget, place_walk}
 use Rattle.kr_mounts.specs.Standing.{texts_of}
 use Rattle.kr_model.specs.ProcessDirectory.{space_of}
 use Rattle.kr_model.specs.Seen.{Looked, Seen, TakesCovered}

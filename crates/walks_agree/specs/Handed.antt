@@ -1,24 +1,24 @@
 -- What a tracer hands to the plain kernel in place of a path, and where that kernel's own walk along it ends.
 use Rattle.std.specs.Prelude.{◌≡◌, ◌≢◌, ℕ, Bool, true, false, List, [], ◌∷◌, ◌++◌, Option, Some, None, Ok}
 use Rattle.std.specs.Option.{option_map}
-use Rattle.pr_base.specs.Paths.{dot, dot_dot, slash, text_of}
-use Rattle.pr_base.specs.Texts.{Text}
-use Rattle.pr_base.specs.WalkFrame.{Target, may_be_free}
-use Rattle.pr_base.specs.declared.path.Last.TheVariants as last
-use Rattle.pr_base.specs.declared.path.WalkMode.{WalkMode}
-use Rattle.pr_base.specs.declared.path.WalkMode.TheVariants as modes
-use Rattle.pt_bind.specs.Binding.{is_point, located}
+use Rattle.pt_canon.specs.pr_base.Paths.{dot, dot_dot, slash, text_of}
+use Rattle.pt_canon.specs.pr_base.Texts.{Text}
+use Rattle.pt_canon.specs.pr_base.WalkFrame.{Target, may_be_free}
+use Rattle.pt_canon.specs.pr_base.declared.path.Last.TheVariants as last
+use Rattle.pt_canon.specs.pr_base.declared.path.WalkMode.{WalkMode}
+use Rattle.pt_canon.specs.pr_base.declared.path.WalkMode.TheVariants as modes
+use Rattle.pt_canon.specs.pt_bind.Binding.{is_point, located}
 use Rattle.pt_canon.specs.TextWalk.{text_walk}
-use Rattle.kr_tree.specs.declared.place.Host.{Host}
-use Rattle.kr_tree.specs.declared.place.Host.TheVariants.{Node, Proc}
-use Rattle.kr_tree.specs.declared.place.Place.{Place}
-use Rattle.kr_tree.specs.declared.place.ProcAt.{ProcAt}
-use Rattle.kr_tree.specs.Tree.{body_is, is_directory}
-use Rattle.kr_view.specs.Component.{Namespace, is_directory_at, may_search}
-use Rattle.kr_view.specs.HostReach.{host_place}
-use Rattle.kr_view.specs.ReachLaws.{name_target, slashed}
-use Rattle.kr_view.specs.View.{covered, source}
-use Rattle.kr_view.specs.Walk.{PlaceTarget, place_walk}
+use Rattle.kr_mounts.specs.kr_tree.declared.place.Host.{Host}
+use Rattle.kr_mounts.specs.kr_tree.declared.place.Host.TheVariants.{Node, Proc}
+use Rattle.kr_mounts.specs.kr_tree.declared.place.Place.{Place}
+use Rattle.kr_mounts.specs.kr_tree.declared.place.ProcAt.{ProcAt}
+use Rattle.kr_mounts.specs.kr_tree.Tree.{body_is, is_directory}
+use Rattle.kr_mounts.specs.kr_view.Component.{Namespace, is_directory_at, may_search}
+use Rattle.kr_mounts.specs.kr_view.HostReach.{host_place}
+use Rattle.kr_mounts.specs.kr_view.ReachLaws.{name_target, slashed}
+use Rattle.kr_mounts.specs.kr_view.View.{covered, source}
+use Rattle.kr_mounts.specs.kr_view.Walk.{PlaceTarget, place_walk}
 use Rattle.kr_mounts.specs.Standing.{texts_of}
 use Rattle.walks_agree.specs.Scene.{IsMatched, Scene, host_around, space_of, texts_in}
 use Rattle.walks_agree.specs.Settled.{IsSettled, host_text}

@@ -1,13 +1,13 @@
 -- Looks and walks along places and along guest texts agree.
 use Rattle.std.specs.Prelude.{ℕ, List}
-use Rattle.pr_base.specs.Alike.{Alike, SeenAlike}
-use Rattle.pr_base.specs.Paths.{Component, IsComponent}
-use Rattle.pr_base.specs.Texts.{Text}
-use Rattle.pr_base.specs.declared.path.WalkMode.{WalkMode}
+use Rattle.pt_canon.specs.pr_base.Alike.{Alike, SeenAlike}
+use Rattle.pt_canon.specs.pr_base.Paths.{Component, IsComponent}
+use Rattle.pt_canon.specs.pr_base.Texts.{Text}
+use Rattle.pt_canon.specs.pr_base.declared.path.WalkMode.{WalkMode}
 use Rattle.pt_canon.specs.TextWalk.{look_text, text_walk}
-use Rattle.kr_tree.specs.declared.place.Place.{Place}
-use Rattle.kr_view.specs.Component.{look_up}
-use Rattle.kr_view.specs.Walk.{place_walk}
+use Rattle.kr_mounts.specs.kr_tree.declared.place.Place.{Place}
+use Rattle.kr_mounts.specs.kr_view.Component.{look_up}
+use Rattle.kr_mounts.specs.kr_view.Walk.{place_walk}
 use Rattle.walks_agree.specs.Scene.{IsMatched, Scene, space_of, texts_in}
 use Rattle.walks_agree.specs.Standing.{StandsOn, likeness}
 

@@ -1,14 +1,14 @@
 -- What peeks are to walks of a kernel: they tell what its own walks over the host's view find, where a last link isn't followed.
 use Rattle.std.specs.Prelude.{◌≡◌, ℕ, List, Option, Some, None, Result, Ok, Err}
-use Rattle.pr_base.specs.Peeks.{Peeked}
-use Rattle.pr_base.specs.WalkFrame.{Fails, Missing, Leads, Links, Jumps}
-use Rattle.pr_base.specs.declared.errno.Errno.{Errno}
-use Rattle.pr_base.specs.declared.path.WalkMode.TheVariants.{LookLink}
-use Rattle.kr_tree.specs.declared.place.ProcAt.{ProcAt}
-use Rattle.kr_view.specs.declared.procs.Lead.{Lead}
-use Rattle.kr_view.specs.Component.{SeenPlace, Surroundings}
-use Rattle.kr_view.specs.View.{plain, root_place}
-use Rattle.kr_view.specs.Walk.{PlaceTarget, place_walk}
+use Rattle.pt_canon.specs.pr_base.Peeks.{Peeked}
+use Rattle.pt_canon.specs.pr_base.WalkFrame.{Fails, Missing, Leads, Links, Jumps}
+use Rattle.pt_canon.specs.pr_base.declared.errno.Errno.{Errno}
+use Rattle.pt_canon.specs.pr_base.declared.path.WalkMode.TheVariants.{LookLink}
+use Rattle.kr_mounts.specs.kr_tree.declared.place.ProcAt.{ProcAt}
+use Rattle.kr_mounts.specs.kr_view.declared.procs.Lead.{Lead}
+use Rattle.kr_mounts.specs.kr_view.Component.{SeenPlace, Surroundings}
+use Rattle.kr_mounts.specs.kr_view.View.{plain, root_place}
+use Rattle.kr_mounts.specs.kr_view.Walk.{PlaceTarget, place_walk}
 pub use Rattle.kr_model.specs.Peeks.{at_found, kind_along, kind_of_answer, kind_seen}
 
 -- the same tree, user and names of processes over the host's own view, where links of the process directory have leads of

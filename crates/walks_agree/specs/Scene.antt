@@ -1,21 +1,21 @@
 -- One state as two walks see it: along places of the mounted view, and along guest texts by what the plain kernel tells.
 use Rattle.std.specs.Prelude.{◌≡◌, ℕ, false, List, Option, Some, None}
-use Rattle.pr_base.specs.Peeks.{Peeked}
-use Rattle.pr_base.specs.Texts.{Text}
-use Rattle.pt_bind.specs.Tags.{TagTable}
+use Rattle.pt_canon.specs.pr_base.Peeks.{Peeked}
+use Rattle.pt_canon.specs.pr_base.Texts.{Text}
+use Rattle.pt_canon.specs.pt_bind.Tags.{TagTable}
 use Rattle.pt_canon.specs.ProcessLinks.{head_of, landing_of, link_guest, link_name}
 use Rattle.pt_canon.specs.TextWalk.{TextSurroundings}
 use Rattle.pt_canon.specs.declared.link.ProcessLink.{ProcessLink}
 use Rattle.pt_canon.specs.declared.link.ProcessLink.TheVariants as process_link
-use Rattle.kr_tree.specs.declared.place.Host.TheVariants.{Node, Proc}
-use Rattle.kr_tree.specs.declared.place.Place.{Place}
-use Rattle.kr_tree.specs.declared.place.ProcAt.{ProcAt}
-use Rattle.kr_tree.specs.declared.place.ProcAt.TheVariants.{SelfLink, Dir, Cwd, Root, Exe, FdDir, Fd}
-use Rattle.kr_view.specs.declared.procs.Lead.{Lead}
-use Rattle.kr_view.specs.declared.procs.Lead.TheVariants as lead
-use Rattle.kr_view.specs.Component.{Namespace, Surroundings, is_directory_at}
-use Rattle.kr_view.specs.Living.{IsSmall}
-use Rattle.kr_view.specs.Processes.{LawsOfProcesses}
+use Rattle.kr_mounts.specs.kr_tree.declared.place.Host.TheVariants.{Node, Proc}
+use Rattle.kr_mounts.specs.kr_tree.declared.place.Place.{Place}
+use Rattle.kr_mounts.specs.kr_tree.declared.place.ProcAt.{ProcAt}
+use Rattle.kr_mounts.specs.kr_tree.declared.place.ProcAt.TheVariants.{SelfLink, Dir, Cwd, Root, Exe, FdDir, Fd}
+use Rattle.kr_mounts.specs.kr_view.declared.procs.Lead.{Lead}
+use Rattle.kr_mounts.specs.kr_view.declared.procs.Lead.TheVariants as lead
+use Rattle.kr_mounts.specs.kr_view.Component.{Namespace, Surroundings, is_directory_at}
+use Rattle.kr_mounts.specs.kr_view.Living.{IsSmall}
+use Rattle.kr_mounts.specs.kr_view.Processes.{LawsOfProcesses}
 use Rattle.kr_mounts.specs.Standing.{texts_of}
 use Rattle.walks_agree.specs.Peeks.{ArePeeks, over_host}
 use Rattle.walks_agree.specs.Settled.{IsSettled, host_text}

@@ -1,11 +1,11 @@
 -- A table of mounts whose texts and inodes belong together, in a tree as it is now.
 use Rattle.std.specs.Prelude.{◌≡◌, ℕ, false, ◌∷◌, Some}
-use Rattle.pr_base.specs.Texts.{Text}
-use Rattle.pt_bind.specs.Binding.{owner, host_of}
-use Rattle.kr_tree.specs.Lawful.{IsSound, HasItsInodes}
-use Rattle.kr_tree.specs.Names.{named, reached}
-use Rattle.kr_view.specs.Component.{Namespace}
-use Rattle.kr_view.specs.View.{Point, Row, StandsIn, row}
+use Rattle.pt_canon.specs.pr_base.Texts.{Text}
+use Rattle.pt_canon.specs.pt_bind.Binding.{owner, host_of}
+use Rattle.kr_mounts.specs.kr_tree.Lawful.{IsSound, HasItsInodes}
+use Rattle.kr_mounts.specs.kr_tree.Names.{named, reached}
+use Rattle.kr_mounts.specs.kr_view.Component.{Namespace}
+use Rattle.kr_mounts.specs.kr_view.View.{Point, Row, StandsIn, row}
 use Rattle.kr_mounts.specs.Standing.{texts_of}
 
 -- the host text of a guest text, and the number of the mount to which it belongs

@@ -1,15 +1,15 @@
 -- When a place of the mounted view and a guest text are the same.
 use Rattle.std.specs.Prelude.{◌≡◌, ℕ, true, false, List, [], ◌∷◌, ◌++◌, Option, Some}
-use Rattle.pr_base.specs.Alike.{Likeness}
-use Rattle.pr_base.specs.Paths.{IsComponent}
-use Rattle.pr_base.specs.Texts.{Text}
-use Rattle.pr_base.specs.WalkFrame.{is_followed}
-use Rattle.pr_base.specs.declared.path.WalkMode.{WalkMode}
-use Rattle.kr_tree.specs.declared.place.Host.{Host}
-use Rattle.kr_tree.specs.declared.place.Place.{Place}
-use Rattle.kr_view.specs.Component.{Namespace, is_directory_at, may_search}
-use Rattle.kr_view.specs.HostReach.{is_link_at, reaches}
-use Rattle.kr_view.specs.View.{Point, Row, row}
+use Rattle.pt_canon.specs.pr_base.Alike.{Likeness}
+use Rattle.pt_canon.specs.pr_base.Paths.{IsComponent}
+use Rattle.pt_canon.specs.pr_base.Texts.{Text}
+use Rattle.pt_canon.specs.pr_base.WalkFrame.{is_followed}
+use Rattle.pt_canon.specs.pr_base.declared.path.WalkMode.{WalkMode}
+use Rattle.kr_mounts.specs.kr_tree.declared.place.Host.{Host}
+use Rattle.kr_mounts.specs.kr_tree.declared.place.Place.{Place}
+use Rattle.kr_mounts.specs.kr_view.Component.{Namespace, is_directory_at, may_search}
+use Rattle.kr_mounts.specs.kr_view.HostReach.{is_link_at, reaches}
+use Rattle.kr_mounts.specs.kr_view.View.{Point, Row, row}
 use Rattle.walks_agree.specs.Settled.{host_text, owning_mount}
 
 -- what the user comes to by a host text, with search all along

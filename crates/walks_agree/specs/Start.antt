@@ -1,19 +1,19 @@
 -- That what the laws ask for is met: by every table that was settled, before a process lives, and by living processes.
 use Rattle.std.specs.Prelude.{◌≡◌, ℕ, List, [], Some, Ok}
-use Rattle.pr_base.specs.Peeks.{Peeked}
-use Rattle.pr_base.specs.Texts.{Text}
-use Rattle.pr_base.specs.declared.bind.Bind.{Bind}
-use Rattle.pt_bind.specs.Tags.{TagTable}
+use Rattle.pt_canon.specs.pr_base.Peeks.{Peeked}
+use Rattle.pt_canon.specs.pr_base.Texts.{Text}
+use Rattle.pt_canon.specs.pr_base.declared.bind.Bind.{Bind}
+use Rattle.pt_canon.specs.pt_bind.Tags.{TagTable}
 use Rattle.pt_canon.specs.declared.link.ProcessLink.{ProcessLink}
-use Rattle.kr_inode.specs.declared.user.User.{User}
-use Rattle.kr_tree.specs.declared.place.Host.TheVariants.{Proc}
-use Rattle.kr_tree.specs.declared.place.ProcAt.{ProcAt}
-use Rattle.kr_tree.specs.Lawful.{HasItsInodes, IsCounted, IsSound}
-use Rattle.kr_tree.specs.Tree.{Tree}
-use Rattle.kr_view.specs.Component.{Finds, Namespace}
-use Rattle.kr_view.specs.Living.{Each, HasSmallNumbers as IsSmallProcess, Living, finds_among}
-use Rattle.kr_view.specs.Processes.{no_finds, no_leads}
-use Rattle.kr_view.specs.View.{Row, plain, root_place}
+use Rattle.kr_mounts.specs.kr_inode.declared.user.User.{User}
+use Rattle.kr_mounts.specs.kr_tree.declared.place.Host.TheVariants.{Proc}
+use Rattle.kr_mounts.specs.kr_tree.declared.place.ProcAt.{ProcAt}
+use Rattle.kr_mounts.specs.kr_tree.Lawful.{HasItsInodes, IsCounted, IsSound}
+use Rattle.kr_mounts.specs.kr_tree.Tree.{Tree}
+use Rattle.kr_mounts.specs.kr_view.Component.{Finds, Namespace}
+use Rattle.kr_mounts.specs.kr_view.Living.{Each, HasSmallNumbers as IsSmallProcess, Living, finds_among}
+use Rattle.kr_mounts.specs.kr_view.Processes.{no_finds, no_leads}
+use Rattle.kr_mounts.specs.kr_view.View.{Row, plain, root_place}
 use Rattle.kr_mounts.specs.Bounds.{AreNumbered}
 use Rattle.kr_mounts.specs.MountTable.{settling}
 use Rattle.walks_agree.specs.Peeks.{ArePeeks}

@@ -2,23 +2,23 @@
 -- one mount.
 use Rattle.std.specs.Prelude.{◌||◌, ◌==◌, not, length, ◌≡◌, ℕ, Bool, true, false, List, [], Some, None, if◌then◌else◌}
 use Rattle.std.specs.Option.{option_map_or}
-use Rattle.pr_base.specs.Paths.{text_of}
-use Rattle.pr_base.specs.Texts.{Text}
-use Rattle.pr_base.specs.WalkFrame.{Target, is_followed}
-use Rattle.pr_base.specs.declared.path.WalkMode.{WalkMode}
-use Rattle.pt_bind.specs.Binding.{guest_of, index_of}
-use Rattle.pt_bind.specs.Tags.{TagTable, tag_of}
-use Rattle.pt_bind.specs.declared.slot.Slot.TheVariants as slot
-use Rattle.kr_tree.specs.declared.place.Host.TheVariants.{Node}
-use Rattle.kr_tree.specs.declared.place.Place.{Place}
-use Rattle.kr_tree.specs.Tree.{Tree}
-use Rattle.kr_view.specs.Component.{Namespace, is_directory_at}
-use Rattle.kr_view.specs.HostReach.{host_place}
-use Rattle.kr_view.specs.Living.{Each, HasSmallNumbers}
-use Rattle.kr_view.specs.Names.{guest_name}
-use Rattle.kr_view.specs.View.{Row, row, source}
-use Rattle.kr_view.specs.Walk.{PlaceTarget}
-use Rattle.kr_files.specs.declared.opened.Opened.{Opened}
+use Rattle.pt_canon.specs.pr_base.Paths.{text_of}
+use Rattle.pt_canon.specs.pr_base.Texts.{Text}
+use Rattle.pt_canon.specs.pr_base.WalkFrame.{Target, is_followed}
+use Rattle.pt_canon.specs.pr_base.declared.path.WalkMode.{WalkMode}
+use Rattle.pt_canon.specs.pt_bind.Binding.{guest_of, index_of}
+use Rattle.pt_canon.specs.pt_bind.Tags.{TagTable, tag_of}
+use Rattle.pt_canon.specs.pt_bind.declared.slot.Slot.TheVariants as slot
+use Rattle.kr_mounts.specs.kr_tree.declared.place.Host.TheVariants.{Node}
+use Rattle.kr_mounts.specs.kr_tree.declared.place.Place.{Place}
+use Rattle.kr_mounts.specs.kr_tree.Tree.{Tree}
+use Rattle.kr_mounts.specs.kr_view.Component.{Namespace, is_directory_at}
+use Rattle.kr_mounts.specs.kr_view.HostReach.{host_place}
+use Rattle.kr_mounts.specs.kr_view.Living.{Each, HasSmallNumbers}
+use Rattle.kr_mounts.specs.kr_view.Names.{guest_name}
+use Rattle.kr_mounts.specs.kr_view.View.{Row, row, source}
+use Rattle.kr_mounts.specs.kr_view.Walk.{PlaceTarget}
+use Rattle.kr_model.specs.kr_files.declared.opened.Opened.{Opened}
 use Rattle.kr_mounts.specs.Standing.{texts_of}
 pub use Rattle.kr_model.specs.HostView.{base_name, cwd_name, exe_name, host_around_of, host_leads, host_open, host_space, open_name}
 pub use Rattle.kr_model.specs.Peeks.{answer_along, body_text, link_text_at, peeked_of, read_at, read_of}
@@ -51,7 +51,7 @@ pub record IsInUse (space : Namespace) (p : Place ℕ) (dir : ℕ) (name : List 
 abbrev pub is_called : Namespace → Place ℕ → List ℕ → Bool
 is_called space p name = is_directory_at space.tree p.host || not (length name == 0)
 
--- a place with a name is in use so; another has no guest name, since what is a mount's source remembers its entry
+-- a place with a name is in use so; another has no guest name
 pub record IsPlaced (space : Namespace) (p : Place ℕ) (dir : ℕ) (name : List ℕ) (tag : ℕ) : Type 0 where
   pub called : is_called space p name ≡ true → IsInUse space p dir name tag
   pub nameless : is_called space p name ≡ false → guest_name space p None ≡ None

@@ -1,19 +1,19 @@
 -- Laws of guest texts and host texts in a tree in which a settled table stands.
 use Rattle.std.specs.Prelude.{◌≡◌, ◌≤◌, ℕ, true, false, List, ◌++◌, length, Some, None}
 use Rattle.std.specs.Option.{option_map}
-use Rattle.pr_base.specs.Paths.{AreNames}
-use Rattle.pr_base.specs.Texts.{Text}
-use Rattle.pt_bind.specs.Binding.{guest_of, index_of}
-use Rattle.kr_tree.specs.declared.place.Host.{Host}
-use Rattle.kr_tree.specs.declared.place.Host.TheVariants.{Node}
-use Rattle.kr_tree.specs.declared.place.Place.{Place}
-use Rattle.kr_tree.specs.declared.place.ProcAt.{ProcAt}
-use Rattle.kr_tree.specs.Names.{named}
-use Rattle.kr_view.specs.declared.procs.Lead.{Lead}
-use Rattle.kr_view.specs.Component.{Namespace, is_directory_at}
-use Rattle.kr_view.specs.Names.{directory_name, guest_name}
-use Rattle.kr_view.specs.Processes.{LawsOfProcesses}
-use Rattle.kr_view.specs.View.{Row, node_in, row}
+use Rattle.pt_canon.specs.pr_base.Paths.{AreNames}
+use Rattle.pt_canon.specs.pr_base.Texts.{Text}
+use Rattle.pt_canon.specs.pt_bind.Binding.{guest_of, index_of}
+use Rattle.kr_mounts.specs.kr_tree.declared.place.Host.{Host}
+use Rattle.kr_mounts.specs.kr_tree.declared.place.Host.TheVariants.{Node}
+use Rattle.kr_mounts.specs.kr_tree.declared.place.Place.{Place}
+use Rattle.kr_mounts.specs.kr_tree.declared.place.ProcAt.{ProcAt}
+use Rattle.kr_mounts.specs.kr_tree.Names.{named}
+use Rattle.kr_mounts.specs.kr_view.declared.procs.Lead.{Lead}
+use Rattle.kr_mounts.specs.kr_view.Component.{Namespace, is_directory_at}
+use Rattle.kr_mounts.specs.kr_view.Names.{directory_name, guest_name}
+use Rattle.kr_mounts.specs.kr_view.Processes.{LawsOfProcesses}
+use Rattle.kr_mounts.specs.kr_view.View.{Row, node_in, row}
 use Rattle.kr_mounts.specs.Standing.{led, texts_of}
 use Rattle.walks_agree.specs.Settled.{IsSettled, host_text, owning_mount}
 use Rattle.walks_agree.specs.Standing.{IsEntryAt, IsOpen, IsUncovered, Stands, place_in, reached_in}

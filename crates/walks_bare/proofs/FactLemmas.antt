@@ -3,16 +3,16 @@ use Rattle.std.proofs.Common.{◌≡◌, ◌≢◌, ℕ, true, false, List, [], 
 use Rattle.std.specs.Bool.{if◌then◌else◌}
 use Rattle.std.specs.Option.{option_map_or}
 use Rattle.std.specs.Prelude.{◌==◌}
-use Rattle.pr_base.specs.Paths.{is_absolute}
-use Rattle.pr_base.specs.declared.errno.Errno.{Errno}
-use Rattle.pr_base.specs.declared.errno.Errno.TheVariants.{ENOENT}
-use Rattle.pr_base.specs.declared.path.WalkMode.{WalkMode}
-use Rattle.kr_tree.specs.declared.place.Place.{Place}
-use Rattle.kr_view.specs.View.{Row, plain, root_place}
-use Rattle.kr_view.specs.Walk.{PlaceTarget, place_walk}
-use Rattle.kr_calls.specs.PathTable.{PathUse, path_at}
-use Rattle.kr_calls.specs.declared.request.Request.{Request}
-use Rattle.kr_calls.specs.declared.request.Request.TheVariants as call
+use Rattle.kr_model.specs.pr_base.Paths.{is_absolute}
+use Rattle.kr_model.specs.pr_base.declared.errno.Errno.{Errno}
+use Rattle.kr_model.specs.pr_base.declared.errno.Errno.TheVariants.{ENOENT}
+use Rattle.kr_model.specs.pr_base.declared.path.WalkMode.{WalkMode}
+use Rattle.kr_model.specs.kr_tree.declared.place.Place.{Place}
+use Rattle.kr_model.specs.kr_view.View.{Row, plain, root_place}
+use Rattle.kr_model.specs.kr_view.Walk.{PlaceTarget, place_walk}
+use Rattle.kr_model.specs.kr_calls.PathTable.{PathUse, path_at}
+use Rattle.kr_model.specs.kr_calls.declared.request.Request.{Request}
+use Rattle.kr_model.specs.kr_calls.declared.request.Request.TheVariants as call
 use Rattle.kr_model.specs.Applied.{cwd_of}
 use Rattle.kr_model.specs.Asking.{descriptor_number, is_working_directory}
 use Rattle.kr_model.specs.FileRows.{creates}

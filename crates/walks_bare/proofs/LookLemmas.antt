@@ -1,23 +1,23 @@
 -- What components show from places is the same over a tree with fewer holds, so walks are.
 use Rattle.std.proofs.Common.{◌≡◌, ℕ, true, false, List, [], refl, Option, Some, None}
 use Rattle.std.specs.Bool.{if◌then◌else◌}
-use Rattle.pr_base.specs.Paths.{Component, Dot, DotDot, Name}
-use Rattle.pr_base.specs.WalkFrame.{Fails, Jumps}
-use Rattle.pr_base.specs.declared.errno.Errno.TheVariants.{ENOTDIR, EACCES, ENAMETOOLONG}
-use Rattle.kr_inode.specs.declared.user.Right.TheVariants.{Search}
-use Rattle.kr_inode.specs.declared.user.User.{User}
-use Rattle.kr_tree.specs.Holds.{with_fewer}
-use Rattle.kr_tree.specs.Tree.{Tree, is_directory}
-use Rattle.kr_tree.specs.declared.place.Host.{Host}
-use Rattle.kr_tree.specs.declared.place.Host.TheVariants.{Node, Proc}
-use Rattle.kr_tree.specs.declared.place.Place.{Place}
-use Rattle.kr_tree.specs.declared.place.ProcAt.{ProcAt}
-use Rattle.kr_tree.specs.declared.place.ProcAt.TheVariants.{SelfLink, Dir, Cwd, Root, Exe, FdDir, Fd}
-use Rattle.kr_view.specs.Component.{Finds, Namespace, Surroundings, above, above_body, above_host, above_node, above_process, in_node, inside, is_directory_at, is_process_directory, is_processes, landing, look_up, may_search, named, named_in, seen_at, seen_body, seen_entry, seen_in_processes, seen_link, shows_directory, through_point, too_long}
-use Rattle.kr_view.specs.Walk.{looking}
-use Rattle.kr_view.specs.View.{Row, down, is_root_place, node_in, up}
-use Rattle.kr_view.specs.declared.procs.Lead.{Lead}
-use Rattle.kr_view.specs.declared.procs.Lead.TheVariants.{Text, Jump, Nameless, NoLink}
+use Rattle.kr_model.specs.pr_base.Paths.{Component, Dot, DotDot, Name}
+use Rattle.kr_model.specs.pr_base.WalkFrame.{Fails, Jumps}
+use Rattle.kr_model.specs.pr_base.declared.errno.Errno.TheVariants.{ENOTDIR, EACCES, ENAMETOOLONG}
+use Rattle.kr_model.specs.kr_inode.declared.user.Right.TheVariants.{Search}
+use Rattle.kr_model.specs.kr_inode.declared.user.User.{User}
+use Rattle.kr_model.specs.kr_tree.Holds.{with_fewer}
+use Rattle.kr_model.specs.kr_tree.Tree.{Tree, is_directory}
+use Rattle.kr_model.specs.kr_tree.declared.place.Host.{Host}
+use Rattle.kr_model.specs.kr_tree.declared.place.Host.TheVariants.{Node, Proc}
+use Rattle.kr_model.specs.kr_tree.declared.place.Place.{Place}
+use Rattle.kr_model.specs.kr_tree.declared.place.ProcAt.{ProcAt}
+use Rattle.kr_model.specs.kr_tree.declared.place.ProcAt.TheVariants.{SelfLink, Dir, Cwd, Root, Exe, FdDir, Fd}
+use Rattle.kr_model.specs.kr_view.Component.{Finds, Namespace, Surroundings, above, above_body, above_host, above_node, above_process, in_node, inside, is_directory_at, is_process_directory, is_processes, landing, look_up, may_search, named, named_in, seen_at, seen_body, seen_entry, seen_in_processes, seen_link, shows_directory, through_point, too_long}
+use Rattle.kr_model.specs.kr_view.Walk.{looking}
+use Rattle.kr_model.specs.kr_view.View.{Row, down, is_root_place, node_in, up}
+use Rattle.kr_model.specs.kr_view.declared.procs.Lead.{Lead}
+use Rattle.kr_model.specs.kr_view.declared.procs.Lead.TheVariants.{Text, Jump, Nameless, NoLink}
 use Rattle.walks_bare.proofs.TreeLemmas.{same_above, same_body, same_entry, same_may, same_test}
 
 module _ (less : ℕ → ℕ) (t : Tree) where

@@ -2,20 +2,20 @@
 use Rattle.std.proofs.Common.{◌≡◌, ℕ, zero, suc, true, List, [], Option, Some, None, refl, ap}
 use Rattle.std.proofs.lemmas.Option.{none-some}
 use Rattle.std.specs.Option.{option_map, option_map_or, option_and_then}
-use Rattle.kr_tree.specs.Tree.{Tree}
-use Rattle.kr_tree.specs.declared.place.Host.{Host}
-use Rattle.kr_tree.specs.declared.place.Host.TheVariants.{Node, Proc}
-use Rattle.kr_tree.specs.declared.place.Place.{Place}
-use Rattle.kr_tree.specs.declared.place.ProcAt.{ProcAt}
-use Rattle.kr_tree.specs.declared.place.ProcAt.TheVariants.{SelfLink, Dir, Cwd, Root, Exe, FdDir, Fd}
-use Rattle.kr_view.specs.HostReach.{host_place}
-use Rattle.kr_view.specs.InTree.{IsPlaceOf}
-use Rattle.kr_view.specs.View.{is_there, plain, row}
-use Rattle.kr_view.specs.declared.procs.Lead.{Lead}
-use Rattle.kr_view.specs.declared.procs.Lead.TheVariants.{Nameless, NoLink}
-use Rattle.kr_files.specs.Descriptors.{Named}
-use Rattle.kr_files.specs.Files.{file_at}
-use Rattle.kr_files.specs.declared.opened.Opened.{Opened}
+use Rattle.kr_model.specs.kr_tree.Tree.{Tree}
+use Rattle.kr_model.specs.kr_tree.declared.place.Host.{Host}
+use Rattle.kr_model.specs.kr_tree.declared.place.Host.TheVariants.{Node, Proc}
+use Rattle.kr_model.specs.kr_tree.declared.place.Place.{Place}
+use Rattle.kr_model.specs.kr_tree.declared.place.ProcAt.{ProcAt}
+use Rattle.kr_model.specs.kr_tree.declared.place.ProcAt.TheVariants.{SelfLink, Dir, Cwd, Root, Exe, FdDir, Fd}
+use Rattle.kr_model.specs.kr_view.HostReach.{host_place}
+use Rattle.kr_model.specs.kr_view.InTree.{IsPlaceOf}
+use Rattle.kr_model.specs.kr_view.View.{is_there, plain, row}
+use Rattle.kr_model.specs.kr_view.declared.procs.Lead.{Lead}
+use Rattle.kr_model.specs.kr_view.declared.procs.Lead.TheVariants.{Nameless, NoLink}
+use Rattle.kr_model.specs.kr_files.Descriptors.{Named}
+use Rattle.kr_model.specs.kr_files.Files.{file_at}
+use Rattle.kr_model.specs.kr_files.declared.opened.Opened.{Opened}
 use Rattle.kr_model.specs.Applied.{cwd_of}
 use Rattle.kr_model.specs.HostView.{cwd_name, host_leads, host_open, host_space, linked_text}
 use Rattle.kr_model.specs.Lawful.{IsLawful, IsOpenIn}

@@ -2,17 +2,17 @@
 use Rattle.std.proofs.Common.{◌≡◌, ℕ, List, [], ◌∷◌, Option, Some, None, Result, Ok, Err, refl, sym, ap, ◌∙◌}
 use Rattle.std.specs.Bool.{if◌then◌else◌}
 use Rattle.std.specs.Option.{option_map, option_map_or}
-use Rattle.pr_base.specs.Paths.{is_absolute}
-use Rattle.pr_base.specs.declared.errno.Errno.{Errno}
-use Rattle.pr_base.specs.declared.errno.Errno.TheVariants.{EBADF, ENOENT, ENOTDIR}
-use Rattle.pr_base.specs.declared.path.WalkMode.{WalkMode}
-use Rattle.kr_tree.specs.declared.place.Place.{Place}
-use Rattle.kr_view.specs.HostReach.{host_place}
-use Rattle.kr_view.specs.View.{plain, root_place}
-use Rattle.kr_view.specs.Walk.{place_walk}
-use Rattle.kr_files.specs.declared.opened.Opened.{Opened}
-use Rattle.kr_calls.specs.PathTable.{PathUse, path_at}
-use Rattle.kr_calls.specs.declared.request.Request.{Request}
+use Rattle.kr_model.specs.pr_base.Paths.{is_absolute}
+use Rattle.kr_model.specs.pr_base.declared.errno.Errno.{Errno}
+use Rattle.kr_model.specs.pr_base.declared.errno.Errno.TheVariants.{EBADF, ENOENT, ENOTDIR}
+use Rattle.kr_model.specs.pr_base.declared.path.WalkMode.{WalkMode}
+use Rattle.kr_model.specs.kr_tree.declared.place.Place.{Place}
+use Rattle.kr_model.specs.kr_view.HostReach.{host_place}
+use Rattle.kr_model.specs.kr_view.View.{plain, root_place}
+use Rattle.kr_model.specs.kr_view.Walk.{place_walk}
+use Rattle.kr_model.specs.kr_files.declared.opened.Opened.{Opened}
+use Rattle.kr_model.specs.kr_calls.PathTable.{PathUse, path_at}
+use Rattle.kr_model.specs.kr_calls.declared.request.Request.{Request}
 use Rattle.kr_model.specs.Asking.{descriptor_number, is_working_directory}
 use Rattle.kr_model.specs.Bare.{bare, host_only}
 use Rattle.kr_model.specs.FileRows.{is_dir}

@@ -2,18 +2,18 @@
 use Rattle.std.proofs.Common.{◌≡◌, ℕ, List, ◌++◌, refl, Option, Some, None}
 use Rattle.std.specs.Bool.{if◌then◌else◌}
 use Rattle.std.specs.Option.{option_map, option_and_then}
-use Rattle.pr_base.specs.Texts.{Text, below, names_below}
-use Rattle.kr_inode.specs.declared.user.User.{User}
-use Rattle.kr_tree.specs.Holds.{with_fewer}
-use Rattle.kr_tree.specs.Tree.{Tree, is_directory}
-use Rattle.kr_tree.specs.declared.place.Host.{Host}
-use Rattle.kr_tree.specs.declared.place.Host.TheVariants.{Node, Proc}
-use Rattle.kr_tree.specs.declared.place.Place.{Place}
-use Rattle.kr_tree.specs.declared.place.ProcAt.{ProcAt}
-use Rattle.kr_tree.specs.declared.place.ProcAt.TheVariants.{SelfLink, Dir, Cwd, Root, Exe, FdDir, Fd}
-use Rattle.kr_view.specs.Component.{Finds, Namespace, is_process_directory}
-use Rattle.kr_view.specs.Names.{Remembered, guest_below, guest_directory, guest_entry, guest_name, guest_node, guest_object, guest_process, is_file_source, names_down, process_object_name}
-use Rattle.kr_view.specs.View.{Row, row}
+use Rattle.kr_model.specs.pr_base.Texts.{Text, below, names_below}
+use Rattle.kr_model.specs.kr_inode.declared.user.User.{User}
+use Rattle.kr_model.specs.kr_tree.Holds.{with_fewer}
+use Rattle.kr_model.specs.kr_tree.Tree.{Tree, is_directory}
+use Rattle.kr_model.specs.kr_tree.declared.place.Host.{Host}
+use Rattle.kr_model.specs.kr_tree.declared.place.Host.TheVariants.{Node, Proc}
+use Rattle.kr_model.specs.kr_tree.declared.place.Place.{Place}
+use Rattle.kr_model.specs.kr_tree.declared.place.ProcAt.{ProcAt}
+use Rattle.kr_model.specs.kr_tree.declared.place.ProcAt.TheVariants.{SelfLink, Dir, Cwd, Root, Exe, FdDir, Fd}
+use Rattle.kr_model.specs.kr_view.Component.{Finds, Namespace, is_process_directory}
+use Rattle.kr_model.specs.kr_view.Names.{Remembered, guest_below, guest_directory, guest_entry, guest_name, guest_node, guest_object, guest_process, guest_source, is_file_source, names_down, process_object_name}
+use Rattle.kr_model.specs.kr_view.View.{Row, row}
 use Rattle.walks_bare.proofs.TreeLemmas.{same_host_name, same_test}
 
 module _ (less : ℕ → ℕ) (t : Tree) where
@@ -35,7 +35,7 @@ module _ (less : ℕ → ℕ) (t : Tree) where
   same_below r i remembered = λ j. if same_test less t is_directory i j then same_directory r i j else same_entry_name r remembered j
 
   same_node : (r : Option Row) (i : ℕ) (remembered : Remembered) → guest_node light r i remembered ≡ guest_node t r i remembered
-  same_node r i remembered = λ j. if is_file_source r i then option_map (λ r. r.text.location) r else same_below r i remembered j
+  same_node r i remembered = λ j. if is_file_source r i then guest_source r remembered else same_below r i remembered j
 
   module _ (table : List Row) (user : User) (finds : Finds) where
     abbrev space : Tree → Namespace

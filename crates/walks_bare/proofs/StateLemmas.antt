@@ -4,27 +4,27 @@ use Rattle.std.proofs.Common.{◌≡◌, ℕ, List, [], ◌∷◌, refl, sym, ap
 use Rattle.std.specs.Bool.{if◌then◌else◌}
 use Rattle.std.specs.Option.{option_map, option_map_or, option_and_then}
 use Rattle.std.specs.Prelude.{map as map_list}
-use Rattle.pr_base.specs.Paths.{text_of}
-use Rattle.pr_base.specs.WalkFrame.{walk}
-use Rattle.pr_base.specs.declared.errno.Errno.{Errno}
-use Rattle.pr_base.specs.declared.errno.Errno.TheVariants.{ENOENT}
-use Rattle.pr_base.specs.declared.path.WalkMode.{WalkMode}
-use Rattle.pr_base.specs.declared.path.WalkMode.TheVariants.{LookLink}
-use Rattle.kr_inode.specs.declared.user.Right.TheVariants.{Search}
-use Rattle.kr_tree.specs.declared.place.Host.{Host}
-use Rattle.kr_tree.specs.declared.place.Host.TheVariants.{Node, Proc}
-use Rattle.kr_tree.specs.declared.place.Place.{Place}
-use Rattle.kr_tree.specs.declared.place.ProcAt.{ProcAt}
-use Rattle.kr_tree.specs.declared.place.ProcAt.TheVariants.{SelfLink, Dir, Cwd, Root, Exe, FdDir, Fd}
-use Rattle.kr_view.specs.Component.{is_directory_at, seen_at}
-use Rattle.kr_view.specs.HostReach.{host_place}
-use Rattle.kr_view.specs.Living.{finds_among}
-use Rattle.kr_view.specs.Names.{Remembered, guest_name}
-use Rattle.kr_view.specs.View.{is_there, plain, root_place}
-use Rattle.kr_view.specs.Walk.{PlaceTarget, place_walk}
-use Rattle.kr_view.specs.declared.procs.Lead.TheVariants.{Jump, Nameless, NoLink}
-use Rattle.kr_files.specs.WithoutMounts.{without_mount}
-use Rattle.kr_files.specs.declared.opened.Opened.{Opened}
+use Rattle.kr_model.specs.pr_base.Paths.{text_of}
+use Rattle.kr_model.specs.pr_base.WalkFrame.{walk}
+use Rattle.kr_model.specs.pr_base.declared.errno.Errno.{Errno}
+use Rattle.kr_model.specs.pr_base.declared.errno.Errno.TheVariants.{ENOENT}
+use Rattle.kr_model.specs.pr_base.declared.path.WalkMode.{WalkMode}
+use Rattle.kr_model.specs.pr_base.declared.path.WalkMode.TheVariants.{LookLink}
+use Rattle.kr_model.specs.kr_inode.declared.user.Right.TheVariants.{Search}
+use Rattle.kr_model.specs.kr_tree.declared.place.Host.{Host}
+use Rattle.kr_model.specs.kr_tree.declared.place.Host.TheVariants.{Node, Proc}
+use Rattle.kr_model.specs.kr_tree.declared.place.Place.{Place}
+use Rattle.kr_model.specs.kr_tree.declared.place.ProcAt.{ProcAt}
+use Rattle.kr_model.specs.kr_tree.declared.place.ProcAt.TheVariants.{SelfLink, Dir, Cwd, Root, Exe, FdDir, Fd}
+use Rattle.kr_model.specs.kr_view.Component.{is_directory_at, seen_at}
+use Rattle.kr_model.specs.kr_view.HostReach.{host_place}
+use Rattle.kr_model.specs.kr_view.Living.{finds_among}
+use Rattle.kr_model.specs.kr_view.Names.{Remembered, guest_name}
+use Rattle.kr_model.specs.kr_view.View.{is_there, plain, root_place}
+use Rattle.kr_model.specs.kr_view.Walk.{PlaceTarget, place_walk}
+use Rattle.kr_model.specs.kr_view.declared.procs.Lead.TheVariants.{Jump, Nameless, NoLink}
+use Rattle.kr_model.specs.kr_files.WithoutMounts.{without_mount}
+use Rattle.kr_model.specs.kr_files.declared.opened.Opened.{Opened}
 use Rattle.kr_model.specs.Bare.{bare, bare_process, host_only}
 use Rattle.kr_model.specs.HostView.{base_name, base_text, cwd_name, exe_name, host_around_of, host_leads, host_open, host_space, linked_text, open_name}
 use Rattle.kr_model.specs.Peeks.{answer_along, at_found, body_head, body_text, head_at, kind_of_answer, kind_of_base, kind_seen, link_text_at, name_or_none, peeked_of, read_of}

@@ -2,13 +2,13 @@
 use Rattle.std.proofs.Common.{◌≡◌, ℕ, zero, suc, Bool, false, nat_eq, List, [], ◌∷◌, refl, ap, ◌∙◌, Option, Some, None}
 use Rattle.std.specs.Bool.{if◌then◌else◌}
 use Rattle.std.specs.Option.{option_map, option_map_or, option_and_then}
-use Rattle.kr_inode.specs.declared.user.Right.{Right}
-use Rattle.kr_inode.specs.declared.user.User.{User}
-use Rattle.kr_tree.specs.Holds.{LooksWithFewerHolds, fewer, with_fewer}
-use Rattle.kr_tree.specs.Names.{host_name, host_name_within, step_up}
-use Rattle.kr_tree.specs.Rights.{allows, may}
-use Rattle.kr_tree.specs.Tree.{Body, Inode, Tree, above, body, body_is, entry, entry_at, inode, root, standing, standing_of}
-use Rattle.kr_tree.proofs.HoldLemmas.{trees_look_alike_with_fewer_holds}
+use Rattle.kr_model.specs.kr_inode.declared.user.Right.{Right}
+use Rattle.kr_model.specs.kr_inode.declared.user.User.{User}
+use Rattle.kr_model.specs.kr_tree.Holds.{LooksWithFewerHolds, fewer, with_fewer}
+use Rattle.kr_model.specs.kr_tree.Names.{host_name, host_name_within, step_up}
+use Rattle.kr_model.specs.kr_tree.Rights.{allows, may}
+use Rattle.kr_model.specs.kr_tree.Tree.{Body, Inode, Tree, above, body, body_is, entry, entry_at, inode, root, standing, standing_of}
+use Rattle.kr_model.proofs.kr_tree.HoldLemmas.{trees_look_alike_with_fewer_holds}
 
 module _ (less : ℕ → ℕ) (t : Tree) where
   abbrev light : Tree

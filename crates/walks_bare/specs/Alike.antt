@@ -1,8 +1,8 @@
 -- Two states that are equal but for mounts: a tracer is told the same of both, and walks over the host's own view find the same.
 use Rattle.std.specs.Prelude.{◌≡◌, ℕ, List}
-use Rattle.pr_base.specs.declared.path.WalkMode.{WalkMode}
-use Rattle.kr_tree.specs.declared.place.Place.{Place}
-use Rattle.kr_view.specs.Walk.{place_walk}
+use Rattle.kr_model.specs.pr_base.declared.path.WalkMode.{WalkMode}
+use Rattle.kr_model.specs.kr_tree.declared.place.Place.{Place}
+use Rattle.kr_model.specs.kr_view.Walk.{place_walk}
 use Rattle.kr_model.specs.Bare.{bare}
 use Rattle.kr_model.specs.HostView.{host_around_of}
 use Rattle.kr_model.specs.Peeks.{peeked_of}

@@ -2,17 +2,17 @@
 use Rattle.std.specs.Prelude.{◌≡◌, ◌≢◌, ℕ, true, List, [], ◌∷◌, Option, Some, None, Result, Ok, Err}
 use Rattle.std.specs.Fmt.{decimal}
 use Rattle.std.specs.Option.{option_and_then}
-use Rattle.pr_base.specs.Paths.{is_absolute}
-use Rattle.pr_base.specs.declared.errno.Errno.{Errno}
-use Rattle.kr_tree.specs.declared.place.Host.{Host}
-use Rattle.kr_tree.specs.declared.place.Host.TheVariants.{Node, Proc}
-use Rattle.kr_tree.specs.declared.place.ProcAt.{ProcAt}
-use Rattle.kr_tree.specs.declared.place.ProcAt.TheVariants.{SelfLink, Dir, Cwd, Root, Exe, FdDir, Fd}
-use Rattle.kr_view.specs.View.{Row, plain, root_place}
-use Rattle.kr_view.specs.Walk.{PlaceTarget, place_walk}
-use Rattle.kr_calls.specs.PathTable.{PathUse, path_at}
-use Rattle.kr_calls.specs.declared.request.Request.{Request}
-use Rattle.kr_calls.specs.declared.request.Request.TheVariants as call
+use Rattle.kr_model.specs.pr_base.Paths.{is_absolute}
+use Rattle.kr_model.specs.pr_base.declared.errno.Errno.{Errno}
+use Rattle.kr_model.specs.kr_tree.declared.place.Host.{Host}
+use Rattle.kr_model.specs.kr_tree.declared.place.Host.TheVariants.{Node, Proc}
+use Rattle.kr_model.specs.kr_tree.declared.place.ProcAt.{ProcAt}
+use Rattle.kr_model.specs.kr_tree.declared.place.ProcAt.TheVariants.{SelfLink, Dir, Cwd, Root, Exe, FdDir, Fd}
+use Rattle.kr_model.specs.kr_view.View.{Row, plain, root_place}
+use Rattle.kr_model.specs.kr_view.Walk.{PlaceTarget, place_walk}
+use Rattle.kr_model.specs.kr_calls.PathTable.{PathUse, path_at}
+use Rattle.kr_model.specs.kr_calls.declared.request.Request.{Request}
+use Rattle.kr_model.specs.kr_calls.declared.request.Request.TheVariants as call
 use Rattle.kr_model.specs.HostView.{base_text, cwd_name, exe_name, host_around_of, host_space}
 use Rattle.kr_model.specs.ProcessDirectory.{name_text}
 use Rattle.kr_model.specs.Seen.{Looked, Seen, WalkFails, ReadsLink, NamesDirectory}

@@ -1,8 +1,8 @@
 -- A state of a plain kernel: all its places are in the host's one mount, so its walks are those over the host's own view.
 use Rattle.std.specs.Prelude.{◌≡◌, ℕ, Some}
-use Rattle.kr_tree.specs.declared.place.Place.{Place}
-use Rattle.kr_view.specs.View.{plain}
-use Rattle.kr_files.specs.declared.opened.Opened.{Opened}
+use Rattle.kr_model.specs.kr_tree.declared.place.Place.{Place}
+use Rattle.kr_model.specs.kr_view.View.{plain}
+use Rattle.kr_model.specs.kr_files.declared.opened.Opened.{Opened}
 use Rattle.kr_model.specs.HostView.{host_around_of}
 use Rattle.kr_model.specs.Lawful.{IsLawful}
 use Rattle.kr_model.specs.ProcessDirectory.{around_of}

@@ -2,7 +2,7 @@
 //! words.
 
 use pr_base::{Bind, NoMemory, Texts};
-use pr_words::{Binds, Options, Slot, Slots, Why, WordsFault, read};
+use pr_words::{Options, Slot, WordsFault, read};
 use std::alloc::Global;
 use std::test::Fail;
 
@@ -282,38 +282,6 @@ fn read_as(alloc: Global, words: &[String]) -> Result<String, NoMemory> {
     }
 }
 
-#[test]
-fn words_that_break_a_rule(rt: HostRuntime) -> Result<(), Fail> {
-    for (line, want) in REFUSED {
-        let words = words_of(rt.alloc(), line)?;
-        let answer = read_as(rt.alloc(), words.as_slice())?;
-        assert!(rt; answer.as_str() == *want, "{line}: {answer}");
-    }
-    Ok(())
-}
-
-#[test]
-fn the_first_fault_counts(rt: HostRuntime) -> Result<(), Fail> {
-    for (line, want) in FIRST_FAULTS {
-        let words = words_of(rt.alloc(), line)?;
-        let answer = read_as(rt.alloc(), words.as_slice())?;
-        assert!(rt; answer.as_str() == *want, "{line}: {answer}");
-    }
-    Ok(())
-}
-
-#[test]
-fn words_that_are_accepted(rt: HostRuntime) -> Result<(), Fail> {
-    for (line, want) in ACCEPTED {
-        let words = words_of(rt.alloc(), line)?;
-        let answer = read_as(rt.alloc(), words.as_slice())?;
-        assert!(rt; answer.as_str() == *want, "{line}: {answer}");
-    }
-    let answer = read_as(rt.alloc(), &[])?;
-    assert!(rt; answer.as_str() == "/ / 1000000", "{answer}");
-    Ok(())
-}
-
 /// How many slots are read of a schedule of `count` slots.
 fn slots_read(alloc: Global, count: usize) -> Result<Option<usize>, NoMemory> {
     let mut word = String::from_str(alloc, "--schedule=0*1")?;
@@ -329,21 +297,18 @@ fn slots_read(alloc: Global, count: usize) -> Result<Option<usize>, NoMemory> {
 }
 
 #[test]
-fn a_schedule_has_1024_slots_at_most(rt: HostRuntime) -> Result<(), Fail> {
+fn words_are_read_as_they_must(rt: HostRuntime) -> Result<(), Fail> {
+    for table in [REFUSED, FIRST_FAULTS, ACCEPTED] {
+        for (line, want) in table {
+            let words = words_of(rt.alloc(), line)?;
+            let answer = read_as(rt.alloc(), words.as_slice())?;
+            assert!(rt; answer.as_str() == *want, "{line}: {answer}");
+        }
+    }
+    let answer = read_as(rt.alloc(), &[])?;
+    assert!(rt; answer.as_str() == "/ / 1000000", "{answer}");
+    // A schedule has 1024 slots at most.
     assert!(rt; slots_read(rt.alloc(), 1024)? == Some(1024));
     assert!(rt; slots_read(rt.alloc(), 1025)? == None);
-    Ok(())
-}
-
-#[test]
-fn lists_give_back_what_they_hold(rt: HostRuntime) -> Result<(), Fail> {
-    let words = words_of(rt.alloc(), "-b|a|-b|b|--schedule=1*2")?;
-    assert!(rt; words.len() < 100);
-    let options = read(rt.alloc(), words.as_slice())?;
-    let binds = Binds::from(options.binds.into_vec());
-    assert!(rt; binds.len() == 2 && !binds.is_empty());
-    let slots = Slots::from(options.schedule.into_vec());
-    assert!(rt; slots.len() == 1 && !slots.is_empty());
-    assert!(rt; Why::BadId.number() == 11);
     Ok(())
 }

@@ -6,8 +6,8 @@ ghost use Rattle.kr_calls.specs.Decoding.{dup_row, dup3_row, fcntl_row, ioctl_ro
 use crate::arguments::{has_other, int, long, word};
 use crate::request::Request;
 use bitflags::Flags;
-use pr_base::{Errno, OpenFlags};
 use rv_mem::Regs;
+use rv_mem::below::pr_base::{Errno, OpenFlags};
 
 /// dup(2).
 pub fn dup(regs: &Regs) -> Request

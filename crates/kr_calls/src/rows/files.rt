@@ -10,7 +10,7 @@ use crate::fault::CallFault;
 use crate::request::Request;
 use crate::rows::texts::path;
 use bitflags::Flags;
-use pr_base::{Bytes, Errno, OpenFlags};
+use rv_mem::below::pr_base::{Bytes, Errno, OpenFlags};
 use rv_mem::{Regs, Space};
 
 /// The bits of the access mode of openat(2); both of them are no mode.

@@ -5,7 +5,7 @@ ghost use Rattle.kr_calls.specs.Decoding.{brk_row, munmap_row, mmap_row, mprotec
 
 use crate::arguments::{is_unaligned, long};
 use crate::request::Request;
-use pr_base::Errno;
+use rv_mem::below::pr_base::Errno;
 use rv_mem::{PAGES_END, Regs};
 
 /// The kinds of mapping among the low four bits of `flags`, and MAP_PRIVATE, the one that is built.

@@ -9,7 +9,7 @@ use crate::fault::CallFault;
 use crate::request::Request;
 use crate::rows::texts::{path, two_texts};
 use bitflags::Flags;
-use pr_base::{AtFlags, Bytes, Errno};
+use rv_mem::below::pr_base::{AtFlags, Bytes, Errno};
 use rv_mem::{Regs, Space};
 
 /// mkdirat(2).

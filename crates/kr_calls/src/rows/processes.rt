@@ -5,8 +5,8 @@ ghost use Rattle.kr_calls.specs.Decoding.{getcwd_row, exit_row, exit_group_row, 
 
 use crate::arguments::{has_other, int, long, word};
 use crate::request::Request;
-use pr_base::Errno;
 use rv_mem::Regs;
+use rv_mem::below::pr_base::Errno;
 
 /// The flags of wait4(2): WNOHANG 1, WUNTRACED 2 and WCONTINUED 8.
 const WAIT_FLAGS: u32 = 0xB;

@@ -4,7 +4,7 @@ ghost use Rattle.kr_calls.specs.Decodes.{Decodes, Finds, WantsForTexts, named_te
 ghost use Rattle.kr_calls.specs.Decoding.{text_read, texts_read};
 
 use crate::fault::CallFault;
-use pr_base::{Bytes, Errno};
+use rv_mem::below::pr_base::{Bytes, Errno};
 use rv_mem::{Space, TextFault};
 
 /// The most bytes of a path or text, its zero among them.

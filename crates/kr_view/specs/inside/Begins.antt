@@ -1,6 +1,6 @@
 -- How the bytes begin that a walk didn't read yet.
 use Rattle.std.specs.Prelude.{ℕ, Bool, true, not, List, [], ◌∷◌}
-use Rattle.pr_base.specs.Paths.{is_slash}
+use Rattle.kr_tree.specs.pr_base.Paths.{is_slash}
 
 -- no slash stands in front
 abbrev pub begins_part : List ℕ → Bool

@@ -1,6 +1,6 @@
 -- What a component in the hands of a walk stands for.
-use Rattle.pr_base.specs.Paths.{Component}
-use Rattle.pr_base.specs.Paths as paths
+use Rattle.kr_tree.specs.pr_base.Paths.{Component}
+use Rattle.kr_tree.specs.pr_base.Paths as paths
 use Rattle.kr_view.specs.declared.component.Component.{Component as Held}
 use Rattle.kr_view.specs.declared.component.Component.TheVariants.{Dot, DotDot, Name}
 

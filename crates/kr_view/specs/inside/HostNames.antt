@@ -1,7 +1,7 @@
 -- How the host names of directories hang together.
 use Rattle.std.specs.Prelude.{ℕ, ◌≡◌, true, false, List, Some, None, drop, IfSome}
 use Rattle.std.specs.Option.{option_map}
-use Rattle.pr_base.specs.Paths.{AreNames}
+use Rattle.kr_tree.specs.pr_base.Paths.{AreNames}
 use Rattle.kr_tree.specs.Tree.{Tree, entry, above, body_is, is_directory}
 use Rattle.kr_tree.specs.Names.{host_name}
 use Rattle.kr_view.specs.Names.{below}

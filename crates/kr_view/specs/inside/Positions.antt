@@ -1,7 +1,7 @@
 -- What a walk keeps of where it stands.
 use Rattle.std.specs.Prelude.{ℕ, ◌≡◌, Bool, false, not, List, Option}
 use Rattle.std.specs.Option.{option_map}
-use Rattle.pr_base.specs.Paths.{below_root}
+use Rattle.kr_tree.specs.pr_base.Paths.{below_root}
 use Rattle.kr_tree.specs.declared.place.Host.{Host}
 use Rattle.kr_tree.specs.declared.place.ProcAt.{ProcAt}
 use Rattle.kr_tree.specs.declared.place.ProcAt.TheVariants.{SelfLink, Dir, Cwd, Root, Exe, FdDir, Fd}

@@ -1,6 +1,6 @@
 -- What is left of paths that a walk reads.
 use Rattle.std.specs.Prelude.{ℕ, Bool, List, [], ◌∷◌, ◌++◌, map, drop}
-use Rattle.pr_base.specs.Paths.{Component, component_of, has_parts, parts_of}
+use Rattle.kr_tree.specs.pr_base.Paths.{Component, component_of, has_parts, parts_of}
 use Rattle.kr_view.specs.declared.rest.Rest.{Rest}
 
 -- the bytes that weren't read

@@ -1,6 +1,6 @@
 -- What a walk has in its hands, as plain data: its surroundings, and what a component shows.
 use Rattle.std.specs.Prelude.{ℕ, List, Option}
-use Rattle.pr_base.specs.WalkFrame as frame
+use Rattle.kr_tree.specs.pr_base.WalkFrame as frame
 use Rattle.kr_tree.specs.declared.place.ProcAt.{ProcAt}
 use Rattle.kr_view.specs.declared.procs.Lead.{Lead}
 use Rattle.kr_view.specs.declared.surroundings.Surroundings.{Surroundings as Held}

@@ -1,6 +1,6 @@
 -- What is left to be read of a walk's paths.
 use Rattle.std.specs.Prelude.{ℕ, List, slice_range}
-use Rattle.pr_base.specs.Paths.{Component}
+use Rattle.kr_tree.specs.pr_base.Paths.{Component}
 use Rattle.kr_view.specs.declared.rests.Rests.{Rests}
 use Rattle.kr_view.specs.declared.rests.Taken.{Taken}
 use Rattle.kr_view.specs.inside.Rests.{stacked}

@@ -1,13 +1,13 @@
 -- One step of a walk: what is left of the walk behind it, and what it reached.
 use Rattle.std.specs.Prelude.{ℕ, ◌≡◌, ◌<◌, ◌+◌, ◌*◌, ◌^◌, Bool, false, List, [], ◌++◌, length, Some, Result, Ok, Err}
-use Rattle.pr_base.specs.Paths.{Component, component_of, components_of}
-use Rattle.pr_base.specs.WalkFrame.{begins_at, onward, walk_on}
-use Rattle.pr_base.specs.WalkLaws as laws
-use Rattle.pr_base.specs.declared.errno.Errno.{Errno}
-use Rattle.pr_base.specs.declared.errno.Errno.TheVariants.{ELOOP}
-use Rattle.pr_base.specs.declared.memory.NoMemory.{NoMemory}
-use Rattle.pr_base.specs.declared.path.Last.TheVariants as last
-use Rattle.pr_base.specs.declared.path.WalkMode.{WalkMode}
+use Rattle.kr_tree.specs.pr_base.Paths.{Component, component_of, components_of}
+use Rattle.kr_tree.specs.pr_base.WalkFrame.{begins_at, onward, walk_on}
+use Rattle.kr_tree.specs.pr_base.WalkLaws as laws
+use Rattle.kr_tree.specs.pr_base.declared.errno.Errno.{Errno}
+use Rattle.kr_tree.specs.pr_base.declared.errno.Errno.TheVariants.{ELOOP}
+use Rattle.kr_tree.specs.pr_base.declared.memory.NoMemory.{NoMemory}
+use Rattle.kr_tree.specs.pr_base.declared.path.Last.TheVariants as last
+use Rattle.kr_tree.specs.pr_base.declared.path.WalkMode.{WalkMode}
 use Rattle.kr_tree.specs.declared.place.Place.{Place}
 use Rattle.kr_view.specs.declared.target.Reach.{Reach}
 use Rattle.kr_view.specs.declared.target.Target.{Target}
@@ -23,7 +23,7 @@ use Rattle.kr_view.specs.Leads.{numbered}
 use Rattle.kr_view.specs.Component.{Surroundings, SeenPlace, seen_link}
 use Rattle.kr_view.specs.inside.Sights.{sight_seen}
 use Rattle.kr_view.specs.Walk.{PlaceTrail, PlaceTarget, looking}
-use Rattle.kr_view.specs.Reach.{Covers, look_reach, reach_after}
+use Rattle.kr_view.specs.Reach.{Covers, reach_after}
 use Rattle.kr_view.specs.Answers.{told, target_numbered}
 use Rattle.kr_view.specs.inside.Positions.{IsNamed}
 use Rattle.kr_view.specs.inside.Rests.{components_left}
@@ -69,10 +69,6 @@ left_by_last_jump number around mode walk at link c =
 
 -- ---- what is reached
 
--- what was reached after a look-up
-abbrev pub noted : Surroundings → Place ℕ → Component → Reach → Reach
-noted around p c r = look_reach around (record { place = p; component = c; is_last = false }) r
-
 -- where a path, or the text of a link, has no component
 abbrev pub here_target : Place ℕ → Bool → PlaceTarget
 here_target s slash = record { dir = s; name = []; last = last.Root; slash = slash; found = Some s; jumped = false }
@@ -104,7 +100,7 @@ IsFollowed number around walk text slash (Err fault.NoMemory) = Unit {0}
 -- the walk that goes on ends as the whole one does
 pub record GoesOn {M : Type 0} (number : M → ℕ) (around : Surroundings) (mode : WalkMode) (answer : Result PlaceTarget Errno) (whole old new : Reach) (on : Walk M) : Type 0 where
   pub ends : (trail_of number around mode on).answer ≡ answer
-  pub reaches : reach_after around (trail_of number around mode on) new ≡ whole
+  pub reaches : reach_after around mode (trail_of number around mode on) new ≡ whole
   pub covers : Covers new old
   pub named : IsNamed around.space.tree on.position.place.host on.position.name
 
@@ -118,7 +114,7 @@ HasOutcome number around mode answer whole old new (Err fault.NoMemory) = Covers
 
 -- what comes of a step where this trail is left
 abbrev pub IsOutcome : {M : Type 0} → (M → ℕ) → Surroundings → WalkMode → PlaceTrail → Reach → Reach → Result (Step M) WalkFault → Type 0
-IsOutcome number around mode trail old new result = HasOutcome number around mode trail.answer (reach_after around trail old) old new result
+IsOutcome number around mode trail old new result = HasOutcome number around mode trail.answer (reach_after around mode trail old) old new result
 
 -- a step that goes on leaves less work
 abbrev pub HasLess : {M : Type 0} → ℕ → Result (Step M) WalkFault → Type 0

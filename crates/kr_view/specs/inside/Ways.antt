@@ -1,6 +1,6 @@
 -- How a walk comes from a place to what a component shows, and what that says of host names.
 use Rattle.std.specs.Prelude.{ℕ, ◌≡◌, Bool, true, false, List, Option, Some, None}
-use Rattle.pr_base.specs.Paths.{Component, Name}
+use Rattle.kr_tree.specs.pr_base.Paths.{Component, Name}
 use Rattle.kr_tree.specs.declared.place.Host.{Host}
 use Rattle.kr_tree.specs.declared.place.Host.TheVariants.{Node, Proc}
 use Rattle.kr_tree.specs.declared.place.Place.{Place}

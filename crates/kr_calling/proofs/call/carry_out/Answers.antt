@@ -1,9 +1,9 @@
 use Rattle.std.proofs.Common.{rules, lit<, Err, subst}
-use Rattle.kr_view.specs.declared.target.WalkFault.{WalkFault}
-use Rattle.kr_model.specs.Walks.{targets_of}
-use Rattle.kr_ops.specs.Meaning.{meaning}
-use Rattle.kr_seen.specs.Numbered.{state_numbered}
-use Rattle.kr_seen.specs.CallWalks.{AreTargets}
+use Rattle.kr_walked.specs.kr_view.declared.target.WalkFault.{WalkFault}
+use Rattle.kr_walked.specs.kr_model.Walks.{targets_of}
+use Rattle.kr_walked.specs.kr_ops.Meaning.{meaning}
+use Rattle.kr_walked.specs.kr_seen.Numbered.{state_numbered}
+use Rattle.kr_walked.specs.kr_seen.CallWalks.{AreTargets}
 use Rattle.kr_calling.proofs.CallLemmas.{refused-call, runs-later}
 use Rattle.kr_calling.proofs.call.carry_out.Goals as goal
 

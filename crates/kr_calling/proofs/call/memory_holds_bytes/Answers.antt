@@ -1,11 +1,11 @@
 use Rattle.std.proofs.Common.{◌≡◌, Some, None, sym, subst, ◌∙◌}
 use Rattle.std.proofs.lemmas.Option.{none-some}
-use Rattle.kr_tree.proofs.NameLemmas.{some_is}
-use Rattle.kr_model.specs.State.{Image, Process}
-use Rattle.kr_allowed.specs.Allowed.{HoldsBytes}
-use Rattle.kr_ops.specs.Meaning.{process_meaning}
-use Rattle.kr_ops.proofs.ListLemmas.{none-found}
-use Rattle.kr_ops.proofs.OpeningLemmas.{found}
+use Rattle.kr_walked.proofs.kr_tree.NameLemmas.{some_is}
+use Rattle.kr_walked.specs.kr_model.State.{Image, Process}
+use Rattle.kr_walked.specs.kr_allowed.Allowed.{HoldsBytes}
+use Rattle.kr_walked.specs.kr_ops.Meaning.{process_meaning}
+use Rattle.kr_walked.proofs.kr_ops.ListLemmas.{none-found}
+use Rattle.kr_walked.proofs.kr_ops.OpeningLemmas.{found}
 use Rattle.kr_calling.proofs.call.memory_holds_bytes.Goals as goal
 
 pub returns-in-Some : goal.returns-in-Some

@@ -1,5 +1,5 @@
 use Rattle.std.proofs.Common.{◌≡◌, ◌+◌, ◌-◌, ◌≤◌, true, length}
-use Rattle.rv_mem.specs.Actions.{carried_out}
+use Rattle.kr_calls.specs.rv_mem.Actions.{carried_out}
 use Rattle.kr_calls.specs.Expansion.{bytes_with_ends}
 use Rattle.kr_exec.specs.Lists.{texts_from, most_texts}
 use Rattle.kr_exec.proofs.ListLemmas.{front}

@@ -1,5 +1,5 @@
 use Rattle.std.proofs.Common.{Err, ap, ◌∙◌, subst}
-use Rattle.rv_mem.specs.Actions.{carried_out}
+use Rattle.kr_calls.specs.rv_mem.Actions.{carried_out}
 use Rattle.kr_exec.specs.Lists.{Reads, text_at}
 use Rattle.kr_exec.proofs.ListLemmas.{answered, text_reads}
 use Rattle.kr_exec.proofs.lists.text_at.Goals as goal

@@ -1,9 +1,9 @@
 use Rattle.std.proofs.Common.{◌≡◌, true, sym, subst, arith}
 use Rattle.std.proofs.lemmas.Result.{err_from_is_err_and}
-use Rattle.kr_view.specs.declared.target.Target.{Target}
+use Rattle.kr_exec.specs.kr_view.declared.target.Target.{Target}
 use Rattle.kr_exec.specs.Finding.{is_program_found}
 use Rattle.kr_exec.specs.declared.plan.ExecPlan.{ExecPlan}
-use Rattle.kr_model.specs.State as model
+use Rattle.kr_perform.specs.kr_model.State as model
 use Rattle.kr_execve.proofs.ExitLemmas.{exit-find, exit-plan, exit-put, exit-read, exit-refused, read-lawful, ready}
 use Rattle.kr_execve.proofs.executing.replace.Goals as goal
 

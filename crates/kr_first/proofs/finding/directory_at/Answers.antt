@@ -1,13 +1,13 @@
 use Rattle.std.proofs.Common.{ℕ, Err, sym, ap, subst, ◌∙◌}
 use Rattle.std.specs.Option.{option_and_then}
 use Rattle.pr_base.specs.declared.path.WalkMode.TheVariants.{Look}
-use Rattle.kr_tree.specs.declared.place.Place.{Place}
-use Rattle.kr_view.specs.declared.target.Target.{Target}
-use Rattle.kr_view.specs.declared.target.WalkFault.{WalkFault}
-use Rattle.kr_view.specs.Answers.{IsReached}
-use Rattle.kr_view.specs.Leads.{numbered}
-use Rattle.kr_view.specs.Reach.{reach_after}
-use Rattle.kr_view.specs.Walk.{place_walk}
+use Rattle.kr_start.specs.kr_tree.declared.place.Place.{Place}
+use Rattle.kr_execve.specs.kr_view.declared.target.Target.{Target}
+use Rattle.kr_execve.specs.kr_view.declared.target.WalkFault.{WalkFault}
+use Rattle.kr_execve.specs.kr_view.Answers.{IsReached}
+use Rattle.kr_execve.specs.kr_view.Leads.{numbered}
+use Rattle.kr_execve.specs.kr_view.Reach.{reach_after}
+use Rattle.kr_execve.specs.kr_view.Walk.{place_walk}
 use Rattle.kr_first.specs.Starting.{around, directory_found, if_directory}
 use Rattle.kr_first.proofs.finding.directory_at.Goals as goal
 
@@ -23,11 +23,11 @@ returns-in-Ok-clause-place g c =
 pub returns-in-Ok-clause-reach : goal.returns-in-Ok-clause-reach
 returns-in-Ok-clause-reach g c =
     let through = around (g.P.Places.mounts c.args.places.now) c.args.tree.now c.args.user in
-    c.in-Ok.ensures.reach ∙ ap (λ (base : Place ℕ). reach_after through (place_walk through Look base c.args.path.now) c.args.reach.now) c.root.ensures
+    c.in-Ok.ensures.reach ∙ ap (λ (base : Place ℕ). reach_after through Look (place_walk through Look base c.args.path.now) c.args.reach.now) c.root.ensures
 
 pub returns-in-Err-Err-clause-reach : goal.returns-in-Err-Err-clause-reach
 returns-in-Err-Err-clause-reach g c =
     let through = around (g.P.Places.mounts c.args.places.now) c.args.tree.now c.args.user in
     let begins = numbered g.P.Places.number c.root.result in
-    subst (λ (f : WalkFault). IsReached {T = Target g.row.P-Mount.Denot} through (place_walk through Look begins c.args.path.now) c.args.reach.now c.resolve.new.reach (Err f)) c.in-Err-Err.field-0-is c.in-Err-Err.ensures.reach
-    ∙ ap (λ (base : Place ℕ). reach_after through (place_walk through Look base c.args.path.now) c.args.reach.now) c.root.ensures
+    subst (λ (f : WalkFault). IsReached {T = Target g.row.P-Mount.Denot} through Look (place_walk through Look begins c.args.path.now) c.args.reach.now c.resolve.new.reach (Err f)) c.in-Err-Err.field-0-is c.in-Err-Err.ensures.reach
+    ∙ ap (λ (base : Place ℕ). reach_after through Look (place_walk through Look base c.args.path.now) c.args.reach.now) c.root.ensures

@@ -1,11 +1,11 @@
 use Rattle.std.proofs.Common.{◌≡◌, true, sym, ap, subst, ◌∙◌}
 use Rattle.std.specs.Prelude.{Result}
 use Rattle.pr_base.specs.declared.errno.Errno.{Errno}
-use Rattle.kr_exec.specs.Answers.{plan_numbered, Answers}
-use Rattle.kr_exec.specs.Exec.{exec_reach}
-use Rattle.kr_exec.specs.declared.plan.ExecPlan.{ExecPlan}
-use Rattle.kr_view.specs.Answers.{target_numbered}
-use Rattle.kr_view.specs.Leads.{numbered}
+use Rattle.kr_execve.specs.kr_exec.Answers.{plan_numbered, Answers}
+use Rattle.kr_execve.specs.kr_exec.Exec.{exec_reach}
+use Rattle.kr_execve.specs.kr_exec.declared.plan.ExecPlan.{ExecPlan}
+use Rattle.kr_execve.specs.kr_view.Answers.{target_numbered}
+use Rattle.kr_execve.specs.kr_view.Leads.{numbered}
 use Rattle.kr_first.specs.Starting.{around, is_walked}
 use Rattle.kr_first.proofs.DefinitionLemmas.{planned-is, reach-is, reached-on}
 use Rattle.kr_first.proofs.StandingLemmas.{loadable-on}

@@ -2,9 +2,9 @@ use Rattle.std.proofs.Common.{◌≡◌, ℕ, List, sym, ap, subst, arith, ◌�
 use Rattle.std.proofs.lemmas.Result.{err_from_is_err_and}
 use Rattle.std.specs.Option.{option_map}
 use Rattle.std.specs.Prelude.{Ok}
-use Rattle.kr_tree.specs.Lawful.{AreBytes}
-use Rattle.kr_view.specs.Leads.{numbered}
-use Rattle.kr_exec.specs.Answers.{plan_numbered}
+use Rattle.kr_start.specs.kr_tree.Lawful.{AreBytes}
+use Rattle.kr_execve.specs.kr_view.Leads.{numbered}
+use Rattle.kr_execve.specs.kr_exec.Answers.{plan_numbered}
 use Rattle.kr_start.specs.Start.{first_of}
 use Rattle.kr_first.specs.Starting.{directory_at, plan_of}
 use Rattle.kr_first.proofs.BeginLemmas.{can-begin, is-ready, runs-on, state-is}

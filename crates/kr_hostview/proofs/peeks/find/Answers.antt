@@ -1,5 +1,5 @@
-use Rattle.kr_model.specs.Peeks.{answer_along}
-use Rattle.kr_ops.specs.Meaning.{meaning}
+use Rattle.kr_seen.specs.kr_model.Peeks.{answer_along}
+use Rattle.kr_seen.specs.kr_ops.Meaning.{meaning}
 use Rattle.kr_hostview.proofs.WalkLemmas.{is-found}
 use Rattle.kr_hostview.proofs.peeks.find.Goals as goal
 

@@ -1,7 +1,7 @@
 use Rattle.std.proofs.Common.{sym, subst, Ok}
 use Rattle.pr_base.specs.Peeks.{IsPeeked}
-use Rattle.kr_model.specs.Peeks.{answer_along}
-use Rattle.kr_ops.specs.Meaning.{meaning}
+use Rattle.kr_seen.specs.kr_model.Peeks.{answer_along}
+use Rattle.kr_seen.specs.kr_ops.Meaning.{meaning}
 use Rattle.kr_hostview.specs.Peeking.{IsFound}
 use Rattle.kr_hostview.proofs.WalkLemmas.{kind-found}
 use Rattle.kr_hostview.proofs.peeks.kind.Goals as goal

@@ -1,7 +1,7 @@
 use Rattle.std.proofs.Common.{sym, subst}
 use Rattle.pr_base.specs.Peeks.{IsPeeked}
-use Rattle.kr_model.specs.Peeks.{link_text_at}
-use Rattle.kr_ops.specs.Meaning.{meaning}
+use Rattle.kr_seen.specs.kr_model.Peeks.{link_text_at}
+use Rattle.kr_seen.specs.kr_ops.Meaning.{meaning}
 use Rattle.kr_hostview.proofs.peeks.text_of.Goals as goal
 
 pub returns-in-Proc : goal.returns-in-Proc

@@ -1,4 +1,4 @@
-use Rattle.kr_ops.specs.Meaning.{meaning}
+use Rattle.kr_seen.specs.kr_ops.Meaning.{meaning}
 use Rattle.kr_seen.proofs.FindLemmas.{at-most}
 use Rattle.kr_hostview.proofs.LawLemmas.{names-told}
 use Rattle.kr_hostview.proofs.peeks.told_names_are_texts.Goals as goal

@@ -1,4 +1,4 @@
-use Rattle.kr_view.specs.Leads.{numbered}
+use Rattle.kr_seen.specs.kr_view.Leads.{numbered}
 use Rattle.kr_hostview.specs.OnHost.{number}
 use Rattle.kr_hostview.proofs.WalkLemmas.{walked-on-host}
 use Rattle.kr_hostview.proofs.peeks.walked.Goals as goal

@@ -1,4 +1,4 @@
-use Rattle.kr_ops.specs.Meaning.{meaning}
+use Rattle.kr_seen.specs.kr_ops.Meaning.{meaning}
 use Rattle.kr_hostview.proofs.HostLemmas.{plain-mounts}
 use Rattle.kr_hostview.proofs.target.carries_one_mount.Goals as goal
 

@@ -1,6 +1,6 @@
 use Rattle.std.proofs.Common.{subst, sym}
-use Rattle.kr_view.specs.View.{plain}
-use Rattle.kr_ops.specs.Meaning.{meaning}
+use Rattle.kr_seen.specs.kr_view.View.{plain}
+use Rattle.kr_seen.specs.kr_ops.Meaning.{meaning}
 use Rattle.kr_seen.specs.Standing.{IsStanding}
 use Rattle.kr_hostview.specs.OnHost.{number}
 use Rattle.kr_hostview.proofs.HostLemmas.{standing}

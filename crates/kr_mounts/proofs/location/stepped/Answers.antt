@@ -1,5 +1,5 @@
 use Rattle.std.proofs.Common.{◌∷◌, ◌++◌, sym, ap, subst, ◌∙◌}
-use Rattle.pr_base.specs.Paths.{Component, IsComponent, IsPart, slash}
+use Rattle.pt_bind.specs.pr_base.Paths.{Component, IsComponent, IsPart, slash}
 use Rattle.pt_bind.specs.Binding.{names_of}
 use Rattle.kr_mounts.specs.Locations.{stepped}
 use Rattle.kr_mounts.proofs.CutLemmas.{below_parts, below_spelled, pushed_below, pushed_names}

@@ -1,6 +1,6 @@
 use Rattle.std.proofs.Common.{◌≡◌, ◌+◌, length}
-use Rattle.pr_base.specs.Parts.{parts_left}
-use Rattle.pr_base.specs.Paths.{parts_of}
+use Rattle.pt_bind.specs.pr_base.Parts.{parts_left}
+use Rattle.pt_bind.specs.pr_base.Paths.{parts_of}
 use Rattle.kr_mounts.proofs.order.count.Given as goal
 
 abbrev pub invariant-loop-name : goal.invariant-loop-name

@@ -1,7 +1,7 @@
 use Rattle.std.proofs.Common.{◌≡◌, ◌<◌, ◌∷◌, ◌++◌, [], ◌+◌, List, ℕ, All, Ok, length, drop, get_or, map, sym, ap, subst, ◌∙◌}
 use Rattle.std.proofs.lemmas.List.{drop_all, drop_more, map-append}
 use Rattle.std.proofs.lemmas.List.Elements.{All-nil, All-push}
-use Rattle.pr_base.specs.declared.bind.Bind.{Bind}
+use Rattle.pt_bind.specs.pr_base.declared.bind.Bind.{Bind}
 use Rattle.kr_mounts.specs.MountTable.{and_then, sourced, sources}
 use Rattle.kr_mounts.specs.Passes.{HasSource, sourced_told}
 use Rattle.kr_mounts.proofs.PassLemmas.{all_done, as_next, none_before, one_more, told_error, told_memory}

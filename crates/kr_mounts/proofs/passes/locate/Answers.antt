@@ -1,5 +1,5 @@
 use Rattle.std.proofs.Common.{Ok, Result, sym, ap, ◌∙◌}
-use Rattle.pr_base.specs.Texts.{Text}
+use Rattle.pt_bind.specs.pr_base.Texts.{Text}
 use Rattle.kr_mounts.specs.Found.{HasTexts, located_told, source_told}
 use Rattle.kr_mounts.specs.Locations.{location_by}
 use Rattle.kr_mounts.specs.MountTable.{Located, Refusal, and_then, located, told}

@@ -1,6 +1,6 @@
 use Rattle.std.proofs.Common.{◌≡◌, Some, sym, ap, subst, ◌∙◌, inr}
 use Rattle.std.proofs.lemmas.Result.{IfOk-weaker}
-use Rattle.pr_base.specs.declared.bind.Bound.{Bound}
+use Rattle.pt_bind.specs.pr_base.declared.bind.Bound.{Bound}
 use Rattle.pt_bind.specs.Binding.{names_of}
 use Rattle.kr_mounts.specs.Bounds.{IsSpelled}
 use Rattle.kr_mounts.specs.Found.{located_told, source_told}

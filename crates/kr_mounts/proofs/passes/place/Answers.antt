@@ -1,6 +1,6 @@
 use Rattle.std.proofs.Common.{List, ℕ, Ok, Err, sym, subst}
 use Rattle.pt_bind.specs.Binding.{IsWritten}
-use Rattle.pr_base.specs.Paths.{parts_of}
+use Rattle.pt_bind.specs.pr_base.Paths.{parts_of}
 use Rattle.kr_mounts.specs.Found.{located_told}
 use Rattle.kr_mounts.specs.Passes.{standing}
 use Rattle.kr_mounts.specs.Stored.{table_of}

@@ -1,5 +1,5 @@
 use Rattle.std.proofs.Common.{◌≡◌, ◌∷◌, ◌++◌, ◌∙◌, ap}
-use Rattle.pr_base.specs.Paths.{slash, below_root}
+use Rattle.pt_bind.specs.pr_base.Paths.{slash, below_root}
 use Rattle.pt_bind.specs.Binding.{names_of}
 use Rattle.pt_bind.proofs.ByteLemmas.{spelled_parts}
 use Rattle.kr_mounts.proofs.CutLemmas.{pushed_names, pushed_written}

@@ -1,5 +1,5 @@
 use Rattle.std.proofs.Common.{◌≡◌, ◌≢◌, ◌≤◌, ◌<◌, ℕ, List, ◌∷◌, ◌++◌, length, All}
-use Rattle.pr_base.specs.Paths.{slash}
+use Rattle.pt_bind.specs.pr_base.Paths.{slash}
 use Rattle.kr_mounts.proofs.text.last_slash.Given as goal
 
 abbrev pub invariant-loop-end : goal.invariant-loop-end

@@ -1,5 +1,5 @@
 use Rattle.std.proofs.Common.{◌≡◌, take, drop, ap, ◌∙◌}
-use Rattle.pr_base.specs.Paths.{below_root}
+use Rattle.pt_bind.specs.pr_base.Paths.{below_root}
 use Rattle.pt_bind.specs.Binding.{names_of}
 use Rattle.kr_mounts.proofs.CutLemmas.{below_names, below_parts, below_spelled, cut_above, cut_parts}
 use Rattle.kr_mounts.proofs.text.without_last.Goals as goal

@@ -1,11 +1,11 @@
 use Rattle.std.proofs.Common.{refl, sym, ap, ◌∙◌, true}
-use Rattle.pr_base.specs.declared.errno.Errno.TheVariants.{ELOOP}
-use Rattle.kr_tree.specs.declared.place.Host.TheVariants as host
-use Rattle.kr_model.specs.FileRows.{open_directory, open_host}
-use Rattle.kr_model.specs.Known.{known}
-use Rattle.kr_model.specs.State.{image_layout}
-use Rattle.kr_ops.specs.Meaning.{meaning}
-use Rattle.kr_seen.proofs.CarryLemmas.{by-refusal}
+use Rattle.kr_targets.specs.pr_base.declared.errno.Errno.TheVariants.{ELOOP}
+use Rattle.kr_targets.specs.kr_tree.declared.place.Host.TheVariants as host
+use Rattle.kr_targets.specs.kr_model.FileRows.{open_directory, open_host}
+use Rattle.kr_targets.specs.kr_model.Known.{known}
+use Rattle.kr_targets.specs.kr_model.State.{image_layout}
+use Rattle.kr_targets.specs.kr_ops.Meaning.{meaning}
+use Rattle.kr_targets.proofs.kr_seen.CarryLemmas.{by-refusal}
 use Rattle.kr_targets.specs.Told.{looked_told}
 use Rattle.kr_names.proofs.NodeLemmas.{if-false, if-true}
 use Rattle.kr_names.proofs.RowLemmas.{by-row}

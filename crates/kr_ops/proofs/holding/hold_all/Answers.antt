@@ -1,8 +1,8 @@
 use Rattle.std.proofs.Common.{◌≡◌, ◌<◌, arith, subst, sym, Option}
 use Rattle.std.specs.Prelude.{IfSome}
-use Rattle.kr_tree.specs.Holds.{holds_at}
-use Rattle.kr_tree.specs.declared.place.Place.{Place}
-use Rattle.kr_files.specs.Descriptors.{meanings}
+use Rattle.kr_lawful.specs.kr_tree.Holds.{holds_at}
+use Rattle.kr_lawful.specs.kr_tree.declared.place.Place.{Place}
+use Rattle.kr_lawful.specs.kr_files.Descriptors.{meanings}
 use Rattle.kr_lawful.specs.kr_model.Applied.{held_for}
 use Rattle.kr_lawful.specs.kr_model.State.{inode_of}
 use Rattle.kr_ops.proofs.ForkLemmas.{none-held, next-held, there-for, fits-for}

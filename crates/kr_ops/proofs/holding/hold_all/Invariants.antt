@@ -1,5 +1,5 @@
 use Rattle.std.proofs.Common.{◌≡◌}
-use Rattle.kr_files.specs.Descriptors.{meanings}
+use Rattle.kr_lawful.specs.kr_files.Descriptors.{meanings}
 use Rattle.kr_lawful.specs.kr_model.Applied.{held_for}
 use Rattle.kr_ops.proofs.holding.hold_all.Given as goal
 

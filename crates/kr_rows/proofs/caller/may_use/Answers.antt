@@ -1,7 +1,7 @@
 use Rattle.std.proofs.Common.{sym, ap, ◌∙◌}
-use Rattle.rv_mem.specs.Memory.{Memory}
-use Rattle.rv_mem.specs.Pages.{allows_all}
-use Rattle.kr_ops.proofs.OpeningLemmas.{not-living}
+use Rattle.kr_seen.specs.rv_mem.Memory.{Memory}
+use Rattle.kr_seen.specs.rv_mem.Pages.{allows_all}
+use Rattle.kr_seen.proofs.kr_ops.OpeningLemmas.{not-living}
 use Rattle.kr_rows.proofs.UsingLemmas.{memory-at}
 use Rattle.kr_rows.proofs.caller.may_use.Goals as goal
 

@@ -1,9 +1,9 @@
 use Rattle.std.proofs.Common.{◌≡◌, true, false, ap, ◌∙◌, length}
 use Rattle.std.proofs.lemmas.Result.{on_ok_weaker, on_err_weaker}
-use Rattle.rv_mem.specs.Memory.{Memory, after_read}
-use Rattle.rv_mem.specs.Pages.{allows_all, bytes_from}
-use Rattle.rv_mem.specs.declared.rights.Use.TheVariants.{Read}
-use Rattle.kr_ops.proofs.OpeningLemmas.{not-living}
+use Rattle.kr_seen.specs.rv_mem.Memory.{Memory, after_read}
+use Rattle.kr_seen.specs.rv_mem.Pages.{allows_all, bytes_from}
+use Rattle.kr_seen.specs.rv_mem.declared.rights.Use.TheVariants.{Read}
+use Rattle.kr_seen.proofs.kr_ops.OpeningLemmas.{not-living}
 use Rattle.kr_rows.proofs.UsingLemmas.{allowed-where-ok, as-it-was, memory-at, on-ok-both, reads-now, refused-where-err}
 use Rattle.kr_rows.proofs.caller.read_into.Goals as goal
 

@@ -1,6 +1,6 @@
 use Rattle.std.proofs.Common.{Err, refl, ap, ◌∙◌, []}
-use Rattle.pr_base.specs.declared.errno.Errno.TheVariants.{EFAULT}
-use Rattle.kr_model.specs.Reply.{done, refuse}
+use Rattle.kr_seen.specs.pr_base.declared.errno.Errno.TheVariants.{EFAULT}
+use Rattle.kr_seen.specs.kr_model.Reply.{done, refuse}
 use Rattle.kr_rows.proofs.UsingLemmas.{begins, refused-after, unwritable}
 use Rattle.kr_rows.proofs.caller.tell.Goals as goal
 

@@ -1,11 +1,11 @@
 use Rattle.std.proofs.Common.{◌≡◌, true, false, sym, subst, length}
 use Rattle.std.specs.Prelude.{◌↔◌, IsErrOf}
 use Rattle.std.proofs.lemmas.Result.{on_ok_weaker, on_err_weaker}
-use Rattle.rv_mem.specs.Memory.{Memory, with_pages}
-use Rattle.rv_mem.specs.Pages.{allows_all, written}
-use Rattle.rv_mem.specs.declared.fault.StoreFault.TheVariants.{BadAddress}
-use Rattle.rv_mem.specs.declared.rights.Use.TheVariants.{Write}
-use Rattle.kr_ops.proofs.OpeningLemmas.{not-living}
+use Rattle.kr_seen.specs.rv_mem.Memory.{Memory, with_pages}
+use Rattle.kr_seen.specs.rv_mem.Pages.{allows_all, written}
+use Rattle.kr_seen.specs.rv_mem.declared.fault.StoreFault.TheVariants.{BadAddress}
+use Rattle.kr_seen.specs.rv_mem.declared.rights.Use.TheVariants.{Write}
+use Rattle.kr_seen.proofs.kr_ops.OpeningLemmas.{not-living}
 use Rattle.kr_rows.proofs.UsingLemmas.{allowed-unless, as-it-was, memory-at, on-ok-both, writes-now}
 use Rattle.kr_rows.proofs.caller.write.Goals as goal
 

@@ -1,11 +1,11 @@
 use Rattle.std.proofs.Common.{refl, sym, ap, ◌∙◌, [], ◌∷◌, w32}
 use Rattle.std.proofs.Math.Facts.{to_z-of_z}
-use Rattle.pr_base.specs.declared.errno.Errno.TheVariants.{EBADF}
-use Rattle.kr_model.specs.Change.{CloseDescriptor}
-use Rattle.kr_model.specs.Known.{known}
-use Rattle.kr_model.specs.Reply.{answers, done}
-use Rattle.kr_model.specs.State as model
-use Rattle.kr_ops.specs.Meaning.{meaning}
+use Rattle.kr_seen.specs.pr_base.declared.errno.Errno.TheVariants.{EBADF}
+use Rattle.kr_seen.specs.kr_model.Change.{CloseDescriptor}
+use Rattle.kr_seen.specs.kr_model.Known.{known}
+use Rattle.kr_seen.specs.kr_model.Reply.{answers, done}
+use Rattle.kr_seen.specs.kr_model.State as model
+use Rattle.kr_seen.specs.kr_ops.Meaning.{meaning}
 use Rattle.kr_rows.specs.Performing.{open_number}
 use Rattle.kr_rows.proofs.DescriptorLemmas.{not-open, is-open}
 use Rattle.kr_rows.proofs.PerformLemmas.{by-refusal, by-reply}

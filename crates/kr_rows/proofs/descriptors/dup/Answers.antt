@@ -1,13 +1,13 @@
 use Rattle.std.proofs.Common.{refl, sym, ap, ◌∙◌, [], ◌∷◌, Err, false, w32}
 use Rattle.std.proofs.Math.Facts.{to_z-of_z}
-use Rattle.pr_base.specs.declared.errno.Errno.TheVariants.{EBADF, EMFILE}
-use Rattle.kr_files.specs.Descriptors.{lowest_free}
-use Rattle.kr_model.specs.Change.{CopyDescriptor}
-use Rattle.kr_model.specs.DescriptorRows.{copy_under}
-use Rattle.kr_model.specs.Known.{known}
-use Rattle.kr_model.specs.Reply.{answers}
-use Rattle.kr_model.specs.State as model
-use Rattle.kr_ops.specs.Meaning.{meaning}
+use Rattle.kr_seen.specs.pr_base.declared.errno.Errno.TheVariants.{EBADF, EMFILE}
+use Rattle.kr_seen.specs.kr_files.Descriptors.{lowest_free}
+use Rattle.kr_seen.specs.kr_model.Change.{CopyDescriptor}
+use Rattle.kr_seen.specs.kr_model.DescriptorRows.{copy_under}
+use Rattle.kr_seen.specs.kr_model.Known.{known}
+use Rattle.kr_seen.specs.kr_model.Reply.{answers}
+use Rattle.kr_seen.specs.kr_model.State as model
+use Rattle.kr_seen.specs.kr_ops.Meaning.{meaning}
 use Rattle.kr_rows.specs.Performing.{open_number}
 use Rattle.kr_rows.proofs.DescriptorLemmas.{not-open, is-open, lowest-known}
 use Rattle.kr_rows.proofs.PerformLemmas.{by-refusal, by-reply}

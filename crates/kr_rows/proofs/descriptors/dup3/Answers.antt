@@ -1,15 +1,15 @@
 use Rattle.std.proofs.Common.{refl, sym, ap, ◌∙◌, [], ◌∷◌, w32, nat_lt, Option, Some, None, ℕ, ℤ, if◌then◌else◌}
 use Rattle.std.specs.Option.{option_and_then}
 use Rattle.std.proofs.Math.Facts.{to_z-of_z}
-use Rattle.pr_base.specs.declared.errno.Errno.TheVariants.{EBADF}
-use Rattle.kr_calls.specs.Arguments.{has}
-use Rattle.kr_model.specs.Asking.{descriptor_number}
-use Rattle.kr_model.specs.Change.{CopyDescriptor}
-use Rattle.kr_model.specs.DescriptorRows.{copy_to, o_cloexec}
-use Rattle.kr_model.specs.Known.{known}
-use Rattle.kr_model.specs.Reply.{answers, done}
-use Rattle.kr_model.specs.State as model
-use Rattle.kr_ops.specs.Meaning.{meaning}
+use Rattle.kr_seen.specs.pr_base.declared.errno.Errno.TheVariants.{EBADF}
+use Rattle.kr_seen.specs.kr_calls.Arguments.{has}
+use Rattle.kr_seen.specs.kr_model.Asking.{descriptor_number}
+use Rattle.kr_seen.specs.kr_model.Change.{CopyDescriptor}
+use Rattle.kr_seen.specs.kr_model.DescriptorRows.{copy_to, o_cloexec}
+use Rattle.kr_seen.specs.kr_model.Known.{known}
+use Rattle.kr_seen.specs.kr_model.Reply.{answers, done}
+use Rattle.kr_seen.specs.kr_model.State as model
+use Rattle.kr_seen.specs.kr_ops.Meaning.{meaning}
 use Rattle.kr_rows.specs.Performing.{open_number}
 use Rattle.kr_rows.proofs.DescriptorLemmas.{a-number, is-open, no-number, not-open}
 use Rattle.kr_rows.proofs.PerformLemmas.{by-refusal, by-reply}

@@ -1,11 +1,11 @@
 use Rattle.std.proofs.Common.{◌≡◌, ℕ, Err, refl, sym, ap, ◌∙◌, [], ◌∷◌}
 use Rattle.std.proofs.lemmas.Option.{same_Some}
-use Rattle.pr_base.specs.declared.errno.Errno.TheVariants.{EFAULT, EMFILE}
-use Rattle.kr_calls.specs.Arguments.{has}
-use Rattle.kr_model.specs.Change.{MakePipe}
-use Rattle.kr_model.specs.DescriptorRows.{o_cloexec}
-use Rattle.kr_model.specs.Reply.{answers, done, refuse}
-use Rattle.kr_ops.specs.Meaning.{meaning}
+use Rattle.kr_seen.specs.pr_base.declared.errno.Errno.TheVariants.{EFAULT, EMFILE}
+use Rattle.kr_seen.specs.kr_calls.Arguments.{has}
+use Rattle.kr_seen.specs.kr_model.Change.{MakePipe}
+use Rattle.kr_seen.specs.kr_model.DescriptorRows.{o_cloexec}
+use Rattle.kr_seen.specs.kr_model.Reply.{answers, done, refuse}
+use Rattle.kr_seen.specs.kr_ops.Meaning.{meaning}
 use Rattle.kr_rows.proofs.PerformLemmas.{by-refusal}
 use Rattle.kr_rows.proofs.PipeLemmas.{none-made, one-made, pair-stays}
 use Rattle.kr_rows.proofs.UsingLemmas.{begins, by-uses, goes-on, refused-after, unwritable, writes-allowed}

@@ -1,5 +1,5 @@
 use Rattle.std.proofs.Common.{sym, arith}
-use Rattle.kr_ops.specs.Meaning.{meaning}
+use Rattle.kr_seen.specs.kr_ops.Meaning.{meaning}
 use Rattle.kr_rows.proofs.PipeLemmas.{lowest-below}
 use Rattle.kr_rows.proofs.descriptors.told_numbers.Goals as goal
 

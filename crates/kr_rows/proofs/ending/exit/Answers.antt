@@ -1,9 +1,9 @@
 use Rattle.std.proofs.Common.{◌*◌, refl, sym, ap, ◌∙◌, [], ◌∷◌, w32, pos, unsigned_abs}
 use Rattle.std.specs.Int.{int_rem_euclid}
 use Rattle.std.proofs.Math.Facts.{to_z-of_z}
-use Rattle.kr_model.specs.Change.{End}
-use Rattle.kr_model.specs.Reply.{ends}
-use Rattle.kr_model.specs.declared.outcome.Outcome.TheVariants.{Ended}
+use Rattle.kr_seen.specs.kr_model.Change.{End}
+use Rattle.kr_seen.specs.kr_model.Reply.{ends}
+use Rattle.kr_seen.specs.kr_model.declared.outcome.Outcome.TheVariants.{Ended}
 use Rattle.kr_rows.proofs.PerformLemmas.{by-reply}
 use Rattle.kr_rows.proofs.ending.exit.Goals as goal
 

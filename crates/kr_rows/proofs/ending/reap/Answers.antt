@@ -1,9 +1,9 @@
 use Rattle.std.proofs.Common.{◌&&◌, Bool, cond, lit<, refl, sym, ap, ◌∙◌, [], ◌∷◌, replicate, if◌then◌else◌}
-use Rattle.pr_base.specs.declared.errno.Errno.TheVariants.{EFAULT}
-use Rattle.kr_model.specs.Change.{Reap}
-use Rattle.kr_model.specs.ProcessRows.{null_or_writable, reap, tell_end, unless_null, usage_size}
-use Rattle.kr_model.specs.Reply.{Replying, answers, done, refuse}
-use Rattle.kr_ops.specs.Meaning.{ended_meaning}
+use Rattle.kr_seen.specs.pr_base.declared.errno.Errno.TheVariants.{EFAULT}
+use Rattle.kr_seen.specs.kr_model.Change.{Reap}
+use Rattle.kr_seen.specs.kr_model.ProcessRows.{null_or_writable, reap, tell_end, unless_null, usage_size}
+use Rattle.kr_seen.specs.kr_model.Reply.{Replying, answers, done, refuse}
+use Rattle.kr_seen.specs.kr_ops.Meaning.{ended_meaning}
 use Rattle.kr_rows.proofs.UsingLemmas.{begins, by-uses, goes-on, refused-after}
 use Rattle.kr_rows.proofs.ending.reap.Goals as goal
 

@@ -2,14 +2,14 @@ use Rattle.std.proofs.Common.{◌≡◌, ◌==◌, ◌&&◌, Bool, true, false, 
 use Rattle.std.specs.List.{find, list_any}
 use Rattle.std.specs.Option.{option_map}
 use Rattle.std.proofs.Math.Facts.{to_z-of_z}
-use Rattle.pr_base.specs.declared.errno.Errno.TheVariants.{ECHILD}
-use Rattle.kr_model.specs.Known.{Family, known}
-use Rattle.kr_model.specs.ProcessRows.{hangs_not, is_meant, reap, wait_for}
-use Rattle.kr_model.specs.Reply.{answers, done, refuse, waits}
-use Rattle.kr_model.specs.State as model
-use Rattle.kr_model.specs.declared.outcome.Outcome.TheVariants.{Wait}
-use Rattle.kr_ops.specs.Children.{means}
-use Rattle.kr_ops.specs.Meaning.{ended_meaning, meaning}
+use Rattle.kr_seen.specs.pr_base.declared.errno.Errno.TheVariants.{ECHILD}
+use Rattle.kr_seen.specs.kr_model.Known.{Family, known}
+use Rattle.kr_seen.specs.kr_model.ProcessRows.{hangs_not, is_meant, reap, wait_for}
+use Rattle.kr_seen.specs.kr_model.Reply.{answers, done, refuse, waits}
+use Rattle.kr_seen.specs.kr_model.State as model
+use Rattle.kr_seen.specs.kr_model.declared.outcome.Outcome.TheVariants.{Wait}
+use Rattle.kr_seen.specs.kr_ops.Children.{means}
+use Rattle.kr_seen.specs.kr_ops.Meaning.{ended_meaning, meaning}
 use Rattle.kr_rows.proofs.PerformLemmas.{by-refusal, by-reply, by-row}
 use Rattle.kr_rows.proofs.WaitLemmas.{meant-ended, meant-living}
 use Rattle.kr_rows.proofs.ending.wait4.Goals as goal

@@ -1,12 +1,12 @@
 use Rattle.std.proofs.Common.{refl, sym, ap, ◌∙◌, [], ◌∷◌, Err}
-use Rattle.pr_base.specs.declared.errno.Errno.TheVariants.{EINVAL, EMFILE}
-use Rattle.kr_ops.proofs.kr_lawful.AfterLemmas.{some-of}
-use Rattle.kr_model.specs.Change.{CopyDescriptor}
-use Rattle.kr_model.specs.DescriptorRows.{copy_under}
-use Rattle.kr_model.specs.Known.{known}
-use Rattle.kr_model.specs.Reply.{answers}
-use Rattle.kr_model.specs.State as model
-use Rattle.kr_ops.specs.Meaning.{meaning}
+use Rattle.kr_seen.specs.pr_base.declared.errno.Errno.TheVariants.{EINVAL, EMFILE}
+use Rattle.kr_seen.proofs.kr_lawful.AfterLemmas.{some-of}
+use Rattle.kr_seen.specs.kr_model.Change.{CopyDescriptor}
+use Rattle.kr_seen.specs.kr_model.DescriptorRows.{copy_under}
+use Rattle.kr_seen.specs.kr_model.Known.{known}
+use Rattle.kr_seen.specs.kr_model.Reply.{answers}
+use Rattle.kr_seen.specs.kr_model.State as model
+use Rattle.kr_seen.specs.kr_ops.Meaning.{meaning}
 use Rattle.kr_rows.proofs.DescriptorLemmas.{lowest-known}
 use Rattle.kr_rows.proofs.FcntlLemmas.{not-too-high, too-high}
 use Rattle.kr_rows.proofs.PerformLemmas.{by-refusal, by-reply}

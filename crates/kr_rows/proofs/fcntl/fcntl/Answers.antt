@@ -1,13 +1,13 @@
 use Rattle.std.proofs.Common.{refl, sym, ap, ◌∙◌, w32}
 use Rattle.std.specs.Option.{option_map_or}
 use Rattle.std.proofs.Math.Facts.{to_z-of_z}
-use Rattle.pr_base.specs.declared.errno.Errno.TheVariants.{EBADF, EINVAL}
-use Rattle.kr_model.specs.Asking.{descriptor_number, or_closed}
-use Rattle.kr_model.specs.DescriptorRows.{fcntl_by}
-use Rattle.kr_model.specs.Known.{known}
-use Rattle.kr_model.specs.Reply.{refuse}
-use Rattle.kr_model.specs.State as model
-use Rattle.kr_ops.specs.Meaning.{meaning}
+use Rattle.kr_seen.specs.pr_base.declared.errno.Errno.TheVariants.{EBADF, EINVAL}
+use Rattle.kr_seen.specs.kr_model.Asking.{descriptor_number, or_closed}
+use Rattle.kr_seen.specs.kr_model.DescriptorRows.{fcntl_by}
+use Rattle.kr_seen.specs.kr_model.Known.{known}
+use Rattle.kr_seen.specs.kr_model.Reply.{refuse}
+use Rattle.kr_seen.specs.kr_model.State as model
+use Rattle.kr_seen.specs.kr_ops.Meaning.{meaning}
 use Rattle.kr_rows.specs.Commands.{number_of}
 use Rattle.kr_rows.specs.Performing.{open_number}
 use Rattle.kr_rows.proofs.DescriptorLemmas.{is-open, not-open}

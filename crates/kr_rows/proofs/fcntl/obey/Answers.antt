@@ -1,15 +1,15 @@
 use Rattle.std.proofs.Common.{refl, sym, ap, ◌∙◌, [], ◌∷◌, ◌%◌, ◌==◌, true, false, pos}
 use Rattle.std.specs.Option.{option_map}
-use Rattle.kr_calls.specs.Arguments.{has}
-use Rattle.kr_files.specs.WithoutMounts.{without_mount}
-use Rattle.kr_ops.proofs.kr_lawful.AfterLemmas.{some-of}
-use Rattle.kr_model.specs.Change.{SetAppend, SetCloexec}
-use Rattle.kr_model.specs.DescriptorRows.{cloexec_flag, copy_from, status_flags}
-use Rattle.kr_model.specs.Known.{known}
-use Rattle.kr_model.specs.Reply.{answers, done}
-use Rattle.kr_model.specs.State as model
-use Rattle.kr_model.specs.declared.outcome.Outcome.TheVariants.{Answer}
-use Rattle.kr_ops.specs.Meaning.{meaning}
+use Rattle.kr_seen.specs.kr_calls.Arguments.{has}
+use Rattle.kr_seen.specs.kr_files.WithoutMounts.{without_mount}
+use Rattle.kr_seen.proofs.kr_lawful.AfterLemmas.{some-of}
+use Rattle.kr_seen.specs.kr_model.Change.{SetAppend, SetCloexec}
+use Rattle.kr_seen.specs.kr_model.DescriptorRows.{cloexec_flag, copy_from, status_flags}
+use Rattle.kr_seen.specs.kr_model.Known.{known}
+use Rattle.kr_seen.specs.kr_model.Reply.{answers, done}
+use Rattle.kr_seen.specs.kr_model.State as model
+use Rattle.kr_seen.specs.kr_model.declared.outcome.Outcome.TheVariants.{Answer}
+use Rattle.kr_seen.specs.kr_ops.Meaning.{meaning}
 use Rattle.kr_rows.specs.declared.fcntl.Command.TheVariants.{DupFd, DupFdCloexec, GetFd, SetFd, GetFl, SetFl}
 use Rattle.kr_rows.proofs.FcntlLemmas.{obeyed}
 use Rattle.kr_rows.proofs.PerformLemmas.{by-reply, by-row}

@@ -1,15 +1,15 @@
 use Rattle.std.proofs.Common.{◌≡◌, ℕ, ◌+◌, ◌≤◌, true, IfSome, lit<, refl, sym, ap, subst, ◌∙◌, [], ◌∷◌, arith}
-use Rattle.pr_base.specs.declared.errno.Errno.TheVariants.{EAGAIN, EINVAL, ENOMEM}
-use Rattle.rv_mem.specs.Memory.{Memory, page_count}
-use Rattle.rv_mem.specs.Pages.{allows_all}
-use Rattle.rv_mem.specs.declared.rights.Use.TheVariants.{Write}
-use Rattle.kr_model.specs.Change.{Fork}
-use Rattle.kr_model.specs.Known.{known}
-use Rattle.kr_model.specs.MemoryRows.{all_pages}
-use Rattle.kr_model.specs.Reply.{answers, done}
-use Rattle.kr_model.specs.State as model
-use Rattle.kr_ops.specs.Meaning.{meaning}
-use Rattle.kr_ops.proofs.OpeningLemmas.{not-living}
+use Rattle.kr_seen.specs.pr_base.declared.errno.Errno.TheVariants.{EAGAIN, EINVAL, ENOMEM}
+use Rattle.kr_seen.specs.rv_mem.Memory.{Memory, page_count}
+use Rattle.kr_seen.specs.rv_mem.Pages.{allows_all}
+use Rattle.kr_seen.specs.rv_mem.declared.rights.Use.TheVariants.{Write}
+use Rattle.kr_seen.specs.kr_model.Change.{Fork}
+use Rattle.kr_seen.specs.kr_model.Known.{known}
+use Rattle.kr_seen.specs.kr_model.MemoryRows.{all_pages}
+use Rattle.kr_seen.specs.kr_model.Reply.{answers, done}
+use Rattle.kr_seen.specs.kr_model.State as model
+use Rattle.kr_seen.specs.kr_ops.Meaning.{meaning}
+use Rattle.kr_seen.proofs.kr_ops.OpeningLemmas.{not-living}
 use Rattle.kr_rows.proofs.CloneLemmas.{counts-known, forks, no-fork, no-room, of-memory, pages-known, too-many}
 use Rattle.kr_rows.proofs.PerformLemmas.{by-refusal}
 use Rattle.kr_rows.proofs.UsingLemmas.{begins, by-uses, goes-on, memory-at}
@@ -60,13 +60,10 @@ fork-requires g c =
           (
             c.requires.numbers,
             (
-              c.requires.behind,
-              (
-                of (λ m. s.room + page_count m.pages ≤ all_pages) room,
-                of (λ m. IfSome c.told_at-told_at.result (λ a. allows_all m.pages a 4 Write ≡ true))
-                    (subst (λ (m : Memory). IfSome c.told_at-told_at.result (λ a. allows_all m.pages a 4 Write ≡ true))
-                    (memory-at s c.args.pid c.in-Some.k p c.requires.sound c.in-Some.ensures.some c.index.ensures) c.told_at-told_at.ensures.allowed),
-              ),
+              of (λ m. s.room + page_count m.pages ≤ all_pages) room,
+              of (λ m. IfSome c.told_at-told_at.result (λ a. allows_all m.pages a 4 Write ≡ true))
+                  (subst (λ (m : Memory). IfSome c.told_at-told_at.result (λ a. allows_all m.pages a 4 Write ≡ true))
+                  (memory-at s c.args.pid c.in-Some.k p c.requires.sound c.in-Some.ensures.some c.index.ensures) c.told_at-told_at.ensures.allowed),
             ),
           ),
         ),

@@ -1,10 +1,10 @@
 use Rattle.std.proofs.Common.{◌≡◌, ◌&&◌, Bool, false, true, cond, refl, sym, ap, ◌∙◌, w32, [], ◌∷◌, if◌then◌else◌}
 use Rattle.std.specs.Int.{to_le_bytes}
-use Rattle.pr_base.specs.declared.errno.Errno.TheVariants.{EFAULT}
-use Rattle.rv_mem.specs.Actions.{MayUse, WriteBytes}
-use Rattle.rv_mem.specs.declared.rights.Use.TheVariants.{Write}
-use Rattle.kr_model.specs.IdentityRows.{get_three_row}
-use Rattle.kr_model.specs.Reply.{Replying, answers, done, refuse}
+use Rattle.kr_seen.specs.pr_base.declared.errno.Errno.TheVariants.{EFAULT}
+use Rattle.kr_seen.specs.rv_mem.Actions.{MayUse, WriteBytes}
+use Rattle.kr_seen.specs.rv_mem.declared.rights.Use.TheVariants.{Write}
+use Rattle.kr_seen.specs.kr_model.IdentityRows.{get_three_row}
+use Rattle.kr_seen.specs.kr_model.Reply.{Replying, answers, done, refuse}
 use Rattle.kr_rows.proofs.UsingLemmas.{begins, by-uses, goes-on, refused-after, tested, was-written}
 use Rattle.kr_rows.proofs.identity.get_three.Goals as goal
 

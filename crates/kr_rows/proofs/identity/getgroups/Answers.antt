@@ -2,14 +2,14 @@ use Rattle.std.proofs.Common.{◌≡◌, List, ℕ, ℤ, suc, zero, pos, negsuc,
 use Rattle.std.specs.Int.{to_le_bytes}
 use Rattle.std.proofs.Math.Facts.{to_z-of_z}
 use Rattle.std.proofs.lemmas.Option.{none-some, same_Some}
-use Rattle.pr_base.specs.declared.errno.Errno.TheVariants.{EFAULT, EINVAL}
-use Rattle.rv_mem.specs.Actions.{write_if_allowed}
-use Rattle.kr_model.specs.Asking.{descriptor_number}
-use Rattle.kr_model.specs.IdentityRows.{getgroups_row}
-use Rattle.kr_model.specs.Known.{Known, known}
-use Rattle.kr_model.specs.Reply.{Replying, answers, done, refuse}
-use Rattle.kr_model.specs.State as model
-use Rattle.kr_ops.specs.Meaning.{meaning}
+use Rattle.kr_seen.specs.pr_base.declared.errno.Errno.TheVariants.{EFAULT, EINVAL}
+use Rattle.kr_seen.specs.rv_mem.Actions.{write_if_allowed}
+use Rattle.kr_seen.specs.kr_model.Asking.{descriptor_number}
+use Rattle.kr_seen.specs.kr_model.IdentityRows.{getgroups_row}
+use Rattle.kr_seen.specs.kr_model.Known.{Known, known}
+use Rattle.kr_seen.specs.kr_model.Reply.{Replying, answers, done, refuse}
+use Rattle.kr_seen.specs.kr_model.State as model
+use Rattle.kr_seen.specs.kr_ops.Meaning.{meaning}
 use Rattle.kr_rows.proofs.PerformLemmas.{by-refusal, by-reply, by-row}
 use Rattle.kr_rows.proofs.identity.getgroups.Goals as goal
 

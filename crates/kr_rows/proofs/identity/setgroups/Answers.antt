@@ -1,5 +1,5 @@
 use Rattle.std.proofs.Common.{refl}
-use Rattle.pr_base.specs.declared.errno.Errno.TheVariants.{EPERM}
+use Rattle.kr_seen.specs.pr_base.declared.errno.Errno.TheVariants.{EPERM}
 use Rattle.kr_rows.proofs.PerformLemmas.{by-refusal}
 use Rattle.kr_rows.proofs.identity.setgroups.Goals as goal
 

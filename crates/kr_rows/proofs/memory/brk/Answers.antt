@@ -1,15 +1,15 @@
 use Rattle.std.proofs.Common.{◌≡◌, ◌*◌, ◌/◌, ◌-◌, ◌<◌, ◌≤◌, true, false, Err, IsErrOf, lit<, refl, sym, ap, ◌∙◌, [], ◌∷◌, arith}
-use Rattle.rv_mem.specs.Layout.{layout_of}
-use Rattle.rv_mem.specs.declared.rights.Rights.{Rights}
-use Rattle.rv_mem.specs.declared.fault.MapFault.TheVariants.{Full}
-use Rattle.kr_model.specs.Applied.{applied, images}
-use Rattle.kr_model.specs.Change.{ChangePages, MapPages, SetBreak, UnmapPages}
-use Rattle.kr_model.specs.Known.{known}
-use Rattle.kr_model.specs.MemoryRows.{grow, has_page, mapped_among, page_count, passes_limit}
-use Rattle.kr_model.specs.Reply.{answers, done}
-use Rattle.kr_model.specs.State as model
-use Rattle.kr_ops.specs.Meaning.{meaning}
-use Rattle.kr_ops.proofs.OpeningLemmas.{not-living}
+use Rattle.kr_seen.specs.rv_mem.Layout.{layout_of}
+use Rattle.kr_seen.specs.rv_mem.declared.rights.Rights.{Rights}
+use Rattle.kr_seen.specs.rv_mem.declared.fault.MapFault.TheVariants.{Full}
+use Rattle.kr_seen.specs.kr_model.Applied.{applied, images}
+use Rattle.kr_seen.specs.kr_model.Change.{ChangePages, MapPages, SetBreak, UnmapPages}
+use Rattle.kr_seen.specs.kr_model.Known.{known}
+use Rattle.kr_seen.specs.kr_model.MemoryRows.{grow, has_page, mapped_among, page_count, passes_limit}
+use Rattle.kr_seen.specs.kr_model.Reply.{answers, done}
+use Rattle.kr_seen.specs.kr_model.State as model
+use Rattle.kr_seen.specs.kr_ops.Meaning.{meaning}
+use Rattle.kr_seen.proofs.kr_ops.OpeningLemmas.{not-living}
 use Rattle.kr_rows.proofs.BreakLemmas.{break-bounded, break-known, layout-at, start-known}
 use Rattle.kr_rows.proofs.PagingLemmas.{below-the-start, grows, grows-by, has_page-same, last-page, limits-for, none-among, ok-not-full, page-at, past-the-end, pids-paged, shrinks, stays-if-full, stays-if-taken}
 use Rattle.kr_rows.proofs.PerformLemmas.{by-reply}

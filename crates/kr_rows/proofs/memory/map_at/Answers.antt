@@ -1,12 +1,12 @@
 use Rattle.std.proofs.Common.{◌*◌, ◌/◌, Bool, Err, sym, ap, ◌∙◌, [], ◌∷◌, if◌then◌else◌, IsErrOf}
-use Rattle.pr_base.specs.declared.errno.Errno.TheVariants.{ENOMEM}
-use Rattle.rv_mem.specs.declared.fault.MapFault.TheVariants.{Full}
-use Rattle.kr_model.specs.Change.{ChangePages, MapPages}
-use Rattle.kr_model.specs.Known.{known}
-use Rattle.kr_model.specs.MemoryRows.{mapped_among, passes_limit, rights_of}
-use Rattle.kr_model.specs.Reply.{Replying, answers, done, refuse}
-use Rattle.kr_model.specs.State as model
-use Rattle.kr_ops.specs.Meaning.{meaning}
+use Rattle.kr_seen.specs.pr_base.declared.errno.Errno.TheVariants.{ENOMEM}
+use Rattle.kr_seen.specs.rv_mem.declared.fault.MapFault.TheVariants.{Full}
+use Rattle.kr_seen.specs.kr_model.Change.{ChangePages, MapPages}
+use Rattle.kr_seen.specs.kr_model.Known.{known}
+use Rattle.kr_seen.specs.kr_model.MemoryRows.{mapped_among, passes_limit, rights_of}
+use Rattle.kr_seen.specs.kr_model.Reply.{Replying, answers, done, refuse}
+use Rattle.kr_seen.specs.kr_model.State as model
+use Rattle.kr_seen.specs.kr_ops.Meaning.{meaning}
 use Rattle.kr_rows.proofs.PagingLemmas.{limits-for, ok-not-full, page-at}
 use Rattle.kr_rows.proofs.PerformLemmas.{by-refusal, by-reply}
 use Rattle.kr_rows.proofs.memory.map_at.Goals as goal

@@ -1,11 +1,11 @@
 use Rattle.std.proofs.Common.{◌+◌, ◌||◌, Bool, false, refl, ap, ◌∙◌, if◌then◌else◌}
 use Rattle.std.specs.Prelude.{nat_lt}
-use Rattle.pr_base.specs.declared.errno.Errno.TheVariants.{ENOMEM}
-use Rattle.kr_model.specs.Known.{known}
-use Rattle.kr_model.specs.MemoryRows.{lowest_page, map_at, places_end}
-use Rattle.kr_model.specs.Reply.{Replying, refuse}
-use Rattle.kr_model.specs.State as model
-use Rattle.kr_ops.specs.Meaning.{meaning}
+use Rattle.kr_seen.specs.pr_base.declared.errno.Errno.TheVariants.{ENOMEM}
+use Rattle.kr_seen.specs.kr_model.Known.{known}
+use Rattle.kr_seen.specs.kr_model.MemoryRows.{lowest_page, map_at, places_end}
+use Rattle.kr_seen.specs.kr_model.Reply.{Replying, refuse}
+use Rattle.kr_seen.specs.kr_model.State as model
+use Rattle.kr_seen.specs.kr_ops.Meaning.{meaning}
 use Rattle.kr_rows.proofs.PagingLemmas.{test-no, test-yes}
 use Rattle.kr_rows.proofs.PerformLemmas.{by-refusal, by-row}
 use Rattle.kr_rows.proofs.memory.map_fixed.Goals as goal

@@ -1,13 +1,13 @@
 use Rattle.std.proofs.Common.{◌/◌, ◌+◌, ◌<◌, ℕ, Option, refl, ap, ◌∙◌, arith}
 use Rattle.std.specs.Option.{option_map_or}
-use Rattle.pr_base.specs.declared.errno.Errno.TheVariants.{ENOMEM}
-use Rattle.rv_mem.specs.Layout.{layout_of}
-use Rattle.kr_model.specs.Known.{known}
-use Rattle.kr_model.specs.MemoryRows.{lowest_place, map_at, places_begin, places_end}
-use Rattle.kr_model.specs.Reply.{Replying, refuse}
-use Rattle.kr_model.specs.State as model
-use Rattle.kr_ops.specs.Meaning.{meaning}
-use Rattle.kr_ops.proofs.OpeningLemmas.{not-living}
+use Rattle.kr_seen.specs.pr_base.declared.errno.Errno.TheVariants.{ENOMEM}
+use Rattle.kr_seen.specs.rv_mem.Layout.{layout_of}
+use Rattle.kr_seen.specs.kr_model.Known.{known}
+use Rattle.kr_seen.specs.kr_model.MemoryRows.{lowest_place, map_at, places_begin, places_end}
+use Rattle.kr_seen.specs.kr_model.Reply.{Replying, refuse}
+use Rattle.kr_seen.specs.kr_model.State as model
+use Rattle.kr_seen.specs.kr_ops.Meaning.{meaning}
+use Rattle.kr_seen.proofs.kr_ops.OpeningLemmas.{not-living}
 use Rattle.kr_rows.proofs.BreakLemmas.{layout-at}
 use Rattle.kr_rows.proofs.LowestLemmas.{lowest-is, none-is, none-so-long}
 use Rattle.kr_rows.proofs.PerformLemmas.{by-refusal, by-row}

@@ -1,10 +1,10 @@
 use Rattle.std.proofs.Common.{◌/◌, Bool, ap, ◌∙◌, sym, bit_and, if◌then◌else◌}
-use Rattle.kr_model.specs.Known.{known}
-use Rattle.kr_model.specs.MemoryRows.{map_fixed, map_free, page_count}
-use Rattle.kr_model.specs.Reply.{Replying}
-use Rattle.kr_model.specs.State as model
-use Rattle.kr_ops.specs.Meaning.{meaning}
-use Rattle.kr_ops.proofs.ListLemmas.{apart-test, same-test}
+use Rattle.kr_seen.specs.kr_model.Known.{known}
+use Rattle.kr_seen.specs.kr_model.MemoryRows.{map_fixed, map_free, page_count}
+use Rattle.kr_seen.specs.kr_model.Reply.{Replying}
+use Rattle.kr_seen.specs.kr_model.State as model
+use Rattle.kr_seen.specs.kr_ops.Meaning.{meaning}
+use Rattle.kr_seen.proofs.kr_ops.ListLemmas.{apart-test, same-test}
 use Rattle.kr_rows.proofs.PerformLemmas.{by-row}
 use Rattle.kr_rows.proofs.memory.mmap.Goals as goal
 

@@ -1,15 +1,15 @@
 use Rattle.std.proofs.Common.{◌≡◌, ℕ, ◌*◌, ◌/◌, ◌≤◌, ◌==◌, Bool, not, refl, sym, ap, subst, ◌∙◌, [], ◌∷◌, arith, if◌then◌else◌, ◌↔◌, IsOk, IsTrue, is_ok}
-use Rattle.pr_base.specs.declared.errno.Errno.TheVariants.{ENOMEM}
-use Rattle.rv_mem.specs.Layout.{layout_of}
-use Rattle.rv_mem.specs.Memory.{Memory}
-use Rattle.rv_mem.specs.Pages.{IsPlaced, has_pages, protected}
-use Rattle.kr_model.specs.Change.{ChangePages, ProtectPages}
-use Rattle.kr_model.specs.Known.{known}
-use Rattle.kr_model.specs.MemoryRows.{mapped_among, page_count, rights_of}
-use Rattle.kr_model.specs.Reply.{Replying, answers, done, refuse}
-use Rattle.kr_model.specs.State as model
-use Rattle.kr_ops.specs.Meaning.{meaning}
-use Rattle.kr_ops.proofs.OpeningLemmas.{not-living}
+use Rattle.kr_seen.specs.pr_base.declared.errno.Errno.TheVariants.{ENOMEM}
+use Rattle.kr_seen.specs.rv_mem.Layout.{layout_of}
+use Rattle.kr_seen.specs.rv_mem.Memory.{Memory}
+use Rattle.kr_seen.specs.rv_mem.Pages.{IsPlaced, has_pages, protected}
+use Rattle.kr_seen.specs.kr_model.Change.{ChangePages, ProtectPages}
+use Rattle.kr_seen.specs.kr_model.Known.{known}
+use Rattle.kr_seen.specs.kr_model.MemoryRows.{mapped_among, page_count, rights_of}
+use Rattle.kr_seen.specs.kr_model.Reply.{Replying, answers, done, refuse}
+use Rattle.kr_seen.specs.kr_model.State as model
+use Rattle.kr_seen.specs.kr_ops.Meaning.{meaning}
+use Rattle.kr_seen.proofs.kr_ops.OpeningLemmas.{not-living}
 use Rattle.kr_rows.specs.Performing.{memory_of}
 use Rattle.kr_rows.proofs.PagingLemmas.{counted-cut, cut-is-absent, layout-known, not-where-err, of-caller, page-at, protected-cut}
 use Rattle.kr_rows.proofs.PerformLemmas.{by-refusal, by-reply, pages-alike}

@@ -1,11 +1,11 @@
 use Rattle.std.proofs.Common.{◌*◌, ◌/◌, refl, sym, ap, subst, ◌∙◌, [], ◌∷◌}
-use Rattle.rv_mem.specs.Memory.{Memory}
-use Rattle.rv_mem.specs.Pages.{IsPlaced, unmapped}
-use Rattle.kr_model.specs.Change.{ChangePages, UnmapPages}
-use Rattle.kr_model.specs.MemoryRows.{page_count}
-use Rattle.kr_model.specs.Reply.{answers}
-use Rattle.kr_ops.specs.Meaning.{meaning}
-use Rattle.kr_ops.proofs.OpeningLemmas.{not-living}
+use Rattle.kr_seen.specs.rv_mem.Memory.{Memory}
+use Rattle.kr_seen.specs.rv_mem.Pages.{IsPlaced, unmapped}
+use Rattle.kr_seen.specs.kr_model.Change.{ChangePages, UnmapPages}
+use Rattle.kr_seen.specs.kr_model.MemoryRows.{page_count}
+use Rattle.kr_seen.specs.kr_model.Reply.{answers}
+use Rattle.kr_seen.specs.kr_ops.Meaning.{meaning}
+use Rattle.kr_seen.proofs.kr_ops.OpeningLemmas.{not-living}
 use Rattle.kr_rows.specs.Performing.{memory_of}
 use Rattle.kr_rows.proofs.PagingLemmas.{page-at, unmapped-cut}
 use Rattle.kr_rows.proofs.PerformLemmas.{by-reply, pages-alike}

@@ -1,5 +1,5 @@
 use Rattle.std.proofs.Common.{refl, []}
-use Rattle.kr_model.specs.Reply.{answers}
+use Rattle.kr_seen.specs.kr_model.Reply.{answers}
 use Rattle.kr_rows.proofs.PerformLemmas.{by-reply}
 use Rattle.kr_rows.proofs.processes.signals.Goals as goal
 

@@ -1,15 +1,15 @@
 use Rattle.std.proofs.Common.{refl, sym, ap, ◌∙◌, [], ◌∷◌, w32, w64, pos, ◌+ℤ◌}
 use Rattle.std.specs.Option.{option_map}
 use Rattle.std.proofs.Math.Facts.{to_z-of_z, to_z_pos}
-use Rattle.pr_base.specs.declared.errno.Errno.TheVariants.{EBADF, EINVAL}
-use Rattle.kr_files.specs.WithoutMounts.{without_mount}
-use Rattle.kr_model.specs.Change.{Seek}
-use Rattle.kr_model.specs.DescriptorRows.{seek_to, seek_what}
-use Rattle.kr_model.specs.Known.{known}
-use Rattle.kr_model.specs.Reply.{answers}
-use Rattle.kr_model.specs.State as model
-use Rattle.kr_model.specs.declared.outcome.Outcome.TheVariants.{Answer}
-use Rattle.kr_ops.specs.Meaning.{meaning}
+use Rattle.kr_seen.specs.pr_base.declared.errno.Errno.TheVariants.{EBADF, EINVAL}
+use Rattle.kr_seen.specs.kr_files.WithoutMounts.{without_mount}
+use Rattle.kr_seen.specs.kr_model.Change.{Seek}
+use Rattle.kr_seen.specs.kr_model.DescriptorRows.{seek_to, seek_what}
+use Rattle.kr_seen.specs.kr_model.Known.{known}
+use Rattle.kr_seen.specs.kr_model.Reply.{answers}
+use Rattle.kr_seen.specs.kr_model.State as model
+use Rattle.kr_seen.specs.kr_model.declared.outcome.Outcome.TheVariants.{Answer}
+use Rattle.kr_seen.specs.kr_ops.Meaning.{meaning}
 use Rattle.kr_rows.specs.Performing.{open_number}
 use Rattle.kr_rows.proofs.DescriptorLemmas.{not-open, opened-row}
 use Rattle.kr_rows.proofs.PerformLemmas.{by-refusal, by-reply}

@@ -1,10 +1,10 @@
 use Rattle.std.proofs.Common.{sym, ap, ◌∙◌, w32, to_z, pos, ◌+ℤ◌}
 use Rattle.std.proofs.Math.Facts.{to_z-of_z}
-use Rattle.kr_files.specs.WithoutMounts.{without_mount}
-use Rattle.kr_model.specs.DescriptorRows.{seek_file, seek_to, seek_what}
-use Rattle.kr_model.specs.Known.{known}
-use Rattle.kr_model.specs.State as model
-use Rattle.kr_ops.specs.Meaning.{meaning}
+use Rattle.kr_seen.specs.kr_files.WithoutMounts.{without_mount}
+use Rattle.kr_seen.specs.kr_model.DescriptorRows.{seek_file, seek_to, seek_what}
+use Rattle.kr_seen.specs.kr_model.Known.{known}
+use Rattle.kr_seen.specs.kr_model.State as model
+use Rattle.kr_seen.specs.kr_ops.Meaning.{meaning}
 use Rattle.kr_rows.proofs.seeking.origin.Goals as goal
 
 pub returns-in-File-eq2-clause-ok : goal.returns-in-File-eq2-clause-ok

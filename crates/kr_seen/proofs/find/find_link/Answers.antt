@@ -1,7 +1,7 @@
 use Rattle.std.proofs.Common.{sym, ap, ◌∙◌, None}
 use Rattle.std.specs.Bool.{if◌then◌else◌}
 use Rattle.kr_ops.specs.Meaning.{meaning}
-use Rattle.kr_view.specs.Living.{in_directory}
+use Rattle.kr_ops.specs.kr_view.Living.{in_directory}
 use Rattle.kr_seen.proofs.FindLemmas.{link-shown}
 use Rattle.kr_seen.proofs.find.find_link.Goals as goal
 

@@ -1,7 +1,7 @@
 use Rattle.std.proofs.Common.{sym, ap, ◌∙◌, Some, None}
 use Rattle.std.specs.Bool.{if◌then◌else◌}
 use Rattle.kr_ops.specs.Meaning.{meaning}
-use Rattle.kr_tree.specs.declared.place.ProcAt.TheVariants.{Dir}
+use Rattle.kr_ops.specs.kr_tree.declared.place.ProcAt.TheVariants.{Dir}
 use Rattle.kr_seen.proofs.FindLemmas.{at-most, no-number, process-shown}
 use Rattle.kr_seen.proofs.find.find_process.Goals as goal
 

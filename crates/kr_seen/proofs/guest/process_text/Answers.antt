@@ -1,5 +1,5 @@
 use Rattle.std.proofs.Common.{sym, ◌∙◌}
-use Rattle.kr_model.specs.ProcessDirectory.{space_of}
+use Rattle.kr_ops.specs.kr_model.ProcessDirectory.{space_of}
 use Rattle.kr_ops.specs.Meaning.{meaning}
 use Rattle.kr_seen.proofs.GuestLemmas.{hidden-text, nameless-text, named-text}
 use Rattle.kr_seen.proofs.guest.process_text.Goals as goal

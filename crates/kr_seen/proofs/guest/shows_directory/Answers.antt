@@ -1,5 +1,5 @@
 use Rattle.std.proofs.Common.{sym, ap, ◌∙◌}
-use Rattle.kr_model.specs.ProcessDirectory.{space_of}
+use Rattle.kr_ops.specs.kr_model.ProcessDirectory.{space_of}
 use Rattle.kr_ops.specs.Meaning.{meaning}
 use Rattle.kr_seen.specs.Standing.{is_shown_directory}
 use Rattle.kr_seen.proofs.FindLemmas.{shown-lives}

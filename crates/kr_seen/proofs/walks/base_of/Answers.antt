@@ -2,8 +2,8 @@ use Rattle.std.proofs.Common.{sym, ap, ◌∙◌, subst, w32}
 use Rattle.std.proofs.Math.Facts.{to_z-of_z}
 use Rattle.std.specs.Prelude.{Some}
 use Rattle.pr_base.specs.Paths.{is_absolute}
-use Rattle.kr_calls.specs.PathTable.{path_use}
-use Rattle.kr_model.specs.Asking.{descriptor_number, is_working_directory}
+use Rattle.kr_ops.specs.kr_calls.PathTable.{path_use}
+use Rattle.kr_ops.specs.kr_model.Asking.{descriptor_number, is_working_directory}
 use Rattle.kr_ops.specs.Meaning.{meaning}
 use Rattle.kr_seen.specs.CallWalks.{IsBase}
 use Rattle.kr_seen.proofs.BaseLemmas.{from-cwd, from-descriptor}

@@ -1,8 +1,8 @@
 use Rattle.std.proofs.Common.{sym, ap, ◌∙◌, subst}
 use Rattle.std.specs.Prelude.{Option, Ok, Err}
 use Rattle.std.proofs.lemmas.Result.{err_from_is_err_and}
-use Rattle.kr_view.specs.declared.target.Target.{Target}
-use Rattle.kr_model.specs.Walks.{target_at}
+use Rattle.kr_ops.specs.kr_view.declared.target.Target.{Target}
+use Rattle.kr_ops.specs.kr_model.Walks.{target_at}
 use Rattle.kr_ops.specs.Meaning.{meaning}
 use Rattle.kr_seen.specs.Numbered.{state_numbered}
 use Rattle.kr_seen.specs.CallWalks.{path_reach, IsReachedTo, IsTarget}

@@ -1,9 +1,9 @@
 use Rattle.std.proofs.Common.{◌≤◌, ◌∙◌, List, ap, length, sym, subst, arith}
 use Rattle.std.proofs.lemmas.Bool.Decides.{nat_tests}
 use Rattle.pt_bind.specs.Binding.{rows_of}
-use Rattle.kr_mounts.specs.Standing.{texts_of}
-use Rattle.kr_mounts.specs.Stored.{table_of}
-use Rattle.kr_mounts.specs.declared.mount.Mount.{Mount}
+use Rattle.walks_agree.specs.kr_mounts.Standing.{texts_of}
+use Rattle.walks_agree.specs.kr_mounts.Stored.{table_of}
+use Rattle.walks_agree.specs.kr_mounts.declared.mount.Mount.{Mount}
 use Rattle.kr_stage.specs.Ready.{IsReady}
 use Rattle.kr_stage.proofs.ReadyLemmas.{few-rows, has-numbers, rows-texts, settled-prepared}
 use Rattle.kr_stage.proofs.stage.settled.Goals as goal

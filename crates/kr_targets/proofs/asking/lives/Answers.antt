@@ -1,5 +1,5 @@
 use Rattle.std.proofs.Common.{sym, ◌∙◌}
-use Rattle.kr_ops.specs.Meaning.{meaning}
+use Rattle.kr_seen.specs.kr_ops.Meaning.{meaning}
 use Rattle.kr_seen.proofs.LivingLemmas.{lives-by}
 use Rattle.kr_targets.proofs.KnownLemmas.{known-lives}
 use Rattle.kr_targets.proofs.asking.lives.Goals as goal

@@ -1,12 +1,12 @@
 use Rattle.std.proofs.Common.{sym, ap, subst, ◌∙◌}
 use Rattle.std.specs.Bool.{if◌then◌else◌}
-use Rattle.pr_base.specs.declared.errno.Errno.TheVariants.{ENOENT, EACCES}
-use Rattle.kr_tree.specs.declared.place.Host.{Host}
+use Rattle.kr_seen.specs.pr_base.declared.errno.Errno.TheVariants.{ENOENT, EACCES}
+use Rattle.kr_seen.specs.kr_tree.declared.place.Host.{Host}
 use Rattle.kr_seen.specs.kr_model.Asking.{writable}
 use Rattle.kr_seen.specs.kr_model.Known.{known}
 use Rattle.kr_seen.specs.kr_model.Reply.{refuse}
 use Rattle.kr_seen.specs.kr_model.State.{image_layout}
-use Rattle.kr_ops.specs.Meaning.{meaning}
+use Rattle.kr_seen.specs.kr_ops.Meaning.{meaning}
 use Rattle.kr_targets.specs.Asked.{IsWritable}
 use Rattle.kr_targets.proofs.asking.writable.Goals as goal
 

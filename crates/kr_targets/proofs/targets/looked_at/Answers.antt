@@ -1,7 +1,7 @@
 use Rattle.std.proofs.Common.{ap, sym, ◌∙◌, Some}
-use Rattle.kr_ops.specs.Meaning.{meaning}
+use Rattle.kr_seen.specs.kr_ops.Meaning.{meaning}
 use Rattle.kr_seen.specs.Numbered.{state_numbered}
-use Rattle.kr_view.specs.Leads.{numbered}
+use Rattle.kr_seen.specs.kr_view.Leads.{numbered}
 use Rattle.kr_targets.specs.Placed.{placed_in}
 use Rattle.kr_targets.specs.Told.{entry_told}
 use Rattle.kr_targets.proofs.TargetLemmas.{of-directory, of-other, looked_with}

@@ -1,10 +1,10 @@
 use Rattle.std.proofs.Common.{sym, ap, ◌∙◌}
 use Rattle.kr_seen.specs.kr_model.Seen.{OpensFound, Opens, WalkFails}
 use Rattle.kr_seen.specs.kr_model.Walks.{looked_at}
-use Rattle.kr_ops.specs.Meaning.{meaning}
+use Rattle.kr_seen.specs.kr_ops.Meaning.{meaning}
 use Rattle.kr_seen.specs.Numbered.{state_numbered}
-use Rattle.kr_view.specs.Leads.{numbered}
-use Rattle.pr_base.specs.declared.errno.Errno.TheVariants.{ENOENT}
+use Rattle.kr_seen.specs.kr_view.Leads.{numbered}
+use Rattle.kr_seen.specs.pr_base.declared.errno.Errno.TheVariants.{ENOENT}
 use Rattle.std.specs.Option.{option_map, option_map_or}
 use Rattle.kr_targets.specs.Placed.{placed_in}
 use Rattle.kr_targets.proofs.TargetLemmas.{opened-new, opened-found}

@@ -1,6 +1,6 @@
 use Rattle.std.proofs.Common.{Some, sym, ap, ◌∙◌}
-use Rattle.pr_base.specs.Paths.{parts_of}
-use Rattle.pr_base.specs.Parts.{parts_left}
+use Rattle.kr_tree.specs.pr_base.Paths.{parts_of}
+use Rattle.kr_tree.specs.pr_base.Parts.{parts_left}
 use Rattle.kr_text.proofs.WalkLemmas.{walk, walk_root, walk_nowhere}
 use Rattle.kr_text.proofs.walk.named.Goals as goal
 

@@ -1,6 +1,6 @@
 use Rattle.std.proofs.Common.{◌≡◌, reverse, Some}
-use Rattle.pr_base.specs.Paths.{parts_of}
-use Rattle.pr_base.specs.Parts.{parts_left}
+use Rattle.kr_tree.specs.pr_base.Paths.{parts_of}
+use Rattle.kr_tree.specs.pr_base.Parts.{parts_left}
 use Rattle.kr_tree.specs.Names.{named}
 use Rattle.kr_text.proofs.WalkLemmas.{walk}
 use Rattle.kr_text.proofs.walk.named.Given as goal

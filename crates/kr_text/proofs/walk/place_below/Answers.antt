@@ -1,8 +1,8 @@
 use Rattle.std.proofs.Common.{◌≡◌, ◌∷◌, reverse, Some, sym, ap, ◌∙◌}
 use Rattle.std.specs.List.{list_all}
 use Rattle.kr_tree.specs.Names.{is_name}
-use Rattle.pr_base.specs.Paths.{parts_of}
-use Rattle.pr_base.specs.Parts.{parts_left}
+use Rattle.kr_tree.specs.pr_base.Paths.{parts_of}
+use Rattle.kr_tree.specs.pr_base.Parts.{parts_left}
 use Rattle.kr_text.specs.Reading.{place_below}
 use Rattle.kr_text.proofs.WalkLemmas.{placed, placed_root}
 use Rattle.kr_text.proofs.walk.place_below.Goals as goal

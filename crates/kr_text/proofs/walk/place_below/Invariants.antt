@@ -1,7 +1,7 @@
 use Rattle.std.proofs.Common.{◌≡◌, ◌∷◌, true}
 use Rattle.std.specs.List.{list_all}
 use Rattle.kr_tree.specs.Names.{is_name}
-use Rattle.pr_base.specs.Parts.{parts_left}
+use Rattle.kr_tree.specs.pr_base.Parts.{parts_left}
 use Rattle.kr_text.specs.Reading.{place_below}
 use Rattle.kr_text.proofs.WalkLemmas.{placed}
 use Rattle.kr_text.proofs.walk.place_below.Given as goal

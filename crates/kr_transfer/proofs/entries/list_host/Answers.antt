@@ -1,9 +1,9 @@
 use Rattle.std.proofs.Common.{refl, sym}
-use Rattle.pr_base.specs.declared.errno.Errno.TheVariants.{ENOENT, ENOTDIR}
-use Rattle.kr_model.specs.DirectoryRows.{behind, list_host, list_rest}
-use Rattle.kr_model.specs.Known.{known}
-use Rattle.kr_model.specs.State.{image_layout}
-use Rattle.kr_ops.specs.Meaning.{meaning}
+use Rattle.kr_inode.specs.pr_base.declared.errno.Errno.TheVariants.{ENOENT, ENOTDIR}
+use Rattle.kr_rows.specs.kr_model.DirectoryRows.{behind, list_host, list_rest}
+use Rattle.kr_rows.specs.kr_model.Known.{known}
+use Rattle.kr_rows.specs.kr_model.State.{image_layout}
+use Rattle.kr_rows.specs.kr_ops.Meaning.{meaning}
 use Rattle.kr_rows.proofs.PerformLemmas.{by-refusal}
 use Rattle.kr_transfer.specs.Listing.{all_shown}
 use Rattle.kr_transfer.proofs.ChannelLemmas.{by-row}

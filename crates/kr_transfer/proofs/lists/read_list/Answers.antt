@@ -1,9 +1,9 @@
 use Rattle.std.proofs.Common.{◌≡◌, ◌≤◌, ◌<◌, ◌*◌, List, arith, min, length, sym, ap, subst, ◌∙◌}
-use Rattle.pr_base.specs.declared.errno.Errno.TheVariants.{EINVAL}
-use Rattle.rv_mem.proofs.PagesLemmas.{length-bytes_from}
-use Rattle.kr_model.specs.Pieces.{asked, cut_to, pieces_of, with_list}
-use Rattle.kr_model.specs.Reply.{refuse}
-use Rattle.kr_ops.specs.Meaning.{meaning}
+use Rattle.kr_inode.specs.pr_base.declared.errno.Errno.TheVariants.{EINVAL}
+use Rattle.kr_rows.proofs.rv_mem.PagesLemmas.{length-bytes_from}
+use Rattle.kr_rows.specs.kr_model.Pieces.{asked, cut_to, pieces_of, with_list}
+use Rattle.kr_rows.specs.kr_model.Reply.{refuse}
+use Rattle.kr_rows.specs.kr_ops.Meaning.{meaning}
 use Rattle.kr_rows.specs.Performing.{memory_of}
 use Rattle.kr_rows.specs.Using.{HasComeTo}
 use Rattle.kr_transfer.specs.Moving.{told}

@@ -1,6 +1,6 @@
 use Rattle.std.proofs.Common.{◌≡◌, drop}
-use Rattle.kr_model.specs.Pieces.{cut_to}
-use Rattle.kr_ops.specs.Meaning.{meaning}
+use Rattle.kr_rows.specs.kr_model.Pieces.{cut_to}
+use Rattle.kr_rows.specs.kr_ops.Meaning.{meaning}
 use Rattle.kr_rows.specs.Performing.{memory_of}
 use Rattle.kr_transfer.specs.Moving.{all_allowed, told}
 use Rattle.kr_transfer.proofs.moving.may_use_all.Given as goal

@@ -1,8 +1,8 @@
 use Rattle.std.proofs.Common.{◌≡◌, ◌+◌, ◌++◌, ℕ, List, true, drop, length}
-use Rattle.rv_mem.specs.declared.rights.Use.TheVariants.{Read}
-use Rattle.kr_model.specs.Pieces.{asked, cut_to, read_all}
-use Rattle.kr_model.specs.Reply.{Replying}
-use Rattle.kr_ops.specs.Meaning.{meaning}
+use Rattle.kr_rows.specs.rv_mem.declared.rights.Use.TheVariants.{Read}
+use Rattle.kr_rows.specs.kr_model.Pieces.{asked, cut_to, read_all}
+use Rattle.kr_rows.specs.kr_model.Reply.{Replying}
+use Rattle.kr_rows.specs.kr_ops.Meaning.{meaning}
 use Rattle.kr_rows.specs.Performing.{memory_of}
 use Rattle.kr_rows.specs.Using.{HasComeTo}
 use Rattle.kr_transfer.specs.Moving.{OnlyReads, all_allowed, told}

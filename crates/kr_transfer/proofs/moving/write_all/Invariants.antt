@@ -1,8 +1,8 @@
 use Rattle.std.proofs.Common.{◌≡◌, ◌≤◌, ◌-◌, true, drop, length}
-use Rattle.rv_mem.specs.declared.rights.Use.TheVariants.{Write}
-use Rattle.kr_model.specs.Pieces.{cut_to, laid_into, write_all}
-use Rattle.kr_model.specs.Reply.{Replying}
-use Rattle.kr_ops.specs.Meaning.{meaning}
+use Rattle.kr_rows.specs.rv_mem.declared.rights.Use.TheVariants.{Write}
+use Rattle.kr_rows.specs.kr_model.Pieces.{cut_to, laid_into, write_all}
+use Rattle.kr_rows.specs.kr_model.Reply.{Replying}
+use Rattle.kr_rows.specs.kr_ops.Meaning.{meaning}
 use Rattle.kr_rows.specs.Performing.{memory_of}
 use Rattle.kr_rows.specs.Using.{HasComeTo}
 use Rattle.kr_transfer.specs.Moving.{LeavesOthers, all_allowed, told}

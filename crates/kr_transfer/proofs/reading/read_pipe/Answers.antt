@@ -1,15 +1,15 @@
 use Rattle.std.proofs.Common.{◌≡◌, ◌<◌, lit<, arith, refl, sym, ap, subst, ◌∙◌, [], ◌∷◌, Some, length, min, take, pos}
 use Rattle.std.specs.Prelude.{IsSome, if◌then◌else◌}
-use Rattle.rv_mem.specs.declared.rights.Use.TheVariants.{Write}
-use Rattle.rv_mem.specs.Memory.{Memory}
-use Rattle.kr_model.specs.Change.{TakeFromPipe}
-use Rattle.kr_model.specs.FileRows.{read_pipe}
-use Rattle.kr_model.specs.Known.{known}
-use Rattle.kr_model.specs.Pieces.{asked, cut_to, hand}
-use Rattle.kr_model.specs.Reply.{answers, done, waits}
-use Rattle.kr_model.specs.State as model
-use Rattle.kr_model.specs.declared.outcome.Outcome.TheVariants.{Answer, Wait}
-use Rattle.kr_ops.specs.Meaning.{meaning}
+use Rattle.kr_rows.specs.rv_mem.declared.rights.Use.TheVariants.{Write}
+use Rattle.kr_rows.specs.rv_mem.Memory.{Memory}
+use Rattle.kr_rows.specs.kr_model.Change.{TakeFromPipe}
+use Rattle.kr_rows.specs.kr_model.FileRows.{read_pipe}
+use Rattle.kr_rows.specs.kr_model.Known.{known}
+use Rattle.kr_rows.specs.kr_model.Pieces.{asked, cut_to, hand}
+use Rattle.kr_rows.specs.kr_model.Reply.{answers, done, waits}
+use Rattle.kr_rows.specs.kr_model.State as model
+use Rattle.kr_rows.specs.kr_model.declared.outcome.Outcome.TheVariants.{Answer, Wait}
+use Rattle.kr_rows.specs.kr_ops.Meaning.{meaning}
 use Rattle.kr_rows.specs.Performing.{memory_of}
 use Rattle.kr_rows.proofs.PerformLemmas.{by-reply}
 use Rattle.kr_transfer.specs.Moving.{all_allowed, told}

@@ -1,12 +1,12 @@
 use Rattle.std.proofs.Common.{◌+◌, ◌-◌, ◌<◌, ◌≤◌, lit<, arith, refl, sym, ap, subst, ◌∙◌, length}
-use Rattle.pr_base.specs.declared.errno.Errno.TheVariants.{EFBIG}
-use Rattle.rv_mem.specs.declared.rights.Use.TheVariants.{Read}
-use Rattle.kr_tree.specs.Changes.{file_limit}
-use Rattle.kr_model.specs.FileRows.{put_in_file, write_file, write_place}
-use Rattle.kr_model.specs.Known.{known}
-use Rattle.kr_model.specs.Pieces.{cut_to, read_all}
-use Rattle.kr_model.specs.State as model
-use Rattle.kr_ops.specs.Meaning.{meaning}
+use Rattle.kr_inode.specs.pr_base.declared.errno.Errno.TheVariants.{EFBIG}
+use Rattle.kr_rows.specs.rv_mem.declared.rights.Use.TheVariants.{Read}
+use Rattle.kr_rows.specs.kr_tree.Changes.{file_limit}
+use Rattle.kr_rows.specs.kr_model.FileRows.{put_in_file, write_file, write_place}
+use Rattle.kr_rows.specs.kr_model.Known.{known}
+use Rattle.kr_rows.specs.kr_model.Pieces.{cut_to, read_all}
+use Rattle.kr_rows.specs.kr_model.State as model
+use Rattle.kr_rows.specs.kr_ops.Meaning.{meaning}
 use Rattle.kr_rows.specs.Performing.{memory_of}
 use Rattle.kr_rows.specs.Using.{HasComeTo}
 use Rattle.kr_rows.proofs.PerformLemmas.{by-refusal}

@@ -1,16 +1,16 @@
 use Rattle.std.proofs.Common.{◌≡◌, ◌<◌, ◌-◌, ℕ, List, lit<, arith, refl, sym, ap, subst, ◌∙◌, [], ◌∷◌, length, pos}
 use Rattle.std.specs.Prelude.{IsSome, not}
-use Rattle.rv_mem.specs.declared.rights.Use.TheVariants.{Read}
+use Rattle.kr_rows.specs.rv_mem.declared.rights.Use.TheVariants.{Read}
 use Rattle.std.specs.FinMap as map
-use Rattle.kr_model.specs.Applied.{applied, images}
-use Rattle.kr_model.specs.Change.{End, PutIntoPipe}
-use Rattle.kr_model.specs.FileRows.{write_pipe}
-use Rattle.kr_model.specs.Known.{known}
-use Rattle.kr_model.specs.Pieces.{cut_to, read_all}
-use Rattle.kr_model.specs.Reply.{answers, done}
-use Rattle.kr_model.specs.State as model
-use Rattle.kr_model.specs.declared.outcome.Outcome.TheVariants.{Answer, Ended, Wait}
-use Rattle.kr_ops.specs.Meaning.{meaning}
+use Rattle.kr_rows.specs.kr_model.Applied.{applied, images}
+use Rattle.kr_rows.specs.kr_model.Change.{End, PutIntoPipe}
+use Rattle.kr_rows.specs.kr_model.FileRows.{write_pipe}
+use Rattle.kr_rows.specs.kr_model.Known.{known}
+use Rattle.kr_rows.specs.kr_model.Pieces.{cut_to, read_all}
+use Rattle.kr_rows.specs.kr_model.Reply.{answers, done}
+use Rattle.kr_rows.specs.kr_model.State as model
+use Rattle.kr_rows.specs.kr_model.declared.outcome.Outcome.TheVariants.{Answer, Ended, Wait}
+use Rattle.kr_rows.specs.kr_ops.Meaning.{meaning}
 use Rattle.kr_rows.specs.Performing.{memory_of}
 use Rattle.kr_rows.proofs.PerformLemmas.{by-reply}
 use Rattle.kr_rows.proofs.UsingLemmas.{begins, by-uses}

@@ -1,20 +1,20 @@
 use Rattle.std.proofs.Common.{lit<, Err, sym, ap, subst, false, None, ◌||◌, ◌∙◌}
-use Rattle.rv_mem.specs.Memory.{Memory}
-use Rattle.kr_view.specs.declared.target.Reach.{Reach}
-use Rattle.kr_view.specs.declared.target.WalkFault.{WalkFault}
-use Rattle.kr_model.specs.Walks.{targets_of}
-use Rattle.kr_ops.specs.Meaning.{meaning}
-use Rattle.kr_ops.proofs.UseLemmas.{sound-of}
-use Rattle.kr_seen.specs.Numbered.{state_numbered}
-use Rattle.kr_seen.specs.CallWalks.{AreTargets, IsReachedTo, call_reach}
-use Rattle.kr_seen.specs.declared.walks.Targets.{Targets}
+use Rattle.kr_steps.specs.rv_mem.Memory.{Memory}
+use Rattle.kr_execve.specs.kr_view.declared.target.Reach.{Reach}
+use Rattle.kr_execve.specs.kr_view.declared.target.WalkFault.{WalkFault}
+use Rattle.kr_hostview.specs.kr_model.Walks.{targets_of}
+use Rattle.kr_hostview.specs.kr_ops.Meaning.{meaning}
+use Rattle.kr_hostview.proofs.kr_ops.UseLemmas.{sound-of}
+use Rattle.kr_hostview.specs.kr_seen.Numbered.{state_numbered}
+use Rattle.kr_hostview.specs.kr_seen.CallWalks.{AreTargets, IsReachedTo, call_reach}
+use Rattle.kr_hostview.specs.kr_seen.declared.walks.Targets.{Targets}
 use Rattle.kr_steps.specs.Calls.{MayCall}
 use Rattle.kr_steps.proofs.ComputingLemmas.{runs-later}
 use Rattle.kr_turns.specs.Breaking.{nothing_reached, rule_told}
 use Rattle.kr_turns.specs.Looking.{judged}
 use Rattle.kr_turns.specs.PlainCall.{refusal_told}
 use Rattle.kr_turns.proofs.BreakLemmas.{real-points, refused-told}
-use Rattle.kr_turns.proofs.NotedLemmas.{along-kept, behind-kept, called-kept, lives-kept, runs-kept}
+use Rattle.kr_turns.proofs.NotedLemmas.{along-kept, called-kept, lives-kept, runs-kept}
 use Rattle.kr_turns.proofs.NumberLemmas.{memory-numbered}
 use Rattle.kr_turns.proofs.PlainLemmas.{came-refused, lives-shown, no-exec-reach, no-exec-requested, no-exec-rule, operated-now, outcome-told, row-left}
 use Rattle.kr_turns.proofs.plain.operate.Goals as goal
@@ -94,10 +94,7 @@ carry_out_along-outcome-requires g c =
                 may,
                 (
                   lives-kept number table c.args.pid old mid r noted c.requires.lives,
-                  (
-                    behind-kept number table c.args.pid old mid r pids noted c.requires.behind,
-                    along-kept number table c.args.pid old mid r pids noted c.in-Ok.targets c.in-Ok.ensures.answer,
-                  ),
+                  along-kept number table c.args.pid old mid r pids noted c.in-Ok.targets c.in-Ok.ensures.answer,
                 ),
               ),
             ),

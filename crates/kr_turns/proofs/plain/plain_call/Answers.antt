@@ -1,15 +1,15 @@
 use Rattle.std.proofs.Common.{lit<, Ok, Err, ap, subst, ◌∙◌}
 use Rattle.std.proofs.lemmas.Result.{on_ok_weaker}
-use Rattle.kr_calls.specs.declared.fault.CallFault.{CallFault}
-use Rattle.kr_ops.specs.Meaning.{meaning}
-use Rattle.kr_ops.proofs.UseLemmas.{sound-of}
-use Rattle.kr_seen.specs.Numbered.{state_numbered}
+use Rattle.kr_execve.specs.kr_calls.declared.fault.CallFault.{CallFault}
+use Rattle.kr_hostview.specs.kr_ops.Meaning.{meaning}
+use Rattle.kr_hostview.proofs.kr_ops.UseLemmas.{sound-of}
+use Rattle.kr_hostview.specs.kr_seen.Numbered.{state_numbered}
 use Rattle.kr_steps.specs.Calls.{MayCall}
 use Rattle.kr_steps.proofs.ComputingLemmas.{runs-later}
 use Rattle.kr_steps.specs.Computing.{Requests}
 use Rattle.kr_turns.specs.Breaking.{nothing_reached}
 use Rattle.kr_turns.specs.PlainCall.{refusal_told}
-use Rattle.kr_turns.proofs.PlainLemmas.{behind-mid, call-refused, carried-left, if-ok, lives-mid, reach-carried, reach-refused, rule-carried, rule-refused}
+use Rattle.kr_turns.proofs.PlainLemmas.{call-refused, carried-left, if-ok, lives-mid, reach-carried, reach-refused, rule-carried, rule-refused}
 use Rattle.kr_turns.proofs.plain.plain_call.Goals as goal
 
 pub refuse-requires : goal.refuse-requires
@@ -52,7 +52,7 @@ carry_request-requires g c =
     let mid = c.request.new.state in
     let requested = c.in-Ok.ensures.requested in
     let may : MayCall number table mid = record { calls = c.requires.may.calls; few = c.requires.may.few; runs = c.in-Ok.ensures.runs number table c.requires.may.calls c.requires.may.runs } in
-    (lit< tt, (c.in-Ok.ensures.given, (c.in-Ok.ensures.paths, (c.requires.named, (c.requires.few_rows, (may, (lives-mid number table c.args.pid c.args.state.now mid _ requested, behind-mid number table c.args.pid c.args.state.now mid _ requested c.requires.behind)))))))
+    (lit< tt, (c.in-Ok.ensures.given, (c.in-Ok.ensures.paths, (c.requires.named, (c.requires.few_rows, (may, lives-mid number table c.args.pid c.args.state.now mid _ requested))))))
 
 pub returns-clause-came : goal.returns-clause-came
 returns-clause-came g c =

@@ -1,10 +1,10 @@
 use Rattle.std.proofs.Common.{sym, ap, ◌∙◌}
-use Rattle.rv_mem.specs.Layout.{layout_of}
-use Rattle.rv_mem.specs.Memory.{Memory}
+use Rattle.kr_steps.specs.rv_mem.Layout.{layout_of}
+use Rattle.kr_steps.specs.rv_mem.Memory.{Memory}
 use Rattle.kr_calm.specs.Shelf.{lacks_shelf_by, shelved_by}
-use Rattle.kr_model.specs.State.{Image}
-use Rattle.kr_ops.specs.Meaning.{meaning}
-use Rattle.kr_ops.proofs.OpeningLemmas.{not-living}
+use Rattle.kr_hostview.specs.kr_model.State.{Image}
+use Rattle.kr_hostview.specs.kr_ops.Meaning.{meaning}
+use Rattle.kr_hostview.proofs.kr_ops.OpeningLemmas.{not-living}
 use Rattle.kr_steps.proofs.ComputingLemmas.{changed_at}
 use Rattle.kr_turns.proofs.EditingLemmas.{becomes, image-here, runs-on}
 use Rattle.kr_turns.proofs.ShelfLemmas.{shelf-layout}

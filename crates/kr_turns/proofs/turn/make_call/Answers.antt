@@ -1,11 +1,11 @@
 use Rattle.std.proofs.Common.{◌≡◌, ◌+◌, suc, lit<, ap, subst, arith, ◌∙◌}
 use Rattle.kr_steps.specs.Calls.{MayCall, Runs}
-use Rattle.kr_ops.specs.Meaning.{meaning}
-use Rattle.kr_seen.specs.Numbered.{state_numbered}
+use Rattle.kr_hostview.specs.kr_ops.Meaning.{meaning}
+use Rattle.kr_hostview.specs.kr_seen.Numbered.{state_numbered}
 use Rattle.kr_turns.specs.Breaking.{plain_rule}
 use Rattle.kr_turns.specs.Making.{watching}
-use Rattle.kr_turns.proofs.ShelfLemmas.{lacks-numbered, shelved-behind, shelved-lives, shelved-numbered}
-use Rattle.kr_turns.proofs.TurnLemmas.{behind-edited, call-made}
+use Rattle.kr_turns.proofs.ShelfLemmas.{lacks-numbered, shelved-lives, shelved-numbered}
+use Rattle.kr_turns.proofs.TurnLemmas.{call-made}
 use Rattle.kr_turns.proofs.turn.make_call.Goals as goal
 
 pub enter-requires : goal.enter-requires
@@ -29,11 +29,7 @@ plain_call-requires g c =
           c.requires.few_rows,
           (
             may,
-            (
-              stands.lives,
-              behind-edited number c.args.pid shelved c.enter.new.state (shelved-behind c.args.pid c.args.state.now shelved marks c.requires.behind) (shelved-lives c.args.pid c.args.state.now shelved marks c.requires.lives) stands.lives
-                  c.in_ok-enter.ensures.edits,
-            ),
+            stands.lives,
           ),
         ),
       ),

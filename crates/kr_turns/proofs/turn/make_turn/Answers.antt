@@ -1,8 +1,8 @@
 use Rattle.std.proofs.Common.{◌+◌, lit<, ap, ◌∙◌, Option, ℕ}
-use Rattle.rv_cpu.specs.declared.event.Event.TheVariants.{Call, Killed, Next}
+use Rattle.kr_steps.specs.rv_cpu.declared.event.Event.TheVariants.{Call, Killed, Next}
 use Rattle.kr_steps.proofs.ComputingLemmas.{runs-later}
-use Rattle.kr_ops.specs.Sound.{IsOfView}
-use Rattle.kr_ops.proofs.UseLemmas.{sound-of}
+use Rattle.kr_hostview.specs.kr_ops.Sound.{IsOfView}
+use Rattle.kr_hostview.proofs.kr_ops.UseLemmas.{sound-of}
 use Rattle.kr_turns.specs.Making.{machine_of, tally_after, watching}
 use Rattle.kr_turns.specs.Turn.{with_broken, with_status}
 use Rattle.kr_turns.proofs.BreakLemmas.{idle-here, killed-here}
@@ -29,7 +29,7 @@ killed_rule-requires g c =
 pub make_call-requires : goal.make_call-requires
 make_call-requires g c =
     let runs = c.in_ok-event.ensures.runs g.P.Places.number (g.P.Places.mounts c.args.places.now) c.args.calls c.requires.runs in
-    (lit< tt, (c.requires.named, (c.requires.few_rows, (runs, (c.requires.few, (computed-still c.args.pid c.args.fuel c.args.state.now c.compute.new.state _ _ c.in_ok-event.ensures.computes, c.in_ok-event.ensures.behind c.in-Call.is))))))
+    (lit< tt, (c.requires.named, (c.requires.few_rows, (runs, (c.requires.few, computed-still c.args.pid c.args.fuel c.args.state.now c.compute.new.state _ _ c.in_ok-event.ensures.computes)))))
 
 pub kill-requires : goal.kill-requires
 kill-requires g c =

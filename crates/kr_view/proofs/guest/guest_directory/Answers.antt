@@ -1,7 +1,7 @@
 use Rattle.std.proofs.Common.{◌≡◌, ◌-◌, ℕ, List, [], ◌++◌, Option, Some, length, take, drop, length-drop, sym, ap, ◌∙◌}
 use Rattle.std.specs.Option.{option_map_or}
 use Rattle.std.proofs.Math.Seq.{take-length}
-use Rattle.pr_base.specs.Paths.{text_of}
+use Rattle.kr_tree.specs.pr_base.Paths.{text_of}
 use Rattle.kr_view.specs.View.{Row, row}
 use Rattle.kr_view.proofs.TableLemmas.{there_is}
 use Rattle.kr_view.proofs.GuestNameLemmas.{moved_bytes}

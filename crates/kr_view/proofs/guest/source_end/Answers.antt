@@ -1,7 +1,7 @@
 use Rattle.std.proofs.Common.{sym, ap, ◌∙◌}
 use Rattle.std.specs.Option.{option_map}
 use Rattle.std.proofs.lemmas.Bool.{eqb-true}
-use Rattle.pr_base.specs.Paths.{below_root}
+use Rattle.kr_tree.specs.pr_base.Paths.{below_root}
 use Rattle.kr_view.proofs.WayUpLemmas.{way_begins, found_down, none_down, not_removed, way_goes_on, called_apart}
 use Rattle.kr_view.proofs.guest.source_end.Goals as goal
 

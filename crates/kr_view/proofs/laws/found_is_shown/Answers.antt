@@ -1,5 +1,5 @@
 use Rattle.kr_view.specs.Walk.{looking}
-use Rattle.pr_base.proofs.EndLemmas.{found_is_shown}
+use Rattle.kr_tree.proofs.pr_base.EndLemmas.{found_is_shown}
 use Rattle.kr_view.proofs.DirectoryLemmas.{looked_in}
 use Rattle.kr_view.proofs.laws.found_is_shown.Goals as goal
 

@@ -1,6 +1,6 @@
 use Rattle.std.proofs.Common.{◌≡◌, Some, sym, ◌∙◌}
 use Rattle.std.specs.Option.{option_map}
-use Rattle.pr_base.specs.Paths.{text_of}
+use Rattle.kr_tree.specs.pr_base.Paths.{text_of}
 use Rattle.kr_tree.specs.Names.{host_name}
 use Rattle.kr_view.proofs.NameLemmas.{below_where_there}
 use Rattle.kr_view.proofs.name.directory_name.Goals as goal

@@ -1,5 +1,5 @@
 use Rattle.std.proofs.Common.{◌≡◌, drop}
-use Rattle.pr_base.specs.Paths.{parts_of}
+use Rattle.kr_tree.specs.pr_base.Paths.{parts_of}
 use Rattle.kr_view.proofs.rest.slashes.Given as goal
 
 abbrev pub invariant-loop-at : goal.invariant-loop-at

@@ -13,7 +13,7 @@ invariant-steps g l =
     let whole = place_walk around l.mode (numbered g.P.Places.number l.fn.base) l.path in
     record {
       ends : (trail_of g.P.Places.number around l.mode l.walk).answer ≡ whole.answer;
-      reaches : reach_after around (trail_of g.P.Places.number around l.mode l.walk) l.reach ≡ reach_after around whole l.fn.reach;
+      reaches : reach_after around l.mode (trail_of g.P.Places.number around l.mode l.walk) l.reach ≡ reach_after around l.mode whole l.fn.reach;
       covers : Covers l.reach l.fn.reach;
       named : IsNamed l.tree l.walk.position.place.host l.walk.position.name;
     }

@@ -1,8 +1,8 @@
 use Rattle.std.proofs.Common.{◌≡◌, suc, ◌+◌, ◌++◌, ◌∷◌, [], sym, ap, subst, ◌∙◌, arith, take}
 use Rattle.kr_core.specs.Kernel.{machine}
 use Rattle.kr_core.specs.declared.kernel.Turned.{Turned}
-use Rattle.kr_turns.specs.Run.{Deadlock, Over, Slot, after_put, put_by, run, turned}
-use Rattle.kr_turns.specs.Turn.{Machine, turn as turn_of}
+use Rattle.kr_core.specs.kr_turns.Run.{Deadlock, Over, Slot, after_put, put_by, run, turned}
+use Rattle.kr_core.specs.kr_turns.Turn.{Machine, turn as turn_of}
 use Rattle.pr_run.specs.Keeping.{KeepsTurn, puts_told}
 use Rattle.pr_run.specs.Puts.{GoesOn, after_slot}
 use Rattle.pr_run.specs.Slots.{slot_of}

@@ -1,6 +1,6 @@
 use Rattle.std.proofs.Common.{◌≡◌, take, true}
 use Rattle.kr_core.specs.Kernel.{machine}
-use Rattle.kr_turns.specs.Run.{run}
+use Rattle.kr_core.specs.kr_turns.Run.{run}
 use Rattle.pr_run.specs.Keeping.{puts_told}
 use Rattle.pr_run.specs.Slots.{slot_of}
 use Rattle.pr_run.proofs.RunLemmas.{IsRest}

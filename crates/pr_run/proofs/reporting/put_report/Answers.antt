@@ -5,8 +5,8 @@ use Rattle.std.proofs.KnownBytes.{Appends-trans}
 use Rattle.pr_io.specs.Faults.{Rose}
 use Rattle.kr_core.specs.Kernel.{machine}
 use Rattle.kr_text.specs.Canonical.{canonical}
-use Rattle.kr_turns.specs.Run.{run}
-use Rattle.kr_turns.specs.Turn.{Machine}
+use Rattle.kr_core.specs.kr_turns.Run.{run}
+use Rattle.kr_core.specs.kr_turns.Turn.{Machine}
 use Rattle.pr_run.specs.Report.{calm_part, errs, report_of}
 use Rattle.pr_run.specs.Puts.{PutsCalm, PutsListing, PutsTurns}
 use Rattle.pr_run.specs.Slots.{slot_of}

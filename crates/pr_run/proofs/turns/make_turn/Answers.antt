@@ -2,9 +2,9 @@ use Rattle.std.proofs.Common.{◌≡◌, rules, ap, subst, ◌∙◌}
 use Rattle.std.specs.Io.KnownBytes.{Appends}
 use Rattle.kr_core.specs.Kernel.{HasRun, Turns, machine}
 use Rattle.kr_core.specs.declared.kernel.Turned.{Turned}
-use Rattle.kr_turns.specs.Making.{watching}
-use Rattle.kr_turns.specs.Run.{after_put, put_by}
-use Rattle.kr_turns.specs.Turn.{Machine}
+use Rattle.kr_core.specs.kr_turns.Making.{watching}
+use Rattle.kr_core.specs.kr_turns.Run.{after_put, put_by}
+use Rattle.kr_core.specs.kr_turns.Turn.{Machine}
 use Rattle.pr_run.specs.Puts.{after_slot}
 use Rattle.pr_run.proofs.TurnLemmas.{forgotten, goes, stops-made}
 use Rattle.pr_run.proofs.turns.make_turn.Goals as goal

@@ -5,8 +5,8 @@ use Rattle.std.proofs.KnownBytes.{Appends-kept}
 use Rattle.pr_io.specs.Faults.{Rose}
 use Rattle.kr_core.specs.Kernel.{machine}
 use Rattle.kr_core.specs.declared.kernel.Turned.{Turned}
-use Rattle.kr_turns.specs.Run.{Deadlock, Over, Slot, after_put, put_by, run, turned}
-use Rattle.kr_turns.specs.Turn.{Machine, turn as turn_of}
+use Rattle.kr_core.specs.kr_turns.Run.{Deadlock, Over, Slot, after_put, put_by, run, turned}
+use Rattle.kr_core.specs.kr_turns.Turn.{Machine, turn as turn_of}
 use Rattle.pr_run.specs.Report.{err_part, errs, out_part, outs}
 use Rattle.pr_run.specs.Puts.{GoesOn, MakesTurn, StopsMaking, after_slot}
 use Rattle.pr_run.specs.Slots.{slot_of}

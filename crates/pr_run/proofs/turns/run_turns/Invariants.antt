@@ -1,7 +1,7 @@
 use Rattle.std.proofs.Common.{◌≡◌, ◌≤◌, take, true}
 use Rattle.std.specs.Io.KnownBytes.{Appends}
 use Rattle.kr_core.specs.Kernel.{machine}
-use Rattle.kr_turns.specs.Run.{run}
+use Rattle.kr_core.specs.kr_turns.Run.{run}
 use Rattle.pr_run.specs.Report.{errs, outs}
 use Rattle.pr_run.specs.Slots.{slot_of}
 use Rattle.pr_run.proofs.RunLemmas.{IsRest}

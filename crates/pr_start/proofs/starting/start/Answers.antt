@@ -5,7 +5,7 @@ use Rattle.kr_core.specs.Runs.{Machine}
 use Rattle.pr_watch.specs.declared.watch.Watch.{Watch}
 use Rattle.pr_start.specs.Beginning.{Begins}
 use Rattle.pr_start.proofs.BeginLemmas.{begins-as, begins-from}
-use Rattle.kr_first.specs.Starting.{directory_at}
+use Rattle.kr_core.specs.kr_first.Starting.{directory_at}
 use Rattle.kr_mounts.specs.Stored.{table_of}
 use Rattle.kr_view.specs.Leads.{numbered}
 use Rattle.pr_command.specs.Command.{word_of}

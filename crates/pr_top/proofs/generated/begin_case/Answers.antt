@@ -1,5 +1,5 @@
 use Rattle.std.proofs.Common.{rules}
-use Rattle.pr_start.specs.kr_core.Kernel.{machine}
+use Rattle.pr_traced.specs.kr_core.Kernel.{machine}
 use Rattle.kr_mounts.specs.Stored.{table_of}
 use Rattle.pr_start.specs.Numbers.{number_of}
 use Rattle.pr_traced.specs.TracedBeginning.{host_number}

@@ -1,6 +1,6 @@
 use Rattle.std.proofs.Common.{lit<, ap, ◌∙◌}
-use Rattle.kr_allowed.proofs.SourceLemmas.{settled-are-named}
-use Rattle.kr_mounts.specs.Stored.{table_of}
+use Rattle.kr_stage.proofs.kr_allowed.SourceLemmas.{settled-are-named}
+use Rattle.kr_stage.specs.kr_mounts.Stored.{table_of}
 use Rattle.kr_view.specs.View.{plain}
 use Rattle.kr_view.proofs.TableLemmas.{plain_stands}
 use Rattle.pt_bind.specs.Binding.{rows_of}

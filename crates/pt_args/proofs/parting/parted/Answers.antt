@@ -1,5 +1,5 @@
 use Rattle.std.proofs.Common.{◌+◌, ◌-◌, List, ℕ, [], ◌∷◌, drop, length, subst, sym, take}
-use Rattle.pr_base.specs.Paths.{slash}
+use Rattle.pt_canon.specs.pr_base.Paths.{slash}
 use Rattle.pt_args.specs.Parting.{IsParted}
 use Rattle.pt_args.proofs.PartedLemmas.{behind_is, last_within, parted_below, parted_in_root, root_alone}
 use Rattle.pt_args.proofs.parting.parted.Goals as goal

@@ -1,5 +1,5 @@
 use Rattle.std.proofs.Common.{◌∙◌, sym}
-use Rattle.pt_bind.proofs.ByteLemmas.{below_short, below_long}
+use Rattle.pt_canon.proofs.pt_bind.ByteLemmas.{below_short, below_long}
 use Rattle.pt_args.proofs.point.below_root.Goals as goal
 
 pub returns-then-len-ne1 : goal.returns-then-len-ne1

@@ -1,5 +1,5 @@
 use Rattle.std.proofs.Common.{◌∙◌, ◌++◌, ◌∷◌, [], ap}
-use Rattle.pr_base.specs.Paths.{slash}
+use Rattle.pt_canon.specs.pr_base.Paths.{slash}
 use Rattle.pt_args.proofs.PartedLemmas.{child_made}
 use Rattle.pt_args.proofs.point.child.Goals as goal
 

@@ -1,7 +1,7 @@
 use Rattle.std.proofs.Common.{◌∙◌, ap}
-use Rattle.pr_base.specs.Paths.{is_absolute}
-use Rattle.pr_base.proofs.PathLemmas.{text_absolute}
-use Rattle.pt_bind.specs.Binding.{host_of, names_of}
+use Rattle.pt_canon.specs.pr_base.Paths.{is_absolute}
+use Rattle.pt_canon.proofs.pr_base.PathLemmas.{text_absolute}
+use Rattle.pt_canon.specs.pt_bind.Binding.{host_of, names_of}
 use Rattle.pt_canon.specs.Canon.{texts_by}
 use Rattle.pt_args.proofs.reached.walk_from.Goals as goal
 

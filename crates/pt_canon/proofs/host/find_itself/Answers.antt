@@ -1,6 +1,6 @@
 use Rattle.std.proofs.Common.{◌∙◌, ap}
-use Rattle.pr_base.specs.Paths.{is_absolute, dot}
-use Rattle.pr_base.proofs.PathLemmas.{below_root_absolute}
+use Rattle.pt_bind.specs.pr_base.Paths.{is_absolute, dot}
+use Rattle.pt_bind.proofs.pr_base.PathLemmas.{below_root_absolute}
 use Rattle.pt_bind.specs.Binding.{names_of}
 use Rattle.pt_canon.proofs.host.find_itself.Goals as goal
 

@@ -1,6 +1,6 @@
 use Rattle.std.proofs.Common.{◌∙◌, ap}
-use Rattle.pr_base.specs.Paths.{is_absolute}
-use Rattle.pr_base.proofs.PathLemmas.{text_absolute}
+use Rattle.pt_bind.specs.pr_base.Paths.{is_absolute}
+use Rattle.pt_bind.proofs.pr_base.PathLemmas.{text_absolute}
 use Rattle.pt_canon.proofs.host.link_text_at.Goals as goal
 
 pub link_text-requires : goal.link_text-requires

@@ -1,6 +1,6 @@
 use Rattle.std.proofs.Common.{◌∙◌, [], Some, ap, sym}
 use Rattle.std.proofs.lemmas.List.Elements.{All-nil}
-use Rattle.pr_base.specs.Paths.{IsPart}
+use Rattle.pt_bind.specs.pr_base.Paths.{IsPart}
 use Rattle.pt_bind.specs.Binding.{names_of}
 use Rattle.pt_bind.proofs.ByteLemmas.{names_written}
 use Rattle.pt_canon.specs.ProcessLinks.{link_name}

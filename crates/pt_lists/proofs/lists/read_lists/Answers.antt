@@ -1,6 +1,6 @@
 use Rattle.std.proofs.Common.{◌≡◌, ◌+◌, ◌-◌, arith}
-use Rattle.kr_calls.specs.Expansion.{bytes_with_ends}
-use Rattle.kr_exec.specs.Lists.{most_bytes}
+use Rattle.pt_tracer.specs.kr_calls.Expansion.{bytes_with_ends}
+use Rattle.pt_tracer.specs.kr_exec.Lists.{most_bytes}
 use Rattle.pt_tracer.proofs.StopLemmas.{edited-then}
 use Rattle.pt_tracer.proofs.AuxiliaryLemmas.{there-still}
 use Rattle.pt_lists.proofs.ReadLemmas.{lists-break, lists-read, lists-stop}

@@ -1,8 +1,8 @@
 use Rattle.std.proofs.Common.{◌≡◌, ◌+◌, ◌-◌, ◌∙◌, [], suc, ap, length, refl, arith}
-use Rattle.kr_calls.specs.Expansion.{bytes_with_ends}
-use Rattle.kr_exec.specs.Lists.{most_texts}
+use Rattle.pt_tracer.specs.kr_calls.Expansion.{bytes_with_ends}
+use Rattle.pt_tracer.specs.kr_exec.Lists.{most_texts}
 use Rattle.std.proofs.SliceLists.{length_more}
-use Rattle.kr_exec.proofs.ListLemmas.{bytes_more}
+use Rattle.pt_tracer.proofs.kr_exec.ListLemmas.{bytes_more}
 use Rattle.pt_tracer.proofs.StopLemmas.{edited-then}
 use Rattle.pt_tracer.proofs.AuxiliaryLemmas.{there-still}
 use Rattle.pt_lists.specs.Reading.{texts_from, texts_read}

@@ -1,6 +1,6 @@
 use Rattle.std.proofs.Common.{◌≡◌, ◌+◌, ◌-◌, [], length}
-use Rattle.kr_calls.specs.Expansion.{bytes_with_ends}
-use Rattle.kr_exec.specs.Lists.{most_texts}
+use Rattle.pt_tracer.specs.kr_calls.Expansion.{bytes_with_ends}
+use Rattle.pt_tracer.specs.kr_exec.Lists.{most_texts}
 use Rattle.pt_tracer.specs.Stopping.{IsEdited}
 use Rattle.pt_lists.specs.Reading.{texts_from}
 use Rattle.pt_lists.proofs.ReadLemmas.{IsLeft}

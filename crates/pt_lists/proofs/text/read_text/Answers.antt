@@ -1,5 +1,5 @@
 use Rattle.std.proofs.Common.{◌≡◌, ◌+◌, ◌-◌, ◌∙◌, suc, refl, arith}
-use Rattle.kr_exec.specs.Lists.{most_bytes}
+use Rattle.pt_tracer.specs.kr_exec.Lists.{most_bytes}
 use Rattle.pt_tracer.proofs.StopLemmas.{edited-then}
 use Rattle.pt_tracer.proofs.AuxiliaryLemmas.{there-still}
 use Rattle.pt_lists.specs.Reading.{text_at}

@@ -1,5 +1,5 @@
 use Rattle.std.proofs.Common.{◌≡◌, ◌-◌}
-use Rattle.kr_exec.specs.Lists.{most_bytes}
+use Rattle.pt_tracer.specs.kr_exec.Lists.{most_bytes}
 use Rattle.pt_tracer.specs.Stopping.{IsEdited}
 use Rattle.pt_lists.specs.Reading.{text_at, text_from}
 use Rattle.pt_lists.proofs.ReadLemmas.{IsLeft}

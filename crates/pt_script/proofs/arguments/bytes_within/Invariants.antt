@@ -1,5 +1,5 @@
 use Rattle.std.proofs.Common.{◌≡◌, ◌+◌, drop}
-use Rattle.kr_calls.specs.Expansion.{bytes_with_ends}
+use Rattle.pt_args.specs.kr_calls.Expansion.{bytes_with_ends}
 use Rattle.pt_script.proofs.arguments.bytes_within.Given as goal
 
 abbrev pub invariant-loop-k : goal.invariant-loop-k

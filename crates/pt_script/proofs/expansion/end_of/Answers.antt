@@ -1,8 +1,8 @@
 use Rattle.std.proofs.Common.{◌≡◌, ◌∙◌, Ok, ap, sym}
 use Rattle.std.proofs.lemmas.Result.{err_from_is_err_and}
 use Rattle.std.specs.Option.{option_copied}
-use Rattle.pt_canon.specs.Canon.{texts_by}
-use Rattle.kr_calls.specs.Expansion.{is_script}
+use Rattle.pt_args.specs.pt_canon.Canon.{texts_by}
+use Rattle.pt_args.specs.kr_calls.Expansion.{is_script}
 use Rattle.pt_script.proofs.ChainLemmas.{ended, looped, next_fails, next_left}
 use Rattle.pt_script.proofs.expansion.end_of.Goals as goal
 

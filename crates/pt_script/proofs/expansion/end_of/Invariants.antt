@@ -1,6 +1,6 @@
 use Rattle.std.proofs.Common.{◌≡◌, ◌-◌, ◌≤◌, length}
 use Rattle.std.specs.Option.{option_copied}
-use Rattle.pt_canon.specs.Canon.{texts_by}
+use Rattle.pt_args.specs.pt_canon.Canon.{texts_by}
 use Rattle.pt_script.proofs.ChainLemmas.{IsLeft}
 use Rattle.pt_script.proofs.expansion.end_of.Given as goal
 

@@ -2,8 +2,8 @@ use Rattle.std.proofs.Common.{◌∙◌, ap}
 use Rattle.pr_base.specs.Paths.{is_absolute}
 use Rattle.pr_base.specs.declared.path.WalkMode.TheVariants.{Look}
 use Rattle.pr_base.proofs.PathLemmas.{text_absolute}
-use Rattle.pt_bind.specs.Binding.{host_of, names_of}
-use Rattle.pt_canon.specs.Canon.{texts_by}
+use Rattle.pt_args.specs.pt_bind.Binding.{host_of, names_of}
+use Rattle.pt_args.specs.pt_canon.Canon.{texts_by}
 use Rattle.pt_script.proofs.program.canon_from.Goals as goal
 
 -- a host text that was reached begins at the root

@@ -1,5 +1,5 @@
 use Rattle.std.proofs.Common.{◌≡◌, ◌-◌, ℕ}
-use Rattle.rv_mem.specs.Actions.{Action}
+use Rattle.pt_ident.specs.rv_mem.Actions.{Action}
 use Rattle.kr_turns.specs.Stopped.{IsEdited}
 use Rattle.pt_tracer.specs.Carrying.{on_its_memory}
 use Rattle.pt_tracer.specs.Faking.{behind_list}

@@ -1,5 +1,5 @@
 use Rattle.std.proofs.Common.{◌≡◌, ◌∙◌, ◌&&◌, true, length, ap, sym}
-use Rattle.rv_mem.specs.declared.rights.Use.TheVariants.{Write}
+use Rattle.pt_ident.specs.rv_mem.declared.rights.Use.TheVariants.{Write}
 use Rattle.kr_turns.specs.Editing.{after_poke, memory_at}
 use Rattle.kr_turns.proofs.EditLemmas.{edited-then}
 use Rattle.pt_ident.specs.Identity.{numbers_of}

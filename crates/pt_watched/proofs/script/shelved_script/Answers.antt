@@ -1,8 +1,8 @@
 use Rattle.std.proofs.Common.{◌≡◌, ◌+◌, ◌*◌, ◌++◌, ◌∙◌, ℕ, List, length, ap, arith}
 use Rattle.std.proofs.Common.{length-append}
 use Rattle.std.proofs.SliceLists.{length_more}
-use Rattle.pt_args.specs.Shelving.{address_below, with_zero}
-use Rattle.pt_args.specs.declared.shelf.Shelf.{Shelf}
+use Rattle.pt_results.specs.pt_args.Shelving.{address_below, with_zero}
+use Rattle.pt_results.specs.pt_args.declared.shelf.Shelf.{Shelf}
 use Rattle.pt_watched.specs.ScriptEdit.{addresses_of, with_texts}
 use Rattle.pt_watched.proofs.ShelfLemmas.{addresses-long, near, texts-top}
 use Rattle.pt_watched.proofs.script.shelved_script.Goals as goal

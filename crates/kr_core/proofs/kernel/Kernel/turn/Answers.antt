@@ -1,8 +1,8 @@
 use Rattle.std.proofs.Common.{◌≡◌, ◌≢◌, ◌<◌, ◌+◌, suc, true, [], None, false, lit<, refl, sym, ap, subst, arith, ◌∙◌, vec_len, length}
 use Rattle.std.specs.Prelude.{IsSome, ◌^◌, ◌==◌}
-use Rattle.kr_ops.proofs.UseLemmas.{sound-of}
-use Rattle.kr_ops.specs.Meaning.{process_meaning}
-use Rattle.kr_seen.specs.Numbered.{process_numbered}
+use Rattle.kr_first.proofs.kr_ops.UseLemmas.{sound-of}
+use Rattle.kr_first.specs.kr_ops.Meaning.{process_meaning}
+use Rattle.kr_turns.specs.kr_seen.Numbered.{process_numbered}
 use Rattle.kr_turns.specs.Steps.{Runs, picked_process}
 use Rattle.kr_turns.specs.Making.{machine_of, watching}
 use Rattle.kr_turns.specs.Turn.{IsTurnOf, Tally}

@@ -1,6 +1,6 @@
 use Rattle.std.proofs.Common.{◌∙◌, sym}
 use Rattle.kr_files.specs.Descriptors.{with_cloexec}
-use Rattle.pr_base.proofs.MapLemmas.{changed-some}
+use Rattle.kr_tree.proofs.pr_base.MapLemmas.{changed-some}
 use Rattle.kr_files.proofs.descs.Descs.set_cloexec.Goals as goal
 
 pub returns-in-Some : goal.returns-in-Some

@@ -2,7 +2,7 @@ use Rattle.std.proofs.Common.{◌∙◌, ap, subst, sym, refl}
 use Rattle.std.specs.FinMap as map
 use Rattle.kr_files.specs.Descriptors.{meanings, named_count}
 use Rattle.kr_files.specs.Files.{Kept, counted_more}
-use Rattle.pr_base.specs.Maps.{mapped}
+use Rattle.kr_tree.specs.pr_base.Maps.{mapped}
 use Rattle.kr_files.specs.Sound.{IsSound}
 use Rattle.kr_files.proofs.SoundLemmas.{same-mapped, sound-same_kinds}
 use Rattle.kr_files.proofs.files.Files.fork.Goals as goal

@@ -1,7 +1,7 @@
 use Rattle.std.proofs.Common.{◌∙◌, ap}
 use Rattle.std.specs.FinMap as map
 use Rattle.kr_files.specs.StoredPipes.{Pipe}
-use Rattle.pr_base.proofs.MapLemmas.{mapped-empty}
+use Rattle.kr_tree.proofs.pr_base.MapLemmas.{mapped-empty}
 use Rattle.kr_files.proofs.CloseLemmas.{same_kept, bytes_of}
 use Rattle.kr_files.proofs.SoundLemmas.{sound-empty}
 use Rattle.kr_files.proofs.files.Files.new.Goals as goal

@@ -9,7 +9,7 @@ use Rattle.kr_files.proofs.AnswerLemmas.{ok_of}
 use Rattle.kr_files.proofs.ClaimLemmas.{wanting_not_full, ok_not_full, pair_is, pipe_taken, pipe_refused, answers_no_full, claimed_first, claimed_second, given, table_with_pipe}
 use Rattle.kr_files.proofs.CloseLemmas.{bytes_of, same_kept}
 use Rattle.kr_files.proofs.DescriptorLemmas.{lowest_free-some}
-use Rattle.pr_base.proofs.MapLemmas.{len-mapped, remove-insert}
+use Rattle.kr_tree.proofs.pr_base.MapLemmas.{len-mapped, remove-insert}
 use Rattle.kr_files.proofs.SoundLemmas.{fresh_pipe_number, sound-pipe}
 use Rattle.kr_files.proofs.files.Files.pipe.Goals as goal
 

@@ -1,6 +1,6 @@
 use Rattle.std.proofs.Common.{subst, sym}
 use Rattle.kr_files.specs.Files.{on_opened}
-use Rattle.pr_base.specs.Maps.{mapped}
+use Rattle.kr_tree.specs.pr_base.Maps.{mapped}
 use Rattle.kr_files.specs.Opened.{after_removal}
 use Rattle.kr_files.specs.Sound.{IsSound}
 use Rattle.kr_files.proofs.EntryLemmas.{what-after_removal}

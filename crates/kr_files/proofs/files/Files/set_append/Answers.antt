@@ -1,6 +1,6 @@
 use Rattle.std.proofs.Common.{subst, sym, refl}
 use Rattle.kr_files.specs.Files.{on_opened, with_append}
-use Rattle.pr_base.specs.Maps.{changed}
+use Rattle.kr_tree.specs.pr_base.Maps.{changed}
 use Rattle.kr_files.specs.Sound.{IsSound}
 use Rattle.kr_files.proofs.SoundLemmas.{same-changed, sound-same_kinds}
 use Rattle.kr_files.proofs.files.Files.set_append.Goals as goal

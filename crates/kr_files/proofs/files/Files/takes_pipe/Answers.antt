@@ -3,7 +3,7 @@ use Rattle.std.specs.FinMap as map
 use Rattle.kr_files.specs.Files.{Kept}
 use Rattle.kr_files.specs.StoredPipes.{Pipe}
 use Rattle.kr_files.proofs.ClaimLemmas.{taken_by_count}
-use Rattle.pr_base.proofs.MapLemmas.{len-mapped}
+use Rattle.kr_tree.proofs.pr_base.MapLemmas.{len-mapped}
 use Rattle.kr_files.proofs.files.Files.takes_pipe.Goals as goal
 
 pub returns-then-is_some : goal.returns-then-is_some

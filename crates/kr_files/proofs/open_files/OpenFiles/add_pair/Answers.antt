@@ -2,7 +2,7 @@ use Rattle.std.proofs.Common.{◌≢◌, ◌+◌, ◌∙◌, sym, ap, subst, ari
 use Rattle.std.specs.FinMap as map
 use Rattle.std.specs.Prelude.{IsSome}
 use Rattle.kr_files.specs.declared.descs.Descriptor.{Descriptor}
-use Rattle.pr_base.proofs.MapLemmas.{some-insert, free-insert, get-insert_other}
+use Rattle.kr_tree.proofs.pr_base.MapLemmas.{some-insert, free-insert, get-insert_other}
 use Rattle.kr_files.proofs.open_files.OpenFiles.add_pair.Goals as goal
 
 pub add_under-requires-2-clause-fresh : goal.add_under-requires-2-clause-fresh

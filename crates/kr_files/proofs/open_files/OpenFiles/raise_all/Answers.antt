@@ -2,7 +2,7 @@ use Rattle.std.proofs.Common.{◌<◌, ◌+◌, ◌^◌, ◌∙◌, sym, ap, sub
 use Rattle.std.specs.FinMap as map
 use Rattle.std.specs.Option.{option_map_or}
 use Rattle.kr_files.specs.Files.{Counted, counted_more}
-use Rattle.pr_base.specs.Maps.{changed}
+use Rattle.kr_tree.specs.pr_base.Maps.{changed}
 use Rattle.kr_files.proofs.CountLemmas.{raised-none, raised-some, raised-nothing, raised-all, raise_fits}
 use Rattle.kr_files.proofs.open_files.OpenFiles.raise_all.Goals as goal
 use Rattle.kr_files.proofs.open_files.OpenFiles.raise_all.Goals.{in-Some, in_default}

@@ -1,7 +1,7 @@
 use Rattle.std.proofs.Common.{◌≡◌, ◌≤◌}
 use Rattle.kr_files.specs.Descriptors.{meanings, named_below}
 use Rattle.kr_files.specs.Files.{counted_more}
-use Rattle.pr_base.specs.Maps.{mapped}
+use Rattle.kr_tree.specs.pr_base.Maps.{mapped}
 use Rattle.kr_files.proofs.open_files.OpenFiles.raise_all.Given as goal
 
 abbrev pub invariant-loop-fd : goal.invariant-loop-fd

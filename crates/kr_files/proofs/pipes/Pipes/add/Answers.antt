@@ -1,6 +1,6 @@
 use Rattle.std.proofs.Common.{◌∙◌, ap}
 use Rattle.std.specs.FinMap as map
-use Rattle.pr_base.proofs.BTreeLemmas.{inserted}
+use Rattle.kr_tree.proofs.pr_base.BTreeLemmas.{inserted}
 use Rattle.kr_files.proofs.pipes.Pipes.add.Goals as goal
 
 pub returns-clause-ok : goal.returns-clause-ok

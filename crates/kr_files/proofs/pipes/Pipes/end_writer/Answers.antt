@@ -1,9 +1,9 @@
 use Rattle.std.proofs.Common.{◌≡◌, ◌∙◌, ap, sym, cond, true}
 use Rattle.std.specs.FinMap as map
-use Rattle.pr_base.specs.Maps.{changed}
+use Rattle.kr_tree.specs.pr_base.Maps.{changed}
 use Rattle.kr_files.specs.StoredPipes.{reader_open, without_writer}
-use Rattle.pr_base.proofs.MapLemmas.{changed-some, changed-none}
-use Rattle.pr_base.proofs.BTreeLemmas.{get-view, written, untouched}
+use Rattle.kr_tree.proofs.pr_base.MapLemmas.{changed-some, changed-none}
+use Rattle.kr_tree.proofs.pr_base.BTreeLemmas.{get-view, written, untouched}
 use Rattle.kr_files.proofs.pipes.Pipes.end_writer.Goals as goal
 
 pub returns-in-Some : goal.returns-in-Some

@@ -1,5 +1,5 @@
 use Rattle.std.proofs.Common.{◌∙◌}
-use Rattle.pr_base.proofs.BTreeLemmas.{get-view}
+use Rattle.kr_tree.proofs.pr_base.BTreeLemmas.{get-view}
 use Rattle.kr_files.proofs.pipes.Pipes.get.Goals as goal
 
 pub returns : goal.returns

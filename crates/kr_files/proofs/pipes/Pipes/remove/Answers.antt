@@ -1,4 +1,4 @@
-use Rattle.pr_base.proofs.BTreeLemmas.{removed}
+use Rattle.kr_tree.proofs.pr_base.BTreeLemmas.{removed}
 use Rattle.kr_files.proofs.pipes.Pipes.remove.Goals as goal
 
 pub returns : goal.returns

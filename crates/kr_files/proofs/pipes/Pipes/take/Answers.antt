@@ -3,8 +3,8 @@ use Rattle.std.specs.FinMap as map
 use Rattle.std.specs.Option.{option_map}
 use Rattle.kr_files.specs.StoredPipes.{holding}
 use Rattle.kr_files.proofs.AnswerLemmas.{on_ok_map, on_error_map, if_ok_map}
-use Rattle.pr_base.proofs.MapLemmas.{changed-some, insert-same}
-use Rattle.pr_base.proofs.BTreeLemmas.{is_found, found_mut, there_mut, written}
+use Rattle.kr_tree.proofs.pr_base.MapLemmas.{changed-some, insert-same}
+use Rattle.kr_tree.proofs.pr_base.BTreeLemmas.{is_found, found_mut, there_mut, written}
 use Rattle.kr_files.proofs.pipes.Pipes.take.Goals as goal
 
 pub unwrap-pipe-requires : goal.unwrap-pipe-requires

@@ -1,7 +1,7 @@
 use Rattle.std.proofs.Common.{subst}
 use Rattle.pr_base.specs.Peeks.{IsPeeked}
-use Rattle.kr_model.specs.Peeks.{peeked_of}
-use Rattle.kr_ops.specs.Meaning.{meaning}
+use Rattle.kr_seen.specs.kr_model.Peeks.{peeked_of}
+use Rattle.kr_seen.specs.kr_ops.Meaning.{meaning}
 use Rattle.kr_hostview.specs.Asked.{Asked}
 use Rattle.kr_hostview.proofs.asked.HostPeeksPeeks.kind.Goals as goal
 

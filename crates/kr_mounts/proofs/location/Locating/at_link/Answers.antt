@@ -1,5 +1,5 @@
 use Rattle.std.proofs.Common.{◌≡◌, ◌<◌, ◌-◌, not, ap, ◌∙◌, arith}
-use Rattle.pr_base.specs.Paths.{component_of, components_of}
+use Rattle.pt_bind.specs.pr_base.Paths.{component_of, components_of}
 use Rattle.kr_mounts.specs.Locations.{Spot, located_at, stepped}
 use Rattle.kr_mounts.specs.Spots.{location_from, location_on, spot_of}
 use Rattle.kr_mounts.proofs.LocationLemmas.{link_goes, link_loops, link_stays}

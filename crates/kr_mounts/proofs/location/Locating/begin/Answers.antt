@@ -2,7 +2,7 @@ use Rattle.std.proofs.Common.{◌∙◌, ap, sym}
 use Rattle.std.specs.Bool.{if◌then◌else◌}
 use Rattle.kr_mounts.specs.Locations.{alone, locating}
 use Rattle.kr_mounts.specs.Spots.{spot_of}
-use Rattle.pr_base.specs.Paths.{is_absolute}
+use Rattle.pt_bind.specs.pr_base.Paths.{is_absolute}
 use Rattle.kr_mounts.proofs.location.Locating.begin.Goals as goal
 
 pub returns-then-absolute-clause-spot : goal.returns-then-absolute-clause-spot

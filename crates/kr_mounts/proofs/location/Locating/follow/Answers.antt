@@ -1,6 +1,6 @@
 use Rattle.std.proofs.Common.{◌≡◌, ◌∷◌, [], ◌++◌, append_assoc, refl, ap, ◌∙◌}
-use Rattle.pr_base.specs.Paths.{components_of, slash}
-use Rattle.pr_base.proofs.PathLemmas.{components_seam}
+use Rattle.pt_bind.specs.pr_base.Paths.{components_of, slash}
+use Rattle.pt_bind.proofs.pr_base.PathLemmas.{components_seam}
 use Rattle.kr_mounts.proofs.location.Locating.follow.Goals as goal
 
 pub returns : goal.returns

@@ -1,5 +1,5 @@
 use Rattle.std.proofs.Common.{true, sym, ap, subst}
-use Rattle.pr_base.specs.Paths.{Component}
+use Rattle.pt_bind.specs.pr_base.Paths.{Component}
 use Rattle.kr_view.specs.Component.{inside}
 use Rattle.kr_view.specs.View.{node_in}
 use Rattle.kr_mounts.specs.Spots.{IsShownAt, alone_around}

@@ -1,8 +1,8 @@
 use Rattle.std.proofs.Common.{◌≡◌, ◌∷◌, [], Result, map, refl, sym, ap, subst, ◌∙◌}
 use Rattle.std.specs.Option.{option_map}
-use Rattle.pr_base.specs.Parts.{parts_left, rest_of}
-use Rattle.pr_base.specs.Paths.{component_of, components_of}
-use Rattle.pr_base.specs.Texts.{Text}
+use Rattle.pt_bind.specs.pr_base.Parts.{parts_left, rest_of}
+use Rattle.pt_bind.specs.pr_base.Paths.{component_of, components_of}
+use Rattle.pt_bind.specs.pr_base.Texts.{Text}
 use Rattle.kr_view.specs.View.{node_in}
 use Rattle.kr_mounts.specs.Locations.{Spot, stepped}
 use Rattle.kr_mounts.specs.Spots.{IsStepped, location_from, location_left, location_on, spot_of}

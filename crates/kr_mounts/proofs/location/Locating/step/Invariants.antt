@@ -1,6 +1,6 @@
 use Rattle.std.proofs.Common.{◌≡◌, length, map}
-use Rattle.pr_base.specs.Parts.{parts_left}
-use Rattle.pr_base.specs.Paths.{component_of}
+use Rattle.pt_bind.specs.pr_base.Parts.{parts_left}
+use Rattle.pt_bind.specs.pr_base.Paths.{component_of}
 use Rattle.kr_mounts.specs.Spots.{location_left, location_on, spot_of}
 use Rattle.kr_mounts.specs.Texts.{IsBelow}
 use Rattle.kr_mounts.proofs.location.Locating.step.Given as goal

@@ -1,7 +1,7 @@
 use Rattle.std.proofs.Common.{◌≡◌, ◌∷◌, [], List, ℕ, All, sym, ap, subst, ◌∙◌}
 use Rattle.std.proofs.lemmas.List.Elements.{All-head, All-tail}
-use Rattle.pr_base.specs.Parts.{parts_left}
-use Rattle.pr_base.specs.Paths.{IsPart, parts_of}
+use Rattle.pt_bind.specs.pr_base.Parts.{parts_left}
+use Rattle.pt_bind.specs.pr_base.Paths.{IsPart, parts_of}
 use Rattle.kr_mounts.specs.Growth.{Same}
 use Rattle.kr_mounts.specs.Stored.{table_of}
 use Rattle.kr_mounts.specs.Ways.{IsEnded, wanted_of, way_of}

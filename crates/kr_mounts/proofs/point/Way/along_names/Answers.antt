@@ -1,9 +1,9 @@
 use Rattle.std.proofs.Common.{◌≡◌, ◌∷◌, ℕ, All, sym, ap, subst, ◌∙◌}
 use Rattle.std.proofs.lemmas.List.Elements.{All-head, All-tail}
 use Rattle.std.proofs.lemmas.Result.{IfOk-weaker}
-use Rattle.pr_base.specs.Parts.{parts_left}
-use Rattle.pr_base.specs.Paths.{IsPart, parts_of}
-use Rattle.kr_tree.specs.Tree.{Tree}
+use Rattle.pt_bind.specs.pr_base.Parts.{parts_left}
+use Rattle.pt_bind.specs.pr_base.Paths.{IsPart, parts_of}
+use Rattle.kr_view.specs.kr_tree.Tree.{Tree}
 use Rattle.kr_view.specs.View.{Point}
 use Rattle.kr_mounts.specs.Growth.{Same}
 use Rattle.kr_mounts.specs.Points.{Left, way}

@@ -1,6 +1,6 @@
 use Rattle.std.proofs.Common.{◌≡◌, ◌∷◌, All, length}
-use Rattle.pr_base.specs.Parts.{parts_left}
-use Rattle.pr_base.specs.Paths.{IsPart, parts_of}
+use Rattle.pt_bind.specs.pr_base.Parts.{parts_left}
+use Rattle.pt_bind.specs.pr_base.Paths.{IsPart, parts_of}
 use Rattle.kr_mounts.specs.Growth.{IsGrown}
 use Rattle.kr_mounts.specs.Points.{way}
 use Rattle.kr_mounts.specs.Stored.{table_of}

@@ -1,8 +1,8 @@
 use Rattle.std.proofs.Common.{sym, ap, subst, ◌∙◌, refl, Option}
 use Rattle.std.proofs.lemmas.Result.{err_from_is_err_and}
-use Rattle.kr_tree.specs.declared.place.Place.{Place}
-use Rattle.kr_files.specs.Files.{Kept, NamesOpenFiles, copied}
-use Rattle.kr_files.proofs.DescriptorLemmas.{lowest_free-some}
+use Rattle.kr_lawful.specs.kr_tree.declared.place.Place.{Place}
+use Rattle.kr_lawful.specs.kr_files.Files.{Kept, NamesOpenFiles, copied}
+use Rattle.kr_lawful.proofs.kr_files.DescriptorLemmas.{lowest_free-some}
 use Rattle.kr_lawful.specs.kr_model.Applied.{held_at}
 use Rattle.kr_ops.specs.declared.state.Process.{Process}
 use Rattle.kr_ops.proofs.CloseLemmas.{held-there}

@@ -1,7 +1,7 @@
 use Rattle.std.proofs.Common.{◌≡◌, ◌∙◌, ap, sym, subst, refl, arith}
 use Rattle.std.specs.Prelude.{map as map_list, ◌==◌, not}
 use Rattle.std.specs.List.{AllByRecursion, filter}
-use Rattle.kr_files.specs.Files.{NamesOpenFiles}
+use Rattle.kr_lawful.specs.kr_files.Files.{NamesOpenFiles}
 use Rattle.kr_lawful.specs.kr_model.Applied.{ended_with, put_in, stays}
 use Rattle.kr_lawful.specs.kr_model.Known.{pages_in_all}
 use Rattle.kr_lawful.specs.kr_model.State.{image_layout}

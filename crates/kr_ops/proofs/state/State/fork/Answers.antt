@@ -1,12 +1,12 @@
 use Rattle.std.proofs.Common.{◌≡◌, ◌+◌, ◌≤◌, ◌<◌, ◌^◌, true, false, Err, Option, Some, refl, sym, ap, subst, ◌∙◌, arith}
 use Rattle.std.specs.Prelude.{IfSome}
-use Rattle.rv_mem.specs.Memory.{Memory, page_count}
-use Rattle.rv_mem.specs.Pages.{allows_all}
-use Rattle.rv_mem.specs.declared.rights.Use.TheVariants.{Write}
-use Rattle.kr_tree.specs.Holds.{holds_at}
-use Rattle.kr_tree.specs.Tree.{Tree}
-use Rattle.kr_files.specs.Descriptors.{meanings}
-use Rattle.kr_files.specs.Files.{Kept, NamesOpenFiles}
+use Rattle.kr_lawful.specs.rv_mem.Memory.{Memory, page_count}
+use Rattle.kr_lawful.specs.rv_mem.Pages.{allows_all}
+use Rattle.kr_lawful.specs.rv_mem.declared.rights.Use.TheVariants.{Write}
+use Rattle.kr_lawful.specs.kr_tree.Holds.{holds_at}
+use Rattle.kr_lawful.specs.kr_tree.Tree.{Tree}
+use Rattle.kr_lawful.specs.kr_files.Descriptors.{meanings}
+use Rattle.kr_lawful.specs.kr_files.Files.{Kept, NamesOpenFiles}
 use Rattle.kr_lawful.specs.kr_model.Applied.{told}
 use Rattle.kr_lawful.specs.kr_model.MemoryRows.{all_pages}
 use Rattle.kr_lawful.specs.kr_model.State.{Image, Process, inode_of}
@@ -82,11 +82,6 @@ hold-requires-2-clause-fits g c =
     let most = holds-held-most (Some c.index-parent.result.now.cwd) c.hold_all.new.tree i in
     let room = subst (λ (t : Tree). holds_at t i + 2 < 2 ^ 32) (sym c.hold_all.ensures) (room-for (meanings c.index-parent.result.now.descs) c.args.self.now.files.table c.args.self.now.tree (holds-fit c.args.self.now c.requires.sound) i) in
     subst (λ (t : Tree). holds_at t i + 1 < 2 ^ 32) (sym c.hold.ensures) (omega arith)
-
-pub child_regs-requires : goal.child_regs-requires
-child_regs-requires g c =
-    subst (λ (o : Option (Process _ Image)). IfSome o (λ p. p.image.regs.pc + 4 < 2 ^ 64))
-    (found c.args.self.now c.args.pid c.in-Some.k c.index-parent.result.now c.requires.sound c.in-Some.ensures.some (as-before c.args.self.now.living.items c.in-Some.k c.index_mut.result.now c.index-parent.result.now c.fork.new.self c.in-Ok.ensures.same c.index_mut.ensures.value c.index-parent.ensures)) c.requires.behind
 
 pub returns-clause-makes : goal.returns-clause-makes
 returns-clause-makes g c = λ mounts.

@@ -1,6 +1,6 @@
 use Rattle.std.proofs.Common.{sym, ap, ◌∙◌}
 use Rattle.std.specs.Option.{option_and_then}
-use Rattle.kr_files.specs.Descriptors.{lowest_free}
+use Rattle.kr_lawful.specs.kr_files.Descriptors.{lowest_free}
 use Rattle.kr_lawful.specs.kr_model.State.{Image, Process}
 use Rattle.kr_ops.proofs.ListLemmas.{none-found}
 use Rattle.kr_ops.proofs.OpeningLemmas.{lowest}

@@ -1,10 +1,10 @@
 use Rattle.std.proofs.Common.{refl, ◌≡◌, ◌/◌, arith}
 use Rattle.std.specs.Prelude.{◌↔◌, IsErrOf, IsTrue}
 use Rattle.std.proofs.lemmas.Result.{on_ok_weaker}
-use Rattle.pr_base.specs.Page.{page_size}
-use Rattle.rv_mem.specs.Memory.{passes_limit, with_pages}
-use Rattle.rv_mem.specs.Pages.{mapped}
-use Rattle.rv_mem.specs.declared.fault.MapFault.TheVariants.{Full}
+use Rattle.kr_lawful.specs.pr_base.Page.{page_size}
+use Rattle.kr_lawful.specs.rv_mem.Memory.{passes_limit, with_pages}
+use Rattle.kr_lawful.specs.rv_mem.Pages.{mapped}
+use Rattle.kr_lawful.specs.rv_mem.declared.fault.MapFault.TheVariants.{Full}
 use Rattle.kr_lawful.specs.kr_model.Change.{MapPages}
 use Rattle.kr_ops.proofs.OpeningLemmas.{not-living}
 use Rattle.kr_ops.proofs.PageLemmas.{counted-in, of-process, paged-means, room-either}

@@ -1,9 +1,9 @@
 use Rattle.std.proofs.Common.{refl, ◌≡◌, ◌/◌, arith}
 use Rattle.std.specs.Prelude.{◌↔◌, IsOk, IsTrue}
 use Rattle.std.proofs.lemmas.Result.{on_ok_weaker}
-use Rattle.pr_base.specs.Page.{page_size}
-use Rattle.rv_mem.specs.Memory.{with_pages}
-use Rattle.rv_mem.specs.Pages.{has_pages, protected}
+use Rattle.kr_lawful.specs.pr_base.Page.{page_size}
+use Rattle.kr_lawful.specs.rv_mem.Memory.{with_pages}
+use Rattle.kr_lawful.specs.rv_mem.Pages.{has_pages, protected}
 use Rattle.kr_lawful.specs.kr_model.Change.{ProtectPages}
 use Rattle.kr_ops.proofs.OpeningLemmas.{not-living}
 use Rattle.kr_ops.proofs.PageLemmas.{of-process, paged-means, room-changed}

@@ -1,6 +1,6 @@
 use Rattle.std.proofs.Common.{◌≡◌, ◌+◌, refl, subst, Option}
 use Rattle.std.specs.Prelude.{IfSome}
-use Rattle.rv_mem.specs.Memory.{page_count}
+use Rattle.kr_lawful.specs.rv_mem.Memory.{page_count}
 use Rattle.kr_lawful.specs.kr_model.Applied.{with_program}
 use Rattle.kr_lawful.specs.kr_model.State.{Image, Process}
 use Rattle.kr_ops.proofs.ChangeLemmas.{one-changed}

@@ -1,5 +1,5 @@
 use Rattle.std.proofs.Common.{refl, ◌/◌, arith}
-use Rattle.pr_base.specs.Page.{page_size}
+use Rattle.kr_lawful.specs.pr_base.Page.{page_size}
 use Rattle.kr_lawful.specs.kr_model.Applied.{images, with_image}
 use Rattle.kr_lawful.specs.kr_model.Change.{UnmapPages}
 use Rattle.kr_ops.proofs.ChangeLemmas.{nobody-changed}

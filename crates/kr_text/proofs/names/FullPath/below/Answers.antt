@@ -1,5 +1,5 @@
 use Rattle.std.proofs.Common.{rules, ◌≡◌, ◌∷◌, ◌++◌, [], reverse, ap, subst, sym, ◌∙◌}
-use Rattle.pr_base.specs.Paths.{parts_of, below_root}
+use Rattle.kr_tree.specs.pr_base.Paths.{parts_of, below_root}
 use Rattle.kr_text.proofs.FullPathLemmas.{names_below, kept_below}
 use Rattle.kr_text.proofs.names.FullPath.below.Goals as goal
 

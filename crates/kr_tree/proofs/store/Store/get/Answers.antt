@@ -1,5 +1,5 @@
 use Rattle.std.proofs.Common.{◌∙◌}
-use Rattle.pr_base.proofs.BTreeLemmas.{get-view}
+use Rattle.kr_inode.proofs.pr_base.BTreeLemmas.{get-view}
 use Rattle.kr_tree.proofs.store.Store.get.Goals as goal
 
 pub returns : goal.returns

@@ -1,4 +1,4 @@
-use Rattle.pr_base.proofs.BTreeLemmas.{inserted}
+use Rattle.kr_inode.proofs.pr_base.BTreeLemmas.{inserted}
 use Rattle.kr_tree.proofs.store.Store.insert.Goals as goal
 
 pub returns-clause-ok : goal.returns-clause-ok

@@ -1,6 +1,6 @@
 use Rattle.std.proofs.Common.{◌∙◌, ap, sym}
 use Rattle.std.specs.FinMap as map
-use Rattle.pr_base.proofs.BTreeLemmas.{len-from_entries}
+use Rattle.kr_inode.proofs.pr_base.BTreeLemmas.{len-from_entries}
 use Rattle.kr_tree.proofs.store.Store.len.Goals as goal
 
 pub returns : goal.returns

@@ -3,7 +3,7 @@ use Rattle.std.proofs.Common.{◌≡◌, ◌∙◌, ap, sym, subst, ◌+◌, ◌
 use Rattle.std.specs.Prelude.{IfSome, IsTrue}
 use Rattle.kr_tree.specs.Tree.{Inode, is_listed, entry_named, entries_of}
 use Rattle.kr_tree.specs.Changes.{with_inode, with_entry}
-use Rattle.pr_base.proofs.MapLemmas.{apart, get-insert_other, remove-insert, changed-insert}
+use Rattle.kr_inode.proofs.pr_base.MapLemmas.{apart, get-insert_other, remove-insert, changed-insert}
 use Rattle.kr_tree.proofs.StoreLemmas.{on_ok, on_err}
 use Rattle.kr_tree.proofs.store.Store.put.Goals as goal
 

@@ -1,4 +1,4 @@
-use Rattle.pr_base.proofs.BTreeLemmas.{removed}
+use Rattle.kr_inode.proofs.pr_base.BTreeLemmas.{removed}
 use Rattle.kr_tree.proofs.store.Store.remove.Goals as goal
 
 pub returns : goal.returns

@@ -2,7 +2,7 @@ use Rattle.std.proofs.Common.{ℕ, ◌-◌, ◌≤◌, ◌∙◌, ap, sym, subst
 use Rattle.kr_tree.specs.Tree.{Tree, Inodes}
 use Rattle.kr_tree.specs.Changes.{with_inode, with_holds, without_unused, freed}
 use Rattle.kr_tree.specs.Lawful.{IsKept}
-use Rattle.pr_base.proofs.MapLemmas.{get-changed_other}
+use Rattle.kr_inode.proofs.pr_base.MapLemmas.{get-changed_other}
 use Rattle.kr_tree.proofs.OfBytesLemmas.{of_bytes-with}
 use Rattle.kr_tree.proofs.QuietLemmas.{sound-still, counted-still}
 use Rattle.kr_tree.proofs.DropLemmas.{kept-dropped, freed-le}

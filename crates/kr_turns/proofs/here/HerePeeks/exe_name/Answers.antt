@@ -1,7 +1,7 @@
 use Rattle.std.proofs.Common.{lit<, ap, subst, ◌≡◌}
 use Rattle.std.specs.Prelude.{IfOk}
 use Rattle.std.proofs.Math.Logic.{∥∥₁_prop}
-use Rattle.pr_base.specs.Peeks.{Peeked}
+use Rattle.kr_hostview.specs.pr_base.Peeks.{Peeked}
 use Rattle.kr_turns.specs.Held.{Held}
 use Rattle.kr_turns.proofs.HereLemmas.{of-view, told-here}
 use Rattle.kr_turns.proofs.here.HerePeeks.exe_name.Goals as goal

@@ -1,10 +1,10 @@
 use Rattle.std.proofs.Common.{length, ap, subst, sym, ◌≡◌, ◌∙◌}
 use Rattle.std.specs.Prelude.{IsOk, IsTrue, OnOk, ◌↔◌}
 use Rattle.std.proofs.lemmas.Result.{on_ok_weaker}
-use Rattle.rv_mem.specs.Memory.{Memory, after_read}
-use Rattle.rv_mem.specs.Pages.{allows_all, bytes_from}
-use Rattle.kr_model.specs.State.{Image}
-use Rattle.kr_ops.specs.Meaning.{meaning}
+use Rattle.kr_steps.specs.rv_mem.Memory.{Memory, after_read}
+use Rattle.kr_steps.specs.rv_mem.Pages.{allows_all, bytes_from}
+use Rattle.kr_hostview.specs.kr_model.State.{Image}
+use Rattle.kr_hostview.specs.kr_ops.Meaning.{meaning}
 use Rattle.kr_turns.specs.Editing.{after_peek, memory_at}
 use Rattle.kr_turns.specs.Held.{Held, stopped_of}
 use Rattle.kr_turns.specs.Stopped.{image_in}

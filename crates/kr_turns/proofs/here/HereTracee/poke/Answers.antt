@@ -1,12 +1,12 @@
 use Rattle.std.proofs.Common.{false, length, ap, subst, sym, ◌≡◌, ◌∙◌}
 use Rattle.std.specs.Prelude.{IsErrOf, ◌↔◌}
 use Rattle.std.proofs.lemmas.Result.{on_ok_weaker}
-use Rattle.rv_mem.specs.Memory.{Memory, with_pages}
-use Rattle.rv_mem.specs.Pages.{allows_all, written}
-use Rattle.rv_mem.specs.declared.fault.StoreFault.TheVariants.{BadAddress}
-use Rattle.rv_mem.specs.declared.rights.Use.TheVariants.{Write}
-use Rattle.kr_model.specs.State.{Image}
-use Rattle.kr_ops.specs.Meaning.{meaning}
+use Rattle.kr_steps.specs.rv_mem.Memory.{Memory, with_pages}
+use Rattle.kr_steps.specs.rv_mem.Pages.{allows_all, written}
+use Rattle.kr_steps.specs.rv_mem.declared.fault.StoreFault.TheVariants.{BadAddress}
+use Rattle.kr_steps.specs.rv_mem.declared.rights.Use.TheVariants.{Write}
+use Rattle.kr_hostview.specs.kr_model.State.{Image}
+use Rattle.kr_hostview.specs.kr_ops.Meaning.{meaning}
 use Rattle.kr_turns.specs.Editing.{after_poke, memory_at}
 use Rattle.kr_turns.specs.Held.{Held, stopped_of}
 use Rattle.kr_turns.specs.Stopped.{image_in}

@@ -1,5 +1,5 @@
 use Rattle.std.proofs.Common.{◌++◌, map, ap, ◌∙◌}
-use Rattle.pr_base.specs.Paths.{component_of}
+use Rattle.kr_tree.specs.pr_base.Paths.{component_of}
 use Rattle.kr_view.specs.inside.Rests.{stacked}
 use Rattle.kr_view.proofs.StackLemmas.{stacked_push}
 use Rattle.kr_view.proofs.rests.Rests.next.Goals as goal

@@ -1,7 +1,7 @@
 use Rattle.std.proofs.Common.{◌≡◌, ◌++◌, Some, None, sym, ap, subst, ◌∙◌}
-use Rattle.pr_base.specs.Paths.{component_of, components_of}
+use Rattle.kr_tree.specs.pr_base.Paths.{component_of, components_of}
 use Rattle.std.specs.Option.{option_map}
-use Rattle.pr_base.specs.WalkFrame.{begins_at, onward, target_at, name_of}
+use Rattle.kr_tree.specs.pr_base.WalkFrame.{begins_at, onward, target_at, name_of}
 use Rattle.kr_view.specs.Names.{free_name}
 use Rattle.kr_view.specs.Reach.{greater, text_length, reach_after}
 use Rattle.kr_view.specs.Component.{SeenPlace}
@@ -115,5 +115,5 @@ returns-else-not-is_followed-2-clause-outcome g c =
     let link = numbered g.P.Places.number c.in-Jumps.spot.place in
     let is = ap (sight_seen g.P.Places.number around) c.in-Jumps.is in
     let P : SeenPlace → Type 0 = λ seen. HasOutcome g.P.Places.number around c.args.mode (last_trail around c.args.mode c.args.walk.left s component c.args.walk.slash seen).answer
-    (reach_after around (last_trail around c.args.mode c.args.walk.left s component c.args.walk.slash seen) c.args.reach.now) c.args.reach.now c.jump_last.new.reach c.jump_last.result in
+    (reach_after around c.args.mode (last_trail around c.args.mode c.args.walk.left s component c.args.walk.slash seen) c.args.reach.now) c.args.reach.now c.jump_last.new.reach c.jump_last.result in
     subst P (sym is) (c.jump_last.ensures.outcome link component)

@@ -1,13 +1,13 @@
 use Rattle.std.proofs.Common.{◌≡◌, ◌<◌, ◌+◌, ◌-◌, ◌^◌, ◌++◌, length, map, sym, ap, ◌∙◌, arith}
 use Rattle.std.proofs.lemmas.List.{length-append, length-map}
-use Rattle.pr_base.specs.Paths.{component_of, components_of, parts_of}
-use Rattle.pr_base.specs.WalkFrame.{walk_on, begins_at}
+use Rattle.kr_tree.specs.pr_base.Paths.{component_of, components_of, parts_of}
+use Rattle.kr_tree.specs.pr_base.WalkFrame.{walk_on, begins_at}
 use Rattle.kr_view.specs.Leads.{numbered}
 use Rattle.kr_view.specs.Walk.{looking}
 use Rattle.kr_view.specs.inside.Sights.{surroundings_of}
 use Rattle.kr_view.specs.inside.Stacks.{stack_of}
 use Rattle.kr_view.proofs.RestLemmas.{parts_fewer}
-use Rattle.pr_base.proofs.WalkLemmas.{onward-less}
+use Rattle.kr_tree.proofs.pr_base.WalkLemmas.{onward-less}
 use Rattle.kr_view.proofs.surroundings.Surroundings.follow.Goals as goal
 
 pub returns : goal.returns

@@ -1,6 +1,6 @@
 use Rattle.std.proofs.Common.{◌++◌, List, sym, ap, subst, ◌∙◌}
-use Rattle.pr_base.specs.Paths.{Component, components_of}
-use Rattle.pr_base.specs.WalkFrame.{begins_at, onward}
+use Rattle.kr_tree.specs.pr_base.Paths.{Component, components_of}
+use Rattle.kr_tree.specs.pr_base.WalkFrame.{begins_at, onward}
 use Rattle.kr_view.specs.declared.walk.Walk.{Walk}
 use Rattle.kr_view.specs.Component.{SeenPlace, seen_link}
 use Rattle.kr_view.specs.Leads.{numbered}
@@ -64,6 +64,6 @@ returns-in_ok-push-in-Jumps-clause-outcome g c = λ mode.
     let is = ap (sight_seen g.P.Places.number around) c.in-Jumps.is in
     let pushed = c.in_ok-push-in-Jumps.ensures ∙ ap (λ rest. components_left rest ++ stack_of c.args.walk.rests) c.into_rest-in-Jumps.ensures in
     let P : List Component → SeenPlace → Type 0 = λ cs seen. HasOutcome g.P.Places.number around mode (middle_trail around mode c.args.walk.left s cs c.args.walk.slash seen).answer
-    (reach_after around (middle_trail around mode c.args.walk.left s cs c.args.walk.slash seen) c.args.reach.now) c.args.reach.now c.jump.new.reach c.jump.result in
+    (reach_after around mode (middle_trail around mode c.args.walk.left s cs c.args.walk.slash seen) c.args.reach.now) c.args.reach.now c.jump.new.reach c.jump.result in
     let at_link : P (stack_of c.push-in-Jumps.new.self) (seen_link around.space link (around.leads c.in-Jumps.at)) = c.jump.ensures.outcome mode link in
     subst (λ cs. P cs (sight_seen g.P.Places.number around c.args.sight.now)) pushed (subst (P (stack_of c.push-in-Jumps.new.self)) (sym is) at_link)

@@ -2,7 +2,7 @@ use Rattle.std.proofs.Common.{◌-◌, sym, ap, ◌∙◌}
 use Rattle.kr_view.specs.declared.procs.Lead.TheVariants.{Text, Jump}
 use Rattle.kr_view.specs.Leads.{numbered, lead_numbered}
 use Rattle.kr_view.specs.inside.Sights.{surroundings_of}
-use Rattle.pr_base.specs.WalkFrame.{walk_on}
+use Rattle.kr_tree.specs.pr_base.WalkFrame.{walk_on}
 use Rattle.kr_view.specs.Walk.{looking}
 use Rattle.kr_view.specs.inside.Stacks.{stack_of}
 use Rattle.kr_view.proofs.OutcomeLemmas.{link_want, text_error, landing_error, landing_goes}

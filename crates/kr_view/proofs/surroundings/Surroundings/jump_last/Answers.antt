@@ -1,5 +1,5 @@
 use Rattle.std.proofs.Common.{◌≡◌, ◌||◌, sym, ap, subst, ◌∙◌}
-use Rattle.pr_base.specs.Paths.{has_slash}
+use Rattle.kr_tree.specs.pr_base.Paths.{has_slash}
 use Rattle.kr_view.specs.declared.procs.Lead.TheVariants.{Text}
 use Rattle.kr_view.specs.declared.target.Reach.{Reach}
 use Rattle.kr_view.specs.Reach.{Covers, reached_landing}

@@ -1,5 +1,5 @@
 use Rattle.std.proofs.Common.{◌≡◌, ◌==◌, ◌∙◌, ap, length, rules, vec_len}
-use Rattle.pr_base.specs.Paths.{text_of}
+use Rattle.pt_bind.specs.pr_base.Paths.{text_of}
 use Rattle.pt_bind.proofs.ByteLemmas.{empty_is, not_empty_is}
 use Rattle.pt_canon.proofs.GuestLemmas.{text_names, text_none, text_some, text_written}
 use Rattle.pt_canon.proofs.guest.Guest.text.Goals as goal

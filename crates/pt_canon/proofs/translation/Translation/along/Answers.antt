@@ -1,7 +1,7 @@
 use Rattle.std.proofs.Common.{◌≡◌, ◌∙◌, ◌∷◌, Ok, Err, ap, sym, subst, refl}
-use Rattle.pr_base.specs.Parts.{parts_left}
-use Rattle.pr_base.specs.Paths.{components_of, parts_of}
-use Rattle.pr_base.specs.Peeks.{Peeked}
+use Rattle.pt_bind.specs.pr_base.Parts.{parts_left}
+use Rattle.pt_bind.specs.pr_base.Paths.{components_of, parts_of}
+use Rattle.pt_bind.specs.pr_base.Peeks.{Peeked}
 use Rattle.pt_canon.specs.Components.{component_data}
 use Rattle.pt_canon.specs.Looks.{texts_in}
 use Rattle.pt_canon.specs.Steps.{IsPassed, IsWay, middle_trail, last_trail}

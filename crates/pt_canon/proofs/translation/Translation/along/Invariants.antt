@@ -1,7 +1,7 @@
 use Rattle.std.proofs.Common.{◌≡◌, ◌∷◌, length, map}
 use Rattle.std.specs.List.{All}
-use Rattle.pr_base.specs.Parts.{parts_left}
-use Rattle.pr_base.specs.Paths.{component_of, components_of, IsComponent}
+use Rattle.pt_bind.specs.pr_base.Parts.{parts_left}
+use Rattle.pt_bind.specs.pr_base.Paths.{component_of, components_of, IsComponent}
 use Rattle.pt_canon.specs.Looks.{texts_in, IsKnown}
 use Rattle.pt_canon.specs.Steps.{ended, left_on}
 use Rattle.pt_canon.proofs.translation.Translation.along.Given as goal

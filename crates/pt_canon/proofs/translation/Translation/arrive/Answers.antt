@@ -1,6 +1,6 @@
 use Rattle.std.proofs.Common.{◌∙◌, ap, sym}
-use Rattle.pr_base.specs.Paths.{Name}
-use Rattle.pr_base.specs.WalkFrame.{Links}
+use Rattle.pt_bind.specs.pr_base.Paths.{Name}
+use Rattle.pt_bind.specs.pr_base.WalkFrame.{Links}
 use Rattle.pt_canon.specs.ProcessLinks.{above}
 use Rattle.pt_canon.specs.Looks.{texts_in, sight_seen}
 use Rattle.pt_canon.specs.Steps.{ended, last_trail}

@@ -1,8 +1,8 @@
 use Rattle.std.proofs.Common.{◌≡◌, ◌∙◌, Some, Ok, Err, ap, sym, subst}
-use Rattle.pr_base.specs.WalkFrame.{target_at}
+use Rattle.pt_bind.specs.pr_base.WalkFrame.{target_at}
 use Rattle.pt_canon.specs.Canon.{ending_of}
-use Rattle.pr_base.specs.Paths.{Dot, DotDot, Name}
-use Rattle.pr_base.specs.Peeks.{Peeked}
+use Rattle.pt_bind.specs.pr_base.Paths.{Dot, DotDot, Name}
+use Rattle.pt_bind.specs.pr_base.Peeks.{Peeked}
 use Rattle.pt_canon.specs.Components.{component_data}
 use Rattle.pt_canon.specs.ProcessLinks.{above}
 use Rattle.pt_canon.specs.Looks.{texts_in, sight_seen, IsSeen}

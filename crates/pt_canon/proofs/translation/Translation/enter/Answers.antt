@@ -1,6 +1,6 @@
 use Rattle.std.proofs.Common.{◌≡◌, ◌∙◌, Ok, ap, sym, subst}
-use Rattle.pr_base.specs.Peeks.{Peeked}
-use Rattle.pr_base.specs.declared.peeks.PeekKind.TheVariants as kind
+use Rattle.pt_bind.specs.pr_base.Peeks.{Peeked}
+use Rattle.pt_bind.specs.pr_base.declared.peeks.PeekKind.TheVariants as kind
 use Rattle.pt_bind.specs.Binding.{names_of}
 use Rattle.pt_canon.specs.Laws.{host_bytes}
 use Rattle.pt_canon.specs.Looks.{texts_in, IsItselfTold, IsKnown}

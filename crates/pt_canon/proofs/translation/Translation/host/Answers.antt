@@ -1,5 +1,5 @@
 use Rattle.std.proofs.Common.{◌≡◌, ◌∙◌, List, ℕ, ap, subst}
-use Rattle.pr_base.specs.Paths.{AreParts, text_of}
+use Rattle.pt_bind.specs.pr_base.Paths.{AreParts, text_of}
 use Rattle.pt_bind.specs.Binding.{host_of, names_of, rows_of}
 use Rattle.pt_bind.proofs.ByteLemmas.{spelled_parts}
 use Rattle.pt_bind.proofs.TagLemmas.{if_ok}

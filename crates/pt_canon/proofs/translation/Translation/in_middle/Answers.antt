@@ -1,6 +1,6 @@
 use Rattle.std.proofs.Common.{◌≡◌, ◌∙◌, Err, ap, sym, subst}
-use Rattle.pr_base.specs.Paths.{components_of}
-use Rattle.pr_base.specs.Peeks.{Peeked}
+use Rattle.pt_bind.specs.pr_base.Paths.{components_of}
+use Rattle.pt_bind.specs.pr_base.Peeks.{Peeked}
 use Rattle.pt_canon.specs.Components.{component_data}
 use Rattle.pt_canon.specs.ProcessLinks.{above}
 use Rattle.pt_canon.specs.Looks.{texts_in, sight_seen, IsSeen}

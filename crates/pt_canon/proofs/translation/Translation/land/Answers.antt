@@ -1,6 +1,6 @@
 use Rattle.std.proofs.Common.{◌≡◌, ◌∙◌, true, false, Ok, ap, sym}
-use Rattle.pr_base.specs.Paths.{text_of}
-use Rattle.pr_base.specs.Peeks.{Peeked}
+use Rattle.pt_bind.specs.pr_base.Paths.{text_of}
+use Rattle.pt_bind.specs.pr_base.Peeks.{Peeked}
 use Rattle.pt_bind.specs.Binding.{host_of}
 use Rattle.pt_canon.specs.Looks.{texts_in}
 use Rattle.pt_canon.specs.ProcessLinks.{is_dir_kind}

@@ -1,5 +1,5 @@
 use Rattle.std.proofs.Common.{◌≡◌, ◌∙◌, Option, Some, None, ap, sym}
-use Rattle.pr_base.specs.Texts.{Text}
+use Rattle.pt_bind.specs.pr_base.Texts.{Text}
 use Rattle.pt_bind.specs.Binding.{host_of, names_of}
 use Rattle.pt_bind.proofs.TagLemmas.{if_ok}
 use Rattle.pt_canon.specs.Looks.{texts_in, led}

@@ -1,6 +1,6 @@
 use Rattle.std.proofs.Common.{◌≡◌, ◌∙◌, Option, Some, ap, sym}
 use Rattle.std.specs.Option.{option_map}
-use Rattle.pr_base.specs.Texts.{Text}
+use Rattle.pt_bind.specs.pr_base.Texts.{Text}
 use Rattle.pt_bind.specs.Binding.{names_of}
 use Rattle.pt_bind.proofs.TagLemmas.{if_ok}
 use Rattle.pt_canon.specs.Looks.{texts_in, led}

@@ -1,6 +1,6 @@
 use Rattle.std.proofs.Common.{◌≡◌, ◌∙◌, ◌++◌, ◌∷◌, true, ap, sym}
-use Rattle.pr_base.specs.Paths.{slash, components_of}
-use Rattle.pr_base.specs.WalkFrame.{Leads}
+use Rattle.pt_bind.specs.pr_base.Paths.{slash, components_of}
+use Rattle.pt_bind.specs.pr_base.WalkFrame.{Leads}
 use Rattle.pt_canon.specs.ProcessLinks.{above}
 use Rattle.pt_canon.specs.Looks.{texts_in, sight_seen}
 use Rattle.pt_canon.specs.Steps.{ended, middle_trail, start_of}

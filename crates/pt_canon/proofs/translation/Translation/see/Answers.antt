@@ -1,6 +1,6 @@
 use Rattle.std.proofs.Common.{◌≡◌, ◌∙◌, List, ℕ, Ok, Err, ap, refl, sym, subst}
-use Rattle.pr_base.specs.Peeks.{Peeked, IsPeeked}
-use Rattle.pr_base.specs.declared.peeks.PeekKind.{PeekKind}
+use Rattle.pt_bind.specs.pr_base.Peeks.{Peeked, IsPeeked}
+use Rattle.pt_bind.specs.pr_base.declared.peeks.PeekKind.{PeekKind}
 use Rattle.pt_bind.specs.Binding.{host_of}
 use Rattle.pt_canon.specs.Laws.{host_bytes}
 use Rattle.pt_canon.specs.Looks.{texts_in, IsSeen}

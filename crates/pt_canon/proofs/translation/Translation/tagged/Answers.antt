@@ -1,6 +1,6 @@
 use Rattle.std.proofs.Common.{◌≡◌, ◌∙◌, Some, ap, sym}
 use Rattle.std.specs.Option.{option_map}
-use Rattle.pr_base.specs.Paths.{text_of}
+use Rattle.pt_bind.specs.pr_base.Paths.{text_of}
 use Rattle.pt_bind.specs.Binding.{guest_of, names_of, rows_of}
 use Rattle.pt_canon.proofs.TextLemmas.{guest_back}
 use Rattle.pt_canon.proofs.translation.Translation.tagged.Goals as goal

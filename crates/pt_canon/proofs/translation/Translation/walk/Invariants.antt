@@ -1,5 +1,5 @@
 use Rattle.std.proofs.Common.{◌≡◌}
-use Rattle.pr_base.specs.Paths.{components_of}
+use Rattle.pt_bind.specs.pr_base.Paths.{components_of}
 use Rattle.pt_bind.specs.Binding.{names_of}
 use Rattle.pt_canon.specs.Looks.{texts_in}
 use Rattle.pt_canon.specs.Steps.{ended, left_on}

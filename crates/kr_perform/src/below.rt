@@ -1,0 +1,6 @@
+//! What those above name of the crates below.
+
+pub use kr_resolved::below::{
+    CallFault, Meant, Outcome, Places, Reach, Request, State, Targets, Use, WalkFault, What,
+    decode, lawful_states_are_sound, procs, refused, walk_paths,
+};

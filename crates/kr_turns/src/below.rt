@@ -1,0 +1,4 @@
+//! What those above name of the crates below.
+
+pub use kr_calm::reaches_too_far;
+pub use kr_execve::below::{Places, Reach, Tree, User};

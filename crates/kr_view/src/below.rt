@@ -1,0 +1,3 @@
+//! The crates below, by which those above name them.
+pub use kr_tree;
+pub use kr_tree::below::pr_base;

@@ -1,0 +1,5 @@
+//! What those above name of the crates below.
+
+pub use pt_args::below::kr_calls::{CallFault, Request, path_of};
+pub use pt_args::below::pt_canon::{WalkErr, Walker};
+pub use pt_args::{Edit, Reached, Shelf, Swaps, rewrite, walk_path};
