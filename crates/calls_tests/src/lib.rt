@@ -1,5 +1,19 @@
-//! Tests of the decoding of calls and of the structures of their answers.
+//! Tests of calls: decoding, the structures of answers, changes of a state, open files, descriptors and pipes.
+//!
+//! # `ops`
+//!
+//! What changes of a state answer with ample memory, and what they leave. All of it was worked out by hand.
+//!
+//! # `guest`, `files`
+//!
+//! Tests of open files, descriptors and pipes.
 #![tactic(auto)]
 
 #[cfg(test)]
 mod decoded;
+#[cfg(test)]
+mod files;
+#[cfg(test)]
+mod guest;
+#[cfg(test)]
+mod ops;

@@ -1,8 +1,18 @@
-//! Tests of walks over guest texts and of what stands on them, on a kernel in memory that tells what its rows say.
+//! Tests of tables of bindings, of tags, and of walks over guest texts.
+//!
+//! # `tables`, `tags`, `bindings`, `texts`
+//!
+//! Tests of tables of bindings, over tables that other tests share, and of tags.
 #![tactic(auto)]
 
 #[cfg(test)]
+mod bindings;
+pub mod tables;
+#[cfg(test)]
+mod tags;
+#[cfg(test)]
 mod tests;
+pub mod texts;
 pub mod told;
 #[cfg(test)]
 mod walking;

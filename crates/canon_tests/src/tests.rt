@@ -1,8 +1,8 @@
 //! Walks over guest texts with ample memory, and with too little, and what a tracer asks a kernel beside them. What each must answer was
 //! worked out by hand.
 
+use crate::tables;
 use crate::walking::{Bench, Case, End, THERE, Want, listed, meets};
-use bind_tests::tables;
 use kr_calls::Request;
 use pr_base::{Bytes, Errno, Last, NoMemory, WalkMode};
 use pt_bind::Tags;

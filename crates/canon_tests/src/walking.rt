@@ -1,7 +1,7 @@
 //! What walks over guest texts are tried on.
 
+use crate::texts::is_text;
 use crate::told::{Stands, Told};
-use bind_tests::texts::is_text;
 use kr_calls::Request;
 use pr_base::{Errno, Last, NoMemory, Texts, WalkMode};
 use pt_args::{Edit, rewrite};

@@ -9,8 +9,8 @@ use Rattle.kr_text.specs.Drawn.{IsDrawn}
 use Rattle.kr_text.specs.Reading.{listing_of}
 use Rattle.kr_view.specs.View.{plain}
 use Rattle.kr_view.proofs.TableLemmas.{plain_stands}
-use Rattle.kr_core.proofs.kr_allowed.SourceLemmas.{settled-are-named}
-use Rattle.kr_core.proofs.kr_listed.ReadLemmas.{read-last}
+use Rattle.kr_core.proofs.law_allowed.SourceLemmas.{settled-are-named}
+use Rattle.kr_core.proofs.kr_start.ReadLemmas.{read-last}
 use Rattle.kr_core.specs.kr_start.Start.{HasNoHolds}
 use Rattle.core_tests.specs.Ready.{IsReady}
 

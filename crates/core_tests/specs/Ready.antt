@@ -3,8 +3,8 @@ use Rattle.std.specs.Prelude.{◌<◌, ◌^◌, List, length}
 use Rattle.kr_tree.specs.kr_inode.declared.user.User.{User}
 use Rattle.kr_tree.specs.Tree.{Tree}
 use Rattle.kr_view.specs.View.{Row, StandsIn}
-use Rattle.kr_core.specs.kr_allowed.Told.{SourcesAreNamed}
-use Rattle.kr_core.specs.kr_listed.Beginning.{CanLast}
+use Rattle.kr_core.specs.law_allowed.Told.{SourcesAreNamed}
+use Rattle.kr_core.specs.kr_start.Beginning.{CanLast}
 use Rattle.kr_core.specs.kr_start.Start.{HasNoHolds}
 
 pub record IsReady (t : Tree) (user : User) (table : List Row) : Type 0 where

@@ -1,7 +1,7 @@
 //! The start of a program, at the host's own view.
 ghost use Rattle.std.specs.Prelude.{◌≡◌, true, IfOk};
 ghost use Rattle.kr_core.specs.kr_first.Started.{LeadsToDirectory};
-ghost use Rattle.kr_core.specs.kr_allowed.Texts.{IsText};
+ghost use Rattle.kr_core.specs.law_allowed.Texts.{IsText};
 ghost use Rattle.kr_view.specs.View.{plain};
 
 use kr_core::below::{First, directory_at};

@@ -1,6 +1,6 @@
 use elf_load::{Image, LoadFault, load};
 use elf_read::check;
-use fixtures::HELLO;
+use guests::HELLO;
 use pr_base::{Bytes, Texts};
 use rv_mem::{Room, Use};
 use std::alloc::Global;

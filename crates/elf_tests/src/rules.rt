@@ -1,5 +1,5 @@
 use elf_read::{ElfFault, Plan, Segment, check};
-use fixtures::HELLO;
+use guests::HELLO;
 
 /// A program header, as far as these tests vary it.
 #[derive(Clone, Copy)]

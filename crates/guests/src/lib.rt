@@ -1,6 +1,12 @@
-//! Guests for tests, written as texts of calls or as words of code.
+//! Guests that tests run: texts of calls, words of code, and a program and a listing that several of them read.
+//!
+//! # `fixtures`
+//!
+//! What the tests of several crates stand on: a program and a listing.
 #![tactic(auto)]
 
+mod fixtures;
 mod text;
 
+pub use fixtures::{DATA, HELLO};
 pub use text::{GuestFault, coded, guest};

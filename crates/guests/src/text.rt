@@ -6,7 +6,7 @@
 //! of a descriptor, `@k` for the answer of the step at the place `k`, counted from 0, `[a,b]` for a list of texts and `[]` for an empty one,
 //! a path that begins with `/` or `.`, any other text behind `'`, and numbers. The step `sp` sets the stack pointer to a number.
 
-use fixtures::HELLO;
+use crate::HELLO;
 use pr_base::{Bytes, NoMemory, Texts};
 use pr_gen::{Arg, ProbeStep, Show, Who, is_probe, probe};
 use std::alloc::{AllocError, AllocFailed, Global};

@@ -2,36 +2,36 @@
 use Rattle.std.proofs.Common.{◌≡◌, ℕ, ℤ, List, Option, Some, None, IsSome, get_or, refl, sym, ap, ◌∙◌}
 use Rattle.std.specs.Option.{option_map, option_map_or, option_and_then}
 use Rattle.std.proofs.lemmas.Option.{none-some}
-use Rattle.kr_targets.specs.pr_base.declared.errno.Errno.TheVariants.{ENOENT, EBADF}
-use Rattle.kr_targets.specs.kr_tree.Tree.{inode}
-use Rattle.kr_targets.specs.kr_tree.declared.place.Host.{Host}
-use Rattle.kr_targets.specs.kr_tree.declared.place.Place.{Place}
-use Rattle.kr_targets.specs.kr_view.Leads.{numbered}
-use Rattle.kr_targets.specs.kr_view.View.{Row}
-use Rattle.kr_targets.specs.kr_view.declared.target.Target.{Target}
-use Rattle.kr_targets.specs.kr_files.Descriptors.{Named}
-use Rattle.kr_targets.specs.kr_files.Files.{file_at}
-use Rattle.kr_targets.specs.kr_files.WithoutMounts.{without_mount}
-use Rattle.kr_targets.specs.kr_files.declared.opened.Opened.{Opened}
-use Rattle.kr_targets.specs.kr_model.Asking.{descriptor_number, of_number, or_badf, or_closed}
-use Rattle.kr_targets.specs.kr_model.Applied.{Mounts, mount_of}
-use Rattle.kr_targets.specs.kr_model.Change.{OfDescriptor}
-use Rattle.kr_targets.specs.kr_model.Known.{Known, caller_of, known, no_caller}
-use Rattle.kr_targets.specs.kr_model.Operation.{link_read, looked_up}
-use Rattle.kr_targets.specs.kr_model.Reply.{Replying, refuse}
-use Rattle.kr_targets.specs.kr_model.Seen.{Looked, LooksUp, ReadsLink, Seen, WalkFails}
-use Rattle.kr_targets.specs.kr_model.State as model
-use Rattle.kr_targets.specs.kr_model.Walks.{looked_at, text_at}
-use Rattle.kr_targets.specs.kr_ops.declared.state.Process.{Process}
-use Rattle.kr_targets.specs.kr_ops.declared.state.State.{State}
-use Rattle.kr_targets.specs.kr_ops.Living.{HasPid}
-use Rattle.kr_targets.specs.kr_ops.Meaning.{meaning, process_meaning}
-use Rattle.kr_targets.specs.kr_ops.Sound.{IsSound}
-use Rattle.kr_targets.proofs.kr_ops.OpeningLemmas.{found, is-there}
-use Rattle.kr_targets.proofs.kr_ops.UseLemmas.{open-held}
-use Rattle.kr_targets.specs.kr_seen.Numbered.{state_numbered}
-use Rattle.kr_targets.specs.Performing.{seen_found}
-use Rattle.kr_targets.specs.Placed.{placed_in}
+use Rattle.kr_seen.specs.pr_base.declared.errno.Errno.TheVariants.{ENOENT, EBADF}
+use Rattle.kr_seen.specs.kr_tree.Tree.{inode}
+use Rattle.kr_seen.specs.kr_tree.declared.place.Host.{Host}
+use Rattle.kr_seen.specs.kr_tree.declared.place.Place.{Place}
+use Rattle.kr_seen.specs.kr_view.Leads.{numbered}
+use Rattle.kr_seen.specs.kr_view.View.{Row}
+use Rattle.kr_seen.specs.kr_view.declared.target.Target.{Target}
+use Rattle.kr_seen.specs.kr_files.Descriptors.{Named}
+use Rattle.kr_seen.specs.kr_files.Files.{file_at}
+use Rattle.kr_seen.specs.kr_files.WithoutMounts.{without_mount}
+use Rattle.kr_seen.specs.kr_files.declared.opened.Opened.{Opened}
+use Rattle.kr_seen.specs.kr_model.Asking.{descriptor_number, of_number, or_badf, or_closed}
+use Rattle.kr_seen.specs.kr_model.Applied.{Mounts, mount_of}
+use Rattle.kr_seen.specs.kr_model.Change.{OfDescriptor}
+use Rattle.kr_seen.specs.kr_model.Known.{Known, caller_of, known, no_caller}
+use Rattle.kr_seen.specs.kr_model.Operation.{link_read, looked_up}
+use Rattle.kr_seen.specs.kr_model.Reply.{Replying, refuse}
+use Rattle.kr_seen.specs.kr_model.Seen.{Looked, LooksUp, ReadsLink, Seen, WalkFails}
+use Rattle.kr_seen.specs.kr_model.State as model
+use Rattle.kr_seen.specs.kr_model.Walks.{looked_at, text_at}
+use Rattle.kr_seen.specs.kr_ops.declared.state.Process.{Process}
+use Rattle.kr_seen.specs.kr_ops.declared.state.State.{State}
+use Rattle.kr_seen.specs.kr_ops.Living.{HasPid}
+use Rattle.kr_seen.specs.kr_ops.Meaning.{meaning, process_meaning}
+use Rattle.kr_seen.specs.kr_ops.Sound.{IsSound}
+use Rattle.kr_seen.proofs.kr_ops.OpeningLemmas.{found, is-there}
+use Rattle.kr_seen.proofs.kr_ops.UseLemmas.{open-held}
+use Rattle.kr_seen.specs.Numbered.{state_numbered}
+use Rattle.kr_seen.specs.Performing.{seen_found}
+use Rattle.kr_seen.specs.Placed.{placed_in}
 use Rattle.kr_attributes.specs.Found.{IsOpenAs}
 use Rattle.kr_attributes.specs.Named.{seen_link}
 use Rattle.kr_attributes.specs.declared.found.OpenObject.{OpenObject}

@@ -4,21 +4,21 @@ use Rattle.std.specs.Prelude.{◌%◌, ◌==◌, ◌||◌, not}
 use Rattle.std.proofs.lemmas.Option.{same_Some}
 use Rattle.std.specs.Bool.{if◌then◌else◌}
 use Rattle.std.specs.Option.{option_map, option_map_or}
-use Rattle.kr_targets.specs.pr_base.declared.errno.Errno.TheVariants.{EPERM, ENOENT}
-use Rattle.kr_targets.specs.kr_inode.Stored.{kind_of, meta_of}
-use Rattle.kr_targets.specs.kr_inode.declared.node.Kind.{Kind}
-use Rattle.kr_targets.specs.kr_inode.declared.node.Meta.{Meta}
-use Rattle.kr_targets.specs.kr_calls.declared.stat.Stat.{Stat}
-use Rattle.kr_targets.specs.kr_tree.Lawful.{IsKept}
-use Rattle.kr_targets.specs.kr_tree.Tree.{Body, Directory, Inode, ProcessDirectory, RegularFile, SymbolicLink, Tree, body, body_is, bytes_of, inode, takes_names}
-use Rattle.kr_targets.proofs.kr_tree.CountLemmas.{directories_few}
-use Rattle.kr_targets.specs.kr_tree.declared.place.Host.TheVariants.{Node}
-use Rattle.kr_targets.specs.kr_model.Asking.{is_processes, is_processes_host}
-use Rattle.kr_targets.specs.kr_model.AttributeRows.{chmod_host, chmod_node, chown_by, chown_host, chown_node, kind_bits, links_of, node_stat, or_old, size_of, stat_of}
-use Rattle.kr_targets.specs.kr_model.Change.{SetMode, SetOwner}
-use Rattle.kr_targets.specs.kr_model.Known.{Fact, known}
-use Rattle.kr_targets.specs.kr_model.Reply.{done, refuse}
-use Rattle.kr_targets.specs.kr_model.State.{Image, State, image_layout}
+use Rattle.kr_seen.specs.pr_base.declared.errno.Errno.TheVariants.{EPERM, ENOENT}
+use Rattle.kr_seen.specs.kr_inode.Stored.{kind_of, meta_of}
+use Rattle.kr_seen.specs.kr_inode.declared.node.Kind.{Kind}
+use Rattle.kr_seen.specs.kr_inode.declared.node.Meta.{Meta}
+use Rattle.kr_seen.specs.kr_calls.declared.stat.Stat.{Stat}
+use Rattle.kr_seen.specs.kr_tree.Lawful.{IsKept}
+use Rattle.kr_seen.specs.kr_tree.Tree.{Body, Directory, Inode, ProcessDirectory, RegularFile, SymbolicLink, Tree, body, body_is, bytes_of, inode, takes_names}
+use Rattle.kr_seen.proofs.kr_tree.CountLemmas.{directories_few}
+use Rattle.kr_seen.specs.kr_tree.declared.place.Host.TheVariants.{Node}
+use Rattle.kr_seen.specs.kr_model.Asking.{is_processes, is_processes_host}
+use Rattle.kr_seen.specs.kr_model.AttributeRows.{chmod_host, chmod_node, chown_by, chown_host, chown_node, kind_bits, links_of, node_stat, or_old, size_of, stat_of}
+use Rattle.kr_seen.specs.kr_model.Change.{SetMode, SetOwner}
+use Rattle.kr_seen.specs.kr_model.Known.{Fact, known}
+use Rattle.kr_seen.specs.kr_model.Reply.{done, refuse}
+use Rattle.kr_seen.specs.kr_model.State.{Image, State, image_layout}
 use Rattle.kr_attributes.specs.Facts.{bits_by, fact, links_by, size_by}
 
 pub meta-there : (t : Tree) (i : ℕ) (m : Meta) → Some m ≡ option_map meta_of (inode t i) → (x : Inode) × (inode t i ≡ Some x) × (m ≡ meta_of x)

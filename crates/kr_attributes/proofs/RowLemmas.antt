@@ -1,13 +1,13 @@
 -- One row in place of another.
 use Rattle.std.proofs.Common.{◌≡◌, ℕ, sym, ap, ◌∙◌, None}
-use Rattle.kr_targets.specs.kr_model.Applied.{Mounts}
-use Rattle.kr_targets.specs.kr_model.Known.{Known, known}
-use Rattle.kr_targets.specs.kr_model.Reply.{Replying}
-use Rattle.kr_targets.specs.kr_model.State as model
-use Rattle.kr_targets.specs.kr_model.declared.outcome.Outcome.{Outcome}
-use Rattle.kr_targets.specs.kr_ops.declared.state.State.{State}
-use Rattle.kr_targets.specs.kr_ops.Meaning.{meaning}
-use Rattle.kr_targets.specs.kr_seen.Carrying.{IsCarriedOut, after_row, carried}
+use Rattle.kr_seen.specs.kr_model.Applied.{Mounts}
+use Rattle.kr_seen.specs.kr_model.Known.{Known, known}
+use Rattle.kr_seen.specs.kr_model.Reply.{Replying}
+use Rattle.kr_seen.specs.kr_model.State as model
+use Rattle.kr_seen.specs.kr_model.declared.outcome.Outcome.{Outcome}
+use Rattle.kr_seen.specs.kr_ops.declared.state.State.{State}
+use Rattle.kr_seen.specs.kr_ops.Meaning.{meaning}
+use Rattle.kr_seen.specs.Carrying.{IsCarriedOut, after_row, carried}
 use Rattle.kr_rows.specs.Performing.{IsPerformed}
 
 module _ {T : Type 0} {M : ℕ} (pid : ℕ) (row : Known → Replying) (old new : State T M) (result : Outcome) where

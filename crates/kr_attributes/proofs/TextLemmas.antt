@@ -5,15 +5,15 @@ use Rattle.std.specs.Bool.{if◌then◌else◌}
 use Rattle.std.specs.Option.{option_map, option_and_then}
 use Rattle.std.proofs.lemmas.Bool.Decides.{nat_tests}
 use Rattle.std.proofs.lemmas.List.{length-append, length-take-le, take_all}
-use Rattle.kr_targets.specs.pr_base.declared.errno.Errno.TheVariants.{EFAULT, ERANGE}
-use Rattle.kr_targets.specs.rv_mem.Actions.{write_if_allowed}
-use Rattle.kr_targets.specs.kr_view.View.{Row}
-use Rattle.kr_targets.specs.kr_model.Applied.{cwd_of}
-use Rattle.kr_targets.specs.kr_model.AttributeRows.{tell_text}
-use Rattle.kr_targets.specs.kr_model.DirectoryRows.{tell_directory}
-use Rattle.kr_targets.specs.kr_model.ProcessDirectory.{name_text, space_of}
-use Rattle.kr_targets.specs.kr_model.Reply.{done, refuse}
-use Rattle.kr_targets.specs.kr_model.State.{Process, State, process}
+use Rattle.kr_seen.specs.pr_base.declared.errno.Errno.TheVariants.{EFAULT, ERANGE}
+use Rattle.kr_seen.specs.rv_mem.Actions.{write_if_allowed}
+use Rattle.kr_seen.specs.kr_view.View.{Row}
+use Rattle.kr_seen.specs.kr_model.Applied.{cwd_of}
+use Rattle.kr_seen.specs.kr_model.AttributeRows.{tell_text}
+use Rattle.kr_seen.specs.kr_model.DirectoryRows.{tell_directory}
+use Rattle.kr_seen.specs.kr_model.ProcessDirectory.{name_text, space_of}
+use Rattle.kr_seen.specs.kr_model.Reply.{done, refuse}
+use Rattle.kr_seen.specs.kr_model.State.{Process, State, process}
 
 -- ---- the text of a link
 

@@ -1,10 +1,10 @@
 -- What a call knows of an inode, and what stat(2) tells by the kind of a node.
 use Rattle.std.specs.Prelude.{ℕ, ◌+◌, Bool, true, false}
-use Rattle.kr_targets.specs.kr_inode.declared.node.Kind.{Kind}
-use Rattle.kr_targets.specs.kr_inode.declared.node.Kind.TheVariants.{Dir, File, Link, Proc}
-use Rattle.kr_targets.specs.kr_tree.Tree.{Inode}
-use Rattle.kr_targets.specs.kr_model.AttributeRows.{directory_size, s_directory, s_link, s_regular}
-use Rattle.kr_targets.specs.kr_model.Known.{Fact}
+use Rattle.kr_seen.specs.kr_inode.declared.node.Kind.{Kind}
+use Rattle.kr_seen.specs.kr_inode.declared.node.Kind.TheVariants.{Dir, File, Link, Proc}
+use Rattle.kr_seen.specs.kr_tree.Tree.{Inode}
+use Rattle.kr_seen.specs.kr_model.AttributeRows.{directory_size, s_directory, s_link, s_regular}
+use Rattle.kr_seen.specs.kr_model.Known.{Fact}
 
 abbrev pub fact : Inode → Fact
 fact x = record { node = x.node; names = x.names; directories = x.directories }

@@ -1,10 +1,10 @@
 -- What a descriptor of the caller leads to.
 use Rattle.std.specs.Prelude.{◌≡◌, ℕ, ℤ}
 use Rattle.std.specs.Option.{option_map}
-use Rattle.kr_targets.specs.kr_files.declared.opened.Opened.{Opened}
-use Rattle.kr_targets.specs.kr_model.Asking.{or_badf}
-use Rattle.kr_targets.specs.kr_model.Known.{Known}
-use Rattle.kr_targets.specs.kr_model.Reply.{Replying}
+use Rattle.kr_seen.specs.kr_files.declared.opened.Opened.{Opened}
+use Rattle.kr_seen.specs.kr_model.Asking.{or_badf}
+use Rattle.kr_seen.specs.kr_model.Known.{Known}
+use Rattle.kr_seen.specs.kr_model.Reply.{Replying}
 use Rattle.kr_attributes.specs.declared.found.OpenObject.{OpenObject}
 
 -- a descriptor is open on this: what follows is told its number and the open file

@@ -1,20 +1,20 @@
 -- What calls are told of names: of the link that is read, and of the working directory.
 use Rattle.std.specs.Prelude.{◌≡◌, ℕ, List, [], Option, Result, Ok, Err}
 use Rattle.std.specs.Option.{option_and_then}
-use Rattle.kr_targets.specs.kr_tree.declared.place.Host.{Host}
-use Rattle.kr_targets.specs.kr_view.View.{Row}
-use Rattle.kr_targets.specs.kr_view.declared.target.Target.{Target}
-use Rattle.kr_targets.specs.kr_model.Applied.{cwd_of}
-use Rattle.kr_targets.specs.kr_model.AttributeRows.{readlink_host, tell_text}
-use Rattle.kr_targets.specs.kr_model.Known.{Known}
-use Rattle.kr_targets.specs.kr_model.ProcessDirectory.{name_text, space_of}
-use Rattle.kr_targets.specs.kr_model.Reply.{refuse}
-use Rattle.kr_targets.specs.kr_model.Seen.{NamesDirectory, ReadsLink, Seen}
-use Rattle.kr_targets.specs.kr_model.Walks.{text_at}
-use Rattle.kr_targets.specs.kr_ops.declared.state.State.{State}
-use Rattle.kr_targets.specs.kr_ops.Meaning.{meaning}
-use Rattle.kr_targets.specs.kr_seen.Numbered.{state_numbered}
-use Rattle.kr_targets.specs.Performing.{seen_found}
+use Rattle.kr_seen.specs.kr_tree.declared.place.Host.{Host}
+use Rattle.kr_seen.specs.kr_view.View.{Row}
+use Rattle.kr_seen.specs.kr_view.declared.target.Target.{Target}
+use Rattle.kr_seen.specs.kr_model.Applied.{cwd_of}
+use Rattle.kr_seen.specs.kr_model.AttributeRows.{readlink_host, tell_text}
+use Rattle.kr_seen.specs.kr_model.Known.{Known}
+use Rattle.kr_seen.specs.kr_model.ProcessDirectory.{name_text, space_of}
+use Rattle.kr_seen.specs.kr_model.Reply.{refuse}
+use Rattle.kr_seen.specs.kr_model.Seen.{NamesDirectory, ReadsLink, Seen}
+use Rattle.kr_seen.specs.kr_model.Walks.{text_at}
+use Rattle.kr_seen.specs.kr_ops.declared.state.State.{State}
+use Rattle.kr_seen.specs.kr_ops.Meaning.{meaning}
+use Rattle.kr_seen.specs.Numbered.{state_numbered}
+use Rattle.kr_seen.specs.Performing.{seen_found}
 use Rattle.kr_attributes.specs.declared.links.TextFault.{TextFault}
 use Rattle.kr_attributes.specs.declared.links.TextFault.TheVariants.{Refused, NoMemory}
 

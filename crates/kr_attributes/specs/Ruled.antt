@@ -1,8 +1,8 @@
 -- What chown(2) answers by what the rule of owners says.
 use Rattle.std.specs.Prelude.{List, []}
-use Rattle.kr_targets.specs.pr_base.declared.errno.Errno.TheVariants.{EPERM}
-use Rattle.kr_targets.specs.kr_model.Change.{Change}
-use Rattle.kr_targets.specs.kr_model.Reply.{Replying, done, refuse}
+use Rattle.kr_seen.specs.pr_base.declared.errno.Errno.TheVariants.{EPERM}
+use Rattle.kr_seen.specs.kr_model.Change.{Change}
+use Rattle.kr_seen.specs.kr_model.Reply.{Replying, done, refuse}
 use Rattle.kr_attributes.specs.declared.owners.Ruling.{Ruling}
 use Rattle.kr_attributes.specs.declared.owners.Ruling.TheVariants.{Left, Given, Refused}
 

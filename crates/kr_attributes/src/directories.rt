@@ -1,23 +1,23 @@
 //! Calls on the working directory and on the root.
 ghost use Rattle.std.specs.Prelude.{◌≡◌, ℕ, List, IfErr, IsSome, OnOk};
-ghost use Rattle.kr_targets.specs.kr_tree.Tree.{inode};
-ghost use Rattle.kr_targets.specs.kr_view.View.{Row};
-ghost use Rattle.kr_targets.specs.kr_model.DirectoryRows.{chdir_row, chroot_row, fchdir_row, if_entered};
-ghost use Rattle.kr_targets.specs.kr_model.Known.{known};
-ghost use Rattle.kr_targets.specs.kr_model.Operation.{looked_up};
-ghost use Rattle.kr_targets.specs.kr_model.Reply.{Replying, refuse};
-ghost use Rattle.kr_targets.specs.kr_model.Seen.{LooksUp};
-ghost use Rattle.kr_targets.specs.kr_model.State.{image_layout, inode_of as host_inode, process};
-ghost use Rattle.kr_targets.specs.kr_ops.Meaning.{meaning};
-ghost use Rattle.kr_targets.specs.kr_ops.Sound.{IsServed, IsSound};
+ghost use Rattle.kr_seen.specs.kr_tree.Tree.{inode};
+ghost use Rattle.kr_seen.specs.kr_view.View.{Row};
+ghost use Rattle.kr_seen.specs.kr_model.DirectoryRows.{chdir_row, chroot_row, fchdir_row, if_entered};
+ghost use Rattle.kr_seen.specs.kr_model.Known.{known};
+ghost use Rattle.kr_seen.specs.kr_model.Operation.{looked_up};
+ghost use Rattle.kr_seen.specs.kr_model.Reply.{Replying, refuse};
+ghost use Rattle.kr_seen.specs.kr_model.Seen.{LooksUp};
+ghost use Rattle.kr_seen.specs.kr_model.State.{image_layout, inode_of as host_inode, process};
+ghost use Rattle.kr_seen.specs.kr_ops.Meaning.{meaning};
+ghost use Rattle.kr_seen.specs.kr_ops.Sound.{IsServed, IsSound};
 ghost use Rattle.kr_attributes.specs.Entering.{Enters};
-ghost use Rattle.kr_targets.specs.Performing.{PerformsAt, seen_found};
-ghost use Rattle.kr_targets.specs.Resolved.{IsFoundIn};
+ghost use Rattle.kr_seen.specs.Performing.{PerformsAt, seen_found};
+ghost use Rattle.kr_seen.specs.Resolved.{IsFoundIn};
 ghost use Rattle.kr_rows.specs.Performing.{Performs};
 
 use crate::found::natural;
-use kr_targets::below::{Errno, Host, Outcome, Place, State, Target, number, refused};
-use kr_targets::{is_directory_host, is_searched};
+use kr_seen::below::{Errno, Host, Outcome, Place, State, Target};
+use kr_seen::{is_directory_host, is_searched, number, refused};
 
 /// chdir(2): ENOTDIR, EACCES without search.
 pub fn chdir<T: Copy, const M: u8>(state: &mut State<T, M>, pid: u32, target: &Target<T>) -> Outcome

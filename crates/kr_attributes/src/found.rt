@@ -1,18 +1,18 @@
 //! What calls ask of descriptors and of the caller.
 ghost use Rattle.std.specs.Prelude.{◌≡◌, ℕ, IfNone, IfSome, IsSome};
 ghost use Rattle.std.specs.Option.{option_map};
-ghost use Rattle.kr_targets.specs.pr_base.declared.errno.Errno.TheVariants.{EBADF};
-ghost use Rattle.kr_targets.specs.kr_view.Component.{is_process_directory};
-ghost use Rattle.kr_targets.specs.kr_files.declared.opened.Opened.{Opened};
-ghost use Rattle.kr_targets.specs.kr_model.Asking.{descriptor_number, is_working_directory, or_badf};
-ghost use Rattle.kr_targets.specs.kr_model.Known.{known};
-ghost use Rattle.kr_targets.specs.kr_model.Reply.{Replying, refuse};
-ghost use Rattle.kr_targets.specs.kr_model.State.{image_layout, process};
-ghost use Rattle.kr_targets.specs.kr_ops.Meaning.{meaning};
-ghost use Rattle.kr_targets.specs.kr_ops.Sound.{IsSound};
+ghost use Rattle.kr_seen.specs.pr_base.declared.errno.Errno.TheVariants.{EBADF};
+ghost use Rattle.kr_seen.specs.kr_view.Component.{is_process_directory};
+ghost use Rattle.kr_seen.specs.kr_files.declared.opened.Opened.{Opened};
+ghost use Rattle.kr_seen.specs.kr_model.Asking.{descriptor_number, is_working_directory, or_badf};
+ghost use Rattle.kr_seen.specs.kr_model.Known.{known};
+ghost use Rattle.kr_seen.specs.kr_model.Reply.{Replying, refuse};
+ghost use Rattle.kr_seen.specs.kr_model.State.{image_layout, process};
+ghost use Rattle.kr_seen.specs.kr_ops.Meaning.{meaning};
+ghost use Rattle.kr_seen.specs.kr_ops.Sound.{IsSound};
 ghost use Rattle.kr_attributes.specs.Found.{IsOpenAs};
 
-use kr_targets::below::{Host, Place, ProcAt, State, What};
+use kr_seen::below::{Host, Place, ProcAt, State, What};
 
 /// AT_FDCWD, the working directory in place of a descriptor.
 const AT_FDCWD: i32 = -100;

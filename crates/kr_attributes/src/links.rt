@@ -1,27 +1,29 @@
 //! readlinkat(2): the text of a link.
 ghost use Rattle.std.specs.Prelude.{◌≢◌, ◌≡◌, ℕ, List, Option, IfOk, IsSome};
-ghost use Rattle.kr_targets.specs.kr_tree.declared.place.Host.TheVariants.{Node, Proc};
-ghost use Rattle.kr_targets.specs.kr_model.AttributeRows.{readlinkat_row, tell_text};
-ghost use Rattle.kr_targets.specs.kr_model.Known.{known};
-ghost use Rattle.kr_targets.specs.kr_model.Lawful.{IsLawful};
-ghost use Rattle.kr_targets.specs.kr_model.Operation.{link_read};
-ghost use Rattle.kr_targets.specs.kr_model.ProcessDirectory.{link_text};
-ghost use Rattle.kr_targets.specs.kr_model.State.{image_layout, process};
-ghost use Rattle.kr_targets.specs.kr_model.Walks.{text_at};
-ghost use Rattle.kr_targets.specs.kr_model.declared.outcome.Outcome.TheVariants.{NoMemory as WantOfMemory};
-ghost use Rattle.kr_targets.specs.kr_ops.Meaning.{meaning};
-ghost use Rattle.kr_targets.specs.kr_ops.Sound.{IsServed, IsSound};
-ghost use Rattle.kr_targets.specs.kr_seen.Numbered.{state_numbered};
-ghost use Rattle.kr_targets.specs.Performing.{PerformsAt};
+ghost use Rattle.kr_seen.specs.kr_tree.declared.place.Host.TheVariants.{Node, Proc};
+ghost use Rattle.kr_seen.specs.kr_model.AttributeRows.{readlinkat_row, tell_text};
+ghost use Rattle.kr_seen.specs.kr_model.Known.{known};
+ghost use Rattle.kr_seen.specs.kr_model.Lawful.{IsLawful};
+ghost use Rattle.kr_seen.specs.kr_model.Operation.{link_read};
+ghost use Rattle.kr_seen.specs.kr_model.ProcessDirectory.{link_text};
+ghost use Rattle.kr_seen.specs.kr_model.State.{image_layout, process};
+ghost use Rattle.kr_seen.specs.kr_model.Walks.{text_at};
+ghost use Rattle.kr_seen.specs.kr_model.declared.outcome.Outcome.TheVariants.{NoMemory as WantOfMemory};
+ghost use Rattle.kr_seen.specs.kr_ops.Meaning.{meaning};
+ghost use Rattle.kr_seen.specs.kr_ops.Sound.{IsServed, IsSound};
+ghost use Rattle.kr_seen.specs.Numbered.{state_numbered};
+ghost use Rattle.kr_seen.specs.Performing.{PerformsAt};
 ghost use Rattle.kr_rows.specs.Performing.{Performs};
 ghost use Rattle.kr_attributes.specs.Named.{AnswersText, seen_link};
 
 use crate::found::is_process_directory;
 use kr_rows::caller;
-use kr_targets::below::{
+use kr_seen::below::{
     Bytes, Errno, Host, Ino, NoMemory, Outcome, Places, ProcAt, State, Target,
-    lawful_states_are_sound, procs, refused, shows_the_directory,
+    lawful_states_are_sound,
 };
+use kr_seen::laws::shows_the_directory;
+use kr_seen::{procs, refused};
 
 /// Why a link has no text to tell.
 pub(crate) enum TextFault {

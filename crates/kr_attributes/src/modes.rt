@@ -1,17 +1,17 @@
 //! Calls on the mode of a file.
 ghost use Rattle.std.specs.Prelude.{◌≡◌, ◌==◌, ℕ, List};
-ghost use Rattle.kr_targets.specs.kr_view.View.{Row};
-ghost use Rattle.kr_targets.specs.kr_model.AttributeRows.{chmod_host, fchmod_row, fchmodat_row};
-ghost use Rattle.kr_targets.specs.kr_model.Operation.{looked_up};
-ghost use Rattle.kr_targets.specs.kr_model.Seen.{LooksUp};
-ghost use Rattle.kr_targets.specs.kr_ops.Sound.{IsServed, IsSound};
-ghost use Rattle.kr_targets.specs.Performing.{PerformsAt, seen_found};
+ghost use Rattle.kr_seen.specs.kr_view.View.{Row};
+ghost use Rattle.kr_seen.specs.kr_model.AttributeRows.{chmod_host, fchmod_row, fchmodat_row};
+ghost use Rattle.kr_seen.specs.kr_model.Operation.{looked_up};
+ghost use Rattle.kr_seen.specs.kr_model.Seen.{LooksUp};
+ghost use Rattle.kr_seen.specs.kr_ops.Sound.{IsServed, IsSound};
+ghost use Rattle.kr_seen.specs.Performing.{PerformsAt, seen_found};
 ghost use Rattle.kr_rows.specs.Performing.{Performs};
-ghost use Rattle.kr_targets.specs.kr_tree.declared.place.Host.TheVariants.{Node};
+ghost use Rattle.kr_seen.specs.kr_tree.declared.place.Host.TheVariants.{Node};
 
 use crate::found::open_object;
-use kr_targets::below::{Errno, Host, Ino, Outcome, State, Target, User, number, refused};
-use kr_targets::is_processes_host;
+use kr_seen::below::{Errno, Host, Ino, Outcome, State, Target, User};
+use kr_seen::{is_processes_host, number, refused};
 
 /// How many modes there are, of twelve bits.
 const MODES: u32 = 4096;

@@ -1,24 +1,24 @@
 //! getcwd(2): the name of the working directory.
 ghost use Rattle.std.specs.Prelude.{◌≢◌, [], length, IsSome};
-ghost use Rattle.kr_targets.specs.pr_base.declared.errno.Errno.TheVariants.{EFAULT};
-ghost use Rattle.kr_targets.specs.rv_mem.Actions.{write_if_allowed};
-ghost use Rattle.kr_targets.specs.kr_model.DirectoryRows.{getcwd_row, tell_directory};
-ghost use Rattle.kr_targets.specs.kr_model.Lawful.{IsLawful};
-ghost use Rattle.kr_targets.specs.kr_model.Operation.{directory_named};
-ghost use Rattle.kr_targets.specs.kr_model.Reply.{done, refuse};
-ghost use Rattle.kr_targets.specs.kr_model.State.{process};
-ghost use Rattle.kr_targets.specs.kr_model.declared.outcome.Outcome.TheVariants.{NoMemory as WantOfMemory};
-ghost use Rattle.kr_targets.specs.kr_ops.Meaning.{meaning};
-ghost use Rattle.kr_targets.specs.kr_ops.Sound.{IsServed, IsSound};
+ghost use Rattle.kr_seen.specs.pr_base.declared.errno.Errno.TheVariants.{EFAULT};
+ghost use Rattle.kr_seen.specs.rv_mem.Actions.{write_if_allowed};
+ghost use Rattle.kr_seen.specs.kr_model.DirectoryRows.{getcwd_row, tell_directory};
+ghost use Rattle.kr_seen.specs.kr_model.Lawful.{IsLawful};
+ghost use Rattle.kr_seen.specs.kr_model.Operation.{directory_named};
+ghost use Rattle.kr_seen.specs.kr_model.Reply.{done, refuse};
+ghost use Rattle.kr_seen.specs.kr_model.State.{process};
+ghost use Rattle.kr_seen.specs.kr_model.declared.outcome.Outcome.TheVariants.{NoMemory as WantOfMemory};
+ghost use Rattle.kr_seen.specs.kr_ops.Meaning.{meaning};
+ghost use Rattle.kr_seen.specs.kr_ops.Sound.{IsServed, IsSound};
 ghost use Rattle.kr_rows.specs.Performing.{Performs};
 ghost use Rattle.kr_attributes.specs.Named.{seen_directory};
 
 use crate::links::shown_text;
 use kr_rows::caller;
-use kr_targets::below::{
+use kr_seen::below::{
     Bytes, Errno, NoMemory, Outcome, Places, ProcAt, State, StoreFault, lawful_states_are_sound,
-    refused,
 };
+use kr_seen::refused;
 
 /// getcwd(2): ENOENT of what has no name, ERANGE where the name with its zero doesn't fit, EFAULT; its length with the zero.
 pub fn getcwd<P: Places, const M: u8>(

@@ -1,20 +1,21 @@
 //! Calls on the owner of a file.
 ghost use Rattle.std.specs.Prelude.{◌≡◌, ℕ, [], List, IsSome};
-ghost use Rattle.kr_targets.specs.kr_tree.declared.place.Host.TheVariants.{Node};
-ghost use Rattle.kr_targets.specs.kr_view.View.{Row};
-ghost use Rattle.kr_targets.specs.kr_model.AttributeRows.{chown_by, chown_host, fchown_row, fchownat_here, fchownat_row, may_give, or_old};
-ghost use Rattle.kr_targets.specs.kr_model.Change.{Change};
-ghost use Rattle.kr_targets.specs.kr_model.Operation.{looked_up};
-ghost use Rattle.kr_targets.specs.kr_model.Seen.{LooksUp};
-ghost use Rattle.kr_targets.specs.kr_model.State.{process};
-ghost use Rattle.kr_targets.specs.kr_ops.Meaning.{meaning};
-ghost use Rattle.kr_targets.specs.kr_ops.Sound.{IsServed, IsSound};
-ghost use Rattle.kr_targets.specs.Performing.{PerformsAt, seen_found};
+ghost use Rattle.kr_seen.specs.kr_tree.declared.place.Host.TheVariants.{Node};
+ghost use Rattle.kr_seen.specs.kr_view.View.{Row};
+ghost use Rattle.kr_seen.specs.kr_model.AttributeRows.{chown_by, chown_host, fchown_row, fchownat_here, fchownat_row, may_give, or_old};
+ghost use Rattle.kr_seen.specs.kr_model.Change.{Change};
+ghost use Rattle.kr_seen.specs.kr_model.Operation.{looked_up};
+ghost use Rattle.kr_seen.specs.kr_model.Seen.{LooksUp};
+ghost use Rattle.kr_seen.specs.kr_model.State.{process};
+ghost use Rattle.kr_seen.specs.kr_ops.Meaning.{meaning};
+ghost use Rattle.kr_seen.specs.kr_ops.Sound.{IsServed, IsSound};
+ghost use Rattle.kr_seen.specs.Performing.{PerformsAt, seen_found};
 ghost use Rattle.kr_rows.specs.Performing.{Performs};
 ghost use Rattle.kr_attributes.specs.Ruled.{ruled};
 
 use crate::found::{is_working_directory, open_object, working_directory};
-use kr_targets::below::{Errno, Host, Ino, Outcome, State, Target, User, number, refused};
+use kr_seen::below::{Errno, Host, Ino, Outcome, State, Target, User};
+use kr_seen::{number, refused};
 
 /// Leaves a number as it is.
 const UNCHANGED: u32 = u32::MAX;

@@ -1,18 +1,19 @@
 //! faccessat(2): what the user may do.
 ghost use Rattle.std.specs.Prelude.{◌≡◌, ◌&&◌, ◌||◌, not, ℕ, List};
-ghost use Rattle.kr_targets.specs.kr_view.View.{Row};
-ghost use Rattle.kr_targets.specs.kr_calls.Arguments.{has};
-ghost use Rattle.kr_targets.specs.kr_model.AttributeRows.{faccessat_row, gives, host_allows, process_allows};
-ghost use Rattle.kr_targets.specs.kr_model.Known.{known};
-ghost use Rattle.kr_targets.specs.kr_model.Operation.{looked_up};
-ghost use Rattle.kr_targets.specs.kr_model.Seen.{LooksUp};
-ghost use Rattle.kr_targets.specs.kr_model.State.{image_layout};
-ghost use Rattle.kr_targets.specs.kr_ops.Meaning.{meaning};
-ghost use Rattle.kr_targets.specs.kr_ops.Sound.{IsSound};
-ghost use Rattle.kr_targets.specs.Performing.{PerformsAt, seen_found};
+ghost use Rattle.kr_seen.specs.kr_view.View.{Row};
+ghost use Rattle.kr_seen.specs.kr_calls.Arguments.{has};
+ghost use Rattle.kr_seen.specs.kr_model.AttributeRows.{faccessat_row, gives, host_allows, process_allows};
+ghost use Rattle.kr_seen.specs.kr_model.Known.{known};
+ghost use Rattle.kr_seen.specs.kr_model.Operation.{looked_up};
+ghost use Rattle.kr_seen.specs.kr_model.Seen.{LooksUp};
+ghost use Rattle.kr_seen.specs.kr_model.State.{image_layout};
+ghost use Rattle.kr_seen.specs.kr_ops.Meaning.{meaning};
+ghost use Rattle.kr_seen.specs.kr_ops.Sound.{IsSound};
+ghost use Rattle.kr_seen.specs.Performing.{PerformsAt, seen_found};
 
 use crate::found::is_process_directory;
-use kr_targets::below::{Errno, Host, Outcome, ProcAt, Right, State, Target, number, refused};
+use kr_seen::below::{Errno, Host, Outcome, ProcAt, Right, State, Target};
+use kr_seen::{number, refused};
 
 /// R_OK of faccessat(2).
 const READ: u32 = 4;

@@ -1,29 +1,30 @@
 //! fstat(2) and newfstatat(2).
 ghost use Rattle.std.specs.Prelude.{◌≡◌, ◌≢◌, ◌+◌, ◌<◌, ◌^◌, ℕ, length, List, IsSome};
 ghost use Rattle.std.specs.Option.{option_map, option_map_or};
-ghost use Rattle.kr_targets.specs.pr_base.declared.errno.Errno.TheVariants.{ENOENT, EBADF};
-ghost use Rattle.kr_targets.specs.kr_tree.Tree.{body_is, inode, takes_names};
-ghost use Rattle.kr_targets.specs.kr_view.View.{Row};
-ghost use Rattle.kr_targets.specs.kr_model.AttributeRows.{console_stat, fstat_row, newfstatat_here, newfstatat_row, node_stat, pipe_stat, process_links, process_stat, stat_host, stat_of, stat_unplaced, tell_stat};
-ghost use Rattle.kr_targets.specs.kr_model.Asking.{lives};
-ghost use Rattle.kr_targets.specs.kr_model.Known.{Known, known};
-ghost use Rattle.kr_targets.specs.kr_model.Operation.{looked_up};
-ghost use Rattle.kr_targets.specs.kr_model.Reply.{refuse};
-ghost use Rattle.kr_targets.specs.kr_model.Seen.{LooksUp};
-ghost use Rattle.kr_targets.specs.kr_model.State.{image_layout, process};
-ghost use Rattle.kr_targets.specs.kr_model.declared.outcome.Outcome.TheVariants.{NoMemory as WantOfMemory};
-ghost use Rattle.kr_targets.specs.kr_ops.Meaning.{meaning};
-ghost use Rattle.kr_targets.specs.kr_ops.Sound.{IsServed, IsSound};
-ghost use Rattle.kr_targets.specs.Performing.{PerformsAt, seen_found};
+ghost use Rattle.kr_seen.specs.pr_base.declared.errno.Errno.TheVariants.{ENOENT, EBADF};
+ghost use Rattle.kr_seen.specs.kr_tree.Tree.{body_is, inode, takes_names};
+ghost use Rattle.kr_seen.specs.kr_view.View.{Row};
+ghost use Rattle.kr_seen.specs.kr_model.AttributeRows.{console_stat, fstat_row, newfstatat_here, newfstatat_row, node_stat, pipe_stat, process_links, process_stat, stat_host, stat_of, stat_unplaced, tell_stat};
+ghost use Rattle.kr_seen.specs.kr_model.Asking.{lives};
+ghost use Rattle.kr_seen.specs.kr_model.Known.{Known, known};
+ghost use Rattle.kr_seen.specs.kr_model.Operation.{looked_up};
+ghost use Rattle.kr_seen.specs.kr_model.Reply.{refuse};
+ghost use Rattle.kr_seen.specs.kr_model.Seen.{LooksUp};
+ghost use Rattle.kr_seen.specs.kr_model.State.{image_layout, process};
+ghost use Rattle.kr_seen.specs.kr_model.declared.outcome.Outcome.TheVariants.{NoMemory as WantOfMemory};
+ghost use Rattle.kr_seen.specs.kr_ops.Meaning.{meaning};
+ghost use Rattle.kr_seen.specs.kr_ops.Sound.{IsServed, IsSound};
+ghost use Rattle.kr_seen.specs.Performing.{PerformsAt, seen_found};
 ghost use Rattle.kr_rows.specs.Performing.{Performs};
 ghost use Rattle.kr_attributes.specs.Facts.{bits_by, links_by, size_by};
 
 use crate::found::{is_process_directory, is_working_directory, open_object, working_directory};
 use kr_rows::caller;
-use kr_targets::below::{
+use kr_seen::below::{
     Errno, Host, Ino, Kind, Meta, Outcome, ProcAt, Stat, State, Target, User, What, proc_inode,
-    refused, stat_bytes, trees_are_kept,
+    stat_bytes, trees_are_kept,
 };
+use kr_seen::refused;
 
 /// The number of the device on which files are, pipes and the console too.
 const DEVICE: u64 = 1;

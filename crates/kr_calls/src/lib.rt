@@ -1,4 +1,23 @@
 //! What a guest asks for: requests out of registers and memory, and the structures that answers are written in.
+//!
+//! What is proved, with the clause or the law that carries it:
+//!
+//! What a guest asks for.
+//!
+//! `decode` gives the request in registers and memory exactly as the row of its call says, or the error of its decoding (`decoded`; the rows are
+//! trees of memory actions, one definition for each call). Bytes, rights and marks of the memory stay (`pages`), and whatever is answered the
+//! flag of marked bytes that were read is the definition's; memory is wanting for texts alone (`wanting`). What was decoded can be given by
+//! decoding (`decoded_is_given`), which is what carrying it out will ask.
+//!
+//! `path_of` is the table of the calls with paths (`path_at`).
+//!
+//! The scripts that execve(2) expands are a definition here (`expanded`) over how a path is found, with rows worked out by hand.
+//!
+//! `stat_bytes` and `dirent_bytes` are the structures of stat(2) and getdents64(2) (`stat_layout`, `entry_bytes`).
+//!
+//! `script_line` gives the interpreter and the argument on a script's first line, and none exactly where the line is refused (`script_of`).
+//!
+//! Only tested, or not shown: `calls_tests`.
 #![tactic(auto)]
 
 mod arguments;

@@ -3,10 +3,10 @@ use Rattle.std.proofs.Common.{◌≡◌, ◌≢◌, ℕ, zero, suc, ◌+◌, ◌
 use Rattle.std.specs.Prelude.{◌↔◌, IsTrue, nat_eq, nat_le}
 use Rattle.std.specs.Option.{option_map, option_map_or}
 use Rattle.std.proofs.lemmas.Bool.Decides.{nat_tests}
-use Rattle.kr_numbered.specs.kr_inode.declared.standing.Standing.{Standing}
-use Rattle.kr_numbered.specs.kr_tree.Lawful.{Below, Here, IsBelow, IsSound}
-use Rattle.kr_numbered.specs.kr_tree.Tree.{Tree, above, root}
-use Rattle.kr_numbered.proofs.kr_tree.BelowLemmas.{HasSteps, steps_end, steps_left}
+use Rattle.kr_seen.specs.kr_inode.declared.standing.Standing.{Standing}
+use Rattle.kr_seen.specs.kr_tree.Lawful.{Below, Here, IsBelow, IsSound}
+use Rattle.kr_seen.specs.kr_tree.Tree.{Tree, above, root}
+use Rattle.kr_seen.proofs.kr_tree.BelowLemmas.{HasSteps, steps_end, steps_left}
 use Rattle.kr_calm.specs.Above.{is_at_or_below, is_within}
 
 module _ (up : ℕ → Option ℕ) (top at : ℕ) where

@@ -4,25 +4,25 @@ use Rattle.std.proofs.Common.{◌≡◌, ℕ, zero, suc, Bool, true, false, ◌&
 use Rattle.std.specs.Prelude.{◌==◌, map as map_list, if◌then◌else◌}
 use Rattle.std.specs.List.{list_any}
 use Rattle.std.specs.Option.{option_and_then, option_map, option_map_or}
-use Rattle.kr_numbered.specs.rv_mem.Memory.{Memory}
-use Rattle.kr_numbered.specs.kr_inode.declared.user.Right.TheVariants.{Search}
-use Rattle.kr_numbered.specs.kr_inode.declared.user.User.{User}
-use Rattle.kr_numbered.specs.kr_tree.Rights.{may}
-use Rattle.kr_numbered.specs.kr_tree.Tree.{Tree, body_is, entry, is_directory}
-use Rattle.kr_numbered.specs.kr_tree.declared.place.Host.{Host}
-use Rattle.kr_numbered.specs.kr_tree.declared.place.Place.{Place}
-use Rattle.kr_numbered.specs.kr_view.Leads.{numbered}
-use Rattle.kr_numbered.specs.kr_view.View.{Row}
-use Rattle.kr_numbered.specs.kr_files.declared.opened.Opened.{Opened}
-use Rattle.kr_numbered.specs.kr_files.Descriptors.{Meanings, Named}
-use Rattle.kr_numbered.specs.kr_files.Files.{Table, file_at}
-use Rattle.kr_numbered.specs.kr_model.Applied.{with_image}
-use Rattle.kr_numbered.specs.kr_model.Change.{Change, MoveName, RemoveName, SetMode}
-use Rattle.kr_numbered.specs.kr_model.FileRows.{is_dir}
-use Rattle.kr_numbered.specs.kr_model.State.{Image, Process, State, at_pid, inode_of}
-use Rattle.kr_numbered.specs.kr_seen.Numbered.{opened_numbered, process_numbered, state_numbered, table_numbered}
-use Rattle.kr_numbered.proofs.TableLemmas.{file-numbered}
-use Rattle.kr_numbered.specs.kr_seen.Carrying.{with_memory, with_memory_of}
+use Rattle.kr_seen.specs.rv_mem.Memory.{Memory}
+use Rattle.kr_seen.specs.kr_inode.declared.user.Right.TheVariants.{Search}
+use Rattle.kr_seen.specs.kr_inode.declared.user.User.{User}
+use Rattle.kr_seen.specs.kr_tree.Rights.{may}
+use Rattle.kr_seen.specs.kr_tree.Tree.{Tree, body_is, entry, is_directory}
+use Rattle.kr_seen.specs.kr_tree.declared.place.Host.{Host}
+use Rattle.kr_seen.specs.kr_tree.declared.place.Place.{Place}
+use Rattle.kr_seen.specs.kr_view.Leads.{numbered}
+use Rattle.kr_seen.specs.kr_view.View.{Row}
+use Rattle.kr_seen.specs.kr_files.declared.opened.Opened.{Opened}
+use Rattle.kr_seen.specs.kr_files.Descriptors.{Meanings, Named}
+use Rattle.kr_seen.specs.kr_files.Files.{Table, file_at}
+use Rattle.kr_seen.specs.kr_model.Applied.{with_image}
+use Rattle.kr_seen.specs.kr_model.Change.{Change, MoveName, RemoveName, SetMode}
+use Rattle.kr_seen.specs.kr_model.FileRows.{is_dir}
+use Rattle.kr_seen.specs.kr_model.State.{Image, Process, State, at_pid, inode_of}
+use Rattle.kr_seen.specs.Numbered.{opened_numbered, process_numbered, state_numbered, table_numbered}
+use Rattle.kr_seen.proofs.TableLemmas.{file-numbered}
+use Rattle.kr_seen.specs.Carrying.{with_memory, with_memory_of}
 use Rattle.kr_calm.specs.Above.{is_at_or_below}
 use Rattle.kr_calm.specs.Foreseen.{foreseen_of, guarded, may_shut}
 use Rattle.kr_calm.specs.InUse.{any_opened_below, is_in_use, is_remembered, open_directory, passes_at, process_remembers, process_uses, remembered_directory}

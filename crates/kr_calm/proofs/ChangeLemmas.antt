@@ -1,22 +1,22 @@
 -- Changes that break no rule.
 use Rattle.std.proofs.Common.{◌≡◌, ◌≢◌, ℕ, Bool, true, false, ◌&&◌, ◌||◌, not, List, [], ◌∷◌, refl, sym, ap, ◌∙◌, subst}
-use Rattle.kr_numbered.specs.pr_base.declared.errno.Errno.TheVariants.{ENOSYS}
-use Rattle.kr_numbered.specs.rv_mem.Actions.{Action, Done, MayUse, ReadBytes, WriteBytes, allows_uses, carried_out}
-use Rattle.kr_numbered.specs.rv_mem.Memory.{Memory, after_read, with_pages}
-use Rattle.kr_numbered.specs.rv_mem.Pages.{any_marked, bytes_from, written}
-use Rattle.kr_numbered.specs.kr_calls.declared.request.Request.{Request}
-use Rattle.kr_numbered.specs.kr_tree.Tree.{Tree}
-use Rattle.kr_numbered.specs.kr_tree.declared.place.Host.{Host}
-use Rattle.kr_numbered.specs.kr_view.View.{Row}
-use Rattle.kr_numbered.specs.kr_model.Applied.{Computing, Mounts, applied}
-use Rattle.kr_numbered.specs.kr_model.Change.{Change, RemoveName, MoveName, SetMode, SetOwner, End, MountOf, ReplaceImage, ReplaceExecutable, CloseOnExec}
-use Rattle.kr_numbered.specs.kr_model.Judged.{are_quiet, is_quiet}
-use Rattle.kr_numbered.specs.kr_model.Known.{Known}
-use Rattle.kr_numbered.specs.kr_model.Operation.{IsNoExec, operation}
-use Rattle.kr_numbered.specs.kr_model.Reply.{is_refusal}
-use Rattle.kr_numbered.specs.kr_model.Seen.{Seen, WalkFails}
-use Rattle.kr_numbered.specs.kr_model.State.{Image, State}
-use Rattle.kr_numbered.proofs.kr_model.CleanCalls.{refusals}
+use Rattle.kr_seen.specs.pr_base.declared.errno.Errno.TheVariants.{ENOSYS}
+use Rattle.kr_seen.specs.rv_mem.Actions.{Action, Done, MayUse, ReadBytes, WriteBytes, allows_uses, carried_out}
+use Rattle.kr_seen.specs.rv_mem.Memory.{Memory, after_read, with_pages}
+use Rattle.kr_seen.specs.rv_mem.Pages.{any_marked, bytes_from, written}
+use Rattle.kr_seen.specs.kr_calls.declared.request.Request.{Request}
+use Rattle.kr_seen.specs.kr_tree.Tree.{Tree}
+use Rattle.kr_seen.specs.kr_tree.declared.place.Host.{Host}
+use Rattle.kr_seen.specs.kr_view.View.{Row}
+use Rattle.kr_seen.specs.kr_model.Applied.{Computing, Mounts, applied}
+use Rattle.kr_seen.specs.kr_model.Change.{Change, RemoveName, MoveName, SetMode, SetOwner, End, MountOf, ReplaceImage, ReplaceExecutable, CloseOnExec}
+use Rattle.kr_seen.specs.kr_model.Judged.{are_quiet, is_quiet}
+use Rattle.kr_seen.specs.kr_model.Known.{Known}
+use Rattle.kr_seen.specs.kr_model.Operation.{IsNoExec, operation}
+use Rattle.kr_seen.specs.kr_model.Reply.{is_refusal}
+use Rattle.kr_seen.specs.kr_model.Seen.{Seen, WalkFails}
+use Rattle.kr_seen.specs.kr_model.State.{Image, State}
+use Rattle.kr_seen.proofs.kr_model.CleanCalls.{refusals}
 use Rattle.kr_calm.specs.Foreseen.{are_unjudged, is_judged}
 use Rattle.kr_calm.specs.InUse.{is_directory_of, is_in_use}
 use Rattle.kr_calm.specs.Laws.{BreakNone, EndBreaks}

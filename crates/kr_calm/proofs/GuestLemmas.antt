@@ -4,18 +4,18 @@ use Rattle.std.specs.Prelude.{nat_eq, slice_get, if◌then◌else◌}
 use Rattle.std.specs.List.{list_any}
 use Rattle.std.specs.Option.{option_and_then, option_map, option_map_or}
 use Rattle.std.proofs.lemmas.Bool.Decides.{nat_tests}
-use Rattle.kr_numbered.specs.pr_base.declared.errno.Errno.TheVariants.{ENOENT}
-use Rattle.kr_numbered.specs.pr_base.WalkFrame.{Fails, Missing, Leads, Links, Jumps}
-use Rattle.kr_numbered.specs.kr_tree.Lawful.{Below, Here, IsBelow, IsSound}
-use Rattle.kr_numbered.specs.kr_tree.Tree.{above, body_is, is_directory, root}
-use Rattle.kr_numbered.specs.kr_tree.declared.place.Host.{Host}
-use Rattle.kr_numbered.specs.kr_tree.declared.place.Host.TheVariants.{Node, Proc}
-use Rattle.kr_numbered.specs.kr_tree.declared.place.Place.{Place}
-use Rattle.kr_numbered.specs.kr_tree.declared.place.ProcAt.{ProcAt}
-use Rattle.kr_numbered.specs.kr_tree.declared.place.ProcAt.TheVariants.{SelfLink, Dir, Cwd, Root, Exe, FdDir, Fd}
-use Rattle.kr_numbered.specs.kr_view.Component.{Namespace, SeenPlace, above_body, above_host, above_node, is_directory_at, is_shown, shows_directory}
-use Rattle.kr_numbered.specs.kr_view.View.{Point, Row, is_root_place, node_in, point_place, row, up}
-use Rattle.kr_numbered.specs.kr_model.State.{inode_of}
+use Rattle.kr_seen.specs.pr_base.declared.errno.Errno.TheVariants.{ENOENT}
+use Rattle.kr_seen.specs.pr_base.WalkFrame.{Fails, Missing, Leads, Links, Jumps}
+use Rattle.kr_seen.specs.kr_tree.Lawful.{Below, Here, IsBelow, IsSound}
+use Rattle.kr_seen.specs.kr_tree.Tree.{above, body_is, is_directory, root}
+use Rattle.kr_seen.specs.kr_tree.declared.place.Host.{Host}
+use Rattle.kr_seen.specs.kr_tree.declared.place.Host.TheVariants.{Node, Proc}
+use Rattle.kr_seen.specs.kr_tree.declared.place.Place.{Place}
+use Rattle.kr_seen.specs.kr_tree.declared.place.ProcAt.{ProcAt}
+use Rattle.kr_seen.specs.kr_tree.declared.place.ProcAt.TheVariants.{SelfLink, Dir, Cwd, Root, Exe, FdDir, Fd}
+use Rattle.kr_seen.specs.kr_view.Component.{Namespace, SeenPlace, above_body, above_host, above_node, is_directory_at, is_shown, shows_directory}
+use Rattle.kr_seen.specs.kr_view.View.{Point, Row, is_root_place, node_in, point_place, row, up}
+use Rattle.kr_seen.specs.kr_model.State.{inode_of}
 use Rattle.kr_calm.specs.Above.{is_at_or_below}
 use Rattle.kr_calm.specs.Laws.{IsAboveByGuestNames, Itself, Up}
 use Rattle.kr_calm.specs.Rules.{serves_row}

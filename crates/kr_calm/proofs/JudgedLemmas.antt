@@ -3,23 +3,23 @@ use Rattle.std.proofs.Common.{◌≡◌, ◌≢◌, ◌⊎◌, inl, inr, ℕ, ze
 use Rattle.std.specs.Prelude.{if◌then◌else◌}
 use Rattle.std.specs.Option.{option_map_or}
 use Rattle.std.proofs.lemmas.Bool.Decides.{nat_tests}
-use Rattle.kr_numbered.specs.rv_mem.Memory.{Memory}
-use Rattle.kr_numbered.specs.kr_inode.declared.user.Right.TheVariants.{Search}
-use Rattle.kr_numbered.specs.kr_calls.declared.request.Request.{Request}
-use Rattle.kr_numbered.specs.kr_tree.Rights.{may}
-use Rattle.kr_numbered.specs.kr_view.View.{Row}
-use Rattle.kr_numbered.specs.kr_model.Applied.{Mounts, all_applied, images}
-use Rattle.kr_numbered.specs.kr_model.Change.{Change, End, MoveName, RemoveName, SetMode}
-use Rattle.kr_numbered.specs.kr_model.Known.{Known, known}
-use Rattle.kr_numbered.specs.kr_model.Laws.{word_told}
-use Rattle.kr_numbered.specs.kr_model.Seen.{Seen}
-use Rattle.kr_numbered.specs.kr_model.State.{Image, State, image_layout}
-use Rattle.kr_numbered.specs.kr_model.Walks.{seen}
-use Rattle.kr_numbered.specs.kr_model.declared.outcome.Outcome.{Outcome}
-use Rattle.kr_numbered.specs.kr_model.declared.outcome.Outcome.TheVariants.{Answer, Ended, NoMemory, Wait}
-use Rattle.kr_numbered.proofs.kr_model.CleanCalls.{row_ended}
-use Rattle.kr_numbered.specs.kr_seen.Numbered.{state_numbered}
-use Rattle.kr_numbered.specs.kr_seen.Carrying.{after_row, memory_of, with_memory_of}
+use Rattle.kr_seen.specs.rv_mem.Memory.{Memory}
+use Rattle.kr_seen.specs.kr_inode.declared.user.Right.TheVariants.{Search}
+use Rattle.kr_seen.specs.kr_calls.declared.request.Request.{Request}
+use Rattle.kr_seen.specs.kr_tree.Rights.{may}
+use Rattle.kr_seen.specs.kr_view.View.{Row}
+use Rattle.kr_seen.specs.kr_model.Applied.{Mounts, all_applied, images}
+use Rattle.kr_seen.specs.kr_model.Change.{Change, End, MoveName, RemoveName, SetMode}
+use Rattle.kr_seen.specs.kr_model.Known.{Known, known}
+use Rattle.kr_seen.specs.kr_model.Laws.{word_told}
+use Rattle.kr_seen.specs.kr_model.Seen.{Seen}
+use Rattle.kr_seen.specs.kr_model.State.{Image, State, image_layout}
+use Rattle.kr_seen.specs.kr_model.Walks.{seen}
+use Rattle.kr_seen.specs.kr_model.declared.outcome.Outcome.{Outcome}
+use Rattle.kr_seen.specs.kr_model.declared.outcome.Outcome.TheVariants.{Answer, Ended, NoMemory, Wait}
+use Rattle.kr_seen.proofs.kr_model.CleanCalls.{row_ended}
+use Rattle.kr_seen.specs.Numbered.{state_numbered}
+use Rattle.kr_seen.specs.Carrying.{after_row, memory_of, with_memory_of}
 use Rattle.kr_calm.specs.Calm.{broken_by_changes, smallest}
 use Rattle.kr_calm.specs.Foreseen.{broken_as_foreseen, call_done, call_foreseen, foreseen_of, gives_owner, is_foreseen, prospect}
 use Rattle.kr_calm.specs.InUse.{is_directory_of, is_in_use}

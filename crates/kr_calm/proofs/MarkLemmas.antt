@@ -4,23 +4,23 @@ use Rattle.std.proofs.Common.{◌≡◌, ◌≢◌, ℕ, zero, suc, ◌+◌, Boo
 use Rattle.std.specs.Prelude.{map as map_list, ◌==◌, IsSome, if◌then◌else◌}
 use Rattle.std.specs.List.{find, list_all}
 use Rattle.std.specs.Option.{option_map, option_map_or}
-use Rattle.kr_numbered.specs.pr_base.Maps.{changed}
-use Rattle.kr_numbered.specs.rv_mem.Memory.{Memory}
-use Rattle.kr_numbered.specs.kr_calls.declared.request.Request.{Request}
-use Rattle.kr_numbered.specs.kr_tree.declared.place.Host.{Host}
-use Rattle.kr_numbered.specs.kr_files.declared.opened.Opened.{Opened}
-use Rattle.kr_numbered.specs.kr_files.Descriptors.{Named}
-use Rattle.kr_numbered.specs.kr_files.Files.{with_opened, at_offset, with_append}
-use Rattle.kr_numbered.specs.kr_model.State.{Image, Process, State, image_layout, process, named, is_pid, at_pid, with_process, with_descs}
-use Rattle.kr_numbered.specs.kr_model.Change.{Change, AddNode, LinkNode, RemoveName, MoveName, SetMode, SetOwner, SetSize, WriteFile, OpenFile, CopyDescriptor, CloseDescriptor, SetCloexec, Seek, SetAppend, MakePipe, TakeFromPipe, PutIntoPipe, TakeInput, WriteOut, WriteErr, ChangePages, SetBreak, SetUmask, ChangeDirectory, Fork, End, Reap, ReplaceImage, ReplaceExecutable, CloseOnExec, Birth}
-use Rattle.kr_numbered.specs.kr_model.Applied.{Mounts, applied, all_applied, images, mount_of, with_files, with_exe_name, exe_remembers, exe_after_removal, exe_after_rename, open_in, close_named, close, copy_named, copy_over, on_opened_of, pipe_made, with_image, with_brk, with_umask, with_cwd, moved_to, child_of, forked_from, with_exe, executed, is_closed_on_exec, close_on_exec_below}
-use Rattle.kr_numbered.specs.kr_model.Known.{Known, known}
-use Rattle.kr_numbered.specs.kr_model.Operation.{operation}
-use Rattle.kr_numbered.specs.kr_model.Seen.{Seen}
-use Rattle.kr_numbered.specs.kr_model.declared.outcome.Outcome.{Outcome}
-use Rattle.kr_numbered.specs.kr_model.declared.outcome.Outcome.TheVariants.{Ended}
-use Rattle.kr_numbered.proofs.kr_model.BareLemmas.{found-mapped}
-use Rattle.kr_numbered.specs.kr_seen.Carrying.{after_row, carried, memory_of, no_memory, with_memory, with_memory_of}
+use Rattle.kr_seen.specs.pr_base.Maps.{changed}
+use Rattle.kr_seen.specs.rv_mem.Memory.{Memory}
+use Rattle.kr_seen.specs.kr_calls.declared.request.Request.{Request}
+use Rattle.kr_seen.specs.kr_tree.declared.place.Host.{Host}
+use Rattle.kr_seen.specs.kr_files.declared.opened.Opened.{Opened}
+use Rattle.kr_seen.specs.kr_files.Descriptors.{Named}
+use Rattle.kr_seen.specs.kr_files.Files.{with_opened, at_offset, with_append}
+use Rattle.kr_seen.specs.kr_model.State.{Image, Process, State, image_layout, process, named, is_pid, at_pid, with_process, with_descs}
+use Rattle.kr_seen.specs.kr_model.Change.{Change, AddNode, LinkNode, RemoveName, MoveName, SetMode, SetOwner, SetSize, WriteFile, OpenFile, CopyDescriptor, CloseDescriptor, SetCloexec, Seek, SetAppend, MakePipe, TakeFromPipe, PutIntoPipe, TakeInput, WriteOut, WriteErr, ChangePages, SetBreak, SetUmask, ChangeDirectory, Fork, End, Reap, ReplaceImage, ReplaceExecutable, CloseOnExec, Birth}
+use Rattle.kr_seen.specs.kr_model.Applied.{Mounts, applied, all_applied, images, mount_of, with_files, with_exe_name, exe_remembers, exe_after_removal, exe_after_rename, open_in, close_named, close, copy_named, copy_over, on_opened_of, pipe_made, with_image, with_brk, with_umask, with_cwd, moved_to, child_of, forked_from, with_exe, executed, is_closed_on_exec, close_on_exec_below}
+use Rattle.kr_seen.specs.kr_model.Known.{Known, known}
+use Rattle.kr_seen.specs.kr_model.Operation.{operation}
+use Rattle.kr_seen.specs.kr_model.Seen.{Seen}
+use Rattle.kr_seen.specs.kr_model.declared.outcome.Outcome.{Outcome}
+use Rattle.kr_seen.specs.kr_model.declared.outcome.Outcome.TheVariants.{Ended}
+use Rattle.kr_seen.proofs.kr_model.BareLemmas.{found-mapped}
+use Rattle.kr_seen.specs.Carrying.{after_row, carried, memory_of, no_memory, with_memory, with_memory_of}
 use Rattle.kr_calm.specs.Foreseen.{gives_owner, is_foreseen, prospect}
 use Rattle.kr_calm.specs.Laws.{MarksAreKept, leaves_mark}
 use Rattle.kr_calm.specs.Prospects.{answers_zero}

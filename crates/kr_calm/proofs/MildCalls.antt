@@ -1,13 +1,13 @@
 -- Calls that change no name, mode or owner that is there, and take no mount from a descriptor: all but seven. Four of them hand a
 -- descriptor or a copy of their caller on, and no other.
 use Rattle.std.proofs.Common.{◌≡◌, ℕ, Bool, true, false, List, [], ◌∷◌, refl, Option}
-use Rattle.kr_numbered.specs.pr_base.declared.errno.Errno.TheVariants.{ENOENT, ENOEXEC, EPERM}
-use Rattle.kr_numbered.specs.kr_calls.declared.request.Request.{Request}
-use Rattle.kr_numbered.specs.kr_calls.declared.request.Request.TheVariants as call
-use Rattle.kr_numbered.specs.kr_model.Known.{Known}
-use Rattle.kr_numbered.specs.kr_model.Operation.{by_path, directory_named, link_read, linked, looked_up, made, opened, operation}
-use Rattle.kr_numbered.specs.kr_model.Reply.{Replying}
-use Rattle.kr_numbered.specs.kr_model.Seen.{Looked, Made, Opening, Seen, Links, LooksUp, MakesEntry, NamesDirectory, Opens, ReadsLink, WalkFails}
+use Rattle.kr_seen.specs.pr_base.declared.errno.Errno.TheVariants.{ENOENT, ENOEXEC, EPERM}
+use Rattle.kr_seen.specs.kr_calls.declared.request.Request.{Request}
+use Rattle.kr_seen.specs.kr_calls.declared.request.Request.TheVariants as call
+use Rattle.kr_seen.specs.kr_model.Known.{Known}
+use Rattle.kr_seen.specs.kr_model.Operation.{by_path, directory_named, link_read, linked, looked_up, made, opened, operation}
+use Rattle.kr_seen.specs.kr_model.Reply.{Replying}
+use Rattle.kr_seen.specs.kr_model.Seen.{Looked, Made, Opening, Seen, Links, LooksUp, MakesEntry, NamesDirectory, Opens, ReadsLink, WalkFails}
 use Rattle.kr_calm.specs.Foreseen.{gives_owner, is_foreseen}
 use Rattle.kr_calm.proofs.MildLemmas.{HandsNothing, IsMild, answered, nothing_is_mild, refused}
 use Rattle.kr_calm.proofs.MildPathRows.{faccessat_hands_nothing, fstat_hands_nothing, linkat_hands_nothing, mkdirat_hands_nothing, newfstatat_here_hands_nothing, newfstatat_hands_nothing, readlinkat_hands_nothing, symlinkat_hands_nothing}

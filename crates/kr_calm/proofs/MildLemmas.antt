@@ -1,21 +1,21 @@
 -- Rows that come to changes that pass a test, as those that change no name, mode or owner that is there: their parts.
 use Rattle.std.proofs.Common.{◌≡◌, ℕ, Bool, true, false, ◌&&◌, List, [], ◌∷◌, refl, ap, ◌∙◌, Option, Some, None, ℤ, cond}
-use Rattle.kr_numbered.specs.pr_base.declared.errno.Errno.TheVariants.{ENOENT, EACCES, EFAULT, EINVAL, ENOTDIR, EBADF}
-use Rattle.kr_numbered.specs.kr_tree.Tree.{Node, Body, Directory, RegularFile, SymbolicLink, ProcessDirectory}
-use Rattle.kr_numbered.specs.kr_tree.declared.place.Host.{Host}
-use Rattle.kr_numbered.specs.kr_tree.declared.place.Host.TheVariants as host
-use Rattle.kr_numbered.specs.rv_mem.declared.rights.Use.{Use}
-use Rattle.kr_numbered.specs.kr_model.Change.{Change, ChangeDirectory, CopyDescriptor, End, Fork, MoveName, OfDescriptor, OpenFile, RemoveName, ReplaceExecutable, ReplaceImage, SetMode, SetOwner}
-use Rattle.kr_numbered.specs.kr_model.Known.{Known, known_node}
-use Rattle.kr_numbered.specs.kr_model.Reply.{Replying, refuse, done, waits, ends}
-use Rattle.kr_numbered.specs.kr_model.Asking.{writable_body, writable_node, writable, is_over, descriptor_number, or_closed, of_number, or_badf}
-use Rattle.kr_numbered.specs.kr_model.Pieces.{Piece, Part, may_use_all, read_all, write_all, if_usable, hand, if_summed, with_list, pieces_of}
-use Rattle.kr_numbered.specs.kr_files.declared.opened.Opened.{Opened}
+use Rattle.kr_seen.specs.pr_base.declared.errno.Errno.TheVariants.{ENOENT, EACCES, EFAULT, EINVAL, ENOTDIR, EBADF}
+use Rattle.kr_seen.specs.kr_tree.Tree.{Node, Body, Directory, RegularFile, SymbolicLink, ProcessDirectory}
+use Rattle.kr_seen.specs.kr_tree.declared.place.Host.{Host}
+use Rattle.kr_seen.specs.kr_tree.declared.place.Host.TheVariants as host
+use Rattle.kr_seen.specs.rv_mem.declared.rights.Use.{Use}
+use Rattle.kr_seen.specs.kr_model.Change.{Change, ChangeDirectory, CopyDescriptor, End, Fork, MoveName, OfDescriptor, OpenFile, RemoveName, ReplaceExecutable, ReplaceImage, SetMode, SetOwner}
+use Rattle.kr_seen.specs.kr_model.Known.{Known, known_node}
+use Rattle.kr_seen.specs.kr_model.Reply.{Replying, refuse, done, waits, ends}
+use Rattle.kr_seen.specs.kr_model.Asking.{writable_body, writable_node, writable, is_over, descriptor_number, or_closed, of_number, or_badf}
+use Rattle.kr_seen.specs.kr_model.Pieces.{Piece, Part, may_use_all, read_all, write_all, if_usable, hand, if_summed, with_list, pieces_of}
+use Rattle.kr_seen.specs.kr_files.declared.opened.Opened.{Opened}
 use Rattle.std.specs.Option.{option_map_or}
-use Rattle.kr_numbered.specs.pr_base.declared.errno.Errno.{Errno}
-use Rattle.kr_numbered.specs.rv_mem.Actions.{carried_out, MayUse, ReadBytes, WriteBytes, allows_uses}
-use Rattle.kr_numbered.specs.rv_mem.Memory.{Memory, with_pages, after_read}
-use Rattle.kr_numbered.specs.rv_mem.Pages.{written, bytes_from}
+use Rattle.kr_seen.specs.pr_base.declared.errno.Errno.{Errno}
+use Rattle.kr_seen.specs.rv_mem.Actions.{carried_out, MayUse, ReadBytes, WriteBytes, allows_uses}
+use Rattle.kr_seen.specs.rv_mem.Memory.{Memory, with_pages, after_read}
+use Rattle.kr_seen.specs.rv_mem.Pages.{written, bytes_from}
 use Rattle.std.specs.List.{list_all}
 use Rattle.kr_calm.proofs.ChangeLemmas.{both}
 

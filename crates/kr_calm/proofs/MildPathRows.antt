@@ -1,16 +1,16 @@
 -- Calls that make names, and that ask for attributes, change no name, mode or owner that is there, and hand nothing on.
 use Rattle.std.proofs.Common.{ℕ, Bool, List, refl, Option, ℤ}
-use Rattle.kr_numbered.specs.pr_base.declared.errno.Errno.TheVariants.{ENOENT, EACCES, EFAULT, EINVAL, EBADF, EEXIST, ENOSPC, EPERM, EXDEV}
-use Rattle.kr_numbered.specs.kr_tree.Tree.{Body, Directory, RegularFile, SymbolicLink, ProcessDirectory}
-use Rattle.kr_numbered.specs.kr_tree.declared.place.Host.{Host}
-use Rattle.kr_numbered.specs.kr_tree.declared.place.Host.TheVariants as host
-use Rattle.kr_numbered.specs.kr_model.Known.{Known, known_node}
-use Rattle.kr_numbered.specs.kr_files.declared.opened.What.{What}
-use Rattle.kr_numbered.specs.kr_files.declared.opened.What.TheVariants.{File, In, Out, Err, PipeRead, PipeWrite, Dir as DirOpen}
-use Rattle.kr_numbered.specs.kr_model.Seen.{Looked, Made, MakesNoName, MakesOver, Makes}
-use Rattle.kr_numbered.specs.kr_model.NameRows.{mkdirat_row, symlinkat_row, link_host, linkat_row}
-use Rattle.kr_numbered.specs.kr_calls.declared.stat.Stat.{Stat}
-use Rattle.kr_numbered.specs.kr_model.AttributeRows.{node_stat, process_stat, console_stat, pipe_stat, faccessat_row, tell_stat, stat_host, stat_unplaced, fstat_row, newfstatat_row, newfstatat_here, tell_text, readlink_body, readlink_host, readlinkat_row}
+use Rattle.kr_seen.specs.pr_base.declared.errno.Errno.TheVariants.{ENOENT, EACCES, EFAULT, EINVAL, EBADF, EEXIST, ENOSPC, EPERM, EXDEV}
+use Rattle.kr_seen.specs.kr_tree.Tree.{Body, Directory, RegularFile, SymbolicLink, ProcessDirectory}
+use Rattle.kr_seen.specs.kr_tree.declared.place.Host.{Host}
+use Rattle.kr_seen.specs.kr_tree.declared.place.Host.TheVariants as host
+use Rattle.kr_seen.specs.kr_model.Known.{Known, known_node}
+use Rattle.kr_seen.specs.kr_files.declared.opened.What.{What}
+use Rattle.kr_seen.specs.kr_files.declared.opened.What.TheVariants.{File, In, Out, Err, PipeRead, PipeWrite, Dir as DirOpen}
+use Rattle.kr_seen.specs.kr_model.Seen.{Looked, Made, MakesNoName, MakesOver, Makes}
+use Rattle.kr_seen.specs.kr_model.NameRows.{mkdirat_row, symlinkat_row, link_host, linkat_row}
+use Rattle.kr_seen.specs.kr_calls.declared.stat.Stat.{Stat}
+use Rattle.kr_seen.specs.kr_model.AttributeRows.{node_stat, process_stat, console_stat, pipe_stat, faccessat_row, tell_stat, stat_host, stat_unplaced, fstat_row, newfstatat_row, newfstatat_here, tell_text, readlink_body, readlink_host, readlinkat_row}
 use Rattle.kr_calm.proofs.MildLemmas.{HandsNothing, refused, answered, tested, wrote, either, maybe, by_open, written_to}
 
 -- ---- new names

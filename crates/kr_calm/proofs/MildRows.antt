@@ -1,28 +1,28 @@
 -- Calls on descriptors, files, directories, memory, processes and identity change no name, mode or owner that is there; four of them
 -- copy descriptors, or make children.
 use Rattle.std.proofs.Common.{◌≡◌, ℕ, Bool, true, false, ◌&&◌, List, [], ◌∷◌, refl, ap, Option, Some, None, ◌+ℤ◌, zero, suc, length, ℤ, pos, negsuc, cond, ◌||◌, nat_lt, replicate, ◌-◌}
-use Rattle.kr_numbered.specs.pr_base.declared.errno.Errno.TheVariants.{ENOENT, EACCES, EFAULT, EINVAL, ENOTDIR, EBADF, EMFILE, ENOTTY, ESPIPE, EEXIST, EISDIR, EFBIG, ENOSPC, ELOOP, EPERM, ECHILD, EAGAIN, ENOMEM, ERANGE}
-use Rattle.kr_numbered.specs.kr_tree.Tree.{Node, Body, Directory, RegularFile, SymbolicLink, ProcessDirectory}
-use Rattle.kr_numbered.specs.kr_tree.declared.place.Host.{Host}
-use Rattle.kr_numbered.specs.kr_tree.declared.place.Host.TheVariants as host
-use Rattle.kr_numbered.specs.kr_model.Change.{Change, ChangeDirectory, SetSize, OfDescriptor, OfFound, Reap}
-use Rattle.kr_numbered.specs.kr_model.Known.{Known, known_node}
-use Rattle.kr_numbered.specs.kr_model.Reply.{Replying, refuse, done}
-use Rattle.kr_numbered.specs.kr_model.Asking.{descriptor_number}
-use Rattle.kr_numbered.specs.kr_model.Pieces.{Piece, one_piece}
+use Rattle.kr_seen.specs.pr_base.declared.errno.Errno.TheVariants.{ENOENT, EACCES, EFAULT, EINVAL, ENOTDIR, EBADF, EMFILE, ENOTTY, ESPIPE, EEXIST, EISDIR, EFBIG, ENOSPC, ELOOP, EPERM, ECHILD, EAGAIN, ENOMEM, ERANGE}
+use Rattle.kr_seen.specs.kr_tree.Tree.{Node, Body, Directory, RegularFile, SymbolicLink, ProcessDirectory}
+use Rattle.kr_seen.specs.kr_tree.declared.place.Host.{Host}
+use Rattle.kr_seen.specs.kr_tree.declared.place.Host.TheVariants as host
+use Rattle.kr_seen.specs.kr_model.Change.{Change, ChangeDirectory, SetSize, OfDescriptor, OfFound, Reap}
+use Rattle.kr_seen.specs.kr_model.Known.{Known, known_node}
+use Rattle.kr_seen.specs.kr_model.Reply.{Replying, refuse, done}
+use Rattle.kr_seen.specs.kr_model.Asking.{descriptor_number}
+use Rattle.kr_seen.specs.kr_model.Pieces.{Piece, one_piece}
 use Rattle.std.specs.Prelude.{◌==◌}
-use Rattle.kr_numbered.specs.kr_files.declared.opened.Opened.{Opened}
-use Rattle.kr_numbered.specs.kr_files.declared.opened.What.{What}
-use Rattle.kr_numbered.specs.kr_files.declared.opened.What.TheVariants.{File, Dir, In, Out, Err, PipeRead, PipeWrite}
-use Rattle.kr_numbered.specs.kr_model.DescriptorRows.{open_bytes, copy_under, copy_to, dup_row, dup3_row, copy_from, fcntl_by, fcntl_row, ioctl_row, close_row, pipe_under, pipe2_row, seek_to, seek_file, seek_directory, seek_what, lseek_row}
-use Rattle.kr_numbered.specs.kr_model.Seen.{Looked, Opening, OpensNoName, OpensSlashed, OpensFound, OpensNew}
-use Rattle.kr_numbered.specs.kr_model.FileRows.{truncates, read_pipe, read_what, read_pieces, if_readable, read_row, readv_row, write_pipe, put_in_file, write_file, write_what, write_pieces, if_writable, write_row, writev_row, ftruncate_row, open_under, open_directory, open_file, open_body, open_host, open_found, make_and_open, open_new, openat_row}
+use Rattle.kr_seen.specs.kr_files.declared.opened.Opened.{Opened}
+use Rattle.kr_seen.specs.kr_files.declared.opened.What.{What}
+use Rattle.kr_seen.specs.kr_files.declared.opened.What.TheVariants.{File, Dir, In, Out, Err, PipeRead, PipeWrite}
+use Rattle.kr_seen.specs.kr_model.DescriptorRows.{open_bytes, copy_under, copy_to, dup_row, dup3_row, copy_from, fcntl_by, fcntl_row, ioctl_row, close_row, pipe_under, pipe2_row, seek_to, seek_file, seek_directory, seek_what, lseek_row}
+use Rattle.kr_seen.specs.kr_model.Seen.{Looked, Opening, OpensNoName, OpensSlashed, OpensFound, OpensNew}
+use Rattle.kr_seen.specs.kr_model.FileRows.{truncates, read_pipe, read_what, read_pieces, if_readable, read_row, readv_row, write_pipe, put_in_file, write_file, write_what, write_pieces, if_writable, write_row, writev_row, ftruncate_row, open_under, open_directory, open_file, open_body, open_host, open_found, make_and_open, open_new, openat_row}
 use Rattle.std.specs.Int.{to_le_bytes, w32}
-use Rattle.kr_numbered.specs.kr_model.State.{Ended}
-use Rattle.kr_numbered.specs.kr_model.DirectoryRows.{Listed, tell_entries, list_rest, list_host, getdents64_row, if_entered, chdir_row, fchdir_row, chroot_row, tell_directory, getcwd_row, shown_by, behind}
-use Rattle.kr_numbered.specs.kr_model.MemoryRows.{pages_end, page_count, passes_limit, has_page, grow, brk_row, map_at, mmap_row, munmap_row, mprotect_row, lowest_place}
-use Rattle.kr_numbered.specs.kr_model.ProcessRows.{usage_size, uname_row, exit_row, clone_row, null_or_writable, unless_null, tell_end, reap, wait_for, wait4_row}
-use Rattle.kr_numbered.specs.kr_model.IdentityRows.{set_row, set_two_row, set_three_row, get_three_row, getgroups_row}
+use Rattle.kr_seen.specs.kr_model.State.{Ended}
+use Rattle.kr_seen.specs.kr_model.DirectoryRows.{Listed, tell_entries, list_rest, list_host, getdents64_row, if_entered, chdir_row, fchdir_row, chroot_row, tell_directory, getcwd_row, shown_by, behind}
+use Rattle.kr_seen.specs.kr_model.MemoryRows.{pages_end, page_count, passes_limit, has_page, grow, brk_row, map_at, mmap_row, munmap_row, mprotect_row, lowest_place}
+use Rattle.kr_seen.specs.kr_model.ProcessRows.{usage_size, uname_row, exit_row, clone_row, null_or_writable, unless_null, tell_end, reap, wait_for, wait4_row}
+use Rattle.kr_seen.specs.kr_model.IdentityRows.{set_row, set_two_row, set_three_row, get_three_row, getgroups_row}
 use Rattle.kr_calm.proofs.MildLemmas.{ComesTo, HandsNothing, IsMild, hand_nothing, refused, answered, waiting, ending, tested, wrote, either, maybe, by_open, all_read, usable, handed, listed, written_to}
 
 -- ---- descriptors

@@ -2,40 +2,40 @@
 use Rattle.std.proofs.Common.{◌≡◌, ℕ, ◌+◌, ◌-◌, ◌*◌, ◌++◌, Bool, true, false, ◌&&◌, ◌||◌, not, cond, List, [], ◌∷◌, length, Option, Some, None, IsSome, is_some, refl, sym, ap, ◌∙◌, subst, ℤ}
 use Rattle.std.specs.Prelude.{◌==◌, nat_le, nat_lt, OnErr, OnOk, Result, Ok, Err, if◌then◌else◌}
 use Rattle.std.specs.Option.{option_and_then, option_map, option_map_or}
-use Rattle.kr_numbered.specs.pr_base.declared.errno.Errno.{Errno}
-use Rattle.kr_numbered.specs.pr_base.declared.errno.Errno.TheVariants.{EBADF, EFAULT, EFBIG, EINVAL, EISDIR, ENOSPC}
-use Rattle.kr_numbered.specs.rv_mem.Actions.{CarriedOut, ReadBytes, allows_uses, carried_out, read_if_allowed}
-use Rattle.kr_numbered.specs.rv_mem.Memory.{Memory, after_read}
-use Rattle.kr_numbered.specs.rv_mem.Pages.{allows_all, any_marked, bytes_from}
-use Rattle.kr_numbered.specs.rv_mem.declared.rights.Use.{Use}
-use Rattle.kr_numbered.specs.rv_mem.declared.rights.Use.TheVariants.{Read}
-use Rattle.kr_numbered.specs.kr_calls.declared.request.Request.{Request}
-use Rattle.kr_numbered.specs.kr_calls.declared.request.Request.TheVariants as call
-use Rattle.kr_numbered.specs.kr_files.declared.opened.Opened.{Opened}
-use Rattle.kr_numbered.specs.kr_files.WithoutMounts.{without_mount}
-use Rattle.kr_numbered.specs.kr_files.declared.opened.What.{What}
-use Rattle.kr_numbered.specs.kr_files.declared.opened.What.TheVariants.{Dir, Err as Error, File, In, Out, PipeRead, PipeWrite}
-use Rattle.kr_numbered.specs.kr_tree.Changes.{file_limit, size_written}
-use Rattle.kr_numbered.specs.kr_model.Applied.{all_applied, images}
-use Rattle.kr_numbered.specs.kr_model.Asking.{descriptor_number, has_no_room_for, of_number, or_closed}
-use Rattle.kr_numbered.specs.kr_model.Change.{Change, PutIntoPipe, Seek, WriteErr, WriteFile, WriteOut}
-use Rattle.kr_numbered.specs.kr_model.DescriptorRows.{open_bytes}
-use Rattle.kr_numbered.specs.kr_model.FileRows.{if_writable, inode_of_open, is_dir, pipe_limit, put_in_file, sigpipe, write_file, write_pieces, write_pipe, write_place, write_row, write_what, writev_row}
-use Rattle.kr_numbered.specs.kr_model.Known.{Known, known}
-use Rattle.kr_numbered.specs.kr_model.Laws.{may_end}
-use Rattle.kr_numbered.specs.kr_model.Operation.{operation}
-use Rattle.kr_numbered.specs.kr_model.Pieces.{Piece, asked, cut_to, if_summed, if_usable, may_use_all, move_limit, one_piece, pieces_of, read_all, with_list}
-use Rattle.kr_numbered.specs.kr_model.Reply.{Reply, Replying, done, ends, refuse, waits}
-use Rattle.kr_numbered.specs.kr_model.Seen.{Seen}
-use Rattle.kr_numbered.specs.kr_model.State.{Image, State, image_layout, opened, process}
-use Rattle.kr_numbered.specs.kr_model.declared.outcome.Outcome.TheVariants.{Ended}
-use Rattle.kr_numbered.proofs.kr_model.CleanCalls.{row_ended}
-use Rattle.kr_numbered.specs.kr_ops.declared.state.State.{State as Code}
-use Rattle.kr_numbered.specs.kr_ops.Making.{IsAsBefore}
-use Rattle.kr_numbered.specs.kr_ops.Meaning.{meaning}
-use Rattle.kr_numbered.specs.kr_ops.Sound.{IsSound}
-use Rattle.kr_numbered.specs.kr_seen.Carrying.{memory_of, with_memory_of}
-use Rattle.kr_numbered.proofs.kr_seen.CarryLemmas.{own-memory}
+use Rattle.kr_seen.specs.pr_base.declared.errno.Errno.{Errno}
+use Rattle.kr_seen.specs.pr_base.declared.errno.Errno.TheVariants.{EBADF, EFAULT, EFBIG, EINVAL, EISDIR, ENOSPC}
+use Rattle.kr_seen.specs.rv_mem.Actions.{CarriedOut, ReadBytes, allows_uses, carried_out, read_if_allowed}
+use Rattle.kr_seen.specs.rv_mem.Memory.{Memory, after_read}
+use Rattle.kr_seen.specs.rv_mem.Pages.{allows_all, any_marked, bytes_from}
+use Rattle.kr_seen.specs.rv_mem.declared.rights.Use.{Use}
+use Rattle.kr_seen.specs.rv_mem.declared.rights.Use.TheVariants.{Read}
+use Rattle.kr_seen.specs.kr_calls.declared.request.Request.{Request}
+use Rattle.kr_seen.specs.kr_calls.declared.request.Request.TheVariants as call
+use Rattle.kr_seen.specs.kr_files.declared.opened.Opened.{Opened}
+use Rattle.kr_seen.specs.kr_files.WithoutMounts.{without_mount}
+use Rattle.kr_seen.specs.kr_files.declared.opened.What.{What}
+use Rattle.kr_seen.specs.kr_files.declared.opened.What.TheVariants.{Dir, Err as Error, File, In, Out, PipeRead, PipeWrite}
+use Rattle.kr_seen.specs.kr_tree.Changes.{file_limit, size_written}
+use Rattle.kr_seen.specs.kr_model.Applied.{all_applied, images}
+use Rattle.kr_seen.specs.kr_model.Asking.{descriptor_number, has_no_room_for, of_number, or_closed}
+use Rattle.kr_seen.specs.kr_model.Change.{Change, PutIntoPipe, Seek, WriteErr, WriteFile, WriteOut}
+use Rattle.kr_seen.specs.kr_model.DescriptorRows.{open_bytes}
+use Rattle.kr_seen.specs.kr_model.FileRows.{if_writable, inode_of_open, is_dir, pipe_limit, put_in_file, sigpipe, write_file, write_pieces, write_pipe, write_place, write_row, write_what, writev_row}
+use Rattle.kr_seen.specs.kr_model.Known.{Known, known}
+use Rattle.kr_seen.specs.kr_model.Laws.{may_end}
+use Rattle.kr_seen.specs.kr_model.Operation.{operation}
+use Rattle.kr_seen.specs.kr_model.Pieces.{Piece, asked, cut_to, if_summed, if_usable, may_use_all, move_limit, one_piece, pieces_of, read_all, with_list}
+use Rattle.kr_seen.specs.kr_model.Reply.{Reply, Replying, done, ends, refuse, waits}
+use Rattle.kr_seen.specs.kr_model.Seen.{Seen}
+use Rattle.kr_seen.specs.kr_model.State.{Image, State, image_layout, opened, process}
+use Rattle.kr_seen.specs.kr_model.declared.outcome.Outcome.TheVariants.{Ended}
+use Rattle.kr_seen.proofs.kr_model.CleanCalls.{row_ended}
+use Rattle.kr_seen.specs.kr_ops.declared.state.State.{State as Code}
+use Rattle.kr_seen.specs.kr_ops.Making.{IsAsBefore}
+use Rattle.kr_seen.specs.kr_ops.Meaning.{meaning}
+use Rattle.kr_seen.specs.kr_ops.Sound.{IsSound}
+use Rattle.kr_seen.specs.Carrying.{memory_of, with_memory_of}
+use Rattle.kr_seen.proofs.CarryLemmas.{own-memory}
 use Rattle.kr_rows.specs.Using.{HasMemory, Reads}
 use Rattle.kr_rows.proofs.UsingLemmas.{has-memory, memory-is, twice}
 use Rattle.kr_calm.specs.Noted.{IsNoted, ListsAreNoted, NotedAsRead, is_read, is_unread, kills, noted}

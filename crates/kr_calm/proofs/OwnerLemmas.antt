@@ -4,32 +4,32 @@ use Rattle.std.specs.Prelude.{◌==◌, ◌/◌, ◌%◌, nat_eq, if◌then◌el
 use Rattle.std.specs.Option.{option_map, option_map_or}
 use Rattle.std.proofs.lemmas.Bool.Decides.{nat_tests}
 use Rattle.std.proofs.lemmas.Option.{same_Some}
-use Rattle.kr_numbered.proofs.pr_base.MapLemmas.{get-changed_same}
-use Rattle.kr_numbered.specs.pr_base.declared.errno.Errno.TheVariants.{ENOENT, EPERM}
-use Rattle.kr_numbered.specs.rv_mem.Actions.{carried_out}
-use Rattle.kr_numbered.specs.rv_mem.Memory.{Memory}
-use Rattle.kr_numbered.specs.kr_inode.declared.user.Right.TheVariants.{Search}
-use Rattle.kr_numbered.specs.kr_inode.declared.user.User.{User}
-use Rattle.kr_numbered.specs.kr_calls.declared.request.Request.{Request}
-use Rattle.kr_numbered.specs.kr_calls.declared.request.Request.TheVariants as call
-use Rattle.kr_numbered.specs.kr_tree.Changes.{owner_set, with_owner}
-use Rattle.kr_numbered.specs.kr_tree.Rights.{allows, may, right_bit}
-use Rattle.kr_numbered.specs.kr_tree.Tree.{Inode, Node, Tree, inode}
-use Rattle.kr_numbered.specs.kr_tree.declared.place.Host.{Host}
-use Rattle.kr_numbered.specs.kr_tree.declared.place.Host.TheVariants as host
-use Rattle.kr_numbered.specs.kr_tree.declared.place.Place.{Place}
-use Rattle.kr_numbered.specs.kr_files.declared.opened.Opened.{Opened}
-use Rattle.kr_numbered.specs.kr_view.View.{Row}
-use Rattle.kr_numbered.specs.kr_model.Applied.{Mounts, images}
-use Rattle.kr_numbered.specs.kr_model.Asking.{descriptor_number, is_working_directory, of_number, or_closed}
-use Rattle.kr_numbered.specs.kr_model.AttributeRows.{chown_by, chown_host, chown_node, chown_open, fchown_row, fchownat_here, fchownat_row, may_give, or_old, unchanged}
-use Rattle.kr_numbered.specs.kr_model.Change.{Change, SetOwner}
-use Rattle.kr_numbered.specs.kr_model.Known.{Fact, Known, fact_at, known, known_node}
-use Rattle.kr_numbered.specs.kr_model.Operation.{by_path, looked_up, operation}
-use Rattle.kr_numbered.specs.kr_model.Reply.{Replying, done, refuse}
-use Rattle.kr_numbered.specs.kr_model.Seen.{LooksUp, Seen}
-use Rattle.kr_numbered.specs.kr_model.State.{Image, State, image_layout}
-use Rattle.kr_numbered.specs.kr_seen.Carrying.{with_memory_of}
+use Rattle.kr_seen.proofs.pr_base.MapLemmas.{get-changed_same}
+use Rattle.kr_seen.specs.pr_base.declared.errno.Errno.TheVariants.{ENOENT, EPERM}
+use Rattle.kr_seen.specs.rv_mem.Actions.{carried_out}
+use Rattle.kr_seen.specs.rv_mem.Memory.{Memory}
+use Rattle.kr_seen.specs.kr_inode.declared.user.Right.TheVariants.{Search}
+use Rattle.kr_seen.specs.kr_inode.declared.user.User.{User}
+use Rattle.kr_seen.specs.kr_calls.declared.request.Request.{Request}
+use Rattle.kr_seen.specs.kr_calls.declared.request.Request.TheVariants as call
+use Rattle.kr_seen.specs.kr_tree.Changes.{owner_set, with_owner}
+use Rattle.kr_seen.specs.kr_tree.Rights.{allows, may, right_bit}
+use Rattle.kr_seen.specs.kr_tree.Tree.{Inode, Node, Tree, inode}
+use Rattle.kr_seen.specs.kr_tree.declared.place.Host.{Host}
+use Rattle.kr_seen.specs.kr_tree.declared.place.Host.TheVariants as host
+use Rattle.kr_seen.specs.kr_tree.declared.place.Place.{Place}
+use Rattle.kr_seen.specs.kr_files.declared.opened.Opened.{Opened}
+use Rattle.kr_seen.specs.kr_view.View.{Row}
+use Rattle.kr_seen.specs.kr_model.Applied.{Mounts, images}
+use Rattle.kr_seen.specs.kr_model.Asking.{descriptor_number, is_working_directory, of_number, or_closed}
+use Rattle.kr_seen.specs.kr_model.AttributeRows.{chown_by, chown_host, chown_node, chown_open, fchown_row, fchownat_here, fchownat_row, may_give, or_old, unchanged}
+use Rattle.kr_seen.specs.kr_model.Change.{Change, SetOwner}
+use Rattle.kr_seen.specs.kr_model.Known.{Fact, Known, fact_at, known, known_node}
+use Rattle.kr_seen.specs.kr_model.Operation.{by_path, looked_up, operation}
+use Rattle.kr_seen.specs.kr_model.Reply.{Replying, done, refuse}
+use Rattle.kr_seen.specs.kr_model.Seen.{LooksUp, Seen}
+use Rattle.kr_seen.specs.kr_model.State.{Image, State, image_layout}
+use Rattle.kr_seen.specs.Carrying.{with_memory_of}
 use Rattle.kr_calm.specs.Foreseen.{gives_owner}
 use Rattle.kr_calm.specs.Laws.{BreakNone, OwnersBreakNone}
 use Rattle.kr_calm.specs.Rules.{serves}

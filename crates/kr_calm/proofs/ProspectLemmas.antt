@@ -2,27 +2,27 @@
 use Rattle.std.proofs.Common.{◌≡◌, ℕ, Bool, true, false, ◌&&◌, ◌||◌, not, List, [], ◌∷◌, Option, Some, None, refl, sym, ap, ℤ, pos, negsuc}
 use Rattle.std.specs.Prelude.{◌==◌, if◌then◌else◌}
 use Rattle.std.specs.Option.{option_and_then, option_map_or}
-use Rattle.kr_numbered.specs.pr_base.declared.errno.Errno.{Errno}
-use Rattle.kr_numbered.specs.pr_base.declared.errno.Errno.TheVariants.{ENOENT, EACCES, EBADF, EBUSY, EPERM, EXDEV, EISDIR, ENOTDIR, ENOTEMPTY, EINVAL}
-use Rattle.kr_numbered.specs.pr_base.declared.path.Last.TheVariants as last
-use Rattle.kr_numbered.specs.kr_tree.Tree.{Body, Directory, Node as TreeNode, ProcessDirectory, RegularFile, SymbolicLink, is_directory, is_filled}
-use Rattle.kr_numbered.specs.kr_tree.Rights.{is_kept_by_sticky}
-use Rattle.kr_numbered.specs.kr_tree.declared.place.Host.{Host}
-use Rattle.kr_numbered.specs.kr_tree.declared.place.Host.TheVariants.{Node, Proc}
-use Rattle.kr_numbered.specs.kr_tree.declared.place.Place.{Place}
-use Rattle.kr_numbered.specs.kr_files.declared.opened.Opened.{Opened}
-use Rattle.kr_numbered.specs.kr_calls.declared.request.Request.{Request}
-use Rattle.kr_numbered.specs.kr_calls.declared.request.Request.TheVariants as call
-use Rattle.kr_numbered.specs.kr_model.Asking.{descriptor_number, of_number, or_closed, is_directory_host, is_over, is_processes, is_processes_host, writable, writable_body, writable_node}
-use Rattle.kr_numbered.specs.kr_model.AttributeRows.{chmod_host, fchmod_row, fchmodat_row}
-use Rattle.kr_numbered.specs.kr_model.Change.{Change, MoveName, RemoveName, SetMode}
-use Rattle.kr_numbered.specs.kr_model.Known.{Known, known_node}
-use Rattle.kr_numbered.specs.kr_model.NameRows.{can_move, ends_in_name, is_above_old, is_at_or_above, is_one, move_entry, move_found, move_free, move_onto, move_over, move_taken, move_uncovered, renameat2_row, remove_directory, remove_file, removes_directory, rmdir_row, take_entry, unlink_row, unlinkat_row}
-use Rattle.kr_numbered.specs.kr_model.Operation.{looked_up, moved, taken}
-use Rattle.kr_numbered.specs.kr_model.Reply.{Replying, done, is_refusal, refusal, refuse}
-use Rattle.kr_numbered.specs.kr_model.Seen.{Entered, LooksUp, Moves, Seen, Taken, Takes, TakesCovered, TakesEntry, TakesNoName, WalkFails}
-use Rattle.kr_numbered.specs.kr_model.declared.outcome.Outcome.{Outcome}
-use Rattle.kr_numbered.specs.kr_model.declared.outcome.Outcome.TheVariants.{Answer, Ended, NoMemory, Wait}
+use Rattle.kr_seen.specs.pr_base.declared.errno.Errno.{Errno}
+use Rattle.kr_seen.specs.pr_base.declared.errno.Errno.TheVariants.{ENOENT, EACCES, EBADF, EBUSY, EPERM, EXDEV, EISDIR, ENOTDIR, ENOTEMPTY, EINVAL}
+use Rattle.kr_seen.specs.pr_base.declared.path.Last.TheVariants as last
+use Rattle.kr_seen.specs.kr_tree.Tree.{Body, Directory, Node as TreeNode, ProcessDirectory, RegularFile, SymbolicLink, is_directory, is_filled}
+use Rattle.kr_seen.specs.kr_tree.Rights.{is_kept_by_sticky}
+use Rattle.kr_seen.specs.kr_tree.declared.place.Host.{Host}
+use Rattle.kr_seen.specs.kr_tree.declared.place.Host.TheVariants.{Node, Proc}
+use Rattle.kr_seen.specs.kr_tree.declared.place.Place.{Place}
+use Rattle.kr_seen.specs.kr_files.declared.opened.Opened.{Opened}
+use Rattle.kr_seen.specs.kr_calls.declared.request.Request.{Request}
+use Rattle.kr_seen.specs.kr_calls.declared.request.Request.TheVariants as call
+use Rattle.kr_seen.specs.kr_model.Asking.{descriptor_number, of_number, or_closed, is_directory_host, is_over, is_processes, is_processes_host, writable, writable_body, writable_node}
+use Rattle.kr_seen.specs.kr_model.AttributeRows.{chmod_host, fchmod_row, fchmodat_row}
+use Rattle.kr_seen.specs.kr_model.Change.{Change, MoveName, RemoveName, SetMode}
+use Rattle.kr_seen.specs.kr_model.Known.{Known, known_node}
+use Rattle.kr_seen.specs.kr_model.NameRows.{can_move, ends_in_name, is_above_old, is_at_or_above, is_one, move_entry, move_found, move_free, move_onto, move_over, move_taken, move_uncovered, renameat2_row, remove_directory, remove_file, removes_directory, rmdir_row, take_entry, unlink_row, unlinkat_row}
+use Rattle.kr_seen.specs.kr_model.Operation.{looked_up, moved, taken}
+use Rattle.kr_seen.specs.kr_model.Reply.{Replying, done, is_refusal, refusal, refuse}
+use Rattle.kr_seen.specs.kr_model.Seen.{Entered, LooksUp, Moves, Seen, Taken, Takes, TakesCovered, TakesEntry, TakesNoName, WalkFails}
+use Rattle.kr_seen.specs.kr_model.declared.outcome.Outcome.{Outcome}
+use Rattle.kr_seen.specs.kr_model.declared.outcome.Outcome.TheVariants.{Answer, Ended, NoMemory, Wait}
 use Rattle.kr_calm.specs.Foreseen.{is_foreseen, mode_found, mode_opened, moved_away, prospect, taken_away}
 use Rattle.kr_calm.specs.Laws.{ForeseenCallsMakeIt}
 use Rattle.kr_calm.specs.Prospects.{MakesAtZero, RowsMakeAtZero, answers_zero, mode_set, move, move_made, removal, renameat2_made, unlinkat_made}

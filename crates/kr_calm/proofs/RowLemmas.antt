@@ -3,7 +3,7 @@ use Rattle.std.proofs.Common.{◌≡◌, ℕ, zero, suc, ◌+◌, ◌<◌, ◌�
 use Rattle.std.specs.List.{list_any}
 use Rattle.std.specs.Option.{option_map}
 use Rattle.std.proofs.lemmas.Option.{none-some, same_Some}
-use Rattle.kr_numbered.specs.kr_view.View.{Row, Shown, row, shown}
+use Rattle.kr_seen.specs.kr_view.View.{Row, Shown, row, shown}
 
 -- what is told of a row is of a row
 pub row-shown : (rows : List Row) (k : ℕ) (x : Shown) → Some x ≡ option_map shown (row rows k) → (r : Row) × (row rows k ≡ Some r) × (x ≡ shown r)

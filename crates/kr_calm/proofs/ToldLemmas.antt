@@ -3,27 +3,27 @@ use Rattle.std.proofs.Common.{◌≡◌, ℕ, List, [], Option, Some, None, Ok, 
 use Rattle.std.specs.Prelude.{◌==◌}
 use Rattle.std.specs.Option.{option_and_then, option_map, option_map_or}
 use Rattle.std.proofs.lemmas.Option.{none-some, same_Some}
-use Rattle.kr_numbered.specs.pr_base.declared.errno.Errno.TheVariants.{ENOENT}
-use Rattle.kr_numbered.specs.kr_calls.declared.request.Request.{Request}
-use Rattle.kr_numbered.specs.kr_calls.declared.request.Request.TheVariants as call
-use Rattle.kr_numbered.specs.kr_tree.declared.place.Place.{Place}
-use Rattle.kr_numbered.specs.kr_view.Answers.{target_numbered, told as target_told}
-use Rattle.kr_numbered.specs.kr_view.Leads.{numbered}
-use Rattle.kr_numbered.specs.kr_view.View.{Row}
-use Rattle.kr_numbered.specs.kr_view.Walk.{PlaceTarget}
-use Rattle.kr_numbered.specs.kr_view.declared.target.Target.{Target}
-use Rattle.kr_numbered.specs.kr_files.declared.opened.Opened.{Opened}
-use Rattle.kr_numbered.specs.kr_files.WithoutMounts.{without_mount}
-use Rattle.kr_numbered.specs.kr_model.Asking.{descriptor_number}
-use Rattle.kr_numbered.specs.kr_model.Change.{Change}
-use Rattle.kr_numbered.specs.kr_model.Known.{Known, known}
-use Rattle.kr_numbered.specs.kr_model.Seen.{LooksUp, Moves, NoPath, Taken, TakesEntry, WalkFails}
-use Rattle.kr_numbered.specs.kr_model.State.{Image, State, image_layout, opened}
-use Rattle.kr_numbered.specs.kr_model.Walks.{Targets, if_found, looked_at, seen_of, taken_at, targets_of, told}
-use Rattle.kr_numbered.specs.kr_seen.Numbered.{state_numbered}
-use Rattle.kr_numbered.proofs.LookLemmas.{known-numbered}
-use Rattle.kr_numbered.specs.kr_seen.CallWalks.{IsTold}
-use Rattle.kr_targets.specs.Placed.{placed, placed_in}
+use Rattle.kr_seen.specs.pr_base.declared.errno.Errno.TheVariants.{ENOENT}
+use Rattle.kr_seen.specs.kr_calls.declared.request.Request.{Request}
+use Rattle.kr_seen.specs.kr_calls.declared.request.Request.TheVariants as call
+use Rattle.kr_seen.specs.kr_tree.declared.place.Place.{Place}
+use Rattle.kr_seen.specs.kr_view.Answers.{target_numbered, told as target_told}
+use Rattle.kr_seen.specs.kr_view.Leads.{numbered}
+use Rattle.kr_seen.specs.kr_view.View.{Row}
+use Rattle.kr_seen.specs.kr_view.Walk.{PlaceTarget}
+use Rattle.kr_seen.specs.kr_view.declared.target.Target.{Target}
+use Rattle.kr_seen.specs.kr_files.declared.opened.Opened.{Opened}
+use Rattle.kr_seen.specs.kr_files.WithoutMounts.{without_mount}
+use Rattle.kr_seen.specs.kr_model.Asking.{descriptor_number}
+use Rattle.kr_seen.specs.kr_model.Change.{Change}
+use Rattle.kr_seen.specs.kr_model.Known.{Known, known}
+use Rattle.kr_seen.specs.kr_model.Seen.{LooksUp, Moves, NoPath, Taken, TakesEntry, WalkFails}
+use Rattle.kr_seen.specs.kr_model.State.{Image, State, image_layout, opened}
+use Rattle.kr_seen.specs.kr_model.Walks.{Targets, if_found, looked_at, seen_of, taken_at, targets_of, told}
+use Rattle.kr_seen.specs.Numbered.{state_numbered}
+use Rattle.kr_seen.proofs.LookLemmas.{known-numbered}
+use Rattle.kr_seen.specs.CallWalks.{IsTold}
+use Rattle.kr_seen.specs.Placed.{placed, placed_in}
 use Rattle.kr_calm.specs.Foreseen.{call_foreseen, foreseen_of, mode_found, mode_opened, moved_away, prospect, taken_away}
 use Rattle.kr_calm.specs.Prospects.{mode_set, renameat2_made, unlinkat_made}
 use Rattle.kr_calm.proofs.AlikeLemmas.{foreseen-alike, numbered-alike}

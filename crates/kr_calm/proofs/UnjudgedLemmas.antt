@@ -1,19 +1,19 @@
 -- Calls that make no change at which a rule looks.
 use Rattle.std.proofs.Common.{◌≡◌, ◌≢◌, ℕ, Bool, true, false, ◌&&◌, not, List, [], ◌∷◌, refl, sym, ap, subst, ◌∙◌, ℤ}
 use Rattle.std.specs.List.{list_all}
-use Rattle.kr_numbered.specs.rv_mem.Actions.{carried_out}
-use Rattle.kr_numbered.specs.rv_mem.Memory.{Memory}
-use Rattle.kr_numbered.specs.kr_calls.declared.request.Request.{Request}
-use Rattle.kr_numbered.specs.kr_calls.declared.request.Request.TheVariants as call
-use Rattle.kr_numbered.specs.kr_tree.declared.place.Host.{Host}
-use Rattle.kr_numbered.specs.kr_model.Change.{Change, ChangeDirectory, End, MoveName, OfDescriptor, RemoveName, ReplaceImage, SetMode, SetOwner}
-use Rattle.kr_numbered.specs.kr_model.DirectoryRows.{fchdir_row}
-use Rattle.kr_numbered.specs.kr_model.Known.{Known}
-use Rattle.kr_numbered.specs.kr_model.Laws.{ends_nobody}
-use Rattle.kr_numbered.specs.kr_model.Operation.{operation}
-use Rattle.kr_numbered.specs.kr_model.Seen.{Seen}
-use Rattle.kr_numbered.specs.kr_model.declared.outcome.Outcome.TheVariants.{Ended}
-use Rattle.kr_numbered.proofs.kr_model.CleanCalls.{ends_as_told, row_tells}
+use Rattle.kr_seen.specs.rv_mem.Actions.{carried_out}
+use Rattle.kr_seen.specs.rv_mem.Memory.{Memory}
+use Rattle.kr_seen.specs.kr_calls.declared.request.Request.{Request}
+use Rattle.kr_seen.specs.kr_calls.declared.request.Request.TheVariants as call
+use Rattle.kr_seen.specs.kr_tree.declared.place.Host.{Host}
+use Rattle.kr_seen.specs.kr_model.Change.{Change, ChangeDirectory, End, MoveName, OfDescriptor, RemoveName, ReplaceImage, SetMode, SetOwner}
+use Rattle.kr_seen.specs.kr_model.DirectoryRows.{fchdir_row}
+use Rattle.kr_seen.specs.kr_model.Known.{Known}
+use Rattle.kr_seen.specs.kr_model.Laws.{ends_nobody}
+use Rattle.kr_seen.specs.kr_model.Operation.{operation}
+use Rattle.kr_seen.specs.kr_model.Seen.{Seen}
+use Rattle.kr_seen.specs.kr_model.declared.outcome.Outcome.TheVariants.{Ended}
+use Rattle.kr_seen.proofs.kr_model.CleanCalls.{ends_as_told, row_tells}
 use Rattle.kr_calm.specs.Foreseen.{are_unjudged, gives_owner, is_foreseen, is_judged}
 use Rattle.kr_calm.specs.Laws.{OtherCallsAreUnjudged, leaves_mark}
 use Rattle.kr_calm.proofs.ChangeLemmas.{both}

@@ -2,11 +2,11 @@
 use Rattle.std.specs.FinMap as map
 use Rattle.std.proofs.Common.{◌≡◌, ℕ, zero, suc, ◌+◌, ◌<◌, Bool, true, false, ◌||◌, inl, inr, Option, Some, None, refl, sym, ap, ◌∙◌, subst, arith}
 use Rattle.std.specs.Option.{option_and_then, option_map, option_map_or}
-use Rattle.kr_numbered.proofs.pr_base.MapLemmas.{get-mapped}
-use Rattle.kr_numbered.specs.kr_files.declared.descs.Descriptor.{Descriptor}
-use Rattle.kr_numbered.specs.kr_files.declared.opened.Opened.{Opened}
-use Rattle.kr_numbered.specs.kr_files.Descriptors.{Descriptors, Meanings, Named, meanings}
-use Rattle.kr_numbered.specs.kr_files.Files.{Kept, Table, file_at, opened_at}
+use Rattle.kr_seen.proofs.pr_base.MapLemmas.{get-mapped}
+use Rattle.kr_seen.specs.kr_files.declared.descs.Descriptor.{Descriptor}
+use Rattle.kr_seen.specs.kr_files.declared.opened.Opened.{Opened}
+use Rattle.kr_seen.specs.kr_files.Descriptors.{Descriptors, Meanings, Named, meanings}
+use Rattle.kr_seen.specs.kr_files.Files.{Kept, Table, file_at, opened_at}
 use Rattle.kr_calm.specs.InUse.{any_opened_below, passes_at}
 use Rattle.kr_calm.proofs.AboveLemmas.{equal-or-not}
 

@@ -5,25 +5,25 @@ use Rattle.std.specs.Prelude.{codes, replicate, slice_set}
 use Rattle.std.specs.Option.{option_map_or, option_and_then}
 use Rattle.std.specs.Ordering.{nat_cmp}
 use Rattle.std.proofs.lemmas.Cmp.{nat_cmp_total}
-use Rattle.kr_numbered.specs.pr_base.declared.errno.Errno.TheVariants.{ENOENT}
-use Rattle.kr_numbered.specs.pr_base.declared.path.Last.TheVariants as last
-use Rattle.kr_numbered.specs.rv_mem.Memory.{empty_memory}
-use Rattle.kr_numbered.specs.rv_mem.declared.regs.Regs.{Regs}
-use Rattle.kr_numbered.specs.kr_inode.declared.standing.Standing.{Standing}
-use Rattle.kr_numbered.specs.kr_calls.declared.request.Request.{Request}
-use Rattle.kr_numbered.specs.kr_calls.declared.request.Request.TheVariants as call
-use Rattle.kr_numbered.specs.kr_tree.Tree.{Tree, Inode, Body, Entry, Directory, RegularFile, ProcessDirectory}
-use Rattle.kr_numbered.specs.kr_tree.declared.place.Host.{Host}
-use Rattle.kr_numbered.specs.kr_tree.declared.place.Host.TheVariants.{Node, Proc}
-use Rattle.kr_numbered.specs.kr_tree.declared.place.ProcAt.TheVariants.{Dir, FdDir}
-use Rattle.kr_numbered.specs.kr_files.declared.opened.Opened.{Opened}
-use Rattle.kr_numbered.specs.kr_files.Descriptors.{Named}
-use Rattle.kr_numbered.specs.kr_files.Files.{empty_table, file_at}
-use Rattle.kr_numbered.specs.kr_view.View.{Point, Row}
-use Rattle.kr_numbered.specs.kr_view.Walk.{PlaceTarget}
-use Rattle.kr_numbered.specs.kr_model.Change.{End, MoveName, RemoveName, SetMode}
-use Rattle.kr_numbered.specs.kr_model.State.{Process, State}
-use Rattle.kr_numbered.specs.kr_model.Walks.{Targets}
+use Rattle.kr_seen.specs.pr_base.declared.errno.Errno.TheVariants.{ENOENT}
+use Rattle.kr_seen.specs.pr_base.declared.path.Last.TheVariants as last
+use Rattle.kr_seen.specs.rv_mem.Memory.{empty_memory}
+use Rattle.kr_seen.specs.rv_mem.declared.regs.Regs.{Regs}
+use Rattle.kr_seen.specs.kr_inode.declared.standing.Standing.{Standing}
+use Rattle.kr_seen.specs.kr_calls.declared.request.Request.{Request}
+use Rattle.kr_seen.specs.kr_calls.declared.request.Request.TheVariants as call
+use Rattle.kr_seen.specs.kr_tree.Tree.{Tree, Inode, Body, Entry, Directory, RegularFile, ProcessDirectory}
+use Rattle.kr_seen.specs.kr_tree.declared.place.Host.{Host}
+use Rattle.kr_seen.specs.kr_tree.declared.place.Host.TheVariants.{Node, Proc}
+use Rattle.kr_seen.specs.kr_tree.declared.place.ProcAt.TheVariants.{Dir, FdDir}
+use Rattle.kr_seen.specs.kr_files.declared.opened.Opened.{Opened}
+use Rattle.kr_seen.specs.kr_files.Descriptors.{Named}
+use Rattle.kr_seen.specs.kr_files.Files.{empty_table, file_at}
+use Rattle.kr_seen.specs.kr_view.View.{Point, Row}
+use Rattle.kr_seen.specs.kr_view.Walk.{PlaceTarget}
+use Rattle.kr_seen.specs.kr_model.Change.{End, MoveName, RemoveName, SetMode}
+use Rattle.kr_seen.specs.kr_model.State.{Process, State}
+use Rattle.kr_seen.specs.kr_model.Walks.{Targets}
 use Rattle.kr_calm.specs.Above.{is_within}
 use Rattle.kr_calm.specs.Calm.{broken_at_start, kept}
 use Rattle.kr_calm.specs.InUse.{any_opened_below, passes_at}

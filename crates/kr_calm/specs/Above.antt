@@ -2,7 +2,7 @@
 -- from it comes to that.
 use Rattle.std.specs.Prelude.{ℕ, zero, suc, Bool, false, ◌||◌, nat_eq, Option}
 use Rattle.std.specs.Option.{option_map_or}
-use Rattle.kr_numbered.specs.kr_tree.Tree.{Tree, above}
+use Rattle.kr_seen.specs.kr_tree.Tree.{Tree, above}
 
 -- in fewer than n steps, each to the inode above
 unfoldable pub is_within : ℕ → (ℕ → Option ℕ) → ℕ → ℕ → Bool

@@ -1,15 +1,15 @@
 -- What a turn did, as far as calm asks, and the rule that it broke.
 use Rattle.std.specs.Prelude.{ℕ, Bool, false, List, Option, Some, None, nat_eq, Result, if◌then◌else◌}
 use Rattle.std.specs.Option.{option_map_or}
-use Rattle.kr_numbered.specs.pr_base.declared.errno.Errno.{Errno}
-use Rattle.kr_numbered.specs.rv_mem.Memory.{Memory}
-use Rattle.kr_numbered.specs.kr_calls.declared.request.Request.{Request}
-use Rattle.kr_numbered.specs.kr_view.declared.target.Reach.{Reach}
-use Rattle.kr_numbered.specs.kr_view.View.{Row}
-use Rattle.kr_numbered.specs.kr_model.Applied.{Mounts, images}
-use Rattle.kr_numbered.specs.kr_model.Change.{Change}
-use Rattle.kr_numbered.specs.kr_model.State.{Image, State}
-use Rattle.kr_numbered.specs.kr_model.Walks.{Targets}
+use Rattle.kr_seen.specs.pr_base.declared.errno.Errno.{Errno}
+use Rattle.kr_seen.specs.rv_mem.Memory.{Memory}
+use Rattle.kr_seen.specs.kr_calls.declared.request.Request.{Request}
+use Rattle.kr_seen.specs.kr_view.declared.target.Reach.{Reach}
+use Rattle.kr_seen.specs.kr_view.View.{Row}
+use Rattle.kr_seen.specs.kr_model.Applied.{Mounts, images}
+use Rattle.kr_seen.specs.kr_model.Change.{Change}
+use Rattle.kr_seen.specs.kr_model.State.{Image, State}
+use Rattle.kr_seen.specs.kr_model.Walks.{Targets}
 use Rattle.kr_calm.specs.Rules.{breaks_1, breaks_2, breaks_6, changes_break_3, changes_break_4, changes_break_5}
 
 -- a call that was decoded, and where its paths lead

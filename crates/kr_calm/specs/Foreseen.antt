@@ -3,24 +3,24 @@
 use Rattle.std.specs.Prelude.{ℕ, ◌&&◌, not, Bool, true, false, List, [], ◌∷◌, Option, Some, None, if◌then◌else◌}
 use Rattle.std.specs.List.{list_all}
 use Rattle.std.specs.Option.{option_and_then, option_map_or}
-use Rattle.kr_numbered.specs.rv_mem.Actions.{CarriedOut}
-use Rattle.kr_numbered.specs.kr_inode.declared.user.Right.TheVariants.{Search}
-use Rattle.kr_numbered.specs.kr_inode.declared.user.User.{User}
-use Rattle.kr_numbered.specs.kr_calls.declared.request.Request.{Request}
-use Rattle.kr_numbered.specs.kr_calls.declared.request.Request.TheVariants as call
-use Rattle.kr_numbered.specs.kr_tree.Rights.{may}
-use Rattle.kr_numbered.specs.kr_tree.Tree.{Tree}
-use Rattle.kr_numbered.specs.kr_files.declared.opened.Opened.{Opened}
-use Rattle.kr_numbered.specs.kr_view.View.{Row}
-use Rattle.kr_numbered.specs.kr_model.Asking.{descriptor_number}
-use Rattle.kr_numbered.specs.kr_model.Change.{Change, End, MoveName, RemoveName, SetMode, SetOwner}
-use Rattle.kr_numbered.specs.kr_model.Known.{Known, known}
-use Rattle.kr_numbered.specs.kr_model.Operation.{operation}
-use Rattle.kr_numbered.specs.kr_model.Reply.{Reply}
-use Rattle.kr_numbered.specs.kr_model.Seen.{LooksUp, Moves, Seen, TakesEntry}
-use Rattle.kr_numbered.specs.kr_model.State.{Image, State, image_layout}
-use Rattle.kr_numbered.specs.kr_model.Walks.{seen}
-use Rattle.kr_numbered.specs.kr_seen.Carrying.{carried}
+use Rattle.kr_seen.specs.rv_mem.Actions.{CarriedOut}
+use Rattle.kr_seen.specs.kr_inode.declared.user.Right.TheVariants.{Search}
+use Rattle.kr_seen.specs.kr_inode.declared.user.User.{User}
+use Rattle.kr_seen.specs.kr_calls.declared.request.Request.{Request}
+use Rattle.kr_seen.specs.kr_calls.declared.request.Request.TheVariants as call
+use Rattle.kr_seen.specs.kr_tree.Rights.{may}
+use Rattle.kr_seen.specs.kr_tree.Tree.{Tree}
+use Rattle.kr_seen.specs.kr_files.declared.opened.Opened.{Opened}
+use Rattle.kr_seen.specs.kr_view.View.{Row}
+use Rattle.kr_seen.specs.kr_model.Asking.{descriptor_number}
+use Rattle.kr_seen.specs.kr_model.Change.{Change, End, MoveName, RemoveName, SetMode, SetOwner}
+use Rattle.kr_seen.specs.kr_model.Known.{Known, known}
+use Rattle.kr_seen.specs.kr_model.Operation.{operation}
+use Rattle.kr_seen.specs.kr_model.Reply.{Reply}
+use Rattle.kr_seen.specs.kr_model.Seen.{LooksUp, Moves, Seen, TakesEntry}
+use Rattle.kr_seen.specs.kr_model.State.{Image, State, image_layout}
+use Rattle.kr_seen.specs.kr_model.Walks.{seen}
+use Rattle.kr_seen.specs.Carrying.{carried}
 use Rattle.kr_calm.specs.Calm.{smallest}
 use Rattle.kr_calm.specs.Prospects.{mode_set, renameat2_made, unlinkat_made}
 use Rattle.kr_calm.specs.Rules.{breaks_3, serves, takes_in_use}

@@ -3,14 +3,14 @@ use Rattle.std.specs.FinMap as map
 use Rattle.std.specs.Prelude.{ℕ, zero, suc, ◌==◌, Bool, false, ◌||◌, ◌&&◌, not, length, Option, None, if◌then◌else◌}
 use Rattle.std.specs.List.{list_any}
 use Rattle.std.specs.Option.{option_map, option_map_or, option_and_then}
-use Rattle.kr_numbered.specs.kr_tree.declared.place.Host.{Host}
-use Rattle.kr_numbered.specs.kr_tree.declared.place.Host.TheVariants.{Proc}
-use Rattle.kr_numbered.specs.kr_tree.declared.place.ProcAt.TheVariants.{Dir, FdDir}
-use Rattle.kr_numbered.specs.kr_files.declared.opened.Opened.{Opened}
-use Rattle.kr_numbered.specs.kr_files.Descriptors.{Meanings}
-use Rattle.kr_numbered.specs.kr_files.Files.{Table, file_at}
-use Rattle.kr_numbered.specs.kr_model.FileRows.{is_dir}
-use Rattle.kr_numbered.specs.kr_model.State.{Process, State}
+use Rattle.kr_seen.specs.kr_tree.declared.place.Host.{Host}
+use Rattle.kr_seen.specs.kr_tree.declared.place.Host.TheVariants.{Proc}
+use Rattle.kr_seen.specs.kr_tree.declared.place.ProcAt.TheVariants.{Dir, FdDir}
+use Rattle.kr_seen.specs.kr_files.declared.opened.Opened.{Opened}
+use Rattle.kr_seen.specs.kr_files.Descriptors.{Meanings}
+use Rattle.kr_seen.specs.kr_files.Files.{Table, file_at}
+use Rattle.kr_seen.specs.kr_model.FileRows.{is_dir}
+use Rattle.kr_seen.specs.kr_model.State.{Process, State}
 
 module _ {M : Type 0} where
   -- ---- what is open

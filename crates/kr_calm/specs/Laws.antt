@@ -1,27 +1,27 @@
 -- What holds of the rules.
 use Rattle.std.specs.Prelude.{◌≡◌, ◌≢◌, ◌↔◌, ◌⊎◌, ℕ, Bool, true, false, IsSome, IsTrue, List, [], ◌∷◌}
 use Rattle.std.specs.List.{list_all, list_any}
-use Rattle.kr_numbered.specs.pr_base.declared.errno.Errno.TheVariants.{ENOSYS}
-use Rattle.kr_numbered.specs.rv_mem.Actions.{Action, carried_out}
-use Rattle.kr_numbered.specs.rv_mem.Memory.{Memory}
-use Rattle.kr_numbered.specs.kr_calls.declared.request.Request.{Request}
-use Rattle.kr_numbered.specs.kr_tree.Lawful.{IsBelow, IsSound}
-use Rattle.kr_numbered.specs.kr_tree.Tree.{Tree}
-use Rattle.kr_numbered.specs.kr_tree.declared.place.Host.{Host}
-use Rattle.kr_numbered.specs.kr_tree.declared.place.Place.{Place}
-use Rattle.kr_numbered.specs.kr_view.Component.{Namespace, above, is_directory_at, shows_directory}
-use Rattle.kr_numbered.specs.kr_view.View.{Row}
-use Rattle.kr_numbered.specs.kr_model.Applied.{Computing, Mounts, all_applied, applied, images}
-use Rattle.kr_numbered.specs.kr_model.Change.{Change, CloseOnExec, End, MountOf, ReplaceExecutable, ReplaceImage}
-use Rattle.kr_numbered.specs.kr_model.Judged.{are_quiet}
-use Rattle.kr_numbered.specs.kr_model.Known.{Known, known}
-use Rattle.kr_numbered.specs.kr_model.Laws.{word_told}
-use Rattle.kr_numbered.specs.kr_model.Operation.{IsNoExec, operation}
-use Rattle.kr_numbered.specs.kr_model.Reply.{is_refusal}
-use Rattle.kr_numbered.specs.kr_model.Seen.{Seen, WalkFails}
-use Rattle.kr_numbered.specs.kr_model.State.{Image, State, image_layout, inode_of, process}
-use Rattle.kr_numbered.specs.kr_model.declared.outcome.Outcome.TheVariants.{Ended}
-use Rattle.kr_numbered.specs.kr_seen.Carrying.{after_row, carried, memory_of, with_memory_of}
+use Rattle.kr_seen.specs.pr_base.declared.errno.Errno.TheVariants.{ENOSYS}
+use Rattle.kr_seen.specs.rv_mem.Actions.{Action, carried_out}
+use Rattle.kr_seen.specs.rv_mem.Memory.{Memory}
+use Rattle.kr_seen.specs.kr_calls.declared.request.Request.{Request}
+use Rattle.kr_seen.specs.kr_tree.Lawful.{IsBelow, IsSound}
+use Rattle.kr_seen.specs.kr_tree.Tree.{Tree}
+use Rattle.kr_seen.specs.kr_tree.declared.place.Host.{Host}
+use Rattle.kr_seen.specs.kr_tree.declared.place.Place.{Place}
+use Rattle.kr_seen.specs.kr_view.Component.{Namespace, above, is_directory_at, shows_directory}
+use Rattle.kr_seen.specs.kr_view.View.{Row}
+use Rattle.kr_seen.specs.kr_model.Applied.{Computing, Mounts, all_applied, applied, images}
+use Rattle.kr_seen.specs.kr_model.Change.{Change, CloseOnExec, End, MountOf, ReplaceExecutable, ReplaceImage}
+use Rattle.kr_seen.specs.kr_model.Judged.{are_quiet}
+use Rattle.kr_seen.specs.kr_model.Known.{Known, known}
+use Rattle.kr_seen.specs.kr_model.Laws.{word_told}
+use Rattle.kr_seen.specs.kr_model.Operation.{IsNoExec, operation}
+use Rattle.kr_seen.specs.kr_model.Reply.{is_refusal}
+use Rattle.kr_seen.specs.kr_model.Seen.{Seen, WalkFails}
+use Rattle.kr_seen.specs.kr_model.State.{Image, State, image_layout, inode_of, process}
+use Rattle.kr_seen.specs.kr_model.declared.outcome.Outcome.TheVariants.{Ended}
+use Rattle.kr_seen.specs.Carrying.{after_row, carried, memory_of, with_memory_of}
 use Rattle.kr_calm.specs.Above.{is_at_or_below}
 use Rattle.kr_calm.specs.Foreseen.{are_unjudged, gives_owner, is_foreseen, prospect}
 use Rattle.kr_calm.specs.InUse.{is_directory_of, is_in_use}

@@ -1,10 +1,6 @@
-pub use Rattle.kr_numbered.specs.pr_base as pr_base
-pub use Rattle.kr_numbered.specs.kr_tree as kr_tree
-pub use Rattle.kr_numbered.specs.kr_files as kr_files
-pub use Rattle.kr_numbered.specs.kr_calls as kr_calls
-pub use Rattle.kr_numbered.specs.kr_model as kr_model
-pub use Rattle.kr_numbered.specs.kr_seen as kr_seen
-pub use Rattle.kr_numbered.specs as kr_numbered
+pub use Rattle.kr_seen.specs.pr_base as pr_base
+pub use Rattle.kr_seen.specs.law_lawful as law_lawful
+pub use Rattle.kr_seen.specs as kr_seen
 pub mod Above
 pub mod Shelf
 pub mod InUse

@@ -2,25 +2,25 @@
 -- calls that end their caller nothing.
 use Rattle.std.specs.Prelude.{◌≡◌, ℕ, ◌*◌, ℤ, ◌&&◌, not, Bool, false, nat_lt, is_some, if◌then◌else◌}
 use Rattle.std.specs.Option.{option_and_then, option_map_or}
-use Rattle.kr_numbered.specs.rv_mem.Actions.{CarriedOut, carried_out}
-use Rattle.kr_numbered.specs.rv_mem.Memory.{Memory, after_read}
-use Rattle.kr_numbered.specs.rv_mem.Pages.{allows_all}
-use Rattle.kr_numbered.specs.rv_mem.declared.rights.Use.TheVariants.{Read}
-use Rattle.kr_numbered.specs.kr_calls.declared.request.Request.{Request}
-use Rattle.kr_numbered.specs.kr_calls.declared.request.Request.TheVariants as call
-use Rattle.kr_numbered.specs.kr_files.declared.opened.What.{What}
-use Rattle.kr_numbered.specs.kr_files.declared.opened.What.TheVariants.{PipeWrite}
-use Rattle.kr_numbered.specs.kr_model.Applied.{Mounts}
-use Rattle.kr_numbered.specs.kr_model.Asking.{descriptor_number}
-use Rattle.kr_numbered.specs.kr_model.Known.{Known, known}
-use Rattle.kr_numbered.specs.kr_model.Operation.{IsNoExec, operation}
-use Rattle.kr_numbered.specs.kr_model.Reply.{Reply}
-use Rattle.kr_numbered.specs.kr_model.Seen.{Seen}
-use Rattle.kr_numbered.specs.kr_model.State.{image_layout}
-use Rattle.kr_numbered.specs.kr_model.declared.outcome.Outcome.TheVariants.{Ended}
-use Rattle.kr_numbered.specs.kr_ops.declared.state.State.{State}
-use Rattle.kr_numbered.specs.kr_ops.Meaning.{meaning}
-use Rattle.kr_numbered.specs.kr_seen.Carrying.{after_row, carried, memory_of}
+use Rattle.kr_seen.specs.rv_mem.Actions.{CarriedOut, carried_out}
+use Rattle.kr_seen.specs.rv_mem.Memory.{Memory, after_read}
+use Rattle.kr_seen.specs.rv_mem.Pages.{allows_all}
+use Rattle.kr_seen.specs.rv_mem.declared.rights.Use.TheVariants.{Read}
+use Rattle.kr_seen.specs.kr_calls.declared.request.Request.{Request}
+use Rattle.kr_seen.specs.kr_calls.declared.request.Request.TheVariants as call
+use Rattle.kr_seen.specs.kr_files.declared.opened.What.{What}
+use Rattle.kr_seen.specs.kr_files.declared.opened.What.TheVariants.{PipeWrite}
+use Rattle.kr_seen.specs.kr_model.Applied.{Mounts}
+use Rattle.kr_seen.specs.kr_model.Asking.{descriptor_number}
+use Rattle.kr_seen.specs.kr_model.Known.{Known, known}
+use Rattle.kr_seen.specs.kr_model.Operation.{IsNoExec, operation}
+use Rattle.kr_seen.specs.kr_model.Reply.{Reply}
+use Rattle.kr_seen.specs.kr_model.Seen.{Seen}
+use Rattle.kr_seen.specs.kr_model.State.{image_layout}
+use Rattle.kr_seen.specs.kr_model.declared.outcome.Outcome.TheVariants.{Ended}
+use Rattle.kr_seen.specs.kr_ops.declared.state.State.{State}
+use Rattle.kr_seen.specs.kr_ops.Meaning.{meaning}
+use Rattle.kr_seen.specs.Carrying.{after_row, carried, memory_of}
 use Rattle.kr_rows.specs.Using.{HasMemory}
 
 -- an end for writing of a pipe that nobody reads

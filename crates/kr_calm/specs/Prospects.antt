@@ -1,18 +1,18 @@
 -- What calls change of names and modes where they answer 0: by what they are told of their paths, before they are carried out.
 use Rattle.std.specs.Prelude.{◌≡◌, ℕ, ◌%◌, ◌==◌, Bool, false, List, [], ◌∷◌, pos, negsuc, if◌then◌else◌}
 use Rattle.std.specs.Option.{option_map_or}
-use Rattle.kr_numbered.specs.rv_mem.Actions.{carried_out}
-use Rattle.kr_numbered.specs.rv_mem.Memory.{Memory}
-use Rattle.kr_numbered.specs.kr_tree.declared.place.Host.{Host}
-use Rattle.kr_numbered.specs.kr_tree.declared.place.Host.TheVariants.{Node, Proc}
-use Rattle.kr_numbered.specs.kr_model.AttributeRows.{chmod_host}
-use Rattle.kr_numbered.specs.kr_model.Change.{Change, MoveName, RemoveName, SetMode}
-use Rattle.kr_numbered.specs.kr_model.Known.{Known}
-use Rattle.kr_numbered.specs.kr_model.NameRows.{is_one, renameat2_row, unlinkat_row}
-use Rattle.kr_numbered.specs.kr_model.Reply.{Replying}
-use Rattle.kr_numbered.specs.kr_model.Seen.{Entered, Taken, TakesNoName, TakesCovered, Takes}
-use Rattle.kr_numbered.specs.kr_model.declared.outcome.Outcome.{Outcome}
-use Rattle.kr_numbered.specs.kr_model.declared.outcome.Outcome.TheVariants.{Answer, Wait, Ended, NoMemory}
+use Rattle.kr_seen.specs.rv_mem.Actions.{carried_out}
+use Rattle.kr_seen.specs.rv_mem.Memory.{Memory}
+use Rattle.kr_seen.specs.kr_tree.declared.place.Host.{Host}
+use Rattle.kr_seen.specs.kr_tree.declared.place.Host.TheVariants.{Node, Proc}
+use Rattle.kr_seen.specs.kr_model.AttributeRows.{chmod_host}
+use Rattle.kr_seen.specs.kr_model.Change.{Change, MoveName, RemoveName, SetMode}
+use Rattle.kr_seen.specs.kr_model.Known.{Known}
+use Rattle.kr_seen.specs.kr_model.NameRows.{is_one, renameat2_row, unlinkat_row}
+use Rattle.kr_seen.specs.kr_model.Reply.{Replying}
+use Rattle.kr_seen.specs.kr_model.Seen.{Entered, Taken, TakesNoName, TakesCovered, Takes}
+use Rattle.kr_seen.specs.kr_model.declared.outcome.Outcome.{Outcome}
+use Rattle.kr_seen.specs.kr_model.declared.outcome.Outcome.TheVariants.{Answer, Wait, Ended, NoMemory}
 
 abbrev pub answers_zero : Outcome → Bool
 answers_zero (Answer (pos n)) = n == 0

@@ -1,12 +1,12 @@
 -- What is asked of the rows of a table, and of the processes of a state, one question at a time.
 use Rattle.std.specs.Prelude.{ℕ, ◌≡◌, ◌≢◌, ◌==◌, Bool, ◌&&◌, ◌||◌, not, length, List, Some}
 use Rattle.std.specs.List.{list_any}
-use Rattle.kr_numbered.specs.kr_tree.Tree.{Tree}
-use Rattle.kr_numbered.specs.kr_tree.declared.place.Host.{Host}
-use Rattle.kr_numbered.specs.kr_view.View.{Point, Row, row}
-use Rattle.kr_numbered.specs.kr_files.declared.opened.Opened.{Opened}
-use Rattle.kr_numbered.specs.kr_files.Files.{Table}
-use Rattle.kr_numbered.specs.kr_model.State.{Process, State, inode_of}
+use Rattle.kr_seen.specs.kr_tree.Tree.{Tree}
+use Rattle.kr_seen.specs.kr_tree.declared.place.Host.{Host}
+use Rattle.kr_seen.specs.kr_view.View.{Point, Row, row}
+use Rattle.kr_seen.specs.kr_files.declared.opened.Opened.{Opened}
+use Rattle.kr_seen.specs.kr_files.Files.{Table}
+use Rattle.kr_seen.specs.kr_model.State.{Process, State, inode_of}
 use Rattle.kr_calm.specs.Above.{is_at_or_below}
 use Rattle.kr_calm.specs.InUse.{any_opened, is_directory_of, open_directory, remembered_directory}
 use Rattle.kr_calm.specs.Rules.{is_above_row, is_between, is_named, serves_row}

@@ -4,21 +4,21 @@
 use Rattle.std.specs.Prelude.{ℕ, ◌==◌, Bool, true, false, ◌||◌, ◌&&◌, not, bytes_eq, nat_lt, List, [], ◌∷◌, Result, Ok, Err}
 use Rattle.std.specs.List.{list_any}
 use Rattle.std.specs.Option.{option_map_or}
-use Rattle.kr_numbered.specs.pr_base.declared.errno.Errno.{Errno}
-use Rattle.kr_numbered.specs.rv_mem.Memory.{Memory}
-use Rattle.kr_numbered.specs.kr_inode.declared.user.Right.TheVariants.{Search}
-use Rattle.kr_numbered.specs.kr_calls.declared.request.Request.{Request}
-use Rattle.kr_numbered.specs.kr_calls.declared.request.Request.TheVariants as call
-use Rattle.kr_numbered.specs.kr_tree.Rights.{may}
-use Rattle.kr_numbered.specs.kr_tree.Tree.{Tree, body_is, entry, is_directory}
-use Rattle.kr_numbered.specs.kr_tree.declared.place.Host.{Host}
-use Rattle.kr_numbered.specs.kr_view.declared.target.Reach.{Reach}
-use Rattle.kr_numbered.specs.kr_view.View.{Point, Row}
-use Rattle.kr_numbered.specs.kr_view.Walk.{PlaceTarget}
-use Rattle.kr_numbered.specs.kr_model.Applied.{Computing, Mounts, applied}
-use Rattle.kr_numbered.specs.kr_model.Change.{Change, End, MoveName, RemoveName, SetMode, SetOwner}
-use Rattle.kr_numbered.specs.kr_model.State.{State, inode_of}
-use Rattle.kr_numbered.specs.kr_model.Walks.{Targets, mount_found}
+use Rattle.kr_seen.specs.pr_base.declared.errno.Errno.{Errno}
+use Rattle.kr_seen.specs.rv_mem.Memory.{Memory}
+use Rattle.kr_seen.specs.kr_inode.declared.user.Right.TheVariants.{Search}
+use Rattle.kr_seen.specs.kr_calls.declared.request.Request.{Request}
+use Rattle.kr_seen.specs.kr_calls.declared.request.Request.TheVariants as call
+use Rattle.kr_seen.specs.kr_tree.Rights.{may}
+use Rattle.kr_seen.specs.kr_tree.Tree.{Tree, body_is, entry, is_directory}
+use Rattle.kr_seen.specs.kr_tree.declared.place.Host.{Host}
+use Rattle.kr_seen.specs.kr_view.declared.target.Reach.{Reach}
+use Rattle.kr_seen.specs.kr_view.View.{Point, Row}
+use Rattle.kr_seen.specs.kr_view.Walk.{PlaceTarget}
+use Rattle.kr_seen.specs.kr_model.Applied.{Computing, Mounts, applied}
+use Rattle.kr_seen.specs.kr_model.Change.{Change, End, MoveName, RemoveName, SetMode, SetOwner}
+use Rattle.kr_seen.specs.kr_model.State.{State, inode_of}
+use Rattle.kr_seen.specs.kr_model.Walks.{Targets, mount_found}
 use Rattle.kr_calm.specs.Above.{is_at_or_below}
 use Rattle.kr_calm.specs.InUse.{is_directory_of, is_in_use, is_remembered}
 

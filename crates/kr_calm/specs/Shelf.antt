@@ -2,11 +2,11 @@
 -- that it swaps, so a run on which the two machines agree reads none of these bytes. A kernel that keeps marks marks them.
 use Rattle.std.specs.Prelude.{ℕ, ◌-◌, ◌==◌, Bool, ◌&&◌, not, List, [], ◌∷◌, nat_eq, nat_le, slice_index, if◌then◌else◌}
 use Rattle.std.specs.List.{list_any}
-use Rattle.kr_numbered.specs.rv_mem.declared.regs.Regs.{Regs}
-use Rattle.kr_numbered.specs.rv_mem.declared.rights.Use.TheVariants.{Read, Write}
-use Rattle.kr_numbered.specs.rv_mem.Memory.{Memory, with_pages}
-use Rattle.kr_numbered.specs.rv_mem.Pages.{Pages, allows_all, marked}
-use Rattle.kr_numbered.specs.kr_calls.Arguments.{number}
+use Rattle.kr_seen.specs.rv_mem.declared.regs.Regs.{Regs}
+use Rattle.kr_seen.specs.rv_mem.declared.rights.Use.TheVariants.{Read, Write}
+use Rattle.kr_seen.specs.rv_mem.Memory.{Memory, with_pages}
+use Rattle.kr_seen.specs.rv_mem.Pages.{Pages, allows_all, marked}
+use Rattle.kr_seen.specs.kr_calls.Arguments.{number}
 
 -- ---- which calls have a path
 

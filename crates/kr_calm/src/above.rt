@@ -2,7 +2,7 @@
 ghost use Rattle.std.specs.Prelude.{◌≡◌};
 ghost use Rattle.kr_calm.specs.Above.{is_at_or_below};
 
-use kr_numbered::below::{Ino, Tree, trees_are_kept};
+use kr_seen::below::{Ino, Tree, trees_are_kept};
 
 /// Whether a directory is another or stands below it, by their host names.
 pub(crate) fn is_at_or_below(tree: &Tree, top: Ino, dir: Ino) -> bool

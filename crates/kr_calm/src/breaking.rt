@@ -1,20 +1,20 @@
 //! The rules on changes that a call broke.
 ghost use Rattle.std.specs.Prelude.{◌≡◌, ◌≢◌, ℕ, List};
-ghost use Rattle.kr_numbered.specs.kr_calls.declared.request.Request.{Request as AnyRequest};
-ghost use Rattle.kr_numbered.specs.kr_view.View.{Row};
-ghost use Rattle.kr_numbered.specs.kr_model.Applied.{Mounts};
-ghost use Rattle.kr_numbered.specs.kr_model.State as model;
-ghost use Rattle.kr_numbered.specs.kr_model.declared.outcome.Outcome.TheVariants.{NoMemory as WantOfMemory};
-ghost use Rattle.kr_numbered.specs.kr_ops.Meaning.{meaning};
-ghost use Rattle.kr_numbered.specs.kr_ops.Sound.{IsServed};
-ghost use Rattle.kr_numbered.specs.kr_seen.Numbered.{state_numbered};
-ghost use Rattle.kr_numbered.specs.kr_seen.Carrying.{after_row, with_memory_of};
+ghost use Rattle.kr_seen.specs.kr_calls.declared.request.Request.{Request as AnyRequest};
+ghost use Rattle.kr_seen.specs.kr_view.View.{Row};
+ghost use Rattle.kr_seen.specs.kr_model.Applied.{Mounts};
+ghost use Rattle.kr_seen.specs.kr_model.State as model;
+ghost use Rattle.kr_seen.specs.kr_model.declared.outcome.Outcome.TheVariants.{NoMemory as WantOfMemory};
+ghost use Rattle.kr_seen.specs.kr_ops.Meaning.{meaning};
+ghost use Rattle.kr_seen.specs.kr_ops.Sound.{IsServed};
+ghost use Rattle.kr_seen.specs.Numbered.{state_numbered};
+ghost use Rattle.kr_seen.specs.Carrying.{after_row, with_memory_of};
 ghost use Rattle.kr_calm.specs.Calm.{broken_by_changes};
 ghost use Rattle.kr_calm.specs.Foreseen.{broken_as_foreseen, call_done, call_foreseen};
 
 use crate::foreseeing::Foreseen;
 use crate::judging::end_takes_used;
-use kr_numbered::below::{Outcome, Right, State};
+use kr_seen::below::{Outcome, Right, State};
 
 /// The smallest of the rules that a call broke which answered 0, by what was foreseen of it and the state that it left.
 fn judge_done<T: Copy, const M: u8>(state: &State<T, M>, foreseen: &Foreseen) -> Option<u8>

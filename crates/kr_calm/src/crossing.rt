@@ -1,14 +1,15 @@
 //! Links and renames that lead from mount to mount, or out of a source or a mount point.
 ghost use Rattle.std.specs.Prelude.{◌≡◌, ◌<◌, ◌^◌, length};
-ghost use Rattle.kr_numbered.specs.kr_model.Walks as walks;
-ghost use Rattle.kr_numbered.specs.kr_seen.CallWalks.{IsTold};
-ghost use Rattle.kr_targets.specs.Placed.{placed_in};
+ghost use Rattle.kr_seen.specs.kr_model.Walks as walks;
+ghost use Rattle.kr_seen.specs.CallWalks.{IsTold};
+ghost use Rattle.kr_seen.specs.Placed.{placed_in};
 ghost use Rattle.kr_calm.specs.Questions.{HaveRealPoints};
 ghost use Rattle.kr_calm.specs.Rules.{are_parted, crosses, link_crosses, rename_crosses};
 
 use crate::rows::{RowQuestion, any_row};
 use crate::uses::inode_of;
-use kr_numbered::below::{Host, Places, Request, Target, Targets, Tree};
+use kr_seen::Targets;
+use kr_seen::below::{Host, Places, Request, Target, Tree};
 
 /// Whether two directories lie below different sources or mount points.
 fn are_parted<P: Places>(places: &P, tree: &Tree, one: Host, other: Host) -> bool

@@ -1,15 +1,15 @@
 //! What a call would break of the rules on changes, told before it is carried out.
 ghost use Rattle.std.specs.Prelude.{◌≡◌, ◌<◌, ◌^◌, ℕ, [], length};
 ghost use Rattle.std.specs.Option.{option_and_then, option_map_or};
-ghost use Rattle.kr_numbered.specs.kr_model.Asking.{descriptor_number};
-ghost use Rattle.kr_numbered.specs.kr_model.NameRows.{is_one};
-ghost use Rattle.kr_numbered.specs.kr_model.State.{opened};
-ghost use Rattle.kr_numbered.specs.kr_model.Walks.{targets_of};
-ghost use Rattle.kr_numbered.specs.kr_ops.Meaning.{meaning};
-ghost use Rattle.kr_numbered.specs.kr_ops.Sound.{IsServed, IsSound};
-ghost use Rattle.kr_numbered.specs.kr_seen.CallWalks.{AreTargets};
-ghost use Rattle.kr_numbered.specs.kr_seen.Numbered.{state_numbered};
-ghost use Rattle.kr_targets.specs.Told.{taken_told};
+ghost use Rattle.kr_seen.specs.kr_model.Asking.{descriptor_number};
+ghost use Rattle.kr_seen.specs.kr_model.NameRows.{is_one};
+ghost use Rattle.kr_seen.specs.kr_model.State.{opened};
+ghost use Rattle.kr_seen.specs.kr_model.Walks.{targets_of};
+ghost use Rattle.kr_seen.specs.kr_ops.Meaning.{meaning};
+ghost use Rattle.kr_seen.specs.kr_ops.Sound.{IsServed, IsSound};
+ghost use Rattle.kr_seen.specs.CallWalks.{AreTargets};
+ghost use Rattle.kr_seen.specs.Numbered.{state_numbered};
+ghost use Rattle.kr_seen.specs.Told.{taken_told};
 ghost use Rattle.kr_calm.specs.Foreseen.{call_foreseen, foreseen_of, mode_opened, nothing};
 ghost use Rattle.kr_calm.specs.Prospects.{mode_set, move, removal, renameat2_made, unlinkat_made};
 ghost use Rattle.kr_calm.specs.Questions.{HaveRealPoints};
@@ -18,8 +18,8 @@ use crate::judging::{
     guarded, removal_takes_source, removal_takes_used, rename_takes_source, rename_takes_used,
 };
 use crate::noting::natural;
-use kr_numbered::below::{Host, Ino, Place, Places, Request, State, Targets};
-use kr_targets::{Taken, taken};
+use kr_seen::below::{Host, Ino, Place, Places, Request, State};
+use kr_seen::{Taken, Targets, taken};
 
 /// What a call would break of the rules on what is really changed, if it answered 0.
 #[derive(Clone, Copy)]

@@ -1,9 +1,9 @@
 //! What changes of names and modes break.
 ghost use Rattle.std.specs.Prelude.{◌≡◌, ◌<◌, ◌^◌, ℕ, length};
-ghost use Rattle.kr_numbered.specs.kr_model.Change.{MoveName, RemoveName};
-ghost use Rattle.kr_numbered.specs.kr_ops.Meaning.{meaning};
-ghost use Rattle.kr_numbered.specs.kr_ops.Sound.{IsServed};
-ghost use Rattle.kr_numbered.specs.kr_seen.Numbered.{state_numbered};
+ghost use Rattle.kr_seen.specs.kr_model.Change.{MoveName, RemoveName};
+ghost use Rattle.kr_seen.specs.kr_ops.Meaning.{meaning};
+ghost use Rattle.kr_seen.specs.kr_ops.Sound.{IsServed};
+ghost use Rattle.kr_seen.specs.Numbered.{state_numbered};
 ghost use Rattle.kr_calm.specs.Foreseen.{guarded};
 ghost use Rattle.kr_calm.specs.InUse.{is_directory_of, is_in_use};
 ghost use Rattle.kr_calm.specs.Questions.{HaveRealPoints};
@@ -11,7 +11,7 @@ ghost use Rattle.kr_calm.specs.Rules.{breaks_3, is_above_rows, is_above_use, nam
 
 use crate::rows::{RowQuestion, any_row};
 use crate::uses::{UseQuestion, any_use};
-use kr_numbered::below::{Ino, Places, Right, State};
+use kr_seen::below::{Ino, Places, Right, State};
 
 /// Whether an entry is there that is in use, or stands above what is.
 fn is_entry_used<T: Copy, const M: u8>(state: &State<T, M>, dir: Ino, name: &[u8]) -> bool

@@ -1,18 +1,18 @@
 //! What a call reads of its caller's memory before it ends it.
 ghost use Rattle.std.specs.Prelude.{◌≡◌, ◌*◌, ◌≤◌, ℕ, IsSome, length, if◌then◌else◌};
-ghost use Rattle.kr_numbered.specs.rv_mem.Memory.{after_read};
-ghost use Rattle.kr_numbered.specs.rv_mem.Pages.{allows_all};
-ghost use Rattle.kr_numbered.specs.kr_model.Asking.{descriptor_number};
-ghost use Rattle.kr_numbered.specs.kr_model.Known.{known};
-ghost use Rattle.kr_numbered.specs.kr_model.State.{image_layout, process};
-ghost use Rattle.kr_numbered.specs.kr_ops.Meaning.{meaning};
-ghost use Rattle.kr_numbered.specs.kr_ops.Sound.{IsSound};
-ghost use Rattle.kr_numbered.specs.kr_seen.Carrying.{memory_of};
+ghost use Rattle.kr_seen.specs.rv_mem.Memory.{after_read};
+ghost use Rattle.kr_seen.specs.rv_mem.Pages.{allows_all};
+ghost use Rattle.kr_seen.specs.kr_model.Asking.{descriptor_number};
+ghost use Rattle.kr_seen.specs.kr_model.Known.{known};
+ghost use Rattle.kr_seen.specs.kr_model.State.{image_layout, process};
+ghost use Rattle.kr_seen.specs.kr_ops.Meaning.{meaning};
+ghost use Rattle.kr_seen.specs.kr_ops.Sound.{IsSound};
+ghost use Rattle.kr_seen.specs.Carrying.{memory_of};
 ghost use Rattle.kr_rows.specs.Using.{HasMemory};
 ghost use Rattle.kr_calm.specs.Noted.{IsNoted, is_read, is_unread, kills};
 
-use kr_numbered::below::{Request, State, Use, What};
 use kr_rows::caller::read_into;
+use kr_seen::below::{Request, State, Use, What};
 
 /// The most pieces of a list.
 const PIECES: u64 = 1024;

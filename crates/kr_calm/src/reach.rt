@@ -2,7 +2,7 @@
 ghost use Rattle.std.specs.Prelude.{◌≡◌};
 ghost use Rattle.kr_calm.specs.Rules.{breaks_6};
 
-use kr_numbered::below::Reach;
+use kr_seen::below::Reach;
 
 /// The most bytes of a host name that a calm walk reaches.
 const LONGEST_NAME: u64 = 4_000;

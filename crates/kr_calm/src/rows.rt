@@ -1,13 +1,13 @@
 //! What is asked of the rows of the table of mounts.
 ghost use Rattle.std.specs.Prelude.{◌≡◌, ◌<◌, ◌^◌, length};
 ghost use Rattle.std.specs.List.{list_any};
-ghost use Rattle.kr_numbered.specs.kr_view.Rows.{row_told};
-ghost use Rattle.kr_numbered.specs.kr_view.View.{Row, shown};
+ghost use Rattle.kr_seen.specs.kr_view.Rows.{row_told};
+ghost use Rattle.kr_seen.specs.kr_view.View.{Row, shown};
 ghost use Rattle.kr_calm.specs.Questions.{HasRealPoint, HaveRealPoints, row_answers};
 ghost use Rattle.kr_calm.specs.Rules.{differ, is_above_point, is_above_row, is_below_point, is_between, is_named, serves_row};
 
 use crate::above::is_at_or_below;
-use kr_numbered::below::{Ino, MountRow, Places, Tree};
+use kr_seen::below::{Ino, MountRow, Places, Tree};
 
 /// A question about a row.
 #[derive(Clone, Copy)]

@@ -1,9 +1,9 @@
 //! The shelf of a call with a path.
 ghost use Rattle.std.specs.Prelude.{◌≡◌};
-ghost use Rattle.kr_numbered.specs.rv_mem.Memory.{page_count};
+ghost use Rattle.kr_seen.specs.rv_mem.Memory.{page_count};
 ghost use Rattle.kr_calm.specs.Shelf.{has_path, is_usable, lacks_shelf_by, shelved_by};
 
-use kr_numbered::below::{Regs, Space, Use};
+use kr_seen::below::{Regs, Space, Use};
 
 /// The register of a call's number.
 const A7: usize = 17;

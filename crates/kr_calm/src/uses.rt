@@ -1,15 +1,15 @@
 //! What is asked of the directories that processes use.
 ghost use Rattle.std.specs.Prelude.{◌≡◌};
-ghost use Rattle.kr_numbered.specs.kr_files.Descriptors.{meanings};
-ghost use Rattle.kr_numbered.specs.kr_files.Files.{NamesOpenFiles};
-ghost use Rattle.kr_numbered.specs.kr_model.State.{inode_of};
-ghost use Rattle.kr_numbered.specs.kr_ops.Meaning.{meaning};
-ghost use Rattle.kr_numbered.specs.kr_ops.Sound.{IsServed};
+ghost use Rattle.kr_seen.specs.kr_files.Descriptors.{meanings};
+ghost use Rattle.kr_seen.specs.kr_files.Files.{NamesOpenFiles};
+ghost use Rattle.kr_seen.specs.kr_model.State.{inode_of};
+ghost use Rattle.kr_seen.specs.kr_ops.Meaning.{meaning};
+ghost use Rattle.kr_seen.specs.kr_ops.Sound.{IsServed};
 ghost use Rattle.kr_calm.specs.InUse.{any_opened, directory_of, is_directory_of};
 ghost use Rattle.kr_calm.specs.Questions.{opened_answers, own_answers, use_answers};
 
 use crate::above::is_at_or_below;
-use kr_numbered::below::{Descs, Files, Host, Ino, Opened, ProcAt, State, Tree, What};
+use kr_seen::below::{Descs, Files, Host, Ino, Opened, ProcAt, State, Tree, What};
 
 /// How many descriptors a process may have, which are numbered from 0 on.
 const DESCRIPTORS: u32 = 1024;

@@ -8,12 +8,12 @@ use Rattle.kr_turns.specs.kr_view.View.{Row}
 use Rattle.kr_first.specs.kr_model.Lawful.{ArePids, RiseFrom}
 use Rattle.kr_first.specs.kr_model.State as model
 use Rattle.kr_first.specs.kr_model.State.{Image, Process, image_layout, is_pid, process}
-use Rattle.kr_first.proofs.kr_lawful.SumLemmas.{other-test}
-use Rattle.kr_first.specs.kr_ops.declared.state.State.{State}
-use Rattle.kr_first.specs.kr_ops.Meaning.{meaning}
+use Rattle.kr_turns.proofs.law_lawful.SumLemmas.{other-test}
+use Rattle.kr_turns.specs.kr_ops.declared.state.State.{State}
+use Rattle.kr_turns.specs.kr_ops.Meaning.{meaning}
 use Rattle.kr_turns.specs.kr_seen.Numbered.{process_numbered, state_numbered}
-use Rattle.kr_turns.proofs.kr_numbered.LookLemmas.{known-numbered, process-numbered}
-use Rattle.kr_turns.proofs.kr_numbered.StepLemmas.{passing-numbered}
+use Rattle.kr_turns.proofs.kr_seen.LookLemmas.{known-numbered, process-numbered}
+use Rattle.kr_turns.proofs.kr_seen.StepLemmas.{passing-numbered}
 use Rattle.kr_turns.specs.Steps.{Runs, goes_on, picked_process, ready_processes, still_waits}
 use Rattle.kr_turns.proofs.NumberLemmas.{picked-process-numbered}
 

@@ -5,8 +5,8 @@ use Rattle.kr_turns.specs.kr_view.declared.target.Reach.{Reach}
 use Rattle.kr_turns.specs.kr_view.View.{Row}
 use Rattle.kr_first.specs.kr_model.State as model
 use Rattle.kr_first.specs.kr_model.State.{Image, Process}
-use Rattle.kr_first.specs.kr_allowed.Told.{SourcesAreNamed}
-use Rattle.kr_first.specs.kr_ops.declared.state.State.{State}
+use Rattle.kr_first.specs.law_allowed.Told.{SourcesAreNamed}
+use Rattle.kr_turns.specs.kr_ops.declared.state.State.{State}
 use Rattle.kr_turns.specs.Steps.{Runs, picked_process}
 use Rattle.kr_turns.specs.kr_calm.Calm.{broken_at_start}
 use Rattle.kr_first.specs.declared.starting.StartFault.{StartFault}

@@ -1,18 +1,14 @@
 pub use Rattle.pr_base.specs as pr_base
-pub use Rattle.kr_turns.specs.rv_mem as rv_mem
 pub use Rattle.kr_turns.specs.rv_cpu as rv_cpu
-pub use Rattle.kr_turns.specs.kr_inode as kr_inode
-pub use Rattle.kr_turns.specs.kr_tree as kr_tree
-pub use Rattle.kr_turns.specs.kr_view as kr_view
-pub use Rattle.kr_turns.specs.kr_calls as kr_calls
+pub use Rattle.kr_first.specs.kr_tree as kr_tree
 pub use Rattle.kr_first.specs.kr_model as kr_model
-pub use Rattle.kr_first.specs.kr_allowed as kr_allowed
-pub use Rattle.kr_first.specs.kr_listed as kr_listed
+pub use Rattle.kr_turns.specs.law_lawful as law_lawful
+pub use Rattle.kr_first.specs.law_allowed as law_allowed
 pub use Rattle.kr_turns.specs.kr_seen as kr_seen
 pub use Rattle.kr_turns.specs.kr_execve as kr_execve
-pub use Rattle.kr_first.specs.kr_start as kr_start
 pub use Rattle.kr_first.specs as kr_first
 pub use Rattle.kr_turns.specs.kr_steps as kr_steps
 pub use Rattle.kr_turns.specs as kr_turns
+pub use Rattle.kr_first.specs.kr_start as kr_start
 pub mod Kernel
 pub mod Runs

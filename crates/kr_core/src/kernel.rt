@@ -1,21 +1,21 @@
 //! The kernel.
 ghost use Rattle.std.specs.Prelude.{◌≡◌, ◌≤◌, ◌<◌, ◌^◌, ℕ, true, length, slice_get, IfOk, OnOk};
 ghost use Rattle.std.specs.Option.{option_map, option_map_or};
-ghost use Rattle.kr_first.specs.kr_allowed.Told.{SourcesAreNamed};
+ghost use Rattle.kr_first.specs.law_allowed.Told.{SourcesAreNamed};
 ghost use Rattle.kr_turns.specs.kr_calm.Calm.{kept};
 ghost use Rattle.kr_core.specs.Kernel.{Clears, Starts, Turns, first_rule, machine};
 ghost use Rattle.kr_first.specs.Started.{HasSizedProcesses, LeadsToDirectory};
 ghost use Rattle.kr_first.specs.Starting.{start_of, start_reach};
-ghost use Rattle.kr_first.specs.kr_allowed.Texts.{IsText};
-ghost use Rattle.kr_first.specs.kr_listed.Beginning.{CanLast};
+ghost use Rattle.kr_first.specs.law_allowed.Texts.{IsText};
+ghost use Rattle.kr_first.specs.kr_start.Beginning.{CanLast};
 ghost use Rattle.kr_first.specs.kr_start.Start.{HasNoHolds};
 ghost use Rattle.kr_turns.specs.Steps.{ready_processes};
 ghost use Rattle.kr_turns.specs.Making.{watching};
 ghost use Rattle.kr_turns.specs.kr_view.View.{StandsIn};
 
-use kr_first::below::{State, lawful_states_are_sound};
+use kr_first::below::{Tree, User};
 use kr_first::{First, StartFault, start};
-use kr_turns::below::{Places, Reach, Tree, User, reaches_too_far};
+use kr_turns::below::{Places, Reach, State, lawful_states_are_sound, reaches_too_far};
 use kr_turns::{Stops, make_turn, picked, ready};
 use pr_base::{Bytes, NoMemory};
 use std::alloc::Global;
@@ -50,7 +50,7 @@ pub struct Kernel<P: Places, S: Stops, const MARKED: u8> {
 impl<P: Places, S: Stops, const MARKED: u8> Model for Kernel<P, S, MARKED> {
     ghost use Rattle.std.specs.Coded.{codes};
     ghost use Rattle.kr_turns.specs.rv_mem.Memory.{memory_code};
-    ghost use Rattle.kr_turns.specs.kr_tree.Tree.{tree_code};
+    ghost use Rattle.kr_first.specs.kr_tree.Tree.{tree_code};
     ghost use Rattle.kr_first.specs.kr_files.Descriptors.{descriptors_code};
     ghost use Rattle.kr_first.specs.kr_files.Files.{kept_code};
     ghost use Rattle.kr_core.specs.Kernel as kernel;

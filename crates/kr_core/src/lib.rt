@@ -1,4 +1,21 @@
 //! The kernel of a machine over a view and with a watcher of calls: its first process, its turns, and what they break of the calm rules.
+//!
+//! What is proved, with the clause or the law that carries it:
+//!
+//! The kernel of a machine, over any view and with any watcher. pr_start starts it over mounts, and pr_run runs it.
+//!
+//! `Kernel::start` comes to exactly the definition, want of memory aside (`Starts`): the state of `start_of`, no turn made, the status 0, and the
+//! sixth calm rule told where marks are kept and the walks of the start reached too far; or the error of execve(2).
+//!
+//! `Kernel::turn` runs the process that is picked, and that turn is the definition's (`turns`; `HasRun`): state, watcher, status and the rule
+//! that was broken first. Over comes exactly where no process lives, Deadlock exactly where one lives and none is ready, and both change nothing.
+//! It asks for fuel, for a kernel in which no memory was wanting, and for fewer than 2^31 turns before it.
+//!
+//! `ready`, `living`, `out`, `err`, `status`, `broken` and `tree` tell exactly that of the state, and `clear_bytes` forgets the bytes and nothing
+//! else (`Clears`).
+//!
+//! Only tested, or not shown: `rows` run the hello file and other guests, with marks and without; `core_tests` shows a watcher's stops in their
+//! order.
 #![tactic(auto)]
 
 pub mod below;

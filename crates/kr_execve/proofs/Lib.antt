@@ -1,8 +1,6 @@
 pub use Rattle.elf_load.proofs as elf_load
-pub use Rattle.kr_exec.proofs.kr_tree as kr_tree
 pub use Rattle.kr_exec.proofs.kr_view as kr_view
-pub use Rattle.kr_perform.proofs.kr_allowed as kr_allowed
-pub use Rattle.kr_perform.proofs.kr_resolved as kr_resolved
+pub use Rattle.kr_perform.proofs as kr_perform
 pub use Rattle.kr_exec.proofs as kr_exec
 pub mod AroundLemmas
 pub mod BeginningLemmas

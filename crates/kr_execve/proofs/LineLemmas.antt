@@ -12,7 +12,7 @@ use Rattle.kr_exec.specs.kr_tree.declared.place.Host.{Host}
 use Rattle.kr_exec.specs.kr_tree.declared.place.Host.TheVariants.{Node, Proc}
 use Rattle.kr_exec.specs.kr_tree.declared.place.Place.{Place}
 use Rattle.kr_exec.specs.Interpreters.{bytes_at, found_bytes, head_of}
-use Rattle.kr_perform.proofs.kr_resolved.TextLemmas.{IsTextByte}
+use Rattle.kr_perform.proofs.TextLemmas.{IsTextByte}
 
 module _ (P : ℕ → Type 0) where
   abbrev Each : List ℕ → Type 0

@@ -5,9 +5,9 @@ use Rattle.std.specs.Prelude.{Result, Ok, Err, ◌&&◌}
 use Rattle.std.specs.List.{All}
 use Rattle.std.specs.Option.{option_map_or}
 use Rattle.std.proofs.lemmas.Bool.{false≢true}
-use Rattle.elf_load.specs.pr_base.declared.errno.Errno.{Errno}
-use Rattle.elf_load.specs.pr_base.declared.errno.Errno.TheVariants.{EACCES}
-use Rattle.elf_load.specs.pr_base.declared.path.WalkMode.TheVariants.{Look}
+use Rattle.kr_seen.specs.pr_base.declared.errno.Errno.{Errno}
+use Rattle.kr_seen.specs.pr_base.declared.errno.Errno.TheVariants.{EACCES}
+use Rattle.kr_seen.specs.pr_base.declared.path.WalkMode.TheVariants.{Look}
 use Rattle.kr_perform.specs.kr_inode.declared.user.User.{User}
 use Rattle.kr_perform.specs.kr_inode.declared.user.Right.TheVariants.{Search}
 use Rattle.kr_exec.specs.kr_tree.declared.place.Host.{Host}
@@ -26,11 +26,11 @@ use Rattle.kr_exec.specs.kr_view.InTree.{IsPlaceOf, StandsAround}
 use Rattle.kr_exec.specs.kr_view.View.{Row, source}
 use Rattle.kr_exec.specs.kr_view.Walk.{PlaceTarget, place_walk}
 use Rattle.kr_exec.proofs.kr_view.PlaceLemmas.{walks_keep_places}
-use Rattle.kr_perform.specs.kr_allowed.Texts.{LinksHaveTexts}
+use Rattle.kr_perform.specs.law_allowed.Texts.{LinksHaveTexts}
 use Rattle.kr_perform.specs.kr_model.Lawful.{IsNameOrNone, is_file_at}
-use Rattle.kr_perform.specs.kr_allowed.Told.{SourcesAreNamed}
-use Rattle.kr_perform.proofs.kr_resolved.NamingLemmas.{good_name}
-use Rattle.kr_perform.proofs.kr_resolved.TextLemmas.{IsTextByte, text_bytes}
+use Rattle.kr_perform.specs.law_allowed.Told.{SourcesAreNamed}
+use Rattle.kr_perform.proofs.NamingLemmas.{good_name}
+use Rattle.kr_perform.proofs.TextLemmas.{IsTextByte, text_bytes}
 use Rattle.kr_exec.specs.Exec.{entry_of, exec_plan, inode_at}
 use Rattle.kr_exec.specs.Finding.{if_program, is_program, is_program_found, program_at, program_walk}
 use Rattle.kr_exec.specs.Interpreters.{told_program}

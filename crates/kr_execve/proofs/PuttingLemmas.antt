@@ -11,9 +11,9 @@ use Rattle.kr_perform.specs.kr_model.Change.{OfFound, ReplaceExecutable}
 use Rattle.kr_perform.specs.kr_model.Conditions.{CanBeMade}
 use Rattle.kr_perform.specs.kr_model.Lawful.{IsLawful, IsNameOrNone, is_file_at}
 use Rattle.kr_perform.specs.kr_model.State.{Image, Process, State, at_pid, process, with_process}
-use Rattle.kr_perform.specs.kr_lawful.Laws.{CanAllBeMade}
-use Rattle.kr_perform.proofs.kr_lawful.ChangeLemmas.{changes-keep}
-use Rattle.kr_perform.proofs.kr_lawful.ProcessChangeLemmas.{found}
+use Rattle.kr_perform.specs.law_lawful.Laws.{CanAllBeMade}
+use Rattle.kr_perform.proofs.law_lawful.ChangeLemmas.{changes-keep}
+use Rattle.kr_perform.proofs.law_lawful.ProcessChangeLemmas.{found}
 use Rattle.kr_exec.specs.declared.plan.ExecPlan.{ExecPlan}
 use Rattle.kr_execve.specs.Execution.{image_of}
 use Rattle.kr_execve.specs.Executing.{CanBeLoaded, image_change, program_changes}

@@ -8,13 +8,13 @@ use Rattle.kr_exec.specs.kr_view.Answers.{told}
 use Rattle.kr_exec.specs.kr_view.InTree.{IsPlaceOf, StandsAround}
 use Rattle.kr_exec.specs.kr_view.View.{Row}
 use Rattle.kr_exec.specs.kr_view.Walk.{PlaceTarget}
-use Rattle.kr_perform.specs.kr_allowed.Texts.{LinksHaveTexts}
+use Rattle.kr_perform.specs.law_allowed.Texts.{LinksHaveTexts}
 use Rattle.kr_perform.specs.kr_model.Lawful.{IsLawful, IsNameOrNone, is_file_at}
 use Rattle.kr_perform.specs.kr_model.ProcessDirectory.{around_of}
 use Rattle.kr_perform.specs.kr_model.State.{Image, Process, State, process}
-use Rattle.kr_perform.specs.kr_allowed.Told.{SourcesAreNamed}
-use Rattle.kr_perform.proofs.kr_resolved.AroundLemmas.{lead_to_places, leads_texts}
-use Rattle.kr_perform.proofs.kr_resolved.TextLemmas.{IsTextByte}
+use Rattle.kr_perform.specs.law_allowed.Told.{SourcesAreNamed}
+use Rattle.kr_perform.proofs.AroundLemmas.{lead_to_places, leads_texts}
+use Rattle.kr_perform.proofs.TextLemmas.{IsTextByte}
 use Rattle.kr_exec.specs.Exec.{exec_plan}
 use Rattle.kr_exec.specs.Finding.{program_at}
 use Rattle.kr_exec.specs.declared.plan.ExecPlan.{ExecPlan}

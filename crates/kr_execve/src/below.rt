@@ -1,6 +1,6 @@
 //! What those above name of the crates below.
 
 pub use kr_exec::below::kr_calls::{CallFault, Request};
-pub use kr_exec::below::kr_tree::{Place, Tree, User};
+pub use kr_exec::below::kr_tree::Place;
 pub use kr_exec::below::kr_view::{NoProcs, Places, Reach, WalkFault, resolve};
 pub use kr_exec::{ExecPlan, Lists, find_exec, plan_exec};

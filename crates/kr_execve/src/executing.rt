@@ -1,21 +1,20 @@
 //! execve(2) as a whole.
 ghost use Rattle.std.specs.Prelude.{IsSome};
-ghost use Rattle.kr_perform.specs.kr_allowed.Told.{SourcesAreNamed};
+ghost use Rattle.kr_perform.specs.law_allowed.Told.{SourcesAreNamed};
 ghost use Rattle.kr_execve.specs.Executing.{told_of, Leaves};
-ghost use Rattle.kr_perform.specs.kr_allowed.Texts.{IsText, LinksHaveTexts};
+ghost use Rattle.kr_perform.specs.law_allowed.Texts.{IsText, LinksHaveTexts};
 ghost use Rattle.kr_perform.specs.kr_model.Lawful.{IsLawful};
 ghost use Rattle.kr_perform.specs.kr_model.State.{process};
-ghost use Rattle.kr_perform.specs.kr_ops.Meaning.{meaning};
-ghost use Rattle.kr_perform.specs.kr_ops.Sound.{IsServed};
+ghost use Rattle.kr_seen.specs.kr_ops.Meaning.{meaning};
+ghost use Rattle.kr_seen.specs.kr_ops.Sound.{IsServed};
 ghost use Rattle.kr_exec.specs.kr_tree.Lawful.{AreBytes};
 
 use crate::finding::{cwd_of, find, plan};
 use crate::loading::put;
 use crate::marks::marks_read;
 use crate::reading::read;
-use elf_load::below::pr_base::Errno;
 use kr_exec::below::kr_view::{Places, Reach, WalkFault};
-use kr_perform::below::{State, lawful_states_are_sound};
+use kr_seen::below::{Errno, State, lawful_states_are_sound};
 use std::alloc::Global;
 
 /// What became of an execve.

@@ -5,19 +5,18 @@ ghost use Rattle.kr_exec.specs.Interpreters.{bytes_at};
 ghost use Rattle.kr_execve.specs.Execution.{ids_of, image_of};
 ghost use Rattle.kr_execve.specs.Executing.{Gives, IsLoadable, IsReadyFor, Loads, Puts};
 ghost use Rattle.kr_perform.specs.kr_model.State.{process};
-ghost use Rattle.kr_perform.specs.kr_ops.Meaning.{meaning};
-ghost use Rattle.kr_perform.specs.kr_ops.Sound.{IsSound};
+ghost use Rattle.kr_seen.specs.kr_ops.Meaning.{meaning};
+ghost use Rattle.kr_seen.specs.kr_ops.Sound.{IsSound};
 ghost use Rattle.kr_exec.specs.kr_tree.declared.place.Host.TheVariants.{Node};
 ghost use Rattle.elf_load.specs.rv_mem.Memory.{page_count};
 ghost use Rattle.elf_load.specs.rv_mem.Pages.{IsPlaced, IsWhole};
 
-use elf_load::below::pr_base::Errno;
 use elf_load::below::rv_mem::{Room, Use};
 use elf_load::{Image, LoadFault, load};
 use kr_exec::ExecPlan;
 use kr_exec::below::kr_tree::{Ino, Tree, User};
 use kr_exec::below::kr_view::WalkFault;
-use kr_perform::below::{State, lawful_states_are_sound};
+use kr_seen::below::{Errno, State, lawful_states_are_sound};
 use std::alloc::Global;
 
 /// How many pages there may be in a memory, by their addresses.

@@ -2,13 +2,13 @@
 ghost use Rattle.std.specs.Prelude.{◌≡◌, IsSome};
 ghost use Rattle.kr_execve.specs.Executing.{ReadsLists};
 ghost use Rattle.kr_perform.specs.kr_model.State.{process};
-ghost use Rattle.kr_perform.specs.kr_ops.Meaning.{meaning};
-ghost use Rattle.kr_perform.specs.kr_ops.Sound.{IsSound};
+ghost use Rattle.kr_seen.specs.kr_ops.Meaning.{meaning};
+ghost use Rattle.kr_seen.specs.kr_ops.Sound.{IsSound};
 
 use kr_exec::below::kr_calls::CallFault;
 use kr_exec::below::kr_view::WalkFault;
 use kr_exec::{Lists, read_lists};
-use kr_perform::below::State;
+use kr_seen::below::State;
 use std::alloc::Global;
 
 /// Reads the lists at two addresses in the memory of a living process.

@@ -1,18 +1,18 @@
 -- A plan that was loaded begins, and what it leaves is the state of the definition, on which calls can go on.
 use Rattle.std.proofs.Common.{◌≡◌, ℕ, ◌≤◌, true, false, List, Some, refl, sym, ap, subst, ◌∙◌}
 use Rattle.std.specs.Prelude.{Ok}
-use Rattle.kr_execve.specs.kr_inode.declared.user.User.{User}
+use Rattle.kr_start.specs.kr_inode.declared.user.User.{User}
 use Rattle.kr_start.specs.kr_tree.declared.place.Place.{Place}
 use Rattle.kr_start.specs.kr_tree.Lawful.{AreBytes, IsKept}
 use Rattle.kr_start.specs.kr_tree.Tree.{Tree}
 use Rattle.kr_execve.specs.kr_view.Leads.{numbered}
 use Rattle.kr_execve.specs.kr_view.View.{Row, StandsIn}
 use Rattle.kr_start.specs.elf_load.declared.image.Image as loaded
-use Rattle.kr_start.specs.kr_allowed.Lasting.{Lasts}
-use Rattle.kr_start.specs.kr_allowed.Texts.{IsText}
-use Rattle.kr_start.specs.kr_listed.Beginning.{CanLast}
-use Rattle.kr_start.specs.kr_allowed.Told.{SourcesAreNamed}
-use Rattle.kr_execve.proofs.kr_resolved.TextLemmas.{text_bytes}
+use Rattle.kr_start.specs.law_allowed.Lasting.{Lasts}
+use Rattle.kr_start.specs.law_allowed.Texts.{IsText}
+use Rattle.kr_start.specs.Beginning.{CanLast}
+use Rattle.kr_start.specs.law_allowed.Told.{SourcesAreNamed}
+use Rattle.kr_execve.proofs.kr_perform.TextLemmas.{text_bytes}
 use Rattle.kr_start.specs.kr_model.Lawful.{IsLawful}
 use Rattle.kr_start.specs.kr_model.MemoryRows.{pages_end}
 use Rattle.kr_start.specs.kr_model.State as model
@@ -30,7 +30,7 @@ use Rattle.kr_execve.proofs.ProgramLemmas.{program-file}
 use Rattle.kr_start.specs.Laws.{StartsLast}
 use Rattle.kr_start.specs.Start as beginning
 use Rattle.kr_start.specs.Start.{first_of, pinned, started, without_processes, CanBegin, IsIdle, IsReady}
-use Rattle.kr_calling.specs.Calling.{Runs}
+use Rattle.kr_execve.specs.kr_perform.Calling.{Runs}
 use Rattle.kr_first.specs.declared.starting.First.{First}
 use Rattle.kr_first.specs.Started.{Gives}
 use Rattle.kr_first.specs.Starting.{directory_at, idle_state, plan_of, process_of, start_of}

@@ -2,14 +2,17 @@ pub use Rattle.pr_base.proofs as pr_base
 pub use Rattle.kr_start.proofs.rv_mem as rv_mem
 pub use Rattle.kr_start.proofs.elf_load as elf_load
 pub use Rattle.kr_start.proofs.kr_tree as kr_tree
+pub use Rattle.kr_execve.proofs.kr_view as kr_view
 pub use Rattle.kr_start.proofs.kr_mounts as kr_mounts
-pub use Rattle.kr_start.proofs.kr_lawful as kr_lawful
-pub use Rattle.kr_start.proofs.kr_allowed as kr_allowed
-pub use Rattle.kr_start.proofs.kr_listed as kr_listed
-pub use Rattle.kr_start.proofs.kr_ops as kr_ops
-pub use Rattle.kr_execve.proofs.kr_resolved as kr_resolved
+pub use Rattle.kr_start.proofs.kr_model as kr_model
+pub use Rattle.kr_start.proofs.law_lawful as law_lawful
+pub use Rattle.kr_start.proofs.law_allowed as law_allowed
+pub use Rattle.kr_execve.proofs.kr_perform as kr_perform
 pub use Rattle.kr_execve.proofs.kr_exec as kr_exec
 pub use Rattle.kr_execve.proofs as kr_execve
+pub use Rattle.kr_start.proofs as kr_start
+pub use Rattle.kr_start.proofs.pt_bind as pt_bind
+pub use Rattle.kr_start.proofs.law_walks as law_walks
 pub mod BeginLemmas
 pub mod DefinitionLemmas
 pub mod LawLemmas

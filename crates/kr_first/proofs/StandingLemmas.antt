@@ -7,7 +7,7 @@ use Rattle.std.specs.Option.{option_and_then, option_map, option_map_or}
 use Rattle.std.proofs.lemmas.Option.{same_Some}
 use Rattle.pr_base.specs.declared.errno.Errno.{Errno}
 use Rattle.pr_base.specs.declared.path.WalkMode.TheVariants.{Look}
-use Rattle.kr_execve.specs.kr_inode.declared.user.User.{User}
+use Rattle.kr_start.specs.kr_inode.declared.user.User.{User}
 use Rattle.kr_start.specs.kr_tree.declared.place.Host.TheVariants.{Node}
 use Rattle.kr_start.specs.kr_tree.declared.place.Place.{Place}
 use Rattle.kr_start.specs.kr_tree.declared.place.ProcAt.{ProcAt}
@@ -25,11 +25,11 @@ use Rattle.kr_execve.specs.kr_view.Walk.{PlaceTarget}
 use Rattle.kr_execve.proofs.kr_view.PlaceLemmas.{walks_keep_places}
 use Rattle.kr_execve.proofs.kr_view.ProcessLemmas.{no_processes}
 use Rattle.kr_execve.proofs.kr_view.TableLemmas.{laws_of_places}
-use Rattle.kr_start.specs.kr_allowed.Texts.{LinksHaveTexts}
+use Rattle.kr_start.specs.law_allowed.Texts.{LinksHaveTexts}
 use Rattle.kr_start.specs.kr_model.Lawful.{IsNameOrNone, is_file_at}
 use Rattle.kr_start.specs.kr_model.Walks.{and_then}
-use Rattle.kr_start.specs.kr_allowed.Told.{SourcesAreNamed}
-use Rattle.kr_execve.proofs.kr_resolved.TextLemmas.{IsTextByte}
+use Rattle.kr_start.specs.law_allowed.Told.{SourcesAreNamed}
+use Rattle.kr_execve.proofs.kr_perform.TextLemmas.{IsTextByte}
 use Rattle.kr_execve.specs.kr_exec.Answers.{plan_numbered, Answers}
 use Rattle.kr_execve.specs.kr_exec.Exec.{are_too_big, exec_plan}
 use Rattle.kr_execve.specs.kr_exec.Finding.{program_at}

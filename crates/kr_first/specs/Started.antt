@@ -7,7 +7,7 @@ use Rattle.pr_base.specs.declared.errno.Errno.TheVariants.{ENOMEM}
 use Rattle.kr_start.specs.rv_mem.Memory.{page_count}
 use Rattle.kr_start.specs.elf_load.Image.{program_break}
 use Rattle.kr_start.specs.elf_load.declared.image.Image as loaded
-use Rattle.kr_execve.specs.kr_inode.declared.user.User.{User}
+use Rattle.kr_start.specs.kr_inode.declared.user.User.{User}
 use Rattle.kr_start.specs.kr_tree.Tree.{Tree}
 use Rattle.kr_execve.specs.kr_view.declared.target.WalkFault.{WalkFault}
 use Rattle.kr_execve.specs.kr_view.declared.target.WalkFault.TheVariants as walk

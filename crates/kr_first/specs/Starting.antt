@@ -7,7 +7,7 @@ use Rattle.pr_base.specs.declared.errno.Errno.TheVariants.{ENAMETOOLONG, ENOENT,
 use Rattle.pr_base.specs.declared.path.WalkMode.TheVariants.{Look}
 pub use Rattle.pr_base.specs.Paths.{is_walked}
 use Rattle.kr_start.specs.elf_load.Image.{first_regs, image_exceeds, image_memory, program_break}
-use Rattle.kr_execve.specs.kr_inode.declared.user.User.{User}
+use Rattle.kr_start.specs.kr_inode.declared.user.User.{User}
 use Rattle.kr_start.specs.kr_tree.declared.place.Place.{Place}
 use Rattle.kr_start.specs.kr_tree.Tree.{Tree}
 use Rattle.kr_execve.specs.kr_view.declared.target.Reach.{Reach}

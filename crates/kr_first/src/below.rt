@@ -1,3 +1,3 @@
 //! What those above name of the crates below.
 
-pub use kr_start::below::{State, lawful_states_are_sound};
+pub use kr_start::below::{Tree, User};

@@ -1,13 +1,13 @@
 //! The start of a run: its first process, and the state that begins with it.
 ghost use Rattle.std.specs.Prelude.{◌≡◌, ◌<◌, ◌^◌, length, IfOk};
-ghost use Rattle.kr_start.specs.kr_allowed.Told.{SourcesAreNamed};
-ghost use Rattle.kr_calling.specs.Calling.{Runs};
+ghost use Rattle.kr_start.specs.law_allowed.Told.{SourcesAreNamed};
+ghost use Rattle.kr_execve.specs.kr_perform.Calling.{Runs};
 ghost use Rattle.kr_execve.specs.kr_exec.Answers.{Answers};
 ghost use Rattle.kr_execve.specs.kr_exec.Lists.{at_least_one};
 ghost use Rattle.kr_first.specs.Started.{state_of, HasSizedProcesses, IsStarted, LeadsToDirectory};
 ghost use Rattle.kr_first.specs.Starting.{start_of, start_reach};
-ghost use Rattle.kr_start.specs.kr_allowed.Texts.{IsText};
-ghost use Rattle.kr_start.specs.kr_listed.Beginning.{CanLast};
+ghost use Rattle.kr_start.specs.law_allowed.Texts.{IsText};
+ghost use Rattle.kr_start.specs.Beginning.{CanLast};
 ghost use Rattle.kr_start.specs.Start.{HasNoHolds};
 ghost use Rattle.kr_start.specs.kr_tree.Lawful.{AreBytes};
 ghost use Rattle.kr_execve.specs.kr_view.View.{StandsIn};

@@ -1,5 +1,5 @@
 -- When a change can be made: what a call's row tested before it, and what every lawful state gives. Made then, it leaves
--- a lawful state, which kr_lawful proves of each.
+-- a lawful state, which law_lawful proves of each.
 use Rattle.std.specs.FinMap as map
 use Rattle.std.specs.Prelude.{◌≡◌, ◌≢◌, ℕ, ◌+◌, ◌≤◌, ◌<◌, ◌^◌, Bool, true, false, List, [], length, Some, None, IsSome}
 use Rattle.std.specs.Option.{IfSome}

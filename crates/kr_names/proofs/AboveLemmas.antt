@@ -5,16 +5,16 @@ use Rattle.std.specs.Bool.{if◌then◌else◌}
 use Rattle.std.specs.Option.{option_map, option_map_or, option_and_then}
 use Rattle.std.proofs.lemmas.Bool.Decides.{nat_tests}
 use Rattle.std.proofs.lemmas.Option.{none-some}
-use Rattle.kr_targets.specs.kr_inode.declared.standing.Standing.{Standing}
-use Rattle.kr_targets.specs.kr_tree.declared.place.Host.{Host}
-use Rattle.kr_targets.specs.kr_tree.declared.place.Host.TheVariants as host
-use Rattle.kr_targets.specs.kr_tree.Lawful.{IsBelow, Here, Below, IsSound}
-use Rattle.kr_targets.specs.kr_tree.Tree.{Inode, Node, above, inode, root, standing_of}
-use Rattle.kr_targets.proofs.kr_tree.BelowLemmas.{HasSteps, steps_end, steps_left}
-use Rattle.kr_targets.specs.kr_model.Asking.{same_host}
-use Rattle.kr_targets.specs.kr_model.Known.{Fact, Known, known, known_node}
-use Rattle.kr_targets.specs.kr_model.NameRows.{host_above, is_within}
-use Rattle.kr_targets.specs.kr_model.State.{Image, State, image_layout}
+use Rattle.kr_seen.specs.kr_inode.declared.standing.Standing.{Standing}
+use Rattle.kr_seen.specs.kr_tree.declared.place.Host.{Host}
+use Rattle.kr_seen.specs.kr_tree.declared.place.Host.TheVariants as host
+use Rattle.kr_seen.specs.kr_tree.Lawful.{IsBelow, Here, Below, IsSound}
+use Rattle.kr_seen.specs.kr_tree.Tree.{Inode, Node, above, inode, root, standing_of}
+use Rattle.kr_seen.proofs.kr_tree.BelowLemmas.{HasSteps, steps_end, steps_left}
+use Rattle.kr_seen.specs.kr_model.Asking.{same_host}
+use Rattle.kr_seen.specs.kr_model.Known.{Fact, Known, known, known_node}
+use Rattle.kr_seen.specs.kr_model.NameRows.{host_above, is_within}
+use Rattle.kr_seen.specs.kr_model.State.{Image, State, image_layout}
 
 module _ (k : Known) (top at : Host) where
   pub within-zero : is_within zero k top at ≡ false

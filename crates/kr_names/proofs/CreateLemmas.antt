@@ -1,34 +1,34 @@
 -- A state behind a file that was made.
 use Rattle.std.proofs.Common.{◌≡◌, ℕ, ◌<◌, true, false, List, [], ◌∷◌, Some, None, refl, sym, ap, subst, ◌∙◌}
 use Rattle.std.specs.Prelude.{IsSome}
-use Rattle.kr_targets.proofs.pr_base.MapLemmas.{get-insert_same}
-use Rattle.kr_targets.specs.pr_base.declared.errno.Errno.TheVariants.{EMFILE, ENOSPC}
-use Rattle.kr_targets.specs.kr_calls.Arguments.{has}
-use Rattle.kr_targets.specs.kr_tree.Changes.{fresh, next_standing, with_entry, with_inode, with_standing}
-use Rattle.kr_targets.specs.kr_tree.Changes as tree
-use Rattle.kr_targets.specs.kr_tree.Lawful.{AreBytes}
-use Rattle.kr_targets.specs.kr_tree.Names.{is_name}
-use Rattle.kr_targets.specs.kr_tree.Tree.{RegularFile, Tree, body_is, entry, inode, takes_names}
-use Rattle.kr_targets.specs.kr_tree.declared.place.Host.{Host}
-use Rattle.kr_targets.specs.kr_tree.declared.place.Host.TheVariants as host
-use Rattle.kr_targets.specs.kr_files.declared.opened.What.TheVariants.{File}
-use Rattle.kr_targets.specs.kr_model.Applied.{Mounts, applied, images}
-use Rattle.kr_targets.specs.kr_model.Asking.{has_no_room, unmasked}
-use Rattle.kr_targets.specs.kr_model.Change.{AddNode, OfDirectory, OpenFile}
-use Rattle.kr_targets.specs.kr_model.Conditions.{CanAdd}
-use Rattle.kr_targets.specs.kr_model.DescriptorRows.{o_cloexec}
-use Rattle.kr_targets.specs.kr_model.FileRows.{make_and_open, open_new, opens_as}
-use Rattle.kr_targets.specs.kr_model.Known.{Known, known}
-use Rattle.kr_targets.specs.kr_model.Lawful.{IsLawful}
-use Rattle.kr_targets.specs.kr_model.Reply.{done, refuse}
-use Rattle.kr_targets.specs.kr_model.State as model
-use Rattle.kr_targets.proofs.kr_lawful.ChangeLemmas.{changes-keep}
-use Rattle.kr_targets.specs.kr_ops.declared.state.State.{State}
-use Rattle.kr_targets.specs.kr_ops.Meaning.{meaning}
-use Rattle.kr_targets.specs.kr_ops.Opening.{lowest_of}
-use Rattle.kr_targets.specs.kr_ops.Sound.{IsOfView, IsServed, IsSound}
-use Rattle.kr_targets.proofs.kr_ops.UseLemmas.{sound-of}
-use Rattle.kr_targets.specs.Asked.{IsTaking}
+use Rattle.kr_seen.proofs.pr_base.MapLemmas.{get-insert_same}
+use Rattle.kr_seen.specs.pr_base.declared.errno.Errno.TheVariants.{EMFILE, ENOSPC}
+use Rattle.kr_seen.specs.kr_calls.Arguments.{has}
+use Rattle.kr_seen.specs.kr_tree.Changes.{fresh, next_standing, with_entry, with_inode, with_standing}
+use Rattle.kr_seen.specs.kr_tree.Changes as tree
+use Rattle.kr_seen.specs.kr_tree.Lawful.{AreBytes}
+use Rattle.kr_seen.specs.kr_tree.Names.{is_name}
+use Rattle.kr_seen.specs.kr_tree.Tree.{RegularFile, Tree, body_is, entry, inode, takes_names}
+use Rattle.kr_seen.specs.kr_tree.declared.place.Host.{Host}
+use Rattle.kr_seen.specs.kr_tree.declared.place.Host.TheVariants as host
+use Rattle.kr_seen.specs.kr_files.declared.opened.What.TheVariants.{File}
+use Rattle.kr_seen.specs.kr_model.Applied.{Mounts, applied, images}
+use Rattle.kr_seen.specs.kr_model.Asking.{has_no_room, unmasked}
+use Rattle.kr_seen.specs.kr_model.Change.{AddNode, OfDirectory, OpenFile}
+use Rattle.kr_seen.specs.kr_model.Conditions.{CanAdd}
+use Rattle.kr_seen.specs.kr_model.DescriptorRows.{o_cloexec}
+use Rattle.kr_seen.specs.kr_model.FileRows.{make_and_open, open_new, opens_as}
+use Rattle.kr_seen.specs.kr_model.Known.{Known, known}
+use Rattle.kr_seen.specs.kr_model.Lawful.{IsLawful}
+use Rattle.kr_seen.specs.kr_model.Reply.{done, refuse}
+use Rattle.kr_seen.specs.kr_model.State as model
+use Rattle.kr_seen.proofs.law_lawful.ChangeLemmas.{changes-keep}
+use Rattle.kr_seen.specs.kr_ops.declared.state.State.{State}
+use Rattle.kr_seen.specs.kr_ops.Meaning.{meaning}
+use Rattle.kr_seen.specs.kr_ops.Opening.{lowest_of}
+use Rattle.kr_seen.specs.kr_ops.Sound.{IsOfView, IsServed, IsSound}
+use Rattle.kr_seen.proofs.kr_ops.UseLemmas.{sound-of}
+use Rattle.kr_seen.specs.Asked.{IsTaking}
 use Rattle.kr_names.proofs.NodeLemmas.{if-true, if-false}
 use Rattle.kr_names.proofs.OpenLemmas.{lowest-living}
 

@@ -2,26 +2,26 @@
 use Rattle.std.proofs.Common.{◌≡◌, ℕ, Bool, true, false, nat_eq, List, [], ◌∷◌, Option, Some, None, refl, sym, ap, subst, ◌∙◌}
 use Rattle.std.specs.Prelude.{◌↔◌, IsTrue}
 use Rattle.std.specs.Option.{option_map, option_map_or}
-use Rattle.kr_targets.specs.pr_base.declared.errno.Errno.TheVariants.{EPERM, ENOENT, ENOSPC}
-use Rattle.kr_targets.specs.kr_tree.Tree.{Body, Directory, RegularFile, SymbolicLink, ProcessDirectory, Inode, Tree, body_is, inode, is_directory, may_be_linked}
-use Rattle.kr_targets.specs.kr_tree.declared.place.Host.{Host}
-use Rattle.kr_targets.specs.kr_tree.declared.place.Host.TheVariants as host
-use Rattle.kr_targets.specs.kr_tree.declared.place.Place.{Place}
-use Rattle.kr_targets.specs.kr_view.InTree.{IsObjectOf}
-use Rattle.kr_targets.specs.kr_view.Leads.{numbered}
-use Rattle.kr_targets.specs.kr_view.View.{Row, is_there}
-use Rattle.kr_targets.specs.kr_view.declared.target.Target.{Target}
-use Rattle.kr_targets.specs.kr_model.Asking.{body_passes, has_no_name_left, writable}
-use Rattle.kr_targets.specs.kr_model.Change.{LinkNode}
-use Rattle.kr_targets.specs.kr_model.Known.{Known}
-use Rattle.kr_targets.specs.kr_model.NameRows.{link_host, link_node}
-use Rattle.kr_targets.specs.kr_model.Reply.{done, refuse}
-use Rattle.kr_targets.specs.kr_model.Seen.{Links, Looked, Made, WalkFails}
-use Rattle.kr_targets.specs.kr_model.State.{Image, State}
-use Rattle.kr_targets.specs.kr_model.Walks.{linked_at, looked_at, made_at, mount_found}
-use Rattle.kr_targets.specs.Asked.{IsTaking}
-use Rattle.kr_targets.specs.Placed.{placed_in}
-use Rattle.kr_targets.specs.Resolved.{IsFoundIn}
+use Rattle.kr_seen.specs.pr_base.declared.errno.Errno.TheVariants.{EPERM, ENOENT, ENOSPC}
+use Rattle.kr_seen.specs.kr_tree.Tree.{Body, Directory, RegularFile, SymbolicLink, ProcessDirectory, Inode, Tree, body_is, inode, is_directory, may_be_linked}
+use Rattle.kr_seen.specs.kr_tree.declared.place.Host.{Host}
+use Rattle.kr_seen.specs.kr_tree.declared.place.Host.TheVariants as host
+use Rattle.kr_seen.specs.kr_tree.declared.place.Place.{Place}
+use Rattle.kr_seen.specs.kr_view.InTree.{IsObjectOf}
+use Rattle.kr_seen.specs.kr_view.Leads.{numbered}
+use Rattle.kr_seen.specs.kr_view.View.{Row, is_there}
+use Rattle.kr_seen.specs.kr_view.declared.target.Target.{Target}
+use Rattle.kr_seen.specs.kr_model.Asking.{body_passes, has_no_name_left, writable}
+use Rattle.kr_seen.specs.kr_model.Change.{LinkNode}
+use Rattle.kr_seen.specs.kr_model.Known.{Known}
+use Rattle.kr_seen.specs.kr_model.NameRows.{link_host, link_node}
+use Rattle.kr_seen.specs.kr_model.Reply.{done, refuse}
+use Rattle.kr_seen.specs.kr_model.Seen.{Links, Looked, Made, WalkFails}
+use Rattle.kr_seen.specs.kr_model.State.{Image, State}
+use Rattle.kr_seen.specs.kr_model.Walks.{linked_at, looked_at, made_at, mount_found}
+use Rattle.kr_seen.specs.Asked.{IsTaking}
+use Rattle.kr_seen.specs.Placed.{placed_in}
+use Rattle.kr_seen.specs.Resolved.{IsFoundIn}
 use Rattle.kr_names.proofs.NodeLemmas.{if-true, if-false}
 
 -- what is there and is no directory may have several names

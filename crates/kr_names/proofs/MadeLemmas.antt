@@ -2,19 +2,19 @@
 use Rattle.std.proofs.Common.{◌≡◌, ℕ, Bool, List, Option, Some, None, refl, sym, subst, ◌∙◌}
 use Rattle.std.specs.Bool.{if◌then◌else◌}
 use Rattle.std.specs.Option.{option_map}
-use Rattle.kr_targets.specs.pr_base.declared.path.Last.{Last}
-use Rattle.kr_targets.specs.pr_base.declared.path.Last.TheVariants as last
-use Rattle.kr_targets.specs.kr_tree.declared.place.Host.{Host}
-use Rattle.kr_targets.specs.kr_tree.declared.place.Place.{Place}
-use Rattle.kr_targets.specs.kr_tree.Tree.{Tree}
-use Rattle.kr_targets.specs.kr_view.declared.target.Target.{Target}
-use Rattle.kr_targets.specs.kr_view.Leads.{numbered}
-use Rattle.kr_targets.specs.kr_view.View.{Row, is_there}
-use Rattle.kr_targets.specs.kr_model.Seen.{MakesNoName, MakesOver, Makes}
-use Rattle.kr_targets.specs.kr_model.State.{Image, State}
-use Rattle.kr_targets.specs.kr_model.Walks.{if_name, made_at}
-use Rattle.kr_targets.specs.Placed.{placed_in}
-use Rattle.kr_targets.specs.Resolved.{IsFreeIn}
+use Rattle.kr_seen.specs.pr_base.declared.path.Last.{Last}
+use Rattle.kr_seen.specs.pr_base.declared.path.Last.TheVariants as last
+use Rattle.kr_seen.specs.kr_tree.declared.place.Host.{Host}
+use Rattle.kr_seen.specs.kr_tree.declared.place.Place.{Place}
+use Rattle.kr_seen.specs.kr_tree.Tree.{Tree}
+use Rattle.kr_seen.specs.kr_view.declared.target.Target.{Target}
+use Rattle.kr_seen.specs.kr_view.Leads.{numbered}
+use Rattle.kr_seen.specs.kr_view.View.{Row, is_there}
+use Rattle.kr_seen.specs.kr_model.Seen.{MakesNoName, MakesOver, Makes}
+use Rattle.kr_seen.specs.kr_model.State.{Image, State}
+use Rattle.kr_seen.specs.kr_model.Walks.{if_name, made_at}
+use Rattle.kr_seen.specs.Placed.{placed_in}
+use Rattle.kr_seen.specs.Resolved.{IsFreeIn}
 use Rattle.kr_names.specs.Adding.{IsFreeName}
 
 -- what a target has where an entry may be made

@@ -4,34 +4,34 @@ use mathlib.Core.Bool.{beq}
 use Rattle.std.specs.Prelude.{◌&&◌, ◌||◌, ◌+◌}
 use Rattle.std.specs.Bool.{if◌then◌else◌}
 use Rattle.std.specs.Option.{option_map, option_map_or}
-use Rattle.kr_targets.specs.pr_base.declared.errno.Errno.{Errno}
-use Rattle.kr_targets.specs.pr_base.declared.errno.Errno.TheVariants.{EPERM, ENOENT, EACCES, EBUSY, ENOTDIR, EISDIR, EINVAL, ENOTEMPTY}
-use Rattle.kr_targets.proofs.kr_inode.NameLemmas.{name_decides}
-use Rattle.kr_targets.proofs.kr_tree.EntryLemmas.{entry_named_well}
-use Rattle.kr_targets.specs.kr_tree.declared.place.Host.{Host}
-use Rattle.kr_targets.specs.kr_tree.declared.place.Host.TheVariants as host
-use Rattle.kr_targets.specs.kr_tree.declared.place.Place.{Place}
-use Rattle.kr_targets.specs.kr_view.Leads.{numbered}
-use Rattle.kr_targets.specs.kr_view.View.{Row}
-use Rattle.kr_targets.specs.kr_view.declared.target.Target.{Target}
-use Rattle.kr_targets.specs.pr_base.declared.path.Last.{Last}
-use Rattle.kr_targets.specs.kr_tree.Lawful.{IsBelow, IsLawfulMove, IsSound}
-use Rattle.kr_targets.specs.kr_tree.Names.{is_name}
-use Rattle.kr_targets.specs.kr_tree.Rights.{is_kept_by_sticky}
-use Rattle.kr_targets.specs.kr_tree.Tree.{Node, Tree, body_is, entry, is_directory, is_filled, takes_names}
-use Rattle.kr_targets.specs.kr_model.Asking.{is_directory_host, is_processes_host, writable}
-use Rattle.kr_targets.specs.kr_model.Change.{MoveName}
-use Rattle.kr_targets.specs.kr_model.Known.{Known, known, known_node}
-use Rattle.kr_targets.specs.kr_model.NameRows.{can_move, is_above_old, is_at_or_above, is_one, move_entry, move_found, move_free, move_onto, move_over, renameat2_row, unless_kept}
-use Rattle.kr_targets.specs.kr_model.Reply.{Replying, done, refuse}
-use Rattle.kr_targets.specs.kr_model.Seen.{Entered, Moves, Taken, Takes, TakesCovered, TakesNoName}
-use Rattle.kr_targets.specs.kr_model.Walks.{taken_at}
-use Rattle.kr_targets.specs.kr_model.State.{Image, State, image_layout}
-use Rattle.kr_targets.specs.Asked.{IsTaking}
-use Rattle.kr_targets.specs.Placed.{placed_in}
-use Rattle.kr_targets.specs.Resolved.{IsFreeIn}
-use Rattle.kr_targets.specs.Told.{entered_told}
-use Rattle.kr_targets.specs.declared.told.Entered.{Entered as EnteredTold}
+use Rattle.kr_seen.specs.pr_base.declared.errno.Errno.{Errno}
+use Rattle.kr_seen.specs.pr_base.declared.errno.Errno.TheVariants.{EPERM, ENOENT, EACCES, EBUSY, ENOTDIR, EISDIR, EINVAL, ENOTEMPTY}
+use Rattle.kr_seen.proofs.kr_inode.NameLemmas.{name_decides}
+use Rattle.kr_seen.proofs.kr_tree.EntryLemmas.{entry_named_well}
+use Rattle.kr_seen.specs.kr_tree.declared.place.Host.{Host}
+use Rattle.kr_seen.specs.kr_tree.declared.place.Host.TheVariants as host
+use Rattle.kr_seen.specs.kr_tree.declared.place.Place.{Place}
+use Rattle.kr_seen.specs.kr_view.Leads.{numbered}
+use Rattle.kr_seen.specs.kr_view.View.{Row}
+use Rattle.kr_seen.specs.kr_view.declared.target.Target.{Target}
+use Rattle.kr_seen.specs.pr_base.declared.path.Last.{Last}
+use Rattle.kr_seen.specs.kr_tree.Lawful.{IsBelow, IsLawfulMove, IsSound}
+use Rattle.kr_seen.specs.kr_tree.Names.{is_name}
+use Rattle.kr_seen.specs.kr_tree.Rights.{is_kept_by_sticky}
+use Rattle.kr_seen.specs.kr_tree.Tree.{Node, Tree, body_is, entry, is_directory, is_filled, takes_names}
+use Rattle.kr_seen.specs.kr_model.Asking.{is_directory_host, is_processes_host, writable}
+use Rattle.kr_seen.specs.kr_model.Change.{MoveName}
+use Rattle.kr_seen.specs.kr_model.Known.{Known, known, known_node}
+use Rattle.kr_seen.specs.kr_model.NameRows.{can_move, is_above_old, is_at_or_above, is_one, move_entry, move_found, move_free, move_onto, move_over, renameat2_row, unless_kept}
+use Rattle.kr_seen.specs.kr_model.Reply.{Replying, done, refuse}
+use Rattle.kr_seen.specs.kr_model.Seen.{Entered, Moves, Taken, Takes, TakesCovered, TakesNoName}
+use Rattle.kr_seen.specs.kr_model.Walks.{taken_at}
+use Rattle.kr_seen.specs.kr_model.State.{Image, State, image_layout}
+use Rattle.kr_seen.specs.Asked.{IsTaking}
+use Rattle.kr_seen.specs.Placed.{placed_in}
+use Rattle.kr_seen.specs.Resolved.{IsFreeIn}
+use Rattle.kr_seen.specs.Told.{entered_told}
+use Rattle.kr_seen.specs.declared.told.Entered.{Entered as EnteredTold}
 use Rattle.kr_names.specs.Adding.{IsFreeName}
 use Rattle.kr_names.specs.Moving.{AnswersOnto, AnswersOver, IsLike}
 use Rattle.kr_names.specs.declared.moving.Moving.{Moving}

@@ -2,12 +2,12 @@
 use Rattle.std.proofs.Common.{◌≡◌, ℕ, Bool, true, false, Option, Some, None, refl, ap, ◌∙◌}
 use Rattle.std.specs.Bool.{if◌then◌else◌}
 use Rattle.std.specs.Option.{option_map, option_map_or}
-use Rattle.kr_targets.specs.kr_inode.Stored.{meta_of}
-use Rattle.kr_targets.specs.kr_inode.declared.node.Meta.{Meta}
-use Rattle.kr_targets.specs.kr_tree.Tree.{Body, Inode, Node, Tree, body_is, inode}
-use Rattle.kr_targets.specs.kr_model.Asking.{body_passes}
-use Rattle.kr_targets.specs.kr_model.Known.{Fact, known, known_node}
-use Rattle.kr_targets.specs.kr_model.State.{Image, State, image_layout}
+use Rattle.kr_seen.specs.kr_inode.Stored.{meta_of}
+use Rattle.kr_seen.specs.kr_inode.declared.node.Meta.{Meta}
+use Rattle.kr_seen.specs.kr_tree.Tree.{Body, Inode, Node, Tree, body_is, inode}
+use Rattle.kr_seen.specs.kr_model.Asking.{body_passes}
+use Rattle.kr_seen.specs.kr_model.Known.{Fact, known, known_node}
+use Rattle.kr_seen.specs.kr_model.State.{Image, State, image_layout}
 
 -- ---- tests
 

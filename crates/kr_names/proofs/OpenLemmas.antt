@@ -4,32 +4,32 @@ use Rattle.std.specs.Prelude.{IsSome}
 use Rattle.std.specs.Bool.{if◌then◌else◌}
 use Rattle.std.specs.Option.{option_map, option_map_or, option_and_then}
 use Rattle.std.proofs.lemmas.Bool.Decides.{nat_tests}
-use Rattle.kr_targets.proofs.pr_base.MapLemmas.{get-changed_same}
-use Rattle.kr_targets.specs.pr_base.declared.errno.Errno.TheVariants.{ENOENT, EACCES, EISDIR, ELOOP, EMFILE, ENOTDIR}
-use Rattle.kr_targets.specs.kr_calls.Arguments.{has}
-use Rattle.kr_targets.specs.kr_tree.Changes.{byte_limit, has_no_room_for, held, with_holds}
-use Rattle.kr_targets.specs.kr_tree.Tree.{Body, Directory, RegularFile, SymbolicLink, ProcessDirectory, Inode, Node, Tree, body_is, inode, is_directory, is_file, may_be_linked}
-use Rattle.kr_targets.specs.kr_tree.Rights.{allows, may}
-use Rattle.kr_targets.specs.kr_inode.declared.user.Right.{Right}
-use Rattle.kr_targets.specs.kr_inode.declared.user.Right.TheVariants.{Read}
-use Rattle.kr_targets.specs.kr_inode.declared.user.User.{User}
-use Rattle.kr_targets.specs.kr_tree.declared.place.Host.{Host}
-use Rattle.kr_targets.specs.kr_tree.declared.place.Host.TheVariants as host
-use Rattle.kr_targets.specs.kr_files.Descriptors.{lowest_free}
-use Rattle.kr_targets.specs.kr_files.declared.opened.Opened.{Opened}
-use Rattle.kr_targets.specs.kr_files.declared.opened.What.TheVariants.{File, Dir}
-use Rattle.kr_targets.specs.kr_model.Applied.{Mounts, applied, held_at, images, in_mount, mount_of}
-use Rattle.kr_targets.specs.kr_model.Change.{Change, MountOf, OfFound, OpenFile}
-use Rattle.kr_targets.specs.kr_model.DescriptorRows.{o_cloexec}
-use Rattle.kr_targets.specs.kr_model.FileRows.{creates, cut_after, has_rights, open_body, open_directory, open_file, open_host, open_under, opens_as, truncates, wants_directory, wants_write}
-use Rattle.kr_targets.specs.kr_model.Known.{Known, caller_of, known, known_node, no_caller}
-use Rattle.kr_targets.specs.kr_model.Seen.{Looked}
+use Rattle.kr_seen.proofs.pr_base.MapLemmas.{get-changed_same}
+use Rattle.kr_seen.specs.pr_base.declared.errno.Errno.TheVariants.{ENOENT, EACCES, EISDIR, ELOOP, EMFILE, ENOTDIR}
+use Rattle.kr_seen.specs.kr_calls.Arguments.{has}
+use Rattle.kr_seen.specs.kr_tree.Changes.{byte_limit, has_no_room_for, held, with_holds}
+use Rattle.kr_seen.specs.kr_tree.Tree.{Body, Directory, RegularFile, SymbolicLink, ProcessDirectory, Inode, Node, Tree, body_is, inode, is_directory, is_file, may_be_linked}
+use Rattle.kr_seen.specs.kr_tree.Rights.{allows, may}
+use Rattle.kr_seen.specs.kr_inode.declared.user.Right.{Right}
+use Rattle.kr_seen.specs.kr_inode.declared.user.Right.TheVariants.{Read}
+use Rattle.kr_seen.specs.kr_inode.declared.user.User.{User}
+use Rattle.kr_seen.specs.kr_tree.declared.place.Host.{Host}
+use Rattle.kr_seen.specs.kr_tree.declared.place.Host.TheVariants as host
+use Rattle.kr_seen.specs.kr_files.Descriptors.{lowest_free}
+use Rattle.kr_seen.specs.kr_files.declared.opened.Opened.{Opened}
+use Rattle.kr_seen.specs.kr_files.declared.opened.What.TheVariants.{File, Dir}
+use Rattle.kr_seen.specs.kr_model.Applied.{Mounts, applied, held_at, images, in_mount, mount_of}
+use Rattle.kr_seen.specs.kr_model.Change.{Change, MountOf, OfFound, OpenFile}
+use Rattle.kr_seen.specs.kr_model.DescriptorRows.{o_cloexec}
+use Rattle.kr_seen.specs.kr_model.FileRows.{creates, cut_after, has_rights, open_body, open_directory, open_file, open_host, open_under, opens_as, truncates, wants_directory, wants_write}
+use Rattle.kr_seen.specs.kr_model.Known.{Known, caller_of, known, known_node, no_caller}
+use Rattle.kr_seen.specs.kr_model.Seen.{Looked}
 use Rattle.kr_names.specs.Opening.{entry_dir, entry_name}
-use Rattle.kr_targets.specs.kr_model.Reply.{Replying, done, refuse}
-use Rattle.kr_targets.specs.kr_model.State as model
-use Rattle.kr_targets.specs.kr_ops.declared.state.State.{State}
-use Rattle.kr_targets.specs.kr_ops.Meaning.{meaning}
-use Rattle.kr_targets.specs.kr_ops.Opening.{lowest_of, Opens}
+use Rattle.kr_seen.specs.kr_model.Reply.{Replying, done, refuse}
+use Rattle.kr_seen.specs.kr_model.State as model
+use Rattle.kr_seen.specs.kr_ops.declared.state.State.{State}
+use Rattle.kr_seen.specs.kr_ops.Meaning.{meaning}
+use Rattle.kr_seen.specs.kr_ops.Opening.{lowest_of, Opens}
 use Rattle.kr_names.proofs.NodeLemmas.{if-true, if-false}
 
 -- ---- descriptors

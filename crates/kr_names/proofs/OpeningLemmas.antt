@@ -2,22 +2,22 @@
 use Rattle.std.proofs.Common.{◌≡◌, ℕ, Bool, true, false, List, Option, Some, None, refl, sym, ap, subst, ◌∙◌}
 use Rattle.std.specs.Bool.{if◌then◌else◌}
 use Rattle.std.specs.Option.{option_map, option_map_or}
-use Rattle.kr_targets.specs.pr_base.declared.errno.Errno.TheVariants.{ENOENT}
-use Rattle.kr_targets.specs.pr_base.declared.path.Last.{Last}
-use Rattle.kr_targets.specs.pr_base.declared.path.Last.TheVariants as last
-use Rattle.kr_targets.specs.kr_tree.declared.place.Host.{Host}
-use Rattle.kr_targets.specs.kr_tree.declared.place.Place.{Place}
-use Rattle.kr_targets.specs.kr_tree.Tree.{Tree}
-use Rattle.kr_targets.specs.kr_view.declared.target.Target.{Target}
-use Rattle.kr_targets.specs.kr_view.InTree.{IsObjectOf}
-use Rattle.kr_targets.specs.kr_view.Leads.{numbered}
-use Rattle.kr_targets.specs.kr_view.View.{Row}
-use Rattle.kr_targets.specs.kr_model.FileRows.{creates}
-use Rattle.kr_targets.specs.kr_model.Seen.{Looked, OpensFound, OpensNew, OpensNoName, OpensSlashed, Seen, Opens, WalkFails}
-use Rattle.kr_targets.specs.kr_model.State.{Image, State}
-use Rattle.kr_targets.specs.kr_model.Walks.{if_name, looked_at, opened_at}
-use Rattle.kr_targets.specs.Placed.{placed_in}
-use Rattle.kr_targets.specs.Resolved.{IsFoundIn, IsFreeIn}
+use Rattle.kr_seen.specs.pr_base.declared.errno.Errno.TheVariants.{ENOENT}
+use Rattle.kr_seen.specs.pr_base.declared.path.Last.{Last}
+use Rattle.kr_seen.specs.pr_base.declared.path.Last.TheVariants as last
+use Rattle.kr_seen.specs.kr_tree.declared.place.Host.{Host}
+use Rattle.kr_seen.specs.kr_tree.declared.place.Place.{Place}
+use Rattle.kr_seen.specs.kr_tree.Tree.{Tree}
+use Rattle.kr_seen.specs.kr_view.declared.target.Target.{Target}
+use Rattle.kr_seen.specs.kr_view.InTree.{IsObjectOf}
+use Rattle.kr_seen.specs.kr_view.Leads.{numbered}
+use Rattle.kr_seen.specs.kr_view.View.{Row}
+use Rattle.kr_seen.specs.kr_model.FileRows.{creates}
+use Rattle.kr_seen.specs.kr_model.Seen.{Looked, OpensFound, OpensNew, OpensNoName, OpensSlashed, Seen, Opens, WalkFails}
+use Rattle.kr_seen.specs.kr_model.State.{Image, State}
+use Rattle.kr_seen.specs.kr_model.Walks.{if_name, looked_at, opened_at}
+use Rattle.kr_seen.specs.Placed.{placed_in}
+use Rattle.kr_seen.specs.Resolved.{IsFoundIn, IsFreeIn}
 use Rattle.kr_names.specs.Adding.{IsFreeName}
 use Rattle.kr_names.proofs.MadeLemmas.{none-before}
 

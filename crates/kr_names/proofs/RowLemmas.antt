@@ -1,13 +1,13 @@
 -- One row in place of another.
 use Rattle.std.proofs.Common.{◌≡◌, ℕ, sym, ap, ◌∙◌}
-use Rattle.kr_targets.specs.kr_model.Applied.{Mounts}
-use Rattle.kr_targets.specs.kr_model.Known.{Known, known}
-use Rattle.kr_targets.specs.kr_model.Reply.{Replying}
-use Rattle.kr_targets.specs.kr_model.State as model
-use Rattle.kr_targets.specs.kr_model.declared.outcome.Outcome.{Outcome}
-use Rattle.kr_targets.specs.kr_ops.declared.state.State.{State}
-use Rattle.kr_targets.specs.kr_ops.Meaning.{meaning}
-use Rattle.kr_targets.specs.kr_seen.Carrying.{IsCarriedOut, after_row, carried}
+use Rattle.kr_seen.specs.kr_model.Applied.{Mounts}
+use Rattle.kr_seen.specs.kr_model.Known.{Known, known}
+use Rattle.kr_seen.specs.kr_model.Reply.{Replying}
+use Rattle.kr_seen.specs.kr_model.State as model
+use Rattle.kr_seen.specs.kr_model.declared.outcome.Outcome.{Outcome}
+use Rattle.kr_seen.specs.kr_ops.declared.state.State.{State}
+use Rattle.kr_seen.specs.kr_ops.Meaning.{meaning}
+use Rattle.kr_seen.specs.Carrying.{IsCarriedOut, after_row, carried}
 
 pub by-row : {T : Type 0} {M : ℕ} (mounts : Mounts T) (pid : ℕ) (row other : Known → Replying) (old new : State T M) (result : Outcome)
     → row (known model.image_layout pid (meaning old)) ≡ other (known model.image_layout pid (meaning old)) → IsCarriedOut mounts pid other old new result → IsCarriedOut mounts pid row old new result

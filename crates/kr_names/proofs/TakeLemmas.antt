@@ -2,32 +2,32 @@
 use Rattle.std.proofs.Common.{◌≡◌, ℕ, Bool, true, false, not, List, [], ◌∷◌, Option, Some, None, refl, sym, ap, subst, ◌∙◌}
 use Rattle.std.specs.Bool.{if◌then◌else◌}
 use Rattle.std.specs.Option.{option_map, option_map_or, IfSome}
-use Rattle.kr_targets.specs.pr_base.declared.errno.Errno.{Errno}
-use Rattle.kr_targets.specs.pr_base.declared.errno.Errno.TheVariants.{EPERM, ENOENT, EACCES, EBUSY, ENOTDIR, EISDIR, ENOTEMPTY}
-use Rattle.kr_targets.specs.pr_base.declared.path.Last.{Last}
-use Rattle.kr_targets.specs.pr_base.declared.path.Last.TheVariants as last
-use Rattle.kr_targets.specs.kr_tree.declared.place.Host.{Host}
-use Rattle.kr_targets.specs.kr_tree.declared.place.Host.TheVariants as host
-use Rattle.kr_targets.specs.kr_tree.declared.place.ProcAt.{ProcAt}
-use Rattle.kr_targets.specs.kr_tree.Rights.{is_kept_by_sticky}
-use Rattle.kr_targets.specs.kr_tree.Tree.{Body, Directory, RegularFile, SymbolicLink, ProcessDirectory, Inode, Node, Tree, body_is, entry, inode, is_directory, is_filled, takes_names}
-use Rattle.kr_targets.specs.kr_tree.declared.place.Place.{Place}
-use Rattle.kr_targets.specs.kr_view.declared.target.Target.{Target}
-use Rattle.kr_targets.specs.kr_view.Leads.{numbered}
-use Rattle.kr_targets.specs.kr_view.View.{Row, covered}
-use Rattle.kr_targets.specs.kr_model.Asking.{is_directory_host, is_processes_host, writable}
-use Rattle.kr_targets.specs.kr_model.Change.{RemoveName}
-use Rattle.kr_targets.specs.kr_model.Known.{Known, known}
-use Rattle.kr_targets.specs.kr_model.NameRows.{remove_directory, remove_file, rmdir_found, take_entry, unless_kept, unlink_found}
-use Rattle.kr_targets.specs.kr_model.Reply.{Replying, done, refuse}
-use Rattle.kr_targets.specs.kr_model.Seen.{Entered, Takes, TakesCovered, TakesNoName}
-use Rattle.kr_targets.specs.kr_model.State.{Image, State, image_layout}
-use Rattle.kr_targets.specs.kr_model.Walks.{entered, if_name, is_covered, taken_at}
-use Rattle.kr_targets.specs.Asked.{IsTaking}
-use Rattle.kr_targets.specs.Placed.{placed_in}
-use Rattle.kr_targets.specs.Resolved.{IsEntryIn}
-use Rattle.kr_targets.specs.Told.{entered_told}
-use Rattle.kr_targets.specs.declared.told.Entered.{Entered as EnteredTold}
+use Rattle.kr_seen.specs.pr_base.declared.errno.Errno.{Errno}
+use Rattle.kr_seen.specs.pr_base.declared.errno.Errno.TheVariants.{EPERM, ENOENT, EACCES, EBUSY, ENOTDIR, EISDIR, ENOTEMPTY}
+use Rattle.kr_seen.specs.pr_base.declared.path.Last.{Last}
+use Rattle.kr_seen.specs.pr_base.declared.path.Last.TheVariants as last
+use Rattle.kr_seen.specs.kr_tree.declared.place.Host.{Host}
+use Rattle.kr_seen.specs.kr_tree.declared.place.Host.TheVariants as host
+use Rattle.kr_seen.specs.kr_tree.declared.place.ProcAt.{ProcAt}
+use Rattle.kr_seen.specs.kr_tree.Rights.{is_kept_by_sticky}
+use Rattle.kr_seen.specs.kr_tree.Tree.{Body, Directory, RegularFile, SymbolicLink, ProcessDirectory, Inode, Node, Tree, body_is, entry, inode, is_directory, is_filled, takes_names}
+use Rattle.kr_seen.specs.kr_tree.declared.place.Place.{Place}
+use Rattle.kr_seen.specs.kr_view.declared.target.Target.{Target}
+use Rattle.kr_seen.specs.kr_view.Leads.{numbered}
+use Rattle.kr_seen.specs.kr_view.View.{Row, covered}
+use Rattle.kr_seen.specs.kr_model.Asking.{is_directory_host, is_processes_host, writable}
+use Rattle.kr_seen.specs.kr_model.Change.{RemoveName}
+use Rattle.kr_seen.specs.kr_model.Known.{Known, known}
+use Rattle.kr_seen.specs.kr_model.NameRows.{remove_directory, remove_file, rmdir_found, take_entry, unless_kept, unlink_found}
+use Rattle.kr_seen.specs.kr_model.Reply.{Replying, done, refuse}
+use Rattle.kr_seen.specs.kr_model.Seen.{Entered, Takes, TakesCovered, TakesNoName}
+use Rattle.kr_seen.specs.kr_model.State.{Image, State, image_layout}
+use Rattle.kr_seen.specs.kr_model.Walks.{entered, if_name, is_covered, taken_at}
+use Rattle.kr_seen.specs.Asked.{IsTaking}
+use Rattle.kr_seen.specs.Placed.{placed_in}
+use Rattle.kr_seen.specs.Resolved.{IsEntryIn}
+use Rattle.kr_seen.specs.Told.{entered_told}
+use Rattle.kr_seen.specs.declared.told.Entered.{Entered as EnteredTold}
 use Rattle.kr_names.specs.Taking.{IsEntryOf}
 use Rattle.kr_names.proofs.NodeLemmas.{if-true, if-false, node-known, node-unknown}
 

@@ -1,14 +1,14 @@
 -- Entries that are moved.
 use Rattle.std.specs.Prelude.{ℕ, ◌≡◌, false, [], ◌∷◌, Option, Some, Result, Ok, Err}
-use Rattle.kr_targets.specs.pr_base.declared.errno.Errno.{Errno}
-use Rattle.kr_targets.specs.kr_tree.declared.place.Host.{Host}
-use Rattle.kr_targets.specs.kr_tree.declared.place.Host.TheVariants as host
-use Rattle.kr_targets.specs.kr_tree.Tree.{Node, Tree, body_is, is_directory, is_filled}
-use Rattle.kr_targets.specs.kr_model.Change.{MoveName}
-use Rattle.kr_targets.specs.kr_model.Known.{Known, known_node}
-use Rattle.kr_targets.specs.kr_model.NameRows.{move_entry, move_onto, move_over}
-use Rattle.kr_targets.specs.kr_model.Reply.{done, refuse}
-use Rattle.kr_targets.specs.kr_model.Seen.{Entered}
+use Rattle.kr_seen.specs.pr_base.declared.errno.Errno.{Errno}
+use Rattle.kr_seen.specs.kr_tree.declared.place.Host.{Host}
+use Rattle.kr_seen.specs.kr_tree.declared.place.Host.TheVariants as host
+use Rattle.kr_seen.specs.kr_tree.Tree.{Node, Tree, body_is, is_directory, is_filled}
+use Rattle.kr_seen.specs.kr_model.Change.{MoveName}
+use Rattle.kr_seen.specs.kr_model.Known.{Known, known_node}
+use Rattle.kr_seen.specs.kr_model.NameRows.{move_entry, move_onto, move_over}
+use Rattle.kr_seen.specs.kr_model.Reply.{done, refuse}
+use Rattle.kr_seen.specs.kr_model.Seen.{Entered}
 use Rattle.kr_names.specs.declared.moving.Moving.{Moving}
 
 -- an entry whose directory and whose new directory may be written: what follows is told the nodes of the three

@@ -1,8 +1,8 @@
 -- What an opening remembers of an entry, and room that is left.
 use Rattle.std.specs.Prelude.{ℕ, ◌≤◌, List, [], Option}
 use Rattle.std.specs.Option.{option_map_or}
-use Rattle.kr_targets.specs.kr_tree.Changes.{byte_limit}
-use Rattle.kr_targets.specs.kr_tree.Tree.{Tree}
+use Rattle.kr_seen.specs.kr_tree.Changes.{byte_limit}
+use Rattle.kr_seen.specs.kr_tree.Tree.{Tree}
 
 -- the directory of an entry, 0 where there is none
 abbrev pub entry_dir : Option (ℕ × List ℕ) → ℕ

@@ -1,14 +1,14 @@
 -- Entries that are taken away.
 use Rattle.std.specs.Prelude.{ℕ, ◌≡◌, true, Some, Result, Ok, Err}
-use Rattle.kr_targets.specs.pr_base.declared.errno.Errno.{Errno}
-use Rattle.kr_targets.specs.kr_tree.declared.place.Host.{Host}
-use Rattle.kr_targets.specs.kr_tree.declared.place.Host.TheVariants as host
-use Rattle.kr_targets.specs.kr_tree.Tree.{Node, Tree, body_is, entry, takes_names}
-use Rattle.kr_targets.specs.kr_model.Known.{Known, known_node}
-use Rattle.kr_targets.specs.kr_model.NameRows.{take_entry}
-use Rattle.kr_targets.specs.kr_model.Reply.{Replying, refuse}
-use Rattle.kr_targets.specs.kr_model.Seen.{Entered}
-use Rattle.kr_targets.specs.declared.told.Entered.{Entered as EnteredTold}
+use Rattle.kr_seen.specs.pr_base.declared.errno.Errno.{Errno}
+use Rattle.kr_seen.specs.kr_tree.declared.place.Host.{Host}
+use Rattle.kr_seen.specs.kr_tree.declared.place.Host.TheVariants as host
+use Rattle.kr_seen.specs.kr_tree.Tree.{Node, Tree, body_is, entry, takes_names}
+use Rattle.kr_seen.specs.kr_model.Known.{Known, known_node}
+use Rattle.kr_seen.specs.kr_model.NameRows.{take_entry}
+use Rattle.kr_seen.specs.kr_model.Reply.{Replying, refuse}
+use Rattle.kr_seen.specs.kr_model.Seen.{Entered}
+use Rattle.kr_seen.specs.declared.told.Entered.{Entered as EnteredTold}
 use Rattle.kr_names.specs.declared.removing.Takable.{Takable}
 
 -- what was found is the entry of the name in a directory that takes names

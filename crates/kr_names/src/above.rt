@@ -1,12 +1,12 @@
 //! What stands above what.
 ghost use Rattle.std.specs.Prelude.{◌≡◌, ◌+◌, ◌<◌, ◌^◌, ℕ};
-ghost use Rattle.kr_targets.specs.kr_model.Asking.{same_at, same_host};
-ghost use Rattle.kr_targets.specs.kr_model.Known.{known};
-ghost use Rattle.kr_targets.specs.kr_model.NameRows.{host_above, is_above_old, is_at_or_above, is_one};
-ghost use Rattle.kr_targets.specs.kr_model.State.{image_layout};
-ghost use Rattle.kr_targets.specs.kr_ops.Meaning.{meaning};
+ghost use Rattle.kr_seen.specs.kr_model.Asking.{same_at, same_host};
+ghost use Rattle.kr_seen.specs.kr_model.Known.{known};
+ghost use Rattle.kr_seen.specs.kr_model.NameRows.{host_above, is_above_old, is_at_or_above, is_one};
+ghost use Rattle.kr_seen.specs.kr_model.State.{image_layout};
+ghost use Rattle.kr_seen.specs.kr_ops.Meaning.{meaning};
 
-use kr_targets::below::{Host, ProcAt, ROOT, State};
+use kr_seen::below::{Host, ProcAt, ROOT, State};
 
 /// Whether two objects of the process directory are one.
 fn same_at(a: ProcAt, b: ProcAt) -> bool

@@ -1,19 +1,19 @@
 //! New nodes under names of directories.
 ghost use Rattle.std.specs.Prelude.{◌≡◌, ◌≢◌, ◌+◌, ◌<◌, ◌^◌, ℕ, false, IsSome};
-ghost use Rattle.kr_targets.specs.kr_inode.Stored.{body_of_new};
-ghost use Rattle.kr_targets.specs.kr_tree.Changes.{is_too_big, next_serial};
-ghost use Rattle.kr_targets.specs.kr_model.Applied.{Mounts};
-ghost use Rattle.kr_targets.specs.kr_model.Asking.{unmasked, writable};
-ghost use Rattle.kr_targets.specs.kr_model.Known.{known};
-ghost use Rattle.kr_targets.specs.kr_model.State.{image_layout, inode_of as host_inode, process};
-ghost use Rattle.kr_targets.specs.kr_model.declared.outcome.Outcome.TheVariants.{NoMemory as WantOfMemory};
-ghost use Rattle.kr_targets.specs.kr_ops.Meaning.{meaning};
-ghost use Rattle.kr_targets.specs.kr_ops.Sound.{IsServed, IsSound};
-ghost use Rattle.kr_targets.specs.kr_seen.Carrying.{CarriesOut};
+ghost use Rattle.kr_seen.specs.kr_inode.Stored.{body_of_new};
+ghost use Rattle.kr_seen.specs.kr_tree.Changes.{is_too_big, next_serial};
+ghost use Rattle.kr_seen.specs.kr_model.Applied.{Mounts};
+ghost use Rattle.kr_seen.specs.kr_model.Asking.{unmasked, writable};
+ghost use Rattle.kr_seen.specs.kr_model.Known.{known};
+ghost use Rattle.kr_seen.specs.kr_model.State.{image_layout, inode_of as host_inode, process};
+ghost use Rattle.kr_seen.specs.kr_model.declared.outcome.Outcome.TheVariants.{NoMemory as WantOfMemory};
+ghost use Rattle.kr_seen.specs.kr_ops.Meaning.{meaning};
+ghost use Rattle.kr_seen.specs.kr_ops.Sound.{IsServed, IsSound};
+ghost use Rattle.kr_seen.specs.Carrying.{CarriesOut};
 ghost use Rattle.kr_names.specs.Adding.{adding, IsFreeName};
 
-use kr_targets::below::{Errno, Host, Meta, Node, Outcome, State, TreeRefusal, number, refused};
-use kr_targets::writable;
+use kr_seen::below::{Errno, Host, Meta, Node, Outcome, State, TreeRefusal};
+use kr_seen::{number, refused, writable};
 
 /// The bits of a mode that there are.
 const MODE_BITS: u16 = 0o7777;

@@ -1,24 +1,24 @@
 //! Opening what isn't there.
 ghost use Rattle.std.specs.Prelude.{◌≡◌, ◌≢◌, ◌+◌, ◌<◌, ◌^◌, ℕ, Some, IsSome};
-ghost use Rattle.kr_targets.specs.kr_tree.Changes.{next_serial};
-ghost use Rattle.kr_targets.specs.kr_tree.Lawful.{AreBytes};
-ghost use Rattle.kr_targets.specs.kr_model.Applied.{Mounts};
-ghost use Rattle.kr_targets.specs.kr_model.FileRows.{open_new};
-ghost use Rattle.kr_targets.specs.kr_model.State.{inode_of as host_inode, process};
-ghost use Rattle.kr_targets.specs.kr_model.declared.outcome.Outcome.TheVariants.{NoMemory as WantOfMemory};
-ghost use Rattle.kr_targets.specs.kr_ops.Meaning.{meaning};
-ghost use Rattle.kr_targets.specs.kr_ops.Sound.{IsOfView, IsServed, IsSound};
-ghost use Rattle.kr_targets.specs.kr_seen.Carrying.{CarriesOut};
+ghost use Rattle.kr_seen.specs.kr_tree.Changes.{next_serial};
+ghost use Rattle.kr_seen.specs.kr_tree.Lawful.{AreBytes};
+ghost use Rattle.kr_seen.specs.kr_model.Applied.{Mounts};
+ghost use Rattle.kr_seen.specs.kr_model.FileRows.{open_new};
+ghost use Rattle.kr_seen.specs.kr_model.State.{inode_of as host_inode, process};
+ghost use Rattle.kr_seen.specs.kr_model.declared.outcome.Outcome.TheVariants.{NoMemory as WantOfMemory};
+ghost use Rattle.kr_seen.specs.kr_ops.Meaning.{meaning};
+ghost use Rattle.kr_seen.specs.kr_ops.Sound.{IsOfView, IsServed, IsSound};
+ghost use Rattle.kr_seen.specs.Carrying.{CarriesOut};
 ghost use Rattle.kr_names.specs.Adding.{IsFreeName};
 
 use crate::adding::unmasked;
 use crate::flags::closes_on_exec;
 use crate::found::opened_as;
-use kr_targets::below::{
+use kr_seen::below::{
     Bytes, Errno, FilesRefusal, Host, Meta, NoMemory, Node, Outcome, Place, State, TreeRefusal,
-    What, number, refused,
+    What,
 };
-use kr_targets::writable;
+use kr_seen::{number, refused, writable};
 use std::alloc::Global;
 
 /// That bytes are below 256, which a proof is told of a slice alone.

@@ -1,12 +1,12 @@
 //! Flags of openat(2).
 ghost use Rattle.std.specs.Prelude.{◌≡◌, ◌||◌, ◌&&◌};
-ghost use Rattle.kr_targets.specs.kr_calls.Arguments.{has};
-ghost use Rattle.kr_targets.specs.kr_model.DescriptorRows.{o_append, o_cloexec};
-ghost use Rattle.kr_targets.specs.kr_model.FileRows.{creates, excludes, truncates, wants_directory, wants_read, wants_write};
+ghost use Rattle.kr_seen.specs.kr_calls.Arguments.{has};
+ghost use Rattle.kr_seen.specs.kr_model.DescriptorRows.{o_append, o_cloexec};
+ghost use Rattle.kr_seen.specs.kr_model.FileRows.{creates, excludes, truncates, wants_directory, wants_read, wants_write};
 
 use bitflags::Flags;
-use kr_targets::below::OpenFlags;
-use kr_targets::creates;
+use kr_seen::below::OpenFlags;
+use kr_seen::creates;
 
 /// O_EXCL.
 pub(crate) fn excludes(flags: u32) -> bool

@@ -1,34 +1,34 @@
 //! Opening what is there.
 ghost use Rattle.std.specs.Prelude.{◌≡◌, ◌≢◌, ◌+◌, ◌<◌, ◌^◌, ◌&&◌, ◌||◌, ℕ, false, true, Some, IsSome, IfOk};
 ghost use Rattle.std.specs.Option.{option_map, option_map_or};
-ghost use Rattle.kr_targets.specs.kr_inode.Inode.{Node as NodeWord};
-ghost use Rattle.kr_targets.specs.kr_tree.Changes.{byte_limit};
-ghost use Rattle.kr_targets.specs.kr_tree.Rights.{allows};
-ghost use Rattle.kr_targets.specs.kr_tree.Tree.{body_is, inode, is_file};
-ghost use Rattle.kr_targets.specs.kr_tree.declared.place.Host.TheVariants.{Node};
-ghost use Rattle.kr_targets.specs.kr_view.Component.{is_process_directory};
-ghost use Rattle.kr_targets.specs.kr_view.InTree.{IsObjectOf};
-ghost use Rattle.kr_targets.specs.kr_files.declared.opened.Opened.{Opened as OpenedWord};
-ghost use Rattle.kr_targets.specs.kr_model.Applied.{Mounts, in_mount};
-ghost use Rattle.kr_targets.specs.kr_model.FileRows.{has_rights, open_directory, open_file, open_found, open_host, opens_as};
-ghost use Rattle.kr_targets.specs.kr_model.Known.{known, known_node};
-ghost use Rattle.kr_targets.specs.kr_model.State.{image_layout, inode_of as host_inode, process};
-ghost use Rattle.kr_targets.specs.kr_model.declared.outcome.Outcome.TheVariants.{NoMemory as WantOfMemory};
-ghost use Rattle.kr_targets.specs.kr_ops.Meaning.{meaning};
-ghost use Rattle.kr_targets.specs.kr_ops.Sound.{IsServed, IsSound};
-ghost use Rattle.kr_targets.specs.kr_seen.Carrying.{CarriesOut};
-ghost use Rattle.kr_targets.specs.Told.{entry_told, looked_told};
+ghost use Rattle.kr_seen.specs.kr_inode.Inode.{Node as NodeWord};
+ghost use Rattle.kr_seen.specs.kr_tree.Changes.{byte_limit};
+ghost use Rattle.kr_seen.specs.kr_tree.Rights.{allows};
+ghost use Rattle.kr_seen.specs.kr_tree.Tree.{body_is, inode, is_file};
+ghost use Rattle.kr_seen.specs.kr_tree.declared.place.Host.TheVariants.{Node};
+ghost use Rattle.kr_seen.specs.kr_view.Component.{is_process_directory};
+ghost use Rattle.kr_seen.specs.kr_view.InTree.{IsObjectOf};
+ghost use Rattle.kr_seen.specs.kr_files.declared.opened.Opened.{Opened as OpenedWord};
+ghost use Rattle.kr_seen.specs.kr_model.Applied.{Mounts, in_mount};
+ghost use Rattle.kr_seen.specs.kr_model.FileRows.{has_rights, open_directory, open_file, open_found, open_host, opens_as};
+ghost use Rattle.kr_seen.specs.kr_model.Known.{known, known_node};
+ghost use Rattle.kr_seen.specs.kr_model.State.{image_layout, inode_of as host_inode, process};
+ghost use Rattle.kr_seen.specs.kr_model.declared.outcome.Outcome.TheVariants.{NoMemory as WantOfMemory};
+ghost use Rattle.kr_seen.specs.kr_ops.Meaning.{meaning};
+ghost use Rattle.kr_seen.specs.kr_ops.Sound.{IsServed, IsSound};
+ghost use Rattle.kr_seen.specs.Carrying.{CarriesOut};
+ghost use Rattle.kr_seen.specs.Told.{entry_told, looked_told};
 ghost use Rattle.kr_names.specs.Opening.{entry_dir, entry_name, HasRoomLeft};
 
 use crate::flags::{
     appends, changes, closes_on_exec, makes_anew, truncates, wants_directory, wants_read,
     wants_write,
 };
-use kr_targets::below::{
+use kr_seen::below::{
     Bytes, Errno, FilesRefusal, Host, Ino, Kind, NoMemory, Opened, Outcome, Place, ProcAt, Right,
-    State, TreeRefusal, What, number, refused,
+    State, TreeRefusal, What,
 };
-use kr_targets::{Entry, Looked};
+use kr_seen::{Entry, Looked, number, refused};
 use std::alloc::Global;
 
 /// An open file at its front.

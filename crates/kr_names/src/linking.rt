@@ -1,27 +1,25 @@
 //! Other names of what is there.
 ghost use Rattle.std.specs.Prelude.{◌≡◌, ◌≢◌, ◌+◌, ◌<◌, ◌^◌, ◌↔◌, ℕ, true, None, IsTrue, IsErrOf, OnOk, OnErr};
-ghost use Rattle.kr_targets.specs.kr_tree.Names.{is_name};
-ghost use Rattle.kr_targets.specs.kr_tree.Tree.{body_is, entry, may_be_linked, takes_names};
-ghost use Rattle.kr_targets.specs.kr_model.Change.{LinkNode};
-ghost use Rattle.kr_targets.specs.kr_ops.Making.{Makes};
-ghost use Rattle.kr_targets.specs.kr_tree.Changes.{has_no_name_left, next_serial};
-ghost use Rattle.kr_targets.specs.kr_view.InTree.{IsObjectOf};
-ghost use Rattle.kr_targets.specs.kr_model.Applied.{Mounts};
-ghost use Rattle.kr_targets.specs.kr_model.NameRows.{link_host};
-ghost use Rattle.kr_targets.specs.kr_model.Operation.{linked as if_linked};
-ghost use Rattle.kr_targets.specs.kr_model.State.{inode_of as host_inode};
-ghost use Rattle.kr_targets.specs.kr_model.declared.outcome.Outcome.TheVariants.{NoMemory as WantOfMemory};
-ghost use Rattle.kr_targets.specs.kr_ops.Meaning.{meaning};
-ghost use Rattle.kr_targets.specs.kr_ops.Sound.{IsServed, IsSound};
-ghost use Rattle.kr_targets.specs.kr_seen.Carrying.{CarriesOut};
-ghost use Rattle.kr_targets.specs.Performing.{PerformsAt, seen_linked};
-ghost use Rattle.kr_targets.specs.Resolved.{IsFoundIn, IsFreeIn};
+ghost use Rattle.kr_seen.specs.kr_tree.Names.{is_name};
+ghost use Rattle.kr_seen.specs.kr_tree.Tree.{body_is, entry, may_be_linked, takes_names};
+ghost use Rattle.kr_seen.specs.kr_model.Change.{LinkNode};
+ghost use Rattle.kr_seen.specs.kr_ops.Making.{Makes};
+ghost use Rattle.kr_seen.specs.kr_tree.Changes.{has_no_name_left, next_serial};
+ghost use Rattle.kr_seen.specs.kr_view.InTree.{IsObjectOf};
+ghost use Rattle.kr_seen.specs.kr_model.Applied.{Mounts};
+ghost use Rattle.kr_seen.specs.kr_model.NameRows.{link_host};
+ghost use Rattle.kr_seen.specs.kr_model.Operation.{linked as if_linked};
+ghost use Rattle.kr_seen.specs.kr_model.State.{inode_of as host_inode};
+ghost use Rattle.kr_seen.specs.kr_model.declared.outcome.Outcome.TheVariants.{NoMemory as WantOfMemory};
+ghost use Rattle.kr_seen.specs.kr_ops.Meaning.{meaning};
+ghost use Rattle.kr_seen.specs.kr_ops.Sound.{IsServed, IsSound};
+ghost use Rattle.kr_seen.specs.Carrying.{CarriesOut};
+ghost use Rattle.kr_seen.specs.Performing.{PerformsAt, seen_linked};
+ghost use Rattle.kr_seen.specs.Resolved.{IsFoundIn, IsFreeIn};
 ghost use Rattle.kr_names.specs.Adding.{IsFreeName};
 
-use kr_targets::below::{
-    Errno, Host, Ino, Outcome, Places, State, Target, TreeRefusal, number, refused,
-};
-use kr_targets::{Made, linked, writable};
+use kr_seen::below::{Errno, Host, Ino, Outcome, Places, State, Target, TreeRefusal};
+use kr_seen::{Made, linked, number, refused, writable};
 
 /// Puts another name of a file or a link into a directory. It makes no file bigger.
 fn link_node<T: Copy, const M: u8>(

@@ -1,18 +1,18 @@
 //! Calls that make directories and links.
 ghost use Rattle.std.specs.Prelude.{◌≡◌, ◌≢◌, ◌+◌, ◌<◌, ◌^◌, ℕ, List, IsSome};
-ghost use Rattle.kr_targets.specs.kr_tree.Changes.{next_serial};
-ghost use Rattle.kr_targets.specs.kr_view.View.{Row};
-ghost use Rattle.kr_targets.specs.kr_model.NameRows.{mkdirat_row, symlinkat_row};
-ghost use Rattle.kr_targets.specs.kr_model.State.{inode_of as host_inode, process};
-ghost use Rattle.kr_targets.specs.kr_model.declared.outcome.Outcome.TheVariants.{NoMemory as WantOfMemory};
-ghost use Rattle.kr_targets.specs.kr_ops.Meaning.{meaning};
-ghost use Rattle.kr_targets.specs.kr_ops.Sound.{IsServed, IsSound};
-ghost use Rattle.kr_targets.specs.Performing.{PerformsAt, seen_made};
-ghost use Rattle.kr_targets.specs.Resolved.{IsFreeIn};
+ghost use Rattle.kr_seen.specs.kr_tree.Changes.{next_serial};
+ghost use Rattle.kr_seen.specs.kr_view.View.{Row};
+ghost use Rattle.kr_seen.specs.kr_model.NameRows.{mkdirat_row, symlinkat_row};
+ghost use Rattle.kr_seen.specs.kr_model.State.{inode_of as host_inode, process};
+ghost use Rattle.kr_seen.specs.kr_model.declared.outcome.Outcome.TheVariants.{NoMemory as WantOfMemory};
+ghost use Rattle.kr_seen.specs.kr_ops.Meaning.{meaning};
+ghost use Rattle.kr_seen.specs.kr_ops.Sound.{IsServed, IsSound};
+ghost use Rattle.kr_seen.specs.Performing.{PerformsAt, seen_made};
+ghost use Rattle.kr_seen.specs.Resolved.{IsFreeIn};
 
 use crate::adding::{add_named, unmasked};
-use kr_targets::below::{Bytes, Errno, Node, Outcome, State, Target, refused};
-use kr_targets::{Made, made};
+use kr_seen::below::{Bytes, Errno, Node, Outcome, State, Target};
+use kr_seen::{Made, made, refused};
 
 /// The bits of a mode that mkdirat(2) takes.
 const DIRECTORY_BITS: u32 = 0o1777;

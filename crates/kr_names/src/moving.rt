@@ -1,33 +1,35 @@
 //! Names that move.
 ghost use Rattle.std.specs.Prelude.{◌≡◌, ◌≢◌, ◌+◌, ◌<◌, ◌^◌, ◌&&◌, ◌||◌, not, ℕ, true, false, None, Some, IfOk};
 ghost use Rattle.std.specs.Option.{option_map_or};
-ghost use Rattle.kr_targets.specs.kr_tree.Changes.{next_serial};
-ghost use Rattle.kr_targets.specs.kr_tree.Lawful.{IsSound as IsSoundTree};
-ghost use Rattle.kr_targets.specs.kr_tree.Rights.{is_kept_by_sticky};
-ghost use Rattle.kr_targets.specs.kr_tree.Tree.{Node, body_is, takes_names};
-ghost use Rattle.kr_targets.specs.kr_tree.declared.place.Host.{Host as AnyHost};
-ghost use Rattle.kr_targets.specs.kr_tree.declared.place.Host.TheVariants.{Node as AtNode};
-ghost use Rattle.kr_targets.specs.kr_model.Applied.{Mounts};
-ghost use Rattle.kr_targets.specs.kr_model.Asking.{is_directory_host, is_processes_host};
-ghost use Rattle.kr_targets.specs.kr_model.Known.{known, known_node};
-ghost use Rattle.kr_targets.specs.kr_model.NameRows.{can_move, is_above_old, is_at_or_above, is_one, move_entry, move_found};
-ghost use Rattle.kr_targets.specs.kr_model.Operation.{moved as if_moved};
-ghost use Rattle.kr_targets.specs.kr_model.State.{image_layout, inode_of as host_inode};
-ghost use Rattle.kr_targets.specs.kr_model.declared.outcome.Outcome.TheVariants.{NoMemory as WantOfMemory};
-ghost use Rattle.kr_targets.specs.kr_ops.Meaning.{meaning};
-ghost use Rattle.kr_targets.specs.kr_ops.Sound.{IsServed, IsSound};
-ghost use Rattle.kr_targets.specs.kr_seen.Carrying.{CarriesOut};
-ghost use Rattle.kr_targets.specs.Performing.{PerformsAt, seen_moved};
-ghost use Rattle.kr_targets.specs.Resolved.{IsEntryIn, IsFreeIn};
-ghost use Rattle.kr_targets.specs.Told.{entered_told};
+ghost use Rattle.kr_seen.specs.kr_tree.Changes.{next_serial};
+ghost use Rattle.kr_seen.specs.kr_tree.Lawful.{IsSound as IsSoundTree};
+ghost use Rattle.kr_seen.specs.kr_tree.Rights.{is_kept_by_sticky};
+ghost use Rattle.kr_seen.specs.kr_tree.Tree.{Node, body_is, takes_names};
+ghost use Rattle.kr_seen.specs.kr_tree.declared.place.Host.{Host as AnyHost};
+ghost use Rattle.kr_seen.specs.kr_tree.declared.place.Host.TheVariants.{Node as AtNode};
+ghost use Rattle.kr_seen.specs.kr_model.Applied.{Mounts};
+ghost use Rattle.kr_seen.specs.kr_model.Asking.{is_directory_host, is_processes_host};
+ghost use Rattle.kr_seen.specs.kr_model.Known.{known, known_node};
+ghost use Rattle.kr_seen.specs.kr_model.NameRows.{can_move, is_above_old, is_at_or_above, is_one, move_entry, move_found};
+ghost use Rattle.kr_seen.specs.kr_model.Operation.{moved as if_moved};
+ghost use Rattle.kr_seen.specs.kr_model.State.{image_layout, inode_of as host_inode};
+ghost use Rattle.kr_seen.specs.kr_model.declared.outcome.Outcome.TheVariants.{NoMemory as WantOfMemory};
+ghost use Rattle.kr_seen.specs.kr_ops.Meaning.{meaning};
+ghost use Rattle.kr_seen.specs.kr_ops.Sound.{IsServed, IsSound};
+ghost use Rattle.kr_seen.specs.Carrying.{CarriesOut};
+ghost use Rattle.kr_seen.specs.Performing.{PerformsAt, seen_moved};
+ghost use Rattle.kr_seen.specs.Resolved.{IsEntryIn, IsFreeIn};
+ghost use Rattle.kr_seen.specs.Told.{entered_told};
 ghost use Rattle.kr_names.specs.Adding.{IsFreeName};
 ghost use Rattle.kr_names.specs.Moving.{AnswersMovable, AnswersOnto, AnswersOver, HasNodes, IsLike};
 ghost use Rattle.kr_names.specs.Taking.{IsEntryOf};
 
 use crate::above::{is_at_or_above, same_host};
 use crate::removing::is_kept_by_sticky;
-use kr_targets::below::{Errno, Host, Ino, Outcome, Places, Right, State, Target, number, refused};
-use kr_targets::{Entered, Taken, is_directory_host, is_processes_host, moved, writable};
+use kr_seen::below::{Errno, Host, Ino, Outcome, Places, Right, State, Target};
+use kr_seen::{
+    Entered, Taken, is_directory_host, is_processes_host, moved, number, refused, writable,
+};
 
 /// An entry that goes from one directory to another: both, and the inode that is moved.
 #[derive(Clone, Copy, Debug)]

@@ -1,21 +1,21 @@
 //! The call that opens files.
 ghost use Rattle.std.specs.Prelude.{◌≡◌, ◌≢◌, ◌+◌, ◌<◌, ◌^◌, IsSome};
-ghost use Rattle.kr_targets.specs.kr_tree.Changes.{next_serial};
-ghost use Rattle.kr_targets.specs.kr_model.FileRows.{openat_row};
-ghost use Rattle.kr_targets.specs.kr_model.Lawful.{IsLawful};
-ghost use Rattle.kr_targets.specs.kr_model.Operation.{opened as if_opened};
-ghost use Rattle.kr_targets.specs.kr_model.State.{inode_of as host_inode, process};
-ghost use Rattle.kr_targets.specs.kr_model.declared.outcome.Outcome.TheVariants.{NoMemory as WantOfMemory};
-ghost use Rattle.kr_targets.specs.kr_ops.Meaning.{meaning};
-ghost use Rattle.kr_targets.specs.kr_ops.Sound.{IsServed};
-ghost use Rattle.kr_targets.specs.Performing.{PerformsAt, seen_opened};
-ghost use Rattle.kr_targets.specs.Resolved.{IsFoundIn, IsFreeIn};
+ghost use Rattle.kr_seen.specs.kr_tree.Changes.{next_serial};
+ghost use Rattle.kr_seen.specs.kr_model.FileRows.{openat_row};
+ghost use Rattle.kr_seen.specs.kr_model.Lawful.{IsLawful};
+ghost use Rattle.kr_seen.specs.kr_model.Operation.{opened as if_opened};
+ghost use Rattle.kr_seen.specs.kr_model.State.{inode_of as host_inode, process};
+ghost use Rattle.kr_seen.specs.kr_model.declared.outcome.Outcome.TheVariants.{NoMemory as WantOfMemory};
+ghost use Rattle.kr_seen.specs.kr_ops.Meaning.{meaning};
+ghost use Rattle.kr_seen.specs.kr_ops.Sound.{IsServed};
+ghost use Rattle.kr_seen.specs.Performing.{PerformsAt, seen_opened};
+ghost use Rattle.kr_seen.specs.Resolved.{IsFoundIn, IsFreeIn};
 
 use crate::creating::open_new;
 use crate::flags::excludes;
 use crate::found::open_found;
-use kr_targets::below::{Errno, Outcome, Places, State, Target, refused};
-use kr_targets::{Opening, opened};
+use kr_seen::below::{Errno, Outcome, Places, State, Target};
+use kr_seen::{Opening, opened, refused};
 use std::alloc::Global;
 
 /// openat(2). With O_CREAT an ending that is no name is EEXIST with O_EXCL and else EISDIR, and a slash is EISDIR. What is there:

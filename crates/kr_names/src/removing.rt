@@ -1,27 +1,27 @@
 //! Names that go.
 ghost use Rattle.std.specs.Prelude.{◌≡◌, ◌≢◌, ℕ, true, IfOk, Some};
-ghost use Rattle.kr_targets.specs.kr_inode.Inode.{Inode};
-ghost use Rattle.kr_targets.specs.kr_inode.Stored.{meta_of};
-ghost use Rattle.kr_targets.specs.kr_tree.Rights.{is_kept_by_sticky};
-ghost use Rattle.kr_targets.specs.kr_tree.Tree.{body_is, takes_names};
-ghost use Rattle.kr_targets.specs.kr_model.Applied.{Mounts};
-ghost use Rattle.kr_targets.specs.kr_model.Known.{known};
-ghost use Rattle.kr_targets.specs.kr_model.NameRows.{ending_removed, removes_directory, rmdir_found, rmdir_row, unlink_found, unlink_row, unlinkat_row};
-ghost use Rattle.kr_targets.specs.kr_model.State.{image_layout};
-ghost use Rattle.kr_targets.specs.kr_model.declared.outcome.Outcome.TheVariants.{NoMemory as WantOfMemory};
-ghost use Rattle.kr_targets.specs.kr_ops.Meaning.{meaning};
-ghost use Rattle.kr_targets.specs.kr_ops.Sound.{IsServed, IsSound};
-ghost use Rattle.kr_targets.specs.kr_seen.Carrying.{CarriesOut};
-ghost use Rattle.kr_targets.specs.Performing.{PerformsAt, seen_taken};
-ghost use Rattle.kr_targets.specs.Resolved.{IsEntryIn};
-ghost use Rattle.kr_targets.specs.Told.{entered_told};
+ghost use Rattle.kr_seen.specs.kr_inode.Inode.{Inode};
+ghost use Rattle.kr_seen.specs.kr_inode.Stored.{meta_of};
+ghost use Rattle.kr_seen.specs.kr_tree.Rights.{is_kept_by_sticky};
+ghost use Rattle.kr_seen.specs.kr_tree.Tree.{body_is, takes_names};
+ghost use Rattle.kr_seen.specs.kr_model.Applied.{Mounts};
+ghost use Rattle.kr_seen.specs.kr_model.Known.{known};
+ghost use Rattle.kr_seen.specs.kr_model.NameRows.{ending_removed, removes_directory, rmdir_found, rmdir_row, unlink_found, unlink_row, unlinkat_row};
+ghost use Rattle.kr_seen.specs.kr_model.State.{image_layout};
+ghost use Rattle.kr_seen.specs.kr_model.declared.outcome.Outcome.TheVariants.{NoMemory as WantOfMemory};
+ghost use Rattle.kr_seen.specs.kr_ops.Meaning.{meaning};
+ghost use Rattle.kr_seen.specs.kr_ops.Sound.{IsServed, IsSound};
+ghost use Rattle.kr_seen.specs.Carrying.{CarriesOut};
+ghost use Rattle.kr_seen.specs.Performing.{PerformsAt, seen_taken};
+ghost use Rattle.kr_seen.specs.Resolved.{IsEntryIn};
+ghost use Rattle.kr_seen.specs.Told.{entered_told};
 ghost use Rattle.kr_names.specs.Taking.{AnswersTakable, IsEntryOf};
 
 use bitflags::Flags;
-use kr_targets::below::{
-    AtFlags, Errno, Host, Ino, Last, Meta, Outcome, Places, State, Target, User, number, refused,
+use kr_seen::below::{AtFlags, Errno, Host, Ino, Last, Meta, Outcome, Places, State, Target, User};
+use kr_seen::{
+    Entered, Taken, is_directory_host, is_processes_host, number, refused, taken, writable,
 };
-use kr_targets::{Entered, Taken, is_directory_host, is_processes_host, taken, writable};
 
 /// An entry that the user may take away: its directory and its inode.
 #[derive(Clone, Copy, Debug)]

@@ -4,10 +4,10 @@ use Rattle.std.proofs.Common.{◌≡◌, ℕ, zero, suc, ◌+◌, ◌<◌, List,
 use Rattle.std.specs.Prelude.{map as map_list, ◌||◌, ◌&&◌, ◌==◌}
 use Rattle.std.specs.List.{find, list_any}
 use Rattle.std.specs.Option.{option_map, option_and_then}
-use Rattle.kr_lawful.specs.kr_files.declared.descs.Descriptor.{Descriptor}
-use Rattle.kr_lawful.specs.kr_files.Descriptors.{Named, cloexec_of}
-use Rattle.kr_lawful.specs.kr_files.Files.{file_at, opened_at}
-use Rattle.kr_lawful.specs.kr_model.State as model
+use Rattle.law_lawful.specs.kr_files.declared.descs.Descriptor.{Descriptor}
+use Rattle.law_lawful.specs.kr_files.Descriptors.{Named, cloexec_of}
+use Rattle.law_lawful.specs.kr_files.Files.{file_at, opened_at}
+use Rattle.law_lawful.specs.kr_model.State as model
 use Rattle.kr_ops.specs.declared.state.Process.{Process}
 use Rattle.kr_ops.specs.declared.state.State.{State}
 use Rattle.kr_ops.specs.Living.{HasPid}

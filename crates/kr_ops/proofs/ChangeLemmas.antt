@@ -3,16 +3,16 @@ use Rattle.std.specs.FinMap as map
 use Rattle.std.proofs.Common.{◌≡◌, ℕ, List, get_or, refl, sym, ap, ◌∙◌, Option, Some, None, false, Bool}
 use Rattle.std.specs.Prelude.{slice_set, map as map_list}
 use Rattle.std.specs.Option.{option_map, option_map_or, option_and_then, is_some}
-use Rattle.kr_lawful.specs.kr_files.declared.descs.Descriptor.{Descriptor}
-use Rattle.kr_lawful.specs.kr_files.declared.opened.Opened.{Opened}
-use Rattle.kr_lawful.specs.kr_files.Descriptors.{Descriptors, Named, meanings, cloexec_of, with_cloexec}
-use Rattle.kr_lawful.specs.kr_files.Files.{Kept, by_descriptor, on_table, with_opened}
-use Rattle.kr_lawful.proofs.kr_files.MountLemmas.{mapped-changed}
-use Rattle.kr_lawful.specs.pr_base.Maps.{changed}
-use Rattle.kr_lawful.proofs.pr_base.MapLemmas.{get-mapped, changed-none}
-use Rattle.kr_lawful.specs.kr_model.Applied.{on_opened_of, with_files, with_living}
-use Rattle.kr_lawful.specs.kr_model.Lawful.{ArePids}
-use Rattle.kr_lawful.specs.kr_model.State as model
+use Rattle.law_lawful.specs.kr_files.declared.descs.Descriptor.{Descriptor}
+use Rattle.law_lawful.specs.kr_files.declared.opened.Opened.{Opened}
+use Rattle.law_lawful.specs.kr_files.Descriptors.{Descriptors, Named, meanings, cloexec_of, with_cloexec}
+use Rattle.law_lawful.specs.kr_files.Files.{Kept, by_descriptor, on_table, with_opened}
+use Rattle.law_lawful.proofs.kr_files.MountLemmas.{mapped-changed}
+use Rattle.law_lawful.specs.pr_base.Maps.{changed}
+use Rattle.law_lawful.proofs.pr_base.MapLemmas.{get-mapped, changed-none}
+use Rattle.law_lawful.specs.kr_model.Applied.{on_opened_of, with_files, with_living}
+use Rattle.law_lawful.specs.kr_model.Lawful.{ArePids}
+use Rattle.law_lawful.specs.kr_model.State as model
 use Rattle.kr_ops.specs.declared.state.Process.{Process}
 use Rattle.kr_ops.specs.declared.state.State.{State}
 use Rattle.kr_ops.specs.Living.{HaveOthers, HasPid}

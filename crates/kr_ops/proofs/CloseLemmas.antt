@@ -4,17 +4,17 @@ use Rattle.std.proofs.Common.{◌≡◌, ℕ, ◌<◌, List, length, get_or, ref
 use Rattle.std.specs.Prelude.{IfSome, map as map_list, slice_set, IsSome}
 use Rattle.std.specs.Option.{option_map, option_map_or, option_and_then, is_some}
 use Rattle.std.proofs.lemmas.List.{get_or_default}
-use Rattle.kr_lawful.specs.kr_tree.Holds.{holds_at}
-use Rattle.kr_lawful.specs.kr_tree.Tree.{Tree}
-use Rattle.kr_lawful.specs.kr_tree.declared.place.Place.{Place}
-use Rattle.kr_lawful.specs.kr_files.declared.descs.Descriptor.{Descriptor}
-use Rattle.kr_lawful.specs.kr_files.declared.opened.Opened.{Opened}
-use Rattle.kr_lawful.specs.kr_files.Descriptors.{Descriptors, Meanings, Named, cloexec_of}
-use Rattle.kr_lawful.specs.kr_files.Files.{Kept, Table, by_descriptor, released, closed, opened_at, file_at}
-use Rattle.kr_lawful.proofs.pr_base.MapLemmas.{mapped-remove}
-use Rattle.kr_lawful.specs.kr_model.State as model
-use Rattle.kr_lawful.specs.kr_model.State.{inode_of, place_of}
-use Rattle.kr_lawful.specs.kr_model.Applied.{released_at, close, close_named}
+use Rattle.law_lawful.specs.kr_tree.Holds.{holds_at}
+use Rattle.law_lawful.specs.kr_tree.Tree.{Tree}
+use Rattle.law_lawful.specs.kr_tree.declared.place.Place.{Place}
+use Rattle.law_lawful.specs.kr_files.declared.descs.Descriptor.{Descriptor}
+use Rattle.law_lawful.specs.kr_files.declared.opened.Opened.{Opened}
+use Rattle.law_lawful.specs.kr_files.Descriptors.{Descriptors, Meanings, Named, cloexec_of}
+use Rattle.law_lawful.specs.kr_files.Files.{Kept, Table, by_descriptor, released, closed, opened_at, file_at}
+use Rattle.law_lawful.proofs.pr_base.MapLemmas.{mapped-remove}
+use Rattle.law_lawful.specs.kr_model.State as model
+use Rattle.law_lawful.specs.kr_model.State.{inode_of, place_of}
+use Rattle.law_lawful.specs.kr_model.Applied.{released_at, close, close_named}
 use Rattle.kr_ops.specs.declared.state.State.{State}
 use Rattle.kr_ops.specs.declared.state.Process.{Process}
 use Rattle.kr_ops.specs.Living.{HasPid}

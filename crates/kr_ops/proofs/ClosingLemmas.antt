@@ -1,12 +1,12 @@
 -- Descriptors that the code closes one after the other are closed in what its state means.
 use Rattle.std.proofs.Common.{◌≡◌, ℕ, suc, ◌+◌, Bool, true, false, cond, sym, ap, subst, ◌∙◌, refl, arith, Option, Some, None}
 use Rattle.std.specs.Option.{option_map, option_map_or, unwrap_or}
-use Rattle.kr_lawful.specs.kr_files.Descriptors.{Named}
-use Rattle.kr_lawful.specs.kr_model.Applied.{close, close_below, close_on_exec_below, is_closed_on_exec}
-use Rattle.kr_lawful.specs.rv_mem.Pages.{IsPlaced}
-use Rattle.kr_lawful.specs.kr_model.Lawful.{IsLawful, IsProcessIn}
-use Rattle.kr_lawful.specs.kr_model.State as model
-use Rattle.kr_lawful.proofs.DescriptorChangeLemmas.{close-below-keeps, close-on-exec-keeps}
+use Rattle.law_lawful.specs.kr_files.Descriptors.{Named}
+use Rattle.law_lawful.specs.kr_model.Applied.{close, close_below, close_on_exec_below, is_closed_on_exec}
+use Rattle.law_lawful.specs.rv_mem.Pages.{IsPlaced}
+use Rattle.law_lawful.specs.kr_model.Lawful.{IsLawful, IsProcessIn}
+use Rattle.law_lawful.specs.kr_model.State as model
+use Rattle.law_lawful.proofs.DescriptorChangeLemmas.{close-below-keeps, close-on-exec-keeps}
 use Rattle.kr_ops.specs.declared.state.State.{State}
 use Rattle.kr_ops.specs.Meaning.{meaning}
 use Rattle.kr_ops.specs.Sound.{IsOfView, IsServed, IsSound}

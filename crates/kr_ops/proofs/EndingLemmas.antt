@@ -6,18 +6,18 @@ use Rattle.std.specs.List.{AllByRecursion, filter, insert, position, position_or
 use Rattle.std.specs.Option.{option_map_or, unwrap_or}
 use Rattle.std.specs.Ordering.{nat_cmp}
 use Rattle.std.proofs.lemmas.Bool.Decides.{nat_tests}
-use Rattle.kr_lawful.proofs.pr_base.MapLemmas.{same_values}
-use Rattle.kr_lawful.specs.rv_mem.Memory.{Memory, page_count, room_after, with_pages}
-use Rattle.kr_lawful.specs.rv_mem.Page.{PageState}
-use Rattle.kr_lawful.specs.rv_mem.Pages.{IsPlaced, Pages, unmapped}
-use Rattle.kr_lawful.proofs.rv_mem.ChangeLemmas.{get-unmapped_in, get-unmapped_out}
-use Rattle.kr_lawful.specs.kr_tree.Tree.{Tree}
-use Rattle.kr_lawful.specs.kr_files.Files.{NamesOpenFiles}
-use Rattle.kr_lawful.specs.kr_model.Applied.{close_below, end, ended_with, gone, orphaned, put_in, released_at, stays, with_parent}
-use Rattle.kr_lawful.specs.kr_model.Known.{pages_in_all}
-use Rattle.kr_lawful.specs.kr_model.State as model
-use Rattle.kr_lawful.specs.kr_model.State.{image_layout}
-use Rattle.kr_lawful.proofs.SumLemmas.{sum-cons}
+use Rattle.law_lawful.proofs.pr_base.MapLemmas.{same_values}
+use Rattle.law_lawful.specs.rv_mem.Memory.{Memory, page_count, room_after, with_pages}
+use Rattle.law_lawful.specs.rv_mem.Page.{PageState}
+use Rattle.law_lawful.specs.rv_mem.Pages.{IsPlaced, Pages, unmapped}
+use Rattle.law_lawful.proofs.rv_mem.ChangeLemmas.{get-unmapped_in, get-unmapped_out}
+use Rattle.law_lawful.specs.kr_tree.Tree.{Tree}
+use Rattle.law_lawful.specs.kr_files.Files.{NamesOpenFiles}
+use Rattle.law_lawful.specs.kr_model.Applied.{close_below, end, ended_with, gone, orphaned, put_in, released_at, stays, with_parent}
+use Rattle.law_lawful.specs.kr_model.Known.{pages_in_all}
+use Rattle.law_lawful.specs.kr_model.State as model
+use Rattle.law_lawful.specs.kr_model.State.{image_layout}
+use Rattle.law_lawful.proofs.SumLemmas.{sum-cons}
 use Rattle.kr_ops.specs.declared.state.EndedProcess.{EndedProcess}
 use Rattle.kr_ops.specs.declared.state.Process.{Process}
 use Rattle.kr_ops.specs.declared.state.State.{State}

@@ -4,24 +4,24 @@ use Rattle.std.proofs.Common.{◌≡◌, ℕ, zero, suc, ◌+◌, ◌≤◌, ◌
 use Rattle.std.specs.Prelude.{map as map_list, slice_set, IfSome, IsSome, sum}
 use Rattle.std.specs.List.{AllByRecursion}
 use Rattle.std.specs.Option.{option_map, option_map_or, option_and_then}
-use Rattle.kr_lawful.proofs.pr_base.MapLemmas.{get-mapped}
-use Rattle.kr_lawful.specs.rv_mem.Memory.{Memory, page_count}
-use Rattle.kr_lawful.specs.rv_mem.declared.regs.Regs.{Regs}
-use Rattle.kr_lawful.specs.kr_tree.Tree.{Tree, inode}
-use Rattle.kr_lawful.specs.kr_tree.Holds.{holds_at}
-use Rattle.kr_lawful.specs.kr_tree.declared.place.Place.{Place}
-use Rattle.kr_lawful.specs.kr_files.declared.descs.Descriptor.{Descriptor}
-use Rattle.kr_lawful.specs.kr_files.declared.opened.Opened.{Opened}
-use Rattle.kr_lawful.specs.kr_files.Descriptors.{Descriptors, Named, meanings}
-use Rattle.kr_lawful.specs.kr_files.Files.{Kept, Table, FitsCopies, NamesOpenFiles, file_at, on_table, with_copies}
-use Rattle.kr_lawful.proofs.kr_files.CountLemmas.{below_small}
-use Rattle.kr_lawful.specs.kr_model.Applied.{Mounts, images, applied, child_of, child_regs, forked_from, held_at, held_for, told}
-use Rattle.kr_lawful.specs.kr_model.Change.{Birth, Fork}
-use Rattle.kr_lawful.specs.kr_model.Known.{pages_in_all}
-use Rattle.kr_lawful.specs.kr_model.State as model
-use Rattle.kr_lawful.specs.kr_model.State.{image_layout, inode_of, place_of}
-use Rattle.kr_lawful.proofs.kr_model.BareLemmas.{mapped-append}
-use Rattle.kr_lawful.proofs.SumLemmas.{sum-end}
+use Rattle.law_lawful.proofs.pr_base.MapLemmas.{get-mapped}
+use Rattle.law_lawful.specs.rv_mem.Memory.{Memory, page_count}
+use Rattle.law_lawful.specs.rv_mem.declared.regs.Regs.{Regs}
+use Rattle.law_lawful.specs.kr_tree.Tree.{Tree, inode}
+use Rattle.law_lawful.specs.kr_tree.Holds.{holds_at}
+use Rattle.law_lawful.specs.kr_tree.declared.place.Place.{Place}
+use Rattle.law_lawful.specs.kr_files.declared.descs.Descriptor.{Descriptor}
+use Rattle.law_lawful.specs.kr_files.declared.opened.Opened.{Opened}
+use Rattle.law_lawful.specs.kr_files.Descriptors.{Descriptors, Named, meanings}
+use Rattle.law_lawful.specs.kr_files.Files.{Kept, Table, FitsCopies, NamesOpenFiles, file_at, on_table, with_copies}
+use Rattle.law_lawful.proofs.kr_files.CountLemmas.{below_small}
+use Rattle.law_lawful.specs.kr_model.Applied.{Mounts, images, applied, child_of, child_regs, forked_from, held_at, held_for, told}
+use Rattle.law_lawful.specs.kr_model.Change.{Birth, Fork}
+use Rattle.law_lawful.specs.kr_model.Known.{pages_in_all}
+use Rattle.law_lawful.specs.kr_model.State as model
+use Rattle.law_lawful.specs.kr_model.State.{image_layout, inode_of, place_of}
+use Rattle.law_lawful.proofs.kr_model.BareLemmas.{mapped-append}
+use Rattle.law_lawful.proofs.SumLemmas.{sum-end}
 use Rattle.kr_ops.specs.declared.state.Process.{Process}
 use Rattle.kr_ops.specs.declared.state.State.{State}
 use Rattle.kr_ops.specs.Living.{HasPid}

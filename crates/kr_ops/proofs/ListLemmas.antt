@@ -4,8 +4,8 @@ use Rattle.std.specs.Prelude.{map as map_list, ◌==◌, slice_set}
 use Rattle.std.specs.List.{find}
 use Rattle.std.proofs.lemmas.Bool.Decides.{nat_tests}
 use Rattle.std.proofs.lemmas.List.{get_or_default}
-use Rattle.kr_lawful.specs.kr_model.Lawful.{RiseFrom, ArePids}
-use Rattle.kr_lawful.specs.kr_model.State as model
+use Rattle.law_lawful.specs.kr_model.Lawful.{RiseFrom, ArePids}
+use Rattle.law_lawful.specs.kr_model.State as model
 use Rattle.kr_ops.specs.declared.state.Process.{Process}
 use Rattle.kr_ops.specs.declared.state.State.{State}
 use Rattle.kr_ops.specs.Living.{HaveOthers, HasPid, AreApart}

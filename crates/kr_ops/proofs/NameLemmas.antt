@@ -3,17 +3,17 @@ use Rattle.std.specs.FinMap as map
 use Rattle.std.proofs.Common.{◌≡◌, ℕ, zero, suc, ◌+◌, ◌≤◌, ◌<◌, List, [], ◌∷◌, length, get_or, refl, sym, ap, subst, ◌∙◌, Bool, true, false, cond, arith}
 use Rattle.std.specs.Prelude.{map as map_list, slice_set, sum}
 use Rattle.std.specs.List.{AllByRecursion}
-use Rattle.kr_lawful.specs.rv_mem.Memory.{Memory}
-use Rattle.kr_lawful.specs.kr_tree.Tree.{Tree}
-use Rattle.kr_lawful.specs.kr_tree.Changes.{removed, renamed}
-use Rattle.kr_lawful.specs.kr_files.Files.{Kept, NamesOpenFiles, on_table, with_all_opened}
-use Rattle.kr_lawful.specs.kr_files.Opened.{after_removal, after_rename}
-use Rattle.kr_lawful.specs.kr_model.Applied.{Mounts, applied, images, exe_remembers, with_exe_name, exe_after_removal, exe_after_rename}
-use Rattle.kr_lawful.specs.kr_model.Change.{MoveName, RemoveName}
-use Rattle.kr_lawful.specs.kr_model.Known.{pages_in_all}
-use Rattle.kr_lawful.specs.kr_model.State as model
-use Rattle.kr_lawful.specs.kr_model.State.{image_layout, layout_of}
-use Rattle.kr_lawful.proofs.SumLemmas.{sum-cons}
+use Rattle.law_lawful.specs.rv_mem.Memory.{Memory}
+use Rattle.law_lawful.specs.kr_tree.Tree.{Tree}
+use Rattle.law_lawful.specs.kr_tree.Changes.{removed, renamed}
+use Rattle.law_lawful.specs.kr_files.Files.{Kept, NamesOpenFiles, on_table, with_all_opened}
+use Rattle.law_lawful.specs.kr_files.Opened.{after_removal, after_rename}
+use Rattle.law_lawful.specs.kr_model.Applied.{Mounts, applied, images, exe_remembers, with_exe_name, exe_after_removal, exe_after_rename}
+use Rattle.law_lawful.specs.kr_model.Change.{MoveName, RemoveName}
+use Rattle.law_lawful.specs.kr_model.Known.{pages_in_all}
+use Rattle.law_lawful.specs.kr_model.State as model
+use Rattle.law_lawful.specs.kr_model.State.{image_layout, layout_of}
+use Rattle.law_lawful.proofs.SumLemmas.{sum-cons}
 use Rattle.kr_ops.specs.declared.state.Process.{Process}
 use Rattle.kr_ops.specs.declared.state.State.{State}
 use Rattle.kr_ops.specs.Meaning.{meaning, process_meaning}

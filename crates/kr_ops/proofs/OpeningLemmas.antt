@@ -3,19 +3,19 @@ use Rattle.std.specs.FinMap as map
 use Rattle.std.proofs.Common.{◌≡◌, ℕ, ◌+◌, ◌<◌, ◌^◌, get_or, refl, sym, ap, subst, ◌∙◌, Bool, true, false, arith, Option, Some, None}
 use Rattle.std.specs.Prelude.{◌↔◌, Result, Err, IfSome, IsSome, ◌&&◌, nat_lt, map as map_list, slice_set}
 use Rattle.std.specs.Option.{option_map, option_map_or, option_and_then, is_some}
-use Rattle.kr_lawful.proofs.pr_base.MapLemmas.{by_key, mapped-insert, get-changed_same, get-changed_other}
-use Rattle.kr_lawful.specs.kr_tree.Tree.{Tree, Inode, inode}
-use Rattle.kr_lawful.specs.kr_tree.Holds.{holds_at}
-use Rattle.kr_lawful.specs.kr_tree.declared.place.Place.{Place}
-use Rattle.kr_lawful.specs.kr_files.declared.descs.Descriptor.{Descriptor}
-use Rattle.kr_lawful.specs.kr_files.declared.opened.Opened.{Opened}
-use Rattle.kr_lawful.specs.kr_files.Descriptors.{Descriptors, Meanings, Named, lowest_free, lowest_pair, with_copy_at, with_cloexec}
-use Rattle.kr_lawful.specs.kr_files.Files.{Kept, Counted, with_file, with_copy, with_pipe, takes_pipe, closed, copied, released, by_descriptor, counted_more, count_at, file_at, Gives, GivesPair}
-use Rattle.kr_lawful.proofs.kr_files.DescriptorLemmas.{lowest_free-meanings, lowest_pair-meanings}
-use Rattle.kr_lawful.specs.kr_model.Applied.{Mounts, images, applied, held_at, released_at, in_mount, mount_of, open_in, copy_over}
-use Rattle.kr_lawful.specs.kr_model.Change.{CopyDescriptor, MakePipe, MountOf, OpenFile}
-use Rattle.kr_lawful.specs.kr_model.State as model
-use Rattle.kr_lawful.specs.kr_model.State.{inode_of, place_of}
+use Rattle.law_lawful.proofs.pr_base.MapLemmas.{by_key, mapped-insert, get-changed_same, get-changed_other}
+use Rattle.law_lawful.specs.kr_tree.Tree.{Tree, Inode, inode}
+use Rattle.law_lawful.specs.kr_tree.Holds.{holds_at}
+use Rattle.law_lawful.specs.kr_tree.declared.place.Place.{Place}
+use Rattle.law_lawful.specs.kr_files.declared.descs.Descriptor.{Descriptor}
+use Rattle.law_lawful.specs.kr_files.declared.opened.Opened.{Opened}
+use Rattle.law_lawful.specs.kr_files.Descriptors.{Descriptors, Meanings, Named, lowest_free, lowest_pair, with_copy_at, with_cloexec}
+use Rattle.law_lawful.specs.kr_files.Files.{Kept, Counted, with_file, with_copy, with_pipe, takes_pipe, closed, copied, released, by_descriptor, counted_more, count_at, file_at, Gives, GivesPair}
+use Rattle.law_lawful.proofs.kr_files.DescriptorLemmas.{lowest_free-meanings, lowest_pair-meanings}
+use Rattle.law_lawful.specs.kr_model.Applied.{Mounts, images, applied, held_at, released_at, in_mount, mount_of, open_in, copy_over}
+use Rattle.law_lawful.specs.kr_model.Change.{CopyDescriptor, MakePipe, MountOf, OpenFile}
+use Rattle.law_lawful.specs.kr_model.State as model
+use Rattle.law_lawful.specs.kr_model.State.{inode_of, place_of}
 use Rattle.kr_ops.specs.declared.state.Process.{Process}
 use Rattle.kr_ops.specs.declared.state.State.{State}
 use Rattle.kr_ops.specs.Living.{HaveOthers, HasPid}

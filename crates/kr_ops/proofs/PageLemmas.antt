@@ -1,15 +1,15 @@
 -- Pages that the code changes are changed in what its state means, and counted.
 use Rattle.std.proofs.Common.{◌≡◌, ℕ, zero, suc, ◌+◌, ◌≤◌, ◌<◌, List, [], ◌∷◌, length, get_or, sym, ap, subst, arith, Option}
 use Rattle.std.specs.Prelude.{map as map_list, slice_set, sum, IfSome, Result, Ok, Err, OnOk, OnErr}
-use Rattle.kr_lawful.specs.rv_mem.Memory.{Memory, with_pages, room_after, page_count}
-use Rattle.kr_lawful.specs.rv_mem.Pages.{Pages}
-use Rattle.kr_lawful.proofs.rv_mem.LayoutLemmas.{layouts_follow}
-use Rattle.kr_lawful.specs.kr_model.Applied.{images, pages_after, with_image, with_living}
-use Rattle.kr_lawful.specs.kr_model.Change.{PageChange}
-use Rattle.kr_lawful.specs.kr_model.Known.{pages_in_all}
-use Rattle.kr_lawful.specs.kr_model.State as model
-use Rattle.kr_lawful.specs.kr_model.State.{image_layout}
-use Rattle.kr_lawful.proofs.SumLemmas.{sum-cons}
+use Rattle.law_lawful.specs.rv_mem.Memory.{Memory, with_pages, room_after, page_count}
+use Rattle.law_lawful.specs.rv_mem.Pages.{Pages}
+use Rattle.law_lawful.proofs.rv_mem.LayoutLemmas.{layouts_follow}
+use Rattle.law_lawful.specs.kr_model.Applied.{images, pages_after, with_image, with_living}
+use Rattle.law_lawful.specs.kr_model.Change.{PageChange}
+use Rattle.law_lawful.specs.kr_model.Known.{pages_in_all}
+use Rattle.law_lawful.specs.kr_model.State as model
+use Rattle.law_lawful.specs.kr_model.State.{image_layout}
+use Rattle.law_lawful.proofs.SumLemmas.{sum-cons}
 use Rattle.kr_ops.specs.declared.state.Process.{Process}
 use Rattle.kr_ops.specs.declared.state.State.{State}
 use Rattle.kr_ops.specs.Living.{HasPid}

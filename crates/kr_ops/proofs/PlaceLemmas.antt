@@ -2,15 +2,15 @@
 use Rattle.std.proofs.Common.{◌≡◌, ℕ, ◌+◌, ◌≤◌, ◌<◌, List, get_or, refl, sym, ap, subst, ◌∙◌, cond, arith, Option, Some}
 use Rattle.std.specs.Prelude.{slice_set}
 use Rattle.std.specs.Option.{option_map, option_map_or}
-use Rattle.kr_lawful.specs.kr_tree.Tree.{Tree}
-use Rattle.kr_lawful.specs.kr_tree.Holds.{holds_at}
-use Rattle.kr_lawful.specs.kr_tree.declared.place.Place.{Place}
-use Rattle.kr_lawful.specs.kr_model.Applied.{Mounts, images, applied, held_at, released_at, mount_of, moved_to, executed, with_cwd, with_exe}
-use Rattle.kr_lawful.specs.kr_model.Change.{MountOf, ChangeDirectory, ReplaceExecutable}
-use Rattle.kr_lawful.specs.kr_model.Uses.{at_inode}
-use Rattle.kr_lawful.specs.kr_model.State as model
-use Rattle.kr_lawful.specs.kr_model.State.{inode_of}
-use Rattle.kr_lawful.proofs.CountLemmas.{released-uses}
+use Rattle.law_lawful.specs.kr_tree.Tree.{Tree}
+use Rattle.law_lawful.specs.kr_tree.Holds.{holds_at}
+use Rattle.law_lawful.specs.kr_tree.declared.place.Place.{Place}
+use Rattle.law_lawful.specs.kr_model.Applied.{Mounts, images, applied, held_at, released_at, mount_of, moved_to, executed, with_cwd, with_exe}
+use Rattle.law_lawful.specs.kr_model.Change.{MountOf, ChangeDirectory, ReplaceExecutable}
+use Rattle.law_lawful.specs.kr_model.Uses.{at_inode}
+use Rattle.law_lawful.specs.kr_model.State as model
+use Rattle.law_lawful.specs.kr_model.State.{inode_of}
+use Rattle.law_lawful.proofs.CountLemmas.{released-uses}
 use Rattle.kr_ops.specs.declared.state.Process.{Process}
 use Rattle.kr_ops.specs.declared.state.State.{State}
 use Rattle.kr_ops.specs.Living.{HasPid}

@@ -5,23 +5,23 @@ use Rattle.std.specs.Prelude.{map as map_list, slice_set, sum, IsSome, OnErr, Re
 use Rattle.std.specs.List.{AllByRecursion}
 use Rattle.std.specs.Option.{option_map, option_map_or, option_and_then}
 use Rattle.std.proofs.lemmas.Option.{none-some, same_Some}
-use Rattle.kr_lawful.specs.pr_base.Maps.{changed}
-use Rattle.kr_lawful.proofs.pr_base.MapLemmas.{by_key, each-changed, get-insert_same, get-insert_other, get-mapped}
-use Rattle.kr_lawful.specs.rv_mem.Memory.{Memory}
-use Rattle.kr_lawful.specs.kr_files.declared.descs.Descriptor.{Descriptor}
-use Rattle.kr_lawful.specs.kr_files.Descriptors.{Descriptors, meanings, named_count, with_cloexec, with_copy_at}
-use Rattle.kr_lawful.specs.kr_files.Files.{Counted, GivesPair, Kept, NamesOpenFiles, by_descriptor, copied, released, file_at}
-use Rattle.kr_lawful.specs.kr_files.Serves.{Serves}
-use Rattle.kr_lawful.proofs.kr_files.ServedLemmas.{served-close, served-dup_to, served-others}
-use Rattle.kr_lawful.proofs.kr_files.ServesLemmas.{one_at, serves-raise}
-use Rattle.kr_lawful.specs.kr_model.Known.{pages_in_all}
-use Rattle.kr_lawful.specs.kr_model.State as model
-use Rattle.kr_lawful.specs.kr_model.State.{image_layout, layout_of}
-use Rattle.kr_lawful.specs.kr_model.Uses.{names_of_file}
-use Rattle.kr_lawful.proofs.SumLemmas.{sum-cons}
+use Rattle.law_lawful.specs.pr_base.Maps.{changed}
+use Rattle.law_lawful.proofs.pr_base.MapLemmas.{by_key, each-changed, get-insert_same, get-insert_other, get-mapped}
+use Rattle.law_lawful.specs.rv_mem.Memory.{Memory}
+use Rattle.law_lawful.specs.kr_files.declared.descs.Descriptor.{Descriptor}
+use Rattle.law_lawful.specs.kr_files.Descriptors.{Descriptors, meanings, named_count, with_cloexec, with_copy_at}
+use Rattle.law_lawful.specs.kr_files.Files.{Counted, GivesPair, Kept, NamesOpenFiles, by_descriptor, copied, released, file_at}
+use Rattle.law_lawful.specs.kr_files.Serves.{Serves}
+use Rattle.law_lawful.proofs.kr_files.ServedLemmas.{served-close, served-dup_to, served-others}
+use Rattle.law_lawful.proofs.kr_files.ServesLemmas.{one_at, serves-raise}
+use Rattle.law_lawful.specs.kr_model.Known.{pages_in_all}
+use Rattle.law_lawful.specs.kr_model.State as model
+use Rattle.law_lawful.specs.kr_model.State.{image_layout, layout_of}
+use Rattle.law_lawful.specs.kr_model.Uses.{names_of_file}
+use Rattle.law_lawful.proofs.SumLemmas.{sum-cons}
 use Rattle.kr_ops.specs.declared.state.Process.{Process}
 use Rattle.kr_ops.specs.declared.state.State.{State}
-use Rattle.kr_lawful.specs.kr_model.Applied.{with_files}
+use Rattle.law_lawful.specs.kr_model.Applied.{with_files}
 use Rattle.kr_ops.specs.Making.{IsAsBefore}
 use Rattle.kr_ops.specs.Meaning.{process_meaning, meaning}
 use Rattle.kr_ops.specs.Sound.{IsServed, IsSound}

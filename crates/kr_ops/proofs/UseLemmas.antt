@@ -2,21 +2,21 @@
 use Rattle.std.specs.FinMap as map
 use Rattle.std.proofs.Common.{◌≡◌, ℕ, ◌+◌, ◌≤◌, ◌<◌, ◌^◌, List, sym, subst, arith, Option, Some, None}
 use Rattle.std.specs.Option.{option_map, option_map_or}
-use Rattle.kr_lawful.proofs.pr_base.MapLemmas.{by_key, get-changed_same, get-changed_other}
-use Rattle.kr_lawful.specs.kr_tree.Tree.{Tree, Inode}
-use Rattle.kr_lawful.specs.kr_tree.Changes.{held, with_holds}
-use Rattle.kr_lawful.specs.kr_tree.Holds.{holds_at}
-use Rattle.kr_lawful.specs.kr_tree.declared.place.Place.{Place}
-use Rattle.kr_lawful.specs.kr_files.Files.{Counted}
-use Rattle.kr_lawful.specs.kr_view.View.{Row}
-use Rattle.kr_lawful.specs.kr_model.Applied.{held_at}
-use Rattle.kr_lawful.specs.kr_model.Bare.{pins_of}
-use Rattle.kr_lawful.specs.kr_model.Lawful.{IsLawful}
-use Rattle.kr_lawful.specs.kr_model.State as model
-use Rattle.kr_lawful.specs.kr_model.State.{place_of, inode_of}
-use Rattle.kr_lawful.specs.kr_model.Uses.{process_use}
-use Rattle.kr_lawful.proofs.kr_model.TreeLemmas.{holds-held}
-use Rattle.kr_lawful.proofs.HoldingLemmas.{holds_fit, pins-few, used_is_held}
+use Rattle.law_lawful.proofs.pr_base.MapLemmas.{by_key, get-changed_same, get-changed_other}
+use Rattle.law_lawful.specs.kr_tree.Tree.{Tree, Inode}
+use Rattle.law_lawful.specs.kr_tree.Changes.{held, with_holds}
+use Rattle.law_lawful.specs.kr_tree.Holds.{holds_at}
+use Rattle.law_lawful.specs.kr_tree.declared.place.Place.{Place}
+use Rattle.law_lawful.specs.kr_files.Files.{Counted}
+use Rattle.law_lawful.specs.kr_view.View.{Row}
+use Rattle.law_lawful.specs.kr_model.Applied.{held_at}
+use Rattle.law_lawful.specs.kr_model.Bare.{pins_of}
+use Rattle.law_lawful.specs.kr_model.Lawful.{IsLawful}
+use Rattle.law_lawful.specs.kr_model.State as model
+use Rattle.law_lawful.specs.kr_model.State.{place_of, inode_of}
+use Rattle.law_lawful.specs.kr_model.Uses.{process_use}
+use Rattle.law_lawful.proofs.kr_model.TreeLemmas.{holds-held}
+use Rattle.law_lawful.proofs.HoldingLemmas.{holds_fit, pins-few, used_is_held}
 use Rattle.kr_ops.specs.declared.state.State.{State}
 use Rattle.kr_ops.specs.Meaning.{meaning}
 use Rattle.kr_ops.specs.Sound.{IsServed, IsSound}

@@ -1,6 +1,6 @@
 -- Which processes wait4(2) means.
 use Rattle.std.specs.Prelude.{ℕ, ◌==◌, ◌&&◌, Bool, true, false}
-use Rattle.kr_lawful.specs.kr_model.State.{Process}
+use Rattle.law_lawful.specs.kr_model.State.{Process}
 use Rattle.kr_ops.specs.declared.asking.Meant.{Meant}
 use Rattle.kr_ops.specs.declared.asking.Meant.TheVariants.{Any, One, Nobody}
 use Rattle.kr_ops.specs.declared.state.EndedProcess.{EndedProcess}

@@ -1,7 +1,7 @@
 -- What lawful states are to the code.
 use Rattle.std.specs.Prelude.{ℕ, List}
-use Rattle.kr_lawful.specs.kr_view.View.{Row}
-use Rattle.kr_lawful.specs.kr_model.Lawful.{IsLawful}
+use Rattle.law_lawful.specs.kr_view.View.{Row}
+use Rattle.law_lawful.specs.kr_model.Lawful.{IsLawful}
 use Rattle.kr_ops.specs.declared.state.State.{State}
 use Rattle.kr_ops.specs.Meaning.{meaning}
 use Rattle.kr_ops.specs.Sound.{IsServed, IsSound}

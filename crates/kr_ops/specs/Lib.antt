@@ -1,12 +1,12 @@
-pub use Rattle.kr_lawful.specs.rv_mem as rv_mem
-pub use Rattle.kr_lawful.specs.kr_inode as kr_inode
-pub use Rattle.kr_lawful.specs.kr_tree as kr_tree
-pub use Rattle.kr_lawful.specs.kr_view as kr_view
-pub use Rattle.kr_lawful.specs.kr_procfs as kr_procfs
-pub use Rattle.kr_lawful.specs.kr_files as kr_files
-pub use Rattle.kr_lawful.specs.kr_calls as kr_calls
-pub use Rattle.kr_lawful.specs.kr_model as kr_model
-pub use Rattle.kr_lawful.specs as kr_lawful
+pub use Rattle.law_lawful.specs.rv_mem as rv_mem
+pub use Rattle.law_lawful.specs.kr_inode as kr_inode
+pub use Rattle.law_lawful.specs.kr_tree as kr_tree
+pub use Rattle.law_lawful.specs.kr_view as kr_view
+pub use Rattle.law_lawful.specs.kr_procfs as kr_procfs
+pub use Rattle.law_lawful.specs.kr_files as kr_files
+pub use Rattle.law_lawful.specs.kr_calls as kr_calls
+pub use Rattle.law_lawful.specs.kr_model as kr_model
+pub use Rattle.law_lawful.specs as law_lawful
 pub mod Children
 pub mod Ending
 pub mod Laws

@@ -1,7 +1,7 @@
 -- What a function that makes a change leaves.
 use Rattle.std.specs.Prelude.{◌≡◌, ℕ}
-use Rattle.kr_lawful.specs.kr_model.Applied.{Mounts, applied, images}
-use Rattle.kr_lawful.specs.kr_model.Change.{Change}
+use Rattle.law_lawful.specs.kr_model.Applied.{Mounts, applied, images}
+use Rattle.law_lawful.specs.kr_model.Change.{Change}
 use Rattle.kr_ops.specs.declared.state.State.{State}
 use Rattle.kr_ops.specs.Meaning.{meaning}
 use Rattle.kr_ops.specs.Sound.{IsServed}

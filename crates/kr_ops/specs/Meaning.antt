@@ -1,8 +1,8 @@
 -- What a state of the code means: the plain data of which the definitions speak. How much room is left is no part of it, since
 -- that is the sum of the pages.
 use Rattle.std.specs.Prelude.{ℕ, map as map_list}
-use Rattle.kr_lawful.specs.kr_files.Descriptors.{meanings}
-use Rattle.kr_lawful.specs.kr_model.State as model
+use Rattle.law_lawful.specs.kr_files.Descriptors.{meanings}
+use Rattle.law_lawful.specs.kr_model.State as model
 use Rattle.kr_ops.specs.declared.state.State.{State}
 use Rattle.kr_ops.specs.declared.state.Process.{Process}
 use Rattle.kr_ops.specs.declared.state.EndedProcess.{EndedProcess}

@@ -1,13 +1,13 @@
 -- What changes that name a mount leave: the definition's, whatever path or descriptor the mount was taken of.
 use Rattle.std.specs.Prelude.{◌≡◌, ℕ, Bool, false, List, Option, Some}
 use Rattle.std.specs.Option.{option_and_then, option_map_or}
-use Rattle.kr_lawful.specs.kr_tree.declared.place.Place.{Place}
-use Rattle.kr_lawful.specs.kr_files.Descriptors.{lowest_free, lowest_pair}
-use Rattle.kr_lawful.specs.kr_files.Files.{takes_pipe}
-use Rattle.kr_lawful.specs.kr_files.declared.opened.Opened.{Opened}
-use Rattle.kr_lawful.specs.kr_model.Applied.{Mounts, applied, images, in_mount, mount_of}
-use Rattle.kr_lawful.specs.kr_model.Change.{MountOf, OpenFile, ChangeDirectory, ReplaceExecutable}
-use Rattle.kr_lawful.specs.kr_model.State as model
+use Rattle.law_lawful.specs.kr_tree.declared.place.Place.{Place}
+use Rattle.law_lawful.specs.kr_files.Descriptors.{lowest_free, lowest_pair}
+use Rattle.law_lawful.specs.kr_files.Files.{takes_pipe}
+use Rattle.law_lawful.specs.kr_files.declared.opened.Opened.{Opened}
+use Rattle.law_lawful.specs.kr_model.Applied.{Mounts, applied, images, in_mount, mount_of}
+use Rattle.law_lawful.specs.kr_model.Change.{MountOf, OpenFile, ChangeDirectory, ReplaceExecutable}
+use Rattle.law_lawful.specs.kr_model.State as model
 use Rattle.kr_ops.specs.declared.state.State.{State}
 use Rattle.kr_ops.specs.Meaning.{meaning}
 

@@ -1,13 +1,13 @@
 -- What holds of every state of the code, whatever the view: the facts on which its changes rest.
 use Rattle.std.specs.Prelude.{◌≡◌, ◌≤◌, ◌<◌, ℕ, List, Some, IsSome}
 use Rattle.std.specs.List.{AllByRecursion}
-use Rattle.kr_lawful.specs.kr_files.Descriptors.{Named}
-use Rattle.kr_lawful.specs.kr_files.Files.{NamesOpenFiles, file_at}
-use Rattle.kr_lawful.specs.kr_view.View.{Row}
-use Rattle.kr_lawful.specs.kr_model.Known.{pages_in_all}
-use Rattle.kr_lawful.specs.kr_model.Lawful.{ArePids, IsLawful}
-use Rattle.kr_lawful.specs.kr_model.State.{image_layout, named}
-use Rattle.kr_lawful.specs.kr_model.Uses.{AreUses}
+use Rattle.law_lawful.specs.kr_files.Descriptors.{Named}
+use Rattle.law_lawful.specs.kr_files.Files.{NamesOpenFiles, file_at}
+use Rattle.law_lawful.specs.kr_view.View.{Row}
+use Rattle.law_lawful.specs.kr_model.Known.{pages_in_all}
+use Rattle.law_lawful.specs.kr_model.Lawful.{ArePids, IsLawful}
+use Rattle.law_lawful.specs.kr_model.State.{image_layout, named}
+use Rattle.law_lawful.specs.kr_model.Uses.{AreUses}
 use Rattle.kr_ops.specs.declared.state.State.{State}
 use Rattle.kr_ops.specs.declared.state.Process.{Process}
 use Rattle.kr_ops.specs.Meaning.{meaning}

@@ -2,16 +2,16 @@
 ghost use Rattle.std.specs.Prelude.{◌≡◌, ◌+◌};
 ghost use Rattle.std.specs.List.{find, list_any};
 ghost use Rattle.std.specs.Option.{option_copied, option_map};
-ghost use Rattle.kr_lawful.specs.kr_model.Known.{pages_in_all};
-ghost use Rattle.kr_lawful.specs.kr_model.MemoryRows.{all_pages};
-ghost use Rattle.kr_lawful.specs.kr_model.State.{image_layout, named, opened, process};
+ghost use Rattle.law_lawful.specs.kr_model.Known.{pages_in_all};
+ghost use Rattle.law_lawful.specs.kr_model.MemoryRows.{all_pages};
+ghost use Rattle.law_lawful.specs.kr_model.State.{image_layout, named, opened, process};
 ghost use Rattle.kr_ops.specs.Children.{is_child, is_ended_child};
 ghost use Rattle.kr_ops.specs.Meaning.{meaning, process_meaning};
 ghost use Rattle.kr_ops.specs.Opening.{lowest_of, takes_pipe_of};
 ghost use Rattle.kr_ops.specs.Sound.{IsServed, IsSound};
 
 use crate::state::{EndedProcess, Process, State};
-use kr_lawful::below::Opened;
+use law_lawful::below::Opened;
 
 /// Which children wait4(2) means by its first argument.
 #[derive(Clone, Copy, Debug, PartialEq, Eq)]
@@ -23,7 +23,7 @@ pub enum Meant {
 
 impl Meant {
     ghost use Rattle.std.specs.Prelude.{◌≡◌, ℕ};
-    ghost use Rattle.kr_lawful.specs.kr_model.ProcessRows.{is_meant};
+    ghost use Rattle.law_lawful.specs.kr_model.ProcessRows.{is_meant};
     ghost use Rattle.kr_ops.specs.Children.{means};
 
     /// -1 and 0 mean any, a positive number that child, and another none.

@@ -1,6 +1,6 @@
 //! What those above name of the crates below.
 
-pub use kr_lawful::below::{
+pub use law_lawful::below::{
     BadAddress, Descs, Files, FilesRefusal, Host, HostMount, Ino, Kind, Lead, MapFault, Meta,
     MountRow, Moved, Node, Opened, Outcome, PAGES_END, PathArg, Place, Places, Plain, ProcAt,
     Procs, ROOT, Reach, Regs, Request, Right, Rights, Space, Stat, StoreFault, Target, Tree,

@@ -1,9 +1,9 @@
 //! Changes of a process itself.
 ghost use Rattle.std.specs.Prelude.{◌≡◌, ℕ, IsSome};
-ghost use Rattle.kr_lawful.specs.kr_tree.Tree.{inode};
-ghost use Rattle.kr_lawful.specs.kr_model.Change.{SetBreak, SetUmask};
-ghost use Rattle.kr_lawful.specs.kr_model.Lawful.{ArePids};
-ghost use Rattle.kr_lawful.specs.kr_model.State.{inode_of as host_inode, process};
+ghost use Rattle.law_lawful.specs.kr_tree.Tree.{inode};
+ghost use Rattle.law_lawful.specs.kr_model.Change.{SetBreak, SetUmask};
+ghost use Rattle.law_lawful.specs.kr_model.Lawful.{ArePids};
+ghost use Rattle.law_lawful.specs.kr_model.State.{inode_of as host_inode, process};
 ghost use Rattle.kr_ops.specs.Meaning.{meaning};
 ghost use Rattle.kr_ops.specs.Making.{Makes};
 ghost use Rattle.kr_ops.specs.Opening.{MovesTo};
@@ -11,7 +11,7 @@ ghost use Rattle.kr_ops.specs.Sound.{IsServed, IsSound};
 
 use crate::holding::{hold, release};
 use crate::state::State;
-use kr_lawful::below::Place;
+use law_lawful::below::Place;
 
 impl<T: Copy, const M: u8> State<T, M> {
     /// Sets the break of a process. Its pages are changed apart from it.

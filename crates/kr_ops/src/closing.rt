@@ -1,7 +1,7 @@
 //! Descriptors that go together.
 ghost use Rattle.std.specs.Prelude.{◌≡◌};
-ghost use Rattle.kr_lawful.specs.kr_model.Applied.{close_below};
-ghost use Rattle.kr_lawful.specs.kr_model.Change.{CloseOnExec};
+ghost use Rattle.law_lawful.specs.kr_model.Applied.{close_below};
+ghost use Rattle.law_lawful.specs.kr_model.Change.{CloseOnExec};
 ghost use Rattle.kr_ops.specs.Meaning.{meaning};
 ghost use Rattle.kr_ops.specs.Making.{Makes};
 ghost use Rattle.kr_ops.specs.Sound.{IsOfView, IsServed};

@@ -1,12 +1,12 @@
 //! Changes of the console: input that is taken, output that is written.
 ghost use Rattle.std.specs.Prelude.{◌≡◌, ℕ, ◌+◌, ◌<◌, ◌≤◌, ◌^◌, length, OnOk, OnErr};
-ghost use Rattle.kr_lawful.specs.kr_model.Change.{TakeInput, WriteErr, WriteOut};
+ghost use Rattle.law_lawful.specs.kr_model.Change.{TakeInput, WriteErr, WriteOut};
 ghost use Rattle.kr_ops.specs.Meaning.{meaning};
 ghost use Rattle.kr_ops.specs.Making.{Makes};
 ghost use Rattle.kr_ops.specs.Sound.{IsServed};
 
 use crate::state::State;
-use kr_lawful::below::NoMemory;
+use law_lawful::below::NoMemory;
 
 impl<T: Copy, const M: u8> State<T, M> {
     /// How many bytes of the input are left.

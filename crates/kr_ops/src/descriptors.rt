@@ -1,15 +1,15 @@
 //! Changes of the descriptors of a process, and of what is open under them.
 ghost use Rattle.std.specs.Prelude.{◌≡◌, ◌<◌, ℕ, length, slice_index_or as get_or};
 ghost use Rattle.std.specs.Option.{option_and_then};
-ghost use Rattle.kr_lawful.specs.kr_files.Files.{opened_at};
-ghost use Rattle.kr_lawful.specs.kr_model.Change.{CloseDescriptor, Seek, SetAppend, SetCloexec};
+ghost use Rattle.law_lawful.specs.kr_files.Files.{opened_at};
+ghost use Rattle.law_lawful.specs.kr_model.Change.{CloseDescriptor, Seek, SetAppend, SetCloexec};
 ghost use Rattle.kr_ops.specs.declared.state.Process.{Process};
 ghost use Rattle.kr_ops.specs.Making.{Makes};
 ghost use Rattle.kr_ops.specs.Sound.{IsServed, IsSound};
 
 use crate::holding::{place_of, release};
 use crate::state::State;
-use kr_lawful::below::Place;
+use law_lawful::below::Place;
 
 impl<T: Copy, const M: u8> State<T, M> {
     /// Says whether a successful execve(2) closes a descriptor of a process, if it is open.

@@ -1,8 +1,8 @@
 //! Processes that end and are waited for.
 ghost use Rattle.std.specs.Prelude.{◌≡◌, ◌==◌, ℕ, nat_lt, not, OnOk, map as map_list};
 ghost use Rattle.std.specs.List.{filter, position};
-ghost use Rattle.kr_lawful.specs.kr_model.Applied.{put_in};
-ghost use Rattle.kr_lawful.specs.kr_model.Change.{End, Reap};
+ghost use Rattle.law_lawful.specs.kr_model.Applied.{put_in};
+ghost use Rattle.law_lawful.specs.kr_model.Change.{End, Reap};
 ghost use Rattle.kr_ops.specs.Ending.{adopted, parent_after};
 ghost use Rattle.kr_ops.specs.Meaning.{ended_meaning, meaning};
 ghost use Rattle.kr_ops.specs.Making.{Makes};
@@ -10,7 +10,7 @@ ghost use Rattle.kr_ops.specs.Sound.{IsOfView, IsServed};
 
 use crate::holding::release;
 use crate::state::{EndedProcess, State};
-use kr_lawful::below::NoMemory;
+use law_lawful::below::NoMemory;
 
 /// The process that has the children of those that ended. It isn't among the living.
 const FIRST_PROCESS: u32 = 1;

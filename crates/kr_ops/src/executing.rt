@@ -1,10 +1,10 @@
 //! Changes that a new program brings: the executable, and what the process computes on.
 ghost use Rattle.std.specs.FinMap as map;
 ghost use Rattle.std.specs.Prelude.{◌≡◌, ◌+◌, IsSome, IfSome};
-ghost use Rattle.kr_lawful.specs.rv_mem.Memory.{page_count};
-ghost use Rattle.kr_lawful.specs.kr_tree.Tree.{inode};
-ghost use Rattle.kr_lawful.specs.kr_model.Change.{ReplaceImage};
-ghost use Rattle.kr_lawful.specs.kr_model.State.{inode_of as host_inode, process};
+ghost use Rattle.law_lawful.specs.rv_mem.Memory.{page_count};
+ghost use Rattle.law_lawful.specs.kr_tree.Tree.{inode};
+ghost use Rattle.law_lawful.specs.kr_model.Change.{ReplaceImage};
+ghost use Rattle.law_lawful.specs.kr_model.State.{inode_of as host_inode, process};
 ghost use Rattle.kr_ops.specs.Meaning.{meaning};
 ghost use Rattle.kr_ops.specs.Making.{Makes};
 ghost use Rattle.kr_ops.specs.Opening.{Executes};
@@ -12,7 +12,7 @@ ghost use Rattle.kr_ops.specs.Sound.{IsServed, IsSound};
 
 use crate::holding::{hold, release};
 use crate::state::State;
-use kr_lawful::below::{Bytes, Ino, Place, Regs, Room, Space};
+use law_lawful::below::{Bytes, Ino, Place, Regs, Room, Space};
 
 impl<T: Copy, const M: u8> State<T, M> {
     /// Gives a living process another executable, with the entry that it remembers; an empty name remembers none.

@@ -1,19 +1,19 @@
 //! New processes.
 ghost use Rattle.std.specs.Prelude.{◌≡◌, ◌+◌, ◌<◌, ◌≤◌, ◌^◌, true, IsSome, IfSome, IfOk, OnOk};
-ghost use Rattle.kr_lawful.specs.rv_mem.Memory.{page_count};
-ghost use Rattle.kr_lawful.specs.rv_mem.Pages.{allows_all};
-ghost use Rattle.kr_lawful.specs.rv_mem.declared.rights.Use.TheVariants.{Write};
-ghost use Rattle.kr_lawful.specs.kr_model.Applied.{child_regs, told};
-ghost use Rattle.kr_lawful.specs.kr_model.Change.{Fork};
-ghost use Rattle.kr_lawful.specs.kr_model.MemoryRows.{all_pages};
-ghost use Rattle.kr_lawful.specs.kr_model.State.{process};
+ghost use Rattle.law_lawful.specs.rv_mem.Memory.{page_count};
+ghost use Rattle.law_lawful.specs.rv_mem.Pages.{allows_all};
+ghost use Rattle.law_lawful.specs.rv_mem.declared.rights.Use.TheVariants.{Write};
+ghost use Rattle.law_lawful.specs.kr_model.Applied.{child_regs, told};
+ghost use Rattle.law_lawful.specs.kr_model.Change.{Fork};
+ghost use Rattle.law_lawful.specs.kr_model.MemoryRows.{all_pages};
+ghost use Rattle.law_lawful.specs.kr_model.State.{process};
 ghost use Rattle.kr_ops.specs.Meaning.{meaning};
 ghost use Rattle.kr_ops.specs.Making.{Makes};
 ghost use Rattle.kr_ops.specs.Sound.{IsServed, IsSound};
 
 use crate::holding::{hold, hold_all};
 use crate::state::{Process, State};
-use kr_lawful::below::{Bytes, MapFault, NoMemory, Regs, Space, StoreFault};
+use law_lawful::below::{Bytes, MapFault, NoMemory, Regs, Space, StoreFault};
 
 /// The register that holds the answer of a call, and that of the stack pointer.
 const ANSWER: usize = 10;

@@ -1,14 +1,14 @@
 //! Holds on the inodes of places.
 ghost use Rattle.std.specs.Prelude.{◌≡◌, ◌+◌, ◌<◌, ◌^◌, ℕ, IfSome, IsSome};
 ghost use Rattle.std.specs.Option.{option_and_then};
-ghost use Rattle.kr_lawful.specs.kr_tree.Tree.{inode};
-ghost use Rattle.kr_lawful.specs.kr_tree.Holds.{holds_at};
-ghost use Rattle.kr_lawful.specs.kr_files.Descriptors.{meanings};
-ghost use Rattle.kr_lawful.specs.kr_files.Files.{opened_at, NamesOpenFiles};
-ghost use Rattle.kr_lawful.specs.kr_model.State.{inode_of as host_inode};
-ghost use Rattle.kr_lawful.specs.kr_model.Applied.{held_at, held_for, released_at};
+ghost use Rattle.law_lawful.specs.kr_tree.Tree.{inode};
+ghost use Rattle.law_lawful.specs.kr_tree.Holds.{holds_at};
+ghost use Rattle.law_lawful.specs.kr_files.Descriptors.{meanings};
+ghost use Rattle.law_lawful.specs.kr_files.Files.{opened_at, NamesOpenFiles};
+ghost use Rattle.law_lawful.specs.kr_model.State.{inode_of as host_inode};
+ghost use Rattle.law_lawful.specs.kr_model.Applied.{held_at, held_for, released_at};
 
-use kr_lawful::below::{Descs, Files, Host, Ino, Place, Tree};
+use law_lawful::below::{Descs, Files, Host, Ino, Place, Tree};
 
 /// How many descriptors a process may have.
 pub(crate) const DESCRIPTORS: u32 = 1024;

@@ -1,15 +1,15 @@
 //! Names that go and names that move, with what remembers them: open files and executables.
 ghost use Rattle.std.specs.Prelude.{◌≡◌, ◌+◌, ◌<◌, ◌^◌, ℕ, [], false, IfSome, OnOk, map as map_list, if◌then◌else◌};
-ghost use Rattle.kr_lawful.specs.kr_tree.Tree.{entry, body_is, is_filled};
-ghost use Rattle.kr_lawful.specs.kr_tree.Changes.{next_serial};
-ghost use Rattle.kr_lawful.specs.kr_tree.Lawful.{IsLawfulMove};
-ghost use Rattle.kr_lawful.specs.kr_model.Change.{MoveName, RemoveName};
+ghost use Rattle.law_lawful.specs.kr_tree.Tree.{entry, body_is, is_filled};
+ghost use Rattle.law_lawful.specs.kr_tree.Changes.{next_serial};
+ghost use Rattle.law_lawful.specs.kr_tree.Lawful.{IsLawfulMove};
+ghost use Rattle.law_lawful.specs.kr_model.Change.{MoveName, RemoveName};
 ghost use Rattle.kr_ops.specs.Making.{Makes};
 ghost use Rattle.kr_ops.specs.Remembering.{followed, forgotten, is_entry};
 ghost use Rattle.kr_ops.specs.Sound.{IsServed};
 
 use crate::state::State;
-use kr_lawful::below::{Bytes, Ino, NoMemory};
+use law_lawful::below::{Bytes, Ino, NoMemory};
 
 /// Whether an entry that is remembered is that of a name in a directory. An empty name remembers none.
 fn is_entry(dir: Ino, name: &[u8], at: Ino, remembered: &Bytes) -> bool

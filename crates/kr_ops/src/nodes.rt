@@ -1,16 +1,16 @@
 //! Changes of nodes, and new names of them. What takes a name away stands with what remembers names.
 ghost use Rattle.std.specs.Prelude.{◌≡◌, ℕ, ◌+◌, ◌<◌, ◌^◌, ◌↔◌, ◌&&◌, not, true, None, IsSome, IsTrue, IsErrOf, IfOk, OnOk, OnErr, length};
-ghost use Rattle.kr_lawful.specs.kr_inode.Stored.{body_of_new};
-ghost use Rattle.kr_lawful.specs.kr_tree.Tree.{inode, entry, body_is, takes_names, may_be_linked, is_file, bytes_of};
-ghost use Rattle.kr_lawful.specs.kr_tree.Names.{is_name};
-ghost use Rattle.kr_lawful.specs.kr_tree.Changes.{has_no_name_left, has_no_room, has_no_room_for, is_past_file, is_too_big, next_serial, size, size_written};
-ghost use Rattle.kr_lawful.specs.kr_model.Change.{AddNode, LinkNode, SetMode, SetOwner, SetSize, WriteFile};
+ghost use Rattle.law_lawful.specs.kr_inode.Stored.{body_of_new};
+ghost use Rattle.law_lawful.specs.kr_tree.Tree.{inode, entry, body_is, takes_names, may_be_linked, is_file, bytes_of};
+ghost use Rattle.law_lawful.specs.kr_tree.Names.{is_name};
+ghost use Rattle.law_lawful.specs.kr_tree.Changes.{has_no_name_left, has_no_room, has_no_room_for, is_past_file, is_too_big, next_serial, size, size_written};
+ghost use Rattle.law_lawful.specs.kr_model.Change.{AddNode, LinkNode, SetMode, SetOwner, SetSize, WriteFile};
 ghost use Rattle.kr_ops.specs.Meaning.{meaning};
 ghost use Rattle.kr_ops.specs.Making.{Makes};
 ghost use Rattle.kr_ops.specs.Sound.{IsServed};
 
 use crate::state::State;
-use kr_lawful::below::{Ino, Meta, Node, TreeRefusal};
+use law_lawful::below::{Ino, Meta, Node, TreeRefusal};
 
 impl<T: Copy, const M: u8> State<T, M> {
     /// Puts a new node under a free name of a directory, and gives its number. TooBig comes before Full.

@@ -1,9 +1,9 @@
 //! Descriptors that come: files that are opened, copies, and pipes.
 ghost use Rattle.std.specs.Prelude.{◌≡◌, ◌≢◌, ◌↔◌, ◌+◌, ◌<◌, ◌^◌, ℕ, Some, None, Err, false, IsSome, IsTrue, IfSome, IfOk, OnErr, OnOk};
-ghost use Rattle.kr_lawful.specs.kr_tree.Tree.{inode};
-ghost use Rattle.kr_lawful.specs.kr_files.Opened.{is_no_end};
-ghost use Rattle.kr_lawful.specs.kr_model.Change.{CopyDescriptor, MakePipe};
-ghost use Rattle.kr_lawful.specs.kr_model.State.{inode_of as host_inode, named, process};
+ghost use Rattle.law_lawful.specs.kr_tree.Tree.{inode};
+ghost use Rattle.law_lawful.specs.kr_files.Opened.{is_no_end};
+ghost use Rattle.law_lawful.specs.kr_model.Change.{CopyDescriptor, MakePipe};
+ghost use Rattle.law_lawful.specs.kr_model.State.{inode_of as host_inode, named, process};
 ghost use Rattle.kr_ops.specs.Meaning.{meaning};
 ghost use Rattle.kr_ops.specs.Making.{IsAsBefore, Makes};
 ghost use Rattle.kr_ops.specs.Opening.{lowest_of, pair_of, takes_pipe_of, Opens};
@@ -11,7 +11,7 @@ ghost use Rattle.kr_ops.specs.Sound.{IsServed, IsSound};
 
 use crate::holding::{hold, release};
 use crate::state::State;
-use kr_lawful::below::{FilesRefusal, NoMemory, Opened};
+use law_lawful::below::{FilesRefusal, NoMemory, Opened};
 
 impl<T: Copy, const M: u8> State<T, M> {
     /// Opens what is no end of a pipe under the lowest free descriptor of a living process; Full exactly where none is free.

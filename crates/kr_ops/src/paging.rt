@@ -1,17 +1,17 @@
 //! Changes of the pages of a process.
-ghost use Rattle.kr_lawful.specs.pr_base.Page.{page_size};
+ghost use Rattle.law_lawful.specs.pr_base.Page.{page_size};
 ghost use Rattle.std.specs.Prelude.{◌≡◌, ◌↔◌, ◌+◌, ◌*◌, ◌/◌, ◌%◌, ◌≤◌, ℕ, IsOk, IsSome, IsTrue, IfSome, IsErrOf, OnOk, OnErr};
-ghost use Rattle.kr_lawful.specs.rv_mem.Memory.{passes_limit};
-ghost use Rattle.kr_lawful.specs.rv_mem.Pages.{has_pages, mapped};
-ghost use Rattle.kr_lawful.specs.kr_model.Change.{ChangePages, MapPages, ProtectPages, UnmapPages};
-ghost use Rattle.kr_lawful.specs.kr_model.Known.{pages_in_all};
-ghost use Rattle.kr_lawful.specs.kr_model.State.{image_layout, process};
+ghost use Rattle.law_lawful.specs.rv_mem.Memory.{passes_limit};
+ghost use Rattle.law_lawful.specs.rv_mem.Pages.{has_pages, mapped};
+ghost use Rattle.law_lawful.specs.kr_model.Change.{ChangePages, MapPages, ProtectPages, UnmapPages};
+ghost use Rattle.law_lawful.specs.kr_model.Known.{pages_in_all};
+ghost use Rattle.law_lawful.specs.kr_model.State.{image_layout, process};
 ghost use Rattle.kr_ops.specs.Meaning.{meaning};
 ghost use Rattle.kr_ops.specs.Making.{Makes};
 ghost use Rattle.kr_ops.specs.Sound.{IsServed, IsSound};
 
 use crate::state::State;
-use kr_lawful::below::{BadAddress, MapFault, PAGES_END, Rights};
+use law_lawful::below::{BadAddress, MapFault, PAGES_END, Rights};
 
 impl<T: Copy, const M: u8> State<T, M> {
     /// Maps fresh zero pages of a living process from an address on, in place of those that are there; Full exactly where the process or

@@ -1,14 +1,14 @@
 //! Bytes that go through pipes.
 ghost use Rattle.std.specs.FinMap as map;
 ghost use Rattle.std.specs.Prelude.{◌≡◌, ◌↔◌, ◌<◌, ℕ, length, false, Some, Ok, IsSome, IsTrue, IfOk, OnOk, OnErr};
-ghost use Rattle.kr_lawful.specs.kr_files.Files.{has_reader, read_answer, reads_wait, write_answer, writes_wait};
-ghost use Rattle.kr_lawful.specs.kr_model.Change.{PutIntoPipe, TakeFromPipe};
+ghost use Rattle.law_lawful.specs.kr_files.Files.{has_reader, read_answer, reads_wait, write_answer, writes_wait};
+ghost use Rattle.law_lawful.specs.kr_model.Change.{PutIntoPipe, TakeFromPipe};
 ghost use Rattle.kr_ops.specs.Meaning.{meaning};
 ghost use Rattle.kr_ops.specs.Making.{Makes};
 ghost use Rattle.kr_ops.specs.Sound.{IsServed};
 
 use crate::state::State;
-use kr_lawful::below::{Moved, NoMemory, Wrote};
+use law_lawful::below::{Moved, NoMemory, Wrote};
 
 impl<T: Copy, const M: u8> State<T, M> {
     /// Takes the oldest bytes out of a pipe, as many as there are up to `n`.

@@ -1,6 +1,6 @@
 //! The state of a kernel.
 
-use kr_lawful::below::{Bytes, Descs, Files, Ino, Place, Regs, Room, Space, Tree, User};
+use law_lawful::below::{Bytes, Descs, Files, Ino, Place, Regs, Room, Space, Tree, User};
 
 /// A living process. `T` tells mounts apart, and `M` is not 0 where the marks of bytes are kept.
 #[derive(Drop)]

@@ -1,27 +1,27 @@
 -- What calls leave of lawful states.
-pub use Rattle.kr_resolved.proofs.AroundLemmas.{lead_to_places}
-pub use Rattle.kr_resolved.proofs.NamingLemmas.{walks_name}
-pub use Rattle.kr_resolved.proofs.NumberedLemmas.{lawful_numbered}
-pub use Rattle.kr_resolved.proofs.ResolveLemmas.{walks_resolve}
+pub use Rattle.kr_perform.proofs.AroundLemmas.{lead_to_places}
+pub use Rattle.kr_perform.proofs.NamingLemmas.{walks_name}
+pub use Rattle.kr_perform.proofs.NumberedLemmas.{lawful_numbered}
+pub use Rattle.kr_perform.proofs.ResolveLemmas.{walks_resolve}
 use Rattle.std.proofs.Common.{◌≡◌, ℕ, suc, Option, sym, ap, subst, ◌∙◌, arith}
 use Rattle.std.specs.Option.{option_map_or}
-use Rattle.kr_resolved.specs.rv_mem.Actions.{carried_out}
-use Rattle.kr_resolved.specs.rv_mem.Memory.{Memory}
-use Rattle.kr_resolved.specs.kr_model.Known.{known}
-use Rattle.kr_resolved.specs.kr_model.Lawful.{IsLawful}
-use Rattle.kr_resolved.specs.kr_model.Operation.{operation}
-use Rattle.kr_resolved.specs.kr_model.Reply.{Replying}
-use Rattle.kr_resolved.specs.kr_model.State as model
-use Rattle.kr_resolved.specs.kr_model.Walks.{told}
-use Rattle.kr_resolved.specs.kr_allowed.Lasting.{Lasts}
-use Rattle.kr_resolved.proofs.kr_allowed.ChangeLemmas.{modest-last}
-use Rattle.kr_resolved.proofs.kr_allowed.RoomLemmas.{lasting-room}
-use Rattle.kr_resolved.specs.kr_allowed.Allowed.{with_memory}
-use Rattle.kr_resolved.specs.kr_allowed.Resting.{HasSmallNumbers}
-use Rattle.kr_resolved.proofs.kr_allowed.OperationLemmas.{operation-is-allowed}
-use Rattle.kr_resolved.specs.kr_seen.Carrying.{after_row, memory_of, no_memory}
-use Rattle.kr_resolved.specs.kr_ops.Meaning.{meaning}
-use Rattle.kr_resolved.specs.kr_seen.Numbered.{state_numbered}
+use Rattle.law_allowed.specs.rv_mem.Actions.{carried_out}
+use Rattle.law_allowed.specs.rv_mem.Memory.{Memory}
+use Rattle.law_allowed.specs.kr_model.Known.{known}
+use Rattle.law_allowed.specs.kr_model.Lawful.{IsLawful}
+use Rattle.law_allowed.specs.kr_model.Operation.{operation}
+use Rattle.law_allowed.specs.kr_model.Reply.{Replying}
+use Rattle.law_allowed.specs.kr_model.State as model
+use Rattle.law_allowed.specs.kr_model.Walks.{told}
+use Rattle.law_allowed.specs.Lasting.{Lasts}
+use Rattle.law_allowed.proofs.ChangeLemmas.{modest-last}
+use Rattle.law_allowed.proofs.RoomLemmas.{lasting-room}
+use Rattle.law_allowed.specs.Allowed.{with_memory}
+use Rattle.law_allowed.specs.Resting.{HasSmallNumbers}
+use Rattle.law_allowed.proofs.OperationLemmas.{operation-is-allowed}
+use Rattle.kr_seen.specs.Carrying.{after_row, memory_of, no_memory}
+use Rattle.kr_seen.specs.kr_ops.Meaning.{meaning}
+use Rattle.kr_seen.specs.Numbered.{state_numbered}
 use Rattle.kr_perform.specs.Lawful.{LastsLawful, PerformedLast}
 use Rattle.kr_perform.specs.Operating.{mounts_at, placed_targets}
 

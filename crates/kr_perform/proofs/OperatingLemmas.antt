@@ -2,25 +2,25 @@
 use Rattle.std.proofs.Common.{◌≡◌, ◌≤◌, ℕ, true, false, length, [], ◌∷◌, List, Option, Some, None, IfSome, refl, sym, subst, arith}
 use Rattle.std.specs.Prelude.{◌==◌}
 use Rattle.std.proofs.lemmas.Bool.Decides.{nat_tests}
-use Rattle.kr_resolved.specs.kr_calls.declared.request.Request.{Request}
-use Rattle.kr_transfer.specs.pr_base.declared.errno.Errno.TheVariants.{ENOENT}
-use Rattle.kr_resolved.specs.kr_view.View.{Row}
-use Rattle.kr_resolved.specs.kr_view.declared.target.Target.{Target}
-use Rattle.kr_resolved.specs.kr_model.Known.{Known, known}
-use Rattle.kr_resolved.specs.kr_model.Lawful.{ArePids, IsLawful}
-use Rattle.kr_resolved.specs.kr_model.Operation.{operation}
-use Rattle.kr_resolved.specs.kr_model.Reply.{Replying, refusal, refuse}
-use Rattle.kr_resolved.specs.kr_model.State as model
-use Rattle.kr_resolved.specs.kr_model.State.{Image, process}
-use Rattle.kr_resolved.specs.kr_model.Walks.{told}
-use Rattle.kr_resolved.specs.kr_model.declared.outcome.Outcome.{Outcome}
-use Rattle.kr_resolved.specs.kr_ops.declared.state.State.{State}
-use Rattle.kr_resolved.specs.kr_ops.Meaning.{meaning}
-use Rattle.kr_resolved.specs.kr_seen.Numbered.{state_numbered}
-use Rattle.kr_resolved.specs.kr_seen.Carrying.{CarriesOut}
-use Rattle.kr_resolved.proofs.kr_seen.CarryLemmas.{by-refusal}
+use Rattle.law_allowed.specs.kr_calls.declared.request.Request.{Request}
+use Rattle.kr_seen.specs.pr_base.declared.errno.Errno.TheVariants.{ENOENT}
+use Rattle.law_allowed.specs.kr_view.View.{Row}
+use Rattle.law_allowed.specs.kr_view.declared.target.Target.{Target}
+use Rattle.law_allowed.specs.kr_model.Known.{Known, known}
+use Rattle.law_allowed.specs.kr_model.Lawful.{ArePids, IsLawful}
+use Rattle.law_allowed.specs.kr_model.Operation.{operation}
+use Rattle.law_allowed.specs.kr_model.Reply.{Replying, refusal, refuse}
+use Rattle.law_allowed.specs.kr_model.State as model
+use Rattle.law_allowed.specs.kr_model.State.{Image, process}
+use Rattle.law_allowed.specs.kr_model.Walks.{told}
+use Rattle.law_allowed.specs.kr_model.declared.outcome.Outcome.{Outcome}
+use Rattle.kr_seen.specs.kr_ops.declared.state.State.{State}
+use Rattle.kr_seen.specs.kr_ops.Meaning.{meaning}
+use Rattle.kr_seen.specs.Numbered.{state_numbered}
+use Rattle.kr_seen.specs.Carrying.{CarriesOut}
+use Rattle.kr_seen.proofs.CarryLemmas.{by-refusal}
 use Rattle.kr_transfer.specs.kr_rows.Performing.{Performs}
-use Rattle.kr_resolved.specs.kr_model.Applied.{Mounts}
+use Rattle.law_allowed.specs.kr_model.Applied.{Mounts}
 use Rattle.kr_perform.specs.Operating.{OperatesAlone, OperatesAt, mounts_at, placed_targets}
 
 pub alone : {T : Type 0} {M : ℕ} {pid : ℕ} {old new : State T M} {result : Outcome} {request kind : Request} → request ≡ kind → OperatesAlone pid kind old new result → OperatesAlone pid request old new result

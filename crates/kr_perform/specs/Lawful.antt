@@ -1,20 +1,20 @@
 -- What calls leave of lawful states.
 use Rattle.std.specs.Prelude.{◌≡◌, ◌≢◌, ◌<◌, ◌^◌, ℕ, suc, List, Option, Some}
-use Rattle.kr_resolved.specs.kr_allowed.Allowed.{HoldsBytes}
-use Rattle.kr_resolved.specs.kr_calls.declared.request.Request.{Request}
-use Rattle.kr_resolved.specs.kr_view.View.{Row}
-use Rattle.kr_resolved.specs.kr_view.declared.target.Target.{Target}
-use Rattle.kr_resolved.specs.kr_model.Lawful.{IsLawful}
-use Rattle.kr_resolved.specs.kr_model.Operation.{IsNoExec}
-use Rattle.kr_resolved.specs.kr_model.State as model
-use Rattle.kr_resolved.specs.kr_model.Walks.{told}
-use Rattle.kr_resolved.specs.kr_model.declared.outcome.Outcome.{Outcome}
-use Rattle.kr_resolved.specs.kr_model.declared.outcome.Outcome.TheVariants.{NoMemory}
-use Rattle.kr_resolved.specs.kr_allowed.Lasting.{Lasts}
-use Rattle.kr_resolved.specs.kr_allowed.Calls.{IsGivable, IsToldIn}
-use Rattle.kr_resolved.specs.kr_ops.declared.state.State.{State}
-use Rattle.kr_resolved.specs.kr_ops.Meaning.{meaning}
-use Rattle.kr_resolved.specs.kr_seen.Numbered.{state_numbered}
+use Rattle.law_allowed.specs.Allowed.{HoldsBytes}
+use Rattle.law_allowed.specs.kr_calls.declared.request.Request.{Request}
+use Rattle.law_allowed.specs.kr_view.View.{Row}
+use Rattle.law_allowed.specs.kr_view.declared.target.Target.{Target}
+use Rattle.law_allowed.specs.kr_model.Lawful.{IsLawful}
+use Rattle.law_allowed.specs.kr_model.Operation.{IsNoExec}
+use Rattle.law_allowed.specs.kr_model.State as model
+use Rattle.law_allowed.specs.kr_model.Walks.{told}
+use Rattle.law_allowed.specs.kr_model.declared.outcome.Outcome.{Outcome}
+use Rattle.law_allowed.specs.kr_model.declared.outcome.Outcome.TheVariants.{NoMemory}
+use Rattle.law_allowed.specs.Lasting.{Lasts}
+use Rattle.law_allowed.specs.Calls.{IsGivable, IsToldIn}
+use Rattle.kr_seen.specs.kr_ops.declared.state.State.{State}
+use Rattle.kr_seen.specs.kr_ops.Meaning.{meaning}
+use Rattle.kr_seen.specs.Numbered.{state_numbered}
 use Rattle.kr_perform.specs.Operating.{OperatesAt, mounts_at, placed_targets}
 
 -- a lawful state in which lasts what calls keep, after `calls` of them

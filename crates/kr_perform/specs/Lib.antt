@@ -1,16 +1,16 @@
-pub use Rattle.kr_transfer.specs.pr_base as pr_base
 pub use Rattle.kr_transfer.specs.kr_inode as kr_inode
-pub use Rattle.kr_resolved.specs.kr_tree as kr_tree
-pub use Rattle.kr_resolved.specs.kr_view as kr_view
-pub use Rattle.kr_resolved.specs.kr_files as kr_files
-pub use Rattle.kr_resolved.specs.kr_calls as kr_calls
-pub use Rattle.kr_resolved.specs.kr_model as kr_model
-pub use Rattle.kr_resolved.specs.kr_lawful as kr_lawful
-pub use Rattle.kr_resolved.specs.kr_allowed as kr_allowed
-pub use Rattle.kr_resolved.specs.kr_ops as kr_ops
-pub use Rattle.kr_resolved.specs.kr_seen as kr_seen
-pub use Rattle.kr_resolved.specs.kr_targets as kr_targets
+pub use Rattle.law_allowed.specs.kr_view as kr_view
+pub use Rattle.law_allowed.specs.kr_files as kr_files
+pub use Rattle.law_allowed.specs.kr_calls as kr_calls
+pub use Rattle.law_allowed.specs.kr_model as kr_model
+pub use Rattle.law_allowed.specs.law_lawful as law_lawful
+pub use Rattle.law_allowed.specs as law_allowed
+pub use Rattle.kr_seen.specs.kr_ops as kr_ops
+pub use Rattle.kr_seen.specs as kr_seen
 pub use Rattle.kr_transfer.specs.kr_rows as kr_rows
 pub mod Operating
 pub mod Lawful
-pub mod Resolved
+pub mod Naming
+pub mod Resolving
+pub mod Walked
+pub mod Calling

@@ -2,22 +2,22 @@
 -- what is left of the state.
 use Rattle.std.specs.Prelude.{◌+◌, ◌<◌, ◌^◌, ℕ, List, Option}
 use Rattle.std.specs.Option.{option_map, option_and_then}
-use Rattle.kr_resolved.specs.kr_calls.declared.request.Request.{Request}
-use Rattle.kr_resolved.specs.kr_calls.declared.request.Request.TheVariants as call
-use Rattle.kr_resolved.specs.kr_tree.Changes.{next_serial}
-use Rattle.kr_resolved.specs.kr_view.View.{Row}
-use Rattle.kr_resolved.specs.kr_view.declared.target.Target.{Target}
-use Rattle.kr_resolved.specs.kr_model.Applied.{Mounts}
-pub use Rattle.kr_resolved.specs.kr_model.Operation.{IsNoExec}
-use Rattle.kr_resolved.specs.kr_model.Operation.{operation}
-use Rattle.kr_resolved.specs.kr_model.Seen.{Seen}
-use Rattle.kr_resolved.specs.kr_model.Walks.{Targets, told}
-use Rattle.kr_resolved.specs.kr_model.declared.outcome.Outcome.{Outcome}
-use Rattle.kr_resolved.specs.kr_ops.declared.state.State.{State}
-use Rattle.kr_resolved.specs.kr_ops.Meaning.{meaning}
-use Rattle.kr_resolved.specs.kr_seen.Numbered.{state_numbered}
-use Rattle.kr_resolved.specs.kr_seen.Carrying.{CarriesOut}
-use Rattle.kr_resolved.specs.kr_targets.Placed.{placed_in}
+use Rattle.law_allowed.specs.kr_calls.declared.request.Request.{Request}
+use Rattle.law_allowed.specs.kr_calls.declared.request.Request.TheVariants as call
+use Rattle.law_allowed.specs.kr_tree.Changes.{next_serial}
+use Rattle.law_allowed.specs.kr_view.View.{Row}
+use Rattle.law_allowed.specs.kr_view.declared.target.Target.{Target}
+use Rattle.law_allowed.specs.kr_model.Applied.{Mounts}
+pub use Rattle.law_allowed.specs.kr_model.Operation.{IsNoExec}
+use Rattle.law_allowed.specs.kr_model.Operation.{operation}
+use Rattle.law_allowed.specs.kr_model.Seen.{Seen}
+use Rattle.law_allowed.specs.kr_model.Walks.{Targets, told}
+use Rattle.law_allowed.specs.kr_model.declared.outcome.Outcome.{Outcome}
+use Rattle.kr_seen.specs.kr_ops.declared.state.State.{State}
+use Rattle.kr_seen.specs.kr_ops.Meaning.{meaning}
+use Rattle.kr_seen.specs.Numbered.{state_numbered}
+use Rattle.kr_seen.specs.Carrying.{CarriesOut}
+use Rattle.kr_seen.specs.Placed.{placed_in}
 use Rattle.kr_transfer.specs.kr_rows.Performing.{Performs}
 
 -- ---- kinds of requests

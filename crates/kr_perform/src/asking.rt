@@ -1,18 +1,19 @@
 //! Calls that ask or set what a path leads to. A path that isn't walked leads nowhere: ENOENT.
 ghost use Rattle.std.specs.Prelude.{◌≢◌, ◌∷◌, ℕ, ℤ, List, IfSome, IsSome};
-ghost use Rattle.kr_resolved.specs.kr_calls.declared.request.Request.TheVariants as call;
-ghost use Rattle.kr_resolved.specs.kr_view.View.{Row};
-ghost use Rattle.kr_resolved.specs.kr_model.Lawful.{IsLawful};
-ghost use Rattle.kr_resolved.specs.kr_model.State.{process};
-ghost use Rattle.kr_resolved.specs.kr_model.declared.outcome.Outcome.TheVariants.{NoMemory as WantOfMemory};
-ghost use Rattle.kr_resolved.specs.kr_ops.Meaning.{meaning};
-ghost use Rattle.kr_resolved.specs.kr_ops.Sound.{IsServed, IsSound};
-ghost use Rattle.kr_resolved.specs.kr_targets.Resolved.{IsFoundIn};
+ghost use Rattle.law_allowed.specs.kr_calls.declared.request.Request.TheVariants as call;
+ghost use Rattle.law_allowed.specs.kr_view.View.{Row};
+ghost use Rattle.law_allowed.specs.kr_model.Lawful.{IsLawful};
+ghost use Rattle.law_allowed.specs.kr_model.State.{process};
+ghost use Rattle.law_allowed.specs.kr_model.declared.outcome.Outcome.TheVariants.{NoMemory as WantOfMemory};
+ghost use Rattle.kr_seen.specs.kr_ops.Meaning.{meaning};
+ghost use Rattle.kr_seen.specs.kr_ops.Sound.{IsServed, IsSound};
+ghost use Rattle.kr_seen.specs.Resolved.{IsFoundIn};
 ghost use Rattle.kr_perform.specs.Operating.{OperatesAt};
 
 use kr_attributes::{directories, links, modes, owners, rights, stats};
-use kr_resolved::below::{Outcome, Places, State, Targets, lawful_states_are_sound, refused};
-use kr_transfer::below::Errno;
+use kr_seen::below::{Errno, State, lawful_states_are_sound};
+use kr_seen::{Targets, refused};
+use law_allowed::below::{Outcome, Places};
 
 /// chdir(2).
 pub fn chdir<T: Copy, const M: u8>(

@@ -1,6 +1,4 @@
 //! What those above name of the crates below.
 
-pub use kr_resolved::below::{
-    CallFault, Meant, Outcome, Places, Reach, Request, State, Targets, Use, WalkFault, What,
-    decode, lawful_states_are_sound, procs, refused, walk_paths,
-};
+pub use kr_seen::below::{Meant, State};
+pub use law_allowed::below::{CallFault, Outcome, Places, Reach, Request, What, decode};

@@ -1,10 +1,10 @@
 //! Calls without a path: those on what is open under a descriptor here, and the others where they stand.
 ghost use Rattle.std.specs.Prelude.{◌≢◌, IsSome};
-ghost use Rattle.kr_resolved.specs.kr_model.State.{process};
-ghost use Rattle.kr_resolved.specs.kr_model.declared.outcome.Outcome.TheVariants.{NoMemory as WantOfMemory};
-ghost use Rattle.kr_resolved.specs.kr_allowed.Calls.{IsGivable};
-ghost use Rattle.kr_resolved.specs.kr_ops.Meaning.{meaning};
-ghost use Rattle.kr_resolved.specs.kr_ops.Sound.{IsOfView, IsServed};
+ghost use Rattle.law_allowed.specs.kr_model.State.{process};
+ghost use Rattle.law_allowed.specs.kr_model.declared.outcome.Outcome.TheVariants.{NoMemory as WantOfMemory};
+ghost use Rattle.law_allowed.specs.Calls.{IsGivable};
+ghost use Rattle.kr_seen.specs.kr_ops.Meaning.{meaning};
+ghost use Rattle.kr_seen.specs.kr_ops.Sound.{IsOfView, IsServed};
 ghost use Rattle.kr_perform.specs.Operating.{HasNumbers, IsAlone, OperatesAlone};
 
 use crate::processes;
@@ -12,12 +12,13 @@ use kr_attributes::directories::fchdir;
 use kr_attributes::modes::fchmod;
 use kr_attributes::owners::fchown;
 use kr_attributes::stats::fstat;
-use kr_resolved::below::{Outcome, Request, State, lawful_states_are_sound};
+use kr_seen::below::{State, lawful_states_are_sound};
 use kr_transfer::below::{close, dup, dup3, fcntl, ioctl, lseek, pipe2};
 use kr_transfer::entries::getdents64;
 use kr_transfer::reading::{read, readv};
 use kr_transfer::sizes::ftruncate;
 use kr_transfer::writing::{write, writev};
+use law_allowed::below::{Outcome, Request};
 
 /// Carries out a call without a path.
 pub fn perform<T: Copy, const M: u8>(

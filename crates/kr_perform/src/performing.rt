@@ -1,24 +1,26 @@
 //! Any call.
 ghost use Rattle.std.specs.Prelude.{◌≢◌, IsSome};
-ghost use Rattle.kr_resolved.specs.kr_model.Lawful.{IsLawful};
-ghost use Rattle.kr_resolved.specs.kr_model.State.{process};
-ghost use Rattle.kr_resolved.specs.kr_model.declared.outcome.Outcome.TheVariants.{NoMemory as WantOfMemory};
-ghost use Rattle.kr_resolved.specs.kr_allowed.Calls.{IsGivable};
-ghost use Rattle.kr_resolved.specs.kr_ops.Meaning.{meaning};
-ghost use Rattle.kr_resolved.specs.kr_ops.Sound.{IsServed};
-ghost use Rattle.kr_resolved.specs.Resolving.{AreResolved};
+ghost use Rattle.law_allowed.specs.kr_model.Lawful.{IsLawful};
+ghost use Rattle.law_allowed.specs.kr_model.State.{process};
+ghost use Rattle.law_allowed.specs.kr_model.declared.outcome.Outcome.TheVariants.{NoMemory as WantOfMemory};
+ghost use Rattle.law_allowed.specs.Calls.{IsGivable};
+ghost use Rattle.kr_seen.specs.kr_ops.Meaning.{meaning};
+ghost use Rattle.kr_seen.specs.kr_ops.Sound.{IsServed};
+ghost use Rattle.kr_perform.specs.Resolving.{AreResolved};
 ghost use Rattle.kr_perform.specs.Operating.{HasNumbers, IsNoExec, OperatesAt};
 
 use crate::{asking, descriptors, naming};
 use kr_attributes::names::getcwd;
-use kr_resolved::below::{Outcome, Places, Request, State, Targets, lawful_states_are_sound};
+use kr_seen::Targets;
+use kr_seen::below::{State, lawful_states_are_sound};
+use law_allowed::below::{Outcome, Places, Request};
 use std::alloc::Global;
 
 /// Carries out a call that isn't execve(2), of the targets of its paths: its clauses say what it answers and what it leaves.
 ///
 /// That what it leaves of a lawful state is lawful again, want of memory aside, and keeps what lasts, is the law
 /// `laws::performed_states_last`. That law asks for more than a lawful state: that of it all lasts which calls keep, after fewer than
-/// 2^31 calls, that the caller's memory holds bytes, and that what the call is told of its targets is so. `carry_out` of kr_calling,
+/// 2^31 calls, that the caller's memory holds bytes, and that what the call is told of its targets is so. `carry_out`,
 /// by which each call of a turn comes here, meets these premises, and promises such a state (`runs`).
 pub fn perform<P: Places, const M: u8>(
     alloc: Global,

@@ -1,13 +1,14 @@
 //! Calls on the caller, its pages and its user.
 ghost use Rattle.std.specs.Prelude.{◌≢◌, IsSome};
-ghost use Rattle.kr_resolved.specs.kr_model.State.{process};
-ghost use Rattle.kr_resolved.specs.kr_model.declared.outcome.Outcome.TheVariants.{NoMemory as WantOfMemory};
-ghost use Rattle.kr_resolved.specs.kr_ops.Meaning.{meaning};
-ghost use Rattle.kr_resolved.specs.kr_ops.Sound.{IsOfView, IsServed};
+ghost use Rattle.law_allowed.specs.kr_model.State.{process};
+ghost use Rattle.law_allowed.specs.kr_model.declared.outcome.Outcome.TheVariants.{NoMemory as WantOfMemory};
+ghost use Rattle.kr_seen.specs.kr_ops.Meaning.{meaning};
+ghost use Rattle.kr_seen.specs.kr_ops.Sound.{IsOfView, IsServed};
 ghost use Rattle.kr_perform.specs.Operating.{HasNumbers, IsOfProcess, OperatesAlone};
 
-use kr_resolved::below::{Outcome, Request, State, lawful_states_are_sound};
+use kr_seen::below::{State, lawful_states_are_sound};
 use kr_transfer::below::{ending, forking, identity, memory, processes, system};
+use law_allowed::below::{Outcome, Request};
 
 /// Carries out a call that names neither a path nor a descriptor.
 pub fn perform<T: Copy, const M: u8>(

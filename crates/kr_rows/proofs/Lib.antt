@@ -1,5 +1,5 @@
 pub use Rattle.kr_seen.proofs.rv_mem as rv_mem
-pub use Rattle.kr_seen.proofs.kr_lawful as kr_lawful
+pub use Rattle.kr_seen.proofs.law_lawful as law_lawful
 pub use Rattle.kr_seen.proofs.kr_ops as kr_ops
 pub mod PerformLemmas
 pub mod UsingLemmas

@@ -12,9 +12,9 @@ use Rattle.kr_seen.proofs.rv_mem.ChangeLemmas.{get-unmapped_out, len-mapped_more
 use Rattle.kr_seen.proofs.rv_mem.LayoutLemmas.{contains_layout, layouts_follow}
 use Rattle.kr_seen.proofs.rv_mem.TableLemmas.{has_pages-zero, has_pages_refused, mapped-zero}
 use Rattle.kr_seen.proofs.pr_base.MapLemmas.{remove-none}
-use Rattle.kr_seen.proofs.kr_lawful.SumLemmas.{passed-test}
-use Rattle.kr_seen.proofs.kr_lawful.OwnChangeLemmas.{neither}
-use Rattle.kr_seen.proofs.kr_lawful.AfterLemmas.{pids-with, some-of}
+use Rattle.kr_seen.proofs.law_lawful.SumLemmas.{passed-test}
+use Rattle.kr_seen.proofs.law_lawful.OwnChangeLemmas.{neither}
+use Rattle.kr_seen.proofs.law_lawful.AfterLemmas.{pids-with, some-of}
 use Rattle.kr_seen.specs.kr_model.Applied.{Mounts, applied, images, with_image, with_living}
 use Rattle.kr_seen.specs.kr_model.Change.{ChangePages, MapPages, PageChange, SetBreak}
 use Rattle.kr_seen.specs.kr_model.Known.{Known, caller_of, known, no_caller, pages_in_all}

@@ -11,7 +11,7 @@ use Rattle.kr_seen.specs.kr_calls.Arguments.{has}
 use Rattle.kr_seen.specs.kr_files.Descriptors.{lowest_free, lowest_pair}
 use Rattle.kr_seen.specs.kr_files.Files.{takes_pipe}
 use Rattle.kr_seen.proofs.kr_files.DescriptorLemmas.{lowest_free-some}
-use Rattle.kr_seen.proofs.kr_lawful.AfterLemmas.{some-of}
+use Rattle.kr_seen.proofs.law_lawful.AfterLemmas.{some-of}
 use Rattle.kr_seen.specs.kr_model.Change.{MakePipe}
 use Rattle.kr_seen.specs.kr_model.DescriptorRows.{o_cloexec, pipe2_row, pipe_numbers, pipe_under}
 use Rattle.kr_seen.specs.kr_model.Known.{Known, caller_of, known, no_caller}

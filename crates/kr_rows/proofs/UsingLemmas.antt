@@ -23,8 +23,8 @@ use Rattle.kr_seen.specs.kr_model.ProcessRows.{null_or_writable, unless_null}
 use Rattle.kr_seen.specs.kr_model.State as model
 use Rattle.kr_seen.specs.kr_model.Uses.{AreUses, file_uses, process_use}
 use Rattle.kr_seen.specs.kr_model.declared.outcome.Outcome.{Outcome}
-use Rattle.kr_seen.proofs.kr_lawful.AfterLemmas.{some-of, pids-with}
-use Rattle.kr_seen.proofs.kr_lawful.ProcessChangeLemmas.{found as found-with, found-passes, same-mapped, sum-with}
+use Rattle.kr_seen.proofs.law_lawful.AfterLemmas.{some-of, pids-with}
+use Rattle.kr_seen.proofs.law_lawful.ProcessChangeLemmas.{found as found-with, found-passes, same-mapped, sum-with}
 use Rattle.kr_seen.specs.kr_ops.declared.state.Process.{Process}
 use Rattle.kr_seen.specs.kr_ops.declared.state.State.{State}
 use Rattle.kr_seen.specs.kr_ops.Living.{HasPid}

@@ -1,4 +1,22 @@
 //! Calls of a guest, carried out on the state of a kernel.
+//!
+//! What is proved, with the clause or the law that carries it:
+//!
+//! Calls without a path that move no bytes of files, carried out on a state of kr_ops: on descriptors (dup, dup3, close, fcntl, ioctl, lseek,
+//! pipe2), on processes (clone, exit, wait4, getpid, getppid, umask and the calls on signals), on pages (brk, mmap, munmap, mprotect), on the
+//! numbers of the user, and uname.
+//!
+//! Each answers the outcome of its row and leaves what the row's reply makes of the state (`Performs`): the caller's memory as the row left it,
+//! and then the reply's changes. After want of memory nothing is promised. What the code keeps beside a state's meaning stays kept (`served`).
+//!
+//! `caller` has the uses of the caller's memory, for rows of other crates too: a test, reads and a write of bytes, all or none of them. What is
+//! read or written is that of the definition (`Reads`, `Writes`), and all that calls may ask of the state stays (`HasMemory`). `HasComeTo` says
+//! how far a row has come by such uses.
+//!
+//! Beside a sound state, clone and pipe2 ask that the numbers of processes, open files and pipes aren't used up, exit asks for a state that is
+//! lawful for some view, brk for a break that isn't past the last page, and dup3 for two different numbers.
+//!
+//! Only tested, or not shown: `rows`, and whole runs.
 #![tactic(auto)]
 
 pub mod answer;

@@ -5,7 +5,7 @@ pub use Rattle.kr_ops.proofs.kr_tree as kr_tree
 pub use Rattle.kr_ops.proofs.kr_view as kr_view
 pub use Rattle.kr_ops.proofs.kr_files as kr_files
 pub use Rattle.kr_ops.proofs.kr_model as kr_model
-pub use Rattle.kr_ops.proofs.kr_lawful as kr_lawful
+pub use Rattle.kr_ops.proofs.law_lawful as law_lawful
 pub use Rattle.kr_ops.proofs as kr_ops
 pub mod NumberedLemmas
 pub mod DirectoryLemmas
@@ -16,3 +16,9 @@ pub mod StandingLemmas
 pub mod CarryLemmas
 pub mod BaseLemmas
 pub mod TargetLemmas
+pub mod KnownLemmas
+pub mod TakenLemmas
+pub mod TableLemmas
+pub mod LookLemmas
+pub mod ChangeLemmas
+pub mod StepLemmas

@@ -7,6 +7,7 @@ pub use Rattle.kr_ops.specs.kr_procfs as kr_procfs
 pub use Rattle.kr_ops.specs.kr_files as kr_files
 pub use Rattle.kr_ops.specs.kr_calls as kr_calls
 pub use Rattle.kr_ops.specs.kr_model as kr_model
+pub use Rattle.kr_ops.specs.law_lawful as law_lawful
 pub use Rattle.kr_ops.specs as kr_ops
 pub mod Carried
 pub mod Held
@@ -17,3 +18,10 @@ pub mod Standing
 pub mod Targets
 pub mod Carrying
 pub mod CallWalks
+pub mod Asked
+pub mod Placed
+pub mod Performing
+pub mod Resolved
+pub mod Told
+pub mod MountLaws
+pub mod Mounts

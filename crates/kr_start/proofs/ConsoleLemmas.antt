@@ -5,18 +5,18 @@ use Rattle.std.specs.Prelude.{nat_lt, is_some}
 use Rattle.std.specs.Option.{option_map, option_and_then}
 use Rattle.std.proofs.lemmas.Bool.Decides.{nat_tests}
 use Rattle.std.proofs.lemmas.Option.{same_Some}
-use Rattle.elf_load.proofs.pr_base.MapLemmas.{by_key, get-insert_same, get-insert_other}
-use Rattle.kr_listed.specs.kr_view.View.{Row}
-use Rattle.kr_ops.specs.kr_files.declared.opened.Opened.{Opened}
-use Rattle.kr_ops.specs.kr_files.declared.opened.What.{What}
-use Rattle.kr_ops.specs.kr_files.Descriptors.{Meanings, Named, lowest_free, IsLowestFree}
-use Rattle.kr_ops.proofs.kr_files.DescriptorLemmas.{lowest_free-some, lowest_free-none}
-use Rattle.kr_ops.specs.kr_model.Applied.{open_in}
-use Rattle.kr_ops.specs.kr_model.Change.{OfFound}
-use Rattle.kr_ops.specs.kr_model.Lawful.{IsLawful}
-use Rattle.kr_ops.specs.kr_model.State.{Image, Process, State, process, is_pid, at_pid, with_descs}
-use Rattle.kr_ops.proofs.kr_lawful.AfterLemmas.{some-of}
-use Rattle.kr_ops.proofs.kr_lawful.ProcessChangeLemmas.{found, found-passes}
+use Rattle.pt_bind.proofs.pr_base.MapLemmas.{by_key, get-insert_same, get-insert_other}
+use Rattle.law_walks.specs.kr_view.View.{Row}
+use Rattle.law_walks.specs.kr_files.declared.opened.Opened.{Opened}
+use Rattle.law_walks.specs.kr_files.declared.opened.What.{What}
+use Rattle.law_walks.specs.kr_files.Descriptors.{Meanings, Named, lowest_free, IsLowestFree}
+use Rattle.law_walks.proofs.kr_files.DescriptorLemmas.{lowest_free-some, lowest_free-none}
+use Rattle.law_walks.specs.kr_model.Applied.{open_in}
+use Rattle.law_walks.specs.kr_model.Change.{OfFound}
+use Rattle.law_walks.specs.kr_model.Lawful.{IsLawful}
+use Rattle.law_walks.specs.kr_model.State.{Image, Process, State, process, is_pid, at_pid, with_descs}
+use Rattle.kr_ops.proofs.law_lawful.AfterLemmas.{some-of}
+use Rattle.kr_ops.proofs.law_lawful.ProcessChangeLemmas.{found, found-passes}
 use Rattle.kr_ops.specs.declared.state.State as code
 use Rattle.kr_ops.specs.Meaning.{meaning}
 use Rattle.kr_ops.specs.Opening.{lowest_of, Opens}

@@ -6,26 +6,26 @@ use Rattle.std.specs.List.{AllByRecursion}
 use Rattle.std.specs.Ordering.{nat_cmp}
 use Rattle.std.proofs.lemmas.Bool.Decides.{nat_tests}
 use Rattle.std.proofs.lemmas.Option.{none-some}
-use Rattle.elf_load.proofs.pr_base.MapLemmas.{mapped-empty}
+use Rattle.pt_bind.proofs.pr_base.MapLemmas.{mapped-empty}
 use Rattle.elf_load.specs.rv_mem.Memory.{page_count}
 use Rattle.elf_load.specs.rv_mem.Pages.{IsWhole, IsPlaced}
 use Rattle.elf_load.proofs.rv_mem.LayoutLemmas.{layouts_follow}
-use Rattle.kr_listed.specs.kr_tree.Tree.{Tree, inode}
-use Rattle.kr_listed.specs.kr_tree.Changes.{held}
-use Rattle.kr_listed.specs.kr_tree.Holds.{holds_at}
-use Rattle.kr_listed.specs.kr_view.View.{Row, is_there}
-use Rattle.kr_ops.specs.kr_files.Descriptors.{Descriptors, Meanings, meanings}
-use Rattle.kr_listed.specs.kr_inode.declared.user.User.{User}
-use Rattle.kr_ops.specs.kr_files.Files.{Kept, Table, empty_table, NamesOpenFiles}
-use Rattle.kr_ops.specs.kr_lawful.Holding.{one_at}
-use Rattle.kr_ops.proofs.kr_lawful.HoldingLemmas.{holds-held, pins-few}
-use Rattle.kr_ops.proofs.kr_lawful.SumLemmas.{sum-cons}
-use Rattle.kr_ops.specs.kr_model.Known.{pages_in_all}
-use Rattle.kr_ops.specs.kr_model.Lawful.{IsLawful}
-use Rattle.kr_ops.specs.kr_model.MemoryRows.{process_pages}
-use Rattle.kr_ops.specs.kr_model.State as model
-use Rattle.kr_ops.specs.kr_model.State.{Image, image_layout, inode_of, process}
-use Rattle.kr_ops.specs.kr_model.Uses.{file_uses, process_uses}
+use Rattle.kr_text.specs.kr_tree.Tree.{Tree, inode}
+use Rattle.kr_text.specs.kr_tree.Changes.{held}
+use Rattle.kr_text.specs.kr_tree.Holds.{holds_at}
+use Rattle.law_walks.specs.kr_view.View.{Row, is_there}
+use Rattle.law_walks.specs.kr_files.Descriptors.{Descriptors, Meanings, meanings}
+use Rattle.kr_text.specs.kr_inode.declared.user.User.{User}
+use Rattle.law_walks.specs.kr_files.Files.{Kept, Table, empty_table, NamesOpenFiles}
+use Rattle.kr_ops.specs.law_lawful.Holding.{one_at}
+use Rattle.kr_ops.proofs.law_lawful.HoldingLemmas.{holds-held, pins-few}
+use Rattle.kr_ops.proofs.law_lawful.SumLemmas.{sum-cons}
+use Rattle.law_walks.specs.kr_model.Known.{pages_in_all}
+use Rattle.law_walks.specs.kr_model.Lawful.{IsLawful}
+use Rattle.law_walks.specs.kr_model.MemoryRows.{process_pages}
+use Rattle.law_walks.specs.kr_model.State as model
+use Rattle.law_walks.specs.kr_model.State.{Image, image_layout, inode_of, process}
+use Rattle.law_walks.specs.kr_model.Uses.{file_uses, process_uses}
 use Rattle.kr_ops.specs.declared.state.Process.{Process}
 use Rattle.kr_ops.specs.declared.state.State.{State}
 use Rattle.kr_ops.specs.Meaning.{meaning, process_meaning}

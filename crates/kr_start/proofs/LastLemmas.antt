@@ -2,16 +2,16 @@
 use Rattle.std.proofs.Common.{◌≡◌, ℕ, ◌<◌, ◌^◌, Bool, true, false, List, [], ◌∷◌, ap, arith}
 use Rattle.std.specs.Prelude.{◌==◌}
 use Rattle.std.specs.Bool.{if◌then◌else◌}
-use Rattle.kr_listed.specs.kr_tree.Changes.{held}
-use Rattle.kr_listed.specs.kr_tree.Holds.{holds_at}
-use Rattle.kr_listed.specs.kr_tree.Tree.{Tree}
-use Rattle.kr_listed.specs.kr_view.View.{Row}
-use Rattle.kr_ops.specs.kr_files.Files.{Table}
-use Rattle.kr_ops.specs.kr_model.State.{Image, State, inode_of}
-use Rattle.kr_listed.specs.kr_allowed.Lasting.{Lasts}
-use Rattle.kr_listed.proofs.kr_allowed.TreeLemmas.{TreeLasts, held-lasts}
-use Rattle.kr_listed.specs.Beginning.{CanLast}
-use Rattle.kr_listed.proofs.TreeLemmas.{lasts-of, can-last}
+use Rattle.kr_text.specs.kr_tree.Changes.{held}
+use Rattle.kr_text.specs.kr_tree.Holds.{holds_at}
+use Rattle.kr_text.specs.kr_tree.Tree.{Tree}
+use Rattle.law_walks.specs.kr_view.View.{Row}
+use Rattle.law_walks.specs.kr_files.Files.{Table}
+use Rattle.law_walks.specs.kr_model.State.{Image, State, inode_of}
+use Rattle.law_allowed.specs.Lasting.{Lasts}
+use Rattle.law_allowed.proofs.TreeLemmas.{TreeLasts, held-lasts}
+use Rattle.kr_start.specs.Beginning.{CanLast}
+use Rattle.kr_start.proofs.TreeLemmas.{lasts-of, can-last}
 use Rattle.kr_start.specs.Laws.{StartsLast}
 use Rattle.kr_start.specs.Start.{held_once, pinned, started, without_processes}
 

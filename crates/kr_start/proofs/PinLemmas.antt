@@ -6,15 +6,15 @@ use Rattle.std.specs.List.{list_any}
 use Rattle.std.specs.Option.{option_map}
 use Rattle.std.proofs.lemmas.Bool.Decides.{nat_tests}
 use Rattle.std.proofs.lemmas.Option.{same_Some, none-some}
-use Rattle.elf_load.proofs.pr_base.MapLemmas.{stays-changed}
-use Rattle.kr_listed.specs.kr_tree.Tree.{Tree, Inode, inode, is_directory}
-use Rattle.kr_listed.specs.kr_tree.Changes.{counted, held, with_holds}
-use Rattle.kr_listed.specs.kr_tree.Holds.{holds_at}
-use Rattle.kr_listed.specs.kr_tree.Lawful.{IsKept}
-use Rattle.kr_listed.specs.kr_view.View.{Row, Shown, StandsIn, row, shown, is_there}
-use Rattle.kr_ops.proofs.kr_lawful.SumLemmas.{passed-test, other-test}
-use Rattle.kr_ops.proofs.kr_lawful.HoldingLemmas.{holds-held}
-use Rattle.kr_ops.proofs.kr_lawful.TreeChangeLemmas.{Still, still-same, still-on, held-still}
+use Rattle.pt_bind.proofs.pr_base.MapLemmas.{stays-changed}
+use Rattle.kr_text.specs.kr_tree.Tree.{Tree, Inode, inode, is_directory}
+use Rattle.kr_text.specs.kr_tree.Changes.{counted, held, with_holds}
+use Rattle.kr_text.specs.kr_tree.Holds.{holds_at}
+use Rattle.kr_text.specs.kr_tree.Lawful.{IsKept}
+use Rattle.law_walks.specs.kr_view.View.{Row, Shown, StandsIn, row, shown, is_there}
+use Rattle.kr_ops.proofs.law_lawful.SumLemmas.{passed-test, other-test}
+use Rattle.kr_ops.proofs.law_lawful.HoldingLemmas.{holds-held}
+use Rattle.kr_ops.proofs.law_lawful.TreeChangeLemmas.{Still, still-same, still-on, held-still}
 use Rattle.kr_start.specs.Start.{held_once, pinned}
 
 -- ---- what stays

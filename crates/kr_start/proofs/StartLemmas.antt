@@ -6,36 +6,36 @@ use Rattle.std.specs.List.{find, list_any}
 use Rattle.std.specs.Option.{option_map, option_map_or}
 use Rattle.std.specs.Ordering.{nat_cmp}
 use Rattle.std.proofs.lemmas.Option.{none-some, same_Some}
-use Rattle.kr_listed.specs.kr_inode.declared.user.User.{User}
+use Rattle.kr_text.specs.kr_inode.declared.user.User.{User}
 use Rattle.elf_load.specs.rv_mem.Pages.{IsWhole, IsPlaced}
-use Rattle.kr_listed.specs.kr_tree.Tree.{Tree, Inode, inode, is_directory, is_file}
-use Rattle.kr_listed.specs.kr_tree.Changes.{held}
-use Rattle.kr_listed.specs.kr_tree.Holds.{holds_at}
-use Rattle.kr_listed.specs.kr_tree.Lawful.{IsKept}
-use Rattle.kr_listed.specs.kr_tree.declared.place.Host.{Host}
-use Rattle.kr_listed.specs.kr_tree.declared.place.Host.TheVariants.{Node, Proc}
-use Rattle.kr_listed.specs.kr_tree.declared.place.Place.{Place}
-use Rattle.kr_listed.specs.kr_view.View.{Row, StandsIn, is_there, row}
-use Rattle.kr_listed.specs.kr_view.Component.{is_directory_at, is_processes}
-use Rattle.kr_listed.specs.kr_view.InTree.{IsPlaceOf, IsObjectOf}
-use Rattle.kr_listed.specs.kr_view.Leads.{numbered}
-use Rattle.kr_ops.specs.kr_files.declared.opened.What.{What}
-use Rattle.kr_ops.specs.kr_files.declared.opened.What.TheVariants.{In, Out, Err}
-use Rattle.kr_ops.specs.kr_files.Files.{Counted, empty_table}
-use Rattle.kr_ops.specs.kr_model.Applied.{in_mount, open_in}
-use Rattle.kr_ops.specs.kr_model.Bare.{pins_of}
-use Rattle.kr_ops.specs.kr_model.FileRows.{is_dir, is_file_open}
-use Rattle.kr_ops.specs.kr_model.Lawful.{IsLawful, IsOpenIn, IsProcessIn, HasPipes, RiseFrom, is_file_at}
-use Rattle.kr_ops.specs.kr_model.MemoryRows.{process_pages}
-use Rattle.kr_ops.specs.kr_model.State.{Image, Process, State, Ended, image_layout, inode_of, process, is_pid}
-use Rattle.kr_ops.specs.kr_model.Uses.{sum_to, process_use, file_uses, process_uses, names_of_file, AreUses}
+use Rattle.kr_text.specs.kr_tree.Tree.{Tree, Inode, inode, is_directory, is_file}
+use Rattle.kr_text.specs.kr_tree.Changes.{held}
+use Rattle.kr_text.specs.kr_tree.Holds.{holds_at}
+use Rattle.kr_text.specs.kr_tree.Lawful.{IsKept}
+use Rattle.kr_text.specs.kr_tree.declared.place.Host.{Host}
+use Rattle.kr_text.specs.kr_tree.declared.place.Host.TheVariants.{Node, Proc}
+use Rattle.kr_text.specs.kr_tree.declared.place.Place.{Place}
+use Rattle.law_walks.specs.kr_view.View.{Row, StandsIn, is_there, row}
+use Rattle.law_walks.specs.kr_view.Component.{is_directory_at, is_processes}
+use Rattle.law_walks.specs.kr_view.InTree.{IsPlaceOf, IsObjectOf}
+use Rattle.law_walks.specs.kr_view.Leads.{numbered}
+use Rattle.law_walks.specs.kr_files.declared.opened.What.{What}
+use Rattle.law_walks.specs.kr_files.declared.opened.What.TheVariants.{In, Out, Err}
+use Rattle.law_walks.specs.kr_files.Files.{Counted, empty_table}
+use Rattle.law_walks.specs.kr_model.Applied.{in_mount, open_in}
+use Rattle.law_walks.specs.kr_model.Bare.{pins_of}
+use Rattle.law_walks.specs.kr_model.FileRows.{is_dir, is_file_open}
+use Rattle.law_walks.specs.kr_model.Lawful.{IsLawful, IsOpenIn, IsProcessIn, HasPipes, RiseFrom, is_file_at}
+use Rattle.law_walks.specs.kr_model.MemoryRows.{process_pages}
+use Rattle.law_walks.specs.kr_model.State.{Image, Process, State, Ended, image_layout, inode_of, process, is_pid}
+use Rattle.law_walks.specs.kr_model.Uses.{sum_to, process_use, file_uses, process_uses, names_of_file, AreUses}
 use Rattle.elf_load.proofs.rv_mem.LayoutLemmas.{layouts_follow}
-use Rattle.kr_ops.proofs.kr_lawful.SumLemmas.{passed-test, sum-cons}
-use Rattle.kr_ops.proofs.kr_lawful.HoldingLemmas.{holds-held}
-use Rattle.kr_ops.proofs.kr_lawful.TreeChangeLemmas.{Still, still-on, still-leaves, held-still}
-use Rattle.kr_ops.proofs.kr_lawful.StandingLemmas.{mounts-still}
-use Rattle.kr_ops.proofs.kr_lawful.AfterLemmas.{some-of, object-there, parts-of, Parts, NamesFiles, lawful-after}
-use Rattle.kr_ops.proofs.kr_lawful.OpeningLemmas.{open-in-keeps}
+use Rattle.kr_ops.proofs.law_lawful.SumLemmas.{passed-test, sum-cons}
+use Rattle.kr_ops.proofs.law_lawful.HoldingLemmas.{holds-held}
+use Rattle.kr_ops.proofs.law_lawful.TreeChangeLemmas.{Still, still-on, still-leaves, held-still}
+use Rattle.kr_ops.proofs.law_lawful.StandingLemmas.{mounts-still}
+use Rattle.kr_ops.proofs.law_lawful.AfterLemmas.{some-of, object-there, parts-of, Parts, NamesFiles, lawful-after}
+use Rattle.kr_ops.proofs.law_lawful.OpeningLemmas.{open-in-keeps}
 use Rattle.kr_start.specs.Start.{pinned, First, first_process, first_pid, without_processes, with_first, console, is_console, HasNoHolds, CanBegin, IsIdle}
 use Rattle.kr_start.proofs.PinLemmas.{AreThere, is_there-some, some-is_there, pinned-stays, pinned-still, pinned-holds, held-stays}
 

@@ -1,13 +1,13 @@
 -- What pinning the sources of mounts leaves, and what lasts from the start on.
 use Rattle.std.specs.Prelude.{◌≡◌, ℕ, List}
-use Rattle.kr_listed.specs.kr_inode.declared.user.User.{User}
-use Rattle.kr_listed.specs.kr_tree.Tree.{Tree}
-use Rattle.kr_listed.specs.kr_tree.Holds.{holds_at}
-use Rattle.kr_listed.specs.kr_view.View.{Row, StandsIn}
-use Rattle.kr_ops.specs.kr_model.Bare.{pins_of}
-use Rattle.kr_ops.specs.kr_model.State.{Image, State}
-use Rattle.kr_listed.specs.kr_allowed.Lasting.{Lasts}
-use Rattle.kr_listed.specs.Beginning.{CanLast}
+use Rattle.kr_text.specs.kr_inode.declared.user.User.{User}
+use Rattle.kr_text.specs.kr_tree.Tree.{Tree}
+use Rattle.kr_text.specs.kr_tree.Holds.{holds_at}
+use Rattle.law_walks.specs.kr_view.View.{Row, StandsIn}
+use Rattle.law_walks.specs.kr_model.Bare.{pins_of}
+use Rattle.law_walks.specs.kr_model.State.{Image, State}
+use Rattle.law_allowed.specs.Lasting.{Lasts}
+use Rattle.kr_start.specs.Beginning.{CanLast}
 use Rattle.kr_start.specs.Start.{pinned, started, without_processes, First, HasNoHolds, IsIdle}
 
 abbrev pub SourcesAreHeld : Type 0

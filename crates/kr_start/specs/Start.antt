@@ -1,23 +1,23 @@
 -- The state in which a run begins: a tree in which the sources of the mounts are held, the console, and one process.
 use Rattle.std.specs.FinMap as map
 use Rattle.std.specs.Prelude.{◌≡◌, ℕ, ◌≤◌, ◌==◌, ◌+◌, nat_lt, is_some, IsSome, Bool, true, false, List, [], ◌∷◌, None, if◌then◌else◌}
-use Rattle.kr_listed.specs.kr_inode.declared.user.User.{User}
-use Rattle.kr_listed.specs.kr_tree.Tree.{Tree}
-use Rattle.kr_listed.specs.kr_tree.Changes.{held}
-use Rattle.kr_listed.specs.kr_tree.Holds.{holds_at}
-use Rattle.kr_listed.specs.kr_tree.declared.place.Place.{Place}
-use Rattle.kr_listed.specs.kr_view.View.{Row}
-use Rattle.kr_listed.specs.kr_view.Component.{is_directory_at}
-use Rattle.kr_listed.specs.kr_view.InTree.{IsPlaceOf}
-use Rattle.kr_listed.specs.kr_view.Leads.{numbered}
-use Rattle.kr_ops.specs.kr_files.Files.{empty_table}
-use Rattle.kr_ops.specs.kr_files.declared.opened.Opened.{Opened}
-use Rattle.kr_ops.specs.kr_files.declared.opened.What.{What}
-use Rattle.kr_ops.specs.kr_files.declared.opened.What.TheVariants.{In, Out, Err}
-use Rattle.kr_ops.specs.kr_model.Applied.{open_in}
-use Rattle.kr_ops.specs.kr_model.Lawful.{IsLawful, IsNameOrNone, is_file_at}
-use Rattle.kr_ops.specs.kr_model.MemoryRows.{pages_end}
-use Rattle.kr_ops.specs.kr_model.State.{Image, Process, State, inode_of, process, named}
+use Rattle.kr_text.specs.kr_inode.declared.user.User.{User}
+use Rattle.kr_text.specs.kr_tree.Tree.{Tree}
+use Rattle.kr_text.specs.kr_tree.Changes.{held}
+use Rattle.kr_text.specs.kr_tree.Holds.{holds_at}
+use Rattle.kr_text.specs.kr_tree.declared.place.Place.{Place}
+use Rattle.law_walks.specs.kr_view.View.{Row}
+use Rattle.law_walks.specs.kr_view.Component.{is_directory_at}
+use Rattle.law_walks.specs.kr_view.InTree.{IsPlaceOf}
+use Rattle.law_walks.specs.kr_view.Leads.{numbered}
+use Rattle.law_walks.specs.kr_files.Files.{empty_table}
+use Rattle.law_walks.specs.kr_files.declared.opened.Opened.{Opened}
+use Rattle.law_walks.specs.kr_files.declared.opened.What.{What}
+use Rattle.law_walks.specs.kr_files.declared.opened.What.TheVariants.{In, Out, Err}
+use Rattle.law_walks.specs.kr_model.Applied.{open_in}
+use Rattle.law_walks.specs.kr_model.Lawful.{IsLawful, IsNameOrNone, is_file_at}
+use Rattle.law_walks.specs.kr_model.MemoryRows.{pages_end}
+use Rattle.law_walks.specs.kr_model.State.{Image, Process, State, inode_of, process, named}
 use Rattle.kr_ops.specs.declared.state.State as code
 use Rattle.kr_ops.specs.Meaning.{meaning}
 use Rattle.kr_ops.specs.Sound.{IsOfView, IsServed}

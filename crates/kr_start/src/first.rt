@@ -1,25 +1,26 @@
 //! The state in which a run begins: a tree in which the sources of the mounts are held, the console, and one process.
 ghost use Rattle.std.specs.Prelude.{◌≡◌, ◌+◌, ◌<◌, ◌≤◌, ◌^◌, ℕ, suc, List, length, IsSome, IsTrue, IfOk, OnOk, true, false};
 ghost use Rattle.elf_load.specs.rv_mem.Memory.{page_count};
-ghost use Rattle.kr_listed.specs.kr_tree.declared.place.Host.{Host};
-ghost use Rattle.kr_listed.specs.kr_tree.Tree.{inode};
-ghost use Rattle.kr_listed.specs.kr_tree.Changes.{held};
-ghost use Rattle.kr_listed.specs.kr_tree.Holds.{holds_at};
-ghost use Rattle.kr_listed.specs.kr_view.View.{Row, StandsIn};
-ghost use Rattle.kr_ops.specs.kr_model.Applied.{in_mount, open_in};
-ghost use Rattle.kr_ops.specs.kr_model.Lawful.{IsLawful, IsNameOrNone};
+ghost use Rattle.kr_text.specs.kr_tree.declared.place.Host.{Host};
+ghost use Rattle.kr_text.specs.kr_tree.Tree.{inode};
+ghost use Rattle.kr_text.specs.kr_tree.Changes.{held};
+ghost use Rattle.kr_text.specs.kr_tree.Holds.{holds_at};
+ghost use Rattle.law_walks.specs.kr_view.View.{Row, StandsIn};
+ghost use Rattle.law_walks.specs.kr_model.Applied.{in_mount, open_in};
+ghost use Rattle.law_walks.specs.kr_model.Lawful.{IsLawful, IsNameOrNone};
 ghost use Rattle.kr_ops.specs.Meaning.{meaning};
 ghost use Rattle.kr_ops.specs.Sound.{IsOfView, IsServed};
-ghost use Rattle.kr_ops.specs.kr_model.State.{inode_of, process};
+ghost use Rattle.law_walks.specs.kr_model.State.{inode_of, process};
 ghost use Rattle.kr_start.specs.Start.{console, first_of, first_pid, held_once, is_console, pinned, started, with_console, with_first, without_processes, AreOpenBelow, CanBegin, First, HasNoHolds, IsIdle, IsOpenTo, IsReady};
 
 use elf_load::Image;
-use elf_load::below::pr_base::{Bytes, NoMemory};
 use elf_load::below::rv_mem::{Room, Use};
-use kr_listed::below::{Host, Ino, Place, Places, Tree, User, trees_are_kept};
-use kr_ops::below::{Descs, Files, FilesRefusal, Opened, What};
 use kr_ops::laws::lawful_states_are_sound;
 use kr_ops::{Process, State};
+use kr_text::below::kr_tree::laws::trees_are_kept;
+use kr_text::below::kr_tree::{Host, Ino, Place, Tree, User};
+use law_walks::below::{Descs, Files, FilesRefusal, Opened, Places, What};
+use pt_bind::below::pr_base::{Bytes, NoMemory};
 use std::alloc::Global;
 
 /// The number of the first process, and that of its parent, which never lives.

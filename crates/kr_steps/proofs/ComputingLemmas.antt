@@ -1,6 +1,6 @@
 -- What instructions of a process leave of a state.
-pub use Rattle.kr_calling.proofs.CallLemmas.{refused-call, runs-later}
-pub use Rattle.kr_calling.proofs.RefusedLemmas.{walk-refuses}
+pub use Rattle.kr_perform.proofs.CallLemmas.{refused-call, runs-later}
+pub use Rattle.kr_perform.proofs.RefusedLemmas.{walk-refuses}
 use Rattle.std.specs.FinMap as map
 use Rattle.std.proofs.Common.{◌≡◌, ℕ, zero, suc, Bool, cond, List, get_or, Some, None, Option, refl, sym, ap, subst, ◌∙◌, arith}
 use Rattle.std.specs.Prelude.{Result, Ok, Err, IfOk, OnOk}
@@ -16,33 +16,33 @@ use Rattle.rv_cpu.specs.Step.{Stepped, step}
 use Rattle.rv_cpu.specs.declared.event.Event.{Event}
 use Rattle.rv_cpu.specs.declared.event.Event.TheVariants.{Next, Call, Killed}
 use Rattle.rv_cpu.specs.declared.reservation.Held.{Held}
-use Rattle.kr_calling.specs.kr_calls.Decodes.{Decodes, Gives}
-use Rattle.kr_calling.specs.kr_calls.Decoding.{Decoded, decoding}
-use Rattle.kr_calling.specs.kr_calls.declared.fault.CallFault.{CallFault}
-use Rattle.kr_calling.specs.kr_calls.declared.fault.CallFault.TheVariants as fault
-use Rattle.kr_calling.specs.kr_calls.declared.request.Request.{Request}
-use Rattle.kr_calling.specs.kr_view.View.{Row}
-use Rattle.kr_calling.specs.kr_model.Applied.{with_image, with_living}
-use Rattle.kr_calling.specs.kr_model.Lawful.{IsLawful}
-use Rattle.kr_calling.specs.kr_model.State as model
-use Rattle.kr_calling.proofs.kr_lawful.AfterLemmas.{parts-of}
-use Rattle.kr_calling.proofs.kr_lawful.OwnChangeLemmas.{process-keeps}
-use Rattle.kr_calling.proofs.kr_lawful.ProcessChangeLemmas.{found as found-changed, found-passes, sum-with}
-use Rattle.kr_calling.specs.kr_allowed.Lasting.{Lasts}
-use Rattle.kr_calling.specs.kr_allowed.Allowed.{HoldsBytes}
-use Rattle.kr_calling.specs.kr_allowed.Calls.{HasTextPaths, IsGivable}
-use Rattle.kr_calling.proofs.kr_allowed.DecodedLemmas.{decoded-are-givable}
-use Rattle.kr_calling.proofs.kr_allowed.RowLemmas.{StaysLike, stays-like, lawful-image}
-use Rattle.kr_calling.specs.kr_ops.declared.state.Process.{Process}
-use Rattle.kr_calling.specs.kr_ops.declared.state.State.{State}
-use Rattle.kr_calling.specs.kr_ops.Living.{HasPid}
-use Rattle.kr_calling.specs.kr_ops.Meaning.{meaning, process_meaning}
-use Rattle.kr_calling.specs.kr_ops.Sound.{IsServed, IsSound}
-use Rattle.kr_calling.proofs.kr_ops.ChangeLemmas.{one-changed}
-use Rattle.kr_calling.proofs.kr_ops.OpeningLemmas.{found}
-use Rattle.kr_calling.proofs.kr_ops.ServeLemmas.{kept-names, room-set}
-use Rattle.kr_calling.specs.Operated.{LastsLawful}
-use Rattle.kr_calling.specs.Calling.{Runs}
+use Rattle.kr_perform.specs.kr_calls.Decodes.{Decodes, Gives}
+use Rattle.kr_perform.specs.kr_calls.Decoding.{Decoded, decoding}
+use Rattle.kr_perform.specs.kr_calls.declared.fault.CallFault.{CallFault}
+use Rattle.kr_perform.specs.kr_calls.declared.fault.CallFault.TheVariants as fault
+use Rattle.kr_perform.specs.kr_calls.declared.request.Request.{Request}
+use Rattle.kr_perform.specs.kr_view.View.{Row}
+use Rattle.kr_perform.specs.kr_model.Applied.{with_image, with_living}
+use Rattle.kr_perform.specs.kr_model.Lawful.{IsLawful}
+use Rattle.kr_perform.specs.kr_model.State as model
+use Rattle.kr_perform.proofs.law_lawful.AfterLemmas.{parts-of}
+use Rattle.kr_perform.proofs.law_lawful.OwnChangeLemmas.{process-keeps}
+use Rattle.kr_perform.proofs.law_lawful.ProcessChangeLemmas.{found as found-changed, found-passes, sum-with}
+use Rattle.kr_perform.specs.law_allowed.Lasting.{Lasts}
+use Rattle.kr_perform.specs.law_allowed.Allowed.{HoldsBytes}
+use Rattle.kr_perform.specs.law_allowed.Calls.{HasTextPaths, IsGivable}
+use Rattle.kr_perform.proofs.law_allowed.DecodedLemmas.{decoded-are-givable}
+use Rattle.kr_perform.proofs.law_allowed.RowLemmas.{StaysLike, stays-like, lawful-image}
+use Rattle.kr_perform.specs.kr_ops.declared.state.Process.{Process}
+use Rattle.kr_perform.specs.kr_ops.declared.state.State.{State}
+use Rattle.kr_perform.specs.kr_ops.Living.{HasPid}
+use Rattle.kr_perform.specs.kr_ops.Meaning.{meaning, process_meaning}
+use Rattle.kr_perform.specs.kr_ops.Sound.{IsServed, IsSound}
+use Rattle.kr_perform.proofs.kr_ops.ChangeLemmas.{one-changed}
+use Rattle.kr_perform.proofs.kr_ops.OpeningLemmas.{found}
+use Rattle.kr_perform.proofs.kr_ops.ServeLemmas.{kept-names, room-set}
+use Rattle.kr_perform.specs.Lawful.{LastsLawful}
+use Rattle.kr_perform.specs.Calling.{Runs}
 use Rattle.kr_steps.specs.Answering.{going}
 use Rattle.kr_steps.specs.Computing.{Computes, Requests, computed}
 

@@ -1,20 +1,20 @@
 -- What the end of a process leaves of a state.
 use Rattle.std.proofs.Common.{ℕ, suc, None, sym, subst, arith}
 use Rattle.std.specs.Prelude.{Result, Ok, Err, OnOk, IsSome, List, [], ◌∷◌}
-use Rattle.kr_calling.specs.kr_view.View.{Row}
-use Rattle.kr_calling.specs.kr_model.Applied.{Mounts}
-use Rattle.kr_calling.specs.kr_model.Change.{End}
-use Rattle.kr_calling.specs.kr_model.State.{process}
-use Rattle.kr_calling.proofs.kr_lawful.ChangeLemmas.{all-changes-keep}
-use Rattle.kr_calling.specs.kr_lawful.Laws.{CanAllBeMade}
-use Rattle.kr_calling.specs.kr_allowed.Lasting.{AreModest}
-use Rattle.kr_calling.proofs.kr_allowed.ChangeLemmas.{modest-last}
-use Rattle.kr_calling.specs.kr_ops.Making.{Makes}
-use Rattle.kr_calling.specs.kr_ops.Meaning.{meaning}
-use Rattle.kr_calling.specs.kr_ops.Sound.{IsServed}
-use Rattle.kr_calling.specs.kr_ops.declared.state.State.{State}
-use Rattle.kr_calling.specs.Operated.{LastsLawful}
-use Rattle.kr_calling.specs.Calling.{Runs}
+use Rattle.kr_perform.specs.kr_view.View.{Row}
+use Rattle.kr_perform.specs.kr_model.Applied.{Mounts}
+use Rattle.kr_perform.specs.kr_model.Change.{End}
+use Rattle.kr_perform.specs.kr_model.State.{process}
+use Rattle.kr_perform.proofs.law_lawful.ChangeLemmas.{all-changes-keep}
+use Rattle.kr_perform.specs.law_lawful.Laws.{CanAllBeMade}
+use Rattle.kr_perform.specs.law_allowed.Lasting.{AreModest}
+use Rattle.kr_perform.proofs.law_allowed.ChangeLemmas.{modest-last}
+use Rattle.kr_perform.specs.kr_ops.Making.{Makes}
+use Rattle.kr_perform.specs.kr_ops.Meaning.{meaning}
+use Rattle.kr_perform.specs.kr_ops.Sound.{IsServed}
+use Rattle.kr_perform.specs.kr_ops.declared.state.State.{State}
+use Rattle.kr_perform.specs.Lawful.{LastsLawful}
+use Rattle.kr_perform.specs.Calling.{Runs}
 
 pub ended-runs : {T : Type 0} {M : ℕ} (number : T → ℕ) (table : List Row) (pid status calls : ℕ) (old new : State T M) → IsSome (process pid (meaning old)) → Makes pid (End status) old new → IsServed new
     → Runs number table calls old → Runs number table (suc calls) new

@@ -1,7 +1,11 @@
 pub use Rattle.rv_cpu.proofs.rv_mem as rv_mem
 pub use Rattle.rv_cpu.proofs as rv_cpu
-pub use Rattle.kr_calling.proofs.kr_model as kr_model
-pub use Rattle.kr_calling.proofs.kr_resolved as kr_resolved
+pub use Rattle.kr_perform.proofs.law_allowed as law_allowed
+pub use Rattle.kr_perform.proofs as kr_perform
 pub mod ComputingLemmas
 pub mod KillLemmas
 pub mod PickLemmas
+pub mod DecodedLemmas
+pub mod PieceLemmas
+pub mod RowLemmas
+pub mod WaitLemmas

@@ -3,8 +3,8 @@ use Rattle.std.proofs.Common.{◌≡◌, ◌≢◌, ℕ, zero, suc, ◌+◌, ◌
 use Rattle.std.specs.Prelude.{map as map_list}
 use Rattle.std.specs.List.{filter}
 use Rattle.std.proofs.lemmas.Option.{same_Some}
-use Rattle.kr_calling.specs.kr_ops.Meaning.{process_meaning}
-use Rattle.kr_calling.specs.kr_ops.declared.state.Process.{Process}
+use Rattle.kr_perform.specs.kr_ops.Meaning.{process_meaning}
+use Rattle.kr_perform.specs.kr_ops.declared.state.Process.{Process}
 
 module _ {A : Type 0} where
   dropped-suc : (xs : List A) (n : ℕ) (x : A) → slice_get xs n ≡ Some x → drop n xs ≡ x ∷ drop (suc n) xs

@@ -3,8 +3,8 @@ use Rattle.std.specs.Prelude.{ℕ, Bool, false, true, ℤ, slice_set}
 use Rattle.std.specs.Int.{cast_unsigned, w64}
 use Rattle.rv_cpu.specs.rv_mem.declared.regs.Regs.{Regs}
 use Rattle.rv_cpu.specs.Words.{sum}
-use Rattle.kr_calling.specs.kr_model.Applied.{with_living}
-use Rattle.kr_calling.specs.kr_model.State.{Image, Process, State, with_process}
+use Rattle.kr_perform.specs.kr_model.Applied.{with_living}
+use Rattle.kr_perform.specs.kr_model.State.{Image, Process, State, with_process}
 
 -- a word in the register a0, behind the call
 abbrev pub with_word : ℕ → Regs → Regs

@@ -5,14 +5,14 @@ use Rattle.rv_cpu.specs.rv_mem.Memory.{Memory}
 use Rattle.rv_cpu.specs.rv_mem.declared.regs.Regs.{Regs}
 use Rattle.rv_cpu.specs.Run.{ran}
 use Rattle.rv_cpu.specs.declared.event.Event.{Event}
-use Rattle.kr_calling.specs.kr_calls.Decodes.{Gives}
-use Rattle.kr_calling.specs.kr_calls.Decoding.{decoding}
-use Rattle.kr_calling.specs.kr_calls.declared.fault.CallFault.{CallFault}
-use Rattle.kr_calling.specs.kr_calls.declared.request.Request.{Request}
-use Rattle.kr_calling.specs.kr_model.Applied.{with_image, with_living}
-use Rattle.kr_calling.specs.kr_model.State as model
-use Rattle.kr_calling.specs.kr_ops.declared.state.State.{State}
-use Rattle.kr_calling.specs.kr_ops.Meaning.{meaning}
+use Rattle.kr_perform.specs.kr_calls.Decodes.{Gives}
+use Rattle.kr_perform.specs.kr_calls.Decoding.{decoding}
+use Rattle.kr_perform.specs.kr_calls.declared.fault.CallFault.{CallFault}
+use Rattle.kr_perform.specs.kr_calls.declared.request.Request.{Request}
+use Rattle.kr_perform.specs.kr_model.Applied.{with_image, with_living}
+use Rattle.kr_perform.specs.kr_model.State as model
+use Rattle.kr_perform.specs.kr_ops.declared.state.State.{State}
+use Rattle.kr_perform.specs.kr_ops.Meaning.{meaning}
 
 -- a process with other registers and another memory
 abbrev pub computed : {T : Type 0} → ℕ → Regs → Memory → model.State T model.Image → model.State T model.Image

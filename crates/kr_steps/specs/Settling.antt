@@ -1,13 +1,13 @@
 -- A call of a process, to its end.
 use Rattle.std.specs.Prelude.{◌≡◌, ℕ, List}
-use Rattle.kr_calling.specs.kr_calls.declared.request.Request.{Request}
-use Rattle.kr_calling.specs.kr_view.View.{Row}
-use Rattle.kr_calling.specs.kr_model.State.{Image, State as Model}
-use Rattle.kr_calling.specs.kr_model.declared.outcome.Outcome.{Outcome}
-use Rattle.kr_calling.specs.kr_model.declared.outcome.Outcome.TheVariants.{Answer, Wait, Ended, NoMemory}
-use Rattle.kr_calling.specs.kr_ops.declared.state.State.{State}
-use Rattle.kr_calling.specs.kr_ops.Meaning.{meaning}
-use Rattle.kr_calling.specs.Calling.{IsCalled}
+use Rattle.kr_perform.specs.kr_calls.declared.request.Request.{Request}
+use Rattle.kr_perform.specs.kr_view.View.{Row}
+use Rattle.kr_perform.specs.kr_model.State.{Image, State as Model}
+use Rattle.kr_perform.specs.kr_model.declared.outcome.Outcome.{Outcome}
+use Rattle.kr_perform.specs.kr_model.declared.outcome.Outcome.TheVariants.{Answer, Wait, Ended, NoMemory}
+use Rattle.kr_perform.specs.kr_ops.declared.state.State.{State}
+use Rattle.kr_perform.specs.kr_ops.Meaning.{meaning}
+use Rattle.kr_perform.specs.Calling.{IsCalled}
 use Rattle.kr_steps.specs.Answering.{answered, waiting}
 use Rattle.kr_steps.specs.declared.calling.Called.{Called}
 use Rattle.kr_steps.specs.declared.calling.Called.TheVariants as called

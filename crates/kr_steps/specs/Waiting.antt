@@ -3,14 +3,14 @@ use Rattle.std.specs.Prelude.{ℕ, ◌%◌, ◌==◌, ◌&&◌, ◌||◌, not, B
 use Rattle.std.specs.List.{filter, find, list_any}
 use Rattle.std.specs.Option.{option_and_then, option_map_or}
 use Rattle.rv_cpu.specs.rv_mem.declared.regs.Regs.{Regs}
-use Rattle.kr_calling.specs.kr_calls.Arguments.{int, number}
-use Rattle.kr_calling.specs.kr_files.declared.opened.What.{What}
-use Rattle.kr_calling.specs.kr_files.declared.opened.What.TheVariants.{PipeRead, PipeWrite}
-use Rattle.kr_calling.specs.kr_model.Asking.{descriptor_number}
-use Rattle.kr_calling.specs.kr_model.FileRows.{pipe_limit}
-use Rattle.kr_calling.specs.kr_model.Known.{Known, known}
-use Rattle.kr_calling.specs.kr_model.ProcessRows.{is_meant}
-use Rattle.kr_calling.specs.kr_model.State.{Image, Process, State, image_layout}
+use Rattle.kr_perform.specs.kr_calls.Arguments.{int, number}
+use Rattle.kr_perform.specs.kr_files.declared.opened.What.{What}
+use Rattle.kr_perform.specs.kr_files.declared.opened.What.TheVariants.{PipeRead, PipeWrite}
+use Rattle.kr_perform.specs.kr_model.Asking.{descriptor_number}
+use Rattle.kr_perform.specs.kr_model.FileRows.{pipe_limit}
+use Rattle.kr_perform.specs.kr_model.Known.{Known, known}
+use Rattle.kr_perform.specs.kr_model.ProcessRows.{is_meant}
+use Rattle.kr_perform.specs.kr_model.State.{Image, Process, State, image_layout}
 
 -- a read of an empty pipe that has a writer
 abbrev pub read_waits : Known → What → Bool

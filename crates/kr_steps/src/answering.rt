@@ -1,12 +1,12 @@
 //! What becomes of the caller of a call.
 ghost use Rattle.std.specs.Prelude.{◌≡◌, ℕ, List};
-ghost use Rattle.kr_calling.specs.Calling.{Runs};
-ghost use Rattle.kr_calling.specs.kr_ops.Meaning.{meaning};
-ghost use Rattle.kr_calling.specs.kr_ops.Sound.{IsSound};
+ghost use Rattle.kr_perform.specs.Calling.{Runs};
+ghost use Rattle.kr_perform.specs.kr_ops.Meaning.{meaning};
+ghost use Rattle.kr_perform.specs.kr_ops.Sound.{IsSound};
 ghost use Rattle.kr_steps.specs.Answering.{answered, resumed, waiting};
-ghost use Rattle.kr_calling.specs.kr_view.View.{Row};
+ghost use Rattle.kr_perform.specs.kr_view.View.{Row};
 
-use kr_calling::below::State;
+use kr_perform::below::State;
 
 /// The register of a call's answer.
 const A0: usize = 10;

@@ -1,18 +1,18 @@
 //! A call of a process, to its end.
 ghost use Rattle.std.specs.Prelude.{◌≡◌, ◌<◌, ◌^◌, ℕ, suc, IfOk, IsSome, OnOk};
-ghost use Rattle.kr_calling.specs.kr_allowed.Calls.{HasTextPaths, IsGivable};
-ghost use Rattle.kr_calling.specs.kr_allowed.Told.{SourcesAreNamed};
-ghost use Rattle.kr_calling.specs.Calling.{MayCall, Runs};
-ghost use Rattle.kr_calling.specs.kr_model.State.{process};
-ghost use Rattle.kr_calling.specs.kr_ops.Meaning.{meaning};
-ghost use Rattle.kr_calling.specs.kr_seen.CallWalks.{call_reach};
-ghost use Rattle.kr_calling.specs.Operated.{IsNoExec};
-ghost use Rattle.kr_calling.specs.kr_seen.Numbered.{state_numbered};
+ghost use Rattle.kr_perform.specs.law_allowed.Calls.{HasTextPaths, IsGivable};
+ghost use Rattle.kr_perform.specs.law_allowed.Told.{SourcesAreNamed};
+ghost use Rattle.kr_perform.specs.Calling.{MayCall, Runs};
+ghost use Rattle.kr_perform.specs.kr_model.State.{process};
+ghost use Rattle.kr_perform.specs.kr_ops.Meaning.{meaning};
+ghost use Rattle.kr_perform.specs.kr_seen.CallWalks.{call_reach};
+ghost use Rattle.kr_perform.specs.Operating.{IsNoExec};
+ghost use Rattle.kr_perform.specs.kr_seen.Numbered.{state_numbered};
 ghost use Rattle.kr_steps.specs.Settling.{IsSettled};
 
 use crate::answering::{answer, stay};
-use kr_calling::below::{Outcome, Places, Reach, Request, State};
-use kr_calling::carry_out;
+use kr_perform::below::{Outcome, Places, Reach, Request, State};
+use kr_perform::carry_out;
 use rv_cpu::below::pr_base::NoMemory;
 use std::alloc::Global;
 

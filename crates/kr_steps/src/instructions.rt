@@ -1,14 +1,14 @@
 //! The instructions of a turn.
 ghost use Rattle.std.specs.Prelude.{ℕ, List, IfOk, IsSome, OnOk};
-ghost use Rattle.kr_calling.specs.kr_model.State.{process};
-ghost use Rattle.kr_calling.specs.kr_ops.Meaning.{meaning};
-ghost use Rattle.kr_calling.specs.kr_ops.Sound.{IsSound};
-ghost use Rattle.kr_calling.specs.kr_view.View.{Row};
-ghost use Rattle.kr_calling.specs.Calling.{Runs};
+ghost use Rattle.kr_perform.specs.kr_model.State.{process};
+ghost use Rattle.kr_perform.specs.kr_ops.Meaning.{meaning};
+ghost use Rattle.kr_perform.specs.kr_ops.Sound.{IsSound};
+ghost use Rattle.kr_perform.specs.kr_view.View.{Row};
+ghost use Rattle.kr_perform.specs.Calling.{Runs};
 ghost use Rattle.kr_steps.specs.Computing.{Computes};
 ghost use Rattle.rv_cpu.specs.Step.{IsLowSignal};
 
-use kr_calling::below::State;
+use kr_perform::below::State;
 use rv_cpu::below::pr_base::NoMemory;
 use rv_cpu::{Event, run};
 

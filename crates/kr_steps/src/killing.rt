@@ -1,14 +1,14 @@
 //! A process that dies of an instruction.
 ghost use Rattle.std.specs.Prelude.{ℕ, suc, List, IsSome, OnOk};
-ghost use Rattle.kr_calling.specs.Calling.{Runs};
-ghost use Rattle.kr_calling.specs.kr_model.Change.{End};
-ghost use Rattle.kr_calling.specs.kr_model.State.{process};
-ghost use Rattle.kr_calling.specs.kr_ops.Making.{Makes};
-ghost use Rattle.kr_calling.specs.kr_ops.Meaning.{meaning};
-ghost use Rattle.kr_calling.specs.kr_ops.Sound.{IsOfView};
-ghost use Rattle.kr_calling.specs.kr_view.View.{Row};
+ghost use Rattle.kr_perform.specs.Calling.{Runs};
+ghost use Rattle.kr_perform.specs.kr_model.Change.{End};
+ghost use Rattle.kr_perform.specs.kr_model.State.{process};
+ghost use Rattle.kr_perform.specs.kr_ops.Making.{Makes};
+ghost use Rattle.kr_perform.specs.kr_ops.Meaning.{meaning};
+ghost use Rattle.kr_perform.specs.kr_ops.Sound.{IsOfView};
+ghost use Rattle.kr_perform.specs.kr_view.View.{Row};
 
-use kr_calling::below::State;
+use kr_perform::below::State;
 use rv_cpu::below::pr_base::NoMemory;
 
 /// Kills a living process by a signal, as signal(7) has it where the signal is the default's to end: its status, which wait4(2) tells its

@@ -1,15 +1,15 @@
 //! Which processes can go on.
 ghost use Rattle.std.specs.Prelude.{◌≡◌, ◌<◌, IfSome, length, slice_get, vec_len};
 ghost use Rattle.std.specs.Option.{option_and_then, option_map};
-ghost use Rattle.kr_calling.specs.kr_calls.Arguments.{int};
-ghost use Rattle.kr_calling.specs.kr_model.Asking.{descriptor_number};
-ghost use Rattle.kr_calling.specs.kr_model.Known.{known};
-ghost use Rattle.kr_calling.specs.kr_model.State.{image_layout};
-ghost use Rattle.kr_calling.specs.kr_ops.Meaning.{meaning};
-ghost use Rattle.kr_calling.specs.kr_ops.Sound.{IsSound};
+ghost use Rattle.kr_perform.specs.kr_calls.Arguments.{int};
+ghost use Rattle.kr_perform.specs.kr_model.Asking.{descriptor_number};
+ghost use Rattle.kr_perform.specs.kr_model.Known.{known};
+ghost use Rattle.kr_perform.specs.kr_model.State.{image_layout};
+ghost use Rattle.kr_perform.specs.kr_ops.Meaning.{meaning};
+ghost use Rattle.kr_perform.specs.kr_ops.Sound.{IsSound};
 ghost use Rattle.kr_steps.specs.Waiting.{child_waits, goes_on, open_waits, picked_process, read_waits, ready_processes, still_waits, write_waits};
 
-use kr_calling::below::{Meant, State, What};
+use kr_perform::below::{Meant, State, What};
 use rv_cpu::below::rv_mem::Regs;
 
 /// The register of a call's number.

@@ -1,14 +1,14 @@
 //! The request of a call.
 ghost use Rattle.std.specs.Prelude.{ℕ, List, IfOk, IsSome};
-ghost use Rattle.kr_calling.specs.kr_allowed.Calls.{HasTextPaths, IsGivable};
-ghost use Rattle.kr_calling.specs.Calling.{Runs};
-ghost use Rattle.kr_calling.specs.kr_model.State.{process};
-ghost use Rattle.kr_calling.specs.kr_ops.Meaning.{meaning};
-ghost use Rattle.kr_calling.specs.kr_ops.Sound.{IsSound};
+ghost use Rattle.kr_perform.specs.law_allowed.Calls.{HasTextPaths, IsGivable};
+ghost use Rattle.kr_perform.specs.Calling.{Runs};
+ghost use Rattle.kr_perform.specs.kr_model.State.{process};
+ghost use Rattle.kr_perform.specs.kr_ops.Meaning.{meaning};
+ghost use Rattle.kr_perform.specs.kr_ops.Sound.{IsSound};
 ghost use Rattle.kr_steps.specs.Computing.{Requests};
-ghost use Rattle.kr_calling.specs.kr_view.View.{Row};
+ghost use Rattle.kr_perform.specs.kr_view.View.{Row};
 
-use kr_calling::below::{CallFault, Request, State, decode};
+use kr_perform::below::{CallFault, Request, State, decode};
 use rv_cpu::below::rv_mem::Use;
 
 /// What a living process asks for by the call at which it stands, or the error that decoding it answers. What was read of its memory

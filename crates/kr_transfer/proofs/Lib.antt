@@ -1,3 +1,4 @@
+pub use Rattle.kr_inode.proofs as kr_inode
 pub use Rattle.kr_rows.proofs as kr_rows
 pub mod ChannelLemmas
 pub mod SizeLemmas

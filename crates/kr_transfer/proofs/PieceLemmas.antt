@@ -7,7 +7,7 @@ use Rattle.kr_rows.specs.rv_mem.Pages.{Pages, allows, allows_all, written}
 use Rattle.kr_rows.specs.rv_mem.declared.rights.Use.{Use}
 use Rattle.kr_rows.proofs.rv_mem.AddressLemmas.{allows-written}
 use Rattle.kr_rows.proofs.rv_mem.PagesLemmas.{allows_all-add}
-use Rattle.kr_rows.proofs.kr_lawful.SumLemmas.{sum-cons}
+use Rattle.kr_rows.proofs.law_lawful.SumLemmas.{sum-cons}
 use Rattle.kr_rows.specs.kr_model.Pieces as model
 use Rattle.kr_rows.specs.kr_model.Pieces.{asked, cut_to}
 use Rattle.kr_transfer.specs.declared.pieces.Piece.{Piece}

@@ -4,9 +4,9 @@ use Rattle.std.proofs.Common.{◌≡◌, ℕ, ◌≤◌, Option, Some, refl, sym
 use Rattle.std.specs.Prelude.{IsSome}
 use Rattle.std.specs.Option.{option_map_or}
 use Rattle.kr_rows.specs.rv_mem.Pages.{Pages, IsPlaced, IsWhole}
-use Rattle.kr_rows.proofs.kr_lawful.AfterLemmas.{parts-of}
-use Rattle.kr_rows.proofs.kr_lawful.ChangeLemmas.{every-change-keeps}
-use Rattle.kr_rows.proofs.kr_lawful.OwnChangeLemmas.{process-keeps}
+use Rattle.kr_rows.proofs.law_lawful.AfterLemmas.{parts-of}
+use Rattle.kr_rows.proofs.law_lawful.ChangeLemmas.{every-change-keeps}
+use Rattle.kr_rows.proofs.law_lawful.OwnChangeLemmas.{process-keeps}
 use Rattle.kr_rows.specs.kr_model.Applied.{Mounts, applied, images, with_image}
 use Rattle.kr_rows.specs.kr_model.Change.{Change}
 use Rattle.kr_rows.specs.kr_model.Conditions.{CanBeMade}

@@ -1,4 +1,3 @@
-pub use Rattle.kr_inode.specs.pr_base as pr_base
 pub use Rattle.kr_inode.specs as kr_inode
 pub use Rattle.kr_rows.specs as kr_rows
 pub mod Channels

@@ -1,6 +1,5 @@
 //! What those above name of the crates below.
 
-pub use kr_inode::below::pr_base::{Bytes, Errno, NoMemory};
 pub use kr_rows::descriptors::{close, dup, dup3, ioctl, pipe2};
 pub use kr_rows::fcntl::fcntl;
 pub use kr_rows::seeking::lseek;

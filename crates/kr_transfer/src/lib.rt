@@ -1,4 +1,18 @@
 //! Calls of a guest that move bytes between files, pipes, the console and its memory, carried out on the state of a kernel.
+//!
+//! What is proved, with the clause or the law that carries it:
+//!
+//! Calls that move bytes between files, pipes, the console and the caller's memory, carried out on a state of kr_ops: read, readv, write, writev,
+//! ftruncate and getdents64.
+//!
+//! Each answers the outcome of its row and leaves what the row's reply makes of the state (`Performs`), for a state that is lawful for some view.
+//! A row may use the memory many times; how far it has come by then is `HasComeTo`.
+//!
+//! For getdents64 `next_listed` finds the entry of a directory behind a place in it, of the tree, of the process directory and of what stands in
+//! that; `is_shown` says whether a directory shows any. Since serials rise along each directory, what is found entry by entry is what the row
+//! lists at once.
+//!
+//! Only tested, or not shown: `rows`.
 #![tactic(auto)]
 
 pub mod below;

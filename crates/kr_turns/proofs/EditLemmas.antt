@@ -6,12 +6,12 @@ use Rattle.std.specs.Option.{option_map, option_map_or}
 use Rattle.std.proofs.lemmas.Option.{same_Some}
 use Rattle.kr_steps.specs.rv_mem.Memory.{Memory}
 use Rattle.kr_steps.specs.rv_mem.declared.regs.Regs.{Regs}
-use Rattle.kr_hostview.specs.kr_model.Applied.{with_image, with_living}
-use Rattle.kr_hostview.specs.kr_model.Lawful.{ArePids, RiseFrom}
-use Rattle.kr_hostview.specs.kr_model.State.{Image, Process, State, at_pid, image_layout, is_pid, with_process}
-use Rattle.kr_hostview.specs.kr_model.State as model
-use Rattle.kr_hostview.proofs.kr_lawful.ProcessChangeLemmas.{found as found-changed, found-passes}
-use Rattle.kr_hostview.proofs.kr_lawful.SumLemmas.{other-test, passed-test}
+use Rattle.kr_seen.specs.kr_model.Applied.{with_image, with_living}
+use Rattle.kr_seen.specs.kr_model.Lawful.{ArePids, RiseFrom}
+use Rattle.kr_seen.specs.kr_model.State.{Image, Process, State, at_pid, image_layout, is_pid, with_process}
+use Rattle.kr_seen.specs.kr_model.State as model
+use Rattle.kr_seen.proofs.law_lawful.ProcessChangeLemmas.{found as found-changed, found-passes}
+use Rattle.kr_seen.proofs.law_lawful.SumLemmas.{other-test, passed-test}
 use Rattle.kr_steps.specs.Computing.{computed}
 use Rattle.kr_turns.specs.Stopped.{IsEdited, IsThere, Stopped, edited, image_at, no_image}
 

@@ -7,15 +7,15 @@ use Rattle.kr_steps.specs.rv_mem.Memory.{Memory, after_read, with_pages}
 use Rattle.kr_steps.specs.rv_mem.Pages.{IsPlaced, IsWhole, written}
 use Rattle.kr_steps.specs.rv_mem.declared.regs.Regs.{Regs}
 use Rattle.kr_execve.specs.kr_view.View.{Row}
-use Rattle.kr_hostview.specs.kr_model.Applied.{with_living}
-use Rattle.kr_hostview.specs.kr_model.State as model
-use Rattle.kr_hostview.specs.kr_model.State.{Image}
-use Rattle.kr_execve.proofs.kr_allowed.RowLemmas.{StaysLike, stays-like}
-use Rattle.kr_hostview.specs.kr_ops.declared.state.Process.{Process}
-use Rattle.kr_hostview.specs.kr_ops.declared.state.State.{State}
-use Rattle.kr_hostview.specs.kr_ops.Living.{HasPid}
-use Rattle.kr_hostview.specs.kr_ops.Meaning.{meaning, process_meaning}
-use Rattle.kr_hostview.specs.kr_ops.Sound.{IsSound}
+use Rattle.kr_seen.specs.kr_model.Applied.{with_living}
+use Rattle.kr_seen.specs.kr_model.State as model
+use Rattle.kr_seen.specs.kr_model.State.{Image}
+use Rattle.kr_steps.proofs.law_allowed.RowLemmas.{StaysLike, stays-like}
+use Rattle.kr_seen.specs.kr_ops.declared.state.Process.{Process}
+use Rattle.kr_seen.specs.kr_ops.declared.state.State.{State}
+use Rattle.kr_seen.specs.kr_ops.Living.{HasPid}
+use Rattle.kr_seen.specs.kr_ops.Meaning.{meaning, process_meaning}
+use Rattle.kr_seen.specs.kr_ops.Sound.{IsSound}
 use Rattle.kr_steps.specs.Calls.{Runs}
 use Rattle.kr_steps.specs.Computing.{computed}
 use Rattle.kr_steps.proofs.ComputingLemmas.{changed_at, image-means, image-runs, lives-at}

@@ -11,18 +11,18 @@ use Rattle.kr_execve.specs.kr_calls.Decoding.{decoding}
 use Rattle.kr_execve.specs.kr_calls.declared.fault.CallFault.{CallFault}
 use Rattle.kr_execve.specs.kr_calls.declared.request.Request.{Request}
 use Rattle.kr_execve.specs.kr_view.View.{Row}
-use Rattle.kr_hostview.specs.kr_model.Peeks.{peeked_of}
-use Rattle.kr_hostview.specs.kr_model.State as model
-use Rattle.kr_hostview.specs.kr_model.State.{Image}
-use Rattle.kr_hostview.proofs.kr_lawful.AfterLemmas.{some-of}
-use Rattle.kr_hostview.specs.kr_ops.declared.state.State.{State}
-use Rattle.kr_hostview.specs.kr_ops.Meaning.{meaning}
-use Rattle.kr_hostview.specs.kr_ops.Sound.{IsOfView}
-use Rattle.kr_hostview.specs.kr_seen.Numbered.{process_numbered, state_numbered}
+use Rattle.kr_seen.specs.kr_model.Peeks.{peeked_of}
+use Rattle.kr_seen.specs.kr_model.State as model
+use Rattle.kr_seen.specs.kr_model.State.{Image}
+use Rattle.kr_seen.proofs.law_lawful.AfterLemmas.{some-of}
+use Rattle.kr_seen.specs.kr_ops.declared.state.State.{State}
+use Rattle.kr_seen.specs.kr_ops.Meaning.{meaning}
+use Rattle.kr_seen.specs.kr_ops.Sound.{IsOfView}
+use Rattle.kr_seen.specs.Numbered.{process_numbered, state_numbered}
 use Rattle.kr_steps.specs.Calls.{Runs}
 use Rattle.kr_hostview.specs.Asked.{Asked}
 use Rattle.kr_hostview.proofs.LawLemmas.{hosts-have-one-mount, lawful-on-host}
-use Rattle.kr_calm.proofs.kr_numbered.LookLemmas.{asked-numbered, process-numbered}
+use Rattle.kr_seen.proofs.LookLemmas.{asked-numbered, process-numbered}
 use Rattle.kr_steps.specs.Computing.{Requests, computed}
 use Rattle.kr_turns.specs.Held.{Held, Stands, stopped_in, stopped_of}
 use Rattle.kr_turns.specs.Stopped.{IsThere, Stopped, edited, image_at, image_in, no_image}

@@ -6,22 +6,22 @@ use Rattle.std.proofs.lemmas.Option.{same_Some}
 use Rattle.kr_steps.specs.rv_cpu.Run.{ran}
 use Rattle.kr_steps.specs.rv_cpu.declared.event.Event.{Event}
 use Rattle.kr_execve.specs.kr_view.View.{Row}
-use Rattle.kr_hostview.specs.kr_model.Applied.{Mounts, images}
-use Rattle.kr_hostview.specs.kr_model.Change.{End}
-use Rattle.kr_hostview.specs.kr_model.State as model
-use Rattle.kr_hostview.specs.kr_model.State.{Image, Process}
-use Rattle.kr_hostview.proofs.kr_lawful.AfterLemmas.{some-of}
-use Rattle.kr_hostview.proofs.kr_lawful.ProcessChangeLemmas.{found-passes}
-use Rattle.kr_hostview.proofs.kr_lawful.SumLemmas.{passed-test}
-use Rattle.kr_hostview.specs.kr_ops.declared.state.State.{State}
-use Rattle.kr_hostview.specs.kr_ops.Making.{Makes}
-use Rattle.kr_hostview.specs.kr_ops.Living.{HasPid}
-use Rattle.kr_hostview.specs.kr_ops.Meaning.{meaning}
-use Rattle.kr_hostview.specs.kr_ops.Sound.{IsSound}
-use Rattle.kr_hostview.proofs.kr_ops.OpeningLemmas.{found}
-use Rattle.kr_hostview.specs.kr_seen.Numbered.{process_numbered, state_numbered}
-use Rattle.kr_calm.proofs.kr_numbered.ChangeLemmas.{change-numbered}
-use Rattle.kr_calm.proofs.kr_numbered.LookLemmas.{process-numbered}
+use Rattle.kr_seen.specs.kr_model.Applied.{Mounts, images}
+use Rattle.kr_seen.specs.kr_model.Change.{End}
+use Rattle.kr_seen.specs.kr_model.State as model
+use Rattle.kr_seen.specs.kr_model.State.{Image, Process}
+use Rattle.kr_seen.proofs.law_lawful.AfterLemmas.{some-of}
+use Rattle.kr_seen.proofs.law_lawful.ProcessChangeLemmas.{found-passes}
+use Rattle.kr_seen.proofs.law_lawful.SumLemmas.{passed-test}
+use Rattle.kr_seen.specs.kr_ops.declared.state.State.{State}
+use Rattle.kr_seen.specs.kr_ops.Making.{Makes}
+use Rattle.kr_seen.specs.kr_ops.Living.{HasPid}
+use Rattle.kr_seen.specs.kr_ops.Meaning.{meaning}
+use Rattle.kr_seen.specs.kr_ops.Sound.{IsSound}
+use Rattle.kr_seen.proofs.kr_ops.OpeningLemmas.{found}
+use Rattle.kr_seen.specs.Numbered.{process_numbered, state_numbered}
+use Rattle.kr_seen.proofs.ChangeLemmas.{change-numbered}
+use Rattle.kr_seen.proofs.LookLemmas.{process-numbered}
 use Rattle.kr_steps.specs.Computing.{Computes, computed}
 use Rattle.kr_turns.specs.Coming.{came_to}
 use Rattle.kr_turns.specs.Held.{stopped_in}

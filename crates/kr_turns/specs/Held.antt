@@ -2,11 +2,11 @@
 use Rattle.std.specs.Prelude.{ℕ, ◌≤◌, ◌^◌, Bool, List, IsSome}
 use Rattle.kr_hostview.specs.pr_base.Peeks.{NamesAreTexts}
 use Rattle.kr_execve.specs.kr_view.View.{Row}
-use Rattle.kr_hostview.specs.kr_model.Peeks.{peeked_of}
-use Rattle.kr_hostview.specs.kr_model.State.{process}
-use Rattle.kr_hostview.specs.kr_ops.declared.state.State.{State}
-use Rattle.kr_hostview.specs.kr_ops.Meaning.{meaning}
-use Rattle.kr_hostview.specs.kr_seen.Numbered.{state_numbered}
+use Rattle.kr_seen.specs.kr_model.Peeks.{peeked_of}
+use Rattle.kr_seen.specs.kr_model.State.{process}
+use Rattle.kr_seen.specs.kr_ops.declared.state.State.{State}
+use Rattle.kr_seen.specs.kr_ops.Meaning.{meaning}
+use Rattle.kr_seen.specs.Numbered.{state_numbered}
 use Rattle.kr_steps.specs.Calls.{Runs}
 use Rattle.kr_turns.specs.Stopped.{Stopped}
 

@@ -1,7 +1,7 @@
 -- A turn whose watcher is a function is one.
 use Rattle.std.specs.Prelude.{◌≡◌, ℕ, List, Some, None}
 use Rattle.kr_execve.specs.kr_view.View.{Row}
-use Rattle.kr_hostview.specs.kr_model.State.{Image, Process}
+use Rattle.kr_seen.specs.kr_model.State.{Image, Process}
 use Rattle.kr_steps.specs.Waiting.{picked_process}
 use Rattle.kr_turns.specs.Turn.{IsTurnOf, Machine, turn}
 use Rattle.kr_turns.specs.Watching.{IsGraph, Watcher, Watching}

@@ -1,6 +1,6 @@
 -- The shelf of a call, in the state of its kernel.
 use Rattle.std.specs.Prelude.{ℕ, Bool}
-use Rattle.kr_hostview.specs.kr_model.State.{Image, State}
+use Rattle.kr_seen.specs.kr_model.State.{Image, State}
 use Rattle.kr_calm.specs.Shelf.{lacks_shelf_by, shelved_by}
 use Rattle.kr_steps.specs.Computing.{computed}
 use Rattle.kr_turns.specs.Stopped.{image_in}

@@ -3,8 +3,8 @@ use Rattle.std.specs.Prelude.{◌≡◌, ℕ, Bool, [], IsSome}
 use Rattle.std.specs.Option.{option_map_or}
 use Rattle.kr_steps.specs.rv_mem.Memory.{Memory}
 use Rattle.kr_steps.specs.rv_mem.declared.regs.Regs.{Regs}
-use Rattle.kr_hostview.specs.kr_model.State.{Image, State, image_layout, process}
-use Rattle.kr_hostview.specs.kr_seen.Carrying.{no_memory}
+use Rattle.kr_seen.specs.kr_model.State.{Image, State, image_layout, process}
+use Rattle.kr_seen.specs.Carrying.{no_memory}
 use Rattle.kr_steps.specs.Computing.{computed}
 
 pub record Stopped : Type 0 where

@@ -1,4 +1,28 @@
 //! A turn: what a watcher of calls may do at their stops, and a call as the kernel carries it out.
+//!
+//! What is proved, with the clause or the law that carries it:
+//!
+//! A turn of a process, with a call and what a watcher does at its two stops. kr_core takes it up.
+//!
+//! `Stops` is a watcher, `Tracee` the stopped process as it sees it: `set_reg` changes one register, `peek` and `poke` read and write exactly the
+//! range that is asked, `request` is the decoding of what stands there, and a peek answers what the host's own view shows over the state (clauses
+//! `set`, `when`, `bytes`, `after`, `err` and the law `peeks_at_state`). At a stop at most the registers but the program counter, and the bytes
+//! of the memory, are changed (`edits`). `Unwatched` does nothing.
+//!
+//! `plain_call` decodes the request of a process, walks its paths, carries out its row or puts the new program in place, and tells the caller
+//! (`came`, `reach`): exactly the definition, over the state with its mounts told by their numbers (`PlainCall.antt`). Beside that it tells the
+//! smallest calm rule that the call broke (`rule`; `plain_rule`).
+//!
+//! `make_turn` is the definition's turn by the watcher's four relations, with the status of a process that ended and the calm rule that was
+//! broken (`turn`), and what lasts of a state lasts (`runs`). Where memories keep marks, the shelf of a call with a path is marked before its
+//! first stop, and a call whose shelf isn't there breaks a rule. Where the relations are graphs of functions the turn is a function (law
+//! `turns_are_functions`).
+//!
+//! After want of memory nothing is promised. What a watcher reads of marked bytes at the second stop is judged with the next turn of that
+//! process.
+//!
+//! Only tested, or not shown: `rows` (processes and who waits for them, pipes, deadlock). `Run.antt` has a run as a definition; what is proved of
+//! it stands with pr_run.
 #![tactic(auto)]
 
 pub mod below;

@@ -1,18 +1,18 @@
 //! A call as the kernel carries it out.
 ghost use Rattle.std.specs.Prelude.{◌≡◌, ◌≢◌, ◌<◌, ◌^◌, ◌||◌, ℕ, suc, List, length, false, Ok, IfOk, IsSome, OnOk};
-ghost use Rattle.kr_execve.specs.kr_allowed.Calls.{HasTextPaths, IsGivable};
-ghost use Rattle.kr_execve.specs.kr_allowed.Told.{SourcesAreNamed};
-ghost use Rattle.kr_hostview.specs.kr_seen.Carrying.{memory_of};
+ghost use Rattle.kr_steps.specs.law_allowed.Calls.{HasTextPaths, IsGivable};
+ghost use Rattle.kr_steps.specs.law_allowed.Told.{SourcesAreNamed};
+ghost use Rattle.kr_seen.specs.Carrying.{memory_of};
 ghost use Rattle.kr_turns.specs.Breaking.{nothing_reached, plain_rule, requested_rule, rule_told};
 ghost use Rattle.kr_steps.specs.Calls.{MayCall, Runs, IsNoExec};
-ghost use Rattle.kr_execve.specs.kr_allowed.Texts.{IsText};
-ghost use Rattle.kr_hostview.specs.kr_model.State.{process};
-ghost use Rattle.kr_hostview.specs.kr_model.Walks.{targets_of};
-ghost use Rattle.kr_hostview.specs.kr_model.declared.outcome.Outcome.TheVariants.{NoMemory as WantOfMemory};
-ghost use Rattle.kr_hostview.specs.kr_ops.Meaning.{meaning};
-ghost use Rattle.kr_hostview.specs.kr_ops.Sound.{IsSound};
-ghost use Rattle.kr_hostview.specs.kr_seen.CallWalks.{AreTargets};
-ghost use Rattle.kr_hostview.specs.kr_seen.Numbered.{state_numbered};
+ghost use Rattle.kr_steps.specs.law_allowed.Texts.{IsText};
+ghost use Rattle.kr_seen.specs.kr_model.State.{process};
+ghost use Rattle.kr_seen.specs.kr_model.Walks.{targets_of};
+ghost use Rattle.kr_seen.specs.kr_model.declared.outcome.Outcome.TheVariants.{NoMemory as WantOfMemory};
+ghost use Rattle.kr_seen.specs.kr_ops.Meaning.{meaning};
+ghost use Rattle.kr_seen.specs.kr_ops.Sound.{IsSound};
+ghost use Rattle.kr_seen.specs.CallWalks.{AreTargets};
+ghost use Rattle.kr_seen.specs.Numbered.{state_numbered};
 ghost use Rattle.kr_execve.specs.kr_tree.Lawful.{AreBytes};
 ghost use Rattle.kr_steps.specs.Settling.{settled};
 ghost use Rattle.kr_turns.specs.Coming.{came_to};
@@ -25,9 +25,9 @@ ghost use Rattle.kr_execve.specs.kr_calls.declared.request.Request.TheVariants.{
 use crate::judging::{NOTHING, idle_rule, judge_call, look_ahead, rule_of};
 use kr_execve::below::{CallFault, Place, Places, Reach, Request, WalkFault};
 use kr_execve::{Executed, execute};
-use kr_hostview::below::{
-    Errno, NoMemory, Outcome, State, Targets, lawful_states_are_sound, walk_paths,
-};
+use kr_hostview::below::{Errno, NoMemory};
+use kr_seen::below::{Outcome, State, lawful_states_are_sound};
+use kr_seen::{Targets, walk_paths};
 use kr_steps::{answer, carry_out_along, request, resume, stay};
 use std::alloc::Global;
 

@@ -1,7 +1,7 @@
 //! A process at a stop, as a watcher sees it.
 ghost use Rattle.std.specs.Prelude.{◌≡◌, ◌≤◌, ◌<◌, ◌↔◌, ℕ, IsErrOf, IsOk, IsTrue, length, OnOk, OnErr, false};
 ghost use Rattle.kr_steps.specs.rv_mem.Pages.{allows_all, bytes_from};
-ghost use Rattle.kr_hostview.specs.kr_model.Peeks.{peeked_of};
+ghost use Rattle.kr_seen.specs.kr_model.Peeks.{peeked_of};
 ghost use Rattle.kr_turns.specs.Stopped.{Stopped, IsThere};
 ghost use Rattle.kr_turns.specs.Editing.{after_peek, after_poke, after_request, memory_at, register_at, with_register, Decodes};
 

@@ -1,9 +1,9 @@
 //! A turn of a process.
 ghost use Rattle.std.specs.Prelude.{◌<◌, ◌^◌, ℕ, suc, false, length, IfOk, IsSome, OnOk};
-ghost use Rattle.kr_execve.specs.kr_allowed.Told.{SourcesAreNamed};
+ghost use Rattle.kr_steps.specs.law_allowed.Told.{SourcesAreNamed};
 ghost use Rattle.kr_steps.specs.Calls.{Runs};
-ghost use Rattle.kr_hostview.specs.kr_model.State.{process};
-ghost use Rattle.kr_hostview.specs.kr_ops.Meaning.{meaning};
+ghost use Rattle.kr_seen.specs.kr_model.State.{process};
+ghost use Rattle.kr_seen.specs.kr_ops.Meaning.{meaning};
 ghost use Rattle.kr_turns.specs.Making.{ComesOut, IsCallMade, IsLeft, IsTurnMade, watching};
 ghost use Rattle.kr_turns.specs.Held.{Stands, stopped_in};
 ghost use Rattle.kr_turns.specs.Stopped.{IsEdited};
@@ -16,7 +16,8 @@ use crate::shelving::shelve;
 use crate::stops::Stops;
 use kr_execve::below::Places;
 use kr_execve::marks_read;
-use kr_hostview::below::{NoMemory, State, lawful_states_are_sound};
+use kr_hostview::below::NoMemory;
+use kr_seen::below::{State, lawful_states_are_sound};
 use kr_steps::below::Event;
 use kr_steps::{compute, kill};
 use std::alloc::Global;

@@ -1,5 +1,14 @@
 //! A listing, read from the standard input, is written in its canonical form. With a number as its
 //! word the program adds, looks up and removes that many names of one directory instead.
+//!
+//! What is proved, with the clause or the law that carries it:
+//!
+//! A small program on the tree and its listing. Without a word it reads a listing from its input and writes it in its canonical form: `rewritten`
+//! says of each answer what the listing is like. A line that begins with `x ` is refused, and nothing else is refused so; a bad line is the first
+//! that the definition finds, told by its number and in words, with status 1.
+//!
+//! Only tested, or not shown: With a number the program adds, looks up and removes that many names of one directory: `bench/listing`, outside the
+//! gate.
 #![tactic(auto)]
 
 ghost use Rattle.list_tree.specs.Rewritten.{IsRewritten};

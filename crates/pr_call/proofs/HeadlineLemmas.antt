@@ -2,20 +2,20 @@
 use Rattle.std.proofs.Common.{◌≡◌, ◌⊎◌, inl, inr, ℕ, true, false, List, Option, None, Some, Result, Ok, Err, refl, sym, ap, subst, ◌∙◌, IfSome}
 use Rattle.std.specs.Prelude.{IfOk}
 use Rattle.std.specs.List.{AllByRecursion}
-use Rattle.machines_agree.specs.kr_tree.Lawful.{AreBytes}
-use Rattle.pr_answer.specs.kr_mounts.MountTable.{Refusal}
-use Rattle.machines_agree.specs.kr_view.View.{Row}
-use Rattle.machines_agree.specs.Given.{settled_in}
-use Rattle.machines_agree.proofs.SourceLemmas.{told-has-options}
-use Rattle.pr_answer.specs.pr_words.declared.options.Options.{Options}
-use Rattle.pr_answer.specs.declared.answer.Answer.{Answer}
-use Rattle.machines_agree.specs.pr_sources.Asking.{asked}
-use Rattle.machines_agree.specs.pr_sources.Reading.{IsRead, told_asked}
-use Rattle.machines_agree.specs.pr_sources.declared.reading.Asked.{Asked}
-use Rattle.machines_agree.specs.pr_run.Puts.{Got}
-use Rattle.machines_agree.specs.pr_top.Opening.{Begun, WasRead, opening, over, report}
-use Rattle.machines_agree.specs.Openings.{IsToldAlike, OpeningsAgree, asked_on, over_mounts, with_tracer}
-use Rattle.machines_agree.proofs.OpeningLemmas.{refusals_agree, words_begin_traced}
+use Rattle.pr_sources.specs.kr_tree.Lawful.{AreBytes}
+use Rattle.pr_sources.specs.kr_mounts.MountTable.{Refusal}
+use Rattle.law_machines.specs.kr_view.View.{Row}
+use Rattle.law_machines.specs.Given.{settled_in}
+use Rattle.law_machines.proofs.SourceLemmas.{told-has-options}
+use Rattle.pr_sources.specs.pr_words.declared.options.Options.{Options}
+use Rattle.pr_sources.specs.declared.answer.Answer.{Answer}
+use Rattle.pr_sources.specs.Asking.{asked}
+use Rattle.pr_sources.specs.Reading.{IsRead, told_asked}
+use Rattle.pr_sources.specs.declared.reading.Asked.{Asked}
+use Rattle.law_machines.specs.pr_run.Puts.{Got}
+use Rattle.law_machines.specs.pr_top.Opening.{Begun, WasRead, opening, over, report}
+use Rattle.law_machines.specs.Openings.{IsToldAlike, OpeningsAgree, asked_on, over_mounts, with_tracer}
+use Rattle.law_machines.proofs.OpeningLemmas.{refusals_agree, words_begin_traced}
 use Rattle.pr_call.specs.Headline.{AsksTraced, OfCalmOpening, OpensCalmly}
 use Rattle.pr_call.specs.Promise.{IsReported, TellsOpening}
 use Rattle.pr_call.proofs.WordLemmas.{watched_is_quiet}

@@ -3,20 +3,20 @@ use Rattle.std.proofs.Common.{◌≡◌, ◌⊎◌, inl, inr, ℕ, Some, None, s
 use Rattle.std.specs.Prelude.{Result, Ok, Err}
 use Rattle.std.specs.Io.KnownBytes.{Appends}
 use Rattle.pr_io.specs.Moves.{AppendsPrefix}
-use Rattle.pr_answer.specs.declared.answer.Answer.{Answer}
-use Rattle.pr_answer.specs.declared.answer.Answer.TheVariants.{Ended, Deadlock, Spent, Usage, TooLong, TreeBad, BadBind, NoStart, ReadFault, WriteFault, NoMemory}
-use Rattle.pr_answer.specs.declared.answer.Which.{Which}
-use Rattle.pr_answer.specs.declared.answer.Which.TheVariants.{Tree as TreeSource, Elf, Input, Out, Err as ErrSink, Left}
-use Rattle.machines_agree.specs.pr_sources.Reading.{EndsBeforeInput}
-use Rattle.machines_agree.specs.pr_sources.Within.{Stage}
-use Rattle.machines_agree.specs.pr_run.Report.{Deadlock as AllWait, Ending, Over, Report, Spent as NoTurnIsLeft, answer_of}
-use Rattle.machines_agree.specs.pr_run.Puts.{AnswersReport, Got, PutsReport, PutsTurns, StopsBetween, StopsInCalm, StopsInErr, StopsInOut, answer_told, stop_answer}
-use Rattle.machines_agree.specs.pr_run.declared.plan.Plan.{Plan}
-use Rattle.machines_agree.specs.pr_run.declared.turns.Stop.{Stop}
-use Rattle.machines_agree.specs.pr_run.declared.turns.Stop.TheVariants as stop
-use Rattle.machines_agree.specs.pr_top.Opening.{Begun, Both, Mounts, Opens, Started, Traced, begun_told, mounted_run, report, report_on, started_told, traced_run}
+use Rattle.pr_sources.specs.declared.answer.Answer.{Answer}
+use Rattle.pr_sources.specs.declared.answer.Answer.TheVariants.{Ended, Deadlock, Spent, Usage, TooLong, TreeBad, BadBind, NoStart, ReadFault, WriteFault, NoMemory}
+use Rattle.pr_sources.specs.declared.answer.Which.{Which}
+use Rattle.pr_sources.specs.declared.answer.Which.TheVariants.{Tree as TreeSource, Elf, Input, Out, Err as ErrSink, Left}
+use Rattle.pr_sources.specs.Reading.{EndsBeforeInput}
+use Rattle.pr_sources.specs.Within.{Stage}
+use Rattle.law_machines.specs.pr_run.Report.{Deadlock as AllWait, Ending, Over, Report, Spent as NoTurnIsLeft, answer_of}
+use Rattle.law_machines.specs.pr_run.Puts.{AnswersReport, Got, PutsReport, PutsTurns, StopsBetween, StopsInCalm, StopsInErr, StopsInOut, answer_told, stop_answer}
+use Rattle.law_machines.specs.pr_run.declared.plan.Plan.{Plan}
+use Rattle.law_machines.specs.pr_run.declared.turns.Stop.{Stop}
+use Rattle.law_machines.specs.pr_run.declared.turns.Stop.TheVariants as stop
+use Rattle.law_machines.specs.pr_top.Opening.{Begun, Both, Mounts, Opens, Started, Traced, begun_told, mounted_run, report, report_on, started_told, traced_run}
 use Rattle.pr_call.specs.Promise.{ComesBeforeRun, EndsEarly, IsReported, Refuses, TellsOpening, TellsRun}
-use Rattle.machines_agree.specs.pr_top.declared.opening.Opened.{Opened}
+use Rattle.law_machines.specs.pr_top.declared.opening.Opened.{Opened}
 
 -- a report's own answer tells a run, on both machines
 answer-tells : (e : Ending) (status : ℕ) → TellsRun (answer_of e status)

@@ -2,22 +2,22 @@
 use Rattle.std.proofs.Common.{◌≡◌, ◌⊎◌, inl, inr, ℕ, List, Some, None, refl, sym, subst, ◌∙◌, IfSome}
 use Rattle.std.specs.Prelude.{Result, Ok, Err, IfOk}
 use Rattle.std.proofs.KnownBytes.{Appends-nil, Keeps-refl}
-use Rattle.machines_agree.specs.kr_inode.declared.user.User.{User}
-use Rattle.machines_agree.specs.kr_tree.Tree.{Tree}
-use Rattle.pr_answer.specs.pr_words.declared.options.Options.{Options}
-use Rattle.pr_answer.specs.declared.answer.Answer.{Answer}
-use Rattle.pr_answer.specs.declared.answer.Answer.TheVariants.{Ended, Deadlock, Spent, Usage, TooLong, TreeBad, BadBind, NoStart, ReadFault, WriteFault, NoMemory}
-use Rattle.pr_answer.specs.declared.answer.Which.{Which}
-use Rattle.pr_answer.specs.declared.answer.Which.TheVariants.{Tree as TreeSource, Elf, Input, Out, Err as ErrSink, Left}
-use Rattle.machines_agree.specs.pr_sources.Reading.{HasCause}
-use Rattle.machines_agree.specs.pr_sources.Within.{IsEarly, Stage}
-use Rattle.machines_agree.specs.pr_run.Report.{Report}
-use Rattle.machines_agree.specs.pr_run.Puts.{AnswersReport, Got, PutsReport, answer_told}
-use Rattle.machines_agree.specs.pr_run.declared.turns.Stop.{Stop}
-use Rattle.machines_agree.specs.pr_run.declared.turns.Stop.TheVariants as stop
-use Rattle.machines_agree.specs.pr_top.Opening.{Begun, IsOfOpening, Opens, OpensFrom, begun_told, report}
+use Rattle.pr_sources.specs.kr_inode.declared.user.User.{User}
+use Rattle.pr_sources.specs.kr_tree.Tree.{Tree}
+use Rattle.pr_sources.specs.pr_words.declared.options.Options.{Options}
+use Rattle.pr_sources.specs.declared.answer.Answer.{Answer}
+use Rattle.pr_sources.specs.declared.answer.Answer.TheVariants.{Ended, Deadlock, Spent, Usage, TooLong, TreeBad, BadBind, NoStart, ReadFault, WriteFault, NoMemory}
+use Rattle.pr_sources.specs.declared.answer.Which.{Which}
+use Rattle.pr_sources.specs.declared.answer.Which.TheVariants.{Tree as TreeSource, Elf, Input, Out, Err as ErrSink, Left}
+use Rattle.pr_sources.specs.Reading.{HasCause}
+use Rattle.pr_sources.specs.Within.{IsEarly, Stage}
+use Rattle.law_machines.specs.pr_run.Report.{Report}
+use Rattle.law_machines.specs.pr_run.Puts.{AnswersReport, Got, PutsReport, answer_told}
+use Rattle.law_machines.specs.pr_run.declared.turns.Stop.{Stop}
+use Rattle.law_machines.specs.pr_run.declared.turns.Stop.TheVariants as stop
+use Rattle.law_machines.specs.pr_top.Opening.{Begun, IsOfOpening, Opens, OpensFrom, begun_told, report}
 use Rattle.pr_call.specs.Promise.{ComesBeforeRun, EndsEarly, IsRefused, IsReported, Refuses, TellsOpening, TellsRun}
-use Rattle.machines_agree.specs.pr_top.declared.opening.Opened.{Opened}
+use Rattle.law_machines.specs.pr_top.declared.opening.Opened.{Opened}
 
 -- ---- kinds of answers
 

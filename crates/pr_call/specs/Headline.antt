@@ -1,14 +1,14 @@
 -- The same words over mounts: what they open there, where that is calm. Without `--native` the public call answers and puts what is told of it.
 use Rattle.std.specs.Prelude.{◌≡◌, ℕ, false, List, Option, Some, None, Result, Ok, Err}
-use Rattle.machines_agree.specs.kr_view.View.{Row}
-use Rattle.machines_agree.specs.Given.{settled_in}
-use Rattle.pr_answer.specs.pr_words.declared.options.Options.{Options}
-use Rattle.pr_answer.specs.declared.answer.Answer.{Answer}
-use Rattle.machines_agree.specs.pr_sources.Asking.{asked}
-use Rattle.machines_agree.specs.pr_sources.Reading.{told_asked}
-use Rattle.machines_agree.specs.pr_sources.declared.reading.Asked.{Asked}
-use Rattle.machines_agree.specs.pr_top.Opening.{Begun}
-use Rattle.machines_agree.specs.Openings.{IsCalmRun, IsCalmStart, over_mounts}
+use Rattle.law_machines.specs.kr_view.View.{Row}
+use Rattle.law_machines.specs.Given.{settled_in}
+use Rattle.pr_sources.specs.pr_words.declared.options.Options.{Options}
+use Rattle.pr_sources.specs.declared.answer.Answer.{Answer}
+use Rattle.pr_sources.specs.Asking.{asked}
+use Rattle.pr_sources.specs.Reading.{told_asked}
+use Rattle.pr_sources.specs.declared.reading.Asked.{Asked}
+use Rattle.law_machines.specs.pr_top.Opening.{Begun}
+use Rattle.law_machines.specs.Openings.{IsCalmRun, IsCalmStart, over_mounts}
 
 -- what words ask for of sources that are told: not for a generated case, and not for mounts
 pub record AsksTraced (words : List (List ℕ)) (tree elf input : Option (List ℕ)) (a : Asked) : Type 0 where

@@ -2,13 +2,13 @@
 use Rattle.std.specs.Prelude.{◌≡◌, ◌⊎◌, Result, Ok, Err}
 use Rattle.std.specs.Io.KnownBytes.{Appends, Keeps}
 use Rattle.pr_io.specs.Moves.{AppendsPrefix}
-use Rattle.pr_answer.specs.declared.answer.Answer.{Answer}
-use Rattle.pr_answer.specs.declared.answer.Answer.TheVariants.{Ended, Deadlock, Spent, Usage, TooLong, TreeBad, BadBind, NoStart, ReadFault, WriteFault, NoMemory}
-use Rattle.pr_answer.specs.declared.answer.Which.TheVariants.{Out, Err as ErrSink, Left}
-use Rattle.machines_agree.specs.pr_sources.Within.{IsEarly}
-use Rattle.machines_agree.specs.pr_run.Report.{Report}
-use Rattle.machines_agree.specs.pr_run.Puts.{Got, PutsTurns, StopsBetween, StopsInCalm, StopsInErr, StopsInOut}
-use Rattle.machines_agree.specs.pr_top.Opening.{Begun, report}
+use Rattle.pr_sources.specs.declared.answer.Answer.{Answer}
+use Rattle.pr_sources.specs.declared.answer.Answer.TheVariants.{Ended, Deadlock, Spent, Usage, TooLong, TreeBad, BadBind, NoStart, ReadFault, WriteFault, NoMemory}
+use Rattle.pr_sources.specs.declared.answer.Which.TheVariants.{Out, Err as ErrSink, Left}
+use Rattle.pr_sources.specs.Within.{IsEarly}
+use Rattle.law_machines.specs.pr_run.Report.{Report}
+use Rattle.law_machines.specs.pr_run.Puts.{Got, PutsTurns, StopsBetween, StopsInCalm, StopsInErr, StopsInOut}
+use Rattle.law_machines.specs.pr_top.Opening.{Begun, report}
 
 -- answers that tell a whole run
 abbrev pub TellsRun : Answer → Type 0

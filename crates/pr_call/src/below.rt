@@ -1,3 +1,3 @@
 //! What those above name of the crates below.
 
-pub use machines_agree::below::{End, Kept, Written, tell};
+pub use law_machines::below::{End, Kept, Written, tell};

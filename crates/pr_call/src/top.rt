@@ -3,18 +3,18 @@ ghost use Rattle.std.specs.Prelude.{◌≡◌, ◌⊎◌, ◌<◌, ◌^◌, Err,
 ghost use Rattle.std.specs.String.{string_bytes};
 ghost use Rattle.std.specs.Io.KnownBytes.{Keeps, IsAtEnd};
 ghost use Rattle.pr_io.specs.Faults.{Rose};
-ghost use Rattle.pr_answer.specs.declared.answer.Which.TheVariants.{Tree, Elf, Input, Out, Err as ErrSink, Left};
-ghost use Rattle.machines_agree.specs.pr_sources.Asking.{asked};
-ghost use Rattle.machines_agree.specs.pr_sources.Reading.{AsksCase, EndsBeforeElf, EndsBeforeInput, HasCause, IsOfWords, IsRefusal, IsUnwanted, IsWanted, ReadsSources, told_listing, told_tree};
-ghost use Rattle.machines_agree.specs.pr_sources.Within.{IsAskedWithin};
-ghost use Rattle.machines_agree.specs.pr_top.Opening.{opening, report};
+ghost use Rattle.pr_sources.specs.declared.answer.Which.TheVariants.{Tree, Elf, Input, Out, Err as ErrSink, Left};
+ghost use Rattle.pr_sources.specs.Asking.{asked};
+ghost use Rattle.pr_sources.specs.Reading.{AsksCase, EndsBeforeElf, EndsBeforeInput, HasCause, IsOfWords, IsRefusal, IsUnwanted, IsWanted, ReadsSources, told_listing, told_tree};
+ghost use Rattle.pr_sources.specs.Within.{IsAskedWithin};
+ghost use Rattle.law_machines.specs.pr_top.Opening.{opening, report};
 ghost use Rattle.pr_call.specs.Headline.{OfCalmOpening};
 ghost use Rattle.pr_call.specs.Promise.{ComesBeforeRun, Refuses, TellsOpening, TellsRun};
 
-use machines_agree::below::open;
-use machines_agree::openings;
-use pr_answer::Answer;
+use law_machines::below::open;
+use law_machines::openings;
 use pr_io::{Sink, Source};
+use pr_sources::Answer;
 use std::alloc::Global;
 
 /// Reads the words, a listing of the host's tree, an ELF file where the listing names it, and an input; settles the bindings that the words

@@ -1,3 +1,7 @@
 pub mod Budget
 pub mod Draft
 pub mod Steps
+pub mod Case
+pub mod Draws
+pub mod Guest
+pub mod Listing

@@ -5,9 +5,9 @@ use Rattle.std.specs.Prelude.{◌↔◌, Result, Err}
 use Rattle.std.proofs.KnownBytes.{Appends-nil, Keeps-refl}
 use base.Stored.{Gv, gnil, gnum, gcons}
 use Rattle.pr_io.specs.Moves.{AppendsPrefix}
-use Rattle.pr_answer.specs.declared.answer.Answer.{Answer}
-use Rattle.pr_answer.specs.declared.answer.Answer.TheVariants as answer
-use Rattle.pr_answer.specs.declared.answer.Answer.TheVariants.{NoMemory}
+use Rattle.pr_sources.specs.declared.answer.Answer.{Answer}
+use Rattle.pr_sources.specs.declared.answer.Answer.TheVariants as answer
+use Rattle.pr_sources.specs.declared.answer.Answer.TheVariants.{NoMemory}
 use Rattle.pr_run.specs.Alike.{same_codes}
 use Rattle.pr_run.specs.Case.{Outcome, agree, outcome_code, status_by, summary, told_of}
 use Rattle.pr_run.specs.Puts.{AnswersReport, Got, PutsReport, StopsInOut, answer_told}

@@ -1,7 +1,7 @@
 -- A call for a turn of a kernel, by what its machine can do.
 use Rattle.std.proofs.Common.{◌≡◌, inr, ℕ, Bool, List, [], ◌∷◌, Option, Some, None, refl, subst, slice_get}
 use Rattle.std.specs.List.{filter}
-use Rattle.kr_core.specs.kr_model.State.{Image, Process}
+use Rattle.pr_sources.specs.kr_model.State.{Image, Process}
 use Rattle.kr_core.specs.kr_turns.Steps.{goes_on, picked_process}
 use Rattle.kr_core.specs.Kernel.{Clears, Kernel, machine}
 use Rattle.kr_core.specs.kr_turns.Run.{Deadlock, Ending, Over, Put, after_put, ending_of, if_any}

@@ -8,7 +8,7 @@ use Rattle.kr_tree.specs.kr_inode.declared.user.User.{User}
 use Rattle.kr_tree.specs.Tree.{Nodes, nodes}
 use Rattle.kr_text.specs.Canonical.{canonical}
 use Rattle.kr_core.specs.kr_turns.Run.{Deadlock, Ending, Over, Put, Ran, Spent}
-use Rattle.pr_answer.specs.declared.answer.Answer.TheVariants as answer
+use Rattle.pr_sources.specs.declared.answer.Answer.TheVariants as answer
 use Rattle.pr_run.specs.Alike.{alike}
 use Rattle.pr_run.specs.Report.{Report, outs}
 

@@ -8,7 +8,7 @@ use Rattle.kr_core.specs.kr_turns.Run.{Deadlock, Over, Put, after_put, ending_of
 use Rattle.kr_core.specs.kr_turns.Turn.{Machine}
 use Rattle.kr_core.specs.kr_turns.Watching.{Watcher}
 use Rattle.pr_words.specs.declared.options.Slot.{Slot}
-use Rattle.pr_answer.specs.declared.answer.Answer.TheVariants as answer
+use Rattle.pr_sources.specs.declared.answer.Answer.TheVariants as answer
 use Rattle.pr_run.specs.Case.{Outcome}
 use Rattle.pr_run.specs.Puts.{after_slot, end_told}
 use Rattle.pr_run.specs.Report.{Report}

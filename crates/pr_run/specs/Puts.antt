@@ -10,9 +10,9 @@ use Rattle.kr_core.specs.kr_turns.Run.{Deadlock, Ending, Over, Put, Ran, Spent, 
 use Rattle.kr_core.specs.kr_turns.Turn.{Machine, turn}
 use Rattle.kr_core.specs.kr_turns.Watching.{Watcher}
 use Rattle.pr_words.specs.declared.options.Slot.{Slot}
-use Rattle.pr_answer.specs.declared.answer.Answer.{Answer}
-use Rattle.pr_answer.specs.declared.answer.Answer.TheVariants as answer
-use Rattle.pr_answer.specs.declared.answer.Which.TheVariants as which
+use Rattle.pr_sources.specs.declared.answer.Answer.{Answer}
+use Rattle.pr_sources.specs.declared.answer.Answer.TheVariants as answer
+use Rattle.pr_sources.specs.declared.answer.Which.TheVariants as which
 use Rattle.pr_run.specs.Report.{Report, errs, outs}
 use Rattle.pr_run.specs.declared.turns.Stop.{Stop}
 use Rattle.pr_run.specs.declared.turns.Stop.TheVariants as stop

@@ -6,8 +6,8 @@ use Rattle.kr_text.specs.Canonical.{canonical}
 pub use Rattle.kr_core.specs.kr_turns.Run.{Deadlock, Ending, Over, Spent}
 use Rattle.kr_core.specs.kr_turns.Run.{Put, Ran, ending_of}
 use Rattle.kr_core.specs.kr_turns.Turn.{Machine}
-use Rattle.pr_answer.specs.declared.answer.Answer.{Answer}
-use Rattle.pr_answer.specs.declared.answer.Answer.TheVariants as answer
+use Rattle.pr_sources.specs.declared.answer.Answer.{Answer}
+use Rattle.pr_sources.specs.declared.answer.Answer.TheVariants as answer
 use Rattle.pr_run.specs.declared.plan.Plan.{Plan}
 
 -- ---- bytes

@@ -17,9 +17,9 @@ use kr_core::Kernel;
 use kr_text::write;
 use kr_tree::{Tree, User};
 use kr_view::Places;
-use pr_answer::Answer;
 use pr_base::{Bytes, NoMemory};
 use pr_io::{PutFault, Sink};
+use pr_sources::Answer;
 use pr_watch::Graphed;
 use std::alloc::Global;
 

@@ -13,9 +13,9 @@ use crate::turns::{End, Stop, put_some, run_turns};
 use kr_core::Kernel;
 use kr_text::write;
 use kr_view::Places;
-use pr_answer::Answer;
 use pr_base::{Bytes, NoMemory};
 use pr_io::{PutFault, Sink};
+use pr_sources::Answer;
 use pr_watch::Graphed;
 use std::alloc::Global;
 

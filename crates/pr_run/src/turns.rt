@@ -12,8 +12,8 @@ use crate::plan::Plan;
 use kr_core::below::turns_are_functions;
 use kr_core::{Kernel, Turned};
 use kr_view::Places;
-use pr_answer::{Answer, Which};
 use pr_io::{PutFault, Sink};
+use pr_sources::{Answer, Which};
 use pr_watch::Graphed;
 use pr_words::Slot;
 

@@ -1,9 +1,9 @@
 -- Stages one after the other.
 use Rattle.std.proofs.Common.{inr, ℕ, List, Some, None}
 use Rattle.std.specs.Prelude.{Option, Err}
-use Rattle.pr_answer.specs.declared.answer.Answer.{Answer}
-use Rattle.pr_answer.specs.declared.answer.Answer.TheVariants.{Ended, Deadlock, Spent, Usage, TooLong, TreeBad, BadBind, NoStart, ReadFault, WriteFault, NoMemory}
-use Rattle.pr_answer.specs.declared.answer.Which.{Which}
+use Rattle.pr_sources.specs.declared.answer.Answer.{Answer}
+use Rattle.pr_sources.specs.declared.answer.Answer.TheVariants.{Ended, Deadlock, Spent, Usage, TooLong, TreeBad, BadBind, NoStart, ReadFault, WriteFault, NoMemory}
+use Rattle.pr_sources.specs.declared.answer.Which.{Which}
 use Rattle.pr_sources.specs.Within.{Comes, IsEarly, IsReadEnd, Stage, told_within}
 
 early-comes : {A : Type 0} (told : Stage A) (answer : Answer) → IsEarly answer → Comes told (Err answer)

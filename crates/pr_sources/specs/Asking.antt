@@ -4,8 +4,8 @@ use Rattle.pr_words.specs.declared.options.Options.{Options}
 use Rattle.pr_words.specs.declared.fault.WordsFault.{WordsFault}
 use Rattle.pr_words.specs.declared.fault.WordsFault.TheVariants as fault
 use Rattle.pr_words.specs.Reading.{reading_of}
-use Rattle.pr_answer.specs.declared.answer.Answer.{Answer}
-use Rattle.pr_answer.specs.declared.answer.Answer.TheVariants.{NoMemory, Usage}
+use Rattle.pr_sources.specs.declared.answer.Answer.{Answer}
+use Rattle.pr_sources.specs.declared.answer.Answer.TheVariants.{NoMemory, Usage}
 
 abbrev pub as_answer : WordsFault → Answer
 as_answer (fault.Usage word why) = Usage word why

@@ -6,14 +6,14 @@ use Rattle.pr_words.specs.declared.options.Options.{Options}
 use Rattle.kr_tree.specs.kr_inode.declared.user.User.{User}
 use Rattle.kr_tree.specs.Lawful.{AreBytes, IsKept}
 use Rattle.kr_tree.specs.Tree.{Tree}
-use Rattle.kr_stage.specs.Ready.{IsOfListing}
+use Rattle.kr_start.specs.Ready.{IsOfListing}
 use Rattle.kr_text.specs.Reading.{listing_of, wants_elf}
 use Rattle.kr_text.specs.declared.fault.ListFault.{ListFault}
 use Rattle.kr_text.specs.declared.fault.ListFault.TheVariants as fault
-use Rattle.pr_answer.specs.declared.answer.Which.{Which}
-use Rattle.pr_answer.specs.declared.answer.Which.TheVariants.{Tree as TreeSource, Elf, Input, Out, Err as ErrSink, Left}
-use Rattle.pr_answer.specs.declared.answer.Answer.{Answer}
-use Rattle.pr_answer.specs.declared.answer.Answer.TheVariants.{NoMemory, ReadFault, TooLong, TreeBad, Usage}
+use Rattle.pr_sources.specs.declared.answer.Which.{Which}
+use Rattle.pr_sources.specs.declared.answer.Which.TheVariants.{Tree as TreeSource, Elf, Input, Out, Err as ErrSink, Left}
+use Rattle.pr_sources.specs.declared.answer.Answer.{Answer}
+use Rattle.pr_sources.specs.declared.answer.Answer.TheVariants.{NoMemory, ReadFault, TooLong, TreeBad, Usage}
 use Rattle.pr_sources.specs.Within.{Stage, and_then, told_within}
 use Rattle.pr_sources.specs.declared.reading.Asked.{Asked}
 

@@ -3,9 +3,9 @@ use Rattle.std.specs.Prelude.{◌≡◌, ◌⊎◌, ℕ, ◌+◌, ◌<◌, ◌�
 use Rattle.std.specs.Option.{option_map}
 use Rattle.std.specs.Io.KnownBytes.{Consumes, IsAtEnd}
 use Rattle.pr_io.specs.Faults.{Rose}
-use Rattle.pr_answer.specs.declared.answer.Which.{Which}
-use Rattle.pr_answer.specs.declared.answer.Answer.{Answer}
-use Rattle.pr_answer.specs.declared.answer.Answer.TheVariants.{NoMemory, ReadFault, TooLong}
+use Rattle.pr_sources.specs.declared.answer.Which.{Which}
+use Rattle.pr_sources.specs.declared.answer.Answer.{Answer}
+use Rattle.pr_sources.specs.declared.answer.Answer.TheVariants.{NoMemory, ReadFault, TooLong}
 
 -- the bytes of a source, where they are no more than its limit
 abbrev pub within : ℕ → Which → List ℕ → Result (List ℕ) Answer

@@ -3,7 +3,7 @@ ghost use Rattle.std.specs.Prelude.{◌+◌, ◌≤◌, ◌<◌, ◌^◌, IfOk, 
 ghost use Rattle.std.specs.Io.KnownBytes.{IsAtEnd};
 ghost use Rattle.pr_sources.specs.Within.{Comes, IsAskedWithin, IsReadEnd, IsReadRefusal, ReadsWithin, told_within};
 
-use pr_answer::{Answer, Which};
+use crate::{Answer, Which};
 use pr_base::Bytes;
 use pr_io::Source;
 use std::alloc::Global;

@@ -4,7 +4,7 @@ ghost use Rattle.std.specs.String.{string_bytes};
 ghost use Rattle.pr_words.specs.Sound.{AreSound};
 ghost use Rattle.pr_sources.specs.Asking.{IsOfAsking, IsUnlessNoMemory, asked};
 
-use pr_answer::Answer;
+use crate::Answer;
 use pr_words::{Options, WordsFault, read};
 use std::alloc::Global;
 

@@ -6,8 +6,8 @@ use Rattle.kr_tree.specs.kr_inode.declared.user.User.{User}
 use Rattle.kr_tree.specs.Tree.{Tree}
 use Rattle.kr_view.specs.declared.target.Reach.{Reach}
 use Rattle.kr_view.specs.View.{Row}
-use Rattle.kr_stage.specs.kr_model.State.{Image, State}
-use Rattle.kr_stage.specs.kr_model.Walks.{and_then}
+use Rattle.kr_start.specs.kr_model.State.{Image, State}
+use Rattle.kr_start.specs.kr_model.Walks.{and_then}
 use Rattle.kr_core.specs.kr_first.declared.starting.StartFault.{StartFault}
 use Rattle.kr_core.specs.kr_first.declared.starting.StartFault.TheVariants as fault
 use Rattle.kr_core.specs.Runs.{Machine}
@@ -16,11 +16,11 @@ use Rattle.kr_core.specs.Kernel.{Kernel, Starts, machine}
 use Rattle.kr_mounts.specs.declared.mount.Mount.{Mount}
 use Rattle.kr_mounts.specs.declared.mounted.MountNumber.{MountNumber}
 use Rattle.pr_start.specs.Directory.{At, directory_reach, working_directory}
-use Rattle.pr_command.specs.Command.{arguments, ids_of, word_of}
+use Rattle.pr_words.specs.Command.{arguments, ids_of, word_of}
 use Rattle.pr_start.specs.Command.{Chosen, chosen}
 use Rattle.pr_start.specs.Numbers.{number_of}
 use Rattle.pr_start.specs.Beginning.{Begins, beginning, begun, begun_at, begun_in, fresh, nowhere}
-use Rattle.pr_command.specs.declared.launch.Launch.{Launch}
+use Rattle.pr_words.specs.declared.launch.Launch.{Launch}
 
 module _ (table : List Row) (tree : Tree) (user : User) (watch : Watch) (launch : Launch) (input : List ℕ) where
   -- what was found step by step is what begins

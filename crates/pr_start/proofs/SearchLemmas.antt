@@ -11,12 +11,12 @@ use Rattle.kr_tree.specs.Tree.{Tree}
 use Rattle.kr_view.specs.declared.target.Reach.{Reach}
 use Rattle.kr_view.specs.Component.{may_search}
 use Rattle.kr_view.specs.View.{Row, StandsIn}
-use Rattle.kr_stage.specs.kr_allowed.Texts.{IsText}
+use Rattle.kr_start.specs.law_allowed.Texts.{IsText}
 use Rattle.kr_core.specs.kr_first.Laws.{RootsAreDirectories}
 use Rattle.kr_core.specs.kr_first.Starting.{directory_at, is_walked}
 use Rattle.pr_start.specs.Directory.{if_searchable, or_root, searchable_at, working_directory}
-use Rattle.pr_command.proofs.TextLemmas.{text-candidate, text-word, texts-directories}
-use Rattle.pr_command.specs.Command.{candidate, directories, has_slash, path_of, word_of}
+use Rattle.pr_words.proofs.TextLemmas.{text-candidate, text-word, texts-directories}
+use Rattle.pr_words.specs.Command.{candidate, directories, has_slash, path_of, word_of}
 use Rattle.pr_start.specs.Command.{Chosen, chosen, is_there, program_reach, searched}
 
 -- one that is taken, or a later one

@@ -6,8 +6,8 @@ use Rattle.kr_tree.specs.kr_inode.declared.user.User.{User}
 use Rattle.kr_tree.specs.Tree.{Tree}
 use Rattle.kr_view.specs.declared.target.Reach.{Reach}
 use Rattle.kr_view.specs.View.{Row}
-use Rattle.kr_stage.specs.kr_model.State.{Image, State}
-use Rattle.kr_stage.specs.kr_model.Walks.{and_then}
+use Rattle.kr_start.specs.kr_model.State.{Image, State}
+use Rattle.kr_start.specs.kr_model.Walks.{and_then}
 use Rattle.kr_core.specs.kr_first.declared.starting.First.{First}
 use Rattle.kr_core.specs.kr_first.declared.starting.StartFault.{StartFault}
 use Rattle.kr_core.specs.kr_first.declared.starting.StartFault.TheVariants as fault
@@ -19,10 +19,10 @@ use Rattle.kr_mounts.specs.declared.mount.Mount.{Mount}
 use Rattle.kr_mounts.specs.declared.mounted.MountNumber.{MountNumber}
 use Rattle.pr_watch.specs.declared.watch.Watch.{Watch}
 use Rattle.pr_start.specs.Directory.{At, directory_reach, working_directory}
-use Rattle.pr_command.specs.Command.{arguments, ids_of, word_of}
+use Rattle.pr_words.specs.Command.{arguments, ids_of, word_of}
 use Rattle.pr_start.specs.Command.{chosen}
 use Rattle.pr_start.specs.Numbers.{number_of}
-use Rattle.pr_command.specs.declared.launch.Launch.{Launch}
+use Rattle.pr_words.specs.declared.launch.Launch.{Launch}
 
 -- nothing is reached before the first walk
 abbrev pub nowhere : Reach

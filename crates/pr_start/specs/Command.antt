@@ -12,7 +12,7 @@ use Rattle.kr_view.specs.View.{Row}
 use Rattle.kr_view.specs.Walk.{PlaceTarget}
 use Rattle.kr_exec.specs.Finding.{program_walk}
 use Rattle.kr_core.specs.kr_first.Starting.{around, found_from, is_walked}
-use Rattle.pr_command.specs.Command.{candidate, directories, has_slash, path_of}
+use Rattle.pr_words.specs.Command.{candidate, directories, has_slash, path_of}
 
 abbrev pub is_found : Result PlaceTarget Errno → Bool
 is_found (Ok target) = true

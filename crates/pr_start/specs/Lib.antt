@@ -1,19 +1,28 @@
 pub use Rattle.pr_base.specs as pr_base
+pub use Rattle.pt_watched.specs.rv_mem as rv_mem
 pub use Rattle.kr_exec.specs.elf_read as elf_read
 pub use Rattle.kr_tree.specs.kr_inode as kr_inode
 pub use Rattle.kr_tree.specs as kr_tree
 pub use Rattle.kr_view.specs as kr_view
 pub use Rattle.kr_mounts.specs as kr_mounts
 pub use Rattle.kr_exec.specs.kr_calls as kr_calls
-pub use Rattle.kr_stage.specs.kr_allowed as kr_allowed
-pub use Rattle.kr_stage.specs.kr_listed as kr_listed
+pub use Rattle.kr_start.specs.law_allowed as law_allowed
 pub use Rattle.kr_exec.specs as kr_exec
-pub use Rattle.kr_stage.specs.kr_start as kr_start
-pub use Rattle.kr_stage.specs as kr_stage
-pub use Rattle.pr_command.specs as pr_command
+pub use Rattle.kr_core.specs.kr_first as kr_first
+pub use Rattle.kr_core.specs as kr_core
+pub use Rattle.kr_start.specs as kr_start
+pub use Rattle.pt_bind.specs as pt_bind
+pub use Rattle.pt_canon.specs as pt_canon
+pub use Rattle.pt_first.specs.pt_script as pt_script
+pub use Rattle.pt_watched.specs.pt_ident as pt_ident
+pub use Rattle.pt_watched.specs.pt_faker as pt_faker
+pub use Rattle.pt_watched.specs as pt_watched
+pub use Rattle.pt_first.specs as pt_first
+pub use Rattle.pr_words.specs as pr_words
 pub use Rattle.pr_watch.specs as pr_watch
 pub mod Directory
 pub mod Command
 pub mod Beginning
 pub mod Numbers
 pub mod Machines
+pub mod TracedBeginning

@@ -7,11 +7,11 @@ ghost use Rattle.pr_start.specs.Numbers.{number_of};
 
 use kr_exec::find_exec;
 use kr_mounts::MountNumber;
-use kr_stage::Stage;
+use kr_start::Stage;
 use kr_tree::Place;
 use kr_view::{NoProcs, Reach, WalkFault};
 use pr_base::{Bytes, NoMemory, Texts, is_walked};
-use pr_command::{candidate, directories, has_slash, path_of};
+use pr_words::{candidate, directories, has_slash, path_of};
 use std::alloc::Global;
 
 /// The number of the first process, in whose name its walks are made.

@@ -9,7 +9,7 @@ ghost use Rattle.pr_start.specs.Numbers.{number_of, directory_told};
 
 use kr_core::below::directory_at;
 use kr_mounts::MountNumber;
-use kr_stage::Stage;
+use kr_start::Stage;
 use kr_tree::{Host, Place, Right, Tree, User};
 use kr_view::{Places, Reach};
 use pr_base::{Bytes, NoMemory, is_walked};

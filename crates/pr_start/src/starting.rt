@@ -1,9 +1,9 @@
 //! The start.
 ghost use Rattle.std.specs.Prelude.{◌≡◌, ◌≢◌, IfOk};
 ghost use Rattle.std.specs.List.{All};
-ghost use Rattle.kr_stage.specs.kr_allowed.Texts.{IsText};
+ghost use Rattle.kr_start.specs.law_allowed.Texts.{IsText};
 ghost use Rattle.kr_mounts.specs.Stored.{table_of};
-ghost use Rattle.kr_stage.specs.Ready.{IsReady};
+ghost use Rattle.kr_start.specs.Ready.{IsReady};
 ghost use Rattle.pr_start.specs.Beginning.{Begins, beginning};
 
 use crate::command::choose;
@@ -11,11 +11,11 @@ use crate::directory::working_directory;
 use kr_core::Kernel;
 use kr_core::below::{First, StartFault, roots_are_directories};
 use kr_mounts::Mounted;
-use kr_stage::Stage;
+use kr_start::Stage;
 use kr_view::Reach;
 use pr_base::{Bytes, Errno};
-use pr_command::{Launch, arguments, word_of};
 use pr_watch::Watch;
+use pr_words::{Launch, arguments, word_of};
 use std::alloc::Global;
 
 /// Nothing was reached yet.

@@ -4,8 +4,8 @@ use Rattle.std.specs.Prelude.{Option, Result, Ok, Err, IfErr, IfOk, IsSome, is_s
 use Rattle.kr_tree.specs.kr_inode.declared.user.User.{User}
 use Rattle.kr_tree.specs.Tree.{Tree}
 use Rattle.pr_words.specs.declared.options.Options.{Options}
-use Rattle.pr_answer.specs.declared.answer.Answer.{Answer}
-use Rattle.pr_answer.specs.declared.answer.Answer.TheVariants.{Ended, Deadlock, Spent, Usage, TooLong, TreeBad, BadBind, NoStart, ReadFault, WriteFault, NoMemory}
+use Rattle.pr_sources.specs.declared.answer.Answer.{Answer}
+use Rattle.pr_sources.specs.declared.answer.Answer.TheVariants.{Ended, Deadlock, Spent, Usage, TooLong, TreeBad, BadBind, NoStart, ReadFault, WriteFault, NoMemory}
 use Rattle.pr_sources.specs.Asking.{IsOfAsking, IsRefused}
 use Rattle.pr_sources.specs.Reading.{AsksCase, EndsBeforeElf, EndsBeforeInput, HasCause, IsOfWords, IsRead, IsRefusal, ReadHasCause, ReadsSources, told_asked}
 use Rattle.pr_sources.specs.Within.{Comes, IsEarly, Stage, and_then}

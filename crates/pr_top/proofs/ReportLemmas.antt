@@ -1,6 +1,6 @@
 -- What a report that can't blame a sink says.
 use Rattle.std.specs.Prelude.{Result, Ok, Err}
-use Rattle.pr_answer.specs.declared.answer.Answer.{Answer}
+use Rattle.pr_sources.specs.declared.answer.Answer.{Answer}
 use Rattle.pr_run.specs.Report.{Report}
 use Rattle.pr_run.specs.Puts.{AnswersReport, Got, PutsReport}
 use Rattle.pr_run.specs.declared.turns.Stop.{Stop}

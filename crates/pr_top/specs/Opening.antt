@@ -6,30 +6,30 @@ use Rattle.kr_tree.specs.Tree.{Tree}
 use Rattle.kr_view.specs.View.{Row, plain}
 use Rattle.kr_view.specs.declared.view.Plain.{Plain}
 use Rattle.kr_view.specs.declared.view.HostMount.{HostMount}
-use Rattle.pr_traced.specs.kr_core.Kernel as kernel
+use Rattle.pr_start.specs.kr_core.Kernel as kernel
 use Rattle.kr_mounts.specs.declared.mount.Mount.{Mount}
 use Rattle.kr_mounts.specs.declared.mounted.MountNumber.{MountNumber}
-use Rattle.pr_traced.specs.kr_stage.declared.stage.Stage.{Stage as StageOfCode}
+use Rattle.pr_start.specs.kr_start.declared.stage.Stage.{Stage as StageOfCode}
 use Rattle.kr_mounts.specs.MountTable.{Refusal, Settling, settling}
 use Rattle.kr_mounts.specs.Standing.{texts_of}
 use Rattle.kr_mounts.specs.Stored.{table_of}
-use Rattle.pr_traced.specs.kr_first.declared.starting.StartFault.{StartFault}
-use Rattle.pr_traced.specs.kr_first.declared.starting.StartFault.TheVariants as fault
+use Rattle.pr_start.specs.kr_first.declared.starting.StartFault.{StartFault}
+use Rattle.pr_start.specs.kr_first.declared.starting.StartFault.TheVariants as fault
 use Rattle.kr_tree.specs.kr_inode.declared.user.User.{User}
-use Rattle.pr_answer.specs.declared.answer.Answer.{Answer}
-use Rattle.pr_answer.specs.declared.answer.Answer.TheVariants.{BadBind, NoMemory, NoStart, ReadFault, TooLong, TreeBad, Usage}
+use Rattle.pr_sources.specs.declared.answer.Answer.{Answer}
+use Rattle.pr_sources.specs.declared.answer.Answer.TheVariants.{BadBind, NoMemory, NoStart, ReadFault, TooLong, TreeBad, Usage}
 use Rattle.pr_sources.specs.Within.{IsEarly, Stage, and_then}
 use Rattle.pr_sources.specs.Asking.{asked}
 use Rattle.pr_sources.specs.Reading.{IsRead, listed, told_asked}
 use Rattle.pr_sources.specs.declared.reading.Asked.{Asked}
 use Rattle.pr_start.specs.Beginning.{beginning}
 use Rattle.pr_start.specs.Machines.{Faked, Machine, Nobody, Ran, Watch, machine, run, starting_faking, watch}
-use Rattle.pr_traced.specs.TracedBeginning.{Tracing, host_number, traced_beginning, tracer}
+use Rattle.pr_start.specs.TracedBeginning.{Tracing, host_number, traced_beginning, tracer}
 use Rattle.pr_start.specs.Numbers.{number_of}
-use Rattle.pr_command.specs.declared.launch.Launch.{Launch}
-use Rattle.pr_case.specs.Case.{case_binds, case_command, case_root}
-use Rattle.pr_case.specs.Guest.{guest}
-use Rattle.pr_case.specs.Listing.{case_listing}
+use Rattle.pr_words.specs.declared.launch.Launch.{Launch}
+use Rattle.pr_gen.specs.Case.{case_binds, case_command, case_root}
+use Rattle.pr_gen.specs.Guest.{guest}
+use Rattle.pr_gen.specs.Listing.{case_listing}
 use Rattle.pr_words.specs.declared.options.Options.{Options}
 use Rattle.pr_run.specs.Case.{case_report_of}
 use Rattle.pr_run.specs.Report.{Report, report_of}

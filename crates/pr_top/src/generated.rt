@@ -3,7 +3,7 @@ ghost use Rattle.std.specs.Prelude.{◌≡◌, ◌≤◌, IfErr, IfOk};
 ghost use Rattle.pr_words.specs.Sound.{AreSound};
 ghost use Rattle.kr_mounts.specs.Standing.{texts_of};
 ghost use Rattle.kr_mounts.specs.Stored.{table_of};
-ghost use Rattle.pr_traced.specs.kr_stage.Ready.{IsReady};
+ghost use Rattle.pr_start.specs.kr_start.Ready.{IsReady};
 ghost use Rattle.kr_mounts.specs.pt_bind.Binding.{rows_of};
 ghost use Rattle.pr_top.specs.Opening.{IsOfStart, IsReadyToRun, MountsAs, OpensFrom, StagesAs, WatchesAs, case_begun, case_staged, mounted_by, watched_by};
 
@@ -11,15 +11,13 @@ use crate::opening::{Kind, Opened};
 use kr_mounts::{BindFault, Mounted};
 use kr_tree::User;
 use kr_view::Plain;
-use pr_answer::Answer;
 use pr_base::{Bytes, Texts};
-use pr_case::{CaseParts, case};
-use pr_command::Launch;
+use pr_gen::{CaseParts, case};
 use pr_run::Plan;
-use pr_start::{Kernel, Watch, start};
-use pr_traced::below::{Stage, StartFault, settled};
-use pr_traced::{Tracer, start_traced};
-use pr_words::Options;
+use pr_sources::Answer;
+use pr_start::below::{Stage, StartFault, settled};
+use pr_start::{Kernel, Tracer, Watch, start, start_traced};
+use pr_words::{Launch, Options};
 use std::alloc::Global;
 
 /// The parts of a case: its tree, in which its bindings are settled, and its command.

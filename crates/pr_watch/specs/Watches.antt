@@ -1,9 +1,9 @@
 -- What a watcher on the kernel with mounts does, as functions: nothing, or what the watcher of identities does.
 use Rattle.std.specs.Prelude.{ℕ}
-use Rattle.pt_watched.specs.pt_tracer.Stopping.{Stopped, Watcher}
-use Rattle.pt_watched.specs.pt_tracer.Faking.{Faking}
-pub use Rattle.pt_watched.specs.pt_tracer.Faking.{starting_faking}
-use Rattle.pt_watched.specs.pt_tracer.Faking as faking
+use Rattle.pt_watched.specs.pt_faker.Stopping.{Stopped, Watcher}
+use Rattle.pt_watched.specs.pt_faker.Faking.{Faking}
+pub use Rattle.pt_watched.specs.pt_faker.Faking.{starting_faking}
+use Rattle.pt_watched.specs.pt_faker.Faking as faking
 use Rattle.pr_watch.specs.declared.watch.Watch.{Watch}
 use Rattle.pr_watch.specs.declared.watch.Watch.TheVariants.{Faked, Nobody}
 

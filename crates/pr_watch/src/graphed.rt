@@ -4,7 +4,7 @@ use pt_watched::below::Stops;
 
 /// A watcher whose stops are functions of what it keeps and of the stopped process.
 pub trait Graphed: Stops {
-    ghost use Rattle.pt_watched.specs.pt_tracer.Stopping.{IsGraph, Watcher, watching};
+    ghost use Rattle.pt_watched.specs.pt_faker.Stopping.{IsGraph, Watcher, watching};
 
     /// These functions.
     ghost does: { Watcher Self };

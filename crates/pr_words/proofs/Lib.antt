@@ -11,3 +11,5 @@ pub mod SpelledLemmas
 pub mod ValueLemmas
 pub mod VariableLemmas
 pub mod WordRows
+pub mod PathLemmas
+pub mod TextLemmas

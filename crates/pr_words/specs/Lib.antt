@@ -10,3 +10,4 @@ pub mod Spelling
 pub mod Steps
 pub mod Values
 pub mod Variables
+pub mod Command

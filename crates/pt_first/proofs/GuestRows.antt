@@ -17,7 +17,7 @@ use Rattle.pt_canon.specs.TextWalk.{TextSurroundings, look_text, seen_text}
 use Rattle.pt_script.specs.kr_calls.Expansion.{expanded}
 use Rattle.pt_first.specs.GuestStart.{guest_start, searched, working_directory}
 use Rattle.pt_first.specs.declared.begun.Begun.{Begun}
-use Rattle.pr_command.specs.declared.launch.Launch.{Launch}
+use Rattle.pr_words.specs.declared.launch.Launch.{Launch}
 
 abbrev bytes_at : List ℕ → Result (List ℕ) Errno
 bytes_at host =

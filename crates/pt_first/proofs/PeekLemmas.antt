@@ -7,7 +7,7 @@ use Rattle.kr_tree.specs.declared.place.Host.{Host}
 use Rattle.kr_tree.specs.Tree.{Tree}
 use Rattle.kr_view.specs.View.{plain}
 use Rattle.kr_view.specs.Walk.{PlaceTarget}
-use Rattle.walks_agree.specs.kr_model.Peeks.{at_found, kind_of_answer, kind_seen}
+use Rattle.kr_first.specs.kr_model.Peeks.{at_found, kind_of_answer, kind_seen}
 use Rattle.kr_first.specs.Starting.{around}
 use Rattle.kr_hostview.specs.Peeking.{IsFound}
 use Rattle.pt_first.specs.FirstPeeks.{kind_at}

@@ -41,19 +41,19 @@ use Rattle.kr_view.specs.Walk.{PlaceTarget, place_walk}
 use Rattle.kr_view.proofs.ArrivalLemmas.{texts_are_found}
 use Rattle.kr_view.proofs.HostReachLemmas.{reached_names, reached_there}
 use Rattle.kr_view.proofs.ProcessLemmas.{no_processes}
-use Rattle.kr_first.specs.kr_allowed.Texts.{IsText}
-use Rattle.walks_agree.specs.kr_model.Peeks.{at_found, body_text, kind_of_answer, kind_seen, read_at, read_of}
+use Rattle.kr_first.specs.law_allowed.Texts.{IsText}
+use Rattle.kr_first.specs.kr_model.Peeks.{at_found, body_text, kind_of_answer, kind_seen, read_at, read_of}
 use Rattle.kr_first.specs.Started.{LeadsToDirectory}
 use Rattle.kr_first.specs.Starting.{around, directory_at, directory_found, if_directory}
-use Rattle.walks_agree.specs.Peeks.{ArePeeks, text_of_answer, text_seen}
-use Rattle.walks_agree.specs.Scene.{IsMatched, Scene, host_around}
-use Rattle.walks_agree.specs.Settled.{IsSettled, host_text}
-use Rattle.walks_agree.specs.Standing.{StandsOn, likeness}
-use Rattle.walks_agree.specs.Start.{first_scene}
-use Rattle.walks_agree.proofs.AgreeLemmas.{walks_agree}
-use Rattle.walks_agree.proofs.StandingLemmas.{roots_stand, standing_places_are_called}
-use Rattle.walks_agree.proofs.StartLemmas.{first_scenes_are_matched}
-use Rattle.walks_agree.proofs.TableLemmas.{root_directory}
+use Rattle.kr_first.specs.law_walks.Peeks.{ArePeeks, text_of_answer, text_seen}
+use Rattle.kr_first.specs.law_walks.Scene.{IsMatched, Scene, host_around}
+use Rattle.kr_first.specs.law_walks.Settled.{IsSettled, host_text}
+use Rattle.kr_first.specs.law_walks.Standing.{StandsOn, likeness}
+use Rattle.kr_first.specs.law_walks.Start.{first_scene}
+use Rattle.kr_first.proofs.law_walks.AgreeLemmas.{walks_agree}
+use Rattle.kr_first.proofs.law_walks.StandingLemmas.{roots_stand, standing_places_are_called}
+use Rattle.kr_first.proofs.law_walks.StartLemmas.{first_scenes_are_matched}
+use Rattle.kr_first.proofs.law_walks.TableLemmas.{root_directory}
 use Rattle.pt_first.specs.FirstPeeks.{answer_along, first_peeked, link_text_at}
 use Rattle.pt_first.specs.Laws.{first_texts}
 

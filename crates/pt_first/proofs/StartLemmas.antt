@@ -4,7 +4,7 @@ use Rattle.std.specs.Prelude.{take, if◌then◌else◌}
 use Rattle.pr_base.specs.Paths.{dot, is_absolute, slash, text_of}
 use Rattle.pr_base.specs.declared.errno.Errno.{Errno}
 use Rattle.pr_base.specs.declared.errno.Errno.TheVariants.{E2BIG}
-use Rattle.pr_command.specs.Command.{arguments, word_of}
+use Rattle.pr_words.specs.Command.{arguments, word_of}
 use Rattle.pt_bind.specs.Tags.{TagTable}
 use Rattle.pt_canon.specs.TextWalk.{TextSurroundings}
 use Rattle.pt_canon.specs.declared.canon.Canon.{Canon}
@@ -19,14 +19,14 @@ use Rattle.kr_first.specs.kr_exec.Exec.{are_too_big}
 use Rattle.kr_first.specs.Started.{LeadsToDirectory}
 use Rattle.kr_first.specs.Starting.{is_walked, path_errno}
 use Rattle.kr_tree.specs.kr_inode.declared.user.User.{User}
-use Rattle.kr_first.specs.kr_allowed.Texts.{IsText}
+use Rattle.kr_first.specs.law_allowed.Texts.{IsText}
 use Rattle.kr_tree.specs.Tree.{Tree}
 use Rattle.kr_view.specs.View.{Row, plain}
-use Rattle.walks_agree.specs.Settled.{IsSettled}
+use Rattle.kr_first.specs.law_walks.Settled.{IsSettled}
 use Rattle.pt_first.specs.GuestStart.{begun, chosen, directory_at, handed, run_from, run_with, started_at, text_or_root, working_directory}
 use Rattle.pt_first.specs.Laws.{FirstsCanStart, first_texts}
 use Rattle.pt_first.specs.declared.begun.Begun.{Begun}
-use Rattle.pr_command.specs.declared.launch.Launch.{Launch}
+use Rattle.pr_words.specs.declared.launch.Launch.{Launch}
 use Rattle.pt_first.proofs.StandingLemmas.{Comes, IsStanding, IsWorking, comes, host_is_text, root_stands, root_works, space, texts, working_leads, works}
 
 module _ (table : List Row) (tree : Tree) (user : User) (tags : TagTable) (set : IsSettled (space table tree user tags)) where

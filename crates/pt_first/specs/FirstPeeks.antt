@@ -15,7 +15,7 @@ use Rattle.kr_view.specs.Component.{seen_at}
 use Rattle.kr_view.specs.HostReach.{host_place}
 use Rattle.kr_view.specs.View.{plain, root_place}
 use Rattle.kr_view.specs.Walk.{PlaceTarget, place_walk}
-use Rattle.walks_agree.specs.kr_model.Peeks.{body_text, head_at, kind_along, kind_seen, read_of}
+use Rattle.kr_first.specs.kr_model.Peeks.{body_text, head_at, kind_along, kind_seen, read_of}
 use Rattle.kr_first.specs.Starting.{around}
 
 -- a tree, in the name of a user

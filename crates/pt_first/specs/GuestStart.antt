@@ -5,7 +5,7 @@ use Rattle.pr_base.specs.MountText.{MountText}
 use Rattle.pr_base.specs.Paths.{slash, dot, is_absolute, text_of}
 use Rattle.pr_base.specs.declared.errno.Errno.{Errno}
 use Rattle.pr_base.specs.declared.errno.Errno.TheVariants.{E2BIG, ENAMETOOLONG, ENOENT}
-use Rattle.pr_command.specs.Command.{arguments, candidate, directories, has_slash, ids_of, path_of, word_of}
+use Rattle.pr_words.specs.Command.{arguments, candidate, directories, has_slash, ids_of, path_of, word_of}
 use Rattle.pt_bind.specs.Binding.{host_of, index_of, names_of}
 use Rattle.pt_bind.specs.Tags.{TagTable, with_tag}
 use Rattle.pt_bind.specs.declared.slot.Slot.TheVariants as slot
@@ -23,7 +23,7 @@ use Rattle.kr_first.specs.declared.starting.First.{First}
 use Rattle.kr_first.specs.declared.starting.StartFault.{StartFault}
 use Rattle.kr_first.specs.declared.starting.StartFault.TheVariants as fault
 use Rattle.pt_first.specs.declared.begun.Begun.{Begun}
-use Rattle.pr_command.specs.declared.launch.Launch.{Launch}
+use Rattle.pr_words.specs.declared.launch.Launch.{Launch}
 
 -- ---- what begins
 

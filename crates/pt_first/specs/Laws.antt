@@ -6,14 +6,14 @@ use Rattle.kr_tree.specs.kr_inode.declared.user.User.{User}
 use Rattle.kr_tree.specs.Tree.{Tree}
 use Rattle.kr_view.specs.Processes.{no_finds}
 use Rattle.kr_view.specs.View.{Row, plain}
-use Rattle.walks_agree.specs.kr_mounts.Standing.{texts_of}
-use Rattle.kr_first.specs.kr_allowed.Texts.{IsText}
+use Rattle.kr_first.specs.kr_mounts.Standing.{texts_of}
+use Rattle.kr_first.specs.law_allowed.Texts.{IsText}
 use Rattle.kr_first.specs.Started.{LeadsToDirectory}
-use Rattle.walks_agree.specs.Settled.{IsSettled}
+use Rattle.kr_first.specs.law_walks.Settled.{IsSettled}
 use Rattle.pt_first.specs.FirstPeeks.{first_peeked}
 use Rattle.pt_first.specs.GuestStart.{guest_start}
 use Rattle.pt_first.specs.declared.begun.Begun.{Begun}
-use Rattle.pr_command.specs.declared.launch.Launch.{Launch}
+use Rattle.pr_words.specs.declared.launch.Launch.{Launch}
 
 -- what a tracer's walks go by before a process lives, over the texts of a table of mounts
 abbrev pub first_texts : List Row → Tree → User → TagTable → TextSurroundings

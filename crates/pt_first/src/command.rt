@@ -5,7 +5,7 @@ ghost use Rattle.pt_canon.specs.Canon.{texts_by};
 ghost use Rattle.pt_first.specs.GuestStart.{chosen, is_there, searched};
 
 use pr_base::{Bytes, NoMemory, Peeks, Texts, is_walked};
-use pr_command::{candidate, directories, has_slash, path_of};
+use pr_words::{candidate, directories, has_slash, path_of};
 use pt_bind::Tags;
 use pt_canon::{WalkErr, Walker};
 use pt_script::program_from;

@@ -1,4 +1,17 @@
 //! The first process of a run in guest terms, before a process lives: what its tracer finds, told to the plain kernel in host terms.
+//!
+//! What is proved, with the clause or the law that carries it:
+//!
+//! The first process in guest terms, before a process lives. pr_start takes it up.
+//!
+//! `first` begins exactly as the definition says, or answers its errno and sets no tag; where memory is wanting the tags are as before (`begins`;
+//! `guest_start`): the first working directory, the command, the program behind its scripts, each found by walks over guest texts; its tags are
+//! those of the working directory and of the program. `FirstPeeks` tells what a kernel without processes would (`first_peeked`).
+//!
+//! The plain kernel can begin with what it finds: the program's path is a text, and the working directory's path leads to a directory
+//! (`firsts_can_start`).
+//!
+//! Only tested, or not shown: Starts worked out by hand, and whole runs.
 #![tactic(auto)]
 
 pub mod begun;

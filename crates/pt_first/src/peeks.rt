@@ -5,7 +5,7 @@ ghost use Rattle.pr_base.specs.Peeks.{IsPeeked};
 ghost use Rattle.kr_tree.specs.declared.place.Host.TheVariants.{Node};
 ghost use Rattle.kr_view.specs.Answers.{IsAnswer};
 ghost use Rattle.kr_view.specs.declared.view.HostMount.{HostMount};
-ghost use Rattle.walks_agree.specs.kr_model.Peeks.{head_at};
+ghost use Rattle.kr_first.specs.kr_model.Peeks.{head_at};
 ghost use Rattle.kr_hostview.specs.OnHost.{number};
 ghost use Rattle.kr_hostview.specs.Peeking.{IsFound};
 ghost use Rattle.pt_first.specs.FirstPeeks.{answer_along, first_peeked, kind_at, link_text_at};

@@ -14,7 +14,7 @@ use kr_first::{First, StartFault};
 use kr_tree::{Tree, User};
 use kr_view::Reach;
 use pr_base::{Errno, NoMemory, Peeks, Texts};
-use pr_command::{Launch, arguments, word_of};
+use pr_words::{Launch, arguments, word_of};
 use pt_bind::{Table, Tags};
 use pt_canon::{WalkErr, Walker};
 use pt_script::Expanded;

@@ -1,4 +1,4 @@
-pub use Rattle.pr_base.proofs as pr_base
+pub use Rattle.pt_args.proofs.rv_mem as rv_mem
 mod AnswerRows
 mod LeadLemmas
 pub mod NoteLemmas

@@ -1,4 +1,3 @@
-pub use Rattle.pr_base.specs as pr_base
 pub use Rattle.pt_args.specs.rv_mem as rv_mem
 pub use Rattle.pt_args.specs.kr_calls as kr_calls
 pub use Rattle.pt_bind.specs as pt_bind

@@ -5,11 +5,11 @@ use Rattle.std.specs.Ordering.{nat_cmp}
 use Rattle.rv_mem.specs.Actions.{carried_out}
 use Rattle.pt_bind.specs.Tags.{TagTable}
 use Rattle.pt_results.specs.kr_calls.declared.request.Request.{Request}
-use Rattle.pt_lists.specs.pt_tracer.Stopping.{memory_at, Stopped, with_memory}
-use Rattle.pt_lists.specs.pt_ident.Identity.{Answered, Effect, Identity, effect, on_memory}
-use Rattle.pt_lists.specs.pt_ident.IdentityTable.{IdentityTable, identity_at, with_identity}
-use Rattle.pt_lists.specs.pt_tracer.Carrying.{AnswersAny}
-use Rattle.pt_lists.specs.pt_tracer.Faking.{no_longer_called}
+use Rattle.pt_faker.specs.Stopping.{memory_at, Stopped, with_memory}
+use Rattle.pt_faker.specs.pt_ident.Identity.{Answered, Effect, Identity, effect, on_memory}
+use Rattle.pt_faker.specs.pt_ident.IdentityTable.{IdentityTable, identity_at, with_identity}
+use Rattle.pt_faker.specs.Carrying.{AnswersAny}
+use Rattle.pt_faker.specs.Faking.{no_longer_called}
 use Rattle.pt_watched.specs.Answering.{AnswersFaked}
 use Rattle.pt_watched.specs.Planning.{nowhere, planned}
 use Rattle.pt_watched.specs.Registers.{arguments_at}

@@ -1,8 +1,9 @@
 pub use Rattle.pr_base.proofs as pr_base
 pub use Rattle.rv_mem.proofs as rv_mem
-pub use Rattle.pt_lists.proofs.kr_lawful as kr_lawful
-pub use Rattle.pt_lists.proofs.kr_resolved as kr_resolved
-pub use Rattle.pt_lists.proofs.kr_turns as kr_turns
+pub use Rattle.pt_faker.proofs.law_lawful as law_lawful
+pub use Rattle.pt_faker.proofs.kr_perform as kr_perform
+pub use Rattle.pt_faker.proofs.kr_exec as kr_exec
+pub use Rattle.pt_faker.proofs.kr_turns as kr_turns
 pub use Rattle.pt_bind.proofs as pt_bind
 mod EntryLemmas
 mod PlanLemmas

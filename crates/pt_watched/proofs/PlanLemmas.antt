@@ -7,14 +7,14 @@ use Rattle.rv_mem.specs.Actions.{Action, carried_out}
 use Rattle.rv_mem.specs.declared.regs.Regs.{Regs}
 use Rattle.pt_bind.specs.Tags.{TagTable}
 use Rattle.pt_results.specs.kr_calls.declared.request.Request.{Request}
-use Rattle.pt_lists.specs.pt_tracer.Stopping.{IsThere, memory_at, Stopped, with_memory}
+use Rattle.pt_faker.specs.Stopping.{IsThere, memory_at, Stopped, with_memory}
 use Rattle.pt_results.specs.pt_args.declared.edit.Edit.{Edit}
-use Rattle.pt_lists.specs.Reading.{lists_at}
-use Rattle.pt_lists.specs.declared.lists.Handed.{Handed}
+use Rattle.pt_faker.specs.Reading.{lists_at}
+use Rattle.pt_faker.specs.declared.lists.Handed.{Handed}
 use Rattle.pt_script.specs.declared.expansion.Expanded.{Expanded}
-use Rattle.pt_lists.specs.pt_tracer.Carrying.{CarriesOut}
-use Rattle.pt_lists.proofs.pt_tracer.AuxiliaryLemmas.{other-test}
-use Rattle.pt_lists.proofs.pt_tracer.StopLemmas.{registers-stay}
+use Rattle.pt_faker.specs.Carrying.{CarriesOut}
+use Rattle.pt_faker.proofs.AuxiliaryLemmas.{other-test}
+use Rattle.pt_faker.proofs.StopLemmas.{registers-stay}
 use Rattle.pt_watched.specs.Planning.{after_expansion, after_lists, after_path, execve_plan, expand_with, is_swap, led_in, led_of, nowhere, rewritten, script_plan, stack_at, texts_at}
 use Rattle.pt_watched.specs.declared.plan.Plan.{Plan}
 use Rattle.pt_watched.specs.declared.planning.ListAddresses.{ListAddresses}

@@ -4,11 +4,11 @@ use Rattle.pr_base.specs.declared.errno.Errno.TheVariants.{EFAULT}
 use Rattle.rv_mem.specs.Memory.{Memory, with_pages}
 use Rattle.rv_mem.specs.Pages.{allows_all, written}
 use Rattle.rv_mem.specs.declared.rights.Use.TheVariants.{Write}
-use Rattle.pt_lists.specs.pt_tracer.Stopping.{after_poke, IsThere, memory_at, Stopped}
+use Rattle.pt_faker.specs.Stopping.{after_poke, IsThere, memory_at, Stopped}
 use Rattle.pt_results.specs.pt_args.declared.edit.Edit.{Edit}
 use Rattle.pt_results.specs.pt_args.declared.edit.Edit.TheVariants.{Emulate}
-use Rattle.pt_lists.specs.pt_tracer.Faking.{no_longer_called}
-use Rattle.pt_lists.proofs.pt_tracer.StopLemmas.{allows_all-written, memory-given}
+use Rattle.pt_faker.specs.Faking.{no_longer_called}
+use Rattle.pt_faker.proofs.StopLemmas.{allows_all-written, memory-given}
 use Rattle.pt_watched.specs.Poking.{may_poke, poked}
 use Rattle.pt_watched.specs.Watched.{Applied, applied, refused}
 

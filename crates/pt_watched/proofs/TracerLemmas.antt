@@ -5,15 +5,15 @@ use Rattle.std.specs.Option.{option_map}
 use Rattle.pr_base.proofs.MapLemmas.{get-insert_other, get-remove_other, get-remove_same, remove-none}
 use Rattle.pr_base.specs.declared.errno.Errno.{Errno}
 use Rattle.pt_results.specs.kr_calls.declared.request.Request.{Request}
-use Rattle.pt_lists.specs.pt_tracer.Stopping.{after_request, decoded_at, Stopped}
+use Rattle.pt_faker.specs.Stopping.{after_request, decoded_at, Stopped}
 use Rattle.pt_bind.proofs.TagLemmas.{tags_change}
 use Rattle.pt_bind.specs.Tags.{with_tag}
 use Rattle.pt_bind.specs.declared.slot.Slot.TheVariants.{Exe}
-use Rattle.pt_lists.specs.pt_ident.Identity.{Effect, Identity, effect}
-use Rattle.pt_lists.specs.pt_ident.IdentityTable.{IdentityTable, after_birth, after_end, identity_at, with_identity}
+use Rattle.pt_faker.specs.pt_ident.Identity.{Effect, Identity, effect}
+use Rattle.pt_faker.specs.pt_ident.IdentityTable.{IdentityTable, after_birth, after_end, identity_at, with_identity}
 use Rattle.pt_results.proofs.NoteLemmas.{notes_change_one_slot}
 use Rattle.pt_results.specs.Notes.{noted}
-use Rattle.pt_lists.proofs.pt_tracer.FakingLemmas.{identity_elsewhere, identity_or, insert-remove, own_identity}
+use Rattle.pt_faker.proofs.FakingLemmas.{identity_elsewhere, identity_or, insert-remove, own_identity}
 use Rattle.pt_watched.specs.TracerLaws.{ComeAndGo, EntriesForget, ExitsFollowEntries, LeavesOthers, OthersStay, identity_in, starting_in}
 use Rattle.pt_watched.specs.Watched.{Applied, Tracing, after_decoding, after_effect, after_pending, answer_at, begin_as, begin_program, by_identities, give_back, has_begun, keeping, returned, with_identities, with_pending, with_tags, without_pending}
 use Rattle.pt_watched.specs.declared.pending.Pending.{Pending}

@@ -1,12 +1,12 @@
 -- Identities that were taken out and kept again, and what else the code does beside the definition.
 use Rattle.std.proofs.Common.{◌≡◌, ◌∙◌, ℕ, ℤ, Option, sym, ap, subst}
 use Rattle.pt_results.specs.kr_calls.declared.request.Request.{Request}
-use Rattle.pt_lists.specs.pt_tracer.Stopping.{register_at, Stopped}
-use Rattle.pt_lists.specs.pt_ident.Identity.{Identity, after_exec, effect}
-use Rattle.pt_lists.specs.pt_ident.IdentityTable.{IdentityTable, after_end, identity_at, with_identity}
-use Rattle.pt_lists.specs.pt_tracer.Carrying.{AnswersAny, on_its_memory}
-use Rattle.pt_lists.specs.pt_tracer.Faking.{show_identity, stack_register}
-use Rattle.pt_lists.proofs.pt_tracer.FakerLemmas.{kept-again}
+use Rattle.pt_faker.specs.Stopping.{register_at, Stopped}
+use Rattle.pt_faker.specs.pt_ident.Identity.{Identity, after_exec, effect}
+use Rattle.pt_faker.specs.pt_ident.IdentityTable.{IdentityTable, after_end, identity_at, with_identity}
+use Rattle.pt_faker.specs.Carrying.{AnswersAny, on_its_memory}
+use Rattle.pt_faker.specs.Faking.{show_identity, stack_register}
+use Rattle.pt_faker.proofs.FakerLemmas.{kept-again}
 use Rattle.pt_watched.specs.Answering.{AnswersBy, BeginsBy}
 
 module _ (table taken after : IdentityTable) (pid : ℕ) (t u : Stopped) (same : pid ≡ t.pid) (takes : taken ≡ after_end pid table) (i : Identity) (own : i ≡ identity_at table pid) where

@@ -2,11 +2,11 @@
 use Rattle.std.specs.Prelude.{◌≡◌, ℕ, ℤ, Option, Some, None}
 use Rattle.std.specs.Option.{option_map}
 use Rattle.pt_results.specs.kr_calls.declared.request.Request.{Request}
-use Rattle.pt_lists.specs.pt_tracer.Stopping.{register_at, Stopped}
-use Rattle.pt_lists.specs.pt_ident.Identity.{Identity, after_exec, effect}
-use Rattle.pt_lists.specs.pt_ident.IdentityTable.{IdentityTable, identity_at, starting_table, with_identity}
-use Rattle.pt_lists.specs.pt_tracer.Carrying.{AnswersAny, on_its_memory}
-use Rattle.pt_lists.specs.pt_tracer.Faking.{show_identity, stack_register}
+use Rattle.pt_faker.specs.Stopping.{register_at, Stopped}
+use Rattle.pt_faker.specs.pt_ident.Identity.{Identity, after_exec, effect}
+use Rattle.pt_faker.specs.pt_ident.IdentityTable.{IdentityTable, identity_at, starting_table, with_identity}
+use Rattle.pt_faker.specs.Carrying.{AnswersAny, on_its_memory}
+use Rattle.pt_faker.specs.Faking.{show_identity, stack_register}
 
 abbrev pub starting_identities : Option (ℕ × ℕ) → Option IdentityTable
 starting_identities ids = option_map (λ i. starting_table i.0 i.1) ids

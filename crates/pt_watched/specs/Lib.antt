@@ -1,23 +1,20 @@
 pub use Rattle.pr_base.specs as pr_base
 pub use Rattle.rv_mem.specs as rv_mem
-pub use Rattle.pt_lists.specs.kr_inode as kr_inode
-pub use Rattle.pt_lists.specs.kr_view as kr_view
-pub use Rattle.pt_results.specs.kr_calls as kr_calls
-pub use Rattle.pt_lists.specs.kr_model as kr_model
-pub use Rattle.pt_lists.specs.kr_allowed as kr_allowed
-pub use Rattle.pt_lists.specs.kr_seen as kr_seen
-pub use Rattle.pt_lists.specs.kr_execve as kr_execve
-pub use Rattle.pt_lists.specs.kr_calm as kr_calm
-pub use Rattle.pt_lists.specs.kr_steps as kr_steps
-pub use Rattle.pt_lists.specs.kr_turns as kr_turns
+pub use Rattle.pt_faker.specs.elf_read as elf_read
+pub use Rattle.pt_faker.specs.elf_load as elf_load
+pub use Rattle.pt_faker.specs.kr_inode as kr_inode
+pub use Rattle.pt_faker.specs.law_allowed as law_allowed
+pub use Rattle.pt_faker.specs.kr_seen as kr_seen
+pub use Rattle.pt_faker.specs.kr_exec as kr_exec
+pub use Rattle.pt_faker.specs.kr_execve as kr_execve
+pub use Rattle.pt_faker.specs.kr_calm as kr_calm
+pub use Rattle.pt_faker.specs.kr_steps as kr_steps
+pub use Rattle.pt_faker.specs.kr_turns as kr_turns
 pub use Rattle.pt_bind.specs as pt_bind
-pub use Rattle.pt_results.specs.pt_canon as pt_canon
-pub use Rattle.pt_results.specs.pt_args as pt_args
 pub use Rattle.pt_results.specs as pt_results
 pub use Rattle.pt_script.specs as pt_script
-pub use Rattle.pt_lists.specs.pt_ident as pt_ident
-pub use Rattle.pt_lists.specs.pt_tracer as pt_tracer
-pub use Rattle.pt_lists.specs as pt_lists
+pub use Rattle.pt_faker.specs.pt_ident as pt_ident
+pub use Rattle.pt_faker.specs as pt_faker
 pub mod Answering
 pub mod Planning
 pub mod Poking

@@ -12,8 +12,8 @@ use Rattle.pt_results.specs.pt_canon.TextWalk.{TextSurroundings}
 use Rattle.pt_results.specs.kr_calls.PathTable.{PathUse, path_at}
 use Rattle.pt_results.specs.kr_calls.declared.request.Request.{Request}
 use Rattle.pt_results.specs.kr_calls.declared.request.Request.TheVariants as call
-use Rattle.pt_lists.specs.kr_model.Peeks.{peeked_of}
-use Rattle.pt_lists.specs.pt_tracer.Stopping.{memory_at, register_at, Stopped, with_memory}
+use Rattle.pt_faker.specs.kr_model.Peeks.{peeked_of}
+use Rattle.pt_faker.specs.Stopping.{memory_at, register_at, Stopped, with_memory}
 use Rattle.pt_results.specs.pt_args.Edits.{edit_of}
 use Rattle.pt_results.specs.pt_args.Purposes.{opens}
 use Rattle.pt_results.specs.pt_args.Walks.{walked}
@@ -23,8 +23,8 @@ use Rattle.pt_results.specs.pt_args.declared.reached.Reached.{Reached}
 use Rattle.pt_results.specs.Answers.{cwd_answer, link_answer}
 use Rattle.pt_script.specs.Expanding.{expanded_at}
 use Rattle.pt_script.specs.declared.expansion.Expanded.{Expanded}
-use Rattle.pt_lists.specs.Reading.{addresses_behind, lists_at}
-use Rattle.pt_lists.specs.declared.lists.Handed.{Handed}
+use Rattle.pt_faker.specs.Reading.{addresses_behind, lists_at}
+use Rattle.pt_faker.specs.declared.lists.Handed.{Handed}
 use Rattle.pt_watched.specs.ScriptEdit.{put_texts, script_edit}
 use Rattle.pt_watched.specs.declared.plan.Led.{Led}
 use Rattle.pt_watched.specs.declared.plan.Plan.{Plan}

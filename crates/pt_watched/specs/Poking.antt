@@ -2,7 +2,7 @@
 use Rattle.std.specs.Prelude.{ℕ, ◌&&◌, Bool, true, List, [], ◌∷◌, length}
 use Rattle.rv_mem.specs.Pages.{allows_all}
 use Rattle.rv_mem.specs.declared.rights.Use.TheVariants.{Write}
-use Rattle.pt_lists.specs.pt_tracer.Stopping.{after_poke, memory_at, Stopped}
+use Rattle.pt_faker.specs.Stopping.{after_poke, memory_at, Stopped}
 
 abbrev pub may_poke : List (ℕ × List ℕ) → Stopped → Bool
 may_poke [] t = true

@@ -1,6 +1,6 @@
 -- The registers of a call at its stops.
 use Rattle.std.specs.Prelude.{ℕ, nat_lt, ◌&&◌, Bool, List, [], ◌∷◌, if◌then◌else◌}
-use Rattle.pt_lists.specs.pt_tracer.Stopping.{register_at, Stopped, with_register}
+use Rattle.pt_faker.specs.Stopping.{register_at, Stopped, with_register}
 use Rattle.pt_watched.specs.declared.registers.Arguments.{Arguments}
 
 -- what stands in a1 to a5 and in a7

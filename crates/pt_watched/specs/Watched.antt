@@ -10,21 +10,21 @@ use Rattle.pr_base.specs.MountText.{MountText}
 use Rattle.pr_base.specs.declared.errno.Errno.{Errno}
 use Rattle.pr_base.specs.declared.errno.Errno.TheVariants.{EFAULT}
 use Rattle.rv_mem.specs.Actions.{carried_out}
-use Rattle.pt_lists.specs.kr_inode.declared.user.User.{User}
+use Rattle.pt_faker.specs.kr_inode.declared.user.User.{User}
 use Rattle.pt_results.specs.kr_calls.declared.request.Request.{Request}
 use Rattle.pt_results.specs.kr_calls.declared.request.Request.TheVariants as call
-use Rattle.pt_lists.specs.pt_tracer.Stopping.{after_request, decoded_at, memory_at, register_at, Stopped, Watcher, with_memory, with_register}
+use Rattle.pt_faker.specs.Stopping.{after_request, decoded_at, memory_at, register_at, Stopped, Watcher, with_memory, with_register}
 use Rattle.pt_bind.specs.Tags.{TagTable, dropped, forked, with_tag}
 use Rattle.pt_bind.specs.declared.slot.Slot.TheVariants.{Exe}
-use Rattle.pt_lists.specs.pt_ident.Identity.{Effect, Identity, after_exec, effect, on_memory, refusal}
-use Rattle.pt_lists.specs.pt_ident.IdentityTable.{IdentityTable, after_birth, after_end, identity_at, with_identity}
+use Rattle.pt_faker.specs.pt_ident.Identity.{Effect, Identity, after_exec, effect, on_memory, refusal}
+use Rattle.pt_faker.specs.pt_ident.IdentityTable.{IdentityTable, after_birth, after_end, identity_at, with_identity}
 use Rattle.pt_results.specs.pt_args.declared.edit.Edit.{Edit}
 use Rattle.pt_results.specs.pt_args.declared.edit.Edit.TheVariants.{Cancel, Emulate, Pass, Swap}
 use Rattle.pt_results.specs.Notes.{noted, tags_after}
-use Rattle.pt_lists.specs.pt_tracer.Carrying.{on_its_memory}
-use Rattle.pt_lists.specs.pt_tracer.Faking.{due_of, forgiven, has_answered_zero, if_done, no_longer_called, show_identity, show_owner, stack_register, word_of}
-use Rattle.pt_lists.specs.pt_tracer.declared.due.Due.{Due}
-use Rattle.pt_lists.specs.pt_tracer.declared.due.Due.TheVariants as due
+use Rattle.pt_faker.specs.Carrying.{on_its_memory}
+use Rattle.pt_faker.specs.Faking.{due_of, forgiven, has_answered_zero, if_done, no_longer_called, show_identity, show_owner, stack_register, word_of}
+use Rattle.pt_faker.specs.declared.due.Due.{Due}
+use Rattle.pt_faker.specs.declared.due.Due.TheVariants as due
 use Rattle.pt_watched.specs.Answering.{starting_identities}
 use Rattle.pt_watched.specs.Planning.{nowhere, planned}
 use Rattle.pt_watched.specs.Poking.{may_poke, poked}

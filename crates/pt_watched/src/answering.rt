@@ -1,10 +1,11 @@
 //! Calls on users and groups, where processes believe in identities of their own.
 ghost use Rattle.std.specs.Prelude.{◌≡◌, IfOk};
-ghost use Rattle.pt_lists.specs.pt_tracer.Stopping.{IsEdited};
+ghost use Rattle.pt_faker.specs.Stopping.{IsEdited};
 ghost use Rattle.pt_watched.specs.Answering.{AnswersBy, AnswersFaked};
 
 use pr_base::NoMemory;
-use pt_lists::below::{Identities, Tracee, answer_call};
+use pt_faker::below::Identities;
+use pt_faker::{Tracee, answer_call};
 use pt_results::below::Request;
 use std::alloc::Global;
 

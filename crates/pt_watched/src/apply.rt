@@ -1,12 +1,14 @@
 //! What a plan does to the process.
 ghost use Rattle.std.specs.Prelude.{◌≡◌, IfOk, Some};
-ghost use Rattle.pt_lists.specs.pt_tracer.Stopping.{IsEdited};
+ghost use Rattle.pt_faker.specs.Stopping.{IsEdited};
 ghost use Rattle.pt_watched.specs.Watched.{applied, refused};
 
 use crate::pokes::{may_poke, poke_all};
 use crate::registers::set_all;
 use pr_base::{Errno, NoMemory};
-use pt_lists::below::{Tracee, refused as number_of, take_number};
+use pt_faker::Tracee;
+use pt_faker::memory::refused as number_of;
+use pt_faker::registers::take_number;
 use pt_results::below::Edit;
 
 /// Shows the kernel what is planned of a call. The answer is given where it finds no call: an error, EFAULT where bytes can't be written,

@@ -1,10 +1,10 @@
 //! Laws of the definitions, each carried by a function that does nothing.
-ghost use Rattle.pt_lists.specs.pt_tracer.Stopping.{IsGraph, watching};
+ghost use Rattle.pt_faker.specs.Stopping.{IsGraph, watching};
 ghost use Rattle.pt_watched.specs.TracerLaws.{ComeAndGo, EntriesForget, ExitsFollowEntries, OthersStay};
 ghost use Rattle.pt_watched.specs.Watched.{tracer};
 
 use crate::tracer::Tracer;
-use pt_lists::below::Stops;
+use pt_faker::Stops;
 
 /// A second stop without a first one changes nothing, and there is one second stop to each first one at most.
 pub fn exits_follow_entries()

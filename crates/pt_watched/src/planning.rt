@@ -4,15 +4,15 @@ ghost use Rattle.pt_bind.specs.Binding.{rows_of};
 ghost use Rattle.pt_results.specs.pt_canon.Canon.{IsAnswer};
 ghost use Rattle.pt_script.specs.Expanding.{expanded_at};
 ghost use Rattle.pt_results.specs.kr_calls.PathTable.{path_at};
-ghost use Rattle.pt_lists.specs.pt_tracer.Stopping.{IsEdited};
+ghost use Rattle.pt_faker.specs.Stopping.{IsEdited};
 ghost use Rattle.pt_watched.specs.Planning.{answered, cancelled, edit_for, execve_plan, expand_with, has_shelf, is_swap, led_along, led_in, led_of, led_to, list_addresses, plan_for, planned, rewritten, script_plan, stack_at, texts_at};
 
 use crate::plan::{Led, NOWHERE, Plan};
 use crate::script::script_edit;
 use pr_base::{Errno, NoMemory};
 use pt_bind::Tags;
-use pt_lists::below::{STACK, Tracee};
-use pt_lists::{Handed, addresses_behind, read_lists};
+use pt_faker::registers::STACK;
+use pt_faker::{Handed, Tracee, addresses_behind, read_lists};
 use pt_results::below::{
     CallFault, Edit, Reached, Request, WalkErr, Walker, path_of, rewrite, walk_path,
 };

@@ -1,11 +1,12 @@
 //! Bytes that are written into the memory of a stopped process.
 ghost use Rattle.std.specs.Prelude.{◌≡◌, IsTrue, OnOk, length};
 ghost use Rattle.rv_mem.specs.Pages.{allows_all};
-ghost use Rattle.pt_lists.specs.pt_tracer.Stopping.{after_poke, IsEdited, memory_at};
+ghost use Rattle.pt_faker.specs.Stopping.{after_poke, IsEdited, memory_at};
 ghost use Rattle.pt_watched.specs.Poking.{may_poke, poked};
 
 use pr_base::{Bytes, NoMemory};
-use pt_lists::below::{Tracee, write};
+use pt_faker::Tracee;
+use pt_faker::memory::write;
 use rv_mem::Use;
 
 /// Whether all of the bytes may be written.

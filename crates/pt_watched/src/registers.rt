@@ -1,9 +1,9 @@
 //! The registers of a call on RISC-V at its stops.
 ghost use Rattle.std.specs.Prelude.{◌≡◌, ◌<◌};
-ghost use Rattle.pt_lists.specs.pt_tracer.Stopping.{IsEdited, with_register};
+ghost use Rattle.pt_faker.specs.Stopping.{IsEdited, with_register};
 ghost use Rattle.pt_watched.specs.Registers.{arguments_at, given_back, is_register, with_argument, with_arguments};
 
-use pt_lists::below::Tracee;
+use pt_faker::Tracee;
 
 /// a0, which has the first argument, and then the answer.
 pub(crate) const A0: u8 = 10;

@@ -1,6 +1,6 @@
 //! The second stop of a call.
 ghost use Rattle.std.specs.Prelude.{◌≡◌, OnOk, Some};
-ghost use Rattle.pt_lists.specs.pt_tracer.Stopping.{IsEdited};
+ghost use Rattle.pt_faker.specs.Stopping.{IsEdited};
 ghost use Rattle.pt_bind.specs.Tags.{with_tag};
 ghost use Rattle.pt_bind.specs.declared.slot.Slot.TheVariants.{Exe};
 ghost use Rattle.pt_results.specs.Notes.{noted, tags_after};
@@ -11,10 +11,10 @@ use crate::pending::Pending;
 use crate::registers::{A0, set};
 use pr_base::NoMemory;
 use pt_bind::Tags;
-use pt_lists::below::{
-    Due, Identities, STACK, Tracee, User, due_of, forgive, has_answered_zero, show_identity,
-    show_owner,
-};
+use pt_faker::below::{Identities, User};
+use pt_faker::memory::show_owner;
+use pt_faker::registers::{STACK, forgive, has_answered_zero};
+use pt_faker::{Due, Tracee, due_of, show_identity};
 use pt_results::below::Request;
 use pt_results::note_result;
 

@@ -1,6 +1,6 @@
 //! The tracer.
 ghost use Rattle.std.specs.Prelude.{◌≡◌, OnOk, Some};
-ghost use Rattle.pt_lists.specs.pt_tracer.Stopping.{IsEdited};
+ghost use Rattle.pt_faker.specs.Stopping.{IsEdited};
 ghost use Rattle.pt_watched.specs.Answering.{starting_identities};
 
 use crate::answering::answer_faked;
@@ -12,7 +12,9 @@ use crate::registers::Arguments;
 use crate::settling::{begin, give_back, has_begun};
 use pr_base::NoMemory;
 use pt_bind::Tags;
-use pt_lists::below::{Identities, Stops, Tracee, User, take_number};
+use pt_faker::below::{Identities, User};
+use pt_faker::registers::take_number;
+use pt_faker::{Stops, Tracee};
 use pt_results::below::{CallFault, Request, Walker};
 use std::alloc::Global;
 use std::marker::Model;
@@ -35,7 +37,7 @@ impl Model for Tracer {
     ghost use Rattle.std.specs.Ordering.{nat_cmp};
     ghost use Rattle.pt_bind.specs.Binding.{rows_of};
     ghost use Rattle.pt_bind.specs.Tags.{tag_table_code};
-    ghost use Rattle.pt_lists.specs.pt_ident.IdentityTable.{table_code};
+    ghost use Rattle.pt_faker.specs.pt_ident.IdentityTable.{table_code};
     ghost use Rattle.pt_watched.specs.Watched.{Tracing};
     ghost use Rattle.pt_watched.specs.declared.pending.Pending.{Pending};
 

@@ -4,8 +4,7 @@ use crate::faults::{Fault, Why};
 use crate::lines::Line;
 use crate::parts::{Block, Kind};
 use crate::text::{bytes, from_hex, text};
-use fixtures::HELLO;
-use guests::{GuestFault, coded};
+use guests::{GuestFault, HELLO, coded};
 use pr_base::{Bytes, NoMemory};
 use std::alloc::Global;
 

@@ -6,7 +6,7 @@ use crate::files::{entry, guest, listing, listing_named, program};
 use crate::keys::Key;
 use crate::lines::Line;
 use crate::text::{bytes, from_hex, number, text, words};
-use fixtures::HELLO;
+use guests::HELLO;
 use pr_base::Bytes;
 use std::alloc::Global;
 

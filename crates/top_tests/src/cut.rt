@@ -2,7 +2,7 @@
 
 use crate::call::{Asked, Moving, call};
 use crate::home::{HOME, WORDS};
-use fixtures::HELLO;
+use guests::HELLO;
 use kr_text::TreeWhy;
 use pr_call::Answer;
 use std::test::Fail;

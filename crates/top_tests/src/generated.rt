@@ -1,7 +1,7 @@
 //! Generated cases, which both machines run, and how their outcomes are compared.
 
 use crate::call::{Asked, Moving, Told, call};
-use fixtures::HELLO;
+use guests::HELLO;
 use kr_text::read;
 use kr_tree::{Tree, User};
 use pr_base::Bytes;

@@ -1,14 +1,14 @@
 use Rattle.std.proofs.Common.{refl, ap, [], ◌∷◌}
 use Rattle.std.specs.Option.{option_map}
-use Rattle.kr_targets.specs.pr_base.declared.errno.Errno.TheVariants.{ENOENT}
-use Rattle.kr_targets.specs.kr_model.Change.{ChangeDirectory, OfFound}
-use Rattle.kr_targets.specs.kr_model.DirectoryRows.{chdir_row, if_entered}
-use Rattle.kr_targets.specs.kr_model.Known.{known}
-use Rattle.kr_targets.specs.kr_model.Reply.{done}
-use Rattle.kr_targets.specs.kr_model.State.{image_layout}
-use Rattle.kr_targets.specs.kr_ops.Meaning.{meaning}
-use Rattle.kr_targets.specs.Placed.{target_mounts}
-use Rattle.kr_targets.proofs.kr_seen.CarryLemmas.{by-refusal}
+use Rattle.kr_seen.specs.pr_base.declared.errno.Errno.TheVariants.{ENOENT}
+use Rattle.kr_seen.specs.kr_model.Change.{ChangeDirectory, OfFound}
+use Rattle.kr_seen.specs.kr_model.DirectoryRows.{chdir_row, if_entered}
+use Rattle.kr_seen.specs.kr_model.Known.{known}
+use Rattle.kr_seen.specs.kr_model.Reply.{done}
+use Rattle.kr_seen.specs.kr_model.State.{image_layout}
+use Rattle.kr_seen.specs.kr_ops.Meaning.{meaning}
+use Rattle.kr_seen.specs.Placed.{target_mounts}
+use Rattle.kr_seen.proofs.CarryLemmas.{by-refusal}
 use Rattle.kr_attributes.proofs.FoundLemmas.{not-found, was-found}
 use Rattle.kr_attributes.proofs.RowLemmas.{by-row}
 use Rattle.kr_attributes.proofs.directories.chdir.Goals as goal

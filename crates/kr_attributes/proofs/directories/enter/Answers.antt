@@ -1,7 +1,7 @@
 use Rattle.std.proofs.Common.{refl, [], ◌∷◌}
-use Rattle.kr_targets.specs.kr_model.Change.{ChangeDirectory}
-use Rattle.kr_targets.specs.kr_model.Reply.{answers, done}
-use Rattle.kr_targets.proofs.kr_seen.CarryLemmas.{by-refusal, by-reply}
+use Rattle.kr_seen.specs.kr_model.Change.{ChangeDirectory}
+use Rattle.kr_seen.specs.kr_model.Reply.{answers, done}
+use Rattle.kr_seen.proofs.CarryLemmas.{by-refusal, by-reply}
 use Rattle.kr_attributes.proofs.directories.enter.Goals as goal
 
 pub returns-in-Ok-clause-performs : goal.returns-in-Ok-clause-performs

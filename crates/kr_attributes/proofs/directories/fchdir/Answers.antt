@@ -1,14 +1,14 @@
 use Rattle.std.proofs.Common.{ℕ, [], ◌∷◌, refl, sym, ap, ◌∙◌, w32, lit<}
 use Rattle.std.proofs.Math.Facts.{to_z-of_z}
-use Rattle.kr_targets.specs.pr_base.declared.errno.Errno.TheVariants.{EBADF, ENOTDIR}
-use Rattle.kr_targets.specs.kr_tree.declared.place.Host.{Host}
-use Rattle.kr_targets.specs.kr_model.Asking.{descriptor_number}
-use Rattle.kr_targets.specs.kr_model.Change.{ChangeDirectory, OfDescriptor}
-use Rattle.kr_targets.specs.kr_model.DirectoryRows.{if_entered}
-use Rattle.kr_targets.specs.kr_model.Known.{known}
-use Rattle.kr_targets.specs.kr_model.Reply.{Replying, done, refuse}
-use Rattle.kr_targets.specs.kr_model.State.{image_layout}
-use Rattle.kr_targets.specs.kr_ops.Meaning.{meaning}
+use Rattle.kr_seen.specs.pr_base.declared.errno.Errno.TheVariants.{EBADF, ENOTDIR}
+use Rattle.kr_seen.specs.kr_tree.declared.place.Host.{Host}
+use Rattle.kr_seen.specs.kr_model.Asking.{descriptor_number}
+use Rattle.kr_seen.specs.kr_model.Change.{ChangeDirectory, OfDescriptor}
+use Rattle.kr_seen.specs.kr_model.DirectoryRows.{if_entered}
+use Rattle.kr_seen.specs.kr_model.Known.{known}
+use Rattle.kr_seen.specs.kr_model.Reply.{Replying, done, refuse}
+use Rattle.kr_seen.specs.kr_model.State.{image_layout}
+use Rattle.kr_seen.specs.kr_ops.Meaning.{meaning}
 use Rattle.kr_rows.proofs.PerformLemmas.{by-refusal}
 use Rattle.kr_attributes.proofs.FoundLemmas.{is-placed, is-unplaced, mount-of-open, negative, not-open, place-there}
 use Rattle.kr_attributes.proofs.RowLemmas.{at-all, by-row}

@@ -1,11 +1,11 @@
 use Rattle.std.proofs.Common.{sym, ap, ◌∙◌}
 use Rattle.std.specs.Prelude.{not, if◌then◌else◌}
-use Rattle.kr_targets.specs.pr_base.declared.errno.Errno.TheVariants.{ENOTDIR, EACCES}
-use Rattle.kr_targets.specs.kr_model.Asking.{is_searched}
-use Rattle.kr_targets.specs.kr_model.Known.{known}
-use Rattle.kr_targets.specs.kr_model.Reply.{refuse}
-use Rattle.kr_targets.specs.kr_model.State.{image_layout}
-use Rattle.kr_targets.specs.kr_ops.Meaning.{meaning}
+use Rattle.kr_seen.specs.pr_base.declared.errno.Errno.TheVariants.{ENOTDIR, EACCES}
+use Rattle.kr_seen.specs.kr_model.Asking.{is_searched}
+use Rattle.kr_seen.specs.kr_model.Known.{known}
+use Rattle.kr_seen.specs.kr_model.Reply.{refuse}
+use Rattle.kr_seen.specs.kr_model.State.{image_layout}
+use Rattle.kr_seen.specs.kr_ops.Meaning.{meaning}
 use Rattle.kr_attributes.proofs.directories.may_enter.Goals as goal
 
 pub returns-then-not-is_directory_host-clause-err : goal.returns-then-not-is_directory_host-clause-err

@@ -1,8 +1,8 @@
 use Rattle.std.proofs.Common.{refl, sym, ap, ◌∙◌, w32}
 use Rattle.std.proofs.Math.Facts.{to_z-of_z}
-use Rattle.kr_targets.specs.kr_files.WithoutMounts.{without_mount}
-use Rattle.kr_targets.specs.kr_model.Asking.{descriptor_number}
-use Rattle.kr_targets.specs.kr_ops.Meaning.{meaning}
+use Rattle.kr_seen.specs.kr_files.WithoutMounts.{without_mount}
+use Rattle.kr_seen.specs.kr_model.Asking.{descriptor_number}
+use Rattle.kr_seen.specs.kr_ops.Meaning.{meaning}
 use Rattle.kr_attributes.proofs.FoundLemmas.{is-open, negative, not-open, same-object}
 use Rattle.kr_attributes.proofs.found.open_object.Goals as goal
 

@@ -1,6 +1,6 @@
 use Rattle.std.proofs.Common.{sym, ap}
-use Rattle.kr_targets.specs.kr_model.Known.{Caller}
-use Rattle.kr_targets.proofs.kr_ops.OpeningLemmas.{not-living}
+use Rattle.kr_seen.specs.kr_model.Known.{Caller}
+use Rattle.kr_seen.proofs.kr_ops.OpeningLemmas.{not-living}
 use Rattle.kr_attributes.proofs.FoundLemmas.{known-caller}
 use Rattle.kr_attributes.proofs.found.working_directory.Goals as goal
 

@@ -1,15 +1,15 @@
 use Rattle.std.proofs.Common.{◌≡◌, w32, refl, sym, ap, subst, ◌∙◌}
 use Rattle.std.specs.Prelude.{Err, unsigned_abs}
 use Rattle.std.proofs.Math.Facts.{to_z-of_z}
-use Rattle.kr_targets.specs.pr_base.declared.errno.Errno.TheVariants.{ENOENT}
-use Rattle.kr_targets.specs.kr_model.AttributeRows.{readlinkat_row, tell_text}
-use Rattle.kr_targets.specs.kr_model.Known.{known}
-use Rattle.kr_targets.specs.kr_model.State.{image_layout}
-use Rattle.kr_targets.specs.kr_model.Walks.{text_at}
-use Rattle.kr_targets.specs.kr_ops.Meaning.{meaning}
-use Rattle.kr_targets.specs.kr_seen.Numbered.{state_numbered}
-use Rattle.kr_targets.specs.Placed.{target_mounts}
-use Rattle.kr_targets.proofs.kr_seen.CarryLemmas.{by-refusal}
+use Rattle.kr_seen.specs.pr_base.declared.errno.Errno.TheVariants.{ENOENT}
+use Rattle.kr_seen.specs.kr_model.AttributeRows.{readlinkat_row, tell_text}
+use Rattle.kr_seen.specs.kr_model.Known.{known}
+use Rattle.kr_seen.specs.kr_model.State.{image_layout}
+use Rattle.kr_seen.specs.kr_model.Walks.{text_at}
+use Rattle.kr_seen.specs.kr_ops.Meaning.{meaning}
+use Rattle.kr_seen.specs.Numbered.{state_numbered}
+use Rattle.kr_seen.specs.Placed.{target_mounts}
+use Rattle.kr_seen.proofs.CarryLemmas.{by-refusal}
 use Rattle.kr_attributes.specs.Named.{AnswersText}
 use Rattle.kr_attributes.specs.declared.links.TextFault.{TextFault}
 use Rattle.kr_attributes.proofs.FoundLemmas.{link-found, no-link-found}

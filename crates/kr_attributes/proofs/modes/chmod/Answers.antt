@@ -1,10 +1,10 @@
 use Rattle.std.proofs.Common.{refl, ap}
-use Rattle.kr_targets.specs.pr_base.declared.errno.Errno.TheVariants.{EPERM}
-use Rattle.kr_targets.specs.kr_tree.declared.place.Host.TheVariants.{Node}
-use Rattle.kr_targets.specs.kr_model.AttributeRows.{chmod_host}
-use Rattle.kr_targets.specs.kr_model.Known.{known}
-use Rattle.kr_targets.specs.kr_model.State.{image_layout}
-use Rattle.kr_targets.specs.kr_ops.Meaning.{meaning}
+use Rattle.kr_seen.specs.pr_base.declared.errno.Errno.TheVariants.{EPERM}
+use Rattle.kr_seen.specs.kr_tree.declared.place.Host.TheVariants.{Node}
+use Rattle.kr_seen.specs.kr_model.AttributeRows.{chmod_host}
+use Rattle.kr_seen.specs.kr_model.Known.{known}
+use Rattle.kr_seen.specs.kr_model.State.{image_layout}
+use Rattle.kr_seen.specs.kr_ops.Meaning.{meaning}
 use Rattle.kr_rows.proofs.PerformLemmas.{by-refusal, by-row}
 use Rattle.kr_attributes.proofs.modes.chmod.Goals as goal
 

@@ -1,11 +1,11 @@
 use Rattle.std.proofs.Common.{refl, ap, ◌∙◌, [], ◌∷◌, ◌%◌}
 use Rattle.std.specs.Prelude.{◌==◌, ◌||◌, not}
 use Rattle.std.specs.Bool.{if◌then◌else◌}
-use Rattle.kr_targets.specs.pr_base.declared.errno.Errno.TheVariants.{EPERM, ENOENT}
-use Rattle.kr_targets.specs.kr_inode.declared.node.Meta.{Meta}
-use Rattle.kr_targets.specs.kr_model.Change.{SetMode}
-use Rattle.kr_targets.specs.kr_model.Reply.{answers, done, refuse}
-use Rattle.kr_targets.specs.kr_ops.Meaning.{meaning}
+use Rattle.kr_seen.specs.pr_base.declared.errno.Errno.TheVariants.{EPERM, ENOENT}
+use Rattle.kr_seen.specs.kr_inode.declared.node.Meta.{Meta}
+use Rattle.kr_seen.specs.kr_model.Change.{SetMode}
+use Rattle.kr_seen.specs.kr_model.Reply.{answers, done, refuse}
+use Rattle.kr_seen.specs.kr_ops.Meaning.{meaning}
 use Rattle.kr_rows.proofs.PerformLemmas.{by-refusal, by-reply}
 use Rattle.kr_attributes.proofs.NodeLemmas.{chmod-gone, chmod-there, meta-gone, meta-there}
 use Rattle.kr_attributes.proofs.modes.chmod_node.Goals as goal

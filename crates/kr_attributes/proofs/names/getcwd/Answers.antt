@@ -1,10 +1,10 @@
 use Rattle.std.proofs.Common.{List, ℕ, Option, refl, sym, ap, ◌∙◌}
 use Rattle.std.specs.Option.{option_map_or}
-use Rattle.kr_targets.specs.pr_base.declared.errno.Errno.TheVariants.{ENOENT}
-use Rattle.kr_targets.specs.kr_model.DirectoryRows.{tell_directory}
-use Rattle.kr_targets.specs.kr_model.Reply.{refuse}
-use Rattle.kr_targets.specs.kr_ops.Meaning.{meaning}
-use Rattle.kr_targets.specs.kr_seen.Numbered.{state_numbered}
+use Rattle.kr_seen.specs.pr_base.declared.errno.Errno.TheVariants.{ENOENT}
+use Rattle.kr_seen.specs.kr_model.DirectoryRows.{tell_directory}
+use Rattle.kr_seen.specs.kr_model.Reply.{refuse}
+use Rattle.kr_seen.specs.kr_ops.Meaning.{meaning}
+use Rattle.kr_seen.specs.Numbered.{state_numbered}
 use Rattle.kr_rows.proofs.PerformLemmas.{by-refusal, by-row}
 use Rattle.kr_attributes.proofs.TextLemmas.{name-of-cwd}
 use Rattle.kr_attributes.proofs.names.getcwd.Goals as goal

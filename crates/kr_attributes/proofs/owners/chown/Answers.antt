@@ -1,9 +1,9 @@
 use Rattle.std.proofs.Common.{ap, []}
-use Rattle.kr_targets.specs.kr_tree.declared.place.Host.TheVariants.{Node}
-use Rattle.kr_targets.specs.kr_model.AttributeRows.{chown_by, chown_host}
-use Rattle.kr_targets.specs.kr_model.Known.{known}
-use Rattle.kr_targets.specs.kr_model.State.{image_layout}
-use Rattle.kr_targets.specs.kr_ops.Meaning.{meaning}
+use Rattle.kr_seen.specs.kr_tree.declared.place.Host.TheVariants.{Node}
+use Rattle.kr_seen.specs.kr_model.AttributeRows.{chown_by, chown_host}
+use Rattle.kr_seen.specs.kr_model.Known.{known}
+use Rattle.kr_seen.specs.kr_model.State.{image_layout}
+use Rattle.kr_seen.specs.kr_ops.Meaning.{meaning}
 use Rattle.kr_rows.proofs.PerformLemmas.{by-row}
 use Rattle.kr_attributes.proofs.owners.chown.Goals as goal
 

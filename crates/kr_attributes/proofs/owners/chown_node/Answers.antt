@@ -1,10 +1,10 @@
 use Rattle.std.proofs.Common.{refl, sym, ap, ◌∙◌, [], ◌∷◌, List}
-use Rattle.kr_targets.specs.pr_base.declared.errno.Errno.TheVariants.{EPERM, ENOENT}
-use Rattle.kr_targets.specs.kr_inode.declared.node.Meta.{Meta}
-use Rattle.kr_targets.specs.kr_model.AttributeRows.{chown_by, or_old}
-use Rattle.kr_targets.specs.kr_model.Change.{Change, SetOwner}
-use Rattle.kr_targets.specs.kr_model.Reply.{answers, done}
-use Rattle.kr_targets.specs.kr_ops.Meaning.{meaning}
+use Rattle.kr_seen.specs.pr_base.declared.errno.Errno.TheVariants.{EPERM, ENOENT}
+use Rattle.kr_seen.specs.kr_inode.declared.node.Meta.{Meta}
+use Rattle.kr_seen.specs.kr_model.AttributeRows.{chown_by, or_old}
+use Rattle.kr_seen.specs.kr_model.Change.{Change, SetOwner}
+use Rattle.kr_seen.specs.kr_model.Reply.{answers, done}
+use Rattle.kr_seen.specs.kr_ops.Meaning.{meaning}
 use Rattle.kr_rows.proofs.PerformLemmas.{by-refusal, by-reply}
 use Rattle.kr_attributes.specs.Ruled.{ruled}
 use Rattle.kr_attributes.proofs.NodeLemmas.{chown-gone, chown-there, meta-gone, meta-there}

@@ -1,11 +1,11 @@
 use Rattle.std.proofs.Common.{ℤ, sym, ap, ◌∙◌, w32, to_z, of_z}
 use Rattle.std.specs.Bool.{if◌then◌else◌}
 use Rattle.std.proofs.Math.Facts.{to_z-of_z}
-use Rattle.kr_targets.specs.kr_model.Asking.{is_working_directory}
-use Rattle.kr_targets.specs.kr_model.AttributeRows.{chown_host, fchown_row}
-use Rattle.kr_targets.specs.kr_model.Known.{known}
-use Rattle.kr_targets.specs.kr_model.State.{image_layout}
-use Rattle.kr_targets.specs.kr_ops.Meaning.{meaning}
+use Rattle.kr_seen.specs.kr_model.Asking.{is_working_directory}
+use Rattle.kr_seen.specs.kr_model.AttributeRows.{chown_host, fchown_row}
+use Rattle.kr_seen.specs.kr_model.Known.{known}
+use Rattle.kr_seen.specs.kr_model.State.{image_layout}
+use Rattle.kr_seen.specs.kr_ops.Meaning.{meaning}
 use Rattle.kr_rows.proofs.PerformLemmas.{by-row}
 use Rattle.kr_attributes.proofs.owners.fchownat_here.Goals as goal
 

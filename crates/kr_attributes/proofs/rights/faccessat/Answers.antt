@@ -1,13 +1,13 @@
 use Rattle.std.proofs.Common.{refl, sym, ap, ◌∙◌, []}
 use Rattle.std.specs.Bool.{if◌then◌else◌}
-use Rattle.kr_targets.specs.pr_base.declared.errno.Errno.TheVariants.{ENOENT, EACCES}
-use Rattle.kr_targets.specs.kr_model.AttributeRows.{faccessat_row}
-use Rattle.kr_targets.specs.kr_model.Known.{known}
-use Rattle.kr_targets.specs.kr_model.Reply.{answers, done, refuse}
-use Rattle.kr_targets.specs.kr_model.State.{image_layout}
-use Rattle.kr_targets.specs.kr_ops.Meaning.{meaning}
-use Rattle.kr_targets.specs.Placed.{target_mounts}
-use Rattle.kr_targets.proofs.kr_seen.CarryLemmas.{by-refusal, by-reply}
+use Rattle.kr_seen.specs.pr_base.declared.errno.Errno.TheVariants.{ENOENT, EACCES}
+use Rattle.kr_seen.specs.kr_model.AttributeRows.{faccessat_row}
+use Rattle.kr_seen.specs.kr_model.Known.{known}
+use Rattle.kr_seen.specs.kr_model.Reply.{answers, done, refuse}
+use Rattle.kr_seen.specs.kr_model.State.{image_layout}
+use Rattle.kr_seen.specs.kr_ops.Meaning.{meaning}
+use Rattle.kr_seen.specs.Placed.{target_mounts}
+use Rattle.kr_seen.proofs.CarryLemmas.{by-refusal, by-reply}
 use Rattle.kr_attributes.proofs.FoundLemmas.{not-found, was-found}
 use Rattle.kr_attributes.proofs.rights.faccessat.Goals as goal
 

@@ -1,7 +1,7 @@
 use Rattle.std.proofs.Common.{sym, ◌∙◌}
-use Rattle.kr_targets.specs.kr_ops.Meaning.{meaning}
-use Rattle.kr_targets.proofs.kr_seen.LivingLemmas.{lives-by}
-use Rattle.kr_targets.proofs.KnownLemmas.{known-lives}
+use Rattle.kr_seen.specs.kr_ops.Meaning.{meaning}
+use Rattle.kr_seen.proofs.LivingLemmas.{lives-by}
+use Rattle.kr_seen.proofs.KnownLemmas.{known-lives}
 use Rattle.kr_attributes.proofs.stats.lives.Goals as goal
 
 pub returns : goal.returns

@@ -1,6 +1,6 @@
 use Rattle.std.proofs.Common.{◌+◌, Some, ap, ◌∙◌}
-use Rattle.kr_targets.specs.kr_model.AttributeRows.{stat_of}
-use Rattle.kr_targets.specs.kr_ops.Meaning.{meaning}
+use Rattle.kr_seen.specs.kr_model.AttributeRows.{stat_of}
+use Rattle.kr_seen.specs.kr_ops.Meaning.{meaning}
 use Rattle.kr_attributes.specs.Facts.{bits_by}
 use Rattle.kr_attributes.proofs.NodeLemmas.{kind-gone, meta-gone, meta-there, node-told, none-told}
 use Rattle.kr_attributes.proofs.stats.node_stat.Goals as goal

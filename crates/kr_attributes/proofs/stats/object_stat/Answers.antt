@@ -1,11 +1,11 @@
 use Rattle.std.proofs.Common.{◌≡◌, Option, Some, None, refl, sym, ap, ◌∙◌}
 use Rattle.std.specs.Option.{option_map, option_map_or}
-use Rattle.kr_targets.specs.pr_base.declared.errno.Errno.TheVariants.{ENOENT}
-use Rattle.kr_targets.specs.kr_model.AttributeRows.{node_stat, stat_host, tell_stat}
-use Rattle.kr_targets.specs.kr_model.Known.{known}
-use Rattle.kr_targets.specs.kr_model.Reply.{refuse}
-use Rattle.kr_targets.specs.kr_model.State.{image_layout}
-use Rattle.kr_targets.specs.kr_ops.Meaning.{meaning}
+use Rattle.kr_seen.specs.pr_base.declared.errno.Errno.TheVariants.{ENOENT}
+use Rattle.kr_seen.specs.kr_model.AttributeRows.{node_stat, stat_host, tell_stat}
+use Rattle.kr_seen.specs.kr_model.Known.{known}
+use Rattle.kr_seen.specs.kr_model.Reply.{refuse}
+use Rattle.kr_seen.specs.kr_model.State.{image_layout}
+use Rattle.kr_seen.specs.kr_ops.Meaning.{meaning}
 use Rattle.kr_attributes.proofs.stats.object_stat.Goals as goal
 
 of-mapped : {A B C : Type 0} (f : A → B) (g : B → C) (other : C) (o : Option A) → option_map_or (λ x. g (f x)) o other ≡ option_map_or g (option_map f o) other

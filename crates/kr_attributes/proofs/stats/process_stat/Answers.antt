@@ -1,11 +1,11 @@
 use Rattle.std.proofs.Common.{ℕ, ◌+◌, sym, ap, ◌∙◌}
 use Rattle.std.specs.Bool.{if◌then◌else◌}
-use Rattle.kr_targets.specs.kr_calls.declared.stat.Stat.{Stat}
-use Rattle.kr_targets.specs.kr_procfs.Objects.{inode_number}
-use Rattle.kr_targets.specs.kr_model.AttributeRows.{directory_size, process_links, s_directory, s_link, stat_of}
-use Rattle.kr_targets.specs.kr_model.Known.{known}
-use Rattle.kr_targets.specs.kr_model.State.{image_layout}
-use Rattle.kr_targets.specs.kr_ops.Meaning.{meaning}
+use Rattle.kr_seen.specs.kr_calls.declared.stat.Stat.{Stat}
+use Rattle.kr_seen.specs.kr_procfs.Objects.{inode_number}
+use Rattle.kr_seen.specs.kr_model.AttributeRows.{directory_size, process_links, s_directory, s_link, stat_of}
+use Rattle.kr_seen.specs.kr_model.Known.{known}
+use Rattle.kr_seen.specs.kr_model.State.{image_layout}
+use Rattle.kr_seen.specs.kr_ops.Meaning.{meaning}
 use Rattle.kr_attributes.proofs.stats.process_stat.Goals as goal
 
 pub returns-then-is_process_directory : goal.returns-then-is_process_directory

@@ -1,11 +1,11 @@
 use Rattle.std.proofs.Common.{refl, ap, ◌∙◌}
 use Rattle.std.specs.Option.{option_map_or}
-use Rattle.kr_targets.specs.pr_base.declared.errno.Errno.TheVariants.{EBADF}
-use Rattle.kr_targets.specs.kr_model.AttributeRows.{tell_stat}
-use Rattle.kr_targets.specs.kr_model.Known.{known}
-use Rattle.kr_targets.specs.kr_model.Reply.{refuse}
-use Rattle.kr_targets.specs.kr_model.State.{image_layout}
-use Rattle.kr_targets.specs.kr_ops.Meaning.{meaning}
+use Rattle.kr_seen.specs.pr_base.declared.errno.Errno.TheVariants.{EBADF}
+use Rattle.kr_seen.specs.kr_model.AttributeRows.{tell_stat}
+use Rattle.kr_seen.specs.kr_model.Known.{known}
+use Rattle.kr_seen.specs.kr_model.Reply.{refuse}
+use Rattle.kr_seen.specs.kr_model.State.{image_layout}
+use Rattle.kr_seen.specs.kr_ops.Meaning.{meaning}
 use Rattle.kr_rows.proofs.PerformLemmas.{by-refusal, by-row}
 use Rattle.kr_attributes.proofs.stats.tell_unplaced.Goals as goal
 

@@ -1,6 +1,6 @@
 use Rattle.std.proofs.Common.{◌≡◌, ◌≢◌, false, ap, sym, ◌∙◌, pos, rules}
-use Rattle.kr_numbered.specs.kr_model.declared.outcome.Outcome.TheVariants.{Answer}
-use Rattle.kr_numbered.specs.kr_ops.Meaning.{meaning}
+use Rattle.kr_seen.specs.kr_model.declared.outcome.Outcome.TheVariants.{Answer}
+use Rattle.kr_seen.specs.kr_ops.Meaning.{meaning}
 use Rattle.kr_calm.specs.Calm.{smallest}
 use Rattle.kr_calm.specs.Prospects.{answers_zero}
 use Rattle.kr_calm.proofs.JudgedLemmas.{answers-another, done-judged, else-judged, ended-judged, goes-with-answer, stays-at-call}

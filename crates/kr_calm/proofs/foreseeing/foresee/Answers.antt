@@ -1,10 +1,10 @@
 use Rattle.std.proofs.Common.{◌≡◌, of_z, to_z, w32, rules, ap, ◌∙◌}
 use Rattle.std.specs.Option.{option_and_then}
-use Rattle.kr_numbered.specs.kr_model.Asking.{descriptor_number}
-use Rattle.kr_numbered.specs.kr_model.State.{opened}
-use Rattle.kr_numbered.specs.kr_ops.Meaning.{meaning}
-use Rattle.kr_numbered.specs.kr_seen.Numbered.{state_numbered}
-use Rattle.kr_targets.specs.Told.{taken_told}
+use Rattle.kr_seen.specs.kr_model.Asking.{descriptor_number}
+use Rattle.kr_seen.specs.kr_model.State.{opened}
+use Rattle.kr_seen.specs.kr_ops.Meaning.{meaning}
+use Rattle.kr_seen.specs.Numbered.{state_numbered}
+use Rattle.kr_seen.specs.Told.{taken_told}
 use Rattle.kr_calm.specs.Foreseen.{foreseen_of, mode_opened}
 use Rattle.kr_calm.proofs.ToldLemmas.{mode-along, open-mode-along, removal-along, rename-along}
 use Rattle.kr_calm.proofs.foreseeing.foresee.Goals as goal

@@ -1,5 +1,5 @@
 use Rattle.std.proofs.Common.{◌≡◌, rules, sym, ◌∙◌}
-use Rattle.kr_numbered.specs.kr_ops.Meaning.{meaning}
+use Rattle.kr_seen.specs.kr_ops.Meaning.{meaning}
 use Rattle.kr_calm.specs.InUse.{is_directory_of, is_in_use}
 use Rattle.kr_calm.proofs.AlikeLemmas.{in_use-numbered}
 use Rattle.kr_calm.proofs.judging.end_takes_used.Goals as goal

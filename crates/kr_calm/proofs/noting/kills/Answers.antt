@@ -1,7 +1,7 @@
 use Rattle.std.proofs.Common.{ap, ◌∙◌, w32}
 use Rattle.std.proofs.Math.Facts.{to_z-of_z}
-use Rattle.kr_numbered.specs.kr_model.Asking.{descriptor_number}
-use Rattle.kr_numbered.specs.kr_ops.Meaning.{meaning}
+use Rattle.kr_seen.specs.kr_model.Asking.{descriptor_number}
+use Rattle.kr_seen.specs.kr_ops.Meaning.{meaning}
 use Rattle.kr_calm.proofs.NotedLemmas.{write-kills}
 use Rattle.kr_calm.proofs.noting.kills.Goals as goal
 

@@ -1,8 +1,8 @@
 use Rattle.std.proofs.Common.{◌≡◌, of_z, to_z, w32, rules, ap, sym, subst, ◌∙◌}
-use Rattle.kr_numbered.specs.kr_model.Known.{known}
-use Rattle.kr_numbered.specs.kr_model.State.{image_layout}
-use Rattle.kr_numbered.specs.kr_ops.Meaning.{meaning}
-use Rattle.kr_numbered.specs.kr_seen.Carrying.{memory_of}
+use Rattle.kr_seen.specs.kr_model.Known.{known}
+use Rattle.kr_seen.specs.kr_model.State.{image_layout}
+use Rattle.kr_seen.specs.kr_ops.Meaning.{meaning}
+use Rattle.kr_seen.specs.Carrying.{memory_of}
 use Rattle.kr_rows.specs.Using.{HasMemory}
 use Rattle.kr_calm.specs.Noted.{kills}
 use Rattle.kr_calm.proofs.NotedLemmas.{as-before, is-noted, not-noted, noted-elsewhere, noted-there}

@@ -1,5 +1,5 @@
 use Rattle.std.proofs.Common.{◌+◌, Some, None, arith, refl, sym, ◌∙◌}
-use Rattle.kr_numbered.specs.kr_files.Descriptors.{meanings}
+use Rattle.kr_seen.specs.kr_files.Descriptors.{meanings}
 use Rattle.kr_calm.specs.Questions.{opened_answers}
 use Rattle.kr_calm.proofs.UseLemmas.{found-below, next-below, none-below, passes-opened}
 use Rattle.kr_calm.proofs.uses.any_opened.Goals as goal

@@ -1,5 +1,5 @@
 use Rattle.std.proofs.Common.{◌≡◌, false}
-use Rattle.kr_numbered.specs.kr_files.Descriptors.{meanings}
+use Rattle.kr_seen.specs.kr_files.Descriptors.{meanings}
 use Rattle.kr_calm.specs.InUse.{any_opened_below}
 use Rattle.kr_calm.specs.Questions.{opened_answers}
 use Rattle.kr_calm.proofs.uses.any_opened.Given as goal

@@ -1,10 +1,10 @@
 use Rattle.std.proofs.Common.{ap, arith, sym, ◌∙◌, ◌||◌}
-use Rattle.kr_numbered.specs.kr_files.Descriptors.{meanings}
-use Rattle.kr_numbered.specs.kr_files.Files.{NamesOpenFiles}
-use Rattle.kr_numbered.specs.kr_ops.Meaning.{process_meaning}
-use Rattle.kr_numbered.specs.kr_ops.declared.state.Process.{Process}
-use Rattle.kr_numbered.proofs.kr_ops.AskLemmas.{next-fails, some-passes}
-use Rattle.kr_numbered.proofs.kr_ops.ServeLemmas.{all-at}
+use Rattle.kr_seen.specs.kr_files.Descriptors.{meanings}
+use Rattle.kr_seen.specs.kr_files.Files.{NamesOpenFiles}
+use Rattle.kr_seen.specs.kr_ops.Meaning.{process_meaning}
+use Rattle.kr_seen.specs.kr_ops.declared.state.Process.{Process}
+use Rattle.kr_seen.proofs.kr_ops.AskLemmas.{next-fails, some-passes}
+use Rattle.kr_seen.proofs.kr_ops.ServeLemmas.{all-at}
 use Rattle.kr_calm.specs.InUse.{any_opened}
 use Rattle.kr_calm.specs.Questions.{opened_answers, own_answers, process_answers}
 use Rattle.kr_calm.proofs.uses.any_use.Goals as goal

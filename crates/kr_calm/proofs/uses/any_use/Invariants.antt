@@ -1,7 +1,7 @@
 use Rattle.std.proofs.Common.{◌≡◌, false, take}
 use Rattle.std.specs.Prelude.{map as map_list}
 use Rattle.std.specs.List.{list_any}
-use Rattle.kr_numbered.specs.kr_ops.Meaning.{process_meaning}
+use Rattle.kr_seen.specs.kr_ops.Meaning.{process_meaning}
 use Rattle.kr_calm.specs.Questions.{process_answers}
 use Rattle.kr_calm.proofs.uses.any_use.Given as goal
 

@@ -1,12 +1,12 @@
 use Rattle.std.proofs.Common.{Some, None, refl, sym, ap, subst, ◌∙◌, arith}
 use Rattle.std.specs.Prelude.{IsSome}
 use Rattle.kr_exec.specs.kr_tree.Tree.{inode}
-use Rattle.kr_perform.proofs.kr_lawful.AfterLemmas.{object-there}
+use Rattle.kr_perform.proofs.law_lawful.AfterLemmas.{object-there}
 use Rattle.kr_perform.specs.kr_model.Applied.{Mounts, applied, images}
 use Rattle.kr_perform.specs.kr_model.Change.{CloseOnExec, OfFound, ReplaceExecutable}
 use Rattle.kr_perform.specs.kr_model.Lawful.{IsLawful}
 use Rattle.kr_perform.specs.kr_model.State.{Image, State, inode_of, process}
-use Rattle.kr_perform.specs.kr_ops.Meaning.{meaning}
+use Rattle.kr_seen.specs.kr_ops.Meaning.{meaning}
 use Rattle.kr_execve.proofs.PuttingLemmas.{executing-lawful, loaded-lawful, loaded-lives}
 use Rattle.kr_execve.proofs.loading.put.Goals as goal
 

@@ -1,11 +1,11 @@
 use Rattle.std.proofs.Common.{[], ◌∷◌, refl, sym, ap, ◌∙◌, Err}
 use Rattle.std.specs.Bool.{if◌then◌else◌}
-use Rattle.kr_targets.specs.pr_base.declared.errno.Errno.TheVariants.{ENOSPC}
-use Rattle.kr_targets.specs.kr_inode.Stored.{body_of_new}
-use Rattle.kr_targets.specs.kr_model.Change.{AddNode}
-use Rattle.kr_targets.specs.kr_model.Reply.{answers, done, refuse}
+use Rattle.kr_seen.specs.pr_base.declared.errno.Errno.TheVariants.{ENOSPC}
+use Rattle.kr_seen.specs.kr_inode.Stored.{body_of_new}
+use Rattle.kr_seen.specs.kr_model.Change.{AddNode}
+use Rattle.kr_seen.specs.kr_model.Reply.{answers, done, refuse}
 use Rattle.kr_names.proofs.RoomLemmas.{is-full, has-room, ok-no-error}
-use Rattle.kr_targets.proofs.kr_seen.CarryLemmas.{by-refusal, by-reply}
+use Rattle.kr_seen.proofs.CarryLemmas.{by-refusal, by-reply}
 use Rattle.kr_names.proofs.adding.add_named.Goals as goal
 
 pub returns-in-Err-clause-performs : goal.returns-in-Err-clause-performs

@@ -1,7 +1,7 @@
 use Rattle.std.proofs.Common.{sym, ap, ◌∙◌, bit_and, ◌-◌, arith}
 use Rattle.std.proofs.lemmas.Nat.{and_le_r}
-use Rattle.kr_targets.specs.kr_model.Known.{Caller}
-use Rattle.kr_targets.proofs.kr_ops.OpeningLemmas.{not-living}
+use Rattle.kr_seen.specs.kr_model.Known.{Caller}
+use Rattle.kr_seen.proofs.kr_ops.OpeningLemmas.{not-living}
 use Rattle.kr_names.proofs.CallerLemmas.{known-caller}
 use Rattle.kr_names.proofs.adding.unmasked.Goals as goal
 

@@ -1,23 +1,23 @@
 use Rattle.std.proofs.Common.{◌≡◌, ℕ, ◌+◌, ◌<◌, ◌^◌, length, refl, sym, ap, subst, ◌∙◌, false, [], ◌∷◌, None, Err, lit<}
 use Rattle.std.specs.Prelude.{IsTrue, IsSome, IfSome}
-use Rattle.kr_targets.specs.pr_base.declared.errno.Errno.TheVariants.{EMFILE, ENOSPC}
-use Rattle.kr_targets.specs.kr_calls.Arguments.{has}
-use Rattle.kr_targets.specs.kr_tree.Changes.{is_too_big}
-use Rattle.kr_targets.specs.kr_tree.Tree.{RegularFile, inode}
-use Rattle.kr_targets.specs.kr_tree.declared.place.Host.TheVariants as host
-use Rattle.kr_targets.specs.kr_files.Opened.{is_no_end}
-use Rattle.kr_targets.specs.kr_files.declared.opened.Opened.{Opened}
-use Rattle.kr_targets.specs.kr_files.declared.opened.What.TheVariants.{File}
-use Rattle.kr_targets.specs.kr_model.Applied.{Mounts, applied, images, in_mount}
-use Rattle.kr_targets.specs.kr_model.Asking.{has_no_room, unmasked}
-use Rattle.kr_targets.specs.kr_model.Change.{AddNode, OfDirectory, OpenFile}
-use Rattle.kr_targets.specs.kr_model.DescriptorRows.{o_cloexec}
-use Rattle.kr_targets.specs.kr_model.FileRows.{opens_as}
-use Rattle.kr_targets.specs.kr_model.Known.{known}
-use Rattle.kr_targets.specs.kr_model.Reply.{answers}
-use Rattle.kr_targets.specs.kr_model.State.{image_layout, inode_of}
-use Rattle.kr_targets.specs.kr_ops.Meaning.{meaning}
-use Rattle.kr_targets.proofs.kr_seen.CarryLemmas.{by-refusal, by-reply}
+use Rattle.kr_seen.specs.pr_base.declared.errno.Errno.TheVariants.{EMFILE, ENOSPC}
+use Rattle.kr_seen.specs.kr_calls.Arguments.{has}
+use Rattle.kr_seen.specs.kr_tree.Changes.{is_too_big}
+use Rattle.kr_seen.specs.kr_tree.Tree.{RegularFile, inode}
+use Rattle.kr_seen.specs.kr_tree.declared.place.Host.TheVariants as host
+use Rattle.kr_seen.specs.kr_files.Opened.{is_no_end}
+use Rattle.kr_seen.specs.kr_files.declared.opened.Opened.{Opened}
+use Rattle.kr_seen.specs.kr_files.declared.opened.What.TheVariants.{File}
+use Rattle.kr_seen.specs.kr_model.Applied.{Mounts, applied, images, in_mount}
+use Rattle.kr_seen.specs.kr_model.Asking.{has_no_room, unmasked}
+use Rattle.kr_seen.specs.kr_model.Change.{AddNode, OfDirectory, OpenFile}
+use Rattle.kr_seen.specs.kr_model.DescriptorRows.{o_cloexec}
+use Rattle.kr_seen.specs.kr_model.FileRows.{opens_as}
+use Rattle.kr_seen.specs.kr_model.Known.{known}
+use Rattle.kr_seen.specs.kr_model.Reply.{answers}
+use Rattle.kr_seen.specs.kr_model.State.{image_layout, inode_of}
+use Rattle.kr_seen.specs.kr_ops.Meaning.{meaning}
+use Rattle.kr_seen.proofs.CarryLemmas.{by-refusal, by-reply}
 use Rattle.kr_names.proofs.CreateLemmas.{made-files, made-lives, made-lowest, made-sound, made-there, new-crowded, new-full, new-opens}
 use Rattle.kr_names.proofs.OpenLemmas.{opened-makes}
 use Rattle.kr_names.proofs.RoomLemmas.{has-room, is-full, ok-no-error}

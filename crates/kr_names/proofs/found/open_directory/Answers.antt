@@ -1,16 +1,16 @@
 use Rattle.std.proofs.Common.{refl, sym, ap, ◌∙◌, [], ◌∷◌, Err}
-use Rattle.kr_targets.specs.pr_base.declared.errno.Errno.TheVariants.{EACCES, EISDIR, EMFILE}
-use Rattle.kr_targets.specs.kr_calls.Arguments.{has}
-use Rattle.kr_targets.specs.kr_files.declared.opened.What.TheVariants.{Dir}
-use Rattle.kr_targets.specs.kr_model.Applied.{in_mount}
-use Rattle.kr_targets.specs.kr_model.Change.{OfFound, OpenFile}
-use Rattle.kr_targets.specs.kr_model.DescriptorRows.{o_cloexec}
-use Rattle.kr_targets.specs.kr_model.FileRows.{opens_as}
-use Rattle.kr_targets.specs.kr_model.Known.{known}
-use Rattle.kr_targets.specs.kr_model.Reply.{answers}
-use Rattle.kr_targets.specs.kr_model.State.{image_layout}
-use Rattle.kr_targets.specs.kr_ops.Meaning.{meaning}
-use Rattle.kr_targets.proofs.kr_seen.CarryLemmas.{by-refusal, by-reply}
+use Rattle.kr_seen.specs.pr_base.declared.errno.Errno.TheVariants.{EACCES, EISDIR, EMFILE}
+use Rattle.kr_seen.specs.kr_calls.Arguments.{has}
+use Rattle.kr_seen.specs.kr_files.declared.opened.What.TheVariants.{Dir}
+use Rattle.kr_seen.specs.kr_model.Applied.{in_mount}
+use Rattle.kr_seen.specs.kr_model.Change.{OfFound, OpenFile}
+use Rattle.kr_seen.specs.kr_model.DescriptorRows.{o_cloexec}
+use Rattle.kr_seen.specs.kr_model.FileRows.{opens_as}
+use Rattle.kr_seen.specs.kr_model.Known.{known}
+use Rattle.kr_seen.specs.kr_model.Reply.{answers}
+use Rattle.kr_seen.specs.kr_model.State.{image_layout}
+use Rattle.kr_seen.specs.kr_ops.Meaning.{meaning}
+use Rattle.kr_seen.proofs.CarryLemmas.{by-refusal, by-reply}
 use Rattle.kr_names.proofs.OpenLemmas.{directory-changed, directory-kept, directory-opens, opened-makes, under-full, under-goes}
 use Rattle.kr_names.proofs.found.open_directory.Goals as goal
 

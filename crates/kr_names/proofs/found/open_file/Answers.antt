@@ -1,22 +1,22 @@
 use Rattle.std.proofs.Common.{refl, sym, ap, subst, ◌∙◌, [], ◌∷◌, ◌≡◌, ℕ, ◌≤◌, Err, lit<}
-use Rattle.kr_targets.specs.kr_tree.Changes.{byte_limit}
+use Rattle.kr_seen.specs.kr_tree.Changes.{byte_limit}
 use Rattle.std.specs.Bool.{if◌then◌else◌}
 use Rattle.std.specs.Option.{option_map}
-use Rattle.kr_targets.specs.pr_base.declared.errno.Errno.TheVariants.{EACCES, EMFILE, ENOTDIR}
-use Rattle.kr_targets.specs.kr_calls.Arguments.{has}
-use Rattle.kr_targets.specs.kr_tree.Tree.{is_file}
-use Rattle.kr_targets.specs.kr_tree.declared.place.Host.TheVariants as host
-use Rattle.kr_targets.specs.kr_files.declared.opened.What.TheVariants.{File}
-use Rattle.kr_targets.specs.kr_model.Applied.{applied, images, in_mount}
-use Rattle.kr_targets.specs.kr_model.Change.{OfFound, OpenFile, SetSize}
-use Rattle.kr_targets.specs.kr_model.DescriptorRows.{o_cloexec}
-use Rattle.kr_targets.specs.kr_model.FileRows.{cut_after, opens_as}
-use Rattle.kr_targets.specs.kr_model.Known.{known}
-use Rattle.kr_targets.specs.kr_model.Reply.{answers, done}
-use Rattle.kr_targets.specs.kr_model.State.{image_layout}
-use Rattle.kr_targets.specs.kr_ops.Meaning.{meaning}
-use Rattle.kr_targets.proofs.kr_seen.CarryLemmas.{by-refusal, by-reply}
-use Rattle.kr_targets.specs.Told.{entry_told}
+use Rattle.kr_seen.specs.pr_base.declared.errno.Errno.TheVariants.{EACCES, EMFILE, ENOTDIR}
+use Rattle.kr_seen.specs.kr_calls.Arguments.{has}
+use Rattle.kr_seen.specs.kr_tree.Tree.{is_file}
+use Rattle.kr_seen.specs.kr_tree.declared.place.Host.TheVariants as host
+use Rattle.kr_seen.specs.kr_files.declared.opened.What.TheVariants.{File}
+use Rattle.kr_seen.specs.kr_model.Applied.{applied, images, in_mount}
+use Rattle.kr_seen.specs.kr_model.Change.{OfFound, OpenFile, SetSize}
+use Rattle.kr_seen.specs.kr_model.DescriptorRows.{o_cloexec}
+use Rattle.kr_seen.specs.kr_model.FileRows.{cut_after, opens_as}
+use Rattle.kr_seen.specs.kr_model.Known.{known}
+use Rattle.kr_seen.specs.kr_model.Reply.{answers, done}
+use Rattle.kr_seen.specs.kr_model.State.{image_layout}
+use Rattle.kr_seen.specs.kr_ops.Meaning.{meaning}
+use Rattle.kr_seen.proofs.CarryLemmas.{by-refusal, by-reply}
+use Rattle.kr_seen.specs.Told.{entry_told}
 use Rattle.kr_names.specs.Opening.{entry_dir, entry_name}
 use Rattle.kr_names.proofs.OpenLemmas.{cut-fits, file-opens, file-refused, file-wanted, opened-body, opened-bytes, opened-makes, under-full, under-goes}
 use Rattle.kr_names.proofs.RoomLemmas.{is-full}

@@ -1,12 +1,12 @@
 use Rattle.std.proofs.Common.{refl, sym, ap, ◌∙◌, true}
-use Rattle.kr_targets.specs.pr_base.declared.errno.Errno.TheVariants.{ELOOP}
-use Rattle.kr_targets.specs.kr_tree.declared.place.Host.TheVariants as host
-use Rattle.kr_targets.specs.kr_model.FileRows.{open_directory, open_host}
-use Rattle.kr_targets.specs.kr_model.Known.{known}
-use Rattle.kr_targets.specs.kr_model.State.{image_layout}
-use Rattle.kr_targets.specs.kr_ops.Meaning.{meaning}
-use Rattle.kr_targets.proofs.kr_seen.CarryLemmas.{by-refusal}
-use Rattle.kr_targets.specs.Told.{looked_told}
+use Rattle.kr_seen.specs.pr_base.declared.errno.Errno.TheVariants.{ELOOP}
+use Rattle.kr_seen.specs.kr_tree.declared.place.Host.TheVariants as host
+use Rattle.kr_seen.specs.kr_model.FileRows.{open_directory, open_host}
+use Rattle.kr_seen.specs.kr_model.Known.{known}
+use Rattle.kr_seen.specs.kr_model.State.{image_layout}
+use Rattle.kr_seen.specs.kr_ops.Meaning.{meaning}
+use Rattle.kr_seen.proofs.CarryLemmas.{by-refusal}
+use Rattle.kr_seen.specs.Told.{looked_told}
 use Rattle.kr_names.proofs.NodeLemmas.{if-false, if-true}
 use Rattle.kr_names.proofs.RowLemmas.{by-row}
 use Rattle.kr_names.proofs.found.open_host.Goals as goal

@@ -1,15 +1,15 @@
 use Rattle.std.proofs.Common.{refl, sym, ap, ◌∙◌}
 use Rattle.std.specs.Option.{option_map}
-use Rattle.kr_targets.specs.pr_base.declared.errno.Errno.TheVariants.{ENOENT, ELOOP}
-use Rattle.kr_targets.specs.kr_inode.declared.user.Right.TheVariants.{Read}
-use Rattle.kr_targets.specs.kr_tree.Tree.{is_directory, is_file, may_be_linked}
-use Rattle.kr_targets.specs.kr_tree.declared.place.Host.TheVariants as host
-use Rattle.kr_targets.specs.kr_model.FileRows.{open_directory, open_file}
-use Rattle.kr_targets.specs.kr_model.Known.{known}
-use Rattle.kr_targets.specs.kr_model.State.{image_layout}
-use Rattle.kr_targets.specs.kr_ops.Meaning.{meaning}
-use Rattle.kr_targets.proofs.kr_seen.CarryLemmas.{by-refusal}
-use Rattle.kr_targets.specs.Told.{entry_told, looked_told}
+use Rattle.kr_seen.specs.pr_base.declared.errno.Errno.TheVariants.{ENOENT, ELOOP}
+use Rattle.kr_seen.specs.kr_inode.declared.user.Right.TheVariants.{Read}
+use Rattle.kr_seen.specs.kr_tree.Tree.{is_directory, is_file, may_be_linked}
+use Rattle.kr_seen.specs.kr_tree.declared.place.Host.TheVariants as host
+use Rattle.kr_seen.specs.kr_model.FileRows.{open_directory, open_file}
+use Rattle.kr_seen.specs.kr_model.Known.{known}
+use Rattle.kr_seen.specs.kr_model.State.{image_layout}
+use Rattle.kr_seen.specs.kr_ops.Meaning.{meaning}
+use Rattle.kr_seen.proofs.CarryLemmas.{by-refusal}
+use Rattle.kr_seen.specs.Told.{entry_told, looked_told}
 use Rattle.kr_names.specs.Opening.{entry_dir, entry_name}
 use Rattle.kr_names.proofs.NodeLemmas.{node-known, node-unknown}
 use Rattle.kr_names.proofs.OpenLemmas.{allowed, nothing, opens-directory, opens-file, opens-link, opens-none, passed, tested}

@@ -1,16 +1,16 @@
 use Rattle.std.proofs.Common.{◌+◌, ◌<◌, ◌^◌, refl, sym, ap, subst, ◌∙◌, [], ◌∷◌, Err, lit<}
-use Rattle.kr_targets.specs.pr_base.declared.errno.Errno.TheVariants.{EPERM, ENOSPC}
-use Rattle.kr_targets.specs.kr_tree.Tree.{is_directory}
-use Rattle.kr_targets.specs.kr_tree.declared.place.Host.{Host}
-use Rattle.kr_targets.specs.kr_tree.Changes.{next_serial}
-use Rattle.kr_targets.specs.kr_view.InTree.{IsObjectOf}
-use Rattle.kr_targets.specs.kr_model.Change.{LinkNode}
-use Rattle.kr_targets.specs.kr_model.Known.{known}
-use Rattle.kr_targets.specs.kr_model.NameRows.{link_host}
-use Rattle.kr_targets.specs.kr_model.Reply.{answers}
-use Rattle.kr_targets.specs.kr_model.State.{image_layout, inode_of}
-use Rattle.kr_targets.specs.kr_ops.Meaning.{meaning}
-use Rattle.kr_targets.proofs.kr_seen.CarryLemmas.{by-refusal, by-reply}
+use Rattle.kr_seen.specs.pr_base.declared.errno.Errno.TheVariants.{EPERM, ENOSPC}
+use Rattle.kr_seen.specs.kr_tree.Tree.{is_directory}
+use Rattle.kr_seen.specs.kr_tree.declared.place.Host.{Host}
+use Rattle.kr_seen.specs.kr_tree.Changes.{next_serial}
+use Rattle.kr_seen.specs.kr_view.InTree.{IsObjectOf}
+use Rattle.kr_seen.specs.kr_model.Change.{LinkNode}
+use Rattle.kr_seen.specs.kr_model.Known.{known}
+use Rattle.kr_seen.specs.kr_model.NameRows.{link_host}
+use Rattle.kr_seen.specs.kr_model.Reply.{answers}
+use Rattle.kr_seen.specs.kr_model.State.{image_layout, inode_of}
+use Rattle.kr_seen.specs.kr_ops.Meaning.{meaning}
+use Rattle.kr_seen.proofs.CarryLemmas.{by-refusal, by-reply}
 use Rattle.kr_names.proofs.LinkLemmas.{directory-unlinked, linkable, links-full, links-goes, links-in, whether}
 use Rattle.kr_names.proofs.NodeLemmas.{known-body}
 use Rattle.kr_names.proofs.RoomLemmas.{ok-no-error}

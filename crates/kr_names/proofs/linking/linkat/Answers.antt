@@ -1,20 +1,20 @@
 use Rattle.std.proofs.Common.{◌+◌, ◌<◌, ◌^◌, refl, sym, ap, subst, ◌∙◌, not, lit<}
 use Rattle.std.specs.Bool.{if◌then◌else◌}
 use Rattle.std.specs.Option.{option_map_or}
-use Rattle.kr_targets.specs.pr_base.declared.errno.Errno.TheVariants.{ENOENT, EEXIST, EXDEV}
-use Rattle.kr_targets.specs.kr_tree.Changes.{next_serial}
-use Rattle.kr_targets.specs.kr_tree.declared.place.Host.{Host}
-use Rattle.kr_targets.specs.kr_model.Known.{known}
-use Rattle.kr_targets.specs.kr_model.NameRows.{link_host, linkat_row}
-use Rattle.kr_targets.specs.kr_model.Operation.{linked as if_linked}
-use Rattle.kr_targets.specs.kr_model.Reply.{refuse}
-use Rattle.kr_targets.specs.kr_model.Seen.{WalkFails}
-use Rattle.kr_targets.specs.kr_model.State.{image_layout, inode_of}
-use Rattle.kr_targets.specs.kr_ops.Meaning.{meaning}
-use Rattle.kr_targets.specs.kr_seen.Numbered.{state_numbered}
-use Rattle.kr_targets.specs.Placed.{target_mounts}
-use Rattle.kr_targets.specs.Told.{linked_told, looked_told, made_told}
-use Rattle.kr_targets.proofs.kr_seen.CarryLemmas.{by-refusal}
+use Rattle.kr_seen.specs.pr_base.declared.errno.Errno.TheVariants.{ENOENT, EEXIST, EXDEV}
+use Rattle.kr_seen.specs.kr_tree.Changes.{next_serial}
+use Rattle.kr_seen.specs.kr_tree.declared.place.Host.{Host}
+use Rattle.kr_seen.specs.kr_model.Known.{known}
+use Rattle.kr_seen.specs.kr_model.NameRows.{link_host, linkat_row}
+use Rattle.kr_seen.specs.kr_model.Operation.{linked as if_linked}
+use Rattle.kr_seen.specs.kr_model.Reply.{refuse}
+use Rattle.kr_seen.specs.kr_model.Seen.{WalkFails}
+use Rattle.kr_seen.specs.kr_model.State.{image_layout, inode_of}
+use Rattle.kr_seen.specs.kr_ops.Meaning.{meaning}
+use Rattle.kr_seen.specs.Numbered.{state_numbered}
+use Rattle.kr_seen.specs.Placed.{target_mounts}
+use Rattle.kr_seen.specs.Told.{linked_told, looked_told, made_told}
+use Rattle.kr_seen.proofs.CarryLemmas.{by-refusal}
 use Rattle.kr_names.proofs.LinkLemmas.{linked-made, linked-object}
 use Rattle.kr_names.proofs.MadeLemmas.{made-dir, made-free}
 use Rattle.kr_names.proofs.RowLemmas.{by-row}

@@ -1,18 +1,18 @@
 use Rattle.std.proofs.Common.{refl, sym, ap, subst, ◌∙◌, ◌+◌, ◌<◌, ◌^◌, [], lit<}
-use Rattle.kr_targets.specs.pr_base.declared.errno.Errno.TheVariants.{ENOENT, EEXIST}
-use Rattle.kr_targets.specs.kr_tree.Changes.{next_serial}
-use Rattle.kr_targets.specs.kr_tree.Tree.{SymbolicLink}
-use Rattle.kr_targets.specs.kr_tree.declared.place.Host.{Host}
-use Rattle.kr_targets.specs.kr_model.Asking.{writable}
-use Rattle.kr_targets.specs.kr_model.Known.{known}
-use Rattle.kr_targets.specs.kr_model.NameRows.{make_link, symlinkat_row}
-use Rattle.kr_targets.specs.kr_model.Reply.{refuse}
+use Rattle.kr_seen.specs.pr_base.declared.errno.Errno.TheVariants.{ENOENT, EEXIST}
+use Rattle.kr_seen.specs.kr_tree.Changes.{next_serial}
+use Rattle.kr_seen.specs.kr_tree.Tree.{SymbolicLink}
+use Rattle.kr_seen.specs.kr_tree.declared.place.Host.{Host}
+use Rattle.kr_seen.specs.kr_model.Asking.{writable}
+use Rattle.kr_seen.specs.kr_model.Known.{known}
+use Rattle.kr_seen.specs.kr_model.NameRows.{make_link, symlinkat_row}
+use Rattle.kr_seen.specs.kr_model.Reply.{refuse}
 use Rattle.std.specs.Bool.{if◌then◌else◌}
-use Rattle.kr_targets.specs.kr_model.State.{image_layout, inode_of}
-use Rattle.kr_targets.specs.kr_ops.Meaning.{meaning}
-use Rattle.kr_targets.specs.kr_seen.Numbered.{state_numbered}
-use Rattle.kr_targets.specs.Placed.{target_mounts}
-use Rattle.kr_targets.proofs.kr_seen.CarryLemmas.{by-refusal}
+use Rattle.kr_seen.specs.kr_model.State.{image_layout, inode_of}
+use Rattle.kr_seen.specs.kr_ops.Meaning.{meaning}
+use Rattle.kr_seen.specs.Numbered.{state_numbered}
+use Rattle.kr_seen.specs.Placed.{target_mounts}
+use Rattle.kr_seen.proofs.CarryLemmas.{by-refusal}
 use Rattle.kr_names.specs.Adding.{adding}
 use Rattle.kr_names.proofs.MadeLemmas.{made-dir, made-free}
 use Rattle.kr_names.proofs.RowLemmas.{by-row}

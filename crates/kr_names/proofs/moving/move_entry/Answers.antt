@@ -1,15 +1,15 @@
 use Rattle.std.proofs.Common.{◌≡◌, ◌+◌, ◌<◌, ◌^◌, refl, sym, ap, subst, ◌∙◌, false, [], ◌∷◌, lit<}
-use Rattle.kr_targets.specs.kr_tree.Changes.{next_serial}
-use Rattle.kr_targets.specs.kr_tree.declared.place.Host.{Host}
-use Rattle.kr_targets.specs.kr_tree.declared.place.Host.TheVariants as host
-use Rattle.kr_targets.specs.kr_model.Change.{MoveName}
-use Rattle.kr_targets.specs.kr_model.Known.{known}
-use Rattle.kr_targets.specs.kr_model.NameRows.{is_at_or_above}
-use Rattle.kr_targets.specs.kr_model.Reply.{answers}
-use Rattle.kr_targets.specs.kr_model.State.{image_layout, inode_of}
-use Rattle.kr_targets.specs.kr_ops.Meaning.{meaning}
-use Rattle.kr_targets.specs.Told.{entered_told}
-use Rattle.kr_targets.proofs.kr_seen.CarryLemmas.{by-refusal, by-reply}
+use Rattle.kr_seen.specs.kr_tree.Changes.{next_serial}
+use Rattle.kr_seen.specs.kr_tree.declared.place.Host.{Host}
+use Rattle.kr_seen.specs.kr_tree.declared.place.Host.TheVariants as host
+use Rattle.kr_seen.specs.kr_model.Change.{MoveName}
+use Rattle.kr_seen.specs.kr_model.Known.{known}
+use Rattle.kr_seen.specs.kr_model.NameRows.{is_at_or_above}
+use Rattle.kr_seen.specs.kr_model.Reply.{answers}
+use Rattle.kr_seen.specs.kr_model.State.{image_layout, inode_of}
+use Rattle.kr_seen.specs.kr_ops.Meaning.{meaning}
+use Rattle.kr_seen.specs.Told.{entered_told}
+use Rattle.kr_seen.proofs.CarryLemmas.{by-refusal, by-reply}
 use Rattle.kr_names.specs.Moving.{HasNodes}
 use Rattle.kr_names.proofs.MoveLemmas.{lawful-move, not-below}
 use Rattle.kr_names.proofs.moving.move_entry.Goals as goal

@@ -1,14 +1,14 @@
 use Rattle.std.proofs.Common.{refl, sym, ◌∙◌, true, false, []}
-use Rattle.kr_targets.specs.pr_base.declared.errno.Errno.TheVariants.{EBUSY, ENOTDIR, EINVAL, ENOTEMPTY}
-use Rattle.kr_targets.specs.kr_model.Known.{known}
-use Rattle.kr_targets.specs.kr_model.Reply.{answers}
-use Rattle.kr_targets.specs.kr_model.State.{image_layout}
-use Rattle.kr_targets.specs.kr_ops.Meaning.{meaning}
-use Rattle.kr_targets.specs.Told.{entered_told}
-use Rattle.kr_targets.proofs.kr_seen.CarryLemmas.{by-refusal, by-reply}
+use Rattle.kr_seen.specs.pr_base.declared.errno.Errno.TheVariants.{EBUSY, ENOTDIR, EINVAL, ENOTEMPTY}
+use Rattle.kr_seen.specs.kr_model.Known.{known}
+use Rattle.kr_seen.specs.kr_model.Reply.{answers}
+use Rattle.kr_seen.specs.kr_model.State.{image_layout}
+use Rattle.kr_seen.specs.kr_ops.Meaning.{meaning}
+use Rattle.kr_seen.specs.Told.{entered_told}
+use Rattle.kr_seen.proofs.CarryLemmas.{by-refusal, by-reply}
 use Rattle.kr_names.proofs.MoveLemmas.{found-by}
 use Rattle.kr_names.proofs.RowLemmas.{by-row}
-use Rattle.kr_targets.specs.kr_model.NameRows.{move_entry}
+use Rattle.kr_seen.specs.kr_model.NameRows.{move_entry}
 use Rattle.kr_names.proofs.moving.move_found.Goals as goal
 
 pub returns-then-is_processes_host-clause-performs : goal.returns-then-is_processes_host-clause-performs

@@ -1,8 +1,8 @@
 use Rattle.std.proofs.Common.{sym, refl, ◌∙◌, true, false}
-use Rattle.kr_targets.specs.kr_tree.Tree.{is_directory, is_filled}
-use Rattle.kr_targets.specs.kr_model.Known.{known}
-use Rattle.kr_targets.specs.kr_model.State.{image_layout}
-use Rattle.kr_targets.specs.kr_ops.Meaning.{meaning}
+use Rattle.kr_seen.specs.kr_tree.Tree.{is_directory, is_filled}
+use Rattle.kr_seen.specs.kr_model.Known.{known}
+use Rattle.kr_seen.specs.kr_model.State.{image_layout}
+use Rattle.kr_seen.specs.kr_ops.Meaning.{meaning}
 use Rattle.kr_names.proofs.MoveLemmas.{alike, alike-filled, alike-goes, over-by, unlike}
 use Rattle.kr_names.proofs.NodeLemmas.{known-tested}
 use Rattle.kr_names.proofs.moving.test_kinds.Goals as goal

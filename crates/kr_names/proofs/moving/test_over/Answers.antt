@@ -1,7 +1,7 @@
 use Rattle.std.proofs.Common.{sym, ◌∙◌}
-use Rattle.kr_targets.specs.kr_model.Known.{known}
-use Rattle.kr_targets.specs.kr_model.State.{image_layout}
-use Rattle.kr_targets.specs.kr_ops.Meaning.{meaning}
+use Rattle.kr_seen.specs.kr_model.Known.{known}
+use Rattle.kr_seen.specs.kr_model.State.{image_layout}
+use Rattle.kr_seen.specs.kr_ops.Meaning.{meaning}
 use Rattle.kr_names.proofs.MoveLemmas.{new-kept, onto-over, over-gone, over-kept}
 use Rattle.kr_names.proofs.NodeLemmas.{meta-gone, meta-there, node-known, node-unknown}
 use Rattle.kr_names.proofs.moving.test_over.Goals as goal

@@ -1,21 +1,21 @@
 use Rattle.std.proofs.Common.{◌+◌, ◌<◌, ◌^◌, refl, sym, ap, subst, ◌∙◌, Some, lit<}
 use Rattle.std.specs.Bool.{if◌then◌else◌}
 use Rattle.std.specs.Option.{option_map, option_map_or}
-use Rattle.kr_targets.specs.pr_base.declared.errno.Errno.TheVariants.{ENOENT, EEXIST, EISDIR}
-use Rattle.kr_targets.specs.kr_tree.Changes.{next_serial}
-use Rattle.kr_targets.specs.kr_tree.declared.place.Host.{Host}
-use Rattle.kr_targets.specs.kr_model.FileRows.{open_found, open_new, openat_row}
-use Rattle.kr_targets.specs.kr_model.Known.{known}
-use Rattle.kr_targets.specs.kr_model.Operation.{opened as if_opened}
-use Rattle.kr_targets.specs.kr_model.Reply.{refuse}
-use Rattle.kr_targets.specs.kr_model.Seen.{Opens, WalkFails}
-use Rattle.kr_targets.specs.kr_model.State.{image_layout, inode_of}
-use Rattle.kr_targets.specs.kr_ops.Meaning.{meaning}
-use Rattle.kr_targets.proofs.kr_ops.UseLemmas.{sound-of}
-use Rattle.kr_targets.specs.kr_seen.Numbered.{state_numbered}
-use Rattle.kr_targets.specs.Placed.{target_mounts}
-use Rattle.kr_targets.specs.Told.{looked_told, opening_told}
-use Rattle.kr_targets.proofs.kr_seen.CarryLemmas.{by-refusal}
+use Rattle.kr_seen.specs.pr_base.declared.errno.Errno.TheVariants.{ENOENT, EEXIST, EISDIR}
+use Rattle.kr_seen.specs.kr_tree.Changes.{next_serial}
+use Rattle.kr_seen.specs.kr_tree.declared.place.Host.{Host}
+use Rattle.kr_seen.specs.kr_model.FileRows.{open_found, open_new, openat_row}
+use Rattle.kr_seen.specs.kr_model.Known.{known}
+use Rattle.kr_seen.specs.kr_model.Operation.{opened as if_opened}
+use Rattle.kr_seen.specs.kr_model.Reply.{refuse}
+use Rattle.kr_seen.specs.kr_model.Seen.{Opens, WalkFails}
+use Rattle.kr_seen.specs.kr_model.State.{image_layout, inode_of}
+use Rattle.kr_seen.specs.kr_ops.Meaning.{meaning}
+use Rattle.kr_seen.proofs.kr_ops.UseLemmas.{sound-of}
+use Rattle.kr_seen.specs.Numbered.{state_numbered}
+use Rattle.kr_seen.specs.Placed.{target_mounts}
+use Rattle.kr_seen.specs.Told.{looked_told, opening_told}
+use Rattle.kr_seen.proofs.CarryLemmas.{by-refusal}
 use Rattle.kr_names.proofs.OpeningLemmas.{new-dir, new-free, opened-object, opened-place}
 use Rattle.kr_names.proofs.RowLemmas.{by-row}
 use Rattle.kr_names.proofs.opening.openat.Goals as goal

@@ -1,15 +1,15 @@
 use Rattle.std.proofs.Common.{refl, sym, ap, ◌∙◌, lit<}
 use Rattle.std.specs.Option.{option_map_or}
-use Rattle.kr_targets.specs.pr_base.declared.errno.Errno.TheVariants.{ENOENT, EBUSY}
-use Rattle.kr_targets.specs.kr_model.Known.{known}
-use Rattle.kr_targets.specs.kr_model.NameRows.{ending_removed, rmdir_found, rmdir_row}
-use Rattle.kr_targets.specs.kr_model.Reply.{refusal, refuse}
-use Rattle.kr_targets.specs.kr_model.State.{image_layout}
-use Rattle.kr_targets.specs.kr_ops.Meaning.{meaning}
-use Rattle.kr_targets.specs.kr_seen.Numbered.{state_numbered}
-use Rattle.kr_targets.specs.Placed.{target_mounts}
-use Rattle.kr_targets.specs.Told.{entered_told}
-use Rattle.kr_targets.proofs.kr_seen.CarryLemmas.{by-refusal}
+use Rattle.kr_seen.specs.pr_base.declared.errno.Errno.TheVariants.{ENOENT, EBUSY}
+use Rattle.kr_seen.specs.kr_model.Known.{known}
+use Rattle.kr_seen.specs.kr_model.NameRows.{ending_removed, rmdir_found, rmdir_row}
+use Rattle.kr_seen.specs.kr_model.Reply.{refusal, refuse}
+use Rattle.kr_seen.specs.kr_model.State.{image_layout}
+use Rattle.kr_seen.specs.kr_ops.Meaning.{meaning}
+use Rattle.kr_seen.specs.Numbered.{state_numbered}
+use Rattle.kr_seen.specs.Placed.{target_mounts}
+use Rattle.kr_seen.specs.Told.{entered_told}
+use Rattle.kr_seen.proofs.CarryLemmas.{by-refusal}
 use Rattle.kr_names.proofs.RowLemmas.{by-row}
 use Rattle.kr_names.proofs.TakeLemmas.{taken-entry}
 use Rattle.kr_names.proofs.removing.rmdir.Goals as goal

@@ -1,13 +1,13 @@
 use Rattle.std.proofs.Common.{refl, sym, ◌∙◌, [], ◌∷◌, lit<}
-use Rattle.kr_targets.specs.pr_base.declared.errno.Errno.TheVariants.{EBUSY, ENOTDIR, ENOTEMPTY}
-use Rattle.kr_targets.specs.kr_tree.Tree.{is_directory, is_filled}
-use Rattle.kr_targets.specs.kr_model.Change.{RemoveName}
-use Rattle.kr_targets.specs.kr_model.Known.{known}
-use Rattle.kr_targets.specs.kr_model.Reply.{answers}
-use Rattle.kr_targets.specs.kr_model.State.{image_layout}
-use Rattle.kr_targets.specs.kr_ops.Meaning.{meaning}
-use Rattle.kr_targets.specs.Told.{entered_told}
-use Rattle.kr_targets.proofs.kr_seen.CarryLemmas.{by-refusal, by-reply}
+use Rattle.kr_seen.specs.pr_base.declared.errno.Errno.TheVariants.{EBUSY, ENOTDIR, ENOTEMPTY}
+use Rattle.kr_seen.specs.kr_tree.Tree.{is_directory, is_filled}
+use Rattle.kr_seen.specs.kr_model.Change.{RemoveName}
+use Rattle.kr_seen.specs.kr_model.Known.{known}
+use Rattle.kr_seen.specs.kr_model.Reply.{answers}
+use Rattle.kr_seen.specs.kr_model.State.{image_layout}
+use Rattle.kr_seen.specs.kr_ops.Meaning.{meaning}
+use Rattle.kr_seen.specs.Told.{entered_told}
+use Rattle.kr_seen.proofs.CarryLemmas.{by-refusal, by-reply}
 use Rattle.kr_names.proofs.NodeLemmas.{known-tested}
 use Rattle.kr_names.proofs.TakeLemmas.{directory-goes, entry-empty, filled-kept, other-kept, rmdir-goes, rmdir-processes}
 use Rattle.kr_names.proofs.removing.rmdir_found.Goals as goal

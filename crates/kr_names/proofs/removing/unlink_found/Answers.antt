@@ -1,13 +1,13 @@
 use Rattle.std.proofs.Common.{refl, sym, ◌∙◌, true, false, [], ◌∷◌, lit<}
-use Rattle.kr_targets.specs.pr_base.declared.errno.Errno.TheVariants.{EBUSY, ENOTDIR, EISDIR}
-use Rattle.kr_targets.specs.kr_tree.Tree.{is_directory}
-use Rattle.kr_targets.specs.kr_model.Change.{RemoveName}
-use Rattle.kr_targets.specs.kr_model.Known.{known}
-use Rattle.kr_targets.specs.kr_model.Reply.{answers}
-use Rattle.kr_targets.specs.kr_model.State.{image_layout}
-use Rattle.kr_targets.specs.kr_ops.Meaning.{meaning}
-use Rattle.kr_targets.specs.Told.{entered_told}
-use Rattle.kr_targets.proofs.kr_seen.CarryLemmas.{by-refusal, by-reply}
+use Rattle.kr_seen.specs.pr_base.declared.errno.Errno.TheVariants.{EBUSY, ENOTDIR, EISDIR}
+use Rattle.kr_seen.specs.kr_tree.Tree.{is_directory}
+use Rattle.kr_seen.specs.kr_model.Change.{RemoveName}
+use Rattle.kr_seen.specs.kr_model.Known.{known}
+use Rattle.kr_seen.specs.kr_model.Reply.{answers}
+use Rattle.kr_seen.specs.kr_model.State.{image_layout}
+use Rattle.kr_seen.specs.kr_ops.Meaning.{meaning}
+use Rattle.kr_seen.specs.Told.{entered_told}
+use Rattle.kr_seen.proofs.CarryLemmas.{by-refusal, by-reply}
 use Rattle.kr_names.proofs.NodeLemmas.{known-tested}
 use Rattle.kr_names.proofs.TakeLemmas.{entry-empty, file-empty, file-goes, file-kept, unlink-goes, unlink-processes, unlink-slash}
 use Rattle.kr_names.proofs.removing.unlink_found.Goals as goal

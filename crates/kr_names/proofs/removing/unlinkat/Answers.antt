@@ -1,11 +1,11 @@
 use Rattle.std.proofs.Common.{sym, ap, ◌∙◌}
 use Rattle.std.specs.Bool.{if◌then◌else◌}
-use Rattle.kr_targets.specs.kr_model.Known.{known}
-use Rattle.kr_targets.specs.kr_model.NameRows.{rmdir_row, unlink_row}
-use Rattle.kr_targets.specs.kr_model.State.{image_layout}
-use Rattle.kr_targets.specs.kr_ops.Meaning.{meaning}
-use Rattle.kr_targets.specs.Placed.{target_mounts}
-use Rattle.kr_targets.specs.Performing.{seen_taken}
+use Rattle.kr_seen.specs.kr_model.Known.{known}
+use Rattle.kr_seen.specs.kr_model.NameRows.{rmdir_row, unlink_row}
+use Rattle.kr_seen.specs.kr_model.State.{image_layout}
+use Rattle.kr_seen.specs.kr_ops.Meaning.{meaning}
+use Rattle.kr_seen.specs.Placed.{target_mounts}
+use Rattle.kr_seen.specs.Performing.{seen_taken}
 use Rattle.kr_names.proofs.RowLemmas.{by-row}
 use Rattle.kr_names.proofs.removing.unlinkat.Goals as goal
 

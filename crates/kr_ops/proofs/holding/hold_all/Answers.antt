@@ -1,10 +1,10 @@
 use Rattle.std.proofs.Common.{◌≡◌, ◌<◌, arith, subst, sym, Option}
 use Rattle.std.specs.Prelude.{IfSome}
-use Rattle.kr_lawful.specs.kr_tree.Holds.{holds_at}
-use Rattle.kr_lawful.specs.kr_tree.declared.place.Place.{Place}
-use Rattle.kr_lawful.specs.kr_files.Descriptors.{meanings}
-use Rattle.kr_lawful.specs.kr_model.Applied.{held_for}
-use Rattle.kr_lawful.specs.kr_model.State.{inode_of}
+use Rattle.law_lawful.specs.kr_tree.Holds.{holds_at}
+use Rattle.law_lawful.specs.kr_tree.declared.place.Place.{Place}
+use Rattle.law_lawful.specs.kr_files.Descriptors.{meanings}
+use Rattle.law_lawful.specs.kr_model.Applied.{held_for}
+use Rattle.law_lawful.specs.kr_model.State.{inode_of}
 use Rattle.kr_ops.proofs.ForkLemmas.{none-held, next-held, there-for, fits-for}
 use Rattle.kr_ops.proofs.holding.hold_all.Goals as goal
 

@@ -1,6 +1,6 @@
 use Rattle.std.proofs.Common.{◌≡◌}
-use Rattle.kr_lawful.specs.kr_files.Descriptors.{meanings}
-use Rattle.kr_lawful.specs.kr_model.Applied.{held_for}
+use Rattle.law_lawful.specs.kr_files.Descriptors.{meanings}
+use Rattle.law_lawful.specs.kr_model.Applied.{held_for}
 use Rattle.kr_ops.proofs.holding.hold_all.Given as goal
 
 abbrev pub invariant-loop-fd : goal.invariant-loop-fd

@@ -1,5 +1,5 @@
 use Rattle.std.proofs.Common.{refl, sym, subst, None}
-use Rattle.kr_resolved.specs.kr_calls.declared.request.Request.TheVariants as call
+use Rattle.law_allowed.specs.kr_calls.declared.request.Request.TheVariants as call
 use Rattle.kr_perform.specs.Operating.{OperatesAt}
 use Rattle.kr_perform.proofs.OperatingLemmas.{nowhere}
 use Rattle.kr_perform.proofs.asking.faccessat.Goals as goal

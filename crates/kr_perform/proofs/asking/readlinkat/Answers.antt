@@ -1,6 +1,6 @@
 use Rattle.std.proofs.Common.{refl, sym, subst, None, Some, w32}
 use Rattle.std.proofs.Math.Facts.{to_z-of_z}
-use Rattle.kr_resolved.specs.kr_calls.declared.request.Request.TheVariants as call
+use Rattle.law_allowed.specs.kr_calls.declared.request.Request.TheVariants as call
 use Rattle.kr_perform.specs.Operating.{OperatesAt}
 use Rattle.kr_perform.proofs.OperatingLemmas.{nowhere}
 use Rattle.kr_perform.proofs.asking.readlinkat.Goals as goal

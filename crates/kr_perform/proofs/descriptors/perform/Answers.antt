@@ -1,9 +1,9 @@
 use Rattle.std.proofs.Common.{◌≡◌, subst, rules, w32, w64, to_z, of_z}
 use Rattle.kr_transfer.specs.kr_rows.Performing.{Performs}
-use Rattle.kr_resolved.specs.kr_model.AttributeRows.{fchmod_row, fchown_row, fstat_row}
-use Rattle.kr_resolved.specs.kr_model.DescriptorRows.{dup_row, dup3_row, fcntl_row, ioctl_row, close_row, lseek_row}
-use Rattle.kr_resolved.specs.kr_model.DirectoryRows.{fchdir_row, getdents64_row}
-use Rattle.kr_resolved.specs.kr_model.FileRows.{read_row, readv_row, write_row, writev_row, ftruncate_row}
+use Rattle.law_allowed.specs.kr_model.AttributeRows.{fchmod_row, fchown_row, fstat_row}
+use Rattle.law_allowed.specs.kr_model.DescriptorRows.{dup_row, dup3_row, fcntl_row, ioctl_row, close_row, lseek_row}
+use Rattle.law_allowed.specs.kr_model.DirectoryRows.{fchdir_row, getdents64_row}
+use Rattle.law_allowed.specs.kr_model.FileRows.{read_row, readv_row, write_row, writev_row, ftruncate_row}
 use Rattle.kr_perform.proofs.OperatingLemmas.{alone}
 use Rattle.kr_perform.proofs.descriptors.perform.Goals as goal
 

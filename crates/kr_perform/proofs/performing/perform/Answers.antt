@@ -1,5 +1,5 @@
 use Rattle.std.proofs.Common.{◌≡◌, sym, subst, rules, w32, to_z, of_z}
-use Rattle.kr_resolved.specs.kr_calls.declared.request.Request.TheVariants as call
+use Rattle.law_allowed.specs.kr_calls.declared.request.Request.TheVariants as call
 use Rattle.kr_perform.specs.Operating.{OperatesAt}
 use Rattle.kr_perform.proofs.OperatingLemmas.{at-mounts}
 use Rattle.kr_perform.proofs.performing.perform.Goals as goal

@@ -1,6 +1,6 @@
 use Rattle.std.proofs.Common.{refl, sym, ap, ◌∙◌, [], ◌∷◌, Err}
 use Rattle.kr_seen.specs.pr_base.declared.errno.Errno.TheVariants.{EINVAL, EMFILE}
-use Rattle.kr_seen.proofs.kr_lawful.AfterLemmas.{some-of}
+use Rattle.kr_seen.proofs.law_lawful.AfterLemmas.{some-of}
 use Rattle.kr_seen.specs.kr_model.Change.{CopyDescriptor}
 use Rattle.kr_seen.specs.kr_model.DescriptorRows.{copy_under}
 use Rattle.kr_seen.specs.kr_model.Known.{known}

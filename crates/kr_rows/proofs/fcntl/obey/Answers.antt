@@ -2,7 +2,7 @@ use Rattle.std.proofs.Common.{refl, sym, ap, ◌∙◌, [], ◌∷◌, ◌%◌, 
 use Rattle.std.specs.Option.{option_map}
 use Rattle.kr_seen.specs.kr_calls.Arguments.{has}
 use Rattle.kr_seen.specs.kr_files.WithoutMounts.{without_mount}
-use Rattle.kr_seen.proofs.kr_lawful.AfterLemmas.{some-of}
+use Rattle.kr_seen.proofs.law_lawful.AfterLemmas.{some-of}
 use Rattle.kr_seen.specs.kr_model.Change.{SetAppend, SetCloexec}
 use Rattle.kr_seen.specs.kr_model.DescriptorRows.{cloexec_flag, copy_from, status_flags}
 use Rattle.kr_seen.specs.kr_model.Known.{known}

@@ -1,9 +1,9 @@
 use Rattle.std.proofs.Common.{sym, ap, ◌∙◌, arith, subst}
 use Rattle.std.specs.Prelude.{map as map_list}
-use Rattle.kr_ops.specs.kr_model.Lawful.{IsLawful}
+use Rattle.law_walks.specs.kr_model.Lawful.{IsLawful}
 use Rattle.kr_ops.specs.Meaning.{meaning, process_meaning}
 use Rattle.kr_start.specs.Start.{first_of, first_process, with_console}
-use Rattle.kr_ops.proofs.kr_lawful.AfterLemmas.{object-there}
+use Rattle.kr_ops.proofs.law_lawful.AfterLemmas.{object-there}
 use Rattle.kr_start.proofs.StartLemmas.{born-lawful}
 use Rattle.kr_start.proofs.FirstLemmas.{on-ok, still-there, hold-fits, idle-holds, means-first, put-means, lives-alone, first-served, none-open}
 use Rattle.kr_start.proofs.first.begin.Goals as goal

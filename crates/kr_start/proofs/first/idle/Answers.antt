@@ -1,6 +1,6 @@
 use Rattle.std.proofs.Common.{sym, ap, subst}
 use Rattle.std.specs.Prelude.{map as map_list}
-use Rattle.kr_ops.specs.kr_model.Lawful.{IsLawful}
+use Rattle.law_walks.specs.kr_model.Lawful.{IsLawful}
 use Rattle.kr_ops.specs.Meaning.{ended_meaning, process_meaning}
 use Rattle.kr_start.specs.Start.{CanBegin}
 use Rattle.kr_start.proofs.StartLemmas.{empty-lawful, can-begin}

@@ -1,6 +1,6 @@
 use Rattle.std.proofs.Common.{arith, refl, ◌∙◌, ap, true, false}
-use Rattle.kr_ops.specs.kr_files.declared.opened.What.TheVariants.{Out, Err as ErrorPart}
-use Rattle.kr_ops.specs.kr_model.Applied.{open_in}
+use Rattle.law_walks.specs.kr_files.declared.opened.What.TheVariants.{Out, Err as ErrorPart}
+use Rattle.law_walks.specs.kr_model.Applied.{open_in}
 use Rattle.kr_start.specs.Start.{first_pid, console}
 use Rattle.kr_start.proofs.FirstLemmas.{on-ok}
 use Rattle.kr_start.proofs.first.open_console.Goals as goal

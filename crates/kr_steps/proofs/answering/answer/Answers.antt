@@ -1,10 +1,10 @@
 use Rattle.std.proofs.Common.{false, ap, ◌∙◌, w64}
 use Rattle.std.specs.Int.{cast_unsigned}
 use Rattle.std.proofs.Math.Facts.{to_z-of_z}
-use Rattle.kr_calling.specs.kr_model.Applied.{with_living}
-use Rattle.kr_calling.specs.kr_model.State.{with_process}
-use Rattle.kr_calling.specs.kr_ops.Meaning.{meaning}
-use Rattle.kr_calling.proofs.kr_ops.ChangeLemmas.{nobody-changed}
+use Rattle.kr_perform.specs.kr_model.Applied.{with_living}
+use Rattle.kr_perform.specs.kr_model.State.{with_process}
+use Rattle.kr_perform.specs.kr_ops.Meaning.{meaning}
+use Rattle.kr_perform.proofs.kr_ops.ChangeLemmas.{nobody-changed}
 use Rattle.kr_steps.specs.Answering.{going, with_answer, with_word}
 use Rattle.kr_steps.proofs.ComputingLemmas.{going-means, going-runs}
 use Rattle.kr_steps.proofs.answering.answer.Goals as goal

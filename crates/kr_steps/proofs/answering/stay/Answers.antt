@@ -1,5 +1,5 @@
 use Rattle.std.proofs.Common.{true}
-use Rattle.kr_calling.proofs.kr_ops.ChangeLemmas.{nobody-changed}
+use Rattle.kr_perform.proofs.kr_ops.ChangeLemmas.{nobody-changed}
 use Rattle.kr_steps.specs.Answering.{going}
 use Rattle.kr_steps.proofs.ComputingLemmas.{going-means, going-runs}
 use Rattle.kr_steps.proofs.answering.stay.Goals as goal

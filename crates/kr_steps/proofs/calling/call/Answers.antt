@@ -1,7 +1,7 @@
 use Rattle.std.proofs.Common.{◌≡◌, ◌∙◌, ap, lit<, refl, rules, to_z, of_z, w64}
-use Rattle.kr_calling.specs.kr_model.declared.outcome.Outcome.TheVariants as outcome
-use Rattle.kr_calling.specs.kr_ops.Meaning.{meaning}
-use Rattle.kr_calling.proofs.kr_ops.UseLemmas.{sound-of}
+use Rattle.kr_perform.specs.kr_model.declared.outcome.Outcome.TheVariants as outcome
+use Rattle.kr_perform.specs.kr_ops.Meaning.{meaning}
+use Rattle.kr_perform.proofs.kr_ops.UseLemmas.{sound-of}
 use Rattle.kr_steps.specs.Answering.{answered}
 use Rattle.kr_steps.proofs.calling.call.Goals as goal
 

@@ -1,6 +1,6 @@
 use Rattle.std.proofs.Common.{◌≡◌}
 use Rattle.rv_cpu.specs.Run.{Ran, ran}
-use Rattle.kr_calling.proofs.kr_ops.OpeningLemmas.{not-living}
+use Rattle.kr_perform.proofs.kr_ops.OpeningLemmas.{not-living}
 use Rattle.kr_steps.specs.Computing.{Computes}
 use Rattle.kr_steps.proofs.ComputingLemmas.{computes-now, ok-computes, ok-runs, runs-on}
 use Rattle.kr_steps.proofs.instructions.compute.Goals as goal

@@ -1,7 +1,7 @@
 use Rattle.std.proofs.Common.{subst}
 use Rattle.std.specs.Prelude.{OnOk}
-use Rattle.kr_calling.specs.kr_model.Change.{End}
-use Rattle.kr_calling.specs.kr_ops.Making.{Makes}
+use Rattle.kr_perform.specs.kr_model.Change.{End}
+use Rattle.kr_perform.specs.kr_ops.Making.{Makes}
 use Rattle.kr_steps.proofs.KillLemmas.{ended-runs, on-ok}
 use Rattle.kr_steps.proofs.killing.kill.Goals as goal
 

@@ -3,12 +3,12 @@ use Rattle.std.specs.Prelude.{is_some}
 use Rattle.std.specs.List.{list_any}
 use Rattle.std.specs.Option.{option_map}
 use Rattle.std.proofs.Math.Facts.{to_z-of_z}
-use Rattle.kr_calling.specs.kr_model.Known.{Family, known}
-use Rattle.kr_calling.specs.kr_model.ProcessRows.{is_meant}
-use Rattle.kr_calling.specs.kr_model.State as model
-use Rattle.kr_calling.specs.kr_ops.Children.{means}
-use Rattle.kr_calling.specs.kr_ops.Meaning.{ended_meaning, meaning}
-use Rattle.kr_calling.proofs.kr_rows.WaitLemmas.{meant-ended, meant-living}
+use Rattle.kr_perform.specs.kr_model.Known.{Family, known}
+use Rattle.kr_perform.specs.kr_model.ProcessRows.{is_meant}
+use Rattle.kr_perform.specs.kr_model.State as model
+use Rattle.kr_perform.specs.kr_ops.Children.{means}
+use Rattle.kr_perform.specs.kr_ops.Meaning.{ended_meaning, meaning}
+use Rattle.kr_perform.proofs.kr_rows.WaitLemmas.{meant-ended, meant-living}
 use Rattle.kr_steps.proofs.picking.child_waits.Goals as goal
 
 pub returns-in-Some : goal.returns-in-Some

@@ -2,8 +2,8 @@ use Rattle.std.proofs.Common.{◌≡◌, ℕ, arith, length, ◌<◌, ◌+◌, �
 use Rattle.std.specs.Prelude.{IfSome}
 use Rattle.std.specs.List.{filter}
 use Rattle.std.specs.Option.{option_map}
-use Rattle.kr_calling.specs.kr_model.State.{Image, Process}
-use Rattle.kr_calling.specs.kr_ops.Meaning.{meaning, process_meaning}
+use Rattle.kr_perform.specs.kr_model.State.{Image, Process}
+use Rattle.kr_perform.specs.kr_ops.Meaning.{meaning, process_meaning}
 use Rattle.kr_steps.specs.Waiting.{goes_on}
 use Rattle.kr_steps.proofs.PickLemmas.{element, failed-next, passed-first, passed-next, process-at}
 use Rattle.kr_steps.proofs.picking.ready.Goals.{then-goes_on+else-before-eq0, else-goes_on}

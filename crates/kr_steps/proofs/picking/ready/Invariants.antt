@@ -1,6 +1,6 @@
 use Rattle.std.proofs.Common.{◌≡◌, drop, slice_get}
 use Rattle.std.specs.List.{filter}
-use Rattle.kr_calling.specs.kr_ops.Meaning.{meaning}
+use Rattle.kr_perform.specs.kr_ops.Meaning.{meaning}
 use Rattle.kr_steps.specs.Waiting.{goes_on, ready_processes}
 use Rattle.kr_steps.proofs.picking.ready.Given as goal
 

@@ -1,7 +1,7 @@
 use Rattle.std.proofs.Common.{◌≡◌, ◌∙◌, ◌<◌, arith, sym, subst, Option, length}
 use Rattle.std.specs.Prelude.{IfSome}
-use Rattle.kr_calling.specs.kr_model.State.{Image, Process}
-use Rattle.kr_calling.specs.kr_ops.Meaning.{meaning, process_meaning}
+use Rattle.kr_perform.specs.kr_model.State.{Image, Process}
+use Rattle.kr_perform.specs.kr_ops.Meaning.{meaning, process_meaning}
 use Rattle.kr_steps.specs.Waiting.{goes_on}
 use Rattle.kr_steps.proofs.PickLemmas.{counted-more, counted-same, element, failed-same, passed-more}
 use Rattle.kr_steps.proofs.picking.ready_number.Goals.{then-goes_on, else-goes_on}

@@ -1,5 +1,5 @@
-use Rattle.kr_calling.proofs.kr_ops.OpeningLemmas.{not-living}
-use Rattle.kr_calling.specs.kr_allowed.Calls.{HasTextPaths, IsGivable}
+use Rattle.kr_perform.proofs.kr_ops.OpeningLemmas.{not-living}
+use Rattle.kr_perform.specs.law_allowed.Calls.{HasTextPaths, IsGivable}
 use Rattle.kr_steps.proofs.ComputingLemmas.{are-given, ok-first, ok-second, requested-now, requested-runs}
 use Rattle.kr_steps.proofs.requesting.request.Goals as goal
 

@@ -1,7 +1,7 @@
 use Rattle.std.proofs.Common.{None, false, lit<, refl, sym, ap, ◌∙◌}
-use Rattle.kr_hostview.specs.kr_ops.Meaning.{meaning}
-use Rattle.kr_hostview.proofs.kr_ops.UseLemmas.{sound-of}
-use Rattle.kr_hostview.specs.kr_seen.Numbered.{state_numbered}
+use Rattle.kr_seen.specs.kr_ops.Meaning.{meaning}
+use Rattle.kr_seen.proofs.kr_ops.UseLemmas.{sound-of}
+use Rattle.kr_seen.specs.Numbered.{state_numbered}
 use Rattle.kr_execve.specs.Execution.{execution_reach}
 use Rattle.kr_turns.specs.Breaking.{nothing_reached}
 use Rattle.kr_turns.specs.declared.plain.CallEnd.TheVariants as end

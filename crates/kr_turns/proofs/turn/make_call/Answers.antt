@@ -1,7 +1,7 @@
 use Rattle.std.proofs.Common.{◌≡◌, ◌+◌, suc, lit<, ap, subst, arith, ◌∙◌}
 use Rattle.kr_steps.specs.Calls.{MayCall, Runs}
-use Rattle.kr_hostview.specs.kr_ops.Meaning.{meaning}
-use Rattle.kr_hostview.specs.kr_seen.Numbered.{state_numbered}
+use Rattle.kr_seen.specs.kr_ops.Meaning.{meaning}
+use Rattle.kr_seen.specs.Numbered.{state_numbered}
 use Rattle.kr_turns.specs.Breaking.{plain_rule}
 use Rattle.kr_turns.specs.Making.{watching}
 use Rattle.kr_turns.proofs.ShelfLemmas.{lacks-numbered, shelved-lives, shelved-numbered}

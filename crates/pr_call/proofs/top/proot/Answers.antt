@@ -1,11 +1,11 @@
 use Rattle.std.proofs.Common.{inr, map}
 use Rattle.std.specs.String.{string_bytes}
 use Rattle.pr_io.specs.Faults.{Rose}
-use Rattle.pr_answer.specs.declared.answer.Which.TheVariants.{Tree as TreeSource, Elf, Input, Out, Err as ErrSink, Left}
-use Rattle.machines_agree.specs.pr_sources.Asking.{asked}
-use Rattle.machines_agree.specs.pr_sources.Within.{IsEarly}
-use Rattle.machines_agree.specs.pr_sources.Reading.{told_listing, told_tree}
-use Rattle.machines_agree.specs.pr_top.Opening.{opening}
+use Rattle.pr_sources.specs.declared.answer.Which.TheVariants.{Tree as TreeSource, Elf, Input, Out, Err as ErrSink, Left}
+use Rattle.pr_sources.specs.Asking.{asked}
+use Rattle.pr_sources.specs.Within.{IsEarly}
+use Rattle.pr_sources.specs.Reading.{told_listing, told_tree}
+use Rattle.law_machines.specs.pr_top.Opening.{opening}
 use Rattle.pr_call.proofs.HeadlineLemmas.{headline, read-too}
 use Rattle.pr_call.proofs.ReportLemmas.{comes-after, no-source-named, read-input, refuses-not, run-told}
 use Rattle.pr_call.proofs.TopLemmas.{complete, complete-refused, no-write, not-told, opening-told, refusal, refusal-told}

@@ -8,7 +8,7 @@ use Rattle.pr_start.proofs.BeginLemmas.{begins-as, begins-from}
 use Rattle.kr_core.specs.kr_first.Starting.{directory_at}
 use Rattle.kr_mounts.specs.Stored.{table_of}
 use Rattle.kr_view.specs.Leads.{numbered}
-use Rattle.pr_command.specs.Command.{word_of}
+use Rattle.pr_words.specs.Command.{word_of}
 use Rattle.pr_start.specs.Command.{Chosen, chosen}
 use Rattle.pr_start.specs.Directory.{At}
 use Rattle.pr_start.specs.Numbers.{directory_told, number_of}

@@ -1,8 +1,8 @@
 use Rattle.std.proofs.Common.{rules}
-use Rattle.pr_traced.specs.kr_core.Kernel.{machine}
+use Rattle.pr_start.specs.kr_core.Kernel.{machine}
 use Rattle.kr_mounts.specs.Stored.{table_of}
 use Rattle.pr_start.specs.Numbers.{number_of}
-use Rattle.pr_traced.specs.TracedBeginning.{host_number}
+use Rattle.pr_start.specs.TracedBeginning.{host_number}
 use Rattle.pr_top.specs.Opening.{case_staged}
 use Rattle.pr_top.proofs.GeneratedLemmas.{both, unmounted, unwatched}
 use Rattle.pr_top.proofs.generated.begin_case.Goals as goal

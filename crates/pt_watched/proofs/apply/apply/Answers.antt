@@ -1,6 +1,6 @@
 use Rattle.std.proofs.Common.{SFits, rules, sym, w64, ◌∙◌}
 use Rattle.std.proofs.Math.Facts.{to_z-of_z}
-use Rattle.pt_lists.proofs.pt_tracer.StopLemmas.{edited-then}
+use Rattle.pt_faker.proofs.StopLemmas.{edited-then}
 use Rattle.pt_watched.proofs.PokeLemmas.{emulated}
 use Rattle.pt_watched.proofs.apply.apply.Goals as goal
 

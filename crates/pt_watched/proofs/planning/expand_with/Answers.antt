@@ -1,6 +1,6 @@
 use Rattle.std.proofs.Common.{◌≡◌, ◌∙◌, ◌-◌, length, sym, ap, subst}
 use Rattle.pt_bind.specs.Binding.{rows_of}
-use Rattle.pt_lists.specs.pt_tracer.Stopping.{IsEdited, Stopped}
+use Rattle.pt_faker.specs.Stopping.{IsEdited, Stopped}
 use Rattle.pt_watched.specs.Planning.{script_plan}
 use Rattle.pt_watched.proofs.PlanLemmas.{if_ok, script-expanded}
 use Rattle.pt_watched.proofs.planning.expand_with.Goals as goal

@@ -2,10 +2,10 @@ use Rattle.std.proofs.Common.{◌≡◌, ◌∙◌, ◌≤◌, Ok, true, sym, ap
 use Rattle.pr_base.specs.declared.bind.Bound.{Bound}
 use Rattle.std.specs.Prelude.{List}
 use Rattle.pt_bind.specs.Binding.{rows_of}
-use Rattle.pt_lists.specs.pt_tracer.Stopping.{IsEdited, Stopped}
-use Rattle.pt_lists.proofs.pt_tracer.StopLemmas.{edited-then}
-use Rattle.pt_lists.specs.Reading.{lists_at}
-use Rattle.pt_lists.specs.pt_tracer.Carrying.{CarriesOut}
+use Rattle.pt_faker.specs.Stopping.{IsEdited, Stopped}
+use Rattle.pt_faker.proofs.StopLemmas.{edited-then}
+use Rattle.pt_faker.specs.Reading.{lists_at}
+use Rattle.pt_faker.specs.Carrying.{CarriesOut}
 use Rattle.pt_watched.specs.Planning.{expand_with, is_swap, stack_at}
 use Rattle.pt_watched.proofs.PlanLemmas.{if_ok, lists-expanded, stack-stays}
 use Rattle.pt_watched.proofs.planning.plan_execve.Goals as goal

@@ -1,5 +1,5 @@
 use Rattle.std.proofs.Common.{◌∙◌, ap}
-use Rattle.pt_lists.proofs.pt_tracer.StopLemmas.{on_ok}
+use Rattle.pt_faker.proofs.StopLemmas.{on_ok}
 use Rattle.pt_watched.specs.Poking.{may_poke}
 use Rattle.pt_watched.proofs.PokeLemmas.{may-after}
 use Rattle.pt_watched.proofs.pokes.write_before.Goals as goal

@@ -1,4 +1,4 @@
-use Rattle.pt_lists.proofs.pt_tracer.StopLemmas.{edited-then}
+use Rattle.pt_faker.proofs.StopLemmas.{edited-then}
 use Rattle.pt_watched.proofs.registers.+set_all.Goals as goal
 
 pub returns-clause-edits : goal.returns-clause-edits

@@ -1,4 +1,4 @@
-use Rattle.pt_lists.proofs.pt_tracer.StopLemmas.{register-edits}
+use Rattle.pt_faker.proofs.StopLemmas.{register-edits}
 use Rattle.pt_watched.proofs.registers.set.Goals as goal
 
 pub returns-clause-edits : goal.returns-clause-edits

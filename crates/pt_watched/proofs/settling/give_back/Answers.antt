@@ -1,4 +1,4 @@
-use Rattle.pt_lists.proofs.pt_tracer.StopLemmas.{edited-then}
+use Rattle.pt_faker.proofs.StopLemmas.{edited-then}
 use Rattle.pt_watched.proofs.settling.give_back.Goals as goal
 
 pub returns-in-Some-clause-edits : goal.returns-in-Some-clause-edits

@@ -1,8 +1,8 @@
 use Rattle.std.proofs.Common.{◌∙◌, SFits, Some, ap, rules, sym, w64}
 use Rattle.std.proofs.Math.Facts.{to_z-of_z}
-use Rattle.pt_lists.specs.pt_tracer.Stopping.{with_register}
-use Rattle.pt_lists.proofs.pt_tracer.StopLemmas.{edited-then}
-use Rattle.pt_lists.specs.pt_tracer.Faking.{word_of}
+use Rattle.pt_faker.specs.Stopping.{with_register}
+use Rattle.pt_faker.proofs.StopLemmas.{edited-then}
+use Rattle.pt_faker.specs.Faking.{word_of}
 use Rattle.pt_watched.specs.Registers.{given_back}
 use Rattle.pt_watched.specs.Watched.{if_answered}
 use Rattle.pt_watched.proofs.settling.return_registers.Goals as goal

@@ -1,6 +1,6 @@
 use Rattle.std.proofs.Common.{◌≡◌, lit<, ap, subst, ◌∙◌, slice_get}
 use Rattle.std.specs.Option.{option_map}
-use Rattle.kr_first.proofs.kr_ops.UseLemmas.{sound-of}
+use Rattle.kr_turns.proofs.kr_ops.UseLemmas.{sound-of}
 use Rattle.kr_turns.specs.Steps.{ready_processes}
 use Rattle.kr_core.specs.Kernel.{Kernel, machine}
 use Rattle.kr_core.proofs.KernelLemmas.{ready-numbered}

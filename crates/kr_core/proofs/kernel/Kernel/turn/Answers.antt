@@ -1,7 +1,7 @@
 use Rattle.std.proofs.Common.{◌≡◌, ◌≢◌, ◌<◌, ◌+◌, suc, true, [], None, false, lit<, refl, sym, ap, subst, arith, ◌∙◌, vec_len, length}
 use Rattle.std.specs.Prelude.{IsSome, ◌^◌, ◌==◌}
-use Rattle.kr_first.proofs.kr_ops.UseLemmas.{sound-of}
-use Rattle.kr_first.specs.kr_ops.Meaning.{process_meaning}
+use Rattle.kr_turns.proofs.kr_ops.UseLemmas.{sound-of}
+use Rattle.kr_turns.specs.kr_ops.Meaning.{process_meaning}
 use Rattle.kr_turns.specs.kr_seen.Numbered.{process_numbered}
 use Rattle.kr_turns.specs.Steps.{Runs, picked_process}
 use Rattle.kr_turns.specs.Making.{machine_of, watching}

@@ -1,6 +1,6 @@
 use Rattle.std.proofs.Common.{sym, ap, ◌∙◌}
 use Rattle.std.specs.Option.{option_map}
-use Rattle.kr_lawful.specs.kr_files.Descriptors.{Named}
+use Rattle.law_lawful.specs.kr_files.Descriptors.{Named}
 use Rattle.kr_ops.proofs.AskLemmas.{cloexec-same}
 use Rattle.kr_ops.proofs.ChangeLemmas.{named-nowhere}
 use Rattle.kr_ops.proofs.state.State.cloexec.Goals as goal

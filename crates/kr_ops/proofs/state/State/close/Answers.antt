@@ -1,6 +1,6 @@
 use Rattle.std.proofs.Common.{sym, ap, ◌∙◌, refl}
 use Rattle.std.specs.Option.{is_some}
-use Rattle.kr_lawful.specs.kr_files.Descriptors.{cloexec_of}
+use Rattle.law_lawful.specs.kr_files.Descriptors.{cloexec_of}
 use Rattle.kr_ops.specs.declared.state.Process.{Process}
 use Rattle.kr_ops.proofs.ChangeLemmas.{named-nowhere}
 use Rattle.kr_ops.proofs.CloseLemmas.{close-none, shut-means, closed-means, same-at, held-there, some-open}

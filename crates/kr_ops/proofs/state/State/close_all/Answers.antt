@@ -1,5 +1,5 @@
 use Rattle.std.proofs.Common.{◌≡◌, None, subst, arith}
-use Rattle.kr_lawful.specs.kr_model.Applied.{close_below}
+use Rattle.law_lawful.specs.kr_model.Applied.{close_below}
 use Rattle.kr_ops.specs.Meaning.{meaning}
 use Rattle.kr_ops.proofs.ClosingLemmas.{among, next-below, none-below}
 use Rattle.kr_ops.proofs.state.State.close_all.Goals as goal

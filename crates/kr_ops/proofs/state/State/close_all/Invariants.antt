@@ -1,5 +1,5 @@
 use Rattle.std.proofs.Common.{◌≡◌}
-use Rattle.kr_lawful.specs.kr_model.Applied.{close_below}
+use Rattle.law_lawful.specs.kr_model.Applied.{close_below}
 use Rattle.kr_ops.specs.Meaning.{meaning}
 use Rattle.kr_ops.specs.Sound.{IsServed}
 use Rattle.kr_ops.proofs.state.State.close_all.Given as goal

@@ -1,9 +1,9 @@
 use Rattle.std.proofs.Common.{sym, ap, subst, ◌∙◌, refl, Option}
 use Rattle.std.proofs.lemmas.Result.{err_from_is_err_and}
-use Rattle.kr_lawful.specs.kr_tree.declared.place.Place.{Place}
-use Rattle.kr_lawful.specs.kr_files.Files.{Kept, NamesOpenFiles, copied}
-use Rattle.kr_lawful.proofs.kr_files.DescriptorLemmas.{lowest_free-some}
-use Rattle.kr_lawful.specs.kr_model.Applied.{held_at}
+use Rattle.law_lawful.specs.kr_tree.declared.place.Place.{Place}
+use Rattle.law_lawful.specs.kr_files.Files.{Kept, NamesOpenFiles, copied}
+use Rattle.law_lawful.proofs.kr_files.DescriptorLemmas.{lowest_free-some}
+use Rattle.law_lawful.specs.kr_model.Applied.{held_at}
 use Rattle.kr_ops.specs.declared.state.Process.{Process}
 use Rattle.kr_ops.proofs.CloseLemmas.{held-there}
 use Rattle.kr_ops.proofs.OpeningLemmas.{full-same, not-open, is-open, count-fits, held-is-there, one-more-fits, lowest, copied-fresh}

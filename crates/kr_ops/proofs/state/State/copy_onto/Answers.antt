@@ -1,6 +1,6 @@
 use Rattle.std.proofs.Common.{ap, ◌∙◌, refl, Option}
-use Rattle.kr_lawful.specs.kr_tree.declared.place.Place.{Place}
-use Rattle.kr_lawful.specs.kr_model.Applied.{held_at, released_at}
+use Rattle.law_lawful.specs.kr_tree.declared.place.Place.{Place}
+use Rattle.law_lawful.specs.kr_model.Applied.{held_at, released_at}
 use Rattle.kr_ops.proofs.CloseLemmas.{held-there}
 use Rattle.kr_ops.proofs.OpeningLemmas.{not-open, is-open, count-fits, held-is-there, one-more-fits, still-held, copied-means}
 use Rattle.kr_ops.proofs.ServeLemmas.{kept-room, names-copied}

@@ -1,10 +1,10 @@
 use Rattle.std.proofs.Common.{◌≡◌, ◌∙◌, ap, sym, subst, refl, arith}
 use Rattle.std.specs.Prelude.{map as map_list, ◌==◌, not}
 use Rattle.std.specs.List.{AllByRecursion, filter}
-use Rattle.kr_lawful.specs.kr_files.Files.{NamesOpenFiles}
-use Rattle.kr_lawful.specs.kr_model.Applied.{ended_with, put_in, stays}
-use Rattle.kr_lawful.specs.kr_model.Known.{pages_in_all}
-use Rattle.kr_lawful.specs.kr_model.State.{image_layout}
+use Rattle.law_lawful.specs.kr_files.Files.{NamesOpenFiles}
+use Rattle.law_lawful.specs.kr_model.Applied.{ended_with, put_in, stays}
+use Rattle.law_lawful.specs.kr_model.Known.{pages_in_all}
+use Rattle.law_lawful.specs.kr_model.State.{image_layout}
 use Rattle.kr_ops.specs.declared.state.Process.{Process}
 use Rattle.kr_ops.specs.declared.state.State.{State}
 use Rattle.kr_ops.specs.Meaning.{ended_meaning, meaning, process_meaning}

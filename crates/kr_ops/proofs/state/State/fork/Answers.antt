@@ -1,15 +1,15 @@
 use Rattle.std.proofs.Common.{◌≡◌, ◌+◌, ◌≤◌, ◌<◌, ◌^◌, true, false, Err, Option, Some, refl, sym, ap, subst, ◌∙◌, arith}
 use Rattle.std.specs.Prelude.{IfSome}
-use Rattle.kr_lawful.specs.rv_mem.Memory.{Memory, page_count}
-use Rattle.kr_lawful.specs.rv_mem.Pages.{allows_all}
-use Rattle.kr_lawful.specs.rv_mem.declared.rights.Use.TheVariants.{Write}
-use Rattle.kr_lawful.specs.kr_tree.Holds.{holds_at}
-use Rattle.kr_lawful.specs.kr_tree.Tree.{Tree}
-use Rattle.kr_lawful.specs.kr_files.Descriptors.{meanings}
-use Rattle.kr_lawful.specs.kr_files.Files.{Kept, NamesOpenFiles}
-use Rattle.kr_lawful.specs.kr_model.Applied.{told}
-use Rattle.kr_lawful.specs.kr_model.MemoryRows.{all_pages}
-use Rattle.kr_lawful.specs.kr_model.State.{Image, Process, inode_of}
+use Rattle.law_lawful.specs.rv_mem.Memory.{Memory, page_count}
+use Rattle.law_lawful.specs.rv_mem.Pages.{allows_all}
+use Rattle.law_lawful.specs.rv_mem.declared.rights.Use.TheVariants.{Write}
+use Rattle.law_lawful.specs.kr_tree.Holds.{holds_at}
+use Rattle.law_lawful.specs.kr_tree.Tree.{Tree}
+use Rattle.law_lawful.specs.kr_files.Descriptors.{meanings}
+use Rattle.law_lawful.specs.kr_files.Files.{Kept, NamesOpenFiles}
+use Rattle.law_lawful.specs.kr_model.Applied.{told}
+use Rattle.law_lawful.specs.kr_model.MemoryRows.{all_pages}
+use Rattle.law_lawful.specs.kr_model.State.{Image, Process, inode_of}
 use Rattle.kr_ops.specs.declared.state.Process.{Process as Kept_process}
 use Rattle.kr_ops.proofs.CloseLemmas.{held-there, same-at}
 use Rattle.kr_ops.proofs.ForkLemmas.{as-before, born-means, born-served, born_state, copies-fit, fits-for, list-before, pushed, room-for, still-for, there-for}

@@ -1,7 +1,7 @@
 use Rattle.std.proofs.Common.{sym, ap, ◌∙◌}
 use Rattle.std.specs.Option.{option_and_then}
-use Rattle.kr_lawful.specs.kr_files.Descriptors.{lowest_free}
-use Rattle.kr_lawful.specs.kr_model.State.{Image, Process}
+use Rattle.law_lawful.specs.kr_files.Descriptors.{lowest_free}
+use Rattle.law_lawful.specs.kr_model.State.{Image, Process}
 use Rattle.kr_ops.proofs.ListLemmas.{none-found}
 use Rattle.kr_ops.proofs.OpeningLemmas.{lowest}
 use Rattle.kr_ops.proofs.state.State.lowest_free.Goals as goal

@@ -1,7 +1,7 @@
 use Rattle.std.proofs.Common.{sym, ap, ◌∙◌, refl, ◌+◌}
 use Rattle.std.specs.Prelude.{Err}
 use Rattle.std.proofs.lemmas.Result.{err_from_is_err_and}
-use Rattle.kr_lawful.specs.kr_files.Files.{NamesOpenFiles}
+use Rattle.law_lawful.specs.kr_files.Files.{NamesOpenFiles}
 use Rattle.kr_ops.specs.declared.state.Process.{Process}
 use Rattle.kr_ops.proofs.OpeningLemmas.{error-of, not-living, lowest-two, pipe-means, takes-pipe}
 use Rattle.kr_ops.proofs.ServeLemmas.{all-at, on-err, refused-before, kept-room, names-pair, names-paired, names-set}

@@ -1,11 +1,11 @@
 use Rattle.std.proofs.Common.{refl, ◌≡◌, ◌/◌, arith}
 use Rattle.std.specs.Prelude.{◌↔◌, IsErrOf, IsTrue}
 use Rattle.std.proofs.lemmas.Result.{on_ok_weaker}
-use Rattle.kr_lawful.specs.pr_base.Page.{page_size}
-use Rattle.kr_lawful.specs.rv_mem.Memory.{passes_limit, with_pages}
-use Rattle.kr_lawful.specs.rv_mem.Pages.{mapped}
-use Rattle.kr_lawful.specs.rv_mem.declared.fault.MapFault.TheVariants.{Full}
-use Rattle.kr_lawful.specs.kr_model.Change.{MapPages}
+use Rattle.law_lawful.specs.pr_base.Page.{page_size}
+use Rattle.law_lawful.specs.rv_mem.Memory.{passes_limit, with_pages}
+use Rattle.law_lawful.specs.rv_mem.Pages.{mapped}
+use Rattle.law_lawful.specs.rv_mem.declared.fault.MapFault.TheVariants.{Full}
+use Rattle.law_lawful.specs.kr_model.Change.{MapPages}
 use Rattle.kr_ops.proofs.OpeningLemmas.{not-living}
 use Rattle.kr_ops.proofs.PageLemmas.{counted-in, of-process, paged-means, room-either}
 use Rattle.kr_ops.proofs.ServeLemmas.{kept-names}

@@ -3,7 +3,7 @@ use Rattle.std.proofs.lemmas.Result.{err_from_is_err_and}
 use Rattle.kr_ops.proofs.OpeningLemmas.{full-same, not-living, one-more-fits, lowest, opened-means}
 use Rattle.kr_ops.proofs.ServeLemmas.{all-at, on-err, refused-before, kept-room, names-add, names-insert, names-set}
 use Rattle.kr_ops.proofs.UseLemmas.{holds-fit}
-use Rattle.kr_lawful.specs.kr_files.Files.{NamesOpenFiles}
+use Rattle.law_lawful.specs.kr_files.Files.{NamesOpenFiles}
 use Rattle.kr_ops.specs.declared.state.Process.{Process}
 use Rattle.kr_ops.proofs.state.State.open.Goals as goal
 

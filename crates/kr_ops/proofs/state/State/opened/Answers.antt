@@ -1,7 +1,7 @@
 use Rattle.std.proofs.Common.{sym, ap, ◌∙◌}
 use Rattle.std.specs.Option.{option_and_then}
-use Rattle.kr_lawful.specs.kr_files.Descriptors.{Named}
-use Rattle.kr_lawful.specs.kr_files.Files.{file_at}
+use Rattle.law_lawful.specs.kr_files.Descriptors.{Named}
+use Rattle.law_lawful.specs.kr_files.Files.{file_at}
 use Rattle.kr_ops.proofs.AskLemmas.{opened-same}
 use Rattle.kr_ops.proofs.ChangeLemmas.{named-nowhere}
 use Rattle.kr_ops.proofs.state.State.opened.Goals as goal

@@ -1,10 +1,10 @@
 use Rattle.std.proofs.Common.{refl, ◌≡◌, ◌/◌, arith}
 use Rattle.std.specs.Prelude.{◌↔◌, IsOk, IsTrue}
 use Rattle.std.proofs.lemmas.Result.{on_ok_weaker}
-use Rattle.kr_lawful.specs.pr_base.Page.{page_size}
-use Rattle.kr_lawful.specs.rv_mem.Memory.{with_pages}
-use Rattle.kr_lawful.specs.rv_mem.Pages.{has_pages, protected}
-use Rattle.kr_lawful.specs.kr_model.Change.{ProtectPages}
+use Rattle.law_lawful.specs.pr_base.Page.{page_size}
+use Rattle.law_lawful.specs.rv_mem.Memory.{with_pages}
+use Rattle.law_lawful.specs.rv_mem.Pages.{has_pages, protected}
+use Rattle.law_lawful.specs.kr_model.Change.{ProtectPages}
 use Rattle.kr_ops.proofs.OpeningLemmas.{not-living}
 use Rattle.kr_ops.proofs.PageLemmas.{of-process, paged-means, room-changed}
 use Rattle.kr_ops.proofs.ServeLemmas.{kept-names}

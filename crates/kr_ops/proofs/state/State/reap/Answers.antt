@@ -1,6 +1,6 @@
 use Rattle.std.proofs.Common.{ap, ◌∙◌}
 use Rattle.std.specs.Prelude.{map as map_list, ◌==◌, not}
-use Rattle.kr_lawful.specs.kr_model.State.{Ended}
+use Rattle.law_lawful.specs.kr_model.State.{Ended}
 use Rattle.kr_ops.specs.Meaning.{ended_meaning, meaning}
 use Rattle.kr_ops.proofs.EndingLemmas.{ended-stay}
 use Rattle.kr_ops.proofs.state.State.reap.Goals as goal

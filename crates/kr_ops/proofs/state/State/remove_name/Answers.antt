@@ -1,5 +1,5 @@
 use Rattle.std.proofs.Common.{ap, ◌∙◌}
-use Rattle.kr_lawful.specs.kr_files.Files.{Kept}
+use Rattle.law_lawful.specs.kr_files.Files.{Kept}
 use Rattle.kr_ops.specs.declared.state.State.{State}
 use Rattle.kr_ops.specs.Meaning.{meaning}
 use Rattle.kr_ops.specs.Remembering.{forgotten}

@@ -1,5 +1,5 @@
 use Rattle.std.proofs.Common.{ap, refl, ◌∙◌, Some}
-use Rattle.kr_lawful.specs.kr_model.Applied.{released_at}
+use Rattle.law_lawful.specs.kr_model.Applied.{released_at}
 use Rattle.kr_ops.specs.declared.state.Process.{Process}
 use Rattle.kr_ops.proofs.CloseLemmas.{same-at}
 use Rattle.kr_ops.proofs.OpeningLemmas.{not-living, one-more-fits, still-held}

@@ -1,8 +1,8 @@
 use Rattle.std.proofs.Common.{◌≡◌, ◌+◌, refl, subst, Option}
 use Rattle.std.specs.Prelude.{IfSome}
-use Rattle.kr_lawful.specs.rv_mem.Memory.{page_count}
-use Rattle.kr_lawful.specs.kr_model.Applied.{with_program}
-use Rattle.kr_lawful.specs.kr_model.State.{Image, Process}
+use Rattle.law_lawful.specs.rv_mem.Memory.{page_count}
+use Rattle.law_lawful.specs.kr_model.Applied.{with_program}
+use Rattle.law_lawful.specs.kr_model.State.{Image, Process}
 use Rattle.kr_ops.proofs.ChangeLemmas.{one-changed}
 use Rattle.kr_ops.proofs.OpeningLemmas.{found, not-living}
 use Rattle.kr_ops.proofs.PageLemmas.{room-changed}

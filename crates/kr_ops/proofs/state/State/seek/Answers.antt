@@ -1,6 +1,6 @@
 use Rattle.std.proofs.Common.{sym, ap, ◌∙◌, refl}
 use Rattle.std.specs.Option.{is_some, option_map}
-use Rattle.kr_lawful.specs.kr_files.Files.{Kept, at_offset, on_table, with_opened}
+use Rattle.law_lawful.specs.kr_files.Files.{Kept, at_offset, on_table, with_opened}
 use Rattle.kr_ops.proofs.ChangeLemmas.{named-nowhere, named-at, shut, to_named, nothing-changed, opened-changed}
 use Rattle.kr_ops.proofs.ServeLemmas.{keys-by, names-kept, names-still}
 use Rattle.kr_ops.proofs.state.State.seek.Goals as goal

@@ -1,9 +1,9 @@
 use Rattle.std.proofs.Common.{sym, ap, subst, ◌∙◌, refl}
 use Rattle.std.specs.Option.{is_some}
-use Rattle.kr_lawful.specs.kr_files.Descriptors.{Meanings, meanings}
-use Rattle.kr_lawful.specs.kr_files.Files.{NamesOpenFiles}
-use Rattle.kr_lawful.specs.pr_base.Maps.{changed}
-use Rattle.kr_lawful.specs.kr_model.State.{with_descs}
+use Rattle.law_lawful.specs.kr_files.Descriptors.{Meanings, meanings}
+use Rattle.law_lawful.specs.kr_files.Files.{NamesOpenFiles}
+use Rattle.law_lawful.specs.pr_base.Maps.{changed}
+use Rattle.law_lawful.specs.kr_model.State.{with_descs}
 use Rattle.kr_ops.specs.Meaning.{process_meaning}
 use Rattle.kr_ops.proofs.ChangeLemmas.{nobody-changed, one-changed, shut, flagged, flag-changed, flag-nowhere}
 use Rattle.kr_ops.proofs.ServeLemmas.{all-at, kept-names, kept-room, names-flag, names-set}

@@ -1,5 +1,5 @@
 use Rattle.std.proofs.Common.{refl}
-use Rattle.kr_lawful.specs.kr_model.Applied.{with_umask}
+use Rattle.law_lawful.specs.kr_model.Applied.{with_umask}
 use Rattle.kr_ops.proofs.ChangeLemmas.{nobody-changed, one-changed}
 use Rattle.kr_ops.proofs.ServeLemmas.{kept-names, kept-room}
 use Rattle.kr_ops.proofs.state.State.set_umask.Goals as goal

@@ -1,7 +1,7 @@
 use Rattle.std.proofs.Common.{sym, ap, ◌∙◌, false, Option}
 use Rattle.std.specs.Option.{option_map_or}
-use Rattle.kr_lawful.specs.kr_files.Files.{takes_pipe}
-use Rattle.kr_lawful.specs.kr_model.State.{Image, Process}
+use Rattle.law_lawful.specs.kr_files.Files.{takes_pipe}
+use Rattle.law_lawful.specs.kr_model.State.{Image, Process}
 use Rattle.kr_ops.proofs.ListLemmas.{none-found}
 use Rattle.kr_ops.proofs.OpeningLemmas.{takes-pipe}
 use Rattle.kr_ops.proofs.state.State.takes_pipe.Goals as goal

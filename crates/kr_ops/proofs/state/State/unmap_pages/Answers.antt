@@ -1,7 +1,7 @@
 use Rattle.std.proofs.Common.{refl, ◌/◌, arith}
-use Rattle.kr_lawful.specs.pr_base.Page.{page_size}
-use Rattle.kr_lawful.specs.kr_model.Applied.{images, with_image}
-use Rattle.kr_lawful.specs.kr_model.Change.{UnmapPages}
+use Rattle.law_lawful.specs.pr_base.Page.{page_size}
+use Rattle.law_lawful.specs.kr_model.Applied.{images, with_image}
+use Rattle.law_lawful.specs.kr_model.Change.{UnmapPages}
 use Rattle.kr_ops.proofs.ChangeLemmas.{nobody-changed}
 use Rattle.kr_ops.proofs.PageLemmas.{counted-in, paged-means, room-after}
 use Rattle.kr_ops.proofs.ServeLemmas.{kept-names}

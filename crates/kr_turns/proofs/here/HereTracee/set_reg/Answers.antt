@@ -1,6 +1,6 @@
 use Rattle.std.proofs.Common.{slice_set, ap, ◌∙◌}
-use Rattle.kr_hostview.specs.kr_model.State.{Image}
-use Rattle.kr_hostview.specs.kr_ops.Meaning.{meaning}
+use Rattle.kr_seen.specs.kr_model.State.{Image}
+use Rattle.kr_seen.specs.kr_ops.Meaning.{meaning}
 use Rattle.kr_turns.specs.Editing.{with_register}
 use Rattle.kr_turns.specs.Held.{Held, stopped_of}
 use Rattle.kr_turns.specs.Stopped.{image_in}

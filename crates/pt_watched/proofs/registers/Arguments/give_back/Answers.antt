@@ -1,6 +1,6 @@
 use Rattle.std.proofs.Common.{◌∙◌, ap}
-use Rattle.pt_lists.specs.pt_tracer.Stopping.{with_register}
-use Rattle.pt_lists.proofs.pt_tracer.StopLemmas.{edited-then}
+use Rattle.pt_faker.specs.Stopping.{with_register}
+use Rattle.pt_faker.proofs.StopLemmas.{edited-then}
 use Rattle.pt_watched.proofs.registers.Arguments.give_back.Goals as goal
 
 pub returns-clause-back : goal.returns-clause-back

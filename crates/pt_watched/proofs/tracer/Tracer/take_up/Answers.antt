@@ -1,7 +1,7 @@
 use Rattle.std.proofs.Common.{◌≡◌, ◌∙◌, SFits, Some, None, ap, refl, rules, subst, sym, w64}
 use Rattle.std.proofs.Math.Facts.{to_z-of_z}
 use Rattle.pt_bind.specs.Binding.{rows_of}
-use Rattle.pt_lists.proofs.pt_tracer.StopLemmas.{edited-then, on_ok}
+use Rattle.pt_faker.proofs.StopLemmas.{edited-then, on_ok}
 use Rattle.pt_watched.specs.Watched.{Tracing, by_identities}
 use Rattle.pt_watched.proofs.EntryLemmas.{answered-entry, planned-entry}
 use Rattle.pt_watched.proofs.tracer.Tracer.take_up.Goals as goal

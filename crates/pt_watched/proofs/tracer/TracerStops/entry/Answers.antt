@@ -1,4 +1,4 @@
-use Rattle.pt_lists.proofs.pt_tracer.StopLemmas.{edited-then, request-edits}
+use Rattle.pt_faker.proofs.StopLemmas.{edited-then, request-edits}
 use Rattle.pt_watched.proofs.tracer.TracerStops.entry.Goals as goal
 
 pub returns-in-Ok-clause-edits : goal.returns-in-Ok-clause-edits

@@ -1,5 +1,0 @@
-use Rattle.answers_agree.proofs.CwdLemmas.{cwds_are_answered_alike}
-use Rattle.answers_agree.proofs.answers.cwds_are_answered_alike.Goals as goal
-
-pub returns : goal.returns
-returns c = cwds_are_answered_alike

@@ -1,5 +1,0 @@
-use Rattle.answers_agree.proofs.LinkLemmas.{errors_are_told_alike}
-use Rattle.answers_agree.proofs.answers.errors_are_told_alike.Goals as goal
-
-pub returns : goal.returns
-returns c = errors_are_told_alike

@@ -1,5 +1,0 @@
-use Rattle.answers_agree.proofs.LinkLemmas.{link_texts_are_told_alike}
-use Rattle.answers_agree.proofs.answers.link_texts_are_told_alike.Goals as goal
-
-pub returns : goal.returns
-returns c = link_texts_are_told_alike

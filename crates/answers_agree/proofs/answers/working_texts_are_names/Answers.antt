@@ -1,5 +1,0 @@
-use Rattle.answers_agree.proofs.CwdLemmas.{working_texts_are_names}
-use Rattle.answers_agree.proofs.answers.working_texts_are_names.Goals as goal
-
-pub returns : goal.returns
-returns g c = working_texts_are_names _

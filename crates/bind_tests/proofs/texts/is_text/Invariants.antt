@@ -1,5 +1,0 @@
-use Rattle.bind_tests.specs.Spelled.{IsBelowRoot}
-use Rattle.bind_tests.proofs.texts.is_text.Given as goal
-
-abbrev pub invariant-loop-part : goal.invariant-loop-part
-invariant-loop-part l = IsBelowRoot l.whole

@@ -1,5 +1,0 @@
-use Rattle.calm_places.proofs.KeepLemmas.{calm_changes_keep_places}
-use Rattle.calm_places.proofs.laws.calm_changes_keep_places.Goals as goal
-
-pub returns : goal.returns
-returns c = calm_changes_keep_places

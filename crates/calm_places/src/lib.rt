@@ -1,4 +1,0 @@
-//! What stands at guest texts stands there after the changes of a calm call.
-#![tactic(auto)]
-
-pub mod laws;

@@ -1,5 +1,0 @@
-//! Tests of generated cases.
-#![tactic(auto)]
-
-#[cfg(test)]
-mod cases;

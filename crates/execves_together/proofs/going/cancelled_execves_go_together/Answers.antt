@@ -1,5 +1,0 @@
-use Rattle.execves_together.proofs.GoLemmas.{cancelled_execves_go_together}
-use Rattle.execves_together.proofs.going.cancelled_execves_go_together.Goals as goal
-
-pub returns : goal.returns
-returns g c = cancelled_execves_go_together _

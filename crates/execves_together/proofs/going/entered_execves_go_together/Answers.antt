@@ -1,5 +1,0 @@
-use Rattle.execves_together.proofs.GoLemmas.{entered_execves_go_together}
-use Rattle.execves_together.proofs.going.entered_execves_go_together.Goals as goal
-
-pub returns : goal.returns
-returns g c = entered_execves_go_together _

@@ -1,5 +1,0 @@
-use Rattle.execves_together.proofs.ReadyLemmas.{loaded_programs_are_ready}
-use Rattle.execves_together.proofs.replacing.loaded_programs_are_ready.Goals as goal
-
-pub returns : goal.returns
-returns c = loaded_programs_are_ready

@@ -1,5 +1,0 @@
-use Rattle.images_apart.proofs.CallLemmas.{path_calls_answer}
-use Rattle.images_apart.proofs.laws.path_calls_answer.Goals as goal
-
-pub returns : goal.returns
-returns c = path_calls_answer

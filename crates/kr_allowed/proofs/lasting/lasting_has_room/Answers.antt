@@ -1,5 +1,0 @@
-use Rattle.kr_allowed.proofs.RoomLemmas.{lasting-room}
-use Rattle.kr_allowed.proofs.lasting.lasting_has_room.Goals as goal
-
-pub returns : goal.returns
-returns g c = lasting-room _ _

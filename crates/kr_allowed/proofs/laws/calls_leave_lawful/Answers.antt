@@ -1,5 +1,0 @@
-use Rattle.kr_allowed.proofs.ToldLemmas.{calls-leave-lawful}
-use Rattle.kr_allowed.proofs.laws.calls_leave_lawful.Goals as goal
-
-pub returns : goal.returns
-returns c = calls-leave-lawful

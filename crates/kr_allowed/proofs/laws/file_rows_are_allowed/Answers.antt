@@ -1,5 +1,0 @@
-use Rattle.kr_allowed.proofs.FileLemmas.{file-rows}
-use Rattle.kr_allowed.proofs.laws.file_rows_are_allowed.Goals as goal
-
-pub returns : goal.returns
-returns g c = file-rows _

@@ -1,5 +1,0 @@
-use Rattle.kr_allowed.proofs.ProcessLemmas.{identity-rows}
-use Rattle.kr_allowed.proofs.laws.identity_rows_are_allowed.Goals as goal
-
-pub returns : goal.returns
-returns g c = identity-rows _

@@ -1,5 +1,0 @@
-use Rattle.kr_allowed.proofs.NameLemmas.{name-rows}
-use Rattle.kr_allowed.proofs.laws.name_rows_are_allowed.Goals as goal
-
-pub returns : goal.returns
-returns g c = name-rows _

@@ -1,5 +1,0 @@
-use Rattle.kr_allowed.proofs.OperationLemmas.{operation-is-allowed}
-use Rattle.kr_allowed.proofs.laws.operation_is_allowed.Goals as goal
-
-pub returns : goal.returns
-returns g c = operation-is-allowed _

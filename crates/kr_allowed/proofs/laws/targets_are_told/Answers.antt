@@ -1,5 +1,0 @@
-use Rattle.kr_allowed.proofs.ToldLemmas.{targets-are-told}
-use Rattle.kr_allowed.proofs.laws.targets_are_told.Goals as goal
-
-pub returns : goal.returns
-returns c = targets-are-told

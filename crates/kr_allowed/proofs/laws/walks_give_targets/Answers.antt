@@ -1,5 +1,0 @@
-use Rattle.kr_allowed.proofs.WalkLemmas.{walks-give-targets}
-use Rattle.kr_allowed.proofs.laws.walks_give_targets.Goals as goal
-
-pub returns : goal.returns
-returns c = walks-give-targets

@@ -1,5 +1,0 @@
-use Rattle.kr_bytes.proofs.CallLemmas.{plain-calls-keep-bytes}
-use Rattle.kr_bytes.proofs.calls.plain_calls_keep_bytes.Goals as goal
-
-pub returns : goal.returns
-returns c = plain-calls-keep-bytes

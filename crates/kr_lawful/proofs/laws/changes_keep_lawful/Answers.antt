@@ -1,5 +1,0 @@
-use Rattle.kr_lawful.proofs.ChangeLemmas.{changes-keep}
-use Rattle.kr_lawful.proofs.laws.changes_keep_lawful.Goals as goal
-
-pub returns : goal.returns
-returns g c = changes-keep _

@@ -1,5 +1,0 @@
-use Rattle.kr_lawful.proofs.HoldingLemmas.{holds_fit}
-use Rattle.kr_lawful.proofs.laws.holds_fit.Goals as goal
-
-pub returns : goal.returns
-returns g c = holds_fit _ _

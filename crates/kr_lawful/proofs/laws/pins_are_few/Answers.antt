@@ -1,5 +1,0 @@
-use Rattle.kr_lawful.proofs.HoldingLemmas.{pins-few}
-use Rattle.kr_lawful.proofs.laws.pins_are_few.Goals as goal
-
-pub returns : goal.returns
-returns c = pins-few

@@ -1,5 +1,0 @@
-use Rattle.kr_lawful.proofs.HoldingLemmas.{used_is_held}
-use Rattle.kr_lawful.proofs.laws.used_is_held.Goals as goal
-
-pub returns : goal.returns
-returns g c = used_is_held _ _

@@ -1,5 +1,0 @@
-use Rattle.kr_numbered.proofs.StepLemmas.{choices-are-numbered}
-use Rattle.kr_numbered.proofs.laws.choices_are_numbered.Goals as goal
-
-pub returns : goal.returns
-returns g c = choices-are-numbered

@@ -1,0 +1,33 @@
+use Rattle.std.proofs.Common.{lit<}
+use Rattle.law_allowed.specs.kr_model.State as model
+use Rattle.law_allowed.proofs.law_lawful.AfterLemmas.{some-of}
+use Rattle.kr_seen.specs.kr_ops.Meaning.{meaning}
+use Rattle.kr_perform.proofs.WalkedLemmas.{performed-last, walks_resolve, resolved_are_told}
+use Rattle.kr_perform.proofs.CallLemmas.{are-texts, called, has-numbers}
+use Rattle.kr_perform.proofs.call.carry_out_along.Goals as goal
+
+pub perform-requires : goal.perform-requires
+perform-requires g c =
+    let number = g.P.Places.number in
+    let table = g.P.Places.mounts c.args.places.now in
+    let s = c.args.state.now in
+    let runs = c.requires.may.runs in
+    let resolved = walks_resolve number table c.args.pid s c.args.request.now c.args.targets.now runs.lasts.lawful runs.served c.requires.lives (are-texts number table s c.args.request.now c.requires.may c.requires.paths) c.requires.along in
+    (lit< tt, (c.requires.kind, (c.requires.given, (runs.lasts.lawful, (runs.served, (c.requires.lives, (resolved, has-numbers number table s c.requires.may)))))))
+
+pub returns-clause-called : goal.returns-clause-called
+returns-clause-called g c =
+    called g.P.Places.number (g.P.Places.mounts c.args.places.now) c.args.pid c.args.request.now c.args.state.now c.perform.new.state c.perform.result c.args.targets.now c.requires.along c.perform.ensures.performs
+
+pub returns-clause-runs : goal.returns-clause-runs
+returns-clause-runs g c = λ calls few runs wanted.
+    let number = g.P.Places.number in
+    let table = g.P.Places.mounts c.args.places.now in
+    let s = c.args.state.now in
+    let targets = c.args.targets.now in
+    let own = some-of (model.process c.args.pid (meaning s)) c.requires.lives in
+    let told = resolved_are_told number table c.args.pid s c.args.request.now targets runs.lasts.lawful runs.lasts.lasts.texts c.requires.paths c.requires.named c.requires.along in
+    record {
+      lasts = performed-last number table calls c.args.pid c.args.request.now targets.first targets.second s c.perform.new.state c.perform.result own.0 c.requires.kind c.perform.ensures.performs wanted few runs.lasts own.1 (c.memory_holds_bytes.ensures own.0 own.1) c.requires.given told;
+      served = c.perform.ensures.served wanted;
+    }

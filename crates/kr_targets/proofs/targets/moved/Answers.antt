@@ -1,4 +1,0 @@
-use Rattle.kr_targets.proofs.targets.moved.Goals as goal
-
-pub returns : goal.returns
-returns g c = λ pid s. cc (c.taken.ensures pid s, c.taken-2.ensures pid s, c.same.ensures)

@@ -1,4 +1,0 @@
-pub mod DecodedLemmas
-pub mod PieceLemmas
-pub mod RowLemmas
-pub mod WaitLemmas

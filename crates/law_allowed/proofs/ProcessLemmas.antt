@@ -1,0 +1,136 @@
+-- Calls on processes and on users are allowed.
+use Rattle.std.specs.FinMap as map
+use Rattle.std.proofs.Common.{subst, replicate, ℕ, zero, suc, ◌+◌, ◌≤◌, ◌<◌, Bool, true, false, not, ◌&&◌, nat_lt, List, [], ◌∷◌, length, refl, sym, ap, arith, Some, None, Option, IsSome, ℤ, pos, negsuc}
+use Rattle.std.specs.Prelude.{◌==◌, nat_le}
+use Rattle.std.specs.Option.{IfSome}
+use Rattle.std.specs.Int.{to_le_bytes, w32}
+use Rattle.std.proofs.lemmas.List.{length-map}
+use Rattle.law_lawful.specs.pr_base.declared.errno.Errno.TheVariants.{EFAULT}
+use Rattle.law_lawful.proofs.rv_mem.LayoutLemmas.{layouts_follow}
+use Rattle.law_lawful.specs.kr_view.View.{Row}
+use Rattle.law_lawful.specs.kr_calls.Arguments.{has}
+use Rattle.law_lawful.specs.kr_model.Applied.{Mounts}
+use Rattle.law_lawful.specs.kr_model.Change.{Change, Reap}
+use Rattle.law_lawful.specs.kr_model.Conditions.{CanFork}
+use Rattle.law_lawful.specs.kr_model.IdentityRows.{is_kept, no_number, get_row, set_row, set_two_row, set_three_row, get_three_row, getgroups_row, setgroups_row}
+use Rattle.law_lawful.specs.kr_model.Known.{Known, Caller, known, family_of}
+use Rattle.law_lawful.specs.kr_model.MemoryRows.{all_pages}
+use Rattle.law_lawful.specs.kr_model.ProcessRows.{usage_size, most_processes, is_fork, set_tid, told_born, clone_row, null_or_writable, unless_null, tell_end, reap, wait_for, wait4_row, pid_row, getppid_row, signals_row, umask_row, uname_row, exit_row}
+use Rattle.law_lawful.specs.kr_model.Reply.{Replying, done}
+use Rattle.law_lawful.specs.kr_model.State.{Image, image_layout, Process, Ended, State, process}
+use Rattle.law_lawful.specs.Laws.{CanAllBeMade}
+use Rattle.law_lawful.proofs.AfterLemmas.{some-of}
+use Rattle.law_allowed.specs.Laws.{ProcessRowsAreAllowed, IdentityRowsAreAllowed}
+use Rattle.law_allowed.proofs.KnownLemmas.{not-less, not-most, caller-is}
+use Rattle.law_allowed.specs.Lasting.{AreModest}
+use Rattle.law_allowed.proofs.RowLemmas.{quietly, Allowed, unchanged, refuses, ended, tested, wrote, either, row-allowed}
+
+module _ {M : Type 0} (number : M → ℕ) (table : List Row) (mounts : Mounts M) (pid : ℕ) (s : State M Image) (lives : IsSome (process pid s)) where
+  abbrev k : Known
+  k = known image_layout pid s
+
+  abbrev Can : List Change → Type 0
+  Can cs = CanAllBeMade number table mounts pid s cs × AreModest s.user cs
+
+  umask : (m : ℕ) → Allowed Can false (umask_row k m)
+  umask m = ended ((lives, omega arith, tt), quietly refl)
+
+  exit : (code : ℤ) → Allowed Can false (exit_row code)
+  exit code = ended ((lives, lives, tt), quietly refl)
+
+  -- ---- children
+
+  can-fork : length k.living + length k.ended < most_processes → k.pages + map.len k.caller.layout ≤ all_pages → (sp : ℕ) (told_at : Option ℕ)
+      → IfSome (process pid s) (CanFork (record { pid = k.next_pid; sp = sp; told_at = told_at }) s)
+  can-fork few room sp told_at =
+      let own = some-of (process pid s) lives in
+      let p : Process M Image = own.0 in
+      let living = length-map s.living (family_of image_layout) in
+      let layout = ap (λ (c : Caller). map.len c.layout) (caller-is pid s p own.1) in
+      let pages = layouts_follow.count p.image.memory.pages in
+      subst (λ (o : Option (Process M Image)). IfSome o (CanFork (record { pid = k.next_pid; sp = sp; told_at = told_at }) s)) (sym own.1)
+      (record { next = refl; few = omega arith; room = omega arith })
+
+  clone : (flags sp ctid : ℕ) → Allowed Can false (clone_row k flags sp ctid)
+  clone flags sp ctid =
+      either (not (is_fork flags)) (λ _. unchanged)
+      (λ _. either (nat_le most_processes (length k.living + length k.ended)) (λ _. unchanged)
+      (λ few. either (nat_lt all_pages (k.pages + map.len k.caller.layout)) (λ _. unchanged)
+      (λ room. told (not-most most_processes (length k.living + length k.ended) few) (not-less all_pages (k.pages + map.len k.caller.layout) room))))
+    where
+      told : length k.living + length k.ended < most_processes → k.pages + map.len k.caller.layout ≤ all_pages → Allowed Can false (told_born k flags sp ctid)
+      told few room = either (has flags set_tid) (λ _. tested (λ b. ended ((lives, can-fork few room sp _, tt), quietly refl))) (λ _. ended ((lives, can-fork few room sp None, tt), quietly refl))
+
+  null-tested : (at n : ℕ) {next : Bool → Replying} → ((b : Bool) → Allowed Can false (next b)) → Allowed Can false (null_or_writable at n next)
+  null-tested at n allowed = either (at == 0) (λ _. allowed true) (λ _. tested allowed)
+
+  null-written : {w : Bool} (at : ℕ) (bytes : List ℕ) {next : Replying} → ((w : Bool) → Allowed Can w next) → Allowed Can w (unless_null at bytes next)
+  null-written {w} at bytes allowed = either (at == 0) (λ _. allowed w) (λ _. wrote (allowed true))
+
+  usage-told : {w : Bool} (usage : ℕ) (e : Ended) → Allowed Can w (unless_null usage (replicate usage_size 0) (done e.pid (Reap e.pid ∷ [])))
+  usage-told usage e = null-written usage (replicate usage_size 0) (λ w. ended ((lives, tt, tt), quietly refl))
+
+  end-told : (status usage : ℕ) (e : Ended) → Allowed Can false (tell_end status usage e)
+  end-told status usage e = null-written status (to_le_bytes w32 e.status) (λ w. usage-told usage e)
+
+  reaped : (status usage : ℕ) (e : Ended) → Allowed Can false (reap status usage e)
+  reaped status usage e = null-tested status 4 (λ first. null-tested usage usage_size (λ second. either (first && second) (λ _. end-told status usage e) (λ _. refuses EFAULT)))
+
+  waited : (lives no_hang : Bool) (status usage : ℕ) (o : Option Ended) → Allowed Can false (wait_for lives no_hang status usage o)
+  waited lives no_hang status usage (Some e) = reaped status usage e
+  waited lives no_hang status usage None = either lives (λ _. either no_hang (λ _. unchanged) (λ _. unchanged)) (λ _. unchanged)
+
+  wait4 : (child : ℤ) (status : ℕ) (options : ℤ) (usage : ℕ) → Allowed Can false (wait4_row k pid child status options usage)
+  wait4 child status options usage = waited _ _ status usage _
+
+  uname : (buf : ℕ) → Allowed Can false (uname_row buf)
+  uname buf = tested (λ b. either b (λ _. wrote unchanged) (λ _. unchanged))
+
+  -- ---- users and groups
+
+  set : (own id : ℕ) → Allowed Can false (set_row own id)
+  set own id = either (id == no_number) (λ _. unchanged) (λ _. either (id == own) (λ _. unchanged) (λ _. unchanged))
+
+  set-two : (own real effective : ℕ) → Allowed Can false (set_two_row own real effective)
+  set-two own real effective = either (is_kept own real && is_kept own effective) (λ _. unchanged) (λ _. unchanged)
+
+  set-three : (own real effective saved : ℕ) → Allowed Can false (set_three_row own real effective saved)
+  set-three own real effective saved = either (is_kept own real && is_kept own effective && is_kept own saved) (λ _. unchanged) (λ _. unchanged)
+
+  get-three : (own real effective saved : ℕ) → Allowed Can false (get_three_row own real effective saved)
+  get-three own real effective saved =
+      tested (λ first. tested (λ second. tested (λ third. either (first && second && third) (λ _. wrote (wrote (wrote unchanged))) (λ _. unchanged))))
+
+  getgroups : (size : ℤ) (list : ℕ) → Allowed Can false (getgroups_row k size list)
+  getgroups (pos zero) list = unchanged
+  getgroups (pos (suc n)) list = tested (λ b. either b (λ _. wrote unchanged) (λ _. unchanged))
+  getgroups (negsuc n) list = unchanged
+
+pub process-rows : (M : Type 0) → ProcessRowsAreAllowed M
+process-rows M number table mounts pid = record {
+  numbered = row-allowed number table mounts pid (λ t next. Unit {0}) (λ k. pid_row pid) (λ s l lives rests. unchanged);
+  parent = row-allowed number table mounts pid (λ t next. Unit {0}) (λ k. getppid_row k) (λ s l lives rests. unchanged);
+  signals = row-allowed number table mounts pid (λ t next. Unit {0}) (λ k. signals_row) (λ s l lives rests. unchanged);
+  umask = λ m. row-allowed number table mounts pid (λ t next. Unit {0}) (λ k. umask_row k m) (λ s l lives rests. umask number table mounts pid s lives m);
+  uname = λ buf. row-allowed number table mounts pid (λ t next. Unit {0}) (λ k. uname_row buf) (λ s l lives rests. uname number table mounts pid s lives buf);
+  exit = λ code. row-allowed number table mounts pid (λ t next. Unit {0}) (λ k. exit_row code) (λ s l lives rests. exit number table mounts pid s lives code);
+  clone = λ flags sp ctid. row-allowed number table mounts pid (λ t next. Unit {0}) (λ k. clone_row k flags sp ctid) (λ s l lives rests. clone number table mounts pid s lives flags sp ctid);
+  wait4 = λ child status options usage.
+      row-allowed number table mounts pid (λ t next. Unit {0}) (λ k. wait4_row k pid child status options usage) (λ s l lives rests. wait4 number table mounts pid s lives child status options usage);
+}
+
+pub identity-rows : (M : Type 0) → IdentityRowsAreAllowed M
+identity-rows M number table mounts pid = record {
+  get = λ own. row-allowed number table mounts pid (λ t next. Unit {0}) (λ k. get_row (own k)) (λ s l lives rests. unchanged);
+  set = λ own id. row-allowed number table mounts pid (λ t next. Unit {0}) (λ k. set_row (own k) id) (λ s l lives rests. set number table mounts pid s lives (own (known image_layout pid s)) id);
+  set_two = λ own real effective.
+      row-allowed number table mounts pid (λ t next. Unit {0}) (λ k. set_two_row (own k) real effective) (λ s l lives rests. set-two number table mounts pid s lives (own (known image_layout pid s)) real effective);
+  set_three = λ own real effective saved.
+      row-allowed number table mounts pid (λ t next. Unit {0}) (λ k. set_three_row (own k) real effective saved)
+      (λ s l lives rests. set-three number table mounts pid s lives (own (known image_layout pid s)) real effective saved);
+  get_three = λ own real effective saved.
+      row-allowed number table mounts pid (λ t next. Unit {0}) (λ k. get_three_row (own k) real effective saved)
+      (λ s l lives rests. get-three number table mounts pid s lives (own (known image_layout pid s)) real effective saved);
+  getgroups = λ size list. row-allowed number table mounts pid (λ t next. Unit {0}) (λ k. getgroups_row k size list) (λ s l lives rests. getgroups number table mounts pid s lives size list);
+  setgroups = row-allowed number table mounts pid (λ t next. Unit {0}) (λ k. setgroups_row) (λ s l lives rests. unchanged);
+}

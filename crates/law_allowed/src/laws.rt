@@ -1,0 +1,89 @@
+//! Laws of rows that are allowed, each carried by a function that does nothing.
+ghost use Rattle.law_allowed.specs.Calls.{DecodedAreGivable, OperationIsAllowed};
+ghost use Rattle.law_allowed.specs.Laws.{AttributeRowsAreAllowed, DescriptorRowsAreAllowed, DirectoryRowsAreAllowed, FileRowsAreAllowed, IdentityRowsAreAllowed, MemoryRowsAreAllowed, NameRowsAreAllowed, OpeningIsAllowed, ProcessRowsAreAllowed};
+ghost use Rattle.law_allowed.specs.Told.{CallsLeaveLawful, CallsWalkToTargets, SettledAreNamed, TargetsAreTold, WalkedCallsLeaveLawful, WalksGiveTargets};
+
+/// Calls on descriptors leave a lawful state.
+pub fn descriptor_rows_are_allowed<T>()
+    ensures { DescriptorRowsAreAllowed T }
+{}
+
+/// Calls on processes leave a lawful state.
+pub fn process_rows_are_allowed<T>()
+    ensures { ProcessRowsAreAllowed T }
+{}
+
+/// So do calls on users and groups.
+pub fn identity_rows_are_allowed<T>()
+    ensures { IdentityRowsAreAllowed T }
+{}
+
+/// So do calls on the caller's pages.
+pub fn memory_rows_are_allowed<T>()
+    ensures { MemoryRowsAreAllowed T }
+{}
+
+/// So do calls that read, write and cut files.
+pub fn file_rows_are_allowed<T>()
+    ensures { FileRowsAreAllowed T }
+{}
+
+/// So do calls on the attributes of a file.
+pub fn attribute_rows_are_allowed<T>()
+    ensures { AttributeRowsAreAllowed T }
+{}
+
+/// So do calls that read directories and change to them.
+pub fn directory_rows_are_allowed<T>()
+    ensures { DirectoryRowsAreAllowed T }
+{}
+
+/// So do calls that change names.
+pub fn name_rows_are_allowed<T>()
+    ensures { NameRowsAreAllowed T }
+{}
+
+/// So does the opening of files, those that are made among them.
+pub fn opening_is_allowed<T>()
+    ensures { OpeningIsAllowed T }
+{}
+
+/// And so does every call but execve(2): the changes that it replies can all be made, one behind the other.
+pub fn operation_is_allowed<T>()
+    ensures { OperationIsAllowed T }
+{}
+
+/// Decoding gives such arguments as calls rest on, of a memory that holds bytes.
+pub fn decoded_are_givable()
+    ensures { DecodedAreGivable }
+{}
+
+/// Walks give such targets as calls rest on, where the names of these are good.
+pub fn walks_give_targets()
+    ensures { WalksGiveTargets }
+{}
+
+/// So do all walks of a call over a lawful state, whose process links lead to places of the view.
+pub fn calls_walk_to_targets()
+    ensures { CallsWalkToTargets }
+{}
+
+/// The sources of a table as it was settled have good names.
+pub fn settled_sources_are_named()
+    ensures { SettledAreNamed }
+{}
+
+/// What a call is told of such targets is so.
+pub fn targets_are_told()
+    ensures { TargetsAreTold }
+{}
+
+/// With such targets every call but execve(2) on a lawful state leaves one, and names the mounts of its first path's target.
+pub fn calls_leave_lawful()
+    ensures { CallsLeaveLawful }
+{}
+
+/// And so does every call but execve(2) with its walks, whatever they come to.
+pub fn walked_calls_leave_lawful()
+    ensures { WalkedCallsLeaveLawful }
+{}

@@ -1,0 +1,36 @@
+pub use Rattle.pt_watched.specs.pr_base as pr_base
+pub use Rattle.pt_watched.specs.rv_mem as rv_mem
+pub use Rattle.pt_watched.specs.kr_inode as kr_inode
+pub use Rattle.law_walks.specs.kr_tree as kr_tree
+pub use Rattle.law_walks.specs.kr_view as kr_view
+pub use Rattle.law_walks.specs.kr_mounts as kr_mounts
+pub use Rattle.law_walks.specs.kr_files as kr_files
+pub use Rattle.pt_args.specs.kr_calls as kr_calls
+pub use Rattle.law_walks.specs.kr_model as kr_model
+pub use Rattle.pt_watched.specs.law_allowed as law_allowed
+pub use Rattle.pt_watched.specs.kr_turns as kr_turns
+pub use Rattle.pt_watched.specs.pt_bind as pt_bind
+pub use Rattle.pt_args.specs as pt_args
+pub use Rattle.pt_watched.specs.pt_results as pt_results
+pub use Rattle.pt_watched.specs.pt_script as pt_script
+pub use Rattle.pt_watched.specs.pt_ident as pt_ident
+pub use Rattle.pt_watched.specs.pt_faker as pt_faker
+pub use Rattle.pt_watched.specs as pt_watched
+pub use Rattle.law_walks.specs as law_walks
+pub mod Answered
+pub mod Exits
+pub mod Laws
+pub mod Marking
+pub mod NoCalls
+pub mod Operations
+pub mod Requests
+pub mod Rewriting
+pub mod Shelves
+pub mod Stops
+pub mod Swapped
+pub mod Showing
+pub mod Fresh
+pub mod Reading
+pub mod Answers
+pub mod CallShelves
+pub mod Short

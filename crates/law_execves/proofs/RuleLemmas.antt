@@ -1,0 +1,98 @@
+-- What is so of an execve that breaks no calm rule: it read no marked byte, its walks reach no long name, and it has a shelf.
+use Rattle.std.proofs.Common.{◌≡◌, ◌≤◌, ℕ, Bool, true, false, cond, ◌||◌, List, Option, Some, None, Ok, refl, sym, ap, subst, ◌∙◌, nat_lt}
+use Rattle.std.specs.Option.{option_map_or}
+use Rattle.std.specs.Prelude.{IsSome}
+use Rattle.std.proofs.lemmas.Bool.{ltb-false}
+use Rattle.pt_args.specs.rv_mem.Actions.{AreEqualUnmarked, carried_out}
+use Rattle.pt_args.specs.rv_mem.Memory.{Memory}
+use Rattle.law_stops.specs.kr_view.View.{Row}
+use Rattle.pt_args.specs.kr_calls.Arguments.{number}
+use Rattle.pt_args.specs.kr_calls.declared.request.Request.TheVariants as call
+use Rattle.law_plans.specs.kr_seen.Carrying.{memory_of}
+use Rattle.law_plans.specs.kr_calm.Shelf.{has_path, is_usable, stack_pointer}
+use Rattle.law_programs.specs.kr_execve.Execution.{execution, execution_reach}
+use Rattle.law_stops.specs.kr_model.State.{Image, Process, State, process}
+use Rattle.law_stops.specs.kr_turns.Breaking.{decoded_rule, executed_rule, nothing_reached, plain_rule_of}
+use Rattle.law_stops.specs.kr_turns.Stopped.{Stopped, edited}
+use Rattle.law_stops.proofs.kr_turns.EditLemmas.{image-edited}
+use Rattle.law_stops.specs.kr_turns.Turn.{Machine, calling, watched_call}
+use Rattle.law_stops.specs.kr_turns.Watching.{unwatched}
+use Rattle.law_stops.specs.pt_faker.Stopping.{decoded_at}
+use Rattle.law_stops.specs.pt_watched.Planning.{has_shelf}
+use Rattle.law_stops.specs.pt_watched.Watched.{Tracing}
+use Rattle.law_stops.specs.law_edits.Shelves.{bottom_of}
+use Rattle.law_stops.specs.law_edits.Swapped.{AreMarkedFrom}
+use Rattle.law_stops.proofs.law_edits.MarkLemmas.{shelves_are_marked}
+use Rattle.law_stops.proofs.law_edits.NumberLemmas.{paths_have_numbers}
+use Rattle.law_stops.proofs.law_edits.CallShelfLemmas.{calm_calls_have_shelves, shelves_are_seen}
+use Rattle.law_plans.proofs.law_places.InUseLemmas.{neither}
+use Rattle.law_stops.specs.Turning.{ComeToCall}
+use Rattle.law_stops.proofs.CallLemmas as before
+use Rattle.law_stops.proofs.CallLemmas.{own_image}
+use Rattle.law_execves.proofs.GoLemmas as go
+
+-- none of six rules
+none_of_six : (first second third fourth fifth sixth : Bool)
+    → cond {A = Option ℕ} first (Some 1) (cond second (Some 2) (cond third (Some 3) (cond fourth (Some 4) (cond fifth (Some 5) (cond sixth (Some 6) None))))) ≡ None → (first ≡ false) × (sixth ≡ false)
+none_of_six false false false false false false e = (refl, refl)
+none_of_six false false false false false true e = absurd cc
+none_of_six true second third fourth fifth sixth e = absurd cc
+none_of_six false true third fourth fifth sixth e = absurd cc
+none_of_six false false true fourth fifth sixth e = absurd cc
+none_of_six false false false true fifth sixth e = absurd cc
+none_of_six false false false false true sixth e = absurd cc
+
+module _ {S : Type 0} (table : List Row) (made pid : ℕ) (m : Machine S) (n : Machine Tracing) (c : ComeToCall table made pid m n) (p q : Process ℕ Image) (lives : process pid m.state ≡ Some p) (also : process pid n.state ≡ Some q)
+    (calm : (watched_call unwatched 1 table pid m).tally.broken ≡ None) (path : List ℕ) (args env : ℕ) (decoded : (decoded_at (calling 1 pid m.state)).reply ≡ Ok (call.Execve path args env)) where
+  abbrev s1 : State ℕ Image
+  s1 = go.s1 table made pid m n c p q lives also calm path args env decoded
+
+  abbrev p1 : Process ℕ Image
+  p1 = go.p1 table made pid m n c p q lives also calm path args env decoded
+
+  abbrev at : State ℕ Image
+  at = go.at table made pid m n c p q lives also calm path args env decoded
+
+  abbrev stop : Stopped
+  stop = go.stop table made pid m n c p q lives also calm path args env decoded
+
+  abbrev lacks : Bool
+  lacks = before.lacks table made pid m n c p q lives also
+
+  calm_row : executed_rule 1 table pid lacks (call.Execve path args env) path args env at ≡ None
+  calm_row =
+      sym (ap (λ o. option_map_or (plain_rule_of 1 table pid lacks s1) o None) (before.lives1 table made pid m n c p q lives also) ∙ ap (λ reply. decoded_rule 1 table pid lacks reply at) (go.reads table made pid m n c p q lives also calm path args env decoded))
+      ∙ before.calm_call table made pid m n c p q lives also calm
+
+  rules : ((carried_out (execution table pid at path args env) (memory_of pid at)).memory.read_marked || lacks ≡ false) × (nat_lt 4000 (execution_reach table pid at path args env (memory_of pid at) nothing_reached).longest ≡ false)
+  rules = none_of_six _ _ _ _ _ _ calm_row
+
+  pub unread : (carried_out (execution table pid at path args env) (memory_of pid at)).memory.read_marked ≡ false
+  unread = (neither (carried_out (execution table pid at path args env) (memory_of pid at)).memory.read_marked lacks rules.0).0
+
+  pub short : (execution_reach table pid at path args env (memory_of pid at) nothing_reached).longest ≤ 4000
+  short = ltb-false 4000 (execution_reach table pid at path args env (memory_of pid at) nothing_reached).longest rules.1
+
+  -- ---- the shelf
+
+  has_number : has_path (number p.image.regs) ≡ true
+  has_number = paths_have_numbers p1.image.regs p1.image.memory (call.Execve path args env) 0 _ (go.reads table made pid m n c p q lives also calm path args env decoded) refl
+
+  usable : is_usable (stack_pointer p.image.regs) p.image.memory.pages ≡ true
+  usable =
+      calm_calls_have_shelves table pid m.state p lives has_number
+      (subst (λ t. plain_rule_here t ≡ None) (sym (before.shelf table made pid m n c p q lives also)) (before.calm_call table made pid m n c p q lives also calm))
+    where
+      plain_rule_here : State ℕ Image → Option ℕ
+      plain_rule_here t = option_map_or (plain_rule_of 1 table pid lacks t) (process pid t) None
+
+  -- its bytes are marked on the machine with mounts
+  pub marks : AreMarkedFrom (bottom_of (stack_pointer p.image.regs)) (stack_pointer p.image.regs) p1.image.memory.pages
+  marks = (shelves_are_marked p.image.regs p.image.memory (c.matches.states.placed.lawful.processes pid p lives).whole has_number usable).marks
+
+  -- and the tracer finds it at the first stop, whatever it has read
+  pub shelf : (memory : Memory) → memory.pages ≡ q.image.memory.pages → has_shelf (edited q.image.regs memory stop) ≡ true
+  shelf memory pages =
+      let image = image-edited q.image.regs memory stop (subst IsSome (sym also) refl) in
+      shelves_are_seen p.image.regs p.image.memory.pages (edited q.image.regs memory stop) (ap (λ (i : Image). i.regs) image ∙ sym (before.same_regs table made pid m n c p q lives also))
+      (subst (AreEqualUnmarked p.image.memory.pages) (sym (ap (λ (i : Image). i.memory.pages) image ∙ pages)) (c.matches.states.images.memories pid p q lives also)) usable

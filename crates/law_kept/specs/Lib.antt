@@ -1,0 +1,9 @@
+pub mod Bringing
+pub mod Bytes
+pub mod Calls
+pub mod Laws
+pub mod Starts
+pub mod Turns
+pub mod ImagesApart
+pub mod ImagePaths
+pub mod MemoriesApart

@@ -1,0 +1,16 @@
+pub use Rattle.pr_top.specs.kr_view as kr_view
+pub use Rattle.pr_top.specs.pr_run as pr_run
+pub use Rattle.pr_top.specs as pr_top
+pub mod Asking
+pub mod Given
+pub mod GivenOpenings
+pub mod FakedStarts
+pub mod Starts
+pub mod Tables
+pub mod Turns
+pub mod Agreeing
+pub mod FakedAgreeing
+pub mod Reports
+pub mod Watching
+pub mod Openings
+pub mod Watchers

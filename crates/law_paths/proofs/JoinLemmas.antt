@@ -1,0 +1,123 @@
+-- Calls along paths, whatever the tracer makes of them.
+use Rattle.std.proofs.Common.{◌≡◌, ℕ, List, Option, Some, None, Ok, refl, sym, ap, subst, ◌∙◌, ℤ, pos}
+use Rattle.std.specs.Prelude.{IsSome}
+use Rattle.law_plans.specs.pr_base.declared.path.WalkMode.TheVariants.{LookLink}
+use Rattle.pt_args.specs.Laws.{ShelvesHoldTheirItems, TextsAreReadBack}
+use Rattle.pt_args.specs.declared.edit.Edit.{Edit}
+use Rattle.law_stops.specs.pt_results.Answers.{cwd_answer, link_answer}
+use Rattle.law_plans.specs.kr_view.View.{Row, plain}
+use Rattle.pt_args.specs.kr_calls.PathTable.{PathUse, path_at}
+use Rattle.pt_args.specs.kr_calls.declared.request.Request.{Request}
+use Rattle.pt_args.specs.kr_calls.declared.request.Request.TheVariants as call
+use Rattle.law_plans.specs.kr_seen.Carrying.{memory_of}
+use Rattle.law_plans.specs.kr_model.State.{Image, Process, process}
+use Rattle.law_stops.specs.kr_turns.Turn.{Machine, calling, watched_call}
+use Rattle.law_stops.specs.kr_turns.Watching.{unwatched}
+use Rattle.law_plans.specs.pt_faker.Stopping.{decoded_at}
+use Rattle.law_plans.specs.pt_watched.Planning.{answered}
+use Rattle.law_plans.specs.pt_watched.Watched.{Tracing, tracer}
+use Rattle.law_stops.proofs.law_turns.RunLemmas.{lives_too}
+use Rattle.law_stops.specs.law_turns.PathCalls.{HasPath}
+use Rattle.law_plans.proofs.law_edits.CwdLemmas.{cwds_are_answered_alike}
+use Rattle.law_stops.specs.Turning.{ComeFromCall, ComeToCall}
+use Rattle.law_stops.proofs.AnsweredLemmas.{cancelled_calls_go_together}
+use Rattle.law_stops.proofs.EmulateLemmas.{answered_calls_go_together}
+use Rattle.law_stops.proofs.SwapLemmas.{passed_calls_go_together, swapped_calls_go_together}
+use Rattle.law_paths.specs.Calls.{Answered, Cancelled, MadeAlike, Passed, PathCallsAreMadeAlike, PathCallsGoTogether, Swapped}
+use Rattle.law_paths.proofs.AnswerLemmas.{answered_alike, in_directory, memories, stop_there, told}
+use Rattle.law_paths.proofs.AnswerLemmas as answer
+use Rattle.law_paths.proofs.HereLemmas as here
+use Rattle.law_paths.proofs.PlanLemmas.{is_planned, planned_alike, then_stop}
+use Rattle.law_plans.proofs.DecodedLemmas.{counts_are_decoded, first_of_two_is_decoded}
+use Rattle.law_plans.proofs.LinkLemmas.{links_are_answered_alike}
+use Rattle.law_plans.proofs.EditLemmas.{plans_are_short}
+
+module _ {S : Type 0} (back : TextsAreReadBack) (shelves : ShelvesHoldTheirItems) (table : List Row) (made pid : ℕ) (m : Machine S) (n : Machine Tracing) (c : ComeToCall table made pid m n) (p q : Process ℕ Image) (lives : process pid m.state ≡ Some p)
+    (also : process pid n.state ≡ Some q) (calm : (watched_call unwatched 1 table pid m).tally.broken ≡ None) where
+  abbrev Made : Request → Type 0
+  Made r = MadeAlike table pid m n r
+
+  abbrev Reads : Request → Type 0
+  Reads r = (decoded_at (calling 1 pid m.state)).reply ≡ Ok r
+
+  -- ---- by the plan of its paths
+
+  along : (r : Request) (reads : Reads r) (kind : HasPath r) (u : PathUse) → path_at r 0 ≡ Some u → link_answer (here.texts table made pid m n r c p q lives also calm reads kind) pid r ≡ None
+      → answered (here.texts table made pid m n r c p q lives also calm reads kind) (then_stop table made pid m n r c p q lives also calm reads kind) r ≡ None → Made r
+  along r reads kind u path unlinked unanswered =
+      let p1 = here.p1 table made pid m n r c p q lives also calm reads kind in
+      let first = first_of_two_is_decoded p1.image.regs p1.image.memory r (here.reads_by table made pid m n r c p q lives also calm reads kind) in
+      let short =
+      plans_are_short table n.watcher.tags (here.at table made pid m n r c p q lives also calm reads kind) (here.w2 table made pid m n r c p q lives also calm reads kind) pid r u
+      (is_planned table made pid m n r c p q lives also calm reads kind u path first unlinked unanswered) path (here.short table made pid m n r c p q lives also calm reads kind) in
+      planned_alike table made pid m n r c p q lives also calm reads kind u path first unlinked unanswered back shelves short.0 short.1
+
+  -- ---- answered by the tracer
+
+  getcwd : (buf size : ℕ) → Reads (call.Getcwd buf size) → Made (call.Getcwd buf size)
+  getcwd buf size reads =
+      let r = call.Getcwd buf size in
+      let at = here.at table made pid m n r c p q lives also calm reads tt in
+      let stop = then_stop table made pid m n r c p q lives also calm reads tt in
+      Answered _ (answered_alike table made pid m n r c p q lives also calm reads tt (cwd_answer (here.texts table made pid m n r c p q lives also calm reads tt) pid size buf) refl
+      (cwds_are_answered_alike table at n.watcher.tags pid (answer.caller table made pid m n r c p q lives also calm reads tt) (memory_of pid at) stop buf size (told table made pid m n r c p q lives also calm reads tt)
+      (in_directory table made pid m n r c p q lives also calm reads tt) (stop_there table made pid m n r c p q lives also calm reads tt) (memories table made pid m n r c p q lives also calm reads tt)) (λ index value. refl))
+
+  link_read : (dirfd : ℤ) (path : List ℕ) (buf count : ℕ) → Reads (call.Readlinkat dirfd path buf (pos count)) → Made (call.Readlinkat dirfd path buf (pos count))
+  link_read dirfd path buf count reads =
+      let r = call.Readlinkat dirfd path buf (pos count) in
+      by (link_answer (here.texts table made pid m n r c p q lives also calm reads tt) pid r) refl
+    where
+      by : (o : Option Edit) → link_answer (here.texts table made pid m n (call.Readlinkat dirfd path buf (pos count)) c p q lives also calm reads tt) pid (call.Readlinkat dirfd path buf (pos count)) ≡ o → Made (call.Readlinkat dirfd path buf (pos count))
+      by None is = along (call.Readlinkat dirfd path buf (pos count)) reads tt (record { dirfd = dirfd; text = path; mode = LookLink; register = 11 }) refl is is
+      by (Some edit) is =
+          let r = call.Readlinkat dirfd path buf (pos count) in
+          let at = here.at table made pid m n r c p q lives also calm reads tt in
+          Answered _ (answered_alike table made pid m n r c p q lives also calm reads tt edit is
+          (links_are_answered_alike table n.watcher.tags at _ pid (memory_of pid at) (then_stop table made pid m n r c p q lives also calm reads tt) dirfd path buf count edit (here.together table made pid m n r c p q lives also calm reads tt)
+          (stop_there table made pid m n r c p q lives also calm reads tt) (memories table made pid m n r c p q lives also calm reads tt) is) (λ index value. refl))
+
+  -- its size is a positive number, as decoding gives it
+  readlinkat : (dirfd : ℤ) (path : List ℕ) (buf : ℕ) (size : ℤ) → Reads (call.Readlinkat dirfd path buf size) → Made (call.Readlinkat dirfd path buf size)
+  readlinkat dirfd path buf size reads =
+      let r = call.Readlinkat dirfd path buf size in
+      let p1 = here.p1 table made pid m n r c p q lives also calm reads tt in
+      let count = counts_are_decoded p1.image.regs p1.image.memory r (here.reads_by table made pid m n r c p q lives also calm reads tt) in
+      subst (λ size. Made (call.Readlinkat dirfd path buf size)) (sym count.1) (link_read dirfd path buf count.0 (reads ∙ ap (λ size. Ok (call.Readlinkat dirfd path buf size)) count.1))
+
+  -- ---- each call
+
+  each : (r : Request) → Reads r → HasPath r → Made r
+  each (call.Openat dirfd path flags mode) reads kind = along (call.Openat dirfd path flags mode) reads kind _ refl refl refl
+  each (call.Mkdirat dirfd path mode) reads kind = along (call.Mkdirat dirfd path mode) reads kind _ refl refl refl
+  each (call.Unlinkat dirfd path flags) reads kind = along (call.Unlinkat dirfd path flags) reads kind _ refl refl refl
+  each (call.Symlinkat text dirfd path) reads kind = along (call.Symlinkat text dirfd path) reads kind _ refl refl refl
+  each (call.Linkat olddir old newdir new flags) reads kind = along (call.Linkat olddir old newdir new flags) reads kind _ refl refl refl
+  each (call.Renameat2 olddir old newdir new) reads kind = along (call.Renameat2 olddir old newdir new) reads kind _ refl refl refl
+  each (call.Faccessat dirfd path mode) reads kind = along (call.Faccessat dirfd path mode) reads kind _ refl refl refl
+  each (call.Fchmodat dirfd path mode) reads kind = along (call.Fchmodat dirfd path mode) reads kind _ refl refl refl
+  each (call.Fchownat dirfd path uid gid flags) reads kind = along (call.Fchownat dirfd path uid gid flags) reads kind _ refl refl refl
+  each (call.Newfstatat dirfd path buf flags) reads kind = along (call.Newfstatat dirfd path buf flags) reads kind _ refl refl refl
+  each (call.Readlinkat dirfd path buf size) reads kind = readlinkat dirfd path buf size reads
+  each (call.Chdir path) reads kind = along (call.Chdir path) reads kind _ refl refl refl
+  each (call.Chroot path) reads kind = along (call.Chroot path) reads kind _ refl refl refl
+  each (call.Getcwd buf size) reads kind = getcwd buf size reads
+  each _ reads kind = absurd kind
+
+pub path_calls_are_made_alike : TextsAreReadBack → ShelvesHoldTheirItems → (S : Type 0) → PathCallsAreMadeAlike S
+path_calls_are_made_alike back shelves S table made pid m n r c reads kind calm = by (process pid m.state) refl c.lives
+  where
+    by : (o : Option (Process ℕ Image)) → process pid m.state ≡ o → IsSome o → MadeAlike table pid m n r
+    by None none some = absurd cc
+    by (Some p) lives some =
+        let q = lives_too table n.watcher.tags pid m.state n.state p c.matches.states lives in
+        each back shelves table made pid m n c p q.0 lives q.1 calm r reads kind
+
+pub path_calls_go_together : TextsAreReadBack → ShelvesHoldTheirItems → (S : Type 0) → PathCallsGoTogether S
+path_calls_go_together back shelves S table made pid m n r c reads kind calm = by (path_calls_are_made_alike back shelves S table made pid m n r c reads kind calm)
+  where
+    by : MadeAlike table pid m n r → ComeFromCall table made (watched_call unwatched 1 table pid m) (watched_call tracer 0 plain pid n)
+    by (Passed alike) = passed_calls_go_together S table made pid m n r c alike calm
+    by (Swapped first second alike) = swapped_calls_go_together back shelves S table made pid m n r first second c alike calm
+    by (Cancelled e alike) = cancelled_calls_go_together S table made pid m n r e c alike calm
+    by (Answered answer alike) = answered_calls_go_together S table made pid m n r answer c alike calm

@@ -1,0 +1,50 @@
+-- Every call but execve(2) is told of a path, or of none.
+use Rattle.std.proofs.Common.{◌≡◌, ◌⊎◌, inl, inr, true, Ok, Err, refl, sym, subst}
+use Rattle.std.specs.Prelude.{not}
+use Rattle.pt_args.specs.Laws.{ShelvesHoldTheirItems, TextsAreReadBack}
+use Rattle.law_plans.specs.kr_view.View.{plain}
+use Rattle.pt_args.specs.kr_calls.Decoding.{Decoded}
+use Rattle.pt_args.specs.kr_calls.declared.request.Request.{Request}
+use Rattle.pt_args.specs.kr_calls.declared.request.Request.TheVariants as call
+use Rattle.law_stops.specs.kr_turns.Turn.{calling, watched_call}
+use Rattle.law_stops.specs.kr_turns.Watching.{unwatched}
+use Rattle.law_plans.specs.pt_faker.Stopping.{decoded_at}
+use Rattle.law_plans.specs.pt_watched.Watched.{tracer}
+use Rattle.law_stops.specs.law_turns.Pathless.{IsPathless}
+use Rattle.law_stops.specs.law_turns.PathCalls.{HasPath}
+use Rattle.law_stops.specs.Turning.{ComeFromCall, HasNoPath}
+use Rattle.law_stops.proofs.CallLemmas.{pathless_calls_go_together}
+use Rattle.law_paths.specs.Calls.{OtherCallsGoTogether, executes_nothing, is_execve}
+use Rattle.law_paths.proofs.JoinLemmas.{path_calls_go_together}
+
+either : (r : Request) → not (is_execve r) ≡ true → IsPathless r ⊎ HasPath r
+either (call.Openat dirfd path flags mode) other = inr tt
+either (call.Mkdirat dirfd path mode) other = inr tt
+either (call.Unlinkat dirfd path flags) other = inr tt
+either (call.Symlinkat text dirfd path) other = inr tt
+either (call.Linkat olddir old newdir new flags) other = inr tt
+either (call.Renameat2 olddir old newdir new) other = inr tt
+either (call.Faccessat dirfd path mode) other = inr tt
+either (call.Fchmodat dirfd path mode) other = inr tt
+either (call.Fchownat dirfd path uid gid flags) other = inr tt
+either (call.Newfstatat dirfd path buf flags) other = inr tt
+either (call.Readlinkat dirfd path buf size) other = inr tt
+either (call.Chdir path) other = inr tt
+either (call.Chroot path) other = inr tt
+either (call.Getcwd buf size) other = inr tt
+either (call.Execve path args env) other = absurd cc
+either _ other = inl tt
+
+pub other_calls_go_together : TextsAreReadBack → ShelvesHoldTheirItems → (S : Type 0) → OtherCallsGoTogether S
+other_calls_go_together back shelves S table made pid m n c other calm = by (decoded_at (calling 1 pid m.state)).reply refl other
+  where
+    Together : Type 0
+    Together = ComeFromCall table made (watched_call unwatched 1 table pid m) (watched_call tracer 0 plain pid n)
+
+    request : (r : Request) → (decoded_at (calling 1 pid m.state)).reply ≡ Ok r → IsPathless r ⊎ HasPath r → Together
+    request r is (inl pathless) = pathless_calls_go_together S table made pid m n c (subst HasNoPath (sym is) pathless) calm
+    request r is (inr path) = path_calls_go_together back shelves S table made pid m n r c is path calm
+
+    by : (reply : Decoded) → (decoded_at (calling 1 pid m.state)).reply ≡ reply → executes_nothing reply ≡ true → Together
+    by (Ok r) is other = request r is (either r other)
+    by (Err e) is other = pathless_calls_go_together S table made pid m n c (subst HasNoPath (sym is) tt) calm

@@ -1,0 +1,5 @@
+use Rattle.law_places.proofs.KeepLemmas.{calm_changes_keep_places}
+use Rattle.law_places.proofs.keeping.calm_changes_keep_places.Goals as goal
+
+pub returns : goal.returns
+returns c = calm_changes_keep_places

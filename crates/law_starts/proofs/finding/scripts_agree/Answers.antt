@@ -1,0 +1,5 @@
+use Rattle.law_starts.proofs.ScriptLemmas.{scripts-agree}
+use Rattle.law_starts.proofs.finding.scripts_agree.Goals as goal
+
+pub returns : goal.returns
+returns c = scripts-agree

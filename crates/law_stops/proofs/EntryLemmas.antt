@@ -1,0 +1,128 @@
+-- A calm call at its first stop: a watcher that leaves it to the kernel leaves the process as it is.
+use Rattle.std.proofs.Common.{◌≡◌, ℕ, Bool, false, List, Some, None, refl, sym, ap, ◌∙◌}
+use Rattle.pt_args.specs.rv_mem.Actions.{carried_out}
+use Rattle.law_edits.specs.kr_view.View.{Row}
+use Rattle.pt_args.specs.kr_calls.Decoding.{decoding}
+use Rattle.law_edits.specs.kr_model.State.{Image, Process, State, process}
+use Rattle.law_turns.proofs.law_allowed.DecodedLemmas.{decoding-leaves-pages}
+use Rattle.law_turns.specs.kr_steps.Computing.{computed}
+use Rattle.law_turns.specs.kr_turns.Breaking.{plain_rule}
+use Rattle.law_turns.specs.kr_turns.PlainCall.{Came, plain_call}
+use Rattle.law_turns.specs.kr_turns.Stopped.{Stopped}
+use Rattle.law_turns.specs.kr_turns.Turn.{Machine, Tally, after_born, after_plain, called, calling, watched_call, with_broken}
+use Rattle.law_turns.specs.kr_turns.Watching.{unwatched}
+use Rattle.law_edits.specs.pt_faker.Faking.{Faking, entered as faked_entry, faker}
+use Rattle.law_edits.specs.pt_faker.Stopping.{after_request, decoded_at}
+use Rattle.law_edits.specs.pt_watched.Watched.{Tracing}
+use Rattle.law_turns.specs.Calls.{decoded_by, decoded_in}
+use Rattle.law_turns.specs.Lasting.{CanBeCalled}
+use Rattle.law_turns.proofs.CalledLemmas.{decoded_lives, decoded_process}
+use Rattle.law_turns.proofs.ComeLemmas.{after_end_broken}
+use Rattle.law_turns.proofs.QuietLemmas.{kept_none}
+use Rattle.law_turns.proofs.UnreadLemmas.{calm_unread, unread_before}
+use Rattle.law_stops.specs.Turning.{ComeToCall}
+use Rattle.law_stops.proofs.CallLemmas as before
+use Rattle.law_stops.proofs.CallLemmas.{own_image}
+use Rattle.law_stops.specs.Going.{ComeToFakedCall, untold}
+
+module _ (table : List Row) (made pid : ℕ) (m : Machine Faking) (n : Machine Tracing) (c : ComeToFakedCall table made pid m n) (p q : Process ℕ Image) (lives : process pid m.state ≡ Some p) (also : process pid n.state ≡ Some q) where
+  -- where no identity is told
+  pub comes : ComeToCall table made pid m (untold n)
+  comes = record {
+    matches = record { states = c.matches.states; statuses = c.matches.statuses };
+    lasts = c.lasts;
+    also_lasts = c.also_lasts;
+    few = c.few;
+    named = c.named;
+    sized = c.sized;
+    also_sized = c.also_sized;
+    traces = record { bindings = c.goes.bindings; identities = refl };
+    watched = c.watched;
+    lives = c.lives;
+  }
+
+  abbrev pub s1 : State ℕ Image
+  s1 = before.s1 table made pid m (untold n) comes p q lives also
+
+  abbrev pub p1 : Process ℕ Image
+  p1 = before.p1 table made pid m (untold n) comes p q lives also
+
+  pub lives1 : process pid s1 ≡ Some p1
+  lives1 = before.lives1 table made pid m (untold n) comes p q lives also
+
+  pub can : CanBeCalled table made pid s1 p1
+  can = before.can table made pid m (untold n) comes p q lives also
+
+  abbrev pub lacks : Bool
+  lacks = before.lacks table made pid m (untold n) comes p q lives also
+
+  -- ---- the first stop
+
+  abbrev pub first : Stopped
+  first = record { state = s1; pid = pid; at_root = false }
+
+  pub calling_is : calling 1 pid m.state ≡ first
+  calling_is = ap (λ t. record { state = t; pid = pid; at_root = false }) (before.shelf table made pid m (untold n) comes p q lives also)
+
+  pub decoded_first : (decoded_at first).reply ≡ (decoded_by p1).reply
+  decoded_first = ap (λ (image : Image). (carried_out (decoding image.regs) image.memory).reply) (own_image pid s1 p1 lives1)
+
+  abbrev pub s2 : State ℕ Image
+  s2 = decoded_in pid p1 s1
+
+  abbrev pub second : Stopped
+  second = record { state = s2; pid = pid; at_root = false }
+
+  pub after_first : after_request first ≡ second
+  after_first = ap (λ (image : Image). record { state = computed pid image.regs (carried_out (decoding image.regs) image.memory).memory s1; pid = pid; at_root = false }) (own_image pid s1 p1 lives1)
+
+  abbrev pub behind_entry : Faking × Stopped → Machine Faking
+  behind_entry e = after_plain faker pid (plain_call table pid e.1.state) e.0 (with_broken (plain_rule 1 table pid lacks e.1.state) m.tally)
+
+  -- what is judged is calm
+  pub calm_rule : (e : Faking × Stopped) → (behind_entry e).tally.broken ≡ None → plain_rule 1 table pid lacks e.1.state ≡ None
+  calm_rule e calm =
+      let came = plain_call table pid e.1.state in
+      let rule = plain_rule 1 table pid lacks e.1.state in
+      kept_none m.tally.broken rule (sym (after_end_broken faker table pid came.end (called pid came) (after_born faker pid came.child e.0) (with_broken rule m.tally)) ∙ calm)
+
+  -- ---- a call that is left to the kernel
+
+  module _ (f1 : Faking) (enters : faked_entry m.watcher (calling 1 pid m.state) ≡ (f1, second)) (calm : (watched_call faker 1 table pid m).tally.broken ≡ None) where
+    entered_call : watched_call faker 1 table pid m ≡ behind_entry (f1, second)
+    entered_call = ap behind_entry enters
+
+    read_twice : (decoded_by (decoded_process table made pid s1 p1 can)).memory.read_marked ≡ false
+    read_twice =
+        calm_unread table pid lacks s2 (decoded_process table made pid s1 p1 can) (decoded_lives table made pid s1 p1 can)
+        (calm_rule (f1, second) (sym (ap (λ (x : Machine Faking). x.tally.broken) entered_call) ∙ calm))
+
+    pub read_once : (decoded_by p1).memory.read_marked ≡ false
+    read_once = unread_before (decoding p1.image.regs) (decoded_by p1).memory read_twice
+
+    read_none : p1.image.memory.read_marked ≡ false
+    read_none = unread_before (decoding p1.image.regs) p1.image.memory read_once
+
+    same_memory : (decoded_by p1).memory ≡ p1.image.memory
+    same_memory = λ i. record { pages = decoding-leaves-pages p1.image.regs p1.image.memory can.holds i; read_marked = (read_once ∙ sym read_none) i }
+
+    same_state : s2 ≡ s1
+    same_state = ap (λ memory. computed pid p1.image.regs memory s1) same_memory ∙ before.itself table made pid m (untold n) comes p q lives also
+
+    abbrev pub judged : Tally
+    judged = before.judged table made pid m (untold n) comes p q lives also
+
+    abbrev pub came : Came
+    came = plain_call table pid s1
+
+    pub faked_call : watched_call faker 1 table pid m ≡ after_plain faker pid came f1 judged
+    faked_call = entered_call ∙ ap (λ t. after_plain faker pid (plain_call table pid t) f1 (with_broken (plain_rule 1 table pid lacks t) m.tally)) same_state
+
+    -- so it breaks no rule where nobody watches either
+    pub unwatched_calm : (watched_call unwatched 1 table pid m).tally.broken ≡ None
+    unwatched_calm =
+        ap (λ (x : Machine Faking). x.tally.broken) (before.mounted_call table made pid m (untold n) comes p q lives also)
+        ∙ after_end_broken unwatched table pid came.end (called pid came) (after_born unwatched pid came.child m.watcher) judged
+        ∙ sym (after_end_broken faker table pid came.end (called pid came) (after_born faker pid came.child f1) judged)
+        ∙ sym (ap (λ (x : Machine Faking). x.tally.broken) faked_call)
+        ∙ calm

@@ -1,0 +1,252 @@
+-- A call without a path, or one that isn't decoded, with its stops, where an identity is told.
+use Rattle.std.proofs.Common.{◌≡◌, ℕ, suc, Bool, List, Option, Some, None, Ok, Err, refl, sym, ap, subst, ◌∙◌}
+use Rattle.std.specs.Prelude.{IsSome}
+use Rattle.law_turns.proofs.pr_base.MapLemmas.{get-remove_same}
+use Rattle.law_turns.specs.pr_base.declared.errno.Errno.{Errno}
+use Rattle.law_edits.specs.pt_ident.Identity.{Effect, effect}
+use Rattle.law_edits.specs.pt_ident.IdentityTable.{identity_at}
+use Rattle.law_edits.specs.kr_view.View.{Row, plain}
+use Rattle.pt_args.specs.kr_calls.Decoding.{Decoded}
+use Rattle.pt_args.specs.kr_calls.declared.request.Request.{Request}
+use Rattle.pt_args.specs.kr_calls.declared.request.Request.TheVariants as call
+use Rattle.law_edits.specs.kr_model.State.{Image, Process, State, process}
+use Rattle.law_turns.specs.kr_steps.Calls.{LastsLawful}
+use Rattle.law_turns.specs.kr_turns.Breaking.{plain_rule}
+use Rattle.law_turns.specs.kr_turns.PlainCall.{Came, plain_call, refusal_told}
+use Rattle.law_turns.specs.kr_turns.Shelving.{lacks_in}
+use Rattle.law_turns.specs.kr_turns.Stopped.{Stopped}
+use Rattle.law_turns.specs.kr_turns.Turn.{Machine, Tally, after_exit, after_plain, called, calling, watched_call, with_broken}
+use Rattle.law_turns.specs.kr_turns.Watching.{unwatched}
+use Rattle.law_turns.specs.kr_turns.declared.plain.CallEnd.TheVariants as end
+use Rattle.law_turns.specs.law_places.Matching.{IsMatch}
+use Rattle.law_edits.specs.pt_faker.Faking.{Faking, after_decoding as faked_decoding, after_due, due_of, entered as faked_entry, faker, is_root, without_due}
+use Rattle.law_edits.specs.pt_faker.Stopping.{after_request, decoded_at}
+use Rattle.law_edits.specs.pt_watched.Planning.{planned}
+use Rattle.law_edits.specs.pt_watched.Watched.{Tracing, after_decoding, after_pending, entered, exited, tracer, with_identities, without_pending}
+use Rattle.law_turns.specs.Calls.{CameAlike, decoded_by, decoded_in, tags_behind}
+use Rattle.law_turns.specs.Pathless.{IsPathless}
+use Rattle.law_turns.proofs.CallLemmas.{by_request}
+use Rattle.law_turns.proofs.PathlessLemmas.{no_exec, pathless_calls_come_alike}
+use Rattle.law_turns.proofs.RunLemmas.{lives_too}
+use Rattle.law_stops.specs.Turning.{ComeFromCall, HasNoPath}
+use Rattle.law_stops.proofs.CallLemmas as before
+use Rattle.law_stops.proofs.CallLemmas.{end_status, pathless_calls_go_together, unwatched_end}
+use Rattle.law_stops.proofs.PassLemmas.{entries_pass}
+use Rattle.law_stops.specs.Calls.{FakedCallsGoTogether, GoesUntold}
+use Rattle.law_stops.specs.Editing.{IsEditedAlike}
+use Rattle.law_stops.specs.Going.{ComeFromFakedCall, ComeToFakedCall, StandAlike, untold}
+use Rattle.law_stops.specs.Reading.{RootIsKnown}
+use Rattle.law_stops.proofs.EntryLemmas as entry
+use Rattle.law_stops.proofs.GoingLemmas.{ExitAlike, by_end}
+use Rattle.law_stops.proofs.IdentityLemmas.{identity_calls_go_together}
+use Rattle.law_stops.proofs.KernelLemmas.{kernels_calls_go_together}
+use Rattle.law_stops.proofs.ReadLemmas.{edits_read_unmarked}
+
+-- it is no chroot(2)
+no_root : (r : Request) (came : Came) (at_root : Bool) → IsPathless r → RootIsKnown r came at_root
+no_root (call.Chroot path) came at_root kind = absurd kind
+no_root _ came at_root kind = tt
+
+module _ (table : List Row) (made pid : ℕ) (m : Machine Faking) (n : Machine Tracing) (c : ComeToFakedCall table made pid m n) (p q : Process ℕ Image) (lives : process pid m.state ≡ Some p) (also : process pid n.state ≡ Some q) where
+  abbrev f : Faking
+  f = m.watcher
+
+  abbrev x : Tracing
+  x = n.watcher
+
+  abbrev w : State ℕ Image
+  w = n.state
+
+  abbrev s1 : State ℕ Image
+  s1 = entry.s1 table made pid m n c p q lives also
+
+  abbrev p1 : Process ℕ Image
+  p1 = entry.p1 table made pid m n c p q lives also
+
+  abbrev stop : Stopped
+  stop = before.stop table made pid m (untold n) (entry.comes table made pid m n c p q lives also) p q lives also
+
+  -- the plain machine behind decoding
+  abbrev w2 : State ℕ Image
+  w2 = before.w2 table made pid m (untold n) (entry.comes table made pid m n c p q lives also) p q lives also
+
+  abbrev q2 : Process ℕ Image
+  q2 = before.q2 table made pid m (untold n) (entry.comes table made pid m n c p q lives also) p q lives also
+
+  abbrev then_stop : Stopped
+  then_stop = before.then_stop table made pid m (untold n) (entry.comes table made pid m n c p q lives also) p q lives also
+
+  after_there : after_request stop ≡ then_stop
+  after_there = before.after_there table made pid m (untold n) (entry.comes table made pid m n c p q lives also) p q lives also
+
+  stop_is : calling 0 pid w ≡ stop
+  stop_is = before.calling_is table made pid m (untold n) (entry.comes table made pid m n c p q lives also) p q lives also
+
+  decoded_is : (decoded_at (calling 1 pid m.state)).reply ≡ (decoded_by p1).reply
+  decoded_is = ap (λ t. (decoded_at t).reply) (entry.calling_is table made pid m n c p q lives also) ∙ entry.decoded_first table made pid m n c p q lives also
+
+  kind_here : HasNoPath (decoded_by p1).reply → HasNoPath (decoded_at (calling 1 pid m.state)).reply
+  kind_here kind = subst HasNoPath (sym decoded_is) kind
+
+  module _ (unwatched_calm : (watched_call unwatched 1 table pid m).tally.broken ≡ None) where
+    calm_call : plain_rule 1 table pid (entry.lacks table made pid m n c p q lives also) s1 ≡ None
+    calm_call = before.calm_call table made pid m (untold n) (entry.comes table made pid m n c p q lives also) p q lives also unwatched_calm
+
+    reads_stop : (decoded_at stop).reply ≡ (decoded_by p1).reply
+    reads_stop =
+        before.decoded_there table made pid m (untold n) (entry.comes table made pid m n c p q lives also) p q lives also
+        ∙ sym (before.requests table made pid m (untold n) (entry.comes table made pid m n c p q lives also) p q lives also unwatched_calm)
+
+    together_untold : HasNoPath (decoded_by p1).reply → ComeFromCall table made (watched_call unwatched 1 table pid m) (watched_call tracer 0 plain pid (untold n))
+    together_untold kind = pathless_calls_go_together Faking table made pid m (untold n) (entry.comes table made pid m n c p q lives also) (kind_here kind) unwatched_calm
+
+    -- ---- a call without a path
+
+    module _ (r : Request) (reads : (decoded_by p1).reply ≡ Ok r) (kind : IsPathless r) where
+      alike : CameAlike table (tags_behind table pid s1 w2 p1 q2 x.tags r) (plain_call table pid s1) (plain_call plain pid w2)
+      alike =
+          pathless_calls_come_alike table made pid (entry.lacks table made pid m n c p q lives also) s1 w2 p1 q2 x.tags r
+          (before.match2 table made pid m (untold n) (entry.comes table made pid m n c p q lives also) p q lives also)
+          (entry.can table made pid m n c p q lives also) (before.can_then table made pid m (untold n) (entry.comes table made pid m n c p q lives also) p q lives also)
+          reads kind calm_call
+
+      came_here_is : plain_call table pid (calling 1 pid m.state).state ≡ plain_call table pid s1
+      came_here_is = ap (λ (t : Stopped). plain_call table pid t.state) (entry.calling_is table made pid m n c p q lives also)
+
+      came_there_is : plain_call plain pid (entered (untold n).watcher (calling 0 pid w)).1.state ≡ plain_call plain pid w2
+      came_there_is =
+          ap (λ (t : Stopped). plain_call plain pid (entered (untold n).watcher t).1.state) stop_is
+          ∙ ap (λ (e : Tracing × Stopped). plain_call plain pid e.1.state) (entries_pass (untold n).watcher stop r refl (reads_stop ∙ reads) kind)
+          ∙ ap (λ (t : Stopped). plain_call plain pid t.state) after_there
+
+      goes_untold : GoesUntold table pid m n r made
+      goes_untold = record {
+        ends = ap (λ (came : Came). came.end) came_here_is ∙ alike.ends ∙ sym (ap (λ (came : Came). came.end) came_there_is);
+        children = ap (λ (came : Came). came.child) came_here_is ∙ alike.children ∙ sym (ap (λ (came : Came). came.child) came_there_is);
+        edit =
+            let at_root = (planned x.bindings x.tags (after_request (calling 0 pid w)) r).0.led.at_root in
+            subst (λ (came : Came). IsEditedAlike f (called pid came) at_root (due_of (is_root f) r)) (sym came_here_is)
+            (edits_read_unmarked table made pid (entry.lacks table made pid m n c p q lives also) at_root s1 p1 f r (entry.can table made pid m n c p q lives also) (record { bytes = (entry.can table made pid m n c p q lives also).holds; registers = (c.sized pid p lives).registers }) reads (no_exec r kind) calm_call
+            (no_root r (plain_call table pid s1) at_root kind));
+        together = together_untold (subst HasNoPath (sym reads) kind);
+      }
+
+  -- ---- one that isn't decoded
+
+  module _ (e : Errno) (reads : (decoded_by p1).reply ≡ Err e) (calm : (watched_call faker 1 table pid m).tally.broken ≡ None) where
+    abbrev f1 : Faking
+    f1 = without_due pid f
+
+    abbrev first : Stopped
+    first = entry.first table made pid m n c p q lives also
+
+    enters : faked_entry f (calling 1 pid m.state) ≡ (f1, entry.second table made pid m n c p q lives also)
+    enters =
+        ap (faked_entry f) (entry.calling_is table made pid m n c p q lives also)
+        ∙ ap (faked_decoding f (after_request first)) (entry.decoded_first table made pid m n c p q lives also ∙ reads)
+        ∙ ap (λ (t : Stopped). (f1, t)) (entry.after_first table made pid m n c p q lives also)
+
+    calm_too : (watched_call unwatched 1 table pid m).tally.broken ≡ None
+    calm_too = entry.unwatched_calm table made pid m n c p q lives also f1 enters calm
+
+    abbrev came : Came
+    came = refusal_told pid e (decoded_in pid p1 s1)
+
+    abbrev came2 : Came
+    came2 = refusal_told pid e (decoded_in pid q2 w2)
+
+    abbrev judged : Tally
+    judged = before.judged table made pid m (untold n) (entry.comes table made pid m n c p q lives also) p q lives also
+
+    came_is : plain_call table pid s1 ≡ came
+    came_is = by_request table pid table s1 p1 (Err e) (entry.lives1 table made pid m n c p q lives also) reads
+
+    came2_is : plain_call plain pid w2 ≡ came2
+    came2_is =
+        by_request table pid plain w2 q2 (Err e) (before.can_then table made pid m (untold n) (entry.comes table made pid m n c p q lives also) p q lives also).lives
+        (sym (before.requests_then table made pid m (untold n) (entry.comes table made pid m n c p q lives also) p q lives also calm_too) ∙ reads)
+
+    abbrev y : Tracing
+    y = without_pending pid x
+
+    enters_there : (z : Tracing) → entered z stop ≡ (without_pending pid z, then_stop)
+    enters_there z = ap (after_decoding z (after_request stop)) (reads_stop calm_too ∙ reads) ∙ ap (λ (t : Stopped). (without_pending pid z, t)) after_there
+
+    abbrev other : Tally
+    other = with_broken (plain_rule 0 plain pid (lacks_in 0 pid w) w2) n.tally
+
+    abbrev behind_entry : Tracing × Stopped → Machine Tracing
+    behind_entry e = after_plain tracer pid (plain_call plain pid e.1.state) e.0 (with_broken (plain_rule 0 plain pid (lacks_in 0 pid w) e.1.state) n.tally)
+
+    traced_call : (z : Tracing) → behind_entry (entered z (calling 0 pid w)) ≡ after_exit tracer (called pid came2) (without_pending pid z) other (process pid came2.state)
+    traced_call z =
+        ap (λ (t : Stopped). behind_entry (entered z t)) stop_is
+        ∙ ap behind_entry (enters_there z)
+        ∙ ap (λ came. after_plain tracer pid came (without_pending pid z) other) came2_is
+
+    mounted_call : watched_call faker 1 table pid m ≡ after_exit faker (called pid came) f1 judged (process pid came.state)
+    mounted_call = entry.faked_call table made pid m n c p q lives also f1 enters calm ∙ ap (λ came. after_plain faker pid came f1 judged) came_is
+
+    nothing_pending : (z : Tracing) → exited (without_pending pid z) (called pid came2) ≡ (without_pending pid (without_pending pid z), called pid came2)
+    nothing_pending z = ap (after_pending (without_pending pid (without_pending pid z)) (called pid came2)) (get-remove_same z.pending pid)
+
+    exits : ExitAlike table made pid came came2 f1 y judged other
+    exits = record {
+      kept = without_due pid f1;
+      traced = without_pending pid y;
+      edited = called pid came;
+      back = called pid came2;
+      shown = called pid came2;
+      mine = ap (after_due (without_due pid f1) (called pid came)) (get-remove_same f.dues pid);
+      yours = nothing_pending x;
+      without = nothing_pending (with_identities None x);
+      goes = record { bindings = c.goes.bindings; user = c.goes.user; identities = c.goes.identities };
+      lives = λ some. some;
+      edits = λ tags some alike. alike;
+    }
+
+    unwatched_is : watched_call unwatched 1 table pid m ≡ after_plain unwatched pid came f judged
+    unwatched_is = before.mounted_call table made pid m (untold n) (entry.comes table made pid m n c p q lives also) p q lives also ∙ ap (λ came. after_plain unwatched pid came f judged) came_is
+
+    unwatched_state : (watched_call unwatched 1 table pid m).state ≡ came.state
+    unwatched_state = ap (λ (m : Machine Faking). m.state) unwatched_is ∙ unwatched_end pid end.Answered (called pid came) f judged
+
+    abbrev untold_end : Machine Tracing
+    untold_end = after_exit tracer (called pid came2) (with_identities None y) other (process pid came2.state)
+
+    together : ComeFromCall table made (watched_call unwatched 1 table pid m) untold_end
+    together = subst (ComeFromCall table made (watched_call unwatched 1 table pid m)) (traced_call (untold n).watcher) (together_untold calm_too (subst HasNoPath (sym reads) tt))
+
+    both : StandAlike table untold_end.watcher.tags (suc made) came.state untold_end.state
+    both = record {
+      matches = subst (λ s. IsMatch table untold_end.watcher.tags s untold_end.state) unwatched_state together.matches.states;
+      lasts = subst (LastsLawful (λ k. k) table (suc made)) unwatched_state together.lasts;
+      also_lasts = together.also_lasts;
+    }
+
+    refused_together : ComeFromFakedCall table made (watched_call faker 1 table pid m) (watched_call tracer 0 plain pid n)
+    refused_together =
+        subst (λ (e : Machine Faking). ComeFromFakedCall table made e (watched_call tracer 0 plain pid n)) (sym mounted_call)
+        (subst (ComeFromFakedCall table made (after_exit faker (called pid came) f1 judged (process pid came.state))) (sym (traced_call x))
+        (by_end table made pid came came2 f1 y judged other (record { bindings = c.goes.bindings; user = c.goes.user; identities = c.goes.identities }) exits end.Answered both c.matches.statuses))
+
+  -- ---- either
+
+  module _ (calm : (watched_call faker 1 table pid m).tally.broken ≡ None) where
+    request_together : (r : Request) → (decoded_by p1).reply ≡ Ok r → IsPathless r → (o : Option Effect) → effect (identity_at f.identities pid) r ≡ o → ComeFromFakedCall table made (watched_call faker 1 table pid m) (watched_call tracer 0 plain pid n)
+    request_together r reads kind (Some e) is = identity_calls_go_together table made pid m n r e c (decoded_is ∙ reads) is calm
+    request_together r reads kind None is =
+        kernels_calls_go_together table made pid m n r c (record { decoded = decoded_is ∙ reads; kind = no_exec r kind; none = is }) (λ unwatched_calm. goes_untold unwatched_calm r reads kind) calm
+
+    by_reply : (reply : Decoded) → (decoded_by p1).reply ≡ reply → HasNoPath reply → ComeFromFakedCall table made (watched_call faker 1 table pid m) (watched_call tracer 0 plain pid n)
+    by_reply (Ok r) reads kind = request_together r reads kind (effect (identity_at f.identities pid) r) refl
+    by_reply (Err e) reads kind = refused_together e reads calm
+
+pub faked_calls_go_together : FakedCallsGoTogether
+faked_calls_go_together table made pid m n c kind calm = by (process pid m.state) refl c.lives
+  where
+    by : (o : Option (Process ℕ Image)) → process pid m.state ≡ o → IsSome o → ComeFromFakedCall table made (watched_call faker 1 table pid m) (watched_call tracer 0 plain pid n)
+    by None none some = absurd cc
+    by (Some p) lives some =
+        let q = lives_too table n.watcher.tags pid m.state n.state p c.matches.states lives in
+        by_reply table made pid m n c p q.0 lives q.1 calm (decoded_by (entry.p1 table made pid m n c p q.0 lives q.1)).reply refl (subst HasNoPath (decoded_is table made pid m n c p q.0 lives q.1) kind)

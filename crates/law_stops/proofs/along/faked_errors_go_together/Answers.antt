@@ -1,0 +1,5 @@
+use Rattle.law_stops.proofs.KindLemmas.{faked_errors_go_together}
+use Rattle.law_stops.proofs.along.faked_errors_go_together.Goals as goal
+
+pub returns : goal.returns
+returns c = faked_errors_go_together

@@ -1,5 +1,0 @@
-use Rattle.lists_alike.proofs.ReadLemmas.{lists_are_read_alike}
-use Rattle.lists_alike.proofs.reading.lists_are_read_alike.Goals as goal
-
-pub returns : goal.returns
-returns c = lists_are_read_alike

@@ -1,5 +1,0 @@
-use Rattle.machines_agree.proofs.WordLemmas.{asked-are-of-bytes}
-use Rattle.machines_agree.proofs.given.asked_are_of_bytes.Goals as goal
-
-pub returns : goal.returns
-returns c = asked-are-of-bytes

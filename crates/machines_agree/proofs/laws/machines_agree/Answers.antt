@@ -1,5 +1,0 @@
-use Rattle.machines_agree.proofs.AgreeLemmas.{machines_agree}
-use Rattle.machines_agree.proofs.laws.machines_agree.Goals as goal
-
-pub returns : goal.returns
-returns c = machines_agree c.texts_are_read_back.ensures c.shelves_hold_their_items.ensures

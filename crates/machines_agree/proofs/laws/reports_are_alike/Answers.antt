@@ -1,5 +1,0 @@
-use Rattle.machines_agree.proofs.ReportLemmas.{reports_are_alike}
-use Rattle.machines_agree.proofs.laws.reports_are_alike.Goals as goal
-
-pub returns : goal.returns
-returns g c = reports_are_alike _ _

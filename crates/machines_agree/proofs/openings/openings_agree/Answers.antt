@@ -1,5 +1,0 @@
-use Rattle.machines_agree.proofs.OpeningLemmas.{openings_agree}
-use Rattle.machines_agree.proofs.openings.openings_agree.Goals as goal
-
-pub returns : goal.returns
-returns c = openings_agree c.machines_agree.ensures c.faked_machines_agree.ensures

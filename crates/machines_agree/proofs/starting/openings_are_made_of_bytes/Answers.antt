@@ -1,5 +1,0 @@
-use Rattle.machines_agree.proofs.TableLemmas.{openings-are-made-of-bytes}
-use Rattle.machines_agree.proofs.starting.openings_are_made_of_bytes.Goals as goal
-
-pub returns : goal.returns
-returns c = openings-are-made-of-bytes

@@ -1,5 +1,0 @@
-use Rattle.paths_together.proofs.JoinLemmas.{path_calls_go_together}
-use Rattle.paths_together.proofs.laws.path_calls_go_together.Goals as goal
-
-pub returns : goal.returns
-returns g c = path_calls_go_together c.texts_are_read_back.ensures c.shelves_hold_their_items.ensures _

@@ -1,5 +1,0 @@
-use Rattle.places_stay.proofs.MatchLemmas.{tagged_places_are_placed}
-use Rattle.places_stay.proofs.matching.tagged_places_are_placed.Goals as goal
-
-pub returns : goal.returns
-returns c = tagged_places_are_placed

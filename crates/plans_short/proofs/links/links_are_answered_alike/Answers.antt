@@ -1,5 +1,0 @@
-use Rattle.plans_short.proofs.LinkLemmas.{links_are_answered_alike}
-use Rattle.plans_short.proofs.links.links_are_answered_alike.Goals as goal
-
-pub returns : goal.returns
-returns c = links_are_answered_alike

@@ -1,5 +1,0 @@
-use Rattle.plans_short.proofs.EditLemmas.{shelved_texts_are_short}
-use Rattle.plans_short.proofs.short.shelved_texts_are_short.Goals as goal
-
-pub returns : goal.returns
-returns c = shelved_texts_are_short

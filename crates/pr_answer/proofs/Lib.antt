@@ -1,2 +1,0 @@
-pub use Rattle.kr_text.proofs as kr_text
-pub use Rattle.pr_words.proofs as pr_words

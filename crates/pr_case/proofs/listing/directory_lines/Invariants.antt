@@ -1,7 +1,0 @@
-use Rattle.std.proofs.Common.{◌≡◌, ◌++◌}
-use Rattle.pr_case.specs.Draws.{after_directories}
-use Rattle.pr_case.specs.Listing.{directory_lines}
-use Rattle.pr_case.proofs.listing.directory_lines.Given as goal
-
-abbrev pub invariant-loop-d : goal.invariant-loop-d
-invariant-loop-d l = (l.out.items ≡ l.fn.out.items ++ directory_lines l.d l.fn.draws.state) × (l.draws.state ≡ after_directories l.d l.fn.draws.state)

@@ -1,4 +1,0 @@
-pub mod Case
-pub mod Draws
-pub mod Guest
-pub mod Listing

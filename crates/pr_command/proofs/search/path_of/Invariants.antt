@@ -1,7 +1,0 @@
-use Rattle.std.proofs.Common.{◌≡◌}
-use Rattle.std.specs.Prelude.{drop}
-use Rattle.pr_command.specs.Command.{path_of}
-use Rattle.pr_command.proofs.search.path_of.Given as goal
-
-abbrev pub invariant-loop-k : goal.invariant-loop-k
-invariant-loop-k l = path_of l.env ≡ path_of (drop l.k l.env)

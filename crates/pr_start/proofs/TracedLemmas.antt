@@ -1,0 +1,32 @@
+-- The kernel that begins by a start in guest terms.
+use Rattle.std.proofs.Common.{◌≡◌, ℕ, List, Some, sym, ap, ◌∙◌}
+use Rattle.std.specs.Prelude.{Result, Ok, Err}
+use Rattle.pr_base.specs.MountText.{MountText}
+use Rattle.pr_base.specs.declared.errno.Errno.{Errno}
+use Rattle.kr_tree.specs.kr_inode.declared.user.User.{User}
+use Rattle.kr_tree.specs.Tree.{Tree}
+use Rattle.kr_view.specs.declared.target.Reach.{Reach}
+use Rattle.kr_view.specs.declared.view.Plain.{Plain}
+use Rattle.kr_view.specs.declared.view.HostMount.{HostMount}
+use Rattle.kr_start.specs.kr_model.State.{Image, State}
+use Rattle.kr_start.specs.kr_model.Walks.{and_then}
+use Rattle.kr_core.specs.kr_first.declared.starting.StartFault.{StartFault}
+use Rattle.kr_core.specs.kr_first.declared.starting.StartFault.TheVariants as fault
+use Rattle.kr_core.specs.Runs.{Machine}
+use Rattle.kr_core.specs.Kernel.{Kernel, Starts, machine}
+use Rattle.pt_watched.specs.Watched.{Tracing}
+use Rattle.pt_watched.specs.declared.tracer.Tracer.{Tracer}
+use Rattle.pr_start.specs.TracedBeginning.{BeginsTraced, fresh, host_number}
+
+pub begins-from : (places : Plain) (tracer : Tracer) (reach : Reach) (answer : Result (State ℕ Image) Errno) (result : Result (Kernel Plain Tracer HostMount 0) StartFault)
+    → Starts {M = 0} host_number places tracer reach answer result → BeginsTraced (and_then answer (λ s. Ok (fresh tracer s))) result
+begins-from places tracer reach answer (Ok k) starts =
+    let b = starts.1 in
+    let same : fresh tracer (machine host_number k).state ≡ machine host_number k = λ i. record {
+      state = (machine host_number k).state;
+      watcher = sym b.stops_are i;
+      tally = record { status = sym b.status i; broken = sym b.broken i };
+    } in
+    (ap (λ (a : Result (State ℕ Image) Errno). and_then a (λ s. Ok (fresh tracer s))) starts.0 ∙ ap (λ (m : Machine Tracing). Ok m) same, b.turns, b.whole)
+begins-from places tracer reach answer (Err (fault.Err e)) starts = ap (λ (a : Result (State ℕ Image) Errno). and_then a (λ s. Ok (fresh tracer s))) starts
+begins-from places tracer reach answer (Err fault.NoMemory) starts = tt

@@ -1,0 +1,55 @@
+-- The start of a run that a tracer watches: the working directory, the command and the program are found in guest terms, before a process
+-- lives; then the first process begins on the plain kernel, which is handed host texts.
+use Rattle.std.specs.FinMap as map
+use Rattle.std.specs.Prelude.{◌≡◌, ℕ, true, List, Option, None, Result, Ok, Err}
+use Rattle.pr_base.specs.MountText.{MountText}
+use Rattle.pr_base.specs.declared.errno.Errno.{Errno}
+use Rattle.kr_tree.specs.kr_inode.declared.user.User.{User}
+use Rattle.kr_tree.specs.Tree.{Tree}
+use Rattle.kr_view.specs.View.{plain}
+use Rattle.kr_view.specs.declared.view.Plain.{Plain}
+use Rattle.kr_view.specs.declared.view.HostMount.{HostMount}
+use Rattle.kr_start.specs.kr_model.State.{Image, State}
+use Rattle.kr_start.specs.kr_model.Walks.{and_then}
+use Rattle.kr_core.specs.kr_first.Starting.{start_of}
+use Rattle.kr_core.specs.kr_first.declared.starting.StartFault.{StartFault}
+use Rattle.kr_core.specs.kr_first.declared.starting.StartFault.TheVariants as fault
+use Rattle.kr_core.specs.Runs.{Machine}
+use Rattle.kr_core.specs.Kernel as kernel
+use Rattle.kr_core.specs.Kernel.{machine}
+use Rattle.pt_canon.specs.TextWalk.{TextSurroundings}
+use Rattle.pt_first.specs.FirstPeeks.{first_peeked}
+use Rattle.pt_first.specs.GuestStart.{guest_start, tagged}
+use Rattle.pt_first.specs.declared.begun.Begun.{Begun}
+use Rattle.pr_words.specs.declared.launch.Launch.{Launch}
+use Rattle.pt_watched.specs.Watched.{starting_tracing}
+pub use Rattle.pt_watched.specs.Watched.{Tracing, tracer}
+
+-- the one mount of a plain kernel
+abbrev pub host_number : HostMount → ℕ
+host_number m = 0
+
+-- what a tracer's walks go by before a process lives: there are no tags yet
+abbrev pub texts_before : List MountText → Tree → User → TextSurroundings
+texts_before bindings tree user = record { bindings = bindings; peeked = first_peeked tree user; tags = map.empty }
+
+-- before the first turn. No rule is judged on a machine with a tracer
+abbrev pub fresh : Tracing → State ℕ Image → Machine Tracing
+fresh tracing s = record { state = s; watcher = tracing; tally = record { status = 0; broken = None } }
+
+module _ (bindings : List MountText) (tree : Tree) (user : User) (ids : Option (ℕ × ℕ)) where
+  -- the tracer has the tags of the first process
+  abbrev pub tracing_of : Begun → Tracing
+  tracing_of b = starting_tracing bindings (tagged map.empty b) user ids
+
+  abbrev pub begun_as : List ℕ → Begun → Result (Machine Tracing) Errno
+  begun_as input b = and_then (start_of plain tree user input b.first) (λ s. Ok (fresh (tracing_of b) s))
+
+  abbrev pub traced_beginning : Launch → List ℕ → Result (Machine Tracing) Errno
+  traced_beginning launch input = and_then (guest_start (texts_before bindings tree user) launch) (begun_as input)
+
+-- a kernel begins as the definition says, before its first turn, or its error is answered, but for want of memory
+abbrev pub BeginsTraced : Result (Machine Tracing) Errno → Result (kernel.Kernel Plain Tracing HostMount 0) StartFault → Type 0
+BeginsTraced answer (Ok k) = (answer ≡ Ok (machine host_number k)) × (k.turns ≡ 0) × (k.whole ≡ true)
+BeginsTraced answer (Err (fault.Err e)) = answer ≡ Err e
+BeginsTraced answer (Err fault.NoMemory) = Unit {0}

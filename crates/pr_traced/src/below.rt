@@ -1,4 +1,0 @@
-//! What those above name of the crates below.
-
-pub use kr_core::below::StartFault;
-pub use kr_stage::{Stage, settled};

@@ -1,5 +1,0 @@
-use Rattle.programs_agree.proofs.ShowLemmas.{states_are_shown_alike}
-use Rattle.programs_agree.proofs.executing.states_are_shown_alike.Goals as goal
-
-pub returns : goal.returns
-returns c = states_are_shown_alike

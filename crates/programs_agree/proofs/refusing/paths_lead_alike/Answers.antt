@@ -1,5 +1,0 @@
-use Rattle.programs_agree.proofs.RefuseLemmas.{paths_lead_alike}
-use Rattle.programs_agree.proofs.refusing.paths_lead_alike.Goals as goal
-
-pub returns : goal.returns
-returns g c = paths_lead_alike _

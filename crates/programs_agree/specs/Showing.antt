@@ -1,9 +1,0 @@
--- Two states that are equal but for mounts, the second that of a plain kernel, are shown alike.
-use Rattle.std.specs.Prelude.{ℕ}
-use Rattle.walks_bare.specs.kr_model.State.{Image, State}
-use Rattle.walks_bare.specs.Alike.{AreEqualButForMounts}
-use Rattle.walks_bare.specs.OneMount.{IsInOneMount}
-use Rattle.programs_agree.specs.Executing.{IsShownAlike}
-
-abbrev pub StatesAreShownAlike : Type 0
-StatesAreShownAlike = (pins less : ℕ → ℕ) (s w : State ℕ Image) (caller : ℕ) → AreEqualButForMounts pins less s w → IsInOneMount w → IsShownAlike s w caller

@@ -1,4 +1,0 @@
-//! Watchers leave a state that has bytes: laws, and no code.
-#![tactic(auto)]
-
-pub mod laws;

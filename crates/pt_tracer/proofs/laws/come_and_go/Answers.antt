@@ -1,5 +1,0 @@
-use Rattle.pt_tracer.proofs.FakingLemmas.{come_and_go}
-use Rattle.pt_tracer.proofs.laws.come_and_go.Goals as goal
-
-pub returns : goal.returns
-returns c = come_and_go

@@ -1,5 +1,0 @@
-use Rattle.pt_tracer.proofs.FakingLemmas.{entries_forget}
-use Rattle.pt_tracer.proofs.laws.entries_forget.Goals as goal
-
-pub returns : goal.returns
-returns c = entries_forget

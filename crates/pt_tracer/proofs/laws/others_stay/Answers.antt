@@ -1,5 +1,0 @@
-use Rattle.pt_tracer.proofs.FakingLemmas.{others_stay}
-use Rattle.pt_tracer.proofs.laws.others_stay.Goals as goal
-
-pub returns : goal.returns
-returns c = others_stay

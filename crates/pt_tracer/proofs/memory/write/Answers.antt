@@ -1,5 +1,0 @@
-use Rattle.pt_tracer.proofs.StopLemmas.{poke-edits}
-use Rattle.pt_tracer.proofs.memory.write.Goals as goal
-
-pub returns-in-Ok-clause-edits : goal.returns-in-Ok-clause-edits
-returns-in-Ok-clause-edits g c = poke-edits (g.T.Tracee.stopped c.args.t.now) c.pid-pid.ensures.lives (g.T.Tracee.stopped c.poke.new.self) c.args.at c.args.bytes.now c.in-Ok.ensures.after

@@ -1,5 +1,0 @@
-//! What those above name of the crates below.
-
-pub use pt_ident::Identities;
-pub use pt_ident::below::kr_calls::CallFault;
-pub use pt_ident::below::kr_inode::User;

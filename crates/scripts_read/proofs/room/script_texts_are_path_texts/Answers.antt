@@ -1,5 +1,0 @@
-use Rattle.scripts_read.proofs.RoomLemmas.{script_texts_are_path_texts}
-use Rattle.scripts_read.proofs.room.script_texts_are_path_texts.Goals as goal
-
-pub returns : goal.returns
-returns c = script_texts_are_path_texts

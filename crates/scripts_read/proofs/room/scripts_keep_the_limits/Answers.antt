@@ -1,5 +1,0 @@
-use Rattle.scripts_read.proofs.RoomLemmas.{scripts_keep_the_limits}
-use Rattle.scripts_read.proofs.room.scripts_keep_the_limits.Goals as goal
-
-pub returns : goal.returns
-returns c = scripts_keep_the_limits

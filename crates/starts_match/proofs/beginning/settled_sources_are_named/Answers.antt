@@ -1,5 +1,0 @@
-use Rattle.starts_match.proofs.SourceLemmas.{settled-sources-are-named}
-use Rattle.starts_match.proofs.beginning.settled_sources_are_named.Goals as goal
-
-pub returns : goal.returns
-returns c = settled-sources-are-named

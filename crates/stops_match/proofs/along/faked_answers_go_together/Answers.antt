@@ -1,5 +1,0 @@
-use Rattle.stops_match.proofs.KindLemmas.{faked_answers_go_together}
-use Rattle.stops_match.proofs.along.faked_answers_go_together.Goals as goal
-
-pub returns : goal.returns
-returns c = faked_answers_go_together

@@ -1,5 +1,0 @@
-use Rattle.stops_match.proofs.KindLemmas.{faked_swaps_go_together}
-use Rattle.stops_match.proofs.along.faked_swaps_go_together.Goals as goal
-
-pub returns : goal.returns
-returns c = faked_swaps_go_together c.texts_are_read_back.ensures c.shelves_hold_their_items.ensures

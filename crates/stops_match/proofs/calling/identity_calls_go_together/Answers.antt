@@ -1,5 +1,0 @@
-use Rattle.stops_match.proofs.IdentityLemmas.{identity_calls_go_together}
-use Rattle.stops_match.proofs.calling.identity_calls_go_together.Goals as goal
-
-pub returns : goal.returns
-returns c = identity_calls_go_together

@@ -1,5 +1,0 @@
-use Rattle.stops_match.proofs.RunLemmas.{faked_turns_go_together}
-use Rattle.stops_match.proofs.running.faked_turns_go_together.Goals as goal
-
-pub returns : goal.returns
-returns c = faked_turns_go_together

@@ -1,5 +1,0 @@
-use Rattle.stops_match.proofs.TogetherLemmas.{traced_turns_go_together}
-use Rattle.stops_match.proofs.together.traced_turns_go_together.Goals as goal
-
-pub returns : goal.returns
-returns g c = traced_turns_go_together _

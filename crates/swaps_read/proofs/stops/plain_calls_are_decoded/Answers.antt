@@ -1,5 +1,0 @@
-use Rattle.swaps_read.proofs.AnsweredLemmas.{plain_calls_are_decoded}
-use Rattle.swaps_read.proofs.stops.plain_calls_are_decoded.Goals as goal
-
-pub returns : goal.returns
-returns c = plain_calls_are_decoded

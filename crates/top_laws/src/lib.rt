@@ -1,4 +1,0 @@
-//! Laws of the top call.
-#![tactic(auto)]
-
-pub mod laws;

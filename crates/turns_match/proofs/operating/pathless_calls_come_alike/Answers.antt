@@ -1,5 +1,0 @@
-use Rattle.turns_match.proofs.PathlessLemmas.{pathless_calls_come_alike}
-use Rattle.turns_match.proofs.operating.pathless_calls_come_alike.Goals as goal
-
-pub returns : goal.returns
-returns c = pathless_calls_come_alike

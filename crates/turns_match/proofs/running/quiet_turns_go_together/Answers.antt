@@ -1,5 +1,0 @@
-use Rattle.turns_match.proofs.LastLemmas.{quiet_turns_go_together}
-use Rattle.turns_match.proofs.running.quiet_turns_go_together.Goals as goal
-
-pub returns : goal.returns
-returns g c = quiet_turns_go_together _ _

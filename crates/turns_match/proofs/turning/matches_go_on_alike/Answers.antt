@@ -1,5 +1,0 @@
-use Rattle.turns_match.proofs.PickLemmas.{matches_go_on_alike}
-use Rattle.turns_match.proofs.turning.matches_go_on_alike.Goals as goal
-
-pub returns : goal.returns
-returns g c = matches_go_on_alike

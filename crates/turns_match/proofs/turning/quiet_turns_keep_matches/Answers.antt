@@ -1,5 +1,0 @@
-use Rattle.turns_match.proofs.QuietLemmas.{quiet_turns_keep_matches}
-use Rattle.turns_match.proofs.turning.quiet_turns_keep_matches.Goals as goal
-
-pub returns : goal.returns
-returns g c = quiet_turns_keep_matches _ _

@@ -1,5 +1,0 @@
-use Rattle.walks_agree.proofs.FactLemmas.{names_are_told_alike}
-use Rattle.walks_agree.proofs.facts.names_are_told_alike.Goals as goal
-
-pub returns : goal.returns
-returns g c = names_are_told_alike

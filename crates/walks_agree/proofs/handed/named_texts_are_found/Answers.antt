@@ -1,5 +1,0 @@
-use Rattle.walks_agree.proofs.HandedLemmas.{named_texts_are_found}
-use Rattle.walks_agree.proofs.handed.named_texts_are_found.Goals as goal
-
-pub returns : goal.returns
-returns c = named_texts_are_found

@@ -1,5 +1,0 @@
-use Rattle.walks_agree.proofs.StartLemmas.{host_views_are_settled}
-use Rattle.walks_agree.proofs.start.host_views_are_settled.Goals as goal
-
-pub returns : goal.returns
-returns c = host_views_are_settled

@@ -1,5 +1,0 @@
-use Rattle.walks_agree.proofs.StartLemmas.{living_links_are_small}
-use Rattle.walks_agree.proofs.start.living_links_are_small.Goals as goal
-
-pub returns : goal.returns
-returns c = living_links_are_small

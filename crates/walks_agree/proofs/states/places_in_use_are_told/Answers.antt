@@ -1,5 +1,0 @@
-use Rattle.walks_agree.proofs.InUseLemmas.{places_in_use_are_told}
-use Rattle.walks_agree.proofs.states.places_in_use_are_told.Goals as goal
-
-pub returns : goal.returns
-returns g c = places_in_use_are_told _

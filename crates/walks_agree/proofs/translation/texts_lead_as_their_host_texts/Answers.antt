@@ -1,5 +1,0 @@
-use Rattle.walks_agree.proofs.TableLemmas.{texts_lead_as_their_host_texts}
-use Rattle.walks_agree.proofs.translation.texts_lead_as_their_host_texts.Goals as goal
-
-pub returns : goal.returns
-returns c = texts_lead_as_their_host_texts

@@ -1,3 +1,0 @@
-//! What those above name of the crates below.
-
-pub use kr_mounts::{BindFault, Mounted, settle};
