@@ -9,6 +9,7 @@ pub mod LayoutLemmas
 pub mod MapLemmas
 pub mod MarkLemmas
 pub mod PageLemmas
+pub mod PageListLemmas
 pub mod PagesLemmas
 pub mod PlaceLemmas
 pub mod PlanLemmas

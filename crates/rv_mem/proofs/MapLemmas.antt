@@ -1,9 +1,9 @@
 -- The tree that stores the places of the pages, as a finite map.
 use Rattle.std.specs.FinMap as map
-use Rattle.std.proofs.Common.{◌≡◌, ◌≤◌, ◌<◌, ℕ, true, false, List, [], ◌∷◌, refl, sym, ap, ◌∙◌, Option, Some, None, arith, is_some, Bor}
+use Rattle.std.proofs.Common.{◌≡◌, ◌≤◌, ◌<◌, ℕ, true, false, List, [], ◌∷◌, refl, sym, ap, ◌∙◌, Option, Some, None, arith, is_some}
 use Rattle.std.specs.Ordering.{nat_cmp, is_gt}
 use Rattle.std.specs.declared.cmp.Ordering.TheVariants.{Less}
-use Rattle.std.specs.Option.{IsSome, option_copied}
+use Rattle.std.specs.Option.{IsSome}
 use Rattle.std.proofs.lemmas.Map.Keys.{le_from_not_gt}
 use Rattle.std.proofs.lemmas.Bool.Decides.{nat_tests}
 use Rattle.std.specs.BTreeMap.Range.{IsRangeOf}
@@ -18,18 +18,6 @@ use Rattle.rv_mem.proofs.PlaceLemmas.{absent, contains-pages_at}
 -- a look-up in the tree is one in the map
 pub get-place : (t : BTreeMap ℕ ℕ) (k : ℕ) (o : Option ℕ) → o ≡ get_by (nat_cmp k) t → map.get (places_of t.entries) k ≡ o
 get-place t k o e = sym (e ∙ get-view t.entries (places_of t.entries) k refl)
-
-is_some-copied : (o : Option (Bor PageState)) → is_some (option_copied o) ≡ is_some o
-is_some-copied None = refl
-is_some-copied (Some x) = refl
-
--- a page that is there is found
-pub is_found : (m : Pages) (k : ℕ) (o : Option (Bor PageState)) → option_copied o ≡ map.get m k → map.contains_key m k ≡ true → IsSome o
-is_found m k o value there = sym (is_some-copied o) ∙ ap is_some value ∙ there
-
--- the page that is found is the one that is there
-pub get-found : (m : Pages) (k : ℕ) (o : Option (Bor PageState)) (x : Bor PageState) → option_copied o ≡ map.get m k → o ≡ Some x → map.get m k ≡ Some x.now
-get-found m k o x value is = sym value ∙ ap option_copied is
 
 not_above : (a b : ℕ) → a ≤ b → is_gt (nat_cmp a b) ≡ false
 not_above a b h = grind (arith, nat_tests)

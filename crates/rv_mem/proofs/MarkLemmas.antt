@@ -1,5 +1,5 @@
 -- The marks that words tell, word by word.
-use Rattle.std.proofs.Common.{◌≡◌, ◌⊎◌, inl, inr, ℕ, zero, suc, ◌+◌, ◌-◌, ◌*◌, ◌/◌, ◌%◌, ◌^◌, ◌<◌, ◌≤◌, Bool, true, false, List, [], ◌∷◌, length, take, drop, replicate, get_or, min, max, refl, sym, ap, ◌∙◌, arith, nat_eq, slice_index}
+use Rattle.std.proofs.Common.{◌≡◌, ◌⊎◌, inl, inr, ℕ, zero, suc, ◌+◌, ◌-◌, ◌*◌, ◌/◌, ◌%◌, ◌^◌, ◌<◌, ◌≤◌, Bool, true, false, List, length, take, drop, replicate, get_or, min, max, refl, sym, ap, ◌∙◌, arith, cond, nat_eq, slice_index}
 use Rattle.std.specs.Prelude.{slice_set}
 use Rattle.std.specs.Int.{bit_at, bit_not, w64}
 use Rattle.std.specs.Int.RustNames.{bit_and, bit_or}
@@ -10,8 +10,9 @@ use Rattle.std.proofs.lemmas.List.{get_or-take, get_or-drop, get_or-set_same, ge
 use Rattle.std.proofs.lemmas.List.Folds.{list_any_none, list_any_at}
 use Rattle.std.proofs.lemmas.List.FromFn.{fill_by_all, get_or-map-range_with_len, length-map-range_with_len}
 use Rattle.std.proofs.lemmas.Nat.Bits.{bit_at-lt, bit_at-zero, bit_at_and, bit_at_or, bit_at_not, bit_at_ones, bit_at_ones_above, bit_at_mask_inside, bit_at_mask_below, ones_shl, ones_shr}
-use Rattle.rv_mem.specs.Marks.{no_marks, is_set, marks_in, kept_marks}
-use Rattle.rv_mem.proofs.PageLemmas.{kept_marks-some, sets-no_marks, list_any-no_marks}
+use Rattle.rv_mem.specs.declared.marks.Marks.{Marks}
+use Rattle.rv_mem.specs.Marks.{no_marks, is_set, marks_in, marks_of}
+use Rattle.rv_mem.proofs.PageLemmas.{sets-no_marks, list_any-no_marks}
 
 -- ---- one word
 
@@ -87,12 +88,6 @@ set-here words at w i within e =
 
 pub set-there : (words : List ℕ) (at w i : ℕ) → (i / 64 ≡ at → ⊥) → is_set (slice_set words at w) i ≡ is_set words i
 set-there words at w i other = ap (λ n. nat_eq (bit_at n (i % 64)) 1) (get_or-set_other words at (i / 64) w 0 other)
-
--- what stands at an index, whatever is given where nothing does
-pub at_index : (l : List ℕ) (i d : ℕ) → i < length l → get_or l i d ≡ slice_index l i
-at_index [] i d within = absurd (omega (arith, within))
-at_index (x ∷ l) zero d within = refl
-at_index (x ∷ l) (suc i) d within = at_index l i d (omega (arith, within))
 
 -- the words up to an index have their bits from `from` up to, but without, `to` set or cleared
 pub record IsPut (old words : List ℕ) (from to index : ℕ) (value : Bool) : Type 0 where
@@ -253,13 +248,20 @@ marks-any words from count r fits none some = by r none some
         let back : from + (x.0 - from) ≡ x.0 = omega (arith, low) in
         sym (list_any_at (λ m. m) part (x.0 - from) false (omega (arith, here, long)) (at (x.0 - from) false here ∙ ap (is_set words) back ∙ x.3))
 
--- ---- the marks that are kept
+-- ---- the marks of a page with room for some
+
+pub of-some : (m : Marks) → m.some ≡ true → marks_of m ≡ marks_in m.words
+of-some m e = ap (λ b. cond b (marks_in m.words) no_marks) e
+
+pub of-none : (m : Marks) → m.some ≡ false → marks_of m ≡ no_marks
+of-none m e = ap (λ b. cond b (marks_in m.words) no_marks) e
 
 -- where the words' bits are set or cleared
-pub kept-put : (marked : ℕ) (old new : List ℕ) (from to : ℕ) (v : Bool) → (marked ≡ 0 → ⊥) → from ≤ to → to ≤ 4096 → ((i : ℕ) → from ≤ i → i < to → is_set new i ≡ v) → ((i : ℕ) → i < from → is_set new i ≡ is_set old i)
-    → ((i : ℕ) → to ≤ i → is_set new i ≡ is_set old i) → (was : List Bool) → was ≡ marks_in old → kept_marks marked true new ≡ sets was from (replicate (to - from) v)
-kept-put marked old new from to v kept ordered within inside below above was is =
-    kept_marks-some marked new kept ∙ marks-put old new from to v ordered within inside below above ∙ ap (λ l. sets l from (replicate (to - from) v)) (sym is)
+pub of-put : (m : Marks) (old : List ℕ) (from to : ℕ) (v : Bool) → m.some ≡ true → from ≤ to → to ≤ 4096 → ((i : ℕ) → from ≤ i → i < to → is_set m.words i ≡ v)
+    → ((i : ℕ) → i < from → is_set m.words i ≡ is_set old i) → ((i : ℕ) → to ≤ i → is_set m.words i ≡ is_set old i) → (was : List Bool) → was ≡ marks_in old
+    → marks_of m ≡ sets was from (replicate (to - from) v)
+of-put m old from to v some ordered within inside below above was is =
+    of-some m some ∙ marks-put old m.words from to v ordered within inside below above ∙ ap (λ l. sets l from (replicate (to - from) v)) (sym is)
 
 -- where there are none, taking some away leaves none
 pub none-cleared : (was : List Bool) (from n : ℕ) → was ≡ no_marks → was ≡ sets was from (replicate n false)
@@ -270,6 +272,6 @@ pub none-found : (was : List Bool) (from n : ℕ) → was ≡ no_marks → false
 none-found was from n is = sym (ap (λ l. list_any (λ m. m) (take n (drop from l))) is ∙ list_any-no_marks n from)
 
 -- where there may be some, those are found that the words tell
-pub kept-any : (words : List ℕ) (from count : ℕ) (r : Bool) (was : List Bool) → was ≡ marks_in words → from + count ≤ 4096 → (r ≡ false → (i : ℕ) → from ≤ i → i < from + count → is_set words i ≡ false)
+pub some-found : (words : List ℕ) (from count : ℕ) (r : Bool) (was : List Bool) → was ≡ marks_in words → from + count ≤ 4096 → (r ≡ false → (i : ℕ) → from ≤ i → i < from + count → is_set words i ≡ false)
     → (r ≡ true → (i : ℕ) × (from ≤ i) × (i < from + count) × (is_set words i ≡ true)) → r ≡ list_any (λ m. m) (take count (drop from was))
-kept-any words from count r was is fits none some = marks-any words from count r fits none some ∙ ap (λ l. list_any (λ m. m) (take count (drop from l))) (sym is)
+some-found words from count r was is fits none some = marks-any words from count r fits none some ∙ ap (λ l. list_any (λ m. m) (take count (drop from l))) (sym is)

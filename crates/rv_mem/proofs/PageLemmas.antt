@@ -1,11 +1,12 @@
 -- Lists of bytes and marks with a part written over.
-use Rattle.std.proofs.Common.{◌≡◌, ℕ, ◌+◌, ◌≤◌, zero, suc, Bool, true, false, List, [], ◌∷◌, ◌++◌, length, take, drop, replicate, refl, sym, ap, ◌∙◌, arith, nat_eq, eq-eqb, cond}
+use Rattle.std.proofs.Common.{◌≡◌, ℕ, ◌+◌, ◌≤◌, zero, suc, true, false, List, [], ◌∷◌, ◌++◌, length, take, drop, replicate, refl, sym, ap, ◌∙◌, arith, nat_eq, eq-eqb, cond}
 use Rattle.std.specs.Prelude.{slice_set}
 use Rattle.std.specs.List.{list_any}
 use Rattle.std.proofs.Math.Seq.{sets, length-sets, sets-eq}
 use Rattle.std.proofs.lemmas.List.{replicate_more, length-replicate, append_assoc, append-nil, drop-drop, take_all, drop_all}
 use Rattle.std.proofs.lemmas.Bool.{ne_eqb}
-use Rattle.rv_mem.specs.Marks.{no_marks, marks_in, kept_marks, word_count}
+use Rattle.rv_mem.specs.declared.marks.Marks.{Marks}
+use Rattle.rv_mem.specs.Marks.{no_marks, marks_of, kept_marks}
 use Rattle.rv_mem.specs.Page.{zero_bytes}
 
 -- one more value written at the end of those written
@@ -77,19 +78,13 @@ overwritten old xs new bs n at k e f g h within =
     in ap (λ zs. take n (zs ++ drop (length zs) old)) ws ∙ whole old (sets old at bs) n (length-sets old at bs) f
 
 -- where none are kept
-pub kept_marks-unkept : (marked : ℕ) (some : Bool) (words : List ℕ) → marked ≡ 0 → kept_marks marked some words ≡ no_marks
-kept_marks-unkept marked some words h = ap (λ b. cond b no_marks (cond some (marks_in words) no_marks)) (eq-eqb marked 0 h)
+pub kept_marks-unkept : (marked : ℕ) (m : Marks) → marked ≡ 0 → kept_marks marked m ≡ no_marks
+kept_marks-unkept marked m h = ap (λ b. cond b no_marks (marks_of m)) (eq-eqb marked 0 h)
 
--- where there are none
-pub kept_marks-none : (marked : ℕ) (words : List ℕ) → kept_marks marked false words ≡ no_marks
-kept_marks-none marked words = elim (nat_eq marked 0) as (λ b. cond b no_marks no_marks ≡ no_marks) [ true ↦ refl | false ↦ refl ]
+-- where they are
+pub kept_marks-kept : (marked : ℕ) (m : Marks) → (marked ≡ 0 → ⊥) → kept_marks marked m ≡ marks_of m
+kept_marks-kept marked m h = ap (λ b. cond b no_marks (marks_of m)) (ne_eqb marked 0 h)
 
--- where there may be some they are those that the words tell
-pub kept_marks-some : (marked : ℕ) (words : List ℕ) → (marked ≡ 0 → ⊥) → kept_marks marked true words ≡ marks_in words
-kept_marks-some marked words h = ap (λ b. cond b no_marks (marks_in words)) (ne_eqb marked 0 h)
-
-pub word_count-some : (marked : ℕ) → (marked ≡ 0 → ⊥) → word_count marked ≡ 64
-word_count-some marked h = ap (λ b. cond b 0 64) (ne_eqb marked 0 h)
-
-pub word_count-none : (marked : ℕ) → marked ≡ 0 → word_count marked ≡ 0
-word_count-none marked h = ap (λ b. cond b 0 64) (eq-eqb marked 0 h)
+-- a page that has none
+pub kept_marks-none : (marked : ℕ) (m : Marks) → marks_of m ≡ no_marks → kept_marks marked m ≡ no_marks
+kept_marks-none marked m is = elim (nat_eq marked 0) as (λ b. cond b no_marks (marks_of m) ≡ no_marks) [ true ↦ refl | false ↦ is ]

@@ -5,7 +5,7 @@ use Rattle.std.specs.Prelude.{slice_set, slice_index, slice_index_or, IsSome}
 use Rattle.std.specs.Option.{option_map}
 use Rattle.std.proofs.lemmas.Bool.{cases_eq}
 use Rattle.std.proofs.lemmas.Option.{none-some}
-use Rattle.std.proofs.lemmas.List.{length-append, get_or-set_same, get_or-set_other, get_or_push, get_or_append_left, get_or_default}
+use Rattle.std.proofs.lemmas.List.{length-append, length-set, get_or-set_same, get_or-set_other, get_or_push, get_or_append_left, get_or_default}
 use Rattle.pr_base.proofs.MapLemmas.{same_values, by_key, get-mapped, len-mapped, mapped-empty, get-insert_same, get-insert_other, get-remove_same, get-remove_other, get-changed_same, get-changed_other, changed-none}
 use Rattle.rv_mem.specs.Page.{PageState}
 use Rattle.rv_mem.specs.Pages.{Pages, with_page}
@@ -52,6 +52,10 @@ no_place places pages m k e absent = none_of (map.get places k) (sym (contains-p
     none_of None h = refl
     none_of (Some x) h = absurd cc
 
+-- a number with a page has a place
+pub has_place : (places : Places) (pages : List PageState) (m : Pages) (k : ℕ) (o : Option ℕ) → pages_at places pages ≡ m → o ≡ map.get places k → map.contains_key m k ≡ true → IsSome o
+has_place places pages m k o e is there = ap is_some is ∙ sym (contains-pages_at places pages k) ∙ ap (λ w. map.contains_key w k) e ∙ there
+
 -- a place in a list of pages as long as that of the numbers
 pub inside : (places : Places) (numbers : List ℕ) (pages : List PageState) (k i : ℕ) → AreNumbered places numbers → length pages ≡ length numbers → map.get places k ≡ Some i → i < length pages
 inside places numbers pages k i placed paired here = subst (λ n. i < n) (sym paired) (placed.held k i here).0
@@ -90,6 +94,18 @@ module _ (places : Places) (numbers : List ℕ) (pages : List PageState) (k i : 
       ∙ sym (get-changed_same m k f ∙ ap (option_map f) (stands places pages m k i p e here low is)))
       (λ q d. get-pages_at places (slice_set pages i w) q ∙ others_same w q (map.get places q) d refl ∙ sym (get-pages_at places pages q)
       ∙ ap (λ n. map.get n q) e ∙ sym (get-changed_other m k f q d)))
+
+  -- the page that stands at the place
+  pub there_at : (m : Pages) → pages_at places pages ≡ m → map.get m k ≡ Some (page_at pages i)
+  there_at m e = ap (λ w. map.get w k) (sym e) ∙ found_at places pages k i here
+
+  pub pages_at-put : (new : List PageState) (m : Pages) (f : PageState → PageState) → pages_at places pages ≡ m → new ≡ slice_set pages i (f (page_at pages i)) → pages_at places new ≡ with_page m k f
+  pages_at-put new m f e set =
+      let low : i < length pages = inside places numbers pages k i placed paired here in
+      ap (pages_at places) set ∙ pages_at-set m (page_at pages i) (f (page_at pages i)) f e (get_or_default pages i no_page (page_at pages i) low) refl
+
+  pub paired-put : (new : List PageState) (w : PageState) → new ≡ slice_set pages i w → length new ≡ length numbers
+  paired-put new w set = ap length set ∙ length-set pages i w ∙ paired
 
 -- no page changed
 pub pages_at-unset : (places : Places) (pages : List PageState) (m : Pages) (k : ℕ) (f : PageState → PageState) → pages_at places pages ≡ m → map.get places k ≡ None → m ≡ with_page m k f

@@ -2,6 +2,7 @@
 use Rattle.std.specs.FinMap as map
 use Rattle.std.proofs.Common.{◌≡◌, ◌≢◌, ◌⊎◌, inl, inr, subst, ℕ, ◌+◌, ◌-◌, ◌*◌, ◌/◌, ◌≤◌, ◌<◌, zero, suc, Bool, true, false, ◌&&◌, ◌||◌, List, [], ◌∷◌, length, take, get_or, refl, sym, ap, ◌∙◌, arith, cond, Option, Some, None, is_some, nat_eq, nat_le, nat_lt, add-one, eq-eqb, max}
 use Rattle.std.specs.Option.{option_map}
+use Rattle.std.specs.Ordering.{nat_cmp}
 use Rattle.std.specs.List.{list_any}
 use Rattle.std.proofs.lemmas.Bool.{cases_eq, ne_eqb}
 use Rattle.std.proofs.lemmas.Bool.Decides.{nat_tests}
@@ -9,7 +10,7 @@ use Rattle.std.proofs.lemmas.List.{take_more}
 use Rattle.std.proofs.lemmas.List.Folds.{list_any-append}
 use Rattle.rv_mem.specs.declared.rights.Rights.{Rights}
 use Rattle.rv_mem.specs.Page.{PageState, fresh_page, page_with_rights}
-use Rattle.rv_mem.specs.Pages.{Pages, with_page, mapped, unmapped, protected, marked, has_pages, HasNoPages}
+use Rattle.rv_mem.specs.Pages.{Pages, with_page, mapped, unmapped, protected, marked, has_pages, HasNoPages, IsPlaced}
 use Rattle.pr_base.proofs.MapLemmas.{same_values, get-insert_same, get-insert_other, get-remove_same, get-remove_other, get-changed_same, get-changed_other}
 use Rattle.rv_mem.proofs.PagesLemmas.{marked-add, marked_nowhere}
 use Rattle.rv_mem.proofs.ChangeLemmas.{len-mapped_more, len-mapped-le, get-mapped_in, get-mapped_out, get-unmapped_in, get-unmapped_out}
@@ -298,3 +299,19 @@ unmapped_at old m first count from gone rest high others =
         (λ low. below_or_not (map.get m q ≡ map.get old q) q (first + count)
         (λ l. absurd (apart (q - first) (omega arith) (omega arith)))
         (λ h. let past : from ≤ q = omega arith in others q (inr past)))
+
+-- ---- all pages of a memory
+
+none_placed : (m : Pages) (q : ℕ) → IsPlaced m → 67108863 ≤ q → map.get m q ≡ None
+none_placed m q placed high = by (map.get m q) refl
+  where
+    by : (o : Option PageState) → map.get m q ≡ o → o ≡ None
+    by None e = refl
+    by (Some p) e = let low : q < 67108863 = placed q (ap is_some e) in absurd (omega (arith, low, high))
+
+-- a range that has the numbers of all pages
+pub unmapped_all : (m : Pages) (first count : ℕ) → IsPlaced m → first ≡ 0 → 67108863 ≤ count → map.empty ≡ unmapped m first count
+unmapped_all m first count placed start all =
+    unmapped_from m map.empty first count
+    (λ q apart. map.get-empty nat_cmp q ∙ sym (none_placed m q placed (below_or_not (67108863 ≤ q) q count (λ l. absurd (apart q l (omega (arith, start)))) (λ h. omega (arith, h, all)))))
+    (λ j l. map.get-empty nat_cmp (first + j))

@@ -4,6 +4,7 @@ pub mod Layout
 pub mod Marks
 pub mod Memory
 pub mod Page
+pub mod PageList
 pub mod Pages
 pub mod Places
 pub mod Scan

@@ -4,7 +4,7 @@ ghost use Rattle.std.specs.Prelude.{◌≡◌, ◌↔◌, ◌+◌, ◌%◌, ◌^
 ghost use Rattle.std.specs.FinMap as map;
 
 use crate::fault::StoreFault;
-use crate::page::Page;
+use crate::page_list::MarkedPage;
 use crate::rights::Use;
 use crate::table::Table;
 use pr_base::{NoMemory, PAGE_SIZE};
@@ -85,7 +85,7 @@ impl<const MARKED: u8> Table<MARKED> {
 
     /// The pages that bytes are written to, as they are then. All copies are taken here, before the first
     /// page is replaced.
-    fn plan(&self, at: u64, bytes: &[u8]) -> Result<Vec<Page<MARKED>>, NoMemory>
+    fn plan(&self, at: u64, bytes: &[u8]) -> Result<Vec<MarkedPage<MARKED>>, NoMemory>
         requires fits { at + length bytes.now ≤ 2 ^ 64 }
         requires there { HasPagesAt self.now at (length bytes.now) }
         ensures pages { IfOk result (λ pages. replaced self.now (at / page_size) pages.items ≡ written self.now at bytes.now) }
@@ -105,7 +105,7 @@ impl<const MARKED: u8> Table<MARKED> {
     }
 
     /// Puts pages in place of those from a number on.
-    fn replace_all(&mut self, first: u64, mut pages: Vec<Page<MARKED>>)
+    fn replace_all(&mut self, first: u64, mut pages: Vec<MarkedPage<MARKED>>)
         requires { first + length pages.items < 2 ^ 64 }
         ensures { self.new ≡ replaced self.old first pages.entry.items }
     {

@@ -1,14 +1,12 @@
 //! The marks of a page's bytes.
 ghost use Rattle.pr_base.specs.Page.{page_size};
-ghost use Rattle.std.specs.Prelude.{◌≡◌, ◌≢◌, ◌+◌, ◌-◌, ◌*◌, ◌/◌, ◌%◌, ◌<◌, ◌≤◌, ℕ, take, drop, replicate, length, nat_eq, slice_index, IfOk, false, true};
+ghost use Rattle.std.specs.Prelude.{◌≡◌, ◌≢◌, ◌+◌, ◌-◌, ◌*◌, ◌/◌, ◌%◌, ◌<◌, ◌≤◌, ℕ, take, drop, replicate, length, nat_eq, slice_index, false, true};
 ghost use Rattle.std.specs.Int.{bit_at};
 ghost use Rattle.std.specs.List.{list_any};
 ghost use Rattle.std.proofs.Math.Seq.{sets};
-ghost use Rattle.rv_mem.specs.Marks.{is_set, no_marks};
+ghost use Rattle.rv_mem.specs.Marks.{is_set, marks_in, marks_of, no_marks};
 
 use crate::frame::PAGE_LENGTH;
-use std::alloc::{AllocError, Global};
-use std::marker::Model;
 
 /// How many bytes a word has the marks of.
 const WORD: usize = 64;
@@ -16,54 +14,34 @@ const WORD: usize = 64;
 /// How many words a page's marks take.
 const WORDS: usize = PAGE_LENGTH / WORD;
 
-/// Which bytes of a page are marked, a bit for each. The room for them is made with the page, so that marking takes no
-/// memory. Where `MARKED` is 0 none is, and nothing is stored; where `some` is false none is, whatever is stored.
-#[derive(Drop)]
-pub struct Marks<const MARKED: u8> {
+/// Which bytes of a page are marked, a bit for each. Where `some` is false none is, whatever is stored.
+#[derive(Clone, Copy)]
+pub struct Marks {
     some: bool,
-    words: Vec<u64>,
+    words: [u64; WORDS],
 }
 
-impl<const MARKED: u8> Model for Marks<MARKED> {
-    ghost use Rattle.std.specs.Prelude.{◌≡◌, List, Bool, length};
-    ghost use Rattle.rv_mem.specs.Marks.{kept_marks, word_count};
-
-    ghost Value = { List Bool };
-
-    ghost view = { λ m. kept_marks MARKED m.some m.words.items };
-
-    ghost invariant = { λ m. length m.words.items ≡ word_count MARKED };
-}
-
-impl<const MARKED: u8> Marks<MARKED> {
+impl Marks {
     /// No marks.
-    pub fn none(alloc: Global) -> Result<Marks<MARKED>, AllocError>
-        ensures { IfOk result (λ marks. marks ≡ no_marks) }
+    pub fn none() -> Marks
+        ensures { marks_of result ≡ no_marks }
     {
-        if MARKED == 0 {
-            return Ok(Marks {
-                some: false,
-                words: Vec::new(alloc),
-            });
+        Marks {
+            some: false,
+            words: [0; WORDS],
         }
-        let words = vec![in alloc; 0; WORDS]?;
-        Ok(Marks { some: false, words })
     }
 
-    /// A copy, with room of its own. Where there are no marks, none is copied.
-    pub fn copy(&self) -> Result<Marks<MARKED>, AllocError>
-        ensures { IfOk result (λ marks. marks ≡ self.now) }
+    /// Whether a byte may be marked.
+    pub fn has_some(&self) -> bool
+        ensures { result ≡ false → marks_of self.now ≡ no_marks }
     {
-        if !self.some {
-            return Marks::none(*self.words.allocator());
-        }
-        let words = self.words.clone()?;
-        Ok(Marks { some: true, words })
+        self.some
     }
 
     /// Takes all marks away.
     pub fn clear_all(&mut self)
-        ensures { self.new ≡ no_marks }
+        ensures { marks_of self.new ≡ no_marks }
     {
         self.some = false;
     }
@@ -73,34 +51,41 @@ impl<const MARKED: u8> Marks<MARKED> {
     pub fn clear(&mut self, from: usize, to: usize)
         requires ordered { from ≤ to }
         requires within { to ≤ page_size }
-        ensures { self.new ≡ sets self.old from (replicate (to - from) false) }
+        ensures { marks_of self.new ≡ sets (marks_of self.old) from (replicate (to - from) false) }
     {
-        if MARKED != 0 && self.some {
+        if self.some {
             put(&mut self.words, from, to, false);
         }
     }
 
     /// Marks the bytes from an index up to, but without, another.
     pub fn set(&mut self, from: usize, to: usize)
-        requires kept { MARKED ≢ 0 }
         requires ordered { from ≤ to }
         requires within { to ≤ page_size }
-        ensures { self.new ≡ sets self.old from (replicate (to - from) true) }
+        ensures { marks_of self.new ≡ sets (marks_of self.old) from (replicate (to - from) true) }
+    {
+        self.make_some();
+        put(&mut self.words, from, to, true);
+    }
+
+    /// Lets the words tell the marks.
+    fn make_some(&mut self)
+        ensures some { self.new.some ≡ true }
+        ensures words { marks_in self.new.words ≡ marks_of self.old }
     {
         if !self.some {
-            self.words.fill(0);
+            self.words = [0; WORDS];
             self.some = true;
         }
-        put(&mut self.words, from, to, true);
     }
 
     /// Whether one of the `count` bytes from an index on is marked.
     #[inline(always)]
     pub fn any(&self, from: usize, count: usize) -> bool
         requires { from + count ≤ page_size }
-        ensures { result ≡ list_any (λ m. m) (take count (drop from self.now)) }
+        ensures { result ≡ list_any (λ m. m) (take count (drop from (marks_of self.now))) }
     {
-        MARKED != 0 && self.some && any_set(&self.words, from, from + count)
+        self.some && any_set(&self.words, from, from + count)
     }
 }
 
@@ -139,14 +124,14 @@ fn word_with(word: u64, start: usize, from: usize, to: usize, value: bool) -> u6
 }
 
 /// Sets the marks from an index up to, but without, another, or clears them.
-fn put(words: &mut Vec<u64>, from: usize, to: usize, value: bool)
+fn put(words: &mut [u64], from: usize, to: usize, value: bool)
     requires ordered { from ≤ to }
-    requires within { to ≤ 64 * length words.old.items }
+    requires within { to ≤ 64 * length words.old }
     requires small { to ≤ page_size }
-    ensures inside { (i : ℕ) → from ≤ i → i < to → is_set words.new.items i ≡ value }
-    ensures below { (i : ℕ) → i < from → is_set words.new.items i ≡ is_set words.old.items i }
-    ensures above { (i : ℕ) → to ≤ i → is_set words.new.items i ≡ is_set words.old.items i }
-    ensures len { length words.new.items ≡ length words.old.items }
+    ensures inside { (i : ℕ) → from ≤ i → i < to → is_set words.new i ≡ value }
+    ensures below { (i : ℕ) → i < from → is_set words.new i ≡ is_set words.old i }
+    ensures above { (i : ℕ) → to ≤ i → is_set words.new i ≡ is_set words.old i }
+    ensures len { length words.new ≡ length words.old }
 {
     for index in from / WORD..to.div_ceil(WORD) {
         let word = words[index];

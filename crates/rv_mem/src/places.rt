@@ -1,9 +1,11 @@
 //! Where in a list the page at a number is.
 ghost use Rattle.std.specs.Prelude.{◌≡◌, ◌++◌, [], ◌∷◌, ◌<◌, length, slice_index, Some, IsSome, OnOk, OnErr};
 ghost use Rattle.std.specs.FinMap as map;
+ghost use Rattle.rv_mem.specs.Page.{fresh_page};
 ghost use Rattle.rv_mem.specs.Places.{places_of, AreNumbered, IsSettled};
 
-use crate::page::Page;
+use crate::page_list::PageList;
+use crate::rights::Rights;
 use pr_base::NoMemory;
 use std::collections::BTreeMap;
 
@@ -46,22 +48,22 @@ pub fn settle(places: &mut BTreeMap<u64, usize>, numbers: &[u64], place: usize)
     *places.get_mut(&numbers[place]).unwrap() = place;
 }
 
-/// Puts a page with its number behind the others. Where memory is wanting nothing changes.
+/// Puts a fresh page with its number behind the others. Where memory is wanting nothing changes.
 pub fn put_behind<const MARKED: u8>(
     numbers: &mut Vec<u64>,
-    pages: &mut Vec<Page<MARKED>>,
+    pages: &mut PageList<MARKED>,
     number: u64,
-    page: Page<MARKED>,
+    rights: Rights,
 ) -> Result<(), NoMemory>
     ensures numbers { OnOk result (numbers.new.items ≡ numbers.old.items ++ number ∷ []) }
-    ensures pages { OnOk result (pages.new.items ≡ pages.old.items ++ page.entry ∷ []) }
+    ensures pages { OnOk result (pages.new ≡ pages.old ++ fresh_page rights ∷ []) }
     ensures err_numbers { OnErr result (numbers.new.items ≡ numbers.old.items) }
-    ensures err_pages { OnErr result (pages.new.items ≡ pages.old.items) }
+    ensures err_pages { OnErr result (pages.new ≡ pages.old) }
 {
     numbers.push(number)?;
-    if let Err(full) = pages.push(page) {
+    if let Err(want) = pages.push_fresh(rights) {
         let _number = numbers.pop();
-        return Err(full.into());
+        return Err(want);
     }
     Ok(())
 }

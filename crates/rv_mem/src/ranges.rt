@@ -4,13 +4,17 @@ ghost use Rattle.std.specs.List.{list_any};
 ghost use Rattle.std.specs.FinMap as map;
 
 use crate::rights::Rights;
+use crate::space::PAGES_END;
 use crate::table::Table;
 use pr_base::{NoMemory, PAGE_SIZE};
 use std::alloc::AllocError;
 
+/// The number of a page is below this one.
+const ALL_PAGES: u64 = PAGES_END / PAGE_SIZE;
+
 impl<const MARKED: u8> Table<MARKED> {
     ghost use Rattle.rv_mem.specs.Layout.{layout_of, has_page, HasNoPlace, IsLowestPlace};
-    ghost use Rattle.rv_mem.specs.Pages.{mapped, unmapped, protected, marked, has_pages};
+    ghost use Rattle.rv_mem.specs.Pages.{mapped, unmapped, protected, marked, has_pages, IsPlaced};
 
     /// How many of `count` pages from a number on aren't there, if they are at most `limit`.
     pub fn count_absent(&self, first: u64, count: u64, limit: u32) -> Option<u32>
@@ -97,6 +101,19 @@ impl<const MARKED: u8> Table<MARKED> {
         while let Some(number) = self.next(from, last) {
             self.remove(number);
             from = number + 1;
+        }
+    }
+
+    /// The same of pages that all lie below the end of a memory. Where the range has them all, none is looked for.
+    pub fn unmap_placed(&mut self, first: u64, count: u64)
+        requires placed { IsPlaced self.old }
+        requires fits { first + count < 2 ^ 64 }
+        ensures { self.new ≡ unmapped self.old first count }
+    {
+        if first == 0 && count >= ALL_PAGES {
+            self.clear();
+        } else {
+            self.unmap(first, count);
         }
     }
 

@@ -188,7 +188,7 @@ impl<const MARKED: u8> Space<MARKED> {
         ensures room { room.new ≡ room_after room.old self.old.pages self.new.pages }
     {
         let before = self.pages();
-        self.pages.unmap(at / PAGE_SIZE, u64::from(pages));
+        self.pages.unmap_placed(at / PAGE_SIZE, u64::from(pages));
         room.remove(before - self.pages());
     }
 

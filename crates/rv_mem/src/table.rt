@@ -1,11 +1,10 @@
 //! The pages of a memory by their numbers.
 ghost use Rattle.pr_base.specs.Page.{page_size};
 ghost use Rattle.std.specs.Prelude.{◌≡◌, ◌↔◌, ℕ, ◌+◌, ◌-◌, ◌*◌, ◌/◌, ◌%◌, ◌<◌, ◌≤◌, length, IfOk, OnOk, OnErr, IsErrOf, IsTrue, IfNone, IfSome, MatchOption, Some, None, ◌≢◌, nat_eq, true, false};
-ghost use Rattle.std.specs.Option.{option_copied};
 ghost use Rattle.std.specs.FinMap as map;
 
 use crate::fault::StoreFault;
-use crate::page::Page;
+use crate::page_list::{MarkedPage, PageList};
 use crate::places::{place_of, put_behind, recalled, settle};
 use crate::recent::Recent;
 use crate::rights::{Rights, Use};
@@ -23,7 +22,7 @@ use std::marker::Model;
 pub struct Table<const MARKED: u8> {
     places: BTreeMap<u64, usize>,
     numbers: Vec<u64>,
-    pages: Vec<Page<MARKED>>,
+    pages: PageList<MARKED>,
     recent: Recent,
     alloc: Global,
 }
@@ -38,9 +37,9 @@ impl<const MARKED: u8> Model for Table<MARKED> {
 
     ghost coded = { pages_code };
 
-    ghost view = { λ t. pages_at (places_of t.places.entries) t.pages.items };
+    ghost view = { λ t. pages_at (places_of t.places.entries) t.pages };
 
-    ghost invariant = { λ t. AreNumbered (places_of t.places.entries) t.numbers.items × (length t.pages.items ≡ length t.numbers.items) };
+    ghost invariant = { λ t. AreNumbered (places_of t.places.entries) t.numbers.items × (length t.pages ≡ length t.numbers.items) };
 }
 
 impl<const MARKED: u8> Table<MARKED> {
@@ -53,7 +52,7 @@ impl<const MARKED: u8> Table<MARKED> {
     {
         let places = BTreeMap::new(alloc);
         let numbers = Vec::new(alloc);
-        let pages = Vec::new(alloc);
+        let pages = PageList::new(alloc);
         Table {
             places,
             numbers,
@@ -82,22 +81,12 @@ impl<const MARKED: u8> Table<MARKED> {
         self.places.contains_key(&number)
     }
 
-    /// The page at a number, if it is there.
-    fn page(&self, number: u64) -> Option<&Page<MARKED>>
-        ensures { option_copied result ≡ map.get self.now number }
-    {
-        match place_of(&self.places, number) {
-            Some(place) => Some(&self.pages[place]),
-            None => None,
-        }
-    }
-
     /// Whether the page at a number is there and allows a use.
     pub fn allows(&self, number: u64, what: Use) -> bool
         ensures { result ≡ page_allows self.now number what }
     {
-        match self.page(number) {
-            Some(page) => page.grants(what),
+        match place_of(&self.places, number) {
+            Some(place) => self.pages.grants(place, what),
             None => false,
         }
     }
@@ -111,19 +100,18 @@ impl<const MARKED: u8> Table<MARKED> {
             self.reset(number, rights);
             return Ok(());
         }
-        let page = Page::fresh(self.alloc, rights)?;
-        self.add(number, page)
+        self.add(number, rights)
     }
 
-    /// Puts a page at a number that has none. Where memory is wanting nothing changes.
-    fn add(&mut self, number: u64, page: Page<MARKED>) -> Result<(), NoMemory>
+    /// Puts a fresh page at a number that has none. Where memory is wanting nothing changes.
+    fn add(&mut self, number: u64, rights: Rights) -> Result<(), NoMemory>
         requires { map.contains_key self.old number ≡ false }
-        ensures ok { OnOk result (self.new ≡ map.insert self.old number page.entry) }
+        ensures ok { OnOk result (self.new ≡ map.insert self.old number (fresh_page rights)) }
         ensures err { OnErr result (self.new ≡ self.old) }
     {
         let place = self.pages.len();
         self.places.insert(number, place)?;
-        match put_behind(&mut self.numbers, &mut self.pages, number, page) {
+        match put_behind(&mut self.numbers, &mut self.pages, number, rights) {
             Ok(()) => Ok(()),
             Err(want) => {
                 let _place = self.places.remove(&number);
@@ -141,8 +129,15 @@ impl<const MARKED: u8> Table<MARKED> {
         };
         // The last page takes the place.
         let _number = self.numbers.swap_remove(place);
-        let _page = self.pages.swap_remove(place);
+        self.pages.swap_remove(place);
         settle(&mut self.places, &self.numbers, place);
+    }
+
+    /// Takes all pages away.
+    pub fn clear(&mut self)
+        ensures { self.new ≡ map.empty }
+    {
+        *self = Table::new(self.alloc);
     }
 
     /// Makes the page at a number, if there is one, as it is when it is mapped.
@@ -152,7 +147,7 @@ impl<const MARKED: u8> Table<MARKED> {
         let Some(place) = place_of(&self.places, number) else {
             return;
         };
-        self.pages[place].reset(rights);
+        self.pages.reset(place, rights);
     }
 
     /// Gives the page at a number, if there is one, other rights.
@@ -162,17 +157,17 @@ impl<const MARKED: u8> Table<MARKED> {
         let Some(place) = place_of(&self.places, number) else {
             return;
         };
-        self.pages[place].set_rights(rights);
+        self.pages.set_rights(place, rights);
     }
 
     /// Puts a page in place of the one at a number, if one is there.
-    pub fn replace(&mut self, number: u64, page: Page<MARKED>)
+    pub fn replace(&mut self, number: u64, page: MarkedPage<MARKED>)
         ensures { self.new ≡ with_page self.old number (λ _. page.entry) }
     {
         let Some(place) = place_of(&self.places, number) else {
             return;
         };
-        self.pages[place] = page;
+        self.pages.replace(place, page);
     }
 
     /// Writes bytes that lie inside one page if it is there and may be written, which clears their marks.
@@ -191,21 +186,23 @@ impl<const MARKED: u8> Table<MARKED> {
             return Err(StoreFault::BadAddress);
         };
         self.recent.note(number, Use::Write, place);
-        if !self.pages[place].grants(Use::Write) {
+        if !self.pages.grants(place, Use::Write) {
             return Err(StoreFault::BadAddress);
         }
-        self.pages[place].write(alloc, (at % PAGE_SIZE) as usize, bytes)?;
+        let offset = (at % PAGE_SIZE) as usize;
+        self.pages.write(place, alloc, offset, bytes)?;
         Ok(())
     }
 
     /// The page at an address, which is there, as it is after bytes inside it were written.
-    pub fn page_after(&self, at: u64, bytes: &[u8]) -> Result<Page<MARKED>, NoMemory>
+    pub fn page_after(&self, at: u64, bytes: &[u8]) -> Result<MarkedPage<MARKED>, NoMemory>
         requires within { at % page_size + length bytes.now ≤ page_size }
         requires there { IsTrue (map.contains_key self.now (at / page_size)) }
         ensures { IfOk result (λ p. map.get (written self.now at bytes.now) (at / page_size) ≡ Some p) }
     {
-        let page = self.page(at / PAGE_SIZE).unwrap();
-        page.after(self.alloc, (at % PAGE_SIZE) as usize, bytes)
+        let place = place_of(&self.places, at / PAGE_SIZE).unwrap();
+        let offset = (at % PAGE_SIZE) as usize;
+        self.pages.after(place, self.alloc, offset, bytes)
     }
 
     /// Marks the `count` bytes from an address on, which lie inside one page, if it is there.
@@ -218,7 +215,7 @@ impl<const MARKED: u8> Table<MARKED> {
             return;
         };
         let offset = (at % PAGE_SIZE) as usize;
-        self.pages[place].mark(offset, offset + count);
+        self.pages.mark(place, offset, offset + count);
     }
 
     /// Copies bytes that lie inside one page that is there, and tells whether one of them is marked.
@@ -228,10 +225,10 @@ impl<const MARKED: u8> Table<MARKED> {
         ensures bytes { into.new ≡ bytes_from self.now at (length into.old) }
         ensures marked { result ≡ any_marked self.now at (length into.old) }
     {
-        let page = self.page(at / PAGE_SIZE).unwrap();
+        let place = place_of(&self.places, at / PAGE_SIZE).unwrap();
         let offset = (at % PAGE_SIZE) as usize;
-        page.copy_to(offset, into);
-        page.any_marked(offset, into.len())
+        self.pages.copy_to(place, offset, into);
+        self.pages.any_marked(place, offset, into.len())
     }
 
     /// Copies bytes that lie inside one page if it is there and allows a use, and tells whether one of them is
@@ -249,13 +246,12 @@ impl<const MARKED: u8> Table<MARKED> {
             return None;
         };
         self.recent.note(number, what, place);
-        let page = &self.pages[place];
-        if !page.grants(what) {
+        if !self.pages.grants(place, what) {
             return None;
         }
         let offset = (at % PAGE_SIZE) as usize;
-        page.copy_to(offset, into);
-        let marked = page.any_marked(offset, into.len());
+        self.pages.copy_to(place, offset, into);
+        let marked = self.pages.any_marked(place, offset, into.len());
         Some(marked)
     }
 
@@ -266,8 +262,9 @@ impl<const MARKED: u8> Table<MARKED> {
         requires there { IsTrue (map.contains_key self.now (at / page_size)) }
         ensures { result ≡ any_marked self.now at count }
     {
-        let page = self.page(at / PAGE_SIZE).unwrap();
-        page.any_marked((at % PAGE_SIZE) as usize, count)
+        let place = place_of(&self.places, at / PAGE_SIZE).unwrap();
+        self.pages
+            .any_marked(place, (at % PAGE_SIZE) as usize, count)
     }
 
     /// How many of the `count` bytes from an address on, which lie inside one page that is there,
@@ -278,8 +275,8 @@ impl<const MARKED: u8> Table<MARKED> {
         ensures none { IfNone result (HasNoZero self.now at count) }
         ensures some { IfSome result (λ z. (z < count) × (nat_eq (byte_at self.now (at + z)) 0 ≡ true) × HasNoZero self.now at z) }
     {
-        let page = self.page(at / PAGE_SIZE).unwrap();
-        page.zero_in((at % PAGE_SIZE) as usize, count)
+        let place = place_of(&self.places, at / PAGE_SIZE).unwrap();
+        self.pages.zero_in(place, (at % PAGE_SIZE) as usize, count)
     }
 
     /// The first number from `from` up to, but without, `to` at which there is a page.
@@ -301,7 +298,7 @@ impl<const MARKED: u8> Table<MARKED> {
     {
         let places = self.places.clone()?;
         let numbers = self.numbers.clone()?;
-        let pages = self.pages.clone()?;
+        let pages = self.pages.copy()?;
         Ok(Table {
             places,
             numbers,

@@ -9,4 +9,4 @@ pub returns : goal.returns
 returns g c =
     let places = places_of c.self.inside.places.entries in
     c.contains_key.ensures ∙ ap is_some (get-view c.self.inside.places.entries places c.args.number refl)
-    ∙ sym (contains-pages_at places c.self.inside.pages.items c.args.number) ∙ ap (λ m. map.contains_key m c.args.number) c.self.view_is
+    ∙ sym (contains-pages_at places c.self.inside.pages c.args.number) ∙ ap (λ m. map.contains_key m c.args.number) c.self.view_is

@@ -8,4 +8,4 @@ use Rattle.rv_mem.proofs.table.Table.len.Goals as goal
 pub returns : goal.returns
 returns g c =
     c.len.ensures.len ∙ sym (len-from_entries _ c.len.ensures.ordered)
-    ∙ sym (len-pages_at (places_of c.self.inside.places.entries) c.self.inside.pages.items) ∙ ap map.len c.self.view_is
+    ∙ sym (len-pages_at (places_of c.self.inside.places.entries) c.self.inside.pages) ∙ ap map.len c.self.view_is

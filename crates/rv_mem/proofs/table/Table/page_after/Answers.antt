@@ -1,13 +1,17 @@
-use Rattle.std.proofs.Common.{◌≡◌, ◌+◌, ◌*◌, ◌/◌, ◌%◌, arith}
-use Rattle.rv_mem.proofs.MapLemmas.{is_found, get-found}
+use Rattle.std.proofs.Common.{◌≡◌, ◌+◌, ◌*◌, ◌/◌, ◌%◌, ◌∙◌, sym, arith, lit<}
+use Rattle.rv_mem.specs.Places.{places_of}
+use Rattle.rv_mem.proofs.PlaceLemmas.{inside, has_place, there_at}
 use Rattle.rv_mem.proofs.PlanLemmas.{if_ok, found_after}
 use Rattle.rv_mem.proofs.table.Table.page_after.Goals as goal
 
-pub unwrap-page-requires : goal.unwrap-page-requires
-unwrap-page-requires g c = is_found c.args.self.now (c.args.at / 4096) c.page.result c.page.ensures c.requires.there
+pub unwrap-place-requires : goal.unwrap-place-requires
+unwrap-place-requires g c = has_place (places_of c.self.inside.places.entries) c.self.inside.pages c.args.self.now (c.args.at / 4096) c.place_of.result c.self.view_is c.place_of.ensures c.requires.there
+
+pub after-requires : goal.after-requires
+after-requires g c = (lit< tt, (lit< tt, (inside (places_of c.self.inside.places.entries) c.self.inside.numbers.items c.self.inside.pages (c.args.at / 4096) c.unwrap-place.result c.self.invariant.0 c.self.invariant.1 (sym c.place_of.ensures ∙ c.unwrap-place.ensures), omega (arith, c.requires.within))))
 
 pub returns : goal.returns
 returns g c =
     let placed : c.args.at ≡ c.args.at / 4096 * 4096 + c.args.at % 4096 = omega arith in
-    let there = get-found c.args.self.now (c.args.at / 4096) c.page.result c.unwrap-page.result c.page.ensures c.unwrap-page.ensures in
+    let there = there_at (places_of c.self.inside.places.entries) c.self.inside.numbers.items c.self.inside.pages (c.args.at / 4096) c.unwrap-place.result c.self.invariant.0 c.self.invariant.1 (sym c.place_of.ensures ∙ c.unwrap-place.ensures) c.args.self.now c.self.view_is in
     if_ok c.after.result _ _ (λ p is. found_after c.args.self.now (c.args.at / 4096) (c.args.at % 4096) c.args.at c.args.bytes.now _ p placed c.requires.within there is) c.after.ensures
