@@ -93,12 +93,12 @@ listed-without name d h = record {
 -- ---- nothing taken away
 
 -- no name of a list is one, so nothing is taken away
-none_without : (name : List ℕ) (es : List Entry) → AllByRecursion (λ n. bytes_eq name n ≡ false) (names_in es) → without_name name es ≡ es
+pub none_without : (name : List ℕ) (es : List Entry) → AllByRecursion (λ n. bytes_eq name n ≡ false) (names_in es) → without_name name es ≡ es
 none_without name [] h = refl
 none_without name (e ∷ es) h =
     ap (λ b. cond (not b) (e ∷ without_name name es) (without_name name es)) h.0 ∙ ap (λ r. e ∷ r) (none_without name es h.1)
 
-all_alike : (a b : List ℕ) (ns : List (List ℕ)) → bytes_eq a b ≡ true → AllByRecursion (λ n. bytes_eq b n ≡ false) ns → AllByRecursion (λ n. bytes_eq a n ≡ false) ns
+pub all_alike : (a b : List ℕ) (ns : List (List ℕ)) → bytes_eq a b ≡ true → AllByRecursion (λ n. bytes_eq b n ≡ false) ns → AllByRecursion (λ n. bytes_eq a n ≡ false) ns
 all_alike a b [] e h = h
 all_alike a b (n ∷ ns) e h = (nat_list_eq_equiv.congr a b n e ∙ h.0, all_alike a b ns e h.1)
 

@@ -1,11 +1,10 @@
 -- The definitions, evaluated.
 use Rattle.std.proofs.Common.{◌≡◌, ℕ, true, false, [], ◌∷◌, replicate, refl, Some, None}
-use Rattle.std.specs.Prelude.{codes, Vec}
+use Rattle.std.specs.Prelude.{codes}
 use Rattle.std.specs.Option.{option_map}
 use Rattle.kr_inode.specs.declared.user.User.{User}
 use Rattle.kr_inode.specs.declared.user.Right.TheVariants.{Read, Write, Search}
 use Rattle.kr_inode.specs.Inode.{Node, Inode, Entry, Directory, RegularFile, SymbolicLink, entry_named, entry_after, entries_of}
-use Rattle.kr_inode.specs.Entries.{placed}
 use Rattle.kr_inode.specs.Rights.{allows, is_kept_by_sticky}
 use Rattle.kr_inode.specs.Names.{is_name}
 use Rattle.kr_inode.specs.Changes.{fresh, with_entry, without_entry, sized, overwritten, is_too_big}
@@ -173,11 +172,6 @@ after_last = refl
 taken_and_put_back : entries_of (with_entry (codes "a") 5 false (without_entry (codes "a") false two)).node.body ≡ second ∷ (record { name = codes "a"; serial = 5; inode = 5 }) ∷ []
 unfolding two directory second
 taken_and_put_back = refl
-
--- two names at the places 0 and 1, whose serials stand the other way round
-by_serial : {Z : Type 0} (a b : Vec ℕ Z) → placed ((b, record { serial = 7; inode = 6 }) ∷ (a, record { serial = 3; inode = 5 }) ∷ []) ((3, 1) ∷ (7, 0) ∷ [])
-    ≡ (record { name = a.items; serial = 3; inode = 5 }) ∷ (record { name = b.items; serial = 7; inode = 6 }) ∷ []
-by_serial a b = refl
 
 -- ---- limits
 

@@ -1,15 +1,13 @@
 -- The entries of one directory by themselves, and the serial that the next one takes.
-use Rattle.std.specs.Prelude.{◌≡◌, ℕ, ◌+◌, ◌<◌, true, bytes_eq, slice_get, List, [], ◌∷◌, ◌++◌, map as map_list, Option, Some, refl, Vec, ◌⊎◌}
+use Rattle.std.specs.Prelude.{◌≡◌, ℕ, ◌+◌, ◌<◌, true, bytes_eq, List, [], ◌∷◌, ◌++◌, map as map_list, refl, Vec, ◌⊎◌}
 use Rattle.std.specs.List.{AllByRecursion, IsDistinct}
-use Rattle.std.specs.List.Sorted.{IsStrictlySortedBy}
-use Rattle.std.specs.Option.{option_map, option_map_or}
-use Rattle.std.specs.Ordering.{nat_cmp}
-use Rattle.std.specs.Map.{keys_of, lookup}
-use Rattle.std.specs.BTreeMap.{is_at}
+use Rattle.std.specs.Option.{option_map}
+use Rattle.std.specs.Map.{lookup}
 use Rattle.std.specs.Coded.{Coded, code_by, coded×, coded_ℕ, coded_list}
-use Rattle.kr_inode.specs.Inode.{Entry, entry_code}
+use Rattle.kr_inode.specs.Inode.{Entry, entry_code, entry_named}
 use Rattle.kr_inode.specs.Names.{is_name}
 use Rattle.kr_inode.specs.Changes.{without_name}
+use Rattle.kr_inode.specs.declared.entries.Named.{Named}
 use Rattle.kr_inode.specs.declared.entries.Slot.{Slot}
 
 pub record Entries : Type 0 where
@@ -52,26 +50,14 @@ pub record IsListed (d : Entries) : Type 0 where
 abbrev pub slot_of : Entry → Slot
 slot_of e = record { serial = e.serial; inode = e.inode }
 
--- an entry's name and what is stored at it
-abbrev pub entry_of : {Z : Type 0} → Vec ℕ Z × Slot → Entry
-entry_of e = record { name = e.0.items; serial = e.1.serial; inode = e.1.inode }
+-- an entry by what is stored at its serial
+abbrev pub entry_of : ℕ × Named → Entry
+entry_of e = record { name = e.1.name.items; serial = e.0; inode = e.1.inode }
 
--- the entry that stands at each place, in the order of the serials that the places are kept under
-abbrev pub placed : {Z : Type 0} → List (Vec ℕ Z × Slot) → List (ℕ × ℕ) → List Entry
-placed es [] = []
-placed es (p ∷ ps) = option_map_or (λ e. entry_of e ∷ placed es ps) (slice_get es p.1) (placed es ps)
+-- the entries that are stored at serials
+abbrev pub stored : List (ℕ × Named) → List Entry
+stored es = map_list entry_of es
 
--- the place that is kept under a serial
-abbrev pub place_of : List (ℕ × ℕ) → ℕ → Option ℕ
-place_of ps serial = lookup (is_at (nat_cmp serial)) ps
-
--- the serial of what stands at a place
-abbrev pub serial_at : {Z : Type 0} → List (Vec ℕ Z × Slot) → ℕ → Option ℕ
-serial_at es place = option_map (λ e. e.1.serial) (slice_get es place)
-
--- what stands at the place of a serial has that serial, and the serial of what stands at a place has
--- that place
-pub record IsPaired {Z : Type 0} (es : List (Vec ℕ Z × Slot)) (ps : List (ℕ × ℕ)) : Type 0 where
-  pub ordered : IsStrictlySortedBy nat_cmp (keys_of ps)
-  pub stands : (serial place : ℕ) → place_of ps serial ≡ Some place → serial_at es place ≡ Some serial
-  pub kept : (serial place : ℕ) → serial_at es place ≡ Some serial → place_of ps serial ≡ Some place
+-- what is kept at each name is what is stored of its entry
+abbrev pub IsNamed : {Z : Type 0} → List (Vec ℕ Z × Slot) → List Entry → Type 0
+IsNamed {Z} ns es = (name : List ℕ) → lookup (λ (k : Vec ℕ Z). bytes_eq name k.items) ns ≡ option_map slot_of (entry_named name es)

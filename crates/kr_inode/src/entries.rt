@@ -3,10 +3,9 @@ ghost use Rattle.std.specs.Prelude.{◌≡◌, ◌+◌, ◌^◌, ◌<◌, true, 
 ghost use Rattle.std.specs.Option.{option_map};
 
 use crate::node::Ino;
-use indexmap::IndexMap;
 use pr_base::NoMemory;
 use std::alloc::Global;
-use std::collections::BTreeMap;
+use std::collections::{BTreeMap, HashMap};
 use std::marker::Model;
 use std::ops::Bound;
 
@@ -17,28 +16,34 @@ pub struct Slot {
     pub inode: Ino,
 }
 
+/// A name and the inode that it stands for.
+#[derive(Drop)]
+pub struct Named {
+    name: Vec<u8>,
+    inode: Ino,
+}
+
 /// The entries of a directory, which a proof sees as a list in the order of their serials. Each has
 /// a serial of its own, which rises with every new entry.
 ///
-/// The names' slots stand in no order, since the last one takes the place of one that goes. Beside
-/// them each serial has the place of its slot, in order.
+/// They stand in an ordered map by serial, with what is kept at each name in a table beside it.
 #[derive(Drop)]
 pub struct Entries {
-    by_name: IndexMap<Vec<u8>, Slot>,
-    by_serial: BTreeMap<u64, usize>,
+    by_serial: BTreeMap<u64, Named>,
+    by_name: HashMap<Vec<u8>, Slot>,
     next: u64,
 }
 
 impl Model for Entries {
-    ghost use Rattle.kr_inode.specs.Entries.{Entries, entries_code, placed, IsListed, IsPaired};
+    ghost use Rattle.kr_inode.specs.Entries.{Entries, entries_code, stored, IsListed, IsNamed};
 
     ghost Value = { Entries };
 
     ghost coded = { entries_code };
 
-    ghost view = { λ d. record { list = placed d.by_name.entries d.by_serial.entries; next = d.next } };
+    ghost view = { λ d. record { list = stored d.by_serial.entries; next = d.next } };
 
-    ghost invariant = { λ d. IsPaired d.by_name.entries d.by_serial.entries × IsListed (record { list = placed d.by_name.entries d.by_serial.entries; next = d.next }) };
+    ghost invariant = { λ d. IsNamed d.by_name.entries (stored d.by_serial.entries) × IsListed (record { list = stored d.by_serial.entries; next = d.next }) };
 }
 
 impl Entries {
@@ -51,8 +56,8 @@ impl Entries {
         ensures { result ≡ no_entries }
     {
         Entries {
-            by_name: IndexMap::new(alloc),
             by_serial: BTreeMap::new(alloc),
+            by_name: HashMap::new(alloc),
             next: 3,
         }
     }
@@ -83,9 +88,8 @@ impl Entries {
     pub fn at(&self, serial: u64) -> Option<(&[u8], Ino)>
         ensures { option_map (λ p. record { name = p.0.now; serial = serial; inode = p.1 }) result ≡ entry_at serial self.now.list }
     {
-        let place = self.by_serial.get(&serial)?;
-        let (name, slot) = self.by_name.get_index(*place)?;
-        Some((name.as_slice(), slot.inode))
+        let held = self.by_serial.get(&serial)?;
+        Some((held.name.as_slice(), held.inode))
     }
 
     /// The first entry whose serial is above one: its serial, name and inode.
@@ -93,9 +97,8 @@ impl Entries {
         ensures { option_map (λ p. record { name = p.1.now; serial = p.0; inode = p.2 }) result ≡ entry_after serial self.now.list }
     {
         let above = (Bound::Excluded(serial), Bound::Unbounded);
-        let (_serial, place) = self.by_serial.range(above).next()?;
-        let (name, slot) = self.by_name.get_index(*place)?;
-        Some((slot.serial, name.as_slice(), slot.inode))
+        let (next, held) = self.by_serial.range(above).next()?;
+        Some((*next, held.name.as_slice(), held.inode))
     }
 
     /// Adds an entry, which takes the next serial.
@@ -106,12 +109,16 @@ impl Entries {
         ensures ok { OnOk result (self.new ≡ with_new name.items inode self.old) }
         ensures err { OnErr result (self.new ≡ self.old) }
     {
-        // Room for the name first, so that nothing has to be undone where there is none.
-        self.by_name.reserve(1)?;
         let serial = self.next;
-        self.by_serial.insert(serial, self.by_name.len())?;
-        self.by_name.insert(name, Slot { serial, inode })?;
-        self.next += 1;
+        let copy = name.clone()?;
+        self.by_name.insert(copy, Slot { serial, inode })?;
+        if let Err(refused) = self.by_serial.insert(serial, Named { name, inode }) {
+            // The name goes from the table again.
+            let (_serial, held) = refused.value;
+            let _slot = self.by_name.remove(held.name.as_slice());
+            return Err(NoMemory);
+        }
+        self.next = serial + 1;
         Ok(())
     }
 
@@ -119,14 +126,10 @@ impl Entries {
     pub fn remove(&mut self, name: &[u8])
         ensures { self.new ≡ without name.now self.old }
     {
-        let Some((place, _name, slot)) = self.by_name.swap_remove_full(name) else {
+        let Some(slot) = self.by_name.remove(name) else {
             return;
         };
         let _gone = self.by_serial.remove(&slot.serial);
-        // The last one has taken the place, unless it was the one that went.
-        if let Some((_name, moved)) = self.by_name.get_index(place) {
-            *self.by_serial.get_mut(&moved.serial).unwrap() = place;
-        }
     }
 
     /// Puts an inode at a name that there is, as a new entry with the next serial in place of the old
@@ -137,12 +140,18 @@ impl Entries {
         ensures ok { OnOk result (self.new ≡ with_new name.now inode (without name.now self.old)) }
         ensures err { OnErr result (self.new ≡ self.old) }
     {
-        let place = self.by_name.get_index_of(name).unwrap();
         let serial = self.next;
-        self.by_serial.insert(serial, place)?;
-        let old = self.by_name[place].serial;
+        let old = self.by_name.get(name).unwrap().serial;
+        let name_again = self.by_serial.get(&old).unwrap().name.clone()?;
+        self.by_serial.insert(
+            serial,
+            Named {
+                name: name_again,
+                inode,
+            },
+        )?;
         let _gone = self.by_serial.remove(&old);
-        self.by_name[place] = Slot { serial, inode };
+        *self.by_name.get_mut(name).unwrap() = Slot { serial, inode };
         self.next = serial + 1;
         Ok(())
     }

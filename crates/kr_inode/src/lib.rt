@@ -9,8 +9,8 @@
 //! `replace` and `remove` are the changes of the definition (`ok`), and a refusal leaves the list as it was (`err`). Names are well-formed and no
 //! two are alike, and serials rise (`IsListed`, their invariant).
 //!
-//! They stand in a table by name from which one is taken in constant time, with their places by serial beside it, so that a look-up, a new entry,
-//! a removal and the next entry cost at most a logarithm of their number.
+//! They stand in an ordered map by serial, with what is kept at each name in a hash table beside it, so that a look-up, a new entry, a removal and
+//! the next entry cost at most a logarithm of their number.
 //!
 //! `Inode` is a node (mode, owner, body) with its counts; each of its calls is a look-up in it or a change of the definition. `allows` goes by
 //! owner, group or others alone, the first class that fits.

@@ -1,56 +1,46 @@
-use Rattle.std.proofs.Common.{◌≡◌, ℕ, ◌+◌, ◌++◌, ◌∷◌, [], ◌∙◌, true, sym, ap, subst, List, Option, None, Some, is_some, slice_get, position, refl}
+use Rattle.std.proofs.Common.{◌≡◌, ℕ, ◌+◌, ◌∙◌, sym, ap, subst, None, Some, Option, refl}
 use Rattle.std.specs.Prelude.{Vec, bytes_eq}
-use Rattle.std.specs.Option.{IsSome, option_map}
-use Rattle.std.specs.Map.{keys_of, values_of}
 use Rattle.std.specs.declared.alloc.Global.{Global}
-use Rattle.std.proofs.lemmas.Option.{same_Some, slice_get-map}
-use Rattle.indexmap.specs.IndexMap.{set_value_at}
+use Rattle.std.specs.Borrow.{Bor}
+use Rattle.std.specs.Option.{IsSome, option_copied}
+use Rattle.std.specs.Map.{lookup}
+use Rattle.std.specs.Ordering.{nat_cmp}
+use Rattle.std.specs.BTreeMap.{is_at}
+use Rattle.std.proofs.lemmas.Option.{same_Some}
+use Rattle.kr_inode.specs.declared.entries.Named.{Named}
 use Rattle.kr_inode.specs.declared.entries.Slot.{Slot}
-use Rattle.kr_inode.specs.Inode.{Entry, entry_named}
-use Rattle.kr_inode.specs.Changes.{without_name}
-use Rattle.kr_inode.specs.Entries.{Entries, IsListed, IsPaired, placed, place_of, slot_of, with_new, without}
-use Rattle.kr_inode.proofs.PairLemmas.{found}
-use Rattle.kr_inode.proofs.PlaceLemmas.{Sets, at_position, listed-replaced, replaced}
+use Rattle.kr_inode.proofs.ChangeLemmas.{Replaced, replaced, stored_there, same_items}
 use Rattle.kr_inode.proofs.entries.Entries.replace.Goals as goal
 
--- what stands at the place that was found
-stands : (name : List ℕ) (es : List (Vec ℕ Global × Slot)) (i : ℕ) (slot : Slot) → Some i ≡ position (λ (k : Vec ℕ Global). bytes_eq name k.items) (keys_of es) → slice_get (values_of es) i ≡ Some slot
-    → (x : Vec ℕ Global × Slot) × (slice_get es i ≡ Some x) × (bytes_eq name x.0.items ≡ true) × (slot ≡ x.1)
-stands name es i slot index value =
-    let x = at_position (λ (k : Vec ℕ Global). bytes_eq name k.items) es i (sym index) in
-    (x.0, x.1, x.2, same_Some slot x.0.1 (sym value ∙ slice_get-map (λ (e : Vec ℕ Global × Slot). e.1) es i ∙ ap (option_map (λ (e : Vec ℕ Global × Slot). e.1)) x.1))
+is_some : {X : Type 0} (o : Option (Bor X)) (v : X) → option_copied o ≡ Some v → IsSome o
+is_some None v h = absurd cc
+is_some (Some x) v h = refl
 
-is_slot : (o : Option Entry) → is_some (option_map slot_of o) ≡ is_some o
-is_slot None = refl
-is_slot (Some e) = refl
-
-pub unwrap-place-requires : goal.unwrap-place-requires
-unwrap-place-requires c =
+there : (c : goal.After-get-2) → (v : Named) × (lookup (is_at (nat_cmp c.unwrap.result.now.serial)) c.self.inside.by_serial.entries ≡ Some v) × (v.name.items ≡ c.args.name.now)
+there c =
     let d = c.self.inside in
-    let P : Entries → Type 0 = λ v. IsSome (entry_named c.args.name.now v.list) in
-    c.get_index_of.ensures.found ∙ ap is_some (found c.args.name.now d.by_name.entries d.by_serial.entries c.self.invariant.0 c.self.invariant.1.distinct)
-    ∙ is_slot (entry_named c.args.name.now (placed d.by_name.entries d.by_serial.entries)) ∙ subst P (sym c.self.view_is) c.requires.named
+    stored_there c.args.name.now d.next c.unwrap.result.now d.by_name.entries d.by_serial.entries c.self.invariant.0 c.self.invariant.1 (sym (ap option_copied c.unwrap.ensures) ∙ c.get.ensures.value)
 
-is_listed : (c : goal.After-self-2-1) → IsListed (with_new c.args.name.now c.args.inode (without c.args.name.now (record { list = placed c.self.inside.by_name.entries c.self.inside.by_serial.entries; next = c.self.inside.next })))
-is_listed c =
-    let d = c.self.inside in
-    let P : Entries → Type 0 = λ v. IsSome (entry_named c.args.name.now v.list) in
-    listed-replaced c.args.name.now c.args.inode (record { list = placed d.by_name.entries d.by_serial.entries; next = d.next }) c.self.invariant.1 (subst P (sym c.self.view_is) c.requires.named)
+pub unwrap-requires-2 : goal.unwrap-requires-2
+unwrap-requires-2 c = is_some c.get-2.result (there c).0 (c.get-2.ensures.value ∙ (there c).1)
 
-both : (c : goal.After-self-2-1) → IsPaired (set_value_at c.self.inside.by_name.entries c.unwrap-place.result (record { serial = c.self.inside.next; inode = c.args.inode })) c.remove-gone.new.self.entries
-    × (placed (set_value_at c.self.inside.by_name.entries c.unwrap-place.result (record { serial = c.self.inside.next; inode = c.args.inode })) c.remove-gone.new.self.entries
-    ≡ without_name c.args.name.now (placed c.self.inside.by_name.entries c.self.inside.by_serial.entries) ++ (record { name = c.args.name.now; serial = c.self.inside.next; inode = c.args.inode }) ∷ [])
+both : (c : goal.Joined-gone) → Replaced (c.get_mut.follows.lender (record { serial = c.self.inside.next; inode = c.args.inode })).entries c.self.inside.by_serial.entries c.remove-gone.new.self.entries c.self.inside.next
+    (record { name = c.args.name.now; serial = c.self.inside.next; inode = c.args.inode })
 both c =
     let d = c.self.inside in
-    let x = stands c.args.name.now d.by_name.entries c.unwrap-place.result c.index.result.now (sym c.unwrap-place.ensures ∙ c.get_index_of.ensures.index) c.index.ensures in
-    let R : Slot → Type 0 = λ slot. Sets (place_of c.insert.new.self.entries) (place_of c.remove-gone.new.self.entries) slot.serial None in
-    replaced c.args.name.now d.next c.args.inode d.by_name.entries d.by_serial.entries c.insert.new.self.entries c.remove-gone.new.self.entries c.unwrap-place.result x.0 c.self.invariant.0 c.self.invariant.1 (is_listed c)
-    x.1 x.2 c.remove-gone.ensures.ordered c.in_ok-insert.ensures.updates.0 (subst R x.3 c.remove-gone.ensures.updates.0)
+    let slot = c.unwrap.result.now in
+    let found : Some slot ≡ lookup (λ (k : Vec ℕ Global). bytes_eq c.args.name.now k.items) d.by_name.entries = sym (ap option_copied c.unwrap.ensures) ∙ c.get.ensures.value in
+    let v = stored_there c.args.name.now d.next slot d.by_name.entries d.by_serial.entries c.self.invariant.0 c.self.invariant.1 found in
+    let held : c.unwrap-2.result.now ≡ v.0 = same_Some _ _ (sym (ap option_copied c.unwrap-2.ensures) ∙ c.get-2.ensures.value ∙ v.1) in
+    let name : c.in_ok-name_again.name_again.items ≡ c.args.name.now = same_items c.unwrap-2.result.now.name.items c.in_ok-name_again.name_again.items c.in_ok-name_again.ensures.cases.0 ∙ ap (λ h. h.name.items) held ∙ v.2 in
+    let put : Slot = record { serial = d.next; inode = c.args.inode } in
+    let written = (c.get_mut.follows.holds put).3 (subst IsSome found refl) in
+    replaced c.args.name.now d.next c.args.inode slot (record { name = c.in_ok-name_again.name_again; inode = c.args.inode }) d.by_name.entries (c.get_mut.follows.lender put).entries
+    d.by_serial.entries c.insert.new.self.entries c.remove-gone.new.self.entries c.self.invariant.0 c.self.invariant.1 found
+    (record { here = written.1; others = written.3 }) name refl c.in_ok-insert.ensures.entries c.remove-gone.ensures.entries
 
 pub invariant_of-self-2 : goal.invariant_of-self-2
-invariant_of-self-2 c =
-    let Q : List Entry → Type 0 = λ es. IsListed (record { list = es; next = c.self.inside.next + 1 }) in
-    ((both c).0, subst Q (sym (both c).1) (is_listed c))
+invariant_of-self-2 c = ((both c).named, (both c).listed)
 
 pub returns-clause-ok : goal.returns-clause-ok
-returns-clause-ok c = rw (← c.self.view_is) (ap (λ es. record { list = es; next = c.self.inside.next + 1 }) (both c).1)
+returns-clause-ok c = rw (← c.self.view_is) (ap (λ es. record { list = es; next = c.self.inside.next + 1 }) (both c).is)

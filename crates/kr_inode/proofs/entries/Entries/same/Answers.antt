@@ -1,8 +1,8 @@
 use Rattle.std.proofs.Common.{◌≡◌, ◌∙◌, ap, sym, subst, length, arith}
 use Rattle.kr_inode.specs.Inode.{entry_after}
 use Rattle.kr_inode.specs.Entries.{Entries, RisesWithin}
-use Rattle.kr_inode.proofs.PairLemmas.{all_stand, length-placed}
 use Rattle.kr_inode.proofs.SameLemmas.{walked-start, walked-next, walked-all, walked-on, one_entry, none_tested}
+use Rattle.kr_inode.proofs.StoredLemmas.{length-stored}
 use Rattle.kr_inode.proofs.entries.Entries.same.Goals as goal
 
 pub returns-then-len : goal.returns-then-len
@@ -11,8 +11,8 @@ returns-then-len c =
     let o = c.other.inside in
     let P : Entries → Type 0 = λ v. length v.list ≡ length d.by_serial.entries in
     let Q : Entries → Type 0 = λ v. length v.list ≡ length o.by_serial.entries in
-    let long = subst P c.self.view_is (length-placed d.by_name.entries d.by_serial.entries (all_stand d.by_name.entries d.by_serial.entries c.self.invariant.0.ordered c.self.invariant.0.stands)) in
-    let other = subst Q c.other.view_is (length-placed o.by_name.entries o.by_serial.entries (all_stand o.by_name.entries o.by_serial.entries c.other.invariant.0.ordered c.other.invariant.0.stands)) in
+    let long = subst P c.self.view_is (length-stored d.by_serial.entries) in
+    let other = subst Q c.other.view_is (length-stored o.by_serial.entries) in
     (λ t. absurd cc, λ e. absurd (c.if-len.true (c.len.ensures.len ∙ sym long ∙ ap length e ∙ other ∙ sym c.len-2.ensures.len)))
 
 pub loop-serial-init : goal.loop-serial-init

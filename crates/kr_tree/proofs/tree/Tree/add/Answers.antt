@@ -18,6 +18,13 @@ put-requires-clause-directories c =
       | Some x ↦ λ h. let few = directories_few t c.self.invariant.sound c.self.invariant.counted c.args.dir x h in omega arith
     ] refl
 
+pub put-requires-clause-new : goal.put-requires-clause-new
+put-requires-clause-new c =
+    elim (map.get c.self.inside.store c.self.inside.next) as (λ o. map.get c.self.inside.store c.self.inside.next ≡ o → o ≡ None) [
+      | None ↦ λ _. refl
+      | Some x ↦ λ h. let below = (c.self.invariant.sound.numbered c.self.inside.next x h).1 in absurd (omega arith)
+    ] refl
+
 pub invariant_of-self-2 : goal.invariant_of-self-2
 invariant_of-self-2 c =
     let t : Tree = record { inodes = c.self.inside.store; next = c.self.inside.next; names = c.self.inside.names; bytes = c.self.inside.bytes } in
