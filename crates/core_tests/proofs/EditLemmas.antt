@@ -5,9 +5,9 @@ use Rattle.rv_mem.specs.Memory.{after_read, with_pages}
 use Rattle.rv_mem.specs.Pages.{written}
 use Rattle.rv_mem.proofs.LayoutLemmas.{layouts_follow}
 use Rattle.kr_core.specs.kr_model.State.{process}
-use Rattle.kr_core.specs.kr_turns.Editing.{after_peek, after_poke, memory_at, with_register}
-use Rattle.kr_core.specs.kr_turns.Stopped.{IsEdited, IsThere, Stopped, edited, image_at}
-use Rattle.kr_core.proofs.kr_turns.EditLemmas.{computed-lives, edited-by, edited-same, edited-then, edited-twice}
+use Rattle.kr_core.specs.kr_stops.Editing.{after_peek, after_poke, memory_at, with_register}
+use Rattle.kr_core.specs.kr_stops.Stopped.{IsEdited, IsThere, Stopped, edited, image_at}
+use Rattle.kr_core.proofs.kr_stops.EditLemmas.{computed-lives, edited-by, edited-same, edited-then, edited-twice}
 
 pub unchanged : (t u : Stopped) → IsThere t → u ≡ t → IsEdited t u
 unchanged t u there same = subst (IsEdited t) (sym same) (edited-same t there)

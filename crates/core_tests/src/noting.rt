@@ -1,6 +1,6 @@
 //! A watcher that notes what it is told, and changes a few calls.
 ghost use Rattle.std.specs.Prelude.{◌≡◌};
-ghost use Rattle.kr_core.specs.kr_turns.Stopped.{IsEdited, IsThere};
+ghost use Rattle.kr_core.specs.kr_stops.Stopped.{IsEdited, IsThere};
 
 use kr_core::below::{Stops, Tracee};
 use pr_base::{Bytes, NoMemory};

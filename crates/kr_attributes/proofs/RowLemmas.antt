@@ -8,7 +8,7 @@ use Rattle.kr_seen.specs.kr_model.declared.outcome.Outcome.{Outcome}
 use Rattle.kr_seen.specs.kr_ops.declared.state.State.{State}
 use Rattle.kr_seen.specs.kr_ops.Meaning.{meaning}
 use Rattle.kr_seen.specs.Carrying.{IsCarriedOut, after_row, carried}
-use Rattle.kr_rows.specs.Performing.{IsPerformed}
+use Rattle.kr_seen.specs.PerformedRows.{IsPerformed}
 
 module _ {T : Type 0} {M : ℕ} (pid : ℕ) (row : Known → Replying) (old new : State T M) (result : Outcome) where
   -- a row that is another one on what is known

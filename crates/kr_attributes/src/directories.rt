@@ -13,7 +13,7 @@ ghost use Rattle.kr_seen.specs.kr_ops.Sound.{IsServed, IsSound};
 ghost use Rattle.kr_attributes.specs.Entering.{Enters};
 ghost use Rattle.kr_seen.specs.Performing.{PerformsAt, seen_found};
 ghost use Rattle.kr_seen.specs.Resolved.{IsFoundIn};
-ghost use Rattle.kr_rows.specs.Performing.{Performs};
+ghost use Rattle.kr_seen.specs.PerformedRows.{Performs};
 
 use crate::found::natural;
 use kr_seen::below::{Errno, Host, Outcome, Place, State, Target};

@@ -13,17 +13,16 @@ ghost use Rattle.kr_seen.specs.kr_ops.Meaning.{meaning};
 ghost use Rattle.kr_seen.specs.kr_ops.Sound.{IsServed, IsSound};
 ghost use Rattle.kr_seen.specs.Numbered.{state_numbered};
 ghost use Rattle.kr_seen.specs.Performing.{PerformsAt};
-ghost use Rattle.kr_rows.specs.Performing.{Performs};
+ghost use Rattle.kr_seen.specs.PerformedRows.{Performs};
 ghost use Rattle.kr_attributes.specs.Named.{AnswersText, seen_link};
 
 use crate::found::is_process_directory;
-use kr_rows::caller;
 use kr_seen::below::{
     Bytes, Errno, Host, Ino, NoMemory, Outcome, Places, ProcAt, State, Target,
     lawful_states_are_sound,
 };
 use kr_seen::laws::shows_the_directory;
-use kr_seen::{procs, refused};
+use kr_seen::{caller, procs, refused};
 
 /// Why a link has no text to tell.
 pub(crate) enum TextFault {

@@ -6,7 +6,7 @@ ghost use Rattle.kr_seen.specs.kr_model.Operation.{looked_up};
 ghost use Rattle.kr_seen.specs.kr_model.Seen.{LooksUp};
 ghost use Rattle.kr_seen.specs.kr_ops.Sound.{IsServed, IsSound};
 ghost use Rattle.kr_seen.specs.Performing.{PerformsAt, seen_found};
-ghost use Rattle.kr_rows.specs.Performing.{Performs};
+ghost use Rattle.kr_seen.specs.PerformedRows.{Performs};
 ghost use Rattle.kr_seen.specs.kr_tree.declared.place.Host.TheVariants.{Node};
 
 use crate::found::open_object;

@@ -10,15 +10,14 @@ ghost use Rattle.kr_seen.specs.kr_model.State.{process};
 ghost use Rattle.kr_seen.specs.kr_model.declared.outcome.Outcome.TheVariants.{NoMemory as WantOfMemory};
 ghost use Rattle.kr_seen.specs.kr_ops.Meaning.{meaning};
 ghost use Rattle.kr_seen.specs.kr_ops.Sound.{IsServed, IsSound};
-ghost use Rattle.kr_rows.specs.Performing.{Performs};
+ghost use Rattle.kr_seen.specs.PerformedRows.{Performs};
 ghost use Rattle.kr_attributes.specs.Named.{seen_directory};
 
 use crate::links::shown_text;
-use kr_rows::caller;
 use kr_seen::below::{
     Bytes, Errno, NoMemory, Outcome, Places, ProcAt, State, StoreFault, lawful_states_are_sound,
 };
-use kr_seen::refused;
+use kr_seen::{caller, refused};
 
 /// getcwd(2): ENOENT of what has no name, ERANGE where the name with its zero doesn't fit, EFAULT; its length with the zero.
 pub fn getcwd<P: Places, const M: u8>(

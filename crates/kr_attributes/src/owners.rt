@@ -10,7 +10,7 @@ ghost use Rattle.kr_seen.specs.kr_model.State.{process};
 ghost use Rattle.kr_seen.specs.kr_ops.Meaning.{meaning};
 ghost use Rattle.kr_seen.specs.kr_ops.Sound.{IsServed, IsSound};
 ghost use Rattle.kr_seen.specs.Performing.{PerformsAt, seen_found};
-ghost use Rattle.kr_rows.specs.Performing.{Performs};
+ghost use Rattle.kr_seen.specs.PerformedRows.{Performs};
 ghost use Rattle.kr_attributes.specs.Ruled.{ruled};
 
 use crate::found::{is_working_directory, open_object, working_directory};

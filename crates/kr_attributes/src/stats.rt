@@ -15,16 +15,15 @@ ghost use Rattle.kr_seen.specs.kr_model.declared.outcome.Outcome.TheVariants.{No
 ghost use Rattle.kr_seen.specs.kr_ops.Meaning.{meaning};
 ghost use Rattle.kr_seen.specs.kr_ops.Sound.{IsServed, IsSound};
 ghost use Rattle.kr_seen.specs.Performing.{PerformsAt, seen_found};
-ghost use Rattle.kr_rows.specs.Performing.{Performs};
+ghost use Rattle.kr_seen.specs.PerformedRows.{Performs};
 ghost use Rattle.kr_attributes.specs.Facts.{bits_by, links_by, size_by};
 
 use crate::found::{is_process_directory, is_working_directory, open_object, working_directory};
-use kr_rows::caller;
 use kr_seen::below::{
     Errno, Host, Ino, Kind, Meta, Outcome, ProcAt, Stat, State, Target, User, What, proc_inode,
     stat_bytes, trees_are_kept,
 };
-use kr_seen::refused;
+use kr_seen::{caller, refused};
 
 /// The number of the device on which files are, pipes and the console too.
 const DEVICE: u64 = 1;

@@ -1,7 +1,6 @@
 pub use Rattle.kr_seen.proofs.pr_base as pr_base
 pub use Rattle.kr_seen.proofs.law_lawful as law_lawful
 pub use Rattle.kr_seen.proofs as kr_seen
-pub use Rattle.kr_rows.proofs as kr_rows
 pub mod WorkedRules
 pub mod AboveLemmas
 pub mod MildLemmas

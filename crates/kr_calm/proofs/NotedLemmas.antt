@@ -36,8 +36,8 @@ use Rattle.kr_seen.specs.kr_ops.Meaning.{meaning}
 use Rattle.kr_seen.specs.kr_ops.Sound.{IsSound}
 use Rattle.kr_seen.specs.Carrying.{memory_of, with_memory_of}
 use Rattle.kr_seen.proofs.CarryLemmas.{own-memory}
-use Rattle.kr_rows.specs.Using.{HasMemory, Reads}
-use Rattle.kr_rows.proofs.UsingLemmas.{has-memory, memory-is, twice}
+use Rattle.kr_seen.specs.Using.{HasMemory, Reads}
+use Rattle.kr_seen.proofs.UsingLemmas.{has-memory, memory-is, twice}
 use Rattle.kr_calm.specs.Noted.{IsNoted, ListsAreNoted, NotedAsRead, is_read, is_unread, kills, noted}
 use Rattle.kr_calm.proofs.ChangeLemmas.{both}
 

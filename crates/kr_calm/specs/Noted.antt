@@ -21,7 +21,7 @@ use Rattle.kr_seen.specs.kr_model.declared.outcome.Outcome.TheVariants.{Ended}
 use Rattle.kr_seen.specs.kr_ops.declared.state.State.{State}
 use Rattle.kr_seen.specs.kr_ops.Meaning.{meaning}
 use Rattle.kr_seen.specs.Carrying.{after_row, carried, memory_of}
-use Rattle.kr_rows.specs.Using.{HasMemory}
+use Rattle.kr_seen.specs.Using.{HasMemory}
 
 -- an end for writing of a pipe that nobody reads
 abbrev pub is_unread : Known → What → Bool

@@ -8,11 +8,11 @@ ghost use Rattle.kr_seen.specs.kr_model.State.{image_layout, process};
 ghost use Rattle.kr_seen.specs.kr_ops.Meaning.{meaning};
 ghost use Rattle.kr_seen.specs.kr_ops.Sound.{IsSound};
 ghost use Rattle.kr_seen.specs.Carrying.{memory_of};
-ghost use Rattle.kr_rows.specs.Using.{HasMemory};
+ghost use Rattle.kr_seen.specs.Using.{HasMemory};
 ghost use Rattle.kr_calm.specs.Noted.{IsNoted, is_read, is_unread, kills};
 
-use kr_rows::caller::read_into;
 use kr_seen::below::{Request, State, Use, What};
+use kr_seen::caller::read_into;
 
 /// The most pieces of a list.
 const PIECES: u64 = 1024;

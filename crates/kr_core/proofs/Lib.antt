@@ -7,5 +7,6 @@ pub use Rattle.kr_turns.proofs.kr_seen as kr_seen
 pub use Rattle.kr_turns.proofs.kr_perform as kr_perform
 pub use Rattle.kr_turns.proofs.kr_steps as kr_steps
 pub use Rattle.kr_turns.proofs as kr_turns
+pub use Rattle.kr_turns.proofs.kr_stops as kr_stops
 pub use Rattle.kr_first.proofs.kr_start as kr_start
 pub mod KernelLemmas

@@ -14,7 +14,7 @@ use Rattle.kr_first.specs.declared.starting.StartFault.TheVariants as fault
 use Rattle.kr_turns.specs.Making.{machine_of}
 use Rattle.kr_turns.specs.Run.{cleared}
 use Rattle.kr_turns.specs.Turn.{IsTurnOf, Machine}
-use Rattle.kr_turns.specs.Watching.{Watching}
+use Rattle.kr_turns.specs.kr_stops.Watching.{Watching}
 use Rattle.kr_core.specs.declared.kernel.Turned.{Turned}
 use Rattle.kr_core.specs.declared.kernel.Turned.TheVariants.{Ran, Deadlock, Over}
 

@@ -9,6 +9,7 @@ pub use Rattle.kr_turns.specs.kr_execve as kr_execve
 pub use Rattle.kr_first.specs as kr_first
 pub use Rattle.kr_turns.specs.kr_steps as kr_steps
 pub use Rattle.kr_turns.specs as kr_turns
+pub use Rattle.kr_turns.specs.kr_stops as kr_stops
 pub use Rattle.kr_first.specs.kr_start as kr_start
 pub mod Kernel
 pub mod Runs

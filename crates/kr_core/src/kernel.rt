@@ -10,7 +10,7 @@ ghost use Rattle.kr_first.specs.law_allowed.Texts.{IsText};
 ghost use Rattle.kr_first.specs.kr_start.Beginning.{CanLast};
 ghost use Rattle.kr_first.specs.kr_start.Start.{HasNoHolds};
 ghost use Rattle.kr_turns.specs.Steps.{ready_processes};
-ghost use Rattle.kr_turns.specs.Making.{watching};
+ghost use Rattle.kr_turns.specs.kr_stops.Watching.{watching};
 ghost use Rattle.kr_turns.specs.kr_view.View.{StandsIn};
 
 use kr_first::below::{Tree, User};

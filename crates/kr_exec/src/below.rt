@@ -2,3 +2,4 @@
 pub use kr_calls;
 pub use kr_view;
 pub use kr_view::below::kr_tree;
+pub use kr_walk;

@@ -8,7 +8,8 @@ ghost use Rattle.kr_exec.specs.Finding.{is_program, is_program_found, program_at
 
 use elf_read::below::pr_base::{Errno, WalkMode};
 use kr_view::below::kr_tree::{Host, Place, Right, Tree, User};
-use kr_view::{Places, Procs, Reach, Target, WalkFault, resolve};
+use kr_view::{Places, Procs, Reach, Target, WalkFault};
+use kr_walk::resolve;
 use std::alloc::Global;
 
 /// Where a path leads from a base, if that is a regular file that the user may execute, and else EACCES. A last link

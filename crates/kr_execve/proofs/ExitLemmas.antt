@@ -44,8 +44,8 @@ use Rattle.kr_seen.specs.Numbered.{process_numbered, state_numbered}
 use Rattle.kr_seen.proofs.NumberedLemmas.{process-numbered}
 use Rattle.kr_perform.proofs.NumberedLemmas.{lawful_numbered}
 use Rattle.kr_perform.proofs.TextLemmas.{text_bytes}
-use Rattle.kr_perform.specs.kr_rows.Using.{HasMemory}
-use Rattle.kr_perform.proofs.kr_rows.UsingLemmas.{memory-is}
+use Rattle.kr_seen.specs.Using.{HasMemory}
+use Rattle.kr_seen.proofs.UsingLemmas.{memory-is}
 use Rattle.kr_exec.specs.Answers.{Answers, Reaches, plan_numbered}
 use Rattle.kr_exec.specs.Exec.{are_too_big, exec_plan, exec_reach}
 use Rattle.kr_exec.specs.Finding.{is_program, program_at, program_walk}

@@ -15,8 +15,8 @@ use Rattle.kr_seen.specs.kr_ops.Meaning.{meaning}
 use Rattle.kr_seen.specs.kr_ops.Sound.{IsSound}
 use Rattle.kr_seen.proofs.kr_ops.PageLemmas.{with_mem}
 use Rattle.kr_seen.specs.Carrying.{memory_of}
-use Rattle.kr_perform.specs.kr_rows.Using.{HasMemory}
-use Rattle.kr_perform.proofs.kr_rows.UsingLemmas.{has-now, memory-at}
+use Rattle.kr_seen.specs.Using.{HasMemory}
+use Rattle.kr_seen.proofs.UsingLemmas.{has-now, memory-at}
 use Rattle.kr_exec.specs.Lists.{Reads}
 use Rattle.kr_exec.specs.declared.lists.Lists.{Lists}
 use Rattle.kr_execve.specs.Executing.{ReadsLists, lists_in}

@@ -30,7 +30,7 @@ use Rattle.kr_seen.specs.kr_ops.Meaning.{meaning}
 use Rattle.kr_seen.specs.kr_ops.Sound.{IsServed}
 use Rattle.kr_seen.specs.Carrying.{memory_of}
 use Rattle.kr_perform.specs.Lawful.{LastsLawful}
-use Rattle.kr_perform.specs.kr_rows.Using.{HasMemory}
+use Rattle.kr_seen.specs.Using.{HasMemory}
 use Rattle.kr_seen.specs.Numbered.{state_numbered}
 use Rattle.kr_exec.specs.Exec.{are_too_big}
 use Rattle.kr_exec.specs.Interpreters.{bytes_at}

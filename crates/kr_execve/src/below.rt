@@ -2,5 +2,6 @@
 
 pub use kr_exec::below::kr_calls::{CallFault, Request};
 pub use kr_exec::below::kr_tree::Place;
-pub use kr_exec::below::kr_view::{NoProcs, Places, Reach, WalkFault, resolve};
+pub use kr_exec::below::kr_view::{NoProcs, Places, Reach, WalkFault};
+pub use kr_exec::below::kr_walk::resolve;
 pub use kr_exec::{ExecPlan, Lists, find_exec, plan_exec};

@@ -1,7 +1,7 @@
 -- The state of a kernel as plain data. M is the type of its mounts, and X that of what a process computes
 -- on; both are left open, so that a machine and what two machines share of it are one record.
 use Rattle.std.specs.FinMap as map
-use Rattle.std.specs.Prelude.{ℕ, Bool, List, ◌==◌, Option, map as map_list, if◌then◌else◌}
+use Rattle.std.specs.Prelude.{ℕ, Bool, false, List, ◌==◌, Option, map as map_list, if◌then◌else◌}
 use Rattle.std.specs.List.{find}
 use Rattle.std.specs.Option.{option_and_then}
 use Rattle.kr_calls.specs.rv_mem.declared.regs.Regs.{Regs}
@@ -25,6 +25,10 @@ pub record Image : Type 0 where
 
 abbrev pub image_layout : Image → Layout
 image_layout image = layout_of image.memory.pages
+
+-- the memory of a process that doesn't live; a caller always does
+abbrev pub no_memory : Memory
+no_memory = record { pages = map.empty; read_marked = false }
 
 -- ---- processes
 

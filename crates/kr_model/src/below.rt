@@ -11,6 +11,6 @@ pub use kr_files::below::kr_tree::{
 };
 pub use kr_files::{Descs, Files, FilesRefusal, Moved, Opened, What, Wrote};
 pub use kr_procfs::below::kr_view::{
-    HostMount, Lead, MountRow, Places, Plain, Procs, Reach, Target, WalkFault, guest_name, resolve,
+    HostMount, Lead, MountRow, Places, Plain, Procs, Reach, Target, WalkFault,
 };
 pub use kr_procfs::{number_of, pipe_text, proc_inode, proc_name, proc_serial};

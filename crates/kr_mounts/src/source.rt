@@ -12,7 +12,8 @@ ghost use Rattle.kr_mounts.specs.Sources.{source_at, source_by, source_walked, d
 use crate::text::entry_text;
 use kr_view::below::kr_tree::laws::{directories_have_host_names, trees_are_kept};
 use kr_view::below::kr_tree::{Host, Ino, Tree, User};
-use kr_view::{HostMount, NoProcs, Places, Plain, Reach, Target, WalkFault, resolve};
+use kr_view::{HostMount, NoProcs, Places, Plain, Reach, Target, WalkFault};
+use kr_walk::resolve;
 use pt_bind::below::pr_base::{Bytes, NoMemory, WalkMode, is_walked};
 use std::alloc::Global;
 

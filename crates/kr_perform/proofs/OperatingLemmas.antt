@@ -19,7 +19,7 @@ use Rattle.kr_seen.specs.kr_ops.Meaning.{meaning}
 use Rattle.kr_seen.specs.Numbered.{state_numbered}
 use Rattle.kr_seen.specs.Carrying.{CarriesOut}
 use Rattle.kr_seen.proofs.CarryLemmas.{by-refusal}
-use Rattle.kr_transfer.specs.kr_rows.Performing.{Performs}
+use Rattle.kr_seen.specs.PerformedRows.{Performs}
 use Rattle.law_allowed.specs.kr_model.Applied.{Mounts}
 use Rattle.kr_perform.specs.Operating.{OperatesAlone, OperatesAt, mounts_at, placed_targets}
 

@@ -7,7 +7,7 @@ pub use Rattle.law_allowed.specs.law_lawful as law_lawful
 pub use Rattle.law_allowed.specs as law_allowed
 pub use Rattle.kr_seen.specs.kr_ops as kr_ops
 pub use Rattle.kr_seen.specs as kr_seen
-pub use Rattle.kr_transfer.specs.kr_rows as kr_rows
+pub use Rattle.kr_rows.specs as kr_rows
 pub mod Operating
 pub mod Lawful
 pub mod Naming

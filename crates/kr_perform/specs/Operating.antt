@@ -18,7 +18,7 @@ use Rattle.kr_seen.specs.kr_ops.Meaning.{meaning}
 use Rattle.kr_seen.specs.Numbered.{state_numbered}
 use Rattle.kr_seen.specs.Carrying.{CarriesOut}
 use Rattle.kr_seen.specs.Placed.{placed_in}
-use Rattle.kr_transfer.specs.kr_rows.Performing.{Performs}
+use Rattle.kr_seen.specs.PerformedRows.{Performs}
 
 -- ---- kinds of requests
 

@@ -6,8 +6,8 @@ ghost use Rattle.kr_seen.specs.kr_ops.Meaning.{meaning};
 ghost use Rattle.kr_seen.specs.kr_ops.Sound.{IsOfView, IsServed};
 ghost use Rattle.kr_perform.specs.Operating.{HasNumbers, IsOfProcess, OperatesAlone};
 
+use kr_rows::{ending, forking, identity, memory, processes, system};
 use kr_seen::below::{State, lawful_states_are_sound};
-use kr_transfer::below::{ending, forking, identity, memory, processes, system};
 use law_allowed::below::{Outcome, Request};
 
 /// Carries out a call that names neither a path nor a descriptor.

@@ -16,7 +16,7 @@ use Rattle.kr_seen.specs.kr_model.Known.{Known, caller_of, known, no_caller}
 use Rattle.kr_seen.specs.kr_model.State as model
 use Rattle.kr_seen.specs.kr_ops.Opening.{lowest_of}
 use Rattle.kr_seen.specs.kr_model.Reply.{Replying, done, refuse}
-use Rattle.kr_rows.specs.Performing.{open_number}
+use Rattle.kr_seen.specs.PerformedRows.{open_number}
 
 module _ (k : Known) (fd : ℤ) (next : ℕ → Opened (Unit {0}) → Replying) where
   pub not-open : open_number k fd ≡ None → or_badf k fd next ≡ refuse EBADF

@@ -22,7 +22,7 @@ use Rattle.kr_seen.specs.kr_model.Lawful.{ArePids}
 use Rattle.kr_seen.specs.kr_model.Reply.{Replying, done}
 use Rattle.kr_seen.specs.kr_model.State as model
 use Rattle.kr_seen.specs.kr_model.MemoryRows as rows
-use Rattle.kr_rows.specs.Performing.{memory_of, no_memory}
+use Rattle.kr_seen.specs.PerformedRows.{memory_of, no_memory}
 use Rattle.kr_seen.proofs.kr_ops.ListLemmas.{apart-test, same-test}
 
 pub test-yes : (a b : ℕ) → a < b → nat_lt a b ≡ true

@@ -7,5 +7,3 @@ pub use Rattle.kr_seen.specs.kr_calls as kr_calls
 pub use Rattle.kr_seen.specs.kr_model as kr_model
 pub use Rattle.kr_seen.specs.kr_ops as kr_ops
 pub mod Commands
-pub mod Performing
-pub mod Using

@@ -6,7 +6,7 @@ ghost use Rattle.kr_seen.specs.kr_model.Known.{known};
 ghost use Rattle.kr_seen.specs.kr_model.State.{image_layout};
 ghost use Rattle.kr_seen.specs.kr_ops.Meaning.{meaning};
 ghost use Rattle.kr_seen.specs.kr_ops.Sound.{IsSound};
-ghost use Rattle.kr_rows.specs.Performing.{open_number};
+ghost use Rattle.kr_seen.specs.PerformedRows.{open_number};
 
 use kr_seen::below::State;
 pub use kr_seen::{number, refused};

@@ -8,12 +8,12 @@ ghost use Rattle.kr_seen.specs.kr_model.declared.outcome.Outcome.TheVariants.{No
 ghost use Rattle.kr_seen.specs.kr_ops.Meaning.{meaning};
 ghost use Rattle.kr_seen.specs.kr_ops.Opening.{pair_of, takes_pipe_of};
 ghost use Rattle.kr_seen.specs.kr_ops.Sound.{IsServed, IsSound};
-ghost use Rattle.kr_rows.specs.Performing.{Performs};
+ghost use Rattle.kr_seen.specs.PerformedRows.{Performs};
 
 use crate::answer::{has, natural, number, open_number, refused};
-use crate::caller;
 use bitflags::Flags;
 use kr_seen::below::{Errno, FilesRefusal, NoMemory, OpenFlags, Outcome, State, StoreFault};
+use kr_seen::caller;
 
 /// How many descriptors a process may have.
 const DESCRIPTORS: u32 = 1024;

@@ -6,11 +6,11 @@ ghost use Rattle.kr_seen.specs.kr_model.State.{process};
 ghost use Rattle.kr_seen.specs.kr_model.declared.outcome.Outcome.TheVariants.{NoMemory as WantOfMemory};
 ghost use Rattle.kr_seen.specs.kr_ops.Meaning.{ended_meaning, meaning};
 ghost use Rattle.kr_seen.specs.kr_ops.Sound.{IsOfView, IsServed, IsSound};
-ghost use Rattle.kr_rows.specs.Performing.{Performs};
+ghost use Rattle.kr_seen.specs.PerformedRows.{Performs};
 
 use crate::answer::{both, number, refused};
-use crate::caller;
 use kr_seen::below::{EndedProcess, Errno, Meant, NoMemory, Outcome, State};
+use kr_seen::caller;
 
 /// WNOHANG of wait4(2).
 const NO_HANG: u32 = 1;

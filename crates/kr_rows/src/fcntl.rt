@@ -9,7 +9,7 @@ ghost use Rattle.kr_seen.specs.kr_model.declared.outcome.Outcome.TheVariants.{No
 ghost use Rattle.kr_seen.specs.kr_ops.Meaning.{meaning};
 ghost use Rattle.kr_seen.specs.kr_ops.Sound.{IsServed, IsSound};
 ghost use Rattle.kr_rows.specs.Commands.{IsUnknown, number_of};
-ghost use Rattle.kr_rows.specs.Performing.{Performs};
+ghost use Rattle.kr_seen.specs.PerformedRows.{Performs};
 
 use crate::answer::{natural, number, open_number, refused};
 use bitflags::Flags;

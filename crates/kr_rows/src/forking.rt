@@ -8,12 +8,12 @@ ghost use Rattle.kr_seen.specs.kr_model.State.{process};
 ghost use Rattle.kr_seen.specs.kr_model.declared.outcome.Outcome.TheVariants.{NoMemory as WantOfMemory};
 ghost use Rattle.kr_seen.specs.kr_ops.Meaning.{meaning};
 ghost use Rattle.kr_seen.specs.kr_ops.Sound.{IsServed, IsSound};
-ghost use Rattle.kr_rows.specs.Performing.{Performs, memory_of};
-ghost use Rattle.kr_rows.specs.Using.{CarriesOn};
+ghost use Rattle.kr_seen.specs.PerformedRows.{Performs, memory_of};
+ghost use Rattle.kr_seen.specs.Using.{CarriesOn};
 
 use crate::answer::{number, refused};
-use crate::caller;
 use kr_seen::below::{Errno, NoMemory, Outcome, State, Use};
+use kr_seen::caller;
 
 /// The most processes, ended ones included.
 const PROCESSES: usize = 256;

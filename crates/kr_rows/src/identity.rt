@@ -5,11 +5,11 @@ ghost use Rattle.kr_seen.specs.kr_model.State.{process};
 ghost use Rattle.kr_seen.specs.kr_model.declared.outcome.Outcome.TheVariants.{NoMemory as WantOfMemory};
 ghost use Rattle.kr_seen.specs.kr_ops.Meaning.{meaning};
 ghost use Rattle.kr_seen.specs.kr_ops.Sound.{IsServed, IsSound};
-ghost use Rattle.kr_rows.specs.Performing.{Performs, unchanged};
+ghost use Rattle.kr_seen.specs.PerformedRows.{Performs, unchanged};
 
 use crate::answer::{both, natural, number, refused};
-use crate::caller;
 use kr_seen::below::{Errno, Outcome, State, Use};
+use kr_seen::caller;
 
 /// All ones, which stand for no number.
 const NO_NUMBER: u32 = 0xffff_ffff;

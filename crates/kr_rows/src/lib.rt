@@ -9,10 +9,6 @@
 //! Each answers the outcome of its row and leaves what the row's reply makes of the state (`Performs`): the caller's memory as the row left it,
 //! and then the reply's changes. After want of memory nothing is promised. What the code keeps beside a state's meaning stays kept (`served`).
 //!
-//! `caller` has the uses of the caller's memory, for rows of other crates too: a test, reads and a write of bytes, all or none of them. What is
-//! read or written is that of the definition (`Reads`, `Writes`), and all that calls may ask of the state stays (`HasMemory`). `HasComeTo` says
-//! how far a row has come by such uses.
-//!
 //! Beside a sound state, clone and pipe2 ask that the numbers of processes, open files and pipes aren't used up, exit asks for a state that is
 //! lawful for some view, brk for a break that isn't past the last page, and dup3 for two different numbers.
 //!
@@ -21,7 +17,6 @@
 
 pub mod answer;
 pub mod below;
-pub mod caller;
 pub mod descriptors;
 pub mod ending;
 pub mod fcntl;

@@ -6,7 +6,7 @@ ghost use Rattle.kr_seen.specs.kr_model.State.{process};
 ghost use Rattle.kr_seen.specs.kr_model.declared.outcome.Outcome.TheVariants.{Answer, NoMemory as WantOfMemory};
 ghost use Rattle.kr_seen.specs.kr_ops.Meaning.{meaning};
 ghost use Rattle.kr_seen.specs.kr_ops.Sound.{IsServed, IsSound};
-ghost use Rattle.kr_rows.specs.Performing.{Performs};
+ghost use Rattle.kr_seen.specs.PerformedRows.{Performs};
 
 use crate::answer::{number, refused};
 use kr_seen::below::{

@@ -4,7 +4,7 @@ ghost use Rattle.kr_seen.specs.kr_model.ProcessRows.{getppid_row, pid_row, signa
 ghost use Rattle.kr_seen.specs.kr_model.State.{process};
 ghost use Rattle.kr_seen.specs.kr_ops.Meaning.{meaning};
 ghost use Rattle.kr_seen.specs.kr_ops.Sound.{IsServed, IsSound};
-ghost use Rattle.kr_rows.specs.Performing.{Performs};
+ghost use Rattle.kr_seen.specs.PerformedRows.{Performs};
 
 use crate::answer::number;
 use kr_seen::below::{Outcome, State};

@@ -10,7 +10,7 @@ ghost use Rattle.kr_seen.specs.kr_model.Reply.{done, refuse};
 ghost use Rattle.kr_seen.specs.kr_model.State.{image_layout};
 ghost use Rattle.kr_seen.specs.kr_ops.Meaning.{meaning};
 ghost use Rattle.kr_seen.specs.kr_ops.Sound.{IsServed, IsSound};
-ghost use Rattle.kr_rows.specs.Performing.{Performs};
+ghost use Rattle.kr_seen.specs.PerformedRows.{Performs};
 
 use crate::answer::{open_number, refused};
 use kr_seen::below::{Errno, Host, Opened, Outcome, State, What};

@@ -22,3 +22,5 @@ pub mod TableLemmas
 pub mod LookLemmas
 pub mod ChangeLemmas
 pub mod StepLemmas
+pub mod PerformLemmas
+pub mod UsingLemmas

@@ -1,7 +1,6 @@
 -- What is left of a state where a call was carried out, by the definition of its row: the caller's memory as the row left it,
 -- and then the changes of the row's reply.
-use Rattle.std.specs.FinMap as map
-use Rattle.std.specs.Prelude.{◌≡◌, ◌≢◌, ℕ, false}
+use Rattle.std.specs.Prelude.{◌≡◌, ◌≢◌, ℕ}
 use Rattle.std.specs.Option.{option_map_or}
 use Rattle.kr_ops.specs.rv_mem.Actions.{CarriedOut, carried_out}
 use Rattle.kr_ops.specs.rv_mem.Memory.{Memory}
@@ -9,14 +8,11 @@ use Rattle.kr_ops.specs.kr_model.Applied.{Mounts, all_applied, images, with_imag
 use Rattle.kr_ops.specs.kr_model.Known.{Known, known}
 use Rattle.kr_ops.specs.kr_model.Reply.{Reply, Replying}
 use Rattle.kr_ops.specs.kr_model.State as model
+pub use Rattle.kr_ops.specs.kr_model.State.{no_memory}
 use Rattle.kr_ops.specs.kr_model.declared.outcome.Outcome.{Outcome}
 use Rattle.kr_ops.specs.kr_model.declared.outcome.Outcome.TheVariants.{NoMemory}
 use Rattle.kr_ops.specs.declared.state.State.{State}
 use Rattle.kr_ops.specs.Meaning.{meaning}
-
--- the memory of one that doesn't live; a caller always does
-abbrev pub no_memory : Memory
-no_memory = record { pages = map.empty; read_marked = false }
 
 abbrev pub with_memory : Memory → model.Image → model.Image
 with_memory memory image = record { regs = image.regs; memory = memory }

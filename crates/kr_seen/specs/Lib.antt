@@ -21,7 +21,9 @@ pub mod CallWalks
 pub mod Asked
 pub mod Placed
 pub mod Performing
+pub mod PerformedRows
 pub mod Resolved
 pub mod Told
+pub mod Using
 pub mod MountLaws
 pub mod Mounts

@@ -19,7 +19,8 @@ ghost use Rattle.kr_seen.specs.Targets.{target_told};
 use crate::name::text_below;
 use crate::target::{Target, lives};
 use kr_ops::State;
-use kr_ops::below::{Host, Ino, Lead, Place, Places, ProcAt, What, guest_name, pipe_text};
+use kr_ops::below::{Host, Ino, Lead, Place, Places, ProcAt, What, pipe_text};
+use kr_walk::guest_name;
 use pr_base::{Bytes, NoMemory};
 use std::alloc::Global;
 

@@ -25,6 +25,10 @@
 //! memory as the row left it, and then the reply's changes, with the mounts that those may name. After want of memory nothing is promised. That
 //! holds also of calls that can't want any: a body that only answers want of memory would be proved of each call below.
 //!
+//! `caller` has the uses of the caller's memory, for the rows of all crates above: a test, reads and a write of bytes, all or none of them. What is
+//! read or written is that of the definition (`Reads`, `Writes`), and all that calls may ask of the state stays (`HasMemory`). `HasComeTo` says
+//! how far a row has come by such uses.
+//!
 //! Only tested, or not shown: No tests of its own. `rows`. That each call but execve(2) answers with ample memory: `rows`; whole runs of others.
 //!
 //! # `asking`, `targets`, `told`
@@ -54,6 +58,7 @@
 mod answers;
 pub mod asking;
 pub mod below;
+pub mod caller;
 pub mod find;
 pub mod guest;
 pub mod laws;

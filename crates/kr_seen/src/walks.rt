@@ -15,10 +15,9 @@ ghost use Rattle.kr_seen.specs.CallWalks.{call_reach, path_reach, AreTargets, Is
 
 use crate::view::procs;
 use kr_ops::State;
-use kr_ops::below::{
-    PathArg, Place, Places, Reach, Request, Target, WalkFault, What, path_of, resolve,
-};
+use kr_ops::below::{PathArg, Place, Places, Reach, Request, Target, WalkFault, What, path_of};
 use kr_ops::laws::lawful_states_are_sound;
+use kr_walk::resolve;
 use pr_base::{Errno, components};
 use std::alloc::Global;
 

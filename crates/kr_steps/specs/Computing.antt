@@ -1,22 +1,16 @@
 -- Instructions of a process in a state, and the decoding of the call at which it comes to stand.
 use Rattle.std.specs.Prelude.{◌≡◌, ℕ, Some, Result}
 use Rattle.rv_cpu.specs.rv_mem.Actions.{carried_out}
-use Rattle.rv_cpu.specs.rv_mem.Memory.{Memory}
-use Rattle.rv_cpu.specs.rv_mem.declared.regs.Regs.{Regs}
 use Rattle.rv_cpu.specs.Run.{ran}
 use Rattle.rv_cpu.specs.declared.event.Event.{Event}
 use Rattle.kr_perform.specs.kr_calls.Decodes.{Gives}
 use Rattle.kr_perform.specs.kr_calls.Decoding.{decoding}
 use Rattle.kr_perform.specs.kr_calls.declared.fault.CallFault.{CallFault}
 use Rattle.kr_perform.specs.kr_calls.declared.request.Request.{Request}
-use Rattle.kr_perform.specs.kr_model.Applied.{with_image, with_living}
 use Rattle.kr_perform.specs.kr_model.State as model
 use Rattle.kr_perform.specs.kr_ops.declared.state.State.{State}
 use Rattle.kr_perform.specs.kr_ops.Meaning.{meaning}
-
--- a process with other registers and another memory
-abbrev pub computed : {T : Type 0} → ℕ → Regs → Memory → model.State T model.Image → model.State T model.Image
-computed pid regs memory s = with_living (model.with_process pid (with_image (λ (image : model.Image). record { regs = regs; memory = memory }))) s
+pub use Rattle.kr_stops.specs.Stopped.{computed}
 
 module _ {T : Type 0} {M : ℕ} where
   -- a living process did `fuel` instructions, or fewer where one of them is a call or kills it

@@ -4,27 +4,27 @@ use Rattle.std.specs.Prelude.{◌&&◌}
 use Rattle.std.specs.Option.{option_map, option_map_or, option_and_then}
 use Rattle.std.proofs.lemmas.Option.{same_Some, none-some}
 use Rattle.kr_inode.specs.pr_base.declared.errno.Errno.TheVariants.{EBADF}
-use Rattle.kr_rows.specs.kr_tree.Tree.{body_is, is_file}
-use Rattle.kr_rows.specs.kr_tree.declared.place.Host.{Host}
-use Rattle.kr_rows.specs.kr_tree.declared.place.Host.TheVariants.{Node, Proc}
-use Rattle.kr_rows.specs.kr_tree.declared.place.Place.{Place}
-use Rattle.kr_rows.specs.kr_view.View.{is_there}
-use Rattle.kr_rows.specs.kr_files.declared.opened.Opened.{Opened}
-use Rattle.kr_rows.specs.kr_files.Descriptors.{Named}
-use Rattle.kr_rows.specs.kr_files.Files.{file_at}
-use Rattle.kr_rows.specs.kr_files.WithoutMounts.{without_mount}
-use Rattle.kr_rows.specs.kr_model.Asking.{descriptor_number, of_number, or_badf, or_closed}
-use Rattle.kr_rows.specs.kr_model.FileRows.{inode_of_open, is_file_open}
-use Rattle.kr_rows.specs.kr_model.Known.{Known, known}
-use Rattle.kr_rows.specs.kr_model.Lawful.{ArePids, IsOpenIn, is_file_at}
-use Rattle.kr_rows.specs.kr_model.Reply.{Replying, refusal, refuse}
-use Rattle.kr_rows.specs.kr_model.declared.outcome.Outcome.{Outcome}
-use Rattle.kr_rows.specs.Performing.{IsPerformed, after_row, carried}
-use Rattle.kr_rows.proofs.PerformLemmas.{by-refusal}
-use Rattle.kr_rows.specs.kr_model.State as model
-use Rattle.kr_rows.specs.kr_ops.declared.state.State.{State}
-use Rattle.kr_rows.specs.kr_ops.Meaning.{meaning}
-use Rattle.kr_rows.specs.kr_ops.Sound.{IsOfView}
+use Rattle.kr_seen.specs.kr_tree.Tree.{body_is, is_file}
+use Rattle.kr_seen.specs.kr_tree.declared.place.Host.{Host}
+use Rattle.kr_seen.specs.kr_tree.declared.place.Host.TheVariants.{Node, Proc}
+use Rattle.kr_seen.specs.kr_tree.declared.place.Place.{Place}
+use Rattle.kr_seen.specs.kr_view.View.{is_there}
+use Rattle.kr_seen.specs.kr_files.declared.opened.Opened.{Opened}
+use Rattle.kr_seen.specs.kr_files.Descriptors.{Named}
+use Rattle.kr_seen.specs.kr_files.Files.{file_at}
+use Rattle.kr_seen.specs.kr_files.WithoutMounts.{without_mount}
+use Rattle.kr_seen.specs.kr_model.Asking.{descriptor_number, of_number, or_badf, or_closed}
+use Rattle.kr_seen.specs.kr_model.FileRows.{inode_of_open, is_file_open}
+use Rattle.kr_seen.specs.kr_model.Known.{Known, known}
+use Rattle.kr_seen.specs.kr_model.Lawful.{ArePids, IsOpenIn, is_file_at}
+use Rattle.kr_seen.specs.kr_model.Reply.{Replying, refusal, refuse}
+use Rattle.kr_seen.specs.kr_model.declared.outcome.Outcome.{Outcome}
+use Rattle.kr_seen.specs.PerformedRows.{IsPerformed, after_row, carried}
+use Rattle.kr_seen.proofs.PerformLemmas.{by-refusal}
+use Rattle.kr_seen.specs.kr_model.State as model
+use Rattle.kr_seen.specs.kr_ops.declared.state.State.{State}
+use Rattle.kr_seen.specs.kr_ops.Meaning.{meaning}
+use Rattle.kr_seen.specs.kr_ops.Sound.{IsOfView}
 use Rattle.kr_transfer.specs.Channels.{IsChannelOf, IsOpenHere, channel_of, channel_under, inode_under}
 use Rattle.kr_transfer.specs.declared.channel.Channel.{Channel}
 

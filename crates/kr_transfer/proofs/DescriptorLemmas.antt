@@ -11,13 +11,13 @@ use Rattle.std.proofs.lemmas.Bool.{cases_eq, cond-true, cond-false}
 use Rattle.std.proofs.lemmas.Bool.Decides.{nat_tests}
 use Rattle.std.proofs.lemmas.Option.{none-some}
 use Rattle.kr_inode.proofs.pr_base.MapLemmas.{ties-same, ties-other}
-use Rattle.kr_rows.specs.kr_tree.declared.place.ProcAt.TheVariants.{Fd}
-use Rattle.kr_rows.specs.kr_files.Descriptors.{Named}
-use Rattle.kr_rows.specs.kr_model.DirectoryRows as model
-use Rattle.kr_rows.specs.kr_model.DirectoryRows.{listed_process, of_descriptors}
-use Rattle.kr_rows.specs.kr_model.Known.{Family, family_of, known}
-use Rattle.kr_rows.specs.kr_model.State as state
-use Rattle.kr_rows.specs.kr_model.State.{Image, image_layout, is_pid, named, process}
+use Rattle.kr_seen.specs.kr_tree.declared.place.ProcAt.TheVariants.{Fd}
+use Rattle.kr_seen.specs.kr_files.Descriptors.{Named}
+use Rattle.kr_seen.specs.kr_model.DirectoryRows as model
+use Rattle.kr_seen.specs.kr_model.DirectoryRows.{listed_process, of_descriptors}
+use Rattle.kr_seen.specs.kr_model.Known.{Family, family_of, known}
+use Rattle.kr_seen.specs.kr_model.State as state
+use Rattle.kr_seen.specs.kr_model.State.{Image, image_layout, is_pid, named, process}
 use Rattle.kr_transfer.specs.Listing.{first_behind}
 use Rattle.kr_transfer.proofs.ListingLemmas.{RiseBehind}
 

@@ -8,17 +8,17 @@ use Rattle.std.proofs.lemmas.Grind.{div_ceil_times}
 use Rattle.std.proofs.lemmas.List.{length-replicate}
 use Rattle.std.proofs.lemmas.Option.{none-some, same_Some}
 use Rattle.kr_inode.specs.pr_base.declared.errno.Errno.TheVariants.{EFAULT, EINVAL, ENOENT, ENOTDIR}
-use Rattle.kr_rows.specs.rv_mem.Actions.{write_if_allowed}
-use Rattle.kr_rows.specs.kr_calls.DirectoryEntries.{entry_bytes, entry_head, record_length}
-use Rattle.kr_rows.specs.kr_tree.declared.place.Host.{Host}
-use Rattle.kr_rows.specs.kr_tree.declared.place.Place.{Place}
-use Rattle.kr_rows.specs.kr_files.declared.opened.Opened.{Opened}
-use Rattle.kr_rows.specs.kr_model.Asking.{is_directory_host}
-use Rattle.kr_rows.specs.kr_model.Change.{Seek}
-use Rattle.kr_rows.specs.kr_model.DirectoryRows as model
-use Rattle.kr_rows.specs.kr_model.DirectoryRows.{behind, fitting, last_serial, list_host, list_rest, listed_bytes, shown_by, tell_entries}
-use Rattle.kr_rows.specs.kr_model.Known.{Known}
-use Rattle.kr_rows.specs.kr_model.Reply.{Replying, done, refuse}
+use Rattle.kr_seen.specs.rv_mem.Actions.{write_if_allowed}
+use Rattle.kr_seen.specs.kr_calls.DirectoryEntries.{entry_bytes, entry_head, record_length}
+use Rattle.kr_seen.specs.kr_tree.declared.place.Host.{Host}
+use Rattle.kr_seen.specs.kr_tree.declared.place.Place.{Place}
+use Rattle.kr_seen.specs.kr_files.declared.opened.Opened.{Opened}
+use Rattle.kr_seen.specs.kr_model.Asking.{is_directory_host}
+use Rattle.kr_seen.specs.kr_model.Change.{Seek}
+use Rattle.kr_seen.specs.kr_model.DirectoryRows as model
+use Rattle.kr_seen.specs.kr_model.DirectoryRows.{behind, fitting, last_serial, list_host, list_rest, listed_bytes, shown_by, tell_entries}
+use Rattle.kr_seen.specs.kr_model.Known.{Known}
+use Rattle.kr_seen.specs.kr_model.Reply.{Replying, done, refuse}
 use Rattle.kr_transfer.specs.declared.channel.Channel.{Channel}
 use Rattle.kr_transfer.specs.Channels.{IsChannelOf}
 use Rattle.kr_transfer.specs.Listing.{all_shown, first_behind, last_from}

@@ -1,5 +1,5 @@
 pub use Rattle.kr_inode.proofs as kr_inode
-pub use Rattle.kr_rows.proofs as kr_rows
+pub use Rattle.kr_seen.proofs as kr_seen
 pub mod ChannelLemmas
 pub mod SizeLemmas
 pub mod PieceLemmas

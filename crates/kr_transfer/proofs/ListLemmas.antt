@@ -7,22 +7,22 @@ use Rattle.std.proofs.lemmas.Bool.Decides.{nat_tests}
 use Rattle.std.proofs.lemmas.List.{drop-drop, map-append}
 use Rattle.kr_inode.specs.pr_base.declared.errno.Errno.{Errno}
 use Rattle.kr_inode.specs.pr_base.declared.errno.Errno.TheVariants.{EFAULT, EINVAL}
-use Rattle.kr_rows.specs.rv_mem.Actions.{read_if_allowed}
-use Rattle.kr_rows.specs.rv_mem.declared.rights.Use.TheVariants.{Read}
-use Rattle.kr_rows.specs.kr_model.Known.{known}
-use Rattle.kr_rows.specs.kr_model.Pieces as model
-use Rattle.kr_rows.specs.kr_model.Pieces.{asked, cut_to, if_summed, move_limit, pieces_of, with_list}
-use Rattle.kr_rows.specs.kr_model.Reply.{Replying, refuse}
-use Rattle.kr_rows.specs.kr_model.State.{process, image_layout}
-use Rattle.kr_rows.specs.kr_model.State as state
-use Rattle.kr_rows.specs.kr_ops.declared.state.State.{State}
-use Rattle.kr_rows.specs.kr_ops.Making.{IsAsBefore}
-use Rattle.kr_rows.specs.kr_ops.Meaning.{meaning}
-use Rattle.kr_rows.specs.kr_ops.Sound.{IsSound}
-use Rattle.kr_rows.specs.Performing.{memory_of, with_memory_of}
-use Rattle.kr_rows.specs.Using.{HasComeTo, Reads}
-use Rattle.kr_rows.proofs.PerformLemmas.{own-memory}
-use Rattle.kr_rows.proofs.UsingLemmas.{begins, goes-on, reads-allowed, stays-sound}
+use Rattle.kr_seen.specs.rv_mem.Actions.{read_if_allowed}
+use Rattle.kr_seen.specs.rv_mem.declared.rights.Use.TheVariants.{Read}
+use Rattle.kr_seen.specs.kr_model.Known.{known}
+use Rattle.kr_seen.specs.kr_model.Pieces as model
+use Rattle.kr_seen.specs.kr_model.Pieces.{asked, cut_to, if_summed, move_limit, pieces_of, with_list}
+use Rattle.kr_seen.specs.kr_model.Reply.{Replying, refuse}
+use Rattle.kr_seen.specs.kr_model.State.{process, image_layout}
+use Rattle.kr_seen.specs.kr_model.State as state
+use Rattle.kr_seen.specs.kr_ops.declared.state.State.{State}
+use Rattle.kr_seen.specs.kr_ops.Making.{IsAsBefore}
+use Rattle.kr_seen.specs.kr_ops.Meaning.{meaning}
+use Rattle.kr_seen.specs.kr_ops.Sound.{IsSound}
+use Rattle.kr_seen.specs.PerformedRows.{memory_of, with_memory_of}
+use Rattle.kr_seen.specs.Using.{HasComeTo, Reads}
+use Rattle.kr_seen.proofs.PerformLemmas.{own-memory}
+use Rattle.kr_seen.proofs.UsingLemmas.{begins, goes-on, reads-allowed, stays-sound}
 use Rattle.kr_transfer.specs.Moving.{OnlyReads, told}
 use Rattle.kr_transfer.specs.declared.lists.ListFault.{ListFault}
 use Rattle.kr_transfer.specs.declared.lists.ListFault.TheVariants.{NoMemory, Refused}

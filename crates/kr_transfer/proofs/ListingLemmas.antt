@@ -12,18 +12,18 @@ use Rattle.std.proofs.lemmas.List.{drop_all}
 use Rattle.std.proofs.lemmas.Option.{same_Some, none-some}
 use Rattle.kr_inode.specs.Entries.{names_in}
 use Rattle.kr_inode.specs.Names.{is_dots, is_name}
-use Rattle.kr_rows.specs.kr_tree.Tree.{Entry, Inode, entries, entries_of, entry_after, inode}
-use Rattle.kr_rows.specs.kr_tree.declared.place.ProcAt.{ProcAt}
-use Rattle.kr_rows.specs.kr_tree.declared.place.ProcAt.TheVariants.{SelfLink, Dir, Cwd, Root, Exe, FdDir, Fd}
-use Rattle.kr_rows.specs.kr_procfs.Objects.{HasSmallNumbers, own_name}
-use Rattle.kr_rows.specs.kr_model.DirectoryRows as model
-use Rattle.kr_rows.specs.kr_model.DirectoryRows.{behind, listed_entry, listed_process}
-use Rattle.kr_rows.specs.kr_model.Known.{Family, Known, family_of}
-use Rattle.kr_rows.specs.kr_model.State.{image_layout}
-use Rattle.kr_rows.specs.kr_ops.declared.state.Process.{Process}
-use Rattle.kr_rows.specs.kr_ops.declared.state.State.{State}
-use Rattle.kr_rows.specs.kr_ops.Meaning.{process_meaning}
-use Rattle.kr_rows.specs.kr_ops.Sound.{IsOfView}
+use Rattle.kr_seen.specs.kr_tree.Tree.{Entry, Inode, entries, entries_of, entry_after, inode}
+use Rattle.kr_seen.specs.kr_tree.declared.place.ProcAt.{ProcAt}
+use Rattle.kr_seen.specs.kr_tree.declared.place.ProcAt.TheVariants.{SelfLink, Dir, Cwd, Root, Exe, FdDir, Fd}
+use Rattle.kr_seen.specs.kr_procfs.Objects.{HasSmallNumbers, own_name}
+use Rattle.kr_seen.specs.kr_model.DirectoryRows as model
+use Rattle.kr_seen.specs.kr_model.DirectoryRows.{behind, listed_entry, listed_process}
+use Rattle.kr_seen.specs.kr_model.Known.{Family, Known, family_of}
+use Rattle.kr_seen.specs.kr_model.State.{image_layout}
+use Rattle.kr_seen.specs.kr_ops.declared.state.Process.{Process}
+use Rattle.kr_seen.specs.kr_ops.declared.state.State.{State}
+use Rattle.kr_seen.specs.kr_ops.Meaning.{process_meaning}
+use Rattle.kr_seen.specs.kr_ops.Sound.{IsOfView}
 use Rattle.kr_transfer.specs.Listing.{first_behind}
 
 -- ---- names

@@ -2,23 +2,23 @@
 use Rattle.std.proofs.Common.{◌≡◌, ℕ, ◌+◌, ◌<◌, Bool, true, false, List, [], ◌∷◌, ◌++◌, length, refl, sym, ap, subst, ◌∙◌, arith, append_assoc}
 use Rattle.std.specs.Prelude.{◌&&◌, IsSome, take, drop, if◌then◌else◌}
 use Rattle.kr_inode.specs.pr_base.declared.errno.Errno.TheVariants.{EFAULT}
-use Rattle.kr_rows.specs.rv_mem.Actions.{WriteBytes, carried_out}
-use Rattle.kr_rows.specs.rv_mem.Memory.{Memory, after_read, with_pages}
-use Rattle.kr_rows.specs.rv_mem.Pages.{allows_all, written}
-use Rattle.kr_rows.specs.rv_mem.declared.rights.Use.{Use}
-use Rattle.kr_rows.specs.rv_mem.declared.rights.Use.TheVariants.{Write}
-use Rattle.kr_rows.specs.kr_model.Change.{Change}
-use Rattle.kr_rows.specs.kr_model.Pieces as model
-use Rattle.kr_rows.specs.kr_model.Pieces.{cut_to, hand, if_usable, laid_into, may_use_all, read_all, write_all}
-use Rattle.kr_rows.specs.kr_model.Reply.{Replying, done, refuse}
-use Rattle.kr_rows.specs.kr_model.State.{process}
-use Rattle.kr_rows.specs.kr_ops.declared.state.State.{State}
-use Rattle.kr_rows.specs.kr_ops.Meaning.{meaning}
-use Rattle.kr_rows.specs.kr_ops.Sound.{IsSound}
-use Rattle.kr_rows.specs.Performing.{carried, memory_of, with_memory_of}
-use Rattle.kr_rows.specs.Using.{HasComeTo, HasMemory, Reads, Writes}
-use Rattle.kr_rows.proofs.PerformLemmas.{own-memory}
-use Rattle.kr_rows.proofs.UsingLemmas.{goes-on, memory-is, twice, was-read, was-written}
+use Rattle.kr_seen.specs.rv_mem.Actions.{WriteBytes, carried_out}
+use Rattle.kr_seen.specs.rv_mem.Memory.{Memory, after_read, with_pages}
+use Rattle.kr_seen.specs.rv_mem.Pages.{allows_all, written}
+use Rattle.kr_seen.specs.rv_mem.declared.rights.Use.{Use}
+use Rattle.kr_seen.specs.rv_mem.declared.rights.Use.TheVariants.{Write}
+use Rattle.kr_seen.specs.kr_model.Change.{Change}
+use Rattle.kr_seen.specs.kr_model.Pieces as model
+use Rattle.kr_seen.specs.kr_model.Pieces.{cut_to, hand, if_usable, laid_into, may_use_all, read_all, write_all}
+use Rattle.kr_seen.specs.kr_model.Reply.{Replying, done, refuse}
+use Rattle.kr_seen.specs.kr_model.State.{process}
+use Rattle.kr_seen.specs.kr_ops.declared.state.State.{State}
+use Rattle.kr_seen.specs.kr_ops.Meaning.{meaning}
+use Rattle.kr_seen.specs.kr_ops.Sound.{IsSound}
+use Rattle.kr_seen.specs.PerformedRows.{carried, memory_of, with_memory_of}
+use Rattle.kr_seen.specs.Using.{HasComeTo, HasMemory, Reads, Writes}
+use Rattle.kr_seen.proofs.PerformLemmas.{own-memory}
+use Rattle.kr_seen.proofs.UsingLemmas.{goes-on, memory-is, twice, was-read, was-written}
 use Rattle.std.proofs.lemmas.List.{drop-drop}
 use Rattle.kr_transfer.specs.Moving.{LeavesOthers, OnlyReads, all_allowed}
 use Rattle.kr_transfer.proofs.PieceLemmas.{all-written}

@@ -3,13 +3,13 @@ use Rattle.std.proofs.Common.{◌≡◌, ℕ, zero, suc, ◌+◌, ◌-◌, ◌<�
 use Rattle.std.specs.Prelude.{◌&&◌, map as map_list}
 use Rattle.std.proofs.Math.Seq.{drop-cons}
 use Rattle.std.proofs.lemmas.Bool.{and_parts, and_from}
-use Rattle.kr_rows.specs.rv_mem.Pages.{Pages, allows, allows_all, written}
-use Rattle.kr_rows.specs.rv_mem.declared.rights.Use.{Use}
-use Rattle.kr_rows.proofs.rv_mem.AddressLemmas.{allows-written}
-use Rattle.kr_rows.proofs.rv_mem.PagesLemmas.{allows_all-add}
-use Rattle.kr_rows.proofs.law_lawful.SumLemmas.{sum-cons}
-use Rattle.kr_rows.specs.kr_model.Pieces as model
-use Rattle.kr_rows.specs.kr_model.Pieces.{asked, cut_to}
+use Rattle.kr_seen.specs.rv_mem.Pages.{Pages, allows, allows_all, written}
+use Rattle.kr_seen.specs.rv_mem.declared.rights.Use.{Use}
+use Rattle.kr_seen.proofs.rv_mem.AddressLemmas.{allows-written}
+use Rattle.kr_seen.proofs.rv_mem.PagesLemmas.{allows_all-add}
+use Rattle.kr_seen.proofs.law_lawful.SumLemmas.{sum-cons}
+use Rattle.kr_seen.specs.kr_model.Pieces as model
+use Rattle.kr_seen.specs.kr_model.Pieces.{asked, cut_to}
 use Rattle.kr_transfer.specs.declared.pieces.Piece.{Piece}
 use Rattle.kr_transfer.specs.Moving.{all_allowed, told}
 

@@ -8,35 +8,35 @@ use Rattle.std.proofs.lemmas.Option.{same_Some, none-some}
 use Rattle.std.proofs.lemmas.Bool.{cond-true, cond-false, ne_eqb}
 use Rattle.kr_inode.specs.pr_base.declared.errno.Errno.{Errno}
 use Rattle.kr_inode.specs.pr_base.declared.errno.Errno.TheVariants.{EBADF, EFAULT, EISDIR}
-use Rattle.kr_rows.specs.kr_files.declared.opened.What.{What}
-use Rattle.kr_rows.specs.kr_files.declared.opened.What.TheVariants.{File}
-use Rattle.kr_rows.specs.rv_mem.Actions.{CarriedOut, carried_out}
-use Rattle.kr_rows.specs.rv_mem.declared.rights.Use.TheVariants.{Write}
-use Rattle.kr_rows.specs.kr_files.declared.opened.Moved.{Moved}
-use Rattle.kr_rows.specs.kr_files.declared.opened.Moved.TheVariants.{Bytes}
-use Rattle.kr_rows.specs.kr_files.declared.opened.Opened.{Opened}
-use Rattle.kr_rows.specs.kr_files.declared.opened.PipeState.{PipeState}
-use Rattle.kr_rows.specs.kr_files.Files.{pipe_state_of, read_answer}
-use Rattle.kr_rows.specs.kr_files.Pipes.{moved_of}
-use Rattle.kr_rows.specs.kr_model.Applied.{Mounts, all_applied, applied, images}
-use Rattle.kr_rows.specs.kr_model.Change.{Change, Seek, TakeFromPipe, TakeInput}
-use Rattle.kr_rows.specs.kr_model.DescriptorRows.{open_bytes}
-use Rattle.kr_rows.specs.kr_model.FileRows.{is_dir, is_file_open, read_file, read_input, read_pieces, read_pipe, read_what}
-use Rattle.kr_rows.specs.kr_model.Known.{Known, known}
-use Rattle.kr_rows.specs.kr_model.Lawful.{ArePids}
-use Rattle.kr_rows.specs.kr_model.Pieces as model_pieces
-use Rattle.kr_rows.specs.kr_model.Pieces.{asked, cut_to, hand, laid_into, write_all}
-use Rattle.kr_rows.specs.kr_model.Reply.{Reply, Replying, answers, done, refusal, refuse, waits}
-use Rattle.kr_rows.specs.kr_model.State as model
-use Rattle.kr_rows.specs.kr_model.declared.outcome.Outcome.{Outcome}
-use Rattle.kr_rows.specs.kr_model.declared.outcome.Outcome.TheVariants.{Answer}
-use Rattle.kr_rows.specs.kr_ops.declared.state.State.{State}
-use Rattle.kr_rows.specs.kr_ops.Meaning.{meaning}
-use Rattle.kr_rows.specs.kr_ops.Sound.{IsOfView, IsServed, IsSound}
-use Rattle.kr_rows.specs.Performing.{IsPerformed, after_row, carried, memory_of, with_memory_of}
-use Rattle.kr_rows.specs.Using.{HasComeTo}
-use Rattle.kr_rows.proofs.PerformLemmas.{by-reply}
-use Rattle.kr_rows.proofs.UsingLemmas.{begins, by-uses}
+use Rattle.kr_seen.specs.kr_files.declared.opened.What.{What}
+use Rattle.kr_seen.specs.kr_files.declared.opened.What.TheVariants.{File}
+use Rattle.kr_seen.specs.rv_mem.Actions.{CarriedOut, carried_out}
+use Rattle.kr_seen.specs.rv_mem.declared.rights.Use.TheVariants.{Write}
+use Rattle.kr_seen.specs.kr_files.declared.opened.Moved.{Moved}
+use Rattle.kr_seen.specs.kr_files.declared.opened.Moved.TheVariants.{Bytes}
+use Rattle.kr_seen.specs.kr_files.declared.opened.Opened.{Opened}
+use Rattle.kr_seen.specs.kr_files.declared.opened.PipeState.{PipeState}
+use Rattle.kr_seen.specs.kr_files.Files.{pipe_state_of, read_answer}
+use Rattle.kr_seen.specs.kr_files.Pipes.{moved_of}
+use Rattle.kr_seen.specs.kr_model.Applied.{Mounts, all_applied, applied, images}
+use Rattle.kr_seen.specs.kr_model.Change.{Change, Seek, TakeFromPipe, TakeInput}
+use Rattle.kr_seen.specs.kr_model.DescriptorRows.{open_bytes}
+use Rattle.kr_seen.specs.kr_model.FileRows.{is_dir, is_file_open, read_file, read_input, read_pieces, read_pipe, read_what}
+use Rattle.kr_seen.specs.kr_model.Known.{Known, known}
+use Rattle.kr_seen.specs.kr_model.Lawful.{ArePids}
+use Rattle.kr_seen.specs.kr_model.Pieces as model_pieces
+use Rattle.kr_seen.specs.kr_model.Pieces.{asked, cut_to, hand, laid_into, write_all}
+use Rattle.kr_seen.specs.kr_model.Reply.{Reply, Replying, answers, done, refusal, refuse, waits}
+use Rattle.kr_seen.specs.kr_model.State as model
+use Rattle.kr_seen.specs.kr_model.declared.outcome.Outcome.{Outcome}
+use Rattle.kr_seen.specs.kr_model.declared.outcome.Outcome.TheVariants.{Answer}
+use Rattle.kr_seen.specs.kr_ops.declared.state.State.{State}
+use Rattle.kr_seen.specs.kr_ops.Meaning.{meaning}
+use Rattle.kr_seen.specs.kr_ops.Sound.{IsOfView, IsServed, IsSound}
+use Rattle.kr_seen.specs.PerformedRows.{IsPerformed, after_row, carried, memory_of, with_memory_of}
+use Rattle.kr_seen.specs.Using.{HasComeTo}
+use Rattle.kr_seen.proofs.PerformLemmas.{by-reply}
+use Rattle.kr_seen.proofs.UsingLemmas.{begins, by-uses}
 use Rattle.kr_transfer.specs.Channels.{IsChannelOf, inode_under}
 use Rattle.kr_transfer.specs.Moving.{LeavesOthers, all_allowed, bytes_at}
 use Rattle.kr_transfer.specs.declared.channel.Channel.{Channel}

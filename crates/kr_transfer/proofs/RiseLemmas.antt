@@ -3,22 +3,22 @@ use Rattle.std.proofs.Common.{◌≡◌, ℕ, suc, ◌+◌, ◌<◌, Bool, true,
 use Rattle.std.specs.Prelude.{map as map_list}
 use Rattle.std.specs.Option.{option_map, option_map_or}
 use Rattle.kr_inode.specs.Entries.{RisesWithin}
-use Rattle.kr_rows.specs.kr_tree.Tree.{Body, Directory, RegularFile, SymbolicLink, ProcessDirectory, Entry, Inode, entries_of, inode}
-use Rattle.kr_rows.specs.kr_tree.declared.place.Host.{Host}
-use Rattle.kr_rows.specs.kr_tree.declared.place.Host.TheVariants.{Node, Proc}
-use Rattle.kr_rows.specs.kr_tree.declared.place.ProcAt.{ProcAt}
-use Rattle.kr_rows.specs.kr_tree.declared.place.ProcAt.TheVariants.{SelfLink, Dir, Cwd, Root, Exe, FdDir, Fd}
-use Rattle.kr_rows.specs.kr_procfs.Objects.{inode_number}
-use Rattle.kr_rows.specs.kr_model.Asking.{is_over}
-use Rattle.kr_rows.specs.kr_model.DirectoryRows as model
-use Rattle.kr_rows.specs.kr_model.DirectoryRows.{listed_entry, listed_process, of_descriptors, of_process, shown_by_body, shown_by_process, with_dots}
-use Rattle.kr_rows.specs.kr_model.Known.{Fact, Family, Known, family_of, known}
-use Rattle.kr_rows.specs.kr_model.Lawful.{RiseFrom}
-use Rattle.kr_rows.specs.kr_model.State as state
-use Rattle.kr_rows.specs.kr_model.State.{Image, image_layout}
-use Rattle.kr_rows.specs.kr_ops.declared.state.State.{State}
-use Rattle.kr_rows.specs.kr_ops.Meaning.{meaning}
-use Rattle.kr_rows.specs.kr_ops.Sound.{IsOfView}
+use Rattle.kr_seen.specs.kr_tree.Tree.{Body, Directory, RegularFile, SymbolicLink, ProcessDirectory, Entry, Inode, entries_of, inode}
+use Rattle.kr_seen.specs.kr_tree.declared.place.Host.{Host}
+use Rattle.kr_seen.specs.kr_tree.declared.place.Host.TheVariants.{Node, Proc}
+use Rattle.kr_seen.specs.kr_tree.declared.place.ProcAt.{ProcAt}
+use Rattle.kr_seen.specs.kr_tree.declared.place.ProcAt.TheVariants.{SelfLink, Dir, Cwd, Root, Exe, FdDir, Fd}
+use Rattle.kr_seen.specs.kr_procfs.Objects.{inode_number}
+use Rattle.kr_seen.specs.kr_model.Asking.{is_over}
+use Rattle.kr_seen.specs.kr_model.DirectoryRows as model
+use Rattle.kr_seen.specs.kr_model.DirectoryRows.{listed_entry, listed_process, of_descriptors, of_process, shown_by_body, shown_by_process, with_dots}
+use Rattle.kr_seen.specs.kr_model.Known.{Fact, Family, Known, family_of, known}
+use Rattle.kr_seen.specs.kr_model.Lawful.{RiseFrom}
+use Rattle.kr_seen.specs.kr_model.State as state
+use Rattle.kr_seen.specs.kr_model.State.{Image, image_layout}
+use Rattle.kr_seen.specs.kr_ops.declared.state.State.{State}
+use Rattle.kr_seen.specs.kr_ops.Meaning.{meaning}
+use Rattle.kr_seen.specs.kr_ops.Sound.{IsOfView}
 use Rattle.kr_transfer.specs.Listing.{all_shown}
 use Rattle.kr_transfer.proofs.DescriptorLemmas.{descriptors-rise}
 use Rattle.kr_transfer.proofs.ListingLemmas.{RiseBehind}

@@ -7,16 +7,16 @@ use Rattle.std.proofs.lemmas.Option.{same_Some, none-some}
 use Rattle.kr_inode.specs.declared.node.Kind.TheVariants.{Proc as ProcKind}
 use Rattle.kr_inode.specs.declared.standing.Standing.{Standing}
 use Rattle.kr_inode.specs.Stored.{kind_of}
-use Rattle.kr_rows.specs.kr_tree.Tree.{Body, Directory, RegularFile, SymbolicLink, ProcessDirectory, Inode, above, body, inode, standing_of}
-use Rattle.kr_rows.specs.kr_tree.declared.place.Host.TheVariants.{Node, Proc}
-use Rattle.kr_rows.specs.kr_tree.declared.place.ProcAt.TheVariants.{Dir}
-use Rattle.kr_rows.specs.kr_procfs.Objects.{inode_number}
-use Rattle.kr_rows.specs.kr_model.Asking.{lives}
-use Rattle.kr_rows.specs.kr_model.DirectoryRows as model
-use Rattle.kr_rows.specs.kr_model.DirectoryRows.{of_process, of_processes, shown_by, with_dots}
-use Rattle.kr_rows.specs.kr_model.Known.{Fact, Family, Known, family_of, known}
-use Rattle.kr_rows.specs.kr_model.State as state
-use Rattle.kr_rows.specs.kr_model.State.{Image, image_layout, is_pid, process}
+use Rattle.kr_seen.specs.kr_tree.Tree.{Body, Directory, RegularFile, SymbolicLink, ProcessDirectory, Inode, above, body, inode, standing_of}
+use Rattle.kr_seen.specs.kr_tree.declared.place.Host.TheVariants.{Node, Proc}
+use Rattle.kr_seen.specs.kr_tree.declared.place.ProcAt.TheVariants.{Dir}
+use Rattle.kr_seen.specs.kr_procfs.Objects.{inode_number}
+use Rattle.kr_seen.specs.kr_model.Asking.{lives}
+use Rattle.kr_seen.specs.kr_model.DirectoryRows as model
+use Rattle.kr_seen.specs.kr_model.DirectoryRows.{of_process, of_processes, shown_by, with_dots}
+use Rattle.kr_seen.specs.kr_model.Known.{Fact, Family, Known, family_of, known}
+use Rattle.kr_seen.specs.kr_model.State as state
+use Rattle.kr_seen.specs.kr_model.State.{Image, image_layout, is_pid, process}
 use Rattle.kr_transfer.specs.Listing.{all_shown}
 
 pub if-ok : {X E : Type 0} (r : Result X E) (P Q : X → Type 0) → ((x : X) → P x → Q x) → IfOk r P → IfOk r Q

@@ -5,21 +5,21 @@ use Rattle.std.specs.Option.{option_map, option_map_or}
 use Rattle.std.proofs.lemmas.Bool.{cond-true, cond-false, and_parts}
 use Rattle.std.proofs.lemmas.Option.{same_Some, none-some}
 use Rattle.kr_inode.specs.pr_base.declared.errno.Errno.TheVariants.{EFBIG, ENOSPC}
-use Rattle.kr_rows.specs.kr_tree.Tree.{Inode, inode, bytes_of}
-use Rattle.kr_rows.specs.kr_tree.Changes.{byte_limit, has_no_room_for as tree_has_no_room_for, is_past_file, size}
-use Rattle.kr_rows.specs.kr_tree.declared.place.Host.TheVariants.{Node}
-use Rattle.kr_rows.specs.kr_tree.declared.place.Place.{Place}
-use Rattle.kr_rows.specs.kr_files.declared.opened.Opened.{Opened}
-use Rattle.kr_rows.specs.kr_model.Asking.{has_no_room_for}
-use Rattle.kr_rows.specs.kr_model.Change.{SetSize}
-use Rattle.kr_rows.specs.kr_model.DescriptorRows.{file_bytes, open_bytes}
-use Rattle.kr_rows.specs.kr_model.FileRows.{cut_file, is_file_open}
-use Rattle.kr_rows.specs.kr_model.Known.{Fact, Known, known}
-use Rattle.kr_rows.specs.kr_model.Reply.{done, refuse}
-use Rattle.kr_rows.specs.kr_model.State as model
-use Rattle.kr_rows.specs.kr_ops.declared.state.State.{State}
-use Rattle.kr_rows.specs.kr_ops.Meaning.{meaning}
-use Rattle.kr_rows.specs.kr_ops.Sound.{IsOfView}
+use Rattle.kr_seen.specs.kr_tree.Tree.{Inode, inode, bytes_of}
+use Rattle.kr_seen.specs.kr_tree.Changes.{byte_limit, has_no_room_for as tree_has_no_room_for, is_past_file, size}
+use Rattle.kr_seen.specs.kr_tree.declared.place.Host.TheVariants.{Node}
+use Rattle.kr_seen.specs.kr_tree.declared.place.Place.{Place}
+use Rattle.kr_seen.specs.kr_files.declared.opened.Opened.{Opened}
+use Rattle.kr_seen.specs.kr_model.Asking.{has_no_room_for}
+use Rattle.kr_seen.specs.kr_model.Change.{SetSize}
+use Rattle.kr_seen.specs.kr_model.DescriptorRows.{file_bytes, open_bytes}
+use Rattle.kr_seen.specs.kr_model.FileRows.{cut_file, is_file_open}
+use Rattle.kr_seen.specs.kr_model.Known.{Fact, Known, known}
+use Rattle.kr_seen.specs.kr_model.Reply.{done, refuse}
+use Rattle.kr_seen.specs.kr_model.State as model
+use Rattle.kr_seen.specs.kr_ops.declared.state.State.{State}
+use Rattle.kr_seen.specs.kr_ops.Meaning.{meaning}
+use Rattle.kr_seen.specs.kr_ops.Sound.{IsOfView}
 use Rattle.kr_transfer.specs.Channels.{IsChannelOf, inode_under}
 use Rattle.kr_transfer.specs.declared.channel.Channel.{Channel}
 use Rattle.kr_transfer.specs.Moving.{bytes_at}

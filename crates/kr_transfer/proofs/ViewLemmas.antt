@@ -3,22 +3,22 @@ use Rattle.std.specs.FinMap as map
 use Rattle.std.proofs.Common.{◌≡◌, ℕ, ◌≤◌, Option, Some, refl, sym, ap, subst, ◌∙◌, arith}
 use Rattle.std.specs.Prelude.{IsSome}
 use Rattle.std.specs.Option.{option_map_or}
-use Rattle.kr_rows.specs.rv_mem.Pages.{Pages, IsPlaced, IsWhole}
-use Rattle.kr_rows.proofs.law_lawful.AfterLemmas.{parts-of}
-use Rattle.kr_rows.proofs.law_lawful.ChangeLemmas.{every-change-keeps}
-use Rattle.kr_rows.proofs.law_lawful.OwnChangeLemmas.{process-keeps}
-use Rattle.kr_rows.specs.kr_model.Applied.{Mounts, applied, images, with_image}
-use Rattle.kr_rows.specs.kr_model.Change.{Change}
-use Rattle.kr_rows.specs.kr_model.Conditions.{CanBeMade}
-use Rattle.kr_rows.specs.kr_model.Known.{Known, pages_in_all}
-use Rattle.kr_rows.specs.kr_model.Lawful.{IsLawful}
-use Rattle.kr_rows.specs.kr_model.MemoryRows.{process_pages}
-use Rattle.kr_rows.specs.kr_model.State as model
-use Rattle.kr_rows.specs.kr_ops.declared.state.State.{State}
-use Rattle.kr_rows.specs.kr_ops.Meaning.{meaning}
-use Rattle.kr_rows.specs.kr_ops.Sound.{IsOfView, IsServed, IsSound}
-use Rattle.kr_rows.proofs.kr_ops.UseLemmas.{sound-of}
-use Rattle.kr_rows.specs.Performing.{memory_of, no_memory, with_memory, with_memory_of}
+use Rattle.kr_seen.specs.rv_mem.Pages.{Pages, IsPlaced, IsWhole}
+use Rattle.kr_seen.proofs.law_lawful.AfterLemmas.{parts-of}
+use Rattle.kr_seen.proofs.law_lawful.ChangeLemmas.{every-change-keeps}
+use Rattle.kr_seen.proofs.law_lawful.OwnChangeLemmas.{process-keeps}
+use Rattle.kr_seen.specs.kr_model.Applied.{Mounts, applied, images, with_image}
+use Rattle.kr_seen.specs.kr_model.Change.{Change}
+use Rattle.kr_seen.specs.kr_model.Conditions.{CanBeMade}
+use Rattle.kr_seen.specs.kr_model.Known.{Known, pages_in_all}
+use Rattle.kr_seen.specs.kr_model.Lawful.{IsLawful}
+use Rattle.kr_seen.specs.kr_model.MemoryRows.{process_pages}
+use Rattle.kr_seen.specs.kr_model.State as model
+use Rattle.kr_seen.specs.kr_ops.declared.state.State.{State}
+use Rattle.kr_seen.specs.kr_ops.Meaning.{meaning}
+use Rattle.kr_seen.specs.kr_ops.Sound.{IsOfView, IsServed, IsSound}
+use Rattle.kr_seen.proofs.kr_ops.UseLemmas.{sound-of}
+use Rattle.kr_seen.specs.PerformedRows.{memory_of, no_memory, with_memory, with_memory_of}
 use Rattle.kr_transfer.specs.Moving.{OnlyReads}
 
 module _ {T : Type 0} {M : ℕ} (s : State T M) (view : IsOfView s) where

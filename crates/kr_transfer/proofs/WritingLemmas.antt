@@ -5,31 +5,31 @@ use Rattle.std.specs.Option.{option_map, option_map_or}
 use Rattle.std.proofs.lemmas.Bool.{cond-true, cond-false, ne_eqb}
 use Rattle.std.proofs.lemmas.Bool.Decides.{nat_tests}
 use Rattle.kr_inode.specs.pr_base.declared.errno.Errno.TheVariants.{EFAULT, EFBIG, ENOSPC}
-use Rattle.kr_rows.specs.rv_mem.Actions.{CarriedOut}
-use Rattle.kr_rows.specs.rv_mem.Pages.{Pages}
-use Rattle.kr_rows.specs.rv_mem.declared.rights.Use.{Use}
-use Rattle.kr_rows.specs.rv_mem.declared.rights.Use.TheVariants.{Read}
-use Rattle.kr_rows.specs.kr_tree.Tree.{Inode, Tree, Body, RegularFile, Directory, SymbolicLink, ProcessDirectory, body, body_is, bytes_of, inode, is_file}
-use Rattle.kr_rows.specs.kr_tree.Changes.{byte_limit, file_limit, has_no_room_for as tree_has_no_room_for, is_past_file, size, size_written}
-use Rattle.kr_rows.specs.kr_tree.Lawful.{AreBytes}
-use Rattle.kr_rows.specs.kr_files.declared.opened.Opened.{Opened}
-use Rattle.kr_rows.specs.kr_files.declared.opened.What.{What}
-use Rattle.kr_rows.specs.kr_model.Applied.{Mounts, all_applied, applied, images}
-use Rattle.kr_rows.specs.kr_model.Change.{PutIntoPipe, Seek, WriteFile}
-use Rattle.kr_rows.specs.kr_model.Conditions.{CanWrite}
-use Rattle.kr_rows.specs.kr_model.DescriptorRows.{open_bytes}
-use Rattle.kr_rows.specs.kr_model.FileRows.{is_file_open, put_in_file, sigpipe, write_file, write_pieces, write_pipe, write_place, write_what}
-use Rattle.kr_rows.specs.kr_model.Known.{Known, known}
-use Rattle.kr_rows.specs.kr_model.Pieces as model_pieces
-use Rattle.kr_rows.specs.kr_model.Pieces.{asked, cut_to, if_usable, read_all}
-use Rattle.kr_rows.specs.kr_model.Reply.{Reply, Replying, done, ends, refuse, waits}
-use Rattle.kr_rows.specs.kr_model.State as model
-use Rattle.kr_rows.specs.kr_model.declared.outcome.Outcome.{Outcome}
-use Rattle.kr_rows.specs.kr_ops.declared.state.State.{State}
-use Rattle.kr_rows.specs.kr_ops.Meaning.{meaning}
-use Rattle.kr_rows.specs.kr_ops.Sound.{IsOfView, IsServed, IsSound}
-use Rattle.kr_rows.specs.Performing.{IsPerformed, after_row, carried, memory_of}
-use Rattle.kr_rows.specs.Using.{HasComeTo}
+use Rattle.kr_seen.specs.rv_mem.Actions.{CarriedOut}
+use Rattle.kr_seen.specs.rv_mem.Pages.{Pages}
+use Rattle.kr_seen.specs.rv_mem.declared.rights.Use.{Use}
+use Rattle.kr_seen.specs.rv_mem.declared.rights.Use.TheVariants.{Read}
+use Rattle.kr_seen.specs.kr_tree.Tree.{Inode, Tree, Body, RegularFile, Directory, SymbolicLink, ProcessDirectory, body, body_is, bytes_of, inode, is_file}
+use Rattle.kr_seen.specs.kr_tree.Changes.{byte_limit, file_limit, has_no_room_for as tree_has_no_room_for, is_past_file, size, size_written}
+use Rattle.kr_seen.specs.kr_tree.Lawful.{AreBytes}
+use Rattle.kr_seen.specs.kr_files.declared.opened.Opened.{Opened}
+use Rattle.kr_seen.specs.kr_files.declared.opened.What.{What}
+use Rattle.kr_seen.specs.kr_model.Applied.{Mounts, all_applied, applied, images}
+use Rattle.kr_seen.specs.kr_model.Change.{PutIntoPipe, Seek, WriteFile}
+use Rattle.kr_seen.specs.kr_model.Conditions.{CanWrite}
+use Rattle.kr_seen.specs.kr_model.DescriptorRows.{open_bytes}
+use Rattle.kr_seen.specs.kr_model.FileRows.{is_file_open, put_in_file, sigpipe, write_file, write_pieces, write_pipe, write_place, write_what}
+use Rattle.kr_seen.specs.kr_model.Known.{Known, known}
+use Rattle.kr_seen.specs.kr_model.Pieces as model_pieces
+use Rattle.kr_seen.specs.kr_model.Pieces.{asked, cut_to, if_usable, read_all}
+use Rattle.kr_seen.specs.kr_model.Reply.{Reply, Replying, done, ends, refuse, waits}
+use Rattle.kr_seen.specs.kr_model.State as model
+use Rattle.kr_seen.specs.kr_model.declared.outcome.Outcome.{Outcome}
+use Rattle.kr_seen.specs.kr_ops.declared.state.State.{State}
+use Rattle.kr_seen.specs.kr_ops.Meaning.{meaning}
+use Rattle.kr_seen.specs.kr_ops.Sound.{IsOfView, IsServed, IsSound}
+use Rattle.kr_seen.specs.PerformedRows.{IsPerformed, after_row, carried, memory_of}
+use Rattle.kr_seen.specs.Using.{HasComeTo}
 use Rattle.kr_transfer.specs.Channels.{IsChannelOf, IsOpenHere, inode_under}
 use Rattle.kr_transfer.specs.Moving.{all_allowed, bytes_at}
 use Rattle.kr_transfer.specs.declared.channel.Channel.{Channel}
@@ -38,7 +38,7 @@ use Rattle.kr_transfer.proofs.MovingLemmas.{comes-itself, usable, unusable}
 use Rattle.kr_transfer.proofs.PieceLemmas.{uncut}
 use Rattle.kr_transfer.proofs.SizeLemmas.{bytes-are, room-is, size-is}
 use Rattle.kr_transfer.proofs.ViewLemmas.{view-changed, view-sound}
-use Rattle.kr_rows.proofs.UsingLemmas.{goes-on}
+use Rattle.kr_seen.proofs.UsingLemmas.{goes-on}
 
 -- a row that came on to another one, which was carried out from there
 pub by-then : {T : Type 0} {M : ℕ} (pid : ℕ) (row next : Known → Replying) (old mid new : State T M) (result : Outcome)

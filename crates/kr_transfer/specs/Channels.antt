@@ -1,18 +1,18 @@
 -- What a call asks of an open file of its caller.
 use Rattle.std.specs.Prelude.{◌≡◌, ◌≢◌, ℕ, ℤ, Option, Some, None}
 use Rattle.std.specs.Option.{option_map, option_and_then}
-use Rattle.kr_rows.specs.kr_tree.declared.place.Host.{Host}
-use Rattle.kr_rows.specs.kr_tree.declared.place.Host.TheVariants.{Node, Proc}
-use Rattle.kr_rows.specs.kr_files.declared.opened.Opened.{Opened}
-use Rattle.kr_rows.specs.kr_model.Asking.{descriptor_number}
-use Rattle.kr_rows.specs.kr_model.Known.{Known, known}
-use Rattle.kr_rows.specs.kr_model.Reply.{Replying}
-use Rattle.kr_rows.specs.kr_model.State.{image_layout}
-use Rattle.kr_rows.specs.kr_model.declared.outcome.Outcome.{Outcome}
-use Rattle.kr_rows.specs.kr_model.declared.outcome.Outcome.TheVariants.{NoMemory}
-use Rattle.kr_rows.specs.kr_ops.declared.state.State.{State}
-use Rattle.kr_rows.specs.kr_ops.Meaning.{meaning}
-use Rattle.kr_rows.specs.Performing.{IsPerformed}
+use Rattle.kr_seen.specs.kr_tree.declared.place.Host.{Host}
+use Rattle.kr_seen.specs.kr_tree.declared.place.Host.TheVariants.{Node, Proc}
+use Rattle.kr_seen.specs.kr_files.declared.opened.Opened.{Opened}
+use Rattle.kr_seen.specs.kr_model.Asking.{descriptor_number}
+use Rattle.kr_seen.specs.kr_model.Known.{Known, known}
+use Rattle.kr_seen.specs.kr_model.Reply.{Replying}
+use Rattle.kr_seen.specs.kr_model.State.{image_layout}
+use Rattle.kr_seen.specs.kr_model.declared.outcome.Outcome.{Outcome}
+use Rattle.kr_seen.specs.kr_model.declared.outcome.Outcome.TheVariants.{NoMemory}
+use Rattle.kr_seen.specs.kr_ops.declared.state.State.{State}
+use Rattle.kr_seen.specs.kr_ops.Meaning.{meaning}
+use Rattle.kr_seen.specs.PerformedRows.{IsPerformed}
 use Rattle.kr_transfer.specs.declared.channel.Channel.{Channel}
 
 abbrev pub channel_under : ℕ → Opened (Unit {0}) → Channel

@@ -2,11 +2,11 @@
 use Rattle.std.specs.Prelude.{◌≡◌, ◌≤◌, ◌-◌, ℕ, List, [], ◌∷◌, nat_lt, Option, Some, None}
 use Rattle.std.specs.List.{find}
 use Rattle.std.specs.Option.{option_map_or}
-use Rattle.kr_rows.specs.kr_tree.declared.place.Host.{Host}
-use Rattle.kr_rows.specs.kr_model.DirectoryRows as model
-use Rattle.kr_rows.specs.kr_calls.DirectoryEntries.{record_length}
-use Rattle.kr_rows.specs.kr_model.DirectoryRows.{behind, fitting, shown_by}
-use Rattle.kr_rows.specs.kr_model.Known.{Known}
+use Rattle.kr_seen.specs.kr_tree.declared.place.Host.{Host}
+use Rattle.kr_seen.specs.kr_model.DirectoryRows as model
+use Rattle.kr_seen.specs.kr_calls.DirectoryEntries.{record_length}
+use Rattle.kr_seen.specs.kr_model.DirectoryRows.{behind, fitting, shown_by}
+use Rattle.kr_seen.specs.kr_model.Known.{Known}
 use Rattle.kr_transfer.specs.declared.listing.Listed.{Listed}
 
 abbrev pub told_entry : Listed → model.Listed

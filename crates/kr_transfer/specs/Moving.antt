@@ -1,14 +1,14 @@
 -- Uses of all pieces of a list, and what they leave of a state.
 use Rattle.std.specs.Prelude.{◌≡◌, ℕ, Bool, true, ◌&&◌, List, [], ◌∷◌, map as map_list}
 use Rattle.std.specs.Option.{option_map_or}
-use Rattle.kr_rows.specs.rv_mem.Pages.{Pages, allows_all}
-use Rattle.kr_rows.specs.rv_mem.declared.rights.Use.{Use}
-use Rattle.kr_rows.specs.kr_tree.Tree.{Tree, Inode, inode, bytes_of}
-use Rattle.kr_rows.specs.kr_model.Pieces as model
-use Rattle.kr_rows.specs.kr_ops.declared.state.State.{State}
-use Rattle.kr_rows.specs.kr_ops.Meaning.{meaning}
-use Rattle.kr_rows.specs.Performing.{memory_of}
-use Rattle.kr_rows.specs.Using.{HasMemory}
+use Rattle.kr_seen.specs.rv_mem.Pages.{Pages, allows_all}
+use Rattle.kr_seen.specs.rv_mem.declared.rights.Use.{Use}
+use Rattle.kr_seen.specs.kr_tree.Tree.{Tree, Inode, inode, bytes_of}
+use Rattle.kr_seen.specs.kr_model.Pieces as model
+use Rattle.kr_seen.specs.kr_ops.declared.state.State.{State}
+use Rattle.kr_seen.specs.kr_ops.Meaning.{meaning}
+use Rattle.kr_seen.specs.PerformedRows.{memory_of}
+use Rattle.kr_seen.specs.Using.{HasMemory}
 use Rattle.kr_transfer.specs.declared.pieces.Piece.{Piece}
 
 -- the pieces of the definition

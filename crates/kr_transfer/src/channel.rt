@@ -1,13 +1,13 @@
 //! What calls ask of an open file.
 ghost use Rattle.std.specs.Prelude.{◌≡◌, ◌&&◌};
-ghost use Rattle.kr_rows.specs.kr_model.FileRows.{is_dir, is_file_open};
-ghost use Rattle.kr_rows.specs.kr_model.Known.{known};
-ghost use Rattle.kr_rows.specs.kr_model.State.{image_layout};
-ghost use Rattle.kr_rows.specs.kr_ops.Meaning.{meaning};
-ghost use Rattle.kr_rows.specs.kr_ops.Sound.{IsSound};
+ghost use Rattle.kr_seen.specs.kr_model.FileRows.{is_dir, is_file_open};
+ghost use Rattle.kr_seen.specs.kr_model.Known.{known};
+ghost use Rattle.kr_seen.specs.kr_model.State.{image_layout};
+ghost use Rattle.kr_seen.specs.kr_ops.Meaning.{meaning};
+ghost use Rattle.kr_seen.specs.kr_ops.Sound.{IsSound};
 ghost use Rattle.kr_transfer.specs.Channels.{channel_of, inode_under};
 
-use kr_rows::below::{Host, Ino, State, What};
+use kr_seen::below::{Host, Ino, State, What};
 
 /// An open file under a descriptor, without its mount and the entry that it remembers.
 #[derive(Clone, Copy)]

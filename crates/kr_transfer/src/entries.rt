@@ -2,17 +2,17 @@
 ghost use Rattle.std.specs.Prelude.{◌≡◌, ◌≢◌, ◌<◌, ◌≤◌, ◌∷◌, [], length, true, is_some, IfOk, IfSome, IsSome};
 ghost use Rattle.std.specs.Option.{option_map_or};
 ghost use Rattle.kr_inode.specs.pr_base.declared.errno.Errno.TheVariants.{EFAULT as Fault, ENOTDIR as NotDirectory};
-ghost use Rattle.kr_rows.specs.rv_mem.Actions.{write_if_allowed};
-ghost use Rattle.kr_rows.specs.kr_model.Asking.{is_directory_host};
-ghost use Rattle.kr_rows.specs.kr_model.Change.{Seek};
-ghost use Rattle.kr_rows.specs.kr_model.DirectoryRows.{behind, fitting, getdents64_row, list_host, list_rest, listed_bytes, shown_by};
-ghost use Rattle.kr_rows.specs.kr_model.Known.{known};
-ghost use Rattle.kr_rows.specs.kr_model.Reply.{done, refuse};
-ghost use Rattle.kr_rows.specs.kr_model.State.{image_layout, process};
-ghost use Rattle.kr_rows.specs.kr_model.declared.outcome.Outcome.TheVariants.{NoMemory as WantOfMemory};
-ghost use Rattle.kr_rows.specs.kr_ops.Meaning.{meaning};
-ghost use Rattle.kr_rows.specs.kr_ops.Sound.{IsOfView, IsServed, IsSound};
-ghost use Rattle.kr_rows.specs.Performing.{Performs};
+ghost use Rattle.kr_seen.specs.rv_mem.Actions.{write_if_allowed};
+ghost use Rattle.kr_seen.specs.kr_model.Asking.{is_directory_host};
+ghost use Rattle.kr_seen.specs.kr_model.Change.{Seek};
+ghost use Rattle.kr_seen.specs.kr_model.DirectoryRows.{behind, fitting, getdents64_row, list_host, list_rest, listed_bytes, shown_by};
+ghost use Rattle.kr_seen.specs.kr_model.Known.{known};
+ghost use Rattle.kr_seen.specs.kr_model.Reply.{done, refuse};
+ghost use Rattle.kr_seen.specs.kr_model.State.{image_layout, process};
+ghost use Rattle.kr_seen.specs.kr_model.declared.outcome.Outcome.TheVariants.{NoMemory as WantOfMemory};
+ghost use Rattle.kr_seen.specs.kr_ops.Meaning.{meaning};
+ghost use Rattle.kr_seen.specs.kr_ops.Sound.{IsOfView, IsServed, IsSound};
+ghost use Rattle.kr_seen.specs.PerformedRows.{Performs};
 ghost use Rattle.kr_transfer.specs.Channels.{PerformsOn};
 ghost use Rattle.kr_transfer.specs.Listing.{all_shown, last_from, IsNextFitting};
 
@@ -21,11 +21,10 @@ use crate::listing::{Listed, or_zero, record_length};
 use crate::moving::allocator_of;
 use crate::shown::{is_shown, next_listed};
 use kr_inode::below::pr_base::{Bytes, Errno, NoMemory};
-use kr_rows::answer::{number, refused};
-use kr_rows::below::{
+use kr_seen::below::{
     Host, Outcome, ProcAt, State, StoreFault, dirent_bytes, lawful_states_are_sound,
 };
-use kr_rows::caller;
+use kr_seen::{caller, number, refused};
 
 /// Entries as bytes, and the serial of the last one.
 #[derive(Drop)]

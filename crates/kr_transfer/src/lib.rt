@@ -15,7 +15,6 @@
 //! Only tested, or not shown: `rows`.
 #![tactic(auto)]
 
-pub mod below;
 mod channel;
 pub mod entries;
 pub mod listing;

@@ -2,21 +2,21 @@
 ghost use Rattle.std.specs.Prelude.{◌≡◌, ◌≢◌, ◌≤◌, ◌*◌, List, length, take, drop, ◌+◌, IfOk, IsErrOf, IsSome};
 ghost use Rattle.std.specs.Int.{from_le_bytes, w64};
 ghost use Rattle.kr_inode.specs.pr_base.declared.errno.Errno.{Errno};
-ghost use Rattle.kr_rows.specs.kr_model.Pieces.{asked, cut_to, move_limit, pieces_of, with_list, Piece as ModelPiece};
-ghost use Rattle.kr_rows.specs.kr_model.Reply.{refusal, refuse, Replying};
-ghost use Rattle.kr_rows.specs.kr_model.State.{process};
-ghost use Rattle.kr_rows.specs.kr_model.declared.outcome.Outcome.TheVariants.{NoMemory as WantOfMemory};
-ghost use Rattle.kr_rows.specs.kr_ops.Meaning.{meaning};
-ghost use Rattle.kr_rows.specs.kr_ops.Sound.{IsSound};
-ghost use Rattle.kr_rows.specs.Using.{HasComeTo};
+ghost use Rattle.kr_seen.specs.kr_model.Pieces.{asked, cut_to, move_limit, pieces_of, with_list, Piece as ModelPiece};
+ghost use Rattle.kr_seen.specs.kr_model.Reply.{refusal, refuse, Replying};
+ghost use Rattle.kr_seen.specs.kr_model.State.{process};
+ghost use Rattle.kr_seen.specs.kr_model.declared.outcome.Outcome.TheVariants.{NoMemory as WantOfMemory};
+ghost use Rattle.kr_seen.specs.kr_ops.Meaning.{meaning};
+ghost use Rattle.kr_seen.specs.kr_ops.Sound.{IsSound};
+ghost use Rattle.kr_seen.specs.Using.{HasComeTo};
 ghost use Rattle.kr_transfer.specs.Moving.{told, OnlyReads};
 
 use crate::moving::{MOVE_LIMIT, allocator_of};
 use crate::pieces::{Piece, total};
 use kr_inode::below::pr_base::{Errno, NoMemory};
-use kr_rows::answer::refused;
-use kr_rows::below::{Outcome, State};
-use kr_rows::caller::{self, LoadFault};
+use kr_seen::below::{Outcome, State};
+use kr_seen::caller::{self, LoadFault};
+use kr_seen::refused;
 use std::alloc::Global;
 
 /// The most pieces of a list.

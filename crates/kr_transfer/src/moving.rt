@@ -1,22 +1,22 @@
 //! Bytes that are moved between calls and pieces of the caller's memory.
 ghost use Rattle.std.specs.Prelude.{◌≡◌, ◌<◌, ◌≤◌, ◌^◌, ℕ, List, true, false, length, IfOk, IfSome, OnOk, OnErr, IsErrOf, IsSome, take, drop};
 ghost use Rattle.kr_inode.specs.pr_base.declared.errno.Errno.TheVariants.{EFAULT as Fault};
-ghost use Rattle.kr_rows.specs.rv_mem.declared.rights.Use.TheVariants.{Read, Write};
-ghost use Rattle.kr_rows.specs.kr_model.Change.{Change};
-ghost use Rattle.kr_rows.specs.kr_model.Pieces.{asked, cut_to, hand, laid_into, read_all, write_all};
-ghost use Rattle.kr_rows.specs.kr_model.Reply.{Replying, done, refuse};
-ghost use Rattle.kr_rows.specs.kr_model.State.{process};
-ghost use Rattle.kr_rows.specs.kr_ops.Making.{IsAsBefore};
-ghost use Rattle.kr_rows.specs.kr_ops.Meaning.{meaning};
-ghost use Rattle.kr_rows.specs.kr_ops.Sound.{IsSound};
-ghost use Rattle.kr_rows.specs.Performing.{memory_of};
-ghost use Rattle.kr_rows.specs.Using.{HasComeTo};
+ghost use Rattle.kr_seen.specs.rv_mem.declared.rights.Use.TheVariants.{Read, Write};
+ghost use Rattle.kr_seen.specs.kr_model.Change.{Change};
+ghost use Rattle.kr_seen.specs.kr_model.Pieces.{asked, cut_to, hand, laid_into, read_all, write_all};
+ghost use Rattle.kr_seen.specs.kr_model.Reply.{Replying, done, refuse};
+ghost use Rattle.kr_seen.specs.kr_model.State.{process};
+ghost use Rattle.kr_seen.specs.kr_ops.Making.{IsAsBefore};
+ghost use Rattle.kr_seen.specs.kr_ops.Meaning.{meaning};
+ghost use Rattle.kr_seen.specs.kr_ops.Sound.{IsSound};
+ghost use Rattle.kr_seen.specs.PerformedRows.{memory_of};
+ghost use Rattle.kr_seen.specs.Using.{HasComeTo};
 ghost use Rattle.kr_transfer.specs.Moving.{all_allowed, told, LeavesOthers, OnlyReads};
 
 use crate::pieces::Piece;
 use kr_inode::below::pr_base::{Bytes, NoMemory};
-use kr_rows::below::{State, StoreFault, Use};
-use kr_rows::caller::{self, LoadFault};
+use kr_seen::below::{State, StoreFault, Use};
+use kr_seen::caller::{self, LoadFault};
 use std::alloc::Global;
 
 /// The most bytes that one call moves.

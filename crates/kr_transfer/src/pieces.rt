@@ -1,6 +1,6 @@
 //! Pieces of the caller's memory.
 ghost use Rattle.std.specs.Prelude.{◌≡◌, ◌≤◌, ◌<◌, ◌^◌, IfNone, IfSome};
-ghost use Rattle.kr_rows.specs.kr_model.Pieces.{asked};
+ghost use Rattle.kr_seen.specs.kr_model.Pieces.{asked};
 ghost use Rattle.kr_transfer.specs.Moving.{told};
 
 /// `count` bytes at the address `at`.

@@ -1,16 +1,16 @@
 //! Calls that read from what is open.
 ghost use Rattle.std.specs.Prelude.{◌≡◌, ◌≢◌, ◌+◌, ◌<◌, ◌≤◌, ◌^◌, ℕ, not, if◌then◌else◌, Some, None, IfNone, IfSome, IfOk, IsSome, take, drop, length, true, min};
 ghost use Rattle.kr_inode.specs.pr_base.declared.errno.Errno.TheVariants.{EBADF as NotOpen, EISDIR as IsDirectory};
-ghost use Rattle.kr_rows.specs.kr_model.FileRows.{is_dir, read_file, read_input, read_pieces, read_pipe, read_row, readv_row};
-ghost use Rattle.kr_rows.specs.kr_model.Pieces.{asked, move_limit, one_piece, with_list};
-ghost use Rattle.kr_rows.specs.kr_model.Reply.{refuse};
-ghost use Rattle.kr_rows.specs.kr_model.State.{process};
-ghost use Rattle.kr_rows.specs.kr_model.declared.outcome.Outcome.TheVariants.{NoMemory as WantOfMemory};
-ghost use Rattle.kr_rows.specs.kr_files.declared.opened.What.TheVariants.{PipeRead as ReadEnd, In as ConsoleInput, File as RegularFile};
-ghost use Rattle.kr_rows.specs.kr_ops.Meaning.{meaning};
-ghost use Rattle.kr_rows.specs.kr_ops.Sound.{IsOfView, IsServed};
-ghost use Rattle.kr_rows.specs.Performing.{Performs};
-ghost use Rattle.kr_rows.specs.kr_tree.Tree.{body_is, is_file};
+ghost use Rattle.kr_seen.specs.kr_model.FileRows.{is_dir, read_file, read_input, read_pieces, read_pipe, read_row, readv_row};
+ghost use Rattle.kr_seen.specs.kr_model.Pieces.{asked, move_limit, one_piece, with_list};
+ghost use Rattle.kr_seen.specs.kr_model.Reply.{refuse};
+ghost use Rattle.kr_seen.specs.kr_model.State.{process};
+ghost use Rattle.kr_seen.specs.kr_model.declared.outcome.Outcome.TheVariants.{NoMemory as WantOfMemory};
+ghost use Rattle.kr_seen.specs.kr_files.declared.opened.What.TheVariants.{PipeRead as ReadEnd, In as ConsoleInput, File as RegularFile};
+ghost use Rattle.kr_seen.specs.kr_ops.Meaning.{meaning};
+ghost use Rattle.kr_seen.specs.kr_ops.Sound.{IsOfView, IsServed};
+ghost use Rattle.kr_seen.specs.PerformedRows.{Performs};
+ghost use Rattle.kr_seen.specs.kr_tree.Tree.{body_is, is_file};
 ghost use Rattle.kr_transfer.specs.Channels.{inode_under, IsOpenHere, PerformsOn};
 ghost use Rattle.kr_transfer.specs.Moving.{bytes_at, told};
 
@@ -19,8 +19,8 @@ use crate::lists::{answer_of, read_list};
 use crate::moving::{MOVE_LIMIT, allocator_of, hand, may_use_all, part, write_all};
 use crate::pieces::Piece;
 use kr_inode::below::pr_base::{Bytes, Errno, NoMemory};
-use kr_rows::answer::{number, refused};
-use kr_rows::below::{Moved, Outcome, State, StoreFault, Use, What, lawful_states_are_sound};
+use kr_seen::below::{Moved, Outcome, State, StoreFault, Use, What, lawful_states_are_sound};
+use kr_seen::{number, refused};
 
 /// read(2): EBADF of a descriptor that isn't open for reading, EISDIR. At most 2,147,479,552 bytes are asked, and a length
 /// of 0 answers 0. A pipe without bytes waits where it has a writer, and answers 0 where it has none. Then EFAULT of the

@@ -1,20 +1,20 @@
 //! What directories show.
 ghost use Rattle.std.specs.Prelude.{◌≡◌, ◌≤◌, ℕ, length, true, is_some, IfOk, IfSome};
 ghost use Rattle.std.specs.Option.{option_map};
-ghost use Rattle.kr_rows.specs.kr_tree.declared.place.Host.TheVariants.{Node, Proc};
-ghost use Rattle.kr_rows.specs.kr_tree.declared.place.ProcAt.TheVariants as at;
-ghost use Rattle.kr_rows.specs.kr_model.Asking.{lives};
-ghost use Rattle.kr_rows.specs.kr_model.DirectoryRows.{shown_by};
-ghost use Rattle.kr_rows.specs.kr_model.Known.{known};
-ghost use Rattle.kr_rows.specs.kr_model.State.{image_layout, process};
-ghost use Rattle.kr_rows.specs.kr_ops.Meaning.{meaning};
-ghost use Rattle.kr_rows.specs.kr_ops.Sound.{IsOfView, IsSound};
+ghost use Rattle.kr_seen.specs.kr_tree.declared.place.Host.TheVariants.{Node, Proc};
+ghost use Rattle.kr_seen.specs.kr_tree.declared.place.ProcAt.TheVariants as at;
+ghost use Rattle.kr_seen.specs.kr_model.Asking.{lives};
+ghost use Rattle.kr_seen.specs.kr_model.DirectoryRows.{shown_by};
+ghost use Rattle.kr_seen.specs.kr_model.Known.{known};
+ghost use Rattle.kr_seen.specs.kr_model.State.{image_layout, process};
+ghost use Rattle.kr_seen.specs.kr_ops.Meaning.{meaning};
+ghost use Rattle.kr_seen.specs.kr_ops.Sound.{IsOfView, IsSound};
 ghost use Rattle.kr_transfer.specs.Listing.{all_shown, first_behind, told_entry};
 
 use crate::listing::{Listed, descriptor_entry, directory_entry, dots, link_entry, node_entry};
 use crate::moving::allocator_of;
 use kr_inode::below::pr_base::NoMemory;
-use kr_rows::below::{Host, Ino, Kind, ProcAt, State, lawful_states_are_sound, proc_inode};
+use kr_seen::below::{Host, Ino, Kind, ProcAt, State, lawful_states_are_sound, proc_inode};
 
 /// Whether a process lives.
 fn lives<T: Copy, const M: u8>(state: &State<T, M>, pid: u32, of: u32) -> bool

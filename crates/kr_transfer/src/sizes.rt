@@ -1,13 +1,13 @@
 //! The size of an open file.
-ghost use Rattle.kr_rows.specs.kr_model.FileRows.{cut_file, ftruncate_row};
-ghost use Rattle.kr_rows.specs.kr_ops.Sound.{IsOfView, IsServed};
-ghost use Rattle.kr_rows.specs.Performing.{Performs};
+ghost use Rattle.kr_seen.specs.kr_model.FileRows.{cut_file, ftruncate_row};
+ghost use Rattle.kr_seen.specs.kr_ops.Sound.{IsOfView, IsServed};
+ghost use Rattle.kr_seen.specs.PerformedRows.{Performs};
 ghost use Rattle.kr_transfer.specs.Channels.{IsOpenHere, PerformsOn};
 
 use crate::channel::{Channel, channel_of, inode_of, is_writable_file};
 use kr_inode::below::pr_base::Errno;
-use kr_rows::answer::{number, refused};
-use kr_rows::below::{Outcome, State, TreeRefusal, lawful_states_are_sound};
+use kr_seen::below::{Outcome, State, TreeRefusal, lawful_states_are_sound};
+use kr_seen::{number, refused};
 
 /// ftruncate(2): EBADF of a descriptor that isn't open, EINVAL of what is no file or isn't open for writing, EFBIG of a
 /// size above the limit of a file, ENOSPC where all files together would have too many bytes. Zeros fill what is added.

@@ -1,19 +1,19 @@
 //! Calls that write to what is open.
 ghost use Rattle.std.specs.Prelude.{◌≡◌, ◌≢◌, ◌+◌, ◌<◌, ◌≤◌, ◌^◌, ℕ, not, if◌then◌else◌, Some, None, IsSome, length, true};
 ghost use Rattle.kr_inode.specs.pr_base.declared.errno.Errno.TheVariants.{EBADF as NotOpen, EISDIR as IsDirectory};
-ghost use Rattle.kr_rows.specs.rv_mem.declared.rights.Use.TheVariants.{Read};
-ghost use Rattle.kr_rows.specs.kr_files.declared.opened.What.TheVariants.{File as RegularFile, PipeWrite as WriteEnd, Out as ConsoleOutput, Err as ConsoleError};
-ghost use Rattle.kr_rows.specs.kr_tree.Changes.{file_limit};
-ghost use Rattle.kr_rows.specs.kr_tree.Lawful.{AreBytes};
-ghost use Rattle.kr_rows.specs.kr_tree.Tree.{body_is, is_file};
-ghost use Rattle.kr_rows.specs.kr_model.FileRows.{is_dir, put_in_file, write_file, write_pieces, write_pipe, write_place, write_row, write_what, writev_row};
-ghost use Rattle.kr_rows.specs.kr_model.Pieces.{asked, move_limit, one_piece, with_list};
-ghost use Rattle.kr_rows.specs.kr_model.Reply.{refuse};
-ghost use Rattle.kr_rows.specs.kr_model.State.{process};
-ghost use Rattle.kr_rows.specs.kr_model.declared.outcome.Outcome.TheVariants.{NoMemory as WantOfMemory};
-ghost use Rattle.kr_rows.specs.kr_ops.Meaning.{meaning};
-ghost use Rattle.kr_rows.specs.kr_ops.Sound.{IsOfView, IsServed};
-ghost use Rattle.kr_rows.specs.Performing.{memory_of, Performs};
+ghost use Rattle.kr_seen.specs.rv_mem.declared.rights.Use.TheVariants.{Read};
+ghost use Rattle.kr_seen.specs.kr_files.declared.opened.What.TheVariants.{File as RegularFile, PipeWrite as WriteEnd, Out as ConsoleOutput, Err as ConsoleError};
+ghost use Rattle.kr_seen.specs.kr_tree.Changes.{file_limit};
+ghost use Rattle.kr_seen.specs.kr_tree.Lawful.{AreBytes};
+ghost use Rattle.kr_seen.specs.kr_tree.Tree.{body_is, is_file};
+ghost use Rattle.kr_seen.specs.kr_model.FileRows.{is_dir, put_in_file, write_file, write_pieces, write_pipe, write_place, write_row, write_what, writev_row};
+ghost use Rattle.kr_seen.specs.kr_model.Pieces.{asked, move_limit, one_piece, with_list};
+ghost use Rattle.kr_seen.specs.kr_model.Reply.{refuse};
+ghost use Rattle.kr_seen.specs.kr_model.State.{process};
+ghost use Rattle.kr_seen.specs.kr_model.declared.outcome.Outcome.TheVariants.{NoMemory as WantOfMemory};
+ghost use Rattle.kr_seen.specs.kr_ops.Meaning.{meaning};
+ghost use Rattle.kr_seen.specs.kr_ops.Sound.{IsOfView, IsServed};
+ghost use Rattle.kr_seen.specs.PerformedRows.{memory_of, Performs};
 ghost use Rattle.kr_transfer.specs.Channels.{inode_under, IsOpenHere, PerformsOn};
 ghost use Rattle.kr_transfer.specs.Moving.{all_allowed, bytes_at, told};
 
@@ -23,8 +23,8 @@ use crate::moving::{MOVE_LIMIT, may_use_all, read_all};
 use crate::pieces::Piece;
 use kr_inode::FILE_LIMIT;
 use kr_inode::below::pr_base::{Errno, NoMemory};
-use kr_rows::answer::{number, refused};
-use kr_rows::below::{Outcome, State, TreeRefusal, Use, What, lawful_states_are_sound};
+use kr_seen::below::{Outcome, State, TreeRefusal, Use, What, lawful_states_are_sound};
+use kr_seen::{number, refused};
 
 /// How a process ends that writes to a pipe without readers, as wait4(2) tells it.
 const SIGPIPE: u32 = 13;

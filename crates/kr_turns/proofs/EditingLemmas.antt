@@ -19,8 +19,8 @@ use Rattle.kr_seen.specs.kr_ops.Sound.{IsSound}
 use Rattle.kr_steps.specs.Calls.{Runs}
 use Rattle.kr_steps.specs.Computing.{computed}
 use Rattle.kr_steps.proofs.ComputingLemmas.{changed_at, image-means, image-runs, lives-at}
-use Rattle.kr_turns.specs.Stopped.{image_in, no_image}
-use Rattle.kr_turns.proofs.EditLemmas.{own-same}
+use Rattle.kr_stops.specs.Stopped.{image_in, no_image}
+use Rattle.kr_stops.proofs.EditLemmas.{own-same}
 
 module _ {T : Type 0} {M : ℕ} (s : State T M) (pid k : ℕ) (p : Process T M) (sound : IsSound s) (at : HasPid pid k s.living.items) (e : p ≡ get_or s.living.items k p) where
   pub image-here : image_in pid (meaning s) ≡ record { regs = p.regs; memory = p.mem }

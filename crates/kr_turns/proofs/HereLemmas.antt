@@ -25,8 +25,8 @@ use Rattle.kr_hostview.proofs.LawLemmas.{hosts-have-one-mount, lawful-on-host}
 use Rattle.kr_seen.proofs.LookLemmas.{asked-numbered, process-numbered}
 use Rattle.kr_steps.specs.Computing.{Requests, computed}
 use Rattle.kr_turns.specs.Held.{Held, Stands, stopped_in, stopped_of}
-use Rattle.kr_turns.specs.Stopped.{IsThere, Stopped, edited, image_at, image_in, no_image}
-use Rattle.kr_turns.proofs.EditLemmas.{computed-lives, there}
+use Rattle.kr_stops.specs.Stopped.{IsThere, Stopped, edited, image_at, image_in, no_image}
+use Rattle.kr_stops.proofs.EditLemmas.{computed-lives, there}
 use Rattle.kr_turns.proofs.NumberLemmas.{computed-numbered, pids-numbered}
 
 module _ {T : Type 0} {M : ℕ} {number : T → ℕ} {table : List Row} {calls pid : ℕ} {s : State T M} where

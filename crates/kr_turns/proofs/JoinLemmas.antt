@@ -10,9 +10,9 @@ use Rattle.kr_turns.specs.Laws.{TurnsAreFunctions}
 use Rattle.kr_turns.specs.Breaking.{plain_rule}
 use Rattle.kr_turns.specs.PlainCall.{Came, plain_call}
 use Rattle.kr_turns.specs.Shelving.{lacks_in}
-use Rattle.kr_turns.specs.Stopped.{Stopped}
+use Rattle.kr_stops.specs.Stopped.{Stopped}
 use Rattle.kr_turns.specs.Turn.{ExitsIfAny, IsAfterEvent, IsAfterPlain, IsBorn, IsTurnOf, IsWatchedCall, Leaves, Machine, Tally, after_born, after_end, after_event, after_exit, after_plain, by_pick, called, calling, turn_of, watched_call, with_broken}
-use Rattle.kr_turns.specs.Watching.{IsGraph, Watcher, Watching}
+use Rattle.kr_stops.specs.Watching.{IsGraph, Watcher, Watching}
 use Rattle.kr_turns.specs.declared.plain.CallEnd.{CallEnd}
 use Rattle.kr_turns.specs.declared.plain.CallEnd.TheVariants as end
 

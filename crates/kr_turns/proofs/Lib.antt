@@ -7,9 +7,9 @@ pub use Rattle.kr_steps.proofs.kr_perform as kr_perform
 pub use Rattle.kr_execve.proofs.kr_exec as kr_exec
 pub use Rattle.kr_calm.proofs as kr_calm
 pub use Rattle.kr_steps.proofs as kr_steps
+pub use Rattle.kr_stops.proofs as kr_stops
 pub mod EditingLemmas
 pub mod HereLemmas
-pub mod EditLemmas
 pub mod NumberLemmas
 pub mod PlainLemmas
 pub mod JoinLemmas

@@ -35,14 +35,14 @@ use Rattle.kr_execve.specs.Executing.{IsExecuted, done}
 use Rattle.kr_steps.specs.Answering.{answered, resumed}
 use Rattle.kr_steps.specs.Computing.{Requests, computed}
 use Rattle.kr_steps.specs.Settling.{settled}
-use Rattle.kr_calm.proofs.kr_rows.UsingLemmas.{memory-is}
+use Rattle.kr_seen.proofs.UsingLemmas.{memory-is}
 use Rattle.kr_turns.specs.Breaking.{decoded_rule, executed_rule, nothing_reached, operated_rule, plain_rule, plain_rule_of, requested_rule, rule_told}
 use Rattle.kr_turns.specs.Coming.{came_to}
 use Rattle.kr_turns.specs.PlainCall.{Came, after_decoding, child_if_made, child_of, decoded_reach, end_of, executed, leads_to_root, operated, plain_call, plain_call_of, plain_reach, plain_reach_of, refusal_told, replaced, request_reach, requested, row_on}
 use Rattle.kr_turns.specs.declared.plain.CallEnd.TheVariants as end
 use Rattle.kr_turns.specs.declared.plain.Plain.{Plain}
 use Rattle.kr_turns.proofs.BreakLemmas.{exec-told, idle-here}
-use Rattle.kr_turns.proofs.EditLemmas.{computed-lives}
+use Rattle.kr_stops.proofs.EditLemmas.{computed-lives}
 use Rattle.kr_turns.proofs.NumberLemmas.{answered-numbered, computed-numbered, execution-numbered, memory-numbered, resumed-numbered, row-numbered, settled-numbered}
 use Rattle.kr_seen.proofs.LookLemmas.{known-numbered, process-numbered}
 

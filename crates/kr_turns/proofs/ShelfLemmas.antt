@@ -14,8 +14,8 @@ use Rattle.kr_seen.specs.kr_ops.Meaning.{meaning}
 use Rattle.kr_seen.specs.Numbered.{state_numbered}
 use Rattle.kr_steps.specs.Computing.{computed}
 use Rattle.kr_turns.specs.Shelving.{lacks_in, shelved_in}
-use Rattle.kr_turns.specs.Stopped.{image_in}
-use Rattle.kr_turns.proofs.EditLemmas.{computed-lives}
+use Rattle.kr_stops.specs.Stopped.{image_in}
+use Rattle.kr_stops.proofs.EditLemmas.{computed-lives}
 use Rattle.kr_turns.proofs.HereLemmas.{image-numbered}
 use Rattle.kr_turns.proofs.NumberLemmas.{computed-numbered}
 

@@ -29,11 +29,11 @@ use Rattle.kr_turns.specs.Making.{ComesOut, IsCallMade, IsLeft, ended_with, mach
 use Rattle.kr_turns.specs.Breaking.{plain_rule}
 use Rattle.kr_turns.specs.PlainCall.{Came, plain_call}
 use Rattle.kr_turns.specs.Shelving.{lacks_in, shelved_in}
-use Rattle.kr_turns.specs.Stopped.{Stopped}
+use Rattle.kr_stops.specs.Stopped.{Stopped}
 use Rattle.kr_turns.specs.Turn.{ExitsIfAny, IsAfterEvent, IsAfterPlain, IsBorn, IsTurnOf, Machine, Tally, killed, with_broken}
-use Rattle.kr_turns.specs.Watching.{Watching}
+use Rattle.kr_stops.specs.Watching.{Watching}
 use Rattle.kr_turns.specs.declared.plain.Plain.{Plain}
-use Rattle.kr_turns.proofs.EditLemmas.{computed-lives}
+use Rattle.kr_stops.proofs.EditLemmas.{computed-lives}
 use Rattle.kr_turns.proofs.NumberLemmas.{computed-numbered}
 
 module _ {S T : Type 0} {M : ℕ} (w : Watching S) (number : T → ℕ) (pid : ℕ) (at_root : Bool) (old : State T M) (x : S) where

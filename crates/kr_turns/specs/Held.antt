@@ -8,7 +8,7 @@ use Rattle.kr_seen.specs.kr_ops.declared.state.State.{State}
 use Rattle.kr_seen.specs.kr_ops.Meaning.{meaning}
 use Rattle.kr_seen.specs.Numbered.{state_numbered}
 use Rattle.kr_steps.specs.Calls.{Runs}
-use Rattle.kr_turns.specs.Stopped.{Stopped}
+use Rattle.kr_stops.specs.Stopped.{Stopped}
 
 -- the process of a number in a state of the code
 abbrev pub stopped_in : {T : Type 0} {M : ℕ} → (T → ℕ) → State T M → (pid : ℕ) → Bool → Stopped

@@ -4,7 +4,7 @@ use Rattle.kr_execve.specs.kr_view.View.{Row}
 use Rattle.kr_seen.specs.kr_model.State.{Image, Process}
 use Rattle.kr_steps.specs.Waiting.{picked_process}
 use Rattle.kr_turns.specs.Turn.{IsTurnOf, Machine, turn}
-use Rattle.kr_turns.specs.Watching.{IsGraph, Watcher, Watching}
+use Rattle.kr_stops.specs.Watching.{IsGraph, Watcher, Watching}
 
 -- where the relations of a watcher are the graphs of functions, a turn by the relations is the turn by the functions; and where no
 -- process is ready nothing changes

@@ -13,11 +13,9 @@ pub use Rattle.kr_execve.specs.kr_exec as kr_exec
 pub use Rattle.kr_execve.specs as kr_execve
 pub use Rattle.kr_calm.specs as kr_calm
 pub use Rattle.kr_steps.specs as kr_steps
-pub mod Stopped
-pub mod Editing
+pub use Rattle.kr_stops.specs as kr_stops
 pub mod Held
 pub mod HeldLaws
-pub mod Watching
 pub mod Shelving
 pub mod PlainCall
 pub mod Breaking

@@ -7,15 +7,11 @@ use Rattle.kr_seen.specs.kr_ops.declared.state.State.{State}
 use Rattle.kr_seen.specs.kr_ops.Meaning.{meaning}
 use Rattle.kr_seen.specs.Numbered.{state_numbered}
 use Rattle.kr_turns.specs.Held.{stopped_in}
-use Rattle.kr_turns.specs.Stopped.{Stopped}
 use Rattle.kr_turns.specs.Turn.{ExitsIfAny, IsTurnOf, IsWatchedCall, Leaves, Machine, Tally, called, with_broken, with_status}
-use Rattle.kr_turns.specs.Watching.{Watching}
+use Rattle.kr_stops.specs.Watching.{Watching}
 use Rattle.kr_turns.specs.Coming.{came_to}
 use Rattle.kr_turns.specs.declared.plain.Plain.{Plain}
 use Rattle.kr_turns.specs.declared.turn.Made.{Made}
-
-abbrev pub watching : {S : Type 0} → (enters exits : S → Stopped → S → Stopped → Type 0) → (bears : S → ℕ → ℕ → S → Type 0) → (forgets : S → ℕ → S → Type 0) → Watching S
-watching enters exits bears forgets = record { enters = enters; exits = exits; bears = bears; forgets = forgets }
 
 -- with the status of the last process that ended, if one did
 abbrev pub ended_with : Option ℕ → Tally → Tally

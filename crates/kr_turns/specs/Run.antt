@@ -5,7 +5,7 @@ use Rattle.kr_execve.specs.kr_view.View.{Row}
 use Rattle.kr_seen.specs.kr_model.State.{Image, State}
 use Rattle.kr_steps.specs.Waiting.{ready_processes}
 use Rattle.kr_turns.specs.Turn.{Machine, turn}
-use Rattle.kr_turns.specs.Watching.{Watcher}
+use Rattle.kr_stops.specs.Watching.{Watcher}
 
 -- which of the ready processes runs in a turn, and for how many instructions at most
 pub record Slot : Type 0 where

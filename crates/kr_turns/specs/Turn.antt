@@ -14,8 +14,8 @@ use Rattle.kr_calm.specs.Calm.{kept}
 use Rattle.kr_turns.specs.Breaking.{idle_rule, killed_rule, no_mounts, plain_rule}
 use Rattle.kr_turns.specs.PlainCall.{Came, plain_call}
 use Rattle.kr_turns.specs.Shelving.{lacks_in, shelved_in}
-use Rattle.kr_turns.specs.Stopped.{Stopped}
-use Rattle.kr_turns.specs.Watching.{Watcher, Watching}
+use Rattle.kr_stops.specs.Stopped.{Stopped}
+use Rattle.kr_stops.specs.Watching.{Watcher, Watching}
 use Rattle.kr_turns.specs.declared.plain.CallEnd.{CallEnd}
 use Rattle.kr_turns.specs.declared.plain.CallEnd.TheVariants as end
 

@@ -7,7 +7,7 @@ ghost use Rattle.kr_seen.specs.kr_model.State.{process};
 ghost use Rattle.kr_seen.specs.kr_ops.Meaning.{meaning};
 ghost use Rattle.kr_seen.specs.kr_ops.Sound.{IsSound};
 ghost use Rattle.kr_steps.specs.Computing.{computed};
-ghost use Rattle.kr_turns.specs.Stopped.{image_in};
+ghost use Rattle.kr_stops.specs.Stopped.{image_in};
 ghost use Rattle.kr_execve.specs.kr_view.View.{Row};
 
 use kr_seen::below::State;

@@ -10,13 +10,13 @@ ghost use Rattle.kr_turns.specs.Held.{Around, Left, Stands, around_of, left_of, 
 ghost use Rattle.kr_turns.specs.HeldLaws.{held-texts, left-parts};
 
 use crate::editing;
-use crate::tracee::Tracee;
 use kr_execve::below::{CallFault, Places, Request};
 use kr_hostview::below::{BaseKind, Bytes, NoMemory, PeekFault, PeekKind, Peeks};
 use kr_hostview::host_peeks;
 use kr_seen::below::{State, lawful_states_are_sound};
 use kr_steps::below::{BadAddress, StoreFault, Use};
 use kr_steps::request;
+use kr_stops::Tracee;
 use std::alloc::Global;
 use std::marker::Model;
 

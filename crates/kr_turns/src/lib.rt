@@ -4,10 +4,7 @@
 //!
 //! A turn of a process, with a call and what a watcher does at its two stops. kr_core takes it up.
 //!
-//! `Stops` is a watcher, `Tracee` the stopped process as it sees it: `set_reg` changes one register, `peek` and `poke` read and write exactly the
-//! range that is asked, `request` is the decoding of what stands there, and a peek answers what the host's own view shows over the state (clauses
-//! `set`, `when`, `bytes`, `after`, `err` and the law `peeks_at_state`). At a stop at most the registers but the program counter, and the bytes
-//! of the memory, are changed (`edits`). `Unwatched` does nothing.
+//! A watcher and the stopped process as it sees it are kr_stops'.
 //!
 //! `plain_call` decodes the request of a process, walks its paths, carries out its row or puts the new program in place, and tells the caller
 //! (`came`, `reach`): exactly the definition, over the state with its mounts told by their numbers (`PlainCall.antt`). Beside that it tells the
@@ -32,12 +29,9 @@ mod judging;
 pub mod laws;
 mod plain;
 mod shelving;
-mod stops;
-mod tracee;
 mod turn;
 
 pub use kr_steps::{picked, ready};
+pub use kr_stops::{Stops, Tracee, Unwatched};
 pub use plain::{CallEnd, Plain, plain_call};
-pub use stops::{Stops, Unwatched};
-pub use tracee::Tracee;
 pub use turn::{Made, make_turn};

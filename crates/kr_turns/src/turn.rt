@@ -4,22 +4,23 @@ ghost use Rattle.kr_steps.specs.law_allowed.Told.{SourcesAreNamed};
 ghost use Rattle.kr_steps.specs.Calls.{Runs};
 ghost use Rattle.kr_seen.specs.kr_model.State.{process};
 ghost use Rattle.kr_seen.specs.kr_ops.Meaning.{meaning};
-ghost use Rattle.kr_turns.specs.Making.{ComesOut, IsCallMade, IsLeft, IsTurnMade, watching};
+ghost use Rattle.kr_turns.specs.Making.{ComesOut, IsCallMade, IsLeft, IsTurnMade};
+ghost use Rattle.kr_stops.specs.Watching.{watching};
 ghost use Rattle.kr_turns.specs.Held.{Stands, stopped_in};
-ghost use Rattle.kr_turns.specs.Stopped.{IsEdited};
+ghost use Rattle.kr_stops.specs.Stopped.{IsEdited};
 ghost use Rattle.kr_turns.specs.Turn.{IsBorn};
 
 use crate::here::Here;
 use crate::judging::{NOTHING, idle_rule, killed_rule};
 use crate::plain::{CallEnd, Plain, plain_call};
 use crate::shelving::shelve;
-use crate::stops::Stops;
 use kr_execve::below::Places;
 use kr_execve::marks_read;
 use kr_hostview::below::NoMemory;
 use kr_seen::below::{State, lawful_states_are_sound};
 use kr_steps::below::Event;
 use kr_steps::{compute, kill};
+use kr_stops::Stops;
 use std::alloc::Global;
 
 /// What a turn told.

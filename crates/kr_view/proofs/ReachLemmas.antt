@@ -12,7 +12,7 @@ use Rattle.kr_view.specs.Component.{Surroundings, look_up, meets_processes}
 use Rattle.kr_view.specs.Names.{Text, component_name, directory_name, landing_name}
 use Rattle.kr_view.specs.Walk.{PlaceTrail, PlaceTarget}
 use Rattle.kr_view.specs.Reach.{Covers, raised, raised_by_all, seen_name, names_entry, named_entry, look_names, noted, end_names, look_reach, looks_reach, reached_landing, landings_reach, end_reach, reach_after}
-use Rattle.kr_view.specs.inside.Steps.{HasReached}
+use Rattle.kr_view.specs.Answers.{HasReached}
 
 pub covers_refl : (r : Reach) → Covers r r
 covers_refl r = record { longest = omega arith; met_proc = λ h. h }

@@ -6,7 +6,7 @@ use Rattle.std.proofs.lemmas.List.{length-drop, drop-drop, take-append-drop}
 use Rattle.kr_tree.specs.pr_base.Paths.{slash, is_slash, not_empty, parts_of, has_parts}
 use Rattle.kr_tree.specs.pr_base.Pieces.{BeginsName, BeginsSlash}
 use Rattle.kr_tree.proofs.pr_base.PathLemmas.{first_part}
-use Rattle.kr_view.specs.inside.Begins.{begins_part}
+use Rattle.kr_view.specs.Begins.{begins_part}
 
 -- what was put onto the first piece isn't empty
 onto_has_parts : (b : ℕ) (pieces : List (List ℕ)) → has_parts (not_empty (onto_first b pieces)) ≡ true

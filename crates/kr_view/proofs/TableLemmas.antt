@@ -14,8 +14,7 @@ use Rattle.kr_tree.specs.declared.place.Place.{Place}
 use Rattle.kr_tree.specs.Tree.{Tree, root, body, body_is, inode, entry, is_directory, is_listed}
 use Rattle.kr_tree.specs.Lawful.{IsSound}
 use Rattle.kr_tree.proofs.CountLemmas.{root_directory}
-use Rattle.kr_view.specs.inside.Ways.{ino_of}
-use Rattle.kr_view.specs.View.{Point, Row, row, node_in, root_source, root_place, source_place, is_name_at, is_point, stands_at, down, point_place, up, is_there, covered, source, source_entry, plain, plain_row, IsTable, PointStands, StandsIn, IsAsSettled}
+use Rattle.kr_view.specs.View.{Point, Row, row, node_in, root_source, root_place, source_place, is_name_at, is_point, stands_at, down, point_place, up, is_there, covered, source, source_entry, plain, plain_row, IsTable, PointStands, StandsIn, IsAsSettled, ino_of}
 use Rattle.kr_view.specs.Laws.{IsSettledSource, IsDirectoryIn, LawsOfPlaces}
 
 pub same_some : {A : Type 0} (a b : A) → Some a ≡ Some b → a ≡ b

@@ -2,6 +2,7 @@
 use Rattle.std.specs.Prelude.{ℕ, ◌≡◌, Result, Ok, Err}
 use Rattle.std.specs.Option.{option_map}
 use Rattle.kr_tree.specs.pr_base.declared.errno.Errno.{Errno}
+use Rattle.kr_tree.specs.pr_base.declared.memory.NoMemory.{NoMemory}
 use Rattle.kr_tree.specs.pr_base.declared.path.WalkMode.{WalkMode}
 use Rattle.kr_view.specs.declared.target.Target.{Target}
 use Rattle.kr_view.specs.declared.target.WalkFault.{WalkFault}
@@ -36,3 +37,8 @@ abbrev pub IsReached : {T : Type 0} → Surroundings → WalkMode → PlaceTrail
 IsReached around mode trail old new (Ok target) = new ≡ reach_after around mode trail old
 IsReached around mode trail old new (Err (fault.Err e)) = new ≡ reach_after around mode trail old
 IsReached around mode trail old new (Err fault.NoMemory) = Covers new old × Covers (reach_after around mode trail old) new
+
+-- a part of a walk that doesn't answer for want of memory has reached all, another a part
+abbrev pub HasReached : {T : Type 0} → Reach → Reach → Reach → Result T NoMemory → Type 0
+HasReached whole old new (Ok x) = new ≡ whole
+HasReached whole old new (Err e) = Covers new old × Covers whole new

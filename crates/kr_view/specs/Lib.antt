@@ -1,10 +1,10 @@
 pub use Rattle.kr_tree.specs.kr_inode as kr_inode
 pub use Rattle.kr_tree.specs as kr_tree
 pub mod Answers
+pub mod Begins
 pub mod Component
 pub mod GuestNames
 pub mod HostReach
-pub mod inside
 pub mod InTree
 pub mod Laws
 pub mod Leads

@@ -164,3 +164,8 @@ pub record StandsIn (t : Tree) (table : List Row) : Type 0 where
 pub record IsAsSettled (t : Tree) (table : List Row) : Type 0 where
   pub named : (k : ℕ) (r : Row) → row table k ≡ Some r → r.is_dir ≡ false → IsName r.source_name
   pub entered : (k : ℕ) (r : Row) → row table k ≡ Some r → r.is_dir ≡ false → entry t r.source_dir r.source_name ≡ Some r.source
+
+-- the inode of an object: its own, or that of the process directory
+abbrev pub ino_of : Host → ℕ
+ino_of (Node i) = i
+ino_of (Proc i at) = i

@@ -2,22 +2,13 @@
 //!
 //! What is proved, with the clause or the law that carries it:
 //!
-//! Path resolution over any view.
+//! What path resolution over any view is, and its laws; kr_walk has the code.
 //!
 //! A view is a table of mounts as plain data; `Places` has it as its meaning, and each of its methods is computed from it. `Plain`, the host's
 //! own view, is the table of one row. A view that stands in a tree has the laws of mounts: what `root`, `down` and `up` give is there and of its
 //! settled kind, from a mount's source one comes back to the directory of its mount point, and covered names are entries
 //! (`places_have_their_laws`); the host's own view stands in every tree, and is as it was settled (`plain_stands`). While a table is as it was
 //! settled, what a call is told of a mount's source that is no directory is the entry that leads to it (`settled_sources_are_entries`).
-//!
-//! `resolve` answers exactly the walk of the definition, over every view and every process directory (`answer`): the rules of a walk over looking
-//! at places. `reach` becomes exactly what that walk reaches, the longest host name, that of a mount point included at which a path ends that
-//! names an entry, and whether a name was looked up in the process directory, also where it answers an errno; after want of memory it stands
-//! between the old value and that (`reach`).
-//!
-//! `guest_name` answers exactly the guest name of the definition, want of memory aside. It goes by the place: the source of a mount has the
-//! mount's location, whatever it is named now; what is no directory and remembers no entry has no guest name; what is below has the location
-//! followed by the names from the source down; over the host's own view it is the host name (`guest_names_go_by_places`).
 //!
 //! What every process directory keeps is a definition (`LawsOfProcesses`); `NoProcs` finds nothing, leads nowhere and keeps it
 //! (`no_processes_keep_laws`), and so does one that shows a directory for each living process and a link for each of its descriptors
@@ -37,27 +28,17 @@
 //! stands there says (`entries_are_found`), with `.` behind it as search says (`directories_are_searched`), and with more behind it as that does
 //! from there (`walks_go_on_behind_texts`).
 //!
-//! Only tested, or not shown: `view_tests`: walks over a tree that is made, in each mode, and what they reach.
+//! Only tested, or not shown: `view_tests`.
 #![tactic(auto)]
 
 pub mod below;
-mod component;
-mod guest;
 pub mod laws;
-mod name;
-mod position;
 pub mod procs;
 pub mod reach_laws;
-mod rest;
-mod rests;
-mod surroundings;
 pub mod target;
 pub mod view;
-mod walk;
 
-pub use guest::guest_name;
 pub use kr_tree::{Host, Ino, Place, ProcAt};
 pub use procs::{Lead, NoProcs, Procs};
 pub use target::{Reach, Target, WalkFault};
 pub use view::{HostMount, MountRow, Places, Plain};
-pub use walk::resolve;

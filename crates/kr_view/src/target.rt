@@ -49,7 +49,7 @@ impl Reach {
     ghost use Rattle.kr_view.specs.Reach.{greater};
 
     /// Raises the longest length to one that is there and greater.
-    pub(crate) fn raise(&mut self, length: Option<u64>)
+    pub fn raise(&mut self, length: Option<u64>)
         ensures longest { self.new.longest ≡ greater length self.old.longest }
         ensures met_proc { self.new.met_proc ≡ self.old.met_proc }
     {
@@ -59,7 +59,7 @@ impl Reach {
     }
 
     /// Notes whether a name was looked up in the process directory.
-    pub(crate) fn meet(&mut self, met: bool)
+    pub fn meet(&mut self, met: bool)
         ensures longest { self.new.longest ≡ self.old.longest }
         ensures met_proc { self.new.met_proc ≡ (self.old.met_proc || met) }
     {

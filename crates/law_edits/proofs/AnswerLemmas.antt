@@ -1,23 +1,23 @@
 -- What a tracer writes and answers in place of a kernel, beside what that kernel would write and answer.
 use Rattle.std.proofs.Common.{◌≡◌, ℕ, Bool, true, false, cond, List, [], ◌∷◌, length, Some, refl, sym, ap, subst, ◌∙◌, pos}
 use Rattle.std.specs.Prelude.{◌&&◌, IsSome}
-use Rattle.pt_watched.specs.pr_base.declared.errno.Errno.{Errno}
-use Rattle.pt_watched.specs.pr_base.declared.errno.Errno.TheVariants.{EFAULT}
-use Rattle.pt_watched.specs.rv_mem.Actions.{AreEqualUnmarked, Done, MayUse, WriteBytes, carried_out, write_if_allowed}
-use Rattle.pt_watched.specs.rv_mem.Memory.{Memory, with_pages}
-use Rattle.pt_watched.specs.rv_mem.Pages.{Pages, allows_all, written}
-use Rattle.pt_watched.specs.rv_mem.declared.rights.Use.{Use}
-use Rattle.pt_watched.specs.rv_mem.declared.rights.Use.TheVariants.{Write}
-use Rattle.pt_watched.proofs.rv_mem.ActionLemmas.{AreEqualUnmarked-written, reads_alike}
+use Rattle.pt_tracer.specs.pr_base.declared.errno.Errno.{Errno}
+use Rattle.pt_tracer.specs.pr_base.declared.errno.Errno.TheVariants.{EFAULT}
+use Rattle.pt_tracer.specs.rv_mem.Actions.{AreEqualUnmarked, Done, MayUse, WriteBytes, carried_out, write_if_allowed}
+use Rattle.pt_tracer.specs.rv_mem.Memory.{Memory, with_pages}
+use Rattle.pt_tracer.specs.rv_mem.Pages.{Pages, allows_all, written}
+use Rattle.pt_tracer.specs.rv_mem.declared.rights.Use.{Use}
+use Rattle.pt_tracer.specs.rv_mem.declared.rights.Use.TheVariants.{Write}
+use Rattle.pt_tracer.proofs.rv_mem.ActionLemmas.{AreEqualUnmarked-written, reads_alike}
 use Rattle.law_walks.specs.kr_model.Reply.{done, refuse}
 use Rattle.law_walks.specs.kr_model.State.{Image, process}
-use Rattle.pt_watched.specs.kr_turns.Stopped.{IsThere, Stopped, image_at}
-use Rattle.pt_watched.proofs.kr_turns.EditLemmas.{computed-lives, image-edited}
+use Rattle.kr_turns.specs.kr_stops.Stopped.{IsThere, Stopped, image_at}
+use Rattle.kr_turns.proofs.kr_stops.EditLemmas.{computed-lives, image-edited}
 use Rattle.pt_args.specs.declared.edit.Edit.TheVariants.{Cancel, Emulate}
-use Rattle.pt_watched.specs.pt_faker.Faking.{no_longer_called}
-use Rattle.pt_watched.specs.pt_faker.Stopping.{after_poke, memory_at, with_register}
-use Rattle.pt_watched.specs.pt_ident.Identity.{refusal}
-use Rattle.pt_watched.specs.Watched.{applied, refused}
+use Rattle.pt_tracer.specs.pt_faker.Faking.{no_longer_called}
+use Rattle.pt_tracer.specs.pt_faker.Stopping.{after_poke, memory_at, with_register}
+use Rattle.pt_tracer.specs.pt_ident.Identity.{refusal}
+use Rattle.pt_tracer.specs.Watched.{applied, refused}
 use Rattle.law_edits.specs.Answers.{AreAnsweredAlike}
 
 -- pages of the same rights may be used alike

@@ -3,24 +3,24 @@ use Rattle.std.proofs.Common.{◌≡◌, ℕ, ◌<◌, Bool, true, false, length
 use Rattle.std.specs.Prelude.{IsSome}
 use Rattle.std.specs.Option.{option_map_or}
 use Rattle.std.proofs.lemmas.List.{get_or-set_same}
-use Rattle.pt_watched.specs.pr_base.declared.errno.Errno.TheVariants.{EFAULT, ENOSYS}
-use Rattle.pt_watched.specs.rv_mem.Actions.{CarriedOut, carried_out}
-use Rattle.pt_watched.specs.rv_mem.Memory.{Memory, with_pages}
-use Rattle.pt_watched.specs.rv_mem.declared.regs.Regs.{Regs}
+use Rattle.pt_tracer.specs.pr_base.declared.errno.Errno.TheVariants.{EFAULT, ENOSYS}
+use Rattle.pt_tracer.specs.rv_mem.Actions.{CarriedOut, carried_out}
+use Rattle.pt_tracer.specs.rv_mem.Memory.{Memory, with_pages}
+use Rattle.pt_tracer.specs.rv_mem.declared.regs.Regs.{Regs}
 use Rattle.pt_args.specs.kr_calls.Decoding.{Decoded, decoding}
 use Rattle.law_walks.specs.kr_model.State.{Image, Process, process}
-use Rattle.pt_watched.specs.kr_steps.Computing.{computed}
-use Rattle.pt_watched.specs.kr_turns.PlainCall.{after_decoding, plain_call_of, refusal_told}
-use Rattle.pt_watched.specs.kr_turns.Stopped.{IsThere, Stopped, edited, image_at, no_image}
-use Rattle.pt_watched.specs.kr_turns.declared.plain.CallEnd.TheVariants as end
+use Rattle.kr_turns.specs.kr_steps.Computing.{computed}
+use Rattle.kr_turns.specs.PlainCall.{after_decoding, plain_call_of, refusal_told}
+use Rattle.kr_turns.specs.kr_stops.Stopped.{IsThere, Stopped, edited, image_at, no_image}
+use Rattle.kr_turns.specs.declared.plain.CallEnd.TheVariants as end
 use Rattle.pt_args.specs.Laws.{poked as pages_poked}
 use Rattle.pt_args.specs.declared.edit.Edit.{Edit}
 use Rattle.pt_args.specs.declared.edit.Edit.TheVariants.{Cancel, Emulate, Pass, Swap}
-use Rattle.pt_watched.specs.pt_faker.Faking.{no_call, no_longer_called}
-use Rattle.pt_watched.specs.pt_faker.Stopping.{after_request, decoded_at, memory_at, with_memory}
-use Rattle.pt_watched.specs.Poking.{may_poke, poked}
-use Rattle.pt_watched.specs.Registers.{with_arguments}
-use Rattle.pt_watched.specs.Watched.{applied, refused}
+use Rattle.pt_tracer.specs.pt_faker.Faking.{no_call, no_longer_called}
+use Rattle.pt_tracer.specs.pt_faker.Stopping.{after_request, decoded_at, memory_at, with_memory}
+use Rattle.pt_tracer.specs.Poking.{may_poke, poked}
+use Rattle.pt_tracer.specs.Registers.{with_arguments}
+use Rattle.pt_tracer.specs.Watched.{applied, refused}
 use Rattle.law_edits.specs.Answered.{AnsweredCallsAreNone, PlainCallsAreDecoded, StandsAtNoCall}
 use Rattle.law_edits.specs.NoCalls.{without_call}
 use Rattle.law_edits.proofs.NoCallLemmas.{refused_at}

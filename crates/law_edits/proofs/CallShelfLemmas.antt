@@ -3,10 +3,10 @@ use Rattle.std.proofs.Common.{◌≡◌, ℕ, Bool, true, false, cond, Option, S
 use Rattle.std.specs.Prelude.{◌&&◌, ◌||◌, ◌-◌, not, nat_le, nat_lt, List, IsSome}
 use Rattle.std.specs.Option.{option_map_or}
 use Rattle.std.proofs.lemmas.Bool.Decides.{nat_tests}
-use Rattle.pt_watched.specs.rv_mem.Actions.{AreEqualUnmarked, carried_out}
-use Rattle.pt_watched.specs.rv_mem.Pages.{Pages, allows_all}
-use Rattle.pt_watched.specs.rv_mem.declared.regs.Regs.{Regs}
-use Rattle.pt_watched.specs.rv_mem.declared.rights.Use.TheVariants.{Read, Write}
+use Rattle.pt_tracer.specs.rv_mem.Actions.{AreEqualUnmarked, carried_out}
+use Rattle.pt_tracer.specs.rv_mem.Pages.{Pages, allows_all}
+use Rattle.pt_tracer.specs.rv_mem.declared.regs.Regs.{Regs}
+use Rattle.pt_tracer.specs.rv_mem.declared.rights.Use.TheVariants.{Read, Write}
 use Rattle.law_walks.specs.kr_view.View.{Row}
 use Rattle.pt_args.specs.kr_calls.Arguments.{number}
 use Rattle.pt_args.specs.kr_calls.Decoding.{Decoded, decoding}
@@ -16,15 +16,15 @@ use Rattle.law_walks.specs.kr_model.Known.{known}
 use Rattle.law_walks.specs.kr_model.Operation.{operation}
 use Rattle.law_walks.specs.kr_model.State.{Image, Process, State, image_layout, process}
 use Rattle.law_walks.specs.kr_model.Walks.{seen}
-use Rattle.pt_watched.specs.kr_seen.Carrying.{memory_of}
-use Rattle.pt_watched.specs.kr_calm.Shelf.{has_path, is_usable, lacks_shelf_by, shelf_size, shelved_by, stack_pointer}
-use Rattle.pt_watched.specs.kr_execve.Execution.{execution}
-use Rattle.pt_watched.specs.kr_steps.Computing.{computed}
-use Rattle.pt_watched.specs.kr_turns.Breaking.{decoded_rule, plain_rule_of, requested_rule}
-use Rattle.pt_watched.specs.kr_turns.Shelving.{lacks_in, shelved_in}
-use Rattle.pt_watched.specs.kr_turns.Stopped.{image_at, image_in, no_image}
-use Rattle.pt_watched.proofs.kr_turns.EditLemmas.{computed-lives}
-use Rattle.pt_watched.specs.pt_faker.Stopping.{memory_at}
+use Rattle.kr_turns.specs.kr_seen.Carrying.{memory_of}
+use Rattle.kr_turns.specs.kr_calm.Shelf.{has_path, is_usable, lacks_shelf_by, shelf_size, shelved_by, stack_pointer}
+use Rattle.kr_turns.specs.kr_execve.Execution.{execution}
+use Rattle.kr_turns.specs.kr_steps.Computing.{computed}
+use Rattle.kr_turns.specs.Breaking.{decoded_rule, plain_rule_of, requested_rule}
+use Rattle.kr_turns.specs.Shelving.{lacks_in, shelved_in}
+use Rattle.kr_turns.specs.kr_stops.Stopped.{image_at, image_in, no_image}
+use Rattle.kr_turns.proofs.kr_stops.EditLemmas.{computed-lives}
+use Rattle.pt_tracer.specs.pt_faker.Stopping.{memory_at}
 use Rattle.law_edits.specs.CallShelves.{CalmCallsHaveShelves, ShelvesAreSeen}
 use Rattle.law_edits.proofs.AnswerLemmas.{allowed_alike}
 

@@ -1,14 +1,14 @@
 -- What a walk counts of where it ends: the names of the directory and of what was found are at most as long as what it reached.
 use Rattle.std.proofs.Common.{◌≡◌, ◌≢◌, ◌≤◌, ℕ, zero, suc, Bool, true, false, ◌||◌, List, [], ◌∷◌, ◌++◌, Option, Some, None, Result, Ok, refl, sym, ap, subst, arith, ◌∙◌}
 use Rattle.std.specs.Bool.{if◌then◌else◌}
-use Rattle.pt_watched.specs.pr_base.Paths.{Component, components_of, has_slash, kind_of}
-use Rattle.pt_watched.specs.pr_base.Texts.{Text}
-use Rattle.pt_watched.specs.pr_base.WalkFrame.{Fails, Missing, Leads, Links, Jumps, Landing, LookedAt, Onward, along, at_last, begins_at, ends, ends_found, ends_landed, fails, here, in_middle, is_followed, jumps_on, landed, loops, may_be_free, most_links, name_of, target_at, walk_on, wants_directory}
-use Rattle.pt_watched.specs.pr_base.declared.errno.Errno.{Errno}
-use Rattle.pt_watched.specs.pr_base.declared.errno.Errno.TheVariants.{ELOOP, ENOENT, ENOTDIR}
-use Rattle.pt_watched.specs.pr_base.declared.path.Last.TheVariants as last
-use Rattle.pt_watched.specs.pr_base.declared.path.WalkMode.{WalkMode}
-use Rattle.pt_watched.proofs.pr_base.EndLemmas.{same_target}
+use Rattle.pt_tracer.specs.pr_base.Paths.{Component, components_of, has_slash, kind_of}
+use Rattle.pt_tracer.specs.pr_base.Texts.{Text}
+use Rattle.pt_tracer.specs.pr_base.WalkFrame.{Fails, Missing, Leads, Links, Jumps, Landing, LookedAt, Onward, along, at_last, begins_at, ends, ends_found, ends_landed, fails, here, in_middle, is_followed, jumps_on, landed, loops, may_be_free, most_links, name_of, target_at, walk_on, wants_directory}
+use Rattle.pt_tracer.specs.pr_base.declared.errno.Errno.{Errno}
+use Rattle.pt_tracer.specs.pr_base.declared.errno.Errno.TheVariants.{ELOOP, ENOENT, ENOTDIR}
+use Rattle.pt_tracer.specs.pr_base.declared.path.Last.TheVariants as last
+use Rattle.pt_tracer.specs.pr_base.declared.path.WalkMode.{WalkMode}
+use Rattle.pt_tracer.proofs.pr_base.EndLemmas.{same_target}
 use Rattle.law_walks.specs.kr_tree.declared.place.Place.{Place}
 use Rattle.law_walks.specs.kr_view.declared.target.Reach.{Reach}
 use Rattle.law_walks.specs.kr_view.Component.{SeenPlace, Surroundings, look_up}

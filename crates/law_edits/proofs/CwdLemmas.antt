@@ -2,11 +2,11 @@
 use Rattle.std.proofs.Common.{◌≡◌, ℕ, ◌+◌, Bool, true, false, cond, List, [], ◌∷◌, ◌++◌, length, Option, Some, sym, ap, subst, ◌∙◌, pos}
 use Rattle.std.specs.Prelude.{nat_lt, ◌||◌}
 use Rattle.std.specs.Option.{option_and_then, option_map}
-use Rattle.pt_watched.specs.pr_base.Paths.{text_of}
-use Rattle.pt_watched.specs.pr_base.Texts.{Text}
-use Rattle.pt_watched.specs.pr_base.declared.errno.Errno.TheVariants.{EFAULT, ERANGE}
-use Rattle.pt_watched.specs.rv_mem.Actions.{AreEqualUnmarked, carried_out, write_if_allowed}
-use Rattle.pt_watched.specs.rv_mem.Memory.{Memory}
+use Rattle.pt_tracer.specs.pr_base.Paths.{text_of}
+use Rattle.pt_tracer.specs.pr_base.Texts.{Text}
+use Rattle.pt_tracer.specs.pr_base.declared.errno.Errno.TheVariants.{EFAULT, ERANGE}
+use Rattle.pt_tracer.specs.rv_mem.Actions.{AreEqualUnmarked, carried_out, write_if_allowed}
+use Rattle.pt_tracer.specs.rv_mem.Memory.{Memory}
 use Rattle.law_walks.specs.kr_tree.declared.place.Place.{Place}
 use Rattle.law_walks.specs.kr_view.HostReach.{host_place}
 use Rattle.law_walks.specs.kr_view.View.{Row}
@@ -15,16 +15,16 @@ use Rattle.law_walks.specs.kr_model.DirectoryRows.{getcwd_row, tell_directory}
 use Rattle.law_walks.specs.kr_model.ProcessDirectory.{name_text, space_of}
 use Rattle.law_walks.specs.kr_model.Reply.{done, refuse}
 use Rattle.law_walks.specs.kr_model.State.{Image, Process, State}
-use Rattle.pt_watched.specs.kr_turns.Stopped.{IsThere, Stopped}
+use Rattle.kr_turns.specs.kr_stops.Stopped.{IsThere, Stopped}
 use Rattle.pt_args.specs.Bases.{tagged_text}
 use Rattle.pt_args.specs.declared.edit.Edit.TheVariants.{Cancel, Emulate}
 use Rattle.pt_args.specs.Shelving.{with_zero}
-use Rattle.pt_watched.specs.pt_bind.Binding.{guest_of}
-use Rattle.pt_watched.specs.pt_bind.Tags.{TagTable, tag_of}
-use Rattle.pt_watched.specs.pt_bind.declared.slot.Slot.TheVariants as slot
-use Rattle.pt_watched.specs.pt_results.Answers.{directory_answer, text_answer}
-use Rattle.pt_watched.specs.pt_faker.Stopping.{memory_at}
-use Rattle.pt_watched.specs.Watched.{applied}
+use Rattle.pt_tracer.specs.pt_bind.Binding.{guest_of}
+use Rattle.pt_tracer.specs.pt_bind.Tags.{TagTable, tag_of}
+use Rattle.pt_tracer.specs.pt_bind.declared.slot.Slot.TheVariants as slot
+use Rattle.pt_tracer.specs.pt_results.Answers.{directory_answer, text_answer}
+use Rattle.pt_tracer.specs.pt_faker.Stopping.{memory_at}
+use Rattle.pt_tracer.specs.Watched.{applied}
 use Rattle.law_walks.specs.Settled.{host_text}
 use Rattle.law_walks.specs.States.{IsInUse, host_space}
 use Rattle.law_walks.proofs.InUseLemmas.{guest_is, host_is, read_back, tag_is}

@@ -1,8 +1,8 @@
 -- A call whose paths were swapped is decoded to its request with the new texts.
 use Rattle.std.proofs.Common.{◌≡◌, ◌≢◌, ℕ, ◌≤◌, false, Option, Some, None, Ok, arith, sym, subst}
-use Rattle.pt_watched.specs.rv_mem.Actions.{AreEqualUnmarked, carried_out}
-use Rattle.pt_watched.specs.rv_mem.Memory.{Memory}
-use Rattle.pt_watched.specs.rv_mem.declared.regs.Regs.{Regs}
+use Rattle.pt_tracer.specs.rv_mem.Actions.{AreEqualUnmarked, carried_out}
+use Rattle.pt_tracer.specs.rv_mem.Memory.{Memory}
+use Rattle.pt_tracer.specs.rv_mem.declared.regs.Regs.{Regs}
 use Rattle.pt_args.specs.kr_calls.Arguments.{number}
 use Rattle.pt_args.specs.kr_calls.Decoding.{decoding}
 use Rattle.pt_args.specs.kr_calls.declared.request.Request.{Request}

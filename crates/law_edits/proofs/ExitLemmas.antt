@@ -6,19 +6,19 @@ use Rattle.std.specs.Int.{cast_signed, w64}
 use Rattle.std.proofs.lemmas.Bool.{cases_eq, eq-eqb}
 use Rattle.std.proofs.lemmas.Grind.{same_number_lists}
 use Rattle.std.proofs.lemmas.List.{get_or-set_other, get_or-set_same, length-set}
-use Rattle.pt_watched.specs.rv_mem.Memory.{Memory}
+use Rattle.pt_tracer.specs.rv_mem.Memory.{Memory}
 use Rattle.pt_args.specs.kr_calls.declared.request.Request.{Request}
 use Rattle.law_walks.specs.kr_model.State.{Image}
-use Rattle.pt_watched.specs.kr_turns.Stopped.{IsThere, Stopped, edited, image_at}
-use Rattle.pt_watched.specs.pt_results.Notes.{noted, tags_after}
-use Rattle.pt_watched.specs.pt_faker.Faking.{has_answered_zero, no_call, word_of}
-use Rattle.pt_watched.specs.pt_faker.Stopping.{after_request, decoded_at, memory_at, with_memory, with_register}
-use Rattle.pt_watched.specs.Planning.{stack_at}
-use Rattle.pt_watched.specs.Registers.{arguments_at, given_back}
-use Rattle.pt_watched.specs.Watched.{Tracing, after_pending, answer_at, awaiting, begin_program, exited, give_back, has_begun, is_execve, returned, shown_to, with_tags, without_pending}
-use Rattle.pt_watched.specs.declared.pending.Pending.{Pending}
-use Rattle.pt_watched.specs.declared.plan.Led.{Led}
-use Rattle.pt_watched.specs.declared.registers.Arguments.{Arguments}
+use Rattle.kr_turns.specs.kr_stops.Stopped.{IsThere, Stopped, edited, image_at}
+use Rattle.pt_tracer.specs.pt_results.Notes.{noted, tags_after}
+use Rattle.pt_tracer.specs.pt_faker.Faking.{has_answered_zero, no_call, word_of}
+use Rattle.pt_tracer.specs.pt_faker.Stopping.{after_request, decoded_at, memory_at, with_memory, with_register}
+use Rattle.pt_tracer.specs.Planning.{stack_at}
+use Rattle.pt_tracer.specs.Registers.{arguments_at, given_back}
+use Rattle.pt_tracer.specs.Watched.{Tracing, after_pending, answer_at, awaiting, begin_program, exited, give_back, has_begun, is_execve, returned, shown_to, with_tags, without_pending}
+use Rattle.pt_tracer.specs.declared.pending.Pending.{Pending}
+use Rattle.pt_tracer.specs.declared.plan.Led.{Led}
+use Rattle.pt_tracer.specs.declared.registers.Arguments.{Arguments}
 use Rattle.law_edits.specs.Exits.{ExitsBehindAnswers, ExitsBehindSwaps, left_with}
 use Rattle.law_edits.specs.Requests.{AreOfPaths, NewText}
 use Rattle.law_edits.specs.Shelves.{addresses_at, new_texts, with_words}

@@ -3,27 +3,27 @@ use Rattle.std.specs.FinMap as map
 use Rattle.std.proofs.Common.{◌≡◌, ℕ, zero, suc, ◌+◌, ◌/◌, ◌%◌, Bool, true, false, ◌||◌, cond, List, [], ◌∷◌, Option, Some, None, Ok, Err, refl, ap, subst, ◌∙◌}
 use Rattle.std.specs.Prelude.{◌-◌, Result, replicate, slice_index_or}
 use Rattle.std.specs.Option.{option_map_or}
-use Rattle.pt_watched.specs.pr_base.declared.errno.Errno.{Errno}
-use Rattle.pt_watched.specs.pr_base.declared.errno.Errno.TheVariants.{ENOENT, ENOMEM}
-use Rattle.pt_watched.specs.rv_mem.Actions.{Action, Done, MayUse, ReadBytes, WriteBytes, allows_uses, carried_out}
-use Rattle.pt_watched.specs.rv_mem.Marks.{no_marks}
-use Rattle.pt_watched.specs.rv_mem.Memory.{Memory, after_read, with_pages}
-use Rattle.pt_watched.specs.rv_mem.Page.{PageState, fresh_page, page_written}
-use Rattle.pt_watched.specs.rv_mem.Pages.{Pages, any_marked, bytes_from, is_marked, mapped, with_page, written}
-use Rattle.pt_watched.specs.rv_mem.declared.rights.Rights.{Rights}
-use Rattle.pt_watched.proofs.rv_mem.PageLemmas.{sets-no_marks}
-use Rattle.pt_watched.proofs.rv_mem.SpaceLemmas.{each-empty, each-insert, each-with_page}
-use Rattle.pt_watched.specs.elf_load.Image.{end_page, file_bytes, first_page, image_pages, rights_in, stack_rights, with_segment, with_segments, with_stack}
-use Rattle.pt_watched.specs.elf_read.declared.plan.Segment.{Segment}
-use Rattle.pt_watched.specs.kr_exec.Lists.{Trying, and_then, lists_at}
-use Rattle.pt_watched.specs.kr_exec.declared.plan.ExecPlan.{ExecPlan}
-use Rattle.pt_watched.specs.kr_execve.Execution.{Program, exceeds, execution_from, found_from, loaded, planned_from, program_of}
+use Rattle.pt_tracer.specs.pr_base.declared.errno.Errno.{Errno}
+use Rattle.pt_tracer.specs.pr_base.declared.errno.Errno.TheVariants.{ENOENT, ENOMEM}
+use Rattle.pt_tracer.specs.rv_mem.Actions.{Action, Done, MayUse, ReadBytes, WriteBytes, allows_uses, carried_out}
+use Rattle.pt_tracer.specs.rv_mem.Marks.{no_marks}
+use Rattle.pt_tracer.specs.rv_mem.Memory.{Memory, after_read, with_pages}
+use Rattle.pt_tracer.specs.rv_mem.Page.{PageState, fresh_page, page_written}
+use Rattle.pt_tracer.specs.rv_mem.Pages.{Pages, any_marked, bytes_from, is_marked, mapped, with_page, written}
+use Rattle.pt_tracer.specs.rv_mem.declared.rights.Rights.{Rights}
+use Rattle.pt_tracer.proofs.rv_mem.PageLemmas.{sets-no_marks}
+use Rattle.pt_tracer.proofs.rv_mem.SpaceLemmas.{each-empty, each-insert, each-with_page}
+use Rattle.pt_tracer.specs.elf_load.Image.{end_page, file_bytes, first_page, image_pages, rights_in, stack_rights, with_segment, with_segments, with_stack}
+use Rattle.pt_tracer.specs.elf_read.declared.plan.Segment.{Segment}
+use Rattle.pt_tracer.specs.kr_exec.Lists.{Trying, and_then, lists_at}
+use Rattle.pt_tracer.specs.kr_exec.declared.plan.ExecPlan.{ExecPlan}
+use Rattle.kr_turns.specs.kr_execve.Execution.{Program, exceeds, execution_from, found_from, loaded, planned_from, program_of}
 use Rattle.law_walks.specs.kr_model.Applied.{cwd_of}
 use Rattle.law_walks.specs.kr_model.State.{Image, State}
 use Rattle.law_walks.specs.kr_model.Walks as results
 use Rattle.law_walks.specs.kr_tree.declared.place.Place.{Place}
 use Rattle.law_walks.specs.kr_view.View.{Row}
-use Rattle.pt_watched.specs.pt_faker.Faking.{show_identity}
+use Rattle.pt_tracer.specs.pt_faker.Faking.{show_identity}
 use Rattle.law_edits.specs.Fresh.{BeginningsReadNoMark, FreshMemoriesStay, HasNoMark, ImagesAreFresh, IsFresh, ProgramsAreFresh}
 
 -- ---- marks

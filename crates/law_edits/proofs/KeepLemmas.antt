@@ -1,12 +1,12 @@
 -- The decoding of a call leaves the pages of the memory as they are.
 use Rattle.std.proofs.Common.{◌≡◌, ℕ, Bool, true, false, cond, List, [], ◌∷◌, Result, Ok, Err, refl, ap, ◌∙◌}
 use Rattle.std.specs.Prelude.{nat_lt}
-use Rattle.pt_watched.specs.pr_base.declared.errno.Errno.TheVariants.{EFAULT, ENAMETOOLONG, ENOENT}
-use Rattle.pt_watched.specs.rv_mem.Actions.{Action, carried_out}
-use Rattle.pt_watched.specs.rv_mem.Memory.{Memory, text_of}
-use Rattle.pt_watched.specs.rv_mem.declared.fault.TextFault.{TextFault}
-use Rattle.pt_watched.specs.rv_mem.declared.fault.TextFault.TheVariants as text
-use Rattle.pt_watched.specs.rv_mem.declared.regs.Regs.{Regs}
+use Rattle.pt_tracer.specs.pr_base.declared.errno.Errno.TheVariants.{EFAULT, ENAMETOOLONG, ENOENT}
+use Rattle.pt_tracer.specs.rv_mem.Actions.{Action, carried_out}
+use Rattle.pt_tracer.specs.rv_mem.Memory.{Memory, text_of}
+use Rattle.pt_tracer.specs.rv_mem.declared.fault.TextFault.{TextFault}
+use Rattle.pt_tracer.specs.rv_mem.declared.fault.TextFault.TheVariants as text
+use Rattle.pt_tracer.specs.rv_mem.declared.regs.Regs.{Regs}
 use Rattle.pt_args.specs.kr_calls.Arguments.{has, has_other, long, number, word}
 use Rattle.pt_args.specs.kr_calls.Decoding.{Decoded, accepts, decoding, execve_with, faccessat_with, fchmodat_with, fchownat_with, has_bad_open_flags, has_no_size, link_flags, linkat_with, mkdirat_with, named, newfstatat_with, openat_with, readlinkat_with, refuses, remove_flags, renameat2_with, stat_flags, symlinkat_with, text_limit, unless, unlinkat_with, with_text, with_texts}
 use Rattle.pt_args.specs.kr_calls.declared.request.Request.{Request}

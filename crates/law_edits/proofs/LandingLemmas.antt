@@ -1,9 +1,9 @@
 -- What a component shows of a link of the process directory is where a place leads.
 use Rattle.std.proofs.Common.{◌≡◌, ℕ, Bool, true, false, List, Option, Some, None, refl, subst}
 use Rattle.std.specs.Bool.{if◌then◌else◌}
-use Rattle.pt_watched.specs.pr_base.Paths.{Component, Dot, DotDot, Name}
-use Rattle.pt_watched.specs.pr_base.WalkFrame.{Fails, Missing, Leads, Links, Jumps, Landing}
-use Rattle.pt_watched.specs.pr_base.declared.errno.Errno.TheVariants.{ENOENT, EACCES, ENOTDIR, ENAMETOOLONG}
+use Rattle.pt_tracer.specs.pr_base.Paths.{Component, Dot, DotDot, Name}
+use Rattle.pt_tracer.specs.pr_base.WalkFrame.{Fails, Missing, Leads, Links, Jumps, Landing}
+use Rattle.pt_tracer.specs.pr_base.declared.errno.Errno.TheVariants.{ENOENT, EACCES, ENOTDIR, ENAMETOOLONG}
 use Rattle.law_walks.specs.kr_tree.declared.place.Host.{Host}
 use Rattle.law_walks.specs.kr_tree.declared.place.Host.TheVariants.{Node, Proc}
 use Rattle.law_walks.specs.kr_tree.declared.place.Place.{Place}

@@ -2,10 +2,10 @@
 use Rattle.std.proofs.Common.{◌≡◌, ◌≤◌, ℕ, Bool, true, false, List, [], ◌∷◌, length, take, take_all, length-take, min, refl, sym, ap, subst, ◌∙◌, arith, pos}
 use Rattle.std.specs.Prelude.{nat_le}
 use Rattle.std.proofs.lemmas.Bool.{leb-false, leb-true}
-use Rattle.pt_watched.specs.rv_mem.Actions.{carried_out}
+use Rattle.pt_tracer.specs.rv_mem.Actions.{carried_out}
 use Rattle.law_walks.specs.kr_model.AttributeRows.{tell_text}
 use Rattle.pt_args.specs.declared.edit.Edit.TheVariants.{Emulate}
-use Rattle.pt_watched.specs.Watched.{applied}
+use Rattle.pt_tracer.specs.Watched.{applied}
 use Rattle.law_edits.specs.Answers.{AreAnsweredAlike, ErrorsAreToldAlike, LinkTextsAreToldAlike}
 use Rattle.law_edits.proofs.AnswerLemmas.{put_alike, refused_alike}
 

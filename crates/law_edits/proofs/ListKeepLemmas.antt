@@ -1,19 +1,19 @@
 -- Reading a list of texts writes nothing.
 use Rattle.std.proofs.Common.{◌≡◌, ℕ, zero, suc, ◌+◌, ◌-◌, ◌*◌, Bool, true, false, cond, List, ◌∷◌, length, Result, Ok, Err, refl, ap, ◌∙◌, []}
 use Rattle.std.specs.Prelude.{nat_eq, nat_lt, slice_index}
-use Rattle.pt_watched.specs.pr_base.Fields.{little_endian}
-use Rattle.pt_watched.specs.pr_base.declared.errno.Errno.{Errno}
-use Rattle.pt_watched.specs.pr_base.declared.errno.Errno.TheVariants.{E2BIG, EFAULT}
-use Rattle.pt_watched.specs.rv_mem.Actions.{Action, CarriedOut, Done, ReadBytes, allows_uses, carried_out}
-use Rattle.pt_watched.specs.rv_mem.Memory.{Memory, after_read}
-use Rattle.pt_watched.specs.rv_mem.Pages.{bytes_from}
-use Rattle.pt_watched.specs.rv_mem.declared.rights.Use.TheVariants.{Read}
+use Rattle.pt_tracer.specs.pr_base.Fields.{little_endian}
+use Rattle.pt_tracer.specs.pr_base.declared.errno.Errno.{Errno}
+use Rattle.pt_tracer.specs.pr_base.declared.errno.Errno.TheVariants.{E2BIG, EFAULT}
+use Rattle.pt_tracer.specs.rv_mem.Actions.{Action, CarriedOut, Done, ReadBytes, allows_uses, carried_out}
+use Rattle.pt_tracer.specs.rv_mem.Memory.{Memory, after_read}
+use Rattle.pt_tracer.specs.rv_mem.Pages.{bytes_from}
+use Rattle.pt_tracer.specs.rv_mem.declared.rights.Use.TheVariants.{Read}
 use Rattle.pt_args.specs.kr_calls.Expansion.{bytes_with_ends}
 use Rattle.pt_args.specs.kr_calls.Texts.{read_text}
-use Rattle.pt_watched.specs.kr_exec.Lists.{Trying, address_at, and_then, at_least_one, behind, env_at, if_it_fits, list_at, lists_at, most_bytes, most_texts, next_address, text_at, text_within, texts_from, unless_ended}
-use Rattle.pt_watched.specs.kr_exec.declared.lists.Lists.{Lists}
-use Rattle.pt_watched.proofs.kr_exec.ListLemmas.{and_then_is, on_reply}
-use Rattle.pt_watched.specs.pt_faker.Reading.{addresses_behind}
+use Rattle.pt_tracer.specs.kr_exec.Lists.{Trying, address_at, and_then, at_least_one, behind, env_at, if_it_fits, list_at, lists_at, most_bytes, most_texts, next_address, text_at, text_within, texts_from, unless_ended}
+use Rattle.pt_tracer.specs.kr_exec.declared.lists.Lists.{Lists}
+use Rattle.pt_tracer.proofs.kr_exec.ListLemmas.{and_then_is, on_reply}
+use Rattle.pt_tracer.specs.pt_faker.Reading.{addresses_behind}
 
 abbrev pub Keeps : {A : Type 0} → Action A → Type 0
 Keeps action = (m : Memory) → (carried_out action m).memory.pages ≡ m.pages

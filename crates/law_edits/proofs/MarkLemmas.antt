@@ -2,12 +2,12 @@
 use Rattle.std.proofs.Common.{◌≡◌, ◌∙◌, ◌+◌, ◌-◌, ◌/◌, ◌≤◌, ◌<◌, ℕ, true, if◌then◌else◌, ap, arith, subst, sym}
 use Rattle.std.proofs.lemmas.Bool.{and_parts, leb-true}
 use Rattle.std.specs.Prelude.{◌&&◌, nat_le}
-use Rattle.pt_watched.proofs.rv_mem.AccessLemmas.{contains_allowed}
-use Rattle.pt_watched.proofs.rv_mem.AddressLemmas.{is_marked-marked_in}
-use Rattle.pt_watched.specs.rv_mem.Memory.{Memory}
-use Rattle.pt_watched.specs.rv_mem.Pages.{IsWhole, Pages, allows, allows_all, is_marked, marked}
-use Rattle.pt_watched.specs.rv_mem.declared.rights.Use.TheVariants.{Read, Write}
-use Rattle.pt_watched.specs.kr_calm.Shelf.{is_usable, shelf_size, shelf_start, shelved_by, stack_pointer, with_shelf_marked}
+use Rattle.pt_tracer.proofs.rv_mem.AccessLemmas.{contains_allowed}
+use Rattle.pt_tracer.proofs.rv_mem.AddressLemmas.{is_marked-marked_in}
+use Rattle.pt_tracer.specs.rv_mem.Memory.{Memory}
+use Rattle.pt_tracer.specs.rv_mem.Pages.{IsWhole, Pages, allows, allows_all, is_marked, marked}
+use Rattle.pt_tracer.specs.rv_mem.declared.rights.Use.TheVariants.{Read, Write}
+use Rattle.kr_turns.specs.kr_calm.Shelf.{is_usable, shelf_size, shelf_start, shelved_by, stack_pointer, with_shelf_marked}
 use Rattle.law_edits.proofs.RangeLemmas.{byte_allowed}
 use Rattle.law_edits.specs.Marking.{ShelvesAreMarked}
 use Rattle.law_edits.specs.Shelves.{HasMarkedShelf, bottom_of}

@@ -3,9 +3,9 @@ use Rattle.std.proofs.Common.{◌≡◌, ℕ, Bool, true, false, List, ◌∷◌
 use Rattle.std.specs.Bool.{if◌then◌else◌}
 use Rattle.std.specs.List.{position}
 use Rattle.std.specs.Option.{option_and_then, option_map, option_map_or}
-use Rattle.pt_watched.specs.pr_base.MountText.{MountText}
-use Rattle.pt_watched.specs.pr_base.Texts.{Text}
-use Rattle.pt_watched.specs.pt_bind.Binding.{host_of, located, owner}
+use Rattle.pt_tracer.specs.pr_base.MountText.{MountText}
+use Rattle.pt_tracer.specs.pr_base.Texts.{Text}
+use Rattle.pt_tracer.specs.pt_bind.Binding.{host_of, located, owner}
 use Rattle.law_walks.specs.kr_tree.Names.{host_name, process_names}
 use Rattle.law_walks.specs.kr_tree.Tree.{Body, Tree, body, body_is, entry, is_directory}
 use Rattle.law_walks.specs.kr_tree.declared.place.Host.{Host}

@@ -1,10 +1,10 @@
 -- The number of no call is refused.
 use Rattle.std.proofs.Common.{◌≡◌, Err, ap}
 use Rattle.std.proofs.lemmas.List.{get_or-set_same}
-use Rattle.pt_watched.specs.pr_base.declared.errno.Errno.TheVariants.{ENOSYS}
-use Rattle.pt_watched.specs.rv_mem.Actions.{carried_out}
-use Rattle.pt_watched.specs.rv_mem.Memory.{Memory}
-use Rattle.pt_watched.specs.rv_mem.declared.regs.Regs.{Regs}
+use Rattle.pt_tracer.specs.pr_base.declared.errno.Errno.TheVariants.{ENOSYS}
+use Rattle.pt_tracer.specs.rv_mem.Actions.{carried_out}
+use Rattle.pt_tracer.specs.rv_mem.Memory.{Memory}
+use Rattle.pt_tracer.specs.rv_mem.declared.regs.Regs.{Regs}
 use Rattle.pt_args.specs.kr_calls.Arguments.{number}
 use Rattle.pt_args.specs.kr_calls.Decoding.{decoding}
 use Rattle.law_edits.specs.NoCalls.{NoCallsAreDecoded, without_call}

@@ -1,17 +1,17 @@
 -- The numbers of requests with paths.
 use Rattle.std.proofs.Common.{◌≡◌, ℕ, Bool, true, false, cond, Some, None, Ok, Err, refl, sym, ap, subst, ◌∙◌}
 use Rattle.std.specs.Prelude.{◌==◌}
-use Rattle.pt_watched.specs.pr_base.declared.errno.Errno.{Errno}
-use Rattle.pt_watched.specs.pr_base.declared.errno.Errno.TheVariants.{ENOSYS}
-use Rattle.pt_watched.specs.rv_mem.Actions.{Action, carried_out}
-use Rattle.pt_watched.specs.rv_mem.Memory.{Memory}
-use Rattle.pt_watched.specs.rv_mem.declared.regs.Regs.{Regs}
+use Rattle.pt_tracer.specs.pr_base.declared.errno.Errno.{Errno}
+use Rattle.pt_tracer.specs.pr_base.declared.errno.Errno.TheVariants.{ENOSYS}
+use Rattle.pt_tracer.specs.rv_mem.Actions.{Action, carried_out}
+use Rattle.pt_tracer.specs.rv_mem.Memory.{Memory}
+use Rattle.pt_tracer.specs.rv_mem.declared.regs.Regs.{Regs}
 use Rattle.pt_args.specs.kr_calls.Arguments.{number}
 use Rattle.pt_args.specs.kr_calls.Decoding.{Decoded, accepts, by_descriptor, by_file, by_identity, by_memory, by_name, by_process, refuses, unless}
 use Rattle.pt_args.specs.kr_calls.PathTable.{PathUse, path_at}
 use Rattle.pt_args.specs.kr_calls.declared.request.Request.{Request}
-use Rattle.pt_watched.specs.kr_calm.Shelf.{has_path}
-use Rattle.pt_watched.proofs.law_lawful.SumLemmas.{passed-test}
+use Rattle.kr_turns.specs.kr_calm.Shelf.{has_path}
+use Rattle.pt_tracer.proofs.law_lawful.SumLemmas.{passed-test}
 use Rattle.law_edits.specs.CallShelves.{PathsHaveNumbers}
 
 -- whatever memory it is carried out on, what an action decodes with a path tells of a number that it is one of a call with a path

@@ -2,9 +2,9 @@
 use Rattle.std.proofs.Common.{◌≡◌, ◌∙◌, ◌+◌, ◌≤◌, ℕ, true, ap, arith, sym}
 use Rattle.std.proofs.lemmas.Bool.{and_parts}
 use Rattle.std.specs.Prelude.{◌-◌}
-use Rattle.pt_watched.proofs.rv_mem.PagesLemmas.{allows_all-add}
-use Rattle.pt_watched.specs.rv_mem.Pages.{Pages, allows, allows_all}
-use Rattle.pt_watched.specs.rv_mem.declared.rights.Use.{Use}
+use Rattle.pt_tracer.proofs.rv_mem.PagesLemmas.{allows_all-add}
+use Rattle.pt_tracer.specs.rv_mem.Pages.{Pages, allows, allows_all}
+use Rattle.pt_tracer.specs.rv_mem.declared.rights.Use.{Use}
 
 -- a part of a range may be used where the range may be
 pub part_allowed : (m : Pages) (at n from count : ℕ) (what : Use) → at ≤ from → from + count ≤ at + n → allows_all m at n what ≡ true → allows_all m from count what ≡ true

@@ -3,25 +3,25 @@ use Rattle.std.proofs.Common.{◌≡◌, ℕ, zero, suc, ◌+◌, ◌-◌, ◌%�
 use Rattle.std.specs.FinMap as map
 use Rattle.std.specs.Option.{option_map_or}
 use Rattle.std.specs.Prelude.{if◌then◌else◌, is_some, nat_eq, slice_index}
-use Rattle.pt_watched.specs.pr_base.declared.errno.Errno.{Errno}
-use Rattle.pt_watched.specs.pr_base.declared.errno.Errno.TheVariants.{EFAULT, E2BIG}
-use Rattle.pt_watched.specs.rv_mem.Actions.{Action, AreEqualUnmarked, Done, MayUse, ReadBytes, WriteBytes, CarriedOut, allows_uses, carried_out}
-use Rattle.pt_watched.specs.rv_mem.Memory.{Memory, after_read, with_pages}
-use Rattle.pt_watched.specs.rv_mem.Page.{PageState, grants}
-use Rattle.pt_watched.specs.rv_mem.Pages.{IsPlaced, Pages, allows_all, bytes_from, page_allows, written}
-use Rattle.pt_watched.specs.rv_mem.declared.rights.Use.{Use}
-use Rattle.pt_watched.specs.rv_mem.declared.rights.Use.TheVariants.{Read}
-use Rattle.pt_watched.proofs.rv_mem.ActionLemmas.{reads_alike}
-use Rattle.pt_watched.proofs.rv_mem.SpaceLemmas.{IsPlaced-written}
+use Rattle.pt_tracer.specs.pr_base.declared.errno.Errno.{Errno}
+use Rattle.pt_tracer.specs.pr_base.declared.errno.Errno.TheVariants.{EFAULT, E2BIG}
+use Rattle.pt_tracer.specs.rv_mem.Actions.{Action, AreEqualUnmarked, Done, MayUse, ReadBytes, WriteBytes, CarriedOut, allows_uses, carried_out}
+use Rattle.pt_tracer.specs.rv_mem.Memory.{Memory, after_read, with_pages}
+use Rattle.pt_tracer.specs.rv_mem.Page.{PageState, grants}
+use Rattle.pt_tracer.specs.rv_mem.Pages.{IsPlaced, Pages, allows_all, bytes_from, page_allows, written}
+use Rattle.pt_tracer.specs.rv_mem.declared.rights.Use.{Use}
+use Rattle.pt_tracer.specs.rv_mem.declared.rights.Use.TheVariants.{Read}
+use Rattle.pt_tracer.proofs.rv_mem.ActionLemmas.{reads_alike}
+use Rattle.pt_tracer.proofs.rv_mem.SpaceLemmas.{IsPlaced-written}
 use Rattle.pt_args.specs.kr_calls.Expansion.{bytes_with_ends}
 use Rattle.pt_args.specs.kr_calls.Texts.{read_text}
-use Rattle.pt_watched.specs.kr_exec.Lists.{Trying, address_at, and_then, at_least_one, behind, if_it_fits, most_bytes, most_texts, next_address}
-use Rattle.pt_watched.specs.kr_exec.Lists as kernel
-use Rattle.pt_watched.specs.kr_exec.declared.lists.Lists.{Lists}
-use Rattle.pt_watched.proofs.kr_exec.ListLemmas.{and_then_is, at_address, by_address, done, front, goes_on, on_reply}
-use Rattle.pt_watched.specs.pt_faker.Reading.{next_byte, text_from}
-use Rattle.pt_watched.specs.pt_faker.Reading as tracer
-use Rattle.pt_watched.specs.pt_faker.declared.lists.Handed.{Handed}
+use Rattle.pt_tracer.specs.kr_exec.Lists.{Trying, address_at, and_then, at_least_one, behind, if_it_fits, most_bytes, most_texts, next_address}
+use Rattle.pt_tracer.specs.kr_exec.Lists as kernel
+use Rattle.pt_tracer.specs.kr_exec.declared.lists.Lists.{Lists}
+use Rattle.pt_tracer.proofs.kr_exec.ListLemmas.{and_then_is, at_address, by_address, done, front, goes_on, on_reply}
+use Rattle.pt_tracer.specs.pt_faker.Reading.{next_byte, text_from}
+use Rattle.pt_tracer.specs.pt_faker.Reading as tracer
+use Rattle.pt_tracer.specs.pt_faker.declared.lists.Handed.{Handed}
 use Rattle.law_edits.specs.Reading.{ListsAreReadAlike, ShownListsAreReadAlike, handed_on, read_by_tracer}
 
 -- ---- how high a byte may lie

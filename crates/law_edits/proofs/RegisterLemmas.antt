@@ -2,8 +2,8 @@
 use Rattle.std.proofs.Common.{◌≡◌, ◌≢◌, ℕ, ◌≤◌, Bool, true, false, cond, List, Some, None, ℤ, arith, subst}
 use Rattle.std.specs.Prelude.{◌==◌}
 use Rattle.std.specs.Option.{option_map}
-use Rattle.pt_watched.specs.pr_base.declared.path.WalkMode.{WalkMode}
-use Rattle.pt_watched.specs.pr_base.declared.path.WalkMode.TheVariants as mode
+use Rattle.pt_tracer.specs.pr_base.declared.path.WalkMode.{WalkMode}
+use Rattle.pt_tracer.specs.pr_base.declared.path.WalkMode.TheVariants as mode
 use Rattle.pt_args.specs.kr_calls.PathTable.{PathUse, link_mode, look_mode, old_and_new, only_at, open_mode, working_directory}
 use Rattle.pt_args.specs.kr_calls.declared.request.Request.{Request}
 use Rattle.pt_args.specs.kr_calls.declared.request.Request.TheVariants as call

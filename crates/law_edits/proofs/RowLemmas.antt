@@ -5,10 +5,10 @@ use Rattle.std.specs.Int.{cast_signed, w32}
 use Rattle.std.specs.Option.{option_map}
 use Rattle.std.proofs.lemmas.Bool.Decides.{nat_tests}
 use Rattle.std.proofs.lemmas.Option.{same_Some}
-use Rattle.pt_watched.specs.pr_base.declared.errno.Errno.{Errno}
-use Rattle.pt_watched.specs.rv_mem.Actions.{Action, AreEqualUnmarked, carried_out}
-use Rattle.pt_watched.specs.rv_mem.Memory.{Memory, text_of}
-use Rattle.pt_watched.specs.rv_mem.declared.regs.Regs.{Regs}
+use Rattle.pt_tracer.specs.pr_base.declared.errno.Errno.{Errno}
+use Rattle.pt_tracer.specs.rv_mem.Actions.{Action, AreEqualUnmarked, carried_out}
+use Rattle.pt_tracer.specs.rv_mem.Memory.{Memory, text_of}
+use Rattle.pt_tracer.specs.rv_mem.declared.regs.Regs.{Regs}
 use Rattle.pt_args.specs.kr_calls.Arguments.{has, has_other, long, word}
 use Rattle.pt_args.specs.kr_calls.Decoding.{Decoded, accepts, chdir_row, chroot_row, execve_row, faccessat_row, faccessat_with, fchmodat_row, fchmodat_with, fchownat_row, fchownat_with, execve_with, has_bad_open_flags, has_no_size, link_flags, linkat_row, linkat_with, mkdirat_row, mkdirat_with, newfstatat_row, newfstatat_with, openat_row, openat_with, readlinkat_row, readlinkat_with, refuses, remove_flags, renameat2_row, renameat2_with, stat_flags, symlinkat_row, symlinkat_with, text_limit, unless, unlinkat_row, unlinkat_with, with_text, with_texts}
 use Rattle.pt_args.specs.kr_calls.PathTable.{path_at}

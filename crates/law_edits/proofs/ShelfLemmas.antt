@@ -6,16 +6,16 @@ use Rattle.std.proofs.lemmas.List.{get_or-set_other, get_or-set_same, get_or_pas
 use Rattle.std.proofs.lemmas.List.Elements.{All-cons, All-nil}
 use Rattle.std.specs.Prelude.{nat_lt, slice_index, slice_set}
 use Rattle.std.proofs.lemmas.Bool.Decides.{nat_tests}
-use Rattle.pt_watched.specs.pr_base.declared.errno.Errno.TheVariants.{ENOSYS}
-use Rattle.pt_watched.specs.rv_mem.Actions.{AreEqualUnmarked, carried_out, rights_of}
-use Rattle.pt_watched.specs.rv_mem.Memory.{Memory, text_of}
-use Rattle.pt_watched.specs.rv_mem.Pages.{Pages, IsWhole, allows, written}
-use Rattle.pt_watched.specs.rv_mem.declared.regs.Regs.{Regs}
-use Rattle.pt_watched.specs.rv_mem.declared.rights.Use.TheVariants.{Read}
-use Rattle.pt_watched.proofs.rv_mem.ActionLemmas.{reads_alike}
-use Rattle.pt_watched.proofs.rv_mem.AddressLemmas.{byte_at-written_other}
-use Rattle.pt_watched.proofs.rv_mem.LayoutLemmas.{layouts_follow}
-use Rattle.pt_watched.proofs.rv_mem.SpaceLemmas.{IsWhole-written}
+use Rattle.pt_tracer.specs.pr_base.declared.errno.Errno.TheVariants.{ENOSYS}
+use Rattle.pt_tracer.specs.rv_mem.Actions.{AreEqualUnmarked, carried_out, rights_of}
+use Rattle.pt_tracer.specs.rv_mem.Memory.{Memory, text_of}
+use Rattle.pt_tracer.specs.rv_mem.Pages.{Pages, IsWhole, allows, written}
+use Rattle.pt_tracer.specs.rv_mem.declared.regs.Regs.{Regs}
+use Rattle.pt_tracer.specs.rv_mem.declared.rights.Use.TheVariants.{Read}
+use Rattle.pt_tracer.proofs.rv_mem.ActionLemmas.{reads_alike}
+use Rattle.pt_tracer.proofs.rv_mem.AddressLemmas.{byte_at-written_other}
+use Rattle.pt_tracer.proofs.rv_mem.LayoutLemmas.{layouts_follow}
+use Rattle.pt_tracer.proofs.rv_mem.SpaceLemmas.{IsWhole-written}
 use Rattle.pt_args.specs.kr_calls.Arguments.{number}
 use Rattle.pt_args.specs.kr_calls.Decoding.{decoding, text_limit}
 use Rattle.pt_args.specs.kr_calls.declared.request.Request.{Request}

@@ -1,15 +1,15 @@
 -- The host texts to which a walk leads are at most as long as what it reached.
 use Rattle.std.proofs.Common.{◌≡◌, ◌≢◌, ◌≤◌, ℕ, Bool, true, false, List, [], ◌∷◌, Option, Some, None, refl, sym, ap, subst, ◌∙◌}
 use Rattle.std.specs.Bool.{if◌then◌else◌}
-use Rattle.pt_watched.specs.pr_base.Paths.{Component, Dot, DotDot, Name, kind_of}
-use Rattle.pt_watched.specs.pr_base.Texts.{Text}
-use Rattle.pt_watched.specs.pr_base.WalkFrame.{Fails, Missing, Leads, Links, Jumps, Landing, Target, landed, name_of}
-use Rattle.pt_watched.specs.pr_base.WalkLaws.{Shows}
-use Rattle.pt_watched.specs.pr_base.declared.path.Last.{Last}
-use Rattle.pt_watched.specs.pr_base.declared.path.Last.TheVariants as last
-use Rattle.pt_watched.specs.pr_base.declared.path.WalkMode.{WalkMode}
-use Rattle.pt_watched.specs.pr_base.declared.path.WalkMode.TheVariants as modes
-use Rattle.pt_watched.proofs.pr_base.AlikeLemmas.{alike_some}
+use Rattle.pt_tracer.specs.pr_base.Paths.{Component, Dot, DotDot, Name, kind_of}
+use Rattle.pt_tracer.specs.pr_base.Texts.{Text}
+use Rattle.pt_tracer.specs.pr_base.WalkFrame.{Fails, Missing, Leads, Links, Jumps, Landing, Target, landed, name_of}
+use Rattle.pt_tracer.specs.pr_base.WalkLaws.{Shows}
+use Rattle.pt_tracer.specs.pr_base.declared.path.Last.{Last}
+use Rattle.pt_tracer.specs.pr_base.declared.path.Last.TheVariants as last
+use Rattle.pt_tracer.specs.pr_base.declared.path.WalkMode.{WalkMode}
+use Rattle.pt_tracer.specs.pr_base.declared.path.WalkMode.TheVariants as modes
+use Rattle.pt_tracer.proofs.pr_base.AlikeLemmas.{alike_some}
 use Rattle.law_walks.specs.kr_tree.Names.{host_name}
 use Rattle.law_walks.specs.kr_tree.Tree.{Tree, body_is, is_directory}
 use Rattle.law_walks.specs.kr_tree.declared.place.Host.TheVariants.{Node}
@@ -24,7 +24,7 @@ use Rattle.law_walks.specs.kr_view.Walk.{PlaceTarget, looking, place_walk}
 use Rattle.law_walks.proofs.kr_view.DirectoryLemmas.{found_itself, in_directory}
 use Rattle.law_walks.proofs.kr_view.HostReachLemmas.{last_object}
 use Rattle.law_walks.proofs.kr_view.LandingLemmas.{landing_of_file}
-use Rattle.pt_watched.proofs.pr_base.EndLemmas.{found_is_shown}
+use Rattle.pt_tracer.proofs.pr_base.EndLemmas.{found_is_shown}
 use Rattle.law_walks.specs.Handed.{BothEnd}
 use Rattle.law_walks.specs.Scene.{Scene, space_of, texts_in}
 use Rattle.law_walks.specs.Settled.{IsSettled, host_text}

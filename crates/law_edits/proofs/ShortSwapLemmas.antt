@@ -4,22 +4,22 @@ use Rattle.std.specs.Bool.{if◌then◌else◌}
 use Rattle.std.specs.Prelude.{is_some}
 use Rattle.std.specs.Option.{unwrap_or}
 use Rattle.std.proofs.lemmas.List.Elements.{All-cons}
-use Rattle.pt_watched.specs.pr_base.Alike.{OptionAlike, TargetAlike, both, neither}
-use Rattle.pt_watched.specs.pr_base.MountText.{MountText}
-use Rattle.pt_watched.specs.pr_base.Paths.{AreParts, IsComponent, IsPart, below_root, dot, dot_dot, slash, text_of}
-use Rattle.pt_watched.specs.pr_base.Texts.{Text}
-use Rattle.pt_watched.specs.pr_base.WalkFrame.{Target}
-use Rattle.pt_watched.specs.pr_base.declared.errno.Errno.{Errno}
-use Rattle.pt_watched.specs.pr_base.declared.errno.Errno.TheVariants.{EISDIR}
-use Rattle.pt_watched.specs.pr_base.declared.path.Last.{Last}
-use Rattle.pt_watched.specs.pr_base.declared.path.Last.TheVariants as last
-use Rattle.pt_watched.specs.pr_base.declared.path.WalkMode.{WalkMode}
-use Rattle.pt_watched.specs.pr_base.declared.path.WalkMode.TheVariants as modes
-use Rattle.pt_watched.proofs.pr_base.EndLemmas.{jump_is_shown}
-use Rattle.pt_watched.proofs.pr_base.PathLemmas.{names_are_parts}
+use Rattle.pt_tracer.specs.pr_base.Alike.{OptionAlike, TargetAlike, both, neither}
+use Rattle.pt_tracer.specs.pr_base.MountText.{MountText}
+use Rattle.pt_tracer.specs.pr_base.Paths.{AreParts, IsComponent, IsPart, below_root, dot, dot_dot, slash, text_of}
+use Rattle.pt_tracer.specs.pr_base.Texts.{Text}
+use Rattle.pt_tracer.specs.pr_base.WalkFrame.{Target}
+use Rattle.pt_tracer.specs.pr_base.declared.errno.Errno.{Errno}
+use Rattle.pt_tracer.specs.pr_base.declared.errno.Errno.TheVariants.{EISDIR}
+use Rattle.pt_tracer.specs.pr_base.declared.path.Last.{Last}
+use Rattle.pt_tracer.specs.pr_base.declared.path.Last.TheVariants as last
+use Rattle.pt_tracer.specs.pr_base.declared.path.WalkMode.{WalkMode}
+use Rattle.pt_tracer.specs.pr_base.declared.path.WalkMode.TheVariants as modes
+use Rattle.pt_tracer.proofs.pr_base.EndLemmas.{jump_is_shown}
+use Rattle.pt_tracer.proofs.pr_base.PathLemmas.{names_are_parts}
 use Rattle.pt_args.specs.Purposes.{entry_swap, made_swap, named_path, own_path, purpose_of, swap_for}
-use Rattle.pt_watched.specs.pt_bind.Binding.{host_of, names_of}
-use Rattle.pt_watched.proofs.pt_bind.ByteLemmas.{names_written}
+use Rattle.pt_tracer.specs.pt_bind.Binding.{host_of, names_of}
+use Rattle.pt_tracer.proofs.pt_bind.ByteLemmas.{names_written}
 use Rattle.pt_args.specs.pt_canon.Canon.{canon_at, canon_result, ending_of, entry_text, found_entry}
 use Rattle.pt_args.specs.pt_canon.TextWalk.{looking_texts}
 use Rattle.pt_args.specs.pt_canon.declared.canon.Canon.{Canon}

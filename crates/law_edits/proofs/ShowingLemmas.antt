@@ -1,15 +1,15 @@
 -- What is done for identities is done alike.
 use Rattle.std.proofs.Common.{◌≡◌, ℕ, zero, suc, ◌+◌, ◌<◌, Bool, true, false, ◌||◌, cond, List, [], ◌∷◌, length, arith, refl, sym, ap, ◌∙◌}
-use Rattle.pt_watched.specs.rv_mem.Actions.{Action, AreEqualUnmarked, Done, ReadBytes, WriteBytes, allows_uses, carried_out}
-use Rattle.pt_watched.specs.rv_mem.Memory.{Memory}
-use Rattle.pt_watched.specs.rv_mem.Pages.{IsWhole, Pages, any_marked, is_marked, written}
-use Rattle.pt_watched.specs.rv_mem.declared.rights.Use.TheVariants.{Write}
-use Rattle.pt_watched.proofs.rv_mem.ActionLemmas.{AreEqualUnmarked-written, reads_alike}
-use Rattle.pt_watched.proofs.rv_mem.AddressLemmas.{is_marked-written_in}
-use Rattle.pt_watched.specs.kr_inode.declared.user.User.{User}
-use Rattle.pt_watched.specs.pt_ident.Identity.{on_memory}
-use Rattle.pt_watched.specs.pt_ident.Showing.{shown_stat}
-use Rattle.pt_watched.specs.pt_faker.Faking.{show_owner}
+use Rattle.pt_tracer.specs.rv_mem.Actions.{Action, AreEqualUnmarked, Done, ReadBytes, WriteBytes, allows_uses, carried_out}
+use Rattle.pt_tracer.specs.rv_mem.Memory.{Memory}
+use Rattle.pt_tracer.specs.rv_mem.Pages.{IsWhole, Pages, any_marked, is_marked, written}
+use Rattle.pt_tracer.specs.rv_mem.declared.rights.Use.TheVariants.{Write}
+use Rattle.pt_tracer.proofs.rv_mem.ActionLemmas.{AreEqualUnmarked-written, reads_alike}
+use Rattle.pt_tracer.proofs.rv_mem.AddressLemmas.{is_marked-written_in}
+use Rattle.pt_tracer.specs.kr_inode.declared.user.User.{User}
+use Rattle.pt_tracer.specs.pt_ident.Identity.{on_memory}
+use Rattle.pt_tracer.specs.pt_ident.Showing.{shown_stat}
+use Rattle.pt_tracer.specs.pt_faker.Faking.{show_owner}
 use Rattle.law_edits.specs.Showing.{EffectsAreDoneAlike, LeaveAlike, OwnersAreShownAlike, just_written}
 
 neither : (a b : Bool) → a ≡ false → b ≡ false → (a || b) ≡ false

@@ -1,17 +1,17 @@
 -- A stopped process by its registers and its memory: what a tracer does to it is done to these.
 use Rattle.std.proofs.Common.{◌≡◌, ℕ, ◌+◌, ◌≤◌, true, cond, ◌&&◌, List, [], ◌∷◌, length, arith, refl, ap, ◌∙◌}
 use Rattle.std.specs.Prelude.{slice_set}
-use Rattle.pt_watched.specs.rv_mem.Memory.{Memory, with_pages}
-use Rattle.pt_watched.specs.rv_mem.Pages.{Pages, allows_all, written}
-use Rattle.pt_watched.specs.rv_mem.declared.regs.Regs.{Regs}
-use Rattle.pt_watched.specs.rv_mem.declared.rights.Use.TheVariants.{Write}
+use Rattle.pt_tracer.specs.rv_mem.Memory.{Memory, with_pages}
+use Rattle.pt_tracer.specs.rv_mem.Pages.{Pages, allows_all, written}
+use Rattle.pt_tracer.specs.rv_mem.declared.regs.Regs.{Regs}
+use Rattle.pt_tracer.specs.rv_mem.declared.rights.Use.TheVariants.{Write}
 use Rattle.law_walks.specs.kr_model.State.{Image}
-use Rattle.pt_watched.specs.pt_faker.Stopping.{after_poke, memory_at, with_register}
-use Rattle.pt_watched.specs.kr_turns.Stopped.{IsThere, Stopped, edited, image_at}
-use Rattle.pt_watched.proofs.kr_turns.EditLemmas.{computed-lives, edited-twice, image-edited}
+use Rattle.pt_tracer.specs.pt_faker.Stopping.{after_poke, memory_at, with_register}
+use Rattle.kr_turns.specs.kr_stops.Stopped.{IsThere, Stopped, edited, image_at}
+use Rattle.kr_turns.proofs.kr_stops.EditLemmas.{computed-lives, edited-twice, image-edited}
 use Rattle.pt_args.specs.Laws.{StandBetween, poked as pages_poked}
-use Rattle.pt_watched.specs.Poking.{may_poke, poked}
-use Rattle.pt_watched.specs.Registers.{is_register, with_arguments}
+use Rattle.pt_tracer.specs.Poking.{may_poke, poked}
+use Rattle.pt_tracer.specs.Registers.{is_register, with_arguments}
 use Rattle.law_edits.specs.Shelves.{with_words}
 use Rattle.law_edits.proofs.RangeLemmas.{part_allowed}
 

@@ -2,22 +2,22 @@
 use Rattle.std.proofs.Common.{◌≡◌, ℕ, ◌+◌, ◌-◌, ◌≤◌, ◌<◌, Bool, true, false, ◌&&◌, Option, Some, None, arith, if◌then◌else◌, refl, sym, ap, subst, ◌∙◌}
 use Rattle.std.specs.Prelude.{nat_lt, not}
 use Rattle.std.proofs.lemmas.Bool.{lt-ltb, ltb-false}
-use Rattle.pt_watched.specs.pr_base.declared.errno.Errno.TheVariants.{EFAULT}
-use Rattle.pt_watched.specs.rv_mem.Actions.{AreEqualUnmarked, carried_out}
-use Rattle.pt_watched.specs.rv_mem.Memory.{Memory}
-use Rattle.pt_watched.specs.rv_mem.Pages.{allows_all}
-use Rattle.pt_watched.specs.rv_mem.declared.regs.Regs.{Regs}
-use Rattle.pt_watched.specs.rv_mem.declared.rights.Use.TheVariants.{Read, Write}
+use Rattle.pt_tracer.specs.pr_base.declared.errno.Errno.TheVariants.{EFAULT}
+use Rattle.pt_tracer.specs.rv_mem.Actions.{AreEqualUnmarked, carried_out}
+use Rattle.pt_tracer.specs.rv_mem.Memory.{Memory}
+use Rattle.pt_tracer.specs.rv_mem.Pages.{allows_all}
+use Rattle.pt_tracer.specs.rv_mem.declared.regs.Regs.{Regs}
+use Rattle.pt_tracer.specs.rv_mem.declared.rights.Use.TheVariants.{Read, Write}
 use Rattle.pt_args.specs.kr_calls.Decoding.{decoding}
 use Rattle.pt_args.specs.kr_calls.declared.request.Request.{Request}
 use Rattle.law_walks.specs.kr_model.State.{Image}
-use Rattle.pt_watched.specs.kr_turns.Stopped.{Stopped, edited, image_at}
-use Rattle.pt_watched.specs.pt_faker.Stopping.{after_request, decoded_at, memory_at}
+use Rattle.kr_turns.specs.kr_stops.Stopped.{Stopped, edited, image_at}
+use Rattle.pt_tracer.specs.pt_faker.Stopping.{after_request, decoded_at, memory_at}
 use Rattle.pt_args.specs.Laws.{ShelvesHoldTheirItems, TextsAreReadBack}
-use Rattle.pt_watched.specs.Planning.{stack_at}
-use Rattle.pt_watched.specs.Poking.{may_poke, poked}
-use Rattle.pt_watched.specs.Registers.{is_register, with_arguments}
-use Rattle.pt_watched.specs.Watched.{Applied, applied, refused}
+use Rattle.pt_tracer.specs.Planning.{stack_at}
+use Rattle.pt_tracer.specs.Poking.{may_poke, poked}
+use Rattle.pt_tracer.specs.Registers.{is_register, with_arguments}
+use Rattle.pt_tracer.specs.Watched.{Applied, applied, refused}
 use Rattle.law_edits.specs.Requests.{AreOfPaths, NewText}
 use Rattle.law_edits.specs.Shelves.{HasMarkedShelf, addresses_at, bottom_of, items_at, memory_behind, new_texts, registers_behind, swap_edit}
 use Rattle.law_edits.specs.Stops.{CanBeSwapped, IsSwapped}

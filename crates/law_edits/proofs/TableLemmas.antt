@@ -1,10 +1,10 @@
 -- What holds of the rows of all calls on two sets of registers holds of the decoding of each number.
 use Rattle.std.proofs.Common.{◌≡◌, ℕ, Bool, cond, None, refl}
 use Rattle.std.specs.Prelude.{◌==◌}
-use Rattle.pt_watched.specs.pr_base.declared.errno.Errno.{Errno}
-use Rattle.pt_watched.specs.pr_base.declared.errno.Errno.TheVariants.{ENOSYS}
-use Rattle.pt_watched.specs.rv_mem.Actions.{Action}
-use Rattle.pt_watched.specs.rv_mem.declared.regs.Regs.{Regs}
+use Rattle.pt_tracer.specs.pr_base.declared.errno.Errno.{Errno}
+use Rattle.pt_tracer.specs.pr_base.declared.errno.Errno.TheVariants.{ENOSYS}
+use Rattle.pt_tracer.specs.rv_mem.Actions.{Action}
+use Rattle.pt_tracer.specs.rv_mem.declared.regs.Regs.{Regs}
 use Rattle.pt_args.specs.kr_calls.Decoding.{Decoded, accepts, by_descriptor, by_file, by_identity, by_memory, by_name, by_name_or_user, by_process, chdir_row, chroot_row, execve_row, faccessat_row, fchmodat_row, fchownat_row, linkat_row, mkdirat_row, newfstatat_row, openat_row, readlinkat_row, refuses, renameat2_row, symlinkat_row, unless, unlinkat_row}
 use Rattle.pt_args.specs.kr_calls.PathTable.{path_at}
 use Rattle.pt_args.specs.kr_calls.declared.request.Request.{Request}

@@ -1,13 +1,13 @@
 -- Texts that are read while a call is decoded.
 use Rattle.std.proofs.Common.{◌≡◌, ◌≢◌, ℕ, Bool, true, false, ◌||◌, List, [], ◌∷◌, Result, Ok, Err, refl, sym, ap, ◌∙◌}
-use Rattle.pt_watched.specs.pr_base.declared.errno.Errno.{Errno}
-use Rattle.pt_watched.specs.pr_base.declared.errno.Errno.TheVariants.{EFAULT, ENAMETOOLONG, ENOENT}
-use Rattle.pt_watched.specs.rv_mem.Actions.{Action, AreEqualUnmarked, CarriedOut, Done, carried_out}
-use Rattle.pt_watched.specs.rv_mem.Memory.{Memory, after_read, text_of, text_reach}
-use Rattle.pt_watched.specs.rv_mem.Pages.{any_marked}
-use Rattle.pt_watched.specs.rv_mem.declared.fault.TextFault.{TextFault}
-use Rattle.pt_watched.specs.rv_mem.declared.fault.TextFault.TheVariants as text
-use Rattle.pt_watched.proofs.rv_mem.ActionLemmas.{reads_alike}
+use Rattle.pt_tracer.specs.pr_base.declared.errno.Errno.{Errno}
+use Rattle.pt_tracer.specs.pr_base.declared.errno.Errno.TheVariants.{EFAULT, ENAMETOOLONG, ENOENT}
+use Rattle.pt_tracer.specs.rv_mem.Actions.{Action, AreEqualUnmarked, CarriedOut, Done, carried_out}
+use Rattle.pt_tracer.specs.rv_mem.Memory.{Memory, after_read, text_of, text_reach}
+use Rattle.pt_tracer.specs.rv_mem.Pages.{any_marked}
+use Rattle.pt_tracer.specs.rv_mem.declared.fault.TextFault.{TextFault}
+use Rattle.pt_tracer.specs.rv_mem.declared.fault.TextFault.TheVariants as text
+use Rattle.pt_tracer.proofs.rv_mem.ActionLemmas.{reads_alike}
 use Rattle.pt_args.specs.kr_calls.Decoding.{Decoded, accepts, named, refuses, text_limit, with_text, with_texts}
 use Rattle.pt_args.specs.kr_calls.Texts.{read_text}
 use Rattle.pt_args.specs.kr_calls.declared.request.Request.{Request}

@@ -1,14 +1,14 @@
 -- A call that a tracer answers at its first stop: the plain kernel finds none, and refuses it.
 use Rattle.std.specs.Prelude.{◌≡◌, List, ℤ, Some, Ok, Err}
-use Rattle.pt_watched.specs.pr_base.declared.errno.Errno.TheVariants.{ENOSYS}
-use Rattle.pt_watched.specs.rv_mem.Memory.{Memory}
+use Rattle.pt_tracer.specs.pr_base.declared.errno.Errno.TheVariants.{ENOSYS}
+use Rattle.pt_tracer.specs.rv_mem.Memory.{Memory}
 use Rattle.pt_args.specs.kr_calls.declared.request.Request.{Request}
 use Rattle.law_walks.specs.kr_view.View.{Row}
-use Rattle.pt_watched.specs.kr_turns.PlainCall.{after_decoding, plain_call, refusal_told}
-use Rattle.pt_watched.specs.kr_turns.Stopped.{IsThere, Stopped, image_at}
+use Rattle.kr_turns.specs.PlainCall.{after_decoding, plain_call, refusal_told}
+use Rattle.kr_turns.specs.kr_stops.Stopped.{IsThere, Stopped, image_at}
 use Rattle.pt_args.specs.declared.edit.Edit.{Edit}
-use Rattle.pt_watched.specs.pt_faker.Stopping.{after_request, decoded_at, memory_at, with_memory}
-use Rattle.pt_watched.specs.Watched.{applied}
+use Rattle.pt_tracer.specs.pt_faker.Stopping.{after_request, decoded_at, memory_at, with_memory}
+use Rattle.pt_tracer.specs.Watched.{applied}
 use Rattle.law_edits.specs.NoCalls.{without_call}
 
 -- what the kernel makes of a stopped process goes by what is decoded of it

@@ -1,9 +1,9 @@
 -- Calls that a tracer answers itself: what it answers and writes is what the kernel with mounts answers and writes.
 use Rattle.std.specs.Prelude.{◌≡◌, ℕ, ℤ, true, List, [], Some}
 use Rattle.std.specs.Option.{option_and_then}
-use Rattle.pt_watched.specs.pr_base.declared.errno.Errno.{Errno}
-use Rattle.pt_watched.specs.rv_mem.Actions.{AreEqualUnmarked, CarriedOut, carried_out}
-use Rattle.pt_watched.specs.rv_mem.Memory.{Memory}
+use Rattle.pt_tracer.specs.pr_base.declared.errno.Errno.{Errno}
+use Rattle.pt_tracer.specs.rv_mem.Actions.{AreEqualUnmarked, CarriedOut, carried_out}
+use Rattle.pt_tracer.specs.rv_mem.Memory.{Memory}
 use Rattle.law_walks.specs.kr_view.Component.{is_directory_at}
 use Rattle.law_walks.specs.kr_view.Living.{Each, HasSmallNumbers}
 use Rattle.law_walks.specs.kr_view.View.{Row}
@@ -17,14 +17,14 @@ use Rattle.law_walks.specs.kr_model.Reply.{Reply, refuse}
 use Rattle.law_walks.specs.kr_model.State.{Image, Process, State, image_layout, process}
 use Rattle.law_walks.specs.kr_model.Walks.{seen}
 use Rattle.law_walks.specs.kr_model.declared.outcome.Outcome.TheVariants.{Answer}
-use Rattle.pt_watched.specs.kr_turns.Stopped.{IsThere, Stopped}
+use Rattle.kr_turns.specs.kr_stops.Stopped.{IsThere, Stopped}
 use Rattle.pt_args.specs.Bases.{working_text}
-use Rattle.pt_watched.specs.pt_bind.Tags.{TagTable}
+use Rattle.pt_tracer.specs.pt_bind.Tags.{TagTable}
 use Rattle.pt_args.specs.pt_canon.TextWalk.{TextSurroundings}
 use Rattle.pt_args.specs.declared.edit.Edit.TheVariants.{Cancel}
-use Rattle.pt_watched.specs.pt_results.Answers.{cwd_answer, lead_answer}
-use Rattle.pt_watched.specs.pt_faker.Stopping.{memory_at}
-use Rattle.pt_watched.specs.Watched.{Applied, applied}
+use Rattle.pt_tracer.specs.pt_results.Answers.{cwd_answer, lead_answer}
+use Rattle.pt_tracer.specs.pt_faker.Stopping.{memory_at}
+use Rattle.pt_tracer.specs.Watched.{Applied, applied}
 use Rattle.law_walks.specs.Scene.{texts_in}
 use Rattle.law_walks.specs.Settled.{IsSettled}
 use Rattle.law_walks.specs.States.{ArePlaced, scene_of}

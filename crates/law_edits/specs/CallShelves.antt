@@ -1,21 +1,21 @@
 -- A call with a path that breaks no calm rule has a shelf, on a machine with mounts and so on a plain one with a tracer.
 use Rattle.std.specs.Prelude.{◌≡◌, ℕ, true, List, None, Some, Ok}
-use Rattle.pt_watched.specs.rv_mem.Actions.{AreEqualUnmarked, carried_out}
-use Rattle.pt_watched.specs.rv_mem.Memory.{Memory}
-use Rattle.pt_watched.specs.rv_mem.Pages.{Pages}
-use Rattle.pt_watched.specs.rv_mem.declared.regs.Regs.{Regs}
+use Rattle.pt_tracer.specs.rv_mem.Actions.{AreEqualUnmarked, carried_out}
+use Rattle.pt_tracer.specs.rv_mem.Memory.{Memory}
+use Rattle.pt_tracer.specs.rv_mem.Pages.{Pages}
+use Rattle.pt_tracer.specs.rv_mem.declared.regs.Regs.{Regs}
 use Rattle.law_walks.specs.kr_view.View.{Row}
 use Rattle.pt_args.specs.kr_calls.Arguments.{number}
 use Rattle.pt_args.specs.kr_calls.Decoding.{decoding}
 use Rattle.pt_args.specs.kr_calls.PathTable.{PathUse, path_at}
 use Rattle.pt_args.specs.kr_calls.declared.request.Request.{Request}
 use Rattle.law_walks.specs.kr_model.State.{Image, Process, State, process}
-use Rattle.pt_watched.specs.kr_calm.Shelf.{has_path, is_usable, stack_pointer}
-use Rattle.pt_watched.specs.kr_turns.Breaking.{plain_rule}
-use Rattle.pt_watched.specs.kr_turns.Shelving.{lacks_in, shelved_in}
-use Rattle.pt_watched.specs.kr_turns.Stopped.{Stopped, image_at}
-use Rattle.pt_watched.specs.pt_faker.Stopping.{memory_at}
-use Rattle.pt_watched.specs.Planning.{has_shelf}
+use Rattle.kr_turns.specs.kr_calm.Shelf.{has_path, is_usable, stack_pointer}
+use Rattle.kr_turns.specs.Breaking.{plain_rule}
+use Rattle.kr_turns.specs.Shelving.{lacks_in, shelved_in}
+use Rattle.kr_turns.specs.kr_stops.Stopped.{Stopped, image_at}
+use Rattle.pt_tracer.specs.pt_faker.Stopping.{memory_at}
+use Rattle.pt_tracer.specs.Planning.{has_shelf}
 
 -- a request with a path has the number of a call with one
 abbrev pub PathsHaveNumbers : Type 0

@@ -2,16 +2,16 @@
 use Rattle.std.specs.FinMap as map
 use Rattle.std.specs.Prelude.{◌≡◌, ℕ, ℤ, false, List, Option, None, Some, Ok, slice_set}
 use Rattle.std.specs.Int.{cast_signed, w64}
-use Rattle.pt_watched.specs.rv_mem.Memory.{Memory}
+use Rattle.pt_tracer.specs.rv_mem.Memory.{Memory}
 use Rattle.pt_args.specs.kr_calls.declared.request.Request.{Request}
-use Rattle.pt_watched.specs.kr_turns.Stopped.{IsThere, Stopped, edited, image_at}
-use Rattle.pt_watched.specs.pt_results.Notes.{noted, tags_after}
-use Rattle.pt_watched.specs.pt_faker.Faking.{word_of}
-use Rattle.pt_watched.specs.pt_faker.Stopping.{after_request, decoded_at, memory_at, with_memory}
-use Rattle.pt_watched.specs.Planning.{stack_at}
-use Rattle.pt_watched.specs.Registers.{arguments_at}
-use Rattle.pt_watched.specs.Watched.{Tracing, awaiting, exited, is_execve, with_tags, without_pending}
-use Rattle.pt_watched.specs.declared.plan.Led.{Led}
+use Rattle.kr_turns.specs.kr_stops.Stopped.{IsThere, Stopped, edited, image_at}
+use Rattle.pt_tracer.specs.pt_results.Notes.{noted, tags_after}
+use Rattle.pt_tracer.specs.pt_faker.Faking.{word_of}
+use Rattle.pt_tracer.specs.pt_faker.Stopping.{after_request, decoded_at, memory_at, with_memory}
+use Rattle.pt_tracer.specs.Planning.{stack_at}
+use Rattle.pt_tracer.specs.Registers.{arguments_at}
+use Rattle.pt_tracer.specs.Watched.{Tracing, awaiting, exited, is_execve, with_tags, without_pending}
+use Rattle.pt_tracer.specs.declared.plan.Led.{Led}
 use Rattle.law_edits.specs.NoCalls.{without_call}
 use Rattle.law_edits.specs.Requests.{AreOfPaths, NewText}
 use Rattle.law_edits.specs.Shelves.{registers_behind}

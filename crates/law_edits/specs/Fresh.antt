@@ -1,18 +1,18 @@
 -- Memories in which no byte is marked, as those of new programs are: nothing that is read in them counts as read of a mark.
 use Rattle.std.specs.FinMap as map
 use Rattle.std.specs.Prelude.{◌≡◌, ℕ, false, List, Some, Ok}
-use Rattle.pt_watched.specs.rv_mem.Actions.{Action, carried_out}
-use Rattle.pt_watched.specs.rv_mem.Marks.{no_marks}
-use Rattle.pt_watched.specs.rv_mem.Memory.{Memory}
-use Rattle.pt_watched.specs.rv_mem.Page.{PageState}
-use Rattle.pt_watched.specs.rv_mem.Pages.{Pages}
-use Rattle.pt_watched.specs.elf_load.Image.{image_memory}
-use Rattle.pt_watched.specs.elf_read.declared.plan.Plan.{Plan}
-use Rattle.pt_watched.specs.kr_execve.Execution.{Program, execution}
+use Rattle.pt_tracer.specs.rv_mem.Actions.{Action, carried_out}
+use Rattle.pt_tracer.specs.rv_mem.Marks.{no_marks}
+use Rattle.pt_tracer.specs.rv_mem.Memory.{Memory}
+use Rattle.pt_tracer.specs.rv_mem.Page.{PageState}
+use Rattle.pt_tracer.specs.rv_mem.Pages.{Pages}
+use Rattle.pt_tracer.specs.elf_load.Image.{image_memory}
+use Rattle.pt_tracer.specs.elf_read.declared.plan.Plan.{Plan}
+use Rattle.kr_turns.specs.kr_execve.Execution.{Program, execution}
 use Rattle.law_walks.specs.kr_model.State.{Image, State}
 use Rattle.law_walks.specs.kr_view.View.{Row}
-use Rattle.pt_watched.specs.pt_ident.Identity.{Identity}
-use Rattle.pt_watched.specs.pt_faker.Faking.{show_identity}
+use Rattle.pt_tracer.specs.pt_ident.Identity.{Identity}
+use Rattle.pt_tracer.specs.pt_faker.Faking.{show_identity}
 
 abbrev pub HasNoMark : Pages → Type 0
 HasNoMark m = (k : ℕ) (p : PageState) → map.get m k ≡ Some p → p.marks ≡ no_marks

@@ -1,10 +1,10 @@
 -- The shelf that the other machine marks is the one on which a tracer puts its texts.
 use Rattle.std.specs.Prelude.{◌≡◌, true}
-use Rattle.pt_watched.specs.rv_mem.Memory.{Memory}
-use Rattle.pt_watched.specs.rv_mem.Pages.{IsWhole}
-use Rattle.pt_watched.specs.rv_mem.declared.regs.Regs.{Regs}
+use Rattle.pt_tracer.specs.rv_mem.Memory.{Memory}
+use Rattle.pt_tracer.specs.rv_mem.Pages.{IsWhole}
+use Rattle.pt_tracer.specs.rv_mem.declared.regs.Regs.{Regs}
 use Rattle.pt_args.specs.kr_calls.Arguments.{number}
-use Rattle.pt_watched.specs.kr_calm.Shelf.{has_path, is_usable, shelved_by, stack_pointer}
+use Rattle.kr_turns.specs.kr_calm.Shelf.{has_path, is_usable, shelved_by, stack_pointer}
 use Rattle.law_edits.specs.Shelves.{HasMarkedShelf}
 
 -- of a call with a path, where it can be used

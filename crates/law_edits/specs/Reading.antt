@@ -1,14 +1,14 @@
 -- The lists of texts of execve(2) that a tracer reads by peeks are those that the kernel reads, from the same bytes.
 use Rattle.std.specs.Prelude.{◌≡◌, ℕ, false, Result, Ok, Err}
-use Rattle.pt_watched.specs.pr_base.declared.errno.Errno.{Errno}
-use Rattle.pt_watched.specs.rv_mem.Actions.{AreEqualUnmarked, CarriedOut, carried_out}
-use Rattle.pt_watched.specs.rv_mem.Memory.{Memory}
-use Rattle.pt_watched.specs.rv_mem.Pages.{IsPlaced}
+use Rattle.pt_tracer.specs.pr_base.declared.errno.Errno.{Errno}
+use Rattle.pt_tracer.specs.rv_mem.Actions.{AreEqualUnmarked, CarriedOut, carried_out}
+use Rattle.pt_tracer.specs.rv_mem.Memory.{Memory}
+use Rattle.pt_tracer.specs.rv_mem.Pages.{IsPlaced}
 use Rattle.pt_args.specs.kr_calls.Expansion.{bytes_with_ends}
-use Rattle.pt_watched.specs.kr_exec.Lists as kernel
-use Rattle.pt_watched.specs.kr_exec.declared.lists.Lists.{Lists}
-use Rattle.pt_watched.specs.pt_faker.Reading as tracer
-use Rattle.pt_watched.specs.pt_faker.declared.lists.Handed.{Handed}
+use Rattle.pt_tracer.specs.kr_exec.Lists as kernel
+use Rattle.pt_tracer.specs.kr_exec.declared.lists.Lists.{Lists}
+use Rattle.pt_tracer.specs.pt_faker.Reading as tracer
+use Rattle.pt_tracer.specs.pt_faker.declared.lists.Handed.{Handed}
 
 -- of an environment a tracer keeps how many bytes it has
 abbrev pub handed : Lists → Handed

@@ -1,9 +1,9 @@
 -- What a tracer writes where it swaps paths: the new texts on the shelf, and their addresses in the registers of the paths.
 use Rattle.std.specs.Prelude.{◌≡◌, ◌≢◌, ℕ, ◌-◌, ◌≤◌, ◌<◌, true, List, [], ◌∷◌, length, map, Option, Some, None, slice_set}
-use Rattle.pt_watched.specs.rv_mem.Memory.{Memory, with_pages}
-use Rattle.pt_watched.specs.rv_mem.Pages.{Pages, allows}
-use Rattle.pt_watched.specs.rv_mem.declared.regs.Regs.{Regs}
-use Rattle.pt_watched.specs.rv_mem.declared.rights.Use.TheVariants.{Read}
+use Rattle.pt_tracer.specs.rv_mem.Memory.{Memory, with_pages}
+use Rattle.pt_tracer.specs.rv_mem.Pages.{Pages, allows}
+use Rattle.pt_tracer.specs.rv_mem.declared.regs.Regs.{Regs}
+use Rattle.pt_tracer.specs.rv_mem.declared.rights.Use.TheVariants.{Read}
 use Rattle.pt_args.specs.Laws.{IsPathText, poked}
 use Rattle.pt_args.specs.Shelving.{address_below, shelved, with_zero}
 use Rattle.pt_args.specs.declared.edit.Edit.{Edit}

@@ -1,11 +1,11 @@
 -- How long the texts are that a tracer hands to the plain kernel: what the walk of the kernel with mounts reaches bounds them.
 use Rattle.std.specs.Prelude.{◌≡◌, ◌≤◌, ℕ, Bool, false, List, ◌∷◌, length, Some, None, Ok}
-use Rattle.pt_watched.specs.pr_base.Paths.{text_of}
-use Rattle.pt_watched.specs.pr_base.Texts.{Text}
-use Rattle.pt_watched.specs.pr_base.WalkFrame.{Target}
-use Rattle.pt_watched.specs.pr_base.declared.path.Last.TheVariants as last
-use Rattle.pt_watched.specs.pr_base.declared.path.WalkMode.{WalkMode}
-use Rattle.pt_watched.specs.pr_base.declared.path.WalkMode.TheVariants as modes
+use Rattle.pt_tracer.specs.pr_base.Paths.{text_of}
+use Rattle.pt_tracer.specs.pr_base.Texts.{Text}
+use Rattle.pt_tracer.specs.pr_base.WalkFrame.{Target}
+use Rattle.pt_tracer.specs.pr_base.declared.path.Last.TheVariants as last
+use Rattle.pt_tracer.specs.pr_base.declared.path.WalkMode.{WalkMode}
+use Rattle.pt_tracer.specs.pr_base.declared.path.WalkMode.TheVariants as modes
 use Rattle.pt_args.specs.Purposes.{purpose_of, swap_for}
 use Rattle.pt_args.specs.pt_canon.Canon.{canon_of}
 use Rattle.pt_args.specs.pt_canon.declared.canon.Canon.{Canon}

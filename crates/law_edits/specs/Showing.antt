@@ -1,11 +1,11 @@
 -- What watchers do for identities in two memories that are equal but for marked bytes.
 use Rattle.std.specs.Prelude.{◌≡◌, ℕ, false, List, length}
-use Rattle.pt_watched.specs.rv_mem.Actions.{AreEqualUnmarked, CarriedOut, carried_out}
-use Rattle.pt_watched.specs.rv_mem.Memory.{Memory, with_pages}
-use Rattle.pt_watched.specs.rv_mem.Pages.{written}
-use Rattle.pt_watched.specs.kr_inode.declared.user.User.{User}
-use Rattle.pt_watched.specs.pt_ident.Identity.{Effect, Identity, on_memory}
-use Rattle.pt_watched.specs.pt_faker.Faking.{show_owner}
+use Rattle.pt_tracer.specs.rv_mem.Actions.{AreEqualUnmarked, CarriedOut, carried_out}
+use Rattle.pt_tracer.specs.rv_mem.Memory.{Memory, with_pages}
+use Rattle.pt_tracer.specs.rv_mem.Pages.{written}
+use Rattle.pt_tracer.specs.kr_inode.declared.user.User.{User}
+use Rattle.pt_tracer.specs.pt_ident.Identity.{Effect, Identity, on_memory}
+use Rattle.pt_tracer.specs.pt_faker.Faking.{show_owner}
 
 -- carried out on both, no marked byte was read, and all other bytes are equal
 pub record LeaveAlike {A : Type 0} (one other : CarriedOut A) : Type 0 where

@@ -1,12 +1,12 @@
 -- A stopped process behind the swap of its call's paths.
 use Rattle.std.specs.Prelude.{◌≡◌, true, Option, None, Ok}
-use Rattle.pt_watched.specs.rv_mem.Actions.{AreEqualUnmarked}
-use Rattle.pt_watched.specs.rv_mem.Memory.{Memory}
+use Rattle.pt_tracer.specs.rv_mem.Actions.{AreEqualUnmarked}
+use Rattle.pt_tracer.specs.rv_mem.Memory.{Memory}
 use Rattle.pt_args.specs.kr_calls.declared.request.Request.{Request}
-use Rattle.pt_watched.specs.kr_turns.Stopped.{IsThere, Stopped, edited, image_at}
-use Rattle.pt_watched.specs.pt_faker.Stopping.{after_request, decoded_at, memory_at}
-use Rattle.pt_watched.specs.Planning.{has_shelf, stack_at}
-use Rattle.pt_watched.specs.Watched.{Applied, applied}
+use Rattle.kr_turns.specs.kr_stops.Stopped.{IsThere, Stopped, edited, image_at}
+use Rattle.pt_tracer.specs.pt_faker.Stopping.{after_request, decoded_at, memory_at}
+use Rattle.pt_tracer.specs.Planning.{has_shelf, stack_at}
+use Rattle.pt_tracer.specs.Watched.{Applied, applied}
 use Rattle.law_edits.specs.Requests.{AreOfPaths, NewText, with_swaps}
 use Rattle.law_edits.specs.Shelves.{CanBePath, CanSecondBePath, bottom_of, memory_behind, registers_behind, swap_edit}
 use Rattle.law_edits.specs.Swapped.{AreMarkedFrom, IsDecodedCalmly}

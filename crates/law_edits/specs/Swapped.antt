@@ -1,10 +1,10 @@
 -- The registers and the memory of a call behind the swap of its paths, and the memory by which it is judged that a text which is no
 -- path, or a path that stays, lies off the shelf.
 use Rattle.std.specs.Prelude.{◌≡◌, ◌≢◌, ℕ, ◌≤◌, ◌<◌, true, false, [], Option, Some, None, Ok, slice_index}
-use Rattle.pt_watched.specs.rv_mem.Actions.{AreEqualUnmarked, carried_out}
-use Rattle.pt_watched.specs.rv_mem.Memory.{Memory, text_of}
-use Rattle.pt_watched.specs.rv_mem.Pages.{Pages, is_marked}
-use Rattle.pt_watched.specs.rv_mem.declared.regs.Regs.{Regs}
+use Rattle.pt_tracer.specs.rv_mem.Actions.{AreEqualUnmarked, carried_out}
+use Rattle.pt_tracer.specs.rv_mem.Memory.{Memory, text_of}
+use Rattle.pt_tracer.specs.rv_mem.Pages.{Pages, is_marked}
+use Rattle.pt_tracer.specs.rv_mem.declared.regs.Regs.{Regs}
 use Rattle.pt_args.specs.kr_calls.Decoding.{decoding, text_limit}
 use Rattle.law_edits.specs.Requests.{NewText}
 

@@ -29,17 +29,17 @@ use Rattle.law_stops.specs.kr_steps.Answering.{answered, going, resumed, with_an
 use Rattle.law_stops.specs.kr_steps.Calls.{LastsLawful}
 use Rattle.law_stops.specs.kr_steps.Computing.{computed}
 use Rattle.law_stops.specs.kr_turns.PlainCall.{Came, executed, plain_call, refusal_told, replaced}
-use Rattle.law_stops.specs.kr_turns.Stopped.{IsThere, Stopped, edited, image_at}
+use Rattle.law_stops.specs.kr_stops.Stopped.{IsThere, Stopped, edited, image_at}
 use Rattle.law_stops.specs.kr_turns.Turn.{Machine, Tally, after_exit, after_plain, called, calling, watched_call}
-use Rattle.law_stops.specs.kr_turns.Watching.{unwatched}
+use Rattle.law_stops.specs.kr_stops.Watching.{unwatched}
 use Rattle.law_stops.specs.kr_turns.declared.plain.CallEnd.TheVariants as end
-use Rattle.law_stops.proofs.kr_turns.EditLemmas.{there as is_there}
+use Rattle.law_stops.proofs.kr_stops.EditLemmas.{there as is_there}
 use Rattle.law_stops.specs.pt_faker.Faking.{has_answered_zero, word_of}
 use Rattle.law_stops.specs.pt_faker.Stopping.{after_request, decoded_at, register_at}
-use Rattle.law_stops.specs.pt_watched.Registers.{arguments_at}
-use Rattle.law_stops.specs.pt_watched.Watched.{Tracing, after_pending, awaiting, begin_as, begin_program, entered, exited, give_back, has_begun, tracer, with_pending, with_tags, without_pending}
-use Rattle.law_stops.specs.pt_watched.declared.pending.Pending.{Pending}
-use Rattle.law_stops.specs.pt_watched.declared.plan.Led.{Led}
+use Rattle.law_stops.specs.pt_tracer.Registers.{arguments_at}
+use Rattle.law_stops.specs.pt_tracer.Watched.{Tracing, after_pending, awaiting, begin_as, begin_program, entered, exited, give_back, has_begun, tracer, with_pending, with_tags, without_pending}
+use Rattle.law_stops.specs.pt_tracer.declared.pending.Pending.{Pending}
+use Rattle.law_stops.specs.pt_tracer.declared.plan.Led.{Led}
 use Rattle.law_stops.specs.law_edits.Answered.{StandsAtNoCall}
 use Rattle.law_stops.specs.law_edits.Exits.{left_with}
 use Rattle.law_stops.specs.law_edits.NoCalls.{without_call}

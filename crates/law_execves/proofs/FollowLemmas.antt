@@ -49,16 +49,16 @@ use Rattle.law_stops.specs.kr_model.ProcessDirectory.{around_of}
 use Rattle.law_stops.specs.kr_model.State.{Image, Process, State, process}
 use Rattle.law_stops.specs.kr_steps.Computing.{computed}
 use Rattle.law_stops.specs.kr_turns.Breaking.{nothing_reached}
-use Rattle.law_stops.specs.kr_turns.Stopped.{Stopped, edited, image_at}
+use Rattle.law_stops.specs.kr_stops.Stopped.{Stopped, edited, image_at}
 use Rattle.law_stops.specs.kr_turns.Turn.{Machine, calling, watched_call}
-use Rattle.law_stops.specs.kr_turns.Watching.{unwatched}
-use Rattle.law_stops.proofs.kr_turns.EditLemmas.{edited-twice, image-edited}
+use Rattle.law_stops.specs.kr_stops.Watching.{unwatched}
+use Rattle.law_stops.proofs.kr_stops.EditLemmas.{edited-twice, image-edited}
 use Rattle.law_stops.specs.pt_faker.Stopping.{after_request, decoded_at, memory_at, with_memory}
-use Rattle.law_stops.specs.pt_watched.Planning.{after_expansion, after_lists, after_path, has_shelf, led_in, led_of, nowhere, planned, rewritten, script_plan, stack_at, texts_at}
-use Rattle.law_stops.specs.pt_watched.ScriptEdit.{put_texts, script_room, shelved_script}
-use Rattle.law_stops.specs.pt_watched.Watched.{Tracing, after_decoding, after_plan, by_identities, entered}
-use Rattle.law_stops.specs.pt_watched.declared.plan.Led.{Led}
-use Rattle.law_stops.specs.pt_watched.declared.plan.Plan.{Plan}
+use Rattle.law_stops.specs.pt_tracer.Planning.{after_expansion, after_lists, after_path, has_shelf, led_in, led_of, nowhere, planned, rewritten, script_plan, stack_at, texts_at}
+use Rattle.law_stops.specs.pt_tracer.ScriptEdit.{put_texts, script_room, shelved_script}
+use Rattle.law_stops.specs.pt_tracer.Watched.{Tracing, after_decoding, after_plan, by_identities, entered}
+use Rattle.law_stops.specs.pt_tracer.declared.plan.Led.{Led}
+use Rattle.law_stops.specs.pt_tracer.declared.plan.Plan.{Plan}
 use Rattle.law_stops.specs.law_edits.Reading.{handed_or, read_by_tracer}
 use Rattle.law_stops.proofs.law_edits.ReadLemmas.{lists_are_read_alike, shown_lists_are_read_alike}
 use Rattle.law_stops.specs.law_turns.Calls.{decoded_by}

@@ -26,15 +26,15 @@ use Rattle.law_stops.specs.kr_model.ProcessDirectory.{living_of, space_of}
 use Rattle.law_stops.specs.kr_model.State.{Image, Process, State, image_layout, process}
 use Rattle.law_plans.proofs.kr_seen.StandingLemmas.{living-small}
 use Rattle.law_stops.specs.kr_steps.Computing.{computed}
-use Rattle.law_stops.specs.kr_turns.Stopped.{IsThere, Stopped, edited, image_at}
+use Rattle.law_stops.specs.kr_stops.Stopped.{IsThere, Stopped, edited, image_at}
 use Rattle.law_stops.specs.kr_turns.Turn.{Machine, called, calling, watched_call}
-use Rattle.law_stops.specs.kr_turns.Watching.{unwatched}
-use Rattle.law_stops.proofs.kr_turns.EditLemmas.{edited-twice, image-edited, there as is_there}
+use Rattle.law_stops.specs.kr_stops.Watching.{unwatched}
+use Rattle.law_stops.proofs.kr_stops.EditLemmas.{edited-twice, image-edited, there as is_there}
 use Rattle.law_stops.specs.pt_faker.Faking.{no_longer_called, word_of}
 use Rattle.law_stops.specs.pt_faker.Stopping.{after_request, decoded_at, memory_at, with_memory}
-use Rattle.law_stops.specs.pt_watched.Registers.{arguments_at}
-use Rattle.law_stops.specs.pt_watched.Watched.{Tracing, awaiting, entered, exited, with_pending}
-use Rattle.law_stops.specs.pt_watched.declared.plan.Led.{Led}
+use Rattle.law_stops.specs.pt_tracer.Registers.{arguments_at}
+use Rattle.law_stops.specs.pt_tracer.Watched.{Tracing, awaiting, entered, exited, with_pending}
+use Rattle.law_stops.specs.pt_tracer.declared.plan.Led.{Led}
 use Rattle.law_stops.specs.law_edits.Answered.{StandsAtNoCall}
 use Rattle.law_stops.specs.law_edits.Exits.{left_with}
 use Rattle.law_stops.specs.law_edits.NoCalls.{without_call}

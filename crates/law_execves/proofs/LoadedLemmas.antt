@@ -20,12 +20,12 @@ use Rattle.law_stops.specs.kr_model.State.{Image, Process, State, process, with_
 use Rattle.law_stops.specs.kr_steps.Answering.{going, resumed}
 use Rattle.law_stops.specs.kr_steps.Calls.{LastsLawful}
 use Rattle.law_stops.specs.kr_turns.PlainCall.{Came, plain_call, replaced}
-use Rattle.law_stops.specs.kr_turns.Stopped.{image_in}
+use Rattle.law_stops.specs.kr_stops.Stopped.{image_in}
 use Rattle.law_stops.specs.kr_turns.Turn.{Machine, Tally, after_exit, after_plain, called, watched_call}
-use Rattle.law_stops.specs.kr_turns.Watching.{unwatched}
+use Rattle.law_stops.specs.kr_stops.Watching.{unwatched}
 use Rattle.law_stops.specs.kr_turns.declared.plain.CallEnd.TheVariants as end
 use Rattle.law_stops.specs.pt_faker.Faking.{has_answered_zero}
-use Rattle.law_stops.specs.pt_watched.Watched.{Tracing, tracer}
+use Rattle.law_stops.specs.pt_tracer.Watched.{Tracing, tracer}
 use Rattle.law_plans.specs.law_places.Matching.{IsMatch}
 use Rattle.law_stops.specs.law_walks.Scene.{IsMatched}
 use Rattle.law_stops.specs.law_walks.States.{scene_of}

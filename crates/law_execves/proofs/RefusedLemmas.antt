@@ -20,11 +20,11 @@ use Rattle.law_stops.specs.kr_steps.Answering.{answered, going, with_answer}
 use Rattle.law_stops.specs.kr_steps.Calls.{LastsLawful}
 use Rattle.law_stops.specs.kr_steps.Computing.{computed}
 use Rattle.law_stops.specs.kr_turns.PlainCall.{Came, executed, plain_call, refusal_told, replaced}
-use Rattle.law_stops.specs.kr_turns.Stopped.{image_in}
+use Rattle.law_stops.specs.kr_stops.Stopped.{image_in}
 use Rattle.law_stops.specs.kr_turns.Turn.{Machine, Tally, after_exit, after_plain, called, watched_call}
-use Rattle.law_stops.specs.kr_turns.Watching.{unwatched}
+use Rattle.law_stops.specs.kr_stops.Watching.{unwatched}
 use Rattle.law_stops.specs.pt_faker.Faking.{has_answered_zero}
-use Rattle.law_stops.specs.pt_watched.Watched.{Tracing, tracer}
+use Rattle.law_stops.specs.pt_tracer.Watched.{Tracing, tracer}
 use Rattle.law_plans.specs.law_places.Matching.{IsMatch}
 use Rattle.law_stops.specs.law_turns.Calls.{decoded_by, decoded_in}
 use Rattle.law_stops.specs.law_turns.Lasting.{CanBeCalled}

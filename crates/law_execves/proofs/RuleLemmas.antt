@@ -13,13 +13,13 @@ use Rattle.law_plans.specs.kr_calm.Shelf.{has_path, is_usable, stack_pointer}
 use Rattle.law_programs.specs.kr_execve.Execution.{execution, execution_reach}
 use Rattle.law_stops.specs.kr_model.State.{Image, Process, State, process}
 use Rattle.law_stops.specs.kr_turns.Breaking.{decoded_rule, executed_rule, nothing_reached, plain_rule_of}
-use Rattle.law_stops.specs.kr_turns.Stopped.{Stopped, edited}
-use Rattle.law_stops.proofs.kr_turns.EditLemmas.{image-edited}
+use Rattle.law_stops.specs.kr_stops.Stopped.{Stopped, edited}
+use Rattle.law_stops.proofs.kr_stops.EditLemmas.{image-edited}
 use Rattle.law_stops.specs.kr_turns.Turn.{Machine, calling, watched_call}
-use Rattle.law_stops.specs.kr_turns.Watching.{unwatched}
+use Rattle.law_stops.specs.kr_stops.Watching.{unwatched}
 use Rattle.law_stops.specs.pt_faker.Stopping.{decoded_at}
-use Rattle.law_stops.specs.pt_watched.Planning.{has_shelf}
-use Rattle.law_stops.specs.pt_watched.Watched.{Tracing}
+use Rattle.law_stops.specs.pt_tracer.Planning.{has_shelf}
+use Rattle.law_stops.specs.pt_tracer.Watched.{Tracing}
 use Rattle.law_stops.specs.law_edits.Shelves.{bottom_of}
 use Rattle.law_stops.specs.law_edits.Swapped.{AreMarkedFrom}
 use Rattle.law_stops.proofs.law_edits.MarkLemmas.{shelves_are_marked}

@@ -20,10 +20,10 @@ use Rattle.law_stops.proofs.kr_model.BareLemmas.{process-bare}
 use Rattle.law_plans.proofs.kr_seen.StandingLemmas.{living-small}
 use Rattle.law_stops.specs.kr_steps.Computing.{computed}
 use Rattle.law_stops.specs.kr_turns.Turn.{Machine, calling, watched_call}
-use Rattle.law_stops.specs.kr_turns.Watching.{unwatched}
+use Rattle.law_stops.specs.kr_stops.Watching.{unwatched}
 use Rattle.law_stops.specs.pt_faker.Stopping.{after_request, decoded_at, memory_at}
-use Rattle.law_stops.specs.pt_watched.Planning.{texts_at}
-use Rattle.law_stops.specs.pt_watched.Watched.{Tracing}
+use Rattle.law_stops.specs.pt_tracer.Planning.{texts_at}
+use Rattle.law_stops.specs.pt_tracer.Watched.{Tracing}
 use Rattle.law_stops.specs.law_walks.Scene.{IsMatched}
 use Rattle.law_stops.specs.law_walks.States.{scene_of}
 use Rattle.law_stops.specs.law_walks.Alike.{AreEqualButForMounts}

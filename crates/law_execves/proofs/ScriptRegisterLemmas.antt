@@ -16,15 +16,15 @@ use Rattle.pt_args.specs.kr_calls.PathTable.{path_at}
 use Rattle.pt_args.specs.kr_calls.declared.request.Request.{Request}
 use Rattle.pt_args.specs.kr_calls.declared.request.Request.TheVariants as call
 use Rattle.law_stops.specs.kr_model.State.{Image}
-use Rattle.law_stops.specs.kr_turns.Stopped.{IsThere, Stopped, edited, image_at}
+use Rattle.law_stops.specs.kr_stops.Stopped.{IsThere, Stopped, edited, image_at}
 use Rattle.law_stops.specs.pt_results.Notes.{noted, tags_after}
 use Rattle.law_stops.specs.pt_ident.Identity.{refusal}
 use Rattle.law_stops.specs.pt_faker.Faking.{word_of}
 use Rattle.law_stops.specs.pt_faker.Stopping.{memory_at}
-use Rattle.law_stops.specs.pt_watched.Registers.{given_back}
-use Rattle.law_stops.specs.pt_watched.Watched.{Tracing, answer_at, awaiting, exited, has_begun, is_execve, with_tags, without_pending}
-use Rattle.law_stops.specs.pt_watched.declared.plan.Led.{Led}
-use Rattle.law_stops.specs.pt_watched.declared.registers.Arguments.{Arguments}
+use Rattle.law_stops.specs.pt_tracer.Registers.{given_back}
+use Rattle.law_stops.specs.pt_tracer.Watched.{Tracing, answer_at, awaiting, exited, has_begun, is_execve, with_tags, without_pending}
+use Rattle.law_stops.specs.pt_tracer.declared.plan.Led.{Led}
+use Rattle.law_stops.specs.pt_tracer.declared.registers.Arguments.{Arguments}
 use Rattle.law_stops.specs.law_edits.Exits.{left_with}
 use Rattle.law_stops.specs.law_edits.Requests.{path_register}
 use Rattle.law_stops.specs.law_edits.Shelves.{with_words}

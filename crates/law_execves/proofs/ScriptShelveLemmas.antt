@@ -24,19 +24,19 @@ use Rattle.law_stops.specs.law_kept.Bytes.{HasBytes}
 use Rattle.law_stops.proofs.law_kept.LivingLemmas.{process-bytes}
 use Rattle.law_stops.specs.kr_model.State.{Image, Process, process}
 use Rattle.law_stops.specs.kr_turns.PlainCall.{Came}
-use Rattle.law_stops.specs.kr_turns.Stopped.{IsThere, Stopped, edited, image_at}
+use Rattle.law_stops.specs.kr_stops.Stopped.{IsThere, Stopped, edited, image_at}
 use Rattle.law_stops.specs.kr_turns.Turn.{Machine, called, calling, watched_call}
-use Rattle.law_stops.specs.kr_turns.Watching.{unwatched}
-use Rattle.law_stops.proofs.kr_turns.EditLemmas.{image-edited}
+use Rattle.law_stops.specs.kr_stops.Watching.{unwatched}
+use Rattle.law_stops.proofs.kr_stops.EditLemmas.{image-edited}
 use Rattle.law_stops.specs.pt_faker.Faking.{word_of}
 use Rattle.law_stops.specs.pt_faker.Stopping.{after_request, decoded_at, memory_at, with_memory}
 use Rattle.law_stops.specs.pt_ident.Identity.{refusal}
-use Rattle.law_stops.specs.pt_watched.Planning.{has_shelf, planned, stack_at}
-use Rattle.law_stops.specs.pt_watched.Poking.{may_poke, poked}
-use Rattle.law_stops.specs.pt_watched.Registers.{arguments_at, with_arguments}
-use Rattle.law_stops.specs.pt_watched.ScriptEdit.{list_item, script_room, shelved_script}
-use Rattle.law_stops.specs.pt_watched.Watched.{Applied, Tracing, after_decoding, after_plan, applied, awaiting, by_identities, entered, exited, keeping, refused, with_pending}
-use Rattle.law_stops.specs.pt_watched.declared.plan.Led.{Led}
+use Rattle.law_stops.specs.pt_tracer.Planning.{has_shelf, planned, stack_at}
+use Rattle.law_stops.specs.pt_tracer.Poking.{may_poke, poked}
+use Rattle.law_stops.specs.pt_tracer.Registers.{arguments_at, with_arguments}
+use Rattle.law_stops.specs.pt_tracer.ScriptEdit.{list_item, script_room, shelved_script}
+use Rattle.law_stops.specs.pt_tracer.Watched.{Applied, Tracing, after_decoding, after_plan, applied, awaiting, by_identities, entered, exited, keeping, refused, with_pending}
+use Rattle.law_stops.specs.pt_tracer.declared.plan.Led.{Led}
 use Rattle.law_stops.specs.law_edits.Exits.{left_with}
 use Rattle.law_stops.specs.law_edits.Shelves.{bottom_of}
 use Rattle.law_stops.specs.law_edits.Swapped.{AreMarkedFrom}

@@ -30,19 +30,19 @@ use Rattle.law_programs.specs.law_allowed.Texts.{IsText}
 use Rattle.law_programs.specs.kr_tree.Lawful.{AreBytes}
 use Rattle.law_stops.specs.kr_model.State.{Image, Process, process}
 use Rattle.law_stops.specs.kr_turns.PlainCall.{Came}
-use Rattle.law_stops.specs.kr_turns.Stopped.{IsThere, Stopped, edited, image_at}
+use Rattle.law_stops.specs.kr_stops.Stopped.{IsThere, Stopped, edited, image_at}
 use Rattle.law_stops.specs.kr_turns.Turn.{Machine, called, calling, watched_call}
-use Rattle.law_stops.specs.kr_turns.Watching.{unwatched}
-use Rattle.law_stops.proofs.kr_turns.EditLemmas.{image-edited}
+use Rattle.law_stops.specs.kr_stops.Watching.{unwatched}
+use Rattle.law_stops.proofs.kr_stops.EditLemmas.{image-edited}
 use Rattle.law_stops.specs.pt_faker.Faking.{word_of}
 use Rattle.law_stops.specs.pt_faker.Stopping.{after_request, decoded_at, memory_at, with_memory}
-use Rattle.law_stops.specs.pt_watched.Planning.{has_shelf, planned, stack_at}
-use Rattle.law_stops.specs.pt_watched.Poking.{may_poke, poked}
-use Rattle.law_stops.specs.pt_watched.Registers.{arguments_at, with_arguments}
-use Rattle.law_stops.specs.pt_watched.Watched.{Applied, Tracing, after_decoding, after_plan, answer_at, applied, awaiting, by_identities, entered, exited, keeping, refused, returned, with_pending, with_tags, without_pending}
-use Rattle.law_stops.specs.pt_watched.declared.pending.Pending.{Pending}
-use Rattle.law_stops.specs.pt_watched.declared.plan.Led.{Led}
-use Rattle.law_stops.specs.pt_watched.declared.registers.Arguments.{Arguments}
+use Rattle.law_stops.specs.pt_tracer.Planning.{has_shelf, planned, stack_at}
+use Rattle.law_stops.specs.pt_tracer.Poking.{may_poke, poked}
+use Rattle.law_stops.specs.pt_tracer.Registers.{arguments_at, with_arguments}
+use Rattle.law_stops.specs.pt_tracer.Watched.{Applied, Tracing, after_decoding, after_plan, answer_at, applied, awaiting, by_identities, entered, exited, keeping, refused, returned, with_pending, with_tags, without_pending}
+use Rattle.law_stops.specs.pt_tracer.declared.pending.Pending.{Pending}
+use Rattle.law_stops.specs.pt_tracer.declared.plan.Led.{Led}
+use Rattle.law_stops.specs.pt_tracer.declared.registers.Arguments.{Arguments}
 use Rattle.law_stops.specs.law_edits.Exits.{left_with}
 use Rattle.law_stops.specs.law_edits.Requests.{NewText}
 use Rattle.law_stops.specs.law_edits.Shelves.{addresses_at, bottom_of, items_at, memory_behind, new_texts, registers_behind, swap_edit}

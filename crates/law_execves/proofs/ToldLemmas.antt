@@ -8,7 +8,7 @@ use Rattle.pt_args.specs.kr_calls.declared.request.Request.TheVariants as call
 use Rattle.law_stops.specs.kr_model.State.{Image, Process, process}
 use Rattle.law_stops.specs.kr_turns.Turn.{Machine}
 use Rattle.law_stops.specs.pt_faker.Faking.{Faking}
-use Rattle.law_stops.specs.pt_watched.Watched.{Tracing}
+use Rattle.law_stops.specs.pt_tracer.Watched.{Tracing}
 use Rattle.law_stops.proofs.law_turns.RunLemmas.{lives_too}
 use Rattle.law_stops.specs.Beginning.{GoesUntoldToProgram}
 use Rattle.law_stops.specs.Going.{untold}

@@ -9,10 +9,10 @@ use Rattle.pt_args.specs.kr_calls.declared.request.Request.TheVariants as call
 use Rattle.law_stops.specs.kr_view.View.{Row}
 use Rattle.law_stops.specs.kr_steps.Computing.{computed}
 use Rattle.law_stops.specs.kr_turns.Turn.{Machine, calling, watched_call}
-use Rattle.law_stops.specs.kr_turns.Watching.{unwatched}
+use Rattle.law_stops.specs.kr_stops.Watching.{unwatched}
 use Rattle.law_stops.specs.pt_faker.Stopping.{decoded_at, memory_at}
-use Rattle.law_stops.specs.pt_watched.Planning.{texts_at}
-use Rattle.law_stops.specs.pt_watched.Watched.{Tracing}
+use Rattle.law_stops.specs.pt_tracer.Planning.{texts_at}
+use Rattle.law_stops.specs.pt_tracer.Watched.{Tracing}
 use Rattle.law_stops.specs.Cancelling.{at_first_stop}
 use Rattle.law_stops.specs.Turning.{ComeToCall}
 use Rattle.law_programs.specs.Finding.{texts_here}

@@ -3,9 +3,9 @@ use Rattle.std.specs.Prelude.{◌≡◌, ℕ, List, None, Ok}
 use Rattle.pt_args.specs.kr_calls.declared.request.Request.TheVariants as call
 use Rattle.law_stops.specs.kr_view.View.{Row, plain}
 use Rattle.law_stops.specs.kr_turns.Turn.{Machine, calling, watched_call}
-use Rattle.law_stops.specs.kr_turns.Watching.{unwatched}
+use Rattle.law_stops.specs.kr_stops.Watching.{unwatched}
 use Rattle.law_stops.specs.pt_faker.Stopping.{decoded_at}
-use Rattle.law_stops.specs.pt_watched.Watched.{Tracing, tracer}
+use Rattle.law_stops.specs.pt_tracer.Watched.{Tracing, tracer}
 use Rattle.law_stops.specs.Turning.{ComeFromCall, ComeToCall}
 
 -- such a call and its stops keep the match, where it breaks no calm rule

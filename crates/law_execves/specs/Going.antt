@@ -15,16 +15,16 @@ use Rattle.law_plans.specs.kr_seen.Carrying.{memory_of}
 use Rattle.law_programs.specs.kr_execve.Execution.{Program, execution}
 use Rattle.law_stops.specs.kr_model.State.{Image, State}
 use Rattle.law_stops.specs.kr_turns.PlainCall.{Came, plain_call}
-use Rattle.law_stops.specs.kr_turns.Stopped.{IsThere, Stopped, edited, image_at}
+use Rattle.law_stops.specs.kr_stops.Stopped.{IsThere, Stopped, edited, image_at}
 use Rattle.law_stops.specs.kr_turns.Turn.{Machine, called, calling, watched_call}
-use Rattle.law_stops.specs.kr_turns.Watching.{unwatched}
+use Rattle.law_stops.specs.kr_stops.Watching.{unwatched}
 use Rattle.law_stops.specs.pt_ident.Identity.{refusal}
 use Rattle.law_stops.specs.pt_faker.Faking.{has_answered_zero, no_longer_called, word_of}
 use Rattle.law_stops.specs.pt_faker.Stopping.{after_request, decoded_at, memory_at, with_memory}
-use Rattle.law_stops.specs.pt_watched.Registers.{arguments_at}
-use Rattle.law_stops.specs.pt_watched.Watched.{Tracing, awaiting, entered, exited, has_begun, tracer, with_pending}
-use Rattle.law_stops.specs.pt_watched.declared.pending.Pending.{Pending}
-use Rattle.law_stops.specs.pt_watched.declared.plan.Led.{Led}
+use Rattle.law_stops.specs.pt_tracer.Registers.{arguments_at}
+use Rattle.law_stops.specs.pt_tracer.Watched.{Tracing, awaiting, entered, exited, has_begun, tracer, with_pending}
+use Rattle.law_stops.specs.pt_tracer.declared.pending.Pending.{Pending}
+use Rattle.law_stops.specs.pt_tracer.declared.plan.Led.{Led}
 use Rattle.law_stops.specs.law_edits.Exits.{left_with}
 use Rattle.law_stops.specs.Cancelling.{at_call, at_first_stop}
 use Rattle.law_stops.specs.Turning.{ComeFromCall, ComeToCall}

@@ -3,10 +3,10 @@ use Rattle.std.specs.Prelude.{◌≡◌, ℕ, List, None, Ok}
 use Rattle.law_stops.specs.kr_view.View.{Row}
 use Rattle.pt_args.specs.kr_calls.declared.request.Request.TheVariants as call
 use Rattle.law_stops.specs.kr_turns.Turn.{Machine, calling, watched_call}
-use Rattle.law_stops.specs.kr_turns.Watching.{unwatched}
+use Rattle.law_stops.specs.kr_stops.Watching.{unwatched}
 use Rattle.law_stops.specs.pt_faker.Faking.{Faking}
 use Rattle.law_stops.specs.pt_faker.Stopping.{decoded_at}
-use Rattle.law_stops.specs.pt_watched.Watched.{Tracing}
+use Rattle.law_stops.specs.pt_tracer.Watched.{Tracing}
 use Rattle.law_stops.specs.Beginning.{GoesUntoldToProgram}
 use Rattle.law_stops.specs.Going.{ComeToFakedCall}
 use Rattle.law_stops.specs.Kinds.{GoesTogether}

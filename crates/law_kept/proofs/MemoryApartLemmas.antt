@@ -36,9 +36,9 @@ use Rattle.kr_turns.specs.kr_steps.Waiting.{goes_on, ready_processes}
 use Rattle.kr_turns.specs.Breaking.{no_mounts, plain_rule}
 use Rattle.kr_turns.specs.PlainCall.{Came, after_decoding, executed, operated, plain_call, plain_call_of, refusal_told, replaced, requested, row_on}
 use Rattle.kr_turns.specs.Shelving.{lacks_in, shelved_in}
-use Rattle.kr_turns.specs.Stopped.{Stopped, image_in}
+use Rattle.kr_turns.specs.kr_stops.Stopped.{Stopped, image_in}
 use Rattle.kr_turns.specs.Turn.{Machine, Tally, after_born, after_end, after_event, after_exit, by_pick, called, calling, killed, turn_of, watched_call, with_broken}
-use Rattle.kr_turns.specs.Watching.{Watcher}
+use Rattle.kr_turns.specs.kr_stops.Watching.{Watcher}
 use Rattle.kr_turns.specs.declared.plain.CallEnd.{CallEnd}
 use Rattle.kr_turns.specs.declared.plain.CallEnd.TheVariants as end
 use Rattle.law_kept.specs.MemoriesApart.{EditsAtMost, EditsItsOwn, OthersLiveOnInTurns, RestsWhereNoneIsReady, RunsOneThatIsReady}

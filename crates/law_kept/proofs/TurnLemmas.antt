@@ -18,12 +18,12 @@ use Rattle.kr_turns.specs.kr_steps.Computing.{computed}
 use Rattle.kr_turns.specs.kr_steps.Waiting.{goes_on, picked_process, ready_processes}
 use Rattle.kr_turns.specs.Breaking.{no_mounts, plain_rule}
 use Rattle.kr_turns.specs.PlainCall.{Came, plain_call}
-use Rattle.kr_turns.specs.Editing.{decoded_at, memory_at}
+use Rattle.kr_turns.specs.kr_stops.Editing.{decoded_at, memory_at}
 use Rattle.kr_turns.specs.Run.{Ending, Slot, after_put, cleared, ended, ending_of, put_by, run_from, turned, with_put}
 use Rattle.kr_turns.specs.Shelving.{lacks_in, shelved_in}
-use Rattle.kr_turns.specs.Stopped.{Stopped, edited, image_at, image_in, no_image}
+use Rattle.kr_turns.specs.kr_stops.Stopped.{Stopped, edited, image_at, image_in, no_image}
 use Rattle.kr_turns.specs.Turn.{Machine, Tally, after_born, after_end, after_event, after_exit, by_pick, called, calling, killed, turn, turn_of, watched_call, with_broken}
-use Rattle.kr_turns.specs.Watching.{Watcher}
+use Rattle.kr_turns.specs.kr_stops.Watching.{Watcher}
 use Rattle.kr_turns.specs.declared.plain.CallEnd.{CallEnd}
 use Rattle.kr_turns.specs.declared.plain.CallEnd.TheVariants as end
 use Rattle.law_kept.specs.Bytes.{HasBytes, ProcessIsSized, TableHasBytes}

@@ -8,9 +8,9 @@ use Rattle.kr_first.specs.kr_model.State.{Image, Process, State}
 use Rattle.kr_first.specs.law_allowed.Others.{LivesOn}
 use Rattle.kr_turns.specs.kr_steps.Computing.{computed}
 use Rattle.kr_turns.specs.kr_steps.Waiting.{picked_process, ready_processes}
-use Rattle.kr_turns.specs.Stopped.{Stopped}
+use Rattle.kr_turns.specs.kr_stops.Stopped.{Stopped}
 use Rattle.kr_turns.specs.Turn.{Machine, turn}
-use Rattle.kr_turns.specs.Watching.{Watcher}
+use Rattle.kr_turns.specs.kr_stops.Watching.{Watcher}
 
 -- at a stop nothing is done, or the process that stands there is given other registers and another memory
 abbrev pub EditsAtMost : Stopped → Stopped → Type 0

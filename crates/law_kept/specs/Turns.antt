@@ -3,12 +3,12 @@ use Rattle.std.specs.Prelude.{◌≡◌, ℕ, Bool, true, List}
 use Rattle.kr_first.specs.kr_tree.Lawful.{AreBytes}
 use Rattle.kr_first.specs.kr_view.View.{Row}
 use Rattle.kr_first.specs.kr_model.State.{Image, State}
-use Rattle.kr_turns.specs.Editing.{after_peek, after_poke, after_request, with_register}
+use Rattle.kr_turns.specs.kr_stops.Editing.{after_peek, after_poke, after_request, with_register}
 use Rattle.kr_turns.specs.Run.{Slot, cleared, run}
 use Rattle.kr_turns.specs.Shelving.{shelved_in}
-use Rattle.kr_turns.specs.Stopped.{Stopped}
+use Rattle.kr_turns.specs.kr_stops.Stopped.{Stopped}
 use Rattle.kr_turns.specs.Turn.{Machine, killed, turn}
-use Rattle.kr_turns.specs.Watching.{Watcher, unwatched}
+use Rattle.kr_turns.specs.kr_stops.Watching.{Watcher, unwatched}
 use Rattle.law_kept.specs.Bytes.{HasBytes, TableHasBytes}
 
 -- what is done between calls: a process dies, a shelf is marked, and what was put out is taken away

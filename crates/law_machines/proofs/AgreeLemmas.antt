@@ -10,16 +10,16 @@ use Rattle.pr_top.specs.kr_mounts.Standing.{texts_of}
 use Rattle.pr_top.specs.kr_tree.Tree.{Tree}
 use Rattle.law_starts.specs.kr_turns.Run.{Ran, run}
 use Rattle.law_starts.specs.kr_turns.Turn.{Machine}
-use Rattle.law_starts.specs.kr_turns.Watching.{unwatched}
+use Rattle.law_starts.specs.kr_stops.Watching.{unwatched}
 use Rattle.pr_top.specs.kr_view.View.{Row}
 use Rattle.pr_top.specs.pr_run.Slots.{slot_of}
 use Rattle.pr_top.specs.pr_run.declared.plan.Plan.{Plan}
 use Rattle.law_starts.specs.pr_start.Beginning.{beginning}
 use Rattle.law_starts.specs.pr_start.TracedBeginning.{traced_beginning}
-use Rattle.law_starts.specs.pr_watch.Watches.{watch}
-use Rattle.law_starts.specs.pr_watch.declared.watch.Watch.{Watch}
-use Rattle.law_starts.specs.pr_watch.declared.watch.Watch.TheVariants.{Nobody}
-use Rattle.law_starts.specs.pt_watched.Watched.{Tracing}
+use Rattle.law_starts.specs.pt_faker.Watches.{watch}
+use Rattle.law_starts.specs.pt_faker.declared.watch.Watch.{Watch}
+use Rattle.law_starts.specs.pt_faker.declared.watch.Watch.TheVariants.{Nobody}
+use Rattle.law_starts.specs.pt_tracer.Watched.{Tracing}
 use Rattle.law_starts.specs.law_turns.Runs.{ComeAlike}
 use Rattle.law_starts.proofs.law_turns.ComeLemmas.{run_unbroken}
 use Rattle.law_machines.proofs.TurnLemmas.{untold_runs}

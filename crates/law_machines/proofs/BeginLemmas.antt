@@ -23,7 +23,7 @@ use Rattle.law_starts.specs.pr_start.Command.{Chosen, chosen, is_there, program_
 use Rattle.law_starts.specs.pr_start.Directory.{At, directory_reach, working_directory}
 use Rattle.law_starts.specs.pr_start.TracedBeginning as traced
 use Rattle.law_starts.specs.pr_start.TracedBeginning.{begun_as, texts_before, traced_beginning, tracing_of}
-use Rattle.law_starts.specs.pr_watch.declared.watch.Watch.{Watch}
+use Rattle.law_starts.specs.pt_faker.declared.watch.Watch.{Watch}
 use Rattle.pt_args.specs.pt_canon.TextWalk.{TextSurroundings}
 use Rattle.law_starts.specs.pt_first.GuestStart.{guest_start}
 use Rattle.law_starts.specs.pt_first.declared.begun.Begun.{Begun}
@@ -33,8 +33,8 @@ use Rattle.law_machines.specs.Watchers.{is_byte_row}
 use Rattle.law_machines.proofs.LookLemmas.{AreOfBytes}
 use Rattle.law_machines.proofs.TextLemmas.{rows-tested}
 use Rattle.law_machines.proofs.TracerLemmas.{tracers-watch-bytes}
-use Rattle.law_starts.specs.pt_watched.Answering.{starting_identities}
-use Rattle.law_starts.specs.pt_watched.Watched.{Tracing}
+use Rattle.law_starts.specs.pt_tracer.Answering.{starting_identities}
+use Rattle.law_starts.specs.pt_tracer.Watched.{Tracing}
 use Rattle.law_starts.specs.FirstStates.{IsOpening}
 use Rattle.law_starts.specs.Starts.{ComeTogether}
 use Rattle.law_starts.proofs.StartLemmas.{starts-go-together}

@@ -6,9 +6,9 @@ use Rattle.pt_args.specs.kr_calls.declared.request.Request.{Request}
 use Rattle.pt_args.specs.kr_calls.declared.request.Request.TheVariants as call
 use Rattle.pr_top.specs.kr_view.View.{Row, plain}
 use Rattle.law_starts.specs.kr_turns.Turn.{Machine, calling, watched_call}
-use Rattle.law_starts.specs.kr_turns.Watching.{unwatched}
+use Rattle.law_starts.specs.kr_stops.Watching.{unwatched}
 use Rattle.law_starts.specs.pt_faker.Stopping.{decoded_at}
-use Rattle.law_starts.specs.pt_watched.Watched.{Tracing, tracer}
+use Rattle.law_starts.specs.pt_tracer.Watched.{Tracing, tracer}
 use Rattle.law_paths.specs.law_stops.Together.{CallsGoTogether, any_call}
 use Rattle.law_paths.specs.law_stops.Turning.{ComeFromCall, ComeToCall}
 use Rattle.law_paths.specs.Calls.{executes_nothing}

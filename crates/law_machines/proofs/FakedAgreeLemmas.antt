@@ -15,11 +15,11 @@ use Rattle.pr_top.specs.pr_run.Slots.{slot_of}
 use Rattle.pr_top.specs.pr_run.declared.plan.Plan.{Plan}
 use Rattle.law_starts.specs.pr_start.Beginning.{beginning}
 use Rattle.law_starts.specs.pr_start.TracedBeginning.{traced_beginning}
-use Rattle.law_starts.specs.pr_watch.Watches.{watch}
-use Rattle.law_starts.specs.pr_watch.declared.watch.Watch.{Watch}
-use Rattle.law_starts.specs.pr_watch.declared.watch.Watch.TheVariants.{Faked}
+use Rattle.law_starts.specs.pt_faker.Watches.{watch}
+use Rattle.law_starts.specs.pt_faker.declared.watch.Watch.{Watch}
+use Rattle.law_starts.specs.pt_faker.declared.watch.Watch.TheVariants.{Faked}
 use Rattle.law_starts.specs.pt_faker.Faking.{Faking, faker, starting_faking}
-use Rattle.law_starts.specs.pt_watched.Watched.{Tracing}
+use Rattle.law_starts.specs.pt_tracer.Watched.{Tracing}
 use Rattle.law_starts.specs.law_turns.Runs.{ComeAlike}
 use Rattle.law_starts.proofs.law_turns.ComeLemmas.{run_unbroken}
 use Rattle.law_machines.proofs.TurnLemmas.{told_runs}

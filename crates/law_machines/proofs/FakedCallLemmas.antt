@@ -7,7 +7,7 @@ use Rattle.pr_top.specs.kr_view.View.{Row}
 use Rattle.law_starts.specs.kr_turns.Turn.{Machine, calling}
 use Rattle.law_starts.specs.pt_faker.Faking.{Faking}
 use Rattle.law_starts.specs.pt_faker.Stopping.{decoded_at}
-use Rattle.law_starts.specs.pt_watched.Watched.{Tracing, is_execve}
+use Rattle.law_starts.specs.pt_tracer.Watched.{Tracing, is_execve}
 use Rattle.law_paths.specs.law_stops.Going.{ComeToFakedCall}
 use Rattle.law_paths.specs.law_stops.Kinds.{GoesTogether}
 use Rattle.law_paths.specs.law_stops.Runs.{EachCallGoesTogether}

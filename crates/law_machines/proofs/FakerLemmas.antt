@@ -4,7 +4,7 @@ use Rattle.std.proofs.Common.{Bool, true, false, cond, Option, Some, None, refl}
 use Rattle.std.specs.Prelude.{Err, Ok, Result}
 use Rattle.pr_top.specs.pr_base.declared.errno.Errno.{Errno}
 use Rattle.pt_args.specs.kr_calls.declared.request.Request.{Request}
-use Rattle.law_starts.specs.kr_turns.Stopped.{Stopped}
+use Rattle.law_starts.specs.kr_stops.Stopped.{Stopped}
 use Rattle.law_starts.specs.pt_ident.Identity.{Effect, after_exec, effect, on_memory}
 use Rattle.law_starts.specs.pt_ident.IdentityTable.{identity_at}
 use Rattle.law_starts.specs.pt_faker.Faking.{Faking, after_decoding, after_due, after_effect, answer_register, begin_program, entered, exited, has_answered_zero, number_register, show_identity, stack_register, without_due, word_of}

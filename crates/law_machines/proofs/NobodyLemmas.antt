@@ -12,14 +12,14 @@ use Rattle.law_starts.specs.kr_turns.Breaking.{plain_rule}
 use Rattle.law_starts.specs.kr_turns.PlainCall.{Came, plain_call}
 use Rattle.law_starts.specs.kr_turns.Run.{Slot, after_put, ended, ending_of, put_by, run_from, turned, with_put}
 use Rattle.law_starts.specs.kr_turns.Shelving.{lacks_in, shelved_in}
-use Rattle.law_starts.specs.kr_turns.Stopped.{Stopped}
+use Rattle.law_starts.specs.kr_stops.Stopped.{Stopped}
 use Rattle.law_starts.specs.kr_turns.Turn.{Machine, Tally, after_born, after_end, after_event, after_exit, by_pick, called, with_broken}
-use Rattle.law_starts.specs.kr_turns.Watching.{unwatched}
+use Rattle.law_starts.specs.kr_stops.Watching.{unwatched}
 use Rattle.law_starts.specs.kr_turns.declared.plain.CallEnd.{CallEnd}
 use Rattle.law_starts.specs.kr_turns.declared.plain.CallEnd.TheVariants as end
-use Rattle.law_starts.specs.pr_watch.Watches.{watch}
-use Rattle.law_starts.specs.pr_watch.declared.watch.Watch.{Watch}
-use Rattle.law_starts.specs.pr_watch.declared.watch.Watch.TheVariants.{Nobody}
+use Rattle.law_starts.specs.pt_faker.Watches.{watch}
+use Rattle.law_starts.specs.pt_faker.declared.watch.Watch.{Watch}
+use Rattle.law_starts.specs.pt_faker.declared.watch.Watch.TheVariants.{Nobody}
 use Rattle.law_machines.specs.Watching.{NobodyWatches}
 
 -- a machine that nobody watches

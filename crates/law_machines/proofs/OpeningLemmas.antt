@@ -12,8 +12,8 @@ use Rattle.pr_top.specs.pr_sources.Within.{Stage, and_then}
 use Rattle.pr_top.specs.pr_words.declared.options.Options.{Options}
 use Rattle.law_starts.specs.pr_start.Beginning.{beginning}
 use Rattle.law_starts.specs.pr_start.TracedBeginning.{traced_beginning}
-use Rattle.law_starts.specs.pr_watch.declared.watch.Watch.{Watch}
-use Rattle.law_starts.specs.pt_watched.Watched.{Tracing}
+use Rattle.law_starts.specs.pt_faker.declared.watch.Watch.{Watch}
+use Rattle.law_starts.specs.pt_tracer.Watched.{Tracing}
 use Rattle.law_starts.specs.Starts.{beginning_reach}
 use Rattle.law_starts.specs.law_turns.Runs.{ComeAlike}
 use Rattle.law_machines.specs.Given.{CanBegin, settled_in}

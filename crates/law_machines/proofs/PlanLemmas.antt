@@ -39,7 +39,7 @@ use Rattle.pt_args.specs.declared.purpose.Purpose.TheVariants.{LooksUp, MayMake,
 use Rattle.pt_args.specs.declared.reached.Reached.{Reached}
 use Rattle.law_starts.specs.pt_results.Answers.{cwd_answer, directory_answer, jump_answer, kind_answer, led_answer, nowhere_answer, path_answer, walked_answer}
 use Rattle.law_starts.specs.pt_results.Numbers.{count_of}
-use Rattle.law_starts.specs.pt_watched.Planning.{answered, edit_for, has_shelf, rewritten, stack_at}
+use Rattle.law_starts.specs.pt_tracer.Planning.{answered, edit_for, has_shelf, rewritten, stack_at}
 use Rattle.law_starts.specs.pt_faker.Stopping.{Stopped}
 use Rattle.law_starts.specs.law_kept.Bytes.{AreAllBytes, GivesBytes}
 use Rattle.law_starts.proofs.law_kept.ListLemmas.{first-of, joined}

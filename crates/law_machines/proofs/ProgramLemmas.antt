@@ -25,7 +25,7 @@ use Rattle.law_starts.specs.pt_script.declared.expansion.Expanded.{Expanded}
 use Rattle.law_starts.specs.pt_script.declared.program.Program.{Program}
 use Rattle.law_starts.specs.pt_faker.Reading.{addresses_behind, byte_at, env_at, list_at, lists_at, next_byte, text_at, text_from, text_within, texts_from}
 use Rattle.law_starts.specs.pt_faker.declared.lists.Handed.{Handed}
-use Rattle.law_starts.specs.pt_watched.ScriptEdit.{addresses_of, empty_shelf, list_item, put_texts, script_edit, script_room, shelved_script, with_texts}
+use Rattle.law_starts.specs.pt_tracer.ScriptEdit.{addresses_of, empty_shelf, list_item, put_texts, script_edit, script_room, shelved_script, with_texts}
 use Rattle.law_starts.specs.law_kept.Bytes.{AreAllBytes}
 use Rattle.law_starts.proofs.law_kept.ActionLemmas.{either_way, read, tested, told}
 use Rattle.law_starts.proofs.law_kept.ExecutionLemmas.{Any, Gives, address-gives, first-byte, fitting-gives, gives-then, one-at-least}

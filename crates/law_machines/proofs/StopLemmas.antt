@@ -7,7 +7,7 @@ use Rattle.pr_top.specs.pr_base.Fields.{little_endian}
 use Rattle.pt_args.specs.rv_mem.Actions.{Action, carried_out}
 use Rattle.pr_top.specs.kr_inode.declared.user.User.{User}
 use Rattle.pr_top.specs.kr_tree.Lawful.{AreBytes}
-use Rattle.law_starts.specs.kr_turns.Stopped.{Stopped, image_at}
+use Rattle.law_starts.specs.kr_stops.Stopped.{Stopped, image_at}
 use Rattle.law_starts.specs.pt_faker.Stopping.{after_request, memory_at, with_memory, with_register}
 use Rattle.law_starts.specs.pt_ident.Identity.{Answers, Effect, Identity, TakesGroups, TellsGroups, TellsNumbers, number_bytes, on_memory}
 use Rattle.law_starts.specs.pt_ident.Showing.{auxiliary_values, shown_at}

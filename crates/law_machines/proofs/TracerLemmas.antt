@@ -12,7 +12,7 @@ use Rattle.pt_args.specs.kr_calls.PathTable.{PathUse, path_at}
 use Rattle.pt_args.specs.kr_calls.declared.request.Request.{Request}
 use Rattle.pr_top.specs.kr_tree.Lawful.{AreBytes}
 use Rattle.law_starts.proofs.law_allowed.DecodedLemmas.{decoded-are-givable}
-use Rattle.law_starts.specs.kr_turns.Stopped.{Stopped, image_at}
+use Rattle.law_starts.specs.kr_stops.Stopped.{Stopped, image_at}
 use Rattle.law_starts.specs.pt_bind.Tags.{TagTable, with_tag}
 use Rattle.law_starts.specs.pt_bind.declared.slot.Slot.TheVariants.{Exe}
 use Rattle.pt_args.specs.Bases.{working_text}
@@ -28,15 +28,15 @@ use Rattle.law_starts.specs.pt_faker.Faking.{due_of, no_longer_called, show_iden
 use Rattle.law_starts.specs.pt_faker.Stopping.{after_poke, after_request, decoded_at, memory_at, register_at, with_memory, with_register}
 use Rattle.law_starts.specs.pt_faker.declared.due.Due.{Due}
 use Rattle.law_starts.specs.pt_faker.declared.due.Due.TheVariants as due
-use Rattle.law_starts.specs.pt_watched.Planning.{after_addresses, after_expansion, after_lists, after_path, edit_for, is_swap, led_in, led_of, list_addresses, nowhere, planned, planned_by, rewritten, script_plan, stack_at, texts_at, has_shelf}
-use Rattle.law_starts.specs.pt_watched.Poking.{may_poke, poked}
-use Rattle.law_starts.specs.pt_watched.Registers.{given_back, is_register, with_argument, with_arguments}
-use Rattle.law_starts.specs.pt_watched.ScriptEdit.{put_texts}
-use Rattle.law_starts.specs.pt_watched.Watched.{Tracing, after_decoding, after_effect, after_pending, after_plan, applied, begin_as, begin_program, by_identities, entered, exited, give_back, has_begun, if_answered, refused, returned, shown_due, shown_to, with_tags, without_pending}
-use Rattle.law_starts.specs.pt_watched.declared.pending.Pending.{Pending}
-use Rattle.law_starts.specs.pt_watched.declared.plan.Led.{Led}
-use Rattle.law_starts.specs.pt_watched.declared.plan.Plan.{Plan}
-use Rattle.law_starts.specs.pt_watched.declared.registers.Arguments.{Arguments}
+use Rattle.law_starts.specs.pt_tracer.Planning.{after_addresses, after_expansion, after_lists, after_path, edit_for, is_swap, led_in, led_of, list_addresses, nowhere, planned, planned_by, rewritten, script_plan, stack_at, texts_at, has_shelf}
+use Rattle.law_starts.specs.pt_tracer.Poking.{may_poke, poked}
+use Rattle.law_starts.specs.pt_tracer.Registers.{given_back, is_register, with_argument, with_arguments}
+use Rattle.law_starts.specs.pt_tracer.ScriptEdit.{put_texts}
+use Rattle.law_starts.specs.pt_tracer.Watched.{Tracing, after_decoding, after_effect, after_pending, after_plan, applied, begin_as, begin_program, by_identities, entered, exited, give_back, has_begun, if_answered, refused, returned, shown_due, shown_to, with_tags, without_pending}
+use Rattle.law_starts.specs.pt_tracer.declared.pending.Pending.{Pending}
+use Rattle.law_starts.specs.pt_tracer.declared.plan.Led.{Led}
+use Rattle.law_starts.specs.pt_tracer.declared.plan.Plan.{Plan}
+use Rattle.law_starts.specs.pt_tracer.declared.registers.Arguments.{Arguments}
 use Rattle.law_starts.specs.law_kept.Bytes.{GivesBytes, HasBytes}
 use Rattle.law_starts.proofs.law_kept.CallLemmas.{given-bytes}
 use Rattle.law_starts.proofs.law_kept.TurnLemmas.{at-stop, edits-keep-bytes}
@@ -81,7 +81,7 @@ applied-keeps (Emulate pokes answer) t are has = by (may_poke pokes t)
 
 -- ---- plans
 
--- where a call has its lists: pt_watched gives its record no name for others
+-- where a call has its lists: pt_tracer gives its record no name for others
 abbrev FoundIn : {A B : Type 0} → (A → Option B) → Type 0
 FoundIn {B = B} f = B
 

@@ -5,10 +5,10 @@ use Rattle.pr_top.specs.kr_view.View.{Row, plain}
 use Rattle.law_starts.specs.law_kept.Bytes.{TableHasBytes}
 use Rattle.law_starts.specs.kr_turns.Run.{Slot, run}
 use Rattle.law_starts.specs.kr_turns.Turn.{Machine}
-use Rattle.law_starts.specs.kr_turns.Watching.{unwatched}
+use Rattle.law_starts.specs.kr_stops.Watching.{unwatched}
 use Rattle.law_starts.specs.pt_faker.Faking.{Faking, faker}
 use Rattle.law_machines.specs.Watchers.{anything, goes_by_bytes}
-use Rattle.law_starts.specs.pt_watched.Watched.{Tracing, tracer}
+use Rattle.law_starts.specs.pt_tracer.Watched.{Tracing, tracer}
 use Rattle.law_machines.proofs.FakerLemmas.{fakers-watch-bytes}
 use Rattle.law_machines.proofs.TracerLemmas.{tracers-watch-bytes}
 use Rattle.law_paths.specs.law_stops.Runs.{Kept, faked_by, traced_by}

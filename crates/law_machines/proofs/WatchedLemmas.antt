@@ -16,7 +16,7 @@ use Rattle.pr_top.specs.kr_view.declared.target.Reach.{Reach}
 use Rattle.law_starts.specs.pr_start.Beginning.{beginning, begun, begun_at, first_of, fresh, nowhere}
 use Rattle.law_starts.specs.pr_start.Command.{chosen}
 use Rattle.law_starts.specs.pr_start.Directory.{At, directory_reach, working_directory}
-use Rattle.law_starts.specs.pr_watch.declared.watch.Watch.{Watch}
+use Rattle.law_starts.specs.pt_faker.declared.watch.Watch.{Watch}
 
 module _ (table : List Row) (tree : Tree) (user : User) (watcher : Watch) (launch : Launch) (input : List ℕ) (m : Machine Watch) where
   begun_watched : (first : First) → begun table tree user watcher first input ≡ Ok m → m.watcher ≡ watcher

@@ -14,10 +14,10 @@ use Rattle.pr_top.specs.pr_run.Slots.{slot_of}
 use Rattle.pr_top.specs.pr_run.declared.plan.Plan.{Plan}
 use Rattle.law_starts.specs.pr_start.Beginning.{beginning}
 use Rattle.law_starts.specs.pr_start.TracedBeginning.{traced_beginning}
-use Rattle.law_starts.specs.pr_watch.Watches.{watch}
-use Rattle.law_starts.specs.pr_watch.declared.watch.Watch.{Watch}
-use Rattle.law_starts.specs.pr_watch.declared.watch.Watch.TheVariants.{Nobody}
-use Rattle.law_starts.specs.pt_watched.Watched.{Tracing, tracer}
+use Rattle.law_starts.specs.pt_faker.Watches.{watch}
+use Rattle.law_starts.specs.pt_faker.declared.watch.Watch.{Watch}
+use Rattle.law_starts.specs.pt_faker.declared.watch.Watch.TheVariants.{Nobody}
+use Rattle.law_starts.specs.pt_tracer.Watched.{Tracing, tracer}
 use Rattle.law_starts.specs.FirstStates.{IsOpening}
 use Rattle.law_starts.specs.Starts.{beginning_reach}
 use Rattle.law_starts.specs.law_turns.Runs.{ComeAlike}

@@ -12,10 +12,10 @@ use Rattle.pr_top.specs.kr_view.View.{Row}
 use Rattle.pr_top.specs.pr_run.declared.plan.Plan.{Plan}
 use Rattle.law_starts.specs.pr_start.Beginning.{beginning}
 use Rattle.law_starts.specs.pr_start.TracedBeginning.{traced_beginning}
-use Rattle.law_starts.specs.pr_watch.declared.watch.Watch.{Watch}
-use Rattle.law_starts.specs.pr_watch.declared.watch.Watch.TheVariants.{Faked}
+use Rattle.law_starts.specs.pt_faker.declared.watch.Watch.{Watch}
+use Rattle.law_starts.specs.pt_faker.declared.watch.Watch.TheVariants.{Faked}
 use Rattle.law_starts.specs.pt_faker.Faking.{starting_faking}
-use Rattle.law_starts.specs.pt_watched.Watched.{Tracing}
+use Rattle.law_starts.specs.pt_tracer.Watched.{Tracing}
 use Rattle.law_starts.specs.Starts.{beginning_reach}
 use Rattle.law_starts.specs.law_turns.Runs.{ComeAlike}
 use Rattle.law_machines.specs.Agreeing.{CanBeTold, IsCalm, mounted, traced}

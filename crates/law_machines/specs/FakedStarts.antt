@@ -11,11 +11,11 @@ use Rattle.law_starts.specs.kr_turns.Turn.{Machine}
 use Rattle.pr_top.specs.kr_view.View.{Row}
 use Rattle.law_starts.specs.pr_start.Beginning.{beginning}
 use Rattle.law_starts.specs.pr_start.TracedBeginning.{traced_beginning}
-use Rattle.law_starts.specs.pr_watch.declared.watch.Watch.{Watch}
-use Rattle.law_starts.specs.pr_watch.declared.watch.Watch.TheVariants.{Faked}
+use Rattle.law_starts.specs.pt_faker.declared.watch.Watch.{Watch}
+use Rattle.law_starts.specs.pt_faker.declared.watch.Watch.TheVariants.{Faked}
 use Rattle.law_machines.specs.Watchers.{anything, goes_by_bytes}
 use Rattle.law_starts.specs.pt_faker.Faking.{Faking, starting_faking}
-use Rattle.law_starts.specs.pt_watched.Watched.{Tracing}
+use Rattle.law_starts.specs.pt_tracer.Watched.{Tracing}
 use Rattle.law_starts.specs.FirstStates.{IsOpening}
 use Rattle.law_starts.specs.Starts.{beginning_reach}
 use Rattle.law_paths.specs.law_stops.Turning.{tags_kept}

@@ -5,7 +5,7 @@ use Rattle.pr_top.specs.pr_base.MountText.{MountText}
 use Rattle.pr_top.specs.pr_base.Texts.{Text}
 use Rattle.law_starts.specs.law_kept.Turns.{WatchesBytes}
 use Rattle.law_starts.specs.pt_faker.Faking.{Faking, faker}
-use Rattle.law_starts.specs.pt_watched.Watched.{Tracing, tracer}
+use Rattle.law_starts.specs.pt_tracer.Watched.{Tracing, tracer}
 
 -- ---- the watcher of identities, whatever it keeps
 

@@ -3,10 +3,10 @@ use Rattle.std.specs.Prelude.{◌≡◌, ℕ, List}
 use Rattle.pr_top.specs.kr_view.View.{Row}
 use Rattle.law_starts.specs.kr_turns.Run.{Ran, Slot, run}
 use Rattle.law_starts.specs.kr_turns.Turn.{Machine}
-use Rattle.law_starts.specs.kr_turns.Watching.{unwatched}
-use Rattle.law_starts.specs.pr_watch.Watches.{watch}
-use Rattle.law_starts.specs.pr_watch.declared.watch.Watch.{Watch}
-use Rattle.law_starts.specs.pr_watch.declared.watch.Watch.TheVariants.{Faked, Nobody}
+use Rattle.law_starts.specs.kr_stops.Watching.{unwatched}
+use Rattle.law_starts.specs.pt_faker.Watches.{watch}
+use Rattle.law_starts.specs.pt_faker.declared.watch.Watch.{Watch}
+use Rattle.law_starts.specs.pt_faker.declared.watch.Watch.TheVariants.{Faked, Nobody}
 use Rattle.law_starts.specs.pt_faker.Faking.{Faking, faker}
 use Rattle.law_machines.specs.FakedStarts.{with_faking}
 

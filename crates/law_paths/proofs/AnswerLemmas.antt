@@ -11,13 +11,13 @@ use Rattle.law_plans.specs.kr_seen.Carrying.{memory_of}
 use Rattle.law_plans.specs.kr_model.State.{Image, Process, State, process}
 use Rattle.law_plans.specs.kr_model.Walks.{seen}
 use Rattle.law_plans.specs.kr_model.declared.outcome.Outcome.TheVariants.{Answer}
-use Rattle.law_stops.specs.kr_turns.Stopped.{IsThere, Stopped}
+use Rattle.law_stops.specs.kr_stops.Stopped.{IsThere, Stopped}
 use Rattle.law_stops.specs.kr_turns.Turn.{Machine, calling, watched_call}
-use Rattle.law_stops.specs.kr_turns.Watching.{unwatched}
-use Rattle.law_stops.proofs.kr_turns.EditLemmas.{there as is_there}
+use Rattle.law_stops.specs.kr_stops.Watching.{unwatched}
+use Rattle.law_stops.proofs.kr_stops.EditLemmas.{there as is_there}
 use Rattle.law_plans.specs.pt_faker.Stopping.{decoded_at, memory_at}
-use Rattle.law_plans.specs.pt_watched.Planning.{answered, edit_for, led_of, rewritten, texts_at}
-use Rattle.law_plans.specs.pt_watched.Watched.{Tracing, applied}
+use Rattle.law_plans.specs.pt_tracer.Planning.{answered, edit_for, led_of, rewritten, texts_at}
+use Rattle.law_plans.specs.pt_tracer.Watched.{Tracing, applied}
 use Rattle.law_plans.proofs.law_places.MatchLemmas.{tagged_places_are_placed}
 use Rattle.law_stops.specs.law_turns.Operating.{done_in}
 use Rattle.law_stops.proofs.law_turns.CalledLemmas.{decoded_lives, decoded_memory, decoded_process}

@@ -10,13 +10,13 @@ use Rattle.pt_args.specs.kr_calls.declared.request.Request.TheVariants as call
 use Rattle.law_plans.specs.kr_model.State.{Image, Process, process}
 use Rattle.law_stops.specs.kr_turns.PlainCall.{Came, operated, plain_call}
 use Rattle.law_stops.specs.kr_turns.Turn.{Machine, calling, watched_call}
-use Rattle.law_stops.specs.kr_turns.Watching.{unwatched}
+use Rattle.law_stops.specs.kr_stops.Watching.{unwatched}
 use Rattle.law_stops.proofs.kr_turns.PlainLemmas.{no-exec-requested}
 use Rattle.law_plans.specs.pt_faker.Faking.{Faking, faker}
 use Rattle.law_plans.specs.pt_faker.Stopping.{decoded_at}
-use Rattle.law_plans.specs.pt_watched.Planning.{led_of, texts_at}
-use Rattle.law_plans.specs.pt_watched.Watched.{Tracing, tracer}
-use Rattle.law_plans.specs.pt_watched.Watched as watched
+use Rattle.law_plans.specs.pt_tracer.Planning.{led_of, texts_at}
+use Rattle.law_plans.specs.pt_tracer.Watched.{Tracing, tracer}
+use Rattle.law_plans.specs.pt_tracer.Watched as watched
 use Rattle.law_stops.specs.law_kept.ImagePaths.{is_told_of_paths}
 use Rattle.law_stops.proofs.law_turns.CallLemmas.{by_request}
 use Rattle.law_stops.proofs.law_turns.RunLemmas.{lives_too}

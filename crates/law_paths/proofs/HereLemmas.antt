@@ -21,14 +21,14 @@ use Rattle.law_plans.specs.kr_model.Walks.{targets_of}
 use Rattle.law_plans.specs.kr_seen.CallWalks.{call_reach}
 use Rattle.law_stops.specs.kr_steps.Computing.{computed}
 use Rattle.law_stops.specs.kr_turns.Breaking.{decoded_rule, nothing_reached, operated_rule, plain_rule_of}
-use Rattle.law_stops.specs.kr_turns.Stopped.{Stopped}
+use Rattle.law_stops.specs.kr_stops.Stopped.{Stopped}
 use Rattle.law_stops.specs.kr_turns.Turn.{Machine, calling, watched_call}
-use Rattle.law_stops.specs.kr_turns.Watching.{unwatched}
+use Rattle.law_stops.specs.kr_stops.Watching.{unwatched}
 use Rattle.law_stops.proofs.kr_turns.PlainLemmas.{no-exec-rule}
 use Rattle.pt_args.specs.pt_canon.TextWalk.{TextSurroundings}
 use Rattle.law_plans.specs.pt_faker.Stopping.{after_request, decoded_at}
-use Rattle.law_plans.specs.pt_watched.Planning.{edit_for, texts_at}
-use Rattle.law_plans.specs.pt_watched.Watched.{Tracing}
+use Rattle.law_plans.specs.pt_tracer.Planning.{edit_for, texts_at}
+use Rattle.law_plans.specs.pt_tracer.Watched.{Tracing}
 use Rattle.law_plans.proofs.law_walks.BareStateLemmas.{peeks_are_bare}
 use Rattle.law_plans.specs.law_places.Matching.{IsMatch}
 use Rattle.law_stops.specs.law_turns.Calls.{decoded_by, decoded_in}

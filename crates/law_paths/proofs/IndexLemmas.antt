@@ -21,7 +21,7 @@ use Rattle.law_plans.specs.kr_model.Operation.{operation}
 use Rattle.law_plans.specs.kr_model.Reply.{refuse}
 use Rattle.law_plans.specs.kr_model.State.{Image, State}
 use Rattle.law_plans.specs.kr_model.Walks.{Targets, and_then, seen, targets_of, walked}
-use Rattle.law_plans.specs.pt_watched.Planning.{led_along, led_by}
+use Rattle.law_plans.specs.pt_tracer.Planning.{led_along, led_by}
 use Rattle.law_plans.specs.law_walks.Standing.{FoundStands}
 use Rattle.law_plans.specs.law_places.Matching.{index_at}
 use Rattle.law_stops.specs.law_turns.PathCalls.{HasIndexWalked, IsIndexWalked, mount_come_to}

@@ -12,10 +12,10 @@ use Rattle.pt_args.specs.kr_calls.declared.request.Request.TheVariants as call
 use Rattle.law_plans.specs.kr_seen.Carrying.{memory_of}
 use Rattle.law_plans.specs.kr_model.State.{Image, Process, process}
 use Rattle.law_stops.specs.kr_turns.Turn.{Machine, calling, watched_call}
-use Rattle.law_stops.specs.kr_turns.Watching.{unwatched}
+use Rattle.law_stops.specs.kr_stops.Watching.{unwatched}
 use Rattle.law_plans.specs.pt_faker.Stopping.{decoded_at}
-use Rattle.law_plans.specs.pt_watched.Planning.{answered}
-use Rattle.law_plans.specs.pt_watched.Watched.{Tracing, tracer}
+use Rattle.law_plans.specs.pt_tracer.Planning.{answered}
+use Rattle.law_plans.specs.pt_tracer.Watched.{Tracing, tracer}
 use Rattle.law_stops.proofs.law_turns.RunLemmas.{lives_too}
 use Rattle.law_stops.specs.law_turns.PathCalls.{HasPath}
 use Rattle.law_plans.proofs.law_edits.CwdLemmas.{cwds_are_answered_alike}

@@ -29,7 +29,7 @@ use Rattle.law_plans.specs.kr_model.Walks.{and_then, created_at, if_found, if_na
 use Rattle.law_plans.specs.kr_model.declared.outcome.Outcome.{Outcome}
 use Rattle.law_plans.specs.kr_model.declared.outcome.Outcome.TheVariants.{Answer}
 use Rattle.law_plans.specs.pt_faker.Faking.{word_of}
-use Rattle.law_plans.specs.pt_watched.Planning.{led_of}
+use Rattle.law_plans.specs.pt_tracer.Planning.{led_of}
 use Rattle.law_plans.specs.law_places.Matching.{index_at}
 use Rattle.law_stops.specs.law_turns.PathCalls.{HasPath, mount_come_to}
 use Rattle.law_plans.specs.Begins.{LeadsBoth, StandTogether, told_texts}

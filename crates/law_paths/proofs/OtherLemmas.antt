@@ -7,9 +7,9 @@ use Rattle.pt_args.specs.kr_calls.Decoding.{Decoded}
 use Rattle.pt_args.specs.kr_calls.declared.request.Request.{Request}
 use Rattle.pt_args.specs.kr_calls.declared.request.Request.TheVariants as call
 use Rattle.law_stops.specs.kr_turns.Turn.{calling, watched_call}
-use Rattle.law_stops.specs.kr_turns.Watching.{unwatched}
+use Rattle.law_stops.specs.kr_stops.Watching.{unwatched}
 use Rattle.law_plans.specs.pt_faker.Stopping.{decoded_at}
-use Rattle.law_plans.specs.pt_watched.Watched.{tracer}
+use Rattle.law_plans.specs.pt_tracer.Watched.{tracer}
 use Rattle.law_stops.specs.law_turns.Pathless.{IsPathless}
 use Rattle.law_stops.specs.law_turns.PathCalls.{HasPath}
 use Rattle.law_stops.specs.Turning.{ComeFromCall, HasNoPath}

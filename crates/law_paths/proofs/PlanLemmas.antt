@@ -19,12 +19,12 @@ use Rattle.law_plans.specs.kr_model.Operation.{operation}
 use Rattle.law_plans.specs.kr_model.Reply.{refuse}
 use Rattle.law_plans.specs.kr_model.State.{Image, Process, State, image_layout, process}
 use Rattle.law_plans.specs.kr_model.Walks.{seen}
-use Rattle.law_stops.specs.kr_turns.Stopped.{Stopped, edited}
+use Rattle.law_stops.specs.kr_stops.Stopped.{Stopped, edited}
 use Rattle.law_stops.specs.kr_turns.Turn.{Machine, calling, watched_call}
-use Rattle.law_stops.specs.kr_turns.Watching.{unwatched}
+use Rattle.law_stops.specs.kr_stops.Watching.{unwatched}
 use Rattle.law_plans.specs.pt_faker.Stopping.{after_request, decoded_at, memory_at}
-use Rattle.law_plans.specs.pt_watched.Planning.{answered, edit_for, rewritten, stack_at, texts_at}
-use Rattle.law_plans.specs.pt_watched.Watched.{Tracing, applied}
+use Rattle.law_plans.specs.pt_tracer.Planning.{answered, edit_for, rewritten, stack_at, texts_at}
+use Rattle.law_plans.specs.pt_tracer.Watched.{Tracing, applied}
 use Rattle.law_plans.specs.law_edits.Operations.{HasFirst}
 use Rattle.law_plans.specs.law_edits.Requests.{NewText, with_swaps}
 use Rattle.law_plans.specs.law_edits.Shelves.{CanSecondBePath, swap_edit}

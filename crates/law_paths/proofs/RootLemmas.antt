@@ -26,7 +26,7 @@ use Rattle.law_plans.specs.kr_model.ProcessDirectory.{leads_of, space_of}
 use Rattle.law_plans.specs.kr_model.State.{Image, State}
 use Rattle.law_plans.specs.kr_model.Walks.{and_then, targets_of, walked}
 use Rattle.law_stops.specs.kr_turns.PlainCall.{is_root_found, leads_to_root}
-use Rattle.law_plans.specs.pt_watched.Planning.{led_along, led_by}
+use Rattle.law_plans.specs.pt_tracer.Planning.{led_along, led_by}
 use Rattle.law_plans.specs.law_walks.Settled.{IsSettled}
 use Rattle.law_plans.specs.law_walks.Standing.{Stands}
 use Rattle.law_plans.proofs.law_walks.InUseLemmas.{laws}

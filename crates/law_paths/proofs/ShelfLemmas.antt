@@ -15,13 +15,13 @@ use Rattle.pt_args.specs.kr_calls.declared.request.Request.{Request}
 use Rattle.law_plans.specs.kr_calm.Shelf.{has_path, is_usable, stack_pointer}
 use Rattle.law_plans.specs.kr_model.State.{Image, Process, process}
 use Rattle.law_stops.specs.kr_turns.Breaking.{plain_rule}
-use Rattle.law_stops.specs.kr_turns.Stopped.{Stopped, image_at}
+use Rattle.law_stops.specs.kr_stops.Stopped.{Stopped, image_at}
 use Rattle.law_stops.specs.kr_turns.Turn.{Machine, calling, watched_call}
-use Rattle.law_stops.specs.kr_turns.Watching.{unwatched}
-use Rattle.law_stops.proofs.kr_turns.EditLemmas.{there as is_there}
+use Rattle.law_stops.specs.kr_stops.Watching.{unwatched}
+use Rattle.law_stops.proofs.kr_stops.EditLemmas.{there as is_there}
 use Rattle.law_plans.specs.pt_faker.Stopping.{decoded_at, memory_at}
-use Rattle.law_plans.specs.pt_watched.Planning.{has_shelf, stack_at}
-use Rattle.law_plans.specs.pt_watched.Watched.{Tracing}
+use Rattle.law_plans.specs.pt_tracer.Planning.{has_shelf, stack_at}
+use Rattle.law_plans.specs.pt_tracer.Watched.{Tracing}
 use Rattle.law_stops.specs.law_turns.PathCalls.{HasPath}
 use Rattle.law_plans.specs.OnePath.{IsNewText}
 use Rattle.law_plans.specs.law_edits.Requests.{AreOfPaths, NewText}

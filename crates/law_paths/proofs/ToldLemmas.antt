@@ -21,10 +21,10 @@ use Rattle.law_plans.specs.kr_model.State.{Image, Process, State, image_layout, 
 use Rattle.law_plans.specs.kr_model.Walks.{seen, targets_of}
 use Rattle.law_plans.specs.kr_model.declared.outcome.Outcome.TheVariants.{Answer}
 use Rattle.law_stops.specs.kr_turns.Turn.{Machine, calling, watched_call}
-use Rattle.law_stops.specs.kr_turns.Watching.{unwatched}
+use Rattle.law_stops.specs.kr_stops.Watching.{unwatched}
 use Rattle.law_plans.specs.pt_faker.Stopping.{after_request, decoded_at}
-use Rattle.law_plans.specs.pt_watched.Planning.{led_of, texts_at}
-use Rattle.law_plans.specs.pt_watched.Watched.{Tracing}
+use Rattle.law_plans.specs.pt_tracer.Planning.{led_of, texts_at}
+use Rattle.law_plans.specs.pt_tracer.Watched.{Tracing}
 use Rattle.law_stops.specs.law_kept.ImagePaths.{is_told_of_paths}
 use Rattle.law_plans.specs.law_places.Changes.{NewPlacesStand}
 use Rattle.law_plans.specs.law_places.Keeping.{MovesStayInside}

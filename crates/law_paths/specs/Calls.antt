@@ -5,11 +5,11 @@ use Rattle.law_plans.specs.kr_view.View.{Row, plain}
 use Rattle.pt_args.specs.kr_calls.Decoding.{Decoded}
 use Rattle.pt_args.specs.kr_calls.declared.request.Request.{Request}
 use Rattle.pt_args.specs.kr_calls.declared.request.Request.TheVariants as call
-use Rattle.law_stops.specs.kr_turns.Stopped.{Stopped}
+use Rattle.law_stops.specs.kr_stops.Stopped.{Stopped}
 use Rattle.law_stops.specs.kr_turns.Turn.{Machine, calling, watched_call}
-use Rattle.law_stops.specs.kr_turns.Watching.{unwatched}
+use Rattle.law_stops.specs.kr_stops.Watching.{unwatched}
 use Rattle.law_plans.specs.pt_faker.Stopping.{decoded_at}
-use Rattle.law_plans.specs.pt_watched.Watched.{Tracing, tracer}
+use Rattle.law_plans.specs.pt_tracer.Watched.{Tracing, tracer}
 use Rattle.law_stops.specs.law_turns.PathCalls.{HasPath}
 use Rattle.law_plans.specs.law_edits.Requests.{NewText}
 use Rattle.law_stops.specs.Answering.{IsAnsweredAlike}

@@ -21,7 +21,7 @@ use Rattle.law_places.specs.pt_canon.declared.link.ProcessLink.{ProcessLink}
 use Rattle.law_places.specs.pt_canon.declared.link.ProcessLink.TheVariants as process_link
 use Rattle.law_edits.specs.pt_results.Answers.{jump_answer, kind_answer, lead_answer, link_answer, nowhere_answer, walked_answer}
 use Rattle.law_edits.specs.pt_faker.Stopping.{memory_at}
-use Rattle.law_edits.specs.pt_watched.Watched.{applied}
+use Rattle.law_edits.specs.pt_tracer.Watched.{applied}
 use Rattle.law_edits.specs.rv_mem.Actions.{AreEqualUnmarked, carried_out}
 use Rattle.law_edits.specs.rv_mem.Memory.{Memory}
 use Rattle.law_edits.specs.kr_calls.PathTable.{PathUse}
@@ -50,7 +50,7 @@ use Rattle.law_places.specs.kr_model.Reply.{Replying, refuse}
 use Rattle.law_places.specs.kr_model.Seen.{ReadsLink, Seen}
 use Rattle.law_places.specs.kr_model.State.{Image, State, image_layout}
 use Rattle.law_places.specs.kr_model.Walks.{seen, text_at}
-use Rattle.law_edits.specs.kr_turns.Stopped.{IsThere, Stopped}
+use Rattle.law_edits.specs.kr_stops.Stopped.{IsThere, Stopped}
 use Rattle.law_places.specs.law_walks.Answers.{canon_told}
 use Rattle.law_places.specs.law_walks.Scene.{Scene, link_of}
 use Rattle.law_places.specs.law_walks.Settled.{host_text}

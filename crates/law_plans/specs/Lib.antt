@@ -7,7 +7,7 @@ pub use Rattle.law_places.specs.kr_seen as kr_seen
 pub use Rattle.law_places.specs.kr_calm as kr_calm
 pub use Rattle.law_edits.specs.pt_ident as pt_ident
 pub use Rattle.law_edits.specs.pt_faker as pt_faker
-pub use Rattle.law_edits.specs.pt_watched as pt_watched
+pub use Rattle.law_edits.specs.pt_tracer as pt_tracer
 pub use Rattle.law_places.specs.law_walks as law_walks
 pub use Rattle.law_places.specs as law_places
 pub use Rattle.law_edits.specs as law_edits

@@ -4,7 +4,7 @@ use Rattle.law_edits.specs.pt_args.declared.edit.Edit.{Edit}
 use Rattle.law_edits.specs.pt_bind.Tags.{TagTable}
 use Rattle.law_edits.specs.pt_results.Answers.{link_answer}
 use Rattle.law_edits.specs.pt_faker.Stopping.{memory_at}
-use Rattle.law_edits.specs.pt_watched.Watched.{applied}
+use Rattle.law_edits.specs.pt_tracer.Watched.{applied}
 use Rattle.law_edits.specs.rv_mem.Actions.{AreEqualUnmarked, carried_out}
 use Rattle.law_edits.specs.rv_mem.Memory.{Memory}
 use Rattle.law_edits.specs.kr_calls.declared.request.Request.TheVariants as call
@@ -13,7 +13,7 @@ use Rattle.law_places.specs.kr_model.Known.{known}
 use Rattle.law_places.specs.kr_model.Operation.{operation}
 use Rattle.law_places.specs.kr_model.State.{Image, State, image_layout}
 use Rattle.law_places.specs.kr_model.Walks.{seen}
-use Rattle.law_edits.specs.kr_turns.Stopped.{IsThere, Stopped}
+use Rattle.law_edits.specs.kr_stops.Stopped.{IsThere, Stopped}
 use Rattle.law_plans.specs.Begins.{StandTogether, told_texts}
 use Rattle.law_edits.specs.Answers.{AreAnsweredAlike}
 

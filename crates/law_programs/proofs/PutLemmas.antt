@@ -8,7 +8,7 @@ use Rattle.kr_first.specs.pr_base.declared.errno.Errno.TheVariants.{E2BIG, ELOOP
 use Rattle.pt_args.specs.kr_calls.Expansion.{Expanded, Finding, Onward, argument_of, by_interpreter, by_line, bytes_with_ends, expanded, is_script, is_too_big, most_scripts, new_args, runs}
 use Rattle.pt_args.specs.kr_calls.Scripts.{script_of}
 use Rattle.pt_args.specs.Laws.{IsPathText}
-use Rattle.law_edits.specs.pt_watched.ScriptEdit.{texts_room}
+use Rattle.law_edits.specs.pt_tracer.ScriptEdit.{texts_room}
 use Rattle.law_programs.proofs.LineLemmas.{IsShortLine, line-words, none}
 
 abbrev pub Texts : Type 0

@@ -12,7 +12,7 @@ use Rattle.pt_args.proofs.rv_mem.ActionLemmas.{reads_alike}
 use Rattle.pt_args.specs.Bases.{working_text}
 use Rattle.pt_args.specs.Laws.{ShelvesHoldTheirItems, poked}
 use Rattle.law_edits.specs.pt_faker.Reading.{addresses_behind}
-use Rattle.law_edits.specs.pt_watched.ScriptEdit.{put_texts}
+use Rattle.law_edits.specs.pt_tracer.ScriptEdit.{put_texts}
 use Rattle.pt_args.specs.kr_calls.Expansion.{bytes_with_ends}
 use Rattle.kr_first.specs.kr_exec.Lists.{at_least_one, lists_at, next_address}
 use Rattle.law_programs.proofs.LimitLemmas.{lists_fit}

@@ -27,8 +27,8 @@ use Rattle.law_edits.specs.pt_script.Programs.{base_from, canon_from, head_size,
 use Rattle.law_edits.specs.pt_script.declared.expansion.Expanded.{Expanded}
 use Rattle.law_edits.specs.pt_script.declared.program.Program.{Program}
 use Rattle.law_edits.specs.pt_faker.Stopping.{memory_at, with_memory}
-use Rattle.law_edits.specs.pt_watched.Planning.{after_addresses, led_in, stack_at}
-use Rattle.law_edits.specs.pt_watched.ScriptEdit.{put_texts, script_edit, script_room, shelved_script}
+use Rattle.law_edits.specs.pt_tracer.Planning.{after_addresses, led_in, stack_at}
+use Rattle.law_edits.specs.pt_tracer.ScriptEdit.{put_texts, script_edit, script_room, shelved_script}
 use Rattle.law_programs.proofs.PutLemmas.{IsPut, Texts, all-put, not-too-many}
 use Rattle.law_programs.specs.Room.{ScriptTextsArePathTexts, ScriptsAreShelved, ScriptsHaveRoom, ScriptsKeepTheLimits}
 

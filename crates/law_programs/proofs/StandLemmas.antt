@@ -15,7 +15,7 @@ use Rattle.kr_first.specs.kr_exec.Lists.{most_bytes}
 use Rattle.pt_args.specs.Laws.{IsPathText, ShelvesHoldTheirItems, poked, room_of}
 use Rattle.pt_args.specs.Shelving.{address_below, shelved, with_item, with_zero}
 use Rattle.pt_args.specs.declared.shelf.Shelf.{Shelf}
-use Rattle.law_edits.specs.pt_watched.ScriptEdit.{addresses_of, list_item, script_room, texts_room, with_texts}
+use Rattle.law_edits.specs.pt_tracer.ScriptEdit.{addresses_of, list_item, script_room, texts_room, with_texts}
 use Rattle.law_edits.proofs.ReadLemmas.{page-there}
 use Rattle.law_programs.specs.Lists.{AreEntries, IsEnd, IsEntry, IsList, address_in}
 use Rattle.law_programs.proofs.CopyLemmas.{lists_are_copied, next-is}

@@ -9,7 +9,7 @@ use Rattle.pt_args.specs.pt_canon.TextWalk.{TextSurroundings}
 use Rattle.law_edits.specs.pt_faker.Reading.{addresses_behind}
 use Rattle.law_edits.specs.pt_script.Expanding.{expanded_at}
 use Rattle.law_edits.specs.pt_script.declared.expansion.Expanded.{Expanded}
-use Rattle.law_edits.specs.pt_watched.ScriptEdit.{put_texts}
+use Rattle.law_edits.specs.pt_tracer.ScriptEdit.{put_texts}
 use Rattle.pt_args.specs.kr_calls.Expansion.{bytes_with_ends}
 use Rattle.kr_first.specs.kr_exec.Lists.{lists_at}
 use Rattle.kr_first.specs.kr_exec.declared.lists.Lists.{Lists}

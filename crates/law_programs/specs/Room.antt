@@ -9,8 +9,8 @@ use Rattle.law_edits.specs.pt_faker.Reading.{addresses_behind}
 use Rattle.law_edits.specs.pt_script.Expanding.{expanded_at}
 use Rattle.law_edits.specs.pt_script.declared.expansion.Expanded.{Expanded}
 use Rattle.law_edits.specs.pt_faker.Stopping.{Stopped, memory_at, with_memory}
-use Rattle.law_edits.specs.pt_watched.Planning.{led_in, script_plan, stack_at}
-use Rattle.law_edits.specs.pt_watched.ScriptEdit.{put_texts, script_room, shelved_script}
+use Rattle.law_edits.specs.pt_tracer.Planning.{led_in, script_plan, stack_at}
+use Rattle.law_edits.specs.pt_tracer.ScriptEdit.{put_texts, script_room, shelved_script}
 
 -- of a path and a host text that are no longer than paths may be, with an address for each argument but the first
 abbrev pub ScriptsHaveRoom : Type 0

@@ -8,7 +8,7 @@ use Rattle.pt_args.specs.Laws.{IsPathText, poked}
 use Rattle.pt_args.specs.Shelving.{with_item, with_zero}
 use Rattle.pt_args.specs.declared.edit.Edit.TheVariants.{Swap}
 use Rattle.pt_args.specs.declared.shelf.Shelf.{Shelf}
-use Rattle.law_edits.specs.pt_watched.ScriptEdit.{empty_shelf, list_item, script_room, shelved_script, with_texts}
+use Rattle.law_edits.specs.pt_tracer.ScriptEdit.{empty_shelf, list_item, script_room, shelved_script, with_texts}
 use Rattle.law_programs.specs.Lists.{AreEntries, IsList}
 
 -- with the host text

@@ -47,7 +47,7 @@ use Rattle.pr_start.specs.Directory.{At, working_directory}
 use Rattle.pr_start.proofs.SearchLemmas.{directory-leads}
 use Rattle.pr_start.specs.TracedBeginning as traced
 use Rattle.pr_start.specs.TracedBeginning.{Tracing, begun_as, traced_beginning, tracing_of}
-use Rattle.pr_start.specs.pr_watch.declared.watch.Watch.{Watch}
+use Rattle.pr_start.specs.pt_faker.declared.watch.Watch.{Watch}
 use Rattle.pr_start.specs.pt_first.GuestStart as guest
 use Rattle.pr_start.specs.pt_first.GuestStart.{begun, run_from, started_at, tagged}
 use Rattle.pr_start.specs.pt_first.Laws.{first_texts}

@@ -40,7 +40,7 @@ use Rattle.pr_start.proofs.kr_view.ProcessLemmas.{no_processes}
 use Rattle.pr_start.specs.Beginning.{fresh}
 use Rattle.pr_start.specs.TracedBeginning as traced
 use Rattle.pr_start.specs.TracedBeginning.{Tracing}
-use Rattle.pr_start.specs.pr_watch.declared.watch.Watch.{Watch}
+use Rattle.pr_start.specs.pt_faker.declared.watch.Watch.{Watch}
 use Rattle.law_turns.specs.law_walks.Settled.{IsSettled, host_text}
 use Rattle.law_turns.specs.law_walks.Standing.{StandsOn}
 use Rattle.law_turns.proofs.law_walks.TableLemmas.{owned}

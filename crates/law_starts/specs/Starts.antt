@@ -17,7 +17,7 @@ use Rattle.pr_start.specs.Beginning.{beginning, first_of, nowhere}
 use Rattle.pr_start.specs.Command.{Chosen, chosen}
 use Rattle.pr_start.specs.Directory.{directory_reach, working_directory}
 use Rattle.pr_start.specs.TracedBeginning.{Tracing, traced_beginning}
-use Rattle.pr_start.specs.pr_watch.declared.watch.Watch.{Watch}
+use Rattle.pr_start.specs.pt_faker.declared.watch.Watch.{Watch}
 use Rattle.law_turns.specs.Runs.{GoTogether}
 use Rattle.law_starts.specs.FirstStates.{IsOpening}
 

@@ -13,16 +13,16 @@ use Rattle.law_edits.specs.kr_model.State.{Image, Process, State, image_layout, 
 use Rattle.law_edits.specs.kr_model.Walks.{seen}
 use Rattle.law_turns.specs.kr_seen.Carrying.{memory_of}
 use Rattle.law_turns.specs.kr_turns.PlainCall.{Came, child_of, end_of, plain_call}
-use Rattle.law_turns.specs.kr_turns.Stopped.{Stopped}
+use Rattle.law_turns.specs.kr_stops.Stopped.{Stopped}
 use Rattle.law_turns.specs.kr_turns.Turn.{Machine, called, calling, watched_call}
-use Rattle.law_turns.specs.kr_turns.Watching.{unwatched}
+use Rattle.law_turns.specs.kr_stops.Watching.{unwatched}
 use Rattle.law_turns.proofs.kr_turns.PlainLemmas.{no-exec-requested}
 use Rattle.law_turns.specs.law_kept.ImagePaths.{is_told_of_paths}
 use Rattle.law_turns.proofs.law_kept.ImageCallLemmas.{path_calls_answer}
 use Rattle.law_edits.specs.pt_faker.Faking.{Faking, due_of, faker, is_root}
 use Rattle.law_edits.specs.pt_faker.Stopping.{after_request, decoded_at}
-use Rattle.law_edits.specs.pt_watched.Planning.{planned}
-use Rattle.law_edits.specs.pt_watched.Watched.{Tracing, tracer}
+use Rattle.law_edits.specs.pt_tracer.Planning.{planned}
+use Rattle.law_edits.specs.pt_tracer.Watched.{Tracing, tracer}
 use Rattle.law_turns.specs.Calls.{decoded_by, decoded_in}
 use Rattle.law_turns.proofs.CallLemmas.{by_request}
 use Rattle.law_turns.proofs.RunLemmas.{lives_too}

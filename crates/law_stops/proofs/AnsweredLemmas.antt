@@ -39,18 +39,18 @@ use Rattle.law_turns.specs.kr_steps.Calls.{IsNoExec, LastsLawful}
 use Rattle.law_turns.specs.kr_steps.Computing.{computed}
 use Rattle.law_turns.specs.kr_steps.Settling.{settled}
 use Rattle.law_turns.specs.kr_turns.PlainCall.{Came, child_of, end_of, operated, plain_call, refusal_told}
-use Rattle.law_turns.specs.kr_turns.Stopped.{IsThere, Stopped, edited, image_at}
+use Rattle.law_turns.specs.kr_stops.Stopped.{IsThere, Stopped, edited, image_at}
 use Rattle.law_turns.specs.kr_turns.Turn.{Machine, Tally, after_born, after_end, after_exit, after_plain, called, watched_call}
-use Rattle.law_turns.specs.kr_turns.Watching.{unwatched}
-use Rattle.law_turns.proofs.kr_turns.EditLemmas.{edited-twice, image-edited, there}
+use Rattle.law_turns.specs.kr_stops.Watching.{unwatched}
+use Rattle.law_turns.proofs.kr_stops.EditLemmas.{edited-twice, image-edited, there}
 use Rattle.law_turns.proofs.kr_turns.PlainLemmas.{no-exec-requested}
 use Rattle.law_edits.specs.pt_faker.Stopping.{after_request, decoded_at}
 use Rattle.law_edits.specs.pt_faker.Faking.{no_longer_called, word_of}
-use Rattle.law_edits.specs.pt_watched.Planning.{edit_for, led_of, list_addresses, planned_by, texts_at}
-use Rattle.law_edits.specs.pt_watched.Registers.{arguments_at}
-use Rattle.law_edits.specs.pt_watched.Watched.{Tracing, after_decoding, after_plan, applied, awaiting, by_identities, entered, exited, keeping, tracer, with_pending}
-use Rattle.law_edits.specs.pt_watched.declared.pending.Pending.{Pending}
-use Rattle.law_edits.specs.pt_watched.declared.plan.Led.{Led}
+use Rattle.law_edits.specs.pt_tracer.Planning.{edit_for, led_of, list_addresses, planned_by, texts_at}
+use Rattle.law_edits.specs.pt_tracer.Registers.{arguments_at}
+use Rattle.law_edits.specs.pt_tracer.Watched.{Tracing, after_decoding, after_plan, applied, awaiting, by_identities, entered, exited, keeping, tracer, with_pending}
+use Rattle.law_edits.specs.pt_tracer.declared.pending.Pending.{Pending}
+use Rattle.law_edits.specs.pt_tracer.declared.plan.Led.{Led}
 use Rattle.law_turns.specs.law_places.Matching.{IsMatch}
 use Rattle.law_turns.proofs.law_places.TagLemmas.{found_is}
 use Rattle.law_edits.specs.Answered.{StandsAtNoCall}

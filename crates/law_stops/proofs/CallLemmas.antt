@@ -40,19 +40,19 @@ use Rattle.law_turns.specs.kr_steps.Computing.{computed}
 use Rattle.law_turns.specs.kr_turns.Breaking.{plain_rule}
 use Rattle.law_turns.specs.kr_turns.PlainCall.{Came, child_of, end_of, operated, plain_call, refusal_told, status_told}
 use Rattle.law_turns.specs.kr_turns.Shelving.{lacks_in, shelved_in}
-use Rattle.law_turns.specs.kr_turns.Stopped.{Stopped, image_in, no_image}
+use Rattle.law_turns.specs.kr_stops.Stopped.{Stopped, image_in, no_image}
 use Rattle.law_turns.specs.kr_turns.Turn.{Machine, Tally, after_born, after_end, after_exit, after_plain, called, calling, watched_call, with_broken}
-use Rattle.law_turns.specs.kr_turns.Watching.{Watcher, unwatched}
+use Rattle.law_turns.specs.kr_stops.Watching.{Watcher, unwatched}
 use Rattle.law_turns.specs.kr_turns.declared.plain.CallEnd.{CallEnd}
 use Rattle.law_turns.specs.kr_turns.declared.plain.CallEnd.TheVariants as end
-use Rattle.law_turns.proofs.kr_turns.EditLemmas.{there}
+use Rattle.law_turns.proofs.kr_stops.EditLemmas.{there}
 use Rattle.law_turns.proofs.kr_turns.PlainLemmas.{no-exec-requested}
 use Rattle.law_edits.specs.pt_faker.Stopping.{after_request, decoded_at}
-use Rattle.law_edits.specs.pt_watched.Planning.{nowhere}
-use Rattle.law_edits.specs.pt_watched.Registers.{arguments_at}
-use Rattle.law_edits.specs.pt_watched.Watched.{Tracing, after_decoding, after_pending, answer_at, awaiting, entered, exited, tracer, with_pending, with_tags, without_pending}
-use Rattle.law_edits.specs.pt_watched.declared.pending.Pending.{Pending}
-use Rattle.law_edits.specs.pt_watched.declared.registers.Arguments.{Arguments}
+use Rattle.law_edits.specs.pt_tracer.Planning.{nowhere}
+use Rattle.law_edits.specs.pt_tracer.Registers.{arguments_at}
+use Rattle.law_edits.specs.pt_tracer.Watched.{Tracing, after_decoding, after_pending, answer_at, awaiting, entered, exited, tracer, with_pending, with_tags, without_pending}
+use Rattle.law_edits.specs.pt_tracer.declared.pending.Pending.{Pending}
+use Rattle.law_edits.specs.pt_tracer.declared.registers.Arguments.{Arguments}
 use Rattle.law_turns.specs.law_places.Matching.{IsMatch}
 use Rattle.law_turns.specs.Calls.{CameAlike, decoded_by, decoded_in, tags_behind}
 use Rattle.law_turns.specs.Lasting.{CanBeCalled}

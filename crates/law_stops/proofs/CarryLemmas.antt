@@ -50,17 +50,17 @@ use Rattle.law_turns.specs.kr_steps.Computing.{computed}
 use Rattle.law_turns.specs.kr_steps.Settling.{settled}
 use Rattle.law_turns.specs.kr_turns.Breaking.{decoded_rule, operated_rule, plain_rule_of}
 use Rattle.law_turns.specs.kr_turns.PlainCall.{Came, child_of, end_of, operated, plain_call}
-use Rattle.law_turns.specs.kr_turns.Stopped.{IsThere, Stopped, edited, image_at}
+use Rattle.law_turns.specs.kr_stops.Stopped.{IsThere, Stopped, edited, image_at}
 use Rattle.law_turns.specs.kr_turns.Turn.{Machine, Tally, after_born, after_end, after_exit, after_plain, called, watched_call}
-use Rattle.law_turns.specs.kr_turns.Watching.{unwatched}
-use Rattle.law_turns.proofs.kr_turns.EditLemmas.{there as is_there}
+use Rattle.law_turns.specs.kr_stops.Watching.{unwatched}
+use Rattle.law_turns.proofs.kr_stops.EditLemmas.{there as is_there}
 use Rattle.law_turns.proofs.kr_turns.PlainLemmas.{no-exec-requested, no-exec-rule}
 use Rattle.law_edits.specs.pt_faker.Stopping.{after_request, decoded_at}
-use Rattle.law_edits.specs.pt_watched.Planning.{edit_for, led_of, list_addresses, planned_by, texts_at}
-use Rattle.law_edits.specs.pt_watched.Registers.{arguments_at}
-use Rattle.law_edits.specs.pt_watched.Watched.{Tracing, after_decoding, after_plan, applied, awaiting, by_identities, entered, exited, is_execve, tracer, with_pending}
-use Rattle.law_edits.specs.pt_watched.declared.pending.Pending.{Pending}
-use Rattle.law_edits.specs.pt_watched.declared.plan.Led.{Led}
+use Rattle.law_edits.specs.pt_tracer.Planning.{edit_for, led_of, list_addresses, planned_by, texts_at}
+use Rattle.law_edits.specs.pt_tracer.Registers.{arguments_at}
+use Rattle.law_edits.specs.pt_tracer.Watched.{Tracing, after_decoding, after_plan, applied, awaiting, by_identities, entered, exited, is_execve, tracer, with_pending}
+use Rattle.law_edits.specs.pt_tracer.declared.pending.Pending.{Pending}
+use Rattle.law_edits.specs.pt_tracer.declared.plan.Led.{Led}
 use Rattle.law_turns.specs.law_kept.ImagesApart.{leave_images, leaves_images}
 use Rattle.law_turns.specs.law_kept.ImagePaths.{is_told_of_paths}
 use Rattle.law_turns.proofs.law_kept.ImageApartLemmas.{changes_stand_apart}

@@ -12,7 +12,7 @@ use Rattle.law_edits.specs.kr_view.View.{Row, plain}
 use Rattle.law_edits.specs.kr_model.State.{Image, Process, State, process, with_process}
 use Rattle.law_turns.proofs.law_allowed.RowLemmas.{StaysLike, lawful-image, stays-like}
 use Rattle.law_turns.specs.kr_steps.Computing.{computed}
-use Rattle.law_turns.specs.kr_turns.Stopped.{Stopped}
+use Rattle.law_turns.specs.kr_stops.Stopped.{Stopped}
 use Rattle.law_edits.specs.pt_ident.Identity.{after_exec, refusal}
 use Rattle.law_edits.specs.pt_ident.IdentityTable.{identity_at}
 use Rattle.law_edits.specs.pt_faker.Carrying.{on_its_memory}
@@ -20,7 +20,7 @@ use Rattle.law_edits.specs.pt_faker.Faking.{Faking, after_due, forgiven, has_ans
 use Rattle.law_edits.specs.pt_faker.Stopping.{memory_at, register_at, with_register}
 use Rattle.law_edits.specs.pt_faker.declared.due.Due.{Due}
 use Rattle.law_edits.specs.pt_faker.declared.due.Due.TheVariants as due
-use Rattle.law_edits.specs.pt_watched.Watched.{shown_due}
+use Rattle.law_edits.specs.pt_tracer.Watched.{shown_due}
 use Rattle.law_turns.proofs.CalledLemmas.{lasts_living}
 use Rattle.law_turns.proofs.ImageLemmas.{given}
 use Rattle.law_turns.proofs.MatchLemmas.{match_computed}

@@ -17,16 +17,16 @@ use Rattle.law_edits.specs.kr_model.Walks.{seen}
 use Rattle.law_edits.specs.kr_model.declared.outcome.Outcome.TheVariants.{Answer}
 use Rattle.law_turns.proofs.law_allowed.RowLemmas.{StaysLike, stays-like}
 use Rattle.law_turns.specs.kr_steps.Computing.{computed}
-use Rattle.law_turns.specs.kr_turns.Stopped.{IsThere, Stopped, edited}
+use Rattle.law_turns.specs.kr_stops.Stopped.{IsThere, Stopped, edited}
 use Rattle.law_turns.specs.kr_turns.Turn.{Machine, watched_call}
-use Rattle.law_turns.specs.kr_turns.Watching.{unwatched}
-use Rattle.law_turns.proofs.kr_turns.EditLemmas.{image-edited, there}
+use Rattle.law_turns.specs.kr_stops.Watching.{unwatched}
+use Rattle.law_turns.proofs.kr_stops.EditLemmas.{image-edited, there}
 use Rattle.law_edits.specs.pt_faker.Stopping.{after_request, decoded_at, memory_at}
 use Rattle.law_edits.specs.pt_faker.Faking.{no_longer_called, word_of}
-use Rattle.law_edits.specs.pt_watched.Planning.{edit_for, led_of, planned_by, texts_at}
-use Rattle.law_edits.specs.pt_watched.Registers.{arguments_at}
-use Rattle.law_edits.specs.pt_watched.Watched.{Tracing, after_decoding, after_plan, applied, awaiting, by_identities, entered, refused, tracer, with_pending}
-use Rattle.law_edits.specs.pt_watched.declared.plan.Led.{Led}
+use Rattle.law_edits.specs.pt_tracer.Planning.{edit_for, led_of, planned_by, texts_at}
+use Rattle.law_edits.specs.pt_tracer.Registers.{arguments_at}
+use Rattle.law_edits.specs.pt_tracer.Watched.{Tracing, after_decoding, after_plan, applied, awaiting, by_identities, entered, refused, tracer, with_pending}
+use Rattle.law_edits.specs.pt_tracer.declared.plan.Led.{Led}
 use Rattle.law_edits.specs.NoCalls.{without_call}
 use Rattle.law_edits.proofs.AnsweredLemmas.{answered_calls_are_none}
 use Rattle.law_turns.specs.Calls.{decoded_by, decoded_in}
@@ -41,8 +41,8 @@ use Rattle.pt_args.specs.Laws.{poked as pages_poked}
 use Rattle.pt_args.specs.declared.edit.Edit.{Edit}
 use Rattle.pt_args.specs.declared.edit.Edit.TheVariants.{Emulate, Pass, Swap}
 use Rattle.pt_args.specs.rv_mem.Memory.{with_pages}
-use Rattle.law_edits.specs.pt_watched.Poking.{may_poke, poked}
-use Rattle.law_edits.specs.pt_watched.Registers.{with_arguments}
+use Rattle.law_edits.specs.pt_tracer.Poking.{may_poke, poked}
+use Rattle.law_edits.specs.pt_tracer.Registers.{with_arguments}
 use Rattle.law_edits.proofs.StopLemmas.{items_put, register_set}
 use Rattle.law_stops.specs.Answering.{AnsweredCallsGoTogether, IsAnsweredAlike}
 use Rattle.law_stops.proofs.AnsweredLemmas.{answered_together}

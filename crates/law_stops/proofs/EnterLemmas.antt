@@ -14,12 +14,12 @@ use Rattle.law_edits.specs.kr_model.Bare.{bare, pins_of}
 use Rattle.law_edits.specs.kr_model.State.{Image, Process, State, image_layout, process, with_process}
 use Rattle.law_turns.specs.kr_steps.Calls.{LastsLawful}
 use Rattle.law_turns.specs.kr_steps.Computing.{computed}
-use Rattle.law_turns.specs.kr_turns.Stopped.{Stopped, edited}
+use Rattle.law_turns.specs.kr_stops.Stopped.{Stopped, edited}
 use Rattle.law_turns.specs.kr_turns.Turn.{Machine}
-use Rattle.law_turns.proofs.kr_turns.EditLemmas.{image-edited}
+use Rattle.law_turns.proofs.kr_stops.EditLemmas.{image-edited}
 use Rattle.law_edits.specs.pt_faker.Stopping.{after_request}
-use Rattle.law_edits.specs.pt_watched.Planning.{edit_for, texts_at}
-use Rattle.law_edits.specs.pt_watched.Watched.{Tracing, applied}
+use Rattle.law_edits.specs.pt_tracer.Planning.{edit_for, texts_at}
+use Rattle.law_edits.specs.pt_tracer.Watched.{Tracing, applied}
 use Rattle.law_edits.specs.law_walks.BareFacts.{AreSeenAlike}
 use Rattle.law_edits.proofs.law_walks.OneMountLemmas.{lawful_states_are_in_one_mount}
 use Rattle.law_edits.proofs.law_walks.SightLemmas.{plain_sight_is_bare}

@@ -8,12 +8,12 @@ use Rattle.law_turns.proofs.law_allowed.DecodedLemmas.{decoding-leaves-pages}
 use Rattle.law_turns.specs.kr_steps.Computing.{computed}
 use Rattle.law_turns.specs.kr_turns.Breaking.{plain_rule}
 use Rattle.law_turns.specs.kr_turns.PlainCall.{Came, plain_call}
-use Rattle.law_turns.specs.kr_turns.Stopped.{Stopped}
+use Rattle.law_turns.specs.kr_stops.Stopped.{Stopped}
 use Rattle.law_turns.specs.kr_turns.Turn.{Machine, Tally, after_born, after_plain, called, calling, watched_call, with_broken}
-use Rattle.law_turns.specs.kr_turns.Watching.{unwatched}
+use Rattle.law_turns.specs.kr_stops.Watching.{unwatched}
 use Rattle.law_edits.specs.pt_faker.Faking.{Faking, entered as faked_entry, faker}
 use Rattle.law_edits.specs.pt_faker.Stopping.{after_request, decoded_at}
-use Rattle.law_edits.specs.pt_watched.Watched.{Tracing}
+use Rattle.law_edits.specs.pt_tracer.Watched.{Tracing}
 use Rattle.law_turns.specs.Calls.{decoded_by, decoded_in}
 use Rattle.law_turns.specs.Lasting.{CanBeCalled}
 use Rattle.law_turns.proofs.CalledLemmas.{decoded_lives, decoded_process}

@@ -7,12 +7,12 @@ use Rattle.law_edits.specs.pt_ident.IdentityTable.{after_birth, after_end as for
 use Rattle.law_edits.specs.kr_view.View.{Row}
 use Rattle.law_edits.specs.kr_model.State.{Image, Process, process}
 use Rattle.law_turns.specs.kr_turns.PlainCall.{Came}
-use Rattle.law_turns.specs.kr_turns.Stopped.{Stopped}
+use Rattle.law_turns.specs.kr_stops.Stopped.{Stopped}
 use Rattle.law_turns.specs.kr_turns.Turn.{Tally, after_born, after_end, after_exit, called}
 use Rattle.law_turns.specs.kr_turns.declared.plain.CallEnd.{CallEnd}
 use Rattle.law_turns.specs.kr_turns.declared.plain.CallEnd.TheVariants as end
 use Rattle.law_edits.specs.pt_faker.Faking.{Faking, exited as faked_exit, faker}
-use Rattle.law_edits.specs.pt_watched.Watched.{Tracing, exited, tracer, with_identities}
+use Rattle.law_edits.specs.pt_tracer.Watched.{Tracing, exited, tracer, with_identities}
 use Rattle.law_stops.proofs.CallLemmas.{status_after}
 use Rattle.law_stops.specs.Going.{ComeFromFakedCall, GoBySame, StandAlike}
 

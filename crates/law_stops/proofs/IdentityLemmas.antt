@@ -25,17 +25,17 @@ use Rattle.law_turns.specs.kr_steps.Computing.{computed}
 use Rattle.law_turns.specs.kr_turns.Breaking.{plain_rule}
 use Rattle.law_turns.specs.kr_turns.PlainCall.{Came, plain_call}
 use Rattle.law_turns.specs.kr_turns.Shelving.{lacks_in}
-use Rattle.law_turns.specs.kr_turns.Stopped.{IsThere, Stopped, edited, image_at}
+use Rattle.law_turns.specs.kr_stops.Stopped.{IsThere, Stopped, edited, image_at}
 use Rattle.law_turns.specs.kr_turns.Turn.{Machine, Tally, after_exit, after_plain, called, calling, watched_call, with_broken}
-use Rattle.law_turns.proofs.kr_turns.EditLemmas.{there}
+use Rattle.law_turns.proofs.kr_stops.EditLemmas.{there}
 use Rattle.law_turns.specs.law_places.Matching.{IsMatch}
 use Rattle.law_edits.specs.pt_faker.Faking.{Faking, after_decoding as faked_decoding, after_due, after_effect as faked_effect, due_of, entered as faked_entry, exited as faked_exit, faker, keeping, no_longer_called, told, with_due, without_due, word_of}
 use Rattle.law_edits.specs.pt_faker.Stopping.{after_request, decoded_at, memory_at, with_memory}
 use Rattle.law_edits.specs.pt_faker.declared.due.Due.TheVariants as due
-use Rattle.law_edits.specs.pt_watched.Planning.{nowhere}
-use Rattle.law_edits.specs.pt_watched.Registers.{arguments_at}
-use Rattle.law_edits.specs.pt_watched.Watched.{Tracing, after_decoding, after_effect, awaiting, by_identities, entered, exited, has_begun, is_execve, returned, shown_due, tracer, with_identities, with_pending}
-use Rattle.law_edits.specs.pt_watched.declared.pending.Pending.{Pending}
+use Rattle.law_edits.specs.pt_tracer.Planning.{nowhere}
+use Rattle.law_edits.specs.pt_tracer.Registers.{arguments_at}
+use Rattle.law_edits.specs.pt_tracer.Watched.{Tracing, after_decoding, after_effect, awaiting, by_identities, entered, exited, has_begun, is_execve, returned, shown_due, tracer, with_identities, with_pending}
+use Rattle.law_edits.specs.pt_tracer.declared.pending.Pending.{Pending}
 use Rattle.law_edits.specs.Exits.{left_with}
 use Rattle.law_edits.specs.NoCalls.{without_call}
 use Rattle.law_edits.proofs.ExitLemmas.{exits_behind_answers}

@@ -18,21 +18,21 @@ use Rattle.law_turns.specs.kr_steps.Calls.{IsNoExec, LastsLawful}
 use Rattle.law_turns.specs.kr_turns.Breaking.{plain_rule}
 use Rattle.law_turns.specs.kr_turns.PlainCall.{Came, plain_call}
 use Rattle.law_turns.specs.kr_turns.Shelving.{lacks_in}
-use Rattle.law_turns.specs.kr_turns.Stopped.{Stopped}
+use Rattle.law_turns.specs.kr_stops.Stopped.{Stopped}
 use Rattle.law_turns.specs.kr_turns.Turn.{Machine, Tally, after_born, after_end, after_plain, called, calling, watched_call, with_broken}
-use Rattle.law_turns.specs.kr_turns.Watching.{unwatched}
-use Rattle.law_turns.proofs.kr_turns.EditLemmas.{computed-lives}
+use Rattle.law_turns.specs.kr_stops.Watching.{unwatched}
+use Rattle.law_turns.proofs.kr_stops.EditLemmas.{computed-lives}
 use Rattle.law_turns.specs.law_places.Matching.{IsMatch}
 use Rattle.law_edits.specs.pt_faker.Faking.{Faking, after_decoding as faked_decoding, after_due, after_effect as faked_effect, begin_program as faked_beginning, due_of, dues_with, entered as faked_entry, exited as faked_exit, faker, has_answered_zero, is_root, keeping, show_owner, with_due, without_due}
 use Rattle.law_edits.specs.pt_faker.Stopping.{after_request, decoded_at, memory_at, with_register}
 use Rattle.law_edits.specs.pt_faker.declared.due.Due.{Due}
 use Rattle.law_edits.specs.pt_faker.declared.due.Due.TheVariants as due
-use Rattle.law_edits.specs.pt_watched.Planning.{planned}
-use Rattle.law_edits.specs.pt_watched.Registers.{arguments_at, given_back}
-use Rattle.law_edits.specs.pt_watched.Watched.{Applied, Tracing, after_decoding, after_effect, after_pending, answer_at, applied, awaiting, begin_as, begin_program, by_identities, entered, exited, give_back, has_begun, if_answered, is_execve, returned, shown_due, shown_to, tracer, with_identities, with_pending, with_tags, without_pending}
-use Rattle.law_edits.specs.pt_watched.declared.pending.Pending.{Pending}
-use Rattle.law_edits.specs.pt_watched.declared.plan.Plan.{Plan}
-use Rattle.law_edits.specs.pt_watched.declared.registers.Arguments.{Arguments}
+use Rattle.law_edits.specs.pt_tracer.Planning.{planned}
+use Rattle.law_edits.specs.pt_tracer.Registers.{arguments_at, given_back}
+use Rattle.law_edits.specs.pt_tracer.Watched.{Applied, Tracing, after_decoding, after_effect, after_pending, answer_at, applied, awaiting, begin_as, begin_program, by_identities, entered, exited, give_back, has_begun, if_answered, is_execve, returned, shown_due, shown_to, tracer, with_identities, with_pending, with_tags, without_pending}
+use Rattle.law_edits.specs.pt_tracer.declared.pending.Pending.{Pending}
+use Rattle.law_edits.specs.pt_tracer.declared.plan.Plan.{Plan}
+use Rattle.law_edits.specs.pt_tracer.declared.registers.Arguments.{Arguments}
 use Rattle.law_turns.specs.Calls.{decoded_by}
 use Rattle.law_turns.specs.Sizes.{IsSized}
 use Rattle.law_turns.proofs.RunLemmas.{lives_too}

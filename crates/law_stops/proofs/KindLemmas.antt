@@ -9,18 +9,18 @@ use Rattle.pt_args.specs.kr_calls.PathTable.{path_at}
 use Rattle.pt_args.specs.kr_calls.declared.request.Request.{Request}
 use Rattle.law_edits.specs.kr_model.State.{Image, Process, process}
 use Rattle.law_turns.specs.kr_turns.PlainCall.{plain_call}
-use Rattle.law_turns.specs.kr_turns.Stopped.{IsThere, Stopped}
+use Rattle.law_turns.specs.kr_stops.Stopped.{IsThere, Stopped}
 use Rattle.law_turns.specs.kr_turns.Turn.{Machine, calling, watched_call}
-use Rattle.law_turns.specs.kr_turns.Watching.{unwatched}
-use Rattle.law_turns.proofs.kr_turns.EditLemmas.{there}
+use Rattle.law_turns.specs.kr_stops.Watching.{unwatched}
+use Rattle.law_turns.proofs.kr_stops.EditLemmas.{there}
 use Rattle.law_turns.specs.law_kept.ImagePaths.{is_told_of_paths}
 use Rattle.pt_args.specs.Laws.{ShelvesHoldTheirItems, TextsAreReadBack}
 use Rattle.pt_args.specs.declared.edit.Edit.{Edit}
 use Rattle.law_edits.specs.pt_ident.Identity.{refusal}
 use Rattle.law_edits.specs.pt_faker.Faking.{Faking, faker}
 use Rattle.law_edits.specs.pt_faker.Stopping.{after_request, decoded_at}
-use Rattle.law_edits.specs.pt_watched.Planning.{edit_for, planned_by, texts_at}
-use Rattle.law_edits.specs.pt_watched.Watched.{Tracing, after_decoding, after_plan, applied, entered, tracer}
+use Rattle.law_edits.specs.pt_tracer.Planning.{edit_for, planned_by, texts_at}
+use Rattle.law_edits.specs.pt_tracer.Watched.{Tracing, after_decoding, after_plan, applied, entered, tracer}
 use Rattle.law_edits.specs.Answered.{StandsAtNoCall}
 use Rattle.law_edits.specs.Requests.{NewText, with_swaps}
 use Rattle.law_edits.proofs.AnsweredLemmas.{answered_calls_are_none}

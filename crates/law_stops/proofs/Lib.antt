@@ -2,6 +2,7 @@ pub use Rattle.law_edits.proofs.kr_view as kr_view
 pub use Rattle.law_edits.proofs.kr_model as kr_model
 pub use Rattle.law_turns.proofs.law_allowed as law_allowed
 pub use Rattle.law_turns.proofs.kr_turns as kr_turns
+pub use Rattle.law_turns.proofs.kr_stops as kr_stops
 pub use Rattle.law_turns.proofs.law_kept as law_kept
 pub use Rattle.law_edits.proofs.law_walks as law_walks
 pub use Rattle.law_edits.proofs as law_edits

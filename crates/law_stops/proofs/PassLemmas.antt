@@ -7,12 +7,12 @@ use Rattle.pt_args.specs.kr_calls.declared.request.Request.TheVariants as call
 use Rattle.law_turns.specs.pt_results.Notes.{noted, tags_after}
 use Rattle.law_edits.specs.pt_faker.Faking.{has_answered_zero}
 use Rattle.law_edits.specs.pt_faker.Stopping.{IsThere, Stopped, after_request, register_at, with_register}
-use Rattle.law_turns.specs.kr_turns.Stopped.{edited, image_at}
-use Rattle.law_edits.specs.pt_watched.Planning.{nowhere, planned}
-use Rattle.law_edits.specs.pt_watched.Registers.{arguments_at, given_back}
-use Rattle.law_edits.specs.pt_watched.Watched.{Tracing, after_decoding, after_pending, after_plan, answer_at, awaiting, begin_program, by_identities, give_back, if_answered, is_execve, returned, shown_to, with_pending, with_tags, without_pending}
-use Rattle.law_edits.specs.pt_watched.declared.pending.Pending.{Pending}
-use Rattle.law_edits.specs.pt_watched.declared.registers.Arguments.{Arguments}
+use Rattle.law_turns.specs.kr_stops.Stopped.{edited, image_at}
+use Rattle.law_edits.specs.pt_tracer.Planning.{nowhere, planned}
+use Rattle.law_edits.specs.pt_tracer.Registers.{arguments_at, given_back}
+use Rattle.law_edits.specs.pt_tracer.Watched.{Tracing, after_decoding, after_pending, after_plan, answer_at, awaiting, begin_program, by_identities, give_back, if_answered, is_execve, returned, shown_to, with_pending, with_tags, without_pending}
+use Rattle.law_edits.specs.pt_tracer.declared.pending.Pending.{Pending}
+use Rattle.law_edits.specs.pt_tracer.declared.registers.Arguments.{Arguments}
 use Rattle.law_turns.specs.Pathless.{IsPathless}
 use Rattle.law_stops.specs.Passing.{EntriesPass, ExitsPass}
 

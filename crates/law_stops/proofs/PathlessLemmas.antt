@@ -14,15 +14,15 @@ use Rattle.law_turns.specs.kr_steps.Calls.{LastsLawful}
 use Rattle.law_turns.specs.kr_turns.Breaking.{plain_rule}
 use Rattle.law_turns.specs.kr_turns.PlainCall.{Came, plain_call, refusal_told}
 use Rattle.law_turns.specs.kr_turns.Shelving.{lacks_in}
-use Rattle.law_turns.specs.kr_turns.Stopped.{Stopped}
+use Rattle.law_turns.specs.kr_stops.Stopped.{Stopped}
 use Rattle.law_turns.specs.kr_turns.Turn.{Machine, Tally, after_exit, after_plain, called, calling, watched_call, with_broken}
-use Rattle.law_turns.specs.kr_turns.Watching.{unwatched}
+use Rattle.law_turns.specs.kr_stops.Watching.{unwatched}
 use Rattle.law_turns.specs.kr_turns.declared.plain.CallEnd.TheVariants as end
 use Rattle.law_turns.specs.law_places.Matching.{IsMatch}
 use Rattle.law_edits.specs.pt_faker.Faking.{Faking, after_decoding as faked_decoding, after_due, due_of, entered as faked_entry, faker, is_root, without_due}
 use Rattle.law_edits.specs.pt_faker.Stopping.{after_request, decoded_at}
-use Rattle.law_edits.specs.pt_watched.Planning.{planned}
-use Rattle.law_edits.specs.pt_watched.Watched.{Tracing, after_decoding, after_pending, entered, exited, tracer, with_identities, without_pending}
+use Rattle.law_edits.specs.pt_tracer.Planning.{planned}
+use Rattle.law_edits.specs.pt_tracer.Watched.{Tracing, after_decoding, after_pending, entered, exited, tracer, with_identities, without_pending}
 use Rattle.law_turns.specs.Calls.{CameAlike, decoded_by, decoded_in, tags_behind}
 use Rattle.law_turns.specs.Pathless.{IsPathless}
 use Rattle.law_turns.proofs.CallLemmas.{by_request}

@@ -16,7 +16,7 @@ use Rattle.law_turns.specs.kr_execve.Execution.{Program, changes_of, execution, 
 use Rattle.law_turns.specs.kr_steps.Answering.{answered, going, resumed, with_answer}
 use Rattle.law_turns.specs.kr_steps.Computing.{computed}
 use Rattle.law_turns.specs.kr_turns.PlainCall.{Came, plain_call, replaced}
-use Rattle.law_turns.specs.kr_turns.Stopped.{image_in}
+use Rattle.law_turns.specs.kr_stops.Stopped.{image_in}
 use Rattle.law_turns.specs.kr_turns.Turn.{called}
 use Rattle.law_edits.specs.pt_ident.Identity.{refusal}
 use Rattle.law_edits.specs.pt_faker.Faking.{has_answered_zero, stack_register, word_of}

@@ -38,7 +38,7 @@ use Rattle.law_turns.specs.kr_steps.Calls.{IsNoExec}
 use Rattle.law_turns.specs.kr_steps.Settling.{settled}
 use Rattle.law_turns.specs.kr_turns.Breaking.{decoded_rule, operated_rule, plain_rule, plain_rule_of}
 use Rattle.law_turns.specs.kr_turns.PlainCall.{Came, operated, plain_call}
-use Rattle.law_turns.specs.kr_turns.Stopped.{image_in}
+use Rattle.law_turns.specs.kr_stops.Stopped.{image_in}
 use Rattle.law_turns.specs.kr_turns.Turn.{called}
 use Rattle.law_turns.proofs.kr_turns.PlainLemmas.{no-exec-requested, no-exec-rule}
 use Rattle.law_edits.specs.pt_ident.Identity.{refusal}

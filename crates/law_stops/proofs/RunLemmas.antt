@@ -30,12 +30,12 @@ use Rattle.law_turns.specs.kr_steps.Waiting.{picked_process}
 use Rattle.law_turns.specs.kr_turns.Breaking.{plain_rule}
 use Rattle.law_turns.specs.kr_turns.PlainCall.{plain_call}
 use Rattle.law_turns.specs.kr_turns.Shelving.{lacks_in, shelved_in}
-use Rattle.law_turns.specs.kr_turns.Stopped.{Stopped, image_at, image_in}
+use Rattle.law_turns.specs.kr_stops.Stopped.{Stopped, image_at, image_in}
 use Rattle.law_turns.specs.kr_turns.Turn.{Machine, after_born, after_event, by_pick, called, calling, turn, watched_call, with_broken}
-use Rattle.law_turns.proofs.kr_turns.EditLemmas.{computed-lives, image-edited}
+use Rattle.law_turns.proofs.kr_stops.EditLemmas.{computed-lives, image-edited}
 use Rattle.law_edits.specs.pt_faker.Faking.{Faking, after_decoding as faked_decoding, after_effect as faked_effect, entered as faked_entry, faker, no_longer_called}
 use Rattle.law_edits.specs.pt_faker.Stopping.{after_request, decoded_at, memory_at, with_memory}
-use Rattle.law_edits.specs.pt_watched.Watched.{Tracing, tracer, with_identities}
+use Rattle.law_edits.specs.pt_tracer.Watched.{Tracing, tracer, with_identities}
 use Rattle.law_turns.specs.Quiet.{DropsTags, MakesNoCall}
 use Rattle.law_turns.specs.Runs.{GoTogether, KeepOn}
 use Rattle.law_turns.specs.Sizes.{AreSized}

@@ -22,17 +22,17 @@ use Rattle.pt_args.specs.kr_calls.declared.request.Request.TheVariants as call
 use Rattle.law_turns.proofs.law_allowed.RowLemmas.{StaysLike, stays-like}
 use Rattle.law_edits.specs.kr_model.State.{Image, Process, State, process}
 use Rattle.law_turns.specs.kr_turns.PlainCall.{Came}
-use Rattle.law_turns.specs.kr_turns.Stopped.{IsThere, Stopped, edited, image_at}
+use Rattle.law_turns.specs.kr_stops.Stopped.{IsThere, Stopped, edited, image_at}
 use Rattle.law_turns.specs.kr_turns.Turn.{Machine, called, calling, watched_call}
-use Rattle.law_turns.specs.kr_turns.Watching.{unwatched}
-use Rattle.law_turns.proofs.kr_turns.EditLemmas.{image-edited, there as is_there}
+use Rattle.law_turns.specs.kr_stops.Watching.{unwatched}
+use Rattle.law_turns.proofs.kr_stops.EditLemmas.{image-edited, there as is_there}
 use Rattle.law_edits.specs.pt_faker.Stopping.{after_request, decoded_at, memory_at}
-use Rattle.law_edits.specs.pt_watched.Planning.{edit_for, led_of, planned_by, stack_at, texts_at}
-use Rattle.law_edits.specs.pt_watched.Registers.{arguments_at}
-use Rattle.law_edits.specs.pt_watched.Watched.{Applied, Tracing, after_decoding, after_plan, answer_at, applied, awaiting, by_identities, entered, exited, tracer, with_pending, with_tags, without_pending}
-use Rattle.law_edits.specs.pt_watched.declared.pending.Pending.{Pending}
-use Rattle.law_edits.specs.pt_watched.declared.plan.Led.{Led}
-use Rattle.law_edits.specs.pt_watched.declared.registers.Arguments.{Arguments}
+use Rattle.law_edits.specs.pt_tracer.Planning.{edit_for, led_of, planned_by, stack_at, texts_at}
+use Rattle.law_edits.specs.pt_tracer.Registers.{arguments_at}
+use Rattle.law_edits.specs.pt_tracer.Watched.{Applied, Tracing, after_decoding, after_plan, answer_at, applied, awaiting, by_identities, entered, exited, tracer, with_pending, with_tags, without_pending}
+use Rattle.law_edits.specs.pt_tracer.declared.pending.Pending.{Pending}
+use Rattle.law_edits.specs.pt_tracer.declared.plan.Led.{Led}
+use Rattle.law_edits.specs.pt_tracer.declared.registers.Arguments.{Arguments}
 use Rattle.law_turns.specs.law_kept.ImagePaths.{is_told_of_paths}
 use Rattle.law_edits.specs.Exits.{left_with}
 use Rattle.law_turns.specs.Calls.{decoded_by}

@@ -13,9 +13,9 @@ use Rattle.law_edits.specs.kr_model.State.{Image, Process, State, process}
 use Rattle.law_turns.specs.kr_steps.Answering.{answered, going, with_answer}
 use Rattle.law_turns.specs.kr_steps.Computing.{computed}
 use Rattle.law_turns.specs.kr_turns.PlainCall.{Came, plain_call, refusal_told}
-use Rattle.law_turns.specs.kr_turns.Stopped.{IsThere, Stopped, edited}
+use Rattle.law_turns.specs.kr_stops.Stopped.{IsThere, Stopped, edited}
 use Rattle.law_turns.specs.kr_turns.Turn.{called}
-use Rattle.law_turns.proofs.kr_turns.EditLemmas.{edited-twice, image-edited}
+use Rattle.law_turns.proofs.kr_stops.EditLemmas.{edited-twice, image-edited}
 use Rattle.law_edits.specs.pt_ident.Identity.{refusal}
 use Rattle.law_edits.specs.pt_faker.Faking.{no_call, no_longer_called, told, word_of}
 use Rattle.law_edits.specs.pt_faker.Stopping.{with_memory, with_register}

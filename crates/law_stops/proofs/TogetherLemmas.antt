@@ -30,12 +30,12 @@ use Rattle.law_turns.specs.kr_steps.Waiting.{picked_process}
 use Rattle.law_turns.specs.kr_turns.Breaking.{plain_rule}
 use Rattle.law_turns.specs.kr_turns.PlainCall.{plain_call}
 use Rattle.law_turns.specs.kr_turns.Shelving.{lacks_in, shelved_in}
-use Rattle.law_turns.specs.kr_turns.Stopped.{Stopped, image_in}
+use Rattle.law_turns.specs.kr_stops.Stopped.{Stopped, image_in}
 use Rattle.law_turns.specs.kr_turns.Turn.{Machine, after_born, after_event, by_pick, called, calling, turn, watched_call, with_broken}
-use Rattle.law_turns.specs.kr_turns.Watching.{unwatched}
+use Rattle.law_turns.specs.kr_stops.Watching.{unwatched}
 use Rattle.law_edits.specs.pt_faker.Stopping.{after_request, decoded_at}
-use Rattle.law_edits.specs.pt_watched.Watched.{Tracing, after_decoding, after_pending, begin_as, begin_program, by_identities, entered, exited, give_back, has_begun, tracer, with_tags, without_pending}
-use Rattle.law_edits.specs.pt_watched.declared.pending.Pending.{Pending}
+use Rattle.law_edits.specs.pt_tracer.Watched.{Tracing, after_decoding, after_pending, begin_as, begin_program, by_identities, entered, exited, give_back, has_begun, tracer, with_tags, without_pending}
+use Rattle.law_edits.specs.pt_tracer.declared.pending.Pending.{Pending}
 use Rattle.pt_args.specs.pt_bind.Tags.{with_tag}
 use Rattle.pt_args.specs.pt_bind.declared.slot.Slot.TheVariants.{Exe}
 use Rattle.law_turns.specs.Quiet.{DropsTags, MakesNoCall}

@@ -4,12 +4,12 @@ use Rattle.law_edits.specs.kr_view.View.{Row, plain}
 use Rattle.pt_args.specs.kr_calls.Decoding.{Decoded}
 use Rattle.pt_args.specs.kr_calls.declared.request.Request.{Request}
 use Rattle.pt_args.specs.kr_calls.declared.request.Request.TheVariants as call
-use Rattle.law_turns.specs.kr_turns.Stopped.{Stopped}
+use Rattle.law_turns.specs.kr_stops.Stopped.{Stopped}
 use Rattle.law_turns.specs.kr_turns.Turn.{Machine, calling, watched_call}
 use Rattle.law_turns.specs.law_kept.ImagePaths.{is_told_of_paths}
 use Rattle.law_edits.specs.pt_faker.Faking.{Faking, faker}
 use Rattle.law_edits.specs.pt_faker.Stopping.{decoded_at}
-use Rattle.law_edits.specs.pt_watched.Watched.{Tracing, is_execve, tracer}
+use Rattle.law_edits.specs.pt_tracer.Watched.{Tracing, is_execve, tracer}
 use Rattle.law_turns.specs.Pathless.{IsPathless}
 use Rattle.law_stops.specs.Turning.{HasNoPath}
 use Rattle.law_stops.specs.Going.{ComeFromFakedCall, ComeToFakedCall}

@@ -6,13 +6,13 @@ use Rattle.pt_args.specs.kr_calls.declared.request.Request.{Request}
 use Rattle.law_edits.specs.kr_model.State.{Image, Process, State, process}
 use Rattle.law_turns.specs.kr_turns.PlainCall.{Came, plain_call}
 use Rattle.law_turns.specs.kr_turns.Turn.{Machine, calling, watched_call}
-use Rattle.law_turns.specs.kr_turns.Watching.{unwatched}
+use Rattle.law_turns.specs.kr_stops.Watching.{unwatched}
 use Rattle.law_turns.specs.kr_turns.declared.plain.CallEnd.TheVariants as end
 use Rattle.law_turns.specs.law_kept.ImagePaths.{is_told_of_paths}
 use Rattle.law_edits.specs.pt_faker.Faking.{Faking, faker}
 use Rattle.law_edits.specs.pt_faker.Stopping.{after_request, decoded_at}
-use Rattle.law_edits.specs.pt_watched.Planning.{planned}
-use Rattle.law_edits.specs.pt_watched.Watched.{Tracing, tracer}
+use Rattle.law_edits.specs.pt_tracer.Planning.{planned}
+use Rattle.law_edits.specs.pt_tracer.Watched.{Tracing, tracer}
 use Rattle.law_turns.specs.Calls.{decoded_by}
 use Rattle.law_stops.specs.Turning.{ComeFromCall}
 use Rattle.law_stops.specs.Calls.{came_here, came_there}

@@ -6,10 +6,10 @@ use Rattle.law_edits.specs.kr_view.View.{Row, plain}
 use Rattle.pt_args.specs.kr_calls.declared.request.Request.{Request}
 use Rattle.law_edits.specs.kr_model.declared.outcome.Outcome.TheVariants.{Answer}
 use Rattle.law_turns.specs.kr_turns.Turn.{Machine, calling, watched_call}
-use Rattle.law_turns.specs.kr_turns.Watching.{unwatched}
+use Rattle.law_turns.specs.kr_stops.Watching.{unwatched}
 use Rattle.law_edits.specs.pt_faker.Stopping.{decoded_at, memory_at}
-use Rattle.law_edits.specs.pt_watched.Planning.{edit_for, led_of, texts_at}
-use Rattle.law_edits.specs.pt_watched.Watched.{Tracing, applied, tracer}
+use Rattle.law_edits.specs.pt_tracer.Planning.{edit_for, led_of, texts_at}
+use Rattle.law_edits.specs.pt_tracer.Watched.{Tracing, applied, tracer}
 use Rattle.law_turns.specs.law_kept.ImagePaths.{is_told_of_paths}
 use Rattle.law_turns.specs.Operating.{done_in}
 use Rattle.law_stops.specs.Cancelling.{at_first_stop}

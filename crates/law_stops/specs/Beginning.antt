@@ -8,13 +8,13 @@ use Rattle.pt_args.specs.kr_calls.declared.request.Request.{Request}
 use Rattle.pt_args.specs.kr_calls.declared.request.Request.TheVariants as call
 use Rattle.law_edits.specs.kr_model.State.{Image, Process, State, process}
 use Rattle.law_turns.specs.kr_turns.PlainCall.{plain_call}
-use Rattle.law_turns.specs.kr_turns.Stopped.{Stopped}
+use Rattle.law_turns.specs.kr_stops.Stopped.{Stopped}
 use Rattle.law_turns.specs.kr_turns.Turn.{Machine, called, calling, watched_call}
-use Rattle.law_turns.specs.kr_turns.Watching.{unwatched}
+use Rattle.law_turns.specs.kr_stops.Watching.{unwatched}
 use Rattle.law_edits.specs.pt_faker.Faking.{Faking, faker, has_answered_zero, show_identity, stack_register}
 use Rattle.law_edits.specs.pt_faker.Stopping.{decoded_at, memory_at, register_at}
-use Rattle.law_edits.specs.pt_watched.Watched.{Tracing, entered, has_begun, is_execve, tracer}
-use Rattle.law_edits.specs.pt_watched.declared.pending.Pending.{Pending}
+use Rattle.law_edits.specs.pt_tracer.Watched.{Tracing, entered, has_begun, is_execve, tracer}
+use Rattle.law_edits.specs.pt_tracer.declared.pending.Pending.{Pending}
 use Rattle.law_turns.specs.Calls.{decoded_by}
 use Rattle.law_turns.specs.Sizes.{IsSized}
 use Rattle.law_stops.specs.Turning.{ComeFromCall}

@@ -5,13 +5,13 @@ use Rattle.pt_args.specs.kr_calls.declared.request.Request.{Request}
 use Rattle.law_turns.specs.kr_steps.Calls.{IsNoExec}
 use Rattle.law_turns.specs.kr_turns.PlainCall.{Came, plain_call}
 use Rattle.law_turns.specs.kr_turns.Turn.{Machine, called, calling, watched_call}
-use Rattle.law_turns.specs.kr_turns.Watching.{unwatched}
+use Rattle.law_turns.specs.kr_stops.Watching.{unwatched}
 use Rattle.law_edits.specs.pt_ident.Identity.{Effect, effect}
 use Rattle.law_edits.specs.pt_ident.IdentityTable.{identity_at}
 use Rattle.law_edits.specs.pt_faker.Faking.{Faking, due_of, faker, is_root}
 use Rattle.law_edits.specs.pt_faker.Stopping.{after_request, decoded_at}
-use Rattle.law_edits.specs.pt_watched.Planning.{planned}
-use Rattle.law_edits.specs.pt_watched.Watched.{Tracing, entered, tracer}
+use Rattle.law_edits.specs.pt_tracer.Planning.{planned}
+use Rattle.law_edits.specs.pt_tracer.Watched.{Tracing, entered, tracer}
 use Rattle.law_stops.specs.Turning.{ComeFromCall, HasNoPath}
 use Rattle.law_stops.specs.Editing.{IsEditedAlike}
 use Rattle.law_stops.specs.Going.{ComeFromFakedCall, ComeToFakedCall, untold}

@@ -10,11 +10,11 @@ use Rattle.law_edits.specs.kr_model.State.{image_layout}
 use Rattle.law_edits.specs.kr_model.Walks.{seen}
 use Rattle.law_turns.specs.kr_steps.Calls.{IsNoExec}
 use Rattle.law_turns.specs.kr_turns.Turn.{Machine, calling, watched_call}
-use Rattle.law_turns.specs.kr_turns.Watching.{unwatched}
+use Rattle.law_turns.specs.kr_stops.Watching.{unwatched}
 use Rattle.pt_args.specs.declared.edit.Edit.TheVariants.{Cancel}
 use Rattle.law_edits.specs.pt_faker.Stopping.{Stopped, after_request, decoded_at}
-use Rattle.law_edits.specs.pt_watched.Planning.{edit_for, texts_at}
-use Rattle.law_edits.specs.pt_watched.Watched.{Tracing, tracer}
+use Rattle.law_edits.specs.pt_tracer.Planning.{edit_for, texts_at}
+use Rattle.law_edits.specs.pt_tracer.Watched.{Tracing, tracer}
 use Rattle.law_stops.specs.Turning.{ComeFromCall, ComeToCall}
 
 -- the mounted machine as its process is at the call, behind decoding; the plain one as the tracer has read the call

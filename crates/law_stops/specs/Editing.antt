@@ -4,14 +4,14 @@ use Rattle.pt_args.specs.rv_mem.Actions.{carried_out}
 use Rattle.pt_args.specs.pt_bind.Tags.{TagTable}
 use Rattle.law_edits.specs.kr_view.View.{Row}
 use Rattle.law_edits.specs.kr_model.State.{Image, State, process}
-use Rattle.law_turns.specs.kr_turns.Stopped.{Stopped}
+use Rattle.law_turns.specs.kr_stops.Stopped.{Stopped}
 use Rattle.law_edits.specs.pt_ident.Identity.{after_exec}
 use Rattle.law_edits.specs.pt_ident.IdentityTable.{identity_at}
 use Rattle.law_edits.specs.pt_faker.Faking.{Faking, after_due, begin_program, has_answered_zero, show_identity, show_owner, stack_register}
 use Rattle.law_edits.specs.pt_faker.Stopping.{memory_at, register_at}
 use Rattle.law_edits.specs.pt_faker.declared.due.Due.{Due}
 use Rattle.law_edits.specs.pt_faker.declared.due.Due.TheVariants as due
-use Rattle.law_edits.specs.pt_watched.Watched.{Tracing, begin_as, shown_due}
+use Rattle.law_edits.specs.pt_tracer.Watched.{Tracing, begin_as, shown_due}
 use Rattle.law_stops.specs.Going.{StandAlike}
 
 -- a process of a state at the second stop of its call

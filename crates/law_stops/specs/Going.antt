@@ -9,7 +9,7 @@ use Rattle.law_turns.specs.kr_steps.Calls.{LastsLawful}
 use Rattle.law_turns.specs.kr_turns.Turn.{Machine, calling}
 use Rattle.pt_args.specs.pt_bind.Tags.{TagTable}
 use Rattle.law_edits.specs.pt_faker.Faking.{Faking}
-use Rattle.law_edits.specs.pt_watched.Watched.{Tracing, tracer, with_identities}
+use Rattle.law_edits.specs.pt_tracer.Watched.{Tracing, tracer, with_identities}
 use Rattle.law_turns.specs.law_places.Matching.{IsMatch}
 use Rattle.law_turns.specs.Quiet.{MachinesMatch}
 use Rattle.law_turns.specs.Sizes.{AreSized}

@@ -8,8 +8,8 @@ use Rattle.law_turns.specs.kr_turns.Turn.{Machine, calling, watched_call}
 use Rattle.law_turns.specs.law_kept.ImagePaths.{is_told_of_paths}
 use Rattle.law_edits.specs.pt_faker.Faking.{Faking, faker}
 use Rattle.law_edits.specs.pt_faker.Stopping.{after_request}
-use Rattle.law_edits.specs.pt_watched.Planning.{planned}
-use Rattle.law_edits.specs.pt_watched.Watched.{Tracing, tracer}
+use Rattle.law_edits.specs.pt_tracer.Planning.{planned}
+use Rattle.law_edits.specs.pt_tracer.Watched.{Tracing, tracer}
 use Rattle.law_edits.specs.Requests.{NewText}
 use Rattle.law_stops.specs.Answering.{IsAnsweredAlike}
 use Rattle.law_stops.specs.Cancelling.{IsCancelledAlike}

@@ -4,12 +4,13 @@ pub use Rattle.law_edits.specs.kr_model as kr_model
 pub use Rattle.law_turns.specs.law_allowed as law_allowed
 pub use Rattle.law_turns.specs.kr_steps as kr_steps
 pub use Rattle.law_turns.specs.kr_turns as kr_turns
+pub use Rattle.law_turns.specs.kr_stops as kr_stops
 pub use Rattle.law_turns.specs.law_kept as law_kept
 pub use Rattle.law_turns.specs.pt_results as pt_results
 pub use Rattle.law_edits.specs.pt_script as pt_script
 pub use Rattle.law_edits.specs.pt_ident as pt_ident
 pub use Rattle.law_edits.specs.pt_faker as pt_faker
-pub use Rattle.law_edits.specs.pt_watched as pt_watched
+pub use Rattle.law_edits.specs.pt_tracer as pt_tracer
 pub use Rattle.law_edits.specs.law_walks as law_walks
 pub use Rattle.law_edits.specs as law_edits
 pub use Rattle.law_turns.specs as law_turns

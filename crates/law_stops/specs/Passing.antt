@@ -4,10 +4,10 @@ use Rattle.std.specs.Prelude.{◌≡◌, false, None, Some, Ok}
 use Rattle.pt_args.specs.kr_calls.declared.request.Request.{Request}
 use Rattle.law_turns.specs.pt_results.Notes.{noted, tags_after}
 use Rattle.law_edits.specs.pt_faker.Stopping.{IsThere, Stopped, after_request, decoded_at}
-use Rattle.law_edits.specs.pt_watched.Planning.{nowhere}
-use Rattle.law_edits.specs.pt_watched.Registers.{arguments_at}
-use Rattle.law_edits.specs.pt_watched.Watched.{Tracing, answer_at, awaiting, entered, exited, is_execve, with_pending, with_tags, without_pending}
-use Rattle.law_edits.specs.pt_watched.declared.pending.Pending.{Pending}
+use Rattle.law_edits.specs.pt_tracer.Planning.{nowhere}
+use Rattle.law_edits.specs.pt_tracer.Registers.{arguments_at}
+use Rattle.law_edits.specs.pt_tracer.Watched.{Tracing, answer_at, awaiting, entered, exited, is_execve, with_pending, with_tags, without_pending}
+use Rattle.law_edits.specs.pt_tracer.declared.pending.Pending.{Pending}
 use Rattle.law_turns.specs.Pathless.{IsPathless}
 
 -- at the first stop only what decoding reads is noted; what stands in the arguments is kept for the second

@@ -17,10 +17,10 @@ use Rattle.law_edits.specs.kr_model.State.{Image, State, image_layout}
 use Rattle.law_edits.specs.kr_model.Walks.{seen, targets_of}
 use Rattle.law_edits.specs.kr_model.declared.outcome.Outcome.TheVariants.{Answer}
 use Rattle.law_turns.specs.kr_turns.Turn.{Machine, calling, watched_call}
-use Rattle.law_turns.specs.kr_turns.Watching.{unwatched}
+use Rattle.law_turns.specs.kr_stops.Watching.{unwatched}
 use Rattle.law_edits.specs.pt_faker.Stopping.{Stopped, after_request, decoded_at, memory_at}
-use Rattle.law_edits.specs.pt_watched.Planning.{edit_for, led_of, stack_at, texts_at}
-use Rattle.law_edits.specs.pt_watched.Watched.{Tracing, applied, tracer}
+use Rattle.law_edits.specs.pt_tracer.Planning.{edit_for, led_of, stack_at, texts_at}
+use Rattle.law_edits.specs.pt_tracer.Watched.{Tracing, applied, tracer}
 use Rattle.law_turns.specs.law_kept.ImagePaths.{is_told_of_paths}
 use Rattle.law_turns.specs.law_places.Changes.{NewPlacesStand}
 use Rattle.law_turns.specs.law_places.Keeping.{MovesStayInside}

@@ -9,10 +9,10 @@ use Rattle.law_turns.specs.law_allowed.Told.{SourcesAreNamed}
 use Rattle.law_turns.specs.law_kept.Bytes.{TableHasBytes}
 use Rattle.law_turns.specs.law_kept.Turns.{WatchesBytes}
 use Rattle.law_turns.specs.kr_turns.Run.{Slot, run}
-use Rattle.law_turns.specs.kr_turns.Stopped.{Stopped}
+use Rattle.law_turns.specs.kr_stops.Stopped.{Stopped}
 use Rattle.law_turns.specs.kr_turns.Turn.{Machine, calling, turn, watched_call}
-use Rattle.law_turns.specs.kr_turns.Watching.{unwatched}
-use Rattle.law_edits.specs.pt_watched.Watched.{Tracing, tracer}
+use Rattle.law_turns.specs.kr_stops.Watching.{unwatched}
+use Rattle.law_edits.specs.pt_tracer.Watched.{Tracing, tracer}
 use Rattle.law_turns.specs.Runs.{ComeAlike, GoTogether, KeepOn}
 use Rattle.law_stops.specs.Turning.{ComeFromCall, ComeToCall, tags_kept}
 

@@ -9,10 +9,10 @@ use Rattle.law_turns.specs.law_allowed.Told.{SourcesAreNamed}
 use Rattle.law_turns.specs.law_kept.Bytes.{HasBytes}
 use Rattle.law_turns.specs.kr_steps.Calls.{LastsLawful}
 use Rattle.law_turns.specs.kr_turns.Turn.{Machine, calling, watched_call}
-use Rattle.law_turns.specs.kr_turns.Watching.{unwatched}
+use Rattle.law_turns.specs.kr_stops.Watching.{unwatched}
 use Rattle.pt_args.specs.pt_bind.Tags.{TagTable}
 use Rattle.law_edits.specs.pt_faker.Stopping.{decoded_at}
-use Rattle.law_edits.specs.pt_watched.Watched.{Tracing, tracer}
+use Rattle.law_edits.specs.pt_tracer.Watched.{Tracing, tracer}
 use Rattle.law_turns.specs.Pathless.{IsPathless}
 use Rattle.law_turns.specs.Quiet.{MachinesMatch}
 use Rattle.law_turns.specs.Sizes.{AreSized}

@@ -14,12 +14,12 @@ use Rattle.law_kept.specs.Bytes.{HasBytes}
 use Rattle.law_places.specs.kr_calm.Calm.{kept}
 use Rattle.kr_core.specs.kr_steps.Waiting.{picked_process}
 use Rattle.kr_core.specs.kr_turns.Run.{Ending, Spent, Slot, after_put, cleared, ended, ending_of, put_by, run_from, turned, with_put}
-use Rattle.kr_core.specs.kr_turns.Stopped.{Stopped}
+use Rattle.kr_core.specs.kr_stops.Stopped.{Stopped}
 use Rattle.kr_core.specs.kr_turns.Breaking.{plain_rule}
 use Rattle.kr_core.specs.kr_turns.PlainCall.{plain_call}
 use Rattle.kr_core.specs.kr_turns.Shelving.{lacks_in}
 use Rattle.kr_core.specs.kr_turns.Turn.{Machine, Tally, after_born, after_end, after_event, after_exit, by_pick, called, calling, turn, with_broken}
-use Rattle.kr_core.specs.kr_turns.Watching.{Watcher}
+use Rattle.kr_core.specs.kr_stops.Watching.{Watcher}
 use Rattle.kr_core.specs.kr_turns.declared.plain.CallEnd.{CallEnd}
 use Rattle.kr_core.specs.kr_turns.declared.plain.CallEnd.TheVariants as end
 use Rattle.law_turns.specs.Quiet.{MachinesMatch}

@@ -21,7 +21,7 @@ use Rattle.kr_core.specs.kr_steps.Waiting.{picked_process}
 use Rattle.kr_core.proofs.kr_steps.ComputingLemmas.{ran-stays-like}
 use Rattle.kr_core.specs.kr_turns.Breaking.{no_mounts}
 use Rattle.kr_core.specs.kr_turns.Turn.{Machine, after_event, by_pick, turn}
-use Rattle.kr_core.specs.kr_turns.Watching.{Watcher}
+use Rattle.kr_core.specs.kr_stops.Watching.{Watcher}
 use Rattle.law_turns.specs.Quiet.{MakesNoCall}
 use Rattle.law_turns.specs.Runs.{QuietTurnsGoTogether}
 use Rattle.law_turns.proofs.ImageLemmas.{given}

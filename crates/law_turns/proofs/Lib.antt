@@ -5,6 +5,7 @@ pub use Rattle.kr_core.proofs.law_allowed as law_allowed
 pub use Rattle.kr_core.proofs.kr_perform as kr_perform
 pub use Rattle.law_places.proofs.kr_calm as kr_calm
 pub use Rattle.kr_core.proofs.kr_turns as kr_turns
+pub use Rattle.kr_core.proofs.kr_stops as kr_stops
 pub use Rattle.law_kept.proofs as law_kept
 pub use Rattle.law_places.proofs.law_walks as law_walks
 pub use Rattle.law_places.proofs as law_places

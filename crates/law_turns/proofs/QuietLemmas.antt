@@ -21,7 +21,7 @@ use Rattle.kr_core.specs.kr_steps.Waiting.{goes_on, picked_process, ready_proces
 use Rattle.kr_core.proofs.kr_steps.ComputingLemmas.{ran-stays-like}
 use Rattle.kr_core.specs.kr_turns.Breaking.{idle_rule, killed_rule}
 use Rattle.kr_core.specs.kr_turns.Turn.{Machine, after_event, by_pick, turn, turn_of}
-use Rattle.kr_core.specs.kr_turns.Watching.{Watcher}
+use Rattle.kr_core.specs.kr_stops.Watching.{Watcher}
 use Rattle.law_places.proofs.InUseLemmas.{neither}
 use Rattle.law_places.specs.Matching.{IsMatch}
 use Rattle.law_places.proofs.TagLemmas.{found_is}

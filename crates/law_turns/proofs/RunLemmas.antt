@@ -27,7 +27,7 @@ use Rattle.kr_core.proofs.law_allowed.RowLemmas.{StaysLike, stays-like}
 use Rattle.kr_core.specs.kr_steps.Computing.{computed}
 use Rattle.kr_core.proofs.kr_steps.ComputingLemmas.{ran-stays-like}
 use Rattle.kr_core.specs.kr_turns.Shelving.{shelved_in}
-use Rattle.kr_core.specs.kr_turns.Stopped.{image_in, no_image}
+use Rattle.kr_core.specs.kr_stops.Stopped.{image_in, no_image}
 use Rattle.law_places.specs.Matching.{IsMatch}
 use Rattle.law_turns.specs.Turning.{ComputeAlike, DecodeAlike, DecodingsKeepMatches, InstructionsKeepMatches, ShelvesKeepMatches}
 use Rattle.law_turns.proofs.MatchLemmas.{match_computed}

@@ -9,6 +9,7 @@ pub use Rattle.kr_core.specs.kr_execve as kr_execve
 pub use Rattle.law_places.specs.kr_calm as kr_calm
 pub use Rattle.kr_core.specs.kr_steps as kr_steps
 pub use Rattle.kr_core.specs.kr_turns as kr_turns
+pub use Rattle.kr_core.specs.kr_stops as kr_stops
 pub use Rattle.law_kept.specs as law_kept
 pub use Rattle.pt_results.specs as pt_results
 pub use Rattle.law_places.specs.law_walks as law_walks

@@ -8,7 +8,7 @@ use Rattle.law_places.specs.kr_model.Lawful.{IsLawful}
 use Rattle.law_places.specs.kr_model.State.{Image, Process}
 use Rattle.kr_core.specs.kr_steps.Waiting.{picked_process}
 use Rattle.kr_core.specs.kr_turns.Turn.{Machine, turn}
-use Rattle.kr_core.specs.kr_turns.Watching.{Watcher}
+use Rattle.kr_core.specs.kr_stops.Watching.{Watcher}
 use Rattle.law_places.specs.Matching.{IsMatch}
 
 -- a tracer forgets the tags of a process that is gone

@@ -8,7 +8,7 @@ use Rattle.kr_core.specs.kr_steps.Calls.{LastsLawful}
 use Rattle.kr_core.specs.kr_steps.Waiting.{picked_process}
 use Rattle.kr_core.specs.kr_turns.Run.{Ran, Slot, ending_of, run, turned}
 use Rattle.kr_core.specs.kr_turns.Turn.{Machine, turn}
-use Rattle.kr_core.specs.kr_turns.Watching.{Watcher}
+use Rattle.kr_core.specs.kr_stops.Watching.{Watcher}
 use Rattle.law_turns.specs.Quiet.{DropsTags, MachinesMatch, MakesNoCall}
 
 -- machines that match after as many turns, of which both are lawful, with what lasts

@@ -7,7 +7,7 @@ use Rattle.std.proofs.lemmas.List.{append-nil}
 use Rattle.kr_view.specs.View.{Row}
 use Rattle.kr_core.specs.kr_turns.Run.{Ending, Put, Ran, Slot, Spent, after_put, ended, ending_of, put_by, run, run_from, turned, with_put}
 use Rattle.kr_core.specs.kr_turns.Turn.{Machine}
-use Rattle.kr_core.specs.kr_turns.Watching.{Watcher}
+use Rattle.kr_core.specs.kr_stops.Watching.{Watcher}
 use Rattle.pr_run.specs.Report.{errs, last_ending, out_part, outs}
 use Rattle.pr_run.specs.Puts.{Got, StopsBetween, StopsMaking, StopsRun}
 use Rattle.pr_run.specs.declared.turns.Stop.{Stop}

@@ -6,7 +6,7 @@ use Rattle.kr_core.specs.declared.kernel.Turned.{Turned}
 use Rattle.kr_core.specs.declared.kernel.Turned.TheVariants as turned
 use Rattle.kr_core.specs.kr_turns.Run.{Deadlock, Over, Put, after_put, ending_of, put_by}
 use Rattle.kr_core.specs.kr_turns.Turn.{Machine}
-use Rattle.kr_core.specs.kr_turns.Watching.{Watcher}
+use Rattle.kr_core.specs.kr_stops.Watching.{Watcher}
 use Rattle.pr_words.specs.declared.options.Slot.{Slot}
 use Rattle.pr_sources.specs.declared.answer.Answer.TheVariants as answer
 use Rattle.pr_run.specs.Case.{Outcome}

@@ -8,7 +8,7 @@ use Rattle.kr_core.specs.declared.kernel.Turned.{Turned}
 use Rattle.kr_core.specs.declared.kernel.Turned.TheVariants as turned
 use Rattle.kr_core.specs.kr_turns.Run.{Deadlock, Ending, Over, Put, Ran, Spent, after_put, ending_of, put_by}
 use Rattle.kr_core.specs.kr_turns.Turn.{Machine, turn}
-use Rattle.kr_core.specs.kr_turns.Watching.{Watcher}
+use Rattle.kr_core.specs.kr_stops.Watching.{Watcher}
 use Rattle.pr_words.specs.declared.options.Slot.{Slot}
 use Rattle.pr_sources.specs.declared.answer.Answer.{Answer}
 use Rattle.pr_sources.specs.declared.answer.Answer.TheVariants as answer

@@ -20,7 +20,7 @@ use kr_view::Places;
 use pr_base::{Bytes, NoMemory};
 use pr_io::{PutFault, Sink};
 use pr_sources::Answer;
-use pr_watch::Graphed;
+use pt_tracer::Graphed;
 use std::alloc::Global;
 
 /// What is told of a case.

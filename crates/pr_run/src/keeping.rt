@@ -15,8 +15,8 @@ use kr_core::{Kernel, Turned};
 use kr_tree::Tree;
 use kr_view::Places;
 use pr_base::{Bytes, NoMemory};
-use pr_watch::Graphed;
 use pr_words::Slot;
+use pt_tracer::Graphed;
 use std::alloc::Global;
 
 /// The bytes that a turn put out.

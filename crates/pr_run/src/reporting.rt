@@ -16,7 +16,7 @@ use kr_view::Places;
 use pr_base::{Bytes, NoMemory};
 use pr_io::{PutFault, Sink};
 use pr_sources::Answer;
-use pr_watch::Graphed;
+use pt_tracer::Graphed;
 use std::alloc::Global;
 
 /// The line that tells whether a run was calm, by the rule that it broke first.

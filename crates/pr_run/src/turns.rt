@@ -14,8 +14,8 @@ use kr_core::{Kernel, Turned};
 use kr_view::Places;
 use pr_io::{PutFault, Sink};
 use pr_sources::{Answer, Which};
-use pr_watch::Graphed;
 use pr_words::Slot;
+use pt_tracer::Graphed;
 
 /// Why a report stopped early: a sink failed, or memory ran out.
 #[derive(Clone, Copy)]

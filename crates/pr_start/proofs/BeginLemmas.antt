@@ -11,7 +11,7 @@ use Rattle.kr_start.specs.kr_model.Walks.{and_then}
 use Rattle.kr_core.specs.kr_first.declared.starting.StartFault.{StartFault}
 use Rattle.kr_core.specs.kr_first.declared.starting.StartFault.TheVariants as fault
 use Rattle.kr_core.specs.Runs.{Machine}
-use Rattle.pr_watch.specs.declared.watch.Watch.{Watch}
+use Rattle.pt_tracer.specs.pt_faker.declared.watch.Watch.{Watch}
 use Rattle.kr_core.specs.Kernel.{Kernel, Starts, machine}
 use Rattle.kr_mounts.specs.declared.mount.Mount.{Mount}
 use Rattle.kr_mounts.specs.declared.mounted.MountNumber.{MountNumber}

@@ -14,8 +14,8 @@ use Rattle.kr_core.specs.kr_first.declared.starting.StartFault.{StartFault}
 use Rattle.kr_core.specs.kr_first.declared.starting.StartFault.TheVariants as fault
 use Rattle.kr_core.specs.Runs.{Machine}
 use Rattle.kr_core.specs.Kernel.{Kernel, Starts, machine}
-use Rattle.pt_watched.specs.Watched.{Tracing}
-use Rattle.pt_watched.specs.declared.tracer.Tracer.{Tracer}
+use Rattle.pt_tracer.specs.Watched.{Tracing}
+use Rattle.pt_tracer.specs.declared.tracer.Tracer.{Tracer}
 use Rattle.pr_start.specs.TracedBeginning.{BeginsTraced, fresh, host_number}
 
 pub begins-from : (places : Plain) (tracer : Tracer) (reach : Reach) (answer : Result (State ℕ Image) Errno) (result : Result (Kernel Plain Tracer HostMount 0) StartFault)

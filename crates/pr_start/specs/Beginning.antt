@@ -17,7 +17,7 @@ use Rattle.kr_core.specs.Kernel as kernel
 use Rattle.kr_core.specs.Kernel.{first_rule, machine}
 use Rattle.kr_mounts.specs.declared.mount.Mount.{Mount}
 use Rattle.kr_mounts.specs.declared.mounted.MountNumber.{MountNumber}
-use Rattle.pr_watch.specs.declared.watch.Watch.{Watch}
+use Rattle.pt_tracer.specs.pt_faker.declared.watch.Watch.{Watch}
 use Rattle.pr_start.specs.Directory.{At, directory_reach, working_directory}
 use Rattle.pr_words.specs.Command.{arguments, ids_of, word_of}
 use Rattle.pr_start.specs.Command.{chosen}

@@ -1,5 +1,5 @@
 pub use Rattle.pr_base.specs as pr_base
-pub use Rattle.pt_watched.specs.rv_mem as rv_mem
+pub use Rattle.pt_tracer.specs.rv_mem as rv_mem
 pub use Rattle.kr_exec.specs.elf_read as elf_read
 pub use Rattle.kr_tree.specs.kr_inode as kr_inode
 pub use Rattle.kr_tree.specs as kr_tree
@@ -14,12 +14,11 @@ pub use Rattle.kr_start.specs as kr_start
 pub use Rattle.pt_bind.specs as pt_bind
 pub use Rattle.pt_canon.specs as pt_canon
 pub use Rattle.pt_first.specs.pt_script as pt_script
-pub use Rattle.pt_watched.specs.pt_ident as pt_ident
-pub use Rattle.pt_watched.specs.pt_faker as pt_faker
-pub use Rattle.pt_watched.specs as pt_watched
+pub use Rattle.pt_tracer.specs.pt_ident as pt_ident
+pub use Rattle.pt_tracer.specs.pt_faker as pt_faker
+pub use Rattle.pt_tracer.specs as pt_tracer
 pub use Rattle.pt_first.specs as pt_first
 pub use Rattle.pr_words.specs as pr_words
-pub use Rattle.pr_watch.specs as pr_watch
 pub mod Directory
 pub mod Command
 pub mod Beginning

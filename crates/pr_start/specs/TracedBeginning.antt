@@ -22,8 +22,8 @@ use Rattle.pt_first.specs.FirstPeeks.{first_peeked}
 use Rattle.pt_first.specs.GuestStart.{guest_start, tagged}
 use Rattle.pt_first.specs.declared.begun.Begun.{Begun}
 use Rattle.pr_words.specs.declared.launch.Launch.{Launch}
-use Rattle.pt_watched.specs.Watched.{starting_tracing}
-pub use Rattle.pt_watched.specs.Watched.{Tracing, tracer}
+use Rattle.pt_tracer.specs.Watched.{starting_tracing}
+pub use Rattle.pt_tracer.specs.Watched.{Tracing, tracer}
 
 -- the one mount of a plain kernel
 abbrev pub host_number : HostMount → ℕ

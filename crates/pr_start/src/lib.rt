@@ -32,7 +32,7 @@ mod starting;
 mod traced;
 
 pub use kr_core::Kernel;
-pub use pr_watch::{Faker, Watch};
-pub use pt_watched::Tracer;
+pub use pt_tracer::Tracer;
+pub use pt_tracer::below::{Faker, Watch};
 pub use starting::start;
 pub use traced::start_traced;

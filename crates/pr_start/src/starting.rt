@@ -14,8 +14,8 @@ use kr_mounts::Mounted;
 use kr_start::Stage;
 use kr_view::Reach;
 use pr_base::{Bytes, Errno};
-use pr_watch::Watch;
 use pr_words::{Launch, arguments, word_of};
+use pt_tracer::below::Watch;
 use std::alloc::Global;
 
 /// Nothing was reached yet.

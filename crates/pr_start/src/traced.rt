@@ -16,7 +16,7 @@ use pt_bind::Tags;
 use pt_canon::Walker;
 use pt_first::first;
 use pt_first::laws::firsts_can_start;
-use pt_watched::Tracer;
+use pt_tracer::Tracer;
 use std::alloc::Global;
 
 /// Starts a command in guest terms over the texts of settled bindings, in the name of their tree's user, on a plain kernel with its tracer.

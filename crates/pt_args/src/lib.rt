@@ -2,7 +2,7 @@
 //!
 //! What is proved, with the clause or the law that carries it:
 //!
-//! What a tracer makes of a call at its entry, before the plain kernel sees it. pt_watched takes it up, pt_results and pt_script parts of it.
+//! What a tracer makes of a call at its entry, before the plain kernel sees it. pt_tracer takes it up, pt_results and pt_script parts of it.
 //!
 //! `rewrite` answers exactly the edit of the definition for every request, want of memory aside (`edit`; the definition is `edit_of`): the call
 //! passes as it is, its paths are swapped for host paths that stand on the shelf below the stack pointer, or it is cancelled with an error. What

@@ -10,7 +10,7 @@ use Rattle.pt_ident.specs.kr_calls.declared.request.Request.TheVariants as call
 use Rattle.pt_ident.specs.declared.calls.IdAnswer.TheVariants.{Value, Three, Groups, SetGroups}
 use Rattle.pt_ident.specs.Answering.{answer_of, identity_behind}
 use Rattle.pt_ident.specs.Identity.{Answers, Effect, Identity, Numbers, TakesGroups, TellsGroups, TellsNumbers, effect, get_groups, is_privileged, keeps_group, keeps_user, most_groups, natural, numbers_of, on_memory, refuses, take_groups, tells, three_of}
-use Rattle.kr_turns.specs.Stopped.{IsThere, Stopped}
+use Rattle.kr_stops.specs.Stopped.{IsThere, Stopped}
 use Rattle.pt_faker.specs.Asking.{group_list, number_places}
 use Rattle.pt_faker.specs.Carrying.{AnswersAny, CarriesOut}
 use Rattle.pt_faker.specs.declared.asking.GroupList.{GroupList}

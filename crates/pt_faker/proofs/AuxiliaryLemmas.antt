@@ -8,10 +8,10 @@ use Rattle.pt_ident.specs.rv_mem.Actions.{Action, Done, ReadBytes, WriteBytes, c
 use Rattle.pt_ident.specs.rv_mem.Memory.{Memory, after_read}
 use Rattle.pt_ident.specs.rv_mem.Pages.{Pages, allows_all, bytes_from}
 use Rattle.pt_ident.specs.rv_mem.declared.rights.Use.TheVariants.{Read, Write}
-use Rattle.kr_turns.specs.kr_model.State.{process}
-use Rattle.kr_turns.specs.Editing.{after_peek, after_poke, memory_at, with_memory}
-use Rattle.kr_turns.specs.Stopped.{IsEdited, IsThere, Stopped, edited, image_at}
-use Rattle.kr_turns.proofs.EditLemmas.{computed-lives, edited-twice}
+use Rattle.kr_stops.specs.kr_model.State.{process}
+use Rattle.kr_stops.specs.Editing.{after_peek, after_poke, memory_at, with_memory}
+use Rattle.kr_stops.specs.Stopped.{IsEdited, IsThere, Stopped, edited, image_at}
+use Rattle.kr_stops.proofs.EditLemmas.{computed-lives, edited-twice}
 use Rattle.pt_ident.specs.Identity.{Identity}
 use Rattle.pt_ident.specs.Showing.{auxiliary_values}
 use Rattle.pt_faker.specs.Carrying.{GoesOn, on_its_memory}

@@ -3,8 +3,8 @@ use Rattle.std.specs.FinMap as map
 use Rattle.std.proofs.Common.{◌≡◌, ◌∙◌, ◌==◌, ℕ, ℤ, Bool, true, Option, Some, None, if◌then◌else◌, get_or, sym, ap, subst}
 use Rattle.std.specs.Ordering.{nat_cmp}
 use Rattle.pt_ident.specs.kr_calls.declared.request.Request.{Request}
-use Rattle.kr_turns.specs.Editing.{memory_at, register_at, with_memory}
-use Rattle.kr_turns.specs.Stopped.{IsThere, Stopped}
+use Rattle.kr_stops.specs.Editing.{memory_at, register_at, with_memory}
+use Rattle.kr_stops.specs.Stopped.{IsThere, Stopped}
 use Rattle.pt_ident.specs.rv_mem.Actions.{carried_out}
 use Rattle.pt_ident.specs.rv_mem.declared.regs.Regs.{Regs}
 use Rattle.pt_ident.specs.Identity.{Answered, Effect, Identity, after_exec, effect, on_memory}

@@ -6,8 +6,8 @@ use Rattle.std.specs.Ordering.{nat_cmp}
 use Rattle.pr_base.proofs.MapLemmas.{by_key, get-insert_other, get-insert_same, get-remove_other, get-remove_same, remove-none, same_values}
 use Rattle.pr_base.specs.declared.errno.Errno.{Errno}
 use Rattle.pt_ident.specs.kr_calls.declared.request.Request.{Request}
-use Rattle.kr_turns.specs.Editing.{after_request, decoded_at, register_at}
-use Rattle.kr_turns.specs.Stopped.{Stopped}
+use Rattle.kr_stops.specs.Editing.{after_request, decoded_at, register_at}
+use Rattle.kr_stops.specs.Stopped.{Stopped}
 use Rattle.pt_ident.specs.Identity.{Effect, Identity, effect, starting}
 use Rattle.pt_ident.specs.IdentityTable.{IdentityTable, identity_at, with_identity}
 use Rattle.pt_faker.specs.Faking.{Faking, after_decoding, after_due, after_effect, answer_register, begin_program, due_of, is_root, keeping, with_due, without_due}

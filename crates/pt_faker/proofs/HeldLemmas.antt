@@ -8,7 +8,7 @@ use Rattle.pt_ident.specs.rv_mem.declared.rights.Use.TheVariants.{Write}
 use Rattle.pt_ident.proofs.rv_mem.AccessLemmas.{contains_allowed}
 use Rattle.pt_ident.proofs.rv_mem.AddressLemmas.{allows-written, byte_at-written_in, byte_at-written_other}
 use Rattle.pt_ident.proofs.rv_mem.SpaceLemmas.{IsWhole-written}
-use Rattle.kr_turns.specs.elf_load.Placed.{HoldsBytes}
+use Rattle.elf_load.specs.Placed.{HoldsBytes}
 
 -- ---- parts
 

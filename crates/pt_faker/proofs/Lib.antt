@@ -1,7 +1,6 @@
-pub use Rattle.kr_turns.proofs.law_lawful as law_lawful
-pub use Rattle.kr_turns.proofs.kr_perform as kr_perform
-pub use Rattle.kr_turns.proofs.kr_exec as kr_exec
-pub use Rattle.kr_turns.proofs as kr_turns
+pub use Rattle.kr_stops.proofs.law_lawful as law_lawful
+pub use Rattle.kr_exec.proofs as kr_exec
+pub use Rattle.kr_stops.proofs as kr_stops
 mod AnswerLemmas
 pub mod AuxiliaryLemmas
 mod DecodingLemmas

@@ -9,8 +9,8 @@ use Rattle.pt_ident.specs.rv_mem.Actions.{Action, Done, ReadBytes, WriteBytes, c
 use Rattle.pt_ident.specs.rv_mem.Memory.{Memory, after_read}
 use Rattle.pt_ident.specs.rv_mem.Pages.{Pages, any_marked, written}
 use Rattle.pt_ident.specs.rv_mem.declared.rights.Use.TheVariants.{Read, Write}
-use Rattle.kr_turns.specs.elf_load.FirstStack.{text_addresses, text_bytes, word_bytes}
-use Rattle.kr_turns.specs.elf_load.Placed.{HoldsBytes}
+use Rattle.elf_load.specs.FirstStack.{text_addresses, text_bytes, word_bytes}
+use Rattle.elf_load.specs.Placed.{HoldsBytes}
 use Rattle.pt_faker.specs.Faking.{behind_list, next_word, put_values, word_at}
 use Rattle.pt_faker.proofs.HeldLemmas.{MayBeUsed, all-used, bytes-held, holds-back, holds-front, used-written, with_words}
 

@@ -12,8 +12,8 @@ use Rattle.pt_ident.specs.rv_mem.declared.rights.Use.TheVariants.{Read}
 use Rattle.pt_ident.specs.kr_calls.Expansion.{bytes_with_ends}
 use Rattle.pt_ident.specs.kr_calls.declared.fault.CallFault.{CallFault}
 use Rattle.pt_ident.specs.kr_calls.declared.fault.CallFault.TheVariants as call
-use Rattle.kr_turns.specs.kr_exec.Lists.{Trying, address_at, and_then, at_least_one, if_it_fits, most_bytes, next_address}
-use Rattle.kr_turns.proofs.kr_exec.ListLemmas.{and_then_is, is_less, not_zero, on_reply}
+use Rattle.kr_exec.specs.Lists.{Trying, address_at, and_then, at_least_one, if_it_fits, most_bytes, next_address}
+use Rattle.kr_exec.proofs.ListLemmas.{and_then_is, is_less, not_zero, on_reply}
 use Rattle.pt_faker.specs.Stopping.{after_peek, IsThere, memory_at, Stopped, with_memory}
 use Rattle.pt_faker.specs.Carrying.{CarriesOut}
 use Rattle.pt_faker.proofs.AuxiliaryLemmas.{word-of}

@@ -15,15 +15,15 @@ use Rattle.pt_ident.proofs.rv_mem.AddressLemmas.{allows-written, byte_at-written
 use Rattle.pt_ident.proofs.rv_mem.ChangeLemmas.{get-mapped_in}
 use Rattle.pt_ident.proofs.rv_mem.TableLemmas.{below_or_not}
 use Rattle.pt_ident.proofs.rv_mem.SpaceLemmas.{IsWhole-empty, IsWhole-mapped, IsWhole-written}
-use Rattle.kr_turns.specs.elf_read.Headers.{entry_size}
-use Rattle.kr_turns.specs.elf_read.Plans.{planned}
-use Rattle.kr_turns.specs.elf_read.declared.plan.Plan.{Plan}
-use Rattle.kr_turns.specs.elf_read.declared.plan.Segment.{Segment}
-use Rattle.kr_turns.specs.elf_load.FirstStack.{exceeds_arguments, pair_words, pairs_of, random_at, random_bytes, stack_bytes, stack_pointer, stack_top, text_addresses, text_bytes, texts_at, texts_size, word_bytes, word_count, words_of, zeros}
-use Rattle.kr_turns.specs.elf_load.Image.{end_page, file_bytes, first_page, image_memory, image_pages, rights_in, stack_rights, with_segment, with_segments, with_stack}
-use Rattle.kr_turns.specs.elf_load.Placed.{HoldsBytes}
-use Rattle.kr_turns.proofs.elf_load.ImageLemmas.{image_stack}
-use Rattle.kr_turns.proofs.elf_load.ListLemmas.{stack_ends, stack_low, word_bytes-append}
+use Rattle.kr_exec.specs.elf_read.Headers.{entry_size}
+use Rattle.kr_exec.specs.elf_read.Plans.{planned}
+use Rattle.kr_exec.specs.elf_read.declared.plan.Plan.{Plan}
+use Rattle.kr_exec.specs.elf_read.declared.plan.Segment.{Segment}
+use Rattle.elf_load.specs.FirstStack.{exceeds_arguments, pair_words, pairs_of, random_at, random_bytes, stack_bytes, stack_pointer, stack_top, text_addresses, text_bytes, texts_at, texts_size, word_bytes, word_count, words_of, zeros}
+use Rattle.elf_load.specs.Image.{end_page, file_bytes, first_page, image_memory, image_pages, rights_in, stack_rights, with_segment, with_segments, with_stack}
+use Rattle.elf_load.specs.Placed.{HoldsBytes}
+use Rattle.elf_load.proofs.ImageLemmas.{image_stack}
+use Rattle.elf_load.proofs.ListLemmas.{stack_ends, stack_low, word_bytes-append}
 use Rattle.pt_ident.specs.Identity.{Identity}
 use Rattle.pt_ident.specs.Showing.{auxiliary_values}
 use Rattle.pt_faker.specs.Faking.{behind_list, most_words, next_word, put_values, show_identity}

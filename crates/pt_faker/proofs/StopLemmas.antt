@@ -1,5 +1,5 @@
 -- Edits of a stopped process, one after the other.
-pub use Rattle.kr_turns.proofs.EditLemmas.{edited-then}
+pub use Rattle.kr_stops.proofs.EditLemmas.{edited-then}
 use Rattle.std.proofs.Common.{◌≡◌, ◌∙◌, ◌+◌, ◌*◌, ◌≤◌, ◌&&◌, ℕ, zero, suc, pos, Bool, true, false, List, [], ◌∷◌, length, arith, w32, Result, Ok, Err, if◌then◌else◌, refl, sym, ap, subst}
 use Rattle.std.specs.Int.{to_le_bytes}
 use Rattle.std.specs.Prelude.{IsTrue, OnOk, slice_set}
@@ -13,10 +13,10 @@ use Rattle.pt_ident.specs.rv_mem.declared.rights.Use.TheVariants.{Write}
 use Rattle.pt_ident.proofs.rv_mem.AddressLemmas.{allows-written}
 use Rattle.pt_ident.proofs.rv_mem.LayoutLemmas.{layouts_follow}
 use Rattle.pt_ident.specs.kr_inode.declared.user.User.{User}
-use Rattle.kr_turns.specs.kr_model.State.{Image}
-use Rattle.kr_turns.specs.Editing.{after_peek, after_poke, after_request, decoded_at, memory_at, with_memory, with_register}
-use Rattle.kr_turns.specs.Stopped.{IsEdited, IsThere, Stopped, edited, image_at}
-use Rattle.kr_turns.proofs.EditLemmas.{edited-by, edited-same, edited-twice, image-edited}
+use Rattle.kr_stops.specs.kr_model.State.{Image}
+use Rattle.kr_stops.specs.Editing.{after_peek, after_poke, after_request, decoded_at, memory_at, with_memory, with_register}
+use Rattle.kr_stops.specs.Stopped.{IsEdited, IsThere, Stopped, edited, image_at}
+use Rattle.kr_stops.proofs.EditLemmas.{edited-by, edited-same, edited-twice, image-edited}
 use Rattle.pr_base.specs.declared.errno.Errno.TheVariants.{EFAULT}
 use Rattle.pt_ident.specs.Identity.{Answered, Identity, Numbers, answered, numbers_in, refusal, tell_numbers}
 use Rattle.pt_ident.specs.Showing.{shown_stat}

@@ -1,8 +1,8 @@
 -- What is done on the memory of a stopped process in place of its call.
 use Rattle.std.specs.Prelude.{◌≡◌, ℕ, ℤ, Option, Some, None}
 use Rattle.pt_ident.specs.rv_mem.Actions.{Action, carried_out}
-use Rattle.kr_turns.specs.Editing.{memory_at, with_memory}
-use Rattle.kr_turns.specs.Stopped.{Stopped}
+use Rattle.kr_stops.specs.Editing.{memory_at, with_memory}
+use Rattle.kr_stops.specs.Stopped.{Stopped}
 use Rattle.pt_ident.specs.Identity.{Effect, Identity, on_memory}
 
 -- an action was carried out on its memory, with this reply

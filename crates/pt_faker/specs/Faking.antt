@@ -13,9 +13,9 @@ use Rattle.pt_ident.specs.rv_mem.declared.rights.Use.TheVariants.{Read, Write}
 use Rattle.pt_ident.specs.kr_inode.declared.user.User.{User}
 use Rattle.pt_ident.specs.kr_calls.declared.request.Request.{Request}
 use Rattle.pt_ident.specs.kr_calls.declared.request.Request.TheVariants as call
-use Rattle.kr_turns.specs.Editing.{after_request, decoded_at, memory_at, register_at, with_memory, with_register}
-use Rattle.kr_turns.specs.Stopped.{Stopped}
-use Rattle.kr_turns.specs.Watching.{Watcher}
+use Rattle.kr_stops.specs.Editing.{after_request, decoded_at, memory_at, register_at, with_memory, with_register}
+use Rattle.kr_stops.specs.Stopped.{Stopped}
+use Rattle.kr_stops.specs.Watching.{Watcher}
 use Rattle.pt_ident.specs.Identity.{Effect, Identity, after_exec, effect, on_memory, refusal}
 use Rattle.pt_ident.specs.IdentityTable.{IdentityTable, after_birth, after_end, identity_at, starting_table, with_identity}
 use Rattle.pt_ident.specs.Showing.{auxiliary_values, shown_stat}

@@ -1,7 +1,7 @@
 -- Laws of what a watcher does so that each process believes in an identity of its own.
 use Rattle.std.specs.FinMap as map
 use Rattle.std.specs.Prelude.{◌≡◌, ◌≢◌, ℕ, None}
-use Rattle.kr_turns.specs.Stopped.{Stopped}
+use Rattle.kr_stops.specs.Stopped.{Stopped}
 use Rattle.pt_ident.specs.Identity.{starting}
 use Rattle.pt_ident.specs.IdentityTable.{identity_at}
 use Rattle.pt_faker.specs.Faking.{Faking, born, entered, exited, gone, without_due}

@@ -8,7 +8,7 @@ use Rattle.pt_ident.specs.rv_mem.declared.rights.Use.TheVariants.{Read}
 use Rattle.pt_ident.specs.kr_calls.Expansion.{bytes_with_ends}
 use Rattle.pt_ident.specs.kr_calls.declared.fault.CallFault.{CallFault}
 use Rattle.pt_ident.specs.kr_calls.declared.fault.CallFault.TheVariants as call
-use Rattle.kr_turns.specs.kr_exec.Lists.{Trying, address_at, and_then, at_least_one, if_it_fits, most_bytes, most_texts, next_address}
+use Rattle.kr_exec.specs.Lists.{Trying, address_at, and_then, at_least_one, if_it_fits, most_bytes, most_texts, next_address}
 use Rattle.pt_faker.specs.Stopping.{Stopped}
 use Rattle.pt_faker.specs.declared.lists.Handed.{Handed}
 use Rattle.pt_faker.specs.declared.lists.List.{List as ListRead}

@@ -6,11 +6,11 @@ use Rattle.pt_ident.specs.rv_mem.Memory.{Memory}
 use Rattle.pt_ident.specs.rv_mem.Page.{grants}
 use Rattle.pt_ident.specs.rv_mem.Pages.{IsWhole, Pages, allows, byte_at}
 use Rattle.pt_ident.specs.rv_mem.declared.rights.Use.{Use}
-use Rattle.kr_turns.specs.elf_read.declared.plan.Plan.{Plan}
-use Rattle.kr_turns.specs.elf_load.FirstStack.{exceeds_arguments, pairs_of, stack_bytes, stack_pointer, stack_top}
-use Rattle.kr_turns.specs.elf_load.Image.{image_memory, image_pages, stack_rights}
-use Rattle.kr_turns.specs.elf_load.Placed.{HoldsBytes}
-use Rattle.kr_turns.specs.elf_load.declared.stack.Pair.{Pair}
+use Rattle.kr_exec.specs.elf_read.declared.plan.Plan.{Plan}
+use Rattle.elf_load.specs.FirstStack.{exceeds_arguments, pairs_of, stack_bytes, stack_pointer, stack_top}
+use Rattle.elf_load.specs.Image.{image_memory, image_pages, stack_rights}
+use Rattle.elf_load.specs.Placed.{HoldsBytes}
+use Rattle.elf_load.specs.declared.stack.Pair.{Pair}
 use Rattle.pt_ident.specs.Identity.{Identity}
 use Rattle.pt_ident.specs.Showing.{auxiliary_values}
 use Rattle.pt_faker.specs.Faking.{show_identity}

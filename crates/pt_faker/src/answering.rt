@@ -1,12 +1,12 @@
 //! Calls on users and groups, which are answered in place of the kernel.
 ghost use Rattle.std.specs.Prelude.{◌≡◌, IfOk};
-ghost use Rattle.kr_turns.specs.Stopped.{IsEdited};
+ghost use Rattle.kr_stops.specs.Stopped.{IsEdited};
 ghost use Rattle.pt_ident.specs.Identity.{effect};
 ghost use Rattle.pt_faker.specs.Carrying.{AnswersAny};
 
 use crate::asking::{group_list, number_places};
 use crate::memory::{take_groups, tell_groups, tell_numbers};
-use kr_turns::Tracee;
+use kr_stops::Tracee;
 use pr_base::NoMemory;
 use pt_ident::below::kr_calls::Request;
 use pt_ident::{IdAnswer, Ids, answer};

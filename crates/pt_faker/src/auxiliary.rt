@@ -1,11 +1,11 @@
 //! The auxiliary vector of a new program (getauxval(3)), which stands on its stack behind its arguments and its environment.
 ghost use Rattle.std.specs.Prelude.{◌≡◌, OnOk};
-ghost use Rattle.kr_turns.specs.Stopped.{IsEdited};
+ghost use Rattle.kr_stops.specs.Stopped.{IsEdited};
 ghost use Rattle.pt_faker.specs.Carrying.{GoesOn, on_its_memory};
 ghost use Rattle.pt_faker.specs.Faking.{behind_list, put_values, show_identity, word_at};
 
 use crate::memory::write;
-use kr_turns::Tracee;
+use kr_stops::Tracee;
 use pr_base::NoMemory;
 use pt_ident::below::rv_mem::Use;
 use pt_ident::{Ids, fix_aux};

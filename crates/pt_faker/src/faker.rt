@@ -1,6 +1,6 @@
 //! A watcher that gives each process an identity of its own.
 ghost use Rattle.std.specs.Prelude.{◌≡◌, OnOk};
-ghost use Rattle.kr_turns.specs.Stopped.{IsEdited};
+ghost use Rattle.kr_stops.specs.Stopped.{IsEdited};
 ghost use Rattle.pt_faker.specs.Faking.{due_of};
 ghost use Rattle.pt_faker.specs.declared.due.Due.TheVariants.{BeginsProgram, ShowsOwner};
 
@@ -10,7 +10,7 @@ use crate::due::Due;
 use crate::dues::Dues;
 use crate::memory::show_owner;
 use crate::registers::{STACK, forgive, has_answered_zero, take_number, tell};
-use kr_turns::{Stops, Tracee};
+use kr_stops::{Stops, Tracee};
 use pr_base::NoMemory;
 use pt_ident::Identities;
 use pt_ident::below::kr_calls::{CallFault, Request};

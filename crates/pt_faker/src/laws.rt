@@ -1,11 +1,11 @@
 //! Laws of the definitions, each carried by a function that does nothing.
-ghost use Rattle.kr_turns.specs.Making.{watching};
-ghost use Rattle.kr_turns.specs.Watching.{IsGraph};
+ghost use Rattle.kr_stops.specs.Watching.{watching};
+ghost use Rattle.kr_stops.specs.Watching.{IsGraph};
 ghost use Rattle.pt_faker.specs.Faking.{faker};
 ghost use Rattle.pt_faker.specs.FakingLaws.{ComeAndGo, EntriesForget, ExitsFollowEntries, OthersStay};
 
 use crate::faker::Faker;
-use kr_turns::Stops;
+use kr_stops::Stops;
 
 /// A second stop without a first one changes nothing.
 pub fn exits_follow_entries()

@@ -2,7 +2,7 @@
 //!
 //! What is proved, with the clause or the law that carries it:
 //!
-//! A watcher that gives each process such an identity, `Faker`. pr_watch takes it up.
+//! A watcher that gives each process such an identity, `Faker`.
 //!
 //! What it does at the two stops of a call, as a process makes a child and as one ends, are exactly the functions of the definition
 //! (`specs/Faking.antt`): its four relations as a watcher are their graphs (`faker_is_its_definition`), so that a turn with it is the
@@ -14,6 +14,9 @@
 //! Of the definition: a second stop without a first one changes nothing (`exits_follow_entries`), a first one forgets what an earlier one left
 //! (`entries_forget`), all other identities stay (`others_stay`), and processes come as their parents are and go without a trace (`come_and_go`).
 //!
+//! Who watches a run on the kernel with mounts: nobody, or that watcher (`Watch`). `Graphed` is the trait of watchers whose stops are functions,
+//! and those of `Watch` are the definition's (`is_graph`; `specs/Watches.antt`).
+//!
 //! Only tested, or not shown: `rows` (tables of the numbers,
 //! groups, owners and processes).
 //!
@@ -21,7 +24,7 @@
 //!
 //! The lists of texts that a call of execve(2) hands over, as a tracer reads them.
 //!
-//! The lists of execve(2), the strings of a path, and numbers, read at a stop by peeks. pt_watched takes it up.
+//! The lists of execve(2), the strings of a path, and numbers, read at a stop by peeks. pt_tracer takes it up.
 //!
 //! What is read is exactly what the kernel itself reads of the same memory, or its error, want of memory aside: the lists of strings up to their
 //! null pointers, with the kernel's limits.
@@ -47,16 +50,20 @@ pub mod below;
 mod due;
 mod dues;
 mod faker;
+mod graphed;
 pub mod laws;
 pub mod lists;
 pub mod memory;
 pub mod registers;
 pub mod started;
 mod text;
+mod watch;
 
 pub use answering::answer_call;
 pub use auxiliary::show_identity;
 pub use due::Due;
 pub use faker::{Faker, due_of};
-pub use kr_turns::{Stops, Tracee};
+pub use graphed::Graphed;
+pub use kr_stops::{Stops, Tracee};
 pub use lists::{Handed, addresses_behind, read_lists};
+pub use watch::Watch;

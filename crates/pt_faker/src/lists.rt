@@ -1,7 +1,7 @@
 //! Lists of texts in the memory of a stopped process.
 ghost use Rattle.std.specs.Prelude.{◌≡◌, ◌+◌, ◌*◌, ◌<◌, ◌≤◌, [], IfOk, length};
 ghost use Rattle.pt_ident.specs.kr_calls.Expansion.{bytes_with_ends};
-ghost use Rattle.kr_turns.specs.kr_exec.Lists.{at_least_one, most_texts};
+ghost use Rattle.kr_exec.specs.Lists.{at_least_one, most_texts};
 ghost use Rattle.pt_faker.specs.Stopping.{IsEdited};
 ghost use Rattle.pt_faker.specs.Reading.{addresses_behind, list_at, lists_at, texts_from, texts_read, Reads};
 

@@ -1,13 +1,13 @@
 //! What is read and written of the memory of a process that stands at a stop.
 ghost use Rattle.std.specs.Prelude.{◌≡◌, ◌≤◌, ◌&&◌, IfOk, IsTrue, OnOk, length};
 ghost use Rattle.pt_ident.specs.rv_mem.Pages.{allows_all};
-ghost use Rattle.kr_turns.specs.Editing.{after_poke, memory_at};
-ghost use Rattle.kr_turns.specs.Stopped.{IsEdited};
+ghost use Rattle.kr_stops.specs.Editing.{after_poke, memory_at};
+ghost use Rattle.kr_stops.specs.Stopped.{IsEdited};
 ghost use Rattle.pt_ident.specs.Identity.{Identity, TakesGroups, TellsGroups, most_groups, numbers_of, on_memory, refusal, tell_numbers};
 ghost use Rattle.pt_faker.specs.Carrying.{CarriesOut, on_its_memory};
 ghost use Rattle.pt_faker.specs.Faking.{show_owner};
 
-use kr_turns::Tracee;
+use kr_stops::Tracee;
 use pr_base::{Errno, NoMemory};
 use pt_ident::below::kr_inode::User;
 use pt_ident::below::rv_mem::Use;

@@ -1,13 +1,13 @@
 //! The registers of a call on RISC-V, and what a second stop does to them.
 ghost use Rattle.std.specs.Prelude.{◌≡◌, ◌==◌, ◌&&◌};
 ghost use Rattle.pr_base.specs.declared.errno.Errno.TheVariants.{EPERM};
-ghost use Rattle.kr_turns.specs.Editing.{register_at};
-ghost use Rattle.kr_turns.specs.Stopped.{IsEdited};
+ghost use Rattle.kr_stops.specs.Editing.{register_at};
+ghost use Rattle.kr_stops.specs.Stopped.{IsEdited};
 ghost use Rattle.pt_ident.specs.Identity.{refusal};
 ghost use Rattle.pt_faker.specs.Faking.{forgiven, has_answered_zero, no_longer_called, told, word_of};
 
 use crate::memory::refused;
-use kr_turns::Tracee;
+use kr_stops::Tracee;
 use pr_base::Errno;
 
 /// a7, which has the number of a call.

@@ -1,6 +1,6 @@
 //! Texts in the memory of a stopped process.
 ghost use Rattle.std.specs.Prelude.{◌≡◌, ◌<◌, IfOk, length};
-ghost use Rattle.kr_turns.specs.kr_exec.Lists.{address_at};
+ghost use Rattle.kr_exec.specs.Lists.{address_at};
 ghost use Rattle.pt_faker.specs.Stopping.{IsEdited};
 ghost use Rattle.pt_faker.specs.Carrying.{CarriesOut};
 ghost use Rattle.pt_faker.specs.Reading.{byte_at, text_at, text_within, Reads};

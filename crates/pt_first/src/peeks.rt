@@ -11,7 +11,8 @@ ghost use Rattle.kr_hostview.specs.Peeking.{IsFound};
 ghost use Rattle.pt_first.specs.FirstPeeks.{answer_along, first_peeked, kind_at, link_text_at};
 
 use kr_tree::{Host, Ino, Kind, ProcAt, Right, Tree, User};
-use kr_view::{HostMount, NoProcs, Places, Plain, Reach, Target, WalkFault, resolve};
+use kr_view::{HostMount, NoProcs, Places, Plain, Reach, Target, WalkFault};
+use kr_walk::resolve;
 use pr_base::{BaseKind, Bytes, Errno, NoMemory, PeekFault, PeekKind, Peeks, WalkMode};
 use std::alloc::Global;
 use std::marker::Model;

@@ -2,7 +2,7 @@
 //!
 //! What is proved, with the clause or the law that carries it:
 //!
-//! What a tracer answers itself, and what it notes of the plain kernel's answers. pt_watched takes it up.
+//! What a tracer answers itself, and what it notes of the plain kernel's answers. pt_tracer takes it up.
 //!
 //! `note_result` leaves exactly the tags of the definition (`ok`; `tags_after`), and want of memory leaves them as they were (`err`).
 //! `cwd_answer` and `link_answer` answer exactly what getcwd and readlinkat of a link of the process directory tell in guest terms, want of

@@ -2,7 +2,7 @@
 //!
 //! What is proved, with the clause or the law that carries it:
 //!
-//! The program that execve(2) runs in the end, in guest terms. pt_watched and pt_first take it up.
+//! The program that execve(2) runs in the end, in guest terms. pt_tracer and pt_first take it up.
 //!
 //! `expand` answers exactly what the definition of scripts comes to (kr_calls; a kernel's own execve goes by the same one) where a program is
 //! found by a walk over guest texts and its first bytes are asked of its host text, or fails as that does, want of memory aside (`answer`; the
@@ -16,7 +16,7 @@
 //! A program's host text and index are those of a guest text, so none is found that stands on the host alone (`programs_are_of_guest_texts`). The
 //! last interpreter's arguments end with the first script's path as it was given and its arguments but the first (`arguments_follow`).
 //!
-//! Only tested, or not shown: 14 rows are worked out by hand; `canon_tests`: want of memory at a peek. Whole runs show scripts. pt_watched puts
+//! Only tested, or not shown: 14 rows are worked out by hand; `canon_tests`: want of memory at a peek. Whole runs show scripts. pt_tracer puts
 //! the texts from scripts on the shelf.
 #![tactic(auto)]
 

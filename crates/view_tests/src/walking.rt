@@ -1,7 +1,8 @@
 //! Walks over the host's own view, and small trees for them.
 
 use kr_tree::{Ino, Meta, Node, ROOT, Tree, User};
-use kr_view::{Host, HostMount, NoProcs, Place, Plain, Reach, Target, WalkFault, resolve};
+use kr_view::{Host, HostMount, NoProcs, Place, Plain, Reach, Target, WalkFault};
+use kr_walk::resolve;
 use pr_base::{Bytes, Errno, Last, NoMemory, WalkMode};
 use std::alloc::Global;
 

@@ -9,7 +9,7 @@ use Rattle.kr_seen.specs.kr_model.Known.{known}
 use Rattle.kr_seen.specs.kr_model.Reply.{Replying, done, refuse}
 use Rattle.kr_seen.specs.kr_model.State.{image_layout}
 use Rattle.kr_seen.specs.kr_ops.Meaning.{meaning}
-use Rattle.kr_rows.proofs.PerformLemmas.{by-refusal}
+use Rattle.kr_seen.proofs.PerformLemmas.{by-refusal}
 use Rattle.kr_attributes.proofs.FoundLemmas.{is-placed, is-unplaced, mount-of-open, negative, not-open, place-there}
 use Rattle.kr_attributes.proofs.RowLemmas.{at-all, by-row}
 use Rattle.kr_attributes.proofs.directories.fchdir.Goals as goal

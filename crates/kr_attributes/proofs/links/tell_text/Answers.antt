@@ -2,7 +2,7 @@ use Rattle.std.proofs.Common.{[], take, arith}
 use Rattle.kr_seen.specs.pr_base.declared.errno.Errno.TheVariants.{EFAULT}
 use Rattle.kr_seen.specs.rv_mem.Actions.{write_if_allowed}
 use Rattle.kr_seen.specs.kr_model.Reply.{done, refuse}
-use Rattle.kr_rows.proofs.PerformLemmas.{by-row}
+use Rattle.kr_seen.proofs.PerformLemmas.{by-row}
 use Rattle.kr_attributes.proofs.TextLemmas.{tells}
 use Rattle.kr_attributes.proofs.links.tell_text.Goals as goal
 

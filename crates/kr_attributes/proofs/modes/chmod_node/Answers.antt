@@ -6,7 +6,7 @@ use Rattle.kr_seen.specs.kr_inode.declared.node.Meta.{Meta}
 use Rattle.kr_seen.specs.kr_model.Change.{SetMode}
 use Rattle.kr_seen.specs.kr_model.Reply.{answers, done, refuse}
 use Rattle.kr_seen.specs.kr_ops.Meaning.{meaning}
-use Rattle.kr_rows.proofs.PerformLemmas.{by-refusal, by-reply}
+use Rattle.kr_seen.proofs.PerformLemmas.{by-refusal, by-reply}
 use Rattle.kr_attributes.proofs.NodeLemmas.{chmod-gone, chmod-there, meta-gone, meta-there}
 use Rattle.kr_attributes.proofs.modes.chmod_node.Goals as goal
 

@@ -6,7 +6,7 @@ use Rattle.kr_seen.specs.kr_model.Known.{known}
 use Rattle.kr_seen.specs.kr_model.Reply.{refuse}
 use Rattle.kr_seen.specs.kr_model.State.{image_layout}
 use Rattle.kr_seen.specs.kr_ops.Meaning.{meaning}
-use Rattle.kr_rows.proofs.PerformLemmas.{by-refusal, by-row}
+use Rattle.kr_seen.proofs.PerformLemmas.{by-refusal, by-row}
 use Rattle.kr_attributes.proofs.FoundLemmas.{closed, on-none, on-object}
 use Rattle.kr_attributes.proofs.modes.fchmod.Goals as goal
 

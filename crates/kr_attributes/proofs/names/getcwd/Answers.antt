@@ -5,7 +5,7 @@ use Rattle.kr_seen.specs.kr_model.DirectoryRows.{tell_directory}
 use Rattle.kr_seen.specs.kr_model.Reply.{refuse}
 use Rattle.kr_seen.specs.kr_ops.Meaning.{meaning}
 use Rattle.kr_seen.specs.Numbered.{state_numbered}
-use Rattle.kr_rows.proofs.PerformLemmas.{by-refusal, by-row}
+use Rattle.kr_seen.proofs.PerformLemmas.{by-refusal, by-row}
 use Rattle.kr_attributes.proofs.TextLemmas.{name-of-cwd}
 use Rattle.kr_attributes.proofs.names.getcwd.Goals as goal
 

@@ -2,7 +2,7 @@ use Rattle.std.proofs.Common.{ℕ, List, ◌≤◌, ◌<◌, length, [], refl, a
 use Rattle.kr_seen.specs.pr_base.declared.errno.Errno.TheVariants.{EFAULT, ERANGE}
 use Rattle.kr_seen.specs.rv_mem.Actions.{write_if_allowed}
 use Rattle.kr_seen.specs.kr_model.Reply.{done, refuse}
-use Rattle.kr_rows.proofs.PerformLemmas.{by-refusal, by-row}
+use Rattle.kr_seen.proofs.PerformLemmas.{by-refusal, by-row}
 use Rattle.kr_attributes.proofs.TextLemmas.{fits, too-long}
 use Rattle.kr_attributes.proofs.names.tell_directory.Goals as goal
 

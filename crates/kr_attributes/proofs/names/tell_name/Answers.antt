@@ -1,7 +1,7 @@
 use Rattle.std.proofs.Common.{Err, refl, ap, ◌∙◌, [], length}
 use Rattle.kr_seen.specs.pr_base.declared.errno.Errno.TheVariants.{EFAULT}
 use Rattle.kr_seen.specs.kr_model.Reply.{done, refuse}
-use Rattle.kr_rows.proofs.UsingLemmas.{begins, refused-after, unwritable}
+use Rattle.kr_seen.proofs.UsingLemmas.{begins, refused-after, unwritable}
 use Rattle.kr_attributes.proofs.names.tell_name.Goals as goal
 
 pub returns-in-Err-BadAddress-clause-performs : goal.returns-in-Err-BadAddress-clause-performs

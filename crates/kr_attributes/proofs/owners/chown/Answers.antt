@@ -4,7 +4,7 @@ use Rattle.kr_seen.specs.kr_model.AttributeRows.{chown_by, chown_host}
 use Rattle.kr_seen.specs.kr_model.Known.{known}
 use Rattle.kr_seen.specs.kr_model.State.{image_layout}
 use Rattle.kr_seen.specs.kr_ops.Meaning.{meaning}
-use Rattle.kr_rows.proofs.PerformLemmas.{by-row}
+use Rattle.kr_seen.proofs.PerformLemmas.{by-row}
 use Rattle.kr_attributes.proofs.owners.chown.Goals as goal
 
 pub returns-in-Node-clause-performs : goal.returns-in-Node-clause-performs

@@ -5,7 +5,7 @@ use Rattle.kr_seen.specs.kr_model.AttributeRows.{chown_by, or_old}
 use Rattle.kr_seen.specs.kr_model.Change.{Change, SetOwner}
 use Rattle.kr_seen.specs.kr_model.Reply.{answers, done}
 use Rattle.kr_seen.specs.kr_ops.Meaning.{meaning}
-use Rattle.kr_rows.proofs.PerformLemmas.{by-refusal, by-reply}
+use Rattle.kr_seen.proofs.PerformLemmas.{by-refusal, by-reply}
 use Rattle.kr_attributes.specs.Ruled.{ruled}
 use Rattle.kr_attributes.proofs.NodeLemmas.{chown-gone, chown-there, meta-gone, meta-there}
 use Rattle.kr_attributes.proofs.owners.chown_node.Goals as goal

@@ -1,7 +1,7 @@
 use Rattle.std.proofs.Common.{refl, ap, ◌∙◌, []}
 use Rattle.kr_seen.specs.pr_base.declared.errno.Errno.TheVariants.{EPERM}
 use Rattle.kr_seen.specs.kr_model.Reply.{answers}
-use Rattle.kr_rows.proofs.PerformLemmas.{by-refusal, by-reply}
+use Rattle.kr_seen.proofs.PerformLemmas.{by-refusal, by-reply}
 use Rattle.kr_attributes.specs.Ruled.{ruled}
 use Rattle.kr_attributes.proofs.owners.chown_own.Goals as goal
 

@@ -5,7 +5,7 @@ use Rattle.kr_seen.specs.kr_model.AttributeRows.{chown_by, chown_host}
 use Rattle.kr_seen.specs.kr_model.Known.{known}
 use Rattle.kr_seen.specs.kr_model.State.{image_layout}
 use Rattle.kr_seen.specs.kr_ops.Meaning.{meaning}
-use Rattle.kr_rows.proofs.PerformLemmas.{by-refusal, by-row}
+use Rattle.kr_seen.proofs.PerformLemmas.{by-refusal, by-row}
 use Rattle.kr_attributes.proofs.FoundLemmas.{closed, on-none, on-object}
 use Rattle.kr_attributes.proofs.owners.fchown.Goals as goal
 

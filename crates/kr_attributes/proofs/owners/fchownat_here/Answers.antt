@@ -6,7 +6,7 @@ use Rattle.kr_seen.specs.kr_model.AttributeRows.{chown_host, fchown_row}
 use Rattle.kr_seen.specs.kr_model.Known.{known}
 use Rattle.kr_seen.specs.kr_model.State.{image_layout}
 use Rattle.kr_seen.specs.kr_ops.Meaning.{meaning}
-use Rattle.kr_rows.proofs.PerformLemmas.{by-row}
+use Rattle.kr_seen.proofs.PerformLemmas.{by-row}
 use Rattle.kr_attributes.proofs.owners.fchownat_here.Goals as goal
 
 pub returns-then-is_working_directory-clause-performs : goal.returns-then-is_working_directory-clause-performs

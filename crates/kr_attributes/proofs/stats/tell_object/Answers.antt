@@ -3,7 +3,7 @@ use Rattle.std.specs.Option.{option_map_or}
 use Rattle.kr_seen.specs.pr_base.declared.errno.Errno.TheVariants.{ENOENT}
 use Rattle.kr_seen.specs.kr_model.AttributeRows.{tell_stat}
 use Rattle.kr_seen.specs.kr_model.Reply.{refuse}
-use Rattle.kr_rows.proofs.PerformLemmas.{by-refusal, by-row}
+use Rattle.kr_seen.proofs.PerformLemmas.{by-refusal, by-row}
 use Rattle.kr_attributes.proofs.stats.tell_object.Goals as goal
 
 pub returns-in-Some-clause-performs : goal.returns-in-Some-clause-performs

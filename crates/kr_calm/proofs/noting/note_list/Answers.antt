@@ -3,7 +3,7 @@ use Rattle.kr_seen.specs.kr_model.Known.{known}
 use Rattle.kr_seen.specs.kr_model.State.{image_layout}
 use Rattle.kr_seen.specs.kr_ops.Meaning.{meaning}
 use Rattle.kr_seen.specs.Carrying.{memory_of}
-use Rattle.kr_rows.specs.Using.{HasMemory}
+use Rattle.kr_seen.specs.Using.{HasMemory}
 use Rattle.kr_calm.specs.Noted.{kills}
 use Rattle.kr_calm.proofs.NotedLemmas.{as-before, is-noted, not-noted, noted-elsewhere, noted-there}
 use Rattle.kr_calm.proofs.noting.note_list.Goals as goal

@@ -4,7 +4,7 @@ use Rattle.elf_load.specs.rv_mem.Memory.{Memory}
 use Rattle.kr_perform.specs.kr_model.State as model
 use Rattle.kr_seen.proofs.kr_ops.ListLemmas.{none-found}
 use Rattle.kr_seen.specs.Carrying.{no_memory}
-use Rattle.kr_perform.proofs.kr_rows.UsingLemmas.{memory-at}
+use Rattle.kr_seen.proofs.UsingLemmas.{memory-at}
 use Rattle.kr_execve.proofs.marks.marks_read.Goals as goal
 
 pub returns-in-Some : goal.returns-in-Some

@@ -1,5 +1,5 @@
 use Rattle.std.proofs.Common.{◌≡◌, lit<, inl, inr, subst, ◌∙◌, rules, w32, to_z, of_z}
-use Rattle.kr_transfer.specs.kr_rows.Performing.{Performs}
+use Rattle.kr_seen.specs.PerformedRows.{Performs}
 use Rattle.law_allowed.specs.kr_model.IdentityRows.{getgroups_row}
 use Rattle.law_allowed.specs.kr_model.ProcessRows.{exit_row, wait4_row}
 use Rattle.kr_seen.specs.kr_ops.Meaning.{meaning}

@@ -8,9 +8,9 @@ use Rattle.kr_seen.specs.kr_model.Known.{known}
 use Rattle.kr_seen.specs.kr_model.Reply.{answers}
 use Rattle.kr_seen.specs.kr_model.State as model
 use Rattle.kr_seen.specs.kr_ops.Meaning.{meaning}
-use Rattle.kr_rows.specs.Performing.{open_number}
+use Rattle.kr_seen.specs.PerformedRows.{open_number}
 use Rattle.kr_rows.proofs.DescriptorLemmas.{not-open, is-open, lowest-known}
-use Rattle.kr_rows.proofs.PerformLemmas.{by-refusal, by-reply}
+use Rattle.kr_seen.proofs.PerformLemmas.{by-refusal, by-reply}
 use Rattle.kr_rows.proofs.descriptors.dup.Goals as goal
 
 pub returns-in_default-clause-performs : goal.returns-in_default-clause-performs

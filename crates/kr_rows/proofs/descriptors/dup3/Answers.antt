@@ -10,9 +10,9 @@ use Rattle.kr_seen.specs.kr_model.Known.{known}
 use Rattle.kr_seen.specs.kr_model.Reply.{answers, done}
 use Rattle.kr_seen.specs.kr_model.State as model
 use Rattle.kr_seen.specs.kr_ops.Meaning.{meaning}
-use Rattle.kr_rows.specs.Performing.{open_number}
+use Rattle.kr_seen.specs.PerformedRows.{open_number}
 use Rattle.kr_rows.proofs.DescriptorLemmas.{a-number, is-open, no-number, not-open}
-use Rattle.kr_rows.proofs.PerformLemmas.{by-refusal, by-reply}
+use Rattle.kr_seen.proofs.PerformLemmas.{by-refusal, by-reply}
 use Rattle.kr_rows.proofs.descriptors.dup3.Goals as goal
 
 -- the number that a descriptor can have

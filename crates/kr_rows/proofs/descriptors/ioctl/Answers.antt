@@ -5,9 +5,9 @@ use Rattle.kr_seen.specs.kr_model.Reply.{refuse}
 use Rattle.kr_seen.specs.kr_model.State as model
 use Rattle.kr_seen.specs.kr_ops.Meaning.{meaning}
 use Rattle.kr_seen.specs.pr_base.declared.errno.Errno.TheVariants.{EBADF, ENOTTY}
-use Rattle.kr_rows.specs.Performing.{open_number}
+use Rattle.kr_seen.specs.PerformedRows.{open_number}
 use Rattle.kr_rows.proofs.DescriptorLemmas.{not-open, is-open}
-use Rattle.kr_rows.proofs.PerformLemmas.{by-refusal}
+use Rattle.kr_seen.proofs.PerformLemmas.{by-refusal}
 use Rattle.kr_rows.proofs.descriptors.ioctl.Goals as goal
 
 pub returns-in-Some : goal.returns-in-Some

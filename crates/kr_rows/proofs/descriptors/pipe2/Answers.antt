@@ -6,9 +6,9 @@ use Rattle.kr_seen.specs.kr_model.Change.{MakePipe}
 use Rattle.kr_seen.specs.kr_model.DescriptorRows.{o_cloexec}
 use Rattle.kr_seen.specs.kr_model.Reply.{answers, done, refuse}
 use Rattle.kr_seen.specs.kr_ops.Meaning.{meaning}
-use Rattle.kr_rows.proofs.PerformLemmas.{by-refusal}
+use Rattle.kr_seen.proofs.PerformLemmas.{by-refusal}
 use Rattle.kr_rows.proofs.PipeLemmas.{none-made, one-made, pair-stays}
-use Rattle.kr_rows.proofs.UsingLemmas.{begins, by-uses, goes-on, refused-after, unwritable, writes-allowed}
+use Rattle.kr_seen.proofs.UsingLemmas.{begins, by-uses, goes-on, refused-after, unwritable, writes-allowed}
 use Rattle.kr_rows.proofs.descriptors.pipe2.Goals as goal
 
 pub returns-in_default-clause-performs : goal.returns-in_default-clause-performs

@@ -4,7 +4,7 @@ use Rattle.std.proofs.Math.Facts.{to_z-of_z}
 use Rattle.kr_seen.specs.kr_model.Change.{End}
 use Rattle.kr_seen.specs.kr_model.Reply.{ends}
 use Rattle.kr_seen.specs.kr_model.declared.outcome.Outcome.TheVariants.{Ended}
-use Rattle.kr_rows.proofs.PerformLemmas.{by-reply}
+use Rattle.kr_seen.proofs.PerformLemmas.{by-reply}
 use Rattle.kr_rows.proofs.ending.exit.Goals as goal
 
 pub returns-in-Ok-clause-performs : goal.returns-in-Ok-clause-performs

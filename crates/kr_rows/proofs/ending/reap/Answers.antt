@@ -4,7 +4,7 @@ use Rattle.kr_seen.specs.kr_model.Change.{Reap}
 use Rattle.kr_seen.specs.kr_model.ProcessRows.{null_or_writable, reap, tell_end, unless_null, usage_size}
 use Rattle.kr_seen.specs.kr_model.Reply.{Replying, answers, done, refuse}
 use Rattle.kr_seen.specs.kr_ops.Meaning.{ended_meaning}
-use Rattle.kr_rows.proofs.UsingLemmas.{begins, by-uses, goes-on, refused-after}
+use Rattle.kr_seen.proofs.UsingLemmas.{begins, by-uses, goes-on, refused-after}
 use Rattle.kr_rows.proofs.ending.reap.Goals as goal
 
 pub returns-then-not-both-clause-performs : goal.returns-then-not-both-clause-performs

@@ -10,7 +10,7 @@ use Rattle.kr_seen.specs.kr_model.State as model
 use Rattle.kr_seen.specs.kr_model.declared.outcome.Outcome.TheVariants.{Wait}
 use Rattle.kr_seen.specs.kr_ops.Children.{means}
 use Rattle.kr_seen.specs.kr_ops.Meaning.{ended_meaning, meaning}
-use Rattle.kr_rows.proofs.PerformLemmas.{by-refusal, by-reply, by-row}
+use Rattle.kr_seen.proofs.PerformLemmas.{by-refusal, by-reply, by-row}
 use Rattle.kr_rows.proofs.WaitLemmas.{meant-ended, meant-living}
 use Rattle.kr_rows.proofs.ending.wait4.Goals as goal
 

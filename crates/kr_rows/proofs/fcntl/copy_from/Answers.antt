@@ -9,7 +9,7 @@ use Rattle.kr_seen.specs.kr_model.State as model
 use Rattle.kr_seen.specs.kr_ops.Meaning.{meaning}
 use Rattle.kr_rows.proofs.DescriptorLemmas.{lowest-known}
 use Rattle.kr_rows.proofs.FcntlLemmas.{not-too-high, too-high}
-use Rattle.kr_rows.proofs.PerformLemmas.{by-refusal, by-reply}
+use Rattle.kr_seen.proofs.PerformLemmas.{by-refusal, by-reply}
 use Rattle.kr_rows.proofs.fcntl.copy_from.Goals as goal
 
 pub returns-then-from-gt-LAST_DESCRIPTOR-clause-performs : goal.returns-then-from-gt-LAST_DESCRIPTOR-clause-performs

@@ -9,10 +9,10 @@ use Rattle.kr_seen.specs.kr_model.Reply.{refuse}
 use Rattle.kr_seen.specs.kr_model.State as model
 use Rattle.kr_seen.specs.kr_ops.Meaning.{meaning}
 use Rattle.kr_rows.specs.Commands.{number_of}
-use Rattle.kr_rows.specs.Performing.{open_number}
+use Rattle.kr_seen.specs.PerformedRows.{open_number}
 use Rattle.kr_rows.proofs.DescriptorLemmas.{is-open, not-open}
 use Rattle.kr_rows.proofs.FcntlLemmas.{unknown}
-use Rattle.kr_rows.proofs.PerformLemmas.{by-refusal, by-row}
+use Rattle.kr_seen.proofs.PerformLemmas.{by-refusal, by-row}
 use Rattle.kr_rows.proofs.fcntl.fcntl.Goals as goal
 
 pub returns-in_default-clause-performs : goal.returns-in_default-clause-performs

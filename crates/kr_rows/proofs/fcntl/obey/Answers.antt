@@ -12,7 +12,7 @@ use Rattle.kr_seen.specs.kr_model.declared.outcome.Outcome.TheVariants.{Answer}
 use Rattle.kr_seen.specs.kr_ops.Meaning.{meaning}
 use Rattle.kr_rows.specs.declared.fcntl.Command.TheVariants.{DupFd, DupFdCloexec, GetFd, SetFd, GetFl, SetFl}
 use Rattle.kr_rows.proofs.FcntlLemmas.{obeyed}
-use Rattle.kr_rows.proofs.PerformLemmas.{by-reply, by-row}
+use Rattle.kr_seen.proofs.PerformLemmas.{by-reply, by-row}
 use Rattle.kr_rows.proofs.fcntl.obey.Goals as goal
 
 pub returns-in-DupFd-clause-performs : goal.returns-in-DupFd-clause-performs

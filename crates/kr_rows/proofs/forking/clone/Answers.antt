@@ -11,8 +11,8 @@ use Rattle.kr_seen.specs.kr_model.State as model
 use Rattle.kr_seen.specs.kr_ops.Meaning.{meaning}
 use Rattle.kr_seen.proofs.kr_ops.OpeningLemmas.{not-living}
 use Rattle.kr_rows.proofs.CloneLemmas.{counts-known, forks, no-fork, no-room, of-memory, pages-known, too-many}
-use Rattle.kr_rows.proofs.PerformLemmas.{by-refusal}
-use Rattle.kr_rows.proofs.UsingLemmas.{begins, by-uses, goes-on, memory-at}
+use Rattle.kr_seen.proofs.PerformLemmas.{by-refusal}
+use Rattle.kr_seen.proofs.UsingLemmas.{begins, by-uses, goes-on, memory-at}
 use Rattle.kr_rows.proofs.forking.clone.Goals as goal
 
 pub unreachable-requires : goal.unreachable-requires

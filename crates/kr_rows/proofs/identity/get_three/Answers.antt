@@ -5,7 +5,7 @@ use Rattle.kr_seen.specs.rv_mem.Actions.{MayUse, WriteBytes}
 use Rattle.kr_seen.specs.rv_mem.declared.rights.Use.TheVariants.{Write}
 use Rattle.kr_seen.specs.kr_model.IdentityRows.{get_three_row}
 use Rattle.kr_seen.specs.kr_model.Reply.{Replying, answers, done, refuse}
-use Rattle.kr_rows.proofs.UsingLemmas.{begins, by-uses, goes-on, refused-after, tested, was-written}
+use Rattle.kr_seen.proofs.UsingLemmas.{begins, by-uses, goes-on, refused-after, tested, was-written}
 use Rattle.kr_rows.proofs.identity.get_three.Goals as goal
 
 pub returns-then-not-both-clause-performs : goal.returns-then-not-both-clause-performs

@@ -10,7 +10,7 @@ use Rattle.kr_seen.specs.kr_model.Known.{Known, known}
 use Rattle.kr_seen.specs.kr_model.Reply.{Replying, answers, done, refuse}
 use Rattle.kr_seen.specs.kr_model.State as model
 use Rattle.kr_seen.specs.kr_ops.Meaning.{meaning}
-use Rattle.kr_rows.proofs.PerformLemmas.{by-refusal, by-reply, by-row}
+use Rattle.kr_seen.proofs.PerformLemmas.{by-refusal, by-reply, by-row}
 use Rattle.kr_rows.proofs.identity.getgroups.Goals as goal
 
 module _ (k : Known) (list : ℕ) where

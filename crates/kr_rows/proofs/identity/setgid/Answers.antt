@@ -1,5 +1,5 @@
 use Rattle.std.proofs.Common.{refl}
-use Rattle.kr_rows.proofs.PerformLemmas.{by-unchanged}
+use Rattle.kr_seen.proofs.PerformLemmas.{by-unchanged}
 use Rattle.kr_rows.proofs.identity.setgid.Goals as goal
 
 pub returns : goal.returns

@@ -1,6 +1,6 @@
 use Rattle.std.proofs.Common.{refl}
 use Rattle.kr_seen.specs.pr_base.declared.errno.Errno.TheVariants.{EPERM}
-use Rattle.kr_rows.proofs.PerformLemmas.{by-refusal}
+use Rattle.kr_seen.proofs.PerformLemmas.{by-refusal}
 use Rattle.kr_rows.proofs.identity.setgroups.Goals as goal
 
 pub returns : goal.returns

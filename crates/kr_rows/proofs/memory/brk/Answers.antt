@@ -12,7 +12,7 @@ use Rattle.kr_seen.specs.kr_ops.Meaning.{meaning}
 use Rattle.kr_seen.proofs.kr_ops.OpeningLemmas.{not-living}
 use Rattle.kr_rows.proofs.BreakLemmas.{break-bounded, break-known, layout-at, start-known}
 use Rattle.kr_rows.proofs.PagingLemmas.{below-the-start, grows, grows-by, has_page-same, last-page, limits-for, none-among, ok-not-full, page-at, past-the-end, pids-paged, shrinks, stays-if-full, stays-if-taken}
-use Rattle.kr_rows.proofs.PerformLemmas.{by-reply}
+use Rattle.kr_seen.proofs.PerformLemmas.{by-reply}
 use Rattle.kr_rows.proofs.memory.brk.Goals as goal
 
 pub unreachable-requires : goal.unreachable-requires

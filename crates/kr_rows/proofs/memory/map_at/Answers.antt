@@ -8,7 +8,7 @@ use Rattle.kr_seen.specs.kr_model.Reply.{Replying, answers, done, refuse}
 use Rattle.kr_seen.specs.kr_model.State as model
 use Rattle.kr_seen.specs.kr_ops.Meaning.{meaning}
 use Rattle.kr_rows.proofs.PagingLemmas.{limits-for, ok-not-full, page-at}
-use Rattle.kr_rows.proofs.PerformLemmas.{by-refusal, by-reply}
+use Rattle.kr_seen.proofs.PerformLemmas.{by-refusal, by-reply}
 use Rattle.kr_rows.proofs.memory.map_at.Goals as goal
 
 pub returns-in-Ok-clause-performs : goal.returns-in-Ok-clause-performs

@@ -7,7 +7,7 @@ use Rattle.kr_seen.specs.kr_model.Reply.{Replying, refuse}
 use Rattle.kr_seen.specs.kr_model.State as model
 use Rattle.kr_seen.specs.kr_ops.Meaning.{meaning}
 use Rattle.kr_rows.proofs.PagingLemmas.{test-no, test-yes}
-use Rattle.kr_rows.proofs.PerformLemmas.{by-refusal, by-row}
+use Rattle.kr_seen.proofs.PerformLemmas.{by-refusal, by-row}
 use Rattle.kr_rows.proofs.memory.map_fixed.Goals as goal
 
 pub returns-then-first-lt-LOWEST_PAGE-clause-performs : goal.returns-then-first-lt-LOWEST_PAGE-clause-performs

@@ -10,7 +10,7 @@ use Rattle.kr_seen.specs.kr_ops.Meaning.{meaning}
 use Rattle.kr_seen.proofs.kr_ops.OpeningLemmas.{not-living}
 use Rattle.kr_rows.proofs.BreakLemmas.{layout-at}
 use Rattle.kr_rows.proofs.LowestLemmas.{lowest-is, none-is, none-so-long}
-use Rattle.kr_rows.proofs.PerformLemmas.{by-refusal, by-row}
+use Rattle.kr_seen.proofs.PerformLemmas.{by-refusal, by-row}
 use Rattle.kr_rows.proofs.memory.map_free.Goals as goal
 
 pub unreachable-requires : goal.unreachable-requires

@@ -5,7 +5,7 @@ use Rattle.kr_seen.specs.kr_model.Reply.{Replying}
 use Rattle.kr_seen.specs.kr_model.State as model
 use Rattle.kr_seen.specs.kr_ops.Meaning.{meaning}
 use Rattle.kr_seen.proofs.kr_ops.ListLemmas.{apart-test, same-test}
-use Rattle.kr_rows.proofs.PerformLemmas.{by-row}
+use Rattle.kr_seen.proofs.PerformLemmas.{by-row}
 use Rattle.kr_rows.proofs.memory.mmap.Goals as goal
 
 pub returns-then-flags-eq-MAP_FIXED-clause-performs : goal.returns-then-flags-eq-MAP_FIXED-clause-performs

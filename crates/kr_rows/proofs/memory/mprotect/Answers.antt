@@ -10,10 +10,10 @@ use Rattle.kr_seen.specs.kr_model.Reply.{Replying, answers, done, refuse}
 use Rattle.kr_seen.specs.kr_model.State as model
 use Rattle.kr_seen.specs.kr_ops.Meaning.{meaning}
 use Rattle.kr_seen.proofs.kr_ops.OpeningLemmas.{not-living}
-use Rattle.kr_rows.specs.Performing.{memory_of}
+use Rattle.kr_seen.specs.PerformedRows.{memory_of}
 use Rattle.kr_rows.proofs.PagingLemmas.{counted-cut, cut-is-absent, layout-known, not-where-err, of-caller, page-at, protected-cut}
-use Rattle.kr_rows.proofs.PerformLemmas.{by-refusal, by-reply, pages-alike}
-use Rattle.kr_rows.proofs.UsingLemmas.{memory-at}
+use Rattle.kr_seen.proofs.PerformLemmas.{by-refusal, by-reply, pages-alike}
+use Rattle.kr_seen.proofs.UsingLemmas.{memory-at}
 use Rattle.kr_rows.proofs.memory.mprotect.Goals as goal
 
 pub unreachable-requires : goal.unreachable-requires

@@ -6,10 +6,10 @@ use Rattle.kr_seen.specs.kr_model.MemoryRows.{page_count}
 use Rattle.kr_seen.specs.kr_model.Reply.{answers}
 use Rattle.kr_seen.specs.kr_ops.Meaning.{meaning}
 use Rattle.kr_seen.proofs.kr_ops.OpeningLemmas.{not-living}
-use Rattle.kr_rows.specs.Performing.{memory_of}
+use Rattle.kr_seen.specs.PerformedRows.{memory_of}
 use Rattle.kr_rows.proofs.PagingLemmas.{page-at, unmapped-cut}
-use Rattle.kr_rows.proofs.PerformLemmas.{by-reply, pages-alike}
-use Rattle.kr_rows.proofs.UsingLemmas.{memory-at}
+use Rattle.kr_seen.proofs.PerformLemmas.{by-reply, pages-alike}
+use Rattle.kr_seen.proofs.UsingLemmas.{memory-at}
 use Rattle.kr_rows.proofs.memory.munmap.Goals as goal
 
 pub unreachable-requires : goal.unreachable-requires

@@ -1,6 +1,6 @@
 use Rattle.std.proofs.Common.{refl, []}
 use Rattle.kr_seen.specs.kr_model.Reply.{answers}
-use Rattle.kr_rows.proofs.PerformLemmas.{by-reply}
+use Rattle.kr_seen.proofs.PerformLemmas.{by-reply}
 use Rattle.kr_rows.proofs.processes.getpid.Goals as goal
 
 pub returns : goal.returns

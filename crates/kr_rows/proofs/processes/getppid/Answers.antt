@@ -2,7 +2,7 @@ use Rattle.std.proofs.Common.{refl, ap, []}
 use Rattle.kr_seen.specs.kr_model.Known.{Caller}
 use Rattle.kr_seen.specs.kr_model.Reply.{answers, done}
 use Rattle.kr_seen.proofs.kr_ops.OpeningLemmas.{not-living}
-use Rattle.kr_rows.proofs.PerformLemmas.{by-reply}
+use Rattle.kr_seen.proofs.PerformLemmas.{by-reply}
 use Rattle.kr_rows.proofs.ProcessLemmas.{known-caller}
 use Rattle.kr_rows.proofs.processes.getppid.Goals as goal
 

@@ -2,7 +2,7 @@ use Rattle.std.proofs.Common.{List, ℕ, sym, ap, ◌∙◌, []}
 use Rattle.kr_seen.specs.pr_base.declared.errno.Errno.TheVariants.{EFAULT}
 use Rattle.kr_seen.specs.rv_mem.Actions.{write_if_allowed}
 use Rattle.kr_seen.specs.kr_model.Reply.{Replying, done, refuse}
-use Rattle.kr_rows.proofs.PerformLemmas.{by-row}
+use Rattle.kr_seen.proofs.PerformLemmas.{by-row}
 use Rattle.kr_rows.proofs.system.uname.Goals as goal
 
 pub returns-in-Ok-clause-performs : goal.returns-in-Ok-clause-performs

@@ -1,10 +1,10 @@
 use Rattle.std.proofs.Common.{◌≡◌, ℕ, List, ◌-◌, ◌++◌, ◌∷◌, Option, length, arith, sym, ap, subst, ◌∙◌, append_assoc, length-append}
-use Rattle.kr_rows.specs.kr_calls.DirectoryEntries.{entry_bytes, record_length}
-use Rattle.kr_rows.specs.kr_model.DirectoryRows as model
-use Rattle.kr_rows.specs.kr_model.DirectoryRows.{behind, fitting, listed_bytes}
-use Rattle.kr_rows.specs.kr_model.Known.{known}
-use Rattle.kr_rows.specs.kr_model.State.{image_layout}
-use Rattle.kr_rows.specs.kr_ops.Meaning.{meaning}
+use Rattle.kr_seen.specs.kr_calls.DirectoryEntries.{entry_bytes, record_length}
+use Rattle.kr_seen.specs.kr_model.DirectoryRows as model
+use Rattle.kr_seen.specs.kr_model.DirectoryRows.{behind, fitting, listed_bytes}
+use Rattle.kr_seen.specs.kr_model.Known.{known}
+use Rattle.kr_seen.specs.kr_model.State.{image_layout}
+use Rattle.kr_seen.specs.kr_ops.Meaning.{meaning}
 use Rattle.kr_transfer.specs.declared.listing.Listed.{Listed}
 use Rattle.kr_transfer.specs.Listing.{all_shown, last_from, told_entry, IsNextFitting}
 use Rattle.kr_transfer.proofs.EntriesLemmas.{entry-length}

@@ -2,13 +2,13 @@ use Rattle.std.proofs.Common.{◌≡◌, ℕ, refl, sym, ap, subst, ◌∙◌, w
 use Rattle.std.proofs.Math.Facts.{to_z-of_z}
 use Rattle.std.specs.Option.{option_map_or}
 use Rattle.kr_inode.specs.pr_base.declared.errno.Errno.TheVariants.{ENOTDIR}
-use Rattle.kr_rows.specs.kr_model.Asking.{or_badf}
-use Rattle.kr_rows.specs.kr_model.DirectoryRows.{list_host, or_zero}
-use Rattle.kr_rows.specs.kr_model.Known.{known}
-use Rattle.kr_rows.specs.kr_model.Reply.{refuse}
-use Rattle.kr_rows.specs.kr_model.State.{image_layout}
-use Rattle.kr_rows.specs.kr_ops.Meaning.{meaning}
-use Rattle.kr_rows.specs.Performing.{IsPerformed}
+use Rattle.kr_seen.specs.kr_model.Asking.{or_badf}
+use Rattle.kr_seen.specs.kr_model.DirectoryRows.{list_host, or_zero}
+use Rattle.kr_seen.specs.kr_model.Known.{known}
+use Rattle.kr_seen.specs.kr_model.Reply.{refuse}
+use Rattle.kr_seen.specs.kr_model.State.{image_layout}
+use Rattle.kr_seen.specs.kr_ops.Meaning.{meaning}
+use Rattle.kr_seen.specs.PerformedRows.{IsPerformed}
 use Rattle.kr_transfer.specs.Channels.{channel_of}
 use Rattle.kr_transfer.proofs.ChannelLemmas.{by-closed, by-open}
 use Rattle.kr_transfer.proofs.entries.getdents64.Goals as goal

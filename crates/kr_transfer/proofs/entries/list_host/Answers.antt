@@ -1,10 +1,10 @@
 use Rattle.std.proofs.Common.{refl, sym}
 use Rattle.kr_inode.specs.pr_base.declared.errno.Errno.TheVariants.{ENOENT, ENOTDIR}
-use Rattle.kr_rows.specs.kr_model.DirectoryRows.{behind, list_host, list_rest}
-use Rattle.kr_rows.specs.kr_model.Known.{known}
-use Rattle.kr_rows.specs.kr_model.State.{image_layout}
-use Rattle.kr_rows.specs.kr_ops.Meaning.{meaning}
-use Rattle.kr_rows.proofs.PerformLemmas.{by-refusal}
+use Rattle.kr_seen.specs.kr_model.DirectoryRows.{behind, list_host, list_rest}
+use Rattle.kr_seen.specs.kr_model.Known.{known}
+use Rattle.kr_seen.specs.kr_model.State.{image_layout}
+use Rattle.kr_seen.specs.kr_ops.Meaning.{meaning}
+use Rattle.kr_seen.proofs.PerformLemmas.{by-refusal}
 use Rattle.kr_transfer.specs.Listing.{all_shown}
 use Rattle.kr_transfer.proofs.ChannelLemmas.{by-row}
 use Rattle.kr_transfer.proofs.EntriesLemmas.{lists-elsewhere, lists-host, lists-removed}

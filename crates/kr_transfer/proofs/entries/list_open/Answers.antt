@@ -1,12 +1,12 @@
 use Rattle.std.proofs.Common.{refl}
 use Rattle.std.specs.Option.{option_map_or}
 use Rattle.kr_inode.specs.pr_base.declared.errno.Errno.TheVariants.{ENOTDIR}
-use Rattle.kr_rows.specs.kr_model.DirectoryRows.{list_host}
-use Rattle.kr_rows.specs.kr_model.Known.{known}
-use Rattle.kr_rows.specs.kr_model.Reply.{refuse}
-use Rattle.kr_rows.specs.kr_model.State.{image_layout}
-use Rattle.kr_rows.specs.kr_ops.Meaning.{meaning}
-use Rattle.kr_rows.proofs.PerformLemmas.{by-refusal}
+use Rattle.kr_seen.specs.kr_model.DirectoryRows.{list_host}
+use Rattle.kr_seen.specs.kr_model.Known.{known}
+use Rattle.kr_seen.specs.kr_model.Reply.{refuse}
+use Rattle.kr_seen.specs.kr_model.State.{image_layout}
+use Rattle.kr_seen.specs.kr_ops.Meaning.{meaning}
+use Rattle.kr_seen.proofs.PerformLemmas.{by-refusal}
 use Rattle.kr_transfer.proofs.ChannelLemmas.{by-row}
 use Rattle.kr_transfer.proofs.EntriesLemmas.{lists-nowhere, lists-open}
 use Rattle.kr_transfer.proofs.entries.list_open.Goals as goal

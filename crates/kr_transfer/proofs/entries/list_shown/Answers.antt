@@ -1,15 +1,15 @@
 use Rattle.std.proofs.Common.{◌≡◌, ◌<◌, ◌≤◌, Option, Some, length, arith, refl, sym, ap, ◌∙◌, [], ◌∷◌}
 use Rattle.std.specs.Option.{option_map}
 use Rattle.kr_inode.specs.pr_base.declared.errno.Errno.TheVariants.{EFAULT, EINVAL}
-use Rattle.kr_rows.specs.rv_mem.Actions.{write_if_allowed}
-use Rattle.kr_rows.specs.kr_calls.DirectoryEntries.{record_length}
-use Rattle.kr_rows.specs.kr_model.Change.{Seek}
-use Rattle.kr_rows.specs.kr_model.DirectoryRows.{behind, list_rest}
-use Rattle.kr_rows.specs.kr_model.Known.{known}
-use Rattle.kr_rows.specs.kr_model.Reply.{answers, done, refuse}
-use Rattle.kr_rows.specs.kr_model.State.{image_layout}
-use Rattle.kr_rows.specs.kr_ops.Meaning.{meaning}
-use Rattle.kr_rows.proofs.PerformLemmas.{by-refusal, by-reply}
+use Rattle.kr_seen.specs.rv_mem.Actions.{write_if_allowed}
+use Rattle.kr_seen.specs.kr_calls.DirectoryEntries.{record_length}
+use Rattle.kr_seen.specs.kr_model.Change.{Seek}
+use Rattle.kr_seen.specs.kr_model.DirectoryRows.{behind, list_rest}
+use Rattle.kr_seen.specs.kr_model.Known.{known}
+use Rattle.kr_seen.specs.kr_model.Reply.{answers, done, refuse}
+use Rattle.kr_seen.specs.kr_model.State.{image_layout}
+use Rattle.kr_seen.specs.kr_ops.Meaning.{meaning}
+use Rattle.kr_seen.proofs.PerformLemmas.{by-refusal, by-reply}
 use Rattle.kr_transfer.specs.declared.listing.Listed.{Listed}
 use Rattle.kr_transfer.specs.Listing.{all_shown, first_behind, told_entry}
 use Rattle.kr_transfer.proofs.ChannelLemmas.{by-row}

@@ -1,9 +1,9 @@
 use Rattle.std.proofs.Common.{◌≡◌, ◌<◌, ◌≤◌, Option, Some, arith, sym, ap, ◌∙◌}
 use Rattle.std.specs.Option.{option_map}
-use Rattle.kr_rows.specs.kr_calls.DirectoryEntries.{record_length}
-use Rattle.kr_rows.specs.kr_model.Known.{known}
-use Rattle.kr_rows.specs.kr_model.State.{image_layout}
-use Rattle.kr_rows.specs.kr_ops.Meaning.{meaning}
+use Rattle.kr_seen.specs.kr_calls.DirectoryEntries.{record_length}
+use Rattle.kr_seen.specs.kr_model.Known.{known}
+use Rattle.kr_seen.specs.kr_model.State.{image_layout}
+use Rattle.kr_seen.specs.kr_ops.Meaning.{meaning}
 use Rattle.kr_transfer.specs.declared.listing.Listed.{Listed}
 use Rattle.kr_transfer.specs.Listing.{all_shown, first_behind, told_entry}
 use Rattle.kr_transfer.proofs.EntriesLemmas.{next-fits, next-is-too-long, none-fits}

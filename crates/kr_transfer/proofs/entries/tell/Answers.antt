@@ -1,10 +1,10 @@
 use Rattle.std.proofs.Common.{Err, length, pos, sym, ap, ◌∙◌, [], ◌∷◌}
 use Rattle.kr_inode.specs.pr_base.declared.errno.Errno.TheVariants.{EFAULT}
-use Rattle.kr_rows.specs.rv_mem.Actions.{write_if_allowed}
-use Rattle.kr_rows.specs.kr_model.Change.{Seek}
-use Rattle.kr_rows.specs.kr_model.Reply.{Replying, answers, done, refuse}
-use Rattle.kr_rows.specs.kr_model.declared.outcome.Outcome.TheVariants.{Answer}
-use Rattle.kr_rows.proofs.UsingLemmas.{begins, by-uses, refused-after, unwritable, writes-allowed}
+use Rattle.kr_seen.specs.rv_mem.Actions.{write_if_allowed}
+use Rattle.kr_seen.specs.kr_model.Change.{Seek}
+use Rattle.kr_seen.specs.kr_model.Reply.{Replying, answers, done, refuse}
+use Rattle.kr_seen.specs.kr_model.declared.outcome.Outcome.TheVariants.{Answer}
+use Rattle.kr_seen.proofs.UsingLemmas.{begins, by-uses, refused-after, unwritable, writes-allowed}
 use Rattle.kr_transfer.proofs.entries.tell.Goals as goal
 
 pub returns-in-Ok-clause-performs : goal.returns-in-Ok-clause-performs

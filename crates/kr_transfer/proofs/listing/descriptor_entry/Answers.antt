@@ -1,7 +1,7 @@
 use Rattle.std.proofs.Common.{◌+◌, ◌<◌, Some, arith, sym, ap, ◌∙◌}
-use Rattle.kr_rows.specs.kr_files.Descriptors.{Named}
-use Rattle.kr_rows.specs.kr_model.State.{named}
-use Rattle.kr_rows.specs.kr_ops.Meaning.{meaning}
+use Rattle.kr_seen.specs.kr_files.Descriptors.{Named}
+use Rattle.kr_seen.specs.kr_model.State.{named}
+use Rattle.kr_seen.specs.kr_ops.Meaning.{meaning}
 use Rattle.kr_transfer.proofs.DescriptorLemmas.{first-open, none-open, some-flag}
 use Rattle.kr_transfer.proofs.listing.descriptor_entry.Goals as goal
 

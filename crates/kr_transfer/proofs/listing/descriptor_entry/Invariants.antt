@@ -1,7 +1,7 @@
 use Rattle.std.proofs.Common.{◌≡◌, ◌+◌, ◌<◌, ◌≤◌, ℕ, Some}
-use Rattle.kr_rows.specs.kr_files.Descriptors.{Named}
-use Rattle.kr_rows.specs.kr_model.State.{named}
-use Rattle.kr_rows.specs.kr_ops.Meaning.{meaning}
+use Rattle.kr_seen.specs.kr_files.Descriptors.{Named}
+use Rattle.kr_seen.specs.kr_model.State.{named}
+use Rattle.kr_seen.specs.kr_ops.Meaning.{meaning}
 use Rattle.kr_transfer.proofs.listing.descriptor_entry.Given as goal
 
 abbrev pub invariant-loop-fd : goal.invariant-loop-fd

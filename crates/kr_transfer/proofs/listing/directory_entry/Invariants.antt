@@ -1,7 +1,7 @@
 use Rattle.std.proofs.Common.{◌≡◌, drop}
 use Rattle.std.specs.Prelude.{map as map_list}
-use Rattle.kr_rows.specs.kr_tree.declared.place.ProcAt.TheVariants.{Dir}
-use Rattle.kr_rows.specs.kr_model.DirectoryRows.{listed_process}
+use Rattle.kr_seen.specs.kr_tree.declared.place.ProcAt.TheVariants.{Dir}
+use Rattle.kr_seen.specs.kr_model.DirectoryRows.{listed_process}
 use Rattle.kr_transfer.specs.Listing.{first_behind}
 use Rattle.kr_transfer.proofs.listing.directory_entry.Given as goal
 

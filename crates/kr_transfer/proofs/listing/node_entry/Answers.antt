@@ -1,11 +1,11 @@
 use Rattle.std.proofs.Common.{◌≤◌, ℕ, List, Option, Some, length, sym, ap, subst, ◌∙◌}
 use Rattle.std.specs.Option.{option_map}
-use Rattle.kr_rows.specs.kr_tree.Tree.{Entry, entries}
-use Rattle.kr_rows.specs.kr_model.DirectoryRows as model
-use Rattle.kr_rows.specs.kr_model.DirectoryRows.{listed_entry}
-use Rattle.kr_rows.specs.kr_model.Known.{known}
-use Rattle.kr_rows.specs.kr_model.State.{image_layout}
-use Rattle.kr_rows.specs.kr_ops.Meaning.{meaning}
+use Rattle.kr_seen.specs.kr_tree.Tree.{Entry, entries}
+use Rattle.kr_seen.specs.kr_model.DirectoryRows as model
+use Rattle.kr_seen.specs.kr_model.DirectoryRows.{listed_entry}
+use Rattle.kr_seen.specs.kr_model.Known.{known}
+use Rattle.kr_seen.specs.kr_model.State.{image_layout}
+use Rattle.kr_seen.specs.kr_ops.Meaning.{meaning}
 use Rattle.kr_transfer.proofs.ListingLemmas.{behind-entries, entry-named, name-short}
 use Rattle.kr_transfer.proofs.listing.node_entry.Goals as goal
 

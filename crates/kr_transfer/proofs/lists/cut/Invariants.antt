@@ -1,5 +1,5 @@
 use Rattle.std.proofs.Common.{◌≡◌, ◌++◌, drop}
-use Rattle.kr_rows.specs.kr_model.Pieces.{cut_to}
+use Rattle.kr_seen.specs.kr_model.Pieces.{cut_to}
 use Rattle.kr_transfer.specs.Moving.{told}
 use Rattle.kr_transfer.proofs.lists.cut.Given as goal
 

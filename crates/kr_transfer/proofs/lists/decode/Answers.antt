@@ -1,6 +1,6 @@
 use Rattle.std.proofs.Common.{◌≡◌, ◌+◌, ◌-◌, ◌*◌, ◌++◌, ◌∷◌, List, [], drop, take, sym, ap, ◌∙◌}
 use Rattle.std.specs.Int.{from_le_bytes, w64}
-use Rattle.kr_rows.specs.kr_model.Pieces.{pieces_of}
+use Rattle.kr_seen.specs.kr_model.Pieces.{pieces_of}
 use Rattle.std.proofs.lemmas.List.{drop-drop}
 use Rattle.kr_transfer.specs.Moving.{told}
 use Rattle.kr_transfer.proofs.ListLemmas.{more-told, next-entry}

@@ -1,5 +1,5 @@
 use Rattle.std.proofs.Common.{◌≡◌, ◌*◌, ◌-◌, ◌++◌, drop}
-use Rattle.kr_rows.specs.kr_model.Pieces.{pieces_of}
+use Rattle.kr_seen.specs.kr_model.Pieces.{pieces_of}
 use Rattle.kr_transfer.specs.Moving.{told}
 use Rattle.kr_transfer.proofs.lists.decode.Given as goal
 

@@ -1,11 +1,11 @@
 use Rattle.std.proofs.Common.{◌≡◌, ◌≤◌, ◌<◌, ◌*◌, List, arith, min, length, sym, ap, subst, ◌∙◌}
 use Rattle.kr_inode.specs.pr_base.declared.errno.Errno.TheVariants.{EINVAL}
-use Rattle.kr_rows.proofs.rv_mem.PagesLemmas.{length-bytes_from}
-use Rattle.kr_rows.specs.kr_model.Pieces.{asked, cut_to, pieces_of, with_list}
-use Rattle.kr_rows.specs.kr_model.Reply.{refuse}
-use Rattle.kr_rows.specs.kr_ops.Meaning.{meaning}
-use Rattle.kr_rows.specs.Performing.{memory_of}
-use Rattle.kr_rows.specs.Using.{HasComeTo}
+use Rattle.kr_seen.proofs.rv_mem.PagesLemmas.{length-bytes_from}
+use Rattle.kr_seen.specs.kr_model.Pieces.{asked, cut_to, pieces_of, with_list}
+use Rattle.kr_seen.specs.kr_model.Reply.{refuse}
+use Rattle.kr_seen.specs.kr_ops.Meaning.{meaning}
+use Rattle.kr_seen.specs.PerformedRows.{memory_of}
+use Rattle.kr_seen.specs.Using.{HasComeTo}
 use Rattle.kr_transfer.specs.Moving.{told}
 use Rattle.kr_transfer.specs.declared.pieces.Piece.{Piece}
 use Rattle.kr_transfer.proofs.ListLemmas.{reads-same, same-refused, sums-past, sums-within}

@@ -1,5 +1,5 @@
 use Rattle.std.proofs.Common.{sym}
-use Rattle.kr_rows.specs.kr_model.Reply.{done}
+use Rattle.kr_seen.specs.kr_model.Reply.{done}
 use Rattle.std.proofs.Common.{length}
 use Rattle.kr_transfer.specs.Moving.{told}
 use Rattle.kr_transfer.proofs.MovingLemmas.{hand-usable, hand-unusable, comes-then}

@@ -1,7 +1,7 @@
 use Rattle.std.proofs.Common.{◌≡◌, drop}
-use Rattle.kr_rows.specs.kr_model.Pieces.{cut_to}
-use Rattle.kr_rows.specs.kr_ops.Meaning.{meaning}
-use Rattle.kr_rows.specs.Performing.{memory_of}
+use Rattle.kr_seen.specs.kr_model.Pieces.{cut_to}
+use Rattle.kr_seen.specs.kr_ops.Meaning.{meaning}
+use Rattle.kr_seen.specs.PerformedRows.{memory_of}
 use Rattle.kr_transfer.specs.Moving.{all_allowed, told}
 use Rattle.kr_transfer.proofs.moving.may_use_all.Given as goal
 

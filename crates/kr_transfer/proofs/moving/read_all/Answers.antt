@@ -1,16 +1,16 @@
 use Rattle.std.proofs.Common.{◌≡◌, ◌∷◌, ◌+◌, ◌-◌, ◌++◌, length, sym, ap, ◌∙◌, arith, drop, get_or}
 use Rattle.std.proofs.lemmas.Bool.{and_parts}
 use Rattle.std.proofs.lemmas.List.{length-append}
-use Rattle.kr_rows.specs.kr_model.Pieces.{asked, cut_to, read_all}
-use Rattle.kr_rows.specs.kr_ops.Meaning.{meaning}
-use Rattle.kr_rows.specs.Performing.{memory_of}
-use Rattle.kr_rows.proofs.UsingLemmas.{goes-on}
+use Rattle.kr_seen.specs.kr_model.Pieces.{asked, cut_to, read_all}
+use Rattle.kr_seen.specs.kr_ops.Meaning.{meaning}
+use Rattle.kr_seen.specs.PerformedRows.{memory_of}
+use Rattle.kr_seen.proofs.UsingLemmas.{goes-on}
 use Rattle.kr_transfer.specs.Moving.{all_allowed, told}
 use Rattle.kr_transfer.proofs.MovingLemmas.{comes-itself, reads-itself, reads-then, read-one, allowed-read}
 use Rattle.kr_transfer.proofs.PieceLemmas.{asked-cons, next-cut}
-use Rattle.kr_rows.specs.rv_mem.Pages.{allows_all}
-use Rattle.kr_rows.specs.rv_mem.declared.rights.Use.TheVariants.{Read}
-use Rattle.kr_rows.proofs.rv_mem.PagesLemmas.{length-bytes_from}
+use Rattle.kr_seen.specs.rv_mem.Pages.{allows_all}
+use Rattle.kr_seen.specs.rv_mem.declared.rights.Use.TheVariants.{Read}
+use Rattle.kr_seen.proofs.rv_mem.PagesLemmas.{length-bytes_from}
 use Rattle.kr_transfer.specs.declared.pieces.Piece.{Piece}
 use Rattle.kr_transfer.proofs.moving.read_all.Goals as goal
 

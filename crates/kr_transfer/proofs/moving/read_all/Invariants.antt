@@ -1,10 +1,10 @@
 use Rattle.std.proofs.Common.{◌≡◌, ◌+◌, ◌++◌, ℕ, List, true, drop, length}
-use Rattle.kr_rows.specs.rv_mem.declared.rights.Use.TheVariants.{Read}
-use Rattle.kr_rows.specs.kr_model.Pieces.{asked, cut_to, read_all}
-use Rattle.kr_rows.specs.kr_model.Reply.{Replying}
-use Rattle.kr_rows.specs.kr_ops.Meaning.{meaning}
-use Rattle.kr_rows.specs.Performing.{memory_of}
-use Rattle.kr_rows.specs.Using.{HasComeTo}
+use Rattle.kr_seen.specs.rv_mem.declared.rights.Use.TheVariants.{Read}
+use Rattle.kr_seen.specs.kr_model.Pieces.{asked, cut_to, read_all}
+use Rattle.kr_seen.specs.kr_model.Reply.{Replying}
+use Rattle.kr_seen.specs.kr_ops.Meaning.{meaning}
+use Rattle.kr_seen.specs.PerformedRows.{memory_of}
+use Rattle.kr_seen.specs.Using.{HasComeTo}
 use Rattle.kr_transfer.specs.Moving.{OnlyReads, all_allowed, told}
 use Rattle.kr_transfer.proofs.moving.read_all.Given as goal
 

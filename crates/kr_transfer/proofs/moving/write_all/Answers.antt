@@ -1,14 +1,14 @@
 use Rattle.std.proofs.Common.{◌≡◌, ◌∷◌, ◌+◌, ◌-◌, ◌≤◌, length, sym, ap, ◌∙◌, arith, drop, take, get_or}
 use Rattle.std.proofs.lemmas.Bool.{and_parts}
-use Rattle.kr_rows.specs.kr_model.Pieces.{cut_to, laid_into, write_all}
-use Rattle.kr_rows.specs.kr_ops.Meaning.{meaning}
-use Rattle.kr_rows.specs.Performing.{memory_of}
-use Rattle.kr_rows.proofs.UsingLemmas.{goes-on}
+use Rattle.kr_seen.specs.kr_model.Pieces.{cut_to, laid_into, write_all}
+use Rattle.kr_seen.specs.kr_ops.Meaning.{meaning}
+use Rattle.kr_seen.specs.PerformedRows.{memory_of}
+use Rattle.kr_seen.proofs.UsingLemmas.{goes-on}
 use Rattle.kr_transfer.specs.Moving.{all_allowed, told}
 use Rattle.kr_transfer.proofs.MovingLemmas.{comes-itself, leaves-itself, leaves-then, write-next, allowed-after}
 use Rattle.kr_transfer.proofs.PieceLemmas.{next-cut}
-use Rattle.kr_rows.specs.rv_mem.Pages.{allows_all}
-use Rattle.kr_rows.specs.rv_mem.declared.rights.Use.TheVariants.{Write}
+use Rattle.kr_seen.specs.rv_mem.Pages.{allows_all}
+use Rattle.kr_seen.specs.rv_mem.declared.rights.Use.TheVariants.{Write}
 use Rattle.kr_transfer.specs.declared.pieces.Piece.{Piece}
 use Rattle.kr_transfer.proofs.moving.write_all.Goals as goal
 

@@ -1,10 +1,10 @@
 use Rattle.std.proofs.Common.{◌+◌, refl, sym, ap, ◌∙◌, [], ◌∷◌, lit<, Err, length, take, drop, pos}
-use Rattle.kr_rows.specs.kr_model.Applied.{applied, images}
-use Rattle.kr_rows.specs.kr_model.Change.{Seek}
-use Rattle.kr_rows.specs.kr_model.declared.outcome.Outcome.TheVariants.{Answer}
-use Rattle.kr_rows.specs.kr_model.Known.{known}
-use Rattle.kr_rows.specs.kr_model.State as model
-use Rattle.kr_rows.specs.kr_ops.Meaning.{meaning}
+use Rattle.kr_seen.specs.kr_model.Applied.{applied, images}
+use Rattle.kr_seen.specs.kr_model.Change.{Seek}
+use Rattle.kr_seen.specs.kr_model.declared.outcome.Outcome.TheVariants.{Answer}
+use Rattle.kr_seen.specs.kr_model.Known.{known}
+use Rattle.kr_seen.specs.kr_model.State as model
+use Rattle.kr_seen.specs.kr_ops.Meaning.{meaning}
 use Rattle.kr_transfer.specs.Channels.{inode_under}
 use Rattle.kr_transfer.specs.Moving.{bytes_at, told}
 use Rattle.kr_transfer.proofs.ChannelLemmas.{file-there}

@@ -1,10 +1,10 @@
 use Rattle.std.proofs.Common.{refl, sym, ap, ◌∙◌, [], ◌∷◌, Err, length, take, drop, pos}
-use Rattle.kr_rows.specs.kr_model.Applied.{applied, images}
-use Rattle.kr_rows.specs.kr_model.Change.{TakeInput}
-use Rattle.kr_rows.specs.kr_model.declared.outcome.Outcome.TheVariants.{Answer}
-use Rattle.kr_rows.specs.kr_model.Known.{known}
-use Rattle.kr_rows.specs.kr_model.State as model
-use Rattle.kr_rows.specs.kr_ops.Meaning.{meaning}
+use Rattle.kr_seen.specs.kr_model.Applied.{applied, images}
+use Rattle.kr_seen.specs.kr_model.Change.{TakeInput}
+use Rattle.kr_seen.specs.kr_model.declared.outcome.Outcome.TheVariants.{Answer}
+use Rattle.kr_seen.specs.kr_model.Known.{known}
+use Rattle.kr_seen.specs.kr_model.State as model
+use Rattle.kr_seen.specs.kr_ops.Meaning.{meaning}
 use Rattle.kr_transfer.specs.Moving.{told}
 use Rattle.kr_transfer.proofs.ReadingLemmas.{by-fault, by-hand, by-none, input-row}
 use Rattle.kr_transfer.proofs.reading.read_input.Goals as goal

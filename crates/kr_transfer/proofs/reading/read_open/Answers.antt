@@ -1,13 +1,13 @@
 use Rattle.std.proofs.Common.{refl, sym, ap, ◌∙◌, [], ◌∷◌}
 use Rattle.std.specs.Prelude.{not, if◌then◌else◌}
 use Rattle.kr_inode.specs.pr_base.declared.errno.Errno.TheVariants.{EBADF, EISDIR}
-use Rattle.kr_rows.specs.kr_model.FileRows.{is_dir, read_pieces}
-use Rattle.kr_rows.specs.kr_model.Known.{known}
-use Rattle.kr_rows.specs.kr_model.Pieces.{one_piece}
-use Rattle.kr_rows.specs.kr_model.Reply.{refuse}
-use Rattle.kr_rows.specs.kr_model.State as model
-use Rattle.kr_rows.specs.kr_ops.Meaning.{meaning}
-use Rattle.kr_rows.proofs.PerformLemmas.{by-refusal}
+use Rattle.kr_seen.specs.kr_model.FileRows.{is_dir, read_pieces}
+use Rattle.kr_seen.specs.kr_model.Known.{known}
+use Rattle.kr_seen.specs.kr_model.Pieces.{one_piece}
+use Rattle.kr_seen.specs.kr_model.Reply.{refuse}
+use Rattle.kr_seen.specs.kr_model.State as model
+use Rattle.kr_seen.specs.kr_ops.Meaning.{meaning}
+use Rattle.kr_seen.proofs.PerformLemmas.{by-refusal}
 use Rattle.kr_transfer.proofs.ChannelLemmas.{by-row}
 use Rattle.kr_transfer.proofs.ReadingLemmas.{read-refused, read-goes-on}
 use Rattle.kr_transfer.proofs.reading.read_open.Goals as goal

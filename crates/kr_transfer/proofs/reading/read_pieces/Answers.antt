@@ -1,12 +1,12 @@
 use Rattle.std.proofs.Common.{refl, sym, ◌∙◌, []}
 use Rattle.kr_inode.specs.pr_base.declared.errno.Errno.TheVariants.{EBADF, EISDIR}
-use Rattle.kr_rows.specs.kr_files.declared.opened.What.TheVariants.{File, Dir, In, Out, Err, PipeRead, PipeWrite}
-use Rattle.kr_rows.specs.kr_model.FileRows.{read_file, read_input, read_pieces, read_pipe}
-use Rattle.kr_rows.specs.kr_model.Known.{known}
-use Rattle.kr_rows.specs.kr_model.Reply.{answers}
-use Rattle.kr_rows.specs.kr_model.State as model
-use Rattle.kr_rows.specs.kr_ops.Meaning.{meaning}
-use Rattle.kr_rows.proofs.PerformLemmas.{by-refusal, by-reply}
+use Rattle.kr_seen.specs.kr_files.declared.opened.What.TheVariants.{File, Dir, In, Out, Err, PipeRead, PipeWrite}
+use Rattle.kr_seen.specs.kr_model.FileRows.{read_file, read_input, read_pieces, read_pipe}
+use Rattle.kr_seen.specs.kr_model.Known.{known}
+use Rattle.kr_seen.specs.kr_model.Reply.{answers}
+use Rattle.kr_seen.specs.kr_model.State as model
+use Rattle.kr_seen.specs.kr_ops.Meaning.{meaning}
+use Rattle.kr_seen.proofs.PerformLemmas.{by-refusal, by-reply}
 use Rattle.kr_transfer.specs.Moving.{told}
 use Rattle.kr_transfer.proofs.ChannelLemmas.{by-row}
 use Rattle.kr_transfer.proofs.ReadingLemmas.{reads-nothing, reads-what, what-is}

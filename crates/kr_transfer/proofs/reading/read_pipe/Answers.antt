@@ -1,17 +1,17 @@
 use Rattle.std.proofs.Common.{◌≡◌, ◌<◌, lit<, arith, refl, sym, ap, subst, ◌∙◌, [], ◌∷◌, Some, length, min, take, pos}
 use Rattle.std.specs.Prelude.{IsSome, if◌then◌else◌}
-use Rattle.kr_rows.specs.rv_mem.declared.rights.Use.TheVariants.{Write}
-use Rattle.kr_rows.specs.rv_mem.Memory.{Memory}
-use Rattle.kr_rows.specs.kr_model.Change.{TakeFromPipe}
-use Rattle.kr_rows.specs.kr_model.FileRows.{read_pipe}
-use Rattle.kr_rows.specs.kr_model.Known.{known}
-use Rattle.kr_rows.specs.kr_model.Pieces.{asked, cut_to, hand}
-use Rattle.kr_rows.specs.kr_model.Reply.{answers, done, waits}
-use Rattle.kr_rows.specs.kr_model.State as model
-use Rattle.kr_rows.specs.kr_model.declared.outcome.Outcome.TheVariants.{Answer, Wait}
-use Rattle.kr_rows.specs.kr_ops.Meaning.{meaning}
-use Rattle.kr_rows.specs.Performing.{memory_of}
-use Rattle.kr_rows.proofs.PerformLemmas.{by-reply}
+use Rattle.kr_seen.specs.rv_mem.declared.rights.Use.TheVariants.{Write}
+use Rattle.kr_seen.specs.rv_mem.Memory.{Memory}
+use Rattle.kr_seen.specs.kr_model.Change.{TakeFromPipe}
+use Rattle.kr_seen.specs.kr_model.FileRows.{read_pipe}
+use Rattle.kr_seen.specs.kr_model.Known.{known}
+use Rattle.kr_seen.specs.kr_model.Pieces.{asked, cut_to, hand}
+use Rattle.kr_seen.specs.kr_model.Reply.{answers, done, waits}
+use Rattle.kr_seen.specs.kr_model.State as model
+use Rattle.kr_seen.specs.kr_model.declared.outcome.Outcome.TheVariants.{Answer, Wait}
+use Rattle.kr_seen.specs.kr_ops.Meaning.{meaning}
+use Rattle.kr_seen.specs.PerformedRows.{memory_of}
+use Rattle.kr_seen.proofs.PerformLemmas.{by-reply}
 use Rattle.kr_transfer.specs.Moving.{all_allowed, told}
 use Rattle.kr_transfer.proofs.MovingLemmas.{hand-unusable}
 use Rattle.kr_transfer.proofs.ReadingLemmas.{answered, by-fault, by-taken, no-pipe, own-length, own-row, pipe-is-empty, stands, stands-not, taken-lives, taken-memory, taken-sound}

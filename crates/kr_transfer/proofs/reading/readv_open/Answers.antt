@@ -1,15 +1,15 @@
 use Rattle.std.proofs.Common.{List, refl, sym, ap, subst, ◌∙◌, lit<, Err}
 use Rattle.std.specs.Prelude.{not, if◌then◌else◌}
 use Rattle.kr_inode.specs.pr_base.declared.errno.Errno.TheVariants.{EBADF, EISDIR}
-use Rattle.kr_rows.specs.kr_model.FileRows.{is_dir, read_pieces}
-use Rattle.kr_rows.specs.kr_model.Known.{known}
-use Rattle.kr_rows.specs.kr_model.Pieces.{asked, with_list}
-use Rattle.kr_rows.specs.kr_model.Reply.{refuse}
-use Rattle.kr_rows.specs.kr_model.State as model
-use Rattle.kr_rows.specs.kr_ops.Meaning.{meaning}
-use Rattle.kr_rows.specs.Using.{HasComeTo}
-use Rattle.kr_rows.proofs.PerformLemmas.{by-refusal}
-use Rattle.kr_rows.proofs.UsingLemmas.{begins, refused-after}
+use Rattle.kr_seen.specs.kr_model.FileRows.{is_dir, read_pieces}
+use Rattle.kr_seen.specs.kr_model.Known.{known}
+use Rattle.kr_seen.specs.kr_model.Pieces.{asked, with_list}
+use Rattle.kr_seen.specs.kr_model.Reply.{refuse}
+use Rattle.kr_seen.specs.kr_model.State as model
+use Rattle.kr_seen.specs.kr_ops.Meaning.{meaning}
+use Rattle.kr_seen.specs.Using.{HasComeTo}
+use Rattle.kr_seen.proofs.PerformLemmas.{by-refusal}
+use Rattle.kr_seen.proofs.UsingLemmas.{begins, refused-after}
 use Rattle.kr_transfer.specs.Moving.{told}
 use Rattle.kr_transfer.specs.declared.pieces.Piece.{Piece}
 use Rattle.kr_transfer.proofs.ListLemmas.{no-want, why}

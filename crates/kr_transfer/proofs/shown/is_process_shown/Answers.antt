@@ -1,13 +1,13 @@
 use Rattle.std.proofs.Common.{sym, ap, ◌∙◌}
 use Rattle.std.specs.Prelude.{is_some}
-use Rattle.kr_rows.specs.kr_procfs.Objects.{inode_number}
-use Rattle.kr_rows.specs.kr_tree.declared.place.Host.TheVariants.{Proc}
-use Rattle.kr_rows.specs.kr_tree.declared.place.ProcAt.TheVariants.{Dir, FdDir}
-use Rattle.kr_rows.specs.kr_model.Asking.{lives}
-use Rattle.kr_rows.specs.kr_model.DirectoryRows.{of_descriptors, of_process, shown_by, with_dots}
-use Rattle.kr_rows.specs.kr_model.Known.{known}
-use Rattle.kr_rows.specs.kr_model.State.{image_layout}
-use Rattle.kr_rows.specs.kr_ops.Meaning.{meaning}
+use Rattle.kr_seen.specs.kr_procfs.Objects.{inode_number}
+use Rattle.kr_seen.specs.kr_tree.declared.place.Host.TheVariants.{Proc}
+use Rattle.kr_seen.specs.kr_tree.declared.place.ProcAt.TheVariants.{Dir, FdDir}
+use Rattle.kr_seen.specs.kr_model.Asking.{lives}
+use Rattle.kr_seen.specs.kr_model.DirectoryRows.{of_descriptors, of_process, shown_by, with_dots}
+use Rattle.kr_seen.specs.kr_model.Known.{known}
+use Rattle.kr_seen.specs.kr_model.State.{image_layout}
+use Rattle.kr_seen.specs.kr_ops.Meaning.{meaning}
 use Rattle.kr_transfer.proofs.ShownLemmas.{there-or-not}
 use Rattle.kr_transfer.proofs.shown.is_process_shown.Goals as goal
 

@@ -1,9 +1,9 @@
 use Rattle.std.proofs.Common.{sym, ap, ◌∙◌}
 use Rattle.std.specs.Prelude.{is_some}
-use Rattle.kr_rows.specs.kr_model.DirectoryRows.{shown_by}
-use Rattle.kr_rows.specs.kr_model.Known.{known}
-use Rattle.kr_rows.specs.kr_model.State.{image_layout}
-use Rattle.kr_rows.specs.kr_ops.Meaning.{meaning}
+use Rattle.kr_seen.specs.kr_model.DirectoryRows.{shown_by}
+use Rattle.kr_seen.specs.kr_model.Known.{known}
+use Rattle.kr_seen.specs.kr_model.State.{image_layout}
+use Rattle.kr_seen.specs.kr_ops.Meaning.{meaning}
 use Rattle.kr_transfer.proofs.shown.is_shown.Goals as goal
 
 pub returns-in-Proc : goal.returns-in-Proc

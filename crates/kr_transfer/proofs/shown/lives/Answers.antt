@@ -1,8 +1,8 @@
 use Rattle.std.proofs.Common.{sym, ap, ◌∙◌}
 use Rattle.std.specs.Prelude.{is_some}
-use Rattle.kr_rows.specs.kr_ops.Meaning.{meaning}
-use Rattle.kr_rows.proofs.kr_ops.ListLemmas.{none-found}
-use Rattle.kr_rows.proofs.kr_ops.OpeningLemmas.{found}
+use Rattle.kr_seen.specs.kr_ops.Meaning.{meaning}
+use Rattle.kr_seen.proofs.kr_ops.ListLemmas.{none-found}
+use Rattle.kr_seen.proofs.kr_ops.OpeningLemmas.{found}
 use Rattle.kr_transfer.proofs.ShownLemmas.{lives-is}
 use Rattle.kr_transfer.proofs.shown.lives.Goals as goal
 

@@ -1,9 +1,9 @@
 use Rattle.std.proofs.Common.{lit<, refl, sym, ap, ◌∙◌, w32}
 use Rattle.std.proofs.Math.Facts.{to_z-of_z}
-use Rattle.kr_rows.specs.kr_model.FileRows.{cut_file}
-use Rattle.kr_rows.specs.kr_model.Known.{known}
-use Rattle.kr_rows.specs.kr_model.State as model
-use Rattle.kr_rows.specs.kr_ops.Meaning.{meaning}
+use Rattle.kr_seen.specs.kr_model.FileRows.{cut_file}
+use Rattle.kr_seen.specs.kr_model.Known.{known}
+use Rattle.kr_seen.specs.kr_model.State as model
+use Rattle.kr_seen.specs.kr_ops.Meaning.{meaning}
 use Rattle.kr_transfer.specs.Channels.{channel_of}
 use Rattle.kr_transfer.proofs.ChannelLemmas.{by-closed, by-open, open-here}
 use Rattle.kr_transfer.proofs.sizes.ftruncate.Goals as goal

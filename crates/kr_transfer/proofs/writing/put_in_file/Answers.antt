@@ -2,15 +2,15 @@ use Rattle.std.proofs.Common.{◌≡◌, ◌+◌, true, sym, ap, subst, ◌∙�
 use Rattle.std.specs.Prelude.{◌&&◌, not}
 use Rattle.std.proofs.lemmas.Bool.{false_from_ne_true}
 use Rattle.kr_inode.specs.pr_base.declared.errno.Errno.TheVariants.{ENOSPC}
-use Rattle.kr_rows.specs.kr_tree.Tree.{body_is, is_file}
-use Rattle.kr_rows.specs.kr_tree.Changes.{has_no_room_for, is_past_file, size, size_written}
-use Rattle.kr_rows.specs.kr_model.Applied.{applied, images}
-use Rattle.kr_rows.specs.kr_model.Change.{Seek, WriteFile}
-use Rattle.kr_rows.specs.kr_model.Known.{known}
-use Rattle.kr_rows.specs.kr_model.Reply.{answers}
-use Rattle.kr_rows.specs.kr_model.State as model
-use Rattle.kr_rows.specs.kr_ops.Meaning.{meaning}
-use Rattle.kr_rows.proofs.PerformLemmas.{by-refusal, by-reply}
+use Rattle.kr_seen.specs.kr_tree.Tree.{body_is, is_file}
+use Rattle.kr_seen.specs.kr_tree.Changes.{has_no_room_for, is_past_file, size, size_written}
+use Rattle.kr_seen.specs.kr_model.Applied.{applied, images}
+use Rattle.kr_seen.specs.kr_model.Change.{Seek, WriteFile}
+use Rattle.kr_seen.specs.kr_model.Known.{known}
+use Rattle.kr_seen.specs.kr_model.Reply.{answers}
+use Rattle.kr_seen.specs.kr_model.State as model
+use Rattle.kr_seen.specs.kr_ops.Meaning.{meaning}
+use Rattle.kr_seen.proofs.PerformLemmas.{by-refusal, by-reply}
 use Rattle.kr_transfer.specs.Channels.{inode_under}
 use Rattle.kr_transfer.proofs.ChannelLemmas.{file-there}
 use Rattle.kr_transfer.proofs.ReadingLemmas.{file-open}

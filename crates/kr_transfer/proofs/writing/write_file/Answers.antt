@@ -1,16 +1,16 @@
 use Rattle.std.proofs.Common.{◌+◌, ◌-◌, ◌<◌, ◌≤◌, lit<, arith, refl, sym, ap, subst, ◌∙◌, length}
 use Rattle.kr_inode.specs.pr_base.declared.errno.Errno.TheVariants.{EFBIG}
-use Rattle.kr_rows.specs.rv_mem.declared.rights.Use.TheVariants.{Read}
-use Rattle.kr_rows.specs.kr_tree.Changes.{file_limit}
-use Rattle.kr_rows.specs.kr_model.FileRows.{put_in_file, write_file, write_place}
-use Rattle.kr_rows.specs.kr_model.Known.{known}
-use Rattle.kr_rows.specs.kr_model.Pieces.{cut_to, read_all}
-use Rattle.kr_rows.specs.kr_model.State as model
-use Rattle.kr_rows.specs.kr_ops.Meaning.{meaning}
-use Rattle.kr_rows.specs.Performing.{memory_of}
-use Rattle.kr_rows.specs.Using.{HasComeTo}
-use Rattle.kr_rows.proofs.PerformLemmas.{by-refusal}
-use Rattle.kr_rows.proofs.UsingLemmas.{begins}
+use Rattle.kr_seen.specs.rv_mem.declared.rights.Use.TheVariants.{Read}
+use Rattle.kr_seen.specs.kr_tree.Changes.{file_limit}
+use Rattle.kr_seen.specs.kr_model.FileRows.{put_in_file, write_file, write_place}
+use Rattle.kr_seen.specs.kr_model.Known.{known}
+use Rattle.kr_seen.specs.kr_model.Pieces.{cut_to, read_all}
+use Rattle.kr_seen.specs.kr_model.State as model
+use Rattle.kr_seen.specs.kr_ops.Meaning.{meaning}
+use Rattle.kr_seen.specs.PerformedRows.{memory_of}
+use Rattle.kr_seen.specs.Using.{HasComeTo}
+use Rattle.kr_seen.proofs.PerformLemmas.{by-refusal}
+use Rattle.kr_seen.proofs.UsingLemmas.{begins}
 use Rattle.kr_transfer.specs.Moving.{told}
 use Rattle.kr_transfer.proofs.ChannelLemmas.{file-there}
 use Rattle.kr_transfer.proofs.MovingLemmas.{comes-then}

@@ -1,13 +1,13 @@
 use Rattle.std.proofs.Common.{◌≤◌, ℕ, List, lit<, arith, sym, ap, ◌∙◌, [], ◌∷◌, length, pos}
-use Rattle.kr_rows.specs.rv_mem.declared.rights.Use.TheVariants.{Read}
-use Rattle.kr_rows.specs.kr_model.Applied.{applied, images}
-use Rattle.kr_rows.specs.kr_model.Change.{WriteOut}
-use Rattle.kr_rows.specs.kr_model.Pieces.{asked, cut_to, read_all}
-use Rattle.kr_rows.specs.kr_model.Reply.{answers, done}
-use Rattle.kr_rows.specs.kr_model.declared.outcome.Outcome.TheVariants.{Answer}
-use Rattle.kr_rows.specs.kr_ops.Meaning.{meaning}
-use Rattle.kr_rows.specs.Performing.{memory_of}
-use Rattle.kr_rows.proofs.UsingLemmas.{begins, by-uses}
+use Rattle.kr_seen.specs.rv_mem.declared.rights.Use.TheVariants.{Read}
+use Rattle.kr_seen.specs.kr_model.Applied.{applied, images}
+use Rattle.kr_seen.specs.kr_model.Change.{WriteOut}
+use Rattle.kr_seen.specs.kr_model.Pieces.{asked, cut_to, read_all}
+use Rattle.kr_seen.specs.kr_model.Reply.{answers, done}
+use Rattle.kr_seen.specs.kr_model.declared.outcome.Outcome.TheVariants.{Answer}
+use Rattle.kr_seen.specs.kr_ops.Meaning.{meaning}
+use Rattle.kr_seen.specs.PerformedRows.{memory_of}
+use Rattle.kr_seen.proofs.UsingLemmas.{begins, by-uses}
 use Rattle.kr_transfer.specs.Moving.{told}
 use Rattle.kr_transfer.proofs.MovingLemmas.{comes-then}
 use Rattle.kr_transfer.proofs.PieceLemmas.{allowed-cut, asked-cut, uncut}

@@ -1,15 +1,15 @@
 use Rattle.std.proofs.Common.{lit<, arith, true, false, refl, sym, ◌∙◌, []}
 use Rattle.kr_inode.specs.pr_base.declared.errno.Errno.TheVariants.{EBADF, EFAULT, EISDIR}
-use Rattle.kr_rows.specs.rv_mem.declared.rights.Use.TheVariants.{Read}
-use Rattle.kr_rows.specs.kr_files.declared.opened.What.TheVariants.{File, Dir, In, Out, Err, PipeRead, PipeWrite}
-use Rattle.kr_rows.specs.kr_model.FileRows.{write_file, write_pieces, write_pipe, write_place, write_what}
-use Rattle.kr_rows.specs.kr_model.Known.{known}
-use Rattle.kr_rows.specs.kr_model.Reply.{answers}
-use Rattle.kr_rows.specs.kr_model.State as model
-use Rattle.kr_rows.specs.kr_ops.Meaning.{meaning}
-use Rattle.kr_rows.specs.Performing.{memory_of}
-use Rattle.kr_rows.proofs.PerformLemmas.{by-reply}
-use Rattle.kr_rows.proofs.UsingLemmas.{refused-after}
+use Rattle.kr_seen.specs.rv_mem.declared.rights.Use.TheVariants.{Read}
+use Rattle.kr_seen.specs.kr_files.declared.opened.What.TheVariants.{File, Dir, In, Out, Err, PipeRead, PipeWrite}
+use Rattle.kr_seen.specs.kr_model.FileRows.{write_file, write_pieces, write_pipe, write_place, write_what}
+use Rattle.kr_seen.specs.kr_model.Known.{known}
+use Rattle.kr_seen.specs.kr_model.Reply.{answers}
+use Rattle.kr_seen.specs.kr_model.State as model
+use Rattle.kr_seen.specs.kr_ops.Meaning.{meaning}
+use Rattle.kr_seen.specs.PerformedRows.{memory_of}
+use Rattle.kr_seen.proofs.PerformLemmas.{by-reply}
+use Rattle.kr_seen.proofs.UsingLemmas.{refused-after}
 use Rattle.kr_transfer.specs.Moving.{told}
 use Rattle.kr_transfer.proofs.ReadingLemmas.{what-is}
 use Rattle.kr_transfer.proofs.WritingLemmas.{by-then, whole-allowed, writes-fault, writes-nothing, writes-what}

@@ -1,19 +1,19 @@
 use Rattle.std.proofs.Common.{◌≡◌, ◌<◌, ◌-◌, ℕ, List, lit<, arith, refl, sym, ap, subst, ◌∙◌, [], ◌∷◌, length, pos}
 use Rattle.std.specs.Prelude.{IsSome, not}
-use Rattle.kr_rows.specs.rv_mem.declared.rights.Use.TheVariants.{Read}
+use Rattle.kr_seen.specs.rv_mem.declared.rights.Use.TheVariants.{Read}
 use Rattle.std.specs.FinMap as map
-use Rattle.kr_rows.specs.kr_model.Applied.{applied, images}
-use Rattle.kr_rows.specs.kr_model.Change.{End, PutIntoPipe}
-use Rattle.kr_rows.specs.kr_model.FileRows.{write_pipe}
-use Rattle.kr_rows.specs.kr_model.Known.{known}
-use Rattle.kr_rows.specs.kr_model.Pieces.{cut_to, read_all}
-use Rattle.kr_rows.specs.kr_model.Reply.{answers, done}
-use Rattle.kr_rows.specs.kr_model.State as model
-use Rattle.kr_rows.specs.kr_model.declared.outcome.Outcome.TheVariants.{Answer, Ended, Wait}
-use Rattle.kr_rows.specs.kr_ops.Meaning.{meaning}
-use Rattle.kr_rows.specs.Performing.{memory_of}
-use Rattle.kr_rows.proofs.PerformLemmas.{by-reply}
-use Rattle.kr_rows.proofs.UsingLemmas.{begins, by-uses}
+use Rattle.kr_seen.specs.kr_model.Applied.{applied, images}
+use Rattle.kr_seen.specs.kr_model.Change.{End, PutIntoPipe}
+use Rattle.kr_seen.specs.kr_model.FileRows.{write_pipe}
+use Rattle.kr_seen.specs.kr_model.Known.{known}
+use Rattle.kr_seen.specs.kr_model.Pieces.{cut_to, read_all}
+use Rattle.kr_seen.specs.kr_model.Reply.{answers, done}
+use Rattle.kr_seen.specs.kr_model.State as model
+use Rattle.kr_seen.specs.kr_model.declared.outcome.Outcome.TheVariants.{Answer, Ended, Wait}
+use Rattle.kr_seen.specs.kr_ops.Meaning.{meaning}
+use Rattle.kr_seen.specs.PerformedRows.{memory_of}
+use Rattle.kr_seen.proofs.PerformLemmas.{by-reply}
+use Rattle.kr_seen.proofs.UsingLemmas.{begins, by-uses}
 use Rattle.kr_transfer.specs.Moving.{told}
 use Rattle.kr_transfer.proofs.MovingLemmas.{comes-then}
 use Rattle.kr_transfer.proofs.PieceLemmas.{allowed-cut, asked-cut}

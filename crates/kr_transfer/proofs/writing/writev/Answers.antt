@@ -2,12 +2,12 @@ use Rattle.std.proofs.Common.{lit<, refl, sym, ap, ◌∙◌, w32}
 use Rattle.std.specs.Prelude.{not, if◌then◌else◌}
 use Rattle.std.proofs.Math.Facts.{to_z-of_z}
 use Rattle.kr_inode.specs.pr_base.declared.errno.Errno.TheVariants.{EBADF, EISDIR}
-use Rattle.kr_rows.specs.kr_model.FileRows.{is_dir, write_pieces}
-use Rattle.kr_rows.specs.kr_model.Known.{known}
-use Rattle.kr_rows.specs.kr_model.Pieces.{with_list}
-use Rattle.kr_rows.specs.kr_model.Reply.{refuse}
-use Rattle.kr_rows.specs.kr_model.State as model
-use Rattle.kr_rows.specs.kr_ops.Meaning.{meaning}
+use Rattle.kr_seen.specs.kr_model.FileRows.{is_dir, write_pieces}
+use Rattle.kr_seen.specs.kr_model.Known.{known}
+use Rattle.kr_seen.specs.kr_model.Pieces.{with_list}
+use Rattle.kr_seen.specs.kr_model.Reply.{refuse}
+use Rattle.kr_seen.specs.kr_model.State as model
+use Rattle.kr_seen.specs.kr_ops.Meaning.{meaning}
 use Rattle.kr_transfer.specs.Channels.{channel_of}
 use Rattle.kr_transfer.proofs.ChannelLemmas.{by-closed, by-open, open-here}
 use Rattle.kr_transfer.proofs.writing.writev.Goals as goal

@@ -3,7 +3,7 @@ use Rattle.kr_steps.specs.Calls.{MayCall, Runs}
 use Rattle.kr_seen.specs.kr_ops.Meaning.{meaning}
 use Rattle.kr_seen.specs.Numbered.{state_numbered}
 use Rattle.kr_turns.specs.Breaking.{plain_rule}
-use Rattle.kr_turns.specs.Making.{watching}
+use Rattle.kr_stops.specs.Watching.{watching}
 use Rattle.kr_turns.proofs.ShelfLemmas.{lacks-numbered, shelved-lives, shelved-numbered}
 use Rattle.kr_turns.proofs.TurnLemmas.{call-made}
 use Rattle.kr_turns.proofs.turn.make_call.Goals as goal

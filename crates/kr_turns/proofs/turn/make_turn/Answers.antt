@@ -3,7 +3,8 @@ use Rattle.kr_steps.specs.rv_cpu.declared.event.Event.TheVariants.{Call, Killed,
 use Rattle.kr_steps.proofs.ComputingLemmas.{runs-later}
 use Rattle.kr_seen.specs.kr_ops.Sound.{IsOfView}
 use Rattle.kr_seen.proofs.kr_ops.UseLemmas.{sound-of}
-use Rattle.kr_turns.specs.Making.{machine_of, tally_after, watching}
+use Rattle.kr_turns.specs.Making.{machine_of, tally_after}
+use Rattle.kr_stops.specs.Watching.{watching}
 use Rattle.kr_turns.specs.Turn.{with_broken, with_status}
 use Rattle.kr_turns.proofs.BreakLemmas.{idle-here, killed-here}
 use Rattle.kr_turns.proofs.PlainLemmas.{if-ok}

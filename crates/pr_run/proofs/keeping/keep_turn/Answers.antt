@@ -1,7 +1,7 @@
 use Rattle.std.proofs.Common.{◌≡◌, ap, subst, ◌∙◌}
 use Rattle.kr_core.specs.Kernel.{HasRun, Turns, machine}
 use Rattle.kr_core.specs.declared.kernel.Turned.{Turned}
-use Rattle.kr_core.specs.kr_turns.Making.{watching}
+use Rattle.kr_core.specs.kr_stops.Watching.{watching}
 use Rattle.kr_core.specs.kr_turns.Run.{after_put, put_by}
 use Rattle.pr_run.specs.Keeping.{puts_told}
 use Rattle.pr_run.specs.Puts.{after_slot}

@@ -2,7 +2,7 @@ use Rattle.std.proofs.Common.{◌≡◌, rules, ap, subst, ◌∙◌}
 use Rattle.std.specs.Io.KnownBytes.{Appends}
 use Rattle.kr_core.specs.Kernel.{HasRun, Turns, machine}
 use Rattle.kr_core.specs.declared.kernel.Turned.{Turned}
-use Rattle.kr_core.specs.kr_turns.Making.{watching}
+use Rattle.kr_core.specs.kr_stops.Watching.{watching}
 use Rattle.kr_core.specs.kr_turns.Run.{after_put, put_by}
 use Rattle.kr_core.specs.kr_turns.Turn.{Machine}
 use Rattle.pr_run.specs.Puts.{after_slot}

@@ -2,7 +2,7 @@ use Rattle.std.proofs.Common.{◌≡◌, Some, refl, sym, ap, subst, ◌∙◌, 
 use Rattle.std.specs.Prelude.{IsSome, Result}
 use Rattle.pr_base.specs.declared.errno.Errno.{Errno}
 use Rattle.kr_core.specs.Runs.{Machine}
-use Rattle.pr_watch.specs.declared.watch.Watch.{Watch}
+use Rattle.pt_tracer.specs.pt_faker.declared.watch.Watch.{Watch}
 use Rattle.pr_start.specs.Beginning.{Begins}
 use Rattle.pr_start.proofs.BeginLemmas.{begins-as, begins-from}
 use Rattle.kr_core.specs.kr_first.Starting.{directory_at}

@@ -1,5 +1,5 @@
 use Rattle.std.proofs.Common.{◌≡◌, ◌∙◌, ◌+◌, ◌-◌, ◌%◌, ◌^◌, suc, sym, ap, arith}
-use Rattle.kr_turns.proofs.EditLemmas.{edited-then}
+use Rattle.kr_stops.proofs.EditLemmas.{edited-then}
 use Rattle.pt_faker.specs.Carrying.{on_its_memory}
 use Rattle.pt_faker.specs.Faking.{behind_list}
 use Rattle.pt_faker.proofs.AuxiliaryLemmas.{list-ends, list-goes, list-unended, list-unread, other-test, there-still, zero-test}

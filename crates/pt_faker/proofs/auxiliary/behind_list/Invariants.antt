@@ -1,6 +1,6 @@
 use Rattle.std.proofs.Common.{◌≡◌, ◌-◌, ℕ}
 use Rattle.pt_ident.specs.rv_mem.Actions.{Action}
-use Rattle.kr_turns.specs.Stopped.{IsEdited}
+use Rattle.kr_stops.specs.Stopped.{IsEdited}
 use Rattle.pt_faker.specs.Carrying.{on_its_memory}
 use Rattle.pt_faker.specs.Faking.{behind_list}
 use Rattle.pt_faker.proofs.auxiliary.behind_list.Given as goal

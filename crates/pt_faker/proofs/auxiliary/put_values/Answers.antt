@@ -1,8 +1,8 @@
 use Rattle.std.proofs.Common.{◌∙◌, ◌+◌, ◌<◌, ◌≤◌, length, drop, get_or, sym, ap, arith, w64}
 use Rattle.std.specs.Int.{to_le_bytes}
 use Rattle.std.proofs.lemmas.List.{at_drop_all, at_drop_more}
-use Rattle.kr_turns.specs.Editing.{after_poke}
-use Rattle.kr_turns.proofs.EditLemmas.{edited-then}
+use Rattle.kr_stops.specs.Editing.{after_poke}
+use Rattle.kr_stops.proofs.EditLemmas.{edited-then}
 use Rattle.pt_faker.specs.Carrying.{on_its_memory}
 use Rattle.pt_faker.specs.Faking.{put_values}
 use Rattle.pt_faker.proofs.AuxiliaryLemmas.{there-still, value-put, value-refused, values-put}

@@ -1,5 +1,5 @@
 use Rattle.std.proofs.Common.{◌≡◌, drop}
-use Rattle.kr_turns.specs.Stopped.{IsEdited}
+use Rattle.kr_stops.specs.Stopped.{IsEdited}
 use Rattle.pt_faker.specs.Carrying.{on_its_memory}
 use Rattle.pt_faker.specs.Faking.{put_values}
 use Rattle.pt_faker.proofs.auxiliary.put_values.Given as goal

@@ -1,6 +1,6 @@
 use Rattle.std.proofs.Common.{◌∙◌, ap, refl, w64}
 use Rattle.std.specs.Int.{from_le_bytes}
-use Rattle.kr_turns.specs.Editing.{memory_at}
+use Rattle.kr_stops.specs.Editing.{memory_at}
 use Rattle.pt_faker.proofs.AuxiliaryLemmas.{word-of, word-read}
 use Rattle.pt_faker.proofs.StopLemmas.{peek-edits}
 use Rattle.pt_faker.proofs.auxiliary.read_word.Goals as goal

@@ -1,5 +1,5 @@
 use Rattle.std.proofs.Common.{◌∙◌, ◌+◌, ◌%◌, ◌^◌, ap}
-use Rattle.kr_turns.proofs.EditLemmas.{edited-then}
+use Rattle.kr_stops.proofs.EditLemmas.{edited-then}
 use Rattle.pt_faker.specs.Carrying.{on_its_memory}
 use Rattle.pt_faker.specs.Faking.{put_values}
 use Rattle.pt_faker.proofs.AuxiliaryLemmas.{shown-all, shown-arguments, shown-none}

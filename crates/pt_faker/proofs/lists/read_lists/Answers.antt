@@ -1,6 +1,6 @@
 use Rattle.std.proofs.Common.{◌≡◌, ◌+◌, ◌-◌, arith}
 use Rattle.pt_ident.specs.kr_calls.Expansion.{bytes_with_ends}
-use Rattle.kr_turns.specs.kr_exec.Lists.{most_bytes}
+use Rattle.kr_exec.specs.Lists.{most_bytes}
 use Rattle.pt_faker.proofs.StopLemmas.{edited-then}
 use Rattle.pt_faker.proofs.AuxiliaryLemmas.{there-still}
 use Rattle.pt_faker.proofs.ReadLemmas.{lists-break, lists-read, lists-stop}

@@ -1,8 +1,8 @@
 use Rattle.std.proofs.Common.{◌≡◌, ◌+◌, ◌-◌, ◌∙◌, [], suc, ap, length, refl, arith}
 use Rattle.pt_ident.specs.kr_calls.Expansion.{bytes_with_ends}
-use Rattle.kr_turns.specs.kr_exec.Lists.{most_texts}
+use Rattle.kr_exec.specs.Lists.{most_texts}
 use Rattle.std.proofs.SliceLists.{length_more}
-use Rattle.kr_turns.proofs.kr_exec.ListLemmas.{bytes_more}
+use Rattle.kr_exec.proofs.ListLemmas.{bytes_more}
 use Rattle.pt_faker.proofs.StopLemmas.{edited-then}
 use Rattle.pt_faker.proofs.AuxiliaryLemmas.{there-still}
 use Rattle.pt_faker.specs.Reading.{texts_from, texts_read}

@@ -1,6 +1,6 @@
 use Rattle.std.proofs.Common.{◌≡◌, ◌+◌, ◌-◌, [], length}
 use Rattle.pt_ident.specs.kr_calls.Expansion.{bytes_with_ends}
-use Rattle.kr_turns.specs.kr_exec.Lists.{most_texts}
+use Rattle.kr_exec.specs.Lists.{most_texts}
 use Rattle.pt_faker.specs.Stopping.{IsEdited}
 use Rattle.pt_faker.specs.Reading.{texts_from}
 use Rattle.pt_faker.proofs.ReadLemmas.{IsLeft}

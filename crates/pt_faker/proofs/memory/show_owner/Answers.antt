@@ -1,6 +1,6 @@
 use Rattle.std.proofs.Common.{◌≡◌, ◌∙◌, length, ap, refl, arith}
-use Rattle.kr_turns.specs.Editing.{after_poke}
-use Rattle.kr_turns.proofs.EditLemmas.{edited-then}
+use Rattle.kr_stops.specs.Editing.{after_poke}
+use Rattle.kr_stops.proofs.EditLemmas.{edited-then}
 use Rattle.pt_ident.specs.Showing.{shown_stat}
 use Rattle.pt_faker.proofs.StopLemmas.{may-write, on_ok, owner-shown, peek-edits}
 use Rattle.pt_faker.proofs.memory.show_owner.Goals as goal

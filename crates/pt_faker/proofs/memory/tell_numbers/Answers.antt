@@ -1,7 +1,7 @@
 use Rattle.std.proofs.Common.{◌≡◌, ◌∙◌, ◌&&◌, true, length, ap, sym}
 use Rattle.pt_ident.specs.rv_mem.declared.rights.Use.TheVariants.{Write}
-use Rattle.kr_turns.specs.Editing.{after_poke, memory_at}
-use Rattle.kr_turns.proofs.EditLemmas.{edited-then}
+use Rattle.kr_stops.specs.Editing.{after_poke, memory_at}
+use Rattle.kr_stops.proofs.EditLemmas.{edited-then}
 use Rattle.pt_ident.specs.Identity.{numbers_of}
 use Rattle.pt_faker.proofs.StopLemmas.{allows_all-written, and_alike, and_second, and_third, may-still, numbers-told, poke-again, wrote}
 use Rattle.pt_faker.proofs.memory.tell_numbers.Goals as goal

@@ -1,4 +1,4 @@
-use Rattle.kr_turns.proofs.EditLemmas.{edited-then}
+use Rattle.kr_stops.proofs.EditLemmas.{edited-then}
 use Rattle.pt_faker.proofs.AuxiliaryLemmas.{there-still}
 use Rattle.pt_faker.proofs.StopLemmas.{register-edits}
 use Rattle.pt_faker.proofs.registers.tell.Goals as goal

@@ -1,5 +1,5 @@
 use Rattle.std.proofs.Common.{◌≡◌, ◌+◌, ◌-◌, ◌∙◌, suc, refl, arith}
-use Rattle.kr_turns.specs.kr_exec.Lists.{most_bytes}
+use Rattle.kr_exec.specs.Lists.{most_bytes}
 use Rattle.pt_faker.proofs.StopLemmas.{edited-then}
 use Rattle.pt_faker.proofs.AuxiliaryLemmas.{there-still}
 use Rattle.pt_faker.specs.Reading.{text_at}

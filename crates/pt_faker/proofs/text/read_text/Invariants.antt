@@ -1,5 +1,5 @@
 use Rattle.std.proofs.Common.{◌≡◌, ◌-◌}
-use Rattle.kr_turns.specs.kr_exec.Lists.{most_bytes}
+use Rattle.kr_exec.specs.Lists.{most_bytes}
 use Rattle.pt_faker.specs.Stopping.{IsEdited}
 use Rattle.pt_faker.specs.Reading.{text_at, text_from}
 use Rattle.pt_faker.proofs.ReadLemmas.{IsLeft}

@@ -4,7 +4,8 @@ use Rattle.kr_turns.proofs.kr_ops.UseLemmas.{sound-of}
 use Rattle.kr_turns.specs.kr_ops.Meaning.{process_meaning}
 use Rattle.kr_turns.specs.kr_seen.Numbered.{process_numbered}
 use Rattle.kr_turns.specs.Steps.{Runs, picked_process}
-use Rattle.kr_turns.specs.Making.{machine_of, watching}
+use Rattle.kr_turns.specs.Making.{machine_of}
+use Rattle.kr_turns.specs.kr_stops.Watching.{watching}
 use Rattle.kr_turns.specs.Turn.{IsTurnOf, Tally}
 use Rattle.kr_core.specs.Kernel.{HasRun, Kernel, machine}
 use Rattle.kr_core.proofs.KernelLemmas.{picks, picks-none, some-live}

@@ -1,6 +1,6 @@
 use Rattle.std.proofs.Common.{subst}
 use Rattle.kr_turns.specs.Held.{Held, stopped_of}
-use Rattle.kr_turns.specs.Stopped.{IsThere}
+use Rattle.kr_stops.specs.Stopped.{IsThere}
 use Rattle.kr_turns.proofs.HereLemmas.{there-in}
 use Rattle.kr_turns.proofs.here.HereTracee.pid.Goals as goal
 

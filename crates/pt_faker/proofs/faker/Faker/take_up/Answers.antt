@@ -1,6 +1,6 @@
 use Rattle.std.proofs.Common.{◌≡◌, SFits, rules, subst, w64}
 use Rattle.std.proofs.Math.Facts.{to_z-of_z}
-use Rattle.kr_turns.proofs.EditLemmas.{edited-then}
+use Rattle.kr_stops.proofs.EditLemmas.{edited-then}
 use Rattle.pt_ident.specs.Identity.{effect}
 use Rattle.pt_ident.specs.IdentityTable.{identity_at}
 use Rattle.pt_faker.specs.Faking.{Faking, after_effect}

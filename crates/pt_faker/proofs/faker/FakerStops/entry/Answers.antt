@@ -1,4 +1,4 @@
-use Rattle.kr_turns.proofs.EditLemmas.{edited-then}
+use Rattle.kr_stops.proofs.EditLemmas.{edited-then}
 use Rattle.pt_faker.proofs.StopLemmas.{request-edits}
 use Rattle.pt_faker.proofs.faker.FakerStops.entry.Goals as goal
 

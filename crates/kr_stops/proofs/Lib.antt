@@ -1,0 +1,2 @@
+pub use Rattle.law_lawful.proofs as law_lawful
+pub mod EditLemmas

@@ -1,0 +1,69 @@
+//! Who watches on the kernel with mounts.
+
+use crate::faker::Faker;
+use crate::graphed::Graphed;
+use crate::laws::faker_is_its_definition;
+use kr_stops::{Stops, Tracee};
+use pr_base::NoMemory;
+
+/// Who watches the calls of a run on the kernel with mounts.
+#[derive(Drop)]
+pub enum Watch {
+    /// Nobody: processes are the host user's.
+    Nobody,
+    /// A watcher that gives processes an identity of their own.
+    Faked(Faker),
+}
+
+impl Stops for Watch {
+    ghost use Rattle.std.specs.Prelude.{◌≡◌};
+    ghost use Rattle.pt_faker.specs.Watches.{born, entered, exited, gone};
+
+    ghost enters = { λ x t y u. (y, u) ≡ entered x t };
+
+    ghost exits = { λ x t y u. (y, u) ≡ exited x t };
+
+    ghost bears = { λ x parent child y. y ≡ born x parent child };
+
+    ghost forgets = { λ x pid y. y ≡ gone x pid };
+
+    fn entry<T: Tracee>(&mut self, t: &mut T) -> Result<(), NoMemory> {
+        let _pid = t.pid();
+        match self {
+            Watch::Nobody => Ok(()),
+            Watch::Faked(faker) => faker.entry(t),
+        }
+    }
+
+    fn exit<T: Tracee>(&mut self, t: &mut T) -> Result<(), NoMemory> {
+        let _pid = t.pid();
+        match self {
+            Watch::Nobody => Ok(()),
+            Watch::Faked(faker) => faker.exit(t),
+        }
+    }
+
+    fn born(&mut self, parent: u32, child: u32) -> Result<(), NoMemory> {
+        match self {
+            Watch::Nobody => Ok(()),
+            Watch::Faked(faker) => faker.born(parent, child),
+        }
+    }
+
+    fn gone(&mut self, pid: u32) {
+        match self {
+            Watch::Nobody => {}
+            Watch::Faked(faker) => faker.gone(pid),
+        }
+    }
+}
+
+impl Graphed for Watch {
+    ghost use Rattle.pt_faker.specs.Watches.{watch};
+
+    ghost does = { watch };
+
+    fn is_graph() {
+        faker_is_its_definition();
+    }
+}

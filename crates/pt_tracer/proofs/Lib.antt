@@ -1,0 +1,12 @@
+pub use Rattle.pr_base.proofs as pr_base
+pub use Rattle.rv_mem.proofs as rv_mem
+pub use Rattle.pt_faker.proofs.law_lawful as law_lawful
+pub use Rattle.pt_faker.proofs.kr_exec as kr_exec
+pub use Rattle.pt_faker.proofs.kr_stops as kr_stops
+pub use Rattle.pt_bind.proofs as pt_bind
+mod EntryLemmas
+mod PlanLemmas
+mod PokeLemmas
+mod ShelfLemmas
+mod TracerLemmas
+mod WatchedLemmas

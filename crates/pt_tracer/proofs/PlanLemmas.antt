@@ -1,0 +1,47 @@
+-- Plans of calls that run programs.
+use Rattle.std.proofs.Common.{◌≡◌, ◌≢◌, ◌∙◌, ◌==◌, ℕ, suc, zero, Bool, true, false, List, Result, Ok, Err, if◌then◌else◌, get_or, nat_lt, arith, sym, ap}
+use Rattle.std.specs.Prelude.{IfOk}
+use Rattle.pr_base.specs.MountText.{MountText}
+use Rattle.pr_base.specs.declared.errno.Errno.{Errno}
+use Rattle.rv_mem.specs.Actions.{Action, carried_out}
+use Rattle.rv_mem.specs.declared.regs.Regs.{Regs}
+use Rattle.pt_bind.specs.Tags.{TagTable}
+use Rattle.pt_results.specs.kr_calls.declared.request.Request.{Request}
+use Rattle.pt_faker.specs.Stopping.{IsThere, memory_at, Stopped, with_memory}
+use Rattle.pt_results.specs.pt_args.declared.edit.Edit.{Edit}
+use Rattle.pt_faker.specs.Reading.{lists_at}
+use Rattle.pt_faker.specs.declared.lists.Handed.{Handed}
+use Rattle.pt_script.specs.declared.expansion.Expanded.{Expanded}
+use Rattle.pt_faker.specs.Carrying.{CarriesOut}
+use Rattle.pt_faker.proofs.AuxiliaryLemmas.{other-test}
+use Rattle.pt_faker.proofs.StopLemmas.{registers-stay}
+use Rattle.pt_tracer.specs.Planning.{after_expansion, after_lists, after_path, execve_plan, expand_with, is_swap, led_in, led_of, nowhere, rewritten, script_plan, stack_at, texts_at}
+use Rattle.pt_tracer.specs.declared.plan.Plan.{Plan}
+use Rattle.pt_tracer.specs.declared.planning.ListAddresses.{ListAddresses}
+
+-- what is done on memory leaves the stack pointer
+pub stack-stays : {A : Type 0} (action : Action A) (reply : A) (t u : Stopped) → IsThere t → CarriesOut action reply t u → stack_at u ≡ stack_at t
+stack-stays action reply t u there carries =
+    ap stack_at carries.leaves ∙ ap (λ (regs : Regs). get_or regs.x 2 0) (registers-stay t there (carried_out action (memory_at t)).memory)
+
+-- of what is answered
+pub if_ok : {A E : Type 0} {P Q : A → Type 0} (r : Result A E) → ((x : A) → P x → Q x) → IfOk r P → IfOk r Q
+if_ok (Ok x) f p = f x p
+if_ok (Err e) f p = p
+
+module _ (bindings : List MountText) (tags : TagTable) where
+  -- a program behind scripts
+  pub script-expanded : (edit : Edit) (args kept : ℕ) (t : Stopped) (e : Expanded) (r : Result Expanded Errno) → r ≡ Ok e → e.scripts ≢ 0 → after_expansion bindings tags edit args kept t r ≡ script_plan t args kept e
+  script-expanded edit args kept t e r is some =
+      ap (after_expansion bindings tags edit args kept t) is
+      ∙ ap (λ b. if b then (record { edit = edit; led = led_in e.index }, t) else script_plan t args kept e) (other-test e.scripts some)
+
+  -- lists that were read
+  pub lists-expanded : (t u : Stopped) (r : Request) (path : List ℕ) (lists : ListAddresses) (edit : Edit) (handed : Handed) → edit ≡ rewritten (texts_at bindings tags t) t r → is_swap edit ≡ true → CarriesOut (lists_at lists.args lists.env) (Ok handed) t u
+      → execve_plan bindings tags t r path lists ≡ expand_with bindings tags edit path lists.args handed u
+  lists-expanded t u r path lists edit handed is swaps carries =
+      let done = carried_out (lists_at lists.args lists.env) (memory_at t) in
+      let led = led_of (texts_at bindings tags t) t.pid r in
+      ap (after_path bindings tags t r path lists) (sym is)
+      ∙ ap (λ b. if b then after_lists bindings tags edit led path lists.args done.reply (with_memory done.memory t) else (record { edit = edit; led = nowhere }, t)) swaps
+      ∙ (λ k. after_lists bindings tags edit led path lists.args (carries.tells k) (sym carries.leaves k))

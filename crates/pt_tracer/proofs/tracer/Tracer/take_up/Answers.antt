@@ -1,0 +1,53 @@
+use Rattle.std.proofs.Common.{◌≡◌, ◌∙◌, SFits, Some, None, ap, refl, rules, subst, sym, w64}
+use Rattle.std.proofs.Math.Facts.{to_z-of_z}
+use Rattle.pt_bind.specs.Binding.{rows_of}
+use Rattle.pt_faker.proofs.StopLemmas.{edited-then, on_ok}
+use Rattle.pt_tracer.specs.Watched.{Tracing, by_identities}
+use Rattle.pt_tracer.proofs.EntryLemmas.{answered-entry, planned-entry}
+use Rattle.pt_tracer.proofs.tracer.Tracer.take_up.Goals as goal
+
+pub returns-in_err-edit-in-None-clause-edits : goal.returns-in_err-edit-in-None-clause-edits
+returns-in_err-edit-in-None-clause-edits g c = edited-then _ (g.T.Tracee.stopped c.answer_faked.new.t) _ c.in_ok-answer.ensures.edits c.in_err-edit-in-None.ensures.edits
+
+pub returns-in_err-answer-in-None-clause-edits : goal.returns-in_err-answer-in-None-clause-edits
+returns-in_err-answer-in-None-clause-edits g c =
+    edited-then _ (g.T.Tracee.stopped c.plan.new.t) _ (edited-then _ (g.T.Tracee.stopped c.answer_faked.new.t) _ c.in_ok-answer.ensures.edits c.in_ok-edit-in-None.ensures.edits) c.in_err-answer-in-None.ensures.edits
+
+pub returns-in-Some-clause-edits : goal.returns-in-Some-clause-edits
+returns-in-Some-clause-edits g c = edited-then _ (g.T.Tracee.stopped c.answer_faked.new.t) _ c.in_ok-answer.ensures.edits c.take_number-number.ensures.edits
+
+pub returns-in_ok-answer-in-None-clause-edits : goal.returns-in_ok-answer-in-None-clause-edits
+returns-in_ok-answer-in-None-clause-edits g c =
+    edited-then _ (g.T.Tracee.stopped c.plan.new.t) _ (edited-then _ (g.T.Tracee.stopped c.answer_faked.new.t) _ c.in_ok-answer.ensures.edits c.in_ok-edit-in-None.ensures.edits) c.in_ok-answer-in-None.ensures.edits
+
+pub returns-in-Some-clause-enters : goal.returns-in-Some-clause-enters
+returns-in-Some-clause-enters g c =
+    let t = g.T.Tracee.stopped c.args.t.now in
+    let u = g.T.Tracee.stopped c.answer_faked.new.t in
+    let v = g.T.Tracee.stopped c.take_number-number.new.t in
+    let r = c.args.request in
+    let own = c.self.inside in
+    let x : Tracing = record { bindings = rows_of own.walker; tags = own.tags; user = own.user; identities = own.identities; pending = own.calls } in
+    let answer = c.in-Some.answer in
+    let fits : SFits w64 answer = search rules in
+    on_ok c.keep.result
+    (λ keeps. subst (λ (h : Tracing). (record { bindings = rows_of own.walker; tags = own.tags; user = own.user; identities = c.answer_faked.new.identities; pending = c.keep.new.self }, v) ≡ by_identities h r t h.identities) c.self.view_is
+    (answered-entry x r t u c.pid-pid.result c.pid-pid.ensures.pid c.of-passed.result c.of-passed.ensures c.keep.new.self v answer _ (to_z-of_z {w = w64} {z = answer} fits) c.take_number-number.ensures.taken keeps
+    c.in_ok-answer.field-0 c.answer_faked.new.identities c.in-Some.is c.in_ok-answer.ensures.answers))
+    c.keep.ensures
+
+pub returns-in_ok-answer-in-None-clause-enters : goal.returns-in_ok-answer-in-None-clause-enters
+returns-in_ok-answer-in-None-clause-enters g c =
+    let t = g.T.Tracee.stopped c.args.t.now in
+    let u = g.T.Tracee.stopped c.answer_faked.new.t in
+    let v = g.T.Tracee.stopped c.plan.new.t in
+    let w = g.T.Tracee.stopped c.apply.new.t in
+    let r = c.args.request in
+    let own = c.self.inside in
+    let x : Tracing = record { bindings = rows_of own.walker; tags = own.tags; user = own.user; identities = own.identities; pending = own.calls } in
+    on_ok c.keep-in-None.result
+    (λ keeps. subst (λ (h : Tracing). (record { bindings = rows_of c.plan.new.walker; tags = own.tags; user = own.user; identities = c.answer_faked.new.identities; pending = c.keep-in-None.new.self }, w) ≡ by_identities h r t h.identities) c.self.view_is
+    (ap (λ l. (record { bindings = rows_of l; tags = own.tags; user = own.user; identities = c.answer_faked.new.identities; pending = c.keep-in-None.new.self }, w)) c.in_ok-edit-in-None.ensures.walker
+    ∙ planned-entry x r t u c.pid-pid.result c.pid-pid.ensures.pid c.of-passed.result c.of-passed.ensures c.keep-in-None.new.self v w c.in_ok-edit-in-None.field-0 c.in_ok-answer-in-None.answer c.in_ok-edit-in-None.ensures.plan c.in_ok-answer-in-None.ensures.applied keeps
+    c.in_ok-answer.field-0 c.answer_faked.new.identities c.in-None.is c.in_ok-answer.ensures.answers))
+    c.keep-in-None.ensures

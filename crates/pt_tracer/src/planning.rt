@@ -1,0 +1,355 @@
+//! What a tracer makes of a call that could be read.
+ghost use Rattle.std.specs.Prelude.{◌≡◌, ◌≤◌, IsTrue, IfOk, length};
+ghost use Rattle.pt_bind.specs.Binding.{rows_of};
+ghost use Rattle.pt_results.specs.pt_canon.Canon.{IsAnswer};
+ghost use Rattle.pt_script.specs.Expanding.{expanded_at};
+ghost use Rattle.pt_results.specs.kr_calls.PathTable.{path_at};
+ghost use Rattle.pt_faker.specs.Stopping.{IsEdited};
+ghost use Rattle.pt_tracer.specs.Planning.{answered, cancelled, edit_for, execve_plan, expand_with, has_shelf, is_swap, led_along, led_in, led_of, led_to, list_addresses, plan_for, planned, rewritten, script_plan, stack_at, texts_at};
+
+use crate::plan::{Led, NOWHERE, Plan};
+use crate::script::script_edit;
+use pr_base::{Errno, NoMemory};
+use pt_bind::Tags;
+use pt_faker::registers::STACK;
+use pt_faker::{Handed, Tracee, addresses_behind, read_lists};
+use pt_results::below::{
+    CallFault, Edit, Reached, Request, WalkErr, Walker, path_of, rewrite, walk_path,
+};
+use pt_results::{cwd_answer, link_answer};
+use pt_script::{Expanded, expand};
+use rv_mem::Use;
+use std::alloc::Global;
+
+/// How many bytes below the stack pointer are the shelf's.
+const SHELF: u64 = 65_536;
+
+/// Whether each of the 65,536 bytes below the stack pointer may be read and written.
+fn has_shelf<T: Tracee>(t: &T) -> bool
+    ensures shelf { result ≡ has_shelf (T.stopped t.now) }
+    ensures room { IsTrue result → 65536 ≤ stack_at (T.stopped t.now) }
+{
+    match t.reg(STACK).checked_sub(SHELF) {
+        Some(at) => t.can(at, SHELF, Use::Read) && t.can(at, SHELF, Use::Write),
+        None => false,
+    }
+}
+
+/// A call whose guest paths become host paths.
+fn rewritten<T: Tracee>(
+    alloc: Global,
+    t: &mut T,
+    walker: &mut Walker,
+    tags: &Tags,
+    request: &Request,
+) -> Result<Edit, NoMemory>
+    ensures edit { IfOk result (λ edit. edit ≡ rewritten (texts_at (rows_of walker.old) tags.now (T.stopped t.old)) (T.stopped t.old) request.now) }
+    ensures room { IfOk result (λ edit. IsTrue (is_swap edit) → 65536 ≤ stack_at (T.stopped t.old)) }
+    ensures walker { walker.new ≡ walker.old }
+    ensures same { T.stopped t.new ≡ T.stopped t.old }
+    ensures rest { T.around t.new ≡ T.around t.old }
+{
+    let pid = t.pid();
+    let sp = t.reg(STACK);
+    let shelf = has_shelf(t);
+    rewrite(alloc, t, walker, tags, pid, sp, shelf, request)
+}
+
+/// Where the first path of a call leads, if that counts.
+fn led_of<T: Tracee>(
+    alloc: Global,
+    t: &mut T,
+    walker: &mut Walker,
+    tags: &Tags,
+    request: &Request,
+) -> Result<Led, NoMemory>
+    ensures led { IfOk result (λ led. led ≡ led_of (texts_at (rows_of walker.old) tags.now (T.stopped t.old)) (T.stopped t.old).pid request.now) }
+    ensures walker { walker.new ≡ walker.old }
+    ensures same { T.stopped t.new ≡ T.stopped t.old }
+    ensures rest { T.around t.new ≡ T.around t.old }
+{
+    match request {
+        Request::Openat { .. } => led_along(alloc, t, walker, tags, true, request),
+        Request::Chdir { .. } | Request::Chroot { .. } | Request::Execve { .. } => {
+            led_along(alloc, t, walker, tags, false, request)
+        }
+        _ => Ok(NOWHERE),
+    }
+}
+
+/// Where the first path of a call leads, by a walk of its own.
+fn led_along<T: Tracee>(
+    alloc: Global,
+    t: &mut T,
+    walker: &mut Walker,
+    tags: &Tags,
+    opening: bool,
+    request: &Request,
+) -> Result<Led, NoMemory>
+    ensures led { IfOk result (λ led. led ≡ led_along (texts_at (rows_of walker.old) tags.now (T.stopped t.old)) (T.stopped t.old).pid opening (path_at request.now 0)) }
+    ensures walker { walker.new ≡ walker.old }
+    ensures same { T.stopped t.new ≡ T.stopped t.old }
+    ensures rest { T.around t.new ≡ T.around t.old }
+{
+    let pid = t.pid();
+    let Some(path) = path_of(request, 0) else {
+        return Ok(NOWHERE);
+    };
+    match walk_path(alloc, t, walker, tags, pid, opening, path) {
+        Ok(Some(reached)) => Ok(led_to(&reached)),
+        Ok(None) | Err(WalkErr::Err(_)) => Ok(NOWHERE),
+        Err(WalkErr::NoMemory) => Err(NoMemory),
+    }
+}
+
+fn led_to(reached: &Reached) -> Led
+    ensures { result ≡ led_to reached.now }
+{
+    Led {
+        index: reached.canon.index,
+        at_root: reached.canon.guest.as_slice() == b"/".as_slice(),
+    }
+}
+
+/// Where execve(2) has its arguments and its environment.
+#[derive(Clone, Copy)]
+pub(crate) struct ListAddresses {
+    args: u64,
+    env: u64,
+}
+
+/// Where the lists of a call stand, if it is execve(2).
+fn list_addresses(request: &Request) -> Option<ListAddresses>
+    ensures { result ≡ list_addresses request.now }
+{
+    match *request {
+        Request::Execve { args, env, .. } => Some(ListAddresses { args, env }),
+        _ => None,
+    }
+}
+
+/// What becomes of a call. Of execve(2) both lists are read before that is known. After want of memory the process may only be dropped.
+pub(crate) fn plan<T: Tracee>(
+    alloc: Global,
+    t: &mut T,
+    walker: &mut Walker,
+    tags: &Tags,
+    request: &Request,
+) -> Result<Plan, NoMemory>
+    ensures plan { IfOk result (λ plan. (plan, T.stopped t.new) ≡ planned (rows_of walker.old) tags.now (T.stopped t.old) request.now) }
+    ensures walker { walker.new ≡ walker.old }
+    ensures edits { IsEdited (T.stopped t.old) (T.stopped t.new) }
+    ensures rest { T.around t.new ≡ T.around t.old }
+{
+    let _pid = t.pid();
+    let Some(lists) = list_addresses(request) else {
+        return plan_for(alloc, t, walker, tags, request);
+    };
+    let Some(path) = path_of(request, 0) else {
+        return plan_for(alloc, t, walker, tags, request);
+    };
+    plan_execve(alloc, t, walker, tags, request, path.text, lists)
+}
+
+/// What becomes of any call but execve(2).
+fn plan_for<T: Tracee>(
+    alloc: Global,
+    t: &mut T,
+    walker: &mut Walker,
+    tags: &Tags,
+    request: &Request,
+) -> Result<Plan, NoMemory>
+    ensures plan { IfOk result (λ plan. plan ≡ plan_for (texts_at (rows_of walker.old) tags.now (T.stopped t.old)) (T.stopped t.old) request.now) }
+    ensures walker { walker.new ≡ walker.old }
+    ensures same { T.stopped t.new ≡ T.stopped t.old }
+    ensures rest { T.around t.new ≡ T.around t.old }
+{
+    let edit = edit_for(alloc, t, walker, tags, request)?;
+    let led = led_of(alloc, t, walker, tags, request)?;
+    Ok(Plan { edit, led })
+}
+
+/// What the plain kernel is shown of any call but execve(2).
+fn edit_for<T: Tracee>(
+    alloc: Global,
+    t: &mut T,
+    walker: &mut Walker,
+    tags: &Tags,
+    request: &Request,
+) -> Result<Edit, NoMemory>
+    ensures edit { IfOk result (λ edit. edit ≡ edit_for (texts_at (rows_of walker.old) tags.now (T.stopped t.old)) (T.stopped t.old) request.now) }
+    ensures walker { walker.new ≡ walker.old }
+    ensures same { T.stopped t.new ≡ T.stopped t.old }
+    ensures rest { T.around t.new ≡ T.around t.old }
+{
+    match answered(alloc, t, walker, tags, request)? {
+        Some(edit) => Ok(edit),
+        None => rewritten(alloc, t, walker, tags, request),
+    }
+}
+
+/// The answer of getcwd(2), or of readlinkat(2) of a link of the process directory.
+fn answered<T: Tracee>(
+    alloc: Global,
+    t: &mut T,
+    walker: &mut Walker,
+    tags: &Tags,
+    request: &Request,
+) -> Result<Option<Edit>, NoMemory>
+    ensures edit { IfOk result (λ edit. edit ≡ answered (texts_at (rows_of walker.old) tags.now (T.stopped t.old)) (T.stopped t.old) request.now) }
+    ensures walker { walker.new ≡ walker.old }
+    ensures same { T.stopped t.new ≡ T.stopped t.old }
+    ensures rest { T.around t.new ≡ T.around t.old }
+{
+    let pid = t.pid();
+    match request {
+        Request::Getcwd { buf, size } => {
+            let edit = cwd_answer(alloc, t, walker, tags, pid, *size, *buf)?;
+            Ok(Some(edit))
+        }
+        Request::Readlinkat { .. } => link_answer(alloc, t, walker, tags, pid, request),
+        _ => Ok(None),
+    }
+}
+
+/// What becomes of execve(2): where its path can be swapped its lists are read, and its scripts are expanded.
+fn plan_execve<T: Tracee>(
+    alloc: Global,
+    t: &mut T,
+    walker: &mut Walker,
+    tags: &Tags,
+    request: &Request,
+    path: &[u8],
+    lists: ListAddresses,
+) -> Result<Plan, NoMemory>
+    ensures plan { IfOk result (λ plan. (plan, T.stopped t.new) ≡ execve_plan (rows_of walker.old) tags.now (T.stopped t.old) request.now path.now lists) }
+    ensures walker { walker.new ≡ walker.old }
+    ensures edits { IsEdited (T.stopped t.old) (T.stopped t.new) }
+    ensures rest { T.around t.new ≡ T.around t.old }
+{
+    let _pid = t.pid();
+    let edit = rewritten(alloc, t, walker, tags, request)?;
+    if !is_swap(&edit) {
+        return Ok(Plan { edit, led: NOWHERE });
+    }
+    let led = led_of(alloc, t, walker, tags, request)?;
+    match read_lists(alloc, t, lists.args, lists.env) {
+        Ok(handed) => expand_with(alloc, t, walker, tags, edit, path, lists.args, handed),
+        Err(CallFault::Err(_)) => Ok(Plan { edit, led }),
+        Err(CallFault::NoMemory) => Err(NoMemory),
+    }
+}
+
+/// Whether a call is shown to the kernel with other texts.
+fn is_swap(edit: &Edit) -> bool
+    ensures { result ≡ is_swap edit.now }
+{
+    match edit {
+        Edit::Swap { .. } => true,
+        Edit::Pass | Edit::Cancel(_) | Edit::Emulate { .. } => false,
+    }
+}
+
+/// What becomes of a program, once its lists were read: a script is shown as the program that runs it.
+fn expand_with<T: Tracee>(
+    alloc: Global,
+    t: &mut T,
+    walker: &mut Walker,
+    tags: &Tags,
+    edit: Edit,
+    path: &[u8],
+    args: u64,
+    handed: Handed,
+) -> Result<Plan, NoMemory>
+    requires room { 65536 ≤ stack_at (T.stopped t.old) }
+    requires few { length handed.args ≤ 4096 }
+    ensures plan { IfOk result (λ plan. (plan, T.stopped t.new) ≡ expand_with (rows_of walker.old) tags.now edit path.now args handed (T.stopped t.old)) }
+    ensures walker { walker.new ≡ walker.old }
+    ensures edits { IsEdited (T.stopped t.old) (T.stopped t.new) }
+    ensures rest { T.around t.new ≡ T.around t.old }
+{
+    let _pid = t.pid();
+    let kept = handed.args.len().saturating_sub(1);
+    match expanded(alloc, t, walker, tags, path, handed) {
+        Ok(program) if program.scripts == 0 => Ok(Plan {
+            edit,
+            led: led_in(program.index),
+        }),
+        Ok(program) => plan_script(alloc, t, args, kept, program),
+        Err(WalkErr::Err(errno)) => Ok(cancelled(errno)),
+        Err(WalkErr::NoMemory) => Err(NoMemory),
+    }
+}
+
+/// The program that runs in the end, and its arguments.
+fn expanded<T: Tracee>(
+    alloc: Global,
+    t: &mut T,
+    walker: &mut Walker,
+    tags: &Tags,
+    path: &[u8],
+    handed: Handed,
+) -> Result<Expanded, WalkErr>
+    ensures answer { IsAnswer (expanded_at (texts_at (rows_of walker.old) tags.now (T.stopped t.old)) (T.stopped t.old).pid handed.env_bytes path.now handed.args) result }
+    ensures walker { walker.new ≡ walker.old }
+    ensures same { T.stopped t.new ≡ T.stopped t.old }
+    ensures rest { T.around t.new ≡ T.around t.old }
+{
+    let pid = t.pid();
+    let Handed { args, env_bytes } = handed;
+    expand(alloc, t, walker, tags, pid, path, args, env_bytes)
+}
+
+/// A program that belongs to a binding of this index.
+fn led_in(index: u32) -> Led
+    ensures { result ≡ led_in index }
+{
+    Led {
+        index,
+        at_root: false,
+    }
+}
+
+/// A call that answers an error.
+fn cancelled(errno: Errno) -> Plan
+    ensures { result ≡ cancelled errno }
+{
+    Plan {
+        edit: Edit::Cancel(errno),
+        led: NOWHERE,
+    }
+}
+
+/// What becomes of a script, where `kept` of its caller's arguments are kept.
+fn plan_script<T: Tracee>(
+    alloc: Global,
+    t: &mut T,
+    args: u64,
+    kept: usize,
+    program: Expanded,
+) -> Result<Plan, NoMemory>
+    requires room { 65536 ≤ stack_at (T.stopped t.old) }
+    requires few { kept ≤ 4096 }
+    ensures plan { IfOk result (λ plan. (plan, T.stopped t.new) ≡ script_plan (T.stopped t.old) args kept program) }
+    ensures edits { IsEdited (T.stopped t.old) (T.stopped t.new) }
+    ensures rest { T.around t.new ≡ T.around t.old }
+{
+    let _pid = t.pid();
+    let sp = t.reg(STACK);
+    let addresses = match addresses_behind(alloc, t, args, kept) {
+        Ok(addresses) => addresses,
+        Err(CallFault::Err(errno)) => return Ok(cancelled(errno)),
+        Err(CallFault::NoMemory) => return Err(NoMemory),
+    };
+    let Expanded {
+        host,
+        index,
+        args,
+        ..
+    } = program;
+    let edit = script_edit(alloc, sp, host, args, kept, addresses.as_slice())?;
+    Ok(Plan {
+        edit,
+        led: led_in(index),
+    })
+}

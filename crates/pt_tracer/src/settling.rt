@@ -1,0 +1,155 @@
+//! The second stop of a call.
+ghost use Rattle.std.specs.Prelude.{◌≡◌, OnOk, Some};
+ghost use Rattle.pt_faker.specs.Stopping.{IsEdited};
+ghost use Rattle.pt_bind.specs.Tags.{with_tag};
+ghost use Rattle.pt_bind.specs.declared.slot.Slot.TheVariants.{Exe};
+ghost use Rattle.pt_results.specs.Notes.{noted, tags_after};
+ghost use Rattle.pt_tracer.specs.Answering.{BeginsAs, BeginsBy};
+ghost use Rattle.pt_tracer.specs.Watched.{answer_at, has_begun, is_execve, returned, shown_due, shown_to};
+
+use crate::pending::Pending;
+use crate::registers::{A0, set};
+use pr_base::NoMemory;
+use pt_bind::Tags;
+use pt_faker::below::{Identities, User};
+use pt_faker::memory::show_owner;
+use pt_faker::registers::{STACK, forgive, has_answered_zero};
+use pt_faker::{Due, Tracee, due_of, show_identity};
+use pt_results::below::Request;
+use pt_results::note_result;
+
+/// Whether a new program has begun in place of the caller's.
+pub(crate) fn has_begun<T: Tracee>(call: &Pending, t: &T) -> bool
+    ensures { result ≡ has_begun call.now (T.stopped t.now) }
+{
+    is_execve(&call.request) && call.answer.is_none() && has_answered_zero(t)
+}
+
+fn is_execve(request: &Request) -> bool
+    ensures { result ≡ is_execve request.now }
+{
+    match request {
+        Request::Execve { .. } => true,
+        _ => false,
+    }
+}
+
+/// The executable of a process that begins a new program has the tag of its file, and the process is told who it is. After want of memory
+/// all of it may only be dropped.
+pub(crate) fn begin<T: Tracee>(
+    t: &mut T,
+    tags: &mut Tags,
+    identities: &mut Option<Identities>,
+    index: u32,
+) -> Result<(), NoMemory>
+    ensures tags { OnOk result (tags.new ≡ with_tag tags.old (T.stopped t.old).pid Exe index) }
+    ensures begins { OnOk result (BeginsAs identities.old (T.stopped t.old) identities.new (T.stopped t.new)) }
+    ensures edits { IsEdited (T.stopped t.old) (T.stopped t.new) }
+    ensures rest { T.around t.new ≡ T.around t.old }
+{
+    let pid = t.pid();
+    tags.set_exe(pid, index)?;
+    match identities {
+        Some(table) => begin_by(t, table),
+        None => Ok(()),
+    }
+}
+
+/// The effective numbers of a process that begins a new program are saved, and stand in its auxiliary vector.
+fn begin_by<T: Tracee>(t: &mut T, table: &mut Identities) -> Result<(), NoMemory>
+    ensures begins { OnOk result (BeginsBy table.old (T.stopped t.old) table.new (T.stopped t.new)) }
+    ensures edits { IsEdited (T.stopped t.old) (T.stopped t.new) }
+    ensures rest { T.around t.new ≡ T.around t.old }
+{
+    let pid = t.pid();
+    let mut ids = table.take(pid)?;
+    ids.after_exec();
+    let stack = t.reg(STACK);
+    show_identity(t, &ids, stack)?;
+    table.keep(pid, ids)?;
+    Ok(())
+}
+
+/// Gives a caller its registers back with the answer, notes the tags of what the call made, and shows the host user as another where
+/// there are identities. After want of memory all of it may only be dropped.
+pub(crate) fn give_back<T: Tracee>(
+    t: &mut T,
+    tags: &mut Tags,
+    user: User,
+    identities: &Option<Identities>,
+    call: &Pending,
+) -> Result<(), NoMemory>
+    ensures tags { OnOk result (tags.new ≡ tags_after tags.old (T.stopped t.old).pid (noted call.now.request call.now.led.index (answer_at (returned call.now (T.stopped t.old))))) }
+    ensures shown { OnOk result (T.stopped t.new ≡ shown_to user identities.now call.now (returned call.now (T.stopped t.old))) }
+    ensures edits { IsEdited (T.stopped t.old) (T.stopped t.new) }
+    ensures rest { T.around t.new ≡ T.around t.old }
+{
+    let pid = t.pid();
+    return_registers(t, call);
+    let answer = t.reg(A0).cast_signed();
+    note_result(tags, pid, &call.request, call.led.index, answer)?;
+    match identities {
+        Some(table) => show_due(t, user, table, call),
+        None => Ok(()),
+    }
+}
+
+/// The registers are as before the first stop, and the answer is told.
+fn return_registers<T: Tracee>(t: &mut T, call: &Pending)
+    ensures returned { T.stopped t.new ≡ returned call.now (T.stopped t.old) }
+    ensures edits { IsEdited (T.stopped t.old) (T.stopped t.new) }
+    ensures rest { T.around t.new ≡ T.around t.old }
+{
+    let _pid = t.pid();
+    call.passed.give_back(t);
+    match call.answer {
+        Some(answer) => set(t, A0, answer.cast_unsigned()),
+        None => {}
+    }
+}
+
+/// What is edited of an answer for whoever believes in another identity.
+fn show_due<T: Tracee>(
+    t: &mut T,
+    user: User,
+    table: &Identities,
+    call: &Pending,
+) -> Result<(), NoMemory>
+    ensures shown { OnOk result (T.stopped t.new ≡ shown_to user (Some table.now) call.now (T.stopped t.old)) }
+    ensures edits { IsEdited (T.stopped t.old) (T.stopped t.new) }
+    ensures rest { T.around t.new ≡ T.around t.old }
+{
+    let _pid = t.pid();
+    let (uid, _) = table.start();
+    match due_of(uid == 0, &call.request) {
+        Some(due) => show(t, user, table, call.led.at_root, due),
+        None => Ok(()),
+    }
+}
+
+/// The same by what is due.
+fn show<T: Tracee>(
+    t: &mut T,
+    user: User,
+    table: &Identities,
+    at_root: bool,
+    due: Due,
+) -> Result<(), NoMemory>
+    ensures shown { OnOk result (T.stopped t.new ≡ shown_due user table.now at_root (Some due) (T.stopped t.old)) }
+    ensures edits { IsEdited (T.stopped t.old) (T.stopped t.new) }
+    ensures rest { T.around t.new ≡ T.around t.old }
+{
+    let _pid = t.pid();
+    match due {
+        Due::ForgivesOwner => {
+            forgive(t, true);
+            Ok(())
+        }
+        Due::ForgivesRoot => {
+            forgive(t, at_root);
+            Ok(())
+        }
+        Due::ShowsOwner { at } if has_answered_zero(t) => show_owner(t, user, table.start(), at),
+        Due::ShowsOwner { .. } | Due::Tells { .. } | Due::BeginsProgram => Ok(()),
+    }
+}

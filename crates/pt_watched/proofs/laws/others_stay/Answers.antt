@@ -1,5 +1,0 @@
-use Rattle.pt_watched.proofs.TracerLemmas.{others_stay}
-use Rattle.pt_watched.proofs.laws.others_stay.Goals as goal
-
-pub returns : goal.returns
-returns c = others_stay

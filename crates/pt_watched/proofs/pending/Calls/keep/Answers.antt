@@ -1,5 +1,0 @@
-use Rattle.pr_base.proofs.BTreeLemmas.{inserted}
-use Rattle.pt_watched.proofs.pending.Calls.keep.Goals as goal
-
-pub returns : goal.returns
-returns c = inserted c.self.inside.kept c.insert.new.self c.args.self.now c.args.pid c.args.pending c.self.view_is c.in_ok-insert.ensures.updates

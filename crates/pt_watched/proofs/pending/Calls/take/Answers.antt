@@ -1,9 +1,0 @@
-use Rattle.std.proofs.Common.{◌∙◌}
-use Rattle.pr_base.proofs.BTreeLemmas.{get-view, removed}
-use Rattle.pt_watched.proofs.pending.Calls.take.Goals as goal
-
-pub returns-clause-call : goal.returns-clause-call
-returns-clause-call c = c.remove.ensures.value ∙ get-view c.self.inside.kept.entries c.args.self.now c.args.pid c.self.view_is
-
-pub returns-clause-taken : goal.returns-clause-taken
-returns-clause-taken c = removed c.self.inside.kept c.remove.new.self c.args.self.now c.args.pid c.self.view_is c.remove.ensures.updates

@@ -1,5 +1,0 @@
-use Rattle.std.proofs.Common.{length}
-use Rattle.pt_watched.proofs.script.+room_behind.Given as goal
-
-abbrev pub decreases-room_behind : goal.decreases-room_behind
-decreases-room_behind l = length l.texts.now
