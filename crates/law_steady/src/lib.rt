@@ -1,0 +1,27 @@
+//! Walks that look up no name in the process directory, the *steady* ones: where the tree keeps its shape, they stay what they are.
+//!
+//! What is proved, with the law that carries it:
+//!
+//! Laws alone, and no code. The shape of a tree is what can be reached from its root: names, inode numbers, kinds, texts of links, modes, owners
+//! and groups, and neither the bytes of files nor what the process directory holds.
+//!
+//! A host walk that is steady is the same, look by look, in every state with that shape and that user, whoever asks, and steady there
+//! (`steady_walks_last`); so is what a tracer is told of the host path: its kind, which is no link of the process directory, the text of a link,
+//! and the first bytes where the bytes of files stay too (`steady_peeks_last`).
+//!
+//! Text walks over two answerers are one where both tell the same of each host path at which the one looks (`text_walks_agree`). So a key, which
+//! is a base, a path and a mode, whose text walk looks at steady host paths alone has the same walk and the same answer of a tracer's walker in
+//! every such state, whatever the tags, and stays such a key (`steady_keys_last`). In front of a steady host path all is steady: the directory
+//! above it, and that directory looked up in itself (`fronts_are_steady`).
+//!
+//! A directory has the same host name in trees of one shape, and so has what a slot holds as long as it is a directory in both or in neither
+//! (`host_names_last`).
+//!
+//! Of any walk: two ways of looking that show the same at each look of one walk give that walk both (`walks_agree`), and what the looks of a walk
+//! keep holds all along it (`walks_keep`).
+//!
+//! Not shown: which calls leave the shape, and that nothing else tells it; the reads of the first bytes for scripts, and names of descriptors, are
+//! no part of a key.
+#![tactic(auto)]
+
+pub mod laws;
