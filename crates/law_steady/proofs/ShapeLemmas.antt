@@ -24,7 +24,7 @@ blind_processes (RegularFile bytes) = refl
 blind_processes (SymbolicLink text) = refl
 blind_processes (ProcessDirectory standing) = refl
 
-blind_entries : IsBlind entries_of
+pub blind_entries : IsBlind entries_of
 blind_entries (Directory entries standing) = refl
 blind_entries (RegularFile bytes) = refl
 blind_entries (SymbolicLink text) = refl
@@ -58,7 +58,7 @@ module _ (t u : Tree) (i : ℕ) (same : option_map without_bytes (node u i) ≡ 
   same_may user right =
       told (λ o. option_map_or (λ n. allows user n right) (option_map (λ x. x.node) o) false) (λ o. option_map_or (λ n. allows user n right) o false) refl (λ x. refl)
 
-  same_entries : entries u i ≡ entries t i
+  pub same_entries : entries u i ≡ entries t i
   same_entries = told (λ o. option_map_or (λ x. entries_of x.node.body) o []) (λ o. option_map_or (λ n. entries_of n.body) o []) refl (λ x. sym (blind_entries x.node.body))
 
   pub same_entry : (name : List ℕ) → entry u i name ≡ entry t i name

@@ -10,3 +10,4 @@ pub mod Steady
 pub mod TextSteady
 pub mod NamesLast
 pub mod Fronts
+pub mod Exact

@@ -1,5 +1,6 @@
 //! Laws of steady walks, each carried by a function that does nothing.
 ghost use Rattle.law_steady.specs.Agree.{WalksAgree};
+ghost use Rattle.law_steady.specs.Exact.{LessIsTold, NamesAreTexts, ShapeIsTold};
 ghost use Rattle.law_steady.specs.Fronts.{FrontsAreSteady};
 ghost use Rattle.law_steady.specs.Kept.{WalksKeep};
 ghost use Rattle.law_steady.specs.NamesLast.{HostNamesLast};
@@ -62,4 +63,19 @@ pub fn host_names_last<M, N, X, Y>()
 /// The directory above a steady host path is steady, by its own text and looked up in itself.
 pub fn fronts_are_steady<M, X>()
     ensures { FrontsAreSteady M X }
+{}
+
+/// An inode has a name exactly where a text names it.
+pub fn names_are_texts()
+    ensures { NamesAreTexts }
+{}
+
+/// A change that can be made leaves the shape of the tree exactly where it isn't told to alter it.
+pub fn shape_is_told<M>()
+    ensures { ShapeIsTold M }
+{}
+
+/// What no change of its kind alters isn't told to be altered.
+pub fn less_is_told()
+    ensures { LessIsTold }
 {}

@@ -20,8 +20,11 @@
 //! Of any walk: two ways of looking that show the same at each look of one walk give that walk both (`walks_agree`), and what the looks of a walk
 //! keep holds all along it (`walks_keep`).
 //!
-//! Not shown: which calls leave the shape, and that nothing else tells it; the reads of the first bytes for scripts, and names of descriptors, are
-//! no part of a key.
+//! Which changes alter the shape is told exactly, both ways: `shape_is_told` of each change that can be made, where a mode or an owner is set only
+//! on what has a name and has other numbers, and a name is moved only to where it doesn't stand for the same. An inode has a name exactly where a
+//! text names it (`names_are_texts`), and no more is told than of the kind of a change (`less_is_told`).
+//!
+//! Not shown: which calls make such changes. The reads of the first bytes for scripts, and names of descriptors, are no part of a key.
 #![tactic(auto)]
 
 pub mod laws;
