@@ -1,4 +1,4 @@
-//! Tests of tables of bindings, of tags, and of walks over guest texts.
+//! Tests of tables of bindings, of tags, of walks over guest texts, and of remembered owners.
 //!
 //! # `tables`, `tags`, `bindings`, `texts`
 //!
@@ -7,6 +7,8 @@
 
 #[cfg(test)]
 mod bindings;
+#[cfg(test)]
+mod owners;
 pub mod tables;
 #[cfg(test)]
 mod tags;

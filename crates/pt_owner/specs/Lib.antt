@@ -1,0 +1,2 @@
+pub use Rattle.pr_base.specs as pr_base
+pub mod Owners

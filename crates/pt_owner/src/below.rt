@@ -1,0 +1,2 @@
+//! The crates below, by which those above name them.
+pub use pr_base;
