@@ -4,13 +4,13 @@ use Rattle.law_machines.specs.Asking.{AreOfBytes}
 use Rattle.law_machines.specs.Given.{GivenIsOpening}
 use Rattle.law_machines.proofs.GrownLemmas.{settled-trees-have-bytes}
 use Rattle.law_machines.proofs.GivenOpeningLemmas.{settled-is-opening}
-use Rattle.law_machines.proofs.SourceLemmas.{told-has-options}
+use Rattle.law_machines.proofs.SourceLemmas.{read-has-options}
 use Rattle.pr_top.specs.pr_words.Sound.{AreSound}
 use Rattle.law_machines.proofs.WordLemmas.{asked-are-sound, asked-are-of-bytes}
 
 pub given-is-opening : GivenIsOpening
 given-is-opening words tree elf input o a table given =
-    let options = told-has-options o tree elf input a given.tells in
+    let options = read-has-options o tree elf input a given.gives in
     let are : AreOfBytes a.options = subst AreOfBytes (sym options) (asked-are-of-bytes words o given.word_bytes given.asks) in
     let sound : AreSound a.options = subst AreSound (sym options) (asked-are-sound words o given.asks) in
     let bytes = settled-trees-have-bytes a.tree a.user a.options.root a.options.binds given.read.kept.bytes are.binds in

@@ -8,7 +8,7 @@ use Rattle.law_starts.specs.kr_turns.Turn.{Machine}
 use Rattle.pr_top.specs.pr_sources.declared.answer.Answer.{Answer}
 use Rattle.pr_top.specs.pr_run.Report.{report_of}
 use Rattle.pr_top.specs.pr_sources.declared.reading.Asked.{Asked}
-use Rattle.pr_top.specs.pr_sources.Within.{Stage, and_then}
+use Rattle.pr_top.specs.pr_sources.Within.{and_then}
 use Rattle.pr_top.specs.pr_words.declared.options.Options.{Options}
 use Rattle.law_starts.specs.pr_start.Beginning.{beginning}
 use Rattle.law_starts.specs.pr_start.TracedBeginning.{traced_beginning}
@@ -17,7 +17,7 @@ use Rattle.law_starts.specs.pt_tracer.Watched.{Tracing}
 use Rattle.law_starts.specs.Starts.{beginning_reach}
 use Rattle.law_starts.specs.law_turns.Runs.{ComeAlike}
 use Rattle.law_machines.specs.Given.{CanBegin, settled_in}
-use Rattle.law_machines.proofs.SourceLemmas.{told-has-options}
+use Rattle.law_machines.proofs.SourceLemmas.{read-has-options}
 use Rattle.law_machines.proofs.GivenLemmas.{given-is-opening}
 use Rattle.law_machines.specs.Agreeing.{CanBeTold, IsToldToo, MachinesAgree, mounted, traced as traced_run}
 use Rattle.law_machines.specs.FakedAgreeing.{FakedMachinesAgree, IsToldFaked}
@@ -51,11 +51,11 @@ same_asked a traced = λ i. record {
 }
 
 pub words_begin_traced : WordsBeginTraced
-words_begin_traced words tree elf input o a asks tells alone plainly =
-    ap (λ (r : Result Options Answer). and_then (Some r) (λ options. opened_for options.case options tree elf input)) asks
+words_begin_traced words tree elf input o a asks gives alone plainly =
+    ap (λ (r : Result Options Answer). and_then r (λ options. opened_for options.case options tree elf input)) asks
     ∙ ap (λ case. opened_for case o tree elf input) alone
-    ∙ ap (λ (stage : Stage Asked). and_then stage (λ asked. Some (begun asked))) tells
-    ∙ ap (λ a. Some (begun a)) (sym (same_asked a (ap (λ (o : Options). o.native) (told-has-options o tree elf input a tells) ∙ plainly)))
+    ∙ ap (λ (r : Result Asked Answer). and_then r (λ asked. begun asked)) gives
+    ∙ ap begun (sym (same_asked a (ap (λ (o : Options). o.native) (read-has-options o tree elf input a gives) ∙ plainly)))
 
 -- ---- both machines
 

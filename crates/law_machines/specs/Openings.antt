@@ -1,12 +1,12 @@
 -- The same words and sources on both machines: what they begin with a tracer is told as what they begin over mounts.
-use Rattle.std.specs.Prelude.{◌≡◌, ℕ, Bool, true, false, List, Option, Some, None, Result, Ok, Err}
+use Rattle.std.specs.Prelude.{◌≡◌, ℕ, Bool, true, false, List, None, Result, Ok, Err}
 use Rattle.law_starts.specs.kr_calm.Calm.{broken_at_start}
 use Rattle.pr_top.specs.kr_mounts.MountTable.{Refusal}
 use Rattle.pr_top.specs.kr_view.View.{Row}
 use Rattle.pr_top.specs.pr_sources.declared.answer.Answer.{Answer}
 use Rattle.pr_top.specs.pr_run.declared.plan.Plan.{Plan}
 use Rattle.pr_top.specs.pr_sources.Asking.{asked}
-use Rattle.pr_top.specs.pr_sources.Reading.{told_asked}
+use Rattle.pr_top.specs.pr_sources.Reading.{read_asked}
 use Rattle.pr_top.specs.pr_sources.declared.reading.Asked.{Asked}
 use Rattle.pr_top.specs.pr_words.declared.options.Options.{Options}
 use Rattle.law_starts.specs.Starts.{beginning_reach}
@@ -44,8 +44,8 @@ with_tracer a = begun (asked_on false a)
 -- words that ask for no generated case, and not for mounts, begin with a tracer
 abbrev pub WordsBeginTraced : Type 0
 WordsBeginTraced =
-    (words : List (List ℕ)) (tree elf input : Option (List ℕ)) (o : Options) (a : Asked) → asked words ≡ Ok o → told_asked o tree elf input ≡ Some (Ok a) → o.case ≡ None → o.native ≡ false
-    → opening words tree elf input ≡ Some (with_tracer a)
+    (words : List (List ℕ)) (tree elf input : List ℕ) (o : Options) (a : Asked) → asked words ≡ Ok o → read_asked o tree elf input ≡ Ok a → o.case ≡ None → o.native ≡ false
+    → opening words tree elf input ≡ with_tracer a
 
 -- ---- what is told of them
 
@@ -71,5 +71,5 @@ RefusalsAgree = (a : Asked) (refusal : Refusal) → (settled_in a).answer ≡ Er
 -- where words are bytes, the sources were read and the bindings settle, and it isn't asked whether the run was calm
 abbrev pub OpeningsAgree : Type 0
 OpeningsAgree =
-    (words : List (List ℕ)) (tree elf input : Option (List ℕ)) (o : Options) (a : Asked) (table : List Row) → AreGiven words tree elf input o a table → a.options.calm ≡ false
+    (words : List (List ℕ)) (tree elf input : List ℕ) (o : Options) (a : Asked) (table : List Row) → AreGiven words tree elf input o a table → a.options.calm ≡ false
     → IsToldAlike a table (over_mounts a) (with_tracer a)

@@ -1,4 +1,5 @@
 pub mod ReportLemmas
+pub mod TellingLemmas
 pub mod TopLemmas
 pub mod WordLemmas
 pub mod HeadlineLemmas

@@ -1,21 +1,19 @@
 -- What an answer of a report says in the words of the top call.
-use Rattle.std.proofs.Common.{◌≡◌, ◌⊎◌, inl, inr, ℕ, Some, None, sym, subst, ◌∙◌, IfSome}
+use Rattle.std.proofs.Common.{◌≡◌, ◌⊎◌, inl, inr, ℕ, sym, subst, ◌∙◌}
 use Rattle.std.specs.Prelude.{Result, Ok, Err}
-use Rattle.std.specs.Io.KnownBytes.{Appends}
-use Rattle.pr_io.specs.Moves.{AppendsPrefix}
+use Rattle.pr_io.specs.Moves.{Gets, GetsPrefix}
 use Rattle.pr_sources.specs.declared.answer.Answer.{Answer}
 use Rattle.pr_sources.specs.declared.answer.Answer.TheVariants.{Ended, Deadlock, Spent, Usage, TooLong, TreeBad, BadBind, NoStart, ReadFault, WriteFault, NoMemory}
 use Rattle.pr_sources.specs.declared.answer.Which.{Which}
 use Rattle.pr_sources.specs.declared.answer.Which.TheVariants.{Tree as TreeSource, Elf, Input, Out, Err as ErrSink, Left}
 use Rattle.pr_sources.specs.Reading.{EndsBeforeInput}
-use Rattle.pr_sources.specs.Within.{Stage}
 use Rattle.law_machines.specs.pr_run.Report.{Deadlock as AllWait, Ending, Over, Report, Spent as NoTurnIsLeft, answer_of}
-use Rattle.law_machines.specs.pr_run.Puts.{AnswersReport, Got, PutsReport, PutsTurns, StopsBetween, StopsInCalm, StopsInErr, StopsInOut, answer_told, stop_answer}
+use Rattle.law_machines.specs.pr_run.Puts.{AnswersReport, PutsReport, PutsTurns, StopsBetween, StopsInCalm, StopsInErr, StopsInOut, answer_told, stop_answer}
 use Rattle.law_machines.specs.pr_run.declared.plan.Plan.{Plan}
 use Rattle.law_machines.specs.pr_run.declared.turns.Stop.{Stop}
 use Rattle.law_machines.specs.pr_run.declared.turns.Stop.TheVariants as stop
-use Rattle.law_machines.specs.pr_top.Opening.{Begun, Both, Mounts, Opens, Started, Traced, begun_told, mounted_run, report, report_on, started_told, traced_run}
-use Rattle.pr_call.specs.Promise.{ComesBeforeRun, EndsEarly, IsReported, Refuses, TellsOpening, TellsRun}
+use Rattle.law_machines.specs.pr_top.Opening.{Begun, Both, Mounts, OpensFrom, Started, Traced, begun_told, mounted_run, report, report_on, started_told, traced_run}
+use Rattle.pr_call.specs.Promise.{ComesBeforeRun, EndsEarly, IsReported, Passed, Refuses, TellsOpening, TellsRun}
 use Rattle.law_machines.specs.pr_top.declared.opening.Opened.{Opened}
 
 -- a report's own answer tells a run, on both machines
@@ -91,19 +89,20 @@ no-stop-input stop.Err e = absurd cc
 no-stop-input stop.Left e = absurd cc
 no-stop-input stop.NoMemory e = absurd cc
 
-module _ {rose_out rose_err rose_left : Type 0} (opened : Opened) {out out' err err' left left' : Got} {a : Answer} (answers : AnswersReport (report (begun_told opened)) rose_out rose_err rose_left out out' err err' left left' a) where
+module _ {rose_out rose_err rose_left : Type 0} (opened : Opened) (p : Passed) {a : Answer}
+    (answers : AnswersReport (report (begun_told opened)) rose_out rose_err rose_left p.out.before p.out.now p.err.before p.err.now p.left.before p.left.now a) where
   abbrev own : Report
   own = report (begun_told opened)
 
   abbrev Puts : Result Answer Stop → Type 0
-  Puts t = PutsReport own rose_out rose_err rose_left out out' err err' left left' t
+  Puts t = PutsReport own rose_out rose_err rose_left p.out.before p.out.now p.err.before p.err.now p.left.before p.left.now t
 
   own-tells : TellsRun own.answer
   own-tells = report-tells opened.plan (started_told opened.kind)
 
   none-of : (P : Answer → Type 0) → IsNone P own.answer → NoStop P → (t : Result Answer Stop) → Puts t → a ≡ answer_told t → P a → ⊥
-  none-of P no-answer no-stop (Ok answer) puts e p = no-answer (subst P (e ∙ puts.0) p)
-  none-of P no-answer no-stop (Err s) puts e p = no-stop s (subst P e p)
+  none-of P no-answer no-stop (Ok answer) puts e holds = no-answer (subst P (e ∙ puts.0) holds)
+  none-of P no-answer no-stop (Err s) puts e holds = no-stop s (subst P e holds)
 
   pub refuses-not : Refuses a → ⊥
   refuses-not = none-of Refuses (of-told (IsNone Refuses) (λ status p. p) (λ p. p) (λ p. p) own.answer own-tells) no-stop-refuses answers.told answers.puts answers.answer_is
@@ -132,7 +131,7 @@ module _ {rose_out rose_err rose_left : Type 0} (opened : Opened) {out out' err 
   answered-as (Ok answer) puts e = inl (e ∙ puts.0)
   answered-as (Err s) puts e = inr (subst EndsEarly (sym e) (stop-ends s))
 
-  put-as : (t : Result Answer Stop) → Puts t → a ≡ answer_told t → TellsRun a → PutsTurns own out out' err err' × Appends left left' own.left
+  put-as : (t : Result Answer Stop) → Puts t → a ≡ answer_told t → TellsRun a → PutsTurns own p.out.before p.out.now p.err.before p.err.now × Gets p.left.before p.left.now own.left
   put-as (Ok answer) puts e tells = (puts.1, puts.2)
   put-as (Err s) puts e tells = absurd (no-stop-tells s (subst TellsRun e tells))
 
@@ -140,35 +139,35 @@ module _ {rose_out rose_err rose_left : Type 0} (opened : Opened) {out out' err 
   no-fault : (b : Answer) → (TellsRun b → ⊥) → (answer : Answer) → answer ≡ own.answer → a ≡ answer → a ≡ b → ⊥
   no-fault b fails answer is e same = fails (subst TellsRun (sym (e ∙ is) ∙ same) own-tells)
 
-  in-out : (t : Result Answer Stop) → Puts t → a ≡ answer_told t → a ≡ WriteFault Out → StopsInOut own.puts out out' err err'
+  in-out : (t : Result Answer Stop) → Puts t → a ≡ answer_told t → a ≡ WriteFault Out → StopsInOut own.puts p.out.before p.out.now p.err.before p.err.now
   in-out (Ok answer) puts e is = absurd (no-fault (WriteFault Out) (λ p. p) answer puts.0 e is)
   in-out (Err stop.Out) puts e is = puts.1
   in-out (Err stop.Err) puts e is = absurd cc
   in-out (Err stop.Left) puts e is = absurd cc
   in-out (Err stop.NoMemory) puts e is = absurd cc
 
-  in-err : (t : Result Answer Stop) → Puts t → a ≡ answer_told t → a ≡ WriteFault ErrSink → StopsInErr own.puts out out' err err' ⊎ StopsInCalm own out out' err err'
+  in-err : (t : Result Answer Stop) → Puts t → a ≡ answer_told t → a ≡ WriteFault ErrSink → StopsInErr own.puts p.out.before p.out.now p.err.before p.err.now ⊎ StopsInCalm own p.out.before p.out.now p.err.before p.err.now
   in-err (Ok answer) puts e is = absurd (no-fault (WriteFault ErrSink) (λ p. p) answer puts.0 e is)
   in-err (Err stop.Out) puts e is = absurd cc
   in-err (Err stop.Err) puts e is = puts.1
   in-err (Err stop.Left) puts e is = absurd cc
   in-err (Err stop.NoMemory) puts e is = absurd cc
 
-  in-left : (t : Result Answer Stop) → Puts t → a ≡ answer_told t → a ≡ WriteFault Left → PutsTurns own out out' err err' × AppendsPrefix left left' own.left
+  in-left : (t : Result Answer Stop) → Puts t → a ≡ answer_told t → a ≡ WriteFault Left → PutsTurns own p.out.before p.out.now p.err.before p.err.now × GetsPrefix p.left.before p.left.now own.left
   in-left (Ok answer) puts e is = absurd (no-fault (WriteFault Left) (λ p. p) answer puts.0 e is)
   in-left (Err stop.Out) puts e is = absurd cc
   in-left (Err stop.Err) puts e is = absurd cc
   in-left (Err stop.Left) puts e is = (puts.1, puts.2)
   in-left (Err stop.NoMemory) puts e is = absurd cc
 
-  for-memory : (t : Result Answer Stop) → Puts t → a ≡ answer_told t → a ≡ NoMemory → StopsBetween own.puts out out' err err' ⊎ PutsTurns own out out' err err'
+  for-memory : (t : Result Answer Stop) → Puts t → a ≡ answer_told t → a ≡ NoMemory → StopsBetween own.puts p.out.before p.out.now p.err.before p.err.now ⊎ PutsTurns own p.out.before p.out.now p.err.before p.err.now
   for-memory (Ok answer) puts e is = absurd (no-fault NoMemory (λ p. p) answer puts.0 e is)
   for-memory (Err stop.Out) puts e is = absurd cc
   for-memory (Err stop.Err) puts e is = absurd cc
   for-memory (Err stop.Left) puts e is = absurd cc
   for-memory (Err stop.NoMemory) puts e is = puts.0
 
-  reported : IsReported own a out out' err err' left left'
+  reported : IsReported own p a
   reported = record {
     answered = answered-as answers.told answers.puts answers.answer_is;
     turns = λ tells. (put-as answers.told answers.puts answers.answer_is tells).0;
@@ -179,6 +178,5 @@ module _ {rose_out rose_err rose_left : Type 0} (opened : Opened) {out out' err 
     memory_stops = for-memory answers.told answers.puts answers.answer_is;
   }
 
-  pub run-told : (told : Stage Begun) → Opens told (Ok opened) → IfSome told (λ o. TellsOpening o a out out' err err' left left')
-  run-told None opens = tt
-  run-told (Some expected) opens = subst (λ o. TellsOpening o a out out' err err' left left') (sym opens) reported
+  pub run-told : (expected : Result Begun Answer) → OpensFrom expected (Ok opened) → TellsOpening expected p a
+  run-told expected opens = subst (λ o. TellsOpening o p a) (sym opens) reported

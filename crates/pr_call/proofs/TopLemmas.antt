@@ -1,22 +1,22 @@
 -- What the answer of an opening, and that of a report, say in the words of the top call.
-use Rattle.std.proofs.Common.{◌≡◌, ◌⊎◌, inl, inr, ℕ, List, Some, None, refl, sym, subst, ◌∙◌, IfSome}
-use Rattle.std.specs.Prelude.{Result, Ok, Err, IfOk}
-use Rattle.std.proofs.KnownBytes.{Appends-nil, Keeps-refl}
-use Rattle.pr_sources.specs.kr_inode.declared.user.User.{User}
-use Rattle.pr_sources.specs.kr_tree.Tree.{Tree}
+use Rattle.std.proofs.Common.{◌≡◌, ◌⊎◌, ◌∙◌, inl, inr, ℕ, List, [], refl, sym, subst}
+use Rattle.std.specs.Prelude.{Result, Ok, Err}
+use Rattle.std.proofs.lemmas.List.{append-nil}
+use Rattle.pr_io.specs.Drawn.{SinkFailed}
+use Rattle.pr_io.specs.Moves.{Gets, Stays}
 use Rattle.pr_sources.specs.pr_words.declared.options.Options.{Options}
 use Rattle.pr_sources.specs.declared.answer.Answer.{Answer}
 use Rattle.pr_sources.specs.declared.answer.Answer.TheVariants.{Ended, Deadlock, Spent, Usage, TooLong, TreeBad, BadBind, NoStart, ReadFault, WriteFault, NoMemory}
 use Rattle.pr_sources.specs.declared.answer.Which.{Which}
 use Rattle.pr_sources.specs.declared.answer.Which.TheVariants.{Tree as TreeSource, Elf, Input, Out, Err as ErrSink, Left}
-use Rattle.pr_sources.specs.Reading.{HasCause}
-use Rattle.pr_sources.specs.Within.{IsEarly, Stage}
+use Rattle.pr_sources.specs.Reading.{AllAreRead, HasCause, IsReadUpTo}
+use Rattle.pr_sources.specs.Within.{IsEarly}
 use Rattle.law_machines.specs.pr_run.Report.{Report}
-use Rattle.law_machines.specs.pr_run.Puts.{AnswersReport, Got, PutsReport, answer_told}
+use Rattle.law_machines.specs.pr_run.Puts.{AnswersReport, PutsReport, answer_told}
 use Rattle.law_machines.specs.pr_run.declared.turns.Stop.{Stop}
 use Rattle.law_machines.specs.pr_run.declared.turns.Stop.TheVariants as stop
-use Rattle.law_machines.specs.pr_top.Opening.{Begun, IsOfOpening, Opens, OpensFrom, begun_told, report}
-use Rattle.pr_call.specs.Promise.{ComesBeforeRun, EndsEarly, IsRefused, IsReported, Refuses, TellsOpening, TellsRun}
+use Rattle.law_machines.specs.pr_top.Opening.{Begun, IsOfOpening, OpensFrom, begun_told, report}
+use Rattle.pr_call.specs.Promise.{ComesBeforeRun, EndsEarly, IsAnswerOf, IsReadThrough, IsRefused, IsReported, NoneFailed, NothingIsPut, Passed, Refuses, TellsOpening, TellsRun}
 use Rattle.law_machines.specs.pr_top.declared.opening.Opened.{Opened}
 
 -- ---- kinds of answers
@@ -62,7 +62,7 @@ of-opening Deadlock is = absurd is
 of-opening Spent is = absurd is
 of-opening (WriteFault which) is = absurd is
 
-not-early : (a : Answer) → Refuses a → IsEarly a → ⊥
+pub not-early : (a : Answer) → Refuses a → IsEarly a → ⊥
 not-early NoMemory refuses early = refuses
 not-early (ReadFault which) refuses early = refuses
 not-early (Ended status) refuses early = early
@@ -80,9 +80,13 @@ no-write a which is e = subst IsOfOpening e is
 
 -- ---- an opening that is refused
 
+-- what stays gets no byte
+gets-none : (a b : List ℕ) → Stays a b → Gets a b []
+gets-none a b kept = kept ∙ sym (append-nil a)
+
 -- nothing is put then
-module _ (a : Answer) (is : IsOfOpening a) (out err left : Got) where
-  early-report : (told : Report) → IsEarly a → IsReported told a out out err err left left
+module _ (a : Answer) (is : IsOfOpening a) (p : Passed) (none : NothingIsPut p) where
+  early-report : (told : Report) → IsEarly a → IsReported told p a
   early-report told early = record {
     answered = inr (early-ends a early);
     turns = λ tells. absurd (not-told a is tells);
@@ -90,75 +94,108 @@ module _ (a : Answer) (is : IsOfOpening a) (out err left : Got) where
     out_stops = λ e. absurd (no-write a Out is e);
     err_stops = λ e. absurd (no-write a ErrSink is e);
     left_stops = λ e. absurd (no-write a Left is e);
-    memory_stops = λ e. inl (record { made = 0; out_got = Appends-nil out; err_got = inl (Appends-nil err) });
+    memory_stops = λ e. inl (record { made = 0; out_got = gets-none p.out.before p.out.now none.out_stays; err_got = inl (gets-none p.err.before p.err.now none.err_stays) });
   }
 
-  refused-as : (refusal : Answer) → (a ≡ refusal) ⊎ IsEarly a → IsRefused refusal a out out err err left left
-  refused-as refusal answered = record { answered = answered; kind = of-opening a is; out_kept = Keeps-refl out; err_kept = Keeps-refl err; left_kept = Keeps-refl left }
+  refused-as : (refusal : Answer) → (a ≡ refusal) ⊎ IsEarly a → IsRefused refusal p a
+  refused-as refusal answered = record { answered = answered; kind = of-opening a is; nothing = none }
 
-  pub opening-told : (expected : Result Begun Answer) → OpensFrom expected (Err a) → TellsOpening expected a out out err err left left
+  pub opening-told : (expected : Result Begun Answer) → OpensFrom expected (Err a) → TellsOpening expected p a
   opening-told (Ok b) (inl e) = absurd cc
   opening-told (Ok b) (inr early) = early-report (report b) early
   opening-told (Err r) (inl e) = refused-as r (inl (let same : r ≡ a = cc in sym same))
   opening-told (Err r) (inr early) = refused-as r (inr early)
 
-  pub refusal-told : (told : Stage Begun) → Opens told (Err a) → IfSome told (λ o. TellsOpening o a out out err err left left)
-  refusal-told None opens = tt
-  refusal-told (Some expected) opens = opening-told expected opens
+-- an early end is of an opening
+early-opening : (a : Answer) → IsEarly a → IsOfOpening a
+early-opening NoMemory early = tt
+early-opening (ReadFault which) early = tt
+early-opening (Ended status) early = absurd early
+early-opening Deadlock early = absurd early
+early-opening Spent early = absurd early
+early-opening (Usage word why) early = absurd early
+early-opening (TooLong which) early = absurd early
+early-opening (TreeBad line why) early = absurd early
+early-opening (BadBind index why) early = absurd early
+early-opening (NoStart errno) early = absurd early
+early-opening (WriteFault which) early = absurd early
 
-is-refusal : (a : Answer) (expected : Result Begun Answer) → Refuses a → OpensFrom expected (Err a) → expected ≡ Err a
-is-refusal a expected refuses (inl e) = e
-is-refusal a expected refuses (inr early) = absurd (not-early a refuses early)
+-- and may come in place of any
+pub early-told : (a : Answer) → IsEarly a → (p : Passed) → NothingIsPut p → (expected : Result Begun Answer) → TellsOpening expected p a
+early-told a early p none expected = opening-told a (early-opening a early) p none expected (inr early)
 
-pub refusal : (a : Answer) (told : Stage Begun) → Refuses a → Opens told (Err a) → IfSome told (λ o. o ≡ Err a)
-refusal a None refuses opens = tt
-refusal a (Some expected) refuses opens = is-refusal a expected refuses opens
+pub refusal : (a : Answer) (expected : Result Begun Answer) → Refuses a → OpensFrom expected (Err a) → expected ≡ Err a
+refusal a expected refuses (inl e) = e
+refusal a expected refuses (inr early) = absurd (not-early a refuses early)
 
--- without a fault only want of memory comes in place of a run
-module _ (words : Result Options Answer) (tree : Stage (List ℕ)) (listing : Stage (Tree × User)) (rose_tree rose_elf rose_input rose_out rose_err rose_left : Type 0) where
-  no-fault-left : (a : Answer) (P : Type 0) → IsEarly a → HasCause words tree listing rose_tree rose_elf rose_input a → (rose_tree → ⊥) → (rose_elf → ⊥) → (rose_input → ⊥) → P ⊎ (a ≡ NoMemory)
-  no-fault-left NoMemory P early cause t e i = inr refl
-  no-fault-left (ReadFault TreeSource) P early cause t e i = absurd (t cause.1)
-  no-fault-left (ReadFault Elf) P early cause t e i = absurd (e cause.1.1)
-  no-fault-left (ReadFault Input) P early cause t e i = absurd (i cause.1.1)
-  no-fault-left (ReadFault Out) P early cause t e i = absurd cause.1
-  no-fault-left (ReadFault ErrSink) P early cause t e i = absurd cause.1
-  no-fault-left (ReadFault Left) P early cause t e i = absurd cause.1
-  no-fault-left (Ended status) P early cause t e i = absurd early
-  no-fault-left Deadlock P early cause t e i = absurd early
-  no-fault-left Spent P early cause t e i = absurd early
-  no-fault-left (Usage word why) P early cause t e i = absurd early
-  no-fault-left (TooLong which) P early cause t e i = absurd early
-  no-fault-left (TreeBad line why) P early cause t e i = absurd early
-  no-fault-left (BadBind index why) P early cause t e i = absurd early
-  no-fault-left (NoStart errno) P early cause t e i = absurd early
-  no-fault-left (WriteFault which) P early cause t e i = absurd early
+-- ---- what was read to its end
 
-  abbrev Complete : Answer → Begun → Type 0
-  Complete a b = (rose_tree → ⊥) → (rose_elf → ⊥) → (rose_input → ⊥) → (rose_out → ⊥) → (rose_err → ⊥) → (rose_left → ⊥) → (a ≡ (report b).answer) ⊎ (a ≡ NoMemory)
+-- where nothing was put
+pub ends-refused : (p : Passed) → NothingIsPut p → (a : Answer) → IsReadUpTo p.sources a → IsReadThrough p a
+ends-refused p none NoMemory ends = inl none
+ends-refused p none (Usage word why) ends = ends
+ends-refused p none (TooLong which) ends = ends
+ends-refused p none (TreeBad line why) ends = ends
+ends-refused p none (BadBind index why) ends = ends
+ends-refused p none (NoStart errno) ends = ends
+ends-refused p none (ReadFault which) ends = ends
+ends-refused p none (WriteFault which) ends = ends
+ends-refused p none (Ended status) ends = ends
+ends-refused p none Deadlock ends = ends
+ends-refused p none Spent ends = ends
 
-  complete-as : (a : Answer) (expected : Result Begun Answer) → HasCause words tree listing rose_tree rose_elf rose_input a → OpensFrom expected (Err a) → IfOk expected (Complete a)
-  complete-as a (Ok b) cause (inl e) = absurd cc
-  complete-as a (Ok b) cause (inr early) = λ t e i out err left. no-fault-left a (a ≡ (report b).answer) early cause t e i
-  complete-as a (Err r) cause opens = tt
+-- a run comes behind all sources
+pub ends-told : (p : Passed) (a : Answer) → (ComesBeforeRun a → ⊥) → AllAreRead p.sources → IsReadThrough p a
+ends-told p NoMemory after all = inr all
+ends-told p (Usage word why) after all = absurd (after tt)
+ends-told p (TooLong which) after all = absurd (after tt)
+ends-told p (TreeBad line why) after all = absurd (after tt)
+ends-told p (BadBind index why) after all = all
+ends-told p (NoStart errno) after all = all
+ends-told p (ReadFault which) after all = absurd (after tt)
+ends-told p (WriteFault which) after all = all
+ends-told p (Ended status) after all = all
+ends-told p Deadlock after all = all
+ends-told p Spent after all = all
 
-  pub complete-refused : (a : Answer) (told : Stage Begun) → HasCause words tree listing rose_tree rose_elf rose_input a → Opens told (Err a) → IfSome told (λ o. IfOk o (Complete a))
-  complete-refused a None cause opens = tt
-  complete-refused a (Some expected) cause opens = complete-as a expected cause opens
+-- ---- without a fault
 
-  -- ---- a run that begins
+-- only want of memory comes in place of what is opened
+pub no-fault-left : (words : Result Options Answer) (p : Passed) (a : Answer) (P : Type 0) → IsEarly a → HasCause words p.sources a → NoneFailed p → P ⊎ (a ≡ NoMemory)
+no-fault-left words p NoMemory P early cause none = inr refl
+no-fault-left words p (ReadFault TreeSource) P early cause none = absurd (none.tree_works cause.1)
+no-fault-left words p (ReadFault Elf) P early cause none = absurd (none.elf_works cause.1.1)
+no-fault-left words p (ReadFault Input) P early cause none = absurd (none.input_works cause.1.1)
+no-fault-left words p (ReadFault Out) P early cause none = absurd cause.1
+no-fault-left words p (ReadFault ErrSink) P early cause none = absurd cause.1
+no-fault-left words p (ReadFault Left) P early cause none = absurd cause.1
+no-fault-left words p (Ended status) P early cause none = absurd early
+no-fault-left words p Deadlock P early cause none = absurd early
+no-fault-left words p Spent P early cause none = absurd early
+no-fault-left words p (Usage word why) P early cause none = absurd early
+no-fault-left words p (TooLong which) P early cause none = absurd early
+no-fault-left words p (TreeBad line why) P early cause none = absurd early
+no-fault-left words p (BadBind index why) P early cause none = absurd early
+no-fault-left words p (NoStart errno) P early cause none = absurd early
+no-fault-left words p (WriteFault which) P early cause none = absurd early
 
-  module _ (opened : Opened) (out out' err err' left left' : Got) (a : Answer) (answers : AnswersReport (report (begun_told opened)) rose_out rose_err rose_left out out' err err' left left' a) where
-    abbrev own : Report
-    own = report (begun_told opened)
+-- an opening that is refused
+pub complete-refused : (words : Result Options Answer) (p : Passed) (a : Answer) (expected : Result Begun Answer) → HasCause words p.sources a → OpensFrom expected (Err a) → NoneFailed p → IsAnswerOf expected a ⊎ (a ≡ NoMemory)
+complete-refused words p a expected cause (inl e) none = inl (subst (λ o. IsAnswerOf o a) (sym e) refl)
+complete-refused words p a expected cause (inr early) none = no-fault-left words p a (IsAnswerOf expected a) early cause none
 
-    complete-begun : (t : Result Answer Stop) → PutsReport own rose_out rose_err rose_left out out' err err' left left' t → a ≡ answer_told t → Complete a (begun_told opened)
-    complete-begun (Ok answer) puts e = λ t f i o r l. inl (e ∙ puts.0)
-    complete-begun (Err stop.Out) puts e = λ t f i o r l. absurd (o puts.0)
-    complete-begun (Err stop.Err) puts e = λ t f i o r l. absurd (r puts.0)
-    complete-begun (Err stop.Left) puts e = λ t f i o r l. absurd (l puts.0)
-    complete-begun (Err stop.NoMemory) puts e = λ t f i o r l. inr e
+-- a run that begins
+module _ (opened : Opened) (p : Passed) (none : NoneFailed p) (a : Answer) where
+  abbrev Puts : Result Answer Stop → Type 0
+  Puts t = PutsReport (report (begun_told opened)) (SinkFailed p.out) (SinkFailed p.err) (SinkFailed p.left) p.out.before p.out.now p.err.before p.err.now p.left.before p.left.now t
 
-    pub complete : (told : Stage Begun) → Opens told (Ok opened) → IfSome told (λ o. IfOk o (Complete a))
-    complete None opens = tt
-    complete (Some expected) opens = subst (λ o. IfOk o (Complete a)) (sym opens) (complete-begun answers.told answers.puts answers.answer_is)
+  complete-as : (t : Result Answer Stop) → Puts t → a ≡ answer_told t → IsAnswerOf (Ok (begun_told opened)) a ⊎ (a ≡ NoMemory)
+  complete-as (Ok answer) puts e = inl (e ∙ puts.0)
+  complete-as (Err stop.Out) puts e = absurd (none.out_works puts.0)
+  complete-as (Err stop.Err) puts e = absurd (none.err_works puts.0)
+  complete-as (Err stop.Left) puts e = absurd (none.left_works puts.0)
+  complete-as (Err stop.NoMemory) puts e = inr e
+
+  pub complete : AnswersReport (report (begun_told opened)) (SinkFailed p.out) (SinkFailed p.err) (SinkFailed p.left) p.out.before p.out.now p.err.before p.err.now p.left.before p.left.now a
+      → (expected : Result Begun Answer) → OpensFrom expected (Ok opened) → IsAnswerOf expected a ⊎ (a ≡ NoMemory)
+  complete answers expected opens = subst (λ o. IsAnswerOf o a ⊎ (a ≡ NoMemory)) (sym opens) (complete-as answers.told answers.puts answers.answer_is)

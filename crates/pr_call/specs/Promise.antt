@@ -1,14 +1,31 @@
--- The words in which the top call says what it answers, and what the sinks got.
-use Rattle.std.specs.Prelude.{◌≡◌, ◌⊎◌, Result, Ok, Err}
-use Rattle.std.specs.Io.KnownBytes.{Appends, Keeps}
-use Rattle.pr_io.specs.Moves.{AppendsPrefix}
+-- The words in which the top call says what it answers, what the sources gave, and what the sinks got.
+use Rattle.std.specs.Prelude.{◌≡◌, ◌⊎◌, ℕ, List, Result, Ok, Err}
+use Rattle.pr_io.specs.Drawn.{Drawn, Received, SinkFailed, SourceFailed, gave}
+use Rattle.pr_io.specs.Moves.{Gets, GetsPrefix, Stays}
 use Rattle.pr_sources.specs.declared.answer.Answer.{Answer}
 use Rattle.pr_sources.specs.declared.answer.Answer.TheVariants.{Ended, Deadlock, Spent, Usage, TooLong, TreeBad, BadBind, NoStart, ReadFault, WriteFault, NoMemory}
 use Rattle.pr_sources.specs.declared.answer.Which.TheVariants.{Out, Err as ErrSink, Left}
+use Rattle.pr_sources.specs.Reading.{AllAreRead, IsReadUpTo, Sources}
 use Rattle.pr_sources.specs.Within.{IsEarly}
 use Rattle.law_machines.specs.pr_run.Report.{Report}
-use Rattle.law_machines.specs.pr_run.Puts.{Got, PutsTurns, StopsBetween, StopsInCalm, StopsInErr, StopsInOut}
-use Rattle.law_machines.specs.pr_top.Opening.{Begun, report}
+use Rattle.law_machines.specs.pr_run.Puts.{PutsTurns, StopsBetween, StopsInCalm, StopsInErr, StopsInOut}
+use Rattle.law_machines.specs.pr_top.Opening.{Begun, opening, report}
+
+-- what passed in a call: what the sources gave, and what the sinks got
+pub record Passed : Type 0 where
+  pub sources : Sources
+  pub out : Received
+  pub err : Received
+  pub left : Received
+
+abbrev pub passed : Drawn → Drawn → Drawn → Received → Received → Received → Passed
+passed of_tree of_elf of_input to_out to_err to_left = record { sources = record { tree = of_tree; elf = of_elf; input = of_input }; out = to_out; err = to_err; left = to_left }
+
+-- what the words open, of the bytes that were given
+abbrev pub opened_by : List (List ℕ) → Sources → Result Begun Answer
+opened_by words s = opening words (gave s.tree) (gave s.elf) (gave s.input)
+
+-- ---- kinds of answers
 
 -- answers that tell a whole run
 abbrev pub TellsRun : Answer → Type 0
@@ -43,27 +60,62 @@ EndsEarly (ReadFault which) = Unit {0}
 EndsEarly (WriteFault which) = Unit {0}
 EndsEarly answer = ⊥
 
--- ---- what is answered and what the sinks got, which had `out`, `err` and `left`, and have `out'`, `err'` and `left'`
+-- ---- what is answered, and what the sinks got
+
+-- no sink got a byte
+pub record NothingIsPut (p : Passed) : Type 0 where
+  pub out_stays : Stays p.out.before p.out.now
+  pub err_stays : Stays p.err.before p.err.now
+  pub left_stays : Stays p.left.before p.left.now
 
 -- this report, whole; or want of memory or a fault, and what was put before it
-pub record IsReported (told : Report) (answer : Answer) (out out' err err' left left' : Got) : Type 0 where
+pub record IsReported (told : Report) (p : Passed) (answer : Answer) : Type 0 where
   pub answered : (answer ≡ told.answer) ⊎ EndsEarly answer
-  pub turns : TellsRun answer → PutsTurns told out out' err err'
-  pub listing : TellsRun answer → Appends left left' told.left
-  pub out_stops : answer ≡ WriteFault Out → StopsInOut told.puts out out' err err'
-  pub err_stops : answer ≡ WriteFault ErrSink → StopsInErr told.puts out out' err err' ⊎ StopsInCalm told out out' err err'
-  pub left_stops : answer ≡ WriteFault Left → PutsTurns told out out' err err' × AppendsPrefix left left' told.left
-  pub memory_stops : answer ≡ NoMemory → StopsBetween told.puts out out' err err' ⊎ PutsTurns told out out' err err'
+  pub turns : TellsRun answer → PutsTurns told p.out.before p.out.now p.err.before p.err.now
+  pub listing : TellsRun answer → Gets p.left.before p.left.now told.left
+  pub out_stops : answer ≡ WriteFault Out → StopsInOut told.puts p.out.before p.out.now p.err.before p.err.now
+  pub err_stops : answer ≡ WriteFault ErrSink → StopsInErr told.puts p.out.before p.out.now p.err.before p.err.now ⊎ StopsInCalm told p.out.before p.out.now p.err.before p.err.now
+  pub left_stops : answer ≡ WriteFault Left → PutsTurns told p.out.before p.out.now p.err.before p.err.now × GetsPrefix p.left.before p.left.now told.left
+  pub memory_stops : answer ≡ NoMemory → StopsBetween told.puts p.out.before p.out.now p.err.before p.err.now ⊎ PutsTurns told p.out.before p.out.now p.err.before p.err.now
 
 -- this refusal, or a fault of a source or want of memory, and nothing is put
-pub record IsRefused (refusal : Answer) (answer : Answer) (out out' err err' left left' : Got) : Type 0 where
+pub record IsRefused (refusal : Answer) (p : Passed) (answer : Answer) : Type 0 where
   pub answered : (answer ≡ refusal) ⊎ IsEarly answer
   pub kind : ComesBeforeRun answer ⊎ (answer ≡ NoMemory)
-  pub out_kept : Keeps out out'
-  pub err_kept : Keeps err err'
-  pub left_kept : Keeps left left'
+  pub nothing : NothingIsPut p
 
 -- what is opened is told: the report of the run that begins, or the refusal
-abbrev pub TellsOpening : Result Begun Answer → Answer → (out out' err err' left left' : Got) → Type 0
-TellsOpening (Ok b) answer out out' err err' left left' = IsReported (report b) answer out out' err err' left left'
-TellsOpening (Err refusal) answer out out' err err' left left' = IsRefused refusal answer out out' err err' left left'
+abbrev pub TellsOpening : Result Begun Answer → Passed → Answer → Type 0
+TellsOpening (Ok b) p answer = IsReported (report b) p answer
+TellsOpening (Err refusal) p answer = IsRefused refusal p answer
+
+-- what is told is that of what the bytes that were given open
+abbrev pub IsTold : List (List ℕ) → Passed → Answer → Type 0
+IsTold words p answer = TellsOpening (opened_by words p.sources) p answer
+
+-- ---- what was read to its end
+
+-- each source whose stage was passed; where memory runs out, all that a run needs once a sink got a byte
+abbrev pub IsReadThrough : Passed → Answer → Type 0
+IsReadThrough p NoMemory = NothingIsPut p ⊎ AllAreRead p.sources
+IsReadThrough p answer = IsReadUpTo p.sources answer
+
+-- ---- without a fault
+
+-- no count of faults rose
+pub record NoneFailed (p : Passed) : Type 0 where
+  pub tree_works : SourceFailed p.sources.tree → ⊥
+  pub elf_works : SourceFailed p.sources.elf → ⊥
+  pub input_works : SourceFailed p.sources.input → ⊥
+  pub out_works : SinkFailed p.out → ⊥
+  pub err_works : SinkFailed p.err → ⊥
+  pub left_works : SinkFailed p.left → ⊥
+
+-- the refusal, or the answer of the report
+abbrev pub IsAnswerOf : Result Begun Answer → Answer → Type 0
+IsAnswerOf (Ok b) answer = answer ≡ (report b).answer
+IsAnswerOf (Err refusal) answer = answer ≡ refusal
+
+-- then it is answered, want of memory aside
+abbrev pub IsComplete : List (List ℕ) → Passed → Answer → Type 0
+IsComplete words p answer = NoneFailed p → IsAnswerOf (opened_by words p.sources) answer ⊎ (answer ≡ NoMemory)

@@ -3,40 +3,45 @@
 //!
 //! What is proved, with the clause or the law that carries it:
 //!
-//! The public call. `proot` carries, for all words, sources and sinks, where the words are fewer than 2^32, the clauses below. `headline`,
-//! `opening`, `refusal` and `complete` speak of sources that tell their bytes, and so do `unwanted`, `unlisted`, `tree_end`, `elf_end` and
-//! `input_end`; what is said to be put, or not to be put, is said of sinks that tell theirs. A file of the system tells none, so of the program's
-//! own files these clauses say nothing; the others hold of them, too.
+//! The public call. `proot` carries, for all words, sources and sinks, where the words are fewer than 2^32, the clauses below. They speak of the
+//! bytes that the sources gave in this call and of those that the sinks got in it (`Passed`), whatever else these tell, so they hold of the files
+//! of the system, too. The file forms tell what the calls of the system gave and took (pr_io): what the system does with bytes that it took, and
+//! what it would have given, is its own matter.
 //!
-//! `opening`: what is opened is told (`TellsOpening`). Of a run the report of it is answered and put, or want of memory or a fault ends it
-//! earlier: after Ended, Deadlock and Spent the whole report was put, whatever failed; where a sink fails or memory is wanting, the sinks have
-//! what was put before, with a prefix of what failed (`IsReported`). Of a refusal the refusal is answered, or a fault of a source or want of
-//! memory, and nothing is put (`IsRefused`).
+//! `opening`: what the bytes that were given open is told (`TellsOpening`). Of a run the report of it is answered and put, or want of memory or a
+//! fault ends it earlier: after Ended, Deadlock and Spent the whole report was put, whatever failed; where a sink fails or memory is wanting, the
+//! sinks have what was put before, with a prefix of what failed (`IsReported`). Of a refusal the refusal is answered, or a fault of a source or
+//! want of memory, and nothing is put (`IsRefused`).
 //!
 //! `refusal`, `words`: a refusal that is answered is that of the opening, and of the words.
+//!
+//! `gives`, `ends`: what each source gave, and that each whose stage was passed was read to its end; one that is too long gave its limit and one
+//! byte (`IsReadThrough`).
 //!
 //! `out_untouched`, `err_untouched`, `left_untouched`: nothing is put before the run.
 //!
 //! `out_fault` to `left_fault`, `sinks`: a sink that fails is named as written to, and its count rose in this call; `out_leaves`, `err_leaves`,
 //! `no_memory_left`: no listing was put.
 //!
-//! `causes`, `before_tree` to `unlisted`, `tree_end` to `input_end`: the causes of faults of sources, what isn't touched, and what was read to
-//! its end; `case_sources`: with `--case` none is touched; `tree_takes` to `input_takes`: however it ends, a source that counts its calls was
-//! asked at most once more than its limit has bytes.
+//! `causes`, `before_sources` to `unlisted`: the causes of faults of sources, and what isn't touched; `case_sources`: with `--case` none is;
+//! `tree_takes` to `input_takes`: however it ends, a source that counts its calls was asked at most once more than its limit has bytes.
 //!
-//! `complete`: where the opening gives a run and no count rose, the run's answer comes, or want of memory.
+//! `complete`: where no count rose, the opening's refusal comes, or the answer of its run, or want of memory.
 //!
 //! With `--calm` the line is that of the first calm rule that the run broke, since it is part of the report.
 //!
-//! `headline`: where words ask for no generated case and not for mounts, and what the same words open over mounts (`over_mounts`) is calm
-//! (`OpensCalmly`), that is told, as what is opened is: the report of a run over mounts that breaks no calm rule; or the refusal, of bindings
+//! `headline`: where words ask for no generated case and not for mounts, and what the same words and bytes open over mounts (`over_mounts`) is
+//! calm (`OpensCalmly`), that is told, as what is opened is: the report of a run over mounts that breaks no calm rule; or the refusal, of bindings
 //! that don't settle or of a start whose walks break none.
+//!
+//! Where sources tell what they have left, all this holds of the opening of those bytes (`promises_hold_of_told`).
 //!
 //! Only tested, or not shown: That a run with ample memory doesn't answer NoMemory: `rows`; that each object's failing call gives the answer that
 //! names it: `top_tests`.
 #![tactic(auto)]
 
 pub mod below;
+pub mod laws;
 mod program;
 mod top;
 

@@ -1,11 +1,25 @@
--- What contracts see of a source and of a sink in memory that fail at listed calls.
-use Rattle.std.specs.Prelude.{ℕ, ◌≤◌, ◌++◌, List, min, take, drop, Option, Some, None}
+-- What contracts see of sources and sinks in memory.
+use Rattle.std.specs.Prelude.{ℕ, Bool, ◌≤◌, ◌++◌, List, min, take, drop, Option, Some, None}
 use Rattle.pr_io.specs.Faults.{raised}
+use Rattle.pr_io.specs.Moves.{ended_after}
 
--- a source in memory: the bytes that are left, the numbers of the calls that fail, how many calls were made, how
+-- bytes up to a place, and those that are left
+pub record Parted : Type 0 where
+  pub given : List ℕ
+  pub left : List ℕ
+
+-- a source that never fails: the bytes that it gave, those that are left, and whether the end was told
+pub record CleanState : Type 0 where
+  pub given : List ℕ
+  pub left : List ℕ
+  pub ended : Bool
+
+-- a source that fails at listed calls: the same, with the numbers of the calls that fail, how many calls were made, how
 -- many of them failed, and how many bytes a call gives at most, where that is limited
 pub record SourceState : Type 0 where
+  pub given : List ℕ
   pub left : List ℕ
+  pub ended : Bool
   pub failing : List ℕ
   pub calls : ℕ
   pub faults : ℕ
@@ -29,13 +43,21 @@ abbrev pub room_within : Option ℕ → ℕ → ℕ
 room_within None room = room
 room_within (Some step) room = min room step
 
+-- n bytes further
+abbrev pub further : Parted → ℕ → Parted
+further p n = record { given = p.given ++ take n p.left; left = drop n p.left }
+
+-- a source that never fails after a call with so much room that gave n bytes
+abbrev pub after_read : CleanState → ℕ → ℕ → CleanState
+after_read s room n = record { given = s.given ++ take n s.left; left = drop n s.left; ended = ended_after s.ended room n }
+
 -- the source after a call that failed
 abbrev pub failed_take : SourceState → SourceState
 failed_take s = record s { calls = raised s.calls; faults = raised s.faults }
 
--- the source after a call that gave n bytes
-abbrev pub after_take : SourceState → ℕ → SourceState
-after_take s n = record s { left = drop n s.left; calls = raised s.calls }
+-- the source after a call with so much room that gave n bytes
+abbrev pub after_take : SourceState → ℕ → ℕ → SourceState
+after_take s room n = record s { given = s.given ++ take n s.left; left = drop n s.left; ended = ended_after s.ended room n; calls = raised s.calls }
 
 -- the sink after a call that failed to take bs
 abbrev pub failed_put : SinkState → List ℕ → SinkState

@@ -2,10 +2,11 @@
 use Rattle.std.specs.Prelude.{ℕ, Bool, true, false, List, [], Option, Some, option_and_then}
 use Rattle.std.specs.Io.KnownBytes.{Keeps}
 
--- the writer, where there is one, the count of faults, and whether what stood there was taken away
+-- the writer, where there is one, the count of faults, all bytes that were taken, and whether what stood there was taken away
 pub record ReplacingState (T : Type 0) : Type 0 where
   pub file : Option T
   pub faults : ℕ
+  pub got : List ℕ
   pub is_cut : Bool
 
 -- no known byte stays

@@ -1,8 +1,9 @@
 //! A source and a sink in memory that never fail.
-ghost use Rattle.std.specs.Prelude.{◌≡◌, ℕ, ◌++◌, List, Some, [], length, min, take, drop, IsOk, IsErrOf, IfOk, OnOk};
+ghost use Rattle.std.specs.Prelude.{◌≡◌, ℕ, ◌++◌, List, Some, false, [], length, min, take, drop, IsOk, IsErrOf, IfOk, OnOk};
 ghost use Rattle.std.specs.Io.{ReadsAtMost};
 ghost use Rattle.std.specs.Io.KnownBytes.{ReadConsumes};
-ghost use Rattle.pr_io.specs.Moves.{ZeroExactlyAtEnd, Puts};
+ghost use Rattle.pr_io.specs.Memory.{after_read};
+ghost use Rattle.pr_io.specs.Moves.{Ends, Gives, Puts, ZeroExactlyAtEnd};
 
 use crate::fault::{Failed, PutFault};
 use crate::sink::Sink;
@@ -16,28 +17,35 @@ use std::marker::Model;
 #[derive(Debug, Drop)]
 pub struct CleanSource {
     unread: Unread,
+    ended: bool,
 }
 
-// Contracts see the bytes that are left.
 impl Model for CleanSource {
-    ghost Value = { List ℕ };
+    ghost use Rattle.pr_io.specs.Memory.{CleanState};
 
-    ghost view = { λ s. s.unread };
+    ghost Value = { CleanState };
+
+    ghost view = { λ s. record { given = s.unread.given; left = s.unread.left; ended = s.ended } };
 }
 
 impl CleanSource {
     /// The bytes that it gives.
     pub fn new(bytes: Bytes) -> CleanSource
-        ensures { result ≡ bytes }
+        ensures { result ≡ record { given = []; left = bytes; ended = false } }
     {
         CleanSource {
             unread: Unread::new(bytes),
+            ended: false,
         }
     }
 }
 
 impl Source for CleanSource {
-    ghost left = { λ s. Some s };
+    ghost given = { λ s. s.given };
+
+    ghost ended = { λ s. s.ended };
+
+    ghost left = { λ s. Some s.left };
 
     ghost faults = { λ _. 0 };
 
@@ -45,16 +53,22 @@ impl Source for CleanSource {
 
     fn take(&mut self, buf: &mut [u8]) -> Result<usize, Failed>
         ensures bound { ReadsAtMost result buf.new }
-        ensures bytes { ReadConsumes (Some self.old) (Some self.new) result buf.new }
-        ensures end { ZeroExactlyAtEnd (Some self.old) result buf.new }
+        ensures gives { Gives self.old.given self.new.given result buf.new }
+        ensures ends { Ends self.old.ended self.new.ended result buf.new }
+        ensures bytes { ReadConsumes (Some self.old.left) (Some self.new.left) result buf.new }
+        ensures end { ZeroExactlyAtEnd (Some self.old.left) result buf.new }
 
         ensures never_fails { IsOk result }
-        ensures most { IfOk result (λ n. n ≡ min (length buf.old) (length self.old)) }
-        ensures taken { IfOk result (λ n. self.new ≡ drop n self.old) }
-        ensures buffer { IfOk result (λ n. buf.new ≡ take n self.old ++ drop n buf.old) }
+        ensures most { IfOk result (λ n. n ≡ min (length buf.old) (length self.old.left)) }
+        ensures taken { IfOk result (λ n. self.new ≡ after_read self.old (length buf.old) n) }
+        ensures buffer { IfOk result (λ n. buf.new ≡ take n self.old.left ++ drop n buf.old) }
     {
         let room = buf.len();
-        Ok(self.unread.read(buf, room))
+        let n = self.unread.read(buf, room);
+        if room > 0 {
+            self.ended = n == 0;
+        }
+        Ok(n)
     }
 }
 
@@ -90,12 +104,12 @@ impl CleanSink {
 }
 
 impl Sink for CleanSink {
-    ghost got = { λ s. Some s };
+    ghost got = { λ s. s };
 
     ghost faults = { λ _. 0 };
 
     fn put(&mut self, b: &[u8]) -> Result<(), PutFault>
-        ensures bytes { Puts (Some self.old) (Some self.new) result b.now }
+        ensures bytes { Puts self.old self.new result b.now }
 
         ensures never_fails { ¬ IsErrOf result PutFault.Failed }
         ensures no_memory { IsErrOf result PutFault.NoMemory → self.new ≡ self.old }

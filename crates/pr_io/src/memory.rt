@@ -1,10 +1,10 @@
 //! Sources and sinks in memory that fail at listed calls.
-ghost use Rattle.std.specs.Prelude.{◌≡◌, ℕ, ◌≤◌, ◌+◌, ◌++◌, ◌↔◌, Some, None, [], length, min, take, drop, Contains, IsErr, IsErrOf, OnErr, IfOk, OnOk};
+ghost use Rattle.std.specs.Prelude.{◌≡◌, ℕ, ◌≤◌, ◌+◌, ◌++◌, ◌↔◌, Some, None, false, [], length, min, take, drop, Contains, IsErr, IsErrOf, OnErr, IfOk, OnOk};
 ghost use Rattle.std.specs.Io.{ReadsAtMost};
 ghost use Rattle.std.specs.Io.KnownBytes.{ReadConsumes};
 ghost use Rattle.pr_io.specs.Faults.{Rose};
 ghost use Rattle.pr_io.specs.Memory.{after_take, failed_take, after_put, failed_put, room_within};
-ghost use Rattle.pr_io.specs.Moves.{ZeroExactlyAtEnd, Puts};
+ghost use Rattle.pr_io.specs.Moves.{Ends, Gives, Puts, ZeroExactlyAtEnd};
 
 use crate::calls::Calls;
 use crate::fault::{Failed, PutFault};
@@ -20,6 +20,7 @@ use std::marker::Model;
 #[derive(Debug, Drop)]
 pub struct MemSource {
     unread: Unread,
+    ended: bool,
     calls: Calls,
     step: Option<u32>,
 }
@@ -29,7 +30,7 @@ impl Model for MemSource {
 
     ghost Value = { SourceState };
 
-    ghost view = { λ s. record { left = s.unread; failing = s.calls.failing.items; calls = s.calls.made; faults = s.calls.failed; step = s.step } };
+    ghost view = { λ s. record { given = s.unread.given; left = s.unread.left; ended = s.ended; failing = s.calls.failing.items; calls = s.calls.made; faults = s.calls.failed; step = s.step } };
 
     ghost invariant = { λ s. GoesOn s.step };
 }
@@ -37,10 +38,11 @@ impl Model for MemSource {
 impl MemSource {
     /// The bytes, and the numbers of the calls that fail.
     pub fn new(bytes: Bytes, fail: Vec<u32>) -> MemSource
-        ensures { result ≡ record { left = bytes; failing = fail.items; calls = 0; faults = 0; step = None } }
+        ensures { result ≡ record { given = []; left = bytes; ended = false; failing = fail.items; calls = 0; faults = 0; step = None } }
     {
         MemSource {
             unread: Unread::new(bytes),
+            ended: false,
             calls: Calls::new(fail),
             step: None,
         }
@@ -49,10 +51,11 @@ impl MemSource {
     /// The same, where a call gives at most `step` bytes.
     pub fn slow(bytes: Bytes, step: u32, fail: Vec<u32>) -> MemSource
         requires { 1 ≤ step }
-        ensures { result ≡ record { left = bytes; failing = fail.items; calls = 0; faults = 0; step = Some step } }
+        ensures { result ≡ record { given = []; left = bytes; ended = false; failing = fail.items; calls = 0; faults = 0; step = Some step } }
     {
         MemSource {
             unread: Unread::new(bytes),
+            ended: false,
             calls: Calls::new(fail),
             step: Some(step),
         }
@@ -70,6 +73,10 @@ fn room_within(step: Option<u32>, room: usize) -> usize
 }
 
 impl Source for MemSource {
+    ghost given = { λ s. s.given };
+
+    ghost ended = { λ s. s.ended };
+
     ghost left = { λ s. Some s.left };
 
     ghost faults = { λ s. s.faults };
@@ -78,6 +85,8 @@ impl Source for MemSource {
 
     fn take(&mut self, buf: &mut [u8]) -> Result<usize, Failed>
         ensures bound { ReadsAtMost result buf.new }
+        ensures gives { Gives self.old.given self.new.given result buf.new }
+        ensures ends { Ends self.old.ended self.new.ended result buf.new }
         ensures bytes { ReadConsumes (Some self.old.left) (Some self.new.left) result buf.new }
         ensures end { ZeroExactlyAtEnd (Some self.old.left) result buf.new }
         ensures cause { OnErr result (Rose self.old.faults self.new.faults) }
@@ -91,7 +100,7 @@ impl Source for MemSource {
 
         // It gives as many bytes as fit, or a step's, and the rest of the buffer stays.
         ensures most { IfOk result (λ n. n ≡ min (room_within self.old.step (length buf.old)) (length self.old.left)) }
-        ensures taken { IfOk result (λ n. self.new ≡ after_take self.old n) }
+        ensures taken { IfOk result (λ n. self.new ≡ after_take self.old (length buf.old) n) }
         ensures buffer { IfOk result (λ n. buf.new ≡ take n self.old.left ++ drop n buf.old) }
     {
         if self.calls.next_fails() {
@@ -100,7 +109,11 @@ impl Source for MemSource {
         }
         self.calls.pass();
         let room = room_within(self.step, buf.len());
-        Ok(self.unread.read(buf, room))
+        let n = self.unread.read(buf, room);
+        if !buf.is_empty() {
+            self.ended = n == 0;
+        }
+        Ok(n)
     }
 }
 
@@ -170,12 +183,12 @@ impl MemSink {
 }
 
 impl Sink for MemSink {
-    ghost got = { λ s. Some s.got };
+    ghost got = { λ s. s.got };
 
     ghost faults = { λ s. s.faults };
 
     fn put(&mut self, b: &[u8]) -> Result<(), PutFault>
-        ensures bytes { Puts (Some self.old.got) (Some self.new.got) result b.now }
+        ensures bytes { Puts self.old.got self.new.got result b.now }
         ensures cause { IsErrOf result PutFault.Failed → Rose self.old.faults self.new.faults }
         ensures count { self.old.faults ≤ self.new.faults }
 

@@ -1,10 +1,10 @@
 //! A sink over what the system opened, as `FileSink` is one, that puts its bytes in the place of
 //! those that stand there: these stay until the first put.
-ghost use Rattle.std.specs.Prelude.{◌≡◌, ◌≤◌, ◌↔◌, false, None, IsNone, IsErrOf, OnErr, OnOk, IsTrue};
+ghost use Rattle.std.specs.Prelude.{◌≡◌, ◌≤◌, ◌↔◌, false, [], None, IsNone, IsErrOf, OnErr, OnOk, IsTrue};
 ghost use Rattle.std.specs.Io.KnownBytes.{Keeps};
 ghost use Rattle.pr_io.specs.Faults.{Rose, raised};
 ghost use Rattle.pr_io.specs.File.{told};
-ghost use Rattle.pr_io.specs.Moves.{Puts};
+ghost use Rattle.pr_io.specs.Moves.{GrowsWith, Puts, PutsTold};
 ghost use Rattle.pr_io.specs.Replacing.{Cuts, put_behind};
 
 use crate::fault::{Failed, PutFault};
@@ -45,13 +45,13 @@ impl<W> Model for ReplacingSink<W> {
 
     ghost Value = { ReplacingState W };
 
-    ghost view = { λ s. record { file = s.sink.file; faults = s.sink.faults; is_cut = s.is_cut } };
+    ghost view = { λ s. record { file = s.sink.file; faults = s.sink.faults; got = s.sink.got; is_cut = s.is_cut } };
 }
 
 impl<W> ReplacingSink<W> {
     /// Over what was opened without being cut, or over none where that failed.
     pub fn over(w: Option<W>) -> ReplacingSink<W>
-        ensures { result ≡ record { file = w; faults = 0; is_cut = false } }
+        ensures { result ≡ record { file = w; faults = 0; got = []; is_cut = false } }
     {
         ReplacingSink {
             sink: FileSink::over(w),
@@ -65,6 +65,7 @@ impl<W: Cut> ReplacingSink<W> {
     fn cut_once(&mut self) -> Result<(), Failed>
         ensures file { IsNone self.old.file ↔ IsNone self.new.file }
         ensures faults { self.new.faults ≡ self.old.faults }
+        ensures got { self.new.got ≡ self.old.got }
         ensures cut { OnOk result (IsTrue self.new.is_cut) }
         ensures err { OnErr result (self.new.is_cut ≡ self.old.is_cut) }
         ensures told { Keeps (put_behind self.old.is_cut self.new.is_cut (told W.contents self.old.file)) (told W.contents self.new.file) }
@@ -83,11 +84,12 @@ impl<W: Cut> ReplacingSink<W> {
 }
 
 impl<W: Cut> Sink for ReplacingSink<W> {
-    ghost got = { λ _. None };
+    ghost got = { λ s. s.got };
 
     ghost faults = { λ s. s.faults };
 
     fn put(&mut self, b: &[u8]) -> Result<(), PutFault>
+        ensures bytes { Puts self.old.got self.new.got result b.now }
         ensures cause { IsErrOf result PutFault.Failed → Rose self.old.faults self.new.faults }
         ensures count { self.old.faults ≤ self.new.faults }
 
@@ -100,7 +102,8 @@ impl<W: Cut> Sink for ReplacingSink<W> {
         ensures cut { OnOk result (IsTrue self.new.is_cut) }
         ensures once { IsTrue self.old.is_cut → IsTrue self.new.is_cut }
         ensures uncut { ¬ IsTrue self.new.is_cut → Keeps (told W.contents self.old.file) (told W.contents self.new.file) }
-        ensures told { Puts (put_behind self.old.is_cut self.new.is_cut (told W.contents self.old.file)) (told W.contents self.new.file) result b.now }
+        ensures told { PutsTold (put_behind self.old.is_cut self.new.is_cut (told W.contents self.old.file)) (told W.contents self.new.file) result b.now }
+        ensures grows { GrowsWith self.old.got self.new.got (put_behind self.old.is_cut self.new.is_cut (told W.contents self.old.file)) (told W.contents self.new.file) }
     {
         match self.cut_once() {
             Ok(()) => self.sink.put(b),

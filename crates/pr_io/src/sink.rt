@@ -1,5 +1,5 @@
 //! Sinks.
-ghost use Rattle.std.specs.Prelude.{ℕ, List, Option, ◌≤◌, IsErrOf};
+ghost use Rattle.std.specs.Prelude.{ℕ, List, ◌≤◌, IsErrOf};
 ghost use Rattle.pr_io.specs.Faults.{Rose};
 ghost use Rattle.pr_io.specs.Moves.{Puts};
 
@@ -7,8 +7,8 @@ use crate::fault::PutFault;
 
 /// Where bytes are put, in order.
 pub trait Sink {
-    // The bytes that the sink got, where it tells them.
-    ghost got: { Self → Option (List ℕ) };
+    // All bytes that the sink got.
+    ghost got: { Self → List ℕ };
 
     // How often a call failed. The count never falls, and stands still at 2^64 - 1.
     ghost faults: { Self → ℕ };

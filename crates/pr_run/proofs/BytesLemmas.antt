@@ -1,13 +1,25 @@
 -- The bytes of turns that were put one after the other.
 use Rattle.std.proofs.Common.{◌≡◌, inl, inr, ℕ, zero, suc, ◌≤◌, List, [], ◌∷◌, ◌++◌, take, drop, Some, refl, sym, ap, subst, ◌∙◌, arith, append_assoc, slice_get}
-use Rattle.std.specs.Io.KnownBytes.{Appends}
-use Rattle.std.proofs.KnownBytes.{Appends-trans}
 use Rattle.std.proofs.lemmas.List.{append-nil}
 use Rattle.pr_io.specs.Faults.{Rose}
-use Rattle.pr_io.specs.Moves.{AppendsPrefix}
+use Rattle.pr_io.specs.Moves.{Gets, GetsPrefix, Stays}
 use Rattle.kr_core.specs.kr_turns.Run.{Put}
 use Rattle.pr_run.specs.Report.{gathered}
-use Rattle.pr_run.specs.Puts.{AppendsPast, Got}
+use Rattle.pr_run.specs.Puts.{GetsPast, Got}
+
+-- ---- what a sink got
+
+pub stays-refl : (a : Got) → Stays a a
+stays-refl a = refl
+
+pub gets-nil : (a : Got) → Gets a a []
+gets-nil a = sym (append-nil a)
+
+pub gets-trans : (a b c : Got) (bs cs : List ℕ) → Gets a b bs → Gets b c cs → Gets a c (bs ++ cs)
+gets-trans a b c bs cs first next = next ∙ ap (λ l. l ++ cs) first ∙ append_assoc a bs cs
+
+pub gets-kept : (a b c : Got) (bs : List ℕ) → Gets a b bs → Stays b c → Gets a c bs
+gets-kept a b c bs got kept = kept ∙ got
 
 -- ---- lists of turns
 
@@ -37,11 +49,11 @@ gathered-more part n puts put more =
     ap (gathered part) more ∙ gathered-append part (take n puts) (put ∷ []) ∙ ap (λ l. gathered part (take n puts) ++ l) (append-nil (part put))
 
 -- what was put is followed by the next turn's bytes, or by a prefix of them
-pub appends-next : (part : Put → List ℕ) (n : ℕ) (puts : List Put) (put : Put) (a b c : Got) → take (suc n) puts ≡ take n puts ++ put ∷ [] → Appends a b (gathered part (take n puts)) → Appends b c (part put) → Appends a c (gathered part (take (suc n) puts))
-appends-next part n puts put a b c more got next = subst (Appends a c) (sym (gathered-more part n puts put more)) (Appends-trans a b c _ _ got next)
+pub gets-next : (part : Put → List ℕ) (n : ℕ) (puts : List Put) (put : Put) (a b c : Got) → take (suc n) puts ≡ take n puts ++ put ∷ [] → Gets a b (gathered part (take n puts)) → Gets b c (part put) → Gets a c (gathered part (take (suc n) puts))
+gets-next part n puts put a b c more got next = subst (Gets a c) (sym (gathered-more part n puts put more)) (gets-trans a b c (gathered part (take n puts)) (part put) got next)
 
-pub appends-past : (front part : List ℕ) (a b c : Got) → Appends a b front → AppendsPrefix b c part → AppendsPast a c front part
-appends-past front part a b c got next = (next.0, Appends-trans a b c front (take next.0 part) got next.1)
+pub gets-past : (front part : List ℕ) (a b c : Got) → Gets a b front → GetsPrefix b c part → GetsPast a c front part
+gets-past front part a b c got next = (next.0, gets-trans a b c front (take next.0 part) got next.1)
 
 -- ---- counts of faults
 

@@ -2,9 +2,8 @@
 use Rattle.std.proofs.Common.{◌≡◌, ◌≢◌, ◌&&◌, ℕ, Bool, true, false, List, [], ◌∷◌, inl, refl, ap, subst, ◌∙◌, IsTrue, Decides}
 use Rattle.std.proofs.lemmas.Bool.Decides.{Decides-eqb, same_from_decides}
 use Rattle.std.specs.Prelude.{◌↔◌, Result, Err}
-use Rattle.std.proofs.KnownBytes.{Appends-nil, Keeps-refl}
 use base.Stored.{Gv, gnil, gnum, gcons}
-use Rattle.pr_io.specs.Moves.{AppendsPrefix}
+use Rattle.pr_io.specs.Moves.{GetsPrefix}
 use Rattle.pr_sources.specs.declared.answer.Answer.{Answer}
 use Rattle.pr_sources.specs.declared.answer.Answer.TheVariants as answer
 use Rattle.pr_sources.specs.declared.answer.Answer.TheVariants.{NoMemory}
@@ -14,6 +13,7 @@ use Rattle.pr_run.specs.Puts.{AnswersReport, Got, PutsReport, StopsInOut, answer
 use Rattle.pr_run.specs.Report.{Report}
 use Rattle.pr_run.specs.declared.turns.Stop.{Stop}
 use Rattle.pr_run.specs.declared.turns.Stop.TheVariants as stop
+use Rattle.pr_run.proofs.BytesLemmas.{gets-nil, stays-refl}
 
 -- ---- codes
 
@@ -75,14 +75,14 @@ told-by n o text listing canon status same own text-is listed status-is agreed =
 -- ---- and put
 
 -- the output fails at the summary
-pub stops-in-summary : (text : List ℕ) (out out' err : Got) → text ≢ [] → AppendsPrefix out out' text → StopsInOut (record { out = text; err = [] } ∷ []) out out' err err
-stops-in-summary text out out' err some put = record { made = 0; put = record { out = text; err = [] }; next = refl; some = some; out_got = put; err_got = Appends-nil err }
+pub stops-in-summary : (text : List ℕ) (out out' err : Got) → text ≢ [] → GetsPrefix out out' text → StopsInOut (record { out = text; err = [] } ∷ []) out out' err err
+stops-in-summary text out out' err some put = record { made = 0; put = record { out = text; err = [] }; next = refl; some = some; out_got = put; err_got = gets-nil err }
 
 -- memory runs out before the summary
 pub nothing-told : (r : Report) (out err left : Got) (rose_out rose_left : Type 0) → AnswersReport r rose_out ⊥ rose_left out out err err left left NoMemory
 nothing-told r out err left rose_out rose_left = record {
   told = Err stop.NoMemory;
-  puts = (inl (record { made = 0; out_got = Appends-nil out; err_got = inl (Appends-nil err) }), Keeps-refl left);
+  puts = (inl (record { made = 0; out_got = gets-nil out; err_got = inl (gets-nil err) }), stays-refl left);
   answer_is = refl;
 }
 

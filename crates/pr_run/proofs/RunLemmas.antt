@@ -1,9 +1,8 @@
 -- A run whose turns are made and put one after the other.
 use Rattle.std.proofs.Common.{◌≡◌, inl, inr, ℕ, zero, suc, ◌-◌, ◌<◌, ◌≤◌, List, ◌++◌, take, drop, Some, None, refl, sym, ap, subst, ◌∙◌, arith, take-append-drop}
 use Rattle.std.specs.Option.{option_map_or}
-use Rattle.std.specs.Io.KnownBytes.{Appends, Keeps}
-use Rattle.std.proofs.KnownBytes.{Appends-kept}
 use Rattle.std.proofs.lemmas.List.{append-nil}
+use Rattle.pr_io.specs.Moves.{Gets, Stays}
 use Rattle.kr_view.specs.View.{Row}
 use Rattle.kr_core.specs.kr_turns.Run.{Ending, Put, Ran, Slot, Spent, after_put, ended, ending_of, put_by, run, run_from, turned, with_put}
 use Rattle.kr_core.specs.kr_turns.Turn.{Machine}
@@ -12,7 +11,7 @@ use Rattle.pr_run.specs.Report.{errs, last_ending, out_part, outs}
 use Rattle.pr_run.specs.Puts.{Got, StopsBetween, StopsMaking, StopsRun}
 use Rattle.pr_run.specs.declared.turns.Stop.{Stop}
 use Rattle.pr_run.specs.declared.turns.Stop.TheVariants as stop
-use Rattle.pr_run.proofs.BytesLemmas.{GoesOnWith, appends-next, appends-past, goes-on}
+use Rattle.pr_run.proofs.BytesLemmas.{gets-next, gets-past, gets-kept, goes-on, GoesOnWith}
 
 module _ {S : Type 0} (does : Watcher S) (marks : ℕ) (table : List Row) (slots : ℕ → Slot) where
   abbrev rest-of : ℕ → ℕ → Machine S → Ran S
@@ -94,26 +93,26 @@ module _ {S : Type 0} (does : Watcher S) (marks : ℕ) (table : List Row) (slots
   -- ---- where it stops
 
   module _ (whole : Ran S) (limit made : ℕ) (m : Machine S) (rest : IsRest whole limit made m) (below : made < limit) (out mid out' err mid_err err' : Got) (rose_out rose_err : Type 0)
-      (out_got : Appends out mid (outs (take made whole.puts))) (err_got : Appends err mid_err (errs (take made whole.puts))) where
+      (out_got : Gets out mid (outs (take made whole.puts))) (err_got : Gets err mid_err (errs (take made whole.puts))) where
     abbrev put : Put
     put = put_by (after made m)
 
-    between : Keeps mid out' → Keeps mid_err err' → StopsBetween whole.puts out out' err err'
+    between : Stays mid out' → Stays mid_err err' → StopsBetween whole.puts out out' err err'
     between kept kept_err = record {
       made = made;
-      out_got = Appends-kept out mid out' (outs (take made whole.puts)) out_got kept;
-      err_got = inl (Appends-kept err mid_err err' (errs (take made whole.puts)) err_got kept_err);
+      out_got = gets-kept out mid out' (outs (take made whole.puts)) out_got kept;
+      err_got = inl (gets-kept err mid_err err' (errs (take made whole.puts)) err_got kept_err);
     }
 
     -- between the output and the error bytes of the turn
-    halfway : ending_of m ≡ None → Appends mid out' put.out → Keeps mid_err err' → StopsBetween whole.puts out out' err err'
+    halfway : ending_of m ≡ None → Gets mid out' put.out → Stays mid_err err' → StopsBetween whole.puts out out' err err'
     halfway goes got kept_err =
         let on = (next whole limit made m rest goes below).on in
         let same : made ≡ suc made - 1 = omega arith in
         record {
           made = suc made;
-          out_got = appends-next out_part made whole.puts put out mid out' on.taken out_got got;
-          err_got = inr (subst (λ n. Appends err err' (errs (take n whole.puts))) same (Appends-kept err mid_err err' (errs (take made whole.puts)) err_got kept_err));
+          out_got = gets-next out_part made whole.puts put out mid out' on.taken out_got got;
+          err_got = inr (subst (λ n. Gets err err' (errs (take n whole.puts))) same (gets-kept err mid_err err' (errs (take made whole.puts)) err_got kept_err));
         }
 
     pub stops : (s : Stop) → StopsMaking m put mid out' mid_err err' rose_out rose_err s → StopsRun whole.puts out out' err err' rose_out rose_err s
@@ -128,8 +127,8 @@ module _ {S : Type 0} (does : Watcher S) (marks : ℕ) (table : List Row) (slots
             put = put;
             next = on.got;
             some = p.1.1;
-            out_got = appends-past (outs (take made whole.puts)) put.out out mid out' out_got p.1.2;
-            err_got = Appends-kept err mid_err err' (errs (take made whole.puts)) err_got p.1.3;
+            out_got = gets-past (outs (take made whole.puts)) put.out out mid out' out_got p.1.2;
+            err_got = gets-kept err mid_err err' (errs (take made whole.puts)) err_got p.1.3;
           },
         )
     stops stop.Err p =
@@ -140,8 +139,8 @@ module _ {S : Type 0} (does : Watcher S) (marks : ℕ) (table : List Row) (slots
             put = put;
             next = on.got;
             some = p.1.1;
-            out_got = appends-next out_part made whole.puts put out mid out' on.taken out_got p.1.2;
-            err_got = appends-past (errs (take made whole.puts)) put.err err mid_err err' err_got p.1.3;
+            out_got = gets-next out_part made whole.puts put out mid out' on.taken out_got p.1.2;
+            err_got = gets-past (errs (take made whole.puts)) put.err err mid_err err' err_got p.1.3;
           },
         )
     stops stop.Left p = p.1

@@ -4,10 +4,10 @@
 //!
 //! The turns of a kernel, and what is put of them. It holds over any view, and with each watcher whose stops are functions (`Graphed`).
 //!
-//! `report` answers the report of the definition's run, and puts it, of which is spoken for sinks that tell their bytes (`AnswersReport`; `run`,
-//! `report_of`): the bytes of each turn, the line on calm where it is asked for, the canonical listing of the tree that is left. Where a sink
-//! fails, its count rose and it was given bytes, and what stands in the sinks is told turn by turn (`StopsInOut`, `StopsInErr`, `StopsInCalm`);
-//! want of memory comes between turns, or between the output and the error bytes of one (`StopsBetween`), or behind them all.
+//! `report` answers the report of the definition's run, and puts it (`AnswersReport`; `run`, `report_of`): the bytes of each turn, the line on
+//! calm where it is asked for, the canonical listing of the tree that is left. Where a sink fails, its count rose and it was handed bytes, and
+//! what the sinks got is told turn by turn (`StopsInOut`, `StopsInErr`, `StopsInCalm`); want of memory comes between turns, or between the output
+//! and the error bytes of one (`StopsBetween`), or behind them all.
 //!
 //! `case_report` runs two kernels under one plan, keeps the bytes of each turn, and answers and puts the report of a case (`case_report_of`): the
 //! summary of the first run, the listing that it left, and whether both outcomes are equal. What tells outcomes apart is a test by their codes,

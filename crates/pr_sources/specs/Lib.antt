@@ -7,5 +7,6 @@ pub use Rattle.pr_words.specs as pr_words
 pub mod Asking
 pub mod Within
 pub mod Reading
+pub mod Telling
 pub mod Names
 pub mod Answers

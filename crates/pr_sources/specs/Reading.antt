@@ -1,7 +1,7 @@
--- What the sources come to, read in this order behind the words: the listing; the ELF file, where the listing names it; the listing is
--- checked; the input. Each stage asks for no more than it needs, and is known where the sources that it needs tell their bytes.
--- Words that ask for a generated case read none of them.
-use Rattle.std.specs.Prelude.{◌≡◌, ℕ, false, IsTrue, IsSome, List, [], Option, Some, None, IfSome, Result, Ok, Err, if◌then◌else◌}
+-- What the bytes of the sources come to, read in this order behind the words: the listing; the ELF file, where the listing names it; the listing
+-- is checked; the input. Each stage asks for no more than it needs. The bytes are those that a call was given, so what isn't read counts for none.
+-- Words that ask for a generated case read no source.
+use Rattle.std.specs.Prelude.{◌≡◌, ℕ, ◌+◌, IsTrue, IsSome, List, [], length, None, Result, Ok, Err, if◌then◌else◌}
 use Rattle.pr_words.specs.declared.options.Options.{Options}
 use Rattle.kr_tree.specs.kr_inode.declared.user.User.{User}
 use Rattle.kr_tree.specs.Lawful.{AreBytes, IsKept}
@@ -10,11 +10,12 @@ use Rattle.kr_start.specs.Ready.{IsOfListing}
 use Rattle.kr_text.specs.Reading.{listing_of, wants_elf}
 use Rattle.kr_text.specs.declared.fault.ListFault.{ListFault}
 use Rattle.kr_text.specs.declared.fault.ListFault.TheVariants as fault
+use Rattle.pr_io.specs.Drawn.{Drawn, IsDrawn, IsWhole, SourceFailed, gave}
 use Rattle.pr_sources.specs.declared.answer.Which.{Which}
-use Rattle.pr_sources.specs.declared.answer.Which.TheVariants.{Tree as TreeSource, Elf, Input, Out, Err as ErrSink, Left}
+use Rattle.pr_sources.specs.declared.answer.Which.TheVariants.{Tree as TreeSource, Elf, Input}
 use Rattle.pr_sources.specs.declared.answer.Answer.{Answer}
-use Rattle.pr_sources.specs.declared.answer.Answer.TheVariants.{NoMemory, ReadFault, TooLong, TreeBad, Usage}
-use Rattle.pr_sources.specs.Within.{Stage, and_then, told_within}
+use Rattle.pr_sources.specs.declared.answer.Answer.TheVariants.{Ended, Deadlock, Spent, BadBind, NoMemory, NoStart, ReadFault, TooLong, TreeBad, Usage, WriteFault}
+use Rattle.pr_sources.specs.Within.{and_then, within}
 use Rattle.pr_sources.specs.declared.reading.Asked.{Asked}
 
 -- ---- stages
@@ -26,15 +27,15 @@ tree_limit = 67108864
 abbrev pub file_limit : ℕ
 file_limit = 16777216
 
-abbrev pub told_tree : Option (List ℕ) → Stage (List ℕ)
-told_tree tree = told_within tree_limit TreeSource tree
+abbrev pub read_tree : List ℕ → Result (List ℕ) Answer
+read_tree tree = within tree_limit TreeSource tree
 
 -- those of the ELF file, where the listing names it; none are needed else
-abbrev pub told_file : Option (List ℕ) → List ℕ → Stage (List ℕ)
-told_file elf listing = if wants_elf listing then told_within file_limit Elf elf else Some (Ok [])
+abbrev pub read_file : List ℕ → List ℕ → Result (List ℕ) Answer
+read_file elf listing = if wants_elf listing then within file_limit Elf elf else Ok []
 
-abbrev pub told_input : Option (List ℕ) → Stage (List ℕ)
-told_input input = told_within file_limit Input input
+abbrev pub read_input : List ℕ → Result (List ℕ) Answer
+read_input input = within file_limit Input input
 
 abbrev pub listing_fault : ListFault → Answer
 listing_fault (fault.Bad line why) = TreeBad line why
@@ -48,17 +49,17 @@ listed_of (Err e) = Err (listing_fault e)
 abbrev pub listed : List ℕ → List ℕ → Result (Tree × User) Answer
 listed file listing = listed_of (listing_of file listing)
 
-abbrev pub told_listing : Option (List ℕ) → Option (List ℕ) → Stage (Tree × User)
-told_listing tree elf = and_then (told_tree tree) (λ listing. and_then (told_file elf listing) (λ file. Some (listed file listing)))
+abbrev pub read_listing : List ℕ → List ℕ → Result (Tree × User) Answer
+read_listing tree elf = and_then (read_tree tree) (λ listing. and_then (read_file elf listing) (λ file. listed file listing))
 
 abbrev pub asks : Options → Tree × User → List ℕ → Asked
 asks options read input = record { options = options; tree = read.0; user = read.1; input = input }
 
-abbrev pub with_input : Options → Tree × User → Option (List ℕ) → Stage Asked
-with_input options read input = and_then (told_input input) (λ bytes. Some (Ok (asks options read bytes)))
+abbrev pub with_input : Options → Tree × User → List ℕ → Result Asked Answer
+with_input options read input = and_then (read_input input) (λ bytes. Ok (asks options read bytes))
 
-abbrev pub told_asked : Options → Option (List ℕ) → Option (List ℕ) → Option (List ℕ) → Stage Asked
-told_asked options tree elf input = and_then (told_listing tree elf) (λ read. with_input options read input)
+abbrev pub read_asked : Options → List ℕ → List ℕ → List ℕ → Result Asked Answer
+read_asked options tree elf input = and_then (read_listing tree elf) (λ read. with_input options read input)
 
 -- what code reads is of bytes, by its types: a tree that is kept, of a listing, and an input
 pub record IsRead (a : Asked) : Type 0 where
@@ -95,12 +96,6 @@ IsOfSources answer = ⊥
 
 -- ---- where faults come
 
--- sources that are read before the input
-abbrev pub SourceEndsBeforeInput : Which → Type 0
-SourceEndsBeforeInput TreeSource = Unit {0}
-SourceEndsBeforeInput Elf = Unit {0}
-SourceEndsBeforeInput which = ⊥
-
 -- a stage is come to
 abbrev pub IsPast : {A : Type 0} → Result A Answer → Type 0
 IsPast (Ok x) = Unit {0}
@@ -111,44 +106,91 @@ abbrev pub IsWanted : Result (List ℕ) Answer → Type 0
 IsWanted (Ok listing) = IsTrue (wants_elf listing)
 IsWanted (Err answer) = ⊥
 
--- the causes of what ends the reading of a listing: the tree's and the file's faults
-abbrev pub ListingFaultHasCause : Stage (List ℕ) → (rose_tree rose_elf : Type 0) → Which → Type 0
-ListingFaultHasCause tree rose_tree rose_elf TreeSource = rose_tree
-ListingFaultHasCause tree rose_tree rose_elf Elf = IfSome tree IsWanted × rose_elf
-ListingFaultHasCause tree rose_tree rose_elf which = ⊥
+-- what a call drew from the three sources
+pub record Sources : Type 0 where
+  pub tree : Drawn
+  pub elf : Drawn
+  pub input : Drawn
 
-abbrev pub ListingEnds : Stage (List ℕ) → (rose_tree rose_elf : Type 0) → Answer → Type 0
-ListingEnds tree rose_tree rose_elf (ReadFault which) = ListingFaultHasCause tree rose_tree rose_elf which
-ListingEnds tree rose_tree rose_elf (TooLong which) = SourceEndsBeforeInput which
-ListingEnds tree rose_tree rose_elf (TreeBad line why) = Unit {0}
-ListingEnds tree rose_tree rose_elf NoMemory = Unit {0}
-ListingEnds tree rose_tree rose_elf answer = ⊥
-
--- a source was read from, since what comes before it was read, and its count of faults rose
-abbrev pub FaultHasCause : Stage (List ℕ) → Stage (Tree × User) → (rose_tree rose_elf rose_input : Type 0) → Which → Type 0
-FaultHasCause tree listing rose_tree rose_elf rose_input TreeSource = rose_tree
-FaultHasCause tree listing rose_tree rose_elf rose_input Elf = IfSome tree IsWanted × rose_elf
-FaultHasCause tree listing rose_tree rose_elf rose_input Input = IfSome listing IsPast × rose_input
-FaultHasCause tree listing rose_tree rose_elf rose_input Out = ⊥
-FaultHasCause tree listing rose_tree rose_elf rose_input ErrSink = ⊥
-FaultHasCause tree listing rose_tree rose_elf rose_input Left = ⊥
+-- a source is named whose count of faults rose, and that was read from, since what comes before it was read
+abbrev pub FaultHasCause : Sources → Which → Type 0
+FaultHasCause s TreeSource = SourceFailed s.tree
+FaultHasCause s Elf = IsWanted (read_tree (gave s.tree)) × SourceFailed s.elf
+FaultHasCause s Input = IsPast (read_listing (gave s.tree) (gave s.elf)) × SourceFailed s.input
+FaultHasCause s which = ⊥
 
 -- where the sources are read
-abbrev pub ReadHasCause : Stage (List ℕ) → Stage (Tree × User) → (rose_tree rose_elf rose_input : Type 0) → Answer → Type 0
-ReadHasCause tree listing rose_tree rose_elf rose_input (ReadFault which) = FaultHasCause tree listing rose_tree rose_elf rose_input which
-ReadHasCause tree listing rose_tree rose_elf rose_input answer = Unit {0}
+abbrev pub ReadHasCause : Sources → Answer → Type 0
+ReadHasCause s (ReadFault which) = FaultHasCause s which
+ReadHasCause s answer = Unit {0}
 
 -- and behind the words
-abbrev pub HasCause : (words : Result Options Answer) → Stage (List ℕ) → Stage (Tree × User) → (rose_tree rose_elf rose_input : Type 0) → Answer → Type 0
-HasCause words tree listing rose_tree rose_elf rose_input (ReadFault which) = ReadsSources words × FaultHasCause tree listing rose_tree rose_elf rose_input which
-HasCause words tree listing rose_tree rose_elf rose_input answer = Unit {0}
+abbrev pub HasCause : Result Options Answer → Sources → Answer → Type 0
+HasCause words s (ReadFault which) = ReadsSources words × FaultHasCause s which
+HasCause words s answer = Unit {0}
+
+-- ---- what was read to its end
+
+-- what each gave is told
+pub record AreDrawn (s : Sources) : Type 0 where
+  pub tree_drawn : IsDrawn s.tree
+  pub elf_drawn : IsDrawn s.elf
+  pub input_drawn : IsDrawn s.input
+
+-- the tree was read to its end, and names the ELF file
+pub record WantsElf (tree : Drawn) : Type 0 where
+  pub tree_end : IsWhole tree
+  pub wanted : IsWanted (read_tree (gave tree))
+
+-- the tree was read to its end, and so was the ELF file where it is wanted
+pub record ListingIsRead (tree elf : Drawn) : Type 0 where
+  pub tree_end : IsWhole tree
+  pub elf_end : IsWanted (read_tree (gave tree)) → IsWhole elf
+
+-- and the listing has no bad line
+pub record IsListed (tree elf : Drawn) : Type 0 where
+  pub listing : ListingIsRead tree elf
+  pub past : IsPast (read_listing (gave tree) (gave elf))
+
+-- all three were, but for an ELF file that isn't wanted
+pub record AllAreRead (s : Sources) : Type 0 where
+  pub listing : ListingIsRead s.tree s.elf
+  pub input_end : IsWhole s.input
+
+-- a source that is too long gave its limit and one byte, and what comes before it was read to its end
+abbrev pub IsTooLong : Sources → Which → Type 0
+IsTooLong s TreeSource = length (gave s.tree) ≡ tree_limit + 1
+IsTooLong s Elf = WantsElf s.tree × (length (gave s.elf) ≡ file_limit + 1)
+IsTooLong s Input = IsListed s.tree s.elf × (length (gave s.input) ≡ file_limit + 1)
+IsTooLong s which = ⊥
+
+-- what comes before a source that fails was read to its end
+abbrev pub IsReadBefore : Sources → Which → Type 0
+IsReadBefore s TreeSource = Unit {0}
+IsReadBefore s Elf = WantsElf s.tree
+IsReadBefore s Input = IsListed s.tree s.elf
+IsReadBefore s which = ⊥
+
+-- each source whose stage was passed was read to its end, by the answer to words that ask for sources; nothing is said where memory runs out
+abbrev pub IsReadUpTo : Sources → Answer → Type 0
+IsReadUpTo s (Usage word why) = ⊥
+IsReadUpTo s NoMemory = Unit {0}
+IsReadUpTo s (TooLong which) = IsTooLong s which
+IsReadUpTo s (ReadFault which) = IsReadBefore s which
+IsReadUpTo s (TreeBad line why) = ListingIsRead s.tree s.elf × (read_listing (gave s.tree) (gave s.elf) ≡ Err (TreeBad line why))
+IsReadUpTo s (BadBind index why) = AllAreRead s
+IsReadUpTo s (NoStart errno) = AllAreRead s
+IsReadUpTo s (WriteFault which) = AllAreRead s
+IsReadUpTo s (Ended status) = AllAreRead s
+IsReadUpTo s Deadlock = AllAreRead s
+IsReadUpTo s Spent = AllAreRead s
+
+-- all were where there is no refusal
+abbrev pub IsReadAs : {A : Type 0} → Sources → Result A Answer → Type 0
+IsReadAs s (Ok x) = AllAreRead s
+IsReadAs s (Err answer) = IsReadUpTo s answer
 
 -- ---- what isn't touched
-
--- the ELF file isn't come to, or isn't named
-abbrev pub IsUnwanted : Result (List ℕ) Answer → Type 0
-IsUnwanted (Ok listing) = wants_elf listing ≡ false
-IsUnwanted (Err answer) = Unit {0}
 
 abbrev pub IsRefusal : {A : Type 0} → Result A Answer → Type 0
 IsRefusal (Ok x) = ⊥
@@ -166,6 +208,11 @@ EndsBeforeElf (ReadFault which) = SourceEndsBeforeElf which
 EndsBeforeElf answer = ⊥
 
 -- answers before the input is read
+abbrev pub SourceEndsBeforeInput : Which → Type 0
+SourceEndsBeforeInput TreeSource = Unit {0}
+SourceEndsBeforeInput Elf = Unit {0}
+SourceEndsBeforeInput which = ⊥
+
 abbrev pub EndsBeforeInput : Answer → Type 0
 EndsBeforeInput (Usage word why) = Unit {0}
 EndsBeforeInput (TooLong which) = SourceEndsBeforeInput which

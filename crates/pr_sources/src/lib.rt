@@ -6,14 +6,17 @@
 //!
 //! `ask` answers the options of the words, or the first word that breaks a rule, want of memory aside (`answer`).
 //!
-//! Of sources that tell their bytes `read` comes to the definition's outcome or refusal of given options, a fault or want of memory aside
-//! (`told`; the stages are `told_tree`, `told_listing`, `told_asked`): the listing, the ELF file where the listing names it, the listing checked,
-//! the input. A stage that needs a source which doesn't tell them is not known, and nothing is said of it. A tree that is read is kept, and an
-//! input is of bytes (`kept`, `bytes`).
+//! `read` comes to the definition's outcome or refusal of given options and of the bytes that the sources gave in the call, a fault or want of
+//! memory aside (`told`; the stages are `read_tree`, `read_listing`, `read_asked`): the listing, the ELF file where the listing names it, the
+//! listing checked, the input. What each gave is told, whatever is answered (`gives`). A tree that is read is kept, and an input is of bytes
+//! (`kept`, `bytes`).
 //!
-//! A fault names a source whose count rose and that was come to (`causes`). What isn't come to isn't touched (`before_elf`, `unwanted`,
-//! `before_input`, `unlisted`), and after Ok the sources that tell their bytes are at their ends (`tree_end`, `elf_end`, `input_end`). Whatever
-//! is answered, a source that counts its calls was asked at most once more than its limit has bytes (`tree_takes`, `elf_takes`, `input_takes`).
+//! Each source whose stage was passed was read to its end, and one that is too long gave its limit and one byte (`ends`; `IsReadAs`). A fault
+//! names a source whose count rose and that was come to (`causes`). What isn't come to isn't touched (`before_elf`, `unwanted`, `before_input`,
+//! `unlisted`). Whatever is answered, a source that counts its calls was asked at most once more than its limit has bytes (`tree_takes`,
+//! `elf_takes`, `input_takes`).
+//!
+//! Of sources that tell what they have left, that comes to the same as what they gave (`sources_that_tell_agree`).
 //!
 //! Only tested, or not shown: `rows`; sources that fail in `top_tests`.
 //!
@@ -27,6 +30,7 @@
 #![tactic(auto)]
 
 mod answer;
+pub mod laws;
 mod reading;
 mod why;
 mod within;

@@ -1,16 +1,15 @@
 //! The sources, read in their order.
-ghost use Rattle.std.specs.Prelude.{◌≡◌, ◌^◌, ℕ, List, false, IsTrue, IsSome, IfErr, IfOk, IfSome, OnOk, [], Ok, Err};
+ghost use Rattle.std.specs.Prelude.{◌≡◌, ◌⊎◌, ◌^◌, ℕ, List, false, IsTrue, IsSome, IfErr, IfOk, OnOk, [], Ok, Err};
 ghost use Rattle.std.specs.Option.{option_copied, unwrap_or};
-ghost use Rattle.std.specs.Io.KnownBytes.{IsAtEnd};
-ghost use Rattle.pr_io.specs.Faults.{Rose};
+ghost use Rattle.pr_io.specs.Drawn.{Drawn, IsDrawn, IsWhole, drawn, gave};
 ghost use Rattle.pr_words.specs.Sound.{AreSound};
 ghost use Rattle.kr_text.specs.Reading.{wants_elf};
 ghost use Rattle.kr_tree.specs.Lawful.{AreBytes, IsKept};
 ghost use Rattle.kr_start.specs.Ready.{IsOfListing};
 ghost use Rattle.pr_sources.specs.Asking.{IsUnlessNoMemory};
 ghost use Rattle.pr_sources.specs.declared.answer.Which.TheVariants.{Elf};
-ghost use Rattle.pr_sources.specs.Reading.{EndsBeforeElf, EndsBeforeInput, IsOfSources, IsRefusal, IsUnwanted, IsWanted, ListingEnds, ReadHasCause, listed, told_asked, told_file, told_listing, told_tree};
-ghost use Rattle.pr_sources.specs.Within.{Comes, IsAskedWithin, IsReadRefusal};
+ghost use Rattle.pr_sources.specs.Reading.{AreDrawn, EndsBeforeElf, EndsBeforeInput, IsListed, IsOfSources, IsReadAs, IsReadUpTo, ReadHasCause, WantsElf, file_limit, listed, read_asked, read_file, read_listing};
+ghost use Rattle.pr_sources.specs.Within.{ComesTo, IsAskedWithin, IsReadRefusal};
 
 use crate::within::read_within;
 use crate::{Answer, Which};
@@ -39,12 +38,13 @@ pub struct Asked {
 
 /// Reads the ELF file, where the listing names it. It isn't touched else, and no bytes are answered.
 fn read_file<E: Source>(alloc: Global, elf: &mut E, listing: &[u8]) -> Result<Option<Bytes>, Answer>
-    ensures told { IfOk result (λ file. Comes (told_file (E.left elf.old) listing.now) (Ok (unwrap_or file []))) }
+    ensures told { IfOk result (λ file. ComesTo (read_file (gave (drawn E.Source elf.old elf.new)) listing.now) (Ok (unwrap_or file []))) }
     ensures given { IfOk result (λ file. IsTrue (wants_elf listing.now) → IsSome file) }
-    ensures refused { IfErr result (λ answer. Comes {A = List ℕ} (told_file (E.left elf.old) listing.now) (Err answer)) }
-    ensures wanted { IfErr result (λ answer. IsTrue (wants_elf listing.now) × IsReadRefusal Elf (E.faults elf.old) (E.faults elf.new) answer) }
+    ensures refused { IfErr result (λ answer. ComesTo {A = List ℕ} (read_file (gave (drawn E.Source elf.old elf.new)) listing.now) (Err answer)) }
+    ensures wanted { IfErr result (λ answer. IsTrue (wants_elf listing.now) × IsReadRefusal file_limit Elf (drawn E.Source elf.old elf.new) answer) }
     ensures untouched { wants_elf listing.now ≡ false → elf.new ≡ elf.old }
-    ensures end { IsTrue (wants_elf listing.now) → OnOk result (IsAtEnd (E.left elf.new)) }
+    ensures gives { IsDrawn (drawn E.Source elf.old elf.new) }
+    ensures end { IsTrue (wants_elf listing.now) → OnOk result (IsWhole (drawn E.Source elf.old elf.new)) }
     ensures takes { IsAskedWithin (2 ^ 24) (E.takes elf.old) (E.takes elf.new) }
 {
     if !wants_elf(listing) {
@@ -73,13 +73,15 @@ fn read_listing<T: Source, E: Source>(
     tree: &mut T,
     elf: &mut E,
 ) -> Result<(Tree, User), Answer>
-    ensures told { Comes (told_listing (T.left tree.old) (E.left elf.old)) result }
+    ensures told { ComesTo (read_listing (gave (drawn T.Source tree.old tree.new)) (gave (drawn E.Source elf.old elf.new))) result }
     ensures read { IfOk result (λ read. IsOfListing read.0 read.1) }
-    ensures causes { IfErr result (ListingEnds (told_tree (T.left tree.old)) (Rose (T.faults tree.old) (T.faults tree.new)) (Rose (E.faults elf.old) (E.faults elf.new))) }
-    ensures unwanted { IfSome (told_tree (T.left tree.old)) (λ listing. IsUnwanted listing → elf.new ≡ elf.old) }
+    ensures causes { IfErr result (λ answer. (input : Drawn) → ReadHasCause (record { tree = drawn T.Source tree.old tree.new; elf = drawn E.Source elf.old elf.new; input = input }) answer) }
+    ensures unwanted { (elf.new ≡ elf.old) ⊎ WantsElf (drawn T.Source tree.old tree.new) }
     ensures before_elf { IfErr result (λ answer. EndsBeforeElf answer → elf.new ≡ elf.old) }
-    ensures tree_end { OnOk result (IsAtEnd (T.left tree.new)) }
-    ensures elf_end { OnOk result (IfSome (told_tree (T.left tree.old)) (λ listing. IsWanted listing → IsAtEnd (E.left elf.new))) }
+    ensures tree_gives { IsDrawn (drawn T.Source tree.old tree.new) }
+    ensures elf_gives { IsDrawn (drawn E.Source elf.old elf.new) }
+    ensures all { OnOk result (IsListed (drawn T.Source tree.old tree.new) (drawn E.Source elf.old elf.new)) }
+    ensures ends { IfErr result (λ answer. (input : Drawn) → IsReadUpTo (record { tree = drawn T.Source tree.old tree.new; elf = drawn E.Source elf.old elf.new; input = input }) answer) }
     ensures tree_takes { IsAskedWithin (2 ^ 26) (T.takes tree.old) (T.takes tree.new) }
     ensures elf_takes { IsAskedWithin (2 ^ 24) (E.takes elf.old) (E.takes elf.new) }
 {
@@ -106,20 +108,19 @@ pub fn read<T: Source, E: Source, I: Source>(
     input: &mut I,
 ) -> Result<Asked, Answer>
     requires { AreSound options }
-    ensures told { Comes (told_asked options (T.left tree.old) (E.left elf.old) (I.left input.old)) result }
+    ensures told { ComesTo (read_asked options (gave (drawn T.Source tree.old tree.new)) (gave (drawn E.Source elf.old elf.new)) (gave (drawn I.Source input.old input.new))) result }
     ensures kinds { IfErr result IsOfSources }
-    ensures causes { IfErr result (ReadHasCause (told_tree (T.left tree.old)) (told_listing (T.left tree.old) (E.left elf.old)) (Rose (T.faults tree.old) (T.faults tree.new)) (Rose (E.faults elf.old) (E.faults elf.new)) (Rose (I.faults input.old) (I.faults input.new))) }
+    ensures causes { IfErr result (ReadHasCause (record { tree = drawn T.Source tree.old tree.new; elf = drawn E.Source elf.old elf.new; input = drawn I.Source input.old input.new })) }
     ensures sound { IfOk result (λ asked. AreSound asked.options) }
     ensures listing { IfOk result (λ asked. IsOfListing asked.tree asked.user) }
     ensures kept { IfOk result (λ asked. IsKept asked.tree) }
     ensures bytes { IfOk result (λ asked. AreBytes asked.input) }
     ensures before_elf { IfErr result (λ answer. EndsBeforeElf answer → elf.new ≡ elf.old) }
-    ensures unwanted { IfSome (told_tree (T.left tree.old)) (λ listing. IsUnwanted listing → elf.new ≡ elf.old) }
+    ensures unwanted { (elf.new ≡ elf.old) ⊎ WantsElf (drawn T.Source tree.old tree.new) }
     ensures before_input { IfErr result (λ answer. EndsBeforeInput answer → input.new ≡ input.old) }
-    ensures unlisted { IfSome (told_listing (T.left tree.old) (E.left elf.old)) (λ listing. IsRefusal listing → input.new ≡ input.old) }
-    ensures tree_end { OnOk result (IsAtEnd (T.left tree.new)) }
-    ensures elf_end { OnOk result (IfSome (told_tree (T.left tree.old)) (λ listing. IsWanted listing → IsAtEnd (E.left elf.new))) }
-    ensures input_end { OnOk result (IsAtEnd (I.left input.new)) }
+    ensures unlisted { (input.new ≡ input.old) ⊎ IsListed (drawn T.Source tree.old tree.new) (drawn E.Source elf.old elf.new) }
+    ensures gives { AreDrawn (record { tree = drawn T.Source tree.old tree.new; elf = drawn E.Source elf.old elf.new; input = drawn I.Source input.old input.new }) }
+    ensures ends { IsReadAs (record { tree = drawn T.Source tree.old tree.new; elf = drawn E.Source elf.old elf.new; input = drawn I.Source input.old input.new }) result }
     ensures tree_takes { IsAskedWithin (2 ^ 26) (T.takes tree.old) (T.takes tree.new) }
     ensures elf_takes { IsAskedWithin (2 ^ 24) (E.takes elf.old) (E.takes elf.new) }
     ensures input_takes { IsAskedWithin (2 ^ 24) (I.takes input.old) (I.takes input.new) }

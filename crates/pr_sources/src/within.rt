@@ -1,7 +1,7 @@
 //! A source, read to its end within a limit.
-ghost use Rattle.std.specs.Prelude.{◌+◌, ◌≤◌, ◌<◌, ◌^◌, IfOk, OnOk, IfErr};
-ghost use Rattle.std.specs.Io.KnownBytes.{IsAtEnd};
-ghost use Rattle.pr_sources.specs.Within.{Comes, IsAskedWithin, IsReadEnd, IsReadRefusal, ReadsWithin, told_within};
+ghost use Rattle.std.specs.Prelude.{ℕ, List, ◌+◌, ◌≤◌, ◌<◌, ◌^◌, IfOk, OnOk, IfErr};
+ghost use Rattle.pr_io.specs.Drawn.{Gave, IsDrawn, IsWhole, drawn, gave};
+ghost use Rattle.pr_sources.specs.Within.{ComesTo, IsAskedWithin, IsReadEnd, IsReadRefusal, ReadsWithin, within};
 
 use crate::{Answer, Which};
 use pr_base::Bytes;
@@ -15,8 +15,9 @@ fn read_until<S: Source>(
     limit: usize,
     which: Which,
 ) -> Result<Bytes, Answer>
-    ensures read { IfOk result (ReadsWithin limit (S.left source.old) (S.left source.new)) }
-    ensures refused { IfErr result (IsReadEnd which (S.faults source.old) (S.faults source.new)) }
+    ensures read { IfOk result (ReadsWithin limit (drawn S.Source source.old source.new)) }
+    ensures stopped { IfErr result (λ _. (bs : List ℕ) × Gave (drawn S.Source source.old source.new) bs) }
+    ensures refused { IfErr result (IsReadEnd which (drawn S.Source source.old source.new)) }
     ensures count { S.faults source.old ≤ S.faults source.new }
     ensures takes { S.takes source.new ≤ S.takes source.old + limit }
 {
@@ -46,9 +47,10 @@ pub(crate) fn read_within<S: Source>(
     which: Which,
 ) -> Result<Bytes, Answer>
     requires { limit < 2 ^ 32 }
-    ensures told { Comes (told_within limit which (S.left source.old)) result }
-    ensures refused { IfErr result (IsReadRefusal which (S.faults source.old) (S.faults source.new)) }
-    ensures end { OnOk result (IsAtEnd (S.left source.new)) }
+    ensures told { ComesTo (within limit which (gave (drawn S.Source source.old source.new))) result }
+    ensures refused { IfErr result (IsReadRefusal limit which (drawn S.Source source.old source.new)) }
+    ensures gives { IsDrawn (drawn S.Source source.old source.new) }
+    ensures end { OnOk result (IsWhole (drawn S.Source source.old source.new)) }
     ensures count { S.faults source.old ≤ S.faults source.new }
     ensures takes { IsAskedWithin limit (S.takes source.old) (S.takes source.new) }
 {

@@ -1,57 +1,71 @@
 -- From what was read to the opening.
-use Rattle.std.proofs.Common.{◌≡◌, inl, inr, ℕ, false, List, Some, None, refl, sym, ap, subst, ◌∙◌}
-use Rattle.std.specs.Prelude.{Option, Result, Ok, Err, IfErr, IfOk, IsSome, is_some}
-use Rattle.kr_tree.specs.kr_inode.declared.user.User.{User}
-use Rattle.kr_tree.specs.Tree.{Tree}
+use Rattle.std.proofs.Common.{◌≡◌, inl, inr, ℕ, false, List, Some, None, sym, ap, subst, ◌∙◌}
+use Rattle.std.specs.Prelude.{Result, Ok, Err, IfErr, IfOk, IsSome, is_some}
 use Rattle.pr_words.specs.declared.options.Options.{Options}
 use Rattle.pr_sources.specs.declared.answer.Answer.{Answer}
 use Rattle.pr_sources.specs.declared.answer.Answer.TheVariants.{Ended, Deadlock, Spent, Usage, TooLong, TreeBad, BadBind, NoStart, ReadFault, WriteFault, NoMemory}
 use Rattle.pr_sources.specs.Asking.{IsOfAsking, IsRefused}
-use Rattle.pr_sources.specs.Reading.{AsksCase, EndsBeforeElf, EndsBeforeInput, HasCause, IsOfWords, IsRead, IsRefusal, ReadHasCause, ReadsSources, told_asked}
-use Rattle.pr_sources.specs.Within.{Comes, IsEarly, Stage, and_then}
+use Rattle.pr_sources.specs.Reading.{AllAreRead, AsksCase, EndsBeforeElf, EndsBeforeInput, HasCause, IsOfWords, IsRead, IsReadAs, IsReadUpTo, IsRefusal, ReadHasCause, ReadsSources, Sources, read_asked}
+use Rattle.pr_sources.specs.Within.{ComesTo, and_then}
 use Rattle.pr_sources.specs.declared.reading.Asked.{Asked}
-use Rattle.pr_top.specs.Opening.{Begun, IsOfStart, Opens, OpensFrom, ReadsAs, WasRead, begun, case_begun, opened_for}
+use Rattle.pr_top.specs.Opening.{Begun, IsOfStart, OpensFrom, ReadsAs, WasRead, begun, case_begun, opened_for}
 use Rattle.pr_top.specs.declared.opening.Opened.{Opened}
 
-same-ok : (x y : Asked) → ◌≡◌ {A = Result Asked Answer} (Ok x) (Ok y) → x ≡ y
-same-ok x y e = cc
-
-same-err : (a b : Answer) → ◌≡◌ {A = Result Asked Answer} (Err a) (Err b) → a ≡ b
-same-err a b e = cc
-
 -- what is read is settled and started
-pub opens-then : (told : Stage Asked) (x : Asked) (answer : Result Opened Answer) → Comes told (Ok x) → OpensFrom (begun x) answer → Opens (and_then told (λ a. Some (begun a))) answer
-opens-then None x answer first next = tt
-opens-then (Some (Ok y)) x answer first next = subst (λ a. OpensFrom (begun a) answer) (sym (same-ok y x first)) next
-opens-then (Some (Err a)) x answer first next = absurd cc
+pub opens-then : (r : Result Asked Answer) (x : Asked) (answer : Result Opened Answer) → ComesTo r (Ok x) → OpensFrom (begun x) answer → OpensFrom (and_then r (λ a. begun a)) answer
+opens-then r x answer first next = subst (λ q. OpensFrom (and_then q (λ a. begun a)) answer) (sym first) next
 
 -- what is refused stays so
-pub opens-stop : (told : Stage Asked) (a : Answer) → Comes told (Err a) → Opens (and_then told (λ x. Some (begun x))) (Err a)
-opens-stop None a stop = tt
-opens-stop (Some (Ok y)) a (inl e) = absurd cc
-opens-stop (Some (Ok y)) a (inr early) = inr early
-opens-stop (Some (Err b)) a (inl e) = inl (ap (λ (x : Answer). Err x) (same-err b a e))
-opens-stop (Some (Err b)) a (inr early) = inr early
+pub opens-stop : (r : Result Asked Answer) (a : Answer) → ComesTo r (Err a) → OpensFrom (and_then r (λ x. begun x)) (Err a)
+opens-stop r a (inl e) = inl (ap (λ (q : Result Asked Answer). and_then q (λ x. begun x)) e)
+opens-stop r a (inr early) = inr early
 
 -- ---- what was read
 
-pub reads-stop : (told : Stage Asked) (a : Answer) → Comes told (Err a) → ReadsAs told (Err a)
-reads-stop None a stop = inl tt
-reads-stop (Some (Ok y)) a (inl e) = absurd cc
-reads-stop (Some (Ok y)) a (inr early) = inr early
-reads-stop (Some (Err b)) a stop = inl tt
+pub reads-stop : (r : Result Asked Answer) (a : Answer) → ComesTo r (Err a) → ReadsAs r (Err a)
+reads-stop r a (inl e) = inl (subst WasRead (sym e) tt)
+reads-stop r a (inr early) = inr early
 
-was-read : (told : Stage Asked) (x : Asked) → Comes told (Ok x) → IsRead x → WasRead told
-was-read None x comes read = tt
-was-read (Some (Ok y)) x comes read = subst IsRead (sym (same-ok y x comes)) read
-was-read (Some (Err a)) x comes read = absurd cc
+was-read : (r : Result Asked Answer) (x : Asked) → ComesTo r (Ok x) → IsRead x → WasRead r
+was-read r x comes read = subst WasRead (sym comes) read
 
-pub reads-then : (told : Stage Asked) (x : Asked) (answer : Result Opened Answer) → Comes told (Ok x) → IsRead x → ReadsAs told answer
-reads-then told x (Ok opened) comes read = was-read told x comes read
-reads-then told x (Err a) comes read = inl (was-read told x comes read)
+pub reads-then : (r : Result Asked Answer) (x : Asked) (answer : Result Opened Answer) → ComesTo r (Ok x) → IsRead x → ReadsAs r answer
+reads-then r x (Ok opened) comes read = was-read r x comes read
+reads-then r x (Err a) comes read = inl (was-read r x comes read)
+
+-- ---- what was read to its end
+
+-- a start comes behind all sources
+pub ends-start : (s : Sources) (answer : Result Opened Answer) → AllAreRead s → IfErr answer IsOfStart → IsReadAs s answer
+ends-start s (Ok opened) all is = all
+ends-start s (Err (BadBind index why)) all is = all
+ends-start s (Err (NoStart errno)) all is = all
+ends-start s (Err NoMemory) all is = tt
+ends-start s (Err (Ended status)) all is = absurd is
+ends-start s (Err Deadlock) all is = absurd is
+ends-start s (Err Spent) all is = absurd is
+ends-start s (Err (Usage word why)) all is = absurd is
+ends-start s (Err (TooLong which)) all is = absurd is
+ends-start s (Err (TreeBad line why)) all is = absurd is
+ends-start s (Err (ReadFault which)) all is = absurd is
+ends-start s (Err (WriteFault which)) all is = absurd is
+
+-- words that are refused ask for no source
+pub ends-refused : (words : Result Options Answer) (s : Sources) (a : Answer) → IsOfAsking a → IsRefused words a → ReadsSources words → IsReadUpTo s a
+ends-refused words s (Usage word why) is e reads = subst ReadsSources e reads
+ends-refused words s NoMemory is e reads = tt
+ends-refused words s (Ended status) is e reads = absurd is
+ends-refused words s Deadlock is e reads = absurd is
+ends-refused words s Spent is e reads = absurd is
+ends-refused words s (TooLong which) is e reads = absurd is
+ends-refused words s (TreeBad line why) is e reads = absurd is
+ends-refused words s (BadBind index why) is e reads = absurd is
+ends-refused words s (NoStart errno) is e reads = absurd is
+ends-refused words s (ReadFault which) is e reads = absurd is
+ends-refused words s (WriteFault which) is e reads = absurd is
 
 -- words that are refused, or want of memory
-pub reads-refused : (words : Result Options Answer) (told : Options → Stage Asked) (a : Answer) → IsOfAsking a → IsRefused words a → IfOk words (λ o. o.case ≡ None → ReadsAs (told o) (Err a))
+pub reads-refused : (words : Result Options Answer) (told : Options → Result Asked Answer) (a : Answer) → IsOfAsking a → IsRefused words a → IfOk words (λ o. o.case ≡ None → ReadsAs (told o) (Err a))
 reads-refused (Err b) told a is e = tt
 reads-refused (Ok o) told (Usage word why) is e = absurd cc
 reads-refused (Ok o) told NoMemory is e = λ alone. inr tt
@@ -74,17 +88,10 @@ reads-sources words o P worded is = subst (λ w. IfOk w (λ o. o.case ≡ None �
 
 -- ---- the words, and what they ask for
 
-early-opens : (told : Stage Begun) (a : Answer) → IsEarly a → Opens told (Err a)
-early-opens None a early = tt
-early-opens (Some expected) a early = inr early
-
-refused-opens : (words : Result Options Answer) (go : Options → Stage Begun) (a : Answer) → words ≡ Err a → Opens (and_then (Some words) go) (Err a)
-refused-opens words go a e = subst (λ w. Opens (and_then (Some w) go) (Err a)) (sym e) (inl refl)
-
 -- words that are refused, or want of memory
-pub opens-refused : (words : Result Options Answer) (go : Options → Stage Begun) (a : Answer) → IsOfAsking a → IsRefused words a → Opens (and_then (Some words) go) (Err a)
-opens-refused words go (Usage word why) is e = refused-opens words go (Usage word why) e
-opens-refused words go NoMemory is e = early-opens (and_then (Some words) go) NoMemory tt
+pub opens-refused : (words : Result Options Answer) (go : Options → Result Begun Answer) (a : Answer) → IsOfAsking a → IsRefused words a → OpensFrom (and_then words go) (Err a)
+opens-refused words go (Usage word why) is e = inl (ap (λ (w : Result Options Answer). and_then w go) e)
+opens-refused words go NoMemory is e = inr tt
 opens-refused words go (Ended status) is e = absurd is
 opens-refused words go Deadlock is e = absurd is
 opens-refused words go Spent is e = absurd is
@@ -98,18 +105,18 @@ opens-refused words go (WriteFault which) is e = absurd is
 module _ (words : Result Options Answer) (o : Options) (worded : words ≡ Ok o) where
   module _ (n : ℕ) (is : o.case ≡ Some n) where
     -- a generated case is asked for
-    pub opens-case : (tree elf input : Option (List ℕ)) (answer : Result Opened Answer) → OpensFrom (case_begun n o) answer → Opens (and_then (Some words) (λ o. opened_for o.case o tree elf input)) answer
+    pub opens-case : (tree elf input : List ℕ) (answer : Result Opened Answer) → OpensFrom (case_begun n o) answer → OpensFrom (and_then words (λ o. opened_for o.case o tree elf input)) answer
     opens-case tree elf input answer opens =
-        subst (λ w. Opens (and_then (Some w) (λ o. opened_for o.case o tree elf input)) answer) (sym worded) (subst (λ k. Opens (opened_for k o tree elf input) answer) (sym is) opens)
+        subst (λ w. OpensFrom (and_then w (λ o. opened_for o.case o tree elf input)) answer) (sym worded) (subst (λ k. OpensFrom (opened_for k o tree elf input) answer) (sym is) opens)
 
     pub reads-not : ReadsSources words → ⊥
     reads-not reads = let none : o.case ≡ None = subst ReadsSources worded reads in absurd cc
 
   module _ (is : o.case ≡ None) where
     -- none is
-    pub opens-sources : (tree elf input : Option (List ℕ)) (answer : Result Opened Answer) → Opens (and_then (told_asked o tree elf input) (λ a. Some (begun a))) answer → Opens (and_then (Some words) (λ o. opened_for o.case o tree elf input)) answer
+    pub opens-sources : (tree elf input : List ℕ) (answer : Result Opened Answer) → OpensFrom (and_then (read_asked o tree elf input) (λ a. begun a)) answer → OpensFrom (and_then words (λ o. opened_for o.case o tree elf input)) answer
     opens-sources tree elf input answer opens =
-        subst (λ w. Opens (and_then (Some w) (λ o. opened_for o.case o tree elf input)) answer) (sym worded) (subst (λ k. Opens (opened_for k o tree elf input) answer) (sym is) opens)
+        subst (λ w. OpensFrom (and_then w (λ o. opened_for o.case o tree elf input)) answer) (sym worded) (subst (λ k. OpensFrom (opened_for k o tree elf input) answer) (sym is) opens)
 
     pub reads : ReadsSources words
     reads = subst ReadsSources (sym worded) is
@@ -121,18 +128,18 @@ module _ (words : Result Options Answer) (o : Options) (worded : words ≡ Ok o)
   refused-not refusal = subst IsRefusal worded refusal
 
 -- the cause of a fault, behind words that ask for sources
-pub has-cause : (words : Result Options Answer) (tree : Stage (List ℕ)) (listing : Stage (Tree × User)) (rose_tree rose_elf rose_input : Type 0) → ReadsSources words → (a : Answer) → ReadHasCause tree listing rose_tree rose_elf rose_input a → HasCause words tree listing rose_tree rose_elf rose_input a
-has-cause words tree listing rose_tree rose_elf rose_input asks (ReadFault which) cause = (asks, cause)
-has-cause words tree listing rose_tree rose_elf rose_input asks (Usage word why) cause = tt
-has-cause words tree listing rose_tree rose_elf rose_input asks NoMemory cause = tt
-has-cause words tree listing rose_tree rose_elf rose_input asks (Ended status) cause = tt
-has-cause words tree listing rose_tree rose_elf rose_input asks Deadlock cause = tt
-has-cause words tree listing rose_tree rose_elf rose_input asks Spent cause = tt
-has-cause words tree listing rose_tree rose_elf rose_input asks (TooLong which) cause = tt
-has-cause words tree listing rose_tree rose_elf rose_input asks (TreeBad line why) cause = tt
-has-cause words tree listing rose_tree rose_elf rose_input asks (BadBind index why) cause = tt
-has-cause words tree listing rose_tree rose_elf rose_input asks (NoStart errno) cause = tt
-has-cause words tree listing rose_tree rose_elf rose_input asks (WriteFault which) cause = tt
+pub has-cause : (words : Result Options Answer) (s : Sources) → ReadsSources words → (a : Answer) → ReadHasCause s a → HasCause words s a
+has-cause words s asks (ReadFault which) cause = (asks, cause)
+has-cause words s asks (Usage word why) cause = tt
+has-cause words s asks NoMemory cause = tt
+has-cause words s asks (Ended status) cause = tt
+has-cause words s asks Deadlock cause = tt
+has-cause words s asks Spent cause = tt
+has-cause words s asks (TooLong which) cause = tt
+has-cause words s asks (TreeBad line why) cause = tt
+has-cause words s asks (BadBind index why) cause = tt
+has-cause words s asks (NoStart errno) cause = tt
+has-cause words s asks (WriteFault which) cause = tt
 
 pub err-then : {A : Type 0} (P Q : Answer → Type 0) (answer : Result A Answer) → ((a : Answer) → P a → Q a) → IfErr answer P → IfErr answer Q
 err-then P Q (Ok x) f is = tt
@@ -163,11 +170,11 @@ if-err P (Err a) f is = f a is
 pub not-of-words : (Q : Answer → Type 0) → Start (λ a. IsOfWords a → Q a)
 not-of-words Q = of-start (λ a. IsOfWords a → Q a) (λ index why words. absurd words) (λ errno words. absurd words) (λ words. absurd words)
 
-pub no-fault : (words : Result Options Answer) (tree : Stage (List ℕ)) (listing : Stage (Tree × User)) (rose_tree rose_elf rose_input : Type 0) → Start (HasCause words tree listing rose_tree rose_elf rose_input)
-no-fault words tree listing rose_tree rose_elf rose_input = of-start (HasCause words tree listing rose_tree rose_elf rose_input) (λ index why. tt) (λ errno. tt) tt
+pub no-fault : (words : Result Options Answer) (s : Sources) → Start (HasCause words s)
+no-fault words s = of-start (HasCause words s) (λ index why. tt) (λ errno. tt) tt
 
-pub no-read-fault : (tree : Stage (List ℕ)) (listing : Stage (Tree × User)) (rose_tree rose_elf rose_input : Type 0) → Start (ReadHasCause tree listing rose_tree rose_elf rose_input)
-no-read-fault tree listing rose_tree rose_elf rose_input = of-start (ReadHasCause tree listing rose_tree rose_elf rose_input) (λ index why. tt) (λ errno. tt) tt
+pub no-read-fault : (s : Sources) → Start (ReadHasCause s)
+no-read-fault s = of-start (ReadHasCause s) (λ index why. tt) (λ errno. tt) tt
 
 pub not-before-elf : (Q : Type 0) → Start (λ a. EndsBeforeElf a → Q)
 not-before-elf Q = of-start (λ a. EndsBeforeElf a → Q) (λ index why ends. absurd ends) (λ errno ends. absurd ends) (λ ends. absurd ends)

@@ -1,11 +1,11 @@
 -- A run goes on where another one ended: its call is handed the listing that the other one left.
-use Rattle.std.specs.Prelude.{◌≡◌, ◌≤◌, ℕ, List, length, Option, Some, None, Ok}
+use Rattle.std.specs.Prelude.{◌≡◌, ◌≤◌, ℕ, List, length, None, Ok}
 use Rattle.pr_words.specs.declared.options.Options.{Options}
 use Rattle.kr_tree.specs.Lawful.{IsKept}
 use Rattle.kr_tree.specs.Tree.{Tree}
 use Rattle.pr_sources.specs.kr_text.Same.{CanBeListed, IsSame}
 use Rattle.pr_sources.specs.Asking.{asked}
-use Rattle.pr_sources.specs.Reading.{asks, file_limit, told_file, tree_limit}
+use Rattle.pr_sources.specs.Reading.{asks, file_limit, read_file, tree_limit}
 use Rattle.pr_top.specs.Opening.{Begun, Both, Mounts, Started, Traced, begun, mounted_run, opening, report, traced_run}
 
 -- the tree that a run leaves, by the machine that makes it; of a generated case that of the watched one
@@ -17,13 +17,13 @@ tree_on b (Both n m table k) = (traced_run b.plan m).machine.state.tree
 abbrev pub tree_left : Begun → Tree
 tree_left b = tree_on b b.started
 
--- where the tree that a run left can be listed, and its listing is within the limit, a call on that listing, whose words and other
+-- where the tree that a run left can be listed, and its listing is within the limit, a call that is given that listing, whose words and other
 -- sources aren't refused, and which asks for no generated case, opens on the run's user and a tree in which each text names the like, and two texts name one file exactly
 -- where they did
 abbrev pub AreReadAgain : Type 0
 AreReadAgain =
     (b : Begun) → IsKept (tree_left b) → CanBeListed (tree_left b) b.plan.user → length (report b).left ≤ tree_limit
     → (words : List (List ℕ)) (options : Options) → asked words ≡ Ok options → options.case ≡ None
-    → (elf : Option (List ℕ)) (file : List ℕ) → told_file elf (report b).left ≡ Some (Ok file)
+    → (elf file : List ℕ) → read_file elf (report b).left ≡ Ok file
     → (input : List ℕ) → length input ≤ file_limit
-    → (u : Tree) × (opening words (Some (report b).left) elf (Some input) ≡ Some (begun (asks options (u, b.plan.user) input))) × IsSame (tree_left b) u
+    → (u : Tree) × (opening words (report b).left elf input ≡ begun (asks options (u, b.plan.user) input)) × IsSame (tree_left b) u

@@ -1,6 +1,6 @@
--- The opening: the first refusal in the order of the words, the sources, the bindings and the start, or a run that begins. It is known where
--- the sources that it needs tell their bytes; a generated case needs none.
-use Rattle.std.specs.Prelude.{◌≡◌, ◌⊎◌, ℕ, Bool, true, false, List, [], codes, Option, Some, None, IfOk, IfSome, Result, Ok, Err, if◌then◌else◌}
+-- The opening: the first refusal in the order of the words, the sources, the bindings and the start, or a run that begins. It is a function of
+-- the words and of the bytes that the sources gave; a generated case needs none.
+use Rattle.std.specs.Prelude.{◌≡◌, ◌⊎◌, ℕ, Bool, true, false, List, [], codes, Option, Some, None, IfOk, Result, Ok, Err, if◌then◌else◌}
 use Rattle.pr_base.specs.declared.errno.Errno.{Errno}
 use Rattle.kr_tree.specs.Tree.{Tree}
 use Rattle.kr_view.specs.View.{Row, plain}
@@ -18,9 +18,9 @@ use Rattle.pr_start.specs.kr_first.declared.starting.StartFault.TheVariants as f
 use Rattle.kr_tree.specs.kr_inode.declared.user.User.{User}
 use Rattle.pr_sources.specs.declared.answer.Answer.{Answer}
 use Rattle.pr_sources.specs.declared.answer.Answer.TheVariants.{BadBind, NoMemory, NoStart, ReadFault, TooLong, TreeBad, Usage}
-use Rattle.pr_sources.specs.Within.{IsEarly, Stage, and_then}
+use Rattle.pr_sources.specs.Within.{IsEarly, and_then}
 use Rattle.pr_sources.specs.Asking.{asked}
-use Rattle.pr_sources.specs.Reading.{IsRead, listed, told_asked}
+use Rattle.pr_sources.specs.Reading.{IsRead, listed, read_asked}
 use Rattle.pr_sources.specs.declared.reading.Asked.{Asked}
 use Rattle.pr_start.specs.Beginning.{beginning}
 use Rattle.pr_start.specs.Machines.{Faked, Machine, Nobody, Ran, Watch, machine, run, starting_faking, watch}
@@ -165,12 +165,12 @@ case_begun n o = begun_both n o (case_staged n)
 -- ---- the whole
 
 -- no source is read for a generated case
-abbrev pub opened_for : Option ℕ → Options → Option (List ℕ) → Option (List ℕ) → Option (List ℕ) → Stage Begun
-opened_for (Some n) options tree elf input = Some (case_begun n options)
-opened_for None options tree elf input = and_then (told_asked options tree elf input) (λ asked. Some (begun asked))
+abbrev pub opened_for : Option ℕ → Options → List ℕ → List ℕ → List ℕ → Result Begun Answer
+opened_for (Some n) options tree elf input = case_begun n options
+opened_for None options tree elf input = and_then (read_asked options tree elf input) (λ asked. begun asked)
 
-abbrev pub opening : List (List ℕ) → Option (List ℕ) → Option (List ℕ) → Option (List ℕ) → Stage Begun
-opening words tree elf input = and_then (Some (asked words)) (λ options. opened_for options.case options tree elf input)
+abbrev pub opening : List (List ℕ) → List ℕ → List ℕ → List ℕ → Result Begun Answer
+opening words tree elf input = and_then (asked words) (λ options. opened_for options.case options tree elf input)
 
 -- ---- what the opening's code answers
 
@@ -209,17 +209,14 @@ abbrev pub OpensFrom : Result Begun Answer → Result Opened Answer → Type 0
 OpensFrom expected (Ok opened) = expected ≡ Ok (begun_told opened)
 OpensFrom expected (Err answer) = (expected ≡ Err answer) ⊎ IsEarly answer
 
-abbrev pub Opens : Stage Begun → Result Opened Answer → Type 0
-Opens told answer = IfSome told (λ expected. OpensFrom expected answer)
-
--- what the words ask for of the sources, where that is told, was read
-abbrev pub WasRead : Stage Asked → Type 0
-WasRead told = IfSome told (λ a. IfOk a IsRead)
+-- what the words ask for of the sources, where that isn't refused, was read
+abbrev pub WasRead : Result Asked Answer → Type 0
+WasRead asked_for = IfOk asked_for IsRead
 
 -- but for an early end
-abbrev pub ReadsAs : Stage Asked → Result Opened Answer → Type 0
-ReadsAs told (Ok opened) = WasRead told
-ReadsAs told (Err answer) = WasRead told ⊎ IsEarly answer
+abbrev pub ReadsAs : Result Asked Answer → Result Opened Answer → Type 0
+ReadsAs asked_for (Ok opened) = WasRead asked_for
+ReadsAs asked_for (Err answer) = WasRead asked_for ⊎ IsEarly answer
 
 -- and so are the parts of a generated case
 abbrev pub staged_told : StageOfCode → Staged

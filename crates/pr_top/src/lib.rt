@@ -3,9 +3,10 @@
 //!
 //! What is proved, with the clause or the law that carries it:
 //!
-//! The opening of words and sources, and the report of what it begins. Of sources that tell their bytes `open` answers the opening's refusal, or
-//! a run that is ready, or a fault of a source, or want of memory (`opens`; of any sources `kinds`, `ready`; `read`: but for an early end, what
-//! the words ask for was read), with the causes of the faults, what isn't touched and what was read to its end (`causes` to `input_takes`);
+//! The opening of words and sources, and the report of what it begins. `open` answers the opening's refusal for the words and the bytes that the
+//! sources gave in the call, or a run that is ready, or a fault of a source, or want of memory (`opens`, `kinds`, `ready`; `read`: but for an
+//! early end, what the words ask for was read), with what each source gave (`gives`), what was read to its end (`ends`), the causes of the
+//! faults and what isn't touched (`causes` to `input_takes`);
 //! `Opened::report` runs it and puts its report (`AnswersReport`). The opening is a definition in stages (`opening`), the run is that of the
 //! kernel with mounts or of the plain one with its tracer (`mounted_run`, `traced_run`), and the report a function of the run (`report`). With
 //! `--case` the opening is that of the case of the number (`case_begun`), the watched machine first; both are run, and the report is the case's.

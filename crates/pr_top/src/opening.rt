@@ -1,8 +1,8 @@
 //! The opening: the words and the sources are read, bindings are settled, and the first process begins. Of a generated case both machines
 //! begin, and no source is read.
-ghost use Rattle.std.specs.Prelude.{◌≡◌, ◌<◌, ◌^◌, None, Some, Err, IfErr, IfOk, IfSome, OnOk, length, map};
+ghost use Rattle.std.specs.Prelude.{◌≡◌, ◌⊎◌, ◌<◌, ◌^◌, None, Some, Err, IfErr, IfOk, length, map};
 ghost use Rattle.std.specs.String.{string_bytes};
-ghost use Rattle.std.specs.Io.KnownBytes.{IsAtEnd};
+ghost use Rattle.pr_io.specs.Drawn.{drawn, gave};
 ghost use Rattle.pr_io.specs.Faults.{Rose};
 ghost use Rattle.pr_words.specs.Sound.{AreSound};
 ghost use Rattle.std.specs.List.{All};
@@ -12,9 +12,9 @@ ghost use Rattle.kr_mounts.specs.Stored.{table_of};
 ghost use Rattle.pr_start.specs.kr_start.Ready.{IsOfListing, IsReady};
 ghost use Rattle.kr_mounts.specs.pt_bind.Binding.{rows_of};
 ghost use Rattle.pr_sources.specs.Asking.{asked};
-ghost use Rattle.pr_sources.specs.Reading.{AsksCase, EndsBeforeElf, EndsBeforeInput, HasCause, IsOfWords, IsRefusal, IsUnwanted, IsWanted, ReadHasCause, ReadsSources, told_asked, told_listing, told_tree};
+ghost use Rattle.pr_sources.specs.Reading.{AreDrawn, AsksCase, EndsBeforeElf, EndsBeforeInput, HasCause, IsListed, IsOfWords, IsReadAs, IsRefusal, ReadHasCause, ReadsSources, WantsElf, read_asked};
 ghost use Rattle.pr_sources.specs.Within.{IsAskedWithin, and_then};
-ghost use Rattle.pr_top.specs.Opening.{IsFresh, IsOfOpening, IsOfStart, IsReadyToRun, Opens, OpensFrom, ReadsAs, StartsAs, begun, ids_for, opening, started_on, watch_for};
+ghost use Rattle.pr_top.specs.Opening.{IsFresh, IsOfOpening, IsOfStart, IsReadyToRun, OpensFrom, ReadsAs, StartsAs, begun, ids_for, opening, started_on, watch_for};
 
 use crate::generated::begin_case;
 use kr_mounts::{BindFault, Mounted};
@@ -179,19 +179,18 @@ fn open_sources<T: Source, E: Source, I: Source>(
     input: &mut I,
 ) -> Result<Opened, Answer>
     requires { AreSound options }
-    ensures opens { Opens (and_then (told_asked options (T.left tree.old) (E.left elf.old) (I.left input.old)) (λ asked. Some (begun asked))) result }
-    ensures read { ReadsAs (told_asked options (T.left tree.old) (E.left elf.old) (I.left input.old)) result }
+    ensures opens { OpensFrom (and_then (read_asked options (gave (drawn T.Source tree.old tree.new)) (gave (drawn E.Source elf.old elf.new)) (gave (drawn I.Source input.old input.new))) (λ asked. begun asked)) result }
+    ensures read { ReadsAs (read_asked options (gave (drawn T.Source tree.old tree.new)) (gave (drawn E.Source elf.old elf.new)) (gave (drawn I.Source input.old input.new))) result }
     ensures ready { IfOk result (λ opened. IsReadyToRun opened) }
     ensures kinds { IfErr result IsOfOpening }
     ensures words { IfErr result (λ answer. IsOfWords answer → ⊥) }
-    ensures causes { IfErr result (ReadHasCause (told_tree (T.left tree.old)) (told_listing (T.left tree.old) (E.left elf.old)) (Rose (T.faults tree.old) (T.faults tree.new)) (Rose (E.faults elf.old) (E.faults elf.new)) (Rose (I.faults input.old) (I.faults input.new))) }
+    ensures causes { IfErr result (ReadHasCause (record { tree = drawn T.Source tree.old tree.new; elf = drawn E.Source elf.old elf.new; input = drawn I.Source input.old input.new })) }
     ensures before_elf { IfErr result (λ answer. EndsBeforeElf answer → elf.new ≡ elf.old) }
-    ensures unwanted { IfSome (told_tree (T.left tree.old)) (λ listing. IsUnwanted listing → elf.new ≡ elf.old) }
+    ensures unwanted { (elf.new ≡ elf.old) ⊎ WantsElf (drawn T.Source tree.old tree.new) }
     ensures before_input { IfErr result (λ answer. EndsBeforeInput answer → input.new ≡ input.old) }
-    ensures unlisted { IfSome (told_listing (T.left tree.old) (E.left elf.old)) (λ listing. IsRefusal listing → input.new ≡ input.old) }
-    ensures tree_end { OnOk result (IsAtEnd (T.left tree.new)) }
-    ensures elf_end { OnOk result (IfSome (told_tree (T.left tree.old)) (λ listing. IsWanted listing → IsAtEnd (E.left elf.new))) }
-    ensures input_end { OnOk result (IsAtEnd (I.left input.new)) }
+    ensures unlisted { (input.new ≡ input.old) ⊎ IsListed (drawn T.Source tree.old tree.new) (drawn E.Source elf.old elf.new) }
+    ensures gives { AreDrawn (record { tree = drawn T.Source tree.old tree.new; elf = drawn E.Source elf.old elf.new; input = drawn I.Source input.old input.new }) }
+    ensures ends { IsReadAs (record { tree = drawn T.Source tree.old tree.new; elf = drawn E.Source elf.old elf.new; input = drawn I.Source input.old input.new }) result }
     ensures tree_takes { IsAskedWithin (2 ^ 26) (T.takes tree.old) (T.takes tree.new) }
     ensures elf_takes { IsAskedWithin (2 ^ 24) (E.takes elf.old) (E.takes elf.new) }
     ensures input_takes { IsAskedWithin (2 ^ 24) (I.takes input.old) (I.takes input.new) }
@@ -209,21 +208,21 @@ pub fn open<T: Source, E: Source, I: Source>(
     input: &mut I,
 ) -> Result<Opened, Answer>
     requires { length words.now < 2 ^ 32 }
-    ensures opens { Opens (opening (map string_bytes words.now) (T.left tree.old) (E.left elf.old) (I.left input.old)) result }
-    ensures read { IfOk (asked (map string_bytes words.now)) (λ options. options.case ≡ None → ReadsAs (told_asked options (T.left tree.old) (E.left elf.old) (I.left input.old)) result) }
+    ensures opens { OpensFrom (opening (map string_bytes words.now) (gave (drawn T.Source tree.old tree.new)) (gave (drawn E.Source elf.old elf.new)) (gave (drawn I.Source input.old input.new))) result }
+    ensures read { IfOk (asked (map string_bytes words.now)) (λ options. options.case ≡ None →
+        ReadsAs (read_asked options (gave (drawn T.Source tree.old tree.new)) (gave (drawn E.Source elf.old elf.new)) (gave (drawn I.Source input.old input.new))) result) }
     ensures ready { IfOk result (λ opened. IsReadyToRun opened) }
     ensures kinds { IfErr result IsOfOpening }
     ensures words { IfErr result (λ answer. IsOfWords answer → asked (map string_bytes words.now) ≡ Err answer) }
-    ensures causes { IfErr result (HasCause (asked (map string_bytes words.now)) (told_tree (T.left tree.old)) (told_listing (T.left tree.old) (E.left elf.old)) (Rose (T.faults tree.old) (T.faults tree.new)) (Rose (E.faults elf.old) (E.faults elf.new)) (Rose (I.faults input.old) (I.faults input.new))) }
-    ensures before_tree { IsRefusal (asked (map string_bytes words.now)) → tree.new ≡ tree.old }
+    ensures causes { IfErr result (HasCause (asked (map string_bytes words.now)) (record { tree = drawn T.Source tree.old tree.new; elf = drawn E.Source elf.old elf.new; input = drawn I.Source input.old input.new })) }
+    ensures before_sources { IsRefusal (asked (map string_bytes words.now)) → (tree.new ≡ tree.old) × (elf.new ≡ elf.old) × (input.new ≡ input.old) }
     ensures case_sources { AsksCase (asked (map string_bytes words.now)) → (tree.new ≡ tree.old) × (elf.new ≡ elf.old) × (input.new ≡ input.old) }
     ensures before_elf { IfErr result (λ answer. EndsBeforeElf answer → elf.new ≡ elf.old) }
-    ensures unwanted { IfSome (told_tree (T.left tree.old)) (λ listing. IsUnwanted listing → elf.new ≡ elf.old) }
+    ensures unwanted { (elf.new ≡ elf.old) ⊎ WantsElf (drawn T.Source tree.old tree.new) }
     ensures before_input { IfErr result (λ answer. EndsBeforeInput answer → input.new ≡ input.old) }
-    ensures unlisted { IfSome (told_listing (T.left tree.old) (E.left elf.old)) (λ listing. IsRefusal listing → input.new ≡ input.old) }
-    ensures tree_end { OnOk result (ReadsSources (asked (map string_bytes words.now)) → IsAtEnd (T.left tree.new)) }
-    ensures elf_end { OnOk result (ReadsSources (asked (map string_bytes words.now)) → IfSome (told_tree (T.left tree.old)) (λ listing. IsWanted listing → IsAtEnd (E.left elf.new))) }
-    ensures input_end { OnOk result (ReadsSources (asked (map string_bytes words.now)) → IsAtEnd (I.left input.new)) }
+    ensures unlisted { (input.new ≡ input.old) ⊎ IsListed (drawn T.Source tree.old tree.new) (drawn E.Source elf.old elf.new) }
+    ensures gives { AreDrawn (record { tree = drawn T.Source tree.old tree.new; elf = drawn E.Source elf.old elf.new; input = drawn I.Source input.old input.new }) }
+    ensures ends { ReadsSources (asked (map string_bytes words.now)) → IsReadAs (record { tree = drawn T.Source tree.old tree.new; elf = drawn E.Source elf.old elf.new; input = drawn I.Source input.old input.new }) result }
     ensures tree_takes { IsAskedWithin (2 ^ 26) (T.takes tree.old) (T.takes tree.new) }
     ensures elf_takes { IsAskedWithin (2 ^ 24) (E.takes elf.old) (E.takes elf.new) }
     ensures input_takes { IsAskedWithin (2 ^ 24) (I.takes input.old) (I.takes input.new) }

@@ -1,8 +1,7 @@
 use Rattle.std.proofs.Common.{◌≡◌, rules, sym, ap, subst, ◌∙◌}
 use Rattle.std.specs.Prelude.{Err}
-use Rattle.std.specs.Io.KnownBytes.{Appends}
-use Rattle.std.proofs.KnownBytes.{Appends-trans}
 use Rattle.pr_io.specs.Faults.{Rose}
+use Rattle.pr_io.specs.Moves.{Gets}
 use Rattle.kr_core.specs.Kernel.{machine}
 use Rattle.kr_text.specs.Canonical.{canonical}
 use Rattle.kr_core.specs.kr_turns.Run.{run}
@@ -10,7 +9,7 @@ use Rattle.kr_core.specs.kr_turns.Turn.{Machine}
 use Rattle.pr_run.specs.Report.{calm_part, errs, report_of}
 use Rattle.pr_run.specs.Puts.{PutsCalm, PutsListing, PutsTurns}
 use Rattle.pr_run.specs.Slots.{slot_of}
-use Rattle.pr_run.proofs.BytesLemmas.{rose-since}
+use Rattle.pr_run.proofs.BytesLemmas.{gets-trans, rose-since}
 use Rattle.pr_run.proofs.ReportLemmas.{stops-at-calm, stops-at-listing}
 use Rattle.pr_run.proofs.reporting.put_report.Goals as goal
 
@@ -36,8 +35,8 @@ returns-in_err-put_listing g c =
     let r = report_of plan ran in
     let puts = c.in_ok-end.ensures.puts in
     let calm : calm_part plan.calm c.broken.result ≡ r.calm = ap (calm_part plan.calm) (c.broken.ensures ∙ ap (λ (m : Machine g.row.S.Denot). m.tally.broken) (sym c.in_ok-end.ensures.machine)) in
-    let line = subst (λ bytes. Appends (g.R.Sink.got c.run_turns.new.err) (g.R.Sink.got c.put_calm.new.err) bytes) calm c.in_ok-put_calm.ensures.put in
-    let turns : PutsTurns r (g.O.Sink.got c.args.out.now) (g.O.Sink.got c.run_turns.new.out) (g.R.Sink.got c.args.err.now) (g.R.Sink.got c.put_calm.new.err) = record { out_got = puts.1; err_got = Appends-trans (g.R.Sink.got c.args.err.now) (g.R.Sink.got c.run_turns.new.err) (g.R.Sink.got c.put_calm.new.err) (errs r.puts) r.calm puts.2 line } in
+    let line = subst (λ bytes. Gets (g.R.Sink.got c.run_turns.new.err) (g.R.Sink.got c.put_calm.new.err) bytes) calm c.in_ok-put_calm.ensures.put in
+    let turns : PutsTurns r (g.O.Sink.got c.args.out.now) (g.O.Sink.got c.run_turns.new.out) (g.R.Sink.got c.args.err.now) (g.R.Sink.got c.put_calm.new.err) = record { out_got = puts.1; err_got = gets-trans (g.R.Sink.got c.args.err.now) (g.R.Sink.got c.run_turns.new.err) (g.R.Sink.got c.put_calm.new.err) (errs r.puts) r.calm puts.2 line } in
     let listing : canonical (machine number c.run_turns.new.kernel).state.tree plan.user ≡ r.left = ap (λ (m : Machine g.row.S.Denot). canonical m.state.tree plan.user) (sym c.in_ok-end.ensures.machine) in
     let put = subst (λ bytes. PutsListing bytes (g.L.Sink.got c.args.left.now) (g.L.Sink.got c.put_listing.new.left) (Rose (g.L.Sink.faults c.args.left.now) (g.L.Sink.faults c.put_listing.new.left)) (Err c.in_err-put_listing.field-0.0)) listing c.in_err-put_listing.ensures.put in
     let stopped = stops-at-listing r (Rose (g.O.Sink.faults c.args.out.now) (g.O.Sink.faults c.run_turns.new.out)) (Rose (g.R.Sink.faults c.args.err.now) (g.R.Sink.faults c.put_calm.new.err)) (Rose (g.L.Sink.faults c.args.left.now) (g.L.Sink.faults c.put_listing.new.left)) (Rose (g.L.Sink.faults c.args.left.now) (g.L.Sink.faults c.put_listing.new.left))

@@ -1,5 +1,5 @@
 use Rattle.std.proofs.Common.{◌≡◌, rules, ap, subst, ◌∙◌}
-use Rattle.std.specs.Io.KnownBytes.{Appends}
+use Rattle.pr_io.specs.Moves.{Gets}
 use Rattle.kr_core.specs.Kernel.{HasRun, Turns, machine}
 use Rattle.kr_core.specs.declared.kernel.Turned.{Turned}
 use Rattle.kr_core.specs.kr_stops.Watching.{watching}
@@ -33,6 +33,6 @@ returns-clause-makes g c =
     let put = c.in_ok-put_turn.ensures.put in (
       goes m c.args.slot.pick made.process made.picked,
       forgotten number c.turn.new.self c.put_turn.new.kernel c.in_ok-put_turn.ensures.cleared ∙ ap after_put turned,
-      subst (λ (t : Machine g.row.S.Denot). Appends (g.O.Sink.got c.args.out.now) (g.O.Sink.got c.put_turn.new.out) (put_by t).out) turned put.0,
-      subst (λ (t : Machine g.row.S.Denot). Appends (g.R.Sink.got c.args.err.now) (g.R.Sink.got c.put_turn.new.err) (put_by t).err) turned put.1,
+      subst (λ (t : Machine g.row.S.Denot). Gets (g.O.Sink.got c.args.out.now) (g.O.Sink.got c.put_turn.new.out) (put_by t).out) turned put.0,
+      subst (λ (t : Machine g.row.S.Denot). Gets (g.R.Sink.got c.args.err.now) (g.R.Sink.got c.put_turn.new.err) (put_by t).err) turned put.1,
     )

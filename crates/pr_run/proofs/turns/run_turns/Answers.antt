@@ -1,8 +1,7 @@
 use Rattle.std.proofs.Common.{◌≡◌, suc, ◌+◌, rules, sym, ap, subst, ◌∙◌, arith, take}
 use Rattle.std.specs.Prelude.{Ok}
-use Rattle.std.specs.Io.KnownBytes.{Appends}
-use Rattle.std.proofs.KnownBytes.{Appends-kept}
 use Rattle.pr_io.specs.Faults.{Rose}
+use Rattle.pr_io.specs.Moves.{Gets}
 use Rattle.kr_core.specs.Kernel.{machine}
 use Rattle.kr_core.specs.declared.kernel.Turned.{Turned}
 use Rattle.kr_core.specs.kr_turns.Run.{Deadlock, Over, Slot, after_put, put_by, run, turned}
@@ -10,7 +9,7 @@ use Rattle.kr_core.specs.kr_turns.Turn.{Machine, turn as turn_of}
 use Rattle.pr_run.specs.Report.{err_part, errs, out_part, outs}
 use Rattle.pr_run.specs.Puts.{GoesOn, MakesTurn, StopsMaking, after_slot}
 use Rattle.pr_run.specs.Slots.{slot_of}
-use Rattle.pr_run.proofs.BytesLemmas.{appends-next, rose-since}
+use Rattle.pr_run.proofs.BytesLemmas.{gets-next, gets-kept, rose-since}
 use Rattle.pr_run.proofs.ReportLemmas.{rose-further}
 use Rattle.pr_run.proofs.RunLemmas.{IsRest, next, over, spent, stops}
 use Rattle.pr_run.proofs.turns.run_turns.Goals as goal
@@ -52,8 +51,8 @@ returns-in-Deadlock-clause-puts g c =
     let made = subst (λ (t : Turned). MakesTurn does g.row.M (g.P.Places.mounts c.loop-turn.kernel.places) c.slot-slot.result m (machine number c.make_turn.new.kernel) (g.O.Sink.got c.loop-turn.out) (g.O.Sink.got c.make_turn.new.out) (g.R.Sink.got c.loop-turn.err) (g.R.Sink.got c.make_turn.new.err) (Rose (g.O.Sink.faults c.loop-turn.out) (g.O.Sink.faults c.make_turn.new.out)) (Rose (g.R.Sink.faults c.loop-turn.err) (g.R.Sink.faults c.make_turn.new.err)) (Ok t)) c.in-Deadlock.is c.in_ok-make_turn.ensures.makes in
     let done = over does g.row.M table slots whole limit turn m Deadlock inv.rest made.0 in (
       done.ending_is,
-      subst (λ l. Appends (g.O.Sink.got c.args.out.now) (g.O.Sink.got c.make_turn.new.out) (outs l)) done.puts (Appends-kept (g.O.Sink.got c.args.out.now) (g.O.Sink.got c.loop-turn.out) (g.O.Sink.got c.make_turn.new.out) (outs (take turn whole.puts)) inv.out made.2),
-      subst (λ l. Appends (g.R.Sink.got c.args.err.now) (g.R.Sink.got c.make_turn.new.err) (errs l)) done.puts (Appends-kept (g.R.Sink.got c.args.err.now) (g.R.Sink.got c.loop-turn.err) (g.R.Sink.got c.make_turn.new.err) (errs (take turn whole.puts)) inv.err made.3),
+      subst (λ l. Gets (g.O.Sink.got c.args.out.now) (g.O.Sink.got c.make_turn.new.out) (outs l)) done.puts (gets-kept (g.O.Sink.got c.args.out.now) (g.O.Sink.got c.loop-turn.out) (g.O.Sink.got c.make_turn.new.out) (outs (take turn whole.puts)) inv.out made.2),
+      subst (λ l. Gets (g.R.Sink.got c.args.err.now) (g.R.Sink.got c.make_turn.new.err) (errs l)) done.puts (gets-kept (g.R.Sink.got c.args.err.now) (g.R.Sink.got c.loop-turn.err) (g.R.Sink.got c.make_turn.new.err) (errs (take turn whole.puts)) inv.err made.3),
     )
 
 pub returns-in-Deadlock-clause-machine : goal.returns-in-Deadlock-clause-machine
@@ -84,8 +83,8 @@ returns-in-Over-clause-puts g c =
     let made = subst (λ (t : Turned). MakesTurn does g.row.M (g.P.Places.mounts c.loop-turn.kernel.places) c.slot-slot.result m (machine number c.make_turn.new.kernel) (g.O.Sink.got c.loop-turn.out) (g.O.Sink.got c.make_turn.new.out) (g.R.Sink.got c.loop-turn.err) (g.R.Sink.got c.make_turn.new.err) (Rose (g.O.Sink.faults c.loop-turn.out) (g.O.Sink.faults c.make_turn.new.out)) (Rose (g.R.Sink.faults c.loop-turn.err) (g.R.Sink.faults c.make_turn.new.err)) (Ok t)) c.in-Over.is c.in_ok-make_turn.ensures.makes in
     let done = over does g.row.M table slots whole limit turn m Over inv.rest made.0 in (
       done.ending_is,
-      subst (λ l. Appends (g.O.Sink.got c.args.out.now) (g.O.Sink.got c.make_turn.new.out) (outs l)) done.puts (Appends-kept (g.O.Sink.got c.args.out.now) (g.O.Sink.got c.loop-turn.out) (g.O.Sink.got c.make_turn.new.out) (outs (take turn whole.puts)) inv.out made.2),
-      subst (λ l. Appends (g.R.Sink.got c.args.err.now) (g.R.Sink.got c.make_turn.new.err) (errs l)) done.puts (Appends-kept (g.R.Sink.got c.args.err.now) (g.R.Sink.got c.loop-turn.err) (g.R.Sink.got c.make_turn.new.err) (errs (take turn whole.puts)) inv.err made.3),
+      subst (λ l. Gets (g.O.Sink.got c.args.out.now) (g.O.Sink.got c.make_turn.new.out) (outs l)) done.puts (gets-kept (g.O.Sink.got c.args.out.now) (g.O.Sink.got c.loop-turn.out) (g.O.Sink.got c.make_turn.new.out) (outs (take turn whole.puts)) inv.out made.2),
+      subst (λ l. Gets (g.R.Sink.got c.args.err.now) (g.R.Sink.got c.make_turn.new.err) (errs l)) done.puts (gets-kept (g.R.Sink.got c.args.err.now) (g.R.Sink.got c.loop-turn.err) (g.R.Sink.got c.make_turn.new.err) (errs (take turn whole.puts)) inv.err made.3),
     )
 
 pub returns-in-Over-clause-machine : goal.returns-in-Over-clause-machine
@@ -121,15 +120,15 @@ loop-turn-preserved g c =
     let put = put_by (turned does g.row.M table slots turn m) in
     let one : suc turn ≡ turn + 1 = omega arith in
     let new-is : machine number c.make_turn.new.kernel ≡ after_put (turned does g.row.M table slots turn m) = made.1 ∙ ap after_put same in
-    let out_put = subst (λ (n : Machine g.row.S.Denot). Appends (g.O.Sink.got c.loop-turn.out) (g.O.Sink.got c.make_turn.new.out) (put_by n).out) same made.2 in
-    let err_put = subst (λ (n : Machine g.row.S.Denot). Appends (g.R.Sink.got c.loop-turn.err) (g.R.Sink.got c.make_turn.new.err) (put_by n).err) same made.3 in
+    let out_put = subst (λ (n : Machine g.row.S.Denot). Gets (g.O.Sink.got c.loop-turn.out) (g.O.Sink.got c.make_turn.new.out) (put_by n).out) same made.2 in
+    let err_put = subst (λ (n : Machine g.row.S.Denot). Gets (g.R.Sink.got c.loop-turn.err) (g.R.Sink.got c.make_turn.new.err) (put_by n).err) same made.3 in
     record {
       whole_is = goes.whole;
       turns = goes.turns_are ∙ ap suc inv.turns ∙ one;
       places = goes.places ∙ inv.places;
       rest = subst (λ (n : Machine g.row.S.Denot). IsRest does g.row.M table slots whole limit (turn + 1) n) (sym new-is) (subst (λ k. IsRest does g.row.M table slots whole limit k (after_put (turned does g.row.M table slots turn m))) one more.rest);
-      out = subst (λ k. Appends (g.O.Sink.got c.args.out.now) (g.O.Sink.got c.make_turn.new.out) (outs (take k whole.puts))) one (appends-next out_part turn whole.puts put _ _ _ more.on.taken inv.out out_put);
-      err = subst (λ k. Appends (g.R.Sink.got c.args.err.now) (g.R.Sink.got c.make_turn.new.err) (errs (take k whole.puts))) one (appends-next err_part turn whole.puts put _ _ _ more.on.taken inv.err err_put);
+      out = subst (λ k. Gets (g.O.Sink.got c.args.out.now) (g.O.Sink.got c.make_turn.new.out) (outs (take k whole.puts))) one (gets-next out_part turn whole.puts put (g.O.Sink.got c.args.out.now) (g.O.Sink.got c.loop-turn.out) (g.O.Sink.got c.make_turn.new.out) more.on.taken inv.out out_put);
+      err = subst (λ k. Gets (g.R.Sink.got c.args.err.now) (g.R.Sink.got c.make_turn.new.err) (errs (take k whole.puts))) one (gets-next err_part turn whole.puts put (g.R.Sink.got c.args.err.now) (g.R.Sink.got c.loop-turn.err) (g.R.Sink.got c.make_turn.new.err) more.on.taken inv.err err_put);
       out_count = omega (arith, inv.out_count, c.make_turn.ensures.out_count);
       err_count = omega (arith, inv.err_count, c.make_turn.ensures.err_count);
     }
@@ -147,8 +146,8 @@ returns-clause-puts g c =
     let inv = c.loop-turn.invariant in
     let done = spent does g.row.M table slots whole limit turn m inv.rest c.loop-turn-test.false in (
       done.ending_is ∙ sym c.end_after.ensures,
-      subst (λ l. Appends (g.O.Sink.got c.args.out.now) (g.O.Sink.got c.loop-turn.out) (outs l)) done.puts inv.out,
-      subst (λ l. Appends (g.R.Sink.got c.args.err.now) (g.R.Sink.got c.loop-turn.err) (errs l)) done.puts inv.err,
+      subst (λ l. Gets (g.O.Sink.got c.args.out.now) (g.O.Sink.got c.loop-turn.out) (outs l)) done.puts inv.out,
+      subst (λ l. Gets (g.R.Sink.got c.args.err.now) (g.R.Sink.got c.loop-turn.err) (errs l)) done.puts inv.err,
     )
 
 pub returns-clause-machine : goal.returns-clause-machine

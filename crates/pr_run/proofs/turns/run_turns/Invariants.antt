@@ -1,5 +1,5 @@
 use Rattle.std.proofs.Common.{◌≡◌, ◌≤◌, take, true}
-use Rattle.std.specs.Io.KnownBytes.{Appends}
+use Rattle.pr_io.specs.Moves.{Gets}
 use Rattle.kr_core.specs.Kernel.{machine}
 use Rattle.kr_core.specs.kr_turns.Run.{run}
 use Rattle.pr_run.specs.Report.{errs, outs}
@@ -17,8 +17,8 @@ invariant-loop-turn g l =
       turns : l.kernel.turns ≡ l.turn;
       places : l.kernel.places ≡ l.fn.kernel.places;
       rest : IsRest g.S.Graphed.does g.row.M table slots whole l.fn.plan.turns l.turn (machine g.P.Places.number l.kernel);
-      out : Appends (g.O.Sink.got l.fn.out) (g.O.Sink.got l.out) (outs (take l.turn whole.puts));
-      err : Appends (g.R.Sink.got l.fn.err) (g.R.Sink.got l.err) (errs (take l.turn whole.puts));
+      out : Gets (g.O.Sink.got l.fn.out) (g.O.Sink.got l.out) (outs (take l.turn whole.puts));
+      err : Gets (g.R.Sink.got l.fn.err) (g.R.Sink.got l.err) (errs (take l.turn whole.puts));
       out_count : g.O.Sink.faults l.fn.out ≤ g.O.Sink.faults l.out;
       err_count : g.R.Sink.faults l.fn.err ≤ g.R.Sink.faults l.err;
     }

@@ -1,10 +1,10 @@
 use Rattle.std.proofs.Common.{◌+◌, ◌≤◌, ◌-◌, length}
-use Rattle.std.specs.Io.KnownBytes.{Consumes}
+use Rattle.pr_io.specs.Drawn.{Gave, drawn}
 use Rattle.pr_sources.proofs.within.read_until.Given as goal
 
 abbrev pub invariant-loop-which : goal.invariant-loop-which
 invariant-loop-which g l = record {
-  taken : Consumes (g.S.Source.left l.fn.source) (g.S.Source.left l.source) l.bytes;
+  taken : Gave (drawn g.S.Source l.fn.source l.source) l.bytes;
   short : length l.bytes ≤ l.limit;
   count : g.S.Source.faults l.fn.source ≤ g.S.Source.faults l.source;
   takes : g.S.Source.takes l.source ≤ g.S.Source.takes l.fn.source + length l.bytes;
