@@ -1,4 +1,4 @@
-//! Tests of tables of bindings, of tags, of walks over guest texts, and of remembered owners.
+//! Tests of tables of bindings, of tags, and of walks over guest texts.
 //!
 //! # `tables`, `tags`, `bindings`, `texts`
 //!
@@ -7,8 +7,6 @@
 
 #[cfg(test)]
 mod bindings;
-#[cfg(test)]
-mod owners;
 pub mod tables;
 #[cfg(test)]
 mod tags;

@@ -11,7 +11,7 @@
 //! file keeps its kind, and of a mode that is said its low 12 bits alone are shown (`modes_keep_kinds`). Three changes and what is shown behind
 //! them are worked out (`three_changes`).
 //!
-//! Only tested, or not shown: That `note` finds its memory where there is enough: `canon_tests`.
+//! Only tested, or not shown: That `note` finds its memory where there is enough: `tree_tests`.
 #![tactic(auto)]
 
 pub mod below;

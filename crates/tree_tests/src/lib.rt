@@ -1,4 +1,4 @@
-//! Tests of trees and of listings.
+//! Tests of trees, of listings, and of remembered owners.
 //!
 //! # `listings`
 //!
@@ -7,5 +7,7 @@
 
 #[cfg(test)]
 mod listings;
+#[cfg(test)]
+mod owners;
 #[cfg(test)]
 mod tests;
