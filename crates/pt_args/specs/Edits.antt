@@ -5,13 +5,17 @@ use Rattle.pt_canon.specs.pr_base.declared.errno.Errno.{Errno}
 use Rattle.pt_canon.specs.pr_base.declared.errno.Errno.TheVariants.{EFAULT, ENAMETOOLONG}
 use Rattle.pt_canon.specs.TextWalk.{TextSurroundings}
 use Rattle.kr_calls.specs.declared.request.Request.{Request}
+use Rattle.kr_calls.specs.PathTable.{PathUse, path_at}
 use Rattle.pt_args.specs.Plans.{plan_of}
+use Rattle.pt_args.specs.Purposes.{opens}
 use Rattle.pt_args.specs.Shelving.{address_below, shelved, with_zero}
+use Rattle.pt_args.specs.Walks.{walked}
 use Rattle.pt_args.specs.declared.edit.Edit.{Edit}
 use Rattle.pt_args.specs.declared.edit.Edit.TheVariants.{Pass, Swap, Cancel}
 use Rattle.pt_args.specs.declared.plan.Plan.{Plan}
 use Rattle.pt_args.specs.declared.plan.Plan.TheVariants.{Passes, Swaps}
 use Rattle.pt_args.specs.declared.plan.Swapped.{Swapped}
+use Rattle.pt_args.specs.declared.reached.Reached.{Reached}
 
 -- the swapped texts, the first before the second
 abbrev pub both : Swapped → Option Swapped → List Swapped
@@ -56,3 +60,17 @@ edit_by sp usable (Err e) = Cancel e
 -- of a process's call, by its stack pointer and whether the shelf below that may be read and written
 abbrev pub edit_of : TextSurroundings → ℕ → ℕ → Bool → Request → Edit
 edit_of texts pid sp usable request = edit_by sp usable (plan_of texts pid request)
+
+-- ---- where the first path led
+
+abbrev pub reached_by : Result (Option Reached) Errno → Option Reached
+reached_by (Ok o) = o
+reached_by (Err e) = None
+
+abbrev pub first_reached : TextSurroundings → ℕ → Bool → Option PathUse → Option Reached
+first_reached texts pid opening None = None
+first_reached texts pid opening (Some u) = reached_by (walked texts pid opening u)
+
+-- none where there is no path, where it stays as it is, and where its walk fails
+abbrev pub first_of : TextSurroundings → ℕ → Request → Option Reached
+first_of texts pid request = first_reached texts pid (opens request) (path_at request 0)

@@ -1,13 +1,17 @@
 //! The edit of a call at its entry.
-ghost use Rattle.std.specs.Prelude.{◌≡◌, ◌+◌, ◌≤◌, false, [], ◌∷◌, ◌++◌, IsTrue, IfOk, OnOk, length};
+ghost use Rattle.std.specs.Prelude.{◌≡◌, ◌+◌, ◌≤◌, false, [], ◌∷◌, ◌++◌, IsTrue, IfOk, None, OnOk, length};
 ghost use Rattle.pt_canon.specs.Canon.{texts_by};
-ghost use Rattle.pt_args.specs.Edits.{both, edit_of, is_long, is_second_long, put_edit, shelve};
+ghost use Rattle.pt_args.specs.Edits.{both, edit_by, edit_of, first_of, is_long, is_second_long, put_edit, shelve};
+ghost use Rattle.pt_args.specs.Plans.{plan_second};
 ghost use Rattle.pt_args.specs.Shelving.{address_below, with_item, with_zero};
+ghost use Rattle.pt_args.specs.Walks.{IsReached};
 
 use crate::edit::{Edit, Swaps};
-use crate::plan::{Plan, Swapped, plan_of};
+use crate::plan::{Plan, Swapped, plan_second};
+use crate::purpose::opens;
+use crate::reached::{Reached, walk_path};
 use crate::shelf::Shelf;
-use kr_calls::Request;
+use kr_calls::{Request, path_of};
 use pt_canon::below::pr_base::{Errno, NoMemory, Peeks};
 use pt_canon::below::pt_bind::Tags;
 use pt_canon::{WalkErr, Walker};
@@ -38,7 +42,83 @@ pub fn rewrite<K: Peeks>(
     ensures same { K.peeked kernel.new ≡ K.peeked kernel.old }
     ensures rest { K.kept kernel.new ≡ K.kept kernel.old }
 {
-    match plan_of(alloc, kernel, walker, tags, pid, request) {
+    let Rewritten { edit, first: _ } = rewrite_along(
+        alloc, kernel, walker, tags, pid, sp, shelf, request,
+    )?;
+    Ok(edit)
+}
+
+/// What becomes of a call, and where its first path led that was walked for it: `None` where there is none, where the plain kernel
+/// is to see it as it is, and where its walk failed.
+#[derive(Drop)]
+pub struct Rewritten {
+    pub edit: Edit,
+    pub first: Option<Reached>,
+}
+
+/// The same as `rewrite`, and where the first path led.
+pub fn rewrite_along<K: Peeks>(
+    alloc: Global,
+    kernel: &mut K,
+    walker: &mut Walker,
+    tags: &Tags,
+    pid: u32,
+    sp: u64,
+    shelf: bool,
+    request: &Request,
+) -> Result<Rewritten, NoMemory>
+    requires { IsTrue shelf → 65536 ≤ sp }
+    ensures edit { IfOk result (λ r. r.edit ≡ edit_of (texts_by walker.old (K.peeked kernel.old) tags.now) pid sp shelf request.now) }
+    ensures first { IfOk result (λ r. r.first ≡ first_of (texts_by walker.old (K.peeked kernel.old) tags.now) pid request.now) }
+    ensures walker { walker.new ≡ walker.old }
+    ensures same { K.peeked kernel.new ≡ K.peeked kernel.old }
+    ensures rest { K.kept kernel.new ≡ K.kept kernel.old }
+{
+    let Some(path) = path_of(request, 0) else {
+        return Ok(only(Edit::Pass));
+    };
+    match walk_path(alloc, kernel, walker, tags, pid, opens(request), path) {
+        Ok(Some(first)) => {
+            let edit = edit_behind(alloc, kernel, walker, tags, pid, sp, shelf, request, &first)?;
+            Ok(Rewritten {
+                edit,
+                first: Some(first),
+            })
+        }
+        Ok(None) => Ok(only(Edit::Pass)),
+        Err(WalkErr::Err(errno)) => Ok(only(Edit::Cancel(errno))),
+        Err(WalkErr::NoMemory) => Err(NoMemory),
+    }
+}
+
+/// An edit of a call whose first path led nowhere.
+fn only(edit: Edit) -> Rewritten
+    ensures edit { result.edit ≡ edit }
+    ensures first { result.first ≡ None }
+{
+    Rewritten { edit, first: None }
+}
+
+/// What becomes of a call, once its first path was walked.
+fn edit_behind<K: Peeks>(
+    alloc: Global,
+    kernel: &mut K,
+    walker: &mut Walker,
+    tags: &Tags,
+    pid: u32,
+    sp: u64,
+    shelf: bool,
+    request: &Request,
+    first: &Reached,
+) -> Result<Edit, NoMemory>
+    requires shelf { IsTrue shelf → 65536 ≤ sp }
+    requires first { IsReached first.now }
+    ensures edit { IfOk result (λ edit. edit ≡ edit_by sp shelf (plan_second (texts_by walker.old (K.peeked kernel.old) tags.now) pid request.now first.now)) }
+    ensures walker { walker.new ≡ walker.old }
+    ensures same { K.peeked kernel.new ≡ K.peeked kernel.old }
+    ensures rest { K.kept kernel.new ≡ K.kept kernel.old }
+{
+    match plan_second(alloc, kernel, walker, tags, pid, request, first) {
         Ok(Plan::Passes) => Ok(Edit::Pass),
         Ok(Plan::Swaps(first, second)) => shelve(alloc, sp, shelf, first, second),
         Err(WalkErr::Err(errno)) => Ok(Edit::Cancel(errno)),

@@ -4,7 +4,7 @@
 //!
 //! What a tracer makes of a call at its entry, before the plain kernel sees it. pt_tracer takes it up, pt_results and pt_script parts of it.
 //!
-//! `rewrite` answers exactly the edit of the definition for every request, want of memory aside (`edit`; the definition is `edit_of`): the call
+//! `rewrite_along` answers what `rewrite` does, and where the first path led. `rewrite` answers exactly the edit of the definition for every request, want of memory aside (`edit`; the definition is `edit_of`): the call
 //! passes as it is, its paths are swapped for host paths that stand on the shelf below the stack pointer, or it is cancelled with an error. What
 //! was handed in is as before (`walker`, `same`, `rest`). It asks that 65,536 bytes lie below the stack pointer where the shelf can be used.
 //!
@@ -29,7 +29,7 @@ pub mod shelf;
 
 pub use base::working_text;
 pub use edit::{Edit, Pokes, Swaps};
-pub use entry::rewrite;
+pub use entry::{Rewritten, rewrite, rewrite_along};
 pub use parting::parted;
 pub use purpose::Purpose;
 pub use reached::{Reached, walk_path};

@@ -3,7 +3,7 @@ ghost use Rattle.std.specs.Prelude.{◌≡◌};
 ghost use Rattle.kr_calls.specs.PathTable.{path_use};
 ghost use Rattle.pt_canon.specs.pt_bind.Binding.{rows_of};
 ghost use Rattle.pt_canon.specs.Canon.{IsAnswer, texts_by};
-ghost use Rattle.pt_args.specs.Plans.{plan_both, plan_first, plan_of, plan_one, plan_second, swap_of};
+ghost use Rattle.pt_args.specs.Plans.{plan_both, plan_first, plan_one, plan_second, swap_of};
 ghost use Rattle.pt_args.specs.Walks.{IsReached};
 
 use crate::point::{both_are_busy, one_is_busy};
@@ -31,32 +31,8 @@ pub(crate) enum Plan {
     Swaps(Swapped, Option<Swapped>),
 }
 
-/// What becomes of the paths of a call, or the error that cancels it. The first path is taken before the second, which
-/// stays as it is where the first one does.
-pub(crate) fn plan_of<K: Peeks>(
-    alloc: Global,
-    kernel: &mut K,
-    walker: &mut Walker,
-    tags: &Tags,
-    pid: u32,
-    request: &Request,
-) -> Result<Plan, WalkErr>
-    ensures answer { IsAnswer (plan_of (texts_by walker.old (K.peeked kernel.old) tags.now) pid request.now) result }
-    ensures walker { walker.new ≡ walker.old }
-    ensures same { K.peeked kernel.new ≡ K.peeked kernel.old }
-    ensures rest { K.kept kernel.new ≡ K.kept kernel.old }
-{
-    let Some(path) = path_of(request, 0) else {
-        return Ok(Plan::Passes);
-    };
-    match walk_path(alloc, kernel, walker, tags, pid, opens(request), path)? {
-        Some(first) => plan_second(alloc, kernel, walker, tags, pid, request, &first),
-        None => Ok(Plan::Passes),
-    }
-}
-
-/// The same, once the first path was walked.
-fn plan_second<K: Peeks>(
+/// What becomes of the paths of a call, once the first one was walked, or the error that cancels it. The first path is taken before the second.
+pub(crate) fn plan_second<K: Peeks>(
     alloc: Global,
     kernel: &mut K,
     walker: &mut Walker,

@@ -2,4 +2,4 @@
 
 pub use pt_args::below::kr_calls::{CallFault, Request, path_of};
 pub use pt_args::below::pt_canon::{WalkErr, Walker};
-pub use pt_args::{Edit, Reached, Shelf, Swaps, rewrite, walk_path};
+pub use pt_args::{Edit, Reached, Rewritten, Shelf, Swaps, rewrite_along};

@@ -1,12 +1,18 @@
 -- Plans of calls that run programs.
-use Rattle.std.proofs.Common.{◌≡◌, ◌≢◌, ◌∙◌, ◌==◌, ℕ, suc, zero, Bool, true, false, List, Result, Ok, Err, if◌then◌else◌, get_or, nat_lt, arith, sym, ap}
+use Rattle.std.proofs.Common.{◌≡◌, ◌≢◌, ◌∙◌, ℕ, Bool, true, false, List, Option, Some, None, Result, Ok, Err, refl, if◌then◌else◌, get_or, sym, ap}
 use Rattle.std.specs.Prelude.{IfOk}
 use Rattle.pr_base.specs.MountText.{MountText}
 use Rattle.pr_base.specs.declared.errno.Errno.{Errno}
 use Rattle.rv_mem.specs.Actions.{Action, carried_out}
 use Rattle.rv_mem.specs.declared.regs.Regs.{Regs}
 use Rattle.pt_bind.specs.Tags.{TagTable}
+use Rattle.pt_results.specs.pt_canon.TextWalk.{TextSurroundings}
+use Rattle.pt_results.specs.kr_calls.PathTable.{PathUse, path_at}
 use Rattle.pt_results.specs.kr_calls.declared.request.Request.{Request}
+use Rattle.pt_results.specs.kr_calls.declared.request.Request.TheVariants as call
+use Rattle.pt_results.specs.pt_args.Edits.{first_of, first_reached, reached_by}
+use Rattle.pt_results.specs.pt_args.Walks.{walked}
+use Rattle.pt_results.specs.pt_args.declared.reached.Reached.{Reached}
 use Rattle.pt_faker.specs.Stopping.{IsThere, memory_at, Stopped, with_memory}
 use Rattle.pt_results.specs.pt_args.declared.edit.Edit.{Edit}
 use Rattle.pt_faker.specs.Reading.{lists_at}
@@ -15,8 +21,7 @@ use Rattle.pt_script.specs.declared.expansion.Expanded.{Expanded}
 use Rattle.pt_faker.specs.Carrying.{CarriesOut}
 use Rattle.pt_faker.proofs.AuxiliaryLemmas.{other-test}
 use Rattle.pt_faker.proofs.StopLemmas.{registers-stay}
-use Rattle.pt_tracer.specs.Planning.{after_expansion, after_lists, after_path, execve_plan, expand_with, is_swap, led_in, led_of, nowhere, rewritten, script_plan, stack_at, texts_at}
-use Rattle.pt_tracer.specs.declared.plan.Plan.{Plan}
+use Rattle.pt_tracer.specs.Planning.{after_expansion, after_lists, after_path, answered, execve_plan, expand_with, is_swap, led_along, led_at, led_by, led_in, led_of, led_reached, nowhere, rewritten, script_plan, stack_at, texts_at}
 use Rattle.pt_tracer.specs.declared.planning.ListAddresses.{ListAddresses}
 
 -- what is done on memory leaves the stack pointer
@@ -45,3 +50,41 @@ module _ (bindings : List MountText) (tags : TagTable) where
       ap (after_path bindings tags t r path lists) (sym is)
       ∙ ap (λ b. if b then after_lists bindings tags edit led path lists.args done.reply (with_memory done.memory t) else (record { edit = edit; led = nowhere }, t)) swaps
       ∙ (λ k. after_lists bindings tags edit led path lists.args (carries.tells k) (sym carries.leaves k))
+
+  -- lists that can't be read
+  pub lists-refused : (t u : Stopped) (r : Request) (path : List ℕ) (lists : ListAddresses) (edit : Edit) (errno : Errno) → edit ≡ rewritten (texts_at bindings tags t) t r → is_swap edit ≡ true → CarriesOut (lists_at lists.args lists.env) (Err errno) t u
+      → execve_plan bindings tags t r path lists ≡ (record { edit = edit; led = led_of (texts_at bindings tags t) t.pid r }, u)
+  lists-refused t u r path lists edit errno is swaps carries =
+      let done = carried_out (lists_at lists.args lists.env) (memory_at t) in
+      let led = led_of (texts_at bindings tags t) t.pid r in
+      ap (after_path bindings tags t r path lists) (sym is)
+      ∙ ap (λ b. if b then after_lists bindings tags edit led path lists.args done.reply (with_memory done.memory t) else (record { edit = edit; led = nowhere }, t)) swaps
+      ∙ (λ k. after_lists bindings tags edit led path lists.args (carries.tells k) (sym carries.leaves k))
+
+-- ---- where the first path led
+
+module _ (texts : TextSurroundings) (pid : ℕ) where
+  led-reached : (opening : Bool) (o : Option PathUse) → led_reached (first_reached texts pid opening o) ≡ led_along texts pid opening o
+  led-reached opening None = refl
+  led-reached opening (Some u) = by (walked texts pid opening u)
+    where
+      by : (r : Result (Option Reached) Errno) → led_reached (reached_by r) ≡ led_by r
+      by (Ok (Some reached)) = refl
+      by (Ok None) = refl
+      by (Err e) = refl
+
+  -- it is told by the walk that was made for the edit
+  pub led-first : (r : Request) → led_at r (first_of texts pid r) ≡ led_of texts pid r
+  led-first (call.Openat dirfd path flags permissions) = led-reached true (path_at (call.Openat dirfd path flags permissions) 0)
+  led-first (call.Chdir path) = led-reached false (path_at (call.Chdir path) 0)
+  led-first (call.Chroot path) = led-reached false (path_at (call.Chroot path) 0)
+  led-first (call.Execve path args env) = led-reached false (path_at (call.Execve path args env) 0)
+  led-first _ = refl
+
+  -- what is answered here leads nowhere
+  pub answered-nowhere : (t : Stopped) (r : Request) (edit : Edit) → answered texts t r ≡ Some edit → led_of texts pid r ≡ nowhere
+  answered-nowhere t (call.Openat dirfd path flags permissions) edit is = absurd cc
+  answered-nowhere t (call.Chdir path) edit is = absurd cc
+  answered-nowhere t (call.Chroot path) edit is = absurd cc
+  answered-nowhere t (call.Execve path args env) edit is = absurd cc
+  answered-nowhere t r edit is = refl

@@ -15,7 +15,6 @@ use Rattle.pt_results.specs.kr_calls.declared.request.Request.TheVariants as cal
 use Rattle.pt_faker.specs.kr_model.Peeks.{peeked_of}
 use Rattle.pt_faker.specs.Stopping.{memory_at, register_at, Stopped, with_memory}
 use Rattle.pt_results.specs.pt_args.Edits.{edit_of}
-use Rattle.pt_results.specs.pt_args.Purposes.{opens}
 use Rattle.pt_results.specs.pt_args.Walks.{walked}
 use Rattle.pt_results.specs.pt_args.declared.edit.Edit.{Edit}
 use Rattle.pt_results.specs.pt_args.declared.edit.Edit.TheVariants.{Cancel, Emulate, Pass, Swap}
@@ -63,6 +62,11 @@ abbrev pub led_along : TextSurroundings → ℕ → Bool → Option PathUse → 
 led_along texts pid opening None = nowhere
 led_along texts pid opening (Some u) = led_by (walked texts pid opening u)
 
+-- the same, once that path was walked
+abbrev pub led_reached : Option Reached → Led
+led_reached None = nowhere
+led_reached (Some reached) = led_to reached
+
 -- the index and the root count for what is opened, entered, executed, or made the root
 abbrev pub led_of : TextSurroundings → ℕ → Request → Led
 led_of texts pid (call.Openat dirfd path flags permissions) = led_along texts pid true (path_at (call.Openat dirfd path flags permissions) 0)
@@ -70,6 +74,13 @@ led_of texts pid (call.Chdir path) = led_along texts pid false (path_at (call.Ch
 led_of texts pid (call.Chroot path) = led_along texts pid false (path_at (call.Chroot path) 0)
 led_of texts pid (call.Execve path args env) = led_along texts pid false (path_at (call.Execve path args env) 0)
 led_of texts pid _ = nowhere
+
+abbrev pub led_at : Request → Option Reached → Led
+led_at (call.Openat dirfd path flags permissions) first = led_reached first
+led_at (call.Chdir path) first = led_reached first
+led_at (call.Chroot path) first = led_reached first
+led_at (call.Execve path args env) first = led_reached first
+led_at _ first = nowhere
 
 abbrev pub led_in : ℕ → Led
 led_in index = record { index = index; at_root = false }

@@ -3,9 +3,9 @@ ghost use Rattle.std.specs.Prelude.{◌≡◌, ◌≤◌, IsTrue, IfOk, length};
 ghost use Rattle.pt_bind.specs.Binding.{rows_of};
 ghost use Rattle.pt_results.specs.pt_canon.Canon.{IsAnswer};
 ghost use Rattle.pt_script.specs.Expanding.{expanded_at};
-ghost use Rattle.pt_results.specs.kr_calls.PathTable.{path_at};
 ghost use Rattle.pt_faker.specs.Stopping.{IsEdited};
-ghost use Rattle.pt_tracer.specs.Planning.{answered, cancelled, edit_for, execve_plan, expand_with, has_shelf, is_swap, led_along, led_in, led_of, led_to, list_addresses, plan_for, planned, rewritten, script_plan, stack_at, texts_at};
+ghost use Rattle.pt_results.specs.pt_args.Edits.{first_of};
+ghost use Rattle.pt_tracer.specs.Planning.{answered, cancelled, execve_plan, expand_with, has_shelf, is_swap, led_at, led_in, led_reached, led_to, list_addresses, plan_for, planned, rewritten, script_plan, stack_at, texts_at};
 
 use crate::plan::{Led, NOWHERE, Plan};
 use crate::script::script_edit;
@@ -14,7 +14,7 @@ use pt_bind::Tags;
 use pt_faker::registers::STACK;
 use pt_faker::{Handed, Tracee, addresses_behind, read_lists};
 use pt_results::below::{
-    CallFault, Edit, Reached, Request, WalkErr, Walker, path_of, rewrite, walk_path,
+    CallFault, Edit, Reached, Request, Rewritten, WalkErr, Walker, path_of, rewrite_along,
 };
 use pt_results::{cwd_answer, link_answer};
 use pt_script::{Expanded, expand};
@@ -35,16 +35,17 @@ fn has_shelf<T: Tracee>(t: &T) -> bool
     }
 }
 
-/// A call whose guest paths become host paths.
+/// A call whose guest paths become host paths, and where the first of them led.
 fn rewritten<T: Tracee>(
     alloc: Global,
     t: &mut T,
     walker: &mut Walker,
     tags: &Tags,
     request: &Request,
-) -> Result<Edit, NoMemory>
-    ensures edit { IfOk result (λ edit. edit ≡ rewritten (texts_at (rows_of walker.old) tags.now (T.stopped t.old)) (T.stopped t.old) request.now) }
-    ensures room { IfOk result (λ edit. IsTrue (is_swap edit) → 65536 ≤ stack_at (T.stopped t.old)) }
+) -> Result<Rewritten, NoMemory>
+    ensures edit { IfOk result (λ r. r.edit ≡ rewritten (texts_at (rows_of walker.old) tags.now (T.stopped t.old)) (T.stopped t.old) request.now) }
+    ensures first { IfOk result (λ r. r.first ≡ first_of (texts_at (rows_of walker.old) tags.now (T.stopped t.old)) (T.stopped t.old).pid request.now) }
+    ensures room { IfOk result (λ r. IsTrue (is_swap r.edit) → 65536 ≤ stack_at (T.stopped t.old)) }
     ensures walker { walker.new ≡ walker.old }
     ensures same { T.stopped t.new ≡ T.stopped t.old }
     ensures rest { T.around t.new ≡ T.around t.old }
@@ -52,53 +53,28 @@ fn rewritten<T: Tracee>(
     let pid = t.pid();
     let sp = t.reg(STACK);
     let shelf = has_shelf(t);
-    rewrite(alloc, t, walker, tags, pid, sp, shelf, request)
+    rewrite_along(alloc, t, walker, tags, pid, sp, shelf, request)
 }
 
 /// Where the first path of a call leads, if that counts.
-fn led_of<T: Tracee>(
-    alloc: Global,
-    t: &mut T,
-    walker: &mut Walker,
-    tags: &Tags,
-    request: &Request,
-) -> Result<Led, NoMemory>
-    ensures led { IfOk result (λ led. led ≡ led_of (texts_at (rows_of walker.old) tags.now (T.stopped t.old)) (T.stopped t.old).pid request.now) }
-    ensures walker { walker.new ≡ walker.old }
-    ensures same { T.stopped t.new ≡ T.stopped t.old }
-    ensures rest { T.around t.new ≡ T.around t.old }
+fn led_at(request: &Request, first: &Option<Reached>) -> Led
+    ensures { result ≡ led_at request.now first.now }
 {
     match request {
-        Request::Openat { .. } => led_along(alloc, t, walker, tags, true, request),
-        Request::Chdir { .. } | Request::Chroot { .. } | Request::Execve { .. } => {
-            led_along(alloc, t, walker, tags, false, request)
-        }
-        _ => Ok(NOWHERE),
+        Request::Openat { .. }
+        | Request::Chdir { .. }
+        | Request::Chroot { .. }
+        | Request::Execve { .. } => led_reached(first),
+        _ => NOWHERE,
     }
 }
 
-/// Where the first path of a call leads, by a walk of its own.
-fn led_along<T: Tracee>(
-    alloc: Global,
-    t: &mut T,
-    walker: &mut Walker,
-    tags: &Tags,
-    opening: bool,
-    request: &Request,
-) -> Result<Led, NoMemory>
-    ensures led { IfOk result (λ led. led ≡ led_along (texts_at (rows_of walker.old) tags.now (T.stopped t.old)) (T.stopped t.old).pid opening (path_at request.now 0)) }
-    ensures walker { walker.new ≡ walker.old }
-    ensures same { T.stopped t.new ≡ T.stopped t.old }
-    ensures rest { T.around t.new ≡ T.around t.old }
+fn led_reached(first: &Option<Reached>) -> Led
+    ensures { result ≡ led_reached first.now }
 {
-    let pid = t.pid();
-    let Some(path) = path_of(request, 0) else {
-        return Ok(NOWHERE);
-    };
-    match walk_path(alloc, t, walker, tags, pid, opening, path) {
-        Ok(Some(reached)) => Ok(led_to(&reached)),
-        Ok(None) | Err(WalkErr::Err(_)) => Ok(NOWHERE),
-        Err(WalkErr::NoMemory) => Err(NoMemory),
+    match first {
+        Some(reached) => led_to(reached),
+        None => NOWHERE,
     }
 }
 
@@ -164,28 +140,12 @@ fn plan_for<T: Tracee>(
     ensures same { T.stopped t.new ≡ T.stopped t.old }
     ensures rest { T.around t.new ≡ T.around t.old }
 {
-    let edit = edit_for(alloc, t, walker, tags, request)?;
-    let led = led_of(alloc, t, walker, tags, request)?;
-    Ok(Plan { edit, led })
-}
-
-/// What the plain kernel is shown of any call but execve(2).
-fn edit_for<T: Tracee>(
-    alloc: Global,
-    t: &mut T,
-    walker: &mut Walker,
-    tags: &Tags,
-    request: &Request,
-) -> Result<Edit, NoMemory>
-    ensures edit { IfOk result (λ edit. edit ≡ edit_for (texts_at (rows_of walker.old) tags.now (T.stopped t.old)) (T.stopped t.old) request.now) }
-    ensures walker { walker.new ≡ walker.old }
-    ensures same { T.stopped t.new ≡ T.stopped t.old }
-    ensures rest { T.around t.new ≡ T.around t.old }
-{
-    match answered(alloc, t, walker, tags, request)? {
-        Some(edit) => Ok(edit),
-        None => rewritten(alloc, t, walker, tags, request),
+    if let Some(edit) = answered(alloc, t, walker, tags, request)? {
+        return Ok(Plan { edit, led: NOWHERE });
     }
+    let Rewritten { edit, first } = rewritten(alloc, t, walker, tags, request)?;
+    let led = led_at(request, &first);
+    Ok(Plan { edit, led })
 }
 
 /// The answer of getcwd(2), or of readlinkat(2) of a link of the process directory.
@@ -228,11 +188,11 @@ fn plan_execve<T: Tracee>(
     ensures rest { T.around t.new ≡ T.around t.old }
 {
     let _pid = t.pid();
-    let edit = rewritten(alloc, t, walker, tags, request)?;
+    let Rewritten { edit, first } = rewritten(alloc, t, walker, tags, request)?;
     if !is_swap(&edit) {
         return Ok(Plan { edit, led: NOWHERE });
     }
-    let led = led_of(alloc, t, walker, tags, request)?;
+    let led = led_at(request, &first);
     match read_lists(alloc, t, lists.args, lists.env) {
         Ok(handed) => expand_with(alloc, t, walker, tags, edit, path, lists.args, handed),
         Err(CallFault::Err(_)) => Ok(Plan { edit, led }),

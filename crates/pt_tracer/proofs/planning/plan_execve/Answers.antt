@@ -1,21 +1,29 @@
-use Rattle.std.proofs.Common.{◌≡◌, ◌∙◌, ◌≤◌, Ok, true, sym, ap, subst}
+use Rattle.std.proofs.Common.{◌≡◌, ◌∙◌, ◌≤◌, Err, Ok, true, sym, ap, subst}
 use Rattle.pr_base.specs.declared.bind.Bound.{Bound}
 use Rattle.std.specs.Prelude.{List}
 use Rattle.pt_bind.specs.Binding.{rows_of}
 use Rattle.pt_faker.specs.Stopping.{IsEdited, Stopped}
-use Rattle.pt_faker.proofs.StopLemmas.{edited-then}
-use Rattle.pt_faker.specs.Reading.{lists_at}
+use Rattle.pt_faker.proofs.StopLemmas.{edited-then, same-edits}
+use Rattle.pt_faker.specs.Reading.{Reads, lists_at}
+use Rattle.pt_faker.specs.declared.lists.Handed.{Handed}
+use Rattle.pt_results.specs.kr_calls.declared.fault.CallFault.{CallFault}
 use Rattle.pt_faker.specs.Carrying.{CarriesOut}
-use Rattle.pt_tracer.specs.Planning.{expand_with, is_swap, stack_at}
-use Rattle.pt_tracer.proofs.PlanLemmas.{if_ok, lists-expanded, stack-stays}
+use Rattle.pt_results.specs.pt_args.declared.reached.Reached.{Reached}
+use Rattle.std.specs.Prelude.{Option}
+use Rattle.pt_tracer.specs.Planning.{expand_with, is_swap, led_at, stack_at, texts_at}
+use Rattle.pt_tracer.specs.declared.plan.Led.{Led}
+use Rattle.pt_tracer.proofs.PlanLemmas.{if_ok, led-first, lists-expanded, lists-refused, stack-stays}
 use Rattle.pt_tracer.proofs.planning.plan_execve.Goals as goal
+
+pub returns-then-not-is_swap-clause-edits : goal.returns-then-not-is_swap-clause-edits
+returns-then-not-is_swap-clause-edits g c = same-edits (g.T.Tracee.stopped c.args.t.now) c.pid-pid.ensures.lives (g.T.Tracee.stopped c.rewritten.new.t) c.in_ok-edit.ensures.same
 
 pub expand_with-requires-clause-room : goal.expand_with-requires-clause-room
 expand_with-requires-clause-room g c =
     let t = g.T.Tracee.stopped c.args.t.now in
     let u = g.T.Tracee.stopped c.read_lists.new.t in
-    let was : g.T.Tracee.stopped c.led_of.new.t ≡ t = c.in_ok-led.ensures.same ∙ c.in_ok-edit.ensures.same in
-    let swaps : is_swap c.in_ok-edit.edit ≡ true = sym c.is_swap.ensures ∙ c.if-not-is_swap.false in
+    let was : g.T.Tracee.stopped c.rewritten.new.t ≡ t = c.in_ok-edit.ensures.same in
+    let swaps : is_swap c.in_ok-edit.field-0.edit ≡ true = sym c.is_swap.ensures ∙ c.if-not-is_swap.false in
     let reads : CarriesOut (lists_at c.args.lists.args c.args.lists.env) (Ok c.in-Ok.handed) t u = subst (λ (x : Stopped). CarriesOut (lists_at c.args.lists.args c.args.lists.env) (Ok c.in-Ok.handed) x u) was c.in-Ok.ensures.read in
     let stays : stack_at u ≡ stack_at t = stack-stays (lists_at c.args.lists.args c.args.lists.env) (Ok c.in-Ok.handed) t u c.pid-pid.ensures.lives reads in
     subst (λ n. 65536 ≤ n) (sym stays) (c.in_ok-edit.ensures.room swaps)
@@ -24,15 +32,28 @@ pub returns-in-Ok-clause-plan : goal.returns-in-Ok-clause-plan
 returns-in-Ok-clause-plan g c =
     let t = g.T.Tracee.stopped c.args.t.now in
     let u = g.T.Tracee.stopped c.read_lists.new.t in
-    let was : g.T.Tracee.stopped c.led_of.new.t ≡ t = c.in_ok-led.ensures.same ∙ c.in_ok-edit.ensures.same in
-    let swaps : is_swap c.in_ok-edit.edit ≡ true = sym c.is_swap.ensures ∙ c.if-not-is_swap.false in
+    let was : g.T.Tracee.stopped c.rewritten.new.t ≡ t = c.in_ok-edit.ensures.same in
+    let swaps : is_swap c.in_ok-edit.field-0.edit ≡ true = sym c.is_swap.ensures ∙ c.if-not-is_swap.false in
     let reads : CarriesOut (lists_at c.args.lists.args c.args.lists.env) (Ok c.in-Ok.handed) t u = subst (λ (x : Stopped). CarriesOut (lists_at c.args.lists.args c.args.lists.env) (Ok c.in-Ok.handed) x u) was c.in-Ok.ensures.read in
-    let steps = lists-expanded (rows_of c.args.walker.now) c.args.tags.now t u c.args.request.now c.args.path.now c.args.lists c.in_ok-edit.edit c.in-Ok.handed c.in_ok-edit.ensures.edit swaps reads in
+    let steps = lists-expanded (rows_of c.args.walker.now) c.args.tags.now t u c.args.request.now c.args.path.now c.args.lists c.in_ok-edit.field-0.edit c.in-Ok.handed c.in_ok-edit.ensures.edit swaps reads in
     if_ok c.expand_with.result
-    (λ plan e. e ∙ ap (λ (l : List Bound). expand_with (rows_of l) c.args.tags.now c.in_ok-edit.edit c.args.path.now c.args.lists.args c.in-Ok.handed u) (c.in_ok-led.ensures.walker ∙ c.in_ok-edit.ensures.walker) ∙ sym steps)
+    (λ plan e. e ∙ ap (λ (l : List Bound). expand_with (rows_of l) c.args.tags.now c.in_ok-edit.field-0.edit c.args.path.now c.args.lists.args c.in-Ok.handed u) c.in_ok-edit.ensures.walker ∙ sym steps)
     c.expand_with.ensures.plan
 
 pub returns-in-Ok-clause-edits : goal.returns-in-Ok-clause-edits
 returns-in-Ok-clause-edits g c =
-    let was = c.in_ok-led.ensures.same ∙ c.in_ok-edit.ensures.same in
-    edited-then _ (g.T.Tracee.stopped c.read_lists.new.t) _ (subst (λ (u : Stopped). IsEdited u (g.T.Tracee.stopped c.read_lists.new.t)) was c.in-Ok.ensures.edits) c.expand_with.ensures.edits
+    edited-then _ (g.T.Tracee.stopped c.read_lists.new.t) _ (subst (λ (u : Stopped). IsEdited u (g.T.Tracee.stopped c.read_lists.new.t)) c.in_ok-edit.ensures.same c.in-Ok.ensures.edits) c.expand_with.ensures.edits
+
+pub returns-in-Err-Err-clause-plan : goal.returns-in-Err-Err-clause-plan
+returns-in-Err-Err-clause-plan g c =
+    let t = g.T.Tracee.stopped c.args.t.now in
+    let u = g.T.Tracee.stopped c.read_lists.new.t in
+    let was : g.T.Tracee.stopped c.rewritten.new.t ≡ t = c.in_ok-edit.ensures.same in
+    let swaps : is_swap c.in_ok-edit.field-0.edit ≡ true = sym c.is_swap.ensures ∙ c.if-not-is_swap.false in
+    let told : CarriesOut (lists_at c.args.lists.args c.args.lists.env) (Err c.in-Err-Err.field-0-0) (g.T.Tracee.stopped c.rewritten.new.t) u =
+    subst (λ (f : CallFault). Reads {A = Handed} (Err f) (lists_at c.args.lists.args c.args.lists.env) (g.T.Tracee.stopped c.rewritten.new.t) u) c.in-Err-Err.field-0-is c.in-Err-Err.ensures.read
+    in
+    let reads : CarriesOut (lists_at c.args.lists.args c.args.lists.env) (Err c.in-Err-Err.field-0-0) t u = subst (λ (x : Stopped). CarriesOut (lists_at c.args.lists.args c.args.lists.env) (Err c.in-Err-Err.field-0-0) x u) was told in
+    let steps = lists-refused (rows_of c.args.walker.now) c.args.tags.now t u c.args.request.now c.args.path.now c.args.lists c.in_ok-edit.field-0.edit c.in-Err-Err.field-0-0 c.in_ok-edit.ensures.edit swaps reads in
+    let led = c.led_at-led.ensures ∙ ap (λ (o : Option Reached). led_at c.args.request.now o) c.in_ok-edit.ensures.first ∙ led-first (texts_at (rows_of c.args.walker.now) c.args.tags.now t) t.pid c.args.request.now in
+    ap (λ (l : Led). (record { edit = c.in_ok-edit.field-0.edit; led = l }, u)) led ∙ sym steps
