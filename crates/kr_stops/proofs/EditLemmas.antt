@@ -12,6 +12,7 @@ use Rattle.law_lawful.specs.kr_model.State.{Image, Process, State, at_pid, image
 use Rattle.law_lawful.specs.kr_model.State as model
 use Rattle.law_lawful.proofs.ProcessChangeLemmas.{found as found-changed, found-passes}
 use Rattle.law_lawful.proofs.SumLemmas.{other-test, passed-test}
+use Rattle.kr_stops.specs.declared.handed.Handed.{Handed}
 use Rattle.kr_stops.specs.Stopped.{computed, IsEdited, IsThere, Stopped, edited, image_at, no_image}
 
 abbrev with_own : {M : Type 0} → Image → Process M Image → Process M Image
@@ -62,17 +63,17 @@ module _ {M : Type 0} (next pid : ℕ) where
 abbrev image_in : Option (Process ℕ Image) → Image
 image_in o = option_map_or (λ p. p.image) o no_image
 
-pub there : (s : State ℕ Image) (pid : ℕ) (at_root : Bool) (p : Process ℕ Image) → ArePids s → model.process pid s ≡ Some p → IsThere (record { state = s; pid = pid; at_root = at_root })
-there s pid at_root p pids e = record {
+pub there : (s : State ℕ Image) (pid : ℕ) (handed : Handed) (p : Process ℕ Image) → ArePids s → model.process pid s ≡ Some p → IsThere (record { state = s; pid = pid; handed = handed })
+there s pid handed p pids e = record {
   lives = subst IsSome (sym e) refl;
   one =
-      ap (λ (o : Option (Process ℕ Image)). edited (image_in o).regs (image_in o).memory (record { state = s; pid = pid; at_root = at_root })) e
-      ∙ ap (λ (ps : List (Process ℕ Image)). record { state = with_living (λ _. ps) s; pid = pid; at_root = at_root }) (own-same s.next_pid pid 2 s.living p pids.living e);
+      ap (λ (o : Option (Process ℕ Image)). edited (image_in o).regs (image_in o).memory (record { state = s; pid = pid; handed = handed })) e
+      ∙ ap (λ (ps : List (Process ℕ Image)). record { state = with_living (λ _. ps) s; pid = pid; handed = handed }) (own-same s.next_pid pid 2 s.living p pids.living e);
 }
 
 pub edited-twice : (regs more : Regs) (memory much : Memory) (t : Stopped) → edited more much (edited regs memory t) ≡ edited more much t
 edited-twice regs more memory much t =
-    ap (λ (ps : List (Process ℕ Image)). record { state = with_living (λ _. ps) t.state; pid = t.pid; at_root = t.at_root })
+    ap (λ (ps : List (Process ℕ Image)). record { state = with_living (λ _. ps) t.state; pid = t.pid; handed = t.handed })
     (twice-each t.pid (record { regs = more; memory = much }) (record { regs = regs; memory = memory }) t.state.living)
 
 pub edited-same : (t : Stopped) → IsThere t → IsEdited t t

@@ -1,10 +1,11 @@
 -- A process that stands at a stop of its call, in the state of its kernel, and what may be done to it there.
-use Rattle.std.specs.Prelude.{◌≡◌, ℕ, Bool, [], IsSome}
+use Rattle.std.specs.Prelude.{◌≡◌, ℕ, false, [], IsSome}
 use Rattle.std.specs.Option.{option_map_or}
 use Rattle.law_lawful.specs.rv_mem.Memory.{Memory}
 use Rattle.law_lawful.specs.rv_mem.declared.regs.Regs.{Regs}
 use Rattle.law_lawful.specs.kr_model.Applied.{with_image, with_living}
 use Rattle.law_lawful.specs.kr_model.State.{Image, State, image_layout, no_memory, process, with_process}
+use Rattle.kr_stops.specs.declared.handed.Handed.{Handed}
 
 -- a process with other registers and another memory
 abbrev pub computed : {T : Type 0} → ℕ → Regs → Memory → State T Image → State T Image
@@ -14,8 +15,11 @@ pub record Stopped : Type 0 where
   -- the whole state; mounts are numbers of a view
   pub state : State ℕ Image
   pub pid : ℕ
-  -- whether the first path of the call led to the root of the view. Before the call is made it has led nowhere
-  pub at_root : Bool
+  -- what the call handed on as it was carried out; nothing before
+  pub handed : Handed
+
+abbrev pub nothing_handed : Handed
+nothing_handed = record { at_root = false }
 
 -- of one that doesn't live; one that is stopped does
 abbrev pub no_image : Image
@@ -30,7 +34,7 @@ image_at t = image_in t.pid t.state
 
 -- the same with other registers and another memory of that process
 abbrev pub edited : Regs → Memory → Stopped → Stopped
-edited regs memory t = record { state = computed t.pid regs memory t.state; pid = t.pid; at_root = t.at_root }
+edited regs memory t = record { state = computed t.pid regs memory t.state; pid = t.pid; handed = t.handed }
 
 -- it lives, and its number is no other's: with its own registers and memory the state is the same
 pub record IsThere (t : Stopped) : Type 0 where

@@ -9,8 +9,10 @@
 #![tactic(auto)]
 
 pub mod below;
+mod handed;
 mod stops;
 mod tracee;
 
+pub use handed::{Handed, NOTHING_HANDED};
 pub use stops::{Stops, Unwatched};
 pub use tracee::Tracee;

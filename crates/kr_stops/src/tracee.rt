@@ -56,7 +56,7 @@ pub trait Tracee: Peeks {
 
     /// Whether the first path of the call led to the root of the kernel's view; not before the call was made. That of execve(2) isn't told.
     fn at_root(&self) -> bool
-        ensures { result ≡ (stopped self.now).at_root };
+        ensures { result ≡ (stopped self.now).handed.at_root };
 
     /// The request that stands in its registers and its memory, or the error of decoding it. What is read of the memory is noted there.
     fn request(&mut self) -> Result<Request, CallFault>

@@ -1,5 +1,5 @@
 -- What a kernel that holds a process at a stop knows of its state.
-use Rattle.std.proofs.Common.{◌≡◌, ◌≤◌, ◌^◌, ℕ, Bool, List, refl, sym, ap, subst, ◌∙◌}
+use Rattle.std.proofs.Common.{◌≡◌, ◌≤◌, ◌^◌, ℕ, List, refl, sym, ap, subst, ◌∙◌}
 use Rattle.std.specs.Prelude.{Option, Result, Ok, Err, OnOk, OnErr, IsSome}
 use Rattle.std.specs.Option.{option_map, option_map_or}
 use Rattle.kr_hostview.specs.pr_base.Peeks.{NamesAreTexts}
@@ -25,6 +25,7 @@ use Rattle.kr_hostview.proofs.LawLemmas.{hosts-have-one-mount, lawful-on-host}
 use Rattle.kr_seen.proofs.LookLemmas.{asked-numbered, process-numbered}
 use Rattle.kr_steps.specs.Computing.{Requests, computed}
 use Rattle.kr_turns.specs.Held.{Held, Stands, stopped_in, stopped_of}
+use Rattle.kr_stops.specs.declared.handed.Handed.{Handed}
 use Rattle.kr_stops.specs.Stopped.{IsThere, Stopped, edited, image_at, image_in, no_image}
 use Rattle.kr_stops.proofs.EditLemmas.{computed-lives, there}
 use Rattle.kr_turns.proofs.NumberLemmas.{computed-numbered, pids-numbered}
@@ -73,25 +74,25 @@ module _ {T : Type 0} {M : ℕ} (number : T → ℕ) where
   image-numbered pid s = asked-numbered number (λ p. p.image) (λ p. p.image) (λ p. refl) no_image pid (meaning s)
 
   -- an edit by what becomes of the image
-  pub edits : (f : Image → Image) (s new : State T M) (pid : ℕ) (at_root : Bool) → meaning new ≡ computed pid (f (image_in pid (meaning s))).regs (f (image_in pid (meaning s))).memory (meaning s)
-      → stopped_in number new pid at_root ≡ edited (f (image_at (stopped_in number s pid at_root))).regs (f (image_at (stopped_in number s pid at_root))).memory (stopped_in number s pid at_root)
-  edits f s new pid at_root e =
+  pub edits : (f : Image → Image) (s new : State T M) (pid : ℕ) (handed : Handed) → meaning new ≡ computed pid (f (image_in pid (meaning s))).regs (f (image_in pid (meaning s))).memory (meaning s)
+      → stopped_in number new pid handed ≡ edited (f (image_at (stopped_in number s pid handed))).regs (f (image_at (stopped_in number s pid handed))).memory (stopped_in number s pid handed)
+  edits f s new pid handed e =
       let own = image_in pid (meaning s) in
       ap (λ (t : model.State T Image). stopped_by (state_numbered number t)) e
       ∙ ap stopped_by (computed-numbered number pid (f own).regs (f own).memory (meaning s))
-      ∙ ap (λ (i : Image). edited (f i).regs (f i).memory (stopped_in number s pid at_root)) (sym (image-numbered pid s))
+      ∙ ap (λ (i : Image). edited (f i).regs (f i).memory (stopped_in number s pid handed)) (sym (image-numbered pid s))
     where
       stopped_by : model.State ℕ Image → Stopped
-      stopped_by t = record { state = t; pid = pid; at_root = at_root }
+      stopped_by t = record { state = t; pid = pid; handed = handed }
 
-  pub there-in : (table : List Row) (calls pid : ℕ) (at_root : Bool) (s : State T M) → Stands number table calls pid s → IsThere (stopped_in number s pid at_root)
-  there-in table calls pid at_root s stands =
+  pub there-in : (table : List Row) (calls pid : ℕ) (handed : Handed) (s : State T M) → Stands number table calls pid s → IsThere (stopped_in number s pid handed)
+  there-in table calls pid handed s stands =
       let own = some-of (model.process pid (meaning s)) stands.lives in
-      there (state_numbered number (meaning s)) pid at_root (process_numbered number own.0) (pids-numbered number (meaning s) stands.runs.lasts.lawful.pids)
+      there (state_numbered number (meaning s)) pid handed (process_numbered number own.0) (pids-numbered number (meaning s) stands.runs.lasts.lawful.pids)
       (process-numbered number pid (meaning s) ∙ ap (option_map (process_numbered number)) own.1)
 
-  pub same-in : (s new : State T M) (pid : ℕ) (at_root : Bool) → meaning new ≡ meaning s → stopped_in number new pid at_root ≡ stopped_in number s pid at_root
-  same-in s new pid at_root e = ap (λ (t : model.State T Image). record { state = state_numbered number t; pid = pid; at_root = at_root }) e
+  pub same-in : (s new : State T M) (pid : ℕ) (handed : Handed) → meaning new ≡ meaning s → stopped_in number new pid handed ≡ stopped_in number s pid handed
+  same-in s new pid handed e = ap (λ (t : model.State T Image). record { state = state_numbered number t; pid = pid; handed = handed }) e
 
 -- what was decoded, of the image of the process
 module _ {T : Type 0} {M : ℕ} (pid : ℕ) (s new : State T M) (result : Result Request CallFault) (r : Requests pid s new result) where

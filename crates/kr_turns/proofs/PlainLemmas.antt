@@ -38,10 +38,11 @@ use Rattle.kr_steps.specs.Settling.{settled}
 use Rattle.kr_seen.proofs.UsingLemmas.{memory-is}
 use Rattle.kr_turns.specs.Breaking.{decoded_rule, executed_rule, nothing_reached, operated_rule, plain_rule, plain_rule_of, requested_rule, rule_told}
 use Rattle.kr_turns.specs.Coming.{came_to}
-use Rattle.kr_turns.specs.PlainCall.{Came, after_decoding, child_if_made, child_of, decoded_reach, end_of, executed, leads_to_root, operated, plain_call, plain_call_of, plain_reach, plain_reach_of, refusal_told, replaced, request_reach, requested, row_on}
+use Rattle.kr_turns.specs.PlainCall.{Came, after_decoding, child_if_made, child_of, decoded_reach, end_of, executed, handed_on, operated, plain_call, plain_call_of, plain_reach, plain_reach_of, refusal_told, replaced, request_reach, requested, row_on}
 use Rattle.kr_turns.specs.declared.plain.CallEnd.TheVariants as end
 use Rattle.kr_turns.specs.declared.plain.Plain.{Plain}
 use Rattle.kr_turns.proofs.BreakLemmas.{exec-told, idle-here}
+use Rattle.kr_stops.specs.Stopped.{nothing_handed}
 use Rattle.kr_stops.proofs.EditLemmas.{computed-lives}
 use Rattle.kr_turns.proofs.NumberLemmas.{answered-numbered, computed-numbered, execution-numbered, memory-numbered, resumed-numbered, row-numbered, settled-numbered}
 use Rattle.kr_seen.proofs.LookLemmas.{known-numbered, process-numbered}
@@ -104,10 +105,10 @@ module _ {T : Type 0} {M : ℕ} (number : T → ℕ) where
   -- ---- a refusal
 
   pub refused : (pid : ℕ) (e : Errno) (old new : State T M) (plain : Plain) → meaning new ≡ answered pid (neg_ℤ (pos (errno_number e))) (meaning old)
-      → plain.end ≡ end.Answered → plain.child ≡ None → plain.at_root ≡ false → came_to number new plain ≡ refusal_told pid e (shown old)
-  refused pid e old new plain tells end child at_root =
+      → plain.end ≡ end.Answered → plain.child ≡ None → plain.handed ≡ nothing_handed → came_to number new plain ≡ refusal_told pid e (shown old)
+  refused pid e old new plain tells end child handed =
       let state : shown new ≡ answered pid (neg_ℤ (pos (errno_number e))) (shown old) = ap (state_numbered number) tells ∙ answered-numbered number pid (neg_ℤ (pos (errno_number e))) (meaning old) in
-      λ j. record { state = state j; end = end j; child = child j; at_root = at_root j }
+      λ j. record { state = state j; end = end j; child = child j; handed = handed j }
 
   -- ---- a row
 
@@ -132,15 +133,15 @@ module _ {T : Type 0} {M : ℕ} (number : T → ℕ) where
         ∙ ap (λ (d : CarriedOut Reply). after_row (mounts_walked (targets_of table pid (shown old) r)) pid d (shown old)) same-row
 
     pub operated-now : (new : State T M) (plain : Plain) → meaning new ≡ settled pid outcome (meaning after) → plain.end ≡ end_of r outcome → plain.child ≡ child_of (meaning old).next_pid r outcome
-        → plain.at_root ≡ leads_to_root table (targets_of table pid (shown old) r) → came_to number new plain ≡ operated table pid r (shown old)
-    operated-now new plain settles end child at_root =
+        → plain.handed ≡ handed_on table (targets_of table pid (shown old) r) → came_to number new plain ≡ operated table pid r (shown old)
+    operated-now new plain settles end child handed =
         let state : shown new ≡ settled pid (row_on table pid r (shown old)).reply.outcome (after_row (mounts_walked (targets_of table pid (shown old) r)) pid (row_on table pid r (shown old)) (shown old)) =
         ap (state_numbered number) settles ∙ settled-numbered number pid outcome (meaning after) ∙ ap (settled pid outcome) row-left
         ∙ ap (λ o. settled pid o (after_row (mounts_walked (targets_of table pid (shown old) r)) pid (row_on table pid r (shown old)) (shown old))) outcome-told
         in
         let ends : plain.end ≡ end_of r (row_on table pid r (shown old)).reply.outcome = end ∙ ap (end_of r) outcome-told in
         let makes : plain.child ≡ child_of (shown old).next_pid r (row_on table pid r (shown old)).reply.outcome = child ∙ ap (child_of (meaning old).next_pid r) outcome-told in
-        λ j. record { state = state j; end = ends j; child = makes j; at_root = at_root j }
+        λ j. record { state = state j; end = ends j; child = makes j; handed = handed j }
 
   -- a call whose walk is refused
   pub came-refused : (table : List Row) (pid : ℕ) (r : Request) (s : State T M) (e : Errno) → targets_of table pid (shown s) r ≡ Err e → ArePids (meaning s) → (came : Came) → came ≡ refusal_told pid e (shown s) → came ≡ operated table pid r (shown s)
@@ -153,8 +154,8 @@ module _ {T : Type 0} {M : ℕ} (number : T → ℕ) where
       in
       let ends : end.Answered ≡ (operated table pid r (shown s)).end = ap (end_of r) told in
       let child : None ≡ (operated table pid r (shown s)).child = sym (no-child (shown s).next_pid e r) ∙ ap (child_of (shown s).next_pid r) told in
-      let at_root : false ≡ (operated table pid r (shown s)).at_root = sym (ap (leads_to_root table) fails) in
-      refuses ∙ (λ j. record { state = state j; end = ends j; child = child j; at_root = at_root j })
+      let handed : nothing_handed ≡ (operated table pid r (shown s)).handed = sym (ap (handed_on table) fails) in
+      refuses ∙ (λ j. record { state = state j; end = ends j; child = child j; handed = handed j })
 
   -- ---- a new program
 
@@ -177,10 +178,10 @@ module _ {T : Type 0} {M : ℕ} (number : T → ℕ) where
         ∙ found-alone pid came (shown old) (record { found = option_map number mounts.found; directory = option_map number mounts.directory }) (mount_of came.reply) (placed ∙ ap (λ (d : CarriedOut (Result Program Errno)). mount_of d.reply) same-done)
 
     pub replaced-now : (p : Program) (new : State T M) (plain : Plain) → shown after ≡ left → (done number table pid path args env (meaning old)).reply ≡ Ok p → meaning new ≡ resumed pid (meaning after)
-        → plain.end ≡ end.Replaced → plain.child ≡ None → plain.at_root ≡ false → came_to number new plain ≡ executed table pid path args env (shown old)
-    replaced-now p new plain is told resumes end child at_root =
+        → plain.end ≡ end.Replaced → plain.child ≡ None → plain.handed ≡ nothing_handed → came_to number new plain ≡ executed table pid path args env (shown old)
+    replaced-now p new plain is told resumes end child handed =
         let state : shown new ≡ resumed pid left = ap (state_numbered number) resumes ∙ resumed-numbered number pid (meaning after) ∙ ap (resumed pid) is in
-        let as-record : came_to number new plain ≡ replaced pid (Ok p) left = λ j. record { state = state j; end = end j; child = child j; at_root = at_root j } in
+        let as-record : came_to number new plain ≡ replaced pid (Ok p) left = λ j. record { state = state j; end = end j; child = child j; handed = handed j } in
         as-record ∙ ap (λ (reply : Result Program Errno). replaced pid reply left) (sym told ∙ ap (λ (d : CarriedOut (Result Program Errno)). d.reply) same-done)
 
     pub refused-now : (e : Errno) (came-now : Came) → shown after ≡ left → (done number table pid path args env (meaning old)).reply ≡ Err e → came-now ≡ refusal_told pid e (shown after)
@@ -258,7 +259,7 @@ module _ {T : Type 0} {M : ℕ} (number : T → ℕ) (table : List Row) (pid : �
 
   call-is : plain_call table pid (shown number s) ≡ after_decoding table pid decoded.reply (shown number mid)
   call-is =
-      ap (λ (o : Option (model.Process ℕ Image)). option_map_or (plain_call_of table pid (shown number s)) o (record { state = shown number s; end = end.Waits; child = None; at_root = false })) found
+      ap (λ (o : Option (model.Process ℕ Image)). option_map_or (plain_call_of table pid (shown number s)) o (record { state = shown number s; end = end.Waits; child = None; handed = nothing_handed })) found
       ∙ ap (after_decoding table pid decoded.reply) (sym shown-mid)
 
   reach-is : (reach : Reach) → plain_reach table pid (shown number s) reach ≡ decoded_reach table pid decoded.reply (shown number mid) reach

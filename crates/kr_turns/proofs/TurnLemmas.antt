@@ -1,5 +1,5 @@
 -- A turn in code is a turn of the state with the numbers of its mounts.
-use Rattle.std.proofs.Common.{◌≡◌, ℕ, Bool, false, List, Option, Some, None, refl, sym, ap, subst, ◌∙◌}
+use Rattle.std.proofs.Common.{◌≡◌, ℕ, List, Option, Some, None, refl, sym, ap, subst, ◌∙◌}
 use Rattle.std.specs.Prelude.{IsSome}
 use Rattle.std.specs.Option.{option_map}
 use Rattle.std.proofs.lemmas.Option.{same_Some}
@@ -29,27 +29,28 @@ use Rattle.kr_turns.specs.Making.{ComesOut, IsCallMade, IsLeft, ended_with, mach
 use Rattle.kr_turns.specs.Breaking.{plain_rule}
 use Rattle.kr_turns.specs.PlainCall.{Came, plain_call}
 use Rattle.kr_turns.specs.Shelving.{lacks_in, shelved_in}
-use Rattle.kr_stops.specs.Stopped.{Stopped}
+use Rattle.kr_stops.specs.declared.handed.Handed.{Handed}
+use Rattle.kr_stops.specs.Stopped.{Stopped, nothing_handed}
 use Rattle.kr_turns.specs.Turn.{ExitsIfAny, IsAfterEvent, IsAfterPlain, IsBorn, IsTurnOf, Machine, Tally, killed, with_broken}
 use Rattle.kr_stops.specs.Watching.{Watching}
 use Rattle.kr_turns.specs.declared.plain.Plain.{Plain}
 use Rattle.kr_stops.proofs.EditLemmas.{computed-lives}
 use Rattle.kr_turns.proofs.NumberLemmas.{computed-numbered}
 
-module _ {S T : Type 0} {M : ℕ} (w : Watching S) (number : T → ℕ) (pid : ℕ) (at_root : Bool) (old : State T M) (x : S) where
+module _ {S T : Type 0} {M : ℕ} (w : Watching S) (number : T → ℕ) (pid : ℕ) (handed : Handed) (old : State T M) (x : S) where
   abbrev at-stop : Stopped
-  at-stop = stopped_in number old pid at_root
+  at-stop = stopped_in number old pid handed
 
   -- one that lives comes to the stop
-  pub comes-out : (new : State T M) (y : S) → IsSome (model.process pid (meaning old)) → w.exits x at-stop y (stopped_in number new pid at_root) → ComesOut w number pid at_root old x new y
+  pub comes-out : (new : State T M) (y : S) → IsSome (model.process pid (meaning old)) → w.exits x at-stop y (stopped_in number new pid handed) → ComesOut w number pid handed old x new y
   comes-out new y lives exits = λ tally.
       let own = some-of (model.process pid (meaning old)) lives in
       let found : model.process pid (state_numbered number (meaning old)) ≡ Some (process_numbered number own.0) = process-numbered number pid (meaning old) ∙ ap (option_map (process_numbered number)) own.1 in
       subst (λ (o : Option (Process ℕ Image)). ExitsIfAny w at-stop x tally (machine_of number new y tally) o) (sym found)
-      (record { left = stopped_in number new pid at_root; exits = exits; state = refl; same = refl })
+      (record { left = stopped_in number new pid handed; exits = exits; state = refl; same = refl })
 
   -- another doesn't
-  pub stays-out : model.process pid (meaning old) ≡ None → ComesOut w number pid at_root old x old x
+  pub stays-out : model.process pid (meaning old) ≡ None → ComesOut w number pid handed old x old x
   stays-out none = λ tally.
       let found : model.process pid (state_numbered number (meaning old)) ≡ None = process-numbered number pid (meaning old) ∙ ap (option_map (process_numbered number)) none in
       subst (λ (o : Option (Process ℕ Image)). ExitsIfAny w at-stop x tally (machine_of number old x tally) o) (sym found) refl
@@ -59,15 +60,15 @@ module _ {S T : Type 0} {M : ℕ} (w : Watching S) (number : T → ℕ) (pid : �
 module _ {S T : Type 0} {M : ℕ} (w : Watching S) (number : T → ℕ) (table : List Row) (pid : ℕ) where
   -- the stops of a call around it
   pub call-made : (old shelved entered came new : State T M) (x entering bearing y : S) (plain : Plain) → state_numbered number (meaning shelved) ≡ shelved_in M pid (state_numbered number (meaning old))
-      → w.enters x (stopped_in number shelved pid false) entering (stopped_in number entered pid false)
+      → w.enters x (stopped_in number shelved pid nothing_handed) entering (stopped_in number entered pid nothing_handed)
       → came_to number came plain ≡ plain_call table pid (state_numbered number (meaning entered)) → IsBorn w pid plain.child entering bearing
       → plain.broken ≡ plain_rule M table pid (lacks_in M pid (state_numbered number (meaning old))) (state_numbered number (meaning entered))
       → (told : Option ℕ) → IsLeft w number pid plain came bearing new y told
       → IsCallMade w number table pid old x new y (record { status = told; broken = plain.broken })
   call-made old shelved entered came new x entering bearing y plain marks enters plainly born rule told left = λ tally. record {
     entering = entering;
-    entered = stopped_in number entered pid false;
-    enters = subst (λ (s : model.State ℕ Image). w.enters x (record { state = s; pid = pid; at_root = false }) entering (stopped_in number entered pid false)) marks enters;
+    entered = stopped_in number entered pid nothing_handed;
+    enters = subst (λ (s : model.State ℕ Image). w.enters x (record { state = s; pid = pid; handed = nothing_handed }) entering (stopped_in number entered pid nothing_handed)) marks enters;
     after =
         subst (λ (broken : Option ℕ). IsAfterPlain w pid (plain_call table pid (state_numbered number (meaning entered))) entering (with_broken broken tally) (machine_of number new y (ended_with told (with_broken plain.broken tally)))) rule
         (subst (λ (made : Came). IsAfterPlain w pid made entering (with_broken plain.broken tally) (machine_of number new y (ended_with told (with_broken plain.broken tally)))) plainly

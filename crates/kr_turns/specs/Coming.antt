@@ -8,4 +8,4 @@ use Rattle.kr_turns.specs.declared.plain.Plain.{Plain}
 
 -- the code's value with the state that it left
 abbrev pub came_to : {T : Type 0} {M : ℕ} → (T → ℕ) → State T M → Plain → Came
-came_to number s plain = record { state = state_numbered number (meaning s); end = plain.end; child = plain.child; at_root = plain.at_root }
+came_to number s plain = record { state = state_numbered number (meaning s); end = plain.end; child = plain.child; handed = plain.handed }

@@ -1,5 +1,5 @@
 -- A process that a kernel holds at a stop.
-use Rattle.std.specs.Prelude.{ℕ, ◌≤◌, ◌^◌, Bool, List, IsSome}
+use Rattle.std.specs.Prelude.{ℕ, ◌≤◌, ◌^◌, List, IsSome}
 use Rattle.kr_hostview.specs.pr_base.Peeks.{NamesAreTexts}
 use Rattle.kr_execve.specs.kr_view.View.{Row}
 use Rattle.kr_seen.specs.kr_model.Peeks.{peeked_of}
@@ -9,10 +9,11 @@ use Rattle.kr_seen.specs.kr_ops.Meaning.{meaning}
 use Rattle.kr_seen.specs.Numbered.{state_numbered}
 use Rattle.kr_steps.specs.Calls.{Runs}
 use Rattle.kr_stops.specs.Stopped.{Stopped}
+use Rattle.kr_stops.specs.declared.handed.Handed.{Handed}
 
 -- the process of a number in a state of the code
-abbrev pub stopped_in : {T : Type 0} {M : ℕ} → (T → ℕ) → State T M → (pid : ℕ) → Bool → Stopped
-stopped_in number s pid at_root = record { state = state_numbered number (meaning s); pid = pid; at_root = at_root }
+abbrev pub stopped_in : {T : Type 0} {M : ℕ} → (T → ℕ) → State T M → (pid : ℕ) → Handed → Stopped
+stopped_in number s pid handed = record { state = state_numbered number (meaning s); pid = pid; handed = handed }
 
 -- it lives, in a state that runs, and numbers of processes have 32 bits
 pub record Stands {T : Type 0} {M : ℕ} (number : T → ℕ) (table : List Row) (calls pid : ℕ) (s : State T M) : Type 0 where
@@ -25,7 +26,7 @@ pub record Held (P T : Type 0) (M : ℕ) : Type 0 where
   pub places : P
   pub state : State T M
   pub pid : ℕ
-  pub at_root : Bool
+  pub handed : Handed
   pub calls : ℕ
   -- which state was lent
   pub lent : ℕ
@@ -44,7 +45,7 @@ pub record Left (P : Type 0) : Type 0 where
 
 module _ {P T : Type 0} {M : ℕ} (number : T → ℕ) where
   abbrev pub stopped_of : Held P T M → Stopped
-  stopped_of h = stopped_in number h.state h.pid h.at_root
+  stopped_of h = stopped_in number h.state h.pid h.handed
 
   abbrev pub around_of : Held P T M → Around P
   around_of h = record { places = h.places; calls = h.calls; lent = h.lent }

@@ -1,5 +1,5 @@
 -- A turn in code, between states of which the mounts are told by their numbers.
-use Rattle.std.specs.Prelude.{◌≡◌, ℕ, Bool, List, Option, Some}
+use Rattle.std.specs.Prelude.{◌≡◌, ℕ, List, Option, Some}
 use Rattle.std.specs.Option.{option_map_or}
 use Rattle.kr_execve.specs.kr_view.View.{Row}
 use Rattle.kr_seen.specs.kr_model.State.{Image, Process, process}
@@ -9,6 +9,7 @@ use Rattle.kr_seen.specs.Numbered.{state_numbered}
 use Rattle.kr_turns.specs.Held.{stopped_in}
 use Rattle.kr_turns.specs.Turn.{ExitsIfAny, IsTurnOf, IsWatchedCall, Leaves, Machine, Tally, called, with_broken, with_status}
 use Rattle.kr_stops.specs.Watching.{Watching}
+use Rattle.kr_stops.specs.declared.handed.Handed.{Handed}
 use Rattle.kr_turns.specs.Coming.{came_to}
 use Rattle.kr_turns.specs.declared.plain.Plain.{Plain}
 use Rattle.kr_turns.specs.declared.turn.Made.{Made}
@@ -27,8 +28,8 @@ module _ {S T : Type 0} {M : ℕ} (number : T → ℕ) where
 
 module _ {S T : Type 0} {M : ℕ} (w : Watching S) (number : T → ℕ) where
   -- a process behind its call that goes on, if it lives
-  abbrev pub ComesOut : ℕ → Bool → State T M → S → State T M → S → Type 0
-  ComesOut pid at_root old x new y = (tally : Tally) → ExitsIfAny w (stopped_in number old pid at_root) x tally (machine_of number new y tally) (process pid (state_numbered number (meaning old)))
+  abbrev pub ComesOut : ℕ → Handed → State T M → S → State T M → S → Type 0
+  ComesOut pid handed old x new y = (tally : Tally) → ExitsIfAny w (stopped_in number old pid handed) x tally (machine_of number new y tally) (process pid (state_numbered number (meaning old)))
 
   -- a process behind its call, which may come to the second stop
   abbrev pub IsLeft : ℕ → Plain → State T M → S → State T M → S → Option ℕ → Type 0

@@ -27,6 +27,8 @@ use Rattle.kr_execve.specs.Execution.{Program, after_execution, execution, execu
 use Rattle.kr_steps.specs.Answering.{answered, resumed}
 use Rattle.kr_steps.specs.Computing.{computed}
 use Rattle.kr_steps.specs.Settling.{settled}
+use Rattle.kr_stops.specs.Stopped.{nothing_handed}
+use Rattle.kr_stops.specs.declared.handed.Handed.{Handed}
 use Rattle.kr_turns.specs.declared.plain.CallEnd.{CallEnd}
 use Rattle.kr_turns.specs.declared.plain.CallEnd.TheVariants as end
 
@@ -36,8 +38,8 @@ pub record Came : Type 0 where
   pub end : CallEnd
   -- the child that it made, if one
   pub child : Option ℕ
-  -- whether its first path led to the root of the view
-  pub at_root : Bool
+  -- what it hands to the second stop
+  pub handed : Handed
 
 -- ---- by the outcome
 
@@ -77,15 +79,18 @@ abbrev pub leads_to_root : List Row → Result Targets Errno → Bool
 leads_to_root table (Ok targets) = option_map_or (is_root_found table) targets.first false
 leads_to_root table (Err e) = false
 
+abbrev pub handed_on : List Row → Result Targets Errno → Handed
+handed_on table targets = record { at_root = leads_to_root table targets }
+
 -- ---- each kind of call
 
 -- a refused call tells its caller the negated number of the error
 abbrev pub refusal_told : ℕ → Errno → State ℕ Image → Came
-refusal_told pid e s = record { state = answered pid (neg_ℤ (pos (errno_number e))) s; end = end.Answered; child = None; at_root = false }
+refusal_told pid e s = record { state = answered pid (neg_ℤ (pos (errno_number e))) s; end = end.Answered; child = None; handed = nothing_handed }
 
 -- a new program goes on with its own registers; a caller that is refused one is told so
 abbrev pub replaced : ℕ → Result Program Errno → State ℕ Image → Came
-replaced pid (Ok program) s = record { state = resumed pid s; end = end.Replaced; child = None; at_root = false }
+replaced pid (Ok program) s = record { state = resumed pid s; end = end.Replaced; child = None; handed = nothing_handed }
 replaced pid (Err e) s = refusal_told pid e s
 
 module _ (table : List Row) (pid : ℕ) where
@@ -100,7 +105,7 @@ module _ (table : List Row) (pid : ℕ) where
         state = settled pid done.reply.outcome (after_row (mounts_walked (targets_of table pid s r)) pid done s);
         end = end_of r done.reply.outcome;
         child = child_of s.next_pid r done.reply.outcome;
-        at_root = leads_to_root table (targets_of table pid s r);
+        handed = handed_on table (targets_of table pid s r);
       }
 
   abbrev pub executed : List ℕ → ℕ → ℕ → State ℕ Image → Came
@@ -125,7 +130,7 @@ module _ (table : List Row) (pid : ℕ) where
 
   -- of a process that lives; no other calls
   abbrev pub plain_call : State ℕ Image → Came
-  plain_call s = option_map_or (plain_call_of s) (process pid s) (record { state = s; end = end.Waits; child = None; at_root = false })
+  plain_call s = option_map_or (plain_call_of s) (process pid s) (record { state = s; end = end.Waits; child = None; handed = nothing_handed })
 
   -- ---- what its walks reach
 

@@ -14,7 +14,7 @@ use Rattle.kr_calm.specs.Calm.{kept}
 use Rattle.kr_turns.specs.Breaking.{idle_rule, killed_rule, no_mounts, plain_rule}
 use Rattle.kr_turns.specs.PlainCall.{Came, plain_call}
 use Rattle.kr_turns.specs.Shelving.{lacks_in, shelved_in}
-use Rattle.kr_stops.specs.Stopped.{Stopped}
+use Rattle.kr_stops.specs.Stopped.{Stopped, nothing_handed}
 use Rattle.kr_stops.specs.Watching.{Watcher, Watching}
 use Rattle.kr_turns.specs.declared.plain.CallEnd.{CallEnd}
 use Rattle.kr_turns.specs.declared.plain.CallEnd.TheVariants as end
@@ -43,11 +43,11 @@ killed pid signal s = applied images no_mounts pid (End signal) s
 
 -- a process that comes to a call, before its first stop: its shelf is marked
 abbrev pub calling : (marks pid : ℕ) → State ℕ Image → Stopped
-calling marks pid s = record { state = shelved_in marks pid s; pid = pid; at_root = false }
+calling marks pid s = record { state = shelved_in marks pid s; pid = pid; handed = nothing_handed }
 
 -- and behind it, at the second one
 abbrev pub called : ℕ → Came → Stopped
-called pid came = record { state = came.state; pid = pid; at_root = came.at_root }
+called pid came = record { state = came.state; pid = pid; handed = came.handed }
 
 -- ---- a turn with a watcher that is a function
 

@@ -16,7 +16,7 @@ use kr_hostview::host_peeks;
 use kr_seen::below::{State, lawful_states_are_sound};
 use kr_steps::below::{BadAddress, StoreFault, Use};
 use kr_steps::request;
-use kr_stops::Tracee;
+use kr_stops::{Handed, Tracee};
 use std::alloc::Global;
 use std::marker::Model;
 
@@ -27,7 +27,7 @@ pub(crate) struct Here<'a, P: Places, const M: u8> {
     places: &'a P,
     state: &'a mut State<P::Mount, M>,
     pid: u32,
-    at_root: bool,
+    handed: Handed,
     calls: u32,
     ghost texts: { ∥ NamesAreTexts (peeked_of (meaning state.now) pid) ∥₁ },
 }
@@ -44,7 +44,7 @@ impl<'a, P: Places, const M: u8> Model for Here<'a, P, M> {
 
     ghost coded = { Prim.hlevel (codes, tree_code, memory_code, descriptors_code, kept_code {M = P.Mount} (Prim.hlevel (codes, P.Mount.code)), P.Mount.code, P.code) };
 
-    ghost view = { λ h. record { places = h.places.now; state = h.state.now; pid = h.pid; at_root = h.at_root; calls = h.calls; lent = h.state.ghost_name; texts = h.texts } };
+    ghost view = { λ h. record { places = h.places.now; state = h.state.now; pid = h.pid; handed = h.handed; calls = h.calls; lent = h.state.ghost_name; texts = h.texts } };
 
     ghost invariant = { λ h. Stands P.number (P.mounts h.places.now) h.calls h.pid h.state.now };
 }
@@ -56,12 +56,12 @@ impl<'a, P: Places, const M: u8> Here<'a, P, M> {
         places: &'a P,
         state: &'a mut State<P::Mount, M>,
         pid: u32,
-        at_root: bool,
+        handed: Handed,
         calls: u32,
     ) -> Here<'a, P, M>
         requires runs { Runs P.number (P.mounts places.now) calls state.old }
         requires lives { IsSome (process pid (meaning state.old)) }
-        ensures stopped { stopped_of P.number result ≡ stopped_in P.number state.old pid at_root }
+        ensures stopped { stopped_of P.number result ≡ stopped_in P.number state.old pid handed }
         ensures around { around_of P.number result ≡ record { places = places.now; calls = calls; lent = state.entry.ghost_name } }
     {
         names_are_texts(state, pid);
@@ -70,14 +70,14 @@ impl<'a, P: Places, const M: u8> Here<'a, P, M> {
             places,
             state,
             pid,
-            at_root,
+            handed,
             calls,
         }
     }
 
     /// The state.
     pub(crate) fn into_state(self) -> &'a mut State<P::Mount, M>
-        ensures stopped { stopped_in P.number result.now self.entry.pid self.entry.at_root ≡ stopped_of P.number self.entry }
+        ensures stopped { stopped_in P.number result.now self.entry.pid self.entry.handed ≡ stopped_of P.number self.entry }
         ensures stands { Stands P.number (P.mounts self.entry.places) self.entry.calls self.entry.pid result.now }
         ensures lent { result.ghost_name ≡ self.entry.lent }
     {
@@ -176,7 +176,7 @@ impl<'a, P: Places, const M: u8> Tracee for Here<'a, P, M> {
     }
 
     fn at_root(&self) -> bool {
-        self.at_root
+        self.handed.at_root
     }
 
     fn request(&mut self) -> Result<Request, CallFault> {

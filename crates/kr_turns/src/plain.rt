@@ -19,7 +19,7 @@ ghost use Rattle.kr_turns.specs.Coming.{came_to};
 ghost use Rattle.std.specs.Option.{option_map, option_map_or};
 ghost use Rattle.kr_execve.specs.kr_view.Leads.{numbered};
 ghost use Rattle.kr_execve.specs.kr_view.View.{Row, is_root_place};
-ghost use Rattle.kr_turns.specs.PlainCall.{child_of, end_of, executed, leads_to_root, plain_call, plain_reach, refusal_told, request_reach, requested, status_told};
+ghost use Rattle.kr_turns.specs.PlainCall.{child_of, end_of, executed, handed_on, leads_to_root, plain_call, plain_reach, refusal_told, request_reach, requested, status_told};
 ghost use Rattle.kr_execve.specs.kr_calls.declared.request.Request.TheVariants.{Execve as ExecveRequest};
 
 use crate::judging::{NOTHING, idle_rule, judge_call, look_ahead, rule_of};
@@ -29,6 +29,7 @@ use kr_hostview::below::{Errno, NoMemory};
 use kr_seen::below::{Outcome, State, lawful_states_are_sound};
 use kr_seen::{Targets, walk_paths};
 use kr_steps::{answer, carry_out_along, request, resume, stay};
+use kr_stops::{Handed, NOTHING_HANDED};
 use std::alloc::Global;
 
 /// The signal that kills a process which writes into a pipe that nobody reads.
@@ -53,8 +54,8 @@ pub struct Plain {
     pub end: CallEnd,
     /// The number of the child that it made, if one.
     pub child: Option<u32>,
-    /// Whether its first path led to the root of the view. That of execve(2) isn't told.
-    pub at_root: bool,
+    /// What it hands to the second stop.
+    pub handed: Handed,
     /// What its walks reached.
     pub reach: Reach,
     /// The smallest calm rule that it broke. Where marks aren't kept none is.
@@ -155,7 +156,7 @@ fn replace<P: Places, const M: u8>(
             Ok(Plain {
                 end: CallEnd::Replaced,
                 child: None,
-                at_root: false,
+                handed: NOTHING_HANDED,
                 reach,
                 broken: rule_of::<M>(marks_read, no_shelf, false, None, &reach),
             })
@@ -192,7 +193,7 @@ fn operate<P: Places, const M: u8>(
         Err(WalkFault::Err(errno)) => return Ok(refuse(state, pid, errno, no_shelf, reach)),
         Err(WalkFault::NoMemory) => return Err(NoMemory),
     };
-    let at_root = leads_to_root(places, &targets);
+    let handed = handed_on(places, &targets);
     let next = state.next_pid;
     let ahead = look_ahead(places, state, pid, request, &targets);
     let outcome = carry_out_along(alloc, places, state, pid, request, &targets);
@@ -202,7 +203,7 @@ fn operate<P: Places, const M: u8>(
     Ok(Plain {
         end,
         child,
-        at_root,
+        handed,
         reach,
         broken,
     })
@@ -227,7 +228,7 @@ fn refuse<T: Copy, const M: u8>(
     Plain {
         end: CallEnd::Answered,
         child: None,
-        at_root: false,
+        handed: NOTHING_HANDED,
         reach,
         broken,
     }
@@ -277,6 +278,15 @@ fn child_of(next: u32, request: &Request, outcome: Outcome) -> Option<u32>
     match (request, outcome) {
         (Request::Clone { .. }, Outcome::Answer(value)) if 0 <= value => Some(next),
         _ => None,
+    }
+}
+
+/// What a call hands to its second stop.
+fn handed_on<P: Places>(places: &P, targets: &Targets<P::Mount>) -> Handed
+    ensures { (answer : _) → AreTargets P.number answer (Ok targets.now) → result ≡ handed_on (P.mounts places.now) answer }
+{
+    Handed {
+        at_root: leads_to_root(places, targets),
     }
 }
 

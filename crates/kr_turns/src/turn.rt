@@ -1,5 +1,5 @@
 //! A turn of a process.
-ghost use Rattle.std.specs.Prelude.{◌<◌, ◌^◌, ℕ, suc, false, length, IfOk, IsSome, OnOk};
+ghost use Rattle.std.specs.Prelude.{◌<◌, ◌^◌, ℕ, suc, length, IfOk, IsSome, OnOk};
 ghost use Rattle.kr_steps.specs.law_allowed.Told.{SourcesAreNamed};
 ghost use Rattle.kr_steps.specs.Calls.{Runs};
 ghost use Rattle.kr_seen.specs.kr_model.State.{process};
@@ -7,7 +7,7 @@ ghost use Rattle.kr_seen.specs.kr_ops.Meaning.{meaning};
 ghost use Rattle.kr_turns.specs.Making.{ComesOut, IsCallMade, IsLeft, IsTurnMade};
 ghost use Rattle.kr_stops.specs.Watching.{watching};
 ghost use Rattle.kr_turns.specs.Held.{Stands, stopped_in};
-ghost use Rattle.kr_stops.specs.Stopped.{IsEdited};
+ghost use Rattle.kr_stops.specs.Stopped.{IsEdited, nothing_handed};
 ghost use Rattle.kr_turns.specs.Turn.{IsBorn};
 
 use crate::here::Here;
@@ -20,7 +20,7 @@ use kr_hostview::below::NoMemory;
 use kr_seen::below::{State, lawful_states_are_sound};
 use kr_steps::below::Event;
 use kr_steps::{compute, kill};
-use kr_stops::Stops;
+use kr_stops::{Handed, NOTHING_HANDED, Stops};
 use std::alloc::Global;
 
 /// What a turn told.
@@ -121,11 +121,11 @@ fn enter<P: Places, S: Stops, const M: u8>(
 ) -> Result<(), NoMemory>
     requires runs { Runs P.number (P.mounts places.now) calls state.old }
     requires lives { IsSome (process pid (meaning state.old)) }
-    ensures enters { OnOk result (S.enters stops.old (stopped_in P.number state.old pid false) stops.new (stopped_in P.number state.new pid false)) }
-    ensures edits { IsEdited (stopped_in P.number state.old pid false) (stopped_in P.number state.new pid false) }
+    ensures enters { OnOk result (S.enters stops.old (stopped_in P.number state.old pid nothing_handed) stops.new (stopped_in P.number state.new pid nothing_handed)) }
+    ensures edits { IsEdited (stopped_in P.number state.old pid nothing_handed) (stopped_in P.number state.new pid nothing_handed) }
     ensures stands { Stands P.number (P.mounts places.now) calls pid state.new }
 {
-    let mut here = Here::new(alloc, places, state, pid, false, calls);
+    let mut here = Here::new(alloc, places, state, pid, NOTHING_HANDED, calls);
     let entered = stops.entry(&mut here);
     let _state = here.into_state();
     entered
@@ -139,14 +139,14 @@ fn exit<P: Places, S: Stops, const M: u8>(
     state: &mut State<P::Mount, M>,
     calls: u32,
     pid: u32,
-    at_root: bool,
+    handed: Handed,
 ) -> Result<(), NoMemory>
     requires runs { Runs P.number (P.mounts places.now) calls state.old }
     requires lives { IsSome (process pid (meaning state.old)) }
-    ensures exits { OnOk result (S.exits stops.old (stopped_in P.number state.old pid at_root) stops.new (stopped_in P.number state.new pid at_root)) }
+    ensures exits { OnOk result (S.exits stops.old (stopped_in P.number state.old pid handed) stops.new (stopped_in P.number state.new pid handed)) }
     ensures stands { Stands P.number (P.mounts places.now) calls pid state.new }
 {
-    let mut here = Here::new(alloc, places, state, pid, at_root, calls);
+    let mut here = Here::new(alloc, places, state, pid, handed, calls);
     let exited = stops.exit(&mut here);
     let _state = here.into_state();
     exited
@@ -160,14 +160,14 @@ fn come_out<P: Places, S: Stops, const M: u8>(
     state: &mut State<P::Mount, M>,
     calls: u32,
     pid: u32,
-    at_root: bool,
+    handed: Handed,
 ) -> Result<(), NoMemory>
     requires runs { Runs P.number (P.mounts places.now) calls state.old }
-    ensures out { OnOk result (ComesOut (watching S.enters S.exits S.bears S.forgets) P.number pid at_root state.old stops.old state.new stops.new) }
+    ensures out { OnOk result (ComesOut (watching S.enters S.exits S.bears S.forgets) P.number pid handed state.old stops.old state.new stops.new) }
     ensures runs { OnOk result (Runs P.number (P.mounts places.now) calls state.new) }
 {
     match state.index_of(pid) {
-        Some(_) => exit(alloc, places, stops, state, calls, pid, at_root),
+        Some(_) => exit(alloc, places, stops, state, calls, pid, handed),
         None => Ok(()),
     }
 }
@@ -188,11 +188,11 @@ fn leave<P: Places, S: Stops, const M: u8>(
 {
     match plain.end {
         CallEnd::Answered => {
-            come_out(alloc, places, stops, state, calls, pid, plain.at_root)?;
+            come_out(alloc, places, stops, state, calls, pid, plain.handed)?;
             Ok(None)
         }
         CallEnd::Replaced => {
-            come_out(alloc, places, stops, state, calls, pid, plain.at_root)?;
+            come_out(alloc, places, stops, state, calls, pid, plain.handed)?;
             Ok(None)
         }
         CallEnd::Waits => Ok(None),

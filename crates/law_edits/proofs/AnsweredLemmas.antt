@@ -11,7 +11,7 @@ use Rattle.pt_args.specs.kr_calls.Decoding.{Decoded, decoding}
 use Rattle.law_walks.specs.kr_model.State.{Image, Process, process}
 use Rattle.kr_turns.specs.kr_steps.Computing.{computed}
 use Rattle.kr_turns.specs.PlainCall.{after_decoding, plain_call_of, refusal_told}
-use Rattle.kr_turns.specs.kr_stops.Stopped.{IsThere, Stopped, edited, image_at, no_image}
+use Rattle.kr_turns.specs.kr_stops.Stopped.{IsThere, Stopped, edited, image_at, no_image, nothing_handed}
 use Rattle.kr_turns.specs.declared.plain.CallEnd.TheVariants as end
 use Rattle.pt_args.specs.Laws.{poked as pages_poked}
 use Rattle.pt_args.specs.declared.edit.Edit.{Edit}
@@ -33,7 +33,7 @@ pub plain_calls_are_decoded : PlainCallsAreDecoded
 plain_calls_are_decoded table t there = by (process t.pid t.state) there.lives
   where
     by : (o : Option (Process ℕ Image)) → IsSome o
-        → option_map_or (plain_call_of table t.pid t.state) o (record { state = t.state; end = end.Waits; child = None; at_root = false })
+        → option_map_or (plain_call_of table t.pid t.state) o (record { state = t.state; end = end.Waits; child = None; handed = nothing_handed })
         ≡ after_decoding table t.pid (carried_out (decoding (option_map_or (λ p. p.image) o no_image).regs) (option_map_or (λ p. p.image) o no_image).memory).reply
         (computed t.pid (option_map_or (λ p. p.image) o no_image).regs (carried_out (decoding (option_map_or (λ p. p.image) o no_image).regs) (option_map_or (λ p. p.image) o no_image).memory).memory t.state)
     by None lives = absurd cc

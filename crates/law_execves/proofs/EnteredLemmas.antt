@@ -29,7 +29,7 @@ use Rattle.law_stops.specs.kr_steps.Answering.{answered, going, resumed, with_an
 use Rattle.law_stops.specs.kr_steps.Calls.{LastsLawful}
 use Rattle.law_stops.specs.kr_steps.Computing.{computed}
 use Rattle.law_stops.specs.kr_turns.PlainCall.{Came, executed, plain_call, refusal_told, replaced}
-use Rattle.law_stops.specs.kr_stops.Stopped.{IsThere, Stopped, edited, image_at}
+use Rattle.law_stops.specs.kr_stops.Stopped.{IsThere, Stopped, edited, image_at, nothing_handed}
 use Rattle.law_stops.specs.kr_turns.Turn.{Machine, Tally, after_exit, after_plain, called, calling, watched_call}
 use Rattle.law_stops.specs.kr_stops.Watching.{unwatched}
 use Rattle.law_stops.specs.kr_turns.declared.plain.CallEnd.TheVariants as end
@@ -154,12 +154,12 @@ module _ {S : Type 0} (table : List Row) (made pid : ℕ) (m : Machine S) (n : M
     there2 =
         let lawful = lawful-image (λ k. k) plain w c.also_lasts.lawful pid q also left like (λ _. without_call q.image.regs) in
         let lasts = settled_lasts plain made pid (Answer (refusal ENOSYS)) shown (record { lawful = lawful; lasts = lasts_living made (with_process pid (given pid (without_call q.image.regs) left)) w c.also_lasts.lasts }) in
-        is_there none.state pid false q3 lasts.lawful.pids lives3
+        is_there none.state pid nothing_handed q3 lasts.lawful.pids lives3
 
     exits : exited y stop2 ≡ left_with y stop2 r led (word_of (refusal e)) (image_at stop).regs.x
     exits =
         exits_behind_answers y stop stop2 (decoded_at stop).memory r led (refusal e) (word_of (refusal ENOSYS)) c.traces.identities (get-insert_same x.pending pid (pending led (Some (refusal e)))) reads_there
-        (is_there w pid false q c.also_lasts.lawful.pids also) there2
+        (is_there w pid nothing_handed q c.also_lasts.lawful.pids also) there2
         (ap (λ (image : Image). image.regs.x) (own_image pid none.state q3 lives3) ∙ ap (λ (image : Image). slice_set (without_call image.regs).x 10 (word_of (refusal ENOSYS))) (sym (own_image pid w q also)))
 
     abbrev back : Tracing × Stopped
@@ -292,7 +292,7 @@ module _ {S : Type 0} (table : List Row) (made pid : ℕ) (m : Machine S) (n : M
       there5 =
           let lawful = lawful-image (λ k. k) plain w c.also_lasts.lawful pid q also done4.memory stays5 (λ _. regs3) in
           let lasts = settled_lasts plain made pid (Answer (told_of e)) behind5 (record { lawful = lawful; lasts = lasts_living made (with_process pid (given pid regs3 done4.memory)) w c.also_lasts.lasts }) in
-          is_there came5.state pid false q5 (subst (λ t. LastsLawful (λ k. k) plain made t) (sym state5_is) lasts).lawful.pids lives5
+          is_there came5.state pid nothing_handed q5 (subst (λ t. LastsLawful (λ k. k) plain made t) (sym state5_is) lasts).lawful.pids lives5
 
       abbrev back5 : Tracing × Stopped
       back5 = left_with yy (called pid came5) r led (word_of (told_of e)) (image_at stop).regs.x
@@ -336,7 +336,7 @@ module _ {S : Type 0} (table : List Row) (made pid : ℕ) (m : Machine S) (n : M
     module _ (reads : (decoded_by p1).reply ≡ Ok r) (program other : Program) (loads : done.reply ≡ Ok program) (loads4 : done4.reply ≡ Ok other) (matched : IsMatched (scene_of table s1 pid x.tags)) (alike : ArePutAlike table pid s1 w program other led.index)
         (zero : get_or other.image.regs.x 10 0 ≡ 0) where
       abbrev came6 : Came
-      came6 = record { state = resumed pid (all_applied images (mounts_of other) pid (changes_of (Ok other)) (with_memory_of pid done4.memory w4)); end = end.Replaced; child = None; at_root = false }
+      came6 = record { state = resumed pid (all_applied images (mounts_of other) pid (changes_of (Ok other)) (with_memory_of pid done4.memory w4)); end = end.Replaced; child = None; handed = nothing_handed }
 
       came6_is : plain_call plain pid w3 ≡ came6
       came6_is = came4_is ∙ ap (λ r. replaced pid r (all_applied images (record { found = mount_of r; directory = None }) pid (changes_of r) (with_memory_of pid done4.memory w4))) loads4

@@ -49,7 +49,7 @@ use Rattle.law_stops.specs.kr_model.ProcessDirectory.{around_of}
 use Rattle.law_stops.specs.kr_model.State.{Image, Process, State, process}
 use Rattle.law_stops.specs.kr_steps.Computing.{computed}
 use Rattle.law_stops.specs.kr_turns.Breaking.{nothing_reached}
-use Rattle.law_stops.specs.kr_stops.Stopped.{Stopped, edited, image_at}
+use Rattle.law_stops.specs.kr_stops.Stopped.{Stopped, edited, image_at, nothing_handed}
 use Rattle.law_stops.specs.kr_turns.Turn.{Machine, calling, watched_call}
 use Rattle.law_stops.specs.kr_stops.Watching.{unwatched}
 use Rattle.law_stops.proofs.kr_stops.EditLemmas.{edited-twice, image-edited}
@@ -191,7 +191,7 @@ module _ {S : Type 0} (back : TextsAreReadBack) (hold : ShelvesHoldTheirItems) (
   begun-left = scene.begun table made pid m n c p q lives also calm path args env decoded
 
   texts-at : (memory : Memory) → memory.pages ≡ q.image.memory.pages → texts_at x.bindings x.tags (edited q.image.regs memory stop) ≡ texts
-  texts-at memory pages = scene.texts table made pid m n c p q lives also calm path args env decoded q.image.regs memory (like-of memory pages) false
+  texts-at memory pages = scene.texts table made pid m n c p q lives also calm path args env decoded q.image.regs memory (like-of memory pages) nothing_handed
 
   texts-first : texts_at x.bindings x.tags t ≡ texts
   texts-first = ap (texts_at x.bindings x.tags) (go.after_is table made pid m n c p q lives also calm path args env decoded) ∙ texts-at dec pages_left

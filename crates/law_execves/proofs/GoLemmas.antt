@@ -26,7 +26,7 @@ use Rattle.law_stops.specs.kr_model.ProcessDirectory.{living_of, space_of}
 use Rattle.law_stops.specs.kr_model.State.{Image, Process, State, image_layout, process}
 use Rattle.law_plans.proofs.kr_seen.StandingLemmas.{living-small}
 use Rattle.law_stops.specs.kr_steps.Computing.{computed}
-use Rattle.law_stops.specs.kr_stops.Stopped.{IsThere, Stopped, edited, image_at}
+use Rattle.law_stops.specs.kr_stops.Stopped.{IsThere, Stopped, edited, image_at, nothing_handed}
 use Rattle.law_stops.specs.kr_turns.Turn.{Machine, called, calling, watched_call}
 use Rattle.law_stops.specs.kr_stops.Watching.{unwatched}
 use Rattle.law_stops.proofs.kr_stops.EditLemmas.{edited-twice, image-edited, there as is_there}
@@ -102,11 +102,11 @@ module _ {S : Type 0} (table : List Row) (made pid : ℕ) (m : Machine S) (n : M
   reads_there = before.decoded_there table made pid m n c p q lives also ∙ sym (before.requests table made pid m n c p q lives also calm) ∙ reads
 
   pub there_stop : IsThere stop
-  there_stop = is_there w pid false q c.also_lasts.lawful.pids also
+  there_stop = is_there w pid nothing_handed q c.also_lasts.lawful.pids also
 
   pub at_is : (at_call pid m).state ≡ at
   at_is =
-      ap (λ t. (after_request (record { state = t; pid = pid; at_root = false })).state) (before.shelf table made pid m n c p q lives also)
+      ap (λ t. (after_request (record { state = t; pid = pid; handed = nothing_handed })).state) (before.shelf table made pid m n c p q lives also)
       ∙ ap (λ (image : Image). computed pid image.regs (carried_out (decoding image.regs) image.memory).memory s1) (own_image pid s1 p1 mine.lives)
 
   abbrev pub done : CarriedOut (Result Program Errno)
@@ -283,7 +283,7 @@ module _ {S : Type 0} (table : List Row) (made pid : ℕ) (m : Machine S) (n : M
       bytes = alike.bytes;
       unmarked =
           subst (λ pages. AreEqualUnmarked pages memory.pages)
-          (ap (λ t. (memory_at (record { state = t; pid = pid; at_root = false })).pages) (before.shelf table made pid m n c p q lives also) ∙ ap (λ (image : Image). image.memory.pages) (own_image pid s1 p1 mine.lives)) alike.unmarked;
+          (ap (λ t. (memory_at (record { state = t; pid = pid; handed = nothing_handed })).pages) (before.shelf table made pid m n c p q lives also) ∙ ap (λ (image : Image). image.memory.pages) (own_image pid s1 p1 mine.lives)) alike.unmarked;
       reads = sym (ap (λ t. (carried_out (decoding (record { x = registers; pc = (image_at t).regs.pc })) memory).reply) calling_is ∙ pc_is (λ pc. (carried_out (decoding (record { x = registers; pc = pc })) memory).reply)) ∙ alike.finds;
       exits = λ came e stands regs.
           subst (λ t. exited (with_pending (map.insert x.pending pid (awaiting (arguments_at (after_request t)) r led None)) x) (called pid came)

@@ -20,7 +20,7 @@ use Rattle.law_stops.specs.kr_model.State.{Image, Process, State, process, with_
 use Rattle.law_stops.specs.kr_steps.Answering.{going, resumed}
 use Rattle.law_stops.specs.kr_steps.Calls.{LastsLawful}
 use Rattle.law_stops.specs.kr_turns.PlainCall.{Came, plain_call, replaced}
-use Rattle.law_stops.specs.kr_stops.Stopped.{image_in}
+use Rattle.law_stops.specs.kr_stops.Stopped.{image_in, nothing_handed}
 use Rattle.law_stops.specs.kr_turns.Turn.{Machine, Tally, after_exit, after_plain, called, watched_call}
 use Rattle.law_stops.specs.kr_stops.Watching.{unwatched}
 use Rattle.law_stops.specs.kr_turns.declared.plain.CallEnd.TheVariants as end
@@ -85,7 +85,7 @@ module _ {S : Type 0} (table : List Row) (made pid : ℕ) (m : Machine S) (n : M
   module _ (reads : (decoded_by p1).reply ≡ Ok (call.Execve path args env)) (program other : Program) (index : ℕ) (loads : (carried_out (execution table pid at path args env) (memory_of pid at)).reply ≡ Ok program)
       (matched : IsMatched (scene_of table s1 pid x.tags)) (alike : ArePutAlike table pid s1 w program other index) where
     abbrev pub came : Came
-    came = record { state = resumed pid (all_applied images (mounts_of program) pid (changes_of (Ok program)) (with_memory_of pid memory at)); end = end.Replaced; child = None; at_root = false }
+    came = record { state = resumed pid (all_applied images (mounts_of program) pid (changes_of (Ok program)) (with_memory_of pid memory at)); end = end.Replaced; child = None; handed = nothing_handed }
 
     pub loaded_is : plain_call table pid s1 ≡ came
     loaded_is =

@@ -1,5 +1,5 @@
 -- Both machines at the first stop of an execve.
-use Rattle.std.proofs.Common.{◌≡◌, ℕ, Bool, List, Option, Some, None, Ok, refl, sym, ap, subst, ◌∙◌, arith, false}
+use Rattle.std.proofs.Common.{◌≡◌, ℕ, List, Option, Some, None, Ok, refl, sym, ap, subst, ◌∙◌, arith}
 use Rattle.std.specs.Prelude.{IsSome}
 use Rattle.std.specs.Option.{option_map}
 use Rattle.pt_args.specs.rv_mem.Actions.{AreEqualUnmarked}
@@ -29,6 +29,8 @@ use Rattle.law_stops.specs.law_walks.States.{scene_of}
 use Rattle.law_stops.specs.law_walks.Alike.{AreEqualButForMounts}
 use Rattle.law_stops.proofs.law_walks.OneMountLemmas.{lawful_states_are_in_one_mount}
 use Rattle.law_stops.proofs.law_walks.BareStateLemmas.{peeks_are_bare}
+use Rattle.law_stops.specs.kr_stops.Stopped.{nothing_handed}
+use Rattle.law_stops.specs.kr_stops.declared.handed.Handed.{Handed}
 use Rattle.law_plans.specs.law_places.Matching.{IsMatch}
 use Rattle.law_plans.proofs.law_places.MatchLemmas.{matches_are_matched, tagged_places_are_placed}
 use Rattle.law_stops.specs.law_turns.Calls.{decoded_by}
@@ -136,8 +138,8 @@ module _ {S : Type 0} (table : List Row) (made pid : ℕ) (m : Machine S) (n : M
         ∙ bare_computed pid p1.image.regs (decoded_by q).memory (pins_of plain) w.next_pid w q rise also other_layout
         ∙ sym (bare_computed pid regs memory (pins_of plain) w.next_pid w q rise also like.layout)
 
-    pub texts : (at_root : Bool) → texts_at x.bindings x.tags (record { state = left; pid = pid; at_root = at_root }) ≡ texts_here table at pid x.tags
-    texts at_root = λ i. record { bindings = c.traces.bindings i; peeked = sym (peeks_are_bare ℕ ℕ (pins_of table) (pins_of plain) at left pid bares) i; tags = x.tags }
+    pub texts : (handed : Handed) → texts_at x.bindings x.tags (record { state = left; pid = pid; handed = handed }) ≡ texts_here table at pid x.tags
+    texts handed = λ i. record { bindings = c.traces.bindings i; peeked = sym (peeks_are_bare ℕ ℕ (pins_of table) (pins_of plain) at left pid bares) i; tags = x.tags }
 
     lives_left : process pid left ≡ Some (given pid regs memory q)
     lives_left = lives_changed pid (given pid regs memory) (λ p. refl) w q also
@@ -167,7 +169,7 @@ module _ {S : Type 0} (table : List Row) (made pid : ℕ) (m : Machine S) (n : M
     texts =
         ap (λ t. texts_at x.bindings x.tags (after_request t)) (go.calling_is table made pid m n c p q lives also calm path args env decoded)
         ∙ ap (texts_at x.bindings x.tags) (go.after_is table made pid m n c p q lives also calm path args env decoded)
-        ∙ texts q.image.regs (decoded_by q).memory first_like false
+        ∙ texts q.image.regs (decoded_by q).memory first_like nothing_handed
         ∙ ap (λ t. texts_here table t pid x.tags) (sym (go.at_is table made pid m n c p q lives also calm path args env decoded));
     begun = λ regs memory whole placed layout.
         let like : StaysLike q.image.memory.pages memory.pages = record {

@@ -30,6 +30,7 @@ use Rattle.kr_first.specs.kr_execve.Execution.{Program, after_execution, changes
 use Rattle.kr_turns.specs.kr_steps.Answering.{going, with_answer}
 use Rattle.kr_turns.specs.kr_steps.Computing.{computed}
 use Rattle.kr_turns.specs.kr_steps.Settling.{settled}
+use Rattle.kr_turns.specs.kr_stops.Stopped.{nothing_handed}
 use Rattle.kr_turns.specs.PlainCall.{after_decoding, operated, plain_call, plain_call_of, refusal_told, replaced, requested, row_on}
 use Rattle.kr_turns.specs.declared.plain.CallEnd.TheVariants as end
 use Rattle.law_kept.specs.Bringing.{BringBytes}
@@ -131,7 +132,7 @@ module _ (table : List Row) (pid : ℕ) (named : TableHasBytes table) where
   pub call-bytes : (s : State ℕ Image) → HasBytes s → HasBytes (plain_call table pid s).state
   call-bytes s has = by (process pid s) refl
     where
-      by : (o : Option (Process ℕ Image)) → process pid s ≡ o → HasBytes (option_map_or (plain_call_of table pid s) o (record { state = s; end = end.Waits; child = None; at_root = false })).state
+      by : (o : Option (Process ℕ Image)) → process pid s ≡ o → HasBytes (option_map_or (plain_call_of table pid s) o (record { state = s; end = end.Waits; child = None; handed = nothing_handed })).state
       by None is = has
       by (Some p) is =
           let done = carried_out (decoding p.image.regs) p.image.memory in

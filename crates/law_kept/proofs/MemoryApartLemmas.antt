@@ -36,7 +36,7 @@ use Rattle.kr_turns.specs.kr_steps.Waiting.{goes_on, ready_processes}
 use Rattle.kr_turns.specs.Breaking.{no_mounts, plain_rule}
 use Rattle.kr_turns.specs.PlainCall.{Came, after_decoding, executed, operated, plain_call, plain_call_of, refusal_told, replaced, requested, row_on}
 use Rattle.kr_turns.specs.Shelving.{lacks_in, shelved_in}
-use Rattle.kr_turns.specs.kr_stops.Stopped.{Stopped, image_in}
+use Rattle.kr_turns.specs.kr_stops.Stopped.{Stopped, image_in, nothing_handed}
 use Rattle.kr_turns.specs.Turn.{Machine, Tally, after_born, after_end, after_event, after_exit, by_pick, called, calling, killed, turn_of, watched_call, with_broken}
 use Rattle.kr_turns.specs.kr_stops.Watching.{Watcher}
 use Rattle.kr_turns.specs.declared.plain.CallEnd.{CallEnd}
@@ -101,7 +101,7 @@ module _ (pid q : ℕ) (other : q ≢ pid) where
     call_leaves : (s : Machines) → LivesOn q s (plain_call table pid s).state
     call_leaves s = by (process pid s)
       where
-        by : (o : Option (Process ℕ Image)) → LivesOn q s (option_map_or (plain_call_of table pid s) o (record { state = s; end = end.Waits; child = None; at_root = false })).state
+        by : (o : Option (Process ℕ Image)) → LivesOn q s (option_map_or (plain_call_of table pid s) o (record { state = s; end = end.Waits; child = None; handed = nothing_handed })).state
         by None = unchanged q s
         by (Some p) =
             let done = carried_out (decoding p.image.regs) p.image.memory in

@@ -38,7 +38,7 @@ due-keeps : (f : Faking) (t : Stopped) (o : Option Due) → HasBytes t.state →
 due-keeps f t None has = has
 due-keeps f t (Some (Tells number answer)) has = register-keeps answer_register (word_of answer) (with_register number_register number t) (register-keeps number_register number t has)
 due-keeps f t (Some ForgivesOwner) has = forgiven-keeps true t has
-due-keeps f t (Some ForgivesRoot) has = forgiven-keeps t.at_root t has
+due-keeps f t (Some ForgivesRoot) has = forgiven-keeps t.handed.at_root t has
 due-keeps f t (Some (ShowsOwner at)) has = shown-keeps f.user f.identities.uid f.identities.gid at t has
 due-keeps f t (Some BeginsProgram) has = begins f t (has_answered_zero t) has
 

@@ -11,7 +11,7 @@ use Rattle.law_plans.specs.kr_seen.Carrying.{memory_of}
 use Rattle.law_plans.specs.kr_model.State.{Image, Process, State, process}
 use Rattle.law_plans.specs.kr_model.Walks.{seen}
 use Rattle.law_plans.specs.kr_model.declared.outcome.Outcome.TheVariants.{Answer}
-use Rattle.law_stops.specs.kr_stops.Stopped.{IsThere, Stopped}
+use Rattle.law_stops.specs.kr_stops.Stopped.{IsThere, Stopped, nothing_handed}
 use Rattle.law_stops.specs.kr_turns.Turn.{Machine, calling, watched_call}
 use Rattle.law_stops.specs.kr_stops.Watching.{unwatched}
 use Rattle.law_stops.proofs.kr_stops.EditLemmas.{there as is_there}
@@ -65,7 +65,7 @@ module _ {S : Type 0} (table : List Row) (made pid : ℕ) (m : Machine S) (n : M
   also_then = (before.can_then table made pid m n c p q lives also).lives
 
   pub stop_there : IsThere then_stop
-  stop_there = is_there then_stop.state pid false q2 (before.can_then table made pid m n c p q lives also).lasts.lawful.pids also_then
+  stop_there = is_there then_stop.state pid nothing_handed q2 (before.can_then table made pid m n c p q lives also).lasts.lawful.pids also_then
 
   pub memories : AreEqualUnmarked (memory_of pid at).pages (memory_at then_stop).pages
   memories =

@@ -80,7 +80,7 @@ module _ (back : TextsAreReadBack) (shelves : ShelvesHoldTheirItems) (table : Li
         let came : plain_call table pid (calling 1 pid m.state).state ≡ operated table pid r at =
         ap (plain_call table pid) (before.shelf table made pid m (untold n) comes p q lives also)
         ∙ by_request table pid table s1 p1 (Ok r) (before.lives1 table made pid m (untold n) comes p q lives also) reads ∙ sym (no-exec-requested table pid at r (no_exec r tt)) in
-        ap (λ (came : Came). came.at_root) came
+        ap (λ (came : Came). came.handed.at_root) came
         ∙ root_known table n.watcher.tags at (here.w2 table made pid m (untold n) r comes p q lives also calm decoded tt) pid u false (here.together table made pid m (untold n) r comes p q lives also calm decoded tt) r refl refl refl
         ∙ sym (ap (λ t. (led_of (texts_at n.watcher.bindings n.watcher.tags t) pid r).at_root) (here.stop_is table made pid m (untold n) r comes p q lives also calm decoded tt)
         ∙ ap (λ texts. (led_of texts pid r).at_root) (here.texts_are table made pid m (untold n) r comes p q lives also calm decoded tt))

@@ -15,7 +15,7 @@ use Rattle.pt_args.specs.kr_calls.declared.request.Request.{Request}
 use Rattle.law_plans.specs.kr_calm.Shelf.{has_path, is_usable, stack_pointer}
 use Rattle.law_plans.specs.kr_model.State.{Image, Process, process}
 use Rattle.law_stops.specs.kr_turns.Breaking.{plain_rule}
-use Rattle.law_stops.specs.kr_stops.Stopped.{Stopped, image_at}
+use Rattle.law_stops.specs.kr_stops.Stopped.{Stopped, image_at, nothing_handed}
 use Rattle.law_stops.specs.kr_turns.Turn.{Machine, calling, watched_call}
 use Rattle.law_stops.specs.kr_stops.Watching.{unwatched}
 use Rattle.law_stops.proofs.kr_stops.EditLemmas.{there as is_there}
@@ -104,7 +104,7 @@ module _ {S : Type 0} (table : List Row) (made pid : ℕ) (m : Machine S) (n : M
         let after = before.after_there table made pid m n c p q lives also in
         let image = own_image pid n.state q also in
         record {
-          there = is_there n.state pid false q c.also_lasts.lawful.pids also;
+          there = is_there n.state pid nothing_handed q c.also_lasts.lawful.pids also;
           decoded = before.decoded_there table made pid m n c p q lives also ∙ here.reads_there table made pid m n r c p q lives also calm reads kind;
           shelf = ap has_shelf after ∙ shelf_then;
           named = paths;
@@ -123,5 +123,5 @@ module _ {S : Type 0} (table : List Row) (made pid : ℕ) (m : Machine S) (n : M
     can_swap =
         subst (λ t. CanBeSwapped t (memory_at (calling 1 pid m.state)) r first second) (sym (before.calling_is table made pid m n c p q lives also))
         (subst (λ memory. CanBeSwapped stop memory r first second)
-        (sym (ap (λ t. memory_at (record { state = t; pid = pid; at_root = false })) (before.shelf table made pid m n c p q lives also) ∙ ap (λ (image : Image). image.memory) (own_image pid (before.s1 table made pid m n c p q lives also) p1 (before.lives1 table made pid m n c p q lives also))))
+        (sym (ap (λ t. memory_at (record { state = t; pid = pid; handed = nothing_handed })) (before.shelf table made pid m n c p q lives also) ∙ ap (λ (image : Image). image.memory) (own_image pid (before.s1 table made pid m n c p q lives also) p1 (before.lives1 table made pid m n c p q lives also))))
         can_at_stop)

@@ -39,7 +39,7 @@ use Rattle.law_turns.specs.kr_steps.Calls.{IsNoExec, LastsLawful}
 use Rattle.law_turns.specs.kr_steps.Computing.{computed}
 use Rattle.law_turns.specs.kr_steps.Settling.{settled}
 use Rattle.law_turns.specs.kr_turns.PlainCall.{Came, child_of, end_of, operated, plain_call, refusal_told}
-use Rattle.law_turns.specs.kr_stops.Stopped.{IsThere, Stopped, edited, image_at}
+use Rattle.law_turns.specs.kr_stops.Stopped.{IsThere, Stopped, edited, image_at, nothing_handed}
 use Rattle.law_turns.specs.kr_turns.Turn.{Machine, Tally, after_born, after_end, after_exit, after_plain, called, watched_call}
 use Rattle.law_turns.specs.kr_stops.Watching.{unwatched}
 use Rattle.law_turns.proofs.kr_stops.EditLemmas.{edited-twice, image-edited, there}
@@ -146,7 +146,7 @@ module _ {S : Type 0} (table : List Row) (made pid : ℕ) (m : Machine S) (n : M
   same_regs = before.same_regs table made pid m n c p q lives also
 
   there_stop : IsThere stop
-  there_stop = there w pid false q c.also_lasts.lawful.pids also
+  there_stop = there w pid nothing_handed q c.also_lasts.lawful.pids also
 
   module _ (r : Request) (is : (decoded_by p1).reply ≡ Ok r) (kind : IsNoExec r) where
     abbrev at : State ℕ Image
@@ -205,7 +205,7 @@ module _ {S : Type 0} (table : List Row) (made pid : ℕ) (m : Machine S) (n : M
       refused_lawful =
           let lawful = lawful-image (λ k. k) plain w c.also_lasts.lawful pid q also left like (λ _. without_call q.image.regs) in
           let lasts = settled_lasts plain made pid (Answer (refusal ENOSYS)) shown (record { lawful = lawful; lasts = lasts_living made (with_process pid (given pid (without_call q.image.regs) left)) w c.also_lasts.lasts }) in
-          there refused.state pid false q3 lasts.lawful.pids lives3
+          there refused.state pid nothing_handed q3 lasts.lawful.pids lives3
 
       exits : exited y stop2 ≡ left_with y stop2 r led (word_of answer) (image_at stop).regs.x
       exits =
@@ -368,7 +368,7 @@ module _ {S : Type 0} (table : List Row) (made pid : ℕ) (m : Machine S) (n : M
       let own = c.also_lasts.lawful.processes pid q also in
       answered_together table made pid m n c p q lives also calm r reads_here both.kind dec led (refusal e) (stays-like (decoding q.image.regs) q.image.memory own.whole own.paged) alike_here
       (ap (λ (action : Replying). (carried_out action (memory_of pid decoding_at)).reply) refuses_here) (ap (λ number. tags_after xx.tags pid (noted_of r led.index number)) (none_made e) ∙ silent_refusal xx.tags pid r led.index)
-      (no_longer_called (after_request stopped)) left_is (answered_calls_are_none stopped (decoded_at stopped).memory r (Cancel e) (refusal e) (there n.state pid false q c.also_lasts.lawful.pids also) reads_there refl) entered_is
+      (no_longer_called (after_request stopped)) left_is (answered_calls_are_none stopped (decoded_at stopped).memory r (Cancel e) (refusal e) (there n.state pid nothing_handed q c.also_lasts.lawful.pids also) reads_there refl) entered_is
       (λ next. alone_here next r cancels_here)
 
 pub cancelled_calls_go_together : (S : Type 0) → CancelledCallsGoTogether S

@@ -40,7 +40,7 @@ use Rattle.law_turns.specs.kr_steps.Computing.{computed}
 use Rattle.law_turns.specs.kr_turns.Breaking.{plain_rule}
 use Rattle.law_turns.specs.kr_turns.PlainCall.{Came, child_of, end_of, operated, plain_call, refusal_told, status_told}
 use Rattle.law_turns.specs.kr_turns.Shelving.{lacks_in, shelved_in}
-use Rattle.law_turns.specs.kr_stops.Stopped.{Stopped, image_in, no_image}
+use Rattle.law_turns.specs.kr_stops.Stopped.{Stopped, image_in, no_image, nothing_handed}
 use Rattle.law_turns.specs.kr_turns.Turn.{Machine, Tally, after_born, after_end, after_exit, after_plain, called, calling, watched_call, with_broken}
 use Rattle.law_turns.specs.kr_stops.Watching.{Watcher, unwatched}
 use Rattle.law_turns.specs.kr_turns.declared.plain.CallEnd.{CallEnd}
@@ -207,7 +207,7 @@ module _ {S : Type 0} (table : List Row) (made pid : ℕ) (m : Machine S) (n : M
 
   -- without them nothing is
   pub no_shelf : shelved_in 0 pid w ≡ w
-  no_shelf = ap (λ (t : Stopped). t.state) (there w pid false q c.also_lasts.lawful.pids also).one
+  no_shelf = ap (λ (t : Stopped). t.state) (there w pid nothing_handed q c.also_lasts.lawful.pids also).one
 
   pub match1 : IsMatch table x.tags s1 w
   match1 = subst (λ t. IsMatch table x.tags t w) shelf (subst (IsMatch table x.tags (shelved_in 1 pid s)) no_shelf (shelves_keep_matches table x.tags pid s w p c.matches.states lives))
@@ -253,7 +253,7 @@ module _ {S : Type 0} (table : List Row) (made pid : ℕ) (m : Machine S) (n : M
   stays_itself = let own = match1.placed.lawful.processes pid p1 lives1 in record { whole = own.whole; placed = own.paged; layout = refl }
 
   pub itself : computed pid p1.image.regs p1.image.memory s1 ≡ s1
-  itself = ap (λ (image : Image). computed pid image.regs image.memory s1) (sym (own_image pid s1 p1 lives1)) ∙ ap (λ (t : Stopped). t.state) (there s1 pid false p1 match1.placed.lawful.pids lives1).one
+  itself = ap (λ (image : Image). computed pid image.regs image.memory s1) (sym (own_image pid s1 p1 lives1)) ∙ ap (λ (t : Stopped). t.state) (there s1 pid nothing_handed p1 match1.placed.lawful.pids lives1).one
 
   pub match2 : IsMatch table x.tags s1 w2
   match2 =
@@ -264,29 +264,29 @@ module _ {S : Type 0} (table : List Row) (made pid : ℕ) (m : Machine S) (n : M
   -- ---- the first stop
 
   abbrev pub stop : Stopped
-  stop = record { state = w; pid = pid; at_root = false }
+  stop = record { state = w; pid = pid; handed = nothing_handed }
 
   abbrev pub then_stop : Stopped
-  then_stop = record { state = w2; pid = pid; at_root = false }
+  then_stop = record { state = w2; pid = pid; handed = nothing_handed }
 
   pub calling_is : calling 0 pid w ≡ stop
-  calling_is = ap (λ t. record { state = t; pid = pid; at_root = false }) no_shelf
+  calling_is = ap (λ t. record { state = t; pid = pid; handed = nothing_handed }) no_shelf
 
   pub decoded_there : (decoded_at stop).reply ≡ (decoded_by q).reply
   decoded_there = ap (λ (image : Image). (carried_out (decoding image.regs) image.memory).reply) (own_image pid w q also)
 
   pub after_there : after_request stop ≡ then_stop
-  after_there = ap (λ (image : Image). record { state = computed pid image.regs (carried_out (decoding image.regs) image.memory).memory w; pid = pid; at_root = false }) (own_image pid w q also)
+  after_there = ap (λ (image : Image). record { state = computed pid image.regs (carried_out (decoding image.regs) image.memory).memory w; pid = pid; handed = nothing_handed }) (own_image pid w q also)
 
   -- what the mounted machine decodes behind its shelf
   pub decoded_here : (decoded_at (calling 1 pid s)).reply ≡ (decoded_by p1).reply
   decoded_here =
-      ap (λ t. (decoded_at (record { state = t; pid = pid; at_root = false })).reply) shelf
+      ap (λ t. (decoded_at (record { state = t; pid = pid; handed = nothing_handed })).reply) shelf
       ∙ ap (λ (image : Image). (carried_out (decoding image.regs) image.memory).reply) (own_image pid s1 p1 lives1)
 
   pub at_call_is : (after_request (calling 1 pid s)).state ≡ decoded_in pid p1 s1
   at_call_is =
-      ap (λ t. (after_request (record { state = t; pid = pid; at_root = false })).state) shelf
+      ap (λ t. (after_request (record { state = t; pid = pid; handed = nothing_handed })).state) shelf
       ∙ ap (λ (image : Image). computed pid image.regs (carried_out (decoding image.regs) image.memory).memory s1) (own_image pid s1 p1 lives1)
 
   -- ---- what the watchers make of it
@@ -455,7 +455,7 @@ module _ {S : Type 0} (table : List Row) (made pid : ℕ) (m : Machine S) (n : M
           pending_there = ap (λ calls. map.get calls pid) (born_pending pid z child) ∙ get-insert_same x.pending pid pending
 
           exits : exited bearing stop2 ≡ (with_tags (tags_after bearing.tags pid (noted r 0 (answer_at stop2))) (without_pending pid bearing), stop2)
-          exits = exits_pass bearing stop2 pending (born_identities pid z child c.traces.identities) pending_there (begins_none r kind) refl same_arguments (there came2.state pid came2.at_root q3 lasts3.lawful.pids lives3)
+          exits = exits_pass bearing stop2 pending (born_identities pid z child c.traces.identities) pending_there (begins_none r kind) refl same_arguments (there came2.state pid came2.handed q3 lasts3.lawful.pids lives3)
 
           noted_tags : tags_after bearing.tags pid (noted r 0 (answer_at stop2)) ≡ tags_after (with_child pid child x.tags) pid (noted r 0 (told_answer value))
           noted_tags = ap (λ tags. tags_after tags pid (noted r 0 (answer_at stop2))) (born_tags pid z child) ∙ ap (λ answer. tags_after (with_child pid child x.tags) pid (noted r 0 answer)) same_answer

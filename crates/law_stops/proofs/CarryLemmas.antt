@@ -50,7 +50,7 @@ use Rattle.law_turns.specs.kr_steps.Computing.{computed}
 use Rattle.law_turns.specs.kr_steps.Settling.{settled}
 use Rattle.law_turns.specs.kr_turns.Breaking.{decoded_rule, operated_rule, plain_rule_of}
 use Rattle.law_turns.specs.kr_turns.PlainCall.{Came, child_of, end_of, operated, plain_call}
-use Rattle.law_turns.specs.kr_stops.Stopped.{IsThere, Stopped, edited, image_at}
+use Rattle.law_turns.specs.kr_stops.Stopped.{IsThere, Stopped, edited, image_at, nothing_handed}
 use Rattle.law_turns.specs.kr_turns.Turn.{Machine, Tally, after_born, after_end, after_exit, after_plain, called, watched_call}
 use Rattle.law_turns.specs.kr_stops.Watching.{unwatched}
 use Rattle.law_turns.proofs.kr_stops.EditLemmas.{there as is_there}
@@ -165,7 +165,7 @@ module _ {S : Type 0} (table : List Row) (made pid : ℕ) (m : Machine S) (n : M
   reads_there = before.decoded_there table made pid m n c p q lives also ∙ sym (before.requests table made pid m n c p q lives also calm) ∙ reads
 
   there_stop : IsThere stop
-  there_stop = is_there w pid false q c.also_lasts.lawful.pids also
+  there_stop = is_there w pid nothing_handed q c.also_lasts.lawful.pids also
 
   abbrev led : Led
   led = led_of (texts_at x.bindings x.tags (after_request stop)) pid r
@@ -503,7 +503,7 @@ module _ {S : Type 0} (table : List Row) (made pid : ℕ) (m : Machine S) (n : M
     given_back = left_with y stop2 r led (cast_unsigned w64 value) (image_at stop).regs.x
 
     exits : exited y stop2 ≡ given_back
-    exits = entry.exits came2 (cast_unsigned w64 value) (is_there came2.state pid came2.at_root q5 also_lasting.lawful.pids lives5) (ap (λ (image : Image). image.regs.x) (own_image pid came2.state q5 lives5))
+    exits = entry.exits came2 (cast_unsigned w64 value) (is_there came2.state pid came2.handed q5 also_lasting.lawful.pids lives5) (ap (λ (image : Image). image.regs.x) (own_image pid came2.state q5 lives5))
 
     abbrev final : State ℕ Image
     final = behind pid r2 sight others own

@@ -13,6 +13,7 @@ use Rattle.law_edits.specs.kr_model.State.{Image, Process, State, process, with_
 use Rattle.law_turns.proofs.law_allowed.RowLemmas.{StaysLike, lawful-image, stays-like}
 use Rattle.law_turns.specs.kr_steps.Computing.{computed}
 use Rattle.law_turns.specs.kr_stops.Stopped.{Stopped}
+use Rattle.law_turns.specs.kr_stops.declared.handed.Handed.{Handed}
 use Rattle.law_edits.specs.pt_ident.Identity.{after_exec, refusal}
 use Rattle.law_edits.specs.pt_ident.IdentityTable.{identity_at}
 use Rattle.law_edits.specs.pt_faker.Carrying.{on_its_memory}
@@ -54,12 +55,12 @@ module _ (table : List Row) (tags : TagTable) (made pid : ℕ) (s w : State ℕ 
     also_lasts = record { lawful = lawful-image (λ k. k) plain w alike.also_lasts.lawful pid q also other also_like (λ _. regs); lasts = lasts_living made (with_process pid (given pid regs other)) w alike.also_lasts.lasts };
   }
 
-  module _ (at_root other_root : Bool) where
+  module _ (handed other : Handed) where
     abbrev here : Stopped
-    here = stop_in pid s at_root
+    here = stop_in pid s handed
 
     abbrev there : Stopped
-    there = stop_in pid w other_root
+    there = stop_in pid w other
 
     same_register : (k : ℕ) → register_at here k ≡ register_at there k
     same_register k =
@@ -113,7 +114,7 @@ module _ (table : List Row) (tags : TagTable) (made pid : ℕ) (s w : State ℕ 
     pub both_due : (f : Faking) (also_root : Bool) (edit : Option Due) → IsEditedAlike f here also_root edit → StandAlike table tags made (after_due f here edit).1.state (shown_due f.user f.identities also_root edit there).state
     both_due f also_root None is = alike
     both_due f also_root (Some due.ForgivesOwner) is = both_forgiven true
-    both_due f also_root (Some due.ForgivesRoot) is = subst (λ b. StandAlike table tags made (forgiven at_root here).state (forgiven b there).state) is (both_forgiven at_root)
+    both_due f also_root (Some due.ForgivesRoot) is = subst (λ b. StandAlike table tags made (forgiven handed.at_root here).state (forgiven b there).state) is (both_forgiven handed.at_root)
     both_due f also_root (Some (due.ShowsOwner at)) is =
         let action = show_owner f.user f.identities.uid f.identities.gid at in
         either (has_answered_zero here) (has_answered_zero there) (on_its_memory action here) (on_its_memory action there) (ap (λ word. word == 0) (same_register 10)) (λ zero. memories_edited action (is zero))
@@ -129,21 +130,21 @@ module _ (table : List Row) (tags : TagTable) (made pid : ℕ) (s w : State ℕ 
         (memories_edited (show_identity i (register_at here stack_register)) unread)
 
 pub edits_keep_matches : EditsKeepMatches
-edits_keep_matches table tags made pid s w at_root other also_root f edit lives alike is = by (process pid s) refl lives
+edits_keep_matches table tags made pid s w handed other also_root f edit lives alike is = by (process pid s) refl lives
   where
-    by : (o : Option (Process ℕ Image)) → process pid s ≡ o → IsSome o → StandAlike table tags made (after_due f (stop_in pid s at_root) edit).1.state (shown_due f.user f.identities also_root edit (stop_in pid w other)).state
+    by : (o : Option (Process ℕ Image)) → process pid s ≡ o → IsSome o → StandAlike table tags made (after_due f (stop_in pid s handed) edit).1.state (shown_due f.user f.identities also_root edit (stop_in pid w other)).state
     by None none some = absurd cc
     by (Some p) there some =
         let q = lives_too table tags pid s w p alike.matches there in
-        both_due table tags made pid s w p q.0 there q.1 alike at_root other f also_root edit is
+        both_due table tags made pid s w p q.0 there q.1 alike handed other f also_root edit is
 
 pub beginnings_keep_matches : BeginningsKeepMatches
-beginnings_keep_matches table tags made pid s w at_root other f x lives alike unread = record { stands = by (process pid s) refl lives; user = refl; kept = refl }
+beginnings_keep_matches table tags made pid s w handed other f x lives alike unread = record { stands = by (process pid s) refl lives; user = refl; kept = refl }
   where
     by : (o : Option (Process ℕ Image)) → process pid s ≡ o → IsSome o
-        → StandAlike table tags made (on_its_memory (show_identity (after_exec (identity_at f.identities pid)) (register_at (stop_in pid s at_root) stack_register)) (stop_in pid s at_root)).state
+        → StandAlike table tags made (on_its_memory (show_identity (after_exec (identity_at f.identities pid)) (register_at (stop_in pid s handed) stack_register)) (stop_in pid s handed)).state
         (on_its_memory (show_identity (after_exec (identity_at f.identities pid)) (register_at (stop_in pid w other) stack_register)) (stop_in pid w other)).state
     by None none some = absurd cc
     by (Some p) there some =
         let q = lives_too table tags pid s w p alike.matches there in
-        both_begun table tags made pid s w p q.0 there q.1 alike at_root other f unread
+        both_begun table tags made pid s w p q.0 there q.1 alike handed other f unread

@@ -17,7 +17,7 @@ use Rattle.law_edits.specs.kr_model.Walks.{seen}
 use Rattle.law_edits.specs.kr_model.declared.outcome.Outcome.TheVariants.{Answer}
 use Rattle.law_turns.proofs.law_allowed.RowLemmas.{StaysLike, stays-like}
 use Rattle.law_turns.specs.kr_steps.Computing.{computed}
-use Rattle.law_turns.specs.kr_stops.Stopped.{IsThere, Stopped, edited}
+use Rattle.law_turns.specs.kr_stops.Stopped.{IsThere, Stopped, edited, nothing_handed}
 use Rattle.law_turns.specs.kr_turns.Turn.{Machine, watched_call}
 use Rattle.law_turns.specs.kr_stops.Watching.{unwatched}
 use Rattle.law_turns.proofs.kr_stops.EditLemmas.{image-edited, there}
@@ -52,12 +52,12 @@ use Rattle.law_stops.proofs.SwapLemmas.{poked_stays, then_stays}
 -- what an edit leaves that answers a call: the number of no call, and the bytes that it wrote
 pub record IsLeftBy (pid : ℕ) (w : State ℕ Image) (q : Process ℕ Image) (left : Stopped) : Type 0 where
   pub memory : Memory
-  pub stopped : left ≡ edited (without_call q.image.regs) memory (record { state = w; pid = pid; at_root = false })
+  pub stopped : left ≡ edited (without_call q.image.regs) memory (record { state = w; pid = pid; handed = nothing_handed })
   pub like : StaysLike q.image.memory.pages memory.pages
 
-module _ (pid : ℕ) (w : State ℕ Image) (q : Process ℕ Image) (there_stop : IsThere (record { state = w; pid = pid; at_root = false })) (read : Memory) (like : StaysLike q.image.memory.pages read.pages) where
+module _ (pid : ℕ) (w : State ℕ Image) (q : Process ℕ Image) (there_stop : IsThere (record { state = w; pid = pid; handed = nothing_handed })) (read : Memory) (like : StaysLike q.image.memory.pages read.pages) where
   abbrev stop : Stopped
-  stop = record { state = w; pid = pid; at_root = false }
+  stop = record { state = w; pid = pid; handed = nothing_handed }
 
   abbrev after : Stopped
   after = edited q.image.regs read stop
@@ -114,7 +114,7 @@ module _ {S : Type 0} (table : List Row) (made pid : ℕ) (m : Machine S) (n : M
   mine = before.can table made pid m n c p q lives also
 
   there_first : IsThere first
-  there_first = there n.state pid false q c.also_lasts.lawful.pids also
+  there_first = there n.state pid nothing_handed q c.also_lasts.lawful.pids also
 
   reads_here : (decoded_by p1).reply ≡ Ok r
   reads_here = sym (before.decoded_here table made pid m n c p q lives also) ∙ both.decoded
@@ -149,7 +149,7 @@ module _ {S : Type 0} (table : List Row) (made pid : ℕ) (m : Machine S) (n : M
 
   at_is : (at_call pid m).state ≡ at
   at_is =
-      ap (λ t. (after_request (record { state = t; pid = pid; at_root = false })).state) (before.shelf table made pid m n c p q lives also)
+      ap (λ t. (after_request (record { state = t; pid = pid; handed = nothing_handed })).state) (before.shelf table made pid m n c p q lives also)
       ∙ ap (λ (image : Image). computed pid image.regs (carried_out (decoding image.regs) image.memory).memory s1) (own_image pid s1 p1 mine.lives)
 
   replies : (done_in pid r (seen table pid at r) at).reply ≡ record { outcome = Answer answer; changes = [] }

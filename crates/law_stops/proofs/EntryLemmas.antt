@@ -8,7 +8,7 @@ use Rattle.law_turns.proofs.law_allowed.DecodedLemmas.{decoding-leaves-pages}
 use Rattle.law_turns.specs.kr_steps.Computing.{computed}
 use Rattle.law_turns.specs.kr_turns.Breaking.{plain_rule}
 use Rattle.law_turns.specs.kr_turns.PlainCall.{Came, plain_call}
-use Rattle.law_turns.specs.kr_stops.Stopped.{Stopped}
+use Rattle.law_turns.specs.kr_stops.Stopped.{Stopped, nothing_handed}
 use Rattle.law_turns.specs.kr_turns.Turn.{Machine, Tally, after_born, after_plain, called, calling, watched_call, with_broken}
 use Rattle.law_turns.specs.kr_stops.Watching.{unwatched}
 use Rattle.law_edits.specs.pt_faker.Faking.{Faking, entered as faked_entry, faker}
@@ -59,10 +59,10 @@ module _ (table : List Row) (made pid : ℕ) (m : Machine Faking) (n : Machine T
   -- ---- the first stop
 
   abbrev pub first : Stopped
-  first = record { state = s1; pid = pid; at_root = false }
+  first = record { state = s1; pid = pid; handed = nothing_handed }
 
   pub calling_is : calling 1 pid m.state ≡ first
-  calling_is = ap (λ t. record { state = t; pid = pid; at_root = false }) (before.shelf table made pid m (untold n) comes p q lives also)
+  calling_is = ap (λ t. record { state = t; pid = pid; handed = nothing_handed }) (before.shelf table made pid m (untold n) comes p q lives also)
 
   pub decoded_first : (decoded_at first).reply ≡ (decoded_by p1).reply
   decoded_first = ap (λ (image : Image). (carried_out (decoding image.regs) image.memory).reply) (own_image pid s1 p1 lives1)
@@ -71,10 +71,10 @@ module _ (table : List Row) (made pid : ℕ) (m : Machine Faking) (n : Machine T
   s2 = decoded_in pid p1 s1
 
   abbrev pub second : Stopped
-  second = record { state = s2; pid = pid; at_root = false }
+  second = record { state = s2; pid = pid; handed = nothing_handed }
 
   pub after_first : after_request first ≡ second
-  after_first = ap (λ (image : Image). record { state = computed pid image.regs (carried_out (decoding image.regs) image.memory).memory s1; pid = pid; at_root = false }) (own_image pid s1 p1 lives1)
+  after_first = ap (λ (image : Image). record { state = computed pid image.regs (carried_out (decoding image.regs) image.memory).memory s1; pid = pid; handed = nothing_handed }) (own_image pid s1 p1 lives1)
 
   abbrev pub behind_entry : Faking × Stopped → Machine Faking
   behind_entry e = after_plain faker pid (plain_call table pid e.1.state) e.0 (with_broken (plain_rule 1 table pid lacks e.1.state) m.tally)

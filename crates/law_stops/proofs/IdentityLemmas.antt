@@ -25,7 +25,7 @@ use Rattle.law_turns.specs.kr_steps.Computing.{computed}
 use Rattle.law_turns.specs.kr_turns.Breaking.{plain_rule}
 use Rattle.law_turns.specs.kr_turns.PlainCall.{Came, plain_call}
 use Rattle.law_turns.specs.kr_turns.Shelving.{lacks_in}
-use Rattle.law_turns.specs.kr_stops.Stopped.{IsThere, Stopped, edited, image_at}
+use Rattle.law_turns.specs.kr_stops.Stopped.{IsThere, Stopped, edited, image_at, nothing_handed}
 use Rattle.law_turns.specs.kr_turns.Turn.{Machine, Tally, after_exit, after_plain, called, calling, watched_call, with_broken}
 use Rattle.law_turns.proofs.kr_stops.EditLemmas.{there}
 use Rattle.law_turns.specs.law_places.Matching.{IsMatch}
@@ -125,8 +125,8 @@ module _ (table : List Row) (made pid : ℕ) (m : Machine Faking) (n : Machine T
   abbrev f1 : Faking
   f1 = with_due pid (Some (due.Tells number done.reply.answer)) (keeping pid done.reply.identity f)
 
-  there_first : IsThere (stop_in pid s1 false)
-  there_first = there s1 pid false p1 match1.placed.lawful.pids lives1
+  there_first : IsThere (stop_in pid s1 nothing_handed)
+  there_first = there s1 pid nothing_handed p1 match1.placed.lawful.pids lives1
 
   abbrev left1 : State ℕ Image
   left1 = taken.left pid s1 p1 lives1 done.memory
@@ -137,16 +137,16 @@ module _ (table : List Row) (made pid : ℕ) (m : Machine Faking) (n : Machine T
   image_second : image_at second ≡ record { regs = p1.image.regs; memory = (decoded_by p1).memory }
   image_second = own_image pid second.state (given pid p1.image.regs (decoded_by p1).memory p1) (lives_computed pid p1.image.regs (decoded_by p1).memory s1 p1 lives1)
 
-  enters : faked_entry f (calling 1 pid m.state) ≡ (f1, stop_in pid left1 false)
+  enters : faked_entry f (calling 1 pid m.state) ≡ (f1, stop_in pid left1 nothing_handed)
   enters =
       ap (faked_entry f) (entry.calling_is table made pid m n c p q lives also)
-      ∙ ap (faked_decoding f (after_request (stop_in pid s1 false))) (entry.decoded_first table made pid m n c p q lives also ∙ reads)
-      ∙ ap (faked_effect f r (after_request (stop_in pid s1 false))) is
+      ∙ ap (faked_decoding f (after_request (stop_in pid s1 nothing_handed))) (entry.decoded_first table made pid m n c p q lives also ∙ reads)
+      ∙ ap (faked_effect f r (after_request (stop_in pid s1 nothing_handed))) is
       ∙ ap (λ t. faked_effect f r t (Some e)) (entry.after_first table made pid m n c p q lives also)
       ∙ ap (λ (image : Image). let done = carried_out action image.memory in (with_due pid (Some (due.Tells (get_or image.regs.x 17 0) done.reply.answer)) (keeping pid done.reply.identity f), no_longer_called (with_memory done.memory second))) image_second
       ∙ ap (λ (t : Stopped). (f1, t)) (taken.number_taken pid s1 p1 lives1 done.memory there_first (decoded_by p1).memory)
 
-  entered_call : watched_call faker 1 table pid m ≡ entry.behind_entry table made pid m n c p q lives also (f1, stop_in pid left1 false)
+  entered_call : watched_call faker 1 table pid m ≡ entry.behind_entry table made pid m n c p q lives also (f1, stop_in pid left1 nothing_handed)
   entered_call = ap (entry.behind_entry table made pid m n c p q lives also) enters
 
   -- it read no marked byte
@@ -154,7 +154,7 @@ module _ (table : List Row) (made pid : ℕ) (m : Machine Faking) (n : Machine T
   unread =
       unread_before (decoding (without_call p1.image.regs)) done.memory
       (calm_unread table pid (entry.lacks table made pid m n c p q lives also) left1 (taken.caller pid s1 p1 lives1 done.memory) (taken.caller_lives pid s1 p1 lives1 done.memory)
-      (entry.calm_rule table made pid m n c p q lives also (f1, stop_in pid left1 false) (sym (ap (λ (x : Machine Faking). x.tally.broken) entered_call) ∙ calm)))
+      (entry.calm_rule table made pid m n c p q lives also (f1, stop_in pid left1 nothing_handed) (sym (ap (λ (x : Machine Faking). x.tally.broken) entered_call) ∙ calm)))
 
   decoded_unread : (decoded_by p1).memory.read_marked ≡ false
   decoded_unread = unread_before action (decoded_by p1).memory unread
@@ -170,7 +170,7 @@ module _ (table : List Row) (made pid : ℕ) (m : Machine Faking) (n : Machine T
   -- ---- the first stop of the tracer
 
   abbrev stop : Stopped
-  stop = stop_in pid w false
+  stop = stop_in pid w nothing_handed
 
   stop_is : calling 0 pid w ≡ stop
   stop_is = before.calling_is table made pid m (untold n) (entry.comes table made pid m n c p q lives also) p q lives also
@@ -182,7 +182,7 @@ module _ (table : List Row) (made pid : ℕ) (m : Machine Faking) (n : Machine T
   reads_there = before.decoded_there table made pid m (untold n) (entry.comes table made pid m n c p q lives also) p q lives also ∙ reads_q
 
   there_stop : IsThere stop
-  there_stop = there w pid false q c.also_lasts.lawful.pids also
+  there_stop = there w pid nothing_handed q c.also_lasts.lawful.pids also
 
   abbrev pending : Pending
   pending = awaiting (arguments_at (after_request stop)) r nowhere (Some also_done.reply.answer)
@@ -199,7 +199,7 @@ module _ (table : List Row) (made pid : ℕ) (m : Machine Faking) (n : Machine T
   memory_stop : memory_at (after_request stop) ≡ (decoded_by q).memory
   memory_stop = ap memory_at after_stop ∙ ap (λ (image : Image). image.memory) (own_image pid (computed pid q.image.regs (decoded_by q).memory w) (given pid q.image.regs (decoded_by q).memory q) (lives_computed pid q.image.regs (decoded_by q).memory w q also))
 
-  enters_there : entered x stop ≡ (y, stop_in pid left2 false)
+  enters_there : entered x stop ≡ (y, stop_in pid left2 nothing_handed)
   enters_there =
       ap (after_decoding x (after_request stop)) reads_there
       ∙ ap (by_identities x r (after_request stop)) c.goes.identities
@@ -211,7 +211,7 @@ module _ (table : List Row) (made pid : ℕ) (m : Machine Faking) (n : Machine T
   abbrev behind_entry : Tracing × Stopped → Machine Tracing
   behind_entry e = after_plain tracer pid (plain_call plain pid e.1.state) e.0 (with_broken (plain_rule 0 plain pid (lacks_in 0 pid w) e.1.state) n.tally)
 
-  traced_call : watched_call tracer 0 plain pid n ≡ behind_entry (y, stop_in pid left2 false)
+  traced_call : watched_call tracer 0 plain pid n ≡ behind_entry (y, stop_in pid left2 nothing_handed)
   traced_call = ap (λ (t : Stopped). behind_entry (entered x t)) stop_is ∙ ap behind_entry enters_there
 
   -- ---- what both kernels refuse
@@ -246,13 +246,13 @@ module _ (table : List Row) (made pid : ℕ) (m : Machine Faking) (n : Machine T
   there_came =
       let lawful = lawful-image (λ k. k) table s1 match1.placed.lawful pid p1 lives1 done.memory like (λ _. without_call p1.image.regs) in
       let lasts = settled_lasts table made pid (Answer (refusal ENOSYS)) left1 (record { lawful = lawful; lasts = lasts_living made (with_process pid (given pid (without_call p1.image.regs) done.memory)) s1 (entry.can table made pid m n c p q lives also).lasts.lasts }) in
-      there came.state pid false (taken.refused_caller pid s1 p1 lives1 done.memory) lasts.lawful.pids (taken.refused_lives pid s1 p1 lives1 done.memory)
+      there came.state pid nothing_handed (taken.refused_caller pid s1 p1 lives1 done.memory) lasts.lawful.pids (taken.refused_lives pid s1 p1 lives1 done.memory)
 
   there_came2 : IsThere (called pid came2)
   there_came2 =
       let lawful = lawful-image (λ k. k) plain w c.also_lasts.lawful pid q also also_done.memory also_like (λ _. without_call q.image.regs) in
       let lasts = settled_lasts plain made pid (Answer (refusal ENOSYS)) left2 (record { lawful = lawful; lasts = lasts_living made (with_process pid (given pid (without_call q.image.regs) also_done.memory)) w c.also_lasts.lasts }) in
-      there came2.state pid false (taken.refused_caller pid w q also also_done.memory) lasts.lawful.pids (taken.refused_lives pid w q also also_done.memory)
+      there came2.state pid nothing_handed (taken.refused_caller pid w q also also_done.memory) lasts.lawful.pids (taken.refused_lives pid w q also also_done.memory)
 
   -- ---- the second stop with mounts
 

@@ -117,11 +117,11 @@ module _ (pid : ℕ) (f : Faking) where
 -- ---- the second stop of the tracer
 
 module _ (p : Pending) where
-  answered_there : (o : Option ℤ) (v : Stopped) → stop_in v.pid (if_answered o v).state (if_answered o v).at_root ≡ if_answered o v
+  answered_there : (o : Option ℤ) (v : Stopped) → stop_in v.pid (if_answered o v).state (if_answered o v).handed ≡ if_answered o v
   answered_there None v = refl
   answered_there (Some answer) v = refl
 
-  pub returned_there : (t : Stopped) → stop_in t.pid (returned p t).state (returned p t).at_root ≡ returned p t
+  pub returned_there : (t : Stopped) → stop_in t.pid (returned p t).state (returned p t).handed ≡ returned p t
   returned_there t = answered_there p.answer (given_back p.passed t)
 
   set_lives : (k v : ℕ) (t : Stopped) → IsSome (process t.pid t.state) → IsSome (process t.pid (with_register k v t).state)
@@ -362,7 +362,7 @@ module _ (table : List Row) (made pid : ℕ) (m : Machine Faking) (n : Machine T
         lives = returned_lives pending (called pid came2);
         edits = λ tags some alike.
             subst (λ (t : Stopped). StandAlike table tags (suc made) (after_due kept (called pid came) owed).1.state (shown_due kept.user kept.identities plan.0.led.at_root owed t).state) (returned_there pending (called pid came2))
-            (edits_keep_matches table tags (suc made) pid came.state back.state came.at_root back.at_root plan.0.led.at_root kept owed some alike edit);
+            (edits_keep_matches table tags (suc made) pid came.state back.state came.handed back.handed plan.0.led.at_root kept owed some alike edit);
       }
 
       kernels_together : ComeFromFakedCall table made (watched_call faker 1 table pid m) (watched_call tracer 0 plain pid n)
@@ -398,7 +398,7 @@ module _ (table : List Row) (made pid : ℕ) (m : Machine Faking) (n : Machine T
         without = untold_beginning pending z (called pid came2) pending_there (also_begins ∙ is);
         goes = record { bindings = go.bindings; user = go.user; identities = refl };
         lives = λ some. some;
-        edits = λ tags some alike. (beginnings_keep_matches table tags (suc made) pid came.state came2.state came.at_root came2.at_root kept (tagged pending z (called pid came2) pending_there) some alike (unread is (after_exec (identity_at kept.identities pid)))).stands;
+        edits = λ tags some alike. (beginnings_keep_matches table tags (suc made) pid came.state came2.state came.handed came2.handed kept (tagged pending z (called pid came2) pending_there) some alike (unread is (after_exec (identity_at kept.identities pid)))).stands;
       }
       exits_by_begun false is = record {
         kept = kept;

@@ -9,7 +9,7 @@ use Rattle.pt_args.specs.kr_calls.PathTable.{path_at}
 use Rattle.pt_args.specs.kr_calls.declared.request.Request.{Request}
 use Rattle.law_edits.specs.kr_model.State.{Image, Process, process}
 use Rattle.law_turns.specs.kr_turns.PlainCall.{plain_call}
-use Rattle.law_turns.specs.kr_stops.Stopped.{IsThere, Stopped}
+use Rattle.law_turns.specs.kr_stops.Stopped.{IsThere, Stopped, nothing_handed}
 use Rattle.law_turns.specs.kr_turns.Turn.{Machine, calling, watched_call}
 use Rattle.law_turns.specs.kr_stops.Watching.{unwatched}
 use Rattle.law_turns.proofs.kr_stops.EditLemmas.{there}
@@ -85,7 +85,7 @@ module _ (table : List Row) (made pid : ℕ) (m : Machine Faking) (n : Machine T
     -- or none
     finds_none : (answer : ℤ) → (applied edit (after_request stop)).answer ≡ Some answer → JustAnswers (came_there table pid m n r)
     finds_none answer answers =
-        let there_stop : IsThere stop = there n.state pid false q c.also_lasts.lawful.pids also in
+        let there_stop : IsThere stop = there n.state pid nothing_handed q c.also_lasts.lawful.pids also in
         let stands : StandsAtNoCall stop left = answered_calls_are_none stop (decoded_at stop).memory r edit answer there_stop reads_there answers in
         subst JustAnswers (sym came_there_is)
         (subst (λ k. JustAnswers (plain_call plain k left.state)) stands.pid (subst JustAnswers (sym (stands.refuses plain)) (record { ends = refl; alone = refl })))

@@ -219,7 +219,7 @@ module _ (table : List Row) (made pid : ℕ) (no_shelf at_root : Bool) (s : Stat
   owner_forgiven t true = tt
   owner_forgiven t false = tt
 
-  root_forgiven : (t : Stopped) (root : Bool) → t.at_root ≡ at_root → IsEditedAlike f t at_root (if_root root ForgivesRoot)
+  root_forgiven : (t : Stopped) (root : Bool) → t.handed.at_root ≡ at_root → IsEditedAlike f t at_root (if_root root ForgivesRoot)
   root_forgiven t true same = same
   root_forgiven t false same = tt
 

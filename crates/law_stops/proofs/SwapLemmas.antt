@@ -22,7 +22,7 @@ use Rattle.pt_args.specs.kr_calls.declared.request.Request.TheVariants as call
 use Rattle.law_turns.proofs.law_allowed.RowLemmas.{StaysLike, stays-like}
 use Rattle.law_edits.specs.kr_model.State.{Image, Process, State, process}
 use Rattle.law_turns.specs.kr_turns.PlainCall.{Came}
-use Rattle.law_turns.specs.kr_stops.Stopped.{IsThere, Stopped, edited, image_at}
+use Rattle.law_turns.specs.kr_stops.Stopped.{IsThere, Stopped, edited, image_at, nothing_handed}
 use Rattle.law_turns.specs.kr_turns.Turn.{Machine, called, calling, watched_call}
 use Rattle.law_turns.specs.kr_stops.Watching.{unwatched}
 use Rattle.law_turns.proofs.kr_stops.EditLemmas.{image-edited, there as is_there}
@@ -118,7 +118,7 @@ module _ {S : Type 0} (back : TextsAreReadBack) (shelves : ShelvesHoldTheirItems
   can_here =
       subst (λ t. CanBeSwapped t p1.image.memory r first second) (before.calling_is table made pid m n c p q lives also)
       (subst (λ memory. CanBeSwapped (calling 0 pid n.state) memory r first second)
-      (ap (λ t. memory_at (record { state = t; pid = pid; at_root = false })) (before.shelf table made pid m n c p q lives also) ∙ ap (λ (image : Image). image.memory) (own_image pid s1 p1 (before.lives1 table made pid m n c p q lives also))) can)
+      (ap (λ t. memory_at (record { state = t; pid = pid; handed = nothing_handed })) (before.shelf table made pid m n c p q lives also) ∙ ap (λ (image : Image). image.memory) (own_image pid s1 p1 (before.lives1 table made pid m n c p q lives also))) can)
 
   abbrev made_of : Applied
   made_of = applied (swap_edit sp first second) (after_request stop)
@@ -171,7 +171,7 @@ module _ {S : Type 0} (back : TextsAreReadBack) (shelves : ShelvesHoldTheirItems
       kind = told_swapped first second r ∙ alike.told.kind;
       exits = λ came word there regs.
           exits_behind_swaps (with_pending (map.insert x.pending pid (awaiting (arguments_at (after_request stop)) r (led_of (texts_at x.bindings x.tags (after_request stop)) pid r) None)) x) stop (called pid came) r first second
-          (led_of (texts_at x.bindings x.tags (after_request stop)) pid r) word c.traces.identities (get-insert_same x.pending pid _) (runs_none r alike.told.kind) can_here.decoded can_here.named (is_there n.state pid false q c.also_lasts.lawful.pids also) there
+          (led_of (texts_at x.bindings x.tags (after_request stop)) pid r) word c.traces.identities (get-insert_same x.pending pid _) (runs_none r alike.told.kind) can_here.decoded can_here.named (is_there n.state pid nothing_handed q c.also_lasts.lawful.pids also) there
           (regs ∙ ap (λ (image : Image). slice_set (registers_behind sp first second image.regs).x 10 word) (sym (own_image pid n.state q also)));
     }
 

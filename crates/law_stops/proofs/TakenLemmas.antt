@@ -13,7 +13,7 @@ use Rattle.law_edits.specs.kr_model.State.{Image, Process, State, process}
 use Rattle.law_turns.specs.kr_steps.Answering.{answered, going, with_answer}
 use Rattle.law_turns.specs.kr_steps.Computing.{computed}
 use Rattle.law_turns.specs.kr_turns.PlainCall.{Came, plain_call, refusal_told}
-use Rattle.law_turns.specs.kr_stops.Stopped.{IsThere, Stopped, edited}
+use Rattle.law_turns.specs.kr_stops.Stopped.{IsThere, Stopped, edited, nothing_handed}
 use Rattle.law_turns.specs.kr_turns.Turn.{called}
 use Rattle.law_turns.proofs.kr_stops.EditLemmas.{edited-twice, image-edited}
 use Rattle.law_edits.specs.pt_ident.Identity.{refusal}
@@ -51,13 +51,13 @@ module _ (pid : ℕ) (s : State ℕ Image) (p : Process ℕ Image) (lives : proc
   caller_lives = lives_changed pid (given pid taken memory) (λ p. refl) s p lives
 
   -- what the first stop does to the process, whose decoding was read
-  module _ (there : IsThere (stop_in pid s false)) where
-    pub number_taken : (read : Memory) → no_longer_called (with_memory memory (edited p.image.regs read (stop_in pid s false))) ≡ stop_in pid left false
+  module _ (there : IsThere (stop_in pid s nothing_handed)) where
+    pub number_taken : (read : Memory) → no_longer_called (with_memory memory (edited p.image.regs read (stop_in pid s nothing_handed))) ≡ stop_in pid left nothing_handed
     number_taken read =
         ap no_longer_called
-        (ap (λ (image : Image). edited image.regs memory (edited p.image.regs read (stop_in pid s false))) (image-edited p.image.regs read (stop_in pid s false) (subst IsSome (sym lives) refl))
-        ∙ edited-twice p.image.regs p.image.regs read memory (stop_in pid s false))
-        ∙ register_set (stop_in pid s false) there 17 no_call p.image.regs memory
+        (ap (λ (image : Image). edited image.regs memory (edited p.image.regs read (stop_in pid s nothing_handed))) (image-edited p.image.regs read (stop_in pid s nothing_handed) (subst IsSome (sym lives) refl))
+        ∙ edited-twice p.image.regs p.image.regs read memory (stop_in pid s nothing_handed))
+        ∙ register_set (stop_in pid s nothing_handed) there 17 no_call p.image.regs memory
 
   -- the kernel refuses it
   module _ (rows : List Row) (r : Request) (read : Memory) (reads : (carried_out (decoding p.image.regs) read).reply ≡ Ok r) where

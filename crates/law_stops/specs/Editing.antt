@@ -5,6 +5,7 @@ use Rattle.pt_args.specs.pt_bind.Tags.{TagTable}
 use Rattle.law_edits.specs.kr_view.View.{Row}
 use Rattle.law_edits.specs.kr_model.State.{Image, State, process}
 use Rattle.law_turns.specs.kr_stops.Stopped.{Stopped}
+use Rattle.law_turns.specs.kr_stops.declared.handed.Handed.{Handed}
 use Rattle.law_edits.specs.pt_ident.Identity.{after_exec}
 use Rattle.law_edits.specs.pt_ident.IdentityTable.{identity_at}
 use Rattle.law_edits.specs.pt_faker.Faking.{Faking, after_due, begin_program, has_answered_zero, show_identity, show_owner, stack_register}
@@ -15,15 +16,15 @@ use Rattle.law_edits.specs.pt_tracer.Watched.{Tracing, begin_as, shown_due}
 use Rattle.law_stops.specs.Going.{StandAlike}
 
 -- a process of a state at the second stop of its call
-abbrev pub stop_in : ℕ → State ℕ Image → Bool → Stopped
-stop_in pid s at_root = record { state = s; pid = pid; at_root = at_root }
+abbrev pub stop_in : ℕ → State ℕ Image → Handed → Stopped
+stop_in pid s handed = record { state = s; pid = pid; handed = handed }
 
 -- an edit of a call that the kernel carried out, other than of a new program: it reads no marked byte on the machine with mounts, and both
 -- watchers know alike whether the path of the call led to the root
 abbrev pub IsEditedAlike : Faking → Stopped → (at_root : Bool) → Option Due → Type 0
 IsEditedAlike f t at_root None = Unit {0}
 IsEditedAlike f t at_root (Some due.ForgivesOwner) = Unit {0}
-IsEditedAlike f t at_root (Some due.ForgivesRoot) = t.at_root ≡ at_root
+IsEditedAlike f t at_root (Some due.ForgivesRoot) = t.handed.at_root ≡ at_root
 IsEditedAlike f t at_root (Some (due.ShowsOwner at)) =
     has_answered_zero t ≡ true → (carried_out (show_owner f.user f.identities.uid f.identities.gid at) (memory_at t)).memory.read_marked ≡ false
 IsEditedAlike f t at_root (Some (due.Tells number answer)) = ⊥
@@ -32,9 +33,9 @@ IsEditedAlike f t at_root (Some due.BeginsProgram) = ⊥
 -- such an edit leaves states that match as such
 abbrev pub EditsKeepMatches : Type 0
 EditsKeepMatches =
-    (table : List Row) (tags : TagTable) (made pid : ℕ) (s w : State ℕ Image) (at_root other also_root : Bool) (f : Faking) (edit : Option Due)
-    → IsSome (process pid s) → StandAlike table tags made s w → IsEditedAlike f (stop_in pid s at_root) also_root edit
-    → StandAlike table tags made (after_due f (stop_in pid s at_root) edit).1.state (shown_due f.user f.identities also_root edit (stop_in pid w other)).state
+    (table : List Row) (tags : TagTable) (made pid : ℕ) (s w : State ℕ Image) (handed other : Handed) (also_root : Bool) (f : Faking) (edit : Option Due)
+    → IsSome (process pid s) → StandAlike table tags made s w → IsEditedAlike f (stop_in pid s handed) also_root edit
+    → StandAlike table tags made (after_due f (stop_in pid s handed) edit).1.state (shown_due f.user f.identities also_root edit (stop_in pid w other)).state
 
 -- a new program is told who it is, which reads no marked byte where none was marked
 abbrev pub ReadsNoMarkAtBeginning : Faking → Stopped → Type 0
@@ -48,8 +49,8 @@ pub record BeginAlike (table : List Row) (tags : TagTable) (made : ℕ) (f g : F
 
 abbrev pub BeginningsKeepMatches : Type 0
 BeginningsKeepMatches =
-    (table : List Row) (tags : TagTable) (made pid : ℕ) (s w : State ℕ Image) (at_root other : Bool) (f : Faking) (x : Tracing)
-    → IsSome (process pid s) → StandAlike table tags made s w → ReadsNoMarkAtBeginning f (stop_in pid s at_root)
-    → let mine = begin_program f (stop_in pid s at_root) in
+    (table : List Row) (tags : TagTable) (made pid : ℕ) (s w : State ℕ Image) (handed other : Handed) (f : Faking) (x : Tracing)
+    → IsSome (process pid s) → StandAlike table tags made s w → ReadsNoMarkAtBeginning f (stop_in pid s handed)
+    → let mine = begin_program f (stop_in pid s handed) in
     let yours = begin_as x (stop_in pid w other) (Some f.identities) in
     BeginAlike table tags made f mine.0 x yours.0 mine.1 yours.1

@@ -16,7 +16,7 @@ use Rattle.law_stops.specs.Editing.{IsEditedAlike}
 
 -- both watchers know alike whether the path of a chroot(2) led to the root
 abbrev pub RootIsKnown : Request → Came → Bool → Type 0
-RootIsKnown (call.Chroot path) came at_root = came.at_root ≡ at_root
+RootIsKnown (call.Chroot path) came at_root = came.handed.at_root ≡ at_root
 RootIsKnown _ came at_root = Unit {0}
 
 -- the bytes of a stat(2) were just written, so none of them is marked

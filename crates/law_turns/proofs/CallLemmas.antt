@@ -1,6 +1,6 @@
 -- Calls behind their first stop, in two states that match.
 use Rattle.std.proofs.Common.{◌≡◌, ℕ, List, Some, None, Ok, Err, refl, sym, ap, subst, ◌∙◌}
-use Rattle.std.specs.Prelude.{false, neg_ℤ, pos}
+use Rattle.std.specs.Prelude.{neg_ℤ, pos}
 use Rattle.std.specs.Option.{option_map_or}
 use Rattle.kr_core.specs.pr_base.Errno.{errno_number}
 use Rattle.kr_core.specs.pr_base.declared.errno.Errno.{Errno}
@@ -15,6 +15,7 @@ use Rattle.law_places.specs.kr_model.Walks.{seen, targets_of}
 use Rattle.law_places.specs.kr_model.declared.outcome.Outcome.TheVariants.{Answer}
 use Rattle.kr_core.specs.law_allowed.Told.{mounts_walked}
 use Rattle.kr_core.specs.kr_steps.Calls.{IsNoExec}
+use Rattle.kr_core.specs.kr_stops.Stopped.{nothing_handed}
 use Rattle.kr_core.specs.kr_turns.PlainCall.{Came, after_decoding, child_of, end_of, operated, plain_call, plain_call_of, refusal_told}
 use Rattle.kr_core.specs.kr_turns.declared.plain.CallEnd.TheVariants as end
 use Rattle.kr_core.proofs.kr_turns.PlainLemmas.{no-exec-requested}
@@ -30,7 +31,7 @@ module _ (table : List Row) (pid : ℕ) where
   -- a call of a process that lives is what its request comes to
   pub by_request : (rows : List Row) (s : State ℕ Image) (p : Process ℕ Image) (reply : Decoded) → process pid s ≡ Some p → (decoded_by p).reply ≡ reply → plain_call rows pid s ≡ after_decoding rows pid reply (decoded_in pid p s)
   by_request rows s p reply lives is =
-      ap (λ o. option_map_or (plain_call_of rows pid s) o (record { state = s; end = end.Waits; child = None; at_root = false })) lives
+      ap (λ o. option_map_or (plain_call_of rows pid s) o (record { state = s; end = end.Waits; child = None; handed = nothing_handed })) lives
       ∙ ap (λ reply. after_decoding rows pid reply (decoded_in pid p s)) is
 
   module _ (s w : State ℕ Image) (p q : Process ℕ Image) (tags : TagTable) (at : StandsAtCall table pid s w p q tags) where

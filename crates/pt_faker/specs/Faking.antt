@@ -164,7 +164,7 @@ abbrev pub after_due : Faking → Stopped → Option Due → Faking × Stopped
 after_due f t None = (f, t)
 after_due f t (Some (Tells number answer)) = (f, told number answer t)
 after_due f t (Some ForgivesOwner) = (f, forgiven true t)
-after_due f t (Some ForgivesRoot) = (f, forgiven t.at_root t)
+after_due f t (Some ForgivesRoot) = (f, forgiven t.handed.at_root t)
 after_due f t (Some (ShowsOwner at)) = (f, if_done t (on_its_memory (show_owner f.user f.identities.uid f.identities.gid at) t) t)
 after_due f t (Some BeginsProgram) = if_done t (begin_program f t) (f, t)
 

@@ -135,9 +135,9 @@ returns-clause-came g c =
     let after = c.carry_out_along-outcome.new.state in
     let called = called-kept number table c.args.pid old c.look_ahead-ahead.new.state c.args.request.now c.requires.may.runs.lasts.lawful.pids c.look_ahead-ahead.ensures.noted after c.carry_out_along-outcome.result (c.carry_out_along-outcome.ensures.called c.in_ok-end.ensures.want) in
     operated-now number table c.args.pid c.args.request.now old after c.carry_out_along-outcome.result called c.settle.new.state
-    (record { end = c.in_ok-end.end; child = c.child_of-child.result; at_root = c.leads_to_root-at_root.result; reach = c.walk_paths.new.reach; broken = c.judge_call-broken.result })
+    (record { end = c.in_ok-end.end; child = c.child_of-child.result; handed = c.handed_on-handed.result; reach = c.walk_paths.new.reach; broken = c.judge_call-broken.result })
     c.in_ok-end.ensures.settles c.in_ok-end.ensures.end c.child_of-child.ensures
-    (c.leads_to_root-at_root.ensures _ c.in-Ok.ensures.answer)
+    (c.handed_on-handed.ensures _ c.in-Ok.ensures.answer)
     ∙ no-exec-requested table c.args.pid (state_numbered number (meaning old)) c.args.request.now c.requires.kind
 
 pub returns-clause-reach : goal.returns-clause-reach

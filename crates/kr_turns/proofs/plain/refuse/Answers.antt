@@ -1,7 +1,8 @@
-use Rattle.std.proofs.Common.{◌≡◌, None, false, refl, rules, ap, ◌∙◌, to_z, of_z, w64, ◌-ℤ◌, neg_ℤ, pos}
+use Rattle.std.proofs.Common.{◌≡◌, None, refl, rules, ap, ◌∙◌, to_z, of_z, w64, ◌-ℤ◌, neg_ℤ, pos}
 use Rattle.kr_hostview.specs.pr_base.Errno.{errno_number}
 use Rattle.kr_seen.specs.kr_ops.Meaning.{meaning}
 use Rattle.kr_steps.specs.Answering.{answered}
+use Rattle.kr_stops.specs.Stopped.{nothing_handed}
 use Rattle.kr_turns.specs.declared.plain.CallEnd.TheVariants as end
 use Rattle.kr_turns.proofs.PlainLemmas.{refused}
 use Rattle.kr_turns.proofs.plain.refuse.Goals as goal
@@ -10,5 +11,5 @@ pub returns-clause-came : goal.returns-clause-came
 returns-clause-came g c = λ number.
     let value : to_z w64 (of_z w64 (pos 0 -ℤ to_z w64 (of_z w64 c.from.result))) ≡ neg_ℤ (pos (errno_number c.args.errno)) = search rules in
     refused number c.args.pid c.args.errno c.args.state.now c.answer.new.state
-    (record { end = end.Answered; child = None; at_root = false; reach = c.args.reach; broken = c.idle_rule-broken.result })
+    (record { end = end.Answered; child = None; handed = nothing_handed; reach = c.args.reach; broken = c.idle_rule-broken.result })
     (c.answer.ensures.answers ∙ ap (λ v. answered c.args.pid v (meaning c.args.state.now)) value) refl refl refl

@@ -1,9 +1,10 @@
-use Rattle.std.proofs.Common.{None, false, lit<, refl, sym, ap, ◌∙◌}
+use Rattle.std.proofs.Common.{None, lit<, refl, sym, ap, ◌∙◌}
 use Rattle.kr_seen.specs.kr_ops.Meaning.{meaning}
 use Rattle.kr_seen.proofs.kr_ops.UseLemmas.{sound-of}
 use Rattle.kr_seen.specs.Numbered.{state_numbered}
 use Rattle.kr_execve.specs.Execution.{execution_reach}
 use Rattle.kr_turns.specs.Breaking.{nothing_reached}
+use Rattle.kr_stops.specs.Stopped.{nothing_handed}
 use Rattle.kr_turns.specs.declared.plain.CallEnd.TheVariants as end
 use Rattle.kr_turns.proofs.NumberLemmas.{memory-numbered}
 use Rattle.kr_turns.proofs.PlainLemmas.{execution-left, refused-now, refused-rule, replaced-now, replaced-rule}
@@ -27,7 +28,7 @@ returns-in-Replaced-clause-came g c =
     let table = g.P.Places.mounts c.args.places.now in
     let left = c.in-Replaced.ensures (λ e. absurd cc) in
     replaced-now number table c.args.pid c.args.path.now c.args.args c.args.env c.args.state.now c.execute.new.state left.executed.told.0 c.resume.new.state
-    (record { end = end.Replaced; child = None; at_root = false; reach = c.execute.new.reach; broken = c.rule_of.result })
+    (record { end = end.Replaced; child = None; handed = nothing_handed; reach = c.execute.new.reach; broken = c.rule_of.result })
     (execution-left number table c.args.pid c.args.path.now c.args.args c.args.env c.args.state.now c.execute.new.state _ left.executed) left.executed.told.1 c.resume.ensures.resumes refl refl refl
 
 pub returns-in-Replaced-clause-reach : goal.returns-in-Replaced-clause-reach

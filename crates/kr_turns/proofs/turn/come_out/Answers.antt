@@ -15,8 +15,8 @@ pub returns-in-Some-clause-out : goal.returns-in-Some-clause-out
 returns-in-Some-clause-out g c =
     let sound = sound-of g.P.Places.number (g.P.Places.mounts c.args.places.now) c.args.state.now c.requires.runs.lasts.lawful c.requires.runs.served in
     on_ok_weaker c.exit.result
-    (λ exits. comes-out (watching g.S.Stops.enters g.S.Stops.exits g.S.Stops.bears g.S.Stops.forgets) g.P.Places.number c.args.pid c.args.at_root c.args.state.now c.args.stops.now c.exit.new.state c.exit.new.stops (found-lives c.args.state.now c.args.pid _ sound c.in-Some.ensures.some) exits)
+    (λ exits. comes-out (watching g.S.Stops.enters g.S.Stops.exits g.S.Stops.bears g.S.Stops.forgets) g.P.Places.number c.args.pid c.args.handed c.args.state.now c.args.stops.now c.exit.new.state c.exit.new.stops (found-lives c.args.state.now c.args.pid _ sound c.in-Some.ensures.some) exits)
     c.exit.ensures.exits
 
 pub returns-in-None-clause-out : goal.returns-in-None-clause-out
-returns-in-None-clause-out g c = stays-out (watching g.S.Stops.enters g.S.Stops.exits g.S.Stops.bears g.S.Stops.forgets) g.P.Places.number c.args.pid c.args.at_root c.args.state.now c.args.stops.now (none-found c.args.pid c.args.state.now.living.items (c.index_of.ensures.none c.in-None.is))
+returns-in-None-clause-out g c = stays-out (watching g.S.Stops.enters g.S.Stops.exits g.S.Stops.bears g.S.Stops.forgets) g.P.Places.number c.args.pid c.args.handed c.args.state.now c.args.stops.now (none-found c.args.pid c.args.state.now.living.items (c.index_of.ensures.none c.in-None.is))

@@ -14,7 +14,7 @@ same-self g c = λ j. record {
   places = c.self.inside.places;
   state = c.self.inside.state;
   pid = c.self.inside.pid;
-  at_root = c.self.inside.at_root;
+  handed = c.self.inside.handed;
   calls = c.self.inside.calls;
   texts = ∥∥₁_prop c.self-1.given.0 c.self.inside.texts j;
 }

@@ -46,11 +46,11 @@ returns-clause-after g c =
     let number = g.P.Places.number in
     on_ok_weaker c.peek.result
     (λ e.
-    edits number (λ (i : Image). record { regs = i.regs; memory = after_read i.memory c.args.at (length c.args.into.now) }) c.self.inside.state.now c.peek.new.state c.self.inside.pid c.self.inside.at_root e
+    edits number (λ (i : Image). record { regs = i.regs; memory = after_read i.memory c.args.at (length c.args.into.now) }) c.self.inside.state.now c.peek.new.state c.self.inside.pid c.self.inside.handed e
     ∙ ap (λ (h : Held _ _ _). after_peek c.args.at (length c.args.into.now) (stopped_of number h)) c.self.view_is)
     c.peek.ensures.after
 
 pub returns-clause-err : goal.returns-clause-err
 returns-clause-err g c =
     let number = g.P.Places.number in
-    on-err c.peek.result (λ e. same-in number c.self.inside.state.now c.peek.new.state c.self.inside.pid c.self.inside.at_root e ∙ ap (stopped_of number) c.self.view_is) c.peek.ensures.err
+    on-err c.peek.result (λ e. same-in number c.self.inside.state.now c.peek.new.state c.self.inside.pid c.self.inside.handed e ∙ ap (stopped_of number) c.self.view_is) c.peek.ensures.err

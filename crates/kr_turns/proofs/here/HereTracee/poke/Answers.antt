@@ -42,11 +42,11 @@ returns-clause-after g c =
     let number = g.P.Places.number in
     on_ok_weaker c.poke.result
     (λ e.
-    edits number (λ (i : Image). record { regs = i.regs; memory = with_pages i.memory (written i.memory.pages c.args.at c.args.b.now) }) c.self.inside.state.now c.poke.new.state c.self.inside.pid c.self.inside.at_root e
+    edits number (λ (i : Image). record { regs = i.regs; memory = with_pages i.memory (written i.memory.pages c.args.at c.args.b.now) }) c.self.inside.state.now c.poke.new.state c.self.inside.pid c.self.inside.handed e
     ∙ ap (λ (h : Held _ _ _). after_poke c.args.at c.args.b.now (stopped_of number h)) c.self.view_is)
     c.poke.ensures.after
 
 pub returns-clause-err : goal.returns-clause-err
 returns-clause-err g c =
     let number = g.P.Places.number in
-    on-err c.poke.result (λ e. same-in number c.self.inside.state.now c.poke.new.state c.self.inside.pid c.self.inside.at_root e ∙ ap (stopped_of number) c.self.view_is) c.poke.ensures.err
+    on-err c.poke.result (λ e. same-in number c.self.inside.state.now c.poke.new.state c.self.inside.pid c.self.inside.handed e ∙ ap (stopped_of number) c.self.view_is) c.poke.ensures.err

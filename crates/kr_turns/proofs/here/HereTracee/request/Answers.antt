@@ -39,6 +39,6 @@ pub returns-clause-after : goal.returns-clause-after
 returns-clause-after g c =
     let number = g.P.Places.number in
     let s = c.self.inside.state.now in
-    edits number (λ (i : Image). record { regs = i.regs; memory = (carried_out (decoding i.regs) i.memory).memory }) s c.request.new.state c.self.inside.pid c.self.inside.at_root
+    edits number (λ (i : Image). record { regs = i.regs; memory = (carried_out (decoding i.regs) i.memory).memory }) s c.request.new.state c.self.inside.pid c.self.inside.handed
     (decoded-leaves c.self.inside.pid s c.request.new.state c.request.result c.request.ensures.requested)
     ∙ ap (λ (h : Held _ _ _). after_request (stopped_of number h)) c.self.view_is

@@ -25,5 +25,5 @@ invariant_of-self-inside g c =
 pub returns-clause-set : goal.returns-clause-set
 returns-clause-set g c =
     let number = g.P.Places.number in
-    edits number (λ (i : Image). record { regs = record { x = slice_set i.regs.x c.args.k c.args.v; pc = i.regs.pc }; memory = i.memory }) c.self.inside.state.now c.set_register.new.state c.self.inside.pid c.self.inside.at_root c.set_register.ensures.set
+    edits number (λ (i : Image). record { regs = record { x = slice_set i.regs.x c.args.k c.args.v; pc = i.regs.pc }; memory = i.memory }) c.self.inside.state.now c.set_register.new.state c.self.inside.pid c.self.inside.handed c.set_register.ensures.set
     ∙ ap (λ (h : Held _ _ _). with_register c.args.k c.args.v (stopped_of number h)) c.self.view_is
