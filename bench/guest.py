@@ -1,10 +1,36 @@
-"""Small guests for the benches: sources of llvm-mc as static executables, and runs of them on the product."""
+"""Small guests for the benches: sources of llvm-mc as static executables, C programs of the examples, and runs of them on the product.
+Times are the processor's, of the program and of the system for it, since other programs may run beside it."""
+import os
 import struct
 import subprocess
-import time
+from pathlib import Path
 
 BASE = 0x10000
 HEADERS = 64 + 56
+START = "user 1000 1000\nd 755 0 0 /\n"
+PROGRAMS = Path(__file__).resolve().parent.parent / "examples/programs"
+
+
+def timed(words, given=os.devnull, told=os.devnull, errors=None):
+    """The seconds and the status of a program that reads one file, and writes another, and its errors where a file is named for them."""
+    with open(given, "rb") as source, open(told, "wb") as sink, open(errors or os.devnull, "wb") as errors_sink:
+        child = subprocess.Popen(words, stdin=source, stdout=sink, stderr=errors_sink if errors else None)
+        _, status, usage = os.wait4(child.pid, 0)
+    child.returncode = os.waitstatus_to_exitcode(status)
+    return usage.ru_utime + usage.ru_stime, child.returncode
+
+
+def best(rounds, name):
+    """The least seconds of some runs, all of which have to end with 0."""
+    if any(status != 0 for _, status in rounds):
+        raise SystemExit(f"bench: {name} answers {rounds[0][1]}")
+    return min(seconds for seconds, _ in rounds)
+
+
+def example(name, folder):
+    """A program of the examples, built for the machine."""
+    subprocess.run([PROGRAMS / "build", folder, name], check=True)
+    return folder / name
 
 
 def code_of(source, folder, symbols=()):
@@ -28,11 +54,8 @@ def elf_of(code):
     return file_header + program_header + code
 
 
-def run_on_product(program, folder, elf, tree="user 1000 1000\nd 755 0 0 /\nx 755 0 0 /loop\n", words=("/loop",)):
+def run_on_product(program, folder, elf, tree=START + "x 755 0 0 /loop\n", words=("/loop",), given=os.devnull, told=os.devnull, errors=None):
     """The seconds and the status of a run of the guest on a listing."""
     listing = folder / "tree"
     listing.write_text(tree)
-    start = time.perf_counter()
-    with open("/dev/null") as nothing:
-        done = subprocess.run([program, listing, elf, folder / "left", *words], stdin=nothing)
-    return time.perf_counter() - start, done.returncode
+    return timed([program, listing, elf, folder / "left", *words], given, told, errors)

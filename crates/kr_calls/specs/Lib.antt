@@ -5,6 +5,9 @@ pub mod Decodes
 pub mod Decoding
 pub mod DirectoryEntries
 pub mod Expansion
+pub mod Kinds
+pub mod PathUses
+pub mod CallTable
 pub mod PathTable
 pub mod Scripts
 pub mod Stats

@@ -9,7 +9,8 @@
 //! flag of marked bytes that were read is the definition's; memory is wanting for texts alone (`wanting`). What was decoded can be given by
 //! decoding (`decoded_is_given`), which is what carrying it out will ask.
 //!
-//! `path_of` is the table of the calls with paths (`path_at`).
+//! The table of the calls is a definition (`line`, in `specs/CallTable.antt`): what each is told and along which paths, and what it can do.
+//! `path_of` gives the paths of a line (`path_at`).
 //!
 //! The scripts that execve(2) expands are a definition here (`expanded`) over how a path is found, with rows worked out by hand.
 //!

@@ -1,7 +1,8 @@
 //! The table of the calls with paths.
 ghost use Rattle.std.specs.Prelude.{◌≡◌, option_map};
 ghost use Rattle.kr_calls.specs.Arguments.{has};
-ghost use Rattle.kr_calls.specs.PathTable.{link_mode, look_mode, open_mode, path_at, path_use};
+ghost use Rattle.kr_calls.specs.PathTable.{path_at};
+ghost use Rattle.kr_calls.specs.PathUses.{link_mode, look_mode, open_mode, path_use};
 
 use crate::arguments::has;
 use crate::request::Request;

@@ -16,7 +16,7 @@ use Rattle.kr_seen.specs.kr_model.Operation.{IsNoExec, operation}
 use Rattle.kr_seen.specs.kr_model.Reply.{is_refusal}
 use Rattle.kr_seen.specs.kr_model.Seen.{Seen, WalkFails}
 use Rattle.kr_seen.specs.kr_model.State.{Image, State}
-use Rattle.kr_seen.proofs.kr_model.CleanCalls.{refusals}
+use Rattle.kr_seen.proofs.kr_model.LineLemmas.{refusals}
 use Rattle.kr_calm.specs.Foreseen.{are_unjudged, is_judged}
 use Rattle.kr_calm.specs.InUse.{is_directory_of, is_in_use}
 use Rattle.kr_calm.specs.Laws.{BreakNone, EndBreaks}

@@ -17,7 +17,7 @@ use Rattle.kr_seen.specs.kr_model.State.{Image, State, image_layout}
 use Rattle.kr_seen.specs.kr_model.Walks.{seen}
 use Rattle.kr_seen.specs.kr_model.declared.outcome.Outcome.{Outcome}
 use Rattle.kr_seen.specs.kr_model.declared.outcome.Outcome.TheVariants.{Answer, Ended, NoMemory, Wait}
-use Rattle.kr_seen.proofs.kr_model.CleanCalls.{row_ended}
+use Rattle.kr_seen.proofs.kr_model.LineLemmas.{row_ended}
 use Rattle.kr_seen.specs.Numbered.{state_numbered}
 use Rattle.kr_seen.specs.Carrying.{after_row, memory_of, with_memory_of}
 use Rattle.kr_calm.specs.Calm.{broken_by_changes, smallest}

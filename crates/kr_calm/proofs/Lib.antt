@@ -3,10 +3,6 @@ pub use Rattle.kr_seen.proofs.law_lawful as law_lawful
 pub use Rattle.kr_seen.proofs as kr_seen
 pub mod WorkedRules
 pub mod AboveLemmas
-pub mod MildLemmas
-pub mod MildRows
-pub mod MildPathRows
-pub mod MildCalls
 pub mod ChangeLemmas
 pub mod GuestLemmas
 pub mod RowLemmas

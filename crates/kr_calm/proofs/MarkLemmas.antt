@@ -1,7 +1,7 @@
 -- What changes leave of the flag in their caller's memory.
 use Rattle.std.specs.FinMap as map
 use Rattle.std.proofs.Common.{◌≡◌, ◌≢◌, ℕ, zero, suc, ◌+◌, Bool, true, false, List, [], ◌∷◌, ◌++◌, refl, sym, ap, ◌∙◌, cond, Option, Some, None, is_some}
-use Rattle.std.specs.Prelude.{map as map_list, ◌==◌, IsSome, if◌then◌else◌}
+use Rattle.std.specs.Prelude.{map as map_list, ◌==◌, IsSome}
 use Rattle.std.specs.List.{find, list_all}
 use Rattle.std.specs.Option.{option_map, option_map_or}
 use Rattle.kr_seen.specs.pr_base.Maps.{changed}
@@ -14,20 +14,15 @@ use Rattle.kr_seen.specs.kr_files.Files.{with_opened, at_offset, with_append}
 use Rattle.kr_seen.specs.kr_model.State.{Image, Process, State, image_layout, process, named, is_pid, at_pid, with_process, with_descs}
 use Rattle.kr_seen.specs.kr_model.Change.{Change, AddNode, LinkNode, RemoveName, MoveName, SetMode, SetOwner, SetSize, WriteFile, OpenFile, CopyDescriptor, CloseDescriptor, SetCloexec, Seek, SetAppend, MakePipe, TakeFromPipe, PutIntoPipe, TakeInput, WriteOut, WriteErr, ChangePages, SetBreak, SetUmask, ChangeDirectory, Fork, End, Reap, ReplaceImage, ReplaceExecutable, CloseOnExec, Birth}
 use Rattle.kr_seen.specs.kr_model.Applied.{Mounts, applied, all_applied, images, mount_of, with_files, with_exe_name, exe_remembers, exe_after_removal, exe_after_rename, open_in, close_named, close, copy_named, copy_over, on_opened_of, pipe_made, with_image, with_brk, with_umask, with_cwd, moved_to, child_of, forked_from, with_exe, executed, is_closed_on_exec, close_on_exec_below}
-use Rattle.kr_seen.specs.kr_model.Known.{Known, known}
+use Rattle.kr_seen.specs.kr_model.Known.{known}
 use Rattle.kr_seen.specs.kr_model.Operation.{operation}
 use Rattle.kr_seen.specs.kr_model.Seen.{Seen}
-use Rattle.kr_seen.specs.kr_model.declared.outcome.Outcome.{Outcome}
 use Rattle.kr_seen.specs.kr_model.declared.outcome.Outcome.TheVariants.{Ended}
 use Rattle.kr_seen.proofs.kr_model.BareLemmas.{found-mapped}
 use Rattle.kr_seen.specs.Carrying.{after_row, carried, memory_of, no_memory, with_memory, with_memory_of}
-use Rattle.kr_calm.specs.Foreseen.{gives_owner, is_foreseen, prospect}
 use Rattle.kr_calm.specs.Laws.{MarksAreKept, leaves_mark}
-use Rattle.kr_calm.specs.Prospects.{answers_zero}
 use Rattle.kr_calm.proofs.ChangeLemmas.{both}
-use Rattle.kr_calm.proofs.OwnerLemmas.{IsGiven, given, none_given, owners-given}
-use Rattle.kr_calm.proofs.ProspectLemmas.{IsForeseeable, foreseeable, foreseen_calls_make_it, moves_one, nothing_goes, removes, sets_mode}
-use Rattle.kr_calm.proofs.UnjudgedLemmas.{others-leave}
+use Rattle.kr_calm.proofs.UnjudgedLemmas.{calls-leave}
 
 module _ {M : Type 0} where
   abbrev flag : Process M Image → Bool
@@ -205,50 +200,14 @@ module _ {M : Type 0} where
         by true is lives rest = ap (λ b. option_map_or flag (cond b (Some (with_image (with_memory memory) x)) (find (is_pid pid) (with_process pid (with_image (with_memory memory)) ps))) false) is
         by false is lives rest = ap (λ b. option_map_or flag (cond b (Some x) (find (is_pid pid) (with_process pid (with_image (with_memory memory)) ps))) false) is ∙ rest lives
 
--- ---- what calls change
+-- ---- what calls change, whatever the request is
 
-prospects-leave : (cs : List Change) → IsForeseeable cs → list_all leaves_mark cs ≡ true
-prospects-leave cs nothing_goes = refl
-prospects-leave cs removes = refl
-prospects-leave cs moves_one = refl
-prospects-leave cs sets_mode = refl
-
-owners-leave : (k : Known) (cs : List Change) → IsGiven k cs → list_all leaves_mark cs ≡ true
-owners-leave k cs none_given = refl
-owners-leave k cs (given i uid gid n there own same) = refl
-
-module _ {M : Type 0} (pid : ℕ) (request : Request) (seen : Seen) (s : State M Image) where
-  abbrev k : Known
-  k = known image_layout pid s
-
-  abbrev outcome : Outcome
-  outcome = (carried pid (operation pid request seen k) s).reply.outcome
-
-  abbrev changes : List Change
-  changes = (carried pid (operation pid request seen k) s).reply.changes
-
-  calls-leave : outcome ≢ Ended → list_all leaves_mark changes ≡ true
-  calls-leave goes = by-foreseen (is_foreseen request) refl
-    where
-      by-owner : is_foreseen request ≡ false → (b : Bool) → gives_owner request ≡ b → list_all leaves_mark changes ≡ true
-      by-owner other true is = owners-leave k changes (owners-given pid request seen k is (memory_of pid s))
-      by-owner other false is = others-leave pid request seen k (memory_of pid s) other is goes
-
-      by-zero : (b : Bool) → list_all leaves_mark (if b then prospect request seen k else []) ≡ true
-      by-zero true = prospects-leave (prospect request seen k) (foreseeable request seen k)
-      by-zero false = refl
-
-      by-foreseen : (b : Bool) → is_foreseen request ≡ b → list_all leaves_mark changes ≡ true
-      by-foreseen true is = ap (list_all leaves_mark) ((foreseen_calls_make_it pid request seen k is).changes (memory_of pid s)) ∙ by-zero (answers_zero outcome)
-      by-foreseen false is = by-owner is (gives_owner request) refl
-
--- whatever the request is
 pub rows_keep_marks : {M : Type 0} (mounts : Mounts M) (pid : ℕ) (request : Request) (seen : Seen) (s : State M Image)
     → let done = carried pid (operation pid request seen (known image_layout pid s)) s in
     IsSome (process pid s) → done.reply.outcome ≢ Ended → (memory_of pid (after_row mounts pid done s)).read_marked ≡ done.memory.read_marked
 rows_keep_marks mounts pid request seen s lives goes =
     let done = carried pid (operation pid request seen (known image_layout pid s)) s in
-    flag-told pid (after_row mounts pid done s) ∙ all-keep pid mounts done.reply.changes (with_memory_of pid done.memory s) (calls-leave pid request seen s goes)
+    flag-told pid (after_row mounts pid done s) ∙ all-keep pid mounts done.reply.changes (with_memory_of pid done.memory s) (calls-leave pid request seen (known image_layout pid s) (memory_of pid s) goes)
     ∙ noted pid done.memory s.living lives
 
 pub marks_are_kept : {M : Type 0} → MarksAreKept M

@@ -9,6 +9,7 @@ use Rattle.kr_seen.specs.rv_mem.Memory.{Memory, after_read}
 use Rattle.kr_seen.specs.rv_mem.Pages.{allows_all, any_marked, bytes_from}
 use Rattle.kr_seen.specs.rv_mem.declared.rights.Use.{Use}
 use Rattle.kr_seen.specs.rv_mem.declared.rights.Use.TheVariants.{Read}
+use Rattle.kr_seen.specs.kr_calls.CallTable.{sigpipe}
 use Rattle.kr_seen.specs.kr_calls.declared.request.Request.{Request}
 use Rattle.kr_seen.specs.kr_calls.declared.request.Request.TheVariants as call
 use Rattle.kr_seen.specs.kr_files.declared.opened.Opened.{Opened}
@@ -20,7 +21,7 @@ use Rattle.kr_seen.specs.kr_model.Applied.{all_applied, images}
 use Rattle.kr_seen.specs.kr_model.Asking.{descriptor_number, has_no_room_for, of_number, or_closed}
 use Rattle.kr_seen.specs.kr_model.Change.{Change, PutIntoPipe, Seek, WriteErr, WriteFile, WriteOut}
 use Rattle.kr_seen.specs.kr_model.DescriptorRows.{open_bytes}
-use Rattle.kr_seen.specs.kr_model.FileRows.{if_writable, inode_of_open, is_dir, pipe_limit, put_in_file, sigpipe, write_file, write_pieces, write_pipe, write_place, write_row, write_what, writev_row}
+use Rattle.kr_seen.specs.kr_model.FileRows.{if_writable, inode_of_open, is_dir, pipe_limit, put_in_file, write_file, write_pieces, write_pipe, write_place, write_row, write_what, writev_row}
 use Rattle.kr_seen.specs.kr_model.Known.{Known, known}
 use Rattle.kr_seen.specs.kr_model.Laws.{may_end}
 use Rattle.kr_seen.specs.kr_model.Operation.{operation}
@@ -29,7 +30,7 @@ use Rattle.kr_seen.specs.kr_model.Reply.{Reply, Replying, done, ends, refuse, wa
 use Rattle.kr_seen.specs.kr_model.Seen.{Seen}
 use Rattle.kr_seen.specs.kr_model.State.{Image, State, image_layout, opened, process}
 use Rattle.kr_seen.specs.kr_model.declared.outcome.Outcome.TheVariants.{Ended}
-use Rattle.kr_seen.proofs.kr_model.CleanCalls.{row_ended}
+use Rattle.kr_seen.proofs.kr_model.LineLemmas.{row_ended}
 use Rattle.kr_seen.specs.kr_ops.declared.state.State.{State as Code}
 use Rattle.kr_seen.specs.kr_ops.Making.{IsAsBefore}
 use Rattle.kr_seen.specs.kr_ops.Meaning.{meaning}

@@ -7,9 +7,10 @@ use Rattle.kr_calls.specs.pr_base.WalkFrame.{Seen as Sight, Fails, Missing, Lead
 use Rattle.kr_calls.specs.pr_base.declared.errno.Errno.{Errno}
 use Rattle.kr_calls.specs.pr_base.declared.errno.Errno.TheVariants.{ENOENT, EBADF, ENOSYS}
 use Rattle.kr_calls.specs.pr_base.declared.path.WalkMode.{WalkMode}
-use Rattle.kr_calls.specs.PathTable.{PathUse, path_at}
+use Rattle.kr_calls.specs.CallTable.{Told, ToldNothing, LooksAt, ReadsLinkAt, OpensAt, TakesAt, MakesAt, LinksTwo, MovesTwo, NamesHere, line}
+use Rattle.kr_calls.specs.PathTable.{path_at}
+use Rattle.kr_calls.specs.PathUses.{PathUse}
 use Rattle.kr_calls.specs.declared.request.Request.{Request}
-use Rattle.kr_calls.specs.declared.request.Request.TheVariants as call
 use Rattle.kr_files.specs.kr_tree.Tree.{Body, Directory, RegularFile, SymbolicLink, ProcessDirectory, body, body_is, entry, above as node_above}
 use Rattle.kr_files.specs.kr_tree.declared.place.Host.{Host}
 use Rattle.kr_files.specs.kr_tree.declared.place.Host.TheVariants.{Node, Proc}
@@ -27,9 +28,9 @@ use Rattle.kr_model.specs.Asking.{descriptor_number, is_working_directory}
 use Rattle.kr_model.specs.FileRows.{creates, is_dir}
 use Rattle.kr_model.specs.Laws.{NoWalkAnswersEnosys}
 use Rattle.kr_model.specs.ProcessDirectory.{around_of}
-use Rattle.kr_model.specs.Seen.{Seen, NoPath, WalkFails, LooksUp}
+use Rattle.kr_model.specs.Seen.{Seen, NoPath, WalkFails}
 use Rattle.kr_model.specs.State.{State, opened}
-use Rattle.kr_model.specs.Walks.{Targets, and_then, place_of_open, place_of_descriptor, base_of, walked, target_at, targets_of, of_one, if_found, told, seen_of}
+use Rattle.kr_model.specs.Walks.{Targets, and_then, place_of_open, place_of_descriptor, base_of, walked, target_at, targets_of, told_by, seen_of}
 use Rattle.kr_model.proofs.RefusalLemmas.{is_enosys}
 
 -- ---- answers, trails and sights
@@ -232,30 +233,20 @@ module _ {X : Type 0} (table : List Row) (pid : ℕ) (s : State ℕ X) where
       then_built (target_at table pid s (path_at r 0)) _ (target_built (path_at r 0))
       (λ first. then_built (target_at table pid s (path_at r 1)) _ (target_built (path_at r 1)) (λ second. refl))
 
-  looks_up_told : (targets : Targets) → tells_enosys (of_one targets (λ target. if_found table pid s target LooksUp)) ≡ false
-  looks_up_told targets = one_told targets.first _ (λ target. found_told target.found _ (λ p. refl))
-
-  all_told : (r : Request) (targets : Targets) → tells_enosys (told table pid s r targets) ≡ false
-  all_told (call.Mkdirat dirfd path mode) targets = one_told targets.first _ (λ t. refl)
-  all_told (call.Symlinkat text dirfd path) targets = one_told targets.first _ (λ t. refl)
-  all_told (call.Unlinkat dirfd path flags) targets = one_told targets.first _ (λ t. refl)
-  all_told (call.Linkat olddir old newdir new flags) targets = two_told targets.first targets.second _ (λ t u. found_told t.found _ (λ p. refl))
-  all_told (call.Renameat2 olddir old newdir new) targets = two_told targets.first targets.second _ (λ t u. refl)
-  all_told (call.Openat dirfd path flags mode) targets =
-      one_told targets.first _ (λ t. both (λ told. tells_enosys told ≡ false) (creates flags) refl (found_told t.found _ (λ p. refl)))
-  all_told (call.Readlinkat dirfd path buf size) targets = one_told targets.first _ (λ t. found_told t.found _ (λ p. refl))
-  all_told (call.Getcwd buf size) targets = refl
-  all_told (call.Faccessat dirfd path mode) targets = looks_up_told targets
-  all_told (call.Chdir path) targets = looks_up_told targets
-  all_told (call.Chroot path) targets = looks_up_told targets
-  all_told (call.Fchmodat dirfd path mode) targets = looks_up_told targets
-  all_told (call.Fchownat dirfd path uid gid flags) targets = looks_up_told targets
-  all_told (call.Newfstatat dirfd path buf flags) targets = looks_up_told targets
-  all_told (call.Execve path args env) targets = looks_up_told targets
-  all_told _ targets = refl
+  told_built : (t : Told) (targets : Targets) → tells_enosys (told_by table pid s t targets) ≡ false
+  told_built ToldNothing targets = refl
+  told_built (LooksAt how u) targets = one_told targets.first _ (λ target. found_told target.found _ (λ p. refl))
+  told_built (ReadsLinkAt u) targets = one_told targets.first _ (λ target. found_told target.found _ (λ p. refl))
+  told_built (OpensAt flags u) targets =
+      one_told targets.first _ (λ target. both (λ told. tells_enosys told ≡ false) (creates flags) refl (found_told target.found _ (λ p. refl)))
+  told_built (TakesAt u) targets = one_told targets.first _ (λ target. refl)
+  told_built (MakesAt u) targets = one_told targets.first _ (λ target. refl)
+  told_built (LinksTwo how old new) targets = two_told targets.first targets.second _ (λ old new. found_told old.found _ (λ p. refl))
+  told_built (MovesTwo old new) targets = two_told targets.first targets.second _ (λ old new. refl)
+  told_built NamesHere targets = refl
 
   answer_told : (r : Request) (targets : Result Targets Errno) → is_unbuilt targets ≡ false → tells_enosys (seen_of table pid s r targets) ≡ false
-  answer_told r (Ok targets) is = all_told r targets
+  answer_told r (Ok targets) is = told_built (line r).told targets
   answer_told r (Err e) is = is
 
 apart : {a : Seen} → tells_enosys a ≡ false → a ≢ WalkFails ENOSYS

@@ -5,6 +5,7 @@ use Rattle.std.specs.Option.{option_map_or}
 use Rattle.kr_calls.specs.pr_base.declared.errno.Errno.TheVariants.{ENOENT, EBADF, EACCES, EEXIST, ENOTDIR, EISDIR, EINVAL, EMFILE, EFBIG, ENOSPC, ELOOP}
 use Rattle.kr_calls.specs.rv_mem.declared.rights.Use.TheVariants.{Read}
 use Rattle.kr_calls.specs.Arguments.{has}
+use Rattle.kr_calls.specs.CallTable.{sigpipe}
 use Rattle.kr_files.specs.kr_inode.declared.user.Right.TheVariants.{Read as ReadRight, Write as WriteRight}
 use Rattle.kr_files.specs.kr_tree.Tree.{Node, Body, Directory, RegularFile, SymbolicLink, ProcessDirectory}
 use Rattle.kr_files.specs.kr_tree.Rights.{allows}
@@ -81,10 +82,6 @@ abbrev pub readv_row : Known → ℤ → ℕ → ℕ → Replying
 readv_row k fd list count = if_readable k fd (λ number o. with_list list count (read_pieces k number o))
 
 -- ---- writing
-
--- SIGPIPE, as wait4(2) tells it
-abbrev pub sigpipe : ℕ
-sigpipe = 13
 
 abbrev pub pipe_limit : ℕ
 pipe_limit = 65536

@@ -1,19 +1,20 @@
 -- What two machines with equal bare states have in common, and what calls come to.
-use Rattle.std.specs.Prelude.{◌≡◌, ◌≢◌, ℕ, ◌*◌, Bool, true, false, List, [], ◌∷◌, pos, unsigned_abs}
+use Rattle.std.specs.Prelude.{◌≡◌, ◌≢◌, ℕ, ◌*◌, Bool, true, false, List, [], ◌∷◌, pos, unsigned_abs, Some}
 use Rattle.std.specs.Int.{int_rem_euclid}
 use Rattle.kr_calls.specs.pr_base.declared.errno.Errno.TheVariants.{ENOSYS}
 use Rattle.kr_calls.specs.rv_mem.Memory.{Memory}
 use Rattle.kr_calls.specs.rv_mem.Pages.{Pages}
 use Rattle.kr_calls.specs.rv_mem.Actions.{carried_out, AreEqualUnmarked}
+use Rattle.kr_calls.specs.CallTable.{Doing, line, makes_at_all, sigpipe}
 use Rattle.kr_calls.specs.declared.request.Request.{Request}
 use Rattle.kr_calls.specs.declared.request.Request.TheVariants as call
-use Rattle.kr_model.specs.declared.outcome.Outcome.TheVariants.{Wait, Ended}
+use Rattle.kr_model.specs.declared.outcome.Outcome.TheVariants.{Wait, Ended, NoMemory}
 use Rattle.kr_model.specs.State.{State, Image, image_layout}
 use Rattle.kr_model.specs.Change.{Change, End, PageChange, Birth}
+use Rattle.kr_model.specs.ChangeKinds.{are_of}
 use Rattle.kr_model.specs.Applied.{Computing, Mounts, applied, all_applied, layouts, images, pages_after}
-use Rattle.kr_model.specs.FileRows.{sigpipe}
 use Rattle.kr_model.specs.Operation.{IsNoExec, operation}
-use Rattle.kr_model.specs.Reply.{is_refusal, unbuilt}
+use Rattle.kr_model.specs.Reply.{Reply, is_refusal, unbuilt}
 use Rattle.kr_model.specs.Seen.{Seen, WalkFails}
 use Rattle.kr_model.specs.Walks.{seen as seen_of_paths}
 use Rattle.kr_procfs.specs.kr_view.View.{Row}
@@ -58,6 +59,26 @@ CallsAlike M N =
 pub record PagesStayAlike : Type 0 where
   pub changed : (c : PageChange) (m w : Pages) → AreEqualUnmarked m w → AreEqualUnmarked (pages_after c m) (pages_after c w)
   pub born : (b : Birth) (x y : Image) → AreEqualUnmarked x.memory.pages y.memory.pages → AreEqualUnmarked (images.born b x).memory.pages (images.born b y).memory.pages
+
+-- a reply that keeps to what its call does: its changes are of these kinds, its call waits only where it can, memory isn't wanting, and an
+-- end of the caller is that by the call's word
+pub record KeepsTo (does : Doing) (reply : Reply) : Type 0 where
+  pub changes : are_of (makes_at_all does) reply.changes ≡ true
+  pub answered : reply.outcome ≢ Ended → are_of does.makes reply.changes ≡ true
+  pub no_want : reply.outcome ≢ NoMemory
+  pub waits : reply.outcome ≡ Wait → does.can_wait ≡ true
+  pub ended : reply.outcome ≡ Ended → (word : ℕ) × (reply.changes ≡ End word ∷ []) × (Some word ≡ does.ends_by)
+
+-- a call, other than execve, keeps to its line in the table
+abbrev pub CallsKeepToTheirLines : Type 0
+CallsKeepToTheirLines =
+    (pid : ℕ) (r : Request) (seen : Seen) (k : Known) (m : Memory) → IsNoExec r → KeepsTo (line r).does (carried_out (operation pid r seen k) m).reply
+
+-- and one that writes nothing into its caller's memory leaves all pages
+abbrev pub OthersLeaveMemory : Type 0
+OthersLeaveMemory =
+    (pid : ℕ) (r : Request) (seen : Seen) (k : Known) (m : Memory) → IsNoExec r → (line r).does.writes_memory ≡ false
+    → (carried_out (operation pid r seen k) m).memory.pages ≡ m.pages
 
 -- a call, other than execve, that answers an error has changed nothing and written nothing, and the error is ENOSYS only where that is
 -- told of its paths

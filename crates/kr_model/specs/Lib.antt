@@ -8,6 +8,7 @@ pub use Rattle.kr_files.specs as kr_files
 pub use Rattle.kr_calls.specs as kr_calls
 pub mod State
 pub mod Change
+pub mod ChangeKinds
 pub mod Applied
 pub mod Bare
 pub mod Images

@@ -1,5 +1,5 @@
 -- What a request comes to, of what is known of the state and seen of the paths.
-use Rattle.std.specs.Prelude.{ℕ, List, [], ◌∷◌, Option}
+use Rattle.std.specs.Prelude.{ℕ, Bool, List, [], ◌∷◌, Option}
 use Rattle.kr_calls.specs.pr_base.declared.errno.Errno.TheVariants.{ENOENT, ENOEXEC}
 use Rattle.kr_calls.specs.declared.request.Request.{Request}
 use Rattle.kr_calls.specs.declared.request.Request.TheVariants as call
@@ -45,15 +45,21 @@ made (MakesEntry m) next = next m
 made (WalkFails e) next = refuse e
 made _ next = unfit
 
+abbrev pub links_told : Seen → (Looked → Made → Bool → Replying) → Replying
+links_told (Links old new same_mount) next = next old new same_mount
+links_told (WalkFails e) next = refuse e
+links_told _ next = unfit
+
 abbrev pub linked : Seen → Known → Replying
-linked (Links old new same_mount) k = linkat_row k old new same_mount
-linked (WalkFails e) k = refuse e
-linked _ k = unfit
+linked seen k = links_told seen (linkat_row k)
+
+abbrev pub moves_told : Seen → (Taken → Taken → Bool → Replying) → Replying
+moves_told (Moves old new same_mount) next = next old new same_mount
+moves_told (WalkFails e) next = refuse e
+moves_told _ next = unfit
 
 abbrev pub moved : Seen → Known → Replying
-moved (Moves old new same_mount) k = renameat2_row k old new same_mount
-moved (WalkFails e) k = refuse e
-moved _ k = unfit
+moved seen k = moves_told seen (renameat2_row k)
 
 abbrev pub directory_named : Seen → (Option (List ℕ) → Replying) → Replying
 directory_named (NamesDirectory name) next = next name
@@ -65,81 +71,110 @@ abbrev pub by_path : List ℕ → Replying → Replying → Replying
 by_path [] here next = here
 by_path (b ∷ path) here next = next
 
--- ---- each request. An execve has a definition of its own, beside its loader (`execution` in kr_execve). What its line here says, the error of
--- its walk or ENOEXEC, is not the call: laws on this definition speak of the other requests, and name them by this premise
+-- ---- the forms of calls: what each is told, and the row that it comes to of that. Laws on all calls go by these ten cases
+
+pub data Form : Type 0 where
+  Plainly : Replying → Form
+  OfLooked : (Looked → Replying) → Form
+  OrHere : (path : List ℕ) → Replying → (Looked → Replying) → Form
+  OfLink : (Looked → Option (List ℕ) → Replying) → Form
+  OfOpening : (Opening → Replying) → Form
+  OfTaken : (Taken → Replying) → Form
+  OfMade : (Made → Replying) → Form
+  OfLinks : (Looked → Made → Bool → Replying) → Form
+  OfMoves : (Taken → Taken → Bool → Replying) → Form
+  OfName : (Option (List ℕ) → Replying) → Form
+
+abbrev pub reply_of : Form → Seen → Replying
+reply_of (Plainly reply) seen = reply
+reply_of (OfLooked next) seen = looked_up seen next
+reply_of (OrHere path here next) seen = by_path path here (looked_up seen next)
+reply_of (OfLink next) seen = link_read seen next
+reply_of (OfOpening next) seen = opened seen next
+reply_of (OfTaken next) seen = taken seen next
+reply_of (OfMade next) seen = made seen next
+reply_of (OfLinks next) seen = links_told seen next
+reply_of (OfMoves next) seen = moves_told seen next
+reply_of (OfName next) seen = directory_named seen next
+
+abbrev pub form : ℕ → Request → Known → Form
+-- descriptors
+form pid (call.Dup fd) k = Plainly (dup_row k fd)
+form pid (call.Dup3 old new flags) k = Plainly (dup3_row k old new flags)
+form pid (call.Fcntl fd cmd arg) k = Plainly (fcntl_row k fd cmd arg)
+form pid (call.Ioctl fd) k = Plainly (ioctl_row k fd)
+form pid (call.Close fd) k = Plainly (close_row k fd)
+form pid (call.Pipe2 buf flags) k = Plainly (pipe2_row k buf flags)
+form pid (call.Lseek fd off whence) k = Plainly (lseek_row k fd off whence)
+-- files
+form pid (call.Read fd buf n) k = Plainly (read_row k fd buf n)
+form pid (call.Write fd buf n) k = Plainly (write_row k fd buf n)
+form pid (call.Readv fd list count) k = Plainly (readv_row k fd list count)
+form pid (call.Writev fd list count) k = Plainly (writev_row k fd list count)
+form pid (call.Ftruncate fd len) k = Plainly (ftruncate_row k fd len)
+form pid (call.Openat dirfd path flags mode) k = OfOpening (λ o. openat_row k o flags mode)
+-- names
+form pid (call.Mkdirat dirfd path mode) k = OfMade (λ m. mkdirat_row k m mode)
+form pid (call.Unlinkat dirfd path flags) k = OfTaken (λ t. unlinkat_row k t flags)
+form pid (call.Symlinkat text dirfd path) k = OfMade (λ m. symlinkat_row k m text)
+form pid (call.Linkat olddir old newdir new flags) k = OfLinks (linkat_row k)
+form pid (call.Renameat2 olddir old newdir new) k = OfMoves (renameat2_row k)
+-- attributes
+form pid (call.Faccessat dirfd path mode) k = OfLooked (λ l. faccessat_row k l mode)
+form pid (call.Fchmod fd mode) k = Plainly (fchmod_row k fd mode)
+form pid (call.Fchmodat dirfd path mode) k = OfLooked (λ l. fchmodat_row k l mode)
+form pid (call.Fchown fd uid gid) k = Plainly (fchown_row k fd uid gid)
+form pid (call.Fchownat dirfd path uid gid flags) k = OrHere path (fchownat_here k dirfd uid gid) (λ l. fchownat_row k l uid gid)
+form pid (call.Fstat fd buf) k = Plainly (fstat_row k fd buf)
+form pid (call.Newfstatat dirfd path buf flags) k = OrHere path (newfstatat_here k dirfd buf) (λ l. newfstatat_row k l buf)
+form pid (call.Readlinkat dirfd path buf size) k = OfLink (λ l text. readlinkat_row k l text buf size)
+-- directories
+form pid (call.Getdents64 fd buf n) k = Plainly (getdents64_row k fd buf n)
+form pid (call.Chdir path) k = OfLooked (λ l. chdir_row k l)
+form pid (call.Fchdir fd) k = Plainly (fchdir_row k fd)
+form pid (call.Chroot path) k = OfLooked (λ l. chroot_row k l)
+form pid (call.Getcwd buf size) k = OfName (λ name. getcwd_row name buf size)
+-- memory
+form pid (call.Brk a) k = Plainly (brk_row k a)
+form pid (call.Munmap a len) k = Plainly (munmap_row a len)
+form pid (call.Mmap a len prot flags) k = Plainly (mmap_row k a len prot flags)
+form pid (call.Mprotect a len prot) k = Plainly (mprotect_row k a len prot)
+-- processes
+form pid (call.Exit code) k = Plainly (exit_row code)
+form pid (call.ExitGroup code) k = Plainly (exit_row code)
+form pid call.SetTidAddress k = Plainly (pid_row pid)
+form pid call.RtSigaction k = Plainly signals_row
+form pid call.RtSigprocmask k = Plainly signals_row
+form pid (call.Uname buf) k = Plainly (uname_row buf)
+form pid (call.Umask m) k = Plainly (umask_row k m)
+form pid call.Getpid k = Plainly (pid_row pid)
+form pid call.Getppid k = Plainly (getppid_row k)
+form pid call.Gettid k = Plainly (pid_row pid)
+form pid (call.Clone flags sp ctid) k = Plainly (clone_row k flags sp ctid)
+form pid (call.Wait4 child status options usage) k = Plainly (wait4_row k pid child status options usage)
+form pid (call.Execve path args env) k = OfLooked (λ l. refuse ENOEXEC)
+-- identity
+form pid (call.Setregid rgid egid) k = Plainly (set_two_row k.user.gid rgid egid)
+form pid (call.Setgid gid) k = Plainly (set_row k.user.gid gid)
+form pid (call.Setreuid ruid euid) k = Plainly (set_two_row k.user.uid ruid euid)
+form pid (call.Setuid uid) k = Plainly (set_row k.user.uid uid)
+form pid (call.Setresuid ruid euid suid) k = Plainly (set_three_row k.user.uid ruid euid suid)
+form pid (call.Getresuid ruid euid suid) k = Plainly (get_three_row k.user.uid ruid euid suid)
+form pid (call.Setresgid rgid egid sgid) k = Plainly (set_three_row k.user.gid rgid egid sgid)
+form pid (call.Getresgid rgid egid sgid) k = Plainly (get_three_row k.user.gid rgid egid sgid)
+form pid (call.Getgroups size list) k = Plainly (getgroups_row k size list)
+form pid (call.Setgroups size list) k = Plainly setgroups_row
+form pid call.Getuid k = Plainly (get_row k.user.uid)
+form pid call.Geteuid k = Plainly (get_row k.user.uid)
+form pid call.Getgid k = Plainly (get_row k.user.gid)
+form pid call.Getegid k = Plainly (get_row k.user.gid)
+
+-- ---- what a request comes to. An execve has a definition of its own, beside its loader (`execution` in kr_execve). What its form here says, the
+-- error of its walk or ENOEXEC, is not the call: laws on this definition speak of the other requests, and name them by this premise
 
 abbrev pub IsNoExec : Request → Type 0
 IsNoExec (call.Execve path args env) = ⊥
 IsNoExec _ = Unit {0}
 
 abbrev pub operation : ℕ → Request → Seen → Known → Replying
--- descriptors
-operation pid (call.Dup fd) seen k = dup_row k fd
-operation pid (call.Dup3 old new flags) seen k = dup3_row k old new flags
-operation pid (call.Fcntl fd cmd arg) seen k = fcntl_row k fd cmd arg
-operation pid (call.Ioctl fd) seen k = ioctl_row k fd
-operation pid (call.Close fd) seen k = close_row k fd
-operation pid (call.Pipe2 buf flags) seen k = pipe2_row k buf flags
-operation pid (call.Lseek fd off whence) seen k = lseek_row k fd off whence
--- files
-operation pid (call.Read fd buf n) seen k = read_row k fd buf n
-operation pid (call.Write fd buf n) seen k = write_row k fd buf n
-operation pid (call.Readv fd list count) seen k = readv_row k fd list count
-operation pid (call.Writev fd list count) seen k = writev_row k fd list count
-operation pid (call.Ftruncate fd len) seen k = ftruncate_row k fd len
-operation pid (call.Openat dirfd path flags mode) seen k = opened seen (λ o. openat_row k o flags mode)
--- names
-operation pid (call.Mkdirat dirfd path mode) seen k = made seen (λ m. mkdirat_row k m mode)
-operation pid (call.Unlinkat dirfd path flags) seen k = taken seen (λ t. unlinkat_row k t flags)
-operation pid (call.Symlinkat text dirfd path) seen k = made seen (λ m. symlinkat_row k m text)
-operation pid (call.Linkat olddir old newdir new flags) seen k = linked seen k
-operation pid (call.Renameat2 olddir old newdir new) seen k = moved seen k
--- attributes
-operation pid (call.Faccessat dirfd path mode) seen k = looked_up seen (λ l. faccessat_row k l mode)
-operation pid (call.Fchmod fd mode) seen k = fchmod_row k fd mode
-operation pid (call.Fchmodat dirfd path mode) seen k = looked_up seen (λ l. fchmodat_row k l mode)
-operation pid (call.Fchown fd uid gid) seen k = fchown_row k fd uid gid
-operation pid (call.Fchownat dirfd path uid gid flags) seen k = by_path path (fchownat_here k dirfd uid gid) (looked_up seen (λ l. fchownat_row k l uid gid))
-operation pid (call.Fstat fd buf) seen k = fstat_row k fd buf
-operation pid (call.Newfstatat dirfd path buf flags) seen k = by_path path (newfstatat_here k dirfd buf) (looked_up seen (λ l. newfstatat_row k l buf))
-operation pid (call.Readlinkat dirfd path buf size) seen k = link_read seen (λ l text. readlinkat_row k l text buf size)
--- directories
-operation pid (call.Getdents64 fd buf n) seen k = getdents64_row k fd buf n
-operation pid (call.Chdir path) seen k = looked_up seen (λ l. chdir_row k l)
-operation pid (call.Fchdir fd) seen k = fchdir_row k fd
-operation pid (call.Chroot path) seen k = looked_up seen (λ l. chroot_row k l)
-operation pid (call.Getcwd buf size) seen k = directory_named seen (λ name. getcwd_row name buf size)
--- memory
-operation pid (call.Brk a) seen k = brk_row k a
-operation pid (call.Munmap a len) seen k = munmap_row a len
-operation pid (call.Mmap a len prot flags) seen k = mmap_row k a len prot flags
-operation pid (call.Mprotect a len prot) seen k = mprotect_row k a len prot
--- processes
-operation pid (call.Exit code) seen k = exit_row code
-operation pid (call.ExitGroup code) seen k = exit_row code
-operation pid call.SetTidAddress seen k = pid_row pid
-operation pid call.RtSigaction seen k = signals_row
-operation pid call.RtSigprocmask seen k = signals_row
-operation pid (call.Uname buf) seen k = uname_row buf
-operation pid (call.Umask m) seen k = umask_row k m
-operation pid call.Getpid seen k = pid_row pid
-operation pid call.Getppid seen k = getppid_row k
-operation pid call.Gettid seen k = pid_row pid
-operation pid (call.Clone flags sp ctid) seen k = clone_row k flags sp ctid
-operation pid (call.Wait4 child status options usage) seen k = wait4_row k pid child status options usage
-operation pid (call.Execve path args env) seen k = looked_up seen (λ l. refuse ENOEXEC)
--- identity
-operation pid (call.Setregid rgid egid) seen k = set_two_row k.user.gid rgid egid
-operation pid (call.Setgid gid) seen k = set_row k.user.gid gid
-operation pid (call.Setreuid ruid euid) seen k = set_two_row k.user.uid ruid euid
-operation pid (call.Setuid uid) seen k = set_row k.user.uid uid
-operation pid (call.Setresuid ruid euid suid) seen k = set_three_row k.user.uid ruid euid suid
-operation pid (call.Getresuid ruid euid suid) seen k = get_three_row k.user.uid ruid euid suid
-operation pid (call.Setresgid rgid egid sgid) seen k = set_three_row k.user.gid rgid egid sgid
-operation pid (call.Getresgid rgid egid sgid) seen k = get_three_row k.user.gid rgid egid sgid
-operation pid (call.Getgroups size list) seen k = getgroups_row k size list
-operation pid (call.Setgroups size list) seen k = setgroups_row
-operation pid call.Getuid seen k = get_row k.user.uid
-operation pid call.Geteuid seen k = get_row k.user.uid
-operation pid call.Getgid seen k = get_row k.user.gid
-operation pid call.Getegid seen k = get_row k.user.gid
+operation pid r seen k = reply_of (form pid r k) seen

@@ -7,9 +7,10 @@ use Rattle.kr_calls.specs.pr_base.declared.errno.Errno.{Errno}
 use Rattle.kr_calls.specs.pr_base.declared.errno.Errno.TheVariants.{ENOENT, EBADF, ENOTDIR}
 use Rattle.kr_calls.specs.pr_base.declared.path.Last.{Last}
 use Rattle.kr_calls.specs.pr_base.declared.path.Last.TheVariants as last
-use Rattle.kr_calls.specs.PathTable.{PathUse, path_at}
+use Rattle.kr_calls.specs.CallTable.{Told, ToldNothing, LooksAt, ReadsLinkAt, OpensAt, TakesAt, MakesAt, LinksTwo, MovesTwo, NamesHere, line}
+use Rattle.kr_calls.specs.PathTable.{path_at}
+use Rattle.kr_calls.specs.PathUses.{PathUse}
 use Rattle.kr_calls.specs.declared.request.Request.{Request}
-use Rattle.kr_calls.specs.declared.request.Request.TheVariants as call
 use Rattle.kr_files.specs.kr_tree.declared.place.Host.{Host}
 use Rattle.kr_files.specs.kr_tree.declared.place.Host.TheVariants.{Node, Proc}
 use Rattle.kr_files.specs.kr_tree.declared.place.Place.{Place}
@@ -136,23 +137,20 @@ module _ {X : Type 0} (table : List Row) (pid : ℕ) (s : State ℕ X) where
   abbrev pub looks_up : Targets → Seen
   looks_up targets = of_one targets (λ target. if_found target LooksUp)
 
+  abbrev pub told_by : Told → Targets → Seen
+  told_by ToldNothing targets = NoPath
+  told_by (LooksAt how u) targets = looks_up targets
+  told_by (ReadsLinkAt u) targets = of_one targets (λ target. if_found target (λ l. ReadsLink l (text_at l.host)))
+  told_by (OpensAt flags u) targets = of_one targets (opened_at flags)
+  told_by (TakesAt u) targets = of_one targets (λ target. TakesEntry (taken_at target))
+  told_by (MakesAt u) targets = of_one targets (λ target. MakesEntry (made_at target))
+  told_by (LinksTwo how old new) targets = of_two targets linked_at
+  told_by (MovesTwo old new) targets = of_two targets moved_at
+  told_by NamesHere targets = NamesDirectory (option_and_then (λ p. name_text (space_of table s) p 0 []) (cwd_of pid s))
+
+  -- as its line in the table says
   abbrev pub told : Request → Targets → Seen
-  told (call.Mkdirat dirfd path mode) targets = of_one targets (λ target. MakesEntry (made_at target))
-  told (call.Symlinkat text dirfd path) targets = of_one targets (λ target. MakesEntry (made_at target))
-  told (call.Unlinkat dirfd path flags) targets = of_one targets (λ target. TakesEntry (taken_at target))
-  told (call.Linkat olddir old newdir new flags) targets = of_two targets linked_at
-  told (call.Renameat2 olddir old newdir new) targets = of_two targets moved_at
-  told (call.Openat dirfd path flags mode) targets = of_one targets (opened_at flags)
-  told (call.Readlinkat dirfd path buf size) targets = of_one targets (λ target. if_found target (λ l. ReadsLink l (text_at l.host)))
-  told (call.Getcwd buf size) targets = NamesDirectory (option_and_then (λ p. name_text (space_of table s) p 0 []) (cwd_of pid s))
-  told (call.Faccessat dirfd path mode) targets = looks_up targets
-  told (call.Chdir path) targets = looks_up targets
-  told (call.Chroot path) targets = looks_up targets
-  told (call.Fchmodat dirfd path mode) targets = looks_up targets
-  told (call.Fchownat dirfd path uid gid flags) targets = looks_up targets
-  told (call.Newfstatat dirfd path buf flags) targets = looks_up targets
-  told (call.Execve path args env) targets = looks_up targets
-  told _ targets = NoPath
+  told r targets = told_by (line r).told targets
 
   abbrev pub seen_of : Request → Result Targets Errno → Seen
   seen_of r (Ok targets) = told r targets

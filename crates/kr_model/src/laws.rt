@@ -1,7 +1,7 @@
 //! Laws of the definitions, each carried by a function that does nothing.
 ghost use Rattle.kr_model.specs.Images.{ProcessesStayAlike};
 ghost use Rattle.kr_model.specs.Judged.{ChangesAreJudged, NamesStay};
-ghost use Rattle.kr_model.specs.Laws.{AllChangesAreBare, AnswersEndNobody, CallsAlike, ChangesAreBare, EndsAsTold, KnownIsBare, NoWalkAnswersEnosys, OnlyEndersEnd, PagesStayAlike, RefusalsChangeNothing, WaitsAsTold};
+ghost use Rattle.kr_model.specs.Laws.{AllChangesAreBare, AnswersEndNobody, CallsAlike, CallsKeepToTheirLines, ChangesAreBare, EndsAsTold, KnownIsBare, NoWalkAnswersEnosys, OnlyEndersEnd, OthersLeaveMemory, PagesStayAlike, RefusalsChangeNothing, WaitsAsTold};
 ghost use Rattle.kr_model.specs.Peeks.{ToldNamesAreTexts};
 
 /// What calls ask of a state is asked of its bare part alone.
@@ -27,6 +27,17 @@ pub fn calls_alike<T, U>()
 /// Memories that are equal but for marked bytes stay so when their pages change, and in a child.
 pub fn pages_stay_alike()
     ensures { PagesStayAlike }
+{}
+
+/// A call, other than execve(2), keeps to its line in the table of the calls: its changes are of the line's kinds, it waits only where the line
+/// says so, and ends its caller by the line's word; memory is never wanting by its row.
+pub fn calls_keep_to_their_lines()
+    ensures { CallsKeepToTheirLines }
+{}
+
+/// A call, other than execve(2), whose line says that it writes nothing into its caller's memory leaves all its pages.
+pub fn others_leave_memory()
+    ensures { OthersLeaveMemory }
 {}
 
 /// A call, other than execve(2), that answers an error has changed nothing and written nothing, and where it isn't told

@@ -16,6 +16,9 @@
 //! mount's source is held and named (`changes_are_bare`, `all_changes_are_bare`). Pages that are changed or born stay equal but for marked bytes
 //! (`pages_stay_alike`), and a change leaves the processes of two machines alike (`processes_stay_alike`).
 //!
+//! Each such call keeps to its line in the table of the calls (kr_calls): its changes are of the line's kinds, and it writes, waits and ends its
+//! caller only as the line says (`calls_keep_to_their_lines`, `others_leave_memory`). What it is told of its paths goes by the line too (`told`).
+//!
 //! A call that answers an error has changed nothing and written nothing, and answers ENOSYS only where it is told that of its paths
 //! (`refusals_change_nothing`), which no call is (`no_walk_answers_enosys`). A change that isn't judged to alter the shape of the tree, the bytes
 //! of files or the slots of processes leaves them as they are (`changes_are_judged`); what has a name keeps one, unless a change takes a name

@@ -2,8 +2,8 @@
 use Rattle.std.proofs.Common.{◌≡◌, ℕ, List, Option, Some, None, refl, ap, sym, ◌∙◌}
 use Rattle.std.specs.Option.{option_map, option_map_or}
 use Rattle.std.proofs.lemmas.Option.{same_Some}
+use Rattle.law_allowed.specs.kr_calls.CallTable.{Told, ToldNothing, LooksAt, ReadsLinkAt, OpensAt, TakesAt, MakesAt, LinksTwo, MovesTwo, NamesHere, line}
 use Rattle.law_allowed.specs.kr_calls.declared.request.Request.{Request}
-use Rattle.law_allowed.specs.kr_calls.declared.request.Request.TheVariants as call
 use Rattle.law_allowed.specs.kr_tree.declared.place.Place.{Place}
 use Rattle.law_allowed.specs.kr_view.View.{Row}
 use Rattle.law_allowed.specs.kr_view.declared.target.Target.{Target}
@@ -13,7 +13,7 @@ use Rattle.law_allowed.specs.kr_view.Leads.{numbered}
 use Rattle.law_allowed.specs.kr_view.Walk.{PlaceTarget}
 use Rattle.law_allowed.specs.kr_model.Seen.{Seen, NoPath}
 use Rattle.law_allowed.specs.kr_model.State.{State}
-use Rattle.law_allowed.specs.kr_model.Walks.{Targets, told, mounts_of, opened_at}
+use Rattle.law_allowed.specs.kr_model.Walks.{Targets, told, told_by, mounts_of}
 use Rattle.kr_seen.specs.CallWalks.{IsTold}
 use Rattle.kr_seen.specs.Placed.{placed}
 use Rattle.kr_perform.specs.Operating.{mounts_at, placed_targets}
@@ -37,22 +37,19 @@ two-plain f same (Some t) None = refl
 two-plain f same (Some t) (Some u) = same t u
 
 module _ {X : Type 0} (table : List Row) (pid : ℕ) (s : State ℕ X) where
+  plain-by : (w : Told) (t : Targets) → told_by table pid s w t ≡ told_by table pid s w (both_plain t)
+  plain-by ToldNothing t = refl
+  plain-by (LinksTwo how at to) t = two-plain _ (λ t u. refl) t.first t.second
+  plain-by (MovesTwo at to) t = two-plain _ (λ t u. refl) t.first t.second
+  plain-by NamesHere t = refl
+  plain-by (LooksAt how at) t = one-plain _ NoPath (λ t. refl) t.first
+  plain-by (ReadsLinkAt at) t = one-plain _ NoPath (λ t. refl) t.first
+  plain-by (OpensAt flags at) t = one-plain _ NoPath (λ t. refl) t.first
+  plain-by (TakesAt at) t = one-plain _ NoPath (λ t. refl) t.first
+  plain-by (MakesAt at) t = one-plain _ NoPath (λ t. refl) t.first
+
   pub told-plain : (r : Request) (t : Targets) → told table pid s r t ≡ told table pid s r (both_plain t)
-  told-plain (call.Openat dirfd path flags mode) t = one-plain _ NoPath (λ t. refl) t.first
-  told-plain (call.Mkdirat dirfd path mode) t = one-plain _ NoPath (λ t. refl) t.first
-  told-plain (call.Unlinkat dirfd path flags) t = one-plain _ NoPath (λ t. refl) t.first
-  told-plain (call.Symlinkat text dirfd path) t = one-plain _ NoPath (λ t. refl) t.first
-  told-plain (call.Linkat olddir old newdir new flags) t = two-plain _ (λ t u. refl) t.first t.second
-  told-plain (call.Renameat2 olddir old newdir new) t = two-plain _ (λ t u. refl) t.first t.second
-  told-plain (call.Faccessat dirfd path mode) t = one-plain _ NoPath (λ t. refl) t.first
-  told-plain (call.Fchmodat dirfd path mode) t = one-plain _ NoPath (λ t. refl) t.first
-  told-plain (call.Fchownat dirfd path uid gid flags) t = one-plain _ NoPath (λ t. refl) t.first
-  told-plain (call.Newfstatat dirfd path buf flags) t = one-plain _ NoPath (λ t. refl) t.first
-  told-plain (call.Readlinkat dirfd path buf size) t = one-plain _ NoPath (λ t. refl) t.first
-  told-plain (call.Chdir path) t = one-plain _ NoPath (λ t. refl) t.first
-  told-plain (call.Chroot path) t = one-plain _ NoPath (λ t. refl) t.first
-  told-plain (call.Execve path args env) t = one-plain _ NoPath (λ t. refl) t.first
-  told-plain _ t = refl
+  told-plain r t = plain-by (line r).told t
 
 -- ---- the targets in code
 

@@ -9,12 +9,13 @@ use Rattle.rv_cpu.specs.rv_mem.Actions.{MayUse, ReadBytes, carried_out, allows_u
 use Rattle.rv_cpu.specs.rv_mem.Memory.{Memory, after_read}
 use Rattle.rv_cpu.specs.rv_mem.Pages.{Pages, bytes_from}
 use Rattle.rv_cpu.specs.rv_mem.declared.rights.Use.TheVariants.{Read}
+use Rattle.kr_perform.specs.kr_calls.CallTable.{sigpipe}
 use Rattle.kr_perform.specs.kr_files.declared.opened.Opened.{Opened}
 use Rattle.kr_perform.specs.kr_files.declared.opened.What.{What}
 use Rattle.kr_perform.specs.kr_files.declared.opened.What.TheVariants.{File, Dir, In, Out, Err, PipeRead, PipeWrite}
 use Rattle.kr_perform.specs.kr_model.Asking.{descriptor_number, or_closed, of_number, or_badf}
 use Rattle.kr_perform.specs.kr_model.Change.{PutIntoPipe}
-use Rattle.kr_perform.specs.kr_model.FileRows.{is_dir, pipe_limit, read_pipe, read_what, read_pieces, write_pipe, put_in_file, write_file, write_what, write_pieces, sigpipe}
+use Rattle.kr_perform.specs.kr_model.FileRows.{is_dir, pipe_limit, read_pipe, read_what, read_pieces, write_pipe, put_in_file, write_file, write_what, write_pieces}
 use Rattle.kr_perform.specs.kr_model.Known.{Known}
 use Rattle.kr_perform.specs.kr_model.Pieces.{Piece, asked, cut_to, pieces_of, move_limit, read_all, if_usable, if_summed, with_list}
 use Rattle.kr_perform.specs.kr_model.ProcessRows.{wait_for}

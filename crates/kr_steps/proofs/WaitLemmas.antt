@@ -11,7 +11,7 @@ use Rattle.kr_perform.specs.kr_model.Laws.{may_wait}
 use Rattle.kr_perform.specs.kr_model.Pieces.{one_piece, with_list}
 use Rattle.kr_perform.specs.kr_model.ProcessRows.{is_meant, hangs_not}
 use Rattle.kr_perform.specs.kr_model.Seen.{Seen}
-use Rattle.kr_perform.proofs.kr_model.CleanCalls.{waits_as_told}
+use Rattle.kr_perform.proofs.kr_model.LineLemmas.{waits_as_told}
 use Rattle.kr_steps.specs.Waiting.{read_waits, write_waits}
 use Rattle.kr_steps.specs.Waits.{request_waits, ComesToWait, IsAsWhenItWaited, WaitsAreSeen, WaitsLast}
 use Rattle.kr_steps.proofs.DecodedLemmas.{decoded_waits}

@@ -12,13 +12,14 @@ use Rattle.kr_seen.specs.rv_mem.declared.rights.Use.TheVariants.{Read}
 use Rattle.kr_seen.specs.kr_tree.Tree.{Inode, Tree, Body, RegularFile, Directory, SymbolicLink, ProcessDirectory, body, body_is, bytes_of, inode, is_file}
 use Rattle.kr_seen.specs.kr_tree.Changes.{byte_limit, file_limit, has_no_room_for as tree_has_no_room_for, is_past_file, size, size_written}
 use Rattle.kr_seen.specs.kr_tree.Lawful.{AreBytes}
+use Rattle.kr_seen.specs.kr_calls.CallTable.{sigpipe}
 use Rattle.kr_seen.specs.kr_files.declared.opened.Opened.{Opened}
 use Rattle.kr_seen.specs.kr_files.declared.opened.What.{What}
 use Rattle.kr_seen.specs.kr_model.Applied.{Mounts, all_applied, applied, images}
 use Rattle.kr_seen.specs.kr_model.Change.{PutIntoPipe, Seek, WriteFile}
 use Rattle.kr_seen.specs.kr_model.Conditions.{CanWrite}
 use Rattle.kr_seen.specs.kr_model.DescriptorRows.{open_bytes}
-use Rattle.kr_seen.specs.kr_model.FileRows.{is_file_open, put_in_file, sigpipe, write_file, write_pieces, write_pipe, write_place, write_what}
+use Rattle.kr_seen.specs.kr_model.FileRows.{is_file_open, put_in_file, write_file, write_pieces, write_pipe, write_place, write_what}
 use Rattle.kr_seen.specs.kr_model.Known.{Known, known}
 use Rattle.kr_seen.specs.kr_model.Pieces as model_pieces
 use Rattle.kr_seen.specs.kr_model.Pieces.{asked, cut_to, if_usable, read_all}

@@ -6,13 +6,13 @@ use Rattle.std.specs.Option.{option_map_or}
 use Rattle.kr_hostview.specs.pr_base.declared.errno.Errno.{Errno}
 use Rattle.kr_hostview.specs.pr_base.Errno.{errno_number}
 use Rattle.kr_steps.specs.rv_mem.Actions.{CarriedOut, carried_out}
+use Rattle.kr_execve.specs.kr_calls.CallTable.{sigpipe}
 use Rattle.kr_execve.specs.kr_calls.Decoding.{decoding}
 use Rattle.kr_execve.specs.kr_calls.declared.request.Request.{Request}
 use Rattle.kr_execve.specs.kr_calls.declared.request.Request.TheVariants as call
 use Rattle.kr_execve.specs.kr_view.View.{Row, is_root_place}
 use Rattle.kr_execve.specs.kr_view.Walk.{PlaceTarget}
 use Rattle.kr_execve.specs.kr_view.declared.target.Reach.{Reach}
-use Rattle.kr_seen.specs.kr_model.FileRows.{sigpipe}
 use Rattle.kr_seen.specs.kr_model.Known.{known}
 use Rattle.kr_seen.specs.kr_model.Operation.{operation}
 use Rattle.kr_seen.specs.kr_model.Reply.{Reply}

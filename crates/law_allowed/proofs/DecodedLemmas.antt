@@ -17,7 +17,8 @@ use Rattle.law_lawful.specs.kr_calls.Arguments.{number, long, signed_long, word,
 use Rattle.law_lawful.specs.kr_calls.declared.request.Request.TheVariants as call
 use Rattle.law_lawful.specs.kr_calls.Decoding.{Decoded, unless, text_limit, named, with_text, cloexec, dup3_row, by_descriptor, by_file, by_process, by_memory, by_name, by_identity, decoding, execve_with, faccessat_with, fchmodat_with, fchownat_with, has_bad_map_flags, has_bad_open_flags, has_no_size, link_flags, linkat_with, mkdirat_with, newfstatat_with, openat_with, pages_end, readlinkat_with, remove_flags, renameat2_with, stat_flags, symlinkat_with, unlinkat_with, wait_flags, brk_row, chdir_row, chroot_row, clone_row, close_row, dup_row, execve_row, exit_group_row, exit_row, faccessat_row, fchdir_row, fchmod_row, fchmodat_row, fchown_row, fchownat_row, fcntl_row, fstat_row, ftruncate_row, getcwd_row, getdents64_row, getresgid_row, getresuid_row, ioctl_row, linkat_row, lseek_row, mkdirat_row, mmap_row, mprotect_row, munmap_row, newfstatat_row, openat_row, pipe2_row, read_row, readlinkat_row, readv_row, renameat2_row, setresgid_row, setresuid_row, symlinkat_row, uname_row, unlinkat_row, wait4_row, write_row, writev_row}
 use Rattle.law_lawful.specs.kr_calls.Texts.{read_text}
-use Rattle.law_lawful.specs.kr_calls.PathTable.{PathUse, only_at, old_and_new}
+use Rattle.law_lawful.specs.kr_calls.CallTable.{at as text_at, text_in, walked_for}
+use Rattle.law_lawful.specs.kr_calls.PathTable.{PathUse, path_from}
 use Rattle.law_lawful.specs.pr_base.declared.path.WalkMode.{WalkMode}
 use Rattle.law_lawful.specs.pr_base.declared.path.WalkMode.TheVariants.{Name as NameMode}
 use Rattle.law_lawful.specs.kr_tree.Lawful.{AreBytes}
@@ -102,11 +103,11 @@ one-use : (b : Bool) (own u : PathUse) → IsTextOfBytes own.text → cond b (So
 one-use true own u are e = subst (λ (u : PathUse). IsTextOfBytes u.text) (some_is own u e) are
 one-use false own u are e = absurd cc
 
-one-path : (register : ℕ) (dirfd : ℤ) (text : List ℕ) (mode : WalkMode) → IsTextOfBytes text → (k : ℕ) (u : PathUse) → only_at register k dirfd text mode ≡ Some u → IsTextOfBytes u.text
+one-path : (register : ℕ) (dirfd : ℤ) (text : List ℕ) (mode : WalkMode) → IsTextOfBytes text → (k : ℕ) (u : PathUse) → path_from 0 (walked_for mode (text_in register dirfd text) ∷ []) k ≡ Some u → IsTextOfBytes u.text
 one-path register dirfd text mode are k u e = one-use (k == 0) (record { dirfd = dirfd; text = text; mode = mode; register = register }) u are e
 
 two-paths : (olddir : ℤ) (old : List ℕ) (mode : WalkMode) (newdir : ℤ) (new : List ℕ) → IsTextOfBytes old → IsTextOfBytes new
-    → (k : ℕ) (u : PathUse) → old_and_new k olddir old mode newdir new ≡ Some u → IsTextOfBytes u.text
+    → (k : ℕ) (u : PathUse) → path_from 0 (walked_for mode (text_at olddir old) ∷ walked_for NameMode (text_in 13 newdir new) ∷ []) k ≡ Some u → IsTextOfBytes u.text
 two-paths olddir old mode newdir new are_old are_new k u e = by (k == 0) e
   where
     by : (b : Bool) → cond b (Some (record { dirfd = olddir; text = old; mode = mode; register = 11 })) (cond (k == 1) (Some (record { dirfd = newdir; text = new; mode = NameMode; register = 13 })) None) ≡ Some u → IsTextOfBytes u.text

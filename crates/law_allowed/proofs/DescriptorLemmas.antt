@@ -14,7 +14,7 @@ use Rattle.law_lawful.specs.kr_model.Applied.{Mounts}
 use Rattle.law_lawful.specs.kr_model.Asking.{descriptor_number}
 use Rattle.law_lawful.specs.kr_model.Change.{Change}
 use Rattle.law_lawful.specs.kr_model.Conditions.{IsOpen}
-use Rattle.law_lawful.specs.kr_model.DescriptorRows.{o_cloexec, most_pipes, open_bytes, copy_under, copy_to, dup_row, dup3_row, copy_from, fcntl_by, fcntl_row, ioctl_row, close_row, pipe_under, pipe2_row, seek_to, seek_file, seek_directory, seek_what, lseek_row}
+use Rattle.law_lawful.specs.kr_model.DescriptorRows.{o_cloexec, most_pipes, open_bytes, copy_under, copy_to, dup_row, dup3_row, copy_from, fcntl_by, fcntl_row, close_row, pipe_under, pipe2_row, seek_to, seek_file, seek_directory, seek_what, lseek_row}
 use Rattle.law_lawful.specs.kr_model.Known.{Known, known}
 use Rattle.law_lawful.specs.kr_model.State.{Image, image_layout, State, process, opened}
 use Rattle.law_lawful.specs.Laws.{CanAllBeMade}
@@ -71,9 +71,6 @@ module _ {M : Type 0} (number : M → ℕ) (table : List Row) (mounts : Mounts M
   fcntl : (fd cmd : ℤ) (arg : ℕ) → Allowed Can false (fcntl_row k fd cmd arg)
   fcntl fd cmd arg = by-open pid s fd _ (λ n o e. maybe (descriptor_number cmd) (λ c _. fcntl-by c arg n o e) unchanged)
 
-  ioctl : (fd : ℤ) → Allowed Can false (ioctl_row k fd)
-  ioctl fd = by-open pid s fd _ (λ n o e. unchanged)
-
   close : (fd : ℤ) → Allowed Can false (close_row k fd)
   close fd = by-open pid s fd _ (λ n o e. ended ((lives, open-named pid s n o e, tt), quietly refl))
 
@@ -119,7 +116,6 @@ descriptor-rows M number table mounts pid = record {
   dup = λ fd. row-allowed number table mounts pid (λ t next. Unit {0}) (λ k. dup_row k fd) (λ s l lives rests. dup number table mounts pid s lives fd);
   dup3 = λ old new flags apart. row-allowed number table mounts pid (λ t next. Unit {0}) (λ k. dup3_row k old new flags) (λ s l lives rests. dup3 number table mounts pid s lives old new flags apart);
   fcntl = λ fd cmd arg. row-allowed number table mounts pid (λ t next. Unit {0}) (λ k. fcntl_row k fd cmd arg) (λ s l lives rests. fcntl number table mounts pid s lives fd cmd arg);
-  ioctl = λ fd. row-allowed number table mounts pid (λ t next. Unit {0}) (λ k. ioctl_row k fd) (λ s l lives rests. ioctl number table mounts pid s lives fd);
   close = λ fd. row-allowed number table mounts pid (λ t next. Unit {0}) (λ k. close_row k fd) (λ s l lives rests. close number table mounts pid s lives fd);
   pipe2 = λ buf flags. row-allowed number table mounts pid (λ t next. Unit {0}) (λ k. pipe2_row k buf flags) (λ s l lives rests. pipe2 number table mounts pid s lives buf flags);
   lseek = λ fd off whence. row-allowed number table mounts pid (λ t next. Unit {0}) (λ k. lseek_row k fd off whence) (λ s l lives rests. lseek number table mounts pid s lives fd off whence);

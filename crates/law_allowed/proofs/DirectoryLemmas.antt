@@ -1,7 +1,7 @@
 -- Calls that read directories and change to them are allowed.
-use Rattle.std.proofs.Common.{◌≡◌, ℕ, ◌+◌, Bool, true, false, not, nat_lt, List, [], ◌∷◌, length, refl, sym, ap, ◌∙◌, Some, None, Option, IsSome, ℤ}
+use Rattle.std.proofs.Common.{◌≡◌, ℕ, Bool, true, false, not, List, [], ◌∷◌, refl, sym, ap, ◌∙◌, Some, None, Option, IsSome, ℤ}
 use Rattle.std.specs.Option.{option_map, option_map_or, option_and_then}
-use Rattle.law_lawful.specs.pr_base.declared.errno.Errno.TheVariants.{EPERM, ENOENT, EACCES, EFAULT, ENOTDIR, EINVAL, ERANGE}
+use Rattle.law_lawful.specs.pr_base.declared.errno.Errno.TheVariants.{ENOENT, EACCES, EFAULT, ENOTDIR, EINVAL}
 use Rattle.law_lawful.specs.kr_tree.declared.place.Host.{Host}
 use Rattle.law_lawful.specs.kr_tree.declared.place.Place.{Place}
 use Rattle.law_lawful.specs.kr_view.View.{Row}
@@ -12,7 +12,7 @@ use Rattle.law_lawful.specs.kr_model.Applied.{Mounts}
 use Rattle.law_lawful.specs.kr_model.Asking.{is_directory_host, is_searched}
 use Rattle.law_lawful.specs.kr_model.Change.{Change, OfDescriptor, ChangeDirectory}
 use Rattle.law_lawful.specs.kr_model.Conditions.{IsOpen, CanStand}
-use Rattle.law_lawful.specs.kr_model.DirectoryRows.{Listed, tell_entries, list_rest, list_host, or_zero, getdents64_row, if_entered, chdir_row, fchdir_row, chroot_row, tell_directory, getcwd_row, shown_by, behind, fitting}
+use Rattle.law_lawful.specs.kr_model.DirectoryRows.{Listed, tell_entries, list_rest, list_host, or_zero, getdents64_row, if_entered, chdir_row, fchdir_row, shown_by, behind, fitting}
 use Rattle.law_lawful.specs.kr_model.Known.{Known, known}
 use Rattle.law_lawful.specs.kr_model.Lawful.{IsLawful}
 use Rattle.law_lawful.specs.kr_model.Reply.{Replying, done, refuse}
@@ -85,20 +85,9 @@ module _ {M : Type 0} (number : M → ℕ) (table : List Row) (mounts : Mounts M
       by n o e None placed = refuses ENOTDIR
       by n o e (Some p) placed = entered p.host _ (λ directory. ended ((lives, (stands-open n o e p placed, directory), tt), quietly refl))
 
-  chroot : (looked : Looked) → Allowed Can false (chroot_row k looked)
-  chroot looked = entered looked.host _ (λ directory. refuses EPERM)
-
-  directory-told : (buf size : ℕ) (name : List ℕ) → Allowed Can false (tell_directory buf size name)
-  directory-told buf size name = either (nat_lt size (length name + 1)) (λ _. refuses ERANGE) (λ _. tested (λ b. either b (λ _. wrote unchanged) (λ _. refuses EFAULT)))
-
-  getcwd : (name : Option (List ℕ)) (buf size : ℕ) → Allowed Can false (getcwd_row name buf size)
-  getcwd name buf size = maybe name (λ name _. directory-told buf size name) (refuses ENOENT)
-
 pub directory-rows : (M : Type 0) → DirectoryRowsAreAllowed M
 directory-rows M number table mounts pid = record {
   getdents64 = λ fd buf n. row-allowed number table mounts pid HasSmallNumbers (λ k. getdents64_row k fd buf n) (λ s l lives rests. getdents64 number table mounts pid s l lives rests fd buf n);
   chdir = λ looked. row-allowed number table mounts pid (λ t next. IsLookedIn number table mounts t looked) (λ k. chdir_row k looked) (λ s l lives rests. chdir number table mounts pid s l lives looked rests);
   fchdir = λ fd. row-allowed number table mounts pid (λ t next. Unit {0}) (λ k. fchdir_row k fd) (λ s l lives rests. fchdir number table mounts pid s l lives fd);
-  chroot = λ looked. row-allowed number table mounts pid (λ t next. Unit {0}) (λ k. chroot_row k looked) (λ s l lives rests. chroot number table mounts pid s l lives looked);
-  getcwd = λ name buf size. row-allowed number table mounts pid (λ t next. Unit {0}) (λ k. getcwd_row name buf size) (λ s l lives rests. getcwd number table mounts pid s l lives name buf size);
 }

@@ -20,6 +20,7 @@ pub mod DirectoryLemmas
 pub mod AboveLemmas
 pub mod NameLemmas
 pub mod OpeningLemmas
+pub mod SilentLemmas
 pub mod OperationLemmas
 pub mod ToldLemmas
 pub mod DecodedLemmas

@@ -1,22 +1,22 @@
 -- Every call is allowed.
-use Rattle.std.proofs.Common.{ℕ, List, [], ◌∷◌, Option}
+use Rattle.std.proofs.Common.{ℕ, List, [], ◌∷◌, refl}
 use Rattle.law_lawful.specs.pr_base.declared.errno.Errno.{Errno}
-use Rattle.law_lawful.specs.pr_base.declared.errno.Errno.TheVariants.{ENOENT, ENOEXEC}
+use Rattle.law_lawful.specs.pr_base.declared.errno.Errno.TheVariants.{ENOENT}
 use Rattle.law_lawful.specs.kr_calls.declared.request.Request.{Request}
 use Rattle.law_lawful.specs.kr_calls.declared.request.Request.TheVariants as call
 use Rattle.law_lawful.specs.kr_view.View.{Row}
 use Rattle.law_lawful.specs.kr_model.Applied.{Mounts}
-use Rattle.law_lawful.specs.kr_model.AttributeRows.{faccessat_row, fchmodat_row, fchownat_row, fchownat_here, newfstatat_row, newfstatat_here, readlinkat_row}
-use Rattle.law_lawful.specs.kr_model.DirectoryRows.{chdir_row, chroot_row, getcwd_row}
+use Rattle.law_lawful.specs.kr_model.AttributeRows.{fchmodat_row, fchownat_row, fchownat_here}
+use Rattle.law_lawful.specs.kr_model.DirectoryRows.{chdir_row}
 use Rattle.law_lawful.specs.kr_model.FileRows.{openat_row}
 use Rattle.law_lawful.specs.kr_model.Known.{Known}
 use Rattle.law_lawful.specs.kr_model.NameRows.{mkdirat_row, unlinkat_row, symlinkat_row}
-use Rattle.law_lawful.specs.kr_model.Operation.{looked_up, link_read, opened, taken, made, linked, moved, directory_named, by_path, operation}
+use Rattle.law_lawful.specs.kr_model.Operation.{looked_up, opened, taken, made, linked, moved, by_path, operation}
 use Rattle.law_lawful.specs.kr_model.Reply.{Replying, refuse}
 use Rattle.law_lawful.specs.kr_model.Seen.{Seen, Looked, Opening, Taken, Made, NoPath, WalkFails, LooksUp, ReadsLink, Opens, TakesEntry, MakesEntry, Links, Moves, NamesDirectory}
 use Rattle.law_allowed.specs.Allowed.{IsAllowedWhere}
 use Rattle.law_allowed.specs.Calls.{IsGivable, RestsOn, OperationIsAllowed}
-use Rattle.law_allowed.specs.Laws.{AreDescriptorRowsAllowed, AreProcessRowsAllowed, AreIdentityRowsAllowed, AreMemoryRowsAllowed, AreFileRowsAllowed, AreAttributeRowsAllowed, AreDirectoryRowsAllowed, AreNameRowsAllowed}
+use Rattle.law_allowed.specs.Laws.{AreDescriptorRowsAllowed, AreProcessRowsAllowed, AreMemoryRowsAllowed, AreFileRowsAllowed, AreAttributeRowsAllowed, AreDirectoryRowsAllowed, AreNameRowsAllowed}
 use Rattle.law_allowed.proofs.AttributeLemmas.{attribute-rows}
 use Rattle.law_allowed.proofs.DescriptorLemmas.{descriptor-rows}
 use Rattle.law_allowed.proofs.DirectoryLemmas.{directory-rows}
@@ -24,8 +24,9 @@ use Rattle.law_allowed.proofs.FileLemmas.{file-rows}
 use Rattle.law_allowed.proofs.MemoryLemmas.{memory-rows}
 use Rattle.law_allowed.proofs.NameLemmas.{name-rows}
 use Rattle.law_allowed.proofs.OpeningLemmas.{opening-is-allowed}
-use Rattle.law_allowed.proofs.ProcessLemmas.{process-rows, identity-rows}
+use Rattle.law_allowed.proofs.ProcessLemmas.{process-rows}
 use Rattle.law_allowed.proofs.RowLemmas.{refuses, row-allowed}
+use Rattle.law_allowed.proofs.SilentLemmas.{silent-calls}
 
 module _ (M : Type 0) (number : M → ℕ) (table : List Row) (mounts : Mounts M) (pid : ℕ) where
   -- a row that rests on what a call is told
@@ -37,9 +38,6 @@ module _ (M : Type 0) (number : M → ℕ) (table : List Row) (mounts : Mounts M
 
   abbrev processes : AreProcessRowsAllowed number table mounts pid
   processes = process-rows M number table mounts pid
-
-  abbrev users : AreIdentityRowsAllowed number table mounts pid
-  users = identity-rows M number table mounts pid
 
   abbrev memories : AreMemoryRowsAllowed number table mounts pid
   memories = memory-rows M number table mounts pid
@@ -72,18 +70,6 @@ module _ (M : Type 0) (number : M → ℕ) (table : List Row) (mounts : Mounts M
   looked-up-allowed (Links old new same_mount) row allowed = refusing (Links old new same_mount) ENOENT
   looked-up-allowed (Moves old new same_mount) row allowed = refusing (Moves old new same_mount) ENOENT
   looked-up-allowed (NamesDirectory name) row allowed = refusing (NamesDirectory name) ENOENT
-
-  link-read-allowed : (seen : Seen) (row : Known → Looked → Option (List ℕ) → Replying) → ((l : Looked) (text : Option (List ℕ)) → At (ReadsLink l text) (λ k. row k l text)) → At seen (λ k. link_read seen (λ l text. row k l text))
-  link-read-allowed NoPath row allowed = refusing NoPath ENOENT
-  link-read-allowed (WalkFails e) row allowed = refusing (WalkFails e) e
-  link-read-allowed (LooksUp l) row allowed = refusing (LooksUp l) ENOENT
-  link-read-allowed (ReadsLink l text) row allowed = allowed l text
-  link-read-allowed (Opens o) row allowed = refusing (Opens o) ENOENT
-  link-read-allowed (TakesEntry t) row allowed = refusing (TakesEntry t) ENOENT
-  link-read-allowed (MakesEntry m) row allowed = refusing (MakesEntry m) ENOENT
-  link-read-allowed (Links old new same_mount) row allowed = refusing (Links old new same_mount) ENOENT
-  link-read-allowed (Moves old new same_mount) row allowed = refusing (Moves old new same_mount) ENOENT
-  link-read-allowed (NamesDirectory name) row allowed = refusing (NamesDirectory name) ENOENT
 
   opened-allowed : (seen : Seen) (row : Known → Opening → Replying) → ((o : Opening) → At (Opens o) (λ k. row k o)) → At seen (λ k. opened seen (λ o. row k o))
   opened-allowed NoPath row allowed = refusing NoPath ENOENT
@@ -121,18 +107,6 @@ module _ (M : Type 0) (number : M → ℕ) (table : List Row) (mounts : Mounts M
   made-allowed (Moves old new same_mount) row allowed = refusing (Moves old new same_mount) ENOENT
   made-allowed (NamesDirectory name) row allowed = refusing (NamesDirectory name) ENOENT
 
-  directory-named-allowed : (seen : Seen) (row : Known → Option (List ℕ) → Replying) → ((name : Option (List ℕ)) → At (NamesDirectory name) (λ k. row k name)) → At seen (λ k. directory_named seen (λ name. row k name))
-  directory-named-allowed NoPath row allowed = refusing NoPath ENOENT
-  directory-named-allowed (WalkFails e) row allowed = refusing (WalkFails e) e
-  directory-named-allowed (LooksUp l) row allowed = refusing (LooksUp l) ENOENT
-  directory-named-allowed (ReadsLink l text) row allowed = refusing (ReadsLink l text) ENOENT
-  directory-named-allowed (Opens o) row allowed = refusing (Opens o) ENOENT
-  directory-named-allowed (TakesEntry t) row allowed = refusing (TakesEntry t) ENOENT
-  directory-named-allowed (MakesEntry m) row allowed = refusing (MakesEntry m) ENOENT
-  directory-named-allowed (Links old new same_mount) row allowed = refusing (Links old new same_mount) ENOENT
-  directory-named-allowed (Moves old new same_mount) row allowed = refusing (Moves old new same_mount) ENOENT
-  directory-named-allowed (NamesDirectory name) row allowed = allowed name
-
   linked-allowed : (seen : Seen) → At seen (λ k. linked seen k)
   linked-allowed NoPath = refusing NoPath ENOENT
   linked-allowed (WalkFails e) = refusing (WalkFails e) e
@@ -167,7 +141,6 @@ module _ (M : Type 0) (number : M → ℕ) (table : List Row) (mounts : Mounts M
   each (call.Dup fd) seen given = λ s p lawful lives holds rests. descriptors.dup fd s p lawful lives holds tt
   each (call.Dup3 old new flags) seen given = λ s p lawful lives holds rests. descriptors.dup3 old new flags given s p lawful lives holds tt
   each (call.Fcntl fd cmd arg) seen given = λ s p lawful lives holds rests. descriptors.fcntl fd cmd arg s p lawful lives holds tt
-  each (call.Ioctl fd) seen given = λ s p lawful lives holds rests. descriptors.ioctl fd s p lawful lives holds tt
   each (call.Close fd) seen given = λ s p lawful lives holds rests. descriptors.close fd s p lawful lives holds tt
   each (call.Pipe2 buf flags) seen given = λ s p lawful lives holds rests. descriptors.pipe2 buf flags s p lawful lives holds tt
   each (call.Lseek fd off whence) seen given = λ s p lawful lives holds rests. descriptors.lseek fd off whence s p lawful lives holds tt
@@ -182,50 +155,24 @@ module _ (M : Type 0) (number : M → ℕ) (table : List Row) (mounts : Mounts M
   each (call.Symlinkat text dirfd path) seen given = made-allowed seen (λ k m. symlinkat_row k m text) (λ m s p lawful lives holds rests. names.symlinkat m text given.0 given.1 s p lawful lives holds rests.1)
   each (call.Linkat olddir old newdir new flags) seen given = linked-allowed seen
   each (call.Renameat2 olddir old newdir new) seen given = moved-allowed seen
-  each (call.Faccessat dirfd path mode) seen given = looked-up-allowed seen (λ k l. faccessat_row k l mode) (λ l s p lawful lives holds rests. attributes.faccessat l mode s p lawful lives holds tt)
   each (call.Fchmod fd mode) seen given = λ s p lawful lives holds rests. attributes.fchmod fd mode s p lawful lives holds tt
   each (call.Fchmodat dirfd path mode) seen given = looked-up-allowed seen (λ k l. fchmodat_row k l mode) (λ l s p lawful lives holds rests. attributes.fchmodat l mode s p lawful lives holds tt)
   each (call.Fchown fd uid gid) seen given = λ s p lawful lives holds rests. attributes.fchown fd uid gid given.0 given.1 s p lawful lives holds rests.0
   each (call.Fchownat dirfd path uid gid flags) seen given = by-path-allowed seen path (λ k. fchownat_here k dirfd uid gid) (λ k. looked_up seen (λ l. fchownat_row k l uid gid)) (λ s p lawful lives holds rests. attributes.fchownat_here dirfd uid gid given.0 given.1 s p lawful lives holds rests.0) (looked-up-allowed seen (λ k l. fchownat_row k l uid gid) (λ l s p lawful lives holds rests. attributes.fchownat l uid gid given.0 given.1 s p lawful lives holds rests.0))
-  each (call.Fstat fd buf) seen given = λ s p lawful lives holds rests. attributes.fstat fd buf s p lawful lives holds tt
-  each (call.Newfstatat dirfd path buf flags) seen given = by-path-allowed seen path (λ k. newfstatat_here k dirfd buf) (λ k. looked_up seen (λ l. newfstatat_row k l buf)) (λ s p lawful lives holds rests. attributes.newfstatat_here dirfd buf s p lawful lives holds tt) (looked-up-allowed seen (λ k l. newfstatat_row k l buf) (λ l s p lawful lives holds rests. attributes.newfstatat l buf s p lawful lives holds tt))
-  each (call.Readlinkat dirfd path buf size) seen given = link-read-allowed seen (λ k l text. readlinkat_row k l text buf size) (λ l text s p lawful lives holds rests. attributes.readlinkat l text buf size s p lawful lives holds tt)
   each (call.Getdents64 fd buf n) seen given = λ s p lawful lives holds rests. directories.getdents64 fd buf n s p lawful lives holds rests.0
   each (call.Chdir path) seen given = looked-up-allowed seen (λ k l. chdir_row k l) (λ l s p lawful lives holds rests. directories.chdir l s p lawful lives holds rests.1)
   each (call.Fchdir fd) seen given = λ s p lawful lives holds rests. directories.fchdir fd s p lawful lives holds tt
-  each (call.Chroot path) seen given = looked-up-allowed seen (λ k l. chroot_row k l) (λ l s p lawful lives holds rests. directories.chroot l s p lawful lives holds tt)
-  each (call.Getcwd buf size) seen given = directory-named-allowed seen (λ k name. getcwd_row name buf size) (λ name s p lawful lives holds rests. directories.getcwd name buf size s p lawful lives holds tt)
   each (call.Brk a) seen given = λ s p lawful lives holds rests. memories.brk a s p lawful lives holds tt
   each (call.Munmap a len) seen given = λ s p lawful lives holds rests. memories.munmap a len s p lawful lives holds tt
   each (call.Mmap a len prot flags) seen given = λ s p lawful lives holds rests. memories.mmap a len prot flags s p lawful lives holds tt
   each (call.Mprotect a len prot) seen given = λ s p lawful lives holds rests. memories.mprotect a len prot s p lawful lives holds tt
   each (call.Exit code) seen given = λ s p lawful lives holds rests. processes.exit code s p lawful lives holds tt
   each (call.ExitGroup code) seen given = λ s p lawful lives holds rests. processes.exit code s p lawful lives holds tt
-  each call.SetTidAddress seen given = λ s p lawful lives holds rests. processes.numbered s p lawful lives holds tt
-  each call.RtSigaction seen given = λ s p lawful lives holds rests. processes.signals s p lawful lives holds tt
-  each call.RtSigprocmask seen given = λ s p lawful lives holds rests. processes.signals s p lawful lives holds tt
-  each (call.Uname buf) seen given = λ s p lawful lives holds rests. processes.uname buf s p lawful lives holds tt
   each (call.Umask m) seen given = λ s p lawful lives holds rests. processes.umask m s p lawful lives holds tt
-  each call.Getpid seen given = λ s p lawful lives holds rests. processes.numbered s p lawful lives holds tt
-  each call.Getppid seen given = λ s p lawful lives holds rests. processes.parent s p lawful lives holds tt
-  each call.Gettid seen given = λ s p lawful lives holds rests. processes.numbered s p lawful lives holds tt
   each (call.Clone flags sp ctid) seen given = λ s p lawful lives holds rests. processes.clone flags sp ctid s p lawful lives holds tt
   each (call.Wait4 child status options usage) seen given = λ s p lawful lives holds rests. processes.wait4 child status options usage s p lawful lives holds tt
-  each (call.Execve path args env) seen given = looked-up-allowed seen (λ k l. refuse ENOEXEC) (λ l. refusing (LooksUp l) ENOEXEC)
-  each (call.Setregid rgid egid) seen given = λ s p lawful lives holds rests. users.set_two (λ k. k.user.gid) rgid egid s p lawful lives holds tt
-  each (call.Setgid gid) seen given = λ s p lawful lives holds rests. users.set (λ k. k.user.gid) gid s p lawful lives holds tt
-  each (call.Setreuid ruid euid) seen given = λ s p lawful lives holds rests. users.set_two (λ k. k.user.uid) ruid euid s p lawful lives holds tt
-  each (call.Setuid uid) seen given = λ s p lawful lives holds rests. users.set (λ k. k.user.uid) uid s p lawful lives holds tt
-  each (call.Setresuid ruid euid suid) seen given = λ s p lawful lives holds rests. users.set_three (λ k. k.user.uid) ruid euid suid s p lawful lives holds tt
-  each (call.Getresuid ruid euid suid) seen given = λ s p lawful lives holds rests. users.get_three (λ k. k.user.uid) ruid euid suid s p lawful lives holds tt
-  each (call.Setresgid rgid egid sgid) seen given = λ s p lawful lives holds rests. users.set_three (λ k. k.user.gid) rgid egid sgid s p lawful lives holds tt
-  each (call.Getresgid rgid egid sgid) seen given = λ s p lawful lives holds rests. users.get_three (λ k. k.user.gid) rgid egid sgid s p lawful lives holds tt
-  each (call.Getgroups size list) seen given = λ s p lawful lives holds rests. users.getgroups size list s p lawful lives holds tt
-  each (call.Setgroups size list) seen given = λ s p lawful lives holds rests. users.setgroups s p lawful lives holds tt
-  each call.Getuid seen given = λ s p lawful lives holds rests. users.get (λ k. k.user.uid) s p lawful lives holds tt
-  each call.Geteuid seen given = λ s p lawful lives holds rests. users.get (λ k. k.user.uid) s p lawful lives holds tt
-  each call.Getgid seen given = λ s p lawful lives holds rests. users.get (λ k. k.user.gid) s p lawful lives holds tt
-  each call.Getegid seen given = λ s p lawful lives holds rests. users.get (λ k. k.user.gid) s p lawful lives holds tt
+  -- all others change nothing
+  each r seen given = λ s p lawful lives holds rests. silent-calls M number table mounts pid r seen refl s p lawful lives holds tt
 
 pub operation-is-allowed : (M : Type 0) → OperationIsAllowed M
 operation-is-allowed M number table mounts pid r seen kind given = each M number table mounts pid r seen given

@@ -1,6 +1,6 @@
--- Calls on processes and on users are allowed.
+-- Calls on processes are allowed.
 use Rattle.std.specs.FinMap as map
-use Rattle.std.proofs.Common.{subst, replicate, ℕ, zero, suc, ◌+◌, ◌≤◌, ◌<◌, Bool, true, false, not, ◌&&◌, nat_lt, List, [], ◌∷◌, length, refl, sym, ap, arith, Some, None, Option, IsSome, ℤ, pos, negsuc}
+use Rattle.std.proofs.Common.{subst, replicate, ℕ, ◌+◌, ◌≤◌, ◌<◌, Bool, true, false, not, ◌&&◌, nat_lt, List, [], ◌∷◌, length, refl, sym, ap, arith, Some, None, Option, IsSome, ℤ}
 use Rattle.std.specs.Prelude.{◌==◌, nat_le}
 use Rattle.std.specs.Option.{IfSome}
 use Rattle.std.specs.Int.{to_le_bytes, w32}
@@ -12,15 +12,14 @@ use Rattle.law_lawful.specs.kr_calls.Arguments.{has}
 use Rattle.law_lawful.specs.kr_model.Applied.{Mounts}
 use Rattle.law_lawful.specs.kr_model.Change.{Change, Reap}
 use Rattle.law_lawful.specs.kr_model.Conditions.{CanFork}
-use Rattle.law_lawful.specs.kr_model.IdentityRows.{is_kept, no_number, get_row, set_row, set_two_row, set_three_row, get_three_row, getgroups_row, setgroups_row}
 use Rattle.law_lawful.specs.kr_model.Known.{Known, Caller, known, family_of}
 use Rattle.law_lawful.specs.kr_model.MemoryRows.{all_pages}
-use Rattle.law_lawful.specs.kr_model.ProcessRows.{usage_size, most_processes, is_fork, set_tid, told_born, clone_row, null_or_writable, unless_null, tell_end, reap, wait_for, wait4_row, pid_row, getppid_row, signals_row, umask_row, uname_row, exit_row}
+use Rattle.law_lawful.specs.kr_model.ProcessRows.{usage_size, most_processes, is_fork, set_tid, told_born, clone_row, null_or_writable, unless_null, tell_end, reap, wait_for, wait4_row, umask_row, exit_row}
 use Rattle.law_lawful.specs.kr_model.Reply.{Replying, done}
 use Rattle.law_lawful.specs.kr_model.State.{Image, image_layout, Process, Ended, State, process}
 use Rattle.law_lawful.specs.Laws.{CanAllBeMade}
 use Rattle.law_lawful.proofs.AfterLemmas.{some-of}
-use Rattle.law_allowed.specs.Laws.{ProcessRowsAreAllowed, IdentityRowsAreAllowed}
+use Rattle.law_allowed.specs.Laws.{ProcessRowsAreAllowed}
 use Rattle.law_allowed.proofs.KnownLemmas.{not-less, not-most, caller-is}
 use Rattle.law_allowed.specs.Lasting.{AreModest}
 use Rattle.law_allowed.proofs.RowLemmas.{quietly, Allowed, unchanged, refuses, ended, tested, wrote, either, row-allowed}
@@ -83,54 +82,11 @@ module _ {M : Type 0} (number : M → ℕ) (table : List Row) (mounts : Mounts M
   wait4 : (child : ℤ) (status : ℕ) (options : ℤ) (usage : ℕ) → Allowed Can false (wait4_row k pid child status options usage)
   wait4 child status options usage = waited _ _ status usage _
 
-  uname : (buf : ℕ) → Allowed Can false (uname_row buf)
-  uname buf = tested (λ b. either b (λ _. wrote unchanged) (λ _. unchanged))
-
-  -- ---- users and groups
-
-  set : (own id : ℕ) → Allowed Can false (set_row own id)
-  set own id = either (id == no_number) (λ _. unchanged) (λ _. either (id == own) (λ _. unchanged) (λ _. unchanged))
-
-  set-two : (own real effective : ℕ) → Allowed Can false (set_two_row own real effective)
-  set-two own real effective = either (is_kept own real && is_kept own effective) (λ _. unchanged) (λ _. unchanged)
-
-  set-three : (own real effective saved : ℕ) → Allowed Can false (set_three_row own real effective saved)
-  set-three own real effective saved = either (is_kept own real && is_kept own effective && is_kept own saved) (λ _. unchanged) (λ _. unchanged)
-
-  get-three : (own real effective saved : ℕ) → Allowed Can false (get_three_row own real effective saved)
-  get-three own real effective saved =
-      tested (λ first. tested (λ second. tested (λ third. either (first && second && third) (λ _. wrote (wrote (wrote unchanged))) (λ _. unchanged))))
-
-  getgroups : (size : ℤ) (list : ℕ) → Allowed Can false (getgroups_row k size list)
-  getgroups (pos zero) list = unchanged
-  getgroups (pos (suc n)) list = tested (λ b. either b (λ _. wrote unchanged) (λ _. unchanged))
-  getgroups (negsuc n) list = unchanged
-
 pub process-rows : (M : Type 0) → ProcessRowsAreAllowed M
 process-rows M number table mounts pid = record {
-  numbered = row-allowed number table mounts pid (λ t next. Unit {0}) (λ k. pid_row pid) (λ s l lives rests. unchanged);
-  parent = row-allowed number table mounts pid (λ t next. Unit {0}) (λ k. getppid_row k) (λ s l lives rests. unchanged);
-  signals = row-allowed number table mounts pid (λ t next. Unit {0}) (λ k. signals_row) (λ s l lives rests. unchanged);
   umask = λ m. row-allowed number table mounts pid (λ t next. Unit {0}) (λ k. umask_row k m) (λ s l lives rests. umask number table mounts pid s lives m);
-  uname = λ buf. row-allowed number table mounts pid (λ t next. Unit {0}) (λ k. uname_row buf) (λ s l lives rests. uname number table mounts pid s lives buf);
   exit = λ code. row-allowed number table mounts pid (λ t next. Unit {0}) (λ k. exit_row code) (λ s l lives rests. exit number table mounts pid s lives code);
   clone = λ flags sp ctid. row-allowed number table mounts pid (λ t next. Unit {0}) (λ k. clone_row k flags sp ctid) (λ s l lives rests. clone number table mounts pid s lives flags sp ctid);
   wait4 = λ child status options usage.
       row-allowed number table mounts pid (λ t next. Unit {0}) (λ k. wait4_row k pid child status options usage) (λ s l lives rests. wait4 number table mounts pid s lives child status options usage);
-}
-
-pub identity-rows : (M : Type 0) → IdentityRowsAreAllowed M
-identity-rows M number table mounts pid = record {
-  get = λ own. row-allowed number table mounts pid (λ t next. Unit {0}) (λ k. get_row (own k)) (λ s l lives rests. unchanged);
-  set = λ own id. row-allowed number table mounts pid (λ t next. Unit {0}) (λ k. set_row (own k) id) (λ s l lives rests. set number table mounts pid s lives (own (known image_layout pid s)) id);
-  set_two = λ own real effective.
-      row-allowed number table mounts pid (λ t next. Unit {0}) (λ k. set_two_row (own k) real effective) (λ s l lives rests. set-two number table mounts pid s lives (own (known image_layout pid s)) real effective);
-  set_three = λ own real effective saved.
-      row-allowed number table mounts pid (λ t next. Unit {0}) (λ k. set_three_row (own k) real effective saved)
-      (λ s l lives rests. set-three number table mounts pid s lives (own (known image_layout pid s)) real effective saved);
-  get_three = λ own real effective saved.
-      row-allowed number table mounts pid (λ t next. Unit {0}) (λ k. get_three_row (own k) real effective saved)
-      (λ s l lives rests. get-three number table mounts pid s lives (own (known image_layout pid s)) real effective saved);
-  getgroups = λ size list. row-allowed number table mounts pid (λ t next. Unit {0}) (λ k. getgroups_row k size list) (λ s l lives rests. getgroups number table mounts pid s lives size list);
-  setgroups = row-allowed number table mounts pid (λ t next. Unit {0}) (λ k. setgroups_row) (λ s l lives rests. unchanged);
 }

@@ -4,9 +4,9 @@ use Rattle.std.specs.Option.{option_map, option_map_or}
 use Rattle.law_lawful.specs.pr_base.Paths.{is_absolute}
 use Rattle.law_lawful.specs.pr_base.declared.errno.Errno.{Errno}
 use Rattle.law_lawful.specs.pr_base.declared.errno.Errno.TheVariants.{ENOENT, EBADF, ENOTDIR}
-use Rattle.law_lawful.specs.kr_calls.PathTable.{PathUse, path_at}
+use Rattle.law_lawful.specs.kr_calls.CallTable.{Told, TakesAt, MovesTwo, line, paths_of, walked_for}
+use Rattle.law_lawful.specs.kr_calls.PathTable.{PathUse, path_at, path_from}
 use Rattle.law_lawful.specs.kr_calls.declared.request.Request.{Request}
-use Rattle.law_lawful.specs.kr_calls.declared.request.Request.TheVariants as call
 use Rattle.law_lawful.specs.pr_base.declared.path.WalkMode.TheVariants.{Name as NameMode}
 use Rattle.std.specs.Prelude.{◌==◌}
 use Rattle.law_lawful.specs.kr_tree.Tree.{Inode, inode, is_directory}
@@ -33,7 +33,7 @@ use Rattle.law_lawful.specs.kr_model.Lawful.{IsLawful, IsOpenIn}
 use Rattle.law_lawful.specs.kr_model.ProcessDirectory.{around_of, leads_of}
 use Rattle.law_lawful.specs.kr_model.State.{Image, Process, State, process, named, opened, image_layout}
 use Rattle.law_lawful.specs.kr_model.Walks.{Targets, place_of_open, and_then, place_of_descriptor, base_of, walked, target_at, targets_of, seen_of}
-use Rattle.law_allowed.specs.Told.{IsTargetIn, IsEntryOf, HasGoodName, AreGoodTargets, AreTargetsIn, CallsWalkToTargets, WalkedCallsLeaveLawful, mounts_walked, takes_entries}
+use Rattle.law_allowed.specs.Told.{IsTargetIn, IsEntryOf, HasGoodName, AreGoodTargets, AreTargetsIn, CallsWalkToTargets, WalkedCallsLeaveLawful, mounts_walked, takes_entries, takes_of}
 use Rattle.law_allowed.proofs.OperationLemmas.{operation-is-allowed}
 use Rattle.law_allowed.proofs.ToldLemmas.{calls-leave-lawful}
 use Rattle.law_allowed.proofs.WalkLemmas.{walks-give-targets}
@@ -55,70 +55,14 @@ two-names : (a b : Bool) (old new u : PathUse) → old.mode ≡ NameMode → new
 two-names true b old new u first second e = one-name true old u first e
 two-names false b old new u first second e = one-name b new u second e
 
--- the paths of calls that take entries are walked to names
+-- the paths of entries that go or move are walked to names
+name-modes : (t : Told) (k : ℕ) (u : PathUse) → takes_of t ≡ true → path_from 0 (paths_of t) k ≡ Some u → u.mode ≡ NameMode
+name-modes (TakesAt at) k u takes e = one-name (k == 0) (walked_for NameMode at) u refl e
+name-modes (MovesTwo old new) k u takes e = two-names (k == 0) (k == 1) (walked_for NameMode old) (walked_for NameMode new) u refl refl e
+name-modes _ k u takes e = absurd cc
+
 names-alone : (r : Request) (k : ℕ) (u : PathUse) → takes_entries r ≡ true → path_at r k ≡ Some u → u.mode ≡ NameMode
-names-alone (call.Dup fd) k u takes e = absurd cc
-names-alone (call.Dup3 old new flags) k u takes e = absurd cc
-names-alone (call.Fcntl fd cmd arg) k u takes e = absurd cc
-names-alone (call.Ioctl fd) k u takes e = absurd cc
-names-alone (call.Close fd) k u takes e = absurd cc
-names-alone (call.Pipe2 buf flags) k u takes e = absurd cc
-names-alone (call.Lseek fd off whence) k u takes e = absurd cc
-names-alone (call.Read fd buf n) k u takes e = absurd cc
-names-alone (call.Write fd buf n) k u takes e = absurd cc
-names-alone (call.Readv fd list count) k u takes e = absurd cc
-names-alone (call.Writev fd list count) k u takes e = absurd cc
-names-alone (call.Ftruncate fd len) k u takes e = absurd cc
-names-alone (call.Openat dirfd path flags mode) k u takes e = absurd cc
-names-alone (call.Mkdirat dirfd path mode) k u takes e = absurd cc
-names-alone (call.Unlinkat dirfd path flags) k u takes e = one-name (k == 0) (record { dirfd = dirfd; text = path; mode = NameMode; register = 11 }) u refl e
-names-alone (call.Symlinkat text dirfd path) k u takes e = absurd cc
-names-alone (call.Linkat olddir old newdir new flags) k u takes e = absurd cc
-names-alone (call.Renameat2 olddir old newdir new) k u takes e = two-names (k == 0) (k == 1) (record { dirfd = olddir; text = old; mode = NameMode; register = 11 }) (record { dirfd = newdir; text = new; mode = NameMode; register = 13 }) u refl refl e
-names-alone (call.Faccessat dirfd path mode) k u takes e = absurd cc
-names-alone (call.Fchmod fd mode) k u takes e = absurd cc
-names-alone (call.Fchmodat dirfd path mode) k u takes e = absurd cc
-names-alone (call.Fchown fd uid gid) k u takes e = absurd cc
-names-alone (call.Fchownat dirfd path uid gid flags) k u takes e = absurd cc
-names-alone (call.Fstat fd buf) k u takes e = absurd cc
-names-alone (call.Newfstatat dirfd path buf flags) k u takes e = absurd cc
-names-alone (call.Readlinkat dirfd path buf size) k u takes e = absurd cc
-names-alone (call.Getdents64 fd buf n) k u takes e = absurd cc
-names-alone (call.Chdir path) k u takes e = absurd cc
-names-alone (call.Fchdir fd) k u takes e = absurd cc
-names-alone (call.Chroot path) k u takes e = absurd cc
-names-alone (call.Getcwd buf size) k u takes e = absurd cc
-names-alone (call.Brk a) k u takes e = absurd cc
-names-alone (call.Munmap a len) k u takes e = absurd cc
-names-alone (call.Mmap a len prot flags) k u takes e = absurd cc
-names-alone (call.Mprotect a len prot) k u takes e = absurd cc
-names-alone (call.Exit code) k u takes e = absurd cc
-names-alone (call.ExitGroup code) k u takes e = absurd cc
-names-alone call.SetTidAddress k u takes e = absurd cc
-names-alone call.RtSigaction k u takes e = absurd cc
-names-alone call.RtSigprocmask k u takes e = absurd cc
-names-alone (call.Uname buf) k u takes e = absurd cc
-names-alone (call.Umask m) k u takes e = absurd cc
-names-alone call.Getpid k u takes e = absurd cc
-names-alone call.Getppid k u takes e = absurd cc
-names-alone call.Gettid k u takes e = absurd cc
-names-alone (call.Clone flags sp ctid) k u takes e = absurd cc
-names-alone (call.Wait4 child status options usage) k u takes e = absurd cc
-names-alone (call.Execve path args env) k u takes e = absurd cc
-names-alone (call.Setregid rgid egid) k u takes e = absurd cc
-names-alone (call.Setgid gid) k u takes e = absurd cc
-names-alone (call.Setreuid ruid euid) k u takes e = absurd cc
-names-alone (call.Setuid uid) k u takes e = absurd cc
-names-alone (call.Setresuid ruid euid suid) k u takes e = absurd cc
-names-alone (call.Getresuid ruid euid suid) k u takes e = absurd cc
-names-alone (call.Setresgid rgid egid sgid) k u takes e = absurd cc
-names-alone (call.Getresgid rgid egid sgid) k u takes e = absurd cc
-names-alone (call.Getgroups size list) k u takes e = absurd cc
-names-alone (call.Setgroups size list) k u takes e = absurd cc
-names-alone call.Getuid k u takes e = absurd cc
-names-alone call.Geteuid k u takes e = absurd cc
-names-alone call.Getgid k u takes e = absurd cc
-names-alone call.Getegid k u takes e = absurd cc
+names-alone r k u takes e = name-modes (line r).told k u takes e
 
 module _ (table : List Row) (pid : ℕ) (s : State ℕ Image) (l : IsLawful (λ m. m) table s) (leads : LeadToPlaces s.tree table (leads_of table s pid)) where
   -- ---- where paths begin

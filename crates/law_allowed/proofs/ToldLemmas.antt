@@ -5,8 +5,7 @@ use Rattle.std.specs.Option.{option_map, option_map_or, option_and_then}
 use Rattle.law_lawful.specs.pr_base.declared.errno.Errno.TheVariants.{ENOENT}
 use Rattle.law_lawful.specs.pr_base.declared.path.Last.{Last}
 use Rattle.law_lawful.specs.pr_base.declared.path.Last.TheVariants as last
-use Rattle.law_lawful.specs.kr_calls.declared.request.Request.{Request}
-use Rattle.law_lawful.specs.kr_calls.declared.request.Request.TheVariants as call
+use Rattle.law_lawful.specs.kr_calls.CallTable.{Told as WayTold, ToldNothing, LooksAt, ReadsLinkAt, OpensAt, TakesAt, MakesAt, LinksTwo, MovesTwo, NamesHere, line}
 use Rattle.law_lawful.specs.kr_tree.declared.place.Place.{Place}
 use Rattle.law_lawful.proofs.kr_tree.NameLemmas.{map_some, some_is}
 use Rattle.law_lawful.specs.kr_view.View.{Row, source, is_there}
@@ -16,10 +15,10 @@ use Rattle.law_lawful.specs.kr_model.FileRows.{creates}
 use Rattle.law_lawful.specs.kr_model.Lawful.{IsNameOrNone}
 use Rattle.law_lawful.specs.kr_model.Seen.{Seen, Looked, OpensSlashed, OpensFound, OpensNew, OpensNoName, TakesCovered, Takes, TakesNoName, Makes, MakesOver, MakesNoName, NoPath, WalkFails, LooksUp, ReadsLink, Opens, Links}
 use Rattle.law_lawful.specs.kr_model.State.{Image, State, inode_of}
-use Rattle.law_lawful.specs.kr_model.Walks.{Targets, mounts_of, told, is_covered, entered, if_name, of_one, of_two, mount_found, entry_of, looked_at, if_found, taken_at, made_at, created_at, opened_at, text_at}
+use Rattle.law_lawful.specs.kr_model.Walks.{Targets, mounts_of, told, told_by, is_covered, entered, if_name, of_one, of_two, mount_found, entry_of, looked_at, if_found, taken_at, made_at, created_at, opened_at, text_at}
 use Rattle.law_allowed.specs.Calls.{IsToldIn}
 use Rattle.law_allowed.specs.Resting.{IsSeenIn, IsEntryIn, IsLookedIn, IsTakenIn, IsMadeIn, IsOpeningIn}
-use Rattle.law_allowed.specs.Told.{IsTargetIn, IsEntryOf, AreTargetsIn, SourcesAreNamed, TargetsAreTold, CallsLeaveLawful}
+use Rattle.law_allowed.specs.Told.{IsTargetIn, IsEntryOf, SourcesAreNamed, TargetsAreTold, CallsLeaveLawful, takes_of}
 use Rattle.law_allowed.proofs.OperationLemmas.{operation-is-allowed}
 
 is-none : {A B : Type 0} (f : A → B) (o : Option A) → option_map f o ≡ None → o ≡ None
@@ -158,78 +157,27 @@ module _ (table : List Row) (sources : SourcesAreNamed table) (pid : ℕ) (s : S
       by None e = tt
       by (Some old) e = behind old e targets.second refl
 
-  module _ (r : Request) (are : AreTargetsIn s.tree table r targets) where
+  module _ (first : (target : PlaceTarget) → targets.first ≡ Some target → IsTargetIn s.tree table target) (second : (target : PlaceTarget) → targets.second ≡ Some target → IsTargetIn s.tree table target) where
     looked : (next : Looked → Seen) → ((l : Looked) → LookedUp l → Told (next l)) → Told (of_one targets (λ target. if_found table pid s target next))
-    looked next each = one _ (λ target e. found-told target e (are.first target e) next (λ p f. each (looked_at table pid s target p) (looked-in target e (are.first target e) p f)))
+    looked next each = one _ (λ target e. found-told target e (first target e) next (λ p f. each (looked_at table pid s target p) (looked-in target e (first target e) p f)))
 
-  -- ---- each call
+    -- ---- each way of being told
 
-  so : (r : Request) → AreTargetsIn s.tree table r targets → Told (told table pid s r targets)
-  so (call.Dup fd) are = tt
-  so (call.Dup3 old new flags) are = tt
-  so (call.Fcntl fd cmd arg) are = tt
-  so (call.Ioctl fd) are = tt
-  so (call.Close fd) are = tt
-  so (call.Pipe2 buf flags) are = tt
-  so (call.Lseek fd off whence) are = tt
-  so (call.Read fd buf n) are = tt
-  so (call.Write fd buf n) are = tt
-  so (call.Readv fd list count) are = tt
-  so (call.Writev fd list count) are = tt
-  so (call.Ftruncate fd len) are = tt
-  so (call.Openat dirfd path flags mode) are = one _ (λ target e. opened target e (are.first target e) flags)
-  so (call.Mkdirat dirfd path mode) are = one _ (λ target e. made target (are.first target e))
-  so (call.Unlinkat dirfd path flags) are = one _ (λ target e. taken target (are.first target e) (are.first_entry refl target e))
-  so (call.Symlinkat text dirfd path) are = one _ (λ target e. made target (are.first target e))
-  so (call.Linkat olddir old newdir new flags) are = two _ (λ old new e f. found-told old e (are.first old e) (λ l. Links l (made_at table pid s new) (option_map_or (λ m. m == new.dir.mount) (mount_found old) false)) (λ p g. (looked-in old e (are.first old e) p g, made new (are.second new f))))
-  so (call.Renameat2 olddir old newdir new) are = two _ (λ old new e f. (taken old (are.first old e) (are.first_entry refl old e), taken new (are.second new f) (are.second_entry refl new f)))
-  so (call.Faccessat dirfd path mode) are = looked (call.Faccessat dirfd path mode) are LooksUp (λ l is. is)
-  so (call.Fchmod fd mode) are = tt
-  so (call.Fchmodat dirfd path mode) are = looked (call.Fchmodat dirfd path mode) are LooksUp (λ l is. is)
-  so (call.Fchown fd uid gid) are = tt
-  so (call.Fchownat dirfd path uid gid flags) are = looked (call.Fchownat dirfd path uid gid flags) are LooksUp (λ l is. is)
-  so (call.Fstat fd buf) are = tt
-  so (call.Newfstatat dirfd path buf flags) are = looked (call.Newfstatat dirfd path buf flags) are LooksUp (λ l is. is)
-  so (call.Readlinkat dirfd path buf size) are = looked (call.Readlinkat dirfd path buf size) are (λ l. ReadsLink l (text_at table pid s l.host)) (λ l is. is)
-  so (call.Getdents64 fd buf n) are = tt
-  so (call.Chdir path) are = looked (call.Chdir path) are LooksUp (λ l is. is)
-  so (call.Fchdir fd) are = tt
-  so (call.Chroot path) are = looked (call.Chroot path) are LooksUp (λ l is. is)
-  so (call.Getcwd buf size) are = tt
-  so (call.Brk a) are = tt
-  so (call.Munmap a len) are = tt
-  so (call.Mmap a len prot flags) are = tt
-  so (call.Mprotect a len prot) are = tt
-  so (call.Exit code) are = tt
-  so (call.ExitGroup code) are = tt
-  so call.SetTidAddress are = tt
-  so call.RtSigaction are = tt
-  so call.RtSigprocmask are = tt
-  so (call.Uname buf) are = tt
-  so (call.Umask m) are = tt
-  so call.Getpid are = tt
-  so call.Getppid are = tt
-  so call.Gettid are = tt
-  so (call.Clone flags sp ctid) are = tt
-  so (call.Wait4 child status options usage) are = tt
-  so (call.Execve path args env) are = looked (call.Execve path args env) are LooksUp (λ l is. is)
-  so (call.Setregid rgid egid) are = tt
-  so (call.Setgid gid) are = tt
-  so (call.Setreuid ruid euid) are = tt
-  so (call.Setuid uid) are = tt
-  so (call.Setresuid ruid euid suid) are = tt
-  so (call.Getresuid ruid euid suid) are = tt
-  so (call.Setresgid rgid egid sgid) are = tt
-  so (call.Getresgid rgid egid sgid) are = tt
-  so (call.Getgroups size list) are = tt
-  so (call.Setgroups size list) are = tt
-  so call.Getuid are = tt
-  so call.Geteuid are = tt
-  so call.Getgid are = tt
-  so call.Getegid are = tt
+    so : (t : WayTold) → (takes_of t ≡ true → (target : PlaceTarget) → targets.first ≡ Some target → IsEntryOf s.tree table target)
+        → (takes_of t ≡ true → (target : PlaceTarget) → targets.second ≡ Some target → IsEntryOf s.tree table target) → Told (told_by table pid s t targets)
+    so ToldNothing first_entry second_entry = tt
+    so (LooksAt how at) first_entry second_entry = looked LooksUp (λ l is. is)
+    so (ReadsLinkAt at) first_entry second_entry = looked (λ l. ReadsLink l (text_at table pid s l.host)) (λ l is. is)
+    so (OpensAt flags at) first_entry second_entry = one _ (λ target e. opened target e (first target e) flags)
+    so (TakesAt at) first_entry second_entry = one _ (λ target e. taken target (first target e) (first_entry refl target e))
+    so (MakesAt at) first_entry second_entry = one _ (λ target e. made target (first target e))
+    so (LinksTwo how at to) first_entry second_entry =
+        two _ (λ old new e f. found-told old e (first old e) (λ l. Links l (made_at table pid s new) (option_map_or (λ m. m == new.dir.mount) (mount_found old) false)) (λ p g. (looked-in old e (first old e) p g, made new (second new f))))
+    so (MovesTwo at to) first_entry second_entry = two _ (λ old new e f. (taken old (first old e) (first_entry refl old e), taken new (second new f) (second_entry refl new f)))
+    so NamesHere first_entry second_entry = tt
 
 pub targets-are-told : TargetsAreTold
-targets-are-told table pid s r targets sources are = so table sources pid s targets r are
+targets-are-told table pid s r targets sources are = so table sources pid s targets are.first are.second (line r).told are.first_entry are.second_entry
 
 pub calls-leave-lawful : CallsLeaveLawful
 calls-leave-lawful table pid s p r targets kind lawful lives holds small given sources are =

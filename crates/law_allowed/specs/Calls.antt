@@ -1,9 +1,11 @@
 -- Every call but execve is allowed, of what it is told of its paths and of arguments that decoding gives.
-use Rattle.std.specs.Prelude.{ℕ, ◌≡◌, ◌≢◌, ◌<◌, ◌^◌, List, Ok, Some}
+use Rattle.std.specs.Prelude.{ℕ, ◌≡◌, ◌≢◌, ◌<◌, ◌^◌, Bool, true, false, List, [], Ok, Option, Some, None}
 use Rattle.law_lawful.specs.rv_mem.Actions.{carried_out}
 use Rattle.law_lawful.specs.rv_mem.Memory.{Memory}
 use Rattle.law_lawful.specs.rv_mem.declared.regs.Regs.{Regs}
+use Rattle.law_lawful.specs.kr_calls.CallTable.{Doing, line}
 use Rattle.law_lawful.specs.kr_calls.Decoding.{decoding}
+use Rattle.law_lawful.specs.kr_calls.Kinds.{Kind}
 use Rattle.law_lawful.specs.kr_calls.PathTable.{PathUse, path_at}
 use Rattle.law_lawful.specs.kr_calls.declared.request.Request.{Request}
 use Rattle.law_lawful.specs.kr_calls.declared.request.Request.TheVariants as call
@@ -14,7 +16,7 @@ use Rattle.law_lawful.specs.kr_model.Applied.{Mounts}
 use Rattle.law_lawful.specs.kr_model.Operation.{IsNoExec, operation}
 use Rattle.law_lawful.specs.kr_model.Seen.{Seen, NoPath, WalkFails, LooksUp, ReadsLink, Opens, TakesEntry, MakesEntry, Links, Moves, NamesDirectory}
 use Rattle.law_allowed.specs.Texts.{IsText}
-use Rattle.law_allowed.specs.Allowed.{HoldsBytes, IsAllowedWhere}
+use Rattle.law_allowed.specs.Allowed.{HoldsBytes, IsAllowed, IsAllowedWhere}
 use Rattle.law_allowed.specs.Resting.{HasSmallNumbers, IsLookedIn, IsTakenIn, IsMadeIn, IsOpeningIn}
 
 -- what decoding gives of arguments: two descriptors of dup3(2) that aren't one, owners of 32 bits, and texts of links
@@ -42,6 +44,20 @@ module _ {M : Type 0} (number : M → ℕ) (table : List Row) (mounts : Mounts M
   -- all that a call rests on
   abbrev pub RestsOn : Seen → Tree → ℕ → Type 0
   RestsOn seen t next = HasSmallNumbers t next × IsToldIn t seen
+
+-- a call that changes nothing, and ends nobody
+abbrev pub changes_nothing : List Kind → Option ℕ → Bool
+changes_nothing [] None = true
+changes_nothing _ word = false
+
+abbrev pub is_silent : Doing → Bool
+is_silent does = changes_nothing does.makes does.ends_by
+
+-- one whose line in the table says so is allowed, whatever it is told
+abbrev pub SilentCallsAreAllowed : Type 0 → Type 0
+SilentCallsAreAllowed M =
+    (number : M → ℕ) (table : List Row) (mounts : Mounts M) (pid : ℕ) (r : Request) (seen : Seen) → is_silent (line r).does ≡ true
+    → IsAllowed number table mounts pid (λ k. operation pid r seen k)
 
 abbrev pub OperationIsAllowed : Type 0 → Type 0
 OperationIsAllowed M =

@@ -1,17 +1,15 @@
--- Which rows are allowed, of every machine.
-use Rattle.std.specs.Prelude.{ℕ, ◌≢◌, ◌<◌, ◌^◌, Bool, List, Option, ℤ}
+-- Which rows are allowed, of every machine: those of calls that change something. All others are silent.
+use Rattle.std.specs.Prelude.{ℕ, ◌≢◌, ◌<◌, ◌^◌, Bool, List, ℤ}
 use Rattle.law_lawful.specs.kr_tree.Lawful.{AreBytes}
 use Rattle.law_lawful.specs.kr_view.View.{Row}
 use Rattle.law_lawful.specs.kr_model.Applied.{Mounts}
-use Rattle.law_lawful.specs.kr_model.AttributeRows.{faccessat_row, fchmod_row, fchmodat_row, fchown_row, fchownat_row, fchownat_here as chown_here, fstat_row, newfstatat_row, newfstatat_here as stat_here, readlinkat_row}
-use Rattle.law_lawful.specs.kr_model.DescriptorRows.{dup_row, dup3_row, fcntl_row, ioctl_row, close_row, pipe2_row, lseek_row}
-use Rattle.law_lawful.specs.kr_model.DirectoryRows.{getdents64_row, chdir_row, fchdir_row, chroot_row, getcwd_row}
+use Rattle.law_lawful.specs.kr_model.AttributeRows.{fchmod_row, fchmodat_row, fchown_row, fchownat_row, fchownat_here as chown_here}
+use Rattle.law_lawful.specs.kr_model.DescriptorRows.{dup_row, dup3_row, fcntl_row, close_row, pipe2_row, lseek_row}
+use Rattle.law_lawful.specs.kr_model.DirectoryRows.{getdents64_row, chdir_row, fchdir_row}
 use Rattle.law_lawful.specs.kr_model.FileRows.{read_row, readv_row, write_row, writev_row, ftruncate_row, openat_row}
-use Rattle.law_lawful.specs.kr_model.IdentityRows.{get_row, set_row, set_two_row, set_three_row, get_three_row, getgroups_row, setgroups_row}
-use Rattle.law_lawful.specs.kr_model.Known.{Known}
 use Rattle.law_lawful.specs.kr_model.MemoryRows.{brk_row, mmap_row, munmap_row, mprotect_row}
 use Rattle.law_lawful.specs.kr_model.NameRows.{mkdirat_row, unlinkat_row, symlinkat_row, linkat_row, renameat2_row}
-use Rattle.law_lawful.specs.kr_model.ProcessRows.{pid_row, getppid_row, signals_row, umask_row, uname_row, exit_row, clone_row, wait4_row}
+use Rattle.law_lawful.specs.kr_model.ProcessRows.{umask_row, exit_row, clone_row, wait4_row}
 use Rattle.law_lawful.specs.kr_model.Seen.{Looked, Made, Opening, Taken}
 use Rattle.law_allowed.specs.Texts.{IsText}
 use Rattle.law_allowed.specs.Allowed.{IsAllowed, IsAllowedWhere}
@@ -23,7 +21,6 @@ pub record AreDescriptorRowsAllowed {M : Type 0} (number : M → ℕ) (table : L
   -- of two descriptors: decoding refuses one and the same
   pub dup3 : (old new : ℤ) (flags : ℕ) → old ≢ new → IsAllowed number table mounts pid (λ k. dup3_row k old new flags)
   pub fcntl : (fd cmd : ℤ) (arg : ℕ) → IsAllowed number table mounts pid (λ k. fcntl_row k fd cmd arg)
-  pub ioctl : (fd : ℤ) → IsAllowed number table mounts pid (λ k. ioctl_row k fd)
   pub close : (fd : ℤ) → IsAllowed number table mounts pid (λ k. close_row k fd)
   pub pipe2 : (buf flags : ℕ) → IsAllowed number table mounts pid (λ k. pipe2_row k buf flags)
   pub lseek : (fd off whence : ℤ) → IsAllowed number table mounts pid (λ k. lseek_row k fd off whence)
@@ -33,30 +30,13 @@ DescriptorRowsAreAllowed M = (number : M → ℕ) (table : List Row) (mounts : M
 
 -- calls on processes
 pub record AreProcessRowsAllowed {M : Type 0} (number : M → ℕ) (table : List Row) (mounts : Mounts M) (pid : ℕ) : Type 0 where
-  pub numbered : IsAllowed number table mounts pid (λ k. pid_row pid)
-  pub parent : IsAllowed number table mounts pid (λ k. getppid_row k)
-  pub signals : IsAllowed number table mounts pid (λ k. signals_row)
   pub umask : (m : ℕ) → IsAllowed number table mounts pid (λ k. umask_row k m)
-  pub uname : (buf : ℕ) → IsAllowed number table mounts pid (λ k. uname_row buf)
   pub exit : (code : ℤ) → IsAllowed number table mounts pid (λ k. exit_row code)
   pub clone : (flags sp ctid : ℕ) → IsAllowed number table mounts pid (λ k. clone_row k flags sp ctid)
   pub wait4 : (child : ℤ) (status : ℕ) (options : ℤ) (usage : ℕ) → IsAllowed number table mounts pid (λ k. wait4_row k pid child status options usage)
 
 abbrev pub ProcessRowsAreAllowed : Type 0 → Type 0
 ProcessRowsAreAllowed M = (number : M → ℕ) (table : List Row) (mounts : Mounts M) (pid : ℕ) → AreProcessRowsAllowed number table mounts pid
-
--- calls on users and groups, which change nothing. `own` is the user's number, or its group's
-pub record AreIdentityRowsAllowed {M : Type 0} (number : M → ℕ) (table : List Row) (mounts : Mounts M) (pid : ℕ) : Type 0 where
-  pub get : (own : Known → ℕ) → IsAllowed number table mounts pid (λ k. get_row (own k))
-  pub set : (own : Known → ℕ) (id : ℕ) → IsAllowed number table mounts pid (λ k. set_row (own k) id)
-  pub set_two : (own : Known → ℕ) (real effective : ℕ) → IsAllowed number table mounts pid (λ k. set_two_row (own k) real effective)
-  pub set_three : (own : Known → ℕ) (real effective saved : ℕ) → IsAllowed number table mounts pid (λ k. set_three_row (own k) real effective saved)
-  pub get_three : (own : Known → ℕ) (real effective saved : ℕ) → IsAllowed number table mounts pid (λ k. get_three_row (own k) real effective saved)
-  pub getgroups : (size : ℤ) (list : ℕ) → IsAllowed number table mounts pid (λ k. getgroups_row k size list)
-  pub setgroups : IsAllowed number table mounts pid (λ k. setgroups_row)
-
-abbrev pub IdentityRowsAreAllowed : Type 0 → Type 0
-IdentityRowsAreAllowed M = (number : M → ℕ) (table : List Row) (mounts : Mounts M) (pid : ℕ) → AreIdentityRowsAllowed number table mounts pid
 
 -- calls on the caller's pages
 pub record AreMemoryRowsAllowed {M : Type 0} (number : M → ℕ) (table : List Row) (mounts : Mounts M) (pid : ℕ) : Type 0 where
@@ -81,16 +61,11 @@ FileRowsAreAllowed M = (number : M → ℕ) (table : List Row) (mounts : Mounts 
 
 -- calls on the attributes of a file, whose owners are told in 32 bits
 pub record AreAttributeRowsAllowed {M : Type 0} (number : M → ℕ) (table : List Row) (mounts : Mounts M) (pid : ℕ) : Type 0 where
-  pub faccessat : (l : Looked) (mode : ℕ) → IsAllowed number table mounts pid (λ k. faccessat_row k l mode)
   pub fchmod : (fd : ℤ) (mode : ℕ) → IsAllowed number table mounts pid (λ k. fchmod_row k fd mode)
   pub fchmodat : (l : Looked) (mode : ℕ) → IsAllowed number table mounts pid (λ k. fchmodat_row k l mode)
   pub fchown : (fd : ℤ) (uid gid : ℕ) → uid < 2 ^ 32 → gid < 2 ^ 32 → IsAllowedWhere number table mounts pid HasSmallNumbers (λ k. fchown_row k fd uid gid)
   pub fchownat : (l : Looked) (uid gid : ℕ) → uid < 2 ^ 32 → gid < 2 ^ 32 → IsAllowedWhere number table mounts pid HasSmallNumbers (λ k. fchownat_row k l uid gid)
   pub fchownat_here : (fd : ℤ) (uid gid : ℕ) → uid < 2 ^ 32 → gid < 2 ^ 32 → IsAllowedWhere number table mounts pid HasSmallNumbers (λ k. chown_here k fd uid gid)
-  pub fstat : (fd : ℤ) (buf : ℕ) → IsAllowed number table mounts pid (λ k. fstat_row k fd buf)
-  pub newfstatat : (l : Looked) (buf : ℕ) → IsAllowed number table mounts pid (λ k. newfstatat_row k l buf)
-  pub newfstatat_here : (fd : ℤ) (buf : ℕ) → IsAllowed number table mounts pid (λ k. stat_here k fd buf)
-  pub readlinkat : (l : Looked) (text : Option (List ℕ)) (buf : ℕ) (size : ℤ) → IsAllowed number table mounts pid (λ k. readlinkat_row k l text buf size)
 
 abbrev pub AttributeRowsAreAllowed : Type 0 → Type 0
 AttributeRowsAreAllowed M = (number : M → ℕ) (table : List Row) (mounts : Mounts M) (pid : ℕ) → AreAttributeRowsAllowed number table mounts pid
@@ -100,8 +75,6 @@ pub record AreDirectoryRowsAllowed {M : Type 0} (number : M → ℕ) (table : Li
   pub getdents64 : (fd : ℤ) (buf : ℕ) (n : ℤ) → IsAllowedWhere number table mounts pid HasSmallNumbers (λ k. getdents64_row k fd buf n)
   pub chdir : (looked : Looked) → IsAllowedWhere number table mounts pid (λ t next. IsLookedIn number table mounts t looked) (λ k. chdir_row k looked)
   pub fchdir : (fd : ℤ) → IsAllowed number table mounts pid (λ k. fchdir_row k fd)
-  pub chroot : (looked : Looked) → IsAllowed number table mounts pid (λ k. chroot_row k looked)
-  pub getcwd : (name : Option (List ℕ)) (buf size : ℕ) → IsAllowed number table mounts pid (λ k. getcwd_row name buf size)
 
 abbrev pub DirectoryRowsAreAllowed : Type 0 → Type 0
 DirectoryRowsAreAllowed M = (number : M → ℕ) (table : List Row) (mounts : Mounts M) (pid : ℕ) → AreDirectoryRowsAllowed number table mounts pid

@@ -5,8 +5,8 @@ use Rattle.law_lawful.specs.pr_base.declared.path.Last.TheVariants as last
 use Rattle.law_lawful.specs.pr_base.declared.path.WalkMode.{WalkMode}
 use Rattle.law_lawful.specs.pr_base.declared.path.WalkMode.TheVariants.{Name as NameMode}
 use Rattle.law_lawful.specs.rv_mem.Actions.{carried_out}
+use Rattle.law_lawful.specs.kr_calls.CallTable.{Told as WayTold, TakesAt, MovesTwo, line}
 use Rattle.law_lawful.specs.kr_calls.declared.request.Request.{Request}
-use Rattle.law_lawful.specs.kr_calls.declared.request.Request.TheVariants as call
 use Rattle.law_lawful.specs.kr_tree.Tree.{Tree, entry, body_is, takes_names}
 use Rattle.law_lawful.specs.kr_tree.declared.place.Host.TheVariants.{Node}
 use Rattle.law_lawful.specs.kr_tree.declared.place.Place.{Place}
@@ -44,11 +44,15 @@ IsEntryOf t table target =
     (dir : ℕ) (p : Place ℕ) → target.last ≡ last.Name → target.dir.host ≡ Node dir → body_is takes_names t dir ≡ true → covered table dir target.name ≡ false → target.found ≡ Some p
     → (own : ℕ) × (p.host ≡ Node own) × (entry t dir target.name ≡ Some own)
 
--- whether a call takes entries away or moves them; its paths' last components aren't followed
+-- what is told of entries that go or move; the last components of such paths aren't followed
+abbrev pub takes_of : WayTold → Bool
+takes_of (TakesAt at) = true
+takes_of (MovesTwo old new) = true
+takes_of _ = false
+
+-- whether a call takes entries away or moves them
 abbrev pub takes_entries : Request → Bool
-takes_entries (call.Unlinkat dirfd path flags) = true
-takes_entries (call.Renameat2 olddir old newdir new) = true
-takes_entries _ = false
+takes_entries r = takes_of (line r).told
 
 pub record AreTargetsIn (t : Tree) (table : List Row) (r : Request) (targets : Targets) : Type 0 where
   pub first : (target : PlaceTarget) → targets.first ≡ Some target → IsTargetIn t table target

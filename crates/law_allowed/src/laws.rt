@@ -1,6 +1,6 @@
 //! Laws of rows that are allowed, each carried by a function that does nothing.
-ghost use Rattle.law_allowed.specs.Calls.{DecodedAreGivable, OperationIsAllowed};
-ghost use Rattle.law_allowed.specs.Laws.{AttributeRowsAreAllowed, DescriptorRowsAreAllowed, DirectoryRowsAreAllowed, FileRowsAreAllowed, IdentityRowsAreAllowed, MemoryRowsAreAllowed, NameRowsAreAllowed, OpeningIsAllowed, ProcessRowsAreAllowed};
+ghost use Rattle.law_allowed.specs.Calls.{DecodedAreGivable, OperationIsAllowed, SilentCallsAreAllowed};
+ghost use Rattle.law_allowed.specs.Laws.{AttributeRowsAreAllowed, DescriptorRowsAreAllowed, DirectoryRowsAreAllowed, FileRowsAreAllowed, MemoryRowsAreAllowed, NameRowsAreAllowed, OpeningIsAllowed, ProcessRowsAreAllowed};
 ghost use Rattle.law_allowed.specs.Told.{CallsLeaveLawful, CallsWalkToTargets, SettledAreNamed, TargetsAreTold, WalkedCallsLeaveLawful, WalksGiveTargets};
 
 /// Calls on descriptors leave a lawful state.
@@ -11,11 +11,6 @@ pub fn descriptor_rows_are_allowed<T>()
 /// Calls on processes leave a lawful state.
 pub fn process_rows_are_allowed<T>()
     ensures { ProcessRowsAreAllowed T }
-{}
-
-/// So do calls on users and groups.
-pub fn identity_rows_are_allowed<T>()
-    ensures { IdentityRowsAreAllowed T }
 {}
 
 /// So do calls on the caller's pages.
@@ -46,6 +41,11 @@ pub fn name_rows_are_allowed<T>()
 /// So does the opening of files, those that are made among them.
 pub fn opening_is_allowed<T>()
     ensures { OpeningIsAllowed T }
+{}
+
+/// A call whose line in the table says that it changes nothing and ends nobody leaves a lawful state.
+pub fn silent_calls_are_allowed<T>()
+    ensures { SilentCallsAreAllowed T }
 {}
 
 /// And so does every call but execve(2): the changes that it replies can all be made, one behind the other.

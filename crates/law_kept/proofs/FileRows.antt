@@ -2,7 +2,7 @@
 use Rattle.std.proofs.Common.{◌≡◌, ℕ, Bool, true, false, List, [], ◌∷◌, drop, refl, Option, Some, None, ℤ, cond}
 use Rattle.std.specs.Option.{option_map, option_map_or}
 use Rattle.std.specs.Prelude.{IfSome}
-use Rattle.kr_first.specs.pr_base.declared.errno.Errno.TheVariants.{EACCES, EBADF, EEXIST, EFBIG, EINVAL, EISDIR, ELOOP, EMFILE, ENOENT, ENOSPC, ENOTDIR}
+use Rattle.kr_first.specs.pr_base.declared.errno.Errno.TheVariants.{EACCES, EBADF, EEXIST, EFBIG, EISDIR, ELOOP, EMFILE, ENOENT, ENOSPC, ENOTDIR}
 use Rattle.kr_first.specs.kr_tree.Lawful.{AreBytes, IsOfBytes}
 use Rattle.kr_first.specs.kr_tree.Tree.{Body, Directory, Node, ProcessDirectory, RegularFile, SymbolicLink, bytes_of}
 use Rattle.kr_first.specs.kr_tree.declared.place.Host.{Host}
@@ -13,7 +13,7 @@ use Rattle.kr_first.specs.kr_files.declared.opened.What.{What}
 use Rattle.kr_first.specs.kr_files.declared.opened.What.TheVariants.{Dir, Err, File, In, Out, PipeRead, PipeWrite}
 use Rattle.kr_first.specs.kr_model.Change.{Change, OfFound, SetSize}
 use Rattle.kr_first.specs.kr_model.DescriptorRows.{file_bytes, open_bytes}
-use Rattle.kr_first.specs.kr_model.FileRows.{ftruncate_row, if_readable, if_writable, make_and_open, open_body, open_directory, open_file, open_found, open_host, open_new, open_under, openat_row, put_in_file, read_pieces, read_pipe, read_row, read_what, readv_row, truncates, write_file, write_pieces, write_pipe, write_row, write_what, writev_row}
+use Rattle.kr_first.specs.kr_model.FileRows.{if_readable, if_writable, make_and_open, open_body, open_directory, open_file, open_found, open_host, open_new, open_under, openat_row, put_in_file, read_pieces, read_pipe, read_row, read_what, readv_row, truncates, write_file, write_pieces, write_pipe, write_row, write_what, writev_row}
 use Rattle.kr_first.specs.kr_model.Known.{Fact, Known, known_node}
 use Rattle.kr_first.specs.kr_model.Pieces.{Piece, asked, one_piece}
 use Rattle.kr_first.specs.kr_model.Reply.{Replying, refuse}
@@ -116,9 +116,6 @@ module _ (k : Known) where
 
   pub writev-puts : (fd : ℤ) (list count : ℕ) → Puts (writev_row k fd list count)
   writev-puts fd list count = writable-open fd (λ number o. listed list count (λ pieces. pieces-written number o pieces))
-
-  pub ftruncate-puts : (fd : ℤ) (len : ℕ) → Puts (ftruncate_row k fd len)
-  ftruncate-puts fd len = by-open k fd (λ n o. either_way _ (refused EINVAL) (either_way _ (refused EFBIG) (either_way _ (refused ENOSPC) (answered refl))))
 
   -- ---- opening
 

@@ -12,6 +12,7 @@ pub mod NameLemmas
 pub mod NameRows
 pub mod OperationLemmas
 pub mod PageLemmas
+pub mod PlainLemmas
 pub mod PlainRows
 pub mod RegisterLemmas
 pub mod RowLemmas
@@ -25,5 +26,4 @@ pub mod WalkLemmas
 pub mod ImageApartLemmas
 pub mod ImageCallLemmas
 pub mod GivenLemmas
-pub mod ImageRowLemmas
 pub mod MemoryApartLemmas

@@ -1,21 +1,22 @@
 -- Every call writes bytes and brings bytes, of what it knows and is told.
 use Rattle.std.proofs.Common.{ℕ, List, [], ◌∷◌, refl, Option}
 use Rattle.std.specs.Prelude.{IfSome}
-use Rattle.kr_first.specs.pr_base.declared.errno.Errno.TheVariants.{ENOENT, ENOEXEC, EPERM}
+use Rattle.kr_first.specs.pr_base.declared.errno.Errno.TheVariants.{ENOENT}
 use Rattle.kr_first.specs.kr_calls.declared.request.Request.{Request}
 use Rattle.kr_first.specs.kr_calls.declared.request.Request.TheVariants as call
 use Rattle.kr_first.specs.kr_tree.Lawful.{AreBytes}
 use Rattle.kr_first.specs.kr_model.Known.{Known}
-use Rattle.kr_first.specs.kr_model.Operation.{by_path, directory_named, link_read, linked, looked_up, made, moved, opened, operation, taken}
+use Rattle.kr_first.specs.kr_model.Operation.{by_path, directory_named, link_read, linked, looked_up, made, moved, opened, operation}
 use Rattle.kr_first.specs.kr_model.Reply.{Replying}
-use Rattle.kr_first.specs.kr_model.Seen.{Links, Looked, LooksUp, Made, MakesEntry, Moves, NamesDirectory, Opening, Opens, ReadsLink, Seen, Taken, TakesEntry, WalkFails}
+use Rattle.kr_first.specs.kr_model.Seen.{Links, Looked, LooksUp, Made, MakesEntry, Moves, NamesDirectory, Opening, Opens, ReadsLink, Seen, WalkFails}
 use Rattle.law_kept.specs.Bringing.{KnowsBytes, MadeHasBytes, OpeningHasBytes, SeenHasBytes}
 use Rattle.law_kept.specs.Bytes.{HasByteText}
-use Rattle.law_kept.proofs.FileRows.{ftruncate-puts, openat-puts, read-puts, readv-puts, write-puts, writev-puts}
-use Rattle.law_kept.proofs.NameRows.{faccessat-puts, fchmod-puts, fchmodat-puts, fchown-puts, fchownat-here-puts, fchownat-puts, linkat-puts, mkdirat-puts, renameat2-puts, symlinkat-puts, unlinkat-puts}
-use Rattle.law_kept.proofs.PlainRows.{brk-puts, clone-puts, close-puts, dup-puts, dup3-puts, exit-puts, fcntl-puts, get-three-puts, getgroups-puts, ioctl-puts, lseek-puts, mmap-puts, mprotect-puts, munmap-puts, pipe2-puts, set-puts, set-three-puts, set-two-puts, uname-puts, wait4-puts}
-use Rattle.law_kept.proofs.RowLemmas.{Puts, answered, refused}
-use Rattle.law_kept.proofs.TellRows.{chdir-puts, chroot-puts, fchdir-puts, fstat-puts, getcwd-puts, getdents64-puts, newfstatat-here-puts, newfstatat-puts, readlinkat-puts}
+use Rattle.law_kept.proofs.FileRows.{openat-puts, read-puts, readv-puts, write-puts, writev-puts}
+use Rattle.law_kept.proofs.NameRows.{linkat-puts, mkdirat-puts, renameat2-puts, symlinkat-puts}
+use Rattle.law_kept.proofs.PlainLemmas.{plain-puts}
+use Rattle.law_kept.proofs.PlainRows.{get-three-puts, getgroups-puts, pipe2-puts, uname-puts, wait4-puts}
+use Rattle.law_kept.proofs.RowLemmas.{Puts, refused}
+use Rattle.law_kept.proofs.TellRows.{fstat-puts, getcwd-puts, getdents64-puts, newfstatat-here-puts, newfstatat-puts, readlinkat-puts}
 
 -- ---- what is told of paths, or the error of a walk
 
@@ -33,11 +34,6 @@ opened-puts : (seen : Seen) → SeenHasBytes seen → {next : Opening → Replyi
 opened-puts (Opens o) told puts = puts o told
 opened-puts (WalkFails e) told puts = refused e
 opened-puts _ told puts = refused ENOENT
-
-taken-puts : (seen : Seen) {next : Taken → Replying} → ((t : Taken) → Puts (next t)) → Puts (taken seen next)
-taken-puts (TakesEntry t) puts = puts t
-taken-puts (WalkFails e) puts = refused e
-taken-puts _ puts = refused ENOENT
 
 made-puts : (seen : Seen) → SeenHasBytes seen → {next : Made → Replying} → ((m : Made) → MadeHasBytes m → Puts (next m)) → Puts (made seen next)
 made-puts (MakesEntry m) told puts = puts m told
@@ -66,65 +62,25 @@ by-path-puts (b ∷ path) here next = next
 -- ---- each request
 
 pub operation-puts : (pid : ℕ) (r : Request) (seen : Seen) (k : Known) → KnowsBytes k → SeenHasBytes seen → HasByteText r → Puts (operation pid r seen k)
-operation-puts pid (call.Dup fd) seen k knows told gives = dup-puts k fd
-operation-puts pid (call.Dup3 old new flags) seen k knows told gives = dup3-puts k old new flags
-operation-puts pid (call.Fcntl fd cmd arg) seen k knows told gives = fcntl-puts k fd cmd arg
-operation-puts pid (call.Ioctl fd) seen k knows told gives = ioctl-puts k fd
-operation-puts pid (call.Close fd) seen k knows told gives = close-puts k fd
 operation-puts pid (call.Pipe2 buf flags) seen k knows told gives = pipe2-puts k buf flags
-operation-puts pid (call.Lseek fd off whence) seen k knows told gives = lseek-puts k fd off whence
 operation-puts pid (call.Read fd buf n) seen k knows told gives = read-puts k knows fd buf n
 operation-puts pid (call.Write fd buf n) seen k knows told gives = write-puts k fd buf n
 operation-puts pid (call.Readv fd list count) seen k knows told gives = readv-puts k knows fd list count
 operation-puts pid (call.Writev fd list count) seen k knows told gives = writev-puts k fd list count
-operation-puts pid (call.Ftruncate fd len) seen k knows told gives = ftruncate-puts k fd len
 operation-puts pid (call.Openat dirfd path flags mode) seen k knows told gives = opened-puts seen told (λ o are. openat-puts k o flags mode are)
 operation-puts pid (call.Mkdirat dirfd path mode) seen k knows told gives = made-puts seen told (λ m are. mkdirat-puts k m mode are)
-operation-puts pid (call.Unlinkat dirfd path flags) seen k knows told gives = taken-puts seen (λ t. unlinkat-puts k t flags)
 operation-puts pid (call.Symlinkat text dirfd path) seen k knows told gives = made-puts seen told (λ m are. symlinkat-puts k m text are gives)
 operation-puts pid (call.Linkat olddir old newdir new flags) seen k knows told gives = linked-puts seen told k
 operation-puts pid (call.Renameat2 olddir old newdir new) seen k knows told gives = moved-puts seen told k
-operation-puts pid (call.Faccessat dirfd path mode) seen k knows told gives = looked-up-puts seen (λ l. faccessat-puts k l mode)
-operation-puts pid (call.Fchmod fd mode) seen k knows told gives = fchmod-puts k fd mode
-operation-puts pid (call.Fchmodat dirfd path mode) seen k knows told gives = looked-up-puts seen (λ l. fchmodat-puts k l mode)
-operation-puts pid (call.Fchown fd uid gid) seen k knows told gives = fchown-puts k fd uid gid
-operation-puts pid (call.Fchownat dirfd path uid gid flags) seen k knows told gives = by-path-puts path (fchownat-here-puts k dirfd uid gid) (looked-up-puts seen (λ l. fchownat-puts k l uid gid))
 operation-puts pid (call.Fstat fd buf) seen k knows told gives = fstat-puts k fd buf
 operation-puts pid (call.Newfstatat dirfd path buf flags) seen k knows told gives = by-path-puts path (newfstatat-here-puts k dirfd buf) (looked-up-puts seen (λ l. newfstatat-puts k l buf))
 operation-puts pid (call.Readlinkat dirfd path buf size) seen k knows told gives = link-read-puts seen told (λ l text are. readlinkat-puts k knows l text buf size are)
 operation-puts pid (call.Getdents64 fd buf n) seen k knows told gives = getdents64-puts k knows fd buf n
-operation-puts pid (call.Chdir path) seen k knows told gives = looked-up-puts seen (λ l. chdir-puts k l)
-operation-puts pid (call.Fchdir fd) seen k knows told gives = fchdir-puts k fd
-operation-puts pid (call.Chroot path) seen k knows told gives = looked-up-puts seen (λ l. chroot-puts k l)
 operation-puts pid (call.Getcwd buf size) seen k knows told gives = directory-named-puts seen told (λ name are. getcwd-puts name buf size are)
-operation-puts pid (call.Brk a) seen k knows told gives = brk-puts k a
-operation-puts pid (call.Munmap a len) seen k knows told gives = munmap-puts a len
-operation-puts pid (call.Mmap a len prot flags) seen k knows told gives = mmap-puts k a len prot flags
-operation-puts pid (call.Mprotect a len prot) seen k knows told gives = mprotect-puts k a len prot
-operation-puts pid (call.Exit code) seen k knows told gives = exit-puts code
-operation-puts pid (call.ExitGroup code) seen k knows told gives = exit-puts code
-operation-puts pid call.SetTidAddress seen k knows told gives = answered refl
-operation-puts pid call.RtSigaction seen k knows told gives = answered refl
-operation-puts pid call.RtSigprocmask seen k knows told gives = answered refl
 operation-puts pid (call.Uname buf) seen k knows told gives = uname-puts buf
-operation-puts pid (call.Umask m) seen k knows told gives = answered refl
-operation-puts pid call.Getpid seen k knows told gives = answered refl
-operation-puts pid call.Getppid seen k knows told gives = answered refl
-operation-puts pid call.Gettid seen k knows told gives = answered refl
-operation-puts pid (call.Clone flags sp ctid) seen k knows told gives = clone-puts k flags sp ctid
 operation-puts pid (call.Wait4 child status options usage) seen k knows told gives = wait4-puts k pid child status options usage
-operation-puts pid (call.Execve path args env) seen k knows told gives = looked-up-puts seen (λ l. refused ENOEXEC)
-operation-puts pid (call.Setregid rgid egid) seen k knows told gives = set-two-puts k.user.gid rgid egid
-operation-puts pid (call.Setgid gid) seen k knows told gives = set-puts k.user.gid gid
-operation-puts pid (call.Setreuid ruid euid) seen k knows told gives = set-two-puts k.user.uid ruid euid
-operation-puts pid (call.Setuid uid) seen k knows told gives = set-puts k.user.uid uid
-operation-puts pid (call.Setresuid ruid euid suid) seen k knows told gives = set-three-puts k.user.uid ruid euid suid
 operation-puts pid (call.Getresuid ruid euid suid) seen k knows told gives = get-three-puts k.user.uid ruid euid suid
-operation-puts pid (call.Setresgid rgid egid sgid) seen k knows told gives = set-three-puts k.user.gid rgid egid sgid
 operation-puts pid (call.Getresgid rgid egid sgid) seen k knows told gives = get-three-puts k.user.gid rgid egid sgid
 operation-puts pid (call.Getgroups size list) seen k knows told gives = getgroups-puts k size list
-operation-puts pid (call.Setgroups size list) seen k knows told gives = refused EPERM
-operation-puts pid call.Getuid seen k knows told gives = answered refl
-operation-puts pid call.Geteuid seen k knows told gives = answered refl
-operation-puts pid call.Getgid seen k knows told gives = answered refl
-operation-puts pid call.Getegid seen k knows told gives = answered refl
+-- all others write nothing, and make plain changes
+operation-puts pid r seen k knows told gives = plain-puts pid r seen k refl refl

@@ -7,9 +7,9 @@ use Rattle.kr_first.specs.pr_base.declared.errno.Errno.{Errno}
 use Rattle.kr_first.specs.pr_base.declared.errno.Errno.TheVariants.{ENOENT}
 use Rattle.kr_first.specs.pr_base.declared.path.Last.{Last}
 use Rattle.kr_first.specs.pr_base.declared.path.Last.TheVariants as last
+use Rattle.kr_first.specs.kr_calls.CallTable.{Told, ToldNothing, LooksAt, ReadsLinkAt, OpensAt, TakesAt, MakesAt, LinksTwo, MovesTwo, NamesHere, line}
 use Rattle.kr_first.specs.kr_calls.PathTable.{PathUse, path_at}
 use Rattle.kr_first.specs.kr_calls.declared.request.Request.{Request}
-use Rattle.kr_first.specs.kr_calls.declared.request.Request.TheVariants as call
 use Rattle.kr_first.specs.kr_tree.Lawful.{AreBytes, IsOfBytes}
 use Rattle.kr_first.specs.kr_tree.Tree.{Inode, inode}
 use Rattle.kr_first.proofs.kr_tree.NameLemmas.{some_is}
@@ -36,7 +36,7 @@ use Rattle.kr_first.specs.kr_model.Known.{Fact, known}
 use Rattle.kr_first.specs.kr_model.ProcessDirectory.{around_of, jump_to, lead_of_open, leads_of, link_text, name_text, open_text, remembered, space_of, unplaced_text}
 use Rattle.kr_first.specs.kr_model.Seen.{Links, Looked, LooksUp, Makes, MakesEntry, MakesNoName, MakesOver, NoPath, Opens, OpensFound, OpensNew, OpensNoName, OpensSlashed, ReadsLink, Seen, Takes, TakesCovered, TakesEntry, TakesNoName, WalkFails}
 use Rattle.kr_first.specs.kr_model.State.{Image, Process, State, image_layout, inode_of, named, opened, process}
-use Rattle.kr_first.specs.kr_model.Walks.{Targets, and_then, base_of, created_at, entered, entry_of, if_found, if_name, is_covered, linked_at, looked_at, looks_up, made_at, mount_found, moved_at, of_one, of_two, opened_at, seen, seen_of, taken_at, target_at, targets_of, text_at, told, walked}
+use Rattle.kr_first.specs.kr_model.Walks.{Targets, and_then, base_of, created_at, entered, entry_of, if_found, if_name, is_covered, linked_at, looked_at, looks_up, made_at, mount_found, moved_at, of_one, of_two, opened_at, seen, seen_of, taken_at, target_at, targets_of, text_at, told_by, walked}
 use Rattle.kr_first.proofs.kr_perform.AroundLemmas.{both}
 use Rattle.law_kept.specs.Bringing.{KnowsBytes, LookedHasBytes, MadeHasBytes, OpeningHasBytes, SeenHasBytes, TakenHasBytes}
 use Rattle.law_kept.specs.Bytes.{GivesBytes, HasBytes, TableHasBytes}
@@ -289,24 +289,18 @@ module _ (table : List Row) (are : TableHasBytes table) (pid : ℕ) (s : State �
       by None = tt
       by (Some p) = name-bytes p 0 [] tt
 
-  told-bytes : (r : Request) (targets : Targets) → AreTargetsOfBytes targets → SeenHasBytes (told table pid s r targets)
-  told-bytes (call.Mkdirat dirfd path mode) targets named = one-told targets (λ w. MakesEntry (made_at table pid s w)) named made-bytes
-  told-bytes (call.Symlinkat text dirfd path) targets named = one-told targets (λ w. MakesEntry (made_at table pid s w)) named made-bytes
-  told-bytes (call.Unlinkat dirfd path flags) targets named = one-told targets (λ w. TakesEntry (taken_at table pid s w)) named (λ w own. tt)
-  told-bytes (call.Linkat olddir old newdir new flags) targets named = two-told targets (linked_at table pid s) named linked-bytes
-  told-bytes (call.Renameat2 olddir old newdir new) targets named = two-told targets (moved_at table pid s) named (λ old new first second. taken-bytes new second)
-  told-bytes (call.Openat dirfd path flags mode) targets named = one-told targets (opened_at table pid s flags) named (opened-bytes flags)
-  told-bytes (call.Readlinkat dirfd path buf size) targets named =
+  -- each way of being told
+  told-by-bytes : (t : Told) (targets : Targets) → AreTargetsOfBytes targets → SeenHasBytes (told_by table pid s t targets)
+  told-by-bytes ToldNothing targets named = tt
+  told-by-bytes (LooksAt how at) targets named = looks-told targets named
+  told-by-bytes (ReadsLinkAt at) targets named =
       one-told targets (λ w. if_found table pid s w (λ l. ReadsLink l (text_at table pid s l.host))) named (λ w own. found-told w (λ l. ReadsLink l (text_at table pid s l.host)) own (λ l is. text-at-bytes l.host))
-  told-bytes (call.Getcwd buf size) targets named = directory-bytes
-  told-bytes (call.Faccessat dirfd path mode) targets named = looks-told targets named
-  told-bytes (call.Chdir path) targets named = looks-told targets named
-  told-bytes (call.Chroot path) targets named = looks-told targets named
-  told-bytes (call.Fchmodat dirfd path mode) targets named = looks-told targets named
-  told-bytes (call.Fchownat dirfd path uid gid flags) targets named = looks-told targets named
-  told-bytes (call.Newfstatat dirfd path buf flags) targets named = looks-told targets named
-  told-bytes (call.Execve path args env) targets named = looks-told targets named
-  told-bytes _ targets named = tt
+  told-by-bytes (OpensAt flags at) targets named = one-told targets (opened_at table pid s flags) named (opened-bytes flags)
+  told-by-bytes (TakesAt at) targets named = one-told targets (λ w. TakesEntry (taken_at table pid s w)) named (λ w own. tt)
+  told-by-bytes (MakesAt at) targets named = one-told targets (λ w. MakesEntry (made_at table pid s w)) named made-bytes
+  told-by-bytes (LinksTwo how old new) targets named = two-told targets (linked_at table pid s) named linked-bytes
+  told-by-bytes (MovesTwo old new) targets named = two-told targets (moved_at table pid s) named (λ old new first second. taken-bytes new second)
+  told-by-bytes NamesHere targets named = directory-bytes
 
   -- ---- what a call is told
 
@@ -315,4 +309,4 @@ module _ (table : List Row) (are : TableHasBytes table) (pid : ℕ) (s : State �
     where
       by : (o : Result Targets Errno) → targets_of table pid s r ≡ o → SeenHasBytes (seen_of table pid s r o)
       by (Err e) is = tt
-      by (Ok targets) is = told-bytes r targets (targets-named r targets gives is)
+      by (Ok targets) is = told-by-bytes (line r).told targets (targets-named r targets gives is)

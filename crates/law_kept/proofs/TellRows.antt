@@ -4,7 +4,7 @@ use Rattle.std.specs.Prelude.{◌==◌, IfSome, codes, map as map_list, nat_le, 
 use Rattle.std.specs.Int.{to_le_bytes, w16, w32, w64}
 use Rattle.std.specs.List.{AllByRecursion, find}
 use Rattle.std.specs.Option.{option_map_or}
-use Rattle.kr_first.specs.pr_base.declared.errno.Errno.TheVariants.{EACCES, EBADF, EFAULT, EINVAL, ENOENT, ENOTDIR, EPERM, ERANGE}
+use Rattle.kr_first.specs.pr_base.declared.errno.Errno.TheVariants.{EBADF, EFAULT, EINVAL, ENOENT, ENOTDIR, ERANGE}
 use Rattle.kr_first.specs.kr_calls.DirectoryEntries.{entry_bytes, head_size, record_length}
 use Rattle.kr_first.specs.kr_calls.Stats.{laid, stat_fields, stat_layout}
 use Rattle.kr_first.specs.kr_calls.declared.stat.Stat.{Stat}
@@ -20,9 +20,9 @@ use Rattle.kr_first.specs.kr_files.declared.opened.What.{What}
 use Rattle.kr_first.specs.kr_files.declared.opened.What.TheVariants.{Dir as DirOpen, Err, File, In, Out, PipeRead, PipeWrite}
 use Rattle.kr_first.specs.kr_model.Asking.{is_over}
 use Rattle.kr_first.specs.kr_model.AttributeRows.{console_stat, fstat_row, newfstatat_here, newfstatat_row, node_stat, pipe_stat, process_stat, readlink_body, readlink_host, readlinkat_row, stat_host, stat_unplaced, tell_stat, tell_text}
-use Rattle.kr_first.specs.kr_model.DirectoryRows.{Listed, behind, chdir_row, chroot_row, fchdir_row, fitting, getcwd_row, getdents64_row, if_entered, kind_of_body, list_host, list_rest, listed_bytes, listed_entry, listed_process, of_descriptors, of_process, of_processes, shown_by, shown_by_body, shown_by_process, tell_directory, tell_entries, with_dots}
+use Rattle.kr_first.specs.kr_model.DirectoryRows.{Listed, behind, fitting, getcwd_row, getdents64_row, kind_of_body, list_host, list_rest, listed_bytes, listed_entry, listed_process, of_descriptors, of_process, of_processes, shown_by, shown_by_body, shown_by_process, tell_directory, tell_entries, with_dots}
 use Rattle.kr_first.specs.kr_model.Known.{Family, Known, known_node}
-use Rattle.kr_first.specs.kr_model.Reply.{Replying, refuse}
+use Rattle.kr_first.specs.kr_model.Reply.{refuse}
 use Rattle.kr_first.specs.kr_model.Seen.{Looked}
 use Rattle.law_kept.specs.Bringing.{KnowsBytes}
 use Rattle.law_kept.proofs.ActionLemmas.{either_way}
@@ -224,19 +224,7 @@ module _ (k : Known) where
   pub newfstatat-here-puts : (fd : ℤ) (buf : ℕ) → Puts (newfstatat_here k fd buf)
   newfstatat-here-puts fd buf = either_way _ (host-told buf k.caller.cwd) (fstat-puts fd buf)
 
-  -- ---- the working directory
-
-  entered : (h : Host) {next : Replying} → Puts next → Puts (if_entered k h next)
-  entered h puts = either_way _ (refused ENOTDIR) (either_way _ (refused EACCES) puts)
-
-  pub chdir-puts : (l : Looked) → Puts (chdir_row k l)
-  chdir-puts l = entered l.host (answered refl)
-
-  pub fchdir-puts : (fd : ℤ) → Puts (fchdir_row k fd)
-  fchdir-puts fd = by-open k fd (λ n o. maybe o.place (λ p is. entered p.host (answered refl)) (refused ENOTDIR))
-
-  pub chroot-puts : (l : Looked) → Puts (chroot_row k l)
-  chroot-puts l = entered l.host (refused EPERM)
+-- ---- the working directory
 
 directory-told : (buf size : ℕ) (name : List ℕ) → AreBytes name → Puts (tell_directory buf size name)
 directory-told buf size name are = either_way _ (refused ERANGE) (written buf (name ++ 0 ∷ []) (joined name (0 ∷ []) are (omega arith, tt)) (refused EFAULT) (answered refl))

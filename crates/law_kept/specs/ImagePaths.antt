@@ -2,6 +2,7 @@
 use Rattle.std.specs.Prelude.{◌≡◌, ℕ, ℤ, Bool, true, false, Some}
 use Rattle.kr_first.specs.rv_mem.Actions.{carried_out}
 use Rattle.kr_first.specs.rv_mem.Memory.{Memory}
+use Rattle.kr_first.specs.kr_calls.CallTable.{Told, ToldNothing, line}
 use Rattle.kr_first.specs.kr_calls.PathTable.{PathUse, path_at}
 use Rattle.kr_first.specs.kr_calls.declared.request.Request.{Request}
 use Rattle.kr_first.specs.kr_calls.declared.request.Request.TheVariants as call
@@ -11,23 +12,15 @@ use Rattle.kr_first.specs.kr_model.Operation.{operation}
 use Rattle.kr_first.specs.kr_model.Seen.{Seen}
 use Rattle.law_kept.specs.ImagesApart.{leave_images}
 
--- the calls that are told of paths, but for execve(2): getcwd(2) is told of that of the working directory
+-- whether a way of being told tells of paths: getcwd(2) is told of that of the working directory
+abbrev pub tells_paths : Told → Bool
+tells_paths ToldNothing = false
+tells_paths _ = true
+
+-- the calls that are told of paths, as their lines in the table say, but for execve(2)
 abbrev pub is_told_of_paths : Request → Bool
-is_told_of_paths (call.Openat dirfd path flags mode) = true
-is_told_of_paths (call.Mkdirat dirfd path mode) = true
-is_told_of_paths (call.Unlinkat dirfd path flags) = true
-is_told_of_paths (call.Symlinkat text dirfd path) = true
-is_told_of_paths (call.Linkat olddir old newdir new flags) = true
-is_told_of_paths (call.Renameat2 olddir old newdir new) = true
-is_told_of_paths (call.Faccessat dirfd path mode) = true
-is_told_of_paths (call.Fchmodat dirfd path mode) = true
-is_told_of_paths (call.Fchownat dirfd path uid gid flags) = true
-is_told_of_paths (call.Newfstatat dirfd path buf flags) = true
-is_told_of_paths (call.Readlinkat dirfd path buf size) = true
-is_told_of_paths (call.Chdir path) = true
-is_told_of_paths (call.Chroot path) = true
-is_told_of_paths (call.Getcwd buf size) = true
-is_told_of_paths _ = false
+is_told_of_paths (call.Execve path args env) = false
+is_told_of_paths r = tells_paths (line r).told
 
 abbrev pub starts_program : Request → Bool
 starts_program (call.Execve path args env) = true

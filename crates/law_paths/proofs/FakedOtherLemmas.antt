@@ -4,6 +4,7 @@ use Rattle.std.specs.Prelude.{IsSome}
 use Rattle.law_plans.specs.pr_base.declared.path.WalkMode.TheVariants.{Look}
 use Rattle.pt_args.specs.Laws.{ShelvesHoldTheirItems, TextsAreReadBack}
 use Rattle.law_plans.specs.kr_view.View.{Row, plain}
+use Rattle.pt_args.specs.kr_calls.CallTable.{Told, ToldNothing, line}
 use Rattle.pt_args.specs.kr_calls.PathTable.{PathUse, working_directory}
 use Rattle.pt_args.specs.kr_calls.declared.request.Request.{Request}
 use Rattle.pt_args.specs.kr_calls.declared.request.Request.TheVariants as call
@@ -17,10 +18,10 @@ use Rattle.law_plans.specs.pt_faker.Stopping.{decoded_at}
 use Rattle.law_plans.specs.pt_tracer.Planning.{led_of, texts_at}
 use Rattle.law_plans.specs.pt_tracer.Watched.{Tracing, tracer}
 use Rattle.law_plans.specs.pt_tracer.Watched as watched
-use Rattle.law_stops.specs.law_kept.ImagePaths.{is_told_of_paths}
+use Rattle.law_stops.specs.law_kept.ImagePaths.{is_told_of_paths, tells_paths}
 use Rattle.law_stops.proofs.law_turns.CallLemmas.{by_request}
 use Rattle.law_stops.proofs.law_turns.RunLemmas.{lives_too}
-use Rattle.law_stops.specs.law_turns.PathCalls.{HasPath}
+use Rattle.law_stops.specs.law_turns.PathCalls.{HasPath, TellsPath}
 use Rattle.law_stops.proofs.law_turns.RuleLemmas.{no_exec}
 use Rattle.law_stops.proofs.CallLemmas as before
 use Rattle.law_paths.specs.Calls.{Answered, Cancelled, MadeAlike, Passed, Swapped, asks_no_execve, executes_nothing}
@@ -36,22 +37,13 @@ use Rattle.law_stops.proofs.WholeLemmas.{all_calls_go_together}
 use Rattle.law_paths.specs.FakedCalls.{OtherFakedCallsGoTogether}
 use Rattle.law_paths.proofs.RootLemmas.{root_known}
 
+tells_path : (t : Told) → tells_paths t ≡ true → TellsPath t
+tells_path ToldNothing told = absurd cc
+tells_path _ told = tt
+
 has_path : (r : Request) → is_told_of_paths r ≡ true → HasPath r
-has_path (call.Openat dirfd path flags mode) told = tt
-has_path (call.Mkdirat dirfd path mode) told = tt
-has_path (call.Unlinkat dirfd path flags) told = tt
-has_path (call.Symlinkat text dirfd path) told = tt
-has_path (call.Linkat olddir old newdir new flags) told = tt
-has_path (call.Renameat2 olddir old newdir new) told = tt
-has_path (call.Faccessat dirfd path mode) told = tt
-has_path (call.Fchmodat dirfd path mode) told = tt
-has_path (call.Fchownat dirfd path uid gid flags) told = tt
-has_path (call.Newfstatat dirfd path buf flags) told = tt
-has_path (call.Readlinkat dirfd path buf size) told = tt
-has_path (call.Chdir path) told = tt
-has_path (call.Chroot path) told = tt
-has_path (call.Getcwd buf size) told = tt
-has_path _ told = absurd cc
+has_path (call.Execve path args env) told = absurd cc
+has_path r told = tells_path (line r).told told
 
 module _ (back : TextsAreReadBack) (shelves : ShelvesHoldTheirItems) (table : List Row) (made pid : ℕ) (m : Machine Faking) (n : Machine Tracing) (c : ComeToFakedCall table made pid m n) where
   module _ (p q : Process ℕ Image) (lives : process pid m.state ≡ Some p) (also : process pid n.state ≡ Some q) (calm : (watched_call unwatched 1 table pid m).tally.broken ≡ None) where

@@ -122,16 +122,9 @@ module _ (table : List Row) (tags : TagTable) (s w : State ℕ Image) (pid : ℕ
   pub notes_agree : (r : Request) (value : ℤ) → HasPath r → outcome_of r ≡ Answer value → SameNote r value
   notes_agree (call.Openat dirfd path flags mode) value kind outcome = open_noted dirfd path flags mode value outcome
   notes_agree (call.Chdir path) value kind outcome = enter_noted path value outcome
-  notes_agree (call.Mkdirat dirfd path mode) value kind outcome = silently (call.Mkdirat dirfd path mode) value (λ index other o. refl)
-  notes_agree (call.Unlinkat dirfd path flags) value kind outcome = silently (call.Unlinkat dirfd path flags) value (λ index other o. refl)
-  notes_agree (call.Symlinkat text dirfd path) value kind outcome = silently (call.Symlinkat text dirfd path) value (λ index other o. refl)
-  notes_agree (call.Linkat olddir old newdir new flags) value kind outcome = silently (call.Linkat olddir old newdir new flags) value (λ index other o. refl)
-  notes_agree (call.Renameat2 olddir old newdir new) value kind outcome = silently (call.Renameat2 olddir old newdir new) value (λ index other o. refl)
-  notes_agree (call.Faccessat dirfd path mode) value kind outcome = silently (call.Faccessat dirfd path mode) value (λ index other o. refl)
-  notes_agree (call.Fchmodat dirfd path mode) value kind outcome = silently (call.Fchmodat dirfd path mode) value (λ index other o. refl)
-  notes_agree (call.Fchownat dirfd path uid gid flags) value kind outcome = silently (call.Fchownat dirfd path uid gid flags) value (λ index other o. refl)
-  notes_agree (call.Newfstatat dirfd path buf flags) value kind outcome = silently (call.Newfstatat dirfd path buf flags) value (λ index other o. refl)
-  notes_agree (call.Readlinkat dirfd path buf size) value kind outcome = silently (call.Readlinkat dirfd path buf size) value (λ index other o. refl)
-  notes_agree (call.Chroot path) value kind outcome = silently (call.Chroot path) value (λ index other o. refl)
-  notes_agree (call.Getcwd buf size) value kind outcome = silently (call.Getcwd buf size) value (λ index other o. refl)
-  notes_agree _ value kind outcome = absurd kind
+  notes_agree (call.Execve path args env) value kind outcome = absurd kind
+  notes_agree (call.Fchdir fd) value kind outcome = absurd kind
+  notes_agree (call.Dup fd) value kind outcome = absurd kind
+  notes_agree (call.Dup3 old new flags) value kind outcome = absurd kind
+  notes_agree (call.Fcntl fd cmd arg) value kind outcome = absurd kind
+  notes_agree r value kind outcome = silently r value (λ index other o. refl)

@@ -3,6 +3,7 @@ use Rattle.std.proofs.Common.{◌≡◌, ◌⊎◌, inl, inr, true, Ok, Err, ref
 use Rattle.std.specs.Prelude.{not}
 use Rattle.pt_args.specs.Laws.{ShelvesHoldTheirItems, TextsAreReadBack}
 use Rattle.law_plans.specs.kr_view.View.{plain}
+use Rattle.pt_args.specs.kr_calls.CallTable.{Told, ToldNothing, line}
 use Rattle.pt_args.specs.kr_calls.Decoding.{Decoded}
 use Rattle.pt_args.specs.kr_calls.declared.request.Request.{Request}
 use Rattle.pt_args.specs.kr_calls.declared.request.Request.TheVariants as call
@@ -10,30 +11,20 @@ use Rattle.law_stops.specs.kr_turns.Turn.{calling, watched_call}
 use Rattle.law_stops.specs.kr_stops.Watching.{unwatched}
 use Rattle.law_plans.specs.pt_faker.Stopping.{decoded_at}
 use Rattle.law_plans.specs.pt_tracer.Watched.{tracer}
-use Rattle.law_stops.specs.law_turns.Pathless.{IsPathless}
-use Rattle.law_stops.specs.law_turns.PathCalls.{HasPath}
+use Rattle.law_stops.specs.law_turns.Pathless.{IsPathless, TellsNothing}
+use Rattle.law_stops.specs.law_turns.PathCalls.{HasPath, TellsPath}
 use Rattle.law_stops.specs.Turning.{ComeFromCall, HasNoPath}
 use Rattle.law_stops.proofs.CallLemmas.{pathless_calls_go_together}
 use Rattle.law_paths.specs.Calls.{OtherCallsGoTogether, executes_nothing, is_execve}
 use Rattle.law_paths.proofs.JoinLemmas.{path_calls_go_together}
 
+one_or_none : (t : Told) → TellsNothing t ⊎ TellsPath t
+one_or_none ToldNothing = inl tt
+one_or_none _ = inr tt
+
 either : (r : Request) → not (is_execve r) ≡ true → IsPathless r ⊎ HasPath r
-either (call.Openat dirfd path flags mode) other = inr tt
-either (call.Mkdirat dirfd path mode) other = inr tt
-either (call.Unlinkat dirfd path flags) other = inr tt
-either (call.Symlinkat text dirfd path) other = inr tt
-either (call.Linkat olddir old newdir new flags) other = inr tt
-either (call.Renameat2 olddir old newdir new) other = inr tt
-either (call.Faccessat dirfd path mode) other = inr tt
-either (call.Fchmodat dirfd path mode) other = inr tt
-either (call.Fchownat dirfd path uid gid flags) other = inr tt
-either (call.Newfstatat dirfd path buf flags) other = inr tt
-either (call.Readlinkat dirfd path buf size) other = inr tt
-either (call.Chdir path) other = inr tt
-either (call.Chroot path) other = inr tt
-either (call.Getcwd buf size) other = inr tt
 either (call.Execve path args env) other = absurd cc
-either _ other = inl tt
+either r other = one_or_none (line r).told
 
 pub other_calls_go_together : TextsAreReadBack → ShelvesHoldTheirItems → (S : Type 0) → OtherCallsGoTogether S
 other_calls_go_together back shelves S table made pid m n c other calm = by (decoded_at (calling 1 pid m.state)).reply refl other

@@ -7,6 +7,7 @@ use Rattle.pt_args.specs.rv_mem.Pages.{HoldsBytes}
 use Rattle.pt_args.specs.rv_mem.declared.regs.Regs.{Regs}
 use Rattle.law_stops.specs.pt_results.Notes.{noted, tags_after}
 use Rattle.law_plans.specs.kr_view.View.{Row, plain}
+use Rattle.pt_args.specs.kr_calls.CallTable.{Told, ToldNothing, line}
 use Rattle.pt_args.specs.kr_calls.Decoding.{decoding}
 use Rattle.pt_args.specs.kr_calls.declared.request.Request.{Request}
 use Rattle.pt_args.specs.kr_calls.declared.request.Request.TheVariants as call
@@ -25,13 +26,13 @@ use Rattle.law_stops.specs.kr_stops.Watching.{unwatched}
 use Rattle.law_plans.specs.pt_faker.Stopping.{after_request, decoded_at}
 use Rattle.law_plans.specs.pt_tracer.Planning.{led_of, texts_at}
 use Rattle.law_plans.specs.pt_tracer.Watched.{Tracing}
-use Rattle.law_stops.specs.law_kept.ImagePaths.{is_told_of_paths}
+use Rattle.law_stops.specs.law_kept.ImagePaths.{is_told_of_paths, tells_paths}
 use Rattle.law_plans.specs.law_places.Changes.{NewPlacesStand}
 use Rattle.law_plans.specs.law_places.Keeping.{MovesStayInside}
 use Rattle.law_plans.specs.law_walks.BareFacts.{AreSeenAlike}
 use Rattle.law_stops.specs.law_turns.Changing.{all_tags_made}
 use Rattle.law_stops.specs.law_turns.Operating.{done_in, written_in}
-use Rattle.law_stops.specs.law_turns.PathCalls.{HasPath, tags_noted}
+use Rattle.law_stops.specs.law_turns.PathCalls.{HasPath, TellsPath, tags_noted}
 use Rattle.law_stops.proofs.law_turns.BringLemmas.{path_calls_bring_standing}
 use Rattle.law_stops.proofs.law_turns.MoveLemmas.{path_calls_move_inside}
 use Rattle.law_stops.proofs.law_turns.NoteLemmas.{path_calls_are_noted}
@@ -45,22 +46,13 @@ use Rattle.law_paths.proofs.HereLemmas as here
 use Rattle.law_paths.proofs.IndexLemmas.{index_walked, is_walked}
 use Rattle.law_paths.proofs.NoteLemmas.{notes_agree}
 
+tells_path : (t : Told) → TellsPath t → tells_paths t ≡ true
+tells_path ToldNothing kind = absurd kind
+tells_path _ kind = refl
+
 pub is_told : (r : Request) → HasPath r → is_told_of_paths r ≡ true
-is_told (call.Openat dirfd path flags mode) kind = refl
-is_told (call.Mkdirat dirfd path mode) kind = refl
-is_told (call.Unlinkat dirfd path flags) kind = refl
-is_told (call.Symlinkat text dirfd path) kind = refl
-is_told (call.Linkat olddir old newdir new flags) kind = refl
-is_told (call.Renameat2 olddir old newdir new) kind = refl
-is_told (call.Faccessat dirfd path mode) kind = refl
-is_told (call.Fchmodat dirfd path mode) kind = refl
-is_told (call.Fchownat dirfd path uid gid flags) kind = refl
-is_told (call.Newfstatat dirfd path buf flags) kind = refl
-is_told (call.Readlinkat dirfd path buf size) kind = refl
-is_told (call.Chdir path) kind = refl
-is_told (call.Chroot path) kind = refl
-is_told (call.Getcwd buf size) kind = refl
-is_told _ kind = absurd kind
+is_told (call.Execve path args env) kind = absurd kind
+is_told r kind = tells_path (line r).told kind
 
 module _ {S : Type 0} (table : List Row) (made pid : ℕ) (m : Machine S) (n : Machine Tracing) (r : Request) (c : ComeToCall table made pid m n) (p q : Process ℕ Image) (lives : process pid m.state ≡ Some p) (also : process pid n.state ≡ Some q)
     (calm : (watched_call unwatched 1 table pid m).tally.broken ≡ None) (reads : (decoded_at (calling 1 pid m.state)).reply ≡ Ok r) (kind : HasPath r) where

@@ -1,5 +1,5 @@
 -- Calls whose first path stays as it is, and calls of which the walk of the first path fails.
-use Rattle.std.proofs.Common.{◌≡◌, ◌≢◌, ℕ, List, [], ◌∷◌, Option, Some, None, Result, Ok, Err, refl, sym, ap, subst, ◌∙◌}
+use Rattle.std.proofs.Common.{◌≡◌, ◌≢◌, ℕ, Bool, true, false, List, [], ◌∷◌, Option, Some, None, Result, Ok, Err, refl, sym, ap, subst, ◌∙◌}
 use Rattle.std.specs.Option.{option_map_or}
 use Rattle.law_edits.specs.pr_base.declared.errno.Errno.{Errno}
 use Rattle.law_edits.specs.pt_bind.Tags.{TagTable}
@@ -16,9 +16,9 @@ use Rattle.law_edits.specs.law_allowed.Texts.{LinksHaveTexts}
 use Rattle.law_places.specs.kr_model.Bare.{bare_mounts}
 use Rattle.law_places.specs.kr_model.Known.{Known, known}
 use Rattle.law_places.specs.kr_model.Lawful.{IsLawful}
-use Rattle.law_places.specs.kr_model.Operation.{by_path, operation}
+use Rattle.law_places.specs.kr_model.Operation.{form, operation}
 use Rattle.law_places.specs.kr_model.ProcessDirectory.{around_of}
-use Rattle.law_places.specs.kr_model.Reply.{Replying, refuse}
+use Rattle.law_places.specs.kr_model.Reply.{refuse}
 use Rattle.law_places.specs.kr_model.Seen.{NoPath, WalkFails}
 use Rattle.law_places.specs.kr_model.State.{Image, State, image_layout}
 use Rattle.law_places.specs.kr_model.Walks.{and_then, seen, seen_of, targets_of, told, walked}
@@ -26,6 +26,7 @@ use Rattle.law_edits.specs.law_allowed.Calls.{HasTextPaths}
 use Rattle.law_edits.specs.law_allowed.Told.{HasGoodName, mounts_walked}
 use Rattle.law_edits.proofs.kr_perform.AroundLemmas.{leads_texts, of_walk}
 use Rattle.law_edits.proofs.kr_perform.NamingLemmas.{good_name}
+use Rattle.law_edits.proofs.kr_perform.RefusedLemmas.{form-refuses, goes_along}
 use Rattle.law_edits.proofs.kr_perform.TextLemmas.{IsTextByte, text_bytes}
 use Rattle.std.specs.List.{All}
 use Rattle.law_plans.specs.Begins.{Fails, FailsSo, IsEmpty, Leads, LeadsBoth, PathAgrees, StaysSo, Stays}
@@ -39,29 +40,23 @@ told_none : (rows : List Row) (pid : ℕ) (x : State ℕ Image) (r : Request) (u
 told_none rows pid x (call.Getcwd buf size) u at = absurd cc
 told_none rows pid x _ u at = refl
 
-by_some : (path : List ℕ) (here next : Replying) → path ≢ [] → by_path path here next ≡ next
-by_some [] here next some = absurd (some refl)
-by_some (b ∷ path) here next some = refl
-
 text_is : (u v : PathUse) → Some u ≡ Some v → u.text ≡ v.text
 text_is u v e = ap (λ o. option_map_or (λ (u : PathUse). u.text) o []) e
 
+-- a call with a first path that isn't empty goes along it
+not_along : (pid : ℕ) (r : Request) (u : PathUse) (k : Known) → path_at r 0 ≡ Some u → u.text ≢ [] → goes_along (form pid r k) ≡ false → ⊥
+not_along pid (call.Fchownat dirfd [] uid gid flags) u k at some along = some (sym (text_is _ u at))
+not_along pid (call.Fchownat dirfd (b ∷ path) uid gid flags) u k at some along = cc
+not_along pid (call.Newfstatat dirfd [] buf flags) u k at some along = some (sym (text_is _ u at))
+not_along pid (call.Newfstatat dirfd (b ∷ path) buf flags) u k at some along = cc
+not_along pid _ u k at some along = cc
+
 pub walk_refused : (pid : ℕ) (r : Request) (u : PathUse) (e : Errno) (k : Known) → path_at r 0 ≡ Some u → u.text ≢ [] → operation pid r (WalkFails e) k ≡ refuse e
-walk_refused pid (call.Mkdirat dirfd path mode) u e k at some = refl
-walk_refused pid (call.Unlinkat dirfd path flags) u e k at some = refl
-walk_refused pid (call.Symlinkat text dirfd path) u e k at some = refl
-walk_refused pid (call.Linkat olddir old newdir new flags) u e k at some = refl
-walk_refused pid (call.Renameat2 olddir old newdir new) u e k at some = refl
-walk_refused pid (call.Faccessat dirfd path mode) u e k at some = refl
-walk_refused pid (call.Chdir path) u e k at some = refl
-walk_refused pid (call.Chroot path) u e k at some = refl
-walk_refused pid (call.Execve path args env) u e k at some = refl
-walk_refused pid (call.Fchmodat dirfd path mode) u e k at some = refl
-walk_refused pid (call.Fchownat dirfd path uid gid flags) u e k at some = by_some path _ _ (λ none. absurd (some (sym (text_is _ u at) ∙ none)))
-walk_refused pid (call.Openat dirfd path flags mode) u e k at some = refl
-walk_refused pid (call.Readlinkat dirfd path buf size) u e k at some = refl
-walk_refused pid (call.Newfstatat dirfd path buf flags) u e k at some = by_some path _ _ (λ none. absurd (some (sym (text_is _ u at) ∙ none)))
-walk_refused pid _ u e k at some = absurd cc
+walk_refused pid r u e k at some = by (goes_along (form pid r k)) refl
+  where
+    by : (b : Bool) → goes_along (form pid r k) ≡ b → operation pid r (WalkFails e) k ≡ refuse e
+    by true along = form-refuses (form pid r k) e along
+    by false along = absurd (not_along pid r u k at some along)
 
 -- a path that was walked isn't empty
 walked_some : (rows : List Row) (pid : ℕ) (x : State ℕ Image) (u : PathUse) (e : Errno) → walked rows pid x u u.text ≡ Err e → u.text ≢ []

@@ -5,28 +5,28 @@ use Rattle.std.specs.Prelude.{◌↔◌, ◌==◌}
 use Rattle.std.specs.Option.{option_map, option_map_or, option_and_then}
 use Rattle.std.proofs.lemmas.Bool.{and_cases, and_parts, cases_eq, eq-eqb, eqb-true, lt-ltb, ltb-true, not-false}
 use Rattle.std.proofs.lemmas.Slice.Eq.{bytes_eq-Decides}
-use Rattle.kr_model.proofs.kr_inode.BodyLemmas.{entries-with_entries, entries-with_standing, entries-is_listed, filled-entries, is_listed-with_entries, is_listed-with_standing, takes-is_listed, takes-stands}
-use Rattle.kr_model.proofs.kr_inode.EntryLemmas.{in_above, in_named, in-last, named-gone}
-use Rattle.kr_model.proofs.pr_base.MapLemmas.{by_key, get-changed_other, get-changed_same, get-insert_other, stays-changed}
-use Rattle.kr_model.specs.kr_inode.declared.standing.Standing.{Standing}
-use Rattle.kr_model.specs.kr_tree.Changes as tree
-use Rattle.kr_model.specs.kr_tree.Holds.{names_at}
-use Rattle.kr_model.specs.kr_tree.Lawful.{IsIn, IsKept, count_in, sum_below}
-use Rattle.kr_model.specs.kr_tree.Names.{named}
-use Rattle.kr_model.specs.kr_tree.Tree.{Body, Entry, Inode, Inodes, Node, Tree, body_is, body_without_bytes, entries, entries_of, entry, entry_named, inode, is_directory, is_filled, is_listed, node, root, standing, standing_of, takes_names}
-use Rattle.kr_model.proofs.kr_tree.AddLemmas.{passing}
-use Rattle.kr_model.proofs.kr_tree.CountLemmas.{counted-other, entries_there, value}
-use Rattle.kr_model.proofs.kr_tree.EntryLemmas.{entered}
-use Rattle.kr_model.proofs.kr_tree.InodesLemmas.{get-unused_other}
-use Rattle.kr_model.proofs.kr_tree.NameLemmas.{host_names-lead, listed_in, some_is, standing-host_name, stands_above}
-use Rattle.kr_model.specs.kr_view.View.{Row}
-use Rattle.kr_model.specs.Applied.{Mounts, applied, images}
-use Rattle.kr_model.specs.Change.{Change, AddNode, LinkNode, RemoveName, MoveName, SetMode, SetOwner}
-use Rattle.kr_model.specs.Conditions.{CanBeMade}
-use Rattle.kr_model.specs.Judged.{HasShape, without_bytes}
-use Rattle.kr_model.specs.State.{Image, State}
-use Rattle.kr_model.proofs.ShapeLemmas.{Tells, reached_named, reached_still, shape_stays}
-use Rattle.kr_model.proofs.StayLemmas.{Stay}
+use Rattle.law_lawful.proofs.kr_inode.BodyLemmas.{entries-with_entries, entries-with_standing, entries-is_listed, filled-entries, is_listed-with_entries, is_listed-with_standing, takes-is_listed, takes-stands}
+use Rattle.law_lawful.proofs.kr_inode.EntryLemmas.{in_above, in_named, in-last, named-gone}
+use Rattle.law_lawful.proofs.pr_base.MapLemmas.{by_key, get-changed_other, get-changed_same, get-insert_other, stays-changed}
+use Rattle.law_lawful.specs.kr_inode.declared.standing.Standing.{Standing}
+use Rattle.law_lawful.specs.kr_tree.Changes as tree
+use Rattle.law_lawful.specs.kr_tree.Holds.{names_at}
+use Rattle.law_lawful.specs.kr_tree.Lawful.{IsIn, IsKept, count_in, sum_below}
+use Rattle.law_lawful.specs.kr_tree.Names.{named}
+use Rattle.law_lawful.specs.kr_tree.Tree.{Body, Entry, Inode, Inodes, Node, Tree, body_is, body_without_bytes, entries, entries_of, entry, entry_named, inode, is_directory, is_filled, is_listed, node, root, standing, standing_of, takes_names}
+use Rattle.law_lawful.proofs.kr_tree.AddLemmas.{passing}
+use Rattle.law_lawful.proofs.kr_tree.CountLemmas.{counted-other, entries_there, value}
+use Rattle.law_lawful.proofs.kr_tree.EntryLemmas.{entered}
+use Rattle.law_lawful.proofs.kr_tree.InodesLemmas.{get-unused_other}
+use Rattle.law_lawful.proofs.kr_tree.NameLemmas.{host_names-lead, listed_in, some_is, standing-host_name, stands_above}
+use Rattle.law_lawful.specs.kr_view.View.{Row}
+use Rattle.law_lawful.specs.kr_model.Applied.{Mounts, applied, images}
+use Rattle.law_lawful.specs.kr_model.Change.{Change, AddNode, LinkNode, RemoveName, MoveName, SetMode, SetOwner}
+use Rattle.law_lawful.specs.kr_model.Conditions.{CanBeMade}
+use Rattle.law_lawful.specs.kr_model.Judged.{HasShape, without_bytes}
+use Rattle.law_lawful.specs.kr_model.State.{Image, State}
+use Rattle.law_lawful.proofs.kr_model.ShapeLemmas.{Tells, reached_named, reached_still, shape_stays}
+use Rattle.law_lawful.proofs.kr_model.StayLemmas.{Stay}
 use Rattle.law_steady.specs.Exact.{LessIsTold, NamesAreTexts, ShapeIsTold, alters_shape_of, are_one, has_mode, has_name, has_owner}
 use Rattle.law_steady.proofs.ShapeLemmas.{blind_entries, same_entries}
 
@@ -408,7 +408,7 @@ module _ (t : Tree) (kept : IsKept t) (i : ℕ) where
 
 -- ---- all changes
 
-same_shape : (t : Tree) → HasShape t t
+pub same_shape : (t : Tree) → HasShape t t
 same_shape t = record { names = λ text. refl; nodes = λ text i way. refl }
 
 module _ {M : Type 0} (number : M → ℕ) (table : List Row) (mounts : Mounts M) (pid : ℕ) (s : State M Image) (kept : IsKept s.tree) where

@@ -8,12 +8,12 @@ use Rattle.pt_canon.specs.pr_base.declared.errno.Errno.TheVariants.{EACCES, ENOE
 use Rattle.pt_canon.specs.pr_base.declared.path.WalkMode.{WalkMode}
 use Rattle.pt_canon.specs.pr_base.declared.path.WalkMode.TheVariants.{LookLink}
 use Rattle.pt_canon.proofs.pr_base.PathLemmas.{components_seam, part_components, text_no_slash}
-use Rattle.kr_model.specs.kr_tree.declared.place.Place.{Place}
-use Rattle.kr_model.specs.kr_view.Component.{Surroundings, is_directory_at, look_up, may_search, shows_directory}
-use Rattle.kr_model.specs.kr_view.View.{plain, root_place}
-use Rattle.kr_model.specs.kr_view.Walk.{PlaceTrail, looking as looking_at}
-use Rattle.kr_model.specs.HostView.{host_around_of}
-use Rattle.kr_model.specs.State.{State}
+use Rattle.law_lawful.specs.kr_tree.declared.place.Place.{Place}
+use Rattle.law_lawful.specs.kr_view.Component.{Surroundings, is_directory_at, look_up, may_search, shows_directory}
+use Rattle.law_lawful.specs.kr_view.View.{plain, root_place}
+use Rattle.law_lawful.specs.kr_view.Walk.{PlaceTrail, looking as looking_at}
+use Rattle.law_lawful.specs.kr_model.HostView.{host_around_of}
+use Rattle.law_lawful.specs.kr_model.State.{State}
 use Rattle.pt_canon.specs.TextWalk.{itself_in}
 use Rattle.law_steady.specs.Fronts.{FrontsAreSteady}
 use Rattle.law_steady.specs.Steady.{host_walk, is_steady_path}

@@ -7,21 +7,21 @@ use Rattle.std.proofs.lemmas.Bool.{eq-eqb}
 use Rattle.pt_canon.specs.pr_base.Paths.{Component, Dot, DotDot, Name}
 use Rattle.pt_canon.specs.pr_base.WalkFrame.{Fails, Missing, Leads, Links, Jumps}
 use Rattle.pt_canon.specs.pr_base.declared.errno.Errno.TheVariants.{ENOTDIR, EACCES, ENAMETOOLONG}
-use Rattle.kr_model.specs.kr_inode.declared.user.Right.TheVariants.{Search}
-use Rattle.kr_model.specs.kr_inode.declared.user.User.{User}
-use Rattle.kr_model.specs.kr_tree.Lawful.{IsSound}
-use Rattle.kr_model.specs.kr_tree.Names.{named}
-use Rattle.kr_model.specs.kr_tree.Tree.{Body, Directory, RegularFile, SymbolicLink, ProcessDirectory, Tree, root, above as node_above, body, body_is, body_without_bytes, entry, is_directory, node}
-use Rattle.kr_model.specs.kr_tree.Rights.{may}
-use Rattle.kr_model.specs.kr_tree.declared.place.Host.TheVariants.{Node}
-use Rattle.kr_model.specs.kr_tree.declared.place.Place.{Place}
-use Rattle.kr_model.specs.kr_tree.declared.place.ProcAt.{ProcAt}
-use Rattle.kr_model.proofs.kr_tree.EntryLemmas.{entry_stands}
-use Rattle.kr_model.proofs.kr_tree.NameLemmas.{then_some, some_is}
-use Rattle.kr_model.specs.kr_view.Component.{Finds, Namespace, SeenPlace, Surroundings, above, above_body, above_host, above_node, in_node, in_processes, inside, is_looked_up, is_processes, look_up, meets_processes, named as named_at, named_in, seen_at, seen_body, seen_entry, seen_in_processes, shows_directory, too_long}
-use Rattle.kr_model.specs.kr_view.View.{down, is_root_place, node_in, plain, up}
-use Rattle.kr_model.specs.kr_view.declared.procs.Lead.{Lead}
-use Rattle.kr_model.specs.Judged.{HasShape, without_bytes}
+use Rattle.law_lawful.specs.kr_inode.declared.user.Right.TheVariants.{Search}
+use Rattle.law_lawful.specs.kr_inode.declared.user.User.{User}
+use Rattle.law_lawful.specs.kr_tree.Lawful.{IsSound}
+use Rattle.law_lawful.specs.kr_tree.Names.{named}
+use Rattle.law_lawful.specs.kr_tree.Tree.{Body, Directory, RegularFile, SymbolicLink, ProcessDirectory, Tree, root, above as node_above, body, body_is, body_without_bytes, entry, is_directory, node}
+use Rattle.law_lawful.specs.kr_tree.Rights.{may}
+use Rattle.law_lawful.specs.kr_tree.declared.place.Host.TheVariants.{Node}
+use Rattle.law_lawful.specs.kr_tree.declared.place.Place.{Place}
+use Rattle.law_lawful.specs.kr_tree.declared.place.ProcAt.{ProcAt}
+use Rattle.law_lawful.proofs.kr_tree.EntryLemmas.{entry_stands}
+use Rattle.law_lawful.proofs.kr_tree.NameLemmas.{then_some, some_is}
+use Rattle.law_lawful.specs.kr_view.Component.{Finds, Namespace, SeenPlace, Surroundings, above, above_body, above_host, above_node, in_node, in_processes, inside, is_looked_up, is_processes, look_up, meets_processes, named as named_at, named_in, seen_at, seen_body, seen_entry, seen_in_processes, shows_directory, too_long}
+use Rattle.law_lawful.specs.kr_view.View.{down, is_root_place, node_in, plain, up}
+use Rattle.law_lawful.specs.kr_view.declared.procs.Lead.{Lead}
+use Rattle.law_lawful.specs.kr_model.Judged.{HasShape, without_bytes}
 use Rattle.law_steady.proofs.ShapeLemmas.{same_above, same_directory, same_entry, same_may, same_of_body, same_processes}
 
 -- ---- the plain view

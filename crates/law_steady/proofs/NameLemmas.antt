@@ -4,18 +4,18 @@ use Rattle.std.specs.Bool.{if◌then◌else◌}
 use Rattle.std.specs.Option.{option_map, option_and_then}
 use Rattle.pt_canon.specs.pr_base.Paths.{text_of}
 use Rattle.pt_canon.specs.pr_base.Texts.{names_below, below}
-use Rattle.kr_model.specs.kr_tree.Lawful.{IsSound}
-use Rattle.kr_model.specs.kr_tree.Names.{host_name}
-use Rattle.kr_model.specs.kr_tree.Tree.{Tree, body_is, is_directory, root}
-use Rattle.kr_model.specs.kr_tree.declared.place.Host.TheVariants.{Node}
-use Rattle.kr_model.proofs.kr_tree.NameLemmas.{named-host_name, host_names-lead}
-use Rattle.kr_model.specs.kr_view.HostReach.{host_place}
-use Rattle.kr_model.specs.kr_view.Names.{Remembered, Text, guest_entry}
-use Rattle.kr_model.specs.kr_view.View.{plain_row}
-use Rattle.kr_model.specs.HostView.{host_space}
-use Rattle.kr_model.specs.Judged.{HasShape}
-use Rattle.kr_model.specs.ProcessDirectory.{name_text, remembered}
-use Rattle.kr_model.specs.State.{State}
+use Rattle.law_lawful.specs.kr_tree.Lawful.{IsSound}
+use Rattle.law_lawful.specs.kr_tree.Names.{host_name}
+use Rattle.law_lawful.specs.kr_tree.Tree.{Tree, body_is, is_directory, root}
+use Rattle.law_lawful.specs.kr_tree.declared.place.Host.TheVariants.{Node}
+use Rattle.law_lawful.proofs.kr_tree.NameLemmas.{named-host_name, host_names-lead}
+use Rattle.law_lawful.specs.kr_view.HostReach.{host_place}
+use Rattle.law_lawful.specs.kr_view.Names.{Remembered, Text, guest_entry}
+use Rattle.law_lawful.specs.kr_view.View.{plain_row}
+use Rattle.law_lawful.specs.kr_model.HostView.{host_space}
+use Rattle.law_lawful.specs.kr_model.Judged.{HasShape}
+use Rattle.law_lawful.specs.kr_model.ProcessDirectory.{name_text, remembered}
+use Rattle.law_lawful.specs.kr_model.State.{State}
 use Rattle.law_steady.specs.NamesLast.{NameLasts, HostNamesLast}
 use Rattle.law_steady.specs.Steady.{HaveOneShape}
 use Rattle.law_steady.proofs.ShapeLemmas.{same_directory}

@@ -1,12 +1,12 @@
 -- What walks look at in a tree, at what a text names, is the same in a tree of the same shape.
 use Rattle.std.proofs.Common.{◌≡◌, ℕ, Bool, false, List, [], refl, sym, ap, ◌∙◌, Option, Some, None}
 use Rattle.std.specs.Option.{option_map, option_map_or, option_and_then}
-use Rattle.kr_model.specs.kr_inode.declared.user.Right.{Right}
-use Rattle.kr_model.specs.kr_inode.declared.user.User.{User}
-use Rattle.kr_model.specs.kr_tree.Rights.{allows, may}
-use Rattle.kr_model.specs.kr_tree.Tree.{Body, Directory, RegularFile, SymbolicLink, ProcessDirectory, Inode, Node, Tree, above, body, body_is, body_without_bytes, entries, entries_of, entry, entry_named, inode, is_directory, node, standing, standing_of}
-use Rattle.kr_model.specs.kr_view.Component.{is_processes}
-use Rattle.kr_model.specs.Judged.{without_bytes}
+use Rattle.law_lawful.specs.kr_inode.declared.user.Right.{Right}
+use Rattle.law_lawful.specs.kr_inode.declared.user.User.{User}
+use Rattle.law_lawful.specs.kr_tree.Rights.{allows, may}
+use Rattle.law_lawful.specs.kr_tree.Tree.{Body, Directory, RegularFile, SymbolicLink, ProcessDirectory, Inode, Node, Tree, above, body, body_is, body_without_bytes, entries, entries_of, entry, entry_named, inode, is_directory, node, standing, standing_of}
+use Rattle.law_lawful.specs.kr_view.Component.{is_processes}
+use Rattle.law_lawful.specs.kr_model.Judged.{without_bytes}
 
 -- a test tells nothing of the bytes of a file
 abbrev pub IsBlind : {A : Type 0} → (Body → A) → Type 0

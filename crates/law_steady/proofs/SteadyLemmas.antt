@@ -10,30 +10,30 @@ use Rattle.pt_canon.specs.pr_base.declared.errno.Errno.TheVariants.{ENOENT}
 use Rattle.pt_canon.specs.pr_base.declared.path.WalkMode.{WalkMode}
 use Rattle.pt_canon.specs.pr_base.declared.path.WalkMode.TheVariants.{LookLink}
 use Rattle.pt_canon.specs.pr_base.declared.peeks.PeekKind.TheVariants as peek
-use Rattle.kr_model.specs.kr_inode.declared.user.User.{User}
-use Rattle.kr_model.specs.kr_inode.declared.user.Right.TheVariants.{Search}
-use Rattle.kr_model.specs.kr_tree.Names.{named}
-use Rattle.kr_model.specs.kr_tree.Rights.{allows}
-use Rattle.kr_model.specs.kr_tree.Tree.{Body, Directory, RegularFile, SymbolicLink, ProcessDirectory, Inode, Node as TreeNode, Tree, body, body_without_bytes, inode, node}
-use Rattle.kr_model.specs.kr_tree.declared.place.Host.{Host}
-use Rattle.kr_model.specs.kr_tree.declared.place.Host.TheVariants.{Node}
-use Rattle.kr_model.specs.kr_tree.declared.place.Place.{Place}
-use Rattle.kr_model.specs.kr_view.declared.target.Reach.{Reach}
-use Rattle.kr_model.specs.kr_view.Component.{SeenPlace, Surroundings, look_up, meets_processes, seen_at}
-use Rattle.kr_model.specs.kr_view.Living.{finds_among}
-use Rattle.kr_model.specs.kr_view.Reach.{landings_reach, look_reach, looks_reach, reach_after, reached_landing}
-use Rattle.kr_model.specs.kr_view.View.{plain, root_place}
-use Rattle.kr_model.specs.kr_view.Walk.{PlaceTarget, PlaceTrail, looking, place_walk}
-use Rattle.kr_model.specs.HostView.{host_around_of, host_leads}
-use Rattle.kr_model.specs.Judged.{IsReachedStill}
-use Rattle.kr_model.specs.Peeks.{answer_along, at_found, body_head, body_text, head_at, kind_of_answer, kind_seen, link_text_at, read_at, read_of}
-use Rattle.kr_model.specs.ProcessDirectory.{living_of}
-use Rattle.kr_model.specs.State.{State}
-use Rattle.law_steady.specs.Agree.{ShowsTheSame}
-use Rattle.law_steady.specs.Kept.{GoesOnWell, IsFromGood, IsKeptAlong}
+use Rattle.law_lawful.specs.kr_inode.declared.user.User.{User}
+use Rattle.law_lawful.specs.kr_inode.declared.user.Right.TheVariants.{Search}
+use Rattle.law_lawful.specs.kr_tree.Names.{named}
+use Rattle.law_lawful.specs.kr_tree.Rights.{allows}
+use Rattle.law_lawful.specs.kr_tree.Tree.{Body, Directory, RegularFile, SymbolicLink, ProcessDirectory, Inode, Node as TreeNode, Tree, body, body_without_bytes, inode, node}
+use Rattle.law_lawful.specs.kr_tree.declared.place.Host.{Host}
+use Rattle.law_lawful.specs.kr_tree.declared.place.Host.TheVariants.{Node}
+use Rattle.law_lawful.specs.kr_tree.declared.place.Place.{Place}
+use Rattle.law_lawful.specs.kr_view.declared.target.Reach.{Reach}
+use Rattle.law_lawful.specs.kr_view.Component.{SeenPlace, Surroundings, look_up, meets_processes, seen_at}
+use Rattle.law_lawful.specs.kr_view.Living.{finds_among}
+use Rattle.law_lawful.specs.kr_view.Reach.{landings_reach, look_reach, looks_reach, reach_after, reached_landing}
+use Rattle.law_lawful.specs.kr_view.View.{plain, root_place}
+use Rattle.law_lawful.specs.kr_view.Walk.{PlaceTarget, PlaceTrail, looking, place_walk}
+use Rattle.law_lawful.specs.kr_model.HostView.{host_around_of, host_leads}
+use Rattle.law_lawful.specs.kr_model.Judged.{IsReachedStill}
+use Rattle.law_lawful.specs.kr_model.Peeks.{answer_along, at_found, body_head, body_text, head_at, kind_of_answer, kind_seen, link_text_at, read_at, read_of}
+use Rattle.law_lawful.specs.kr_model.ProcessDirectory.{living_of}
+use Rattle.law_lawful.specs.kr_model.State.{State}
+use Rattle.pt_canon.specs.pr_base.SameWalks.{ShowsTheSame}
+use Rattle.pt_canon.specs.pr_base.KeptWalks.{GoesOn, IsFromGood, IsKeptAlong}
 use Rattle.law_steady.specs.Steady.{HaveOneShape, PeeksLast, SteadyPeeksLast, SteadyWalksLast, WalkLasts, host_walk, is_steady, is_steady_in, is_steady_path, nothing}
-use Rattle.law_steady.proofs.AgreeLemmas.{path_same}
-use Rattle.law_steady.proofs.KeptLemmas.{path_well}
+use Rattle.pt_canon.proofs.pr_base.SameWalkLemmas.{path_same}
+use Rattle.pt_canon.proofs.pr_base.KeptWalkLemmas.{path_well}
 use Rattle.law_steady.proofs.LookLemmas.{IsNamedPlace, IsNamedSight, look_same, look_sight, meets_same, named_root, place_same, place_sight}
 use Rattle.law_steady.proofs.ShapeLemmas.{same_of_body}
 
@@ -80,7 +80,7 @@ IsNamedFound t None = Unit {0}
 abbrev pub EndsNamed : Tree → PlaceTarget → Type 0
 EndsNamed t target = IsNamedFound t target.found
 
-goes_on : (t : Tree) (seen : SeenPlace) → IsNamedSight t seen → GoesOnWell (IsNamedPlace t) seen
+goes_on : (t : Tree) (seen : SeenPlace) → IsNamedSight t seen → GoesOn (IsNamedPlace t) seen
 goes_on t (Fails e) n = tt
 goes_on t Missing n = tt
 goes_on t (Leads is_dir q f) n = n.0

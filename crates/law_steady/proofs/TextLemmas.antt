@@ -16,12 +16,12 @@ use Rattle.pt_canon.specs.pt_bind.Binding.{host_of}
 use Rattle.pt_canon.specs.pt_bind.Tags.{TagTable}
 use Rattle.pt_canon.specs.Canon.{canon_result}
 use Rattle.pt_canon.specs.TextWalk.{SeenText, TextSurroundings, in_directory, inside_text, itself_in, look_text, looking_texts, seen_kind, seen_link, seen_text, text_walk, where_found}
-use Rattle.kr_model.specs.Peeks.{peeked_of}
-use Rattle.kr_model.specs.State.{State}
-use Rattle.law_steady.specs.Agree.{ShowsTheSame}
+use Rattle.law_lawful.specs.kr_model.Peeks.{peeked_of}
+use Rattle.law_lawful.specs.kr_model.State.{State}
+use Rattle.pt_canon.specs.pr_base.SameWalks.{ShowsTheSame}
 use Rattle.law_steady.specs.Steady.{HaveOneShape, is_steady_path}
 use Rattle.law_steady.specs.TextSteady.{KeyLasts, SteadyKeysLast, TellsTheSame, TextWalksAgree, are_all, is_steady_key, paths_at, paths_in, paths_inside, paths_named, paths_searched, texts_of, texts_over}
-use Rattle.law_steady.proofs.AgreeLemmas.{path_same}
+use Rattle.pt_canon.proofs.pr_base.SameWalkLemmas.{path_same}
 use Rattle.law_steady.proofs.SteadyLemmas.{peeks_last, walk_lasts}
 
 module _ (bindings : List MountText) (one two : Peeked) (tags more : TagTable) where

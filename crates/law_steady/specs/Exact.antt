@@ -2,16 +2,16 @@
 -- others, a name that is moved where what it names isn't there under the new name already, and a name that is made or taken away always.
 use Rattle.std.specs.Prelude.{◌≡◌, ◌↔◌, ℕ, Bool, true, false, not, ◌&&◌, ◌==◌, List, Option, Some, None, nat_eq, nat_lt}
 use Rattle.std.specs.Option.{option_map_or}
-use Rattle.kr_model.specs.kr_tree.Holds.{names_at}
-use Rattle.kr_model.specs.kr_tree.Lawful.{IsKept}
-use Rattle.kr_model.specs.kr_tree.Names.{named}
-use Rattle.kr_model.specs.kr_tree.Tree.{Tree, entry, node}
-use Rattle.kr_model.specs.kr_view.View.{Row}
-use Rattle.kr_model.specs.Applied.{Mounts, applied, images}
-use Rattle.kr_model.specs.Change.{Change, AddNode, LinkNode, RemoveName, MoveName, SetMode, SetOwner}
-use Rattle.kr_model.specs.Conditions.{CanBeMade}
-use Rattle.kr_model.specs.Judged.{HasShape, alters_shape}
-use Rattle.kr_model.specs.State.{Image, State}
+use Rattle.law_lawful.specs.kr_tree.Holds.{names_at}
+use Rattle.law_lawful.specs.kr_tree.Lawful.{IsKept}
+use Rattle.law_lawful.specs.kr_tree.Names.{named}
+use Rattle.law_lawful.specs.kr_tree.Tree.{Tree, entry, node}
+use Rattle.law_lawful.specs.kr_view.View.{Row}
+use Rattle.law_lawful.specs.kr_model.Applied.{Mounts, applied, images}
+use Rattle.law_lawful.specs.kr_model.Change.{Change, AddNode, LinkNode, RemoveName, MoveName, SetMode, SetOwner}
+use Rattle.law_lawful.specs.kr_model.Conditions.{CanBeMade}
+use Rattle.law_lawful.specs.kr_model.Judged.{HasShape, alters_shape}
+use Rattle.law_lawful.specs.kr_model.State.{Image, State}
 
 -- ---- tests
 

@@ -2,7 +2,7 @@
 use Rattle.std.specs.Prelude.{◌≡◌, ℕ, true, List, ◌∷◌}
 use Rattle.pt_canon.specs.pr_base.Paths.{AreParts, text_of}
 use Rattle.pt_canon.specs.TextWalk.{itself_in}
-use Rattle.kr_model.specs.State.{State}
+use Rattle.law_lawful.specs.kr_model.State.{State}
 use Rattle.law_steady.specs.Steady.{is_steady_path}
 
 -- the directory above a steady text is steady, and so is that directory looked up in itself

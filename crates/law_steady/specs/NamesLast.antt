@@ -1,13 +1,13 @@
 -- The host names of what slots hold, in states of one shape and user.
 use Rattle.std.specs.Prelude.{◌≡◌, ℕ, List, []}
-use Rattle.kr_model.specs.kr_tree.Lawful.{IsSound}
-use Rattle.kr_model.specs.kr_tree.Names.{host_name}
-use Rattle.kr_model.specs.kr_tree.Tree.{body_is, is_directory}
-use Rattle.kr_model.specs.kr_tree.declared.place.Host.TheVariants.{Node}
-use Rattle.kr_model.specs.kr_view.HostReach.{host_place}
-use Rattle.kr_model.specs.HostView.{host_space}
-use Rattle.kr_model.specs.ProcessDirectory.{name_text}
-use Rattle.kr_model.specs.State.{State}
+use Rattle.law_lawful.specs.kr_tree.Lawful.{IsSound}
+use Rattle.law_lawful.specs.kr_tree.Names.{host_name}
+use Rattle.law_lawful.specs.kr_tree.Tree.{body_is, is_directory}
+use Rattle.law_lawful.specs.kr_tree.declared.place.Host.TheVariants.{Node}
+use Rattle.law_lawful.specs.kr_view.HostReach.{host_place}
+use Rattle.law_lawful.specs.kr_model.HostView.{host_space}
+use Rattle.law_lawful.specs.kr_model.ProcessDirectory.{name_text}
+use Rattle.law_lawful.specs.kr_model.State.{State}
 use Rattle.law_steady.specs.Steady.{HaveOneShape}
 
 -- a directory has the same host name, if it has one. What a slot holds by itself, as a working directory, has the same name; what

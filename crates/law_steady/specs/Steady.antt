@@ -4,16 +4,16 @@ use Rattle.std.specs.Prelude.{◌≡◌, ◌≢◌, ℕ, Bool, true, false, not,
 use Rattle.pt_canon.specs.pr_base.declared.path.WalkMode.{WalkMode}
 use Rattle.pt_canon.specs.pr_base.declared.path.WalkMode.TheVariants.{LookLink}
 use Rattle.pt_canon.specs.pr_base.declared.peeks.PeekKind.TheVariants as peek
-use Rattle.kr_model.specs.kr_tree.Lawful.{IsSound}
-use Rattle.kr_model.specs.kr_view.declared.target.Reach.{Reach}
-use Rattle.kr_model.specs.kr_view.Component.{Surroundings}
-use Rattle.kr_model.specs.kr_view.Reach.{reach_after}
-use Rattle.kr_model.specs.kr_view.View.{plain, root_place}
-use Rattle.kr_model.specs.kr_view.Walk.{PlaceTrail, place_walk}
-use Rattle.kr_model.specs.HostView.{host_around_of}
-use Rattle.kr_model.specs.Judged.{HasShape, IsReachedStill}
-use Rattle.kr_model.specs.Peeks.{peeked_of}
-use Rattle.kr_model.specs.State.{State}
+use Rattle.law_lawful.specs.kr_tree.Lawful.{IsSound}
+use Rattle.law_lawful.specs.kr_view.declared.target.Reach.{Reach}
+use Rattle.law_lawful.specs.kr_view.Component.{Surroundings}
+use Rattle.law_lawful.specs.kr_view.Reach.{reach_after}
+use Rattle.law_lawful.specs.kr_view.View.{plain, root_place}
+use Rattle.law_lawful.specs.kr_view.Walk.{PlaceTrail, place_walk}
+use Rattle.law_lawful.specs.kr_model.HostView.{host_around_of}
+use Rattle.law_lawful.specs.kr_model.Judged.{HasShape, IsReachedStill}
+use Rattle.law_lawful.specs.kr_model.Peeks.{peeked_of}
+use Rattle.law_lawful.specs.kr_model.State.{State}
 
 -- nothing reached yet
 abbrev pub nothing : Reach

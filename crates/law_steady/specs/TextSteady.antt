@@ -14,8 +14,8 @@ use Rattle.pt_canon.specs.pt_bind.Binding.{host_of}
 use Rattle.pt_canon.specs.pt_bind.Tags.{TagTable}
 use Rattle.pt_canon.specs.Canon.{canon_of}
 use Rattle.pt_canon.specs.TextWalk.{TextSurroundings, itself_in, text_walk}
-use Rattle.kr_model.specs.Peeks.{peeked_of}
-use Rattle.kr_model.specs.State.{State}
+use Rattle.law_lawful.specs.kr_model.Peeks.{peeked_of}
+use Rattle.law_lawful.specs.kr_model.State.{State}
 use Rattle.law_steady.specs.Steady.{HaveOneShape, is_steady_path}
 
 -- ---- the host paths of a look

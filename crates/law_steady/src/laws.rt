@@ -1,39 +1,13 @@
 //! Laws of steady walks, each carried by a function that does nothing.
-ghost use Rattle.law_steady.specs.Agree.{WalksAgree};
+ghost use Rattle.law_steady.specs.Along.{ShapeIsToldAlong};
+ghost use Rattle.law_steady.specs.Bytes.{BytesAreTold, BytesAreToldAlong};
+ghost use Rattle.law_steady.specs.Calls.{CallsAlterOnce, CallsLeaveBytes, CallsLeaveShape, ProgramsLeaveBoth};
 ghost use Rattle.law_steady.specs.Exact.{LessIsTold, NamesAreTexts, ShapeIsTold};
 ghost use Rattle.law_steady.specs.Fronts.{FrontsAreSteady};
-ghost use Rattle.law_steady.specs.Kept.{WalksKeep};
 ghost use Rattle.law_steady.specs.NamesLast.{HostNamesLast};
 ghost use Rattle.law_steady.specs.Steady.{SteadyPeeksLast, SteadyWalksLast};
 ghost use Rattle.law_steady.specs.TextSteady.{SteadyKeysLast, TextWalksAgree};
-
-/// Two ways of looking that show the same at each look of one walk give that walk both.
-pub fn walks_agree<S, F>()
-    ensures { WalksAgree S F }
-{}
-
-/// What is to hold all along a walk, and which looks keep it.
-pub trait KeptWhere {
-    type Place;
-
-    type Found;
-
-    ghost use Rattle.law_steady.specs.pr_base.WalkFrame.{LookedAt, Target};
-
-    /// What holds of the places that a walk goes through.
-    ghost good: { Self.Place → Type 0 };
-
-    /// The looks that keep it.
-    ghost fine: { LookedAt Self.Place → Type 0 };
-
-    /// What then holds of the target of the walk.
-    ghost holds: { Target Self.Place Self.Found → Type 0 };
-}
-
-/// What fine looks keep holds all along a walk whose looks are fine, and its target has what such walks end with.
-pub fn walks_keep<L: KeptWhere>()
-    ensures { WalksKeep L.good L.fine L.holds }
-{}
+ghost use Rattle.law_steady.specs.Told.{CallsAreTold, ProgramsAreTold};
 
 /// A steady host walk is the same in every state with that shape and that user, whoever asks.
 pub fn steady_walks_last<M, N, X, Y>()
@@ -78,4 +52,51 @@ pub fn shape_is_told<M>()
 /// What no change of its kind alters isn't told to be altered.
 pub fn less_is_told()
     ensures { LessIsTold }
+{}
+
+/// Changes of a call, one behind the other, leave the shape of the tree exactly where they aren't told to alter it; to count those that do is to
+/// count whether it is altered.
+pub fn shape_is_told_along<M>()
+    ensures { ShapeIsToldAlong M }
+{}
+
+/// No change of a call other than openat(2) with O_CREAT, the calls that make, remove and move names, and those that set modes and owners can
+/// alter the shape.
+pub fn calls_leave_shape()
+    ensures { CallsLeaveShape }
+{}
+
+/// No change of a call other than a write, a cut, and openat(2) with O_TRUNC can alter the bytes of a file.
+pub fn calls_leave_bytes()
+    ensures { CallsLeaveBytes }
+{}
+
+/// A call makes at most one change that can alter the shape, and at most one that can alter bytes.
+pub fn calls_alter_once()
+    ensures { CallsAlterOnce }
+{}
+
+/// A new program in its caller's place, as execve(2) puts it there, can alter neither.
+pub fn programs_leave_both()
+    ensures { ProgramsLeaveBoth }
+{}
+
+/// A change that can be made leaves the bytes of files exactly where it isn't told to alter them.
+pub fn bytes_are_told<M>()
+    ensures { BytesAreTold M }
+{}
+
+/// And so do changes of a call, one behind the other; to count those that alter bytes is to count whether they are altered.
+pub fn bytes_are_told_along<M>()
+    ensures { BytesAreToldAlong M }
+{}
+
+/// So whether a call alters the shape of the tree, and the bytes of files, is told exactly.
+pub fn calls_are_told<M>()
+    ensures { CallsAreTold M }
+{}
+
+/// And so of a new program in its caller's place.
+pub fn programs_are_told<M>()
+    ensures { ProgramsAreTold M }
 {}

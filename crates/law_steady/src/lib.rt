@@ -17,14 +17,22 @@
 //! A directory has the same host name in trees of one shape, and so has what a slot holds as long as it is a directory in both or in neither
 //! (`host_names_last`).
 //!
-//! Of any walk: two ways of looking that show the same at each look of one walk give that walk both (`walks_agree`), and what the looks of a walk
-//! keep holds all along it (`walks_keep`).
+//! They rest on two laws of any walk, `walks_agree` and `walks_keep` of pr_base.
 //!
 //! Which changes alter the shape is told exactly, both ways: `shape_is_told` of each change that can be made, where a mode or an owner is set only
 //! on what has a name and has other numbers, and a name is moved only to where it doesn't stand for the same. An inode has a name exactly where a
 //! text names it (`names_are_texts`), and no more is told than of the kind of a change (`less_is_told`).
 //!
-//! Not shown: which calls make such changes. The reads of the first bytes for scripts, and names of descriptors, are no part of a key.
+//! So is which changes alter the bytes of files (`bytes_are_told`): a write of the bytes that stand there and a cut to the size that a file has alter
+//! none.
+//!
+//! Only openat with O_CREAT and the calls that make, remove and move names and that set modes and owners make changes that can alter the shape, and
+//! only a write, a cut and openat with O_TRUNC such as can alter bytes (`calls_leave_shape`, `calls_leave_bytes`); an execve's new program alters
+//! neither (`programs_leave_both`). A call makes at most one of either (`calls_alter_once`). Hence both ways of all changes of a call, one behind the
+//! other, each told of the tree before it: whether they alter the shape and whether they alter bytes, and that counting those that do counts the
+//! calls that do (`shape_is_told_along`, `bytes_are_told_along`; of calls `calls_are_told`, and `programs_are_told`).
+//!
+//! The reads of the first bytes for scripts, and names of descriptors, are no part of a key.
 #![tactic(auto)]
 
 pub mod laws;

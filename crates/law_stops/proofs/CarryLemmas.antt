@@ -40,7 +40,7 @@ use Rattle.law_edits.specs.kr_model.State.{Image, Process, State, image_layout, 
 use Rattle.law_edits.specs.kr_model.Walks.{seen, targets_of}
 use Rattle.law_edits.specs.kr_model.declared.outcome.Outcome.TheVariants.{Answer, Ended}
 use Rattle.law_edits.specs.kr_model.Laws.{ends_nobody}
-use Rattle.law_edits.proofs.kr_model.CleanCalls.{answers_end_nobody}
+use Rattle.law_edits.proofs.kr_model.LineLemmas.{answers_end_nobody}
 use Rattle.law_edits.proofs.kr_model.KnownLemmas.{known-bare}
 use Rattle.law_turns.proofs.kr_perform.AroundLemmas.{lead_to_places}
 use Rattle.law_turns.proofs.kr_perform.NamingLemmas.{walks_name}

@@ -1,7 +1,7 @@
 -- What a tracer notes of calls without a path.
 use Rattle.std.proofs.Common.{◌≡◌, ◌≢◌, ◌<◌, ◌^◌, ◌+◌, ℕ, Bool, true, false, cond, List, [], ◌∷◌, Option, Some, None, refl, sym, ap, ◌∙◌, ℤ, pos, negsuc, arith}
 use Rattle.std.specs.FinMap as map
-use Rattle.std.specs.Prelude.{◌%◌, ◌&&◌, ◌==◌, length, nat_lt, nat_le, not}
+use Rattle.std.specs.Prelude.{◌%◌, ◌==◌, length, nat_lt, nat_le, not}
 use Rattle.std.specs.Int.{w64}
 use Rattle.std.specs.List.{list_all}
 use Rattle.std.specs.Option.{option_and_then, option_map, option_map_or}
@@ -22,16 +22,17 @@ use Rattle.law_edits.specs.kr_files.declared.opened.Opened.{Opened}
 use Rattle.law_edits.proofs.kr_files.DescriptorLemmas.{lowest_free-some}
 use Rattle.law_edits.specs.kr_view.View.{Row}
 use Rattle.pt_args.specs.kr_calls.Arguments.{has}
+use Rattle.pt_args.specs.kr_calls.Kinds.{Kind, CopiesDescriptor, Ends, EntersOpen, Forks, OpensOpen, ReplacesOpen}
 use Rattle.pt_args.specs.kr_calls.declared.request.Request.{Request}
 use Rattle.pt_args.specs.kr_calls.declared.request.Request.TheVariants as call
 use Rattle.law_edits.specs.kr_model.Applied.{Mounts, applied, images, mount_of}
 use Rattle.law_edits.specs.kr_model.Asking.{descriptor_number, is_directory_host, is_searched, or_closed}
-use Rattle.law_edits.specs.kr_model.AttributeRows.{fchmod_row, fchown_row}
 use Rattle.law_edits.specs.kr_model.Change.{Change, ChangeDirectory, CopyDescriptor, End, Fork, OfDescriptor, OfDirectory, OfFound, OpenFile, ReplaceExecutable, SetAppend, SetCloexec}
+use Rattle.law_edits.specs.kr_model.ChangeKinds.{kind as change_kind}
 use Rattle.law_edits.specs.kr_model.DescriptorRows.{cloexec_flag, copy_from, copy_to, copy_under, dup3_row, dup_row, fcntl_by, fcntl_row, o_append, o_cloexec, status_flags}
 use Rattle.law_edits.specs.kr_model.DirectoryRows.{fchdir_row, if_entered}
 use Rattle.law_edits.specs.kr_model.Known.{Known, known}
-use Rattle.law_edits.specs.kr_model.Laws.{ends_nobody, word_told}
+use Rattle.law_edits.specs.kr_model.Laws.{word_told}
 use Rattle.law_edits.specs.kr_model.MemoryRows.{all_pages}
 use Rattle.law_edits.specs.kr_model.Operation.{operation}
 use Rattle.law_edits.specs.kr_model.ProcessRows.{born, clone_row, is_fork, most_processes, set_tid}
@@ -40,15 +41,13 @@ use Rattle.law_edits.specs.kr_model.Seen.{NoPath}
 use Rattle.law_edits.specs.kr_model.State.{Image, State, image_layout, opened}
 use Rattle.law_edits.specs.kr_model.declared.outcome.Outcome.{Outcome}
 use Rattle.law_edits.specs.kr_model.declared.outcome.Outcome.TheVariants.{Answer, Wait, Ended, NoMemory}
-use Rattle.law_edits.proofs.kr_model.CleanCalls.{answers_end_nobody, ends_as_told}
+use Rattle.law_edits.proofs.kr_model.LineLemmas.{answer_passes, by_answer, ends_as_told}
 use Rattle.law_turns.proofs.kr_calm.ChangeLemmas.{both}
-use Rattle.law_turns.proofs.kr_calm.MildCalls.{enters_open, hands_on, operation_hands_nothing}
-use Rattle.law_turns.proofs.kr_calm.MildLemmas.{comes_to, hand_nothing, hands_nothing}
 use Rattle.law_turns.specs.kr_turns.PlainCall.{child_of}
 use Rattle.law_turns.specs.law_places.Matching.{AreTagged, index_at}
 use Rattle.law_turns.specs.Changing.{all_tags_made}
 use Rattle.law_turns.specs.Pathless.{IsPathless}
-use Rattle.law_turns.proofs.GrantLemmas.{fchmod_comes, fchown_comes}
+use Rattle.law_turns.proofs.LineLemmas.{enters_open}
 use Rattle.law_turns.proofs.PathlessLemmas.{no_exec}
 use Rattle.law_stops.specs.Noting.{NotesFollow, tags_told, told_answer, with_child}
 
@@ -63,34 +62,44 @@ keeps_tags (ChangeDirectory (OfDescriptor n) host) = false
 keeps_tags (ReplaceExecutable (OfDescriptor n) host dir name) = false
 keeps_tags _ = true
 
-keeps_one : (c : Change) (cs : List Change) → hands_nothing c ≡ true → ends_nobody (c ∷ cs) ≡ true → (keeps_tags c ≡ true) × (ends_nobody cs ≡ true)
-keeps_one (CopyDescriptor fd to cloexec) cs nothing on = absurd cc
-keeps_one (Fork birth) cs nothing on = absurd cc
-keeps_one (End status) cs nothing on = absurd cc
-keeps_one (OpenFile fd cloexec (OfDescriptor n) o) cs nothing on = absurd cc
-keeps_one (ChangeDirectory (OfDescriptor n) host) cs nothing on = absurd cc
-keeps_one (ReplaceExecutable (OfDescriptor n) host dir name) cs nothing on = absurd cc
-keeps_one _ cs nothing on = (refl, on)
+abbrev tagged_kind : Kind → Bool
+tagged_kind CopiesDescriptor = false
+tagged_kind Forks = false
+tagged_kind Ends = false
+tagged_kind OpensOpen = false
+tagged_kind EntersOpen = false
+tagged_kind ReplacesOpen = false
+tagged_kind _ = true
 
-keep_all : (cs : List Change) → hand_nothing cs ≡ true → ends_nobody cs ≡ true → list_all keeps_tags cs ≡ true
-keep_all [] nothing on = refl
-keep_all (c ∷ cs) nothing on =
-    let parts = both (hands_nothing c) (hand_nothing cs) nothing in
-    let one = keeps_one c cs parts.0 on in
-    ap (λ b. b && list_all keeps_tags cs) one.0 ∙ keep_all cs parts.1 one.1
+tagged_change : (c : Change) → tagged_kind (change_kind c) ≡ true → keeps_tags c ≡ true
+tagged_change (CopyDescriptor fd to cloexec) keeps = absurd cc
+tagged_change (Fork birth) keeps = absurd cc
+tagged_change (End status) keeps = absurd cc
+tagged_change (OpenFile fd cloexec (OfDescriptor n) o) keeps = absurd cc
+tagged_change (ChangeDirectory (OfDescriptor n) host) keeps = absurd cc
+tagged_change (ReplaceExecutable (OfDescriptor n) host dir name) keeps = absurd cc
+tagged_change _ keeps = refl
+
+-- the calls that hand a descriptor or a copy of their caller on
+abbrev hands_on : Request → Bool
+hands_on (call.Dup fd) = true
+hands_on (call.Dup3 old new flags) = true
+hands_on (call.Fcntl fd cmd arg) = true
+hands_on (call.Clone flags sp ctid) = true
+hands_on _ = false
+
+tagged_answer : (r : Request) → enters_open r ≡ false → hands_on r ≡ false → answer_passes tagged_kind r ≡ true
+tagged_answer (call.Fchdir fd) enters hands = absurd cc
+tagged_answer (call.Dup fd) enters hands = absurd cc
+tagged_answer (call.Dup3 old new flags) enters hands = absurd cc
+tagged_answer (call.Fcntl fd cmd arg) enters hands = absurd cc
+tagged_answer (call.Clone flags sp ctid) enters hands = absurd cc
+tagged_answer _ enters hands = refl
 
 module _ (k : Known) where
-  others_keep : (pid : ℕ) (r : Request) (memory : Memory) → IsPathless r → enters_open r ≡ false → hands_on r ≡ false → (carried_out (operation pid r NoPath k) memory).reply.outcome ≢ Ended
+  others_keep : (pid : ℕ) (r : Request) (memory : Memory) → enters_open r ≡ false → hands_on r ≡ false → (carried_out (operation pid r NoPath k) memory).reply.outcome ≢ Ended
       → list_all keeps_tags (carried_out (operation pid r NoPath k) memory).reply.changes ≡ true
-  others_keep pid (call.Fchmod fd mode) memory kind enters hands goes = comes_to (fchmod_row k fd mode) (fchmod_comes k (λ i mode. refl) fd mode) memory
-  others_keep pid (call.Fchown fd uid gid) memory kind enters hands goes = comes_to (fchown_row k fd uid gid) (fchown_comes k (λ i uid gid. refl) fd uid gid) memory
-  others_keep pid (call.Unlinkat dirfd path flags) memory kind enters hands goes = absurd kind
-  others_keep pid (call.Renameat2 olddir old newdir new) memory kind enters hands goes = absurd kind
-  others_keep pid (call.Fchmodat dirfd path mode) memory kind enters hands goes = absurd kind
-  others_keep pid (call.Fchownat dirfd path uid gid flags) memory kind enters hands goes = absurd kind
-  others_keep pid r memory kind enters hands goes =
-      keep_all (carried_out (operation pid r NoPath k) memory).reply.changes (comes_to (operation pid r NoPath k) (operation_hands_nothing pid r NoPath k refl refl enters hands) memory)
-      (answers_end_nobody pid r NoPath k memory (no_exec r kind) goes)
+  others_keep pid r memory enters hands goes = by_answer tagged_kind keeps_tags tagged_change pid r NoPath k memory (tagged_answer r enters hands) goes
 
 -- ---- what is noted of other calls: nothing
 
@@ -148,7 +157,7 @@ module _ (table : List Row) (mounts : Mounts ℕ) (nothing_found : mounts.found 
     -- ---- calls that hand nothing on
 
     others_follow : (r : Request) → IsPathless r → enters_open r ≡ false → hands_on r ≡ false → Follows r (carried_out (operation pid r NoPath k) memory).reply
-    others_follow r kind enters hands = by (carried_out (operation pid r NoPath k) memory).reply refl (others_keep k pid r memory kind enters hands) (ends_as_told pid r NoPath k memory (no_exec r kind))
+    others_follow r kind enters hands = by (carried_out (operation pid r NoPath k) memory).reply refl (others_keep k pid r memory enters hands) (ends_as_told pid r NoPath k memory (no_exec r kind))
       where
         by : (reply : Reply) → (carried_out (operation pid r NoPath k) memory).reply ≡ reply → ((carried_out (operation pid r NoPath k) memory).reply.outcome ≢ Ended → list_all keeps_tags (carried_out (operation pid r NoPath k) memory).reply.changes ≡ true)
             → ((carried_out (operation pid r NoPath k) memory).reply.outcome ≡ Ended → (carried_out (operation pid r NoPath k) memory).reply.changes ≡ End (word_told r) ∷ []) → Follows r reply

@@ -1,39 +1,30 @@
 -- All calls where an identity is told.
 use Rattle.std.proofs.Common.{◌≡◌, ℕ, Bool, true, false, List, None, Ok, Err, refl, sym, subst}
 use Rattle.law_edits.specs.kr_view.View.{Row, plain}
+use Rattle.pt_args.specs.kr_calls.CallTable.{Told, ToldNothing, line}
 use Rattle.pt_args.specs.kr_calls.Decoding.{Decoded}
 use Rattle.pt_args.specs.kr_calls.declared.request.Request.{Request}
 use Rattle.pt_args.specs.kr_calls.declared.request.Request.TheVariants as call
 use Rattle.law_turns.specs.kr_stops.Stopped.{Stopped}
 use Rattle.law_turns.specs.kr_turns.Turn.{Machine, calling, watched_call}
-use Rattle.law_turns.specs.law_kept.ImagePaths.{is_told_of_paths}
+use Rattle.law_turns.specs.law_kept.ImagePaths.{is_told_of_paths, tells_paths}
 use Rattle.law_edits.specs.pt_faker.Faking.{Faking, faker}
 use Rattle.law_edits.specs.pt_faker.Stopping.{decoded_at}
 use Rattle.law_edits.specs.pt_tracer.Watched.{Tracing, is_execve, tracer}
-use Rattle.law_turns.specs.Pathless.{IsPathless}
+use Rattle.law_turns.specs.Pathless.{IsPathless, TellsNothing}
 use Rattle.law_stops.specs.Turning.{HasNoPath}
 use Rattle.law_stops.specs.Going.{ComeFromFakedCall, ComeToFakedCall}
 use Rattle.law_stops.specs.Whole.{AllCallsGoTogether, KindsGoTogether, WatchersStartAlike}
 use Rattle.law_stops.proofs.PathlessLemmas.{faked_calls_go_together}
 
 -- any other call has no path
+tells_nothing : (t : Told) → tells_paths t ≡ false → TellsNothing t
+tells_nothing ToldNothing told = tt
+tells_nothing _ told = absurd cc
+
 has_none : (r : Request) → is_told_of_paths r ≡ false → is_execve r ≡ false → IsPathless r
-has_none (call.Openat dirfd path flags mode) told runs = absurd cc
-has_none (call.Mkdirat dirfd path mode) told runs = absurd cc
-has_none (call.Unlinkat dirfd path flags) told runs = absurd cc
-has_none (call.Symlinkat text dirfd path) told runs = absurd cc
-has_none (call.Linkat olddir old newdir new flags) told runs = absurd cc
-has_none (call.Renameat2 olddir old newdir new) told runs = absurd cc
-has_none (call.Faccessat dirfd path mode) told runs = absurd cc
-has_none (call.Fchmodat dirfd path mode) told runs = absurd cc
-has_none (call.Fchownat dirfd path uid gid flags) told runs = absurd cc
-has_none (call.Newfstatat dirfd path buf flags) told runs = absurd cc
-has_none (call.Readlinkat dirfd path buf size) told runs = absurd cc
-has_none (call.Chdir path) told runs = absurd cc
-has_none (call.Chroot path) told runs = absurd cc
-has_none (call.Getcwd buf size) told runs = absurd cc
 has_none (call.Execve path args env) told runs = absurd cc
-has_none _ told runs = tt
+has_none r told runs = tells_nothing (line r).told told
 
 module _ (allows : Stopped → Bool) (table : List Row) (kinds : KindsGoTogether allows table) (made pid : ℕ) (m : Machine Faking) (n : Machine Tracing) (c : ComeToFakedCall table made pid m n) (allowed : allows (calling 1 pid m.state) ≡ true) (calm : (watched_call faker 1 table pid m).tally.broken ≡ None) where
   abbrev Together : Type 0

@@ -16,9 +16,9 @@ pub mod ClearLemmas
 pub mod ComeLemmas
 pub mod DeathLemmas
 pub mod EnterLemmas
-pub mod GrantLemmas
 pub mod ImageLemmas
 pub mod KeepLemmas
+pub mod LineLemmas
 pub mod LastLemmas
 pub mod MatchLemmas
 pub mod OperateLemmas
@@ -37,7 +37,6 @@ pub mod MadeLemmas
 pub mod MoveLemmas
 pub mod NoteLemmas
 pub mod OpenLemmas
-pub mod RowLemmas
 pub mod RuleLemmas
 pub mod SettingLemmas
 pub mod UsesLemmas

@@ -1,13 +1,12 @@
 -- A calm call with a path moves names inside alone.
-use Rattle.std.proofs.Common.{◌≡◌, ℕ, Bool, true, false, cond, List, [], ◌∷◌, Option, Some, None, Result, Ok, Err, refl, sym, ap, subst, ◌∙◌}
-use Rattle.std.specs.Prelude.{◌&&◌, ◌||◌, ◌==◌, not, ℤ}
+use Rattle.std.proofs.Common.{◌≡◌, ℕ, Bool, true, false, cond, List, [], Option, Some, None, Result, Ok, Err, refl, sym, ap, subst, ◌∙◌}
+use Rattle.std.specs.Prelude.{◌||◌, ◌==◌, not, ℤ}
 use Rattle.std.specs.Option.{option_map_or}
 use Rattle.kr_core.specs.pr_base.declared.errno.Errno.{Errno}
 use Rattle.kr_core.specs.pr_base.declared.path.Last.{Last}
 use Rattle.kr_core.specs.pr_base.declared.path.Last.TheVariants as last
 use Rattle.kr_core.specs.pr_base.declared.path.WalkMode.TheVariants.{Name as NameMode}
 use Rattle.pt_results.specs.rv_mem.Actions.{carried_out}
-use Rattle.pt_results.specs.rv_mem.Memory.{Memory}
 use Rattle.pt_results.specs.pt_bind.Tags.{TagTable}
 use Rattle.pt_results.specs.kr_calls.PathTable.{PathUse}
 use Rattle.pt_results.specs.kr_calls.declared.request.Request.{Request}
@@ -23,13 +22,10 @@ use Rattle.kr_core.specs.kr_seen.Carrying.{memory_of}
 use Rattle.law_places.specs.kr_calm.Foreseen.{moved_away, prospect}
 use Rattle.law_places.specs.kr_calm.Prospects.{answers_zero, move, move_made, renameat2_made}
 use Rattle.law_places.specs.kr_calm.Rules.{are_parted, breaks_2, rename_crosses}
-use Rattle.law_places.proofs.kr_calm.ChangeLemmas.{both}
-use Rattle.law_places.proofs.kr_calm.MildCalls.{operation_mild}
-use Rattle.law_places.proofs.kr_calm.MildLemmas.{are_mild, is_mild, mildly}
 use Rattle.law_places.proofs.kr_calm.ProspectLemmas.{foreseen_calls_make_it}
 use Rattle.law_places.specs.kr_model.Applied.{Mounts}
-use Rattle.law_places.specs.kr_model.Change.{Change, MoveName}
-use Rattle.law_places.specs.kr_model.Known.{Known, known}
+use Rattle.law_places.specs.kr_model.Change.{Change}
+use Rattle.law_places.specs.kr_model.Known.{known}
 use Rattle.law_places.specs.kr_model.NameRows.{is_one}
 use Rattle.law_places.specs.kr_model.Operation.{operation}
 use Rattle.law_places.specs.kr_model.ProcessDirectory.{around_of, space_of}
@@ -39,46 +35,16 @@ use Rattle.law_places.specs.kr_model.Walks.{Targets, entered, if_name, is_covere
 use Rattle.kr_core.specs.kr_turns.Breaking.{plain_rule}
 use Rattle.law_places.specs.Moving.{IsComeTo}
 use Rattle.law_places.proofs.KeepLemmas.{stay_inside}
-use Rattle.law_places.specs.Keeping.{MovesStayInside, move_nothing, moves_nothing}
+use Rattle.law_places.specs.Keeping.{MovesStayInside}
 use Rattle.law_places.specs.law_walks.Scene.{Scene}
 use Rattle.law_places.specs.law_walks.Settled.{host_text}
 use Rattle.law_places.proofs.law_walks.NamedLemmas.{directories_of_names_are_searched}
 use Rattle.law_turns.specs.Calls.{decoded_in}
-use Rattle.law_turns.specs.PathCalls.{CallsPath, HasPath, PathCallsMoveInside, changes_at, mounts_at, told_at, written_at}
-use Rattle.law_turns.proofs.RowLemmas.{leave_places, leaves_places, others_leave_places}
+use Rattle.law_turns.specs.PathCalls.{CallsPath, PathCallsMoveInside, changes_at, mounts_at, told_at, written_at}
+use Rattle.law_turns.proofs.LineLemmas.{others_move_nothing}
 use Rattle.law_turns.proofs.RuleLemmas.{rules_kept}
 use Rattle.law_turns.proofs.SettingLemmas.{at, at_placed, at_small, at_tagged, same_space, written}
 use Rattle.law_turns.proofs.WalkedLemmas.{scene, second_both}
-
--- ---- changes that move nothing
-
-mild_one : (c : Change) → is_mild c ≡ true → moves_nothing c ≡ true
-mild_one (MoveName dir name to new) mild = absurd cc
-mild_one _ mild = refl
-
-mild_all : (cs : List Change) → are_mild cs ≡ true → move_nothing cs ≡ true
-mild_all [] mild = refl
-mild_all (c ∷ cs) mild = let parts = both (is_mild c) (are_mild cs) mild in ap (λ b. b && move_nothing cs) (mild_one c parts.0) ∙ mild_all cs parts.1
-
-left_one : (c : Change) → leaves_places c ≡ true → moves_nothing c ≡ true
-left_one (MoveName dir name to new) leaves = absurd cc
-left_one _ leaves = refl
-
-left_all : (cs : List Change) → leave_places cs ≡ true → move_nothing cs ≡ true
-left_all [] leave = refl
-left_all (c ∷ cs) leave = let parts = both (leaves_places c) (leave_places cs) leave in ap (λ b. b && move_nothing cs) (left_one c parts.0) ∙ left_all cs parts.1
-
-abbrev moves : Request → Bool
-moves (call.Renameat2 olddir old newdir new) = true
-moves _ = false
-
-others_move_nothing : (pid : ℕ) (seen : Seen) (k : Known) (memory : Memory) (r : Request) → HasPath r → moves r ≡ false → move_nothing (carried_out (operation pid r seen k) memory).reply.changes ≡ true
-others_move_nothing pid seen k memory (call.Renameat2 olddir old newdir new) kind other = absurd cc
-others_move_nothing pid seen k memory (call.Openat dirfd path flags mode) kind other =
-    let r = call.Openat dirfd path flags mode in mild_all (carried_out (operation pid r seen k) memory).reply.changes (mildly (operation pid r seen k) (operation_mild pid r seen k refl refl refl) memory)
-others_move_nothing pid seen k memory (call.Chdir path) kind other =
-    let r = call.Chdir path in mild_all (carried_out (operation pid r seen k) memory).reply.changes (mildly (operation pid r seen k) (operation_mild pid r seen k refl refl refl) memory)
-others_move_nothing pid seen k memory r kind other = left_all (carried_out (operation pid r seen k) memory).reply.changes (others_leave_places pid seen k memory r kind refl)
 
 -- ---- renameat2
 
@@ -188,4 +154,4 @@ pub path_calls_move_inside : PathCallsMoveInside
 path_calls_move_inside table made pid no_shelf s p tags (call.Renameat2 olddir old newdir new) c calm = renamed_inside table made pid no_shelf s p tags olddir old newdir new c calm
 path_calls_move_inside table made pid no_shelf s p tags r c calm =
     stay_inside table (mounts_at table pid s p r) pid (changes_at table pid s p r) (written_at table pid s p r)
-    (others_move_nothing pid (told_at table pid s p r) (known image_layout pid (decoded_in pid p s)) (memory_of pid (decoded_in pid p s)) r c.kind refl)
+    (others_move_nothing pid (told_at table pid s p r) (known image_layout pid (decoded_in pid p s)) (memory_of pid (decoded_in pid p s)) r refl)

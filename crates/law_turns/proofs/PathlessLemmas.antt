@@ -1,38 +1,37 @@
 -- Calls without a path, in two states that match.
-use Rattle.std.proofs.Common.{◌≡◌, ◌≢◌, ℕ, Bool, true, false, cond, List, [], ◌∷◌, Option, Some, None, Ok, refl, sym, ap, subst, ◌∙◌, inl, inr}
-use Rattle.std.specs.Prelude.{◌&&◌, ◌||◌, ◌⊎◌, IsSome, ℤ}
+use Rattle.std.proofs.Common.{◌≡◌, ◌≢◌, ℕ, Bool, true, false, cond, List, [], ◌∷◌, Option, Some, None, Result, Ok, refl, sym, ap, subst, ◌∙◌}
+use Rattle.std.specs.Prelude.{◌&&◌, ◌||◌, IsSome, ℤ}
 use Rattle.std.specs.List.{list_all}
 use Rattle.std.specs.Option.{option_map_or}
+use Rattle.kr_core.specs.pr_base.declared.errno.Errno.{Errno}
 use Rattle.pt_results.specs.rv_mem.Actions.{carried_out}
 use Rattle.pt_results.specs.rv_mem.Memory.{Memory}
 use Rattle.pt_results.specs.rv_mem.Pages.{HoldsBytes, IsPlaced, IsWhole}
 use Rattle.pt_results.specs.pt_bind.Tags.{TagTable}
 use Rattle.law_places.specs.kr_view.View.{Row, plain}
+use Rattle.pt_results.specs.kr_calls.CallTable.{Told, ToldNothing, line, paths_of}
+use Rattle.pt_results.specs.kr_calls.PathTable.{PathUse, path_at, path_from}
 use Rattle.pt_results.specs.kr_calls.declared.request.Request.{Request}
 use Rattle.pt_results.specs.kr_calls.declared.request.Request.TheVariants as call
 use Rattle.law_places.specs.kr_model.Applied.{Mounts, applied, images}
 use Rattle.law_places.specs.kr_model.Bare.{bare_mounts}
 use Rattle.law_places.specs.kr_model.Change.{Change, ChangeDirectory, MoveName, OfDescriptor, OfDirectory, OfFound, OpenFile, ReplaceExecutable}
-use Rattle.law_places.specs.kr_model.AttributeRows.{fchmod_row, fchown_row}
 use Rattle.law_places.specs.kr_model.DirectoryRows.{fchdir_row}
 use Rattle.law_places.specs.kr_model.Known.{Known, known}
 use Rattle.law_places.proofs.kr_model.KnownLemmas.{known-bare}
 use Rattle.law_places.specs.kr_model.Operation.{operation}
 use Rattle.law_places.specs.kr_model.Seen.{NoPath, Seen}
 use Rattle.law_places.specs.kr_model.State.{Image, Process, State, image_layout}
-use Rattle.law_places.specs.kr_model.Walks.{seen, targets_of}
+use Rattle.law_places.specs.kr_model.Walks.{Targets, and_then, seen, seen_of, target_at, targets_of, told_by}
 use Rattle.law_places.specs.kr_model.declared.outcome.Outcome.TheVariants.{Ended}
 use Rattle.kr_core.specs.law_allowed.Allowed.{LeavesLawful}
 use Rattle.kr_core.specs.law_allowed.Told.{mounts_walked}
 use Rattle.kr_core.proofs.law_allowed.RowLemmas.{StaysLike, stays-like}
 use Rattle.kr_core.specs.kr_seen.Carrying.{memory_of}
-use Rattle.law_places.specs.kr_calm.Foreseen.{gives_owner, is_foreseen}
 use Rattle.law_places.specs.kr_calm.Rules.{changes_break_3, changes_break_4, changes_break_5}
 use Rattle.law_places.specs.kr_calm.Laws.{leaves_mark}
 use Rattle.law_places.proofs.kr_calm.ChangeLemmas.{both}
-use Rattle.law_places.proofs.kr_calm.MildCalls.{enters_open, operation_mild}
-use Rattle.law_places.proofs.kr_calm.MildLemmas.{ComesTo, are_mild, comes_to, is_mild, mildly}
-use Rattle.law_places.proofs.kr_calm.UnjudgedLemmas.{others-leave}
+use Rattle.law_places.proofs.kr_calm.UnjudgedLemmas.{calls-leave}
 use Rattle.kr_core.specs.kr_steps.Calls.{IsNoExec}
 use Rattle.kr_core.specs.kr_steps.Computing.{computed}
 use Rattle.kr_core.specs.kr_turns.Breaking.{decoded_rule, operated_rule, plain_rule, plain_rule_of}
@@ -47,11 +46,11 @@ use Rattle.law_places.proofs.KeepLemmas.{stay_inside}
 use Rattle.law_turns.specs.Calls.{CameAlike, decoded_by, decoded_in, tags_behind}
 use Rattle.law_turns.specs.Operating.{IsCalmCall, done_in, written_in}
 use Rattle.law_turns.specs.Lasting.{CanBeCalled}
-use Rattle.law_turns.specs.Pathless.{IsPathless, PathlessCallsComeAlike}
+use Rattle.law_turns.specs.Pathless.{IsPathless, PathlessCallsComeAlike, TellsNothing}
 use Rattle.law_turns.proofs.CallLemmas.{calls_come_alike}
 use Rattle.law_turns.proofs.CalledLemmas.{decoded_holds, decoded_lasts, decoded_lives, decoded_memory, decoded_process, is_allowed}
 use Rattle.law_turns.proofs.EnterLemmas.{fchdir_enters}
-use Rattle.law_turns.proofs.GrantLemmas.{fchmod_comes, fchown_comes}
+use Rattle.law_turns.proofs.LineLemmas.{all_bring, bring_nothing, brings_nothing, enters_open}
 use Rattle.law_turns.proofs.ImageLemmas.{bare_computed, places_computed, tags_computed}
 use Rattle.law_turns.proofs.OperateLemmas.{with_own_registers}
 use Rattle.law_turns.proofs.RunLemmas.{decoded_alike}
@@ -68,64 +67,25 @@ entering (call.Fchdir fd) e = (fd, refl)
 entering _ e = absurd cc
 
 -- it has no targets, and is told of none
+no_paths : (t : Told) → TellsNothing t → (k : ℕ) → path_from 0 (paths_of t) k ≡ None
+no_paths ToldNothing kind k = refl
+no_paths _ kind k = absurd kind
+
 module _ (rows : List Row) (pid : ℕ) (s : State ℕ Image) where
+  abbrev targets_from : Option PathUse → Option PathUse → Result Targets Errno
+  targets_from first second = and_then (target_at rows pid s first) (λ first. and_then (target_at rows pid s second) (λ second. Ok (record { first = first; second = second })))
+
   pub no_targets : (r : Request) → IsPathless r → targets_of rows pid s r ≡ Ok (record { first = None; second = None })
-  no_targets (call.Openat dirfd path flags mode) kind = absurd kind
-  no_targets (call.Mkdirat dirfd path mode) kind = absurd kind
-  no_targets (call.Unlinkat dirfd path flags) kind = absurd kind
-  no_targets (call.Symlinkat text dirfd path) kind = absurd kind
-  no_targets (call.Linkat olddir old newdir new flags) kind = absurd kind
-  no_targets (call.Renameat2 olddir old newdir new) kind = absurd kind
-  no_targets (call.Faccessat dirfd path mode) kind = absurd kind
-  no_targets (call.Fchmodat dirfd path mode) kind = absurd kind
-  no_targets (call.Fchownat dirfd path uid gid flags) kind = absurd kind
-  no_targets (call.Newfstatat dirfd path buf flags) kind = absurd kind
-  no_targets (call.Readlinkat dirfd path buf size) kind = absurd kind
-  no_targets (call.Chdir path) kind = absurd kind
-  no_targets (call.Chroot path) kind = absurd kind
-  no_targets (call.Execve path args env) kind = absurd kind
-  no_targets _ kind = refl
+  no_targets r kind = ap (λ u. targets_from u (path_at r 1)) (no_paths (line r).told kind 0) ∙ ap (targets_from None) (no_paths (line r).told kind 1)
+
+  tells_none : (t : Told) → TellsNothing t → (targets : Targets) → told_by rows pid s t targets ≡ NoPath
+  tells_none ToldNothing kind targets = refl
+  tells_none _ kind targets = absurd kind
 
   pub told_none : (r : Request) → IsPathless r → seen rows pid s r ≡ NoPath
-  told_none (call.Openat dirfd path flags mode) kind = absurd kind
-  told_none (call.Mkdirat dirfd path mode) kind = absurd kind
-  told_none (call.Unlinkat dirfd path flags) kind = absurd kind
-  told_none (call.Symlinkat text dirfd path) kind = absurd kind
-  told_none (call.Linkat olddir old newdir new flags) kind = absurd kind
-  told_none (call.Renameat2 olddir old newdir new) kind = absurd kind
-  told_none (call.Faccessat dirfd path mode) kind = absurd kind
-  told_none (call.Fchmodat dirfd path mode) kind = absurd kind
-  told_none (call.Fchownat dirfd path uid gid flags) kind = absurd kind
-  told_none (call.Newfstatat dirfd path buf flags) kind = absurd kind
-  told_none (call.Readlinkat dirfd path buf size) kind = absurd kind
-  told_none (call.Chdir path) kind = absurd kind
-  told_none (call.Chroot path) kind = absurd kind
-  told_none (call.Getcwd buf size) kind = absurd kind
-  told_none (call.Execve path args env) kind = absurd kind
-  told_none _ kind = refl
+  told_none r kind = ap (seen_of rows pid s r) (no_targets r kind) ∙ tells_none (line r).told kind (record { first = None; second = None })
 
 -- ---- changes that move no name and take no mount from a descriptor
-
-abbrev brings_nothing : Change → Bool
-brings_nothing (MoveName dir name to new) = false
-brings_nothing (OpenFile fd cloexec (OfDescriptor n) o) = false
-brings_nothing (ChangeDirectory (OfDescriptor n) host) = false
-brings_nothing (ReplaceExecutable (OfDescriptor n) host dir name) = false
-brings_nothing _ = true
-
-abbrev bring_nothing : List Change → Bool
-bring_nothing cs = list_all brings_nothing cs
-
-mild_one : (c : Change) → is_mild c ≡ true → brings_nothing c ≡ true
-mild_one (MoveName dir name to new) mild = absurd cc
-mild_one (OpenFile fd cloexec (OfDescriptor n) o) mild = absurd cc
-mild_one (ChangeDirectory (OfDescriptor n) host) mild = absurd cc
-mild_one (ReplaceExecutable (OfDescriptor n) host dir name) mild = absurd cc
-mild_one _ mild = refl
-
-mild_all : (cs : List Change) → are_mild cs ≡ true → bring_nothing cs ≡ true
-mild_all [] mild = refl
-mild_all (c ∷ cs) mild = let parts = both (is_mild c) (are_mild cs) mild in ap (λ b. b && bring_nothing cs) (mild_one c parts.0) ∙ mild_all cs parts.1
 
 still_one : (c : Change) → brings_nothing c ≡ true → moves_nothing c ≡ true
 still_one (MoveName dir name to new) brings = absurd cc
@@ -135,33 +95,10 @@ still_all : (cs : List Change) → bring_nothing cs ≡ true → move_nothing cs
 still_all [] brings = refl
 still_all (c ∷ cs) brings = let parts = both (brings_nothing c) (bring_nothing cs) brings in ap (λ b. b && move_nothing cs) (still_one c parts.0) ∙ still_all cs parts.1
 
+-- none of these calls gives its caller another program
 module _ (k : Known) where
-  -- every other such call is mild
-  by_kind : (pid : ℕ) (r : Request) (told : Seen) → IsPathless r → ComesTo brings_nothing (operation pid r told k) ⊎ ((is_foreseen r ≡ false) × (gives_owner r ≡ false))
-  by_kind pid (call.Fchmod fd mode) told kind = inl (fchmod_comes k (λ i mode. refl) fd mode)
-  by_kind pid (call.Fchown fd uid gid) told kind = inl (fchown_comes k (λ i uid gid. refl) fd uid gid)
-  by_kind pid (call.Unlinkat dirfd path flags) told kind = absurd kind
-  by_kind pid (call.Renameat2 olddir old newdir new) told kind = absurd kind
-  by_kind pid (call.Fchmodat dirfd path mode) told kind = absurd kind
-  by_kind pid (call.Fchownat dirfd path uid gid flags) told kind = absurd kind
-  by_kind pid _ told kind = inr (refl, refl)
-
-  all_bring : (pid : ℕ) (r : Request) (told : Seen) (memory : Memory) → IsPathless r → enters_open r ≡ false → bring_nothing (carried_out (operation pid r told k) memory).reply.changes ≡ true
-  all_bring pid r told memory kind enters = by (by_kind pid r told kind)
-    where
-      by : ComesTo brings_nothing (operation pid r told k) ⊎ ((is_foreseen r ≡ false) × (gives_owner r ≡ false)) → bring_nothing (carried_out (operation pid r told k) memory).reply.changes ≡ true
-      by (inl comes) = comes_to (operation pid r told k) comes memory
-      by (inr none) = mild_all (carried_out (operation pid r told k) memory).reply.changes (mildly (operation pid r told k) (operation_mild pid r told k none.0 none.1 enters) memory)
-
-  -- none gives its caller another program
   pub pathless_leave : (pid : ℕ) (r : Request) (told : Seen) (memory : Memory) → IsPathless r → (carried_out (operation pid r told k) memory).reply.outcome ≢ Ended → list_all leaves_mark (carried_out (operation pid r told k) memory).reply.changes ≡ true
-  pathless_leave pid (call.Fchmod fd mode) told memory kind goes = comes_to (fchmod_row k fd mode) (fchmod_comes k (λ i mode. refl) fd mode) memory
-  pathless_leave pid (call.Fchown fd uid gid) told memory kind goes = comes_to (fchown_row k fd uid gid) (fchown_comes k (λ i uid gid. refl) fd uid gid) memory
-  pathless_leave pid (call.Unlinkat dirfd path flags) told memory kind goes = absurd kind
-  pathless_leave pid (call.Renameat2 olddir old newdir new) told memory kind goes = absurd kind
-  pathless_leave pid (call.Fchmodat dirfd path mode) told memory kind goes = absurd kind
-  pathless_leave pid (call.Fchownat dirfd path uid gid flags) told memory kind goes = absurd kind
-  pathless_leave pid r told memory kind goes = others-leave pid r told k memory refl refl goes
+  pathless_leave pid r told memory kind goes = calls-leave pid r told k memory goes
 
 -- where no mount is found, none of their new places is in one
 module _ (table : List Row) (pid : ℕ) (mounts : Mounts ℕ) (nothing_found : mounts.found ≡ None) (no_directory : mounts.directory ≡ None) where

@@ -25,7 +25,7 @@ use Rattle.law_places.proofs.kr_calm.ProspectLemmas.{foreseen_calls_make_it}
 use Rattle.law_places.specs.Changes.{NewPlaceStands, NewPlacesStand}
 use Rattle.law_turns.specs.Changing.{all_tags_made}
 use Rattle.law_turns.specs.PathCalls.{HasPath}
-use Rattle.law_turns.proofs.RowLemmas.{leave_places, leaves_places, others_leave_places}
+use Rattle.law_turns.proofs.LineLemmas.{leave_places, leaves_places, others_leave_places}
 
 -- a change that leaves places, or moves a name
 abbrev pub leaves_uses : Change → Bool

@@ -13,6 +13,7 @@ use Rattle.kr_core.specs.kr_tree.declared.place.Place.{Place}
 use Rattle.law_places.specs.kr_view.View.{Row, plain}
 use Rattle.law_places.specs.kr_view.Walk.{PlaceTarget}
 use Rattle.law_places.specs.kr_mounts.Standing.{texts_of}
+use Rattle.pt_results.specs.kr_calls.CallTable.{Told, ToldNothing, line}
 use Rattle.pt_results.specs.kr_calls.declared.request.Request.{Request}
 use Rattle.pt_results.specs.kr_calls.declared.request.Request.TheVariants as call
 use Rattle.law_places.specs.kr_model.Applied.{Mounts}
@@ -37,23 +38,15 @@ use Rattle.law_turns.specs.Changing.{all_tags_made}
 use Rattle.law_turns.specs.Lasting.{CanBeCalled}
 use Rattle.law_turns.specs.Operating.{IsCalmCall, done_in, written_in}
 
--- calls that are told of a path, other than execve(2); and getcwd(2), which is told of a name
+-- a way of being told that tells of a path; or of a name, as getcwd(2) is told
+abbrev pub TellsPath : Told → Type 0
+TellsPath ToldNothing = ⊥
+TellsPath _ = Unit {0}
+
+-- calls whose lines say so, other than execve(2)
 abbrev pub HasPath : Request → Type 0
-HasPath (call.Openat dirfd path flags mode) = Unit {0}
-HasPath (call.Mkdirat dirfd path mode) = Unit {0}
-HasPath (call.Unlinkat dirfd path flags) = Unit {0}
-HasPath (call.Symlinkat text dirfd path) = Unit {0}
-HasPath (call.Linkat olddir old newdir new flags) = Unit {0}
-HasPath (call.Renameat2 olddir old newdir new) = Unit {0}
-HasPath (call.Faccessat dirfd path mode) = Unit {0}
-HasPath (call.Fchmodat dirfd path mode) = Unit {0}
-HasPath (call.Fchownat dirfd path uid gid flags) = Unit {0}
-HasPath (call.Newfstatat dirfd path buf flags) = Unit {0}
-HasPath (call.Readlinkat dirfd path buf size) = Unit {0}
-HasPath (call.Chdir path) = Unit {0}
-HasPath (call.Chroot path) = Unit {0}
-HasPath (call.Getcwd buf size) = Unit {0}
-HasPath _ = ⊥
+HasPath (call.Execve path args env) = ⊥
+HasPath r = TellsPath (line r).told
 
 -- ---- a call of a process that lives, behind its decoding
 

@@ -2,8 +2,8 @@
 use Rattle.std.specs.Prelude.{◌≡◌, ℕ, Bool, List, None, Ok}
 use Rattle.pt_results.specs.pt_bind.Tags.{TagTable}
 use Rattle.law_places.specs.kr_view.View.{Row, plain}
+use Rattle.pt_results.specs.kr_calls.CallTable.{Told, ToldNothing, line}
 use Rattle.pt_results.specs.kr_calls.declared.request.Request.{Request}
-use Rattle.pt_results.specs.kr_calls.declared.request.Request.TheVariants as call
 use Rattle.law_places.specs.kr_model.State.{Image, Process, State}
 use Rattle.kr_core.specs.kr_turns.Breaking.{plain_rule}
 use Rattle.kr_core.specs.kr_turns.PlainCall.{plain_call}
@@ -11,24 +11,13 @@ use Rattle.law_places.specs.Matching.{IsMatch}
 use Rattle.law_turns.specs.Calls.{CameAlike, decoded_by, tags_behind}
 use Rattle.law_turns.specs.Lasting.{CanBeCalled}
 
--- calls that are told of no path
+abbrev pub TellsNothing : Told → Type 0
+TellsNothing ToldNothing = Unit {0}
+TellsNothing _ = ⊥
+
+-- calls that are told of no path, as their lines say
 abbrev pub IsPathless : Request → Type 0
-IsPathless (call.Openat dirfd path flags mode) = ⊥
-IsPathless (call.Mkdirat dirfd path mode) = ⊥
-IsPathless (call.Unlinkat dirfd path flags) = ⊥
-IsPathless (call.Symlinkat text dirfd path) = ⊥
-IsPathless (call.Linkat olddir old newdir new flags) = ⊥
-IsPathless (call.Renameat2 olddir old newdir new) = ⊥
-IsPathless (call.Faccessat dirfd path mode) = ⊥
-IsPathless (call.Fchmodat dirfd path mode) = ⊥
-IsPathless (call.Fchownat dirfd path uid gid flags) = ⊥
-IsPathless (call.Newfstatat dirfd path buf flags) = ⊥
-IsPathless (call.Readlinkat dirfd path buf size) = ⊥
-IsPathless (call.Chdir path) = ⊥
-IsPathless (call.Chroot path) = ⊥
-IsPathless (call.Getcwd buf size) = ⊥
-IsPathless (call.Execve path args env) = ⊥
-IsPathless _ = Unit {0}
+IsPathless r = TellsNothing (line r).told
 
 -- a calm one comes to the same on both kernels, and keeps a match
 abbrev pub PathlessCallsComeAlike : Type 0

@@ -10,9 +10,9 @@ use Rattle.pt_canon.specs.pr_base.declared.path.WalkMode.{WalkMode}
 use Rattle.kr_mounts.specs.kr_tree.declared.place.Place.{Place}
 use Rattle.kr_mounts.specs.kr_view.View.{Row, plain, root_place}
 use Rattle.kr_mounts.specs.kr_view.Walk.{PlaceTarget, place_walk}
+use Rattle.kr_model.specs.kr_calls.CallTable.{Told, LooksAt, ReadsLinkAt, OpensAt, LinksTwo, NamesHere, line}
 use Rattle.kr_model.specs.kr_calls.PathTable.{PathUse, path_at}
 use Rattle.kr_model.specs.kr_calls.declared.request.Request.{Request}
-use Rattle.kr_model.specs.kr_calls.declared.request.Request.TheVariants as call
 use Rattle.kr_model.specs.Applied.{cwd_of}
 use Rattle.kr_model.specs.Asking.{descriptor_number, is_working_directory}
 use Rattle.kr_model.specs.FileRows.{creates}
@@ -20,9 +20,9 @@ use Rattle.kr_model.specs.HostView.{host_around_of}
 use Rattle.kr_model.specs.ProcessDirectory.{around_of}
 use Rattle.kr_model.specs.Seen.{Looked, Links, LooksUp, NamesDirectory, Opens, OpensFound, OpensNew, OpensNoName, OpensSlashed, ReadsLink, Seen, WalkFails}
 use Rattle.kr_model.specs.State.{Image, State}
-use Rattle.kr_model.specs.Walks.{Targets, and_then, base_of, created_at, entry_of, if_found, if_name, looked_at, looks_up, made_at, mount_found, of_one, of_two, place_of_descriptor, seen_of, target_at, targets_of, told, walked}
+use Rattle.kr_model.specs.Walks.{Targets, and_then, base_of, created_at, entry_of, if_found, if_name, looked_at, looks_up, made_at, mount_found, of_one, of_two, place_of_descriptor, seen_of, target_at, targets_of, told, told_by, walked}
 use Rattle.law_walks.specs.Alike.{AreEqualButForMounts}
-use Rattle.law_walks.specs.BareFacts.{AreToldAlike, FactsAreBare, HasAbsolutePaths, IsSeenOnHost, PlainFactsAreHostFacts, SeenOnHostIsBare, seen_of_targets, target_on_host, targets_on_host, told_on_host, walked_on_host}
+use Rattle.law_walks.specs.BareFacts.{AreToldAlike, FactsAreBare, HasAbsolutePaths, IsSeenOnHost, PlainFactsAreHostFacts, SeenOnHostIsBare, seen_of_targets, target_on_host, targets_on_host, told_on_host, told_on_host_by, walked_on_host}
 use Rattle.law_walks.specs.OneMount.{IsInOneMount}
 use Rattle.law_walks.proofs.OneMountLemmas.{plain_walks_are_host_walks, same_directory_name, same_text as same_plain_text}
 use Rattle.law_walks.proofs.BareStateLemmas.{host_walks_are_bare, same_cwd_names, same_directories, same_texts}
@@ -30,11 +30,13 @@ use Rattle.law_walks.proofs.BareStateLemmas.{host_walks_are_bare, same_cwd_names
 -- ---- of the plain view
 
 module _ (X : Type 0) (w : State ℕ X) (caller : ℕ) (one : IsInOneMount w) where
+  plain_by : (t : Told) (targets : Targets) → told_by plain caller w t targets ≡ told_on_host_by caller w t targets
+  plain_by (ReadsLinkAt at) targets = λ j. of_one targets (λ target. if_found plain caller w target (λ l. ReadsLink l (same_plain_text w one caller l.host j)))
+  plain_by NamesHere targets = ap NamesDirectory (same_directory_name w one caller)
+  plain_by t targets = refl
+
   pub told_plain : (r : Request) (targets : Targets) → told plain caller w r targets ≡ told_on_host caller w r targets
-  told_plain (call.Readlinkat dirfd path buf size) targets =
-      λ j. of_one targets (λ target. if_found plain caller w target (λ l. ReadsLink l (same_plain_text w one caller l.host j)))
-  told_plain (call.Getcwd buf size) targets = ap NamesDirectory (same_directory_name w one caller)
-  told_plain r targets = refl
+  told_plain r targets = plain_by (line r).told targets
 
 pub plain_facts_are_host_facts : (X : Type 0) → PlainFactsAreHostFacts X
 plain_facts_are_host_facts X w caller one = record { texts = same_plain_text w one caller; facts = told_plain X w caller one }
@@ -73,20 +75,17 @@ module _ (pins less : ℕ → ℕ) (s w : State ℕ Image) (caller : ℕ) (same 
   same_looks_up : (targets : Targets) → looks_up plain caller s targets ≡ looks_up plain caller w targets
   same_looks_up targets = λ j. of_one targets (λ target. alike.found target LooksUp j)
 
-  pub facts_alike : (r : Request) (targets : Targets) → told_on_host caller s r targets ≡ told_on_host caller w r targets
-  facts_alike (call.Linkat olddir old newdir new flags) targets = λ j. of_two targets (λ old new. alike.linked old new j)
-  facts_alike (call.Openat dirfd path flags mode) targets = λ j. of_one targets (λ target. alike.opened flags target j)
-  facts_alike (call.Readlinkat dirfd path buf size) targets =
+  alike_by : (t : Told) (targets : Targets) → told_on_host_by caller s t targets ≡ told_on_host_by caller w t targets
+  alike_by (LinksTwo how old new) targets = λ j. of_two targets (λ old new. alike.linked old new j)
+  alike_by (OpensAt flags at) targets = λ j. of_one targets (λ target. alike.opened flags target j)
+  alike_by (ReadsLinkAt at) targets =
       λ j. of_one targets (λ target. option_map_or (λ p. let l = same_looked plain target p j in ReadsLink l (same_texts ℕ ℕ pins less s w same caller l.host j)) target.found (WalkFails ENOENT))
-  facts_alike (call.Getcwd buf size) targets = ap NamesDirectory (same_cwd_names ℕ ℕ pins less s w same caller)
-  facts_alike (call.Faccessat dirfd path mode) targets = same_looks_up targets
-  facts_alike (call.Chdir path) targets = same_looks_up targets
-  facts_alike (call.Chroot path) targets = same_looks_up targets
-  facts_alike (call.Fchmodat dirfd path mode) targets = same_looks_up targets
-  facts_alike (call.Fchownat dirfd path uid gid flags) targets = same_looks_up targets
-  facts_alike (call.Newfstatat dirfd path buf flags) targets = same_looks_up targets
-  facts_alike (call.Execve path args env) targets = same_looks_up targets
-  facts_alike r targets = refl
+  alike_by NamesHere targets = ap NamesDirectory (same_cwd_names ℕ ℕ pins less s w same caller)
+  alike_by (LooksAt how at) targets = same_looks_up targets
+  alike_by t targets = refl
+
+  pub facts_alike : (r : Request) (targets : Targets) → told_on_host caller s r targets ≡ told_on_host caller w r targets
+  facts_alike r targets = alike_by (line r).told targets
 
   -- ---- calls whose paths are absolute
 

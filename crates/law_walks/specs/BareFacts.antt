@@ -10,14 +10,14 @@ use Rattle.kr_mounts.specs.kr_tree.declared.place.ProcAt.{ProcAt}
 use Rattle.kr_mounts.specs.kr_tree.declared.place.ProcAt.TheVariants.{SelfLink, Dir, Cwd, Root, Exe, FdDir, Fd}
 use Rattle.kr_mounts.specs.kr_view.View.{Row, plain, root_place}
 use Rattle.kr_mounts.specs.kr_view.Walk.{PlaceTarget, place_walk}
+use Rattle.kr_model.specs.kr_calls.CallTable.{Told, ReadsLinkAt, NamesHere, line}
 use Rattle.kr_model.specs.kr_calls.PathTable.{PathUse, path_at}
 use Rattle.kr_model.specs.kr_calls.declared.request.Request.{Request}
-use Rattle.kr_model.specs.kr_calls.declared.request.Request.TheVariants as call
 use Rattle.kr_model.specs.HostView.{base_text, cwd_name, exe_name, host_around_of, host_space}
 use Rattle.kr_model.specs.ProcessDirectory.{name_text}
 use Rattle.kr_model.specs.Seen.{Looked, Seen, WalkFails, ReadsLink, NamesDirectory}
 use Rattle.kr_model.specs.State.{Image, State, process}
-use Rattle.kr_model.specs.Walks.{Targets, and_then, created_at, if_found, linked_at, made_at, moved_at, of_one, opened_at, seen, taken_at, targets_of, text_at, told}
+use Rattle.kr_model.specs.Walks.{Targets, and_then, created_at, if_found, linked_at, made_at, moved_at, of_one, opened_at, seen, taken_at, targets_of, text_at, told, told_by}
 use Rattle.law_walks.specs.Alike.{AreEqualButForMounts}
 use Rattle.law_walks.specs.OneMount.{IsInOneMount}
 
@@ -64,10 +64,13 @@ module _ {M X : Type 0} (caller : ℕ) (s : State M X) where
 
 module _ {X : Type 0} (caller : ℕ) (s : State ℕ X) where
   -- names are host names; all else is told as in the plain view
+  abbrev pub told_on_host_by : Told → Targets → Seen
+  told_on_host_by (ReadsLinkAt at) targets = of_one targets (λ target. if_found plain caller s target (λ l. ReadsLink l (text_on_host caller s l.host)))
+  told_on_host_by NamesHere targets = NamesDirectory (cwd_name s caller)
+  told_on_host_by t targets = told_by plain caller s t targets
+
   abbrev pub told_on_host : Request → Targets → Seen
-  told_on_host (call.Readlinkat dirfd path buf size) targets = of_one targets (λ target. if_found plain caller s target (λ l. ReadsLink l (text_on_host caller s l.host)))
-  told_on_host (call.Getcwd buf size) targets = NamesDirectory (cwd_name s caller)
-  told_on_host r targets = told plain caller s r targets
+  told_on_host r targets = told_on_host_by (line r).told targets
 
   abbrev pub seen_of_targets : Request → Result Targets Errno → Seen
   seen_of_targets r (Ok targets) = told_on_host r targets

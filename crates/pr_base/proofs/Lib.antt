@@ -8,3 +8,5 @@ pub mod PathRows
 pub mod TextLemmas
 pub mod WalkLemmas
 pub mod WalkRows
+pub mod KeptWalkLemmas
+pub mod SameWalkLemmas

@@ -11,3 +11,5 @@ pub mod Pieces
 pub mod Texts
 pub mod WalkFrame
 pub mod WalkLaws
+pub mod KeptWalks
+pub mod SameWalks

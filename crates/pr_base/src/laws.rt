@@ -1,7 +1,9 @@
 //! Laws of the definitions, each carried by a function that does nothing.
 ghost use Rattle.pr_base.specs.Alike.{WalksEndAlike};
+ghost use Rattle.pr_base.specs.KeptWalks.{WalksKeep};
 ghost use Rattle.pr_base.specs.Maps.{MapsChange};
 ghost use Rattle.pr_base.specs.Paths.{PathsHaveComponents, PathsJoin, TextsAreAbsolute, TextsHaveTheirNames};
+ghost use Rattle.pr_base.specs.SameWalks.{WalksAgree};
 ghost use Rattle.pr_base.specs.Texts.{NamesStandInFront, TextsAreToldApart};
 ghost use Rattle.pr_base.specs.WalkLaws.{FoundIsShown, JumpIsShown, WalksGoByComponents};
 
@@ -69,6 +71,34 @@ pub trait LookTwice {
 /// Walks over two ways of looking that are alike end alike: with the same error, or at targets that correspond.
 pub fn walks_end_alike<L: LookTwice>()
     ensures { WalksEndAlike L.likeness }
+{}
+
+/// Two ways of looking that show the same at each look of one walk give that walk both.
+pub fn walks_agree<S, F>()
+    ensures { WalksAgree S F }
+{}
+
+/// What is to hold all along a walk, and which looks keep it.
+pub trait KeptWhere {
+    type Place;
+
+    type Found;
+
+    ghost use Rattle.pr_base.specs.WalkFrame.{LookedAt, Target};
+
+    /// What holds of the places that a walk goes through.
+    ghost good: { Self.Place → Type 0 };
+
+    /// The looks that keep it.
+    ghost fine: { LookedAt Self.Place → Type 0 };
+
+    /// What then holds of the target of the walk.
+    ghost holds: { Target Self.Place Self.Found → Type 0 };
+}
+
+/// What fine looks keep holds all along a walk whose looks are fine, and its target has what such walks end with.
+pub fn walks_keep<L: KeptWhere>()
+    ensures { WalksKeep L.good L.fine L.holds }
 {}
 
 /// Finite maps with the same values are one, and a change of one shows at its key alone.

@@ -21,7 +21,8 @@
 //!
 //! The rules of a walk are a definition here (`walk`); no code of this crate follows it. A walk goes component by component
 //! (`walks_go_by_components`); what it found is what its last component shows (`found_is_shown`) or where a link of the process directory leads
-//! (`jump_is_shown`); walks over two ways of looking that are alike end alike (`walks_end_alike`). Its trail tells where the links of the process
+//! (`jump_is_shown`); walks over two ways of looking that are alike end alike (`walks_end_alike`),
+//! and are one walk where they show the same at each of its looks (`walks_agree`); what the looks of a walk keep holds all along it (`walks_keep`). Its trail tells where the links of the process
 //! directory led that it followed.
 //!
 //! `Peeks` is what a tracer may ask of a kernel: each call answers its function's value or want of memory and changes none of these values

@@ -178,6 +178,7 @@ edits_keep_to_paths = record {
       swap_planned sp usable regs pokes (plan_of texts pid request) e (λ first second is shelf.
       let P : List (ℕ × ℕ) → Type 0 = λ regs. All (λ r. IsPathRegister request r.0) regs in
       subst P (sym shelf.regs_are) (registers_named texts pid sp request first second (plan_is texts pid request (path_at request 0) (Swaps first second) refl is)));
+  used = λ texts pid sp usable request regs pokes e. swap_planned sp usable regs pokes (plan_of texts pid request) e (λ first second is shelf. shelf.used);
   within = λ texts pid sp usable request regs pokes room e.
       swap_planned sp usable regs pokes (plan_of texts pid request) e (λ first second is shelf.
       let fits = room_for first second shelf.short in

@@ -67,6 +67,9 @@ pub record EditsKeepToPaths : Type 0 where
   -- no other register than those of the paths is changed
   pub registers : (texts : TextSurroundings) (pid sp : ℕ) (usable : Bool) (request : Request) (regs : List (ℕ × ℕ)) (pokes : List (ℕ × List ℕ))
       → edit_of texts pid sp usable request ≡ Swap regs pokes → All (λ r. IsPathRegister request r.0) regs
+  -- texts are put only on a shelf that can be used
+  pub used : (texts : TextSurroundings) (pid sp : ℕ) (usable : Bool) (request : Request) (regs : List (ℕ × ℕ)) (pokes : List (ℕ × List ℕ))
+      → edit_of texts pid sp usable request ≡ Swap regs pokes → usable ≡ true
   -- no byte is written but in a shelf that can be used
   pub within : (texts : TextSurroundings) (pid sp : ℕ) (usable : Bool) (request : Request) (regs : List (ℕ × ℕ)) (pokes : List (ℕ × List ℕ))
       → 65536 ≤ sp → edit_of texts pid sp usable request ≡ Swap regs pokes → (usable ≡ true) × StandBetween (sp - 65536) sp pokes

@@ -13,7 +13,7 @@ pub fn texts_are_read_back()
 {}
 
 /// A call without a path is passed. An edit changes no register but those of its call's paths, and writes nothing but in
-/// the 65,536 bytes below the stack pointer.
+/// the 65,536 bytes below the stack pointer, where these can be used.
 pub fn edits_keep_to_paths()
     ensures { EditsKeepToPaths }
 {}

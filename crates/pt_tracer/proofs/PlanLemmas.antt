@@ -15,6 +15,7 @@ use Rattle.pt_results.specs.pt_args.Walks.{walked}
 use Rattle.pt_results.specs.pt_args.declared.reached.Reached.{Reached}
 use Rattle.pt_faker.specs.Stopping.{IsThere, memory_at, Stopped, with_memory}
 use Rattle.pt_results.specs.pt_args.declared.edit.Edit.{Edit}
+use Rattle.pt_results.specs.pt_args.declared.edit.Edit.TheVariants.{Cancel, Emulate, Pass, Swap}
 use Rattle.pt_faker.specs.Reading.{lists_at}
 use Rattle.pt_faker.specs.declared.lists.Handed.{Handed}
 use Rattle.pt_script.specs.declared.expansion.Expanded.{Expanded}
@@ -33,6 +34,16 @@ stack-stays action reply t u there carries =
 pub if_ok : {A E : Type 0} {P Q : A → Type 0} (r : Result A E) → ((x : A) → P x → Q x) → IfOk r P → IfOk r Q
 if_ok (Ok x) f p = f x p
 if_ok (Err e) f p = p
+
+-- what holds of a call whose texts are put on the shelf
+pub swap-used : {P : Type 0} (edit made : Edit) → edit ≡ made → is_swap edit ≡ true → ((regs : List (ℕ × ℕ)) (pokes : List (ℕ × List ℕ)) → made ≡ Swap regs pokes → P) → P
+swap-used {P = P} edit made is swaps used = by made (sym (ap is_swap is) ∙ swaps) used
+  where
+    by : (made : Edit) → is_swap made ≡ true → ((regs : List (ℕ × ℕ)) (pokes : List (ℕ × List ℕ)) → made ≡ Swap regs pokes → P) → P
+    by (Swap regs pokes) e used = used regs pokes refl
+    by Pass e used = absurd cc
+    by (Cancel errno) e used = absurd cc
+    by (Emulate pokes answer) e used = absurd cc
 
 module _ (bindings : List MountText) (tags : TagTable) where
   -- a program behind scripts

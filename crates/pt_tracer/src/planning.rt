@@ -14,7 +14,8 @@ use pt_bind::Tags;
 use pt_faker::registers::STACK;
 use pt_faker::{Handed, Tracee, addresses_behind, read_lists};
 use pt_results::below::{
-    CallFault, Edit, Reached, Request, Rewritten, WalkErr, Walker, path_of, rewrite_along,
+    CallFault, Edit, Reached, Request, Rewritten, WalkErr, Walker, edits_keep_to_paths, path_of,
+    rewrite_along,
 };
 use pt_results::{cwd_answer, link_answer};
 use pt_script::{Expanded, expand};
@@ -50,6 +51,7 @@ fn rewritten<T: Tracee>(
     ensures same { T.stopped t.new ≡ T.stopped t.old }
     ensures rest { T.around t.new ≡ T.around t.old }
 {
+    edits_keep_to_paths();
     let pid = t.pid();
     let sp = t.reg(STACK);
     let shelf = has_shelf(t);

@@ -19,10 +19,10 @@ pub fn extend(n: u32) -> u64
 }
 
 /// An immediate as a register has it.
-pub fn of_immediate(imm: i64) -> u64
+pub fn of_immediate(imm: i32) -> u64
     ensures { result ≡ word.wrapped imm }
 {
-    imm.cast_unsigned()
+    i64::from(imm).cast_unsigned()
 }
 
 pub fn sub(a: u64, b: u64) -> u64
@@ -35,6 +35,24 @@ pub fn add(a: u64, b: u64) -> u64
     ensures { result ≡ word.sum a b }
 {
     a.wrapping_add(b)
+}
+
+pub fn xor(a: u64, b: u64) -> u64
+    ensures { result ≡ word.exactly_one a b }
+{
+    a ^ b
+}
+
+pub fn or(a: u64, b: u64) -> u64
+    ensures { result ≡ word.either a b }
+{
+    a | b
+}
+
+pub fn and(a: u64, b: u64) -> u64
+    ensures { result ≡ word.both a b }
+{
+    a & b
 }
 
 pub fn is_less(a: u64, b: u64) -> bool

@@ -1,14 +1,17 @@
 //! What the loads make of the bytes that they read.
-ghost use Rattle.std.specs.Prelude.{◌≡◌, IfSome, true, false};
+ghost use Rattle.std.specs.Prelude.{◌≡◌, ◌%◌, IfSome, true, false};
 ghost use Rattle.rv_mem.specs.Pages.{allows_all, bytes_from};
 ghost use Rattle.rv_mem.specs.Memory.{after_read};
 ghost use Rattle.rv_table.specs.pr_base.Fields.{little_endian};
+ghost use Rattle.rv_table.specs.Small.{instr_of};
+ghost use Rattle.rv_table.specs.Rows.{decoded};
 ghost use Rattle.rv_cpu.specs.Loads.{size, extended};
 ghost use Rattle.rv_cpu.specs.Step.{width};
 ghost use Rattle.rv_cpu.specs.Words as word;
 
 use crate::arithmetic::extend;
 use rv_mem::{Space, Use};
+use rv_table::Small;
 
 /// How many bytes a load reads, and how it extends them.
 #[derive(Clone, Copy)]
@@ -86,6 +89,19 @@ pub fn read_word<const M: u8>(mem: &mut Space<M>, at: u64, what: Use) -> Option<
     match read_array::<4, M>(mem, at, what) {
         Some(bytes) => Some(u32::from_le_bytes(bytes)),
         None => None,
+    }
+}
+
+/// Fetches the word at an address that is divisible by 4: its instruction, if it is one. `None` where a byte isn't executable.
+#[inline(always)]
+pub fn fetch<const M: u8>(mem: &mut Space<M>, at: u64) -> Option<Small>
+    requires { at % 4 ≡ 0 }
+    ensures some { IfSome result (λ found. (allows_all mem.old.pages at 4 Use.Execute ≡ true) × (instr_of found ≡ decoded (little_endian (bytes_from mem.old.pages at 4))) × (mem.new ≡ after_read mem.old at 4)) }
+    ensures none { result ≡ None → (allows_all mem.old.pages at 4 Use.Execute ≡ false) × (mem.new ≡ mem.old) }
+{
+    match mem.fetch(at) {
+        Ok(found) => Some(found),
+        Err(_) => None,
     }
 }
 

@@ -45,7 +45,7 @@ pub fn set_and_move_on(regs: &mut Regs, r: u8, value: u64)
 
 /// The address of a load, a store or a jump: a register and an immediate.
 #[inline(always)]
-pub fn address(regs: &Regs, r: u8, imm: i64) -> u64
+pub fn address(regs: &Regs, r: u8, imm: i32) -> u64
     ensures { result ≡ address regs.now r imm }
 {
     add(get(regs, r), of_immediate(imm))

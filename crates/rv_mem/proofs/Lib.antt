@@ -1,10 +1,12 @@
 pub use Rattle.pr_base.proofs as pr_base
+pub use Rattle.rv_table.proofs as rv_table
 pub mod AccessLemmas
 pub mod ActionLemmas
 pub mod AddressLemmas
 pub mod AlikeLemmas
 pub mod ByteLemmas
 pub mod ChangeLemmas
+pub mod CodeLemmas
 pub mod LayoutLemmas
 pub mod MapLemmas
 pub mod MarkLemmas

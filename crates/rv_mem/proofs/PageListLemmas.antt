@@ -186,6 +186,10 @@ module _ (marked : ℕ) (ps : List Unmarked) (ms : List Marks) (m : List PageSta
   pages_of-does qs ns i p q marks f h here set changed does =
       pages_of-changed qs ns i q marks h set changed ∙ ap (slice_set m i) (does ∙ ap f (sym (stands_with i p h here)))
 
+  -- a page put back as it was
+  pub pages_of-same : (i : ℕ) (p q : Unmarked) → i < length m → p ≡ slice_index_or ps i p → q ≡ p → pages_of marked (slice_set ps i q) ms ≡ m
+  pages_of-same i p q h here same = ap (λ (x : Unmarked). pages_of marked (slice_set ps i x) ms) (same ∙ here) ∙ ap (λ (l : List Unmarked). pages_of marked l ms) (set_back ps i p (below i h)) ∙ is
+
   -- the marks of a page alone changed
   pub pages_of-remarked : (ns : List Marks) (i : ℕ) (marks : List Bool) (f : PageState → PageState) → i < length m → IsChangedAt marked ms ns i marks
       → ((p : Unmarked) → with_marks p marks ≡ f (with_marks p (marks_at marked ms i))) → pages_of marked ps ns ≡ slice_set m i (f (page_at m i))

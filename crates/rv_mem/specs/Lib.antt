@@ -1,5 +1,7 @@
 pub use Rattle.pr_base.specs as pr_base
+pub use Rattle.rv_table.specs as rv_table
 pub mod Actions
+pub mod Code
 pub mod Layout
 pub mod Marks
 pub mod Memory

@@ -1,2 +1,3 @@
 //! The crates below, by which those above name them.
 pub use pr_base;
+pub use rv_table;

@@ -10,6 +10,9 @@
 //! `write`, `mark` and `fork` are the changes of that map that their names say, all or nothing, with each refusal exactly when (`full`, `when`,
 //! `bad`) and nothing changed by it (`err`); `read` and `text_at` give the bytes of the map and note marks of what they read (`after`).
 //!
+//! `fetch` gives the instruction that the word at an address decodes to, if it is one (`word`), and is refused exactly where one of its bytes may
+//! not be executed (`refused`). What was decoded of a page is remembered in it, which no clause shows.
+//!
 //! `can`, `pages` and `mark_was_read` are functions of the map. `can` also tells what holds of every memory: its pages lie below the last address
 //! and are whole, and what stands in them are bytes (`placed`, `whole`, `bytes`).
 //!
@@ -29,6 +32,7 @@
 
 mod access;
 pub mod below;
+mod code;
 mod fault;
 mod frame;
 pub mod laws;

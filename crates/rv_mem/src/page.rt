@@ -1,21 +1,29 @@
 //! A page of a process's memory, without its marks.
 ghost use Rattle.pr_base.specs.Page.{page_size};
-ghost use Rattle.std.specs.Prelude.{◌≡◌, ◌+◌, ◌≤◌, length, take, drop, OnOk, OnErr, nat_eq, position};
+ghost use Rattle.std.specs.Prelude.{◌≡◌, ◌+◌, ◌%◌, ◌≤◌, Some, length, take, drop, IfSome, OnOk, OnErr, nat_eq, position};
+ghost use Rattle.rv_table.specs.Small.{instr_of};
+ghost use Rattle.rv_table.specs.Rows.{decoded};
+ghost use Rattle.rv_mem.specs.Code.{word_at};
 
+use crate::code::{Code, INSTRUCTION};
 use crate::rights::{Rights, Use};
 use crate::shared::Shared;
 use pr_base::NoMemory;
+use rv_table::{Small, decode};
 use std::alloc::{AllocError, Global};
 use std::marker::Model;
 
-/// A page without its marks. Its copies share its bytes until one of them is written; its rights are its own.
+/// A page without its marks. Its copies share its bytes until one of them is written; its rights are its own, and so is what was
+/// decoded of it, which contracts don't see.
 #[derive(Drop)]
 pub struct Page {
     shared: Shared,
     rights: Rights,
+    code: Code,
 }
 
 impl Model for Page {
+    ghost use Rattle.rv_mem.specs.Code.{AreDecoded};
     ghost use Rattle.rv_mem.specs.PageList.{Unmarked, unmarked_code};
 
     ghost Value = { Unmarked };
@@ -23,6 +31,8 @@ impl Model for Page {
     ghost coded = { unmarked_code };
 
     ghost view = { λ p. record { bytes = p.shared; rights = p.rights } };
+
+    ghost invariant = { λ p. AreDecoded p.code.entries.items p.shared };
 }
 
 impl Page {
@@ -30,12 +40,15 @@ impl Page {
     ghost use Rattle.rv_mem.specs.PageList.{fresh_unmarked, unmarked_with_rights, unmarked_written};
 
     /// A page of zeros.
-    pub fn fresh(rights: Rights) -> Page
+    pub fn fresh(alloc: Global, rights: Rights) -> Page
         ensures { result ≡ fresh_unmarked rights }
     {
+        let shared = Shared::zeros();
+        let code = Code::none(alloc);
         Page {
-            shared: Shared::zeros(),
+            shared,
             rights,
+            code,
         }
     }
 
@@ -54,14 +67,16 @@ impl Page {
         self.rights = rights;
     }
 
-    /// Writes bytes from an offset on, in a copy where they are shared.
+    /// Writes bytes from an offset on, in a copy where they are shared, and forgets what was decoded of them.
     #[inline(always)]
     pub fn write(&mut self, alloc: Global, offset: usize, bytes: &[u8]) -> Result<(), NoMemory>
         requires { offset + length bytes.now ≤ page_size }
         ensures ok { OnOk result (self.new ≡ unmarked_written offset bytes.now self.old) }
         ensures err { OnErr result (self.new ≡ self.old) }
     {
-        self.shared.write(alloc, offset, bytes)
+        self.shared.write(alloc, offset, bytes)?;
+        self.code.forget(offset, offset + bytes.len());
+        Ok(())
     }
 
     /// Copies the bytes from an offset on.
@@ -82,6 +97,49 @@ impl Page {
     {
         self.shared.zero_in(offset, count)
     }
+
+    /// Whether there is room for what is decoded of the page.
+    pub fn is_coded(&self) -> bool {
+        self.code.has_room()
+    }
+
+    /// Makes room for what is decoded of the page, if there is memory for it.
+    pub fn make_room(&mut self, alloc: Global)
+        ensures { self.new ≡ self.old }
+    {
+        self.code.make_room(alloc);
+    }
+
+    /// The instruction of the word at an offset, if it is remembered.
+    #[inline(always)]
+    pub fn recalled(&self, offset: usize) -> Small
+        requires { offset % 4 ≡ 0 }
+        ensures { IfSome (instr_of result) (λ i. decoded (word_at self.now.bytes offset) ≡ Some i) }
+    {
+        self.code.recalled(offset / INSTRUCTION)
+    }
+
+    /// The instruction of the word at an offset, if it is one. It is remembered where there is room.
+    pub fn decode(&mut self, offset: usize) -> Small
+        requires aligned { offset % 4 ≡ 0 }
+        requires within { offset + 4 ≤ page_size }
+        ensures value { instr_of result ≡ decoded (word_at self.old.bytes offset) }
+        ensures same { self.new ≡ self.old }
+    {
+        let found = Small::of(decode(self.word(offset)));
+        self.code.remember(offset / INSTRUCTION, found);
+        found
+    }
+
+    /// The number of the four bytes from an offset on.
+    fn word(&self, offset: usize) -> u32
+        requires { offset + 4 ≤ page_size }
+        ensures { result ≡ word_at self.now.bytes offset }
+    {
+        let mut bytes = [0; INSTRUCTION];
+        self.shared.copy_to(offset, &mut bytes);
+        u32::from_le_bytes(bytes)
+    }
 }
 
 impl Clone for Page {
@@ -89,9 +147,11 @@ impl Clone for Page {
 
     fn clone(&self) -> Result<Page, AllocError> {
         let shared = self.shared.share()?;
+        let code = Code::none(self.code.allocator());
         Ok(Page {
             shared,
             rights: self.rights,
+            code,
         })
     }
 }

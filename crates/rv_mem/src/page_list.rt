@@ -1,7 +1,10 @@
 //! The pages of a memory by their places in a list.
 ghost use Rattle.pr_base.specs.Page.{page_size};
-ghost use Rattle.std.specs.Prelude.{◌≡◌, ◌≢◌, ◌+◌, ◌-◌, ◌<◌, ◌≤◌, ◌++◌, [], ◌∷◌, ℕ, length, take, drop, slice_set, IfOk, OnOk, OnErr, nat_eq, position};
+ghost use Rattle.std.specs.Prelude.{◌≡◌, ◌≢◌, ◌+◌, ◌-◌, ◌%◌, ◌<◌, ◌≤◌, ◌++◌, [], ◌∷◌, ℕ, length, take, drop, slice_set, IfOk, OnOk, OnErr, nat_eq, position};
 ghost use Rattle.std.specs.List.{list_any};
+ghost use Rattle.rv_table.specs.Small.{instr_of};
+ghost use Rattle.rv_table.specs.Rows.{decoded};
+ghost use Rattle.rv_mem.specs.Code.{word_at};
 ghost use Rattle.rv_mem.specs.Places.{page_at};
 
 use crate::mark_list;
@@ -9,6 +12,7 @@ use crate::marks::Marks;
 use crate::page::Page;
 use crate::rights::{Rights, Use};
 use pr_base::NoMemory;
+use rv_table::Small;
 use std::alloc::Global;
 use std::marker::Model;
 
@@ -31,12 +35,17 @@ impl<const MARKED: u8> Model for MarkedPage<MARKED> {
     ghost view = { λ p. with_marks p.page (kept_marks MARKED p.marks) };
 }
 
+/// The most pages of a process of which it is remembered what was decoded. Each takes 8 KiB.
+const CODED_PAGES: u32 = 256;
+
 /// Pages in a list. Their marks stand in a list of their own, so that a copy of pages without marks writes nothing for them.
 /// Where `MARKED` is 0 no marks are kept.
 #[derive(Drop)]
 pub struct PageList<const MARKED: u8> {
     pages: Vec<Page>,
     marks: Vec<Marks>,
+    // How many of the pages have room for what is decoded.
+    coded: u32,
 }
 
 impl<const MARKED: u8> Model for PageList<MARKED> {
@@ -64,7 +73,11 @@ impl<const MARKED: u8> PageList<MARKED> {
     {
         let pages = Vec::new(alloc);
         let marks = Vec::new(alloc);
-        PageList { pages, marks }
+        PageList {
+            pages,
+            marks,
+            coded: 0,
+        }
     }
 
     /// How many pages there are.
@@ -80,7 +93,8 @@ impl<const MARKED: u8> PageList<MARKED> {
         ensures err { OnErr result (self.new ≡ self.old) }
     {
         mark_list::make_room::<MARKED>(&mut self.marks, self.pages.len() + 1)?;
-        self.pages.push(Page::fresh(rights))?;
+        let alloc = *self.pages.allocator();
+        self.pages.push(Page::fresh(alloc, rights))?;
         Ok(())
     }
 
@@ -91,6 +105,7 @@ impl<const MARKED: u8> PageList<MARKED> {
         ensures same { (j : ℕ) → j ≢ place → j < length self.new → page_at self.new j ≡ page_at self.old j }
         ensures moved { place < length self.new → page_at self.new place ≡ page_at self.old (length self.new) }
     {
+        uncount(&mut self.coded, &self.pages[place]);
         let last = self.pages.len() - 1;
         let _page = self.pages.swap_remove(place);
         mark_list::remove::<MARKED>(&mut self.marks, place, last);
@@ -101,7 +116,9 @@ impl<const MARKED: u8> PageList<MARKED> {
         requires { place < length self.old }
         ensures { self.new ≡ slice_set self.old place (fresh_page rights) }
     {
-        self.pages[place] = Page::fresh(rights);
+        uncount(&mut self.coded, &self.pages[place]);
+        let alloc = *self.pages.allocator();
+        self.pages[place] = Page::fresh(alloc, rights);
         mark_list::put::<MARKED>(&mut self.marks, place, Marks::none());
     }
 
@@ -127,6 +144,7 @@ impl<const MARKED: u8> PageList<MARKED> {
         requires { place < length self.old }
         ensures { self.new ≡ slice_set self.old place page.entry }
     {
+        uncount(&mut self.coded, &self.pages[place]);
         self.pages[place] = page.page;
         mark_list::put::<MARKED>(&mut self.marks, place, page.marks);
     }
@@ -217,6 +235,60 @@ impl<const MARKED: u8> PageList<MARKED> {
     {
         let pages = self.pages.clone()?;
         let marks = mark_list::copy::<MARKED>(&self.marks, pages.len())?;
-        Ok(PageList { pages, marks })
+        Ok(PageList {
+            pages,
+            marks,
+            coded: 0,
+        })
+    }
+
+    /// The instruction of the word at an offset in the page at a place, if it is one.
+    #[inline(always)]
+    pub fn fetch(&mut self, place: usize, alloc: Global, offset: usize) -> Small
+        requires there { place < length self.old }
+        requires aligned { offset % 4 ≡ 0 }
+        requires within { offset + 4 ≤ page_size }
+        ensures value { instr_of result ≡ decoded (word_at (page_at self.old place).bytes offset) }
+        ensures same { self.new ≡ self.old }
+    {
+        let found = self.pages[place].recalled(offset);
+        if found.is_instr() {
+            return found;
+        }
+        self.fetch_anew(place, alloc, offset)
+    }
+
+    /// The same, where it isn't remembered.
+    #[inline(never)]
+    fn fetch_anew(&mut self, place: usize, alloc: Global, offset: usize) -> Small
+        requires there { place < length self.old }
+        requires aligned { offset % 4 ≡ 0 }
+        requires within { offset + 4 ≤ page_size }
+        ensures value { instr_of result ≡ decoded (word_at (page_at self.old place).bytes offset) }
+        ensures same { self.new ≡ self.old }
+    {
+        let page = &mut self.pages[place];
+        make_room(&mut self.coded, page, alloc);
+        page.decode(offset)
+    }
+}
+
+/// Makes room for what is decoded of a page, if few enough pages have it and there is memory for it, and counts the page.
+fn make_room(coded: &mut u32, page: &mut Page, alloc: Global)
+    ensures { page.new ≡ page.old }
+{
+    if *coded >= CODED_PAGES || page.is_coded() {
+        return;
+    }
+    page.make_room(alloc);
+    if page.is_coded() {
+        *coded += 1;
+    }
+}
+
+/// Counts a page no longer, which goes with what was decoded of it.
+fn uncount(coded: &mut u32, page: &Page) {
+    if page.is_coded() {
+        *coded = coded.saturating_sub(1);
     }
 }

@@ -1,7 +1,10 @@
 //! The memory of one process.
 ghost use Rattle.pr_base.specs.Page.{page_size};
-ghost use Rattle.std.specs.Prelude.{◌≡◌, ◌↔◌, ◌⊎◌, ◌+◌, ◌-◌, ◌*◌, ◌/◌, ◌%◌, ◌<◌, ◌≤◌, true, false, length, nat_eq, if◌then◌else◌, IsOk, IsTrue, IfOk, OnOk, OnErr, IfNone, IfSome, IsErrOf};
+ghost use Rattle.std.specs.Prelude.{◌≡◌, ◌↔◌, ◌⊎◌, ◌+◌, ◌-◌, ◌*◌, ◌/◌, ◌%◌, ◌<◌, ◌≤◌, true, false, length, nat_eq, if◌then◌else◌, IsErr, IsOk, IsTrue, IfOk, OnOk, OnErr, IfNone, IfSome, IsErrOf};
 ghost use Rattle.std.specs.FinMap as map;
+ghost use Rattle.pr_base.specs.Fields.{little_endian};
+ghost use Rattle.rv_table.specs.Small.{instr_of};
+ghost use Rattle.rv_table.specs.Rows.{decoded};
 
 use crate::fault::{BadAddress, MapFault, StoreFault, TextFault};
 use crate::rights::{Rights, Use};
@@ -9,6 +12,7 @@ use crate::room::Room;
 use crate::table::Table;
 use crate::text::TextEnd;
 use pr_base::{Bytes, PAGE_SIZE};
+use rv_table::Small;
 use std::alloc::Global;
 use std::marker::Model;
 
@@ -98,6 +102,24 @@ impl<const MARKED: u8> Space<MARKED> {
             Some(marked) => {
                 self.read_marked |= marked;
                 Ok(())
+            }
+            None => Err(BadAddress),
+        }
+    }
+
+    /// Fetches the word at an address that is divisible by 4: its instruction, if it is one.
+    #[inline(always)]
+    pub fn fetch(&mut self, at: u64) -> Result<Small, BadAddress>
+        requires aligned { at % 4 ≡ 0 }
+        ensures refused { IsErr result ↔ (allows_all self.old.pages at 4 Use.Execute ≡ false) }
+        ensures word { IfOk result (λ found. instr_of found ≡ decoded (little_endian (bytes_from self.old.pages at 4))) }
+        ensures after { OnOk result (self.new ≡ after_read self.old at 4) }
+        ensures err { OnErr result (self.new ≡ self.old) }
+    {
+        match self.pages.fetch(at) {
+            Some(fetched) => {
+                self.read_marked |= fetched.marked;
+                Ok(fetched.found)
             }
             None => Err(BadAddress),
         }

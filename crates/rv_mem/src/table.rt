@@ -3,6 +3,7 @@ ghost use Rattle.pr_base.specs.Page.{page_size};
 ghost use Rattle.std.specs.Prelude.{◌≡◌, ◌↔◌, ℕ, ◌+◌, ◌-◌, ◌*◌, ◌/◌, ◌%◌, ◌<◌, ◌≤◌, length, IfOk, OnOk, OnErr, IsErrOf, IsTrue, IfNone, IfSome, MatchOption, Some, None, ◌≢◌, nat_eq, true, false};
 ghost use Rattle.std.specs.FinMap as map;
 
+use crate::code::{Fetched, INSTRUCTION};
 use crate::fault::StoreFault;
 use crate::page_list::{MarkedPage, PageList};
 use crate::places::{place_of, put_behind, recalled, settle};
@@ -43,8 +44,9 @@ impl<const MARKED: u8> Model for Table<MARKED> {
 }
 
 impl<const MARKED: u8> Table<MARKED> {
+    ghost use Rattle.rv_mem.specs.Code.{IsFetched};
     ghost use Rattle.rv_mem.specs.Page.{fresh_page, page_with_rights};
-    ghost use Rattle.rv_mem.specs.Pages.{with_page, page_allows, written, marked, bytes_from, any_marked, allows_all, byte_at, HasNoPages, HasNoZero, IsRefused, IsRead};
+    ghost use Rattle.rv_mem.specs.Pages.{with_page, page_allows, written, marked, bytes_from, any_marked, allows_all, byte_at, HasNoPages, HasNoZero, IsRefused, IsRead, IsWhole};
 
     /// No pages.
     pub fn new(alloc: Global) -> Table<MARKED>
@@ -253,6 +255,31 @@ impl<const MARKED: u8> Table<MARKED> {
         self.pages.copy_to(place, offset, into);
         let marked = self.pages.any_marked(place, offset, into.len());
         Some(marked)
+    }
+
+    /// The instruction of the word at an address if its page is there and may be executed, and whether one of its bytes is
+    /// marked.
+    #[inline(always)]
+    pub fn fetch(&mut self, at: u64) -> Option<Fetched>
+        requires aligned { at % 4 ≡ 0 }
+        requires whole { IsWhole self.old }
+        ensures fetched { MatchOption result (allows_all self.old at 4 Use.Execute ≡ false) (λ f. IsFetched self.old at f.found f.marked) }
+        ensures same { self.new ≡ self.old }
+    {
+        let alloc = self.alloc;
+        let number = at / PAGE_SIZE;
+        let remembered = self.recent.place(number, Use::Execute);
+        let Some(place) = recalled(&self.places, &self.numbers, remembered, number) else {
+            return None;
+        };
+        self.recent.note(number, Use::Execute, place);
+        if !self.pages.grants(place, Use::Execute) {
+            return None;
+        }
+        let offset = (at % PAGE_SIZE) as usize;
+        let found = self.pages.fetch(place, alloc, offset);
+        let marked = self.pages.any_marked(place, offset, INSTRUCTION);
+        Some(Fetched { found, marked })
     }
 
     /// Whether one of the `count` bytes from an address on, which lie inside one page that is there,

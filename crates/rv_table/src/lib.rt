@@ -14,6 +14,8 @@
 //!
 //! `encode` gives a word that decodes to the instruction (`back`), and for all but FENCE the only one (`only`).
 //!
+//! `Small::of` keeps an instruction in eight bytes, and `is_instr` is true of nothing that stands for none (`instr_of`).
+//!
 //! Only tested, or not shown: That the rows are those of the manual: a word for each mnemonic as llvm-mc 14 gives it, compared with `decode` and
 //! `encode` (the rows of `rv_rows`).
 #![tactic(auto)]
@@ -24,7 +26,9 @@ mod encoding;
 mod fields;
 mod instr;
 mod layout;
+mod small;
 
 pub use decoding::decode;
 pub use encoding::{encode, valid};
 pub use instr::Instr;
+pub use small::Small;

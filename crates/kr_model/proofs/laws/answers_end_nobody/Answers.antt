@@ -1,4 +1,4 @@
-use Rattle.kr_model.proofs.CleanCalls.{answers_end_nobody}
+use Rattle.kr_model.proofs.LineLemmas.{answers_end_nobody}
 use Rattle.kr_model.proofs.laws.answers_end_nobody.Goals as goal
 
 pub returns : goal.returns

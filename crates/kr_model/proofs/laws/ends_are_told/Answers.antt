@@ -1,4 +1,4 @@
-use Rattle.kr_model.proofs.CleanCalls.{ends_as_told}
+use Rattle.kr_model.proofs.LineLemmas.{ends_as_told}
 use Rattle.kr_model.proofs.laws.ends_are_told.Goals as goal
 
 pub returns : goal.returns

@@ -1,4 +1,4 @@
-use Rattle.kr_model.proofs.CleanCalls.{only_enders}
+use Rattle.kr_model.proofs.LineLemmas.{only_enders}
 use Rattle.kr_model.proofs.laws.only_enders_end.Goals as goal
 
 pub returns : goal.returns

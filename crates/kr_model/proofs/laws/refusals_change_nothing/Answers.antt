@@ -1,4 +1,4 @@
-use Rattle.kr_model.proofs.CleanCalls.{refusals}
+use Rattle.kr_model.proofs.LineLemmas.{refusals}
 use Rattle.kr_model.proofs.laws.refusals_change_nothing.Goals as goal
 
 pub returns : goal.returns

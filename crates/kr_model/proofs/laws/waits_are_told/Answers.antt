@@ -1,4 +1,4 @@
-use Rattle.kr_model.proofs.CleanCalls.{waits_as_told}
+use Rattle.kr_model.proofs.LineLemmas.{waits_as_told}
 use Rattle.kr_model.proofs.laws.waits_are_told.Goals as goal
 
 pub returns : goal.returns

@@ -39,15 +39,20 @@ returns-in-Lwu-clause-leaves g c =
 
 pub returns-in-Sb-clause-leaves : goal.returns-in-Sb-clause-leaves
 returns-in-Sb-clause-leaves g c =
-    let leaves = c.store.ensures.leaves c.args.held.now in
+    let leaves = c.store_byte.ensures.leaves c.args.held.now in
     search rules
 
 pub returns-in-Sh-clause-leaves : goal.returns-in-Sh-clause-leaves
 returns-in-Sh-clause-leaves g c =
-    let leaves = c.store-in-Sh.ensures.leaves c.args.held.now in
+    let leaves = c.store_half.ensures.leaves c.args.held.now in
     search rules
 
 pub returns-in-Sw-clause-leaves : goal.returns-in-Sw-clause-leaves
 returns-in-Sw-clause-leaves g c =
-    let leaves = c.store-in-Sw.ensures.leaves c.args.held.now in
+    let leaves = c.store_word.ensures.leaves c.args.held.now in
+    search rules
+
+pub returns-in-Sd-clause-leaves : goal.returns-in-Sd-clause-leaves
+returns-in-Sd-clause-leaves g c =
+    let leaves = c.store_double.ensures.leaves c.args.held.now in
     search rules

@@ -7,6 +7,9 @@ use Rattle.rv_mem.proofs.PageLemmas.{kept_marks-none}
 use Rattle.rv_mem.proofs.PageListLemmas.{below, pages_of-changed}
 use Rattle.rv_mem.proofs.page_list.PageList.reset.Goals as goal
 
+pub index-requires : goal.index-requires
+index-requires g c = subst (λ n. c.args.place < n) (sym c.self.inside.pages.ok.0) (below g.row.MARKED c.self.inside.pages.items c.self.inside.marks.items c.args.self.now c.self.view_is c.args.place c.requires)
+
 pub index_mut-requires : goal.index_mut-requires
 index_mut-requires g c = subst (λ n. c.args.place < n) (sym c.self.inside.pages.ok.0) (below g.row.MARKED c.self.inside.pages.items c.self.inside.marks.items c.args.self.now c.self.view_is c.args.place c.requires)
 

@@ -6,6 +6,9 @@ use Rattle.rv_mem.specs.PageList.{pages_of}
 use Rattle.rv_mem.proofs.PageListLemmas.{below, long, length-pages_of, stays_with, no_unmarked}
 use Rattle.rv_mem.proofs.page_list.PageList.swap_remove.Goals as goal
 
+pub index-requires : goal.index-requires
+index-requires g c = subst (λ n. c.args.place < n) (sym c.self.inside.pages.ok.0) (below g.row.MARKED c.self.inside.pages.items c.self.inside.marks.items c.args.self.now c.self.view_is c.args.place c.requires)
+
 pub swap_remove-page-requires : goal.swap_remove-page-requires
 swap_remove-page-requires g c = subst (λ n. c.args.place < n) (sym c.self.inside.pages.ok.0) (below g.row.MARKED c.self.inside.pages.items c.self.inside.marks.items c.args.self.now c.self.view_is c.args.place c.requires)
 

@@ -1,5 +1,0 @@
-use Rattle.law_steady.proofs.KeptLemmas.{walks_keep}
-use Rattle.law_steady.proofs.laws.walks_keep.Goals as goal
-
-pub returns : goal.returns
-returns g c = walks_keep g.L.KeptWhere.good g.L.KeptWhere.fine g.L.KeptWhere.holds

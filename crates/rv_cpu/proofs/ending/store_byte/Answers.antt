@@ -1,0 +1,7 @@
+use Rattle.std.proofs.Common.{rules}
+use Rattle.rv_cpu.proofs.ending.store_byte.Goals as goal
+
+pub returns-clause-leaves : goal.returns-clause-leaves
+returns-clause-leaves g c held =
+    let leaves = c.store.ensures.leaves held in
+    search rules
