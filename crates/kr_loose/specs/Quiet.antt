@@ -1,0 +1,65 @@
+-- Quiet runs: what was told at the first stop of a call holds still as the call is carried out.
+use Rattle.std.specs.Prelude.{◌≡◌, ℕ, ◌==◌, Bool, true, false, not, ◌&&◌, List, [], ◌∷◌, if◌then◌else◌}
+use Rattle.std.specs.List.{All, filter}
+use Rattle.kr_turns.specs.kr_view.View.{Row}
+use Rattle.kr_turns.specs.kr_model.Judged.{HasShape}
+use Rattle.kr_turns.specs.Breaking.{nothing_reached}
+use Rattle.kr_turns.specs.PlainCall.{plain_reach}
+use Rattle.kr_turns.specs.Turn.{calling}
+use Rattle.kr_turns.specs.kr_stops.Stopped.{Stopped}
+use Rattle.law_steady.specs.Bytes.{HasBytes}
+use Rattle.kr_loose.specs.LooseRun.{Step, StepKind, Instructions, Entry, Plain, Exit}
+
+-- ---- what others do during a call
+
+abbrev pub is_entry : StepKind → Bool
+is_entry (Instructions done) = false
+is_entry Entry = true
+is_entry (Plain exec) = false
+is_entry Exit = false
+
+module _ {S : Type 0} where
+  -- a step leaves the shape of the tree as it was, and for an execve(2) the bytes of files
+  abbrev pub LeavesFor : (exec : Bool) → Step S → Type 0
+  LeavesFor false s = HasShape s.before.state.tree s.after.state.tree
+  LeavesFor true s = HasShape s.before.state.tree s.after.state.tree × HasBytes s.before.state.tree s.after.state.tree
+
+  abbrev pub is_own : ℕ → Step S → Bool
+  is_own pid s = s.pid == pid
+
+  -- the steps since the first stop of a process's call, of steps of which the last stands first
+  abbrev pub since_entry : ℕ → List (Step S) → List (Step S)
+  since_entry pid [] = []
+  since_entry pid (s ∷ earlier) = if is_own pid s && is_entry s.kind then [] else s ∷ since_entry pid earlier
+
+  abbrev pub others_since_entry : ℕ → List (Step S) → List (Step S)
+  others_since_entry pid earlier = filter (λ s. not (is_own pid s)) (since_entry pid earlier)
+
+  -- a call that is carried out finds what its first stop found. It may have waited since
+  abbrev pub IsUndisturbed : ℕ → StepKind → List (Step S) → Type 0
+  IsUndisturbed pid (Instructions done) earlier = Unit {0}
+  IsUndisturbed pid Entry earlier = Unit {0}
+  IsUndisturbed pid (Plain exec) earlier = All (LeavesFor exec) (others_since_entry pid earlier)
+  IsUndisturbed pid Exit earlier = Unit {0}
+
+-- ---- the process directory
+
+-- `asks` tells of a watcher and a process at the first stop whether a walk for which the watcher asks there looks up a name in the process
+-- directory
+module _ {S : Type 0} (asks : S → Stopped → Bool) (marks : ℕ) (table : List Row) where
+  abbrev pub met_by : StepKind → Step S → Bool
+  met_by (Instructions done) s = false
+  met_by Entry s = asks s.before.watcher (calling marks s.pid s.before.state)
+  met_by (Plain exec) s = (plain_reach table s.pid s.before.state nothing_reached).met_proc
+  met_by Exit s = false
+
+  -- ---- a run
+
+  abbrev pub AreQuiet : List (Step S) → Type 0
+  AreQuiet [] = Unit {0}
+  AreQuiet (s ∷ earlier) = AreQuiet earlier × (met_by s.kind s ≡ false) × IsUndisturbed s.pid s.kind earlier
+
+  -- by whether the walks of the start looked up such a name, too
+  pub record IsQuiet (met_at_start : Bool) (steps : List (Step S)) : Type 0 where
+    pub start : met_at_start ≡ false
+    pub steps_are : AreQuiet steps

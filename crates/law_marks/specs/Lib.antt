@@ -1,0 +1,3 @@
+pub mod Unjudged
+pub mod Calls
+pub mod Turns
