@@ -1,6 +1,14 @@
-/* Copies a program to its place, makes it executable, and gives it to root, as installers do. Tells the error number of what is refused,
-   which is the status then. */
+/* Copies a program to its place, makes it executable, and gives it to root, as installers do; or gives it the mode, in octal digits, the owner
+   and the group that stand behind both paths. Tells the error number of what is refused, which is the status then. */
 #include "calls.h"
+
+static int number(const char *digits, int base)
+{
+    int n = 0;
+    while (*digits >= '0' && *digits <= '9')
+        n = n * base + (*digits++ - '0');
+    return n;
+}
 
 static int refused(const char *what, long answer)
 {
@@ -14,8 +22,11 @@ static int refused(const char *what, long answer)
 
 int main(int argc, char **argv)
 {
-    if (argc != 3)
+    if (argc != 3 && argc != 6)
         return 255;
+    int mode = argc == 6 ? number(argv[3], 8) : 0755;
+    int user = argc == 6 ? number(argv[4], 10) : 0;
+    int group = argc == 6 ? number(argv[5], 10) : 0;
     say(1, getuid() == 0 ? "I am root.\n" : "I am somebody else.\n");
     int from = open(argv[1], READ_ONLY, 0);
     if (from < 0)
@@ -28,10 +39,10 @@ int main(int argc, char **argv)
     while ((n = read(from, bytes, sizeof bytes)) > 0)
         if (!put(to, bytes, n))
             return 254;
-    long answer = chmod(argv[2], 0755);
+    long answer = chmod(argv[2], mode);
     if (answer < 0)
         return refused("chmod", answer);
-    answer = chown(argv[2], 0, 0);
+    answer = chown(argv[2], user, group);
     if (answer < 0)
         return refused("chown", answer);
     say(1, "It is installed.\n");

@@ -30,9 +30,10 @@ const CANCELLED: u64 = u64::MAX;
 /// What it puts in the place of the path `/f`.
 const SWAPPED: &[u8] = b"/e\0";
 
-/// It notes for each first stop `e` and the process, for each second one `x`, the process and `/` where the call's path led to the root,
-/// for a child `b` with its parent and itself, and for an end `g`. It cancels getpid and answers 77, makes getppid a getpid, puts `/e` on
-/// the shelf where `/f` is opened, and shows its notes at the address in a1 to a call of a number of its own.
+/// It notes for each first stop `e` and the process, for each second one `x`, the process, `/` where the call's path led to the root, and
+/// behind `=` the inode to which it led, for a child `b` with its parent and itself, and for an end `g`. It cancels getpid and answers 77,
+/// makes getppid a getpid, puts `/e` on the shelf where `/f` is opened, and shows its notes at the address in a1 to a call of a number of its
+/// own.
 #[derive(Drop)]
 pub struct Noting {
     alloc: Global,
@@ -120,7 +121,13 @@ impl Stops for Noting {
 
     fn exit<T: Tracee>(&mut self, t: &mut T) -> Result<(), NoMemory> {
         let root = if t.at_root() { "/" } else { "" };
-        self.note("x", t.pid(), root)?;
+        match t.target() {
+            Some(ino) => {
+                let rest = format!(in self.alloc; "{root}={ino}")?;
+                self.note("x", t.pid(), rest.as_str())?;
+            }
+            None => self.note("x", t.pid(), root)?,
+        }
         match t.reg(A7) {
             CANCELLED => {
                 t.set_reg(A7, GETPID);

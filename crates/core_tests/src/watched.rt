@@ -24,6 +24,7 @@ f 644 1000 1000 /e 73776170
 d 755 1000 1000 /d
 h /d/p /p
 d 755 1000 1000 /d/d
+p /proc
 ";
 
 /// A guest and what is seen of it, where the process with the lowest number runs whenever it is ready.
@@ -31,7 +32,7 @@ const WATCHED: &[(&str, &str)] = &[
     // Four calls that are shown by another one each, one whose path leads to the root, and the one that asks for the notes.
     (
         "getpid;getppid;openat at /f;bytes read 3 buf 10;quiet chdir /;bytes notes 0 buf",
-        "77\n2\n3\nswap\ne2 x2 e2 x2 e2 x2 e2 x2 e2 x2 e2 x2 e2 x2 e2 x2 e2 x2/ e2 x2 \nover 0",
+        "77\n2\n3\nswap\ne2 x2 e2 x2 e2 x2 e2 x2 e2 x2=4 e2 x2 e2 x2 e2 x2 e2 x2/=1 e2 x2 \nover 0",
     ),
     // A call that waits has no second stop, and another first one when it goes on; a child has no stop behind the call that made it,
     // and a process that exits none behind that.
@@ -49,7 +50,15 @@ const WATCHED: &[(&str, &str)] = &[
     // A program that takes the place of another begins behind the second stop. It executes itself once.
     (
         "quiet chdir ./d;quiet execve ./p 0 0;bytes notes 0 buf",
-        "e2 x2 e2 x2 e2 x2 e2 x2 e2 x2 \nover 0",
+        "e2 x2=5 e2 x2 e2 x2=6 e2 x2 e2 x2 \nover 0",
+    ),
+    // The inode to which a path led, of the descriptor and of the working directory in a path's place; none of a path that leads nowhere, of
+    // the console, of a pipe, of the process directory and of what is in it, and of a call without any.
+    (
+        "quiet fchmodat at /d/d 448;quiet openat at /f;quiet fchown @1 -1 -1;quiet chdir /d;quiet fchownat at ' -1 -1 4096;\
+         quiet newfstatat at /d/p buf 0;quiet newfstatat at /none buf 0;quiet fstat 0 buf;quiet pipe2 buf 0;quiet fstat 4 buf;\
+         quiet newfstatat at /proc buf 0;quiet newfstatat at /proc/self buf 0;bytes notes 0 buf",
+        "e2 x2=6 e2 x2=4 e2 x2=4 e2 x2=5 e2 x2=5 e2 x2=2 e2 x2 e2 x2 e2 x2 e2 x2 e2 x2 e2 x2 e2 x2 \nover 0",
     ),
 ];
 

@@ -32,6 +32,7 @@ use Rattle.kr_calm.proofs.ChangeLemmas.{end_breaks, or-false, unjudged_break_non
 use Rattle.kr_calm.proofs.OwnerLemmas.{owners_break_none}
 use Rattle.kr_calm.proofs.ProspectLemmas.{IsForeseeable, foreseeable, foreseen_calls_make_it, moves_one, none-foreseen, nothing_goes, removes, sets_mode}
 use Rattle.kr_calm.proofs.UnjudgedLemmas.{others-unjudged}
+use Rattle.kr_calm.specs.declared.rule.Rule.{Rule}
 
 -- ---- changes that are foreseen
 
@@ -141,7 +142,7 @@ module _ (table : List Row) (mounts : Mounts ℕ) (pid : ℕ) (request : Request
 
 module _ {T : Type 0} (number : T → ℕ) (left : State T Image) (table : List Row) (mounts : Mounts ℕ) (pid : ℕ) (request : Request) (s : State ℕ Image)
     (same : state_numbered number left ≡ after_row mounts pid (call_done table pid request s) s) (o : Outcome) (came : o ≡ (call_done table pid request s).reply.outcome) where
-  abbrev broken : Option ℕ
+  abbrev broken : Option Rule
   broken = broken_by_changes table mounts pid (call_done table pid request s).reply.changes (with_memory_of pid (call_done table pid request s).memory s)
 
   pub ended-judged : (b : Bool) → b ≡ is_in_use (is_directory_of pid) (state_numbered number left) → o ≡ Ended → smallest false b false ≡ broken

@@ -29,6 +29,7 @@ use Rattle.kr_calm.specs.Calm.{broken_at_start, kept}
 use Rattle.kr_calm.specs.InUse.{any_opened_below, passes_at}
 use Rattle.kr_calm.specs.Rules.{breaks_1, breaks_2, breaks_3, breaks_4, breaks_5, breaks_6}
 use Rattle.kr_calm.specs.Shelf.{has_path, lacks_shelf, lacks_shelf_by}
+use Rattle.kr_calm.specs.declared.rule.Rule.TheVariants.{SearchStays, ShortNames, Unread}
 
 -- ---- a small tree
 
@@ -255,8 +256,8 @@ search_is_kept = simp (look, nothing_open) refl
 four_thousand_bytes : breaks_6 (record { longest = 4000; met_proc = false }) ≡ false
 four_thousand_bytes = refl
 
-one_byte_more : broken_at_start (record { longest = 4001; met_proc = false }) ≡ Some 6
+one_byte_more : broken_at_start (record { longest = 4001; met_proc = false }) ≡ Some ShortNames
 one_byte_more = refl
 
-the_first_is_kept : kept (Some 5) (Some 1) ≡ Some 5
+the_first_is_kept : kept (Some SearchStays) (Some Unread) ≡ Some SearchStays
 the_first_is_kept = refl

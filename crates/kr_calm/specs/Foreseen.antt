@@ -25,6 +25,7 @@ use Rattle.kr_calm.specs.Calm.{smallest}
 use Rattle.kr_calm.specs.Prospects.{mode_set, renameat2_made, unlinkat_made}
 use Rattle.kr_calm.specs.Rules.{breaks_3, serves, takes_in_use}
 use Rattle.kr_calm.specs.declared.foreseeing.Foreseen.{Foreseen}
+use Rattle.kr_calm.specs.declared.rule.Rule.{Rule}
 
 -- ---- changes and calls that are judged
 
@@ -101,7 +102,7 @@ module _ {M X : Type 0} (table : List Row) (s : State M X) where
 
 -- the smallest of the rules on changes that a call broke which answered 0: by what was foreseen of it, and by whom the tree that is
 -- left still lets search
-abbrev pub broken_as_foreseen : Foreseen → Tree → User → Option ℕ
+abbrev pub broken_as_foreseen : Foreseen → Tree → User → Option Rule
 broken_as_foreseen f t user = smallest f.takes_source f.takes_used (option_map_or (λ i. not (may t user i Search)) f.shutting false)
 
 -- ---- calls

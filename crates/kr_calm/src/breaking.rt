@@ -14,38 +14,39 @@ ghost use Rattle.kr_calm.specs.Foreseen.{broken_as_foreseen, call_done, call_for
 
 use crate::foreseeing::Foreseen;
 use crate::judging::end_takes_used;
+use crate::rule::Rule;
 use kr_seen::below::{Outcome, Right, State};
 
 /// The smallest of the rules that a call broke which answered 0, by what was foreseen of it and the state that it left.
-fn judge_done<T: Copy, const M: u8>(state: &State<T, M>, foreseen: &Foreseen) -> Option<u8>
+fn judge_done<T: Copy, const M: u8>(state: &State<T, M>, foreseen: &Foreseen) -> Option<Rule>
     ensures { result ≡ broken_as_foreseen foreseen.now state.now.tree state.now.user }
 {
     if foreseen.takes_source {
-        return Some(3);
+        return Some(Rule::SourcesStay);
     }
     if foreseen.takes_used {
-        return Some(4);
+        return Some(Rule::UsedStay);
     }
     match foreseen.shutting {
         Some(ino) => {
             if state.tree.may(state.user, ino, Right::Search) {
                 None
             } else {
-                Some(5)
+                Some(Rule::SearchStays)
             }
         }
         None => None,
     }
 }
 
-/// The smallest of the rules 3, 4 and 5 that a call broke, by what was foreseen of it before, what it came to, and the state that it
+/// The smallest of the rules on changes that a call broke, by what was foreseen of it before, what it came to, and the state that it
 /// left.
 pub fn judge<T: Copy, const M: u8>(
     state: &State<T, M>,
     pid: u32,
     foreseen: &Foreseen,
     outcome: Outcome,
-) -> Option<u8>
+) -> Option<Rule>
     requires { outcome ≢ WantOfMemory → IsServed state.now }
     ensures { (number : T → ℕ) (table : List Row) (mounts : Mounts ℕ) (request : AnyRequest) (before : model.State ℕ model.Image) →
         let done = call_done table pid request before in
@@ -56,7 +57,7 @@ pub fn judge<T: Copy, const M: u8>(
     match outcome {
         Outcome::Ended => {
             if end_takes_used(state, pid) {
-                Some(4)
+                Some(Rule::UsedStay)
             } else {
                 None
             }

@@ -4,8 +4,8 @@
 //!
 //! The calm rules, as definitions and as tests in code. kr_turns judges by it.
 //!
-//! `broken_in` is the smallest rule that a turn broke, by what it did: the caller's memory, the walks of its call, the changes that were made,
-//! and what the walks reached.
+//! `Rule` is one of the six, and `number` that by which it is told. `broken_in` is the smallest rule that a turn broke, by what it did: the
+//! caller's memory, the walks of its call, the changes that were made, and what the walks reached.
 //!
 //! A directory is found to stand above another exactly where the way up comes to it (`steps_are_enough`). Quiet changes break none of the rules
 //! on changes (`quiet_changes_break_none`), nor does a refused call (`refused_calls_break_none`). A marked byte that was read stays read
@@ -35,6 +35,7 @@ pub mod laws;
 mod noting;
 mod reach;
 mod rows;
+mod rule;
 mod shelf;
 mod uses;
 
@@ -44,4 +45,5 @@ pub use foreseeing::{Foreseen, foresee};
 pub use judging::end_takes_used;
 pub use noting::note_list;
 pub use reach::reaches_too_far;
+pub use rule::Rule;
 pub use shelf::{has_path, mark_shelf};

@@ -17,6 +17,7 @@ use Rattle.kr_turns.specs.Turn.{IsTurnOf, Machine}
 use Rattle.kr_turns.specs.kr_stops.Watching.{Watching}
 use Rattle.kr_core.specs.declared.kernel.Turned.{Turned}
 use Rattle.kr_core.specs.declared.kernel.Turned.TheVariants.{Ran, Deadlock, Over}
+use Rattle.kr_turns.specs.kr_calm.declared.rule.Rule.{Rule}
 
 -- a kernel: its view, its watcher, its state, the status of the process that ended last, the calm rule that was broken first, and how
 -- many turns it made. It isn't whole after want of memory
@@ -25,12 +26,12 @@ pub record Kernel (P S T : Type 0) (M : ℕ) : Type 0 where
   pub stops : S
   pub state : State T M
   pub status : ℕ
-  pub broken : Option ℕ
+  pub broken : Option Rule
   pub turns : ℕ
   pub whole : Bool
 
 -- the rule that the walks of a start break, where marks are kept
-abbrev pub first_rule : ℕ → Reach → Option ℕ
+abbrev pub first_rule : ℕ → Reach → Option Rule
 first_rule marks reach = if nat_eq marks 0 then None else broken_at_start reach
 
 module _ {P S T : Type 0} {M : ℕ} (number : T → ℕ) where

@@ -2,7 +2,7 @@
 ghost use Rattle.std.specs.Prelude.{◌≡◌, ◌≤◌, ◌<◌, ◌^◌, ℕ, true, length, slice_get, IfOk, OnOk};
 ghost use Rattle.std.specs.Option.{option_map, option_map_or};
 ghost use Rattle.kr_first.specs.law_allowed.Told.{SourcesAreNamed};
-ghost use Rattle.kr_turns.specs.kr_calm.Calm.{kept};
+ghost use Rattle.kr_turns.specs.kr_calm.Calm.{kept, rule_number};
 ghost use Rattle.kr_core.specs.Kernel.{Clears, Starts, Turns, first_rule, machine};
 ghost use Rattle.kr_first.specs.Started.{HasSizedProcesses, LeadsToDirectory};
 ghost use Rattle.kr_first.specs.Starting.{start_of, start_reach};
@@ -15,7 +15,7 @@ ghost use Rattle.kr_turns.specs.kr_view.View.{StandsIn};
 
 use kr_first::below::{Tree, User};
 use kr_first::{First, StartFault, start};
-use kr_turns::below::{Places, Reach, State, lawful_states_are_sound, reaches_too_far};
+use kr_turns::below::{Places, Reach, Rule, State, lawful_states_are_sound, reaches_too_far};
 use kr_turns::{Stops, make_turn, picked, ready};
 use pr_base::{Bytes, NoMemory};
 use std::alloc::Global;
@@ -41,7 +41,7 @@ pub struct Kernel<P: Places, S: Stops, const MARKED: u8> {
     stops: S,
     state: State<P::Mount, MARKED>,
     status: u8,
-    broken: Option<u8>,
+    broken: Option<Rule>,
     turns: u32,
     /// Nothing is known of a state in which memory was wanting.
     whole: bool,
@@ -185,11 +185,14 @@ impl<P: Places, S: Stops, const MARKED: u8> Kernel<P, S, MARKED> {
         self.status
     }
 
-    /// The calm rule that was broken first, the walks of the start among what is judged; `None` also where marks aren't kept.
+    /// The number of the calm rule that was broken first, the walks of the start among what is judged; `None` also where marks aren't kept.
     pub fn broken(&self) -> Option<u8>
-        ensures { result ≡ self.now.broken }
+        ensures { result ≡ option_map rule_number self.now.broken }
     {
-        self.broken
+        match self.broken {
+            Some(rule) => Some(rule.number()),
+            None => None,
+        }
     }
 
     /// The host's tree.
@@ -201,11 +204,11 @@ impl<P: Places, S: Stops, const MARKED: u8> Kernel<P, S, MARKED> {
 }
 
 /// The rule that the walks of a start break, where marks are kept.
-fn first_rule<const MARKED: u8>(reach: &Reach) -> Option<u8>
+fn first_rule<const MARKED: u8>(reach: &Reach) -> Option<Rule>
     ensures { result ≡ first_rule MARKED reach.now }
 {
     if MARKED != 0 && reaches_too_far(reach) {
-        Some(6)
+        Some(Rule::ShortNames)
     } else {
         None
     }
@@ -222,7 +225,7 @@ fn status_after(told: Option<u8>, status: u8) -> u8
 }
 
 /// The rule that was broken first.
-fn first_of(before: Option<u8>, now: Option<u8>) -> Option<u8>
+fn first_of(before: Option<Rule>, now: Option<Rule>) -> Option<Rule>
     ensures { result ≡ kept before now }
 {
     match before {

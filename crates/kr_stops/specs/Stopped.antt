@@ -1,5 +1,5 @@
 -- A process that stands at a stop of its call, in the state of its kernel, and what may be done to it there.
-use Rattle.std.specs.Prelude.{◌≡◌, ℕ, false, [], IsSome}
+use Rattle.std.specs.Prelude.{◌≡◌, ℕ, false, None, [], IsSome}
 use Rattle.std.specs.Option.{option_map_or}
 use Rattle.law_lawful.specs.rv_mem.Memory.{Memory}
 use Rattle.law_lawful.specs.rv_mem.declared.regs.Regs.{Regs}
@@ -19,7 +19,7 @@ pub record Stopped : Type 0 where
   pub handed : Handed
 
 abbrev pub nothing_handed : Handed
-nothing_handed = record { at_root = false }
+nothing_handed = record { at_root = false; target = None }
 
 -- of one that doesn't live; one that is stopped does
 abbrev pub no_image : Image

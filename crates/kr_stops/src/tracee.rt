@@ -58,6 +58,12 @@ pub trait Tracee: Peeks {
     fn at_root(&self) -> bool
         ensures { result ≡ (stopped self.now).handed.at_root };
 
+    /// The inode of the tree to which the first path of the call led, or what is open under the descriptor, or the working directory, that stands
+    /// in a path's place. `None` where there was none; of a pipe, of the console, of the process directory and of what is in it; and before the
+    /// call was made. That of execve(2) isn't told.
+    fn target(&self) -> Option<u64>
+        ensures { result ≡ (stopped self.now).handed.target };
+
     /// The request that stands in its registers and its memory, or the error of decoding it. What is read of the memory is noted there.
     fn request(&mut self) -> Result<Request, CallFault>
         ensures given { Decodes (stopped self.old) result }

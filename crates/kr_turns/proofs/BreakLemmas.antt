@@ -45,11 +45,13 @@ use Rattle.kr_turns.specs.Breaking.{asked_of, changed_rule, ending_rule, idle_ru
 use Rattle.kr_turns.specs.PlainCall.{row_on}
 use Rattle.kr_turns.specs.Turn.{killed}
 use Rattle.kr_turns.proofs.NumberLemmas.{memory-numbered}
+use Rattle.kr_calm.specs.declared.rule.Rule.{Rule}
+use Rattle.kr_calm.specs.declared.rule.Rule.TheVariants.{SearchStays, SourcesStay, Unread, UsedStay, WithinMounts}
 
 -- ---- by parts
 
 -- the first of three, or what comes behind them
-parts : (a b c : Bool) (last : Option ℕ) → cond a (Some 3) (cond b (Some 4) (cond c (Some 5) last)) ≡ kept (cond a (Some 3) (cond b (Some 4) (cond c (Some 5) None))) last
+parts : (a b c : Bool) (last : Option Rule) → cond a (Some SourcesStay) (cond b (Some UsedStay) (cond c (Some SearchStays) last)) ≡ kept (cond a (Some SourcesStay) (cond b (Some UsedStay) (cond c (Some SearchStays) None))) last
 parts true b c last = refl
 parts false true c last = refl
 parts false false true last = refl
@@ -58,7 +60,7 @@ parts false false false last = refl
 pub told-by-parts : (marks : ℕ) (table : List Row) (c : Course)
     → broken_by marks table c ≡ rule_told marks (breaks_1 c.memory c.no_shelf) (option_map_or (asked_breaks_2 table c) c.asked false) (changed_rule table c) c.reach
 told-by-parts marks table c =
-    ap (λ (last : Option ℕ). if nat_eq marks 0 then None else if breaks_1 c.memory c.no_shelf then Some 1 else if option_map_or (asked_breaks_2 table c) c.asked false then Some 2 else last)
+    ap (λ (last : Option Rule). if nat_eq marks 0 then None else if breaks_1 c.memory c.no_shelf then Some Unread else if option_map_or (asked_breaks_2 table c) c.asked false then Some WithinMounts else last)
     (parts (changes_break_3 images c.mounts c.pid table c.changes c.state) (changes_break_4 images c.mounts c.pid c.changes c.state) (changes_break_5 images c.mounts c.pid table c.changes c.state) (last_rule c.reach))
 
 -- ---- where nothing was changed
@@ -158,7 +160,7 @@ pub killed-told : (marks : ℕ) (table : List Row) (pid signal : ℕ) (s after :
     → killed_rule marks table pid signal s ≡ rule_told marks ((memory_of pid s).read_marked || false) false (ending_rule pid after) nothing_reached
 killed-told marks table pid signal s after is =
     told-by-parts marks table (record { pid = pid; state = s; memory = memory_of pid s; no_shelf = false; asked = None; mounts = no_mounts; changes = End signal ∷ []; reach = nothing_reached })
-    ∙ ap (λ (b : Bool). rule_told marks ((memory_of pid s).read_marked || false) false (cond b (Some 4) None) nothing_reached)
+    ∙ ap (λ (b : Bool). rule_told marks ((memory_of pid s).read_marked || false) false (cond b (Some UsedStay) None) nothing_reached)
     (or-false (is_in_use (is_directory_of pid) (killed pid signal s)) ∙ ap (λ (t : State ℕ Image). is_in_use (is_directory_of pid) t) (sym is))
 
 -- ---- in code
@@ -176,7 +178,7 @@ module _ {T : Type 0} {M : ℕ} (number : T → ℕ) (table : List Row) (pid : �
       let shown = state_numbered number (meaning mid) in
       let marks : read ≡ (memory_of pid shown).read_marked = read-is ∙ ap (λ (m : Memory). m.read_marked) (sym (memory-numbered number pid (meaning mid))) in
       let ending : ending_rule pid (meaning new) ≡ ending_rule pid (state_numbered number (meaning new)) =
-      ap (λ (b : Bool). cond b (Some 4) None) (sym (in-use-numbered number (is_directory_of pid) (meaning new)))
+      ap (λ (b : Bool). cond b (Some UsedStay) None) (sym (in-use-numbered number (is_directory_of pid) (meaning new)))
       in
       (λ i. rule_told M (marks i || false) false (ending i) nothing_reached) ∙ sym (killed-told M table pid signal shown (state_numbered number (meaning new)) is)
 

@@ -17,4 +17,5 @@ pub mod BreakLemmas
 pub mod JudgeLemmas
 pub mod NotedLemmas
 pub mod ShelfLemmas
+pub mod TargetLemmas
 pub mod TurnLemmas

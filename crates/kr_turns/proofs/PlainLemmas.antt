@@ -46,6 +46,7 @@ use Rattle.kr_stops.specs.Stopped.{nothing_handed}
 use Rattle.kr_stops.proofs.EditLemmas.{computed-lives}
 use Rattle.kr_turns.proofs.NumberLemmas.{answered-numbered, computed-numbered, execution-numbered, memory-numbered, resumed-numbered, row-numbered, settled-numbered}
 use Rattle.kr_seen.proofs.LookLemmas.{known-numbered, process-numbered}
+use Rattle.kr_calm.specs.declared.rule.Rule.{Rule}
 
 -- the number of an error is none of a child
 none-made : (next : ℕ) (e : Errno) → child_if_made next (refusal e).outcome ≡ None
@@ -133,7 +134,7 @@ module _ {T : Type 0} {M : ℕ} (number : T → ℕ) where
         ∙ ap (λ (d : CarriedOut Reply). after_row (mounts_walked (targets_of table pid (shown old) r)) pid d (shown old)) same-row
 
     pub operated-now : (new : State T M) (plain : Plain) → meaning new ≡ settled pid outcome (meaning after) → plain.end ≡ end_of r outcome → plain.child ≡ child_of (meaning old).next_pid r outcome
-        → plain.handed ≡ handed_on table (targets_of table pid (shown old) r) → came_to number new plain ≡ operated table pid r (shown old)
+        → plain.handed ≡ handed_on table pid r (shown old) (targets_of table pid (shown old) r) → came_to number new plain ≡ operated table pid r (shown old)
     operated-now new plain settles end child handed =
         let state : shown new ≡ settled pid (row_on table pid r (shown old)).reply.outcome (after_row (mounts_walked (targets_of table pid (shown old) r)) pid (row_on table pid r (shown old)) (shown old)) =
         ap (state_numbered number) settles ∙ settled-numbered number pid outcome (meaning after) ∙ ap (settled pid outcome) row-left
@@ -154,7 +155,7 @@ module _ {T : Type 0} {M : ℕ} (number : T → ℕ) where
       in
       let ends : end.Answered ≡ (operated table pid r (shown s)).end = ap (end_of r) told in
       let child : None ≡ (operated table pid r (shown s)).child = sym (no-child (shown s).next_pid e r) ∙ ap (child_of (shown s).next_pid r) told in
-      let handed : nothing_handed ≡ (operated table pid r (shown s)).handed = sym (ap (handed_on table) fails) in
+      let handed : nothing_handed ≡ (operated table pid r (shown s)).handed = sym (ap (handed_on table pid r (shown s)) fails) in
       refuses ∙ (λ j. record { state = state j; end = ends j; child = child j; handed = handed j })
 
   -- ---- a new program
@@ -278,7 +279,7 @@ module _ {T : Type 0} {M : ℕ} (number : T → ℕ) (table : List Row) (pid : �
         idle-here number table pid no_shelf mid
         ∙ ap (λ reply. decoded_rule M table pid no_shelf reply (shown number mid)) (sym told) ∙ sym rule-is
 
-    pub rule-carried : (q : Request) → decoded.reply ≡ Ok q → (rule : Option ℕ) → rule ≡ requested_rule M table pid no_shelf q (shown number mid) → rule ≡ plain_rule M table pid no_shelf (shown number s)
+    pub rule-carried : (q : Request) → decoded.reply ≡ Ok q → (rule : Option Rule) → rule ≡ requested_rule M table pid no_shelf q (shown number mid) → rule ≡ plain_rule M table pid no_shelf (shown number s)
     rule-carried q told rule is = is ∙ ap (λ reply. decoded_rule M table pid no_shelf reply (shown number mid)) (sym told) ∙ sym rule-is
 
   pub call-refused : (e : Errno) → decoded.reply ≡ Err e → (made : Came) → made ≡ refusal_told pid e (shown number mid) → made ≡ plain_call table pid (shown number s)

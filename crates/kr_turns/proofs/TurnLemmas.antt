@@ -36,6 +36,7 @@ use Rattle.kr_stops.specs.Watching.{Watching}
 use Rattle.kr_turns.specs.declared.plain.Plain.{Plain}
 use Rattle.kr_stops.proofs.EditLemmas.{computed-lives}
 use Rattle.kr_turns.proofs.NumberLemmas.{computed-numbered}
+use Rattle.kr_calm.specs.declared.rule.Rule.{Rule}
 
 module _ {S T : Type 0} {M : ℕ} (w : Watching S) (number : T → ℕ) (pid : ℕ) (handed : Handed) (old : State T M) (x : S) where
   abbrev at-stop : Stopped
@@ -70,7 +71,7 @@ module _ {S T : Type 0} {M : ℕ} (w : Watching S) (number : T → ℕ) (table :
     entered = stopped_in number entered pid nothing_handed;
     enters = subst (λ (s : model.State ℕ Image). w.enters x (record { state = s; pid = pid; handed = nothing_handed }) entering (stopped_in number entered pid nothing_handed)) marks enters;
     after =
-        subst (λ (broken : Option ℕ). IsAfterPlain w pid (plain_call table pid (state_numbered number (meaning entered))) entering (with_broken broken tally) (machine_of number new y (ended_with told (with_broken plain.broken tally)))) rule
+        subst (λ (broken : Option Rule). IsAfterPlain w pid (plain_call table pid (state_numbered number (meaning entered))) entering (with_broken broken tally) (machine_of number new y (ended_with told (with_broken plain.broken tally)))) rule
         (subst (λ (made : Came). IsAfterPlain w pid made entering (with_broken plain.broken tally) (machine_of number new y (ended_with told (with_broken plain.broken tally)))) plainly
         (record { bearing = bearing; born = born; leaves = left (with_broken plain.broken tally) }));
   }

@@ -17,6 +17,7 @@ pub use Rattle.kr_stops.specs as kr_stops
 pub mod Held
 pub mod HeldLaws
 pub mod Shelving
+pub mod Target
 pub mod PlainCall
 pub mod Breaking
 pub mod Looking

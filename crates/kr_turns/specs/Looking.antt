@@ -11,6 +11,7 @@ use Rattle.kr_steps.specs.law_allowed.Told.{mounts_walked}
 use Rattle.kr_seen.specs.Carrying.{with_memory_of}
 use Rattle.kr_calm.specs.Foreseen.{call_foreseen}
 use Rattle.kr_calm.specs.Rules.{breaks_2}
+use Rattle.kr_calm.specs.declared.rule.Rule.{Rule}
 use Rattle.kr_turns.specs.Breaking.{asked_of, rule_of}
 use Rattle.kr_turns.specs.PlainCall.{row_on}
 use Rattle.kr_turns.specs.declared.judging.Ahead.{Ahead}
@@ -32,7 +33,7 @@ module _ (marks : ℕ) (table : List Row) (pid : ℕ) (request : Request) (befor
       × ((row_on table pid request before).reply.outcome ≡ Ended → a.read ≡ (row_on table pid request before).memory.read_marked)
 
   -- the rule that it breaks, where its walks reach so much
-  abbrev pub judged : Bool → Reach → Option ℕ
+  abbrev pub judged : Bool → Reach → Option Rule
   judged no_shelf reach =
       let done = row_on table pid request before in
       rule_of marks table pid no_shelf (with_memory_of pid done.memory before) done.memory (Some (asked_of marks table pid no_shelf request before)) (mounts_walked (targets_of table pid before request)) done.reply.changes reach

@@ -29,6 +29,7 @@ use Rattle.kr_steps.specs.Computing.{computed}
 use Rattle.kr_steps.specs.Settling.{settled}
 use Rattle.kr_stops.specs.Stopped.{nothing_handed}
 use Rattle.kr_stops.specs.declared.handed.Handed.{Handed}
+use Rattle.kr_turns.specs.Target.{target_of}
 use Rattle.kr_turns.specs.declared.plain.CallEnd.{CallEnd}
 use Rattle.kr_turns.specs.declared.plain.CallEnd.TheVariants as end
 
@@ -79,9 +80,6 @@ abbrev pub leads_to_root : List Row → Result Targets Errno → Bool
 leads_to_root table (Ok targets) = option_map_or (is_root_found table) targets.first false
 leads_to_root table (Err e) = false
 
-abbrev pub handed_on : List Row → Result Targets Errno → Handed
-handed_on table targets = record { at_root = leads_to_root table targets }
-
 -- ---- each kind of call
 
 -- a refused call tells its caller the negated number of the error
@@ -98,6 +96,10 @@ module _ (table : List Row) (pid : ℕ) where
   abbrev pub row_on : Request → State ℕ Image → CarriedOut Reply
   row_on r s = carried pid (operation pid r (seen table pid s r) (known image_layout pid s)) s
 
+  -- what it hands on, by where its paths lead and what is known before it is carried out
+  abbrev pub handed_on : Request → State ℕ Image → Result Targets Errno → Handed
+  handed_on r s targets = record { at_root = leads_to_root table targets; target = target_of r (known image_layout pid s) targets }
+
   abbrev pub operated : Request → State ℕ Image → Came
   operated r s =
       let done = row_on r s in
@@ -105,7 +107,7 @@ module _ (table : List Row) (pid : ℕ) where
         state = settled pid done.reply.outcome (after_row (mounts_walked (targets_of table pid s r)) pid done s);
         end = end_of r done.reply.outcome;
         child = child_of s.next_pid r done.reply.outcome;
-        handed = handed_on table (targets_of table pid s r);
+        handed = handed_on r s (targets_of table pid s r);
       }
 
   abbrev pub executed : List ℕ → ℕ → ℕ → State ℕ Image → Came

@@ -11,6 +11,7 @@ use Rattle.kr_seen.specs.kr_model.State.{Image, Process, State, process}
 use Rattle.kr_steps.specs.Computing.{computed}
 use Rattle.kr_steps.specs.Waiting.{picked_process}
 use Rattle.kr_calm.specs.Calm.{kept}
+use Rattle.kr_calm.specs.declared.rule.Rule.{Rule}
 use Rattle.kr_turns.specs.Breaking.{idle_rule, killed_rule, no_mounts, plain_rule}
 use Rattle.kr_turns.specs.PlainCall.{Came, plain_call}
 use Rattle.kr_turns.specs.Shelving.{lacks_in, shelved_in}
@@ -22,13 +23,13 @@ use Rattle.kr_turns.specs.declared.plain.CallEnd.TheVariants as end
 -- what is told of the turns so far: the status of the process that ended last, and the calm rule that was broken first
 pub record Tally : Type 0 where
   pub status : ℕ
-  pub broken : Option ℕ
+  pub broken : Option Rule
 
 abbrev pub with_status : ℕ → Tally → Tally
 with_status status t = record { status = status; broken = t.broken }
 
 -- the first that is broken counts
-abbrev pub with_broken : Option ℕ → Tally → Tally
+abbrev pub with_broken : Option Rule → Tally → Tally
 with_broken rule t = record { status = t.status; broken = kept t.broken rule }
 
 -- a machine between turns: its kernel's state, what the watcher keeps, and what is told of its turns

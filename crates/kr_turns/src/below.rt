@@ -1,5 +1,5 @@
 //! What those above name of the crates below.
 
-pub use kr_calm::reaches_too_far;
+pub use kr_calm::{Rule, reaches_too_far};
 pub use kr_execve::below::{Places, Reach};
 pub use kr_seen::below::{State, lawful_states_are_sound};

@@ -179,6 +179,10 @@ impl<'a, P: Places, const M: u8> Tracee for Here<'a, P, M> {
         self.handed.at_root
     }
 
+    fn target(&self) -> Option<u64> {
+        self.handed.target
+    }
+
     fn request(&mut self) -> Result<Request, CallFault> {
         lawful_states_are_sound::<P::Mount, M>();
         request(&mut *self.state, self.pid)

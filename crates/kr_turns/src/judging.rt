@@ -18,7 +18,9 @@ ghost use Rattle.kr_seen.specs.kr_ops.Meaning.{meaning};
 ghost use Rattle.kr_seen.specs.kr_ops.Sound.{IsServed, IsSound};
 ghost use Rattle.kr_turns.specs.Breaking.{ending_rule, last_rule, nothing_reached, rule_told};
 
-use kr_calm::{Foreseen, crosses, end_takes_used, foresee, judge, note_list, reaches_too_far};
+use kr_calm::{
+    Foreseen, Rule, crosses, end_takes_used, foresee, judge, note_list, reaches_too_far,
+};
 use kr_execve::below::{Places, Reach, Request};
 use kr_execve::marks_read;
 use kr_seen::Targets;
@@ -36,22 +38,22 @@ pub(crate) fn rule_of<const M: u8>(
     read: bool,
     no_shelf: bool,
     second: bool,
-    changed: Option<u8>,
+    changed: Option<Rule>,
     reach: &Reach,
-) -> Option<u8>
+) -> Option<Rule>
     ensures { result ≡ rule_told M (read || no_shelf) second changed reach.now }
 {
     if M == 0 {
         return None;
     }
     if read {
-        return Some(1);
+        return Some(Rule::Unread);
     }
     if no_shelf {
-        return Some(1);
+        return Some(Rule::Unread);
     }
     if second {
-        return Some(2);
+        return Some(Rule::WithinMounts);
     }
     match changed {
         Some(rule) => Some(rule),
@@ -60,11 +62,11 @@ pub(crate) fn rule_of<const M: u8>(
 }
 
 /// The last rule, if it is broken.
-fn last_rule(reach: &Reach) -> Option<u8>
+fn last_rule(reach: &Reach) -> Option<Rule>
     ensures { result ≡ last_rule reach.now }
 {
     if reaches_too_far(reach) {
-        Some(6)
+        Some(Rule::ShortNames)
     } else {
         None
     }
@@ -120,7 +122,7 @@ pub(crate) fn judge_call<T: Copy, const M: u8>(
     no_shelf: bool,
     reach: &Reach,
     outcome: Outcome,
-) -> Option<u8>
+) -> Option<Rule>
     requires { outcome ≢ WantOfMemory → IsSound state.now }
     ensures { outcome ≢ WantOfMemory → (number : T → ℕ) (table : List Row) (request : AnyRequest) (before : model.State ℕ model.Image) →
         IsAhead M table pid request before ahead → IsSome (model.process pid before) → outcome ≡ (row_on table pid request before).reply.outcome
@@ -141,7 +143,7 @@ fn judge_ahead<T: Copy, const M: u8>(
     no_shelf: bool,
     reach: &Reach,
     outcome: Outcome,
-) -> Option<u8>
+) -> Option<Rule>
     requires { outcome ≢ WantOfMemory → IsSound state.now }
     ensures { outcome ≢ WantOfMemory → (number : T → ℕ) (table : List Row) (request : AnyRequest) (before : model.State ℕ model.Image) →
         IsAhead M table pid request before (Some ahead.now) → IsSome (model.process pid before) → outcome ≡ (row_on table pid request before).reply.outcome
@@ -175,7 +177,7 @@ pub(crate) fn idle_rule<T: Copy, const M: u8>(
     pid: u32,
     no_shelf: bool,
     reach: &Reach,
-) -> Option<u8>
+) -> Option<Rule>
     requires { IsSound state.now }
     ensures { result ≡ rule_told M ((memory_of pid (meaning state.now)).read_marked || no_shelf) false None reach.now }
 {
@@ -191,7 +193,7 @@ pub(crate) fn killed_rule<T: Copy, const M: u8>(
     state: &State<T, M>,
     pid: u32,
     read: bool,
-) -> Option<u8>
+) -> Option<Rule>
     requires { IsServed state.now }
     ensures { result ≡ rule_told M (read || false) false (ending_rule pid (meaning state.now)) nothing_reached }
 {
@@ -199,7 +201,7 @@ pub(crate) fn killed_rule<T: Copy, const M: u8>(
         return None;
     }
     let changed = if end_takes_used(state, pid) {
-        Some(4)
+        Some(Rule::UsedStay)
     } else {
         None
     };

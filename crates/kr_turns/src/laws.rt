@@ -1,5 +1,5 @@
 //! Laws of turns, each carried by a function that does nothing.
-ghost use Rattle.kr_turns.specs.Laws.{TurnsAreFunctions};
+ghost use Rattle.kr_turns.specs.Laws.{TargetsAreTold, TurnsAreFunctions};
 ghost use Rattle.kr_stops.specs.Watching.{watching};
 
 use kr_stops::Stops;
@@ -7,4 +7,9 @@ use kr_stops::Stops;
 /// Where the relations of a watcher are graphs of functions, a turn is the definition's by these functions.
 pub fn turns_are_functions<S: Stops>()
     ensures { TurnsAreFunctions (watching S.enters S.exits S.bears S.forgets) }
+{}
+
+/// The target of a call that looks up one path, or has none, is a function of what it is told of that path and of what it knows.
+pub fn targets_are_told()
+    ensures { TargetsAreTold }
 {}

@@ -10,6 +10,9 @@
 //! (`came`, `reach`): exactly the definition, over the state with its mounts told by their numbers (`PlainCall.antt`). Beside that it tells the
 //! smallest calm rule that the call broke (`rule`; `plain_rule`).
 //!
+//! What it hands on says whether its first path led to the root, and to which inode, or which one stands in a path's place (`Target.antt`). Of a
+//! call that looks up one path, or has none, that is a function of what it is told and knows (law `targets_are_told`).
+//!
 //! `make_turn` is the definition's turn by the watcher's four relations, with the status of a process that ended and the calm rule that was
 //! broken (`turn`), and what lasts of a state lasts (`runs`). Where memories keep marks, the shelf of a call with a path is marked before its
 //! first stop, and a call whose shelf isn't there breaks a rule. Where the relations are graphs of functions the turn is a function (law
@@ -29,6 +32,7 @@ mod judging;
 pub mod laws;
 mod plain;
 mod shelving;
+mod target;
 mod turn;
 
 pub use kr_steps::{picked, ready};

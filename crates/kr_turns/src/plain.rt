@@ -23,6 +23,8 @@ ghost use Rattle.kr_turns.specs.PlainCall.{child_of, end_of, executed, handed_on
 ghost use Rattle.kr_execve.specs.kr_calls.declared.request.Request.TheVariants.{Execve as ExecveRequest};
 
 use crate::judging::{NOTHING, idle_rule, judge_call, look_ahead, rule_of};
+use crate::target::target_of;
+use kr_calm::Rule;
 use kr_execve::below::{CallFault, Place, Places, Reach, Request, WalkFault};
 use kr_execve::{Executed, execute};
 use kr_hostview::below::{Errno, NoMemory};
@@ -59,7 +61,7 @@ pub struct Plain {
     /// What its walks reached.
     pub reach: Reach,
     /// The smallest calm rule that it broke. Where marks aren't kept none is.
-    pub broken: Option<u8>,
+    pub broken: Option<Rule>,
 }
 
 /// Carries out the call at which a living process stands: what it asks for is decoded from its registers and its memory, its paths are
@@ -193,7 +195,7 @@ fn operate<P: Places, const M: u8>(
         Err(WalkFault::Err(errno)) => return Ok(refuse(state, pid, errno, no_shelf, reach)),
         Err(WalkFault::NoMemory) => return Err(NoMemory),
     };
-    let handed = handed_on(places, &targets);
+    let handed = handed_on(places, state, pid, request, &targets);
     let next = state.next_pid;
     let ahead = look_ahead(places, state, pid, request, &targets);
     let outcome = carry_out_along(alloc, places, state, pid, request, &targets);
@@ -282,11 +284,20 @@ fn child_of(next: u32, request: &Request, outcome: Outcome) -> Option<u32>
 }
 
 /// What a call hands to its second stop.
-fn handed_on<P: Places>(places: &P, targets: &Targets<P::Mount>) -> Handed
-    ensures { (answer : _) → AreTargets P.number answer (Ok targets.now) → result ≡ handed_on (P.mounts places.now) answer }
+fn handed_on<P: Places, const M: u8>(
+    places: &P,
+    state: &State<P::Mount, M>,
+    pid: u32,
+    request: &Request,
+    targets: &Targets<P::Mount>,
+) -> Handed
+    requires sound { IsSound state.now }
+    requires lives { IsSome (process pid (meaning state.now)) }
+    ensures { (answer : _) → AreTargets P.number answer (Ok targets.now) → result ≡ handed_on (P.mounts places.now) pid request.now (state_numbered P.number (meaning state.now)) answer }
 {
     Handed {
         at_root: leads_to_root(places, targets),
+        target: target_of(state, pid, request, targets),
     }
 }
 

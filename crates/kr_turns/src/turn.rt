@@ -14,6 +14,7 @@ use crate::here::Here;
 use crate::judging::{NOTHING, idle_rule, killed_rule};
 use crate::plain::{CallEnd, Plain, plain_call};
 use crate::shelving::shelve;
+use kr_calm::Rule;
 use kr_execve::below::Places;
 use kr_execve::marks_read;
 use kr_hostview::below::NoMemory;
@@ -29,7 +30,7 @@ pub struct Made {
     /// The status of a process that ended: its exit code, or 128 and the number of the signal that killed it.
     pub status: Option<u8>,
     /// The smallest calm rule that the turn broke. Where marks aren't kept none is.
-    pub broken: Option<u8>,
+    pub broken: Option<Rule>,
 }
 
 /// Makes a turn of a living process, of `fuel` instructions at most. After want of memory the state and the watcher may only be

@@ -27,10 +27,12 @@ use Rattle.kr_turns.proofs.kr_stops.EditLemmas.{computed-lives}
 use Rattle.pt_tracer.specs.pt_faker.Stopping.{memory_at}
 use Rattle.law_edits.specs.CallShelves.{CalmCallsHaveShelves, ShelvesAreSeen}
 use Rattle.law_edits.proofs.AnswerLemmas.{allowed_alike}
+use Rattle.kr_turns.specs.kr_calm.declared.rule.Rule.{Rule}
+use Rattle.kr_turns.specs.kr_calm.declared.rule.Rule.TheVariants.{Unread}
 
 -- ---- the first rule
 
-unlacked : (read lacks : Bool) (other : Option ℕ) → cond (read || lacks) (Some 1) other ≡ None → lacks ≡ false
+unlacked : (read lacks : Bool) (other : Option Rule) → cond (read || lacks) (Some Unread) other ≡ None → lacks ≡ false
 unlacked read false other calm = refl
 unlacked true true other calm = absurd cc
 unlacked false true other calm = absurd cc

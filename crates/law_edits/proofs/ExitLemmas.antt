@@ -12,10 +12,10 @@ use Rattle.law_walks.specs.kr_model.State.{Image}
 use Rattle.kr_turns.specs.kr_stops.Stopped.{IsThere, Stopped, edited, image_at}
 use Rattle.pt_tracer.specs.pt_results.Notes.{noted, tags_after}
 use Rattle.pt_tracer.specs.pt_faker.Faking.{has_answered_zero, no_call, word_of}
-use Rattle.pt_tracer.specs.pt_faker.Stopping.{after_request, decoded_at, memory_at, with_memory, with_register}
+use Rattle.pt_tracer.specs.pt_faker.Stopping.{after_request, decoded_at, memory_at, register_at, with_memory, with_register}
 use Rattle.pt_tracer.specs.Planning.{stack_at}
 use Rattle.pt_tracer.specs.Registers.{arguments_at, given_back}
-use Rattle.pt_tracer.specs.Watched.{Tracing, after_pending, answer_at, awaiting, begin_program, exited, give_back, has_begun, is_execve, returned, shown_to, with_tags, without_pending}
+use Rattle.pt_tracer.specs.Watched.{Tracing, after_pending, answer_at, awaiting, begin_program, exited, give_back, has_begun, is_execve, remembered_in, returned, shown_to, with_identities, with_tags, without_pending}
 use Rattle.pt_tracer.specs.declared.pending.Pending.{Pending}
 use Rattle.pt_tracer.specs.declared.plan.Led.{Led}
 use Rattle.pt_tracer.specs.declared.registers.Arguments.{Arguments}
@@ -178,11 +178,15 @@ module _ (x : Tracing) (v : Stopped) (p : Pending) (none : x.identities ≡ None
   abbrev y : Tracing
   y = without_pending v.pid x
 
+  abbrev left : Tracing
+  left = with_tags (tags_after x.tags v.pid (noted p.request p.led.index (answer_at (returned p v)))) y
+
   pub gives_back : exited x v ≡ (with_tags (tags_after x.tags v.pid (noted p.request p.led.index (answer_at (returned p v)))) y, returned p v)
   gives_back =
       ap (after_pending y v) at
       ∙ ap (λ b. cond b (begin_program y p v) (give_back y p v)) begins
-      ∙ ap (λ identities. (with_tags (tags_after x.tags v.pid (noted p.request p.led.index (answer_at (returned p v)))) y, shown_to x.user identities p (returned p v))) none
+      ∙ ap (λ identities. (let shown = shown_to x.user identities p (returned p v) in (with_identities (remembered_in identities p v.handed.target (register_at shown 10)) left, shown))) none
+      ∙ sym (ap (λ identities. (with_identities identities left, returned p v)) none)
 
 are_six : (p : Arguments) → AreRegisters (words_of p)
 are_six p = (refl, (refl, (refl, (refl, (refl, (refl, tt))))))

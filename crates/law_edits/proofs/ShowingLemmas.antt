@@ -8,6 +8,7 @@ use Rattle.pt_tracer.proofs.rv_mem.ActionLemmas.{AreEqualUnmarked-written, reads
 use Rattle.pt_tracer.proofs.rv_mem.AddressLemmas.{is_marked-written_in}
 use Rattle.pt_tracer.specs.kr_inode.declared.user.User.{User}
 use Rattle.pt_tracer.specs.pt_ident.Identity.{on_memory}
+use Rattle.pt_tracer.specs.pt_ident.IdentityTable.{IdentityTable, shown_owners}
 use Rattle.pt_tracer.specs.pt_ident.Showing.{shown_stat}
 use Rattle.pt_tracer.specs.pt_faker.Faking.{show_owner}
 use Rattle.law_edits.specs.Showing.{EffectsAreDoneAlike, LeaveAlike, OwnersAreShownAlike, just_written}
@@ -33,10 +34,10 @@ abbrev ended : Action (Unit {0})
 ended = Done tt
 
 -- an owner that is shown where none is marked
-pub owner-unread : (user : User) (uid gid at : ℕ) (m : Memory) → any_marked m.pages at 128 ≡ false → m.read_marked ≡ false → (carried_out (show_owner user uid gid at) m).memory.read_marked ≡ false
-owner-unread user uid gid at m unmarked calm = by (allows_uses m.pages at 128 (Write ∷ []))
+pub owner-unread : (user : User) (table : IdentityTable) (at : ℕ) (m : Memory) → any_marked m.pages at 128 ≡ false → m.read_marked ≡ false → (carried_out (show_owner user table at) m).memory.read_marked ≡ false
+owner-unread user table at m unmarked calm = by (allows_uses m.pages at 128 (Write ∷ []))
   where
-    by : (b : Bool) → (carried_out (cond b (ReadBytes at 128 (λ bytes. WriteBytes at (shown_stat user uid gid bytes) ended)) ended) m).memory.read_marked ≡ false
+    by : (b : Bool) → (carried_out (cond b (ReadBytes at 128 (λ bytes. WriteBytes at (shown_stat user table.uid table.gid (shown_owners table) bytes) ended)) ended) m).memory.read_marked ≡ false
     by true = neither m.read_marked (any_marked m.pages at 128) calm unmarked
     by false = calm
 
@@ -47,6 +48,6 @@ pub effects-are-done-alike : EffectsAreDoneAlike
 effects-are-done-alike i e m w same unread = alike (on_memory i e) m w same unread
 
 pub owners-are-shown-alike : OwnersAreShownAlike
-owners-are-shown-alike user uid gid at bytes m w long same calm =
-    alike (show_owner user uid gid at) (just_written at bytes m) (just_written at bytes w) (AreEqualUnmarked-written bytes m.pages w.pages same at)
-    (owner-unread user uid gid at (just_written at bytes m) (written-unmarked m.pages at bytes same.whole long) calm)
+owners-are-shown-alike user table at bytes m w long same calm =
+    alike (show_owner user table at) (just_written at bytes m) (just_written at bytes w) (AreEqualUnmarked-written bytes m.pages w.pages same at)
+    (owner-unread user table at (just_written at bytes m) (written-unmarked m.pages at bytes same.whole long) calm)

@@ -5,6 +5,7 @@ use Rattle.pt_tracer.specs.rv_mem.Memory.{Memory, with_pages}
 use Rattle.pt_tracer.specs.rv_mem.Pages.{written}
 use Rattle.pt_tracer.specs.kr_inode.declared.user.User.{User}
 use Rattle.pt_tracer.specs.pt_ident.Identity.{Effect, Identity, on_memory}
+use Rattle.pt_tracer.specs.pt_ident.IdentityTable.{IdentityTable}
 use Rattle.pt_tracer.specs.pt_faker.Faking.{show_owner}
 
 -- carried out on both, no marked byte was read, and all other bytes are equal
@@ -20,8 +21,8 @@ just_written at bytes m = with_pages m (written m.pages at bytes)
 -- as fstat(2) leaves it where it answers 0
 abbrev pub OwnersAreShownAlike : Type 0
 OwnersAreShownAlike =
-    (user : User) (uid gid at : ℕ) (bytes : List ℕ) (m w : Memory) → length bytes ≡ 128 → AreEqualUnmarked m.pages w.pages → m.read_marked ≡ false
-    → LeaveAlike (carried_out (show_owner user uid gid at) (just_written at bytes m)) (carried_out (show_owner user uid gid at) (just_written at bytes w))
+    (user : User) (table : IdentityTable) (at : ℕ) (bytes : List ℕ) (m w : Memory) → length bytes ≡ 128 → AreEqualUnmarked m.pages w.pages → m.read_marked ≡ false
+    → LeaveAlike (carried_out (show_owner user table at) (just_written at bytes m)) (carried_out (show_owner user table at) (just_written at bytes w))
 
 -- a calm call reads no marked byte at its first stop either
 abbrev pub EffectsAreDoneAlike : Type 0

@@ -17,8 +17,8 @@
 //! What watchers do for identities comes to the same in memories that are equal but for marked bytes: laws, and no code.
 //!
 //! Two laws of what an identity makes of memories that are equal but for marked bytes, and no code: a call on users and groups that reads no
-//! marked byte is answered alike (`effects_are_done_alike`), and where the bytes of a `stat` were just written its owner is shown alike
-//! (`owners_are_shown_alike`).
+//! marked byte is answered alike (`effects_are_done_alike`), and where the bytes of a `stat` were just written its owner and its mode are shown
+//! alike, with what is remembered of its file (`owners_are_shown_alike`).
 //!
 //! # `fresh`
 //!

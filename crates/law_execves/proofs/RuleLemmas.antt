@@ -10,6 +10,8 @@ use Rattle.pt_args.specs.kr_calls.Arguments.{number}
 use Rattle.pt_args.specs.kr_calls.declared.request.Request.TheVariants as call
 use Rattle.law_plans.specs.kr_seen.Carrying.{memory_of}
 use Rattle.law_plans.specs.kr_calm.Shelf.{has_path, is_usable, stack_pointer}
+use Rattle.law_plans.specs.kr_calm.declared.rule.Rule.{Rule}
+use Rattle.law_plans.specs.kr_calm.declared.rule.Rule.TheVariants.{SearchStays, ShortNames, SourcesStay, Unread, UsedStay, WithinMounts}
 use Rattle.law_programs.specs.kr_execve.Execution.{execution, execution_reach}
 use Rattle.law_stops.specs.kr_model.State.{Image, Process, State, process}
 use Rattle.law_stops.specs.kr_turns.Breaking.{decoded_rule, executed_rule, nothing_reached, plain_rule_of}
@@ -33,7 +35,7 @@ use Rattle.law_execves.proofs.GoLemmas as go
 
 -- none of six rules
 none_of_six : (first second third fourth fifth sixth : Bool)
-    → cond {A = Option ℕ} first (Some 1) (cond second (Some 2) (cond third (Some 3) (cond fourth (Some 4) (cond fifth (Some 5) (cond sixth (Some 6) None))))) ≡ None → (first ≡ false) × (sixth ≡ false)
+    → cond {A = Option Rule} first (Some Unread) (cond second (Some WithinMounts) (cond third (Some SourcesStay) (cond fourth (Some UsedStay) (cond fifth (Some SearchStays) (cond sixth (Some ShortNames) None))))) ≡ None → (first ≡ false) × (sixth ≡ false)
 none_of_six false false false false false false e = (refl, refl)
 none_of_six false false false false false true e = absurd cc
 none_of_six true second third fourth fifth sixth e = absurd cc
@@ -83,7 +85,7 @@ module _ {S : Type 0} (table : List Row) (made pid : ℕ) (m : Machine S) (n : M
       calm_calls_have_shelves table pid m.state p lives has_number
       (subst (λ t. plain_rule_here t ≡ None) (sym (before.shelf table made pid m n c p q lives also)) (before.calm_call table made pid m n c p q lives also calm))
     where
-      plain_rule_here : State ℕ Image → Option ℕ
+      plain_rule_here : State ℕ Image → Option Rule
       plain_rule_here t = option_map_or (plain_rule_of 1 table pid lacks t) (process pid t) None
 
   -- its bytes are marked on the machine with mounts

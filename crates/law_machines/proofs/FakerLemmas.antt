@@ -10,7 +10,7 @@ use Rattle.law_starts.specs.pt_ident.IdentityTable.{identity_at}
 use Rattle.law_starts.specs.pt_faker.Faking.{Faking, after_decoding, after_due, after_effect, answer_register, begin_program, entered, exited, has_answered_zero, number_register, show_identity, stack_register, without_due, word_of}
 use Rattle.law_starts.specs.pt_faker.Stopping.{after_request, decoded_at, memory_at, register_at, with_memory, with_register}
 use Rattle.law_starts.specs.pt_faker.declared.due.Due.{Due}
-use Rattle.law_starts.specs.pt_faker.declared.due.Due.TheVariants.{BeginsProgram, ForgivesOwner, ForgivesRoot, ShowsOwner, Tells}
+use Rattle.law_starts.specs.pt_faker.declared.due.Due.TheVariants.{BeginsProgram, ForgivesRoot, Remembers, ShowsOwner, Tells}
 use Rattle.pt_args.specs.rv_mem.Actions.{carried_out}
 use Rattle.law_starts.specs.law_kept.Bytes.{HasBytes}
 use Rattle.law_machines.specs.Watchers.{FakersWatchBytes}
@@ -37,9 +37,9 @@ begins f t false has = has
 due-keeps : (f : Faking) (t : Stopped) (o : Option Due) → HasBytes t.state → HasBytes (after_due f t o).1.state
 due-keeps f t None has = has
 due-keeps f t (Some (Tells number answer)) has = register-keeps answer_register (word_of answer) (with_register number_register number t) (register-keeps number_register number t has)
-due-keeps f t (Some ForgivesOwner) has = forgiven-keeps true t has
+due-keeps f t (Some (Remembers change)) has = forgiven-keeps true t has
 due-keeps f t (Some ForgivesRoot) has = forgiven-keeps t.handed.at_root t has
-due-keeps f t (Some (ShowsOwner at)) has = shown-keeps f.user f.identities.uid f.identities.gid at t has
+due-keeps f t (Some (ShowsOwner at)) has = shown-keeps f.user f.identities at t has
 due-keeps f t (Some BeginsProgram) has = begins f t (has_answered_zero t) has
 
 exit-keeps : (f : Faking) (t : Stopped) → HasBytes t.state → HasBytes (exited f t).1.state

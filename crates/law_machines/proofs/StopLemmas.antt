@@ -1,5 +1,5 @@
 -- What watchers do at stops leaves bytes.
-use Rattle.std.proofs.Common.{ℕ, zero, suc, Bool, true, false, ◌&&◌, ◌+◌, ◌%◌, ◌^◌, List, [], ◌∷◌, cond, refl, take, drop}
+use Rattle.std.proofs.Common.{ℕ, zero, suc, Bool, true, false, ◌&&◌, ◌+◌, ◌%◌, ◌^◌, List, [], ◌∷◌, Option, Some, None, cond, refl, take, drop}
 use Rattle.std.specs.Prelude.{◌==◌}
 use Rattle.std.specs.Int.{to_le_bytes, w32, w64}
 use Rattle.std.proofs.Math.Seq.{sets}
@@ -10,7 +10,10 @@ use Rattle.pr_top.specs.kr_tree.Lawful.{AreBytes}
 use Rattle.law_starts.specs.kr_stops.Stopped.{Stopped, image_at}
 use Rattle.law_starts.specs.pt_faker.Stopping.{after_request, memory_at, with_memory, with_register}
 use Rattle.law_starts.specs.pt_ident.Identity.{Answers, Effect, Identity, TakesGroups, TellsGroups, TellsNumbers, number_bytes, on_memory}
-use Rattle.law_starts.specs.pt_ident.Showing.{auxiliary_values, shown_at}
+use Rattle.law_starts.specs.pt_ident.IdentityTable.{IdentityTable, shown_owners}
+use Rattle.law_starts.specs.pt_ident.Showing.{auxiliary_values, field, is_of_tree, owner_in, shown_at, shown_host, shown_with, with_owner_in}
+use Rattle.law_starts.specs.pt_ident.pt_owner.declared.change.Shown.{Shown}
+use Rattle.law_starts.specs.pt_ident.pt_owner.Owners.{Remembered, shown_of}
 use Rattle.law_starts.specs.pt_faker.Carrying.{on_its_memory}
 use Rattle.law_starts.specs.pt_faker.Faking.{behind_list, forgiven, has_answered_zero, if_done, most_words, next_word, no_call, no_longer_called, number_register, put_values, show_identity, show_owner}
 use Rattle.law_starts.specs.law_kept.Bytes.{HasBytes}
@@ -60,9 +63,29 @@ shown-at-bytes at own other bytes are = by (little_endian (take 4 (drop at bytes
     by true = bytes-laid bytes at (to_le_bytes w32 other) (word-bytes w32 other) are
     by false = are
 
-pub owner-puts : (user : User) (uid gid at : ℕ) → PutsBytes Fine (show_owner user uid gid at)
-owner-puts user uid gid at =
-    tested (λ b. either_way b (read (λ bytes are. wrote (shown-at-bytes 28 user.gid gid (shown_at 24 user.uid uid bytes) (shown-at-bytes 24 user.uid uid bytes are)) (told tt))) (told tt))
+host-bytes : (user : User) (uid gid : ℕ) (bytes : List ℕ) → AreBytes bytes → AreBytes (shown_host user uid gid bytes)
+host-bytes user uid gid bytes are = shown-at-bytes 28 user.gid gid (shown_at 24 user.uid uid bytes) (shown-at-bytes 24 user.uid uid bytes are)
+
+laid-word : (bytes : List ℕ) (at n : ℕ) → AreBytes bytes → AreBytes (sets bytes at (to_le_bytes w32 n))
+laid-word bytes at n are = bytes-laid bytes at (to_le_bytes w32 n) (word-bytes w32 n) are
+
+owner-bytes : (o : Shown) (bytes : List ℕ) → AreBytes bytes → AreBytes (with_owner_in o bytes)
+owner-bytes o bytes are =
+    let mode = laid-word bytes 16 o.mode are in
+    let uid = laid-word (sets bytes 16 (to_le_bytes w32 o.mode)) 24 o.uid mode in
+    laid-word (sets (sets bytes 16 (to_le_bytes w32 o.mode)) 24 (to_le_bytes w32 o.uid)) 28 o.gid uid
+
+over-bytes : (owners : Option Remembered) (bytes : List ℕ) → AreBytes bytes → AreBytes (shown_with owners bytes)
+over-bytes None bytes are = are
+over-bytes (Some owners) bytes are = by (is_of_tree (field 0 8 bytes) (field 16 4 bytes))
+  where
+    by : (b : Bool) → AreBytes (cond b (with_owner_in (shown_of owners (field 8 8 bytes) (owner_in bytes)) bytes) bytes)
+    by true = owner-bytes (shown_of owners (field 8 8 bytes) (owner_in bytes)) bytes are
+    by false = are
+
+pub owner-puts : (user : User) (table : IdentityTable) (at : ℕ) → PutsBytes Fine (show_owner user table at)
+owner-puts user table at =
+    tested (λ b. either_way b (read (λ bytes are. wrote (over-bytes (shown_owners table) (shown_host user table.uid table.gid bytes) (host-bytes user table.uid table.gid bytes are)) (told tt))) (told tt))
 
 -- ---- the identity of a new program
 
@@ -88,9 +111,9 @@ forgiven-keeps may t has = by (may && _)
     by true = register-keeps 10 0 t has
     by false = has
 
-pub shown-keeps : (user : User) (uid gid at : ℕ) (t : Stopped) → HasBytes t.state → HasBytes (if_done t (on_its_memory (show_owner user uid gid at) t) t).state
-shown-keeps user uid gid at t has = by (has_answered_zero t)
+pub shown-keeps : (user : User) (table : IdentityTable) (at : ℕ) (t : Stopped) → HasBytes t.state → HasBytes (if_done t (on_its_memory (show_owner user table at) t) t).state
+shown-keeps user table at t has = by (has_answered_zero t)
   where
-    by : (b : Bool) → HasBytes (cond b (on_its_memory (show_owner user uid gid at) t) t).state
-    by true = (carried-keeps Fine (show_owner user uid gid at) (owner-puts user uid gid at) t has).1
+    by : (b : Bool) → HasBytes (cond b (on_its_memory (show_owner user table at) t) t).state
+    by true = (carried-keeps Fine (show_owner user table at) (owner-puts user table at) t has).1
     by false = has

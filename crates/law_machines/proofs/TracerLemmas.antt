@@ -19,7 +19,7 @@ use Rattle.pt_args.specs.Bases.{working_text}
 use Rattle.pt_args.specs.declared.edit.Edit.{Edit}
 use Rattle.pt_args.specs.declared.edit.Edit.TheVariants.{Cancel, Emulate, Pass, Swap}
 use Rattle.law_starts.specs.pt_ident.Identity.{Effect, after_exec, effect, on_memory}
-use Rattle.law_starts.specs.pt_ident.IdentityTable.{IdentityTable, identity_at}
+use Rattle.law_starts.specs.pt_ident.IdentityTable.{IdentityTable, identity_at, starts_as_root}
 use Rattle.law_starts.specs.pt_faker.Reading.{addresses_behind, lists_at}
 use Rattle.law_starts.specs.pt_faker.declared.lists.Handed.{Handed}
 use Rattle.law_starts.specs.pt_script.Expanding.{expanded_at}
@@ -196,14 +196,14 @@ module _ (x : Tracing) (sound : goes_by_bytes x ≡ true) where
   due-keeps : (user : User) (table : IdentityTable) (at_root : Bool) (o : Option Due) (t : Stopped) → HasBytes t.state → HasBytes (shown_due user table at_root o t).state
   due-keeps user table at_root None t has = has
   due-keeps user table at_root (Some (due.Tells number answer)) t has = has
-  due-keeps user table at_root (Some due.ForgivesOwner) t has = forgiven-keeps true t has
+  due-keeps user table at_root (Some (due.Remembers change)) t has = forgiven-keeps true t has
   due-keeps user table at_root (Some due.ForgivesRoot) t has = forgiven-keeps at_root t has
-  due-keeps user table at_root (Some (due.ShowsOwner at)) t has = shown-keeps user table.uid table.gid at t has
+  due-keeps user table at_root (Some (due.ShowsOwner at)) t has = shown-keeps user table at t has
   due-keeps user table at_root (Some due.BeginsProgram) t has = has
 
   shown-to-keeps : (user : User) (o : Option IdentityTable) (p : Pending) (t : Stopped) → HasBytes t.state → HasBytes (shown_to user o p t).state
   shown-to-keeps user None p t has = has
-  shown-to-keeps user (Some table) p t has = due-keeps user table p.led.at_root (due_of (table.uid == 0) p.request) t has
+  shown-to-keeps user (Some table) p t has = due-keeps user table p.led.at_root (due_of (starts_as_root table) p.request) t has
 
   begin-leaves : (y : Tracing) → goes_by_bytes y ≡ true → (t : Stopped) (o : Option IdentityTable) → HasBytes t.state → Leaves (begin_as y t o)
   begin-leaves y still t None has = (still, has)

@@ -34,6 +34,7 @@ use Rattle.kr_turns.specs.law_allowed.Told.{mounts_walked}
 use Rattle.kr_turns.specs.rv_mem.Actions.{CarriedOut, Done, carried_out}
 use Rattle.kr_turns.specs.rv_mem.Memory.{Memory}
 use Rattle.kr_turns.specs.PlainCall.{Came, after_decoding, child_of, end_of, executed, leads_to_root, operated, plain_call, plain_call_of, replaced, requested, row_on}
+use Rattle.kr_turns.specs.Target.{target_of}
 use Rattle.kr_turns.specs.declared.plain.CallEnd.TheVariants as end
 use Rattle.law_unmarked.specs.Unmarked.{unmarked, unmarked_done, unmarked_image, unmarked_in}
 use Rattle.law_unmarked.proofs.ChangeLemmas.{changes_alike, state_twice}
@@ -73,7 +74,7 @@ module _ (table : List Row) (pid : ℕ) where
     state = settled pid done.reply.outcome (after_row (mounts_walked targets) pid done s);
     end = end_of r done.reply.outcome;
     child = child_of s.next_pid r done.reply.outcome;
-    handed = record { at_root = leads_to_root table targets };
+    handed = record { at_root = leads_to_root table targets; target = target_of r k targets };
   }
 
   operated-unmarked : (r : Request) (s : States) → unmarked_came (operated table pid r (unmarked_in s)) ≡ unmarked_came (operated table pid r s)

@@ -14,12 +14,13 @@ use Rattle.kr_turns.specs.rv_mem.Memory.{Memory}
 use Rattle.kr_turns.specs.rv_mem.declared.regs.Regs.{Regs}
 use Rattle.pt_faker.specs.pt_ident.Identity.{Answered, Effect, Identity, after_exec, effect, on_memory, refusal}
 use Rattle.pt_faker.specs.pt_ident.IdentityTable.{identity_at}
+use Rattle.pt_faker.specs.pt_ident.pt_owner.declared.change.Change.{Change}
 use Rattle.pt_faker.specs.Carrying.{on_its_memory}
-use Rattle.pt_faker.specs.Faking.{Faking, after_decoding, after_due, after_effect, answer_register, begin_program, entered, exited, forgiven, keeping, no_call, no_longer_called, number_register, show_identity, show_owner, stack_register, told, with_due, without_due, word_of}
+use Rattle.pt_faker.specs.Faking.{Faking, after_decoding, after_due, after_effect, answer_register, begin_program, entered, exited, forgiven, keeping, no_call, no_longer_called, number_register, remember, remembered, show_identity, show_owner, stack_register, told, with_due, without_due, word_of}
 use Rattle.pt_faker.specs.Watches as watches
 use Rattle.pt_faker.specs.Watches.{faked, watch}
 use Rattle.pt_faker.specs.declared.due.Due.{Due}
-use Rattle.pt_faker.specs.declared.due.Due.TheVariants.{Tells, ForgivesOwner, ForgivesRoot, ShowsOwner, BeginsProgram}
+use Rattle.pt_faker.specs.declared.due.Due.TheVariants.{Tells, Remembers, ForgivesRoot, ShowsOwner, BeginsProgram}
 use Rattle.pt_faker.specs.declared.watch.Watch.{Watch}
 use Rattle.pt_faker.specs.declared.watch.Watch.TheVariants.{Faked, Nobody}
 use Rattle.law_unmarked.specs.Unmarked.{unmarked, unmarked_done}
@@ -112,6 +113,14 @@ module _ (f : Faking) where
 
   -- ---- the second stop
 
+  abbrev remembered_with : Change → Option ℕ → ℕ → Stopped → Faking × Stopped
+  remembered_with change target answer u = (record { user = f.user; identities = remembered change target answer f.identities; dues = f.dues }, u)
+
+  remember-unmarked : (change : Change) (t : Stopped) → remember change f (unmarked_stop t) ≡ unmarked_beside (remember change f t)
+  remember-unmarked change t =
+      ap (λ (u : Stopped). remembered_with change t.handed.target (register_at u answer_register) u) (forgiven-unmarked t true)
+      ∙ ap (λ n. remembered_with change t.handed.target n (unmarked_stop (forgiven true t))) (register-unmarked (forgiven true t) answer_register)
+
   begun-unmarked : (t : Stopped) → begin_program f (unmarked_stop t) ≡ unmarked_beside (begin_program f t)
   begun-unmarked t =
       let i : Identity = after_exec (identity_at f.identities t.pid) in
@@ -121,10 +130,10 @@ module _ (f : Faking) where
   due-unmarked : (t : Stopped) (o : Option Due) → after_due f (unmarked_stop t) o ≡ unmarked_beside (after_due f t o)
   due-unmarked t None = refl
   due-unmarked t (Some (Tells number answer)) = ap (λ (u : Stopped). (f, u)) (told-unmarked number answer t)
-  due-unmarked t (Some ForgivesOwner) = ap (λ (u : Stopped). (f, u)) (forgiven-unmarked t true)
+  due-unmarked t (Some (Remembers change)) = remember-unmarked change t
   due-unmarked t (Some ForgivesRoot) = ap (λ (u : Stopped). (f, u)) (forgiven-unmarked t t.handed.at_root)
   due-unmarked t (Some (ShowsOwner at)) =
-      let action : Action (Unit {0}) = show_owner f.user f.identities.uid f.identities.gid at in
+      let action : Action (Unit {0}) = show_owner f.user f.identities at in
       ap (λ (u : Stopped). (f, u)) (by_answer-unmarked t (on_its_memory action (unmarked_stop t)) (unmarked_stop t) ∙ by action (register_at t answer_register == 0))
     where
       by : (action : Action (Unit {0})) (b : Bool) → cond b (on_its_memory action (unmarked_stop t)) (unmarked_stop t) ≡ unmarked_stop (cond b (on_its_memory action t) t)

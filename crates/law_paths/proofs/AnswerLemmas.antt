@@ -6,12 +6,14 @@ use Rattle.pt_args.specs.rv_mem.Memory.{Memory}
 use Rattle.pt_args.specs.declared.edit.Edit.{Edit}
 use Rattle.law_stops.specs.pt_results.Notes.{noted, tags_after}
 use Rattle.law_plans.specs.kr_view.View.{Row}
+use Rattle.pt_args.specs.kr_calls.CallTable.{line}
 use Rattle.pt_args.specs.kr_calls.declared.request.Request.{Request}
 use Rattle.law_plans.specs.kr_seen.Carrying.{memory_of}
 use Rattle.law_plans.specs.kr_model.State.{Image, Process, State, process}
 use Rattle.law_plans.specs.kr_model.Walks.{seen}
 use Rattle.law_plans.specs.kr_model.declared.outcome.Outcome.TheVariants.{Answer}
 use Rattle.law_stops.specs.kr_stops.Stopped.{IsThere, Stopped, nothing_handed}
+use Rattle.law_stops.specs.kr_turns.Target.{LooksUpOne}
 use Rattle.law_stops.specs.kr_turns.Turn.{Machine, calling, watched_call}
 use Rattle.law_stops.specs.kr_stops.Watching.{unwatched}
 use Rattle.law_stops.proofs.kr_stops.EditLemmas.{there as is_there}
@@ -77,7 +79,7 @@ module _ {S : Type 0} (table : List Row) (made pid : ℕ) (m : Machine S) (n : M
   -- ---- so the call is answered on both
 
   module _ (edit : Edit) (is : answered (here.texts table made pid m n r c p q lives also calm reads kind) then_stop r ≡ Some edit) (alike : AreAnsweredAlike (done_in pid r (seen table pid at r) at) (applied edit then_stop))
-      (silent : (index : ℕ) (value : ℤ) → tags_after x.tags pid (noted r index (told_answer value)) ≡ x.tags) where
+      (silent : (index : ℕ) (value : ℤ) → tags_after x.tags pid (noted r index (told_answer value)) ≡ x.tags) (apart : LooksUpOne (line r).told → ⊥) where
     edit_is : edit_for (texts_at x.bindings x.tags (at_first_stop pid n)) (at_first_stop pid n) r ≡ edit
     edit_is =
         let texts = here.texts table made pid m n r c p q lives also calm reads kind in
@@ -92,6 +94,7 @@ module _ {S : Type 0} (table : List Row) (made pid : ℕ) (m : Machine S) (n : M
         record {
           decoded = reads;
           kind = is_told r kind;
+          apart = apart;
           answers = ap (λ kept. kept.answer) kept_is ∙ alike.told;
           replies = subst (λ t. (done_in pid r (seen table pid t r) t).reply ≡ record { outcome = Answer alike.answer; changes = [] }) here_is alike.carried;
           alike = subst (λ t. AreEqualUnmarked (done_in pid r (seen table pid t r) t).memory.pages (memory_at (applied (edit_for (texts_at x.bindings x.tags (at_first_stop pid n)) (at_first_stop pid n) r) (at_first_stop pid n)).stopped).pages) here_is

@@ -82,7 +82,7 @@ module _ (back : TextsAreReadBack) (shelves : ShelvesHoldTheirItems) (table : Li
     known _ decoded = tt
 
     goes : (r : Request) → (decoded_at (calling 1 pid m.state)).reply ≡ Ok r → is_told_of_paths r ≡ true → GoesAlongUntold table made pid m n r
-    goes r decoded told = let both = untold_goes r decoded told in record { answers = both.0; root = known r decoded; together = both.1 }
+    goes r decoded told = let both = untold_goes r decoded told in record { answers = both.0; root = known r decoded; target = both.2; together = both.1 }
 
   pub along : (r : Request) → (decoded_at (calling 1 pid m.state)).reply ≡ Ok r → is_told_of_paths r ≡ true → GoesTogether table made pid m n
   along r decoded told = by (process pid m.state) refl c.lives

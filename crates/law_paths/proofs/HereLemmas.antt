@@ -15,6 +15,8 @@ use Rattle.law_stops.specs.law_allowed.Calls.{HasTextPaths}
 use Rattle.law_stops.proofs.law_allowed.DecodedLemmas.{decoded-are-givable, decoding-leaves-pages}
 use Rattle.law_stops.proofs.law_allowed.RowLemmas.{stays-like}
 use Rattle.law_plans.specs.kr_calm.Rules.{breaks_2}
+use Rattle.law_plans.specs.kr_calm.declared.rule.Rule.{Rule}
+use Rattle.law_plans.specs.kr_calm.declared.rule.Rule.TheVariants.{SearchStays, ShortNames, SourcesStay, Unread, UsedStay, WithinMounts}
 use Rattle.law_plans.specs.kr_model.Bare.{pins_of}
 use Rattle.law_plans.specs.kr_model.State.{Image, Process, State, process}
 use Rattle.law_plans.specs.kr_model.Walks.{targets_of}
@@ -46,7 +48,7 @@ use Rattle.law_stops.proofs.CallLemmas as before
 -- ---- rules that aren't broken
 
 all_none : (first second third fourth fifth sixth : Bool)
-    → cond {A = Option ℕ} first (Some 1) (cond second (Some 2) (cond third (Some 3) (cond fourth (Some 4) (cond fifth (Some 5) (cond sixth (Some 6) None))))) ≡ None → (second ≡ false) × (sixth ≡ false)
+    → cond {A = Option Rule} first (Some Unread) (cond second (Some WithinMounts) (cond third (Some SourcesStay) (cond fourth (Some UsedStay) (cond fifth (Some SearchStays) (cond sixth (Some ShortNames) None))))) ≡ None → (second ≡ false) × (sixth ≡ false)
 all_none false false false false false false e = (refl, refl)
 all_none false false false false false true e = absurd cc
 all_none true second third fourth fifth sixth e = absurd cc

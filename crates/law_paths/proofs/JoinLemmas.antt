@@ -1,12 +1,13 @@
 -- Calls along paths, whatever the tracer makes of them.
-use Rattle.std.proofs.Common.{◌≡◌, ℕ, List, Option, Some, None, Ok, refl, sym, ap, subst, ◌∙◌, ℤ, pos}
+use Rattle.std.proofs.Common.{◌≡◌, ℕ, Bool, true, false, List, Option, Some, None, Ok, refl, sym, ap, subst, ◌∙◌, ℤ, pos}
 use Rattle.std.specs.Prelude.{IsSome}
 use Rattle.law_plans.specs.pr_base.declared.path.WalkMode.TheVariants.{LookLink}
 use Rattle.pt_args.specs.Laws.{ShelvesHoldTheirItems, TextsAreReadBack}
 use Rattle.pt_args.specs.declared.edit.Edit.{Edit}
 use Rattle.law_stops.specs.pt_results.Answers.{cwd_answer, link_answer}
 use Rattle.law_plans.specs.kr_view.View.{Row, plain}
-use Rattle.pt_args.specs.kr_calls.PathTable.{PathUse, path_at}
+use Rattle.pt_args.specs.kr_calls.CallTable.{Told, ToldNothing, NamesHere, line, paths_of}
+use Rattle.pt_args.specs.kr_calls.PathTable.{PathUse, path_at, path_from}
 use Rattle.pt_args.specs.kr_calls.declared.request.Request.{Request}
 use Rattle.pt_args.specs.kr_calls.declared.request.Request.TheVariants as call
 use Rattle.law_plans.specs.kr_seen.Carrying.{memory_of}
@@ -17,7 +18,7 @@ use Rattle.law_plans.specs.pt_faker.Stopping.{decoded_at}
 use Rattle.law_plans.specs.pt_tracer.Planning.{answered}
 use Rattle.law_plans.specs.pt_tracer.Watched.{Tracing, tracer}
 use Rattle.law_stops.proofs.law_turns.RunLemmas.{lives_too}
-use Rattle.law_stops.specs.law_turns.PathCalls.{HasPath}
+use Rattle.law_stops.specs.law_turns.PathCalls.{HasPath, TellsPath}
 use Rattle.law_plans.proofs.law_edits.CwdLemmas.{cwds_are_answered_alike}
 use Rattle.law_stops.specs.Turning.{ComeFromCall, ComeToCall}
 use Rattle.law_stops.proofs.AnsweredLemmas.{cancelled_calls_go_together}
@@ -31,6 +32,16 @@ use Rattle.law_paths.proofs.PlanLemmas.{is_planned, planned_alike, then_stop}
 use Rattle.law_plans.proofs.DecodedLemmas.{counts_are_decoded, first_of_two_is_decoded}
 use Rattle.law_plans.proofs.LinkLemmas.{links_are_answered_alike}
 use Rattle.law_plans.proofs.EditLemmas.{plans_are_short}
+
+-- a call that is told of a path, and not of a name alone, has a first one
+abbrev names_here : Told → Bool
+names_here NamesHere = true
+names_here _ = false
+
+has_first : (t : Told) → TellsPath t → names_here t ≡ false → path_from 0 (paths_of t) 0 ≡ None → ⊥
+has_first ToldNothing kind other none = kind
+has_first NamesHere kind other none = cc
+has_first _ kind other none = cc
 
 module _ {S : Type 0} (back : TextsAreReadBack) (shelves : ShelvesHoldTheirItems) (table : List Row) (made pid : ℕ) (m : Machine S) (n : Machine Tracing) (c : ComeToCall table made pid m n) (p q : Process ℕ Image) (lives : process pid m.state ≡ Some p)
     (also : process pid n.state ≡ Some q) (calm : (watched_call unwatched 1 table pid m).tally.broken ≡ None) where
@@ -52,6 +63,12 @@ module _ {S : Type 0} (back : TextsAreReadBack) (shelves : ShelvesHoldTheirItems
       (is_planned table made pid m n r c p q lives also calm reads kind u path first unlinked unanswered) path (here.short table made pid m n r c p q lives also calm reads kind) in
       planned_alike table made pid m n r c p q lives also calm reads kind u path first unlinked unanswered back shelves short.0 short.1
 
+  -- the same of a call that is told of a path, which has a first one
+  along_first : (r : Request) (reads : Reads r) (kind : HasPath r) → TellsPath (line r).told → names_here (line r).told ≡ false → link_answer (here.texts table made pid m n r c p q lives also calm reads kind) pid r ≡ None
+      → answered (here.texts table made pid m n r c p q lives also calm reads kind) (then_stop table made pid m n r c p q lives also calm reads kind) r ≡ None → (o : Option PathUse) → path_at r 0 ≡ o → Made r
+  along_first r reads kind tells named unlinked unanswered (Some u) path = along r reads kind u path unlinked unanswered
+  along_first r reads kind tells named unlinked unanswered None none = absurd (has_first (line r).told tells named none)
+
   -- ---- answered by the tracer
 
   getcwd : (buf size : ℕ) → Reads (call.Getcwd buf size) → Made (call.Getcwd buf size)
@@ -61,7 +78,7 @@ module _ {S : Type 0} (back : TextsAreReadBack) (shelves : ShelvesHoldTheirItems
       let stop = then_stop table made pid m n r c p q lives also calm reads tt in
       Answered _ (answered_alike table made pid m n r c p q lives also calm reads tt (cwd_answer (here.texts table made pid m n r c p q lives also calm reads tt) pid size buf) refl
       (cwds_are_answered_alike table at n.watcher.tags pid (answer.caller table made pid m n r c p q lives also calm reads tt) (memory_of pid at) stop buf size (told table made pid m n r c p q lives also calm reads tt)
-      (in_directory table made pid m n r c p q lives also calm reads tt) (stop_there table made pid m n r c p q lives also calm reads tt) (memories table made pid m n r c p q lives also calm reads tt)) (λ index value. refl))
+      (in_directory table made pid m n r c p q lives also calm reads tt) (stop_there table made pid m n r c p q lives also calm reads tt) (memories table made pid m n r c p q lives also calm reads tt)) (λ index value. refl) (λ looks. looks))
 
   link_read : (dirfd : ℤ) (path : List ℕ) (buf count : ℕ) → Reads (call.Readlinkat dirfd path buf (pos count)) → Made (call.Readlinkat dirfd path buf (pos count))
   link_read dirfd path buf count reads =
@@ -75,7 +92,7 @@ module _ {S : Type 0} (back : TextsAreReadBack) (shelves : ShelvesHoldTheirItems
           let at = here.at table made pid m n r c p q lives also calm reads tt in
           Answered _ (answered_alike table made pid m n r c p q lives also calm reads tt edit is
           (links_are_answered_alike table n.watcher.tags at _ pid (memory_of pid at) (then_stop table made pid m n r c p q lives also calm reads tt) dirfd path buf count edit (here.together table made pid m n r c p q lives also calm reads tt)
-          (stop_there table made pid m n r c p q lives also calm reads tt) (memories table made pid m n r c p q lives also calm reads tt) is) (λ index value. refl))
+          (stop_there table made pid m n r c p q lives also calm reads tt) (memories table made pid m n r c p q lives also calm reads tt) is) (λ index value. refl) (λ looks. looks))
 
   -- its size is a positive number, as decoding gives it
   readlinkat : (dirfd : ℤ) (path : List ℕ) (buf : ℕ) (size : ℤ) → Reads (call.Readlinkat dirfd path buf size) → Made (call.Readlinkat dirfd path buf size)
@@ -88,21 +105,10 @@ module _ {S : Type 0} (back : TextsAreReadBack) (shelves : ShelvesHoldTheirItems
   -- ---- each call
 
   each : (r : Request) → Reads r → HasPath r → Made r
-  each (call.Openat dirfd path flags mode) reads kind = along (call.Openat dirfd path flags mode) reads kind _ refl refl refl
-  each (call.Mkdirat dirfd path mode) reads kind = along (call.Mkdirat dirfd path mode) reads kind _ refl refl refl
-  each (call.Unlinkat dirfd path flags) reads kind = along (call.Unlinkat dirfd path flags) reads kind _ refl refl refl
-  each (call.Symlinkat text dirfd path) reads kind = along (call.Symlinkat text dirfd path) reads kind _ refl refl refl
-  each (call.Linkat olddir old newdir new flags) reads kind = along (call.Linkat olddir old newdir new flags) reads kind _ refl refl refl
-  each (call.Renameat2 olddir old newdir new) reads kind = along (call.Renameat2 olddir old newdir new) reads kind _ refl refl refl
-  each (call.Faccessat dirfd path mode) reads kind = along (call.Faccessat dirfd path mode) reads kind _ refl refl refl
-  each (call.Fchmodat dirfd path mode) reads kind = along (call.Fchmodat dirfd path mode) reads kind _ refl refl refl
-  each (call.Fchownat dirfd path uid gid flags) reads kind = along (call.Fchownat dirfd path uid gid flags) reads kind _ refl refl refl
-  each (call.Newfstatat dirfd path buf flags) reads kind = along (call.Newfstatat dirfd path buf flags) reads kind _ refl refl refl
   each (call.Readlinkat dirfd path buf size) reads kind = readlinkat dirfd path buf size reads
-  each (call.Chdir path) reads kind = along (call.Chdir path) reads kind _ refl refl refl
-  each (call.Chroot path) reads kind = along (call.Chroot path) reads kind _ refl refl refl
   each (call.Getcwd buf size) reads kind = getcwd buf size reads
-  each _ reads kind = absurd kind
+  each (call.Execve path args env) reads kind = absurd kind
+  each r reads kind = along_first r reads kind kind refl refl refl (path_at r 0) refl
 
 pub path_calls_are_made_alike : TextsAreReadBack → ShelvesHoldTheirItems → (S : Type 0) → PathCallsAreMadeAlike S
 path_calls_are_made_alike back shelves S table made pid m n r c reads kind calm = by (process pid m.state) refl c.lives

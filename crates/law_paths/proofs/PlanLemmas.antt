@@ -9,7 +9,9 @@ use Rattle.pt_args.specs.Walks.{walked_along}
 use Rattle.pt_args.specs.declared.edit.Edit.{Edit}
 use Rattle.pt_args.specs.declared.edit.Edit.TheVariants.{Cancel, Pass}
 use Rattle.law_stops.specs.pt_results.Answers.{link_answer}
+use Rattle.law_plans.specs.pr_base.declared.errno.Errno.{Errno}
 use Rattle.law_plans.specs.kr_view.View.{Row, plain}
+use Rattle.pt_args.specs.kr_calls.CallTable.{line}
 use Rattle.pt_args.specs.kr_calls.Decoding.{decoding}
 use Rattle.pt_args.specs.kr_calls.PathTable.{PathUse, path_at}
 use Rattle.pt_args.specs.kr_calls.declared.request.Request.{Request}
@@ -17,9 +19,11 @@ use Rattle.law_stops.proofs.law_allowed.RowLemmas.{StaysLike, stays-like}
 use Rattle.law_plans.specs.kr_model.Known.{known}
 use Rattle.law_plans.specs.kr_model.Operation.{operation}
 use Rattle.law_plans.specs.kr_model.Reply.{refuse}
+use Rattle.law_plans.specs.kr_model.Seen.{WalkFails}
 use Rattle.law_plans.specs.kr_model.State.{Image, Process, State, image_layout, process}
 use Rattle.law_plans.specs.kr_model.Walks.{seen}
 use Rattle.law_stops.specs.kr_stops.Stopped.{Stopped, edited}
+use Rattle.law_stops.specs.kr_turns.Target.{LooksUpOne}
 use Rattle.law_stops.specs.kr_turns.Turn.{Machine, calling, watched_call}
 use Rattle.law_stops.specs.kr_stops.Watching.{unwatched}
 use Rattle.law_plans.specs.pt_faker.Stopping.{after_request, decoded_at, memory_at}
@@ -112,7 +116,7 @@ module _ {S : Type 0} (table : List Row) (made pid : ℕ) (m : Machine S) (n : M
       passed_alike : IsPassedAlike table pid m n r
       passed_alike = record {
         told = told_along table made pid m n r c p q lives also calm reads kind r q.image.regs (decoded_by q).memory stays (decoded_holds plain made pid n.state q (before.can_too table made pid m n c p q lives also)) left_so
-            (ap (λ seen. operation pid r seen (known image_layout pid at)) passed.told) (inl passed.mounts);
+            (ap (λ seen. operation pid r seen (known image_layout pid at)) passed.told) (inl passed.mounts) (λ _. passed.told);
         passes = passes;
       }
 
@@ -149,7 +153,7 @@ module _ {S : Type 0} (table : List Row) (made pid : ℕ) (m : Machine S) (n : M
         told = told_along table made pid m n r c p q lives also calm reads kind (with_swaps first second r) (swap.regs3 back shelves table made pid m n r first second c can swaps p q lives also) (swap.memory3 back shelves table made pid m n r first second c can swaps p q lives also)
             (swap.swap_stays back shelves table made pid m n r first second c can swaps p q lives also) (swap.swap_bytes back shelves table made pid m n r first second c can swaps p q lives also (is_told r kind))
             (swap.swap_left back shelves table made pid m n r first second c can swaps p q lives also)
-            (swapped.told ∙ sym (operations_are_same pid r first second (seen plain pid w2 (with_swaps first second r)) (known image_layout pid at) (no_exec r kind) has_first (can_be_path first swapped.one short.0).some)) swapped.mounts;
+            (swapped.told ∙ sym (operations_are_same pid r first second (seen plain pid w2 (with_swaps first second r)) (known image_layout pid at) (no_exec r kind) has_first (can_be_path first swapped.one short.0).some)) swapped.mounts swapped.looked;
         swaps = swaps;
         can = can;
       }
@@ -159,11 +163,12 @@ module _ {S : Type 0} (table : List Row) (made pid : ℕ) (m : Machine S) (n : M
     pub planned_alike : TextsAreReadBack → ShelvesHoldTheirItems → (plan : PlanAgrees table x.tags at w2 pid r) → IsShortPlan table x.tags at w2 pid r plan → MadeAlike table pid m n r
     planned_alike back shelves (Passing edit passed) short = Passed (passed_alike edit passed)
     planned_alike back shelves (Swapping first second edit swapped) short = Swapped first second (swapped_alike back shelves first second edit swapped short)
-    planned_alike back shelves (Cancelling e edit refuses) short =
+    planned_alike back shelves (Cancelling e edit refuses lost) short =
         Cancelled e
         (record {
           decoded = reads;
           kind = no_exec r kind;
           cancels = edit_at (λ sp usable. Cancel e) edit;
           refuses = subst (λ t. operation pid r (seen table pid t r) (known image_layout pid t) ≡ refuse e) (sym (before.at_call_is table made pid m n c p q lives also)) refuses;
+          lost = subst (λ t. LooksUpOne (line r).told → (f : Errno) × (seen table pid t r ≡ WalkFails f)) (sym (before.at_call_is table made pid m n c p q lives also)) lost;
         })

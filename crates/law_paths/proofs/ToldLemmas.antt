@@ -23,6 +23,7 @@ use Rattle.law_plans.specs.kr_model.Walks.{seen, targets_of}
 use Rattle.law_plans.specs.kr_model.declared.outcome.Outcome.TheVariants.{Answer}
 use Rattle.law_stops.specs.kr_turns.Turn.{Machine, calling, watched_call}
 use Rattle.law_stops.specs.kr_stops.Watching.{unwatched}
+use Rattle.law_stops.specs.kr_turns.Target.{LooksUpOne}
 use Rattle.law_plans.specs.pt_faker.Stopping.{after_request, decoded_at}
 use Rattle.law_plans.specs.pt_tracer.Planning.{led_of, texts_at}
 use Rattle.law_plans.specs.pt_tracer.Watched.{Tracing}
@@ -87,7 +88,8 @@ module _ {S : Type 0} (table : List Row) (made pid : ℕ) (m : Machine S) (n : M
 
   module _ (r2 : Request) (regs3 : Regs) (memory3 : Memory) (like : StaysLike q.image.memory.pages memory3.pages) (bytes : HoldsBytes memory3.pages) (leaves : enter.Leaves table made pid m n c q also regs3 memory3 like bytes p lives r)
       (told : operation pid r (seen table pid at r) (known image_layout pid at) ≡ operation pid r2 (seen plain pid w2 r2) (known image_layout pid at))
-      (mounts : (bare_mounts (mounts_walked (targets_of table pid at r)) ≡ bare_mounts (mounts_walked (targets_of plain pid w2 r2))) ⊎ ((e : Errno) × (operation pid r (seen table pid at r) (known image_layout pid at) ≡ refuse e))) where
+      (mounts : (bare_mounts (mounts_walked (targets_of table pid at r)) ≡ bare_mounts (mounts_walked (targets_of plain pid w2 r2))) ⊎ ((e : Errno) × (operation pid r (seen table pid at r) (known image_layout pid at) ≡ refuse e)))
+      (looked : LooksUpOne (line r).told → seen table pid at r ≡ seen plain pid w2 r2) where
     read : StaysLike q.image.memory.pages (here.decoded_memory table made pid m n r c p q lives also calm reads kind).pages
     read = let own = c.also_lasts.lawful.processes pid q also in stays-like (decoding q.image.regs) q.image.memory own.whole own.paged
 
@@ -107,6 +109,7 @@ module _ {S : Type 0} (table : List Row) (made pid : ℕ) (m : Machine S) (n : M
               (told ∙ ap (λ seen. operation pid r2 seen (known image_layout pid at)) sights.told);
           mounts = subst (λ t. (bare_mounts (mounts_walked (targets_of table pid t r)) ≡ bare_mounts (mounts_walked (targets_of plain pid (after_request (at_entry pid n r)).state r2))) ⊎ ((e : Errno) × (operation pid r (seen table pid t r) (known image_layout pid t) ≡ refuse e))) here_is
               (subst (λ targets. (bare_mounts (mounts_walked (targets_of table pid at r)) ≡ bare_mounts (mounts_walked targets)) ⊎ ((e : Errno) × (operation pid r (seen table pid at r) (known image_layout pid at) ≡ refuse e))) sights.targets mounts);
+          looked = subst (λ t. LooksUpOne (line r).told → seen table pid t r ≡ seen plain pid (after_request (at_entry pid n r)).state r2) here_is (λ looks. looked looks ∙ sights.told);
           inside = subst (λ t. (let d = done_in pid r (seen table pid t r) t in MovesStayInside table (mounts_walked (targets_of table pid t r)) pid (written_in pid r (seen table pid t r) t) d.reply.changes)) here_is
               (path_calls_move_inside table made pid (before.lacks table made pid m n c p q lives also) s1 p1 x.tags r calls (before.calm_call table made pid m n c p q lives also calm));
           new = subst (λ t. (let d = done_in pid r (seen table pid t r) t in NewPlacesStand table (mounts_walked (targets_of table pid t r)) pid (written_in pid r (seen table pid t r) t) d.reply.changes)) here_is

@@ -32,6 +32,7 @@ use Rattle.law_places.specs.kr_mounts.Standing.{texts_of}
 use Rattle.law_places.specs.kr_model.Known.{Known, known}
 use Rattle.law_places.specs.kr_model.Operation.{operation}
 use Rattle.law_places.specs.kr_model.Reply.{refuse}
+use Rattle.law_places.specs.kr_model.Seen.{WalkFails}
 use Rattle.law_places.specs.kr_model.State.{Image, State, image_layout}
 use Rattle.law_places.specs.kr_model.Walks.{and_then, seen, seen_of, target_at, targets_of, walked}
 use Rattle.law_plans.specs.Begins.{Fails, Leads, LeadsBoth, PathAgrees, Stays, told_texts}
@@ -106,7 +107,7 @@ module _ (table : List Row) (tags : TagTable) (s w : State ℕ Image) (pid : ℕ
   k = known image_layout pid s
 
   abbrev IsRefused : Errno → Type 0
-  IsRefused e = operation pid r (seen table pid s r) k ≡ refuse e
+  IsRefused e = (operation pid r (seen table pid s r) k ≡ refuse e) × (seen table pid s r ≡ WalkFails e)
 
   -- by what it is
   data EditIs : Type 0 where
@@ -119,7 +120,7 @@ module _ (table : List Row) (tags : TagTable) (s w : State ℕ Image) (pid : ℕ
 
   module _ (u : PathUse) (at : path_at r 0 ≡ Some u) where
     failing : (e : Errno) → u.text ≢ [] → targets_of table pid s r ≡ Err e → IsRefused e
-    failing e some is = ap (λ targets. operation pid r (seen_of table pid s r targets) k) is ∙ walk_refused pid r u e k at some
+    failing e some is = (ap (λ targets. operation pid r (seen_of table pid s r targets) k) is ∙ walk_refused pid r u e k at some, ap (seen_of table pid s r) is)
 
     -- a path that was walked isn't empty
     walked_some : (e : Errno) → walked table pid s u u.text ≡ Err e → u.text ≢ []
@@ -249,7 +250,8 @@ module _ (table : List Row) (tags : TagTable) (s w : State ℕ Image) (pid : ℕ
     cancelling : (e : Errno) → IsEdit table tags s w pid r (λ sp usable. Cancel e) → (e ≡ ENAMETOOLONG → IsRefused e) → (b : Bool) → are_long first second ≡ b → Answer
     cancelling e is refuses true long =
         let same : ENAMETOOLONG ≡ e = error_is (by_long true long (Cancel e) (is 0 true)) in
-        inr (record { edit = λ sp usable. is sp usable ∙ ap Cancel (sym same); refused = refuses (sym same) ∙ ap refuse (sym same) })
+        let fails = refuses (sym same) in
+        inr (record { edit = λ sp usable. is sp usable ∙ ap Cancel (sym same); refused = fails.0 ∙ ap refuse (sym same); lost = fails.1 ∙ ap WalkFails (sym same) })
       where
         error_is : Cancel ENAMETOOLONG ≡ Cancel e → ENAMETOOLONG ≡ e
         error_is is = cc
@@ -273,5 +275,5 @@ plans_are_short table tags s w pid r u planned at calm = by (plans_agree table t
       where
         short : (IsShort first × IsShortIfAny second) ⊎ IsTooLong table tags s w pid r → (plan : PlanAgrees table tags s w pid r) × IsShortPlan table tags s w pid r plan
         short (inl is) = (Swapping first second edit swapped, is)
-        short (inr long) = (Cancelling ENAMETOOLONG long.edit long.refused, tt)
-    by (Cancelling e edit refused) = (Cancelling e edit refused, tt)
+        short (inr long) = (Cancelling ENAMETOOLONG long.edit long.refused (λ _. (ENAMETOOLONG, long.lost)), tt)
+    by (Cancelling e edit refused lost) = (Cancelling e edit refused lost, tt)

@@ -141,10 +141,10 @@ module _ (table : List Row) (tags : TagTable) (s w : State ℕ Image) (pid : ℕ
 
     by_swap : (x : Result (List ℕ) Errno) → made_swap (texts_of table) lead.canon lead.canon.last ≡ x → CreatesSame table s w pid lead.place u x → PlanAgrees table tags s w pid r
     by_swap (Ok text) takes l =
-        one_swapped table tags s pid r u at w refl lead text l.target l.ends l.new (row_is table s lead.place ∙ rows_alike (created_at table pid s lead.place) (created_at plain pid w l.target) l.same ∙ sym (row_is plain w l.target))
+        one_swapped table tags s pid r u at w refl lead text l.target l.ends l.new (row_is table s lead.place ∙ rows_alike (created_at table pid s lead.place) (created_at plain pid w l.target) l.same ∙ sym (row_is plain w l.target)) (λ looks. absurd looks)
         (mounts_alike l.target l.same) refl (made ∙ takes)
     by_swap (Err e) takes slashed =
-        one_cancelled table tags s pid r u at w refl lead e (row_is table s lead.place ∙ ap (λ o. openat_row knows o flags permissions) slashed.1 ∙ ap refuse (sym slashed.0)) (made ∙ takes)
+        one_cancelled table tags s pid r u at w refl lead e (row_is table s lead.place ∙ ap (λ o. openat_row knows o flags permissions) slashed.1 ∙ ap refuse (sym slashed.0)) (λ looks. looks) (made ∙ takes)
 
     create_leads : PlanAgrees table tags s w pid r
     create_leads = by_swap (made_swap (texts_of table) lead.canon lead.canon.last) refl ((swaps_agree table tags s w pid u true lead planned.together).created free (lead_good table tags s w pid r u planned at lead))
@@ -164,6 +164,7 @@ module _ (table : List Row) (tags : TagTable) (s w : State ℕ Image) (pid : ℕ
         let t = l.same.target in
         one_swapped table tags s pid r u at w refl lead lead.canon.host t l.same.ends l.same.new
         (ap (λ seen. operation pid r seen knows) (found_is table s lead.place ∙ sym (l.same.same (λ l. Opens (OpensFound l))) ∙ sym (found_is plain w t)))
+        (λ looks. absurd looks)
         (inl (same_mounts lead.place t (l.there ∙ sym (looked_both table plain pid s w lead.place t l.there l.same.same)))) refl (ap (λ p. swap_for (texts_of table) p lead.canon) (purpose_looks true u.mode must))
 
   pub opens_agree : PlanAgrees table tags s w pid r

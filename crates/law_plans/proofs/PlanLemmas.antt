@@ -15,6 +15,7 @@ use Rattle.law_edits.specs.pt_args.declared.edit.Edit.{Edit}
 use Rattle.law_edits.specs.pt_args.declared.edit.Edit.TheVariants.{Cancel}
 use Rattle.law_edits.specs.pt_args.declared.purpose.Purpose.{Purpose}
 use Rattle.law_edits.specs.pt_args.declared.reached.Reached.{Reached}
+use Rattle.law_edits.specs.kr_calls.CallTable.{line}
 use Rattle.law_edits.specs.kr_calls.PathTable.{PathUse, path_at}
 use Rattle.law_edits.specs.kr_calls.declared.request.Request.{Request}
 use Rattle.law_places.specs.kr_view.View.{Row, plain}
@@ -27,6 +28,7 @@ use Rattle.law_places.specs.kr_model.Reply.{refuse}
 use Rattle.law_places.specs.kr_model.State.{Image, State, image_layout}
 use Rattle.law_places.specs.kr_model.Walks.{Targets, and_then, mounts_of, seen, seen_of, target_at, targets_of, told, walked}
 use Rattle.law_edits.specs.law_allowed.Told.{mounts_walked}
+use Rattle.law_edits.specs.kr_turns.Target.{LooksUpOne}
 use Rattle.law_plans.specs.Begins.{LeadsBoth, told_texts}
 use Rattle.law_plans.specs.OnePath.{IsNewText}
 use Rattle.law_edits.specs.Operations.{with_path, with_path_if_any}
@@ -108,13 +110,15 @@ module _ (table : List Row) (tags : TagTable) (s : State ℕ Image) (pid : ℕ) 
       other_seen = ap (seen_of plain pid w (with_first text r)) other_targets
 
       pub one_swapped : IsNewText text → operation pid r (told table pid s r a) k ≡ operation pid r (told plain pid w (with_first text r) (only (Some t))) k
+          → (LooksUpOne (line r).told → told table pid s r a ≡ told plain pid w (with_first text r) (only (Some t)))
           → (bare_mounts (mounts_of a) ≡ bare_mounts (mounts_of (only (Some t)))) ⊎ ((e : Errno) × (operation pid r (told table pid s r a) k ≡ refuse e))
           → busy ≡ false → swap_for (texts_of table) purpose lead.canon ≡ Ok text → PlanAgrees table tags s w pid r
-      one_swapped is_new same mounts idle takes =
+      one_swapped is_new same looked mounts idle takes =
           Swapping new None (edit_swaps text idle takes)
           (record {
             told = ap (λ seen. operation pid r seen k) lead_seen ∙ same ∙ ap (λ seen. operation pid r seen k) (sym other_seen);
             mounts = by mounts;
+            looked = λ looks. lead_seen ∙ looked looks ∙ sym other_seen;
             one = is_new;
             two = tt;
             paths = record { one = ap (option_map (λ (u : PathUse). u.register)) at; two = tt };
@@ -125,8 +129,8 @@ module _ (table : List Row) (tags : TagTable) (s : State ℕ Image) (pid : ℕ) 
           by (inl alike) = inl (ap (λ targets. bare_mounts (mounts_walked targets)) lead_targets ∙ alike ∙ ap (λ targets. bare_mounts (mounts_walked targets)) (sym other_targets))
           by (inr refused) = inr (refused.0, ap (λ seen. operation pid r seen k) lead_seen ∙ refused.1)
 
-    pub one_busy : (text : List ℕ) → operation pid r (told table pid s r a) k ≡ refuse EBUSY → busy ≡ true → swap_for (texts_of table) purpose lead.canon ≡ Ok text → PlanAgrees table tags s w pid r
-    one_busy text refused is takes = Cancelling EBUSY (edit_busy text is takes) (ap (λ seen. operation pid r seen k) lead_seen ∙ refused)
+    pub one_busy : (text : List ℕ) → operation pid r (told table pid s r a) k ≡ refuse EBUSY → (LooksUpOne (line r).told → ⊥) → busy ≡ true → swap_for (texts_of table) purpose lead.canon ≡ Ok text → PlanAgrees table tags s w pid r
+    one_busy text refused apart is takes = Cancelling EBUSY (edit_busy text is takes) (ap (λ seen. operation pid r seen k) lead_seen ∙ refused) (λ looks. absurd (apart looks))
 
-    pub one_cancelled : (e : Errno) → operation pid r (told table pid s r a) k ≡ refuse e → swap_for (texts_of table) purpose lead.canon ≡ Err e → PlanAgrees table tags s w pid r
-    one_cancelled e refused takes = Cancelling e (edit_cancels e takes) (ap (λ seen. operation pid r seen k) lead_seen ∙ refused)
+    pub one_cancelled : (e : Errno) → operation pid r (told table pid s r a) k ≡ refuse e → (LooksUpOne (line r).told → ⊥) → swap_for (texts_of table) purpose lead.canon ≡ Err e → PlanAgrees table tags s w pid r
+    one_cancelled e refused apart takes = Cancelling e (edit_cancels e takes) (ap (λ seen. operation pid r seen k) lead_seen ∙ refused) (λ looks. absurd (apart looks))

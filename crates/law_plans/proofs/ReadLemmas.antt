@@ -213,6 +213,7 @@ module _ (table : List Row) (tags : TagTable) (s w : State ℕ Image) (pid : ℕ
       one_swapped table tags s pid r u at w refl lead lead.canon.host t l.same.ends l.same.new
       (ap row (looked_is table pid s lead.place p.0 (λ l. ReadsLink l (text_at table pid s l.host)) p.1) ∙ rows_same lead p.0 p.1 q.0 q.1 q.2.stands p.0.host refl
       ∙ sym (ap row (looked_is table pid s lead.place p.0 on_host p.1)) ∙ ap row (sym (l.same.same on_host)))
+      (λ looks. absurd looks)
       (inl (same_mounts lead.place t (l.there ∙ sym (looked_both table plain pid s w lead.place t l.there l.same.same)))) refl (ap (λ p. swap_for (texts_of table) p lead.canon) (purpose_looks false u.mode must))
     where
       row : Seen → Replying

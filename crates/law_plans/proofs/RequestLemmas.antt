@@ -13,6 +13,7 @@ use Rattle.law_places.specs.pt_canon.declared.canon.Canon.{Canon}
 use Rattle.law_edits.specs.pt_args.Points.{is_at_point, one_is_busy}
 use Rattle.law_edits.specs.pt_args.Purposes.{entry_swap, opens, purpose_of, swap_for}
 use Rattle.law_edits.specs.pt_args.declared.purpose.Purpose.TheVariants as purposes
+use Rattle.law_edits.specs.kr_calls.CallTable.{line}
 use Rattle.law_edits.specs.kr_calls.PathTable.{PathUse, path_at}
 use Rattle.law_edits.specs.kr_calls.declared.request.Request.{Request}
 use Rattle.law_edits.specs.kr_calls.declared.request.Request.TheVariants as call
@@ -28,6 +29,7 @@ use Rattle.law_places.specs.kr_model.Reply.{refuse}
 use Rattle.law_places.specs.kr_model.Seen.{LooksUp, Made, Makes, MakesEntry, Taken, Takes, TakesCovered, TakesNoName}
 use Rattle.law_places.specs.kr_model.State.{Image, State, image_layout}
 use Rattle.law_places.specs.kr_model.Walks.{if_found, made_at, mounts_of, taken_at, told}
+use Rattle.law_edits.specs.kr_turns.Target.{LooksUpOne}
 use Rattle.law_plans.specs.Begins.{LeadsBoth}
 use Rattle.law_plans.specs.OnePath.{EndsPlain, IsEntry, IsLookedUp, TakesSame}
 use Rattle.law_plans.specs.Plans.{IsPlanned, PlanAgrees}
@@ -66,6 +68,7 @@ module _ (table : List Row) (tags : TagTable) (s w : State ℕ Image) (pid : ℕ
         let t = l.same.target in
         one_swapped table tags s pid r u at w alone lead lead.canon.host t l.same.ends l.same.new
         (ap (λ seen. operation pid r seen k) (told_is table s lead.place ∙ sym (l.same.same LooksUp) ∙ sym (told_new lead.canon.host plain w t)))
+        (λ _. told_is table s lead.place ∙ sym (l.same.same LooksUp) ∙ sym (told_new lead.canon.host plain w t))
         (inl (same_mounts lead.place t (l.there ∙ sym (looked_both table plain pid s w lead.place t l.there l.same.same)))) (idle lead.canon) (ap (λ p. swap_for (texts_of table) p lead.canon) (purpose_looks (opens r) u.mode must))
 
     pub looks_agree : PlanAgrees table tags s w pid r
@@ -84,14 +87,14 @@ module _ (table : List Row) (tags : TagTable) (s w : State ℕ Image) (pid : ℕ
     module _ (idle : (c : Canon) → one_is_busy (texts_of table) r c ≡ false)
         (told_is : (rows : List Row) (x : State ℕ Image) (t : PlaceTarget) → told rows pid x r (only (Some t)) ≡ MakesEntry (made_at rows pid x t))
         (told_new : (text : List ℕ) (rows : List Row) (x : State ℕ Image) (t : PlaceTarget) → told rows pid x (with_first text r) (only (Some t)) ≡ MakesEntry (made_at rows pid x t))
-        (refuses : (m : Made) → ((d : Host) × (n : List ℕ) × (slash : Bool) × (m ≡ Makes d n slash)) ⊎ ((e : Errno) × (operation pid r (MakesEntry m) k ≡ refuse e))) where
+        (apart : LooksUpOne (line r).told → ⊥) (refuses : (m : Made) → ((d : Host) × (n : List ℕ) × (slash : Bool) × (m ≡ Makes d n slash)) ⊎ ((e : Errno) × (operation pid r (MakesEntry m) k ≡ refuse e))) where
       make_leads : Lead → PlanAgrees table tags s w pid r
       make_leads lead =
           let text = entry_swap (texts_of table) lead.canon lead.canon.last in
           let l = (entry_of lead).made in
           let t = l.target in
           one_swapped table tags s pid r u at w alone lead text t l.ends l.new
-          (ap (λ seen. operation pid r seen k) (told_is table s lead.place ∙ ap MakesEntry (sym l.same) ∙ sym (told_new text plain w t))) (by t l.same (refuses (made_at table pid s lead.place))) (idle lead.canon) (entry_takes lead)
+          (ap (λ seen. operation pid r seen k) (told_is table s lead.place ∙ ap MakesEntry (sym l.same) ∙ sym (told_new text plain w t))) (λ looks. absurd (apart looks)) (by t l.same (refuses (made_at table pid s lead.place))) (idle lead.canon) (entry_takes lead)
         where
           by : (t : PlaceTarget) → made_at plain pid w t ≡ made_at table pid s lead.place
               → ((d : Host) × (n : List ℕ) × (slash : Bool) × (made_at table pid s lead.place ≡ Makes d n slash)) ⊎ ((e : Errno) × (operation pid r (MakesEntry (made_at table pid s lead.place)) k ≡ refuse e))
@@ -141,10 +144,10 @@ module _ (table : List Row) (tags : TagTable) (s w : State ℕ Image) (pid : ℕ
       takes = entry_takes table tags s w pid r u planned at refl refl named lead
 
       by : (b : Bool) → is_at_point (texts_of table) lead.canon lead.canon.last ≡ b → PlanAgrees table tags s w pid r
-      by true busy = one_busy table tags s pid r u at w refl lead text (ap (λ o. unlinkat_row (known image_layout pid s) o flags) (entry.covered busy) ∙ covered_taken (known image_layout pid s) flags) busy takes
+      by true busy = one_busy table tags s pid r u at w refl lead text (ap (λ o. unlinkat_row (known image_layout pid s) o flags) (entry.covered busy) ∙ covered_taken (known image_layout pid s) flags) (λ looks. looks) busy takes
       by false idle =
           let l : EndsPlain w pid u text (TakesSame table s w pid lead.place) = entry.taken idle in
-          one_swapped table tags s pid r u at w refl lead text l.target l.ends l.new (ap (λ o. unlinkat_row (known image_layout pid s) o flags) (sym l.same))
+          one_swapped table tags s pid r u at w refl lead text l.target l.ends l.new (ap (λ o. unlinkat_row (known image_layout pid s) o flags) (sym l.same)) (λ looks. absurd looks)
           (taken_mounts table s w pid flags (known image_layout pid s) lead.place l.target (taken_at table pid s lead.place) refl l.same) idle takes
 
   pub takes_agree : PlanAgrees table tags s w pid r

@@ -110,7 +110,7 @@ module _ (table : List Row) (tags : TagTable) (s w : State ℕ Image) (pid : ℕ
       where
         by : PathAgrees table tags s w pid u (opens r) → PlanAgrees table tags s w pid r
         by (Stays is so) = Passing (λ sp usable. edit_is table tags s pid r u at sp usable (Ok None) is) (stays_alike so)
-        by (Fails e is fails) = Cancelling e (λ sp usable. edit_is table tags s pid r u at sp usable (Err e) is) (fails_alike e fails)
+        by (Fails e is fails) = Cancelling e (λ sp usable. edit_is table tags s pid r u at sp usable (Err e) is) (fails_alike e fails) (λ _. (e, ap (seen_of table pid s r) (targets_then table pid s r u at (Err e) fails)))
         by (Leads lead) = leads lead
 
   pub lead_good : (lead : LeadsBoth table tags s w pid u (opens r)) → HasGoodName s.tree lead.place

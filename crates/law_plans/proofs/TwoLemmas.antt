@@ -13,7 +13,8 @@ use Rattle.law_edits.specs.pt_args.Purposes.{opens, purpose_of, swap_for}
 use Rattle.law_edits.specs.pt_args.Walks as traced
 use Rattle.law_edits.specs.pt_args.Walks.{reached_at}
 use Rattle.law_edits.specs.pt_args.declared.reached.Reached.{Reached}
-use Rattle.law_edits.specs.kr_calls.PathTable.{PathUse, path_at}
+use Rattle.law_edits.specs.kr_calls.CallTable.{LooksAt, Told, line, paths_of}
+use Rattle.law_edits.specs.kr_calls.PathTable.{PathUse, path_at, path_from}
 use Rattle.law_edits.specs.kr_calls.declared.request.Request.{Request}
 use Rattle.law_places.specs.kr_tree.Tree.{Tree}
 use Rattle.law_places.specs.kr_tree.declared.place.Place.{Place}
@@ -31,6 +32,7 @@ use Rattle.law_places.specs.kr_model.Seen.{NoPath}
 use Rattle.law_places.specs.kr_model.State.{Image, State, image_layout}
 use Rattle.law_places.specs.kr_model.Walks.{Targets, and_then, mounts_of, seen, seen_of, target_at, targets_of, told, walked}
 use Rattle.law_edits.specs.law_allowed.Told.{mounts_walked}
+use Rattle.law_edits.specs.kr_turns.Target.{LooksUpOne}
 use Rattle.law_places.proofs.kr_view.StayingLemmas.{names-stay}
 use Rattle.law_edits.proofs.kr_perform.AroundLemmas.{of_walk}
 use Rattle.law_plans.specs.Begins.{Fails, FailsSo, IsEmpty, Leads, LeadsBoth, PathAgrees, Stays, StaysSo, told_texts}
@@ -42,6 +44,12 @@ use Rattle.law_plans.proofs.PathLemmas.{paths_agree}
 use Rattle.law_plans.proofs.PlanLemmas.{edit_is, targets_then}
 use Rattle.law_plans.proofs.StayLemmas.{walk_refused}
 use Rattle.law_edits.proofs.OperationLemmas.{paths_are_swapped}
+
+-- ---- a call with two paths doesn't look up one
+
+one_path : (t : Told) → LooksUpOne t → (v : PathUse) → path_from 0 (paths_of t) 1 ≡ Some v → ⊥
+one_path (LooksAt how at) looks v after = cc
+one_path _ looks v after = looks
 
 -- ---- the mounts of what the plain kernel's walks come to
 
@@ -79,6 +87,9 @@ module _ (table : List Row) (tags : TagTable) (s w : State ℕ Image) (pid : ℕ
 
     abbrev first : Reached
     first = reached_at u (opens r) lead.canon
+
+    apart : LooksUpOne (line r).told → ⊥
+    apart looks = one_path (line r).told looks v after
 
     -- ---- targets
 
@@ -120,7 +131,7 @@ module _ (table : List Row) (tags : TagTable) (s w : State ℕ Image) (pid : ℕ
           let of : (rows : List Row) (x : State ℕ Image) → walked rows pid x v v.text ≡ Ok None = λ rows x. ap (walked rows pid x v) none in
           let refused = ap (λ targets. operation pid r (seen_of table pid s r targets) k) (targets_are (Ok None) (of table s)) ∙ ap (λ seen. operation pid r seen k) (untold table s lead.place) ∙ unfit in
           let on = ap (λ targets. operation pid r (seen_of plain pid w other targets) k) (others_are (Ok None) (of plain w)) ∙ ap (λ seen. operation pid r seen k) (still plain w t) ∙ unfit in
-          Swapping one None (edit_first stays) (record { told = refused ∙ sym on; mounts = inr (ENOENT, refused); one = new; two = tt; paths = record { one = ap (option_map (λ (u : PathUse). u.register)) at; two = tt } })
+          Swapping one None (edit_first stays) (record { told = refused ∙ sym on; mounts = inr (ENOENT, refused); looked = λ looks. absurd (apart looks); one = new; two = tt; paths = record { one = ap (option_map (λ (u : PathUse). u.register)) at; two = tt } })
       by_stay (FailsSo e here there) stays =
           let refused = ap (λ targets. operation pid r (seen_of table pid s r targets) k) (targets_are (Err e) here) in
           let on = ap (λ targets. operation pid r (seen_of plain pid w other targets) k) (others_are (Err e) there) in
@@ -128,6 +139,7 @@ module _ (table : List Row) (tags : TagTable) (s w : State ℕ Image) (pid : ℕ
           (record {
             told = refused ∙ sym on;
             mounts = inl (ap (λ targets. bare_mounts (mounts_walked targets)) (targets_are (Err e) here) ∙ sym (ap (λ targets. bare_mounts (mounts_walked targets)) (others_are (Err e) there)));
+            looked = λ looks. absurd (apart looks);
             one = new;
             two = tt;
             paths = record { one = ap (option_map (λ (u : PathUse). u.register)) at; two = tt };
@@ -137,7 +149,7 @@ module _ (table : List Row) (tags : TagTable) (s w : State ℕ Image) (pid : ℕ
       by_second (Stays is so) leads = by_stay so is
       by_second (Fails e is fails) leads =
           Cancelling e (λ sp usable. edit_second sp usable (Err e) is)
-          (ap (λ targets. operation pid r (seen_of table pid s r targets) k) (targets_are (Err e) fails) ∙ walk_refused pid r u e k at (planned.first u v at after))
+          (ap (λ targets. operation pid r (seen_of table pid s r targets) k) (targets_are (Err e) fails) ∙ walk_refused pid r u e k at (planned.first u v at after)) (λ looks. absurd (apart looks))
       by_second (Leads second) leads = leads second
 
       -- where the second path leads somewhere, too, nothing but that is left
@@ -160,7 +172,7 @@ module _ (table : List Row) (tags : TagTable) (s w : State ℕ Image) (pid : ℕ
         pub both_busy : busy ≡ true → operation pid r (told table pid s r (both_targets lead.place second.place)) k ≡ refuse EBUSY → PlanAgrees table tags s w pid r
         both_busy is refused =
             Cancelling EBUSY (λ sp usable. edit_second sp usable (Ok (Some (reached_at v (opens r) second.canon))) second.reached ∙ rw (takes, also, is) refl)
-            (ap (λ targets. operation pid r (seen_of table pid s r targets) k) both_are ∙ refused)
+            (ap (λ targets. operation pid r (seen_of table pid s r targets) k) both_are ∙ refused) (λ looks. absurd (apart looks))
 
         module _ (t x : PlaceTarget) (ends : walked plain pid w (with_path text u) text ≡ Ok (Some t)) (end : walked plain pid w (with_path more v) more ≡ Ok (Some x)) where
           abbrev one_text : NewText
@@ -186,6 +198,7 @@ module _ (table : List Row) (tags : TagTable) (s w : State ℕ Image) (pid : ℕ
               (record {
                 told = ap (λ targets. operation pid r (seen_of table pid s r targets) k) both_are ∙ same ∙ sym (ap (λ targets. operation pid r (seen_of plain pid w swapped targets) k) both_others);
                 mounts = by mounts;
+                looked = λ looks. absurd (apart looks);
                 one = is_new;
                 two = is_more;
                 paths = record { one = ap (option_map (λ (u : PathUse). u.register)) at; two = ap (option_map (λ (u : PathUse). u.register)) after };

@@ -7,6 +7,7 @@ use Rattle.law_edits.specs.pt_args.Edits.{edit_of, shelve}
 use Rattle.law_edits.specs.pt_args.declared.edit.Edit.{Edit}
 use Rattle.law_edits.specs.pt_args.declared.edit.Edit.TheVariants.{Cancel, Pass}
 use Rattle.law_edits.specs.pt_results.Answers.{link_answer}
+use Rattle.law_edits.specs.kr_calls.CallTable.{line}
 use Rattle.law_edits.specs.kr_calls.PathTable.{PathUse, path_at}
 use Rattle.law_edits.specs.kr_calls.declared.request.Request.{Request}
 use Rattle.law_places.specs.kr_view.View.{Row, plain}
@@ -15,10 +16,12 @@ use Rattle.law_places.specs.kr_model.Bare.{bare_mounts}
 use Rattle.law_places.specs.kr_model.Known.{Known, known}
 use Rattle.law_places.specs.kr_model.Operation.{IsNoExec, operation}
 use Rattle.law_places.specs.kr_model.Reply.{refuse}
+use Rattle.law_places.specs.kr_model.Seen.{WalkFails}
 use Rattle.law_places.specs.kr_model.State.{Image, State, image_layout}
 use Rattle.law_places.specs.kr_model.Walks.{Targets, seen, targets_of}
 use Rattle.law_edits.specs.law_allowed.Calls.{HasTextPaths}
 use Rattle.law_edits.specs.law_allowed.Told.{mounts_walked}
+use Rattle.law_edits.specs.kr_turns.Target.{LooksUpOne}
 use Rattle.law_places.specs.kr_calm.Rules.{breaks_2}
 use Rattle.law_plans.specs.Begins.{StandTogether, told_texts}
 use Rattle.law_plans.specs.OnePath.{IsNewText}
@@ -65,9 +68,15 @@ module _ (table : List Row) (s w : State ℕ Image) (pid : ℕ) (r : Request) wh
   pub record IsSwapped (first : NewText) (second : Option NewText) : Type 0 where
     pub told : operation pid r (seen table pid s r) knows ≡ operation pid r (seen plain pid w (with_swaps first second r)) knows
     pub mounts : HasMountsAlike (targets_of plain pid w (with_swaps first second r))
+    -- of a call that looks up one path it is told the very same
+    pub looked : LooksUpOne (line r).told → seen table pid s r ≡ seen plain pid w (with_swaps first second r)
     pub one : IsNewText first.text
     pub two : IsNewIfAny second
     pub paths : AreOfPaths r first second
+
+  -- if the call looks up one path, the walk along it fails
+  abbrev pub IsLost : Type 0
+  IsLost = LooksUpOne (line r).told → (e : Errno) × (seen table pid s r ≡ WalkFails e)
 
 -- ---- plans, by the edits that come of them
 
@@ -86,7 +95,7 @@ module _ (table : List Row) (tags : TagTable) (s w : State ℕ Image) (pid : ℕ
     -- texts take their place
     Swapping : (first : NewText) (second : Option NewText) → IsEdit (shelved_texts first second) → IsSwapped table s w pid r first second → PlanAgrees
     -- the call is cancelled with the error with which the kernel with mounts refuses it
-    Cancelling : (e : Errno) → IsEdit (λ sp usable. Cancel e) → operation pid r (seen table pid s r) (known image_layout pid s) ≡ refuse e → PlanAgrees
+    Cancelling : (e : Errno) → IsEdit (λ sp usable. Cancel e) → operation pid r (seen table pid s r) (known image_layout pid s) ≡ refuse e → IsLost table s w pid r → PlanAgrees
 
 -- a call with one path
 abbrev pub PlansOfOneAgree : Type 0

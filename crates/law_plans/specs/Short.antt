@@ -9,6 +9,7 @@ use Rattle.law_places.specs.kr_view.View.{Row}
 use Rattle.law_places.specs.kr_model.Known.{known}
 use Rattle.law_places.specs.kr_model.Operation.{operation}
 use Rattle.law_places.specs.kr_model.Reply.{refuse}
+use Rattle.law_places.specs.kr_model.Seen.{WalkFails}
 use Rattle.law_places.specs.kr_model.State.{Image, State, image_layout}
 use Rattle.law_places.specs.kr_model.Walks.{seen}
 use Rattle.law_places.specs.kr_seen.CallWalks.{call_reach}
@@ -30,16 +31,17 @@ module _ (table : List Row) (tags : TagTable) (s w : State ℕ Image) (pid : ℕ
   abbrev pub ReachesNoLongName : Type 0
   ReachesNoLongName = (call_reach table pid s r nothing_reached).longest ≤ 4000
 
-  -- the call is cancelled since a name is too long, and so the kernel with mounts refuses it
+  -- the call is cancelled since a name is too long, and so a walk of the kernel with mounts fails
   pub record IsTooLong : Type 0 where
     pub edit : IsEdit table tags s w pid r (λ sp usable. Cancel ENAMETOOLONG)
     pub refused : operation pid r (seen table pid s r) (known image_layout pid s) ≡ refuse ENAMETOOLONG
+    pub lost : seen table pid s r ≡ WalkFails ENAMETOOLONG
 
   -- the texts that a plan puts in place of paths are short
   abbrev pub IsShortPlan : PlanAgrees table tags s w pid r → Type 0
   IsShortPlan (Passing edit passed) = Unit {0}
   IsShortPlan (Swapping first second edit swapped) = IsShort first × IsShortIfAny second
-  IsShortPlan (Cancelling e edit refused) = Unit {0}
+  IsShortPlan (Cancelling e edit refused lost) = Unit {0}
 
 -- ---- laws
 

@@ -10,7 +10,8 @@
 //!
 //! So a call with one path passes and is told the same, is swapped and comes to the same, with the same mounts to name or refused, or is
 //! cancelled with the error with which the kernel with mounts refuses it (`plans_of_one_agree`). So it does with both paths of a call that leads
-//! from no mount to another (`plans_agree`).
+//! from no mount to another (`plans_agree`). Of a call that looks up one path the very same is told along the text in its place, and where it is
+//! cancelled the walk along its path fails, so that both machines lead it to the same target.
 //!
 //! # `decoded`, `links`, `short`
 //!

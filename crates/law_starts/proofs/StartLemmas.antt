@@ -19,6 +19,8 @@ use Rattle.pr_start.specs.pt_canon.TextWalk.{TextSurroundings}
 use Rattle.pr_start.specs.pt_script.declared.expansion.Expanded.{Expanded as Shown}
 use Rattle.pr_start.specs.kr_calls.Expansion.{Expanded, bytes_with_ends, expanded, most_scripts}
 use Rattle.law_turns.specs.kr_calm.Calm.{broken_at_start}
+use Rattle.law_turns.specs.kr_calm.declared.rule.Rule.{Rule}
+use Rattle.law_turns.specs.kr_calm.declared.rule.Rule.TheVariants.{ShortNames}
 use Rattle.pr_start.specs.kr_exec.Exec.{after_scripts, are_too_big, exec_plan, target_plan}
 use Rattle.pr_start.specs.kr_exec.Interpreters.{programs}
 use Rattle.pr_start.specs.kr_exec.Lists.{at_least_one}
@@ -226,8 +228,8 @@ module _ (table : List Row) (tree : Tree) (user : User) (watch : Watch) (ids : O
   of-chosen None found within = refl
   of-chosen (Some path) found within = of-path path found within
 
-  abbrev rule : Bool → Option ℕ
-  rule b = if b then Some 6 else None
+  abbrev rule : Bool → Option Rule
+  rule b = if b then Some ShortNames else None
 
   calm-within : (n : ℕ) → rule (nat_lt 4000 n) ≡ None → n ≤ 4000
   calm-within n calm = by (nat_lt 4000 n) refl calm

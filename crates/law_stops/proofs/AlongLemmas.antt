@@ -29,10 +29,10 @@ use Rattle.law_turns.proofs.RunLemmas.{lives_too}
 use Rattle.law_stops.proofs.CallLemmas as before
 use Rattle.law_stops.proofs.CarryLemmas.{bears_none, no_exec_told}
 use Rattle.law_stops.specs.Along.{GoesAlongUntold, IsAlongPaths, JustAnswers, PathCallsGoTogether, PathCallsJustAnswer}
-use Rattle.law_stops.specs.Calls.{GoesUntold}
+use Rattle.law_stops.specs.Calls.{GoesUntold, came_there}
 use Rattle.law_stops.specs.Editing.{IsEditedAlike}
 use Rattle.law_stops.specs.Going.{ComeFromFakedCall, ComeToFakedCall, untold}
-use Rattle.law_stops.specs.Reading.{RootIsKnown}
+use Rattle.law_stops.specs.Reading.{RootIsKnown, TargetIsKnown}
 use Rattle.law_stops.proofs.EntryLemmas as entry
 use Rattle.law_stops.proofs.KernelLemmas.{kernels_calls_go_together}
 use Rattle.law_stops.proofs.ReadLemmas.{edits_read_unmarked}
@@ -61,21 +61,21 @@ path_calls_just_answer rows pid s p lives along = answers_by rows pid s p lives 
 
 -- none of them is one on users and groups
 told_none : (i : Identity) (r : Request) → is_told_of_paths r ≡ true → effect i r ≡ None
-told_none i (call.Openat dirfd path flags mode) told = refl
-told_none i (call.Mkdirat dirfd path mode) told = refl
-told_none i (call.Unlinkat dirfd path flags) told = refl
-told_none i (call.Symlinkat text dirfd path) told = refl
-told_none i (call.Linkat olddir old newdir new flags) told = refl
-told_none i (call.Renameat2 olddir old newdir new) told = refl
-told_none i (call.Faccessat dirfd path mode) told = refl
-told_none i (call.Fchmodat dirfd path mode) told = refl
-told_none i (call.Fchownat dirfd path uid gid flags) told = refl
-told_none i (call.Newfstatat dirfd path buf flags) told = refl
-told_none i (call.Readlinkat dirfd path buf size) told = refl
-told_none i (call.Chdir path) told = refl
-told_none i (call.Chroot path) told = refl
-told_none i (call.Getcwd buf size) told = refl
-told_none i _ told = absurd cc
+told_none i call.Getuid told = absurd cc
+told_none i call.Geteuid told = absurd cc
+told_none i call.Getgid told = absurd cc
+told_none i call.Getegid told = absurd cc
+told_none i (call.Getresuid ruid euid suid) told = absurd cc
+told_none i (call.Getresgid rgid egid sgid) told = absurd cc
+told_none i (call.Setuid uid) told = absurd cc
+told_none i (call.Setgid gid) told = absurd cc
+told_none i (call.Setreuid ruid euid) told = absurd cc
+told_none i (call.Setregid rgid egid) told = absurd cc
+told_none i (call.Setresuid ruid euid suid) told = absurd cc
+told_none i (call.Setresgid rgid egid sgid) told = absurd cc
+told_none i (call.Getgroups size list) told = absurd cc
+told_none i (call.Setgroups size list) told = absurd cc
+told_none i _ told = refl
 
 module _ (table : List Row) (made pid : ℕ) (m : Machine Faking) (n : Machine Tracing) (r : Request) (c : ComeToFakedCall table made pid m n) (decoded : (decoded_at (calling 1 pid m.state)).reply ≡ Ok r) (told : is_told_of_paths r ≡ true)
     (p q : Process ℕ Image) (lives : process pid m.state ≡ Some p) (also : process pid n.state ≡ Some q) (unwatched_calm : (watched_call unwatched 1 table pid m).tally.broken ≡ None) (goes : GoesAlongUntold table made pid m n r) where
@@ -97,16 +97,19 @@ module _ (table : List Row) (made pid : ℕ) (m : Machine Faking) (n : Machine T
   abbrev at_root : Bool
   at_root = (planned n.watcher.bindings n.watcher.tags (after_request (calling 0 pid n.state)) r).0.led.at_root
 
+  abbrev target : Option ℕ
+  target = (came_there table pid m n r).handed.target
+
   goes_untold : GoesUntold table pid m n r made
   goes_untold = record {
     ends = here.ends ∙ sym goes.answers.ends;
     children = here.alone ∙ sym goes.answers.alone;
     edit =
-        subst (λ (came : Came). IsEditedAlike m.watcher (called pid came) at_root (due_of (is_root m.watcher) r)) (sym came_is)
-        (edits_read_unmarked table made pid (entry.lacks table made pid m n c p q lives also) at_root s1 p1 m.watcher r (entry.can table made pid m n c p q lives also)
+        subst (λ (came : Came). IsEditedAlike m.watcher (called pid came) at_root target (due_of (is_root m.watcher) r)) (sym came_is)
+        (edits_read_unmarked table made pid (entry.lacks table made pid m n c p q lives also) at_root target s1 p1 m.watcher r (entry.can table made pid m n c p q lives also)
         (record { bytes = (entry.can table made pid m n c p q lives also).holds; registers = (c.sized pid p lives).registers }) reads (no_exec_told r told)
         (before.calm_call table made pid m (untold n) (entry.comes table made pid m n c p q lives also) p q lives also unwatched_calm)
-        (subst (λ (came : Came). RootIsKnown r came at_root) came_is goes.root));
+        (subst (λ (came : Came). RootIsKnown r came at_root) came_is goes.root) (subst (λ (came : Came). TargetIsKnown r came target) came_is goes.target));
     together = goes.together;
   }
 

@@ -13,6 +13,7 @@ use Rattle.pt_args.specs.rv_mem.declared.regs.Regs.{Regs}
 use Rattle.pt_args.specs.declared.edit.Edit.{Edit}
 use Rattle.law_turns.specs.pt_results.Notes.{noted, tags_after}
 use Rattle.law_edits.specs.kr_view.View.{Row, plain}
+use Rattle.pt_args.specs.kr_calls.CallTable.{line}
 use Rattle.pt_args.specs.kr_calls.Decoding.{decoding}
 use Rattle.pt_args.specs.kr_calls.PathTable.{path_at}
 use Rattle.pt_args.specs.kr_calls.declared.request.Request.{Request}
@@ -50,11 +51,13 @@ use Rattle.law_turns.specs.kr_steps.Computing.{computed}
 use Rattle.law_turns.specs.kr_steps.Settling.{settled}
 use Rattle.law_turns.specs.kr_turns.Breaking.{decoded_rule, operated_rule, plain_rule_of}
 use Rattle.law_turns.specs.kr_turns.PlainCall.{Came, child_of, end_of, operated, plain_call}
+use Rattle.law_turns.specs.kr_turns.Target.{IsLookedAt, LooksUpOne, instead_of, target_by}
 use Rattle.law_turns.specs.kr_stops.Stopped.{IsThere, Stopped, edited, image_at, nothing_handed}
 use Rattle.law_turns.specs.kr_turns.Turn.{Machine, Tally, after_born, after_end, after_exit, after_plain, called, watched_call}
 use Rattle.law_turns.specs.kr_stops.Watching.{unwatched}
 use Rattle.law_turns.proofs.kr_stops.EditLemmas.{there as is_there}
 use Rattle.law_turns.proofs.kr_turns.PlainLemmas.{no-exec-requested, no-exec-rule}
+use Rattle.law_turns.proofs.kr_turns.TargetLemmas.{targets-are-told}
 use Rattle.law_edits.specs.pt_faker.Stopping.{after_request, decoded_at}
 use Rattle.law_edits.specs.pt_tracer.Planning.{edit_for, led_of, list_addresses, planned_by, texts_at}
 use Rattle.law_edits.specs.pt_tracer.Registers.{arguments_at}
@@ -83,6 +86,7 @@ use Rattle.law_turns.proofs.ImageLemmas.{given}
 use Rattle.law_turns.proofs.MatchLemmas.{match_computed}
 use Rattle.law_turns.proofs.OperateLemmas.{calls_keep_matches, with_own_registers}
 use Rattle.law_turns.proofs.PathlessLemmas.{none_of_all}
+use Rattle.law_turns.proofs.PickLemmas.{same_known}
 use Rattle.law_turns.proofs.QuietLemmas.{memory_computed}
 use Rattle.law_turns.proofs.RegisterLemmas.{changes_keep_registers}
 use Rattle.law_stops.specs.Cancelling.{at_call, at_first_stop}
@@ -295,6 +299,10 @@ module _ {S : Type 0} (table : List Row) (made pid : ℕ) (m : Machine S) (n : M
         let both = match_computed table x.tags s1 w (before.match1 table made pid m n c p q lives also) pid p1 q mine.lives also p1.image.regs (decoded_by p1).memory memory4 unmarked stays like4.layout in
         subst (λ regs. IsMatch table x.tags at (computed pid regs memory4 w)) (before.same_regs table made pid m n c p q lives also) both
 
+    -- the plain kernel carries the call out as it would with its caller's own registers
+    known_same : known image_layout pid w4 ≡ known image_layout pid own
+    known_same = known-bare ℕ (pins_of plain) pid w4 ∙ ap (known (λ layout. layout) pid) (sym bare_alike) ∙ sym (known-bare ℕ (pins_of plain) pid own)
+
     -- ---- what holds of the call, at the mounted machine's state behind decoding
 
     at_is : (at_call pid m).state ≡ at
@@ -304,6 +312,14 @@ module _ {S : Type 0} (table : List Row) (made pid : ℕ) (m : Machine S) (n : M
     acts =
         subst (λ t. operation pid r (seen table pid t r) (known image_layout pid t) ≡ operation pid r2 sight (known image_layout pid t)) at_is
         (subst (λ t. operation pid r (seen table pid (at_call pid m).state r) (known image_layout pid (at_call pid m).state) ≡ operation pid r2 (seen plain pid t r2) (known image_layout pid (at_call pid m).state)) there_is alike.acts)
+
+    -- a path that is looked up leads to the same inode for both
+    pub leads_same : LooksUpOne (line r).told → IsLookedAt (line r).told → IsLookedAt (line r2).told → instead_of r ≡ instead_of r2 → (operated table pid r at).handed.target ≡ (operated plain pid r2 w4).handed.target
+    leads_same looks one other instead =
+        let looked : told ≡ sight =
+        subst (λ t. seen table pid t r ≡ sight) at_is (subst (λ t. seen table pid (at_call pid m).state r ≡ seen plain pid t r2) there_is (alike.looked looks)) in
+        let knows : known image_layout pid at ≡ known image_layout pid w4 = same_known table x.tags at own match_own pid ∙ sym known_same in
+        targets-are-told table pid r at one ∙ (λ i. target_by (instead i) (looked i) (knows i)) ∙ sym (targets-are-told plain pid r2 w4 other)
 
     same : (bare_mounts mounts ≡ bare_mounts others) ⊎ ((e : Errno) × (operation pid r told (known image_layout pid at) ≡ refuse e))
     same =
@@ -419,10 +435,6 @@ module _ {S : Type 0} (table : List Row) (made pid : ℕ) (m : Machine S) (n : M
     leave : leave_images changes ≡ true
     leave = path_calls_leave_images pid r2 sight (known image_layout pid own) (memory_of pid own) told2
 
-    -- the plain kernel carries the call out as it would with its caller's own registers
-    known_same : known image_layout pid w4 ≡ known image_layout pid own
-    known_same = known-bare ℕ (pins_of plain) pid w4 ∙ ap (known (λ layout. layout) pid) (sym bare_alike) ∙ sym (known-bare ℕ (pins_of plain) pid own)
-
     done4_is : done_in pid r2 sight w4 ≡ own_done
     done4_is =
         ap (λ k. carried_out (operation pid r2 sight k) (memory_of pid w4)) known_same
@@ -490,7 +502,7 @@ module _ {S : Type 0} (table : List Row) (made pid : ℕ) (m : Machine S) (n : M
     abbrev came2 : Came
     came2 = operated plain pid r2 w4
 
-    came2_is : plain_call plain pid w3 ≡ came2
+    pub came2_is : plain_call plain pid w3 ≡ came2
     came2_is = by_request table pid plain w3 q3 (Ok r2) lives3 reads3 ∙ sym (no-exec-requested plain pid w4 r2 (no_exec_told r2 told2))
 
     abbrev stop2 : Stopped

@@ -1,7 +1,7 @@
 -- What both watchers edit at the second stop leaves states that match as such.
 use Rattle.std.proofs.Common.{◌≡◌, ℕ, Bool, true, false, cond, List, Option, Some, None, refl, sym, ap, subst, ◌∙◌}
 use Rattle.std.specs.Prelude.{◌&&◌, ◌==◌, IsSome, get_or, slice_set}
-use Rattle.std.specs.Option.{option_map}
+use Rattle.std.specs.Option.{option_map, option_map_or}
 use Rattle.pt_args.specs.rv_mem.Actions.{Action, AreEqualUnmarked, carried_out}
 use Rattle.pt_args.specs.rv_mem.Memory.{Memory}
 use Rattle.pt_args.specs.rv_mem.declared.regs.Regs.{Regs}
@@ -12,12 +12,12 @@ use Rattle.law_edits.specs.kr_view.View.{Row, plain}
 use Rattle.law_edits.specs.kr_model.State.{Image, Process, State, process, with_process}
 use Rattle.law_turns.proofs.law_allowed.RowLemmas.{StaysLike, lawful-image, stays-like}
 use Rattle.law_turns.specs.kr_steps.Computing.{computed}
-use Rattle.law_turns.specs.kr_stops.Stopped.{Stopped}
+use Rattle.law_turns.specs.kr_stops.Stopped.{Stopped, no_image}
 use Rattle.law_turns.specs.kr_stops.declared.handed.Handed.{Handed}
 use Rattle.law_edits.specs.pt_ident.Identity.{after_exec, refusal}
 use Rattle.law_edits.specs.pt_ident.IdentityTable.{identity_at}
 use Rattle.law_edits.specs.pt_faker.Carrying.{on_its_memory}
-use Rattle.law_edits.specs.pt_faker.Faking.{Faking, after_due, forgiven, has_answered_zero, show_identity, show_owner, stack_register, word_of}
+use Rattle.law_edits.specs.pt_faker.Faking.{Faking, after_due, answer_register, forgiven, has_answered_zero, remembered, remembered_of, show_identity, show_owner, stack_register, word_of}
 use Rattle.law_edits.specs.pt_faker.Stopping.{memory_at, register_at, with_register}
 use Rattle.law_edits.specs.pt_faker.declared.due.Due.{Due}
 use Rattle.law_edits.specs.pt_faker.declared.due.Due.TheVariants as due
@@ -111,15 +111,46 @@ module _ (table : List Row) (tags : TagTable) (made pid : ℕ) (s w : State ℕ 
         either (may && (register_at here 10 == word_of (refusal EPERM))) (may && (register_at there 10 == word_of (refusal EPERM))) (with_register 10 0 here) (with_register 10 0 there)
         (ap (λ word. may && (word == word_of (refusal EPERM))) (same_register 10)) (λ e. registers_set 10 0)
 
-    pub both_due : (f : Faking) (also_root : Bool) (edit : Option Due) → IsEditedAlike f here also_root edit → StandAlike table tags made (after_due f here edit).1.state (shown_due f.user f.identities also_root edit there).state
-    both_due f also_root None is = alike
-    both_due f also_root (Some due.ForgivesOwner) is = both_forgiven true
-    both_due f also_root (Some due.ForgivesRoot) is = subst (λ b. StandAlike table tags made (forgiven handed.at_root here).state (forgiven b there).state) is (both_forgiven handed.at_root)
-    both_due f also_root (Some (due.ShowsOwner at)) is =
-        let action = show_owner f.user f.identities.uid f.identities.gid at in
+    -- a register, where both are alike
+    alike_register : (x y : State ℕ Image) → StandAlike table tags made x y → (k : ℕ) → register_at (stop_in pid x handed) k ≡ register_at (stop_in pid y other) k
+    alike_register x y both k =
+        in_process (process pid x) ∙ ap (λ o. option_map_or (λ (regs : Regs). get_or regs.x k 0) o (get_or no_image.regs.x k 0)) (both.matches.images.registers pid)
+        ∙ sym (in_process (process pid y))
+      where
+        in_process : (o : Option (Process ℕ Image))
+            → get_or (option_map_or (λ (p : Process ℕ Image). p.image) o no_image).regs.x k 0 ≡ option_map_or (λ (regs : Regs). get_or regs.x k 0) (option_map (λ (p : Process ℕ Image). p.image.regs) o) (get_or no_image.regs.x k 0)
+        in_process None = refl
+        in_process (Some p) = refl
+
+    -- so both are told the same answer
+    answer_forgiven : register_at (forgiven true here) answer_register ≡ register_at (forgiven true there) answer_register
+    answer_forgiven =
+        by (true && (register_at here 10 == word_of (refusal EPERM))) (true && (register_at there 10 == word_of (refusal EPERM))) (ap (λ word. true && (word == word_of (refusal EPERM))) (same_register 10))
+      where
+        by : (b c : Bool) → b ≡ c → register_at (cond b (with_register 10 0 here) here) answer_register ≡ register_at (cond c (with_register 10 0 there) there) answer_register
+        by true true same = alike_register (with_register 10 0 here).state (with_register 10 0 there).state (registers_set 10 0) answer_register
+        by false false same = same_register answer_register
+        by true false same = absurd cc
+        by false true same = absurd cc
+
+    pub both_due : (f : Faking) (also_root : Bool) (also_target : Option ℕ) (edit : Option Due) → IsEditedAlike f here also_root also_target edit → StandAlike table tags made (after_due f here edit).1.state (shown_due f.user f.identities also_root edit there).state
+    both_due f also_root also_target None is = alike
+    both_due f also_root also_target (Some (due.Remembers change)) is = both_forgiven true
+    both_due f also_root also_target (Some due.ForgivesRoot) is = subst (λ b. StandAlike table tags made (forgiven handed.at_root here).state (forgiven b there).state) is (both_forgiven handed.at_root)
+    both_due f also_root also_target (Some (due.ShowsOwner at)) is =
+        let action = show_owner f.user f.identities at in
         either (has_answered_zero here) (has_answered_zero there) (on_its_memory action here) (on_its_memory action there) (ap (λ word. word == 0) (same_register 10)) (λ zero. memories_edited action (is zero))
-    both_due f also_root (Some (due.Tells number answer)) is = absurd is
-    both_due f also_root (Some due.BeginsProgram) is = absurd is
+    both_due f also_root also_target (Some (due.Tells number answer)) is = absurd is
+    both_due f also_root also_target (Some due.BeginsProgram) is = absurd is
+
+    pub both_remember : (f : Faking) (also_root : Bool) (also_target : Option ℕ) (edit : Option Due) → IsEditedAlike f here also_root also_target edit
+        → (after_due f here edit).0.identities ≡ remembered_of edit also_target (register_at (shown_due f.user f.identities also_root edit there) answer_register) f.identities
+    both_remember f also_root also_target None is = refl
+    both_remember f also_root also_target (Some (due.Remembers change)) is = λ i. remembered change (is i) (answer_forgiven i) f.identities
+    both_remember f also_root also_target (Some due.ForgivesRoot) is = refl
+    both_remember f also_root also_target (Some (due.ShowsOwner at)) is = refl
+    both_remember f also_root also_target (Some (due.Tells number answer)) is = absurd is
+    both_remember f also_root also_target (Some due.BeginsProgram) is = absurd is
 
     pub both_begun : (f : Faking) → ReadsNoMarkAtBeginning f here
         → StandAlike table tags made (on_its_memory (show_identity (after_exec (identity_at f.identities pid)) (register_at here stack_register)) here).state
@@ -130,13 +161,15 @@ module _ (table : List Row) (tags : TagTable) (made pid : ℕ) (s w : State ℕ 
         (memories_edited (show_identity i (register_at here stack_register)) unread)
 
 pub edits_keep_matches : EditsKeepMatches
-edits_keep_matches table tags made pid s w handed other also_root f edit lives alike is = by (process pid s) refl lives
+edits_keep_matches table tags made pid s w handed other also_root also_target f edit lives alike is = by (process pid s) refl lives
   where
-    by : (o : Option (Process ℕ Image)) → process pid s ≡ o → IsSome o → StandAlike table tags made (after_due f (stop_in pid s handed) edit).1.state (shown_due f.user f.identities also_root edit (stop_in pid w other)).state
+    by : (o : Option (Process ℕ Image)) → process pid s ≡ o → IsSome o
+        → StandAlike table tags made (after_due f (stop_in pid s handed) edit).1.state (shown_due f.user f.identities also_root edit (stop_in pid w other)).state
+        × ((after_due f (stop_in pid s handed) edit).0.identities ≡ remembered_of edit also_target (register_at (shown_due f.user f.identities also_root edit (stop_in pid w other)) answer_register) f.identities)
     by None none some = absurd cc
     by (Some p) there some =
         let q = lives_too table tags pid s w p alike.matches there in
-        both_due table tags made pid s w p q.0 there q.1 alike handed other f also_root edit is
+        (both_due table tags made pid s w p q.0 there q.1 alike handed other f also_root also_target edit is, both_remember table tags made pid s w p q.0 there q.1 alike handed other f also_root also_target edit is)
 
 pub beginnings_keep_matches : BeginningsKeepMatches
 beginnings_keep_matches table tags made pid s w handed other f x lives alike unread = record { stands = by (process pid s) refl lives; user = refl; kept = refl }

@@ -43,7 +43,8 @@ module _ (table : List Row) (made pid : ℕ) (came came2 : Came) (g : Faking) (z
     pub mine : faked_exit g (called pid came) ≡ (kept, edited)
     pub yours : exited z (called pid came2) ≡ (traced, shown)
     pub without : exited (with_identities None z) (called pid came2) ≡ (with_identities None traced, back)
-    pub goes : GoBySame table kept traced
+    -- where they leave the same
+    pub goes : (tags : TagTable) → IsSome (process pid came.state) → StandAlike table tags (suc made) came.state back.state → GoBySame table kept traced
     pub lives : IsSome (process pid came2.state) → IsSome (process pid back.state)
     pub edits : (tags : TagTable) → IsSome (process pid came.state) → StandAlike table tags (suc made) came.state back.state → StandAlike table tags (suc made) edited.state shown.state
 
@@ -74,9 +75,10 @@ module _ (table : List Row) (made pid : ℕ) (came came2 : Came) (g : Faking) (z
         by None at_p = absurd (differ (process pid exits.back.state) still (sym (ap (option_map (λ p. p.image.regs)) at_p) ∙ untold.matches.images.registers pid))
         by (Some p) at_p =
             let left = exits.edits exits.traced.tags (subst IsSome (sym at_p) refl) untold in
+            let goes = exits.goes exits.traced.tags (subst IsSome (sym at_p) refl) untold in
             subst (λ (e : Faking × Stopped). ComeFromFakedCall table made (record { state = e.1.state; watcher = e.0; tally = one }) (after_exit tracer (called pid came2) z other (Some q))) (sym exits.mine)
             (subst (λ (e : Tracing × Stopped). ComeFromFakedCall table made (record { state = exits.edited.state; watcher = exits.kept; tally = one }) (record { state = e.1.state; watcher = e.0; tally = other })) (sym exits.yours)
-            (record { matches = record { states = left.matches; statuses = statuses }; lasts = left.lasts; also_lasts = left.also_lasts; goes = exits.goes }))
+            (record { matches = record { states = left.matches; statuses = statuses }; lasts = left.lasts; also_lasts = left.also_lasts; goes = goes }))
 
     pub by_end : (e : CallEnd) → StandAlike table (after_end tracer pid e (called pid came2) (with_identities None z) other).watcher.tags (suc made) came.state (after_end tracer pid e (called pid came2) (with_identities None z) other).state
         → status_after e one.status ≡ status_after e other.status → ComeFromFakedCall table made (after_end faker pid e (called pid came) g one) (after_end tracer pid e (called pid came2) z other)

@@ -34,7 +34,7 @@ use Rattle.law_edits.specs.pt_faker.Stopping.{after_request, decoded_at, memory_
 use Rattle.law_edits.specs.pt_faker.declared.due.Due.TheVariants as due
 use Rattle.law_edits.specs.pt_tracer.Planning.{nowhere}
 use Rattle.law_edits.specs.pt_tracer.Registers.{arguments_at}
-use Rattle.law_edits.specs.pt_tracer.Watched.{Tracing, after_decoding, after_effect, awaiting, by_identities, entered, exited, has_begun, is_execve, returned, shown_due, tracer, with_identities, with_pending}
+use Rattle.law_edits.specs.pt_tracer.Watched.{Tracing, after_decoding, after_effect, awaiting, by_identities, entered, exited, has_begun, is_execve, returned, tracer, with_identities, with_pending}
 use Rattle.law_edits.specs.pt_tracer.declared.pending.Pending.{Pending}
 use Rattle.law_edits.specs.Exits.{left_with}
 use Rattle.law_edits.specs.NoCalls.{without_call}
@@ -53,7 +53,7 @@ use Rattle.law_stops.specs.Editing.{stop_in}
 use Rattle.law_stops.specs.Going.{ComeFromFakedCall, ComeToFakedCall, StandAlike, untold}
 use Rattle.law_stops.proofs.EditLemmas.{both_edited}
 use Rattle.law_stops.proofs.EntryLemmas as entry
-use Rattle.law_stops.proofs.KernelLemmas.{left, not_begun, told_exit, untold_exit}
+use Rattle.law_stops.proofs.KernelLemmas.{left, not_begun, told_exit, told_left, untold_exit}
 use Rattle.law_stops.proofs.TakenLemmas as taken
 
 -- ---- requests on users and groups
@@ -288,7 +288,7 @@ module _ (table : List Row) (made pid : ℕ) (m : Machine Faking) (n : Machine T
   none_begun = not_begun pending (called pid came2) answers.runs
 
   abbrev traced : Tracing
-  traced = left pending y (called pid came2) pending_there
+  traced = with_identities (Some (with_identity pid also_done.reply.identity f.identities)) (left pending y (called pid came2) pending_there)
 
   abbrev answered2 : State ℕ Image
   answered2 = answered pid also_done.reply.answer (computed pid q.image.regs also_done.memory w)
@@ -319,7 +319,7 @@ module _ (table : List Row) (made pid : ℕ) (m : Machine Faking) (n : Machine T
   exits_there : exited y (called pid came2) ≡ (traced, returned pending (called pid came2))
   exits_there =
       told_exit pending y (called pid came2) pending_there none_begun (with_identity pid also_done.reply.identity f.identities) refl
-      ∙ ap (λ d. (traced, shown_due y.user (with_identity pid also_done.reply.identity f.identities) false d (returned pending (called pid came2)))) answers.due
+      ∙ ap (told_left pending y (called pid came2) pending_there (with_identity pid also_done.reply.identity f.identities)) answers.due
 
   traced_is : watched_call tracer 0 plain pid n ≡ record { state = answered2; watcher = traced; tally = other }
   traced_is =

@@ -6,8 +6,8 @@ use Rattle.std.specs.Ordering.{nat_cmp}
 use Rattle.law_turns.proofs.pr_base.MapLemmas.{get-insert_same, get-remove_same}
 use Rattle.pt_args.specs.rv_mem.Actions.{carried_out}
 use Rattle.law_edits.specs.pt_ident.Identity.{Identity, after_exec, effect}
-use Rattle.law_edits.specs.pt_ident.IdentityTable.{IdentityTable, identity_at}
-use Rattle.pt_args.specs.pt_bind.Tags.{with_tag}
+use Rattle.law_edits.specs.pt_ident.IdentityTable.{IdentityTable, identity_at, starts_as_root}
+use Rattle.pt_args.specs.pt_bind.Tags.{TagTable, with_tag}
 use Rattle.pt_args.specs.pt_bind.declared.slot.Slot.TheVariants.{Exe}
 use Rattle.law_turns.specs.pt_results.Notes.{noted, tags_after}
 use Rattle.law_edits.specs.kr_view.View.{Row, plain}
@@ -23,13 +23,13 @@ use Rattle.law_turns.specs.kr_turns.Turn.{Machine, Tally, after_born, after_end,
 use Rattle.law_turns.specs.kr_stops.Watching.{unwatched}
 use Rattle.law_turns.proofs.kr_stops.EditLemmas.{computed-lives}
 use Rattle.law_turns.specs.law_places.Matching.{IsMatch}
-use Rattle.law_edits.specs.pt_faker.Faking.{Faking, after_decoding as faked_decoding, after_due, after_effect as faked_effect, begin_program as faked_beginning, due_of, dues_with, entered as faked_entry, exited as faked_exit, faker, has_answered_zero, is_root, keeping, show_owner, with_due, without_due}
-use Rattle.law_edits.specs.pt_faker.Stopping.{after_request, decoded_at, memory_at, with_register}
+use Rattle.law_edits.specs.pt_faker.Faking.{Faking, after_decoding as faked_decoding, after_due, after_effect as faked_effect, begin_program as faked_beginning, due_of, dues_with, entered as faked_entry, exited as faked_exit, faker, has_answered_zero, is_root, keeping, remembered_of, show_owner, with_due, without_due}
+use Rattle.law_edits.specs.pt_faker.Stopping.{after_request, decoded_at, memory_at, register_at, with_register}
 use Rattle.law_edits.specs.pt_faker.declared.due.Due.{Due}
 use Rattle.law_edits.specs.pt_faker.declared.due.Due.TheVariants as due
 use Rattle.law_edits.specs.pt_tracer.Planning.{planned}
 use Rattle.law_edits.specs.pt_tracer.Registers.{arguments_at, given_back}
-use Rattle.law_edits.specs.pt_tracer.Watched.{Applied, Tracing, after_decoding, after_effect, after_pending, answer_at, applied, awaiting, begin_as, begin_program, by_identities, entered, exited, give_back, has_begun, if_answered, is_execve, returned, shown_due, shown_to, tracer, with_identities, with_pending, with_tags, without_pending}
+use Rattle.law_edits.specs.pt_tracer.Watched.{Applied, Tracing, after_decoding, after_effect, after_pending, answer_at, applied, awaiting, begin_as, begin_program, by_identities, entered, exited, give_back, has_begun, if_answered, is_execve, remembered_in, returned, shown_due, shown_to, tracer, with_identities, with_pending, with_tags, without_pending}
 use Rattle.law_edits.specs.pt_tracer.declared.pending.Pending.{Pending}
 use Rattle.law_edits.specs.pt_tracer.declared.plan.Plan.{Plan}
 use Rattle.law_edits.specs.pt_tracer.declared.registers.Arguments.{Arguments}
@@ -77,23 +77,25 @@ pub due_kept : (pid : ℕ) (d : Option Due) (dues : map.FinMap nat_cmp Due) → 
 due_kept pid None dues = get-remove_same dues pid
 due_kept pid (Some d) dues = get-insert_same dues pid d
 
--- and keeps the watcher as it is
-keeps_itself : (f : Faking) (t : Stopped) (at_root : Bool) (d : Option Due) → IsEditedAlike f t at_root d → (after_due f t d).0 ≡ f
-keeps_itself f t at_root None is = refl
-keeps_itself f t at_root (Some due.ForgivesOwner) is = refl
-keeps_itself f t at_root (Some due.ForgivesRoot) is = refl
-keeps_itself f t at_root (Some (due.ShowsOwner at)) is = refl
-keeps_itself f t at_root (Some (due.Tells number answer)) is = absurd is
-keeps_itself f t at_root (Some due.BeginsProgram) is = absurd is
+-- and leaves the watcher its host user
+keeps_user : (f : Faking) (t : Stopped) (at_root : Bool) (target : Option ℕ) (d : Option Due) → IsEditedAlike f t at_root target d → (after_due f t d).0.user ≡ f.user
+keeps_user f t at_root target None is = refl
+keeps_user f t at_root target (Some (due.Remembers change)) is = refl
+keeps_user f t at_root target (Some due.ForgivesRoot) is = refl
+keeps_user f t at_root target (Some (due.ShowsOwner at)) is = refl
+keeps_user f t at_root target (Some (due.Tells number answer)) is = absurd is
+keeps_user f t at_root target (Some due.BeginsProgram) is = absurd is
 
--- an edit goes by the host user and the first identity alone
-same_edit : (f g : Faking) → g.user ≡ f.user → g.identities.uid ≡ f.identities.uid → g.identities.gid ≡ f.identities.gid → (t : Stopped) (at_root : Bool) (d : Option Due) → IsEditedAlike f t at_root d → IsEditedAlike g t at_root d
-same_edit f g user uid gid t at_root None is = tt
-same_edit f g user uid gid t at_root (Some due.ForgivesOwner) is = tt
-same_edit f g user uid gid t at_root (Some due.ForgivesRoot) is = is
-same_edit f g user uid gid t at_root (Some (due.ShowsOwner at)) is = λ zero. (λ i. (carried_out (show_owner (user i) (uid i) (gid i) at) (memory_at t)).memory.read_marked) ∙ is zero
-same_edit f g user uid gid t at_root (Some (due.Tells number answer)) is = absurd is
-same_edit f g user uid gid t at_root (Some due.BeginsProgram) is = absurd is
+-- an edit goes by the host user, the first identity and what is remembered alone
+same_edit : (f g : Faking) → g.user ≡ f.user → g.identities.uid ≡ f.identities.uid → g.identities.gid ≡ f.identities.gid → g.identities.owners ≡ f.identities.owners
+    → (t : Stopped) (at_root : Bool) (target : Option ℕ) (d : Option Due) → IsEditedAlike f t at_root target d → IsEditedAlike g t at_root target d
+same_edit f g user uid gid owners t at_root target None is = tt
+same_edit f g user uid gid owners t at_root target (Some (due.Remembers change)) is = is
+same_edit f g user uid gid owners t at_root target (Some due.ForgivesRoot) is = is
+same_edit f g user uid gid owners t at_root target (Some (due.ShowsOwner at)) is = λ zero.
+    (λ i. (carried_out (show_owner (user i) (record { uid = uid i; gid = gid i; kept = g.identities.kept; owners = owners i }) at) (memory_at t)).memory.read_marked) ∙ is zero
+same_edit f g user uid gid owners t at_root target (Some (due.Tells number answer)) is = absurd is
+same_edit f g user uid gid owners t at_root target (Some due.BeginsProgram) is = absurd is
 
 -- ---- the watcher as a child is born
 
@@ -113,6 +115,10 @@ module _ (pid : ℕ) (f : Faking) where
   pub born_gid : (o : Option ℕ) → (after_born faker pid o f).identities.gid ≡ f.identities.gid
   born_gid None = refl
   born_gid (Some child) = refl
+
+  pub born_owners : (o : Option ℕ) → (after_born faker pid o f).identities.owners ≡ f.identities.owners
+  born_owners None = refl
+  born_owners (Some child) = refl
 
 -- ---- the second stop of the tracer
 
@@ -158,8 +164,16 @@ module _ (p : Pending) where
     abbrev pub left : Tracing
     left = with_tags (tags_after z.tags t.pid (noted p.request p.led.index (answer_at (returned p t)))) (without_pending t.pid z)
 
-    pub told_exit : has_begun p t ≡ false → (identities : IdentityTable) → z.identities ≡ Some identities → exited z t ≡ (left, shown_due z.user identities p.led.at_root (due_of (identities.uid == 0) p.request) (returned p t))
-    told_exit none identities is = exits_by false none z at ∙ ap (λ i. (left, shown_to z.user i p (returned p t))) is
+    -- by what is due of it, with an identity
+    abbrev pub told_left : IdentityTable → Option Due → Tracing × Stopped
+    told_left identities d =
+        let shown = shown_due z.user identities p.led.at_root d (returned p t) in
+        (with_identities (Some (remembered_of d t.handed.target (register_at shown 10) identities)) left, shown)
+
+    pub told_exit : has_begun p t ≡ false → (identities : IdentityTable) → z.identities ≡ Some identities → exited z t ≡ told_left identities (due_of (starts_as_root identities) p.request)
+    told_exit none identities is =
+        exits_by false none z at
+        ∙ ap (λ i. let shown = shown_to z.user i p (returned p t) in (with_identities (remembered_in i p t.handed.target (register_at shown 10)) left, shown)) is
 
     pub untold_exit : has_begun p t ≡ false → exited (with_identities None z) t ≡ (with_identities None left, returned p t)
     untold_exit none = exits_by false none (with_identities None z) at
@@ -333,36 +347,53 @@ module _ (table : List Row) (made pid : ℕ) (m : Machine Faking) (n : Machine T
 
     -- ---- one that begins no program
 
-    module _ (kind : IsNoExec r) (edit_untold : IsEditedAlike f (called pid came) plan.0.led.at_root owed) where
+    module _ (kind : IsNoExec r) (edit_untold : IsEditedAlike f (called pid came) plan.0.led.at_root came2.handed.target owed) where
       abbrev back : Stopped
       back = returned pending (called pid came2)
 
       none_begun : has_begun pending (called pid came2) ≡ false
       none_begun = not_begun pending (called pid came2) (runs_none r kind)
 
-      edit : IsEditedAlike kept (called pid came) plan.0.led.at_root owed
-      edit = same_edit f kept (born_user pid f1 came.child) (born_uid pid f1 came.child) (born_gid pid f1 came.child) (called pid came) plan.0.led.at_root owed edit_untold
+      edit : IsEditedAlike kept (called pid came) plan.0.led.at_root came2.handed.target owed
+      edit =
+          same_edit f kept (born_user pid f1 came.child) (born_uid pid f1 came.child) (born_gid pid f1 came.child) (born_owners pid f1 came.child) (called pid came) plan.0.led.at_root came2.handed.target owed edit_untold
+
+      abbrev shown : Stopped
+      shown = shown_due kept.user kept.identities plan.0.led.at_root owed back
 
       abbrev traced : Tracing
-      traced = left pending z (called pid came2) pending_there
+      traced = with_identities (Some (remembered_of owed came2.handed.target (register_at shown 10) kept.identities)) (left pending z (called pid came2) pending_there)
+
+      -- both are left alike, and remember the same
+      both_edited : (tags : TagTable) → IsSome (process pid came.state) → StandAlike table tags (suc made) came.state back.state
+          → StandAlike table tags (suc made) (after_due kept (called pid came) owed).1.state shown.state × ((after_due kept (called pid came) owed).0.identities ≡ remembered_of owed came2.handed.target (register_at shown 10) kept.identities)
+      both_edited tags some alike =
+          subst
+          (λ (t : Stopped). (let v = shown_due kept.user kept.identities plan.0.led.at_root owed t in StandAlike table tags (suc made) (after_due kept (called pid came) owed).1.state v.state
+          × ((after_due kept (called pid came) owed).0.identities ≡ remembered_of owed came2.handed.target (register_at v 10) kept.identities))) (returned_there pending (called pid came2))
+          (edits_keep_matches table tags (suc made) pid came.state back.state came.handed back.handed plan.0.led.at_root came2.handed.target kept owed some alike edit)
 
       exits : ExitAlike table made pid came came2 g z judged other
       exits = record {
-        kept = kept;
+        kept = (after_due kept (called pid came) owed).0;
         traced = traced;
         edited = (after_due kept (called pid came) owed).1;
         back = back;
-        shown = shown_due kept.user kept.identities plan.0.led.at_root owed back;
-        mine = ap (after_due kept (called pid came)) owed_there ∙ ap (λ f. (f, (after_due kept (called pid came) owed).1)) (keeps_itself kept (called pid came) plan.0.led.at_root owed edit);
+        shown = shown;
+        mine = ap (after_due kept (called pid came)) owed_there;
         yours =
             told_exit pending z (called pid came2) pending_there none_begun g.identities go.identities
-            ∙ (λ i. (traced, shown_due (go.user i) g.identities plan.0.led.at_root (due_of (born_uid pid f1 came.child i == 0) r) back));
+            ∙ (λ i. (let d = due_of (born_uid pid f1 came.child i == 0) r in
+            let v = shown_due (go.user i) g.identities plan.0.led.at_root d back in
+            (with_identities (Some (remembered_of d came2.handed.target (register_at v 10) g.identities)) (left pending z (called pid came2) pending_there), v)));
         without = untold_exit pending z (called pid came2) pending_there none_begun;
-        goes = record { bindings = go.bindings; user = go.user; identities = go.identities };
+        goes = λ tags some alike. record {
+          bindings = go.bindings;
+          user = go.user ∙ sym (keeps_user kept (called pid came) plan.0.led.at_root came2.handed.target owed edit);
+          identities = ap (λ table. Some table) (sym (both_edited tags some alike).1);
+        };
         lives = returned_lives pending (called pid came2);
-        edits = λ tags some alike.
-            subst (λ (t : Stopped). StandAlike table tags (suc made) (after_due kept (called pid came) owed).1.state (shown_due kept.user kept.identities plan.0.led.at_root owed t).state) (returned_there pending (called pid came2))
-            (edits_keep_matches table tags (suc made) pid came.state back.state came.handed back.handed plan.0.led.at_root kept owed some alike edit);
+        edits = λ tags some alike. (both_edited tags some alike).0;
       }
 
       kernels_together : ComeFromFakedCall table made (watched_call faker 1 table pid m) (watched_call tracer 0 plain pid n)
@@ -396,22 +427,22 @@ module _ (table : List Row) (made pid : ℕ) (m : Machine Faking) (n : Machine T
         mine = exit_is true (begins ∙ is);
         yours = told_beginning pending z (called pid came2) pending_there (also_begins ∙ is) g.identities go.identities;
         without = untold_beginning pending z (called pid came2) pending_there (also_begins ∙ is);
-        goes = record { bindings = go.bindings; user = go.user; identities = refl };
+        goes = λ tags some alike. record { bindings = go.bindings; user = go.user; identities = refl };
         lives = λ some. some;
         edits = λ tags some alike. (beginnings_keep_matches table tags (suc made) pid came.state came2.state came.handed came2.handed kept (tagged pending z (called pid came2) pending_there) some alike (unread is (after_exec (identity_at kept.identities pid)))).stands;
       }
       exits_by_begun false is = record {
         kept = kept;
-        traced = left pending z (called pid came2) pending_there;
+        traced = with_identities (Some g.identities) (left pending z (called pid came2) pending_there);
         edited = called pid came;
         back = given;
         shown = given;
         mine = exit_is false (begins ∙ is);
         yours =
             told_exit pending z (called pid came2) pending_there (also_begins ∙ is) g.identities go.identities
-            ∙ ap (λ d. (left pending z (called pid came2) pending_there, shown_due z.user g.identities plan.0.led.at_root d given)) (owed_is (g.identities.uid == 0));
+            ∙ ap (told_left pending z (called pid came2) pending_there g.identities) (owed_is (starts_as_root g.identities));
         without = untold_exit pending z (called pid came2) pending_there (also_begins ∙ is);
-        goes = record { bindings = go.bindings; user = go.user; identities = go.identities };
+        goes = λ tags some alike. record { bindings = go.bindings; user = go.user; identities = refl };
         lives = returned_lives pending (called pid came2);
         edits = λ tags some alike. alike;
       }
@@ -423,8 +454,11 @@ module _ (table : List Row) (made pid : ℕ) (m : Machine Faking) (n : Machine T
     goes_together : ComeFromFakedCall table made (watched_call faker 1 table pid m) (watched_call tracer 0 plain pid n)
     goes_together =
         kernels_together (ap (λ (c : Came). c.end) (sym came_is) ∙ goes.ends ∙ ap (λ (c : Came). c.end) came2_is) (ap (λ (c : Came). c.child) (sym came_is) ∙ goes.children ∙ ap (λ (c : Came). c.child) came2_is) goes.together kind
-        (subst (λ (c : Came). IsEditedAlike f (called pid c) plan.0.led.at_root owed) came_is
-        (subst (λ (t : Stopped). IsEditedAlike f (called pid (plain_call table pid (calling 1 pid m.state).state)) (planned x.bindings x.tags (after_request t) r).0.led.at_root owed) stop_is goes.edit))
+        (subst (λ (c : Came). IsEditedAlike f (called pid c) plan.0.led.at_root came2.handed.target owed) came_is
+        (subst (λ (c : Came). IsEditedAlike f (called pid (plain_call table pid (calling 1 pid m.state).state)) plan.0.led.at_root c.handed.target owed) came2_is
+        (subst
+        (λ (t : Stopped). IsEditedAlike f (called pid (plain_call table pid (calling 1 pid m.state).state)) (planned x.bindings x.tags (after_request t) r).0.led.at_root
+        (plain_call plain pid (entered (untold n).watcher (calling 0 pid n.state)).1.state).handed.target owed) stop_is goes.edit)))
 
   module _ (runs : is_execve r ≡ true) (goes : GoesUntoldToProgram table pid m n r made) where
     pending_is : goes.pending ≡ pending

@@ -1,42 +1,44 @@
 -- The tracer lets calls without a path pass.
 use Rattle.std.specs.FinMap as map
-use Rattle.std.proofs.Common.{◌≡◌, ℕ, zero, suc, false, cond, List, [], ◌∷◌, Some, None, get_or, refl, ap, ◌∙◌}
+use Rattle.std.proofs.Common.{◌≡◌, ℕ, zero, suc, false, cond, List, [], ◌∷◌, Option, Some, None, get_or, refl, sym, ap, ◌∙◌}
 use Rattle.std.specs.Prelude.{◌&&◌, is_none, slice_set}
+use Rattle.pt_args.specs.Edits.{edit_by}
+use Rattle.pt_args.specs.Plans.{first_walked}
+use Rattle.pt_args.specs.kr_calls.CallTable.{line}
+use Rattle.pt_args.specs.kr_calls.PathTable.{PathUse}
 use Rattle.pt_args.specs.kr_calls.declared.request.Request.{Request}
 use Rattle.pt_args.specs.kr_calls.declared.request.Request.TheVariants as call
 use Rattle.law_turns.specs.pt_results.Notes.{noted, tags_after}
 use Rattle.law_edits.specs.pt_faker.Faking.{has_answered_zero}
+use Rattle.law_edits.specs.pt_ident.IdentityTable.{IdentityTable}
 use Rattle.law_edits.specs.pt_faker.Stopping.{IsThere, Stopped, after_request, register_at, with_register}
 use Rattle.law_turns.specs.kr_stops.Stopped.{edited, image_at}
-use Rattle.law_edits.specs.pt_tracer.Planning.{nowhere, planned}
+use Rattle.law_edits.specs.pt_tracer.Planning.{has_shelf, nowhere, planned, stack_at, texts_at}
 use Rattle.law_edits.specs.pt_tracer.Registers.{arguments_at, given_back}
-use Rattle.law_edits.specs.pt_tracer.Watched.{Tracing, after_decoding, after_pending, after_plan, answer_at, awaiting, begin_program, by_identities, give_back, if_answered, is_execve, returned, shown_to, with_pending, with_tags, without_pending}
+use Rattle.law_edits.specs.pt_tracer.Watched.{Tracing, after_decoding, after_pending, after_plan, answer_at, awaiting, begin_program, by_identities, give_back, if_answered, is_execve, remembered_in, returned, shown_to, with_identities, with_pending, with_tags, without_pending}
 use Rattle.law_edits.specs.pt_tracer.declared.pending.Pending.{Pending}
+use Rattle.law_edits.specs.pt_tracer.declared.plan.Plan.{Plan}
 use Rattle.law_edits.specs.pt_tracer.declared.registers.Arguments.{Arguments}
 use Rattle.law_turns.specs.Pathless.{IsPathless}
+use Rattle.law_turns.proofs.PathlessLemmas.{no_paths}
 use Rattle.law_stops.specs.Passing.{EntriesPass, ExitsPass}
 
 -- ---- the first stop
 
 module _ (x : Tracing) (t : Stopped) where
+  -- what is planned for a call that isn't answered, and of which no place is noted, by its first path
+  abbrev planned_along : Request → Option PathUse → Plan × Stopped
+  planned_along r u = (record { edit = edit_by (stack_at t) (has_shelf t) (first_walked (texts_at x.bindings x.tags t) t.pid r u); led = nowhere }, t)
+
   -- nothing is planned for it
   plan_passes : (r : Request) → IsPathless r → after_plan x t r (planned x.bindings x.tags t r) ≡ (with_pending (map.insert x.pending t.pid (awaiting (arguments_at t) r nowhere None)) x, t)
   plan_passes (call.Openat dirfd path flags mode) kind = absurd kind
-  plan_passes (call.Mkdirat dirfd path mode) kind = absurd kind
-  plan_passes (call.Unlinkat dirfd path flags) kind = absurd kind
-  plan_passes (call.Symlinkat text dirfd path) kind = absurd kind
-  plan_passes (call.Linkat olddir old newdir new flags) kind = absurd kind
-  plan_passes (call.Renameat2 olddir old newdir new) kind = absurd kind
-  plan_passes (call.Faccessat dirfd path mode) kind = absurd kind
-  plan_passes (call.Fchmodat dirfd path mode) kind = absurd kind
-  plan_passes (call.Fchownat dirfd path uid gid flags) kind = absurd kind
-  plan_passes (call.Newfstatat dirfd path buf flags) kind = absurd kind
-  plan_passes (call.Readlinkat dirfd path buf size) kind = absurd kind
   plan_passes (call.Chdir path) kind = absurd kind
   plan_passes (call.Chroot path) kind = absurd kind
-  plan_passes (call.Getcwd buf size) kind = absurd kind
   plan_passes (call.Execve path args env) kind = absurd kind
-  plan_passes _ kind = refl
+  plan_passes (call.Readlinkat dirfd path buf size) kind = absurd kind
+  plan_passes (call.Getcwd buf size) kind = absurd kind
+  plan_passes r kind = ap (λ (u : Option PathUse). after_plan x t r (planned_along r u)) (no_paths (line r).told kind 0)
 
 pub entries_pass : EntriesPass
 entries_pass x t r none is kind =
@@ -87,10 +89,16 @@ module _ (x : Tracing) (t : Stopped) (p : Pending) (none : x.identities ≡ None
   back : returned p t ≡ t
   back = ap (λ a. if_answered a (given_back p.passed t)) answer ∙ arguments_back t there p.passed same
 
+  -- what is kept by the process as its registers are given back
+  abbrev noting : Stopped → Tracing
+  noting u = with_tags (tags_after x.tags t.pid (noted p.request p.led.index (answer_at u))) y
+
+  abbrev left : Option IdentityTable → Stopped → Tracing × Stopped
+  left identities u = let shown = shown_to x.user identities p u in (with_identities (remembered_in identities p t.handed.target (register_at shown 10)) (noting u), shown)
+
   gives : give_back y p t ≡ (with_tags (tags_after x.tags t.pid (noted p.request p.led.index (answer_at t))) y, t)
   gives =
-      ap (λ u. (with_tags (tags_after x.tags t.pid (noted p.request p.led.index (answer_at u))) y, shown_to x.user x.identities p u)) back
-      ∙ ap (λ identities. (with_tags (tags_after x.tags t.pid (noted p.request p.led.index (answer_at t))) y, shown_to x.user identities p t)) none
+      ap (left x.identities) back ∙ ap (λ identities. left identities t) none ∙ sym (ap (λ identities. (with_identities identities (noting t), t)) none)
 
 pub exits_pass : ExitsPass
 exits_pass x t p none at kind answer same there = ap (after_pending (without_pending t.pid x) t) at ∙ begins x t p none kind answer same there ∙ gives x t p none kind answer same there

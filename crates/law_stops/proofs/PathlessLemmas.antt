@@ -9,15 +9,18 @@ use Rattle.law_edits.specs.kr_view.View.{Row, plain}
 use Rattle.pt_args.specs.kr_calls.Decoding.{Decoded}
 use Rattle.pt_args.specs.kr_calls.declared.request.Request.{Request}
 use Rattle.pt_args.specs.kr_calls.declared.request.Request.TheVariants as call
-use Rattle.law_edits.specs.kr_model.State.{Image, Process, State, process}
+use Rattle.law_edits.specs.kr_model.Known.{known}
+use Rattle.law_edits.specs.kr_model.State.{Image, Process, State, image_layout, process}
 use Rattle.law_turns.specs.kr_steps.Calls.{LastsLawful}
 use Rattle.law_turns.specs.kr_turns.Breaking.{plain_rule}
-use Rattle.law_turns.specs.kr_turns.PlainCall.{Came, plain_call, refusal_told}
+use Rattle.law_turns.specs.kr_turns.PlainCall.{Came, operated, plain_call, refusal_told}
 use Rattle.law_turns.specs.kr_turns.Shelving.{lacks_in}
+use Rattle.law_turns.specs.kr_turns.Target.{inode_instead, instead_of, target_of}
 use Rattle.law_turns.specs.kr_stops.Stopped.{Stopped}
 use Rattle.law_turns.specs.kr_turns.Turn.{Machine, Tally, after_exit, after_plain, called, calling, watched_call, with_broken}
 use Rattle.law_turns.specs.kr_stops.Watching.{unwatched}
 use Rattle.law_turns.specs.kr_turns.declared.plain.CallEnd.TheVariants as end
+use Rattle.law_turns.proofs.kr_turns.PlainLemmas.{no-exec-requested}
 use Rattle.law_turns.specs.law_places.Matching.{IsMatch}
 use Rattle.law_edits.specs.pt_faker.Faking.{Faking, after_decoding as faked_decoding, after_due, due_of, entered as faked_entry, faker, is_root, without_due}
 use Rattle.law_edits.specs.pt_faker.Stopping.{after_request, decoded_at}
@@ -26,8 +29,10 @@ use Rattle.law_edits.specs.pt_tracer.Watched.{Tracing, after_decoding, after_pen
 use Rattle.law_turns.specs.Calls.{CameAlike, decoded_by, decoded_in, tags_behind}
 use Rattle.law_turns.specs.Pathless.{IsPathless}
 use Rattle.law_turns.proofs.CallLemmas.{by_request}
-use Rattle.law_turns.proofs.PathlessLemmas.{no_exec, pathless_calls_come_alike}
-use Rattle.law_turns.proofs.RunLemmas.{lives_too}
+use Rattle.law_turns.proofs.PathlessLemmas.{no_exec, no_targets, pathless_calls_come_alike}
+use Rattle.law_turns.proofs.PickLemmas.{same_known}
+use Rattle.law_turns.proofs.RunLemmas.{decoded_alike, lives_too}
+use Rattle.law_turns.proofs.UnreadLemmas.{calm_unread}
 use Rattle.law_stops.specs.Turning.{ComeFromCall, HasNoPath}
 use Rattle.law_stops.proofs.CallLemmas as before
 use Rattle.law_stops.proofs.CallLemmas.{end_status, pathless_calls_go_together, unwatched_end}
@@ -35,12 +40,20 @@ use Rattle.law_stops.proofs.PassLemmas.{entries_pass}
 use Rattle.law_stops.specs.Calls.{FakedCallsGoTogether, GoesUntold}
 use Rattle.law_stops.specs.Editing.{IsEditedAlike}
 use Rattle.law_stops.specs.Going.{ComeFromFakedCall, ComeToFakedCall, StandAlike, untold}
-use Rattle.law_stops.specs.Reading.{RootIsKnown}
+use Rattle.law_stops.specs.Reading.{RootIsKnown, TargetIsKnown}
 use Rattle.law_stops.proofs.EntryLemmas as entry
 use Rattle.law_stops.proofs.GoingLemmas.{ExitAlike, by_end}
 use Rattle.law_stops.proofs.IdentityLemmas.{identity_calls_go_together}
 use Rattle.law_stops.proofs.KernelLemmas.{kernels_calls_go_together}
 use Rattle.law_stops.proofs.ReadLemmas.{edits_read_unmarked}
+
+-- where the inodes are the same, they are known alike
+known_target : (r : Request) (came : Came) (target : Option ℕ) → came.handed.target ≡ target → TargetIsKnown r came target
+known_target (call.Fchown fd uid gid) came target same = same
+known_target (call.Fchownat dirfd path uid gid flags) came target same = same
+known_target (call.Fchmod fd mode) came target same = same
+known_target (call.Fchmodat dirfd path mode) came target same = same
+known_target _ came target same = tt
 
 -- it is no chroot(2)
 no_root : (r : Request) (came : Came) (at_root : Bool) → IsPathless r → RootIsKnown r came at_root
@@ -119,15 +132,43 @@ module _ (table : List Row) (made pid : ℕ) (m : Machine Faking) (n : Machine T
           ∙ ap (λ (e : Tracing × Stopped). plain_call plain pid e.1.state) (entries_pass (untold n).watcher stop r refl (reads_stop ∙ reads) kind)
           ∙ ap (λ (t : Stopped). plain_call plain pid t.state) after_there
 
+      -- both know alike of which inode it sets an owner or a mode
+      came_operated : plain_call table pid s1 ≡ operated table pid r (decoded_in pid p1 s1)
+      came_operated =
+          by_request table pid table s1 p1 (Ok r) (entry.lives1 table made pid m n c p q lives also) reads ∙ sym (no-exec-requested table pid (decoded_in pid p1 s1) r (no_exec r kind))
+
+      reads_then : (decoded_by q2).reply ≡ Ok r
+      reads_then = sym (before.requests_then table made pid m (untold n) (entry.comes table made pid m n c p q lives also) p q lives also unwatched_calm) ∙ reads
+
+      then_operated : plain_call plain pid w2 ≡ operated plain pid r (decoded_in pid q2 w2)
+      then_operated =
+          by_request table pid plain w2 q2 (Ok r) (before.can_then table made pid m (untold n) (entry.comes table made pid m n c p q lives also) p q lives also).lives reads_then
+          ∙ sym (no-exec-requested plain pid (decoded_in pid q2 w2) r (no_exec r kind))
+
+      match_decoded : IsMatch table x.tags (decoded_in pid p1 s1) (decoded_in pid q2 w2)
+      match_decoded =
+          (decoded_alike table x.tags pid s1 w2 p1 q2 (before.match2 table made pid m (untold n) (entry.comes table made pid m n c p q lives also) p q lives also)
+          (entry.lives1 table made pid m n c p q lives also) (before.can_then table made pid m (untold n) (entry.comes table made pid m n c p q lives also) p q lives also).lives
+          (calm_unread table pid (entry.lacks table made pid m n c p q lives also) s1 p1 (entry.lives1 table made pid m n c p q lives also) calm_call)).matches
+
+      same_target : (plain_call table pid s1).handed.target ≡ (plain_call plain pid w2).handed.target
+      same_target =
+          ap (λ (came : Came). came.handed.target) came_operated
+          ∙ ap (target_of r (known image_layout pid (decoded_in pid p1 s1))) (no_targets table pid (decoded_in pid p1 s1) r kind)
+          ∙ ap (λ k. inode_instead k (instead_of r)) (same_known table x.tags (decoded_in pid p1 s1) (decoded_in pid q2 w2) match_decoded pid)
+          ∙ sym (ap (target_of r (known image_layout pid (decoded_in pid q2 w2))) (no_targets plain pid (decoded_in pid q2 w2) r kind))
+          ∙ sym (ap (λ (came : Came). came.handed.target) then_operated)
+
       goes_untold : GoesUntold table pid m n r made
       goes_untold = record {
         ends = ap (λ (came : Came). came.end) came_here_is ∙ alike.ends ∙ sym (ap (λ (came : Came). came.end) came_there_is);
         children = ap (λ (came : Came). came.child) came_here_is ∙ alike.children ∙ sym (ap (λ (came : Came). came.child) came_there_is);
         edit =
             let at_root = (planned x.bindings x.tags (after_request (calling 0 pid w)) r).0.led.at_root in
-            subst (λ (came : Came). IsEditedAlike f (called pid came) at_root (due_of (is_root f) r)) (sym came_here_is)
-            (edits_read_unmarked table made pid (entry.lacks table made pid m n c p q lives also) at_root s1 p1 f r (entry.can table made pid m n c p q lives also) (record { bytes = (entry.can table made pid m n c p q lives also).holds; registers = (c.sized pid p lives).registers }) reads (no_exec r kind) calm_call
-            (no_root r (plain_call table pid s1) at_root kind));
+            let target = (plain_call plain pid (entered (untold n).watcher (calling 0 pid w)).1.state).handed.target in
+            subst (λ (came : Came). IsEditedAlike f (called pid came) at_root target (due_of (is_root f) r)) (sym came_here_is)
+            (edits_read_unmarked table made pid (entry.lacks table made pid m n c p q lives also) at_root target s1 p1 f r (entry.can table made pid m n c p q lives also) (record { bytes = (entry.can table made pid m n c p q lives also).holds; registers = (c.sized pid p lives).registers }) reads (no_exec r kind) calm_call
+            (no_root r (plain_call table pid s1) at_root kind) (known_target r (plain_call table pid s1) target (same_target ∙ sym (ap (λ (came : Came). came.handed.target) came_there_is))));
         together = together_untold (subst HasNoPath (sym reads) kind);
       }
 
@@ -200,7 +241,7 @@ module _ (table : List Row) (made pid : ℕ) (m : Machine Faking) (n : Machine T
       mine = ap (after_due (without_due pid f1) (called pid came)) (get-remove_same f.dues pid);
       yours = nothing_pending x;
       without = nothing_pending (with_identities None x);
-      goes = record { bindings = c.goes.bindings; user = c.goes.user; identities = c.goes.identities };
+      goes = λ tags some alike. record { bindings = c.goes.bindings; user = c.goes.user; identities = c.goes.identities };
       lives = λ some. some;
       edits = λ tags some alike. alike;
     }

@@ -1,6 +1,6 @@
 -- Behind a stat(2) that is answered, none of the bytes that it wrote is marked.
 use Rattle.std.proofs.Common.{◌≡◌, ℕ, Bool, true, false, cond, List, [], ◌∷◌, length, Option, Some, None, Ok, get_or, refl, sym, ap, subst, ◌∙◌, ℤ, arith}
-use Rattle.std.specs.Prelude.{◌==◌, ◌||◌, pos, replicate}
+use Rattle.std.specs.Prelude.{◌%◌, ◌==◌, ◌||◌, pos, replicate}
 use Rattle.std.specs.Option.{option_map_or}
 use Rattle.std.proofs.Math.Seq.{length-sets, sets}
 use Rattle.std.proofs.lemmas.List.{length-replicate}
@@ -44,7 +44,10 @@ use Rattle.law_turns.proofs.kr_turns.PlainLemmas.{no-exec-requested, no-exec-rul
 use Rattle.law_edits.specs.pt_ident.Identity.{refusal}
 use Rattle.law_edits.specs.pt_faker.Faking.{Faking, due_of, has_answered_zero, if_root, is_root, show_owner, word_of}
 use Rattle.law_edits.specs.pt_faker.Stopping.{Stopped, memory_at}
-use Rattle.law_edits.specs.pt_faker.declared.due.Due.TheVariants.{ForgivesOwner, ForgivesRoot}
+use Rattle.law_edits.specs.pt_ident.pt_owner.Owners.{modes}
+use Rattle.law_edits.specs.pt_ident.pt_owner.declared.change.Change.{Change}
+use Rattle.law_edits.specs.pt_ident.pt_owner.declared.change.Change.TheVariants.{Mode, Own}
+use Rattle.law_edits.specs.pt_faker.declared.due.Due.TheVariants.{ForgivesRoot, Remembers}
 use Rattle.law_turns.proofs.law_places.InUseLemmas.{neither}
 use Rattle.law_turns.specs.Calls.{decoded_by, decoded_in}
 use Rattle.law_turns.specs.Lasting.{CanBeCalled}
@@ -58,7 +61,7 @@ use Rattle.law_stops.proofs.CallLemmas.{own_image}
 use Rattle.law_stops.proofs.RegisterLemmas.{put_there}
 use Rattle.law_edits.proofs.ShowingLemmas.{owner-unread, written-unmarked}
 use Rattle.law_stops.specs.Editing.{IsEditedAlike}
-use Rattle.law_stops.specs.Reading.{EditsReadUnmarked, RootIsKnown}
+use Rattle.law_stops.specs.Reading.{EditsReadUnmarked, RootIsKnown, TargetIsKnown}
 
 -- ---- rows that write a stat at an address, or refuse
 
@@ -150,7 +153,7 @@ is_told at action (tells s) m whole = by (allows_uses m.pages at (length (stat_l
 
 -- ---- behind such a call
 
-module _ (table : List Row) (made pid : ℕ) (no_shelf at_root : Bool) (s : State ℕ Image) (p : Process ℕ Image) (f : Faking) (can : CanBeCalled table made pid s p) (sized : IsSized p.image) (calm : plain_rule 1 table pid no_shelf s ≡ None) where
+module _ (table : List Row) (made pid : ℕ) (no_shelf at_root : Bool) (target : Option ℕ) (s : State ℕ Image) (p : Process ℕ Image) (f : Faking) (can : CanBeCalled table made pid s p) (sized : IsSized p.image) (calm : plain_rule 1 table pid no_shelf s ≡ None) where
   abbrev at : State ℕ Image
   at = decoded_in pid p s
 
@@ -210,29 +213,32 @@ module _ (table : List Row) (made pid : ℕ) (no_shelf at_root : Bool) (s : Stat
           ∙ sym (ap (λ (image : Image). get_or image.regs.x 10 0 == 0) own)
           ∙ zero
 
-      shows_unread : has_answered_zero (called pid (plain_call table pid s)) ≡ true → (carried_out (show_owner f.user f.identities.uid f.identities.gid place) (memory_at (called pid (plain_call table pid s)))).memory.read_marked ≡ false
+      shows_unread : has_answered_zero (called pid (plain_call table pid s)) ≡ true → (carried_out (show_owner f.user f.identities place) (memory_at (called pid (plain_call table pid s)))).memory.read_marked ≡ false
       shows_unread zero =
-          ap (λ (image : Image). (carried_out (show_owner f.user f.identities.uid f.identities.gid place) image.memory).memory.read_marked) own
-          ∙ owner-unread f.user f.identities.uid f.identities.gid place left.memory (is.unmarked (zero_told zero)) unread
+          ap (λ (image : Image). (carried_out (show_owner f.user f.identities place) image.memory).memory.read_marked) own
+          ∙ owner-unread f.user f.identities place left.memory (is.unmarked (zero_told zero)) unread
 
-  owner_forgiven : (t : Stopped) (root : Bool) → IsEditedAlike f t at_root (if_root root ForgivesOwner)
-  owner_forgiven t true = tt
-  owner_forgiven t false = tt
+  remembered : (t : Stopped) (root : Bool) (change : Change) → t.handed.target ≡ target → IsEditedAlike f t at_root target (if_root root (Remembers change))
+  remembered t true change same = same
+  remembered t false change same = tt
 
-  root_forgiven : (t : Stopped) (root : Bool) → t.handed.at_root ≡ at_root → IsEditedAlike f t at_root (if_root root ForgivesRoot)
+  root_forgiven : (t : Stopped) (root : Bool) → t.handed.at_root ≡ at_root → IsEditedAlike f t at_root target (if_root root ForgivesRoot)
   root_forgiven t true same = same
   root_forgiven t false same = tt
 
-  edit_read : (r : Request) → (decoded_by p).reply ≡ Ok r → IsNoExec r → RootIsKnown r (plain_call table pid s) at_root → IsEditedAlike f (called pid (plain_call table pid s)) at_root (due_of (is_root f) r)
-  edit_read (call.Fchown fd uid gid) reads kind same = owner_forgiven (called pid (plain_call table pid s)) (is_root f)
-  edit_read (call.Fchownat dirfd path uid gid flags) reads kind same = owner_forgiven (called pid (plain_call table pid s)) (is_root f)
-  edit_read (call.Chroot path) reads kind same = root_forgiven (called pid (plain_call table pid s)) (is_root f) same
-  edit_read (call.Fstat fd buf) reads kind same = shows_unread (call.Fstat fd buf) reads kind buf (fstat_tells (known image_layout pid at) buf fd)
-  edit_read (call.Newfstatat dirfd path buf flags) reads kind same =
+  edit_read : (r : Request) → (decoded_by p).reply ≡ Ok r → IsNoExec r → RootIsKnown r (plain_call table pid s) at_root → TargetIsKnown r (plain_call table pid s) target
+      → IsEditedAlike f (called pid (plain_call table pid s)) at_root target (due_of (is_root f) r)
+  edit_read (call.Fchown fd uid gid) reads kind same inode = remembered (called pid (plain_call table pid s)) (is_root f) (Own uid gid) inode
+  edit_read (call.Fchownat dirfd path uid gid flags) reads kind same inode = remembered (called pid (plain_call table pid s)) (is_root f) (Own uid gid) inode
+  edit_read (call.Fchmod fd mode) reads kind same inode = remembered (called pid (plain_call table pid s)) (is_root f) (Mode (mode % modes)) inode
+  edit_read (call.Fchmodat dirfd path mode) reads kind same inode = remembered (called pid (plain_call table pid s)) (is_root f) (Mode (mode % modes)) inode
+  edit_read (call.Chroot path) reads kind same inode = root_forgiven (called pid (plain_call table pid s)) (is_root f) same
+  edit_read (call.Fstat fd buf) reads kind same inode = shows_unread (call.Fstat fd buf) reads kind buf (fstat_tells (known image_layout pid at) buf fd)
+  edit_read (call.Newfstatat dirfd path buf flags) reads kind same inode =
       let r = call.Newfstatat dirfd path buf flags in
       shows_unread r reads kind buf (newfstatat_tells (known image_layout pid at) buf dirfd path (seen table pid at r))
-  edit_read (call.Execve path args env) reads kind same = absurd kind
-  edit_read _ reads kind same = tt
+  edit_read (call.Execve path args env) reads kind same inode = absurd kind
+  edit_read _ reads kind same inode = tt
 
 pub edits_read_unmarked : EditsReadUnmarked
-edits_read_unmarked table made pid no_shelf at_root s p f r can sized reads kind calm same = edit_read table made pid no_shelf at_root s p f can sized calm r reads kind same
+edits_read_unmarked table made pid no_shelf at_root target s p f r can sized reads kind calm same inode = edit_read table made pid no_shelf at_root target s p f can sized calm r reads kind same inode

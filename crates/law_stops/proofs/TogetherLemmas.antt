@@ -33,8 +33,8 @@ use Rattle.law_turns.specs.kr_turns.Shelving.{lacks_in, shelved_in}
 use Rattle.law_turns.specs.kr_stops.Stopped.{Stopped, image_in}
 use Rattle.law_turns.specs.kr_turns.Turn.{Machine, after_born, after_event, by_pick, called, calling, turn, watched_call, with_broken}
 use Rattle.law_turns.specs.kr_stops.Watching.{unwatched}
-use Rattle.law_edits.specs.pt_faker.Stopping.{after_request, decoded_at}
-use Rattle.law_edits.specs.pt_tracer.Watched.{Tracing, after_decoding, after_pending, begin_as, begin_program, by_identities, entered, exited, give_back, has_begun, tracer, with_tags, without_pending}
+use Rattle.law_edits.specs.pt_faker.Stopping.{after_request, decoded_at, register_at}
+use Rattle.law_edits.specs.pt_tracer.Watched.{Tracing, after_decoding, after_pending, begin_as, begin_program, by_identities, entered, exited, give_back, has_begun, remembered_in, returned, shown_to, tracer, with_tags, without_pending}
 use Rattle.law_edits.specs.pt_tracer.declared.pending.Pending.{Pending}
 use Rattle.pt_args.specs.pt_bind.Tags.{with_tag}
 use Rattle.pt_args.specs.pt_bind.declared.slot.Slot.TheVariants.{Exe}
@@ -73,7 +73,8 @@ module _ (table : List Row) where
     where
       begun : (p : Pending) (b : Bool) → Traces table (cond b (begin_program (without_pending t.pid x) p t) (give_back (without_pending t.pid x) p t)).0
       begun p true = subst (λ i. Traces table (begin_as (with_tags (with_tag x.tags t.pid Exe p.led.index) (without_pending t.pid x)) t i).0) (sym own.identities) (record { bindings = own.bindings; identities = own.identities })
-      begun p false = record { bindings = own.bindings; identities = own.identities }
+      begun p false =
+          record { bindings = own.bindings; identities = ap (λ identities. remembered_in identities p t.handed.target (register_at (shown_to x.user identities p (returned p t)) 10)) own.identities }
 
       by : (o : Option Pending) → Traces table (after_pending (without_pending t.pid x) t o).0
       by None = record { bindings = own.bindings; identities = own.identities }

@@ -17,7 +17,7 @@ use Rattle.law_turns.specs.Calls.{decoded_by}
 use Rattle.law_stops.specs.Turning.{ComeFromCall}
 use Rattle.law_stops.specs.Calls.{came_here, came_there}
 use Rattle.law_stops.specs.Going.{ComeFromFakedCall, ComeToFakedCall, untold}
-use Rattle.law_stops.specs.Reading.{RootIsKnown}
+use Rattle.law_stops.specs.Reading.{RootIsKnown, TargetIsKnown}
 
 -- a call that neither waits nor ends its caller, and makes no child
 pub record JustAnswers (came : Came) : Type 0 where
@@ -33,10 +33,11 @@ abbrev pub PathCallsJustAnswer : Type 0
 PathCallsJustAnswer = (rows : List Row) (pid : ℕ) (s : State ℕ Image) (p : Process ℕ Image) → process pid s ≡ Some p → IsAlongPaths (decoded_by p).reply → JustAnswers (plain_call rows pid s)
 
 -- such a call keeps both machines together where it does so without an identity, the plain kernel answers it, too, and both watchers know
--- alike whether a chroot(2) led to the root
+-- alike whether a chroot(2) led to the root, and of which inode an owner or a mode is set
 pub record GoesAlongUntold (table : List Row) (made pid : ℕ) (m : Machine Faking) (n : Machine Tracing) (r : Request) : Type 0 where
   pub answers : JustAnswers (came_there table pid m n r)
   pub root : RootIsKnown r (came_here table pid m n r) (planned n.watcher.bindings n.watcher.tags (after_request (calling 0 pid n.state)) r).0.led.at_root
+  pub target : TargetIsKnown r (came_here table pid m n r) (came_there table pid m n r).handed.target
   pub together : ComeFromCall table made (watched_call unwatched 1 table pid m) (watched_call tracer 0 plain pid (untold n))
 
 abbrev pub PathCallsGoTogether : Type 0

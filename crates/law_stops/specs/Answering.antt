@@ -3,8 +3,10 @@ use Rattle.std.specs.Prelude.{◌≡◌, ℕ, ℤ, true, List, [], None, Some, O
 use Rattle.pt_args.specs.rv_mem.Actions.{AreEqualUnmarked}
 use Rattle.law_turns.specs.pt_results.Notes.{noted, tags_after}
 use Rattle.law_edits.specs.kr_view.View.{Row, plain}
+use Rattle.pt_args.specs.kr_calls.CallTable.{line}
 use Rattle.pt_args.specs.kr_calls.declared.request.Request.{Request}
 use Rattle.law_edits.specs.kr_model.declared.outcome.Outcome.TheVariants.{Answer}
+use Rattle.law_turns.specs.kr_turns.Target.{LooksUpOne}
 use Rattle.law_turns.specs.kr_turns.Turn.{Machine, calling, watched_call}
 use Rattle.law_turns.specs.kr_stops.Watching.{unwatched}
 use Rattle.law_edits.specs.pt_faker.Stopping.{decoded_at, memory_at}
@@ -22,6 +24,8 @@ module _ {S : Type 0} (table : List Row) (pid : ℕ) (m : Machine S) (n : Machin
   pub record IsAnsweredAlike (answer : ℤ) : Type 0 where
     pub decoded : (decoded_at (calling 1 pid m.state)).reply ≡ Ok r
     pub kind : is_told_of_paths r ≡ true
+    -- it is none that looks up one path
+    pub apart : LooksUpOne (line r).told → ⊥
     pub answers : (applied (edit_for (texts_at n.watcher.bindings n.watcher.tags (at_first_stop pid n)) (at_first_stop pid n) r) (at_first_stop pid n)).answer ≡ Some answer
     pub replies : (done_in pid r (told_here table pid m n r) (here table pid m n r)).reply ≡ record { outcome = Answer answer; changes = [] }
     -- what both have written is the same, but for marked bytes

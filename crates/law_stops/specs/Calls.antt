@@ -34,7 +34,7 @@ module _ (table : List Row) (pid : ℕ) (m : Machine Faking) (n : Machine Tracin
   pub record GoesUntold (made : ℕ) : Type 0 where
     pub ends : came_here.end ≡ came_there.end
     pub children : came_here.child ≡ came_there.child
-    pub edit : IsEditedAlike m.watcher (called pid came_here) (planned n.watcher.bindings n.watcher.tags (after_request (calling 0 pid n.state)) r).0.led.at_root (due_of (is_root m.watcher) r)
+    pub edit : IsEditedAlike m.watcher (called pid came_here) (planned n.watcher.bindings n.watcher.tags (after_request (calling 0 pid n.state)) r).0.led.at_root came_there.handed.target (due_of (is_root m.watcher) r)
     pub together : ComeFromCall table made (watched_call unwatched 1 table pid m) (watched_call tracer 0 plain pid (untold n))
 
 -- such a call keeps both machines together, with an identity, too, where it breaks no calm rule

@@ -2,13 +2,16 @@
 use Rattle.std.specs.Prelude.{◌≡◌, ℕ, List, None, Ok}
 use Rattle.law_turns.specs.pr_base.declared.errno.Errno.{Errno}
 use Rattle.law_edits.specs.kr_view.View.{Row, plain}
+use Rattle.pt_args.specs.kr_calls.CallTable.{line}
 use Rattle.pt_args.specs.kr_calls.declared.request.Request.{Request}
 use Rattle.law_edits.specs.kr_model.Known.{known}
 use Rattle.law_edits.specs.kr_model.Operation.{operation}
 use Rattle.law_edits.specs.kr_model.Reply.{refuse}
+use Rattle.law_edits.specs.kr_model.Seen.{WalkFails}
 use Rattle.law_edits.specs.kr_model.State.{image_layout}
 use Rattle.law_edits.specs.kr_model.Walks.{seen}
 use Rattle.law_turns.specs.kr_steps.Calls.{IsNoExec}
+use Rattle.law_turns.specs.kr_turns.Target.{LooksUpOne}
 use Rattle.law_turns.specs.kr_turns.Turn.{Machine, calling, watched_call}
 use Rattle.law_turns.specs.kr_stops.Watching.{unwatched}
 use Rattle.pt_args.specs.declared.edit.Edit.TheVariants.{Cancel}
@@ -30,6 +33,8 @@ pub record IsCancelledAlike {S : Type 0} (table : List Row) (pid : ℕ) (m : Mac
   pub kind : IsNoExec r
   pub cancels : edit_for (texts_at n.watcher.bindings n.watcher.tags (at_first_stop pid n)) (at_first_stop pid n) r ≡ Cancel e
   pub refuses : operation pid r (seen table pid (at_call pid m).state r) (known image_layout pid (at_call pid m).state) ≡ refuse e
+  -- if it looks up one path, the walk along it fails
+  pub lost : LooksUpOne (line r).told → (f : Errno) × (seen table pid (at_call pid m).state r ≡ WalkFails f)
 
 -- such a call and its stops keep the match, where it breaks no calm rule
 abbrev pub CancelledCallsGoTogether : Type 0 → Type 0

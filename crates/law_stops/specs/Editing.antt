@@ -8,7 +8,7 @@ use Rattle.law_turns.specs.kr_stops.Stopped.{Stopped}
 use Rattle.law_turns.specs.kr_stops.declared.handed.Handed.{Handed}
 use Rattle.law_edits.specs.pt_ident.Identity.{after_exec}
 use Rattle.law_edits.specs.pt_ident.IdentityTable.{identity_at}
-use Rattle.law_edits.specs.pt_faker.Faking.{Faking, after_due, begin_program, has_answered_zero, show_identity, show_owner, stack_register}
+use Rattle.law_edits.specs.pt_faker.Faking.{Faking, after_due, answer_register, begin_program, has_answered_zero, remembered_of, show_identity, show_owner, stack_register}
 use Rattle.law_edits.specs.pt_faker.Stopping.{memory_at, register_at}
 use Rattle.law_edits.specs.pt_faker.declared.due.Due.{Due}
 use Rattle.law_edits.specs.pt_faker.declared.due.Due.TheVariants as due
@@ -20,22 +20,24 @@ abbrev pub stop_in : ℕ → State ℕ Image → Handed → Stopped
 stop_in pid s handed = record { state = s; pid = pid; handed = handed }
 
 -- an edit of a call that the kernel carried out, other than of a new program: it reads no marked byte on the machine with mounts, and both
--- watchers know alike whether the path of the call led to the root
-abbrev pub IsEditedAlike : Faking → Stopped → (at_root : Bool) → Option Due → Type 0
-IsEditedAlike f t at_root None = Unit {0}
-IsEditedAlike f t at_root (Some due.ForgivesOwner) = Unit {0}
-IsEditedAlike f t at_root (Some due.ForgivesRoot) = t.handed.at_root ≡ at_root
-IsEditedAlike f t at_root (Some (due.ShowsOwner at)) =
-    has_answered_zero t ≡ true → (carried_out (show_owner f.user f.identities.uid f.identities.gid at) (memory_at t)).memory.read_marked ≡ false
-IsEditedAlike f t at_root (Some (due.Tells number answer)) = ⊥
-IsEditedAlike f t at_root (Some due.BeginsProgram) = ⊥
+-- watchers know alike whether the path of the call led to the root, and to which inode
+abbrev pub IsEditedAlike : Faking → Stopped → (at_root : Bool) → (target : Option ℕ) → Option Due → Type 0
+IsEditedAlike f t at_root target None = Unit {0}
+IsEditedAlike f t at_root target (Some (due.Remembers change)) = t.handed.target ≡ target
+IsEditedAlike f t at_root target (Some due.ForgivesRoot) = t.handed.at_root ≡ at_root
+IsEditedAlike f t at_root target (Some (due.ShowsOwner at)) =
+    has_answered_zero t ≡ true → (carried_out (show_owner f.user f.identities at) (memory_at t)).memory.read_marked ≡ false
+IsEditedAlike f t at_root target (Some (due.Tells number answer)) = ⊥
+IsEditedAlike f t at_root target (Some due.BeginsProgram) = ⊥
 
--- such an edit leaves states that match as such
+-- such an edit leaves states that match as such, and both watchers remember the same
 abbrev pub EditsKeepMatches : Type 0
 EditsKeepMatches =
-    (table : List Row) (tags : TagTable) (made pid : ℕ) (s w : State ℕ Image) (handed other : Handed) (also_root : Bool) (f : Faking) (edit : Option Due)
-    → IsSome (process pid s) → StandAlike table tags made s w → IsEditedAlike f (stop_in pid s handed) also_root edit
-    → StandAlike table tags made (after_due f (stop_in pid s handed) edit).1.state (shown_due f.user f.identities also_root edit (stop_in pid w other)).state
+    (table : List Row) (tags : TagTable) (made pid : ℕ) (s w : State ℕ Image) (handed other : Handed) (also_root : Bool) (also_target : Option ℕ) (f : Faking) (edit : Option Due)
+    → IsSome (process pid s) → StandAlike table tags made s w → IsEditedAlike f (stop_in pid s handed) also_root also_target edit
+    → let mine = after_due f (stop_in pid s handed) edit in
+    let shown = shown_due f.user f.identities also_root edit (stop_in pid w other) in
+    StandAlike table tags made mine.1.state shown.state × (mine.0.identities ≡ remembered_of edit also_target (register_at shown answer_register) f.identities)
 
 -- a new program is told who it is, which reads no marked byte where none was marked
 abbrev pub ReadsNoMarkAtBeginning : Faking → Stopped → Type 0

@@ -5,6 +5,7 @@ use Rattle.law_turns.specs.pr_base.declared.errno.Errno.{Errno}
 use Rattle.pt_args.specs.declared.edit.Edit.TheVariants.{Pass}
 use Rattle.law_turns.specs.pt_results.Notes.{noted, tags_after}
 use Rattle.law_edits.specs.kr_view.View.{Row, plain}
+use Rattle.pt_args.specs.kr_calls.CallTable.{line}
 use Rattle.pt_args.specs.kr_calls.declared.request.Request.{Request}
 use Rattle.law_turns.specs.law_allowed.Told.{mounts_walked}
 use Rattle.law_edits.specs.kr_model.Applied.{Mounts}
@@ -16,6 +17,7 @@ use Rattle.law_edits.specs.kr_model.Seen.{Seen}
 use Rattle.law_edits.specs.kr_model.State.{Image, State, image_layout}
 use Rattle.law_edits.specs.kr_model.Walks.{seen, targets_of}
 use Rattle.law_edits.specs.kr_model.declared.outcome.Outcome.TheVariants.{Answer}
+use Rattle.law_turns.specs.kr_turns.Target.{LooksUpOne}
 use Rattle.law_turns.specs.kr_turns.Turn.{Machine, calling, watched_call}
 use Rattle.law_turns.specs.kr_stops.Watching.{unwatched}
 use Rattle.law_edits.specs.pt_faker.Stopping.{Stopped, after_request, decoded_at, memory_at}
@@ -58,6 +60,8 @@ module _ {S : Type 0} (table : List Row) (pid : ℕ) (m : Machine S) (n : Machin
     -- its row is the same of what the plain kernel is told, and names mounts alike, or none, since the call is refused
     pub acts : operation pid r told_here (known image_layout pid here) ≡ operation pid other (seen plain pid there other) (known image_layout pid here)
     pub mounts : (bare_mounts mounts_here ≡ bare_mounts (mounts_walked (targets_of plain pid there other))) ⊎ ((e : Errno) × (operation pid r told_here (known image_layout pid here) ≡ refuse e))
+    -- of a call that looks up one path it is told the very same
+    pub looked : LooksUpOne (line r).told → told_here ≡ seen plain pid there other
     -- what it changes keeps places standing, and the tracer notes what becomes of the tags
     pub inside : MovesStayInside table mounts_here pid (written_in pid r told_here here) (done_in pid r told_here here).reply.changes
     pub new : NewPlacesStand table mounts_here pid (written_in pid r told_here here) (done_in pid r told_here here).reply.changes

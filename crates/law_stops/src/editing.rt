@@ -2,7 +2,8 @@
 ghost use Rattle.law_stops.specs.Editing.{BeginningsKeepMatches, EditsKeepMatches};
 ghost use Rattle.law_stops.specs.Reading.{EditsReadUnmarked};
 
-/// What is edited of an answer leaves states that match as such, where it reads no marked byte.
+/// What is edited of an answer leaves states that match as such, and both watchers remember the same of the call's target, where it reads no
+/// marked byte and leads to the same inode for both.
 pub fn edits_keep_matches()
     ensures { EditsKeepMatches }
 {}

@@ -26,8 +26,9 @@
 //! whatever the tracer makes of them (`faked_swaps_go_together`, `faked_passes_go_together`, `faked_answers_go_together`,
 //! `faked_errors_go_together`), and execve(2) where it does so and a program begins on both machines or on none (`programs_go_together`,
 //! `programs_read_no_mark`). So where calls along paths and those of new programs do, all calls do (`all_calls_go_together`), and both watchers
-//! start with the same identities (`watchers_start_alike`). What is edited of answers and of new programs leaves states that match
-//! (`edits_keep_matches`, `beginnings_keep_matches`, `edits_read_unmarked`). Where each call keeps them together, so does each turn
+//! start with the same identities (`watchers_start_alike`). What is edited of answers and of new programs leaves states that match, and both
+//! watchers remember the same of what a call said of its file (`edits_keep_matches`, `beginnings_keep_matches`, `edits_read_unmarked`). Where
+//! each call keeps them together, so does each turn
 //! (`faked_turns_go_together`), and a calm run and the watched one come to the same (`faked_runs_come_alike`).
 //!
 //! Only tested, or not shown: That those premises hold of every calm call along paths is law_paths's, and of execve(2) law_execves's.

@@ -26,10 +26,11 @@ use Rattle.law_turns.specs.Quiet.{MachinesMatch}
 use Rattle.law_turns.specs.Runs.{ComeAlike, GoTogether, KeepOn, RunsComeAlike, TurnsGoTogether}
 use Rattle.law_turns.proofs.ClearLemmas.{go_cleared}
 use Rattle.law_turns.proofs.PickLemmas.{matches_go_on_alike}
+use Rattle.law_places.specs.kr_calm.declared.rule.Rule.{Rule}
 
 -- ---- the calm rules
 
-kept_before : (before now : Option ℕ) → kept before now ≡ None → before ≡ None
+kept_before : (before now : Option Rule) → kept before now ≡ None → before ≡ None
 kept_before None now e = refl
 kept_before (Some rule) now e = e
 

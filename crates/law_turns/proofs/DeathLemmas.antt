@@ -9,10 +9,12 @@ use Rattle.kr_core.specs.kr_turns.Breaking.{no_mounts, nothing_reached}
 use Rattle.law_turns.specs.Changing.{DeathsKeepMatches}
 use Rattle.law_turns.proofs.KeepLemmas.{changes_keep_matches}
 use Rattle.law_turns.proofs.RunLemmas.{lives_too}
+use Rattle.law_places.specs.kr_calm.declared.rule.Rule.{Rule}
+use Rattle.law_places.specs.kr_calm.declared.rule.Rule.TheVariants.{SearchStays, ShortNames, SourcesStay, Unread, UsedStay}
 
 -- of the rules in their order none is broken
 pub none_broken : (first third fourth fifth sixth : Bool)
-    → cond {A = Option ℕ} first (Some 1) (cond third (Some 3) (cond fourth (Some 4) (cond fifth (Some 5) (cond sixth (Some 6) None)))) ≡ None → (first ≡ false) × (third ≡ false) × (fourth ≡ false) × (fifth ≡ false)
+    → cond {A = Option Rule} first (Some Unread) (cond third (Some SourcesStay) (cond fourth (Some UsedStay) (cond fifth (Some SearchStays) (cond sixth (Some ShortNames) None)))) ≡ None → (first ≡ false) × (third ≡ false) × (fourth ≡ false) × (fifth ≡ false)
 none_broken false false false false sixth e = (refl, refl, refl, refl)
 none_broken true third fourth fifth sixth e = absurd (never e)
   where

@@ -55,6 +55,8 @@ use Rattle.law_turns.proofs.ImageLemmas.{bare_computed, places_computed, tags_co
 use Rattle.law_turns.proofs.OperateLemmas.{with_own_registers}
 use Rattle.law_turns.proofs.RunLemmas.{decoded_alike}
 use Rattle.law_turns.proofs.UnreadLemmas.{calm_unread}
+use Rattle.law_places.specs.kr_calm.declared.rule.Rule.{Rule}
+use Rattle.law_places.specs.kr_calm.declared.rule.Rule.TheVariants.{SearchStays, ShortNames, SourcesStay, Unread, UsedStay, WithinMounts}
 
 -- ---- what such a call is
 
@@ -67,7 +69,7 @@ entering (call.Fchdir fd) e = (fd, refl)
 entering _ e = absurd cc
 
 -- it has no targets, and is told of none
-no_paths : (t : Told) → TellsNothing t → (k : ℕ) → path_from 0 (paths_of t) k ≡ None
+pub no_paths : (t : Told) → TellsNothing t → (k : ℕ) → path_from 0 (paths_of t) k ≡ None
 no_paths ToldNothing kind k = refl
 no_paths _ kind k = absurd kind
 
@@ -127,7 +129,7 @@ module _ (table : List Row) (pid : ℕ) (mounts : Mounts ℕ) (nothing_found : m
 -- ---- the calm rules, of which none is broken
 
 pub none_of_all : (first second third fourth fifth sixth : Bool)
-    → cond {A = Option ℕ} first (Some 1) (cond second (Some 2) (cond third (Some 3) (cond fourth (Some 4) (cond fifth (Some 5) (cond sixth (Some 6) None))))) ≡ None → (first ≡ false) × (third ≡ false) × (fourth ≡ false) × (fifth ≡ false)
+    → cond {A = Option Rule} first (Some Unread) (cond second (Some WithinMounts) (cond third (Some SourcesStay) (cond fourth (Some UsedStay) (cond fifth (Some SearchStays) (cond sixth (Some ShortNames) None))))) ≡ None → (first ≡ false) × (third ≡ false) × (fourth ≡ false) × (fifth ≡ false)
 none_of_all false false false false false false e = (refl, refl, refl, refl)
 none_of_all false false false false false true e = absurd cc
 none_of_all true second third fourth fifth sixth e = absurd cc

@@ -29,7 +29,7 @@ same_tail : {A : Type 0} {x y : A} {xs ys : List A} → x ∷ xs ≡ y ∷ ys �
 same_tail e = cc
 
 module _ (table : List Row) (tags : TagTable) (s w : State ℕ Image) (m : IsMatch table tags s w) where
-  same_known : (pid : ℕ) → known image_layout pid s ≡ known image_layout pid w
+  pub same_known : (pid : ℕ) → known image_layout pid s ≡ known image_layout pid w
   same_known pid = known-bare ℕ (pins_of table) pid s ∙ ap (known (λ m. m) pid) m.bares ∙ sym (known-bare ℕ (pins_of plain) pid w)
 
   -- a process goes on in both, or in none

@@ -32,20 +32,22 @@ use Rattle.law_turns.proofs.ImageLemmas.{given}
 use Rattle.law_turns.proofs.MatchLemmas.{pids_in, same_pids}
 use Rattle.law_turns.proofs.PickLemmas.{matches_go_on_alike}
 use Rattle.law_turns.proofs.RunLemmas.{instructions_alike}
+use Rattle.law_places.specs.kr_calm.declared.rule.Rule.{Rule}
+use Rattle.law_places.specs.kr_calm.declared.rule.Rule.TheVariants.{Unread}
 
 some_same : {A : Type 0} {a b : A} → Some a ≡ Some b → a ≡ b
 some_same e = cc
 
 -- ---- the calm rules
 
-pub kept_none : (before now : Option ℕ) → kept before now ≡ None → now ≡ None
+pub kept_none : (before now : Option Rule) → kept before now ≡ None → now ≡ None
 kept_none None now e = e
 kept_none (Some rule) now e = absurd (never e)
   where
     never : {A : Type 0} {a : A} → Some a ≡ None → ⊥
     never e = cc
 
-pub first_unbroken : (first : Bool) (other : Option ℕ) → cond first (Some 1) other ≡ None → first ≡ false
+pub first_unbroken : (first : Bool) (other : Option Rule) → cond first (Some Unread) other ≡ None → first ≡ false
 first_unbroken false other e = refl
 first_unbroken true other e = absurd (never e)
   where

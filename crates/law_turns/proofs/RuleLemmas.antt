@@ -16,6 +16,8 @@ use Rattle.kr_core.proofs.kr_turns.PlainLemmas.{no-exec-rule}
 use Rattle.law_turns.specs.Calls.{decoded_by, decoded_in}
 use Rattle.law_turns.specs.Operating.{done_in}
 use Rattle.law_turns.specs.PathCalls.{HasPath, changes_at, mounts_at, told_at, written_at}
+use Rattle.law_places.specs.kr_calm.declared.rule.Rule.{Rule}
+use Rattle.law_places.specs.kr_calm.declared.rule.Rule.TheVariants.{SearchStays, ShortNames, SourcesStay, Unread, UsedStay, WithinMounts}
 
 pub no_exec : (r : Request) → HasPath r → IsNoExec r
 no_exec (call.Execve path args env) kind = absurd kind
@@ -30,7 +32,7 @@ record NonePasses (first second third fourth fifth : Bool) : Type 0 where
   pub fifth_fails : fifth ≡ false
 
 none_of_all : (first second third fourth fifth sixth : Bool)
-    → cond {A = Option ℕ} first (Some 1) (cond second (Some 2) (cond third (Some 3) (cond fourth (Some 4) (cond fifth (Some 5) (cond sixth (Some 6) None))))) ≡ None → NonePasses first second third fourth fifth
+    → cond {A = Option Rule} first (Some Unread) (cond second (Some WithinMounts) (cond third (Some SourcesStay) (cond fourth (Some UsedStay) (cond fifth (Some SearchStays) (cond sixth (Some ShortNames) None))))) ≡ None → NonePasses first second third fourth fifth
 none_of_all false false false false false false e = record { first_fails = refl; second_fails = refl; third_fails = refl; fourth_fails = refl; fifth_fails = refl }
 none_of_all false false false false false true e = absurd cc
 none_of_all true second third fourth fifth sixth e = absurd cc

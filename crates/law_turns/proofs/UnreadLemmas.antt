@@ -19,6 +19,8 @@ use Rattle.kr_core.specs.kr_turns.Breaking.{decoded_rule, plain_rule, plain_rule
 use Rattle.law_places.proofs.InUseLemmas.{neither}
 use Rattle.law_turns.specs.Calls.{decoded_by, decoded_in}
 use Rattle.law_turns.proofs.QuietLemmas.{first_unbroken, memory_computed}
+use Rattle.law_places.specs.kr_calm.declared.rule.Rule.{Rule}
+use Rattle.law_places.specs.kr_calm.declared.rule.Rule.TheVariants.{Unread}
 
 -- what is unread at the end was unread before
 pub unread_before : {A : Type 0} (action : Action A) (m : Memory) → (carried_out action m).memory.read_marked ≡ false → m.read_marked ≡ false
@@ -33,7 +35,7 @@ unread_before action m unread = by m.read_marked refl
 
 module _ (table : List Row) (pid : ℕ) (no_shelf : Bool) (at : State ℕ Image) where
   -- the first rule, of all that is read in the call
-  first : (memory : Memory) (other : Option ℕ) → cond (memory.read_marked || no_shelf) (Some 1) other ≡ None → memory.read_marked ≡ false
+  first : (memory : Memory) (other : Option Rule) → cond (memory.read_marked || no_shelf) (Some Unread) other ≡ None → memory.read_marked ≡ false
   first memory other calm = (neither memory.read_marked no_shelf (first_unbroken (memory.read_marked || no_shelf) other calm)).0
 
   request_unread : (r : Request) → requested_rule 1 table pid no_shelf r at ≡ None → (memory_of pid at).read_marked ≡ false

@@ -1,11 +1,13 @@
 -- The report of a run: what its turns put out, whether it was calm, the listing of the tree that it left, and the answer.
 use Rattle.std.specs.Prelude.{ℕ, Bool, List, [], ◌∷◌, ◌++◌, codes, Option, Some, None, if◌then◌else◌}
-use Rattle.std.specs.Option.{option_map_or}
+use Rattle.std.specs.Option.{option_map, option_map_or}
 use Rattle.std.specs.Fmt.{decimal}
 use Rattle.kr_text.specs.Canonical.{canonical}
 pub use Rattle.kr_core.specs.kr_turns.Run.{Deadlock, Ending, Over, Spent}
 use Rattle.kr_core.specs.kr_turns.Run.{Put, Ran, ending_of}
 use Rattle.kr_core.specs.kr_turns.Turn.{Machine}
+use Rattle.kr_core.specs.kr_turns.kr_calm.Calm.{rule_number}
+use Rattle.kr_core.specs.kr_turns.kr_calm.declared.rule.Rule.{Rule}
 use Rattle.pr_sources.specs.declared.answer.Answer.{Answer}
 use Rattle.pr_sources.specs.declared.answer.Answer.TheVariants as answer
 use Rattle.pr_run.specs.declared.plan.Plan.{Plan}
@@ -31,14 +33,17 @@ errs puts = gathered err_part puts
 
 -- ---- calm
 
--- by the rule that was broken first
+-- by the number of the rule that was broken first
 abbrev pub calm_line : Option ℕ → List ℕ
 calm_line None = codes "calm: yes" ++ 10 ∷ []
 calm_line (Some rule) = codes "calm: rule " ++ decimal rule ++ 10 ∷ []
 
 -- told where it is asked for
-abbrev pub calm_part : Bool → Option ℕ → List ℕ
-calm_part asked broken = if asked then calm_line broken else []
+abbrev pub calm_told : Bool → Option ℕ → List ℕ
+calm_told asked broken = if asked then calm_line broken else []
+
+abbrev pub calm_part : Bool → Option Rule → List ℕ
+calm_part asked broken = calm_told asked (option_map rule_number broken)
 
 -- ---- the whole
 

@@ -4,7 +4,7 @@ ghost use Rattle.pr_io.specs.Faults.{Rose};
 ghost use Rattle.kr_core.specs.Kernel.{machine};
 ghost use Rattle.kr_core.specs.kr_turns.Run.{run};
 ghost use Rattle.kr_text.specs.Canonical.{canonical};
-ghost use Rattle.pr_run.specs.Report.{answer_of, calm_line, calm_part, report_of};
+ghost use Rattle.pr_run.specs.Report.{answer_of, calm_line, calm_told, report_of};
 ghost use Rattle.pr_run.specs.Puts.{AnswersReport, PutsCalm, PutsListing, PutsReport, end_told};
 ghost use Rattle.pr_run.specs.Slots.{IsPlan, slot_of};
 
@@ -37,7 +37,7 @@ fn put_calm<R: Sink>(
     broken: Option<u8>,
     err: &mut R,
 ) -> Result<(), Stop>
-    ensures put { PutsCalm (calm_part asked broken) (R.got err.old) (R.got err.new) (Rose (R.faults err.old) (R.faults err.new)) result }
+    ensures put { PutsCalm (calm_told asked broken) (R.got err.old) (R.got err.new) (Rose (R.faults err.old) (R.faults err.new)) result }
     ensures count { R.faults err.old ≤ R.faults err.new }
 {
     if !asked {

@@ -9,8 +9,9 @@ use Rattle.pt_ident.specs.rv_mem.Actions.{carried_out}
 use Rattle.pt_ident.specs.rv_mem.declared.regs.Regs.{Regs}
 use Rattle.pt_ident.specs.Identity.{Answered, Effect, Identity, after_exec, effect, on_memory}
 use Rattle.pt_ident.specs.IdentityTable.{IdentityTable, after_end, identity_at, with_identity, with_kept}
+use Rattle.pt_ident.specs.pt_owner.declared.change.Change.{Change}
 use Rattle.pt_faker.specs.Carrying.{AnswersAny, on_its_memory}
-use Rattle.pt_faker.specs.Faking.{Faking, after_due, after_effect, begin_program, due_of, dues_with, has_answered_zero, if_done, is_root, no_longer_called, number_register, show_identity, stack_register, told}
+use Rattle.pt_faker.specs.Faking.{Faking, after_due, after_effect, answer_register, begin_program, due_of, dues_with, forgiven, has_answered_zero, if_done, is_root, no_longer_called, number_register, remember, remembered, show_identity, stack_register, told}
 use Rattle.pt_faker.specs.declared.due.Due.{Due}
 use Rattle.pt_faker.specs.declared.due.Due.TheVariants.{Tells}
 use Rattle.pt_faker.proofs.FakingLemmas.{insert-remove}
@@ -92,3 +93,12 @@ pub told-due : (f : Faking) (t u : Stopped) (due : Due) (number : ℕ) (answer m
 told-due f t u due number answer meant is means tells =
     ap (λ v. (f, v)) (tells ∙ ap (λ a. told number a t) means)
     ∙ sym (ap (λ d. after_due f t (Some d)) is)
+
+-- a change of an owner or a mode, by the answer that is told
+pub change-remembered : (f : Faking) (t u : Stopped) (change : Change) (target : Option ℕ) (answer : ℕ) (table : IdentityTable)
+    → target ≡ t.handed.target → answer ≡ register_at u answer_register → u ≡ forgiven true t → table ≡ remembered change target answer f.identities
+    → (record { user = f.user; identities = table; dues = f.dues }, u) ≡ remember change f t
+change-remembered f t u change target answer table led told forgives keeps =
+    let seen = told ∙ ap (λ v. register_at v answer_register) forgives in
+    let noted = keeps ∙ (λ k. remembered change (led k) (seen k) f.identities) in
+    λ k. (record { user = f.user; identities = noted k; dues = f.dues }, forgives k)

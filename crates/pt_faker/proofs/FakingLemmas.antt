@@ -9,11 +9,12 @@ use Rattle.pt_ident.specs.kr_calls.declared.request.Request.{Request}
 use Rattle.kr_stops.specs.Editing.{after_request, decoded_at, register_at}
 use Rattle.kr_stops.specs.Stopped.{Stopped}
 use Rattle.pt_ident.specs.Identity.{Effect, Identity, effect, starting}
-use Rattle.pt_ident.specs.IdentityTable.{IdentityTable, identity_at, with_identity}
-use Rattle.pt_faker.specs.Faking.{Faking, after_decoding, after_due, after_effect, answer_register, begin_program, due_of, is_root, keeping, with_due, without_due}
+use Rattle.pt_ident.specs.IdentityTable.{IdentityTable, identity_at, with_identity, with_noted}
+use Rattle.pt_ident.specs.pt_owner.declared.change.Change.{Change}
+use Rattle.pt_faker.specs.Faking.{Faking, after_decoding, after_due, after_effect, answer_register, begin_program, due_of, forgiven, is_root, keeping, remembered, remembered_of, with_due, without_due}
 use Rattle.pt_faker.specs.FakingLaws.{ComeAndGo, EntriesForget, ExitsFollowEntries, OthersStay}
 use Rattle.pt_faker.specs.declared.due.Due.{Due}
-use Rattle.pt_faker.specs.declared.due.Due.TheVariants.{Tells, ForgivesOwner, ForgivesRoot, ShowsOwner, BeginsProgram}
+use Rattle.pt_faker.specs.declared.due.Due.TheVariants.{Tells, Remembers, ForgivesRoot, ShowsOwner, BeginsProgram}
 
 -- ---- maps
 
@@ -41,7 +42,7 @@ begun g t false = refl
 dues_stay : (g : Faking) (t : Stopped) (due : Option Due) → (after_due g t due).0.dues ≡ g.dues
 dues_stay g t None = refl
 dues_stay g t (Some (Tells number answer)) = refl
-dues_stay g t (Some ForgivesOwner) = refl
+dues_stay g t (Some (Remembers change)) = refl
 dues_stay g t (Some ForgivesRoot) = refl
 dues_stay g t (Some (ShowsOwner at)) = refl
 dues_stay g t (Some BeginsProgram) = begun g t (register_at t answer_register == 0)
@@ -99,10 +100,30 @@ other_begun : (g : Faking) (t : Stopped) (b : Bool) (q : ℕ) → q ≢ t.pid �
 other_begun g t true q other = identity_elsewhere g.identities t.pid q _ other
 other_begun g t false q other = refl
 
+noted_identity : (target : Option ℕ) (change : Change) (table : IdentityTable) (q : ℕ) → identity_at (with_noted target change table) q ≡ identity_at table q
+noted_identity None change table q = refl
+noted_identity (Some ino) change table q = refl
+
+-- what is remembered of files is no part of an identity
+remembered_identity : (change : Change) (target : Option ℕ) (answer : ℕ) (table : IdentityTable) (q : ℕ) → identity_at (remembered change target answer table) q ≡ identity_at table q
+remembered_identity change target answer table q = by (answer == 0)
+  where
+    by : (b : Bool) → identity_at (if b then with_noted target change table else table) q ≡ identity_at table q
+    by true = noted_identity target change table q
+    by false = refl
+
+pub remembered_identities : (due : Option Due) (target : Option ℕ) (answer : ℕ) (table : IdentityTable) (q : ℕ) → identity_at (remembered_of due target answer table) q ≡ identity_at table q
+remembered_identities None target answer table q = refl
+remembered_identities (Some (Tells number told)) target answer table q = refl
+remembered_identities (Some (Remembers change)) target answer table q = remembered_identity change target answer table q
+remembered_identities (Some ForgivesRoot) target answer table q = refl
+remembered_identities (Some (ShowsOwner at)) target answer table q = refl
+remembered_identities (Some BeginsProgram) target answer table q = refl
+
 other_left : (g : Faking) (t : Stopped) (due : Option Due) (q : ℕ) → q ≢ t.pid → identity_at (after_due g t due).0.identities q ≡ identity_at g.identities q
 other_left g t None q other = refl
 other_left g t (Some (Tells number answer)) q other = refl
-other_left g t (Some ForgivesOwner) q other = refl
+other_left g t (Some (Remembers change)) q other = remembered_identity change t.handed.target (register_at (forgiven true t) answer_register) g.identities q
 other_left g t (Some ForgivesRoot) q other = refl
 other_left g t (Some (ShowsOwner at)) q other = refl
 other_left g t (Some BeginsProgram) q other = other_begun g t (register_at t answer_register == 0) q other

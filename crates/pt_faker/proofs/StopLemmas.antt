@@ -21,6 +21,7 @@ use Rattle.pr_base.specs.declared.errno.Errno.TheVariants.{EFAULT}
 use Rattle.pt_ident.specs.Identity.{Answered, Identity, Numbers, answered, numbers_in, refusal, tell_numbers}
 use Rattle.pt_ident.specs.Showing.{shown_stat}
 use Rattle.pt_faker.specs.Carrying.{CarriesOut, on_its_memory}
+use Rattle.pt_ident.specs.IdentityTable.{IdentityTable, shown_owners}
 use Rattle.pt_faker.proofs.DecodingLemmas.{decoding-keeps}
 use Rattle.pt_faker.specs.Faking.{show_owner}
 
@@ -136,12 +137,12 @@ module _ (t : Stopped) (there : IsThere t) where
 
   -- ---- the owner in a structure
 
-  module _ (user : User) (uid gid at : ℕ) where
+  module _ (user : User) (table : IdentityTable) (at : ℕ) where
     owner-read : Bool → Action (Unit {0})
-    owner-read b = if b then ReadBytes at 128 (λ bytes. WriteBytes at (shown_stat user uid gid bytes) (Done tt)) else Done tt
+    owner-read b = if b then ReadBytes at 128 (λ bytes. WriteBytes at (shown_stat user table.uid table.gid (shown_owners table) bytes) (Done tt)) else Done tt
 
     pub owner-shown : (u v : Stopped) → allows_all (memory_at t).pages at 128 Write ≡ true → u ≡ after_peek at 128 t
-        → v ≡ after_poke at (shown_stat user uid gid (bytes_from (memory_at t).pages at 128)) u → v ≡ on_its_memory (show_owner user uid gid at) t
+        → v ≡ after_poke at (shown_stat user table.uid table.gid (shown_owners table) (bytes_from (memory_at t).pages at 128)) u → v ≡ on_its_memory (show_owner user table at) t
     unfolding owner-read
     owner-shown u v may peeked poked =
         poke-peek u v at 128 _ peeked poked

@@ -1,6 +1,6 @@
 -- What a watcher does at the two stops of a call, and as processes come and go, so that each process believes in an identity of
 -- its own: calls on users and groups are answered in place of the kernel, which is asked for no call; the host user is shown as
--- another; and where that one is root, a change of an owner that the host refuses seems to be made.
+-- another; and where that one is root, changes of owners and modes seem to be made where the host refuses them, and are remembered.
 use Rattle.std.specs.FinMap as map
 use Rattle.std.specs.Prelude.{ℕ, ◌+◌, ◌==◌, ◌&&◌, ◌^◌, ◌%◌, Bool, true, zero, suc, List, [], ◌∷◌, ℤ, Option, Some, None, Result, Ok, Err, if◌then◌else◌}
 use Rattle.std.specs.Int.{cast_unsigned, to_le_bytes, w64}
@@ -17,11 +17,14 @@ use Rattle.kr_stops.specs.Editing.{after_request, decoded_at, memory_at, registe
 use Rattle.kr_stops.specs.Stopped.{Stopped}
 use Rattle.kr_stops.specs.Watching.{Watcher}
 use Rattle.pt_ident.specs.Identity.{Effect, Identity, after_exec, effect, on_memory, refusal}
-use Rattle.pt_ident.specs.IdentityTable.{IdentityTable, after_birth, after_end, identity_at, starting_table, with_identity}
+use Rattle.pt_ident.specs.IdentityTable.{IdentityTable, after_birth, after_end, identity_at, shown_owners, starting_table, starts_as_root, with_identity, with_noted}
 use Rattle.pt_ident.specs.Showing.{auxiliary_values, shown_stat}
+use Rattle.pt_ident.specs.pt_owner.Owners.{modes}
+use Rattle.pt_ident.specs.pt_owner.declared.change.Change.{Change}
+use Rattle.pt_ident.specs.pt_owner.declared.change.Change.TheVariants.{Own, Mode}
 use Rattle.pt_faker.specs.Carrying.{on_its_memory}
 use Rattle.pt_faker.specs.declared.due.Due.{Due}
-use Rattle.pt_faker.specs.declared.due.Due.TheVariants.{Tells, ForgivesOwner, ForgivesRoot, ShowsOwner, BeginsProgram}
+use Rattle.pt_faker.specs.declared.due.Due.TheVariants.{Tells, Remembers, ForgivesRoot, ShowsOwner, BeginsProgram}
 
 -- what is kept: the host user, the identities, and for each process between the stops of a call what is due at the second
 pub record Faking : Type 0 where
@@ -82,15 +85,17 @@ has_answered_zero t = register_at t answer_register == 0
 -- ---- the first stop
 
 abbrev pub is_root : Faking → Bool
-is_root f = f.identities.uid == 0
+is_root f = starts_as_root f.identities
 
 abbrev pub if_root : Bool → Due → Option Due
 if_root root due = if root then Some due else None
 
 -- what is due of a call that the kernel carries out, by whether processes start as root
 abbrev pub due_of : Bool → Request → Option Due
-due_of root (call.Fchown fd uid gid) = if_root root ForgivesOwner
-due_of root (call.Fchownat dirfd path uid gid flags) = if_root root ForgivesOwner
+due_of root (call.Fchown fd uid gid) = if_root root (Remembers (Own uid gid))
+due_of root (call.Fchownat dirfd path uid gid flags) = if_root root (Remembers (Own uid gid))
+due_of root (call.Fchmod fd mode) = if_root root (Remembers (Mode (mode % modes)))
+due_of root (call.Fchmodat dirfd path mode) = if_root root (Remembers (Mode (mode % modes)))
 due_of root (call.Chroot path) = if_root root ForgivesRoot
 due_of root (call.Fstat fd buf) = Some (ShowsOwner buf)
 due_of root (call.Newfstatat dirfd path buf flags) = Some (ShowsOwner buf)
@@ -117,8 +122,8 @@ entered f t = after_decoding f (after_request t) (decoded_at t).reply
 -- ---- the second stop
 
 -- the bytes that the call has just written are read with the right to write
-abbrev pub show_owner : User → (uid gid at : ℕ) → Action (Unit {0})
-show_owner user uid gid at = read_if_allowed at 128 (Write ∷ []) (Done tt) (λ bytes. WriteBytes at (shown_stat user uid gid bytes) (Done tt))
+abbrev pub show_owner : User → IdentityTable → (at : ℕ) → Action (Unit {0})
+show_owner user table at = read_if_allowed at 128 (Write ∷ []) (Done tt) (λ bytes. WriteBytes at (shown_stat user table.uid table.gid (shown_owners table) bytes) (Done tt))
 
 abbrev pub next_word : ℕ → ℕ
 next_word at = (at + 8) % 2 ^ 64
@@ -151,6 +156,15 @@ show_identity i stack =
 abbrev pub forgiven : Bool → Stopped → Stopped
 forgiven may t = if may && (register_at t answer_register == word_of (refusal EPERM)) then with_register answer_register 0 t else t
 
+-- what a call says of its target is remembered where it is told 0, and nothing otherwise
+abbrev pub remembered : Change → (target : Option ℕ) → (answer : ℕ) → IdentityTable → IdentityTable
+remembered change target answer table = if answer == 0 then with_noted target change table else table
+
+-- the same of whatever is due
+abbrev pub remembered_of : Option Due → (target : Option ℕ) → (answer : ℕ) → IdentityTable → IdentityTable
+remembered_of (Some (Remembers change)) target answer table = remembered change target answer table
+remembered_of _ target answer table = table
+
 -- what is done only where the call answered 0. A new program begins with 0 in each register but the stack pointer
 abbrev pub if_done : {A : Type 0} → Stopped → A → A → A
 if_done t done failed = if has_answered_zero t then done else failed
@@ -160,12 +174,17 @@ begin_program f t =
     let i = after_exec (identity_at f.identities t.pid) in
     (keeping t.pid i f, on_its_memory (show_identity i (register_at t stack_register)) t)
 
+abbrev pub remember : Change → Faking → Stopped → Faking × Stopped
+remember change f t =
+    let u = forgiven true t in
+    (record { user = f.user; identities = remembered change t.handed.target (register_at u answer_register) f.identities; dues = f.dues }, u)
+
 abbrev pub after_due : Faking → Stopped → Option Due → Faking × Stopped
 after_due f t None = (f, t)
 after_due f t (Some (Tells number answer)) = (f, told number answer t)
-after_due f t (Some ForgivesOwner) = (f, forgiven true t)
+after_due f t (Some (Remembers change)) = remember change f t
 after_due f t (Some ForgivesRoot) = (f, forgiven t.handed.at_root t)
-after_due f t (Some (ShowsOwner at)) = (f, if_done t (on_its_memory (show_owner f.user f.identities.uid f.identities.gid at) t) t)
+after_due f t (Some (ShowsOwner at)) = (f, if_done t (on_its_memory (show_owner f.user f.identities at) t) t)
 after_due f t (Some BeginsProgram) = if_done t (begin_program f t) (f, t)
 
 abbrev pub exited : Faking → Stopped → Faking × Stopped

@@ -1,22 +1,29 @@
 //! A watcher that gives each process an identity of its own.
-ghost use Rattle.std.specs.Prelude.{◌≡◌, OnOk};
+ghost use Rattle.std.specs.Prelude.{◌≡◌, ◌%◌, OnOk};
 ghost use Rattle.kr_stops.specs.Stopped.{IsEdited};
 ghost use Rattle.pt_faker.specs.Faking.{due_of};
-ghost use Rattle.pt_faker.specs.declared.due.Due.TheVariants.{BeginsProgram, ShowsOwner};
+ghost use Rattle.pt_faker.specs.declared.due.Due.TheVariants.{BeginsProgram, Remembers, ShowsOwner};
+ghost use Rattle.pt_ident.specs.pt_owner.Owners.{modes};
+ghost use Rattle.pt_ident.specs.pt_owner.declared.change.Change.TheVariants.{Mode, Own};
 
 use crate::answering::answer_call;
 use crate::auxiliary::show_identity;
 use crate::due::Due;
 use crate::dues::Dues;
 use crate::memory::show_owner;
-use crate::registers::{STACK, forgive, has_answered_zero, take_number, tell};
+use crate::registers::{ANSWER, STACK, forgive, has_answered_zero, take_number, tell};
+use crate::remembering::remember;
 use kr_stops::{Stops, Tracee};
 use pr_base::NoMemory;
 use pt_ident::Identities;
 use pt_ident::below::kr_calls::{CallFault, Request};
 use pt_ident::below::kr_inode::User;
+use pt_ident::below::pt_owner::Change;
 use std::alloc::Global;
 use std::marker::Model;
+
+/// How many modes differ in permissions alone.
+const MODES: u32 = 0o10000;
 
 /// Gives each process an identity of its own, as which it also sees what the host user owns. After want of memory it may only be
 /// dropped.
@@ -46,7 +53,7 @@ impl Model for Faker {
 impl Faker {
     ghost use Rattle.pt_ident.specs.Identity.{effect};
     ghost use Rattle.pt_ident.specs.IdentityTable.{identity_at};
-    ghost use Rattle.pt_faker.specs.Faking.{after_due, after_effect, is_root, starting_faking};
+    ghost use Rattle.pt_faker.specs.Faking.{after_due, after_effect, remember, starting_faking};
 
     /// Processes start as the user `ids.0` and the group `ids.1`; what the host user owns is theirs. It takes no memory.
     pub fn new(alloc: Global, user: User, ids: (u32, u32)) -> Faker
@@ -61,14 +68,6 @@ impl Faker {
         }
     }
 
-    /// Whether processes start as root.
-    fn is_root(&self) -> bool
-        ensures { result ≡ is_root self.now }
-    {
-        let (uid, _) = self.identities.start();
-        uid == 0
-    }
-
     /// The first stop of a call that could be read: it is answered here, or left to the kernel.
     fn take_up<T: Tracee>(&mut self, t: &mut T, request: &Request) -> Result<(), NoMemory>
         ensures enters { OnOk result ((self.new, T.stopped t.new) ≡ after_effect self.old request.now (T.stopped t.old) (effect (identity_at self.old.identities (T.stopped t.old).pid) request.now)) }
@@ -81,7 +80,7 @@ impl Faker {
         self.identities.keep(pid, ids)?;
         match told {
             None => {
-                let root = self.is_root();
+                let root = self.identities.starts_as_root();
                 self.dues.set(pid, due_of(root, request))
             }
             Some(answer) => {
@@ -103,10 +102,7 @@ impl Faker {
                 tell(t, number, answer);
                 Ok(())
             }
-            Due::ForgivesOwner => {
-                forgive(t, true);
-                Ok(())
-            }
+            Due::Remembers { change } => self.remember(t, change),
             Due::ForgivesRoot => {
                 let may = t.at_root();
                 forgive(t, may);
@@ -117,6 +113,18 @@ impl Faker {
         }
     }
 
+    /// An owner or a mode that a call sets: it seems to be set where the host refuses it, and what was said is remembered where 0 is told.
+    fn remember<T: Tracee>(&mut self, t: &mut T, change: Change) -> Result<(), NoMemory>
+        ensures exits { OnOk result ((self.new, T.stopped t.new) ≡ remember change self.old (T.stopped t.old)) }
+        ensures edits { IsEdited (T.stopped t.old) (T.stopped t.new) }
+        ensures rest { T.around t.new ≡ T.around t.old }
+    {
+        let _pid = t.pid();
+        let target = t.target();
+        forgive(t, true);
+        remember(&mut self.identities, change, target, t.reg(ANSWER))
+    }
+
     /// The owner in the structure `stat` that a call has written, if it did.
     fn show_owner<T: Tracee>(&self, t: &mut T, at: u64) -> Result<(), NoMemory>
         ensures shows { OnOk result ((self.now, T.stopped t.new) ≡ after_due self.now (T.stopped t.old) (Some (ShowsOwner at))) }
@@ -125,7 +133,7 @@ impl Faker {
     {
         let _pid = t.pid();
         if has_answered_zero(t) {
-            show_owner(t, self.user, self.identities.start(), at)
+            show_owner(t, self.user, &self.identities, at)
         } else {
             Ok(())
         }
@@ -155,12 +163,35 @@ pub fn due_of(root: bool, request: &Request) -> Option<Due>
     ensures { result ≡ due_of root request.now }
 {
     match *request {
-        Request::Fchown { .. } | Request::Fchownat { .. } if root => Some(Due::ForgivesOwner),
+        Request::Fchown { uid, gid, .. } if root => Some(sets_owner(uid, gid)),
+        Request::Fchownat { uid, gid, .. } if root => Some(sets_owner(uid, gid)),
+        Request::Fchmod { mode, .. } if root => Some(sets_mode(mode)),
+        Request::Fchmodat { mode, .. } if root => Some(sets_mode(mode)),
         Request::Chroot { .. } if root => Some(Due::ForgivesRoot),
         Request::Fstat { buf, .. } => Some(Due::ShowsOwner { at: buf }),
         Request::Newfstatat { buf, .. } => Some(Due::ShowsOwner { at: buf }),
         Request::Execve { .. } => Some(Due::BeginsProgram),
         _ => None,
+    }
+}
+
+/// What is due of a call that sets an owner and a group.
+fn sets_owner(uid: u32, gid: u32) -> Due
+    ensures { result ≡ Remembers (Own uid gid) }
+{
+    Due::Remembers {
+        change: Change::Own { uid, gid },
+    }
+}
+
+/// What is due of a call that sets a mode, of which the low 12 bits count.
+fn sets_mode(mode: u32) -> Due
+    ensures { result ≡ Remembers (Mode (mode % modes)) }
+{
+    Due::Remembers {
+        change: Change::Mode {
+            bits: (mode % MODES) as u16,
+        },
     }
 }
 

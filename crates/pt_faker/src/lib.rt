@@ -7,9 +7,10 @@
 //! What it does at the two stops of a call, as a process makes a child and as one ends, are exactly the functions of the definition
 //! (`specs/Faking.antt`): its four relations as a watcher are their graphs (`faker_is_its_definition`), so that a turn with it is the
 //! definition's by `turns_are_functions`. Calls on users and groups are answered in place of the kernel, with all that they read and write of the
-//! caller's memory (`answer_call`); where processes start as root a refused change of an owner answers 0, and so does a refused chroot that leads
-//! to the root; what the host user owns is shown as the process's own (`show_owner`); and a new program saves the effective numbers, which stand
-//! in its auxiliary vector (`show_identity`). All else of the stopped process stays (`edits`, `rest`).
+//! caller's memory (`answer_call`); where processes start as root a refused change of an owner or a mode answers 0, and what was said is
+//! remembered of the file to which the call led (`remember`); a refused chroot that leads to the root answers 0, too; what the host user owns is
+//! shown as the process's own, and what is remembered over that (`show_owner`); and a new program saves the effective numbers, which stand in its
+//! auxiliary vector (`show_identity`). All else of the stopped process stays (`edits`, `rest`).
 //!
 //! Of the definition: a second stop without a first one changes nothing (`exits_follow_entries`), a first one forgets what an earlier one left
 //! (`entries_forget`), all other identities stay (`others_stay`), and processes come as their parents are and go without a trace (`come_and_go`).
@@ -55,6 +56,7 @@ pub mod laws;
 pub mod lists;
 pub mod memory;
 pub mod registers;
+pub mod remembering;
 pub mod started;
 mod text;
 mod watch;

@@ -11,7 +11,7 @@ use kr_stops::Tracee;
 use pr_base::{Errno, NoMemory};
 use pt_ident::below::kr_inode::User;
 use pt_ident::below::rv_mem::Use;
-use pt_ident::{Ids, fix_stat, group_bytes, groups_in};
+use pt_ident::{Identities, Ids, fix_stat, group_bytes, groups_in};
 use std::alloc::Global;
 
 /// Writes bytes, all of which may be written. After want of memory the process may only be dropped.
@@ -28,15 +28,15 @@ pub fn write<T: Tracee>(t: &mut T, at: u64, bytes: &[u8]) -> Result<(), NoMemory
     }
 }
 
-/// Shows the host user as another in the structure `stat` at an address, whose bytes a call has just written. After want of memory
-/// the process may only be dropped.
+/// Shows the host user as another in the structure `stat` at an address, whose bytes a call has just written, and what is remembered of its
+/// file. After want of memory the process may only be dropped.
 pub fn show_owner<T: Tracee>(
     t: &mut T,
     user: User,
-    ids: (u32, u32),
+    identities: &Identities,
     at: u64,
 ) -> Result<(), NoMemory>
-    ensures shows { OnOk result (T.stopped t.new ≡ on_its_memory (show_owner user ids.0 ids.1 at) (T.stopped t.old)) }
+    ensures shows { OnOk result (T.stopped t.new ≡ on_its_memory (show_owner user identities.now at) (T.stopped t.old)) }
     ensures edits { IsEdited (T.stopped t.old) (T.stopped t.new) }
     ensures rest { T.around t.new ≡ T.around t.old }
 {
@@ -46,7 +46,12 @@ pub fn show_owner<T: Tracee>(
         Ok(()) => {}
         Err(_) => return Ok(()),
     }
-    fix_stat(&mut bytes, user, ids);
+    fix_stat(
+        &mut bytes,
+        user,
+        identities.start(),
+        identities.shown_owners(),
+    );
     write(t, at, &bytes)
 }
 

@@ -14,7 +14,7 @@ use pr_base::Errno;
 const NUMBER: u8 = 17;
 
 /// a0, which has its answer.
-const ANSWER: u8 = 10;
+pub(crate) const ANSWER: u8 = 10;
 
 /// The stack pointer.
 pub const STACK: u8 = 2;

@@ -1,9 +1,11 @@
--- The identities of all processes, by their numbers.
+-- The identities of all processes, by their numbers, and the owners and modes that they set.
 use Rattle.std.specs.FinMap as map
-use Rattle.std.specs.Prelude.{ℕ, List, refl}
+use Rattle.std.specs.Prelude.{ℕ, ◌==◌, Bool, List, Option, Some, None, if◌then◌else◌, refl}
 use Rattle.std.specs.Option.{option_map_or}
 use Rattle.std.specs.Ordering.{nat_cmp}
 use Rattle.std.specs.Coded.{Coded, code_by, coded×, coded_ℕ, coded_list}
+use Rattle.pt_owner.specs.declared.change.Change.{Change}
+use Rattle.pt_owner.specs.Owners.{Remembered, noted, nothing, remembered_code}
 use Rattle.pt_ident.specs.Identity.{Identity, Numbers, child_of, starting}
 
 pub record IdentityTable : Type 0 where
@@ -11,16 +13,18 @@ pub record IdentityTable : Type 0 where
   pub uid : ℕ
   pub gid : ℕ
   pub kept : map.FinMap nat_cmp Identity
+  -- what was said of files, by whichever process: one map for the whole run
+  pub owners : Remembered
 
 -- one for which nothing is kept has the starting identity
 abbrev pub identity_at : IdentityTable → ℕ → Identity
 identity_at t pid = option_map_or (λ i. i) (map.get t.kept pid) (starting t.uid t.gid)
 
 abbrev pub starting_table : (uid gid : ℕ) → IdentityTable
-starting_table uid gid = record { uid = uid; gid = gid; kept = map.empty }
+starting_table uid gid = record { uid = uid; gid = gid; kept = map.empty; owners = nothing }
 
 abbrev pub with_kept : map.FinMap nat_cmp Identity → IdentityTable → IdentityTable
-with_kept kept t = record { uid = t.uid; gid = t.gid; kept = kept }
+with_kept kept t = record { uid = t.uid; gid = t.gid; kept = kept; owners = t.owners }
 
 abbrev pub with_identity : (pid : ℕ) → Identity → IdentityTable → IdentityTable
 with_identity pid i t = with_kept (map.insert t.kept pid i) t
@@ -32,6 +36,21 @@ after_birth parent child t = with_identity child (child_of (identity_at t parent
 -- a process ends
 abbrev pub after_end : (pid : ℕ) → IdentityTable → IdentityTable
 after_end pid t = with_kept (map.remove t.kept pid) t
+
+-- ---- owners and modes
+
+-- whether processes start as root
+abbrev pub starts_as_root : IdentityTable → Bool
+starts_as_root t = t.uid == 0
+
+-- only such processes are shown what was said of files
+abbrev pub shown_owners : IdentityTable → Option Remembered
+shown_owners t = if starts_as_root t then Some t.owners else None
+
+-- something is said of the file to which a call led, if it led to one
+abbrev pub with_noted : (target : Option ℕ) → Change → IdentityTable → IdentityTable
+with_noted None change t = t
+with_noted (Some ino) change t = record { uid = t.uid; gid = t.gid; kept = t.kept; owners = noted t.owners ino change }
 
 -- ---- how it is told apart from others
 
@@ -47,5 +66,5 @@ identity_code =
 
 abbrev pub table_code : Coded IdentityTable
 table_code =
-    code_by (ℕ × (ℕ × map.FinMap nat_cmp Identity)) (coded× coded_ℕ (coded× coded_ℕ (map.code coded_ℕ identity_code)))
-    (λ t. (t.uid, (t.gid, t.kept))) (λ p. record { uid = p.0; gid = p.1.0; kept = p.1.1 }) (λ _. refl)
+    code_by (ℕ × (ℕ × (map.FinMap nat_cmp Identity × Remembered))) (coded× coded_ℕ (coded× coded_ℕ (coded× (map.code coded_ℕ identity_code) remembered_code)))
+    (λ t. (t.uid, (t.gid, (t.kept, t.owners)))) (λ p. record { uid = p.0; gid = p.1.0; kept = p.1.1.0; owners = p.1.1.1 }) (λ _. refl)

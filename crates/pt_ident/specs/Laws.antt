@@ -1,5 +1,5 @@
 -- Laws of the identity, in the words of its subject.
-use Rattle.std.specs.Prelude.{◌≡◌, ◌⊎◌, ◌<◌, ◌^◌, ℕ, All, false, List, [], ◌∷◌, negsuc, Option, Some, None}
+use Rattle.std.specs.Prelude.{◌≡◌, ◌⊎◌, ◌<◌, ◌^◌, ℕ, All, false, List, [], ◌∷◌, negsuc, Option, Some, None, if◌then◌else◌}
 use Rattle.kr_calls.specs.rv_mem.Actions.{carried_out}
 use Rattle.kr_calls.specs.rv_mem.Memory.{Memory}
 use Rattle.kr_inode.specs.declared.user.User.{User}
@@ -7,7 +7,9 @@ use Rattle.kr_calls.specs.declared.request.Request.{Request}
 use Rattle.kr_calls.specs.declared.stat.Stat.{Stat}
 use Rattle.kr_calls.specs.Stats.{stat_layout}
 use Rattle.pt_ident.specs.Identity.{Answered, Effect, Identity, Numbers, effect, is_privileged, number_bytes, numbers_in, on_memory}
-use Rattle.pt_ident.specs.Showing.{shown, shown_stat}
+use Rattle.pt_ident.specs.Showing.{is_of_tree, shown, shown_stat}
+use Rattle.pt_owner.specs.declared.change.Shown.{Shown}
+use Rattle.pt_owner.specs.Owners.{Remembered, shown_of}
 
 -- what a call answers, and the identity behind it; None of a request that isn't one of these calls
 abbrev pub outcome_of : Memory → Identity → Option Effect → Option Answered
@@ -61,12 +63,30 @@ RefusedChangeNothing = (i : Identity) (call : Request × Memory) (n : ℕ) (j : 
 abbrev pub GroupsAreReadBack : Type 0
 GroupsAreReadBack = (groups : List ℕ) → All (λ n. n < 2 ^ 32) groups → numbers_in (number_bytes groups) ≡ groups
 
-abbrev pub with_owner : (uid gid : ℕ) → Stat → Stat
-with_owner uid gid s =
-    record { dev = s.dev; ino = s.ino; mode = s.mode; nlink = s.nlink; uid = uid; gid = gid; rdev = s.rdev; size = s.size; blksize = s.blksize; blocks = s.blocks }
+-- the structure of the same file with another owner and another mode
+abbrev pub with_owner : Shown → Stat → Stat
+with_owner o s =
+    record { dev = s.dev; ino = s.ino; mode = o.mode; nlink = s.nlink; uid = o.uid; gid = o.gid; rdev = s.rdev; size = s.size; blksize = s.blksize; blocks = s.blocks }
 
--- what is shown of a file is the structure of the same file with the owner and the group that are to be seen
+-- the owner as whom the host user is shown
+abbrev pub host_owner : User → (uid gid : ℕ) → Stat → Shown
+host_owner user uid gid s = record { uid = shown user.uid uid s.uid; gid = shown user.gid gid s.gid; mode = s.mode }
+
+-- what was said of a file of the tree stands over that
+abbrev pub over_owner : Option Remembered → Stat → Shown → Shown
+over_owner None s o = o
+over_owner (Some owners) s o = if is_of_tree s.dev s.mode then shown_of owners s.ino o else o
+
+-- numbers that have room in their fields
+pub record HasFields (s : Stat) : Type 0 where
+  pub dev : s.dev < 2 ^ 64
+  pub ino : s.ino < 2 ^ 64
+  pub mode : s.mode < 2 ^ 32
+  pub uid : s.uid < 2 ^ 32
+  pub gid : s.gid < 2 ^ 32
+
+-- what is shown of a file is the structure of the same file with the owner and the mode that are to be seen
 abbrev pub StatShowsTheOwner : Type 0
 StatShowsTheOwner =
-    (s : Stat) (user : User) (uid gid : ℕ) → s.uid < 2 ^ 32 → s.gid < 2 ^ 32
-    → shown_stat user uid gid (stat_layout s) ≡ stat_layout (with_owner (shown user.uid uid s.uid) (shown user.gid gid s.gid) s)
+    (s : Stat) (user : User) (uid gid : ℕ) (owners : Option Remembered) → HasFields s → uid < 2 ^ 32 → gid < 2 ^ 32
+    → shown_stat user uid gid owners (stat_layout s) ≡ stat_layout (with_owner (over_owner owners s (host_owner user uid gid s)) s)

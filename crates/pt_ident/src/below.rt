@@ -2,3 +2,4 @@
 pub use kr_calls;
 pub use kr_calls::below::rv_mem;
 pub use kr_inode;
+pub use pt_owner;

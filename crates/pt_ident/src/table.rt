@@ -1,20 +1,23 @@
-//! The identities of all processes.
+//! The identities of all processes, and the owners and modes that they set.
 ghost use Rattle.std.specs.Prelude.{◌≡◌, IfOk, OnOk};
+ghost use Rattle.std.specs.Option.{option_copied};
 
 use crate::ids::Ids;
 use pr_base::NoMemory;
+use pt_owner::{Change, Owners};
 use std::alloc::Global;
 use std::collections::BTreeMap;
 use std::marker::Model;
 
-/// The identity of each process, by its number. One for which nothing is kept has the starting identity. After want of
-/// memory the table may only be dropped.
+/// The identity of each process, by its number, and what was said of files, by whichever process. A process for which nothing is kept has the
+/// starting identity. After want of memory the table may only be dropped.
 #[derive(Drop)]
 pub struct Identities {
     alloc: Global,
     uid: u32,
     gid: u32,
     kept: BTreeMap<u32, Ids>,
+    owners: Owners,
 }
 
 impl Model for Identities {
@@ -25,11 +28,11 @@ impl Model for Identities {
 
     ghost coded = { table_code };
 
-    ghost view = { λ t. record { uid = t.uid; gid = t.gid; kept = map.from_entries t.kept.entries } };
+    ghost view = { λ t. record { uid = t.uid; gid = t.gid; kept = map.from_entries t.kept.entries; owners = t.owners } };
 }
 
 impl Identities {
-    ghost use Rattle.pt_ident.specs.IdentityTable.{after_birth, after_end, identity_at, starting_table, with_identity};
+    ghost use Rattle.pt_ident.specs.IdentityTable.{after_birth, after_end, identity_at, shown_owners, starting_table, starts_as_root, with_identity, with_noted};
 
     /// Processes start as this user and this group. It takes no memory.
     pub fn new(alloc: Global, uid: u32, gid: u32) -> Identities
@@ -40,6 +43,7 @@ impl Identities {
             uid,
             gid,
             kept: BTreeMap::new(alloc),
+            owners: Owners::new(alloc),
         }
     }
 
@@ -49,6 +53,37 @@ impl Identities {
         ensures gid { result.1 ≡ self.now.gid }
     {
         (self.uid, self.gid)
+    }
+
+    /// Whether processes start as root.
+    pub fn starts_as_root(&self) -> bool
+        ensures { result ≡ starts_as_root self.now }
+    {
+        self.uid == 0
+    }
+
+    /// What is shown of owners and modes that were set: only processes that start as root are shown them.
+    pub fn shown_owners(&self) -> Option<&Owners>
+        ensures { option_copied result ≡ shown_owners self.now }
+    {
+        if self.starts_as_root() {
+            Some(&self.owners)
+        } else {
+            None
+        }
+    }
+
+    /// Remembers what was said of the file to which a call led, if it led to one.
+    pub fn note(&mut self, target: Option<u64>, change: Change) -> Result<(), NoMemory>
+        ensures { OnOk result (self.new ≡ with_noted target change self.old) }
+    {
+        match target {
+            Some(ino) => {
+                self.owners.note(ino, change)?;
+                Ok(())
+            }
+            None => Ok(()),
+        }
     }
 
     /// The identity of a process, of which nothing is kept then.

@@ -5,17 +5,18 @@ use Rattle.std.specs.Option.{option_map}
 use Rattle.pr_base.proofs.MapLemmas.{get-insert_other, get-remove_other, get-remove_same, remove-none}
 use Rattle.pr_base.specs.declared.errno.Errno.{Errno}
 use Rattle.pt_results.specs.kr_calls.declared.request.Request.{Request}
-use Rattle.pt_faker.specs.Stopping.{after_request, decoded_at, Stopped}
+use Rattle.pt_faker.specs.Stopping.{after_request, decoded_at, register_at, Stopped}
 use Rattle.pt_bind.proofs.TagLemmas.{tags_change}
 use Rattle.pt_bind.specs.Tags.{with_tag}
 use Rattle.pt_bind.specs.declared.slot.Slot.TheVariants.{Exe}
 use Rattle.pt_faker.specs.pt_ident.Identity.{Effect, Identity, effect}
-use Rattle.pt_faker.specs.pt_ident.IdentityTable.{IdentityTable, after_birth, after_end, identity_at, with_identity}
+use Rattle.pt_faker.specs.pt_ident.IdentityTable.{IdentityTable, after_birth, after_end, identity_at, starts_as_root, with_identity}
+use Rattle.pt_faker.specs.Faking.{due_of}
 use Rattle.pt_results.proofs.NoteLemmas.{notes_change_one_slot}
 use Rattle.pt_results.specs.Notes.{noted}
-use Rattle.pt_faker.proofs.FakingLemmas.{identity_elsewhere, identity_or, insert-remove, own_identity}
+use Rattle.pt_faker.proofs.FakingLemmas.{identity_elsewhere, identity_or, insert-remove, own_identity, remembered_identities}
 use Rattle.pt_tracer.specs.TracerLaws.{ComeAndGo, EntriesForget, ExitsFollowEntries, LeavesOthers, OthersStay, identity_in, starting_in}
-use Rattle.pt_tracer.specs.Watched.{Applied, Tracing, after_decoding, after_effect, after_pending, answer_at, begin_as, begin_program, by_identities, give_back, has_begun, keeping, returned, with_identities, with_pending, with_tags, without_pending}
+use Rattle.pt_tracer.specs.Watched.{Applied, Tracing, after_decoding, after_effect, after_pending, answer_at, begin_as, begin_program, by_identities, give_back, has_begun, keeping, remembered_in, returned, shown_to, with_identities, with_pending, with_tags, without_pending}
 use Rattle.pt_tracer.specs.declared.pending.Pending.{Pending}
 use Rattle.pt_tracer.specs.declared.plan.Led.{Led}
 
@@ -102,10 +103,15 @@ decoding-others : (x : Tracing) (t : Stopped) (r : Result Request Errno) → Lea
 decoding-others x t (Ok r) = identities-others x r t x.identities refl
 decoding-others x t (Err e) = without-others x t.pid
 
+-- what is remembered of files is no part of an identity
+remembered-others : (o : Option IdentityTable) (p : Pending) (target : Option ℕ) (answer q : ℕ) → identity_in (remembered_in o p target answer) q ≡ identity_in o q
+remembered-others None p target answer q = refl
+remembered-others (Some table) p target answer q = ap Some (remembered_identities (due_of (starts_as_root table) p.request) target answer table q)
+
 gives-others : (x : Tracing) (p : Pending) (t : Stopped) → LeavesOthers x (give_back (without_pending t.pid x) p t).0 t.pid
 gives-others x p t = record {
   tags = λ q slot other. notes_change_one_slot.others x.tags t.pid (noted p.request p.led.index (answer_at (returned p t))) q slot other;
-  identities = λ q other. refl;
+  identities = λ q other. remembered-others x.identities p t.handed.target (register_at (shown_to x.user x.identities p (returned p t)) 10) q;
   pending = λ q other. get-remove_other x.pending t.pid q other;
 }
 

@@ -2,7 +2,7 @@
 -- second one it gives the registers back, tells the answer, and notes the tags of what the call made. With an identity option each
 -- process believes in an identity of its own, too.
 use Rattle.std.specs.FinMap as map
-use Rattle.std.specs.Prelude.{ℕ, ◌==◌, ◌&&◌, Bool, true, false, List, ℤ, Option, Some, None, Result, Ok, Err, if◌then◌else◌, is_none}
+use Rattle.std.specs.Prelude.{ℕ, ◌&&◌, Bool, true, false, List, ℤ, Option, Some, None, Result, Ok, Err, if◌then◌else◌, is_none}
 use Rattle.std.specs.Int.{cast_signed, w64}
 use Rattle.std.specs.Option.{option_map}
 use Rattle.std.specs.Ordering.{nat_cmp}
@@ -17,12 +17,12 @@ use Rattle.pt_faker.specs.Stopping.{after_request, decoded_at, memory_at, regist
 use Rattle.pt_bind.specs.Tags.{TagTable, dropped, forked, with_tag}
 use Rattle.pt_bind.specs.declared.slot.Slot.TheVariants.{Exe}
 use Rattle.pt_faker.specs.pt_ident.Identity.{Effect, Identity, after_exec, effect, on_memory, refusal}
-use Rattle.pt_faker.specs.pt_ident.IdentityTable.{IdentityTable, after_birth, after_end, identity_at, with_identity}
+use Rattle.pt_faker.specs.pt_ident.IdentityTable.{IdentityTable, after_birth, after_end, identity_at, starts_as_root, with_identity}
 use Rattle.pt_results.specs.pt_args.declared.edit.Edit.{Edit}
 use Rattle.pt_results.specs.pt_args.declared.edit.Edit.TheVariants.{Cancel, Emulate, Pass, Swap}
 use Rattle.pt_results.specs.Notes.{noted, tags_after}
 use Rattle.pt_faker.specs.Carrying.{on_its_memory}
-use Rattle.pt_faker.specs.Faking.{due_of, forgiven, has_answered_zero, if_done, no_longer_called, show_identity, show_owner, stack_register, word_of}
+use Rattle.pt_faker.specs.Faking.{due_of, forgiven, has_answered_zero, if_done, no_longer_called, remembered_of, show_identity, show_owner, stack_register, word_of}
 use Rattle.pt_faker.specs.declared.due.Due.{Due}
 use Rattle.pt_faker.specs.declared.due.Due.TheVariants as due
 use Rattle.pt_tracer.specs.Answering.{starting_identities}
@@ -141,19 +141,25 @@ answer_at t = cast_signed w64 (register_at t 10)
 abbrev pub shown_due : User → IdentityTable → (at_root : Bool) → Option Due → Stopped → Stopped
 shown_due user table at_root None t = t
 shown_due user table at_root (Some (due.Tells number answer)) t = t
-shown_due user table at_root (Some due.ForgivesOwner) t = forgiven true t
+shown_due user table at_root (Some (due.Remembers change)) t = forgiven true t
 shown_due user table at_root (Some due.ForgivesRoot) t = forgiven at_root t
-shown_due user table at_root (Some (due.ShowsOwner at)) t = if_done t (on_its_memory (show_owner user table.uid table.gid at) t) t
+shown_due user table at_root (Some (due.ShowsOwner at)) t = if_done t (on_its_memory (show_owner user table at) t) t
 shown_due user table at_root (Some due.BeginsProgram) t = t
 
 abbrev pub shown_to : User → Option IdentityTable → Pending → Stopped → Stopped
 shown_to user None p t = t
-shown_to user (Some table) p t = shown_due user table p.led.at_root (due_of (table.uid == 0) p.request) t
+shown_to user (Some table) p t = shown_due user table p.led.at_root (due_of (starts_as_root table) p.request) t
+
+-- what is remembered of the call's target behind an answer that is told
+abbrev pub remembered_in : Option IdentityTable → Pending → (target : Option ℕ) → (answer : ℕ) → Option IdentityTable
+remembered_in None p target answer = None
+remembered_in (Some table) p target answer = Some (remembered_of (due_of (starts_as_root table) p.request) target answer table)
 
 abbrev pub give_back : Tracing → Pending → Stopped → Tracing × Stopped
 give_back x p t =
     let u = returned p t in
-    (with_tags (tags_after x.tags t.pid (noted p.request p.led.index (answer_at u))) x, shown_to x.user x.identities p u)
+    let v = shown_to x.user x.identities p u in
+    (with_identities (remembered_in x.identities p t.handed.target (register_at v 10)) (with_tags (tags_after x.tags t.pid (noted p.request p.led.index (answer_at u))) x), v)
 
 -- a new program keeps its own registers; it has the tag of its file, and is told who it is
 abbrev pub begin_as : Tracing → Stopped → Option IdentityTable → Tracing × Stopped

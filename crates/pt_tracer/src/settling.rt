@@ -1,11 +1,13 @@
 //! The second stop of a call.
 ghost use Rattle.std.specs.Prelude.{◌≡◌, OnOk, Some};
-ghost use Rattle.pt_faker.specs.Stopping.{IsEdited};
+ghost use Rattle.pt_faker.specs.Stopping.{IsEdited, register_at};
+ghost use Rattle.pt_faker.specs.Faking.{due_of, remembered_of};
+ghost use Rattle.pt_faker.specs.pt_ident.IdentityTable.{starts_as_root};
 ghost use Rattle.pt_bind.specs.Tags.{with_tag};
 ghost use Rattle.pt_bind.specs.declared.slot.Slot.TheVariants.{Exe};
 ghost use Rattle.pt_results.specs.Notes.{noted, tags_after};
 ghost use Rattle.pt_tracer.specs.Answering.{BeginsAs, BeginsBy};
-ghost use Rattle.pt_tracer.specs.Watched.{answer_at, has_begun, is_execve, returned, shown_due, shown_to};
+ghost use Rattle.pt_tracer.specs.Watched.{answer_at, has_begun, is_execve, remembered_in, returned, shown_due, shown_to};
 
 use crate::pending::Pending;
 use crate::registers::{A0, set};
@@ -14,6 +16,7 @@ use pt_bind::Tags;
 use pt_faker::below::{Identities, User};
 use pt_faker::memory::show_owner;
 use pt_faker::registers::{STACK, forgive, has_answered_zero};
+use pt_faker::remembering::remember;
 use pt_faker::{Due, Tracee, due_of, show_identity};
 use pt_results::below::Request;
 use pt_results::note_result;
@@ -70,26 +73,28 @@ fn begin_by<T: Tracee>(t: &mut T, table: &mut Identities) -> Result<(), NoMemory
     Ok(())
 }
 
-/// Gives a caller its registers back with the answer, notes the tags of what the call made, and shows the host user as another where
-/// there are identities. After want of memory all of it may only be dropped.
+/// Gives a caller its registers back with the answer and notes the tags of what the call made. Where there are identities it shows the host
+/// user as another, and remembers what the call said of an owner or a mode. After want of memory all of it may only be dropped.
 pub(crate) fn give_back<T: Tracee>(
     t: &mut T,
     tags: &mut Tags,
     user: User,
-    identities: &Option<Identities>,
+    identities: &mut Option<Identities>,
     call: &Pending,
 ) -> Result<(), NoMemory>
     ensures tags { OnOk result (tags.new ≡ tags_after tags.old (T.stopped t.old).pid (noted call.now.request call.now.led.index (answer_at (returned call.now (T.stopped t.old))))) }
-    ensures shown { OnOk result (T.stopped t.new ≡ shown_to user identities.now call.now (returned call.now (T.stopped t.old))) }
+    ensures shown { OnOk result (T.stopped t.new ≡ shown_to user identities.old call.now (returned call.now (T.stopped t.old))) }
+    ensures remembers { OnOk result (identities.new ≡ remembered_in identities.old call.now (T.stopped t.old).handed.target (register_at (T.stopped t.new) 10)) }
     ensures edits { IsEdited (T.stopped t.old) (T.stopped t.new) }
     ensures rest { T.around t.new ≡ T.around t.old }
 {
     let pid = t.pid();
+    let target = t.target();
     return_registers(t, call);
     let answer = t.reg(A0).cast_signed();
     note_result(tags, pid, &call.request, call.led.index, answer)?;
     match identities {
-        Some(table) => show_due(t, user, table, call),
+        Some(table) => settle_due(t, user, table, call, target),
         None => Ok(()),
     }
 }
@@ -108,26 +113,47 @@ fn return_registers<T: Tracee>(t: &mut T, call: &Pending)
     }
 }
 
-/// What is edited of an answer for whoever believes in another identity.
-fn show_due<T: Tracee>(
+/// What is edited of an answer for whoever believes in another identity, and what is remembered of it.
+fn settle_due<T: Tracee>(
     t: &mut T,
     user: User,
-    table: &Identities,
+    table: &mut Identities,
     call: &Pending,
+    target: Option<u64>,
 ) -> Result<(), NoMemory>
-    ensures shown { OnOk result (T.stopped t.new ≡ shown_to user (Some table.now) call.now (T.stopped t.old)) }
+    ensures shown { OnOk result (T.stopped t.new ≡ shown_to user (Some table.old) call.now (T.stopped t.old)) }
+    ensures remembers { OnOk result (table.new ≡ remembered_of (due_of (starts_as_root table.old) call.now.request) target (register_at (T.stopped t.new) 10) table.old) }
     ensures edits { IsEdited (T.stopped t.old) (T.stopped t.new) }
     ensures rest { T.around t.new ≡ T.around t.old }
 {
     let _pid = t.pid();
-    let (uid, _) = table.start();
-    match due_of(uid == 0, &call.request) {
-        Some(due) => show(t, user, table, call.led.at_root, due),
+    match due_of(table.starts_as_root(), &call.request) {
+        Some(due) => {
+            show(t, user, table, call.led.at_root, due)?;
+            remember_due(table, due, target, t.reg(A0))
+        }
         None => Ok(()),
     }
 }
 
-/// The same by what is due.
+/// What is remembered of an answer by what is due.
+fn remember_due(
+    table: &mut Identities,
+    due: Due,
+    target: Option<u64>,
+    answer: u64,
+) -> Result<(), NoMemory>
+    ensures { OnOk result (table.new ≡ remembered_of (Some due) target answer table.old) }
+{
+    match due {
+        Due::Remembers { change } => remember(table, change, target, answer),
+        Due::Tells { .. } | Due::ForgivesRoot | Due::ShowsOwner { .. } | Due::BeginsProgram => Ok(
+            (),
+        ),
+    }
+}
+
+/// What is edited of an answer by what is due.
 fn show<T: Tracee>(
     t: &mut T,
     user: User,
@@ -141,7 +167,7 @@ fn show<T: Tracee>(
 {
     let _pid = t.pid();
     match due {
-        Due::ForgivesOwner => {
+        Due::Remembers { .. } => {
             forgive(t, true);
             Ok(())
         }
@@ -149,7 +175,7 @@ fn show<T: Tracee>(
             forgive(t, at_root);
             Ok(())
         }
-        Due::ShowsOwner { at } if has_answered_zero(t) => show_owner(t, user, table.start(), at),
+        Due::ShowsOwner { at } if has_answered_zero(t) => show_owner(t, user, table, at),
         Due::ShowsOwner { .. } | Due::Tells { .. } | Due::BeginsProgram => Ok(()),
     }
 }

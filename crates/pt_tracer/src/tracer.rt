@@ -123,7 +123,7 @@ impl Tracer {
         if has_begun(&call, t) {
             begin(t, &mut self.tags, &mut self.identities, call.led.index)
         } else {
-            give_back(t, &mut self.tags, self.user, &self.identities, &call)
+            give_back(t, &mut self.tags, self.user, &mut self.identities, &call)
         }
     }
 }

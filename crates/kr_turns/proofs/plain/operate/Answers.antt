@@ -60,6 +60,11 @@ returns-in-Err-Err-clause-rule g c =
 pub returns-in-Err-Err-clause-runs : goal.returns-in-Err-Err-clause-runs
 returns-in-Err-Err-clause-runs g c = λ calls few runs. runs-later _ _ calls c.refuse.new.state (c.refuse.ensures.runs _ _ calls runs)
 
+pub handed_on-handed-requires : goal.handed_on-handed-requires
+handed_on-handed-requires g c =
+    let runs = c.requires.may.runs in
+    (lit< tt, (sound-of g.P.Places.number (g.P.Places.mounts c.args.places.now) c.args.state.now runs.lasts.lawful runs.served, c.requires.lives))
+
 pub look_ahead-ahead-requires : goal.look_ahead-ahead-requires
 look_ahead-ahead-requires g c =
     let number = g.P.Places.number in

@@ -10,6 +10,7 @@ use Rattle.kr_turns.proofs.BreakLemmas.{idle-here, killed-here}
 use Rattle.kr_turns.proofs.PlainLemmas.{if-ok}
 use Rattle.kr_turns.proofs.TurnLemmas.{computed-still, killed-now, turn-by}
 use Rattle.kr_turns.proofs.turn.make_turn.Goals as goal
+use Rattle.kr_calm.specs.declared.rule.Rule.{Rule}
 
 pub idle_rule-requires : goal.idle_rule-requires
 idle_rule-requires g c =
@@ -47,7 +48,7 @@ pub returns-in-Next-clause-turn : goal.returns-in-Next-clause-turn
 returns-in-Next-clause-turn g c = λ p found tally.
     turn-by (watching g.S.Stops.enters g.S.Stops.exits g.S.Stops.bears g.S.Stops.forgets) g.P.Places.number (g.P.Places.mounts c.args.places.now) c.args.pid c.args.fuel c.args.state.now c.compute.new.state c.in_ok-event.event Next c.in_ok-event._done c.in_ok-event.ensures.computes c.in-Next.is p found c.args.stops.now tally
     (machine_of g.P.Places.number c.compute.new.state c.args.stops.now (with_broken c.idle_rule.result tally))
-    (ap (λ (broken : Option ℕ). machine_of g.P.Places.number c.compute.new.state c.args.stops.now (with_broken broken tally))
+    (ap (λ (broken : Option Rule). machine_of g.P.Places.number c.compute.new.state c.args.stops.now (with_broken broken tally))
     (c.idle_rule.ensures ∙ idle-here g.P.Places.number (g.P.Places.mounts c.args.places.now) c.args.pid _ c.compute.new.state))
 
 pub returns-in-Call-clause-turn : goal.returns-in-Call-clause-turn
@@ -67,7 +68,7 @@ returns-in_ok-kill-in-Killed-clause-turn g c = λ p found tally.
     in (
       now,
       c.gone.ensures,
-      ap (λ (broken : Option ℕ). with_status (128 + c.in-Killed.signal) (with_broken broken tally))
+      ap (λ (broken : Option Rule). with_status (128 + c.in-Killed.signal) (with_broken broken tally))
           (c.killed_rule.ensures ∙ killed-here g.P.Places.number (g.P.Places.mounts c.args.places.now) c.args.pid c.in-Killed.signal c.compute.new.state c.kill.new.state _ c.marks_read-read.ensures now),
     ))
 

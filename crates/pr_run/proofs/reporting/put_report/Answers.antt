@@ -1,12 +1,14 @@
 use Rattle.std.proofs.Common.{◌≡◌, rules, sym, ap, subst, ◌∙◌}
 use Rattle.std.specs.Prelude.{Err}
+use Rattle.std.specs.Option.{option_map}
 use Rattle.pr_io.specs.Faults.{Rose}
 use Rattle.pr_io.specs.Moves.{Gets}
 use Rattle.kr_core.specs.Kernel.{machine}
 use Rattle.kr_text.specs.Canonical.{canonical}
 use Rattle.kr_core.specs.kr_turns.Run.{run}
 use Rattle.kr_core.specs.kr_turns.Turn.{Machine}
-use Rattle.pr_run.specs.Report.{calm_part, errs, report_of}
+use Rattle.kr_core.specs.kr_turns.kr_calm.Calm.{rule_number}
+use Rattle.pr_run.specs.Report.{calm_told, errs, report_of}
 use Rattle.pr_run.specs.Puts.{PutsCalm, PutsListing, PutsTurns}
 use Rattle.pr_run.specs.Slots.{slot_of}
 use Rattle.pr_run.proofs.BytesLemmas.{gets-trans, rose-since}
@@ -20,7 +22,7 @@ returns-in_err-put_calm g c =
     let ran = run g.S.Graphed.does g.row.M (g.P.Places.mounts c.args.kernel.now.places) (slot_of plan.schedule) plan.turns (machine number c.args.kernel.now) in
     let r = report_of plan ran in
     let puts = c.in_ok-end.ensures.puts in
-    let calm : calm_part plan.calm c.broken.result ≡ r.calm = ap (calm_part plan.calm) (c.broken.ensures ∙ ap (λ (m : Machine g.row.S.Denot). m.tally.broken) (sym c.in_ok-end.ensures.machine)) in
+    let calm : calm_told plan.calm c.broken.result ≡ r.calm = ap (calm_told plan.calm) (c.broken.ensures ∙ ap (λ (m : Machine g.row.S.Denot). option_map rule_number m.tally.broken) (sym c.in_ok-end.ensures.machine)) in
     let put = subst (λ line. PutsCalm line (g.R.Sink.got c.run_turns.new.err) (g.R.Sink.got c.put_calm.new.err) (Rose (g.R.Sink.faults c.run_turns.new.err) (g.R.Sink.faults c.put_calm.new.err)) (Err c.in_err-put_calm.field-0.0)) calm c.in_err-put_calm.ensures.put in
     let stopped = stops-at-calm r (Rose (g.O.Sink.faults c.args.out.now) (g.O.Sink.faults c.run_turns.new.out)) (Rose (g.R.Sink.faults c.args.err.now) (g.R.Sink.faults c.put_calm.new.err)) (Rose (g.L.Sink.faults c.args.left.now) (g.L.Sink.faults c.args.left.now)) (Rose (g.R.Sink.faults c.run_turns.new.err) (g.R.Sink.faults c.put_calm.new.err))
     (g.O.Sink.got c.args.out.now) (g.O.Sink.got c.run_turns.new.out) (g.R.Sink.got c.args.err.now) (g.R.Sink.got c.run_turns.new.err) (g.R.Sink.got c.put_calm.new.err) (g.L.Sink.got c.args.left.now) (g.L.Sink.got c.args.left.now)
@@ -34,7 +36,7 @@ returns-in_err-put_listing g c =
     let ran = run g.S.Graphed.does g.row.M (g.P.Places.mounts c.args.kernel.now.places) (slot_of plan.schedule) plan.turns (machine number c.args.kernel.now) in
     let r = report_of plan ran in
     let puts = c.in_ok-end.ensures.puts in
-    let calm : calm_part plan.calm c.broken.result ≡ r.calm = ap (calm_part plan.calm) (c.broken.ensures ∙ ap (λ (m : Machine g.row.S.Denot). m.tally.broken) (sym c.in_ok-end.ensures.machine)) in
+    let calm : calm_told plan.calm c.broken.result ≡ r.calm = ap (calm_told plan.calm) (c.broken.ensures ∙ ap (λ (m : Machine g.row.S.Denot). option_map rule_number m.tally.broken) (sym c.in_ok-end.ensures.machine)) in
     let line = subst (λ bytes. Gets (g.R.Sink.got c.run_turns.new.err) (g.R.Sink.got c.put_calm.new.err) bytes) calm c.in_ok-put_calm.ensures.put in
     let turns : PutsTurns r (g.O.Sink.got c.args.out.now) (g.O.Sink.got c.run_turns.new.out) (g.R.Sink.got c.args.err.now) (g.R.Sink.got c.put_calm.new.err) = record { out_got = puts.1; err_got = gets-trans (g.R.Sink.got c.args.err.now) (g.R.Sink.got c.run_turns.new.err) (g.R.Sink.got c.put_calm.new.err) (errs r.puts) r.calm puts.2 line } in
     let listing : canonical (machine number c.run_turns.new.kernel).state.tree plan.user ≡ r.left = ap (λ (m : Machine g.row.S.Denot). canonical m.state.tree plan.user) (sym c.in_ok-end.ensures.machine) in

@@ -14,9 +14,13 @@ pub returns-clause-shows : goal.returns-clause-shows
 returns-clause-shows g c =
     let t = g.T.Tracee.stopped c.args.t.now in
     let u = g.T.Tracee.stopped c.peek.new.self in
+    let table = c.args.identities.now in
     on_ok c.write.result
-    (λ poked. owner-shown t c.pid-pid.ensures.lives c.args.user c.args.ids.0 c.args.ids.1 c.args.at u _ (c.in-Ok.ensures.when.0 refl) c.in-Ok.ensures.after
-    (poked ∙ ap (λ bytes. after_poke c.args.at bytes u) (c.fix_stat.ensures ∙ ap (shown_stat c.args.user c.args.ids.0 c.args.ids.1) c.in-Ok.ensures.bytes)))
+    (λ poked. owner-shown t c.pid-pid.ensures.lives c.args.user table c.args.at u _ (c.in-Ok.ensures.when.0 refl) c.in-Ok.ensures.after
+    (poked
+    ∙ ap (λ bytes. after_poke c.args.at bytes u)
+    (c.fix_stat.ensures
+    ∙ (λ i. shown_stat c.args.user (c.start.ensures.uid i) (c.start.ensures.gid i) (c.shown_owners.ensures i) (c.in-Ok.ensures.bytes i)))))
     c.write.ensures.after
 
 pub returns-clause-edits : goal.returns-clause-edits

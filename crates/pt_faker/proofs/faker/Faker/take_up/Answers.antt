@@ -18,7 +18,7 @@ returns-in-None-clause-enters g c =
     on_ok c.set.result
     (λ put. subst (λ (h : Faking). (record { user = own.user; identities = c.keep.new.self; dues = c.set.new.self }, u) ≡ after_effect h r t (effect (identity_at h.identities t.pid) r)) c.self.view_is
     (left-alone f t c.pid-pid.result c.take.new.self c.keep.new.self c.in_ok-ids.ids c.answer_call.new.ids c.pid-pid.ensures.pid c.in_ok-ids.ensures.ok c.in_ok-keep.ensures r u c.in_ok-told.told c.set.new.self
-    c.in_ok-ids.ensures.identity c.in_ok-told.ensures.answers c.in-None.is c.is_root-root.result c.due_of.result c.is_root-root.ensures c.due_of.ensures put))
+    c.in_ok-ids.ensures.identity c.in_ok-told.ensures.answers c.in-None.is c.starts_as_root-root.result c.due_of.result c.starts_as_root-root.ensures c.due_of.ensures put))
     c.set.ensures
 
 pub returns-in-Some-clause-enters : goal.returns-in-Some-clause-enters

@@ -11,6 +11,6 @@ returns-in_ok-copy-in-Some c =
 
 pub returns-in_ok-ids-in-None : goal.returns-in_ok-ids-in-None
 returns-in_ok-ids-in-None c =
-    is_starting c.args.self.now c.args.pid _ _ _ _ c.self.view_is
+    is_starting c.args.self.now c.args.pid _ _ _ _ _ c.self.view_is
     (c.in-None.ensures.value ∙ get-view c.self.inside.kept.entries c.args.self.now.kept c.args.pid (ap (λ (t : IdentityTable). t.kept) c.self.view_is))
     c.in_ok-ids-in-None.ensures
