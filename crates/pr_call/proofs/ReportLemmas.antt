@@ -1,14 +1,13 @@
 -- What an answer of a report says in the words of the top call.
 use Rattle.std.proofs.Common.{◌≡◌, ◌⊎◌, inl, inr, ℕ, sym, subst, ◌∙◌}
 use Rattle.std.specs.Prelude.{Result, Ok, Err}
-use Rattle.pr_io.specs.Moves.{Gets, GetsPrefix}
 use Rattle.pr_sources.specs.declared.answer.Answer.{Answer}
 use Rattle.pr_sources.specs.declared.answer.Answer.TheVariants.{Ended, Deadlock, Spent, Usage, TooLong, TreeBad, BadBind, NoStart, ReadFault, WriteFault, NoMemory}
 use Rattle.pr_sources.specs.declared.answer.Which.{Which}
 use Rattle.pr_sources.specs.declared.answer.Which.TheVariants.{Tree as TreeSource, Elf, Input, Out, Err as ErrSink, Left}
 use Rattle.pr_sources.specs.Reading.{EndsBeforeInput}
 use Rattle.law_machines.specs.pr_run.Report.{Deadlock as AllWait, Ending, Over, Report, Spent as NoTurnIsLeft, answer_of}
-use Rattle.law_machines.specs.pr_run.Puts.{AnswersReport, PutsReport, PutsTurns, StopsBetween, StopsInCalm, StopsInErr, StopsInOut, answer_told, stop_answer}
+use Rattle.law_machines.specs.pr_run.Puts.{AnswersReport, Got, GotPrefix, PutsReport, PutsTurns, StopsBetween, StopsInCalm, StopsInErr, StopsInOut, answer_told, stop_answer}
 use Rattle.law_machines.specs.pr_run.declared.plan.Plan.{Plan}
 use Rattle.law_machines.specs.pr_run.declared.turns.Stop.{Stop}
 use Rattle.law_machines.specs.pr_run.declared.turns.Stop.TheVariants as stop
@@ -89,13 +88,13 @@ no-stop-input stop.Err e = absurd cc
 no-stop-input stop.Left e = absurd cc
 no-stop-input stop.NoMemory e = absurd cc
 
-module _ {rose_out rose_err rose_left : Type 0} (opened : Opened) (p : Passed) {a : Answer}
-    (answers : AnswersReport (report (begun_told opened)) rose_out rose_err rose_left p.out.before p.out.now p.err.before p.err.now p.left.before p.left.now a) where
+module _ (opened : Opened) (p : Passed) {a : Answer}
+    (answers : AnswersReport (report (begun_told opened)) p.out p.err p.left a) where
   abbrev own : Report
   own = report (begun_told opened)
 
   abbrev Puts : Result Answer Stop → Type 0
-  Puts t = PutsReport own rose_out rose_err rose_left p.out.before p.out.now p.err.before p.err.now p.left.before p.left.now t
+  Puts t = PutsReport own p.out p.err p.left t
 
   own-tells : TellsRun own.answer
   own-tells = report-tells opened.plan (started_told opened.kind)
@@ -131,7 +130,7 @@ module _ {rose_out rose_err rose_left : Type 0} (opened : Opened) (p : Passed) {
   answered-as (Ok answer) puts e = inl (e ∙ puts.0)
   answered-as (Err s) puts e = inr (subst EndsEarly (sym e) (stop-ends s))
 
-  put-as : (t : Result Answer Stop) → Puts t → a ≡ answer_told t → TellsRun a → PutsTurns own p.out.before p.out.now p.err.before p.err.now × Gets p.left.before p.left.now own.left
+  put-as : (t : Result Answer Stop) → Puts t → a ≡ answer_told t → TellsRun a → PutsTurns own p.out p.err × Got p.left own.left
   put-as (Ok answer) puts e tells = (puts.1, puts.2)
   put-as (Err s) puts e tells = absurd (no-stop-tells s (subst TellsRun e tells))
 
@@ -139,28 +138,28 @@ module _ {rose_out rose_err rose_left : Type 0} (opened : Opened) (p : Passed) {
   no-fault : (b : Answer) → (TellsRun b → ⊥) → (answer : Answer) → answer ≡ own.answer → a ≡ answer → a ≡ b → ⊥
   no-fault b fails answer is e same = fails (subst TellsRun (sym (e ∙ is) ∙ same) own-tells)
 
-  in-out : (t : Result Answer Stop) → Puts t → a ≡ answer_told t → a ≡ WriteFault Out → StopsInOut own.puts p.out.before p.out.now p.err.before p.err.now
+  in-out : (t : Result Answer Stop) → Puts t → a ≡ answer_told t → a ≡ WriteFault Out → StopsInOut own.puts p.out p.err
   in-out (Ok answer) puts e is = absurd (no-fault (WriteFault Out) (λ p. p) answer puts.0 e is)
   in-out (Err stop.Out) puts e is = puts.1
   in-out (Err stop.Err) puts e is = absurd cc
   in-out (Err stop.Left) puts e is = absurd cc
   in-out (Err stop.NoMemory) puts e is = absurd cc
 
-  in-err : (t : Result Answer Stop) → Puts t → a ≡ answer_told t → a ≡ WriteFault ErrSink → StopsInErr own.puts p.out.before p.out.now p.err.before p.err.now ⊎ StopsInCalm own p.out.before p.out.now p.err.before p.err.now
+  in-err : (t : Result Answer Stop) → Puts t → a ≡ answer_told t → a ≡ WriteFault ErrSink → StopsInErr own.puts p.out p.err ⊎ StopsInCalm own p.out p.err
   in-err (Ok answer) puts e is = absurd (no-fault (WriteFault ErrSink) (λ p. p) answer puts.0 e is)
   in-err (Err stop.Out) puts e is = absurd cc
   in-err (Err stop.Err) puts e is = puts.1
   in-err (Err stop.Left) puts e is = absurd cc
   in-err (Err stop.NoMemory) puts e is = absurd cc
 
-  in-left : (t : Result Answer Stop) → Puts t → a ≡ answer_told t → a ≡ WriteFault Left → PutsTurns own p.out.before p.out.now p.err.before p.err.now × GetsPrefix p.left.before p.left.now own.left
+  in-left : (t : Result Answer Stop) → Puts t → a ≡ answer_told t → a ≡ WriteFault Left → PutsTurns own p.out p.err × GotPrefix p.left own.left
   in-left (Ok answer) puts e is = absurd (no-fault (WriteFault Left) (λ p. p) answer puts.0 e is)
   in-left (Err stop.Out) puts e is = absurd cc
   in-left (Err stop.Err) puts e is = absurd cc
   in-left (Err stop.Left) puts e is = (puts.1, puts.2)
   in-left (Err stop.NoMemory) puts e is = absurd cc
 
-  for-memory : (t : Result Answer Stop) → Puts t → a ≡ answer_told t → a ≡ NoMemory → StopsBetween own.puts p.out.before p.out.now p.err.before p.err.now ⊎ PutsTurns own p.out.before p.out.now p.err.before p.err.now
+  for-memory : (t : Result Answer Stop) → Puts t → a ≡ answer_told t → a ≡ NoMemory → StopsBetween own.puts p.out p.err ⊎ PutsTurns own p.out p.err
   for-memory (Ok answer) puts e is = absurd (no-fault NoMemory (λ p. p) answer puts.0 e is)
   for-memory (Err stop.Out) puts e is = absurd cc
   for-memory (Err stop.Err) puts e is = absurd cc

@@ -2,7 +2,6 @@
 use Rattle.std.proofs.Common.{◌≡◌, ◌⊎◌, ◌∙◌, inl, inr, ℕ, List, [], refl, sym, subst}
 use Rattle.std.specs.Prelude.{Result, Ok, Err}
 use Rattle.std.proofs.lemmas.List.{append-nil}
-use Rattle.pr_io.specs.Drawn.{SinkFailed}
 use Rattle.pr_io.specs.Moves.{Gets, Stays}
 use Rattle.pr_sources.specs.pr_words.declared.options.Options.{Options}
 use Rattle.pr_sources.specs.declared.answer.Answer.{Answer}
@@ -187,7 +186,7 @@ complete-refused words p a expected cause (inr early) none = no-fault-left words
 -- a run that begins
 module _ (opened : Opened) (p : Passed) (none : NoneFailed p) (a : Answer) where
   abbrev Puts : Result Answer Stop → Type 0
-  Puts t = PutsReport (report (begun_told opened)) (SinkFailed p.out) (SinkFailed p.err) (SinkFailed p.left) p.out.before p.out.now p.err.before p.err.now p.left.before p.left.now t
+  Puts t = PutsReport (report (begun_told opened)) p.out p.err p.left t
 
   complete-as : (t : Result Answer Stop) → Puts t → a ≡ answer_told t → IsAnswerOf (Ok (begun_told opened)) a ⊎ (a ≡ NoMemory)
   complete-as (Ok answer) puts e = inl (e ∙ puts.0)
@@ -196,6 +195,6 @@ module _ (opened : Opened) (p : Passed) (none : NoneFailed p) (a : Answer) where
   complete-as (Err stop.Left) puts e = absurd (none.left_works puts.0)
   complete-as (Err stop.NoMemory) puts e = inr e
 
-  pub complete : AnswersReport (report (begun_told opened)) (SinkFailed p.out) (SinkFailed p.err) (SinkFailed p.left) p.out.before p.out.now p.err.before p.err.now p.left.before p.left.now a
+  pub complete : AnswersReport (report (begun_told opened)) p.out p.err p.left a
       → (expected : Result Begun Answer) → OpensFrom expected (Ok opened) → IsAnswerOf expected a ⊎ (a ≡ NoMemory)
   complete answers expected opens = subst (λ o. IsAnswerOf o a ⊎ (a ≡ NoMemory)) (sym opens) (complete-as answers.told answers.puts answers.answer_is)

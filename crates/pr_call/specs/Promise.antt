@@ -1,14 +1,15 @@
 -- The words in which the top call says what it answers, what the sources gave, and what the sinks got.
 use Rattle.std.specs.Prelude.{◌≡◌, ◌⊎◌, ℕ, List, Result, Ok, Err}
-use Rattle.pr_io.specs.Drawn.{Drawn, Received, SinkFailed, SourceFailed, gave}
-use Rattle.pr_io.specs.Moves.{Gets, GetsPrefix, Stays}
+use Rattle.pr_io.specs.Drawn.{Received, SinkFailed, SourceFailed, drawn, gave, received}
+use Rattle.pr_io.specs.declared.sink.Sink.{Ghosts as OfSink}
+use Rattle.pr_io.specs.declared.source.Source.{Ghosts as OfSource}
 use Rattle.pr_sources.specs.declared.answer.Answer.{Answer}
 use Rattle.pr_sources.specs.declared.answer.Answer.TheVariants.{Ended, Deadlock, Spent, Usage, TooLong, TreeBad, BadBind, NoStart, ReadFault, WriteFault, NoMemory}
 use Rattle.pr_sources.specs.declared.answer.Which.TheVariants.{Out, Err as ErrSink, Left}
 use Rattle.pr_sources.specs.Reading.{AllAreRead, IsReadUpTo, Sources}
 use Rattle.pr_sources.specs.Within.{IsEarly}
 use Rattle.law_machines.specs.pr_run.Report.{Report}
-use Rattle.law_machines.specs.pr_run.Puts.{PutsTurns, StopsBetween, StopsInCalm, StopsInErr, StopsInOut}
+use Rattle.law_machines.specs.pr_run.Puts.{Got, GotNone, GotPrefix, PutsTurns, StopsBetween, StopsInCalm, StopsInErr, StopsInOut}
 use Rattle.law_machines.specs.pr_top.Opening.{Begun, opening, report}
 
 -- what passed in a call: what the sources gave, and what the sinks got
@@ -18,8 +19,15 @@ pub record Passed : Type 0 where
   pub err : Received
   pub left : Received
 
-abbrev pub passed : Drawn → Drawn → Drawn → Received → Received → Received → Passed
-passed of_tree of_elf of_input to_out to_err to_left = record { sources = record { tree = of_tree; elf = of_elf; input = of_input }; out = to_out; err = to_err; left = to_left }
+-- by what their ghost members say of each before and after
+module _ {T E I O R L : Type 0} where
+  abbrev pub passed : OfSource T → T → T → OfSource E → E → E → OfSource I → I → I → OfSink O → O → O → OfSink R → R → R → OfSink L → L → L → Passed
+  passed of_tree tree tree' of_elf elf elf' of_input input input' of_out out out' of_err err err' of_left left left' = record {
+    sources = record { tree = drawn of_tree tree tree'; elf = drawn of_elf elf elf'; input = drawn of_input input input' };
+    out = received of_out out out';
+    err = received of_err err err';
+    left = received of_left left left';
+  }
 
 -- what the words open, of the bytes that were given
 abbrev pub opened_by : List (List ℕ) → Sources → Result Begun Answer
@@ -64,19 +72,19 @@ EndsEarly answer = ⊥
 
 -- no sink got a byte
 pub record NothingIsPut (p : Passed) : Type 0 where
-  pub out_stays : Stays p.out.before p.out.now
-  pub err_stays : Stays p.err.before p.err.now
-  pub left_stays : Stays p.left.before p.left.now
+  pub out_stays : GotNone p.out
+  pub err_stays : GotNone p.err
+  pub left_stays : GotNone p.left
 
 -- this report, whole; or want of memory or a fault, and what was put before it
 pub record IsReported (told : Report) (p : Passed) (answer : Answer) : Type 0 where
   pub answered : (answer ≡ told.answer) ⊎ EndsEarly answer
-  pub turns : TellsRun answer → PutsTurns told p.out.before p.out.now p.err.before p.err.now
-  pub listing : TellsRun answer → Gets p.left.before p.left.now told.left
-  pub out_stops : answer ≡ WriteFault Out → StopsInOut told.puts p.out.before p.out.now p.err.before p.err.now
-  pub err_stops : answer ≡ WriteFault ErrSink → StopsInErr told.puts p.out.before p.out.now p.err.before p.err.now ⊎ StopsInCalm told p.out.before p.out.now p.err.before p.err.now
-  pub left_stops : answer ≡ WriteFault Left → PutsTurns told p.out.before p.out.now p.err.before p.err.now × GetsPrefix p.left.before p.left.now told.left
-  pub memory_stops : answer ≡ NoMemory → StopsBetween told.puts p.out.before p.out.now p.err.before p.err.now ⊎ PutsTurns told p.out.before p.out.now p.err.before p.err.now
+  pub turns : TellsRun answer → PutsTurns told p.out p.err
+  pub listing : TellsRun answer → Got p.left told.left
+  pub out_stops : answer ≡ WriteFault Out → StopsInOut told.puts p.out p.err
+  pub err_stops : answer ≡ WriteFault ErrSink → StopsInErr told.puts p.out p.err ⊎ StopsInCalm told p.out p.err
+  pub left_stops : answer ≡ WriteFault Left → PutsTurns told p.out p.err × GotPrefix p.left told.left
+  pub memory_stops : answer ≡ NoMemory → StopsBetween told.puts p.out p.err ⊎ PutsTurns told p.out p.err
 
 -- this refusal, or a fault of a source or want of memory, and nothing is put
 pub record IsRefused (refusal : Answer) (p : Passed) (answer : Answer) : Type 0 where

@@ -1,7 +1,7 @@
 //! The top call.
 ghost use Rattle.std.specs.Prelude.{◌≡◌, ◌⊎◌, ◌<◌, ◌^◌, Err, length, map};
 ghost use Rattle.std.specs.String.{string_bytes};
-ghost use Rattle.pr_io.specs.Drawn.{drawn, received};
+ghost use Rattle.pr_io.specs.Drawn.{drawn};
 ghost use Rattle.pr_io.specs.Faults.{Rose};
 ghost use Rattle.pr_io.specs.Moves.{Stays};
 ghost use Rattle.pr_sources.specs.declared.answer.Which.TheVariants.{Tree, Elf, Input, Out, Err as ErrSink, Left};
@@ -40,12 +40,12 @@ pub fn proot<T: Source, E: Source, I: Source, O: Sink, R: Sink, L: Sink>(
 
     // The headline: without `--native`, what is answered and put is what the same words and bytes open over mounts, where that is calm: the report
     // of a run that breaks no calm rule, or a refusal, of bindings that don't settle or of a start whose walks break none.
-    ensures headline { Headline (map string_bytes words.now) (passed (drawn T.Source tree.old tree.new) (drawn E.Source elf.old elf.new) (drawn I.Source input.old input.new)
-        (received O.Sink out.old out.new) (received R.Sink err.old err.new) (received L.Sink left.old left.new)) result }
+    ensures headline { Headline (map string_bytes words.now) (passed T.Source tree.old tree.new E.Source elf.old elf.new I.Source input.old input.new
+        O.Sink out.old out.new R.Sink err.old err.new L.Sink left.old left.new) result }
 
     // What is answered and put: the opening's refusal, or the report of its run; want of memory or a fault may end it earlier, after a part of it.
-    ensures opening { IsTold (map string_bytes words.now) (passed (drawn T.Source tree.old tree.new) (drawn E.Source elf.old elf.new) (drawn I.Source input.old input.new)
-        (received O.Sink out.old out.new) (received R.Sink err.old err.new) (received L.Sink left.old left.new)) result }
+    ensures opening { IsTold (map string_bytes words.now) (passed T.Source tree.old tree.new E.Source elf.old elf.new I.Source input.old input.new
+        O.Sink out.old out.new R.Sink err.old err.new L.Sink left.old left.new) result }
     ensures refusal { Refuses result →
         opened_by (map string_bytes words.now) (record { tree = drawn T.Source tree.old tree.new; elf = drawn E.Source elf.old elf.new; input = drawn I.Source input.old input.new }) ≡ Err result }
     ensures words { IsOfWords result → asked (map string_bytes words.now) ≡ Err result }
@@ -53,8 +53,8 @@ pub fn proot<T: Source, E: Source, I: Source, O: Sink, R: Sink, L: Sink>(
     // What a source gave came behind what it had given, and one that tells what it has left lost the same. Each whose stage was passed was read to
     // its end, and one that is too long gave its limit and one byte.
     ensures gives { AreDrawn (record { tree = drawn T.Source tree.old tree.new; elf = drawn E.Source elf.old elf.new; input = drawn I.Source input.old input.new }) }
-    ensures ends { ReadsSources (asked (map string_bytes words.now)) → IsReadThrough (passed (drawn T.Source tree.old tree.new) (drawn E.Source elf.old elf.new) (drawn I.Source input.old input.new)
-        (received O.Sink out.old out.new) (received R.Sink err.old err.new) (received L.Sink left.old left.new)) result }
+    ensures ends { ReadsSources (asked (map string_bytes words.now)) → IsReadThrough (passed T.Source tree.old tree.new E.Source elf.old elf.new I.Source input.old input.new
+        O.Sink out.old out.new R.Sink err.old err.new L.Sink left.old left.new) result }
 
     // Nothing is put before the run.
     ensures out_untouched { ComesBeforeRun result → Stays (O.got out.old) (O.got out.new) }
@@ -91,8 +91,8 @@ pub fn proot<T: Source, E: Source, I: Source, O: Sink, R: Sink, L: Sink>(
     ensures input_takes { IsAskedWithin (2 ^ 24) (I.takes input.old) (I.takes input.new) }
 
     // Where no count of faults rose, the opening's refusal or the answer of its run comes, want of memory aside.
-    ensures complete { IsComplete (map string_bytes words.now) (passed (drawn T.Source tree.old tree.new) (drawn E.Source elf.old elf.new) (drawn I.Source input.old input.new)
-        (received O.Sink out.old out.new) (received R.Sink err.old err.new) (received L.Sink left.old left.new)) result }
+    ensures complete { IsComplete (map string_bytes words.now) (passed T.Source tree.old tree.new E.Source elf.old elf.new I.Source input.old input.new
+        O.Sink out.old out.new R.Sink err.old err.new L.Sink left.old left.new) result }
 {
     openings::openings_agree();
     match open(alloc, words, tree, elf, input) {

@@ -5,20 +5,23 @@ use Rattle.pr_io.specs.Faults.{Rose}
 use Rattle.pr_io.specs.Moves.{Gets, GetsPrefix, Stays}
 use Rattle.kr_core.specs.kr_turns.Run.{Put}
 use Rattle.pr_run.specs.Report.{gathered}
-use Rattle.pr_run.specs.Puts.{GetsPast, Got}
 
 -- ---- what a sink got
 
-pub stays-refl : (a : Got) → Stays a a
+pub stays-refl : (a : List ℕ) → Stays a a
 stays-refl a = refl
 
-pub gets-nil : (a : Got) → Gets a a []
+pub gets-nil : (a : List ℕ) → Gets a a []
 gets-nil a = sym (append-nil a)
 
-pub gets-trans : (a b c : Got) (bs cs : List ℕ) → Gets a b bs → Gets b c cs → Gets a c (bs ++ cs)
+-- what stays gets no byte
+pub gets-none : (a b : List ℕ) → Stays a b → Gets a b []
+gets-none a b kept = kept ∙ sym (append-nil a)
+
+pub gets-trans : (a b c : List ℕ) (bs cs : List ℕ) → Gets a b bs → Gets b c cs → Gets a c (bs ++ cs)
 gets-trans a b c bs cs first next = next ∙ ap (λ l. l ++ cs) first ∙ append_assoc a bs cs
 
-pub gets-kept : (a b c : Got) (bs : List ℕ) → Gets a b bs → Stays b c → Gets a c bs
+pub gets-kept : (a b c : List ℕ) (bs : List ℕ) → Gets a b bs → Stays b c → Gets a c bs
 gets-kept a b c bs got kept = kept ∙ got
 
 -- ---- lists of turns
@@ -49,10 +52,10 @@ gathered-more part n puts put more =
     ap (gathered part) more ∙ gathered-append part (take n puts) (put ∷ []) ∙ ap (λ l. gathered part (take n puts) ++ l) (append-nil (part put))
 
 -- what was put is followed by the next turn's bytes, or by a prefix of them
-pub gets-next : (part : Put → List ℕ) (n : ℕ) (puts : List Put) (put : Put) (a b c : Got) → take (suc n) puts ≡ take n puts ++ put ∷ [] → Gets a b (gathered part (take n puts)) → Gets b c (part put) → Gets a c (gathered part (take (suc n) puts))
+pub gets-next : (part : Put → List ℕ) (n : ℕ) (puts : List Put) (put : Put) (a b c : List ℕ) → take (suc n) puts ≡ take n puts ++ put ∷ [] → Gets a b (gathered part (take n puts)) → Gets b c (part put) → Gets a c (gathered part (take (suc n) puts))
 gets-next part n puts put a b c more got next = subst (Gets a c) (sym (gathered-more part n puts put more)) (gets-trans a b c (gathered part (take n puts)) (part put) got next)
 
-pub gets-past : (front part : List ℕ) (a b c : Got) → Gets a b front → GetsPrefix b c part → GetsPast a c front part
+pub gets-past : (front part : List ℕ) (a b c : List ℕ) → Gets a b front → GetsPrefix b c part → (n : ℕ) × Gets a c (front ++ take n part)
 gets-past front part a b c got next = (next.0, gets-trans a b c front (take next.0 part) got next.1)
 
 -- ---- counts of faults

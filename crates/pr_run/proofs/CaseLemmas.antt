@@ -3,17 +3,17 @@ use Rattle.std.proofs.Common.{◌≡◌, ◌≢◌, ◌&&◌, ℕ, Bool, true, f
 use Rattle.std.proofs.lemmas.Bool.Decides.{Decides-eqb, same_from_decides}
 use Rattle.std.specs.Prelude.{◌↔◌, Result, Err}
 use base.Stored.{Gv, gnil, gnum, gcons}
-use Rattle.pr_io.specs.Moves.{GetsPrefix}
+use Rattle.pr_io.specs.Drawn.{Received}
 use Rattle.pr_sources.specs.declared.answer.Answer.{Answer}
 use Rattle.pr_sources.specs.declared.answer.Answer.TheVariants as answer
 use Rattle.pr_sources.specs.declared.answer.Answer.TheVariants.{NoMemory}
 use Rattle.pr_run.specs.Alike.{same_codes}
 use Rattle.pr_run.specs.Case.{Outcome, agree, outcome_code, status_by, summary, told_of}
-use Rattle.pr_run.specs.Puts.{AnswersReport, Got, PutsReport, StopsInOut, answer_told}
+use Rattle.pr_run.specs.Puts.{AnswersReport, GotNone, GotPrefix, PutsReport, StopsInOut, answer_told}
 use Rattle.pr_run.specs.Report.{Report}
 use Rattle.pr_run.specs.declared.turns.Stop.{Stop}
 use Rattle.pr_run.specs.declared.turns.Stop.TheVariants as stop
-use Rattle.pr_run.proofs.BytesLemmas.{gets-nil, stays-refl}
+use Rattle.pr_run.proofs.BytesLemmas.{gets-none}
 
 -- ---- codes
 
@@ -75,16 +75,16 @@ told-by n o text listing canon status same own text-is listed status-is agreed =
 -- ---- and put
 
 -- the output fails at the summary
-pub stops-in-summary : (text : List ℕ) (out out' err : Got) → text ≢ [] → GetsPrefix out out' text → StopsInOut (record { out = text; err = [] } ∷ []) out out' err err
-stops-in-summary text out out' err some put = record { made = 0; put = record { out = text; err = [] }; next = refl; some = some; out_got = put; err_got = gets-nil err }
+pub stops-in-summary : (text : List ℕ) (out err : Received) → text ≢ [] → GotPrefix out text → GotNone err → StopsInOut (record { out = text; err = [] } ∷ []) out err
+stops-in-summary text out err some put none = record { made = 0; put = record { out = text; err = [] }; next = refl; some = some; out_got = put; err_got = gets-none err.before err.now none }
 
 -- memory runs out before the summary
-pub nothing-told : (r : Report) (out err left : Got) (rose_out rose_left : Type 0) → AnswersReport r rose_out ⊥ rose_left out out err err left left NoMemory
-nothing-told r out err left rose_out rose_left = record {
+pub nothing-told : (r : Report) (out err left : Received) → GotNone out → GotNone err → GotNone left → AnswersReport r out err left NoMemory
+nothing-told r out err left no_out no_err no_left = record {
   told = Err stop.NoMemory;
-  puts = (inl (record { made = 0; out_got = gets-nil out; err_got = inl (gets-nil err) }), stays-refl left);
+  puts = (inl (record { made = 0; out_got = gets-none out.before out.now no_out; err_got = inl (gets-none err.before err.now no_err) }), no_left);
   answer_is = refl;
 }
 
-pub reported : (own told : Report) (rose_out rose_left : Type 0) (out out' err left left' : Got) (t : Result Answer Stop) (a : Answer) → own ≡ told → PutsReport own rose_out ⊥ rose_left out out' err err left left' t → a ≡ answer_told t → AnswersReport told rose_out ⊥ rose_left out out' err err left left' a
-reported own told rose_out rose_left out out' err left left' t a e puts is = record { told = t; puts = subst (λ r. PutsReport r rose_out ⊥ rose_left out out' err err left left' t) e puts; answer_is = is }
+pub reported : (own told : Report) (out err left : Received) (t : Result Answer Stop) (a : Answer) → own ≡ told → PutsReport own out err left t → a ≡ answer_told t → AnswersReport told out err left a
+reported own told out err left t a e puts is = record { told = t; puts = subst (λ r. PutsReport r out err left t) e puts; answer_is = is }

@@ -2,16 +2,25 @@
 use Rattle.std.proofs.Common.{◌≡◌, inl, inr, ℕ, zero, suc, ◌-◌, ◌<◌, ◌≤◌, List, ◌++◌, take, drop, Some, None, refl, sym, ap, subst, ◌∙◌, arith, take-append-drop}
 use Rattle.std.specs.Option.{option_map_or}
 use Rattle.std.proofs.lemmas.List.{append-nil}
-use Rattle.pr_io.specs.Moves.{Gets, Stays}
+use Rattle.pr_io.specs.Drawn.{Received, SinkFailed}
+use Rattle.pr_io.specs.Moves.{Gets}
 use Rattle.kr_view.specs.View.{Row}
 use Rattle.kr_core.specs.kr_turns.Run.{Ending, Put, Ran, Slot, Spent, after_put, ended, ending_of, put_by, run, run_from, turned, with_put}
 use Rattle.kr_core.specs.kr_turns.Turn.{Machine}
 use Rattle.kr_core.specs.kr_stops.Watching.{Watcher}
 use Rattle.pr_run.specs.Report.{errs, last_ending, out_part, outs}
-use Rattle.pr_run.specs.Puts.{Got, StopsBetween, StopsMaking, StopsRun}
+use Rattle.pr_run.specs.Puts.{Got, GotNone, StopsBetween, StopsMaking, StopsRun}
 use Rattle.pr_run.specs.declared.turns.Stop.{Stop}
 use Rattle.pr_run.specs.declared.turns.Stop.TheVariants as stop
-use Rattle.pr_run.proofs.BytesLemmas.{gets-next, gets-past, gets-kept, goes-on, GoesOnWith}
+use Rattle.pr_run.proofs.BytesLemmas.{gets-next, gets-past, gets-kept, goes-on, GoesOnWith, rose-since}
+
+-- a sink in a later part of a call, from when it had got so much and failed so often
+abbrev pub part : Received → List ℕ → ℕ → Received
+part whole got failed = record { before = got; now = whole.now; failed_before = failed; failed_now = whole.failed_now }
+
+-- a count that rose in a part of the call rose in the call
+failed-too : (sink : Received) (got : List ℕ) (count : ℕ) → sink.failed_before ≤ count → SinkFailed (part sink got count) → SinkFailed sink
+failed-too sink got count below rose = rose-since sink.failed_before count sink.failed_now below rose
 
 module _ {S : Type 0} (does : Watcher S) (marks : ℕ) (table : List Row) (slots : ℕ → Slot) where
   abbrev rest-of : ℕ → ℕ → Machine S → Ran S
@@ -92,55 +101,55 @@ module _ {S : Type 0} (does : Watcher S) (marks : ℕ) (table : List Row) (slots
 
   -- ---- where it stops
 
-  module _ (whole : Ran S) (limit made : ℕ) (m : Machine S) (rest : IsRest whole limit made m) (below : made < limit) (out mid out' err mid_err err' : Got) (rose_out rose_err : Type 0)
-      (out_got : Gets out mid (outs (take made whole.puts))) (err_got : Gets err mid_err (errs (take made whole.puts))) where
+  module _ (whole : Ran S) (limit made : ℕ) (m : Machine S) (rest : IsRest whole limit made m) (below : made < limit) (out err : Received) (mid mid_err : List ℕ) (failed failed_err : ℕ)
+      (out_got : Gets out.before mid (outs (take made whole.puts))) (err_got : Gets err.before mid_err (errs (take made whole.puts))) (out_count : out.failed_before ≤ failed) (err_count : err.failed_before ≤ failed_err) where
     abbrev put : Put
     put = put_by (after made m)
 
-    between : Stays mid out' → Stays mid_err err' → StopsBetween whole.puts out out' err err'
+    between : GotNone (part out mid failed) → GotNone (part err mid_err failed_err) → StopsBetween whole.puts out err
     between kept kept_err = record {
       made = made;
-      out_got = gets-kept out mid out' (outs (take made whole.puts)) out_got kept;
-      err_got = inl (gets-kept err mid_err err' (errs (take made whole.puts)) err_got kept_err);
+      out_got = gets-kept out.before mid out.now (outs (take made whole.puts)) out_got kept;
+      err_got = inl (gets-kept err.before mid_err err.now (errs (take made whole.puts)) err_got kept_err);
     }
 
     -- between the output and the error bytes of the turn
-    halfway : ending_of m ≡ None → Gets mid out' put.out → Stays mid_err err' → StopsBetween whole.puts out out' err err'
+    halfway : ending_of m ≡ None → Got (part out mid failed) put.out → GotNone (part err mid_err failed_err) → StopsBetween whole.puts out err
     halfway goes got kept_err =
         let on = (next whole limit made m rest goes below).on in
         let same : made ≡ suc made - 1 = omega arith in
         record {
           made = suc made;
-          out_got = gets-next out_part made whole.puts put out mid out' on.taken out_got got;
-          err_got = inr (subst (λ n. Gets err err' (errs (take n whole.puts))) same (gets-kept err mid_err err' (errs (take made whole.puts)) err_got kept_err));
+          out_got = gets-next out_part made whole.puts put out.before mid out.now on.taken out_got got;
+          err_got = inr (subst (λ n. Got err (errs (take n whole.puts))) same (gets-kept err.before mid_err err.now (errs (take made whole.puts)) err_got kept_err));
         }
 
-    pub stops : (s : Stop) → StopsMaking m put mid out' mid_err err' rose_out rose_err s → StopsRun whole.puts out out' err err' rose_out rose_err s
+    pub stops : (s : Stop) → StopsMaking m put (part out mid failed) (part err mid_err failed_err) s → StopsRun whole.puts out err s
     stops stop.NoMemory (inl kept) = between kept.0 kept.1
     stops stop.NoMemory (inr (goes, (inl kept, kept_err))) = between kept kept_err
     stops stop.NoMemory (inr (goes, (inr got, kept_err))) = halfway goes got kept_err
     stops stop.Out p =
         let on = (next whole limit made m rest p.0 below).on in (
-          p.1.0,
+          failed-too out mid failed out_count p.1.0,
           record {
             made = made;
             put = put;
             next = on.got;
             some = p.1.1;
-            out_got = gets-past (outs (take made whole.puts)) put.out out mid out' out_got p.1.2;
-            err_got = gets-kept err mid_err err' (errs (take made whole.puts)) err_got p.1.3;
+            out_got = gets-past (outs (take made whole.puts)) put.out out.before mid out.now out_got p.1.2;
+            err_got = gets-kept err.before mid_err err.now (errs (take made whole.puts)) err_got p.1.3;
           },
         )
     stops stop.Err p =
         let on = (next whole limit made m rest p.0 below).on in (
-          p.1.0,
+          failed-too err mid_err failed_err err_count p.1.0,
           record {
             made = made;
             put = put;
             next = on.got;
             some = p.1.1;
-            out_got = gets-next out_part made whole.puts put out mid out' on.taken out_got p.1.2;
-            err_got = gets-past (errs (take made whole.puts)) put.err err mid_err err' err_got p.1.3;
+            out_got = gets-next out_part made whole.puts put out.before mid out.now on.taken out_got p.1.2;
+            err_got = gets-past (errs (take made whole.puts)) put.err err.before mid_err err.now err_got p.1.3;
           },
         )
     stops stop.Left p = p.1

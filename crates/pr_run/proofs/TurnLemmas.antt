@@ -6,7 +6,8 @@ use Rattle.kr_core.specs.kr_turns.Steps.{goes_on, picked_process}
 use Rattle.kr_core.specs.Kernel.{Clears, Kernel, machine}
 use Rattle.kr_core.specs.kr_turns.Run.{Deadlock, Ending, Over, Put, after_put, ending_of, if_any}
 use Rattle.kr_core.specs.kr_turns.Turn.{Machine}
-use Rattle.pr_run.specs.Puts.{Got, StopsMaking, StopsTurn}
+use Rattle.pr_io.specs.Drawn.{Received}
+use Rattle.pr_run.specs.Puts.{StopsMaking, StopsTurn}
 use Rattle.pr_run.specs.declared.turns.Stop.{Stop}
 use Rattle.pr_run.specs.declared.turns.Stop.TheVariants as stop
 
@@ -28,8 +29,8 @@ pub forgotten : {P S T : Type 0} {M : ℕ} (number : T → ℕ) (old new : Kerne
 forgotten number old new c = λ i. record { state = c.state i; watcher = c.stops i; tally = record { status = c.status i; broken = c.broken i } }
 
 -- a turn that can be made, and stops
-pub stops-made : {S : Type 0} (m : Machine S) (put own : Put) (out out' err err' : Got) (rose_out rose_err : Type 0) → own ≡ put → ending_of m ≡ None → (s : Stop) → StopsTurn own out out' err err' rose_out rose_err s → StopsMaking m put out out' err err' rose_out rose_err s
-stops-made m put own out out' err err' rose_out rose_err same on stop.NoMemory p = inr (on, subst (λ q. StopsTurn q out out' err err' rose_out rose_err stop.NoMemory) same p)
-stops-made m put own out out' err err' rose_out rose_err same on stop.Out p = (on, subst (λ q. StopsTurn q out out' err err' rose_out rose_err stop.Out) same p)
-stops-made m put own out out' err err' rose_out rose_err same on stop.Err p = (on, subst (λ q. StopsTurn q out out' err err' rose_out rose_err stop.Err) same p)
-stops-made m put own out out' err err' rose_out rose_err same on stop.Left p = (on, p)
+pub stops-made : {S : Type 0} (m : Machine S) (put own : Put) (out err : Received) → own ≡ put → ending_of m ≡ None → (s : Stop) → StopsTurn own out err s → StopsMaking m put out err s
+stops-made m put own out err same on stop.NoMemory p = inr (on, subst (λ q. StopsTurn q out err stop.NoMemory) same p)
+stops-made m put own out err same on stop.Out p = (on, subst (λ q. StopsTurn q out err stop.Out) same p)
+stops-made m put own out err same on stop.Err p = (on, subst (λ q. StopsTurn q out err stop.Err) same p)
+stops-made m put own out err same on stop.Left p = (on, p)

@@ -1,5 +1,6 @@
 -- What is put of a run: all of it, or what stands where a sink failed or memory ran out.
 use Rattle.std.specs.Prelude.{◌≡◌, ◌≢◌, ◌⊎◌, ℕ, suc, ◌-◌, true, List, [], ◌++◌, take, slice_get, Some, None, Result, Ok, Err}
+use Rattle.pr_io.specs.Drawn.{Received, SinkFailed}
 use Rattle.pr_io.specs.Moves.{Gets, GetsPrefix, Stays}
 use Rattle.kr_view.specs.View.{Row}
 use Rattle.kr_core.specs.Kernel.{Kernel}
@@ -18,10 +19,6 @@ use Rattle.pr_run.specs.declared.turns.Stop.TheVariants as stop
 use Rattle.pr_run.specs.declared.turns.End.{End}
 use Rattle.pr_run.specs.declared.turns.End.TheVariants as end
 
--- what a sink got, before and after
-abbrev pub Got : Type 0
-Got = List ℕ
-
 abbrev pub stop_answer : Stop → Answer
 stop_answer stop.Out = answer.WriteFault which.Out
 stop_answer stop.Err = answer.WriteFault which.Err
@@ -33,39 +30,55 @@ end_told end.Over = Over
 end_told end.Deadlock = Deadlock
 end_told end.Spent = Spent
 
+-- ---- a sink
+
+-- it got these bytes; the first ones of them; or none
+abbrev pub Got : Received → List ℕ → Type 0
+Got sink bytes = Gets sink.before sink.now bytes
+
+abbrev pub GotPrefix : Received → List ℕ → Type 0
+GotPrefix sink bytes = GetsPrefix sink.before sink.now bytes
+
+abbrev pub GotNone : Received → Type 0
+GotNone sink = Stays sink.before sink.now
+
 -- bytes, and behind them a prefix of a part
-abbrev pub GetsPast : Got → Got → List ℕ → List ℕ → Type 0
-GetsPast old new front part = (n : ℕ) × Gets old new (front ++ take n part)
+abbrev pub GotPast : Received → List ℕ → List ℕ → Type 0
+GotPast sink front part = (n : ℕ) × Got sink (front ++ take n part)
+
+-- a sink that wasn't called, by what it got before, and how often it failed before
+abbrev pub uncalled : List ℕ → ℕ → Received
+uncalled got failed = record { before = got; now = got; failed_before = failed; failed_now = failed }
 
 -- ---- a turn
 
 -- where it stops: a sink fails that is given bytes, or memory runs out before it, or before its error bytes
-abbrev pub StopsTurn : Put → (out out' err err' : Got) → (rose_out rose_err : Type 0) → Stop → Type 0
-StopsTurn put out out' err err' rose_out rose_err stop.Out = rose_out × (put.out ≢ []) × GetsPrefix out out' put.out × Stays err err'
-StopsTurn put out out' err err' rose_out rose_err stop.Err = rose_err × (put.err ≢ []) × Gets out out' put.out × GetsPrefix err err' put.err
-StopsTurn put out out' err err' rose_out rose_err stop.Left = ⊥
-StopsTurn put out out' err err' rose_out rose_err stop.NoMemory = (Stays out out' ⊎ Gets out out' put.out) × Stays err err'
+abbrev pub StopsTurn : Put → (out err : Received) → Stop → Type 0
+StopsTurn put out err stop.Out = SinkFailed out × (put.out ≢ []) × GotPrefix out put.out × GotNone err
+StopsTurn put out err stop.Err = SinkFailed err × (put.err ≢ []) × Got out put.out × GotPrefix err put.err
+StopsTurn put out err stop.Left = ⊥
+StopsTurn put out err stop.NoMemory = (GotNone out ⊎ Got out put.out) × GotNone err
 
-abbrev pub PutsTurn : Put → (out out' err err' : Got) → (rose_out rose_err : Type 0) → Result (Unit {0}) Stop → Type 0
-PutsTurn put out out' err err' rose_out rose_err (Ok done) = Gets out out' put.out × Gets err err' put.err
-PutsTurn put out out' err err' rose_out rose_err (Err stop) = StopsTurn put out out' err err' rose_out rose_err stop
+abbrev pub PutsTurn : Put → (out err : Received) → Result (Unit {0}) Stop → Type 0
+PutsTurn put out err (Ok done) = Got out put.out × Got err put.err
+PutsTurn put out err (Err stop) = StopsTurn put out err stop
 
 -- memory may run out while a turn is made, whether one can be made or not
-abbrev pub StopsMaking : {S : Type 0} → Machine S → Put → (out out' err err' : Got) → (rose_out rose_err : Type 0) → Stop → Type 0
-StopsMaking m put out out' err err' rose_out rose_err stop.NoMemory = (Stays out out' × Stays err err') ⊎ ((ending_of m ≡ None) × StopsTurn put out out' err err' rose_out rose_err stop.NoMemory)
-StopsMaking m put out out' err err' rose_out rose_err stop = (ending_of m ≡ None) × StopsTurn put out out' err err' rose_out rose_err stop
+abbrev pub StopsMaking : {S : Type 0} → Machine S → Put → (out err : Received) → Stop → Type 0
+StopsMaking m put out err stop.NoMemory = (GotNone out × GotNone err) ⊎ ((ending_of m ≡ None) × StopsTurn put out err stop.NoMemory)
+StopsMaking m put out err stop = (ending_of m ≡ None) × StopsTurn put out err stop
 
 module _ {S : Type 0} (does : Watcher S) (marks : ℕ) (table : List Row) where
   abbrev pub after_slot : Slot → Machine S → Machine S
   after_slot slot m = turn does marks table slot.pick slot.fuel m
 
   -- a turn is made where one can be, and put
-  abbrev pub MakesTurn : Slot → (old new : Machine S) → (out out' err err' : Got) → (rose_out rose_err : Type 0) → Result Turned Stop → Type 0
-  MakesTurn slot old new out out' err err' rose_out rose_err (Ok turned.Ran) =
-      (ending_of old ≡ None) × (new ≡ after_put (after_slot slot old)) × Gets out out' (put_by (after_slot slot old)).out × Gets err err' (put_by (after_slot slot old)).err
-  MakesTurn slot old new out out' err err' rose_out rose_err (Ok turned.Deadlock) = (ending_of old ≡ Some Deadlock) × (new ≡ old) × Stays out out' × Stays err err'
-  MakesTurn slot old new out out' err err' rose_out rose_err (Ok turned.Over) = (ending_of old ≡ Some Over) × (new ≡ old) × Stays out out' × Stays err err'
-  MakesTurn slot old new out out' err err' rose_out rose_err (Err stop) = StopsMaking old (put_by (after_slot slot old)) out out' err err' rose_out rose_err stop
+  abbrev pub MakesTurn : Slot → (old new : Machine S) → (out err : Received) → Result Turned Stop → Type 0
+  MakesTurn slot old new out err (Ok turned.Ran) =
+      (ending_of old ≡ None) × (new ≡ after_put (after_slot slot old)) × Got out (put_by (after_slot slot old)).out × Got err (put_by (after_slot slot old)).err
+  MakesTurn slot old new out err (Ok turned.Deadlock) = (ending_of old ≡ Some Deadlock) × (new ≡ old) × GotNone out × GotNone err
+  MakesTurn slot old new out err (Ok turned.Over) = (ending_of old ≡ Some Over) × (new ≡ old) × GotNone out × GotNone err
+  MakesTurn slot old new out err (Err stop) = StopsMaking old (put_by (after_slot slot old)) out err stop
 
 -- a kernel that goes on after a turn
 pub record Continues {P S T : Type 0} {M : ℕ} (turns : ℕ) (old new : Kernel P S T M) : Type 0 where
@@ -81,84 +94,92 @@ GoesOn turned.Over old new = new ≡ old
 -- ---- the turns
 
 -- the output failed in a turn with output: the turns before it were put, and a prefix of its own
-pub record StopsInOut (puts : List Put) (out out' err err' : Got) : Type 0 where
+pub record StopsInOut (puts : List Put) (out err : Received) : Type 0 where
   pub made : ℕ
   pub put : Put
   pub next : slice_get puts made ≡ Some put
   pub some : put.out ≢ []
-  pub out_got : GetsPast out out' (outs (take made puts)) put.out
-  pub err_got : Gets err err' (errs (take made puts))
+  pub out_got : GotPast out (outs (take made puts)) put.out
+  pub err_got : Got err (errs (take made puts))
 
 -- the error sink failed in a turn with error bytes: the output up to it was put
-pub record StopsInErr (puts : List Put) (out out' err err' : Got) : Type 0 where
+pub record StopsInErr (puts : List Put) (out err : Received) : Type 0 where
   pub made : ℕ
   pub put : Put
   pub next : slice_get puts made ≡ Some put
   pub some : put.err ≢ []
-  pub out_got : Gets out out' (outs (take (suc made) puts))
-  pub err_got : GetsPast err err' (errs (take made puts)) put.err
+  pub out_got : Got out (outs (take (suc made) puts))
+  pub err_got : GotPast err (errs (take made puts)) put.err
 
 -- memory ran out between turns, or between the output and the error bytes of one
-pub record StopsBetween (puts : List Put) (out out' err err' : Got) : Type 0 where
+pub record StopsBetween (puts : List Put) (out err : Received) : Type 0 where
   pub made : ℕ
-  pub out_got : Gets out out' (outs (take made puts))
-  pub err_got : Gets err err' (errs (take made puts)) ⊎ Gets err err' (errs (take (made - 1) puts))
+  pub out_got : Got out (outs (take made puts))
+  pub err_got : Got err (errs (take made puts)) ⊎ Got err (errs (take (made - 1) puts))
 
-abbrev pub StopsRun : List Put → (out out' err err' : Got) → (rose_out rose_err : Type 0) → Stop → Type 0
-StopsRun puts out out' err err' rose_out rose_err stop.Out = rose_out × StopsInOut puts out out' err err'
-StopsRun puts out out' err err' rose_out rose_err stop.Err = rose_err × StopsInErr puts out out' err err'
-StopsRun puts out out' err err' rose_out rose_err stop.Left = ⊥
-StopsRun puts out out' err err' rose_out rose_err stop.NoMemory = StopsBetween puts out out' err err'
+abbrev pub StopsRun : List Put → (out err : Received) → Stop → Type 0
+StopsRun puts out err stop.Out = SinkFailed out × StopsInOut puts out err
+StopsRun puts out err stop.Err = SinkFailed err × StopsInErr puts out err
+StopsRun puts out err stop.Left = ⊥
+StopsRun puts out err stop.NoMemory = StopsBetween puts out err
 
-abbrev pub PutsRun : {S : Type 0} → Ran S → (out out' err err' : Got) → (rose_out rose_err : Type 0) → Result End Stop → Type 0
-PutsRun ran out out' err err' rose_out rose_err (Ok e) = (ran.ending ≡ end_told e) × Gets out out' (outs ran.puts) × Gets err err' (errs ran.puts)
-PutsRun ran out out' err err' rose_out rose_err (Err stop) = StopsRun ran.puts out out' err err' rose_out rose_err stop
+abbrev pub PutsRun : {S : Type 0} → Ran S → (out err : Received) → Result End Stop → Type 0
+PutsRun ran out err (Ok e) = (ran.ending ≡ end_told e) × Got out (outs ran.puts) × Got err (errs ran.puts)
+PutsRun ran out err (Err stop) = StopsRun ran.puts out err stop
 
 -- ---- the line on calm, and the listing
 
-abbrev pub PutsCalm : List ℕ → (err err' : Got) → (rose : Type 0) → Result (Unit {0}) Stop → Type 0
-PutsCalm calm err err' rose (Ok done) = Gets err err' calm
-PutsCalm calm err err' rose (Err stop.Err) = rose × (calm ≢ []) × GetsPrefix err err' calm
-PutsCalm calm err err' rose (Err stop.NoMemory) = Stays err err'
-PutsCalm calm err err' rose (Err stop.Out) = ⊥
-PutsCalm calm err err' rose (Err stop.Left) = ⊥
+abbrev pub PutsCalm : List ℕ → (err : Received) → Result (Unit {0}) Stop → Type 0
+PutsCalm calm err (Ok done) = Got err calm
+PutsCalm calm err (Err stop.Err) = SinkFailed err × (calm ≢ []) × GotPrefix err calm
+PutsCalm calm err (Err stop.NoMemory) = GotNone err
+PutsCalm calm err (Err stop.Out) = ⊥
+PutsCalm calm err (Err stop.Left) = ⊥
 
-abbrev pub PutsListing : List ℕ → (left left' : Got) → (rose : Type 0) → Result (Unit {0}) Stop → Type 0
-PutsListing listing left left' rose (Ok done) = Gets left left' listing
-PutsListing listing left left' rose (Err stop.Left) = rose × GetsPrefix left left' listing
-PutsListing listing left left' rose (Err stop.NoMemory) = Stays left left'
-PutsListing listing left left' rose (Err stop.Out) = ⊥
-PutsListing listing left left' rose (Err stop.Err) = ⊥
+abbrev pub PutsListing : List ℕ → (left : Received) → Result (Unit {0}) Stop → Type 0
+PutsListing listing left (Ok done) = Got left listing
+PutsListing listing left (Err stop.Left) = SinkFailed left × GotPrefix left listing
+PutsListing listing left (Err stop.NoMemory) = GotNone left
+PutsListing listing left (Err stop.Out) = ⊥
+PutsListing listing left (Err stop.Err) = ⊥
 
 -- ---- the report
 
 -- all bytes of the turns, and the line on calm where one is due
-pub record PutsTurns (r : Report) (out out' err err' : Got) : Type 0 where
-  pub out_got : Gets out out' (outs r.puts)
-  pub err_got : Gets err err' (errs r.puts ++ r.calm)
+pub record PutsTurns (r : Report) (out err : Received) : Type 0 where
+  pub out_got : Got out (outs r.puts)
+  pub err_got : Got err (errs r.puts ++ r.calm)
 
 -- the run ended, and the line on calm is due and failed
-pub record StopsInCalm (r : Report) (out out' err err' : Got) : Type 0 where
+pub record StopsInCalm (r : Report) (out err : Received) : Type 0 where
   pub due : r.calm ≢ []
-  pub out_got : Gets out out' (outs r.puts)
-  pub err_got : GetsPast err err' (errs r.puts) r.calm
+  pub out_got : Got out (outs r.puts)
+  pub err_got : GotPast err (errs r.puts) r.calm
 
-abbrev pub StopsReport : Report → (rose_out rose_err rose_left : Type 0) → (out out' err err' left left' : Got) → Stop → Type 0
-StopsReport r rose_out rose_err rose_left out out' err err' left left' stop.Out = rose_out × StopsInOut r.puts out out' err err' × Stays left left'
-StopsReport r rose_out rose_err rose_left out out' err err' left left' stop.Err = rose_err × (StopsInErr r.puts out out' err err' ⊎ StopsInCalm r out out' err err') × Stays left left'
-StopsReport r rose_out rose_err rose_left out out' err err' left left' stop.Left = rose_left × PutsTurns r out out' err err' × GetsPrefix left left' r.left
-StopsReport r rose_out rose_err rose_left out out' err err' left left' stop.NoMemory = (StopsBetween r.puts out out' err err' ⊎ PutsTurns r out out' err err') × Stays left left'
+abbrev pub StopsReport : Report → (out err left : Received) → Stop → Type 0
+StopsReport r out err left stop.Out = SinkFailed out × StopsInOut r.puts out err × GotNone left
+StopsReport r out err left stop.Err = SinkFailed err × (StopsInErr r.puts out err ⊎ StopsInCalm r out err) × GotNone left
+StopsReport r out err left stop.Left = SinkFailed left × PutsTurns r out err × GotPrefix left r.left
+StopsReport r out err left stop.NoMemory = (StopsBetween r.puts out err ⊎ PutsTurns r out err) × GotNone left
 
-abbrev pub PutsReport : Report → (rose_out rose_err rose_left : Type 0) → (out out' err err' left left' : Got) → Result Answer Stop → Type 0
-PutsReport r rose_out rose_err rose_left out out' err err' left left' (Ok answer) = (answer ≡ r.answer) × PutsTurns r out out' err err' × Gets left left' r.left
-PutsReport r rose_out rose_err rose_left out out' err err' left left' (Err stop) = StopsReport r rose_out rose_err rose_left out out' err err' left left' stop
+abbrev pub PutsReport : Report → (out err left : Received) → Result Answer Stop → Type 0
+PutsReport r out err left (Ok answer) = (answer ≡ r.answer) × PutsTurns r out err × Got left r.left
+PutsReport r out err left (Err stop) = StopsReport r out err left stop
 
 abbrev pub answer_told : Result Answer Stop → Answer
 answer_told (Ok answer) = answer
 answer_told (Err stop) = stop_answer stop
 
 -- what is answered, with what was put
-pub record AnswersReport (r : Report) (rose_out rose_err rose_left : Type 0) (out out' err err' left left' : Got) (answer : Answer) : Type 0 where
+pub record AnswersReport (r : Report) (out err left : Received) (answer : Answer) : Type 0 where
   pub told : Result Answer Stop
-  pub puts : PutsReport r rose_out rose_err rose_left out out' err err' left left' told
+  pub puts : PutsReport r out err left told
   pub answer_is : answer ≡ answer_told told
+
+-- ---- a generated case: the same whatever the error sink is, which isn't called
+
+abbrev pub PutsCase : Report → (out left : Received) → Result Answer Stop → Type 0
+PutsCase r out left told = (got : List ℕ) (failed : ℕ) → PutsReport r out (uncalled got failed) left told
+
+abbrev pub AnswersCase : Report → (out left : Received) → Answer → Type 0
+AnswersCase r out left answer = (got : List ℕ) (failed : ℕ) → AnswersReport r out (uncalled got failed) left answer

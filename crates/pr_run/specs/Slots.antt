@@ -1,7 +1,10 @@
--- The slots of the turns of a run, and what a plan of one keeps.
+-- The slots of the turns of a run, what a plan of one keeps, and the run.
 use Rattle.std.specs.Prelude.{ℕ, ◌≤◌, ◌<◌, ◌^◌, List, [], ◌∷◌, map}
 use Rattle.std.specs.List.{All}
-use Rattle.kr_core.specs.kr_turns.Run.{Slot, cycle}
+use Rattle.kr_view.specs.View.{Row}
+use Rattle.kr_core.specs.Kernel.{Kernel, machine}
+use Rattle.kr_core.specs.kr_turns.Run.{Ran, Slot, cycle, run}
+use Rattle.kr_core.specs.kr_stops.Watching.{Watcher}
 use Rattle.pr_words.specs.declared.options.Slot.{Slot as SlotOfWords}
 use Rattle.pr_run.specs.declared.plan.Plan.{Plan}
 
@@ -16,3 +19,8 @@ slot_of (s ∷ slots) made = cycle (slot_told s) (map slot_told slots) made
 pub record IsPlan (plan : Plan) : Type 0 where
   pub turns : plan.turns < 2 ^ 31
   pub schedule : All (λ s. 1 ≤ s.fuel) plan.schedule
+
+-- that of a kernel by its plan
+module _ {P S T : Type 0} {M : ℕ} (does : Watcher S) (mounts : P → List Row) (number : T → ℕ) where
+  abbrev pub run_of : Plan → Kernel P S T M → Ran S
+  run_of plan k = run does M (mounts k.places) (slot_of plan.schedule) plan.turns (machine number k)

@@ -1,14 +1,12 @@
 //! A generated case: both machines run it, and their outcomes are compared.
 ghost use Rattle.std.specs.Prelude.{◌≡◌, true, IfOk};
 ghost use Rattle.std.specs.String.{string_bytes};
-ghost use Rattle.pr_io.specs.Faults.{Rose};
-ghost use Rattle.kr_core.specs.Kernel.{machine};
+ghost use Rattle.pr_io.specs.Drawn.{received};
 ghost use Rattle.kr_text.specs.Canonical.{canonical};
-ghost use Rattle.kr_core.specs.kr_turns.Run.{run};
 ghost use Rattle.pr_run.specs.Case.{agree, case_report_of, end_words, lines, status_by, summary, summary_lines, told_of, yes_or_no};
 ghost use Rattle.pr_run.specs.Keeping.{kept_told, puts_told, report_told};
-ghost use Rattle.pr_run.specs.Puts.{AnswersReport, Got, PutsReport, end_told};
-ghost use Rattle.pr_run.specs.Slots.{IsPlan, slot_of};
+ghost use Rattle.pr_run.specs.Puts.{AnswersCase, PutsCase, end_told};
+ghost use Rattle.pr_run.specs.Slots.{IsPlan, run_of};
 
 use crate::keeping::{Kept, keep, output, same};
 use crate::plan::Plan;
@@ -145,7 +143,7 @@ fn run_case<P: Places, S: Graphed, Q: Places, T: Graphed, const M: u8, const N: 
     requires mounted_whole { mounted.old.whole ≡ true }
     requires mounted_first { mounted.old.turns ≡ 0 }
     requires plan { IsPlan plan.now }
-    ensures { IfOk result (λ told. report_told told ≡ case_report_of case plan.now.user (run S.does M (P.mounts watched.old.places) (slot_of plan.now.schedule) plan.now.turns (machine P.number watched.old)) (run T.does N (Q.mounts mounted.old.places) (slot_of plan.now.schedule) plan.now.turns (machine Q.number mounted.old))) }
+    ensures { IfOk result (λ told. report_told told ≡ case_report_of case plan.now.user (run_of S.does P.mounts P.number plan.now watched.old) (run_of T.does Q.mounts Q.number plan.now mounted.old)) }
 {
     let kept = keep(alloc, watched, plan)?;
     let other = keep(alloc, mounted, plan)?;
@@ -162,7 +160,7 @@ fn run_case<P: Places, S: Graphed, Q: Places, T: Graphed, const M: u8, const N: 
 
 /// Puts the summary, and then the listing.
 fn put_case<O: Sink, L: Sink>(told: &CaseTold, out: &mut O, left: &mut L) -> Result<Answer, Stop>
-    ensures { (err : Got) → PutsReport (report_told told.now) (Rose (O.faults out.old) (O.faults out.new)) ⊥ (Rose (L.faults left.old) (L.faults left.new)) (O.got out.old) (O.got out.new) err err (L.got left.old) (L.got left.new) result }
+    ensures { PutsCase (report_told told.now) (received O.Sink out.old out.new) (received L.Sink left.old left.new) result }
 {
     match put_some(out, told.summary.as_slice()) {
         Ok(()) => {}
@@ -204,7 +202,8 @@ pub fn case_report<
     requires mounted_whole { mounted.old.whole ≡ true }
     requires mounted_first { mounted.old.turns ≡ 0 }
     requires plan { IsPlan plan.now }
-    ensures { (err : Got) → AnswersReport (case_report_of case plan.now.user (run S.does M (P.mounts watched.old.places) (slot_of plan.now.schedule) plan.now.turns (machine P.number watched.old)) (run T.does N (Q.mounts mounted.old.places) (slot_of plan.now.schedule) plan.now.turns (machine Q.number mounted.old))) (Rose (O.faults out.old) (O.faults out.new)) ⊥ (Rose (L.faults left.old) (L.faults left.new)) (O.got out.old) (O.got out.new) err err (L.got left.old) (L.got left.new) result }
+    ensures { AnswersCase (case_report_of case plan.now.user (run_of S.does P.mounts P.number plan.now watched.old) (run_of T.does Q.mounts Q.number plan.now mounted.old))
+        (received O.Sink out.old out.new) (received L.Sink left.old left.new) result }
 {
     let Ok(told) = run_case(alloc, case, watched, mounted, plan) else {
         return Answer::NoMemory;

@@ -1,12 +1,12 @@
 //! A run whose bytes are kept, turn after turn, so that it can be compared with another.
 ghost use Rattle.std.specs.Prelude.{◌≡◌, ◌≤◌, ◌<◌, ◌^◌, ◌↔◌, [], true, length, IfOk, OnOk, IsTrue};
 ghost use Rattle.kr_core.specs.Kernel.{Clears, machine};
-ghost use Rattle.kr_core.specs.kr_turns.Run.{put_by, run};
+ghost use Rattle.kr_core.specs.kr_turns.Run.{put_by};
 ghost use Rattle.pr_run.specs.Case.{outcome};
 ghost use Rattle.pr_run.specs.Keeping.{KeepsTurn, kept_told, put_told, puts_told};
 ghost use Rattle.pr_run.specs.Puts.{GoesOn, end_told};
 ghost use Rattle.pr_run.specs.Report.{outs};
-ghost use Rattle.pr_run.specs.Slots.{IsPlan, slot_of};
+ghost use Rattle.pr_run.specs.Slots.{IsPlan, run_of};
 
 use crate::plan::Plan;
 use crate::turns::{End, end_after};
@@ -85,9 +85,9 @@ fn keep_turns<P: Places, S: Graphed, const M: u8>(
     requires first { kernel.old.turns ≡ 0 }
     requires plan { IsPlan plan.now }
     requires empty { puts.old.items ≡ [] }
-    ensures end { IfOk result (λ end. (run S.does M (P.mounts kernel.old.places) (slot_of plan.now.schedule) plan.now.turns (machine P.number kernel.old)).ending ≡ end_told end) }
-    ensures puts { OnOk result ((run S.does M (P.mounts kernel.old.places) (slot_of plan.now.schedule) plan.now.turns (machine P.number kernel.old)).puts ≡ puts_told puts.new.items) }
-    ensures machine { OnOk result ((run S.does M (P.mounts kernel.old.places) (slot_of plan.now.schedule) plan.now.turns (machine P.number kernel.old)).machine ≡ machine P.number kernel.new) }
+    ensures end { IfOk result (λ end. (run_of S.does P.mounts P.number plan.now kernel.old).ending ≡ end_told end) }
+    ensures puts { OnOk result ((run_of S.does P.mounts P.number plan.now kernel.old).puts ≡ puts_told puts.new.items) }
+    ensures machine { OnOk result ((run_of S.does P.mounts P.number plan.now kernel.old).machine ≡ machine P.number kernel.new) }
 {
     for turn in 0..plan.turns {
         let slot = plan.slot(turn);
@@ -109,8 +109,8 @@ pub fn keep<P: Places, S: Graphed, const M: u8>(
     requires whole { kernel.old.whole ≡ true }
     requires first { kernel.old.turns ≡ 0 }
     requires plan { IsPlan plan.now }
-    ensures kept { IfOk result (λ kept. kept_told kept (machine P.number kernel.new).state.tree ≡ outcome (run S.does M (P.mounts kernel.old.places) (slot_of plan.now.schedule) plan.now.turns (machine P.number kernel.old))) }
-    ensures machine { OnOk result ((run S.does M (P.mounts kernel.old.places) (slot_of plan.now.schedule) plan.now.turns (machine P.number kernel.old)).machine ≡ machine P.number kernel.new) }
+    ensures kept { IfOk result (λ kept. kept_told kept (machine P.number kernel.new).state.tree ≡ outcome (run_of S.does P.mounts P.number plan.now kernel.old)) }
+    ensures machine { OnOk result ((run_of S.does P.mounts P.number plan.now kernel.old).machine ≡ machine P.number kernel.new) }
 {
     let mut puts = Vec::new(alloc);
     let end = keep_turns(alloc, kernel, plan, &mut puts)?;

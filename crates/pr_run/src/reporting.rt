@@ -1,12 +1,11 @@
 //! The report of a run.
 ghost use Rattle.std.specs.Prelude.{◌≡◌, ◌≤◌, true, IfOk};
-ghost use Rattle.pr_io.specs.Faults.{Rose};
+ghost use Rattle.pr_io.specs.Drawn.{received};
 ghost use Rattle.kr_core.specs.Kernel.{machine};
-ghost use Rattle.kr_core.specs.kr_turns.Run.{run};
 ghost use Rattle.kr_text.specs.Canonical.{canonical};
 ghost use Rattle.pr_run.specs.Report.{answer_of, calm_line, calm_told, report_of};
 ghost use Rattle.pr_run.specs.Puts.{AnswersReport, PutsCalm, PutsListing, PutsReport, end_told};
-ghost use Rattle.pr_run.specs.Slots.{IsPlan, slot_of};
+ghost use Rattle.pr_run.specs.Slots.{IsPlan, run_of};
 
 use crate::plan::Plan;
 use crate::turns::{End, Stop, put_some, run_turns};
@@ -19,7 +18,7 @@ use pr_sources::Answer;
 use pt_tracer::Graphed;
 use std::alloc::Global;
 
-/// The line that tells whether a run was calm, by the rule that it broke first.
+/// The line that tells whether a run was calm, by the number of the rule that it broke first.
 fn calm_line(alloc: Global, broken: Option<u8>) -> Result<Bytes, NoMemory>
     ensures { IfOk result (λ line. line ≡ calm_line broken) }
 {
@@ -37,7 +36,7 @@ fn put_calm<R: Sink>(
     broken: Option<u8>,
     err: &mut R,
 ) -> Result<(), Stop>
-    ensures put { PutsCalm (calm_told asked broken) (R.got err.old) (R.got err.new) (Rose (R.faults err.old) (R.faults err.new)) result }
+    ensures put { PutsCalm (calm_told asked broken) (received R.Sink err.old err.new) result }
     ensures count { R.faults err.old ≤ R.faults err.new }
 {
     if !asked {
@@ -60,7 +59,7 @@ fn put_listing<P: Places, S: Graphed, L: Sink, const M: u8>(
     plan: &Plan,
     left: &mut L,
 ) -> Result<(), Stop>
-    ensures put { PutsListing (canonical (machine P.number kernel.now).state.tree plan.now.user) (L.got left.old) (L.got left.new) (Rose (L.faults left.old) (L.faults left.new)) result }
+    ensures put { PutsListing (canonical (machine P.number kernel.now).state.tree plan.now.user) (received L.Sink left.old left.new) result }
 {
     let Ok(listing) = write(alloc, kernel.tree(), plan.user) else {
         return Err(Stop::NoMemory);
@@ -95,7 +94,7 @@ fn put_report<P: Places, S: Graphed, O: Sink, R: Sink, L: Sink, const M: u8>(
     requires whole { kernel.old.whole ≡ true }
     requires first { kernel.old.turns ≡ 0 }
     requires plan { IsPlan plan.now }
-    ensures { PutsReport (report_of plan.now (run S.does M (P.mounts kernel.old.places) (slot_of plan.now.schedule) plan.now.turns (machine P.number kernel.old))) (Rose (O.faults out.old) (O.faults out.new)) (Rose (R.faults err.old) (R.faults err.new)) (Rose (L.faults left.old) (L.faults left.new)) (O.got out.old) (O.got out.new) (R.got err.old) (R.got err.new) (L.got left.old) (L.got left.new) result }
+    ensures { PutsReport (report_of plan.now (run_of S.does P.mounts P.number plan.now kernel.old)) (received O.Sink out.old out.new) (received R.Sink err.old err.new) (received L.Sink left.old left.new) result }
 {
     let end = run_turns(kernel, plan, out, err)?;
     put_calm(alloc, plan.calm, kernel.broken(), err)?;
@@ -116,7 +115,7 @@ pub fn report<P: Places, S: Graphed, O: Sink, R: Sink, L: Sink, const M: u8>(
     requires whole { kernel.old.whole ≡ true }
     requires first { kernel.old.turns ≡ 0 }
     requires plan { IsPlan plan.now }
-    ensures { AnswersReport (report_of plan.now (run S.does M (P.mounts kernel.old.places) (slot_of plan.now.schedule) plan.now.turns (machine P.number kernel.old))) (Rose (O.faults out.old) (O.faults out.new)) (Rose (R.faults err.old) (R.faults err.new)) (Rose (L.faults left.old) (L.faults left.new)) (O.got out.old) (O.got out.new) (R.got err.old) (R.got err.new) (L.got left.old) (L.got left.new) result }
+    ensures { AnswersReport (report_of plan.now (run_of S.does P.mounts P.number plan.now kernel.old)) (received O.Sink out.old out.new) (received R.Sink err.old err.new) (received L.Sink left.old left.new) result }
 {
     match put_report(alloc, kernel, plan, out, err, left) {
         Ok(answer) => answer,

@@ -1,12 +1,13 @@
 //! The turns of a run, each with its bytes.
 ghost use Rattle.std.specs.Prelude.{◌≡◌, ◌≢◌, ◌<◌, ◌≤◌, ◌^◌, [], true, IfOk, OnOk, IsErrOf};
+ghost use Rattle.pr_io.specs.Drawn.{received};
 ghost use Rattle.pr_io.specs.Faults.{Rose};
 ghost use Rattle.pr_io.specs.Moves.{Puts};
 ghost use Rattle.kr_core.specs.Kernel.{Clears, machine};
-ghost use Rattle.kr_core.specs.kr_turns.Run.{put_by, run};
+ghost use Rattle.kr_core.specs.kr_turns.Run.{put_by};
 ghost use Rattle.pr_run.specs.Puts.{GoesOn, MakesTurn, PutsRun, PutsTurn, end_told};
 ghost use Rattle.pr_run.specs.Report.{last_ending};
-ghost use Rattle.pr_run.specs.Slots.{IsPlan, slot_of};
+ghost use Rattle.pr_run.specs.Slots.{IsPlan, run_of};
 
 use crate::plan::Plan;
 use kr_core::below::turns_are_functions;
@@ -72,7 +73,7 @@ fn put_turn<P: Places, S: Graphed, O: Sink, R: Sink, const M: u8>(
     out: &mut O,
     err: &mut R,
 ) -> Result<(), Stop>
-    ensures put { PutsTurn (put_by (machine P.number kernel.old)) (O.got out.old) (O.got out.new) (R.got err.old) (R.got err.new) (Rose (O.faults out.old) (O.faults out.new)) (Rose (R.faults err.old) (R.faults err.new)) result }
+    ensures put { PutsTurn (put_by (machine P.number kernel.old)) (received O.Sink out.old out.new) (received R.Sink err.old err.new) result }
     ensures cleared { OnOk result (Clears P.number kernel.old kernel.new) }
     ensures out_count { O.faults out.old ≤ O.faults out.new }
     ensures err_count { R.faults err.old ≤ R.faults err.new }
@@ -101,7 +102,7 @@ fn make_turn<P: Places, S: Graphed, O: Sink, R: Sink, const M: u8>(
     requires whole { kernel.old.whole ≡ true }
     requires fuel { 1 ≤ slot.fuel }
     requires few { kernel.old.turns < 2 ^ 31 }
-    ensures makes { MakesTurn S.does M (P.mounts kernel.old.places) slot (machine P.number kernel.old) (machine P.number kernel.new) (O.got out.old) (O.got out.new) (R.got err.old) (R.got err.new) (Rose (O.faults out.old) (O.faults out.new)) (Rose (R.faults err.old) (R.faults err.new)) result }
+    ensures makes { MakesTurn S.does M (P.mounts kernel.old.places) slot (machine P.number kernel.old) (machine P.number kernel.new) (received O.Sink out.old out.new) (received R.Sink err.old err.new) result }
     ensures goes_on { IfOk result (λ turned. GoesOn turned kernel.old kernel.new) }
     ensures out_count { O.faults out.old ≤ O.faults out.new }
     ensures err_count { R.faults err.old ≤ R.faults err.new }
@@ -142,8 +143,8 @@ pub(crate) fn run_turns<P: Places, S: Graphed, O: Sink, R: Sink, const M: u8>(
     requires whole { kernel.old.whole ≡ true }
     requires first { kernel.old.turns ≡ 0 }
     requires plan { IsPlan plan.now }
-    ensures puts { PutsRun (run S.does M (P.mounts kernel.old.places) (slot_of plan.now.schedule) plan.now.turns (machine P.number kernel.old)) (O.got out.old) (O.got out.new) (R.got err.old) (R.got err.new) (Rose (O.faults out.old) (O.faults out.new)) (Rose (R.faults err.old) (R.faults err.new)) result }
-    ensures machine { OnOk result ((run S.does M (P.mounts kernel.old.places) (slot_of plan.now.schedule) plan.now.turns (machine P.number kernel.old)).machine ≡ machine P.number kernel.new) }
+    ensures puts { PutsRun (run_of S.does P.mounts P.number plan.now kernel.old) (received O.Sink out.old out.new) (received R.Sink err.old err.new) result }
+    ensures machine { OnOk result ((run_of S.does P.mounts P.number plan.now kernel.old).machine ≡ machine P.number kernel.new) }
     ensures out_count { O.faults out.old ≤ O.faults out.new }
     ensures err_count { R.faults err.old ≤ R.faults err.new }
 {

@@ -4,5 +4,4 @@ pub use Rattle.kr_mounts.proofs as kr_mounts
 pub use Rattle.pr_words.proofs as pr_words
 pub mod OpeningLemmas
 pub mod GeneratedLemmas
-pub mod ReportLemmas
 pub mod AgainLemmas

@@ -2,8 +2,7 @@
 //! begin, and no source is read.
 ghost use Rattle.std.specs.Prelude.{◌≡◌, ◌⊎◌, ◌<◌, ◌^◌, None, Some, Err, IfErr, IfOk, length, map};
 ghost use Rattle.std.specs.String.{string_bytes};
-ghost use Rattle.pr_io.specs.Drawn.{drawn, gave};
-ghost use Rattle.pr_io.specs.Faults.{Rose};
+ghost use Rattle.pr_io.specs.Drawn.{drawn, gave, received};
 ghost use Rattle.pr_words.specs.Sound.{AreSound};
 ghost use Rattle.std.specs.List.{All};
 ghost use Rattle.pr_start.specs.law_allowed.Texts.{IsText};
@@ -62,7 +61,7 @@ impl Opened {
         left: &mut L,
     ) -> Answer
         requires { IsReadyToRun self.old }
-        ensures { AnswersReport (report (begun_told self.old)) (Rose (O.faults out.old) (O.faults out.new)) (Rose (R.faults err.old) (R.faults err.new)) (Rose (L.faults left.old) (L.faults left.new)) (O.got out.old) (O.got out.new) (R.got err.old) (R.got err.new) (L.got left.old) (L.got left.new) result }
+        ensures { AnswersReport (report (begun_told self.old)) (received O.Sink out.old out.new) (received R.Sink err.old err.new) (received L.Sink left.old left.new) result }
     {
         match &mut self.kind {
             Kind::Mounts(kernel) => report(alloc, kernel, &self.plan, out, err, left),
@@ -209,8 +208,8 @@ pub fn open<T: Source, E: Source, I: Source>(
 ) -> Result<Opened, Answer>
     requires { length words.now < 2 ^ 32 }
     ensures opens { OpensFrom (opening (map string_bytes words.now) (gave (drawn T.Source tree.old tree.new)) (gave (drawn E.Source elf.old elf.new)) (gave (drawn I.Source input.old input.new))) result }
-    ensures read { IfOk (asked (map string_bytes words.now)) (λ options. options.case ≡ None →
-        ReadsAs (read_asked options (gave (drawn T.Source tree.old tree.new)) (gave (drawn E.Source elf.old elf.new)) (gave (drawn I.Source input.old input.new))) result) }
+    ensures read { IfOk (asked (map string_bytes words.now)) (λ o. o.case ≡ None →
+        ReadsAs (read_asked o (gave (drawn T.Source tree.old tree.new)) (gave (drawn E.Source elf.old elf.new)) (gave (drawn I.Source input.old input.new))) result) }
     ensures ready { IfOk result (λ opened. IsReadyToRun opened) }
     ensures kinds { IfErr result IsOfOpening }
     ensures words { IfErr result (λ answer. IsOfWords answer → asked (map string_bytes words.now) ≡ Err answer) }

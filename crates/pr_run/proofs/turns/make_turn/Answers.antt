@@ -18,7 +18,7 @@ returns-in_err-put_turn-clause-makes g c =
     subst (λ (t : Turned). Turns number w (g.P.Places.mounts c.args.kernel.now.places) c.args.slot.pick c.args.slot.fuel c.args.kernel.now c.turn.new.self t) c.in-Ok-Ran.field-0-is c.in-Ok-Ran.ensures.turns in
     let turned : machine number c.turn.new.self ≡ after_slot g.S.Graphed.does g.row.M (g.P.Places.mounts c.args.kernel.now.places) c.args.slot m =
     c.turns_are_functions.ensures.turns g.S.Graphed.does g.row.M (g.P.Places.mounts c.args.kernel.now.places) c.args.slot.pick c.args.slot.fuel made.process m (machine number c.turn.new.self) c.is_graph.ensures made.picked made.turn in
-    let stops = stops-made m _ (put_by (machine number c.turn.new.self)) _ _ _ _ _ _ (ap put_by turned) (goes m c.args.slot.pick made.process made.picked) _ c.in_err-put_turn.ensures.put in
+    let stops = stops-made m _ (put_by (machine number c.turn.new.self)) _ _ (ap put_by turned) (goes m c.args.slot.pick made.process made.picked) _ c.in_err-put_turn.ensures.put in
     let h = c.from_residual.ensures in search (rules, stops)
 
 pub returns-clause-makes : goal.returns-clause-makes

@@ -1,6 +1,6 @@
 use Rattle.std.proofs.Common.{◌≡◌, suc, ◌+◌, rules, sym, ap, subst, ◌∙◌, arith, take}
 use Rattle.std.specs.Prelude.{Ok}
-use Rattle.pr_io.specs.Faults.{Rose}
+use Rattle.pr_io.specs.Drawn.{received}
 use Rattle.pr_io.specs.Moves.{Gets}
 use Rattle.kr_core.specs.Kernel.{machine}
 use Rattle.kr_core.specs.declared.kernel.Turned.{Turned}
@@ -9,8 +9,7 @@ use Rattle.kr_core.specs.kr_turns.Turn.{Machine, turn as turn_of}
 use Rattle.pr_run.specs.Report.{err_part, errs, out_part, outs}
 use Rattle.pr_run.specs.Puts.{GoesOn, MakesTurn, StopsMaking, after_slot}
 use Rattle.pr_run.specs.Slots.{slot_of}
-use Rattle.pr_run.proofs.BytesLemmas.{gets-next, gets-kept, rose-since}
-use Rattle.pr_run.proofs.ReportLemmas.{rose-further}
+use Rattle.pr_run.proofs.BytesLemmas.{gets-next, gets-kept}
 use Rattle.pr_run.proofs.RunLemmas.{IsRest, next, over, spent, stops}
 use Rattle.pr_run.proofs.turns.run_turns.Goals as goal
 
@@ -27,14 +26,14 @@ returns-in_err-make_turn-clause-puts g c =
     let inv = c.loop-turn.invariant in
     let same : after_slot does g.row.M (g.P.Places.mounts c.loop-turn.kernel.places) c.slot-slot.result m ≡ turned does g.row.M table slots turn m =
     ap (λ places. after_slot does g.row.M (g.P.Places.mounts places) c.slot-slot.result m) inv.places ∙ ap (λ (s : Slot). turn_of does g.row.M table s.pick s.fuel m) c.slot-slot.ensures.slot in
-    let makes = subst (λ (n : Machine g.row.S.Denot). StopsMaking m (put_by n) (g.O.Sink.got c.loop-turn.out) (g.O.Sink.got c.make_turn.new.out) (g.R.Sink.got c.loop-turn.err) (g.R.Sink.got c.make_turn.new.err) (Rose (g.O.Sink.faults c.loop-turn.out) (g.O.Sink.faults c.make_turn.new.out)) (Rose (g.R.Sink.faults c.loop-turn.err) (g.R.Sink.faults c.make_turn.new.err)) c.in_err-make_turn.field-0.0) same c.in_err-make_turn.ensures.makes in
-    let stopped = rose-further whole.puts (g.O.Sink.got c.args.out.now) (g.O.Sink.got c.make_turn.new.out) (g.R.Sink.got c.args.err.now) (g.R.Sink.got c.make_turn.new.err)
-    (Rose (g.O.Sink.faults c.loop-turn.out) (g.O.Sink.faults c.make_turn.new.out)) (Rose (g.R.Sink.faults c.loop-turn.err) (g.R.Sink.faults c.make_turn.new.err))
-    (Rose (g.O.Sink.faults c.args.out.now) (g.O.Sink.faults c.make_turn.new.out)) (Rose (g.R.Sink.faults c.args.err.now) (g.R.Sink.faults c.make_turn.new.err))
-    (rose-since (g.O.Sink.faults c.args.out.now) (g.O.Sink.faults c.loop-turn.out) (g.O.Sink.faults c.make_turn.new.out) inv.out_count)
-    (rose-since (g.R.Sink.faults c.args.err.now) (g.R.Sink.faults c.loop-turn.err) (g.R.Sink.faults c.make_turn.new.err) inv.err_count) c.in_err-make_turn.field-0.0
-    (stops does g.row.M table slots whole limit turn m inv.rest c.loop-turn-test.true (g.O.Sink.got c.args.out.now) (g.O.Sink.got c.loop-turn.out) (g.O.Sink.got c.make_turn.new.out) (g.R.Sink.got c.args.err.now) (g.R.Sink.got c.loop-turn.err) (g.R.Sink.got c.make_turn.new.err)
-    (Rose (g.O.Sink.faults c.loop-turn.out) (g.O.Sink.faults c.make_turn.new.out)) (Rose (g.R.Sink.faults c.loop-turn.err) (g.R.Sink.faults c.make_turn.new.err)) inv.out inv.err c.in_err-make_turn.field-0.0 makes) in
+    let out = received g.O.Sink c.args.out.now c.make_turn.new.out in
+    let err = received g.R.Sink c.args.err.now c.make_turn.new.err in
+    let makes =
+    subst (λ (n : Machine g.row.S.Denot). StopsMaking m (put_by n) (received g.O.Sink c.loop-turn.out c.make_turn.new.out) (received g.R.Sink c.loop-turn.err c.make_turn.new.err) c.in_err-make_turn.field-0.0) same
+    c.in_err-make_turn.ensures.makes in
+    let stopped =
+    stops does g.row.M table slots whole limit turn m inv.rest c.loop-turn-test.true out err (g.O.Sink.got c.loop-turn.out) (g.R.Sink.got c.loop-turn.err) (g.O.Sink.faults c.loop-turn.out) (g.R.Sink.faults c.loop-turn.err)
+    inv.out inv.err inv.out_count inv.err_count c.in_err-make_turn.field-0.0 makes in
     let h = c.from_residual.ensures in search (rules, stopped)
 
 pub returns-in-Deadlock-clause-puts : goal.returns-in-Deadlock-clause-puts
@@ -48,7 +47,7 @@ returns-in-Deadlock-clause-puts g c =
     let turn = c.loop-turn.turn in
     let m = machine number c.loop-turn.kernel in
     let inv = c.loop-turn.invariant in
-    let made = subst (λ (t : Turned). MakesTurn does g.row.M (g.P.Places.mounts c.loop-turn.kernel.places) c.slot-slot.result m (machine number c.make_turn.new.kernel) (g.O.Sink.got c.loop-turn.out) (g.O.Sink.got c.make_turn.new.out) (g.R.Sink.got c.loop-turn.err) (g.R.Sink.got c.make_turn.new.err) (Rose (g.O.Sink.faults c.loop-turn.out) (g.O.Sink.faults c.make_turn.new.out)) (Rose (g.R.Sink.faults c.loop-turn.err) (g.R.Sink.faults c.make_turn.new.err)) (Ok t)) c.in-Deadlock.is c.in_ok-make_turn.ensures.makes in
+    let made = subst (λ (t : Turned). MakesTurn does g.row.M (g.P.Places.mounts c.loop-turn.kernel.places) c.slot-slot.result m (machine number c.make_turn.new.kernel) (received g.O.Sink c.loop-turn.out c.make_turn.new.out) (received g.R.Sink c.loop-turn.err c.make_turn.new.err) (Ok t)) c.in-Deadlock.is c.in_ok-make_turn.ensures.makes in
     let done = over does g.row.M table slots whole limit turn m Deadlock inv.rest made.0 in (
       done.ending_is,
       subst (λ l. Gets (g.O.Sink.got c.args.out.now) (g.O.Sink.got c.make_turn.new.out) (outs l)) done.puts (gets-kept (g.O.Sink.got c.args.out.now) (g.O.Sink.got c.loop-turn.out) (g.O.Sink.got c.make_turn.new.out) (outs (take turn whole.puts)) inv.out made.2),
@@ -66,7 +65,7 @@ returns-in-Deadlock-clause-machine g c =
     let turn = c.loop-turn.turn in
     let m = machine number c.loop-turn.kernel in
     let inv = c.loop-turn.invariant in
-    let made = subst (λ (t : Turned). MakesTurn does g.row.M (g.P.Places.mounts c.loop-turn.kernel.places) c.slot-slot.result m (machine number c.make_turn.new.kernel) (g.O.Sink.got c.loop-turn.out) (g.O.Sink.got c.make_turn.new.out) (g.R.Sink.got c.loop-turn.err) (g.R.Sink.got c.make_turn.new.err) (Rose (g.O.Sink.faults c.loop-turn.out) (g.O.Sink.faults c.make_turn.new.out)) (Rose (g.R.Sink.faults c.loop-turn.err) (g.R.Sink.faults c.make_turn.new.err)) (Ok t)) c.in-Deadlock.is c.in_ok-make_turn.ensures.makes in
+    let made = subst (λ (t : Turned). MakesTurn does g.row.M (g.P.Places.mounts c.loop-turn.kernel.places) c.slot-slot.result m (machine number c.make_turn.new.kernel) (received g.O.Sink c.loop-turn.out c.make_turn.new.out) (received g.R.Sink c.loop-turn.err c.make_turn.new.err) (Ok t)) c.in-Deadlock.is c.in_ok-make_turn.ensures.makes in
     (over does g.row.M table slots whole limit turn m Deadlock inv.rest made.0).machine ∙ sym made.1
 
 pub returns-in-Over-clause-puts : goal.returns-in-Over-clause-puts
@@ -80,7 +79,7 @@ returns-in-Over-clause-puts g c =
     let turn = c.loop-turn.turn in
     let m = machine number c.loop-turn.kernel in
     let inv = c.loop-turn.invariant in
-    let made = subst (λ (t : Turned). MakesTurn does g.row.M (g.P.Places.mounts c.loop-turn.kernel.places) c.slot-slot.result m (machine number c.make_turn.new.kernel) (g.O.Sink.got c.loop-turn.out) (g.O.Sink.got c.make_turn.new.out) (g.R.Sink.got c.loop-turn.err) (g.R.Sink.got c.make_turn.new.err) (Rose (g.O.Sink.faults c.loop-turn.out) (g.O.Sink.faults c.make_turn.new.out)) (Rose (g.R.Sink.faults c.loop-turn.err) (g.R.Sink.faults c.make_turn.new.err)) (Ok t)) c.in-Over.is c.in_ok-make_turn.ensures.makes in
+    let made = subst (λ (t : Turned). MakesTurn does g.row.M (g.P.Places.mounts c.loop-turn.kernel.places) c.slot-slot.result m (machine number c.make_turn.new.kernel) (received g.O.Sink c.loop-turn.out c.make_turn.new.out) (received g.R.Sink c.loop-turn.err c.make_turn.new.err) (Ok t)) c.in-Over.is c.in_ok-make_turn.ensures.makes in
     let done = over does g.row.M table slots whole limit turn m Over inv.rest made.0 in (
       done.ending_is,
       subst (λ l. Gets (g.O.Sink.got c.args.out.now) (g.O.Sink.got c.make_turn.new.out) (outs l)) done.puts (gets-kept (g.O.Sink.got c.args.out.now) (g.O.Sink.got c.loop-turn.out) (g.O.Sink.got c.make_turn.new.out) (outs (take turn whole.puts)) inv.out made.2),
@@ -98,7 +97,7 @@ returns-in-Over-clause-machine g c =
     let turn = c.loop-turn.turn in
     let m = machine number c.loop-turn.kernel in
     let inv = c.loop-turn.invariant in
-    let made = subst (λ (t : Turned). MakesTurn does g.row.M (g.P.Places.mounts c.loop-turn.kernel.places) c.slot-slot.result m (machine number c.make_turn.new.kernel) (g.O.Sink.got c.loop-turn.out) (g.O.Sink.got c.make_turn.new.out) (g.R.Sink.got c.loop-turn.err) (g.R.Sink.got c.make_turn.new.err) (Rose (g.O.Sink.faults c.loop-turn.out) (g.O.Sink.faults c.make_turn.new.out)) (Rose (g.R.Sink.faults c.loop-turn.err) (g.R.Sink.faults c.make_turn.new.err)) (Ok t)) c.in-Over.is c.in_ok-make_turn.ensures.makes in
+    let made = subst (λ (t : Turned). MakesTurn does g.row.M (g.P.Places.mounts c.loop-turn.kernel.places) c.slot-slot.result m (machine number c.make_turn.new.kernel) (received g.O.Sink c.loop-turn.out c.make_turn.new.out) (received g.R.Sink c.loop-turn.err c.make_turn.new.err) (Ok t)) c.in-Over.is c.in_ok-make_turn.ensures.makes in
     (over does g.row.M table slots whole limit turn m Over inv.rest made.0).machine ∙ sym made.1
 
 pub loop-turn-preserved : goal.loop-turn-preserved
@@ -114,7 +113,7 @@ loop-turn-preserved g c =
     let inv = c.loop-turn.invariant in
     let same : after_slot does g.row.M (g.P.Places.mounts c.loop-turn.kernel.places) c.slot-slot.result m ≡ turned does g.row.M table slots turn m =
     ap (λ places. after_slot does g.row.M (g.P.Places.mounts places) c.slot-slot.result m) inv.places ∙ ap (λ (s : Slot). turn_of does g.row.M table s.pick s.fuel m) c.slot-slot.ensures.slot in
-    let made = subst (λ (t : Turned). MakesTurn does g.row.M (g.P.Places.mounts c.loop-turn.kernel.places) c.slot-slot.result m (machine number c.make_turn.new.kernel) (g.O.Sink.got c.loop-turn.out) (g.O.Sink.got c.make_turn.new.out) (g.R.Sink.got c.loop-turn.err) (g.R.Sink.got c.make_turn.new.err) (Rose (g.O.Sink.faults c.loop-turn.out) (g.O.Sink.faults c.make_turn.new.out)) (Rose (g.R.Sink.faults c.loop-turn.err) (g.R.Sink.faults c.make_turn.new.err)) (Ok t)) c.in-Ran.is c.in_ok-make_turn.ensures.makes in
+    let made = subst (λ (t : Turned). MakesTurn does g.row.M (g.P.Places.mounts c.loop-turn.kernel.places) c.slot-slot.result m (machine number c.make_turn.new.kernel) (received g.O.Sink c.loop-turn.out c.make_turn.new.out) (received g.R.Sink c.loop-turn.err c.make_turn.new.err) (Ok t)) c.in-Ran.is c.in_ok-make_turn.ensures.makes in
     let goes = subst (λ (t : Turned). GoesOn t c.loop-turn.kernel c.make_turn.new.kernel) c.in-Ran.is c.in_ok-make_turn.ensures.goes_on in
     let more = next does g.row.M table slots whole limit turn m inv.rest made.0 c.loop-turn-test.true in
     let put = put_by (turned does g.row.M table slots turn m) in
