@@ -61,6 +61,12 @@ module _ {P S T : Type 0} {M : ℕ} (number : T → ℕ) where
   Starts places stops reach answer (Err (fault.Err e)) = answer ≡ Err e
   Starts places stops reach answer (Err fault.NoMemory) = Unit {0}
 
+  -- and beside the kernel the rule that its walks broke, whether marks are kept or not
+  abbrev pub StartsJudged : P → S → Reach → Result (model.State ℕ Image) Errno → Result (Kernel P S T M × Option Rule) StartFault → Type 0
+  StartsJudged places stops reach answer (Ok started) = (answer ≡ Ok (machine started.0).state) × Begins places stops reach started.0 × (started.1 ≡ first_rule 1 reach)
+  StartsJudged places stops reach answer (Err (fault.Err e)) = answer ≡ Err e
+  StartsJudged places stops reach answer (Err fault.NoMemory) = Unit {0}
+
   -- ---- turns
 
   module _ (w : Watching S) (table : List Row) where

@@ -3,7 +3,7 @@ ghost use Rattle.std.specs.Prelude.{◌≡◌, ◌≤◌, ◌<◌, ◌^◌, ℕ,
 ghost use Rattle.std.specs.Option.{option_map, option_map_or};
 ghost use Rattle.kr_first.specs.law_allowed.Told.{SourcesAreNamed};
 ghost use Rattle.kr_turns.specs.kr_calm.Calm.{kept, rule_number};
-ghost use Rattle.kr_core.specs.Kernel.{Clears, Starts, Turns, first_rule, machine};
+ghost use Rattle.kr_core.specs.Kernel.{Clears, Starts, StartsJudged, Turns, first_rule, machine};
 ghost use Rattle.kr_first.specs.Started.{HasSizedProcesses, LeadsToDirectory};
 ghost use Rattle.kr_first.specs.Starting.{start_of, start_reach};
 ghost use Rattle.kr_first.specs.law_allowed.Texts.{IsText};
@@ -86,10 +86,37 @@ impl<P: Places + Drop, S: Stops + Drop, const MARKED: u8> Kernel<P, S, MARKED> {
         requires cwd { LeadsToDirectory (P.mounts places) tree user first.cwd }
         ensures { Starts P.number places stops (start_reach (P.mounts places) tree user first) (start_of (P.mounts places) tree user input first) result }
     {
+        match Kernel::<P, S, MARKED>::start_judged(alloc, places, stops, tree, user, input, first) {
+            Ok((kernel, _rule)) => Ok(kernel),
+            Err(fault) => Err(fault),
+        }
+    }
+
+    /// The same, and beside it the calm rule that the walks of the start broke, which a kernel that keeps no marks forgets.
+    pub fn start_judged(
+        alloc: Global,
+        places: P,
+        stops: S,
+        tree: Tree,
+        user: User,
+        input: Bytes,
+        first: First,
+    ) -> Result<(Kernel<P, S, MARKED>, Option<Rule>), StartFault>
+        requires sized { HasSizedProcesses P.Mount.row MARKED.row }
+        requires stands { StandsIn tree (P.mounts places) }
+        requires few { length (P.mounts places) < 2 ^ 32 }
+        requires free { HasNoHolds tree }
+        requires lasts { CanLast tree user }
+        requires named { SourcesAreNamed (P.mounts places) }
+        requires text { IsText first.path }
+        requires cwd { LeadsToDirectory (P.mounts places) tree user first.cwd }
+        ensures { StartsJudged P.number places stops (start_reach (P.mounts places) tree user first) (start_of (P.mounts places) tree user input first) result }
+    {
         match start(alloc, &places, tree, user, input, first) {
             Ok(started) => {
                 let broken = first_rule::<MARKED>(&started.reach);
-                Ok(Kernel {
+                let rule = first_rule::<1>(&started.reach);
+                let kernel = Kernel {
                     alloc,
                     places,
                     stops,
@@ -98,7 +125,8 @@ impl<P: Places + Drop, S: Stops + Drop, const MARKED: u8> Kernel<P, S, MARKED> {
                     broken,
                     turns: 0,
                     whole: true,
-                })
+                };
+                Ok((kernel, rule))
             }
             Err(fault) => Err(fault),
         }

@@ -5,7 +5,8 @@
 //! The kernel of a machine, over any view and with any watcher. pr_start starts it over mounts, and pr_run runs it.
 //!
 //! `Kernel::start` comes to exactly the definition, want of memory aside (`Starts`): the state of `start_of`, no turn made, the status 0, and the
-//! sixth calm rule told where marks are kept and the walks of the start reached too far; or the error of execve(2).
+//! sixth calm rule told where marks are kept and the walks of the start reached too far; or the error of execve(2). `Kernel::start_judged` tells
+//! that rule beside the kernel, whether marks are kept or not (`StartsJudged`).
 //!
 //! `Kernel::turn` runs the process that is picked, and that turn is the definition's (`turns`; `HasRun`): state, watcher, status and the rule
 //! that was broken first. Over comes exactly where no process lives, Deadlock exactly where one lives and none is ready, and both change nothing.

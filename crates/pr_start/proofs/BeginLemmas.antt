@@ -11,15 +11,16 @@ use Rattle.kr_start.specs.kr_model.Walks.{and_then}
 use Rattle.kr_core.specs.kr_first.declared.starting.StartFault.{StartFault}
 use Rattle.kr_core.specs.kr_first.declared.starting.StartFault.TheVariants as fault
 use Rattle.kr_core.specs.Runs.{Machine}
+use Rattle.kr_core.specs.kr_turns.kr_calm.declared.rule.Rule.{Rule}
 use Rattle.pt_tracer.specs.pt_faker.declared.watch.Watch.{Watch}
-use Rattle.kr_core.specs.Kernel.{Kernel, Starts, machine}
+use Rattle.kr_core.specs.Kernel.{Kernel, Starts, StartsJudged, machine}
 use Rattle.kr_mounts.specs.declared.mount.Mount.{Mount}
 use Rattle.kr_mounts.specs.declared.mounted.MountNumber.{MountNumber}
 use Rattle.pr_start.specs.Directory.{At, directory_reach, working_directory}
 use Rattle.pr_words.specs.Command.{arguments, ids_of, word_of}
 use Rattle.pr_start.specs.Command.{Chosen, chosen}
 use Rattle.pr_start.specs.Numbers.{number_of}
-use Rattle.pr_start.specs.Beginning.{Begins, beginning, begun, begun_at, begun_in, fresh, nowhere}
+use Rattle.pr_start.specs.Beginning.{Begins, BeginsUnmarked, beginning, begun, begun_at, begun_in, fresh, nowhere, told_with}
 use Rattle.pr_words.specs.declared.launch.Launch.{Launch}
 
 module _ (table : List Row) (tree : Tree) (user : User) (watch : Watch) (launch : Launch) (input : List ℕ) where
@@ -47,3 +48,18 @@ begins-from places watch reach answer (Ok k) starts =
     (ap (λ (a : Result (State ℕ Image) Errno). and_then a (λ s. Ok (fresh watch reach s))) starts.0 ∙ ap (λ (m : Machine Watch). Ok m) same, b.turns, b.whole)
 begins-from places watch reach answer (Err (fault.Err e)) starts = ap (λ (a : Result (State ℕ Image) Errno). and_then a (λ s. Ok (fresh watch reach s))) starts
 begins-from places watch reach answer (Err fault.NoMemory) starts = tt
+
+-- and so one that keeps no marks, with the rule that was told beside it
+pub begins-unmarked : (places : List Mount) (watch : Watch) (reach : Reach) (answer : Result (State ℕ Image) Errno) (result : Result (Kernel (List Mount) Watch MountNumber 0 × Option Rule) StartFault)
+    → StartsJudged {M = 0} number_of places watch reach answer result → BeginsUnmarked (and_then answer (λ s. Ok (fresh watch reach s))) result
+begins-unmarked places watch reach answer (Ok started) starts =
+    let b = starts.1 in
+    let rule = starts.2 in
+    let same : fresh watch reach (machine number_of started.0).state ≡ told_with started.0 started.1 = λ i. record {
+      state = (machine number_of started.0).state;
+      watcher = sym b.stops_are i;
+      tally = record { status = sym b.status i; broken = sym rule i };
+    } in
+    (ap (λ (a : Result (State ℕ Image) Errno). and_then a (λ s. Ok (fresh watch reach s))) starts.0 ∙ ap (λ (m : Machine Watch). Ok m) same, b.turns, b.whole)
+begins-unmarked places watch reach answer (Err (fault.Err e)) starts = ap (λ (a : Result (State ℕ Image) Errno). and_then a (λ s. Ok (fresh watch reach s))) starts
+begins-unmarked places watch reach answer (Err fault.NoMemory) starts = tt

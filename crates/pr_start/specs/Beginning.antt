@@ -12,6 +12,7 @@ use Rattle.kr_core.specs.kr_first.declared.starting.First.{First}
 use Rattle.kr_core.specs.kr_first.declared.starting.StartFault.{StartFault}
 use Rattle.kr_core.specs.kr_first.declared.starting.StartFault.TheVariants as fault
 use Rattle.kr_core.specs.kr_first.Starting.{start_of, start_reach}
+use Rattle.kr_core.specs.kr_turns.kr_calm.declared.rule.Rule.{Rule}
 use Rattle.kr_core.specs.Runs.{Machine}
 use Rattle.kr_core.specs.Kernel as kernel
 use Rattle.kr_core.specs.Kernel.{first_rule, machine}
@@ -56,3 +57,21 @@ abbrev pub Begins : Result (Machine Watch) Errno → Result (kernel.Kernel (List
 Begins answer (Ok k) = (answer ≡ Ok (machine number_of k)) × (k.turns ≡ 0) × (k.whole ≡ true)
 Begins answer (Err (fault.Err e)) = answer ≡ Err e
 Begins answer (Err fault.NoMemory) = Unit {0}
+
+-- ---- its steps, and a kernel that keeps no marks
+
+-- a first process is prepared, with which begins whatever begins, whoever watches and whatever the input is; or the error is that
+abbrev pub Prepares : List Row → Tree → User → Launch → Result First StartFault → Type 0
+Prepares table tree user launch (Ok first) = (watch : Watch) (input : List ℕ) → beginning table tree user watch launch input ≡ begun table tree user watch first input
+Prepares table tree user launch (Err (fault.Err e)) = (watch : Watch) (input : List ℕ) → beginning table tree user watch launch input ≡ Err e
+Prepares table tree user launch (Err fault.NoMemory) = Unit {0}
+
+-- a machine of a kernel that keeps no marks, and the rule that was told beside it
+abbrev pub told_with : kernel.Kernel (List Mount) Watch MountNumber 0 → Option Rule → Machine Watch
+told_with k rule = let m = machine number_of k in record { state = m.state; watcher = m.watcher; tally = record { status = m.tally.status; broken = rule } }
+
+-- together they begin as the definition says
+abbrev pub BeginsUnmarked : Result (Machine Watch) Errno → Result (kernel.Kernel (List Mount) Watch MountNumber 0 × Option Rule) StartFault → Type 0
+BeginsUnmarked answer (Ok started) = (answer ≡ Ok (told_with started.0 started.1)) × (started.0.turns ≡ 0) × (started.0.whole ≡ true)
+BeginsUnmarked answer (Err (fault.Err e)) = answer ≡ Err e
+BeginsUnmarked answer (Err fault.NoMemory) = Unit {0}

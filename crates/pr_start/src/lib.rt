@@ -7,7 +7,8 @@
 //! `start` begins exactly as the definition says or answers its errno, want of memory aside (`begins`; `beginning`): a working directory that
 //! isn't one that the user may search becomes the root; a command without a slash is the first program of that name in the directories of PATH,
 //! or in `/bin` and `/usr/bin`; and all these walks count for the calm rules. With an identity option the first process is told the identity's
-//! numbers. It asks for a tree that is ready and for words without zero bytes.
+//! numbers. It asks for a tree that is ready and for words without zero bytes. `start_unmarked` begins so on a kernel that keeps no marks,
+//! and tells beside it the rule that its walks broke (`BeginsUnmarked`).
 //!
 //! Only tested, or not shown: `rows`.
 //!
@@ -34,5 +35,5 @@ mod traced;
 pub use kr_core::Kernel;
 pub use pt_tracer::Tracer;
 pub use pt_tracer::below::{Faker, Watch};
-pub use starting::start;
+pub use starting::{start, start_unmarked};
 pub use traced::start_traced;

@@ -1,15 +1,16 @@
 //! The start.
 ghost use Rattle.std.specs.Prelude.{◌≡◌, ◌≢◌, IfOk};
 ghost use Rattle.std.specs.List.{All};
+ghost use Rattle.kr_core.specs.kr_first.Started.{LeadsToDirectory};
 ghost use Rattle.kr_start.specs.law_allowed.Texts.{IsText};
 ghost use Rattle.kr_mounts.specs.Stored.{table_of};
 ghost use Rattle.kr_start.specs.Ready.{IsReady};
-ghost use Rattle.pr_start.specs.Beginning.{Begins, beginning};
+ghost use Rattle.pr_start.specs.Beginning.{Begins, BeginsUnmarked, Prepares, beginning};
 
 use crate::command::choose;
 use crate::directory::working_directory;
 use kr_core::Kernel;
-use kr_core::below::{First, StartFault, roots_are_directories};
+use kr_core::below::{First, Rule, StartFault, roots_are_directories};
 use kr_mounts::Mounted;
 use kr_start::Stage;
 use kr_view::Reach;
@@ -23,6 +24,52 @@ const NOWHERE: Reach = Reach {
     longest: 0,
     met_proc: false,
 };
+
+/// The first process as it is asked for: its working directory, and its program with its words. All walks to both count for the calm rules.
+fn prepare(alloc: Global, stage: &Stage, launch: Launch) -> Result<First, StartFault>
+    requires ready { IsReady stage.now.tree stage.now.user (table_of stage.now.places) }
+    requires command { All IsText launch.command }
+    requires env { All IsText launch.env }
+    ensures prepared { Prepares (table_of stage.now.places) stage.now.tree stage.now.user launch result }
+    ensures text { IfOk result (λ first. IsText first.path) }
+    ensures cwd { IfOk result (λ first. LeadsToDirectory (table_of stage.now.places) stage.now.tree stage.now.user first.cwd) }
+{
+    let Launch {
+        command,
+        env,
+        cwd,
+        ids,
+    } = launch;
+    let (uid, gid) = ids;
+    let mut reach = NOWHERE;
+    roots_are_directories();
+    let Ok(directory) = working_directory(alloc, stage, cwd, &mut reach) else {
+        return Err(StartFault::NoMemory);
+    };
+    let path = match choose(
+        alloc,
+        stage,
+        directory.place,
+        &env,
+        word_of(&command),
+        &mut reach,
+    ) {
+        Ok(Some(path)) => path,
+        Ok(None) => return Err(StartFault::Err(Errno::ENOENT)),
+        Err(_no_memory) => return Err(StartFault::NoMemory),
+    };
+    let Ok(args) = arguments(alloc, command) else {
+        return Err(StartFault::NoMemory);
+    };
+    Ok(First {
+        path,
+        args,
+        env,
+        cwd: directory.path,
+        ids: [uid, uid, gid, gid],
+        reach,
+    })
+}
 
 /// Starts a command over mounts, in the name of their tree's user, with its watcher. A command without a slash is the first program of that name in the directories
 /// of PATH, ENOENT where there is none; else the errors are those of execve(2). All walks of the start count for the calm rules.
@@ -39,42 +86,36 @@ pub fn start(
     ensures begins { Begins (beginning (table_of stage.places) stage.tree stage.user watch launch input) result }
     ensures places { IfOk result (λ kernel. kernel.places ≡ stage.places) }
 {
-    let Launch {
-        command,
-        env,
-        cwd,
-        ids,
-    } = launch;
-    let (uid, gid) = ids;
-    let mut reach = NOWHERE;
-    roots_are_directories();
-    let Ok(directory) = working_directory(alloc, &stage, cwd, &mut reach) else {
-        return Err(StartFault::NoMemory);
-    };
-    let path = match choose(
-        alloc,
-        &stage,
-        directory.place,
-        &env,
-        word_of(&command),
-        &mut reach,
-    ) {
-        Ok(Some(path)) => path,
-        Ok(None) => return Err(StartFault::Err(Errno::ENOENT)),
-        Err(_no_memory) => return Err(StartFault::NoMemory),
-    };
-    let Ok(args) = arguments(alloc, command) else {
-        return Err(StartFault::NoMemory);
-    };
-    let user = stage.user;
-    let first = First {
-        path,
-        args,
-        env,
-        cwd: directory.path,
-        ids: [uid, uid, gid, gid],
-        reach,
-    };
-    let Stage { tree, places, .. } = stage;
-    Kernel::start(alloc, places, watch, tree, user, input, first)
+    match prepare(alloc, &stage, launch) {
+        Ok(first) => {
+            let user = stage.user;
+            let Stage { tree, places, .. } = stage;
+            Kernel::start(alloc, places, watch, tree, user, input, first)
+        }
+        Err(fault) => Err(fault),
+    }
+}
+
+/// Starts it on a kernel that keeps no marks, and tells beside it the calm rule that the walks of the start broke.
+pub fn start_unmarked(
+    alloc: Global,
+    stage: Stage,
+    launch: Launch,
+    input: Bytes,
+    watch: Watch,
+) -> Result<(Kernel<Mounted, Watch, 0>, Option<Rule>), StartFault>
+    requires ready { IsReady stage.tree stage.user (table_of stage.places) }
+    requires command { All IsText launch.command }
+    requires env { All IsText launch.env }
+    ensures begins { BeginsUnmarked (beginning (table_of stage.places) stage.tree stage.user watch launch input) result }
+    ensures places { IfOk result (λ started. started.0.places ≡ stage.places) }
+{
+    match prepare(alloc, &stage, launch) {
+        Ok(first) => {
+            let user = stage.user;
+            let Stage { tree, places, .. } = stage;
+            Kernel::start_judged(alloc, places, watch, tree, user, input, first)
+        }
+        Err(fault) => Err(fault),
+    }
 }

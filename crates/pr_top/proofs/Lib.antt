@@ -5,3 +5,4 @@ pub use Rattle.pr_words.proofs as pr_words
 pub mod OpeningLemmas
 pub mod GeneratedLemmas
 pub mod AgainLemmas
+pub mod MarksLemmas

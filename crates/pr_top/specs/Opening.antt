@@ -22,7 +22,7 @@ use Rattle.pr_sources.specs.Within.{IsEarly, and_then}
 use Rattle.pr_sources.specs.Asking.{asked}
 use Rattle.pr_sources.specs.Reading.{IsRead, listed, read_asked}
 use Rattle.pr_sources.specs.declared.reading.Asked.{Asked}
-use Rattle.pr_start.specs.Beginning.{beginning}
+use Rattle.pr_start.specs.Beginning.{beginning, told_with}
 use Rattle.pr_start.specs.Machines.{Faked, Machine, Nobody, Ran, Watch, machine, run, starting_faking, watch}
 use Rattle.pr_start.specs.TracedBeginning.{Tracing, host_number, traced_beginning, tracer}
 use Rattle.pr_start.specs.Numbers.{number_of}
@@ -182,6 +182,7 @@ TracedKernel = kernel.Kernel Plain Tracing HostMount 0
 
 abbrev pub started_told : Kind → Started
 started_told (kind.Mounts k) = Mounts (table_of k.places) (machine number_of k)
+started_told (kind.Unmarked k rule) = Mounts (table_of k.places) (told_with k rule)
 started_told (kind.Traced k) = Traced (machine host_number k)
 started_told (kind.Both n watched mounted) = Both n (machine host_number watched) (table_of mounted.places) (machine number_of mounted)
 
@@ -197,11 +198,18 @@ StartsAs expected (Err fault.NoMemory) = Unit {0}
 -- a kernel before its first turn
 abbrev pub IsFresh : Kind → Type 0
 IsFresh (kind.Mounts k) = (k.whole ≡ true) × (k.turns ≡ 0)
+IsFresh (kind.Unmarked k rule) = (k.whole ≡ true) × (k.turns ≡ 0)
 IsFresh (kind.Traced k) = (k.whole ≡ true) × (k.turns ≡ 0)
 IsFresh (kind.Both n watched mounted) = (watched.whole ≡ true) × (watched.turns ≡ 0) × (mounted.whole ≡ true) × (mounted.turns ≡ 0)
 
+-- marks are kept where it is asked whether a run is calm
+abbrev pub IsMarkedFor : Bool → Kind → Type 0
+IsMarkedFor calm (kind.Unmarked k rule) = calm ≡ false
+IsMarkedFor calm _ = Unit {0}
+
 pub record IsReadyToRun (o : Opened) : Type 0 where
   pub fresh : IsFresh o.kind
+  pub marked : IsMarkedFor o.plan.calm o.kind
   pub plan : IsPlan o.plan
 
 -- a begun run or a refusal is answered as it is expected, or an early end

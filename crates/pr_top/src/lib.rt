@@ -7,9 +7,10 @@
 //! sources gave in the call, or a run that is ready, or a fault of a source, or want of memory (`opens`, `kinds`, `ready`; `read`: but for an
 //! early end, what the words ask for was read), with what each source gave (`gives`), what was read to its end (`ends`), the causes of the
 //! faults and what isn't touched (`causes` to `input_takes`);
-//! `Opened::report` runs it and puts its report (`AnswersReport`). The opening is a definition in stages (`opening`), the run is that of the
-//! kernel with mounts or of the plain one with its tracer (`mounted_run`, `traced_run`), and the report a function of the run (`report`). With
-//! `--case` the opening is that of the case of the number (`case_begun`), the watched machine first; both are run, and the report is the case's.
+//! `Opened::report` runs it and puts its report (`AnswersReport`), over mounts on a kernel that keeps marks only where calm is asked. The opening is
+//! a definition in stages (`opening`), the run is that of the kernel with mounts or of the plain one with its tracer (`mounted_run`, `traced_run`),
+//! and the report a function of the run (`report`). With `--case` the opening is that of the case of the number (`case_begun`), the watched machine
+//! first; both are run, and the report is the case's.
 //! pr_call takes it up.
 //!
 //! Only tested, or not shown: Tests of it are pr_call's.

@@ -13,7 +13,8 @@ ghost use Rattle.kr_mounts.specs.pt_bind.Binding.{rows_of};
 ghost use Rattle.pr_sources.specs.Asking.{asked};
 ghost use Rattle.pr_sources.specs.Reading.{AreDrawn, AsksCase, EndsBeforeElf, EndsBeforeInput, HasCause, IsListed, IsOfWords, IsReadAs, IsRefusal, ReadHasCause, ReadsSources, WantsElf, read_asked};
 ghost use Rattle.pr_sources.specs.Within.{IsAskedWithin, and_then};
-ghost use Rattle.pr_top.specs.Opening.{IsFresh, IsOfOpening, IsOfStart, IsReadyToRun, OpensFrom, ReadsAs, StartsAs, begun, ids_for, opening, started_on, watch_for};
+ghost use Rattle.pr_top.specs.Opening.{IsFresh, IsMarkedFor, IsOfOpening, IsOfStart, IsReadyToRun, Mounts, OpensFrom, ReadsAs, StartsAs, begun, ids_for, opening, started_as, started_on, watch_for};
+ghost use Rattle.pr_start.specs.Beginning.{beginning};
 
 use crate::generated::begin_case;
 use kr_mounts::{BindFault, Mounted};
@@ -23,16 +24,20 @@ use pr_base::Bytes;
 use pr_io::{Sink, Source};
 use pr_run::{Plan, case_report, report};
 use pr_sources::{Answer, Asked, ask, read};
-use pr_start::below::{Stage, StartFault, settled};
-use pr_start::{Faker, Kernel, Tracer, Watch, start, start_traced};
+use pr_start::below::{Rule, Stage, StartFault, settled};
+use pr_start::{Faker, Kernel, Tracer, Watch, start, start_traced, start_unmarked};
 use pr_words::{Launch, Options};
 use std::alloc::Global;
 
-/// A machine: a kernel over mounts, whose shelves are marked so that it tells whether a run is calm; or a plain kernel with its tracer; or
-/// both, for a generated case.
+/// A machine: a kernel over mounts, whose shelves are marked so that it tells whether a run is calm; or one that keeps no marks, where that
+/// isn't asked, with the rule that its start broke; or a plain kernel with its tracer; or both, for a generated case.
 #[derive(Drop)]
 pub(crate) enum Kind {
     Mounts(Kernel<Mounted, Watch, 1>),
+    Unmarked {
+        kernel: Kernel<Mounted, Watch, 0>,
+        broken: Option<Rule>,
+    },
     Traced(Kernel<Plain, Tracer, 0>),
     Both {
         case: u32,
@@ -65,6 +70,7 @@ impl Opened {
     {
         match &mut self.kind {
             Kind::Mounts(kernel) => report(alloc, kernel, &self.plan, out, err, left),
+            Kind::Unmarked { kernel, .. } => report(alloc, kernel, &self.plan, out, err, left),
             Kind::Traced(kernel) => report(alloc, kernel, &self.plan, out, err, left),
             Kind::Both {
                 case,
@@ -95,10 +101,40 @@ fn watch_for(alloc: Global, user: User, ids: Option<(u32, u32)>) -> Watch
     }
 }
 
+/// Starts the command over mounts, on a kernel that keeps marks only where it is asked whether the run is calm.
+fn start_mounted(
+    alloc: Global,
+    calm: bool,
+    stage: Stage,
+    launch: Launch,
+    input: Bytes,
+    watch: Watch,
+) -> Result<Kind, StartFault>
+    requires ready { IsReady stage.tree stage.user (table_of stage.places) }
+    requires command { All IsText launch.command }
+    requires env { All IsText launch.env }
+    ensures begins { StartsAs (started_as (Mounts (table_of stage.places)) (beginning (table_of stage.places) stage.tree stage.user watch launch input)) result }
+    ensures fresh { IfOk result IsFresh }
+    ensures marked { IfOk result (IsMarkedFor calm) }
+{
+    if calm {
+        match start(alloc, stage, launch, input, watch) {
+            Ok(kernel) => Ok(Kind::Mounts(kernel)),
+            Err(fault) => Err(fault),
+        }
+    } else {
+        match start_unmarked(alloc, stage, launch, input, watch) {
+            Ok((kernel, broken)) => Ok(Kind::Unmarked { kernel, broken }),
+            Err(fault) => Err(fault),
+        }
+    }
+}
+
 /// Starts the command over mounts, or on a plain kernel with a tracer.
 fn start_on(
     alloc: Global,
     native: bool,
+    calm: bool,
     stage: Stage,
     launch: Launch,
     input: Bytes,
@@ -110,13 +146,11 @@ fn start_on(
     requires env { All IsText launch.env }
     ensures begins { StartsAs (started_on native (table_of stage.places) stage.tree stage.user ids launch input) result }
     ensures fresh { IfOk result IsFresh }
+    ensures marked { IfOk result (IsMarkedFor calm) }
 {
     if native {
         let watch = watch_for(alloc, stage.user, ids);
-        match start(alloc, stage, launch, input, watch) {
-            Ok(kernel) => Ok(Kind::Mounts(kernel)),
-            Err(fault) => Err(fault),
-        }
+        start_mounted(alloc, calm, stage, launch, input, watch)
     } else {
         match start_traced(alloc, stage, launch, input, ids) {
             Ok(kernel) => Ok(Kind::Traced(kernel)),
@@ -162,7 +196,16 @@ fn begin(alloc: Global, asked: Asked) -> Result<Opened, Answer>
         Err(BindFault::Bad { index, why }) => return Err(Answer::BadBind { index, why }),
         Err(BindFault::NoMemory) => return Err(Answer::NoMemory),
     };
-    match start_on(alloc, options.native, stage, launch, input, options.ids) {
+    let kind = start_on(
+        alloc,
+        options.native,
+        options.calm,
+        stage,
+        launch,
+        input,
+        options.ids,
+    );
+    match kind {
         Ok(kind) => Ok(Opened { kind, plan }),
         Err(StartFault::Err(errno)) => Err(Answer::NoStart { errno }),
         Err(StartFault::NoMemory) => Err(Answer::NoMemory),

@@ -51,6 +51,32 @@ fn rewritten<T: Tracee>(
     ensures same { T.stopped t.new ≡ T.stopped t.old }
     ensures rest { T.around t.new ≡ T.around t.old }
 {
+    let _pid = t.pid();
+    // The shelf is looked at only where there is a path to put on it.
+    match path_of(request, 0) {
+        Some(_path) => rewritten_along(alloc, t, walker, tags, request),
+        None => Ok(Rewritten {
+            edit: Edit::Pass,
+            first: None,
+        }),
+    }
+}
+
+/// The same of a call that has a path.
+fn rewritten_along<T: Tracee>(
+    alloc: Global,
+    t: &mut T,
+    walker: &mut Walker,
+    tags: &Tags,
+    request: &Request,
+) -> Result<Rewritten, NoMemory>
+    ensures edit { IfOk result (λ r. r.edit ≡ rewritten (texts_at (rows_of walker.old) tags.now (T.stopped t.old)) (T.stopped t.old) request.now) }
+    ensures first { IfOk result (λ r. r.first ≡ first_of (texts_at (rows_of walker.old) tags.now (T.stopped t.old)) (T.stopped t.old).pid request.now) }
+    ensures room { IfOk result (λ r. IsTrue (is_swap r.edit) → 65536 ≤ stack_at (T.stopped t.old)) }
+    ensures walker { walker.new ≡ walker.old }
+    ensures same { T.stopped t.new ≡ T.stopped t.old }
+    ensures rest { T.around t.new ≡ T.around t.old }
+{
     edits_keep_to_paths();
     let pid = t.pid();
     let sp = t.reg(STACK);

@@ -1,7 +1,7 @@
 use Rattle.pt_results.specs.pt_args.Edits.{edit_of}
 use Rattle.pt_results.specs.pt_canon.Canon.{texts_by}
 use Rattle.pt_tracer.proofs.PlanLemmas.{if_ok, swap-used}
-use Rattle.pt_tracer.proofs.planning.rewritten.Goals as goal
+use Rattle.pt_tracer.proofs.planning.rewritten_along.Goals as goal
 
 pub returns-clause-room : goal.returns-clause-room
 returns-clause-room g c =
