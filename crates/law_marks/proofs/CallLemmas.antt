@@ -36,11 +36,11 @@ use Rattle.kr_turns.specs.rv_mem.Memory.{Memory}
 use Rattle.kr_turns.specs.PlainCall.{Came, after_decoding, child_of, end_of, executed, leads_to_root, operated, plain_call, plain_call_of, replaced, requested, row_on}
 use Rattle.kr_turns.specs.Target.{target_of}
 use Rattle.kr_turns.specs.declared.plain.CallEnd.TheVariants as end
-use Rattle.law_unmarked.specs.Unmarked.{unmarked, unmarked_done, unmarked_image, unmarked_in}
-use Rattle.law_unmarked.proofs.ChangeLemmas.{changes_alike, state_twice}
-use Rattle.law_unmarked.proofs.MemoryLemmas.{done-unmarked}
-use Rattle.law_unmarked.proofs.ProcessLemmas.{cwd-each, process-each}
-use Rattle.law_unmarked.proofs.ToldLemmas.{around-same, known-same, pages-same, seen-same, targets-same}
+use Rattle.law_marks.specs.Unmarked.{unmarked, unmarked_done, unmarked_image, unmarked_in}
+use Rattle.law_marks.proofs.ChangeLemmas.{changes_alike, state_twice}
+use Rattle.law_marks.proofs.MemoryLemmas.{done-unmarked}
+use Rattle.law_marks.proofs.ProcessLemmas.{cwd-each, process-each}
+use Rattle.law_marks.proofs.ToldLemmas.{around-same, known-same, pages-same, seen-same, targets-same}
 use Rattle.kr_turns.specs.kr_model.Applied.{with_image}
 use Rattle.law_marks.specs.Calls.{PlainCallsSeeNoMarks}
 use Rattle.law_marks.specs.Unjudged.{unmarked_came}

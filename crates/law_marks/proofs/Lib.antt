@@ -1,3 +1,8 @@
+pub mod MemoryLemmas
+pub mod InstructionLemmas
+pub mod ProcessLemmas
+pub mod ToldLemmas
+pub mod ChangeLemmas
 pub mod StateLemmas
 pub mod CallLemmas
 pub mod WatcherLemmas

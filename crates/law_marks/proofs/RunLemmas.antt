@@ -8,7 +8,7 @@ use Rattle.kr_turns.specs.kr_stops.Watching.{Watcher}
 use Rattle.kr_turns.specs.kr_view.View.{Row}
 use Rattle.kr_turns.specs.Run.{Deadlock, Ending, Over, Put, Ran, Slot, Spent, after_put, ended, ending_of, if_any, put_by, run_from, turned, with_put}
 use Rattle.kr_turns.specs.Turn.{Machine}
-use Rattle.law_unmarked.specs.Unmarked.{unmarked_in}
+use Rattle.law_marks.specs.Unmarked.{unmarked_in}
 use Rattle.law_marks.specs.Calls.{SeesNoMarks}
 use Rattle.law_marks.specs.Turns.{RunsSeeNoMarks, RunsTellAlike}
 use Rattle.law_marks.specs.Unjudged.{unmarked_machine, unmarked_ran}

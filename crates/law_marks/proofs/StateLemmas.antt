@@ -2,7 +2,7 @@
 use Rattle.std.proofs.Common.{◌≡◌, ℕ, Bool, true, false, cond, Option, Some, None, refl, sym, ap, ◌∙◌}
 use Rattle.std.specs.Prelude.{nat_eq}
 use Rattle.std.specs.Option.{option_map, option_map_or}
-use Rattle.law_unmarked.proofs.kr_model.pr_base.MapLemmas.{mapped-empty}
+use Rattle.kr_turns.proofs.kr_seen.kr_model.pr_base.MapLemmas.{mapped-empty}
 use Rattle.kr_turns.specs.kr_model.kr_calls.Arguments.{number}
 use Rattle.kr_turns.specs.kr_calm.Shelf.{has_path, is_usable, shelf_size, shelf_start, shelved_by, stack_pointer, with_shelf_marked}
 use Rattle.kr_turns.specs.kr_model.Applied.{with_image, with_living}
@@ -18,9 +18,9 @@ use Rattle.kr_turns.specs.rv_mem.Pages.{Pages}
 use Rattle.kr_turns.specs.rv_mem.declared.regs.Regs.{Regs}
 use Rattle.kr_turns.specs.Shelving.{shelved_in}
 use Rattle.kr_turns.specs.Turn.{calling}
-use Rattle.law_unmarked.specs.Unmarked.{unmarked, unmarked_image, unmarked_in, unmarked_page}
-use Rattle.law_unmarked.proofs.MemoryLemmas.{marked-unmarked}
-use Rattle.law_unmarked.proofs.ProcessLemmas.{process-each, process_in-each}
+use Rattle.law_marks.specs.Unmarked.{unmarked, unmarked_image, unmarked_in, unmarked_page}
+use Rattle.law_marks.proofs.MemoryLemmas.{marked-unmarked}
+use Rattle.law_marks.proofs.ProcessLemmas.{process-each, process_in-each}
 use Rattle.law_marks.specs.Calls.{ShelvesAreMarks}
 use Rattle.law_marks.specs.Unjudged.{unmarked_stop}
 

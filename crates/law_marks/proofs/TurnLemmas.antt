@@ -20,12 +20,12 @@ use Rattle.kr_turns.specs.Shelving.{lacks_in}
 use Rattle.kr_turns.specs.Turn.{Machine, Tally, after_born, after_end, after_event, after_exit, after_plain, by_pick, called, calling, turn, turn_of, watched_call, with_broken}
 use Rattle.kr_turns.specs.declared.plain.CallEnd.{CallEnd}
 use Rattle.kr_turns.specs.declared.plain.CallEnd.TheVariants as end
-use Rattle.law_unmarked.proofs.kr_model.BareLemmas.{kept-mapped}
-use Rattle.law_unmarked.specs.Unmarked.{unmarked_image, unmarked_in}
-use Rattle.law_unmarked.proofs.ChangeLemmas.{changes_alike, state_twice}
-use Rattle.law_unmarked.proofs.InstructionLemmas.{instructions_see_no_marks}
-use Rattle.law_unmarked.proofs.ProcessLemmas.{process-each}
-use Rattle.law_unmarked.proofs.ToldLemmas.{known-same}
+use Rattle.kr_turns.proofs.kr_seen.kr_model.BareLemmas.{kept-mapped}
+use Rattle.law_marks.specs.Unmarked.{unmarked_image, unmarked_in}
+use Rattle.law_marks.proofs.ChangeLemmas.{changes_alike, state_twice}
+use Rattle.law_marks.proofs.InstructionLemmas.{instructions_see_no_marks}
+use Rattle.law_marks.proofs.ProcessLemmas.{process-each}
+use Rattle.law_marks.proofs.ToldLemmas.{known-same}
 use Rattle.law_marks.specs.Calls.{SeesNoMarks}
 use Rattle.law_marks.specs.Turns.{TurnsSeeNoMarks}
 use Rattle.law_marks.specs.Unjudged.{unjudged, unmarked_came, unmarked_machine, unmarked_stop}

@@ -23,8 +23,8 @@ use Rattle.pt_faker.specs.declared.due.Due.{Due}
 use Rattle.pt_faker.specs.declared.due.Due.TheVariants.{Tells, Remembers, ForgivesRoot, ShowsOwner, BeginsProgram}
 use Rattle.pt_faker.specs.declared.watch.Watch.{Watch}
 use Rattle.pt_faker.specs.declared.watch.Watch.TheVariants.{Faked, Nobody}
-use Rattle.law_unmarked.specs.Unmarked.{unmarked, unmarked_done}
-use Rattle.law_unmarked.proofs.MemoryLemmas.{done-unmarked}
+use Rattle.law_marks.specs.Unmarked.{unmarked, unmarked_done}
+use Rattle.law_marks.proofs.MemoryLemmas.{done-unmarked}
 use Rattle.law_marks.specs.Turns.{WatchersSeeNoMarks}
 use Rattle.law_marks.specs.Unjudged.{unmarked_stop}
 use Rattle.law_marks.proofs.StateLemmas.{computed-unmarked, image-unmarked}

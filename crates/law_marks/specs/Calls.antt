@@ -10,7 +10,7 @@ use Rattle.kr_turns.specs.rv_mem.Memory.{Memory}
 use Rattle.kr_turns.specs.rv_mem.declared.regs.Regs.{Regs}
 use Rattle.kr_turns.specs.PlainCall.{plain_call, row_on}
 use Rattle.kr_turns.specs.kr_model.kr_calls.declared.request.Request.{Request}
-use Rattle.law_unmarked.specs.Unmarked.{unmarked, unmarked_done, unmarked_in}
+use Rattle.law_marks.specs.Unmarked.{unmarked, unmarked_done, unmarked_in}
 use Rattle.law_marks.specs.Unjudged.{unmarked_came, unmarked_stop}
 
 -- marks are all that a shelf leaves

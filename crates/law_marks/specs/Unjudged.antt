@@ -4,7 +4,7 @@ use Rattle.kr_turns.specs.kr_stops.Stopped.{Stopped}
 use Rattle.kr_turns.specs.PlainCall.{Came}
 use Rattle.kr_turns.specs.Run.{Ran}
 use Rattle.kr_turns.specs.Turn.{Machine, Tally}
-use Rattle.law_unmarked.specs.Unmarked.{unmarked_in}
+use Rattle.law_marks.specs.Unmarked.{unmarked_in}
 
 abbrev pub unmarked_stop : Stopped → Stopped
 unmarked_stop t = record { state = unmarked_in t.state; pid = t.pid; handed = t.handed }

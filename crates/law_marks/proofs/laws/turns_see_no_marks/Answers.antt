@@ -1,5 +1,0 @@
-use Rattle.law_marks.proofs.TurnLemmas.{turns_see_no_marks}
-use Rattle.law_marks.proofs.laws.turns_see_no_marks.Goals as goal
-
-pub returns : goal.returns
-returns g c = turns_see_no_marks _

@@ -1,5 +1,0 @@
-use Rattle.law_unmarked.proofs.MemoryLemmas.{actions_see_no_marks}
-use Rattle.law_unmarked.proofs.laws.actions_see_no_marks.Goals as goal
-
-pub returns : goal.returns
-returns g c = actions_see_no_marks _

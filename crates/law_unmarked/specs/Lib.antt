@@ -1,2 +1,0 @@
-pub mod Unmarked
-pub mod Laws
