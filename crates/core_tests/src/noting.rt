@@ -82,6 +82,18 @@ impl Noting {
         }
     }
 
+    /// Notes a second stop of a process, and where its call's path led: whether to the root, and to which inode.
+    fn note_exit(&mut self, pid: u32, at_root: bool, target: Option<u64>) -> Result<(), NoMemory> {
+        let root = if at_root { "/" } else { "" };
+        match target {
+            Some(ino) => {
+                let rest = format!(in self.alloc; "{root}={ino}")?;
+                self.note("x", pid, rest.as_str())
+            }
+            None => self.note("x", pid, root),
+        }
+    }
+
     /// Shows the notes, and answers how many bytes they have.
     fn show<T: Tracee>(&mut self, t: &mut T) -> Result<(), NoMemory>
         requires { IsThere (T.stopped t.old) }
@@ -120,14 +132,8 @@ impl Stops for Noting {
     }
 
     fn exit<T: Tracee>(&mut self, t: &mut T) -> Result<(), NoMemory> {
-        let root = if t.at_root() { "/" } else { "" };
-        match t.target() {
-            Some(ino) => {
-                let rest = format!(in self.alloc; "{root}={ino}")?;
-                self.note("x", t.pid(), rest.as_str())?;
-            }
-            None => self.note("x", t.pid(), root)?,
-        }
+        let pid = t.pid();
+        self.note_exit(pid, t.at_root(), t.target())?;
         match t.reg(A7) {
             CANCELLED => {
                 t.set_reg(A7, GETPID);
