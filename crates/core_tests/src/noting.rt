@@ -132,8 +132,7 @@ impl Stops for Noting {
     }
 
     fn exit<T: Tracee>(&mut self, t: &mut T) -> Result<(), NoMemory> {
-        let pid = t.pid();
-        self.note_exit(pid, t.at_root(), t.target())?;
+        self.note_exit(t.pid(), t.at_root(), t.target())?;
         match t.reg(A7) {
             CANCELLED => {
                 t.set_reg(A7, GETPID);
