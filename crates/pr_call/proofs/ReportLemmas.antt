@@ -5,7 +5,7 @@ use Rattle.pr_sources.specs.declared.answer.Answer.{Answer}
 use Rattle.pr_sources.specs.declared.answer.Answer.TheVariants.{Ended, Deadlock, Spent, Usage, TooLong, TreeBad, BadBind, NoStart, ReadFault, WriteFault, NoMemory}
 use Rattle.pr_sources.specs.declared.answer.Which.{Which}
 use Rattle.pr_sources.specs.declared.answer.Which.TheVariants.{Tree as TreeSource, Elf, Input, Out, Err as ErrSink, Left}
-use Rattle.pr_sources.specs.Reading.{EndsBeforeInput}
+use Rattle.pr_sources.specs.Reading.{EndsBeforeElf, EndsBeforeInput}
 use Rattle.law_machines.specs.pr_run.Report.{Deadlock as AllWait, Ending, Over, Report, Spent as NoTurnIsLeft, answer_of}
 use Rattle.law_machines.specs.pr_run.Puts.{AnswersReport, Got, GotPrefix, PutsReport, PutsTurns, StopsBetween, StopsInCalm, StopsInErr, StopsInOut, answer_told, stop_answer}
 use Rattle.law_machines.specs.pr_run.declared.plan.Plan.{Plan}
@@ -70,6 +70,12 @@ no-stop-early stop.Err p = p
 no-stop-early stop.Left p = p
 no-stop-early stop.NoMemory p = p
 
+no-stop-before-elf : NoStop EndsBeforeElf
+no-stop-before-elf stop.Out p = p
+no-stop-before-elf stop.Err p = p
+no-stop-before-elf stop.Left p = p
+no-stop-before-elf stop.NoMemory p = p
+
 no-stop-tree : NoStop (λ a. a ≡ WriteFault TreeSource)
 no-stop-tree stop.Out e = absurd cc
 no-stop-tree stop.Err e = absurd cc
@@ -111,6 +117,9 @@ module _ (opened : Opened) (p : Passed) {a : Answer}
 
   pub read-input : EndsBeforeInput a → ⊥
   read-input = none-of EndsBeforeInput (of-told (IsNone EndsBeforeInput) (λ status p. p) (λ p. p) (λ p. p) own.answer own-tells) no-stop-early answers.told answers.puts answers.answer_is
+
+  pub read-elf : EndsBeforeElf a → ⊥
+  read-elf = none-of EndsBeforeElf (of-told (IsNone EndsBeforeElf) (λ status p. p) (λ p. p) (λ p. p) own.answer own-tells) no-stop-before-elf answers.told answers.puts answers.answer_is
 
   no-write-fault : (which : Which) → NoStop (λ b. b ≡ WriteFault which) → a ≡ WriteFault which → ⊥
   no-write-fault which no-stop =

@@ -6,7 +6,7 @@ use Rattle.pr_sources.specs.Asking.{asked}
 use Rattle.pr_sources.specs.Within.{IsEarly}
 use Rattle.pr_call.specs.Promise.{NothingIsPut, opened_by, passed}
 use Rattle.pr_call.proofs.HeadlineLemmas.{headline, read-too}
-use Rattle.pr_call.proofs.ReportLemmas.{comes-after, no-source-named, read-input, refuses-not, run-told}
+use Rattle.pr_call.proofs.ReportLemmas.{comes-after, no-source-named, read-elf, read-input, refuses-not, run-told}
 use Rattle.pr_call.proofs.TopLemmas.{complete, complete-refused, ends-refused, ends-told, no-write, opening-told, refusal}
 use Rattle.pr_call.proofs.Utf8Lemmas.{words-bytes}
 use Rattle.pr_call.proofs.top.proot.Goals as goal
@@ -63,6 +63,12 @@ returns-in-Ok-clause-left_untouched g c =
     let p = passed g.T.Source c.args.tree.now c.open.new.tree g.E.Source c.args.elf.now c.open.new.elf g.I.Source c.args.input.now c.open.new.input
     g.O.Sink c.args.out.now c.report.new.out g.R.Sink c.args.err.now c.report.new.err g.L.Sink c.args.left.now c.report.new.left in
     λ before. absurd (comes-after c.in-Ok.opened p c.report.ensures before)
+
+pub returns-in-Ok-clause-before_elf : goal.returns-in-Ok-clause-before_elf
+returns-in-Ok-clause-before_elf g c =
+    let p = passed g.T.Source c.args.tree.now c.open.new.tree g.E.Source c.args.elf.now c.open.new.elf g.I.Source c.args.input.now c.open.new.input
+    g.O.Sink c.args.out.now c.report.new.out g.R.Sink c.args.err.now c.report.new.err g.L.Sink c.args.left.now c.report.new.left in
+    λ before. absurd (read-elf c.in-Ok.opened p c.report.ensures before)
 
 pub returns-in-Ok-clause-before_input : goal.returns-in-Ok-clause-before_input
 returns-in-Ok-clause-before_input g c =
