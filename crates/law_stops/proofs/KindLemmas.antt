@@ -164,7 +164,7 @@ module _ {scene : Scene Faking} (callers : FakedCallers scene) (r : Request) (de
 -- ---- so the call goes along with an identity
 
 -- without one the plain kernel answers it, too, it keeps both machines together, and both know alike to which inode it led
-abbrev UntoldGoes : Scene Faking → Request → Type 0
+abbrev pub UntoldGoes : Scene Faking → Request → Type 0
 UntoldGoes scene r = JustAnswers (came_there (untold scene)) × StayTogether (untold scene) × TargetIsKnown r (came_here scene) (came_there (untold scene)).handed.target
 
 together : (scene : Scene Faking) (r : Request) → ComeToFakedCall scene → asked scene ≡ Ok r → is_told_of_paths r ≡ true → RootIsKnownAt scene r → (IsCalm scene → UntoldGoes scene r) → GoesTogether scene
