@@ -10,7 +10,6 @@ use Rattle.pt_args.specs.rv_mem.Memory.{Memory}
 use Rattle.law_plans.specs.kr_view.View.{plain}
 use Rattle.pt_args.specs.kr_calls.Decoding.{decoding}
 use Rattle.pt_args.specs.kr_calls.declared.request.Request.{Request}
-use Rattle.law_stops.specs.Scene.{IsCalm, Scene, asked, at_first_stop}
 use Rattle.law_stops.specs.law_allowed.Texts.{LinksHaveTexts}
 use Rattle.law_stops.specs.law_allowed.Calls.{HasTextPaths}
 use Rattle.law_stops.proofs.law_allowed.DecodedLemmas.{decoded-are-givable, decoding-leaves-pages}
@@ -40,6 +39,7 @@ use Rattle.law_stops.specs.law_turns.PathCalls.{CallsPath, HasPath}
 use Rattle.law_stops.proofs.law_turns.RuleLemmas.{no_exec}
 use Rattle.law_stops.proofs.law_turns.SettingLemmas.{at_small}
 use Rattle.law_plans.specs.Begins.{StandTogether, told_texts}
+use Rattle.law_stops.specs.Scene.{IsCalm, Scene, asked, at_first_stop}
 use Rattle.law_stops.proofs.CallLemmas as before
 use Rattle.law_stops.proofs.CallerLemmas.{Callers}
 

@@ -3,8 +3,6 @@ use Rattle.std.proofs.Common.{◌≡◌, ℕ, Bool, true, false, List, Option, S
 use Rattle.law_plans.specs.pr_base.declared.path.WalkMode.TheVariants.{LookLink}
 use Rattle.pt_args.specs.Laws.{ShelvesHoldTheirItems, TextsAreReadBack}
 use Rattle.pt_args.specs.declared.edit.Edit.{Edit}
-use Rattle.law_stops.specs.Scene.{IsCalm, Scene, asked}
-use Rattle.law_stops.specs.Turning.{StayTogether}
 use Rattle.law_stops.specs.pt_results.Answers.{cwd_answer, link_answer}
 use Rattle.pt_args.specs.kr_calls.CallTable.{Told, ToldNothing, NamesHere, line, paths_of}
 use Rattle.pt_args.specs.kr_calls.PathTable.{PathUse, path_at, path_from}
@@ -12,9 +10,10 @@ use Rattle.pt_args.specs.kr_calls.declared.request.Request.{Request}
 use Rattle.pt_args.specs.kr_calls.declared.request.Request.TheVariants as call
 use Rattle.law_plans.specs.kr_seen.Carrying.{memory_of}
 use Rattle.law_plans.specs.pt_tracer.Planning.{answered}
-
 use Rattle.law_stops.specs.law_turns.PathCalls.{HasPath, TellsPath}
 use Rattle.law_plans.proofs.law_edits.CwdLemmas.{cwds_are_answered_alike}
+use Rattle.law_stops.specs.Scene.{IsCalm, Scene, asked}
+use Rattle.law_stops.specs.Turning.{StayTogether}
 use Rattle.law_stops.proofs.AnsweredLemmas.{cancelled_calls_go_together}
 use Rattle.law_stops.proofs.CallerLemmas.{Callers, callers_of}
 use Rattle.law_stops.proofs.EmulateLemmas.{answered_calls_go_together}

@@ -6,9 +6,9 @@ use Rattle.pt_args.specs.kr_calls.CallTable.{Told, ToldNothing, line}
 use Rattle.pt_args.specs.kr_calls.Decoding.{Decoded}
 use Rattle.pt_args.specs.kr_calls.declared.request.Request.{Request}
 use Rattle.pt_args.specs.kr_calls.declared.request.Request.TheVariants as call
-use Rattle.law_stops.specs.Scene.{asked}
 use Rattle.law_stops.specs.law_turns.Pathless.{IsPathless, TellsNothing}
 use Rattle.law_stops.specs.law_turns.PathCalls.{HasPath, TellsPath}
+use Rattle.law_stops.specs.Scene.{asked}
 use Rattle.law_stops.specs.Turning.{HasNoPath, StayTogether}
 use Rattle.law_stops.proofs.CallLemmas.{pathless_calls_go_together}
 use Rattle.law_paths.specs.Calls.{OtherCallsGoTogether, executes_nothing, is_execve}

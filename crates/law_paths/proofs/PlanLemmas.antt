@@ -8,7 +8,6 @@ use Rattle.pt_args.specs.Purposes.{opens}
 use Rattle.pt_args.specs.Walks.{walked_along}
 use Rattle.pt_args.specs.declared.edit.Edit.{Edit}
 use Rattle.pt_args.specs.declared.edit.Edit.TheVariants.{Cancel, Pass}
-use Rattle.law_stops.specs.Scene.{Scene, at_first_stop, caller_here, caller_there}
 use Rattle.law_stops.specs.pt_results.Answers.{link_answer}
 use Rattle.law_plans.specs.pr_base.declared.errno.Errno.{Errno}
 use Rattle.law_plans.specs.kr_view.View.{plain}
@@ -38,6 +37,7 @@ use Rattle.law_stops.proofs.law_turns.RuleLemmas.{no_exec}
 use Rattle.law_plans.specs.Plans.{Cancelling, HasFirstOfTwo, IsEdit, IsNewIfAny, IsPassed, IsPlanned, IsSwapped, Passing, PlanAgrees, Swapping, shelved_texts}
 use Rattle.law_plans.proofs.PlanLemmas as planning
 use Rattle.law_plans.specs.Short.{IsShort, IsShortIfAny, IsShortPlan}
+use Rattle.law_stops.specs.Scene.{Scene, at_first_stop, caller_here, caller_there}
 use Rattle.law_stops.specs.Swapping.{IsPassedAlike, IsSwappedAlike}
 use Rattle.law_stops.proofs.CallLemmas as before
 use Rattle.law_stops.proofs.CallLemmas.{own_image}

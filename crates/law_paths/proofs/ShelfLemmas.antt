@@ -12,7 +12,6 @@ use Rattle.pt_args.specs.kr_calls.Arguments.{number}
 use Rattle.pt_args.specs.kr_calls.PathTable.{PathUse, path_at}
 use Rattle.law_plans.specs.kr_calm.Shelf.{has_path, is_usable, stack_pointer}
 use Rattle.law_plans.specs.kr_model.State.{Image, Process}
-use Rattle.law_stops.specs.Scene.{Scene, caller_here, caller_there}
 use Rattle.law_stops.specs.kr_turns.Breaking.{plain_rule}
 use Rattle.law_stops.specs.kr_stops.Stopped.{Stopped, image_at, nothing_handed}
 use Rattle.law_stops.proofs.kr_stops.EditLemmas.{there as is_there}
@@ -26,6 +25,7 @@ use Rattle.law_plans.specs.law_edits.Swapped.{AreMarkedFrom, IsDecodedCalmly}
 use Rattle.law_plans.proofs.law_edits.MarkLemmas.{shelves_are_marked}
 use Rattle.law_plans.proofs.law_edits.NumberLemmas.{paths_have_numbers}
 use Rattle.law_plans.proofs.law_edits.CallShelfLemmas.{calm_calls_have_shelves, shelves_are_seen}
+use Rattle.law_stops.specs.Scene.{Scene, caller_here, caller_there}
 use Rattle.law_stops.proofs.CallLemmas as before
 use Rattle.law_stops.proofs.CallLemmas.{own_image}
 use Rattle.law_paths.proofs.HereLemmas as here

@@ -35,7 +35,6 @@ use Rattle.law_edits.specs.pt_tracer.declared.plan.Plan.{Plan}
 use Rattle.law_edits.specs.pt_tracer.declared.registers.Arguments.{Arguments}
 use Rattle.law_turns.specs.Calls.{decoded_by}
 use Rattle.law_turns.specs.Sizes.{IsSized}
-use Rattle.law_stops.specs.Turning.{ComeFromCall, StayTogether}
 use Rattle.law_stops.proofs.CallLemmas as before
 use Rattle.law_stops.proofs.CallLemmas.{born_pending, end_status, unwatched_end}
 use Rattle.law_stops.proofs.CallerLemmas.{FakedCallers, faked_callers_of, untold_callers}
@@ -44,6 +43,7 @@ use Rattle.law_stops.specs.Calls.{GoesUntold, KernelsCallsGoTogether}
 use Rattle.law_stops.specs.Editing.{IsEditedAlike, stop_in}
 use Rattle.law_stops.specs.Going.{ComeFromFakedCall, GoBySame, IsCalmFaked, StandAlike, StayTogetherFaked, untold}
 use Rattle.law_stops.specs.Scene.{IsCalm, Scene, asked, caller_here, came_here, came_there, traced_after}
+use Rattle.law_stops.specs.Turning.{ComeFromCall, StayTogether}
 use Rattle.law_stops.proofs.EditLemmas.{beginnings_keep_matches, edits_keep_matches}
 use Rattle.law_stops.proofs.EntryLemmas as entry
 use Rattle.law_stops.proofs.ProgramLemmas.{programs_read_no_mark}

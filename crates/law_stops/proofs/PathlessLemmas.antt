@@ -31,7 +31,6 @@ use Rattle.law_turns.proofs.PathlessLemmas.{no_exec, no_targets, pathless_calls_
 use Rattle.law_turns.proofs.PickLemmas.{same_known}
 use Rattle.law_turns.proofs.RunLemmas.{decoded_alike}
 use Rattle.law_turns.proofs.UnreadLemmas.{calm_unread}
-use Rattle.law_stops.specs.Turning.{ComeFromCall, HasNoPath, StayTogether}
 use Rattle.law_stops.proofs.CallLemmas as before
 use Rattle.law_stops.proofs.CallLemmas.{end_status, pathless_calls_go_together, unwatched_end}
 use Rattle.law_stops.proofs.CallerLemmas.{FakedCallers, comes_untold, faked_callers_of, untold_callers}
@@ -41,6 +40,7 @@ use Rattle.law_stops.specs.Editing.{IsEditedAlike}
 use Rattle.law_stops.specs.Going.{ComeFromFakedCall, IsCalmFaked, StandAlike, StayTogetherFaked, untold}
 use Rattle.law_stops.specs.Reading.{RootIsKnown, TargetIsKnown}
 use Rattle.law_stops.specs.Scene.{IsCalm, Scene, asked, at_root_there, caller_here, came_here, came_there}
+use Rattle.law_stops.specs.Turning.{ComeFromCall, HasNoPath, StayTogether}
 use Rattle.law_stops.proofs.EntryLemmas as entry
 use Rattle.law_stops.proofs.GoingLemmas.{ExitAlike, by_end}
 use Rattle.law_stops.proofs.IdentityLemmas.{identity_calls_go_together}
