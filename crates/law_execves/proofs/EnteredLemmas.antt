@@ -12,7 +12,7 @@ use Rattle.pt_args.specs.rv_mem.Pages.{HoldsBytes, Pages}
 use Rattle.pt_args.specs.rv_mem.declared.regs.Regs.{Regs}
 use Rattle.pt_args.specs.pt_bind.Tags.{TagTable, with_tag}
 use Rattle.pt_args.specs.pt_bind.declared.slot.Slot.TheVariants.{Exe}
-use Rattle.law_stops.specs.Scene.{Scene, came_here, came_there}
+use Rattle.law_stops.specs.Scene.{Scene, came_here, came_there, traced_after}
 use Rattle.law_stops.specs.Turning.{StayTogether}
 use Rattle.law_stops.specs.pt_ident.Identity.{refusal}
 use Rattle.law_stops.specs.pt_results.Notes.{noted, noted_of, tags_after}
@@ -32,7 +32,7 @@ use Rattle.law_stops.specs.kr_steps.Calls.{LastsLawful}
 use Rattle.law_stops.specs.kr_steps.Computing.{computed}
 use Rattle.law_stops.specs.kr_turns.PlainCall.{Came, executed, plain_call, refusal_told, replaced}
 use Rattle.law_stops.specs.kr_stops.Stopped.{IsThere, Stopped, edited, image_at, nothing_handed}
-use Rattle.law_stops.specs.kr_turns.Turn.{Tally, after_exit, after_plain, called, calling, watched_call}
+use Rattle.law_stops.specs.kr_turns.Turn.{Tally, after_exit, after_plain, called, calling}
 use Rattle.law_stops.specs.kr_turns.declared.plain.CallEnd.TheVariants as end
 use Rattle.law_stops.proofs.kr_stops.EditLemmas.{there as is_there}
 use Rattle.law_stops.specs.pt_faker.Faking.{has_answered_zero, word_of}
@@ -72,7 +72,7 @@ silent : (tags : TagTable) (pid : ℕ) (path : List ℕ) (args env index : ℕ) 
 silent tags pid path args env index e = ap (λ number. tags_after tags pid (noted_of (call.Execve path args env) index number)) (none_made e) ∙ silent_refusal tags pid (call.Execve path args env) index
 
 module _ {S : Type 0} {scene : Scene S} (execve : ExecveCall scene) where
-  open scene use {table, made, pid, mounted as m, traced as n}
+  open scene use {table, made, pid, traced as n}
   open execve use {callers, path, args, env}
   open execve.callers use {comes as c, also_caller as q, also_lives as also}
 
@@ -178,7 +178,7 @@ module _ {S : Type 0} {scene : Scene S} (execve : ExecveCall scene) where
     abbrev tally : Tally
     tally = before.unjudged callers v
 
-    traced_is : watched_call tracer 0 plain pid n ≡ record { state = answered pid (told_of e) (computed pid q.image.regs left w); watcher = back.0; tally = tally }
+    traced_is : traced_after scene ≡ record { state = answered pid (told_of e) (computed pid q.image.regs left w); watcher = back.0; tally = tally }
     traced_is =
         before.traced_call callers y v entered_is
         ∙ ap (λ came. after_plain tracer pid came y tally) came_is
@@ -311,7 +311,7 @@ module _ {S : Type 0} {scene : Scene S} (execve : ExecveCall scene) where
           ∙ ap (computed pid (record { x = slice_set q.image.regs.x 10 (word_of (told_of e)); pc = q5.image.regs.pc }) done4.memory) state5_is
           ∙ told_again pid q.image.regs (record { x = slice_set q.image.regs.x 10 (word_of (told_of e)); pc = q5.image.regs.pc }) done4.memory (told_of e) (told_of e) w refl regs3
 
-      traced5_is : watched_call tracer 0 plain pid n ≡ record { state = answered pid (told_of e) (computed pid q.image.regs done4.memory w); watcher = back5.0; tally = tally3 }
+      traced5_is : traced_after scene ≡ record { state = answered pid (told_of e) (computed pid q.image.regs done4.memory w); watcher = back5.0; tally = tally3 }
       traced5_is =
           before.traced_call callers yy left3 entry.entered_is
           ∙ ap (λ came. after_plain tracer pid came yy tally3) came5_is
@@ -376,7 +376,7 @@ module _ {S : Type 0} {scene : Scene S} (execve : ExecveCall scene) where
           ∙ ap (λ word. cond (word == 0) (begin_program (without_pending pid yy) (pending led None) stop6) (give_back (without_pending pid yy) (pending led None) stop6)) answers_zero
           ∙ ap (begin_as back6 stop6) c.traces.identities
 
-      traced6_is : watched_call tracer 0 plain pid n ≡ record { state = gone_on_with pid other w; watcher = back6; tally = tally3 }
+      traced6_is : traced_after scene ≡ record { state = gone_on_with pid other w; watcher = back6; tally = tally3 }
       traced6_is =
           before.traced_call callers yy left3 entry.entered_is
           ∙ ap (λ came. after_plain tracer pid came yy tally3) came6_is

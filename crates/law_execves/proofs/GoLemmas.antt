@@ -65,7 +65,7 @@ decoded_layout table made pid s p can = ap layout_of (decoding-leaves-pages p.im
 -- ---- what both have in common
 
 module _ {S : Type 0} {scene : Scene S} (execve : ExecveCall scene) where
-  open scene use {table, made, pid, mounted as m, traced as n}
+  open scene use {table, made, pid, traced as n}
   open execve use {callers, path, args, env, decoded, calm}
   open execve.callers use {comes as c, also_caller as q, also_lives as also}
 

@@ -21,11 +21,11 @@ use Rattle.law_stops.specs.kr_steps.Answering.{going, resumed}
 use Rattle.law_stops.specs.kr_steps.Calls.{LastsLawful}
 use Rattle.law_stops.specs.kr_turns.PlainCall.{Came, plain_call, replaced}
 use Rattle.law_stops.specs.kr_stops.Stopped.{image_in, nothing_handed}
-use Rattle.law_stops.specs.kr_turns.Turn.{Machine, Tally, after_exit, after_plain, called, watched_call}
+use Rattle.law_stops.specs.kr_turns.Turn.{Machine, Tally, after_exit, after_plain, called}
 use Rattle.law_stops.specs.kr_stops.Watching.{unwatched}
 use Rattle.law_stops.specs.kr_turns.declared.plain.CallEnd.TheVariants as end
 use Rattle.law_stops.specs.pt_faker.Faking.{has_answered_zero}
-use Rattle.law_stops.specs.pt_tracer.Watched.{Tracing, tracer}
+use Rattle.law_stops.specs.pt_tracer.Watched.{Tracing}
 use Rattle.law_plans.specs.law_places.Matching.{IsMatch}
 use Rattle.law_stops.specs.law_walks.Scene.{IsMatched}
 use Rattle.law_stops.specs.law_walks.States.{scene_of}
@@ -33,7 +33,7 @@ use Rattle.law_stops.specs.law_turns.Calls.{decoded_by, decoded_in}
 use Rattle.law_stops.specs.law_turns.Lasting.{CanBeCalled}
 use Rattle.law_stops.proofs.law_turns.CalledLemmas.{lasts_living}
 use Rattle.law_stops.proofs.law_turns.SettleLemmas.{lawful_gone}
-use Rattle.law_stops.specs.Scene.{Scene}
+use Rattle.law_stops.specs.Scene.{Scene, mounted_after, traced_after}
 use Rattle.law_stops.specs.Turning.{ComeFromCall, StayTogether, Traces}
 use Rattle.law_stops.proofs.AnsweredLemmas.{lives_changed}
 use Rattle.law_stops.proofs.CallLemmas as before
@@ -64,7 +64,7 @@ program-lasts table made pid s program can l =
 module _ {S : Type 0} {scene : Scene S} (execve : ExecveCall scene) where
   open scene use {table, made, pid, mounted as m, traced as n}
   open execve use {callers, path, args, env}
-  open execve.callers use {comes as c, also_caller as q, also_lives as also}
+  open execve.callers use {comes as c}
 
   abbrev x : Tracing
   x = n.watcher
@@ -122,7 +122,7 @@ module _ {S : Type 0} {scene : Scene S} (execve : ExecveCall scene) where
     abbrev mounted : Machine S
     mounted = after_exit unwatched (called pid came) m.watcher judged (process pid came.state)
 
-    mounted_is : watched_call unwatched 1 table pid m ≡ mounted
+    mounted_is : mounted_after scene ≡ mounted
     mounted_is = before.mounted_call callers ∙ ap (λ came. after_plain unwatched pid came m.watcher judged) loaded_is
 
     abbrev tags : TagTable
@@ -131,11 +131,11 @@ module _ {S : Type 0} {scene : Scene S} (execve : ExecveCall scene) where
     match_behind : IsMatch table tags (gone_on_with pid program s1) (gone_on_with pid other w)
     match_behind = programs_keep_matches table pid s1 w x.tags program other index (before.match1 callers) matched alike
 
-    pub loaded_together : (y : Tracing) (tally : Tally) → y.tags ≡ tags → Traces table y → tally.status ≡ n.tally.status → watched_call tracer 0 plain pid n ≡ record { state = gone_on_with pid other w; watcher = y; tally = tally }
+    pub loaded_together : (y : Tracing) (tally : Tally) → y.tags ≡ tags → Traces table y → tally.status ≡ n.tally.status → traced_after scene ≡ record { state = gone_on_with pid other w; watcher = y; tally = tally }
         → StayTogether scene
     loaded_together y tally same traces status traced_is =
         let exit_state : mounted.state ≡ gone_on_with pid program s1 = unwatched_exit pid (called pid came) m.watcher judged (process pid came.state) ∙ came_state in
-        subst (λ (e : Machine S). ComeFromCall table made e (watched_call tracer 0 plain pid n)) (sym mounted_is)
+        subst (λ (e : Machine S). ComeFromCall table made e (traced_after scene)) (sym mounted_is)
         (subst (ComeFromCall table made mounted) (sym traced_is)
         (record {
           matches = record {

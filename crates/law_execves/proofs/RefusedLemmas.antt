@@ -21,10 +21,10 @@ use Rattle.law_stops.specs.kr_steps.Calls.{LastsLawful}
 use Rattle.law_stops.specs.kr_steps.Computing.{computed}
 use Rattle.law_stops.specs.kr_turns.PlainCall.{Came, executed, plain_call, refusal_told, replaced}
 use Rattle.law_stops.specs.kr_stops.Stopped.{image_in}
-use Rattle.law_stops.specs.kr_turns.Turn.{Machine, Tally, after_exit, after_plain, called, watched_call}
+use Rattle.law_stops.specs.kr_turns.Turn.{Machine, Tally, after_exit, after_plain, called}
 use Rattle.law_stops.specs.kr_stops.Watching.{unwatched}
 use Rattle.law_stops.specs.pt_faker.Faking.{has_answered_zero}
-use Rattle.law_stops.specs.pt_tracer.Watched.{Tracing, tracer}
+use Rattle.law_stops.specs.pt_tracer.Watched.{Tracing}
 use Rattle.law_plans.specs.law_places.Matching.{IsMatch}
 use Rattle.law_stops.specs.law_turns.Calls.{decoded_by, decoded_in}
 use Rattle.law_stops.specs.law_turns.Lasting.{CanBeCalled}
@@ -34,7 +34,7 @@ use Rattle.law_stops.proofs.law_turns.ImageLemmas.{given}
 use Rattle.law_stops.proofs.law_turns.MatchLemmas.{match_computed}
 use Rattle.law_stops.proofs.law_turns.OperateLemmas.{with_own_registers}
 use Rattle.law_stops.proofs.law_turns.SettleLemmas.{match_settled}
-use Rattle.law_stops.specs.Scene.{Scene}
+use Rattle.law_stops.specs.Scene.{Scene, mounted_after, traced_after}
 use Rattle.law_stops.specs.Turning.{ComeFromCall, StayTogether, Traces}
 use Rattle.law_stops.proofs.AnsweredLemmas.{computed_twice, lives_changed}
 use Rattle.law_stops.proofs.CallLemmas as before
@@ -154,14 +154,14 @@ module _ {S : Type 0} {scene : Scene S} (execve : ExecveCall scene) where
       abbrev mounted : Machine S
       mounted = after_exit unwatched (called pid came) m.watcher judged (process pid came.state)
 
-      mounted_is : watched_call unwatched 1 table pid m ≡ mounted
+      mounted_is : mounted_after scene ≡ mounted
       mounted_is = before.mounted_call callers ∙ ap (λ came. after_plain unwatched pid came m.watcher judged) refused_is
 
-      pub refused_together : (y : Tracing) (tally : Tally) → y.tags ≡ x.tags → Traces table y → tally.status ≡ n.tally.status → watched_call tracer 0 plain pid n ≡ record { state = also_told; watcher = y; tally = tally }
+      pub refused_together : (y : Tracing) (tally : Tally) → y.tags ≡ x.tags → Traces table y → tally.status ≡ n.tally.status → traced_after scene ≡ record { state = also_told; watcher = y; tally = tally }
           → StayTogether scene
       refused_together y tally tags traces status traced_is =
           let exit_state : mounted.state ≡ told = unwatched_exit pid (called pid came) m.watcher judged (process pid came.state) ∙ came_state in
-          subst (λ (e : Machine S). ComeFromCall table made e (watched_call tracer 0 plain pid n)) (sym mounted_is)
+          subst (λ (e : Machine S). ComeFromCall table made e (traced_after scene)) (sym mounted_is)
           (subst (ComeFromCall table made mounted) (sym traced_is)
           (record {
             matches = record {

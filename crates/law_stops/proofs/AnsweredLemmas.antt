@@ -40,7 +40,7 @@ use Rattle.law_turns.specs.kr_steps.Computing.{computed}
 use Rattle.law_turns.specs.kr_steps.Settling.{settled}
 use Rattle.law_turns.specs.kr_turns.PlainCall.{Came, child_of, end_of, operated, plain_call, refusal_told}
 use Rattle.law_turns.specs.kr_stops.Stopped.{IsThere, Stopped, edited, image_at, nothing_handed}
-use Rattle.law_turns.specs.kr_turns.Turn.{Machine, Tally, after_born, after_end, after_exit, after_plain, called, watched_call}
+use Rattle.law_turns.specs.kr_turns.Turn.{Machine, Tally, after_born, after_end, after_exit, after_plain, called}
 use Rattle.law_turns.specs.kr_stops.Watching.{unwatched}
 use Rattle.law_turns.proofs.kr_stops.EditLemmas.{edited-twice, image-edited, there}
 use Rattle.law_turns.proofs.kr_turns.PlainLemmas.{no-exec-requested}
@@ -68,7 +68,7 @@ use Rattle.law_turns.proofs.MatchLemmas.{match_computed}
 use Rattle.law_turns.proofs.OperateLemmas.{with_own_registers}
 use Rattle.law_turns.proofs.SettleLemmas.{match_settled}
 use Rattle.law_stops.specs.Cancelling.{CancelledCallsGoTogether, IsCancelledAlike}
-use Rattle.law_stops.specs.Scene.{IsCalm, Scene, at_call}
+use Rattle.law_stops.specs.Scene.{IsCalm, Scene, at_call, mounted_after, traced_after}
 use Rattle.law_stops.specs.Turning.{ComeFromCall, StayTogether}
 use Rattle.law_stops.proofs.CallLemmas as before
 use Rattle.law_stops.proofs.CallLemmas.{exit_status, own_image, unwatched_exit}
@@ -258,7 +258,7 @@ module _ {S : Type 0} {scene : Scene S} (callers : Callers scene) (calm : IsCalm
         abbrev given_back : Tracing × Stopped
         given_back = left_with y stop2 r led (word_of answer) (image_at stop).regs.x
 
-        traced_is : watched_call tracer 0 plain pid n ≡ record { state = told; watcher = given_back.0; tally = tally }
+        traced_is : traced_after scene ≡ record { state = told; watcher = given_back.0; tally = tally }
         traced_is =
             before.traced_call callers y v entered_is
             ∙ ap (λ came. after_plain tracer pid came y tally) came_is
@@ -269,7 +269,7 @@ module _ {S : Type 0} {scene : Scene S} (callers : Callers scene) (calm : IsCalm
         abbrev behind : Machine S
         behind = after_exit unwatched (called pid (operated table pid r at)) (after_born unwatched pid (operated table pid r at).child m.watcher) (before.judged callers) (process pid (operated table pid r at).state)
 
-        mounted_is : watched_call unwatched 1 table pid m ≡ behind
+        mounted_is : mounted_after scene ≡ behind
         mounted_is =
             before.mounted_call callers
             ∙ ap (λ came. after_plain unwatched pid came m.watcher (before.judged callers)) state_here
@@ -279,7 +279,7 @@ module _ {S : Type 0} {scene : Scene S} (callers : Callers scene) (calm : IsCalm
         answered_together =
             let mine : behind.state ≡ (operated table pid r at).state = unwatched_exit pid (called pid (operated table pid r at)) (after_born unwatched pid (operated table pid r at).child m.watcher) (before.judged callers) (process pid (operated table pid r at).state) in
             let lasts = (calls_last table made pid s1 p1 r (before.can callers) is kind).lasts in
-            subst (λ (e : Machine S). ComeFromCall table made e (watched_call tracer 0 plain pid n)) (sym mounted_is)
+            subst (λ (e : Machine S). ComeFromCall table made e (traced_after scene)) (sym mounted_is)
             (subst (ComeFromCall table made behind) (sym traced_is)
             (record {
               matches = record {

@@ -41,7 +41,7 @@ use Rattle.law_turns.specs.kr_turns.Breaking.{plain_rule}
 use Rattle.law_turns.specs.kr_turns.PlainCall.{Came, child_of, end_of, operated, plain_call, refusal_told, status_told}
 use Rattle.law_turns.specs.kr_turns.Shelving.{lacks_in, shelved_in}
 use Rattle.law_turns.specs.kr_stops.Stopped.{Stopped, image_in, no_image, nothing_handed}
-use Rattle.law_turns.specs.kr_turns.Turn.{Machine, Tally, after_born, after_end, after_exit, after_plain, called, calling, watched_call, with_broken}
+use Rattle.law_turns.specs.kr_turns.Turn.{Machine, Tally, after_born, after_end, after_exit, after_plain, called, calling, with_broken}
 use Rattle.law_turns.specs.kr_stops.Watching.{Watcher, unwatched}
 use Rattle.law_turns.specs.kr_turns.declared.plain.CallEnd.{CallEnd}
 use Rattle.law_turns.specs.kr_turns.declared.plain.CallEnd.TheVariants as end
@@ -71,7 +71,7 @@ use Rattle.law_turns.proofs.RegisterLemmas.{calls_keep_registers}
 use Rattle.law_turns.proofs.RunLemmas.{decoded_alike, shelves_keep_matches}
 use Rattle.law_turns.proofs.UnreadLemmas.{calm_unread}
 use Rattle.law_stops.specs.Noting.{tags_told, told_answer, with_child}
-use Rattle.law_stops.specs.Scene.{IsCalm, Scene}
+use Rattle.law_stops.specs.Scene.{IsCalm, Scene, mounted_after, traced_after}
 use Rattle.law_stops.specs.Turning.{ComeFromCall, HasNoPath, PathlessCallsGoTogether, StayTogether, Traces}
 use Rattle.law_stops.proofs.CallerLemmas.{Callers, callers_of}
 use Rattle.law_stops.proofs.NoteLemmas.{notes_follow}
@@ -302,7 +302,7 @@ module _ {S : Type 0} {scene : Scene S} (callers : Callers scene) where
   abbrev pub judged : Tally
   judged = with_broken (plain_rule 1 table pid lacks s1) m.tally
 
-  pub mounted_call : watched_call unwatched 1 table pid m ≡ after_plain unwatched pid (plain_call table pid s1) m.watcher judged
+  pub mounted_call : mounted_after scene ≡ after_plain unwatched pid (plain_call table pid s1) m.watcher judged
   mounted_call = ap (λ t. after_plain unwatched pid (plain_call table pid t) m.watcher (with_broken (plain_rule 1 table pid lacks t) m.tally)) shelf
 
   abbrev pub unjudged : Stopped → Tally
@@ -311,7 +311,7 @@ module _ {S : Type 0} {scene : Scene S} (callers : Callers scene) where
   abbrev pub behind_entry : Tracing × Stopped → Machine Tracing
   behind_entry e = after_plain tracer pid (plain_call plain pid e.1.state) e.0 (unjudged e.1)
 
-  pub traced_call : (y : Tracing) (t : Stopped) → entered x stop ≡ (y, t) → watched_call tracer 0 plain pid n ≡ behind_entry (y, t)
+  pub traced_call : (y : Tracing) (t : Stopped) → entered x stop ≡ (y, t) → traced_after scene ≡ behind_entry (y, t)
   traced_call y t is = ap (λ (u : Stopped). behind_entry (entered x u)) calling_is ∙ ap behind_entry is
 
   module _ (calm : IsCalm scene) where
@@ -358,7 +358,7 @@ module _ {S : Type 0} {scene : Scene S} (callers : Callers scene) where
           let came2 = refusal_told pid e (decoded_in pid q2 w2) in
           let one : plain_call table pid s1 ≡ came = by_request table pid table s1 p1 (Err e) lives1 is in
           let other : plain_call plain pid w2 ≡ came2 = by_request table pid plain w2 q2 (Err e) can_then.lives (sym requests_then ∙ is) in
-          subst (λ x. ComeFromCall table made x (watched_call tracer 0 plain pid n)) (sym (mounted_call ∙ ap (λ came. after_plain unwatched pid came m.watcher judged) one))
+          subst (λ x. ComeFromCall table made x (traced_after scene)) (sym (mounted_call ∙ ap (λ came. after_plain unwatched pid came m.watcher judged) one))
           (subst (ComeFromCall table made (after_plain unwatched pid came m.watcher judged)) (sym (traced_call y then_stop entered_refused ∙ ap (λ came. after_plain tracer pid came y (unjudged then_stop)) other))
           (come_from table made pid came came2 m.watcher y judged (unjudged then_stop) x.tags c.matches.statuses (left_refused (called pid came2) (unjudged then_stop) (process pid came2.state) refl)
           (subst (CameAlike table x.tags came) other (subst (λ came. CameAlike table x.tags came (plain_call plain pid w2)) one alike_refused))
@@ -505,7 +505,7 @@ module _ {S : Type 0} {scene : Scene S} (callers : Callers scene) where
       pathless_together : StayTogether scene
       pathless_together =
           let also_lasts = (calls_last plain made pid w2 q2 r can_then (sym requests_then ∙ is) (no_exec r kind)).lasts in
-          subst (λ x. ComeFromCall table made x (watched_call tracer 0 plain pid n)) (sym mounted_call)
+          subst (λ x. ComeFromCall table made x (traced_after scene)) (sym mounted_call)
           (subst (ComeFromCall table made (after_plain unwatched pid came m.watcher judged)) (sym (traced_call z then_stop entered_pathless))
           (come_from table made pid came came2 m.watcher z judged (unjudged then_stop) (tags_told pid at.next_pid r reply.outcome x.tags) c.matches.statuses (left also_lasts (unjudged then_stop))
           (subst (λ tags. CameAlike table tags came came2) tags_are alike) (calls_last table made pid s1 p1 r can is (no_exec r kind)).lasts also_lasts))

@@ -53,7 +53,7 @@ use Rattle.law_turns.specs.kr_turns.Breaking.{decoded_rule, operated_rule, plain
 use Rattle.law_turns.specs.kr_turns.PlainCall.{Came, child_of, end_of, operated, plain_call}
 use Rattle.law_turns.specs.kr_turns.Target.{IsLookedAt, LooksUpOne, instead_of, target_by}
 use Rattle.law_turns.specs.kr_stops.Stopped.{IsThere, Stopped, edited, image_at, nothing_handed}
-use Rattle.law_turns.specs.kr_turns.Turn.{Machine, Tally, after_born, after_end, after_exit, after_plain, called, watched_call}
+use Rattle.law_turns.specs.kr_turns.Turn.{Machine, Tally, after_born, after_end, after_exit, after_plain, called}
 use Rattle.law_turns.specs.kr_stops.Watching.{unwatched}
 use Rattle.law_turns.proofs.kr_stops.EditLemmas.{there as is_there}
 use Rattle.law_turns.proofs.kr_turns.PlainLemmas.{no-exec-requested, no-exec-rule}
@@ -90,7 +90,7 @@ use Rattle.law_turns.proofs.PickLemmas.{same_known}
 use Rattle.law_turns.proofs.QuietLemmas.{memory_computed}
 use Rattle.law_turns.proofs.RegisterLemmas.{changes_keep_registers}
 use Rattle.law_stops.specs.Noting.{told_answer}
-use Rattle.law_stops.specs.Scene.{IsCalm, Scene, at_call, at_first_stop}
+use Rattle.law_stops.specs.Scene.{IsCalm, Scene, at_call, at_first_stop, mounted_after, traced_after}
 use Rattle.law_stops.specs.Swapping.{IsToldAlong, at_entry}
 use Rattle.law_stops.specs.Turning.{ComeFromCall, StayTogether}
 use Rattle.law_stops.proofs.AnsweredLemmas.{computed_twice, lives_changed}
@@ -536,7 +536,7 @@ module _ {S : Type 0} {scene : Scene S} (callers : Callers scene) (r r2 : Reques
     abbrev tally : Tally
     tally = before.unjudged callers left
 
-    traced_is : watched_call tracer 0 plain pid n ≡ record { state = final; watcher = given_back.0; tally = tally }
+    traced_is : traced_after scene ≡ record { state = final; watcher = given_back.0; tally = tally }
     traced_is =
         before.traced_call callers y left entered_is
         ∙ ap (λ came. after_plain tracer pid came y tally) came2_is
@@ -561,7 +561,7 @@ module _ {S : Type 0} {scene : Scene S} (callers : Callers scene) (r r2 : Reques
     abbrev mounted : Machine S
     mounted = after_exit unwatched (called pid came) (after_born unwatched pid came.child m.watcher) judged (process pid came.state)
 
-    mounted_is : watched_call unwatched 1 table pid m ≡ mounted
+    mounted_is : mounted_after scene ≡ mounted
     mounted_is =
         before.mounted_call callers
         ∙ ap (λ came. after_plain unwatched pid came m.watcher judged) came_is
@@ -591,7 +591,7 @@ module _ {S : Type 0} {scene : Scene S} (callers : Callers scene) (r r2 : Reques
     carried_together =
         let exit_state : mounted.state ≡ came.state = unwatched_exit pid (called pid came) (after_born unwatched pid came.child m.watcher) judged (process pid came.state) in
         let lasts = (calls_last table made pid s1 p1 r mine reads (no_exec_told r alike.kind)).lasts in
-        subst (λ (e : Machine S). ComeFromCall table made e (watched_call tracer 0 plain pid n)) (sym mounted_is)
+        subst (λ (e : Machine S). ComeFromCall table made e (traced_after scene)) (sym mounted_is)
         (subst (ComeFromCall table made mounted) (sym traced_is)
         (record {
           matches = record {

@@ -8,7 +8,7 @@ use Rattle.law_turns.specs.kr_steps.Computing.{computed}
 use Rattle.law_turns.specs.kr_turns.Breaking.{plain_rule}
 use Rattle.law_turns.specs.kr_turns.PlainCall.{Came, plain_call}
 use Rattle.law_turns.specs.kr_stops.Stopped.{Stopped, nothing_handed}
-use Rattle.law_turns.specs.kr_turns.Turn.{Machine, Tally, after_born, after_plain, called, calling, watched_call, with_broken}
+use Rattle.law_turns.specs.kr_turns.Turn.{Machine, Tally, after_born, after_plain, called, calling, with_broken}
 use Rattle.law_turns.specs.kr_stops.Watching.{unwatched}
 use Rattle.law_edits.specs.pt_faker.Faking.{Faking, entered as faked_entry, faker}
 use Rattle.law_edits.specs.pt_faker.Stopping.{after_request, decoded_at}
@@ -21,7 +21,7 @@ use Rattle.law_turns.proofs.UnreadLemmas.{calm_unread, unread_before}
 use Rattle.law_stops.proofs.CallLemmas as before
 use Rattle.law_stops.proofs.CallLemmas.{own_image}
 use Rattle.law_stops.proofs.CallerLemmas.{FakedCallers, untold_callers}
-use Rattle.law_stops.specs.Going.{IsCalmFaked}
+use Rattle.law_stops.specs.Going.{IsCalmFaked, faked_after}
 use Rattle.law_stops.specs.Scene.{IsCalm, Scene, caller_here}
 
 module _ {scene : Scene Faking} (callers : FakedCallers scene) where
@@ -75,7 +75,7 @@ module _ {scene : Scene Faking} (callers : FakedCallers scene) where
   -- ---- a call that is left to the kernel
 
   module _ (f1 : Faking) (enters : faked_entry m.watcher (caller_here scene) ≡ (f1, second)) (calm : IsCalmFaked scene) where
-    entered_call : watched_call faker 1 table pid m ≡ behind_entry (f1, second)
+    entered_call : faked_after scene ≡ behind_entry (f1, second)
     entered_call = ap behind_entry enters
 
     read_twice : (decoded_by (decoded_process table made pid s1 p1 can)).memory.read_marked ≡ false
@@ -101,7 +101,7 @@ module _ {scene : Scene Faking} (callers : FakedCallers scene) where
     abbrev pub came : Came
     came = plain_call table pid s1
 
-    pub faked_call : watched_call faker 1 table pid m ≡ after_plain faker pid came f1 judged
+    pub faked_call : faked_after scene ≡ after_plain faker pid came f1 judged
     faked_call = entered_call ∙ ap (λ t. after_plain faker pid (plain_call table pid t) f1 (with_broken (plain_rule 1 table pid lacks t) m.tally)) same_state
 
     -- so it breaks no rule where nobody watches either

@@ -26,7 +26,7 @@ use Rattle.law_turns.specs.kr_turns.Breaking.{plain_rule}
 use Rattle.law_turns.specs.kr_turns.PlainCall.{Came, plain_call}
 use Rattle.law_turns.specs.kr_turns.Shelving.{lacks_in}
 use Rattle.law_turns.specs.kr_stops.Stopped.{IsThere, Stopped, edited, image_at, nothing_handed}
-use Rattle.law_turns.specs.kr_turns.Turn.{Machine, Tally, after_exit, after_plain, called, calling, watched_call, with_broken}
+use Rattle.law_turns.specs.kr_turns.Turn.{Machine, Tally, after_exit, after_plain, called, calling, with_broken}
 use Rattle.law_turns.proofs.kr_stops.EditLemmas.{there}
 use Rattle.law_turns.specs.law_places.Matching.{IsMatch}
 use Rattle.law_edits.specs.pt_faker.Faking.{Faking, after_decoding as faked_decoding, after_due, after_effect as faked_effect, due_of, entered as faked_entry, exited as faked_exit, faker, keeping, no_longer_called, told, with_due, without_due, word_of}
@@ -51,8 +51,8 @@ use Rattle.law_stops.proofs.CallLemmas.{own_image}
 use Rattle.law_stops.proofs.CallerLemmas.{FakedCallers, faked_callers_of, untold_callers}
 use Rattle.law_stops.specs.Calls.{IdentityCallsGoTogether}
 use Rattle.law_stops.specs.Editing.{stop_in}
-use Rattle.law_stops.specs.Going.{ComeFromFakedCall, IsCalmFaked, StandAlike, StayTogetherFaked}
-use Rattle.law_stops.specs.Scene.{Scene, asked, caller_here}
+use Rattle.law_stops.specs.Going.{ComeFromFakedCall, IsCalmFaked, StandAlike, StayTogetherFaked, faked_after}
+use Rattle.law_stops.specs.Scene.{Scene, asked, caller_here, traced_after}
 use Rattle.law_stops.proofs.EditLemmas.{both_edited}
 use Rattle.law_stops.proofs.EntryLemmas as entry
 use Rattle.law_stops.proofs.KernelLemmas.{left, not_begun, told_exit, told_left, untold_exit}
@@ -150,7 +150,7 @@ module _ {scene : Scene Faking} (callers : FakedCallers scene) (r : Request) (e 
       ∙ ap (λ (image : Image). let done = carried_out action image.memory in (with_due pid (Some (due.Tells (get_or image.regs.x 17 0) done.reply.answer)) (keeping pid done.reply.identity f), no_longer_called (with_memory done.memory second))) image_second
       ∙ ap (λ (t : Stopped). (f1, t)) (taken.number_taken pid s1 p1 lives1 done.memory there_first (decoded_by p1).memory)
 
-  entered_call : watched_call faker 1 table pid m ≡ entry.behind_entry callers (f1, stop_in pid left1 nothing_handed)
+  entered_call : faked_after scene ≡ entry.behind_entry callers (f1, stop_in pid left1 nothing_handed)
   entered_call = ap (entry.behind_entry callers) enters
 
   -- it read no marked byte
@@ -215,7 +215,7 @@ module _ {scene : Scene Faking} (callers : FakedCallers scene) (r : Request) (e 
   abbrev behind_entry : Tracing × Stopped → Machine Tracing
   behind_entry e = after_plain tracer pid (plain_call plain pid e.1.state) e.0 (with_broken (plain_rule 0 plain pid (lacks_in 0 pid w) e.1.state) n.tally)
 
-  traced_call : watched_call tracer 0 plain pid n ≡ behind_entry (y, stop_in pid left2 nothing_handed)
+  traced_call : traced_after scene ≡ behind_entry (y, stop_in pid left2 nothing_handed)
   traced_call = ap (λ (t : Stopped). behind_entry (entered x t)) stop_is ∙ ap behind_entry enters_there
 
   -- ---- what both kernels refuse
@@ -272,7 +272,7 @@ module _ {scene : Scene Faking} (callers : FakedCallers scene) (r : Request) (e 
   abbrev judged : Tally
   judged = with_broken (plain_rule 1 table pid (entry.lacks callers) left1) m.tally
 
-  mounted_is : watched_call faker 1 table pid m ≡ record { state = answered1; watcher = kept; tally = judged }
+  mounted_is : faked_after scene ≡ record { state = answered1; watcher = kept; tally = judged }
   mounted_is =
       entered_call
       ∙ ap (λ came. after_plain faker pid came f1 judged) came_is
@@ -325,7 +325,7 @@ module _ {scene : Scene Faking} (callers : FakedCallers scene) (r : Request) (e 
       told_exit pending y (called pid came2) pending_there none_begun (with_identity pid also_done.reply.identity f.identities) refl
       ∙ ap (told_left pending y (called pid came2) pending_there (with_identity pid also_done.reply.identity f.identities)) answers.due
 
-  traced_is : watched_call tracer 0 plain pid n ≡ record { state = answered2; watcher = traced; tally = other }
+  traced_is : traced_after scene ≡ record { state = answered2; watcher = traced; tally = other }
   traced_is =
       traced_call
       ∙ ap (λ came. after_plain tracer pid came y other) came2_is
@@ -347,7 +347,7 @@ module _ {scene : Scene Faking} (callers : FakedCallers scene) (r : Request) (e 
 
   identities_together : StayTogetherFaked scene
   identities_together =
-      subst (λ (e : Machine Faking). ComeFromFakedCall table made e (watched_call tracer 0 plain pid n)) (sym mounted_is)
+      subst (λ (e : Machine Faking). ComeFromFakedCall table made e (traced_after scene)) (sym mounted_is)
       (subst (ComeFromFakedCall table made (record { state = answered1; watcher = kept; tally = judged })) (sym traced_is)
       (record {
         matches = record {

@@ -19,7 +19,7 @@ use Rattle.law_turns.specs.kr_turns.Breaking.{plain_rule}
 use Rattle.law_turns.specs.kr_turns.PlainCall.{Came, plain_call}
 use Rattle.law_turns.specs.kr_turns.Shelving.{lacks_in}
 use Rattle.law_turns.specs.kr_stops.Stopped.{Stopped}
-use Rattle.law_turns.specs.kr_turns.Turn.{Machine, Tally, after_born, after_end, after_plain, called, calling, watched_call, with_broken}
+use Rattle.law_turns.specs.kr_turns.Turn.{Machine, Tally, after_born, after_end, after_plain, called, calling, with_broken}
 use Rattle.law_turns.specs.kr_stops.Watching.{unwatched}
 use Rattle.law_turns.proofs.kr_stops.EditLemmas.{computed-lives}
 use Rattle.law_turns.specs.law_places.Matching.{IsMatch}
@@ -42,7 +42,7 @@ use Rattle.law_stops.specs.Beginning.{GoesUntoldToProgram, ProgramsGoTogether, R
 use Rattle.law_stops.specs.Calls.{GoesUntold, KernelsCallsGoTogether}
 use Rattle.law_stops.specs.Editing.{IsEditedAlike, stop_in}
 use Rattle.law_stops.specs.Going.{ComeFromFakedCall, GoBySame, IsCalmFaked, StandAlike, StayTogetherFaked, untold}
-use Rattle.law_stops.specs.Scene.{IsCalm, Scene, asked, caller_here, came_here, came_there, traced_after}
+use Rattle.law_stops.specs.Scene.{IsCalm, Scene, asked, caller_here, came_here, came_there, mounted_after, traced_after}
 use Rattle.law_stops.specs.Turning.{ComeFromCall, StayTogether}
 use Rattle.law_stops.proofs.EditLemmas.{beginnings_keep_matches, edits_keep_matches}
 use Rattle.law_stops.proofs.EntryLemmas as entry
@@ -282,7 +282,7 @@ module _ {scene : Scene Faking} (callers : FakedCallers scene) (r : Request) (de
   abbrev behind_entry : Tracing × Stopped → Machine Tracing
   behind_entry e = after_plain tracer pid (plain_call plain pid e.1.state) e.0 (with_broken (plain_rule 0 plain pid (lacks_in 0 pid n.state) e.1.state) n.tally)
 
-  traced_call : watched_call tracer 0 plain pid n ≡ after_plain tracer pid came2 y other
+  traced_call : traced_after scene ≡ after_plain tracer pid came2 y other
   traced_call = ap (λ (t : Stopped). behind_entry (entered x t)) stop_is ∙ ap behind_entry enters_there
 
   untold_call : traced_after (untold scene) ≡ after_end tracer pid came2.end (called pid came2) (with_identities None z) other
@@ -315,17 +315,17 @@ module _ {scene : Scene Faking} (callers : FakedCallers scene) (r : Request) (de
         subst (λ o. GoBySame table g (after_born tracer pid o y)) children
         (goes_born table pid f1 y (record { bindings = c.goes.bindings; user = c.goes.user; identities = refl }) came.child)
 
-    unwatched_is : watched_call unwatched 1 table pid m ≡ after_plain unwatched pid came f judged
+    unwatched_is : mounted_after scene ≡ after_plain unwatched pid came f judged
     unwatched_is = before.mounted_call (untold_callers callers)
 
-    unwatched_state : (watched_call unwatched 1 table pid m).state ≡ came.state
+    unwatched_state : (mounted_after scene).state ≡ came.state
     unwatched_state = ap (λ (m : Machine Faking). m.state) unwatched_is ∙ unwatched_end pid came.end (called pid came) (after_born unwatched pid came.child f) judged
 
     abbrev untold_end : Machine Tracing
     untold_end = after_end tracer pid came2.end (called pid came2) (with_identities None z) other
 
-    together : ComeFromCall table made (watched_call unwatched 1 table pid m) untold_end
-    together = subst (ComeFromCall table made (watched_call unwatched 1 table pid m)) untold_call goes
+    together : ComeFromCall table made (mounted_after scene) untold_end
+    together = subst (ComeFromCall table made (mounted_after scene)) untold_call goes
 
     both : StandAlike table untold_end.watcher.tags (suc made) came.state untold_end.state
     both = record {
@@ -343,7 +343,7 @@ module _ {scene : Scene Faking} (callers : FakedCallers scene) (r : Request) (de
 
     by_exits : ExitAlike table made pid came came2 g z judged other → StayTogetherFaked scene
     by_exits exits =
-        subst (λ (e : Machine Faking). ComeFromFakedCall table made e (watched_call tracer 0 plain pid n)) (sym (entry.faked_call callers f1 enters calm))
+        subst (λ (e : Machine Faking). ComeFromFakedCall table made e (traced_after scene)) (sym (entry.faked_call callers f1 enters calm))
         (subst (ComeFromFakedCall table made (after_plain faker pid came f1 judged)) (sym traced_call)
         (subst (λ e. ComeFromFakedCall table made (after_end faker pid e (called pid came) g judged) (after_plain tracer pid came2 y other)) (sym ends)
         (by_end table made pid came came2 g z judged other go exits came2.end both statuses)))

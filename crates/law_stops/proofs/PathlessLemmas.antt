@@ -16,7 +16,7 @@ use Rattle.law_turns.specs.kr_turns.PlainCall.{Came, operated, plain_call, refus
 use Rattle.law_turns.specs.kr_turns.Shelving.{lacks_in}
 use Rattle.law_turns.specs.kr_turns.Target.{inode_instead, instead_of, target_of}
 use Rattle.law_turns.specs.kr_stops.Stopped.{Stopped}
-use Rattle.law_turns.specs.kr_turns.Turn.{Machine, Tally, after_exit, after_plain, called, calling, watched_call, with_broken}
+use Rattle.law_turns.specs.kr_turns.Turn.{Machine, Tally, after_exit, after_plain, called, calling, with_broken}
 use Rattle.law_turns.specs.kr_stops.Watching.{unwatched}
 use Rattle.law_turns.specs.kr_turns.declared.plain.CallEnd.TheVariants as end
 use Rattle.law_turns.proofs.kr_turns.PlainLemmas.{no-exec-requested}
@@ -37,9 +37,9 @@ use Rattle.law_stops.proofs.CallerLemmas.{FakedCallers, comes_untold, faked_call
 use Rattle.law_stops.proofs.PassLemmas.{entries_pass}
 use Rattle.law_stops.specs.Calls.{FakedCallsGoTogether, GoesUntold}
 use Rattle.law_stops.specs.Editing.{IsEditedAlike}
-use Rattle.law_stops.specs.Going.{ComeFromFakedCall, IsCalmFaked, StandAlike, StayTogetherFaked, untold}
+use Rattle.law_stops.specs.Going.{ComeFromFakedCall, IsCalmFaked, StandAlike, StayTogetherFaked, faked_after, untold}
 use Rattle.law_stops.specs.Reading.{RootIsKnown, TargetIsKnown}
-use Rattle.law_stops.specs.Scene.{IsCalm, Scene, asked, at_root_there, caller_here, came_here, came_there}
+use Rattle.law_stops.specs.Scene.{IsCalm, Scene, asked, at_root_there, caller_here, came_here, came_there, mounted_after, traced_after}
 use Rattle.law_stops.specs.Turning.{ComeFromCall, HasNoPath, StayTogether}
 use Rattle.law_stops.proofs.EntryLemmas as entry
 use Rattle.law_stops.proofs.GoingLemmas.{ExitAlike, by_end}
@@ -228,7 +228,7 @@ module _ {scene : Scene Faking} (callers : FakedCallers scene) where
         ∙ ap behind_entry (enters_there z)
         ∙ ap (λ came. after_plain tracer pid came (without_pending pid z) other) came2_is
 
-    mounted_call : watched_call faker 1 table pid m ≡ after_exit faker (called pid came) f1 judged (process pid came.state)
+    mounted_call : faked_after scene ≡ after_exit faker (called pid came) f1 judged (process pid came.state)
     mounted_call = entry.faked_call callers f1 enters calm ∙ ap (λ came. after_plain faker pid came f1 judged) came_is
 
     nothing_pending : (z : Tracing) → exited (without_pending pid z) (called pid came2) ≡ (without_pending pid (without_pending pid z), called pid came2)
@@ -249,17 +249,17 @@ module _ {scene : Scene Faking} (callers : FakedCallers scene) where
       edits = λ tags some alike. alike;
     }
 
-    unwatched_is : watched_call unwatched 1 table pid m ≡ after_plain unwatched pid came f judged
+    unwatched_is : mounted_after scene ≡ after_plain unwatched pid came f judged
     unwatched_is = before.mounted_call (untold_callers callers) ∙ ap (λ came. after_plain unwatched pid came f judged) came_is
 
-    unwatched_state : (watched_call unwatched 1 table pid m).state ≡ came.state
+    unwatched_state : (mounted_after scene).state ≡ came.state
     unwatched_state = ap (λ (m : Machine Faking). m.state) unwatched_is ∙ unwatched_end pid end.Answered (called pid came) f judged
 
     abbrev untold_end : Machine Tracing
     untold_end = after_exit tracer (called pid came2) (with_identities None y) other (process pid came2.state)
 
-    together : ComeFromCall table made (watched_call unwatched 1 table pid m) untold_end
-    together = subst (ComeFromCall table made (watched_call unwatched 1 table pid m)) (traced_call (untold scene).traced.watcher) (together_untold calm_too (subst HasNoPath (sym reads) tt))
+    together : ComeFromCall table made (mounted_after scene) untold_end
+    together = subst (ComeFromCall table made (mounted_after scene)) (traced_call (untold scene).traced.watcher) (together_untold calm_too (subst HasNoPath (sym reads) tt))
 
     both : StandAlike table untold_end.watcher.tags (suc made) came.state untold_end.state
     both = record {
@@ -270,7 +270,7 @@ module _ {scene : Scene Faking} (callers : FakedCallers scene) where
 
     refused_together : StayTogetherFaked scene
     refused_together =
-        subst (λ (e : Machine Faking). ComeFromFakedCall table made e (watched_call tracer 0 plain pid n)) (sym mounted_call)
+        subst (λ (e : Machine Faking). ComeFromFakedCall table made e (traced_after scene)) (sym mounted_call)
         (subst (ComeFromFakedCall table made (after_exit faker (called pid came) f1 judged (process pid came.state))) (sym (traced_call x))
         (by_end table made pid came came2 f1 y judged other (record { bindings = c.goes.bindings; user = c.goes.user; identities = c.goes.identities }) exits end.Answered both c.matches.statuses))
 
