@@ -12,9 +12,11 @@ use Rattle.pt_args.specs.rv_mem.Pages.{HoldsBytes, Pages}
 use Rattle.pt_args.specs.rv_mem.declared.regs.Regs.{Regs}
 use Rattle.pt_args.specs.pt_bind.Tags.{TagTable, with_tag}
 use Rattle.pt_args.specs.pt_bind.declared.slot.Slot.TheVariants.{Exe}
+use Rattle.law_stops.specs.Scene.{Scene, came_here, came_there, traced_after}
+use Rattle.law_stops.specs.Turning.{StayTogether}
 use Rattle.law_stops.specs.pt_ident.Identity.{refusal}
 use Rattle.law_stops.specs.pt_results.Notes.{noted, noted_of, tags_after}
-use Rattle.law_stops.specs.kr_view.View.{Row, plain}
+use Rattle.law_stops.specs.kr_view.View.{plain}
 use Rattle.pt_args.specs.kr_calls.Decoding.{decoding}
 use Rattle.pt_args.specs.kr_calls.declared.request.Request.{Request}
 use Rattle.pt_args.specs.kr_calls.declared.request.Request.TheVariants as call
@@ -30,8 +32,7 @@ use Rattle.law_stops.specs.kr_steps.Calls.{LastsLawful}
 use Rattle.law_stops.specs.kr_steps.Computing.{computed}
 use Rattle.law_stops.specs.kr_turns.PlainCall.{Came, executed, plain_call, refusal_told, replaced}
 use Rattle.law_stops.specs.kr_stops.Stopped.{IsThere, Stopped, edited, image_at, nothing_handed}
-use Rattle.law_stops.specs.kr_turns.Turn.{Machine, Tally, after_exit, after_plain, called, calling, watched_call}
-use Rattle.law_stops.specs.kr_stops.Watching.{unwatched}
+use Rattle.law_stops.specs.kr_turns.Turn.{Tally, after_exit, after_plain, called, calling}
 use Rattle.law_stops.specs.kr_turns.declared.plain.CallEnd.TheVariants as end
 use Rattle.law_stops.proofs.kr_stops.EditLemmas.{there as is_there}
 use Rattle.law_stops.specs.pt_faker.Faking.{has_answered_zero, word_of}
@@ -52,11 +53,10 @@ use Rattle.law_stops.proofs.law_turns.CallLemmas.{by_request}
 use Rattle.law_stops.proofs.law_turns.CalledLemmas.{decoded_lasts, decoded_lives, decoded_memory, decoded_process, lasts_living, settled_lasts}
 use Rattle.law_stops.proofs.law_turns.ImageLemmas.{given}
 use Rattle.law_stops.proofs.law_turns.OperateLemmas.{with_own_registers}
-use Rattle.law_stops.specs.Turning.{ComeFromCall, ComeToCall}
 use Rattle.law_stops.proofs.AnsweredLemmas.{computed_twice, lives_changed, none_made, silent_refusal, told_again}
 use Rattle.law_stops.proofs.CallLemmas as before
 use Rattle.law_stops.proofs.CallLemmas.{own_image, plain_named}
-use Rattle.law_execves.specs.Going.{GoesOn, came_here, came_there}
+use Rattle.law_execves.specs.Going.{GoesOn}
 use Rattle.law_execves.specs.Replacing.{ArePutAlike, gone_on_with, mounts_of}
 use Rattle.law_execves.proofs.BegunLemmas.{has_answer, told_no_zero}
 use Rattle.law_execves.proofs.LoadedLemmas as loaded
@@ -65,13 +65,17 @@ use Rattle.law_execves.proofs.ReadingLemmas.{execution-keeps}
 use Rattle.law_execves.proofs.RefusedLemmas as refused
 use Rattle.law_execves.proofs.RefusedLemmas.{told_of}
 use Rattle.law_execves.proofs.BehindLemmas.{Behind, behind, forgotten}
+use Rattle.law_execves.proofs.ExecveLemmas.{ExecveCall}
 
 -- an error is noted of no execve
 silent : (tags : TagTable) (pid : ℕ) (path : List ℕ) (args env index : ℕ) (e : Errno) → tags_after tags pid (noted (call.Execve path args env) index (cast_signed w64 (word_of (told_of e)))) ≡ tags
 silent tags pid path args env index e = ap (λ number. tags_after tags pid (noted_of (call.Execve path args env) index number)) (none_made e) ∙ silent_refusal tags pid (call.Execve path args env) index
 
-module _ {S : Type 0} (table : List Row) (made pid : ℕ) (m : Machine S) (n : Machine Tracing) (c : ComeToCall table made pid m n) (p q : Process ℕ Image) (lives : process pid m.state ≡ Some p) (also : process pid n.state ≡ Some q)
-    (calm : (watched_call unwatched 1 table pid m).tally.broken ≡ None) (path : List ℕ) (args env : ℕ) where
+module _ {S : Type 0} {scene : Scene S} (execve : ExecveCall scene) where
+  open scene use {table, made, pid, traced as n}
+  open execve use {callers, path, args, env}
+  open execve.callers use {comes as c, also_caller as q, also_lives as also}
+
   abbrev x : Tracing
   x = n.watcher
 
@@ -79,19 +83,19 @@ module _ {S : Type 0} (table : List Row) (made pid : ℕ) (m : Machine S) (n : M
   w = n.state
 
   abbrev s1 : State ℕ Image
-  s1 = before.s1 table made pid m n c p q lives also
+  s1 = before.s1 callers
 
   abbrev p1 : Process ℕ Image
-  p1 = before.p1 table made pid m n c p q lives also
+  p1 = before.p1 callers
 
   abbrev pub stop : Stopped
-  stop = before.stop table made pid m n c p q lives also
+  stop = before.stop callers
 
   abbrev r : Request
   r = call.Execve path args env
 
   abbrev done : CarriedOut (Result Program Errno)
-  done = refused.done table made pid m n c p q lives also calm path args env
+  done = refused.done execve
 
   -- what is kept for the second stop
   abbrev pub pending : Led → Option ℤ → Pending
@@ -103,17 +107,17 @@ module _ {S : Type 0} (table : List Row) (made pid : ℕ) (m : Machine S) (n : M
   -- ---- what is so of both kernels, whatever the tracer keeps and leaves
 
   module _ (k : Pending) (v : Stopped) (entered_is : entered x stop ≡ (kept k, v)) (mine theirs : Came) (mine_is : plain_call table pid s1 ≡ mine) (theirs_is : plain_call plain pid v.state ≡ theirs) where
-    here_is : came_here table pid m n ≡ mine
-    here_is = ap (plain_call table pid) (before.shelf table made pid m n c p q lives also) ∙ mine_is
+    here_is : came_here scene ≡ mine
+    here_is = ap (plain_call table pid) (before.shelf callers) ∙ mine_is
 
     enters_is : entered x (calling 0 pid w) ≡ (kept k, v)
-    enters_is = ap (entered x) (before.calling_is table made pid m n c p q lives also) ∙ entered_is
+    enters_is = ap (entered x) (before.calling_is callers) ∙ entered_is
 
-    there_is : came_there table pid m n ≡ theirs
+    there_is : came_there scene ≡ theirs
     there_is = ap (λ (e : Tracing × Stopped). plain_call plain pid e.1.state) enters_is ∙ theirs_is
 
     goes_on : (begun : Bool) → mine.end ≡ theirs.end → mine.child ≡ theirs.child → has_answered_zero (called pid mine) ≡ begun → has_begun k (called pid theirs) ≡ begun
-        → ComeFromCall table made (watched_call unwatched 1 table pid m) (watched_call tracer 0 plain pid n) → GoesOn table pid m n made
+        → StayTogether scene → GoesOn scene
     goes_on begun ends children begins also_begins together = record {
       together = together;
       ends = ap (λ (came : Came). came.end) here_is ∙ ends ∙ sym (ap (λ (came : Came). came.end) there_is);
@@ -172,26 +176,26 @@ module _ {S : Type 0} (table : List Row) (made pid : ℕ) (m : Machine S) (n : M
         ∙ told_again pid q.image.regs (record { x = slice_set q.image.regs.x 10 (word_of (refusal e)); pc = q3.image.regs.pc }) left (refusal ENOSYS) (told_of e) w refl (without_call q.image.regs)
 
     abbrev tally : Tally
-    tally = before.unjudged table made pid m n c p q lives also v
+    tally = before.unjudged callers v
 
-    traced_is : watched_call tracer 0 plain pid n ≡ record { state = answered pid (told_of e) (computed pid q.image.regs left w); watcher = back.0; tally = tally }
+    traced_is : traced_after scene ≡ record { state = answered pid (told_of e) (computed pid q.image.regs left w); watcher = back.0; tally = tally }
     traced_is =
-        before.traced_call table made pid m n c p q lives also y v entered_is
+        before.traced_call callers y v entered_is
         ∙ ap (λ came. after_plain tracer pid came y tally) came_is
         ∙ ap (after_exit tracer stop2 y tally) lives3
         ∙ ap (λ (e : Tracing × Stopped). record { state = e.1.state; watcher = e.0; tally = tally }) exits
         ∙ ap (λ t. record { state = t; watcher = back.0; tally = tally }) back_state
 
-    cancelled_together : ComeFromCall table made (watched_call unwatched 1 table pid m) (watched_call tracer 0 plain pid n)
+    cancelled_together : StayTogether scene
     cancelled_together =
-        refused.refused_together table made pid m n c p q lives also calm path args env reads e refuses left like unmarked back.0 tally (silent x.tags pid path args env led.index e)
+        refused.refused_together execve reads e refuses left like unmarked back.0 tally (silent x.tags pid path args env led.index e)
         (record { bindings = c.traces.bindings; identities = c.traces.identities }) refl traced_is
 
-    pub cancelled_on : GoesOn table pid m n made
+    pub cancelled_on : GoesOn scene
     cancelled_on =
-        goes_on (pending led (Some (refusal e))) v entered_is (refused.came table made pid m n c p q lives also calm path args env reads e refuses) none
-        (refused.refused_is table made pid m n c p q lives also calm path args env reads e refuses) came_is false refl refl
-        (refused.none_begins table made pid m n c p q lives also calm path args env reads e refuses) refl cancelled_together
+        goes_on (pending led (Some (refusal e))) v entered_is (refused.came execve reads e refuses) none
+        (refused.refused_is execve reads e refuses) came_is false refl refl
+        (refused.none_begins execve reads e refuses) refl cancelled_together
 
   -- ---- the plain kernel carries it out
 
@@ -257,7 +261,7 @@ module _ {S : Type 0} (table : List Row) (made pid : ℕ) (m : Machine S) (n : M
     came4_is = by_request table pid plain w3 process3 (Ok (call.Execve host put env)) lives_left entry.reads
 
     abbrev tally3 : Tally
-    tally3 = before.unjudged table made pid m n c p q lives also left3
+    tally3 = before.unjudged callers left3
 
     -- ---- and refuses it
 
@@ -307,17 +311,17 @@ module _ {S : Type 0} (table : List Row) (made pid : ℕ) (m : Machine S) (n : M
           ∙ ap (computed pid (record { x = slice_set q.image.regs.x 10 (word_of (told_of e)); pc = q5.image.regs.pc }) done4.memory) state5_is
           ∙ told_again pid q.image.regs (record { x = slice_set q.image.regs.x 10 (word_of (told_of e)); pc = q5.image.regs.pc }) done4.memory (told_of e) (told_of e) w refl regs3
 
-      traced5_is : watched_call tracer 0 plain pid n ≡ record { state = answered pid (told_of e) (computed pid q.image.regs done4.memory w); watcher = back5.0; tally = tally3 }
+      traced5_is : traced_after scene ≡ record { state = answered pid (told_of e) (computed pid q.image.regs done4.memory w); watcher = back5.0; tally = tally3 }
       traced5_is =
-          before.traced_call table made pid m n c p q lives also yy left3 entry.entered_is
+          before.traced_call callers yy left3 entry.entered_is
           ∙ ap (λ came. after_plain tracer pid came yy tally3) came5_is
           ∙ ap (after_exit tracer (called pid came5) yy tally3) lives5
           ∙ ap (λ (e : Tracing × Stopped). record { state = e.1.state; watcher = e.0; tally = tally3 }) exits5
           ∙ ap (λ t. record { state = t; watcher = back5.0; tally = tally3 }) back5_state
 
-      refused_together : ComeFromCall table made (watched_call unwatched 1 table pid m) (watched_call tracer 0 plain pid n)
+      refused_together : StayTogether scene
       refused_together =
-          refused.refused_together table made pid m n c p q lives also calm path args env reads e refuses done4.memory stays5 (subst (λ (pages : Pages). AreEqualUnmarked p1.image.memory.pages pages) (sym done4_pages) entry.unmarked)
+          refused.refused_together execve reads e refuses done4.memory stays5 (subst (λ (pages : Pages). AreEqualUnmarked p1.image.memory.pages pages) (sym done4_pages) entry.unmarked)
           back5.0 tally3 (silent x.tags pid path args env led.index e) (record { bindings = c.traces.bindings; identities = c.traces.identities }) refl traced5_is
 
       none_begins : has_answered_zero (called pid came5) ≡ false
@@ -325,11 +329,11 @@ module _ {S : Type 0} (table : List Row) (made pid : ℕ) (m : Machine S) (n : M
           ap (λ (image : Image). get_or image.regs.x 10 0 == 0) (own_image pid came5.state q5 lives5)
           ∙ told_no_zero registers e (has_answer regs3 memory3 host put env entry.reads)
 
-      pub refused_on : GoesOn table pid m n made
+      pub refused_on : GoesOn scene
       refused_on =
-          goes_on (pending led None) left3 entry.entered_is (refused.came table made pid m n c p q lives also calm path args env reads e refuses) came5
-          (refused.refused_is table made pid m n c p q lives also calm path args env reads e refuses) came5_is false refl refl
-          (refused.none_begins table made pid m n c p q lives also calm path args env reads e refuses) none_begins refused_together
+          goes_on (pending led None) left3 entry.entered_is (refused.came execve reads e refuses) came5
+          (refused.refused_is execve reads e refuses) came5_is false refl refl
+          (refused.none_begins execve reads e refuses) none_begins refused_together
 
     -- ---- or puts a program in its place
 
@@ -372,22 +376,22 @@ module _ {S : Type 0} (table : List Row) (made pid : ℕ) (m : Machine S) (n : M
           ∙ ap (λ word. cond (word == 0) (begin_program (without_pending pid yy) (pending led None) stop6) (give_back (without_pending pid yy) (pending led None) stop6)) answers_zero
           ∙ ap (begin_as back6 stop6) c.traces.identities
 
-      traced6_is : watched_call tracer 0 plain pid n ≡ record { state = gone_on_with pid other w; watcher = back6; tally = tally3 }
+      traced6_is : traced_after scene ≡ record { state = gone_on_with pid other w; watcher = back6; tally = tally3 }
       traced6_is =
-          before.traced_call table made pid m n c p q lives also yy left3 entry.entered_is
+          before.traced_call callers yy left3 entry.entered_is
           ∙ ap (λ came. after_plain tracer pid came yy tally3) came6_is
           ∙ ap (after_exit tracer stop6 yy tally3) lives6
           ∙ ap (λ (e : Tracing × Stopped). record { state = e.1.state; watcher = e.0; tally = tally3 }) exits6
           ∙ ap (λ t. record { state = t; watcher = back6; tally = tally3 }) state6_is
 
-      loaded_together : ComeFromCall table made (watched_call unwatched 1 table pid m) (watched_call tracer 0 plain pid n)
+      loaded_together : StayTogether scene
       loaded_together =
-          loaded.loaded_together table made pid m n c p q lives also calm path args env reads program other led.index loads matched alike back6 tally3 refl
+          loaded.loaded_together execve reads program other led.index loads matched alike back6 tally3 refl
           (record { bindings = c.traces.bindings; identities = c.traces.identities }) refl traced6_is
 
-      pub loaded_on : GoesOn table pid m n made
+      pub loaded_on : GoesOn scene
       loaded_on =
-          goes_on (pending led None) left3 entry.entered_is (loaded.came table made pid m n c p q lives also calm path args env reads program other led.index loads matched alike) came6
-          (loaded.loaded_is table made pid m n c p q lives also calm path args env reads program other led.index loads matched alike) came6_is true refl refl
-          (loaded.one_begins table made pid m n c p q lives also calm path args env reads program other led.index loads matched alike (ap (λ (image : Image). get_or image.regs.x 10 0) alike.same.image ∙ zero))
+          goes_on (pending led None) left3 entry.entered_is (loaded.came execve reads program other led.index loads matched alike) came6
+          (loaded.loaded_is execve reads program other led.index loads matched alike) came6_is true refl refl
+          (loaded.one_begins execve reads program other led.index loads matched alike (ap (λ (image : Image). get_or image.regs.x 10 0) alike.same.image ∙ zero))
           (ap (λ word. word == 0) answers_zero) loaded_together

@@ -1,5 +1,5 @@
 -- Execve(2) keeps both machines together.
-use Rattle.std.proofs.Common.{◌≡◌, ◌≢◌, ◌≤◌, ℕ, Bool, true, false, cond, ◌||◌, List, [], ◌∷◌, length, nat_lt, Option, Some, None, Result, Ok, Err, refl, sym, ap, subst, ◌∙◌, arith, ◌-◌, get_or}
+use Rattle.std.proofs.Common.{◌≡◌, ◌≢◌, ◌≤◌, ℕ, Bool, true, false, cond, ◌||◌, List, [], ◌∷◌, length, nat_lt, Option, Some, Result, Ok, Err, refl, sym, ap, subst, ◌∙◌, arith, ◌-◌, get_or}
 use Rattle.std.specs.Prelude.{IsSome, ◌==◌}
 use Rattle.std.specs.Option.{option_map_or}
 use Rattle.std.proofs.lemmas.Bool.Decides.{nat_tests}
@@ -46,14 +46,12 @@ use Rattle.law_programs.proofs.kr_exec.PlanLemmas.{covers_exec}
 use Rattle.law_programs.specs.kr_execve.Execution.{Program, execution, execution_from, execution_reach, found_reach, planned_reach, reach_from}
 use Rattle.law_stops.specs.kr_model.Applied.{cwd_of}
 use Rattle.law_stops.specs.kr_model.ProcessDirectory.{around_of}
-use Rattle.law_stops.specs.kr_model.State.{Image, Process, State, process}
+use Rattle.law_stops.specs.kr_model.State.{Image, Process, State}
 use Rattle.law_stops.specs.kr_steps.Computing.{computed}
 use Rattle.law_stops.specs.kr_turns.Breaking.{nothing_reached}
 use Rattle.law_stops.specs.kr_stops.Stopped.{Stopped, edited, image_at, nothing_handed}
-use Rattle.law_stops.specs.kr_turns.Turn.{Machine, calling, watched_call}
-use Rattle.law_stops.specs.kr_stops.Watching.{unwatched}
 use Rattle.law_stops.proofs.kr_stops.EditLemmas.{edited-twice, image-edited}
-use Rattle.law_stops.specs.pt_faker.Stopping.{after_request, decoded_at, memory_at, with_memory}
+use Rattle.law_stops.specs.pt_faker.Stopping.{after_request, memory_at, with_memory}
 use Rattle.law_stops.specs.pt_tracer.Planning.{after_expansion, after_lists, after_path, has_shelf, led_in, led_of, nowhere, planned, rewritten, script_plan, stack_at, texts_at}
 use Rattle.law_stops.specs.pt_tracer.ScriptEdit.{put_texts, script_room, shelved_script}
 use Rattle.law_stops.specs.pt_tracer.Watched.{Tracing, after_decoding, after_plan, by_identities, entered}
@@ -63,7 +61,7 @@ use Rattle.law_stops.specs.law_edits.Reading.{handed_or, read_by_tracer}
 use Rattle.law_stops.proofs.law_edits.ReadLemmas.{lists_are_read_alike, shown_lists_are_read_alike}
 use Rattle.law_stops.specs.law_turns.Calls.{decoded_by}
 use Rattle.law_stops.proofs.law_turns.CalledLemmas.{decoded_memory}
-use Rattle.law_stops.proofs.law_turns.RunLemmas.{lives_too}
+use Rattle.law_stops.specs.Scene.{IsCalm, Scene, asked}
 use Rattle.law_stops.specs.Turning.{ComeToCall}
 use Rattle.law_stops.proofs.CallLemmas as before
 use Rattle.law_programs.specs.Executing.{IsCalled, LoadedAlike, none_loaded, read_by_kernel}
@@ -85,11 +83,12 @@ use Rattle.law_execves.specs.Going.{GoesOn}
 use Rattle.law_execves.specs.Rewriting.{edit_along}
 use Rattle.law_execves.specs.Following.{ExecvesGoTogether}
 use Rattle.law_execves.proofs.AddressLemmas.{kept_addresses_are_read}
+use Rattle.law_execves.proofs.ExecveLemmas.{ExecveCall, execve_of}
 use Rattle.law_execves.proofs.HostTextLemmas as hosts
 use Rattle.law_execves.proofs.HostTextLemmas.{Fits}
 use Rattle.law_execves.proofs.PathTextLemmas.{decoded_paths_are_path_texts}
 use Rattle.law_execves.proofs.RuleLemmas as rules
-use Rattle.law_execves.proofs.SceneLemmas as scene
+use Rattle.law_execves.proofs.FirstStopLemmas as beginning
 use Rattle.law_execves.proofs.ScriptShelveLemmas as shelving
 use Rattle.law_execves.proofs.ShelveLemmas as shelf
 
@@ -133,8 +132,11 @@ module _ (table : List Row) (pid : ℕ) (s : State ℕ Image) (path : List ℕ) 
       by (Ok target) = with-lists target (read_by_kernel args env m).reply
       by (Err e) = omega arith
 
-module _ {S : Type 0} (back : TextsAreReadBack) (hold : ShelvesHoldTheirItems) (table : List Row) (made pid : ℕ) (m : Machine S) (n : Machine Tracing) (c : ComeToCall table made pid m n) (p q : Process ℕ Image) (lives : process pid m.state ≡ Some p) (also : process pid n.state ≡ Some q)
-    (calm : (watched_call unwatched 1 table pid m).tally.broken ≡ None) (path : List ℕ) (args env : ℕ) (decoded : (decoded_at (calling 1 pid m.state)).reply ≡ Ok (call.Execve path args env)) where
+module _ {S : Type 0} {scene : Scene S} (back : TextsAreReadBack) (hold : ShelvesHoldTheirItems) (execve : ExecveCall scene) where
+  open scene use {table, pid, traced as n}
+  open execve use {callers, path, args, env}
+  open execve.callers use {comes as c, also_caller as q, also_lives as also}
+
   abbrev r : Request
   r = call.Execve path args env
 
@@ -145,29 +147,29 @@ module _ {S : Type 0} (back : TextsAreReadBack) (hold : ShelvesHoldTheirItems) (
   w = n.state
 
   abbrev stop : Stopped
-  stop = go.stop table made pid m n c p q lives also calm path args env decoded
+  stop = go.stop execve
 
   abbrev t : Stopped
   t = after_request stop
 
   abbrev at : State ℕ Image
-  at = go.at table made pid m n c p q lives also calm path args env decoded
+  at = go.at execve
 
   abbrev s1 : State ℕ Image
-  s1 = go.s1 table made pid m n c p q lives also calm path args env decoded
+  s1 = go.s1 execve
 
   abbrev p1 : Process ℕ Image
-  p1 = go.p1 table made pid m n c p q lives also calm path args env decoded
+  p1 = go.p1 execve
 
   abbrev here : Memory
   here = memory_of pid at
 
   -- it keeps both machines together, with what is so of both kernels behind it
   abbrev Together : Type 0
-  Together = GoesOn table pid m n made
+  Together = GoesOn scene
 
   abbrev done : Result Program Errno
-  done = (go.done table made pid m n c p q lives also calm path args env decoded).reply
+  done = (go.done execve).reply
 
   -- what the tracer goes by
   abbrev texts : TextSurroundings
@@ -180,7 +182,7 @@ module _ {S : Type 0} (back : TextsAreReadBack) (hold : ShelvesHoldTheirItems) (
   dec = (decoded_by q).memory
 
   pages_left : dec.pages ≡ q.image.memory.pages
-  pages_left = before.pages_left table made pid m n c p q lives also
+  pages_left = before.pages_left callers
 
   like-of : (memory : Memory) → memory.pages ≡ q.image.memory.pages → StaysLike q.image.memory.pages memory.pages
   like-of memory pages =
@@ -188,32 +190,32 @@ module _ {S : Type 0} (back : TextsAreReadBack) (hold : ShelvesHoldTheirItems) (
       subst (StaysLike q.image.memory.pages) (sym pages) (record { whole = own.whole; placed = own.paged; layout = refl })
 
   begun-left : (regs : Regs) (memory : Memory) → StaysLike q.image.memory.pages memory.pages → IsBegun table at (computed pid regs memory w) pid x.tags working
-  begun-left = scene.begun table made pid m n c p q lives also calm path args env decoded
+  begun-left = beginning.begun execve
 
   texts-at : (memory : Memory) → memory.pages ≡ q.image.memory.pages → texts_at x.bindings x.tags (edited q.image.regs memory stop) ≡ texts
-  texts-at memory pages = scene.texts table made pid m n c p q lives also calm path args env decoded q.image.regs memory (like-of memory pages) nothing_handed
+  texts-at memory pages = beginning.texts execve q.image.regs memory (like-of memory pages) nothing_handed
 
   texts-first : texts_at x.bindings x.tags t ≡ texts
-  texts-first = ap (texts_at x.bindings x.tags) (go.after_is table made pid m n c p q lives also calm path args env decoded) ∙ texts-at dec pages_left
+  texts-first = ap (texts_at x.bindings x.tags) (go.after_is execve) ∙ texts-at dec pages_left
 
   -- ---- memories
 
   first-pages : (memory_at t).pages ≡ q.image.memory.pages
-  first-pages = ap (λ (image : Image). image.memory.pages) (go.after_image table made pid m n c p q lives also calm path args env decoded) ∙ pages_left
+  first-pages = ap (λ (image : Image). image.memory.pages) (go.after_image execve) ∙ pages_left
 
   first-placed : IsPlaced (memory_at t).pages
   first-placed = (like-of (memory_at t) first-pages).placed
 
   here-pages : here.pages ≡ p1.image.memory.pages
   here-pages =
-      let mine = go.mine table made pid m n c p q lives also calm path args env decoded in
+      let mine = go.mine execve in
       ap (λ (m : Memory). m.pages) (decoded_memory table made pid s1 p1 mine) ∙ decoding-leaves-pages p1.image.regs p1.image.memory mine.holds
 
   here-alike : (other : Pages) → AreEqualUnmarked p1.image.memory.pages other → AreEqualUnmarked here.pages other
   here-alike other alike = subst (λ pages. AreEqualUnmarked pages other) (sym here-pages) alike
 
   first-alike : AreEqualUnmarked here.pages (memory_at t).pages
-  first-alike = here-alike (memory_at t).pages (subst (AreEqualUnmarked p1.image.memory.pages) (sym first-pages) (go.memories table made pid m n c p q lives also calm path args env decoded))
+  first-alike = here-alike (memory_at t).pages (subst (AreEqualUnmarked p1.image.memory.pages) (sym first-pages) (go.memories execve))
 
   -- what the tracer has read of the lists
   abbrev read : CarriedOut (Result Handed Errno)
@@ -224,30 +226,30 @@ module _ {S : Type 0} (back : TextsAreReadBack) (hold : ShelvesHoldTheirItems) (
 
   -- ---- behind the first stop
 
-  module _ (registers : List ℕ) (memory3 : Memory) (led : Led) (host : List ℕ) (put : ℕ) (entry : goes.IsEntered table made pid m n c p q lives also calm path args env registers memory3 led host put) where
+  module _ (registers : List ℕ) (memory3 : Memory) (led : Led) (host : List ℕ) (put : ℕ) (entry : goes.IsEntered execve registers memory3 led host put) where
     abbrev w4 : State ℕ Image
-    w4 = goes.w4 table made pid m n c p q lives also calm path args env registers memory3 led host put entry
+    w4 = goes.w4 execve registers memory3 led host put entry
 
     abbrev there : Memory
     there = memory_of pid w4
 
     abbrev done4 : Result Program Errno
-    done4 = (goes.done4 table made pid m n c p q lives also calm path args env registers memory3 led host put entry).reply
+    done4 = (goes.done4 execve registers memory3 led host put entry).reply
 
     begun4 : IsBegun table at w4 pid x.tags working
     begun4 =
         let decoding = decoding-leaves-pages (record { x = registers; pc = q.image.regs.pc }) memory3 entry.bytes in
-        subst (λ t. IsBegun table at t pid x.tags working) (sym (goes.w4_is table made pid m n c p q lives also calm path args env registers memory3 led host put entry))
+        subst (λ t. IsBegun table at t pid x.tags working) (sym (goes.w4_is execve registers memory3 led host put entry))
         (begun-left (record { x = registers; pc = q.image.regs.pc }) _ (subst (StaysLike q.image.memory.pages) (sym decoding) entry.like))
 
     there-alike : AreEqualUnmarked here.pages there.pages
-    there-alike = here-alike there.pages (subst (AreEqualUnmarked p1.image.memory.pages) (sym (goes.memory4_is table made pid m n c p q lives also calm path args env registers memory3 led host put entry)) entry.unmarked)
+    there-alike = here-alike there.pages (subst (AreEqualUnmarked p1.image.memory.pages) (sym (goes.memory4_is execve registers memory3 led host put entry)) entry.unmarked)
 
     abbrev Alike : Result Program Errno → Result Program Errno → Type 0
     Alike = LoadedAlike table at pid x.tags led.index
 
     goes-on : Alike done done4 → Together
-    goes-on = go.replies_together table made pid m n c p q lives also calm path args env decoded registers memory3 led host put entry
+    goes-on = go.replies_together execve registers memory3 led host put entry
 
     refuse-both : (e : Errno) → done ≡ Err e → done4 ≡ Err e → Together
     refuse-both e one two = goes-on (subst (λ a. Alike a done4) (sym one) (subst (Alike (Err e)) (sym two) (none_loaded e)))
@@ -264,8 +266,8 @@ module _ {S : Type 0} (back : TextsAreReadBack) (hold : ShelvesHoldTheirItems) (
           ap (after_path x.bindings x.tags t r path (record { args = args; env = env }))
           (ap (λ path. rewritten (texts_at x.bindings x.tags t) t (call.Execve path args env)) none ∙ execves_are_rewritten.none (texts_at x.bindings x.tags t) pid (stack_at t) (has_shelf t) args env)
 
-      entry : goes.IsEntered table made pid m n c p q lives also calm path args env q.image.regs.x dec nowhere path args
-      entry = shelf.passed table made pid m n c p q lives also calm path args env decoded nowhere plans
+      entry : goes.IsEntered execve q.image.regs.x dec nowhere path args
+      entry = shelf.passed execve nowhere plans
 
       both : ((carried_out (execution table pid at [] args env) here).reply ≡ Err EACCES) × ((carried_out (execution plain pid (w4 q.image.regs.x dec nowhere path args entry) [] args env) (there q.image.regs.x dec nowhere path args entry)).reply ≡ Err EACCES)
       both = empty_executions_agree table at (w4 q.image.regs.x dec nowhere path args entry) pid x.tags args env here working (there q.image.regs.x dec nowhere path args entry) (begun4 q.image.regs.x dec nowhere path args entry)
@@ -287,12 +289,12 @@ module _ {S : Type 0} (back : TextsAreReadBack) (hold : ShelvesHoldTheirItems) (
     edit-is =
         execves_are_rewritten.some (texts_at x.bindings x.tags t) pid sp (has_shelf t) path args env some
         ∙ ap (λ usable. edit_along sp usable (canon_along (texts_at x.bindings x.tags t) (working_text (texts_at x.bindings x.tags t) pid) path))
-        (ap has_shelf (go.after_is table made pid m n c p q lives also calm path args env decoded) ∙ rules.shelf table made pid m n c p q lives also calm path args env decoded dec pages_left)
+        (ap has_shelf (go.after_is execve) ∙ rules.shelf execve dec pages_left)
         ∙ ap (λ texts. edit_along sp true (canon_along texts (working_text texts pid) path)) texts-first
 
     entered-by : (plan : Plan × Stopped) → planned x.bindings x.tags t r ≡ plan → entered x stop ≡ after_plan x t r plan
     entered-by plan plans =
-        ap (after_decoding x t) (go.reads_there table made pid m n c p q lives also calm path args env decoded)
+        ap (after_decoding x t) (go.reads_there execve)
         ∙ ap (by_identities x r t) c.traces.identities
         ∙ ap (after_plan x t r) plans
 
@@ -300,21 +302,21 @@ module _ {S : Type 0} (back : TextsAreReadBack) (hold : ShelvesHoldTheirItems) (
 
     lost : (e : Errno) → canon_along texts working path ≡ Err e → Together
     lost e leads =
-        go.cancelled table made pid m n c p q lives also calm path args env decoded e (lost_executions_agree table at first pid x.tags path args env here working e first-begun leads) nowhere dec pages_left
+        go.cancelled execve e (lost_executions_agree table at first pid x.tags path args env here working e first-begun leads) nowhere dec pages_left
         (entered-by (record { edit = Cancel e; led = nowhere }, t) (ap (after_path x.bindings x.tags t r path (record { args = args; env = env })) (edit-is ∙ ap (edit_along sp true) leads))
-        ∙ ap (λ (u : Stopped). after_plan x t r (record { edit = Cancel e; led = nowhere }, u)) (go.after_is table made pid m n c p q lives also calm path args env decoded ∙ sym (go.with_is table made pid m n c p q lives also calm path args env decoded dec)))
+        ∙ ap (λ (u : Stopped). after_plan x t r (record { edit = Cancel e; led = nowhere }, u)) (go.after_is execve ∙ sym (go.with_is execve dec)))
 
     -- ---- it leads somewhere
 
     tree-bytes : HasBytes at.tree
-    tree-bytes = (go.mine table made pid m n c p q lives also calm path args env decoded).lasts.lawful.tree.bytes
+    tree-bytes = (go.mine execve).lasts.lawful.tree.bytes
 
     at-most : {a b d : ℕ} → a ≤ b → b ≤ d → a ≤ d
     at-most one two = omega (arith, one, two)
 
     module _ (canon : Canon) (leads : canon_along texts working path ≡ Ok canon) where
       short-path : (reach_after (around_of table pid at) Look (program_walk (around_of table pid at) first-begun.base path) nothing_reached).longest ≤ 4000
-      short-path = at-most (reach-least table pid at path args env here first-begun.base first-begun.at nothing_reached) (rules.short table made pid m n c p q lives also calm path args env decoded)
+      short-path = at-most (reach-least table pid at path args env here first-begun.base first-begun.at nothing_reached) (rules.short execve)
 
       fits : Fits canon.host
       fits = hosts.fits_canon table at pid x.tags first-begun.base working first-begun.matched first-begun.works tree-bytes path nothing_reached short-path some canon leads
@@ -326,7 +328,7 @@ module _ {S : Type 0} (back : TextsAreReadBack) (hold : ShelvesHoldTheirItems) (
       t2 = with_memory after t
 
       abbrev swap : Edit
-      swap = shelf.swap table made pid m n c p q lives also calm path args env decoded back hold canon.host fits.0 fits.1 fits.2 after read-pages
+      swap = shelf.swap execve back hold canon.host fits.0 fits.1 fits.2 after read-pages
 
       not-long : (k : ℕ) → k ≤ 4095 → nat_lt 4095 k ≡ false
       not-long k small = grind (arith, nat_tests)
@@ -341,13 +343,13 @@ module _ {S : Type 0} (back : TextsAreReadBack) (hold : ShelvesHoldTheirItems) (
       plan-lists = ap (after_path x.bindings x.tags t r path (record { args = args; env = env })) swaps
 
       abbrev Enters : Led → Type 0
-      Enters led = goes.IsEntered table made pid m n c p q lives also calm path args env
-          (shelf.registers3 table made pid m n c p q lives also calm path args env decoded back hold canon.host fits.0 fits.1 fits.2 after read-pages)
-          (shelf.memory3 table made pid m n c p q lives also calm path args env decoded back hold canon.host fits.0 fits.1 fits.2 after read-pages) led canon.host args
+      Enters led = goes.IsEntered execve
+          (shelf.registers3 execve back hold canon.host fits.0 fits.1 fits.2 after read-pages)
+          (shelf.memory3 execve back hold canon.host fits.0 fits.1 fits.2 after read-pages) led canon.host args
 
       entry-with : (led : Led) → planned x.bindings x.tags t r ≡ (record { edit = swap; led = led }, t2) → Enters led
       entry-with led plans =
-          shelf.shelved table made pid m n c p q lives also calm path args env decoded back hold canon.host fits.0 fits.1 fits.2 after read-pages led plans fits.3
+          shelf.shelved execve back hold canon.host fits.0 fits.1 fits.2 after read-pages led plans fits.3
 
       -- lists that the tracer can't read
       unread-plan : (e : Errno) → read.reply ≡ Err e → planned x.bindings x.tags t r ≡ (record { edit = swap; led = first-led }, t2)
@@ -362,11 +364,11 @@ module _ {S : Type 0} (back : TextsAreReadBack) (hold : ShelvesHoldTheirItems) (
         plan-handed =
             plan-lists ∙ ap (λ a. after_lists x.bindings x.tags swap first-led path args a t2) reply
             ∙ ap (λ texts. after_expansion x.bindings x.tags swap args (length h.args - 1) t2 (expanded_at texts pid h.env_bytes path h.args))
-            (ap (texts_at x.bindings x.tags) (go.with_is table made pid m n c p q lives also calm path args env decoded after) ∙ texts-at after read-pages)
+            (ap (texts_at x.bindings x.tags) (go.with_is execve after) ∙ texts-at after read-pages)
 
         cancel : (e : Errno) → ended ≡ Err e → done ≡ Err e → Together
         cancel e is refuses =
-            go.cancelled table made pid m n c p q lives also calm path args env decoded e refuses nowhere after read-pages
+            go.cancelled execve e refuses nowhere after read-pages
             (entered-by (record { edit = Cancel e; led = nowhere }, t2) (plan-handed ∙ ap (after_expansion x.bindings x.tags swap args (length h.args - 1) t2) is))
 
         plain-plan : (y : Expanded) → ended ≡ Ok y → y.scripts ≡ 0 → planned x.bindings x.tags t r ≡ (record { edit = swap; led = led_in y.index }, t2)
@@ -392,11 +394,11 @@ module _ {S : Type 0} (back : TextsAreReadBack) (hold : ShelvesHoldTheirItems) (
 
       module _ (target : PlaceTarget) (found : program_at (around_of table pid at) first-begun.base path ≡ Ok target) where
         unread : (read_by_kernel args env here).memory.read_marked ≡ false
-        unread = ap (λ (m : Memory). m.read_marked) (sym (lists-memory table pid at path args env here first-begun.base target first-begun.at found)) ∙ rules.unread table made pid m n c p q lives also calm path args env decoded
+        unread = ap (λ (m : Memory). m.read_marked) (sym (lists-memory table pid at path args env here first-begun.base target first-begun.at found)) ∙ rules.unread execve
 
         here-placed : IsPlaced here.pages
         here-placed =
-            let mine = go.mine table made pid m n c p q lives also calm path args env decoded in
+            let mine = go.mine execve in
             subst (λ pages. IsPlaced pages) (sym here-pages) (mine.lasts.lawful.processes pid p1 mine.lives).paged
 
         read-alike : read.reply ≡ handed_or (read_by_kernel args env here).reply
@@ -441,12 +443,12 @@ module _ {S : Type 0} (back : TextsAreReadBack) (hold : ShelvesHoldTheirItems) (
             -- a script: its host text, its texts and its list stand on the shelf, and the plain kernel reads them there
             module _ (script : y.scripts ≢ 0) where
               path-is : IsPathText path
-              path-is = decoded_paths_are_path_texts p1.image.regs p1.image.memory path args env (go.mine table made pid m n c p q lives also calm path args env decoded).holds (go.reads table made pid m n c p q lives also calm path args env decoded)
+              path-is = decoded_paths_are_path_texts p1.image.regs p1.image.memory path args env (go.mine execve).holds (go.reads execve)
 
               short-scripts : (hosts.scripted table pid at path args env here first-begun.base first-begun.at target found lists is nothing_reached).longest ≤ 4000
               short-scripts =
                   subst (λ (reach : Reach). reach.longest ≤ 4000) (hosts.scripts_are_reached table pid at path args env here first-begun.base first-begun.at target found lists is nothing_reached)
-                  (rules.short table made pid m n c p q lives also calm path args env decoded)
+                  (rules.short execve)
 
               host-fits : Fits y.host
               host-fits =
@@ -461,7 +463,7 @@ module _ {S : Type 0} (back : TextsAreReadBack) (hold : ShelvesHoldTheirItems) (
               shown = memory_at t2
 
               t2-is : t2 ≡ edited q.image.regs after stop
-              t2-is = go.with_is table made pid m n c p q lives also calm path args env decoded after
+              t2-is = go.with_is execve after
 
               t2-image : image_at t2 ≡ record { regs = q.image.regs; memory = after }
               t2-image = ap image_at t2-is ∙ image-edited q.image.regs after stop (subst IsSome (sym also) refl)
@@ -470,7 +472,7 @@ module _ {S : Type 0} (back : TextsAreReadBack) (hold : ShelvesHoldTheirItems) (
               shown-pages = ap (λ (image : Image). image.memory.pages) t2-image ∙ read-pages
 
               same-stack : stack_at t2 ≡ sp
-              same-stack = ap (λ (image : Image). get_or image.regs.x 2 0) t2-image ∙ sym (ap (λ (image : Image). get_or image.regs.x 2 0) (go.after_image table made pid m n c p q lives also calm path args env decoded))
+              same-stack = ap (λ (image : Image). get_or image.regs.x 2 0) t2-image ∙ sym (ap (λ (image : Image). get_or image.regs.x 2 0) (go.after_image execve))
 
               kept-read : (kept : List ℕ) × ((carried_out (addresses_behind args count) shown).reply ≡ Ok kept)
               kept-read =
@@ -496,7 +498,7 @@ module _ {S : Type 0} (back : TextsAreReadBack) (hold : ShelvesHoldTheirItems) (
                   ap (λ (image : Image). edited image.regs behind t2) t2-image
                   ∙ ap (edited q.image.regs behind) t2-is
                   ∙ edited-twice q.image.regs q.image.regs after behind stop
-                  ∙ sym (go.with_is table made pid m n c p q lives also calm path args env decoded behind)
+                  ∙ sym (go.with_is execve behind)
 
               some-script : (k : ℕ) → k ≢ 0 → (k == 0) ≡ false
               some-script k some = grind (arith, nat_tests)
@@ -518,8 +520,8 @@ module _ {S : Type 0} (back : TextsAreReadBack) (hold : ShelvesHoldTheirItems) (
                   let small = scripts_have_room texts pid (bytes_with_ends lists.env) path lists.args y kept path-is host-fits.2 ends script (addresses-long args count shown kept kept-read.1) in
                   omega (arith, small)
 
-              entry : goes.IsEntered table made pid m n c p q lives also calm path args env (shelving.registers3 table made pid m n c p q lives also calm path args env decoded hold y.host host-is host-fits.1 put kept room behind left-pages) (shelving.memory3 table made pid m n c p q lives also calm path args env decoded hold y.host host-is host-fits.1 put kept room behind left-pages) led y.host top
-              entry = shelving.script_shelved table made pid m n c p q lives also calm path args env decoded hold y.host host-is host-fits.1 put kept room behind left-pages led plans
+              entry : goes.IsEntered execve (shelving.registers3 execve hold y.host host-is host-fits.1 put kept room behind left-pages) (shelving.memory3 execve hold y.host host-is host-fits.1 put kept room behind left-pages) led y.host top
+              entry = shelving.script_shelved execve hold y.host host-is host-fits.1 put kept room behind left-pages led plans
 
               abbrev own : State ℕ Image
               own = w4 _ _ led y.host top entry
@@ -537,9 +539,9 @@ module _ {S : Type 0} (back : TextsAreReadBack) (hold : ShelvesHoldTheirItems) (
                 addresses = kept-read.1;
                 whole = stays.whole;
                 first_placed = stays.placed;
-                high = shelving.high table made pid m n c p q lives also calm path args env decoded;
-                may = shelving.may table made pid m n c p q lives also calm path args env decoded shown shown-pages;
-                shelf = goes.memory4_is table made pid m n c p q lives also calm path args env _ _ led y.host top entry ∙ ap (λ pages. poked pages (script_shelf sp y.host put kept).items) behind-pages;
+                high = shelving.high execve;
+                may = shelving.may execve shown shown-pages;
+                shelf = goes.memory4_is execve _ _ led y.host top entry ∙ ap (λ pages. poked pages (script_shelf sp y.host put kept).items) behind-pages;
               }
 
               read-back : (read_by_kernel top env (there _ _ led y.host top entry)).reply ≡ Ok (record { args = y.args; env = lists.env })
@@ -597,14 +599,8 @@ module _ {S : Type 0} (back : TextsAreReadBack) (hold : ShelvesHoldTheirItems) (
           differ : b ∷ rest ≡ [] → ⊥
           differ e = cc
 
-pub execves_go_on : TextsAreReadBack → ShelvesHoldTheirItems → {S : Type 0} (table : List Row) (made pid : ℕ) (m : Machine S) (n : Machine Tracing) (path : List ℕ) (args env : ℕ) → ComeToCall table made pid m n
-    → (decoded_at (calling 1 pid m.state)).reply ≡ Ok (call.Execve path args env) → (watched_call unwatched 1 table pid m).tally.broken ≡ None → GoesOn table pid m n made
-execves_go_on back hold table made pid m n path args env c decoded calm = by (process pid m.state) refl c.lives
-  where
-    by : (o : Option (Process ℕ Image)) → process pid m.state ≡ o → IsSome o → GoesOn table pid m n made
-    by None none some = absurd cc
-    by (Some p) lives some =
-        let q = lives_too table n.watcher.tags pid m.state n.state p c.matches.states lives in either back hold table made pid m n c p q.0 lives q.1 calm path args env decoded
+pub execves_go_on : TextsAreReadBack → ShelvesHoldTheirItems → {S : Type 0} (scene : Scene S) (path : List ℕ) (args env : ℕ) → ComeToCall scene → asked scene ≡ Ok (call.Execve path args env) → IsCalm scene → GoesOn scene
+execves_go_on back hold scene path args env comes decoded calm = either back hold (execve_of comes path args env decoded calm)
 
 pub execves_go_together : TextsAreReadBack → ShelvesHoldTheirItems → (S : Type 0) → ExecvesGoTogether S
-execves_go_together back hold S table made pid m n path args env c decoded calm = (execves_go_on back hold table made pid m n path args env c decoded calm).together
+execves_go_together back hold S scene path args env comes decoded calm = (execves_go_on back hold scene path args env comes decoded calm).together

@@ -1,6 +1,6 @@
 -- Execve(2) with its stops keeps two machines together.
 use Rattle.std.specs.FinMap as map
-use Rattle.std.proofs.Common.{◌≡◌, ℕ, false, List, Option, Some, None, Result, Ok, Err, refl, sym, ap, subst, ◌∙◌, arith, get_or}
+use Rattle.std.proofs.Common.{◌≡◌, ℕ, false, List, Some, None, Result, Ok, Err, refl, sym, ap, subst, ◌∙◌, arith, get_or}
 use Rattle.std.specs.Prelude.{IsSome}
 use Rattle.law_programs.specs.pr_base.declared.errno.Errno.{Errno}
 use Rattle.pt_args.specs.rv_mem.Actions.{AreEqualUnmarked, CarriedOut, carried_out}
@@ -23,12 +23,11 @@ use Rattle.law_stops.specs.kr_model.Applied.{with_image}
 use Rattle.law_stops.specs.kr_model.Known.{pages_in_all}
 use Rattle.law_stops.specs.kr_model.Lawful.{is_file_at}
 use Rattle.law_stops.specs.kr_model.ProcessDirectory.{living_of, space_of}
-use Rattle.law_stops.specs.kr_model.State.{Image, Process, State, image_layout, process}
+use Rattle.law_stops.specs.kr_model.State.{Image, Process, State, image_layout}
 use Rattle.law_plans.proofs.kr_seen.StandingLemmas.{living-small}
 use Rattle.law_stops.specs.kr_steps.Computing.{computed}
 use Rattle.law_stops.specs.kr_stops.Stopped.{IsThere, Stopped, edited, image_at, nothing_handed}
-use Rattle.law_stops.specs.kr_turns.Turn.{Machine, called, calling, watched_call}
-use Rattle.law_stops.specs.kr_stops.Watching.{unwatched}
+use Rattle.law_stops.specs.kr_turns.Turn.{called, calling}
 use Rattle.law_stops.proofs.kr_stops.EditLemmas.{edited-twice, image-edited, there as is_there}
 use Rattle.law_stops.specs.pt_faker.Faking.{no_longer_called, word_of}
 use Rattle.law_stops.specs.pt_faker.Stopping.{after_request, decoded_at, memory_at, with_memory}
@@ -47,16 +46,15 @@ use Rattle.law_stops.specs.law_turns.Calls.{decoded_by, decoded_in}
 use Rattle.law_stops.specs.law_turns.Lasting.{CanBeCalled}
 use Rattle.law_stops.proofs.law_turns.CalledLemmas.{decoded_lasts, decoded_lives, decoded_process}
 use Rattle.law_stops.proofs.law_turns.ImageLemmas.{bare_computed, given}
-use Rattle.law_stops.proofs.law_turns.RunLemmas.{lives_too}
-use Rattle.law_stops.specs.Cancelling.{at_call}
-use Rattle.law_stops.specs.Turning.{ComeToCall}
+use Rattle.law_stops.specs.Scene.{Scene, at_call}
 use Rattle.law_stops.proofs.CallLemmas as before
 use Rattle.law_stops.proofs.CallLemmas.{own_image, plain_named}
 use Rattle.law_programs.specs.Executing.{IsSameLoaded, LoadedAlike, none_loaded, one_loaded}
 use Rattle.law_programs.proofs.ShowLemmas.{same-pages}
-use Rattle.law_execves.specs.Going.{CancelledExecvesGoTogether, EnteredExecvesGoTogether, GoesOn, IsExecveCancelled, IsExecveEntered, done_here, done_there, here}
+use Rattle.law_execves.specs.Going.{CancelledExecvesGoTogether, EnteredExecvesGoTogether, GoesOn, IsExecveCancelled, IsExecveEntered, done_here, done_there}
 use Rattle.law_execves.specs.Replacing.{ArePutAlike, IsReady, IsReadyIn}
 use Rattle.law_execves.proofs.EnteredLemmas as goes
+use Rattle.law_execves.proofs.ExecveLemmas.{ExecveCall, execve_of}
 use Rattle.law_execves.proofs.ReadyLemmas.{loaded_programs_are_ready, ready_programs_can_be_put}
 use Rattle.law_execves.proofs.ReplaceLemmas.{space-same}
 
@@ -66,8 +64,11 @@ decoded_layout table made pid s p can = ap layout_of (decoding-leaves-pages p.im
 
 -- ---- what both have in common
 
-module _ {S : Type 0} (table : List Row) (made pid : ℕ) (m : Machine S) (n : Machine Tracing) (c : ComeToCall table made pid m n) (p q : Process ℕ Image) (lives : process pid m.state ≡ Some p) (also : process pid n.state ≡ Some q)
-    (calm : (watched_call unwatched 1 table pid m).tally.broken ≡ None) (path : List ℕ) (args env : ℕ) (decoded : (decoded_at (calling 1 pid m.state)).reply ≡ Ok (call.Execve path args env)) where
+module _ {S : Type 0} {scene : Scene S} (execve : ExecveCall scene) where
+  open scene use {table, made, pid, traced as n}
+  open execve use {callers, path, args, env, decoded, calm}
+  open execve.callers use {comes as c, also_caller as q, also_lives as also}
+
   abbrev pub r : Request
   r = call.Execve path args env
 
@@ -78,45 +79,45 @@ module _ {S : Type 0} (table : List Row) (made pid : ℕ) (m : Machine S) (n : M
   w = n.state
 
   abbrev pub stop : Stopped
-  stop = before.stop table made pid m n c p q lives also
+  stop = before.stop callers
 
   abbrev pub s1 : State ℕ Image
-  s1 = before.s1 table made pid m n c p q lives also
+  s1 = before.s1 callers
 
   abbrev pub p1 : Process ℕ Image
-  p1 = before.p1 table made pid m n c p q lives also
+  p1 = before.p1 callers
 
   abbrev pub at : State ℕ Image
   at = decoded_in pid p1 s1
 
   pub mine : CanBeCalled table made pid s1 p1
-  mine = before.can table made pid m n c p q lives also
+  mine = before.can callers
 
   pub calling_is : calling 0 pid w ≡ stop
-  calling_is = before.calling_is table made pid m n c p q lives also
+  calling_is = before.calling_is callers
 
   pub reads : (decoded_by p1).reply ≡ Ok r
-  reads = sym (before.decoded_here table made pid m n c p q lives also) ∙ decoded
+  reads = sym (before.decoded_here callers) ∙ decoded
 
   pub reads_there : (decoded_at stop).reply ≡ Ok r
-  reads_there = before.decoded_there table made pid m n c p q lives also ∙ sym (before.requests table made pid m n c p q lives also calm) ∙ reads
+  reads_there = before.decoded_there callers ∙ sym (before.requests callers calm) ∙ reads
 
   pub there_stop : IsThere stop
   there_stop = is_there w pid nothing_handed q c.also_lasts.lawful.pids also
 
-  pub at_is : (at_call pid m).state ≡ at
+  pub at_is : (at_call scene).state ≡ at
   at_is =
-      ap (λ t. (after_request (record { state = t; pid = pid; handed = nothing_handed })).state) (before.shelf table made pid m n c p q lives also)
+      ap (λ t. (after_request (record { state = t; pid = pid; handed = nothing_handed })).state) (before.shelf callers)
       ∙ ap (λ (image : Image). computed pid image.regs (carried_out (decoding image.regs) image.memory).memory s1) (own_image pid s1 p1 mine.lives)
 
   abbrev pub done : CarriedOut (Result Program Errno)
   done = carried_out (execution table pid at path args env) (memory_of pid at)
 
-  done_is : (done_here table pid m n path args env).reply ≡ done.reply
+  done_is : (done_here scene path args env).reply ≡ done.reply
   done_is = ap (λ t. (carried_out (execution table pid t path args env) (memory_of pid t)).reply) at_is
 
   pub memories : AreEqualUnmarked p1.image.memory.pages q.image.memory.pages
-  memories = (before.match1 table made pid m n c p q lives also).images.memories pid p1 q mine.lives also
+  memories = (before.match1 callers).images.memories pid p1 q mine.lives also
 
   abbrev pub dec : Memory
   dec = (decoded_by q).memory
@@ -154,24 +155,24 @@ module _ {S : Type 0} (table : List Row) (made pid : ℕ) (m : Machine S) (n : M
         (answered_calls_are_none stop read r (Cancel e) (refusal e) there_stop reads_there refl)
 
     pub cancelled : entered x stop ≡ (with_pending (map.insert x.pending pid (awaiting (arguments_at (after_request stop)) r led (Some (refusal e)))) x, no_longer_called (with_memory read (after_request stop)))
-        → GoesOn table pid m n made
+        → GoesOn scene
     cancelled enters =
-        goes.cancelled_on table made pid m n c p q lives also calm path args env reads reads_there e refuses read led like (subst (AreEqualUnmarked p1.image.memory.pages) (sym pages) memories) v v_is stands enters
+        goes.cancelled_on execve reads reads_there e refuses read led like (subst (AreEqualUnmarked p1.image.memory.pages) (sym pages) memories) v v_is stands enters
 
-  module _ (e : Errno) (alike : IsExecveCancelled table pid m n path args env e) where
+  module _ (e : Errno) (alike : IsExecveCancelled scene path args env e) where
     same_pages : alike.read.pages ≡ q.image.memory.pages
     same_pages =
         alike.pages ∙ ap (λ t. (memory_at (after_request t)).pages) calling_is
-        ∙ ap (λ (image : Image). image.memory.pages) after_image ∙ before.pages_left table made pid m n c p q lives also
+        ∙ ap (λ (image : Image). image.memory.pages) after_image ∙ before.pages_left callers
 
-    cancelled_alike : GoesOn table pid m n made
+    cancelled_alike : GoesOn scene
     cancelled_alike =
         cancelled e (sym done_is ∙ alike.refuses) alike.led alike.read same_pages
         (subst (λ t. entered x t ≡ (with_pending (map.insert x.pending pid (awaiting (arguments_at (after_request t)) r alike.led (Some (refusal e)))) x, no_longer_called (with_memory alike.read (after_request t)))) calling_is alike.enters)
 
   -- ---- it is carried out
 
-  module _ (registers : List ℕ) (memory : Memory) (led : Led) (host : List ℕ) (put : ℕ) (entry : goes.IsEntered table made pid m n c p q lives also calm path args env registers memory led host put) where
+  module _ (registers : List ℕ) (memory : Memory) (led : Led) (host : List ℕ) (put : ℕ) (entry : goes.IsEntered execve registers memory led host put) where
     abbrev regs3 : Regs
     regs3 = record { x = registers; pc = q.image.regs.pc }
 
@@ -185,7 +186,7 @@ module _ {S : Type 0} (table : List Row) (made pid : ℕ) (m : Machine S) (n : M
     w4 = decoded_in pid q3 w3
 
     pub can3 : CanBeCalled plain made pid w3 q3
-    can3 = goes.can3 table made pid m n c p q lives also calm path args env registers memory led host put entry
+    can3 = goes.can3 execve registers memory led host put entry
 
     abbrev pub done4 : CarriedOut (Result Program Errno)
     done4 = carried_out (execution plain pid w4 host put env) (memory_of pid w4)
@@ -199,7 +200,7 @@ module _ {S : Type 0} (table : List Row) (made pid : ℕ) (m : Machine S) (n : M
         living-small s1 lawful.pids (λ pid fd x there. (lawful.descriptors pid fd x there).0) (omega (arith, few))
 
     matched : IsMatched (scene_of table s1 pid x.tags)
-    matched = matches_are_matched table x.tags s1 w pid (before.match1 table made pid m n c p q lives also) small
+    matched = matches_are_matched table x.tags s1 w pid (before.match1 callers) small
 
     same_space : space_of table at ≡ space_of table s1
     same_space = space-same table pid (with_image (λ _. record { regs = p1.image.regs; memory = (decoded_by p1).memory })) s1 (λ p. refl)
@@ -252,25 +253,25 @@ module _ {S : Type 0} (table : List Row) (made pid : ℕ) (m : Machine S) (n : M
       zero : get_or other.image.regs.x 10 0 ≡ 0
       zero = ap (λ (x : Program). get_or x.image.regs.x 10 0) ready_there.is
 
-      loaded : GoesOn table pid m n made
-      loaded = goes.loaded_on table made pid m n c p q lives also calm path args env registers memory led host put entry reads program other loads loads4 matched put_alike zero
+      loaded : GoesOn scene
+      loaded = goes.loaded_on execve registers memory led host put entry reads program other loads loads4 matched put_alike zero
 
     -- what both kernels came to
-    pub replies_together : LoadedAlike table at pid x.tags led.index done.reply done4.reply → GoesOn table pid m n made
+    pub replies_together : LoadedAlike table at pid x.tags led.index done.reply done4.reply → GoesOn scene
     replies_together replies = by done.reply done4.reply refl refl replies
       where
-        by : (a b : Result Program Errno) → done.reply ≡ a → done4.reply ≡ b → LoadedAlike table at pid x.tags led.index a b → GoesOn table pid m n made
-        by _ _ one two (none_loaded e) = goes.refused_on table made pid m n c p q lives also calm path args env registers memory led host put entry reads e one two
+        by : (a b : Result Program Errno) → done.reply ≡ a → done4.reply ≡ b → LoadedAlike table at pid x.tags led.index a b → GoesOn scene
+        by _ _ one two (none_loaded e) = goes.refused_on execve registers memory led host put entry reads e one two
         by _ _ one two (one_loaded {p = program} {q = other} same used) = loaded program other one two same used
 
-  module _ (registers : List ℕ) (memory : Memory) (led : Led) (host : List ℕ) (put : ℕ) (alike : IsExecveEntered table pid m n path args env registers memory led host put) where
+  module _ (registers : List ℕ) (memory : Memory) (led : Led) (host : List ℕ) (put : ℕ) (alike : IsExecveEntered scene path args env registers memory led host put) where
     pc_is : {A : Type 0} (f : ℕ → A) → f (image_at stop).regs.pc ≡ f q.image.regs.pc
     pc_is f = ap (λ (image : Image). f image.regs.pc) (own_image pid w q also)
 
     abbrev kept : Tracing
     kept = with_pending (map.insert x.pending pid (awaiting (arguments_at (after_request stop)) r led None)) x
 
-    entry : goes.IsEntered table made pid m n c p q lives also calm path args env registers memory led host put
+    entry : goes.IsEntered execve registers memory led host put
     entry = record {
       entered_is =
           subst (λ t. entered x t ≡ (with_pending (map.insert x.pending pid (awaiting (arguments_at (after_request t)) r led None)) x, edited (record { x = registers; pc = (image_at t).regs.pc }) memory t)) calling_is alike.enters
@@ -283,7 +284,7 @@ module _ {S : Type 0} (table : List Row) (made pid : ℕ) (m : Machine S) (n : M
       bytes = alike.bytes;
       unmarked =
           subst (λ pages. AreEqualUnmarked pages memory.pages)
-          (ap (λ t. (memory_at (record { state = t; pid = pid; handed = nothing_handed })).pages) (before.shelf table made pid m n c p q lives also) ∙ ap (λ (image : Image). image.memory.pages) (own_image pid s1 p1 mine.lives)) alike.unmarked;
+          (ap (λ t. (memory_at (record { state = t; pid = pid; handed = nothing_handed })).pages) (before.shelf callers) ∙ ap (λ (image : Image). image.memory.pages) (own_image pid s1 p1 mine.lives)) alike.unmarked;
       reads = sym (ap (λ t. (carried_out (decoding (record { x = registers; pc = (image_at t).regs.pc })) memory).reply) calling_is ∙ pc_is (λ pc. (carried_out (decoding (record { x = registers; pc = pc })) memory).reply)) ∙ alike.finds;
       exits = λ came e stands regs.
           subst (λ t. exited (with_pending (map.insert x.pending pid (awaiting (arguments_at (after_request t)) r led None)) x) (called pid came)
@@ -296,43 +297,22 @@ module _ {S : Type 0} (table : List Row) (made pid : ℕ) (m : Machine S) (n : M
         ∙ pc_is (λ pc. (after_request (edited (record { x = registers; pc = pc }) memory stop)).state)
         ∙ ap (λ (image : Image). computed pid image.regs (carried_out (decoding image.regs) image.memory).memory (w3 registers memory led host put entry)) (image-edited (record { x = registers; pc = q.image.regs.pc }) memory stop (subst IsSome (sym also) refl))
 
-    done4_is : (done_there table pid m n path args env registers memory host put).reply ≡ (done4 registers memory led host put entry).reply
+    done4_is : (done_there scene path args env registers memory host put).reply ≡ (done4 registers memory led host put entry).reply
     done4_is = ap (λ t. (carried_out (execution plain pid t host put env) (memory_of pid t)).reply) there_is
 
-    entered_together : LoadedAlike table (at_call pid m).state pid x.tags led.index (done_here table pid m n path args env).reply (done_there table pid m n path args env registers memory host put).reply
-        → GoesOn table pid m n made
+    entered_together : LoadedAlike table (at_call scene).state pid x.tags led.index (done_here scene path args env).reply (done_there scene path args env registers memory host put).reply
+        → GoesOn scene
     entered_together replies =
         replies_together registers memory led host put entry
         (subst (λ t. LoadedAlike table t pid x.tags led.index done.reply (done4 registers memory led host put entry).reply) at_is
-        (subst (λ a. LoadedAlike table (at_call pid m).state pid x.tags led.index a (done4 registers memory led host put entry).reply) done_is
-        (subst (LoadedAlike table (at_call pid m).state pid x.tags led.index (done_here table pid m n path args env).reply) done4_is replies)))
+        (subst (λ a. LoadedAlike table (at_call scene).state pid x.tags led.index a (done4 registers memory led host put entry).reply) done_is
+        (subst (LoadedAlike table (at_call scene).state pid x.tags led.index (done_here scene path args env).reply) done4_is replies)))
 
--- ---- any process
-
-pub cancelled_execves_go_on : {S : Type 0} (table : List Row) (made pid : ℕ) (m : Machine S) (n : Machine Tracing) (path : List ℕ) (args env : ℕ) (e : Errno) → ComeToCall table made pid m n
-    → IsExecveCancelled table pid m n path args env e → (watched_call unwatched 1 table pid m).tally.broken ≡ None → GoesOn table pid m n made
-cancelled_execves_go_on table made pid m n path args env e c alike calm = by (process pid m.state) refl c.lives
-  where
-    by : (o : Option (Process ℕ Image)) → process pid m.state ≡ o → IsSome o → GoesOn table pid m n made
-    by None none some = absurd cc
-    by (Some p) lives some =
-        let q = lives_too table n.watcher.tags pid m.state n.state p c.matches.states lives in cancelled_alike table made pid m n c p q.0 lives q.1 calm path args env alike.decoded e alike
+-- ---- so both machines stay together
 
 pub cancelled_execves_go_together : (S : Type 0) → CancelledExecvesGoTogether S
-cancelled_execves_go_together S table made pid m n path args env e c alike calm = (cancelled_execves_go_on table made pid m n path args env e c alike calm).together
-
-pub entered_execves_go_on : {S : Type 0} (table : List Row) (made pid : ℕ) (m : Machine S) (n : Machine Tracing) (path : List ℕ) (args env : ℕ) (registers : List ℕ) (memory : Memory) (led : Led) (host : List ℕ) (put : ℕ)
-    → ComeToCall table made pid m n → IsExecveEntered table pid m n path args env registers memory led host put
-    → LoadedAlike table (here table pid m n path args env) pid n.watcher.tags led.index (done_here table pid m n path args env).reply (done_there table pid m n path args env registers memory host put).reply
-    → (watched_call unwatched 1 table pid m).tally.broken ≡ None → GoesOn table pid m n made
-entered_execves_go_on table made pid m n path args env registers memory led host put c alike replies calm = by (process pid m.state) refl c.lives
-  where
-    by : (o : Option (Process ℕ Image)) → process pid m.state ≡ o → IsSome o → GoesOn table pid m n made
-    by None none some = absurd cc
-    by (Some p) lives some =
-        let q = lives_too table n.watcher.tags pid m.state n.state p c.matches.states lives in
-        entered_together table made pid m n c p q.0 lives q.1 calm path args env alike.decoded registers memory led host put alike replies
+cancelled_execves_go_together S scene path args env e comes alike calm = (cancelled_alike (execve_of comes path args env alike.decoded calm) e alike).together
 
 pub entered_execves_go_together : (S : Type 0) → EnteredExecvesGoTogether S
-entered_execves_go_together S table made pid m n path args env registers memory led host put c alike replies calm =
-    (entered_execves_go_on table made pid m n path args env registers memory led host put c alike replies calm).together
+entered_execves_go_together S scene path args env registers memory led host put comes alike replies calm =
+    (entered_together (execve_of comes path args env alike.decoded calm) registers memory led host put alike replies).together

@@ -8,7 +8,8 @@ pub mod LoadedLemmas
 pub mod EnteredLemmas
 pub mod GoLemmas
 pub mod RewriteLemmas
-pub mod SceneLemmas
+pub mod FirstStopLemmas
+pub mod ExecveLemmas
 pub mod RuleLemmas
 pub mod ByteLemmas
 pub mod ShelveLemmas

@@ -1,5 +1,5 @@
 -- Execve(2) that both kernels carry out: what is left of both machines.
-use Rattle.std.proofs.Common.{◌≡◌, ℕ, suc, false, true, List, Some, None, Ok, get_or, refl, sym, ap, subst, ◌∙◌, arith}
+use Rattle.std.proofs.Common.{◌≡◌, ℕ, suc, false, true, List, None, Ok, get_or, refl, sym, ap, subst, ◌∙◌, arith}
 use Rattle.std.specs.Prelude.{IsSome, ◌==◌}
 use Rattle.pt_args.specs.rv_mem.Actions.{carried_out}
 use Rattle.pt_args.specs.rv_mem.Memory.{Memory}
@@ -21,11 +21,11 @@ use Rattle.law_stops.specs.kr_steps.Answering.{going, resumed}
 use Rattle.law_stops.specs.kr_steps.Calls.{LastsLawful}
 use Rattle.law_stops.specs.kr_turns.PlainCall.{Came, plain_call, replaced}
 use Rattle.law_stops.specs.kr_stops.Stopped.{image_in, nothing_handed}
-use Rattle.law_stops.specs.kr_turns.Turn.{Machine, Tally, after_exit, after_plain, called, watched_call}
+use Rattle.law_stops.specs.kr_turns.Turn.{Machine, Tally, after_exit, after_plain, called}
 use Rattle.law_stops.specs.kr_stops.Watching.{unwatched}
 use Rattle.law_stops.specs.kr_turns.declared.plain.CallEnd.TheVariants as end
 use Rattle.law_stops.specs.pt_faker.Faking.{has_answered_zero}
-use Rattle.law_stops.specs.pt_tracer.Watched.{Tracing, tracer}
+use Rattle.law_stops.specs.pt_tracer.Watched.{Tracing}
 use Rattle.law_plans.specs.law_places.Matching.{IsMatch}
 use Rattle.law_stops.specs.law_walks.Scene.{IsMatched}
 use Rattle.law_stops.specs.law_walks.States.{scene_of}
@@ -33,7 +33,8 @@ use Rattle.law_stops.specs.law_turns.Calls.{decoded_by, decoded_in}
 use Rattle.law_stops.specs.law_turns.Lasting.{CanBeCalled}
 use Rattle.law_stops.proofs.law_turns.CalledLemmas.{lasts_living}
 use Rattle.law_stops.proofs.law_turns.SettleLemmas.{lawful_gone}
-use Rattle.law_stops.specs.Turning.{ComeFromCall, ComeToCall, Traces}
+use Rattle.law_stops.specs.Scene.{Scene, mounted_after, traced_after}
+use Rattle.law_stops.specs.Turning.{ComeFromCall, StayTogether, Traces}
 use Rattle.law_stops.proofs.AnsweredLemmas.{lives_changed}
 use Rattle.law_stops.proofs.CallLemmas as before
 use Rattle.law_stops.proofs.CallLemmas.{exit_status, own_image, unwatched_exit}
@@ -41,6 +42,7 @@ use Rattle.law_execves.specs.Replacing.{ArePutAlike, gone_on_with, mounts_of}
 use Rattle.law_execves.proofs.RefusedLemmas as refused
 use Rattle.law_execves.proofs.ReplaceLemmas.{programs_keep_matches}
 use Rattle.law_execves.proofs.BehindLemmas.{Behind, behind, forgotten}
+use Rattle.law_execves.proofs.ExecveLemmas.{ExecveCall}
 
 -- ---- what lasts
 
@@ -59,8 +61,11 @@ program-lasts table made pid s program can l =
 
 -- ---- both machines
 
-module _ {S : Type 0} (table : List Row) (made pid : ℕ) (m : Machine S) (n : Machine Tracing) (c : ComeToCall table made pid m n) (p q : Process ℕ Image) (lives : process pid m.state ≡ Some p) (also : process pid n.state ≡ Some q)
-    (calm : (watched_call unwatched 1 table pid m).tally.broken ≡ None) (path : List ℕ) (args env : ℕ) where
+module _ {S : Type 0} {scene : Scene S} (execve : ExecveCall scene) where
+  open scene use {table, made, pid, mounted as m, traced as n}
+  open execve use {callers, path, args, env}
+  open execve.callers use {comes as c}
+
   abbrev x : Tracing
   x = n.watcher
 
@@ -68,16 +73,16 @@ module _ {S : Type 0} (table : List Row) (made pid : ℕ) (m : Machine S) (n : M
   w = n.state
 
   abbrev s1 : State ℕ Image
-  s1 = before.s1 table made pid m n c p q lives also
+  s1 = before.s1 callers
 
   abbrev p1 : Process ℕ Image
-  p1 = before.p1 table made pid m n c p q lives also
+  p1 = before.p1 callers
 
   abbrev at : State ℕ Image
   at = decoded_in pid p1 s1
 
   mine : CanBeCalled table made pid s1 p1
-  mine = before.can table made pid m n c p q lives also
+  mine = before.can callers
 
   abbrev memory : Memory
   memory = (carried_out (execution table pid at path args env) (memory_of pid at)).memory
@@ -89,7 +94,7 @@ module _ {S : Type 0} (table : List Row) (made pid : ℕ) (m : Machine S) (n : M
 
     pub loaded_is : plain_call table pid s1 ≡ came
     loaded_is =
-        refused.came_is table made pid m n c p q lives also calm path args env reads
+        refused.came_is execve reads
         ∙ ap (λ r. replaced pid r (all_applied images (record { found = mount_of r; directory = None }) pid (changes_of r) (with_memory_of pid memory at))) loads
 
     came_state : came.state ≡ gone_on_with pid program s1
@@ -112,25 +117,25 @@ module _ {S : Type 0} (table : List Row) (made pid : ℕ) (m : Machine S) (n : M
         ∙ ap (λ word. word == 0) zero
 
     abbrev judged : Tally
-    judged = before.judged table made pid m n c p q lives also
+    judged = before.judged callers
 
     abbrev mounted : Machine S
     mounted = after_exit unwatched (called pid came) m.watcher judged (process pid came.state)
 
-    mounted_is : watched_call unwatched 1 table pid m ≡ mounted
-    mounted_is = before.mounted_call table made pid m n c p q lives also ∙ ap (λ came. after_plain unwatched pid came m.watcher judged) loaded_is
+    mounted_is : mounted_after scene ≡ mounted
+    mounted_is = before.mounted_call callers ∙ ap (λ came. after_plain unwatched pid came m.watcher judged) loaded_is
 
     abbrev tags : TagTable
     tags = with_tag x.tags pid Exe index
 
     match_behind : IsMatch table tags (gone_on_with pid program s1) (gone_on_with pid other w)
-    match_behind = programs_keep_matches table pid s1 w x.tags program other index (before.match1 table made pid m n c p q lives also) matched alike
+    match_behind = programs_keep_matches table pid s1 w x.tags program other index (before.match1 callers) matched alike
 
-    pub loaded_together : (y : Tracing) (tally : Tally) → y.tags ≡ tags → Traces table y → tally.status ≡ n.tally.status → watched_call tracer 0 plain pid n ≡ record { state = gone_on_with pid other w; watcher = y; tally = tally }
-        → ComeFromCall table made (watched_call unwatched 1 table pid m) (watched_call tracer 0 plain pid n)
+    pub loaded_together : (y : Tracing) (tally : Tally) → y.tags ≡ tags → Traces table y → tally.status ≡ n.tally.status → traced_after scene ≡ record { state = gone_on_with pid other w; watcher = y; tally = tally }
+        → StayTogether scene
     loaded_together y tally same traces status traced_is =
         let exit_state : mounted.state ≡ gone_on_with pid program s1 = unwatched_exit pid (called pid came) m.watcher judged (process pid came.state) ∙ came_state in
-        subst (λ (e : Machine S). ComeFromCall table made e (watched_call tracer 0 plain pid n)) (sym mounted_is)
+        subst (λ (e : Machine S). ComeFromCall table made e (traced_after scene)) (sym mounted_is)
         (subst (ComeFromCall table made mounted) (sym traced_is)
         (record {
           matches = record {

@@ -1,5 +1,5 @@
 -- Execve(2) that both kernels refuse, or that a tracer cancels: what is left of both machines.
-use Rattle.std.proofs.Common.{◌≡◌, ℕ, suc, false, List, Some, None, Result, Ok, Err, get_or, refl, sym, ap, subst, ◌∙◌, ℤ}
+use Rattle.std.proofs.Common.{◌≡◌, ℕ, suc, false, Some, None, Result, Ok, Err, get_or, refl, sym, ap, subst, ◌∙◌, ℤ}
 use Rattle.std.specs.Prelude.{neg_ℤ, pos, ◌==◌}
 use Rattle.law_programs.specs.pr_base.Errno.{errno_number}
 use Rattle.law_programs.specs.pr_base.declared.errno.Errno.{Errno}
@@ -7,7 +7,7 @@ use Rattle.pt_args.specs.rv_mem.Actions.{AreEqualUnmarked, CarriedOut, carried_o
 use Rattle.pt_args.specs.rv_mem.Memory.{Memory}
 use Rattle.pt_args.specs.rv_mem.Pages.{Pages}
 use Rattle.pt_args.specs.rv_mem.declared.regs.Regs.{Regs}
-use Rattle.law_stops.specs.kr_view.View.{Row, plain}
+use Rattle.law_stops.specs.kr_view.View.{plain}
 use Rattle.pt_args.specs.kr_calls.declared.request.Request.TheVariants as call
 use Rattle.law_programs.proofs.law_allowed.DecodedLemmas.{decoding-leaves-pages}
 use Rattle.law_programs.proofs.law_allowed.RowLemmas.{StaysLike, lawful-image}
@@ -21,10 +21,10 @@ use Rattle.law_stops.specs.kr_steps.Calls.{LastsLawful}
 use Rattle.law_stops.specs.kr_steps.Computing.{computed}
 use Rattle.law_stops.specs.kr_turns.PlainCall.{Came, executed, plain_call, refusal_told, replaced}
 use Rattle.law_stops.specs.kr_stops.Stopped.{image_in}
-use Rattle.law_stops.specs.kr_turns.Turn.{Machine, Tally, after_exit, after_plain, called, watched_call}
+use Rattle.law_stops.specs.kr_turns.Turn.{Machine, Tally, after_exit, after_plain, called}
 use Rattle.law_stops.specs.kr_stops.Watching.{unwatched}
 use Rattle.law_stops.specs.pt_faker.Faking.{has_answered_zero}
-use Rattle.law_stops.specs.pt_tracer.Watched.{Tracing, tracer}
+use Rattle.law_stops.specs.pt_tracer.Watched.{Tracing}
 use Rattle.law_plans.specs.law_places.Matching.{IsMatch}
 use Rattle.law_stops.specs.law_turns.Calls.{decoded_by, decoded_in}
 use Rattle.law_stops.specs.law_turns.Lasting.{CanBeCalled}
@@ -34,19 +34,24 @@ use Rattle.law_stops.proofs.law_turns.ImageLemmas.{given}
 use Rattle.law_stops.proofs.law_turns.MatchLemmas.{match_computed}
 use Rattle.law_stops.proofs.law_turns.OperateLemmas.{with_own_registers}
 use Rattle.law_stops.proofs.law_turns.SettleLemmas.{match_settled}
-use Rattle.law_stops.specs.Turning.{ComeFromCall, ComeToCall, Traces}
+use Rattle.law_stops.specs.Scene.{Scene, mounted_after, traced_after}
+use Rattle.law_stops.specs.Turning.{ComeFromCall, StayTogether, Traces}
 use Rattle.law_stops.proofs.AnsweredLemmas.{computed_twice, lives_changed}
 use Rattle.law_stops.proofs.CallLemmas as before
 use Rattle.law_stops.proofs.CallLemmas.{exit_status, own_image, unwatched_exit}
 use Rattle.law_execves.proofs.BegunLemmas.{has_answer, told_no_zero}
+use Rattle.law_execves.proofs.ExecveLemmas.{ExecveCall}
 use Rattle.law_execves.proofs.ReadingLemmas.{execution-keeps}
 
 -- what a refusal tells
 abbrev pub told_of : Errno → ℤ
 told_of e = neg_ℤ (pos (errno_number e))
 
-module _ {S : Type 0} (table : List Row) (made pid : ℕ) (m : Machine S) (n : Machine Tracing) (c : ComeToCall table made pid m n) (p q : Process ℕ Image) (lives : process pid m.state ≡ Some p) (also : process pid n.state ≡ Some q)
-    (calm : (watched_call unwatched 1 table pid m).tally.broken ≡ None) (path : List ℕ) (args env : ℕ) where
+module _ {S : Type 0} {scene : Scene S} (execve : ExecveCall scene) where
+  open scene use {table, made, pid, mounted as m, traced as n}
+  open execve use {callers, path, args, env}
+  open execve.callers use {comes as c, also_caller as q, also_lives as also}
+
   abbrev x : Tracing
   x = n.watcher
 
@@ -54,16 +59,16 @@ module _ {S : Type 0} (table : List Row) (made pid : ℕ) (m : Machine S) (n : M
   w = n.state
 
   abbrev pub s1 : State ℕ Image
-  s1 = before.s1 table made pid m n c p q lives also
+  s1 = before.s1 callers
 
   abbrev pub p1 : Process ℕ Image
-  p1 = before.p1 table made pid m n c p q lives also
+  p1 = before.p1 callers
 
   abbrev pub at : State ℕ Image
   at = decoded_in pid p1 s1
 
   mine : CanBeCalled table made pid s1 p1
-  mine = before.can table made pid m n c p q lives also
+  mine = before.can callers
 
   abbrev pub done : CarriedOut (Result Program Errno)
   done = carried_out (execution table pid at path args env) (memory_of pid at)
@@ -139,24 +144,24 @@ module _ {S : Type 0} (table : List Row) (made pid : ℕ) (m : Machine S) (n : M
       match_told : IsMatch table x.tags told also_told
       match_told =
           let alike = subst (λ (pages : Pages). AreEqualUnmarked pages left.pages) (sym done_pages) unmarked in
-          let both = match_computed table x.tags s1 w (before.match1 table made pid m n c p q lives also) pid p1 q mine.lives also p1.image.regs done.memory left alike like stays.layout in
+          let both = match_computed table x.tags s1 w (before.match1 callers) pid p1 q mine.lives also p1.image.regs done.memory left alike like stays.layout in
           match_settled table x.tags pid (Answer (told_of e)) (computed pid p1.image.regs done.memory s1) (computed pid q.image.regs left w)
-          (subst (λ (regs : Regs). IsMatch table x.tags (computed pid p1.image.regs done.memory s1) (computed pid regs left w)) (before.same_regs table made pid m n c p q lives also) both)
+          (subst (λ (regs : Regs). IsMatch table x.tags (computed pid p1.image.regs done.memory s1) (computed pid regs left w)) (before.same_regs callers) both)
 
       abbrev judged : Tally
-      judged = before.judged table made pid m n c p q lives also
+      judged = before.judged callers
 
       abbrev mounted : Machine S
       mounted = after_exit unwatched (called pid came) m.watcher judged (process pid came.state)
 
-      mounted_is : watched_call unwatched 1 table pid m ≡ mounted
-      mounted_is = before.mounted_call table made pid m n c p q lives also ∙ ap (λ came. after_plain unwatched pid came m.watcher judged) refused_is
+      mounted_is : mounted_after scene ≡ mounted
+      mounted_is = before.mounted_call callers ∙ ap (λ came. after_plain unwatched pid came m.watcher judged) refused_is
 
-      pub refused_together : (y : Tracing) (tally : Tally) → y.tags ≡ x.tags → Traces table y → tally.status ≡ n.tally.status → watched_call tracer 0 plain pid n ≡ record { state = also_told; watcher = y; tally = tally }
-          → ComeFromCall table made (watched_call unwatched 1 table pid m) (watched_call tracer 0 plain pid n)
+      pub refused_together : (y : Tracing) (tally : Tally) → y.tags ≡ x.tags → Traces table y → tally.status ≡ n.tally.status → traced_after scene ≡ record { state = also_told; watcher = y; tally = tally }
+          → StayTogether scene
       refused_together y tally tags traces status traced_is =
           let exit_state : mounted.state ≡ told = unwatched_exit pid (called pid came) m.watcher judged (process pid came.state) ∙ came_state in
-          subst (λ (e : Machine S). ComeFromCall table made e (watched_call tracer 0 plain pid n)) (sym mounted_is)
+          subst (λ (e : Machine S). ComeFromCall table made e (traced_after scene)) (sym mounted_is)
           (subst (ComeFromCall table made mounted) (sym traced_is)
           (record {
             matches = record {

@@ -1,11 +1,10 @@
 -- What is so of an execve that breaks no calm rule: it read no marked byte, its walks reach no long name, and it has a shelf.
-use Rattle.std.proofs.Common.{◌≡◌, ◌≤◌, ℕ, Bool, true, false, cond, ◌||◌, List, Option, Some, None, Ok, refl, sym, ap, subst, ◌∙◌, nat_lt}
+use Rattle.std.proofs.Common.{◌≡◌, ◌≤◌, ℕ, Bool, true, false, cond, ◌||◌, Option, Some, None, refl, sym, ap, subst, ◌∙◌, nat_lt}
 use Rattle.std.specs.Option.{option_map_or}
 use Rattle.std.specs.Prelude.{IsSome}
 use Rattle.std.proofs.lemmas.Bool.{ltb-false}
 use Rattle.pt_args.specs.rv_mem.Actions.{AreEqualUnmarked, carried_out}
 use Rattle.pt_args.specs.rv_mem.Memory.{Memory}
-use Rattle.law_stops.specs.kr_view.View.{Row}
 use Rattle.pt_args.specs.kr_calls.Arguments.{number}
 use Rattle.pt_args.specs.kr_calls.declared.request.Request.TheVariants as call
 use Rattle.law_plans.specs.kr_seen.Carrying.{memory_of}
@@ -17,21 +16,18 @@ use Rattle.law_stops.specs.kr_model.State.{Image, Process, State, process}
 use Rattle.law_stops.specs.kr_turns.Breaking.{decoded_rule, executed_rule, nothing_reached, plain_rule_of}
 use Rattle.law_stops.specs.kr_stops.Stopped.{Stopped, edited}
 use Rattle.law_stops.proofs.kr_stops.EditLemmas.{image-edited}
-use Rattle.law_stops.specs.kr_turns.Turn.{Machine, calling, watched_call}
-use Rattle.law_stops.specs.kr_stops.Watching.{unwatched}
-use Rattle.law_stops.specs.pt_faker.Stopping.{decoded_at}
 use Rattle.law_stops.specs.pt_tracer.Planning.{has_shelf}
-use Rattle.law_stops.specs.pt_tracer.Watched.{Tracing}
 use Rattle.law_stops.specs.law_edits.Shelves.{bottom_of}
 use Rattle.law_stops.specs.law_edits.Swapped.{AreMarkedFrom}
 use Rattle.law_stops.proofs.law_edits.MarkLemmas.{shelves_are_marked}
 use Rattle.law_stops.proofs.law_edits.NumberLemmas.{paths_have_numbers}
 use Rattle.law_stops.proofs.law_edits.CallShelfLemmas.{calm_calls_have_shelves, shelves_are_seen}
 use Rattle.law_plans.proofs.law_places.InUseLemmas.{neither}
-use Rattle.law_stops.specs.Turning.{ComeToCall}
+use Rattle.law_stops.specs.Scene.{Scene}
 use Rattle.law_stops.proofs.CallLemmas as before
 use Rattle.law_stops.proofs.CallLemmas.{own_image}
 use Rattle.law_execves.proofs.GoLemmas as go
+use Rattle.law_execves.proofs.ExecveLemmas.{ExecveCall}
 
 -- none of six rules
 none_of_six : (first second third fourth fifth sixth : Bool)
@@ -44,27 +40,30 @@ none_of_six false false true fourth fifth sixth e = absurd cc
 none_of_six false false false true fifth sixth e = absurd cc
 none_of_six false false false false true sixth e = absurd cc
 
-module _ {S : Type 0} (table : List Row) (made pid : ℕ) (m : Machine S) (n : Machine Tracing) (c : ComeToCall table made pid m n) (p q : Process ℕ Image) (lives : process pid m.state ≡ Some p) (also : process pid n.state ≡ Some q)
-    (calm : (watched_call unwatched 1 table pid m).tally.broken ≡ None) (path : List ℕ) (args env : ℕ) (decoded : (decoded_at (calling 1 pid m.state)).reply ≡ Ok (call.Execve path args env)) where
+module _ {S : Type 0} {scene : Scene S} (execve : ExecveCall scene) where
+  open scene use {table, pid, mounted as m}
+  open execve use {callers, path, args, env, calm}
+  open execve.callers use {comes as c, caller as p, also_caller as q, lives, also_lives as also}
+
   abbrev s1 : State ℕ Image
-  s1 = go.s1 table made pid m n c p q lives also calm path args env decoded
+  s1 = go.s1 execve
 
   abbrev p1 : Process ℕ Image
-  p1 = go.p1 table made pid m n c p q lives also calm path args env decoded
+  p1 = go.p1 execve
 
   abbrev at : State ℕ Image
-  at = go.at table made pid m n c p q lives also calm path args env decoded
+  at = go.at execve
 
   abbrev stop : Stopped
-  stop = go.stop table made pid m n c p q lives also calm path args env decoded
+  stop = go.stop execve
 
   abbrev lacks : Bool
-  lacks = before.lacks table made pid m n c p q lives also
+  lacks = before.lacks callers
 
   calm_row : executed_rule 1 table pid lacks (call.Execve path args env) path args env at ≡ None
   calm_row =
-      sym (ap (λ o. option_map_or (plain_rule_of 1 table pid lacks s1) o None) (before.lives1 table made pid m n c p q lives also) ∙ ap (λ reply. decoded_rule 1 table pid lacks reply at) (go.reads table made pid m n c p q lives also calm path args env decoded))
-      ∙ before.calm_call table made pid m n c p q lives also calm
+      sym (ap (λ o. option_map_or (plain_rule_of 1 table pid lacks s1) o None) (before.lives1 callers) ∙ ap (λ reply. decoded_rule 1 table pid lacks reply at) (go.reads execve))
+      ∙ before.calm_call callers calm
 
   rules : ((carried_out (execution table pid at path args env) (memory_of pid at)).memory.read_marked || lacks ≡ false) × (nat_lt 4000 (execution_reach table pid at path args env (memory_of pid at) nothing_reached).longest ≡ false)
   rules = none_of_six _ _ _ _ _ _ calm_row
@@ -78,12 +77,12 @@ module _ {S : Type 0} (table : List Row) (made pid : ℕ) (m : Machine S) (n : M
   -- ---- the shelf
 
   has_number : has_path (number p.image.regs) ≡ true
-  has_number = paths_have_numbers p1.image.regs p1.image.memory (call.Execve path args env) 0 _ (go.reads table made pid m n c p q lives also calm path args env decoded) refl
+  has_number = paths_have_numbers p1.image.regs p1.image.memory (call.Execve path args env) 0 _ (go.reads execve) refl
 
   usable : is_usable (stack_pointer p.image.regs) p.image.memory.pages ≡ true
   usable =
       calm_calls_have_shelves table pid m.state p lives has_number
-      (subst (λ t. plain_rule_here t ≡ None) (sym (before.shelf table made pid m n c p q lives also)) (before.calm_call table made pid m n c p q lives also calm))
+      (subst (λ t. plain_rule_here t ≡ None) (sym (before.shelf callers)) (before.calm_call callers calm))
     where
       plain_rule_here : State ℕ Image → Option Rule
       plain_rule_here t = option_map_or (plain_rule_of 1 table pid lacks t) (process pid t) None
@@ -96,5 +95,5 @@ module _ {S : Type 0} (table : List Row) (made pid : ℕ) (m : Machine S) (n : M
   pub shelf : (memory : Memory) → memory.pages ≡ q.image.memory.pages → has_shelf (edited q.image.regs memory stop) ≡ true
   shelf memory pages =
       let image = image-edited q.image.regs memory stop (subst IsSome (sym also) refl) in
-      shelves_are_seen p.image.regs p.image.memory.pages (edited q.image.regs memory stop) (ap (λ (i : Image). i.regs) image ∙ sym (before.same_regs table made pid m n c p q lives also))
+      shelves_are_seen p.image.regs p.image.memory.pages (edited q.image.regs memory stop) (ap (λ (i : Image). i.regs) image ∙ sym (before.same_regs callers))
       (subst (AreEqualUnmarked p.image.memory.pages) (sym (ap (λ (i : Image). i.memory.pages) image ∙ pages)) (c.matches.states.images.memories pid p q lives also)) usable

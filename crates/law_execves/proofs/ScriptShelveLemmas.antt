@@ -14,7 +14,6 @@ use Rattle.pt_args.specs.rv_mem.declared.regs.Regs.{Regs}
 use Rattle.pt_args.specs.rv_mem.declared.rights.Use.TheVariants.{Read, Write}
 use Rattle.pt_args.specs.Laws.{IsPathText, ShelvesHoldTheirItems, StandBetween, poked as pages_poked, room_of}
 use Rattle.pt_args.specs.Shelving.{shelved, with_zero}
-use Rattle.law_stops.specs.kr_view.View.{Row}
 use Rattle.pt_args.specs.kr_calls.Decoding.{decoding}
 use Rattle.pt_args.specs.kr_calls.declared.request.Request.{Request}
 use Rattle.pt_args.specs.kr_calls.declared.request.Request.TheVariants as call
@@ -22,14 +21,13 @@ use Rattle.law_programs.proofs.law_allowed.RowLemmas.{StaysLike}
 use Rattle.law_plans.specs.kr_calm.Shelf.{stack_pointer}
 use Rattle.law_stops.specs.law_kept.Bytes.{HasBytes}
 use Rattle.law_stops.proofs.law_kept.LivingLemmas.{process-bytes}
-use Rattle.law_stops.specs.kr_model.State.{Image, Process, process}
+use Rattle.law_stops.specs.kr_model.State.{Image, Process}
 use Rattle.law_stops.specs.kr_turns.PlainCall.{Came}
 use Rattle.law_stops.specs.kr_stops.Stopped.{IsThere, Stopped, edited, image_at}
-use Rattle.law_stops.specs.kr_turns.Turn.{Machine, called, calling, watched_call}
-use Rattle.law_stops.specs.kr_stops.Watching.{unwatched}
+use Rattle.law_stops.specs.kr_turns.Turn.{called}
 use Rattle.law_stops.proofs.kr_stops.EditLemmas.{image-edited}
 use Rattle.law_stops.specs.pt_faker.Faking.{word_of}
-use Rattle.law_stops.specs.pt_faker.Stopping.{after_request, decoded_at, memory_at, with_memory}
+use Rattle.law_stops.specs.pt_faker.Stopping.{after_request, memory_at, with_memory}
 use Rattle.law_stops.specs.pt_ident.Identity.{refusal}
 use Rattle.law_stops.specs.pt_tracer.Planning.{has_shelf, planned, stack_at}
 use Rattle.law_stops.specs.pt_tracer.Poking.{may_poke, poked}
@@ -47,13 +45,14 @@ use Rattle.law_programs.specs.Shelves.{host_shelf, script_shelf}
 use Rattle.law_programs.proofs.HeldLemmas.{AreHeld, items-held, read_of}
 use Rattle.law_programs.proofs.StandLemmas.{items-room, items_of, list-long, long-zero, shelf-items}
 use Rattle.law_stops.specs.law_turns.Calls.{decoded_by}
-use Rattle.law_stops.specs.Turning.{ComeToCall}
 use Rattle.law_stops.proofs.law_turns.ImageLemmas.{given}
+use Rattle.law_stops.specs.Scene.{Scene}
 use Rattle.law_stops.proofs.AnsweredLemmas.{lives_changed}
 use Rattle.law_stops.proofs.CallLemmas as before
 use Rattle.law_stops.proofs.CallLemmas.{own_image}
 use Rattle.law_stops.proofs.SwapLemmas.{poked_stays}
 use Rattle.law_execves.proofs.EnteredLemmas as goes
+use Rattle.law_execves.proofs.ExecveLemmas.{ExecveCall}
 use Rattle.law_execves.proofs.GoLemmas as go
 use Rattle.law_execves.proofs.RuleLemmas as rules
 use Rattle.law_execves.proofs.ScriptRegisterLemmas.{script_is_read, script_leaves, with_two, words_in}
@@ -111,8 +110,11 @@ module _ (hold : ShelvesHoldTheirItems) (sp : ℕ) (host : List ℕ) (put : List
 
 -- ---- behind the first stop
 
-module _ {S : Type 0} (table : List Row) (made pid : ℕ) (m : Machine S) (n : Machine Tracing) (c : ComeToCall table made pid m n) (p q : Process ℕ Image) (lives : process pid m.state ≡ Some p) (also : process pid n.state ≡ Some q)
-    (calm : (watched_call unwatched 1 table pid m).tally.broken ≡ None) (path : List ℕ) (args env : ℕ) (decoded : (decoded_at (calling 1 pid m.state)).reply ≡ Ok (call.Execve path args env)) where
+module _ {S : Type 0} {scene : Scene S} (execve : ExecveCall scene) where
+  open scene use {pid, traced as n}
+  open execve use {callers, path, args, env}
+  open execve.callers use {comes as c, caller as p, also_caller as q, also_lives as also}
+
   abbrev r : Request
   r = call.Execve path args env
 
@@ -120,10 +122,10 @@ module _ {S : Type 0} (table : List Row) (made pid : ℕ) (m : Machine S) (n : M
   x = n.watcher
 
   abbrev pub stop : Stopped
-  stop = go.stop table made pid m n c p q lives also calm path args env decoded
+  stop = go.stop execve
 
   abbrev p1 : Process ℕ Image
-  p1 = go.p1 table made pid m n c p q lives also calm path args env decoded
+  p1 = go.p1 execve
 
   abbrev dec : Memory
   dec = (decoded_by q).memory
@@ -132,16 +134,16 @@ module _ {S : Type 0} (table : List Row) (made pid : ℕ) (m : Machine S) (n : M
   sp = stack_at (after_request stop)
 
   there_stop : IsThere stop
-  there_stop = go.there_stop table made pid m n c p q lives also calm path args env decoded
+  there_stop = go.there_stop execve
 
   after_image : image_at (after_request stop) ≡ record { regs = q.image.regs; memory = dec }
-  after_image = go.after_image table made pid m n c p q lives also calm path args env decoded
+  after_image = go.after_image execve
 
   long : length q.image.regs.x ≡ 32
   long = (c.also_sized pid q also).registers
 
   pages_left : dec.pages ≡ q.image.memory.pages
-  pages_left = before.pages_left table made pid m n c p q lives also
+  pages_left = before.pages_left callers
 
   first_pages : (memory_at (after_request stop)).pages ≡ q.image.memory.pages
   first_pages = ap (λ (image : Image). image.memory.pages) after_image ∙ pages_left
@@ -149,7 +151,7 @@ module _ {S : Type 0} (table : List Row) (made pid : ℕ) (m : Machine S) (n : M
   -- ---- the shelf
 
   shelf_there : (not (nat_lt sp 65536) && allows_all (memory_at (after_request stop)).pages (sp - 65536) 65536 Read && allows_all (memory_at (after_request stop)).pages (sp - 65536) 65536 Write) ≡ true
-  shelf_there = ap has_shelf (go.after_is table made pid m n c p q lives also calm path args env decoded) ∙ rules.shelf table made pid m n c p q lives also calm path args env decoded dec pages_left
+  shelf_there = ap has_shelf (go.after_is execve) ∙ rules.shelf execve dec pages_left
 
   read_and_written : ((not (nat_lt sp 65536) && allows_all (memory_at (after_request stop)).pages (sp - 65536) 65536 Read) ≡ true) × (allows_all (memory_at (after_request stop)).pages (sp - 65536) 65536 Write ≡ true)
   read_and_written = and_parts _ _ shelf_there
@@ -166,10 +168,10 @@ module _ {S : Type 0} (table : List Row) (made pid : ℕ) (m : Machine S) (n : M
       (ap (λ pages. allows_all pages (sp - 65536) 65536 Read) (after_pages ∙ sym first_pages) ∙ high_and_read.1)
 
   sp_is : sp ≡ stack_pointer p.image.regs
-  sp_is = ap (λ (image : Image). get_or image.regs.x 2 0) after_image ∙ ap (λ (regs : Regs). get_or regs.x 2 0) (sym (before.same_regs table made pid m n c p q lives also))
+  sp_is = ap (λ (image : Image). get_or image.regs.x 2 0) after_image ∙ ap (λ (regs : Regs). get_or regs.x 2 0) (sym (before.same_regs callers))
 
   marks : AreMarkedFrom (bottom_of sp) sp p1.image.memory.pages
-  marks = subst (λ sp. AreMarkedFrom (bottom_of sp) sp p1.image.memory.pages) (sym sp_is) (rules.marks table made pid m n c p q lives also calm path args env decoded)
+  marks = subst (λ sp. AreMarkedFrom (bottom_of sp) sp p1.image.memory.pages) (sym sp_is) (rules.marks execve)
 
   -- ---- all that a script puts there, behind what the tracer has read
 
@@ -207,12 +209,12 @@ module _ {S : Type 0} (table : List Row) (made pid : ℕ) (m : Machine S) (n : M
     unmarked3 : AreEqualUnmarked p1.image.memory.pages memory3.pages
     unmarked3 =
         all_poked p1.image.memory.pages (bottom_of sp) sp after.pages items3 marks stand
-        (subst (AreEqualUnmarked p1.image.memory.pages) (sym after_pages) (go.memories table made pid m n c p q lives also calm path args env decoded))
+        (subst (AreEqualUnmarked p1.image.memory.pages) (sym after_pages) (go.memories execve))
 
     reads3 : (carried_out (decoding regs3) memory3).reply ≡ Ok (call.Execve host list_top env)
     reads3 =
         script_is_read q.image.regs (host_shelf sp host).top list_top q.image.memory memory3 path args env host long some (script-path hold sp host put kept high room after.pages after_like.whole (may after after_pages) text)
-        (sym (ap (λ (image : Image). (carried_out (decoding image.regs) image.memory).reply) (own_image pid n.state q also)) ∙ go.reads_there table made pid m n c p q lives also calm path args env decoded)
+        (sym (ap (λ (image : Image). (carried_out (decoding image.regs) image.memory).reply) (own_image pid n.state q also)) ∙ go.reads_there execve)
 
     -- ---- the edit
 
@@ -229,7 +231,7 @@ module _ {S : Type 0} (table : List Row) (made pid : ℕ) (m : Machine S) (n : M
 
     done3 : applied (shelved_script sp host put kept) (with_memory after (after_request stop)) ≡ made3
     done3 =
-        ap (applied (shelved_script sp host put kept)) (go.with_is table made pid m n c p q lives also calm path args env decoded after)
+        ap (applied (shelved_script sp host put kept)) (go.with_is execve after)
         ∙ ap (λ b. cond b (let a : Applied = record { answer = None; stopped = with_arguments words (poked items3 (edited q.image.regs after stop)) } in a) (refused EFAULT (edited q.image.regs after stop))) may-here
         ∙ (λ i. record { answer = None; stopped = edit-put i })
 
@@ -252,7 +254,7 @@ module _ {S : Type 0} (table : List Row) (made pid : ℕ) (m : Machine S) (n : M
       module _ (plans : planned x.bindings x.tags (after_request stop) r ≡ (record { edit = shelved_script sp host put kept; led = led }, with_memory after (after_request stop))) where
         entered3 : entered x stop ≡ (y, edited regs3 memory3 stop)
         entered3 =
-            ap (after_decoding x (after_request stop)) (go.reads_there table made pid m n c p q lives also calm path args env decoded)
+            ap (after_decoding x (after_request stop)) (go.reads_there execve)
             ∙ ap (by_identities x r (after_request stop)) c.traces.identities
             ∙ ap (after_plan x (after_request stop) r) plans
             ∙ ap (keeping x (after_request stop) r led) done3
@@ -260,8 +262,8 @@ module _ {S : Type 0} (table : List Row) (made pid : ℕ) (m : Machine S) (n : M
         -- as all is that the tracer leaves
         bytes3 : HoldsBytes memory3.pages
         bytes3 =
-            let has = subst (λ t. HasBytes (entered x t).1.state) (before.calling_is table made pid m n c p q lives also) c.watched in
+            let has = subst (λ t. HasBytes (entered x t).1.state) (before.calling_is callers) c.watched in
             (process-bytes pid (edited regs3 memory3 stop).state (subst (λ (e : Tracing × Stopped). HasBytes e.1.state) entered3 has) (given pid regs3 memory3 q) (lives_changed pid (given pid regs3 memory3) (λ p. refl) n.state q also)).memory
 
-        pub script_shelved : goes.IsEntered table made pid m n c p q lives also calm path args env registers3 memory3 led host list_top
+        pub script_shelved : goes.IsEntered execve registers3 memory3 led host list_top
         script_shelved = record { entered_is = entered3; like = like3; bytes = bytes3; unmarked = unmarked3; reads = reads3; exits = exits3 }

@@ -1,6 +1,6 @@
 -- The plain kernel's execve behind the first stop, where the host text of a path is on the shelf, or the path is left as it is.
 use Rattle.std.specs.FinMap as map
-use Rattle.std.proofs.Common.{◌≡◌, ◌≢◌, ◌≤◌, ℕ, zero, suc, Bool, true, false, cond, ◌&&◌, List, [], ◌∷◌, ◌++◌, length, get_or, Some, None, Ok, refl, sym, ap, subst, ◌∙◌, arith}
+use Rattle.std.proofs.Common.{◌≡◌, ◌≢◌, ◌≤◌, ℕ, zero, suc, Bool, true, false, cond, ◌&&◌, List, [], ◌∷◌, ◌++◌, length, get_or, None, refl, sym, ap, subst, ◌∙◌, arith}
 use Rattle.std.specs.Prelude.{IsSome, ◌==◌, nat_eq, slice_set}
 use Rattle.std.specs.Int.{cast_signed, w64}
 use Rattle.std.proofs.lemmas.Bool.Decides.{nat_tests}
@@ -18,7 +18,6 @@ use Rattle.pt_args.specs.declared.edit.Edit.{Edit}
 use Rattle.pt_args.specs.declared.edit.Edit.TheVariants.{Pass}
 use Rattle.law_stops.specs.pt_ident.Identity.{refusal}
 use Rattle.law_stops.specs.pt_results.Notes.{noted, tags_after}
-use Rattle.law_stops.specs.kr_view.View.{Row}
 use Rattle.pt_args.specs.kr_calls.Decoding.{decoding}
 use Rattle.pt_args.specs.kr_calls.declared.request.Request.{Request}
 use Rattle.pt_args.specs.kr_calls.declared.request.Request.TheVariants as call
@@ -28,11 +27,10 @@ use Rattle.law_stops.proofs.law_kept.ListLemmas.{joined}
 use Rattle.law_stops.proofs.law_kept.PageLemmas.{holds-written}
 use Rattle.law_programs.specs.law_allowed.Texts.{IsText}
 use Rattle.law_programs.specs.kr_tree.Lawful.{AreBytes}
-use Rattle.law_stops.specs.kr_model.State.{Image, Process, process}
+use Rattle.law_stops.specs.kr_model.State.{Image, Process}
 use Rattle.law_stops.specs.kr_turns.PlainCall.{Came}
 use Rattle.law_stops.specs.kr_stops.Stopped.{IsThere, Stopped, edited, image_at}
-use Rattle.law_stops.specs.kr_turns.Turn.{Machine, called, calling, watched_call}
-use Rattle.law_stops.specs.kr_stops.Watching.{unwatched}
+use Rattle.law_stops.specs.kr_turns.Turn.{called}
 use Rattle.law_stops.proofs.kr_stops.EditLemmas.{image-edited}
 use Rattle.law_stops.specs.pt_faker.Faking.{word_of}
 use Rattle.law_stops.specs.pt_faker.Stopping.{after_request, decoded_at, memory_at, with_memory}
@@ -52,7 +50,7 @@ use Rattle.law_stops.proofs.law_edits.ExitLemmas.{gives_back}
 use Rattle.law_stops.proofs.law_edits.StopLemmas.{items_put, words_put}
 use Rattle.law_stops.proofs.law_edits.SwapLemmas.{swapped_here}
 use Rattle.law_stops.specs.law_turns.Calls.{decoded_by}
-use Rattle.law_stops.specs.Turning.{ComeToCall}
+use Rattle.law_stops.specs.Scene.{Scene}
 use Rattle.law_stops.proofs.CallLemmas as before
 use Rattle.law_stops.proofs.CallLemmas.{own_image}
 use Rattle.law_stops.proofs.PassLemmas.{arguments_back}
@@ -60,6 +58,7 @@ use Rattle.law_stops.proofs.RegisterLemmas.{put_beside, put_there}
 use Rattle.law_stops.proofs.SwapLemmas.{poked_stays}
 use Rattle.law_execves.proofs.BegunLemmas.{nonzero}
 use Rattle.law_execves.proofs.EnteredLemmas as goes
+use Rattle.law_execves.proofs.ExecveLemmas.{ExecveCall}
 use Rattle.law_execves.proofs.GoLemmas as go
 use Rattle.law_execves.proofs.RuleLemmas as rules
 
@@ -81,8 +80,11 @@ same-may : (items : List (ℕ × List ℕ)) (t u : Stopped) → (memory_at t).pa
 same-may [] t u same = refl
 same-may (p ∷ items) t u same = ap (λ pages. allows_all pages p.0 (length p.1) Write && may_poke items t) same ∙ ap (λ b. allows_all (memory_at u).pages p.0 (length p.1) Write && b) (same-may items t u same)
 
-module _ {S : Type 0} (table : List Row) (made pid : ℕ) (m : Machine S) (n : Machine Tracing) (c : ComeToCall table made pid m n) (p q : Process ℕ Image) (lives : process pid m.state ≡ Some p) (also : process pid n.state ≡ Some q)
-    (calm : (watched_call unwatched 1 table pid m).tally.broken ≡ None) (path : List ℕ) (args env : ℕ) (decoded : (decoded_at (calling 1 pid m.state)).reply ≡ Ok (call.Execve path args env)) where
+module _ {S : Type 0} {scene : Scene S} (execve : ExecveCall scene) where
+  open scene use {pid, traced as n}
+  open execve use {callers, path, args, env, calm}
+  open execve.callers use {comes as c, caller as p, also_caller as q, also_lives as also}
+
   abbrev r : Request
   r = call.Execve path args env
 
@@ -90,25 +92,25 @@ module _ {S : Type 0} (table : List Row) (made pid : ℕ) (m : Machine S) (n : M
   x = n.watcher
 
   abbrev stop : Stopped
-  stop = go.stop table made pid m n c p q lives also calm path args env decoded
+  stop = go.stop execve
 
   abbrev p1 : Process ℕ Image
-  p1 = go.p1 table made pid m n c p q lives also calm path args env decoded
+  p1 = go.p1 execve
 
   abbrev dec : Memory
   dec = (decoded_by q).memory
 
   there_stop : IsThere stop
-  there_stop = go.there_stop table made pid m n c p q lives also calm path args env decoded
+  there_stop = go.there_stop execve
 
   after_image : image_at (after_request stop) ≡ record { regs = q.image.regs; memory = dec }
-  after_image = go.after_image table made pid m n c p q lives also calm path args env decoded
+  after_image = go.after_image execve
 
   long : length q.image.regs.x ≡ 32
   long = (c.also_sized pid q also).registers
 
   pages_left : dec.pages ≡ q.image.memory.pages
-  pages_left = before.pages_left table made pid m n c p q lives also
+  pages_left = before.pages_left callers
 
   -- ---- the second stop of a refused execve
 
@@ -174,20 +176,20 @@ module _ {S : Type 0} (table : List Row) (made pid : ℕ) (m : Machine S) (n : M
         let own = c.also_lasts.lawful.processes pid q also in
         subst (StaysLike q.image.memory.pages) (sym pages_left) (record { whole = own.whole; placed = own.paged; layout = refl })
 
-    pub passed : goes.IsEntered table made pid m n c p q lives also calm path args env q.image.regs.x dec led path args
+    pub passed : goes.IsEntered execve q.image.regs.x dec led path args
     passed = record {
       entered_is =
-          ap (after_decoding x (after_request stop)) (go.reads_there table made pid m n c p q lives also calm path args env decoded)
+          ap (after_decoding x (after_request stop)) (go.reads_there execve)
           ∙ ap (by_identities x r (after_request stop)) c.traces.identities
           ∙ ap (after_plan x (after_request stop) r) plans
-          ∙ ap (λ t. (kept_passed, t)) (go.after_is table made pid m n c p q lives also calm path args env decoded);
+          ∙ ap (λ t. (kept_passed, t)) (go.after_is execve);
       like = own_like;
       bytes = subst (λ (pages : Pages). HoldsBytes pages) (sym pages_left) (c.also_sized pid q also).bytes;
-      unmarked = subst (AreEqualUnmarked p1.image.memory.pages) (sym pages_left) (go.memories table made pid m n c p q lives also calm path args env decoded);
+      unmarked = subst (AreEqualUnmarked p1.image.memory.pages) (sym pages_left) (go.memories execve);
       reads =
           same-reply (decoding q.image.regs) dec q.image.memory pages_left
           ∙ sym (ap (λ (image : Image). (carried_out (decoding image.regs) image.memory).reply) (own_image pid n.state q also))
-          ∙ go.reads_there table made pid m n c p q lives also calm path args env decoded;
+          ∙ go.reads_there execve;
       exits = λ came e there regs. refused_exit led q.image.regs.x (λ j other. refl) (λ word. refl) long came e there regs;
     }
 
@@ -222,21 +224,21 @@ module _ {S : Type 0} (table : List Row) (made pid : ℕ) (m : Machine S) (n : M
     regs_here = ap (λ (image : Image). image.regs) (own_image pid n.state q also)
 
     sp_is : sp ≡ stack_pointer p.image.regs
-    sp_is = ap (λ (image : Image). get_or image.regs.x 2 0) after_image ∙ ap (λ (regs : Regs). get_or regs.x 2 0) (sym (before.same_regs table made pid m n c p q lives also))
+    sp_is = ap (λ (image : Image). get_or image.regs.x 2 0) after_image ∙ ap (λ (regs : Regs). get_or regs.x 2 0) (sym (before.same_regs callers))
 
     can : CanBeSwapped stop p1.image.memory r first None
     can = record {
       there = there_stop;
-      decoded = go.reads_there table made pid m n c p q lives also calm path args env decoded;
-      shelf = ap has_shelf (go.after_is table made pid m n c p q lives also calm path args env decoded) ∙ rules.shelf table made pid m n c p q lives also calm path args env decoded dec pages_left;
+      decoded = go.reads_there execve;
+      shelf = ap has_shelf (go.after_is execve) ∙ rules.shelf execve dec pages_left;
       named = record { one = refl; two = tt };
       one = record { path = record { short = omega (arith, short); no_zero = text }; some = some };
       two = tt;
       calm = record {
-        alike = subst (λ (image : Image). AreEqualUnmarked p1.image.memory.pages image.memory.pages) (sym (own_image pid n.state q also)) (go.memories table made pid m n c p q lives also calm path args env decoded);
-        unread = subst (λ (regs : Regs). (carried_out (decoding regs) p1.image.memory).memory.read_marked ≡ false) (before.same_regs table made pid m n c p q lives also ∙ sym regs_here) (before.unread table made pid m n c p q lives also calm);
+        alike = subst (λ (image : Image). AreEqualUnmarked p1.image.memory.pages image.memory.pages) (sym (own_image pid n.state q also)) (go.memories execve);
+        unread = subst (λ (regs : Regs). (carried_out (decoding regs) p1.image.memory).memory.read_marked ≡ false) (before.same_regs callers ∙ sym regs_here) (before.unread callers calm);
       };
-      marks = subst (λ sp. AreMarkedFrom (bottom_of sp) sp p1.image.memory.pages) (sym sp_is) (rules.marks table made pid m n c p q lives also calm path args env decoded);
+      marks = subst (λ sp. AreMarkedFrom (bottom_of sp) sp p1.image.memory.pages) (sym sp_is) (rules.marks execve);
     }
 
     swapped : IsSwapped stop p1.image.memory r first None (applied swap (after_request stop))
@@ -263,7 +265,7 @@ module _ {S : Type 0} (table : List Row) (made pid : ℕ) (m : Machine S) (n : M
 
     placed : applied swap (with_memory after (after_request stop)) ≡ made3
     placed =
-        ap (applied swap) (go.with_is table made pid m n c p q lives also calm path args env decoded after)
+        ap (applied swap) (go.with_is execve after)
         ∙ ap (λ b. cond b (let a : Applied = record { answer = None; stopped = with_arguments words (poked items (edited q.image.regs after stop)) } in a) (refused EFAULT (edited q.image.regs after stop))) may-here
         ∙ (λ i. record { answer = None; stopped = put i })
 
@@ -288,12 +290,12 @@ module _ {S : Type 0} (table : List Row) (made pid : ℕ) (m : Machine S) (n : M
 
       entered_swapped : entered x stop ≡ (kept_swapped, edited regs3 memory3 stop)
       entered_swapped =
-          ap (after_decoding x (after_request stop)) (go.reads_there table made pid m n c p q lives also calm path args env decoded)
+          ap (after_decoding x (after_request stop)) (go.reads_there execve)
           ∙ ap (by_identities x r (after_request stop)) c.traces.identities
           ∙ ap (after_plan x (after_request stop) r) plans
           ∙ ap (keeping x (after_request stop) r led) placed
 
-      pub shelved : goes.IsEntered table made pid m n c p q lives also calm path args env registers3 memory3 led host args
+      pub shelved : goes.IsEntered execve registers3 memory3 led host args
       shelved = record {
         entered_is = entered_swapped;
         like = like3;

@@ -1,103 +1,100 @@
 -- A call along paths that the tracer answers itself, where the kernel with mounts answers and writes the same.
-use Rattle.std.proofs.Common.{◌≡◌, ℕ, false, List, [], Some, None, Ok, sym, ap, subst, ◌∙◌, ℤ}
+use Rattle.std.proofs.Common.{◌≡◌, ℕ, false, [], Some, sym, ap, subst, ◌∙◌, ℤ}
 use Rattle.std.specs.Option.{unwrap_or}
 use Rattle.pt_args.specs.rv_mem.Actions.{AreEqualUnmarked}
 use Rattle.pt_args.specs.rv_mem.Memory.{Memory}
 use Rattle.pt_args.specs.declared.edit.Edit.{Edit}
 use Rattle.law_stops.specs.pt_results.Notes.{noted, tags_after}
-use Rattle.law_plans.specs.kr_view.View.{Row}
 use Rattle.pt_args.specs.kr_calls.CallTable.{line}
-use Rattle.pt_args.specs.kr_calls.declared.request.Request.{Request}
 use Rattle.law_plans.specs.kr_seen.Carrying.{memory_of}
 use Rattle.law_plans.specs.kr_model.State.{Image, Process, State, process}
 use Rattle.law_plans.specs.kr_model.Walks.{seen}
 use Rattle.law_plans.specs.kr_model.declared.outcome.Outcome.TheVariants.{Answer}
 use Rattle.law_stops.specs.kr_stops.Stopped.{IsThere, Stopped, nothing_handed}
 use Rattle.law_stops.specs.kr_turns.Target.{LooksUpOne}
-use Rattle.law_stops.specs.kr_turns.Turn.{Machine, calling, watched_call}
-use Rattle.law_stops.specs.kr_stops.Watching.{unwatched}
 use Rattle.law_stops.proofs.kr_stops.EditLemmas.{there as is_there}
-use Rattle.law_plans.specs.pt_faker.Stopping.{decoded_at, memory_at}
+use Rattle.law_plans.specs.pt_faker.Stopping.{memory_at}
 use Rattle.law_plans.specs.pt_tracer.Planning.{answered, edit_for, led_of, rewritten, texts_at}
 use Rattle.law_plans.specs.pt_tracer.Watched.{Tracing, applied}
 use Rattle.law_plans.proofs.law_places.MatchLemmas.{tagged_places_are_placed}
 use Rattle.law_stops.specs.law_turns.Operating.{done_in}
 use Rattle.law_stops.proofs.law_turns.CalledLemmas.{decoded_lives, decoded_memory, decoded_process}
-use Rattle.law_stops.specs.law_turns.PathCalls.{HasPath}
 use Rattle.law_plans.specs.law_edits.Answers.{AreAnsweredAlike, CanBeTold, IsIn}
 use Rattle.law_stops.specs.Answering.{IsAnsweredAlike}
-use Rattle.law_stops.specs.Cancelling.{at_first_stop}
 use Rattle.law_stops.specs.Noting.{told_answer}
-use Rattle.law_stops.specs.Turning.{ComeToCall}
+use Rattle.law_stops.specs.Scene.{Scene, at_first_stop}
 use Rattle.law_stops.proofs.CallLemmas as before
 use Rattle.law_stops.proofs.CallLemmas.{own_image}
 use Rattle.law_paths.proofs.HereLemmas as here
 use Rattle.law_paths.proofs.ToldLemmas.{is_told}
+use Rattle.law_paths.proofs.HereLemmas.{PathCall}
 
-module _ {S : Type 0} (table : List Row) (made pid : ℕ) (m : Machine S) (n : Machine Tracing) (r : Request) (c : ComeToCall table made pid m n) (p q : Process ℕ Image) (lives : process pid m.state ≡ Some p) (also : process pid n.state ≡ Some q)
-    (calm : (watched_call unwatched 1 table pid m).tally.broken ≡ None) (reads : (decoded_at (calling 1 pid m.state)).reply ≡ Ok r) (kind : HasPath r) where
+module _ {S : Type 0} {scene : Scene S} (path_call : PathCall scene) where
+  open scene use {table, made, pid, traced as n}
+  open path_call use {callers, request as r, reads, kind}
+
   abbrev at : State ℕ Image
-  at = here.at table made pid m n r c p q lives also calm reads kind
+  at = here.at path_call
 
   abbrev x : Tracing
   x = n.watcher
 
   abbrev then_stop : Stopped
-  then_stop = before.then_stop table made pid m n c p q lives also
+  then_stop = before.then_stop callers
 
   -- ---- what such answers rest on
 
   pub told : CanBeTold table at x.tags
   told =
-      let both = here.match_at table made pid m n r c p q lives also calm reads kind in
-      record { settled = both.placed.settled; small = (here.together table made pid m n r c p q lives also calm reads kind).small; placed = tagged_places_are_placed table at x.tags both.placed both.tagged }
+      let both = here.match_at path_call in
+      record { settled = both.placed.settled; small = (here.together path_call).small; placed = tagged_places_are_placed table at x.tags both.placed both.tagged }
 
   abbrev pub caller : Process ℕ Image
-  caller = decoded_process table made pid (before.s1 table made pid m n c p q lives also) (before.p1 table made pid m n c p q lives also) (here.mine table made pid m n r c p q lives also calm reads kind)
+  caller = decoded_process table made pid (before.s1 callers) (before.p1 callers) (here.mine path_call)
 
   pub in_directory : IsIn at pid caller
   in_directory =
-      let lives_at = decoded_lives table made pid (before.s1 table made pid m n c p q lives also) (before.p1 table made pid m n c p q lives also) (here.mine table made pid m n r c p q lives also calm reads kind) in
-      record { lives = lives_at; directory = ((here.match_at table made pid m n r c p q lives also calm reads kind).placed.lawful.processes pid caller lives_at).cwd.1 }
+      let lives_at = decoded_lives table made pid (before.s1 callers) (before.p1 callers) (here.mine path_call) in
+      record { lives = lives_at; directory = ((here.match_at path_call).placed.lawful.processes pid caller lives_at).cwd.1 }
 
   abbrev q2 : Process ℕ Image
-  q2 = before.q2 table made pid m n c p q lives also
+  q2 = before.q2 callers
 
   also_then : process pid then_stop.state ≡ Some q2
-  also_then = (before.can_then table made pid m n c p q lives also).lives
+  also_then = (before.can_then callers).lives
 
   pub stop_there : IsThere then_stop
-  stop_there = is_there then_stop.state pid nothing_handed q2 (before.can_then table made pid m n c p q lives also).lasts.lawful.pids also_then
+  stop_there = is_there then_stop.state pid nothing_handed q2 (before.can_then callers).lasts.lawful.pids also_then
 
   pub memories : AreEqualUnmarked (memory_of pid at).pages (memory_at then_stop).pages
   memories =
-      let one = decoded_memory table made pid (before.s1 table made pid m n c p q lives also) (before.p1 table made pid m n c p q lives also) (here.mine table made pid m n r c p q lives also calm reads kind) in
+      let one = decoded_memory table made pid (before.s1 callers) (before.p1 callers) (here.mine path_call) in
       subst (λ (memory : Memory). AreEqualUnmarked memory.pages (memory_at then_stop).pages) (sym one)
       (subst (λ (image : Image). AreEqualUnmarked caller.image.memory.pages image.memory.pages) (sym (own_image pid then_stop.state q2 also_then))
-      ((here.match_at table made pid m n r c p q lives also calm reads kind).images.memories pid caller q2 in_directory.lives also_then))
+      ((here.match_at path_call).images.memories pid caller q2 in_directory.lives also_then))
 
   -- ---- so the call is answered on both
 
-  module _ (edit : Edit) (is : answered (here.texts table made pid m n r c p q lives also calm reads kind) then_stop r ≡ Some edit) (alike : AreAnsweredAlike (done_in pid r (seen table pid at r) at) (applied edit then_stop))
+  module _ (edit : Edit) (is : answered (here.texts path_call) then_stop r ≡ Some edit) (alike : AreAnsweredAlike (done_in pid r (seen table pid at r) at) (applied edit then_stop))
       (silent : (index : ℕ) (value : ℤ) → tags_after x.tags pid (noted r index (told_answer value)) ≡ x.tags) (apart : LooksUpOne (line r).told → ⊥) where
-    edit_is : edit_for (texts_at x.bindings x.tags (at_first_stop pid n)) (at_first_stop pid n) r ≡ edit
+    edit_is : edit_for (texts_at x.bindings x.tags (at_first_stop scene)) (at_first_stop scene) r ≡ edit
     edit_is =
-        let texts = here.texts table made pid m n r c p q lives also calm reads kind in
-        here.edit_is table made pid m n r c p q lives also calm reads kind ∙ ap (λ o. unwrap_or o (rewritten texts then_stop r)) is
+        let texts = here.texts path_call in
+        here.edit_is path_call ∙ ap (λ o. unwrap_or o (rewritten texts then_stop r)) is
 
-    kept_is : applied (edit_for (texts_at x.bindings x.tags (at_first_stop pid n)) (at_first_stop pid n) r) (at_first_stop pid n) ≡ applied edit then_stop
-    kept_is = ap (λ edit. applied edit (at_first_stop pid n)) edit_is ∙ ap (applied edit) (here.stop_is table made pid m n r c p q lives also calm reads kind)
+    kept_is : applied (edit_for (texts_at x.bindings x.tags (at_first_stop scene)) (at_first_stop scene) r) (at_first_stop scene) ≡ applied edit then_stop
+    kept_is = ap (λ edit. applied edit (at_first_stop scene)) edit_is ∙ ap (applied edit) (here.stop_is path_call)
 
-    pub answered_alike : IsAnsweredAlike table pid m n r alike.answer
+    pub answered_alike : IsAnsweredAlike scene r alike.answer
     answered_alike =
-        let here_is = sym (before.at_call_is table made pid m n c p q lives also) in
+        let here_is = sym (before.at_call_is callers) in
         record {
           decoded = reads;
           kind = is_told r kind;
           apart = apart;
           answers = ap (λ kept. kept.answer) kept_is ∙ alike.told;
           replies = subst (λ t. (done_in pid r (seen table pid t r) t).reply ≡ record { outcome = Answer alike.answer; changes = [] }) here_is alike.carried;
-          alike = subst (λ t. AreEqualUnmarked (done_in pid r (seen table pid t r) t).memory.pages (memory_at (applied (edit_for (texts_at x.bindings x.tags (at_first_stop pid n)) (at_first_stop pid n) r) (at_first_stop pid n)).stopped).pages) here_is
+          alike = subst (λ t. AreEqualUnmarked (done_in pid r (seen table pid t r) t).memory.pages (memory_at (applied (edit_for (texts_at x.bindings x.tags (at_first_stop scene)) (at_first_stop scene) r) (at_first_stop scene)).stopped).pages) here_is
               (subst (λ kept. AreEqualUnmarked (done_in pid r (seen table pid at r) at).memory.pages (memory_at kept.stopped).pages) (sym kept_is) alike.memories);
-          silent = silent (led_of (texts_at x.bindings x.tags (at_first_stop pid n)) pid r).index alike.answer;
+          silent = silent (led_of (texts_at x.bindings x.tags (at_first_stop scene)) pid r).index alike.answer;
         }

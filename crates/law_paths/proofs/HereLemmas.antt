@@ -1,13 +1,13 @@
 -- What is so of both machines where a call along paths is made: their states stand together, and the tracer goes by what the state with
 -- mounts tells.
-use Rattle.std.proofs.Common.{◌≡◌, ◌≤◌, ℕ, Bool, true, false, cond, List, Option, Some, None, Ok, refl, sym, ap, subst, ◌∙◌, arith}
+use Rattle.std.proofs.Common.{◌≡◌, ◌≤◌, ℕ, Bool, true, false, cond, Option, Some, None, Ok, refl, sym, ap, subst, ◌∙◌, arith}
 use Rattle.std.specs.Prelude.{nat_lt}
 use Rattle.std.specs.Option.{option_map_or}
 use Rattle.std.proofs.lemmas.Bool.Decides.{nat_tests}
 use Rattle.pt_args.specs.rv_mem.Actions.{AreEqualUnmarked}
 use Rattle.pt_args.specs.rv_mem.Layout.{layout_of}
 use Rattle.pt_args.specs.rv_mem.Memory.{Memory}
-use Rattle.law_plans.specs.kr_view.View.{Row, plain}
+use Rattle.law_plans.specs.kr_view.View.{plain}
 use Rattle.pt_args.specs.kr_calls.Decoding.{decoding}
 use Rattle.pt_args.specs.kr_calls.declared.request.Request.{Request}
 use Rattle.law_stops.specs.law_allowed.Texts.{LinksHaveTexts}
@@ -24,11 +24,9 @@ use Rattle.law_plans.specs.kr_seen.CallWalks.{call_reach}
 use Rattle.law_stops.specs.kr_steps.Computing.{computed}
 use Rattle.law_stops.specs.kr_turns.Breaking.{decoded_rule, nothing_reached, operated_rule, plain_rule_of}
 use Rattle.law_stops.specs.kr_stops.Stopped.{Stopped}
-use Rattle.law_stops.specs.kr_turns.Turn.{Machine, calling, watched_call}
-use Rattle.law_stops.specs.kr_stops.Watching.{unwatched}
 use Rattle.law_stops.proofs.kr_turns.PlainLemmas.{no-exec-rule}
 use Rattle.pt_args.specs.pt_canon.TextWalk.{TextSurroundings}
-use Rattle.law_plans.specs.pt_faker.Stopping.{after_request, decoded_at}
+use Rattle.law_plans.specs.pt_faker.Stopping.{after_request}
 use Rattle.law_plans.specs.pt_tracer.Planning.{edit_for, texts_at}
 use Rattle.law_plans.specs.pt_tracer.Watched.{Tracing}
 use Rattle.law_plans.proofs.law_walks.BareStateLemmas.{peeks_are_bare}
@@ -41,9 +39,9 @@ use Rattle.law_stops.specs.law_turns.PathCalls.{CallsPath, HasPath}
 use Rattle.law_stops.proofs.law_turns.RuleLemmas.{no_exec}
 use Rattle.law_stops.proofs.law_turns.SettingLemmas.{at_small}
 use Rattle.law_plans.specs.Begins.{StandTogether, told_texts}
-use Rattle.law_stops.specs.Cancelling.{at_first_stop}
-use Rattle.law_stops.specs.Turning.{ComeToCall}
+use Rattle.law_stops.specs.Scene.{IsCalm, Scene, asked, at_first_stop}
 use Rattle.law_stops.proofs.CallLemmas as before
+use Rattle.law_stops.proofs.CallerLemmas.{Callers}
 
 -- ---- rules that aren't broken
 
@@ -60,22 +58,33 @@ all_none false false false false true sixth e = absurd cc
 no_longer : (n : ℕ) → nat_lt 4000 n ≡ false → n ≤ 4000
 no_longer n e = grind (arith, nat_tests)
 
-module _ {S : Type 0} (table : List Row) (made pid : ℕ) (m : Machine S) (n : Machine Tracing) (r : Request) (c : ComeToCall table made pid m n) (p q : Process ℕ Image) (lives : process pid m.state ≡ Some p) (also : process pid n.state ≡ Some q)
-    (calm : (watched_call unwatched 1 table pid m).tally.broken ≡ None) (reads : (decoded_at (calling 1 pid m.state)).reply ≡ Ok r) (kind : HasPath r) where
+-- a calm call along paths of a caller of both machines
+pub record PathCall {S : Type 0} (scene : Scene S) : Type 0 where
+  pub callers : Callers scene
+  pub request : Request
+  pub calm : IsCalm scene
+  pub reads : asked scene ≡ Ok request
+  pub kind : HasPath request
+
+module _ {S : Type 0} {scene : Scene S} (path_call : PathCall scene) where
+  open scene use {table, made, pid, traced as n}
+  open path_call use {callers, request as r, calm, reads, kind}
+  open path_call.callers use {comes as c, also_caller as q, also_lives as also}
+
   abbrev pub x : Tracing
   x = n.watcher
 
   abbrev pub s1 : State ℕ Image
-  s1 = before.s1 table made pid m n c p q lives also
+  s1 = before.s1 callers
 
   abbrev pub p1 : Process ℕ Image
-  p1 = before.p1 table made pid m n c p q lives also
+  p1 = before.p1 callers
 
   abbrev pub then_stop : Stopped
-  then_stop = before.then_stop table made pid m n c p q lives also
+  then_stop = before.then_stop callers
 
   pub mine : CanBeCalled table made pid s1 p1
-  mine = before.can table made pid m n c p q lives also
+  mine = before.can callers
 
   -- behind decoding
   abbrev pub at : State ℕ Image
@@ -88,26 +97,26 @@ module _ {S : Type 0} (table : List Row) (made pid : ℕ) (m : Machine S) (n : M
   decoded_memory = (decoded_by q).memory
 
   pub reads_by : (decoded_by p1).reply ≡ Ok r
-  reads_by = sym (before.decoded_here table made pid m n c p q lives also) ∙ reads
+  reads_by = sym (before.decoded_here callers) ∙ reads
 
   pub reads_there : (decoded_by q).reply ≡ Ok r
-  reads_there = sym (before.requests table made pid m n c p q lives also calm) ∙ reads_by
+  reads_there = sym (before.requests callers calm) ∙ reads_by
 
   pub calls : CallsPath table made pid s1 p1 x.tags r
-  calls = let both = before.match1 table made pid m n c p q lives also in record { placed = both.placed; tagged = both.tagged; can = mine; decoded = reads_by; kind = kind }
+  calls = let both = before.match1 callers in record { placed = both.placed; tagged = both.tagged; can = mine; decoded = reads_by; kind = kind }
 
   pub match_at : IsMatch table x.tags at w2
   match_at =
-      let one = before.match1 table made pid m n c p q lives also in
+      let one = before.match1 callers in
       let process = mine.lasts.lawful.processes pid p1 mine.lives in
       let stays = stays-like (decoding p1.image.regs) p1.image.memory process.whole process.paged in
-      let left = before.pages_left table made pid m n c p q lives also in
+      let left = before.pages_left callers in
       let unmarked = subst (λ pages. AreEqualUnmarked pages (decoded_by q).memory.pages) (sym (decoding-leaves-pages p1.image.regs p1.image.memory mine.holds)) (subst (AreEqualUnmarked p1.image.memory.pages) (sym left) (one.images.memories pid p1 q mine.lives also)) in
       let both = match_computed table x.tags s1 n.state one pid p1 q mine.lives also p1.image.regs (decoded_by p1).memory (decoded_by q).memory unmarked stays (ap layout_of left) in
-      subst (λ regs. IsMatch table x.tags at (computed pid regs (decoded_by q).memory n.state)) (before.same_regs table made pid m n c p q lives also) both
+      subst (λ regs. IsMatch table x.tags at (computed pid regs (decoded_by q).memory n.state)) (before.same_regs callers) both
 
   pub together : StandTogether table x.tags at w2
-  together = record { matched = match_at; small = at_small table made pid s1 p1 x.tags r calls; plain_lawful = (before.can_then table made pid m n c p q lives also).lasts.lawful }
+  together = record { matched = match_at; small = at_small table made pid s1 p1 x.tags r calls; plain_lawful = (before.can_then callers).lasts.lawful }
 
   pub have_texts : LinksHaveTexts at.tree
   have_texts = (decoded_lasts table made pid s1 p1 mine).lasts.texts
@@ -120,25 +129,25 @@ module _ {S : Type 0} (table : List Row) (made pid : ℕ) (m : Machine S) (n : M
   abbrev pub texts : TextSurroundings
   texts = told_texts table at pid x.tags
 
-  pub stop_is : at_first_stop pid n ≡ then_stop
-  stop_is = ap after_request (before.calling_is table made pid m n c p q lives also) ∙ before.after_there table made pid m n c p q lives also
+  pub stop_is : at_first_stop scene ≡ then_stop
+  stop_is = ap after_request (before.calling_is callers) ∙ before.after_there callers
 
   pub texts_are : texts_at x.bindings x.tags then_stop ≡ texts
   texts_are =
       let peeks = peeks_are_bare ℕ ℕ (pins_of table) (pins_of plain) at w2 pid match_at.bares in
       λ i. record { bindings = c.traces.bindings i; peeked = sym peeks i; tags = x.tags }
 
-  pub edit_is : edit_for (texts_at x.bindings x.tags (at_first_stop pid n)) (at_first_stop pid n) r ≡ edit_for texts then_stop r
+  pub edit_is : edit_for (texts_at x.bindings x.tags (at_first_stop scene)) (at_first_stop scene) r ≡ edit_for texts then_stop r
   edit_is = ap (λ t. edit_for (texts_at x.bindings x.tags t) t r) stop_is ∙ ap (λ texts. edit_for texts then_stop r) texts_are
 
   -- ---- the second rule and the sixth
 
-  calm_row : operated_rule 1 table pid (before.lacks table made pid m n c p q lives also) r at ≡ None
+  calm_row : operated_rule 1 table pid (before.lacks callers) r at ≡ None
   calm_row =
-      let lacks = before.lacks table made pid m n c p q lives also in
+      let lacks = before.lacks callers in
       no-exec-rule 1 table pid lacks at r (no_exec r kind)
       ∙ sym (ap (λ o. option_map_or (plain_rule_of 1 table pid lacks s1) o None) mine.lives ∙ ap (λ reply. decoded_rule 1 table pid lacks reply at) reads_by)
-      ∙ before.calm_call table made pid m n c p q lives also calm
+      ∙ before.calm_call callers calm
 
   pub within : breaks_2 table at.tree r (targets_of table pid at r) ≡ false
   within = (all_none _ _ _ _ _ _ calm_row).0

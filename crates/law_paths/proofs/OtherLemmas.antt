@@ -2,18 +2,14 @@
 use Rattle.std.proofs.Common.{◌≡◌, ◌⊎◌, inl, inr, true, Ok, Err, refl, sym, subst}
 use Rattle.std.specs.Prelude.{not}
 use Rattle.pt_args.specs.Laws.{ShelvesHoldTheirItems, TextsAreReadBack}
-use Rattle.law_plans.specs.kr_view.View.{plain}
 use Rattle.pt_args.specs.kr_calls.CallTable.{Told, ToldNothing, line}
 use Rattle.pt_args.specs.kr_calls.Decoding.{Decoded}
 use Rattle.pt_args.specs.kr_calls.declared.request.Request.{Request}
 use Rattle.pt_args.specs.kr_calls.declared.request.Request.TheVariants as call
-use Rattle.law_stops.specs.kr_turns.Turn.{calling, watched_call}
-use Rattle.law_stops.specs.kr_stops.Watching.{unwatched}
-use Rattle.law_plans.specs.pt_faker.Stopping.{decoded_at}
-use Rattle.law_plans.specs.pt_tracer.Watched.{tracer}
 use Rattle.law_stops.specs.law_turns.Pathless.{IsPathless, TellsNothing}
 use Rattle.law_stops.specs.law_turns.PathCalls.{HasPath, TellsPath}
-use Rattle.law_stops.specs.Turning.{ComeFromCall, HasNoPath}
+use Rattle.law_stops.specs.Scene.{asked}
+use Rattle.law_stops.specs.Turning.{HasNoPath, StayTogether}
 use Rattle.law_stops.proofs.CallLemmas.{pathless_calls_go_together}
 use Rattle.law_paths.specs.Calls.{OtherCallsGoTogether, executes_nothing, is_execve}
 use Rattle.law_paths.proofs.JoinLemmas.{path_calls_go_together}
@@ -27,15 +23,12 @@ either (call.Execve path args env) other = absurd cc
 either r other = one_or_none (line r).told
 
 pub other_calls_go_together : TextsAreReadBack → ShelvesHoldTheirItems → (S : Type 0) → OtherCallsGoTogether S
-other_calls_go_together back shelves S table made pid m n c other calm = by (decoded_at (calling 1 pid m.state)).reply refl other
+other_calls_go_together back shelves S table scene over comes other calm = by (asked scene) refl other
   where
-    Together : Type 0
-    Together = ComeFromCall table made (watched_call unwatched 1 table pid m) (watched_call tracer 0 plain pid n)
+    request : (r : Request) → asked scene ≡ Ok r → IsPathless r ⊎ HasPath r → StayTogether scene
+    request r is (inl pathless) = pathless_calls_go_together S scene comes (subst HasNoPath (sym is) pathless) calm
+    request r is (inr path) = path_calls_go_together back shelves S scene r comes is path calm
 
-    request : (r : Request) → (decoded_at (calling 1 pid m.state)).reply ≡ Ok r → IsPathless r ⊎ HasPath r → Together
-    request r is (inl pathless) = pathless_calls_go_together S table made pid m n c (subst HasNoPath (sym is) pathless) calm
-    request r is (inr path) = path_calls_go_together back shelves S table made pid m n r c is path calm
-
-    by : (reply : Decoded) → (decoded_at (calling 1 pid m.state)).reply ≡ reply → executes_nothing reply ≡ true → Together
+    by : (reply : Decoded) → asked scene ≡ reply → executes_nothing reply ≡ true → StayTogether scene
     by (Ok r) is other = request r is (either r other)
-    by (Err e) is other = pathless_calls_go_together S table made pid m n c (subst HasNoPath (sym is) tt) calm
+    by (Err e) is other = pathless_calls_go_together S scene comes (subst HasNoPath (sym is) tt) calm

@@ -1,5 +1,5 @@
 -- A call along paths of which the tracer makes what its plan says: it is passed, swapped or cancelled as the kernel with mounts has it.
-use Rattle.std.proofs.Common.{◌≡◌, inl, ℕ, Bool, true, List, Option, Some, None, Ok, sym, ap, subst, ◌∙◌}
+use Rattle.std.proofs.Common.{◌≡◌, inl, ℕ, Bool, true, Option, Some, None, Ok, sym, ap, subst, ◌∙◌}
 use Rattle.std.specs.Option.{unwrap_or}
 use Rattle.pt_args.specs.rv_mem.Actions.{carried_out}
 use Rattle.pt_args.specs.Edits.{edit_of}
@@ -10,23 +10,20 @@ use Rattle.pt_args.specs.declared.edit.Edit.{Edit}
 use Rattle.pt_args.specs.declared.edit.Edit.TheVariants.{Cancel, Pass}
 use Rattle.law_stops.specs.pt_results.Answers.{link_answer}
 use Rattle.law_plans.specs.pr_base.declared.errno.Errno.{Errno}
-use Rattle.law_plans.specs.kr_view.View.{Row, plain}
+use Rattle.law_plans.specs.kr_view.View.{plain}
 use Rattle.pt_args.specs.kr_calls.CallTable.{line}
 use Rattle.pt_args.specs.kr_calls.Decoding.{decoding}
 use Rattle.pt_args.specs.kr_calls.PathTable.{PathUse, path_at}
-use Rattle.pt_args.specs.kr_calls.declared.request.Request.{Request}
 use Rattle.law_stops.proofs.law_allowed.RowLemmas.{StaysLike, stays-like}
 use Rattle.law_plans.specs.kr_model.Known.{known}
 use Rattle.law_plans.specs.kr_model.Operation.{operation}
 use Rattle.law_plans.specs.kr_model.Reply.{refuse}
 use Rattle.law_plans.specs.kr_model.Seen.{WalkFails}
-use Rattle.law_plans.specs.kr_model.State.{Image, Process, State, image_layout, process}
+use Rattle.law_plans.specs.kr_model.State.{Image, State, image_layout}
 use Rattle.law_plans.specs.kr_model.Walks.{seen}
 use Rattle.law_stops.specs.kr_stops.Stopped.{Stopped, edited}
 use Rattle.law_stops.specs.kr_turns.Target.{LooksUpOne}
-use Rattle.law_stops.specs.kr_turns.Turn.{Machine, calling, watched_call}
-use Rattle.law_stops.specs.kr_stops.Watching.{unwatched}
-use Rattle.law_plans.specs.pt_faker.Stopping.{after_request, decoded_at, memory_at}
+use Rattle.law_plans.specs.pt_faker.Stopping.{after_request, memory_at}
 use Rattle.law_plans.specs.pt_tracer.Planning.{answered, edit_for, rewritten, stack_at, texts_at}
 use Rattle.law_plans.specs.pt_tracer.Watched.{Tracing, applied}
 use Rattle.law_plans.specs.law_edits.Operations.{HasFirst}
@@ -36,14 +33,12 @@ use Rattle.law_plans.specs.law_edits.Stops.{CanBeSwapped}
 use Rattle.law_plans.proofs.law_edits.OperationLemmas.{operations_are_same}
 use Rattle.law_stops.specs.law_turns.Calls.{decoded_by}
 use Rattle.law_stops.proofs.law_turns.CalledLemmas.{decoded_holds}
-use Rattle.law_stops.specs.law_turns.PathCalls.{HasPath}
 use Rattle.law_stops.proofs.law_turns.RuleLemmas.{no_exec}
 use Rattle.law_plans.specs.Plans.{Cancelling, HasFirstOfTwo, IsEdit, IsNewIfAny, IsPassed, IsPlanned, IsSwapped, Passing, PlanAgrees, Swapping, shelved_texts}
 use Rattle.law_plans.proofs.PlanLemmas as planning
 use Rattle.law_plans.specs.Short.{IsShort, IsShortIfAny, IsShortPlan}
-use Rattle.law_stops.specs.Cancelling.{at_first_stop}
+use Rattle.law_stops.specs.Scene.{Scene, at_first_stop, caller_here, caller_there}
 use Rattle.law_stops.specs.Swapping.{IsPassedAlike, IsSwappedAlike}
-use Rattle.law_stops.specs.Turning.{ComeToCall}
 use Rattle.law_stops.proofs.CallLemmas as before
 use Rattle.law_stops.proofs.CallLemmas.{own_image}
 use Rattle.law_stops.proofs.SwapLemmas as swap
@@ -52,51 +47,55 @@ use Rattle.law_paths.specs.Calls.{Cancelled, MadeAlike, Passed, Swapped}
 use Rattle.law_paths.proofs.HereLemmas as here
 use Rattle.law_paths.proofs.ShelfLemmas.{both_shelved, can_be_path, can_swap, one_shelved, shelf_then}
 use Rattle.law_paths.proofs.ToldLemmas.{is_told, told_along}
+use Rattle.law_paths.proofs.HereLemmas.{PathCall}
 
 swap_is_no_pass : (sp : ℕ) (first : NewText) (second : Option NewText) → Pass ≡ swap_edit sp first second → ⊥
 swap_is_no_pass sp first None e = cc
 swap_is_no_pass sp first (Some second) e = cc
 
-module _ {S : Type 0} (table : List Row) (made pid : ℕ) (m : Machine S) (n : Machine Tracing) (r : Request) (c : ComeToCall table made pid m n) (p q : Process ℕ Image) (lives : process pid m.state ≡ Some p) (also : process pid n.state ≡ Some q)
-    (calm : (watched_call unwatched 1 table pid m).tally.broken ≡ None) (reads : (decoded_at (calling 1 pid m.state)).reply ≡ Ok r) (kind : HasPath r) where
+module _ {S : Type 0} {scene : Scene S} (path_call : PathCall scene) where
+  open scene use {table, made, pid, traced as n}
+  open path_call use {callers, request as r, reads, kind}
+  open path_call.callers use {comes as c, also_caller as q}
+
   abbrev pub at : State ℕ Image
-  at = here.at table made pid m n r c p q lives also calm reads kind
+  at = here.at path_call
 
   abbrev pub w2 : State ℕ Image
-  w2 = here.w2 table made pid m n r c p q lives also calm reads kind
+  w2 = here.w2 path_call
 
   abbrev x : Tracing
   x = n.watcher
 
   abbrev stop : Stopped
-  stop = before.stop table made pid m n c p q lives also
+  stop = before.stop callers
 
   abbrev pub then_stop : Stopped
-  then_stop = before.then_stop table made pid m n c p q lives also
+  then_stop = before.then_stop callers
 
   abbrev pub first_edit : Edit
-  first_edit = edit_for (texts_at x.bindings x.tags (at_first_stop pid n)) (at_first_stop pid n) r
+  first_edit = edit_for (texts_at x.bindings x.tags (at_first_stop scene)) (at_first_stop scene) r
 
-  module _ (u : PathUse) (path : path_at r 0 ≡ Some u) (first_of_two : HasFirstOfTwo r) (unlinked : link_answer (here.texts table made pid m n r c p q lives also calm reads kind) pid r ≡ None)
-      (unanswered : answered (here.texts table made pid m n r c p q lives also calm reads kind) then_stop r ≡ None) where
+  module _ (u : PathUse) (path : path_at r 0 ≡ Some u) (first_of_two : HasFirstOfTwo r) (unlinked : link_answer (here.texts path_call) pid r ≡ None)
+      (unanswered : answered (here.texts path_call) then_stop r ≡ None) where
     pub is_planned : IsPlanned table x.tags at w2 pid r
     is_planned = record {
       kind = no_exec r kind;
-      together = here.together table made pid m n r c p q lives also calm reads kind;
-      links = here.have_texts table made pid m n r c p q lives also calm reads kind;
-      texts = here.text_paths table made pid m n r c p q lives also calm reads kind;
+      together = here.together path_call;
+      links = here.have_texts path_call;
+      texts = here.text_paths path_call;
       first = first_of_two;
       unanswered = unlinked;
-      within = here.within table made pid m n r c p q lives also calm reads kind;
+      within = here.within path_call;
     }
 
     -- the edit is that of the plan
     edit_at : (edit : ℕ → Bool → Edit) → IsEdit table x.tags at w2 pid r edit → first_edit ≡ edit (stack_at then_stop) true
     edit_at edit is =
-        let texts = here.texts table made pid m n r c p q lives also calm reads kind in
-        here.edit_is table made pid m n r c p q lives also calm reads kind
+        let texts = here.texts path_call in
+        here.edit_is path_call
         ∙ ap (λ o. unwrap_or o (rewritten texts then_stop r)) unanswered
-        ∙ ap (λ usable. edit_of texts pid (stack_at then_stop) usable r) (shelf_then table made pid m n r c p q lives also calm reads kind 0 u path)
+        ∙ ap (λ usable. edit_of texts pid (stack_at then_stop) usable r) (shelf_then path_call 0 u path)
         ∙ is (stack_at then_stop) true
 
     -- ---- a call that passes
@@ -110,12 +109,12 @@ module _ {S : Type 0} (table : List Row) (made pid : ℕ) (m : Machine S) (n : M
 
       left_so : (applied (edit_for (texts_at x.bindings x.tags (after_request stop)) (after_request stop) r) (after_request stop)).stopped ≡ edited q.image.regs (decoded_by q).memory stop
       left_so =
-          ap (λ edit. (applied edit (after_request stop)).stopped) (ap (λ t. edit_for (texts_at x.bindings x.tags (after_request t)) (after_request t) r) (sym (before.calling_is table made pid m n c p q lives also)) ∙ passes)
+          ap (λ edit. (applied edit (after_request stop)).stopped) (ap (λ t. edit_for (texts_at x.bindings x.tags (after_request t)) (after_request t) r) (sym (before.calling_is callers)) ∙ passes)
           ∙ ap (λ (image : Image). edited image.regs (carried_out (decoding image.regs) image.memory).memory stop) (own_image pid n.state q also)
 
-      passed_alike : IsPassedAlike table pid m n r
+      passed_alike : IsPassedAlike scene r
       passed_alike = record {
-        told = told_along table made pid m n r c p q lives also calm reads kind r q.image.regs (decoded_by q).memory stays (decoded_holds plain made pid n.state q (before.can_too table made pid m n c p q lives also)) left_so
+        told = told_along path_call r q.image.regs (decoded_by q).memory stays (decoded_holds plain made pid n.state q (before.can_too callers)) left_so
             (ap (λ seen. operation pid r seen (known image_layout pid at)) passed.told) (inl passed.mounts) (λ _. passed.told);
         passes = passes;
       }
@@ -131,28 +130,28 @@ module _ {S : Type 0} (table : List Row) (made pid : ℕ) (m : Machine S) (n : M
       swaps_then : first_edit ≡ swap_edit (stack_at then_stop) first second
       swaps_then = edit_at (shelved_texts table x.tags at w2 pid r first second) edit ∙ shelved second short.1
 
-      swaps : first_edit ≡ swap_edit (stack_at (at_first_stop pid n)) first second
-      swaps = swaps_then ∙ ap (λ t. swap_edit (stack_at t) first second) (sym (here.stop_is table made pid m n r c p q lives also calm reads kind))
+      swaps : first_edit ≡ swap_edit (stack_at (at_first_stop scene)) first second
+      swaps = swaps_then ∙ ap (λ t. swap_edit (stack_at t) first second) (sym (here.stop_is path_call))
 
       second_path : (second : Option NewText) → IsNewIfAny table at w2 pid r second → IsShortIfAny second → CanSecondBePath second
       second_path None is few = tt
       second_path (Some second) is few = can_be_path second is few
 
-      can : CanBeSwapped (calling 0 pid n.state) (memory_at (calling 1 pid m.state)) r first second
-      can = can_swap table made pid m n r c p q lives also calm reads kind 0 u path first second swapped.paths (can_be_path first swapped.one short.0) (second_path second swapped.two short.1)
+      can : CanBeSwapped (caller_there scene) (memory_at (caller_here scene)) r first second
+      can = can_swap path_call 0 u path first second swapped.paths (can_be_path first swapped.one short.0) (second_path second swapped.two short.1)
 
       -- an empty path is never swapped
       has_first : HasFirst r
       has_first v path none =
-          let texts = here.texts table made pid m n r c p q lives also calm reads kind in
+          let texts = here.texts path_call in
           swap_is_no_pass (stack_at then_stop) first second
           (sym (planning.edit_is table x.tags at pid r v path (stack_at then_stop) true (Ok None) (ap (walked_along texts pid (opens r) v) none)) ∙ edit (stack_at then_stop) true ∙ shelved second short.1)
 
-      swapped_alike : IsSwappedAlike table pid m n r first second
+      swapped_alike : IsSwappedAlike scene r first second
       swapped_alike = record {
-        told = told_along table made pid m n r c p q lives also calm reads kind (with_swaps first second r) (swap.regs3 back shelves table made pid m n r first second c can swaps p q lives also) (swap.memory3 back shelves table made pid m n r first second c can swaps p q lives also)
-            (swap.swap_stays back shelves table made pid m n r first second c can swaps p q lives also) (swap.swap_bytes back shelves table made pid m n r first second c can swaps p q lives also (is_told r kind))
-            (swap.swap_left back shelves table made pid m n r first second c can swaps p q lives also)
+        told = told_along path_call (with_swaps first second r) (swap.regs3 back shelves callers r first second can swaps) (swap.memory3 back shelves callers r first second can swaps)
+            (swap.swap_stays back shelves callers r first second can swaps) (swap.swap_bytes back shelves callers r first second can swaps (is_told r kind))
+            (swap.swap_left back shelves callers r first second can swaps)
             (swapped.told ∙ sym (operations_are_same pid r first second (seen plain pid w2 (with_swaps first second r)) (known image_layout pid at) (no_exec r kind) has_first (can_be_path first swapped.one short.0).some)) swapped.mounts swapped.looked;
         swaps = swaps;
         can = can;
@@ -160,7 +159,7 @@ module _ {S : Type 0} (table : List Row) (made pid : ℕ) (m : Machine S) (n : M
 
     -- ---- whatever the plan is
 
-    pub planned_alike : TextsAreReadBack → ShelvesHoldTheirItems → (plan : PlanAgrees table x.tags at w2 pid r) → IsShortPlan table x.tags at w2 pid r plan → MadeAlike table pid m n r
+    pub planned_alike : TextsAreReadBack → ShelvesHoldTheirItems → (plan : PlanAgrees table x.tags at w2 pid r) → IsShortPlan table x.tags at w2 pid r plan → MadeAlike scene r
     planned_alike back shelves (Passing edit passed) short = Passed (passed_alike edit passed)
     planned_alike back shelves (Swapping first second edit swapped) short = Swapped first second (swapped_alike back shelves first second edit swapped short)
     planned_alike back shelves (Cancelling e edit refuses lost) short =
@@ -169,6 +168,6 @@ module _ {S : Type 0} (table : List Row) (made pid : ℕ) (m : Machine S) (n : M
           decoded = reads;
           kind = no_exec r kind;
           cancels = edit_at (λ sp usable. Cancel e) edit;
-          refuses = subst (λ t. operation pid r (seen table pid t r) (known image_layout pid t) ≡ refuse e) (sym (before.at_call_is table made pid m n c p q lives also)) refuses;
-          lost = subst (λ t. LooksUpOne (line r).told → (f : Errno) × (seen table pid t r ≡ WalkFails f)) (sym (before.at_call_is table made pid m n c p q lives also)) lost;
+          refuses = subst (λ t. operation pid r (seen table pid t r) (known image_layout pid t) ≡ refuse e) (sym (before.at_call_is callers)) refuses;
+          lost = subst (λ t. LooksUpOne (line r).told → (f : Errno) × (seen table pid t r ≡ WalkFails f)) (sym (before.at_call_is callers)) lost;
         })

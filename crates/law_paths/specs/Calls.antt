@@ -1,40 +1,34 @@
 -- Calls along paths, other than execve(2), with their stops.
-use Rattle.std.specs.Prelude.{◌≡◌, ℕ, ℤ, Bool, true, false, not, List, Option, None, Ok, Err}
+use Rattle.std.specs.Prelude.{◌≡◌, ℤ, Bool, true, false, not, List, Option, Ok, Err}
 use Rattle.law_plans.specs.pr_base.declared.errno.Errno.{Errno}
-use Rattle.law_plans.specs.kr_view.View.{Row, plain}
+use Rattle.law_plans.specs.kr_view.View.{Row}
 use Rattle.pt_args.specs.kr_calls.Decoding.{Decoded}
 use Rattle.pt_args.specs.kr_calls.declared.request.Request.{Request}
 use Rattle.pt_args.specs.kr_calls.declared.request.Request.TheVariants as call
 use Rattle.law_stops.specs.kr_stops.Stopped.{Stopped}
-use Rattle.law_stops.specs.kr_turns.Turn.{Machine, calling, watched_call}
-use Rattle.law_stops.specs.kr_stops.Watching.{unwatched}
 use Rattle.law_plans.specs.pt_faker.Stopping.{decoded_at}
-use Rattle.law_plans.specs.pt_tracer.Watched.{Tracing, tracer}
 use Rattle.law_stops.specs.law_turns.PathCalls.{HasPath}
 use Rattle.law_plans.specs.law_edits.Requests.{NewText}
 use Rattle.law_stops.specs.Answering.{IsAnsweredAlike}
 use Rattle.law_stops.specs.Cancelling.{IsCancelledAlike}
+use Rattle.law_stops.specs.Scene.{IsCalm, Scene, asked}
 use Rattle.law_stops.specs.Swapping.{IsPassedAlike, IsSwappedAlike}
 use Rattle.law_stops.specs.Together.{CallsGoTogether}
-use Rattle.law_stops.specs.Turning.{ComeFromCall, ComeToCall}
+use Rattle.law_stops.specs.Turning.{ComeToCall, StayTogether}
 
 -- what the tracer makes of such a call: it leaves it as it is, swaps its paths, cancels it or answers it, as the kernel with mounts has it
-pub data MadeAlike {S : Type 0} (table : List Row) (pid : ℕ) (m : Machine S) (n : Machine Tracing) (r : Request) : Type 0 where
-  Passed : IsPassedAlike table pid m n r → MadeAlike table pid m n r
-  Swapped : (first : NewText) (second : Option NewText) → IsSwappedAlike table pid m n r first second → MadeAlike table pid m n r
-  Cancelled : (e : Errno) → IsCancelledAlike table pid m n r e → MadeAlike table pid m n r
-  Answered : (answer : ℤ) → IsAnsweredAlike table pid m n r answer → MadeAlike table pid m n r
+pub data MadeAlike {S : Type 0} (scene : Scene S) (r : Request) : Type 0 where
+  Passed : IsPassedAlike scene r → MadeAlike scene r
+  Swapped : (first : NewText) (second : Option NewText) → IsSwappedAlike scene r first second → MadeAlike scene r
+  Cancelled : (e : Errno) → IsCancelledAlike scene r e → MadeAlike scene r
+  Answered : (answer : ℤ) → IsAnsweredAlike scene r answer → MadeAlike scene r
 
 abbrev pub PathCallsAreMadeAlike : Type 0 → Type 0
-PathCallsAreMadeAlike S =
-    (table : List Row) (made pid : ℕ) (m : Machine S) (n : Machine Tracing) (r : Request) → ComeToCall table made pid m n → (decoded_at (calling 1 pid m.state)).reply ≡ Ok r → HasPath r → (watched_call unwatched 1 table pid m).tally.broken ≡ None
-    → MadeAlike table pid m n r
+PathCallsAreMadeAlike S = (scene : Scene S) (r : Request) → ComeToCall scene → asked scene ≡ Ok r → HasPath r → IsCalm scene → MadeAlike scene r
 
 -- where it breaks no calm rule, such a call and its stops keep the match
 abbrev pub PathCallsGoTogether : Type 0 → Type 0
-PathCallsGoTogether S =
-    (table : List Row) (made pid : ℕ) (m : Machine S) (n : Machine Tracing) (r : Request) → ComeToCall table made pid m n → (decoded_at (calling 1 pid m.state)).reply ≡ Ok r → HasPath r → (watched_call unwatched 1 table pid m).tally.broken ≡ None
-    → ComeFromCall table made (watched_call unwatched 1 table pid m) (watched_call tracer 0 plain pid n)
+PathCallsGoTogether S = (scene : Scene S) (r : Request) → ComeToCall scene → asked scene ≡ Ok r → HasPath r → IsCalm scene → StayTogether scene
 
 -- a call that is decoded is execve(2)
 abbrev pub is_execve : Request → Bool

@@ -1,6 +1,6 @@
 -- A call that the tracer answers at its first stop, and the kernel with mounts alike.
 use Rattle.std.specs.FinMap as map
-use Rattle.std.proofs.Common.{◌≡◌, ℕ, suc, Bool, true, false, cond, List, [], ◌∷◌, Option, Some, None, Ok, refl, sym, ap, subst, ◌∙◌, ℤ, eq-eqb}
+use Rattle.std.proofs.Common.{◌≡◌, ℕ, suc, Bool, true, false, cond, List, [], ◌∷◌, Some, None, Ok, refl, sym, ap, subst, ◌∙◌, ℤ, eq-eqb}
 use Rattle.std.specs.Prelude.{◌==◌, IsSome, slice_set}
 use Rattle.std.specs.Int.{cast_signed, w64}
 use Rattle.std.specs.Option.{option_map}
@@ -17,7 +17,7 @@ use Rattle.law_edits.specs.pt_ident.Identity.{refusal}
 use Rattle.pt_args.specs.declared.edit.Edit.TheVariants.{Cancel}
 use Rattle.law_turns.specs.pt_results.Numbers.{made_number}
 use Rattle.law_turns.specs.pt_results.Notes.{noted, noted_of, tags_after}
-use Rattle.law_edits.specs.kr_view.View.{Row, plain}
+use Rattle.law_edits.specs.kr_view.View.{plain}
 use Rattle.pt_args.specs.kr_calls.Decoding.{decoding}
 use Rattle.pt_args.specs.kr_calls.PathTable.{path_at}
 use Rattle.pt_args.specs.kr_calls.declared.request.Request.{Request}
@@ -40,7 +40,7 @@ use Rattle.law_turns.specs.kr_steps.Computing.{computed}
 use Rattle.law_turns.specs.kr_steps.Settling.{settled}
 use Rattle.law_turns.specs.kr_turns.PlainCall.{Came, child_of, end_of, operated, plain_call, refusal_told}
 use Rattle.law_turns.specs.kr_stops.Stopped.{IsThere, Stopped, edited, image_at, nothing_handed}
-use Rattle.law_turns.specs.kr_turns.Turn.{Machine, Tally, after_born, after_end, after_exit, after_plain, called, watched_call}
+use Rattle.law_turns.specs.kr_turns.Turn.{Machine, Tally, after_born, after_end, after_exit, after_plain, called}
 use Rattle.law_turns.specs.kr_stops.Watching.{unwatched}
 use Rattle.law_turns.proofs.kr_stops.EditLemmas.{edited-twice, image-edited, there}
 use Rattle.law_turns.proofs.kr_turns.PlainLemmas.{no-exec-requested}
@@ -66,12 +66,13 @@ use Rattle.law_turns.proofs.CalledLemmas.{calls_last, decoded_lasts, decoded_liv
 use Rattle.law_turns.proofs.ImageLemmas.{given}
 use Rattle.law_turns.proofs.MatchLemmas.{match_computed}
 use Rattle.law_turns.proofs.OperateLemmas.{with_own_registers}
-use Rattle.law_turns.proofs.RunLemmas.{lives_too}
 use Rattle.law_turns.proofs.SettleLemmas.{match_settled}
-use Rattle.law_stops.specs.Cancelling.{CancelledCallsGoTogether, IsCancelledAlike, at_call}
-use Rattle.law_stops.specs.Turning.{ComeFromCall, ComeToCall}
+use Rattle.law_stops.specs.Cancelling.{CancelledCallsGoTogether, IsCancelledAlike}
+use Rattle.law_stops.specs.Scene.{IsCalm, Scene, at_call, mounted_after, traced_after}
+use Rattle.law_stops.specs.Turning.{ComeFromCall, StayTogether}
 use Rattle.law_stops.proofs.CallLemmas as before
 use Rattle.law_stops.proofs.CallLemmas.{exit_status, own_image, unwatched_exit}
+use Rattle.law_stops.proofs.CallerLemmas.{Callers, callers_of}
 
 -- ---- one change of a process behind another
 
@@ -119,8 +120,10 @@ pub none_made : (e : Errno) → made_number (cast_signed w64 (word_of (refusal e
 none_made ENOSYS = refl
 none_made _ = refl
 
-module _ {S : Type 0} (table : List Row) (made pid : ℕ) (m : Machine S) (n : Machine Tracing) (c : ComeToCall table made pid m n) (p q : Process ℕ Image) (lives : process pid m.state ≡ Some p) (also : process pid n.state ≡ Some q)
-    (calm : (watched_call unwatched 1 table pid m).tally.broken ≡ None) where
+module _ {S : Type 0} {scene : Scene S} (callers : Callers scene) (calm : IsCalm scene) where
+  open scene use {table, made, pid, mounted as m, traced as n}
+  open callers use {comes as c, also_caller as q, also_lives as also}
+
   abbrev x : Tracing
   x = n.watcher
 
@@ -128,22 +131,22 @@ module _ {S : Type 0} (table : List Row) (made pid : ℕ) (m : Machine S) (n : M
   w = n.state
 
   abbrev s1 : State ℕ Image
-  s1 = before.s1 table made pid m n c p q lives also
+  s1 = before.s1 callers
 
   abbrev p1 : Process ℕ Image
-  p1 = before.p1 table made pid m n c p q lives also
+  p1 = before.p1 callers
 
   abbrev stop : Stopped
-  stop = before.stop table made pid m n c p q lives also
+  stop = before.stop callers
 
   lives1 : process pid s1 ≡ Some p1
-  lives1 = before.lives1 table made pid m n c p q lives also
+  lives1 = before.lives1 callers
 
   match1 : IsMatch table x.tags s1 w
-  match1 = before.match1 table made pid m n c p q lives also
+  match1 = before.match1 callers
 
   same_regs : p1.image.regs ≡ q.image.regs
-  same_regs = before.same_regs table made pid m n c p q lives also
+  same_regs = before.same_regs callers
 
   there_stop : IsThere stop
   there_stop = there w pid nothing_handed q c.also_lasts.lawful.pids also
@@ -159,7 +162,7 @@ module _ {S : Type 0} (table : List Row) (made pid : ℕ) (m : Machine S) (n : M
     done = (done_in pid r (seen table pid at r) at).memory
 
     decoded_stop : (decoded_at stop).reply ≡ Ok r
-    decoded_stop = before.decoded_there table made pid m n c p q lives also ∙ sym (before.requests table made pid m n c p q lives also calm) ∙ is
+    decoded_stop = before.decoded_there callers ∙ sym (before.requests callers calm) ∙ is
 
     -- the memory that the tracer leaves, and what it tells; on the other machine the row changes nothing, and answers so
     module _ (left : Memory) (led : Led) (answer : ℤ) (like : StaysLike q.image.memory.pages left.pages) (alike : AreEqualUnmarked done.pages left.pages)
@@ -225,7 +228,7 @@ module _ {S : Type 0} (table : List Row) (made pid : ℕ) (m : Machine S) (n : M
 
       state_is : (operated table pid r at).state ≡ answered pid answer (computed pid p1.image.regs done s1)
       state_is =
-          let mine = before.can table made pid m n c p q lives also in
+          let mine = before.can callers in
           ap (λ (reply : Reply). settled pid reply.outcome (all_applied images (mounts_walked (targets_of table pid at r)) pid reply.changes (with_memory_of pid done at))) replies
           ∙ ap (answered pid answer)
           (with_own_registers pid done at.next_pid at (decoded_process table made pid s1 p1 mine) (decoded_lasts table made pid s1 p1 mine).lawful.pids.living (decoded_lives table made pid s1 p1 mine)
@@ -233,7 +236,7 @@ module _ {S : Type 0} (table : List Row) (made pid : ℕ) (m : Machine S) (n : M
 
       stays : StaysLike p1.image.memory.pages done.pages
       stays =
-          let mine = before.can table made pid m n c p q lives also in
+          let mine = before.can callers in
           let own = mine.lasts.lawful.processes pid p1 lives1 in
           let first = stays-like (decoding p1.image.regs) p1.image.memory own.whole own.paged in
           let memory = decoded_memory table made pid s1 p1 mine in
@@ -250,38 +253,38 @@ module _ {S : Type 0} (table : List Row) (made pid : ℕ) (m : Machine S) (n : M
 
       module _ (alone : (next : ℕ) → child_of next r (Answer answer) ≡ None) where
         abbrev tally : Tally
-        tally = before.unjudged table made pid m n c p q lives also v
+        tally = before.unjudged callers v
 
         abbrev given_back : Tracing × Stopped
         given_back = left_with y stop2 r led (word_of answer) (image_at stop).regs.x
 
-        traced_is : watched_call tracer 0 plain pid n ≡ record { state = told; watcher = given_back.0; tally = tally }
+        traced_is : traced_after scene ≡ record { state = told; watcher = given_back.0; tally = tally }
         traced_is =
-            before.traced_call table made pid m n c p q lives also y v entered_is
+            before.traced_call callers y v entered_is
             ∙ ap (λ came. after_plain tracer pid came y tally) came_is
             ∙ ap (after_exit tracer stop2 y tally) lives3
             ∙ ap (λ (e : Tracing × Stopped). record { state = e.1.state; watcher = e.0; tally = tally }) exits
             ∙ ap (λ t. record { state = t; watcher = given_back.0; tally = tally }) left_state
 
         abbrev behind : Machine S
-        behind = after_exit unwatched (called pid (operated table pid r at)) (after_born unwatched pid (operated table pid r at).child m.watcher) (before.judged table made pid m n c p q lives also) (process pid (operated table pid r at).state)
+        behind = after_exit unwatched (called pid (operated table pid r at)) (after_born unwatched pid (operated table pid r at).child m.watcher) (before.judged callers) (process pid (operated table pid r at).state)
 
-        mounted_is : watched_call unwatched 1 table pid m ≡ behind
+        mounted_is : mounted_after scene ≡ behind
         mounted_is =
-            before.mounted_call table made pid m n c p q lives also
-            ∙ ap (λ came. after_plain unwatched pid came m.watcher (before.judged table made pid m n c p q lives also)) state_here
-            ∙ ap (λ (reply : Reply). after_end unwatched pid (end_of r reply.outcome) (called pid (operated table pid r at)) (after_born unwatched pid (operated table pid r at).child m.watcher) (before.judged table made pid m n c p q lives also)) replies
+            before.mounted_call callers
+            ∙ ap (λ came. after_plain unwatched pid came m.watcher (before.judged callers)) state_here
+            ∙ ap (λ (reply : Reply). after_end unwatched pid (end_of r reply.outcome) (called pid (operated table pid r at)) (after_born unwatched pid (operated table pid r at).child m.watcher) (before.judged callers)) replies
 
-        pub answered_together : ComeFromCall table made (watched_call unwatched 1 table pid m) (watched_call tracer 0 plain pid n)
+        pub answered_together : StayTogether scene
         answered_together =
-            let mine : behind.state ≡ (operated table pid r at).state = unwatched_exit pid (called pid (operated table pid r at)) (after_born unwatched pid (operated table pid r at).child m.watcher) (before.judged table made pid m n c p q lives also) (process pid (operated table pid r at).state) in
-            let lasts = (calls_last table made pid s1 p1 r (before.can table made pid m n c p q lives also) is kind).lasts in
-            subst (λ (e : Machine S). ComeFromCall table made e (watched_call tracer 0 plain pid n)) (sym mounted_is)
+            let mine : behind.state ≡ (operated table pid r at).state = unwatched_exit pid (called pid (operated table pid r at)) (after_born unwatched pid (operated table pid r at).child m.watcher) (before.judged callers) (process pid (operated table pid r at).state) in
+            let lasts = (calls_last table made pid s1 p1 r (before.can callers) is kind).lasts in
+            subst (λ (e : Machine S). ComeFromCall table made e (traced_after scene)) (sym mounted_is)
             (subst (ComeFromCall table made behind) (sym traced_is)
             (record {
               matches = record {
                 states = subst (λ tags. IsMatch table tags behind.state told) (sym silent) (subst (λ t. IsMatch table x.tags t told) (sym mine) match_told);
-                statuses = exit_status unwatched pid (called pid (operated table pid r at)) (after_born unwatched pid (operated table pid r at).child m.watcher) (before.judged table made pid m n c p q lives also) (process pid (operated table pid r at).state) ∙ c.matches.statuses;
+                statuses = exit_status unwatched pid (called pid (operated table pid r at)) (after_born unwatched pid (operated table pid r at).child m.watcher) (before.judged callers) (process pid (operated table pid r at).state) ∙ c.matches.statuses;
               };
               lasts = subst (LastsLawful (λ k. k) table (suc made)) (sym (mine ∙ sym (ap (λ (came : Came). came.state) state_here))) lasts;
               also_lasts = settled_lasts plain (suc made) pid (Answer answer) (computed pid q.image.regs left w) (longer_lasts plain made (computed pid q.image.regs left w) own_lasts);
@@ -290,19 +293,21 @@ module _ {S : Type 0} (table : List Row) (made pid : ℕ) (m : Machine S) (n : M
 
 -- ---- a call that is cancelled
 
-module _ {S : Type 0} (table : List Row) (made pid : ℕ) (m : Machine S) (n : Machine Tracing) (r : Request) (e : Errno) (c : ComeToCall table made pid m n) (both : IsCancelledAlike table pid m n r e) (p q : Process ℕ Image) (lives : process pid m.state ≡ Some p)
-    (also : process pid n.state ≡ Some q) (calm : (watched_call unwatched 1 table pid m).tally.broken ≡ None) where
+module _ {S : Type 0} {scene : Scene S} (callers : Callers scene) (r : Request) (e : Errno) (both : IsCancelledAlike scene r e) (calm : IsCalm scene) where
+  open scene use {table, made, pid, traced as n}
+  open callers use {comes as c, also_caller as q, also_lives as also}
+
   abbrev xx : Tracing
   xx = n.watcher
 
   abbrev stopped : Stopped
-  stopped = before.stop table made pid m n c p q lives also
+  stopped = before.stop callers
 
   abbrev mounted : State ℕ Image
-  mounted = before.s1 table made pid m n c p q lives also
+  mounted = before.s1 callers
 
   abbrev caller : Process ℕ Image
-  caller = before.p1 table made pid m n c p q lives also
+  caller = before.p1 callers
 
   abbrev decoding_at : State ℕ Image
   decoding_at = decoded_in pid caller mounted
@@ -311,17 +316,17 @@ module _ {S : Type 0} (table : List Row) (made pid : ℕ) (m : Machine S) (n : M
   dec = (decoded_by q).memory
 
   mine : CanBeCalled table made pid mounted caller
-  mine = before.can table made pid m n c p q lives also
+  mine = before.can callers
 
   -- the tracer has read the call
   reads_here : (decoded_by caller).reply ≡ Ok r
-  reads_here = sym (before.decoded_here table made pid m n c p q lives also) ∙ both.decoded
+  reads_here = sym (before.decoded_here callers) ∙ both.decoded
 
   reads_there : (decoded_at stopped).reply ≡ Ok r
-  reads_there = before.decoded_there table made pid m n c p q lives also ∙ sym (before.requests table made pid m n c p q lives also calm) ∙ reads_here
+  reads_there = before.decoded_there callers ∙ sym (before.requests callers calm) ∙ reads_here
 
   cancels_here : edit_for (texts_at xx.bindings xx.tags (after_request stopped)) (after_request stopped) r ≡ Cancel e
-  cancels_here = ap (λ t. edit_for (texts_at xx.bindings xx.tags (after_request t)) (after_request t) r) (sym (before.calling_is table made pid m n c p q lives also)) ∙ both.cancels
+  cancels_here = ap (λ t. edit_for (texts_at xx.bindings xx.tags (after_request t)) (after_request t) r) (sym (before.calling_is callers)) ∙ both.cancels
 
   alone_here : (next : ℕ) (r : Request) → edit_for (texts_at xx.bindings xx.tags (after_request stopped)) (after_request stopped) r ≡ Cancel e → child_of next r (Answer (refusal e)) ≡ None
   alone_here next (call.Clone flags sp ctid) cancels = absurd cc
@@ -351,8 +356,8 @@ module _ {S : Type 0} (table : List Row) (made pid : ℕ) (m : Machine S) (n : M
       ∙ edited-twice q.image.regs (without_call q.image.regs) dec dec stopped
 
   -- the other machine, behind decoding
-  at_is : (at_call pid m).state ≡ decoding_at
-  at_is = before.at_call_is table made pid m n c p q lives also
+  at_is : (at_call scene).state ≡ decoding_at
+  at_is = before.at_call_is callers
 
   refuses_here : operation pid r (seen table pid decoding_at r) (known image_layout pid decoding_at) ≡ refuse e
   refuses_here = subst (λ t. operation pid r (seen table pid t r) (known image_layout pid t) ≡ refuse e) at_is both.refuses
@@ -361,19 +366,15 @@ module _ {S : Type 0} (table : List Row) (made pid : ℕ) (m : Machine S) (n : M
   alike_here =
       let pages = ap (λ (action : Replying). (carried_out action (memory_of pid decoding_at)).memory.pages) refuses_here ∙ ap (λ (m : Memory). m.pages) (decoded_memory table made pid mounted caller mine) ∙ decoding-leaves-pages caller.image.regs caller.image.memory mine.holds in
       subst (λ one. AreEqualUnmarked one dec.pages) (sym pages)
-      (subst (AreEqualUnmarked caller.image.memory.pages) (sym (before.pages_left table made pid m n c p q lives also)) ((before.match1 table made pid m n c p q lives also).images.memories pid caller q mine.lives also))
+      (subst (AreEqualUnmarked caller.image.memory.pages) (sym (before.pages_left callers)) ((before.match1 callers).images.memories pid caller q mine.lives also))
 
-  cancelled_here : ComeFromCall table made (watched_call unwatched 1 table pid m) (watched_call tracer 0 plain pid n)
+  cancelled_here : StayTogether scene
   cancelled_here =
       let own = c.also_lasts.lawful.processes pid q also in
-      answered_together table made pid m n c p q lives also calm r reads_here both.kind dec led (refusal e) (stays-like (decoding q.image.regs) q.image.memory own.whole own.paged) alike_here
+      answered_together callers calm r reads_here both.kind dec led (refusal e) (stays-like (decoding q.image.regs) q.image.memory own.whole own.paged) alike_here
       (ap (λ (action : Replying). (carried_out action (memory_of pid decoding_at)).reply) refuses_here) (ap (λ number. tags_after xx.tags pid (noted_of r led.index number)) (none_made e) ∙ silent_refusal xx.tags pid r led.index)
       (no_longer_called (after_request stopped)) left_is (answered_calls_are_none stopped (decoded_at stopped).memory r (Cancel e) (refusal e) (there n.state pid nothing_handed q c.also_lasts.lawful.pids also) reads_there refl) entered_is
       (λ next. alone_here next r cancels_here)
 
 pub cancelled_calls_go_together : (S : Type 0) → CancelledCallsGoTogether S
-cancelled_calls_go_together S table made pid m n r e c both calm = by (process pid m.state) refl c.lives
-  where
-    by : (o : Option (Process ℕ Image)) → process pid m.state ≡ o → IsSome o → ComeFromCall table made (watched_call unwatched 1 table pid m) (watched_call tracer 0 plain pid n)
-    by None none some = absurd cc
-    by (Some p) lives some = let q = lives_too table n.watcher.tags pid m.state n.state p c.matches.states lives in cancelled_here table made pid m n r e c both p q.0 lives q.1 calm
+cancelled_calls_go_together S scene r e comes both calm = cancelled_here (callers_of comes) r e both calm

@@ -1,7 +1,7 @@
 -- A call without a path, or one that isn't decoded, with its stops on both machines.
 use Rattle.std.specs.FinMap as map
 use Rattle.std.proofs.Common.{◌≡◌, ◌≢◌, ◌<◌, ℕ, zero, suc, Bool, true, false, cond, List, Option, Some, None, Ok, Err, refl, sym, ap, subst, ◌∙◌, ℤ, arith}
-use Rattle.std.specs.Prelude.{IsSome, get_or, nat_eq}
+use Rattle.std.specs.Prelude.{get_or, nat_eq}
 use Rattle.std.specs.Int.{cast_signed, cast_unsigned, w64}
 use Rattle.std.proofs.lemmas.Bool.Decides.{nat_tests}
 use Rattle.std.specs.Option.{option_map, option_map_or}
@@ -41,7 +41,7 @@ use Rattle.law_turns.specs.kr_turns.Breaking.{plain_rule}
 use Rattle.law_turns.specs.kr_turns.PlainCall.{Came, child_of, end_of, operated, plain_call, refusal_told, status_told}
 use Rattle.law_turns.specs.kr_turns.Shelving.{lacks_in, shelved_in}
 use Rattle.law_turns.specs.kr_stops.Stopped.{Stopped, image_in, no_image, nothing_handed}
-use Rattle.law_turns.specs.kr_turns.Turn.{Machine, Tally, after_born, after_end, after_exit, after_plain, called, calling, watched_call, with_broken}
+use Rattle.law_turns.specs.kr_turns.Turn.{Machine, Tally, after_born, after_end, after_exit, after_plain, called, calling, with_broken}
 use Rattle.law_turns.specs.kr_stops.Watching.{Watcher, unwatched}
 use Rattle.law_turns.specs.kr_turns.declared.plain.CallEnd.{CallEnd}
 use Rattle.law_turns.specs.kr_turns.declared.plain.CallEnd.TheVariants as end
@@ -68,10 +68,12 @@ use Rattle.law_turns.proofs.MatchLemmas.{match_computed}
 use Rattle.law_turns.proofs.PathlessLemmas.{known_written, no_exec, no_targets, pathless_calls_come_alike, pathless_leave, told_none, written_tagged}
 use Rattle.law_turns.proofs.QuietLemmas.{kept_none}
 use Rattle.law_turns.proofs.RegisterLemmas.{calls_keep_registers}
-use Rattle.law_turns.proofs.RunLemmas.{decoded_alike, lives_too, shelves_keep_matches}
+use Rattle.law_turns.proofs.RunLemmas.{decoded_alike, shelves_keep_matches}
 use Rattle.law_turns.proofs.UnreadLemmas.{calm_unread}
 use Rattle.law_stops.specs.Noting.{tags_told, told_answer, with_child}
-use Rattle.law_stops.specs.Turning.{ComeFromCall, ComeToCall, HasNoPath, PathlessCallsGoTogether, Traces}
+use Rattle.law_stops.specs.Scene.{IsCalm, Scene, mounted_after, traced_after}
+use Rattle.law_stops.specs.Turning.{ComeFromCall, HasNoPath, PathlessCallsGoTogether, StayTogether, Traces}
+use Rattle.law_stops.proofs.CallerLemmas.{Callers, callers_of}
 use Rattle.law_stops.proofs.NoteLemmas.{notes_follow}
 use Rattle.law_stops.proofs.PassLemmas.{begins_none, entries_pass, exits_pass}
 use Rattle.law_stops.proofs.RegisterLemmas.{put_beside, put_there}
@@ -179,7 +181,10 @@ module _ {S : Type 0} (table : List Row) (made pid : ℕ) (came came2 : Came) (x
 
 -- ---- up to the kernels' own calls
 
-module _ {S : Type 0} (table : List Row) (made pid : ℕ) (m : Machine S) (n : Machine Tracing) (c : ComeToCall table made pid m n) (p q : Process ℕ Image) (lives : process pid m.state ≡ Some p) (also : process pid n.state ≡ Some q) where
+module _ {S : Type 0} {scene : Scene S} (callers : Callers scene) where
+  open scene use {table, made, pid, mounted as m, traced as n}
+  open callers use {comes as c, caller as p, also_caller as q, lives, also_lives as also}
+
   abbrev pub s : State ℕ Image
   s = m.state
 
@@ -297,7 +302,7 @@ module _ {S : Type 0} (table : List Row) (made pid : ℕ) (m : Machine S) (n : M
   abbrev pub judged : Tally
   judged = with_broken (plain_rule 1 table pid lacks s1) m.tally
 
-  pub mounted_call : watched_call unwatched 1 table pid m ≡ after_plain unwatched pid (plain_call table pid s1) m.watcher judged
+  pub mounted_call : mounted_after scene ≡ after_plain unwatched pid (plain_call table pid s1) m.watcher judged
   mounted_call = ap (λ t. after_plain unwatched pid (plain_call table pid t) m.watcher (with_broken (plain_rule 1 table pid lacks t) m.tally)) shelf
 
   abbrev pub unjudged : Stopped → Tally
@@ -306,10 +311,10 @@ module _ {S : Type 0} (table : List Row) (made pid : ℕ) (m : Machine S) (n : M
   abbrev pub behind_entry : Tracing × Stopped → Machine Tracing
   behind_entry e = after_plain tracer pid (plain_call plain pid e.1.state) e.0 (unjudged e.1)
 
-  pub traced_call : (y : Tracing) (t : Stopped) → entered x stop ≡ (y, t) → watched_call tracer 0 plain pid n ≡ behind_entry (y, t)
+  pub traced_call : (y : Tracing) (t : Stopped) → entered x stop ≡ (y, t) → traced_after scene ≡ behind_entry (y, t)
   traced_call y t is = ap (λ (u : Stopped). behind_entry (entered x u)) calling_is ∙ ap behind_entry is
 
-  module _ (calm : (watched_call unwatched 1 table pid m).tally.broken ≡ None) where
+  module _ (calm : IsCalm scene) where
     pub calm_call : plain_rule 1 table pid lacks s1 ≡ None
     calm_call =
         let came = plain_call table pid s1 in
@@ -347,13 +352,13 @@ module _ {S : Type 0} (table : List Row) (made pid : ℕ) (m : Machine S) (n : M
           exits : exited y t ≡ (without_pending t.pid y, t)
           exits = ap (after_pending (without_pending t.pid y) t) (ap (map.get y.pending) own ∙ get-remove_same x.pending pid)
 
-      refused_together : ComeFromCall table made (watched_call unwatched 1 table pid m) (watched_call tracer 0 plain pid n)
+      refused_together : StayTogether scene
       refused_together =
           let came = refusal_told pid e (decoded_in pid p1 s1) in
           let came2 = refusal_told pid e (decoded_in pid q2 w2) in
           let one : plain_call table pid s1 ≡ came = by_request table pid table s1 p1 (Err e) lives1 is in
           let other : plain_call plain pid w2 ≡ came2 = by_request table pid plain w2 q2 (Err e) can_then.lives (sym requests_then ∙ is) in
-          subst (λ x. ComeFromCall table made x (watched_call tracer 0 plain pid n)) (sym (mounted_call ∙ ap (λ came. after_plain unwatched pid came m.watcher judged) one))
+          subst (λ x. ComeFromCall table made x (traced_after scene)) (sym (mounted_call ∙ ap (λ came. after_plain unwatched pid came m.watcher judged) one))
           (subst (ComeFromCall table made (after_plain unwatched pid came m.watcher judged)) (sym (traced_call y then_stop entered_refused ∙ ap (λ came. after_plain tracer pid came y (unjudged then_stop)) other))
           (come_from table made pid came came2 m.watcher y judged (unjudged then_stop) x.tags c.matches.statuses (left_refused (called pid came2) (unjudged then_stop) (process pid came2.state) refl)
           (subst (CameAlike table x.tags came) other (subst (λ came. CameAlike table x.tags came (plain_call plain pid w2)) one alike_refused))
@@ -497,28 +502,22 @@ module _ {S : Type 0} (table : List Row) (made pid : ℕ) (m : Machine S) (n : M
             subst (λ e. IsLeft table came2.state (tags_told pid at.next_pid r reply.outcome x.tags) (leftover e came2.child tally)) ends
             (subst (λ child. IsLeft table came2.state (tags_told pid at.next_pid r reply.outcome x.tags) (leftover (end_of r reply.outcome) child tally)) children (left_by reply.outcome refl))
 
-      pathless_together : ComeFromCall table made (watched_call unwatched 1 table pid m) (watched_call tracer 0 plain pid n)
+      pathless_together : StayTogether scene
       pathless_together =
           let also_lasts = (calls_last plain made pid w2 q2 r can_then (sym requests_then ∙ is) (no_exec r kind)).lasts in
-          subst (λ x. ComeFromCall table made x (watched_call tracer 0 plain pid n)) (sym mounted_call)
+          subst (λ x. ComeFromCall table made x (traced_after scene)) (sym mounted_call)
           (subst (ComeFromCall table made (after_plain unwatched pid came m.watcher judged)) (sym (traced_call z then_stop entered_pathless))
           (come_from table made pid came came2 m.watcher z judged (unjudged then_stop) (tags_told pid at.next_pid r reply.outcome x.tags) c.matches.statuses (left also_lasts (unjudged then_stop))
           (subst (λ tags. CameAlike table tags came came2) tags_are alike) (calls_last table made pid s1 p1 r can is (no_exec r kind)).lasts also_lasts))
 
     -- ---- either
 
-    together : HasNoPath (decoded_by p1).reply → ComeFromCall table made (watched_call unwatched 1 table pid m) (watched_call tracer 0 plain pid n)
+    together : HasNoPath (decoded_by p1).reply → StayTogether scene
     together kind = by (decoded_by p1).reply refl kind
       where
-        by : (reply : Decoded) → (decoded_by p1).reply ≡ reply → HasNoPath reply → ComeFromCall table made (watched_call unwatched 1 table pid m) (watched_call tracer 0 plain pid n)
+        by : (reply : Decoded) → (decoded_by p1).reply ≡ reply → HasNoPath reply → StayTogether scene
         by (Ok r) is kind = pathless_together r is kind
         by (Err e) is kind = refused_together e is
 
 pub pathless_calls_go_together : (S : Type 0) → PathlessCallsGoTogether S
-pathless_calls_go_together S table made pid m n c kind calm = by (process pid m.state) refl c.lives
-  where
-    by : (o : Option (Process ℕ Image)) → process pid m.state ≡ o → IsSome o → ComeFromCall table made (watched_call unwatched 1 table pid m) (watched_call tracer 0 plain pid n)
-    by None none some = absurd cc
-    by (Some p) lives some =
-        let q = lives_too table n.watcher.tags pid m.state n.state p c.matches.states lives in
-        together table made pid m n c p q.0 lives q.1 calm (subst HasNoPath (decoded_here table made pid m n c p q.0 lives q.1) kind)
+pathless_calls_go_together S scene comes kind calm = let callers = callers_of comes in together callers calm (subst HasNoPath (decoded_here callers) kind)

@@ -12,7 +12,7 @@ use Rattle.pt_args.specs.rv_mem.Pages.{HoldsBytes, Pages}
 use Rattle.pt_args.specs.rv_mem.declared.regs.Regs.{Regs}
 use Rattle.pt_args.specs.declared.edit.Edit.{Edit}
 use Rattle.law_turns.specs.pt_results.Notes.{noted, tags_after}
-use Rattle.law_edits.specs.kr_view.View.{Row, plain}
+use Rattle.law_edits.specs.kr_view.View.{plain}
 use Rattle.pt_args.specs.kr_calls.CallTable.{line}
 use Rattle.pt_args.specs.kr_calls.Decoding.{decoding}
 use Rattle.pt_args.specs.kr_calls.PathTable.{path_at}
@@ -53,7 +53,7 @@ use Rattle.law_turns.specs.kr_turns.Breaking.{decoded_rule, operated_rule, plain
 use Rattle.law_turns.specs.kr_turns.PlainCall.{Came, child_of, end_of, operated, plain_call}
 use Rattle.law_turns.specs.kr_turns.Target.{IsLookedAt, LooksUpOne, instead_of, target_by}
 use Rattle.law_turns.specs.kr_stops.Stopped.{IsThere, Stopped, edited, image_at, nothing_handed}
-use Rattle.law_turns.specs.kr_turns.Turn.{Machine, Tally, after_born, after_end, after_exit, after_plain, called, watched_call}
+use Rattle.law_turns.specs.kr_turns.Turn.{Machine, Tally, after_born, after_end, after_exit, after_plain, called}
 use Rattle.law_turns.specs.kr_stops.Watching.{unwatched}
 use Rattle.law_turns.proofs.kr_stops.EditLemmas.{there as is_there}
 use Rattle.law_turns.proofs.kr_turns.PlainLemmas.{no-exec-requested, no-exec-rule}
@@ -89,14 +89,15 @@ use Rattle.law_turns.proofs.PathlessLemmas.{none_of_all}
 use Rattle.law_turns.proofs.PickLemmas.{same_known}
 use Rattle.law_turns.proofs.QuietLemmas.{memory_computed}
 use Rattle.law_turns.proofs.RegisterLemmas.{changes_keep_registers}
-use Rattle.law_stops.specs.Cancelling.{at_call, at_first_stop}
 use Rattle.law_stops.specs.Noting.{told_answer}
+use Rattle.law_stops.specs.Scene.{IsCalm, Scene, at_call, at_first_stop, mounted_after, traced_after}
 use Rattle.law_stops.specs.Swapping.{IsToldAlong, at_entry}
-use Rattle.law_stops.specs.Turning.{ComeFromCall, ComeToCall}
+use Rattle.law_stops.specs.Turning.{ComeFromCall, StayTogether}
 use Rattle.law_stops.proofs.AnsweredLemmas.{computed_twice, lives_changed}
 use Rattle.law_stops.proofs.CallLemmas as before
 use Rattle.law_stops.proofs.EnterLemmas as enter
 use Rattle.law_stops.proofs.CallLemmas.{exit_status, own_image, plain_named, unwatched_exit}
+use Rattle.law_stops.proofs.CallerLemmas.{Callers}
 
 some_same : {A : Type 0} {a b : A} → Some a ≡ Some b → a ≡ b
 some_same e = cc
@@ -133,8 +134,10 @@ all_marks_left (c ∷ cs) leave on =
     let one = marks_left c cs parts.0 on in
     ap (λ b. b && list_all leaves_mark cs) one.0 ∙ all_marks_left cs parts.1 one.1
 
-module _ {S : Type 0} (table : List Row) (made pid : ℕ) (m : Machine S) (n : Machine Tracing) (r r2 : Request) (c : ComeToCall table made pid m n) (alike : IsToldAlong table pid m n r r2) (p q : Process ℕ Image) (lives : process pid m.state ≡ Some p)
-    (also : process pid n.state ≡ Some q) (calm : (watched_call unwatched 1 table pid m).tally.broken ≡ None) where
+module _ {S : Type 0} {scene : Scene S} (callers : Callers scene) (r r2 : Request) (alike : IsToldAlong scene r r2) (calm : IsCalm scene) where
+  open scene use {table, made, pid, mounted as m, traced as n}
+  open callers use {comes as c, also_caller as q, also_lives as also}
+
   abbrev x : Tracing
   x = n.watcher
 
@@ -142,16 +145,16 @@ module _ {S : Type 0} (table : List Row) (made pid : ℕ) (m : Machine S) (n : M
   w = n.state
 
   abbrev s1 : State ℕ Image
-  s1 = before.s1 table made pid m n c p q lives also
+  s1 = before.s1 callers
 
   abbrev p1 : Process ℕ Image
-  p1 = before.p1 table made pid m n c p q lives also
+  p1 = before.p1 callers
 
   abbrev stop : Stopped
-  stop = before.stop table made pid m n c p q lives also
+  stop = before.stop callers
 
   mine : CanBeCalled table made pid s1 p1
-  mine = before.can table made pid m n c p q lives also
+  mine = before.can callers
 
   abbrev at : State ℕ Image
   at = decoded_in pid p1 s1
@@ -163,10 +166,10 @@ module _ {S : Type 0} (table : List Row) (made pid : ℕ) (m : Machine S) (n : M
   mounts = mounts_walked (targets_of table pid at r)
 
   reads : (decoded_by p1).reply ≡ Ok r
-  reads = sym (before.decoded_here table made pid m n c p q lives also) ∙ alike.decoded
+  reads = sym (before.decoded_here callers) ∙ alike.decoded
 
   reads_there : (decoded_at stop).reply ≡ Ok r
-  reads_there = before.decoded_there table made pid m n c p q lives also ∙ sym (before.requests table made pid m n c p q lives also calm) ∙ reads
+  reads_there = before.decoded_there callers ∙ sym (before.requests callers calm) ∙ reads
 
   there_stop : IsThere stop
   there_stop = is_there w pid nothing_handed q c.also_lasts.lawful.pids also
@@ -222,10 +225,10 @@ module _ {S : Type 0} (table : List Row) (made pid : ℕ) (m : Machine S) (n : M
     bytes3 = entry.bytes
 
     lives3 : process pid w3 ≡ Some q3
-    lives3 = enter.lives_with table made pid m n c q also regs3 memory3 like3
+    lives3 = enter.lives_with callers regs3 memory3 like3
 
     can3 : CanBeCalled plain made pid w3 q3
-    can3 = enter.can_with table made pid m n c q also regs3 memory3 like3 bytes3
+    can3 = enter.can_with callers regs3 memory3 like3 bytes3
 
     reads3 : (decoded_by q3).reply ≡ Ok r2
     reads3 = entry.reads
@@ -234,16 +237,16 @@ module _ {S : Type 0} (table : List Row) (made pid : ℕ) (m : Machine S) (n : M
     memory4 = (decoded_by q3).memory
 
     pages4 : memory4.pages ≡ memory3.pages
-    pages4 = enter.pages_with table made pid m n c q also regs3 memory3 like3 bytes3
+    pages4 = enter.pages_with callers regs3 memory3 like3 bytes3
 
     abbrev w4 : State ℕ Image
     w4 = decoded_in pid q3 w3
 
     w4_is : w4 ≡ computed pid regs3 memory4 w
-    w4_is = enter.decoded_is table made pid m n c q also regs3 memory3 like3 bytes3
+    w4_is = enter.decoded_is callers regs3 memory3 like3 bytes3
 
-    there_is : (after_request (at_entry pid n r)).state ≡ w4
-    there_is = enter.there_is table made pid m n c q also regs3 memory3 like3 bytes3 p lives r left_is
+    there_is : (after_request (at_entry scene r)).state ≡ w4
+    there_is = enter.there_is callers regs3 memory3 like3 bytes3 r left_is
 
     -- ---- the plain kernel, if its caller had kept its own registers
 
@@ -254,19 +257,19 @@ module _ {S : Type 0} (table : List Row) (made pid : ℕ) (m : Machine S) (n : M
     own_q = given pid q.image.regs memory4 q
 
     like4 : StaysLike q.image.memory.pages memory4.pages
-    like4 = enter.like_decoded table made pid m n c q also regs3 memory3 like3 bytes3
+    like4 = enter.like_decoded callers regs3 memory3 like3 bytes3
 
     own_lives : process pid own ≡ Some own_q
-    own_lives = enter.lives_with table made pid m n c q also q.image.regs memory4 like4
+    own_lives = enter.lives_with callers q.image.regs memory4 like4
 
     own_lasts : LastsLawful (λ k. k) plain made own
-    own_lasts = enter.lasts_with table made pid m n c q also q.image.regs memory4 like4
+    own_lasts = enter.lasts_with callers q.image.regs memory4 like4
 
     bare_alike : bare image_layout (pins_of plain) own ≡ bare image_layout (pins_of plain) w4
-    bare_alike = enter.bares_with table made pid m n c q also q.image.regs regs3 memory4 memory4 like4 like4 ∙ sym (ap (bare image_layout (pins_of plain)) w4_is)
+    bare_alike = enter.bares_with callers q.image.regs regs3 memory4 memory4 like4 like4 ∙ sym (ap (bare image_layout (pins_of plain)) w4_is)
 
     sights : AreSeenAlike pid own w4 r2
-    sights = subst (λ t. AreSeenAlike pid own t r2) (sym w4_is) (enter.sights_with table made pid m n c q also q.image.regs regs3 memory4 memory4 like4 like4 r2)
+    sights = subst (λ t. AreSeenAlike pid own t r2) (sym w4_is) (enter.sights_with callers q.image.regs regs3 memory4 memory4 like4 like4 r2)
 
     abbrev sight : Seen
     sight = seen plain pid w4 r2
@@ -296,8 +299,8 @@ module _ {S : Type 0} (table : List Row) (made pid : ℕ) (m : Machine S) (n : M
         let process = mine.lasts.lawful.processes pid p1 mine.lives in
         let stays = stays-like (decoding p1.image.regs) p1.image.memory process.whole process.paged in
         let unmarked = subst (λ one. AreEqualUnmarked one memory4.pages) (sym (decoding-leaves-pages p1.image.regs p1.image.memory mine.holds)) (subst (AreEqualUnmarked p1.image.memory.pages) (sym pages4) entry.unmarked) in
-        let both = match_computed table x.tags s1 w (before.match1 table made pid m n c p q lives also) pid p1 q mine.lives also p1.image.regs (decoded_by p1).memory memory4 unmarked stays like4.layout in
-        subst (λ regs. IsMatch table x.tags at (computed pid regs memory4 w)) (before.same_regs table made pid m n c p q lives also) both
+        let both = match_computed table x.tags s1 w (before.match1 callers) pid p1 q mine.lives also p1.image.regs (decoded_by p1).memory memory4 unmarked stays like4.layout in
+        subst (λ regs. IsMatch table x.tags at (computed pid regs memory4 w)) (before.same_regs callers) both
 
     -- the plain kernel carries the call out as it would with its caller's own registers
     known_same : known image_layout pid w4 ≡ known image_layout pid own
@@ -305,26 +308,26 @@ module _ {S : Type 0} (table : List Row) (made pid : ℕ) (m : Machine S) (n : M
 
     -- ---- what holds of the call, at the mounted machine's state behind decoding
 
-    at_is : (at_call pid m).state ≡ at
-    at_is = before.at_call_is table made pid m n c p q lives also
+    at_is : (at_call scene).state ≡ at
+    at_is = before.at_call_is callers
 
     acts : operation pid r told (known image_layout pid at) ≡ operation pid r2 sight (known image_layout pid at)
     acts =
         subst (λ t. operation pid r (seen table pid t r) (known image_layout pid t) ≡ operation pid r2 sight (known image_layout pid t)) at_is
-        (subst (λ t. operation pid r (seen table pid (at_call pid m).state r) (known image_layout pid (at_call pid m).state) ≡ operation pid r2 (seen plain pid t r2) (known image_layout pid (at_call pid m).state)) there_is alike.acts)
+        (subst (λ t. operation pid r (seen table pid (at_call scene).state r) (known image_layout pid (at_call scene).state) ≡ operation pid r2 (seen plain pid t r2) (known image_layout pid (at_call scene).state)) there_is alike.acts)
 
     -- a path that is looked up leads to the same inode for both
     pub leads_same : LooksUpOne (line r).told → IsLookedAt (line r).told → IsLookedAt (line r2).told → instead_of r ≡ instead_of r2 → (operated table pid r at).handed.target ≡ (operated plain pid r2 w4).handed.target
     leads_same looks one other instead =
         let looked : told ≡ sight =
-        subst (λ t. seen table pid t r ≡ sight) at_is (subst (λ t. seen table pid (at_call pid m).state r ≡ seen plain pid t r2) there_is (alike.looked looks)) in
+        subst (λ t. seen table pid t r ≡ sight) at_is (subst (λ t. seen table pid (at_call scene).state r ≡ seen plain pid t r2) there_is (alike.looked looks)) in
         let knows : known image_layout pid at ≡ known image_layout pid w4 = same_known table x.tags at own match_own pid ∙ sym known_same in
         targets-are-told table pid r at one ∙ (λ i. target_by (instead i) (looked i) (knows i)) ∙ sym (targets-are-told plain pid r2 w4 other)
 
     same : (bare_mounts mounts ≡ bare_mounts others) ⊎ ((e : Errno) × (operation pid r told (known image_layout pid at) ≡ refuse e))
     same =
         subst (λ t. (bare_mounts (mounts_walked (targets_of table pid t r)) ≡ bare_mounts others) ⊎ ((e : Errno) × (operation pid r (seen table pid t r) (known image_layout pid t) ≡ refuse e))) at_is
-        (subst (λ t. (bare_mounts (mounts_walked (targets_of table pid (at_call pid m).state r)) ≡ bare_mounts (mounts_walked (targets_of plain pid t r2))) ⊎ ((e : Errno) × (operation pid r (seen table pid (at_call pid m).state r) (known image_layout pid (at_call pid m).state) ≡ refuse e)))
+        (subst (λ t. (bare_mounts (mounts_walked (targets_of table pid (at_call scene).state r)) ≡ bare_mounts (mounts_walked (targets_of plain pid t r2))) ⊎ ((e : Errno) × (operation pid r (seen table pid (at_call scene).state r) (known image_layout pid (at_call scene).state) ≡ refuse e)))
         there_is alike.mounts)
 
     abbrev done : CarriedOut Reply
@@ -339,20 +342,20 @@ module _ {S : Type 0} (table : List Row) (made pid : ℕ) (m : Machine S) (n : M
     tags_are : (value : ℤ) → done.reply.outcome ≡ Answer value → all_tags_made table mounts pid (with_memory_of pid done.memory at) done.reply.changes x.tags ≡ tags_after x.tags pid (noted r led.index (told_answer value))
     tags_are =
         subst (λ t. (value : ℤ) → done.reply.outcome ≡ Answer value → all_tags_made table mounts pid (with_memory_of pid done.memory at) done.reply.changes x.tags ≡ tags_after x.tags pid (noted r (led_of (texts_at x.bindings x.tags (after_request t)) pid r).index (told_answer value)))
-        (before.calling_is table made pid m n c p q lives also)
+        (before.calling_is callers)
         (subst
         (λ t. (let d = done_in pid r (seen table pid t r) t in (value : ℤ) → d.reply.outcome ≡ Answer value → all_tags_made table (mounts_walked (targets_of table pid t r)) pid (with_memory_of pid d.memory t) d.reply.changes x.tags
-        ≡ tags_after x.tags pid (noted r (led_of (texts_at x.bindings x.tags (at_first_stop pid n)) pid r).index (told_answer value)))) at_is alike.tags)
+        ≡ tags_after x.tags pid (noted r (led_of (texts_at x.bindings x.tags (at_first_stop scene)) pid r).index (told_answer value)))) at_is alike.tags)
 
     done_same : done ≡ done_in pid r2 sight at
     done_same = ap (λ action. carried_out action (memory_of pid at)) acts
 
-    calm_row : operated_rule 1 table pid (before.lacks table made pid m n c p q lives also) r at ≡ None
+    calm_row : operated_rule 1 table pid (before.lacks callers) r at ≡ None
     calm_row =
-        let lacks = before.lacks table made pid m n c p q lives also in
+        let lacks = before.lacks callers in
         no-exec-rule 1 table pid lacks at r (no_exec_told r alike.kind)
         ∙ sym (ap (λ o. option_map_or (plain_rule_of 1 table pid lacks s1) o None) mine.lives ∙ ap (λ reply. decoded_rule 1 table pid lacks reply at) reads)
-        ∙ before.calm_call table made pid m n c p q lives also calm
+        ∙ before.calm_call callers calm
 
     -- mounts that serve for those that the call names, and are named alike by the plain kernel
     record ServeFor (named : Mounts ℕ) : Type 0 where
@@ -404,7 +407,7 @@ module _ {S : Type 0} (table : List Row) (made pid : ℕ) (m : Machine S) (n : M
           kind = no_exec_told r2 told2;
           lives = subst IsSome (sym (decoded_lives table made pid s1 p1 mine)) refl;
           same = served.1.same;
-          unread = subst (λ (d : CarriedOut Reply). d.memory.read_marked ≡ false) done_same (neither done.memory.read_marked (before.lacks table made pid m n c p q lives also) rules.0).0;
+          unread = subst (λ (d : CarriedOut Reply). d.memory.read_marked ≡ false) done_same (neither done.memory.read_marked (before.lacks callers) rules.0).0;
           inside = subst (λ (d : CarriedOut Reply). MovesStayInside table named pid (with_memory_of pid d.memory at) d.reply.changes) done_same served.1.inside;
           calm = subst (λ (d : CarriedOut Reply). BreakNone images named pid table d.reply.changes (with_memory_of pid d.memory at)) done_same served.1.rules;
           new = subst (λ (d : CarriedOut Reply). NewPlacesStand table named pid (with_memory_of pid d.memory at) d.reply.changes) done_same served.1.new;
@@ -531,11 +534,11 @@ module _ {S : Type 0} (table : List Row) (made pid : ℕ) (m : Machine S) (n : M
         ∙ registers_given_back ℕ others pid changes regs3 q.image.regs (with_answer value q.image.regs) own_done.memory value w leave refl ∙ sym own_state_is
 
     abbrev tally : Tally
-    tally = before.unjudged table made pid m n c p q lives also left
+    tally = before.unjudged callers left
 
-    traced_is : watched_call tracer 0 plain pid n ≡ record { state = final; watcher = given_back.0; tally = tally }
+    traced_is : traced_after scene ≡ record { state = final; watcher = given_back.0; tally = tally }
     traced_is =
-        before.traced_call table made pid m n c p q lives also y left entered_is
+        before.traced_call callers y left entered_is
         ∙ ap (λ came. after_plain tracer pid came y tally) came2_is
         ∙ ap (λ e. after_end tracer pid e stop2 (after_born tracer pid came2.child y) tally) (ap (λ (d : CarriedOut Reply). end_of r2 d.reply.outcome) done4_is ∙ ap (end_of r2) own_answers)
         ∙ ap (λ child. after_exit tracer stop2 (after_born tracer pid child y) tally (process pid came2.state))
@@ -553,14 +556,14 @@ module _ {S : Type 0} (table : List Row) (made pid : ℕ) (m : Machine S) (n : M
     came_is = by_request table pid table s1 p1 (Ok r) mine.lives reads ∙ sym (no-exec-requested table pid at r (no_exec_told r alike.kind))
 
     abbrev judged : Tally
-    judged = before.judged table made pid m n c p q lives also
+    judged = before.judged callers
 
     abbrev mounted : Machine S
     mounted = after_exit unwatched (called pid came) (after_born unwatched pid came.child m.watcher) judged (process pid came.state)
 
-    mounted_is : watched_call unwatched 1 table pid m ≡ mounted
+    mounted_is : mounted_after scene ≡ mounted
     mounted_is =
-        before.mounted_call table made pid m n c p q lives also
+        before.mounted_call callers
         ∙ ap (λ came. after_plain unwatched pid came m.watcher judged) came_is
         ∙ ap (λ o. after_end unwatched pid (end_of r o) (called pid came) (after_born unwatched pid came.child m.watcher) judged) answers.1
 
@@ -584,11 +587,11 @@ module _ {S : Type 0} (table : List Row) (made pid : ℕ) (m : Machine S) (n : M
           lasts = lasts_living (suc made) (with_process pid (given pid (with_answer value q.image.regs) own_done.memory)) came2.state also_lasting.lasts;
         })
 
-    pub carried_together : ComeFromCall table made (watched_call unwatched 1 table pid m) (watched_call tracer 0 plain pid n)
+    pub carried_together : StayTogether scene
     carried_together =
         let exit_state : mounted.state ≡ came.state = unwatched_exit pid (called pid came) (after_born unwatched pid came.child m.watcher) judged (process pid came.state) in
         let lasts = (calls_last table made pid s1 p1 r mine reads (no_exec_told r alike.kind)).lasts in
-        subst (λ (e : Machine S). ComeFromCall table made e (watched_call tracer 0 plain pid n)) (sym mounted_is)
+        subst (λ (e : Machine S). ComeFromCall table made e (traced_after scene)) (sym mounted_is)
         (subst (ComeFromCall table made mounted) (sym traced_is)
         (record {
           matches = record {

@@ -1,6 +1,6 @@
 -- A call along paths that the tracer answers at its first stop.
 use Rattle.std.specs.FinMap as map
-use Rattle.std.proofs.Common.{◌≡◌, ℕ, Bool, true, false, cond, List, [], Option, Some, None, Ok, refl, sym, ap, subst, ◌∙◌, ℤ}
+use Rattle.std.proofs.Common.{◌≡◌, ℕ, Bool, true, false, cond, List, [], Some, None, Ok, refl, sym, ap, subst, ◌∙◌, ℤ}
 use Rattle.std.specs.Prelude.{IsSome}
 use Rattle.std.specs.Int.{cast_signed, w64}
 use Rattle.law_turns.specs.pr_base.declared.errno.Errno.TheVariants.{EFAULT}
@@ -8,33 +8,27 @@ use Rattle.pt_args.specs.rv_mem.Actions.{AreEqualUnmarked, carried_out}
 use Rattle.pt_args.specs.rv_mem.Memory.{Memory}
 use Rattle.pt_args.specs.declared.edit.Edit.TheVariants.{Cancel}
 use Rattle.law_turns.specs.pt_results.Notes.{noted, tags_after}
-use Rattle.law_edits.specs.kr_view.View.{Row, plain}
 use Rattle.pt_args.specs.kr_calls.Decoding.{decoding}
 use Rattle.pt_args.specs.kr_calls.PathTable.{path_at}
 use Rattle.pt_args.specs.kr_calls.declared.request.Request.{Request}
-use Rattle.law_edits.specs.kr_model.State.{Image, Process, State, process}
+use Rattle.law_edits.specs.kr_model.State.{Image, Process, State}
 use Rattle.law_edits.specs.kr_model.Walks.{seen}
 use Rattle.law_edits.specs.kr_model.declared.outcome.Outcome.TheVariants.{Answer}
 use Rattle.law_turns.proofs.law_allowed.RowLemmas.{StaysLike, stays-like}
 use Rattle.law_turns.specs.kr_steps.Computing.{computed}
 use Rattle.law_turns.specs.kr_stops.Stopped.{IsThere, Stopped, edited, nothing_handed}
-use Rattle.law_turns.specs.kr_turns.Turn.{Machine, watched_call}
-use Rattle.law_turns.specs.kr_stops.Watching.{unwatched}
 use Rattle.law_turns.proofs.kr_stops.EditLemmas.{image-edited, there}
 use Rattle.law_edits.specs.pt_faker.Stopping.{after_request, decoded_at, memory_at}
 use Rattle.law_edits.specs.pt_faker.Faking.{no_longer_called, word_of}
 use Rattle.law_edits.specs.pt_tracer.Planning.{edit_for, led_of, planned_by, texts_at}
 use Rattle.law_edits.specs.pt_tracer.Registers.{arguments_at}
-use Rattle.law_edits.specs.pt_tracer.Watched.{Tracing, after_decoding, after_plan, applied, awaiting, by_identities, entered, refused, tracer, with_pending}
+use Rattle.law_edits.specs.pt_tracer.Watched.{Tracing, after_decoding, after_plan, applied, awaiting, by_identities, entered, refused, with_pending}
 use Rattle.law_edits.specs.pt_tracer.declared.plan.Led.{Led}
 use Rattle.law_edits.specs.NoCalls.{without_call}
 use Rattle.law_edits.proofs.AnsweredLemmas.{answered_calls_are_none}
 use Rattle.law_turns.specs.Calls.{decoded_by, decoded_in}
 use Rattle.law_turns.specs.Lasting.{CanBeCalled}
 use Rattle.law_turns.specs.Operating.{done_in}
-use Rattle.law_turns.proofs.RunLemmas.{lives_too}
-use Rattle.law_stops.specs.Cancelling.{at_call}
-use Rattle.law_stops.specs.Turning.{ComeFromCall, ComeToCall}
 use Rattle.law_stops.proofs.CallLemmas as before
 use Rattle.law_stops.proofs.CallLemmas.{exit_status, own_image, unwatched_exit}
 use Rattle.pt_args.specs.Laws.{poked as pages_poked}
@@ -45,7 +39,10 @@ use Rattle.law_edits.specs.pt_tracer.Poking.{may_poke, poked}
 use Rattle.law_edits.specs.pt_tracer.Registers.{with_arguments}
 use Rattle.law_edits.proofs.StopLemmas.{items_put, register_set}
 use Rattle.law_stops.specs.Answering.{AnsweredCallsGoTogether, IsAnsweredAlike}
+use Rattle.law_stops.specs.Scene.{IsCalm, Scene, at_call}
+use Rattle.law_stops.specs.Turning.{StayTogether}
 use Rattle.law_stops.proofs.AnsweredLemmas.{answered_together}
+use Rattle.law_stops.proofs.CallerLemmas.{Callers, callers_of}
 use Rattle.law_stops.proofs.CarryLemmas.{bears_none, lists_none, no_exec_told}
 use Rattle.law_stops.proofs.SwapLemmas.{poked_stays, then_stays}
 
@@ -90,19 +87,21 @@ module _ (pid : ℕ) (w : State ℕ Image) (q : Process ℕ Image) (there_stop :
       by true = left_poked pokes
       by false = left_alone
 
-module _ {S : Type 0} (table : List Row) (made pid : ℕ) (m : Machine S) (n : Machine Tracing) (r : Request) (answer : ℤ) (c : ComeToCall table made pid m n) (both : IsAnsweredAlike table pid m n r answer) (p q : Process ℕ Image) (lives : process pid m.state ≡ Some p)
-    (also : process pid n.state ≡ Some q) (calm : (watched_call unwatched 1 table pid m).tally.broken ≡ None) where
+module _ {S : Type 0} {scene : Scene S} (callers : Callers scene) (r : Request) (answer : ℤ) (both : IsAnsweredAlike scene r answer) (calm : IsCalm scene) where
+  open scene use {table, made, pid, traced as n}
+  open callers use {comes as c, also_caller as q, also_lives as also}
+
   abbrev x : Tracing
   x = n.watcher
 
   abbrev first : Stopped
-  first = before.stop table made pid m n c p q lives also
+  first = before.stop callers
 
   abbrev s1 : State ℕ Image
-  s1 = before.s1 table made pid m n c p q lives also
+  s1 = before.s1 callers
 
   abbrev p1 : Process ℕ Image
-  p1 = before.p1 table made pid m n c p q lives also
+  p1 = before.p1 callers
 
   abbrev at : State ℕ Image
   at = decoded_in pid p1 s1
@@ -111,16 +110,16 @@ module _ {S : Type 0} (table : List Row) (made pid : ℕ) (m : Machine S) (n : M
   dec = (decoded_by q).memory
 
   mine : CanBeCalled table made pid s1 p1
-  mine = before.can table made pid m n c p q lives also
+  mine = before.can callers
 
   there_first : IsThere first
   there_first = there n.state pid nothing_handed q c.also_lasts.lawful.pids also
 
   reads_here : (decoded_by p1).reply ≡ Ok r
-  reads_here = sym (before.decoded_here table made pid m n c p q lives also) ∙ both.decoded
+  reads_here = sym (before.decoded_here callers) ∙ both.decoded
 
   reads_there : (decoded_at first).reply ≡ Ok r
-  reads_there = before.decoded_there table made pid m n c p q lives also ∙ sym (before.requests table made pid m n c p q lives also calm) ∙ reads_here
+  reads_there = before.decoded_there callers ∙ sym (before.requests callers calm) ∙ reads_here
 
   abbrev edit : Edit
   edit = edit_for (texts_at x.bindings x.tags (after_request first)) (after_request first) r
@@ -129,7 +128,7 @@ module _ {S : Type 0} (table : List Row) (made pid : ℕ) (m : Machine S) (n : M
   led = led_of (texts_at x.bindings x.tags (after_request first)) pid r
 
   answers : (applied edit (after_request first)).answer ≡ Some answer
-  answers = ap (λ t. (applied (edit_for (texts_at x.bindings x.tags (after_request t)) (after_request t) r) (after_request t)).answer) (sym (before.calling_is table made pid m n c p q lives also)) ∙ both.answers
+  answers = ap (λ t. (applied (edit_for (texts_at x.bindings x.tags (after_request t)) (after_request t) r) (after_request t)).answer) (sym (before.calling_is callers)) ∙ both.answers
 
   after_is : after_request first ≡ edited q.image.regs dec first
   after_is = ap (λ (image : Image). edited image.regs (carried_out (decoding image.regs) image.memory).memory first) (own_image pid n.state q also)
@@ -147,9 +146,9 @@ module _ {S : Type 0} (table : List Row) (made pid : ℕ) (m : Machine S) (n : M
       ∙ ap (λ lists. after_plan x (after_request first) r (planned_by x.bindings x.tags (after_request first) r lists (path_at r 0))) (lists_none r both.kind)
       ∙ ap (λ a. (with_pending (map.insert x.pending pid (awaiting (arguments_at (after_request first)) r led a)) x, (applied edit (after_request first)).stopped)) answers
 
-  at_is : (at_call pid m).state ≡ at
+  at_is : (at_call scene).state ≡ at
   at_is =
-      ap (λ t. (after_request (record { state = t; pid = pid; handed = nothing_handed })).state) (before.shelf table made pid m n c p q lives also)
+      ap (λ t. (after_request (record { state = t; pid = pid; handed = nothing_handed })).state) (before.shelf callers)
       ∙ ap (λ (image : Image). computed pid image.regs (carried_out (decoding image.regs) image.memory).memory s1) (own_image pid s1 p1 mine.lives)
 
   replies : (done_in pid r (seen table pid at r) at).reply ≡ record { outcome = Answer answer; changes = [] }
@@ -157,23 +156,19 @@ module _ {S : Type 0} (table : List Row) (made pid : ℕ) (m : Machine S) (n : M
 
   alike : AreEqualUnmarked (done_in pid r (seen table pid at r) at).memory.pages left.memory.pages
   alike =
-      let entry = ap (λ t. (applied (edit_for (texts_at x.bindings x.tags (after_request t)) (after_request t) r) (after_request t)).stopped) (before.calling_is table made pid m n c p q lives also) ∙ left.stopped in
+      let entry = ap (λ t. (applied (edit_for (texts_at x.bindings x.tags (after_request t)) (after_request t) r) (after_request t)).stopped) (before.calling_is callers) ∙ left.stopped in
       let image = image-edited (without_call q.image.regs) left.memory first (subst IsSome (sym also) refl) in
       subst (λ t. AreEqualUnmarked (done_in pid r (seen table pid t r) t).memory.pages left.memory.pages) at_is
-      (subst (AreEqualUnmarked (done_in pid r (seen table pid (at_call pid m).state r) (at_call pid m).state).memory.pages) (ap (λ t. (memory_at t).pages) entry ∙ ap (λ (i : Image). i.memory.pages) image) both.alike)
+      (subst (AreEqualUnmarked (done_in pid r (seen table pid (at_call scene).state r) (at_call scene).state).memory.pages) (ap (λ t. (memory_at t).pages) entry ∙ ap (λ (i : Image). i.memory.pages) image) both.alike)
 
   silent : tags_after x.tags pid (noted r led.index (cast_signed w64 (word_of answer))) ≡ x.tags
   silent =
-      subst (λ t. tags_after x.tags pid (noted r (led_of (texts_at x.bindings x.tags (after_request t)) pid r).index (cast_signed w64 (word_of answer))) ≡ x.tags) (before.calling_is table made pid m n c p q lives also) both.silent
+      subst (λ t. tags_after x.tags pid (noted r (led_of (texts_at x.bindings x.tags (after_request t)) pid r).index (cast_signed w64 (word_of answer))) ≡ x.tags) (before.calling_is callers) both.silent
 
-  told_together : ComeFromCall table made (watched_call unwatched 1 table pid m) (watched_call tracer 0 plain pid n)
+  told_together : StayTogether scene
   told_together =
-      answered_together table made pid m n c p q lives also calm r reads_here (no_exec_told r both.kind) left.memory led answer left.like alike replies silent (applied edit (after_request first)).stopped left.stopped
+      answered_together callers calm r reads_here (no_exec_told r both.kind) left.memory led answer left.like alike replies silent (applied edit (after_request first)).stopped left.stopped
       (answered_calls_are_none first (decoded_at first).memory r edit answer there_first reads_there answers) entered_is (λ next. bears_none next r answer both.kind)
 
 pub answered_calls_go_together : (S : Type 0) → AnsweredCallsGoTogether S
-answered_calls_go_together S table made pid m n r answer c both calm = by (process pid m.state) refl c.lives
-  where
-    by : (o : Option (Process ℕ Image)) → process pid m.state ≡ o → IsSome o → ComeFromCall table made (watched_call unwatched 1 table pid m) (watched_call tracer 0 plain pid n)
-    by None none some = absurd cc
-    by (Some p) lives some = let q = lives_too table n.watcher.tags pid m.state n.state p c.matches.states lives in told_together table made pid m n r answer c both p q.0 lives q.1 calm
+answered_calls_go_together S scene r answer comes both calm = told_together (callers_of comes) r answer both calm

@@ -1,11 +1,11 @@
 -- The caller on the plain machine as the tracer leaves it at the first stop: its memory has the pages that it had, and bytes.
 use Rattle.std.specs.Prelude.{IsSome}
-use Rattle.std.proofs.Common.{◌≡◌, ℕ, List, Some, refl, sym, ap, subst, ◌∙◌}
+use Rattle.std.proofs.Common.{◌≡◌, ℕ, Some, refl, sym, ap, subst, ◌∙◌}
 use Rattle.pt_args.specs.rv_mem.Actions.{carried_out}
 use Rattle.pt_args.specs.rv_mem.Memory.{Memory}
 use Rattle.pt_args.specs.rv_mem.Pages.{HoldsBytes}
 use Rattle.pt_args.specs.rv_mem.declared.regs.Regs.{Regs}
-use Rattle.law_edits.specs.kr_view.View.{Row, plain}
+use Rattle.law_edits.specs.kr_view.View.{plain}
 use Rattle.pt_args.specs.kr_calls.Decoding.{decoding}
 use Rattle.pt_args.specs.kr_calls.declared.request.Request.{Request}
 use Rattle.law_turns.proofs.law_allowed.DecodedLemmas.{decoding-leaves-pages}
@@ -15,11 +15,10 @@ use Rattle.law_edits.specs.kr_model.State.{Image, Process, State, image_layout, 
 use Rattle.law_turns.specs.kr_steps.Calls.{LastsLawful}
 use Rattle.law_turns.specs.kr_steps.Computing.{computed}
 use Rattle.law_turns.specs.kr_stops.Stopped.{Stopped, edited}
-use Rattle.law_turns.specs.kr_turns.Turn.{Machine}
 use Rattle.law_turns.proofs.kr_stops.EditLemmas.{image-edited}
 use Rattle.law_edits.specs.pt_faker.Stopping.{after_request}
 use Rattle.law_edits.specs.pt_tracer.Planning.{edit_for, texts_at}
-use Rattle.law_edits.specs.pt_tracer.Watched.{Tracing, applied}
+use Rattle.law_edits.specs.pt_tracer.Watched.{applied}
 use Rattle.law_edits.specs.law_walks.BareFacts.{AreSeenAlike}
 use Rattle.law_edits.proofs.law_walks.OneMountLemmas.{lawful_states_are_in_one_mount}
 use Rattle.law_edits.proofs.law_walks.SightLemmas.{plain_sight_is_bare}
@@ -27,13 +26,17 @@ use Rattle.law_turns.specs.Calls.{decoded_by, decoded_in}
 use Rattle.law_turns.specs.Lasting.{CanBeCalled}
 use Rattle.law_turns.proofs.CalledLemmas.{lasts_living}
 use Rattle.law_turns.proofs.ImageLemmas.{bare_computed, given}
+use Rattle.law_stops.specs.Scene.{Scene}
 use Rattle.law_stops.specs.Swapping.{at_entry}
-use Rattle.law_stops.specs.Turning.{ComeToCall}
 use Rattle.law_stops.proofs.AnsweredLemmas.{computed_twice, lives_changed}
 use Rattle.law_stops.proofs.CallLemmas as before
 use Rattle.law_stops.proofs.CallLemmas.{plain_named}
+use Rattle.law_stops.proofs.CallerLemmas.{Callers}
 
-module _ {S : Type 0} (table : List Row) (made pid : ℕ) (m : Machine S) (n : Machine Tracing) (c : ComeToCall table made pid m n) (q : Process ℕ Image) (also : process pid n.state ≡ Some q) where
+module _ {S : Type 0} {scene : Scene S} (callers : Callers scene) where
+  open scene use {made, pid, traced as n}
+  open callers use {comes as c, also_caller as q, also_lives as also}
+
   abbrev w : State ℕ Image
   w = n.state
 
@@ -87,15 +90,15 @@ module _ {S : Type 0} (table : List Row) (made pid : ℕ) (m : Machine S) (n : M
     decoded_is = computed_twice pid regs regs memory decoded w
 
     -- the plain kernel decodes that, where the tracer leaves it
-    module _ (p : Process ℕ Image) (lives : process pid m.state ≡ Some p) (r : Request) where
+    module _ (r : Request) where
       abbrev stop : Stopped
-      stop = before.stop table made pid m n c p q lives also
+      stop = before.stop callers
 
       abbrev pub Leaves : Type 0
       Leaves = (applied (edit_for (texts_at n.watcher.bindings n.watcher.tags (after_request stop)) (after_request stop) r) (after_request stop)).stopped ≡ edited regs memory stop
 
-      pub there_is : Leaves → (after_request (at_entry pid n r)).state ≡ decoded_with
+      pub there_is : Leaves → (after_request (at_entry scene r)).state ≡ decoded_with
       there_is leaves =
-          ap (λ t. (after_request (applied (edit_for (texts_at n.watcher.bindings n.watcher.tags (after_request t)) (after_request t) r) (after_request t)).stopped).state) (before.calling_is table made pid m n c p q lives also)
+          ap (λ t. (after_request (applied (edit_for (texts_at n.watcher.bindings n.watcher.tags (after_request t)) (after_request t) r) (after_request t)).stopped).state) (before.calling_is callers)
           ∙ ap (λ t. (after_request t).state) leaves
           ∙ ap (λ (image : Image). computed pid image.regs (carried_out (decoding image.regs) image.memory).memory (computed pid regs memory w)) (image-edited regs memory stop (subst IsSome (sym also) refl))

@@ -1,7 +1,7 @@
 -- A call on users and groups, which both watchers answer in place of the kernel.
 use Rattle.std.specs.FinMap as map
-use Rattle.std.proofs.Common.{◌≡◌, ℕ, suc, Bool, false, List, Option, Some, None, Ok, get_or, refl, sym, ap, subst, ◌∙◌}
-use Rattle.std.specs.Prelude.{◌==◌, IsSome, slice_set}
+use Rattle.std.proofs.Common.{◌≡◌, ℕ, suc, Bool, false, Option, Some, None, Ok, get_or, refl, sym, ap, subst, ◌∙◌}
+use Rattle.std.specs.Prelude.{◌==◌, slice_set}
 use Rattle.law_turns.proofs.pr_base.MapLemmas.{get-insert_same}
 use Rattle.law_turns.specs.pr_base.declared.errno.Errno.TheVariants.{ENOSYS}
 use Rattle.pt_args.specs.rv_mem.Actions.{Action, AreEqualUnmarked, CarriedOut, carried_out}
@@ -12,7 +12,7 @@ use Rattle.law_edits.specs.pt_ident.Identity.{Answered, Effect, Identity, effect
 use Rattle.law_edits.specs.pt_ident.IdentityTable.{identity_at, with_identity}
 use Rattle.pt_args.specs.pt_bind.Tags.{TagTable}
 use Rattle.law_turns.specs.pt_results.Notes.{noted_of, tags_after}
-use Rattle.law_edits.specs.kr_view.View.{Row, plain}
+use Rattle.law_edits.specs.kr_view.View.{plain}
 use Rattle.pt_args.specs.kr_calls.Decoding.{decoding}
 use Rattle.pt_args.specs.kr_calls.declared.request.Request.{Request}
 use Rattle.pt_args.specs.kr_calls.declared.request.Request.TheVariants as call
@@ -26,7 +26,7 @@ use Rattle.law_turns.specs.kr_turns.Breaking.{plain_rule}
 use Rattle.law_turns.specs.kr_turns.PlainCall.{Came, plain_call}
 use Rattle.law_turns.specs.kr_turns.Shelving.{lacks_in}
 use Rattle.law_turns.specs.kr_stops.Stopped.{IsThere, Stopped, edited, image_at, nothing_handed}
-use Rattle.law_turns.specs.kr_turns.Turn.{Machine, Tally, after_exit, after_plain, called, calling, watched_call, with_broken}
+use Rattle.law_turns.specs.kr_turns.Turn.{Machine, Tally, after_exit, after_plain, called, calling, with_broken}
 use Rattle.law_turns.proofs.kr_stops.EditLemmas.{there}
 use Rattle.law_turns.specs.law_places.Matching.{IsMatch}
 use Rattle.law_edits.specs.pt_faker.Faking.{Faking, after_decoding as faked_decoding, after_due, after_effect as faked_effect, due_of, entered as faked_entry, exited as faked_exit, faker, keeping, no_longer_called, told, with_due, without_due, word_of}
@@ -42,15 +42,17 @@ use Rattle.law_edits.proofs.ExitLemmas.{exits_behind_answers}
 use Rattle.law_turns.specs.Calls.{decoded_by}
 use Rattle.law_turns.proofs.CalledLemmas.{lasts_living, lives_computed, longer_lasts, settled_lasts}
 use Rattle.law_turns.proofs.ImageLemmas.{given}
-use Rattle.law_turns.proofs.RunLemmas.{decoded_alike, lives_too}
+use Rattle.law_turns.proofs.RunLemmas.{decoded_alike}
 use Rattle.law_turns.proofs.SettleLemmas.{match_settled}
 use Rattle.law_turns.proofs.UnreadLemmas.{calm_unread, unread_before}
 use Rattle.law_stops.proofs.AnsweredLemmas.{told_again}
 use Rattle.law_stops.proofs.CallLemmas as before
 use Rattle.law_stops.proofs.CallLemmas.{own_image}
+use Rattle.law_stops.proofs.CallerLemmas.{FakedCallers, faked_callers_of, untold_callers}
 use Rattle.law_stops.specs.Calls.{IdentityCallsGoTogether}
 use Rattle.law_stops.specs.Editing.{stop_in}
-use Rattle.law_stops.specs.Going.{ComeFromFakedCall, ComeToFakedCall, StandAlike, untold}
+use Rattle.law_stops.specs.Going.{ComeFromFakedCall, IsCalmFaked, StandAlike, StayTogetherFaked, faked_after}
+use Rattle.law_stops.specs.Scene.{Scene, asked, caller_here, traced_after}
 use Rattle.law_stops.proofs.EditLemmas.{both_edited}
 use Rattle.law_stops.proofs.EntryLemmas as entry
 use Rattle.law_stops.proofs.KernelLemmas.{left, not_begun, told_exit, told_left, untold_exit}
@@ -81,8 +83,10 @@ is_answered root i (call.Getgroups size list) e is = record { due = refl; runs =
 is_answered root i (call.Setgroups size list) e is = record { due = refl; runs = refl; silent = λ tags pid number. refl }
 is_answered root i _ e is = absurd cc
 
-module _ (table : List Row) (made pid : ℕ) (m : Machine Faking) (n : Machine Tracing) (r : Request) (e : Effect) (c : ComeToFakedCall table made pid m n) (decoded : (decoded_at (calling 1 pid m.state)).reply ≡ Ok r) (is : effect (identity_at m.watcher.identities pid) r ≡ Some e)
-    (p q : Process ℕ Image) (lives : process pid m.state ≡ Some p) (also : process pid n.state ≡ Some q) (calm : (watched_call faker 1 table pid m).tally.broken ≡ None) where
+module _ {scene : Scene Faking} (callers : FakedCallers scene) (r : Request) (e : Effect) (decoded : asked scene ≡ Ok r) (is : effect (identity_at scene.mounted.watcher.identities scene.pid) r ≡ Some e) (calm : IsCalmFaked scene) where
+  open scene use {table, made, pid, mounted as m, traced as n}
+  open callers use {comes as c, also_caller as q, also_lives as also}
+
   abbrev f : Faking
   f = m.watcher
 
@@ -93,19 +97,19 @@ module _ (table : List Row) (made pid : ℕ) (m : Machine Faking) (n : Machine T
   w = n.state
 
   abbrev s1 : State ℕ Image
-  s1 = entry.s1 table made pid m n c p q lives also
+  s1 = entry.s1 callers
 
   abbrev p1 : Process ℕ Image
-  p1 = entry.p1 table made pid m n c p q lives also
+  p1 = entry.p1 callers
 
   lives1 : process pid s1 ≡ Some p1
-  lives1 = entry.lives1 table made pid m n c p q lives also
+  lives1 = entry.lives1 callers
 
   match1 : IsMatch table x.tags s1 w
-  match1 = before.match1 table made pid m (untold n) (entry.comes table made pid m n c p q lives also) p q lives also
+  match1 = before.match1 (untold_callers callers)
 
   reads : (decoded_by p1).reply ≡ Ok r
-  reads = sym (entry.decoded_first table made pid m n c p q lives also) ∙ sym (ap (λ t. (decoded_at t).reply) (entry.calling_is table made pid m n c p q lives also)) ∙ decoded
+  reads = sym (entry.decoded_first callers) ∙ sym (ap (λ t. (decoded_at t).reply) (entry.calling_is callers)) ∙ decoded
 
   -- what is done in either memory in place of the call
   abbrev action : Action Answered
@@ -132,36 +136,36 @@ module _ (table : List Row) (made pid : ℕ) (m : Machine Faking) (n : Machine T
   left1 = taken.left pid s1 p1 lives1 done.memory
 
   abbrev second : Stopped
-  second = entry.second table made pid m n c p q lives also
+  second = entry.second callers
 
   image_second : image_at second ≡ record { regs = p1.image.regs; memory = (decoded_by p1).memory }
   image_second = own_image pid second.state (given pid p1.image.regs (decoded_by p1).memory p1) (lives_computed pid p1.image.regs (decoded_by p1).memory s1 p1 lives1)
 
-  enters : faked_entry f (calling 1 pid m.state) ≡ (f1, stop_in pid left1 nothing_handed)
+  enters : faked_entry f (caller_here scene) ≡ (f1, stop_in pid left1 nothing_handed)
   enters =
-      ap (faked_entry f) (entry.calling_is table made pid m n c p q lives also)
-      ∙ ap (faked_decoding f (after_request (stop_in pid s1 nothing_handed))) (entry.decoded_first table made pid m n c p q lives also ∙ reads)
+      ap (faked_entry f) (entry.calling_is callers)
+      ∙ ap (faked_decoding f (after_request (stop_in pid s1 nothing_handed))) (entry.decoded_first callers ∙ reads)
       ∙ ap (faked_effect f r (after_request (stop_in pid s1 nothing_handed))) is
-      ∙ ap (λ t. faked_effect f r t (Some e)) (entry.after_first table made pid m n c p q lives also)
+      ∙ ap (λ t. faked_effect f r t (Some e)) (entry.after_first callers)
       ∙ ap (λ (image : Image). let done = carried_out action image.memory in (with_due pid (Some (due.Tells (get_or image.regs.x 17 0) done.reply.answer)) (keeping pid done.reply.identity f), no_longer_called (with_memory done.memory second))) image_second
       ∙ ap (λ (t : Stopped). (f1, t)) (taken.number_taken pid s1 p1 lives1 done.memory there_first (decoded_by p1).memory)
 
-  entered_call : watched_call faker 1 table pid m ≡ entry.behind_entry table made pid m n c p q lives also (f1, stop_in pid left1 nothing_handed)
-  entered_call = ap (entry.behind_entry table made pid m n c p q lives also) enters
+  entered_call : faked_after scene ≡ entry.behind_entry callers (f1, stop_in pid left1 nothing_handed)
+  entered_call = ap (entry.behind_entry callers) enters
 
   -- it read no marked byte
   unread : done.memory.read_marked ≡ false
   unread =
       unread_before (decoding (without_call p1.image.regs)) done.memory
-      (calm_unread table pid (entry.lacks table made pid m n c p q lives also) left1 (taken.caller pid s1 p1 lives1 done.memory) (taken.caller_lives pid s1 p1 lives1 done.memory)
-      (entry.calm_rule table made pid m n c p q lives also (f1, stop_in pid left1 nothing_handed) (sym (ap (λ (x : Machine Faking). x.tally.broken) entered_call) ∙ calm)))
+      (calm_unread table pid (entry.lacks callers) left1 (taken.caller pid s1 p1 lives1 done.memory) (taken.caller_lives pid s1 p1 lives1 done.memory)
+      (entry.calm_rule callers (f1, stop_in pid left1 nothing_handed) (sym (ap (λ (x : Machine Faking). x.tally.broken) entered_call) ∙ calm)))
 
   decoded_unread : (decoded_by p1).memory.read_marked ≡ false
   decoded_unread = unread_before action (decoded_by p1).memory unread
 
   same_pages : AreEqualUnmarked (decoded_by p1).memory.pages (decoded_by q).memory.pages
   same_pages =
-      subst (λ (pages : Pages). AreEqualUnmarked pages (decoded_by q).memory.pages) (sym (decoding-leaves-pages p1.image.regs p1.image.memory (entry.can table made pid m n c p q lives also).holds))
+      subst (λ (pages : Pages). AreEqualUnmarked pages (decoded_by q).memory.pages) (sym (decoding-leaves-pages p1.image.regs p1.image.memory (entry.can callers).holds))
       (subst (AreEqualUnmarked p1.image.memory.pages) (sym (decoding-leaves-pages q.image.regs q.image.memory (c.also_sized pid q also).bytes)) (match1.images.memories pid p1 q lives1 also))
 
   both_done : (done.reply ≡ also_done.reply) × AreEqualUnmarked done.memory.pages also_done.memory.pages
@@ -173,13 +177,13 @@ module _ (table : List Row) (made pid : ℕ) (m : Machine Faking) (n : Machine T
   stop = stop_in pid w nothing_handed
 
   stop_is : calling 0 pid w ≡ stop
-  stop_is = before.calling_is table made pid m (untold n) (entry.comes table made pid m n c p q lives also) p q lives also
+  stop_is = before.calling_is (untold_callers callers)
 
   reads_q : (decoded_by q).reply ≡ Ok r
   reads_q = sym (decoded_alike table x.tags pid s1 w p1 q match1 lives1 also decoded_unread).requests ∙ reads
 
   reads_there : (decoded_at stop).reply ≡ Ok r
-  reads_there = before.decoded_there table made pid m (untold n) (entry.comes table made pid m n c p q lives also) p q lives also ∙ reads_q
+  reads_there = before.decoded_there (untold_callers callers) ∙ reads_q
 
   there_stop : IsThere stop
   there_stop = there w pid nothing_handed q c.also_lasts.lawful.pids also
@@ -211,7 +215,7 @@ module _ (table : List Row) (made pid : ℕ) (m : Machine Faking) (n : Machine T
   abbrev behind_entry : Tracing × Stopped → Machine Tracing
   behind_entry e = after_plain tracer pid (plain_call plain pid e.1.state) e.0 (with_broken (plain_rule 0 plain pid (lacks_in 0 pid w) e.1.state) n.tally)
 
-  traced_call : watched_call tracer 0 plain pid n ≡ behind_entry (y, stop_in pid left2 nothing_handed)
+  traced_call : traced_after scene ≡ behind_entry (y, stop_in pid left2 nothing_handed)
   traced_call = ap (λ (t : Stopped). behind_entry (entered x t)) stop_is ∙ ap behind_entry enters_there
 
   -- ---- what both kernels refuse
@@ -245,7 +249,7 @@ module _ (table : List Row) (made pid : ℕ) (m : Machine Faking) (n : Machine T
   there_came : IsThere (called pid came)
   there_came =
       let lawful = lawful-image (λ k. k) table s1 match1.placed.lawful pid p1 lives1 done.memory like (λ _. without_call p1.image.regs) in
-      let lasts = settled_lasts table made pid (Answer (refusal ENOSYS)) left1 (record { lawful = lawful; lasts = lasts_living made (with_process pid (given pid (without_call p1.image.regs) done.memory)) s1 (entry.can table made pid m n c p q lives also).lasts.lasts }) in
+      let lasts = settled_lasts table made pid (Answer (refusal ENOSYS)) left1 (record { lawful = lawful; lasts = lasts_living made (with_process pid (given pid (without_call p1.image.regs) done.memory)) s1 (entry.can callers).lasts.lasts }) in
       there came.state pid nothing_handed (taken.refused_caller pid s1 p1 lives1 done.memory) lasts.lawful.pids (taken.refused_lives pid s1 p1 lives1 done.memory)
 
   there_came2 : IsThere (called pid came2)
@@ -266,9 +270,9 @@ module _ (table : List Row) (made pid : ℕ) (m : Machine Faking) (n : Machine T
   exits = ap (after_due kept (called pid came)) (get-insert_same f.dues pid (due.Tells number done.reply.answer))
 
   abbrev judged : Tally
-  judged = with_broken (plain_rule 1 table pid (entry.lacks table made pid m n c p q lives also) left1) m.tally
+  judged = with_broken (plain_rule 1 table pid (entry.lacks callers) left1) m.tally
 
-  mounted_is : watched_call faker 1 table pid m ≡ record { state = answered1; watcher = kept; tally = judged }
+  mounted_is : faked_after scene ≡ record { state = answered1; watcher = kept; tally = judged }
   mounted_is =
       entered_call
       ∙ ap (λ came. after_plain faker pid came f1 judged) came_is
@@ -321,7 +325,7 @@ module _ (table : List Row) (made pid : ℕ) (m : Machine Faking) (n : Machine T
       told_exit pending y (called pid came2) pending_there none_begun (with_identity pid also_done.reply.identity f.identities) refl
       ∙ ap (told_left pending y (called pid came2) pending_there (with_identity pid also_done.reply.identity f.identities)) answers.due
 
-  traced_is : watched_call tracer 0 plain pid n ≡ record { state = answered2; watcher = traced; tally = other }
+  traced_is : traced_after scene ≡ record { state = answered2; watcher = traced; tally = other }
   traced_is =
       traced_call
       ∙ ap (λ came. after_plain tracer pid came y other) came2_is
@@ -333,17 +337,17 @@ module _ (table : List Row) (made pid : ℕ) (m : Machine Faking) (n : Machine T
 
   before_answer : StandAlike table x.tags made (computed pid p1.image.regs done.memory s1) (computed pid q.image.regs also_done.memory w)
   before_answer =
-      subst (λ regs. StandAlike table x.tags made (computed pid p1.image.regs done.memory s1) (computed pid regs also_done.memory w)) (before.same_regs table made pid m (untold n) (entry.comes table made pid m n c p q lives also) p q lives also)
-      (both_edited table x.tags made pid s1 w p1 q lives1 also (record { matches = match1; lasts = (entry.can table made pid m n c p q lives also).lasts; also_lasts = c.also_lasts }) p1.image.regs done.memory also_done.memory both_done.1 like also_like)
+      subst (λ regs. StandAlike table x.tags made (computed pid p1.image.regs done.memory s1) (computed pid regs also_done.memory w)) (before.same_regs (untold_callers callers))
+      (both_edited table x.tags made pid s1 w p1 q lives1 also (record { matches = match1; lasts = (entry.can callers).lasts; also_lasts = c.also_lasts }) p1.image.regs done.memory also_done.memory both_done.1 like also_like)
 
   match_answered : IsMatch table x.tags answered1 answered2
   match_answered =
       subst (λ (a : Answered). IsMatch table x.tags answered1 (answered pid a.answer (computed pid q.image.regs also_done.memory w))) both_done.0
       (match_settled table x.tags pid (Answer done.reply.answer) (computed pid p1.image.regs done.memory s1) (computed pid q.image.regs also_done.memory w) before_answer.matches)
 
-  identities_together : ComeFromFakedCall table made (watched_call faker 1 table pid m) (watched_call tracer 0 plain pid n)
+  identities_together : StayTogetherFaked scene
   identities_together =
-      subst (λ (e : Machine Faking). ComeFromFakedCall table made e (watched_call tracer 0 plain pid n)) (sym mounted_is)
+      subst (λ (e : Machine Faking). ComeFromFakedCall table made e (traced_after scene)) (sym mounted_is)
       (subst (ComeFromFakedCall table made (record { state = answered1; watcher = kept; tally = judged })) (sym traced_is)
       (record {
         matches = record {
@@ -356,8 +360,4 @@ module _ (table : List Row) (made pid : ℕ) (m : Machine Faking) (n : Machine T
       }))
 
 pub identity_calls_go_together : IdentityCallsGoTogether
-identity_calls_go_together table made pid m n r e c decoded is calm = by (process pid m.state) refl c.lives
-  where
-    by : (o : Option (Process ℕ Image)) → process pid m.state ≡ o → IsSome o → ComeFromFakedCall table made (watched_call faker 1 table pid m) (watched_call tracer 0 plain pid n)
-    by None none some = absurd cc
-    by (Some p) lives some = let q = lives_too table n.watcher.tags pid m.state n.state p c.matches.states lives in identities_together table made pid m n r e c decoded is p q.0 lives q.1 calm
+identity_calls_go_together scene r e comes decoded is calm = identities_together (faked_callers_of comes) r e decoded is calm

@@ -19,7 +19,7 @@ use Rattle.law_turns.specs.kr_turns.Breaking.{plain_rule}
 use Rattle.law_turns.specs.kr_turns.PlainCall.{Came, plain_call}
 use Rattle.law_turns.specs.kr_turns.Shelving.{lacks_in}
 use Rattle.law_turns.specs.kr_stops.Stopped.{Stopped}
-use Rattle.law_turns.specs.kr_turns.Turn.{Machine, Tally, after_born, after_end, after_plain, called, calling, watched_call, with_broken}
+use Rattle.law_turns.specs.kr_turns.Turn.{Machine, Tally, after_born, after_end, after_plain, called, calling, with_broken}
 use Rattle.law_turns.specs.kr_stops.Watching.{unwatched}
 use Rattle.law_turns.proofs.kr_stops.EditLemmas.{computed-lives}
 use Rattle.law_turns.specs.law_places.Matching.{IsMatch}
@@ -35,14 +35,15 @@ use Rattle.law_edits.specs.pt_tracer.declared.plan.Plan.{Plan}
 use Rattle.law_edits.specs.pt_tracer.declared.registers.Arguments.{Arguments}
 use Rattle.law_turns.specs.Calls.{decoded_by}
 use Rattle.law_turns.specs.Sizes.{IsSized}
-use Rattle.law_turns.proofs.RunLemmas.{lives_too}
-use Rattle.law_stops.specs.Turning.{ComeFromCall}
 use Rattle.law_stops.proofs.CallLemmas as before
 use Rattle.law_stops.proofs.CallLemmas.{born_pending, end_status, unwatched_end}
+use Rattle.law_stops.proofs.CallerLemmas.{FakedCallers, faked_callers_of, untold_callers}
 use Rattle.law_stops.specs.Beginning.{GoesUntoldToProgram, ProgramsGoTogether, ReadsNoMark}
 use Rattle.law_stops.specs.Calls.{GoesUntold, KernelsCallsGoTogether}
 use Rattle.law_stops.specs.Editing.{IsEditedAlike, stop_in}
-use Rattle.law_stops.specs.Going.{ComeFromFakedCall, ComeToFakedCall, GoBySame, StandAlike, untold}
+use Rattle.law_stops.specs.Going.{ComeFromFakedCall, GoBySame, IsCalmFaked, StandAlike, StayTogetherFaked, untold}
+use Rattle.law_stops.specs.Scene.{IsCalm, Scene, asked, caller_here, came_here, came_there, mounted_after, traced_after}
+use Rattle.law_stops.specs.Turning.{ComeFromCall, StayTogether}
 use Rattle.law_stops.proofs.EditLemmas.{beginnings_keep_matches, edits_keep_matches}
 use Rattle.law_stops.proofs.EntryLemmas as entry
 use Rattle.law_stops.proofs.ProgramLemmas.{programs_read_no_mark}
@@ -190,16 +191,18 @@ module _ (p : Pending) where
 
 -- ---- the whole call
 
-module _ (table : List Row) (made pid : ℕ) (m : Machine Faking) (n : Machine Tracing) (r : Request) (c : ComeToFakedCall table made pid m n) (decoded : (decoded_at (calling 1 pid m.state)).reply ≡ Ok r) (none : effect (identity_at m.watcher.identities pid) r ≡ None) (p q : Process ℕ Image) (lives : process pid m.state ≡ Some p) (also : process pid n.state ≡ Some q)
-    (calm : (watched_call faker 1 table pid m).tally.broken ≡ None) where
+module _ {scene : Scene Faking} (callers : FakedCallers scene) (r : Request) (decoded : asked scene ≡ Ok r) (none : effect (identity_at scene.mounted.watcher.identities scene.pid) r ≡ None) (calm : IsCalmFaked scene) where
+  open scene use {table, made, pid, mounted as m, traced as n}
+  open callers use {comes as c, caller as p, lives}
+
   abbrev f : Faking
   f = m.watcher
 
   abbrev x : Tracing
   x = n.watcher
 
-  reads : (decoded_by (entry.p1 table made pid m n c p q lives also)).reply ≡ Ok r
-  reads = sym (entry.decoded_first table made pid m n c p q lives also) ∙ sym (ap (λ t. (decoded_at t).reply) (entry.calling_is table made pid m n c p q lives also)) ∙ decoded
+  reads : (decoded_by (entry.p1 callers)).reply ≡ Ok r
+  reads = sym (entry.decoded_first callers) ∙ sym (ap (λ t. (decoded_at t).reply) (entry.calling_is callers)) ∙ decoded
 
   -- ---- the first stop with mounts
 
@@ -210,23 +213,23 @@ module _ (table : List Row) (made pid : ℕ) (m : Machine Faking) (n : Machine T
   f1 = with_due pid owed (keeping pid (identity_at f.identities pid) f)
 
   abbrev first : Stopped
-  first = entry.first table made pid m n c p q lives also
+  first = entry.first callers
 
-  enters : faked_entry f (calling 1 pid m.state) ≡ (f1, entry.second table made pid m n c p q lives also)
+  enters : faked_entry f (caller_here scene) ≡ (f1, entry.second callers)
   enters =
-      ap (faked_entry f) (entry.calling_is table made pid m n c p q lives also)
-      ∙ ap (faked_decoding f (after_request first)) (entry.decoded_first table made pid m n c p q lives also ∙ reads)
+      ap (faked_entry f) (entry.calling_is callers)
+      ∙ ap (faked_decoding f (after_request first)) (entry.decoded_first callers ∙ reads)
       ∙ ap (faked_effect f r (after_request first)) none
-      ∙ ap (λ (t : Stopped). (f1, t)) (entry.after_first table made pid m n c p q lives also)
+      ∙ ap (λ (t : Stopped). (f1, t)) (entry.after_first callers)
 
-  unwatched_calm : (watched_call unwatched 1 table pid m).tally.broken ≡ None
-  unwatched_calm = entry.unwatched_calm table made pid m n c p q lives also f1 enters calm
+  unwatched_calm : IsCalm scene
+  unwatched_calm = entry.unwatched_calm callers f1 enters calm
 
   abbrev came : Came
-  came = plain_call table pid (entry.s1 table made pid m n c p q lives also)
+  came = plain_call table pid (entry.s1 callers)
 
   abbrev judged : Tally
-  judged = before.judged table made pid m (untold n) (entry.comes table made pid m n c p q lives also) p q lives also
+  judged = before.judged (untold_callers callers)
 
   abbrev g : Faking
   g = after_born faker pid came.child f1
@@ -234,16 +237,16 @@ module _ (table : List Row) (made pid : ℕ) (m : Machine Faking) (n : Machine T
   -- ---- the first stop of the tracer
 
   abbrev stop : Stopped
-  stop = before.stop table made pid m (untold n) (entry.comes table made pid m n c p q lives also) p q lives also
+  stop = before.stop (untold_callers callers)
 
   reads_there : (decoded_at stop).reply ≡ Ok r
   reads_there =
-      before.decoded_there table made pid m (untold n) (entry.comes table made pid m n c p q lives also) p q lives also
-      ∙ sym (before.requests table made pid m (untold n) (entry.comes table made pid m n c p q lives also) p q lives also unwatched_calm)
+      before.decoded_there (untold_callers callers)
+      ∙ sym (before.requests (untold_callers callers) unwatched_calm)
       ∙ reads
 
   stop_is : calling 0 pid n.state ≡ stop
-  stop_is = before.calling_is table made pid m (untold n) (entry.comes table made pid m n c p q lives also) p q lives also
+  stop_is = before.calling_is (untold_callers callers)
 
   abbrev plan : Plan × Stopped
   plan = planned x.bindings x.tags (after_request stop) r
@@ -264,8 +267,8 @@ module _ (table : List Row) (made pid : ℕ) (m : Machine Faking) (n : Machine T
       ∙ ap (by_identities x r (after_request stop)) c.goes.identities
       ∙ ap (after_effect x f.identities r (after_request stop)) none
 
-  enters_untold : entered (untold n).watcher stop ≡ (with_identities None y, done.stopped)
-  enters_untold = ap (after_decoding (untold n).watcher (after_request stop)) reads_there
+  enters_untold : entered (untold scene).traced.watcher stop ≡ (with_identities None y, done.stopped)
+  enters_untold = ap (after_decoding (untold scene).traced.watcher (after_request stop)) reads_there
 
   abbrev came2 : Came
   came2 = plain_call plain pid done.stopped.state
@@ -279,20 +282,20 @@ module _ (table : List Row) (made pid : ℕ) (m : Machine Faking) (n : Machine T
   abbrev behind_entry : Tracing × Stopped → Machine Tracing
   behind_entry e = after_plain tracer pid (plain_call plain pid e.1.state) e.0 (with_broken (plain_rule 0 plain pid (lacks_in 0 pid n.state) e.1.state) n.tally)
 
-  traced_call : watched_call tracer 0 plain pid n ≡ after_plain tracer pid came2 y other
+  traced_call : traced_after scene ≡ after_plain tracer pid came2 y other
   traced_call = ap (λ (t : Stopped). behind_entry (entered x t)) stop_is ∙ ap behind_entry enters_there
 
-  untold_call : watched_call tracer 0 plain pid (untold n) ≡ after_end tracer pid came2.end (called pid came2) (with_identities None z) other
+  untold_call : traced_after (untold scene) ≡ after_end tracer pid came2.end (called pid came2) (with_identities None z) other
   untold_call =
-      before.traced_call table made pid m (untold n) (entry.comes table made pid m n c p q lives also) p q lives also (with_identities None y) done.stopped enters_untold
+      before.traced_call (untold_callers callers) (with_identities None y) done.stopped enters_untold
       ∙ ap (λ y. after_end tracer pid came2.end (called pid came2) y other) (sym (born_untold pid came2.child y))
 
-  came_is : plain_call table pid (calling 1 pid m.state).state ≡ came
-  came_is = ap (λ (t : Stopped). plain_call table pid t.state) (entry.calling_is table made pid m n c p q lives also)
+  came_is : came_here scene ≡ came
+  came_is = ap (λ (t : Stopped). plain_call table pid t.state) (entry.calling_is callers)
 
-  came2_is : plain_call plain pid (entered (untold n).watcher (calling 0 pid n.state)).1.state ≡ came2
+  came2_is : came_there (untold scene) ≡ came2
   came2_is =
-      ap (λ (t : Stopped). plain_call plain pid (entered (untold n).watcher t).1.state) stop_is
+      ap (λ (t : Stopped). plain_call plain pid (entered (untold scene).traced.watcher t).1.state) stop_is
       ∙ ap (λ (e : Tracing × Stopped). plain_call plain pid e.1.state) enters_untold
 
   abbrev kept : Faking
@@ -306,23 +309,23 @@ module _ (table : List Row) (made pid : ℕ) (m : Machine Faking) (n : Machine T
 
   -- ---- where it ends alike, and keeps both machines together without an identity
 
-  module _ (ends : came.end ≡ came2.end) (children : came.child ≡ came2.child) (goes : ComeFromCall table made (watched_call unwatched 1 table pid m) (watched_call tracer 0 plain pid (untold n))) where
+  module _ (ends : came.end ≡ came2.end) (children : came.child ≡ came2.child) (goes : StayTogether (untold scene)) where
     go : GoBySame table g z
     go =
         subst (λ o. GoBySame table g (after_born tracer pid o y)) children
         (goes_born table pid f1 y (record { bindings = c.goes.bindings; user = c.goes.user; identities = refl }) came.child)
 
-    unwatched_is : watched_call unwatched 1 table pid m ≡ after_plain unwatched pid came f judged
-    unwatched_is = before.mounted_call table made pid m (untold n) (entry.comes table made pid m n c p q lives also) p q lives also
+    unwatched_is : mounted_after scene ≡ after_plain unwatched pid came f judged
+    unwatched_is = before.mounted_call (untold_callers callers)
 
-    unwatched_state : (watched_call unwatched 1 table pid m).state ≡ came.state
+    unwatched_state : (mounted_after scene).state ≡ came.state
     unwatched_state = ap (λ (m : Machine Faking). m.state) unwatched_is ∙ unwatched_end pid came.end (called pid came) (after_born unwatched pid came.child f) judged
 
     abbrev untold_end : Machine Tracing
     untold_end = after_end tracer pid came2.end (called pid came2) (with_identities None z) other
 
-    together : ComeFromCall table made (watched_call unwatched 1 table pid m) untold_end
-    together = subst (ComeFromCall table made (watched_call unwatched 1 table pid m)) untold_call goes
+    together : ComeFromCall table made (mounted_after scene) untold_end
+    together = subst (ComeFromCall table made (mounted_after scene)) untold_call goes
 
     both : StandAlike table untold_end.watcher.tags (suc made) came.state untold_end.state
     both = record {
@@ -338,9 +341,9 @@ module _ (table : List Row) (made pid : ℕ) (m : Machine Faking) (n : Machine T
         ∙ together.matches.statuses
         ∙ end_status tracer pid came2.end (called pid came2) (with_identities None z) other
 
-    by_exits : ExitAlike table made pid came came2 g z judged other → ComeFromFakedCall table made (watched_call faker 1 table pid m) (watched_call tracer 0 plain pid n)
+    by_exits : ExitAlike table made pid came came2 g z judged other → StayTogetherFaked scene
     by_exits exits =
-        subst (λ (e : Machine Faking). ComeFromFakedCall table made e (watched_call tracer 0 plain pid n)) (sym (entry.faked_call table made pid m n c p q lives also f1 enters calm))
+        subst (λ (e : Machine Faking). ComeFromFakedCall table made e (traced_after scene)) (sym (entry.faked_call callers f1 enters calm))
         (subst (ComeFromFakedCall table made (after_plain faker pid came f1 judged)) (sym traced_call)
         (subst (λ e. ComeFromFakedCall table made (after_end faker pid e (called pid came) g judged) (after_plain tracer pid came2 y other)) (sym ends)
         (by_end table made pid came came2 g z judged other go exits came2.end both statuses)))
@@ -396,7 +399,7 @@ module _ (table : List Row) (made pid : ℕ) (m : Machine Faking) (n : Machine T
         edits = λ tags some alike. (both_edited tags some alike).0;
       }
 
-      kernels_together : ComeFromFakedCall table made (watched_call faker 1 table pid m) (watched_call tracer 0 plain pid n)
+      kernels_together : StayTogetherFaked scene
       kernels_together = by_exits exits
 
     -- ---- one that begins a program, or might
@@ -447,53 +450,43 @@ module _ (table : List Row) (made pid : ℕ) (m : Machine Faking) (n : Machine T
         edits = λ tags some alike. alike;
       }
 
-      program_together : ComeFromFakedCall table made (watched_call faker 1 table pid m) (watched_call tracer 0 plain pid n)
+      program_together : StayTogetherFaked scene
       program_together = by_exits (exits_by_begun begun refl)
 
-  module _ (kind : IsNoExec r) (goes : GoesUntold table pid m n r made) where
-    goes_together : ComeFromFakedCall table made (watched_call faker 1 table pid m) (watched_call tracer 0 plain pid n)
+  module _ (kind : IsNoExec r) (goes : GoesUntold scene r) where
+    goes_together : StayTogetherFaked scene
     goes_together =
         kernels_together (ap (λ (c : Came). c.end) (sym came_is) ∙ goes.ends ∙ ap (λ (c : Came). c.end) came2_is) (ap (λ (c : Came). c.child) (sym came_is) ∙ goes.children ∙ ap (λ (c : Came). c.child) came2_is) goes.together kind
         (subst (λ (c : Came). IsEditedAlike f (called pid c) plan.0.led.at_root came2.handed.target owed) came_is
-        (subst (λ (c : Came). IsEditedAlike f (called pid (plain_call table pid (calling 1 pid m.state).state)) plan.0.led.at_root c.handed.target owed) came2_is
+        (subst (λ (c : Came). IsEditedAlike f (called pid (came_here scene)) plan.0.led.at_root c.handed.target owed) came2_is
         (subst
-        (λ (t : Stopped). IsEditedAlike f (called pid (plain_call table pid (calling 1 pid m.state).state)) (planned x.bindings x.tags (after_request t) r).0.led.at_root
-        (plain_call plain pid (entered (untold n).watcher (calling 0 pid n.state)).1.state).handed.target owed) stop_is goes.edit)))
+        (λ (t : Stopped). IsEditedAlike f (called pid (came_here scene)) (planned x.bindings x.tags (after_request t) r).0.led.at_root
+        (came_there (untold scene)).handed.target owed) stop_is goes.edit)))
 
-  module _ (runs : is_execve r ≡ true) (goes : GoesUntoldToProgram table pid m n r made) where
+  module _ (runs : is_execve r ≡ true) (goes : GoesUntoldToProgram scene) where
     pending_is : goes.pending ≡ pending
     pending_is =
         some_same
         (sym goes.kept
-        ∙ ap (λ (t : Stopped). map.get (entered (untold n).watcher t).0.pending pid) stop_is
+        ∙ ap (λ (t : Stopped). map.get (entered (untold scene).traced.watcher t).0.pending pid) stop_is
         ∙ ap (λ (e : Tracing × Stopped). map.get e.0.pending pid) enters_untold
         ∙ get-insert_same x.pending pid pending)
 
-    runs_together : ComeFromFakedCall table made (watched_call faker 1 table pid m) (watched_call tracer 0 plain pid n)
+    runs_together : StayTogetherFaked scene
     runs_together =
         program_together (ap (λ (c : Came). c.end) (sym came_is) ∙ goes.ends ∙ ap (λ (c : Came). c.end) came2_is) (ap (λ (c : Came). c.child) (sym came_is) ∙ goes.children ∙ ap (λ (c : Came). c.child) came2_is) goes.together runs
         goes.begun (ap (λ (c : Came). has_answered_zero (called pid c)) (sym came_is) ∙ goes.begins)
-        (ap (λ (c : Came). has_begun pending (called pid c)) (sym came2_is) ∙ ap (λ (p : Pending). has_begun p (called pid (plain_call plain pid (entered (untold n).watcher (calling 0 pid n.state)).1.state))) (sym pending_is) ∙ goes.also_begins)
-        (λ is. program_reads table pid (entry.s1 table made pid m n c p q lives also) (entry.p1 table made pid m n c p q lives also) r (entry.lives1 table made pid m n c p q lives also)
-        (record { bytes = (entry.can table made pid m n c p q lives also).holds; registers = (c.sized pid p lives).registers }) reads runs (ap (λ (c : Came). has_answered_zero (called pid c)) (sym came_is) ∙ goes.begins ∙ is))
+        (ap (λ (c : Came). has_begun pending (called pid c)) (sym came2_is) ∙ ap (λ (p : Pending). has_begun p (called pid (came_there (untold scene)))) (sym pending_is) ∙ goes.also_begins)
+        (λ is. program_reads table pid (entry.s1 callers) (entry.p1 callers) r (entry.lives1 callers)
+        (record { bytes = (entry.can callers).holds; registers = (c.sized pid p lives).registers }) reads runs (ap (λ (c : Came). has_answered_zero (called pid c)) (sym came_is) ∙ goes.begins ∙ is))
 
 pub kernels_calls_go_together : KernelsCallsGoTogether
-kernels_calls_go_together table made pid m n r c is untold_goes calm = by (process pid m.state) refl c.lives
-  where
-    by : (o : Option (Process ℕ Image)) → process pid m.state ≡ o → IsSome o → ComeFromFakedCall table made (watched_call faker 1 table pid m) (watched_call tracer 0 plain pid n)
-    by None none some = absurd cc
-    by (Some p) lives some =
-        let q = lives_too table n.watcher.tags pid m.state n.state p c.matches.states lives in
-        goes_together table made pid m n r c is.decoded is.none p q.0 lives q.1 calm is.kind (untold_goes (unwatched_calm table made pid m n r c is.decoded is.none p q.0 lives q.1 calm))
+kernels_calls_go_together scene r comes is untold_goes calm =
+    let callers = faked_callers_of comes in
+    goes_together callers r is.decoded is.none calm is.kind (untold_goes (unwatched_calm callers r is.decoded is.none calm))
 
 pub programs_go_together : ProgramsGoTogether
-programs_go_together table made pid m n r c decoded runs untold_goes calm = by (process pid m.state) refl c.lives
-  where
-    none : effect (identity_at m.watcher.identities pid) r ≡ None
-    none = program_none (identity_at m.watcher.identities pid) r runs
-
-    by : (o : Option (Process ℕ Image)) → process pid m.state ≡ o → IsSome o → ComeFromFakedCall table made (watched_call faker 1 table pid m) (watched_call tracer 0 plain pid n)
-    by None nothing some = absurd cc
-    by (Some p) lives some =
-        let q = lives_too table n.watcher.tags pid m.state n.state p c.matches.states lives in
-        runs_together table made pid m n r c decoded none p q.0 lives q.1 calm runs (untold_goes (unwatched_calm table made pid m n r c decoded none p q.0 lives q.1 calm))
+programs_go_together scene r comes decoded runs untold_goes calm =
+    let callers = faked_callers_of comes in
+    let none = program_none (identity_at scene.mounted.watcher.identities scene.pid) r runs in
+    runs_together callers r decoded none calm runs (untold_goes (unwatched_calm callers r decoded none calm))

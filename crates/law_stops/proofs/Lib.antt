@@ -9,6 +9,7 @@ pub use Rattle.law_edits.proofs as law_edits
 pub use Rattle.law_turns.proofs as law_turns
 pub mod AnsweredLemmas
 pub mod CallLemmas
+pub mod CallerLemmas
 pub mod CarryLemmas
 pub mod EmulateLemmas
 pub mod EnterLemmas

@@ -54,6 +54,7 @@ use Rattle.law_stops.specs.Turning.{tags_kept}
 use Rattle.law_stops.proofs.CallLemmas.{own_image}
 use Rattle.law_stops.specs.Going.{ComeToFakedCall, GoBySame}
 use Rattle.law_stops.specs.Runs.{CanRunFaked, EachCallGoesTogether, FakedRunsComeAlike, FakedTurnsGoTogether, Kept, faked_by, traced_by}
+use Rattle.law_stops.specs.Scene.{Scene}
 use Rattle.law_stops.proofs.GoingLemmas.{goes_gone}
 
 some_same : {A : Type 0} {a b : A} → Some a ≡ Some b → a ≡ b
@@ -262,7 +263,10 @@ module _ (safe : Faking → Bool) (sound : Tracing → Bool) (table : List Row) 
             computing-keeps-bytes ℕ pid (ran fuel r.image.regs r.image.memory).regs (ran fuel r.image.regs r.image.memory).memory s (instructions-keep-bytes fuel r.image.regs r.image.memory own.memory)
             (instructions-keep-registers fuel r.image.regs r.image.memory ∙ own.registers) has
 
-        comes : ComeToFakedCall table made pid m1 n1
+        abbrev scene : Scene Faking
+        scene = record { table = table; made = made; pid = pid; mounted = m1; traced = n1 }
+
+        comes : ComeToFakedCall scene
         comes = record {
           matches = record { states = alike.matches; statuses = both.matches.statuses };
           lasts = run_lasts table made fuel m.state p lives both.lasts;
@@ -278,7 +282,7 @@ module _ (safe : Faking → Bool) (sound : Tracing → Bool) (table : List Row) 
 
         by_call : Turned
         by_call =
-            let from = calls made pid m1 n1 comes refl calm_call in
+            let from = calls scene refl comes refl calm_call in
             subst (λ x. GoOn table (suc made) x (turn tracer 0 plain pick fuel n)) (sym (mounted_is ∙ ap (λ e. after_event faker 1 table pid e m1) event))
             (subst (GoOn table (suc made) (watched_call faker 1 table pid m1)) (sym (traced_is ∙ ap (λ e. after_event tracer 0 plain pid e n1) (sym alike.ends.event ∙ event)))
             (record { together = record { matches = from.matches; lasts = from.lasts; also_lasts = from.also_lasts }; goes = from.goes }))

@@ -12,7 +12,7 @@ use Rattle.pt_args.specs.rv_mem.declared.regs.Regs.{Regs}
 use Rattle.pt_args.specs.Laws.{ShelvesHoldTheirItems, TextsAreReadBack, poked}
 use Rattle.pt_args.specs.declared.edit.Edit.TheVariants.{Pass}
 use Rattle.law_turns.specs.pt_results.Notes.{noted, tags_after}
-use Rattle.law_edits.specs.kr_view.View.{Row, plain}
+use Rattle.law_edits.specs.kr_view.View.{plain}
 use Rattle.pt_args.specs.kr_calls.Decoding.{decoding}
 use Rattle.law_turns.specs.law_kept.Bytes.{HasBytes}
 use Rattle.law_turns.proofs.law_kept.LivingLemmas.{process-bytes}
@@ -20,16 +20,15 @@ use Rattle.pt_args.specs.kr_calls.PathTable.{path_at}
 use Rattle.pt_args.specs.kr_calls.declared.request.Request.{Request}
 use Rattle.pt_args.specs.kr_calls.declared.request.Request.TheVariants as call
 use Rattle.law_turns.proofs.law_allowed.RowLemmas.{StaysLike, stays-like}
-use Rattle.law_edits.specs.kr_model.State.{Image, Process, State, process}
+use Rattle.law_edits.specs.kr_model.State.{Image, Process, State}
 use Rattle.law_turns.specs.kr_turns.PlainCall.{Came}
 use Rattle.law_turns.specs.kr_stops.Stopped.{IsThere, Stopped, edited, image_at, nothing_handed}
-use Rattle.law_turns.specs.kr_turns.Turn.{Machine, called, calling, watched_call}
-use Rattle.law_turns.specs.kr_stops.Watching.{unwatched}
+use Rattle.law_turns.specs.kr_turns.Turn.{called}
 use Rattle.law_turns.proofs.kr_stops.EditLemmas.{image-edited, there as is_there}
 use Rattle.law_edits.specs.pt_faker.Stopping.{after_request, decoded_at, memory_at}
 use Rattle.law_edits.specs.pt_tracer.Planning.{edit_for, led_of, planned_by, stack_at, texts_at}
 use Rattle.law_edits.specs.pt_tracer.Registers.{arguments_at}
-use Rattle.law_edits.specs.pt_tracer.Watched.{Applied, Tracing, after_decoding, after_plan, answer_at, applied, awaiting, by_identities, entered, exited, tracer, with_pending, with_tags, without_pending}
+use Rattle.law_edits.specs.pt_tracer.Watched.{Applied, Tracing, after_decoding, after_plan, answer_at, applied, awaiting, by_identities, entered, exited, with_pending, with_tags, without_pending}
 use Rattle.law_edits.specs.pt_tracer.declared.pending.Pending.{Pending}
 use Rattle.law_edits.specs.pt_tracer.declared.plan.Led.{Led}
 use Rattle.law_edits.specs.pt_tracer.declared.registers.Arguments.{Arguments}
@@ -38,13 +37,13 @@ use Rattle.law_edits.specs.Exits.{left_with}
 use Rattle.law_turns.specs.Calls.{decoded_by}
 use Rattle.law_turns.proofs.CalledLemmas.{decoded_holds}
 use Rattle.law_turns.proofs.ImageLemmas.{given}
-use Rattle.law_turns.proofs.RunLemmas.{lives_too}
-use Rattle.law_stops.specs.Cancelling.{at_first_stop}
+use Rattle.law_stops.specs.Scene.{IsCalm, Scene, at_first_stop, caller_here, caller_there, edit_there}
 use Rattle.law_stops.specs.Swapping.{IsPassedAlike, IsSwappedAlike, PassedCallsGoTogether, SwappedCallsGoTogether}
-use Rattle.law_stops.specs.Turning.{ComeFromCall, ComeToCall}
+use Rattle.law_stops.specs.Turning.{StayTogether}
 use Rattle.law_stops.proofs.AnsweredLemmas.{lives_changed}
 use Rattle.law_stops.proofs.CallLemmas as before
 use Rattle.law_stops.proofs.CallLemmas.{exit_status, own_image, plain_named, unwatched_exit}
+use Rattle.law_stops.proofs.CallerLemmas.{Callers, callers_of}
 use Rattle.law_edits.specs.Requests.{NewText, with_first, with_second, with_swaps}
 use Rattle.law_edits.specs.Shelves.{items_at, memory_behind, new_texts, registers_behind, swap_edit}
 use Rattle.law_edits.specs.Stops.{CanBeSwapped, IsSwapped}
@@ -86,21 +85,22 @@ then_stays first second = record { whole = second.whole; placed = second.placed;
 
 -- ---- swapped paths
 
-module _ {S : Type 0} (back : TextsAreReadBack) (shelves : ShelvesHoldTheirItems) (table : List Row) (made pid : ℕ) (m : Machine S) (n : Machine Tracing) (r : Request) (first : NewText) (second : Option NewText) (c : ComeToCall table made pid m n)
-    (can : CanBeSwapped (calling 0 pid n.state) (memory_at (calling 1 pid m.state)) r first second)
-    (swap : edit_for (texts_at n.watcher.bindings n.watcher.tags (at_first_stop pid n)) (at_first_stop pid n) r ≡ swap_edit (stack_at (at_first_stop pid n)) first second) (p q : Process ℕ Image) (lives : process pid m.state ≡ Some p)
-    (also : process pid n.state ≡ Some q) where
+module _ {S : Type 0} {scene : Scene S} (back : TextsAreReadBack) (shelves : ShelvesHoldTheirItems) (callers : Callers scene) (r : Request) (first : NewText) (second : Option NewText)
+    (can : CanBeSwapped (caller_there scene) (memory_at (caller_here scene)) r first second) (swap : edit_there scene r ≡ swap_edit (stack_at (at_first_stop scene)) first second) where
+  open scene use {pid, traced as n}
+  open callers use {comes as c, also_caller as q, also_lives as also}
+
   abbrev x : Tracing
   x = n.watcher
 
   abbrev s1 : State ℕ Image
-  s1 = before.s1 table made pid m n c p q lives also
+  s1 = before.s1 callers
 
   abbrev p1 : Process ℕ Image
-  p1 = before.p1 table made pid m n c p q lives also
+  p1 = before.p1 callers
 
   abbrev stop : Stopped
-  stop = before.stop table made pid m n c p q lives also
+  stop = before.stop callers
 
   abbrev sp : ℕ
   sp = stack_at (after_request stop)
@@ -116,9 +116,9 @@ module _ {S : Type 0} (back : TextsAreReadBack) (shelves : ShelvesHoldTheirItems
 
   can_here : CanBeSwapped stop p1.image.memory r first second
   can_here =
-      subst (λ t. CanBeSwapped t p1.image.memory r first second) (before.calling_is table made pid m n c p q lives also)
-      (subst (λ memory. CanBeSwapped (calling 0 pid n.state) memory r first second)
-      (ap (λ t. memory_at (record { state = t; pid = pid; handed = nothing_handed })) (before.shelf table made pid m n c p q lives also) ∙ ap (λ (image : Image). image.memory) (own_image pid s1 p1 (before.lives1 table made pid m n c p q lives also))) can)
+      subst (λ t. CanBeSwapped t p1.image.memory r first second) (before.calling_is callers)
+      (subst (λ memory. CanBeSwapped (caller_there scene) memory r first second)
+      (ap (λ t. memory_at (record { state = t; pid = pid; handed = nothing_handed })) (before.shelf callers) ∙ ap (λ (image : Image). image.memory) (own_image pid s1 p1 (before.lives1 callers))) can)
 
   abbrev made_of : Applied
   made_of = applied (swap_edit sp first second) (after_request stop)
@@ -130,7 +130,7 @@ module _ {S : Type 0} (back : TextsAreReadBack) (shelves : ShelvesHoldTheirItems
   made_is = swapped.stopped ∙ ap (λ (image : Image). edited (registers_behind sp first second image.regs) (memory_behind sp first second (carried_out (decoding image.regs) image.memory).memory) stop) (own_image pid n.state q also)
 
   swaps : edit_for (texts_at x.bindings x.tags (after_request stop)) (after_request stop) r ≡ swap_edit sp first second
-  swaps = subst (λ t. edit_for (texts_at x.bindings x.tags (after_request t)) (after_request t) r ≡ swap_edit (stack_at (after_request t)) first second) (before.calling_is table made pid m n c p q lives also) swap
+  swaps = subst (λ t. edit_for (texts_at x.bindings x.tags (after_request t)) (after_request t) r ≡ swap_edit (stack_at (after_request t)) first second) (before.calling_is callers) swap
 
   -- what it leaves
   pub swap_left : (applied (edit_for (texts_at x.bindings x.tags (after_request stop)) (after_request stop) r) (after_request stop)).stopped ≡ left
@@ -154,13 +154,13 @@ module _ {S : Type 0} (back : TextsAreReadBack) (shelves : ShelvesHoldTheirItems
 
   pub swap_bytes : is_told_of_paths r ≡ true → HoldsBytes memory3.pages
   swap_bytes kind =
-      let has = subst (λ t. HasBytes (entered x t).1.state) (before.calling_is table made pid m n c p q lives also) c.watched in
+      let has = subst (λ t. HasBytes (entered x t).1.state) (before.calling_is callers) c.watched in
       (process-bytes pid left.state (subst (λ (t : Stopped). HasBytes t.state) (entered_there kind ∙ swap_left) has) (given pid regs3 memory3 q) (lives_changed pid (given pid regs3 memory3) (λ p. refl) n.state q also)).memory
 
   -- ---- told alike
 
-  module _ (alike : IsSwappedAlike table pid m n r first second) (calm : (watched_call unwatched 1 table pid m).tally.broken ≡ None) where
-    pub swap_entered : IsEntered table made pid m n r (with_swaps first second r) c alike.told p q lives also calm regs3.x memory3
+  module _ (alike : IsSwappedAlike scene r first second) (calm : IsCalm scene) where
+    pub swap_entered : IsEntered callers r (with_swaps first second r) alike.told calm regs3.x memory3
     swap_entered = record {
       answer = ap (λ edit. (applied edit (after_request stop)).answer) swaps ∙ swapped.answer;
       stopped = swap_left;
@@ -175,30 +175,26 @@ module _ {S : Type 0} (back : TextsAreReadBack) (shelves : ShelvesHoldTheirItems
           (regs ∙ ap (λ (image : Image). slice_set (registers_behind sp first second image.regs).x 10 word) (sym (own_image pid n.state q also)));
     }
 
-    pub swapped_together : ComeFromCall table made (watched_call unwatched 1 table pid m) (watched_call tracer 0 plain pid n)
-    swapped_together = carried_together table made pid m n r (with_swaps first second r) c alike.told p q lives also calm _ _ swap_entered
+    pub swapped_together : StayTogether scene
+    swapped_together = carried_together callers r (with_swaps first second r) alike.told calm _ _ swap_entered
 
 pub swapped_calls_go_together : TextsAreReadBack → ShelvesHoldTheirItems → (S : Type 0) → SwappedCallsGoTogether S
-swapped_calls_go_together back shelves S table made pid m n r first second c alike calm = by (process pid m.state) refl c.lives
-  where
-    by : (o : Option (Process ℕ Image)) → process pid m.state ≡ o → IsSome o → ComeFromCall table made (watched_call unwatched 1 table pid m) (watched_call tracer 0 plain pid n)
-    by None none some = absurd cc
-    by (Some p) lives some =
-        let q = lives_too table n.watcher.tags pid m.state n.state p c.matches.states lives in
-        swapped_together back shelves table made pid m n r first second c alike.can alike.swaps p q.0 lives q.1 alike calm
+swapped_calls_go_together back shelves S scene r first second comes alike calm = swapped_together back shelves (callers_of comes) r first second alike.can alike.swaps alike calm
 
 -- ---- paths that are left as they are
 
-module _ {S : Type 0} (table : List Row) (made pid : ℕ) (m : Machine S) (n : Machine Tracing) (r : Request) (c : ComeToCall table made pid m n) (alike : IsPassedAlike table pid m n r) (p q : Process ℕ Image) (lives : process pid m.state ≡ Some p)
-    (also : process pid n.state ≡ Some q) (calm : (watched_call unwatched 1 table pid m).tally.broken ≡ None) where
+module _ {S : Type 0} {scene : Scene S} (callers : Callers scene) (r : Request) (alike : IsPassedAlike scene r) (calm : IsCalm scene) where
+  open scene use {made, pid, traced as n}
+  open callers use {comes as c, also_caller as q, also_lives as also}
+
   abbrev plain_stop : Stopped
-  plain_stop = before.stop table made pid m n c p q lives also
+  plain_stop = before.stop callers
 
   abbrev keeps : Tracing
   keeps = n.watcher
 
   passes : edit_for (texts_at keeps.bindings keeps.tags (after_request plain_stop)) (after_request plain_stop) r ≡ Pass
-  passes = subst (λ t. edit_for (texts_at keeps.bindings keeps.tags (after_request t)) (after_request t) r ≡ Pass) (before.calling_is table made pid m n c p q lives also) alike.passes
+  passes = subst (λ t. edit_for (texts_at keeps.bindings keeps.tags (after_request t)) (after_request t) r ≡ Pass) (before.calling_is callers) alike.passes
 
   abbrev led : Led
   led = led_of (texts_at keeps.bindings keeps.tags (after_request plain_stop)) pid r
@@ -244,26 +240,21 @@ module _ {S : Type 0} (table : List Row) (made pid : ℕ) (m : Machine S) (n : M
         ∙ ap (λ t. (with_tags (tags_after y.tags pid (noted r led.index (cast_signed w64 word))) (without_pending pid y), t))
         (sym (ap (λ xs. edited (record { x = xs; pc = (image_at v).regs.pc }) (memory_at v) v) (ap (λ xs. slice_set xs 10 word) old_is ∙ sym regs) ∙ there.one))
 
-  pub pass_entered : IsEntered table made pid m n r r c alike.told p q lives also calm q.image.regs.x (decoded_by q).memory
+  pub pass_entered : IsEntered callers r r alike.told calm q.image.regs.x (decoded_by q).memory
   pass_entered =
       let own = c.also_lasts.lawful.processes pid q also in
       record {
         answer = ap (λ edit. (applied edit (after_request plain_stop)).answer) passes;
         stopped = ap (λ edit. (applied edit (after_request plain_stop)).stopped) passes ∙ after_is;
         like = stays-like (decoding q.image.regs) q.image.memory own.whole own.paged;
-        bytes = decoded_holds plain made pid n.state q (before.can_too table made pid m n c p q lives also);
-        unmarked = subst (AreEqualUnmarked (before.p1 table made pid m n c p q lives also).image.memory.pages) (sym (before.pages_left table made pid m n c p q lives also))
-            ((before.match1 table made pid m n c p q lives also).images.memories pid (before.p1 table made pid m n c p q lives also) q (before.lives1 table made pid m n c p q lives also) also);
-        reads = sym (before.requests_then table made pid m n c p q lives also calm) ∙ sym (before.decoded_here table made pid m n c p q lives also) ∙ alike.told.decoded;
+        bytes = decoded_holds plain made pid n.state q (before.can_too callers);
+        unmarked = subst (AreEqualUnmarked (before.p1 callers).image.memory.pages) (sym (before.pages_left callers))
+            ((before.match1 callers).images.memories pid (before.p1 callers) q (before.lives1 callers) also);
+        reads = sym (before.requests_then callers calm) ∙ sym (before.decoded_here callers) ∙ alike.told.decoded;
         kind = alike.told.kind;
         exits = passed_exit;
       }
 
 pub passed_calls_go_together : (S : Type 0) → PassedCallsGoTogether S
-passed_calls_go_together S table made pid m n r c alike calm = by (process pid m.state) refl c.lives
-  where
-    by : (o : Option (Process ℕ Image)) → process pid m.state ≡ o → IsSome o → ComeFromCall table made (watched_call unwatched 1 table pid m) (watched_call tracer 0 plain pid n)
-    by None none some = absurd cc
-    by (Some p) lives some =
-        let q = lives_too table n.watcher.tags pid m.state n.state p c.matches.states lives in
-        carried_together table made pid m n r r c alike.told p q.0 lives q.1 calm _ _ (pass_entered table made pid m n r c alike p q.0 lives q.1 calm)
+passed_calls_go_together S scene r comes alike calm =
+    let callers = callers_of comes in carried_together callers r r alike.told calm _ _ (pass_entered callers r alike calm)

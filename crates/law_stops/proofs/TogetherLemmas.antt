@@ -51,6 +51,7 @@ use Rattle.law_turns.proofs.PickLemmas.{matches_go_on_alike}
 use Rattle.law_turns.proofs.QuietLemmas.{kept_none, picked_lives}
 use Rattle.law_turns.proofs.RunLemmas.{instructions_keep_matches}
 use Rattle.law_turns.proofs.UnreadLemmas.{calm_unread, unread_before}
+use Rattle.law_stops.specs.Scene.{Scene}
 use Rattle.law_stops.specs.Together.{CallsGoTogether, CanRun, TracedRunsComeAlike, TracedTurnsGoTogether, any_call, goes_by, gone_by}
 use Rattle.law_stops.specs.Turning.{ComeToCall, Traces, tags_kept}
 use Rattle.law_stops.proofs.CallLemmas.{own_image}
@@ -184,7 +185,10 @@ module _ {S : Type 0} (sound : Tracing → Bool) (table : List Row) (calls : Cal
           computing-keeps-bytes ℕ pid (ran fuel r.image.regs r.image.memory).regs (ran fuel r.image.regs r.image.memory).memory s (instructions-keep-bytes fuel r.image.regs r.image.memory own.memory)
           (instructions-keep-registers fuel r.image.regs r.image.memory ∙ own.registers) has
 
-      comes : ComeToCall table made pid m1 n1
+      abbrev scene : Scene S
+      scene = record { table = table; made = made; pid = pid; mounted = m1; traced = n1 }
+
+      comes : ComeToCall scene
       comes = record {
         matches = record { states = alike.matches; statuses = both.matches.statuses };
         lasts = subst (λ k. LastsLawful (λ m. m) table made (computed k end.regs end.memory m.state)) refl (run_lasts table made fuel m.state p lives both.lasts);
@@ -200,7 +204,7 @@ module _ {S : Type 0} (sound : Tracing → Bool) (table : List Row) (calls : Cal
 
       by_call : GoTogether tags_kept table (suc made) (turn unwatched 1 table pick fuel m) (turn tracer 0 plain pick fuel n)
       by_call =
-          let from = calls made pid m1 n1 comes refl calm_call in
+          let from = calls scene refl comes refl calm_call in
           subst (λ x. GoTogether tags_kept table (suc made) x (turn tracer 0 plain pick fuel n)) (sym mounted_is)
           (subst (GoTogether tags_kept table (suc made) (watched_call unwatched 1 table pid m1)) (sym traced_is) (record { matches = from.matches; lasts = from.lasts; also_lasts = from.also_lasts }))
 

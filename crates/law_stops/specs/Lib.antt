@@ -14,6 +14,7 @@ pub use Rattle.law_edits.specs.pt_tracer as pt_tracer
 pub use Rattle.law_edits.specs.law_walks as law_walks
 pub use Rattle.law_edits.specs as law_edits
 pub use Rattle.law_turns.specs as law_turns
+pub mod Scene
 pub mod Answering
 pub mod Cancelling
 pub mod Noting

@@ -10,19 +10,18 @@ use Rattle.law_turns.specs.law_kept.Bytes.{TableHasBytes}
 use Rattle.law_turns.specs.law_kept.Turns.{WatchesBytes}
 use Rattle.law_turns.specs.kr_turns.Run.{Slot, run}
 use Rattle.law_turns.specs.kr_stops.Stopped.{Stopped}
-use Rattle.law_turns.specs.kr_turns.Turn.{Machine, calling, turn, watched_call}
+use Rattle.law_turns.specs.kr_turns.Turn.{Machine, turn}
 use Rattle.law_edits.specs.pt_faker.Faking.{Faking, faker}
 use Rattle.law_edits.specs.pt_tracer.Watched.{Tracing, tracer, with_identities}
 use Rattle.law_turns.specs.Runs.{ComeAlike, GoTogether, KeepOn}
+use Rattle.law_stops.specs.Scene.{Scene, caller_here}
 use Rattle.law_stops.specs.Together.{any_call}
 use Rattle.law_stops.specs.Turning.{tags_kept}
-use Rattle.law_stops.specs.Going.{ComeFromFakedCall, ComeToFakedCall}
+use Rattle.law_stops.specs.Going.{ComeToFakedCall, GoesTogether}
 
 -- each call of a calm run of which a test holds keeps the machines together, with its stops
 abbrev pub EachCallGoesTogether : (Stopped → Bool) → List Row → Type 0
-EachCallGoesTogether allows table =
-    (made pid : ℕ) (m : Machine Faking) (n : Machine Tracing) → ComeToFakedCall table made pid m n → allows (calling 1 pid m.state) ≡ true → (watched_call faker 1 table pid m).tally.broken ≡ None
-    → ComeFromFakedCall table made (watched_call faker 1 table pid m) (watched_call tracer 0 plain pid n)
+EachCallGoesTogether allows table = (scene : Scene Faking) → scene.table ≡ table → ComeToFakedCall scene → allows (caller_here scene) ≡ true → GoesTogether scene
 
 -- what both watchers go by from turn to turn: the texts of the mounts, the host user, the identities, and what is sound by a test of each
 abbrev pub Kept : Type 0

@@ -10,17 +10,16 @@ use Rattle.law_turns.specs.law_kept.Bytes.{TableHasBytes}
 use Rattle.law_turns.specs.law_kept.Turns.{WatchesBytes}
 use Rattle.law_turns.specs.kr_turns.Run.{Slot, run}
 use Rattle.law_turns.specs.kr_stops.Stopped.{Stopped}
-use Rattle.law_turns.specs.kr_turns.Turn.{Machine, calling, turn, watched_call}
+use Rattle.law_turns.specs.kr_turns.Turn.{Machine, turn}
 use Rattle.law_turns.specs.kr_stops.Watching.{unwatched}
 use Rattle.law_edits.specs.pt_tracer.Watched.{Tracing, tracer}
 use Rattle.law_turns.specs.Runs.{ComeAlike, GoTogether, KeepOn}
-use Rattle.law_stops.specs.Turning.{ComeFromCall, ComeToCall, tags_kept}
+use Rattle.law_stops.specs.Scene.{IsCalm, Scene, caller_here}
+use Rattle.law_stops.specs.Turning.{ComeToCall, StayTogether, tags_kept}
 
 -- each call of a calm run of which a test holds, as the kernel with mounts is asked for it, keeps the machines together, with its stops
 abbrev pub CallsGoTogether : Type 0 → (Stopped → Bool) → List Row → Type 0
-CallsGoTogether S allows table =
-    (made pid : ℕ) (m : Machine S) (n : Machine Tracing) → ComeToCall table made pid m n → allows (calling 1 pid m.state) ≡ true → (watched_call unwatched 1 table pid m).tally.broken ≡ None
-    → ComeFromCall table made (watched_call unwatched 1 table pid m) (watched_call tracer 0 plain pid n)
+CallsGoTogether S allows table = (scene : Scene S) → scene.table ≡ table → ComeToCall scene → allows (caller_here scene) ≡ true → IsCalm scene → StayTogether scene
 
 abbrev pub any_call : Stopped → Bool
 any_call t = true

@@ -5,20 +5,18 @@ use Rattle.law_edits.specs.kr_view.View.{Row}
 use Rattle.law_edits.specs.kr_mounts.Standing.{texts_of}
 use Rattle.pt_args.specs.kr_calls.declared.request.Request.{Request}
 use Rattle.law_turns.specs.kr_stops.Stopped.{Stopped}
-use Rattle.law_turns.specs.kr_turns.Turn.{Machine, calling}
 use Rattle.law_turns.specs.law_kept.ImagePaths.{is_told_of_paths}
 use Rattle.pt_args.specs.pt_bind.Tags.{TagTable}
 use Rattle.law_edits.specs.pt_faker.Faking.{Faking, starting_faking}
-use Rattle.law_edits.specs.pt_faker.Stopping.{decoded_at}
-use Rattle.law_edits.specs.pt_tracer.Watched.{Tracing, is_execve, starting_tracing}
-use Rattle.law_stops.specs.Going.{ComeToFakedCall, GoBySame}
-use Rattle.law_stops.specs.Kinds.{GoesTogether}
+use Rattle.law_edits.specs.pt_tracer.Watched.{is_execve, starting_tracing}
+use Rattle.law_stops.specs.Scene.{Scene, asked, caller_here}
+use Rattle.law_stops.specs.Going.{ComeToFakedCall, GoBySame, GoesTogether}
 use Rattle.law_stops.specs.Runs.{EachCallGoesTogether}
 
 -- calls along paths and those of new programs, of which a test holds, keep both machines together, where they break no calm rule
 pub record KindsGoTogether (allows : Stopped → Bool) (table : List Row) : Type 0 where
-  pub along : (made pid : ℕ) (m : Machine Faking) (n : Machine Tracing) (r : Request) → ComeToFakedCall table made pid m n → (decoded_at (calling 1 pid m.state)).reply ≡ Ok r → is_told_of_paths r ≡ true → allows (calling 1 pid m.state) ≡ true → GoesTogether table made pid m n
-  pub programs : (made pid : ℕ) (m : Machine Faking) (n : Machine Tracing) (r : Request) → ComeToFakedCall table made pid m n → (decoded_at (calling 1 pid m.state)).reply ≡ Ok r → is_execve r ≡ true → allows (calling 1 pid m.state) ≡ true → GoesTogether table made pid m n
+  pub along : (scene : Scene Faking) (r : Request) → scene.table ≡ table → ComeToFakedCall scene → asked scene ≡ Ok r → is_told_of_paths r ≡ true → allows (caller_here scene) ≡ true → GoesTogether scene
+  pub programs : (scene : Scene Faking) (r : Request) → scene.table ≡ table → ComeToFakedCall scene → asked scene ≡ Ok r → is_execve r ≡ true → allows (caller_here scene) ≡ true → GoesTogether scene
 
 -- then all calls do of which it holds
 abbrev pub AllCallsGoTogether : Type 0

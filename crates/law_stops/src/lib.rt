@@ -8,8 +8,8 @@
 //! arguments are as they were, and sets the tag of what the call made or copied (`exits_pass`): what it notes is what the changes make of the
 //! tags (`notes_follow`).
 //!
-//! Each of these laws takes two machines that match, both lawful with what lasts, over memories of bytes and 32 registers, and a call that breaks
-//! no calm rule, and says that they match behind it and are such again. A call without a path, or one that isn't decoded, is such with no other
+//! Each of these laws takes a scene: two machines before a call (`Scene`) that match, both lawful with what lasts, over memories of bytes and 32
+//! registers; and a call that breaks no calm rule, and says that they match behind it and are such again. A call without a path, or one that isn't decoded, is such with no other
 //! premise (`pathless_calls_go_together`). Of calls along paths it is shown for each thing that a tracer may do, with a premise that names what
 //! the plain kernel and the tracer must have in common with the kernel with mounts: where it cancels the call with the error that this one
 //! answers (`cancelled_calls_go_together`), where it answers in the kernel's place (`answered_calls_go_together`), where it swaps the paths and

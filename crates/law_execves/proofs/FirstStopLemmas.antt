@@ -1,6 +1,5 @@
 -- Both machines at the first stop of an execve.
-use Rattle.std.proofs.Common.{◌≡◌, ℕ, List, Option, Some, None, Ok, refl, sym, ap, subst, ◌∙◌, arith}
-use Rattle.std.specs.Prelude.{IsSome}
+use Rattle.std.proofs.Common.{◌≡◌, ℕ, Some, refl, sym, ap, subst, ◌∙◌, arith}
 use Rattle.std.specs.Option.{option_map}
 use Rattle.pt_args.specs.rv_mem.Actions.{AreEqualUnmarked}
 use Rattle.pt_args.specs.rv_mem.Layout.{layout_of}
@@ -8,8 +7,7 @@ use Rattle.pt_args.specs.rv_mem.Memory.{Memory}
 use Rattle.pt_args.specs.rv_mem.declared.regs.Regs.{Regs}
 use Rattle.pt_args.specs.Bases.{working_text}
 use Rattle.law_stops.specs.kr_view.Living.{Each, HasSmallNumbers}
-use Rattle.law_stops.specs.kr_view.View.{Row, plain}
-use Rattle.pt_args.specs.kr_calls.declared.request.Request.TheVariants as call
+use Rattle.law_stops.specs.kr_view.View.{plain}
 use Rattle.law_programs.proofs.law_allowed.DecodedLemmas.{decoding-leaves-pages}
 use Rattle.law_programs.proofs.law_allowed.RowLemmas.{StaysLike, lawful-image}
 use Rattle.law_programs.proofs.law_allowed.RoomLemmas.{lasting-room}
@@ -19,9 +17,7 @@ use Rattle.law_stops.specs.kr_model.State.{Image, Process, State, image_layout, 
 use Rattle.law_stops.proofs.kr_model.BareLemmas.{process-bare}
 use Rattle.law_plans.proofs.kr_seen.StandingLemmas.{living-small}
 use Rattle.law_stops.specs.kr_steps.Computing.{computed}
-use Rattle.law_stops.specs.kr_turns.Turn.{Machine, calling, watched_call}
-use Rattle.law_stops.specs.kr_stops.Watching.{unwatched}
-use Rattle.law_stops.specs.pt_faker.Stopping.{after_request, decoded_at, memory_at}
+use Rattle.law_stops.specs.pt_faker.Stopping.{after_request, memory_at}
 use Rattle.law_stops.specs.pt_tracer.Planning.{texts_at}
 use Rattle.law_stops.specs.pt_tracer.Watched.{Tracing}
 use Rattle.law_stops.specs.law_walks.Scene.{IsMatched}
@@ -38,8 +34,7 @@ use Rattle.law_stops.specs.law_turns.Lasting.{CanBeCalled}
 use Rattle.law_stops.proofs.law_turns.CalledLemmas.{decoded_lasts, decoded_lives, decoded_process}
 use Rattle.law_stops.proofs.law_turns.ImageLemmas.{bare_computed, given}
 use Rattle.law_stops.proofs.law_turns.MatchLemmas.{match_computed}
-use Rattle.law_stops.proofs.law_turns.RunLemmas.{lives_too}
-use Rattle.law_stops.specs.Turning.{ComeToCall}
+use Rattle.law_stops.specs.Scene.{Scene}
 use Rattle.law_stops.proofs.AnsweredLemmas.{lives_changed}
 use Rattle.law_stops.proofs.CallLemmas as before
 use Rattle.law_stops.proofs.CallLemmas.{own_image}
@@ -48,14 +43,17 @@ use Rattle.law_programs.specs.Refusing.{IsBegun}
 use Rattle.law_programs.proofs.ShowLemmas.{states_are_shown_alike}
 use Rattle.law_programs.proofs.WorkLemmas.{working_directories_are_known}
 use Rattle.law_execves.proofs.GoLemmas as go
-use Rattle.law_execves.proofs.GoLemmas.{decoded_layout}
+use Rattle.law_execves.proofs.ExecveLemmas.{ExecveCall, execve_of}
 use Rattle.law_execves.specs.Beginning.{BeginsTogether, ExecvesBeginTogether}
 
 some_same : {A : Type 0} {a b : A} → Some a ≡ Some b → a ≡ b
 some_same e = cc
 
-module _ {S : Type 0} (table : List Row) (made pid : ℕ) (m : Machine S) (n : Machine Tracing) (c : ComeToCall table made pid m n) (p q : Process ℕ Image) (lives : process pid m.state ≡ Some p) (also : process pid n.state ≡ Some q)
-    (calm : (watched_call unwatched 1 table pid m).tally.broken ≡ None) (path : List ℕ) (args env : ℕ) (decoded : (decoded_at (calling 1 pid m.state)).reply ≡ Ok (call.Execve path args env)) where
+module _ {S : Type 0} {scene : Scene S} (execve : ExecveCall scene) where
+  open scene use {table, made, pid, traced as n}
+  open execve use {callers}
+  open execve.callers use {comes as c, also_caller as q, also_lives as also}
+
   abbrev x : Tracing
   x = n.watcher
 
@@ -63,19 +61,19 @@ module _ {S : Type 0} (table : List Row) (made pid : ℕ) (m : Machine S) (n : M
   w = n.state
 
   abbrev s1 : State ℕ Image
-  s1 = go.s1 table made pid m n c p q lives also calm path args env decoded
+  s1 = go.s1 execve
 
   abbrev p1 : Process ℕ Image
-  p1 = go.p1 table made pid m n c p q lives also calm path args env decoded
+  p1 = go.p1 execve
 
   abbrev pub at : State ℕ Image
-  at = go.at table made pid m n c p q lives also calm path args env decoded
+  at = go.at execve
 
   pub mine : CanBeCalled table made pid s1 p1
-  mine = go.mine table made pid m n c p q lives also calm path args env decoded
+  mine = go.mine execve
 
   memories : AreEqualUnmarked p1.image.memory.pages q.image.memory.pages
-  memories = go.memories table made pid m n c p q lives also calm path args env decoded
+  memories = go.memories execve
 
   -- ---- the kernel with mounts behind decoding
 
@@ -88,7 +86,7 @@ module _ {S : Type 0} (table : List Row) (made pid : ℕ) (m : Machine S) (n : M
   decoded_alike : AreEqualUnmarked (decoded_by p1).memory.pages (decoded_by q).memory.pages
   decoded_alike =
       subst (λ pages. AreEqualUnmarked pages (decoded_by q).memory.pages) (sym pages_here)
-      (subst (AreEqualUnmarked p1.image.memory.pages) (sym (before.pages_left table made pid m n c p q lives also)) memories)
+      (subst (AreEqualUnmarked p1.image.memory.pages) (sym (before.pages_left callers)) memories)
 
   stays : StaysLike p1.image.memory.pages (decoded_by p1).memory.pages
   stays =
@@ -96,10 +94,10 @@ module _ {S : Type 0} (table : List Row) (made pid : ℕ) (m : Machine S) (n : M
       subst (StaysLike p1.image.memory.pages) (sym pages_here) (record { whole = own.whole; placed = own.paged; layout = refl })
 
   other_layout : layout_of (decoded_by q).memory.pages ≡ image_layout q.image
-  other_layout = ap layout_of (before.pages_left table made pid m n c p q lives also)
+  other_layout = ap layout_of (before.pages_left callers)
 
   match_at : IsMatch table x.tags at other_at
-  match_at = match_computed table x.tags s1 w (before.match1 table made pid m n c p q lives also) pid p1 q mine.lives also p1.image.regs (decoded_by p1).memory (decoded_by q).memory decoded_alike stays other_layout
+  match_at = match_computed table x.tags s1 w (before.match1 callers) pid p1 q mine.lives also p1.image.regs (decoded_by p1).memory (decoded_by q).memory decoded_alike stays other_layout
 
   abbrev pub p2 : Process ℕ Image
   p2 = decoded_process table made pid s1 p1 mine
@@ -125,7 +123,7 @@ module _ {S : Type 0} (table : List Row) (made pid : ℕ) (m : Machine S) (n : M
   first_like : StaysLike q.image.memory.pages (decoded_by q).memory.pages
   first_like =
       let own = c.also_lasts.lawful.processes pid q also in
-      subst (StaysLike q.image.memory.pages) (sym (before.pages_left table made pid m n c p q lives also)) (record { whole = own.whole; placed = own.paged; layout = refl })
+      subst (StaysLike q.image.memory.pages) (sym (before.pages_left callers)) (record { whole = own.whole; placed = own.paged; layout = refl })
 
   module _ (regs : Regs) (memory : Memory) (like : StaysLike q.image.memory.pages memory.pages) where
     abbrev left : State ℕ Image
@@ -164,27 +162,22 @@ module _ {S : Type 0} (table : List Row) (made pid : ℕ) (m : Machine S) (n : M
       same = same_cwd;
     }
 
-  begins : BeginsTogether table pid m n path args env
+  begins : BeginsTogether scene
   begins = record {
     texts =
-        ap (λ t. texts_at x.bindings x.tags (after_request t)) (go.calling_is table made pid m n c p q lives also calm path args env decoded)
-        ∙ ap (texts_at x.bindings x.tags) (go.after_is table made pid m n c p q lives also calm path args env decoded)
+        ap (λ t. texts_at x.bindings x.tags (after_request t)) (go.calling_is execve)
+        ∙ ap (texts_at x.bindings x.tags) (go.after_is execve)
         ∙ texts q.image.regs (decoded_by q).memory first_like nothing_handed
-        ∙ ap (λ t. texts_here table t pid x.tags) (sym (go.at_is table made pid m n c p q lives also calm path args env decoded));
+        ∙ ap (λ t. texts_here table t pid x.tags) (sym (go.at_is execve));
     begun = λ regs memory whole placed layout.
         let like : StaysLike q.image.memory.pages memory.pages = record {
           whole = whole;
           placed = placed;
-          layout = layout ∙ ap (λ t. layout_of (memory_at t).pages) (go.calling_is table made pid m n c p q lives also calm path args env decoded) ∙ ap (λ (image : Image). layout_of image.memory.pages) (own_image pid w q also);
+          layout = layout ∙ ap (λ t. layout_of (memory_at t).pages) (go.calling_is execve) ∙ ap (λ (image : Image). layout_of image.memory.pages) (own_image pid w q also);
         }
         in
-        subst (λ t. IsBegun table t (computed pid regs memory w) pid x.tags (working_text (texts_here table t pid x.tags) pid)) (sym (go.at_is table made pid m n c p q lives also calm path args env decoded)) (begun regs memory like);
+        subst (λ t. IsBegun table t (computed pid regs memory w) pid x.tags (working_text (texts_here table t pid x.tags) pid)) (sym (go.at_is execve)) (begun regs memory like);
   }
 
 pub execves_begin_together : (S : Type 0) → ExecvesBeginTogether S
-execves_begin_together S table made pid m n path args env c decoded calm = by (process pid m.state) refl c.lives
-  where
-    by : (o : Option (Process ℕ Image)) → process pid m.state ≡ o → IsSome o → BeginsTogether table pid m n path args env
-    by None none some = absurd cc
-    by (Some p) lives some =
-        let q = lives_too table n.watcher.tags pid m.state n.state p c.matches.states lives in begins table made pid m n c p q.0 lives q.1 calm path args env decoded
+execves_begin_together S scene path args env comes decoded calm = begins (execve_of comes path args env decoded calm)
