@@ -133,7 +133,7 @@ module _ (table : List Row) (pid : ℕ) (s : State ℕ Image) (path : List ℕ) 
       by (Err e) = omega arith
 
 module _ {S : Type 0} {scene : Scene S} (back : TextsAreReadBack) (hold : ShelvesHoldTheirItems) (execve : ExecveCall scene) where
-  open scene use {table, pid, traced as n}
+  open scene use {table, made, pid, traced as n}
   open execve use {callers, path, args, env}
   open execve.callers use {comes as c, also_caller as q, also_lives as also}
 

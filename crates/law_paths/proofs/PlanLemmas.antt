@@ -56,7 +56,7 @@ swap_is_no_pass sp first (Some second) e = cc
 module _ {S : Type 0} {scene : Scene S} (path_call : PathCall scene) where
   open scene use {table, made, pid, traced as n}
   open path_call use {callers, request as r, reads, kind}
-  open path_call.callers use {comes as c, also_caller as q}
+  open path_call.callers use {comes as c, also_caller as q, also_lives as also}
 
   abbrev pub at : State ℕ Image
   at = here.at path_call

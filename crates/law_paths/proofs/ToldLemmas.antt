@@ -56,7 +56,7 @@ is_told r kind = tells_path (line r).told kind
 module _ {S : Type 0} {scene : Scene S} (path_call : PathCall scene) where
   open scene use {table, made, pid, traced as n}
   open path_call use {callers, request as r, calm, reads, kind}
-  open path_call.callers use {comes as c, also_caller as q}
+  open path_call.callers use {comes as c, also_caller as q, also_lives as also}
 
   abbrev at : State ℕ Image
   at = here.at path_call
