@@ -1,4 +1,4 @@
-//! Tests of calls: decoding, the structures of answers, changes of a state, open files, descriptors and pipes.
+//! Tests of calls: decoding, the structures of answers, changes of a state, and pipes.
 //!
 //! # `ops`
 //!
@@ -6,7 +6,7 @@
 //!
 //! # `guest`, `files`
 //!
-//! Tests of open files, descriptors and pipes.
+//! Tests of pipes.
 #![tactic(auto)]
 
 #[cfg(test)]

@@ -425,7 +425,7 @@ const PEEKS: &[(&[u8], u32)] = &[
 fn few_peeks_are_made(rt: HostRuntime) -> Result<(), Fail> {
     let mut bench = nested(rt.alloc())?;
     for (path, peeks) in PEEKS {
-        assert_eq!(rt; bench.peeks(path), Some(*peeks));
+        assert!(rt; bench.peeks(path) == Some(*peeks));
     }
     // A directory that was found to be searchable isn't asked for again.
     bench.set_calls(2);

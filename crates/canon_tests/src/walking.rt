@@ -12,11 +12,11 @@ use pt_script::{Expanded, expand};
 use std::alloc::Global;
 
 /// How a path ends: what stands last, whether a slash stands behind it, and whether it is there.
-#[derive(Clone, Copy, Debug)]
+#[derive(Clone, Copy)]
 pub struct End(pub Last, pub bool, pub bool);
 
 /// What a walk answers: a guest text, its host text and index, and how the path ends; or why it fails.
-#[derive(Clone, Copy, Debug)]
+#[derive(Clone, Copy)]
 pub enum Want {
     At(&'static [u8], &'static [u8], u32, End),
     Refused(Errno),

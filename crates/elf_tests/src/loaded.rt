@@ -54,23 +54,29 @@ fn texts(alloc: Global, list: &[&str]) -> Result<Texts, Fail> {
 }
 
 /// Loads a file that is accepted, for the user and group 1000 and 100.
-fn loaded<R: Abort + AllocGlobal>(
+fn started<R: Abort + AllocGlobal>(
     rt: &R,
     room: &mut Room,
     file: &[u8],
     args: &Texts,
     env: &Texts,
 ) -> Result<Image<0>, LoadFault> {
-    let plan = check(file).expect(rt, "accepted");
-    load(
-        rt.alloc(),
-        room,
-        file,
-        &plan,
-        args,
-        env,
-        [1000, 1001, 100, 101],
-    )
+    let ids = [1000, 1001, 100, 101];
+    match check(file) {
+        Ok(plan) => load(rt.alloc(), room, file, &plan, args, env, ids),
+        Err(_fault) => panic!(rt; "not accepted"),
+    }
+}
+
+/// The same of one that can be loaded.
+fn loaded<R: Abort + AllocGlobal>(
+    rt: &R,
+    room: &mut Room,
+    file: &[u8],
+    args: &Texts,
+    env: &Texts,
+) -> Image<0> {
+    started(rt, room, file, args, env).ok().expect(rt, "loaded")
 }
 
 /// The word at an address.
@@ -87,24 +93,25 @@ fn byte(image: &mut Image<0>, at: u64) -> Option<u8> {
     Some(bytes[0])
 }
 
-#[test]
-fn the_hello_file_stands_in_memory(rt: HostRuntime) -> Result<(), Fail> {
-    let args = texts(rt.alloc(), &["/hello"])?;
-    let env = Texts::new(rt.alloc());
-    let mut room = Room::new();
-    let mut image = loaded(&rt, &mut room, &HELLO, &args, &env).expect(&rt, "loaded");
-    assert_eq!(rt; image.mem.pages(), 257);
-    assert_eq!(rt; image.brk, 0x11000);
-    assert_eq!(rt; image.regs.pc, 0x10078);
-    for (k, register) in image.regs.x.iter().enumerate() {
-        assert_eq!(rt; *register, if k == 2 { 0x3f_ffff_ef00 } else { 0 }, "x{k}");
-    }
+/// Whether bytes can be read for a use, and are these.
+fn reads(image: &mut Image<0>, at: u64, wanted: &[u8], what: Use) -> bool {
     let mut bytes = [0; 162];
-    assert!(rt; image.mem.read(0x10000, &mut bytes, Use::Execute).is_ok());
-    assert_eq!(rt; bytes, HELLO);
-    assert_eq!(rt; byte(&mut image, 0x100a2), Some(0));
-    assert!(rt; !image.mem.can(0x10000, 1, Use::Write));
-    Ok(())
+    let Some(place) = bytes.get_mut(..wanted.len()) else {
+        return false;
+    };
+    if image.mem.read(at, place, what).is_err() {
+        return false;
+    }
+    bytes.get(..wanted.len()) == Some(wanted)
+}
+
+/// Compares the words from an address on.
+fn compare_words<R: Abort>(rt: &R, image: &mut Image<0>, at: u64, words: &[u64]) {
+    let mut at = at;
+    for want in words {
+        assert!(rt; word(image, at) == Some(*want), "at {at}");
+        at = at.wrapping_add(8);
+    }
 }
 
 // Where the ABI puts each word, by hand.
@@ -140,72 +147,51 @@ const HELLO_WORDS: [u64; 28] = [
 ];
 
 #[test]
-fn the_first_stack_of_the_hello_file_is_the_abis(rt: HostRuntime) -> Result<(), Fail> {
+fn the_hello_file_stands_in_memory(rt: HostRuntime) -> Result<(), Fail> {
     let args = texts(rt.alloc(), &["/hello"])?;
     let env = Texts::new(rt.alloc());
-    let mut room = Room::new();
-    let mut image = loaded(&rt, &mut room, &HELLO, &args, &env).expect(&rt, "loaded");
-    let mut at: u64 = 0x3f_ffff_ef00;
-    for want in HELLO_WORDS {
-        assert_eq!(rt; word(&mut image, at), Some(want), "at {at}");
-        at = at.wrapping_add(8);
+    let mut image = loaded(&rt, &mut Room::new(), &HELLO, &args, &env);
+    assert!(rt; image.mem.pages() == 257);
+    assert!(rt; (image.brk, image.regs.pc) == (0x11000, 0x10078));
+    for (k, register) in image.regs.x.iter().enumerate() {
+        let want = if k == 2 { 0x3f_ffff_ef00 } else { 0 };
+        assert!(rt; *register == want, "x{k}");
     }
-    let mut text = [0; 7];
-    assert!(rt;
-        image
-            .mem
-            .read(0x3f_ffff_efe0, &mut text, Use::Write)
-            .is_ok()
-    );
-    assert_eq!(rt; text, *b"/hello\0");
-    let mut random = [0; 16];
-    assert!(rt;
-        image
-            .mem
-            .read(0x3f_ffff_eff0, &mut random, Use::Read)
-            .is_ok()
-    );
-    assert_eq!(rt;
-        random,
-        [0, 1, 2, 3, 4, 5, 6, 7, 8, 9, 10, 11, 12, 13, 14, 15]
-    );
+    assert!(rt; reads(&mut image, 0x10000, &HELLO, Use::Execute));
+    assert!(rt; byte(&mut image, 0x100a2) == Some(0));
+    assert!(rt; !image.mem.can(0x10000, 1, Use::Write));
+    // Its first stack.
+    compare_words(&rt, &mut image, 0x3f_ffff_ef00, &HELLO_WORDS);
+    assert!(rt; reads(&mut image, 0x3f_ffff_efe0, b"/hello\0", Use::Write));
+    let random = [0, 1, 2, 3, 4, 5, 6, 7, 8, 9, 10, 11, 12, 13, 14, 15];
+    assert!(rt; reads(&mut image, 0x3f_ffff_eff0, &random, Use::Read));
     assert!(rt; image.mem.can(0x3f_ffef_f000, 0x10_0000, Use::Write));
     assert!(rt; !image.mem.can(0x3f_ffef_efff, 1, Use::Read));
     assert!(rt; !image.mem.can(0x3f_ffff_f000, 1, Use::Read));
     Ok(())
 }
 
+/// The words of a stack with two arguments and a variable.
+const WORDS: [u64; 8] = [
+    2,
+    0x3f_ffff_efe0,
+    0x3f_ffff_efe2,
+    0,
+    0x3f_ffff_efe5,
+    0,
+    3,
+    0x10040,
+];
+
 #[test]
 fn arguments_and_environment_stand_behind_each_other(rt: HostRuntime) -> Result<(), Fail> {
     let args = texts(rt.alloc(), &["a", "bc"])?;
     let env = texts(rt.alloc(), &["K=v"])?;
-    let mut room = Room::new();
-    let mut image = loaded(&rt, &mut room, &HELLO, &args, &env).expect(&rt, "loaded");
+    let mut image = loaded(&rt, &mut Room::new(), &HELLO, &args, &env);
     let sp = image.regs.x[2];
-    assert_eq!(rt; sp, 0x3f_ffff_eef0);
-    let words = [
-        2,
-        0x3f_ffff_efe0,
-        0x3f_ffff_efe2,
-        0,
-        0x3f_ffff_efe5,
-        0,
-        3,
-        0x10040,
-    ];
-    let mut at = sp;
-    for want in words {
-        assert_eq!(rt; word(&mut image, at), Some(want), "at {at}");
-        at = at.wrapping_add(8);
-    }
-    let mut bytes = [0; 9];
-    assert!(rt;
-        image
-            .mem
-            .read(0x3f_ffff_efe0, &mut bytes, Use::Read)
-            .is_ok()
-    );
-    assert_eq!(rt; bytes, *b"a\0bc\0K=v\0");
+    assert!(rt; sp == 0x3f_ffff_eef0);
+    compare_words(&rt, &mut image, sp, &WORDS);
+    assert!(rt; reads(&mut image, 0x3f_ffff_efe0, b"a\0bc\0K=v\0", Use::Read));
     Ok(())
 }
 
@@ -229,53 +215,40 @@ fn with_two_segments() -> [u8; 8192] {
     ])
 }
 
-#[test]
-fn two_segments_stand_at_their_addresses(rt: HostRuntime) -> Result<(), Fail> {
-    let file = with_two_segments();
-    let args = Texts::new(rt.alloc());
-    let env = Texts::new(rt.alloc());
-    let mut room = Room::new();
-    let mut image = loaded(&rt, &mut room, &file, &args, &env).expect(&rt, "loaded");
-    let bytes = [
-        (0x10000, Some(0)),
-        (0x107ff, Some(0)),
-        (0x10800, Some(0x09)),
-        (0x1080f, Some(0x17)),
-        (0x10810, Some(0)),
-        (0x11000, None),
-        (0x12ffd, Some(0)),
-        (0x12ffe, Some(0x0f)),
-        (0x12fff, Some(0x0f)),
-        (0x13000, Some(0x11)),
-        (0x13001, Some(0x11)),
-        (0x13002, Some(0)),
-        (0x14fff, Some(0)),
-        (0x15000, None),
-    ];
-    for (at, want) in bytes {
-        assert_eq!(rt; byte(&mut image, at), want, "at {at}");
-    }
-    Ok(())
-}
+/// Addresses, and the bytes that are there.
+const TWO_SEGMENTS: &[(u64, Option<u8>)] = &[
+    (0x10000, Some(0)),
+    (0x107ff, Some(0)),
+    (0x10800, Some(0x09)),
+    (0x1080f, Some(0x17)),
+    (0x10810, Some(0)),
+    (0x11000, None),
+    (0x12ffd, Some(0)),
+    (0x12ffe, Some(0x0f)),
+    (0x12fff, Some(0x0f)),
+    (0x13000, Some(0x11)),
+    (0x13001, Some(0x11)),
+    (0x13002, Some(0)),
+    (0x14fff, Some(0)),
+    (0x15000, None),
+];
 
 #[test]
-fn two_segments_have_their_pages_and_rights(rt: HostRuntime) -> Result<(), Fail> {
+fn two_segments_have_their_bytes_and_rights(rt: HostRuntime) {
     let file = with_two_segments();
-    let args = Texts::new(rt.alloc());
-    let env = Texts::new(rt.alloc());
-    let mut room = Room::new();
-    let mut image = loaded(&rt, &mut room, &file, &args, &env).expect(&rt, "loaded");
+    let none = Texts::new(rt.alloc());
+    let mut image = loaded(&rt, &mut Room::new(), &file, &none, &none);
+    for (at, want) in TWO_SEGMENTS {
+        assert!(rt; byte(&mut image, *at) == *want, "at {at}");
+    }
     // A page for the first, three for the second and 256 for the stack.
-    assert_eq!(rt; image.mem.pages(), 260);
-    assert_eq!(rt; image.brk, 0x15000);
+    assert!(rt; (image.mem.pages(), image.brk) == (260, 0x15000));
     assert!(rt; !image.mem.can(0x10000, 1, Use::Write));
     assert!(rt; !image.mem.can(0x10000, 1, Use::Execute));
     assert!(rt; image.mem.can(0x12000, 0x3000, Use::Write));
     assert!(rt; !image.mem.can(0x12000, 1, Use::Execute));
     // No segment holds the table.
-    assert_eq!(rt; word(&mut image, 0x3f_ffff_ef28), Some(3));
-    assert_eq!(rt; word(&mut image, 0x3f_ffff_ef30), Some(0));
-    Ok(())
+    compare_words(&rt, &mut image, 0x3f_ffff_ef28, &[3, 0]);
 }
 
 /// A segment of one page, and one of `pages` pages.
@@ -307,12 +280,12 @@ fn limits_are_told_apart(rt: HostRuntime) -> Result<(), Fail> {
     }
     let mut room = Room::new();
     let too_large = with_pages(16_128);
-    let refused = loaded(&rt, &mut room, &too_large, &many, &none).err();
-    assert_eq!(rt; refused, Some(LoadFault::TooManyArgs));
-    let refused = loaded(&rt, &mut room, &too_large, &none, &none).err();
-    assert_eq!(rt; refused, Some(LoadFault::TooManyPages));
-    let image = loaded(&rt, &mut room, &with_pages(16_127), &none, &none).expect(&rt, "loaded");
-    assert_eq!(rt; image.mem.pages(), 16_384);
-    assert_eq!(rt; room.free(), 262_144 - 16_384);
+    let refused = started(&rt, &mut room, &too_large, &many, &none).err();
+    assert!(rt; matches!(refused, Some(LoadFault::TooManyArgs)));
+    let refused = started(&rt, &mut room, &too_large, &none, &none).err();
+    assert!(rt; matches!(refused, Some(LoadFault::TooManyPages)));
+    let image = loaded(&rt, &mut room, &with_pages(16_127), &none, &none);
+    assert!(rt; image.mem.pages() == 16_384);
+    assert!(rt; room.free() == 262_144 - 16_384);
     Ok(())
 }

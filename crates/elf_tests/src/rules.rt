@@ -1,16 +1,10 @@
-use elf_read::{ElfFault, Plan, Segment, check};
+//! Which files are accepted, and which rule others break first. All of it was worked out by hand.
+
+use elf_read::{ElfFault, Segment, check};
 use guests::HELLO;
 
-/// A program header, as far as these tests vary it.
-#[derive(Clone, Copy)]
-struct ProgramHeader {
-    p_type: u32,
-    p_flags: u32,
-    p_offset: u64,
-    p_vaddr: u64,
-    p_filesz: u64,
-    p_memsz: u64,
-}
+/// A program header, as far as these tests vary it: its kind, its offset, its address, and its sizes in the file and in memory.
+type Header = (u32, u64, u64, u64, u64);
 
 const LOAD: u32 = 1;
 
@@ -24,267 +18,262 @@ fn put(file: &mut [u8], at: usize, bytes: &[u8]) {
     }
 }
 
-// A file of 2,048 bytes with the ELF header of the hello file and these program headers.
-fn with_headers(headers: [ProgramHeader; 3]) -> [u8; 2048] {
+/// Puts a program header at a place of a file. Its rights are those to read and to execute.
+fn put_header(file: &mut [u8], at: usize, header: Header) {
+    let (kind, offset, address, size, memory) = header;
+    put(file, at, &kind.to_le_bytes());
+    put(file, at.wrapping_add(4), &[5, 0, 0, 0]);
+    put(file, at.wrapping_add(8), &offset.to_le_bytes());
+    put(file, at.wrapping_add(16), &address.to_le_bytes());
+    put(file, at.wrapping_add(32), &size.to_le_bytes());
+    put(file, at.wrapping_add(40), &memory.to_le_bytes());
+}
+
+/// A file of 2,048 bytes with the ELF header of the hello file and these program headers.
+fn with_headers(headers: &[Header; 3]) -> [u8; 2048] {
     let mut file = [0; 2048];
     put(&mut file, 0, &HELLO[..64]);
     put(&mut file, 56, &[3]);
     let mut at = 64usize;
     for header in headers {
-        put(&mut file, at, &header.p_type.to_le_bytes());
-        put(&mut file, at.wrapping_add(4), &header.p_flags.to_le_bytes());
-        put(
-            &mut file,
-            at.wrapping_add(8),
-            &header.p_offset.to_le_bytes(),
-        );
-        put(
-            &mut file,
-            at.wrapping_add(16),
-            &header.p_vaddr.to_le_bytes(),
-        );
-        put(
-            &mut file,
-            at.wrapping_add(32),
-            &header.p_filesz.to_le_bytes(),
-        );
-        put(
-            &mut file,
-            at.wrapping_add(40),
-            &header.p_memsz.to_le_bytes(),
-        );
+        put_header(&mut file, at, *header);
         at = at.wrapping_add(56);
     }
     file
 }
 
-// A program header of these kind, offset, address, file size and memory size.
-fn header(kind: u32, offset: u64, address: u64, file: u64, memory: u64) -> ProgramHeader {
-    ProgramHeader {
-        p_type: kind,
-        p_flags: 5,
-        p_offset: offset,
-        p_vaddr: address,
-        p_filesz: file,
-        p_memsz: memory,
+/// A broken rule in a word, and the header that breaks it.
+fn broken(fault: ElfFault) -> (&'static str, u64) {
+    match fault {
+        ElfFault::Short => ("short", 0),
+        ElfFault::Magic => ("magic", 0),
+        ElfFault::Class => ("class", 0),
+        ElfFault::Kind => ("kind", 0),
+        ElfFault::Machine => ("machine", 0),
+        ElfFault::Table => ("table", 0),
+        ElfFault::NoLoad => ("no load", 0),
+        ElfFault::Sizes { header } => ("sizes", u64::from(header)),
+        ElfFault::Outside { header } => ("outside", u64::from(header)),
+        ElfFault::Order { header } => ("order", u64::from(header)),
+        ElfFault::Place { header } => ("place", u64::from(header)),
+        ElfFault::Interp { header } => ("interp", u64::from(header)),
+    }
+}
+
+/// The first rule that a file breaks, and the header that breaks it. Of a file that is accepted, where its table stands in memory.
+fn told(file: &[u8]) -> (&'static str, u64) {
+    match check(file) {
+        Ok(plan) => ("accepted", plan.phdr),
+        Err(fault) => broken(fault),
     }
 }
 
 // The hello file, and then the same as a shared object, which is moved.
 #[test]
 fn the_hello_file_is_accepted_as_both_kinds(rt: HostRuntime) {
-    let mut segments = [Segment::default(); 64];
-    segments[0] = Segment {
-        at: 0x10000,
-        memory: 162,
-        offset: 0,
-        file: 162,
-        flags: 5,
-    };
-    let plan = Plan {
-        entry: 0x10078,
-        phdr: 0x10040,
-        phnum: 1,
-        count: 1,
-        segments,
-    };
-    assert!(rt; check(&HELLO) == Ok(plan));
+    let plan = check(&HELLO).ok().expect(&rt, "accepted");
+    assert!(rt; (plan.entry, plan.phdr) == (0x10078, 0x10040));
+    assert!(rt; (plan.phnum, plan.count) == (1, 1));
+    for (k, segment) in plan.segments.iter().enumerate() {
+        let wanted = if k == 0 {
+            (0x10000, 162, 0, 162, 5)
+        } else {
+            (0, 0, 0, 0, 0)
+        };
+        let Segment {
+            at,
+            memory,
+            offset,
+            file,
+            flags,
+        } = *segment;
+        assert!(rt; (at, memory, offset, file, flags) == wanted, "segment {k}");
+    }
 
     let mut file = HELLO;
     file[16] = 3;
     // The entry, which no rule tests, goes past the last address and on from 0.
     put(&mut file, 24, &[0xff; 8]);
-    let plan = check(&file).expect(&rt, "accepted");
-    assert_eq!(rt; plan.entry, 0x0f_ffff_ffff);
-    assert_eq!(rt; plan.phdr, 0x10_0001_0040);
-    assert_eq!(rt; plan.segments[0].at, 0x10_0001_0000);
+    let plan = check(&file).ok().expect(&rt, "accepted");
+    assert!(rt; (plan.entry, plan.phdr) == (0x0f_ffff_ffff, 0x10_0001_0040));
+    assert!(rt; plan.segments[0].at == 0x10_0001_0000);
 }
 
+/// Bytes that are put into the hello file, each with its place, and what is told of the file then.
+const BYTES: &[(usize, u8, &str, u64)] = &[
+    (0, 0x7e, "magic", 0),
+    (3, 0x47, "magic", 0),
+    (4, 1, "class", 0),
+    (5, 2, "class", 0),
+    (6, 0, "class", 0),
+    (16, 1, "kind", 0),
+    (18, 0, "machine", 0),
+    (54, 57, "table", 0),
+    (56, 65, "table", 0),
+    (56, 0, "no load", 0),
+    (64, 2, "no load", 0),
+    (96, 163, "sizes", 0),
+    (81, 1, "sizes", 0),
+    (82, 0, "place", 0),
+    (84, 0x3f, "place", 0),
+    // The version word, the flags of the processor, the entry and the rights.
+    (20, 7, "accepted", 0x10040),
+    (48, 0xff, "accepted", 0x10040),
+    (24, 0xff, "accepted", 0x10040),
+    (68, 0xff, "accepted", 0x10040),
+];
+
 #[test]
-fn one_byte_breaks_a_rule(rt: HostRuntime) {
-    let table = [
-        (0, 0x7e, Some(ElfFault::Magic)),
-        (3, 0x47, Some(ElfFault::Magic)),
-        (4, 1, Some(ElfFault::Class)),
-        (5, 2, Some(ElfFault::Class)),
-        (6, 0, Some(ElfFault::Class)),
-        (16, 1, Some(ElfFault::Kind)),
-        (18, 0, Some(ElfFault::Machine)),
-        (54, 57, Some(ElfFault::Table)),
-        (56, 65, Some(ElfFault::Table)),
-        (56, 0, Some(ElfFault::NoLoad)),
-        (64, 2, Some(ElfFault::NoLoad)),
-        (96, 163, Some(ElfFault::Sizes { header: 0 })),
-        (81, 1, Some(ElfFault::Sizes { header: 0 })),
-        (82, 0, Some(ElfFault::Place { header: 0 })),
-        (84, 0x3f, Some(ElfFault::Place { header: 0 })),
-        // The version word, the flags of the processor, the entry and the rights.
-        (20, 7, None),
-        (48, 0xff, None),
-        (24, 0xff, None),
-        (68, 0xff, None),
-    ];
-    for (at, byte, fault) in table {
+fn a_byte_and_a_cut_break_a_rule(rt: HostRuntime) {
+    for (at, byte, rule, number) in BYTES {
         let mut file = HELLO;
-        put(&mut file, at, &[byte]);
-        assert_eq!(rt; check(&file).err(), fault, "byte {at}");
+        put(&mut file, *at, &[*byte]);
+        let (found, place) = told(&file);
+        assert!(rt; found == *rule && place == *number, "byte {at}: {found} {place}");
+    }
+    for size in 0..HELLO.len() {
+        let rule = match size {
+            0..64 => "short",
+            64..120 => "table",
+            _ => "outside",
+        };
+        let (found, place) = told(&HELLO[..size]);
+        assert!(rt; found == rule && place == 0, "{size} bytes: {found} {place}");
     }
 }
 
-#[test]
-fn a_cut_file_is_refused_by_the_first_rule(rt: HostRuntime) {
-    for size in 0..HELLO.len() {
-        let fault = match size {
-            0..64 => ElfFault::Short,
-            64..120 => ElfFault::Table,
-            _ => ElfFault::Outside { header: 0 },
-        };
-        assert_eq!(rt; check(&HELLO[..size]).err(), Some(fault), "{size} bytes");
-    }
-}
+// A whole segment of the file, the same on the next page, and headers that are none.
+const GOOD: Header = (LOAD, 0, 0x10000, 2048, 2048);
+
+const NEXT: Header = (LOAD, 0, 0x11000, 2048, 2048);
+
+const OTHER: Header = (ATTRIBUTES, 0, 0, 0, 0);
+
+const OUTSIDE: Header = (LOAD, 0, 0x10000, 2049, 4096);
+
+/// What three headers show, and what is told of a file with them.
+const HEADERS: &[(&str, [Header; 3], &str, u64)] = &[
+    // The first broken rule.
+    (
+        "an interpreter",
+        [GOOD, (INTERP, 0, 0, 0, 0), NEXT],
+        "interp",
+        1,
+    ),
+    (
+        "broken sizes behind an interpreter",
+        [GOOD, (INTERP, 0, 0, 0, 0), (LOAD, 0, 0x11000, 9, 8)],
+        "sizes",
+        2,
+    ),
+    (
+        "an interpreter with broken sizes",
+        [GOOD, (INTERP, 1, 0, 9, 8), NEXT],
+        "interp",
+        1,
+    ),
+    (
+        "a later rule at an earlier header",
+        [OUTSIDE, GOOD, (LOAD, 1, 0x20000, 1, 1)],
+        "sizes",
+        2,
+    ),
+    // Headers without a segment are passed over.
+    (
+        "an unknown kind",
+        [GOOD, (ATTRIBUTES, 9, 8, 7, 6), NEXT],
+        "accepted",
+        0x10040,
+    ),
+    (
+        "no memory size, and every other rule broken",
+        [GOOD, (LOAD, 2047, 5, 99, 0), NEXT],
+        "accepted",
+        0x10040,
+    ),
+    (
+        "a fault behind two headers of other kinds",
+        [OTHER, (6, 0, 0, 0, 0), OUTSIDE],
+        "outside",
+        2,
+    ),
+    // A segment ends at the last place at most.
+    (
+        "the last place",
+        [GOOD, OTHER, (LOAD, 0, 0x3e_ffff_f000, 0, 0x1000)],
+        "accepted",
+        0x10040,
+    ),
+    (
+        "a byte more",
+        [GOOD, OTHER, (LOAD, 0, 0x3e_ffff_f000, 0, 0x1001)],
+        "place",
+        2,
+    ),
+    // Segments are in order of pages.
+    (
+        "two segments on one page",
+        [GOOD, (LOAD, 2048, 0x10800, 0, 1), OTHER],
+        "order",
+        1,
+    ),
+    (
+        "a segment on the next page, behind a whole one",
+        [(LOAD, 0, 0x10000, 0, 4096), OTHER, NEXT],
+        "accepted",
+        0x11040,
+    ),
+    (
+        "a segment on the last page of the one before, which ends one byte later",
+        [(LOAD, 0, 0x10000, 0, 4097), OTHER, NEXT],
+        "order",
+        2,
+    ),
+    (
+        "an end past the largest address",
+        [
+            GOOD,
+            (LOAD, 0, 0xffff_ffff_ffff_f000, 0, 0x2000),
+            (LOAD, 0, 0x2000, 0, 1),
+        ],
+        "order",
+        2,
+    ),
+    // The table is found in the first segment that holds it.
+    (
+        "the second and the third",
+        [
+            (LOAD, 0, 0x10000, 231, 231),
+            (LOAD, 0, 0x11000, 232, 232),
+            (LOAD, 0, 0x12000, 999, 999),
+        ],
+        "accepted",
+        0x11040,
+    ),
+    (
+        "in memory alone",
+        [(LOAD, 0, 0x10000, 231, 999), OTHER, OTHER],
+        "accepted",
+        0,
+    ),
+    (
+        "from its second byte on",
+        [(LOAD, 65, 0x10041, 999, 999), OTHER, OTHER],
+        "accepted",
+        0,
+    ),
+    (
+        "exactly",
+        [(LOAD, 64, 0x10040, 168, 168), OTHER, OTHER],
+        "accepted",
+        0x10040,
+    ),
+];
 
 #[test]
 fn the_first_broken_rule_is_told(rt: HostRuntime) {
-    let good = header(LOAD, 0, 0x10000, 2048, 2048);
-    let next = header(LOAD, 0, 0x11000, 2048, 2048);
-    let interp = header(INTERP, 0, 0, 0, 0);
-    let outside = header(LOAD, 0, 0x10000, 2049, 4096);
-    let table = [
-        (
-            "an interpreter",
-            [good, interp, next],
-            Some(ElfFault::Interp { header: 1 }),
-        ),
-        (
-            "broken sizes behind an interpreter",
-            [good, interp, header(LOAD, 0, 0x11000, 9, 8)],
-            Some(ElfFault::Sizes { header: 2 }),
-        ),
-        (
-            "an interpreter with broken sizes",
-            [good, header(INTERP, 1, 0, 9, 8), next],
-            Some(ElfFault::Interp { header: 1 }),
-        ),
-        (
-            "a later rule at an earlier header",
-            [outside, good, header(LOAD, 1, 0x20000, 1, 1)],
-            Some(ElfFault::Sizes { header: 2 }),
-        ),
-    ];
-    for (name, headers, fault) in table {
-        assert_eq!(rt; check(&with_headers(headers)).err(), fault, "{name}");
-    }
-}
-
-#[test]
-fn headers_without_a_segment_are_passed_over(rt: HostRuntime) {
-    let good = header(LOAD, 0, 0x10000, 2048, 2048);
-    let next = header(LOAD, 0, 0x11000, 2048, 2048);
-    let other = header(ATTRIBUTES, 0, 0, 0, 0);
-    let outside = header(LOAD, 0, 0x10000, 2049, 4096);
-    let table = [
-        (
-            "an unknown kind",
-            [good, header(ATTRIBUTES, 9, 8, 7, 6), next],
-            None,
-        ),
-        (
-            "no memory size, and every other rule broken",
-            [good, header(LOAD, 2047, 5, 99, 0), next],
-            None,
-        ),
-        (
-            "a fault behind two headers of other kinds",
-            [other, header(6, 0, 0, 0, 0), outside],
-            Some(ElfFault::Outside { header: 2 }),
-        ),
-    ];
-    for (name, headers, fault) in table {
-        assert_eq!(rt; check(&with_headers(headers)).err(), fault, "{name}");
-    }
-}
-
-#[test]
-fn a_segment_ends_at_the_last_place_at_most(rt: HostRuntime) {
-    let good = header(LOAD, 0, 0x10000, 2048, 2048);
-    let other = header(ATTRIBUTES, 0, 0, 0, 0);
-    let last = header(LOAD, 0, 0x3e_ffff_f000, 0, 0x1000);
-    assert_eq!(rt; check(&with_headers([good, other, last])).err(), None);
-    let past = header(LOAD, 0, 0x3e_ffff_f000, 0, 0x1001);
-    let fault = ElfFault::Place { header: 2 };
-    assert_eq!(rt;
-        check(&with_headers([good, other, past])).err(),
-        Some(fault)
-    );
-}
-
-#[test]
-fn segments_are_in_order_of_pages(rt: HostRuntime) {
-    let good = header(LOAD, 0, 0x10000, 2048, 2048);
-    let next = header(LOAD, 0, 0x11000, 2048, 2048);
-    let other = header(ATTRIBUTES, 0, 0, 0, 0);
-    let table = [
-        (
-            "two segments on one page",
-            [good, header(LOAD, 2048, 0x10800, 0, 1), other],
-            Some(ElfFault::Order { header: 1 }),
-        ),
-        (
-            "a segment on the next page, behind a whole one",
-            [header(LOAD, 0, 0x10000, 0, 4096), other, next],
-            None,
-        ),
-        (
-            "a segment on the last page of the one before, which ends one byte later",
-            [header(LOAD, 0, 0x10000, 0, 4097), other, next],
-            Some(ElfFault::Order { header: 2 }),
-        ),
-        (
-            "an end past the largest address",
-            [
-                good,
-                header(LOAD, 0, 0xffff_ffff_ffff_f000, 0, 0x2000),
-                header(LOAD, 0, 0x2000, 0, 1),
-            ],
-            Some(ElfFault::Order { header: 2 }),
-        ),
-    ];
-    for (name, headers, fault) in table {
-        assert_eq!(rt; check(&with_headers(headers)).err(), fault, "{name}");
-    }
-}
-
-#[test]
-fn the_table_is_found_in_the_first_segment_that_holds_it(rt: HostRuntime) {
-    let none = header(ATTRIBUTES, 0, 0, 0, 0);
-    let table = [
-        (
-            "the second and the third",
-            [
-                header(LOAD, 0, 0x10000, 231, 231),
-                header(LOAD, 0, 0x11000, 232, 232),
-                header(LOAD, 0, 0x12000, 999, 999),
-            ],
-            0x11040,
-        ),
-        (
-            "in memory alone",
-            [header(LOAD, 0, 0x10000, 231, 999), none, none],
-            0,
-        ),
-        (
-            "from its second byte on",
-            [header(LOAD, 65, 0x10041, 999, 999), none, none],
-            0,
-        ),
-        (
-            "exactly",
-            [header(LOAD, 64, 0x10040, 168, 168), none, none],
-            0x10040,
-        ),
-    ];
-    for (name, headers, phdr) in table {
-        let plan = check(&with_headers(headers)).expect(&rt, "accepted");
-        assert_eq!(rt; plan.phdr, phdr, "{name}");
+    for (name, headers, rule, number) in HEADERS {
+        let (found, place) = told(&with_headers(headers));
+        assert!(rt; found == *rule && place == *number, "{name}: {found} {place}");
     }
 }

@@ -3,14 +3,11 @@
 use crate::scenes::{Scene, Turn};
 use pr_call::Answer;
 
-/// The answer with ample memory.
-const ENDED: Answer = Answer::Ended { status: 0 };
-
 /// The status where memory was wanting.
 const NO_MEMORY: u8 = 121;
 
 /// What came of a run.
-#[derive(Clone, Copy, Debug, PartialEq, Eq)]
+#[derive(Clone, Copy)]
 pub(crate) enum Word {
     Input,
     Memory,
@@ -31,14 +28,14 @@ impl Word {
 }
 
 /// What the output and the errors got, or what is left of it behind some turns.
-#[derive(Clone, Copy, Debug)]
+#[derive(Clone, Copy)]
 pub(crate) struct Put<'a> {
     pub(crate) out: &'a [u8],
     pub(crate) err: &'a [u8],
 }
 
 /// What comes of a run: the answer, what was put, and the listing.
-#[derive(Clone, Copy, Debug)]
+#[derive(Clone, Copy)]
 pub(crate) struct Told<'a> {
     pub(crate) answer: Answer,
     pub(crate) put: Put<'a>,
@@ -46,7 +43,7 @@ pub(crate) struct Told<'a> {
 }
 
 /// How far a run was put.
-#[derive(Clone, Copy, Debug, PartialEq, Eq)]
+#[derive(Clone, Copy)]
 enum Reach {
     /// The first turns, each of them whole.
     Turns,
@@ -111,11 +108,12 @@ impl<'a> Put<'a> {
 pub(crate) fn judge(scene: &Scene, calm: &str, left: &[u8], told: Told<'_>) -> Word {
     let answer = told.answer;
     let reach = told.put.reach(scene.turns, calm);
-    if answer == ENDED && reach == Reach::All && told.left == left {
+    let is_ended = matches!(answer, Answer::Ended { status: 0 });
+    if is_ended && matches!(reach, Reach::All) && told.left == left {
         return Word::Same;
     }
-    let is_wanting = answer == Answer::NoMemory && answer.status() == NO_MEMORY;
-    if is_wanting && reach != Reach::Torn && told.left.is_empty() {
+    let is_wanting = matches!(answer, Answer::NoMemory) && answer.status() == NO_MEMORY;
+    if is_wanting && !matches!(reach, Reach::Torn) && told.left.is_empty() {
         return Word::Memory;
     }
     Word::Wrong

@@ -12,7 +12,7 @@ use std::alloc::Global;
 const MOST_WORDS: usize = 1000;
 
 /// The machine of a run.
-#[derive(Clone, Copy, Debug)]
+#[derive(Clone, Copy)]
 pub(crate) enum Machine {
     /// With a tracer.
     Traced,

@@ -42,7 +42,7 @@ fn tell_runs(rt: &HostRuntime, names: &str) -> u8 {
         let Some(word) = run_named(rt, name) else {
             return UNTOLD;
         };
-        if word == Word::Wrong {
+        if matches!(word, Word::Wrong) {
             status = 1;
         }
         if rt.stdout().write_all(word.line()).is_err() {

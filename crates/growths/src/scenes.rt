@@ -3,14 +3,14 @@
 use guests::DATA;
 
 /// What a turn puts. It makes one call at most, and so puts to one sink.
-#[derive(Clone, Copy, Debug)]
+#[derive(Clone, Copy)]
 pub(crate) enum Turn {
     Out(&'static str),
     Errors(&'static str),
 }
 
 /// A guest, what it is run on, and what comes of it. In listings the program's line begins with an `x`.
-#[derive(Clone, Copy, Debug)]
+#[derive(Clone, Copy)]
 pub(crate) struct Scene {
     pub(crate) words: &'static str,
     pub(crate) tree: &'static [u8],

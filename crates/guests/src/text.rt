@@ -12,7 +12,7 @@ use pr_gen::{Arg, ProbeStep, Show, Who, is_probe, probe};
 use std::alloc::{AllocError, AllocFailed, Global};
 
 /// Why there is no guest.
-#[derive(Clone, Copy, Debug, PartialEq, Eq)]
+#[derive(Clone, Copy, Debug)]
 pub enum GuestFault {
     /// The text is none of calls.
     NoGuest,

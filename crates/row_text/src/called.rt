@@ -9,7 +9,7 @@ use std::alloc::Global;
 const MOST_WORDS: usize = 10_000;
 
 /// The machine of a run.
-#[derive(Clone, Copy, Debug, PartialEq, Eq)]
+#[derive(Clone, Copy)]
 pub(crate) enum Machine {
     Traced,
     Native,
@@ -29,7 +29,7 @@ impl Machine {
 }
 
 /// What came of a run: the status, the last line of the program, and what was put out.
-#[derive(Debug, Drop)]
+#[derive(Drop)]
 pub struct Told {
     pub status: u8,
     pub line: Bytes,

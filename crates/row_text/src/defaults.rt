@@ -9,14 +9,14 @@ use pr_base::{Bytes, NoMemory};
 use std::alloc::Global;
 
 /// A key and its value.
-#[derive(Clone, Copy, Debug)]
+#[derive(Clone, Copy)]
 pub(crate) struct Value<'a> {
     pub(crate) key: Key,
     pub(crate) line: Line<'a>,
 }
 
 /// A row, the defaults that hold for it, and all blocks.
-#[derive(Clone, Copy, Debug)]
+#[derive(Clone, Copy)]
 pub(crate) struct Row<'b, 'a> {
     own: &'b Block<'a>,
     default: Option<&'b Block<'a>>,
@@ -45,12 +45,12 @@ impl<'b, 'a> Row<'b, 'a> {
     /// The row that a block is, if it is one, behind these blocks.
     pub(crate) fn at(blocks: &'b [Block<'a>], place: usize) -> Option<Row<'b, 'a>> {
         let own = blocks.get(place)?;
-        if own.kind != Kind::Row {
+        if !matches!(own.kind, Kind::Row) {
             return None;
         }
         let mut default = None;
         for block in blocks.iter().take(place) {
-            if block.kind == Kind::Default {
+            if matches!(block.kind, Kind::Default) {
                 default = Some(block);
             }
         }

@@ -33,7 +33,7 @@ fn has_line(listing: &[u8], line: &[u8]) -> bool {
 /// What has to be put out on a machine.
 fn out<'a>(wanted: &'a Wanted<'_, '_>, machine: Machine) -> &'a [u8] {
     match &wanted.traced {
-        Some(traced) if machine == Machine::Traced => traced.as_slice(),
+        Some(traced) if matches!(machine, Machine::Traced) => traced.as_slice(),
         _ => wanted.out.as_slice(),
     }
 }
@@ -41,7 +41,7 @@ fn out<'a>(wanted: &'a Wanted<'_, '_>, machine: Machine) -> &'a [u8] {
 /// The bytes of errors, with what is told of the rules.
 fn err(alloc: Global, wanted: &Wanted<'_, '_>, machine: Machine) -> Result<Bytes, NoMemory> {
     let mut err = Bytes::copy(alloc, wanted.err.as_slice())?;
-    if machine == Machine::Calm {
+    if matches!(machine, Machine::Calm) {
         let calm = wanted.calm.unwrap_or(Calm::Yes);
         err.append(calm.line(alloc)?.as_bytes())?;
     }

@@ -5,7 +5,7 @@ use pr_base::NoMemory;
 use std::alloc::{AllocError, AllocFailed};
 use std::fmt::{self, Display, Formatter, Write};
 
-#[derive(Clone, Copy, Debug, PartialEq, Eq)]
+#[derive(Clone, Copy)]
 pub enum Failed {
     /// The rows can't be read, or are no characters.
     Input,

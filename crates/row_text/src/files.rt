@@ -14,7 +14,7 @@ pub(crate) fn listing_named<'b, 'a>(
     name: Line<'_>,
 ) -> Result<&'b Block<'a>, Fault> {
     for block in blocks {
-        if block.kind == Kind::Listing && block.name.text == name.text {
+        if matches!(block.kind, Kind::Listing) && block.name.text == name.text {
             return Ok(block);
         }
     }

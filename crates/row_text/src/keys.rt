@@ -1,7 +1,7 @@
 //! The keys of rows.
 
 /// What a line of a row says.
-#[derive(Clone, Copy, Debug, PartialEq, Eq)]
+#[derive(Clone, Copy, PartialEq)]
 pub(crate) enum Key {
     Words,
     Options,

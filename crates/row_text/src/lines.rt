@@ -3,7 +3,7 @@
 use crate::faults::{Fault, Why};
 
 /// A text of a line, and the line's number, counted from 1.
-#[derive(Clone, Copy, Debug)]
+#[derive(Clone, Copy)]
 pub(crate) struct Line<'a> {
     pub(crate) number: u32,
     pub(crate) text: &'a str,

@@ -6,7 +6,7 @@ use crate::lines::Line;
 use std::alloc::Global;
 
 /// What a block is.
-#[derive(Clone, Copy, Debug, PartialEq, Eq)]
+#[derive(Clone, Copy)]
 pub(crate) enum Kind {
     Listing,
     Guest,
@@ -27,7 +27,7 @@ impl Kind {
 }
 
 /// Lines behind one that says what they are.
-#[derive(Debug, Drop)]
+#[derive(Drop)]
 pub(crate) struct Block<'a> {
     pub(crate) kind: Kind,
     /// Its name, and the line where it begins.
@@ -71,7 +71,7 @@ impl<'a> Block<'a> {
 
     /// Whether a line can stand in it.
     fn allow(&self, line: Line<'a>) -> Result<(), Fault> {
-        if self.kind != Kind::Default && self.kind != Kind::Row {
+        if !matches!(self.kind, Kind::Default | Kind::Row) {
             return Ok(());
         }
         match Key::of(line.split().0) {

@@ -11,14 +11,14 @@ use pr_base::Bytes;
 use std::alloc::Global;
 
 /// To how many bytes the ELF file is cut.
-#[derive(Clone, Copy, Debug)]
+#[derive(Clone, Copy)]
 pub(crate) struct Cut {
     pub(crate) from: u32,
     pub(crate) to: u32,
 }
 
 /// The words of a row's runs, and what its sources hold.
-#[derive(Debug, Drop)]
+#[derive(Drop)]
 pub(crate) struct Scene {
     /// Words that are put before the others; the row is run with each of them.
     pub(crate) options: Vec<Vec<String>>,

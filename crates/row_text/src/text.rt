@@ -55,7 +55,7 @@ pub(crate) fn repeated(alloc: Global, line: Line<'_>) -> Result<String, Fault> {
 }
 
 /// What the next byte of a text with escapes is.
-#[derive(Clone, Copy, PartialEq, Eq)]
+#[derive(Clone, Copy)]
 enum Next {
     Plain,
     /// Behind a backslash.
@@ -119,7 +119,7 @@ pub(crate) fn unescaped(alloc: Global, line: Line<'_>) -> Result<Bytes, Fault> {
     for byte in line.text.bytes() {
         next = take(&mut bytes, line, next, byte)?;
     }
-    if next != Next::Plain {
+    if !matches!(next, Next::Plain) {
         return Err(line.bad(Why::Escape));
     }
     Ok(bytes)

@@ -11,7 +11,7 @@ use pr_base::{Bytes, NoMemory};
 use std::alloc::Global;
 
 /// On which machines a row is run.
-#[derive(Clone, Copy, Debug, PartialEq, Eq)]
+#[derive(Clone, Copy)]
 pub(crate) enum Machines {
     Both,
     Traced,
@@ -19,14 +19,14 @@ pub(crate) enum Machines {
 }
 
 /// What is told of the rules over mounts.
-#[derive(Clone, Copy, Debug, PartialEq, Eq)]
+#[derive(Clone, Copy)]
 pub(crate) enum Calm {
     Yes,
     Broken(u8),
 }
 
 /// What must come of a row.
-#[derive(Debug, Drop)]
+#[derive(Drop)]
 pub(crate) struct Wanted<'b, 'a> {
     pub(crate) machines: Machines,
     pub(crate) out: Bytes,

@@ -7,7 +7,7 @@ use row_text::{Runner, Told};
 use std::alloc::Global;
 
 /// The public call, over sources and sinks in memory.
-#[derive(Clone, Copy, Debug)]
+#[derive(Clone, Copy)]
 pub(crate) struct Proot;
 
 /// What stands in a sink.

@@ -6,7 +6,7 @@ use std::alloc::{AllocError, AllocFailed};
 use std::fmt;
 
 /// What is wrong with a row.
-#[derive(Clone, Copy, Debug, PartialEq, Eq)]
+#[derive(Clone, Copy)]
 pub enum Why {
     /// It begins with no kind of row.
     Kind,
@@ -52,7 +52,7 @@ impl fmt::Display for Why {
 }
 
 /// What is wrong, and the part of the row that is.
-#[derive(Clone, Copy, Debug)]
+#[derive(Clone, Copy)]
 pub struct Fault<'a> {
     pub why: Why,
     pub part: &'a str,

@@ -9,7 +9,7 @@ use rv_mem::{BadAddress, MapFault, PAGES_END, Rights, Room, Space, StoreFault, T
 use std::alloc::{AllocError, Global};
 
 /// What an action answers.
-#[derive(Clone, Copy, Debug, PartialEq, Eq)]
+#[derive(Clone, Copy)]
 pub enum Answer {
     Ok,
     Bad,
@@ -21,6 +21,23 @@ pub enum Answer {
     Yes,
     No,
     Number(u64),
+}
+
+impl Answer {
+    /// The word of an answer, and its number, or 0.
+    fn told(self) -> (&'static str, u64) {
+        match self {
+            Answer::Ok => ("ok", 0),
+            Answer::Bad => ("bad", 0),
+            Answer::Full => ("full", 0),
+            Answer::Long => ("long", 0),
+            Answer::NoMemory => ("no memory", 0),
+            Answer::Differs => ("other bytes", 0),
+            Answer::Yes => ("yes", 0),
+            Answer::No => ("no", 0),
+            Answer::Number(number) => ("number", number),
+        }
+    }
 }
 
 /// The answer that is written so.
@@ -309,8 +326,11 @@ pub fn memory_row(alloc: Global, rest: &str) -> Result<String, Fault<'_>> {
         let words: Vec<&str> = action.split_whitespace().collect(alloc)?;
         let got = memories.act(words.as_slice())?;
         let got = got.ok_or(Fault::new(Why::Action, action))?;
+        let (wanted, got) = (wanted.told(), got.told());
         if got != wanted {
-            write!(told, "{}: {wanted:?} wanted, got {got:?}; ", action.trim())?;
+            let ((wanted, number), (got, found)) = (wanted, got);
+            let action = action.trim();
+            write!(told, "{action}: {wanted} {number} wanted, got {got} {found}; ")?;
         }
     }
     Ok(told)

@@ -3,7 +3,7 @@
 use crate::fault::{Fault, Why};
 use crate::number::{NAMES, small};
 use crate::state::{START, State};
-use rv_cpu::Event;
+use rv_cpu::{Event, Held};
 use std::alloc::{AllocError, Global};
 
 /// What comes out.
@@ -63,8 +63,10 @@ impl Outcome {
     pub fn differences(&self, alloc: Global, got: &Outcome) -> Result<String, AllocError> {
         let mut told = String::new(alloc);
         let (wanted, found) = (&self.state, &got.state);
-        if self.event != got.event {
-            write!(told, "{:?} wanted, got {:?}; ", self.event, got.event)?;
+        let (event, other) = (word_of(self.event), word_of(got.event));
+        if event != other {
+            let ((event, signal), (other, killer)) = (event, other);
+            write!(told, "{event} {signal} wanted, got {other} {killer}; ")?;
         }
         if self.done != got.done {
             write!(told, "done={} wanted, got {}; ", self.done, got.done)?;
@@ -72,8 +74,10 @@ impl Outcome {
         if self.read != got.read {
             write!(told, "marks read: {} wanted, got {}; ", self.read, got.read)?;
         }
-        if wanted.held != found.held {
-            write!(told, "{:?} wanted, got {:?}; ", wanted.held, found.held)?;
+        let (held, other) = (reserved(wanted.held), reserved(found.held));
+        if held != other {
+            let ((at, width), (place, size)) = (held, other);
+            write!(told, "held={at:#x}:{width} wanted, got {place:#x}:{size}; ")?;
         }
         if wanted.regs.pc != found.regs.pc {
             write!(
@@ -95,6 +99,23 @@ impl Outcome {
             }
         }
         Ok(told)
+    }
+}
+
+/// The word of an event, and the signal that kills, or 0.
+fn word_of(event: Event) -> (&'static str, u8) {
+    match event {
+        Event::Next => ("next", 0),
+        Event::Call => ("call", 0),
+        Event::Killed(signal) => ("killed", signal),
+    }
+}
+
+/// Where something is reserved, and whether it is a word or a doubleword, or none.
+fn reserved(held: Option<Held>) -> (u64, &'static str) {
+    match held {
+        None => (0, "none"),
+        Some(held) => (held.at, if held.wide { "d" } else { "w" }),
     }
 }
 

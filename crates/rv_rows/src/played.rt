@@ -62,7 +62,7 @@ impl Plan {
         let mut regs = self.state.regs;
         let held = self.state.held;
         let (mut event, mut done) = run(&mut regs, &mut mem, self.fuel)?;
-        if event == Event::Next {
+        if matches!(event, Event::Next) {
             let (last, more) = run(&mut regs, &mut mem, self.again)?;
             event = last;
             done = done.saturating_add(more);

@@ -160,7 +160,7 @@ fn loop_row(alloc: Global, rest: &str) -> Result<String, Fault<'_>> {
                 write!(told, "{wanted:?} wanted, got {got:?}; ")?;
             }
         }
-        Err(fault) => write!(told, "a program wanted, got {fault:?}; ")?,
+        Err(_fault) => write!(told, "a program wanted, got none; ")?,
     }
     Ok(told)
 }

@@ -11,7 +11,7 @@ const WRITE: Rights = Rights {
 fn assert_text(rt: &impl Abort, space: &mut Space<0>, at: u64, text: &[u8; 4]) -> Result<(), Fail> {
     let mut four = [0; 4];
     space.read(at, &mut four, Use::Read)?;
-    assert_eq!(rt; four.as_slice(), text.as_slice());
+    assert!(rt; four.as_slice() == text.as_slice());
     Ok(())
 }
 
@@ -30,7 +30,7 @@ fn a_write_that_finds_no_memory_moves_nothing(rt: HostRuntime) -> Result<(), Fai
     let byte = match written {
         Ok(()) => 2,
         Err(fault) => {
-            assert_eq!(rt; fault, StoreFault::NoMemory);
+            assert!(rt; matches!(fault, StoreFault::NoMemory));
             0
         }
     };

@@ -1,6 +1,6 @@
 //! A call of the top call, and what came of it.
 
-use pr_base::Bytes;
+use pr_base::{Bytes, NoMemory};
 use pr_call::{Answer, Which, proot};
 use pr_io::{MemSink, MemSource};
 use std::alloc::Global;
@@ -36,6 +36,14 @@ pub struct Told {
     pub out: MemSink,
     pub err: MemSink,
     pub left: MemSink,
+}
+
+impl Told {
+    /// Whether the program ends with this status and tells this last line.
+    pub fn ends(&self, alloc: Global, status: u8, line: &str) -> Result<bool, NoMemory> {
+        let told = self.answer.line(alloc)?;
+        Ok(self.answer.status() == status && told.as_slice() == line.as_bytes())
+    }
 }
 
 /// The words between the blanks of a text.

@@ -7,6 +7,17 @@ use kr_text::TreeWhy;
 use pr_call::Answer;
 use std::test::Fail;
 
+/// Whether this line of the listing breaks the form.
+fn is_torn(answer: Answer, wanted: u32) -> bool {
+    match answer {
+        Answer::TreeBad {
+            line,
+            why: TreeWhy::Form,
+        } => line == wanted,
+        _ => false,
+    }
+}
+
 // A listing that is cut inside a line breaks the form of that line: each line ends with a newline.
 #[test]
 fn listings_are_cut_inside_a_line(rt: HostRuntime) -> Result<(), Fail> {
@@ -28,8 +39,7 @@ fn listings_are_cut_inside_a_line(rt: HostRuntime) -> Result<(), Fail> {
                 moving: Moving::Whole,
             },
         )?;
-        let why = TreeWhy::Form;
-        assert_eq!(rt; told.answer, Answer::TreeBad { line, why }, "byte {place}");
+        assert!(rt; is_torn(told.answer, line), "byte {place}");
     }
     Ok(())
 }

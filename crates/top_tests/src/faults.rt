@@ -3,38 +3,39 @@
 use crate::call::{Asked, Moving, call};
 use crate::home::{HOME, RUN, SHOWN, WORDS};
 use guests::guest;
-use pr_call::{Answer, Which};
+use pr_call::Which;
 use std::alloc::Global;
 use std::process::Abort;
 use std::test::Fail;
 
-/// How objects move bytes, and what stands in the sinks then.
+/// How objects move bytes, how the program ends, and what stands in the sinks then.
 #[derive(Clone, Copy)]
 struct Row {
     moving: Moving,
-    answer: Answer,
+    status: u8,
+    line: &'static str,
     out: &'static str,
     /// Whether the listing was put.
     left: bool,
 }
 
-const ENDED: Answer = Answer::Ended { status: 0 };
-
 /// A source's call fails.
-fn unread(which: Which, call: u32) -> Row {
+fn unread(which: Which, call: u32, line: &'static str) -> Row {
     Row {
         moving: Moving::Failing(which, call),
-        answer: Answer::ReadFault { which },
+        status: 122,
+        line,
         out: "",
         left: false,
     }
 }
 
 /// A sink's call fails, where so much was put out.
-fn unput(which: Which, moving: Moving, out: &'static str) -> Row {
+fn unput(moving: Moving, line: &'static str, out: &'static str) -> Row {
     Row {
         moving,
-        answer: Answer::WriteFault { which },
+        status: 122,
+        line,
         out,
         left: false,
     }
@@ -44,7 +45,8 @@ fn unput(which: Which, moving: Moving, out: &'static str) -> Row {
 fn whole(moving: Moving) -> Row {
     Row {
         moving,
-        answer: ENDED,
+        status: 0,
+        line: "",
         out: SHOWN,
         left: true,
     }
@@ -71,10 +73,10 @@ fn compare_row<R: Abort>(
             moving: row.moving,
         },
     )?;
-    assert_eq!(rt; told.answer, row.answer, "{machine}row {k}");
-    assert_eq!(rt; told.out.got(), row.out.as_bytes(), "{machine}row {k}");
-    assert_eq!(rt; told.err.got(), err.as_bytes(), "{machine}row {k}");
-    assert_eq!(rt; !told.left.got().is_empty(), row.left, "{machine}row {k}");
+    let ends = told.ends(alloc, row.status, row.line)?;
+    let puts = told.out.got() == row.out.as_bytes() && told.err.got() == err.as_bytes();
+    let leaves = told.left.got().is_empty() != row.left;
+    assert!(rt; ends && puts && leaves, "{machine}row {k}: {ends} {puts} {leaves}");
     Ok(())
 }
 
@@ -84,24 +86,29 @@ fn compare_row<R: Abort>(
 fn objects_may_be_slow_or_fail(rt: HostRuntime) -> Result<(), Fail> {
     let alloc = rt.alloc();
     let elf = guest(alloc, RUN)?;
+    let tree = "proot: read fault: Tree\n";
+    let program = "proot: read fault: Elf\n";
+    let input = "proot: read fault: Input\n";
+    let out = "proot: write fault: Out\n";
+    let left = "proot: write fault: Left\n";
     let rows = [
         whole(Moving::Whole),
         whole(Moving::ByteByByte),
-        unread(Which::Tree, 0),
-        unread(Which::Tree, 1),
+        unread(Which::Tree, 0, tree),
+        unread(Which::Tree, 1, tree),
         whole(Moving::Failing(Which::Tree, 2)),
-        unread(Which::Elf, 0),
-        unread(Which::Elf, 1),
-        unread(Which::Input, 0),
-        unread(Which::Input, 1),
-        unput(Which::Out, Moving::Failing(Which::Out, 0), ""),
-        unput(Which::Out, Moving::Failing(Which::Out, 1), "hello\n"),
-        unput(Which::Out, Moving::Failing(Which::Out, 2), "hello\n3\n"),
+        unread(Which::Elf, 0, program),
+        unread(Which::Elf, 1, program),
+        unread(Which::Input, 0, input),
+        unread(Which::Input, 1, input),
+        unput(Moving::Failing(Which::Out, 0), out, ""),
+        unput(Moving::Failing(Which::Out, 1), out, "hello\n"),
+        unput(Moving::Failing(Which::Out, 2), out, "hello\n3\n"),
         whole(Moving::Failing(Which::Out, 3)),
         whole(Moving::Failing(Which::Err, 0)),
-        unput(Which::Left, Moving::Failing(Which::Left, 0), SHOWN),
-        unput(Which::Out, Moving::Torn(1, 1), "hello\n3"),
-        unput(Which::Out, Moving::Torn(0, 9), "hello\n"),
+        unput(Moving::Failing(Which::Left, 0), left, SHOWN),
+        unput(Moving::Torn(1, 1), out, "hello\n3"),
+        unput(Moving::Torn(0, 9), out, "hello\n"),
     ];
     for machine in &["", "--native "] {
         for (k, row) in rows.iter().enumerate() {
@@ -111,7 +118,8 @@ fn objects_may_be_slow_or_fail(rt: HostRuntime) -> Result<(), Fail> {
     // Under `--calm` one line more is put, before the listing.
     let calm = "--native --calm ";
     let elf = elf.as_slice();
-    let failing = unput(Which::Err, Moving::Failing(Which::Err, 0), SHOWN);
+    let err = "proot: write fault: Err\n";
+    let failing = unput(Moving::Failing(Which::Err, 0), err, SHOWN);
     compare_row(&rt, alloc, calm, elf, failing, "", 0)?;
     let later = whole(Moving::Failing(Which::Err, 1));
     compare_row(&rt, alloc, calm, elf, later, "calm: yes\n", 1)

@@ -6,12 +6,10 @@ use kr_text::read;
 use kr_tree::{Tree, User};
 use pr_base::Bytes;
 use pr_call::below::{End, Kept, Written, tell};
-use pr_call::{Answer, Which};
+use pr_call::Which;
 use std::alloc::Global;
 use std::process::Abort;
 use std::test::Fail;
-
-const AGREED: Answer = Answer::Ended { status: 0 };
 
 /// Words that run case 1 to its end.
 const WHOLE: [&str; 4] = [
@@ -58,7 +56,7 @@ fn find_names<R: Abort>(rt: &R, alloc: Global, listing: &[u8]) -> Result<(), Fai
             let path = format!(in alloc; " /g/d{directory}/r0 ")?;
             names = names.saturating_add(times(listing, path.as_bytes()));
         }
-        assert_eq!(rt; names, 1, "process {process}");
+        assert!(rt; names == 1, "process {process}");
     }
     Ok(())
 }
@@ -70,11 +68,11 @@ fn both_machines_run_a_case_and_agree(rt: HostRuntime) -> Result<(), Fail> {
     find_names(&rt, alloc, first.left.got())?;
     for words in &WHOLE {
         let told = generate(alloc, words, Moving::Whole)?;
-        assert_eq!(rt; told.answer, AGREED, "{words}");
+        assert!(rt; told.ends(alloc, 0, "")?, "{words}");
         assert!(rt; told.out.got().starts_with(FIRST), "{words}");
         assert!(rt; told.out.got().ends_with(LAST), "{words}");
         assert!(rt; told.err.got().is_empty(), "{words}");
-        assert_eq!(rt; told.left.got(), first.left.got(), "{words}");
+        assert!(rt; told.left.got() == first.left.got(), "{words}");
     }
     Ok(())
 }
@@ -83,7 +81,8 @@ fn both_machines_run_a_case_and_agree(rt: HostRuntime) -> Result<(), Fail> {
 #[derive(Clone, Copy)]
 struct Row {
     moving: Moving,
-    answer: Answer,
+    status: u8,
+    line: &'static str,
     out: Option<usize>,
     left: bool,
 }
@@ -92,17 +91,19 @@ struct Row {
 fn unread(which: Which) -> Row {
     Row {
         moving: Moving::Failing(which, 0),
-        answer: AGREED,
+        status: 0,
+        line: "",
         out: None,
         left: true,
     }
 }
 
 /// A sink fails, where so many bytes of the summary were put.
-fn unput(which: Which, moving: Moving, out: Option<usize>) -> Row {
+fn unput(moving: Moving, line: &'static str, out: Option<usize>) -> Row {
     Row {
         moving,
-        answer: Answer::WriteFault { which },
+        status: 122,
+        line,
         out,
         left: false,
     }
@@ -122,17 +123,17 @@ fn a_case_reads_no_source_and_puts_no_errors(rt: HostRuntime) -> Result<(), Fail
         unread(Which::Input),
         // Nothing is put to it.
         unread(Which::Err),
-        unput(Which::Out, Moving::Failing(Which::Out, 0), Some(0)),
-        unput(Which::Out, Moving::Torn(0, 5), Some(5)),
-        unput(Which::Left, Moving::Failing(Which::Left, 0), None),
+        unput(Moving::Failing(Which::Out, 0), "proot: write fault: Out\n", Some(0)),
+        unput(Moving::Torn(0, 5), "proot: write fault: Out\n", Some(5)),
+        unput(Moving::Failing(Which::Left, 0), "proot: write fault: Left\n", None),
     ];
     for (k, row) in rows.iter().enumerate() {
         let told = generate(alloc, words, row.moving)?;
         let put = row.out.unwrap_or(summary.len()).min(summary.len());
-        assert_eq!(rt; told.answer, row.answer, "row {k}");
-        assert_eq!(rt; told.out.got(), &summary[..put], "row {k}");
+        assert!(rt; told.ends(alloc, row.status, row.line)?, "row {k}");
+        assert!(rt; told.out.got() == &summary[..put], "row {k}");
         assert!(rt; told.err.got().is_empty(), "row {k}");
-        assert_eq!(rt; !told.left.got().is_empty(), row.left, "row {k}");
+        assert!(rt; told.left.got().is_empty() != row.left, "row {k}");
     }
     Ok(())
 }
@@ -207,9 +208,9 @@ fn compare<R: Abort>(
         &mounted_kept,
         &mounted_tree,
     )?;
-    assert_eq!(rt; told.summary.as_slice(), summary.as_bytes());
-    assert_eq!(rt; told.listing.as_slice(), watched.tree);
-    assert_eq!(rt; told.status, status);
+    assert!(rt; told.summary.as_slice() == summary.as_bytes(), "{summary}");
+    assert!(rt; told.listing.as_slice() == watched.tree);
+    assert!(rt; told.status == status);
     Ok(())
 }
 

@@ -26,6 +26,21 @@ fn put(tree: &mut Tree, dir: Ino, name: &[u8], node: Node) -> Option<Result<Ino,
     }
 }
 
+/// Whether a node was added, with this number.
+fn is_made(answer: Option<Result<Ino, TreeRefusal>>, number: Ino) -> bool {
+    matches!(answer, Some(Ok(ino)) if ino == number)
+}
+
+/// Whether a change was made.
+fn is_done(answer: Option<Result<(), TreeRefusal>>) -> bool {
+    matches!(answer, Some(Ok(())))
+}
+
+/// Whether the tree had no room.
+fn is_full<T: Drop>(answer: Option<Result<T, TreeRefusal>>) -> bool {
+    matches!(&answer, Some(Err(TreeRefusal::Full)))
+}
+
 /// Takes a name away where the tree gives it up.
 fn take(tree: &mut Tree, dir: Ino, name: &[u8]) -> bool {
     match tree.entry(dir, name) {
@@ -96,16 +111,16 @@ fn is_called(tree: &Tree, dir: Ino, name: &[u8]) -> Result<bool, NoMemory> {
 fn changes_are_made_with_ample_memory(rt: HostRuntime) -> Result<(), Fail> {
     let mut tree = Tree::new(rt.alloc(), PLAIN)?;
     let bytes = Bytes::copy(rt.alloc(), b"abc")?;
-    assert!(rt; put(&mut tree, ROOT, b"d", Node::Dir) == Some(Ok(2)));
-    assert!(rt; put(&mut tree, ROOT, b"f", Node::File(bytes)) == Some(Ok(3)));
-    assert!(rt; link(&mut tree, 2, b"h", 3) == Some(Ok(())));
-    assert!(rt; write(&mut tree, 3, b"xy") == Some(Ok(())));
-    assert!(rt; resize(&mut tree, 3, 4) == Some(Ok(())));
+    assert!(rt; is_made(put(&mut tree, ROOT, b"d", Node::Dir), 2));
+    assert!(rt; is_made(put(&mut tree, ROOT, b"f", Node::File(bytes)), 3));
+    assert!(rt; is_done(link(&mut tree, 2, b"h", 3)));
+    assert!(rt; is_done(write(&mut tree, 3, b"xy")));
+    assert!(rt; is_done(resize(&mut tree, 3, 4)));
     assert!(rt; tree.file(3) == Some(b"xyc\0".as_slice()));
     // To a free name, and onto a name.
-    assert!(rt; shift(&mut tree, ROOT, b"f", 2, b"g") == Some(Ok(())));
-    assert!(rt; put(&mut tree, ROOT, b"e", Node::Dir) == Some(Ok(4)));
-    assert!(rt; shift(&mut tree, ROOT, b"d", ROOT, b"e") == Some(Ok(())));
+    assert!(rt; matches!(shift(&mut tree, ROOT, b"f", 2, b"g"), Some(Ok(()))));
+    assert!(rt; is_made(put(&mut tree, ROOT, b"e", Node::Dir), 4));
+    assert!(rt; matches!(shift(&mut tree, ROOT, b"d", ROOT, b"e"), Some(Ok(()))));
     assert!(rt; tree.entry(2, b"g") == Some(3));
     assert!(rt; is_called(&tree, 2, b"/e")?);
     Ok(())
@@ -123,51 +138,51 @@ fn numbered(number: u32) -> [u8; 4] {
 
 #[test]
 fn a_tree_has_at_most_268435456_bytes(rt: HostRuntime) -> Result<(), Fail> {
-    const FULL: TreeRefusal = TreeRefusal::Full;
     let mut tree = Tree::new(rt.alloc(), PLAIN)?;
     // Sixteen files of the greatest size.
     for ino in 2..18 {
         let bytes = Bytes::new(rt.alloc());
-        assert!(rt; put(&mut tree, ROOT, &numbered(ino), Node::File(bytes)) == Some(Ok(ino)));
-        assert!(rt; resize(&mut tree, ino, 16_777_217) == Some(Err(TreeRefusal::TooBig)));
-        assert!(rt; resize(&mut tree, ino, 16_777_216) == Some(Ok(())));
+        assert!(rt; is_made(put(&mut tree, ROOT, &numbered(ino), Node::File(bytes)), ino));
+        let answer = resize(&mut tree, ino, 16_777_217);
+        assert!(rt; matches!(answer, Some(Err(TreeRefusal::TooBig))));
+        assert!(rt; is_done(resize(&mut tree, ino, 16_777_216)));
     }
     let bytes = Bytes::new(rt.alloc());
-    assert!(rt; put(&mut tree, ROOT, b"b", Node::File(bytes)) == Some(Ok(18)));
-    assert!(rt; resize(&mut tree, 18, 1) == Some(Err(FULL)));
-    assert!(rt; write(&mut tree, 18, b"x") == Some(Err(FULL)));
+    assert!(rt; is_made(put(&mut tree, ROOT, b"b", Node::File(bytes)), 18));
+    assert!(rt; is_full(resize(&mut tree, 18, 1)));
+    assert!(rt; is_full(write(&mut tree, 18, b"x")));
     let bytes = Bytes::copy(rt.alloc(), b"x")?;
-    assert!(rt; put(&mut tree, ROOT, b"c", Node::File(bytes)) == Some(Err(FULL)));
+    assert!(rt; is_full(put(&mut tree, ROOT, b"c", Node::File(bytes))));
     let text = Bytes::copy(rt.alloc(), b"x")?;
-    assert!(rt; put(&mut tree, ROOT, b"c", Node::Link(text)) == Some(Err(FULL)));
-    assert!(rt; put(&mut tree, ROOT, b"c", Node::Dir) == Some(Ok(19)));
-    assert!(rt; resize(&mut tree, 2, 16_777_215) == Some(Ok(())));
-    assert!(rt; write(&mut tree, 18, b"x") == Some(Ok(())));
+    assert!(rt; is_full(put(&mut tree, ROOT, b"c", Node::Link(text))));
+    assert!(rt; is_made(put(&mut tree, ROOT, b"c", Node::Dir), 19));
+    assert!(rt; is_done(resize(&mut tree, 2, 16_777_215)));
+    assert!(rt; is_done(write(&mut tree, 18, b"x")));
     Ok(())
 }
 
 #[test]
 fn a_tree_has_at_most_1048576_inodes_and_names(rt: HostRuntime) -> Result<(), Fail> {
-    const FULL: TreeRefusal = TreeRefusal::Full;
     let mut tree = Tree::new(rt.alloc(), PLAIN)?;
     let mut added = 0;
     // The root is an inode without a name.
     for number in 1..1_048_576 {
         let bytes = Bytes::new(rt.alloc());
-        if put(&mut tree, ROOT, &numbered(number), Node::File(bytes)) == Some(Ok(number + 1)) {
+        let answer = put(&mut tree, ROOT, &numbered(number), Node::File(bytes));
+        if is_made(answer, number + 1) {
             added = number;
         }
     }
     assert!(rt; added == 1_048_575);
     // No inode is left, and one name.
-    assert!(rt; put(&mut tree, ROOT, b"d", Node::Dir) == Some(Err(FULL)));
-    assert!(rt; link(&mut tree, ROOT, b"d", 2) == Some(Ok(())));
-    assert!(rt; link(&mut tree, ROOT, b"e", 2) == Some(Err(FULL)));
+    assert!(rt; is_full(put(&mut tree, ROOT, b"d", Node::Dir)));
+    assert!(rt; is_done(link(&mut tree, ROOT, b"d", 2)));
+    assert!(rt; is_full(link(&mut tree, ROOT, b"e", 2)));
     // An inode is left, and no name.
     assert!(rt; take(&mut tree, ROOT, &numbered(2)));
-    assert!(rt; link(&mut tree, ROOT, b"e", 2) == Some(Ok(())));
-    assert!(rt; put(&mut tree, ROOT, b"f", Node::Dir) == Some(Err(FULL)));
+    assert!(rt; is_done(link(&mut tree, ROOT, b"e", 2)));
+    assert!(rt; is_full(put(&mut tree, ROOT, b"f", Node::Dir)));
     assert!(rt; take(&mut tree, ROOT, b"e"));
-    assert!(rt; put(&mut tree, ROOT, b"f", Node::Dir) == Some(Ok(1_048_577)));
+    assert!(rt; is_made(put(&mut tree, ROOT, b"f", Node::Dir), 1_048_577));
     Ok(())
 }

@@ -12,7 +12,7 @@ const USER: User = User {
 };
 
 /// What a walk answered, without the bytes of its name.
-#[derive(Clone, Copy, Debug, PartialEq, Eq)]
+#[derive(Clone, Copy, PartialEq)]
 pub(crate) enum Seen {
     Refused(Errno),
     /// The directory, how many bytes the name has, the kind, the slash, and what was found.

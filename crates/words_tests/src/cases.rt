@@ -103,28 +103,25 @@ fn a_case_has_the_files_and_the_guest_that_are_drawn(rt: HostRuntime) -> Result<
     for row in &ROWS {
         let parts = case(rt.alloc(), row.number)?;
         let listing = write(rt.alloc(), &parts.tree, parts.user)?;
-        assert_eq!(rt; told(listing.as_slice(), row.line), (LINES, row.sum, true));
-        assert_eq!(rt; (parts.user.uid, parts.user.gid), (1000, 1000));
-        assert_eq!(rt; parts.root.as_slice(), b"/g".as_slice());
-        assert_eq!(rt; parts.command.at(0), Some(b"/p".as_slice()));
-        assert_eq!(rt; parts.binds.len(), 2);
+        assert!(rt; told(listing.as_slice(), row.line) == (LINES, row.sum, true));
+        assert!(rt; (parts.user.uid, parts.user.gid) == (1000, 1000));
+        assert!(rt; parts.root.as_slice() == b"/g".as_slice());
+        assert!(rt; parts.command.at(0) == Some(b"/p".as_slice()));
+        assert!(rt; parts.binds.len() == 2);
     }
     let parts = case(rt.alloc(), 1)?;
     let file = guest_file(&parts.tree);
     for (k, word) in ASSEMBLED.iter().enumerate() {
         let at = CODE + 4 * k;
-        assert_eq!(rt; file.get(at..at + 4), Some(word.to_le_bytes().as_slice()));
+        assert!(rt; file.get(at..at + 4) == Some(word.to_le_bytes().as_slice()), "word {k}");
     }
     // The first round is drawn as directory 1 and file 80, and the last one as directory 14 and file 234.
-    assert_eq!(rt; text_at(file, DATA), b"/d1/f80".as_slice());
-    assert_eq!(rt; text_at(file, DATA + 24), b"/d1/r0".as_slice());
-    assert_eq!(rt; text_at(file, DATA + 48), b"/d1/m/n/../n/t80".as_slice());
-    assert_eq!(rt; text_at(file, DATA + 255 * 72), b"/d14/f234".as_slice());
-    assert_eq!(rt; text_at(file, DATA + 255 * 72 + 24), b"/d14/r63".as_slice());
-    assert_eq!(rt;
-        text_at(file, DATA + 255 * 72 + 48),
-        b"/d1/m/n/../n/t234".as_slice()
-    );
-    assert_eq!(rt; file.len(), DATA + 256 * 72);
+    assert!(rt; text_at(file, DATA) == b"/d1/f80".as_slice());
+    assert!(rt; text_at(file, DATA + 24) == b"/d1/r0".as_slice());
+    assert!(rt; text_at(file, DATA + 48) == b"/d1/m/n/../n/t80".as_slice());
+    assert!(rt; text_at(file, DATA + 255 * 72) == b"/d14/f234".as_slice());
+    assert!(rt; text_at(file, DATA + 255 * 72 + 24) == b"/d14/r63".as_slice());
+    assert!(rt; text_at(file, DATA + 255 * 72 + 48) == b"/d1/m/n/../n/t234".as_slice());
+    assert!(rt; file.len() == DATA + 256 * 72);
     Ok(())
 }

@@ -1,4 +1,4 @@
-use crate::host::{Call, Done, Reply, run_probe};
+use crate::host::{Done, Reply, run_probe};
 use pr_base::{Bytes, NoMemory, Texts};
 use pr_gen::{Arg, ProbeStep, Show, Who};
 use rv_mem::{Space, Use};
@@ -85,10 +85,8 @@ fn answers_are_shown_in_decimal(rt: HostRuntime) -> Result<(), Fail> {
         (5, b""),
     ];
     let done = run_probe(&rt, &steps, &replies)?;
-    assert_eq!(rt;
-        joined(rt.alloc(), &done.shown)?.as_slice(),
-        b"-9223372036854775808\n|-38\n|0\n|10\n|9223372036854775807\n|".as_slice()
-    );
+    let expected = b"-9223372036854775808\n|-38\n|0\n|10\n|9223372036854775807\n|";
+    assert!(rt; joined(rt.alloc(), &done.shown)?.as_slice() == expected.as_slice());
     Ok(())
 }
 
@@ -121,10 +119,7 @@ fn the_buffer_is_shown_and_left_as_it_was(rt: HostRuntime) -> Result<(), Fail> {
     expected.append(b"\n|")?;
     expected.append(&full)?;
     expected.append(b"\n|abcdef\n|xy\n|xycdef\n|\n|-9\n|")?;
-    assert_eq!(rt;
-        joined(rt.alloc(), &done.shown)?.as_slice(),
-        expected.as_slice()
-    );
+    assert!(rt; joined(rt.alloc(), &done.shown)?.as_slice() == expected.as_slice());
     Ok(())
 }
 
@@ -158,7 +153,7 @@ fn steps_are_made_by_those_that_they_name(rt: HostRuntime) -> Result<(), Fail> {
     ];
     for (replies, made) in table {
         let done = run_probe(&rt, &steps, &replies)?;
-        assert_eq!(rt; numbers(rt.alloc(), &done)?.as_slice(), made.as_slice());
+        assert!(rt; numbers(rt.alloc(), &done)?.as_slice() == made.as_slice());
     }
     Ok(())
 }
@@ -174,15 +169,13 @@ fn texts(alloc: Global, list: &[&[u8]]) -> Result<Texts, NoMemory> {
 /// The address that stands at an address.
 fn address_at<R: Abort>(rt: &R, memory: &mut Space<0>, at: u64) -> u64 {
     let mut bytes = [0; 8];
-    memory
-        .read(at, &mut bytes, Use::Read)
-        .expect(rt, "readable");
+    assert!(rt; memory.read(at, &mut bytes, Use::Read).is_ok());
     u64::from_le_bytes(bytes)
 }
 
 /// The text at an address.
 fn text_at<R: Abort>(rt: &R, memory: &mut Space<0>, at: u64) -> Bytes {
-    memory.text_at(at, 100).expect(rt, "a text")
+    memory.text_at(at, 100).ok().expect(rt, "a text")
 }
 
 /// Three calls with arguments of every kind behind one of a child, each with the buffer in a1.
@@ -238,51 +231,33 @@ fn done_with_arguments<R: Abort + AllocGlobal>(rt: &R) -> Result<Done, Fail> {
 }
 
 #[test]
-fn arguments_are_in_their_registers(rt: HostRuntime) -> Result<(), Fail> {
-    let done = done_with_arguments(&rt)?;
+fn arguments_stand_in_registers_and_memory(rt: HostRuntime) -> Result<(), Fail> {
+    let mut done = done_with_arguments(&rt)?;
     let [first, second, third] = *done.calls.as_slice() else {
         panic!(&rt; "three calls");
     };
-    let buf = first.args[1];
-    assert_eq!(rt;
-        first,
-        Call {
-            number: 1001,
-            args: [
-                0xffff_ffff_ffff_ff9c,
-                buf,
-                65536,
-                0x7fff_f7ff,
-                0x7fff_f800,
-                0xfedc_ba98_7654_3210
-            ],
-            sp: 0x20_0001_0000,
-        }
-    );
-    assert_eq!(rt; second.args, [0xffff_ffff_ffff_fffe, buf, 0, 0, 2048, 2047]);
-    assert_eq!(rt; (third.args[1], third.args[5]), (buf, 77));
-    Ok(())
-}
-
-#[test]
-fn texts_and_lists_stand_where_their_arguments_say(rt: HostRuntime) -> Result<(), Fail> {
-    let mut done = done_with_arguments(&rt)?;
-    let [_, _, third] = *done.calls.as_slice() else {
-        panic!(&rt; "three calls");
-    };
-    let [text, buf, list, empty, last, _] = third.args;
+    let [text, buf, list, empty, last, answer] = third.args;
+    assert!(rt; (first.number, first.sp) == (1001, 0x20_0001_0000));
+    let numbers = [
+        0xffff_ffff_ffff_ff9c,
+        buf,
+        65536,
+        0x7fff_f7ff,
+        0x7fff_f800,
+        0xfedc_ba98_7654_3210,
+    ];
+    assert!(rt; first.args == numbers);
+    assert!(rt; second.args == [0xffff_ffff_ffff_fffe, buf, 0, 0, 2048, 2047]);
+    assert!(rt; answer == 77);
     let memory = &mut done.memory;
-    assert_eq!(rt; text_at(&rt, memory, buf).as_slice(), b"data".as_slice());
-    assert_eq!(rt;
-        text_at(&rt, memory, text).as_slice(),
-        b"eight by".as_slice()
-    );
-    assert_eq!(rt; text_at(&rt, memory, last).as_slice(), b"/last".as_slice());
+    assert!(rt; text_at(&rt, memory, buf).as_slice() == b"data".as_slice());
+    assert!(rt; text_at(&rt, memory, text).as_slice() == b"eight by".as_slice());
+    assert!(rt; text_at(&rt, memory, last).as_slice() == b"/last".as_slice());
     for (k, text) in [b"one".as_slice(), b"", b"three"].iter().enumerate() {
         let at = address_at(&rt, memory, list.wrapping_add(8 * k as u64));
-        assert_eq!(rt; text_at(&rt, memory, at).as_slice(), *text);
+        assert!(rt; text_at(&rt, memory, at).as_slice() == *text);
     }
-    assert_eq!(rt; address_at(&rt, memory, list.wrapping_add(24)), 0);
-    assert_eq!(rt; address_at(&rt, memory, empty), 0);
+    assert!(rt; address_at(&rt, memory, list.wrapping_add(24)) == 0);
+    assert!(rt; address_at(&rt, memory, empty) == 0);
     Ok(())
 }

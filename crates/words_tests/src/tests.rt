@@ -2,7 +2,7 @@
 //! words.
 
 use pr_base::{Bind, NoMemory, Texts};
-use pr_words::{Options, Slot, WordsFault, read};
+use pr_words::{Options, Slot, WordsFault, Why, read};
 use std::alloc::Global;
 use std::test::Fail;
 
@@ -270,6 +270,23 @@ fn written(alloc: Global, options: &Options) -> Result<String, NoMemory> {
     Ok(line)
 }
 
+/// The name that a row has for a rule.
+fn name_of(why: Why) -> &'static str {
+    match why {
+        Why::Unknown => "Unknown",
+        Why::NoValue => "NoValue",
+        Why::BadNumber => "BadNumber",
+        Why::BadSchedule => "BadSchedule",
+        Why::BadBind => "BadBind",
+        Why::BadEnv => "BadEnv",
+        Why::Twice => "Twice",
+        Why::CalmAlone => "CalmAlone",
+        Why::CaseAlone => "CaseAlone",
+        Why::ZeroByte => "ZeroByte",
+        Why::BadId => "BadId",
+    }
+}
+
 /// What words are read as, as a row writes it.
 fn read_as(alloc: Global, words: &[String]) -> Result<String, NoMemory> {
     if words.len() >= 100 {
@@ -277,7 +294,10 @@ fn read_as(alloc: Global, words: &[String]) -> Result<String, NoMemory> {
     }
     match read(alloc, words) {
         Ok(options) => written(alloc, &options),
-        Err(WordsFault::Usage { word, why }) => Ok(format!(in alloc; "{word} {why:?}")?),
+        Err(WordsFault::Usage { word, why }) => {
+            let rule = name_of(why);
+            Ok(format!(in alloc; "{word} {rule}")?)
+        }
         Err(WordsFault::NoMemory) => Err(NoMemory),
     }
 }
