@@ -169,7 +169,14 @@ fn is_call(number: u64, request: &Request) -> bool {
         17 => matches!(request, Request::Getcwd { buf: 1, size: 2 }),
         50 => matches!(request, Request::Fchdir { fd: 1 }),
         52 => matches!(request, Request::Fchmod { fd: 1, mode: 2 }),
-        55 => matches!(request, Request::Fchown { fd: 1, uid: 2, gid: 3 }),
+        55 => matches!(
+            request,
+            Request::Fchown {
+                fd: 1,
+                uid: 2,
+                gid: 3
+            }
+        ),
         96 => matches!(request, Request::SetTidAddress),
         134 => matches!(request, Request::RtSigaction),
         135 => matches!(request, Request::RtSigprocmask),
@@ -177,10 +184,38 @@ fn is_call(number: u64, request: &Request) -> bool {
         144 => matches!(request, Request::Setgid { gid: 1 }),
         145 => matches!(request, Request::Setreuid { ruid: 1, euid: 2 }),
         146 => matches!(request, Request::Setuid { uid: 1 }),
-        147 => matches!(request, Request::Setresuid { ruid: 1, euid: 2, suid: 3 }),
-        148 => matches!(request, Request::Getresuid { ruid: 1, euid: 2, suid: 3 }),
-        149 => matches!(request, Request::Setresgid { rgid: 1, egid: 2, sgid: 3 }),
-        150 => matches!(request, Request::Getresgid { rgid: 1, egid: 2, sgid: 3 }),
+        147 => matches!(
+            request,
+            Request::Setresuid {
+                ruid: 1,
+                euid: 2,
+                suid: 3
+            }
+        ),
+        148 => matches!(
+            request,
+            Request::Getresuid {
+                ruid: 1,
+                euid: 2,
+                suid: 3
+            }
+        ),
+        149 => matches!(
+            request,
+            Request::Setresgid {
+                rgid: 1,
+                egid: 2,
+                sgid: 3
+            }
+        ),
+        150 => matches!(
+            request,
+            Request::Getresgid {
+                rgid: 1,
+                egid: 2,
+                sgid: 3
+            }
+        ),
         158 => matches!(request, Request::Getgroups { size: 1, list: 2 }),
         159 => matches!(request, Request::Setgroups { size: 1, list: 2 }),
         166 => matches!(request, Request::Umask { m: 1 }),
@@ -227,14 +262,24 @@ const NEW: Walk = Some((WalkMode::Name, 13));
 const PATHS: &[(u64, [u64; 5], Walk, Walk)] = &[
     (34, [HERE, ONE_A, 0, 0, 0], NAME, None),
     (35, [HERE, ONE_A, 0, 0, 0], NAME, None),
-    (36, [ONE_A, HERE, ONE_A, 0, 0], Some((WalkMode::Name, 12)), None),
+    (
+        36,
+        [ONE_A, HERE, ONE_A, 0, 0],
+        Some((WalkMode::Name, 12)),
+        None,
+    ),
     (37, [HERE, ONE_A, HERE, ONE_A, 0], LINK, NEW),
     (37, [HERE, ONE_A, HERE, ONE_A, 0x400], LOOK, NEW),
     (49, [ONE_A, 0, 0, 0, 0], Some((WalkMode::Look, 10)), None),
     (53, [HERE, ONE_A, 0, 0, 0], LOOK, None),
     (54, [HERE, ONE_A, 0, 0, 0], LOOK, None),
     (54, [HERE, ONE_A, 0, 0, 0x100], LINK, None),
-    (56, [HERE, ONE_A, 0o101, 0, 0], Some((WalkMode::Open, 11)), None),
+    (
+        56,
+        [HERE, ONE_A, 0o101, 0, 0],
+        Some((WalkMode::Open, 11)),
+        None,
+    ),
     (56, [HERE, ONE_A, 0o301, 0, 0], NAME, None),
     (56, [HERE, ONE_A, 0o400100, 0, 0], NAME, None),
     (221, [ONE_A, 0, 0, 0, 0], Some((WalkMode::Look, 10)), None),
@@ -262,7 +307,16 @@ fn texts_and_flags_are_kept(rt: HostRuntime) -> Result<(), Fail> {
     let ignored = [HERE, PAGE_OF_A + 1, 0x0840_8000, 0o1644, 0];
     let opened = decoded(&rt, &mut memory, 56, ignored);
     assert_path(&rt, &opened, WalkMode::Look, 4095);
-    assert!(rt; matches!(&opened, Request::Openat { flags: 0x0840_8000, mode: 0o1644, .. }));
+    assert!(rt;
+        matches!(
+            &opened,
+            Request::Openat {
+                flags: 0x0840_8000,
+                mode: 0o1644,
+                ..
+            }
+        )
+    );
     let linked = decoded(&rt, &mut memory, 56, [HERE, PAGE_OF_A + 1, 0o400000, 0, 0]);
     assert_path(&rt, &linked, WalkMode::LookLink, 4095);
     let shown = decoded(&rt, &mut memory, 79, [HERE, ZEROS, 0x3000, 0x1100, 0]);

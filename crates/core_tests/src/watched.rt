@@ -112,8 +112,14 @@ fn seen<const M: u8>(alloc: Global, elf: &[u8]) -> Result<Bytes, Fail> {
 
 /// Compares what is seen of a guest, without marks and with them.
 fn compare<R: Abort>(rt: &R, alloc: Global, elf: &[u8], wanted: &str) -> Result<(), Fail> {
-    assert!(rt; seen::<0>(alloc, elf)?.as_slice() == wanted.as_bytes(), "{wanted}");
-    assert!(rt; seen::<1>(alloc, elf)?.as_slice() == wanted.as_bytes(), "{wanted}");
+    assert!(rt;
+        seen::<0>(alloc, elf)?.as_slice() == wanted.as_bytes(),
+        "{wanted}"
+    );
+    assert!(rt;
+        seen::<1>(alloc, elf)?.as_slice() == wanted.as_bytes(),
+        "{wanted}"
+    );
     Ok(())
 }
 

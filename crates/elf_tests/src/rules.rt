@@ -129,7 +129,10 @@ fn a_byte_and_a_cut_break_a_rule(rt: HostRuntime) {
         let mut file = HELLO;
         put(&mut file, *at, &[*byte]);
         let (found, place) = told(&file);
-        assert!(rt; found == *rule && place == *number, "byte {at}: {found} {place}");
+        assert!(rt;
+            found == *rule && place == *number,
+            "byte {at}: {found} {place}"
+        );
     }
     for size in 0..HELLO.len() {
         let rule = match size {
@@ -138,7 +141,10 @@ fn a_byte_and_a_cut_break_a_rule(rt: HostRuntime) {
             _ => "outside",
         };
         let (found, place) = told(&HELLO[..size]);
-        assert!(rt; found == rule && place == 0, "{size} bytes: {found} {place}");
+        assert!(rt;
+            found == rule && place == 0,
+            "{size} bytes: {found} {place}"
+        );
     }
 }
 
@@ -274,6 +280,9 @@ const HEADERS: &[(&str, [Header; 3], &str, u64)] = &[
 fn the_first_broken_rule_is_told(rt: HostRuntime) {
     for (name, headers, rule, number) in HEADERS {
         let (found, place) = told(&with_headers(headers));
-        assert!(rt; found == *rule && place == *number, "{name}: {found} {place}");
+        assert!(rt;
+            found == *rule && place == *number,
+            "{name}: {found} {place}"
+        );
     }
 }

@@ -174,7 +174,10 @@ fn calls_and_cuts_are_made_again(rt: HostRuntime) -> Result<(), Fail> {
     for (flush_fails, want) in [(false, b"..!."), (true, b"!!!!")] {
         let mut sink = FileSink::over(Some(Halting::new(5, flush_fails)));
         let given = put_all(rt.alloc(), &mut sink, &parts)?;
-        assert!(rt; given.as_slice() == want.as_slice(), "flush_fails {flush_fails}");
+        assert!(rt;
+            given.as_slice() == want.as_slice(),
+            "flush_fails {flush_fails}"
+        );
     }
     // A cut that fails is made again, and then no more.
     let mut sink = ReplacingSink::over(Some(Stubborn { cuts: 0 }));

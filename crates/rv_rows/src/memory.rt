@@ -330,7 +330,10 @@ pub fn memory_row(alloc: Global, rest: &str) -> Result<String, Fault<'_>> {
         if got != wanted {
             let ((wanted, number), (got, found)) = (wanted, got);
             let action = action.trim();
-            write!(told, "{action}: {wanted} {number} wanted, got {got} {found}; ")?;
+            write!(
+                told,
+                "{action}: {wanted} {number} wanted, got {got} {found}; "
+            )?;
         }
     }
     Ok(told)

@@ -76,7 +76,10 @@ fn compare_row<R: Abort>(
     let ends = told.ends(alloc, row.status, row.line)?;
     let puts = told.out.got() == row.out.as_bytes() && told.err.got() == err.as_bytes();
     let leaves = told.left.got().is_empty() != row.left;
-    assert!(rt; ends && puts && leaves, "{machine}row {k}: {ends} {puts} {leaves}");
+    assert!(rt;
+        ends && puts && leaves,
+        "{machine}row {k}: {ends} {puts} {leaves}"
+    );
     Ok(())
 }
 

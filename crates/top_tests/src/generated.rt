@@ -5,8 +5,8 @@ use guests::HELLO;
 use kr_text::read;
 use kr_tree::{Tree, User};
 use pr_base::Bytes;
-use pr_call::below::{End, Kept, Written, tell};
 use pr_call::Which;
+use pr_call::below::{End, Kept, Written, tell};
 use std::alloc::Global;
 use std::process::Abort;
 use std::test::Fail;
@@ -123,9 +123,17 @@ fn a_case_reads_no_source_and_puts_no_errors(rt: HostRuntime) -> Result<(), Fail
         unread(Which::Input),
         // Nothing is put to it.
         unread(Which::Err),
-        unput(Moving::Failing(Which::Out, 0), "proot: write fault: Out\n", Some(0)),
+        unput(
+            Moving::Failing(Which::Out, 0),
+            "proot: write fault: Out\n",
+            Some(0),
+        ),
         unput(Moving::Torn(0, 5), "proot: write fault: Out\n", Some(5)),
-        unput(Moving::Failing(Which::Left, 0), "proot: write fault: Left\n", None),
+        unput(
+            Moving::Failing(Which::Left, 0),
+            "proot: write fault: Left\n",
+            None,
+        ),
     ];
     for (k, row) in rows.iter().enumerate() {
         let told = generate(alloc, words, row.moving)?;

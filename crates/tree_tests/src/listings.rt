@@ -54,10 +54,12 @@ const MOST_NAMES: u32 = 1_048_575;
 /// Whether this line passes a limit of the tree.
 fn is_too_big(fault: Option<ListFault>, wanted: u32) -> bool {
     match fault {
-        Some(ListFault::Bad {
-            line,
-            why: TreeWhy::TooBig,
-        }) => line == wanted,
+        Some(
+            ListFault::Bad {
+                line,
+                why: TreeWhy::TooBig,
+            },
+        ) => line == wanted,
         _ => false,
     }
 }

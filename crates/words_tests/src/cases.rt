@@ -113,7 +113,10 @@ fn a_case_has_the_files_and_the_guest_that_are_drawn(rt: HostRuntime) -> Result<
     let file = guest_file(&parts.tree);
     for (k, word) in ASSEMBLED.iter().enumerate() {
         let at = CODE + 4 * k;
-        assert!(rt; file.get(at..at + 4) == Some(word.to_le_bytes().as_slice()), "word {k}");
+        assert!(rt;
+            file.get(at..at + 4) == Some(word.to_le_bytes().as_slice()),
+            "word {k}"
+        );
     }
     // The first round is drawn as directory 1 and file 80, and the last one as directory 14 and file 234.
     assert!(rt; text_at(file, DATA) == b"/d1/f80".as_slice());

@@ -2,7 +2,7 @@
 //! words.
 
 use pr_base::{Bind, NoMemory, Texts};
-use pr_words::{Options, Slot, WordsFault, Why, read};
+use pr_words::{Options, Slot, Why, WordsFault, read};
 use std::alloc::Global;
 use std::test::Fail;
 
