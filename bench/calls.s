@@ -15,6 +15,7 @@
         addi    s2, a0, 0
 begin:
         lui     s1, COUNT
+        beq     s1, zero, done
 again:
         addi    a7, zero, CALL
         addi    a0, zero, -100
@@ -29,6 +30,7 @@ again:
 .endif
         addi    s1, s1, -1
         bne     s1, zero, again
+done:
         addi    a7, zero, 93        # exit
         addi    a0, zero, 0
         ecall

@@ -1,4 +1,4 @@
-# Maps PAGES pages, writes one byte into each, and makes 1,000 children with fork(2), of which each exits at once and is
+# Maps PAGES pages, writes one byte into each, and makes FORKS children with fork(2), of which each exits at once and is
 # waited for; then exit(2) with 0.
         addi    a7, zero, 222       # mmap
         addi    a0, zero, 0
@@ -15,7 +15,8 @@ touch:
         sb      t1, 0(a0)
         add     a0, a0, t1
         bltu    a0, t0, touch
-        addi    s1, zero, 1000
+        li      s1, FORKS
+        beq     s1, zero, child
 fork:
         addi    a7, zero, 220       # clone
         addi    a0, zero, 17

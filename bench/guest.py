@@ -3,12 +3,43 @@ Times are the processor's, of the program and of the system for it, since other 
 import os
 import struct
 import subprocess
+import sys
 from pathlib import Path
 
 BASE = 0x10000
 HEADERS = 64 + 56
 START = "user 1000 1000\nd 755 0 0 /\n"
-PROGRAMS = Path(__file__).resolve().parent.parent / "examples/programs"
+HERE = Path(__file__).resolve().parent
+PROGRAMS = HERE.parent / "examples/programs"
+PRODUCT = HERE.parent / "crates/proot/out/proot"
+# Over mounts marks are kept where calm is asked, and there alone.
+MACHINES = [("traced", []), ("native", ["--native"]), ("marked", ["--native", "--calm"])]
+
+
+class Growths:
+    """How many times as long four times as much takes, of some measurements."""
+
+    MOST = 4.5
+
+    def __init__(self):
+        self.times = {}
+
+    def note(self, name, one, four):
+        """Notes one of them, and gives it as a text."""
+        self.times[name] = four / max(one, 1e-9)
+        return f"{self.times[name]:.2f}"
+
+    def tell(self):
+        """Prints how many are as they are asked for, and those that aren't."""
+        over = {name: times for name, times in self.times.items() if times > self.MOST}
+        print(f"4n is at most {self.MOST} times n in {len(self.times) - len(over)} of {len(self.times)}")
+        for name, times in over.items():
+            print(f"  above it: {name}, {times:.2f}")
+
+
+def product():
+    """The program that the first word names, or else the one that `rt run` leaves."""
+    return Path(sys.argv[1] if len(sys.argv) > 1 else PRODUCT).resolve()
 
 
 def timed(words, given=os.devnull, told=os.devnull, errors=None):
