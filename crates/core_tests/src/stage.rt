@@ -13,9 +13,7 @@ use std::test::Fail;
 pub fn listed(alloc: Global, listing: &[u8], elf: &[u8]) -> Result<(Tree, User), Fail>
     ensures { IfOk result (λ read. IsReady read.0 read.1 plain) }
 {
-    let Ok((tree, user)) = read(alloc, listing, Some(elf)) else {
-        return Err(Fail::from("no listing"));
-    };
+    let (tree, user) = read(alloc, listing, Some(elf))?;
     trees_are_kept(&tree);
     Ok((tree, user))
 }
